@@ -1,0 +1,5 @@
+pub mod Padding
+pub mod Names
+pub mod Field
+pub mod Outcome
+pub mod Walk

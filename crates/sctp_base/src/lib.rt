@@ -1,0 +1,8 @@
+//! What every layer shares: refusals, serial numbers, padding, checksums, numbers in bytes.
+#![tactic(auto)]
+
+pub mod error;
+pub mod field;
+pub mod util;
+
+pub use error::Error;

@@ -1,0 +1,4 @@
+pub mod One
+pub mod Lengths
+pub mod Again
+pub mod Cuts

@@ -1,0 +1,7 @@
+pub mod Framing
+pub mod PayloadData
+pub mod Wire
+pub mod Fault
+pub mod Fits
+pub mod Kind
+pub mod ChunkSet

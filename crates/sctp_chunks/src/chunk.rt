@@ -1,0 +1,93 @@
+//! The kinds of chunk.
+
+ghost use Rattle.std.specs.Prelude.{◌≡◌, ◌+◌, ◌^◌, ◌≤◌, ◌<◌, ◌++◌, ◌⊎◌, ℕ, List, length, min, IfOk, IfErr, OnOk, OnErr};
+ghost use Rattle.sctp_base.specs.declared.error.Error.{Error};
+ghost use Rattle.sctp_base.specs.declared.error.Error.TheVariants.{ErrOutOfMemory, ErrLengthTooLarge};
+ghost use Rattle.sctp_chunks.specs.Wire.{Wire, ReadsChunk, HasText, text_of, type_of, flags_of, value_of};
+ghost use Rattle.sctp_chunks.specs.Fits.{Fits};
+ghost use Rattle.sctp_base.specs.Outcome.{OrMemory, GivesUnlessMemory};
+
+pub mod chunk_header;
+pub mod chunk_kind;
+pub mod chunk_payload_data;
+
+use bytes::{Bytes, BytesMut};
+use chunk_header::{ChunkHeader, put_header};
+use sctp_base::error::Result;
+use sctp_base::util::ChunkType;
+use std::alloc::Global;
+
+/// What every kind of chunk can do.
+pub trait Chunk {
+    // the wire part
+    ghost wire: { Self → Wire };
+
+    // the chunks of this kind
+    ghost IsKind: { Wire → Type 0 };
+
+    // what must stand in the bytes for a refusal
+    ghost fault: { Error → List ℕ → Type 0 };
+
+    /// Reads the chunk that the bytes begin with. They are all that follow from the chunk on.
+    fn unmarshal(alloc: Global, raw: &Bytes) -> Result<Self>
+    where
+        Self: Sized,
+        ensures found { IfOk result (λ c. ReadsChunk raw.now (wire c)) }
+        ensures only { (w : Wire) → IsKind w → ReadsChunk raw.now w
+            → GivesUnlessMemory result (λ c. wire c ≡ w) }
+        ensures fault { IfErr result (λ e. OrMemory e (fault e raw.now)) }
+        ensures rewritable { IfOk result (λ c. HasText (wire c)) };
+
+    /// The length of the value, up to the greatest `usize`.
+    fn value_length(&self) -> usize
+        ensures { result ≡ min (length (value_of (wire self.now))) usize.MAX };
+
+    /// The number of the kind.
+    fn chunk_type(&self) -> ChunkType
+        ensures { result.0 ≡ type_of (wire self.now) };
+
+    /// The flags that the chunk is written with.
+    fn flags(&self) -> u8
+        ensures { result ≡ flags_of (wire self.now) };
+
+    /// Appends the value. There is room for it.
+    fn put_value(&self, buf: &mut BytesMut)
+        requires text { HasText (wire self.now) }
+        requires room { length (value_of (wire self.now)) ≤ buf.old.spare }
+        ensures items { buf.new.items ≡ buf.old.items ++ value_of (wire self.now) }
+        ensures fits { Fits (wire self.now) };
+
+    /// The header that the chunk is written with.
+    fn header(&self) -> Result<ChunkHeader>
+        ensures ok { IfOk result (λ h. HasText (wire self.now) × (h.typ.0 ≡ type_of (wire self.now))
+            × (h.flags ≡ flags_of (wire self.now)) × (h.value_length ≡ length (value_of (wire self.now)))) }
+        ensures err { IfErr result (λ e. (e ≡ ErrLengthTooLarge) × (HasText (wire self.now) → ⊥)) }
+    {
+        ChunkHeader::of(self.chunk_type(), self.flags(), self.value_length())
+    }
+
+    /// Appends the chunk, with no padding, and answers the buffer's length.
+    fn marshal_to(&self, buf: &mut BytesMut) -> Result<usize>
+        ensures ok { IfOk result (λ n. HasText (wire self.now)
+            × (buf.new.items ≡ buf.old.items ++ text_of (wire self.now)) × (n ≡ length buf.new.items)) }
+        ensures fits { OnOk result (Fits (wire self.now)) }
+        ensures err { OnErr result (buf.new.items ≡ buf.old.items) }
+        ensures refused { IfErr result (λ e. ((e ≡ ErrLengthTooLarge) × (HasText (wire self.now) → ⊥))
+            ⊎ ((e ≡ ErrOutOfMemory) × HasText (wire self.now) × (buf.old.spare < 4 + length (value_of (wire self.now))))) }
+    {
+        put_header(buf, self.chunk_type(), self.flags(), self.value_length())?;
+        self.put_value(buf);
+        Ok(buf.len())
+    }
+
+    /// The chunk as bytes.
+    fn marshal(&self, alloc: Global) -> Result<Bytes>
+        ensures ok { IfOk result (λ b. HasText (wire self.now) × (b ≡ text_of (wire self.now))) }
+        ensures refused { IfErr result (λ e. ((e ≡ ErrLengthTooLarge) × (HasText (wire self.now) → ⊥))
+            ⊎ (e ≡ ErrOutOfMemory)) }
+    {
+        let mut buf = BytesMut::new(alloc);
+        self.marshal_to(&mut buf)?;
+        Ok(buf.freeze()?)
+    }
+}

@@ -1,0 +1,6 @@
+pub mod KeptLemmas
+pub mod Lines
+pub mod Round
+pub mod More
+pub mod Wraps
+pub mod SerialLemmas
