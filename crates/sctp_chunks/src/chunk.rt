@@ -55,6 +55,7 @@ pub trait Chunk {
         requires text { HasText (wire self.now) }
         requires room { length (value_of (wire self.now)) ≤ buf.old.spare }
         ensures items { buf.new.items ≡ buf.old.items ++ value_of (wire self.now) }
+        ensures spare { buf.new.spare + length (value_of (wire self.now)) ≡ buf.old.spare }
         ensures fits { Fits (wire self.now) };
 
     /// The header that the chunk is written with.
@@ -70,6 +71,7 @@ pub trait Chunk {
     fn marshal_to(&self, buf: &mut BytesMut) -> Result<usize>
         ensures ok { IfOk result (λ n. HasText (wire self.now)
             × (buf.new.items ≡ buf.old.items ++ text_of (wire self.now)) × (n ≡ length buf.new.items)) }
+        ensures spare { OnOk result (buf.old.spare ≤ buf.new.spare + (4 + length (value_of (wire self.now)))) }
         ensures fits { OnOk result (Fits (wire self.now)) }
         ensures err { OnErr result (buf.new.items ≡ buf.old.items) }
         ensures refused { IfErr result (λ e. ((e ≡ ErrLengthTooLarge) × (HasText (wire self.now) → ⊥))
