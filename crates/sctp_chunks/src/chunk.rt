@@ -4,7 +4,7 @@ ghost use Rattle.std.specs.Prelude.{◌≡◌, ◌+◌, ◌^◌, ◌≤◌, ◌<
 ghost use Rattle.sctp_base.specs.declared.error.Error.{Error};
 ghost use Rattle.sctp_base.specs.declared.error.Error.TheVariants.{ErrOutOfMemory, ErrLengthTooLarge};
 ghost use Rattle.sctp_chunks.specs.Wire.{Wire, ReadsChunk, HasText, text_of, type_of, flags_of, value_of};
-ghost use Rattle.sctp_chunks.specs.Fits.{Fits};
+ghost use Rattle.sctp_chunks.specs.Fits.{Fits, Canonical};
 ghost use Rattle.sctp_base.specs.Outcome.{OrMemory, GivesUnlessMemory};
 
 pub mod chunk_header;
@@ -36,7 +36,8 @@ pub trait Chunk {
         ensures only { (w : Wire) → IsKind w → ReadsChunk raw.now w
             → GivesUnlessMemory result (λ c. wire c ≡ w) }
         ensures fault { IfErr result (λ e. OrMemory e (fault e raw.now)) }
-        ensures rewritable { IfOk result (λ c. HasText (wire c)) };
+        ensures rewritable { IfOk result (λ c. HasText (wire c)) }
+        ensures canonical { IfOk result (λ c. Canonical (wire c)) };
 
     /// The length of the value, up to the greatest `usize`.
     fn value_length(&self) -> usize

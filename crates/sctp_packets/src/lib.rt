@@ -1,0 +1,4 @@
+//! Packets: a header and chunks.
+#![tactic(auto)]
+
+pub mod packet;
