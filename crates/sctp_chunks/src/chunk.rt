@@ -25,6 +25,9 @@ pub trait Chunk {
     // the chunks of this kind
     ghost IsKind: { Wire → Type 0 };
 
+    // as reading gives it: what the sender alone keeps of a chunk is not set
+    ghost IsFresh: { Self → Type 0 };
+
     // what must stand in the bytes for a refusal
     ghost fault: { Error → List ℕ → Type 0 };
 
@@ -37,7 +40,8 @@ pub trait Chunk {
             → GivesUnlessMemory result (λ c. wire c ≡ w) }
         ensures fault { IfErr result (λ e. OrMemory e (fault e raw.now)) }
         ensures rewritable { IfOk result (λ c. HasText (wire c)) }
-        ensures canonical { IfOk result (λ c. Canonical (wire c)) };
+        ensures canonical { IfOk result (λ c. Canonical (wire c)) }
+        ensures fresh { IfOk result (λ c. IsFresh c) };
 
     /// The length of the value, up to the greatest `usize`.
     fn value_length(&self) -> usize

@@ -21,6 +21,6 @@ goes_on bytes ws vs rest so_far whole some =
 pub walks_same : (bytes : List ℕ) (ws vs : List Wire) → Walks Steps after bytes ws [] → Walks Steps after bytes vs [] → ws ≡ vs
 walks_same bytes ws vs a b = walks_one Steps after (λ bs v w r s. reads_one bs v w r.chunk s.chunk) bytes ws vs [] [] no_step no_step a b
 
-pub all_next : (P : Wire → Type 0) (ws : List Wire) (w : Wire) → AllByRecursion P ws → P w → AllByRecursion P (ws ++ w ∷ [])
+pub all_next : {A : Type 0} (P : A → Type 0) (ws : List A) (w : A) → AllByRecursion P ws → P w → AllByRecursion P (ws ++ w ∷ [])
 all_next P [] w all last = (last, tt)
 all_next P (v ∷ ws) w all last = (all.0, all_next P ws w all.1 last)

@@ -6,7 +6,7 @@ ghost use Rattle.std.specs.Prelude.{[]};
 ghost use Rattle.sctp_base.specs.Field.{le32, u16_at, u32_at};
 ghost use Rattle.sctp_base.specs.declared.error.Error.TheVariants.{ErrOutOfMemory, ErrLengthTooLarge};
 ghost use Rattle.sctp_base.specs.Outcome.{OrMemory, GivesUnlessMemory};
-ghost use Rattle.sctp_chunks.specs.Kind.{wire_of};
+ghost use Rattle.sctp_chunks.specs.Kind.{wire_of, IsFreshKind};
 ghost use Rattle.sctp_chunks.specs.Fits.{Fits, Canonical};
 ghost use Rattle.sctp_chunks.specs.Wire.{Wire, HasText};
 ghost use Rattle.sctp_chunks.specs.Framing.{declared};
@@ -46,6 +46,7 @@ fn read_step(alloc: Global, rest: &Bytes) -> Result<(ChunkKind, usize)>
     ensures length { IfOk result (λ x. x.1 ≡ padded (declared rest.now)) }
     ensures rewritable { IfOk result (λ x. HasText (wire_of x.0)) }
     ensures canonical { IfOk result (λ x. Canonical (wire_of x.0)) }
+    ensures fresh { IfOk result (λ x. IsFreshKind x.0) }
     ensures only { (w : Wire) → Steps rest.now w → GivesUnlessMemory result (λ x. wire_of x.0 ≡ w) }
     ensures fault { IfErr result (λ e. OrMemory e (PlaceFault e rest.now)) }
 {
@@ -68,6 +69,7 @@ fn read_chunks(alloc: Global, raw: &Bytes) -> Result<Vec<ChunkKind>>
     ensures fault { IfErr result (λ e. OrMemory e (WalkFault e raw.now)) }
     ensures rewritable { IfOk result (λ v. AllByRecursion HasText (map wire_of v.items)) }
     ensures canonical { IfOk result (λ v. AllByRecursion Canonical (map wire_of v.items)) }
+    ensures fresh { IfOk result (λ v. AllByRecursion IsFreshKind v.items) }
 {
     let mut chunks = Vec::new(alloc);
     let mut rest = raw.clone()?;
@@ -194,6 +196,8 @@ impl Packet {
         // What was read has a text, which reads back.
         ensures rewritable { IfOk result (λ p. HavePacketText (parts_of p)) }
         ensures canonical { IfOk result (λ p. IsCanonical (parts_of p)) }
+        // What the sender alone keeps of a chunk is not set.
+        ensures fresh { IfOk result (λ p. AllByRecursion IsFreshKind p.chunks.items) }
     {
         let (common_header, rest) = open_packet(raw, checksum)?;
         let chunks = read_chunks(alloc, &rest)?;

@@ -4,7 +4,7 @@ use Rattle.std.proofs.lemmas.Result.{err_from_is_err_and}
 use Rattle.std.proofs.lemmas.Grind.{common_steps}
 use Rattle.std.proofs.lemmas.List.{map-append, nil_from_length}
 use Rattle.sctp_chunks.specs.Wire.{Wire, HasText}
-use Rattle.sctp_chunks.specs.Kind.{wire_of}
+use Rattle.sctp_chunks.specs.Kind.{wire_of, IsFreshKind}
 use Rattle.sctp_base.proofs.Walks.{walks_none, walks_next}
 use Rattle.sctp_packets.specs.Packet.{Steps, after}
 use Rattle.sctp_chunks.specs.Fits.{Canonical}
@@ -13,7 +13,7 @@ use Rattle.sctp_packets.proofs.Walk.{goes_on, walks_same, all_next}
 use Rattle.sctp_packets.proofs.packet.read_chunks.Goals as goal
 
 pub walk-init : goal.walk-init
-walk-init c = record { walk = rw (c.in_ok-rest.ensures.cases, c.new-chunks.ensures.items) (walks_none Steps after c.args.raw.now); rewritable = rw c.new-chunks.ensures.items tt; canonical = rw c.new-chunks.ensures.items tt }
+walk-init c = record { walk = rw (c.in_ok-rest.ensures.cases, c.new-chunks.ensures.items) (walks_none Steps after c.args.raw.now); rewritable = rw c.new-chunks.ensures.items tt; canonical = rw c.new-chunks.ensures.items tt; fresh = rw c.new-chunks.ensures.items tt }
 
 pub walk-preserved : goal.walk-preserved
 unfolding after
@@ -25,6 +25,7 @@ walk-preserved c =
       walk = rw (c.in_ok-push.ensures.items, map-append, c.advance.ensures, c.in_ok-chunk.ensures.length) next;
       rewritable = rw (c.in_ok-push.ensures.items, map-append) texts;
       canonical = rw (c.in_ok-push.ensures.items, map-append) again;
+      fresh = rw c.in_ok-push.ensures.items (all_next IsFreshKind c.walk.chunks.items c.in_ok-chunk.chunk c.walk.invariant.fresh c.in_ok-chunk.ensures.fresh);
     }
 
 pub returns-in_err-chunk-clause-only : goal.returns-in_err-chunk-clause-only

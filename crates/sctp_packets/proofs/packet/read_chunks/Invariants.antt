@@ -1,6 +1,6 @@
 use Rattle.std.proofs.Common.{length}
 use Rattle.std.specs.Prelude.{map}
-use Rattle.sctp_chunks.specs.Kind.{wire_of}
+use Rattle.sctp_chunks.specs.Kind.{wire_of, IsFreshKind}
 use Rattle.std.specs.List.{AllByRecursion}
 use Rattle.sctp_chunks.specs.Wire.{HasText}
 use Rattle.sctp_base.specs.Walk.{Walks}
@@ -13,6 +13,7 @@ invariant-walk l = record {
   walk : Walks Steps after l.raw (map wire_of l.chunks.items) l.rest;
   rewritable : AllByRecursion HasText (map wire_of l.chunks.items);
   canonical : AllByRecursion Canonical (map wire_of l.chunks.items);
+  fresh : AllByRecursion IsFreshKind l.chunks.items;
 }
 
 abbrev pub decreases-walk : goal.decreases-walk
