@@ -7,9 +7,20 @@ ghost use Rattle.sctp_chunks.specs.Wire.{Wire, ReadsChunk, HasText, text_of, typ
 ghost use Rattle.sctp_chunks.specs.Fits.{Fits, Canonical};
 ghost use Rattle.sctp_base.specs.Outcome.{OrMemory, GivesUnlessMemory};
 
+pub mod chunk_abort;
+pub mod chunk_cookie_ack;
+pub mod chunk_cookie_echo;
+pub mod chunk_error;
+pub mod chunk_forward_tsn;
 pub mod chunk_header;
+pub mod chunk_i_forward_tsn;
 pub mod chunk_kind;
 pub mod chunk_payload_data;
+pub mod chunk_selective_ack;
+pub mod chunk_shutdown;
+pub mod chunk_shutdown_ack;
+pub mod chunk_shutdown_complete;
+pub mod error_cause;
 
 use bytes::{Bytes, BytesMut};
 use chunk_header::{ChunkHeader, put_header};

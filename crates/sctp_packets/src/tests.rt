@@ -144,7 +144,9 @@ fn whole_message(rt: HostRuntime) -> Result<(), Fail> {
     let packet = Packet::unmarshal(alloc, &raw, &ZERO)?;
     assert_eq!(rt; packet.chunks.len(), 1);
     for chunk in &packet.chunks {
-        let ChunkKind::PayloadData(c) = chunk;
+        let ChunkKind::PayloadData(c) = chunk else {
+            return Err(Fail::from("not user data"));
+        };
         assert_eq!(rt; c.tsn, 10);
         assert_eq!(rt; c.stream_identifier, 1);
         assert_eq!(rt; c.stream_sequence_number, 0);
@@ -170,7 +172,9 @@ fn fragments(rt: HostRuntime) -> Result<(), Fail> {
         let raw = packet_bytes(alloc, &chunk)?;
         let packet = Packet::unmarshal(alloc, &raw, &ZERO)?;
         for chunk in &packet.chunks {
-            let ChunkKind::PayloadData(c) = chunk;
+            let ChunkKind::PayloadData(c) = chunk else {
+                return Err(Fail::from("not user data"));
+            };
             assert_eq!(rt; c.tsn, 4294967294);
             assert_eq!(rt; c.beginning_fragment, first);
             assert_eq!(rt; c.ending_fragment, last);
