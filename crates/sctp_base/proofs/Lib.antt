@@ -1,2 +1,8 @@
 pub mod Fields
 pub mod Walks
+pub mod Bytes
+pub mod Each
+pub mod ParamTypes
+pub mod ParamLengths
+pub mod ParamOne
+pub mod ParamAgain
