@@ -2,14 +2,13 @@
 use Rattle.std.proofs.Common.{◌≡◌, ◌≢◌, ℕ, zero, suc, ◌+◌, ◌*◌, ◌-◌, ◌/◌, ◌%◌, ◌^◌, ◌<◌, ◌≤◌, Bool, true, false, List, [], ◌∷◌, ◌++◌, length, take, drop, refl, sym, subst, ap, ◌∙◌, arith, append_assoc, length-append, inl, inr}
 use Rattle.std.specs.Prelude.{Option, Some, None, is_some, if◌then◌else◌, nat_le}
 use Rattle.std.specs.List.{flat_map}
-use borrow.Author.Tests.{leb-true}
 use Rattle.std.proofs.Math.Seq.{take-length, take-add}
 use Rattle.std.proofs.lemmas.List.{take_at, drop_at, length-take-le, length-drop, append-nil, take-append-drop}
 use Rattle.sctp_base.specs.Field.{AreBytes, be16, be32, u16_at, u32_at}
 use Rattle.sctp_base.proofs.Fields.{length_be16, length_be32, u16_at_be16, u32_at_be32}
 use Rattle.sctp_base.proofs.Bytes.{be32_u32, u32_fits, u16_at_take, written_each, each_same}
 use Rattle.sctp_base.proofs.ParamTypes.{number_of_type_from}
-use Rattle.sctp_base.proofs.ParamLengths.{length_address_types_value, length_algorithms_value, length_reset_request_value, length_response_value, length_chunk_type_numbers}
+use Rattle.sctp_base.proofs.ParamLengths.{length_response_value, value_no_longer, length_param_text}
 use Rattle.sctp_base.specs.declared.util.ChunkType.{ChunkType}
 use Rattle.sctp_base.specs.declared.param.param_type.ParamType.{ParamType}
 use Rattle.sctp_base.specs.declared.param.param_reconfig_response.ReconfigResult.{ReconfigResult}
@@ -17,12 +16,13 @@ use Rattle.sctp_base.specs.declared.param.param_reconfig_response.ReconfigResult
 use Rattle.sctp_base.specs.declared.param.param_reconfig_response.ParamReconfigResponse.{ParamReconfigResponse}
 use Rattle.sctp_base.specs.declared.param.param_requested_hmac_algorithm.HmacAlgorithm.{HmacAlgorithm}
 use Rattle.sctp_base.specs.Each.{each}
+use Rattle.sctp_base.specs.Padding.{padding_of, padded}
 use Rattle.sctp_base.specs.ParamType.{type_number, type_from}
 use Rattle.sctp_base.specs.AddressTypes.{ReadsAddressTypes, address_types_value, type_text}
 use Rattle.sctp_base.specs.ResetRequest.{ResetRequest, ReadsResetRequest, reset_request_value, reset_request_in}
 use Rattle.sctp_base.specs.ReconfigResponse.{ReadsResponse, response_value, response_in, result_from, result_number, next_tsns_in, next_tsns_text}
 use Rattle.sctp_base.specs.HmacAlgorithm.{ReadsAlgorithms, algorithms_value, algorithm_text, algorithm_from, algorithm_number, IsRequestable}
-use Rattle.sctp_base.specs.ParamFraming.{IsParam, IsParamValue, param_type_at, param_declared, param_value_at, param_framed}
+use Rattle.sctp_base.specs.ParamFraming.{IsParam, IsParamValue, param_type_at, param_declared, param_value_at, param_framed, after_param}
 use Rattle.sctp_base.specs.ParamKind.{IsReadAs, HasReadType}
 use Rattle.sctp_base.specs.Param.{Parameter, heartbeat_info, state_cookie, supported_address_types, outgoing_reset_request, reconfig_response, random, chunk_list, requested_hmac_algorithm, supported_extensions, forward_tsn_supported, unknown_param, ReadsParamValue, ReadsBack, HasOwnType, HasParamText, param_number_of, param_value_of, param_text, chunk_types, chunk_type_numbers}
 
@@ -175,35 +175,10 @@ value_again value (supported_extensions ts) v r = chunk_types_again ts
 value_again value forward_tsn_supported v r = tt
 value_again value (unknown_param n b) v r = refl
 
-length_chunk_types : (value : List ℕ) → length (chunk_types value) ≡ length value
-length_chunk_types [] = refl
-length_chunk_types (b ∷ value) = ap suc (length_chunk_types value)
-
-response_no_longer : (value : List ℕ) → 8 ≤ length value → length (response_value (response_in value)) ≤ length value
-response_no_longer value long = rw (length_response_value (response_in value)) (step (nat_le 16 (length value)) refl)
-  where
-    step : (b : Bool) → nat_le 16 (length value) ≡ b → 8 + (if is_some {T = ℕ × ℕ} (if b then Some (u32_at value 8, u32_at value 12) else None) then 8 else 0) ≤ length value
-    step true e = omega (arith, leb-true 16 (length value) e)
-    step false e = long
-
--- is no longer than the one that was read
-pub value_no_longer : (value : List ℕ) (p : Parameter) → IsParamValue value → ReadsParamValue value p → length (param_value_of p) ≤ length value
-value_no_longer value (heartbeat_info b) v r = omega (arith, ap length r)
-value_no_longer value (state_cookie b) v r = omega (arith, ap length r)
-value_no_longer value (supported_address_types ts) v r = omega (arith, ap length (address_types_again value ts v r))
-value_no_longer value (outgoing_reset_request q) v r = omega (arith, ap length (reset_request_again value q v r))
-value_no_longer value (reconfig_response q) v r = rw r.fields (response_no_longer value r.long)
-value_no_longer value (random b) v r = omega (arith, ap length r)
-value_no_longer value (chunk_list ts) v r = omega (arith, length_chunk_type_numbers ts, ap length r, length_chunk_types value)
-value_no_longer value (requested_hmac_algorithm hs) v r = omega (arith, ap length (algorithms_again value hs v r), length-take-le (2 * (length value / 2)) value (omega arith))
-value_no_longer value (supported_extensions ts) v r = omega (arith, length_chunk_type_numbers ts, ap length r, length_chunk_types value)
-value_no_longer value forward_tsn_supported v r = omega arith
-value_no_longer value (unknown_param n b) v r = omega (arith, ap length r)
-
 pub reads_back : (value : List ℕ) (p : Parameter) → IsParamValue value → ReadsParamValue value p → param_number_of p < 2 ^ 16 → ReadsBack HasOwnType p
 unfolding param_text
 reads_back value p v r fits =
-    let short : HasParamText p = omega (arith, value_no_longer value p v r, v.short) in
+    let short : HasParamText p = omega (arith, value_no_longer value p r, v.short) in
     record {
       has_text = short;
       reads = λ rest. record {
@@ -219,3 +194,21 @@ own_again p has b = record {
   has_text = b.has_text;
   reads = λ rest. let r = b.reads rest in record { is_param = r.is_param; kind = (r.kind, has); value = r.value };
 }
+
+-- ---- for walks over parameters
+
+pub declared_param_text : (p : Parameter) (rest : List ℕ) → HasParamText p → param_declared (param_text p ++ rest) ≡ 4 + length (param_value_of p)
+unfolding param_text
+declared_param_text p rest short =
+    let n = length (param_value_of p) in
+    let front : List ℕ = be16 (param_number_of p) in
+    let e : param_framed (param_number_of p) (param_value_of p) ++ rest ≡ front ++ (be16 (4 + n) ++ (param_value_of p ++ rest)) = simp append_assoc in
+    ap (λ (x : List ℕ). u16_at x 2) e ∙ u16_at_be16 front (param_value_of p ++ rest) (4 + n) 2 (length_be16 (param_number_of p)) short
+
+-- behind a parameter's text and its padding stands what was put there
+pub after_param_text : (p : Parameter) (padding rest : List ℕ) → HasParamText p → length padding ≡ padding_of (4 + length (param_value_of p)) → after_param (param_text p ++ (padding ++ rest)) ≡ rest
+unfolding after_param
+after_param_text p padding rest short e =
+    let n = length (param_value_of p) in
+    let all : length (param_text p ++ padding) ≡ padded (4 + n) = omega (arith, length-append (param_text p) padding, length_param_text p, e) in
+    rw (declared_param_text p (padding ++ rest) short, ← append_assoc (param_text p) padding rest) (drop_at (param_text p ++ padding) rest (padded (4 + n)) all)

@@ -110,7 +110,7 @@ pub trait Param {
     fn marshal(&self, alloc: Global) -> Result<Bytes>
         ensures ok { IfOk result (λ b. HasParamText (wire self.now) × (b ≡ param_text (wire self.now))) }
         ensures refused { IfErr result (λ e. ((e ≡ ErrLengthTooLarge) × (HasParamText (wire self.now) → ⊥))
-            ⊎ (e ≡ ErrOutOfMemory)) }
+            ⊎ ((e ≡ ErrOutOfMemory) × HasParamText (wire self.now))) }
     {
         let mut buf = BytesMut::new(alloc);
         self.marshal_to(&mut buf)?;

@@ -99,7 +99,7 @@ impl ParamHeader {
         ensures ok { IfOk result (λ b. (4 + self.now.value_length < 2 ^ 16)
             × (b ≡ be16 (type_number self.now.typ) ++ be16 (4 + self.now.value_length))) }
         ensures refused { IfErr result (λ e. ((e ≡ ErrLengthTooLarge) × (2 ^ 16 ≤ 4 + self.now.value_length))
-            ⊎ (e ≡ ErrOutOfMemory)) }
+            ⊎ ((e ≡ ErrOutOfMemory) × (4 + self.now.value_length < 2 ^ 16))) }
     {
         let mut buf = BytesMut::new(alloc);
         self.marshal_to(&mut buf)?;

@@ -100,10 +100,10 @@ impl fmt::Display for ParamType {
     }
 }
 
-/// Each number is a type.
-#[tactic(auto, unfolding(crate::specs::ParamType::type_from))]
+/// Each number is a type, and that type has this number.
+#[tactic(auto, using(crate::proofs::ParamTypes::number_of_type_from), unfolding(crate::specs::ParamType::type_from))]
 impl From<u16> for ParamType {
-    ghost from_gives = { λ n t. t ≡ type_from n };
+    ghost from_gives = { λ n t. (t ≡ type_from n) × (type_number t ≡ n) };
 
     fn from(v: u16) -> ParamType {
         match v {
