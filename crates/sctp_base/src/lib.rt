@@ -3,6 +3,7 @@
 
 pub mod error;
 pub mod field;
+pub mod param;
 pub mod util;
 
 pub use error::Error;
