@@ -13,6 +13,6 @@ pub record FitsData (d : Data) : Type 0 where
 abbrev pub Fits : Wire → Type 0
 Fits (data_chunk d) = FitsData d
 
--- the kinds whose every text reads back
-abbrev pub IsPlain : Wire → Type 0
-IsPlain (data_chunk d) = Unit {0}
+-- a chunk whose text reads back to it: every chunk that was read is one
+abbrev pub Canonical : Wire → Type 0
+Canonical (data_chunk d) = Unit {0}

@@ -5,6 +5,7 @@ use Rattle.sctp_base.specs.declared.error.Error.TheVariants as errors
 use Rattle.sctp_chunks.specs.declared.chunk.chunk_kind.ChunkKind.{ChunkKind}
 use Rattle.sctp_chunks.specs.declared.chunk.chunk_kind.ChunkKind.TheVariants.{PayloadData}
 use Rattle.sctp_chunks.specs.PayloadData.{data_of}
+use Rattle.sctp_chunks.specs.ChunkSet.{IsFreshData}
 use Rattle.sctp_chunks.specs.Framing.{type_at}
 use Rattle.sctp_chunks.specs.Wire.{Wire, data_chunk, type_of}
 use Rattle.sctp_chunks.specs.Fault.{HeaderFault, DataFault}
@@ -15,6 +16,10 @@ wire_of (PayloadData c) = data_chunk (data_of c)
 -- the kinds that are read
 abbrev pub IsRead : Wire → Type 0
 IsRead (data_chunk d) = Unit {0}
+
+-- a chunk as reading gives it
+abbrev pub IsFreshKind : ChunkKind → Type 0
+IsFreshKind (PayloadData c) = IsFreshData c
 
 -- their numbers
 abbrev pub IsReadType : ℕ → Type 0

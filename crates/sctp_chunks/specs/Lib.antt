@@ -3,5 +3,5 @@ pub mod PayloadData
 pub mod Wire
 pub mod Fault
 pub mod Fits
-pub mod Kind
 pub mod ChunkSet
+pub mod Kind

@@ -1,6 +1,6 @@
 //! A chunk of any kind.
 
-ghost use Rattle.sctp_chunks.specs.Kind.{wire_of, IsRead, KindFault};
+ghost use Rattle.sctp_chunks.specs.Kind.{wire_of, IsRead, IsFreshKind, KindFault};
 
 use super::Chunk;
 use super::chunk_header::CHUNK_HEADER_SIZE;
@@ -19,6 +19,8 @@ impl Chunk for ChunkKind {
     ghost wire = { wire_of };
 
     ghost IsKind = { IsRead };
+
+    ghost IsFresh = { IsFreshKind };
 
     ghost fault = { KindFault };
 
