@@ -14,7 +14,7 @@ use std::alloc::Global;
 use std::fmt;
 
 /// The chunk types. It is the one parameter whose own reader tests the type number.
-#[derive(Debug, Drop)]
+#[derive(Debug, Drop, PartialEq, Eq)]
 pub struct ParamChunkList {
     pub chunk_types: Vec<ChunkType>,
 }

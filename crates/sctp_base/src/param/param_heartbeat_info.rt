@@ -13,7 +13,7 @@ use std::alloc::Global;
 use std::fmt;
 
 /// Bytes that the peer sends back as they are.
-#[derive(Debug, Drop)]
+#[derive(Debug, Drop, PartialEq, Eq)]
 pub struct ParamHeartbeatInfo {
     pub heartbeat_information: Bytes,
 }

@@ -26,7 +26,7 @@ use std::alloc::Global;
 use std::fmt;
 
 /// A parameter of one of the kinds that are read.
-#[derive(Debug, Drop)]
+#[derive(Debug, Drop, PartialEq, Eq)]
 pub enum ParamKind {
     HeartbeatInfo(ParamHeartbeatInfo),
     StateCookie(ParamStateCookie),

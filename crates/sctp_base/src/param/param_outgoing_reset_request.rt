@@ -23,7 +23,7 @@ use std::fmt;
 pub const PARAM_OUTGOING_RESET_REQUEST_STREAM_IDENTIFIERS_OFFSET: usize = 12;
 
 /// The request to reset some outgoing streams, or all of them where none is listed.
-#[derive(Debug, Drop)]
+#[derive(Debug, Drop, PartialEq, Eq)]
 pub struct ParamOutgoingResetRequest {
     /// The number of this request: it begins at the initial TSN and rises by one with each request.
     pub reconfig_request_sequence_number: u32,

@@ -13,7 +13,7 @@ use std::alloc::Global;
 use std::fmt;
 
 /// The sender's random bytes.
-#[derive(Debug, Drop)]
+#[derive(Debug, Drop, PartialEq, Eq)]
 pub struct ParamRandom {
     pub random_data: Bytes,
 }

@@ -67,7 +67,7 @@ impl From<HmacAlgorithm> for u16 {
 }
 
 /// The algorithms, the preferred one first.
-#[derive(Debug, Drop)]
+#[derive(Debug, Drop, PartialEq, Eq)]
 pub struct ParamRequestedHmacAlgorithm {
     pub available_algorithms: Vec<HmacAlgorithm>,
 }

@@ -15,7 +15,7 @@ use std::alloc::Global;
 use std::fmt;
 
 /// What the peer sends back in its COOKIE-ECHO.
-#[derive(Debug, Drop)]
+#[derive(Debug, Drop, PartialEq, Eq)]
 pub struct ParamStateCookie {
     pub cookie: Bytes,
 }

@@ -21,7 +21,7 @@ use std::alloc::Global;
 use std::fmt;
 
 /// The types of the address parameters that the sender of an INIT can use.
-#[derive(Debug, Drop)]
+#[derive(Debug, Drop, PartialEq, Eq)]
 pub struct ParamSupportedAddressTypes {
     pub address_types: Vec<ParamType>,
 }

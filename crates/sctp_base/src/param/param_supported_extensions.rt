@@ -14,7 +14,7 @@ use std::alloc::Global;
 use std::fmt;
 
 /// The chunk types of the extensions.
-#[derive(Debug, Drop)]
+#[derive(Debug, Drop, PartialEq, Eq)]
 pub struct ParamSupportedExtensions {
     pub chunk_types: Vec<ChunkType>,
 }

@@ -13,7 +13,7 @@ use std::alloc::Global;
 use std::fmt;
 
 /// Any parameter, kept as it stands: it can be written again, as in a report to its sender.
-#[derive(Debug, Drop)]
+#[derive(Debug, Drop, PartialEq, Eq)]
 pub struct ParamUnknown {
     pub typ: u16,
     pub value: Bytes,
