@@ -1,8 +1,8 @@
 -- What is written of a chunk reads back, for each kind.
-use Rattle.std.proofs.Common.{◌≡◌, ℕ, ◌+◌, ◌*◌, ◌-◌, ◌/◌, ◌%◌, ◌^◌, ◌<◌, ◌≤◌, Bool, true, false, List, [], ◌∷◌, ◌++◌, length, All, refl, sym, ap, ◌∙◌, arith, append_assoc, length-append}
+use Rattle.std.proofs.Common.{◌≡◌, ℕ, ◌+◌, ◌*◌, ◌-◌, ◌/◌, ◌%◌, ◌^◌, ◌<◌, ◌≤◌, Bool, true, false, List, [], ◌∷◌, ◌++◌, length, drop, All, refl, sym, ap, ◌∙◌, arith, append_assoc, length-append}
 use Rattle.std.specs.Prelude.{slice_index}
 use Rattle.std.specs.List.{flat_map}
-use Rattle.std.proofs.lemmas.List.{append-nil}
+use Rattle.std.proofs.lemmas.List.{append-nil, drop_at}
 use Rattle.std.proofs.Math.Seq.{get_or-append_seam}
 use Rattle.sctp_base.specs.Each.{each}
 use Rattle.sctp_base.specs.Field.{be16, be32, u16_at, u32_at}
@@ -11,15 +11,18 @@ use Rattle.sctp_chunks.specs.declared.chunk.chunk_selective_ack.GapAckBlock.{Gap
 use Rattle.sctp_chunks.specs.declared.chunk.chunk_forward_tsn.ChunkForwardTsnStream.{ChunkForwardTsnStream}
 use Rattle.sctp_chunks.specs.declared.chunk.chunk_i_forward_tsn.ChunkIForwardTsnStream.{ChunkIForwardTsnStream}
 use Rattle.sctp_chunks.specs.PayloadData.{has_flag, weight}
+use Rattle.sctp_chunks.specs.Params.{ReadBack, params_text}
+use Rattle.sctp_chunks.specs.Init.{Init, ReadsInit, init_value, init_in}
 use Rattle.sctp_chunks.specs.SelectiveAck.{Sack, ReadsSack, sack_value, sack_in, block_at, block_text}
 use Rattle.sctp_chunks.specs.ForwardTsn.{ForwardTsn, ReadsForwardTsn, forward_tsn_value, stream_at, stream_text}
 use Rattle.sctp_chunks.specs.IForwardTsn.{IForwardTsn, ReadsIForwardTsn, i_forward_tsn_value, entry_at, entry_text}
-use Rattle.sctp_chunks.specs.Fits.{Fits, FitsBlock, FitsSack, FitsStream, FitsForwardTsn, FitsEntry, FitsIForwardTsn, Canonical}
-use Rattle.sctp_chunks.specs.Wire.{Wire, data_chunk, sack_chunk, abort_chunk, shutdown_chunk, shutdown_ack_chunk, error_chunk, cookie_echo_chunk, cookie_ack_chunk, shutdown_complete_chunk, forward_tsn_chunk, i_forward_tsn_chunk, ReadsValue, ReadsChunk, HasText, type_of, flags_of, value_of, text_of}
-use Rattle.sctp_chunks.proofs.Lengths.{length_sack_value, length_flat_map, length_forward_tsn_value, length_i_forward_tsn_value}
+use Rattle.sctp_chunks.specs.Fits.{Fits, FitsInit, FitsBlock, FitsSack, FitsStream, FitsForwardTsn, FitsEntry, FitsIForwardTsn, Canonical}
+use Rattle.sctp_chunks.specs.Wire.{Wire, data_chunk, init_chunk, sack_chunk, heartbeat_chunk, heartbeat_ack_chunk, reconfig_chunk, HasLength, abort_chunk, shutdown_chunk, shutdown_ack_chunk, error_chunk, cookie_echo_chunk, cookie_ack_chunk, shutdown_complete_chunk, forward_tsn_chunk, i_forward_tsn_chunk, ReadsValue, ReadsChunk, type_of, flags_of, value_of, text_of}
+use Rattle.sctp_chunks.proofs.Lengths.{length_init_value, length_sack_value, length_flat_map, length_forward_tsn_value, length_i_forward_tsn_value}
 use Rattle.sctp_chunks.proofs.Again.{data_again, framed_reads, framed_value}
 use Rattle.sctp_chunks.proofs.AgainLists.{items_again}
 use Rattle.sctp_chunks.proofs.AgainCauses.{causes_again}
+use Rattle.sctp_chunks.proofs.AgainParams.{params_again, heartbeat_again, pair_again}
 
 -- ---- two numbers of two bytes
 
@@ -148,11 +151,48 @@ i_forward_tsn_again f fits =
       fields = sym (rw (tsn, count, streams) refl);
     }
 
+-- ---- INIT
+
+init_again : (i : Init) → FitsInit i → ReadBack i.params → ReadsInit 0 (init_value i) i
+unfolding init_value
+init_again i fits back =
+    let v = init_value i in
+    let ps : List ℕ = params_text false i.params in
+    let tail : List ℕ = be16 i.num_outbound_streams ++ (be16 i.num_inbound_streams ++ (be32 i.initial_tsn ++ ps)) in
+    let front : List ℕ = be32 i.initiate_tag ++ be32 i.advertised_receiver_window_credit in
+    let eight : length front ≡ 8 = simp (length-append, length_be32) refl in
+    let ten : length (front ++ be16 i.num_outbound_streams) ≡ 10 = simp (length-append, length_be16, length_be32) refl in
+    let head : List ℕ = front ++ be16 i.num_outbound_streams ++ be16 i.num_inbound_streams in
+    let twelve : length head ≡ 12 = simp (length-append, length_be16, length_be32) refl in
+    let sixteen : length (head ++ be32 i.initial_tsn) ≡ 16 = simp (length-append, length_be16, length_be32) refl in
+    let at0 : v ≡ be32 i.initiate_tag ++ (be32 i.advertised_receiver_window_credit ++ tail) = simp append_assoc in
+    let at8 : v ≡ front ++ (be16 i.num_outbound_streams ++ (be16 i.num_inbound_streams ++ (be32 i.initial_tsn ++ ps))) = simp append_assoc in
+    let at10 : v ≡ (front ++ be16 i.num_outbound_streams) ++ (be16 i.num_inbound_streams ++ (be32 i.initial_tsn ++ ps)) = simp append_assoc in
+    let at12 : v ≡ head ++ (be32 i.initial_tsn ++ ps) = simp append_assoc in
+    let tag : u32_at v 0 ≡ i.initiate_tag = ap (λ (x : List ℕ). u32_at x 0) at0 ∙ u32_at_be32 [] _ i.initiate_tag 0 refl fits.initiate_tag in
+    let credit : u32_at v 4 ≡ i.advertised_receiver_window_credit =
+    ap (λ (x : List ℕ). u32_at x 4) at0 ∙ u32_at_be32 (be32 i.initiate_tag) tail i.advertised_receiver_window_credit 4 (length_be32 i.initiate_tag) fits.credit in
+    let out : u16_at v 8 ≡ i.num_outbound_streams = ap (λ (x : List ℕ). u16_at x 8) at8 ∙ u16_at_be16 front _ i.num_outbound_streams 8 eight fits.num_outbound_streams in
+    let inbound : u16_at v 10 ≡ i.num_inbound_streams =
+    ap (λ (x : List ℕ). u16_at x 10) at10 ∙ u16_at_be16 (front ++ be16 i.num_outbound_streams) _ i.num_inbound_streams 10 ten fits.num_inbound_streams in
+    let tsn : u32_at v 12 ≡ i.initial_tsn = ap (λ (x : List ℕ). u32_at x 12) at12 ∙ u32_at_be32 head ps i.initial_tsn 12 twelve fits.initial_tsn in
+    let params : drop 16 v ≡ ps = drop_at (head ++ be32 i.initial_tsn) ps 16 sixteen in
+    record {
+      long = omega (arith, length_init_value i);
+      no_flags = refl;
+      fields = sym (rw (tag, credit, out, inbound, tsn) refl);
+      params = rw params (params_again i.params back);
+    }
+
 -- ---- every kind
 
-value_again : (w : Wire) → Canonical w → Fits w → HasText w → ReadsValue (flags_of w) (value_of w) w
+value_again : (w : Wire) → Canonical w → Fits w → HasLength w → ReadsValue (flags_of w) (value_of w) w
 value_again (data_chunk d) canonical fits short = data_again d fits
+value_again (init_chunk i) canonical fits short = init_again i fits canonical
 value_again (sack_chunk s) canonical fits short = sack_again s fits short
+value_again (heartbeat_chunk ps) canonical fits short = heartbeat_again ps canonical
+value_again (heartbeat_ack_chunk ps) canonical fits short = heartbeat_again ps canonical
+value_again (reconfig_chunk r) canonical fits short = pair_again r.param_a r.param_b canonical
 value_again (abort_chunk cs) canonical fits short = causes_again cs fits (omega (arith, short))
 value_again (shutdown_chunk n) canonical fits short =
     let whole : be32 n ≡ be32 n ++ [] = sym (append-nil (be32 n)) in
@@ -166,7 +206,7 @@ value_again (forward_tsn_chunk f) canonical fits short = forward_tsn_again f fit
 value_again (i_forward_tsn_chunk f) canonical fits short = i_forward_tsn_again f fits
 
 -- a chunk's text, with zeros or at least four bytes after it, reads back
-pub chunk_again : (w : Wire) (rest : List ℕ) → Canonical w → Fits w → HasText w → (length rest < 4 → All (λ x. x ≡ 0) rest) → ReadsChunk (text_of w ++ rest) w
+pub chunk_again : (w : Wire) (rest : List ℕ) → Canonical w → Fits w → HasLength w → (length rest < 4 → All (λ x. x ≡ 0) rest) → ReadsChunk (text_of w ++ rest) w
 chunk_again w rest canonical fits short zeros =
     record {
       is_framed = framed_reads (type_of w) (flags_of w) (value_of w) rest short zeros;

@@ -1,10 +1,12 @@
 -- How long the value of each kind is.
-use Rattle.std.proofs.Common.{◌≡◌, ℕ, ◌+◌, ◌*◌, List, [], ◌∷◌, length, ◌++◌, refl, arith, length-append}
+use Rattle.std.proofs.Common.{◌≡◌, ℕ, ◌+◌, ◌*◌, ◌^◌, ◌<◌, ◌≤◌, false, List, [], ◌∷◌, length, ◌++◌, refl, arith, length-append}
 use Rattle.std.specs.List.{flat_map}
 use Rattle.std.proofs.lemmas.List.Concat.{flat_map-cons}
 use Rattle.sctp_base.proofs.Fields.{length_be16, length_be32}
 use Rattle.sctp_base.specs.Field.{be16, be32}
 use Rattle.sctp_chunks.specs.PayloadData.{Data, data_value}
+use Rattle.sctp_chunks.specs.Params.{params_text}
+use Rattle.sctp_chunks.specs.Init.{Init, init_value}
 use Rattle.sctp_chunks.specs.SelectiveAck.{Sack, sack_value, block_text}
 use Rattle.sctp_chunks.specs.ForwardTsn.{ForwardTsn, forward_tsn_value, stream_text}
 use Rattle.sctp_chunks.specs.IForwardTsn.{IForwardTsn, i_forward_tsn_value, entry_text}
@@ -36,3 +38,10 @@ unfolding i_forward_tsn_value
 length_i_forward_tsn_value f =
     let streams = length_flat_map entry_text 8 (λ s. simp (length-append, length_be16, length_be32)) f.streams in
     simp (length-append, length_be32) (omega (arith, streams))
+
+pub length_init_value : (i : Init) → length (init_value i) ≡ 16 + length (params_text false i.params)
+unfolding init_value
+length_init_value i = simp (length-append, length_be16, length_be32) (omega arith)
+
+pub init_has_length : (i : Init) (n : ℕ) → length (params_text false i.params) ≤ n → 4 + (16 + n) < 2 ^ 16 → 4 + length (init_value i) < 2 ^ 16
+init_has_length i n le lt = omega (arith, length_init_value i)

@@ -5,6 +5,9 @@ use Rattle.sctp_base.specs.Walk.{Walks}
 use Rattle.sctp_chunks.specs.declared.chunk.error_cause.ErrorCause.{ErrorCause}
 use Rattle.sctp_chunks.specs.ErrorCause.{IsCause, ReadsCause, after_cause}
 use Rattle.sctp_chunks.specs.SelectiveAck.{blocks_in, duplicates_in}
+use Rattle.sctp_base.specs.ParamFraming.{IsParam, param_type_at, after_param}
+use Rattle.sctp_base.specs.ParamKind.{ParamFault}
+use Rattle.sctp_chunks.specs.Params.{ParamsFault}
 use Rattle.sctp_base.specs.declared.error.Error.{Error}
 use Rattle.sctp_base.specs.declared.error.Error.TheVariants as errors
 
@@ -57,3 +60,34 @@ abbrev pub IForwardTsnFault : Error → List ℕ → Type 0
 IForwardTsnFault e bytes =
     OpenFault 194 errors.ErrChunkTypeNotForwardTsn e bytes
     ⊎ ((e ≡ errors.ErrChunkTooShort) × (length (value_at bytes) < 4))
+
+abbrev pub InitFault : Error → List ℕ → Type 0
+InitFault e bytes =
+    HeaderFault e bytes
+    ⊎ ((e ≡ errors.ErrChunkTypeNotTypeInit) × (4 ≤ length bytes) × (type_at bytes ≢ 1) × (type_at bytes ≢ 2))
+    ⊎ ((e ≡ errors.ErrChunkValueNotLongEnough) × (length (value_at bytes) < 16))
+    ⊎ ((e ≡ errors.ErrChunkTypeInitFlagZero) × (flags_at bytes ≢ 0))
+    ⊎ ParamsFault e (drop 16 (value_at bytes))
+
+-- a value that is no Heartbeat Info
+abbrev pub InfoFault : Error → List ℕ → Type 0
+InfoFault e value =
+    ((e ≡ errors.ErrHeartbeatNotLongEnoughInfo) × (length value < 4))
+    ⊎ ((e ≡ errors.ErrHeartbeatParam) × (4 ≤ length value) × (param_type_at value ≢ 1))
+    ⊎ ParamFault e value
+
+abbrev pub HeartbeatFault : Error → List ℕ → Type 0
+HeartbeatFault e bytes = OpenFault 4 errors.ErrChunkTypeNotHeartbeat e bytes ⊎ InfoFault e (value_at bytes)
+
+abbrev pub HeartbeatAckFault : Error → List ℕ → Type 0
+HeartbeatAckFault e bytes = OpenFault 5 errors.ErrChunkTypeNotHeartbeatAck e bytes ⊎ InfoFault e (value_at bytes)
+
+-- no first parameter, its refusal, or the second's
+abbrev pub PairValueFault : Error → List ℕ → Type 0
+PairValueFault e value =
+    ((e ≡ errors.ErrChunkTooShort) × (length value < 4))
+    ⊎ ParamFault e value
+    ⊎ (IsParam value × (0 < length (after_param value)) × ParamFault e (after_param value))
+
+abbrev pub ReconfigFault : Error → List ℕ → Type 0
+ReconfigFault e bytes = OpenFault 130 errors.ErrChunkTypeNotReconfig e bytes ⊎ PairValueFault e (value_at bytes)

@@ -36,12 +36,12 @@ body_again (w ∷ ws) plain fits short =
     let e = body_next w ws in
     let rest : List ℕ = pad w ++ body_of ws in
     let whole : List ℕ = text_of w ++ rest in
-    let n : declared whole ≡ 4 + length (value_of w) = framed_declared (type_of w) (flags_of w) (value_of w) rest short.0 in
+    let n : declared whole ≡ 4 + length (value_of w) = framed_declared (type_of w) (flags_of w) (value_of w) rest short.0.1 in
     let len : length (text_of w ++ pad w) ≡ padded (declared whole) =
     rw n (omega (arith, length-append (text_of w) (pad w), length_text w, length-replicate {A = ℕ} (padding_of (length (text_of w))) 0)) in
     let step : Steps whole w = record {
       is_read = tt;
-      chunk = chunk_again w rest plain.0 fits.0 short.0 (zeros_after w ws);
+      chunk = chunk_again w rest plain.0 fits.0 short.0.1 (zeros_after w ws);
       whole = omega (arith, len, length-append (text_of w) rest, length-append (pad w) (body_of ws), length-append (text_of w) (pad w));
     } in
     let regroup : whole ≡ (text_of w ++ pad w) ++ body_of ws = sym (append_assoc (text_of w) (pad w) (body_of ws)) in

@@ -15,7 +15,7 @@ use std::test::Fail;
 
 /// Answers the same number for any bytes: 0, or the field of a recorded packet.
 #[derive(Clone, Copy)]
-struct Answer(u32);
+pub struct Answer(pub u32);
 
 impl Checksum for Answer {
     ghost sum = { λ c bytes. c.0 };
@@ -25,7 +25,7 @@ impl Checksum for Answer {
     }
 }
 
-const ZERO: Answer = Answer(0);
+pub const ZERO: Answer = Answer(0);
 
 /// Counts how often it is asked.
 #[derive(Clone, Copy)]
@@ -45,14 +45,14 @@ impl Checksum for Counted<'_> {
 const HEAD: [u8; 12] = [0x13, 0x88, 0x13, 0x88, 0, 0, 0, 1, 0, 0, 0, 0];
 
 /// The packet with the usual header and these chunks.
-fn packet_bytes(alloc: Global, chunks: &[u8]) -> Result<Bytes, Error> {
+pub fn packet_bytes(alloc: Global, chunks: &[u8]) -> Result<Bytes, Error> {
     let mut buf = BytesMut::new(alloc);
     buf.extend_from_slice(&HEAD)?;
     buf.extend_from_slice(chunks)?;
     Ok(buf.freeze()?)
 }
 
-fn refusal(alloc: Global, chunks: &[u8]) -> Result<Option<Error>, Error> {
+pub fn refusal(alloc: Global, chunks: &[u8]) -> Result<Option<Error>, Error> {
     Ok(Packet::unmarshal(alloc, &packet_bytes(alloc, chunks)?, &ZERO).err())
 }
 
@@ -83,7 +83,7 @@ fn data(alloc: Global, length: usize) -> Result<ChunkPayloadData, Error> {
     })
 }
 
-fn packet_of(alloc: Global, chunk: ChunkKind) -> Result<Packet, Error> {
+pub fn packet_of(alloc: Global, chunk: ChunkKind) -> Result<Packet, Error> {
     let mut chunks = Vec::new(alloc);
     chunks.push(chunk)?;
     Ok(Packet {
@@ -203,7 +203,7 @@ fn longest_chunk(rt: HostRuntime) -> Result<(), Fail> {
 }
 
 #[test]
-fn refusals(rt: HostRuntime) -> Result<(), Fail> {
+pub fn refusals(rt: HostRuntime) -> Result<(), Fail> {
     let alloc = rt.alloc();
     let short = refusal(alloc, &[0, 3, 0, 3])?;
     assert!(rt; matches!(short, Some(Error::ErrChunkHeaderInvalidLength)));

@@ -55,4 +55,12 @@ impl Chunk for ChunkCookieEcho {
     fn put_value(&self, buf: &mut BytesMut) {
         buf.extend_reserved(&self.cookie);
     }
+
+    fn check(&self) -> Result<()> {
+        Ok(())
+    }
+
+    fn check_form(&self) -> Result<()> {
+        Ok(())
+    }
 }

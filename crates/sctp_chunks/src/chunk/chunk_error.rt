@@ -59,4 +59,12 @@ impl Chunk for ChunkError {
     fn put_value(&self, buf: &mut BytesMut) {
         put_causes(buf, &self.error_causes);
     }
+
+    fn check(&self) -> Result<()> {
+        Ok(())
+    }
+
+    fn check_form(&self) -> Result<()> {
+        Ok(())
+    }
 }

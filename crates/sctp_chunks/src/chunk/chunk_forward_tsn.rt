@@ -188,4 +188,12 @@ impl Chunk for ChunkForwardTsn {
         put_u32(buf, self.new_cumulative_tsn);
         put_streams(buf, &self.streams);
     }
+
+    fn check(&self) -> Result<()> {
+        Ok(())
+    }
+
+    fn check_form(&self) -> Result<()> {
+        Ok(())
+    }
 }

@@ -146,4 +146,12 @@ impl Chunk for ChunkIForwardTsn {
         put_u32(buf, self.new_cumulative_tsn);
         put_entries(buf, &self.streams);
     }
+
+    fn check(&self) -> Result<()> {
+        Ok(())
+    }
+
+    fn check_form(&self) -> Result<()> {
+        Ok(())
+    }
 }

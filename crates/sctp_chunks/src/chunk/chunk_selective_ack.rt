@@ -176,4 +176,12 @@ impl Chunk for ChunkSelectiveAck {
         put_blocks(buf, &self.gap_ack_blocks);
         put_numbers(buf, &self.duplicate_tsn);
     }
+
+    fn check(&self) -> Result<()> {
+        Ok(())
+    }
+
+    fn check_form(&self) -> Result<()> {
+        Ok(())
+    }
 }

@@ -61,4 +61,12 @@ impl Chunk for ChunkShutdown {
     fn put_value(&self, buf: &mut BytesMut) {
         put_u32(buf, self.cumulative_tsn_ack);
     }
+
+    fn check(&self) -> Result<()> {
+        Ok(())
+    }
+
+    fn check_form(&self) -> Result<()> {
+        Ok(())
+    }
 }

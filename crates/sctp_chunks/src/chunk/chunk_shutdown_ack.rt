@@ -50,4 +50,12 @@ impl Chunk for ChunkShutdownAck {
     }
 
     fn put_value(&self, _buf: &mut BytesMut) {}
+
+    fn check(&self) -> Result<()> {
+        Ok(())
+    }
+
+    fn check_form(&self) -> Result<()> {
+        Ok(())
+    }
 }

@@ -54,4 +54,12 @@ impl Chunk for ChunkShutdownComplete {
     }
 
     fn put_value(&self, _buf: &mut BytesMut) {}
+
+    fn check(&self) -> Result<()> {
+        Ok(())
+    }
+
+    fn check_form(&self) -> Result<()> {
+        Ok(())
+    }
 }
