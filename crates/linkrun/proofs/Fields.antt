@@ -1,7 +1,7 @@
 -- Fields of a script against hex text.
 use Rattle.std.proofs.Common.{◌≡◌, ℕ, List, [], ◌∷◌, refl, inl, inr}
-use Rattle.std.specs.Prelude.{◌≢◌, ◌⊎◌, Ok, Err}
-use Rattle.hex.specs.Hex.{decode_of, encode_lower, IsBytes}
+use Rattle.std.specs.Prelude.{◌≢◌, ◌⊎◌, Err}
+use Rattle.hex.specs.Hex.{decode_of, IsBytes}
 use Rattle.hex.proofs.HexLemmas.{decode_of-encode_lower}
 use Rattle.hex.specs.declared.error.FromHexError.{FromHexError}
 use Rattle.hex.specs.declared.error.FromHexError.TheVariants as hex_errors

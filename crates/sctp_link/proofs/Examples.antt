@@ -7,9 +7,9 @@ use Rattle.sctp_packets.specs.Packet.{head_text, padded_text}
 use Rattle.sctp_link.specs.declared.event.Event.TheVariants as E
 use Rattle.sctp_link.specs.declared.event.Reply.TheVariants as R
 use Rattle.sctp_link.specs.declared.event.LinkRefusal.TheVariants.{StreamUnknown, StreamOpen, MessageTooLarge, NoSuchDatagram}
-use Rattle.sctp_link.specs.World.{World, setup_of, start, datagram_of, run_of}
+use Rattle.sctp_link.specs.World.{World, setup_of, start, datagram_of}
 use Rattle.sctp_link.specs.Steps.{after, refusal_of, reply_to}
-use Rattle.sctp_link.specs.History.{History, IsRun, handed_out, world_of}
+use Rattle.sctp_link.specs.History.{History, IsRun, handed_out, longest_run, world_of}
 
 -- the events with their replies, newest first: `abc` is written, sent and read
 abbrev one_message : History
@@ -60,7 +60,7 @@ two_messages_is_run : IsRun (setup_of 4294967295 1 1) two_messages
 two_messages_is_run =
     (refl, refl, (refl, refl, (refl, refl, (refl, refl, (refl, refl, (refl, refl, (refl, refl, (refl, refl, (refl, refl, (refl, refl, (refl, refl, (refl, refl, (refl, refl, tt)))))))))))))
 
-all_read : handed_out two_messages ≡ run_of (world_of (setup_of 4294967295 1 1) two_messages)
+all_read : handed_out two_messages ≡ longest_run two_messages
 all_read = refl
 
 -- refusals, the lowest first

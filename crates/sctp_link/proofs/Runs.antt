@@ -1,8 +1,16 @@
 -- The longest run of whole messages, cut where the reader stands.
-use Rattle.std.proofs.Common.{◌≡◌, ℕ, zero, suc, ◌<◌, ◌≤◌, Bool, true, false, List, [], ◌∷◌, ◌++◌, length, get_or, set, take, drop, Option, Some, None, refl, ap, arith}
-use Rattle.std.specs.Prelude.{if◌then◌else◌}
+use Rattle.std.proofs.Common.{◌≡◌, ℕ, zero, suc, ◌<◌, ◌≤◌, Bool, true, false, List, [], ◌∷◌, ◌++◌, length, get_or, set, take, drop, Option, Some, None, refl, ap, sym, ◌∙◌, ◌+◌, arith, add-zero}
+use Rattle.std.specs.Prelude.{if◌then◌else◌, ◌==◌, ◌||◌}
+use Rattle.std.proofs.lemmas.Bool.Decides.{nat_tests}
+use Rattle.std.proofs.lemmas.List.{get_or-set_same, get_or-set_other}
 use Rattle.sctp_link.specs.declared.message.Message.{Message}
-use Rattle.sctp_link.specs.World.{whole_run}
+use Rattle.sctp_link.specs.History.{arrived_run}
+
+-- the messages from the first one on, as long as each is marked as arrived
+abbrev pub whole_run : List Bool → List Message → List Message
+whole_run [] messages = []
+whole_run (arrived ∷ others) [] = []
+whole_run (arrived ∷ others) (message ∷ messages) = if arrived then message ∷ whole_run others messages else []
 
 abbrev pub first_of : List Message → Option Message
 first_of [] = None
@@ -68,3 +76,24 @@ pub length-set : (bs : List Bool) (n : ℕ) (x : Bool) → length (set bs n x) �
 length-set [] n x = refl
 length-set (b ∷ bs) zero x = refl
 length-set (b ∷ bs) (suc n) x = ap suc (length-set bs n x)
+
+-- the marks and the numbers that arrived give the same run
+pub run-marked : (p : ℕ → Bool) (n : ℕ) (bs : List Bool) (ms : List Message) → ((k : ℕ) → get_or bs k false ≡ p (n + k)) → whole_run bs ms ≡ arrived_run p n ms
+run-marked p n [] [] same = refl
+run-marked p n [] (m ∷ ms) same = let here : p n ≡ false = sym (same 0 ∙ ap p (add-zero n)) in rw here refl
+run-marked p n (b ∷ bs) [] same = refl
+run-marked p n (b ∷ bs) (m ∷ ms) same =
+    let here : b ≡ p n = same 0 ∙ ap p (add-zero n) in
+    let rest : whole_run bs ms ≡ arrived_run p (n + 1) ms = run-marked p (n + 1) bs ms (λ k. same (suc k) ∙ ap p (shift k)) in
+    rw (here, rest) refl
+  where
+    shift : (k : ℕ) → n + suc k ≡ n + 1 + k
+    shift k = omega arith
+
+-- one slot more is marked
+pub set-marked : (bs : List Bool) (n k : ℕ) → n < length bs → get_or (set bs n true) k false ≡ ((n == k) || get_or bs k false)
+set-marked bs n k lt = step (n == k) refl
+  where
+    step : (b : Bool) → (n == k) ≡ b → get_or (set bs n true) k false ≡ (b || get_or bs k false)
+    step true e = let same : n ≡ k = grind (arith, nat_tests) in rw (← same) (get_or-set_same bs n true false lt)
+    step false e = get_or-set_other bs n k true false (λ same. grind (arith, nat_tests))

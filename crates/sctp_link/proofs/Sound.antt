@@ -1,17 +1,19 @@
 -- What holds of every history: what was read is the beginning of what was written, and all of it had arrived.
-use Rattle.std.proofs.Common.{◌≡◌, ℕ, ◌+◌, ◌<◌, ◌≤◌, Bool, true, false, List, [], ◌∷◌, ◌++◌, length, take, drop, Some, None, refl, ap, sym, ◌∙◌, arith, add-one, append-nil, length-append}
+use Rattle.std.proofs.Common.{◌≡◌, ℕ, ◌+◌, ◌<◌, ◌≤◌, Bool, true, false, List, [], ◌∷◌, ◌++◌, length, take, drop, Option, Some, None, refl, ap, sym, ◌∙◌, arith, add-one, append-nil, zero-add, length-append}
 use Rattle.std.proofs.Common.{inl, inr}
-use Rattle.std.specs.Prelude.{if◌then◌else◌, ◌↔◌, ◌⊎◌}
+use Rattle.std.specs.Prelude.{if◌then◌else◌, ◌↔◌, ◌⊎◌, ◌||◌, ◌==◌, nat_lt}
 use Rattle.std.proofs.lemmas.Bool.{cases_lt, ltb-true}
 use Rattle.std.proofs.lemmas.List.{take-append-le}
 use Rattle.sctp_link.specs.declared.message.Message.{Message}
 use Rattle.sctp_link.specs.declared.event.Event.{Event}
 use Rattle.sctp_link.specs.declared.event.Event.TheVariants.{Open, Write, Send, Arrive, Read}
 use Rattle.sctp_link.specs.declared.event.Reply.TheVariants as R
-use Rattle.sctp_link.specs.World.{Setup, World, message_at, no_message, is_arrived, tsn_of, ssn_of, whole_run, run_of, next_message}
-use Rattle.sctp_link.specs.Steps.{after, reply_to, wrote, wrote_reply, has_pending, sent, received, read_by, read_reply}
-use Rattle.sctp_link.specs.History.{History, world_of, IsRun, handed_by, handed_out, IsPrefixOf}
-use Rattle.sctp_link.proofs.Runs.{first_of, run-split, run-next, take-next, true-within, push-false, set-more, length-set}
+use Rattle.sctp_link.specs.World.{Setup, World, message_at, no_message, is_arrived, tsn_of, ssn_of, next_message}
+use Rattle.sctp_link.specs.Steps.{after, refusal_of, if_not, reply_to, wrote, wrote_reply, has_pending, sent, received, read_by, read_reply}
+use Rattle.sctp_link.specs.History.{History, world_of, IsRun, handed_by, handed_out, written, has_arrived, arrived_run, longest_run, IsPrefixOf}
+use Rattle.sctp_link.specs.declared.event.Reply.{Reply}
+use Rattle.sctp_link.specs.declared.event.LinkRefusal.TheVariants.{NoSuchDatagram}
+use Rattle.sctp_link.proofs.Runs.{whole_run, run-marked, set-marked, first_of, run-split, run-next, take-next, true-within, push-false, set-more, length-set}
 
 record Sound (w : World) (out : List Message) : Type 0 where
   slots : length w.arrived ≤ length w.messages
@@ -90,29 +92,82 @@ sound : (setup : Setup) (h : History) → IsRun setup h → Sound (world_of setu
 sound setup [] run = record { slots = omega arith; within = omega arith; out_is = refl; came = λ k lt. absurd (omega arith) }
 sound setup (entry ∷ older) run = rw run.1 (step (world_of setup older) entry.0 (handed_out older) (sound setup older run.2))
 
+-- ## The record of a history says what the history says by itself
+
+record Recorded (w : World) (h : History) : Type 0 where
+  messages : w.messages ≡ written h
+  marks : (k : ℕ) → is_arrived w k ≡ has_arrived h k
+
+made : (b : Bool) → if_not b NoSuchDatagram None ≡ None → b ≡ true
+made true e = refl
+made false e = cc
+
+recorded-step : (w : World) (e : Event) (reply : Reply) (older : History) → refusal_of w e ≡ None → Recorded w older → Recorded (after w e) ((e, reply) ∷ older)
+recorded-step w (Open s) reply older ok r = record { messages = rw (append-nil (written older)) r.messages; marks = r.marks }
+recorded-step w (Write s ppi bytes) reply older ok r = by_length bytes
+  where
+    message : List ℕ → Message
+    message bytes = record { stream = s; ppi = ppi; bytes = bytes }
+
+    by_length : (bytes : List ℕ) → Recorded (wrote w (record { stream = s; ppi = ppi; bytes = bytes }) bytes) ((Write s ppi bytes, reply) ∷ older)
+    by_length [] = record { messages = rw (append-nil (written older)) r.messages; marks = r.marks }
+    by_length (byte ∷ others) = record { messages = ap (λ l. l ++ record { stream = s; ppi = ppi; bytes = byte ∷ others } ∷ []) r.messages; marks = r.marks }
+recorded-step w (Send now) reply older ok r = by_pending (has_pending w)
+  where
+    by_pending : (b : Bool) → Recorded (if b then sent w else w) ((Send now, reply) ∷ older)
+    by_pending true = record { messages = rw (append-nil (written older)) r.messages; marks = λ k. push-false w.arrived k ∙ r.marks k }
+    by_pending false = record { messages = rw (append-nil (written older)) r.messages; marks = r.marks }
+recorded-step w (Arrive j) reply older ok r =
+    let lt = ltb-true j (length w.arrived) (made (nat_lt j (length w.arrived)) ok) in
+    record { messages = rw (append-nil (written older)) r.messages; marks = λ k. set-marked w.arrived j k lt ∙ ap (λ b. (j == k) || b) (r.marks k) }
+recorded-step w (Read s) reply older ok r = by_next (next_message w)
+  where
+    by_next : (o : Option Message) → Recorded (read_by w o) ((Read s, reply) ∷ older)
+    by_next None = record { messages = rw (append-nil (written older)) r.messages; marks = r.marks }
+    by_next (Some m) = record { messages = rw (append-nil (written older)) r.messages; marks = r.marks }
+
+recorded : (setup : Setup) (h : History) → IsRun setup h → Recorded (world_of setup h) h
+recorded setup [] run = record { messages = refl; marks = λ k. refl }
+recorded setup (entry ∷ older) run = recorded-step (world_of setup older) entry.0 entry.1 older run.0 (recorded setup older run.2)
+
 -- ## The laws
 
 -- what the reader has yet to read of the run
 abbrev rest_of : World → List Message
 rest_of w = whole_run (drop w.read w.arrived) (drop w.read w.messages)
 
-split : (w : World) (out : List Message) → Sound w out → run_of w ≡ out ++ rest_of w
-split w out g = run-split w.read w.arrived w.messages g.within g.came ∙ ap (λ l. l ++ rest_of w) (sym g.out_is)
+-- the run is what was read, and the rest
+split : (setup : Setup) (h : History) → IsRun setup h → longest_run h ≡ handed_out h ++ rest_of (world_of setup h)
+split setup h run =
+    let w = world_of setup h in
+    let g = sound setup h run in
+    let r = recorded setup h run in
+    let marked : whole_run w.arrived w.messages ≡ arrived_run (has_arrived h) 0 w.messages = run-marked (has_arrived h) 0 w.arrived w.messages (λ k. r.marks k ∙ ap (has_arrived h) (sym (zero-add k))) in
+    ap (arrived_run (has_arrived h) 0) (sym r.messages) ∙ sym marked ∙ run-split w.read w.arrived w.messages g.within g.came ∙ ap (λ l. l ++ rest_of w) (sym g.out_is)
 
 -- what was handed out is a beginning of the longest run of whole messages
-pub reads_are_prefix : (setup : Setup) (h : History) → IsRun setup h → IsPrefixOf (handed_out h) (run_of (world_of setup h))
-reads_are_prefix setup h run = (rest_of (world_of setup h), sym (split (world_of setup h) (handed_out h) (sound setup h run)))
+pub reads_are_prefix : (setup : Setup) (h : History) → IsRun setup h → IsPrefixOf (handed_out h) (longest_run h)
+reads_are_prefix setup h run = (rest_of (world_of setup h), sym (split setup h run))
 
 longer : (out : List Message) (m : Message) (ms : List Message) → out ≡ out ++ m ∷ ms → ⊥
 longer out m ms e = absurd (omega (arith, ap length e, length-append out (m ∷ ms)))
 
 -- nothing is answered exactly where the run is exhausted
-pub nothing_when_exhausted : (setup : Setup) (h : History) (s : ℕ) → IsRun setup h → (reply_to (world_of setup h) (Read s) ≡ R.Nothing) ↔ (handed_out h ≡ run_of (world_of setup h))
-nothing_when_exhausted setup h s run =
+pub nothing_when_exhausted : (setup : Setup) (h : History) (s : ℕ) (reply : Reply) → IsRun setup ((Read s, reply) ∷ h) → (reply ≡ R.Nothing) ↔ (handed_out h ≡ longest_run h)
+nothing_when_exhausted setup h s reply run =
     let w = world_of setup h in
-    let g = sound setup h run in
-    rw (run-next w.read w.arrived w.messages no_message g.slots, split w (handed_out h) g) (by_rest (rest_of w))
+    let g = sound setup h run.2 in
+    rw (run.1, run-next w.read w.arrived w.messages no_message g.slots, split setup h run.2) (by_rest (rest_of w))
   where
     by_rest : (l : List Message) → (read_reply (first_of l) ≡ R.Nothing) ↔ (handed_out h ≡ handed_out h ++ l)
     by_rest [] = (λ e. sym (append-nil (handed_out h)), λ e. refl)
     by_rest (m ∷ ms) = (λ e. cc, λ e. absurd (longer (handed_out h) m ms e))
+
+-- an arrival is new exactly where the datagram had not arrived
+pub first_is_new : (setup : Setup) (h : History) (k : ℕ) (reply : Reply) → IsRun setup ((Arrive k, reply) ∷ h) → (reply ≡ R.New) ↔ (has_arrived h k ≡ false)
+first_is_new setup h k reply run =
+    rw (run.1, (recorded setup h run.2).marks k) (by_mark (has_arrived h k))
+  where
+    by_mark : (b : Bool) → ((if b then R.Repeat else R.New) ≡ R.New) ↔ (b ≡ false)
+    by_mark true = (λ e. cc, λ e. cc)
+    by_mark false = (λ e. refl, λ e. refl)

@@ -86,16 +86,6 @@ packet_of d = record { source_port = 5000; destination_port = 5000; verification
 abbrev pub datagram_of : (List ℕ → ℕ) → World → ℕ → List ℕ
 datagram_of sum w n = packet_text sum (packet_of (data_at w n))
 
--- the messages from the first one on, as long as each has arrived
-abbrev pub whole_run : List Bool → List Message → List Message
-whole_run [] messages = []
-whole_run (arrived ∷ others) [] = []
-whole_run (arrived ∷ others) (message ∷ messages) = if arrived then message ∷ whole_run others messages else []
-
--- the longest run of whole messages
-abbrev pub run_of : World → List Message
-run_of w = whole_run w.arrived w.messages
-
 -- the message that a read hands out: the next one, once it has arrived
 abbrev pub next_message : World → Option Message
 next_message w = if is_arrived w w.read then Some (message_at w w.read) else None

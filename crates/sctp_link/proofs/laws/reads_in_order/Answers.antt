@@ -5,4 +5,4 @@ pub returns-clause-prefix : goal.returns-clause-prefix
 returns-clause-prefix c = reads_are_prefix
 
 pub returns-clause-nothing : goal.returns-clause-nothing
-returns-clause-nothing c = λ setup h s run accepted. nothing_when_exhausted setup h s run
+returns-clause-nothing c = nothing_when_exhausted
