@@ -1,0 +1,6 @@
+pub mod Examples
+pub mod Links
+pub mod Packets
+pub mod Runs
+pub mod Sound
+pub mod Ties

@@ -1,0 +1,10 @@
+//! A sender and a receiver over a network in memory.
+#![tactic(auto)]
+
+mod datagram;
+pub mod event;
+pub mod laws;
+pub mod link;
+pub mod message;
+#[cfg(test)]
+mod tests;
