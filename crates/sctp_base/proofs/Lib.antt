@@ -1,7 +1,7 @@
 pub mod Fields
 pub mod Walks
-pub mod Bytes
 pub mod Each
+pub mod Bytes
 pub mod ParamTypes
 pub mod ParamLengths
 pub mod ParamOne

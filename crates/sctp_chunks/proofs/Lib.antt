@@ -1,4 +1,11 @@
 pub mod One
 pub mod Lengths
+pub mod Causes
+pub mod ParamsText
 pub mod Again
+pub mod AgainLists
+pub mod AgainCauses
+pub mod AgainParams
+pub mod AgainKinds
+pub mod Texts
 pub mod Cuts

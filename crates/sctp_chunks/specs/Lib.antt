@@ -1,7 +1,17 @@
+pub mod Names
 pub mod Framing
 pub mod PayloadData
+pub mod Params
+pub mod Init
+pub mod SelectiveAck
+pub mod Heartbeat
+pub mod ErrorCause
+pub mod Reconfig
+pub mod ForwardTsn
+pub mod IForwardTsn
 pub mod Wire
 pub mod Fault
+pub mod Check
 pub mod Fits
 pub mod ChunkSet
 pub mod Kind

@@ -3,13 +3,30 @@
 ghost use Rattle.std.specs.Prelude.{◌≡◌, ◌+◌, ◌^◌, ◌≤◌, ◌<◌, ◌++◌, ◌⊎◌, ℕ, List, length, min, IfOk, IfErr, OnOk, OnErr};
 ghost use Rattle.sctp_base.specs.declared.error.Error.{Error};
 ghost use Rattle.sctp_base.specs.declared.error.Error.TheVariants.{ErrOutOfMemory, ErrLengthTooLarge};
-ghost use Rattle.sctp_chunks.specs.Wire.{Wire, ReadsChunk, HasText, text_of, type_of, flags_of, value_of};
+ghost use Rattle.sctp_chunks.specs.Wire.{Wire, ReadsChunk, HasForm, HasLength, HasText, text_of, type_of, flags_of, value_of};
 ghost use Rattle.sctp_chunks.specs.Fits.{Fits, Canonical};
+ghost use Rattle.sctp_chunks.specs.Check.{IsChecked, CheckFault, FormFault, TextFault};
 ghost use Rattle.sctp_base.specs.Outcome.{OrMemory, GivesUnlessMemory};
 
+pub mod chunk_abort;
+pub mod chunk_cookie_ack;
+pub mod chunk_cookie_echo;
+pub mod chunk_error;
+pub mod chunk_forward_tsn;
 pub mod chunk_header;
+pub mod chunk_heartbeat;
+pub mod chunk_heartbeat_ack;
+pub mod chunk_i_forward_tsn;
+pub mod chunk_init;
 pub mod chunk_kind;
 pub mod chunk_payload_data;
+pub mod chunk_reconfig;
+pub mod chunk_selective_ack;
+pub mod chunk_shutdown;
+pub mod chunk_shutdown_ack;
+pub mod chunk_shutdown_complete;
+pub mod error_cause;
+mod params;
 
 use bytes::{Bytes, BytesMut};
 use chunk_header::{ChunkHeader, put_header};
@@ -63,11 +80,21 @@ pub trait Chunk {
         ensures spare { buf.new.spare + length (value_of (wire self.now)) ≡ buf.old.spare }
         ensures fits { Fits (wire self.now) };
 
+    /// Whether the values are allowed; only INIT and RECONFIG ask for something.
+    fn check(&self) -> Result<()>
+        ensures ok { OnOk result (IsChecked (wire self.now)) }
+        ensures err { IfErr result (λ e. CheckFault e (wire self.now)) };
+
+    /// Whether the kind has a text for the chunk, its length apart; only HEARTBEAT-ACK and RECONFIG ask for something.
+    fn check_form(&self) -> Result<()>
+        ensures ok { OnOk result (HasForm (wire self.now)) }
+        ensures err { IfErr result (λ e. FormFault e (wire self.now)) };
+
     /// The header that the chunk is written with.
     fn header(&self) -> Result<ChunkHeader>
-        ensures ok { IfOk result (λ h. HasText (wire self.now) × (h.typ.0 ≡ type_of (wire self.now))
+        ensures ok { IfOk result (λ h. HasLength (wire self.now) × (h.typ.0 ≡ type_of (wire self.now))
             × (h.flags ≡ flags_of (wire self.now)) × (h.value_length ≡ length (value_of (wire self.now)))) }
-        ensures err { IfErr result (λ e. (e ≡ ErrLengthTooLarge) × (HasText (wire self.now) → ⊥)) }
+        ensures err { IfErr result (λ e. (e ≡ ErrLengthTooLarge) × (HasLength (wire self.now) → ⊥)) }
     {
         ChunkHeader::of(self.chunk_type(), self.flags(), self.value_length())
     }
@@ -79,9 +106,10 @@ pub trait Chunk {
         ensures spare { OnOk result (buf.old.spare ≤ buf.new.spare + (4 + length (value_of (wire self.now)))) }
         ensures fits { OnOk result (Fits (wire self.now)) }
         ensures err { OnErr result (buf.new.items ≡ buf.old.items) }
-        ensures refused { IfErr result (λ e. ((e ≡ ErrLengthTooLarge) × (HasText (wire self.now) → ⊥))
+        ensures refused { IfErr result (λ e. TextFault e (wire self.now)
             ⊎ ((e ≡ ErrOutOfMemory) × HasText (wire self.now) × (buf.old.spare < 4 + length (value_of (wire self.now))))) }
     {
+        self.check_form()?;
         put_header(buf, self.chunk_type(), self.flags(), self.value_length())?;
         self.put_value(buf);
         Ok(buf.len())
@@ -90,8 +118,7 @@ pub trait Chunk {
     /// The chunk as bytes.
     fn marshal(&self, alloc: Global) -> Result<Bytes>
         ensures ok { IfOk result (λ b. HasText (wire self.now) × (b ≡ text_of (wire self.now))) }
-        ensures refused { IfErr result (λ e. ((e ≡ ErrLengthTooLarge) × (HasText (wire self.now) → ⊥))
-            ⊎ (e ≡ ErrOutOfMemory)) }
+        ensures refused { IfErr result (λ e. TextFault e (wire self.now) ⊎ (e ≡ ErrOutOfMemory)) }
     {
         let mut buf = BytesMut::new(alloc);
         self.marshal_to(&mut buf)?;

@@ -8,23 +8,14 @@ use Rattle.sctp_base.specs.Field.{be16, be32, le32, u16_at, u32_at, u32_le_at}
 use Rattle.sctp_base.specs.Padding.{padding_of, padded, four_zeroes}
 use Rattle.sctp_base.proofs.Fields.{length_be16, length_be32, length_le32, u16_at_be16, u32_at_be32, u32_le_at_le32}
 use Rattle.sctp_chunks.specs.Framing.{declared, framed}
-use Rattle.sctp_chunks.specs.PayloadData.{data_value, data_flags}
-use Rattle.sctp_chunks.specs.Wire.{Wire, data_chunk, ReadsChunk, HasText, text_of, type_of, flags_of, value_of}
-use Rattle.sctp_chunks.specs.Kind.{IsRead}
+use Rattle.sctp_chunks.specs.Wire.{Wire, HasText, text_of, type_of, flags_of, value_of}
 use Rattle.sctp_chunks.specs.Fits.{Fits, Canonical}
-use Rattle.sctp_chunks.proofs.Again.{data_again, framed_reads, framed_declared, framed_value}
+use Rattle.sctp_chunks.proofs.Again.{framed_declared}
+use Rattle.sctp_chunks.proofs.AgainKinds.{chunk_again}
 use Rattle.sctp_base.specs.Walk.{Walks}
 use Rattle.sctp_packets.specs.Packet.{Parts, Steps, after, IsCanonical, padded_text, body_of, head_text, head_of, packet_text, summed, IsHeaded, ReadsPacket, HavePacketText, FitsParts}
 use Rattle.sctp_packets.proofs.Sealed.{length_head_text}
 use Rattle.sctp_packets.proofs.Written.{length_text}
-
--- a chunk's text, with zeros or at least four bytes after it, reads back
-pub chunk_again : (w : Wire) (rest : List ℕ) → Canonical w → Fits w → HasText w → (length rest < 4 → All (λ x. x ≡ 0) rest) → ReadsChunk (text_of w ++ rest) w
-chunk_again (data_chunk d) rest plain fits short zeros =
-    record { is_framed = framed_reads 0 (data_flags d) (data_value d) rest short zeros; typ = refl; value = rw (framed_value 0 (data_flags d) (data_value d) rest short) (data_again d fits) }
-
-canonical_is_read : (w : Wire) → Canonical w → IsRead w
-canonical_is_read (data_chunk d) plain = tt
 
 abbrev pad : Wire → List ℕ
 pad w = replicate (padding_of (length (text_of w))) 0
@@ -45,12 +36,12 @@ body_again (w ∷ ws) plain fits short =
     let e = body_next w ws in
     let rest : List ℕ = pad w ++ body_of ws in
     let whole : List ℕ = text_of w ++ rest in
-    let n : declared whole ≡ 4 + length (value_of w) = framed_declared (type_of w) (flags_of w) (value_of w) rest short.0 in
+    let n : declared whole ≡ 4 + length (value_of w) = framed_declared (type_of w) (flags_of w) (value_of w) rest short.0.1 in
     let len : length (text_of w ++ pad w) ≡ padded (declared whole) =
     rw n (omega (arith, length-append (text_of w) (pad w), length_text w, length-replicate {A = ℕ} (padding_of (length (text_of w))) 0)) in
     let step : Steps whole w = record {
-      is_read = canonical_is_read w plain.0;
-      chunk = chunk_again w rest plain.0 fits.0 short.0 (zeros_after w ws);
+      is_read = tt;
+      chunk = chunk_again w rest plain.0 fits.0 short.0.1 (zeros_after w ws);
       whole = omega (arith, len, length-append (text_of w) rest, length-append (pad w) (body_of ws), length-append (text_of w) (pad w));
     } in
     let regroup : whole ≡ (text_of w ++ pad w) ++ body_of ws = sym (append_assoc (text_of w) (pad w) (body_of ws)) in

@@ -4,8 +4,9 @@ ghost use Rattle.std.specs.Prelude.{◌≡◌, ◌<◌, ◌^◌, ◌+◌, ◌++�
 ghost use Rattle.std.specs.List.{AllByRecursion};
 ghost use Rattle.std.specs.Prelude.{[]};
 ghost use Rattle.sctp_base.specs.Field.{le32, u16_at, u32_at};
-ghost use Rattle.sctp_base.specs.declared.error.Error.TheVariants.{ErrOutOfMemory, ErrLengthTooLarge};
+ghost use Rattle.sctp_base.specs.declared.error.Error.TheVariants.{ErrOutOfMemory};
 ghost use Rattle.sctp_base.specs.Outcome.{OrMemory, GivesUnlessMemory};
+ghost use Rattle.sctp_chunks.specs.Check.{IsTextError};
 ghost use Rattle.sctp_chunks.specs.Kind.{wire_of, IsFreshKind};
 ghost use Rattle.sctp_chunks.specs.Fits.{Fits, Canonical};
 ghost use Rattle.sctp_chunks.specs.Wire.{Wire, HasText};
@@ -121,7 +122,7 @@ fn put_chunk(buf: &mut BytesMut, chunk: &ChunkKind) -> Result<()>
     ensures spare { OnOk result (buf.old.spare ≤ buf.new.spare + length (padded_text (wire_of chunk.now))) }
     ensures fits { OnOk result (Fits (wire_of chunk.now)) }
     ensures err { OnErr result (buf.new.items ≡ buf.old.items) }
-    ensures refused { IfErr result (λ e. ((e ≡ ErrLengthTooLarge) × (HasText (wire_of chunk.now) → ⊥))
+    ensures refused { IfErr result (λ e. (IsTextError e × (HasText (wire_of chunk.now) → ⊥))
         ⊎ ((e ≡ ErrOutOfMemory) × (buf.old.spare < length (padded_text (wire_of chunk.now))))) }
 {
     let start = buf.len();
@@ -144,7 +145,7 @@ fn put_chunks(buf: &mut BytesMut, chunks: &[ChunkKind]) -> Result<()>
     ensures kept { take (length buf.old.items) buf.new.items ≡ buf.old.items }
     ensures spare { OnOk result (buf.old.spare ≤ buf.new.spare + length (body_of (map wire_of chunks.now))) }
     ensures refused { IfErr result (λ e.
-        ((e ≡ ErrLengthTooLarge) × (AllByRecursion HasText (map wire_of chunks.now) → ⊥))
+        (IsTextError e × (AllByRecursion HasText (map wire_of chunks.now) → ⊥))
         ⊎ ((e ≡ ErrOutOfMemory) × (buf.old.spare < length (body_of (map wire_of chunks.now))))) }
 {
     for chunk in chunks {
@@ -222,7 +223,7 @@ impl Packet {
             (packet_text (C.sum checksum.now) (parts_of self.now)) (parts_of self.now)) }
         ensures err { OnErr result (buf.new.items ≡ buf.old.items) }
         ensures refused { IfErr result (λ e.
-            ((e ≡ ErrLengthTooLarge) × (HavePacketText (parts_of self.now) → ⊥))
+            (IsTextError e × (HavePacketText (parts_of self.now) → ⊥))
             ⊎ ((e ≡ ErrOutOfMemory)
             × (buf.old.spare < length (packet_text (C.sum checksum.now) (parts_of self.now))))) }
     {
@@ -243,7 +244,7 @@ impl Packet {
         ensures reads_back { IsCanonical (parts_of self.now)
             → IfOk result (λ b. ReadsPacket (C.sum checksum.now) b (parts_of self.now)) }
         ensures refused { IfErr result (λ e. OrMemory e
-            ((e ≡ ErrLengthTooLarge) × (HavePacketText (parts_of self.now) → ⊥))) }
+            (IsTextError e × (HavePacketText (parts_of self.now) → ⊥))) }
     {
         let mut buf = BytesMut::new(alloc);
         self.marshal_to(&mut buf, checksum)?;
@@ -259,7 +260,7 @@ impl Packet {
             (head_of (parts_of self.now) ++ four_zeroes ++ body_of (parts_of self.now).chunks) < 2 ^ 32) }
         ensures kept { take (length buf.old.items) buf.new.items ≡ buf.old.items }
         ensures refused { IfErr result (λ e.
-            ((e ≡ ErrLengthTooLarge) × (HavePacketText (parts_of self.now) → ⊥))
+            (IsTextError e × (HavePacketText (parts_of self.now) → ⊥))
             ⊎ ((e ≡ ErrOutOfMemory)
             × (buf.old.spare < length (packet_text (C.sum checksum.now) (parts_of self.now))))) }
     {

@@ -15,7 +15,7 @@ use std::test::Fail;
 
 /// Answers the same number for any bytes: 0, or the field of a recorded packet.
 #[derive(Clone, Copy)]
-struct Answer(u32);
+pub struct Answer(pub u32);
 
 impl Checksum for Answer {
     ghost sum = { λ c bytes. c.0 };
@@ -25,7 +25,7 @@ impl Checksum for Answer {
     }
 }
 
-const ZERO: Answer = Answer(0);
+pub const ZERO: Answer = Answer(0);
 
 /// Counts how often it is asked.
 #[derive(Clone, Copy)]
@@ -45,14 +45,14 @@ impl Checksum for Counted<'_> {
 const HEAD: [u8; 12] = [0x13, 0x88, 0x13, 0x88, 0, 0, 0, 1, 0, 0, 0, 0];
 
 /// The packet with the usual header and these chunks.
-fn packet_bytes(alloc: Global, chunks: &[u8]) -> Result<Bytes, Error> {
+pub fn packet_bytes(alloc: Global, chunks: &[u8]) -> Result<Bytes, Error> {
     let mut buf = BytesMut::new(alloc);
     buf.extend_from_slice(&HEAD)?;
     buf.extend_from_slice(chunks)?;
     Ok(buf.freeze()?)
 }
 
-fn refusal(alloc: Global, chunks: &[u8]) -> Result<Option<Error>, Error> {
+pub fn refusal(alloc: Global, chunks: &[u8]) -> Result<Option<Error>, Error> {
     Ok(Packet::unmarshal(alloc, &packet_bytes(alloc, chunks)?, &ZERO).err())
 }
 
@@ -83,7 +83,7 @@ fn data(alloc: Global, length: usize) -> Result<ChunkPayloadData, Error> {
     })
 }
 
-fn packet_of(alloc: Global, chunk: ChunkKind) -> Result<Packet, Error> {
+pub fn packet_of(alloc: Global, chunk: ChunkKind) -> Result<Packet, Error> {
     let mut chunks = Vec::new(alloc);
     chunks.push(chunk)?;
     Ok(Packet {
@@ -144,7 +144,9 @@ fn whole_message(rt: HostRuntime) -> Result<(), Fail> {
     let packet = Packet::unmarshal(alloc, &raw, &ZERO)?;
     assert_eq!(rt; packet.chunks.len(), 1);
     for chunk in &packet.chunks {
-        let ChunkKind::PayloadData(c) = chunk;
+        let ChunkKind::PayloadData(c) = chunk else {
+            return Err(Fail::from("not user data"));
+        };
         assert_eq!(rt; c.tsn, 10);
         assert_eq!(rt; c.stream_identifier, 1);
         assert_eq!(rt; c.stream_sequence_number, 0);
@@ -170,7 +172,9 @@ fn fragments(rt: HostRuntime) -> Result<(), Fail> {
         let raw = packet_bytes(alloc, &chunk)?;
         let packet = Packet::unmarshal(alloc, &raw, &ZERO)?;
         for chunk in &packet.chunks {
-            let ChunkKind::PayloadData(c) = chunk;
+            let ChunkKind::PayloadData(c) = chunk else {
+                return Err(Fail::from("not user data"));
+            };
             assert_eq!(rt; c.tsn, 4294967294);
             assert_eq!(rt; c.beginning_fragment, first);
             assert_eq!(rt; c.ending_fragment, last);
@@ -199,7 +203,7 @@ fn longest_chunk(rt: HostRuntime) -> Result<(), Fail> {
 }
 
 #[test]
-fn refusals(rt: HostRuntime) -> Result<(), Fail> {
+pub fn refusals(rt: HostRuntime) -> Result<(), Fail> {
     let alloc = rt.alloc();
     let short = refusal(alloc, &[0, 3, 0, 3])?;
     assert!(rt; matches!(short, Some(Error::ErrChunkHeaderInvalidLength)));

@@ -14,6 +14,7 @@ use sctp_base::error::{Error, Result};
 use sctp_base::field::{put_u16, put_u32, read_u16, read_u32};
 use sctp_base::util::{CT_PAYLOAD_DATA, ChunkType};
 use std::alloc::Global;
+use std::fmt;
 
 pub const PAYLOAD_DATA_ENDING_FRAGMENT_BITMASK: u8 = 1;
 
@@ -94,6 +95,35 @@ pub struct ChunkPayloadData {
     /// How often this chunk was sent.
     pub nsent: u32,
     pub retransmit: bool,
+}
+
+impl fmt::Display for PayloadProtocolIdentifier {
+    fn fmt<W: fmt::Write>(&self, f: &mut fmt::Formatter<W>) -> fmt::Result {
+        f.write_str(match self {
+            PayloadProtocolIdentifier::Dcep => "WebRTC DCEP",
+            PayloadProtocolIdentifier::String => "WebRTC String",
+            PayloadProtocolIdentifier::Binary => "WebRTC Binary",
+            PayloadProtocolIdentifier::StringEmpty => "WebRTC String (Empty)",
+            PayloadProtocolIdentifier::BinaryEmpty => "WebRTC Binary (Empty)",
+            PayloadProtocolIdentifier::Unknown => "Unknown Payload Protocol Identifier",
+        })
+    }
+}
+
+impl fmt::Display for ReliabilityType {
+    fn fmt<W: fmt::Write>(&self, f: &mut fmt::Formatter<W>) -> fmt::Result {
+        f.write_str(match self {
+            ReliabilityType::Reliable => "Reliable",
+            ReliabilityType::Rexmit => "Rexmit",
+            ReliabilityType::Timed => "Timed",
+        })
+    }
+}
+
+impl fmt::Display for ChunkPayloadData {
+    fn fmt<W: fmt::Write>(&self, f: &mut fmt::Formatter<W>) -> fmt::Result {
+        write!(f, "{}\n{}", self.chunk_type(), self.tsn)
+    }
 }
 
 impl ChunkPayloadData {
@@ -195,5 +225,13 @@ impl Chunk for ChunkPayloadData {
         put_u16(buf, self.stream_sequence_number);
         put_u32(buf, self.payload_type.number());
         buf.extend_reserved(&self.user_data);
+    }
+
+    fn check(&self) -> Result<()> {
+        Ok(())
+    }
+
+    fn check_form(&self) -> Result<()> {
+        Ok(())
     }
 }

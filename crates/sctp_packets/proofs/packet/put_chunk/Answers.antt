@@ -2,6 +2,7 @@ use Rattle.std.proofs.Common.{◌≡◌, ◌-◌, ◌+◌, length, refl, rules, 
 use Rattle.std.proofs.lemmas.Result.{err_from_is_err_and}
 use Rattle.sctp_chunks.specs.Kind.{wire_of}
 use Rattle.sctp_chunks.specs.Wire.{text_of, value_of}
+use Rattle.sctp_chunks.proofs.Texts.{no_text}
 use Rattle.sctp_packets.proofs.Written.{padded_after, length_padded_text, length_text}
 use Rattle.sctp_packets.proofs.packet.put_chunk.Goals as goal
 
@@ -16,7 +17,7 @@ returns-in_err-end-clause-refused c =
     let p = err_from_is_err_and c.from_residual.result c.from_residual.ensures.1 in
     let len = length_padded_text (wire_of c.args.chunk.now) in
     rw (p.1, p.2) (elim c.in_err-end.ensures.refused [
-      | inl long ↦ inl long
+      | inl long ↦ inl (no_text _ _ long)
       | inr memory ↦ inr (memory.0, omega (arith, len, memory.2))
     ])
 

@@ -1,0 +1,241 @@
+use crate::packet::Packet;
+use crate::tests::{ZERO, packet_bytes, packet_of, refusal};
+use bytes::{Bytes, BytesMut};
+use sctp_base::error::Error;
+use sctp_chunks::chunk::Chunk;
+use sctp_chunks::chunk::chunk_abort::ChunkAbort;
+use sctp_chunks::chunk::chunk_forward_tsn::{ChunkForwardTsn, ChunkForwardTsnStream};
+use sctp_chunks::chunk::chunk_i_forward_tsn::{ChunkIForwardTsn, ChunkIForwardTsnStream};
+use sctp_chunks::chunk::chunk_kind::ChunkKind;
+use sctp_chunks::chunk::chunk_selective_ack::{ChunkSelectiveAck, GapAckBlock};
+use sctp_chunks::chunk::error_cause::{ErrorCause, USER_INITIATED_ABORT};
+use std::alloc::Global;
+use std::test::Fail;
+
+/// Reads a packet of these chunks; answers how it is printed chunk by chunk and how it is written.
+fn again(alloc: Global, chunks: &[u8]) -> Result<(String, Bytes), Fail> {
+    let packet = Packet::unmarshal(alloc, &packet_bytes(alloc, chunks)?, &ZERO)?;
+    let mut printed = String::new(alloc);
+    for chunk in &packet.chunks {
+        printed.push_str(&format!(in alloc; "{chunk};")?)?;
+    }
+    let mut written = packet.marshal(alloc, &ZERO)?;
+    written.advance(12.min(written.len()));
+    Ok((printed, written))
+}
+
+// Each row: chunks, how they print, and how they are written where that differs.
+const ROWS: [(&[u8], &str, Option<&[u8]>); 14] = [
+    (
+        b"\x82\0\0\x18\0\x10\0\x14\0\0\0\x01\0\0\0\x01\0\0\0\x07\0\0\0\x08",
+        "Param A:\n Re-configuration Response Parameter 1 1: Success - Performed;",
+        None,
+    ),
+    (b"\x04\0\0\x0a\0\x01\0\x06\x61\x62\0\0", "HEARTBEAT;", None),
+    (
+        b"\x05\0\0\x0a\0\x01\0\x06\x61\x62\0\0",
+        "HEARTBEAT-ACK;",
+        None,
+    ),
+    (
+        b"\x03\0\0\x18\0\0\0\x09\0\0\0\0\0\x01\0\x01\0\x02\0\x03\0\0\0\x0a",
+        "SACK cumTsnAck=9 arwnd=0 dupTsn=[10]\n gap ack: 2 - 3;",
+        None,
+    ),
+    (b"\x0a\0\0\x05\xff\0\0\0", "COOKIE-ECHO;", None),
+    (
+        b"\x0b\0\0\x08\x0b\0\0\x04",
+        "COOKIE-ACK;",
+        Some(b"\x0b\0\0\x04"),
+    ),
+    (
+        b"\x0b\0\0\x05\xaa\x01\x02\x03\x0b\0\0\x04",
+        "COOKIE-ACK;COOKIE-ACK;",
+        Some(b"\x0b\0\0\x04\x0b\0\0\x04"),
+    ),
+    (
+        b"\xc2\0\0\x0a\0\0\0\x0a\0\x01\0\0",
+        "I-FORWARD-TSN\nNew Cumulative TSN: 10;",
+        Some(b"\xc2\0\0\x08\0\0\0\x0a"),
+    ),
+    (
+        b"\xc2\0\0\x10\0\0\0\x0a\0\x01\x01\0\0\0\0\x02",
+        "I-FORWARD-TSN\nNew Cumulative TSN: 10\n - si=1, unordered=true, mid=2;",
+        None,
+    ),
+    (
+        b"\xc0\0\0\x0c\0\0\0\x0b\0\x01\0\x01",
+        "FORWARD-TSN\nNew Cumulative TSN: 11\n - si=1, ssn=1;",
+        None,
+    ),
+    (
+        b"\x06\0\0\x08\0\x0c\0\x04",
+        "ABORT\n - User Initiated Abort;",
+        None,
+    ),
+    (
+        b"\x09\0\0\x09\0\x0d\0\x05\x2a\0\0\0",
+        "ERROR\n - Protocol Violation;",
+        None,
+    ),
+    (b"\x07\0\0\x08\0\0\0\x0a", "SHUTDOWN;", None),
+    (
+        b"\x08\0\0\x04\x0e\0\0\x04",
+        "SHUTDOWN-ACK;SHUTDOWN-COMPLETE;",
+        None,
+    ),
+];
+
+#[test]
+fn kinds_read_and_write(rt: HostRuntime) -> Result<(), Fail> {
+    let alloc = rt.alloc();
+    for (chunks, printed, written) in ROWS {
+        let (text, bytes) = again(alloc, chunks)?;
+        assert_eq!(rt; text.as_str(), printed);
+        assert_eq!(rt; bytes.as_slice(), written.unwrap_or(chunks));
+    }
+    Ok(())
+}
+
+#[test]
+fn kinds_refuse(rt: HostRuntime) -> Result<(), Fail> {
+    let alloc = rt.alloc();
+    let rows: [(&[u8], Error); 13] = [
+        (
+            b"\x03\0\0\x10\0\0\0\x09\0\0\0\0\0\0\xff\xff",
+            Error::ErrSackSizeNotLargeEnoughInfo,
+        ),
+        (
+            b"\x03\0\0\x10\0\0\0\x09\0\0\0\0\0\x01\0\0",
+            Error::ErrSackSizeNotLargeEnoughInfo,
+        ),
+        (b"\xc0\0\0\x0a\0\0\0\x0a\0\x01\0\0", Error::ErrChunkTooShort),
+        (b"\x04\0\0\x08\0\x07\0\x04", Error::ErrHeartbeatParam),
+        (b"\x04\0\0\x08\0\x01\0\x05", Error::ErrParamHeaderTooShort),
+        (b"\x05\0\0\x04", Error::ErrHeartbeatNotLongEnoughInfo),
+        (b"\x06\0\0\x08\0\x0c\0\x03", Error::ErrErrorCauseTooSmall),
+        (b"\x06\0\0\x08\0\x0c\0\x05", Error::ErrErrorCauseTooSmall),
+        (
+            b"\x07\0\0\x09\0\0\0\x0a\0\0\0\0",
+            Error::ErrInvalidChunkSize,
+        ),
+        (b"\x0a\0\0\x05\xff", Error::ErrParseSctpChunkNotEnoughData),
+        (
+            b"\x0a\0\0\x05\xff\0\0\x01",
+            Error::ErrChunkHeaderPaddingNonZero,
+        ),
+        (b"\x82\0\0\x04", Error::ErrChunkTooShort),
+        (b"\x01\0\0\x04", Error::ErrChunkValueNotLongEnough),
+    ];
+    for (chunks, expected) in rows {
+        assert!(rt; refusal(alloc, chunks)? == Some(expected));
+    }
+    Ok(())
+}
+
+/// Whether the packet of this chunk is written, and, where it is not, that the buffer stays.
+fn is_written(alloc: Global, chunk: ChunkKind) -> Result<bool, Fail> {
+    let mut buf = BytesMut::new(alloc);
+    buf.extend_from_slice(b"abc")?;
+    match packet_of(alloc, chunk)?.marshal_to(&mut buf, &ZERO) {
+        Ok(length) => Ok(length == buf.len()),
+        Err(Error::ErrLengthTooLarge) if buf.as_slice() == b"abc" => Ok(false),
+        Err(_) => Err(Fail::from("another refusal, or a changed buffer")),
+    }
+}
+
+fn sack(alloc: Global, blocks: usize) -> Result<ChunkKind, Error> {
+    let mut gap_ack_blocks = Vec::new(alloc);
+    for _ in 0..blocks {
+        gap_ack_blocks.push(GapAckBlock { start: 2, end: 3 })?;
+    }
+    Ok(ChunkKind::SelectiveAck(ChunkSelectiveAck {
+        cumulative_tsn_ack: 9,
+        advertised_receiver_window_credit: 0,
+        gap_ack_blocks,
+        duplicate_tsn: Vec::new(alloc),
+    }))
+}
+
+fn forward_tsn(alloc: Global, pairs: usize) -> Result<ChunkKind, Error> {
+    let mut streams = Vec::new(alloc);
+    for _ in 0..pairs {
+        streams.push(ChunkForwardTsnStream {
+            identifier: 1,
+            sequence: 2,
+        })?;
+    }
+    Ok(ChunkKind::ForwardTsn(ChunkForwardTsn {
+        new_cumulative_tsn: 9,
+        streams,
+    }))
+}
+
+fn i_forward_tsn(alloc: Global, entries: usize) -> Result<ChunkKind, Error> {
+    let mut streams = Vec::new(alloc);
+    for _ in 0..entries {
+        streams.push(ChunkIForwardTsnStream {
+            identifier: 1,
+            unordered: false,
+            mid: 2,
+        })?;
+    }
+    Ok(ChunkKind::IForwardTsn(ChunkIForwardTsn {
+        new_cumulative_tsn: 9,
+        streams,
+    }))
+}
+
+fn cause(alloc: Global, length: usize) -> Result<ErrorCause, Error> {
+    let mut raw = BytesMut::new(alloc);
+    for _ in 0..length {
+        raw.extend_from_slice(&[7])?;
+    }
+    Ok(ErrorCause {
+        code: USER_INITIATED_ABORT,
+        raw: raw.freeze()?,
+    })
+}
+
+fn abort(alloc: Global, length: usize) -> Result<ChunkKind, Error> {
+    let mut error_causes = Vec::new(alloc);
+    error_causes.push(cause(alloc, length)?)?;
+    Ok(ChunkKind::Abort(ChunkAbort { error_causes }))
+}
+
+#[test]
+fn longest_lists(rt: HostRuntime) -> Result<(), Fail> {
+    let alloc = rt.alloc();
+    assert!(rt; !is_written(alloc, sack(alloc, 16_380)?)?);
+    assert!(rt; is_written(alloc, sack(alloc, 16_379)?)?);
+    assert!(rt; !is_written(alloc, forward_tsn(alloc, 16_382)?)?);
+    assert!(rt; is_written(alloc, forward_tsn(alloc, 16_381)?)?);
+    assert!(rt; !is_written(alloc, i_forward_tsn(alloc, 8_191)?)?);
+    assert!(rt; is_written(alloc, i_forward_tsn(alloc, 8_190)?)?);
+    assert!(rt; !is_written(alloc, abort(alloc, 65_528)?)?);
+    assert!(rt; is_written(alloc, abort(alloc, 65_527)?)?);
+    Ok(())
+}
+
+#[test]
+fn causes_and_pairs_alone(rt: HostRuntime) -> Result<(), Fail> {
+    let alloc = rt.alloc();
+    let refused = cause(alloc, 65_532)?.marshal(alloc);
+    assert!(rt; matches!(refused, Err(Error::ErrLengthTooLarge)));
+    assert_eq!(rt; cause(alloc, 65_531)?.marshal(alloc)?.len(), 65_535);
+    let small = cause(alloc, 1)?;
+    assert_eq!(rt; small.length(), 5);
+    assert!(rt; small.error_cause_code() == USER_INITIATED_ABORT);
+    let raw = small.marshal(alloc)?;
+    assert_eq!(rt; raw.as_slice(), b"\0\x0c\0\x05\x07".as_slice());
+    assert_eq!(rt; ErrorCause::unmarshal(&raw)?.raw.as_slice(), [7].as_slice());
+    let pair = ChunkForwardTsnStream::unmarshal(&Bytes::copy_from_slice(
+        alloc,
+        b"\0\x01\0\x02\x03",
+    )?)?;
+    assert_eq!(rt; pair.value_length(), 4);
+    assert_eq!(rt; pair.marshal(alloc)?.as_slice(), b"\0\x01\0\x02".as_slice());
+    let short = ChunkForwardTsnStream::unmarshal(&Bytes::copy_from_slice(alloc, b"\0\x01\0")?);
+    assert!(rt; matches!(short, Err(Error::ErrChunkTooShort)));
+    Ok(())
+}
