@@ -16,6 +16,10 @@ ghost use Rattle.sctp_base.specs.Walk.{Walks};
 ghost use Rattle.sctp_packets.specs.Packet.{Parts, parts_of, IsCanonical, IsHeaded, ReadsPacket, Steps, after, padded_text, body_of, head_text, head_of, HavePacketText, packet_text, FitsParts};
 ghost use Rattle.sctp_packets.specs.Fault.{HeadFault, PacketFault, PlaceFault, WalkFault};
 
+pub mod partial_decode;
+
+pub use partial_decode::PartialDecode;
+
 use bytes::{BufMut, Bytes, BytesMut};
 use sctp_base::error::{Error, Result};
 use sctp_base::field::{put_u16, put_u32, read_u16, read_u32, read_u32_le, u32_le_bytes};

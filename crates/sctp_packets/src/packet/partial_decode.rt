@@ -1,0 +1,92 @@
+//! A packet of which only the beginning was read.
+
+ghost use Rattle.std.specs.Prelude.{◌≡◌, ◌≤◌, ◌<◌, IfOk, IfErr, length, drop};
+ghost use Rattle.std.specs.List.{AllByRecursion};
+ghost use Rattle.sctp_base.specs.declared.error.Error.TheVariants.{ErrChunkValueNotLongEnough};
+ghost use Rattle.sctp_base.specs.Outcome.{OrMemory, GivesUnlessMemory};
+ghost use Rattle.sctp_base.specs.Field.{u32_at};
+ghost use Rattle.sctp_chunks.specs.Kind.{IsFreshKind};
+ghost use Rattle.sctp_packets.specs.Packet.{Parts, parts_of, HavePacketText, IsCanonical, ReadsPacket};
+ghost use Rattle.sctp_packets.specs.Fault.{WalkFault};
+ghost use Rattle.sctp_packets.specs.Partial.{ReadsPartial, Finishes, HasChunks, IsInitType, PartialFault};
+
+use super::{CommonHeader, PACKET_HEADER_SIZE, Packet, open_packet, read_chunks};
+use bytes::Bytes;
+use sctp_base::error::{Error, Result};
+use sctp_base::field::read_u32;
+use sctp_base::util::{CT_COOKIE_ECHO, CT_INIT, CT_INIT_ACK, Checksum, ChunkType};
+use sctp_chunks::chunk::chunk_header::{CHUNK_HEADER_SIZE, open_any, share_value};
+use std::alloc::Global;
+
+const INITIATE_TAG_LENGTH: usize = 4;
+
+/// What tells where a packet belongs, before its chunks are read.
+#[derive(Debug, Drop)]
+pub struct PartialDecode {
+    pub common_header: CommonHeader,
+    /// The bytes after the header.
+    pub remaining: Bytes,
+    pub first_chunk_type: ChunkType,
+    /// The initiate tag, where the first chunk is an INIT or INIT-ACK.
+    pub initiate_tag: Option<u32>,
+    /// The cookie, where the first chunk is a COOKIE-ECHO.
+    pub cookie: Option<Bytes>,
+}
+
+impl PartialDecode {
+    /// Reads the header, tests the checksum, and reads the header of the first chunk.
+    pub fn unmarshal<C: Checksum>(_alloc: Global, raw: &Bytes, checksum: &C) -> Result<PartialDecode>
+        ensures found { IfOk result (λ d. ReadsPartial (C.sum checksum.now) raw.now d) }
+        ensures only { (d : PartialDecode) → ReadsPartial (C.sum checksum.now) raw.now d
+            → GivesUnlessMemory result (λ e. e ≡ d) }
+        ensures fault { IfErr result (λ e. OrMemory e (PartialFault (C.sum checksum.now) e raw.now)) }
+        // What is finished from here is the packet, and each packet with a chunk is finished from here.
+        ensures finished { IfOk result (λ d. (p : Parts) → Finishes d p
+            → ReadsPacket (C.sum checksum.now) raw.now p × HasChunks p) }
+        ensures packets { (p : Parts) → ReadsPacket (C.sum checksum.now) raw.now p → HasChunks p
+            → GivesUnlessMemory result (λ d. Finishes d p) }
+    {
+        let (common_header, remaining) = open_packet(raw, checksum)?;
+        if remaining.len() < CHUNK_HEADER_SIZE {
+            return Err(Error::ErrParseSctpChunkNotEnoughData);
+        }
+        let (header, value) = open_any(&remaining)?;
+        let is_init = header.typ == CT_INIT || header.typ == CT_INIT_ACK;
+        if is_init && value.len() < INITIATE_TAG_LENGTH {
+            return Err(Error::ErrChunkValueNotLongEnough);
+        }
+        let initiate_tag = if is_init {
+            Some(read_u32(value, 0))
+        } else {
+            None
+        };
+        let cookie = if header.typ == CT_COOKIE_ECHO {
+            Some(share_value(&remaining, value, 0)?)
+        } else {
+            None
+        };
+        Ok(PartialDecode {
+            common_header,
+            remaining,
+            first_chunk_type: header.typ,
+            initiate_tag,
+            cookie,
+        })
+    }
+
+    /// Reads the chunks.
+    pub fn finish(self, alloc: Global) -> Result<Packet>
+        ensures found { IfOk result (λ p. Finishes self (parts_of p)) }
+        ensures only { (p : Parts) → Finishes self p → GivesUnlessMemory result (λ q. parts_of q ≡ p) }
+        ensures fault { IfErr result (λ e. OrMemory e (WalkFault e self.remaining)) }
+        ensures rewritable { IfOk result (λ p. HavePacketText (parts_of p)) }
+        ensures canonical { IfOk result (λ p. IsCanonical (parts_of p)) }
+        ensures fresh { IfOk result (λ p. AllByRecursion IsFreshKind p.chunks.items) }
+    {
+        let chunks = read_chunks(alloc, &self.remaining)?;
+        Ok(Packet {
+            common_header: self.common_header,
+            chunks,
+        })
+    }
+}
