@@ -1,0 +1,4 @@
+//! The queues of an association: what waits, what is in flight, what came.
+#![tactic(auto)]
+
+pub mod turns;
