@@ -1,4 +1,5 @@
 //! The queues of an association: what waits, what is in flight, what came.
 #![tactic(auto)]
 
+pub mod held;
 pub mod turns;
