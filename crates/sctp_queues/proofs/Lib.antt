@@ -1,0 +1,4 @@
+pub mod Halves
+pub mod Serials
+pub mod Search
+pub mod Marked

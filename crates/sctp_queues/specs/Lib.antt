@@ -1,3 +1,6 @@
 pub mod Turns
 pub mod Stored
 pub mod Marks
+pub mod Window
+pub mod Payload
+pub mod Blocks

@@ -2,4 +2,5 @@
 #![tactic(auto)]
 
 pub mod held;
+pub mod payload_queue;
 pub mod turns;
