@@ -22,6 +22,18 @@ module _ {X : Type 0} (p : X → Bool) where
   length-change_where f [] = refl
   length-change_where f (x ∷ xs) = ap suc (length-change_where f xs)
 
+  pub those-append : (xs ys : List X) → those p (xs ++ ys) ≡ those p xs ++ those p ys
+  those-append [] ys = refl
+  those-append (x ∷ xs) ys = put_before x _ _ _ (p x) (those-append xs ys)
+    where
+      put_before : (x : X) (u v w : List X) (b : Bool) → u ≡ v ++ w → (if b then x ∷ u else u) ≡ (if b then x ∷ v else v) ++ w
+      put_before x u v w true e = ap (λ zs. x ∷ zs) e
+      put_before x u v w false e = e
+
+  pub change_where-append : (f : X → X) (xs ys : List X) → change_where p f (xs ++ ys) ≡ change_where p f xs ++ change_where p f ys
+  change_where-append f [] ys = refl
+  change_where-append f (x ∷ xs) ys = ap (λ zs. (if p x then f x else x) ∷ zs) (change_where-append f xs ys)
+
   -- where none passes, none is changed
   pub change_where-none : (f : X → X) (xs : List X) → All (λ x. p x ≡ false) xs → change_where p f xs ≡ xs
   change_where-none f [] h = refl

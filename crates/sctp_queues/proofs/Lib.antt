@@ -2,3 +2,4 @@ pub mod Halves
 pub mod Serials
 pub mod Search
 pub mod Marked
+pub mod Gaps

@@ -1,5 +1,6 @@
 -- What gap ack blocks report (RFC 4960 3.3.4).
-use Rattle.std.specs.Prelude.{◌≡◌, ℕ, ◌+◌, ◌^◌, ◌<◌, ◌≤◌, Bool, ◌&&◌, nat_le, nat_lt, ◌==◌, List, map}
+use Rattle.std.specs.Prelude.{◌≡◌, ℕ, ◌+◌, ◌^◌, ◌<◌, ◌≤◌, Bool, ◌&&◌, nat_le, nat_lt, ◌==◌, List, [], ◌∷◌, ◌++◌, map, codes, if◌then◌else◌}
+use Rattle.std.specs.Fmt.{decimal}
 use Rattle.std.specs.List.{All, AllPairs, list_any}
 use Rattle.sctp_chunks.specs.declared.chunk.chunk_payload_data.ChunkPayloadData.{ChunkPayloadData}
 use Rattle.sctp_chunks.specs.declared.chunk.chunk_selective_ack.GapAckBlock.{GapAckBlock}
@@ -38,3 +39,18 @@ gap_offsets cumulative chunks = those is_offset (map (λ c. distance cumulative 
 -- a block as its two ends
 abbrev pub ends_of : GapAckBlock → ℕ × ℕ
 ends_of b = (b.start, b.end)
+
+-- a distance put behind runs: it joins the last where it is next to it
+abbrev pub extended_by : ℕ → List (ℕ × ℕ) → List (ℕ × ℕ)
+extended_by d [] = (d, d) ∷ []
+extended_by d (b ∷ []) = if b.1 + 1 == d then (b.0, d) ∷ [] else b ∷ (d, d) ∷ []
+extended_by d (b ∷ c ∷ cs) = b ∷ extended_by d (c ∷ cs)
+
+-- runs as text, a comma before each: `,2-3,5-5`
+abbrev pub runs_text : List (ℕ × ℕ) → List ℕ
+runs_text [] = []
+runs_text (b ∷ bs) = codes "," ++ decimal b.0 ++ codes "-" ++ decimal b.1 ++ runs_text bs
+
+-- the cumulative TSN and the runs as text: `cumTSN=10,2-3,5-5`
+abbrev pub gap_text : ℕ → List (ℕ × ℕ) → List ℕ
+gap_text cumulative runs = codes "cumTSN=" ++ decimal cumulative ++ runs_text runs

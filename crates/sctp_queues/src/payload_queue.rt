@@ -1,15 +1,16 @@
 //! Chunks by their TSNs, in serial order: what is in flight, or what came beyond the cumulative TSN.
 
-ghost use Rattle.std.specs.Prelude.{◌≡◌, ◌==◌, ◌≢◌, ℕ, ◌+◌, ◌-◌, ◌^◌, ◌<◌, ◌≤◌, [], ◌||◌, length, map, max, OnOk, OnErr, IfOk, IfErr, IfSome, IsOk, IsOkUnless, IsTrue, All, find, not, option_copied, slice_get, slice_index_or, is_some, unwrap_or, true, false, if◌then◌else◌};
+ghost use Rattle.std.specs.Prelude.{◌≡◌, ◌==◌, ◌≢◌, ℕ, ◌+◌, ◌-◌, ◌^◌, ◌<◌, ◌≤◌, [], ◌||◌, length, map, max, OnOk, OnErr, IfOk, IfErr, IfSome, IsOk, IsOkUnless, IsTrue, All, find, not, option_copied, slice_get, slice_index_or, is_some, unwrap_or, true, false, string_bytes, if◌then◌else◌};
 ghost use Rattle.std.specs.Option.{option_map};
 ghost use Rattle.std.specs.List.{list_any};
 ghost use Rattle.sctp_base.specs.declared.error.Error.TheVariants.{ErrOutOfMemory};
 ghost use Rattle.sctp_lists.specs.Kept.{runs_of};
+ghost use Rattle.sctp_lists.specs.Serial.{distance};
 ghost use Rattle.sctp_lists.specs.Lists.{change_where};
 ghost use Rattle.sctp_queues.specs.Turns.{IsWithinDigits};
 ghost use Rattle.sctp_queues.specs.Window.{IsSerial, IsPlaceFor, IsHeldAt, IsWindow, SpansOneWindow, has_tsn, is_held, is_new, bytes_of};
 ghost use Rattle.sctp_queues.specs.Marks.{is_outstanding};
-ghost use Rattle.sctp_queues.specs.Blocks.{BlocksAscend, Reports, covered, gap_offsets, ends_of};
+ghost use Rattle.sctp_queues.specs.Blocks.{BlocksAscend, Reports, covered, gap_offsets, ends_of, is_offset, extended_by, gap_text};
 
 use crate::held::{Held, Mark};
 use crate::turns::Turns;
@@ -91,6 +92,43 @@ fn free_place(held: &Held, tsn: u32) -> Option<usize>
         Ok(_) => None,
         Err(place) => Some(place),
     }
+}
+
+// The distance from the cumulative TSN to a TSN, where a gap ack block can hold it.
+#[tactic(auto, unfolding(sctp_lists::specs::Serial::distance))]
+fn gap_offset(cumulative_tsn: u32, tsn: u32) -> Option<u16>
+    ensures some { IfSome result (λ offset. (offset ≡ distance cumulative_tsn tsn) × (0 < offset) × (offset < 2 ^ 16)) }
+    ensures test { is_some result ≡ is_offset (distance cumulative_tsn tsn) }
+    ensures fits { cumulative_tsn < 2 ^ 32 }
+{
+    let distance = tsn.wrapping_sub(cumulative_tsn);
+    if distance == 0 || distance > 65535 {
+        return None;
+    }
+    Some(distance as u16)
+}
+
+// Adds a distance behind all blocks.
+fn add_offset(blocks: &mut Vec<GapAckBlock>, offset: u16) -> Result<()>
+    requires apart { BlocksAscend blocks.old.items }
+    requires behind { All (λ b. b.end < offset) blocks.old.items }
+    ensures apart { OnOk result (BlocksAscend blocks.new.items) }
+    ensures last { OnOk result (All (λ b. b.end ≤ offset) blocks.new.items) }
+    ensures covers { OnOk result ((n : ℕ) → covered blocks.new.items n ≡ (n == offset) || covered blocks.old.items n) }
+    ensures runs { OnOk result (map ends_of blocks.new.items ≡ extended_by offset (map ends_of blocks.old.items)) }
+    ensures memory { IsOkUnless result ErrOutOfMemory }
+{
+    if let Some(block) = blocks.last_mut() {
+        if block.end + 1 == offset {
+            block.end = offset;
+            return Ok(());
+        }
+    }
+    blocks.push(GapAckBlock {
+        start: offset,
+        end: offset,
+    })?;
+    Ok(())
 }
 
 // Whether the chunk is neither acknowledged nor abandoned.
@@ -314,6 +352,56 @@ impl PayloadQueue {
         ensures rest { self.new ≡ record self.old { duplicates = [] } }
     {
         mem::replace(&mut self.dup_tsn, Vec::new(alloc))
+    }
+
+    /// The runs of TSNs held at distance 1 to 65,535 after `cumulative_tsn`: they ascend, and none touches the next (RFC 4960 3.3.4).
+    pub fn get_gap_ack_blocks(&self, alloc: Global, cumulative_tsn: u32) -> Result<Vec<GapAckBlock>>
+        ensures reported { IfOk result (λ blocks. Reports cumulative_tsn self.now.chunks blocks.items) }
+        ensures runs { IfOk result (λ blocks. map ends_of blocks.items ≡ runs_of (gap_offsets cumulative_tsn self.now.chunks)) }
+        ensures memory { IsOkUnless result ErrOutOfMemory }
+    {
+        let mut turns = Turns::new();
+        let mut blocks = Vec::new(alloc);
+        for place in 0..self.held.len() {
+            let chunk = self.held.look(place, &mut turns);
+            let Some(offset) = gap_offset(cumulative_tsn, chunk.tsn) else {
+                continue;
+            };
+            add_offset(&mut blocks, offset)?;
+        }
+        Ok(blocks)
+    }
+
+    /// The blocks as text: `cumTSN=10,2-3,5-5`.
+    pub fn get_gap_ack_blocks_string(&self, alloc: Global, cumulative_tsn: u32) -> Result<String>
+        ensures text { IfOk result (λ s. string_bytes s ≡ gap_text cumulative_tsn (runs_of (gap_offsets cumulative_tsn self.now.chunks))) }
+        ensures memory { IsOkUnless result ErrOutOfMemory }
+    {
+        let blocks = self.get_gap_ack_blocks(alloc, cumulative_tsn)?;
+        let mut text = format!(in alloc; "cumTSN={cumulative_tsn}")?;
+        for block in &blocks {
+            write!(text, ",{}-{}", block.start, block.end)?;
+        }
+        Ok(text)
+    }
+
+    /// An equal queue.
+    pub fn try_clone(&self, alloc: Global) -> Result<PayloadQueue>
+        ensures ok { IfOk result (λ q. q ≡ self.now) }
+        ensures memory { IsOkUnless result ErrOutOfMemory }
+    {
+        let mut turns = Turns::new();
+        let mut held = Held::new(alloc);
+        held.reserve(self.held.len())?;
+        for place in 0..self.held.len() {
+            held.insert(place, self.held.look(place, &mut turns).try_clone()?)?;
+        }
+        held.reserve(self.held.room())?;
+        Ok(PayloadQueue {
+            held,
+            dup_tsn: self.dup_tsn.clone()?,
+            n_bytes: self.n_bytes,
+        })
     }
 
     /// Marks a chunk as acknowledged, and answers the bytes that left.
