@@ -178,5 +178,8 @@ module _ {X : Type 0} (p : X → Bool) (f : X → X) (xs ys : List X) (i : ℕ) 
   pub changed_step : p x ≡ true → set ys i (f x) ≡ change_where p f (take (i + 1) xs) ++ drop (i + 1) xs
   changed_step h = ap (λ b. set ys i (if b then f x else x)) (sym h) ∙ over_more
 
+  pub rewritten_step : p x ≡ false → set ys i x ≡ change_where p f (take (i + 1) xs) ++ drop (i + 1) xs
+  rewritten_step h = ap (λ b. set ys i (if b then f x else x)) (sym h) ∙ over_more
+
   pub unchanged_step : p x ≡ false → ys ≡ change_where p f (take (i + 1) xs) ++ drop (i + 1) xs
-  unchanged_step h = sym (set-get_or ys i x) ∙ ap (λ u. set ys i u) (sym read) ∙ ap (λ b. set ys i (if b then f x else x)) (sym h) ∙ over_more
+  unchanged_step h = sym (set-get_or ys i x) ∙ ap (λ u. set ys i u) (sym read) ∙ rewritten_step h

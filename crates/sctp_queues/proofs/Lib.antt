@@ -3,3 +3,4 @@ pub mod Serials
 pub mod Search
 pub mod Marked
 pub mod Gaps
+pub mod Waiting

@@ -4,3 +4,4 @@ pub mod Marks
 pub mod Window
 pub mod Payload
 pub mod Blocks
+pub mod Pending

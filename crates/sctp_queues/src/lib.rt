@@ -2,5 +2,7 @@
 #![tactic(auto)]
 
 pub mod held;
+mod line;
 pub mod payload_queue;
+pub mod pending_queue;
 pub mod turns;
