@@ -5,6 +5,7 @@ use Rattle.std.proofs.lemmas.Bool.{cases_lt, cases_eq}
 use Rattle.std.proofs.lemmas.List.Elements.{All-head, All-tail, All-cons, All-filter}
 use Rattle.std.proofs.lemmas.List.Edits.{length-insert, get_or-insert_below, get_or-insert_at, get_or-insert_above, map_over_more}
 use Rattle.std.proofs.lemmas.List.Filters.{sum_by-filter_both}
+use Rattle.std.proofs.lemmas.List.Sums.{sum_by-cons}
 use Rattle.std.proofs.lemmas.List.{set-get_or}
 use Rattle.sctp_lists.specs.Lists.{inserted, change_where, those}
 
@@ -160,6 +161,34 @@ or_swap false false c = refl
 or_assoc : (a b c : Bool) → ((a || b) || c) ≡ (a || (b || c))
 or_assoc true b c = refl
 or_assoc false b c = refl
+
+pub list_any-append : {X : Type 0} (p : X → Bool) (xs ys : List X) → list_any p (xs ++ ys) ≡ (list_any p xs || list_any p ys)
+list_any-append p [] ys = refl
+list_any-append p (x ∷ xs) ys = ap (λ b. p x || b) (list_any-append p xs ys) ∙ sym (or_assoc (p x) (list_any p xs) (list_any p ys))
+
+pub list_any-inserted : {X : Type 0} (p : X → Bool) (before : X → X → Bool) (x : X) (xs : List X) → list_any p (inserted before x xs) ≡ (p x || list_any p xs)
+list_any-inserted p before x [] = refl
+list_any-inserted p before x (e ∷ es) = elim (before x e) as (λ b. list_any p (if b then x ∷ e ∷ es else e ∷ inserted before x es) ≡ (p x || (p e || list_any p es))) [
+  | true ↦ refl
+  | false ↦ ap (λ b. p e || b) (list_any-inserted p before x es) ∙ or_swap (p e) (p x) (list_any p es)
+]
+
+-- what passes a test among those stands among all
+pub list_any-those : {X : Type 0} (p q : X → Bool) (xs : List X) → list_any p (those q xs) ≡ true → list_any p xs ≡ true
+list_any-those p q [] h = h
+list_any-those p q (x ∷ xs) h = step (p x) (q x) refl h (list_any-those p q xs)
+  where
+    step : (c b : Bool) → p x ≡ c → list_any p (if b then x ∷ those q xs else those q xs) ≡ true → (list_any p (those q xs) ≡ true → list_any p xs ≡ true) → (c || list_any p xs) ≡ true
+    step true b e h ih = refl
+    step false true e h ih = ih (rw e at h)
+    step false false e h ih = ih h
+
+pub sum_by-inserted : {X : Type 0} (f : X → ℕ) (before : X → X → Bool) (x : X) (xs : List X) → sum_by f (inserted before x xs) ≡ f x + sum_by f xs
+sum_by-inserted f before x [] = sum_by-cons f x []
+sum_by-inserted f before x (e ∷ es) = elim (before x e) as (λ b. sum_by f (if b then x ∷ e ∷ es else e ∷ inserted before x es) ≡ f x + sum_by f (e ∷ es)) [
+  | true ↦ sum_by-cons f x (e ∷ es)
+  | false ↦ let rest = sum_by-inserted f before x es in let new = sum_by-cons f e (inserted before x es) in let old = sum_by-cons f e es in omega arith
+]
 
 -- a write that makes the test pass where q holds too
 pub list_any-set : {X : Type 0} (p : X → Bool) (q : Bool) (xs : List X) (i : ℕ) (y d : X) → i < length xs → p y ≡ (q || p (get_or xs i d)) → list_any p (set xs i y) ≡ (q || list_any p xs)

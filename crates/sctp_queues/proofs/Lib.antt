@@ -4,3 +4,6 @@ pub mod Search
 pub mod Marked
 pub mod Gaps
 pub mod Waiting
+pub mod Whole
+pub mod Sendable
+pub mod Outbounds

@@ -5,3 +5,5 @@ pub mod Window
 pub mod Payload
 pub mod Blocks
 pub mod Pending
+pub mod Whole
+pub mod Outbound

@@ -3,6 +3,7 @@
 
 pub mod held;
 mod line;
+pub mod outbound_queue;
 pub mod payload_queue;
 pub mod pending_queue;
 pub mod turns;

@@ -1,11 +1,12 @@
 //! Chunks that wait in a line: first in, first out.
 
-ghost use Rattle.std.specs.Prelude.{◌≡◌, ◌==◌, ◌+◌, ◌-◌, ◌^◌, ◌<◌, ◌≤◌, ◌++◌, [], ◌∷◌, length, max, OnOk, OnErr, IfSome, IfNone, IsOk, IsOkUnless, option_copied, slice_get};
+ghost use Rattle.std.specs.Prelude.{◌≡◌, ◌==◌, ◌+◌, ◌-◌, ◌^◌, ◌<◌, ◌≤◌, ◌++◌, [], ◌∷◌, length, map, max, OnOk, OnErr, IfSome, IfNone, IsOk, IsOkUnless, option_copied, slice_get};
 ghost use Rattle.std.specs.List.{list_any};
 ghost use Rattle.std.specs.VecDeque.{deque_capacity, deque_len};
 ghost use Rattle.sctp_base.specs.declared.error.Error.TheVariants.{ErrOutOfMemory};
 ghost use Rattle.sctp_lists.specs.Lists.{change_where, those};
 ghost use Rattle.sctp_queues.specs.Marks.{is_of};
+ghost use Rattle.sctp_queues.specs.Outbound.{with_message_id};
 ghost use Rattle.sctp_queues.specs.Pending.{removed_bytes, last_of, without_message, is_on, one_lower, is_to_start, with_deadline, is_dcep, is_timed, deadline_at};
 ghost use Rattle.sctp_queues.specs.Window.{bytes_of};
 
@@ -113,6 +114,27 @@ impl Line {
         self.chunks.push_back(chunk)?;
         self.room = self.room.saturating_sub(1);
         self.n_bytes += len;
+        Ok(())
+    }
+
+    /// Puts the fragments of a message behind, under its number.
+    pub(crate) fn append(&mut self, chunks: Vec<ChunkPayloadData>, message_id: u64) -> Result<()>
+        requires { bytes_of self.old.chunks + bytes_of chunks.items < 2 ^ 64 }
+        ensures ok { OnOk result (self.new ≡ record { chunks = self.old.chunks ++ map (with_message_id message_id) chunks.items; room = self.old.room - length chunks.items }) }
+        ensures bytes { OnOk result (bytes_of self.new.chunks ≡ bytes_of self.old.chunks + bytes_of chunks.items) }
+        ensures err { OnErr result (self.new ≡ self.old) }
+        ensures memory { IsOkUnless result ErrOutOfMemory }
+        ensures succeeds { length chunks.items ≤ self.old.room → IsOk result }
+    {
+        self.reserve(chunks.len())?;
+        let mut rest = VecDeque::from_vec(chunks);
+        while let Some(mut chunk) = rest.pop_front() {
+            chunk.message_id = message_id;
+            match self.push_back(chunk) {
+                Ok(()) => {}
+                Err(_) => unreachable!(),
+            }
+        }
         Ok(())
     }
 

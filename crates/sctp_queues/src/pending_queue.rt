@@ -1,9 +1,11 @@
 //! Fragments that wait to be sent.
 
-ghost use Rattle.std.specs.Prelude.{◌≡◌, ◌==◌, ◌+◌, ◌^◌, ◌<◌, ◌≤◌, ◌||◌, [], length, OnOk, OnErr, IsOk, IsOkUnless, option_copied, slice_get};
+ghost use Rattle.std.specs.Prelude.{◌≡◌, ◌==◌, ◌+◌, ◌^◌, ◌<◌, ◌≤◌, ◌||◌, [], length, map, OnOk, OnErr, IsOk, IsOkUnless, option_copied, slice_get};
 ghost use Rattle.std.specs.List.{list_any};
 ghost use Rattle.sctp_base.specs.declared.error.Error.TheVariants.{ErrOutOfMemory};
 ghost use Rattle.sctp_queues.specs.Marks.{is_of};
+ghost use Rattle.sctp_queues.specs.Outbound.{appended, with_message_id};
+ghost use Rattle.sctp_queues.specs.Window.{bytes_of};
 ghost use Rattle.sctp_queues.specs.Pending.{list_to_pop, selected_after, selected_without};
 
 use crate::line::Line;
@@ -63,6 +65,27 @@ impl PendingQueue {
             self.unordered.push_back(chunk)
         } else {
             self.ordered.push_back(chunk)
+        }
+    }
+
+    /// Puts the fragments of a message behind those of one list, under its number.
+    pub(crate) fn push_message(
+        &mut self,
+        chunks: Vec<ChunkPayloadData>,
+        unordered: bool,
+        message_id: u64,
+    ) -> Result<()>
+        requires { total_bytes self.old + bytes_of chunks.items < 2 ^ 64 }
+        ensures ok { OnOk result (self.new ≡ appended unordered (map (with_message_id message_id) chunks.items) self.old) }
+        ensures bytes { OnOk result (total_bytes self.new ≡ total_bytes self.old + bytes_of chunks.items) }
+        ensures err { OnErr result (self.new ≡ self.old) }
+        ensures memory { IsOkUnless result ErrOutOfMemory }
+        ensures succeeds { length chunks.items ≤ room_for self.old unordered → IsOk result }
+    {
+        if unordered {
+            self.unordered.append(chunks, message_id)
+        } else {
+            self.ordered.append(chunks, message_id)
         }
     }
 
