@@ -7,3 +7,4 @@ pub mod Waiting
 pub mod Whole
 pub mod Sendable
 pub mod Outbounds
+pub mod Abandoned

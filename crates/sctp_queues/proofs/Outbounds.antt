@@ -1,7 +1,10 @@
 -- What a send leaves.
-use Rattle.std.proofs.Common.{◌≡◌, ◌==◌, ℕ, ◌+◌, ◌-◌, ◌≤◌, max, Bool, true, false, if◌then◌else◌, List, [], ◌∷◌, Option, Some, None, is_some, refl, sym, ap, ◌∙◌, subst, arith}
+use Rattle.std.proofs.Common.{◌≡◌, ◌==◌, ℕ, ◌+◌, ◌-◌, ◌<◌, ◌≤◌, ◌++◌, map, length, take, get_or, max, Bool, true, false, if◌then◌else◌, List, [], ◌∷◌, Option, Some, None, is_some, refl, sym, ap, ◌∙◌, subst, arith}
+use Rattle.std.proofs.lemmas.List.{map-append}
 use Rattle.std.proofs.lemmas.Bool.{false≢true}
 use Rattle.sctp_chunks.specs.declared.chunk.chunk_payload_data.ChunkPayloadData.{ChunkPayloadData}
+use Rattle.sctp_lists.specs.Lists.{those}
+use Rattle.sctp_lists.proofs.Edits.{those-more}
 use Rattle.sctp_queues.specs.declared.pending_queue.Selected.{Selected}
 use Rattle.sctp_queues.specs.Outbound.{Outbound, all_started, sent_of, sent_peeked, sent_next}
 use Rattle.sctp_queues.specs.Pending.{Pending, started, peeked}
@@ -48,3 +51,17 @@ sent_some tsn now q h = step (q.next_unstarted == q.next_message_id) (peeked_all
     step : (b : Bool) → is_some (peeked (if b then q else record q { pending = started q.next_unstarted now q.pending; next_unstarted = q.next_message_id }).pending) ≡ true → sent_peeked (let r = record q { inflight = record q.inflight { room = max 1 q.inflight.room } } in if b then r else record r { pending = started r.next_unstarted now r.pending; next_unstarted = r.next_message_id }) tsn now ≡ sent_peeked (if b then q else record q { pending = started q.next_unstarted now q.pending; next_unstarted = q.next_message_id }) tsn now
     step true k = taken_room q tsn now (peeked q.pending) k
     step false k = taken_room (record q { pending = started q.next_unstarted now q.pending; next_unstarted = q.next_message_id }) tsn now (peeked (started q.next_unstarted now q.pending)) k
+
+-- one chunk more is looked at
+pub tsns_more : (p : ChunkPayloadData → Bool) (xs : List ChunkPayloadData) (i : ℕ) (x : ChunkPayloadData) (b : Bool) → i < length xs → x ≡ get_or xs i x → p x ≡ b → map (λ (c : ChunkPayloadData). c.tsn) (those p (take (i + 1) xs)) ≡ map (λ (c : ChunkPayloadData). c.tsn) (those p (take i xs)) ++ (if b then x.tsn ∷ [] else [])
+tsns_more p xs i x b lt read e =
+    ap (map (λ (c : ChunkPayloadData). c.tsn)) (those-more p xs i x lt)
+    ∙ map-append (λ (c : ChunkPayloadData). c.tsn) (those p (take i xs)) _
+    ∙ ap (λ (y : ChunkPayloadData). map (λ (c : ChunkPayloadData). c.tsn) (those p (take i xs)) ++ map (λ (c : ChunkPayloadData). c.tsn) (if p y then y ∷ [] else [])) (sym read)
+    ∙ ap (λ ts. map (λ (c : ChunkPayloadData). c.tsn) (those p (take i xs)) ++ ts) (step (p x) b e)
+  where
+    step : (a b : Bool) → a ≡ b → map (λ (c : ChunkPayloadData). c.tsn) (if a then x ∷ [] else []) ≡ (if b then x.tsn ∷ [] else [])
+    step true true e = refl
+    step true false e = cc
+    step false true e = cc
+    step false false e = refl

@@ -17,18 +17,18 @@ use Rattle.sctp_queues.specs.Whole.{Stage, free, begun, Follows, stage_after, st
 use Rattle.sctp_queues.specs.Window.{bytes_of, has_tsn}
 use Rattle.sctp_queues.proofs.Whole.{IsWhole-append, IsWhole-message, IsWhole-without, IsWhole-change_where, KeepsMessage, list_any-change_where, list_any-message, none_before, none_past, none_without, stage_below, stage_without, weaken_bound, weaken_start}
 
-abbrev made : List ChunkPayloadData → List ChunkPayloadData → Option Selected → ℕ → ℕ → Pending
+abbrev pub made : List ChunkPayloadData → List ChunkPayloadData → Option Selected → ℕ → ℕ → Pending
 made os us sel ro ru = record { ordered = os; unordered = us; selected = sel; ordered_room = ro; unordered_room = ru }
 
-or_left : (a b : Bool) → a ≡ true → (a || b) ≡ true
+pub or_left : (a b : Bool) → a ≡ true → (a || b) ≡ true
 or_left true b h = refl
 or_left false b h = cc
 
-or_right : (a b : Bool) → b ≡ true → (a || b) ≡ true
+pub or_right : (a b : Bool) → b ≡ true → (a || b) ≡ true
 or_right true b h = refl
 or_right false b h = h
 
-or_false : (a b : Bool) → a ≡ false → b ≡ false → (a || b) ≡ false
+pub or_false : (a b : Bool) → a ≡ false → b ≡ false → (a || b) ≡ false
 or_false a b h k = rw (h, k) refl
 
 -- one of the two, also where each leads to another
@@ -44,7 +44,7 @@ or_elim : {P : Type 0} (a b : Bool) → (a ≡ true → P) → (b ≡ true → P
 or_elim true b f g h = f refl
 or_elim false b f g h = g h
 
-not_true : (b : Bool) → (b ≡ true → ⊥) → b ≡ false
+pub not_true : (b : Bool) → (b ≡ true → ⊥) → b ≡ false
 not_true true h = absurd (h refl)
 not_true false h = refl
 

@@ -159,3 +159,16 @@ is_late now q c = not c.abandoned && (is_past now c.deadline && (not c.acked || 
 
 abbrev pub late_tsns : ℕ → Outbound → List ℕ
 late_tsns now q = map (λ c. c.tsn) (those (is_late now q.pending) q.inflight.chunks)
+
+-- the bytes in an answer
+abbrev pub released_of : Option (ℕ × ℕ) → ℕ
+released_of None = 0
+released_of (Some a) = a.1
+
+abbrev pub expired_bytes : Option (ℕ × Bool × ℕ) → ℕ
+expired_bytes None = 0
+expired_bytes (Some a) = a.2
+
+abbrev pub tail_bytes : Option (ℕ × ℕ × ℕ) → ℕ
+tail_bytes None = 0
+tail_bytes (Some a) = a.2

@@ -1,6 +1,6 @@
 //! What waits to be sent and what is in flight.
 
-ghost use Rattle.std.specs.Prelude.{◌≡◌, ◌==◌, ◌+◌, ◌^◌, ◌<◌, ◌≤◌, ◌||◌, [], length, map, max, false, true, OnOk, OnErr, OnSome, IfOk, IfSome, IsOk, IsOkUnless, IsSome, IsTrue, find, is_some, unwrap_or, option_copied, if◌then◌else◌};
+ghost use Rattle.std.specs.Prelude.{◌≡◌, ◌==◌, ℕ, Bool, ◌+◌, ◌^◌, ◌<◌, ◌≤◌, ◌||◌, [], length, map, max, false, true, OnOk, OnErr, OnSome, IfOk, IfSome, IsOk, IsOkUnless, IsSome, IsTrue, find, is_some, unwrap_or, option_copied, if◌then◌else◌};
 ghost use Rattle.std.specs.Option.{option_map};
 ghost use Rattle.std.specs.List.{list_any};
 ghost use Rattle.sctp_base.specs.declared.error.Error.TheVariants.{ErrOutOfMemory};
@@ -9,7 +9,7 @@ ghost use Rattle.sctp_queues.specs.Marks.{is_outstanding};
 ghost use Rattle.sctp_queues.specs.Pending as pending;
 ghost use Rattle.sctp_queues.specs.Whole.{IsMessageOrNone, waits};
 ghost use Rattle.sctp_queues.specs.Window.{SpansOneWindow, has_tsn, is_held, bytes_of};
-ghost use Rattle.sctp_queues.specs.Outbound.{is_past, is_expired, is_expired_tail};
+ghost use Rattle.sctp_queues.specs.Outbound.{is_past, is_expired, is_expired_tail, is_late, released_of, expired_bytes, tail_bytes};
 
 use crate::line::is_dcep;
 use crate::payload_queue::{PayloadQueue, is_outstanding};
@@ -151,6 +151,163 @@ impl OutboundQueue {
             Ok(()) => {}
             Err(_) => unreachable!(),
         }
+    }
+
+    /// Gives up the message of a chunk in flight: its chunks in flight are cleared and flagged, its unsent tail goes, and one
+    /// end mark in flight stands for the tail. Answers the stream and the bytes that left (RFC 3758 3.5).
+    pub fn abandon(&mut self, tsn: u32, next_tsn: &mut u32) -> Result<Option<(u16, usize)>>
+        requires fresh { is_held self.old.inflight.chunks next_tsn.old ≡ false }
+        requires window { SpansOneWindow self.old.inflight.chunks next_tsn.old }
+        ensures answer { IfOk result (λ r. option_map (λ a. a.0) r ≡ option_map (λ c. c.stream_identifier) (find (has_tsn tsn) self.old.inflight.chunks)) }
+        ensures released { IfOk result (λ r. total_bytes self.new + released_of r ≡ total_bytes self.old) }
+        ensures ok { OnOk result (self.new ≡ abandoned_of (to_abandon (find (has_tsn tsn) self.old.inflight.chunks)) next_tsn.old self.old) }
+        ensures raised { OnOk result (next_tsn.new ≡ tsn_after_of (to_abandon (find (has_tsn tsn) self.old.inflight.chunks)) next_tsn.old self.old) }
+        ensures err { OnErr result ((self.new ≡ self.old) × (next_tsn.new ≡ next_tsn.old)) }
+        ensures memory { IsOkUnless result ErrOutOfMemory }
+        ensures succeeds { 0 < self.old.inflight.room → IsOk result }
+        ensures no_tail { has_tail (to_abandon (find (has_tsn tsn) self.old.inflight.chunks)) self.old ≡ false → IsOk result }
+    {
+        let Some(chunk) = self.inflight.get(tsn) else {
+            return Ok(None);
+        };
+        let stream_identifier = chunk.stream_identifier;
+        if chunk.abandoned {
+            return Ok(Some((stream_identifier, 0)));
+        }
+        let message_id = chunk.message_id;
+        let bytes = self.abandon_message(message_id, next_tsn)?;
+        Ok(Some((stream_identifier, bytes)))
+    }
+
+    // Gives up a message, and answers the bytes that left. It grows first, and only for a tail.
+    fn abandon_message(&mut self, message_id: u64, next_tsn: &mut u32) -> Result<usize>
+        requires fresh { is_held self.old.inflight.chunks next_tsn.old ≡ false }
+        requires window { SpansOneWindow self.old.inflight.chunks next_tsn.old }
+        ensures released { IfOk result (λ bytes. total_bytes self.new + bytes ≡ total_bytes self.old) }
+        ensures ok { OnOk result (self.new ≡ abandoned message_id next_tsn.old self.old) }
+        ensures raised { OnOk result (next_tsn.new ≡ tsn_after message_id next_tsn.old self.old) }
+        ensures err { OnErr result ((self.new ≡ self.old) × (next_tsn.new ≡ next_tsn.old)) }
+        ensures memory { IsOkUnless result ErrOutOfMemory }
+        ensures succeeds { 0 < self.old.inflight.room → IsOk result }
+        ensures no_tail { waits message_id self.old.pending ≡ false → IsOk result }
+    {
+        if !self.pending.contains_message(message_id) {
+            return Ok(self.inflight.abandon_message(message_id));
+        }
+        self.inflight.reserve(1)?;
+        let tsn = *next_tsn;
+        let bytes = self.abandon_with_tail(message_id, tsn);
+        *next_tsn = tsn.wrapping_add(1);
+        Ok(bytes)
+    }
+
+    // Gives up a message with a tail. There is room for its end mark.
+    fn abandon_with_tail(&mut self, message_id: u64, tsn: u32) -> usize
+        requires tail { waits message_id self.old.pending ≡ true }
+        requires room { 0 < self.old.inflight.room }
+        requires fresh { is_held self.old.inflight.chunks tsn ≡ false }
+        requires window { SpansOneWindow self.old.inflight.chunks tsn }
+        ensures released { total_bytes self.new + result ≡ total_bytes self.old }
+        ensures abandoned { self.new ≡ abandoned message_id tsn self.old }
+    {
+        let in_flight = self.inflight.abandon_message(message_id);
+        let (pending, last) = self.pending.remove_message(message_id);
+        let Some(mut mark) = last else { unreachable!() };
+        mark.tsn = tsn;
+        mark.beginning_fragment = false;
+        mark.ending_fragment = true;
+        mark.abandoned = true;
+        mark.retransmit = false;
+        mark.user_data.clear();
+        match self.inflight.push_no_check(mark) {
+            Ok(()) => {}
+            Err(_) => unreachable!(),
+        }
+        in_flight + pending
+    }
+
+    /// Removes the message in front, where it is lapsed and wholly unsent, without a TSN. The later numbers of its stream close
+    /// up where it is ordered. Answers its stream, whether it is unordered, and its bytes.
+    pub fn expire_pending(&mut self, now: u64) -> Option<(u16, bool, usize)>
+        ensures answer { option_map {U = ℕ × Bool} (λ a. (a.0, a.1)) result ≡ option_map {U = ℕ × Bool} (λ c. (c.stream_identifier, c.unordered)) (expiring now self.old) }
+        ensures released { total_bytes self.new + expired_bytes result ≡ total_bytes self.old }
+        ensures expired { self.new ≡ expired_of (expiring now self.old) self.old }
+    {
+        let chunk = self.pending.peek()?;
+        if !is_expired(chunk, now) {
+            return None;
+        }
+        let stream_identifier = chunk.stream_identifier;
+        let unordered = chunk.unordered;
+        let message_id = chunk.message_id;
+        let bytes = self.remove_pending(message_id);
+        if !unordered {
+            self.compact_ordered_ssns(stream_identifier);
+        }
+        Some((stream_identifier, unordered, bytes))
+    }
+
+    // Removes what waits of a message, and answers its bytes.
+    fn remove_pending(&mut self, message_id: u64) -> usize
+        ensures released { total_bytes self.new + result ≡ total_bytes self.old }
+        ensures removed { self.new ≡ record self.old { pending = pending.without message_id self.old.pending } }
+    {
+        let (bytes, _) = self.pending.remove_message(message_id);
+        bytes
+    }
+
+    // Lowers the numbers of a stream's ordered messages that wait by one.
+    fn compact_ordered_ssns(&mut self, stream_identifier: u16)
+        ensures bytes { total_bytes self.new ≡ total_bytes self.old }
+        ensures closed_up { self.new ≡ record self.old { pending = pending.closed_up stream_identifier self.old.pending } }
+    {
+        self.pending.compact_ordered_ssns(stream_identifier);
+    }
+
+    /// Gives up the rest of the half-sent message in front, where it is lapsed; its fragments in flight may all be acknowledged
+    /// and gone. Answers its stream, its number and the bytes that left.
+    pub fn expire_pending_tail(
+        &mut self,
+        now: u64,
+        next_tsn: &mut u32,
+    ) -> Result<Option<(u16, u64, usize)>>
+        requires fresh { is_held self.old.inflight.chunks next_tsn.old ≡ false }
+        requires window { SpansOneWindow self.old.inflight.chunks next_tsn.old }
+        ensures answer { IfOk result (λ r. option_map {U = ℕ × ℕ} (λ a. (a.0, a.1)) r ≡ option_map {U = ℕ × ℕ} (λ c. (c.stream_identifier, c.message_id)) (expiring_tail now self.old)) }
+        ensures released { IfOk result (λ r. total_bytes self.new + tail_bytes r ≡ total_bytes self.old) }
+        ensures ok { OnOk result (self.new ≡ abandoned_of (message_of (expiring_tail now self.old)) next_tsn.old self.old) }
+        ensures raised { OnOk result (next_tsn.new ≡ tsn_after_of (message_of (expiring_tail now self.old)) next_tsn.old self.old) }
+        ensures err { OnErr result ((self.new ≡ self.old) × (next_tsn.new ≡ next_tsn.old)) }
+        ensures memory { IsOkUnless result ErrOutOfMemory }
+        ensures succeeds { 0 < self.old.inflight.room → IsOk result }
+        ensures idle { expiring_tail now self.old ≡ None → IsOk result }
+    {
+        let Some(chunk) = self.pending.peek() else {
+            return Ok(None);
+        };
+        if !is_expired_tail(chunk, now) {
+            return Ok(None);
+        }
+        let stream_identifier = chunk.stream_identifier;
+        let message_id = chunk.message_id;
+        let bytes = self.abandon_message(message_id, next_tsn)?;
+        Ok(Some((stream_identifier, message_id, bytes)))
+    }
+
+    /// The TSNs of lapsed chunks in flight that are not abandoned, and not acknowledged or of a message with an unsent tail.
+    pub fn expired_inflight(&self, alloc: Global, now: u64) -> Result<Vec<u32>>
+        ensures ok { IfOk result (λ tsns. tsns.items ≡ late_tsns now self.now) }
+        ensures memory { IsOkUnless result ErrOutOfMemory }
+    {
+        let mut tsns = Vec::new(alloc);
+        for place in 0..self.inflight.len() {
+            let chunk = self.inflight.at(place);
+            if !is_late(chunk, &self.pending, now) {
+                continue;
+            }
+            tsns.push(chunk.tsn)?;
+        }
+        Ok(tsns)
     }
 
     /// The chunk in flight with this TSN.
@@ -300,4 +457,40 @@ impl OutboundQueue {
     {
         self.inflight.reserve(sends)
     }
+}
+
+// Whether a moment is reached, where there is one.
+fn is_past(deadline: Option<u64>, now: u64) -> bool
+    ensures { result ≡ is_past now deadline }
+{
+    match deadline {
+        Some(deadline) => now >= deadline,
+        None => false,
+    }
+}
+
+// Whether the chunk begins a lapsed message. DCEP messages never lapse.
+fn is_expired(chunk: &ChunkPayloadData, now: u64) -> bool
+    ensures { result ≡ is_expired now chunk.now }
+{
+    chunk.beginning_fragment
+        && !chunk.user_data.is_empty()
+        && !is_dcep(chunk.payload_type)
+        && is_past(chunk.deadline, now)
+}
+
+// Whether the chunk goes on with a lapsed message.
+fn is_expired_tail(chunk: &ChunkPayloadData, now: u64) -> bool
+    ensures { result ≡ is_expired_tail now chunk.now }
+{
+    !chunk.beginning_fragment && !is_dcep(chunk.payload_type) && is_past(chunk.deadline, now)
+}
+
+// Whether the chunk in flight is lapsed, not abandoned, and not acknowledged or of a message with an unsent tail.
+fn is_late(chunk: &ChunkPayloadData, pending: &PendingQueue, now: u64) -> bool
+    ensures { result ≡ is_late now pending.now chunk.now }
+{
+    !chunk.abandoned
+        && is_past(chunk.deadline, now)
+        && (!chunk.acked || pending.contains_message(chunk.message_id))
 }
