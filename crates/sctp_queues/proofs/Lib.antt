@@ -1,0 +1,10 @@
+pub mod Halves
+pub mod Serials
+pub mod Search
+pub mod Marked
+pub mod Gaps
+pub mod Waiting
+pub mod Whole
+pub mod Sendable
+pub mod Outbounds
+pub mod Abandoned

@@ -1,0 +1,17 @@
+use Rattle.std.proofs.Common.{◌≡◌, ◌+◌, ◌<◌, ◌++◌, ◌∷◌, [], true, false, length, append-nil, sym, ap, ◌∙◌, arith}
+use Rattle.sctp_queues.specs.Outbound.{is_late}
+use Rattle.sctp_queues.proofs.Outbounds.{tsns_more}
+use Rattle.sctp_queues.proofs.outbound_queue.OutboundQueue.expired_inflight.Goals as goal
+
+pub loop-place-preserved : goal.loop-place-preserved
+loop-place-preserved c =
+    let xs = c.self.inside.inflight.chunks in
+    let within : c.loop-place.place < length xs = omega arith in
+    c.in_ok-push.ensures.items ∙ ap (λ ts. ts ++ c.at-chunk.result.now.tsn ∷ []) c.loop-place.invariant
+    ∙ sym (tsns_more (is_late c.args.now c.self.inside.pending) xs c.loop-place.place c.at-chunk.result.now true within c.at-chunk.ensures (sym c.is_late.ensures ∙ c.if-not-is_late.false))
+
+pub loop-place-preserved-then-not-is_late : goal.loop-place-preserved-then-not-is_late
+loop-place-preserved-then-not-is_late c =
+    let xs = c.self.inside.inflight.chunks in
+    let within : c.loop-place.place < length xs = omega arith in
+    c.loop-place.invariant ∙ sym (tsns_more (is_late c.args.now c.self.inside.pending) xs c.loop-place.place c.at-chunk.result.now false within c.at-chunk.ensures (sym c.is_late.ensures ∙ c.if-not-is_late.true) ∙ append-nil _)

@@ -1,0 +1,9 @@
+//! The queues of an association: what waits, what is in flight, what came.
+#![tactic(auto)]
+
+pub mod held;
+mod line;
+pub mod outbound_queue;
+pub mod payload_queue;
+pub mod pending_queue;
+pub mod turns;
