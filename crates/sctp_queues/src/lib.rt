@@ -1,4 +1,5 @@
-//! The queues of an association: fragments that wait, fragments in flight, fragments that become messages again.
+//! The queues of an association: what waits, what is in flight, what came.
 #![tactic(auto)]
 
 pub mod chunks;
+pub mod turns;
