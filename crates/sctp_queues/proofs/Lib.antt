@@ -1,2 +1,3 @@
 pub mod ListLemmas
 pub mod SetLemmas
+pub mod RunLemmas

@@ -1,2 +1,5 @@
 pub mod Turns
 pub mod Sets
+pub mod Runs
+pub mod Around
+pub mod Loose

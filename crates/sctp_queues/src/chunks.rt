@@ -1,7 +1,8 @@
 //! The fragments of one message.
 
 ghost use Rattle.std.specs.Prelude.{◌≡◌, ◌==◌, ◌+◌, ◌^◌, ◌-◌, ◌<◌, ◌≤◌, ◌&&◌, [], ◌∷◌, length, min, not, OnOk, OnErr, IfOk, if◌then◌else◌};
-ghost use Rattle.std.specs.List.{list_any, position_or_len};
+ghost use Rattle.std.specs.List.{list_any, position_or_len, insert};
+ghost use Rattle.sctp_chunks.specs.declared.chunk.chunk_payload_data.ChunkPayloadData.{ChunkPayloadData};
 ghost use Rattle.sctp_lists.specs.Serial.{comes_before};
 ghost use Rattle.sctp_lists.specs.Lists.{inserted};
 ghost use Rattle.sctp_queues.specs.Sets.{bytes_of, payload_of, is_complete, has_tsn, with_chunk, chunk_before};
@@ -106,8 +107,16 @@ pub(crate) fn bytes_in(chunks: &[ChunkPayloadData]) -> usize
     len
 }
 
-/// The place of the first fragment that the number comes before, or the end.
+/// Where a fragment of this number is put in: before the first that it comes before, or at the end.
 pub(crate) fn insertion_place(chunks: &[ChunkPayloadData], tsn: u32) -> usize
+    ensures in_range { result ≤ length chunks.now }
+    ensures inserted { (x : ChunkPayloadData) → x.tsn ≡ tsn → insert chunks.now result x ≡ inserted chunk_before x chunks.now }
+{
+    first_after(chunks, tsn)
+}
+
+// The place of the first fragment that the number comes before, or the end.
+fn first_after(chunks: &[ChunkPayloadData], tsn: u32) -> usize
     ensures place { result ≡ position_or_len (λ e. comes_before tsn e.tsn) chunks.now }
     ensures in_range { result ≤ length chunks.now }
 {

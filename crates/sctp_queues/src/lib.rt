@@ -2,4 +2,6 @@
 #![tactic(auto)]
 
 pub mod chunks;
+pub mod loose;
+pub mod pool;
 pub mod turns;
