@@ -3,3 +3,5 @@ pub mod Sets
 pub mod Runs
 pub mod Around
 pub mod Loose
+pub mod Sizes
+pub mod Reassembly

@@ -1,5 +1,5 @@
 -- The fragments of one message, and what makes them whole (RFC 4960 3.3.1, 6.5, 6.6).
-use Rattle.std.specs.Prelude.{ℕ, ◌+◌, ◌%◌, ◌^◌, Bool, false, ◌&&◌, ◌==◌, if◌then◌else◌, List, [], ◌∷◌, ◌++◌, length}
+use Rattle.std.specs.Prelude.{ℕ, ◌+◌, ◌%◌, ◌^◌, Bool, false, ◌&&◌, ◌==◌, not, if◌then◌else◌, Option, Some, None, List, [], ◌∷◌, ◌++◌, length}
 use Rattle.std.specs.List.{list_any, sum_by}
 use Rattle.sctp_lists.specs.Serial.{comes_before, comes_before16}
 use Rattle.sctp_lists.specs.Lists.{inserted, change_first}
@@ -61,3 +61,11 @@ sets_with x sets =
 abbrev pub chunks_of_ssn : ℕ → List ChunkSet → List ChunkPayloadData
 chunks_of_ssn ssn [] = []
 chunks_of_ssn ssn (set ∷ sets) = if has_ssn ssn set then set.chunks else chunks_of_ssn ssn sets
+
+-- what putting x in answers: whether the fragments are complete with it, or nothing where its TSN is there
+abbrev pub answer_with : ChunkPayloadData → List ChunkPayloadData → Option Bool
+answer_with x chunks = if list_any (has_tsn x.tsn) chunks then None else Some (is_complete (inserted chunk_before x chunks))
+
+-- whether they became complete by x
+abbrev pub is_whole_after : ChunkPayloadData → List ChunkPayloadData → Bool
+is_whole_after x chunks = not (list_any (has_tsn x.tsn) chunks) && is_complete (inserted chunk_before x chunks)
