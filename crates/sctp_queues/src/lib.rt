@@ -4,4 +4,5 @@
 pub mod chunks;
 pub mod loose;
 pub mod pool;
+pub mod reassembly_queue;
 pub mod turns;

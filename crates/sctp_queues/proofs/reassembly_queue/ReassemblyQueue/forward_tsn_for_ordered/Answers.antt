@@ -1,0 +1,12 @@
+use Rattle.std.proofs.Common.{◌≡◌, ◌-◌, ap₂, ◌∙◌}
+use Rattle.sctp_lists.specs.Lists.{those}
+use Rattle.sctp_queues.specs.Reassembly.{is_passed, set_bytes}
+use Rattle.sctp_queues.proofs.SetLemmas.{state_of}
+use Rattle.sctp_queues.proofs.reassembly_queue.ReassemblyQueue.forward_tsn_for_ordered.Goals as goal
+
+pub returns : goal.returns
+returns c =
+    let q = c.self.inside in
+    let n = set_bytes (those (is_passed c.args.last_ssn) q.ordered.items) in
+    rw (← c.self.view_is) (c.release.ensures n c.discard-gone.ensures.bytes
+    ∙ ap₂ (λ next sets. state_of q.si next sets q.unordered.items q.unordered_chunks (q.n_bytes - n) q.max_message_size) c.ssn_past-self-inside.ensures c.discard-gone.ensures.rest)
