@@ -1,3 +1,4 @@
 pub mod ListLemmas
 pub mod SetLemmas
 pub mod RunLemmas
+pub mod SizeLemmas

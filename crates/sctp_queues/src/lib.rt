@@ -5,4 +5,5 @@ pub mod chunks;
 pub mod loose;
 pub mod pool;
 pub mod reassembly_queue;
+mod sizes;
 pub mod turns;
