@@ -1,8 +1,13 @@
 -- Lists: places, removals, changes.
 use Rattle.std.proofs.Common.{◌≡◌, ℕ, zero, suc, ◌+◌, ◌++◌, take, drop, length-take-le, ◌≤◌, ◌<◌, Bool, true, false, ◌||◌, not, if◌then◌else◌, List, [], ◌∷◌, length, get_or, set, refl, sym, ap, ◌∙◌, subst, arith}
+use Rattle.std.proofs.lemmas.Bool.{true≢false}
 use Rattle.std.specs.List.{list_any, position_or_len, remove, insert}
 use Rattle.std.proofs.Math.ListN.{take-append-drop}
 use Rattle.sctp_lists.specs.Lists.{inserted, change_first, those, after_leading}
+
+pub neither : (a b : Bool) → (a || b) ≡ false → (a ≡ false) × (b ≡ false)
+neither true b h = (h, absurd (true≢false h))
+neither false b h = (refl, h)
 
 module _ {X : Type 0} (p : X → Bool) where
   -- the first that passes, seen from the front

@@ -1,18 +1,14 @@
 -- The last fragment of a TSN, from both sides.
 use Rattle.std.proofs.Common.{◌≡◌, ℕ, zero, suc, ◌+◌, ◌-◌, ◌<◌, ◌≤◌, ◌==◌, Bool, true, false, ◌||◌, not, if◌then◌else◌, List, [], ◌∷◌, ◌++◌, length, get_or, take, drop, reverse, refl, sym, ap, ap₂, subst, ◌∙◌, append_assoc, arith}
 use Rattle.std.specs.List.{list_any}
-use Rattle.std.proofs.lemmas.Bool.{true≢false}
 use Rattle.std.proofs.Math.Bool.{or-true}
 use Rattle.std.proofs.lemmas.List.{reverse-append, take_more, append-nil}
 use Rattle.std.proofs.Math.ListN.{take-append-drop}
 use Rattle.sctp_lists.specs.Lists.{after_leading}
 use Rattle.sctp_chunks.specs.declared.chunk.chunk_payload_data.ChunkPayloadData.{ChunkPayloadData}
 use Rattle.sctp_queues.specs.Sets.{has_tsn}
+use Rattle.sctp_queues.proofs.ListLemmas.{neither}
 use Rattle.sctp_queues.specs.Sizes.{back_from, on_from}
-
-neither : (a b : Bool) → (a || b) ≡ false → (a ≡ false) × (b ≡ false)
-neither true b h = (h, absurd (true≢false h))
-neither false b h = (refl, h)
 
 module _ (t : ℕ) where
   -- an element that passes is among those that any test asks for

@@ -1,17 +1,21 @@
 //! Fragments that become messages again (RFC 4960 6.5, 6.6).
 
-ghost use Rattle.std.specs.Prelude.{◌≡◌, ℕ, ◌==◌, ◌+◌, ◌-◌, ◌%◌, ◌^◌, ◌<◌, ◌≤◌, [], ◌∷◌, length, min, OnOk, OnErr, true, false, IfOk, IfErr, IfSome, IfNone, IsOk, IsTrue, Ok, Err, MatchOption, not, is_some, option_map, slice_index_or, if◌then◌else◌};
+ghost use Rattle.std.specs.Prelude.{◌≡◌, ℕ, ◌==◌, nat_lt, ◌+◌, ◌-◌, ◌%◌, ◌^◌, ◌<◌, ◌≤◌, [], ◌∷◌, length, min, OnOk, OnErr, true, false, IfOk, IfErr, IfSome, IfNone, IsOk, IsTrue, Ok, Err, MatchOption, not, is_some, option_map, slice_index_or, if◌then◌else◌};
 ghost use Rattle.std.specs.List.{list_any, position_or_len};
 ghost use Rattle.sctp_lists.specs.Serial.{comes_before16, at_or_before, at_or_before16};
 ghost use Rattle.sctp_lists.specs.Lists.{those};
-ghost use Rattle.sctp_queues.specs.Reassembly.{is_passed, set_bytes};
+ghost use Rattle.sctp_queues.specs.Reassembly.{is_passed, set_bytes, set_of_run};
+ghost use Rattle.sctp_queues.specs.Sets.{bytes_of, has_ssn, chunks_of_ssn, sets_with, answer_with, new_set};
+ghost use Rattle.sctp_queues.specs.Sizes.{projected_size, size_before, size_after};
+ghost use Rattle.sctp_queues.specs.Runs.{HasNoRun};
 ghost use Rattle.sctp_base.specs.declared.error.Error.TheVariants.{ErrOutOfMemory, ErrInboundPacketTooLarge};
 
 use crate::chunks::{Chunks, Fragments, bytes_in};
 use crate::pool::Pool;
+use crate::sizes::{size_after, size_before};
 use sctp_base::error::{Error, Result};
 use sctp_base::util::{sna16lt, sna16lte, sna32lte};
-use sctp_chunks::chunk::chunk_payload_data::ChunkPayloadData;
+use sctp_chunks::chunk::chunk_payload_data::{ChunkPayloadData, PayloadProtocolIdentifier};
 use std::alloc::Global;
 use std::collections::VecDeque;
 use std::marker::Model;
@@ -43,7 +47,7 @@ impl Model for ReassemblyQueue {
 }
 
 impl ReassemblyQueue {
-    ghost use Rattle.sctp_queues.specs.Reassembly.{ReassemblyState, message_read, rest_read, state_read, at_start, ordered_forwarded, unordered_forwarded, is_too_large, ordered_pushed, is_whole_with, PushesUnordered};
+    ghost use Rattle.sctp_queues.specs.Reassembly.{ReassemblyState, message_read, rest_read, state_read, at_start, ordered_forwarded, unordered_forwarded, is_too_large, ordered_pushed, is_whole_with, PushesUnordered, GivesRun};
 
     /// An empty queue of the stream `si`, which takes messages of at most `max_message_size` bytes.
     pub fn new(alloc: Global, si: u16, max_message_size: u32) -> Self
@@ -115,6 +119,92 @@ impl ReassemblyQueue {
         self.n_bytes = self.n_bytes.saturating_sub(n_bytes);
     }
 
+    /// Takes a chunk, and says whether a message became whole by it.
+    ///
+    /// A chunk of another stream, an ordered one before the next number and one whose TSN is in its
+    /// set are not kept. ErrInboundPacketTooLarge: its message would be longer than
+    /// `max_message_size`; ErrOutOfMemory. The byte count grows up to the greatest usize.
+    pub fn push(&mut self, chunk: ChunkPayloadData) -> Result<bool>
+        ensures other_stream { (chunk.stream_identifier == self.old.si) ≡ false → (result ≡ Ok false) × (self.new ≡ self.old) }
+        ensures ordered { (chunk.stream_identifier == self.old.si) ≡ true → chunk.unordered ≡ false → IfOk result (λ whole. (self.new ≡ ordered_pushed chunk self.old) × (whole ≡ is_whole_with chunk self.old.held)) }
+        ensures unordered { (chunk.stream_identifier == self.old.si) ≡ true → chunk.unordered ≡ true → IfOk result (λ whole. PushesUnordered chunk self.old self.new whole) }
+        ensures fits { IsOk result → is_too_large chunk self.old ≡ false }
+        ensures refused { IfErr result (λ e. e ≡ (if is_too_large chunk self.old then ErrInboundPacketTooLarge else ErrOutOfMemory)) }
+        ensures err { OnErr result (self.new ≡ self.old) }
+    {
+        if chunk.stream_identifier != self.si {
+            return Ok(false);
+        }
+        if self.is_too_large(&chunk) {
+            return Err(Error::ErrInboundPacketTooLarge);
+        }
+        if chunk.unordered {
+            self.push_unordered(chunk)
+        } else {
+            self.push_ordered(chunk)
+        }
+    }
+
+    // Whether the message of the chunk would be too long with it.
+    fn is_too_large(&self, chunk: &ChunkPayloadData) -> bool
+        ensures { result ≡ nat_lt self.now.max_message_size (projected_size chunk.now self.now.held.ordered self.now.held.loose) }
+    {
+        let projected = if chunk.unordered {
+            let loose = self.unordered_chunks.as_slice();
+            unordered_size(chunk, loose)
+        } else {
+            ordered_size(chunk, &self.ordered)
+        };
+        projected > self.max_message_size as usize
+    }
+
+    fn push_ordered(&mut self, chunk: ChunkPayloadData) -> Result<bool>
+        ensures ok { OnOk result (self.new ≡ ordered_pushed chunk self.old) }
+        ensures answer { IfOk result (λ whole. whole ≡ is_whole_with chunk self.old.held) }
+        ensures err { OnErr result (self.new ≡ self.old) }
+        ensures memory { IfErr result (λ e. e ≡ ErrOutOfMemory) }
+    {
+        if sna16lt(chunk.stream_sequence_number, self.next_ssn) {
+            return Ok(false);
+        }
+        let len = chunk.user_data.len();
+        let Some(whole) = put_ordered(&mut self.ordered, self.alloc, chunk)? else {
+            return Ok(false);
+        };
+        self.n_bytes = self.n_bytes.saturating_add(len);
+        Ok(whole)
+    }
+
+    fn push_unordered(&mut self, chunk: ChunkPayloadData) -> Result<bool>
+        ensures ok { IfOk result (λ whole. PushesUnordered chunk self.old self.new whole) }
+        ensures err { OnErr result (self.new ≡ self.old) }
+        ensures memory { IfErr result (λ e. e ≡ ErrOutOfMemory) }
+    {
+        let len = chunk.user_data.len();
+        self.unordered.reserve(1)?;
+        let run = self.unordered_chunks.put(self.alloc, chunk)?;
+        self.n_bytes = self.n_bytes.saturating_add(len);
+        match run {
+            Some(chunks) => {
+                self.unordered.push_back_reserved(set_of_run(chunks));
+                Ok(true)
+            }
+            None => Ok(false),
+        }
+    }
+
+    /// Takes the run that ends earliest out of the loose fragments, if there is one. The byte count stays.
+    pub fn find_complete_unordered_chunk_set(&mut self, alloc: Global) -> Result<Option<Chunks>>
+        ensures ok { IfOk result (λ set. MatchOption set (HasNoRun self.old.held.loose × (self.new ≡ self.old)) (λ chunks. GivesRun self.old self.new chunks.set × (chunks ≡ at_start chunks.set))) }
+        ensures err { OnErr result (self.new ≡ self.old) }
+        ensures memory { IfErr result (λ e. e ≡ ErrOutOfMemory) }
+    {
+        let Some(chunks) = self.unordered_chunks.take_run(alloc)? else {
+            return Ok(None);
+        };
+        Ok(Some(Chunks::of(set_of_run(chunks))))
+    }
+
     /// Whether `read` would give a message.
     pub fn is_readable(&self) -> bool
         ensures { result ≡ is_some (message_read self.now.held) }
@@ -182,6 +272,108 @@ impl ReassemblyQueue {
         self.unordered_chunks.drop_front(count);
         self.release(gone);
     }
+}
+
+// A whole message of these fragments.
+fn set_of_run(chunks: Vec<ChunkPayloadData>) -> Fragments
+    ensures { result ≡ set_of_run chunks.items }
+{
+    let ppi = match chunks.first() {
+        Some(chunk) => chunk.payload_type,
+        None => PayloadProtocolIdentifier::Unknown,
+    };
+    Fragments::new(0, ppi, chunks)
+}
+
+// How long the message of an unordered chunk would be with it, up to the greatest number.
+fn unordered_size(chunk: &ChunkPayloadData, loose: &[ChunkPayloadData]) -> usize
+    ensures { result ≡ min (size_before chunk.now loose.now + length chunk.now.user_data + size_after chunk.now loose.now) (2 ^ 64 - 1) }
+{
+    size_before(chunk, loose)
+        .saturating_add(chunk.user_data.len())
+        .saturating_add(size_after(chunk, loose))
+}
+
+// How long the message of an ordered chunk would be with it, up to the greatest number.
+fn ordered_size(chunk: &ChunkPayloadData, sets: &VecDeque<Fragments>) -> usize
+    ensures { result ≡ min (bytes_of (chunks_of_ssn chunk.now.stream_sequence_number sets.now.items) + length chunk.now.user_data) (2 ^ 64 - 1) }
+{
+    bytes_there(sets, chunk.stream_sequence_number).saturating_add(chunk.user_data.len())
+}
+
+// The bytes of the first set of a number, up to the greatest number.
+fn bytes_there(sets: &VecDeque<Fragments>, ssn: u16) -> usize
+    ensures { result ≡ min (bytes_of (chunks_of_ssn ssn sets.now.items)) (2 ^ 64 - 1) }
+{
+    match set_place(sets, ssn) {
+        Some(place) => sets[place].len(),
+        None => 0,
+    }
+}
+
+// Puts a chunk into the first set of its number, or into a new one at its place.
+fn put_ordered(
+    sets: &mut VecDeque<Fragments>,
+    alloc: Global,
+    chunk: ChunkPayloadData,
+) -> Result<Option<bool>>
+    ensures ok { OnOk result (sets.new.items ≡ sets_with chunk sets.old.items) }
+    ensures answer { IfOk result (λ whole. whole ≡ answer_with chunk (chunks_of_ssn chunk.stream_sequence_number sets.old.items)) }
+    ensures err { OnErr result (sets.new.items ≡ sets.old.items) }
+    ensures memory { IfErr result (λ e. e ≡ ErrOutOfMemory) }
+{
+    match set_place(sets, chunk.stream_sequence_number) {
+        Some(place) => {
+            let set = &mut sets[place];
+            let whole = set.put(chunk)?;
+            Ok(whole)
+        }
+        None => {
+            let place = set_gap(sets, chunk.stream_sequence_number);
+            let set = new_set(alloc, chunk)?;
+            let whole = set.is_complete();
+            sets.insert(place, set)?;
+            Ok(Some(whole))
+        }
+    }
+}
+
+// A set that a chunk alone makes.
+fn new_set(alloc: Global, chunk: ChunkPayloadData) -> Result<Fragments>
+    ensures ok { IfOk result (λ set. set ≡ new_set chunk) }
+    ensures memory { IfErr result (λ e. e ≡ ErrOutOfMemory) }
+{
+    let ssn = chunk.stream_sequence_number;
+    let ppi = chunk.payload_type;
+    let mut chunks = Vec::new(alloc);
+    chunks.push(chunk)?;
+    Ok(Fragments::new(ssn, ppi, chunks))
+}
+
+// The place of the first set of a number.
+fn set_place(sets: &VecDeque<Fragments>, ssn: u16) -> Option<usize>
+    ensures found { IfSome result (λ place. (place ≡ position_or_len (has_ssn ssn) sets.now.items) × (place < length sets.now.items)) }
+    ensures absent { IfNone result (position_or_len (has_ssn ssn) sets.now.items ≡ length sets.now.items) }
+{
+    for place in 0..sets.len() {
+        if sets[place].ssn() == ssn {
+            return Some(place);
+        }
+    }
+    None
+}
+
+// Where a set of this number is put in: before the first that it comes before, or at the end.
+fn set_gap(sets: &VecDeque<Fragments>, ssn: u16) -> usize
+    ensures place { result ≡ position_or_len (λ s. comes_before16 ssn s.ssn) sets.now.items }
+    ensures in_range { result ≤ length sets.now.items }
+{
+    for place in 0..sets.len() {
+        if sna16lt(ssn, sets[place].ssn()) {
+            return place;
+        }
+    }
+    sets.len()
 }
 
 // The number expected next, once no message up to the other one is waited for.
