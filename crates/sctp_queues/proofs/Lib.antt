@@ -2,3 +2,4 @@ pub mod ListLemmas
 pub mod SetLemmas
 pub mod RunLemmas
 pub mod SizeLemmas
+pub mod PieceLemmas

@@ -4,4 +4,5 @@ pub mod Runs
 pub mod Around
 pub mod Loose
 pub mod Sizes
+pub mod Pieces
 pub mod Reassembly

@@ -1,16 +1,20 @@
 //! The fragments of one message.
 
-ghost use Rattle.std.specs.Prelude.{◌≡◌, ◌==◌, ◌+◌, ◌^◌, ◌-◌, ◌<◌, ◌≤◌, ◌&&◌, [], ◌∷◌, length, min, not, OnOk, OnErr, IfOk, IfErr, if◌then◌else◌};
-ghost use Rattle.std.specs.List.{list_any, position_or_len, insert};
+ghost use Rattle.std.specs.Prelude.{◌≡◌, ◌==◌, ◌+◌, ◌^◌, ◌-◌, ◌<◌, ◌≤◌, ◌&&◌, [], ◌∷◌, length, min, take, drop, ◌++◌, option_map, not, OnOk, OnErr, IfOk, IfErr, if◌then◌else◌};
+ghost use Rattle.std.specs.List.{list_any, position_or_len, insert, concat};
+ghost use Rattle.sctp_queues.specs.Pieces.{left_from, left_of, piece_of, left_after};
+ghost use Rattle.sctp_queues.specs.declared.chunks.Chunk.{Chunk};
 ghost use Rattle.sctp_chunks.specs.declared.chunk.chunk_payload_data.ChunkPayloadData.{ChunkPayloadData};
 ghost use Rattle.sctp_lists.specs.Serial.{comes_before};
 ghost use Rattle.sctp_lists.specs.Lists.{inserted};
 ghost use Rattle.sctp_queues.specs.Sets.{bytes_of, payload_of, is_complete, has_tsn, with_chunk, chunk_before, answer_with, is_whole_after};
-ghost use Rattle.sctp_base.specs.declared.error.Error.TheVariants.{ErrOutOfMemory};
+ghost use Rattle.sctp_base.specs.declared.error.Error.TheVariants.{ErrOutOfMemory, ErrShortBuffer};
 
-use sctp_base::error::Result;
+use bytes::{Bytes, BytesMut};
+use sctp_base::error::{Error, Result};
 use sctp_base::util::sna32lt;
 use sctp_chunks::chunk::chunk_payload_data::{ChunkPayloadData, PayloadProtocolIdentifier};
+use std::alloc::Global;
 use std::marker::Model;
 
 /// The fragments that share one stream sequence number.
@@ -98,6 +102,12 @@ impl Fragments {
     }
 }
 
+/// A piece of a message.
+#[derive(Debug, Drop)]
+pub struct Chunk {
+    pub bytes: Bytes,
+}
+
 /// The fragments of a message, which can be taken piece by piece.
 #[derive(Drop)]
 pub struct Chunks {
@@ -175,6 +185,90 @@ impl Chunks {
     {
         Ok(self.set.put(chunk)?.unwrap_or(false))
     }
+
+    /// Copies the whole message into the buffer and gives its length.
+    ///
+    /// ErrShortBuffer: the message is longer, and the buffer is filled with its beginning.
+    pub fn read(&self, buf: &mut [u8]) -> Result<usize>
+        ensures ok { IfOk result (λ n. (n ≡ length (payload_of self.now.set.chunks)) × (n ≤ length buf.old) × (buf.new ≡ payload_of self.now.set.chunks ++ drop n buf.old)) }
+        ensures short { IfErr result (λ e. (e ≡ ErrShortBuffer) × (length buf.old < length (payload_of self.now.set.chunks)) × (buf.new ≡ take (length buf.old) (payload_of self.now.set.chunks))) }
+    {
+        let mut n_written = 0usize;
+        for chunk in self.set.fragments() {
+            let data = chunk.user_data.as_slice();
+            let n = data.len().min(buf.len() - n_written);
+            put_at(buf, n_written, &data[..n]);
+            n_written += n;
+            if n < data.len() {
+                return Err(Error::ErrShortBuffer);
+            }
+        }
+        Ok(n_written)
+    }
+
+    /// The next `max_length` bytes of the message, or as many as are left; None once every fragment
+    /// was taken. A message of empty fragments gives one empty piece. Refuses only for memory.
+    pub fn next(&mut self, alloc: Global, max_length: usize) -> Result<Option<Chunk>>
+        ensures piece { IfOk result (λ piece. option_map (λ (c : Chunk). c.bytes) piece ≡ piece_of max_length (left_of self.old)) }
+        ensures left { OnOk result (left_of self.new ≡ left_after max_length (left_of self.old)) }
+        ensures set { self.new.set ≡ self.old.set }
+        ensures err { OnErr result (self.new ≡ self.old) }
+        ensures memory { IfErr result (λ e. e ≡ ErrOutOfMemory) }
+    {
+        let chunks = self.set.fragments();
+        if self.index >= chunks.len() {
+            return Ok(None);
+        }
+        let left = bytes_in(&chunks[self.index..]).saturating_sub(
+            self.offset.min(chunks[self.index].user_data.len()),
+        );
+        let mut buf = BytesMut::with_capacity(alloc, left.min(max_length))?;
+        let (index, offset) = gather(chunks, self.index, self.offset, max_length, &mut buf)?;
+        let bytes = buf.freeze()?;
+        self.index = index;
+        self.offset = offset;
+        Ok(Some(Chunk { bytes }))
+    }
+}
+
+// Writes bytes into a buffer from a place on.
+fn put_at(buf: &mut [u8], at: usize, bytes: &[u8])
+    requires { at + length bytes.now ≤ length buf.old }
+    ensures { buf.new ≡ take at buf.old ++ bytes.now ++ drop (at + length bytes.now) buf.old }
+{
+    let end = at + bytes.len();
+    buf[at..end].copy_from_slice(bytes);
+}
+
+// Appends the next bytes of the fragments, at most so many, and says where the next piece begins.
+fn gather(
+    chunks: &[ChunkPayloadData],
+    index: usize,
+    offset: usize,
+    max_length: usize,
+    buf: &mut BytesMut,
+) -> Result<(usize, usize)>
+    requires { buf.old.items ≡ [] }
+    ensures bytes { OnOk result (buf.new.items ≡ take max_length (concat (left_from chunks.now index offset))) }
+    ensures left { IfOk result (λ at. left_from chunks.now at.0 at.1 ≡ left_after max_length (left_from chunks.now index offset)) }
+    ensures memory { IfErr result (λ e. e ≡ ErrOutOfMemory) }
+{
+    let mut index = index;
+    let mut offset = offset;
+    let mut room = max_length;
+    while index < chunks.len() {
+        let data = chunks[index].user_data.as_slice();
+        let start = offset.min(data.len());
+        let n = room.min(data.len() - start);
+        buf.extend_from_slice(&data[start..start + n])?;
+        if n < data.len() - start {
+            return Ok((index, start + n));
+        }
+        room -= n;
+        index += 1;
+        offset = 0;
+    }
+    Ok((index, offset))
 }
 
 /// How many bytes fragments carry, or the greatest number where they are more.
