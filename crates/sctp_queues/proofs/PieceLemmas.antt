@@ -1,9 +1,9 @@
 -- Messages copied into a buffer, and taken piece by piece.
-use Rattle.std.proofs.Common.{◌≡◌, ℕ, zero, suc, ◌+◌, ◌-◌, ◌<◌, ◌≤◌, min, nat_le, true, if◌then◌else◌, List, [], ◌∷◌, ◌++◌, map, length, get_or, take, drop, refl, sym, ap, ap₂, subst, ◌∙◌, append_assoc, length-take-le, length-drop, inl, inr, arith}
+use Rattle.std.proofs.Common.{◌≡◌, ℕ, zero, suc, ◌+◌, ◌-◌, ◌<◌, ◌≤◌, min, nat_le, true, false, if◌then◌else◌, List, [], ◌∷◌, ◌++◌, map, length, get_or, take, drop, refl, sym, ap, ap₂, subst, ◌∙◌, append_assoc, length-take-le, length-drop, inl, inr, arith}
 use Rattle.std.specs.List.{concat}
 use Rattle.std.proofs.lemmas.Bool.{cases_lt}
 use Rattle.std.proofs.lemmas.Bool.Decides.{nat_tests}
-use Rattle.std.proofs.lemmas.List.{take_more, drop_more, drop-drop, append-nil, take-append-le, take-append-drop, drop_all, take_all}
+use Rattle.std.proofs.lemmas.List.{take_more, drop_more, drop-drop, append-nil, length-append, take-append-le, take-append-drop, drop_all, take_all}
 use Rattle.std.proofs.Math.Seq.{take-append_seam, take-append-add, drop-append-add}
 use Rattle.sctp_chunks.specs.declared.chunk.chunk_payload_data.ChunkPayloadData.{ChunkPayloadData}
 use Rattle.sctp_queues.specs.Sets.{payload_of}
@@ -71,3 +71,52 @@ pub left_more : (first : List ℕ) (rest : List (List ℕ)) (room n : ℕ) → l
 left_more first rest room n le same =
     let fits : nat_le (length first) room ≡ true = grind (arith, nat_tests) in
     ap (λ i. left_after (room - i) rest) same ∙ ap (λ b. if b then left_after (room - length first) rest else drop room first ∷ rest) (sym fits)
+
+-- a piece and what is left are what was left before
+pub pieces_join : (n : ℕ) (xss : List (List ℕ)) → take n (concat xss) ++ concat (left_after n xss) ≡ concat xss
+pieces_join n [] = append-nil (take n []) ∙ take_all n [] (omega arith)
+pieces_join n (xs ∷ xss) = elim (cases_lt n (length xs)) [
+  | inl short ↦
+      let cut : nat_le (length xs) n ≡ false = grind (arith, nat_tests) in
+      ap (λ b. take n (xs ++ concat xss) ++ concat (if b then left_after (n - length xs) xss else drop n xs ∷ xss)) cut
+      ∙ ap (λ ys. ys ++ (drop n xs ++ concat xss)) (take-append-le n xs (concat xss) (omega arith))
+      ∙ sym (append_assoc (take n xs) (drop n xs) (concat xss))
+      ∙ ap (λ ys. ys ++ concat xss) (take-append-drop n xs)
+  | inr all ↦
+      let fits : nat_le (length xs) n ≡ true = grind (arith, nat_tests) in
+      let more : n ≡ length xs + (n - length xs) = omega arith in
+      ap (λ b. take n (xs ++ concat xss) ++ concat (if b then left_after (n - length xs) xss else drop n xs ∷ xss)) fits
+      ∙ ap (λ ys. ys ++ concat (left_after (n - length xs) xss)) (ap (λ i. take i (xs ++ concat xss)) more ∙ take-append-add xs (concat xss) (n - length xs))
+      ∙ append_assoc xs (take (n - length xs) (concat xss)) (concat (left_after (n - length xs) xss))
+      ∙ ap (λ ys. xs ++ ys) (pieces_join (n - length xs) xss)
+]
+
+-- where something is left, there was enough
+pub piece_full : (n : ℕ) (xss : List (List ℕ)) → 0 < length (left_after n xss) → n ≤ length (concat xss)
+piece_full n [] h = absurd (omega arith)
+piece_full n (xs ∷ xss) h =
+    let len = length-append xs (concat xss) in
+    elim (cases_lt n (length xs)) [
+      | inl short ↦ omega arith
+      | inr all ↦
+          let fits : nat_le (length xs) n ≡ true = grind (arith, nat_tests) in
+          let rec = piece_full (n - length xs) xss (subst (λ b. 0 < length (if b then left_after (n - length xs) xss else drop n xs ∷ xss)) fits h) in
+          omega arith
+    ]
+
+-- where there wasn't more, nothing is left
+pub pieces_end : (n : ℕ) (xss : List (List ℕ)) → length (concat xss) ≤ n → left_after n xss ≡ []
+pieces_end n [] h = refl
+pieces_end n (xs ∷ xss) h =
+    let len = length-append xs (concat xss) in
+    let fits : nat_le (length xs) n ≡ true = grind (arith, nat_tests) in
+    ap (λ b. if b then left_after (n - length xs) xss else drop n xs ∷ xss) fits ∙ pieces_end (n - length xs) xss (omega arith)
+
+-- the fragments' bytes joined are the message's
+pub whole_payload : (chunks : List ChunkPayloadData) → concat (left_from chunks 0 0) ≡ payload_of chunks
+whole_payload [] = refl
+whole_payload (x ∷ xs) = ap (λ ys. x.user_data ++ ys) (joined xs)
+  where
+    joined : (cs : List ChunkPayloadData) → concat (map (λ c. c.user_data) cs) ≡ payload_of cs
+    joined [] = refl
+    joined (c ∷ cs) = ap (λ ys. c.user_data ++ ys) (joined cs)

@@ -2,6 +2,7 @@
 use Rattle.std.specs.Prelude.{ℕ, ◌-◌, nat_le, if◌then◌else◌, List, [], ◌∷◌, map, take, drop, length, Option, Some, None}
 use Rattle.std.specs.List.{concat}
 use Rattle.sctp_chunks.specs.declared.chunk.chunk_payload_data.ChunkPayloadData.{ChunkPayloadData}
+use Rattle.sctp_queues.specs.declared.chunks.Chunk.{Chunk}
 use Rattle.sctp_queues.specs.declared.chunks.Chunks.{Chunks}
 
 -- the first list without so many elements
@@ -26,3 +27,8 @@ piece_of n (xs ∷ xss) = Some (take n (concat (xs ∷ xss)))
 abbrev pub left_after : ℕ → List (List ℕ) → List (List ℕ)
 left_after n [] = []
 left_after n (xs ∷ xss) = if nat_le (length xs) n then left_after (n - length xs) xss else drop n xs ∷ xss
+
+-- the bytes of a piece
+abbrev pub bytes_given : Option Chunk → List ℕ
+bytes_given None = []
+bytes_given (Some c) = c.bytes

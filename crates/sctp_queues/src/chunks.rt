@@ -2,7 +2,7 @@
 
 ghost use Rattle.std.specs.Prelude.{◌≡◌, ◌==◌, ◌+◌, ◌^◌, ◌-◌, ◌<◌, ◌≤◌, ◌&&◌, [], ◌∷◌, length, min, take, drop, ◌++◌, option_map, not, OnOk, OnErr, IfOk, IfErr, if◌then◌else◌};
 ghost use Rattle.std.specs.List.{list_any, position_or_len, insert, concat};
-ghost use Rattle.sctp_queues.specs.Pieces.{left_from, left_of, piece_of, left_after};
+ghost use Rattle.sctp_queues.specs.Pieces.{left_from, left_of, piece_of, left_after, bytes_given};
 ghost use Rattle.sctp_queues.specs.declared.chunks.Chunk.{Chunk};
 ghost use Rattle.sctp_chunks.specs.declared.chunk.chunk_payload_data.ChunkPayloadData.{ChunkPayloadData};
 ghost use Rattle.sctp_lists.specs.Serial.{comes_before};
@@ -120,7 +120,8 @@ pub struct Chunks {
 impl Chunks {
     /// A message of these fragments, of which nothing was taken.
     pub fn new(ssn: u16, ppi: PayloadProtocolIdentifier, chunks: Vec<ChunkPayloadData>) -> Self
-        ensures { result ≡ record { set = record { ssn = ssn; ppi = ppi; chunks = chunks.items }; index = 0; offset = 0 } }
+        ensures left { concat (left_of result) ≡ payload_of chunks.items }
+        ensures value { result ≡ record { set = record { ssn = ssn; ppi = ppi; chunks = chunks.items }; index = 0; offset = 0 } }
     {
         Chunks::of(Fragments::new(ssn, ppi, chunks))
     }
@@ -211,6 +212,9 @@ impl Chunks {
     pub fn next(&mut self, alloc: Global, max_length: usize) -> Result<Option<Chunk>>
         ensures piece { IfOk result (λ piece. option_map (λ (c : Chunk). c.bytes) piece ≡ piece_of max_length (left_of self.old)) }
         ensures left { OnOk result (left_of self.new ≡ left_after max_length (left_of self.old)) }
+        ensures joins { IfOk result (λ piece. bytes_given piece ++ concat (left_of self.new) ≡ concat (left_of self.old)) }
+        ensures asked { IfOk result (λ piece. 0 < length (left_of self.new) → length (bytes_given piece) ≡ max_length) }
+        ensures ends { length (concat (left_of self.old)) ≤ max_length → OnOk result (left_of self.new ≡ []) }
         ensures set { self.new.set ≡ self.old.set }
         ensures err { OnErr result (self.new ≡ self.old) }
         ensures memory { IfErr result (λ e. e ≡ ErrOutOfMemory) }
