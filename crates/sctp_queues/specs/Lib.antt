@@ -6,3 +6,4 @@ pub mod Loose
 pub mod Sizes
 pub mod Pieces
 pub mod Reassembly
+pub mod Bounded

@@ -6,4 +6,5 @@ pub mod loose;
 pub mod pool;
 pub mod reassembly_queue;
 mod sizes;
+mod skips;
 pub mod turns;

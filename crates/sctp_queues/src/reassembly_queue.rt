@@ -8,13 +8,15 @@ ghost use Rattle.sctp_queues.specs.Reassembly.{is_passed, set_bytes, set_of_run}
 ghost use Rattle.sctp_queues.specs.Sets.{bytes_of, has_ssn, chunks_of_ssn, sets_with, answer_with, new_set};
 ghost use Rattle.sctp_queues.specs.Sizes.{projected_size, size_before, size_after};
 ghost use Rattle.sctp_queues.specs.Runs.{HasNoRun};
+ghost use Rattle.sctp_queues.specs.Bounded.{bounded_forwarded, applicable, is_upto};
 ghost use Rattle.sctp_base.specs.declared.error.Error.TheVariants.{ErrOutOfMemory, ErrInboundPacketTooLarge};
 
 use crate::chunks::{Chunks, Fragments, bytes_in};
 use crate::pool::Pool;
 use crate::sizes::{size_after, size_before};
+use crate::skips::{discard, earliest_from, goal, has_settled, latest_passable};
 use sctp_base::error::{Error, Result};
-use sctp_base::util::{sna16lt, sna16lte, sna32lte};
+use sctp_base::util::{sna16gt, sna16lt, sna16lte, sna32lte};
 use sctp_chunks::chunk::chunk_payload_data::{ChunkPayloadData, PayloadProtocolIdentifier};
 use std::alloc::Global;
 use std::collections::VecDeque;
@@ -259,8 +261,46 @@ impl ReassemblyQueue {
         ensures { self.new ≡ ordered_forwarded last_ssn self.old }
     {
         self.next_ssn = ssn_past(self.next_ssn, last_ssn);
-        let gone = discard(&mut self.ordered, last_ssn);
+        let gone = discard(&mut self.ordered, last_ssn, None);
         self.release(gone);
+    }
+
+    /// Gives up the incomplete sets at or before the number that miss a TSN at or before the given
+    /// one, and waits for none of them, but stops before the first set that it leaves alone.
+    pub fn forward_tsn_for_ordered_bounded(&mut self, last_ssn: u16, new_cumulative_tsn: u32)
+        ensures { self.new ≡ bounded_forwarded last_ssn new_cumulative_tsn self.old }
+    {
+        let goal = goal(&self.ordered, last_ssn, new_cumulative_tsn);
+        self.next_ssn = ssn_upto(self.next_ssn, goal);
+        let gone = discard(&mut self.ordered, last_ssn, Some(new_cumulative_tsn));
+        self.release(gone);
+    }
+
+    /// The greatest number, at most `last_ssn`, up to which a bounded skip may go now, if any.
+    pub fn applicable_forward_tsn_for_ordered_bounded(
+        &self,
+        last_ssn: u16,
+        new_cumulative_tsn: u32,
+        peer_last_tsn: u32,
+    ) -> Option<u16>
+        ensures { result ≡ applicable last_ssn new_cumulative_tsn peer_last_tsn self.now.held }
+    {
+        if sna16gt(self.next_ssn, last_ssn)
+            || has_settled(&self.ordered, self.next_ssn, last_ssn, new_cumulative_tsn)
+        {
+            return Some(last_ssn);
+        }
+        let first = earliest_from(&self.ordered, last_ssn);
+        if is_upto(first, peer_last_tsn) {
+            return Some(last_ssn);
+        }
+        latest_passable(
+            &self.ordered,
+            self.next_ssn,
+            last_ssn,
+            new_cumulative_tsn,
+            peer_last_tsn,
+        )
     }
 
     /// Drops the loose fragments up to the first that is after the TSN (RFC 3758 3.6).
@@ -387,27 +427,25 @@ fn ssn_past(next_ssn: u16, last_ssn: u16) -> u16
     }
 }
 
-// Removes the incomplete sets at or before the number, and counts their bytes up to the greatest number.
-fn discard(sets: &mut VecDeque<Fragments>, last_ssn: u16) -> usize
-    ensures rest { sets.new.items ≡ those (λ s. not (is_passed last_ssn s)) sets.old.items }
-    ensures bytes { result ≡ min (set_bytes (those (is_passed last_ssn) sets.old.items)) (2 ^ 64 - 1) }
+// The number expected next, moved forward to the goal.
+fn ssn_upto(next_ssn: u16, goal: u16) -> u16
+    ensures { result ≡ (if comes_before16 next_ssn goal then goal else next_ssn) }
 {
-    let mut gone = 0usize;
-    let mut place = 0;
-    while place < sets.len() {
-        let set = &sets[place];
-        if !sna16lte(set.ssn(), last_ssn) || set.is_complete() {
-            place += 1;
-            continue;
-        }
-        match sets.remove(place) {
-            Some(set) => {
-                gone = gone.saturating_add(set.len());
-            }
-            None => unreachable!(),
-        }
+    if sna16lt(next_ssn, goal) {
+        goal
+    } else {
+        next_ssn
     }
-    gone
+}
+
+// Whether there is a TSN, at or before the other one.
+fn is_upto(tsn: Option<u32>, peer_last_tsn: u32) -> bool
+    ensures { result ≡ is_upto peer_last_tsn tsn }
+{
+    match tsn {
+        Some(tsn) => sna32lte(tsn, peer_last_tsn),
+        None => false,
+    }
 }
 
 // How many loose fragments stand before the first that is after the number.
