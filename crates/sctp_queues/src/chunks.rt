@@ -58,6 +58,14 @@ impl Fragments {
         &self.chunks
     }
 
+    /// An equal set, which shares its bytes. Refuses only for memory.
+    pub fn try_clone(&self, alloc: Global) -> Result<Self>
+        ensures ok { IfOk result (λ set. set ≡ self.now) }
+        ensures memory { IfErr result (λ e. e ≡ ErrOutOfMemory) }
+    {
+        Ok(Fragments::new(self.ssn, self.ppi, clone_chunks(alloc, &self.chunks)?))
+    }
+
     /// Whether the first fragment begins, the last ends, and TSNs rise by one (RFC 4960 3.3.1).
     pub fn is_complete(&self) -> bool
         ensures { result ≡ is_complete self.now.chunks }
@@ -134,6 +142,18 @@ impl Chunks {
             index: 0,
             offset: 0,
         }
+    }
+
+    /// An equal message, of which as much was taken. Refuses only for memory.
+    pub fn try_clone(&self, alloc: Global) -> Result<Self>
+        ensures ok { IfOk result (λ message. message ≡ self.now) }
+        ensures memory { IfErr result (λ e. e ≡ ErrOutOfMemory) }
+    {
+        Ok(Chunks {
+            set: self.set.try_clone(alloc)?,
+            index: self.index,
+            offset: self.offset,
+        })
     }
 
     pub fn ssn(&self) -> u16
@@ -273,6 +293,21 @@ fn gather(
         offset = 0;
     }
     Ok((index, offset))
+}
+
+/// Equal fragments, which share their bytes.
+pub(crate) fn clone_chunks(
+    alloc: Global,
+    chunks: &[ChunkPayloadData],
+) -> Result<Vec<ChunkPayloadData>>
+    ensures ok { IfOk result (λ copies. copies.items ≡ chunks.now) }
+    ensures memory { IfErr result (λ e. e ≡ ErrOutOfMemory) }
+{
+    let mut copies = Vec::with_capacity(alloc, chunks.len())?;
+    for chunk in chunks {
+        copies.push(chunk.try_clone()?)?;
+    }
+    Ok(copies)
 }
 
 /// How many bytes fragments carry, or the greatest number where they are more.

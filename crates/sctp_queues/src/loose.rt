@@ -1,10 +1,13 @@
 //! Loose fragments: what came of unordered messages that are not whole. What looks at one takes a turn.
 
-ghost use Rattle.std.specs.Prelude.{◌≡◌, ℕ, ◌==◌, ◌+◌, ◌-◌, ◌^◌, ◌<◌, ◌≤◌, ◌&&◌, [], ◌∷◌, length, slice_index_or, insert, remove, take, drop, ◌++◌, OnOk, OnErr, IfOk, IfSome, IfNone, not};
+ghost use Rattle.std.specs.Prelude.{◌≡◌, ℕ, ◌==◌, ◌+◌, ◌-◌, ◌^◌, ◌<◌, ◌≤◌, ◌&&◌, [], ◌∷◌, length, slice_index_or, insert, remove, take, drop, ◌++◌, OnOk, OnErr, IfOk, IfErr, IfSome, IfNone, not};
 ghost use Rattle.sctp_queues.specs.Runs.{IsEarliestRunAround, HasNoRunAround, IsStretch, IsEarliestRun, HasNoRun};
+ghost use Rattle.sctp_base.specs.declared.error.Error.TheVariants.{ErrOutOfMemory};
 ghost use Rattle.sctp_queues.specs.Around.{IsStart, HasNoStart, IsEnd, IsFirstEnding, HasNoEnd};
 
+use crate::chunks::clone_chunks;
 use crate::turns::Turns;
+use sctp_base::error::Error;
 use sctp_chunks::chunk::chunk_payload_data::ChunkPayloadData;
 use std::alloc::{AllocError, Global};
 use std::marker::Model;
@@ -90,6 +93,17 @@ impl Loose {
         Ok(taken)
     }
 
+    /// Equal fragments, which share their bytes. Refuses only for memory.
+    pub fn try_clone(&self, alloc: Global) -> Result<Self, Error>
+        ensures ok { IfOk result (λ loose. loose ≡ self.now) }
+        ensures memory { IfErr result (λ e. e ≡ ErrOutOfMemory) }
+    {
+        Ok(Loose {
+            chunks: clone_chunks(alloc, &self.chunks)?,
+        })
+    }
+
+    /// All of them, which only the queue's accessor lends on.
     pub fn as_slice(&self) -> &[ChunkPayloadData]
         ensures { result.now ≡ self.now }
     {

@@ -1,14 +1,16 @@
 //! The loose fragments of a stream, out of which whole messages are taken.
 
-ghost use Rattle.std.specs.Prelude.{◌≡◌, ◌<◌, ◌≤◌, [], length, remove, insert, IfSome, IfNone, drop, OnErr, IfOk, MatchOption};
+ghost use Rattle.std.specs.Prelude.{◌≡◌, ◌<◌, ◌≤◌, [], length, remove, insert, IfSome, IfNone, drop, OnErr, IfOk, IfErr, MatchOption};
 ghost use Rattle.sctp_lists.specs.Lists.{inserted};
 ghost use Rattle.sctp_queues.specs.Sets.{chunk_before};
 ghost use Rattle.sctp_queues.specs.Runs.{HasNoRun, IsEarliestRun};
+ghost use Rattle.sctp_base.specs.declared.error.Error.TheVariants.{ErrOutOfMemory};
 ghost use Rattle.sctp_queues.specs.Loose.{IsRunTaken, IsMark};
 
 use crate::chunks::insertion_place;
 use crate::loose::{Loose, find_run, run_around};
 use crate::turns::Turns;
+use sctp_base::error::Error;
 use sctp_chunks::chunk::chunk_payload_data::ChunkPayloadData;
 use std::alloc::{AllocError, Global};
 use std::marker::Model;
@@ -40,6 +42,16 @@ impl Pool {
             loose: Loose::new(alloc),
             searched: true,
         }
+    }
+
+    pub(crate) fn try_clone(&self, alloc: Global) -> Result<Self, Error>
+        ensures ok { IfOk result (λ pool. pool ≡ self.now) }
+        ensures memory { IfErr result (λ e. e ≡ ErrOutOfMemory) }
+    {
+        Ok(Pool {
+            loose: self.loose.try_clone(alloc)?,
+            searched: self.searched,
+        })
     }
 
     pub(crate) fn as_slice(&self) -> &[ChunkPayloadData]

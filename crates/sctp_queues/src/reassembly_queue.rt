@@ -67,6 +67,23 @@ impl ReassemblyQueue {
         }
     }
 
+    /// An equal queue, which shares its bytes. Refuses only for memory.
+    pub fn try_clone(&self, alloc: Global) -> Result<Self>
+        ensures ok { IfOk result (λ queue. queue ≡ self.now) }
+        ensures memory { IfErr result (λ e. e ≡ ErrOutOfMemory) }
+    {
+        Ok(ReassemblyQueue {
+            alloc,
+            si: self.si,
+            next_ssn: self.next_ssn,
+            ordered: clone_sets(alloc, &self.ordered)?,
+            unordered: clone_sets(alloc, &self.unordered)?,
+            unordered_chunks: self.unordered_chunks.try_clone(alloc)?,
+            n_bytes: self.n_bytes,
+            max_message_size: self.max_message_size,
+        })
+    }
+
     pub fn si(&self) -> u16
         ensures { result ≡ self.now.si }
     {
@@ -312,6 +329,18 @@ impl ReassemblyQueue {
         self.unordered_chunks.drop_front(count);
         self.release(gone);
     }
+}
+
+// Equal sets, which share their bytes.
+fn clone_sets(alloc: Global, sets: &VecDeque<Fragments>) -> Result<VecDeque<Fragments>>
+    ensures ok { IfOk result (λ copies. copies.items ≡ sets.now.items) }
+    ensures memory { IfErr result (λ e. e ≡ ErrOutOfMemory) }
+{
+    let mut copies = VecDeque::new(alloc);
+    for place in 0..sets.len() {
+        copies.push_back(sets[place].try_clone(alloc)?)?;
+    }
+    Ok(copies)
 }
 
 // A whole message of these fragments.
