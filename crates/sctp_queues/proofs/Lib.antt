@@ -3,3 +3,4 @@ pub mod SetLemmas
 pub mod RunLemmas
 pub mod SizeLemmas
 pub mod PieceLemmas
+pub mod CountLemmas

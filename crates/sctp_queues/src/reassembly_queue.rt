@@ -49,7 +49,7 @@ impl Model for ReassemblyQueue {
 }
 
 impl ReassemblyQueue {
-    ghost use Rattle.sctp_queues.specs.Reassembly.{ReassemblyState, message_read, rest_read, state_read, at_start, ordered_forwarded, unordered_forwarded, is_too_large, ordered_pushed, is_whole_with, PushesUnordered, GivesRun};
+    ghost use Rattle.sctp_queues.specs.Reassembly.{ReassemblyState, message_read, rest_read, state_read, at_start, ordered_forwarded, unordered_forwarded, is_too_large, ordered_pushed, is_whole_with, PushesUnordered, GivesRun, IsCounted, held_bytes, complete_sets};
 
     /// An empty queue of the stream `si`, which takes messages of at most `max_message_size` bytes.
     pub fn new(alloc: Global, si: u16, max_message_size: u32) -> Self
@@ -150,6 +150,7 @@ impl ReassemblyQueue {
         ensures fits { IsOk result → is_too_large chunk self.old ≡ false }
         ensures refused { IfErr result (λ e. e ≡ (if is_too_large chunk self.old then ErrInboundPacketTooLarge else ErrOutOfMemory)) }
         ensures err { OnErr result (self.new ≡ self.old) }
+        ensures counted { held_bytes self.old.held + length chunk.user_data < 2 ^ 64 → IsCounted self.old → IsCounted self.new }
     {
         if chunk.stream_identifier != self.si {
             return Ok(false);
@@ -242,6 +243,7 @@ impl ReassemblyQueue {
     pub fn read(&mut self) -> Option<Chunks>
         ensures message { result ≡ option_map at_start (message_read self.old.held) }
         ensures rest { self.new ≡ state_read self.old }
+        ensures counted { IsCounted self.old → IsCounted self.new }
     {
         let set = self.take_message()?;
         self.release(set.len());
@@ -275,7 +277,9 @@ impl ReassemblyQueue {
 
     /// Gives up the incomplete sets at or before the number, and waits for none of them (RFC 3758 3.6).
     pub fn forward_tsn_for_ordered(&mut self, last_ssn: u16)
-        ensures { self.new ≡ ordered_forwarded last_ssn self.old }
+        ensures value { self.new ≡ ordered_forwarded last_ssn self.old }
+        ensures counted { IsCounted self.old → IsCounted self.new }
+        ensures complete { complete_sets self.new.held ≡ complete_sets self.old.held }
     {
         self.next_ssn = ssn_past(self.next_ssn, last_ssn);
         let gone = discard(&mut self.ordered, last_ssn, None);
@@ -285,7 +289,9 @@ impl ReassemblyQueue {
     /// Gives up the incomplete sets at or before the number that miss a TSN at or before the given
     /// one, and waits for none of them, but stops before the first set that it leaves alone.
     pub fn forward_tsn_for_ordered_bounded(&mut self, last_ssn: u16, new_cumulative_tsn: u32)
-        ensures { self.new ≡ bounded_forwarded last_ssn new_cumulative_tsn self.old }
+        ensures value { self.new ≡ bounded_forwarded last_ssn new_cumulative_tsn self.old }
+        ensures counted { IsCounted self.old → IsCounted self.new }
+        ensures complete { complete_sets self.new.held ≡ complete_sets self.old.held }
     {
         let goal = goal(&self.ordered, last_ssn, new_cumulative_tsn);
         self.next_ssn = ssn_upto(self.next_ssn, goal);
@@ -322,7 +328,8 @@ impl ReassemblyQueue {
 
     /// Drops the loose fragments up to the first that is after the TSN (RFC 3758 3.6).
     pub fn forward_tsn_for_unordered(&mut self, new_cumulative_tsn: u32)
-        ensures { self.new ≡ unordered_forwarded new_cumulative_tsn self.old }
+        ensures value { self.new ≡ unordered_forwarded new_cumulative_tsn self.old }
+        ensures counted { IsCounted self.old → IsCounted self.new }
     {
         let count = front_upto(self.unordered_chunks.as_slice(), new_cumulative_tsn);
         let gone = bytes_in(&self.unordered_chunks.as_slice()[..count]);

@@ -1,4 +1,4 @@
-use Rattle.std.proofs.Common.{◌≡◌, ◌-◌, not, take, drop, sym, ap, ap₂, ◌∙◌}
+use Rattle.std.proofs.Common.{◌≡◌, ◌-◌, not, take, drop, sym, ap, ap₂, ◌∙◌, subst}
 use Rattle.std.specs.List.{position_or_len}
 use Rattle.sctp_lists.specs.Serial.{at_or_before}
 use Rattle.sctp_lists.specs.Lists.{after_leading}
@@ -6,10 +6,12 @@ use Rattle.sctp_queues.specs.Sets.{bytes_of}
 use Rattle.sctp_queues.specs.Reassembly.{leading_upto}
 use Rattle.sctp_queues.proofs.ListLemmas.{after_leading-position}
 use Rattle.sctp_queues.proofs.SetLemmas.{state_of, leading_upto-position}
+use Rattle.sctp_queues.specs.Reassembly.{ReassemblyState, IsCounted, complete_sets}
+use Rattle.sctp_queues.proofs.CountLemmas.{drop_counted}
 use Rattle.sctp_queues.proofs.reassembly_queue.ReassemblyQueue.forward_tsn_for_unordered.Goals as goal
 
-pub returns : goal.returns
-returns c =
+pub returns-clause-value : goal.returns-clause-value
+returns-clause-value c =
     let q = c.self.inside in
     let t = c.args.new_cumulative_tsn in
     let xs = q.unordered_chunks in
@@ -20,3 +22,6 @@ returns c =
     let counted = rw c.as_slice-2.ensures at c.bytes_in-gone.ensures in
     rw (← c.self.view_is) (c.release.ensures (bytes_of (take k xs)) counted
     ∙ ap₂ (λ ls ds. state_of q.si q.next_ssn q.ordered.items q.unordered.items ls (q.n_bytes - bytes_of ds) q.max_message_size) left gone)
+
+pub returns-clause-counted : goal.returns-clause-counted
+returns-clause-counted c h = subst IsCounted (sym (returns-clause-value c)) (drop_counted c.args.new_cumulative_tsn c.args.self.now h)
