@@ -1,0 +1,3 @@
+pub mod Stats
+pub mod State
+pub mod Stream

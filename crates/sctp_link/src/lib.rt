@@ -1,0 +1,4 @@
+//! Streams: what a stream keeps, and how writes become fragments.
+#![tactic(auto)]
+
+pub mod stream;
