@@ -1,3 +1,4 @@
 pub mod Stats
 pub mod State
 pub mod Stream
+pub mod Lending

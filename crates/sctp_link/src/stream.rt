@@ -149,6 +149,10 @@ pub struct StreamState {
 impl StreamState {
     ghost use Rattle.sctp_link.specs.State.{can_read, can_write, finished};
     ghost use Rattle.sctp_link.specs.Stream.{is_ordered, fragment, fragments_of, after_write, rises_high, released, falls_low, new_stream};
+    ghost use Rattle.sctp_queues.specs.Sets.{payload_of};
+    ghost use Rattle.sctp_link.specs.Lending.{LendsQueue};
+    ghost use Rattle.std.specs.Borrow.{sem};
+    ghost use Rattle.sctp_queues.specs.Reassembly.{is_too_large, ordered_pushed, is_whole_with, PushesUnordered};
 
     /// A stream that is open both ways, ordered and reliable, with fragments of at most
     /// `max_payload_size` bytes of user data and messages of at most `max_receive_message_size` bytes.
@@ -203,6 +207,7 @@ impl StreamState {
         ppi: PayloadProtocolIdentifier,
     ) -> Result<(bool, Vec<ChunkPayloadData>)>
         ensures chunks { IfOk result (λ r. r.1.items ≡ fragments_of self.old ppi raw.now) }
+        ensures joined { IfOk result (λ r. payload_of r.1.items ≡ raw.now) }
         ensures high { IfOk result (λ r. r.0 ≡ rises_high self.old (length raw.now)) }
         ensures rest { OnOk result (self.new ≡ after_write self.old ppi raw.now) }
         ensures err { OnErr result (self.new ≡ self.old) }
@@ -241,6 +246,7 @@ impl StreamState {
         ppi: PayloadProtocolIdentifier,
     ) -> Result<Vec<ChunkPayloadData>>
         ensures ok { IfOk result (λ chunks. chunks.items ≡ fragments_of self.now ppi raw.now) }
+        ensures joined { IfOk result (λ chunks. payload_of chunks.items ≡ raw.now) }
         ensures memory { IfErr result (λ e. e ≡ ErrOutOfMemory) }
     {
         let len = raw.len();
@@ -312,6 +318,188 @@ impl StreamState {
         };
     }
 
+    pub fn stream_identifier(&self) -> StreamId
+        ensures { result ≡ self.now.stream_identifier }
+    {
+        self.stream_identifier
+    }
+
+    pub fn get_default_payload_type(&self) -> PayloadProtocolIdentifier
+        ensures { result ≡ self.now.default_payload_type }
+    {
+        self.default_payload_type
+    }
+
+    pub fn set_default_payload_type(&mut self, default_payload_type: PayloadProtocolIdentifier)
+        ensures { self.new ≡ record self.old { default_payload_type = default_payload_type } }
+    {
+        self.default_payload_type = default_payload_type;
+    }
+
+    /// How many bytes of writes wait or are in flight.
+    pub fn buffered_amount(&self) -> usize
+        ensures { result ≡ self.now.buffered_amount }
+    {
+        self.buffered_amount
+    }
+
+    pub fn buffered_amount_low_threshold(&self) -> usize
+        ensures { result ≡ self.now.buffered_amount_low }
+    {
+        self.buffered_amount_low
+    }
+
+    pub fn set_buffered_amount_low_threshold(&mut self, th: usize)
+        ensures { self.new ≡ record self.old { buffered_amount_low = th } }
+    {
+        self.buffered_amount_low = th;
+    }
+
+    pub fn buffered_amount_high_threshold(&self) -> usize
+        ensures { result ≡ self.now.buffered_amount_high }
+    {
+        self.buffered_amount_high
+    }
+
+    pub fn set_buffered_amount_high_threshold(&mut self, th: usize)
+        ensures { self.new ≡ record self.old { buffered_amount_high = th } }
+    {
+        self.buffered_amount_high = th;
+    }
+
+    /// Whether later writes are unordered, and how long they are tried for.
+    pub fn set_reliability_params(
+        &mut self,
+        unordered: bool,
+        rel_type: ReliabilityType,
+        rel_val: u32,
+    )
+        ensures { self.new ≡ record self.old { unordered = unordered; reliability_type = rel_type; reliability_value = rel_val } }
+    {
+        self.unordered = unordered;
+        self.reliability_type = rel_type;
+        self.reliability_value = rel_val;
+    }
+
+    pub fn unordered(&self) -> bool
+        ensures { result ≡ self.now.unordered }
+    {
+        self.unordered
+    }
+
+    pub fn reliability_type(&self) -> ReliabilityType
+        ensures { result ≡ self.now.reliability_type }
+    {
+        self.reliability_type
+    }
+
+    pub fn reliability_value(&self) -> u32
+        ensures { result ≡ self.now.reliability_value }
+    {
+        self.reliability_value
+    }
+
+    pub fn stats(&self) -> DataChannelStats
+        ensures { result ≡ self.now.stats }
+    {
+        self.stats
+    }
+
+    pub fn set_stats(&mut self, stats: DataChannelStats)
+        ensures { self.new ≡ record self.old { stats = stats } }
+    {
+        self.stats = stats;
+    }
+
+    pub fn first_message_id(&self) -> u64
+        ensures { result ≡ self.now.first_message_id }
+    {
+        self.first_message_id
+    }
+
+    pub fn set_first_message_id(&mut self, first_message_id: u64)
+        ensures { self.new ≡ record self.old { first_message_id = first_message_id } }
+    {
+        self.first_message_id = first_message_id;
+    }
+
+    /// How many bytes of user data a fragment has at most: 1 to 65,519.
+    pub fn max_payload_size(&self) -> u32
+        ensures value { result ≡ self.now.max_payload_size }
+        ensures bounds { (0 < result) × (result ≤ 65519) }
+    {
+        self.max_payload_size.get()
+    }
+
+    pub fn set_max_payload_size(&mut self, max_payload_size: u32)
+        requires { (0 < max_payload_size) × (max_payload_size ≤ 65519) }
+        ensures { self.new ≡ record self.old { max_payload_size = max_payload_size } }
+    {
+        self.max_payload_size = PayloadSize::new(max_payload_size);
+    }
+
+    /// The stream sequence number of the next ordered write.
+    pub fn sequence_number(&self) -> u16
+        ensures { result ≡ self.now.sequence_number }
+    {
+        self.sequence_number
+    }
+
+    pub fn set_sequence_number(&mut self, sequence_number: u16)
+        ensures { self.new ≡ record self.old { sequence_number = sequence_number } }
+    {
+        self.sequence_number = sequence_number;
+    }
+
+    pub fn state(&self) -> RecvSendState
+        ensures { result ≡ self.now.state }
+    {
+        self.state
+    }
+
+    pub fn set_state(&mut self, state: RecvSendState)
+        ensures { self.new ≡ record self.old { state = state } }
+    {
+        self.state = state;
+    }
+
+    /// What came of messages that were not read.
+    pub fn reassembly_queue(&self) -> &ReassemblyQueue
+        ensures { result.now ≡ self.now.reassembly_queue }
+    {
+        &self.reassembly_queue
+    }
+
+    pub fn reassembly_queue_mut(&mut self) -> &mut ReassemblyQueue
+        ensures* writes_back { sem 𝓛 (LendsQueue self.entry result) }
+        ensures value { result.now ≡ self.old.reassembly_queue }
+    {
+        &mut self.reassembly_queue
+    }
+
+    pub fn get_num_bytes_in_reassembly_queue(&self) -> usize
+        ensures { result ≡ self.now.reassembly_queue.bytes }
+    {
+        self.reassembly_queue.get_num_bytes()
+    }
+
+    /// Takes a DATA chunk for reassembly, and says whether a message became whole by it.
+    ///
+    /// The queue changes as by its `push`, and nothing else. ErrInboundPacketTooLarge: the message would be too long;
+    /// ErrOutOfMemory.
+    pub fn handle_data(&mut self, pd: &ChunkPayloadData) -> Result<bool>
+        ensures other_stream { (pd.now.stream_identifier == self.old.reassembly_queue.si) ≡ false → IfOk result (λ whole. (whole ≡ false) × (self.new ≡ self.old)) }
+        ensures ordered { (pd.now.stream_identifier == self.old.reassembly_queue.si) ≡ true → pd.now.unordered ≡ false → IfOk result (λ whole. (self.new.reassembly_queue ≡ ordered_pushed pd.now self.old.reassembly_queue) × (whole ≡ is_whole_with pd.now self.old.reassembly_queue.held)) }
+        ensures unordered { (pd.now.stream_identifier == self.old.reassembly_queue.si) ≡ true → pd.now.unordered ≡ true → IfOk result (λ whole. PushesUnordered pd.now self.old.reassembly_queue self.new.reassembly_queue whole) }
+        ensures rest { self.new ≡ record self.old { reassembly_queue = self.new.reassembly_queue } }
+        ensures fits { IsOk result → is_too_large pd.now self.old.reassembly_queue ≡ false }
+        ensures refused { IfErr result (λ e. (e ≡ ErrOutOfMemory) ⊎ ((e ≡ ErrInboundPacketTooLarge) × (is_too_large pd.now self.old.reassembly_queue ≡ true))) }
+        ensures err { OnErr result (self.new ≡ self.old) }
+    {
+        let chunk = pd.try_clone()?;
+        self.reassembly_queue.push(chunk)
+    }
+
     pub fn is_readable(&self) -> bool
         ensures { result ≡ can_read self.now.state }
     {
@@ -329,4 +517,14 @@ impl StreamState {
             RecvSendState::Writable | RecvSendState::ReadWritable
         )
     }
+}
+
+/// Why a stream reset did not succeed (RFC 6525 4.4).
+#[derive(Clone, Copy, Debug, PartialEq, Eq)]
+#[non_exhaustive]
+pub enum StreamResetError {
+    /// The peer denied the request.
+    Denied,
+    /// A protocol error, or no answer after the last repetition.
+    Failed,
 }

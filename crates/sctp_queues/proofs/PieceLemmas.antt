@@ -9,7 +9,7 @@ use Rattle.sctp_chunks.specs.declared.chunk.chunk_payload_data.ChunkPayloadData.
 use Rattle.sctp_queues.specs.Sets.{payload_of}
 use Rattle.sctp_queues.specs.Pieces.{cut_first, left_from, left_after}
 
-payload-append : (xs ys : List ChunkPayloadData) → payload_of (xs ++ ys) ≡ payload_of xs ++ payload_of ys
+pub payload-append : (xs ys : List ChunkPayloadData) → payload_of (xs ++ ys) ≡ payload_of xs ++ payload_of ys
 payload-append [] ys = refl
 payload-append (x ∷ xs) ys = ap (λ zs. x.user_data ++ zs) (payload-append xs ys) ∙ sym (append_assoc x.user_data (payload_of xs) (payload_of ys))
 

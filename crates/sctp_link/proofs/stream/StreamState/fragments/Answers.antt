@@ -1,9 +1,12 @@
 use Rattle.std.proofs.Common.{◌≡◌, ◌+◌, ◌-◌, ◌*◌, ◌<◌, ◌≤◌, ◌==◌, ◌++◌, ◌∷◌, [], List, Bool, zero, suc, min, map, length, length-append, get_or, take, drop, refl, sym, ap, ap₂, subst, ◌∙◌, add-one, arith}
 use Rattle.std.proofs.Math.Nat.{suc-mul}
-use Rattle.std.proofs.lemmas.List.{map-append}
+use Rattle.std.proofs.lemmas.List.{map-append, append-nil, take_all}
+use Rattle.std.proofs.Math.Seq.{take-add}
 use Rattle.sctp_lists.specs.Kept.{numbers_from, always}
 use Rattle.sctp_lists.proofs.KeptLemmas.{kept-snoc_in}
 use Rattle.sctp_chunks.specs.declared.chunk.chunk_payload_data.ChunkPayloadData.{ChunkPayloadData}
+use Rattle.sctp_queues.specs.Sets.{payload_of}
+use Rattle.sctp_queues.proofs.PieceLemmas.{payload-append}
 use Rattle.sctp_link.specs.Stream.{fragment, fragment_at, cut}
 use Rattle.sctp_link.proofs.PieceLemmas.{piece_below, piece_none, begins, ends, slice_is}
 use Rattle.sctp_link.proofs.stream.StreamState.fragments.Goals as goal
@@ -39,6 +42,10 @@ loop-at-preserved c =
     ∙ ap (λ bs. fragment s ppi (k == 0) (k + 1 == length (cut s xs)) bs) piece in
     record {
       place = omega (arith, ap (λ n. n * size) count);
+      joined = ap payload_of c.in_ok-push.ensures.items
+          ∙ payload-append old (c.fragment.result ∷ [])
+          ∙ ap₂ (λ a b. a ++ b) c.loop-at.invariant.joined (ap (λ (x : ChunkPayloadData). x.user_data ++ []) c.fragment.ensures ∙ append-nil bytes ∙ c.in_ok-bytes.ensures.ok ∙ ap (λ n. take n (drop at xs)) {x = end - at} {y = c.min.result} (omega arith))
+          ∙ sym (take-add at c.min.result xs);
       within = omega arith;
       made = c.in_ok-push.ensures.items
           ∙ ap₂ (λ (fs : List ChunkPayloadData) (x : ChunkPayloadData). fs ++ x ∷ []) c.loop-at.invariant.made made
@@ -58,3 +65,6 @@ returns-clause-ok c =
     let none = piece_none (length xs) size xs k (omega arith) pos over in
     let all : k ≡ length (cut s xs) = omega (arith, c.loop-at.invariant.within) in
     c.loop-at.invariant.made ∙ ap (λ n. map (fragment_at s c.args.ppi xs) (numbers_from 0 n)) all
+
+pub returns-clause-joined : goal.returns-clause-joined
+returns-clause-joined c = c.loop-at.invariant.joined ∙ take_all c.loop-at.at c.args.raw.now (omega (arith, c.len-len.ensures.value))
