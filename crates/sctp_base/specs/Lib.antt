@@ -3,3 +3,4 @@ pub mod Names
 pub mod Field
 pub mod Outcome
 pub mod Walk
+pub mod Each

@@ -1,8 +1,38 @@
 -- How long the value of each kind is.
-use Rattle.std.proofs.Common.{◌≡◌, ◌+◌, length, arith, length-append}
+use Rattle.std.proofs.Common.{◌≡◌, ℕ, ◌+◌, ◌*◌, List, [], ◌∷◌, length, ◌++◌, refl, arith, length-append}
+use Rattle.std.specs.List.{flat_map}
+use Rattle.std.proofs.lemmas.List.Concat.{flat_map-cons}
 use Rattle.sctp_base.proofs.Fields.{length_be16, length_be32}
+use Rattle.sctp_base.specs.Field.{be16, be32}
 use Rattle.sctp_chunks.specs.PayloadData.{Data, data_value}
+use Rattle.sctp_chunks.specs.SelectiveAck.{Sack, sack_value, block_text}
+use Rattle.sctp_chunks.specs.ForwardTsn.{ForwardTsn, forward_tsn_value, stream_text}
+use Rattle.sctp_chunks.specs.IForwardTsn.{IForwardTsn, i_forward_tsn_value, entry_text}
 
 pub length_data_value : (d : Data) → length (data_value d) ≡ 12 + length d.user_data
 unfolding data_value
 length_data_value d = simp (length-append, length_be16, length_be32) (omega arith)
+
+-- a list whose elements take n bytes each
+pub length_flat_map : {A : Type 0} (f : A → List ℕ) (n : ℕ) → ((x : A) → length (f x) ≡ n) → (xs : List A) → length (flat_map f xs) ≡ n * length xs
+length_flat_map f n each [] = omega arith
+length_flat_map f n each (x ∷ xs) = rw (flat_map-cons, length-append, each x, length_flat_map f n each xs) (omega arith)
+
+pub length_sack_value : (s : Sack) → length (sack_value s) ≡ 12 + 4 * length s.gap_ack_blocks + 4 * length s.duplicate_tsn
+unfolding sack_value
+length_sack_value s =
+    let blocks = length_flat_map block_text 4 (λ b. simp (length-append, length_be16)) s.gap_ack_blocks in
+    let duplicates = length_flat_map be32 4 length_be32 s.duplicate_tsn in
+    simp (length-append, length_be16, length_be32) (omega (arith, blocks, duplicates))
+
+pub length_forward_tsn_value : (f : ForwardTsn) → length (forward_tsn_value f) ≡ 4 + 4 * length f.streams
+unfolding forward_tsn_value
+length_forward_tsn_value f =
+    let streams = length_flat_map stream_text 4 (λ s. simp (length-append, length_be16)) f.streams in
+    simp (length-append, length_be32) (omega (arith, streams))
+
+pub length_i_forward_tsn_value : (f : IForwardTsn) → length (i_forward_tsn_value f) ≡ 4 + 8 * length f.streams
+unfolding i_forward_tsn_value
+length_i_forward_tsn_value f =
+    let streams = length_flat_map entry_text 8 (λ s. simp (length-append, length_be16, length_be32)) f.streams in
+    simp (length-append, length_be32) (omega (arith, streams))

@@ -1,18 +1,61 @@
 -- Numbers that fit the widths that they are written in.
 use Rattle.std.specs.Prelude.{ℕ, ◌^◌, ◌<◌, List, length}
 use Rattle.std.specs.List.{AllByRecursion}
+use Rattle.sctp_chunks.specs.declared.chunk.chunk_selective_ack.GapAckBlock.{GapAckBlock}
+use Rattle.sctp_chunks.specs.declared.chunk.chunk_forward_tsn.ChunkForwardTsnStream.{ChunkForwardTsnStream}
+use Rattle.sctp_chunks.specs.declared.chunk.chunk_i_forward_tsn.ChunkIForwardTsnStream.{ChunkIForwardTsnStream}
+use Rattle.sctp_chunks.specs.declared.chunk.error_cause.ErrorCause.{ErrorCause}
 use Rattle.sctp_chunks.specs.PayloadData.{Data}
-use Rattle.sctp_chunks.specs.Wire.{Wire, data_chunk}
+use Rattle.sctp_chunks.specs.SelectiveAck.{Sack}
+use Rattle.sctp_chunks.specs.ForwardTsn.{ForwardTsn}
+use Rattle.sctp_chunks.specs.IForwardTsn.{IForwardTsn}
+use Rattle.sctp_chunks.specs.Wire.{Wire, data_chunk, sack_chunk, abort_chunk, shutdown_chunk, error_chunk, forward_tsn_chunk, i_forward_tsn_chunk}
 
 pub record FitsData (d : Data) : Type 0 where
   pub tsn : d.tsn < 2 ^ 32
   pub stream_identifier : d.stream_identifier < 2 ^ 16
   pub stream_sequence_number : d.stream_sequence_number < 2 ^ 16
 
+pub record FitsBlock (b : GapAckBlock) : Type 0 where
+  pub start : b.start < 2 ^ 16
+  pub end : b.end < 2 ^ 16
+
+pub record FitsSack (s : Sack) : Type 0 where
+  pub cumulative_tsn_ack : s.cumulative_tsn_ack < 2 ^ 32
+  pub credit : s.advertised_receiver_window_credit < 2 ^ 32
+  pub blocks : AllByRecursion FitsBlock s.gap_ack_blocks
+  pub duplicates : AllByRecursion (λ n. n < 2 ^ 32) s.duplicate_tsn
+
+pub record FitsStream (s : ChunkForwardTsnStream) : Type 0 where
+  pub identifier : s.identifier < 2 ^ 16
+  pub sequence : s.sequence < 2 ^ 16
+
+pub record FitsForwardTsn (f : ForwardTsn) : Type 0 where
+  pub new_cumulative_tsn : f.new_cumulative_tsn < 2 ^ 32
+  pub streams : AllByRecursion FitsStream f.streams
+
+pub record FitsEntry (s : ChunkIForwardTsnStream) : Type 0 where
+  pub identifier : s.identifier < 2 ^ 16
+  pub mid : s.mid < 2 ^ 32
+
+pub record FitsIForwardTsn (f : IForwardTsn) : Type 0 where
+  pub new_cumulative_tsn : f.new_cumulative_tsn < 2 ^ 32
+  pub streams : AllByRecursion FitsEntry f.streams
+
+abbrev pub FitsCause : ErrorCause → Type 0
+FitsCause c = c.code.0 < 2 ^ 16
+
 -- the numbers of a chunk fit
 abbrev pub Fits : Wire → Type 0
 Fits (data_chunk d) = FitsData d
+Fits (sack_chunk s) = FitsSack s
+Fits (abort_chunk cs) = AllByRecursion FitsCause cs
+Fits (shutdown_chunk n) = n < 2 ^ 32
+Fits (error_chunk cs) = AllByRecursion FitsCause cs
+Fits (forward_tsn_chunk f) = FitsForwardTsn f
+Fits (i_forward_tsn_chunk f) = FitsIForwardTsn f
+Fits _ = Unit {0}
 
--- the kinds whose every text reads back
-abbrev pub IsPlain : Wire → Type 0
-IsPlain (data_chunk d) = Unit {0}
+-- a chunk whose text reads back to it: every chunk that was read is one
+abbrev pub Canonical : Wire → Type 0
+Canonical _ = Unit {0}

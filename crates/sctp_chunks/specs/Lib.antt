@@ -1,7 +1,12 @@
+pub mod Names
 pub mod Framing
 pub mod PayloadData
+pub mod SelectiveAck
+pub mod ErrorCause
+pub mod ForwardTsn
+pub mod IForwardTsn
 pub mod Wire
 pub mod Fault
 pub mod Fits
-pub mod Kind
 pub mod ChunkSet
+pub mod Kind

@@ -1,24 +1,76 @@
 -- Chunks of every kind, as their wire parts: what bytes say of them, and how they are written.
-use Rattle.std.specs.Prelude.{◌≡◌, ℕ, ◌+◌, ◌^◌, ◌<◌, List, length}
+use Rattle.std.specs.Prelude.{◌≡◌, ℕ, ◌+◌, ◌^◌, ◌<◌, List, [], length}
+use Rattle.sctp_base.specs.Field.{be32, u32_at}
+use Rattle.sctp_chunks.specs.declared.chunk.error_cause.ErrorCause.{ErrorCause}
 use Rattle.sctp_chunks.specs.Framing.{type_at, flags_at, value_at, IsFramed, framed}
 use Rattle.sctp_chunks.specs.PayloadData.{Data, ReadsData, data_flags, data_value}
+use Rattle.sctp_chunks.specs.SelectiveAck.{Sack, ReadsSack, sack_value}
+use Rattle.sctp_chunks.specs.ErrorCause.{ReadsCauses, causes_text}
+use Rattle.sctp_chunks.specs.ForwardTsn.{ForwardTsn, ReadsForwardTsn, forward_tsn_value}
+use Rattle.sctp_chunks.specs.IForwardTsn.{IForwardTsn, ReadsIForwardTsn, i_forward_tsn_value}
 
 pub data Wire : Type 0 where
   data_chunk : Data → Wire
+  sack_chunk : Sack → Wire
+  abort_chunk : List ErrorCause → Wire
+  shutdown_chunk : ℕ → Wire
+  shutdown_ack_chunk : Wire
+  error_chunk : List ErrorCause → Wire
+  cookie_echo_chunk : List ℕ → Wire
+  cookie_ack_chunk : Wire
+  shutdown_complete_chunk : Wire
+  forward_tsn_chunk : ForwardTsn → Wire
+  i_forward_tsn_chunk : IForwardTsn → Wire
 
 abbrev pub type_of : Wire → ℕ
 type_of (data_chunk d) = 0
+type_of (sack_chunk s) = 3
+type_of (abort_chunk cs) = 6
+type_of (shutdown_chunk n) = 7
+type_of shutdown_ack_chunk = 8
+type_of (error_chunk cs) = 9
+type_of (cookie_echo_chunk b) = 10
+type_of cookie_ack_chunk = 11
+type_of shutdown_complete_chunk = 14
+type_of (forward_tsn_chunk f) = 192
+type_of (i_forward_tsn_chunk f) = 194
 
+-- only DATA has flags
 abbrev pub flags_of : Wire → ℕ
 flags_of (data_chunk d) = data_flags d
+flags_of _ = 0
 
 -- the value that a chunk is written with
 abbrev pub value_of : Wire → List ℕ
 value_of (data_chunk d) = data_value d
+value_of (sack_chunk s) = sack_value s
+value_of (abort_chunk cs) = causes_text cs
+value_of (shutdown_chunk n) = be32 n
+value_of shutdown_ack_chunk = []
+value_of (error_chunk cs) = causes_text cs
+value_of (cookie_echo_chunk b) = b
+value_of cookie_ack_chunk = []
+value_of shutdown_complete_chunk = []
+value_of (forward_tsn_chunk f) = forward_tsn_value f
+value_of (i_forward_tsn_chunk f) = i_forward_tsn_value f
+
+-- what the value of a SHUTDOWN says
+abbrev pub ReadsShutdown : List ℕ → ℕ → Type 0
+ReadsShutdown value n = (length value ≡ 4) × (n ≡ u32_at value 0)
 
 -- what flags and value say
 abbrev pub ReadsValue : ℕ → List ℕ → Wire → Type 0
 ReadsValue flags value (data_chunk d) = ReadsData flags value d
+ReadsValue flags value (sack_chunk s) = ReadsSack value s
+ReadsValue flags value (abort_chunk cs) = ReadsCauses value cs
+ReadsValue flags value (shutdown_chunk n) = ReadsShutdown value n
+ReadsValue flags value shutdown_ack_chunk = Unit {0}
+ReadsValue flags value (error_chunk cs) = ReadsCauses value cs
+ReadsValue flags value (cookie_echo_chunk b) = b ≡ value
+ReadsValue flags value cookie_ack_chunk = Unit {0}
+ReadsValue flags value shutdown_complete_chunk = Unit {0}
+ReadsValue flags value (forward_tsn_chunk f) = ReadsForwardTsn value f
+ReadsValue flags value (i_forward_tsn_chunk f) = ReadsIForwardTsn value f
 
 -- The bytes, all that follow from the chunk on, begin with this chunk.
 pub record ReadsChunk (bytes : List ℕ) (w : Wire) : Type 0 where
@@ -33,5 +85,48 @@ HasText w = 4 + length (value_of w) < 2 ^ 16
 abbrev pub text_of : Wire → List ℕ
 text_of w = framed (type_of w) (flags_of w) (value_of w)
 
+-- ---- the chunks of one kind
+
 abbrev pub IsData : Wire → Type 0
 IsData (data_chunk d) = Unit {0}
+IsData _ = ⊥
+
+abbrev pub IsSack : Wire → Type 0
+IsSack (sack_chunk s) = Unit {0}
+IsSack _ = ⊥
+
+abbrev pub IsAbort : Wire → Type 0
+IsAbort (abort_chunk cs) = Unit {0}
+IsAbort _ = ⊥
+
+abbrev pub IsShutdown : Wire → Type 0
+IsShutdown (shutdown_chunk n) = Unit {0}
+IsShutdown _ = ⊥
+
+abbrev pub IsShutdownAck : Wire → Type 0
+IsShutdownAck shutdown_ack_chunk = Unit {0}
+IsShutdownAck _ = ⊥
+
+abbrev pub IsError : Wire → Type 0
+IsError (error_chunk cs) = Unit {0}
+IsError _ = ⊥
+
+abbrev pub IsCookieEcho : Wire → Type 0
+IsCookieEcho (cookie_echo_chunk b) = Unit {0}
+IsCookieEcho _ = ⊥
+
+abbrev pub IsCookieAck : Wire → Type 0
+IsCookieAck cookie_ack_chunk = Unit {0}
+IsCookieAck _ = ⊥
+
+abbrev pub IsShutdownComplete : Wire → Type 0
+IsShutdownComplete shutdown_complete_chunk = Unit {0}
+IsShutdownComplete _ = ⊥
+
+abbrev pub IsForwardTsn : Wire → Type 0
+IsForwardTsn (forward_tsn_chunk f) = Unit {0}
+IsForwardTsn _ = ⊥
+
+abbrev pub IsIForwardTsn : Wire → Type 0
+IsIForwardTsn (i_forward_tsn_chunk f) = Unit {0}
+IsIForwardTsn _ = ⊥

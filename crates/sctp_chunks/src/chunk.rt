@@ -4,12 +4,23 @@ ghost use Rattle.std.specs.Prelude.{◌≡◌, ◌+◌, ◌^◌, ◌≤◌, ◌<
 ghost use Rattle.sctp_base.specs.declared.error.Error.{Error};
 ghost use Rattle.sctp_base.specs.declared.error.Error.TheVariants.{ErrOutOfMemory, ErrLengthTooLarge};
 ghost use Rattle.sctp_chunks.specs.Wire.{Wire, ReadsChunk, HasText, text_of, type_of, flags_of, value_of};
-ghost use Rattle.sctp_chunks.specs.Fits.{Fits};
+ghost use Rattle.sctp_chunks.specs.Fits.{Fits, Canonical};
 ghost use Rattle.sctp_base.specs.Outcome.{OrMemory, GivesUnlessMemory};
 
+pub mod chunk_abort;
+pub mod chunk_cookie_ack;
+pub mod chunk_cookie_echo;
+pub mod chunk_error;
+pub mod chunk_forward_tsn;
 pub mod chunk_header;
+pub mod chunk_i_forward_tsn;
 pub mod chunk_kind;
 pub mod chunk_payload_data;
+pub mod chunk_selective_ack;
+pub mod chunk_shutdown;
+pub mod chunk_shutdown_ack;
+pub mod chunk_shutdown_complete;
+pub mod error_cause;
 
 use bytes::{Bytes, BytesMut};
 use chunk_header::{ChunkHeader, put_header};
@@ -25,6 +36,9 @@ pub trait Chunk {
     // the chunks of this kind
     ghost IsKind: { Wire → Type 0 };
 
+    // as reading gives it: what the sender alone keeps of a chunk is not set
+    ghost IsFresh: { Self → Type 0 };
+
     // what must stand in the bytes for a refusal
     ghost fault: { Error → List ℕ → Type 0 };
 
@@ -36,7 +50,9 @@ pub trait Chunk {
         ensures only { (w : Wire) → IsKind w → ReadsChunk raw.now w
             → GivesUnlessMemory result (λ c. wire c ≡ w) }
         ensures fault { IfErr result (λ e. OrMemory e (fault e raw.now)) }
-        ensures rewritable { IfOk result (λ c. HasText (wire c)) };
+        ensures rewritable { IfOk result (λ c. HasText (wire c)) }
+        ensures canonical { IfOk result (λ c. Canonical (wire c)) }
+        ensures fresh { IfOk result (λ c. IsFresh c) };
 
     /// The length of the value, up to the greatest `usize`.
     fn value_length(&self) -> usize
@@ -55,6 +71,7 @@ pub trait Chunk {
         requires text { HasText (wire self.now) }
         requires room { length (value_of (wire self.now)) ≤ buf.old.spare }
         ensures items { buf.new.items ≡ buf.old.items ++ value_of (wire self.now) }
+        ensures spare { buf.new.spare + length (value_of (wire self.now)) ≡ buf.old.spare }
         ensures fits { Fits (wire self.now) };
 
     /// The header that the chunk is written with.
@@ -70,6 +87,7 @@ pub trait Chunk {
     fn marshal_to(&self, buf: &mut BytesMut) -> Result<usize>
         ensures ok { IfOk result (λ n. HasText (wire self.now)
             × (buf.new.items ≡ buf.old.items ++ text_of (wire self.now)) × (n ≡ length buf.new.items)) }
+        ensures spare { OnOk result (buf.old.spare ≤ buf.new.spare + (4 + length (value_of (wire self.now)))) }
         ensures fits { OnOk result (Fits (wire self.now)) }
         ensures err { OnErr result (buf.new.items ≡ buf.old.items) }
         ensures refused { IfErr result (λ e. ((e ≡ ErrLengthTooLarge) × (HasText (wire self.now) → ⊥))

@@ -1,24 +1,49 @@
 //! A chunk of any kind.
 
-ghost use Rattle.sctp_chunks.specs.Kind.{wire_of, IsRead, KindFault};
+ghost use Rattle.sctp_chunks.specs.Kind.{wire_of, IsRead, IsFreshKind, KindFault};
 
 use super::Chunk;
+use super::chunk_abort::ChunkAbort;
+use super::chunk_cookie_ack::ChunkCookieAck;
+use super::chunk_cookie_echo::ChunkCookieEcho;
+use super::chunk_error::ChunkError;
+use super::chunk_forward_tsn::ChunkForwardTsn;
 use super::chunk_header::CHUNK_HEADER_SIZE;
+use super::chunk_i_forward_tsn::ChunkIForwardTsn;
 use super::chunk_payload_data::ChunkPayloadData;
+use super::chunk_selective_ack::ChunkSelectiveAck;
+use super::chunk_shutdown::ChunkShutdown;
+use super::chunk_shutdown_ack::ChunkShutdownAck;
+use super::chunk_shutdown_complete::ChunkShutdownComplete;
 use bytes::{Bytes, BytesMut};
 use sctp_base::error::{Error, Result};
-use sctp_base::util::{CT_PAYLOAD_DATA, ChunkType};
+use sctp_base::util::{
+    CT_ABORT, CT_COOKIE_ACK, CT_COOKIE_ECHO, CT_ERROR, CT_FORWARD_TSN, CT_I_FORWARD_TSN,
+    CT_PAYLOAD_DATA, CT_SACK, CT_SHUTDOWN, CT_SHUTDOWN_ACK, CT_SHUTDOWN_COMPLETE, ChunkType,
+};
 use std::alloc::Global;
 
 #[derive(Debug, Drop)]
 pub enum ChunkKind {
     PayloadData(ChunkPayloadData),
+    SelectiveAck(ChunkSelectiveAck),
+    Abort(ChunkAbort),
+    Shutdown(ChunkShutdown),
+    ShutdownAck(ChunkShutdownAck),
+    Error(ChunkError),
+    CookieEcho(ChunkCookieEcho),
+    CookieAck(ChunkCookieAck),
+    ShutdownComplete(ChunkShutdownComplete),
+    ForwardTsn(ChunkForwardTsn),
+    IForwardTsn(ChunkIForwardTsn),
 }
 
 impl Chunk for ChunkKind {
     ghost wire = { wire_of };
 
     ghost IsKind = { IsRead };
+
+    ghost IsFresh = { IsFreshKind };
 
     ghost fault = { KindFault };
 
@@ -27,33 +52,85 @@ impl Chunk for ChunkKind {
         if raw.len() < CHUNK_HEADER_SIZE {
             return Err(Error::ErrChunkHeaderTooSmall);
         }
-        match ChunkType(raw[0]) {
-            CT_PAYLOAD_DATA => Ok(ChunkKind::PayloadData(ChunkPayloadData::unmarshal(alloc, raw)?)),
-            _ => Err(Error::ErrUnmarshalUnknownChunkType),
-        }
+        Ok(match ChunkType(raw[0]) {
+            CT_PAYLOAD_DATA => ChunkKind::PayloadData(ChunkPayloadData::unmarshal(alloc, raw)?),
+            CT_SACK => ChunkKind::SelectiveAck(ChunkSelectiveAck::unmarshal(alloc, raw)?),
+            CT_ABORT => ChunkKind::Abort(ChunkAbort::unmarshal(alloc, raw)?),
+            CT_SHUTDOWN => ChunkKind::Shutdown(ChunkShutdown::unmarshal(alloc, raw)?),
+            CT_SHUTDOWN_ACK => ChunkKind::ShutdownAck(ChunkShutdownAck::unmarshal(alloc, raw)?),
+            CT_ERROR => ChunkKind::Error(ChunkError::unmarshal(alloc, raw)?),
+            CT_COOKIE_ECHO => ChunkKind::CookieEcho(ChunkCookieEcho::unmarshal(alloc, raw)?),
+            CT_COOKIE_ACK => ChunkKind::CookieAck(ChunkCookieAck::unmarshal(alloc, raw)?),
+            CT_SHUTDOWN_COMPLETE => ChunkKind::ShutdownComplete(ChunkShutdownComplete::unmarshal(
+                alloc, raw,
+            )?),
+            CT_FORWARD_TSN => ChunkKind::ForwardTsn(ChunkForwardTsn::unmarshal(alloc, raw)?),
+            CT_I_FORWARD_TSN => ChunkKind::IForwardTsn(ChunkIForwardTsn::unmarshal(alloc, raw)?),
+            _ => return Err(Error::ErrUnmarshalUnknownChunkType),
+        })
     }
 
     fn value_length(&self) -> usize {
         match self {
             ChunkKind::PayloadData(c) => c.value_length(),
+            ChunkKind::SelectiveAck(c) => c.value_length(),
+            ChunkKind::Abort(c) => c.value_length(),
+            ChunkKind::Shutdown(c) => c.value_length(),
+            ChunkKind::ShutdownAck(c) => c.value_length(),
+            ChunkKind::Error(c) => c.value_length(),
+            ChunkKind::CookieEcho(c) => c.value_length(),
+            ChunkKind::CookieAck(c) => c.value_length(),
+            ChunkKind::ShutdownComplete(c) => c.value_length(),
+            ChunkKind::ForwardTsn(c) => c.value_length(),
+            ChunkKind::IForwardTsn(c) => c.value_length(),
         }
     }
 
     fn chunk_type(&self) -> ChunkType {
         match self {
             ChunkKind::PayloadData(c) => c.chunk_type(),
+            ChunkKind::SelectiveAck(c) => c.chunk_type(),
+            ChunkKind::Abort(c) => c.chunk_type(),
+            ChunkKind::Shutdown(c) => c.chunk_type(),
+            ChunkKind::ShutdownAck(c) => c.chunk_type(),
+            ChunkKind::Error(c) => c.chunk_type(),
+            ChunkKind::CookieEcho(c) => c.chunk_type(),
+            ChunkKind::CookieAck(c) => c.chunk_type(),
+            ChunkKind::ShutdownComplete(c) => c.chunk_type(),
+            ChunkKind::ForwardTsn(c) => c.chunk_type(),
+            ChunkKind::IForwardTsn(c) => c.chunk_type(),
         }
     }
 
     fn flags(&self) -> u8 {
         match self {
             ChunkKind::PayloadData(c) => c.flags(),
+            ChunkKind::SelectiveAck(c) => c.flags(),
+            ChunkKind::Abort(c) => c.flags(),
+            ChunkKind::Shutdown(c) => c.flags(),
+            ChunkKind::ShutdownAck(c) => c.flags(),
+            ChunkKind::Error(c) => c.flags(),
+            ChunkKind::CookieEcho(c) => c.flags(),
+            ChunkKind::CookieAck(c) => c.flags(),
+            ChunkKind::ShutdownComplete(c) => c.flags(),
+            ChunkKind::ForwardTsn(c) => c.flags(),
+            ChunkKind::IForwardTsn(c) => c.flags(),
         }
     }
 
     fn put_value(&self, buf: &mut BytesMut) {
         match self {
             ChunkKind::PayloadData(c) => c.put_value(buf),
+            ChunkKind::SelectiveAck(c) => c.put_value(buf),
+            ChunkKind::Abort(c) => c.put_value(buf),
+            ChunkKind::Shutdown(c) => c.put_value(buf),
+            ChunkKind::ShutdownAck(c) => c.put_value(buf),
+            ChunkKind::Error(c) => c.put_value(buf),
+            ChunkKind::CookieEcho(c) => c.put_value(buf),
+            ChunkKind::CookieAck(c) => c.put_value(buf),
+            ChunkKind::ShutdownComplete(c) => c.put_value(buf),
+            ChunkKind::ForwardTsn(c) => c.put_value(buf),
+            ChunkKind::IForwardTsn(c) => c.put_value(buf),
         }
     }
 }

@@ -4,7 +4,7 @@ ghost use Rattle.std.specs.Prelude.{◌≡◌, ◌+◌, ◌^◌, ◌<◌, ◌≤
 ghost use Rattle.sctp_chunks.specs.PayloadData.{payload_type_from, payload_type_number, data_of, data_value, data_flags};
 ghost use Rattle.sctp_chunks.specs.Wire.{Wire, data_chunk, IsData, ReadsChunk, HasText, text_of};
 ghost use Rattle.sctp_chunks.specs.Fault.{DataFault};
-ghost use Rattle.sctp_chunks.specs.ChunkSet.{fresh};
+ghost use Rattle.sctp_chunks.specs.ChunkSet.{IsFreshData};
 ghost use Rattle.sctp_base.specs.declared.error.Error.TheVariants.{ErrOutOfMemory};
 
 use super::Chunk;
@@ -130,6 +130,8 @@ impl Chunk for ChunkPayloadData {
     ghost wire = { λ c. data_chunk (data_of c) };
 
     ghost IsKind = { IsData };
+
+    ghost IsFresh = { IsFreshData };
 
     ghost fault = { DataFault };
 

@@ -1,0 +1,8 @@
+use Rattle.std.proofs.Common.{◌≡◌, ◌+◌, ◌*◌}
+use Rattle.sctp_base.specs.Field.{u32_at}
+use Rattle.sctp_base.specs.Each.{each}
+use Rattle.sctp_chunks.specs.SelectiveAck.{block_at}
+use Rattle.sctp_chunks.proofs.chunk.chunk_selective_ack.read_blocks.Given as goal
+
+abbrev pub invariant-loop-i : goal.invariant-loop-i
+invariant-loop-i l = l.blocks.items ≡ each l.i (λ i. block_at l.value (l.at + 4 * i))

@@ -1,0 +1,191 @@
+//! FORWARD-TSN: TSNs that will not be sent again.
+
+ghost use Rattle.std.specs.Prelude.{◌≡◌, ◌+◌, ◌*◌, ◌^◌, ◌<◌, ◌≤◌, ◌++◌, ◌⊎◌, length, IfOk, IfErr, OnOk, OnErr, IsOkUnless};
+ghost use Rattle.std.specs.List.{flat_map, AllByRecursion};
+ghost use Rattle.sctp_base.specs.Each.{each};
+ghost use Rattle.sctp_base.specs.declared.error.Error.TheVariants.{ErrOutOfMemory, ErrChunkTooShort};
+ghost use Rattle.sctp_chunks.specs.Fits.{FitsStream};
+ghost use Rattle.sctp_chunks.specs.ForwardTsn.{stream_at, stream_text, forward_tsn_of};
+ghost use Rattle.sctp_chunks.specs.Wire.{forward_tsn_chunk, IsForwardTsn};
+ghost use Rattle.sctp_chunks.specs.Fault.{ForwardTsnFault};
+
+use super::Chunk;
+use super::chunk_header::open_chunk;
+use bytes::{Bytes, BytesMut};
+use sctp_base::error::{Error, Result};
+use sctp_base::field::{put_u16, put_u32, read_u16, read_u32};
+use sctp_base::util::{CT_FORWARD_TSN, ChunkType};
+use std::alloc::Global;
+use std::fmt;
+
+pub const NEW_CUMULATIVE_TSN_LENGTH: usize = 4;
+
+pub const FORWARD_TSN_STREAM_LENGTH: usize = 4;
+
+/// A stream, and the greatest stream sequence number that is skipped on it (RFC 3758 3.2).
+#[derive(Clone, Copy, Debug, PartialEq, Eq)]
+pub struct ChunkForwardTsnStream {
+    pub identifier: u16,
+    pub sequence: u16,
+}
+
+impl fmt::Display for ChunkForwardTsnStream {
+    fn fmt<W: fmt::Write>(&self, f: &mut fmt::Formatter<W>) -> fmt::Result {
+        write!(f, "{}, {}", self.identifier, self.sequence)
+    }
+}
+
+impl ChunkForwardTsnStream {
+    /// Reads the pair that the bytes begin with. It has no chunk header.
+    pub fn unmarshal(raw: &Bytes) -> Result<Self>
+        ensures ok { IfOk result (λ s. (4 ≤ length raw.now) × (s ≡ stream_at raw.now 0)) }
+        ensures err { IfErr result (λ e. (e ≡ ErrChunkTooShort) × (length raw.now < 4)) }
+    {
+        if raw.len() < FORWARD_TSN_STREAM_LENGTH {
+            return Err(Error::ErrChunkTooShort);
+        }
+        Ok(read_stream(raw.as_slice(), 0))
+    }
+
+    /// The length of the pair.
+    pub fn value_length(&self) -> usize
+        ensures { result ≡ length (stream_text self.now) }
+    {
+        FORWARD_TSN_STREAM_LENGTH
+    }
+
+    /// Appends the pair, and answers the buffer's length.
+    pub fn marshal_to(&self, buf: &mut BytesMut) -> Result<usize>
+        ensures ok { IfOk result (λ n. (buf.new.items ≡ buf.old.items ++ stream_text self.now)
+            × (n ≡ length buf.new.items)) }
+        ensures err { OnErr result (buf.new.items ≡ buf.old.items) }
+        ensures refused { IfErr result (λ e. (e ≡ ErrOutOfMemory) × (buf.old.spare < 4)) }
+    {
+        buf.reserve(FORWARD_TSN_STREAM_LENGTH)?;
+        self.put(buf);
+        Ok(buf.len())
+    }
+
+    /// The pair as bytes.
+    pub fn marshal(&self, alloc: Global) -> Result<Bytes>
+        ensures ok { IfOk result (λ b. b ≡ stream_text self.now) }
+        ensures memory { IsOkUnless result ErrOutOfMemory }
+    {
+        let mut buf = BytesMut::new(alloc);
+        self.marshal_to(&mut buf)?;
+        Ok(buf.freeze()?)
+    }
+
+    /// Appends the pair. There is room for it.
+    fn put(&self, buf: &mut BytesMut)
+        requires { 4 ≤ buf.old.spare }
+        ensures items { buf.new.items ≡ buf.old.items ++ stream_text self.now }
+        ensures spare { buf.new.spare + 4 ≡ buf.old.spare }
+        ensures fits { FitsStream self.now }
+    {
+        put_u16(buf, self.identifier);
+        put_u16(buf, self.sequence);
+    }
+}
+
+/// The pair that stands at a place.
+fn read_stream(bytes: &[u8], at: usize) -> ChunkForwardTsnStream
+    requires { at + 4 ≤ length bytes.now }
+    ensures { result ≡ stream_at bytes.now at }
+{
+    ChunkForwardTsnStream {
+        identifier: read_u16(bytes, at),
+        sequence: read_u16(bytes, at + 2),
+    }
+}
+
+#[tactic(auto, using(sctp_base::proofs::Each::each_none, sctp_base::proofs::Each::each_next))]
+fn read_streams(alloc: Global, value: &[u8], count: usize) -> Result<Vec<ChunkForwardTsnStream>>
+    requires { 4 + 4 * count ≤ length value.now }
+    ensures ok { IfOk result (λ v. v.items ≡ each count (λ i. stream_at value.now (4 + 4 * i))) }
+    ensures memory { IsOkUnless result ErrOutOfMemory }
+{
+    let mut streams = Vec::new(alloc);
+    for i in 0..count {
+        streams.push(read_stream(value, 4 + 4 * i))?;
+    }
+    Ok(streams)
+}
+
+fn put_streams(buf: &mut BytesMut, streams: &[ChunkForwardTsnStream])
+    requires { 4 * length streams.now ≤ buf.old.spare }
+    ensures items { buf.new.items ≡ buf.old.items ++ flat_map stream_text streams.now }
+    ensures spare { buf.new.spare + 4 * length streams.now ≡ buf.old.spare }
+    ensures fits { AllByRecursion FitsStream streams.now }
+{
+    for stream in streams {
+        stream.put(buf);
+    }
+}
+
+/// The receiver is to take every TSN up to this one as received, and on the named streams every message up to the
+/// sequence number beside it (RFC 3758 3.2).
+#[derive(Debug, Drop)]
+pub struct ChunkForwardTsn {
+    pub new_cumulative_tsn: u32,
+    pub streams: Vec<ChunkForwardTsnStream>,
+}
+
+impl fmt::Display for ChunkForwardTsn {
+    fn fmt<W: fmt::Write>(&self, f: &mut fmt::Formatter<W>) -> fmt::Result {
+        write!(
+            f,
+            "{}\nNew Cumulative TSN: {}",
+            self.chunk_type(),
+            self.new_cumulative_tsn
+        )?;
+        for s in &self.streams {
+            write!(f, "\n - si={}, ssn={}", s.identifier, s.sequence)?;
+        }
+        Ok(())
+    }
+}
+
+#[tactic(auto, using(crate::proofs::One::forward_tsn_one, sctp_base::proofs::Each::length_each, crate::proofs::Lengths::length_forward_tsn_value))]
+impl Chunk for ChunkForwardTsn {
+    ghost wire = { λ c. forward_tsn_chunk (forward_tsn_of c) };
+
+    ghost IsKind = { IsForwardTsn };
+
+    ghost IsFresh = { λ _. Unit {0} };
+
+    ghost fault = { ForwardTsnFault };
+
+    fn unmarshal(alloc: Global, raw: &Bytes) -> Result<Self> {
+        let (_flags, value) = open_chunk(raw, CT_FORWARD_TSN, Error::ErrChunkTypeNotForwardTsn)?;
+        if value.len() < NEW_CUMULATIVE_TSN_LENGTH {
+            return Err(Error::ErrChunkTooShort);
+        }
+        let rest = value.len() - NEW_CUMULATIVE_TSN_LENGTH;
+        if rest % FORWARD_TSN_STREAM_LENGTH != 0 {
+            return Err(Error::ErrChunkTooShort);
+        }
+        let streams = read_streams(alloc, value, rest / FORWARD_TSN_STREAM_LENGTH)?;
+        Ok(ChunkForwardTsn {
+            new_cumulative_tsn: read_u32(value, 0),
+            streams,
+        })
+    }
+
+    fn value_length(&self) -> usize {
+        NEW_CUMULATIVE_TSN_LENGTH + FORWARD_TSN_STREAM_LENGTH * self.streams.as_slice().len()
+    }
+
+    fn chunk_type(&self) -> ChunkType {
+        CT_FORWARD_TSN
+    }
+
+    fn flags(&self) -> u8 {
+        0
+    }
+
+    fn put_value(&self, buf: &mut BytesMut) {
+        put_u32(buf, self.new_cumulative_tsn);
+        put_streams(buf, &self.streams);
+    }
+}

@@ -1,0 +1,179 @@
+//! SACK: what arrived.
+
+ghost use Rattle.std.specs.Prelude.{◌≡◌, ◌+◌, ◌*◌, ◌^◌, ◌<◌, ◌≤◌, ◌++◌, length, IfOk, IsOkUnless};
+ghost use Rattle.std.specs.List.{flat_map, AllByRecursion};
+ghost use Rattle.sctp_base.specs.Each.{each};
+ghost use Rattle.sctp_base.specs.Field.{be32, u32_at};
+ghost use Rattle.sctp_base.specs.declared.error.Error.TheVariants.{ErrOutOfMemory};
+ghost use Rattle.sctp_chunks.specs.Fits.{FitsBlock};
+ghost use Rattle.sctp_chunks.specs.SelectiveAck.{block_at, block_text, sack_of};
+ghost use Rattle.sctp_chunks.specs.Wire.{sack_chunk, IsSack};
+ghost use Rattle.sctp_chunks.specs.Fault.{SackFault};
+
+use super::Chunk;
+use super::chunk_header::open_chunk;
+use bytes::{Bytes, BytesMut};
+use sctp_base::error::{Error, Result};
+use sctp_base::field::{put_u16, put_u32, read_u16, read_u32};
+use sctp_base::util::{CT_SACK, ChunkType};
+use std::alloc::Global;
+use std::fmt;
+
+pub const SELECTIVE_ACK_HEADER_SIZE: usize = 12;
+
+/// A run of TSNs that arrived, by their distances from the cumulative TSN (RFC 4960 3.3.4).
+#[derive(Clone, Copy, Debug, PartialEq, Eq)]
+pub struct GapAckBlock {
+    pub start: u16,
+    pub end: u16,
+}
+
+impl fmt::Display for GapAckBlock {
+    fn fmt<W: fmt::Write>(&self, f: &mut fmt::Formatter<W>) -> fmt::Result {
+        write!(f, "{} - {}", self.start, self.end)
+    }
+}
+
+/// Which TSNs arrived, and which of them arrived again (RFC 4960 3.3.4).
+#[derive(Debug, Drop)]
+pub struct ChunkSelectiveAck {
+    pub cumulative_tsn_ack: u32,
+    pub advertised_receiver_window_credit: u32,
+    pub gap_ack_blocks: Vec<GapAckBlock>,
+    pub duplicate_tsn: Vec<u32>,
+}
+
+impl fmt::Display for ChunkSelectiveAck {
+    fn fmt<W: fmt::Write>(&self, f: &mut fmt::Formatter<W>) -> fmt::Result {
+        write!(
+            f,
+            "SACK cumTsnAck={} arwnd={} dupTsn={:?}",
+            self.cumulative_tsn_ack, self.advertised_receiver_window_credit, self.duplicate_tsn
+        )?;
+        for gap in &self.gap_ack_blocks {
+            write!(f, "\n gap ack: {gap}")?;
+        }
+        Ok(())
+    }
+}
+
+#[tactic(auto, using(sctp_base::proofs::Each::each_none, sctp_base::proofs::Each::each_next))]
+fn read_blocks(alloc: Global, value: &[u8], at: usize, count: usize) -> Result<Vec<GapAckBlock>>
+    requires { at + 4 * count ≤ length value.now }
+    ensures ok { IfOk result (λ v. v.items ≡ each count (λ i. block_at value.now (at + 4 * i))) }
+    ensures memory { IsOkUnless result ErrOutOfMemory }
+{
+    let mut blocks = Vec::new(alloc);
+    for i in 0..count {
+        let start = read_u16(value, at + 4 * i);
+        let end = read_u16(value, at + 4 * i + 2);
+        blocks.push(GapAckBlock { start, end })?;
+    }
+    Ok(blocks)
+}
+
+#[tactic(auto, using(sctp_base::proofs::Each::each_none, sctp_base::proofs::Each::each_next))]
+fn read_numbers(alloc: Global, value: &[u8], at: usize, count: usize) -> Result<Vec<u32>>
+    requires { at + 4 * count ≤ length value.now }
+    ensures ok { IfOk result (λ v. v.items ≡ each count (λ i. u32_at value.now (at + 4 * i))) }
+    ensures memory { IsOkUnless result ErrOutOfMemory }
+{
+    let mut numbers = Vec::new(alloc);
+    for i in 0..count {
+        numbers.push(read_u32(value, at + 4 * i))?;
+    }
+    Ok(numbers)
+}
+
+fn put_blocks(buf: &mut BytesMut, blocks: &[GapAckBlock])
+    requires { 4 * length blocks.now ≤ buf.old.spare }
+    ensures items { buf.new.items ≡ buf.old.items ++ flat_map block_text blocks.now }
+    ensures spare { buf.new.spare + 4 * length blocks.now ≡ buf.old.spare }
+    ensures fits { AllByRecursion FitsBlock blocks.now }
+{
+    for block in blocks {
+        put_u16(buf, block.start);
+        put_u16(buf, block.end);
+    }
+}
+
+fn put_numbers(buf: &mut BytesMut, numbers: &[u32])
+    requires { 4 * length numbers.now ≤ buf.old.spare }
+    ensures items { buf.new.items ≡ buf.old.items ++ flat_map be32 numbers.now }
+    ensures spare { buf.new.spare + 4 * length numbers.now ≡ buf.old.spare }
+    ensures fits { AllByRecursion (λ n. n < 2 ^ 32) numbers.now }
+{
+    for number in numbers {
+        put_u32(buf, *number);
+    }
+}
+
+impl ChunkSelectiveAck {
+    /// An equal acknowledgement.
+    pub fn try_clone(&self, alloc: Global) -> Result<Self>
+        ensures ok { IfOk result (λ c. sack_of c ≡ sack_of self.now) }
+        ensures memory { IsOkUnless result ErrOutOfMemory }
+    {
+        Ok(ChunkSelectiveAck {
+            cumulative_tsn_ack: self.cumulative_tsn_ack,
+            advertised_receiver_window_credit: self.advertised_receiver_window_credit,
+            gap_ack_blocks: Vec::from_slice(alloc, &self.gap_ack_blocks)?,
+            duplicate_tsn: Vec::from_slice(alloc, &self.duplicate_tsn)?,
+        })
+    }
+}
+
+#[tactic(auto, using(crate::proofs::One::sack_one, sctp_base::proofs::Each::length_each, crate::proofs::Lengths::length_sack_value))]
+impl Chunk for ChunkSelectiveAck {
+    ghost wire = { λ c. sack_chunk (sack_of c) };
+
+    ghost IsKind = { IsSack };
+
+    ghost IsFresh = { λ _. Unit {0} };
+
+    ghost fault = { SackFault };
+
+    fn unmarshal(alloc: Global, raw: &Bytes) -> Result<Self> {
+        let (_flags, value) = open_chunk(raw, CT_SACK, Error::ErrChunkTypeNotSack)?;
+        if value.len() < SELECTIVE_ACK_HEADER_SIZE {
+            return Err(Error::ErrSackSizeNotLargeEnoughInfo);
+        }
+        let blocks = read_u16(value, 8) as usize;
+        let duplicates = read_u16(value, 10) as usize;
+        let middle = SELECTIVE_ACK_HEADER_SIZE + 4 * blocks;
+        if value.len() < middle + 4 * duplicates {
+            return Err(Error::ErrSackSizeNotLargeEnoughInfo);
+        }
+        let gap_ack_blocks = read_blocks(alloc, value, SELECTIVE_ACK_HEADER_SIZE, blocks)?;
+        let duplicate_tsn = read_numbers(alloc, value, middle, duplicates)?;
+        Ok(ChunkSelectiveAck {
+            cumulative_tsn_ack: read_u32(value, 0),
+            advertised_receiver_window_credit: read_u32(value, 4),
+            gap_ack_blocks,
+            duplicate_tsn,
+        })
+    }
+
+    fn value_length(&self) -> usize {
+        let blocks = 4 * self.gap_ack_blocks.as_slice().len();
+        let duplicates = 4 * self.duplicate_tsn.as_slice().len();
+        (SELECTIVE_ACK_HEADER_SIZE + blocks).saturating_add(duplicates)
+    }
+
+    fn chunk_type(&self) -> ChunkType {
+        CT_SACK
+    }
+
+    fn flags(&self) -> u8 {
+        0
+    }
+
+    fn put_value(&self, buf: &mut BytesMut) {
+        put_u32(buf, self.cumulative_tsn_ack);
+        put_u32(buf, self.advertised_receiver_window_credit);
+        put_u16(buf, self.gap_ack_blocks.len() as u16);
+        put_u16(buf, self.duplicate_tsn.len() as u16);
+        put_blocks(buf, &self.gap_ack_blocks);
+        put_numbers(buf, &self.duplicate_tsn);
+    }
+}

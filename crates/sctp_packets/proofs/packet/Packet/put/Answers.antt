@@ -1,0 +1,55 @@
+use Rattle.std.proofs.Common.{◌≡◌, ℕ, ◌+◌, ◌≤◌, List, ◌++◌, length, take, drop, refl, sym, ap, ◌∙◌, append_assoc, arith, inl, inr, subst, ◌<◌, ◌^◌}
+use Rattle.std.specs.Prelude.{map}
+use Rattle.sctp_base.specs.Field.{le32}
+use Rattle.sctp_base.specs.Padding.{four_zeroes}
+use Rattle.sctp_chunks.specs.Kind.{wire_of}
+use Rattle.sctp_packets.specs.Packet.{parts_of, head_of, body_of, packet_text}
+use Rattle.sctp_packets.proofs.Sealed.{length_head_text, unsealed, unsealed_long, sealed, summed_is, kept_front}
+use Rattle.std.proofs.lemmas.Result.{err_from_is_err_and}
+use Rattle.sctp_packets.proofs.Written.{length_packet_text}
+use Rattle.sctp_packets.proofs.packet.Packet.put.Goals as goal
+
+pub returns-in_err-put_chunks-clause-kept : goal.returns-in_err-put_chunks-clause-kept
+returns-in_err-put_chunks-clause-kept g c =
+    let front = rw (c.in_ok-put_head.ensures.ok, append_assoc) at c.put_chunks.ensures.kept in
+    kept_front c.args.buf.now.items (head_of (parts_of c.args.self.now) ++ four_zeroes) c.put_chunks.new.buf.items front
+
+pub store_checksum-requires : goal.store_checksum-requires
+store_checksum-requires g c =
+    let p = parts_of c.args.self.now in
+    let long = unsealed_long c.args.buf.now.items (head_of p) (body_of (map wire_of c.deref.result.now)) (length_head_text p.source_port p.destination_port p.verification_tag) in
+    rw (c.len-start.ensures.value, c.in_ok-put_chunks.ensures.ok.1, c.in_ok-put_head.ensures.ok) long
+
+pub returns-clause-ok : goal.returns-clause-ok
+returns-clause-ok g c =
+    let p = parts_of c.args.self.now in
+    let whole : c.put_chunks.new.buf.items ≡ (c.args.buf.now.items ++ head_of p ++ four_zeroes) ++ body_of p.chunks =
+    rw (c.in_ok-put_chunks.ensures.ok.1, c.in_ok-put_head.ensures.ok, c.deref.ensures.value) refl in (
+      rw (← c.deref.ensures.value) c.in_ok-put_chunks.ensures.ok.0,
+      sealed (g.C.Checksum.sum c.args.checksum.now) c.args.buf.now.items (head_of p) (body_of p.chunks) _ _ c.len-start.result
+          (length_head_text p.source_port p.destination_port p.verification_tag) c.len-start.ensures.value whole c.store_checksum.ensures.items,
+    )
+
+pub returns-clause-sum_fits : goal.returns-clause-sum_fits
+returns-clause-sum_fits g c =
+    let p = parts_of c.args.self.now in
+    let whole : c.put_chunks.new.buf.items ≡ (c.args.buf.now.items ++ head_of p ++ four_zeroes) ++ body_of p.chunks =
+    rw (c.in_ok-put_chunks.ensures.ok.1, c.in_ok-put_head.ensures.ok, c.deref.ensures.value) refl in
+    let e = summed_is c.args.buf.now.items (head_of p) (body_of p.chunks) _ c.len-start.result (length_head_text p.source_port p.destination_port p.verification_tag) c.len-start.ensures.value whole in
+    let P : List ℕ → Type 0 = λ b. g.C.Checksum.sum c.args.checksum.now b < 2 ^ 32 in
+    subst P e c.store_checksum.ensures.fits
+
+pub returns-in_err-put_head-clause-refused : goal.returns-in_err-put_head-clause-refused
+returns-in_err-put_head-clause-refused g c =
+    let p = err_from_is_err_and c.from_residual.result c.from_residual.ensures.1 in
+    let len = length_packet_text (g.C.Checksum.sum c.args.checksum.now) (parts_of c.args.self.now) in
+    rw (p.1, p.2) (inr (c.in_err-put_head.ensures.refused.0, omega (arith, len, c.in_err-put_head.ensures.refused.1)))
+
+pub returns-in_err-put_chunks-clause-refused : goal.returns-in_err-put_chunks-clause-refused
+returns-in_err-put_chunks-clause-refused g c =
+    let p = err_from_is_err_and c.from_residual-in_err-put_chunks.result c.from_residual-in_err-put_chunks.ensures.1 in
+    let len = length_packet_text (g.C.Checksum.sum c.args.checksum.now) (parts_of c.args.self.now) in
+    rw (p.1, p.2) (elim c.in_err-put_chunks.ensures.refused [
+      | inl long ↦ inl (long.0, λ all. long.1 (rw c.deref.ensures.value all))
+      | inr memory ↦ inr (memory.0, let short = rw c.deref.ensures.value at memory.1 in omega (arith, len, short, c.in_ok-put_head.ensures.spare))
+    ])

@@ -1,0 +1,268 @@
+//! A packet.
+
+ghost use Rattle.std.specs.Prelude.{◌≡◌, ◌<◌, ◌^◌, ◌+◌, ◌++◌, ℕ, List, length, map, drop, ◌⊎◌, IfOk, IfErr, IsOkUnless, OnOk, OnErr, take, ◌≤◌};
+ghost use Rattle.std.specs.List.{AllByRecursion};
+ghost use Rattle.std.specs.Prelude.{[]};
+ghost use Rattle.sctp_base.specs.Field.{le32, u16_at, u32_at};
+ghost use Rattle.sctp_base.specs.declared.error.Error.TheVariants.{ErrOutOfMemory, ErrLengthTooLarge};
+ghost use Rattle.sctp_base.specs.Outcome.{OrMemory, GivesUnlessMemory};
+ghost use Rattle.sctp_chunks.specs.Kind.{wire_of, IsFreshKind};
+ghost use Rattle.sctp_chunks.specs.Fits.{Fits, Canonical};
+ghost use Rattle.sctp_chunks.specs.Wire.{Wire, HasText};
+ghost use Rattle.sctp_chunks.specs.Framing.{declared};
+ghost use Rattle.sctp_base.specs.Padding.{padded, four_zeroes};
+ghost use Rattle.sctp_base.specs.Walk.{Walks};
+ghost use Rattle.sctp_packets.specs.Packet.{Parts, parts_of, IsCanonical, IsHeaded, ReadsPacket, Steps, after, padded_text, body_of, head_text, head_of, HavePacketText, packet_text, FitsParts};
+ghost use Rattle.sctp_packets.specs.Fault.{HeadFault, PacketFault, PlaceFault, WalkFault};
+
+use bytes::{BufMut, Bytes, BytesMut};
+use sctp_base::error::{Error, Result};
+use sctp_base::field::{put_u16, put_u32, read_u16, read_u32, read_u32_le, u32_le_bytes};
+use sctp_base::util::{Checksum, get_padding_size};
+use sctp_chunks::chunk::Chunk;
+use sctp_chunks::chunk::chunk_header::CHUNK_HEADER_SIZE;
+use sctp_chunks::chunk::chunk_kind::ChunkKind;
+use std::alloc::Global;
+
+pub const PACKET_HEADER_SIZE: usize = 12;
+
+#[derive(Clone, Copy, Debug, PartialEq, Eq)]
+pub struct CommonHeader {
+    pub source_port: u16,
+    pub destination_port: u16,
+    pub verification_tag: u32,
+}
+
+#[derive(Debug, Drop)]
+pub struct Packet {
+    pub common_header: CommonHeader,
+    pub chunks: Vec<ChunkKind>,
+}
+
+/// Reads the chunk at the front, and how many bytes it takes with its padding.
+fn read_step(alloc: Global, rest: &Bytes) -> Result<(ChunkKind, usize)>
+    requires { 0 < length rest.now }
+    ensures found { IfOk result (λ x. Steps rest.now (wire_of x.0)) }
+    ensures length { IfOk result (λ x. x.1 ≡ padded (declared rest.now)) }
+    ensures rewritable { IfOk result (λ x. HasText (wire_of x.0)) }
+    ensures canonical { IfOk result (λ x. Canonical (wire_of x.0)) }
+    ensures fresh { IfOk result (λ x. IsFreshKind x.0) }
+    ensures only { (w : Wire) → Steps rest.now w → GivesUnlessMemory result (λ x. wire_of x.0 ≡ w) }
+    ensures fault { IfErr result (λ e. OrMemory e (PlaceFault e rest.now)) }
+{
+    if rest.len() < CHUNK_HEADER_SIZE {
+        return Err(Error::ErrParseSctpChunkNotEnoughData);
+    }
+    let chunk = ChunkKind::unmarshal(alloc, rest)?;
+    let length = read_u16(rest.as_slice(), 2) as usize;
+    let length = length + get_padding_size(length);
+    if rest.len() < length {
+        return Err(Error::ErrParseSctpChunkNotEnoughData);
+    }
+    Ok((chunk, length))
+}
+
+fn read_chunks(alloc: Global, raw: &Bytes) -> Result<Vec<ChunkKind>>
+    ensures found { IfOk result (λ v. Walks Steps after raw.now (map wire_of v.items) []) }
+    ensures only { (ws : List Wire) → Walks Steps after raw.now ws []
+        → GivesUnlessMemory result (λ v. map wire_of v.items ≡ ws) }
+    ensures fault { IfErr result (λ e. OrMemory e (WalkFault e raw.now)) }
+    ensures rewritable { IfOk result (λ v. AllByRecursion HasText (map wire_of v.items)) }
+    ensures canonical { IfOk result (λ v. AllByRecursion Canonical (map wire_of v.items)) }
+    ensures fresh { IfOk result (λ v. AllByRecursion IsFreshKind v.items) }
+{
+    let mut chunks = Vec::new(alloc);
+    let mut rest = raw.clone()?;
+    'walk: while !rest.is_empty() {
+        let (chunk, length) = read_step(alloc, &rest)?;
+        chunks.push(chunk)?;
+        rest.advance(length);
+    }
+    Ok(chunks)
+}
+
+/// Reads the header and tests the checksum. Gives the header and the bytes after it.
+fn open_packet<C: Checksum>(raw: &Bytes, checksum: &C) -> Result<(CommonHeader, Bytes)>
+    ensures headed { IfOk result (λ x. IsHeaded (C.sum checksum.now) raw.now) }
+    ensures source_port { IfOk result (λ x. x.0.source_port ≡ u16_at raw.now 0) }
+    ensures destination_port { IfOk result (λ x. x.0.destination_port ≡ u16_at raw.now 2) }
+    ensures verification_tag { IfOk result (λ x. x.0.verification_tag ≡ u32_at raw.now 4) }
+    ensures rest { IfOk result (λ x. x.1 ≡ drop 12 raw.now) }
+    ensures only { IsHeaded (C.sum checksum.now) raw.now → IsOkUnless result ErrOutOfMemory }
+    ensures fault { IfErr result (λ e. OrMemory e (HeadFault (C.sum checksum.now) e raw.now)) }
+{
+    let bytes = raw.as_slice();
+    if bytes.len() < PACKET_HEADER_SIZE {
+        return Err(Error::ErrPacketRawTooSmall);
+    }
+    let theirs = read_u32_le(bytes, 8);
+    let ours = checksum.checksum(&bytes[..8], &bytes[PACKET_HEADER_SIZE..]);
+    if theirs != ours {
+        return Err(Error::ErrChecksumMismatch);
+    }
+    let header = CommonHeader {
+        source_port: read_u16(bytes, 0),
+        destination_port: read_u16(bytes, 2),
+        verification_tag: read_u32(bytes, 4),
+    };
+    let mut rest = raw.clone()?;
+    rest.advance(PACKET_HEADER_SIZE);
+    Ok((header, rest))
+}
+
+/// Appends a chunk and its padding.
+fn put_chunk(buf: &mut BytesMut, chunk: &ChunkKind) -> Result<()>
+    ensures ok { OnOk result (HasText (wire_of chunk.now)
+        × (buf.new.items ≡ buf.old.items ++ padded_text (wire_of chunk.now))) }
+    ensures spare { OnOk result (buf.old.spare ≤ buf.new.spare + length (padded_text (wire_of chunk.now))) }
+    ensures fits { OnOk result (Fits (wire_of chunk.now)) }
+    ensures err { OnErr result (buf.new.items ≡ buf.old.items) }
+    ensures refused { IfErr result (λ e. ((e ≡ ErrLengthTooLarge) × (HasText (wire_of chunk.now) → ⊥))
+        ⊎ ((e ≡ ErrOutOfMemory) × (buf.old.spare < length (padded_text (wire_of chunk.now))))) }
+{
+    let start = buf.len();
+    let end = chunk.marshal_to(buf)?;
+    let padding = get_padding_size(end - start);
+    match buf.put_bytes(0, padding) {
+        Ok(()) => Ok(()),
+        Err(_) => {
+            buf.truncate(start);
+            Err(Error::ErrOutOfMemory)
+        }
+    }
+}
+
+/// Appends chunks, each with its padding. After a refusal some may stand there.
+fn put_chunks(buf: &mut BytesMut, chunks: &[ChunkKind]) -> Result<()>
+    ensures ok { OnOk result (AllByRecursion HasText (map wire_of chunks.now)
+        × (buf.new.items ≡ buf.old.items ++ body_of (map wire_of chunks.now))) }
+    ensures fits { OnOk result (AllByRecursion Fits (map wire_of chunks.now)) }
+    ensures kept { take (length buf.old.items) buf.new.items ≡ buf.old.items }
+    ensures spare { OnOk result (buf.old.spare ≤ buf.new.spare + length (body_of (map wire_of chunks.now))) }
+    ensures refused { IfErr result (λ e.
+        ((e ≡ ErrLengthTooLarge) × (AllByRecursion HasText (map wire_of chunks.now) → ⊥))
+        ⊎ ((e ≡ ErrOutOfMemory) × (buf.old.spare < length (body_of (map wire_of chunks.now))))) }
+{
+    for chunk in chunks {
+        put_chunk(buf, chunk)?;
+    }
+    Ok(())
+}
+
+/// Appends the header, with zeros where the checksum is to stand.
+#[tactic(auto, unfolding(crate::specs::Packet::head_text))]
+fn put_head(buf: &mut BytesMut, header: CommonHeader) -> Result<()>
+    ensures ok { OnOk result (buf.new.items ≡ buf.old.items
+        ++ head_text header.source_port header.destination_port header.verification_tag ++ four_zeroes) }
+    ensures fits { OnOk result ((header.source_port < 2 ^ 16) × (header.destination_port < 2 ^ 16)
+        × (header.verification_tag < 2 ^ 32)) }
+    ensures err { OnErr result (buf.new.items ≡ buf.old.items) }
+    ensures spare { OnOk result (buf.old.spare ≤ buf.new.spare + 12) }
+    ensures refused { IfErr result (λ e. (e ≡ ErrOutOfMemory) × (buf.old.spare < 12)) }
+{
+    buf.reserve(PACKET_HEADER_SIZE)?;
+    put_u16(buf, header.source_port);
+    put_u16(buf, header.destination_port);
+    put_u32(buf, header.verification_tag);
+    buf.extend_reserved(&[0, 0, 0, 0]);
+    Ok(())
+}
+
+/// Writes the checksum of the packet that begins at `start` into its place.
+fn store_checksum<C: Checksum>(buf: &mut BytesMut, start: usize, checksum: &C)
+    requires { start + 12 ≤ length buf.old.items }
+    ensures fits { C.sum checksum.now (take 8 (drop start buf.old.items) ++ four_zeroes
+        ++ drop (start + 12) buf.old.items) < 2 ^ 32 }
+    ensures items { buf.new.items ≡ take (start + 8) buf.old.items
+        ++ le32 (C.sum checksum.now (take 8 (drop start buf.old.items) ++ four_zeroes ++ drop (start + 12) buf.old.items))
+        ++ drop (start + 12) buf.old.items }
+{
+    let bytes = buf.as_slice();
+    let sum = checksum.checksum(
+        &bytes[start..start + 8],
+        &bytes[start + PACKET_HEADER_SIZE..],
+    );
+    let place = &mut buf.as_mut_slice()[start + 8..start + PACKET_HEADER_SIZE];
+    place.copy_from_slice(&u32_le_bytes(sum));
+}
+
+impl Packet {
+    /// Reads a packet, all of the bytes.
+    pub fn unmarshal<C: Checksum>(alloc: Global, raw: &Bytes, checksum: &C) -> Result<Packet>
+        ensures found { IfOk result (λ p. ReadsPacket (C.sum checksum.now) raw.now (parts_of p)) }
+        ensures only { (p : Parts) → ReadsPacket (C.sum checksum.now) raw.now p
+            → GivesUnlessMemory result (λ q. parts_of q ≡ p) }
+        ensures fault { IfErr result (λ e. OrMemory e (PacketFault (C.sum checksum.now) e raw.now)) }
+        // What was read has a text, which reads back.
+        ensures rewritable { IfOk result (λ p. HavePacketText (parts_of p)) }
+        ensures canonical { IfOk result (λ p. IsCanonical (parts_of p)) }
+        // What the sender alone keeps of a chunk is not set.
+        ensures fresh { IfOk result (λ p. AllByRecursion IsFreshKind p.chunks.items) }
+    {
+        let (common_header, rest) = open_packet(raw, checksum)?;
+        let chunks = read_chunks(alloc, &rest)?;
+        Ok(Packet {
+            common_header,
+            chunks,
+        })
+    }
+
+    /// Appends the packet, and answers the buffer's length.
+    #[tactic(auto, using(crate::proofs::Again::packet_again))]
+    pub fn marshal_to<C: Checksum>(&self, buf: &mut BytesMut, checksum: &C) -> Result<usize>
+        ensures ok { IfOk result (λ n. HavePacketText (parts_of self.now)
+            × (buf.new.items ≡ buf.old.items ++ packet_text (C.sum checksum.now) (parts_of self.now))
+            × (n ≡ length buf.new.items)) }
+        // What is written reads back.
+        ensures reads_back { IsCanonical (parts_of self.now) → OnOk result (ReadsPacket (C.sum checksum.now)
+            (packet_text (C.sum checksum.now) (parts_of self.now)) (parts_of self.now)) }
+        ensures err { OnErr result (buf.new.items ≡ buf.old.items) }
+        ensures refused { IfErr result (λ e.
+            ((e ≡ ErrLengthTooLarge) × (HavePacketText (parts_of self.now) → ⊥))
+            ⊎ ((e ≡ ErrOutOfMemory)
+            × (buf.old.spare < length (packet_text (C.sum checksum.now) (parts_of self.now))))) }
+    {
+        let start = buf.len();
+        match self.put(buf, checksum) {
+            Ok(()) => Ok(buf.len()),
+            Err(e) => {
+                buf.truncate(start);
+                Err(e)
+            }
+        }
+    }
+
+    /// The packet as bytes.
+    pub fn marshal<C: Checksum>(&self, alloc: Global, checksum: &C) -> Result<Bytes>
+        ensures ok { IfOk result (λ b. HavePacketText (parts_of self.now)
+            × (b ≡ packet_text (C.sum checksum.now) (parts_of self.now))) }
+        ensures reads_back { IsCanonical (parts_of self.now)
+            → IfOk result (λ b. ReadsPacket (C.sum checksum.now) b (parts_of self.now)) }
+        ensures refused { IfErr result (λ e. OrMemory e
+            ((e ≡ ErrLengthTooLarge) × (HavePacketText (parts_of self.now) → ⊥))) }
+    {
+        let mut buf = BytesMut::new(alloc);
+        self.marshal_to(&mut buf, checksum)?;
+        Ok(buf.freeze()?)
+    }
+
+    // After a refusal a part may stand there.
+    fn put<C: Checksum>(&self, buf: &mut BytesMut, checksum: &C) -> Result<()>
+        ensures ok { OnOk result (HavePacketText (parts_of self.now)
+            × (buf.new.items ≡ buf.old.items ++ packet_text (C.sum checksum.now) (parts_of self.now))) }
+        ensures fits { OnOk result (FitsParts (parts_of self.now)) }
+        ensures sum_fits { OnOk result (C.sum checksum.now
+            (head_of (parts_of self.now) ++ four_zeroes ++ body_of (parts_of self.now).chunks) < 2 ^ 32) }
+        ensures kept { take (length buf.old.items) buf.new.items ≡ buf.old.items }
+        ensures refused { IfErr result (λ e.
+            ((e ≡ ErrLengthTooLarge) × (HavePacketText (parts_of self.now) → ⊥))
+            ⊎ ((e ≡ ErrOutOfMemory)
+            × (buf.old.spare < length (packet_text (C.sum checksum.now) (parts_of self.now))))) }
+    {
+        let start = buf.len();
+        put_head(buf, self.common_header)?;
+        put_chunks(buf, &self.chunks)?;
+        store_checksum(buf, start, checksum);
+        Ok(())
+    }
+}
