@@ -10,6 +10,7 @@ use sctp_base::error::{Error, Result};
 use sctp_chunks::chunk::chunk_payload_data::{
     ChunkPayloadData, PayloadProtocolIdentifier, ReliabilityType,
 };
+use sctp_chunks::chunk::error_cause::ErrorCauseCode;
 use sctp_queues::reassembly_queue::ReassemblyQueue;
 use std::alloc::Global;
 use std::marker::Model;
@@ -527,4 +528,50 @@ pub enum StreamResetError {
     Denied,
     /// A protocol error, or no answer after the last repetition.
     Failed,
+}
+
+/// What happened to a stream.
+#[derive(Debug, Drop, PartialEq, Eq)]
+#[non_exhaustive]
+pub enum StreamEvent {
+    /// Streams were opened.
+    Opened {
+        id: StreamId,
+    },
+    /// Data or an error waits to be read.
+    Readable {
+        id: StreamId,
+    },
+    /// A write that was refused for room may be tried again.
+    Writable {
+        id: StreamId,
+    },
+    /// A reset ended the stream: nothing more can be read or written (RFC 6525 5).
+    Finished {
+        id: StreamId,
+    },
+    /// A reset succeeded: the number may be used again.
+    ResetComplete {
+        id: StreamId,
+    },
+    /// A reset failed: the number stays taken.
+    ResetFailed {
+        id: StreamId,
+        reason: StreamResetError,
+    },
+    /// The peer asked to stop sending.
+    Stopped {
+        id: StreamId,
+        error_code: ErrorCauseCode,
+    },
+    /// Further streams may be opened.
+    Available,
+    /// The buffered amount fell to the low threshold.
+    BufferedAmountLow {
+        id: StreamId,
+    },
+    /// The buffered amount rose to the high threshold.
+    BufferedAmountHigh {
+        id: StreamId,
+    },
 }
