@@ -4,3 +4,4 @@ pub mod Packets
 pub mod Runs
 pub mod Sound
 pub mod Ties
+pub mod PieceLemmas

@@ -3,3 +3,7 @@ pub mod History
 pub mod Steps
 pub mod Tied
 pub mod World
+pub mod Stats
+pub mod State
+pub mod Stream
+pub mod Lending

@@ -8,3 +8,7 @@ pub mod link;
 pub mod message;
 #[cfg(test)]
 mod tests;
+//! Streams: what a stream keeps, and how writes become fragments.
+#![tactic(auto)]
+
+pub mod stream;

@@ -8,3 +8,9 @@ pub mod Whole
 pub mod Sendable
 pub mod Outbounds
 pub mod Abandoned
+pub mod ListLemmas
+pub mod SetLemmas
+pub mod RunLemmas
+pub mod SizeLemmas
+pub mod PieceLemmas
+pub mod CountLemmas

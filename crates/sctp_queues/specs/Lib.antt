@@ -7,3 +7,11 @@ pub mod Blocks
 pub mod Pending
 pub mod Whole
 pub mod Outbound
+pub mod Sets
+pub mod Runs
+pub mod Around
+pub mod Loose
+pub mod Sizes
+pub mod Pieces
+pub mod Reassembly
+pub mod Bounded

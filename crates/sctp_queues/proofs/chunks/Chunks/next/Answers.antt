@@ -1,0 +1,23 @@
+use Rattle.std.proofs.Common.{◌≡◌, ◌≤◌, ◌++◌, length, length-take-le, take, sym, ap, ap₂, subst, ◌∙◌, ◌<◌}
+use Rattle.std.specs.List.{concat}
+use Rattle.sctp_queues.specs.Pieces.{left_of, left_after}
+use Rattle.sctp_queues.proofs.PieceLemmas.{pieces_join, piece_full, pieces_end}
+use Rattle.sctp_queues.proofs.chunks.Chunks.next.Goals as goal
+
+pub returns-clause-joins : goal.returns-clause-joins
+returns-clause-joins c =
+    let left = rw c.fragments-chunks.ensures at c.in_ok-index.ensures.left in
+    let given = rw c.fragments-chunks.ensures at c.in_ok-index.ensures.bytes in
+    ap₂ (λ a b. a ++ concat b) (c.in_ok-bytes.ensures.ok ∙ given) left ∙ pieces_join c.args.max_length (left_of c.args.self.now)
+
+pub returns-clause-asked : goal.returns-clause-asked
+returns-clause-asked c lt =
+    let old = left_of c.args.self.now in
+    let left = rw c.fragments-chunks.ensures at c.in_ok-index.ensures.left in
+    let given = rw c.fragments-chunks.ensures at c.in_ok-index.ensures.bytes in
+    ap length (c.in_ok-bytes.ensures.ok ∙ given) ∙ length-take-le c.args.max_length (concat old) (piece_full c.args.max_length old (subst (λ xs. 0 < length xs) left lt))
+
+pub returns-clause-ends : goal.returns-clause-ends
+returns-clause-ends c le =
+    let left = rw c.fragments-chunks.ensures at c.in_ok-index.ensures.left in
+    left ∙ pieces_end c.args.max_length (left_of c.args.self.now) le

@@ -1,0 +1,13 @@
+use Rattle.std.proofs.Common.{◌≡◌, ◌≤◌, false, length, drop}
+use Rattle.std.specs.List.{list_any}
+use Rattle.sctp_queues.specs.Sets.{has_tsn}
+use Rattle.sctp_queues.proofs.sizes.last_place.Given as goal
+
+abbrev pub invariant-loop-end : goal.invariant-loop-end
+invariant-loop-end l = record {
+  in_range : l.end ≤ length l.chunks;
+  absent : list_any (has_tsn l.tsn) (drop l.end l.chunks) ≡ false;
+}
+
+abbrev pub decreases-loop-end : goal.decreases-loop-end
+decreases-loop-end l = l.end

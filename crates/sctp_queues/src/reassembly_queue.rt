@@ -1,0 +1,498 @@
+//! Fragments that become messages again (RFC 4960 6.5, 6.6).
+
+ghost use Rattle.std.specs.Prelude.{◌≡◌, ℕ, ◌==◌, nat_lt, ◌+◌, ◌-◌, ◌%◌, ◌^◌, ◌<◌, ◌≤◌, [], ◌∷◌, length, min, OnOk, OnErr, true, false, IfOk, IfErr, IfSome, IfNone, IsOk, IsTrue, Ok, Err, MatchOption, not, is_some, option_map, slice_index_or, if◌then◌else◌};
+ghost use Rattle.std.specs.List.{list_any, position_or_len};
+ghost use Rattle.sctp_lists.specs.Serial.{comes_before16, at_or_before, at_or_before16};
+ghost use Rattle.sctp_lists.specs.Lists.{those};
+ghost use Rattle.sctp_queues.specs.Reassembly.{is_passed, set_bytes, set_of_run};
+ghost use Rattle.sctp_queues.specs.Sets.{bytes_of, has_ssn, chunks_of_ssn, sets_with, answer_with, new_set};
+ghost use Rattle.sctp_queues.specs.Sizes.{projected_size, size_before, size_after};
+ghost use Rattle.sctp_queues.specs.Runs.{HasNoRun};
+ghost use Rattle.sctp_queues.specs.Bounded.{bounded_forwarded, applicable, is_upto};
+ghost use Rattle.sctp_base.specs.declared.error.Error.TheVariants.{ErrOutOfMemory, ErrInboundPacketTooLarge};
+
+use crate::chunks::{Chunks, Fragments, bytes_in};
+use crate::pool::Pool;
+use crate::sizes::{size_after, size_before};
+use crate::skips::{discard, earliest_from, goal, has_settled, latest_passable};
+use sctp_base::error::{Error, Result};
+use sctp_base::util::{sna16gt, sna16lt, sna16lte, sna32lte};
+use sctp_chunks::chunk::chunk_payload_data::{ChunkPayloadData, PayloadProtocolIdentifier};
+use std::alloc::Global;
+use std::collections::VecDeque;
+use std::marker::Model;
+
+/// What came of the messages of one stream and was not read.
+#[derive(Drop)]
+pub struct ReassemblyQueue {
+    alloc: Global,
+    si: u16,
+    next_ssn: u16,
+    ordered: VecDeque<Fragments>,
+    unordered: VecDeque<Fragments>,
+    unordered_chunks: Pool,
+    n_bytes: usize,
+    max_message_size: u32,
+}
+
+impl Model for ReassemblyQueue {
+    ghost use Rattle.sctp_queues.specs.Reassembly.{ReassemblyState};
+
+    ghost Value = { ReassemblyState };
+
+    ghost view = { λ q. record {
+      si = q.si;
+      held = record { next_ssn = q.next_ssn; ordered = q.ordered.items; unordered = q.unordered.items; loose = q.unordered_chunks };
+      bytes = q.n_bytes;
+      max_message_size = q.max_message_size;
+    } };
+}
+
+impl ReassemblyQueue {
+    ghost use Rattle.sctp_queues.specs.Reassembly.{ReassemblyState, message_read, rest_read, state_read, at_start, ordered_forwarded, unordered_forwarded, is_too_large, ordered_pushed, is_whole_with, PushesUnordered, GivesRun, IsCounted, held_bytes, complete_sets};
+
+    /// An empty queue of the stream `si`, which takes messages of at most `max_message_size` bytes.
+    pub fn new(alloc: Global, si: u16, max_message_size: u32) -> Self
+        ensures { result ≡ record { si = si; held = record { next_ssn = 0; ordered = []; unordered = []; loose = [] }; bytes = 0; max_message_size = max_message_size } }
+    {
+        ReassemblyQueue {
+            alloc,
+            si,
+            next_ssn: 0,
+            ordered: VecDeque::new(alloc),
+            unordered: VecDeque::new(alloc),
+            unordered_chunks: Pool::new(alloc),
+            n_bytes: 0,
+            max_message_size,
+        }
+    }
+
+    /// An equal queue, which shares its bytes. Refuses only for memory.
+    pub fn try_clone(&self, alloc: Global) -> Result<Self>
+        ensures ok { IfOk result (λ queue. queue ≡ self.now) }
+        ensures memory { IfErr result (λ e. e ≡ ErrOutOfMemory) }
+    {
+        Ok(ReassemblyQueue {
+            alloc,
+            si: self.si,
+            next_ssn: self.next_ssn,
+            ordered: clone_sets(alloc, &self.ordered)?,
+            unordered: clone_sets(alloc, &self.unordered)?,
+            unordered_chunks: self.unordered_chunks.try_clone(alloc)?,
+            n_bytes: self.n_bytes,
+            max_message_size: self.max_message_size,
+        })
+    }
+
+    pub fn si(&self) -> u16
+        ensures { result ≡ self.now.si }
+    {
+        self.si
+    }
+
+    /// The stream sequence number expected next.
+    pub fn next_ssn(&self) -> u16
+        ensures { result ≡ self.now.held.next_ssn }
+    {
+        self.next_ssn
+    }
+
+    /// The sets of ordered messages.
+    pub fn ordered(&self) -> &VecDeque<Fragments>
+        ensures { result.now.items ≡ self.now.held.ordered }
+    {
+        &self.ordered
+    }
+
+    /// The whole unordered messages.
+    pub fn unordered(&self) -> &VecDeque<Fragments>
+        ensures { result.now.items ≡ self.now.held.unordered }
+    {
+        &self.unordered
+    }
+
+    /// The fragments of unordered messages that are not whole.
+    pub fn unordered_chunks(&self) -> &[ChunkPayloadData]
+        ensures { result.now ≡ self.now.held.loose }
+    {
+        self.unordered_chunks.as_slice()
+    }
+
+    pub fn max_message_size(&self) -> u32
+        ensures { result ≡ self.now.max_message_size }
+    {
+        self.max_message_size
+    }
+
+    /// The byte count.
+    pub fn get_num_bytes(&self) -> usize
+        ensures { result ≡ self.now.bytes }
+    {
+        self.n_bytes
+    }
+
+    /// Lowers the byte count, which stops at 0.
+    pub fn subtract_num_bytes(&mut self, n_bytes: usize)
+        ensures { self.new ≡ record self.old { bytes = self.old.bytes - n_bytes } }
+    {
+        self.n_bytes = self.n_bytes.saturating_sub(n_bytes);
+    }
+
+    /// Takes a chunk, and says whether a message became whole by it.
+    ///
+    /// A chunk of another stream, an ordered one before the next number and one whose TSN is in its
+    /// set are not kept. ErrInboundPacketTooLarge: its message would be longer than
+    /// `max_message_size`; ErrOutOfMemory. The byte count grows up to the greatest usize.
+    pub fn push(&mut self, chunk: ChunkPayloadData) -> Result<bool>
+        ensures other_stream { (chunk.stream_identifier == self.old.si) ≡ false → (result ≡ Ok false) × (self.new ≡ self.old) }
+        ensures ordered { (chunk.stream_identifier == self.old.si) ≡ true → chunk.unordered ≡ false → IfOk result (λ whole. (self.new ≡ ordered_pushed chunk self.old) × (whole ≡ is_whole_with chunk self.old.held)) }
+        ensures unordered { (chunk.stream_identifier == self.old.si) ≡ true → chunk.unordered ≡ true → IfOk result (λ whole. PushesUnordered chunk self.old self.new whole) }
+        ensures fits { IsOk result → is_too_large chunk self.old ≡ false }
+        ensures refused { IfErr result (λ e. e ≡ (if is_too_large chunk self.old then ErrInboundPacketTooLarge else ErrOutOfMemory)) }
+        ensures err { OnErr result (self.new ≡ self.old) }
+        ensures counted { held_bytes self.old.held + length chunk.user_data < 2 ^ 64 → IsCounted self.old → IsCounted self.new }
+    {
+        if chunk.stream_identifier != self.si {
+            return Ok(false);
+        }
+        if self.is_too_large(&chunk) {
+            return Err(Error::ErrInboundPacketTooLarge);
+        }
+        if chunk.unordered {
+            self.push_unordered(chunk)
+        } else {
+            self.push_ordered(chunk)
+        }
+    }
+
+    // Whether the message of the chunk would be too long with it.
+    fn is_too_large(&self, chunk: &ChunkPayloadData) -> bool
+        ensures { result ≡ nat_lt self.now.max_message_size (projected_size chunk.now self.now.held.ordered self.now.held.loose) }
+    {
+        let projected = if chunk.unordered {
+            let loose = self.unordered_chunks.as_slice();
+            unordered_size(chunk, loose)
+        } else {
+            ordered_size(chunk, &self.ordered)
+        };
+        projected > self.max_message_size as usize
+    }
+
+    fn push_ordered(&mut self, chunk: ChunkPayloadData) -> Result<bool>
+        ensures ok { OnOk result (self.new ≡ ordered_pushed chunk self.old) }
+        ensures answer { IfOk result (λ whole. whole ≡ is_whole_with chunk self.old.held) }
+        ensures err { OnErr result (self.new ≡ self.old) }
+        ensures memory { IfErr result (λ e. e ≡ ErrOutOfMemory) }
+    {
+        if sna16lt(chunk.stream_sequence_number, self.next_ssn) {
+            return Ok(false);
+        }
+        let len = chunk.user_data.len();
+        let Some(whole) = put_ordered(&mut self.ordered, self.alloc, chunk)? else {
+            return Ok(false);
+        };
+        self.n_bytes = self.n_bytes.saturating_add(len);
+        Ok(whole)
+    }
+
+    fn push_unordered(&mut self, chunk: ChunkPayloadData) -> Result<bool>
+        ensures ok { IfOk result (λ whole. PushesUnordered chunk self.old self.new whole) }
+        ensures err { OnErr result (self.new ≡ self.old) }
+        ensures memory { IfErr result (λ e. e ≡ ErrOutOfMemory) }
+    {
+        let len = chunk.user_data.len();
+        self.unordered.reserve(1)?;
+        let run = self.unordered_chunks.put(self.alloc, chunk)?;
+        self.n_bytes = self.n_bytes.saturating_add(len);
+        match run {
+            Some(chunks) => {
+                self.unordered.push_back_reserved(set_of_run(chunks));
+                Ok(true)
+            }
+            None => Ok(false),
+        }
+    }
+
+    /// Takes the run that ends earliest out of the loose fragments, if there is one. The byte count stays.
+    pub fn find_complete_unordered_chunk_set(&mut self, alloc: Global) -> Result<Option<Chunks>>
+        ensures ok { IfOk result (λ set. MatchOption set (HasNoRun self.old.held.loose × (self.new ≡ self.old)) (λ chunks. GivesRun self.old self.new chunks.set × (chunks ≡ at_start chunks.set))) }
+        ensures err { OnErr result (self.new ≡ self.old) }
+        ensures memory { IfErr result (λ e. e ≡ ErrOutOfMemory) }
+    {
+        let Some(chunks) = self.unordered_chunks.take_run(alloc)? else {
+            return Ok(None);
+        };
+        Ok(Some(Chunks::of(set_of_run(chunks))))
+    }
+
+    /// Whether `read` would give a message.
+    pub fn is_readable(&self) -> bool
+        ensures { result ≡ is_some (message_read self.now.held) }
+    {
+        if !self.unordered.is_empty() {
+            return true;
+        }
+        match self.ordered.front() {
+            Some(set) => set.is_complete() && sna16lte(set.ssn(), self.next_ssn),
+            None => false,
+        }
+    }
+
+    /// Takes out the first whole unordered message, else the front ordered one where it is whole
+    /// and its number is not after the next.
+    pub fn read(&mut self) -> Option<Chunks>
+        ensures message { result ≡ option_map at_start (message_read self.old.held) }
+        ensures rest { self.new ≡ state_read self.old }
+        ensures counted { IsCounted self.old → IsCounted self.new }
+    {
+        let set = self.take_message()?;
+        self.release(set.len());
+        Some(Chunks::of(set))
+    }
+
+    // Lowers the byte count by a number that was counted up to the greatest usize.
+    fn release(&mut self, n_bytes: usize)
+        ensures { (n : ℕ) → n_bytes ≡ min n (2 ^ 64 - 1) → self.new ≡ record self.old { bytes = self.old.bytes - n } }
+    {
+        self.n_bytes = self.n_bytes.saturating_sub(n_bytes);
+    }
+
+    fn take_message(&mut self) -> Option<Fragments>
+        ensures message { result ≡ message_read self.old.held }
+        ensures rest { self.new ≡ record self.old { held = rest_read self.old.held } }
+    {
+        if let Some(set) = self.unordered.pop_front() {
+            return Some(set);
+        }
+        let set = self.ordered.front()?;
+        if !set.is_complete() || !sna16lte(set.ssn(), self.next_ssn) {
+            return None;
+        }
+        let set = self.ordered.pop_front()?;
+        if set.ssn() == self.next_ssn {
+            self.next_ssn = self.next_ssn.wrapping_add(1);
+        }
+        Some(set)
+    }
+
+    /// Gives up the incomplete sets at or before the number, and waits for none of them (RFC 3758 3.6).
+    pub fn forward_tsn_for_ordered(&mut self, last_ssn: u16)
+        ensures value { self.new ≡ ordered_forwarded last_ssn self.old }
+        ensures counted { IsCounted self.old → IsCounted self.new }
+        ensures complete { complete_sets self.new.held ≡ complete_sets self.old.held }
+    {
+        self.next_ssn = ssn_past(self.next_ssn, last_ssn);
+        let gone = discard(&mut self.ordered, last_ssn, None);
+        self.release(gone);
+    }
+
+    /// Gives up the incomplete sets at or before the number that miss a TSN at or before the given
+    /// one, and waits for none of them, but stops before the first set that it leaves alone.
+    pub fn forward_tsn_for_ordered_bounded(&mut self, last_ssn: u16, new_cumulative_tsn: u32)
+        ensures value { self.new ≡ bounded_forwarded last_ssn new_cumulative_tsn self.old }
+        ensures counted { IsCounted self.old → IsCounted self.new }
+        ensures complete { complete_sets self.new.held ≡ complete_sets self.old.held }
+    {
+        let goal = goal(&self.ordered, last_ssn, new_cumulative_tsn);
+        self.next_ssn = ssn_upto(self.next_ssn, goal);
+        let gone = discard(&mut self.ordered, last_ssn, Some(new_cumulative_tsn));
+        self.release(gone);
+    }
+
+    /// The greatest number, at most `last_ssn`, up to which a bounded skip may go now, if any.
+    pub fn applicable_forward_tsn_for_ordered_bounded(
+        &self,
+        last_ssn: u16,
+        new_cumulative_tsn: u32,
+        peer_last_tsn: u32,
+    ) -> Option<u16>
+        ensures { result ≡ applicable last_ssn new_cumulative_tsn peer_last_tsn self.now.held }
+    {
+        if sna16gt(self.next_ssn, last_ssn)
+            || has_settled(&self.ordered, self.next_ssn, last_ssn, new_cumulative_tsn)
+        {
+            return Some(last_ssn);
+        }
+        let first = earliest_from(&self.ordered, last_ssn);
+        if is_upto(first, peer_last_tsn) {
+            return Some(last_ssn);
+        }
+        latest_passable(
+            &self.ordered,
+            self.next_ssn,
+            last_ssn,
+            new_cumulative_tsn,
+            peer_last_tsn,
+        )
+    }
+
+    /// Drops the loose fragments up to the first that is after the TSN (RFC 3758 3.6).
+    pub fn forward_tsn_for_unordered(&mut self, new_cumulative_tsn: u32)
+        ensures value { self.new ≡ unordered_forwarded new_cumulative_tsn self.old }
+        ensures counted { IsCounted self.old → IsCounted self.new }
+    {
+        let count = front_upto(self.unordered_chunks.as_slice(), new_cumulative_tsn);
+        let gone = bytes_in(&self.unordered_chunks.as_slice()[..count]);
+        self.unordered_chunks.drop_front(count);
+        self.release(gone);
+    }
+}
+
+// Equal sets, which share their bytes.
+fn clone_sets(alloc: Global, sets: &VecDeque<Fragments>) -> Result<VecDeque<Fragments>>
+    ensures ok { IfOk result (λ copies. copies.items ≡ sets.now.items) }
+    ensures memory { IfErr result (λ e. e ≡ ErrOutOfMemory) }
+{
+    let mut copies = VecDeque::new(alloc);
+    for place in 0..sets.len() {
+        copies.push_back(sets[place].try_clone(alloc)?)?;
+    }
+    Ok(copies)
+}
+
+// A whole message of these fragments.
+fn set_of_run(chunks: Vec<ChunkPayloadData>) -> Fragments
+    ensures { result ≡ set_of_run chunks.items }
+{
+    let ppi = match chunks.first() {
+        Some(chunk) => chunk.payload_type,
+        None => PayloadProtocolIdentifier::Unknown,
+    };
+    Fragments::new(0, ppi, chunks)
+}
+
+// How long the message of an unordered chunk would be with it, up to the greatest number.
+fn unordered_size(chunk: &ChunkPayloadData, loose: &[ChunkPayloadData]) -> usize
+    ensures { result ≡ min (size_before chunk.now loose.now + length chunk.now.user_data + size_after chunk.now loose.now) (2 ^ 64 - 1) }
+{
+    size_before(chunk, loose)
+        .saturating_add(chunk.user_data.len())
+        .saturating_add(size_after(chunk, loose))
+}
+
+// How long the message of an ordered chunk would be with it, up to the greatest number.
+fn ordered_size(chunk: &ChunkPayloadData, sets: &VecDeque<Fragments>) -> usize
+    ensures { result ≡ min (bytes_of (chunks_of_ssn chunk.now.stream_sequence_number sets.now.items) + length chunk.now.user_data) (2 ^ 64 - 1) }
+{
+    bytes_there(sets, chunk.stream_sequence_number).saturating_add(chunk.user_data.len())
+}
+
+// The bytes of the first set of a number, up to the greatest number.
+fn bytes_there(sets: &VecDeque<Fragments>, ssn: u16) -> usize
+    ensures { result ≡ min (bytes_of (chunks_of_ssn ssn sets.now.items)) (2 ^ 64 - 1) }
+{
+    match set_place(sets, ssn) {
+        Some(place) => sets[place].len(),
+        None => 0,
+    }
+}
+
+// Puts a chunk into the first set of its number, or into a new one at its place.
+fn put_ordered(
+    sets: &mut VecDeque<Fragments>,
+    alloc: Global,
+    chunk: ChunkPayloadData,
+) -> Result<Option<bool>>
+    ensures ok { OnOk result (sets.new.items ≡ sets_with chunk sets.old.items) }
+    ensures answer { IfOk result (λ whole. whole ≡ answer_with chunk (chunks_of_ssn chunk.stream_sequence_number sets.old.items)) }
+    ensures err { OnErr result (sets.new.items ≡ sets.old.items) }
+    ensures memory { IfErr result (λ e. e ≡ ErrOutOfMemory) }
+{
+    match set_place(sets, chunk.stream_sequence_number) {
+        Some(place) => {
+            let set = &mut sets[place];
+            let whole = set.put(chunk)?;
+            Ok(whole)
+        }
+        None => {
+            let place = set_gap(sets, chunk.stream_sequence_number);
+            let set = new_set(alloc, chunk)?;
+            let whole = set.is_complete();
+            sets.insert(place, set)?;
+            Ok(Some(whole))
+        }
+    }
+}
+
+// A set that a chunk alone makes.
+fn new_set(alloc: Global, chunk: ChunkPayloadData) -> Result<Fragments>
+    ensures ok { IfOk result (λ set. set ≡ new_set chunk) }
+    ensures memory { IfErr result (λ e. e ≡ ErrOutOfMemory) }
+{
+    let ssn = chunk.stream_sequence_number;
+    let ppi = chunk.payload_type;
+    let mut chunks = Vec::new(alloc);
+    chunks.push(chunk)?;
+    Ok(Fragments::new(ssn, ppi, chunks))
+}
+
+// The place of the first set of a number.
+fn set_place(sets: &VecDeque<Fragments>, ssn: u16) -> Option<usize>
+    ensures found { IfSome result (λ place. (place ≡ position_or_len (has_ssn ssn) sets.now.items) × (place < length sets.now.items)) }
+    ensures absent { IfNone result (position_or_len (has_ssn ssn) sets.now.items ≡ length sets.now.items) }
+{
+    for place in 0..sets.len() {
+        if sets[place].ssn() == ssn {
+            return Some(place);
+        }
+    }
+    None
+}
+
+// Where a set of this number is put in: before the first that it comes before, or at the end.
+fn set_gap(sets: &VecDeque<Fragments>, ssn: u16) -> usize
+    ensures place { result ≡ position_or_len (λ s. comes_before16 ssn s.ssn) sets.now.items }
+    ensures in_range { result ≤ length sets.now.items }
+{
+    for place in 0..sets.len() {
+        if sna16lt(ssn, sets[place].ssn()) {
+            return place;
+        }
+    }
+    sets.len()
+}
+
+// The number expected next, once no message up to the other one is waited for.
+fn ssn_past(next_ssn: u16, last_ssn: u16) -> u16
+    ensures { result ≡ (if at_or_before16 next_ssn last_ssn then (last_ssn + 1) % 2 ^ 16 else next_ssn) }
+{
+    if sna16lte(next_ssn, last_ssn) {
+        last_ssn.wrapping_add(1)
+    } else {
+        next_ssn
+    }
+}
+
+// The number expected next, moved forward to the goal.
+fn ssn_upto(next_ssn: u16, goal: u16) -> u16
+    ensures { result ≡ (if comes_before16 next_ssn goal then goal else next_ssn) }
+{
+    if sna16lt(next_ssn, goal) {
+        goal
+    } else {
+        next_ssn
+    }
+}
+
+// Whether there is a TSN, at or before the other one.
+fn is_upto(tsn: Option<u32>, peer_last_tsn: u32) -> bool
+    ensures { result ≡ is_upto peer_last_tsn tsn }
+{
+    match tsn {
+        Some(tsn) => sna32lte(tsn, peer_last_tsn),
+        None => false,
+    }
+}
+
+// How many loose fragments stand before the first that is after the number.
+fn front_upto(chunks: &[ChunkPayloadData], tsn: u32) -> usize
+    ensures place { result ≡ position_or_len (λ c. not (at_or_before c.tsn tsn)) chunks.now }
+    ensures in_range { result ≤ length chunks.now }
+{
+    for (place, chunk) in chunks.iter().enumerate() {
+        if !sna32lte(chunk.tsn, tsn) {
+            return place;
+        }
+    }
+    chunks.len()
+}
