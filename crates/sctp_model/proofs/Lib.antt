@@ -1,0 +1,3 @@
+pub mod Shape
+pub mod Sender
+pub mod SenderSteps
