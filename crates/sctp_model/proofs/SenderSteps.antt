@@ -97,7 +97,7 @@ module _ (x : Shape) (n : ℕ) (m : Bool) where
   has-new k = ap (λ s. (s.message == k) && not s.is_end_mark) (slot-new x n m)
 
   -- a slot has the number of its fragment
-  number-slotted : Sender x → (p : ℕ) → p < y.slots → (y.slot p).fragment ≡ length (kept (has y (y.slot p).message) 0 p)
+  pub number-slotted : Sender x → (p : ℕ) → p < y.slots → (y.slot p).fragment ≡ length (kept (has y (y.slot p).message) 0 p)
   number-slotted s p lt = by_last p x.slots lt
       (λ l. ap (λ z. z.fragment) (slot-old x n p m l) ∙ s.number p l ∙ sym (ap (λ z. length (kept (has y z.message) 0 p)) (slot-old x n p m l) ∙ upto (x.slot p).message p (omega arith)))
       (λ e. let q : (y.slot p).fragment ≡ sent x n = ap (λ r. (y.slot r).fragment) e ∙ ap (λ z. z.fragment) (slot-new x n m) in
@@ -106,7 +106,7 @@ module _ (x : Shape) (n : ℕ) (m : Bool) where
       upto : (k p : ℕ) → p ≤ x.slots → length (kept (has y k) 0 p) ≡ length (kept (has x k) 0 p)
       upto k p le = ap length (kept-same (has y k) (has x k) 0 p (λ j a b. has-old k j (omega arith)))
 
-  made-slotted : Sender x → n < x.count → (p : ℕ) → p < y.slots → (y.slot p).message < y.count
+  pub made-slotted : Sender x → n < x.count → (p : ℕ) → p < y.slots → (y.slot p).message < y.count
   made-slotted s lt p l = by_last p x.slots l
       (λ o. rw (slot-old x n p m o) (s.made p o))
       (λ e. rw (ap (λ r. (y.slot r).message) e ∙ ap (λ z. z.message) (slot-new x n m)) lt)
@@ -118,10 +118,10 @@ here x n = has-new x n false n ∙ and (n == n) (not false) (same-yes n) refl
 sent-here : (x : Shape) (n : ℕ) → sent (slotted x n false) n ≡ sent x n + 1
 sent-here x n = sent-slotted x n n false ∙ (let e : (n == n) ≡ true = same-yes n in rw e refl)
 
-abbrev Next : Shape → ℕ → Type 0
+abbrev pub Next : Shape → ℕ → Type 0
 Next y p = (q : ℕ) × (p ≡ q + 1) × (has y (y.slot p).message q ≡ true)
 
-abbrev Last : Shape → ℕ → Type 0
+abbrev pub Last : Shape → ℕ → Type 0
 Last y k = (q : ℕ) × (y.slots ≡ q + 1) × (has y k q ≡ true)
 
 abbrev pub marks_due : Shape → ℕ → ℕ

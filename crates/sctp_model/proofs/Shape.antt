@@ -1,7 +1,7 @@
 -- What the sender's laws speak of: messages and slots without the flags that the receiver and the network set.
 use Rattle.std.proofs.Common.{◌≡◌, ℕ, zero, suc, ◌+◌, ◌-◌, ◌<◌, ◌≤◌, Bool, true, false, List, [], ◌∷◌, ◌++◌, length, map, get_or, Option, Some, None, refl, ap, sym, ◌∙◌, inl, inr, arith}
 use Rattle.std.proofs.Math.Path.{fun_ext}
-use Rattle.std.specs.Prelude.{◌⊎◌, if◌then◌else◌, ◌==◌, ◌&&◌, not, nat_lt}
+use Rattle.std.specs.Prelude.{◌⊎◌, if◌then◌else◌, ◌==◌, ◌&&◌, ◌||◌, not, nat_lt}
 use Rattle.std.proofs.lemmas.Bool.Decides.{nat_tests}
 use Rattle.sctp_lists.specs.Kept.{kept, first_of, or_else}
 use Rattle.sctp_lists.specs.Lists.{changed, each_numbered, pieces}
@@ -96,3 +96,11 @@ flagged x n f = record x { message = λ k. if k == n then f (x.message k) else x
 -- one more message
 abbrev pub written : Shape → MessagePart → Shape
 written x m = record x { count = x.count + 1; message = λ k. if k == x.count then m else x.message k }
+
+-- message n abandoned
+abbrev pub abandoned_at : Shape → ℕ → Shape
+abandoned_at x n = record x { message = λ k. record (x.message k) { abandoned = (k == n) || (x.message k).abandoned } }
+
+-- message n expired
+abbrev pub expired_at : Shape → ℕ → Shape
+expired_at x n = record x { message = λ k. record (x.message k) { expired = (k == n) || (x.message k).expired } }
