@@ -5,3 +5,5 @@ pub mod SenderEnds
 pub mod Shapes
 pub mod Fronts
 pub mod SenderRun
+pub mod Totals
+pub mod Sends

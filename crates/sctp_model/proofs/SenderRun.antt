@@ -25,6 +25,7 @@ use Rattle.sctp_model.proofs.Sender.{Sender}
 use Rattle.sctp_model.proofs.SenderSteps.{by_last, sender-takes, of-half, sent-grows, of-has}
 use Rattle.sctp_model.proofs.SenderEnds.{sender-marked, sender-abandoned, sender-expired, sender-written, message-old, message-new, parts-old}
 use Rattle.sctp_model.proofs.Shapes
+use Rattle.sctp_model.proofs.Totals.{total-append, total-kept_same}
 use Rattle.sctp_model.proofs.Fronts.{front-takes, half-made, slot-sent, of-unsent}
 
 -- ## The invariant
@@ -215,18 +216,6 @@ found s (q ∷ rs) r e = step (q.stream == s) refl e (λ h. found s rs r h)
     step : (b : Bool) → (q.stream == s) ≡ b → (if b then Some q else find (λ r. r.stream == s) rs) ≡ Some r → (find (λ r. r.stream == s) rs ≡ Some r → r.stream ≡ s) → r.stream ≡ s
     step true h e ih = let z : q ≡ r = cc in let same : q.stream ≡ s = grind (arith, nat_tests) in ap (λ y. y.stream) (sym z) ∙ same
     step false h e ih = ih e
-
-pub total-append : (f : ℕ → ℕ) (xs ys : List ℕ) → total_over f (xs ++ ys) ≡ total_over f xs + total_over f ys
-total-append f [] ys = omega arith
-total-append f (x ∷ xs) ys = omega (arith, total-append f xs ys)
-
-pub total-kept_same : (f g : ℕ → ℕ) (p : ℕ → Bool) (from count : ℕ) → ((k : ℕ) → from ≤ k → k < from + count → f k ≡ g k) → total_over f (kept p from count) ≡ total_over g (kept p from count)
-total-kept_same f g p from zero same = refl
-total-kept_same f g p from (suc count) same = step (p from) (same from (omega arith) (omega arith)) (total-kept_same f g p (from + 1) count (λ k a b. same k (omega arith) (omega arith)))
-  where
-    step : (b : Bool) → f from ≡ g from → total_over f (kept p (from + 1) count) ≡ total_over g (kept p (from + 1) count) → total_over f (if b then from ∷ kept p (from + 1) count else kept p (from + 1) count) ≡ total_over g (if b then from ∷ kept p (from + 1) count else kept p (from + 1) count)
-    step true e ih = omega (arith, e, ih)
-    step false e ih = ih
 
 pub accepted-written : (x : Shape) (m : MessagePart) → accepted_of (written x m) ≡ accepted_of x + parts (written x m) x.count
 accepted-written x m =

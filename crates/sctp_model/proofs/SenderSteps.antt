@@ -112,10 +112,10 @@ module _ (x : Shape) (n : ℕ) (m : Bool) where
       (λ e. rw (ap (λ r. (y.slot r).message) e ∙ ap (λ z. z.message) (slot-new x n m)) lt)
 
 -- the new slot is the last of its message
-here : (x : Shape) (n : ℕ) → has (slotted x n false) n x.slots ≡ true
+pub here : (x : Shape) (n : ℕ) → has (slotted x n false) n x.slots ≡ true
 here x n = has-new x n false n ∙ and (n == n) (not false) (same-yes n) refl
 
-sent-here : (x : Shape) (n : ℕ) → sent (slotted x n false) n ≡ sent x n + 1
+pub sent-here : (x : Shape) (n : ℕ) → sent (slotted x n false) n ≡ sent x n + 1
 sent-here x n = sent-slotted x n n false ∙ (let e : (n == n) ≡ true = same-yes n in rw e refl)
 
 abbrev pub Next : Shape → ℕ → Type 0

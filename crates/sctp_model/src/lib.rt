@@ -2,3 +2,4 @@
 #![tactic(auto)]
 
 pub mod event;
+pub mod laws;
