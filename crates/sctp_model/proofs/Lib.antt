@@ -7,3 +7,4 @@ pub mod Fronts
 pub mod SenderRun
 pub mod Totals
 pub mod Sends
+pub mod Slots
