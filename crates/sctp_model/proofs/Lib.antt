@@ -8,3 +8,5 @@ pub mod SenderRun
 pub mod Totals
 pub mod Sends
 pub mod Slots
+pub mod Grows
+pub mod Moves

@@ -132,11 +132,11 @@ sent-abandoned w n k pos = step (Messages.is_half_sent w n)
     step true = omega (arith, pos, ap (λ y. sent y k) (Shapes.shape-slot w n true), sent-grows (shape w) n true k)
     step false = pos
 
-abbrev AllSent : World → List ℕ → Type 0
+abbrev pub AllSent : World → List ℕ → Type 0
 AllSent w [] = Unit {0}
 AllSent w (n ∷ ns) = (0 < sent (shape w) n) × AllSent w ns
 
-sent-all : (w : World) (n : ℕ) (ns : List ℕ) → AllSent w ns → AllSent (Changes.abandoned w n) ns
+pub sent-all : (w : World) (n : ℕ) (ns : List ℕ) → AllSent w ns → AllSent (Changes.abandoned w n) ns
 sent-all w n [] a = tt
 sent-all w n (k ∷ ns) a = (sent-abandoned w n k a.0, sent-all w n ns a.1)
 
