@@ -123,18 +123,21 @@ front-none x e n lt = first (first_of (kept (half x) 0 x.count)) (first-kept (ha
     first None f e = second (f n lt) (first_of (kept (λ k. unsent x k && not (x.message k).ordered) 0 x.count)) (first-kept (λ k. unsent x k && not (x.message k).ordered) x.count) e
     first (Some k) f e = cc
 
--- a message with a slot was sent, in part at least
-pub slot-sent : (x : Shape) (p : ℕ) → Sender x → p < x.slots → 0 < sent x (x.slot p).message
-slot-sent x p s lt = step (x.slot p).is_end_mark refl
+-- an end mark is of an abandoned message
+pub mark-abandoned : (x : Shape) (p : ℕ) → Sender x → p < x.slots → (x.slot p).is_end_mark ≡ true → (x.message (x.slot p).message).abandoned ≡ true
+mark-abandoned x p s lt e =
+    let n = (x.slot p).message in
+    let some : 0 < length (kept (is_mark x n) 0 x.slots) = length-kept-positive (is_mark x n) p 0 x.slots (omega arith) (omega arith) (and ((x.slot p).message == n) (x.slot p).is_end_mark (same-yes n) e) in
+    abandoned (x.message n).abandoned (omega (arith, some, s.marks n (s.made p lt)))
   where
     abandoned : (b : Bool) → ◌<◌ 0 (if b && nat_lt (sent x (x.slot p).message) (parts x (x.slot p).message) then 1 else 0) → b ≡ true
     abandoned true h = refl
     abandoned false h = absurd (omega arith)
 
+-- a message with a slot was sent, in part at least
+pub slot-sent : (x : Shape) (p : ℕ) → Sender x → p < x.slots → 0 < sent x (x.slot p).message
+slot-sent x p s lt = step (x.slot p).is_end_mark refl
+  where
     step : (b : Bool) → (x.slot p).is_end_mark ≡ b → 0 < sent x (x.slot p).message
     step false e = sent-some x (x.slot p).message p lt (and ((x.slot p).message == (x.slot p).message) (not (x.slot p).is_end_mark) (same-yes (x.slot p).message) (ap not e))
-    step true e =
-        let n = (x.slot p).message in
-        let made = s.made p lt in
-        let some : 0 < length (kept (is_mark x n) 0 x.slots) = length-kept-positive (is_mark x n) p 0 x.slots (omega arith) (omega arith) (and ((x.slot p).message == n) (x.slot p).is_end_mark (same-yes n) e) in
-        s.abandoned_sent n made (abandoned (x.message n).abandoned (omega (arith, some, s.marks n made)))
+    step true e = s.abandoned_sent (x.slot p).message (s.made p lt) (mark-abandoned x p s lt e)

@@ -10,3 +10,4 @@ pub mod Sends
 pub mod Slots
 pub mod Grows
 pub mod Moves
+pub mod Network

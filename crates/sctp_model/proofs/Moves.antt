@@ -199,11 +199,11 @@ quiet-datagram w v d q = record {
 
 -- ## Sends and late messages
 
-record Reached (setup : Setup) (w v : World) : Type 0 where
-  sane : Sane setup v
-  quiet : Quiet w v
+pub record Reached (setup : Setup) (w v : World) : Type 0 where
+  pub sane : Sane setup v
+  pub quiet : Quiet w v
 
-reached-more : (setup : Setup) (w : World) → Sane setup w → (v : World) → Reached setup w v → Reached setup w (Changes.fragment_sent v)
+pub reached-more : (setup : Setup) (w : World) → Sane setup w → (v : World) → Reached setup w v → Reached setup w (Changes.fragment_sent v)
 reached-more setup w g v r = record { sane = sane-takes setup v r.sane; quiet = quiet-then setup w v (Changes.fragment_sent v) g r.quiet (quiet-takes setup v r.sane) }
 
 pub quiet-sent : (setup : Setup) (w : World) (now : ℕ) (o : Option ℕ) → Sane setup w → Quiet w (Changes.sent_from (Changes.started w now) o)

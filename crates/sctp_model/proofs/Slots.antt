@@ -86,7 +86,7 @@ at-most-one t from (suc count) h = step (t from) refl (at-most-one t (from + 1) 
 
 -- ## Slots
 
-beyond-slots : (w : World) (n p : ℕ) → length w.slots ≤ p → has (shape w) n p ≡ false
+pub beyond-slots : (w : World) (n p : ℕ) → length w.slots ≤ p → has (shape w) n p ≡ false
 beyond-slots w n p le = fails (has (shape w) n p) (λ h. not_both (sym (of-has (shape w) n p h).1 ∙ ap (λ s. s.is_end_mark) (get-beyond w.slots p Messages.no_slot le)))
 
 pub slots-row : (w : World) (n : ℕ) → Sender (shape w) → IsRow (has (shape w) n) (length w.slots)

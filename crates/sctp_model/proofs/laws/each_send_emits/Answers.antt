@@ -1,4 +1,5 @@
-use Rattle.sctp_model.proofs.Sends.{emits_where_pending, takes_pending}
+use Rattle.sctp_model.proofs.Sends.{emits_where_pending}
+use Rattle.sctp_model.proofs.Sends.{takes_pending}
 use Rattle.sctp_model.proofs.laws.each_send_emits.Goals as goal
 
 pub returns-clause-idle : goal.returns-clause-idle
