@@ -11,3 +11,7 @@ pub mod Slots
 pub mod Grows
 pub mod Moves
 pub mod Network
+pub mod Bytes
+pub mod Logged
+pub mod Few
+pub mod LoggedRun

@@ -233,7 +233,7 @@ network-more v = step (Messages.front v)
     step None = refl
     step (Some n) = refl
 
-same-network : (u : World) → (Changes.fragments_sent u).network ≡ u.network
+pub same-network : (u : World) → (Changes.fragments_sent u).network ≡ u.network
 same-network u = filled-keeps (λ v. v.network ≡ u.network) (λ v e. network-more v ∙ e) u.setup.limit (Changes.plus 12 (Changes.next_length u)) (Changes.fragment_sent u) (network-more u)
 
 fit-sent : (setup : Setup) (w : World) (now : ℕ) (o : Option ℕ) → Sane setup w → AllFit (shape w) w.network → AllFit (shape (Changes.sent_from (Changes.started w now) o)) (Changes.sent_from (Changes.started w now) o).network
@@ -295,26 +295,26 @@ fit-quiet w v s q e a = fit-kept w v s q.grows e a
 fit-same : (w v : World) → Sender (shape w) → Same w v → AllFit (shape w) w.network → AllFit (shape v) v.network
 fit-same w v s q a = fit-kept w v s (grows-same (shape w) (shape v) q.shape_is) q.network a
 
-network-abandoned : (w : World) (n : ℕ) → (Changes.abandoned w n).network ≡ w.network
+pub network-abandoned : (w : World) (n : ℕ) → (Changes.abandoned w n).network ≡ w.network
 network-abandoned w n = step (Messages.is_half_sent w n)
   where
     step : (b : Bool) → (Changes.message_changed (if b then Changes.with_slot w n true else w) n Changes.mark_abandoned).network ≡ w.network
     step true = refl
     step false = refl
 
-network-late : (ns : List ℕ) (w : World) → (fold Changes.abandoned w ns).network ≡ w.network
+pub network-late : (ns : List ℕ) (w : World) → (fold Changes.abandoned w ns).network ≡ w.network
 network-late [] w = refl
 network-late (n ∷ ns) w = network-late ns (Changes.abandoned w n) ∙ network-abandoned w n
 
-network-tail : (w : World) (o : Option ℕ) → (Changes.tail_abandoned w o).network ≡ w.network
+pub network-tail : (w : World) (o : Option ℕ) → (Changes.tail_abandoned w o).network ≡ w.network
 network-tail w None = refl
 network-tail w (Some n) = network-abandoned w n
 
-network-expired : (w : World) (o : Option ℕ) → (Changes.expired w o).network ≡ w.network
+pub network-expired : (w : World) (o : Option ℕ) → (Changes.expired w o).network ≡ w.network
 network-expired w None = refl
 network-expired w (Some n) = refl
 
-network-written : (w : World) (s : ℕ) (ppi : PayloadProtocolIdentifier) (bytes : List ℕ) → (Changes.wrote w s ppi bytes).network ≡ w.network
+pub network-written : (w : World) (s : ℕ) (ppi : PayloadProtocolIdentifier) (bytes : List ℕ) → (Changes.wrote w s ppi bytes).network ≡ w.network
 network-written w s ppi [] = refl
 network-written w s ppi (b ∷ bs) = refl
 

@@ -1,6 +1,6 @@
 //! What holds of every history of a link: laws, each the contract of a function that does nothing.
 
-ghost use Rattle.sctp_model.specs.Laws.{OnEveryRun, EmitsWherePending, TakesPending, SlotsInOrder, SlotsFollow, OneHalfSent, SentInTurn, IndexesLeaveNoGap, NoEndMarkIsSent, DatagramsStay};
+ghost use Rattle.sctp_model.specs.Laws.{OnEveryRun, EmitsWherePending, TakesPending, SlotsInOrder, SlotsFollow, OneHalfSent, SentInTurn, IndexesLeaveNoGap, NoEndMarkIsSent, DatagramsStay, Balances, NetworkIsMade, ArrivedIsNew, CumulativeIsSeen, ArrivalsAnswered};
 
 /// A Send answers Idle exactly where no fragment is pending; else its new datagram carries the pending fragments that it takes.
 pub fn each_send_emits()
@@ -17,4 +17,17 @@ pub fn slots_are_sound()
     ensures no_gap { OnEveryRun IndexesLeaveNoGap }
     ensures no_end_mark { OnEveryRun NoEndMarkIsSent }
     ensures stay { OnEveryRun DatagramsStay }
+{}
+
+/// Each written byte is pending, in flight or released, in all and on each stream; what was written is the sum over the writes, what was released the sum over the replies that tell of a release.
+pub fn bytes_balance()
+    ensures balance { OnEveryRun Balances }
+{}
+
+/// What the record has of arrivals is what the order of arrivals in the history says.
+pub fn arrivals_are_told()
+    ensures network { OnEveryRun NetworkIsMade }
+    ensures arrived { OnEveryRun ArrivedIsNew }
+    ensures cumulative { OnEveryRun CumulativeIsSeen }
+    ensures answered { OnEveryRun ArrivalsAnswered }
 {}
