@@ -15,3 +15,4 @@ pub mod Bytes
 pub mod Logged
 pub mod Few
 pub mod LoggedRun
+pub mod Acknowledged
