@@ -293,10 +293,10 @@ acks-quiet setup h w v q made a = record { slots = λ p lt. step p lt (cases_lt 
     step p lt (inr g) = q.fresh p g lt ∙ sym (fails (is_acknowledged_in setup h p) (λ e. absurd (omega (arith, made p e))))
 
 -- the receiver's events acknowledge nothing
-record AsAcknowledged (w v : World) : Type 0 where
-  slots : (p : ℕ) → (Messages.slot_at v p).acknowledged ≡ (Messages.slot_at w p).acknowledged
-  count : length v.slots ≡ length w.slots
-  taken : v.taken ≡ w.taken
+pub record AsAcknowledged (w v : World) : Type 0 where
+  pub slots : (p : ℕ) → (Messages.slot_at v p).acknowledged ≡ (Messages.slot_at w p).acknowledged
+  pub count : length v.slots ≡ length w.slots
+  pub taken : v.taken ≡ w.taken
 
 acks-same : (setup : Setup) (h : History) (w v : World) → AsAcknowledged w v → Acks setup h w → Acks setup h v
 acks-same setup h w v s a = record { slots = λ p lt. s.slots p ∙ a.slots p (omega (arith, s.count)); taken = s.taken ∙ a.taken }
@@ -318,7 +318,7 @@ as-came w p = step (is_new w p)
 as-then : (w v u : World) → AsAcknowledged w v → AsAcknowledged v u → AsAcknowledged w u
 as-then w v u f g = record { slots = λ p. g.slots p ∙ f.slots p; count = g.count ∙ f.count; taken = g.taken ∙ f.taken }
 
-as-datagram : (w : World) (o : Option Datagram) → AsAcknowledged w (Changes.came w o)
+pub as-datagram : (w : World) (o : Option Datagram) → AsAcknowledged w (Changes.came w o)
 as-datagram w None = record { slots = λ k. refl; count = refl; taken = refl }
 as-datagram w (Some (Data ps)) = fold-keeps (AsAcknowledged w) Changes.slot_came (λ v p a. as-then w v (Changes.slot_came v p) a (as-came v p)) ps w (record { slots = λ k. refl; count = refl; taken = refl })
 as-datagram w (Some (Forward upto names)) = step (Changes.skip_counts w upto)
@@ -328,11 +328,11 @@ as-datagram w (Some (Forward upto names)) = step (Changes.skip_counts w upto)
     step false = record { slots = λ k. refl; count = refl; taken = refl }
 as-datagram w (Some (Sack r)) = record { slots = λ k. refl; count = refl; taken = refl }
 
-as-read : (w : World) (s : ℕ) (o : Option ℕ) → AsAcknowledged w (Changes.read_of w s o)
+pub as-read : (w : World) (s : ℕ) (o : Option ℕ) → AsAcknowledged w (Changes.read_of w s o)
 as-read w s None = record { slots = λ k. refl; count = refl; taken = refl }
 as-read w s (Some n) = record { slots = λ k. refl; count = refl; taken = refl }
 
-numbered-at : {A : Type 0} (f : ℕ → A → A) (from k : ℕ) (xs : List A) (d : A) → k < length xs → get_or (each_numbered f from xs) k d ≡ f (from + k) (get_or xs k d)
+pub numbered-at : {A : Type 0} (f : ℕ → A → A) (from k : ℕ) (xs : List A) (d : A) → k < length xs → get_or (each_numbered f from xs) k d ≡ f (from + k) (get_or xs k d)
 numbered-at f from k [] d lt = absurd (omega arith)
 numbered-at f from zero (x ∷ xs) d lt = let z : from ≡ from + 0 = omega arith in ap (λ i. f i x) z
 numbered-at f from (suc k) (x ∷ xs) d lt = numbered-at f (from + 1) k xs d (omega arith) ∙ (let z : from + 1 + k ≡ from + suc k = omega arith in ap (λ i. f i (get_or xs k d)) z)

@@ -16,3 +16,5 @@ pub mod Logged
 pub mod Few
 pub mod LoggedRun
 pub mod Acknowledged
+pub mod Written
+pub mod BytesTold
