@@ -18,3 +18,4 @@ pub mod LoggedRun
 pub mod Acknowledged
 pub mod Written
 pub mod BytesTold
+pub mod Lifetimes
