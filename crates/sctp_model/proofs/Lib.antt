@@ -19,3 +19,11 @@ pub mod Acknowledged
 pub mod Written
 pub mod BytesTold
 pub mod Lifetimes
+pub mod Play
+mod Bounds
+mod ScriptsOfSending
+mod ScriptsOfArrivals
+mod ScriptsOfExpiry
+mod ScriptsOfAbandonment
+mod ScriptsOfSkips
+mod LongScripts
