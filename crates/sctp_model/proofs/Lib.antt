@@ -27,3 +27,4 @@ mod ScriptsOfExpiry
 mod ScriptsOfAbandonment
 mod ScriptsOfSkips
 mod LongScripts
+pub mod Counted
