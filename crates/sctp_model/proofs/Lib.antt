@@ -28,3 +28,5 @@ mod ScriptsOfAbandonment
 mod ScriptsOfSkips
 mod LongScripts
 pub mod Counted
+pub mod Lossless
+pub mod Composed
