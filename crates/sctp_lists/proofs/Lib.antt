@@ -4,3 +4,9 @@ pub mod Round
 pub mod More
 pub mod Wraps
 pub mod SerialLemmas
+pub mod Cases
+pub mod Getting
+pub mod Totals
+pub mod Rows
+pub mod Pieces
+pub mod Tests

@@ -1,4 +1,3 @@
--- Only what arrived or was skipped is acknowledged.
 use Rattle.std.proofs.Common.{◌≡◌, ℕ, zero, suc, ◌+◌, ◌-◌, ◌<◌, ◌≤◌, Bool, true, false, List, [], ◌∷◌, ◌++◌, length, map, get_or, Option, Some, None, refl, ap, sym, ◌∙◌, inl, inr, arith, append-nil, add-one, zero-add}
 use Rattle.std.specs.Prelude.{◌⊎◌, if◌then◌else◌, ◌==◌, ◌&&◌, ◌||◌, not, nat_lt, nat_le, min, max, slice_get, fold, take}
 use Rattle.std.specs.List.{list_any}
@@ -24,19 +23,17 @@ use Rattle.sctp_model.specs.Steps.{History, world_of, IsRun, refusal_of, after}
 use Rattle.sctp_model.specs.Contents.{SackContents, cumulative_tsn, datagram, contents_in, contents_of}
 use Rattle.sctp_model.specs.Laws.{IsSetup, OnEveryRun, AcknowledgedArrived, AcknowledgedIsReported, SacksSay, blocks_by}
 use Rattle.sctp_model.proofs.Shape.{shape}
-use Rattle.sctp_model.proofs.Shapes.{get-beyond, get-numbered, length-numbered}
 use Rattle.sctp_model.proofs.Logged.{Logged, below-seen, seen-count}
 use Rattle.sctp_model.proofs.LoggedRun.{logged-run}
 use Rattle.sctp_model.proofs.SenderRun.{Sane, sane-run, fold-keeps}
 use Rattle.sctp_model.proofs.Moves
 use Rattle.sctp_model.proofs.Network
-use Rattle.sctp_model.proofs.Sends.{get-last}
+use Rattle.sctp_lists.proofs.Cases.{or-left, or-split}
+use Rattle.sctp_lists.proofs.Getting.{length-numbered, numbered-at, get-last}
+
+-- Only what arrived or was skipped is acknowledged.
 
 -- ## A SACK reports what was seen
-
-or-split : (a b : Bool) → (a || b) ≡ true → (a ≡ true) ⊎ (b ≡ true)
-or-split true b e = inl refl
-or-split false b e = inr e
 
 any-take : {A : Type 0} (t : A → Bool) (n : ℕ) (xs : List A) → list_any t (take n xs) ≡ true → list_any t xs ≡ true
 any-take t zero [] e = cc
@@ -331,11 +328,6 @@ as-datagram w (Some (Sack r)) = record { slots = λ k. refl; count = refl; taken
 pub as-read : (w : World) (s : ℕ) (o : Option ℕ) → AsAcknowledged w (Changes.read_of w s o)
 as-read w s None = record { slots = λ k. refl; count = refl; taken = refl }
 as-read w s (Some n) = record { slots = λ k. refl; count = refl; taken = refl }
-
-pub numbered-at : {A : Type 0} (f : ℕ → A → A) (from k : ℕ) (xs : List A) (d : A) → k < length xs → get_or (each_numbered f from xs) k d ≡ f (from + k) (get_or xs k d)
-numbered-at f from k [] d lt = absurd (omega arith)
-numbered-at f from zero (x ∷ xs) d lt = let z : from ≡ from + 0 = omega arith in ap (λ i. f i x) z
-numbered-at f from (suc k) (x ∷ xs) d lt = numbered-at f (from + 1) k xs d (omega arith) ∙ (let z : from + 1 + k ≡ from + suc k = omega arith in ap (λ i. f i (get_or xs k d)) z)
 
 acks-taken : (setup : Setup) (older : History) (w : World) (k : ℕ) (r : Reply) → w ≡ world_of setup older → Acks setup older w → Acks setup ((E.Acked k, r) ∷ older) (Changes.sack_taken w (slice_get w.network k))
 acks-taken setup older w k r same a = step (slice_get w.network k) (ap (λ v. slice_get v.network k) same)

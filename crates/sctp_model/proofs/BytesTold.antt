@@ -1,4 +1,3 @@
--- What was written and what was released, by the writes and the replies.
 use Rattle.std.proofs.Common.{◌≡◌, ℕ, zero, suc, ◌+◌, ◌-◌, ◌<◌, ◌≤◌, ◌^◌, Bool, true, false, List, [], ◌∷◌, ◌++◌, length, map, get_or, Option, Some, None, refl, ap, sym, ◌∙◌, inl, inr, arith, append-nil, add-one}
 use Rattle.std.proofs.Math.Path.{fun_ext}
 use Rattle.std.specs.Prelude.{◌⊎◌, if◌then◌else◌, ◌==◌, ◌&&◌, ◌||◌, not, fold, slice_get, slice_index_or, max}
@@ -25,7 +24,7 @@ use Rattle.sctp_model.specs.Steps.{History, world_of, IsRun, refusal_of, reply_t
 use Rattle.sctp_model.specs.Laws.{IsSetup, OnEveryRun, SumsAreTold}
 use Rattle.sctp_model.proofs.Shape.{Shape, MessagePart, shape, message_part, has, sent, parts, written}
 use Rattle.sctp_model.proofs.Shapes
-use Rattle.sctp_model.proofs.SenderSteps.{of-has, negated}
+use Rattle.sctp_model.proofs.SenderSteps.{of-has}
 use Rattle.sctp_model.proofs.SenderEnds.{message-old, message-new}
 use Rattle.sctp_model.proofs.SenderRun.{Sane, sane-run, sends-keep, written_as}
 use Rattle.sctp_model.proofs.Grows.{Grows, as_written}
@@ -33,13 +32,16 @@ use Rattle.sctp_model.proofs.Moves
 use Rattle.sctp_model.proofs.Moves.{Quiet}
 use Rattle.sctp_model.proofs.Network
 use Rattle.sctp_model.proofs.Bytes.{balance, size-some}
-use Rattle.sctp_model.proofs.Acknowledged.{AsAcknowledged, as-datagram, as-read, numbered-at}
+use Rattle.sctp_model.proofs.Acknowledged.{AsAcknowledged, as-datagram, as-read}
 use Rattle.sctp_model.proofs.Written.{told, shown_part, messages_are_writes}
-use Rattle.sctp_model.proofs.Totals
+use Rattle.sctp_lists.proofs.Getting.{length-mapped, numbered-at}
+use Rattle.sctp_lists.proofs.Totals.{total-le, total-append, total-kept_same, total-wider}
+
+-- What was written and what was released, by the writes and the replies.
 
 -- ## Written
 
-total-told : (f : Shown → ℕ) (g : ℕ → Shown) (xs : List ℕ) → total_over (λ n. f (g n)) xs ≡ total_shown f (map g xs)
+pub total-told : (f : Shown → ℕ) (g : ℕ → Shown) (xs : List ℕ) → total_over (λ n. f (g n)) xs ≡ total_shown f (map g xs)
 total-told f g [] = refl
 total-told f g (x ∷ xs) = omega (arith, total-told f g xs)
 
@@ -69,7 +71,7 @@ acknowledged-quiet w v q n lt =
     let t : ℕ → Bool = λ p. has (shape v) n p && acknowledged_at v p in
     let more : length v.slots ≡ length w.slots + (length v.slots - length w.slots) = omega (arith, g.slots) in
     ap (total_over (Amounts.slot_bytes v n)) (kept-short t 0 (length w.slots) (length v.slots - length w.slots) (length v.slots) more (λ k a b. fails (t k) (λ e. not_both (sym (q.fresh k (omega arith) (omega arith)) ∙ (both (has (shape v) n k) (acknowledged_at v k) e).1))))
-    ∙ Totals.total-kept_same (Amounts.slot_bytes v n) (Amounts.slot_bytes w n) t 0 (length w.slots) (λ k a b. same-bytes k (omega arith))
+    ∙ total-kept_same (Amounts.slot_bytes v n) (Amounts.slot_bytes w n) t 0 (length w.slots) (λ k a b. same-bytes k (omega arith))
     ∙ ap (total_over (Amounts.slot_bytes w n)) (kept-same t (λ p. has (shape w) n p && acknowledged_at w p) 0 (length w.slots) (λ k a b. ap (λ s. ((s.message == n) && not s.is_end_mark) && acknowledged_at v k) (g.slot k (omega arith)) ∙ ap (λ c. has (shape w) n k && c) (q.acknowledged k (omega arith))))
   where
     same-bytes : (k : ℕ) → k < length w.slots → Amounts.slot_bytes v n k ≡ Amounts.slot_bytes w n k
@@ -80,7 +82,7 @@ acknowledged-quiet w v q n lt =
 
 -- it never takes back what was released
 released-grows : (setup : Setup) (w v : World) → IsSetup setup → Sane setup w → Quiet w v → length v.messages ≡ length w.messages → released w ≤ released v
-released-grows setup w v is g q count = omega (arith, Totals.total-le (Amounts.released_bytes w) (Amounts.released_bytes v) 0 (length w.messages) (λ n a b. each n (omega arith) (Amounts.is_given_up v n) refl (Amounts.is_given_up w n) refl), ap (λ c. total_over (Amounts.released_bytes v) (numbers_from 0 c)) count)
+released-grows setup w v is g q count = omega (arith, total-le (Amounts.released_bytes w) (Amounts.released_bytes v) 0 (length w.messages) (λ n a b. each n (omega arith) (Amounts.is_given_up v n) refl (Amounts.is_given_up w n) refl), ap (λ c. total_over (Amounts.released_bytes v) (numbers_from 0 c)) count)
   where
     bytes : (n : ℕ) → n < length w.messages → (Messages.message_at v n).bytes ≡ (Messages.message_at w n).bytes
     bytes n lt = ap (λ m. m.bytes) (q.grows.message n lt)
@@ -111,7 +113,7 @@ released-grows setup w v is g q count = omega (arith, Totals.total-le (Amounts.r
 released-kept : (w v : World) → Quiet w v → length v.messages ≡ length w.messages → ((n : ℕ) → Amounts.is_given_up v n ≡ Amounts.is_given_up w n) → released v ≡ released w
 released-kept w v q count given =
     ap (λ c. total_over (Amounts.released_bytes v) (numbers_from 0 c)) count
-    ∙ Totals.total-kept_same (Amounts.released_bytes v) (Amounts.released_bytes w) always 0 (length w.messages) (λ n a b. each n (omega arith))
+    ∙ total-kept_same (Amounts.released_bytes v) (Amounts.released_bytes w) always 0 (length w.messages) (λ n a b. each n (omega arith))
   where
     each : (n : ℕ) → n < length w.messages → Amounts.released_bytes v n ≡ Amounts.released_bytes w n
     each n lt =
@@ -129,8 +131,8 @@ released-written : (x : Shape) (a : ℕ → Bool) (m : MessagePart) → Sender x
 released-written x a m s e b =
     ap (λ c. total_over (released_with (written x m) a) (kept always 0 c)) (add-one x.count)
     ∙ ap (total_over (released_with (written x m) a)) (kept-snoc_in always 0 x.count x.count (omega arith) refl)
-    ∙ Totals.total-append (released_with (written x m) a) (kept always 0 x.count) (x.count ∷ [])
-    ∙ (let old = Totals.total-kept_same (released_with (written x m) a) (released_with x a) always 0 x.count (λ k i j. ap (released_of k) (message-old x m k (omega arith))) in omega (arith, old, new))
+    ∙ total-append (released_with (written x m) a) (kept always 0 x.count) (x.count ∷ [])
+    ∙ (let old = total-kept_same (released_with (written x m) a) (released_with x a) always 0 x.count (λ k i j. ap (released_of k) (message-old x m k (omega arith))) in omega (arith, old, new))
   where
     released_of : ℕ → MessagePart → ℕ
     released_of k y = if y.expired || y.abandoned then length y.bytes else total_over (λ p. length (get_or (pieces (length y.bytes) x.size y.bytes) (x.slot p).fragment [])) (kept (λ p. has x k p && a p) 0 x.slots)
@@ -155,7 +157,7 @@ released-sent setup w now None g = released-same w (Changes.started w now) (Shap
 released-sent setup w now (Some n) g =
     let u = Changes.started w now in
     let e = messages-sent u in
-    released-kept w (Changes.sent_from u (Some n)) (Moves.quiet-sent setup w now (Some n) g) (ap length e ∙ Shapes.length-mapped (Changes.start_at now) w.messages)
+    released-kept w (Changes.sent_from u (Some n)) (Moves.quiet-sent setup w now (Some n) g) (ap length e ∙ length-mapped (Changes.start_at now) w.messages)
     (λ k. ap (λ ms. (slice_index_or ms k Messages.no_message).expired || (slice_index_or ms k Messages.no_message).abandoned) e ∙ ap (λ x. (x.message k).expired || (x.message k).abandoned) (Shapes.shape-started w now))
 
 pub count-abandoned : (w : World) (n : ℕ) → length (Changes.abandoned w n).messages ≡ length w.messages
@@ -180,16 +182,6 @@ released-tail : (setup : Setup) (w : World) (o : Option ℕ) → IsSetup setup �
 released-tail setup w None is g = omega arith
 released-tail setup w (Some n) is g = grown setup w (Changes.abandoned w n) is g (Moves.quiet-abandoned setup w n g) (count-abandoned w n)
 
-total-wider : (f : ℕ → ℕ) (p q : ℕ → Bool) (from count : ℕ) → ((k : ℕ) → from ≤ k → k < from + count → p k ≡ true → q k ≡ true) → total_over f (kept p from count) ≤ total_over f (kept q from count)
-total-wider f p q from zero more = omega arith
-total-wider f p q from (suc count) more = step (p from) (q from) refl refl (total-wider f p q (from + 1) count (λ k a b. more k (omega arith) (omega arith)))
-  where
-    step : (b c : Bool) → p from ≡ b → q from ≡ c → total_over f (kept p (from + 1) count) ≤ total_over f (kept q (from + 1) count) → total_over f (if b then from ∷ kept p (from + 1) count else kept p (from + 1) count) ≤ total_over f (if c then from ∷ kept q (from + 1) count else kept q (from + 1) count)
-    step true true e h ih = omega (arith, ih)
-    step true false e h ih = absurd (not_both (sym h ∙ more from (omega arith) (omega arith) e))
-    step false true e h ih = omega (arith, ih)
-    step false false e h ih = ih
-
 released-acked : (w : World) (o : Option Datagram) → released (Changes.sack_taken w o) ≡ released w + Amounts.growth w (Changes.sack_taken w o)
 released-acked w None = omega arith
 released-acked w (Some (Data ps)) = omega arith
@@ -210,7 +202,7 @@ released-acked w (Some (Sack r)) = omega (arith, less)
         step false = total-wider (Amounts.slot_bytes w n) (λ p. has (shape w) n p && acknowledged_at w p) (λ p. has (shape w) n p && acknowledged_at (Changes.sack_taken w (Some (Sack r))) p) 0 (length w.slots) (λ k a b e. let h = both (has (shape w) n k) (acknowledged_at w k) e in and (has (shape w) n k) (acknowledged_at (Changes.sack_taken w (Some (Sack r))) k) h.0 (acked k (omega arith) h.1))
 
     less : released w ≤ released (Changes.sack_taken w (Some (Sack r)))
-    less = omega (arith, Totals.total-le (released_with (shape w) (acknowledged_at w)) (released_with (shape w) (acknowledged_at (Changes.sack_taken w (Some (Sack r))))) 0 (length w.messages) (λ n a b. each n), ap (λ x. released_all x (acknowledged_at (Changes.sack_taken w (Some (Sack r))))) (Shapes.shape-acknowledged w r (max w.taken r.cumulative)))
+    less = omega (arith, total-le (released_with (shape w) (acknowledged_at w)) (released_with (shape w) (acknowledged_at (Changes.sack_taken w (Some (Sack r))))) 0 (length w.messages) (λ n a b. each n), ap (λ x. released_all x (acknowledged_at (Changes.sack_taken w (Some (Sack r))))) (Shapes.shape-acknowledged w r (max w.taken r.cumulative)))
 
 none-sent : (w v : World) (o : Option ℕ) → released_by (sent_reply w v o) ≡ 0
 none-sent w v None = refl

@@ -1,4 +1,3 @@
--- The counters of a stream are sums over its writes and its reads.
 use Rattle.std.proofs.Common.{◌≡◌, ℕ, zero, suc, ◌+◌, ◌<◌, ◌≤◌, Bool, true, false, List, [], ◌∷◌, ◌++◌, length, map, Option, Some, None, refl, ap, sym, ◌∙◌, inl, inr, arith, append-nil, zero-add}
 use Rattle.std.specs.Prelude.{◌⊎◌, if◌then◌else◌, ◌==◌, ◌&&◌, ◌||◌, not, nat_lt, fold, slice_get, slice_index_or, option_to_list}
 use Rattle.std.specs.List.{list_any, list_all}
@@ -21,18 +20,18 @@ use Rattle.sctp_model.specs.Log.{Shown, total_shown, shown_on, counted_shown, co
 use Rattle.sctp_model.specs.Steps.{History, world_of, IsRun, refusal_of, reply_to, after, read_reply}
 use Rattle.sctp_model.specs.Laws.{IsSetup, OnEveryRun, AllDifferent, ReadsShowMessages, ReadsDiffer, CountersAreSums, shown_of}
 use Rattle.sctp_model.proofs.Shape.{shape}
-use Rattle.sctp_model.proofs.SenderSteps.{by_same, same-yes, same-is}
 use Rattle.sctp_model.proofs.SenderRun.{sane-run}
 use Rattle.sctp_model.proofs.Moves
 use Rattle.sctp_model.proofs.Lifetimes.{messages-came, messages-taken}
 use Rattle.sctp_model.proofs.Written.{messages_are_writes}
-use Rattle.sctp_model.proofs.Totals
+use Rattle.sctp_model.proofs.BytesTold.{total-told}
+use Rattle.sctp_lists.proofs.Cases.{by_same, same-yes, same-is, or-split}
+use Rattle.sctp_lists.proofs.Tests.{any-append}
+use Rattle.sctp_lists.proofs.Totals.{total-none, total-one, total-kept_same, total-where}
+
+-- The counters of a stream are sums over its writes and its reads.
 
 -- ## Sums
-
-pub total-shown : (f : Shown → ℕ) (g : ℕ → Shown) (xs : List ℕ) → total_over (λ n. f (g n)) xs ≡ total_shown f (map g xs)
-total-shown f g [] = refl
-total-shown f g (x ∷ xs) = omega (arith, total-shown f g xs)
 
 -- those of a stream
 total-on : (f : Shown → ℕ) (g : ℕ → Shown) (s from count : ℕ) → total_over (λ n. f (g n)) (kept (λ n. (g n).0 == s) from count) ≡ total_shown f (shown_on s (map g (kept always from count)))
@@ -43,24 +42,16 @@ total-on f g s from (suc count) = step ((g from).0 == s) (total-on f g s (from +
     step true ih = omega (arith, ih)
     step false ih = ih
 
-total-where : (f : ℕ → ℕ) (p : ℕ → Bool) (from count : ℕ) → total_over f (kept p from count) ≡ total_over (λ n. if p n then f n else 0) (kept always from count)
-total-where f p from zero = refl
-total-where f p from (suc count) = step (p from) (total-where f p (from + 1) count)
-  where
-    step : (b : Bool) → total_over f (kept p (from + 1) count) ≡ total_over (λ n. if p n then f n else 0) (kept always (from + 1) count) → total_over f (if b then from ∷ kept p (from + 1) count else kept p (from + 1) count) ≡ (if b then f from else 0) + total_over (λ n. if p n then f n else 0) (kept always (from + 1) count)
-    step true ih = omega (arith, ih)
-    step false ih = omega (arith, ih)
-
 abbrev among : List ℕ → ℕ → Bool
 among xs n = list_any (λ k. k == n) xs
 
 -- the sum over distinct numbers is the sum over those that are among them
 total-among : (f : ℕ → ℕ) (xs : List ℕ) (count : ℕ) → AllDifferent xs → ((n : ℕ) → among xs n ≡ true → n < count) → total_over f xs ≡ total_over f (kept (among xs) 0 count)
-total-among f [] count d below = sym (total-where f (λ n. false) 0 count ∙ Totals.total-none (λ n. 0) 0 count (λ k a b. refl))
+total-among f [] count d below = sym (total-where f (λ n. false) 0 count ∙ total-none (λ n. 0) 0 count (λ k a b. refl))
 total-among f (x ∷ xs) count d below =
     let ih = total-among f xs count d.1 (λ n e. below n (ors (x == n) (among xs n) e)) in
     let lt = below x (yes' (among xs x)) in
-    let one = Totals.total-one (λ n. if among xs n then f n else 0) (λ n. if among (x ∷ xs) n then f n else 0) x (f x) 0 count (omega arith) (omega (arith, lt))
+    let one = total-one (λ n. if among xs n then f n else 0) (λ n. if among (x ∷ xs) n then f n else 0) x (f x) 0 count (omega arith) (omega (arith, lt))
     (λ k ne. ap (λ b. if b || among xs k then f k else 0) (sym (fails (x == k) (λ e. ne (sym (same-is x k e))))))
     (ap (λ b. (if b then f x else 0) + f x) d.0 ∙ zero-add (f x) ∙ sym (ap (λ b. if b || among xs x then f x else 0) (same-yes x))) in
     omega (arith, ih, total-where f (among xs) 0 count, total-where f (among (x ∷ xs)) 0 count, one)
@@ -73,14 +64,6 @@ total-among f (x ∷ xs) count d below =
     yes' b = ap (λ a. a || b) (same-yes x)
 
 -- ## Which messages were read
-
-any-append : (t : ℕ → Bool) (xs ys : List ℕ) → list_any t (xs ++ ys) ≡ (list_any t xs || list_any t ys)
-any-append t [] ys = refl
-any-append t (x ∷ xs) ys = ap (λ b. t x || b) (any-append t xs ys) ∙ assoc (t x) (list_any t xs) (list_any t ys)
-  where
-    assoc : (a b c : Bool) → (a || (b || c)) ≡ ((a || b) || c)
-    assoc true b c = refl
-    assoc false b c = refl
 
 abbrev IsRead : World → ℕ → ℕ → Bool
 IsRead w s n = ((Messages.message_at w n).stream == s) && (Messages.message_at w n).read
@@ -253,10 +236,10 @@ received show differ setup h is run s f =
     let xs = numbers_read setup h s in
     let sum = total-among g xs (length w.messages) (differ setup h is run s) (m.made s) in
     total-where (Amounts.if_read w g) (λ n. (Messages.message_at w n).stream == s) 0 (length w.messages)
-    ∙ Totals.total-kept_same (λ n. if (Messages.message_at w n).stream == s then Amounts.if_read w g n else 0) (λ n. if among xs n then g n else 0) always 0 (length w.messages)
+    ∙ total-kept_same (λ n. if (Messages.message_at w n).stream == s then Amounts.if_read w g n else 0) (λ n. if among xs n then g n else 0) always 0 (length w.messages)
     (λ k a b. two ((Messages.message_at w k).stream == s) (Messages.message_at w k).read (g k) ∙ ap (λ b. if b then g k else 0) (sym (m.is s k (omega arith))))
     ∙ sym (total-where g (among xs) 0 (length w.messages)) ∙ sym sum
-    ∙ total-shown f (shown_of w) xs ∙ ap (total_shown f) (sym (show setup h is run s).0)
+    ∙ total-told f (shown_of w) xs ∙ ap (total_shown f) (sym (show setup h is run s).0)
   where
     two : (a b : Bool) (c : ℕ) → (if a then (if b then c else 0) else 0) ≡ (if a && b then c else 0)
     two true b c = refl

@@ -10,9 +10,10 @@ use Rattle.sctp_lists.proofs.KeptLemmas.{kept-same}
 use Rattle.sctp_lists.proofs.More.{fails, not_both, both, and}
 use Rattle.sctp_model.proofs.Shape.{Shape, MessagePart, has, sent, parts, half, on, index, slotted, written, abandoned_at, expired_at}
 use Rattle.sctp_model.proofs.Sender.{Sender, sent-slotted, slot-old}
-use Rattle.sctp_model.proofs.SenderSteps.{Takes, by_same, same-yes, same-is, negated, sent-other, sent-grows, of-half}
+use Rattle.sctp_model.proofs.SenderSteps.{Takes, sent-other, sent-grows, of-half}
 use Rattle.sctp_model.proofs.SenderEnds.{sent-none, message-old, on-old}
 use Rattle.sctp_model.proofs.Slots.{sent-made, sent-alive}
+use Rattle.sctp_lists.proofs.Cases.{by_same, same-yes}
 
 -- a message as it was written
 abbrev pub as_written : MessagePart → MessagePart

@@ -5,7 +5,6 @@ pub mod SenderEnds
 pub mod Shapes
 pub mod Fronts
 pub mod SenderRun
-pub mod Totals
 pub mod Sends
 pub mod Slots
 pub mod Grows

@@ -1,4 +1,3 @@
--- When lifetimes start, and what Late abandons.
 use Rattle.std.proofs.Common.{◌≡◌, ℕ, zero, suc, ◌+◌, ◌<◌, ◌≤◌, Bool, true, false, List, [], ◌∷◌, ◌++◌, length, map, get_or, Option, Some, None, refl, ap, sym, ◌∙◌, inl, inr, arith, length-append}
 use Rattle.std.specs.Prelude.{◌⊎◌, if◌then◌else◌, ◌==◌, ◌&&◌, ◌||◌, not, nat_lt, fold, slice_get, slice_index_or, is_none}
 use Rattle.std.specs.List.{list_any}
@@ -19,20 +18,18 @@ use Rattle.sctp_model.specs.Log.{writes_in, started_in, moment_of}
 use Rattle.sctp_model.specs.Steps.{History, world_of, IsRun, refusal_of, after}
 use Rattle.sctp_model.specs.Laws.{IsSetup, OnEveryRun, StartsOnce, LateAbandonsListed, shown_of}
 use Rattle.sctp_model.proofs.Shape.{shape}
-use Rattle.sctp_model.proofs.SenderSteps.{by_last, by_same, same-yes, same-is}
 use Rattle.sctp_model.proofs.Shapes
 use Rattle.sctp_model.proofs.SenderRun.{fold-keeps, sane-run, written_as}
 use Rattle.sctp_model.proofs.Network.{extends-after}
 use Rattle.sctp_model.proofs.Written.{messages_are_writes}
 use Rattle.sctp_model.proofs.BytesTold.{messages-sent, count-abandoned, count-late}
-use Rattle.sctp_model.proofs.Totals.{length-numbers}
+use Rattle.sctp_lists.proofs.Getting.{get-snoc_old, get-snoc_new, length-mapped, map-at}
+use Rattle.sctp_lists.proofs.Tests.{any-append}
+use Rattle.sctp_lists.proofs.Totals.{length-numbers}
+
+-- When lifetimes start, and what Late abandons.
 
 -- ## Lifetimes
-
-map-at : {A : Type 0} (f : A → A) (k : ℕ) (xs : List A) (d : A) → k < length xs → get_or (map f xs) k d ≡ f (get_or xs k d)
-map-at f k [] d lt = absurd (omega arith)
-map-at f zero (x ∷ xs) d lt = refl
-map-at f (suc k) (x ∷ xs) d lt = map-at f k xs d (omega arith)
 
 started-now : (w : World) (now n : ℕ) → n < length w.messages → (Messages.message_at (Changes.started w now) n).started ≡ or_else (Messages.message_at w n).started (Some now)
 started-now w now n lt = ap (λ m. m.started) (map-at (Changes.start_at now) n w.messages Messages.no_message lt) ∙ step (Messages.message_at w n).started
@@ -107,7 +104,7 @@ started-after w e n lt = by_event e
     by_event (E.Open s) = same (after w (E.Open s)) refl
     by_event (E.Mode s u v x) = same (after w (E.Mode s u v x)) refl
     by_event (E.Write s ppi []) = same w refl
-    by_event (E.Write s ppi (b ∷ bs)) = same (Changes.wrote w s ppi (b ∷ bs)) (ap (λ m. m.started) (Shapes.get-snoc_old w.messages (written_as w s ppi (b ∷ bs)) n Messages.no_message (λ e. absurd (omega arith))))
+    by_event (E.Write s ppi (b ∷ bs)) = same (Changes.wrote w s ppi (b ∷ bs)) (ap (λ m. m.started) (get-snoc_old w.messages (written_as w s ppi (b ∷ bs)) n Messages.no_message (λ e. absurd (omega arith))))
     by_event (E.Start now) = started-now w now n lt
     by_event (E.Send now) = started-sent w now n (Messages.front w) lt
     by_event (E.Resend x) = same (after w (E.Resend x)) refl
@@ -127,15 +124,15 @@ started-new w (E.Write s ppi []) n le lt = absurd (omega arith)
 started-new w (E.Write s ppi (b ∷ bs)) n le lt =
     let m = written_as w s ppi (b ∷ bs) in
     let e : n ≡ length w.messages = omega (arith, length-append w.messages (m ∷ [])) in
-    ap (λ k. (Messages.message_at (Changes.wrote w s ppi (b ∷ bs)) k).started) e ∙ ap (λ y. y.started) (Shapes.get-snoc_new w.messages m Messages.no_message)
+    ap (λ k. (Messages.message_at (Changes.wrote w s ppi (b ∷ bs)) k).started) e ∙ ap (λ y. y.started) (get-snoc_new w.messages m Messages.no_message)
 started-new w (E.Open s) n le lt = absurd (omega arith)
 started-new w (E.Mode s u v x) n le lt = absurd (omega arith)
-started-new w (E.Start now) n le lt = absurd (omega (arith, Shapes.length-mapped (Changes.start_at now) w.messages))
+started-new w (E.Start now) n le lt = absurd (omega (arith, length-mapped (Changes.start_at now) w.messages))
 started-new w (E.Send now) n le lt = absurd (few w now n (Messages.front w) le lt)
   where
     few : (w : World) (now n : ℕ) (o : Option ℕ) → length w.messages ≤ n → n < length (Changes.sent_from (Changes.started w now) o).messages → ⊥
-    few w now n None le lt = absurd (omega (arith, Shapes.length-mapped (Changes.start_at now) w.messages))
-    few w now n (Some m) le lt = absurd (omega (arith, ap length (messages-sent (Changes.started w now)), Shapes.length-mapped (Changes.start_at now) w.messages))
+    few w now n None le lt = absurd (omega (arith, length-mapped (Changes.start_at now) w.messages))
+    few w now n (Some m) le lt = absurd (omega (arith, ap length (messages-sent (Changes.started w now)), length-mapped (Changes.start_at now) w.messages))
 started-new w (E.Resend x) n le lt = absurd (omega arith)
 started-new w (E.Expire now) n le lt = absurd (few (Changes.expiring w now) lt)
   where
@@ -164,7 +161,7 @@ record Begins (setup : Setup) (h : History) (w : World) : Type 0 where
   past : (n : ℕ) → length w.messages ≤ n → started_in h n ≡ None
 
 pub writes-count : (setup : Setup) (h : History) → IsSetup setup → IsRun setup h → length (writes_in h) ≡ length (world_of setup h).messages
-writes-count setup h is run = ap length (sym (messages_are_writes setup h is run)) ∙ Shapes.length-mapped (λ n. shown_of (world_of setup h) n) (kept always 0 (length (world_of setup h).messages)) ∙ length-numbers 0 (length (world_of setup h).messages)
+writes-count setup h is run = ap length (sym (messages_are_writes setup h is run)) ∙ length-mapped (λ n. shown_of (world_of setup h) n) (kept always 0 (length (world_of setup h).messages)) ∙ length-numbers 0 (length (world_of setup h).messages)
 
 begins-step : (setup : Setup) (older : History) (e : Event) (r : Reply) → IsSetup setup → IsRun setup older → refusal_of (world_of setup older) e ≡ None → Begins setup older (world_of setup older) → Begins setup ((e, r) ∷ older) (after (world_of setup older) e)
 begins-step setup older e r is run ok b = record {
@@ -216,14 +213,6 @@ abandoned-all (m ∷ ms) w n =
     mixed true true c = refl
     mixed true false c = refl
     mixed false b c = refl
-
-any-append : (t : ℕ → Bool) (xs ys : List ℕ) → list_any t (xs ++ ys) ≡ (list_any t xs || list_any t ys)
-any-append t [] ys = refl
-any-append t (x ∷ xs) ys = ap (λ b. t x || b) (any-append t xs ys) ∙ assoc (t x) (list_any t xs) (list_any t ys)
-  where
-    assoc : (a b c : Bool) → (a || (b || c)) ≡ ((a || b) || c)
-    assoc true b c = refl
-    assoc false b c = refl
 
 any-passing : (t q : ℕ → Bool) (xs : List ℕ) → list_any t (passing q xs) ≡ true → list_any t xs ≡ true
 any-passing t q [] e = e

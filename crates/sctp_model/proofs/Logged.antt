@@ -1,4 +1,3 @@
--- What arrived, what was skipped and how far all did, by the order of arrivals.
 use Rattle.std.proofs.Common.{◌≡◌, ℕ, zero, suc, ◌+◌, ◌-◌, ◌<◌, ◌≤◌, ◌%◌, ◌^◌, Bool, true, false, List, [], ◌∷◌, ◌++◌, length, map, get_or, Option, Some, None, refl, ap, sym, ◌∙◌, inl, inr, arith, length-append, append-nil, add-one, zero-add}
 use Rattle.std.specs.Prelude.{◌⊎◌, if◌then◌else◌, ◌==◌, ◌&&◌, ◌||◌, not, nat_le, nat_lt, slice_get, fold}
 use Rattle.std.specs.List.{list_any}
@@ -20,8 +19,11 @@ use Rattle.sctp_model.specs.Receiver.{arrived_at, cumulative, is_new}
 use Rattle.sctp_model.specs.Changes
 use Rattle.sctp_model.specs.Log
 use Rattle.sctp_model.specs.Log.{Coming, SlotCame, SkipCame, SackMade, is_seen, arrived_new, is_skipped, counts, duplicates_in, seen_count}
-use Rattle.sctp_model.proofs.SenderSteps.{by_same, same-yes, same-is}
 use Rattle.sctp_model.proofs.Shape.{Shape, shape}
+use Rattle.sctp_lists.proofs.Cases.{by_same, same-yes, or-left, or-right}
+use Rattle.sctp_lists.proofs.Tests.{any-out, any-in}
+
+-- What arrived, what was skipped and how far all did, by the order of arrivals.
 
 -- ## The invariant
 
@@ -41,18 +43,6 @@ abbrev pub Logged : World → List Coming → Type 0
 Logged w log = LoggedIn w.slots w.skipped w.duplicates log
 
 -- ## New slots and counting skips
-
-or-split : (a b : Bool) → (a || b) ≡ true → (a ≡ true) ⊎ (b ≡ true)
-or-split true b e = inl refl
-or-split false b e = inr e
-
-or-left : (a b : Bool) → a ≡ true → (a || b) ≡ true
-or-left true b e = refl
-or-left false b e = cc
-
-or-right : (a b : Bool) → b ≡ true → (a || b) ≡ true
-or-right true b e = refl
-or-right false b e = e
 
 pub below-seen : (w : World) (p : ℕ) → p < cumulative w → (arrived_at w p || nat_lt p w.skipped) ≡ true
 below-seen w p lt = step (cases_lt p w.skipped)
@@ -92,26 +82,10 @@ stops w le lt =
     let b : nat_lt (cumulative w) w.skipped ≡ false = (let z : w.skipped ≤ cumulative w = omega arith in grind (arith, nat_tests)) in
     rw (a, b) refl
 
-any-in : (t : ℕ → Bool) (p from count : ℕ) → from ≤ p → p < from + count → t p ≡ true → list_any t (kept always from count) ≡ true
-any-in t p from zero a b e = absurd (omega arith)
-any-in t p from (suc count) a b e = step (eq-or-lt_of_le a) (λ l. any-in t p (from + 1) count l (omega arith) e)
-  where
-    step : (from ≡ p) ⊎ (from < p) → (from + 1 ≤ p → list_any t (kept always (from + 1) count) ≡ true) → (t from || list_any t (kept always (from + 1) count)) ≡ true
-    step (inl z) ih = or-left (t from) (list_any t (kept always (from + 1) count)) (ap t z ∙ e)
-    step (inr l) ih = or-right (t from) (list_any t (kept always (from + 1) count)) (ih (omega arith))
-
-any-out : (t : ℕ → Bool) (from count : ℕ) → list_any t (kept always from count) ≡ true → (p : ℕ) × (from ≤ p) × (p < from + count) × (t p ≡ true)
-any-out t from zero e = cc
-any-out t from (suc count) e = step (or-split (t from) (list_any t (kept always (from + 1) count)) e) (λ h. any-out t (from + 1) count h)
-  where
-    step : (t from ≡ true) ⊎ (list_any t (kept always (from + 1) count) ≡ true) → (list_any t (kept always (from + 1) count) ≡ true → (p : ℕ) × (from + 1 ≤ p) × (p < from + 1 + count) × (t p ≡ true)) → (p : ℕ) × (from ≤ p) × (p < from + suc count) × (t p ≡ true)
-    step (inl h) ih = (from, omega arith, omega arith, h)
-    step (inr h) ih = let r = ih h in (r.0, omega (arith, r.1), omega (arith, r.2), r.3)
-
 pub counts-is : (w : World) (log : List Coming) (upto : ℕ) → Logged w log → upto < length w.slots → counts log upto ≡ Changes.skip_counts w upto
 counts-is w log upto g lt = same_test (counts log upto) (nat_le (cumulative w) upto)
-    (λ e. let r = any-out (λ p. not (is_seen log p)) 0 (upto + 1) e in let le : cumulative w ≤ r.0 = low r.0 r.3 (cases_lt r.0 (cumulative w)) in let z : cumulative w ≤ upto = omega (arith, r.2, le) in grind (arith, nat_tests))
-    (λ e. let le : cumulative w ≤ upto = grind (arith, nat_tests) in any-in (λ p. not (is_seen log p)) (cumulative w) 0 (upto + 1) (omega arith) (omega arith) (ap not (g.seen (cumulative w) ∙ stops w g.short (omega arith))))
+    (λ e. let r = any-out (λ p. not (is_seen log p)) always 0 (upto + 1) e in let le : cumulative w ≤ r.0 = low r.0 r.4 (cases_lt r.0 (cumulative w)) in let z : cumulative w ≤ upto = omega (arith, r.2, le) in grind (arith, nat_tests))
+    (λ e. let le : cumulative w ≤ upto = grind (arith, nat_tests) in any-in (λ p. not (is_seen log p)) always (cumulative w) 0 (upto + 1) (omega arith) (omega arith) refl (ap not (g.seen (cumulative w) ∙ stops w g.short (omega arith))))
   where
     low : (p : ℕ) → not (is_seen log p) ≡ true → (p < cumulative w) ⊎ (cumulative w ≤ p) → cumulative w ≤ p
     low p e (inl l) = absurd (not_both (ap not (sym (g.seen p ∙ below-seen w p l)) ∙ e))

@@ -8,7 +8,6 @@ use Rattle.sctp_lists.specs.Kept.{kept, numbers_from, runs_of}
 use Rattle.sctp_lists.proofs.KeptLemmas.{kept-same}
 use Rattle.sctp_lists.proofs.More.{both}
 use Rattle.sctp_lists.specs.Lists.{each_numbered}
-use Rattle.sctp_model.proofs.Shapes.{get-numbered, length-numbered}
 use Rattle.std.proofs.lemmas.Bool.Decides.{nat_tests}
 use Rattle.sctp_model.specs.declared.event.Event.{Event}
 use Rattle.sctp_model.specs.declared.event.Event.TheVariants as E
@@ -30,8 +29,8 @@ use Rattle.sctp_model.proofs.SenderRun.{Sane, sane-run, fold-keeps}
 use Rattle.sctp_model.proofs.Moves
 use Rattle.sctp_model.proofs.Network
 use Rattle.sctp_model.proofs.Network.{Fits, SlotsFit, fit-at, fit-run, AllFit}
-use Rattle.sctp_model.proofs.Sends.{get-last}
 use Rattle.sctp_model.proofs.Few.{few}
+use Rattle.sctp_lists.proofs.Getting.{get-numbered, length-numbered}
 
 -- ## The network is what the replies tell
 

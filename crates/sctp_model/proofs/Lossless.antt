@@ -19,11 +19,11 @@ use Rattle.sctp_model.specs.Steps.{History, world_of, IsRun, refusal_of, after}
 use Rattle.sctp_model.specs.Laws.{loses_nothing}
 use Rattle.sctp_model.proofs.Shape.{Shape, shape, message_part, written}
 use Rattle.sctp_model.proofs.Shapes
-use Rattle.sctp_model.proofs.SenderSteps.{by_last}
 use Rattle.sctp_model.proofs.SenderEnds.{message-old, message-new}
 use Rattle.sctp_model.proofs.SenderRun.{written_as}
 use Rattle.sctp_model.proofs.Network
 use Rattle.sctp_model.proofs.BytesTold.{messages-sent}
+use Rattle.sctp_lists.proofs.Cases.{by_last}
 
 -- ## No message is given up
 
