@@ -11,3 +11,5 @@ pub mod Slots
 pub mod Grows
 pub mod Moves
 pub mod Network
+pub mod Few
+pub mod Made

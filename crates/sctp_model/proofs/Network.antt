@@ -226,14 +226,14 @@ pub slots-fit : (x : Shape) (from count : ℕ) → ((p : ℕ) → from ≤ p →
 slots-fit x from zero h = tt
 slots-fit x from (suc count) h = let a = h from (omega arith) (omega arith) in (a.0, a.1, slots-fit x (from + 1) count (λ p i j. h p (omega arith) (omega arith)))
 
-network-more : (v : World) → (Changes.fragment_sent v).network ≡ v.network
+pub network-more : (v : World) → (Changes.fragment_sent v).network ≡ v.network
 network-more v = step (Messages.front v)
   where
     step : (o : Option ℕ) → (Changes.fragment_of_sent v o).network ≡ v.network
     step None = refl
     step (Some n) = refl
 
-same-network : (u : World) → (Changes.fragments_sent u).network ≡ u.network
+pub same-network : (u : World) → (Changes.fragments_sent u).network ≡ u.network
 same-network u = filled-keeps (λ v. v.network ≡ u.network) (λ v e. network-more v ∙ e) u.setup.limit (Changes.plus 12 (Changes.next_length u)) (Changes.fragment_sent u) (network-more u)
 
 fit-sent : (setup : Setup) (w : World) (now : ℕ) (o : Option ℕ) → Sane setup w → AllFit (shape w) w.network → AllFit (shape (Changes.sent_from (Changes.started w now) o)) (Changes.sent_from (Changes.started w now) o).network
@@ -260,7 +260,7 @@ all-in-kept t p q from (suc count) a b e h = step (p from) refl h (eq-or-lt_of_l
     step false f g (inl z) ih = absurd (not_both (sym f ∙ ap p z ∙ e))
     step false f g (inr l) ih = ih (omega arith) g
 
-namable : (w : World) (upto n : ℕ) → Sender (shape w) → can_name w upto n ≡ true → IsNamable (shape w) upto n
+pub namable : (w : World) (upto n : ℕ) → Sender (shape w) → can_name w upto n ≡ true → IsNamable (shape w) upto n
 namable w upto n s e =
     let a = both (nat_lt n (length w.messages)) ((Messages.message_at w n).ordered && (is_ended w n && (not (Messages.message_at w n).expired && list_all (λ place. nat_le place upto) (Messages.slots_where w (Messages.belongs_to w n))))) e in
     let b = both (Messages.message_at w n).ordered (is_ended w n && (not (Messages.message_at w n).expired && list_all (λ place. nat_le place upto) (Messages.slots_where w (Messages.belongs_to w n)))) a.1 in
@@ -283,7 +283,7 @@ namable w upto n s e =
     some lt (inl f) = omega (arith, f, s.some n lt)
     some lt (inr f) = s.abandoned_sent n lt f
 
-names-fit : (w : World) (upto : ℕ) (ns : List ℕ) → Sender (shape w) → list_all (can_name w upto) ns ≡ true → NamesFit (shape w) upto ns
+pub names-fit : (w : World) (upto : ℕ) (ns : List ℕ) → Sender (shape w) → list_all (can_name w upto) ns ≡ true → NamesFit (shape w) upto ns
 names-fit w upto [] s e = tt
 names-fit w upto (n ∷ ns) s e = let a = both (can_name w upto n) (list_all (can_name w upto) ns) e in (namable w upto n s a.0, names-fit w upto ns s a.1)
 
@@ -295,30 +295,30 @@ fit-quiet w v s q e a = fit-kept w v s q.grows e a
 fit-same : (w v : World) → Sender (shape w) → Same w v → AllFit (shape w) w.network → AllFit (shape v) v.network
 fit-same w v s q a = fit-kept w v s (grows-same (shape w) (shape v) q.shape_is) q.network a
 
-network-abandoned : (w : World) (n : ℕ) → (Changes.abandoned w n).network ≡ w.network
+pub network-abandoned : (w : World) (n : ℕ) → (Changes.abandoned w n).network ≡ w.network
 network-abandoned w n = step (Messages.is_half_sent w n)
   where
     step : (b : Bool) → (Changes.message_changed (if b then Changes.with_slot w n true else w) n Changes.mark_abandoned).network ≡ w.network
     step true = refl
     step false = refl
 
-network-late : (ns : List ℕ) (w : World) → (fold Changes.abandoned w ns).network ≡ w.network
+pub network-late : (ns : List ℕ) (w : World) → (fold Changes.abandoned w ns).network ≡ w.network
 network-late [] w = refl
 network-late (n ∷ ns) w = network-late ns (Changes.abandoned w n) ∙ network-abandoned w n
 
-network-tail : (w : World) (o : Option ℕ) → (Changes.tail_abandoned w o).network ≡ w.network
+pub network-tail : (w : World) (o : Option ℕ) → (Changes.tail_abandoned w o).network ≡ w.network
 network-tail w None = refl
 network-tail w (Some n) = network-abandoned w n
 
-network-expired : (w : World) (o : Option ℕ) → (Changes.expired w o).network ≡ w.network
+pub network-expired : (w : World) (o : Option ℕ) → (Changes.expired w o).network ≡ w.network
 network-expired w None = refl
 network-expired w (Some n) = refl
 
-network-written : (w : World) (s : ℕ) (ppi : PayloadProtocolIdentifier) (bytes : List ℕ) → (Changes.wrote w s ppi bytes).network ≡ w.network
+pub network-written : (w : World) (s : ℕ) (ppi : PayloadProtocolIdentifier) (bytes : List ℕ) → (Changes.wrote w s ppi bytes).network ≡ w.network
 network-written w s ppi [] = refl
 network-written w s ppi (b ∷ bs) = refl
 
-skip-ok : (w : World) (upto : ℕ) (names : List ℕ) → skip_refusal w upto names ≡ None → (upto < length w.slots) × (list_all (can_name w upto) names ≡ true)
+pub skip-ok : (w : World) (upto : ℕ) (names : List ℕ) → skip_refusal w upto names ≡ None → (upto < length w.slots) × (list_all (can_name w upto) names ≡ true)
 skip-ok w upto names ok =
     let first = unless-holds (nat_lt upto (length w.slots)) SkipUnassigned (unless (list_all (can_name w upto) names && nat_le (length names) 16381) SkipNames None) ok in
     let second = unless-holds (list_all (can_name w upto) names && nat_le (length names) 16381) SkipNames None first.1 in
