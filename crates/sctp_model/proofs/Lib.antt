@@ -13,3 +13,4 @@ pub mod Moves
 pub mod Network
 pub mod Few
 pub mod Made
+pub mod Events
