@@ -26,8 +26,8 @@ counted f count zero lt = total-none (λ n. length (kept (λ p. f p == n) 0 zero
 counted f count (suc slots) lt =
     let ih = counted f count slots (λ p l. lt p (omega arith)) in
     let more = total-one (λ n. length (kept (λ p. f p == n) 0 slots)) (λ n. length (kept (λ p. f p == n) 0 (suc slots))) (f slots) 1 0 count (omega arith) (let l = lt slots (omega arith) in omega (arith, l))
-        (λ k ne. sym (length-snoc (λ p. f p == k) slots ∙ other k (f slots == k) refl ne))
-        (sym (length-snoc (λ p. f p == f slots) slots ∙ ap (λ b. length (kept (λ p. f p == f slots) 0 slots) + (if b then 1 else 0)) (same-yes (f slots)))) in
+    (λ k ne. sym (length-snoc (λ p. f p == k) slots ∙ other k (f slots == k) refl ne))
+    (sym (length-snoc (λ p. f p == f slots) slots ∙ ap (λ b. length (kept (λ p. f p == f slots) 0 slots) + (if b then 1 else 0)) (same-yes (f slots)))) in
     omega (arith, ih, more)
   where
     other : (k : ℕ) (b : Bool) → (f slots == k) ≡ b → (k ≡ f slots → ⊥) → length (kept (λ p. f p == k) 0 slots) + (if b then 1 else 0) ≡ length (kept (λ p. f p == k) 0 slots)

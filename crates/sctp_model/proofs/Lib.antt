@@ -14,3 +14,4 @@ pub mod Network
 pub mod Few
 pub mod Made
 pub mod Events
+pub mod Arrivals

@@ -1,6 +1,7 @@
 //! What holds of every history of a link: laws, each the contract of a function that does nothing.
 
 ghost use Rattle.sctp_model.specs.Laws.{OnEveryRun, EmitsWherePending, TakesPending, SlotsInOrder, SlotsFollow, OneHalfSent, SentInTurn, IndexesLeaveNoGap, NoEndMarkIsSent, DatagramsStay};
+ghost use Rattle.sctp_model.specs.Laws.{NetworkIsMade, ArrivedIsNew, CumulativeIsSeen, ArrivalsAnswered};
 
 /// A Send answers Idle exactly where no fragment is pending; else its new datagram carries the pending fragments that it takes.
 pub fn each_send_emits()
@@ -17,4 +18,12 @@ pub fn slots_are_sound()
     ensures no_gap { OnEveryRun IndexesLeaveNoGap }
     ensures no_end_mark { OnEveryRun NoEndMarkIsSent }
     ensures stay { OnEveryRun DatagramsStay }
+{}
+
+/// The datagrams of the record are those that events and replies tell of, and what arrived in it is what the order of arrivals says.
+pub fn arrivals_are_told()
+    ensures network { OnEveryRun NetworkIsMade }
+    ensures arrived { OnEveryRun ArrivedIsNew }
+    ensures cumulative { OnEveryRun CumulativeIsSeen }
+    ensures answered { OnEveryRun ArrivalsAnswered }
 {}

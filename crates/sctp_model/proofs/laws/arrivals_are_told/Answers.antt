@@ -1,0 +1,15 @@
+use Rattle.sctp_model.proofs.Made.{network_is_made}
+use Rattle.sctp_model.proofs.Arrivals.{arrived_is_new, cumulative_is_seen, arrivals_answered}
+use Rattle.sctp_model.proofs.laws.arrivals_are_told.Goals as goal
+
+pub returns-clause-network : goal.returns-clause-network
+returns-clause-network c = network_is_made
+
+pub returns-clause-arrived : goal.returns-clause-arrived
+returns-clause-arrived c = arrived_is_new
+
+pub returns-clause-cumulative : goal.returns-clause-cumulative
+returns-clause-cumulative c = cumulative_is_seen
+
+pub returns-clause-answered : goal.returns-clause-answered
+returns-clause-answered c = arrivals_answered
