@@ -15,3 +15,4 @@ pub mod Few
 pub mod Made
 pub mod Events
 pub mod Arrivals
+pub mod View
