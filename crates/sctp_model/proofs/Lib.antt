@@ -16,3 +16,4 @@ pub mod Made
 pub mod Events
 pub mod Arrivals
 pub mod View
+pub mod Indexes
