@@ -5,3 +5,4 @@ pub mod More
 pub mod Wraps
 pub mod SerialLemmas
 pub mod Places
+pub mod Alls

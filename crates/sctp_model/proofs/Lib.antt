@@ -17,3 +17,4 @@ pub mod Events
 pub mod Arrivals
 pub mod View
 pub mod Indexes
+pub mod Names

@@ -1,5 +1,6 @@
 use Rattle.sctp_model.proofs.Made.{network_is_made}
 use Rattle.sctp_model.proofs.Arrivals.{arrived_is_new, cumulative_is_seen, arrivals_answered}
+use Rattle.sctp_model.proofs.Names.{named_is_named}
 use Rattle.sctp_model.proofs.laws.arrivals_are_told.Goals as goal
 
 pub returns-clause-network : goal.returns-clause-network
@@ -13,3 +14,6 @@ returns-clause-cumulative c = cumulative_is_seen
 
 pub returns-clause-answered : goal.returns-clause-answered
 returns-clause-answered c = arrivals_answered
+
+pub returns-clause-named : goal.returns-clause-named
+returns-clause-named c = named_is_named
