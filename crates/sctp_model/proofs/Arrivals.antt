@@ -130,14 +130,14 @@ heard-as w v log a s d l h = record {
   duplicates = d ∙ h.duplicates;
 }
 
-heard-noted : (v : World) (n : ℕ) (log : List Coming) → Heard v log → Heard (Changes.whole_noted v n) log
+pub heard-noted : (v : World) (n : ℕ) (log : List Coming) → Heard v log → Heard (Changes.whole_noted v n) log
 heard-noted v n log h = step (Changes.becomes_whole v n)
   where
     step : (b : Bool) → Heard (if b then Changes.stream_changed v (Messages.message_at v n).stream (Changes.with_whole n) else v) log
     step true = heard-as v (Changes.stream_changed v (Messages.message_at v n).stream (Changes.with_whole n)) log (λ p. refl) refl refl (omega arith) h
     step false = h
 
-heard-new : (w : World) (log : List Coming) (p : ℕ) → p < length w.slots → is_new w p ≡ true → Heard w log → Heard (with_arrived w p) (SlotCame p ∷ log)
+pub heard-new : (w : World) (log : List Coming) (p : ℕ) → p < length w.slots → is_new w p ≡ true → Heard w log → Heard (with_arrived w p) (SlotCame p ∷ log)
 heard-new w log p lt new h = record {
   arrived = λ k. by_same {P = arrived_at (with_arrived w p) k ≡ (Log.arrived_new log k || ((p == k) && not (Log.is_seen log k)))} p k
       (λ e. ap (arrived_at (with_arrived w p)) (sym e) ∙ here ∙ sym (ap (λ j. Log.arrived_new log j || ((p == j) && not (Log.is_seen log j))) (sym e) ∙ or-right (Log.arrived_new log p) ((p == p) && not (Log.is_seen log p)) (ap (λ b. b && not (Log.is_seen log p)) (same-yes p) ∙ ap not unseen)))

@@ -18,3 +18,4 @@ pub mod Arrivals
 pub mod View
 pub mod Indexes
 pub mod Names
+pub mod Wholes
