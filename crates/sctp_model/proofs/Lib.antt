@@ -19,3 +19,5 @@ pub mod View
 pub mod Indexes
 pub mod Names
 pub mod Wholes
+pub mod Known
+pub mod KnownRun

@@ -43,7 +43,7 @@ slots_in x n = kept (has x n) 0 x.slots
 abbrev pub whole_in : Shape → List Coming → ℕ → Bool
 whole_in x log n = (sent x n == parts x n) && (if (x.message n).ordered then list_all (Log.arrived_new log) (slots_in x n) else Log.were_whole (slots_in x n) log)
 
-whole-is : (w : World) (log : List Coming) (n : ℕ) → Log.is_whole_by w log n ≡ whole_in (shape w) log n
+pub whole-is : (w : World) (log : List Coming) (n : ℕ) → Log.is_whole_by w log n ≡ whole_in (shape w) log n
 whole-is w log n = refl
 
 -- all of these slots have arrived, and no skip covered one
@@ -88,11 +88,11 @@ new-stays (SlotCame q) log p e = or-left (Log.arrived_new log p) ((q == p) && no
 new-stays (SkipCame upto names) log p e = e
 new-stays SackMade log p e = e
 
-all-more : (t u : ℕ → Bool) (xs : List ℕ) → ((k : ℕ) → t k ≡ true → u k ≡ true) → list_all t xs ≡ true → list_all u xs ≡ true
+pub all-more : (t u : ℕ → Bool) (xs : List ℕ) → ((k : ℕ) → t k ≡ true → u k ≡ true) → list_all t xs ≡ true → list_all u xs ≡ true
 all-more t u [] h e = refl
 all-more t u (x ∷ xs) h e = let a = both (t x) (list_all t xs) e in and (u x) (list_all u xs) (h x a.0) (all-more t u xs h a.1)
 
-either-is : (a b : Bool) → (a || b) ≡ true → (a ≡ true) ⊎ (b ≡ true)
+pub either-is : (a b : Bool) → (a || b) ≡ true → (a ≡ true) ⊎ (b ≡ true)
 either-is true b e = inl refl
 either-is false b e = inr e
 
@@ -189,9 +189,9 @@ whole-none x log n z pos =
 abbrev pub due : View → ℕ → Bool
 due v n = all_come v n && list_all (λ p. nat_le v.skipped p) (slots_in v.x n)
 
-record Hears (v : View) (log : List Coming) : Type 0 where
-  arrived : (p : ℕ) → v.arrived p ≡ Log.arrived_new log p
-  covered : (p : ℕ) → Log.is_skipped log p ≡ nat_lt p v.skipped
+pub record Hears (v : View) (log : List Coming) : Type 0 where
+  pub arrived : (p : ℕ) → v.arrived p ≡ Log.arrived_new log p
+  pub covered : (p : ℕ) → Log.is_skipped log p ≡ nat_lt p v.skipped
 
 pub all-come : (v : View) (n : ℕ) → sent v.x n ≤ parts v.x n → all_come v n ≡ ((sent v.x n == parts v.x n) && list_all v.arrived (slots_in v.x n))
 all-come v n le = ands (cases_lt (come_count v n) (sent v.x n)) ∙ ap (λ b. (sent v.x n == parts v.x n) && b) (sym (Alls.all-count (has v.x n) v.arrived 0 v.x.slots))
@@ -226,7 +226,7 @@ all-come v n le = ands (cases_lt (come_count v n) (sent v.x n)) ∙ ap (λ b. (s
         id false = refl
 
 -- what is due is what is whole now
-due-now : (v : View) (log : List Coming) (n : ℕ) → Hears v log → sent v.x n ≤ parts v.x n → due v n ≡ ((sent v.x n == parts v.x n) && all_now log (slots_in v.x n))
+pub due-now : (v : View) (log : List Coming) (n : ℕ) → Hears v log → sent v.x n ≤ parts v.x n → due v n ≡ ((sent v.x n == parts v.x n) && all_now log (slots_in v.x n))
 due-now v log n h le =
     ap (λ b. b && list_all (λ p. nat_le v.skipped p) (slots_in v.x n)) (all-come v n le)
     ∙ assoc (sent v.x n == parts v.x n) (list_all v.arrived (slots_in v.x n)) (list_all (λ p. nat_le v.skipped p) (slots_in v.x n))
@@ -242,7 +242,7 @@ due-now v log n h le =
     past k (inr g) = grind (arith, nat_tests)
 
 -- an unordered message after one thing more came
-one-more : (v : View) (coming : Coming) (log : List Coming) (n : ℕ) → Hears v (coming ∷ log) → sent v.x n ≤ parts v.x n → (v.x.message n).ordered ≡ false → whole_in v.x (coming ∷ log) n ≡ (whole_in v.x log n || due v n)
+pub one-more : (v : View) (coming : Coming) (log : List Coming) (n : ℕ) → Hears v (coming ∷ log) → sent v.x n ≤ parts v.x n → (v.x.message n).ordered ≡ false → whole_in v.x (coming ∷ log) n ≡ (whole_in v.x log n || due v n)
 one-more v coming log n h le o =
     ap (λ b. (sent v.x n == parts v.x n) && (if b then list_all (Log.arrived_new (coming ∷ log)) (slots_in v.x n) else Log.were_whole (slots_in v.x n) (coming ∷ log))) o
     ∙ dist (sent v.x n == parts v.x n) (Log.were_whole (slots_in v.x n) log) (all_now (coming ∷ log) (slots_in v.x n))
@@ -254,7 +254,7 @@ one-more v coming log n h le o =
     dist false b c = refl
 
 -- what is due was whole
-due-whole : (v : View) (log : List Coming) (n : ℕ) → Hears v log → sent v.x n ≤ parts v.x n → 0 < parts v.x n → (v.x.message n).ordered ≡ false → due v n ≡ true → whole_in v.x log n ≡ true
+pub due-whole : (v : View) (log : List Coming) (n : ℕ) → Hears v log → sent v.x n ≤ parts v.x n → 0 < parts v.x n → (v.x.message n).ordered ≡ false → due v n ≡ true → whole_in v.x log n ≡ true
 due-whole v log n h le some o e =
     let a = both (sent v.x n == parts v.x n) (all_now log (slots_in v.x n)) (sym (due-now v log n h le) ∙ e) in
     let z = same-is (sent v.x n) (parts v.x n) a.0 in
@@ -272,7 +272,7 @@ whole-come v log n arrived le e =
     by false e = were-new (slots_in v.x n) log e
 
 -- an ordered one is whole exactly where it has arrived
-ordered-whole : (v : View) (log : List Coming) (n : ℕ) → ((p : ℕ) → v.arrived p ≡ Log.arrived_new log p) → sent v.x n ≤ parts v.x n → (v.x.message n).ordered ≡ true → whole_at v n ≡ whole_in v.x log n
+pub ordered-whole : (v : View) (log : List Coming) (n : ℕ) → ((p : ℕ) → v.arrived p ≡ Log.arrived_new log p) → sent v.x n ≤ parts v.x n → (v.x.message n).ordered ≡ true → whole_at v n ≡ whole_in v.x log n
 ordered-whole v log n arrived le o =
     ap (λ b. if b then all_come v n else v.read n || list_any (λ k. k == n) (v.whole (v.x.message n).stream)) o
     ∙ all-come v n le

@@ -1,5 +1,6 @@
 use Rattle.sctp_model.proofs.Made.{network_is_made}
 use Rattle.sctp_model.proofs.Arrivals.{arrived_is_new, cumulative_is_seen, arrivals_answered}
+use Rattle.sctp_model.proofs.KnownRun.{whole_is_whole}
 use Rattle.sctp_model.proofs.Names.{named_is_named}
 use Rattle.sctp_model.proofs.laws.arrivals_are_told.Goals as goal
 
@@ -17,3 +18,6 @@ returns-clause-answered c = arrivals_answered
 
 pub returns-clause-named : goal.returns-clause-named
 returns-clause-named c = named_is_named
+
+pub returns-clause-whole : goal.returns-clause-whole
+returns-clause-whole c = whole_is_whole
