@@ -21,3 +21,4 @@ pub mod Names
 pub mod Wholes
 pub mod Known
 pub mod KnownRun
+pub mod Due
