@@ -10,3 +10,5 @@ pub mod Totals
 pub mod Rows
 pub mod Pieces
 pub mod Tests
+pub mod Places
+pub mod Alls

@@ -23,13 +23,13 @@ use Rattle.sctp_model.specs.Steps.{History, world_of, IsRun, refusal_of, after}
 use Rattle.sctp_model.specs.Contents.{SackContents, cumulative_tsn, datagram, contents_in, contents_of}
 use Rattle.sctp_model.specs.Laws.{IsSetup, OnEveryRun, AcknowledgedArrived, AcknowledgedIsReported, SacksSay, blocks_by}
 use Rattle.sctp_model.proofs.Shape.{shape}
-use Rattle.sctp_model.proofs.Logged.{Logged, below-seen, seen-count}
-use Rattle.sctp_model.proofs.LoggedRun.{logged-run}
+use Rattle.sctp_model.proofs.Arrivals.{Heard, heard-run, seen_by, seen-below, arrived-beyond, cumulative_is_seen}
 use Rattle.sctp_model.proofs.SenderRun.{Sane, sane-run, fold-keeps}
 use Rattle.sctp_model.proofs.Moves
 use Rattle.sctp_model.proofs.Network
 use Rattle.sctp_lists.proofs.Cases.{or-left, or-split}
 use Rattle.sctp_lists.proofs.Getting.{length-numbered, numbered-at, get-last}
+use Rattle.sctp_lists.proofs.Cases.{or-right}
 
 -- Only what arrived or was skipped is acknowledged.
 
@@ -119,20 +119,16 @@ any-kept q d from (suc count) e = step (q from) refl e (λ h. any-kept q d (from
     step false f e ih = ih e
 
 -- what the next SACK reports was seen
-report-seen : (w : World) (credit p : ℕ) → reports (report_of w credit) p ≡ true → (arrived_at w p || nat_lt p w.skipped) ≡ true
+report-seen : (w : World) (credit p : ℕ) → reports (report_of w credit) p ≡ true → seen_by w p ≡ true
 report-seen w credit p e = step (or-split (nat_lt p (cumulative w)) (list_any (covers (cumulative w) p) (gap_blocks w)) e)
   where
-    or-left : (a b : Bool) → a ≡ true → (a || b) ≡ true
-    or-left true b e = refl
-    or-left false b e = cc
-
-    step : (nat_lt p (cumulative w) ≡ true) ⊎ (list_any (covers (cumulative w) p) (gap_blocks w) ≡ true) → (arrived_at w p || nat_lt p w.skipped) ≡ true
-    step (inl h) = below-seen w p (grind (arith, nat_tests))
+    step : (nat_lt p (cumulative w) ≡ true) ⊎ (list_any (covers (cumulative w) p) (gap_blocks w) ≡ true) → seen_by w p ≡ true
+    step (inl h) = seen-below w p (grind (arith, nat_tests))
     step (inr h) =
         let r = in-runs (cumulative w) p (distances w) (any-take (covers (cumulative w) p) 16379 (runs_of (distances w)) h) in
         let a : arrived_at w (cumulative w + r.0 - 1) ≡ true = any-kept (λ d. arrived_at w (cumulative w + d - 1)) r.0 1 (min 65535 (length w.slots - cumulative w)) r.2 in
         let same : cumulative w + r.0 - 1 ≡ p = omega (arith, r.1) in
-        or-left (arrived_at w p) (nat_lt p w.skipped) (ap (arrived_at w) (sym same) ∙ a)
+        or-right (nat_lt p w.skipped) (arrived_at w p) (ap (arrived_at w) (sym same) ∙ a)
 
 -- ## What was seen stays seen
 
@@ -206,7 +202,7 @@ sacks-sent log w now (Some n) f =
     let v = Changes.fragments_sent u in
     sacks-append log v.network (Data (numbers_from (length u.slots) (length v.slots - length u.slots)) ∷ []) (subst (SacksFit log) (sym (Network.same-network u)) f) (tt, tt)
 
-sacks-after : (setup : Setup) (older : History) (e : Event) (log : List Coming) → ((p : ℕ) → (arrived_at (world_of setup older) p || nat_lt p (world_of setup older).skipped) ≡ true → is_seen log p ≡ true) → SacksFit log (world_of setup older).network → SacksFit log (after (world_of setup older) e).network
+sacks-after : (setup : Setup) (older : History) (e : Event) (log : List Coming) → ((p : ℕ) → seen_by (world_of setup older) p ≡ true → is_seen log p ≡ true) → SacksFit log (world_of setup older).network → SacksFit log (after (world_of setup older) e).network
 sacks-after setup older (E.Open s) log h f = f
 sacks-after setup older (E.Mode s u v x) log h f = f
 sacks-after setup older (E.Write s x y) log h f = subst (SacksFit log) (sym (Network.network-written (world_of setup older) s x y)) f
@@ -226,7 +222,7 @@ sacks-after setup older (E.Read s) log h f = subst (SacksFit log) (sym (Network.
 pub sacks-run : (setup : Setup) (h : History) → IsSetup setup → IsRun setup h → SacksFit (log_of setup h) (world_of setup h).network
 sacks-run setup [] is run = tt
 sacks-run setup (entry ∷ older) is run =
-    let g = logged-run setup older is run.1.1 in
+    let g = heard-run setup older is run.1.1 in
     sacks-after setup older entry.0 (log_of setup (entry ∷ older)) (λ p e. seen-stays setup older entry.0 entry.1 p (g.seen p ∙ e))
     (sacks-more (log_of setup older) (log_of setup (entry ∷ older)) (λ p e. seen-stays setup older entry.0 entry.1 p e) (world_of setup older).network (sacks-run setup older is run.1.1))
 
@@ -261,20 +257,27 @@ seen-acknowledged setup ((E.Ack x, r) ∷ older) p is run e = seen-acknowledged 
 seen-acknowledged setup ((E.Read x, r) ∷ older) p is run e = seen-acknowledged setup older p is run.1.1 e
 
 -- what was seen was made
-pub seen-made : (w : World) (log : List Coming) (p : ℕ) → Logged w log → is_seen log p ≡ true → p < length w.slots
-seen-made w log p g e = step (or-split (arrived_at w p) (nat_lt p w.skipped) (sym (g.seen p) ∙ e))
+pub seen-made : (w : World) (log : List Coming) (p : ℕ) → Heard w log → is_seen log p ≡ true → p < length w.slots
+seen-made w log p g e = step (or-split (nat_lt p w.skipped) (arrived_at w p) (sym (g.seen p) ∙ e)) (cases_lt p (length w.slots))
   where
-    step : (arrived_at w p ≡ true) ⊎ (nat_lt p w.skipped ≡ true) → p < length w.slots
-    step (inl h) = (g.fragment p h).0
-    step (inr h) = let z : p < w.skipped = grind (arith, nat_tests) in omega (arith, g.short)
+    step : (nat_lt p w.skipped ≡ true) ⊎ (arrived_at w p ≡ true) → (p < length w.slots) ⊎ (length w.slots ≤ p) → p < length w.slots
+    step h (inl l) = l
+    step (inl h) (inr o) = let z : p < w.skipped = grind (arith, nat_tests) in omega (arith, g.short)
+    step (inr h) (inr o) = absurd (not_both (sym (arrived-beyond w p o) ∙ h))
 
 pub acknowledged_arrived : OnEveryRun AcknowledgedArrived
 acknowledged_arrived setup h is run p e =
-    let g = logged-run setup h is run in
+    let g = heard-run setup h is run in
     let s = seen-acknowledged setup h p is run e in (
       seen-made (world_of setup h) (log_of setup h) p g s,
-      ap (λ b. b || is_skipped (log_of setup h) p) (g.new p) ∙ ap (λ b. arrived_at (world_of setup h) p || b) (g.passed p) ∙ sym (g.seen p) ∙ s,
+      ap (λ b. b || is_skipped (log_of setup h) p) (sym (g.arrived p)) ∙ ap (λ b. arrived_at (world_of setup h) p || b) (g.covered p)
+          ∙ swapped (arrived_at (world_of setup h) p) (nat_lt p (world_of setup h).skipped) (sym (g.seen p) ∙ s),
     )
+  where
+    swapped : (a b : Bool) → (b || a) ≡ true → (a || b) ≡ true
+    swapped true b e = refl
+    swapped false true e = refl
+    swapped false false e = e
 
 -- ## What is acknowledged is what the SACKs taken report
 
@@ -357,7 +360,7 @@ acks-step : (setup : Setup) (older : History) (e : Event) (r : Reply) → IsSetu
 acks-step setup older e r is run a = by_event e
   where
     made : (p : ℕ) → is_acknowledged_in setup older p ≡ true → p < length (world_of setup older).slots
-    made p h = seen-made (world_of setup older) (log_of setup older) p (logged-run setup older is run) (seen-acknowledged setup older p is run h)
+    made p h = seen-made (world_of setup older) (log_of setup older) p (heard-run setup older is run) (seen-acknowledged setup older p is run h)
 
     quiet : (v : World) → Moves.Quiet (world_of setup older) v → Acks setup older v
     quiet v q = acks-quiet setup older (world_of setup older) v q made a
@@ -395,12 +398,12 @@ pub sacks_say : OnEveryRun SacksSay
 sacks_say setup h is run credit =
     let w = world_of setup h in
     let log = log_of setup h in
-    let g = logged-run setup h is run in
-    let c : cumulative w ≡ seen_count log (length w.slots) = seen-count w log g in
+    let g = heard-run setup h is run in
+    let c : cumulative w ≡ seen_count log (length w.slots) = cumulative_is_seen setup h is run in
     let blocks : gap_blocks w ≡ blocks_by w log =
     ap (λ q. take 16379 (runs_of (kept (λ d. arrived_at w (q + d - 1)) 1 (min 65535 (length w.slots - q))))) c
-    ∙ ap (λ l. take 16379 (runs_of l)) (kept-same (λ d. arrived_at w (seen_count log (length w.slots) + d - 1)) (λ d. arrived_new log (seen_count log (length w.slots) + d - 1)) 1 (min 65535 (length w.slots - seen_count log (length w.slots))) (λ k a b. sym (g.new (seen_count log (length w.slots) + k - 1)))) in
+    ∙ ap (λ l. take 16379 (runs_of l)) (kept-same (λ d. arrived_at w (seen_count log (length w.slots) + d - 1)) (λ d. arrived_new log (seen_count log (length w.slots) + d - 1)) 1 (min 65535 (length w.slots - seen_count log (length w.slots))) (λ k a b. (g.arrived (seen_count log (length w.slots) + k - 1)))) in
     ap (contents_in (after w (E.Ack credit))) (get-last w.network (Sack (report_of w credit)))
     ∙ ap (λ q. Some (SackContents (cumulative_tsn w q) credit (gap_blocks w) (map (Messages.tsn_of w) (take (16379 - length (gap_blocks w)) w.duplicates)))) c
     ∙ ap (λ b. Some (SackContents (cumulative_tsn w (seen_count log (length w.slots))) credit b (map (Messages.tsn_of w) (take (16379 - length b) w.duplicates)))) blocks
-    ∙ ap (λ d. Some (SackContents (cumulative_tsn w (seen_count log (length w.slots))) credit (blocks_by w log) (map (Messages.tsn_of w) (take (16379 - length (blocks_by w log)) d)))) (sym g.again)
+    ∙ ap (λ d. Some (SackContents (cumulative_tsn w (seen_count log (length w.slots))) credit (blocks_by w log) (map (Messages.tsn_of w) (take (16379 - length (blocks_by w log)) d)))) g.duplicates

@@ -11,9 +11,7 @@ pub mod Grows
 pub mod Moves
 pub mod Network
 pub mod Bytes
-pub mod Logged
 pub mod Few
-pub mod LoggedRun
 pub mod Acknowledged
 pub mod Written
 pub mod BytesTold
@@ -29,3 +27,13 @@ mod LongScripts
 pub mod Counted
 pub mod Lossless
 pub mod Composed
+pub mod Made
+pub mod Events
+pub mod Arrivals
+pub mod View
+pub mod Indexes
+pub mod Names
+pub mod Wholes
+pub mod Known
+pub mod KnownRun
+pub mod Due

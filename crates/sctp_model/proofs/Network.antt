@@ -230,7 +230,7 @@ pub slots-fit : (x : Shape) (from count : ℕ) → ((p : ℕ) → from ≤ p →
 slots-fit x from zero h = tt
 slots-fit x from (suc count) h = let a = h from (omega arith) (omega arith) in (a.0, a.1, slots-fit x (from + 1) count (λ p i j. h p (omega arith) (omega arith)))
 
-network-more : (v : World) → (Changes.fragment_sent v).network ≡ v.network
+pub network-more : (v : World) → (Changes.fragment_sent v).network ≡ v.network
 network-more v = step (Messages.front v)
   where
     step : (o : Option ℕ) → (Changes.fragment_of_sent v o).network ≡ v.network
@@ -254,7 +254,7 @@ fit-sent setup w now (Some n) g a =
     all-of : Moves.Quiet w (Changes.fragments_sent (Changes.started w now)) → AllFit (shape (Changes.fragments_sent (Changes.started w now))) (Changes.fragments_sent (Changes.started w now)).network
     all-of q = fit-kept w (Changes.fragments_sent (Changes.started w now)) g.sender q.grows (same-network (Changes.started w now)) a
 
-namable : (w : World) (upto n : ℕ) → Sender (shape w) → can_name w upto n ≡ true → IsNamable (shape w) upto n
+pub namable : (w : World) (upto n : ℕ) → Sender (shape w) → can_name w upto n ≡ true → IsNamable (shape w) upto n
 namable w upto n s e =
     let a = both (nat_lt n (length w.messages)) ((Messages.message_at w n).ordered && (is_ended w n && (not (Messages.message_at w n).expired && list_all (λ place. nat_le place upto) (Messages.slots_where w (Messages.belongs_to w n))))) e in
     let b = both (Messages.message_at w n).ordered (is_ended w n && (not (Messages.message_at w n).expired && list_all (λ place. nat_le place upto) (Messages.slots_where w (Messages.belongs_to w n)))) a.1 in
@@ -277,7 +277,7 @@ namable w upto n s e =
     some lt (inl f) = omega (arith, f, s.some n lt)
     some lt (inr f) = s.abandoned_sent n lt f
 
-names-fit : (w : World) (upto : ℕ) (ns : List ℕ) → Sender (shape w) → list_all (can_name w upto) ns ≡ true → NamesFit (shape w) upto ns
+pub names-fit : (w : World) (upto : ℕ) (ns : List ℕ) → Sender (shape w) → list_all (can_name w upto) ns ≡ true → NamesFit (shape w) upto ns
 names-fit w upto [] s e = tt
 names-fit w upto (n ∷ ns) s e = let a = both (can_name w upto n) (list_all (can_name w upto) ns) e in (namable w upto n s a.0, names-fit w upto ns s a.1)
 
@@ -312,7 +312,7 @@ pub network-written : (w : World) (s : ℕ) (ppi : PayloadProtocolIdentifier) (b
 network-written w s ppi [] = refl
 network-written w s ppi (b ∷ bs) = refl
 
-skip-ok : (w : World) (upto : ℕ) (names : List ℕ) → skip_refusal w upto names ≡ None → (upto < length w.slots) × (list_all (can_name w upto) names ≡ true)
+pub skip-ok : (w : World) (upto : ℕ) (names : List ℕ) → skip_refusal w upto names ≡ None → (upto < length w.slots) × (list_all (can_name w upto) names ≡ true)
 skip-ok w upto names ok =
     let first = unless-holds (nat_lt upto (length w.slots)) SkipUnassigned (unless (list_all (can_name w upto) names && nat_le (length names) 16381) SkipNames None) ok in
     let second = unless-holds (list_all (can_name w upto) names && nat_le (length names) 16381) SkipNames None first.1 in

@@ -181,7 +181,7 @@ sane-noted setup v n g = step (Changes.becomes_whole v n)
     step true = sane-changed setup v (Messages.message_at v n).stream (Changes.with_whole n) (λ r. refl) g
     step false = g
 
-sane-came : (setup : Setup) (w : World) (p : ℕ) → Sane setup w → Sane setup (Changes.slot_came w p)
+pub sane-came : (setup : Setup) (w : World) (p : ℕ) → Sane setup w → Sane setup (Changes.slot_came w p)
 sane-came setup w p g = step (Receiver.is_new w p)
   where
     step : (b : Bool) → Sane setup (if b then Changes.whole_noted (record w { slots = changed Changes.mark_arrived p w.slots }) (Messages.message_of w p) else record w { duplicates = w.duplicates ++ p ∷ [] })
