@@ -92,7 +92,7 @@ pub run-due : (v : View) (s : ℕ) → ((k : ℕ) → k < v.x.count → on v.x s
 run-due v s reads =
     run-first (whole_at v) v.read (v.named s) (line v s) (all (on v.x s) 0 v.x.count (λ k a b e r. reads k (omega arith) e r))
     ∙ ap first_of (take-kept (on v.x s) (wanted (whole_at v) v.read) (index v.x) 0 v.x.count (next v s + 1) 0 (next v s + 1) (omega arith) (λ k a b e. index_on v.x s k e ∙ place k)
-        ∙ kept-same (λ k. on v.x s k && (wanted (whole_at v) v.read k && nat_lt (index v.x k) (next v s + 1))) (is_due v s) 0 v.x.count (λ k a b. same (on v.x s k) (not (v.read k)) (whole_at v k) (index v.x k) (next v s)))
+    ∙ kept-same (λ k. on v.x s k && (wanted (whole_at v) v.read k && nat_lt (index v.x k) (next v s + 1))) (is_due v s) 0 v.x.count (λ k a b. same (on v.x s k) (not (v.read k)) (whole_at v k) (index v.x k) (next v s)))
   where
     place : (k : ℕ) → length (kept (on v.x s) 0 k) ≡ 0 + length (kept (on v.x s) 0 (k - 0))
     place k = let e : k - 0 ≡ k = omega arith in rw e (omega arith)

@@ -22,3 +22,4 @@ pub mod Wholes
 pub mod Known
 pub mod KnownRun
 pub mod Due
+pub mod Ordered
