@@ -23,3 +23,4 @@ pub mod Known
 pub mod KnownRun
 pub mod Due
 pub mod Ordered
+pub mod Received
