@@ -24,3 +24,4 @@ pub mod KnownRun
 pub mod Due
 pub mod Ordered
 pub mod Received
+pub mod Spans

@@ -79,14 +79,14 @@ named-made v a o s = by (o.named_is s)
 -- ## The sender's changes
 
 module _ (u v : View) (t : Still u v) (o : Ordered u) where
-  record Old (s n : ℕ) : Type 0 where
-    made : n < u.x.count
-    some : 0 < sent u.x n
-    on_it : on u.x s n ≡ true
-    same : index v.x n ≡ index u.x n
+  pub record Old (s n : ℕ) : Type 0 where
+    pub made : n < u.x.count
+    pub some : 0 < sent u.x n
+    pub on_it : on u.x s n ≡ true
+    pub same : index v.x n ≡ index u.x n
 
   -- what was sent
-  sent-old : (s n : ℕ) → 0 < sent u.x n → on v.x s n ≡ true → Old s n
+  pub sent-old : (s n : ℕ) → 0 < sent u.x n → on v.x s n ≡ true → Old s n
   sent-old s n pos h =
       let lt = sent-made u.x n t.sender pos in
       let e : on u.x s n ≡ true = sym (on-grown u.x v.x t.sender t.sender' t.grows s n pos) ∙ h in

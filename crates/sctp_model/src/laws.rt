@@ -1,7 +1,7 @@
 //! What holds of every history of a link: laws, each the contract of a function that does nothing.
 
 ghost use Rattle.sctp_model.specs.Laws.{OnEveryRun, EmitsWherePending, TakesPending, SlotsInOrder, SlotsFollow, OneHalfSent, SentInTurn, IndexesLeaveNoGap, NoEndMarkIsSent, DatagramsStay};
-ghost use Rattle.sctp_model.specs.Laws.{NetworkIsMade, ArrivedIsNew, CumulativeIsSeen, ArrivalsAnswered, WholeIsWhole, NamedIsNamed};
+ghost use Rattle.sctp_model.specs.Laws.{NetworkIsMade, ArrivedIsNew, CumulativeIsSeen, ArrivalsAnswered, WholeIsWhole, NamedIsNamed, SpansFit};
 
 /// A Send answers Idle exactly where no fragment is pending; else its new datagram carries the pending fragments that it takes.
 pub fn each_send_emits()
@@ -28,4 +28,5 @@ pub fn arrivals_are_told()
     ensures answered { OnEveryRun ArrivalsAnswered }
     ensures whole { OnEveryRun WholeIsWhole }
     ensures named { OnEveryRun NamedIsNamed }
+    ensures spans { OnEveryRun SpansFit }
 {}

@@ -2,6 +2,7 @@ use Rattle.sctp_model.proofs.Made.{network_is_made}
 use Rattle.sctp_model.proofs.Arrivals.{arrived_is_new, cumulative_is_seen, arrivals_answered}
 use Rattle.sctp_model.proofs.KnownRun.{whole_is_whole}
 use Rattle.sctp_model.proofs.Names.{named_is_named}
+use Rattle.sctp_model.proofs.Spans.{spans_fit_always}
 use Rattle.sctp_model.proofs.laws.arrivals_are_told.Goals as goal
 
 pub returns-clause-network : goal.returns-clause-network
@@ -21,3 +22,6 @@ returns-clause-named c = named_is_named
 
 pub returns-clause-whole : goal.returns-clause-whole
 returns-clause-whole c = whole_is_whole
+
+pub returns-clause-spans : goal.returns-clause-spans
+returns-clause-spans c = spans_fit_always
