@@ -19,11 +19,11 @@ use Rattle.sctp_model.specs.Steps.{History, world_of, IsRun, arrive_reply}
 use Rattle.sctp_model.specs.Log
 use Rattle.sctp_model.specs.Log.{Coming, SlotCame, SkipCame, SackMade}
 use Rattle.sctp_model.specs.Laws.{IsSetup, OnEveryRun, ArrivedIsNew, CumulativeIsSeen, ArrivalsAnswered}
-use Rattle.sctp_model.proofs.Shapes.{get-beyond, get-numbered, length-numbered}
-use Rattle.sctp_model.proofs.SenderSteps.{by_same, same-yes}
 use Rattle.sctp_model.proofs.SenderRun.{Sane}
 use Rattle.sctp_model.proofs.Moves.{Quiet}
 use Rattle.sctp_model.proofs.Events.{Keeps, run-keeps}
+use Rattle.sctp_lists.proofs.Cases.{by_same, same-yes}
+use Rattle.sctp_lists.proofs.Getting.{get-beyond, get-numbered, length-numbered}
 
 -- ## By the record alone
 

@@ -5,10 +5,10 @@ use Rattle.std.proofs.lemmas.Bool.Decides.{nat_tests}
 use Rattle.sctp_lists.specs.Kept.{kept, leading, passing, first_of}
 use Rattle.sctp_lists.proofs.KeptLemmas.{kept-same, kept-none, front-kept, FrontOf, IsFront}
 use Rattle.sctp_lists.proofs.More.{fails, not_both, both, and}
-use Rattle.sctp_model.proofs.SenderSteps.{negated}
 use Rattle.sctp_model.proofs.View.{View, line, run, next, whole_at}
 use Rattle.sctp_model.proofs.Shape.{on, index}
 use Rattle.sctp_model.proofs.Indexes.{index_on}
+use Rattle.sctp_lists.proofs.Cases.{negated}
 
 abbrev wanted : (ℕ → Bool) → (ℕ → Bool) → ℕ → Bool
 wanted wh r x = not (r x) && wh x

@@ -15,11 +15,11 @@ use Rattle.sctp_model.specs.Steps.{History, world_of, IsRun, refusal_of, reply_t
 use Rattle.sctp_model.specs.Log.{Coming, SlotCame, SkipCame, SackMade, Made, made_in, datagram_comes, slots_come, log_of}
 use Rattle.sctp_model.specs.Laws.{IsSetup, kind_of}
 use Rattle.sctp_model.proofs.Shape.{Shape, shape}
-use Rattle.sctp_model.proofs.SenderSteps.{negated}
 use Rattle.sctp_model.proofs.SenderRun.{Sane, sane-run, sane-after, sane-came, unless-holds}
 use Rattle.sctp_model.proofs.Moves.{Quiet, quiet-none, quiet-datagram, quiet-written, quiet-started, quiet-sent, quiet-expire, quiet-tail, quiet-lates, quiet-abandoned}
 use Rattle.sctp_model.proofs.Network.{SlotsFit, NamesFit, Fits, fit-at, fit-run, same-slot}
 use Rattle.sctp_model.proofs.Made.{made-run}
+use Rattle.sctp_lists.proofs.Cases.{negated}
 
 -- each change keeps P, which speaks of the record and of what came
 pub record Keeps (setup : Setup) (P : World → List Coming → Type 0) : Type 0 where

@@ -8,8 +8,8 @@ use Rattle.sctp_lists.proofs.KeptLemmas.{length-kept-lt}
 use Rattle.sctp_lists.proofs.More.{not_both, both, and}
 use Rattle.sctp_lists.proofs.Places.{leading-passes, leading-stops, leading-le, leading-is, get-drop, length-dropped, kept-get, kept-place}
 use Rattle.sctp_model.proofs.Shape.{Shape, on, index}
-use Rattle.sctp_model.proofs.SenderSteps.{same-is, same-yes, negated}
 use Rattle.sctp_model.proofs.View.{View, line, next}
+use Rattle.sctp_lists.proofs.Cases.{same-yes, same-is, negated}
 
 -- ## Indexes
 

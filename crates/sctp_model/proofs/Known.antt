@@ -20,7 +20,7 @@ use Rattle.sctp_model.specs.Log.{Coming, SlotCame, SkipCame, SackMade}
 use Rattle.sctp_model.specs.Laws.{IsSetup, OnEveryRun, AllDifferent, WholeIsWhole}
 use Rattle.sctp_model.proofs.Shape.{Shape, MessagePart, shape, has, on, index, sent, parts}
 use Rattle.sctp_model.proofs.Sender.{Sender}
-use Rattle.sctp_model.proofs.SenderSteps.{by_same, same-yes, same-is, negated, of-has}
+use Rattle.sctp_model.proofs.SenderSteps.{of-has}
 use Rattle.sctp_model.proofs.SenderEnds.{sent-none}
 use Rattle.sctp_model.proofs.SenderRun.{Sane, sane-run}
 use Rattle.sctp_model.proofs.Grows.{Grows, parts-grown}
@@ -32,6 +32,7 @@ use Rattle.sctp_model.proofs.View
 use Rattle.sctp_model.proofs.View.{View, view, has_come, come_count, all_come, whole_at, arrived_in, noted_in, skipped_in, read_in, run, line, next_read}
 use Rattle.sctp_model.proofs.Names.{view-skip}
 use Rattle.sctp_model.proofs.Wholes
+use Rattle.sctp_lists.proofs.Cases.{by_same, same-yes, same-is, negated}
 
 -- ## What the sender's changes leave
 

@@ -12,7 +12,6 @@ use Rattle.sctp_model.specs.Log
 use Rattle.sctp_model.specs.Log.{Coming, SlotCame, SkipCame, SackMade}
 use Rattle.sctp_model.specs.Laws.{IsSetup, OnEveryRun, WholeIsWhole}
 use Rattle.sctp_model.proofs.Shape.{shape}
-use Rattle.sctp_model.proofs.SenderSteps.{negated}
 use Rattle.sctp_model.proofs.SenderRun.{Sane, sane-run}
 use Rattle.sctp_model.proofs.Network.{NamesFit, SlotsFit, same-slot}
 use Rattle.sctp_model.proofs.Events.{Keeps, run-keeps}

@@ -22,11 +22,12 @@ use Rattle.sctp_model.specs.Log.{Coming, log_of}
 use Rattle.sctp_model.specs.Laws.{IsSetup, OnEveryRun}
 use Rattle.sctp_model.proofs.Shape.{Shape, MessagePart, shape, message_part, sent, parts, half, slotted, written, abandoned_at, expired_at, front_of}
 use Rattle.sctp_model.proofs.Sender.{Sender}
-use Rattle.sctp_model.proofs.SenderSteps.{by_last, sender-takes, of-half, sent-grows, of-has}
+use Rattle.sctp_model.proofs.SenderSteps.{sender-takes, of-half, sent-grows, of-has}
 use Rattle.sctp_model.proofs.SenderEnds.{sender-marked, sender-abandoned, sender-expired, sender-written, message-old, message-new, parts-old}
 use Rattle.sctp_model.proofs.Shapes
-use Rattle.sctp_model.proofs.Totals.{total-append, total-kept_same}
 use Rattle.sctp_model.proofs.Fronts.{front-takes, half-made, slot-sent, of-unsent}
+use Rattle.sctp_lists.proofs.Cases.{by_last}
+use Rattle.sctp_lists.proofs.Totals.{total-append, total-kept_same}
 
 -- ## The invariant
 

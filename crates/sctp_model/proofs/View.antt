@@ -17,10 +17,10 @@ use Rattle.sctp_model.specs.Receiver.{arrived_at, greatest}
 use Rattle.sctp_model.specs.Changes
 use Rattle.sctp_model.proofs.Shape.{Shape, shape, has, sent, parts, on, index}
 use Rattle.sctp_model.proofs.Shapes
-use Rattle.sctp_model.proofs.Shapes.{get-beyond, get-numbered, get-changed}
-use Rattle.sctp_model.proofs.SenderSteps.{by_same, same-yes, same-is}
 use Rattle.sctp_model.proofs.SenderRun.{Sane, found}
 use Rattle.sctp_model.proofs.Arrivals.{with_arrived}
+use Rattle.sctp_lists.proofs.Cases.{by_same, same-yes, same-is}
+use Rattle.sctp_lists.proofs.Getting.{get-changed, get-numbered}
 
 pub record View : Type 0 where
   pub x : Shape

@@ -20,9 +20,8 @@ use Rattle.sctp_model.specs.Log
 use Rattle.sctp_model.specs.Log.{Coming, SlotCame, SkipCame, SackMade}
 use Rattle.sctp_model.specs.Laws.{IsSetup, OnEveryRun, AllDifferent, WholeIsWhole}
 use Rattle.sctp_model.proofs.Shape.{Shape, MessagePart, shape, has, on, index, sent, parts}
-use Rattle.sctp_model.proofs.Shapes.{get-beyond}
 use Rattle.sctp_model.proofs.Sender.{Sender}
-use Rattle.sctp_model.proofs.SenderSteps.{by_same, same-yes, same-is, negated, of-has}
+use Rattle.sctp_model.proofs.SenderSteps.{of-has}
 use Rattle.sctp_model.proofs.SenderEnds.{sent-none}
 use Rattle.sctp_model.proofs.Slots.{sent-made, sent-alive}
 use Rattle.sctp_model.proofs.SenderRun.{Sane, sane-run}
@@ -34,6 +33,7 @@ use Rattle.sctp_model.proofs.Arrivals.{Heard, heard-keeps, heard-new, heard-note
 use Rattle.sctp_model.proofs.View
 use Rattle.sctp_model.proofs.View.{View, view, has_come, come_count, all_come, whole_at, arrived_in, noted_in, skipped_in, read_in, run, line}
 use Rattle.sctp_model.proofs.Names.{view-skip, view-whole_noted}
+use Rattle.sctp_lists.proofs.Cases.{same-yes, same-is}
 
 -- ## By the order of arrivals
 
