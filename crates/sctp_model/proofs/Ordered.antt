@@ -12,7 +12,7 @@ use Rattle.sctp_model.specs.Receiver.{greatest}
 use Rattle.sctp_model.specs.Log.{Coming}
 use Rattle.sctp_model.proofs.Shape.{Shape, has, on, index, sent, parts}
 use Rattle.sctp_model.proofs.Sender.{Sender}
-use Rattle.sctp_model.proofs.SenderSteps.{by_same, same-yes, same-is, negated, of-has}
+use Rattle.sctp_model.proofs.SenderSteps.{of-has}
 use Rattle.sctp_model.proofs.Grows.{Grows}
 use Rattle.sctp_model.proofs.Network.{IsNamable, NamesFit, namable-grown}
 use Rattle.sctp_model.proofs.Slots.{sent-made, sent-alive}
@@ -24,6 +24,7 @@ use Rattle.sctp_model.proofs.Names.{on-grown}
 use Rattle.sctp_model.proofs.Wholes.{some-kept}
 use Rattle.sctp_model.proofs.Known.{Still, Whole, IsReady, ReadsWhole, ReadsRun, come-still, all-still, come-sent, come-other, not-all, noting, ready-first}
 use Rattle.sctp_model.proofs.Due.{run-due, is_due, IsDue, due-first}
+use Rattle.sctp_lists.proofs.Cases.{by_same, same-yes, same-is}
 
 -- an ordered message is whole where it has arrived
 pub ordered-at : (v : View) (n : ℕ) → (v.x.message n).ordered ≡ true → whole_at v n ≡ all_come v n
