@@ -12,7 +12,7 @@ mod tests;
 use crate::crc32c::Crc32c;
 use crate::script::{LineFault, print_reply, read_event, read_link};
 use std::alloc::Global;
-use std::io::{self, BufWriter, Read, Write};
+use std::io::{self, BufWriter, ErrorKind, Read, Write};
 use std::process::ExitCode;
 
 /// Why a run ended early.
@@ -32,8 +32,10 @@ pub fn run<R: Read, W: Write>(alloc: Global, input: &mut R, output: &mut W) -> R
     ensures { IfOk result (λ status. (status ≡ 0) ⊎ (status ≡ 2)) }
 {
     let mut script = Vec::new(alloc);
-    if input.read_to_end(&mut script).is_err() {
-        return Err(RunFault::Input);
+    match input.read_to_end(&mut script) {
+        Ok(_) => {}
+        Err(e) if e.kind() == ErrorKind::OutOfMemory => return Err(RunFault::Memory),
+        Err(_) => return Err(RunFault::Input),
     }
     let Ok(text) = str::from_utf8(&script) else {
         return Err(RunFault::Input);

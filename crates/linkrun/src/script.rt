@@ -9,7 +9,7 @@ use bytes::Bytes;
 use sctp_link::event::{Event, LinkRefusal, Reply};
 use sctp_link::link::Link;
 use std::alloc::Global;
-use std::io::{self, Write};
+use std::io::Write;
 
 /// Why a line gives no event.
 #[derive(Clone, Copy, Debug, PartialEq, Eq)]
@@ -131,43 +131,35 @@ pub fn print_reply<W: Write>(
     reply: &Result<Reply, LinkRefusal>,
 ) -> Result<(), RunFault> {
     let written = match reply {
+        Ok(Reply::Opened) => write!(output, "opened\n"),
+        Ok(
+            Reply::Wrote {
+                number: Some(number),
+                fragments,
+            },
+        ) => write!(output, "wrote {number} {fragments}\n"),
+        Ok(
+            Reply::Wrote {
+                number: None,
+                fragments,
+            },
+        ) => write!(output, "wrote - {fragments}\n"),
+        Ok(Reply::Sent { datagram, tsn, ssn }) => write!(output, "sent {datagram} {tsn} {ssn}\n"),
+        Ok(Reply::Idle) => write!(output, "idle\n"),
+        Ok(Reply::New) => write!(output, "new\n"),
+        Ok(Reply::Repeat) => write!(output, "repeat\n"),
         Ok(Reply::Message { stream, ppi, bytes }) => {
             let Ok(text) = field_text(alloc, bytes) else {
                 return Err(RunFault::Memory);
             };
             write!(output, "message {stream} {} {text}\n", ppi.number())
         }
-        Ok(reply) => print_short(output, reply),
+        Ok(Reply::Nothing) => write!(output, "none\n"),
         Err(refusal) => write!(output, "refused L{}\n", refusal_number(*refusal)),
     };
     match written {
         Ok(()) => Ok(()),
         Err(_) => Err(RunFault::Output),
-    }
-}
-
-/// Prints a reply with no bytes.
-fn print_short<W: Write>(output: &mut W, reply: &Reply) -> io::Result<()> {
-    match reply {
-        Reply::Opened => write!(output, "opened\n"),
-        Reply::Wrote {
-            number: Some(number),
-            fragments,
-        } => write!(output, "wrote {number} {fragments}\n"),
-        Reply::Wrote {
-            number: None,
-            fragments,
-        } => write!(output, "wrote - {fragments}\n"),
-        Reply::Sent { datagram, tsn, ssn } => write!(output, "sent {datagram} {tsn} {ssn}\n"),
-        Reply::Idle => write!(output, "idle\n"),
-        Reply::New => write!(output, "new\n"),
-        Reply::Repeat => write!(output, "repeat\n"),
-        Reply::Message {
-            stream: _,
-            ppi: _,
-            bytes: _,
-        }
-        | Reply::Nothing => write!(output, "none\n"),
     }
 }
 

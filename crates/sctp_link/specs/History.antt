@@ -9,6 +9,7 @@ use Rattle.sctp_link.specs.declared.event.LinkRefusal.{LinkRefusal}
 use Rattle.sctp_link.specs.World.{Setup, World, start}
 use Rattle.sctp_link.specs.Steps.{after, refusal_of, reply_to}
 
+-- the newest entry first
 abbrev pub History : Type 0
 History = List (Event × Reply)
 
@@ -50,6 +51,7 @@ abbrev pub message_with : Message → List ℕ → List Message
 message_with message [] = []
 message_with message (byte ∷ bytes) = message ∷ []
 
+-- the message that an event writes, if it does
 abbrev pub written_by : Event → List Message
 written_by (E.Write s ppi bytes) = message_with (record { stream = s; ppi = ppi; bytes = bytes }) bytes
 written_by _ = []
@@ -59,6 +61,7 @@ abbrev pub written : History → List Message
 written [] = []
 written (entry ∷ older) = written older ++ written_by entry.0
 
+-- the event is the arrival of datagram k
 abbrev pub is_arrival : Event → ℕ → Bool
 is_arrival (E.Arrive j) k = j == k
 is_arrival _ k = false
@@ -77,5 +80,6 @@ arrived_run arrived n (message ∷ messages) = if arrived n then message ∷ arr
 abbrev pub longest_run : History → List Message
 longest_run h = arrived_run (has_arrived h) 0 (written h)
 
+-- ys begins with xs
 abbrev pub IsPrefixOf : List Message → List Message → Type 0
 IsPrefixOf xs ys = (rest : List Message) × (xs ++ rest ≡ ys)

@@ -11,6 +11,7 @@ use Rattle.sctp_link.specs.World.{World, is_open, is_arrived, tsn_of, ssn_of, ne
 
 -- ## What an event changes
 
+-- the stream is open
 abbrev pub opened : World → ℕ → World
 opened w s = record w { stream = Some s }
 
@@ -31,6 +32,7 @@ sent w = record w { arrived = w.arrived ++ false ∷ [] }
 abbrev pub received : World → ℕ → World
 received w n = record w { arrived = slice_set w.arrived n true }
 
+-- one message more was read, if there was one
 abbrev pub read_by : World → Option Message → World
 read_by w None = w
 read_by w (Some message) = record w { read = w.read + 1 }
@@ -45,6 +47,7 @@ after w (E.Read s) = read_by w (next_message w)
 
 -- ## Refusals
 
+-- the refusal where the test fails, else what further tests say
 abbrev pub if_not : Bool → LinkRefusal → Option LinkRefusal → Option LinkRefusal
 if_not holds refusal others = if holds then others else Some refusal
 
@@ -66,10 +69,12 @@ refusal_of w (E.Read s) = if_not (is_open w s) StreamUnknown None
 
 -- ## Replies
 
+-- a write's number and fragments, none where it was empty
 abbrev pub wrote_reply : World → List ℕ → Reply
 wrote_reply w [] = R.Wrote None 0
 wrote_reply w (byte ∷ bytes) = R.Wrote (Some (length w.messages)) 1
 
+-- the message, if there is one
 abbrev pub read_reply : Option Message → Reply
 read_reply None = R.Nothing
 read_reply (Some message) = R.Message message.stream message.ppi message.bytes
@@ -95,6 +100,7 @@ wants_memory (E.Open s) = false
 wants_memory (E.Read s) = false
 wants_memory _ = true
 
+-- the refusal is want of memory
 abbrev pub is_memory : LinkRefusal → Bool
 is_memory OutOfMemory = true
 is_memory _ = false
@@ -105,6 +111,7 @@ pub record IsRefusal (old : World) (e : Event) (refusal : LinkRefusal) (new : Wo
   pub needed : is_memory refusal ≡ true → wants_memory e ≡ true
   pub unchanged : new ≡ old
 
+-- what a step answers is right, and so is what it leaves
 abbrev pub Answers : World → Event → Result Reply LinkRefusal → World → Type 0
 Answers old e (Ok reply) new = (refusal_of old e ≡ None) × IsRight old e reply new
 Answers old e (Err refusal) new = IsRefusal old e refusal new

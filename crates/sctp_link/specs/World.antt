@@ -6,6 +6,7 @@ use Rattle.sctp_chunks.specs.Wire.{data_chunk}
 use Rattle.sctp_packets.specs.Packet.{Parts, packet_text}
 use Rattle.sctp_link.specs.declared.message.Message.{Message}
 
+-- what a link was made with
 pub record Setup : Type 0 where
   pub first_tsn : ℕ
   pub fragment_size : ℕ
@@ -14,6 +15,7 @@ pub record Setup : Type 0 where
 abbrev pub setup_of : ℕ → ℕ → ℕ → Setup
 setup_of first_tsn fragment_size max_message_size = record { first_tsn = first_tsn; fragment_size = fragment_size; max_message_size = max_message_size }
 
+-- what was opened, written, received and read
 pub record World : Type 0 where
   pub setup : Setup
   -- the stream that was opened
@@ -34,6 +36,7 @@ pub record Linked (C : Type 0) : Type 0 where
 abbrev pub start : Setup → World
 start setup = record { setup = setup; stream = None; messages = []; arrived = []; read = 0 }
 
+-- the stream is this one
 abbrev pub is_stream : Option ℕ → ℕ → Bool
 is_stream None s = false
 is_stream (Some t) s = t == s
@@ -42,12 +45,15 @@ is_stream (Some t) s = t == s
 abbrev pub is_open : World → ℕ → Bool
 is_open w s = is_stream w.stream s
 
+-- stands for a message that was not written
 abbrev pub no_message : Message
 no_message = record { stream = 0; ppi = Unknown; bytes = [] }
 
+-- message n
 abbrev pub message_at : World → ℕ → Message
 message_at w n = slice_index_or w.messages n no_message
 
+-- slot n arrived
 abbrev pub is_arrived : World → ℕ → Bool
 is_arrived w n = slice_index_or w.arrived n false
 
