@@ -8,3 +8,4 @@ pub mod Whole
 pub mod Sendable
 pub mod Outbounds
 pub mod Abandoned
+pub mod Order
