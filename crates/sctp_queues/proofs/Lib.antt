@@ -14,3 +14,4 @@ pub mod RunLemmas
 pub mod SizeLemmas
 pub mod PieceLemmas
 pub mod CountLemmas
+pub mod Order

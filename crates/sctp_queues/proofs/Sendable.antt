@@ -1,5 +1,5 @@
 -- The queues stay sendable while chunks come, leave and change.
-use Rattle.std.proofs.Common.{◌≡◌, ◌≢◌, ◌==◌, ℕ, ◌+◌, ◌-◌, ◌<◌, ◌≤◌, Bool, true, false, not, ◌||◌, ◌&&◌, if◌then◌else◌, List, [], ◌∷◌, ◌++◌, length, map, Option, Some, None, slice_get, refl, sym, ap, ap₂, ◌∙◌, subst, arith}
+use Rattle.std.proofs.Common.{◌≡◌, ◌≢◌, ◌==◌, ℕ, zero, suc, ◌+◌, ◌-◌, ◌<◌, ◌≤◌, Bool, true, false, not, ◌||◌, ◌&&◌, if◌then◌else◌, List, [], ◌∷◌, ◌++◌, length, map, Option, Some, None, slice_get, refl, sym, ap, ap₂, ◌∙◌, subst, arith}
 use Rattle.std.specs.List.{list_any}
 use Rattle.std.proofs.lemmas.Bool.{false≢true}
 use Rattle.std.proofs.lemmas.Bool.Decides.{nat_tests}
@@ -10,10 +10,10 @@ use Rattle.sctp_lists.specs.Lists.{change_where, those, inserted}
 use Rattle.sctp_lists.proofs.Edits.{list_any-append, list_any-inserted, list_any-those}
 use Rattle.sctp_queues.specs.declared.pending_queue.Selected.{Selected}
 use Rattle.sctp_queues.specs.Marks.{is_of}
-use Rattle.sctp_queues.specs.Outbound.{with_message_id, appended}
+use Rattle.sctp_queues.specs.Outbound.{with_message_id, appended, after_sends, taken_of}
 use Rattle.sctp_queues.specs.Payload.{chunk_before, without_front}
 use Rattle.sctp_queues.specs.Pending.{Pending, list_of, peeked, popped, popped_from, list_to_pop, rest_after, rest_from, rest_of, selected_after, selected_without, without, without_message, total_bytes}
-use Rattle.sctp_queues.specs.Whole.{Stage, free, begun, Follows, stage_after, stage_of, IsWhole, IsMessage, IsMessageOrNone, IsSendable, half_of, half_sent, waits}
+use Rattle.sctp_queues.specs.Whole.{Stage, free, begun, Follows, stage_after, stage_of, IsWhole, IsMessage, IsMessageOrNone, IsSendable, ends, half_of, half_sent, has_end, in_order, order_of, rest_then, waits}
 use Rattle.sctp_queues.specs.Window.{bytes_of, has_tsn}
 use Rattle.sctp_queues.proofs.Whole.{IsWhole-append, IsWhole-message, IsWhole-without, IsWhole-change_where, KeepsMessage, list_any-change_where, list_any-message, none_before, none_past, none_without, stage_below, stage_without, weaken_bound, weaken_start}
 
@@ -276,13 +276,42 @@ module _ (sel : Option Selected) (ro ru n : ℕ) (xs : List ChunkPayloadData) (t
 pub record SendsOn (q : Pending) (c t : ChunkPayloadData) (xs : List ChunkPayloadData) (n : ℕ) : Type 0 where
   pub taken : popped c.beginning_fragment c.unordered q ≡ Some c
   pub sendable : IsSendable (rest_after c.beginning_fragment c.unordered q) (inserted chunk_before t xs) n
+  pub order : order_of q ≡ c ∷ order_of (rest_after c.beginning_fragment c.unordered q)
 
 module _ (ro ru n : ℕ) (xs : List ChunkPayloadData) (t : ChunkPayloadData) where
-  from_ordered : (sel : Option Selected) (o : ChunkPayloadData) (os us : List ChunkPayloadData) → t.message_id ≡ o.message_id → Turn false n sel o os us → IsSendable (made (o ∷ os) us sel ro ru) xs n → SendsOn (made (o ∷ os) us sel ro ru) o t xs n
-  from_ordered sel o os us same turn s = record { taken = rw turn.pops refl; sendable = rw turn.pops (sent_ordered sel ro ru n xs t o same os us turn s) }
+  by_ordered : (o : ChunkPayloadData) (os us : List ChunkPayloadData) (b : Bool) → (if b then o ∷ (us ++ os) else o ∷ rest_then os us) ≡ o ∷ in_order (if b then None else Some (record { message_id = o.message_id; unordered = false })) os us
+  by_ordered o os us true = refl
+  by_ordered o os us false = refl
 
-  from_unordered : (sel : Option Selected) (u : ChunkPayloadData) (os us : List ChunkPayloadData) → t.message_id ≡ u.message_id → Turn true n sel u us os → IsSendable (made os (u ∷ us) sel ro ru) xs n → SendsOn (made os (u ∷ us) sel ro ru) u t xs n
-  from_unordered sel u os us same turn s = record { taken = rw turn.pops refl; sendable = rw turn.pops (sent_unordered sel ro ru n xs t u same os us turn s) }
+  by_unordered : (u : ChunkPayloadData) (os us : List ChunkPayloadData) (b : Bool) → u ∷ (us ++ os) ≡ u ∷ in_order (if b then None else Some (record { message_id = u.message_id; unordered = true })) os us
+  by_unordered u os us true = refl
+  by_unordered u os us false = refl
+
+  from_ordered : (sel : Option Selected) (o : ChunkPayloadData) (os us : List ChunkPayloadData) → in_order sel (o ∷ os) us ≡ (if o.ending_fragment then o ∷ (us ++ os) else o ∷ rest_then os us) → t.message_id ≡ o.message_id → Turn false n sel o os us → IsSendable (made (o ∷ os) us sel ro ru) xs n → SendsOn (made (o ∷ os) us sel ro ru) o t xs n
+  from_ordered sel o os us e same turn s = record {
+    taken = rw turn.pops refl;
+    sendable = rw turn.pops (sent_ordered sel ro ru n xs t o same os us turn s);
+    order = rw turn.pops (rw turn.after (e ∙ by_ordered o os us o.ending_fragment));
+  }
+
+  from_unordered : (sel : Option Selected) (u : ChunkPayloadData) (os us : List ChunkPayloadData) → in_order sel os (u ∷ us) ≡ u ∷ (us ++ os) → t.message_id ≡ u.message_id → Turn true n sel u us os → IsSendable (made os (u ∷ us) sel ro ru) xs n → SendsOn (made os (u ∷ us) sel ro ru) u t xs n
+  from_unordered sel u os us e same turn s = record {
+    taken = rw turn.pops refl;
+    sendable = rw turn.pops (sent_unordered sel ro ru n xs t u same os us turn s);
+    order = rw turn.pops (rw turn.after (e ∙ by_unordered u os us u.ending_fragment));
+  }
+
+  rest_then_nothing : (os : List ChunkPayloadData) → rest_then os [] ≡ os
+  rest_then_nothing [] = refl
+  rest_then_nothing (c ∷ cs) = step c.ending_fragment (rest_then_nothing cs)
+    where
+      step : (b : Bool) → rest_then cs [] ≡ cs → (if b then c ∷ cs else c ∷ rest_then cs []) ≡ c ∷ cs
+      step true e = refl
+      step false e = ap (λ ys. c ∷ ys) e
+
+  alone : (o : ChunkPayloadData) (os : List ChunkPayloadData) (b : Bool) → o ∷ os ≡ (if b then o ∷ os else o ∷ rest_then os [])
+  alone o os true = refl
+  alone o os false = ap (λ ys. o ∷ ys) (sym (rest_then_nothing os))
 
   at : (q : Pending) (d c : ChunkPayloadData) → d ≡ c → t.message_id ≡ c.message_id → (t.message_id ≡ d.message_id → SendsOn q d t xs n) → SendsOn q c t xs n
   at q d c e same f = subst (λ (y : ChunkPayloadData). SendsOn q y t xs n) e (f (same ∙ ap (λ (y : ChunkPayloadData). y.message_id) (sym e)))
@@ -295,18 +324,18 @@ module _ (ro ru n : ℕ) (xs : List ChunkPayloadData) (t : ChunkPayloadData) whe
   goes_on_unordered os (u ∷ us) sel c e same s h =
       let whole = subst (λ b. IsWhole true n (if b then begun sel.message_id else free 0) (u ∷ us)) e s.unordered in
       let others = subst (λ b. IsWhole false n (if b then free 0 else begun sel.message_id) os) e s.ordered in
-      at _ u c (some_same u c h) same (λ f. from_unordered (Some sel) u os us f (turn_on true n sel u us os e whole others) s)
+      at _ u c (some_same u c h) same (λ f. from_unordered (Some sel) u os us (ap (λ b. if b then u ∷ (us ++ os) else rest_then os (u ∷ us)) e) f (turn_on true n sel u us os e whole others) s)
 
   goes_on_ordered : (os us : List ChunkPayloadData) (sel : Selected) (c : ChunkPayloadData) → sel.unordered ≡ false → t.message_id ≡ c.message_id → IsSendable (made os us (Some sel) ro ru) xs n → slice_get os 0 ≡ Some c → SendsOn (made os us (Some sel) ro ru) c t xs n
   goes_on_ordered [] us sel c e same s h = absurd (none-some c h)
   goes_on_ordered (o ∷ os) us sel c e same s h =
       let whole = subst (λ b. IsWhole false n (if b then free 0 else begun sel.message_id) (o ∷ os)) e s.ordered in
       let others = subst (λ b. IsWhole true n (if b then begun sel.message_id else free 0) us) e s.unordered in
-      at _ o c (some_same o c h) same (λ f. from_ordered (Some sel) o os us f (turn_on false n sel o os us e whole others) s)
+      at _ o c (some_same o c h) same (λ f. from_ordered (Some sel) o os us (ap (λ b. if b then us ++ o ∷ os else rest_then (o ∷ os) us) e) f (turn_on false n sel o os us e whole others) s)
 
   sends_on : (os us : List ChunkPayloadData) (sel : Option Selected) (c : ChunkPayloadData) → t.message_id ≡ c.message_id → IsSendable (made os us sel ro ru) xs n → peeked (made os us sel ro ru) ≡ Some c → SendsOn (made os us sel ro ru) c t xs n
-  sends_on os (u ∷ us) None c same s h = at _ u c (some_same u c h) same (λ e. from_unordered None u os us e (turn_new true n u us os s.unordered s.ordered) s)
-  sends_on (o ∷ os) [] None c same s h = at _ o c (some_same o c h) same (λ e. from_ordered None o os [] e (turn_new false n o os [] s.ordered s.unordered) s)
+  sends_on os (u ∷ us) None c same s h = at _ u c (some_same u c h) same (λ e. from_unordered None u os us refl e (turn_new true n u us os s.unordered s.ordered) s)
+  sends_on (o ∷ os) [] None c same s h = at _ o c (some_same o c h) same (λ e. from_ordered None o os [] (alone o os o.ending_fragment) e (turn_new false n o os [] s.ordered s.unordered) s)
   sends_on [] [] None c same s h = absurd (none-some c h)
   sends_on os us (Some sel) c same s h = by sel.unordered refl
     where
@@ -332,3 +361,59 @@ popped_bytes b u q c h = popped_bytes_from (list_to_pop q.selected b u) q.ordere
 pub message_of_first : (xs : List ChunkPayloadData) (x : ChunkPayloadData) → Some x ≡ slice_get xs 0 → IsMessageOrNone xs → IsMessage x.unordered false xs
 message_of_first [] x h m = absurd (none-some x (sym h))
 message_of_first (y ∷ ys) x h m = let same : y ≡ x = cc in subst (λ (z : ChunkPayloadData). IsMessage z.unordered false (y ∷ ys)) same m
+
+-- ## The order of sending
+
+whole_has_end : (kind : Bool) (n j : ℕ) (xs : List ChunkPayloadData) → IsWhole kind n (begun j) xs → list_any ends xs ≡ true
+whole_has_end kind n j [] w = absurd w
+whole_has_end kind n j (c ∷ cs) w = step c.ending_fragment w.3 (whole_has_end kind n c.message_id cs)
+  where
+    step : (b : Bool) → IsWhole kind n (if b then free (c.message_id + 1) else begun c.message_id) cs → (IsWhole kind n (begun c.message_id) cs → list_any ends cs ≡ true) → (b || list_any ends cs) ≡ true
+    step true v ih = refl
+    step false v ih = ih v
+
+pub has_end_of : (q : Pending) (xs : List ChunkPayloadData) (n : ℕ) → IsSendable q xs n → has_end q.selected q.ordered ≡ true
+has_end_of q xs n s = by q.selected s.ordered
+  where
+    by : (sel : Option Selected) → IsWhole false n (stage_of false sel) q.ordered → has_end sel q.ordered ≡ true
+    by None w = refl
+    by (Some s) w = kind s.unordered w
+      where
+        kind : (k : Bool) → IsWhole false n (if k then free 0 else begun s.message_id) q.ordered → (if k then true else list_any ends q.ordered) ≡ true
+        kind true w = refl
+        kind false w = whole_has_end false n s.message_id q.ordered w
+
+nothing_waits : (os us : List ChunkPayloadData) (sel : Option Selected) (ro ru n : ℕ) (xs : List ChunkPayloadData) → IsSendable (made os us sel ro ru) xs n → peeked (made os us sel ro ru) ≡ None → in_order sel os us ≡ []
+nothing_waits os (u ∷ us) None ro ru n xs s h = absurd (none-some u (sym h))
+nothing_waits (o ∷ os) [] None ro ru n xs s h = absurd (none-some o (sym h))
+nothing_waits [] [] None ro ru n xs s h = refl
+nothing_waits os us (Some sel) ro ru n xs s h = absurd (by sel.unordered s.ordered s.unordered h)
+  where
+    some_unordered : (us : List ChunkPayloadData) → IsWhole true n (begun sel.message_id) us → slice_get us 0 ≡ None → ⊥
+    some_unordered [] w h = w
+    some_unordered (u ∷ us) w h = none-some u (sym h)
+
+    some_ordered : (os : List ChunkPayloadData) → IsWhole false n (begun sel.message_id) os → slice_get os 0 ≡ None → ⊥
+    some_ordered [] w h = w
+    some_ordered (o ∷ os) w h = none-some o (sym h)
+
+    by : (k : Bool) → IsWhole false n (if k then free 0 else begun sel.message_id) os → IsWhole true n (if k then begun sel.message_id else free 0) us → slice_get (list_of k (made os us (Some sel) ro ru)) 0 ≡ None → ⊥
+    by true w v h = some_unordered us v h
+    by false w v h = some_ordered os w h
+
+-- the chunk at a place of the order is what a peek gives after so many sends
+pub order_is : (i : ℕ) (q : Pending) (xs : List ChunkPayloadData) (n : ℕ) → IsSendable q xs n → slice_get (order_of q) i ≡ peeked (after_sends i q)
+order_is zero q xs n s = by (peeked q) refl
+  where
+    by : (o : Option ChunkPayloadData) → peeked q ≡ o → slice_get (order_of q) 0 ≡ o
+    by None h = ap (λ l. slice_get l 0) (nothing_waits q.ordered q.unordered q.selected q.ordered_room q.unordered_room n xs s h)
+    by (Some c) h = ap (λ l. slice_get l 0) (sendable-sent q xs n c c refl s h).order
+order_is (suc i) q xs n s = by (peeked q) refl (order_is i q xs n s) (λ r ys t. order_is i r ys n t)
+  where
+    by : (o : Option ChunkPayloadData) → peeked q ≡ o → slice_get (order_of q) i ≡ peeked (after_sends i q) → ((r : Pending) (ys : List ChunkPayloadData) → IsSendable r ys n → slice_get (order_of r) i ≡ peeked (after_sends i r)) → slice_get (order_of q) (suc i) ≡ peeked (after_sends i (taken_of o q))
+    by None h same ih =
+        let e = nothing_waits q.ordered q.unordered q.selected q.ordered_room q.unordered_room n xs s h in
+        ap (λ l. slice_get l (suc i)) e ∙ ap (λ l. slice_get l i) (sym e) ∙ same
+    by (Some c) h same ih =
+        let on = sendable-sent q xs n c c refl s h in
+        ap (λ l. slice_get l (suc i)) on.order ∙ ih (rest_after c.beginning_fragment c.unordered q) (inserted chunk_before c xs) on.sendable

@@ -1,5 +1,5 @@
 -- Whole messages that wait one behind another.
-use Rattle.std.specs.Prelude.{◌≡◌, ℕ, ◌+◌, ◌<◌, ◌≤◌, Bool, true, false, not, ◌||◌, List, [], ◌∷◌, Option, Some, None, if◌then◌else◌}
+use Rattle.std.specs.Prelude.{◌≡◌, ℕ, ◌+◌, ◌<◌, ◌≤◌, Bool, true, false, not, ◌||◌, List, [], ◌∷◌, ◌++◌, Option, Some, None, if◌then◌else◌}
 use Rattle.std.specs.List.{list_any}
 use Rattle.sctp_chunks.specs.declared.chunk.chunk_payload_data.ChunkPayloadData.{ChunkPayloadData}
 use Rattle.sctp_queues.specs.declared.pending_queue.Selected.{Selected}
@@ -51,6 +51,39 @@ pub record IsSendable (q : Pending) (inflight : List ChunkPayloadData) (next : �
   pub apart : (m : ℕ) → list_any (is_of m) q.ordered ≡ true → list_any (is_of m) q.unordered ≡ false
   pub sent : (m : ℕ) → list_any (is_of m) inflight ≡ true → waits m q ≡ true → half_sent q ≡ Some m
   pub below : (m : ℕ) → next ≤ m → list_any (is_of m) inflight ≡ false
+
+-- ## The order of sending
+
+abbrev pub ends : ChunkPayloadData → Bool
+ends c = c.ending_fragment
+
+-- the rest of a half-sent ordered message, then the unordered chunks, then the other ordered ones
+abbrev pub rest_then : List ChunkPayloadData → List ChunkPayloadData → List ChunkPayloadData
+rest_then [] us = us
+rest_then (c ∷ cs) us = if c.ending_fragment then c ∷ (us ++ cs) else c ∷ rest_then cs us
+
+-- how many chunks the rest of the message in front has
+abbrev pub until_end : List ChunkPayloadData → ℕ
+until_end [] = 0
+until_end (c ∷ cs) = if c.ending_fragment then 1 else until_end cs + 1
+
+abbrev pub in_order : Option Selected → List ChunkPayloadData → List ChunkPayloadData → List ChunkPayloadData
+in_order None os us = us ++ os
+in_order (Some s) os us = if s.unordered then us ++ os else rest_then os us
+
+-- all that waits, in the order in which it will be sent
+abbrev pub order_of : Pending → List ChunkPayloadData
+order_of q = in_order q.selected q.ordered q.unordered
+
+-- how many ordered chunks go before the unordered ones
+abbrev pub ordered_first : Option Selected → List ChunkPayloadData → ℕ
+ordered_first None os = 0
+ordered_first (Some s) os = if s.unordered then 0 else until_end os
+
+-- whether a half-sent ordered message has an end
+abbrev pub has_end : Option Selected → List ChunkPayloadData → Bool
+has_end None os = true
+has_end (Some s) os = if s.unordered then true else list_any ends os
 
 -- the fragments of one message of this kind, or what follows after some of them: the first begins, the last ends
 abbrev pub IsMessage : Bool → Bool → List ChunkPayloadData → Type 0

@@ -1,6 +1,6 @@
 //! Chunks that wait in a line: first in, first out.
 
-ghost use Rattle.std.specs.Prelude.{◌≡◌, ◌==◌, ◌+◌, ◌-◌, ◌^◌, ◌<◌, ◌≤◌, ◌++◌, [], ◌∷◌, length, map, max, OnOk, OnErr, IfSome, IfNone, IsOk, IsOkUnless, option_copied, slice_get};
+ghost use Rattle.std.specs.Prelude.{◌≡◌, ◌==◌, ◌+◌, ◌-◌, ◌^◌, ◌<◌, ◌≤◌, ◌++◌, [], ◌∷◌, length, map, max, OnOk, OnErr, IfSome, IfNone, IsOk, IsOkUnless, option_copied, slice_get, true};
 ghost use Rattle.std.specs.List.{list_any};
 ghost use Rattle.std.specs.VecDeque.{deque_capacity, deque_len};
 ghost use Rattle.sctp_base.specs.declared.error.Error.TheVariants.{ErrOutOfMemory};
@@ -8,6 +8,7 @@ ghost use Rattle.sctp_lists.specs.Lists.{change_where, those};
 ghost use Rattle.sctp_queues.specs.Marks.{is_of};
 ghost use Rattle.sctp_queues.specs.Outbound.{with_message_id};
 ghost use Rattle.sctp_queues.specs.Pending.{removed_bytes, last_of, without_message, is_on, one_lower, is_to_start, with_deadline, is_dcep, is_timed, deadline_at};
+ghost use Rattle.sctp_queues.specs.Whole.{ends, until_end};
 ghost use Rattle.sctp_queues.specs.Window.{bytes_of};
 
 use sctp_base::error::Result;
@@ -71,6 +72,23 @@ impl Line {
         ensures { option_copied result ≡ slice_get self.now.chunks place }
     {
         self.chunks.get(place)
+    }
+
+    /// How many chunks the rest of the message in front has, where they are at most `most`.
+    pub(crate) fn until_end(&self, most: usize) -> Option<usize>
+        requires { list_any ends self.now.chunks ≡ true }
+        ensures some { IfSome result (λ n. (n ≡ until_end self.now.chunks) × (n ≤ most)) }
+        ensures none { IfNone result (most < until_end self.now.chunks) }
+    {
+        for place in 0..most {
+            let Some(chunk) = self.chunks.get(place) else {
+                unreachable!()
+            };
+            if chunk.ending_fragment {
+                return Some(place + 1);
+            }
+        }
+        None
     }
 
     /// From here on `additional` pushes take no memory.

@@ -104,6 +104,13 @@ impl OutboundQueue {
         self.pending.peek()
     }
 
+    /// The chunk that a peek would give after so many sends, its deadline not yet started.
+    pub fn peek_pending_at(&self, sends: usize) -> Option<&ChunkPayloadData>
+        ensures { option_copied result ≡ pending.peeked (after_sends sends self.now.pending) }
+    {
+        self.pending.peek_at(sends)
+    }
+
     /// Starts lifetimes and puts the peeked chunk in flight under `next_tsn`, which goes up by one.
     pub fn send_next(&mut self, next_tsn: &mut u32, now: u64) -> Result<Option<u32>>
         requires fresh { is_held self.old.inflight.chunks next_tsn.old ≡ false }

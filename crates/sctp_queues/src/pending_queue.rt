@@ -1,10 +1,11 @@
 //! Fragments that wait to be sent.
 
-ghost use Rattle.std.specs.Prelude.{◌≡◌, ◌==◌, ◌+◌, ◌^◌, ◌<◌, ◌≤◌, ◌||◌, [], length, map, OnOk, OnErr, IsOk, IsOkUnless, option_copied, slice_get};
+ghost use Rattle.std.specs.Prelude.{◌≡◌, ◌==◌, ◌+◌, ◌^◌, ◌<◌, ◌≤◌, ◌||◌, [], length, map, OnOk, OnErr, IsOk, IsOkUnless, IfSome, IfNone, option_copied, slice_get, true};
 ghost use Rattle.std.specs.List.{list_any};
 ghost use Rattle.sctp_base.specs.declared.error.Error.TheVariants.{ErrOutOfMemory};
 ghost use Rattle.sctp_queues.specs.Marks.{is_of};
 ghost use Rattle.sctp_queues.specs.Outbound.{appended, with_message_id};
+ghost use Rattle.sctp_queues.specs.Whole.{has_end, order_of, ordered_first};
 ghost use Rattle.sctp_queues.specs.Window.{bytes_of};
 ghost use Rattle.sctp_queues.specs.Pending.{list_to_pop, selected_after, selected_without};
 
@@ -107,6 +108,38 @@ impl PendingQueue {
                 Some(chunk) => Some(chunk),
                 None => self.ordered.get(0),
             },
+        }
+    }
+
+    /// The chunk that goes after so many others.
+    pub(crate) fn peek_at(&self, index: usize) -> Option<&ChunkPayloadData>
+        requires { has_end self.now.selected self.now.ordered ≡ true }
+        ensures { option_copied result ≡ slice_get (order_of self.now) index }
+    {
+        let Some(first) = self.ordered_first(index) else {
+            return self.ordered.get(index);
+        };
+        let behind = index - first;
+        if behind < self.unordered.len() {
+            return self.unordered.get(behind);
+        }
+        self.ordered.get(index - self.unordered.len())
+    }
+
+    // How many ordered chunks go before the unordered ones, where they are at most `most`.
+    fn ordered_first(&self, most: usize) -> Option<usize>
+        requires { has_end self.now.selected self.now.ordered ≡ true }
+        ensures some { IfSome result (λ n. (n ≡ ordered_first self.now.selected self.now.ordered) × (n ≤ most)) }
+        ensures none { IfNone result (most < ordered_first self.now.selected self.now.ordered) }
+    {
+        match self.selected {
+            Some(selected) => {
+                if selected.unordered {
+                    return Some(0);
+                }
+                self.ordered.until_end(most)
+            }
+            None => Some(0),
         }
     }
 
