@@ -1,4 +1,4 @@
-//! A sender and a receiver over a network in memory.
+//! A sender and a receiver over a network in memory, and what a stream keeps.
 #![tactic(auto)]
 
 mod datagram;
@@ -6,9 +6,6 @@ pub mod event;
 pub mod laws;
 pub mod link;
 pub mod message;
+pub mod stream;
 #[cfg(test)]
 mod tests;
-//! Streams: what a stream keeps, and how writes become fragments.
-#![tactic(auto)]
-
-pub mod stream;
