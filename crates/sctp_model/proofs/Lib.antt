@@ -41,3 +41,4 @@ pub mod Ordered
 pub mod Received
 pub mod Spans
 pub mod Shown
+pub mod Modes

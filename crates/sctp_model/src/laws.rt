@@ -1,6 +1,6 @@
 //! What holds of every history of a link: laws, each the contract of a function that does nothing.
 
-ghost use Rattle.sctp_model.specs.Laws.{OnEveryRun, EmitsWherePending, TakesPending, SlotsInOrder, SlotsFollow, OneHalfSent, SentInTurn, IndexesLeaveNoGap, NoEndMarkIsSent, DatagramsStay, Balances, SumsAreTold, AcknowledgedArrived, AcknowledgedIsReported, SacksSay, NetworkIsMade, ArrivedIsNew, CumulativeIsSeen, ArrivalsAnswered, WholeIsWhole, NamedIsNamed, SpansFit, MessagesAreWrites, ReadsShowMessages, ReadsDiffer, StartsOnce, LateAbandonsListed, CountersAreSums};
+ghost use Rattle.sctp_model.specs.Laws.{OnEveryRun, EmitsWherePending, TakesPending, SlotsInOrder, SlotsFollow, OneHalfSent, SentInTurn, IndexesLeaveNoGap, NoEndMarkIsSent, DatagramsStay, Balances, SumsAreTold, AcknowledgedArrived, AcknowledgedIsReported, SacksSay, NetworkIsMade, ArrivedIsNew, CumulativeIsSeen, ArrivalsAnswered, WholeIsWhole, NamedIsNamed, SpansFit, MessagesAreWrites, ModesAreKept, ReadsShowMessages, ReadsDiffer, StartsOnce, LateAbandonsListed, CountersAreSums};
 
 /// A Send answers Idle exactly where no fragment is pending; else its new datagram carries the pending fragments that it takes.
 pub fn each_send_emits()
@@ -46,6 +46,7 @@ pub fn arrivals_are_told()
 /// The ordered messages of a stream are read in order, each as it was written, as far as they are whole.
 pub fn ordered_reads()
     ensures writes { OnEveryRun MessagesAreWrites }
+    ensures modes { OnEveryRun ModesAreKept }
     ensures show { OnEveryRun ReadsShowMessages }
 {}
 
