@@ -40,3 +40,4 @@ pub mod Due
 pub mod Ordered
 pub mod Received
 pub mod Spans
+pub mod SoFar
