@@ -41,3 +41,4 @@ pub mod Ordered
 pub mod Received
 pub mod Spans
 pub mod SoFar
+pub mod SoFarSteps

@@ -124,7 +124,7 @@ came-tail x (SlotCame p) log f = f.1
 came-tail x (SkipCame upto names) log f = f
 came-tail x SackMade log f = f
 
-whole_list-later : (x y : Shape) → Sender x → Sender y → Grows x y → (log : List Coming) → SlotsCame x log → (s : ℕ) → whole_list y log s ≡ whole_list x log s
+pub whole_list-later : (x y : Shape) → Sender x → Sender y → Grows x y → (log : List Coming) → SlotsCame x log → (s : ℕ) → whole_list y log s ≡ whole_list x log s
 whole_list-later x y a b g [] f s = refl
 whole_list-later x y a b g (coming ∷ log) f s =
     ap (λ l. l ++ kept (became y coming log s) 0 y.count) (whole_list-later x y a b g log (came-tail x coming log f) s)
@@ -140,7 +140,7 @@ whole_list-later x y a b g (coming ∷ log) f s =
     none false = refl
 
 -- nothing becomes whole
-whole_list-same : (x : Shape) (coming : Coming) (log : List Coming) (s : ℕ) → ((n : ℕ) → n < x.count → whole_in x (coming ∷ log) n ≡ whole_in x log n) → whole_list x (coming ∷ log) s ≡ whole_list x log s
+pub whole_list-same : (x : Shape) (coming : Coming) (log : List Coming) (s : ℕ) → ((n : ℕ) → n < x.count → whole_in x (coming ∷ log) n ≡ whole_in x log n) → whole_list x (coming ∷ log) s ≡ whole_list x log s
 whole_list-same x coming log s same =
     ap (λ l. whole_list x log s ++ l) (kept-none (became x coming log s) 0 x.count (λ k a b. ap (λ e. off x s k && (e && not (whole_in x log k))) (same k (omega arith)) ∙ none (off x s k) (whole_in x log k)))
     ∙ append-nil (whole_list x log s)
@@ -168,10 +168,10 @@ pub record SoFar (s : ℕ) (list : List ℕ) (shown : List Shown) (v : View) (lo
 pub was-made : (v : View) (s n : ℕ) → was_read v s n ≡ true → n < v.x.count
 was-made v s n e = let a = (both (nat_lt n v.x.count) ((v.x.message n).stream == s) (both (nat_lt n v.x.count && ((v.x.message n).stream == s)) (v.read n) e).0).0 in grind (arith, nat_tests)
 
-so_far-as : (s : ℕ) (list : List ℕ) (shown : List Shown) (u v : View) (log : List Coming) → v ≡ u → SoFar s list shown u log → SoFar s list shown v log
+pub so_far-as : (s : ℕ) (list : List ℕ) (shown : List Shown) (u v : View) (log : List Coming) → v ≡ u → SoFar s list shown u log → SoFar s list shown v log
 so_far-as s list shown u v log e f = subst (λ y. SoFar s list shown y log) (sym e) f
 
-so_far-still : (s : ℕ) (list : List ℕ) (shown : List Shown) (u v : View) (log : List Coming) → Still u v → Whole u log → Ordered u → SoFar s list shown u log → SoFar s list shown v log
+pub so_far-still : (s : ℕ) (list : List ℕ) (shown : List Shown) (u v : View) (log : List Coming) → Still u v → Whole u log → Ordered u → SoFar s list shown u log → SoFar s list shown v log
 so_far-still s list shown u v log t h o f = record {
   all = Wholes.all-more (was_read u s) (was_read v s) list (λ n e. stays n e) f.all;
   differ = f.differ;
