@@ -42,3 +42,4 @@ pub mod Received
 pub mod Spans
 pub mod SoFar
 pub mod SoFarSteps
+pub mod Shown

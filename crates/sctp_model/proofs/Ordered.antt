@@ -25,6 +25,7 @@ use Rattle.sctp_model.proofs.Names.{on-grown}
 use Rattle.sctp_model.proofs.Wholes.{some-kept}
 use Rattle.sctp_model.proofs.Known.{Still, Whole, IsReady, ReadsWhole, ReadsRun, come-still, all-still, come-sent, come-other, not-all, noting, ready-first}
 use Rattle.sctp_model.proofs.Due.{run-due, is_due, IsDue, due-first}
+use Rattle.sctp_lists.proofs.Cases.{by_same, same-yes, same-is}
 
 -- an ordered message is whole where it has arrived
 pub ordered-at : (v : View) (n : ℕ) → (v.x.message n).ordered ≡ true → whole_at v n ≡ all_come v n

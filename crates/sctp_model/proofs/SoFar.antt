@@ -76,18 +76,6 @@ pub passing-same : (t q r : ℕ → Bool) (xs : List ℕ) → ((k : ℕ) → t k
 passing-same t q r [] same a = refl
 passing-same t q r (x ∷ xs) same a = let c = both (t x) (list_all t xs) a in ap (λ b. if b then x ∷ passing q xs else passing q xs) (same x c.0) ∙ ap (λ l. if r x then x ∷ l else l) (passing-same t q r xs same c.1)
 
-pub map-same : {B : Type 0} (t : ℕ → Bool) (f g : ℕ → B) (xs : List ℕ) → ((k : ℕ) → t k ≡ true → f k ≡ g k) → list_all t xs ≡ true → map f xs ≡ map g xs
-map-same t f g [] same a = refl
-map-same t f g (x ∷ xs) same a = let c = both (t x) (list_all t xs) a in ap (λ y. y ∷ map f xs) (same x c.0) ∙ ap (λ l. g x ∷ l) (map-same t f g xs same c.1)
-
-pub all-among : (t : ℕ → Bool) (n : ℕ) (xs : List ℕ) → list_all t xs ≡ true → list_any (λ k. k == n) xs ≡ true → t n ≡ true
-all-among t n [] a e = cc
-all-among t n (x ∷ xs) a e = let c = both (t x) (list_all t xs) a in step (Wholes.either-is (x == n) (list_any (λ k. k == n) xs) e) c.0 (λ h. all-among t n xs c.1 h)
-  where
-    step : ((x == n) ≡ true) ⊎ (list_any (λ k. k == n) xs ≡ true) → t x ≡ true → (list_any (λ k. k == n) xs ≡ true → t n ≡ true) → t n ≡ true
-    step (inl z) y ih = ap t (sym (same-is x n z)) ∙ y
-    step (inr h) y ih = ih h
-
 -- ## The unordered messages, in the order in which they became whole
 
 abbrev pub off : Shape → ℕ → ℕ → Bool
@@ -158,28 +146,24 @@ was_read v s n = (nat_lt n v.x.count && ((v.x.message n).stream == s)) && v.read
 abbrev pub read_on : View → ℕ → ℕ → Bool
 read_on v s n = on v.x s n && v.read n
 
-pub record SoFar (s : ℕ) (list : List ℕ) (shown : List Shown) (v : View) (log : List Coming) : Type 0 where
+pub record SoFar (s : ℕ) (list : List ℕ) (v : View) (log : List Coming) : Type 0 where
   pub all : list_all (was_read v s) list ≡ true
-  pub differ : AllDifferent list
   pub ordered : passing (λ n. (v.x.message n).ordered) list ≡ kept (read_on v s) 0 v.x.count
   pub unordered : whole_list v.x log s ≡ passing (λ n. not (v.x.message n).ordered) list ++ v.whole s
-  pub shows : shown ≡ map (λ n. shown_part (v.x.message n)) list
 
 pub was-made : (v : View) (s n : ℕ) → was_read v s n ≡ true → n < v.x.count
 was-made v s n e = let a = (both (nat_lt n v.x.count) ((v.x.message n).stream == s) (both (nat_lt n v.x.count && ((v.x.message n).stream == s)) (v.read n) e).0).0 in grind (arith, nat_tests)
 
-pub so_far-as : (s : ℕ) (list : List ℕ) (shown : List Shown) (u v : View) (log : List Coming) → v ≡ u → SoFar s list shown u log → SoFar s list shown v log
-so_far-as s list shown u v log e f = subst (λ y. SoFar s list shown y log) (sym e) f
+pub so_far-as : (s : ℕ) (list : List ℕ) (u v : View) (log : List Coming) → v ≡ u → SoFar s list u log → SoFar s list v log
+so_far-as s list u v log e f = subst (λ y. SoFar s list y log) (sym e) f
 
-pub so_far-still : (s : ℕ) (list : List ℕ) (shown : List Shown) (u v : View) (log : List Coming) → Still u v → Whole u log → Ordered u → SoFar s list shown u log → SoFar s list shown v log
-so_far-still s list shown u v log t h o f = record {
+pub so_far-still : (s : ℕ) (list : List ℕ) (u v : View) (log : List Coming) → Still u v → Whole u log → Ordered u → SoFar s list u log → SoFar s list v log
+so_far-still s list u v log t h o f = record {
   all = Wholes.all-more (was_read u s) (was_read v s) list (λ n e. stays n e) f.all;
-  differ = f.differ;
   ordered = passing-same (was_read u s) (λ n. (v.x.message n).ordered) (λ n. (u.x.message n).ordered) list (λ n e. ap (λ m. m.ordered) (t.grows.message n (was-made u s n e))) f.all ∙ f.ordered ∙ sym lines;
   unordered = whole_list-later u.x v.x t.sender t.sender' t.grows log h.came s ∙ f.unordered
       ∙ ap (λ l. l ++ u.whole s) (sym (passing-same (was_read u s) (λ n. not (v.x.message n).ordered) (λ n. not (u.x.message n).ordered) list (λ n e. ap (λ m. not m.ordered) (t.grows.message n (was-made u s n e))) f.all))
       ∙ ap (λ l. passing (λ n. not (v.x.message n).ordered) list ++ l) (sym (t.whole s));
-  shows = f.shows ∙ sym (map-same (was_read u s) (λ n. shown_part (v.x.message n)) (λ n. shown_part (u.x.message n)) list (λ n e. ap shown_part (t.grows.message n (was-made u s n e))) f.all);
 }
   where
     stays : (n : ℕ) → was_read u s n ≡ true → was_read v s n ≡ true

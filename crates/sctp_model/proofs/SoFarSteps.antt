@@ -39,7 +39,7 @@ use Rattle.sctp_model.proofs.Ordered.{Ordered, read-other, read-here, ordered-at
 use Rattle.sctp_model.proofs.Due.{IsDue}
 use Rattle.sctp_model.proofs.Received.{Received, received-keeps}
 use Rattle.sctp_model.proofs.SoFar
-use Rattle.sctp_model.proofs.SoFar.{SoFar, was_read, read_on, whole_list, became, off, kept-one, kept-last, passing-append, all-among, was-made, so_far-as}
+use Rattle.sctp_model.proofs.SoFar.{SoFar, was_read, read_on, whole_list, became, off, kept-one, kept-last, passing-append, was-made, so_far-as}
 
 or-none : (a : Bool) → (a || false) ≡ a
 or-none true = refl
@@ -118,86 +118,78 @@ module _ (v : View) (log : List Coming) (p : ℕ) (a : Sender v.x) (h : Whole v 
       by true d true e = sym (append-nil (v.whole s))
       by true d false e = sym (append-nil (v.whole s))
 
-  pub so_far-new : (s : ℕ) (list : List ℕ) (shown : List Shown) → SoFar s list shown v log → SoFar s list shown (noting v1 m) (SlotCame p ∷ log)
-  so_far-new s list shown f = by (not (v.x.message m).ordered && due v1 m) (queue-is s)
+  pub so_far-new : (s : ℕ) (list : List ℕ) → SoFar s list v log → SoFar s list (noting v1 m) (SlotCame p ∷ log)
+  so_far-new s list f = by (not (v.x.message m).ordered && due v1 m) (queue-is s)
     where
-      by : (b : Bool) → (if b then noted_in v1 (v.x.message m).stream m else v1).whole s ≡ v.whole s ++ (if off v.x s m && due v1 m then m ∷ [] else []) → SoFar s list shown (if b then noted_in v1 (v.x.message m).stream m else v1) (SlotCame p ∷ log)
+      by : (b : Bool) → (if b then noted_in v1 (v.x.message m).stream m else v1).whole s ≡ v.whole s ++ (if off v.x s m && due v1 m then m ∷ [] else []) → SoFar s list (if b then noted_in v1 (v.x.message m).stream m else v1) (SlotCame p ∷ log)
       by true e = record {
         all = f.all;
-        differ = f.differ;
         ordered = f.ordered;
         unordered = list-is s ∙ ap (λ l. l ++ (if off v.x s m && due v1 m then m ∷ [] else [])) f.unordered ∙ append_assoc (passing (λ n. not (v.x.message n).ordered) list) (v.whole s) (if off v.x s m && due v1 m then m ∷ [] else []) ∙ ap (λ l. passing (λ n. not (v.x.message n).ordered) list ++ l) (sym e);
-        shows = f.shows;
       }
       by false e = record {
         all = f.all;
-        differ = f.differ;
         ordered = f.ordered;
         unordered = list-is s ∙ ap (λ l. l ++ (if off v.x s m && due v1 m then m ∷ [] else [])) f.unordered ∙ append_assoc (passing (λ n. not (v.x.message n).ordered) list) (v.whole s) (if off v.x s m && due v1 m then m ∷ [] else []) ∙ ap (λ l. passing (λ n. not (v.x.message n).ordered) list ++ l) (sym e);
-        shows = f.shows;
       }
 
 -- ## Other things come
 
-so_far-again : (v : View) (coming : Coming) (log : List Coming) → Whole v log → Whole v (coming ∷ log) → (s : ℕ) (list : List ℕ) (shown : List Shown) → SoFar s list shown v log → SoFar s list shown v (coming ∷ log)
-so_far-again v coming log h h' s list shown f = record {
+so_far-again : (v : View) (coming : Coming) (log : List Coming) → Whole v log → Whole v (coming ∷ log) → (s : ℕ) (list : List ℕ) → SoFar s list v log → SoFar s list v (coming ∷ log)
+so_far-again v coming log h h' s list f = record {
   all = f.all;
-  differ = f.differ;
   ordered = f.ordered;
   unordered = SoFar.whole_list-same v.x coming log s (λ n lt. sym (h'.agrees n lt) ∙ h.agrees n lt) ∙ f.unordered;
-  shows = f.shows;
 }
 
-so_far-skip : (v : View) (upto : ℕ) (names : List ℕ) (log : List Coming) → Whole v log → Whole (skipped_in v upto names) (SkipCame upto names ∷ log) → (s : ℕ) (list : List ℕ) (shown : List Shown) → SoFar s list shown v log → SoFar s list shown (skipped_in v upto names) (SkipCame upto names ∷ log)
-so_far-skip v upto names log h h' s list shown f = record {
+so_far-skip : (v : View) (upto : ℕ) (names : List ℕ) (log : List Coming) → Whole v log → Whole (skipped_in v upto names) (SkipCame upto names ∷ log) → (s : ℕ) (list : List ℕ) → SoFar s list v log → SoFar s list (skipped_in v upto names) (SkipCame upto names ∷ log)
+so_far-skip v upto names log h h' s list f = record {
   all = f.all;
-  differ = f.differ;
   ordered = f.ordered;
   unordered = SoFar.whole_list-same v.x (SkipCame upto names) log s (λ n lt. sym (h'.agrees n lt) ∙ h.agrees n lt) ∙ f.unordered;
-  shows = f.shows;
 }
 
 -- ## A step that is no read
 
-pub record Told (s : ℕ) (list : List ℕ) (shown : List Shown) (w : World) (log : List Coming) : Type 0 where
+pub record Told (s : ℕ) (list : List ℕ) (w : World) (log : List Coming) : Type 0 where
   pub received : Received w log
-  pub so_far : SoFar s list shown (view w) log
+  pub so_far : SoFar s list (view w) log
 
-so_far-slot : (setup : Setup) (w : World) (log : List Coming) (p s : ℕ) (list : List ℕ) (shown : List Shown) → Sane setup w → p < length w.slots → (Messages.slot_at w p).is_end_mark ≡ false → Known w log → Known (Changes.slot_came w p) (SlotCame p ∷ log) → SoFar s list shown (view w) log → SoFar s list shown (view (Changes.slot_came w p)) (SlotCame p ∷ log)
-so_far-slot setup w log p s list shown g lt mark k k' f = by (is_new w p) refl
+so_far-slot : (setup : Setup) (w : World) (log : List Coming) (p s : ℕ) (list : List ℕ) → Sane setup w → p < length w.slots → (Messages.slot_at w p).is_end_mark ≡ false → Known w log → Known (Changes.slot_came w p) (SlotCame p ∷ log) → SoFar s list (view w) log → SoFar s list (view (Changes.slot_came w p)) (SlotCame p ∷ log)
+so_far-slot setup w log p s list g lt mark k k' f = by (is_new w p) refl
   where
-    by : (b : Bool) → is_new w p ≡ b → SoFar s list shown (view (Changes.slot_came w p)) (SlotCame p ∷ log)
-    by true e = so_far-as s list shown (noting (arrived_in (view w) p) (Messages.message_of w p)) (view (Changes.slot_came w p)) (SlotCame p ∷ log) (Known.view-came setup w p g lt e)
-        (so_far-new (view w) log p g.sender k.whole (hears w log k.heard) (hears-new w log p lt e k.heard) lt mark (new-not w p e) s list shown f)
+    by : (b : Bool) → is_new w p ≡ b → SoFar s list (view (Changes.slot_came w p)) (SlotCame p ∷ log)
+    by true e = so_far-as s list (noting (arrived_in (view w) p) (Messages.message_of w p)) (view (Changes.slot_came w p)) (SlotCame p ∷ log) (Known.view-came setup w p g lt e)
+        (so_far-new (view w) log p g.sender k.whole (hears w log k.heard) (hears-new w log p lt e k.heard) lt mark (new-not w p e) s list f)
     by false e =
         let same : view (Changes.slot_came w p) ≡ view w = ap (λ b. view (if b then Changes.whole_noted (with_arrived w p) (Messages.message_of w p) else record w { duplicates = w.duplicates ++ p ∷ [] })) e in
-        so_far-as s list shown (view w) (view (Changes.slot_came w p)) (SlotCame p ∷ log) same
-        (so_far-again (view w) (SlotCame p) log k.whole (Known.whole-as (view (Changes.slot_came w p)) (view w) (SlotCame p ∷ log) (sym same) k'.whole) s list shown f)
+        so_far-as s list (view w) (view (Changes.slot_came w p)) (SlotCame p ∷ log) same
+        (so_far-again (view w) (SlotCame p) log k.whole (Known.whole-as (view (Changes.slot_came w p)) (view w) (SlotCame p ∷ log) (sym same) k'.whole) s list f)
 
-so_far-skipped : (setup : Setup) (w : World) (log : List Coming) (upto : ℕ) (names : List ℕ) (s : ℕ) (list : List ℕ) (shown : List Shown) → Sane setup w → NamesFit (shape w) upto names → Known w log → Known (Changes.skip_came w upto names) (SkipCame upto names ∷ log) → SoFar s list shown (view w) log → SoFar s list shown (view (Changes.skip_came w upto names)) (SkipCame upto names ∷ log)
-so_far-skipped setup w log upto names s list shown g fit k k' f = by (Changes.skip_counts w upto) refl
+so_far-skipped : (setup : Setup) (w : World) (log : List Coming) (upto : ℕ) (names : List ℕ) (s : ℕ) (list : List ℕ) → Sane setup w → NamesFit (shape w) upto names → Known w log → Known (Changes.skip_came w upto names) (SkipCame upto names ∷ log) → SoFar s list (view w) log → SoFar s list (view (Changes.skip_came w upto names)) (SkipCame upto names ∷ log)
+so_far-skipped setup w log upto names s list g fit k k' f = by (Changes.skip_counts w upto) refl
   where
-    by : (b : Bool) → Changes.skip_counts w upto ≡ b → SoFar s list shown (view (Changes.skip_came w upto names)) (SkipCame upto names ∷ log)
+    by : (b : Bool) → Changes.skip_counts w upto ≡ b → SoFar s list (view (Changes.skip_came w upto names)) (SkipCame upto names ∷ log)
     by true e =
         let same : view (Changes.skip_came w upto names) ≡ skipped_in (view w) upto names = ap (λ b. view (if b then record w { skipped = upto + 1; streams = map (Changes.named_by w names) w.streams } else w)) e ∙ view-skip setup w upto names g fit in
-        so_far-as s list shown (skipped_in (view w) upto names) (view (Changes.skip_came w upto names)) (SkipCame upto names ∷ log) same
-        (so_far-skip (view w) upto names log k.whole (Known.whole-as (view (Changes.skip_came w upto names)) (skipped_in (view w) upto names) (SkipCame upto names ∷ log) (sym same) k'.whole) s list shown f)
+        so_far-as s list (skipped_in (view w) upto names) (view (Changes.skip_came w upto names)) (SkipCame upto names ∷ log) same
+        (so_far-skip (view w) upto names log k.whole (Known.whole-as (view (Changes.skip_came w upto names)) (skipped_in (view w) upto names) (SkipCame upto names ∷ log) (sym same) k'.whole) s list f)
     by false e =
         let same : view (Changes.skip_came w upto names) ≡ view w = ap (λ b. view (if b then record w { skipped = upto + 1; streams = map (Changes.named_by w names) w.streams } else w)) e in
-        so_far-as s list shown (view w) (view (Changes.skip_came w upto names)) (SkipCame upto names ∷ log) same
-        (so_far-again (view w) (SkipCame upto names) log k.whole (Known.whole-as (view (Changes.skip_came w upto names)) (view w) (SkipCame upto names ∷ log) (sym same) k'.whole) s list shown f)
+        so_far-as s list (view w) (view (Changes.skip_came w upto names)) (SkipCame upto names ∷ log) same
+        (so_far-again (view w) (SkipCame upto names) log k.whole (Known.whole-as (view (Changes.skip_came w upto names)) (view w) (SkipCame upto names ∷ log) (sym same) k'.whole) s list f)
 
-pub told-moving : (setup : Setup) (s : ℕ) (list : List ℕ) (shown : List Shown) → Moving setup (Told s list shown)
-told-moving setup s list shown =
+pub told-moving : (setup : Setup) (s : ℕ) (list : List ℕ) → Moving setup (Told s list)
+told-moving setup s list =
     let k = received-keeps setup in
     record {
-      quiet = λ w v log g a q b. record { received = k.quiet w v log g a q b.received; so_far = SoFar.so_far-still s list shown (view w) (view v) log (still-of setup w v g a q) b.received.known.whole b.received.ordered b.so_far };
-      opened = λ w log t g o b. record { received = k.opened w log t g o b.received; so_far = so_far-as s list shown (view w) (view (Changes.opened w t)) log (View.view-opened w t o) b.so_far };
-      moded = λ w log t u r n g b. record { received = k.moded w log t u r n g b.received; so_far = so_far-as s list shown (view w) (view (Changes.mode_set w t u r n)) log (View.view-moded w t u r n) b.so_far };
-      slot = λ w log p g lt m b. let r = k.slot w log p g lt m b.received in record { received = r; so_far = so_far-slot setup w log p s list shown g lt m b.received.known r.known b.so_far };
-      skip = λ w log upto names g lt f b. let r = k.skip w log upto names g lt f b.received in record { received = r; so_far = so_far-skipped setup w log upto names s list shown g f b.received.known r.known b.so_far };
-      reported = λ w log credit g b. let r = k.reported w log credit g b.received in record { received = r; so_far = so_far-again (view w) SackMade log b.received.known.whole (record { came = r.known.whole.came; ready = r.known.whole.ready; differ = r.known.whole.differ; agrees = r.known.whole.agrees }) s list shown b.so_far };
-      taken = λ w log r g b. record { received = k.taken w log r g b.received; so_far = so_far-as s list shown (view w) (view (Changes.sack_taken w (Some (Sack r)))) log (View.view-taken w r) b.so_far };
+      quiet = λ w v log g a q b. record { received = k.quiet w v log g a q b.received; so_far = SoFar.so_far-still s list (view w) (view v) log (still-of setup w v g a q) b.received.known.whole b.received.ordered b.so_far };
+      opened = λ w log t g o b. record { received = k.opened w log t g o b.received; so_far = so_far-as s list (view w) (view (Changes.opened w t)) log (View.view-opened w t o) b.so_far };
+      moded = λ w log t u r n g b. record { received = k.moded w log t u r n g b.received; so_far = so_far-as s list (view w) (view (Changes.mode_set w t u r n)) log (View.view-moded w t u r n) b.so_far };
+      slot = λ w log p g lt m b. let r = k.slot w log p g lt m b.received in record { received = r; so_far = so_far-slot setup w log p s list g lt m b.received.known r.known b.so_far };
+      skip = λ w log upto names g lt f b. let r = k.skip w log upto names g lt f b.received in record { received = r; so_far = so_far-skipped setup w log upto names s list g f b.received.known r.known b.so_far };
+      reported = λ w log credit g b. let r = k.reported w log credit g b.received in record { received = r; so_far = so_far-again (view w) SackMade log b.received.known.whole (record { came = r.known.whole.came; ready = r.known.whole.ready; differ = r.known.whole.differ; agrees = r.known.whole.agrees }) s list b.so_far };
+      taken = λ w log r g b. record { received = k.taken w log r g b.received; so_far = so_far-as s list (view w) (view (Changes.sack_taken w (Some (Sack r)))) log (View.view-taken w r) b.so_far };
     }
 
 -- ## A read
@@ -218,13 +210,11 @@ was-stays v s t n k e =
     and (nat_lt k v.x.count && ((v.x.message k).stream == s)) ((read_in v t n).read k) a.0 (read-stays v t n k a.1)
 
 -- on another stream
-pub so_far-elsewhere : (v : View) (log : List Coming) (s t n : ℕ) (list : List ℕ) (shown : List Shown) → (v.x.message n).stream ≡ t → (t == s) ≡ false → SoFar s list shown v log → SoFar s list shown (read_in v t n) log
-so_far-elsewhere v log s t n list shown on-it ne f = record {
+pub so_far-elsewhere : (v : View) (log : List Coming) (s t n : ℕ) (list : List ℕ) → (v.x.message n).stream ≡ t → (t == s) ≡ false → SoFar s list v log → SoFar s list (read_in v t n) log
+so_far-elsewhere v log s t n list on-it ne f = record {
   all = Wholes.all-more (was_read v s) (was_read (read_in v t n) s) list (λ k e. was-stays v s t n k e) f.all;
-  differ = f.differ;
   ordered = f.ordered ∙ sym (kept-same (read_on (read_in v t n) s) (read_on v s) 0 v.x.count (λ k a b. by_same {P = read_on (read_in v t n) s k ≡ read_on v s k} k n (λ e. gone k e) (λ z y. ap (λ c. on v.x s k && c) (read-other v t n k z))));
   unordered = f.unordered ∙ ap (λ l. passing (λ n. not (v.x.message n).ordered) list ++ l) (sym (ap (λ b. if b then drop 1 (v.whole s) else v.whole s) (fails (s == t) (λ e. not_both (sym ne ∙ (let z = same-is s t e in ap (λ k. k == s) (sym z) ∙ same-yes s))))));
-  shows = f.shows;
 }
   where
     gone : (k : ℕ) → k ≡ n → read_on (read_in v t n) s k ≡ read_on v s k
@@ -238,34 +228,26 @@ record IsRead (v : View) (s n : ℕ) : Type 0 where
   stream : (v.x.message n).stream ≡ s
   unread : v.read n ≡ false
 
-read-all : (v : View) (log : List Coming) (s n : ℕ) (list : List ℕ) (shown : List Shown) → IsRead v s n → SoFar s list shown v log → list_all (was_read (read_in v s n) s) (list ++ n ∷ []) ≡ true
-read-all v log s n list shown r f =
+read-all : (v : View) (log : List Coming) (s n : ℕ) (list : List ℕ) → IsRead v s n → SoFar s list v log → list_all (was_read (read_in v s n) s) (list ++ n ∷ []) ≡ true
+read-all v log s n list r f =
     let l = r.made in
     let low : nat_lt n v.x.count ≡ true = grind (arith, nat_tests) in
     let on-it : ((v.x.message n).stream == s) ≡ true = ap (λ k. k == s) r.stream ∙ same-yes s in
     all-one (was_read (read_in v s n) s) list n (Wholes.all-more (was_read v s) (was_read (read_in v s n) s) list (λ k e. was-stays v s s n k e) f.all)
     (and (nat_lt n v.x.count && ((v.x.message n).stream == s)) ((read_in v s n).read n) (and (nat_lt n v.x.count) ((v.x.message n).stream == s) low on-it) (read-here v s n))
 
-read-differ : (v : View) (log : List Coming) (s n : ℕ) (list : List ℕ) (shown : List Shown) → IsRead v s n → SoFar s list shown v log → AllDifferent (list ++ n ∷ [])
-read-differ v log s n list shown r f = differ-more list n (fails (list_any (λ k. k == n) list) (λ e. not_both (sym r.unread ∙ (both (nat_lt n v.x.count && ((v.x.message n).stream == s)) (v.read n) (all-among (was_read v s) n list f.all e)).1))) f.differ
-
-read-shows : (v : View) (log : List Coming) (s n : ℕ) (list : List ℕ) (shown : List Shown) → SoFar s list shown v log → shown ++ shown_part (v.x.message n) ∷ [] ≡ map (λ k. shown_part (v.x.message k)) (list ++ n ∷ [])
-read-shows v log s n list shown f = ap (λ l. l ++ shown_part (v.x.message n) ∷ []) f.shows ∙ sym (map-append (λ k. shown_part (v.x.message k)) list (n ∷ []))
-
-pub so_far-unordered : (v : View) (log : List Coming) (s n : ℕ) (list : List ℕ) (shown : List Shown) → Whole v log → ReadsWhole v s n → SoFar s list shown v log → SoFar s (list ++ n ∷ []) (shown ++ shown_part (v.x.message n) ∷ []) (read_in v s n) log
-so_far-unordered v log s n list shown h r f =
+pub so_far-unordered : (v : View) (log : List Coming) (s n : ℕ) (list : List ℕ) → Whole v log → ReadsWhole v s n → SoFar s list v log → SoFar s (list ++ n ∷ []) (read_in v s n) log
+so_far-unordered v log s n list h r f =
     let i = ready-first v log s n h r in
     let q : IsRead v s n = record { made = i.made; stream = i.stream; unread = i.unread } in
     record {
-      all = read-all v log s n list shown q f;
-      differ = read-differ v log s n list shown q f;
+      all = read-all v log s n list q f;
       ordered = passing-append (λ k. (v.x.message k).ordered) list (n ∷ []) ∙ ap (λ b. passing (λ k. (v.x.message k).ordered) list ++ (if b then n ∷ [] else [])) i.kind ∙ append-nil (passing (λ k. (v.x.message k).ordered) list) ∙ f.ordered
           ∙ sym (kept-same (read_on (read_in v s n) s) (read_on v s) 0 v.x.count (λ k a b. by_same {P = read_on (read_in v s n) s k ≡ read_on v s k} k n (λ e. gone i.kind k e) (λ z y. ap (λ c. on v.x s k && c) (read-other v s n k z))));
       unordered = f.unordered ∙ ap (λ l. passing (λ k. not (v.x.message k).ordered) list ++ l) r.is
           ∙ sym (append_assoc (passing (λ k. not (v.x.message k).ordered) list) (n ∷ []) r.rest)
           ∙ ap (λ l. l ++ r.rest) (sym (passing-append (λ k. not (v.x.message k).ordered) list (n ∷ []) ∙ ap (λ b. passing (λ k. not (v.x.message k).ordered) list ++ (if not b then n ∷ [] else [])) i.kind))
           ∙ ap (λ l. passing (λ k. not (v.x.message k).ordered) (list ++ n ∷ []) ++ l) (sym (ap (λ b. if b then drop 1 (v.whole s) else v.whole s) (same-yes s) ∙ ap (drop 1) r.is ∙ dropped r.rest));
-      shows = read-shows v log s n list shown f;
     }
   where
     gone : (v.x.message n).ordered ≡ false → (k : ℕ) → k ≡ n → read_on (read_in v s n) s k ≡ read_on v s k
@@ -277,13 +259,12 @@ so_far-unordered v log s n list shown h r f =
     dropped [] = refl
     dropped (y ∷ l) = refl
 
-pub so_far-ordered : (v : View) (log : List Coming) (s n : ℕ) (list : List ℕ) (shown : List Shown) → Ordered v → ReadsRun v s n → IsDue v s n → SoFar s list shown v log → SoFar s (list ++ n ∷ []) (shown ++ shown_part (v.x.message n) ∷ []) (read_in v s n) log
-so_far-ordered v log s n list shown o r d f =
+pub so_far-ordered : (v : View) (log : List Coming) (s n : ℕ) (list : List ℕ) → Ordered v → ReadsRun v s n → IsDue v s n → SoFar s list v log → SoFar s (list ++ n ∷ []) (read_in v s n) log
+so_far-ordered v log s n list o r d f =
     let q : IsRead v s n = record { made = d.made; stream = on-stream v.x s n d.on_it; unread = d.unread } in
     let kind = on-ordered v.x s n d.on_it in
     record {
-      all = read-all v log s n list shown q f;
-      differ = read-differ v log s n list shown q f;
+      all = read-all v log s n list q f;
       ordered = passing-append (λ k. (v.x.message k).ordered) list (n ∷ []) ∙ ap (λ b. passing (λ k. (v.x.message k).ordered) list ++ (if b then n ∷ [] else [])) kind ∙ ap (λ l. l ++ n ∷ []) f.ordered
           ∙ sym (kept-last (read_on v s) (read_on (read_in v s n) s) n v.x.count d.made (ap (λ b. on v.x s n && b) d.unread ∙ ands (on v.x s n)) (and (on v.x s n) ((read_in v s n).read n) d.on_it (read-here v s n))
           (λ k lt z. ap (λ c. on v.x s k && c) (read-other v s n k z))
@@ -291,7 +272,6 @@ so_far-ordered v log s n list shown o r d f =
       unordered = f.unordered ∙ ap (λ l. passing (λ k. not (v.x.message k).ordered) list ++ l) r.none
           ∙ ap (λ l. l ++ []) (sym (append-nil (passing (λ k. not (v.x.message k).ordered) list)) ∙ ap (λ b. passing (λ k. not (v.x.message k).ordered) list ++ (if not b then n ∷ [] else [])) (sym kind) ∙ sym (passing-append (λ k. not (v.x.message k).ordered) list (n ∷ [])))
           ∙ ap (λ l. passing (λ k. not (v.x.message k).ordered) (list ++ n ∷ []) ++ l) (sym (ap (λ b. if b then drop 1 (v.whole s) else v.whole s) (same-yes s) ∙ ap (drop 1) r.none));
-      shows = read-shows v log s n list shown f;
     }
   where
     all-of : all_come v n ≡ true

@@ -38,6 +38,7 @@ use Rattle.sctp_model.proofs.Ordered
 use Rattle.sctp_model.proofs.Ordered.{Ordered, next-still, read-other}
 use Rattle.sctp_model.proofs.Due.{IsDue, is_due}
 use Rattle.sctp_model.proofs.Received.{Received, received-run}
+use Rattle.sctp_lists.proofs.Cases.{by_same, negated}
 
 greatest-append : (x : ℕ) (xs ys : List ℕ) → greatest x (xs ++ ys) ≡ greatest (greatest x xs) ys
 greatest-append x [] ys = refl

@@ -1,6 +1,6 @@
 //! What holds of every history of a link: laws, each the contract of a function that does nothing.
 
-ghost use Rattle.sctp_model.specs.Laws.{OnEveryRun, EmitsWherePending, TakesPending, SlotsInOrder, SlotsFollow, OneHalfSent, SentInTurn, IndexesLeaveNoGap, NoEndMarkIsSent, DatagramsStay, Balances, SumsAreTold, AcknowledgedArrived, AcknowledgedIsReported, SacksSay, NetworkIsMade, ArrivedIsNew, CumulativeIsSeen, ArrivalsAnswered, WholeIsWhole, NamedIsNamed, SpansFit, MessagesAreWrites, StartsOnce, LateAbandonsListed};
+ghost use Rattle.sctp_model.specs.Laws.{OnEveryRun, EmitsWherePending, TakesPending, SlotsInOrder, SlotsFollow, OneHalfSent, SentInTurn, IndexesLeaveNoGap, NoEndMarkIsSent, DatagramsStay, Balances, SumsAreTold, AcknowledgedArrived, AcknowledgedIsReported, SacksSay, NetworkIsMade, ArrivedIsNew, CumulativeIsSeen, ArrivalsAnswered, WholeIsWhole, NamedIsNamed, SpansFit, MessagesAreWrites, ReadsShowMessages, ReadsDiffer, StartsOnce, LateAbandonsListed, CountersAreSums};
 
 /// A Send answers Idle exactly where no fragment is pending; else its new datagram carries the pending fragments that it takes.
 pub fn each_send_emits()
@@ -46,10 +46,21 @@ pub fn arrivals_are_told()
 /// The ordered messages of a stream are read in order, each as it was written, as far as they are whole.
 pub fn ordered_reads()
     ensures writes { OnEveryRun MessagesAreWrites }
+    ensures show { OnEveryRun ReadsShowMessages }
+{}
+
+/// The unordered messages of a stream are read each once, in the order in which they became whole, and before any ordered one.
+pub fn unordered_reads()
+    ensures differ { OnEveryRun ReadsDiffer }
 {}
 
 /// A lifetime starts at the first Start or Send after the write, and Late abandons the messages of the slots that it lists and no others.
 pub fn lifetimes_end()
     ensures once { OnEveryRun StartsOnce }
     ensures late { OnEveryRun LateAbandonsListed }
+{}
+
+/// The counters of a stream are the saturated sums over its writes and its reads.
+pub fn counters_count()
+    ensures sums { OnEveryRun CountersAreSums }
 {}

@@ -22,8 +22,8 @@ returns-clause-answered c = arrivals_answered
 pub returns-clause-whole : goal.returns-clause-whole
 returns-clause-whole c = whole_is_whole
 
-pub returns-clause-spans : goal.returns-clause-spans
-returns-clause-spans c = spans_fit_always
-
 pub returns-clause-named : goal.returns-clause-named
 returns-clause-named c = named_is_named
+
+pub returns-clause-spans : goal.returns-clause-spans
+returns-clause-spans c = spans_fit_always

@@ -1,5 +1,9 @@
 use Rattle.sctp_model.proofs.Written.{messages_are_writes}
+use Rattle.sctp_model.proofs.Shown.{reads_show_messages}
 use Rattle.sctp_model.proofs.laws.ordered_reads.Goals as goal
 
-pub returns : goal.returns
-returns c = record { writes = messages_are_writes }
+pub returns-clause-writes : goal.returns-clause-writes
+returns-clause-writes c = messages_are_writes
+
+pub returns-clause-show : goal.returns-clause-show
+returns-clause-show c = reads_show_messages
