@@ -43,3 +43,4 @@ pub mod Spans
 pub mod SoFar
 pub mod SoFarSteps
 pub mod Shown
+pub mod ReadLaws

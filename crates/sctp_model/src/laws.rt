@@ -1,6 +1,6 @@
 //! What holds of every history of a link: laws, each the contract of a function that does nothing.
 
-ghost use Rattle.sctp_model.specs.Laws.{OnEveryRun, EmitsWherePending, TakesPending, SlotsInOrder, SlotsFollow, OneHalfSent, SentInTurn, IndexesLeaveNoGap, NoEndMarkIsSent, DatagramsStay, Balances, SumsAreTold, AcknowledgedArrived, AcknowledgedIsReported, SacksSay, NetworkIsMade, ArrivedIsNew, CumulativeIsSeen, ArrivalsAnswered, WholeIsWhole, NamedIsNamed, SpansFit, MessagesAreWrites, ReadsShowMessages, ReadsDiffer, StartsOnce, LateAbandonsListed, CountersAreSums};
+ghost use Rattle.sctp_model.specs.Laws.{OnEveryRun, EmitsWherePending, TakesPending, SlotsInOrder, SlotsFollow, OneHalfSent, SentInTurn, IndexesLeaveNoGap, NoEndMarkIsSent, DatagramsStay, Balances, SumsAreTold, AcknowledgedArrived, AcknowledgedIsReported, SacksSay, NetworkIsMade, ArrivedIsNew, CumulativeIsSeen, ArrivalsAnswered, WholeIsWhole, NamedIsNamed, SpansFit, MessagesAreWrites, ReadsShowMessages, ReadsDiffer, StartsOnce, LateAbandonsListed, CountersAreSums, ReadsBeginRun, ReadsBeginWholeRun, ReadsBeginWhole, UnorderedFirst, NothingWhereRead};
 
 /// A Send answers Idle exactly where no fragment is pending; else its new datagram carries the pending fragments that it takes.
 pub fn each_send_emits()
@@ -47,11 +47,20 @@ pub fn arrivals_are_told()
 pub fn ordered_reads()
     ensures writes { OnEveryRun MessagesAreWrites }
     ensures show { OnEveryRun ReadsShowMessages }
+    ensures begin_run { OnEveryRun ReadsBeginRun }
+    ensures begin_whole_run { OnEveryRun ReadsBeginWholeRun }
 {}
 
 /// The unordered messages of a stream are read each once, in the order in which they became whole, and before any ordered one.
 pub fn unordered_reads()
     ensures differ { OnEveryRun ReadsDiffer }
+    ensures begin_whole { OnEveryRun ReadsBeginWhole }
+    ensures first { OnEveryRun UnorderedFirst }
+{}
+
+/// A read answers Nothing exactly where the run is exhausted and each whole unordered message was read.
+pub fn nothing_when_exhausted()
+    ensures nothing { OnEveryRun NothingWhereRead }
 {}
 
 /// A lifetime starts at the first Start or Send after the write, and Late abandons the messages of the slots that it lists and no others.
