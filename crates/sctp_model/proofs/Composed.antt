@@ -21,6 +21,7 @@ use Rattle.sctp_model.proofs.Sender.{Sender}
 use Rattle.sctp_model.proofs.SenderSteps.{of-has, sent-some}
 use Rattle.sctp_model.proofs.SenderRun.{sane-run}
 use Rattle.sctp_model.proofs.Slots.{sent-made}
+use Rattle.sctp_model.proofs.ReadLaws.{nothing_where_read}
 use Rattle.sctp_model.proofs.Written.{messages_are_writes}
 use Rattle.sctp_model.proofs.Modes.{modes_are_kept}
 use Rattle.sctp_model.proofs.Lossless.{Lossless, AllAlive, alive-run, is_skip, no-skips, none-named, none-skipped}
@@ -226,7 +227,7 @@ twice true false e = cc
 twice false true e = cc
 twice false false e = refl
 
-pub reads-settled : OnEveryRun NothingWhereRead → ReadsAreSettled
+reads-settled : OnEveryRun NothingWhereRead → ReadsAreSettled
 reads-settled nothing setup g h s is a b writes came =
     let v = world_of setup g in
     let w = world_of setup h in
@@ -286,3 +287,6 @@ reads-settled nothing setup g h s is a b writes came =
         ap (λ y. ((y == s) && not (Messages.message_at (world_of setup g) n).ordered) && is_whole_by (world_of setup g) (log_of setup g) n) (stream-same n lt)
         ∙ ap (λ y. (((Messages.message_at (world_of setup h) n).stream == s) && not y) && is_whole_by (world_of setup g) (log_of setup g) n) (ordered-same n lt)
         ∙ ap (λ y. Messages.is_unordered_on (world_of setup h) s n && y) (whole-same n lt)
+
+pub reads_are_settled : ReadsAreSettled
+reads_are_settled = reads-settled nothing_where_read

@@ -32,7 +32,7 @@ run-tail wh r (x ∷ xs) all = step (r x) (wh x) refl refl (run-tail wh r xs all
     step false true e h ih = rw (e, h) refl
     step false false e h ih = rw (e, h) refl
 
-take-none : (i : ℕ) (q : ℕ → Bool) → passing q (take i []) ≡ []
+pub take-none : (i : ℕ) (q : ℕ → Bool) → passing q (take i []) ≡ []
 take-none zero q = refl
 take-none (suc i) q = refl
 
@@ -56,7 +56,7 @@ run-first wh r (suc i) (x ∷ xs) all =
     step false false e h ih = rw (e, h) ih
 
 -- the first ones of a line, by their places
-take-kept : (p q : ℕ → Bool) (idx : ℕ → ℕ) (from count i b top : ℕ) → top ≡ b + i → ((k : ℕ) → from ≤ k → k < from + count → p k ≡ true → idx k ≡ b + length (kept p from (k - from))) → passing q (take i (kept p from count)) ≡ kept (λ k. p k && (q k && nat_lt (idx k) top)) from count
+pub take-kept : (p q : ℕ → Bool) (idx : ℕ → ℕ) (from count i b top : ℕ) → top ≡ b + i → ((k : ℕ) → from ≤ k → k < from + count → p k ≡ true → idx k ≡ b + length (kept p from (k - from))) → passing q (take i (kept p from count)) ≡ kept (λ k. p k && (q k && nat_lt (idx k) top)) from count
 take-kept p q idx from zero i b top t places = take-none i q
 take-kept p q idx from (suc count) i b top t places = step (p from) refl i t
     (λ j c e same. take-kept p q idx (from + 1) count j c top e (λ k x y z. same k x y z))

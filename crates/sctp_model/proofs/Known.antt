@@ -225,14 +225,14 @@ module _ (v : View) (log : List Coming) (p : ℕ) (s : Sender v.x) (h : Whole v 
   here = and ((v.x.slot p).message == m) (not (v.x.slot p).is_end_mark) (same-yes m) (ap not mark)
 
   -- it was not whole before
-  not-whole : (v.x.message m).ordered ≡ false → whole_at v m ≡ false
+  pub not-whole : (v.x.message m).ordered ≡ false → whole_at v m ≡ false
   not-whole o = fails (whole_at v m) (λ e. not_both (sym (not-all v m p (s.within m made) lt here new) ∙ Wholes.whole-come v log m heard.arrived (s.within m made) (sym (h.agrees m made) ∙ e)))
 
-  due-other : (n : ℕ) → (m ≡ n → ⊥) → Wholes.due v1 n ≡ Wholes.due v n
+  pub due-other : (n : ℕ) → (m ≡ n → ⊥) → Wholes.due v1 n ≡ Wholes.due v n
   due-other n ne = ap (λ c. (c == parts v.x n) && list_all (λ q. nat_le v.skipped q) (Wholes.slots_in v.x n)) (come-other v p n ne)
 
   -- who is whole then
-  whole-then : (n : ℕ) → n < v.x.count → (v.x.message n).ordered ≡ false → whole_at v2 n ≡ (whole_at v n || Wholes.due v1 n)
+  pub whole-then : (n : ℕ) → n < v.x.count → (v.x.message n).ordered ≡ false → whole_at v2 n ≡ (whole_at v n || Wholes.due v1 n)
   whole-then n l o = by_same {P = whole_at v2 n ≡ (whole_at v n || Wholes.due v1 n)} m n
       (λ e. same e (Wholes.due v1 m) refl)
       (λ ne f. other ne f (not (v.x.message m).ordered && Wholes.due v1 m) ∙ sym (stays ne))

@@ -40,7 +40,7 @@ new-past w p e = let z : nat_lt p w.skipped ≡ false = by (nat_lt p w.skipped) 
     by true b e = cc
     by false b e = refl
 
-hears-as : (u v : View) (log : List Coming) → v ≡ u → Wholes.Hears u log → Wholes.Hears v log
+pub hears-as : (u v : View) (log : List Coming) → v ≡ u → Wholes.Hears u log → Wholes.Hears v log
 hears-as u v log e h = subst (λ y. Wholes.Hears y log) (sym e) h
 
 pub hears-new : (w : World) (log : List Coming) (p : ℕ) → p < length w.slots → is_new w p ≡ true → Heard w log → Wholes.Hears (arrived_in (view w) p) (SlotCame p ∷ log)

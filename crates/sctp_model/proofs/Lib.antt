@@ -40,5 +40,9 @@ pub mod Due
 pub mod Ordered
 pub mod Received
 pub mod Spans
+pub mod SoFar
+pub mod SoFarSteps
 pub mod Shown
 pub mod Modes
+pub mod ReadLaws
+pub mod EveryHistory
