@@ -319,23 +319,27 @@ fn inits_checked(rt: HostRuntime) -> Result<(), Fail> {
 }
 
 #[test]
-fn reconfigs_checked(rt: HostRuntime) -> Result<(), Fail> {
+fn reconfig_without_first(rt: HostRuntime) -> Result<(), Fail> {
     let alloc = rt.alloc();
-    let mut chunk = ChunkReconfig {
+    let chunk = ChunkReconfig {
         param_a: None,
         param_b: None,
     };
     assert!(rt; chunk.check().err() == Some(Error::ErrChunkReconfigInvalidParamA));
     assert!(rt; chunk.marshal(alloc).err() == Some(Error::ErrChunkReconfigInvalidParamA));
-    chunk.param_a = Some(info(alloc, 1)?);
-    assert!(rt; chunk.check().is_ok());
-    chunk.param_b = Some(info(alloc, 2)?);
+    Ok(())
+}
+
+#[test]
+fn reconfig_with_second(rt: HostRuntime) -> Result<(), Fail> {
+    let alloc = rt.alloc();
+    let chunk = ChunkReconfig {
+        param_a: Some(info(alloc, 1)?),
+        param_b: Some(info(alloc, 2)?),
+    };
     assert!(rt; chunk.check().err() == Some(Error::ErrChunkReconfigInvalidParamCombination));
-    let copy = chunk.try_clone(alloc)?;
-    let written = copy.marshal(alloc)?;
-    assert_eq!(rt;
-        written.as_slice(),
-        b"\x82\0\0\x12\0\x01\0\x05\x07\0\0\0\0\x01\0\x06\x07\x07".as_slice()
-    );
+    let written = chunk.try_clone(alloc)?.marshal(alloc)?;
+    let text = b"\x82\0\0\x12\0\x01\0\x05\x07\0\0\0\0\x01\0\x06\x07\x07";
+    assert_eq!(rt; written.as_slice(), text.as_slice());
     Ok(())
 }
