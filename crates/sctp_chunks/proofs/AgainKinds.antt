@@ -1,8 +1,9 @@
 -- What is written of a chunk reads back, for each kind.
-use Rattle.std.proofs.Common.{◌≡◌, ℕ, ◌+◌, ◌*◌, ◌-◌, ◌/◌, ◌%◌, ◌^◌, ◌<◌, ◌≤◌, Bool, true, false, List, [], ◌∷◌, ◌++◌, length, drop, All, refl, sym, ap, ◌∙◌, arith, append_assoc, length-append}
+use Rattle.std.proofs.Common.{◌≡◌, ℕ, ◌+◌, ◌*◌, ◌-◌, ◌/◌, ◌%◌, ◌^◌, ◌<◌, ◌≤◌, Bool, true, false, List, [], ◌∷◌, ◌++◌, length, drop, All, refl, sym, subst, ap, ◌∙◌, arith, append_assoc, length-append}
 use Rattle.std.specs.Prelude.{slice_index}
 use Rattle.std.specs.List.{flat_map}
 use Rattle.std.proofs.lemmas.List.{append-nil, drop_at}
+use Rattle.std.proofs.lemmas.List.Elements.{All-nil}
 use Rattle.std.proofs.Math.Seq.{get_or-append_seam}
 use Rattle.sctp_base.specs.Each.{each}
 use Rattle.sctp_base.specs.Field.{be16, be32, u16_at, u32_at}
@@ -17,7 +18,7 @@ use Rattle.sctp_chunks.specs.SelectiveAck.{Sack, ReadsSack, sack_value, sack_in,
 use Rattle.sctp_chunks.specs.ForwardTsn.{ForwardTsn, ReadsForwardTsn, forward_tsn_value, stream_at, stream_text}
 use Rattle.sctp_chunks.specs.IForwardTsn.{IForwardTsn, ReadsIForwardTsn, i_forward_tsn_value, entry_at, entry_text}
 use Rattle.sctp_chunks.specs.Fits.{Fits, FitsInit, FitsBlock, FitsSack, FitsStream, FitsForwardTsn, FitsEntry, FitsIForwardTsn, Canonical}
-use Rattle.sctp_chunks.specs.Wire.{Wire, data_chunk, init_chunk, sack_chunk, heartbeat_chunk, heartbeat_ack_chunk, reconfig_chunk, HasLength, abort_chunk, shutdown_chunk, shutdown_ack_chunk, error_chunk, cookie_echo_chunk, cookie_ack_chunk, shutdown_complete_chunk, forward_tsn_chunk, i_forward_tsn_chunk, ReadsValue, ReadsChunk, type_of, flags_of, value_of, text_of}
+use Rattle.sctp_chunks.specs.Wire.{Wire, data_chunk, init_chunk, sack_chunk, heartbeat_chunk, heartbeat_ack_chunk, reconfig_chunk, HasLength, abort_chunk, shutdown_chunk, shutdown_ack_chunk, error_chunk, cookie_echo_chunk, cookie_ack_chunk, shutdown_complete_chunk, forward_tsn_chunk, i_forward_tsn_chunk, ReadsValue, ReadsChunk, HasText, type_of, flags_of, value_of, text_of}
 use Rattle.sctp_chunks.proofs.Lengths.{length_init_value, length_sack_value, length_flat_map, length_forward_tsn_value, length_i_forward_tsn_value}
 use Rattle.sctp_chunks.proofs.Again.{data_again, framed_reads, framed_value}
 use Rattle.sctp_chunks.proofs.AgainLists.{items_again}
@@ -213,3 +214,9 @@ chunk_again w rest canonical fits short zeros =
       typ = refl;
       value = rw (framed_value (type_of w) (flags_of w) (value_of w) rest short) (value_again w canonical fits short);
     }
+
+-- a chunk's text alone reads back
+pub text_again : (w : Wire) → Canonical w → Fits w → HasText w → ReadsChunk (text_of w) w
+text_again w canonical fits text =
+    let P : List ℕ → Type 0 = λ b. ReadsChunk b w in
+    subst P (append-nil (text_of w)) (chunk_again w [] canonical fits text.1 (λ short. All-nil (λ (x : ℕ). x ≡ 0)))

@@ -15,3 +15,4 @@ pub mod Check
 pub mod Fits
 pub mod ChunkSet
 pub mod Kind
+pub mod Reliability

@@ -100,11 +100,14 @@ pub trait Chunk {
     }
 
     /// Appends the chunk, with no padding, and answers the buffer's length.
+    #[tactic(auto, using(crate::proofs::AgainKinds::text_again))]
     fn marshal_to(&self, buf: &mut BytesMut) -> Result<usize>
         ensures ok { IfOk result (λ n. HasText (wire self.now)
             × (buf.new.items ≡ buf.old.items ++ text_of (wire self.now)) × (n ≡ length buf.new.items)) }
         ensures spare { OnOk result (buf.old.spare ≤ buf.new.spare + (4 + length (value_of (wire self.now)))) }
         ensures fits { OnOk result (Fits (wire self.now)) }
+        // What is written of a chunk that was read reads back, as does every text of DATA, SACK and FORWARD-TSN.
+        ensures reads_back { Canonical (wire self.now) → OnOk result (ReadsChunk (text_of (wire self.now)) (wire self.now)) }
         ensures err { OnErr result (buf.new.items ≡ buf.old.items) }
         ensures refused { IfErr result (λ e. TextFault e (wire self.now)
             ⊎ ((e ≡ ErrOutOfMemory) × HasText (wire self.now) × (buf.old.spare < 4 + length (value_of (wire self.now))))) }

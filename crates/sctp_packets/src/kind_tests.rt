@@ -2,11 +2,17 @@ use crate::packet::Packet;
 use crate::tests::{ZERO, packet_bytes, packet_of, refusal};
 use bytes::{Bytes, BytesMut};
 use sctp_base::error::Error;
+use sctp_base::param::param_forward_tsn_supported::ParamForwardTsnSupported;
+use sctp_base::param::param_heartbeat_info::ParamHeartbeatInfo;
+use sctp_base::param::param_kind::ParamKind;
 use sctp_chunks::chunk::Chunk;
 use sctp_chunks::chunk::chunk_abort::ChunkAbort;
 use sctp_chunks::chunk::chunk_forward_tsn::{ChunkForwardTsn, ChunkForwardTsnStream};
+use sctp_chunks::chunk::chunk_heartbeat_ack::ChunkHeartbeatAck;
 use sctp_chunks::chunk::chunk_i_forward_tsn::{ChunkIForwardTsn, ChunkIForwardTsnStream};
+use sctp_chunks::chunk::chunk_init::ChunkInit;
 use sctp_chunks::chunk::chunk_kind::ChunkKind;
+use sctp_chunks::chunk::chunk_reconfig::ChunkReconfig;
 use sctp_chunks::chunk::chunk_selective_ack::{ChunkSelectiveAck, GapAckBlock};
 use sctp_chunks::chunk::error_cause::{ErrorCause, USER_INITIATED_ABORT};
 use std::alloc::Global;
@@ -139,7 +145,7 @@ fn is_written(alloc: Global, chunk: ChunkKind) -> Result<bool, Fail> {
     buf.extend_from_slice(b"abc")?;
     match packet_of(alloc, chunk)?.marshal_to(&mut buf, &ZERO) {
         Ok(length) => Ok(length == buf.len()),
-        Err(Error::ErrLengthTooLarge) if buf.as_slice() == b"abc" => Ok(false),
+        Err(Error::ErrLengthTooLarge) if buf.as_slice() == b"abc".as_slice() => Ok(false),
         Err(_) => Err(Fail::from("another refusal, or a changed buffer")),
     }
 }
@@ -237,5 +243,103 @@ fn causes_and_pairs_alone(rt: HostRuntime) -> Result<(), Fail> {
     assert_eq!(rt; pair.marshal(alloc)?.as_slice(), b"\0\x01\0\x02".as_slice());
     let short = ChunkForwardTsnStream::unmarshal(&Bytes::copy_from_slice(alloc, b"\0\x01\0")?);
     assert!(rt; matches!(short, Err(Error::ErrChunkTooShort)));
+    Ok(())
+}
+
+fn heartbeat_ack(alloc: Global, params: Vec<ParamKind>) -> Result<Option<Error>, Error> {
+    let mut buf = BytesMut::new(alloc);
+    buf.extend_from_slice(b"abc")?;
+    let refused = ChunkHeartbeatAck { params }.marshal_to(&mut buf).err();
+    if refused.is_some() && buf.as_slice() != b"abc".as_slice() {
+        return Err(Error::ErrShortBuffer);
+    }
+    Ok(refused)
+}
+
+fn info(alloc: Global, length: usize) -> Result<ParamKind, Error> {
+    Ok(ParamKind::HeartbeatInfo(ParamHeartbeatInfo {
+        heartbeat_information: cause(alloc, length)?.raw,
+    }))
+}
+
+#[test]
+fn heartbeat_acks_of_one_info(rt: HostRuntime) -> Result<(), Fail> {
+    let alloc = rt.alloc();
+    let none = heartbeat_ack(alloc, Vec::new(alloc))?;
+    assert!(rt; none == Some(Error::ErrHeartbeatAckParams));
+    let mut two = Vec::new(alloc);
+    two.push(info(alloc, 1)?)?;
+    two.push(info(alloc, 1)?)?;
+    assert!(rt; heartbeat_ack(alloc, two)? == Some(Error::ErrHeartbeatAckParams));
+    let mut other = Vec::new(alloc);
+    other.push(ParamKind::ForwardTsnSupported(ParamForwardTsnSupported))?;
+    assert!(rt; heartbeat_ack(alloc, other)? == Some(Error::ErrHeartbeatAckNotHeartbeatInfo));
+    let mut one = Vec::new(alloc);
+    one.push(info(alloc, 1)?)?;
+    assert!(rt; heartbeat_ack(alloc, one)? == None);
+    let mut long = Vec::new(alloc);
+    long.push(info(alloc, 65_532)?)?;
+    assert!(rt; heartbeat_ack(alloc, long)? == Some(Error::ErrLengthTooLarge));
+    Ok(())
+}
+
+fn init(alloc: Global) -> ChunkInit {
+    ChunkInit {
+        is_ack: false,
+        initiate_tag: 1,
+        advertised_receiver_window_credit: 1500,
+        num_outbound_streams: 1,
+        num_inbound_streams: 1,
+        initial_tsn: 0,
+        params: Vec::new(alloc),
+    }
+}
+
+#[test]
+fn inits_checked(rt: HostRuntime) -> Result<(), Fail> {
+    let alloc = rt.alloc();
+    let mut chunk = init(alloc);
+    assert!(rt; chunk.check().is_ok());
+    chunk.set_supported_extensions(alloc)?;
+    let printed = format!(in alloc; "{chunk}")?;
+    assert!(rt;
+        printed.as_str().ends_with(
+            "initial_tsn: 0Param 0:\n Supported Extensions RECONFIG FORWARD-TSN"
+        )
+    );
+    chunk.advertised_receiver_window_credit = 1499;
+    assert!(rt; chunk.check().err() == Some(Error::ErrInitAdvertisedReceiver1500));
+    chunk.num_outbound_streams = 0;
+    assert!(rt; chunk.check().err() == Some(Error::ErrInitOutboundStreamRequestZero));
+    chunk.num_inbound_streams = 0;
+    assert!(rt; chunk.check().err() == Some(Error::ErrInitInboundStreamRequestZero));
+    chunk.initiate_tag = 0;
+    assert!(rt; chunk.check().err() == Some(Error::ErrChunkTypeInitInitiateTagZero));
+    Ok(())
+}
+
+#[test]
+fn reconfig_without_first(rt: HostRuntime) -> Result<(), Fail> {
+    let alloc = rt.alloc();
+    let chunk = ChunkReconfig {
+        param_a: None,
+        param_b: None,
+    };
+    assert!(rt; chunk.check().err() == Some(Error::ErrChunkReconfigInvalidParamA));
+    assert!(rt; chunk.marshal(alloc).err() == Some(Error::ErrChunkReconfigInvalidParamA));
+    Ok(())
+}
+
+#[test]
+fn reconfig_with_second(rt: HostRuntime) -> Result<(), Fail> {
+    let alloc = rt.alloc();
+    let chunk = ChunkReconfig {
+        param_a: Some(info(alloc, 1)?),
+        param_b: Some(info(alloc, 2)?),
+    };
+    assert!(rt; chunk.check().err() == Some(Error::ErrChunkReconfigInvalidParamCombination));
+    let written = chunk.try_clone(alloc)?.marshal(alloc)?;
+    let text = b"\x82\0\0\x12\0\x01\0\x05\x07\0\0\0\0\x01\0\x06\x07\x07";
+    assert_eq!(rt; written.as_slice(), text.as_slice());
     Ok(())
 }

@@ -2,6 +2,7 @@
 
 ghost use Rattle.std.specs.Prelude.{◌≡◌, ◌+◌, ◌^◌, ◌<◌, ◌≤◌, ◌++◌, ℕ, length, IfOk, IfErr, IsOkUnless};
 ghost use Rattle.sctp_chunks.specs.PayloadData.{payload_type_from, payload_type_number, data_of, data_value, data_flags};
+ghost use Rattle.sctp_chunks.specs.Reliability.{reliability_from};
 ghost use Rattle.sctp_chunks.specs.Wire.{Wire, data_chunk, IsData, ReadsChunk, HasText, text_of};
 ghost use Rattle.sctp_chunks.specs.Fault.{DataFault};
 ghost use Rattle.sctp_chunks.specs.ChunkSet.{IsFreshData};
@@ -107,6 +108,18 @@ impl fmt::Display for PayloadProtocolIdentifier {
             PayloadProtocolIdentifier::BinaryEmpty => "WebRTC Binary (Empty)",
             PayloadProtocolIdentifier::Unknown => "Unknown Payload Protocol Identifier",
         })
+    }
+}
+
+impl From<u8> for ReliabilityType {
+    ghost from_gives = { λ n r. r ≡ reliability_from n };
+
+    fn from(v: u8) -> ReliabilityType {
+        match v {
+            1 => ReliabilityType::Rexmit,
+            2 => ReliabilityType::Timed,
+            _ => ReliabilityType::Reliable,
+        }
     }
 }
 
