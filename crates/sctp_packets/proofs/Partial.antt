@@ -5,7 +5,7 @@ use Rattle.sctp_base.specs.declared.error.Error.{Error}
 use Rattle.sctp_base.specs.Walk.{Walks}
 use Rattle.sctp_chunks.specs.Framing.{IsFramed, type_at, value_at}
 use Rattle.sctp_chunks.specs.Fault.{HeaderFault}
-use Rattle.sctp_chunks.specs.Wire.{Wire, data_chunk}
+use Rattle.sctp_chunks.specs.Wire.{Wire, init_chunk}
 use Rattle.sctp_packets.specs.Packet.{Parts, Steps, after}
 use Rattle.sctp_packets.specs.Partial.{IsInitType}
 
@@ -35,4 +35,5 @@ framed_no_fault e bytes fault f = elim fault [
 
 -- an INIT or INIT-ACK is long enough for its tag
 pub init_long : (bytes : List ℕ) (w : Wire) → Steps bytes w → IsInitType (type_at bytes) → 4 ≤ length (value_at bytes)
-init_long bytes w s typ = ?
+init_long bytes (init_chunk i) s typ = omega (arith, s.chunk.value.long)
+init_long bytes w s typ = absurd (elim typ [ inl e ↦ omega (arith, e, s.chunk.typ) | inr e ↦ omega (arith, e, s.chunk.typ) ])

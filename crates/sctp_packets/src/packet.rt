@@ -14,13 +14,13 @@ ghost use Rattle.sctp_chunks.specs.Framing.{declared};
 ghost use Rattle.sctp_base.specs.Padding.{padded, four_zeroes};
 ghost use Rattle.sctp_base.specs.Walk.{Walks};
 ghost use Rattle.sctp_packets.specs.Packet.{Parts, parts_of, IsCanonical, IsHeaded, ReadsPacket, Steps, after, padded_text, body_of, head_text, head_of, HavePacketText, packet_text, FitsParts};
+ghost use Rattle.sctp_packets.specs.Sound.{is_init, has_init, IsSound, SoundFault};
 ghost use Rattle.sctp_packets.specs.Fault.{HeadFault, PacketFault, PlaceFault, WalkFault};
 
 pub mod partial_decode;
 
-pub use partial_decode::PartialDecode;
-
 use bytes::{BufMut, Bytes, BytesMut};
+pub use partial_decode::PartialDecode;
 use sctp_base::error::{Error, Result};
 use sctp_base::field::{put_u16, put_u32, read_u16, read_u32, read_u32_le, u32_le_bytes};
 use sctp_base::util::{Checksum, get_padding_size};
@@ -28,6 +28,7 @@ use sctp_chunks::chunk::Chunk;
 use sctp_chunks::chunk::chunk_header::CHUNK_HEADER_SIZE;
 use sctp_chunks::chunk::chunk_kind::ChunkKind;
 use std::alloc::Global;
+use std::fmt;
 
 pub const PACKET_HEADER_SIZE: usize = 12;
 
@@ -42,6 +43,20 @@ pub struct CommonHeader {
 pub struct Packet {
     pub common_header: CommonHeader,
     pub chunks: Vec<ChunkKind>,
+}
+
+impl fmt::Display for Packet {
+    fn fmt<W: fmt::Write>(&self, f: &mut fmt::Formatter<W>) -> fmt::Result {
+        let header = &self.common_header;
+        write!(f, "Packet:\n        source_port: {}", header.source_port)?;
+        write!(f, "\n        destination_port: {}", header.destination_port)?;
+        write!(f, "\n        verification_tag: {}", header.verification_tag)?;
+        f.write_str("\n        ")?;
+        for chunk in &self.chunks {
+            write!(f, "Chunk: {chunk}")?;
+        }
+        Ok(())
+    }
 }
 
 /// Reads the chunk at the front, and how many bytes it takes with its padding.
@@ -67,17 +82,17 @@ fn read_step(alloc: Global, rest: &Bytes) -> Result<(ChunkKind, usize)>
     Ok((chunk, length))
 }
 
-fn read_chunks(alloc: Global, raw: &Bytes) -> Result<Vec<ChunkKind>>
-    ensures found { IfOk result (λ v. Walks Steps after raw.now (map wire_of v.items) []) }
-    ensures only { (ws : List Wire) → Walks Steps after raw.now ws []
+fn read_chunks(alloc: Global, raw: Bytes) -> Result<Vec<ChunkKind>>
+    ensures found { IfOk result (λ v. Walks Steps after raw (map wire_of v.items) []) }
+    ensures only { (ws : List Wire) → Walks Steps after raw ws []
         → GivesUnlessMemory result (λ v. map wire_of v.items ≡ ws) }
-    ensures fault { IfErr result (λ e. OrMemory e (WalkFault e raw.now)) }
+    ensures fault { IfErr result (λ e. OrMemory e (WalkFault e raw)) }
     ensures rewritable { IfOk result (λ v. AllByRecursion HasText (map wire_of v.items)) }
     ensures canonical { IfOk result (λ v. AllByRecursion Canonical (map wire_of v.items)) }
     ensures fresh { IfOk result (λ v. AllByRecursion IsFreshKind v.items) }
 {
     let mut chunks = Vec::new(alloc);
-    let mut rest = raw.clone()?;
+    let mut rest = raw;
     'walk: while !rest.is_empty() {
         let (chunk, length) = read_step(alloc, &rest)?;
         chunks.push(chunk)?;
@@ -205,7 +220,7 @@ impl Packet {
         ensures fresh { IfOk result (λ p. AllByRecursion IsFreshKind p.chunks.items) }
     {
         let (common_header, rest) = open_packet(raw, checksum)?;
-        let chunks = read_chunks(alloc, &rest)?;
+        let chunks = read_chunks(alloc, rest)?;
         Ok(Packet {
             common_header,
             chunks,
@@ -268,6 +283,48 @@ impl Packet {
         put_head(buf, self.common_header)?;
         put_chunks(buf, &self.chunks)?;
         store_checksum(buf, start, checksum);
+        Ok(())
+    }
+}
+
+/// Whether the chunk is an INIT, and no INIT-ACK.
+fn is_init(chunk: &ChunkKind) -> bool
+    ensures { result ≡ is_init (wire_of chunk.now) }
+{
+    match chunk {
+        ChunkKind::Init(init) => !init.is_ack,
+        _ => false,
+    }
+}
+
+/// Whether one of the chunks is an INIT.
+#[tactic(auto, using(crate::proofs::Sound::any_mapped))]
+fn has_init(chunks: &[ChunkKind]) -> bool
+    ensures { result ≡ has_init (map wire_of chunks.now) }
+{
+    chunks.iter().any(|chunk| is_init(chunk))
+}
+
+impl Packet {
+    /// Tests what all packets must keep to: ports are not 0, and an INIT stands alone under tag 0
+    /// (RFC 4960 3.1, 6.10, 8.5.1).
+    pub fn check_packet(&self) -> Result<()>
+        ensures ok { OnOk result (IsSound (parts_of self.now)) }
+        ensures fault { IfErr result (λ e. SoundFault e (parts_of self.now)) }
+    {
+        if self.common_header.source_port == 0 {
+            return Err(Error::ErrSctpPacketSourcePortZero);
+        }
+        if self.common_header.destination_port == 0 {
+            return Err(Error::ErrSctpPacketDestinationPortZero);
+        }
+        let has_init = has_init(&self.chunks);
+        if has_init && self.chunks.len() != 1 {
+            return Err(Error::ErrInitChunkBundled);
+        }
+        if has_init && self.common_header.verification_tag != 0 {
+            return Err(Error::ErrInitChunkVerifyTagNotZero);
+        }
         Ok(())
     }
 }

@@ -35,7 +35,11 @@ pub struct PartialDecode {
 
 impl PartialDecode {
     /// Reads the header, tests the checksum, and reads the header of the first chunk.
-    pub fn unmarshal<C: Checksum>(_alloc: Global, raw: &Bytes, checksum: &C) -> Result<PartialDecode>
+    pub fn unmarshal<C: Checksum>(
+        _alloc: Global,
+        raw: &Bytes,
+        checksum: &C,
+    ) -> Result<PartialDecode>
         ensures found { IfOk result (λ d. ReadsPartial (C.sum checksum.now) raw.now d) }
         ensures only { (d : PartialDecode) → ReadsPartial (C.sum checksum.now) raw.now d
             → GivesUnlessMemory result (λ e. e ≡ d) }
@@ -83,7 +87,7 @@ impl PartialDecode {
         ensures canonical { IfOk result (λ p. IsCanonical (parts_of p)) }
         ensures fresh { IfOk result (λ p. AllByRecursion IsFreshKind p.chunks.items) }
     {
-        let chunks = read_chunks(alloc, &self.remaining)?;
+        let chunks = read_chunks(alloc, self.remaining)?;
         Ok(Packet {
             common_header: self.common_header,
             chunks,

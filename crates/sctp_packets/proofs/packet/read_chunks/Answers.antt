@@ -13,12 +13,12 @@ use Rattle.sctp_packets.proofs.Walk.{goes_on, walks_same, all_next}
 use Rattle.sctp_packets.proofs.packet.read_chunks.Goals as goal
 
 pub walk-init : goal.walk-init
-walk-init c = record { walk = rw (c.in_ok-rest.ensures.cases, c.new-chunks.ensures.items) (walks_none Steps after c.args.raw.now); rewritable = rw c.new-chunks.ensures.items tt; canonical = rw c.new-chunks.ensures.items tt; fresh = rw c.new-chunks.ensures.items tt }
+walk-init c = record { walk = rw c.new-chunks.ensures.items (walks_none Steps after c.args.raw); rewritable = rw c.new-chunks.ensures.items tt; canonical = rw c.new-chunks.ensures.items tt; fresh = rw c.new-chunks.ensures.items tt }
 
 pub walk-preserved : goal.walk-preserved
 unfolding after
 walk-preserved c =
-    let next = walks_next Steps after c.args.raw.now (map wire_of c.walk.chunks.items) c.walk.rest (wire_of c.in_ok-chunk.chunk) c.walk.invariant.walk c.in_ok-chunk.ensures.found in
+    let next = walks_next Steps after c.args.raw (map wire_of c.walk.chunks.items) c.walk.rest (wire_of c.in_ok-chunk.chunk) c.walk.invariant.walk c.in_ok-chunk.ensures.found in
     let texts = all_next HasText (map wire_of c.walk.chunks.items) (wire_of c.in_ok-chunk.chunk) c.walk.invariant.rewritable c.in_ok-chunk.ensures.rewritable in
     let again = all_next Canonical (map wire_of c.walk.chunks.items) (wire_of c.in_ok-chunk.chunk) c.walk.invariant.canonical c.in_ok-chunk.ensures.canonical in
     record {
@@ -30,14 +30,14 @@ walk-preserved c =
 
 pub returns-in_err-chunk-clause-only : goal.returns-in_err-chunk-clause-only
 returns-in_err-chunk-clause-only c = λ ws whole.
-    let p = err_from_is_err_and c.from_residual-in_err-chunk.result c.from_residual-in_err-chunk.ensures.1 in
-    let next = goes_on c.args.raw.now (map wire_of c.walk.chunks.items) ws c.walk.rest c.walk.invariant.walk whole (grind (arith, common_steps)) in
+    let p = err_from_is_err_and c.from_residual.result c.from_residual.ensures.1 in
+    let next = goes_on c.args.raw (map wire_of c.walk.chunks.items) ws c.walk.rest c.walk.invariant.walk whole (grind (arith, common_steps)) in
     rw (p.1, p.2) (c.in_err-chunk.ensures.only next.0 next.1)
 
 pub returns-in_err-chunk-clause-fault : goal.returns-in_err-chunk-clause-fault
 unfolding WalkFault
 returns-in_err-chunk-clause-fault c =
-    let p = err_from_is_err_and c.from_residual-in_err-chunk.result c.from_residual-in_err-chunk.ensures.1 in
+    let p = err_from_is_err_and c.from_residual.result c.from_residual.ensures.1 in
     rw (p.1, p.2) (elim c.in_err-chunk.ensures.fault [
       | inl memory ↦ inl memory
       | inr fault ↦ inr (map wire_of c.walk.chunks.items, c.walk.rest, c.walk.invariant.walk, fault)
@@ -47,4 +47,4 @@ pub returns-clause-only : goal.returns-clause-only
 returns-clause-only c = λ ws whole.
     let ended : length c.walk.rest ≡ 0 = grind (arith, common_steps) in
     let all = rw (nil_from_length c.walk.rest ended) at c.walk.invariant.walk in
-    walks_same c.args.raw.now (map wire_of c.walk.chunks.items) ws all whole
+    walks_same c.args.raw (map wire_of c.walk.chunks.items) ws all whole

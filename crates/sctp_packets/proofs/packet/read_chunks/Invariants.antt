@@ -10,7 +10,7 @@ use Rattle.sctp_packets.proofs.packet.read_chunks.Given as goal
 
 abbrev pub invariant-walk : goal.invariant-walk
 invariant-walk l = record {
-  walk : Walks Steps after l.raw (map wire_of l.chunks.items) l.rest;
+  walk : Walks Steps after l.fn.raw (map wire_of l.chunks.items) l.rest;
   rewritable : AllByRecursion HasText (map wire_of l.chunks.items);
   canonical : AllByRecursion Canonical (map wire_of l.chunks.items);
   fresh : AllByRecursion IsFreshKind l.chunks.items;

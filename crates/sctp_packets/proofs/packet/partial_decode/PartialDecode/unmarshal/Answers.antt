@@ -27,8 +27,7 @@ returns-then-value-lt-INITIATE_TAG_LENGTH-clause-packets g c = λ p r some.
 pub returns-clause-finished : goal.returns-clause-finished
 returns-clause-finished g c = λ p f.
     let rest = c.in_ok-common_header.ensures.rest in
-    let chunks = rw rest at f.chunks in
-    (
+    let chunks = rw rest at f.chunks in (
       record {
         is_headed = c.in_ok-common_header.ensures.headed;
         source_port = f.source_port ∙ c.in_ok-common_header.ensures.source_port;
