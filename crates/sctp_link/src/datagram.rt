@@ -80,5 +80,6 @@ fn into_data(kind: ChunkKind) -> ChunkPayloadData
 {
     match kind {
         ChunkKind::PayloadData(chunk) => chunk,
+        _ => unreachable!(),
     }
 }

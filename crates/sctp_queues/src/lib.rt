@@ -1,13 +1,13 @@
 //! The queues of an association: what waits, what is in flight, what came.
 #![tactic(auto)]
 
+pub mod chunks;
 pub mod held;
 mod line;
+pub mod loose;
 pub mod outbound_queue;
 pub mod payload_queue;
 pub mod pending_queue;
-pub mod chunks;
-pub mod loose;
 pub mod pool;
 pub mod reassembly_queue;
 mod sizes;
