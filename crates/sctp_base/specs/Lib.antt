@@ -4,3 +4,4 @@ pub mod Field
 pub mod Outcome
 pub mod Walk
 pub mod Each
+pub mod Sources
