@@ -2,3 +2,5 @@
 #![tactic(auto)]
 
 pub mod stream;
+#[cfg(test)]
+mod stream_tests;

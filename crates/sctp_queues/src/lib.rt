@@ -5,6 +5,8 @@ pub mod chunks;
 pub mod loose;
 pub mod pool;
 pub mod reassembly_queue;
+#[cfg(test)]
+mod reassembly_tests;
 mod sizes;
 mod skips;
 pub mod turns;
