@@ -7,3 +7,4 @@ pub mod ParamLengths
 pub mod ParamOne
 pub mod ParamAgain
 mod ParamExamples
+pub mod SourceLemmas

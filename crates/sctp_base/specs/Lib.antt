@@ -14,3 +14,4 @@ pub mod Param
 pub mod ParamKinds
 pub mod ParamFault
 pub mod ParamKind
+pub mod Sources

@@ -5,6 +5,11 @@ ghost use Rattle.sctp_lists.specs.Serial.{comes_before, at_or_before, comes_afte
 ghost use Rattle.sctp_base.specs.Padding.{padding_of, four_zeroes};
 ghost use Rattle.sctp_base.specs.Names.{chunk_type_name};
 
+pub mod bytes_source;
+
+pub use bytes_source::{
+    AssociationId, AssociationIdGenerator, ByteSlice, BytesArray, BytesSource, constant_time_eq,
+};
 use std::fmt;
 
 /// Chunks and parameters begin at multiples of this many bytes (RFC 4960 3.2).

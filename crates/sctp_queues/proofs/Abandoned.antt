@@ -10,11 +10,11 @@ use Rattle.sctp_lists.proofs.Edits.{length-change_where, list_any-inserted, thos
 use Rattle.sctp_queues.specs.declared.pending_queue.Selected.{Selected}
 use Rattle.sctp_queues.specs.Marks.{is_of, given_up}
 use Rattle.sctp_queues.specs.Outbound.{Outbound, abandoned, end_mark, with_end_mark}
-use Rattle.sctp_queues.specs.Payload.{chunk_before}
+use Rattle.sctp_queues.specs.DataChunks.{chunk_before, has_tsn}
 use Rattle.sctp_queues.specs.Payload as payload
 use Rattle.sctp_queues.specs.Pending.{Pending, last_of, last_removed, selected_without, without, without_message}
 use Rattle.sctp_queues.specs.Whole.{Stage, free, begun, stage_of, IsWhole, IsSendable, half_of, half_sent, waits}
-use Rattle.sctp_queues.specs.Window.{IsWindow, IsWithinHalf, SpansOneWindow, has_tsn, is_held}
+use Rattle.sctp_queues.specs.Window.{IsWindow, IsWithinHalf, SpansOneWindow, is_held}
 use Rattle.sctp_queues.proofs.Sendable.{made, or_false, or_left, or_right, not_true, sendable-marked, sendable-without}
 use Rattle.sctp_queues.proofs.Whole.{KeepsMessage, none_past, none_without}
 

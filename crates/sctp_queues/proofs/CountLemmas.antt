@@ -8,7 +8,8 @@ use Rattle.sctp_lists.specs.Serial.{at_or_before, at_or_before16, comes_before16
 use Rattle.sctp_lists.specs.Lists.{inserted, change_first, those, after_leading}
 use Rattle.sctp_chunks.specs.declared.chunk.chunk_payload_data.ChunkPayloadData.{ChunkPayloadData}
 use Rattle.sctp_chunks.specs.ChunkSet.{ChunkSet}
-use Rattle.sctp_queues.specs.Sets.{bytes_of, has_ssn, has_tsn, with_chunk, new_set, sets_with, chunks_of_ssn, chunk_before, set_before, is_complete}
+use Rattle.sctp_queues.specs.Sets.{has_ssn, with_chunk, new_set, sets_with, chunks_of_ssn, set_before, is_complete}
+use Rattle.sctp_queues.specs.DataChunks.{bytes_of, has_tsn, chunk_before}
 use Rattle.sctp_queues.specs.Reassembly.{Reassembly, ReassemblyState, set_bytes, held_bytes, IsCounted, count_up, is_kept, pushed_ordered, ordered_pushed, set_of_run, BecomesWhole, TakesRun, PushesUnordered, is_readable, state_read, message_read, rest_read, after_read, bytes_read, leading_upto, unordered_forwarded, ordered_forwarded, forwarded_ordered, is_passed, complete_sets}
 use Rattle.sctp_queues.specs.Bounded.{bounded_forwarded, forwarded_bounded, is_abandoned, misses}
 use Rattle.sctp_queues.proofs.SetLemmas.{chunks_none}

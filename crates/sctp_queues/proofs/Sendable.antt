@@ -1,6 +1,6 @@
 -- The queues stay sendable while chunks come, leave and change.
-use Rattle.std.proofs.Common.{◌≡◌, ◌≢◌, ◌==◌, ℕ, zero, suc, ◌+◌, ◌-◌, ◌<◌, ◌≤◌, Bool, true, false, not, ◌||◌, ◌&&◌, if◌then◌else◌, List, [], ◌∷◌, ◌++◌, length, map, Option, Some, None, slice_get, refl, sym, ap, ap₂, ◌∙◌, subst, arith}
-use Rattle.std.specs.List.{list_any}
+use Rattle.std.proofs.Common.{◌≡◌, ◌≢◌, ◌==◌, ℕ, zero, suc, ◌+◌, ◌-◌, ◌<◌, ◌≤◌, Bool, true, false, not, ◌||◌, ◌&&◌, if◌then◌else◌, List, [], ◌∷◌, ◌++◌, length, map, Option, Some, None, slice_get, ◌⊎◌, inl, inr, refl, sym, ap, ap₂, ◌∙◌, subst, arith}
+use Rattle.std.specs.List.{find, list_any}
 use Rattle.std.proofs.lemmas.Bool.{false≢true}
 use Rattle.std.proofs.lemmas.Bool.Decides.{nat_tests}
 use Rattle.std.proofs.lemmas.List.Sums.{sum_by-cons}
@@ -10,11 +10,11 @@ use Rattle.sctp_lists.specs.Lists.{change_where, those, inserted}
 use Rattle.sctp_lists.proofs.Edits.{list_any-append, list_any-inserted, list_any-those}
 use Rattle.sctp_queues.specs.declared.pending_queue.Selected.{Selected}
 use Rattle.sctp_queues.specs.Marks.{is_of}
-use Rattle.sctp_queues.specs.Outbound.{with_message_id, appended, after_sends, taken_of}
-use Rattle.sctp_queues.specs.Payload.{chunk_before, without_front}
-use Rattle.sctp_queues.specs.Pending.{Pending, list_of, peeked, popped, popped_from, list_to_pop, rest_after, rest_from, rest_of, selected_after, selected_without, without, without_message, total_bytes}
-use Rattle.sctp_queues.specs.Whole.{Stage, free, begun, Follows, stage_after, stage_of, IsWhole, IsMessage, IsMessageOrNone, IsSendable, ends, half_of, half_sent, has_end, in_order, order_of, rest_then, waits}
-use Rattle.sctp_queues.specs.Window.{bytes_of, has_tsn}
+use Rattle.sctp_queues.specs.Outbound.{Outbound, abandoned, with_message_id, appended, after_sends, taken_of, tsn_after, following_tsn}
+use Rattle.sctp_queues.specs.Payload.{without_front}
+use Rattle.sctp_queues.specs.DataChunks.{chunk_before, bytes_of, has_tsn}
+use Rattle.sctp_queues.specs.Pending.{Pending, front_of, list_of, peeked, peeked_of, popped, popped_from, list_to_pop, rest_after, rest_from, rest_of, selected_after, selected_without, without, without_message, total_bytes}
+use Rattle.sctp_queues.specs.Whole.{Stage, free, begun, Follows, GoesOn, stage_after, stage_of, IsWhole, IsMessage, IsMessageOrNone, IsSendable, ends, half_of, half_sent, has_end, in_order, order_of, rest_then, waits}
 use Rattle.sctp_queues.proofs.Whole.{IsWhole-append, IsWhole-message, IsWhole-without, IsWhole-change_where, KeepsMessage, list_any-change_where, list_any-message, none_before, none_past, none_without, stage_below, stage_without, weaken_bound, weaken_start}
 
 abbrev pub made : List ChunkPayloadData → List ChunkPayloadData → Option Selected → ℕ → ℕ → Pending
@@ -417,3 +417,71 @@ order_is (suc i) q xs n s = by (peeked q) refl (order_is i q xs n s) (λ r ys t.
     by (Some c) h same ih =
         let on = sendable-sent q xs n c c refl s h in
         ap (λ l. slice_get l (suc i)) on.order ∙ ih (rest_after c.beginning_fragment c.unordered q) (inserted chunk_before c xs) on.sendable
+
+-- ## The half-sent message
+
+goes_on_in : (kind : Bool) (n j m : ℕ) (xs : List ChunkPayloadData) → IsWhole kind n (begun j) xs → j ≡ m → GoesOn m (slice_get xs 0)
+goes_on_in kind n j m [] w e = w
+goes_on_in kind n j m (c ∷ cs) w e = (w.0.1 ∙ e, w.0.0)
+
+-- while a message is half sent a peek gives its next fragment
+pub goes_on : (q : Pending) (xs : List ChunkPayloadData) (n m : ℕ) → IsSendable q xs n → half_sent q ≡ Some m → GoesOn m (peeked q)
+goes_on q xs n m s h = by q.selected s.ordered s.unordered h
+  where
+    by : (sel : Option Selected) → IsWhole false n (stage_of false sel) q.ordered → IsWhole true n (stage_of true sel) q.unordered → half_of sel ≡ Some m → GoesOn m (peeked (made q.ordered q.unordered sel q.ordered_room q.unordered_room))
+    by None w v h = absurd (none-some m h)
+    by (Some t) w v h = kind t.unordered w v
+      where
+        same : t.message_id ≡ m
+        same = cc
+
+        kind : (k : Bool) → IsWhole false n (if k then free 0 else begun t.message_id) q.ordered → IsWhole true n (if k then begun t.message_id else free 0) q.unordered → GoesOn m (slice_get (list_of k (made q.ordered q.unordered (Some t) q.ordered_room q.unordered_room)) 0)
+        kind true w v = goes_on_in true n t.message_id m q.unordered v same
+        kind false w v = goes_on_in false n t.message_id m q.ordered w same
+
+begins_in : (kind : Bool) (n : ℕ) (xs : List ChunkPayloadData) (c : ChunkPayloadData) → IsWhole kind n (free 0) xs → slice_get xs 0 ≡ Some c → c.beginning_fragment ≡ true
+begins_in kind n [] c w h = absurd (none-some c h)
+begins_in kind n (x ∷ xs) c w h = subst (λ (y : ChunkPayloadData). y.beginning_fragment ≡ true) (some_is x c h) w.0.0
+  where
+    some_is : (x c : ChunkPayloadData) → Some x ≡ Some c → x ≡ c
+    some_is x c h = cc
+
+-- a fragment in front that does not begin is of the half-sent message
+pub half_in_front : (q : Pending) (xs : List ChunkPayloadData) (n : ℕ) (c : ChunkPayloadData) → IsSendable q xs n → peeked q ≡ Some c → c.beginning_fragment ≡ false → half_sent q ≡ Some c.message_id
+half_in_front q xs n c s h e = by q.selected refl s.ordered s.unordered
+  where
+    same_of : (m : ℕ) (o : Option ChunkPayloadData) → o ≡ Some c → GoesOn m o → Some m ≡ Some c.message_id
+    same_of m None h g = absurd g
+    same_of m (Some d) h g = let it : d ≡ c = cc in ap Some (sym g.0 ∙ ap (λ (y : ChunkPayloadData). y.message_id) it)
+
+    front : (os us : List ChunkPayloadData) → IsWhole false n (free 0) os → IsWhole true n (free 0) us → front_of us os ≡ Some c → ⊥
+    front os (u ∷ us) w v h = false≢true (sym e ∙ begins_in true n (u ∷ us) c v h)
+    front os [] w v h = false≢true (sym e ∙ begins_in false n os c w h)
+
+    by : (sel : Option Selected) → q.selected ≡ sel → IsWhole false n (stage_of false sel) q.ordered → IsWhole true n (stage_of true sel) q.unordered → half_of sel ≡ Some c.message_id
+    by None e w v = absurd (front q.ordered q.unordered w v (subst (λ o. peeked_of o q ≡ Some c) e h))
+    by (Some t) e w v = same_of t.message_id (peeked q) h (goes_on q xs n t.message_id s (ap half_of e))
+
+half_gone : (m : ℕ) (sel : Option Selected) → half_of sel ≡ Some m → half_of (selected_without m sel) ≡ None
+half_gone m None h = absurd (none-some m h)
+half_gone m (Some t) h = let same : t.message_id ≡ m = cc in let it : (t.message_id == m) ≡ true = grind (arith, nat_tests) in rw it refl
+
+-- the next TSN is taken only with the half-sent message
+pub kept_or_gone : (m tsn : ℕ) (q : Outbound) → (waits m q.pending ≡ true → half_sent q.pending ≡ Some m) → (tsn_after m tsn q ≡ tsn) ⊎ (half_sent (abandoned m tsn q).pending ≡ None)
+kept_or_gone m tsn q f = step (waits m q.pending) refl
+  where
+    step : (b : Bool) → waits m q.pending ≡ b → ((if b then following_tsn tsn else tsn) ≡ tsn) ⊎ (half_of (selected_without m q.pending.selected) ≡ None)
+    step true e = inr (half_gone m q.pending.selected (f e))
+    step false e = inl refl
+
+-- a chunk in flight is of a message in flight
+pub found_in : (tsn : ℕ) (xs : List ChunkPayloadData) (c : ChunkPayloadData) → find (has_tsn tsn) xs ≡ Some c → list_any (is_of c.message_id) xs ≡ true
+found_in tsn [] c h = absurd (none-some c h)
+found_in tsn (x ∷ xs) c h = step (has_tsn tsn x) h (found_in tsn xs c)
+  where
+    it : x ≡ c → (x.message_id == c.message_id) ≡ true
+    it e = grind (arith, nat_tests, ap (λ (y : ChunkPayloadData). y.message_id) e)
+
+    step : (b : Bool) → (if b then Some x else find (has_tsn tsn) xs) ≡ Some c → (find (has_tsn tsn) xs ≡ Some c → list_any (is_of c.message_id) xs ≡ true) → list_any (is_of c.message_id) (x ∷ xs) ≡ true
+    step true h ih = let same : x ≡ c = cc in or_left (x.message_id == c.message_id) (list_any (is_of c.message_id) xs) (it same)
+    step false h ih = or_right (x.message_id == c.message_id) (list_any (is_of c.message_id) xs) (ih h)

@@ -16,8 +16,9 @@ use Rattle.sctp_lists.specs.Lists.{inserted}
 use Rattle.sctp_lists.specs.Serial.{distance, comes_before}
 use Rattle.sctp_lists.proofs.Edits.{OnlyAt, find-none, inserted-at, pairs_insert, pairs_tail}
 use Rattle.sctp_lists.proofs.SerialLemmas.{before_asym, before_irrefl}
-use Rattle.sctp_queues.specs.Window.{IsSerial, IsHeldAt, IsPlaceFor, SpansOneWindow, has_tsn}
-use Rattle.sctp_queues.specs.Payload.{Payload, chunk_before}
+use Rattle.sctp_queues.specs.Window.{IsSerial, IsHeldAt, IsPlaceFor, SpansOneWindow}
+use Rattle.sctp_queues.specs.DataChunks.{has_tsn, chunk_before}
+use Rattle.sctp_queues.specs.Payload.{Payload}
 
 -- an earlier chunk has another number
 pub differs_before : (chunks : List ChunkPayloadData) → IsSerial chunks → (i j : ℕ) (d : ChunkPayloadData) → i < j → j < length chunks → (get_or chunks i d).tsn ≢ (get_or chunks j d).tsn

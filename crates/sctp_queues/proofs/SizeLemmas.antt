@@ -6,7 +6,7 @@ use Rattle.std.proofs.lemmas.List.{reverse-append, take_more, append-nil}
 use Rattle.std.proofs.Math.ListN.{take-append-drop}
 use Rattle.sctp_lists.specs.Lists.{after_leading}
 use Rattle.sctp_chunks.specs.declared.chunk.chunk_payload_data.ChunkPayloadData.{ChunkPayloadData}
-use Rattle.sctp_queues.specs.Sets.{has_tsn}
+use Rattle.sctp_queues.specs.DataChunks.{has_tsn}
 use Rattle.sctp_queues.proofs.ListLemmas.{neither}
 use Rattle.sctp_queues.specs.Sizes.{back_from, on_from}
 

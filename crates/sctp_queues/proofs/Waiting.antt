@@ -5,7 +5,7 @@ use Rattle.std.proofs.lemmas.List.Sums.{sum_by-cons}
 use Rattle.sctp_chunks.specs.declared.chunk.chunk_payload_data.ChunkPayloadData.{ChunkPayloadData}
 use Rattle.sctp_lists.specs.Lists.{change_where, those}
 use Rattle.sctp_lists.proofs.Edits.{sum_by-those_both}
-use Rattle.sctp_queues.specs.Window.{bytes_of}
+use Rattle.sctp_queues.specs.DataChunks.{bytes_of}
 use Rattle.sctp_queues.specs.Pending.{last_of}
 
 -- what is removed and what is left are all

@@ -1,3 +1,4 @@
+pub mod DataChunks
 pub mod Turns
 pub mod Stored
 pub mod Marks

@@ -7,7 +7,7 @@ use Rattle.sctp_queues.specs.Marks.{is_of, given_up, is_outstanding}
 use Rattle.sctp_queues.specs.Payload as payload
 use Rattle.sctp_queues.specs.Pending as pending
 use Rattle.sctp_queues.specs.Whole.{waits}
-use Rattle.sctp_queues.specs.Window.{has_tsn, bytes_of}
+use Rattle.sctp_queues.specs.DataChunks.{has_tsn, bytes_of}
 
 -- the queues, the number of the next message, and the number from which on lifetimes were not started
 pub record Outbound : Type 0 where

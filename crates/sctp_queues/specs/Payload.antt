@@ -3,7 +3,7 @@ use Rattle.std.specs.Prelude.{ℕ, ◌-◌, ◌++◌, ◌∷◌, [], List, Bool,
 use Rattle.sctp_chunks.specs.declared.chunk.chunk_payload_data.ChunkPayloadData.{ChunkPayloadData}
 use Rattle.sctp_lists.specs.Lists.{inserted, those}
 use Rattle.sctp_lists.specs.Serial.{comes_before, at_or_before}
-use Rattle.sctp_queues.specs.Window.{has_tsn}
+use Rattle.sctp_queues.specs.DataChunks.{has_tsn, chunk_before}
 
 -- the chunks in serial order, the duplicates in the order in which they came, and how many pushes take no memory
 pub record Payload : Type 0 where
@@ -14,9 +14,6 @@ pub record Payload : Type 0 where
 -- the same with these chunks
 abbrev pub with_chunks : Payload → List ChunkPayloadData → Payload
 with_chunks q chunks = record q { chunks = chunks }
-
-abbrev pub chunk_before : ChunkPayloadData → ChunkPayloadData → Bool
-chunk_before x y = comes_before x.tsn y.tsn
 
 -- with a further chunk at its place
 abbrev pub pushed : Payload → ChunkPayloadData → Payload

@@ -8,7 +8,7 @@ use Rattle.sctp_chunks.specs.declared.chunk.chunk_payload_data.ReliabilityType.T
 use Rattle.sctp_lists.specs.Lists.{change_where, those}
 use Rattle.sctp_queues.specs.declared.pending_queue.Selected.{Selected}
 use Rattle.sctp_queues.specs.Marks.{is_of}
-use Rattle.sctp_queues.specs.Window.{bytes_of}
+use Rattle.sctp_queues.specs.DataChunks.{bytes_of}
 
 -- an ordered and an unordered list, each first in first out, the half-sent message, and how many pushes to each list take no memory
 pub record Pending : Type 0 where

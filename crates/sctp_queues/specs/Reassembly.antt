@@ -7,7 +7,8 @@ use Rattle.sctp_chunks.specs.declared.chunk.chunk_payload_data.ChunkPayloadData.
 use Rattle.sctp_chunks.specs.declared.chunk.chunk_payload_data.PayloadProtocolIdentifier.TheVariants.{Unknown}
 use Rattle.sctp_chunks.specs.ChunkSet.{ChunkSet}
 use Rattle.sctp_queues.specs.declared.chunks.Chunks.{Chunks}
-use Rattle.sctp_queues.specs.Sets.{bytes_of, is_complete, chunk_before, has_tsn, is_whole_after, chunks_of_ssn, sets_with}
+use Rattle.sctp_queues.specs.Sets.{is_complete, is_whole_after, chunks_of_ssn, sets_with}
+use Rattle.sctp_queues.specs.DataChunks.{bytes_of, chunk_before, has_tsn}
 use Rattle.sctp_queues.specs.Sizes.{projected_size}
 use Rattle.sctp_queues.specs.Runs.{IsEarliestRun, HasNoRun}
 

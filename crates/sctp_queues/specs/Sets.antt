@@ -5,10 +5,7 @@ use Rattle.sctp_lists.specs.Serial.{comes_before, comes_before16}
 use Rattle.sctp_lists.specs.Lists.{inserted, change_first}
 use Rattle.sctp_chunks.specs.declared.chunk.chunk_payload_data.ChunkPayloadData.{ChunkPayloadData}
 use Rattle.sctp_chunks.specs.ChunkSet.{ChunkSet}
-
--- how many bytes fragments carry
-abbrev pub bytes_of : List ChunkPayloadData → ℕ
-bytes_of chunks = sum_by (λ c. length c.user_data) chunks
+use Rattle.sctp_queues.specs.DataChunks.{has_tsn, chunk_before}
 
 -- those bytes, one fragment after another
 abbrev pub payload_of : List ChunkPayloadData → List ℕ
@@ -32,14 +29,8 @@ is_complete (x ∷ xs) = x.beginning_fragment && completes x xs
 
 -- ## Putting in
 
-abbrev pub chunk_before : ChunkPayloadData → ChunkPayloadData → Bool
-chunk_before x y = comes_before x.tsn y.tsn
-
 abbrev pub set_before : ChunkSet → ChunkSet → Bool
 set_before x y = comes_before16 x.ssn y.ssn
-
-abbrev pub has_tsn : ℕ → ChunkPayloadData → Bool
-has_tsn tsn x = x.tsn == tsn
 
 abbrev pub has_ssn : ℕ → ChunkSet → Bool
 has_ssn ssn x = x.ssn == ssn

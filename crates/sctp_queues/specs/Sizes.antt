@@ -4,7 +4,8 @@ use Rattle.std.specs.List.{list_any}
 use Rattle.sctp_lists.specs.Lists.{after_leading}
 use Rattle.sctp_chunks.specs.declared.chunk.chunk_payload_data.ChunkPayloadData.{ChunkPayloadData}
 use Rattle.sctp_chunks.specs.ChunkSet.{ChunkSet}
-use Rattle.sctp_queues.specs.Sets.{bytes_of, has_tsn, next_tsn, chunks_of_ssn}
+use Rattle.sctp_queues.specs.Sets.{next_tsn, chunks_of_ssn}
+use Rattle.sctp_queues.specs.DataChunks.{bytes_of, has_tsn}
 
 abbrev pub previous_tsn : ℕ → ℕ
 previous_tsn tsn = (tsn + (2 ^ 32 - 1)) % 2 ^ 32

@@ -52,6 +52,11 @@ pub record IsSendable (q : Pending) (inflight : List ChunkPayloadData) (next : �
   pub sent : (m : ℕ) → list_any (is_of m) inflight ≡ true → waits m q ≡ true → half_sent q ≡ Some m
   pub below : (m : ℕ) → next ≤ m → list_any (is_of m) inflight ≡ false
 
+-- the chunk goes on with the message
+abbrev pub GoesOn : ℕ → Option ChunkPayloadData → Type 0
+GoesOn message None = ⊥
+GoesOn message (Some c) = (c.message_id ≡ message) × (c.beginning_fragment ≡ false)
+
 -- ## The order of sending
 
 abbrev pub ends : ChunkPayloadData → Bool

@@ -3,13 +3,7 @@ use Rattle.std.specs.Prelude.{◌≡◌, ℕ, ◌^◌, ◌<◌, ◌≤◌, ◌==
 use Rattle.std.specs.List.{All, AllPairs, sum_by, find}
 use Rattle.sctp_chunks.specs.declared.chunk.chunk_payload_data.ChunkPayloadData.{ChunkPayloadData}
 use Rattle.sctp_lists.specs.Serial.{distance, comes_before, at_or_before}
-
-abbrev pub has_tsn : ℕ → ChunkPayloadData → Bool
-has_tsn tsn c = c.tsn == tsn
-
--- the bytes of user data of all
-abbrev pub bytes_of : List ChunkPayloadData → ℕ
-bytes_of chunks = sum_by (λ c. length c.user_data) chunks
+use Rattle.sctp_queues.specs.DataChunks.{has_tsn}
 
 -- each chunk comes before each later one
 pub record IsSerial (chunks : List ChunkPayloadData) : Type 0 where

@@ -7,7 +7,8 @@ ghost use Rattle.sctp_queues.specs.declared.chunks.Chunk.{Chunk};
 ghost use Rattle.sctp_chunks.specs.declared.chunk.chunk_payload_data.ChunkPayloadData.{ChunkPayloadData};
 ghost use Rattle.sctp_lists.specs.Serial.{comes_before};
 ghost use Rattle.sctp_lists.specs.Lists.{inserted};
-ghost use Rattle.sctp_queues.specs.Sets.{bytes_of, payload_of, is_complete, has_tsn, with_chunk, chunk_before, answer_with, is_whole_after};
+ghost use Rattle.sctp_queues.specs.Sets.{payload_of, is_complete, with_chunk, answer_with, is_whole_after};
+ghost use Rattle.sctp_queues.specs.DataChunks.{bytes_of, has_tsn, chunk_before};
 ghost use Rattle.sctp_base.specs.declared.error.Error.TheVariants.{ErrOutOfMemory, ErrShortBuffer};
 
 use bytes::{Bytes, BytesMut};

@@ -10,6 +10,8 @@ pub mod payload_queue;
 pub mod pending_queue;
 pub mod pool;
 pub mod reassembly_queue;
+#[cfg(test)]
+mod reassembly_tests;
 mod sizes;
 mod skips;
 pub mod turns;

@@ -9,7 +9,7 @@ ghost use Rattle.sctp_queues.specs.Marks.{is_of};
 ghost use Rattle.sctp_queues.specs.Outbound.{with_message_id};
 ghost use Rattle.sctp_queues.specs.Pending.{removed_bytes, last_of, without_message, is_on, one_lower, is_to_start, with_deadline, is_dcep, is_timed, deadline_at};
 ghost use Rattle.sctp_queues.specs.Whole.{ends, until_end};
-ghost use Rattle.sctp_queues.specs.Window.{bytes_of};
+ghost use Rattle.sctp_queues.specs.DataChunks.{bytes_of};
 
 use sctp_base::error::Result;
 use sctp_chunks::chunk::chunk_payload_data::{
@@ -31,7 +31,7 @@ impl Model for Line {
     ghost use Rattle.std.specs.Prelude.{◌≡◌, ◌+◌, ◌≤◌};
     ghost use Rattle.std.specs.VecDeque.{deque_capacity, deque_len};
     ghost use Rattle.sctp_queues.specs.Stored.{Stored};
-    ghost use Rattle.sctp_queues.specs.Window.{bytes_of};
+    ghost use Rattle.sctp_queues.specs.DataChunks.{bytes_of};
 
     ghost Value = { Stored };
 

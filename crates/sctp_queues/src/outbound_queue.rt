@@ -1,14 +1,15 @@
 //! What waits to be sent and what is in flight.
 
-ghost use Rattle.std.specs.Prelude.{◌≡◌, ◌==◌, ℕ, Bool, ◌+◌, ◌^◌, ◌<◌, ◌≤◌, ◌||◌, [], length, map, max, false, true, OnOk, OnErr, OnSome, IfOk, IfSome, IsOk, IsOkUnless, IsSome, IsTrue, find, is_some, unwrap_or, option_copied, if◌then◌else◌};
+ghost use Rattle.std.specs.Prelude.{◌≡◌, ◌==◌, ℕ, Bool, ◌⊎◌, ◌+◌, ◌^◌, ◌<◌, ◌≤◌, ◌||◌, [], length, map, max, false, true, OnOk, OnErr, OnSome, IfOk, IfSome, IsOk, IsOkUnless, IsSome, IsTrue, find, is_some, unwrap_or, option_copied, if◌then◌else◌};
 ghost use Rattle.std.specs.Option.{option_map};
 ghost use Rattle.std.specs.List.{list_any};
 ghost use Rattle.sctp_base.specs.declared.error.Error.TheVariants.{ErrOutOfMemory};
 ghost use Rattle.sctp_lists.specs.Lists.{change_where};
 ghost use Rattle.sctp_queues.specs.Marks.{is_outstanding};
 ghost use Rattle.sctp_queues.specs.Pending as pending;
-ghost use Rattle.sctp_queues.specs.Whole.{IsMessageOrNone, waits};
-ghost use Rattle.sctp_queues.specs.Window.{SpansOneWindow, has_tsn, is_held, bytes_of};
+ghost use Rattle.sctp_queues.specs.Whole.{GoesOn, IsMessageOrNone, half_sent, waits};
+ghost use Rattle.sctp_queues.specs.Window.{SpansOneWindow, is_held};
+ghost use Rattle.sctp_queues.specs.DataChunks.{has_tsn, bytes_of};
 ghost use Rattle.sctp_queues.specs.Outbound.{is_past, is_expired, is_expired_tail, is_late, released_of, expired_bytes, tail_bytes};
 
 use crate::line::is_dcep;
@@ -33,7 +34,7 @@ impl Model for OutboundQueue {
     ghost use Rattle.sctp_queues.specs.Outbound.{Outbound};
     ghost use Rattle.sctp_queues.specs.Pending.{total_bytes};
     ghost use Rattle.sctp_queues.specs.Whole.{IsSendable};
-    ghost use Rattle.sctp_queues.specs.Window.{bytes_of};
+    ghost use Rattle.sctp_queues.specs.DataChunks.{bytes_of};
 
     ghost Value = { Outbound };
 
@@ -97,9 +98,10 @@ impl OutboundQueue {
         self.next_unstarted_message_id = self.next_message_id;
     }
 
-    /// The chunk that would be sent next.
+    /// The chunk that would be sent next: while a message is half sent, its next fragment.
     pub fn peek_pending(&self) -> Option<&ChunkPayloadData>
-        ensures { option_copied result ≡ pending.peeked self.now.pending }
+        ensures value { option_copied result ≡ pending.peeked self.now.pending }
+        ensures goes_on { (m : ℕ) → half_sent self.now.pending ≡ Some m → GoesOn m (pending.peeked self.now.pending) }
     {
         self.pending.peek()
     }
@@ -115,6 +117,7 @@ impl OutboundQueue {
     pub fn send_next(&mut self, next_tsn: &mut u32, now: u64) -> Result<Option<u32>>
         requires fresh { is_held self.old.inflight.chunks next_tsn.old ≡ false }
         requires window { SpansOneWindow self.old.inflight.chunks next_tsn.old }
+        ensures goes_on { (m : ℕ) → half_sent self.old.pending ≡ Some m → GoesOn m (pending.peeked self.old.pending) }
         ensures sent { IfOk result (λ sent. sent ≡ option_map (λ _. next_tsn.old) (pending.peeked self.old.pending)) }
         ensures ok { OnOk result (self.new ≡ sent_next self.old next_tsn.old now) }
         ensures raised { OnOk result (next_tsn.new ≡ (if is_some (pending.peeked self.old.pending) then following_tsn next_tsn.old else next_tsn.old)) }
@@ -169,6 +172,8 @@ impl OutboundQueue {
         ensures released { IfOk result (λ r. total_bytes self.new + released_of r ≡ total_bytes self.old) }
         ensures ok { OnOk result (self.new ≡ abandoned_of (to_abandon (find (has_tsn tsn) self.old.inflight.chunks)) next_tsn.old self.old) }
         ensures raised { OnOk result (next_tsn.new ≡ tsn_after_of (to_abandon (find (has_tsn tsn) self.old.inflight.chunks)) next_tsn.old self.old) }
+        // the next TSN is the same while a message stays half sent
+        ensures half { OnOk result ((next_tsn.new ≡ next_tsn.old) ⊎ (half_sent self.new.pending ≡ None)) }
         ensures err { OnErr result ((self.new ≡ self.old) × (next_tsn.new ≡ next_tsn.old)) }
         ensures memory { IsOkUnless result ErrOutOfMemory }
         ensures succeeds { 0 < self.old.inflight.room → IsOk result }
@@ -284,6 +289,8 @@ impl OutboundQueue {
         ensures released { IfOk result (λ r. total_bytes self.new + tail_bytes r ≡ total_bytes self.old) }
         ensures ok { OnOk result (self.new ≡ abandoned_of (message_of (expiring_tail now self.old)) next_tsn.old self.old) }
         ensures raised { OnOk result (next_tsn.new ≡ tsn_after_of (message_of (expiring_tail now self.old)) next_tsn.old self.old) }
+        // the next TSN is the same while a message stays half sent
+        ensures half { OnOk result ((next_tsn.new ≡ next_tsn.old) ⊎ (half_sent self.new.pending ≡ None)) }
         ensures err { OnErr result ((self.new ≡ self.old) × (next_tsn.new ≡ next_tsn.old)) }
         ensures memory { IsOkUnless result ErrOutOfMemory }
         ensures succeeds { 0 < self.old.inflight.room → IsOk result }

@@ -8,7 +8,8 @@ ghost use Rattle.sctp_lists.specs.Kept.{runs_of};
 ghost use Rattle.sctp_lists.specs.Serial.{distance};
 ghost use Rattle.sctp_lists.specs.Lists.{change_where};
 ghost use Rattle.sctp_queues.specs.Turns.{IsWithinDigits};
-ghost use Rattle.sctp_queues.specs.Window.{IsSerial, IsPlaceFor, IsHeldAt, IsWindow, SpansOneWindow, has_tsn, is_held, is_new, bytes_of};
+ghost use Rattle.sctp_queues.specs.Window.{IsSerial, IsPlaceFor, IsHeldAt, IsWindow, SpansOneWindow, is_held, is_new};
+ghost use Rattle.sctp_queues.specs.DataChunks.{has_tsn, bytes_of};
 ghost use Rattle.sctp_queues.specs.Marks.{is_outstanding};
 ghost use Rattle.sctp_queues.specs.Blocks.{BlocksAscend, Reports, covered, gap_offsets, ends_of, is_offset, extended_by, gap_text};
 
@@ -32,7 +33,8 @@ pub struct PayloadQueue {
 impl Model for PayloadQueue {
     ghost use Rattle.std.specs.Prelude.{◌≡◌};
     ghost use Rattle.sctp_queues.specs.Payload.{Payload};
-    ghost use Rattle.sctp_queues.specs.Window.{IsSerial, bytes_of};
+    ghost use Rattle.sctp_queues.specs.Window.{IsSerial};
+    ghost use Rattle.sctp_queues.specs.DataChunks.{bytes_of};
 
     ghost Value = { Payload };
 

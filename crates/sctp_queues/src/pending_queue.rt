@@ -6,7 +6,7 @@ ghost use Rattle.sctp_base.specs.declared.error.Error.TheVariants.{ErrOutOfMemor
 ghost use Rattle.sctp_queues.specs.Marks.{is_of};
 ghost use Rattle.sctp_queues.specs.Outbound.{appended, with_message_id};
 ghost use Rattle.sctp_queues.specs.Whole.{has_end, order_of, ordered_first};
-ghost use Rattle.sctp_queues.specs.Window.{bytes_of};
+ghost use Rattle.sctp_queues.specs.DataChunks.{bytes_of};
 ghost use Rattle.sctp_queues.specs.Pending.{list_to_pop, selected_after, selected_without};
 
 use crate::line::Line;
@@ -33,7 +33,7 @@ pub struct PendingQueue {
 impl Model for PendingQueue {
     ghost use Rattle.std.specs.Prelude.{◌+◌, ◌^◌, ◌<◌};
     ghost use Rattle.sctp_queues.specs.Pending.{Pending};
-    ghost use Rattle.sctp_queues.specs.Window.{bytes_of};
+    ghost use Rattle.sctp_queues.specs.DataChunks.{bytes_of};
 
     ghost Value = { Pending };
 

@@ -2,7 +2,7 @@
 
 ghost use Rattle.std.specs.Prelude.{◌≡◌, ◌<◌, ◌≤◌, [], length, remove, insert, IfSome, IfNone, drop, OnErr, IfOk, IfErr, MatchOption};
 ghost use Rattle.sctp_lists.specs.Lists.{inserted};
-ghost use Rattle.sctp_queues.specs.Sets.{chunk_before};
+ghost use Rattle.sctp_queues.specs.DataChunks.{chunk_before};
 ghost use Rattle.sctp_queues.specs.Runs.{HasNoRun, IsEarliestRun};
 ghost use Rattle.sctp_base.specs.declared.error.Error.TheVariants.{ErrOutOfMemory};
 ghost use Rattle.sctp_queues.specs.Loose.{IsRunTaken, IsMark};

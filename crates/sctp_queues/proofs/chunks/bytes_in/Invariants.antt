@@ -1,5 +1,5 @@
 use Rattle.std.proofs.Common.{◌≡◌, ◌-◌, ◌^◌, length, take, min}
-use Rattle.sctp_queues.specs.Sets.{bytes_of}
+use Rattle.sctp_queues.specs.DataChunks.{bytes_of}
 use Rattle.sctp_queues.proofs.chunks.bytes_in.Given as goal
 
 abbrev pub invariant-loop-chunk : goal.invariant-loop-chunk

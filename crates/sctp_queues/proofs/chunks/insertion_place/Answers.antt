@@ -1,7 +1,7 @@
 use Rattle.std.proofs.Common.{◌≡◌, sym, ap, ◌∙◌, subst}
 use Rattle.std.specs.List.{position_or_len, insert}
 use Rattle.sctp_lists.specs.Serial.{comes_before}
-use Rattle.sctp_queues.specs.Sets.{chunk_before}
+use Rattle.sctp_queues.specs.DataChunks.{chunk_before}
 use Rattle.sctp_queues.proofs.ListLemmas.{inserted-position}
 use Rattle.sctp_queues.proofs.chunks.insertion_place.Goals as goal
 

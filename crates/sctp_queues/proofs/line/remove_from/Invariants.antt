@@ -1,7 +1,7 @@
 use Rattle.std.proofs.Common.{◌≡◌, ◌+◌, ◌-◌, ◌≤◌, ◌++◌, length, take, drop, option_to_list}
 use Rattle.sctp_lists.specs.Lists.{those}
 use Rattle.std.specs.VecDeque.{deque_len, deque_capacity}
-use Rattle.sctp_queues.specs.Window.{bytes_of}
+use Rattle.sctp_queues.specs.DataChunks.{bytes_of}
 use Rattle.sctp_queues.specs.Pending.{removed_bytes, last_of, without_message}
 use Rattle.sctp_queues.specs.Marks.{is_of}
 use Rattle.sctp_queues.proofs.line.remove_from.Given as goal

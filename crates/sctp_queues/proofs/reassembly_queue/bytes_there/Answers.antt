@@ -1,7 +1,8 @@
 use Rattle.std.proofs.Common.{◌≡◌, ◌-◌, ◌^◌, ◌<◌, length, get_or, min, sym, ap, ◌∙◌, arith}
 use Rattle.std.specs.List.{position_or_len}
 use Rattle.sctp_chunks.specs.ChunkSet.{ChunkSet}
-use Rattle.sctp_queues.specs.Sets.{bytes_of, has_ssn}
+use Rattle.sctp_queues.specs.Sets.{has_ssn}
+use Rattle.sctp_queues.specs.DataChunks.{bytes_of}
 use Rattle.sctp_queues.proofs.ListLemmas.{none_at}
 use Rattle.sctp_queues.proofs.SetLemmas.{chunks_at, chunks_none}
 use Rattle.sctp_queues.proofs.reassembly_queue.bytes_there.Goals as goal

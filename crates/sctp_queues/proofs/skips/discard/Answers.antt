@@ -6,7 +6,7 @@ use Rattle.std.proofs.lemmas.List.Sums.{sum_by-cons}
 use Rattle.sctp_lists.specs.Serial.{at_or_before16}
 use Rattle.sctp_lists.specs.Lists.{those}
 use Rattle.sctp_chunks.specs.ChunkSet.{ChunkSet}
-use Rattle.sctp_queues.specs.Sets.{bytes_of}
+use Rattle.sctp_queues.specs.DataChunks.{bytes_of}
 use Rattle.sctp_queues.specs.Reassembly.{set_bytes}
 use Rattle.sctp_queues.specs.Bounded.{is_given_up}
 use Rattle.sctp_queues.proofs.ListLemmas.{removed_step, removed_next}

@@ -1,7 +1,7 @@
 use Rattle.std.proofs.Common.{◌≡◌, ◌&&◌, not, false, sym, ap, ◌∙◌, refl}
 use Rattle.std.specs.List.{list_any, insert}
 use Rattle.sctp_lists.specs.Lists.{inserted}
-use Rattle.sctp_queues.specs.Sets.{has_tsn, chunk_before}
+use Rattle.sctp_queues.specs.DataChunks.{has_tsn, chunk_before}
 use Rattle.sctp_queues.proofs.SetLemmas.{same_but_chunks}
 use Rattle.sctp_queues.proofs.chunks.Fragments.put.Goals as goal
 

@@ -1,5 +1,5 @@
 use Rattle.std.proofs.Common.{◌≡◌, refl, sym, ap, ◌∙◌, arith}
-use Rattle.sctp_queues.specs.Window.{bytes_of}
+use Rattle.sctp_queues.specs.DataChunks.{bytes_of}
 use Rattle.sctp_queues.specs.Pending.{is_on, one_lower}
 use Rattle.sctp_queues.proofs.Waiting.{bytes_of-change_where}
 use Rattle.sctp_queues.proofs.line.Line.lower_ssns.Goals as goal

@@ -1,5 +1,5 @@
 use Rattle.std.proofs.Common.{◌≡◌, refl, sym, ap, ◌∙◌, arith}
-use Rattle.sctp_queues.specs.Window.{bytes_of}
+use Rattle.sctp_queues.specs.DataChunks.{bytes_of}
 use Rattle.sctp_queues.specs.Pending.{is_to_start, with_deadline}
 use Rattle.sctp_queues.proofs.Waiting.{bytes_of-change_where}
 use Rattle.sctp_queues.proofs.line.Line.start_timed_messages.Goals as goal

@@ -3,7 +3,7 @@ use Rattle.sctp_chunks.specs.declared.chunk.chunk_payload_data.ChunkPayloadData.
 use Rattle.sctp_lists.proofs.Edits.{sum_by-inserted}
 use Rattle.sctp_queues.specs.Marks.{is_of, given_up}
 use Rattle.sctp_queues.specs.Outbound.{Outbound, end_mark}
-use Rattle.sctp_queues.specs.Payload.{chunk_before}
+use Rattle.sctp_queues.specs.DataChunks.{chunk_before}
 use Rattle.sctp_queues.specs.Whole.{waits}
 use Rattle.sctp_queues.specs.Window.{SpansOneWindow, is_held}
 use Rattle.sctp_queues.proofs.Abandoned.{is_held-change_where, window-change_where, no_last, last_is_of, sendable-abandoned}

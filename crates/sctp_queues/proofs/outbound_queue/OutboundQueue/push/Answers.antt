@@ -1,6 +1,6 @@
 use Rattle.std.proofs.Common.{◌≡◌, ◌+◌, ◌<◌, ◌^◌, sym, ap, subst, ◌∙◌, arith, slice_get}
 use Rattle.sctp_queues.specs.Outbound.{total_bytes}
-use Rattle.sctp_queues.specs.Window.{bytes_of}
+use Rattle.sctp_queues.specs.DataChunks.{bytes_of}
 use Rattle.sctp_queues.proofs.Sendable.{message_of_first, sendable-pushed}
 use Rattle.sctp_queues.proofs.outbound_queue.OutboundQueue.push.Goals as goal
 

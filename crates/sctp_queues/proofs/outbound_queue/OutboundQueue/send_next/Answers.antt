@@ -1,6 +1,8 @@
 use Rattle.std.proofs.Common.{◌≡◌, ◌+◌, ◌<◌, Some, None, is_some, IsSome, refl, sym, ap, subst, ◌∙◌, arith}
 use Rattle.sctp_queues.specs.Outbound.{Outbound, all_started, sent_next, sent_peeked}
 use Rattle.sctp_queues.specs.Pending.{peeked}
+use Rattle.sctp_queues.specs.Whole.{GoesOn, half_sent}
+use Rattle.sctp_queues.proofs.Sendable.{goes_on}
 use Rattle.sctp_queues.proofs.Outbounds.{peeked_all_started, sent_none, sent_some}
 use Rattle.sctp_queues.proofs.outbound_queue.OutboundQueue.send_next.Goals as goal
 
@@ -18,3 +20,12 @@ returns-clause-ok c =
     ∙ ap (λ i. let r : Outbound = record { pending = q.pending; inflight = i; next_message_id = q.next_message_id; next_unstarted = q.next_unstarted_message_id } in sent_peeked (all_started c.args.now r) c.args.next_tsn.now c.args.now) c.in_ok-reserve.ensures.ok
     ∙ sent_some c.args.next_tsn.now c.args.now old (ap is_some (sym c.in-Some.ensures))
     ∙ ap (λ r. sent_next r c.args.next_tsn.now c.args.now) c.self.view_is
+
+pub returns-in_default-clause-goes_on : goal.returns-in_default-clause-goes_on
+returns-in_default-clause-goes_on c = λ m h. subst (λ q. GoesOn m (peeked q.pending)) c.self.view_is (goes_on c.self.inside.pending c.self.inside.inflight.chunks c.self.inside.next_message_id m c.self.invariant.sendable (subst (λ q. half_sent q.pending ≡ Some m) (sym c.self.view_is) h))
+
+pub returns-in_err-reserve-clause-goes_on : goal.returns-in_err-reserve-clause-goes_on
+returns-in_err-reserve-clause-goes_on c = λ m h. subst (λ q. GoesOn m (peeked q.pending)) c.self.view_is (goes_on c.self.inside.pending c.self.inside.inflight.chunks c.self.inside.next_message_id m c.self.invariant.sendable (subst (λ q. half_sent q.pending ≡ Some m) (sym c.self.view_is) h))
+
+pub returns-clause-goes_on : goal.returns-clause-goes_on
+returns-clause-goes_on c = λ m h. subst (λ q. GoesOn m (peeked q.pending)) c.self.view_is (goes_on c.self.inside.pending c.self.inside.inflight.chunks c.self.inside.next_message_id m c.self.invariant.sendable (subst (λ q. half_sent q.pending ≡ Some m) (sym c.self.view_is) h))

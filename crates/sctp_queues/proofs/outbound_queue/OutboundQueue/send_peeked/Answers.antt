@@ -3,7 +3,7 @@ use Rattle.std.proofs.lemmas.Option.{none-some}
 use Rattle.sctp_chunks.specs.declared.chunk.chunk_payload_data.ChunkPayloadData.{ChunkPayloadData}
 use Rattle.sctp_lists.proofs.Edits.{sum_by-inserted}
 use Rattle.sctp_queues.specs.Outbound.{numbered}
-use Rattle.sctp_queues.specs.Payload.{chunk_before}
+use Rattle.sctp_queues.specs.DataChunks.{chunk_before}
 use Rattle.sctp_queues.proofs.Sendable.{popped_bytes, sendable-sent}
 use Rattle.sctp_queues.proofs.outbound_queue.OutboundQueue.send_peeked.Goals as goal
 

@@ -1,6 +1,6 @@
 use Rattle.std.proofs.Common.{◌+◌, ◌<◌, refl, arith}
 use Rattle.sctp_queues.specs.Marks.{with_retransmit}
-use Rattle.sctp_queues.specs.Window.{has_tsn}
+use Rattle.sctp_queues.specs.DataChunks.{has_tsn}
 use Rattle.sctp_queues.proofs.Sendable.{sendable-marked}
 use Rattle.sctp_queues.proofs.Waiting.{bytes_of-change_where}
 use Rattle.sctp_queues.proofs.Whole.{KeepsMessage}

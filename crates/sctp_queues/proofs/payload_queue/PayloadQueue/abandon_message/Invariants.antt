@@ -1,7 +1,8 @@
 use Rattle.std.proofs.Common.{◌≡◌, ◌++◌, ◌≤◌, length, take, drop}
 use Rattle.sctp_lists.specs.Lists.{change_where}
 use Rattle.sctp_queues.specs.Marks.{is_of, given_up}
-use Rattle.sctp_queues.specs.Window.{IsSerial, bytes_of}
+use Rattle.sctp_queues.specs.Window.{IsSerial}
+use Rattle.sctp_queues.specs.DataChunks.{bytes_of}
 use Rattle.sctp_queues.proofs.payload_queue.PayloadQueue.abandon_message.Given as goal
 
 abbrev pub invariant-loop-place : goal.invariant-loop-place

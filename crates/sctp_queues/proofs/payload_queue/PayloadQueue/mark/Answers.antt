@@ -1,6 +1,6 @@
 use Rattle.std.proofs.Common.{◌≡◌, ◌+◌, ◌-◌, ◌<◌, ◌≤◌, length, is_some, refl, sym, ap, subst, ◌∙◌, slice_index_or, arith}
 use Rattle.std.proofs.lemmas.List.Sums.{sum_by-set}
-use Rattle.sctp_queues.specs.Window.{has_tsn}
+use Rattle.sctp_queues.specs.DataChunks.{has_tsn}
 use Rattle.sctp_queues.specs.Marks.{marked}
 use Rattle.sctp_queues.proofs.Serials.{serial_set_of, only_here, same_but_chunks}
 use Rattle.sctp_lists.proofs.Edits.{change_where-only, change_where-none}

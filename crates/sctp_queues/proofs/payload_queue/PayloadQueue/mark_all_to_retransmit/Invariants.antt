@@ -1,7 +1,8 @@
 use Rattle.std.proofs.Common.{◌≡◌, ◌++◌, ◌≤◌, true, length, take, drop}
 use Rattle.sctp_lists.specs.Lists.{change_where}
 use Rattle.sctp_queues.specs.Marks.{is_outstanding, with_retransmit}
-use Rattle.sctp_queues.specs.Window.{IsSerial, bytes_of}
+use Rattle.sctp_queues.specs.Window.{IsSerial}
+use Rattle.sctp_queues.specs.DataChunks.{bytes_of}
 use Rattle.sctp_queues.proofs.payload_queue.PayloadQueue.mark_all_to_retransmit.Given as goal
 
 abbrev pub invariant-loop-place : goal.invariant-loop-place

@@ -1,5 +1,6 @@
 use Rattle.std.proofs.Common.{◌≡◌, ◌+◌, ◌-◌, ◌≤◌, ◌++◌, not, length, take, drop}
-use Rattle.sctp_queues.specs.Window.{IsSerial, bytes_of}
+use Rattle.sctp_queues.specs.Window.{IsSerial}
+use Rattle.sctp_queues.specs.DataChunks.{bytes_of}
 use Rattle.sctp_queues.specs.Payload.{past}
 use Rattle.sctp_queues.proofs.payload_queue.PayloadQueue.pop_up_to_counted.Given as goal
 

@@ -1,6 +1,6 @@
 use Rattle.std.proofs.Common.{◌≡◌, ◌+◌, ◌-◌, ◌<◌, ◌≤◌, length, Some, refl, sym, ap, subst, ◌∙◌, arith}
 use Rattle.std.proofs.lemmas.List.Sums.{sum_by-remove}
-use Rattle.sctp_queues.specs.Window.{has_tsn}
+use Rattle.sctp_queues.specs.DataChunks.{has_tsn}
 use Rattle.sctp_queues.proofs.Serials.{serial_remove, only_here, same_but_chunks}
 use Rattle.sctp_lists.proofs.Edits.{those-only, those-none}
 use Rattle.sctp_queues.proofs.Serials.{fails_from_absent, find_held, not_found, read_is}

@@ -2,7 +2,7 @@ use Rattle.std.proofs.Common.{◌≡◌, ◌-◌, not, take, drop, sym, ap, ap�
 use Rattle.std.specs.List.{position_or_len}
 use Rattle.sctp_lists.specs.Serial.{at_or_before}
 use Rattle.sctp_lists.specs.Lists.{after_leading}
-use Rattle.sctp_queues.specs.Sets.{bytes_of}
+use Rattle.sctp_queues.specs.DataChunks.{bytes_of}
 use Rattle.sctp_queues.specs.Reassembly.{leading_upto}
 use Rattle.sctp_queues.proofs.ListLemmas.{after_leading-position}
 use Rattle.sctp_queues.proofs.SetLemmas.{state_of, leading_upto-position}
