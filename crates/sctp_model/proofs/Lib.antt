@@ -44,3 +44,4 @@ pub mod SoFar
 pub mod SoFarSteps
 pub mod Shown
 pub mod ReadLaws
+pub mod SoundRun

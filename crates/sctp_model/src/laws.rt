@@ -1,6 +1,7 @@
 //! What holds of every history of a link: laws, each the contract of a function that does nothing.
 
 ghost use Rattle.sctp_model.specs.Laws.{OnEveryRun, EmitsWherePending, TakesPending, SlotsInOrder, SlotsFollow, OneHalfSent, SentInTurn, IndexesLeaveNoGap, NoEndMarkIsSent, DatagramsStay, Balances, SumsAreTold, AcknowledgedArrived, AcknowledgedIsReported, SacksSay, NetworkIsMade, ArrivedIsNew, CumulativeIsSeen, ArrivalsAnswered, WholeIsWhole, NamedIsNamed, SpansFit, MessagesAreWrites, ReadsShowMessages, ReadsDiffer, StartsOnce, LateAbandonsListed, CountersAreSums, ReadsBeginRun, ReadsBeginWholeRun, ReadsBeginWhole, UnorderedFirst, NothingWhereRead};
+ghost use Rattle.sctp_model.specs.Sound.{RecordIsSound, SlotsComeSound, SkipsComeSound};
 
 /// A Send answers Idle exactly where no fragment is pending; else its new datagram carries the pending fragments that it takes.
 pub fn each_send_emits()
@@ -72,4 +73,11 @@ pub fn lifetimes_end()
 /// The counters of a stream are the saturated sums over its writes and its reads.
 pub fn counters_count()
     ensures sums { OnEveryRun CountersAreSums }
+{}
+
+/// The record of every history is what a receiver's queues need: fragments side by side, indexes near one another, nothing new below what was skipped; so is each state between the slots of a datagram.
+pub fn records_are_sound()
+    ensures sound { OnEveryRun RecordIsSound }
+    ensures slots { OnEveryRun SlotsComeSound }
+    ensures skips { OnEveryRun SkipsComeSound }
 {}
