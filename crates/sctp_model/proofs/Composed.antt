@@ -1,4 +1,4 @@
-use Rattle.std.proofs.Common.{◌≡◌, ℕ, zero, suc, ◌+◌, ◌<◌, ◌≤◌, Bool, true, false, List, [], ◌∷◌, ◌++◌, length, map, take, drop, Option, Some, None, refl, ap, sym, ◌∙◌, inl, inr, arith}
+use Rattle.std.proofs.Common.{◌≡◌, ℕ, zero, suc, ◌+◌, ◌<◌, ◌≤◌, Bool, true, false, List, [], ◌∷◌, ◌++◌, length, map, get_or, take, drop, Option, Some, None, refl, ap, sym, ◌∙◌, inl, inr, arith}
 use Rattle.std.specs.Prelude.{◌⊎◌, if◌then◌else◌, ◌==◌, ◌&&◌, ◌||◌, not, nat_lt}
 use Rattle.std.specs.List.{list_any, list_all}
 use Rattle.std.proofs.Math.Path.{subst}
@@ -15,12 +15,15 @@ use Rattle.sctp_model.specs.Messages
 use Rattle.sctp_model.specs.Log
 use Rattle.sctp_model.specs.Log.{Coming, SlotCame, SkipCame, SackMade, arrived_new, is_skipped, were_whole, is_whole_by, run_by, whole_by, named_by, log_of, Shown}
 use Rattle.sctp_model.specs.Steps.{History, world_of, IsRun}
-use Rattle.sctp_model.specs.Laws.{IsSetup, OnEveryRun, NothingWhereRead, ReadsAreSettled, IsReadWholly, SameWrites, SameArrivals, fragment_arrived, written_of, shown_of, ordered_reads, unordered_reads}
+use Rattle.sctp_model.specs.Laws.{IsSetup, OnEveryRun, NothingWhereRead, ReadsAreSettled, IsReadWholly, SameWrites, SameArrivals, fragment_arrived, mode_of, shown_of, ordered_reads, unordered_reads}
 use Rattle.sctp_model.proofs.Shape.{Shape, shape, has, sent, parts, on}
 use Rattle.sctp_model.proofs.Sender.{Sender}
 use Rattle.sctp_model.proofs.SenderSteps.{of-has, sent-some}
 use Rattle.sctp_model.proofs.SenderRun.{sane-run}
 use Rattle.sctp_model.proofs.Slots.{sent-made}
+use Rattle.sctp_model.proofs.ReadLaws.{nothing_where_read}
+use Rattle.sctp_model.proofs.Written.{messages_are_writes}
+use Rattle.sctp_model.proofs.Modes.{modes_are_kept}
 use Rattle.sctp_model.proofs.Lossless.{Lossless, AllAlive, alive-run, is_skip, no-skips, none-named, none-skipped}
 use Rattle.sctp_lists.proofs.Cases.{same-yes, same-is, or-left, or-right, or-split}
 use Rattle.sctp_lists.proofs.Getting.{length-mapped}
@@ -213,7 +216,18 @@ all-same : (t u : ℕ → Bool) (from count : ℕ) → ((k : ℕ) → t k ≡ u 
 all-same t u from zero h = refl
 all-same t u from (suc count) h = ap (λ b. b && list_all t (kept always (from + 1) count)) (h from) ∙ ap (λ b. u from && b) (all-same t u (from + 1) count h)
 
-pub reads-settled : OnEveryRun NothingWhereRead → ReadsAreSettled
+mapped-at : {A B : Type 0} (f : A → B) (xs : List A) (k : ℕ) (d : A) → k < length xs → get_or (map f xs) k (f d) ≡ f (get_or xs k d)
+mapped-at f [] k d lt = absurd (omega arith)
+mapped-at f (x ∷ xs) zero d lt = refl
+mapped-at f (x ∷ xs) (suc k) d lt = mapped-at f xs k d (omega arith)
+
+twice : (a b : Bool) → not a ≡ not b → a ≡ b
+twice true true e = refl
+twice true false e = cc
+twice false true e = cc
+twice false false e = refl
+
+reads-settled : OnEveryRun NothingWhereRead → ReadsAreSettled
 reads-settled nothing setup g h s is a b writes came =
     let v = world_of setup g in
     let w = world_of setup h in
@@ -223,7 +237,7 @@ reads-settled nothing setup g h s is a b writes came =
     let hs = (nothing setup h is b.run s).0 b.exhausted in
     let line : Messages.ordered_on v s ≡ Messages.ordered_on w s = ap (kept (on (shape v) s) 0) counts ∙ kept-same (on (shape v) s) (on (shape w) s) 0 (length w.messages) (λ k i j. on-same k (omega arith)) in (
       ap (map (shown_of v)) (gs.0 ∙ run-whole v l s (no-skips setup g a.lossless) ∙ ap (leading (is_whole_by v l)) line)
-          ∙ leading-same (shown_of v) (shown_of w) (is_whole_by v l) (is_whole_by w m) (on (shape w) s) 0 (length w.messages) (λ k i j. whole-same k (omega arith)) (λ k i j. ap (λ y. y.1) (each k (omega arith)))
+          ∙ leading-same (shown_of v) (shown_of w) (is_whole_by v l) (is_whole_by w m) (on (shape w) s) 0 (length w.messages) (λ k i j. whole-same k (omega arith)) (λ k i j. each k (omega arith))
           ∙ sym (ap (map (shown_of w)) (hs.0 ∙ run-whole w m s (no-skips setup h b.lossless))),
       λ n. ap (list_any (λ k. k == n)) gs.1 ∙ whole-among v s n l
           ∙ ap (λ c. nat_lt n c && (Messages.is_unordered_on v s n && is_whole_by v l n)) counts
@@ -232,25 +246,25 @@ reads-settled nothing setup g h s is a b writes came =
     )
   where
     counts : length (world_of setup g).messages ≡ length (world_of setup h).messages
-    counts =
-        sym (length-numbers 0 (length (world_of setup g).messages)) ∙ sym (length-mapped (written_of (world_of setup g)) (kept always 0 (length (world_of setup g).messages)))
-        ∙ ap length writes
-        ∙ length-mapped (written_of (world_of setup h)) (kept always 0 (length (world_of setup h).messages)) ∙ length-numbers 0 (length (world_of setup h).messages)
+    counts = sym (length-mapped mode_of (world_of setup g).messages) ∙ ap length (modes_are_kept setup g is a.run ∙ writes.1 ∙ sym (modes_are_kept setup h is b.run)) ∙ length-mapped mode_of (world_of setup h).messages
 
-    each : (n : ℕ) → n < length (world_of setup h).messages → written_of (world_of setup g) n ≡ written_of (world_of setup h) n
-    each n lt = same-at (written_of (world_of setup g)) (written_of (world_of setup h)) 0 (length (world_of setup h).messages) n (ap (λ c. map (written_of (world_of setup g)) (kept always 0 c)) (sym counts) ∙ writes) (omega arith) (omega arith)
+    each : (n : ℕ) → n < length (world_of setup h).messages → shown_of (world_of setup g) n ≡ shown_of (world_of setup h) n
+    each n lt = same-at (shown_of (world_of setup g)) (shown_of (world_of setup h)) 0 (length (world_of setup h).messages) n
+        (ap (λ c. map (shown_of (world_of setup g)) (kept always 0 c)) (sym counts) ∙ messages_are_writes setup g is a.run ∙ writes.0 ∙ sym (messages_are_writes setup h is b.run)) (omega arith) (omega arith)
 
     ordered-same : (n : ℕ) → n < length (world_of setup h).messages → (Messages.message_at (world_of setup g) n).ordered ≡ (Messages.message_at (world_of setup h) n).ordered
-    ordered-same n lt = ap (λ y. y.0) (each n lt)
+    ordered-same n lt =
+        twice (Messages.message_at (world_of setup g) n).ordered (Messages.message_at (world_of setup h) n).ordered
+        (ap (λ y. y.unordered) (sym (mapped-at mode_of (world_of setup g).messages n Messages.no_message (omega (arith, lt, counts))) ∙ ap (λ l. get_or l n (mode_of Messages.no_message)) (modes_are_kept setup g is a.run ∙ writes.1 ∙ sym (modes_are_kept setup h is b.run)) ∙ mapped-at mode_of (world_of setup h).messages n Messages.no_message lt))
 
     stream-same : (n : ℕ) → n < length (world_of setup h).messages → (Messages.message_at (world_of setup g) n).stream ≡ (Messages.message_at (world_of setup h) n).stream
-    stream-same n lt = ap (λ y. y.1.0) (each n lt)
+    stream-same n lt = ap (λ y. y.0) (each n lt)
 
     parts-same : (n : ℕ) → n < length (world_of setup h).messages → Messages.fragment_count (world_of setup g) n ≡ Messages.fragment_count (world_of setup h) n
     parts-same n lt =
         let p = sane-run setup g a.run in
         let q = sane-run setup h b.run in
-        ap (λ y. length (pieces (length y) (world_of setup g).setup.size y)) (ap (λ y. y.1.2) (each n lt))
+        ap (λ y. length (pieces (length y) (world_of setup g).setup.size y)) (ap (λ y. y.2) (each n lt))
         ∙ ap (λ z. length (pieces (length (Messages.message_at (world_of setup h) n).bytes) z.size (Messages.message_at (world_of setup h) n).bytes)) (p.setup_is ∙ sym q.setup_is)
 
     whole-same : (n : ℕ) → n < length (world_of setup h).messages → is_whole_by (world_of setup g) (log_of setup g) n ≡ is_whole_by (world_of setup h) (log_of setup h) n
@@ -273,3 +287,6 @@ reads-settled nothing setup g h s is a b writes came =
         ap (λ y. ((y == s) && not (Messages.message_at (world_of setup g) n).ordered) && is_whole_by (world_of setup g) (log_of setup g) n) (stream-same n lt)
         ∙ ap (λ y. (((Messages.message_at (world_of setup h) n).stream == s) && not y) && is_whole_by (world_of setup g) (log_of setup g) n) (ordered-same n lt)
         ∙ ap (λ y. Messages.is_unordered_on (world_of setup h) s n && y) (whole-same n lt)
+
+pub reads_are_settled : ReadsAreSettled
+reads_are_settled = reads-settled nothing_where_read

@@ -43,5 +43,7 @@ pub mod Spans
 pub mod SoFar
 pub mod SoFarSteps
 pub mod Shown
+pub mod Modes
 pub mod ReadLaws
 pub mod SoundRun
+pub mod EveryHistory

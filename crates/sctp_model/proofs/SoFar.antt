@@ -34,7 +34,7 @@ use Rattle.sctp_model.proofs.Names.{view-skip, on-grown}
 use Rattle.sctp_model.proofs.Wholes
 use Rattle.sctp_model.proofs.Wholes.{SlotsCame, whole_in, slots_in, whole-later, whole-come, new-came, were-new, some-kept}
 use Rattle.sctp_model.proofs.Known
-use Rattle.sctp_model.proofs.Known.{Known, Whole, Still, IsReady, ReadsWhole, ReadsRun, still-of, hears, differ-more, any-append, noting, whole-still}
+use Rattle.sctp_model.proofs.Known.{Known, Whole, Still, IsReady, ReadsWhole, ReadsRun, still-of, hears, differ-more, noting, whole-still}
 use Rattle.sctp_model.proofs.KnownRun.{new-not, hears-new}
 use Rattle.sctp_model.proofs.Ordered
 use Rattle.sctp_model.proofs.Ordered.{Ordered, read-other, read-here, ordered-at, sent-old}

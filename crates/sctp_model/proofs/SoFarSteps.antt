@@ -32,7 +32,7 @@ use Rattle.sctp_model.proofs.Names.{view-skip}
 use Rattle.sctp_model.proofs.Wholes
 use Rattle.sctp_model.proofs.Wholes.{whole_in, due, Hears}
 use Rattle.sctp_model.proofs.Known
-use Rattle.sctp_model.proofs.Known.{Known, Whole, Still, IsReady, ReadsWhole, ReadsRun, still-of, hears, differ-more, any-append, noting, ready-first, ready-whole}
+use Rattle.sctp_model.proofs.Known.{Known, Whole, Still, IsReady, ReadsWhole, ReadsRun, still-of, hears, differ-more, noting, ready-first, ready-whole}
 use Rattle.sctp_model.proofs.KnownRun.{new-not, hears-new}
 use Rattle.sctp_model.proofs.Ordered
 use Rattle.sctp_model.proofs.Ordered.{Ordered, read-other, read-here, ordered-at}

@@ -122,7 +122,7 @@ field-kept {A} g f keeps same w t = ap (λ o. g (unwrap_or o (no_stream t))) (fi
     by None = refl
     by (Some r) = same r
 
-find-more : (s t : ℕ) (rs : List StreamRecord) → is_some (find (λ r. r.stream == s) rs) ≡ false → unwrap_or (find (λ r. r.stream == t) (rs ++ no_stream s ∷ [])) (no_stream t) ≡ unwrap_or (find (λ r. r.stream == t) rs) (no_stream t)
+pub find-more : (s t : ℕ) (rs : List StreamRecord) → is_some (find (λ r. r.stream == s) rs) ≡ false → unwrap_or (find (λ r. r.stream == t) (rs ++ no_stream s ∷ [])) (no_stream t) ≡ unwrap_or (find (λ r. r.stream == t) rs) (no_stream t)
 find-more s t [] e = step (s == t) refl
   where
     step : (b : Bool) → (s == t) ≡ b → unwrap_or (if b then Some (no_stream s) else None) (no_stream t) ≡ no_stream t
