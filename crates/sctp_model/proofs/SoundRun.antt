@@ -8,7 +8,7 @@ use Rattle.std.proofs.lemmas.Bool.Decides.{nat_tests}
 use Rattle.sctp_lists.specs.Kept.{kept, always, leading, passing, total_over, numbers_from}
 use Rattle.sctp_lists.proofs.KeptLemmas.{length-kept-lt, length-kept-le}
 use Rattle.sctp_lists.proofs.More.{fails, not_both, both, and}
-use Rattle.sctp_lists.proofs.Cases.{by_same, same-yes, same-is, negated}
+use Rattle.sctp_lists.proofs.Cases.{same-yes, same-is, negated, or-right, or-split}
 use Rattle.sctp_lists.proofs.Places.{kept-get}
 use Rattle.sctp_lists.proofs.Getting.{get-beyond}
 use Rattle.sctp_lists.proofs.Alls
@@ -310,13 +310,9 @@ held-later u v a l s k lt e =
       on_it = ap (λ x. on x s k) l.shapes ∙ h.on_it;
       unread = ap (λ r. r k) l.reads ∙ h.unread;
       some = let c = l.come k in omega (arith, c, h.some);
-      kept_for = either (Wholes.either-is (whole_at u k) (nat_le (u.named s) (index u.x k)) h.kept_for) kind;
+      kept_for = either (or-split (whole_at u k) (nat_le (u.named s) (index u.x k)) h.kept_for) kind;
     })
   where
-    or-right : (a b : Bool) → b ≡ true → (a || b) ≡ true
-    or-right true b e = refl
-    or-right false b e = e
-
     le : sent v.x k ≤ parts v.x k
     le = subst (λ x. sent x k ≤ parts x k) (sym l.shapes) (a.within k lt)
 
@@ -362,10 +358,6 @@ adds-it w t (q ∷ ps) p qs new on' = step (Receiver.is_new w q) (t (Messages.me
     among : List ℕ → Bool
     among l = list_any (λ z. z == Messages.index_of w (Messages.message_of w p)) (map (Messages.index_of w) l)
 
-    or-right : (a b : Bool) → b ≡ true → (a || b) ≡ true
-    or-right true b e = refl
-    or-right false b e = e
-
     step : (a b : Bool) → t (Messages.message_of w q) ≡ b → among (passing t (map (Messages.message_of w) rest)) ≡ true → among (passing t (map (Messages.message_of w) (if a then q ∷ rest else rest))) ≡ true
     step false b e ih = ih
     step true true e ih = ap (λ c. among (if c then Messages.message_of w q ∷ passing t (map (Messages.message_of w) rest) else passing t (map (Messages.message_of w) rest))) e ∙ or-right (Messages.index_of w (Messages.message_of w q) == Messages.index_of w (Messages.message_of w p)) (among (passing t (map (Messages.message_of w) rest))) ih
@@ -380,7 +372,7 @@ fits-after w k d ok e =
 
 pub slots_come_sound : OnEveryRun SlotsComeSound
 slots_come_sound setup h is run k ps p qs ok e =
-    record { sound = sound-of setup v b.log b.sane b.received; loose = loose-of setup v b.log b.sane b.received; order = order-of setup v b.sane; near = λ s on' new. near s on' new }
+    record { made = there.0; fragment = there.1; sound = sound-of setup v b.log b.sane b.received; loose = loose-of setup v b.log b.sane b.received; order = order-of setup v b.sane; near = λ s on' new. near s on' new }
   where
     w : World
     w = world_of setup h
@@ -406,8 +398,11 @@ slots_come_sound setup h is run k ps p qs ok e =
     b : Between setup v
     b = first.0
 
+    there : SlotsFit (shape v) (p ∷ qs)
+    there = subst (λ x. SlotsFit x (p ∷ qs)) (sym first.1.shapes) parts'.1
+
     second : Between setup (fold Changes.slot_came v (p ∷ qs)) × Later (view v) (view (fold Changes.slot_came v (p ∷ qs)))
-    second = between-slots setup (p ∷ qs) v (subst (λ x. SlotsFit x (p ∷ qs)) (sym first.1.shapes) parts'.1) b
+    second = between-slots setup (p ∷ qs) v there b
 
     whole-fold : z ≡ fold Changes.slot_came v (p ∷ qs)
     whole-fold = fold-append Changes.slot_came w ps (p ∷ qs)

@@ -104,8 +104,10 @@ pub record IsSound (w : World) : Type 0 where
 abbrev pub RecordIsSound : Setup → History → World → List Coming → Type 0
 RecordIsSound setup h w log = IsSound w
 
--- before each slot of an accepted datagram: the record is sound, and the index of a new ordered message is near those that matter
+-- before each slot of an accepted datagram: it has a fragment, the record is sound, and the index of a new ordered message is near those that matter
 pub record ComesSound (w : World) (p : ℕ) : Type 0 where
+  pub made : p < length w.slots
+  pub fragment : (slot_at w p).is_end_mark ≡ false
   pub sound : Sound w
   pub loose : SoundLoose w
   pub order : InOrder w
