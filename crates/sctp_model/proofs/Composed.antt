@@ -1,35 +1,32 @@
-use Rattle.std.proofs.Common.{◌≡◌, ℕ, zero, suc, ◌+◌, ◌<◌, ◌≤◌, Bool, true, false, List, [], ◌∷◌, ◌++◌, length, map, get_or, take, drop, Option, Some, None, refl, ap, sym, ◌∙◌, inl, inr, arith}
+use Rattle.std.proofs.Common.{◌≡◌, ℕ, zero, suc, ◌+◌, ◌<◌, ◌≤◌, Bool, true, false, List, [], ◌∷◌, ◌++◌, length, map, get_or, take, drop, refl, ap, sym, ◌∙◌, inl, inr, arith}
 use Rattle.std.specs.Prelude.{◌⊎◌, if◌then◌else◌, ◌==◌, ◌&&◌, ◌||◌, not, nat_lt}
 use Rattle.std.specs.List.{list_any, list_all}
-use Rattle.std.proofs.Math.Path.{subst}
 use Rattle.std.proofs.Math.Nat.{eq-or-lt_of_le}
 use Rattle.std.proofs.lemmas.Bool.{cases_lt}
 use Rattle.std.proofs.lemmas.Bool.Decides.{nat_tests}
 use Rattle.sctp_lists.specs.Kept.{kept, always, numbers_from, leading, passing}
 use Rattle.sctp_lists.specs.Lists.{pieces}
 use Rattle.sctp_lists.proofs.KeptLemmas.{kept-same, length-kept-lt}
-use Rattle.sctp_lists.proofs.More.{fails, not_both, both, and, same_test}
-use Rattle.sctp_model.specs.Reply as R
-use Rattle.sctp_model.specs.World.{Setup, World}
+use Rattle.sctp_lists.proofs.More.{not_both, both, and, same_test}
+use Rattle.sctp_model.specs.World.{World}
 use Rattle.sctp_model.specs.Messages
 use Rattle.sctp_model.specs.Log
 use Rattle.sctp_model.specs.Log.{Coming, SlotCame, SkipCame, SackMade, arrived_new, is_skipped, were_whole, is_whole_by, run_by, whole_by, named_by, log_of, Shown}
-use Rattle.sctp_model.specs.Steps.{History, world_of, IsRun}
-use Rattle.sctp_model.specs.Laws.{IsSetup, OnEveryRun, NothingWhereRead, ReadsAreSettled, IsReadWholly, SameWrites, SameArrivals, fragment_arrived, mode_of, shown_of, ordered_reads, unordered_reads}
-use Rattle.sctp_model.proofs.Shape.{Shape, shape, has, sent, parts, on}
+use Rattle.sctp_model.specs.Steps.{world_of}
+use Rattle.sctp_model.specs.Laws.{OnEveryRun, NothingWhereRead, ReadsAreSettled, fragment_arrived, mode_of, shown_of}
+use Rattle.sctp_model.proofs.Shape.{Shape, shape, has, sent, on}
 use Rattle.sctp_model.proofs.Sender.{Sender}
-use Rattle.sctp_model.proofs.SenderSteps.{of-has, sent-some}
+use Rattle.sctp_model.proofs.SenderSteps.{of-has}
 use Rattle.sctp_model.proofs.SenderRun.{sane-run}
-use Rattle.sctp_model.proofs.Slots.{sent-made}
 use Rattle.sctp_model.proofs.ReadLaws.{nothing_where_read}
 use Rattle.sctp_model.proofs.Written.{messages_are_writes}
 use Rattle.sctp_model.proofs.Modes.{modes_are_kept}
-use Rattle.sctp_model.proofs.Lossless.{Lossless, AllAlive, alive-run, is_skip, no-skips, none-named, none-skipped}
+use Rattle.sctp_model.proofs.Lossless.{alive-run, is_skip, no-skips, none-named, none-skipped}
 use Rattle.sctp_lists.proofs.Cases.{same-yes, same-is, or-left, or-right, or-split}
 use Rattle.sctp_lists.proofs.Getting.{length-mapped}
 use Rattle.sctp_lists.proofs.Rows.{numbered}
-use Rattle.sctp_lists.proofs.Tests.{any-out, any-in, all-in, all-out, all-more, among-kept, any-append}
-use Rattle.sctp_lists.proofs.Totals.{length-numbers}
+use Rattle.sctp_lists.proofs.Alls.{all-kept}
+use Rattle.sctp_lists.proofs.Tests.{any-out, any-in, all-out, all-more, among-kept, any-append}
 
 -- Without loss what is read in the end is settled by what was written and which of its fragments arrived.
 
@@ -107,7 +104,7 @@ module _ (w : World) (log : List Coming) (n : ℕ) (s : Sender (shape w)) (none 
       to : is_whole_by w log n ≡ true → list_all (fragment_arrived w log n) (numbers_from 0 (Messages.fragment_count w n)) ≡ true
       to e =
           let count = same-is (Messages.sent_of w n) (Messages.fragment_count w n) (both (Messages.sent_of w n == Messages.fragment_count w n) (if (Messages.message_at w n).ordered then list_all (arrived_new log) (Messages.slots_of w n) else were_whole (Messages.slots_of w n) log) e).0 in
-          all-in (fragment_arrived w log n) always 0 (Messages.fragment_count w n) (λ i a b f.
+          all-kept (fragment_arrived w log n) always 0 (Messages.fragment_count w n) (λ i a b f.
           let r = slot-for i (omega (arith, count)) in
           let came = all-out (arrived_new log) (has x n) r.0 0 (length w.slots) (all-arrived e) (omega arith) (omega (arith, r.1)) r.2 in
           any-in (arrived_as i) always r.0 0 (length w.slots) (omega arith) (omega (arith, r.1)) refl
@@ -127,7 +124,7 @@ module _ (w : World) (log : List Coming) (n : ℕ) (s : Sender (shape w)) (none 
           let r = place top.0 (each top.0 (omega (arith, top.1))) in
           let high : top.0 < sent x n = omega (arith, below r.0 r.1 r.2, r.3) in
           let count : Messages.sent_of w n ≡ Messages.fragment_count w n = omega (arith, high, top.1, s.within n lt) in
-          let slots : list_all (arrived_new log) (Messages.slots_of w n) ≡ true = all-in (arrived_new log) (has x n) 0 (length w.slots) (λ p a b h.
+          let slots : list_all (arrived_new log) (Messages.slots_of w n) ≡ true = all-kept (arrived_new log) (has x n) 0 (length w.slots) (λ p a b h.
           let q = place (Messages.slot_at w p).fragment (each (Messages.slot_at w p).fragment (omega (arith, below p (omega arith) h, count))) in
           ap (arrived_new log) (one-slot p q.0 (omega arith) q.1 h q.2 (sym q.3)) ∙ q.4) in
           and (Messages.sent_of w n == Messages.fragment_count w n) (if (Messages.message_at w n).ordered then list_all (arrived_new log) (Messages.slots_of w n) else were_whole (Messages.slots_of w n) log) (ap (λ c. c == Messages.fragment_count w n) count ∙ same-yes (Messages.fragment_count w n))

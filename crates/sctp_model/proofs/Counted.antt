@@ -1,5 +1,5 @@
 use Rattle.std.proofs.Common.{◌≡◌, ℕ, zero, suc, ◌+◌, ◌<◌, ◌≤◌, Bool, true, false, List, [], ◌∷◌, ◌++◌, length, map, Option, Some, None, refl, ap, sym, ◌∙◌, inl, inr, arith, append-nil, zero-add}
-use Rattle.std.specs.Prelude.{◌⊎◌, if◌then◌else◌, ◌==◌, ◌&&◌, ◌||◌, not, nat_lt, fold, slice_get, slice_index_or, option_to_list}
+use Rattle.std.specs.Prelude.{◌⊎◌, if◌then◌else◌, ◌==◌, ◌&&◌, ◌||◌, nat_lt, slice_get, slice_index_or, option_to_list}
 use Rattle.std.specs.List.{list_any, list_all}
 use Rattle.std.proofs.Math.Path.{subst}
 use Rattle.sctp_model.proofs.View.{view}
@@ -7,9 +7,8 @@ use Rattle.sctp_model.proofs.Known.{HasRead, differ-more}
 use Rattle.sctp_model.proofs.Shown.{has-read, reads_show_messages}
 use Rattle.std.proofs.lemmas.Bool.{cases_lt}
 use Rattle.std.proofs.lemmas.Bool.Decides.{nat_tests}
-use Rattle.sctp_lists.specs.Kept.{kept, always, numbers_from, total_over}
-use Rattle.sctp_lists.proofs.KeptLemmas.{kept-same}
-use Rattle.sctp_lists.proofs.More.{fails, not_both, both, and, same_test, changed-keeps, changed-same, changed-other, length-changed}
+use Rattle.sctp_lists.specs.Kept.{kept, always, total_over}
+use Rattle.sctp_lists.proofs.More.{fails, both, changed-keeps, changed-same, changed-other, length-changed}
 use Rattle.sctp_model.specs.declared.event.Event.{Event}
 use Rattle.sctp_model.specs.declared.event.Event.TheVariants as E
 use Rattle.sctp_model.specs.Reply.{Reply}
@@ -19,17 +18,15 @@ use Rattle.sctp_model.specs.Messages
 use Rattle.sctp_model.specs.Receiver.{next_read}
 use Rattle.sctp_model.specs.Amounts
 use Rattle.sctp_model.specs.Changes
-use Rattle.sctp_model.specs.Log
-use Rattle.sctp_model.specs.Log.{Shown, total_shown, shown_on, counted_shown, counted_length, writes_in, reads_in, numbers_read, number_read, log_of}
+use Rattle.sctp_model.specs.Log.{Shown, total_shown, shown_on, counted_shown, counted_length, writes_in, reads_in, numbers_read, number_read}
 use Rattle.sctp_model.specs.Steps.{History, world_of, IsRun, refusal_of, reply_to, after, read_reply}
 use Rattle.sctp_model.specs.Laws.{IsSetup, OnEveryRun, AllDifferent, ReadsShowMessages, ReadsDiffer, CountersAreSums, shown_of}
-use Rattle.sctp_model.proofs.Shape.{shape}
 use Rattle.sctp_model.proofs.SenderRun.{sane-run}
 use Rattle.sctp_model.proofs.Moves
 use Rattle.sctp_model.proofs.Lifetimes.{messages-came, messages-taken}
 use Rattle.sctp_model.proofs.Written.{messages_are_writes}
 use Rattle.sctp_model.proofs.BytesTold.{total-told}
-use Rattle.sctp_lists.proofs.Cases.{by_same, same-yes, same-is, or-split}
+use Rattle.sctp_lists.proofs.Cases.{by_same, same-yes, same-is}
 use Rattle.sctp_lists.proofs.Tests.{any-append}
 use Rattle.sctp_lists.proofs.Totals.{total-none, total-one, total-kept_same, total-where}
 

@@ -1,6 +1,6 @@
 -- What each change of the record keeps is so in every history.
-use Rattle.std.proofs.Common.{◌≡◌, ℕ, zero, suc, ◌+◌, ◌<◌, ◌≤◌, Bool, true, false, List, [], ◌∷◌, ◌++◌, length, map, Option, Some, None, refl, ap, sym, ◌∙◌, inl, inr, arith}
-use Rattle.std.specs.Prelude.{◌⊎◌, if◌then◌else◌, not, fold, slice_get}
+use Rattle.std.proofs.Common.{◌≡◌, ℕ, zero, suc, ◌<◌, Bool, true, false, List, [], ◌∷◌, length, map, Option, Some, None, refl, ap, sym, ◌∙◌}
+use Rattle.std.specs.Prelude.{not, fold, slice_get}
 use Rattle.std.proofs.Math.Path.{subst}
 use Rattle.sctp_chunks.specs.declared.chunk.chunk_payload_data.ReliabilityType.{ReliabilityType}
 use Rattle.sctp_model.specs.declared.event.Event.{Event}
@@ -12,10 +12,10 @@ use Rattle.sctp_model.specs.World as W
 use Rattle.sctp_model.specs.Messages
 use Rattle.sctp_model.specs.Receiver
 use Rattle.sctp_model.specs.Changes
-use Rattle.sctp_model.specs.Steps.{History, world_of, IsRun, refusal_of, reply_to, after}
+use Rattle.sctp_model.specs.Steps.{History, world_of, IsRun, refusal_of, after}
 use Rattle.sctp_model.specs.Log.{Coming, SlotCame, SkipCame, SackMade, Made, made_in, datagram_comes, slots_come, log_of}
 use Rattle.sctp_model.specs.Laws.{IsSetup, kind_of}
-use Rattle.sctp_model.proofs.Shape.{Shape, shape}
+use Rattle.sctp_model.proofs.Shape.{shape}
 use Rattle.sctp_model.proofs.SenderRun.{Sane, sane-run, sane-after, sane-came, unless-holds}
 use Rattle.sctp_model.proofs.Moves.{Quiet, quiet-none, quiet-datagram, quiet-written, quiet-started, quiet-sent, quiet-expire, quiet-tail, quiet-lates, quiet-abandoned}
 use Rattle.sctp_model.proofs.Network.{SlotsFit, NamesFit, Fits, fit-at, fit-run, same-slot}

@@ -1,12 +1,10 @@
--- Each message has the mode that its stream had when it was written.
-use Rattle.std.proofs.Common.{◌≡◌, ℕ, zero, suc, ◌+◌, ◌<◌, ◌≤◌, Bool, true, false, List, [], ◌∷◌, ◌++◌, length, map, get_or, Option, Some, None, refl, ap, sym, ◌∙◌, inl, inr, arith}
-use Rattle.std.specs.Prelude.{if◌then◌else◌, ◌==◌, ◌&&◌, ◌||◌, not, fold, slice_get, find, unwrap_or}
+use Rattle.std.proofs.Common.{◌≡◌, ℕ, zero, suc, ◌+◌, Bool, true, false, List, [], ◌∷◌, ◌++◌, map, Option, Some, None, refl, ap, ◌∙◌, arith}
+use Rattle.std.specs.Prelude.{if◌then◌else◌, ◌==◌, not, slice_get, find, unwrap_or}
 use Rattle.std.proofs.lemmas.List.{map-append}
 use Rattle.std.proofs.lemmas.Bool.Decides.{nat_tests}
 use Rattle.sctp_lists.specs.Lists.{changed}
 use Rattle.sctp_lists.proofs.More.{same_test}
 use Rattle.sctp_lists.proofs.Cases.{negated}
-use Rattle.sctp_chunks.specs.declared.chunk.chunk_payload_data.PayloadProtocolIdentifier.{PayloadProtocolIdentifier}
 use Rattle.sctp_model.specs.declared.event.Event.{Event}
 use Rattle.sctp_model.specs.declared.event.Event.TheVariants as E
 use Rattle.sctp_model.specs.declared.event.LinkRefusal.TheVariants.{StreamUnknown, StreamOpen}
@@ -21,10 +19,11 @@ use Rattle.sctp_model.specs.Steps.{History, world_of, IsRun, refusal_of, after}
 use Rattle.sctp_model.specs.Laws.{OnEveryRun, ModesAreKept, mode_of}
 use Rattle.sctp_model.proofs.SenderRun.{sane-run, fold-keeps, unless-holds, written_as}
 use Rattle.sctp_model.proofs.Moves
-use Rattle.sctp_model.proofs.View.{field-kept, field-changed, find-more}
-use Rattle.sctp_model.proofs.Written.{write-open}
+use Rattle.sctp_model.proofs.View.{field-kept, field-changed, find-more, either-keeps}
 use Rattle.sctp_model.proofs.BytesTold.{messages-sent}
 use Rattle.sctp_model.proofs.Lifetimes.{messages-came, messages-taken}
+
+-- Each message has the mode that its stream had when it was written.
 
 -- ## The modes of streams
 
@@ -38,15 +37,8 @@ ModesAre h w = (s : ℕ) → mode_now (stream_of w s) ≡ mode_in h s
 abbrev SameModes : World → World → Type 0
 SameModes w v = (s : ℕ) → mode_now (stream_of v s) ≡ mode_now (stream_of w s)
 
-either-mode : (s : ℕ) (f : StreamRecord → StreamRecord) {A : Type 0} (g : StreamRecord → A) → ((r : StreamRecord) → g (f r) ≡ g r) → (r : StreamRecord) → g (if r.stream == s then f r else r) ≡ g r
-either-mode s f g keeps r = step (r.stream == s)
-  where
-    step : (b : Bool) → g (if b then f r else r) ≡ g r
-    step true = keeps r
-    step false = refl
-
 modes-changed : (w : World) (s : ℕ) (f : StreamRecord → StreamRecord) → ((r : StreamRecord) → (f r).stream ≡ r.stream) → ((r : StreamRecord) → mode_now (f r) ≡ mode_now r) → SameModes w (Changes.stream_changed w s f)
-modes-changed w s f a b t = field-kept mode_now (λ r. if r.stream == s then f r else r) (either-mode s f (λ r. r.stream) a) (either-mode s f mode_now b) w t
+modes-changed w s f a b t = field-kept mode_now (λ r. if r.stream == s then f r else r) (either-keeps (λ r. r.stream) f a s) (either-keeps mode_now f b s) w t
 
 modes-slot : (w : World) (p : ℕ) → SameModes w (Changes.slot_came w p)
 modes-slot w p = step (is_new w p)

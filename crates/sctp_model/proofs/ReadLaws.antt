@@ -1,16 +1,14 @@
 -- The reads of a stream: ordered messages in order, unordered ones as they became whole, Nothing where all is read.
-use Rattle.std.proofs.Common.{◌≡◌, ℕ, zero, suc, ◌+◌, ◌-◌, ◌<◌, ◌≤◌, Bool, true, false, List, [], ◌∷◌, ◌++◌, length, map, take, drop, get_or, Option, Some, None, refl, ap, sym, ◌∙◌, inl, inr, arith, append-nil, length-append}
-use Rattle.std.specs.Prelude.{◌⊎◌, ◌↔◌, if◌then◌else◌, ◌==◌, ◌&&◌, ◌||◌, not, nat_le, nat_lt, slice_get, option_to_list}
-use Rattle.std.specs.List.{list_any, list_all}
+use Rattle.std.proofs.Common.{◌≡◌, ℕ, zero, suc, ◌+◌, ◌-◌, ◌<◌, ◌≤◌, Bool, true, false, List, [], ◌∷◌, ◌++◌, length, take, drop, Option, Some, None, refl, ap, sym, ◌∙◌, inl, inr, arith, append-nil, length-append}
+use Rattle.std.specs.Prelude.{◌⊎◌, if◌then◌else◌, ◌==◌, ◌&&◌, ◌||◌, not, nat_lt, slice_get, option_to_list}
+use Rattle.std.specs.List.{list_all}
 use Rattle.std.proofs.Math.Path.{subst}
-use Rattle.std.proofs.lemmas.Bool.{cases_lt}
 use Rattle.std.proofs.lemmas.Bool.Decides.{nat_tests}
 use Rattle.sctp_lists.specs.Kept.{kept, passing, leading, first_of, or_else}
 use Rattle.sctp_lists.proofs.KeptLemmas.{kept-same, kept-none}
 use Rattle.sctp_lists.proofs.More.{fails, not_both, both, and}
-use Rattle.sctp_lists.proofs.Cases.{same-yes, same-is, negated}
+use Rattle.sctp_lists.proofs.Cases.{same-is}
 use Rattle.sctp_lists.proofs.Alls
-use Rattle.sctp_model.specs.declared.event.Event.{Event}
 use Rattle.sctp_model.specs.declared.event.Event.TheVariants as E
 use Rattle.sctp_model.specs.declared.event.LinkRefusal.TheVariants.{StreamUnknown}
 use Rattle.sctp_model.specs.Reply.{Reply}
@@ -21,15 +19,15 @@ use Rattle.sctp_model.specs.Receiver
 use Rattle.sctp_model.specs.Changes
 use Rattle.sctp_model.specs.Log
 use Rattle.sctp_model.specs.Log.{Coming, number_read, numbers_read}
-use Rattle.sctp_model.specs.Steps.{History, world_of, IsRun, refusal_of, reply_to, read_reply}
-use Rattle.sctp_model.specs.Laws.{IsSetup, OnEveryRun, IsPrefixOf, ordered_reads, unordered_reads, loses_nothing, ReadsBeginRun, ReadsBeginWholeRun, ReadsBeginWhole, UnorderedFirst, NothingWhereRead}
-use Rattle.sctp_model.proofs.Shape.{Shape, shape, on, index, sent, parts}
+use Rattle.sctp_model.specs.Steps.{History, world_of, IsRun, read_reply}
+use Rattle.sctp_model.specs.Laws.{IsSetup, OnEveryRun, ordered_reads, unordered_reads, ReadsBeginRun, ReadsBeginWholeRun, ReadsBeginWhole, UnorderedFirst, NothingWhereRead}
+use Rattle.sctp_model.proofs.Shape.{shape, on, index}
 use Rattle.sctp_model.proofs.SenderRun.{Sane, sane-run, unless-holds}
-use Rattle.sctp_model.proofs.Events.{Moving, step-moves}
+use Rattle.sctp_model.proofs.Events.{step-moves}
 use Rattle.sctp_model.proofs.View
 use Rattle.sctp_model.proofs.View.{View, view, all_come, whole_at, read_in, line, run, next, next_read}
 use Rattle.sctp_model.proofs.Indexes.{on-stream, on-ordered, index_on}
-use Rattle.sctp_model.proofs.Names.{named-run, named_is_named}
+use Rattle.sctp_model.proofs.Names.{named_is_named}
 use Rattle.sctp_model.proofs.KnownRun.{whole_is_whole}
 use Rattle.sctp_model.proofs.Known
 use Rattle.sctp_model.proofs.Known.{ReadsWhole, ReadsRun, reads}
@@ -37,7 +35,7 @@ use Rattle.sctp_model.proofs.Ordered
 use Rattle.sctp_model.proofs.Ordered.{Ordered, ordered-at}
 use Rattle.sctp_model.proofs.Due.{take-kept, take-none}
 use Rattle.sctp_model.proofs.Lossless.{no-skips, none-named}
-use Rattle.sctp_model.proofs.Received.{Received, received-keeps, received-run}
+use Rattle.sctp_model.proofs.Received.{received-run}
 use Rattle.sctp_model.proofs.SoFar
 use Rattle.sctp_model.proofs.SoFar.{SoFar, so_far-as, read_on, was_read, whole_list, whole_list-is, passing-append}
 use Rattle.sctp_model.proofs.SoFarSteps.{Told, told-moving, so_far-elsewhere, so_far-unordered, so_far-ordered}

@@ -1,23 +1,19 @@
--- Each read hands out a message as it was written.
-use Rattle.std.proofs.Common.{◌≡◌, ℕ, zero, suc, ◌+◌, ◌<◌, ◌≤◌, Bool, true, false, List, [], ◌∷◌, ◌++◌, length, map, get_or, take, drop, Option, Some, None, refl, ap, sym, ◌∙◌, inl, inr, arith, append-nil, zero-add, add-one}
-use Rattle.std.specs.Prelude.{◌⊎◌, if◌then◌else◌, ◌==◌, ◌&&◌, not, nat_lt, slice_index_or, option_to_list}
+use Rattle.std.proofs.Common.{◌≡◌, ℕ, zero, suc, ◌+◌, ◌<◌, ◌≤◌, Bool, true, false, List, [], ◌∷◌, ◌++◌, length, map, get_or, take, drop, Option, Some, None, refl, ap, sym, ◌∙◌, inl, inr, arith, append-nil, add-one}
+use Rattle.std.specs.Prelude.{◌⊎◌, if◌then◌else◌, ◌==◌, ◌&&◌, not, nat_lt, option_to_list}
 use Rattle.std.specs.List.{list_all}
-use Rattle.std.proofs.lemmas.Bool.{cases_lt}
 use Rattle.std.proofs.lemmas.Bool.Decides.{nat_tests}
 use Rattle.std.proofs.lemmas.List.{map-append}
-use Rattle.sctp_lists.specs.Kept.{kept, always, numbers_from}
+use Rattle.sctp_lists.specs.Kept.{kept, always}
 use Rattle.sctp_lists.specs.Lists.{pieces}
 use Rattle.sctp_lists.proofs.KeptLemmas.{kept-same}
 use Rattle.sctp_lists.proofs.Lines.{take-drop}
-use Rattle.sctp_lists.proofs.More.{fails, not_both, both, and}
+use Rattle.sctp_lists.proofs.More.{both, and}
 use Rattle.sctp_lists.proofs.Cases.{same-is, same-yes}
 use Rattle.sctp_lists.proofs.Rows.{numbered}
 use Rattle.sctp_lists.proofs.Tests.{all-out}
-use Rattle.sctp_chunks.specs.declared.chunk.chunk_payload_data.ChunkPayloadData.{ChunkPayloadData}
 use Rattle.sctp_model.specs.declared.event.Event.{Event}
 use Rattle.sctp_model.specs.declared.event.Event.TheVariants as E
 use Rattle.sctp_model.specs.Reply.{Reply}
-use Rattle.sctp_model.specs.Reply as R
 use Rattle.sctp_model.specs.World.{Setup, World}
 use Rattle.sctp_model.specs.Messages
 use Rattle.sctp_model.specs.Receiver
@@ -26,7 +22,7 @@ use Rattle.sctp_model.specs.Contents.{chunk_at}
 use Rattle.sctp_model.specs.Queues.{handed_out, set_of, whole_set_of}
 use Rattle.sctp_model.specs.Log
 use Rattle.sctp_model.specs.Log.{Shown, joined_bytes, reads_in, numbers_read, number_read, shown_by, log_of}
-use Rattle.sctp_model.specs.Steps.{History, world_of, IsRun, refusal_of, reply_to, after, read_reply}
+use Rattle.sctp_model.specs.Steps.{History, world_of, IsRun, reply_to, after, read_reply}
 use Rattle.sctp_model.specs.Laws.{IsSetup, OnEveryRun, ReadsShowMessages, shown_of}
 use Rattle.sctp_model.proofs.Shape.{shape, has, sent, parts}
 use Rattle.sctp_model.proofs.Sender.{Sender}
@@ -38,6 +34,10 @@ use Rattle.sctp_model.proofs.Arrivals.{heard-run}
 use Rattle.sctp_model.proofs.View.{view}
 use Rattle.sctp_model.proofs.Known.{HasRead, ReadsWhole, ReadsRun, reads, run-is, ready-first, ready-whole}
 use Rattle.sctp_model.proofs.KnownRun.{known-run, whole_is_whole}
+use Rattle.sctp_lists.proofs.Alls.{all-append}
+use Rattle.sctp_lists.proofs.Tests.{all-more}
+
+-- Each read hands out a message as it was written.
 
 -- ## Pieces join to what was cut
 
@@ -123,10 +123,6 @@ has-read setup h is run s n e = step (reads (view (world_of setup h)) s n e)
         let i = run-is (view (world_of setup h)) s n a in
         record { made = i.made; stream = same-is (Messages.message_at (world_of setup h) n).stream s (both ((Messages.message_at (world_of setup h) n).stream == s) ((Messages.message_at (world_of setup h) n).ordered && not (Messages.message_at (world_of setup h) n).expired) i.on_it).0; unread = i.unread; whole_now = i.whole_now }
 
-all-more : (t u : ℕ → Bool) (xs : List ℕ) → ((k : ℕ) → t k ≡ true → u k ≡ true) → list_all t xs ≡ true → list_all u xs ≡ true
-all-more t u [] h e = refl
-all-more t u (x ∷ xs) h e = let a = both (t x) (list_all t xs) e in and (u x) (list_all u xs) (h x a.0) (all-more t u xs h a.1)
-
 read-joined : (setup : Setup) (h : History) → IsSetup setup → IsRun setup h → (s n : ℕ) → next_read (world_of setup h) s ≡ Some n → joined_bytes (handed_out (world_of setup h) n).chunks ≡ (Messages.message_at (world_of setup h) n).bytes
 read-joined setup h is run s n e =
     let w = world_of setup h in
@@ -165,10 +161,6 @@ Says setup h w s = (reads_in h s ≡ map (shown_of w) (numbers_read setup h s)) 
 
 stays : (w v : World) → Extends w v → (setup : Setup) (h : History) (s : ℕ) → Says setup h w s → Says setup h v s
 stays w v x setup h s a = let r = all-shown w v x s (numbers_read setup h s) a.1 in (a.0 ∙ r.0, r.1)
-
-all-append : (t : ℕ → Bool) (xs ys : List ℕ) → list_all t xs ≡ true → list_all t ys ≡ true → list_all t (xs ++ ys) ≡ true
-all-append t [] ys a b = b
-all-append t (x ∷ xs) ys a b = let c = both (t x) (list_all t xs) a in and (t x) (list_all t (xs ++ ys)) c.0 (all-append t xs ys c.1 b)
 
 -- a read
 says-read : (setup : Setup) (older : History) (t s : ℕ) (r : Reply) (v : World) → IsSetup setup → IsRun setup older → Extends (world_of setup older) v → (o : Option ℕ) → next_read (world_of setup older) t ≡ o → r ≡ read_reply (world_of setup older) o → Says setup older (world_of setup older) s → Says setup ((E.Read t, r) ∷ older) v s

@@ -1,45 +1,30 @@
 -- What was read so far on a stream.
-use Rattle.std.proofs.Common.{◌≡◌, ℕ, zero, suc, ◌+◌, ◌-◌, ◌<◌, ◌≤◌, Bool, true, false, List, [], ◌∷◌, ◌++◌, length, map, take, drop, get_or, Option, Some, None, refl, ap, sym, ◌∙◌, inl, inr, arith, append-nil, append_assoc, zero-add}
-use Rattle.std.specs.Prelude.{◌⊎◌, if◌then◌else◌, ◌==◌, ◌&&◌, ◌||◌, not, nat_le, nat_lt}
-use Rattle.std.specs.List.{list_any, list_all}
+use Rattle.std.proofs.Common.{◌≡◌, ℕ, suc, ◌+◌, ◌-◌, ◌<◌, ◌≤◌, Bool, true, false, List, [], ◌∷◌, ◌++◌, length, refl, ap, sym, ◌∙◌, arith, append-nil}
+use Rattle.std.specs.Prelude.{if◌then◌else◌, ◌==◌, ◌&&◌, not, nat_lt}
+use Rattle.std.specs.List.{list_all}
 use Rattle.std.proofs.Math.Path.{subst}
-use Rattle.std.proofs.lemmas.Bool.{cases_lt}
 use Rattle.std.proofs.lemmas.Bool.Decides.{nat_tests}
-use Rattle.std.proofs.lemmas.List.{map-append}
-use Rattle.sctp_lists.specs.Kept.{kept, passing, first_of}
+use Rattle.sctp_lists.specs.Kept.{kept, passing}
 use Rattle.sctp_lists.proofs.KeptLemmas.{kept-same, kept-none, kept-snoc_in}
 use Rattle.sctp_lists.proofs.More.{fails, not_both, both, and, kept-short}
-use Rattle.sctp_lists.proofs.Cases.{by_same, same-yes, same-is, negated}
+use Rattle.sctp_lists.proofs.Cases.{same-is}
 use Rattle.sctp_lists.proofs.Alls
-use Rattle.sctp_model.specs.World.{Setup, Sack, World}
-use Rattle.sctp_model.specs.Messages
-use Rattle.sctp_model.specs.Receiver.{is_new, cumulative}
-use Rattle.sctp_model.specs.Changes
+use Rattle.sctp_model.specs.World.{World}
 use Rattle.sctp_model.specs.Log
 use Rattle.sctp_model.specs.Log.{Coming, SlotCame, SkipCame, SackMade, Shown}
-use Rattle.sctp_model.specs.Laws.{AllDifferent}
-use Rattle.sctp_model.proofs.Shape.{Shape, MessagePart, shape, has, on, index, sent, parts}
+use Rattle.sctp_model.proofs.Shape.{Shape, shape, has, on, sent, parts}
 use Rattle.sctp_model.proofs.Sender.{Sender}
 use Rattle.sctp_model.proofs.SenderSteps.{of-has}
-use Rattle.sctp_model.proofs.SenderRun.{Sane, sane-came}
 use Rattle.sctp_model.proofs.Grows.{Grows}
-use Rattle.sctp_model.proofs.Network.{NamesFit, same-slot}
-use Rattle.sctp_model.proofs.Written.{shown_part}
-use Rattle.sctp_model.proofs.Events.{Moving, Keeps, moving-of}
-use Rattle.sctp_model.proofs.Arrivals.{Heard, with_arrived}
 use Rattle.sctp_model.proofs.View
 use Rattle.sctp_model.proofs.View.{View, view, all_come, whole_at, arrived_in, noted_in, skipped_in, read_in, line, run, next}
-use Rattle.sctp_model.proofs.Indexes.{on-stream, on-ordered}
-use Rattle.sctp_model.proofs.Names.{view-skip, on-grown}
-use Rattle.sctp_model.proofs.Wholes
-use Rattle.sctp_model.proofs.Wholes.{SlotsCame, whole_in, slots_in, whole-later, whole-come, new-came, were-new, some-kept}
+use Rattle.sctp_model.proofs.Indexes.{on-ordered}
+use Rattle.sctp_model.proofs.Names.{on-grown}
+use Rattle.sctp_model.proofs.Wholes.{SlotsCame, whole_in, slots_in, whole-later, new-came, were-new, some-kept}
 use Rattle.sctp_model.proofs.Known
 use Rattle.sctp_model.proofs.Known.{Known, Whole, Still, IsReady, ReadsWhole, ReadsRun, still-of, hears, differ-more, noting, whole-still}
-use Rattle.sctp_model.proofs.KnownRun.{new-not, hears-new}
-use Rattle.sctp_model.proofs.Ordered
-use Rattle.sctp_model.proofs.Ordered.{Ordered, read-other, read-here, ordered-at, sent-old}
-use Rattle.sctp_model.proofs.Due.{IsDue}
-use Rattle.sctp_model.proofs.Received.{Received, received-keeps}
+use Rattle.sctp_model.proofs.Ordered.{Ordered}
+use Rattle.sctp_lists.proofs.Tests.{all-more}
 
 -- ## Lists
 
@@ -159,7 +144,7 @@ so_far-as s list u v log e f = subst (λ y. SoFar s list y log) (sym e) f
 
 pub so_far-still : (s : ℕ) (list : List ℕ) (u v : View) (log : List Coming) → Still u v → Whole u log → Ordered u → SoFar s list u log → SoFar s list v log
 so_far-still s list u v log t h o f = record {
-  all = Wholes.all-more (was_read u s) (was_read v s) list (λ n e. stays n e) f.all;
+  all = all-more (was_read u s) (was_read v s) list (λ n e. stays n e) f.all;
   ordered = passing-same (was_read u s) (λ n. (v.x.message n).ordered) (λ n. (u.x.message n).ordered) list (λ n e. ap (λ m. m.ordered) (t.grows.message n (was-made u s n e))) f.all ∙ f.ordered ∙ sym lines;
   unordered = whole_list-later u.x v.x t.sender t.sender' t.grows log h.came s ∙ f.unordered
       ∙ ap (λ l. l ++ u.whole s) (sym (passing-same (was_read u s) (λ n. not (v.x.message n).ordered) (λ n. not (u.x.message n).ordered) list (λ n e. ap (λ m. not m.ordered) (t.grows.message n (was-made u s n e))) f.all))

@@ -1,30 +1,24 @@
--- What each change makes of what was read so far.
-use Rattle.std.proofs.Common.{◌≡◌, ℕ, zero, suc, ◌+◌, ◌-◌, ◌<◌, ◌≤◌, Bool, true, false, List, [], ◌∷◌, ◌++◌, length, map, take, drop, Option, Some, None, refl, ap, sym, ◌∙◌, inl, inr, arith, append-nil, append_assoc}
-use Rattle.std.specs.Prelude.{◌⊎◌, if◌then◌else◌, ◌==◌, ◌&&◌, ◌||◌, not, nat_le, nat_lt}
-use Rattle.std.specs.List.{list_any, list_all}
-use Rattle.std.proofs.Math.Path.{subst}
+use Rattle.std.proofs.Common.{◌≡◌, ℕ, ◌+◌, ◌<◌, ◌≤◌, Bool, true, false, List, [], ◌∷◌, ◌++◌, length, map, drop, Some, refl, ap, sym, ◌∙◌, inl, inr, arith, append-nil, append_assoc}
+use Rattle.std.specs.Prelude.{◌⊎◌, if◌then◌else◌, ◌==◌, ◌&&◌, ◌||◌, not, nat_lt}
+use Rattle.std.specs.List.{list_all}
 use Rattle.std.proofs.lemmas.Bool.{cases_lt}
 use Rattle.std.proofs.lemmas.Bool.Decides.{nat_tests}
-use Rattle.std.proofs.lemmas.List.{map-append}
-use Rattle.sctp_lists.specs.Kept.{kept, passing, first_of}
+use Rattle.sctp_lists.specs.Kept.{passing}
 use Rattle.sctp_lists.proofs.KeptLemmas.{kept-same}
 use Rattle.sctp_lists.proofs.More.{fails, not_both, both, and}
-use Rattle.sctp_lists.proofs.Cases.{by_same, same-yes, same-is, negated}
+use Rattle.sctp_lists.proofs.Cases.{by_same, same-yes, same-is}
 use Rattle.sctp_lists.proofs.Alls
 use Rattle.sctp_model.specs.World.{Setup, Sack, World}
 use Rattle.sctp_model.specs.Messages
-use Rattle.sctp_model.specs.Receiver.{is_new, cumulative}
+use Rattle.sctp_model.specs.Receiver.{is_new}
 use Rattle.sctp_model.specs.Changes
-use Rattle.sctp_model.specs.Log
-use Rattle.sctp_model.specs.Log.{Coming, SlotCame, SkipCame, SackMade, Shown}
-use Rattle.sctp_model.specs.Laws.{AllDifferent}
-use Rattle.sctp_model.proofs.Shape.{Shape, MessagePart, shape, has, on, index, sent, parts}
+use Rattle.sctp_model.specs.Log.{Coming, SlotCame, SkipCame, SackMade}
+use Rattle.sctp_model.proofs.Shape.{shape, on}
 use Rattle.sctp_model.proofs.Sender.{Sender}
 use Rattle.sctp_model.proofs.SenderRun.{Sane}
-use Rattle.sctp_model.proofs.Network.{NamesFit, same-slot}
-use Rattle.sctp_model.proofs.Written.{shown_part}
-use Rattle.sctp_model.proofs.Events.{Moving, Keeps, moving-of}
-use Rattle.sctp_model.proofs.Arrivals.{Heard, with_arrived}
+use Rattle.sctp_model.proofs.Network.{NamesFit}
+use Rattle.sctp_model.proofs.Events.{Moving}
+use Rattle.sctp_model.proofs.Arrivals.{with_arrived}
 use Rattle.sctp_model.proofs.View
 use Rattle.sctp_model.proofs.View.{View, view, all_come, whole_at, arrived_in, noted_in, skipped_in, read_in, line, run, next}
 use Rattle.sctp_model.proofs.Indexes.{on-stream, on-ordered}
@@ -34,20 +28,15 @@ use Rattle.sctp_model.proofs.Wholes.{whole_in, due, Hears}
 use Rattle.sctp_model.proofs.Known
 use Rattle.sctp_model.proofs.Known.{Known, Whole, Still, IsReady, ReadsWhole, ReadsRun, still-of, hears, differ-more, noting, ready-first, ready-whole}
 use Rattle.sctp_model.proofs.KnownRun.{new-not, hears-new}
-use Rattle.sctp_model.proofs.Ordered
-use Rattle.sctp_model.proofs.Ordered.{Ordered, read-other, read-here, ordered-at}
+use Rattle.sctp_model.proofs.Ordered.{Ordered, read-other, read-here, ordered-at, stays-read}
 use Rattle.sctp_model.proofs.Due.{IsDue}
 use Rattle.sctp_model.proofs.Received.{Received, received-keeps}
 use Rattle.sctp_model.proofs.SoFar
 use Rattle.sctp_model.proofs.SoFar.{SoFar, was_read, read_on, whole_list, became, off, kept-one, kept-last, passing-append, was-made, so_far-as}
+use Rattle.sctp_lists.proofs.Cases.{or-none, and-none}
+use Rattle.sctp_lists.proofs.Tests.{all-more}
 
-or-none : (a : Bool) → (a || false) ≡ a
-or-none true = refl
-or-none false = refl
-
-ands : (b : Bool) → (b && false) ≡ false
-ands true = refl
-ands false = refl
+-- What each change makes of what was read so far.
 
 -- ## A slot comes new
 
@@ -75,7 +64,7 @@ module _ (v : View) (log : List Coming) (p : ℕ) (a : Sender v.x) (h : Whole v 
       none false c = refl
 
       kind : (b : Bool) → (v.x.message n).ordered ≡ b → became v.x (SlotCame p) log s n ≡ false
-      kind true o = ap (λ b. (((v.x.message n).stream == s) && not b) && (whole_in v.x (SlotCame p ∷ log) n && not (whole_in v.x log n))) o ∙ ap (λ b. b && (whole_in v.x (SlotCame p ∷ log) n && not (whole_in v.x log n))) (ands ((v.x.message n).stream == s))
+      kind true o = ap (λ b. (((v.x.message n).stream == s) && not b) && (whole_in v.x (SlotCame p ∷ log) n && not (whole_in v.x log n))) o ∙ ap (λ b. b && (whole_in v.x (SlotCame p ∷ log) n && not (whole_in v.x log n))) (and-none ((v.x.message n).stream == s))
       kind false o = ap (λ b. off v.x s n && (b && not (whole_in v.x log n))) (whole-now n l o ∙ old o (due v n) refl) ∙ none (off v.x s n) (whole_in v.x log n)
 
   became-here : (s : ℕ) → became v.x (SlotCame p) log s m ≡ (off v.x s m && due v1 m)
@@ -93,7 +82,7 @@ module _ (v : View) (log : List Coming) (p : ℕ) (a : Sender v.x) (h : Whole v 
 
       kind : (b : Bool) → (v.x.message m).ordered ≡ b → became v.x (SlotCame p) log s m ≡ (off v.x s m && due v1 m)
       kind true o =
-          let e : off v.x s m ≡ false = ap (λ b. ((v.x.message m).stream == s) && not b) o ∙ ands ((v.x.message m).stream == s) in
+          let e : off v.x s m ≡ false = ap (λ b. ((v.x.message m).stream == s) && not b) o ∙ and-none ((v.x.message m).stream == s) in
           ap (λ b. b && (whole_in v.x (SlotCame p ∷ log) m && not (whole_in v.x log m))) e ∙ sym (ap (λ b. b && due v1 m) e)
       kind false o =
           ap (λ b. off v.x s m && (b && not (whole_in v.x log m))) (whole-now m made o)
@@ -197,22 +186,15 @@ told-moving setup s list =
 all-one : (t : ℕ → Bool) (xs : List ℕ) (n : ℕ) → list_all t xs ≡ true → t n ≡ true → list_all t (xs ++ n ∷ []) ≡ true
 all-one t xs n a e = Alls.all-append t xs (n ∷ []) a (and (t n) true e refl)
 
-read-stays : (v : View) (s n k : ℕ) → v.read k ≡ true → (read_in v s n).read k ≡ true
-read-stays v s n k e = step (k == n)
-  where
-    step : (b : Bool) → (if b then true else v.read k) ≡ true
-    step true = refl
-    step false = e
-
 was-stays : (v : View) (s t n k : ℕ) → was_read v s k ≡ true → was_read (read_in v t n) s k ≡ true
 was-stays v s t n k e =
     let a = both (nat_lt k v.x.count && ((v.x.message k).stream == s)) (v.read k) e in
-    and (nat_lt k v.x.count && ((v.x.message k).stream == s)) ((read_in v t n).read k) a.0 (read-stays v t n k a.1)
+    and (nat_lt k v.x.count && ((v.x.message k).stream == s)) ((read_in v t n).read k) a.0 (stays-read v t n k a.1)
 
 -- on another stream
 pub so_far-elsewhere : (v : View) (log : List Coming) (s t n : ℕ) (list : List ℕ) → (v.x.message n).stream ≡ t → (t == s) ≡ false → SoFar s list v log → SoFar s list (read_in v t n) log
 so_far-elsewhere v log s t n list on-it ne f = record {
-  all = Wholes.all-more (was_read v s) (was_read (read_in v t n) s) list (λ k e. was-stays v s t n k e) f.all;
+  all = all-more (was_read v s) (was_read (read_in v t n) s) list (λ k e. was-stays v s t n k e) f.all;
   ordered = f.ordered ∙ sym (kept-same (read_on (read_in v t n) s) (read_on v s) 0 v.x.count (λ k a b. by_same {P = read_on (read_in v t n) s k ≡ read_on v s k} k n (λ e. gone k e) (λ z y. ap (λ c. on v.x s k && c) (read-other v t n k z))));
   unordered = f.unordered ∙ ap (λ l. passing (λ n. not (v.x.message n).ordered) list ++ l) (sym (ap (λ b. if b then drop 1 (v.whole s) else v.whole s) (fails (s == t) (λ e. not_both (sym ne ∙ (let z = same-is s t e in ap (λ k. k == s) (sym z) ∙ same-yes s))))));
 }
@@ -233,7 +215,7 @@ read-all v log s n list r f =
     let l = r.made in
     let low : nat_lt n v.x.count ≡ true = grind (arith, nat_tests) in
     let on-it : ((v.x.message n).stream == s) ≡ true = ap (λ k. k == s) r.stream ∙ same-yes s in
-    all-one (was_read (read_in v s n) s) list n (Wholes.all-more (was_read v s) (was_read (read_in v s n) s) list (λ k e. was-stays v s s n k e) f.all)
+    all-one (was_read (read_in v s n) s) list n (all-more (was_read v s) (was_read (read_in v s n) s) list (λ k e. was-stays v s s n k e) f.all)
     (and (nat_lt n v.x.count && ((v.x.message n).stream == s)) ((read_in v s n).read n) (and (nat_lt n v.x.count) ((v.x.message n).stream == s) low on-it) (read-here v s n))
 
 pub so_far-unordered : (v : View) (log : List Coming) (s n : ℕ) (list : List ℕ) → Whole v log → ReadsWhole v s n → SoFar s list v log → SoFar s (list ++ n ∷ []) (read_in v s n) log
@@ -266,7 +248,7 @@ so_far-ordered v log s n list o r d f =
     record {
       all = read-all v log s n list q f;
       ordered = passing-append (λ k. (v.x.message k).ordered) list (n ∷ []) ∙ ap (λ b. passing (λ k. (v.x.message k).ordered) list ++ (if b then n ∷ [] else [])) kind ∙ ap (λ l. l ++ n ∷ []) f.ordered
-          ∙ sym (kept-last (read_on v s) (read_on (read_in v s n) s) n v.x.count d.made (ap (λ b. on v.x s n && b) d.unread ∙ ands (on v.x s n)) (and (on v.x s n) ((read_in v s n).read n) d.on_it (read-here v s n))
+          ∙ sym (kept-last (read_on v s) (read_on (read_in v s n) s) n v.x.count d.made (ap (λ b. on v.x s n && b) d.unread ∙ and-none (on v.x s n)) (and (on v.x s n) ((read_in v s n).read n) d.on_it (read-here v s n))
           (λ k lt z. ap (λ c. on v.x s k && c) (read-other v s n k z))
           (λ k lt e. let c = both (on v.x s k) (v.read k) e in below k lt c.0 c.1 (cases_lt k n) (cases_lt n k)));
       unordered = f.unordered ∙ ap (λ l. passing (λ k. not (v.x.message k).ordered) list ++ l) r.none

@@ -1,5 +1,5 @@
 -- In every state the indexes that 16-bit numbers must tell apart lie within half a circle.
-use Rattle.std.proofs.Common.{◌≡◌, ℕ, zero, suc, ◌+◌, ◌-◌, ◌<◌, ◌≤◌, ◌^◌, Bool, true, false, List, [], ◌∷◌, ◌++◌, length, map, Option, Some, None, refl, ap, sym, ◌∙◌, inl, inr, arith, append-nil, drop}
+use Rattle.std.proofs.Common.{◌≡◌, ℕ, zero, suc, ◌+◌, ◌<◌, ◌≤◌, ◌^◌, Bool, true, false, List, [], ◌∷◌, ◌++◌, length, map, Option, Some, None, refl, ap, sym, ◌∙◌, inl, inr, arith, append-nil, drop}
 use Rattle.std.specs.Prelude.{◌⊎◌, if◌then◌else◌, ◌==◌, ◌&&◌, ◌||◌, not, min, max, nat_lt, nat_le, find, is_some, unwrap_or, slice_get}
 use Rattle.std.specs.List.{list_any, list_all}
 use Rattle.std.proofs.Math.Path.{subst}
@@ -23,11 +23,10 @@ use Rattle.sctp_model.specs.Steps.{History, world_of, IsRun, refusal_of, after, 
 use Rattle.sctp_model.specs.Log
 use Rattle.sctp_model.specs.Log.{Coming}
 use Rattle.sctp_model.specs.Laws.{IsSetup, OnEveryRun, SpansFit}
-use Rattle.sctp_model.proofs.Shape.{Shape, shape, on, index, sent, parts}
+use Rattle.sctp_model.proofs.Shape.{shape, on, index, sent}
 use Rattle.sctp_model.proofs.Sender.{Sender}
-use Rattle.sctp_lists.proofs.Cases.{by_same, same-yes, same-is, negated}
+use Rattle.sctp_lists.proofs.Cases.{by_same, negated}
 use Rattle.sctp_model.proofs.SenderRun.{Sane, sane-run, sane-after, unless-holds, found}
-use Rattle.sctp_model.proofs.Slots.{sent-made}
 use Rattle.sctp_model.proofs.Moves.{Quiet, quiet-written, quiet-started, quiet-sent, quiet-expire, quiet-tail, quiet-lates, quiet-abandoned}
 use Rattle.sctp_model.proofs.View
 use Rattle.sctp_model.proofs.View.{View, view, come_count, all_come, whole_at, held, line, next, read_in}
@@ -36,7 +35,7 @@ use Rattle.sctp_model.proofs.Known
 use Rattle.sctp_model.proofs.Known.{Still, Whole, ReadsWhole, ReadsRun, reads, still-of, come-still, come-sent, whole-still, whole-read}
 use Rattle.sctp_model.proofs.Ordered
 use Rattle.sctp_model.proofs.Ordered.{Ordered, next-still, read-other}
-use Rattle.sctp_model.proofs.Due.{IsDue, is_due}
+use Rattle.sctp_model.proofs.Due.{IsDue}
 use Rattle.sctp_model.proofs.Received.{Received, received-run}
 use Rattle.sctp_lists.proofs.Cases.{by_same, negated}
 
