@@ -1,17 +1,16 @@
 -- The record of every history is sound.
-use Rattle.std.proofs.Common.{◌≡◌, ℕ, zero, suc, ◌+◌, ◌-◌, ◌<◌, ◌≤◌, ◌^◌, Bool, true, false, List, [], ◌∷◌, ◌++◌, length, map, take, drop, get_or, Option, Some, None, refl, ap, sym, ◌∙◌, inl, inr, arith, zero-add, append_assoc}
+use Rattle.std.proofs.Common.{◌≡◌, ℕ, zero, suc, ◌+◌, ◌-◌, ◌<◌, ◌≤◌, Bool, true, false, List, [], ◌∷◌, ◌++◌, length, map, drop, get_or, Option, Some, None, refl, ap, sym, ◌∙◌, inl, inr, arith, zero-add}
 use Rattle.std.specs.Prelude.{◌⊎◌, if◌then◌else◌, ◌==◌, ◌&&◌, ◌||◌, not, nat_le, nat_lt, fold, slice_get, find, is_some}
-use Rattle.std.specs.List.{list_any, list_all}
+use Rattle.std.specs.List.{list_any}
 use Rattle.std.proofs.Math.Path.{subst}
 use Rattle.std.proofs.lemmas.Bool.{cases_lt}
 use Rattle.std.proofs.lemmas.Bool.Decides.{nat_tests}
-use Rattle.sctp_lists.specs.Kept.{kept, always, leading, passing, total_over, numbers_from}
-use Rattle.sctp_lists.proofs.KeptLemmas.{length-kept-lt, length-kept-le}
-use Rattle.sctp_lists.proofs.More.{fails, not_both, both, and}
+use Rattle.sctp_lists.specs.Kept.{kept, always, leading, passing}
+use Rattle.sctp_lists.proofs.KeptLemmas.{length-kept-lt}
+use Rattle.sctp_lists.proofs.More.{not_both, both, and}
 use Rattle.sctp_lists.proofs.Cases.{same-yes, same-is, negated, or-right, or-split}
 use Rattle.sctp_lists.proofs.Places.{kept-get}
 use Rattle.sctp_lists.proofs.Getting.{get-beyond}
-use Rattle.sctp_lists.proofs.Alls
 use Rattle.sctp_lists.proofs.Rows.{IsRow}
 use Rattle.sctp_lists.proofs.Totals.{total-at, length-numbers}
 use Rattle.sctp_model.specs.declared.event.Event.TheVariants as E
@@ -21,11 +20,11 @@ use Rattle.sctp_model.specs.World as W
 use Rattle.sctp_model.specs.Messages
 use Rattle.sctp_model.specs.Receiver
 use Rattle.sctp_model.specs.Changes
-use Rattle.sctp_model.specs.Steps.{History, world_of, IsRun, refusal_of, unless, is_for_receiver, arrival_fits, adds_to_span}
+use Rattle.sctp_model.specs.Steps.{world_of, refusal_of, unless, is_for_receiver, arrival_fits, adds_to_span}
 use Rattle.sctp_model.specs.Log
 use Rattle.sctp_model.specs.Log.{Coming}
-use Rattle.sctp_model.specs.Laws.{IsSetup, OnEveryRun}
-use Rattle.sctp_model.specs.Sound.{IsLaid, IsSpan, Sound, SoundLoose, InOrder, AllFragments, IsNamable, AllNamable, SoundNetwork, IsSound, RecordIsSound, ComesSound, SlotsComeSound, SkipsComeSound}
+use Rattle.sctp_model.specs.Laws.{OnEveryRun}
+use Rattle.sctp_model.specs.Sound.{IsLaid, IsSpan, Sound, SoundLoose, InOrder, AllFragments, AllNamable, RecordIsSound, SlotsComeSound, SkipsComeSound}
 use Rattle.sctp_lists.specs.Lists.{pieces}
 use Rattle.sctp_model.proofs.SenderEnds.{sent-none}
 use Rattle.sctp_model.proofs.Shape.{Shape, shape, has, sent, parts, on, index}
@@ -36,7 +35,6 @@ use Rattle.sctp_model.proofs.Few.{few}
 use Rattle.sctp_model.proofs.SenderRun.{Sane, sane-run, sane-came, unless-holds, found, open-mapped}
 use Rattle.sctp_model.proofs.Network
 use Rattle.sctp_model.proofs.Network.{SlotsFit, NamesFit, fit-at, fit-run}
-use Rattle.sctp_model.proofs.Events.{Moving}
 use Rattle.sctp_model.proofs.View
 use Rattle.sctp_model.proofs.View.{View, view, come_count, all_come, whole_at, held, next, line}
 use Rattle.sctp_model.proofs.Arrivals.{with_arrived, new-unseen}
