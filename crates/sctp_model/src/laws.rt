@@ -71,7 +71,7 @@ pub fn lifetimes_end()
     ensures late { OnEveryRun LateAbandonsListed }
 {}
 
-/// Where nothing expires, is abandoned or skipped, two histories with the same messages and the same fragments arrived read, in the end, the same ordered messages, and the same set of unordered ones.
+/// Where nothing expires, is abandoned or skipped, two histories with the same writes, in the same modes, and the same fragments arrived read, in the end, the same ordered messages, and the same set of unordered ones.
 pub fn reads_are_settled()
     ensures settled { ReadsAreSettled }
 {}
