@@ -34,6 +34,7 @@ pub mod Shown
 pub mod SoFar
 pub mod SoFarSteps
 pub mod ReadLaws
+pub mod SoundRun
 pub mod Counted
 pub mod Lossless
 pub mod Composed

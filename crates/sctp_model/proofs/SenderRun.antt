@@ -49,7 +49,7 @@ sane-shape setup own x y rs e g = subst (λ z. SaneIn setup own z rs) (sym e) g
 
 -- ## Streams
 
-open-mapped : (f : StreamRecord → StreamRecord) (s : ℕ) (rs : List StreamRecord) → ((r : StreamRecord) → (f r).stream ≡ r.stream) → open_in (map f rs) s ≡ open_in rs s
+pub open-mapped : (f : StreamRecord → StreamRecord) (s : ℕ) (rs : List StreamRecord) → ((r : StreamRecord) → (f r).stream ≡ r.stream) → open_in (map f rs) s ≡ open_in rs s
 open-mapped f s [] keeps = refl
 open-mapped f s (r ∷ rs) keeps = step ((f r).stream == s) (r.stream == s) (ap (λ t. t == s) (keeps r)) (open-mapped f s rs keeps)
   where

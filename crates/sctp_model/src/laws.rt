@@ -1,6 +1,7 @@
 //! What holds of every history of a link: laws, each the contract of a function that does nothing.
 
 ghost use Rattle.sctp_model.specs.Laws.{OnEveryRun, EmitsWherePending, TakesPending, SlotsInOrder, SlotsFollow, OneHalfSent, SentInTurn, IndexesLeaveNoGap, NoEndMarkIsSent, DatagramsStay, Balances, SumsAreTold, AcknowledgedArrived, AcknowledgedIsReported, SacksSay, NetworkIsMade, ArrivedIsNew, CumulativeIsSeen, ArrivalsAnswered, WholeIsWhole, NamedIsNamed, SpansFit, MessagesAreWrites, ModesAreKept, ReadsShowMessages, ReadsBeginRun, ReadsBeginWholeRun, ReadsBeginWhole, ReadsDiffer, UnorderedFirst, NothingWhereRead, StartsOnce, LateAbandonsListed, ReadsAreSettled, CountersAreSums, Headline, Beside, ReliableDelivery, PartialDelivery};
+ghost use Rattle.sctp_model.specs.Sound.{RecordIsSound, SlotsComeSound, SkipsComeSound};
 
 /// A Send answers Idle exactly where no fragment is pending; else its new datagram carries the pending fragments that it takes.
 pub fn each_send_emits()
@@ -78,6 +79,13 @@ pub fn reads_are_settled()
 /// The counters of a stream are the saturated sums over its writes and its reads.
 pub fn counters_count()
     ensures sums { OnEveryRun CountersAreSums }
+{}
+
+/// The record of every history is what a receiver's queues need: fragments side by side, indexes near one another, nothing new below what was skipped; so is each state between the slots of a datagram.
+pub fn records_are_sound()
+    ensures sound { OnEveryRun RecordIsSound }
+    ensures slots { OnEveryRun SlotsComeSound }
+    ensures skips { OnEveryRun SkipsComeSound }
 {}
 
 /// What holds of every history of a link, for every first TSN, fragment size, greatest message and limit: each Send emits a pending fragment while one exists; reading until nothing is left gives exactly each whole unordered message once and, per stream in writing order, the whole ordered messages up to the last named, then the unbroken whole run; only what arrived or was skipped is acknowledged; written bytes equal pending plus in flight plus released. Beside it: slots, arrivals, lifetimes, counters, and delivery without loss.
