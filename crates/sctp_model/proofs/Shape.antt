@@ -1,0 +1,106 @@
+-- What the sender's laws speak of: messages and slots without the flags that the receiver and the network set.
+use Rattle.std.proofs.Common.{◌≡◌, ℕ, zero, suc, ◌+◌, ◌-◌, ◌<◌, ◌≤◌, Bool, true, false, List, [], ◌∷◌, ◌++◌, length, map, get_or, Option, Some, None, refl, ap, sym, ◌∙◌, inl, inr, arith}
+use Rattle.std.proofs.Math.Path.{fun_ext}
+use Rattle.std.specs.Prelude.{◌⊎◌, if◌then◌else◌, ◌==◌, ◌&&◌, ◌||◌, not, nat_lt}
+use Rattle.std.proofs.lemmas.Bool.Decides.{nat_tests}
+use Rattle.sctp_lists.specs.Kept.{kept, first_of, or_else}
+use Rattle.sctp_lists.specs.Lists.{changed, each_numbered, pieces}
+use Rattle.sctp_lists.proofs.More.{length-changed, changed-keeps}
+use Rattle.sctp_chunks.specs.declared.chunk.chunk_payload_data.PayloadProtocolIdentifier.{PayloadProtocolIdentifier}
+use Rattle.sctp_model.specs.World.{Message, Slot, World}
+use Rattle.sctp_model.specs.Messages
+use Rattle.sctp_model.specs.Messages.{message_at, slot_at, no_message, no_slot}
+
+-- a message as it was written, and whether it was given up
+pub record MessagePart : Type 0 where
+  pub stream : ℕ
+  pub ordered : Bool
+  pub ppi : PayloadProtocolIdentifier
+  pub bytes : List ℕ
+  pub before : ℕ
+  pub expired : Bool
+  pub abandoned : Bool
+
+abbrev pub message_part : Message → MessagePart
+message_part m = record { stream = m.stream; ordered = m.ordered; ppi = m.ppi; bytes = m.bytes; before = m.before; expired = m.expired; abandoned = m.abandoned }
+
+-- what a slot is for
+pub record SlotPart : Type 0 where
+  pub message : ℕ
+  pub fragment : ℕ
+  pub is_end_mark : Bool
+
+abbrev pub slot_part : Slot → SlotPart
+slot_part x = record { message = x.message; fragment = x.fragment; is_end_mark = x.is_end_mark }
+
+-- the messages and slots of a record
+pub record Shape : Type 0 where
+  pub size : ℕ
+  pub count : ℕ
+  pub message : ℕ → MessagePart
+  pub slots : ℕ
+  pub slot : ℕ → SlotPart
+
+abbrev pub shape : World → Shape
+shape w = record { size = w.setup.size; count = length w.messages; message = λ n. message_part (message_at w n); slots = length w.slots; slot = λ p. slot_part (slot_at w p) }
+
+-- ## The words of the record, over its shape
+
+abbrev pub has : Shape → ℕ → ℕ → Bool
+has x n p = ((x.slot p).message == n) && not (x.slot p).is_end_mark
+
+abbrev pub sent : Shape → ℕ → ℕ
+sent x n = length (kept (has x n) 0 x.slots)
+
+abbrev pub parts : Shape → ℕ → ℕ
+parts x n = length (pieces (length (x.message n).bytes) x.size (x.message n).bytes)
+
+abbrev pub half : Shape → ℕ → Bool
+half x n = nat_lt 0 (sent x n) && (nat_lt (sent x n) (parts x n) && not (x.message n).abandoned)
+
+abbrev pub unsent : Shape → ℕ → Bool
+unsent x n = (sent x n == 0) && not (x.message n).expired
+
+abbrev pub on : Shape → ℕ → ℕ → Bool
+on x s n = ((x.message n).stream == s) && ((x.message n).ordered && not (x.message n).expired)
+
+abbrev pub index : Shape → ℕ → ℕ
+index x n = length (kept (on x (x.message n).stream) 0 n)
+
+abbrev pub front_of : Shape → Option ℕ
+front_of x =
+    or_else (first_of (kept (half x) 0 x.count))
+    (or_else (first_of (kept (λ n. unsent x n && not (x.message n).ordered) 0 x.count))
+    (first_of (kept (λ n. unsent x n && (x.message n).ordered) 0 x.count)))
+
+sent-is : (w : World) (n : ℕ) → Messages.sent_of w n ≡ sent (shape w) n
+sent-is w n = refl
+
+front-is : (w : World) → Messages.front w ≡ front_of (shape w)
+front-is w = refl
+
+index-is : (w : World) (n : ℕ) → Messages.index_of w n ≡ index (shape w) n
+index-is w n = refl
+
+-- ## Changes of a shape
+
+-- one more slot
+abbrev pub slotted : Shape → ℕ → Bool → Shape
+slotted x n is_end_mark =
+    record x { slots = x.slots + 1; slot = λ p. if p == x.slots then record { message = n; fragment = sent x n; is_end_mark = is_end_mark } else x.slot p }
+
+-- another message n
+abbrev pub flagged : Shape → ℕ → (MessagePart → MessagePart) → Shape
+flagged x n f = record x { message = λ k. if k == n then f (x.message k) else x.message k }
+
+-- one more message
+abbrev pub written : Shape → MessagePart → Shape
+written x m = record x { count = x.count + 1; message = λ k. if k == x.count then m else x.message k }
+
+-- message n abandoned
+abbrev pub abandoned_at : Shape → ℕ → Shape
+abandoned_at x n = record x { message = λ k. record (x.message k) { abandoned = (k == n) || (x.message k).abandoned } }
+
+-- message n expired
+abbrev pub expired_at : Shape → ℕ → Shape
+expired_at x n = record x { message = λ k. record (x.message k) { expired = (k == n) || (x.message k).expired } }

@@ -1,0 +1,154 @@
+-- The slots of a message, in words of their own.
+use Rattle.std.proofs.Common.{◌≡◌, ℕ, zero, suc, ◌+◌, ◌-◌, ◌<◌, ◌≤◌, Bool, true, false, List, [], ◌∷◌, ◌++◌, length, map, Option, Some, None, refl, ap, sym, ◌∙◌, inl, inr, arith, append-nil, length-append}
+use Rattle.std.specs.Prelude.{◌⊎◌, if◌then◌else◌, ◌==◌, ◌&&◌, not, nat_lt}
+use Rattle.std.proofs.lemmas.Bool.{cases_lt}
+use Rattle.std.proofs.lemmas.Bool.Decides.{nat_tests}
+use Rattle.std.proofs.lemmas.List.{map-append}
+use Rattle.sctp_lists.specs.Kept.{kept, always, numbers_from, first_of}
+use Rattle.sctp_lists.proofs.KeptLemmas.{kept-same, kept-none, kept-snoc_in, kept-snoc_out}
+use Rattle.sctp_lists.proofs.More.{fails, not_both, both, and, same_test}
+use Rattle.sctp_model.specs.World.{World}
+use Rattle.sctp_model.specs.Messages
+use Rattle.sctp_model.specs.Steps.{world_of}
+use Rattle.sctp_model.specs.Laws.{OnEveryRun, SlotsInOrder, SlotsFollow, OneHalfSent, SentInTurn, IndexesLeaveNoGap}
+use Rattle.sctp_model.proofs.Shape.{Shape, shape, has, sent, parts, half, on, index}
+use Rattle.sctp_model.proofs.Sender.{Sender}
+use Rattle.sctp_model.proofs.SenderSteps.{by_same, same-yes, same-is, negated, of-has, sent-some, half-one}
+use Rattle.sctp_model.proofs.SenderEnds.{sent-none}
+use Rattle.sctp_model.proofs.SenderRun.{sane-run}
+use Rattle.sctp_model.proofs.Shapes.{get-beyond}
+use Rattle.sctp_model.proofs.Totals.{length-numbers}
+
+-- ## Lists
+
+-- what counts the kept numbers before each of them gives 0, 1, ..
+pub numbered : (f : ℕ → ℕ) (t : ℕ → Bool) (count : ℕ) → ((k : ℕ) → k < count → t k ≡ true → f k ≡ length (kept t 0 k)) → map f (kept t 0 count) ≡ kept always 0 (length (kept t 0 count))
+numbered f t zero h = refl
+numbered f t (suc count) h = step (t count) refl (numbered f t count (λ k lt e. h k (omega arith) e))
+  where
+    step : (b : Bool) → t count ≡ b → map f (kept t 0 count) ≡ kept always 0 (length (kept t 0 count)) → map f (kept t 0 (suc count)) ≡ kept always 0 (length (kept t 0 (suc count)))
+    step false e ih = let z = kept-snoc_out t 0 count count (omega arith) e in ap (map f) z ∙ ih ∙ ap (λ l. kept always 0 (length l)) (sym z)
+    step true e ih =
+        let z = kept-snoc_in t 0 count count (omega arith) e in
+        let n = length (kept t 0 count) in
+        ap (map f) z ∙ map-append f (kept t 0 count) (count ∷ []) ∙ ap (λ l. l ++ f count ∷ []) ih ∙ ap (λ c. kept always 0 n ++ c ∷ []) (h count (omega arith) e)
+        ∙ sym (ap (λ l. kept always 0 (length l)) z ∙ ap (kept always 0) (let l : length (kept t 0 count ++ count ∷ []) ≡ suc n = omega (arith, length-append (kept t 0 count) (count ∷ [])) in l) ∙ kept-snoc_in always 0 n n (omega arith) refl)
+
+-- where each kept number but the first has the one before it beside it, they are a row
+pub record IsRow (t : ℕ → Bool) (count : ℕ) : Type 0 where
+  pub from : ℕ
+  pub many : ℕ
+  pub is : kept t 0 count ≡ kept always from many
+  pub ends : 0 < many → t count ≡ true → from + many ≡ count
+
+pub row : (t : ℕ → Bool) (count : ℕ) → ((k : ℕ) → k < count → t k ≡ true → 0 < length (kept t 0 k) → (q : ℕ) × (k ≡ q + 1) × (t q ≡ true)) → ((k : ℕ) → count ≤ k → t k ≡ false) → IsRow t count
+row t count beside past = upto count (omega arith)
+  where
+    longer : (c : ℕ) → c < count → (r : IsRow t c) → (b : Bool) → t c ≡ b → (0 < r.many) ⊎ (r.many ≤ 0) → IsRow t (suc c)
+    longer c lt r true e (inl pos) = record {
+      from = r.from;
+      many = suc r.many;
+      is = kept-snoc_in t 0 c c (omega arith) e ∙ ap (λ l. l ++ c ∷ []) r.is ∙ sym (kept-snoc_in always r.from r.many c (omega (arith, r.ends pos e)) refl);
+      ends = λ p f. omega (arith, r.ends pos e);
+    }
+    longer c lt r true e (inr z) = record {
+      from = c;
+      many = 1;
+      is = kept-snoc_in t 0 c c (omega arith) e ∙ ap (λ l. l ++ c ∷ []) (r.is ∙ ap (kept always r.from) (let y : r.many ≡ 0 = omega arith in y));
+      ends = λ p f. omega arith;
+    }
+    longer c lt r false e s = record {
+      from = r.from;
+      many = r.many;
+      is = kept-snoc_out t 0 c c (omega arith) e ∙ r.is;
+      ends = λ p f. absurd (gap p f (cases_lt (suc c) count));
+    }
+      where
+        some : 0 < r.many → 0 < length (kept t 0 (suc c))
+        some p = omega (arith, ap length (kept-snoc_out t 0 c c (omega arith) e), ap length r.is, length-numbers r.from r.many)
+
+        gap : 0 < r.many → t (suc c) ≡ true → (suc c < count) ⊎ (count ≤ suc c) → ⊥
+        gap p f (inr g) = not_both (sym (past (suc c) g) ∙ f)
+        gap p f (inl l) = let b = beside (suc c) l f (some p) in let same : b.0 ≡ c = omega (arith, b.1) in not_both (sym e ∙ ap t (sym same) ∙ b.2)
+
+    upto : (c : ℕ) → c ≤ count → IsRow t c
+    upto zero le = record { from = 0; many = 0; is = refl; ends = λ p f. absurd (omega arith) }
+    upto (suc c) le = let r = upto c (omega arith) in longer c (omega arith) r (t c) refl (cases_lt 0 r.many)
+
+-- numbers of which any two are the same: one at most
+at-most-one : (t : ℕ → Bool) (from count : ℕ) → ((j k : ℕ) → t j ≡ true → t k ≡ true → j ≡ k) → length (kept t from count) ≤ 1
+at-most-one t from zero h = omega arith
+at-most-one t from (suc count) h = step (t from) refl (at-most-one t (from + 1) count h)
+  where
+    step : (b : Bool) → t from ≡ b → length (kept t (from + 1) count) ≤ 1 → length (if b then from ∷ kept t (from + 1) count else kept t (from + 1) count) ≤ 1
+    step false e ih = ih
+    step true e ih = let z = kept-none t (from + 1) count (λ k a b. fails (t k) (λ f. absurd (omega (arith, h from k e f)))) in rw z (omega arith)
+
+-- ## Slots
+
+pub beyond-slots : (w : World) (n p : ℕ) → length w.slots ≤ p → has (shape w) n p ≡ false
+beyond-slots w n p le = fails (has (shape w) n p) (λ h. not_both (sym (of-has (shape w) n p h).1 ∙ ap (λ s. s.is_end_mark) (get-beyond w.slots p Messages.no_slot le)))
+
+pub slots-row : (w : World) (n : ℕ) → Sender (shape w) → IsRow (has (shape w) n) (length w.slots)
+slots-row w n s = row (has (shape w) n) (length w.slots) (λ k lt e pos.
+    let o = of-has (shape w) n k e in
+    let f : (Messages.slot_at w k).fragment ≡ length (kept (has (shape w) n) 0 k) = s.number k lt ∙ ap (λ m. length (kept (has (shape w) m) 0 k)) o.0 in
+    let b = s.beside k lt o.1 (omega (arith, f, pos)) in
+    (b.0, b.1, ap (λ m. has (shape w) m b.0) (sym o.0) ∙ b.2)) (λ k le. beyond-slots w n k le)
+
+pub slots_in_order : OnEveryRun SlotsInOrder
+slots_in_order setup h is run n lt =
+    let s = (sane-run setup h run).sender in (
+      numbered (λ p. (Messages.slot_at (world_of setup h) p).fragment) (has (shape (world_of setup h)) n) (length (world_of setup h).slots)
+          (λ k l e. s.number k l ∙ ap (λ m. length (kept (has (shape (world_of setup h)) m) 0 k)) (of-has (shape (world_of setup h)) n k e).0),
+      (s.within n lt, s.marks n lt),
+    )
+
+pub slots_follow : OnEveryRun SlotsFollow
+slots_follow setup h is run n place e =
+    let r = slots-row (world_of setup h) n (sane-run setup h run).sender in
+    r.is ∙ ap (λ l. kept always l r.many) (first r.from r.many (sym (ap first_of r.is) ∙ e)) ∙ ap (kept always place) (sym (length-numbers r.from r.many) ∙ ap length (sym r.is))
+  where
+    first : (from many : ℕ) → first_of (kept always from many) ≡ Some place → from ≡ place
+    first from zero e = cc
+    first from (suc many) e = cc
+
+pub one_half_sent : OnEveryRun OneHalfSent
+one_half_sent setup h is run = let s = (sane-run setup h run).sender in at-most-one (half (shape (world_of setup h))) 0 (length (world_of setup h).messages) (λ j k a b. half-one (shape (world_of setup h)) j k s a b)
+
+pub sent-made : (x : Shape) (n : ℕ) → Sender x → 0 < sent x n → n < x.count
+sent-made x n s pos = step (cases_lt n x.count)
+  where
+    step : (n < x.count) ⊎ (x.count ≤ n) → n < x.count
+    step (inl l) = l
+    step (inr g) = absurd (omega (arith, sent-none x n s g))
+
+pub sent_in_turn : OnEveryRun SentInTurn
+sent_in_turn setup h is run s m n lt a b pos = let g = (sane-run setup h run).sender in g.turn s m n lt (sent-made (shape (world_of setup h)) n g pos) a b pos
+
+-- a message that was sent did not expire
+pub sent-alive : (x : Shape) (n : ℕ) → Sender x → 0 < sent x n → (x.message n).expired ≡ false
+sent-alive x n s pos = fails (x.message n).expired (λ e. absurd (omega (arith, s.expired_unsent n (sent-made x n s pos) e)))
+
+-- among those before a sent one, those that did not expire are those that were sent
+indexed : (x : Shape) (m n : ℕ) → Sender x → m < n → (x.message n).ordered ≡ true → 0 < sent x n → on x (x.message n).stream m ≡ (((x.message m).stream == (x.message n).stream) && ((x.message m).ordered && nat_lt 0 (sent x m)))
+indexed x m n s lt ord pos = step ((x.message m).stream == (x.message n).stream) (x.message m).ordered refl refl
+  where
+    made : n < x.count
+    made = sent-made x n s pos
+
+    here : on x (x.message n).stream n ≡ true
+    here = and ((x.message n).stream == (x.message n).stream) ((x.message n).ordered && not (x.message n).expired) (same-yes (x.message n).stream) (and (x.message n).ordered (not (x.message n).expired) ord (ap not (sent-alive x n s pos)))
+
+    step : (a b : Bool) → ((x.message m).stream == (x.message n).stream) ≡ a → (x.message m).ordered ≡ b → (a && (b && not (x.message m).expired)) ≡ (a && (b && nat_lt 0 (sent x m)))
+    step false b p q = refl
+    step true false p q = refl
+    step true true p q = same_test (not (x.message m).expired) (nat_lt 0 (sent x m))
+        (λ e. let l : 0 < sent x m = s.turn (x.message n).stream m n lt made (and ((x.message m).stream == (x.message n).stream) ((x.message m).ordered && not (x.message m).expired) p (and (x.message m).ordered (not (x.message m).expired) q e)) here pos in grind (arith, nat_tests))
+        (λ e. let l : 0 < sent x m = grind (arith, nat_tests) in ap not (sent-alive x m s l))
+
+pub indexes_leave_no_gap : OnEveryRun IndexesLeaveNoGap
+indexes_leave_no_gap setup h is run n ord pos =
+    let x = shape (world_of setup h) in
+    let s = (sane-run setup h run).sender in
+    ap length (kept-same (on x (x.message n).stream) (λ m. ((x.message m).stream == (x.message n).stream) && ((x.message m).ordered && nat_lt 0 (sent x m))) 0 n (λ m a b. indexed x m n s (omega arith) ord pos))

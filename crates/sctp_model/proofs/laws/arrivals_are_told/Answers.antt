@@ -1,0 +1,17 @@
+use Rattle.sctp_model.proofs.LoggedRun.{network_is_made}
+use Rattle.sctp_model.proofs.LoggedRun.{arrived_is_new}
+use Rattle.sctp_model.proofs.LoggedRun.{cumulative_is_seen}
+use Rattle.sctp_model.proofs.LoggedRun.{arrivals_answered}
+use Rattle.sctp_model.proofs.laws.arrivals_are_told.Goals as goal
+
+pub returns-clause-network : goal.returns-clause-network
+returns-clause-network c = network_is_made
+
+pub returns-clause-arrived : goal.returns-clause-arrived
+returns-clause-arrived c = arrived_is_new
+
+pub returns-clause-cumulative : goal.returns-clause-cumulative
+returns-clause-cumulative c = cumulative_is_seen
+
+pub returns-clause-answered : goal.returns-clause-answered
+returns-clause-answered c = arrivals_answered

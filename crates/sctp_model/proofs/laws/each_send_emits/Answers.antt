@@ -1,0 +1,9 @@
+use Rattle.sctp_model.proofs.Sends.{emits_where_pending}
+use Rattle.sctp_model.proofs.Sends.{takes_pending}
+use Rattle.sctp_model.proofs.laws.each_send_emits.Goals as goal
+
+pub returns-clause-idle : goal.returns-clause-idle
+returns-clause-idle c = emits_where_pending
+
+pub returns-clause-takes : goal.returns-clause-takes
+returns-clause-takes c = takes_pending

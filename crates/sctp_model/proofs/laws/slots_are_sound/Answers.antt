@@ -1,0 +1,29 @@
+use Rattle.sctp_model.proofs.Slots.{slots_in_order}
+use Rattle.sctp_model.proofs.Slots.{slots_follow}
+use Rattle.sctp_model.proofs.Slots.{one_half_sent}
+use Rattle.sctp_model.proofs.Slots.{sent_in_turn}
+use Rattle.sctp_model.proofs.Slots.{indexes_leave_no_gap}
+use Rattle.sctp_model.proofs.Network.{no_end_mark_is_sent}
+use Rattle.sctp_model.proofs.Network.{datagrams_stay}
+use Rattle.sctp_model.proofs.laws.slots_are_sound.Goals as goal
+
+pub returns-clause-in_order : goal.returns-clause-in_order
+returns-clause-in_order c = slots_in_order
+
+pub returns-clause-follow : goal.returns-clause-follow
+returns-clause-follow c = slots_follow
+
+pub returns-clause-one_half_sent : goal.returns-clause-one_half_sent
+returns-clause-one_half_sent c = one_half_sent
+
+pub returns-clause-in_turn : goal.returns-clause-in_turn
+returns-clause-in_turn c = sent_in_turn
+
+pub returns-clause-no_gap : goal.returns-clause-no_gap
+returns-clause-no_gap c = indexes_leave_no_gap
+
+pub returns-clause-no_end_mark : goal.returns-clause-no_end_mark
+returns-clause-no_end_mark c = no_end_mark_is_sent
+
+pub returns-clause-stay : goal.returns-clause-stay
+returns-clause-stay c = datagrams_stay

@@ -1,0 +1,12 @@
+pub mod World
+pub mod Messages
+pub mod Receiver
+pub mod Reports
+pub mod Amounts
+pub mod Changes
+pub mod Contents
+pub mod Queues
+pub mod Reply
+pub mod Steps
+pub mod Log
+pub mod Laws

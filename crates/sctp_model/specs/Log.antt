@@ -1,0 +1,245 @@
+-- What a history says by itself: what came to the receiver in which order, and what follows from that order alone.
+-- No flag of the record is looked at. The newest entry stands first.
+use Rattle.std.specs.Prelude.{ℕ, ◌%◌, ◌^◌, ◌+◌, ◌-◌, max, Bool, false, ◌&&◌, ◌||◌, not, ◌==◌, nat_lt, nat_le, if◌then◌else◌, List, [], ◌∷◌, ◌++◌, length, take, drop, map, slice_get, Option, Some, None, option_to_list}
+use Rattle.std.specs.List.{list_any, list_all}
+use Rattle.sctp_lists.specs.Kept.{unbroken, leading, passing, numbers_from, or_else}
+use Rattle.sctp_model.specs.declared.event.Event.{Event}
+use Rattle.sctp_model.specs.declared.event.Event.TheVariants as E
+use Rattle.sctp_model.specs.Reply.{Reply}
+use Rattle.sctp_model.specs.Reply as R
+use Rattle.sctp_chunks.specs.declared.chunk.chunk_payload_data.PayloadProtocolIdentifier.{PayloadProtocolIdentifier}
+use Rattle.sctp_chunks.specs.declared.chunk.chunk_payload_data.ChunkPayloadData.{ChunkPayloadData}
+use Rattle.sctp_model.specs.World.{Setup, Datagram, Sack, World}
+use Rattle.sctp_model.specs.Messages
+use Rattle.sctp_model.specs.Receiver.{greatest, next_read}
+use Rattle.sctp_model.specs.Reports.{reports}
+use Rattle.sctp_model.specs.Amounts.{has_bytes, is_counted}
+use Rattle.sctp_model.specs.Steps.{History, world_of}
+
+-- ## What was made and what came to the receiver
+
+-- the place that a TSN has where it was given out
+abbrev pub place_in : Setup → ℕ → ℕ
+place_in setup tsn = (tsn + (2 ^ 32 - setup.first)) % 2 ^ 32
+
+-- a datagram as the events and replies tell of it
+pub data Made : Type 0 where
+  MadeData : (slots : List ℕ) → Made
+  MadeForward : (upto : ℕ) (messages : List ℕ) → Made
+  MadeSack : Made
+
+-- the datagram that an accepted event made
+abbrev pub made_by : Setup → Event → Reply → List Made
+made_by setup (E.Send now) (R.Sent d tsn ssn count) = MadeData (numbers_from (place_in setup tsn) count) ∷ []
+made_by setup (E.Resend tsn) reply = MadeData (place_in setup tsn ∷ []) ∷ []
+made_by setup (E.Skip upto messages) reply = MadeForward (place_in setup upto) messages.items ∷ []
+made_by setup (E.Ack credit) reply = MadeSack ∷ []
+made_by setup event reply = []
+
+-- the datagrams that a history made
+abbrev pub made_in : Setup → History → List Made
+made_in setup [] = []
+made_in setup (entry ∷ older) = made_in setup older ++ made_by setup entry.0 entry.1
+
+-- a slot came, a skip came with the messages that it names, or the receiver made a SACK
+pub data Coming : Type 0 where
+  SlotCame : (place : ℕ) → Coming
+  SkipCame : (upto : ℕ) (messages : List ℕ) → Coming
+  SackMade : Coming
+
+-- the slots of a datagram come one after another
+abbrev pub slots_come : List ℕ → List Coming → List Coming
+slots_come [] log = log
+slots_come (p ∷ ps) log = slots_come ps (SlotCame p ∷ log)
+
+-- a datagram comes
+abbrev pub datagram_comes : Option Made → List Coming → List Coming
+datagram_comes (Some (MadeData slots)) log = slots_come slots log
+datagram_comes (Some (MadeForward upto messages)) log = SkipCame upto messages ∷ log
+datagram_comes _ log = log
+
+-- what came in a history
+abbrev pub log_of : Setup → History → List Coming
+log_of setup [] = []
+log_of setup ((E.Arrive k, r) ∷ older) = datagram_comes (slice_get (made_in setup older) k) (log_of setup older)
+log_of setup ((E.Ack credit, r) ∷ older) = SackMade ∷ log_of setup older
+log_of setup (entry ∷ older) = log_of setup older
+
+-- the slot at this place came, or a skip up to it or past it did
+abbrev pub is_seen : List Coming → ℕ → Bool
+is_seen [] place = false
+is_seen (SlotCame p ∷ log) place = (p == place) || is_seen log place
+is_seen (SkipCame upto messages ∷ log) place = nat_le place upto || is_seen log place
+is_seen (SackMade ∷ log) place = is_seen log place
+
+-- the slot arrived new: it came, and neither it nor a skip over it came before
+abbrev pub arrived_new : List Coming → ℕ → Bool
+arrived_new [] place = false
+arrived_new (SlotCame p ∷ log) place = arrived_new log place || ((p == place) && not (is_seen log place))
+arrived_new (coming ∷ log) place = arrived_new log place
+
+-- a skip up to this slot counts: a slot up to it was not seen yet
+abbrev pub counts : List Coming → ℕ → Bool
+counts log upto = list_any (λ place. not (is_seen log place)) (numbers_from 0 (upto + 1))
+
+-- a skip that counted covered the slot
+abbrev pub is_skipped : List Coming → ℕ → Bool
+is_skipped [] place = false
+is_skipped (SkipCame upto messages ∷ log) place = is_skipped log place || (counts log upto && nat_le place upto)
+is_skipped (coming ∷ log) place = is_skipped log place
+
+-- the cumulative count: how many of so many slots, from the first on, were seen
+abbrev pub seen_count : List Coming → ℕ → ℕ
+seen_count log slots = unbroken (is_seen log) 0 slots
+
+-- the slots that came and were not new since the last SACK was made, oldest first
+abbrev pub duplicates_in : List Coming → List ℕ
+duplicates_in [] = []
+duplicates_in (SlotCame p ∷ log) = duplicates_in log ++ (if is_seen log p then p ∷ [] else [])
+duplicates_in (SkipCame upto messages ∷ log) = duplicates_in log
+duplicates_in (SackMade ∷ log) = []
+
+-- ## Whole messages and the run
+
+-- at some moment each of these slots had arrived new and no skip that counted had covered one
+abbrev pub were_whole : List ℕ → List Coming → Bool
+were_whole places [] = false
+were_whole places (coming ∷ log) =
+    were_whole places log || list_all (λ p. arrived_new (coming ∷ log) p && not (is_skipped (coming ∷ log) p)) places
+
+-- message n is whole: all of it was sent, and each of its slots arrived new; those of an unordered one before a skip covered one
+abbrev pub is_whole_by : World → List Coming → ℕ → Bool
+is_whole_by w log n =
+    (Messages.sent_of w n == Messages.fragment_count w n) && (if (Messages.message_at w n).ordered then list_all (arrived_new log) (Messages.slots_of w n) else were_whole (Messages.slots_of w n) log)
+
+-- one more than the greatest index on stream s that a skip that counted named, or 0
+abbrev pub named_by : World → ℕ → List Coming → ℕ
+named_by w s [] = 0
+named_by w s (SkipCame upto messages ∷ log) =
+    if counts log upto then greatest (named_by w s log) (map (λ n. Messages.index_of w n + 1) (passing (Messages.is_ordered_on w s) messages)) else named_by w s log
+named_by w s (coming ∷ log) = named_by w s log
+
+-- the whole ordered messages of a stream up to the last one named, then the unbroken whole run
+abbrev pub run_by : World → List Coming → ℕ → List ℕ
+run_by w log s =
+    passing (is_whole_by w log) (take (named_by w s log) (Messages.ordered_on w s)) ++ leading (is_whole_by w log) (drop (named_by w s log) (Messages.ordered_on w s))
+
+-- the unordered messages of stream s, in the order in which they became whole
+abbrev pub whole_by : World → List Coming → ℕ → List ℕ
+whole_by w [] s = []
+whole_by w (coming ∷ log) s =
+    whole_by w log s ++ Messages.messages_where w (λ n. Messages.is_unordered_on w s n && (is_whole_by w (coming ∷ log) n && not (is_whole_by w log n)))
+
+-- ## Acknowledgement
+
+-- a datagram that is a SACK reports the slot
+abbrev pub reported_by : Option Datagram → ℕ → Bool
+reported_by (Some (Sack r)) place = reports r place
+reported_by _ place = false
+
+-- a SACK that was taken reports the slot
+abbrev pub is_acknowledged_in : Setup → History → ℕ → Bool
+is_acknowledged_in setup [] place = false
+is_acknowledged_in setup ((E.Acked k, r) ∷ older) place =
+    is_acknowledged_in setup older place || reported_by (slice_get (world_of setup older).network k) place
+is_acknowledged_in setup (entry ∷ older) place = is_acknowledged_in setup older place
+
+-- the cumulative count of a datagram that is a SACK
+abbrev pub cumulative_in : Option Datagram → ℕ
+cumulative_in (Some (Sack r)) = r.cumulative
+cumulative_in _ = 0
+
+-- the greatest cumulative count of the SACKs taken
+abbrev pub taken_in : Setup → History → ℕ
+taken_in setup [] = 0
+taken_in setup ((E.Acked k, r) ∷ older) = max (taken_in setup older) (cumulative_in (slice_get (world_of setup older).network k))
+taken_in setup (entry ∷ older) = taken_in setup older
+
+-- ## Writes and reads
+
+-- a message as it was written, and as it is handed out: its stream, its payload type and its bytes
+abbrev pub Shown : Type 0
+Shown = ℕ × PayloadProtocolIdentifier × List ℕ
+
+-- the user data of chunks, joined
+abbrev pub joined_bytes : List ChunkPayloadData → List ℕ
+joined_bytes [] = []
+joined_bytes (chunk ∷ others) = chunk.user_data ++ joined_bytes others
+
+-- the accepted writes of at least one byte, in order
+abbrev pub writes_in : History → List Shown
+writes_in [] = []
+writes_in ((E.Write s ppi [], r) ∷ older) = writes_in older
+writes_in ((E.Write s ppi (b ∷ bs), r) ∷ older) = writes_in older ++ (s, ppi, b ∷ bs) ∷ []
+writes_in (entry ∷ older) = writes_in older
+
+-- the message that a reply hands out
+abbrev pub shown_by : Reply → List Shown
+shown_by (R.Message s ppi chunks) = (s, ppi, joined_bytes chunks.chunks) ∷ []
+shown_by _ = []
+
+-- the messages that were handed out on stream s, in order
+abbrev pub reads_in : History → ℕ → List Shown
+reads_in [] s = []
+reads_in ((E.Read t, r) ∷ older) s = reads_in older s ++ (if t == s then shown_by r else [])
+reads_in (entry ∷ older) s = reads_in older s
+
+-- the number of the message that a reply hands out
+abbrev pub number_read : World → ℕ → Reply → List ℕ
+number_read w s (R.Message t ppi chunks) = option_to_list (next_read w s)
+number_read w s _ = []
+
+-- the numbers of the messages that were handed out on stream s, in order
+abbrev pub numbers_read : Setup → History → ℕ → List ℕ
+numbers_read setup [] s = []
+numbers_read setup ((E.Read t, r) ∷ older) s =
+    numbers_read setup older s ++ (if t == s then number_read (world_of setup older) s r else [])
+numbers_read setup (entry ∷ older) s = numbers_read setup older s
+
+-- ## Time and bytes
+
+-- the moment at which an event starts lifetimes
+abbrev pub moment_of : Event → Option ℕ
+moment_of (E.Start now) = Some now
+moment_of (E.Send now) = Some now
+moment_of _ = None
+
+-- the moment of the first Start or Send after the write of message n
+abbrev pub started_in : History → ℕ → Option ℕ
+started_in [] n = None
+started_in (entry ∷ older) n = or_else (started_in older n) (if nat_lt n (length (writes_in older)) then moment_of entry.0 else None)
+
+-- the bytes that a reply tells were released
+abbrev pub released_by : Reply → ℕ
+released_by (R.Expired s bytes) = bytes
+released_by (R.Released s bytes) = bytes
+released_by (R.Late listed bytes) = bytes
+released_by (R.Acked bytes) = bytes
+released_by _ = 0
+
+-- the bytes that the replies of a history tell were released
+abbrev pub released_in : History → ℕ
+released_in [] = 0
+released_in (entry ∷ older) = released_in older + released_by entry.1
+
+-- the sum of f over messages shown
+abbrev pub total_shown : (Shown → ℕ) → List Shown → ℕ
+total_shown f [] = 0
+total_shown f (x ∷ xs) = f x + total_shown f xs
+
+-- the bytes of a message shown
+abbrev pub length_shown : Shown → ℕ
+length_shown x = length x.2
+
+-- a message shown as a counter of messages sees it
+abbrev pub counted_shown : Shown → ℕ
+counted_shown x = if is_counted x.1 then 1 else 0
+
+-- a message shown as a counter of bytes sees it
+abbrev pub counted_length : Shown → ℕ
+counted_length x = if has_bytes x.1 then length x.2 else 0
+
+-- those of stream s
+abbrev pub shown_on : ℕ → List Shown → List Shown
+shown_on s [] = []
+shown_on s (x ∷ xs) = if x.0 == s then x ∷ shown_on s xs else shown_on s xs

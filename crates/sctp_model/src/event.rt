@@ -1,0 +1,90 @@
+//! What is asked of a link, and why it refuses.
+
+use bytes::Bytes;
+use sctp_chunks::chunk::chunk_payload_data::{PayloadProtocolIdentifier, ReliabilityType};
+
+/// What is asked of a link.
+#[derive(Drop)]
+pub enum Event {
+    /// Opens a stream, ordered and reliable.
+    Open {
+        stream: u16,
+    },
+    /// Sets how later messages of a stream are sent.
+    Mode {
+        stream: u16,
+        unordered: bool,
+        reliability: ReliabilityType,
+        value: u32,
+    },
+    /// Writes a message; an empty one adds nothing.
+    Write {
+        stream: u16,
+        ppi: PayloadProtocolIdentifier,
+        bytes: Bytes,
+    },
+    /// Starts the lifetimes of messages; `now` is in nanoseconds.
+    Start {
+        now: u64,
+    },
+    /// Starts lifetimes, and sends pending fragments in one datagram.
+    Send {
+        now: u64,
+    },
+    /// Sends the chunk of a TSN again.
+    Resend {
+        tsn: u32,
+    },
+    /// Removes the front message where it is unsent and its lifetime is over.
+    Expire {
+        now: u64,
+    },
+    /// Abandons the front message where it is half-sent and its lifetime is over.
+    Tail {
+        now: u64,
+    },
+    /// Abandons the messages in flight whose lifetime is over.
+    Late {
+        now: u64,
+    },
+    /// Abandons the message of a TSN in flight.
+    Abandon {
+        tsn: u32,
+    },
+    /// Makes a FORWARD-TSN up to a TSN, which names messages (RFC 3758 3.2).
+    Skip {
+        upto: u32,
+        messages: Vec<u64>,
+    },
+    /// Makes a SACK with this credit (RFC 4960 3.3.4).
+    Ack {
+        credit: u32,
+    },
+    /// Datagram `k` comes to the receiver.
+    Arrive {
+        k: u64,
+    },
+    /// Datagram `k` comes to the sender.
+    Acked {
+        k: u64,
+    },
+    /// Reads the next message of a stream.
+    Read {
+        stream: u16,
+    },
+}
+
+/// Why a link refuses an event.
+#[derive(Clone, Copy, Debug, PartialEq, Eq)]
+pub enum LinkRefusal {
+    StreamUnknown,
+    StreamOpen,
+    MessageTooLarge,
+    TsnsUsedUp,
+    NoSuchDatagram,
+    NotInFlight,
+    SkipUnassigned,
+    SkipNames,
+    SpanTooWide,
+    OutOfMemory,
+}

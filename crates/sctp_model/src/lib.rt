@@ -1,0 +1,5 @@
+//! The events of a link, its refusals, and what holds of every history of events.
+#![tactic(auto)]
+
+pub mod event;
+pub mod laws;
