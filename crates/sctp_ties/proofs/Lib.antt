@@ -17,3 +17,4 @@ pub mod Keeps
 pub mod SoundAfter
 pub mod SoundSkip
 pub mod SoundMore
+pub mod NextRead
