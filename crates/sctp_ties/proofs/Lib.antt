@@ -18,3 +18,4 @@ pub mod SoundAfter
 pub mod SoundSkip
 pub mod SoundMore
 pub mod NextRead
+pub mod SlotArrives

@@ -18,7 +18,7 @@ use Rattle.sctp_lists.proofs.KeptLemmas.{kept-same, map-kept-same, map-kept-inse
 use Rattle.sctp_lists.proofs.Round.{tsn_differ, tsn_same}
 use Rattle.sctp_model.specs.World.{World}
 use Rattle.sctp_model.specs.Messages.{message_at, slot_at, message_of, stream_of, is_ordered_on, index_of, ssn_of, fragment_count, has_fragment, is_unordered_on}
-use Rattle.sctp_model.specs.Receiver.{arrived_at, arrived_of, has_arrived, cumulative, is_whole, is_unread, is_held, next_of, is_new, fits}
+use Rattle.sctp_model.specs.Receiver.{arrived_at, arrived_of, has_arrived, cumulative, is_whole, is_unread, is_held, next_of, is_new}
 use Rattle.sctp_model.specs.Changes.{slot_came, becomes_whole}
 use Rattle.sctp_lists.specs.Lists.{change_first}
 use Rattle.sctp_ties.specs.Sound.{IsLaid, Sound}
@@ -28,7 +28,7 @@ use Rattle.sctp_ties.proofs.Line.{index-lt, index-same, ssn_on, on-made, on-orde
 use Rattle.sctp_ties.proofs.Stays
 use Rattle.sctp_ties.proofs.Arrival
 use Rattle.sctp_ties.proofs.Arrival.{with_arrived}
-use Rattle.sctp_ties.proofs.Span.{IsSpan, span}
+use Rattle.sctp_ties.proofs.Span.{IsSpan}
 
 -- what an accepted Arrive of a new slot of an ordered message knows
 pub record Arrives (w : World) (s p : ℕ) : Type 0 where
@@ -37,7 +37,7 @@ pub record Arrives (w : World) (s p : ℕ) : Type 0 where
   pub fresh : cumulative w ≤ p
   pub fragment : (slot_at w p).is_end_mark ≡ false
   pub on : is_ordered_on w s (message_of w p) ≡ true
-  pub near : fits w (index_of w (message_of w p) ∷ []) s ≡ true
+  pub near : IsSpan w s (index_of w (message_of w p) ∷ [])
 
 module _ (w : World) (s p : ℕ) (sound : Sound w) (a : Arrives w s p) where
   abbrev n : ℕ
@@ -103,7 +103,7 @@ module _ (w : World) (s p : ℕ) (sound : Sound w) (a : Arrives w s p) where
   -- ## Indexes near one another
 
   sp : IsSpan w s (index_of w n ∷ [])
-  sp = span w s (index_of w n ∷ []) a.near
+  sp = a.near
 
   mine : (sp.low ≤ index_of w n) × (index_of w n ≤ sp.high)
   mine = sp.others (index_of w n) (let e : (index_of w n == index_of w n) ≡ true = grind (arith, nat_tests) in rw e refl)

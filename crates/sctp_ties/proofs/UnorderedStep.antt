@@ -191,7 +191,7 @@ module _ (w : World) (s p : ℕ) (r : StreamRecord) (sound : Sound w) (more : So
   front : List ℕ
   front = kept q 0 base
 
-  step : slot_came w p ≡ u
+  pub step : slot_came w p ≡ u
   step =
       let new : is_new w p ≡ true = rw a.new (grind (arith, nat_tests, a.fresh)) in
       rw (new, whole, (unordered-of w s n a.on).0) refl
