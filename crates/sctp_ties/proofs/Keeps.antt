@@ -71,7 +71,7 @@ module _ (v : World) (s : ℕ) (f : StreamRecord → StreamRecord) (stream : (r 
       step true = named r
       step false = refl
 
-  found : (t : ℕ) → stream_at (stream_changed v s f) t ≡ then_by (λ r. if r.stream == s then f r else r) (stream_at v t)
+  pub found : (t : ℕ) → stream_at (stream_changed v s f) t ≡ then_by (λ r. if r.stream == s then f r else r) (stream_at v t)
   found t = find-map at_s at-stream t v.streams
 
   pub named-changed : (t : ℕ) → (stream_of (stream_changed v s f) t).named ≡ (stream_of v t).named

@@ -19,3 +19,6 @@ pub mod SoundSkip
 pub mod SoundMore
 pub mod NextRead
 pub mod SlotArrives
+pub mod RunsOnce
+pub mod SlotsArrive
+pub mod SlotsNear

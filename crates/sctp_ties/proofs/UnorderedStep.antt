@@ -53,7 +53,7 @@ drop-front [] [] n e = rw e refl
 drop-front [] (y ∷ ys) n e = rw e refl
 drop-front (x ∷ xs) ys n e = rw e (drop-front xs ys (length xs) refl)
 
-append-assoc : {A : Type 0} (xs ys zs : List A) → (xs ++ ys) ++ zs ≡ xs ++ (ys ++ zs)
+pub append-assoc : {A : Type 0} (xs ys zs : List A) → (xs ++ ys) ++ zs ≡ xs ++ (ys ++ zs)
 append-assoc [] ys zs = refl
 append-assoc (x ∷ xs) ys zs = ap (λ l. x ∷ l) (append-assoc xs ys zs)
 
@@ -61,7 +61,7 @@ length-both : {A : Type 0} (xs ys : List A) → length (xs ++ ys) ≡ length xs 
 length-both [] ys = omega arith
 length-both (x ∷ xs) ys = omega (arith, length-both xs ys)
 
-any-last : (n m : ℕ) (xs : List ℕ) → list_any (λ k. k == m) (xs ++ n ∷ []) ≡ (list_any (λ k. k == m) xs || (n == m))
+pub any-last : (n m : ℕ) (xs : List ℕ) → list_any (λ k. k == m) (xs ++ n ∷ []) ≡ (list_any (λ k. k == m) xs || (n == m))
 any-last n m [] = step (n == m)
   where
     step : (b : Bool) → (b || false) ≡ b
@@ -123,7 +123,7 @@ named-noted v s n t = ap (λ o. (unwrap_or o (no_stream t)).named) (found-noted 
     same None = refl
     same (Some r) = noted-named s n r
 
-whole-noted : (v : World) (s n : ℕ) (r : StreamRecord) → stream_at v s ≡ Some r → (stream_of (stream_changed v s (with_whole n)) s).whole ≡ (stream_of v s).whole ++ n ∷ []
+pub whole-noted : (v : World) (s n : ℕ) (r : StreamRecord) → stream_at v s ≡ Some r → (stream_of (stream_changed v s (with_whole n)) s).whole ≡ (stream_of v s).whole ++ n ∷ []
 whole-noted v s n r e =
     let id : r.stream ≡ s = find-passes s v.streams r e in
     let hit : (r.stream == s) ≡ true = grind (arith, nat_tests) in
