@@ -10,6 +10,7 @@ ghost use Rattle.sctp_base.specs.Outcome.{OrMemory, GivesUnlessMemory};
 pub mod chunk_header;
 pub mod chunk_kind;
 pub mod chunk_payload_data;
+pub mod chunk_selective_ack;
 
 use bytes::{Bytes, BytesMut};
 use chunk_header::{ChunkHeader, put_header};

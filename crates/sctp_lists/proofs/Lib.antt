@@ -4,3 +4,4 @@ pub mod Round
 pub mod More
 pub mod Wraps
 pub mod SerialLemmas
+pub mod Edits

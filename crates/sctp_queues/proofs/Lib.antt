@@ -3,3 +3,12 @@ pub mod SetLemmas
 pub mod RunLemmas
 pub mod SizeLemmas
 pub mod PieceLemmas
+pub mod Halves
+pub mod Serials
+pub mod Search
+pub mod Marked
+pub mod Gaps
+pub mod Waiting
+pub mod Whole
+pub mod Sendable
+pub mod Outbounds

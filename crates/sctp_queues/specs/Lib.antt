@@ -6,3 +6,11 @@ pub mod Loose
 pub mod Sizes
 pub mod Pieces
 pub mod Reassembly
+pub mod Stored
+pub mod Marks
+pub mod Window
+pub mod Payload
+pub mod Blocks
+pub mod Pending
+pub mod Whole
+pub mod Outbound

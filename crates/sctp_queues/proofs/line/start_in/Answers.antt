@@ -1,0 +1,33 @@
+use Rattle.std.proofs.Common.{◌≡◌, ◌+◌, ◌-◌, ◌<◌, ◌≤◌, length, length-set, get_or, set, sym, ap, ◌∙◌, arith}
+use Rattle.std.proofs.lemmas.Bool.Decides.{nat_tests}
+use Rattle.sctp_lists.proofs.Edits.{changed_step, rewritten_step}
+use Rattle.sctp_queues.specs.Pending.{is_to_start, with_deadline}
+use Rattle.sctp_queues.proofs.line.start_in.Goals as goal
+
+pub loop-place-preserved : goal.loop-place-preserved
+loop-place-preserved c =
+    let xs = c.args.chunks.now.items in
+    let ys = c.loop-place.chunks.items in
+    let i = c.loop-place.place in
+    let x = c.index_mut-chunk.result.now in
+    let within : i < length xs = omega (arith, c.args.chunks.now.ok.0) in
+    record {
+      changed = ap (λ d. set ys i record x { deadline = d }) c.deadline_of-chunk.ensures ∙ changed_step (is_to_start c.args.first_message_id) (with_deadline c.args.now) xs ys i x within c.loop-place.invariant.changed c.index_mut-chunk.ensures.value (sym c.is_to_start.ensures ∙ c.if-not-is_to_start.false);
+      same_length = length-set ys i _ ∙ c.loop-place.invariant.same_length;
+      len = c.loop-place.invariant.len;
+      capacity = c.loop-place.invariant.capacity;
+    }
+
+pub loop-place-preserved-then-not-is_to_start : goal.loop-place-preserved-then-not-is_to_start
+loop-place-preserved-then-not-is_to_start c =
+    let xs = c.args.chunks.now.items in
+    let ys = c.loop-place.chunks.items in
+    let i = c.loop-place.place in
+    let x = c.index_mut-chunk.result.now in
+    let within : i < length xs = omega (arith, c.args.chunks.now.ok.0) in
+    record {
+      changed = rewritten_step (is_to_start c.args.first_message_id) (with_deadline c.args.now) xs ys i x within c.loop-place.invariant.changed c.index_mut-chunk.ensures.value (sym c.is_to_start.ensures ∙ c.if-not-is_to_start.true);
+      same_length = length-set ys i _ ∙ c.loop-place.invariant.same_length;
+      len = c.loop-place.invariant.len;
+      capacity = c.loop-place.invariant.capacity;
+    }

@@ -1,0 +1,15 @@
+use Rattle.std.proofs.Common.{◌≡◌, ℕ, ◌^◌, ◌<◌, ◌≤◌, length, map, take, get_or}
+use Rattle.std.specs.List.{All, list_any}
+use Rattle.sctp_chunks.specs.declared.chunk.chunk_payload_data.ChunkPayloadData.{ChunkPayloadData}
+use Rattle.sctp_lists.specs.Kept.{runs_of}
+use Rattle.sctp_lists.specs.Serial.{distance}
+use Rattle.sctp_queues.specs.Blocks.{BlocksAscend, covered, is_reported, gap_offsets, ends_of}
+use Rattle.sctp_queues.proofs.payload_queue.PayloadQueue.get_gap_ack_blocks.Given as goal
+
+abbrev pub invariant-loop-place : goal.invariant-loop-place
+invariant-loop-place l = record {
+  ascend : BlocksAscend l.blocks.items;
+  behind : (j : ℕ) (d : ChunkPayloadData) → l.place ≤ j → j < length l.self-inside.held.chunks → 0 < distance l.cumulative_tsn (get_or l.self-inside.held.chunks j d).tsn → distance l.cumulative_tsn (get_or l.self-inside.held.chunks j d).tsn < 2 ^ 16 → All (λ b. b.end < distance l.cumulative_tsn (get_or l.self-inside.held.chunks j d).tsn) l.blocks.items;
+  exact : (n : ℕ) → covered l.blocks.items n ≡ list_any (is_reported l.cumulative_tsn n) (take l.place l.self-inside.held.chunks);
+  runs : map ends_of l.blocks.items ≡ runs_of (gap_offsets l.cumulative_tsn (take l.place l.self-inside.held.chunks));
+}

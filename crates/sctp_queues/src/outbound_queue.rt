@@ -1,0 +1,303 @@
+//! What waits to be sent and what is in flight.
+
+ghost use Rattle.std.specs.Prelude.{◌≡◌, ◌==◌, ◌+◌, ◌^◌, ◌<◌, ◌≤◌, ◌||◌, [], length, map, max, false, true, OnOk, OnErr, OnSome, IfOk, IfSome, IsOk, IsOkUnless, IsSome, IsTrue, find, is_some, unwrap_or, option_copied, if◌then◌else◌};
+ghost use Rattle.std.specs.Option.{option_map};
+ghost use Rattle.std.specs.List.{list_any};
+ghost use Rattle.sctp_base.specs.declared.error.Error.TheVariants.{ErrOutOfMemory};
+ghost use Rattle.sctp_lists.specs.Lists.{change_where};
+ghost use Rattle.sctp_queues.specs.Marks.{is_outstanding};
+ghost use Rattle.sctp_queues.specs.Pending as pending;
+ghost use Rattle.sctp_queues.specs.Whole.{IsMessageOrNone, waits};
+ghost use Rattle.sctp_queues.specs.Window.{SpansOneWindow, has_tsn, is_held, bytes_of};
+ghost use Rattle.sctp_queues.specs.Outbound.{is_past, is_expired, is_expired_tail};
+
+use crate::line::is_dcep;
+use crate::payload_queue::{PayloadQueue, is_outstanding};
+use crate::pending_queue::PendingQueue;
+use sctp_base::error::Result;
+use sctp_chunks::chunk::chunk_payload_data::ChunkPayloadData;
+use std::alloc::Global;
+use std::marker::Model;
+
+/// Messages that wait, and their chunks in flight. A number names the fragments of a message in both.
+#[derive(Drop)]
+pub struct OutboundQueue {
+    pending: PendingQueue,
+    inflight: PayloadQueue,
+    next_message_id: u64,
+    next_unstarted_message_id: u64,
+}
+
+impl Model for OutboundQueue {
+    ghost use Rattle.std.specs.Prelude.{◌+◌, ◌^◌, ◌<◌};
+    ghost use Rattle.sctp_queues.specs.Outbound.{Outbound};
+    ghost use Rattle.sctp_queues.specs.Pending.{total_bytes};
+    ghost use Rattle.sctp_queues.specs.Whole.{IsSendable};
+    ghost use Rattle.sctp_queues.specs.Window.{bytes_of};
+
+    ghost Value = { Outbound };
+
+    ghost view = { λ q. record { pending = q.pending; inflight = q.inflight; next_message_id = q.next_message_id; next_unstarted = q.next_unstarted_message_id } };
+
+    ghost invariant = { λ q. record { sendable : IsSendable q.pending q.inflight.chunks q.next_message_id; fits : total_bytes q.pending + bytes_of q.inflight.chunks < 2 ^ 64 } };
+}
+
+impl OutboundQueue {
+    ghost use Rattle.sctp_queues.specs.Marks.{acknowledged, with_retransmit, with_nsent, with_since, with_miss_indicator};
+    ghost use Rattle.sctp_queues.specs.Outbound.{Outbound, total_bytes, with_inflight, with_message, has_room, all_started, following_tsn, sent_peeked, sent_next, abandoned, tsn_after, to_abandon, abandoned_of, tsn_after_of, has_tail, expiring, expired_of, expiring_tail, message_of, late_tsns, after_sends};
+    ghost use Rattle.sctp_queues.specs.Payload.{front_with, without_front};
+
+    pub fn new(alloc: Global) -> Self
+        ensures { result ≡ record { pending = record { ordered = []; unordered = []; selected = None; ordered_room = 0; unordered_room = 0 }; inflight = record { chunks = []; duplicates = []; room = 0 }; next_message_id = 0; next_unstarted = 0 } }
+    {
+        OutboundQueue {
+            pending: PendingQueue::new(alloc),
+            inflight: PayloadQueue::new(alloc),
+            next_message_id: 0,
+            next_unstarted_message_id: 0,
+        }
+    }
+
+    /// The number of the next message.
+    pub fn next_message_id(&self) -> u64
+        ensures { result ≡ self.now.next_message_id }
+    {
+        self.next_message_id
+    }
+
+    /// Puts the fragments of a message behind those that wait, under the next number.
+    pub fn push(&mut self, chunks: Vec<ChunkPayloadData>) -> Result<()>
+        requires message { IsMessageOrNone chunks.items }
+        requires number { self.old.next_message_id + 1 < 2 ^ 64 }
+        requires bytes { total_bytes self.old + bytes_of chunks.items < 2 ^ 64 }
+        ensures ok { OnOk result (self.new ≡ with_message chunks.items self.old) }
+        ensures err { OnErr result (self.new ≡ self.old) }
+        ensures memory { IsOkUnless result ErrOutOfMemory }
+        ensures succeeds { IsTrue (has_room chunks.items self.old) → IsOk result }
+    {
+        let unordered = match chunks.first() {
+            Some(chunk) => chunk.unordered,
+            None => return Ok(()),
+        };
+        self.pending
+            .push_message(chunks, unordered, self.next_message_id)?;
+        self.next_message_id += 1;
+        Ok(())
+    }
+
+    /// Starts the lifetimes of the messages pushed since the last time. No message is started twice.
+    pub fn start_timed_messages(&mut self, now: u64)
+        ensures { self.new ≡ all_started now self.old }
+    {
+        if self.next_unstarted_message_id == self.next_message_id {
+            return;
+        }
+        self.pending
+            .start_timed_messages(self.next_unstarted_message_id, now);
+        self.next_unstarted_message_id = self.next_message_id;
+    }
+
+    /// The chunk that would be sent next.
+    pub fn peek_pending(&self) -> Option<&ChunkPayloadData>
+        ensures { option_copied result ≡ pending.peeked self.now.pending }
+    {
+        self.pending.peek()
+    }
+
+    /// Starts lifetimes and puts the peeked chunk in flight under `next_tsn`, which goes up by one.
+    pub fn send_next(&mut self, next_tsn: &mut u32, now: u64) -> Result<Option<u32>>
+        requires fresh { is_held self.old.inflight.chunks next_tsn.old ≡ false }
+        requires window { SpansOneWindow self.old.inflight.chunks next_tsn.old }
+        ensures sent { IfOk result (λ sent. sent ≡ option_map (λ _. next_tsn.old) (pending.peeked self.old.pending)) }
+        ensures ok { OnOk result (self.new ≡ sent_next self.old next_tsn.old now) }
+        ensures raised { OnOk result (next_tsn.new ≡ (if is_some (pending.peeked self.old.pending) then following_tsn next_tsn.old else next_tsn.old)) }
+        ensures err { OnErr result ((self.new ≡ self.old) × (next_tsn.new ≡ next_tsn.old)) }
+        ensures memory { IsOkUnless result ErrOutOfMemory }
+        ensures succeeds { 0 < self.old.inflight.room → IsOk result }
+        ensures idle { pending.peeked self.old.pending ≡ None → IsOk result }
+    {
+        let Some(_) = self.pending.peek() else {
+            self.start_timed_messages(now);
+            return Ok(None);
+        };
+        self.inflight.reserve(1)?;
+        self.start_timed_messages(now);
+        let tsn = *next_tsn;
+        self.send_peeked(tsn, now);
+        *next_tsn = tsn.wrapping_add(1);
+        Ok(Some(tsn))
+    }
+
+    // Puts the peeked chunk in flight. There is one, and room for it.
+    fn send_peeked(&mut self, tsn: u32, now: u64)
+        requires some { IsSome (pending.peeked self.old.pending) }
+        requires room { 0 < self.old.inflight.room }
+        requires fresh { is_held self.old.inflight.chunks tsn ≡ false }
+        requires window { SpansOneWindow self.old.inflight.chunks tsn }
+        ensures { self.new ≡ sent_peeked self.old tsn now }
+    {
+        let Some(chunk) = self.pending.peek() else {
+            unreachable!()
+        };
+        let beginning_fragment = chunk.beginning_fragment;
+        let unordered = chunk.unordered;
+        let Some(mut chunk) = self.pending.pop(beginning_fragment, unordered) else {
+            unreachable!()
+        };
+        chunk.tsn = tsn;
+        chunk.since = Some(now);
+        chunk.nsent = 1;
+        match self.inflight.push_no_check(chunk) {
+            Ok(()) => {}
+            Err(_) => unreachable!(),
+        }
+    }
+
+    /// The chunk in flight with this TSN.
+    pub fn get(&self, tsn: u32) -> Option<&ChunkPayloadData>
+        ensures { option_copied result ≡ find (has_tsn tsn) self.now.inflight.chunks }
+    {
+        self.inflight.get(tsn)
+    }
+
+    /// Takes the first chunk in flight, if it has this TSN.
+    pub fn pop(&mut self, tsn: u32) -> Option<ChunkPayloadData>
+        ensures popped { result ≡ front_with tsn self.old.inflight.chunks }
+        ensures rest { self.new ≡ with_inflight self.old (without_front tsn self.old.inflight.chunks) }
+    {
+        self.inflight.pop(tsn)
+    }
+
+    /// Marks a chunk in flight as acknowledged, and answers the bytes that left.
+    pub fn mark_as_acked(&mut self, tsn: u32) -> usize
+        ensures acked { self.new ≡ with_inflight self.old (change_where (has_tsn tsn) acknowledged self.old.inflight.chunks) }
+        ensures left { total_bytes self.new + result ≡ total_bytes self.old }
+    {
+        self.inflight.mark_as_acked(tsn)
+    }
+
+    /// Flags each chunk in flight that is neither acknowledged nor abandoned.
+    pub fn mark_all_to_retransmit(&mut self)
+        ensures { self.new ≡ with_inflight self.old (change_where is_outstanding (with_retransmit true) self.old.inflight.chunks) }
+    {
+        self.inflight.mark_all_to_retransmit();
+    }
+
+    /// Whether the TSN is in flight; the chunk has the mark then.
+    pub fn set_retransmit(&mut self, tsn: u32, retransmit: bool) -> bool
+        ensures changed { self.new ≡ with_inflight self.old (change_where (has_tsn tsn) (with_retransmit retransmit) self.old.inflight.chunks) }
+        ensures held { result ≡ is_held self.old.inflight.chunks tsn }
+    {
+        self.inflight.set_retransmit(tsn, retransmit)
+    }
+
+    /// Whether the TSN is in flight; the chunk counts as sent so often then.
+    pub fn set_nsent(&mut self, tsn: u32, nsent: u32) -> bool
+        ensures changed { self.new ≡ with_inflight self.old (change_where (has_tsn tsn) (with_nsent nsent) self.old.inflight.chunks) }
+        ensures held { result ≡ is_held self.old.inflight.chunks tsn }
+    {
+        self.inflight.set_nsent(tsn, nsent)
+    }
+
+    /// Whether the TSN is in flight; the chunk counts as sent at that moment then.
+    pub fn set_since(&mut self, tsn: u32, since: Option<u64>) -> bool
+        ensures changed { self.new ≡ with_inflight self.old (change_where (has_tsn tsn) (with_since since) self.old.inflight.chunks) }
+        ensures held { result ≡ is_held self.old.inflight.chunks tsn }
+    {
+        self.inflight.set_since(tsn, since)
+    }
+
+    /// Whether the TSN is in flight; the chunk has so many missing reports then.
+    pub fn set_miss_indicator(&mut self, tsn: u32, miss_indicator: u8) -> bool
+        ensures changed { self.new ≡ with_inflight self.old (change_where (has_tsn tsn) (with_miss_indicator miss_indicator) self.old.inflight.chunks) }
+        ensures held { result ≡ is_held self.old.inflight.chunks tsn }
+    {
+        self.inflight.set_miss_indicator(tsn, miss_indicator)
+    }
+
+    /// Whether the chunk in flight with this TSN is abandoned.
+    pub fn is_abandoned(&self, tsn: u32) -> bool
+        ensures { result ≡ unwrap_or (option_map (λ c. c.abandoned) (find (has_tsn tsn) self.now.inflight.chunks)) false }
+    {
+        match self.inflight.get(tsn) {
+            Some(chunk) => chunk.abandoned,
+            None => false,
+        }
+    }
+
+    /// The first TSN in flight that is neither acknowledged nor abandoned.
+    pub fn earliest_outstanding_tsn(&self) -> Option<u32>
+        ensures { result ≡ option_map (λ c. c.tsn) (find is_outstanding self.now.inflight.chunks) }
+    {
+        for place in 0..self.inflight.len() {
+            let chunk = self.inflight.at(place);
+            if is_outstanding(chunk) {
+                return Some(chunk.tsn);
+            }
+        }
+        None
+    }
+
+    /// Whether a chunk of the stream waits.
+    pub fn pending_contains_stream(&self, stream_identifier: u16) -> bool
+        ensures { result ≡ list_any (pending.is_on stream_identifier) self.now.pending.unordered || list_any (pending.is_on stream_identifier) self.now.pending.ordered }
+    {
+        self.pending.contains_stream(stream_identifier)
+    }
+
+    /// Whether a chunk of the stream waits or is in flight.
+    pub fn contains_stream(&self, stream_identifier: u16) -> bool
+        ensures { result ≡ (list_any (pending.is_on stream_identifier) self.now.pending.unordered || list_any (pending.is_on stream_identifier) self.now.pending.ordered) || list_any (pending.is_on stream_identifier) self.now.inflight.chunks }
+    {
+        self.pending.contains_stream(stream_identifier)
+            || self.inflight.contains_stream(stream_identifier)
+    }
+
+    /// How many chunks wait.
+    pub fn pending_len(&self) -> usize
+        ensures { result ≡ pending.chunk_count self.now.pending }
+    {
+        self.pending.len()
+    }
+
+    /// The bytes of user data of what waits.
+    pub fn pending_bytes(&self) -> usize
+        ensures { result ≡ pending.total_bytes self.now.pending }
+    {
+        self.pending.get_num_bytes()
+    }
+
+    /// How many chunks are in flight.
+    pub fn inflight_len(&self) -> usize
+        ensures { result ≡ length self.now.inflight.chunks }
+    {
+        self.inflight.len()
+    }
+
+    /// The bytes of user data in flight.
+    pub fn inflight_bytes(&self) -> usize
+        ensures { result ≡ bytes_of self.now.inflight.chunks }
+    {
+        self.inflight.get_num_bytes()
+    }
+
+    /// From here on so many pushes of ordered and of unordered fragments take no memory.
+    pub fn reserve(&mut self, ordered: usize, unordered: usize) -> Result<()>
+        ensures ok { OnOk result (self.new ≡ record self.old { pending = pending.reserved self.old.pending ordered unordered }) }
+        ensures err { OnErr result (self.new ≡ self.old) }
+        ensures memory { IsOkUnless result ErrOutOfMemory }
+        ensures succeeds { ordered ≤ self.old.pending.ordered_room → unordered ≤ self.old.pending.unordered_room → IsOk result }
+    {
+        self.pending.reserve(ordered, unordered)
+    }
+
+    /// From here on so many sends take no memory.
+    pub fn reserve_inflight(&mut self, sends: usize) -> Result<()>
+        ensures ok { OnOk result (self.new ≡ record self.old { inflight = record self.old.inflight { room = max sends self.old.inflight.room } }) }
+        ensures err { OnErr result (self.new ≡ self.old) }
+        ensures memory { IsOkUnless result ErrOutOfMemory }
+        ensures succeeds { sends ≤ self.old.inflight.room → IsOk result }
+    {
+        self.inflight.reserve(sends)
+    }
+}

@@ -1,0 +1,525 @@
+//! Chunks by their TSNs, in serial order: what is in flight, or what came beyond the cumulative TSN.
+
+ghost use Rattle.std.specs.Prelude.{◌≡◌, ◌==◌, ◌≢◌, ℕ, ◌+◌, ◌-◌, ◌^◌, ◌<◌, ◌≤◌, [], ◌||◌, length, map, max, OnOk, OnErr, IfOk, IfErr, IfSome, IsOk, IsOkUnless, IsTrue, All, find, not, option_copied, slice_get, slice_index_or, is_some, unwrap_or, true, false, string_bytes, if◌then◌else◌};
+ghost use Rattle.std.specs.Option.{option_map};
+ghost use Rattle.std.specs.List.{list_any};
+ghost use Rattle.sctp_base.specs.declared.error.Error.TheVariants.{ErrOutOfMemory};
+ghost use Rattle.sctp_lists.specs.Kept.{runs_of};
+ghost use Rattle.sctp_lists.specs.Serial.{distance};
+ghost use Rattle.sctp_lists.specs.Lists.{change_where};
+ghost use Rattle.sctp_queues.specs.Turns.{IsWithinDigits};
+ghost use Rattle.sctp_queues.specs.Window.{IsSerial, IsPlaceFor, IsHeldAt, IsWindow, SpansOneWindow, has_tsn, is_held, is_new, bytes_of};
+ghost use Rattle.sctp_queues.specs.Marks.{is_outstanding};
+ghost use Rattle.sctp_queues.specs.Blocks.{BlocksAscend, Reports, covered, gap_offsets, ends_of, is_offset, extended_by, gap_text};
+
+use crate::held::{Held, Mark};
+use crate::turns::Turns;
+use sctp_base::error::Result;
+use sctp_base::util::{sna32lt, sna32lte};
+use sctp_chunks::chunk::chunk_payload_data::ChunkPayloadData;
+use sctp_chunks::chunk::chunk_selective_ack::GapAckBlock;
+use std::alloc::Global;
+use std::marker::Model;
+use std::mem;
+
+#[derive(Drop)]
+pub struct PayloadQueue {
+    held: Held,
+    dup_tsn: Vec<u32>,
+    n_bytes: usize,
+}
+
+impl Model for PayloadQueue {
+    ghost use Rattle.std.specs.Prelude.{◌≡◌};
+    ghost use Rattle.sctp_queues.specs.Payload.{Payload};
+    ghost use Rattle.sctp_queues.specs.Window.{IsSerial, bytes_of};
+
+    ghost Value = { Payload };
+
+    ghost view = { λ q. record { chunks = q.held.chunks; duplicates = q.dup_tsn.items; room = q.held.room } };
+
+    ghost invariant = { λ q. record { serial : IsSerial q.held.chunks; counted : q.n_bytes ≡ bytes_of q.held.chunks } };
+}
+
+// Where a TSN is held, with its chunk, or where it would go: a binary search.
+fn search<'a>(
+    held: &'a Held,
+    tsn: u32,
+    turns: &mut Turns,
+) -> std::result::Result<(usize, &'a ChunkPayloadData), usize>
+    requires { IsSerial held.now.chunks }
+    ensures found { IfOk result (λ spot. IsHeldAt held.now.chunks tsn spot.0 spot.1.now) }
+    ensures absent { OnErr result (All (λ c. c.tsn ≢ tsn) held.now.chunks) }
+    ensures place { IfErr result (IsPlaceFor held.now.chunks tsn) }
+    ensures fits { tsn < 2 ^ 32 }
+    ensures not_back { turns.old ≤ turns.new }
+    ensures cost { IsWithinDigits (length held.now.chunks) (turns.new - turns.old) }
+{
+    let mut low = 0;
+    let mut high = held.len();
+    while low < high {
+        let middle = low + (high - low) / 2;
+        let chunk = held.look(middle, turns);
+        if chunk.tsn == tsn {
+            return Ok((middle, chunk));
+        }
+        if sna32lt(chunk.tsn, tsn) {
+            low = middle + 1;
+        } else {
+            high = middle;
+        }
+    }
+    Err(low)
+}
+
+// Where a chunk with this TSN goes, unless it is held: mostly behind the last.
+fn free_place(held: &Held, tsn: u32) -> Option<usize>
+    requires { IsSerial held.now.chunks }
+    ensures free { is_some result ≡ not (is_held held.now.chunks tsn) }
+    ensures place { IfSome result (IsPlaceFor held.now.chunks tsn) }
+    ensures fits { tsn < 2 ^ 32 }
+{
+    let mut turns = Turns::new();
+    let len = held.len();
+    if len == 0 {
+        return Some(0);
+    }
+    let last = held.look(len - 1, &mut turns);
+    if sna32lt(last.tsn, tsn) {
+        return Some(len);
+    }
+    match search(held, tsn, &mut turns) {
+        Ok(_) => None,
+        Err(place) => Some(place),
+    }
+}
+
+// The distance from the cumulative TSN to a TSN, where a gap ack block can hold it.
+#[tactic(auto, unfolding(sctp_lists::specs::Serial::distance))]
+fn gap_offset(cumulative_tsn: u32, tsn: u32) -> Option<u16>
+    ensures some { IfSome result (λ offset. (offset ≡ distance cumulative_tsn tsn) × (0 < offset) × (offset < 2 ^ 16)) }
+    ensures test { is_some result ≡ is_offset (distance cumulative_tsn tsn) }
+    ensures fits { cumulative_tsn < 2 ^ 32 }
+{
+    let distance = tsn.wrapping_sub(cumulative_tsn);
+    if distance == 0 || distance > 65535 {
+        return None;
+    }
+    Some(distance as u16)
+}
+
+// Adds a distance behind all blocks.
+fn add_offset(blocks: &mut Vec<GapAckBlock>, offset: u16) -> Result<()>
+    requires apart { BlocksAscend blocks.old.items }
+    requires behind { All (λ b. b.end < offset) blocks.old.items }
+    ensures apart { OnOk result (BlocksAscend blocks.new.items) }
+    ensures last { OnOk result (All (λ b. b.end ≤ offset) blocks.new.items) }
+    ensures covers { OnOk result ((n : ℕ) → covered blocks.new.items n ≡ (n == offset) || covered blocks.old.items n) }
+    ensures runs { OnOk result (map ends_of blocks.new.items ≡ extended_by offset (map ends_of blocks.old.items)) }
+    ensures memory { IsOkUnless result ErrOutOfMemory }
+{
+    if let Some(block) = blocks.last_mut() {
+        if block.end + 1 == offset {
+            block.end = offset;
+            return Ok(());
+        }
+    }
+    blocks.push(GapAckBlock {
+        start: offset,
+        end: offset,
+    })?;
+    Ok(())
+}
+
+// Whether the chunk is neither acknowledged nor abandoned.
+pub(crate) fn is_outstanding(chunk: &ChunkPayloadData) -> bool
+    ensures { result ≡ is_outstanding chunk.now }
+{
+    !chunk.acked && !chunk.abandoned
+}
+
+impl PayloadQueue {
+    ghost use Rattle.sctp_queues.specs.Payload.{Payload, with_chunks, pushed, repeated, front_with, without_front, without, past};
+    ghost use Rattle.sctp_queues.specs.Marks.{marked, acknowledged, given_up, with_retransmit, with_nsent, with_since, with_miss_indicator, is_of};
+
+    pub fn new(alloc: Global) -> Self
+        ensures { result ≡ record { chunks = []; duplicates = []; room = 0 } }
+    {
+        PayloadQueue {
+            held: Held::new(alloc),
+            dup_tsn: Vec::new(alloc),
+            n_bytes: 0,
+        }
+    }
+
+    /// Whether the chunk is neither held nor at or before `cumulative_tsn`.
+    pub fn can_push(&self, chunk: &ChunkPayloadData, cumulative_tsn: u32) -> bool
+        ensures { result ≡ is_new self.now.chunks chunk.now.tsn cumulative_tsn }
+    {
+        self.can_push_counted(chunk, cumulative_tsn, &mut Turns::new())
+    }
+
+    /// The same, and its turns are added.
+    pub fn can_push_counted(
+        &self,
+        chunk: &ChunkPayloadData,
+        cumulative_tsn: u32,
+        turns: &mut Turns,
+    ) -> bool
+        ensures answer { result ≡ is_new self.now.chunks chunk.now.tsn cumulative_tsn }
+        ensures not_back { turns.old ≤ turns.new }
+        ensures cost { IsWithinDigits (length self.now.chunks) (turns.new - turns.old) }
+    {
+        self.get_counted(chunk.tsn, turns).is_none() && !sna32lte(chunk.tsn, cumulative_tsn)
+    }
+
+    /// Puts a chunk whose TSN is not held, in one window with all that are.
+    pub fn push_no_check(&mut self, chunk: ChunkPayloadData) -> Result<()>
+        requires fresh { is_held self.old.chunks chunk.tsn ≡ false }
+        requires window { SpansOneWindow self.old.chunks chunk.tsn }
+        requires bytes { bytes_of self.old.chunks + length chunk.user_data < 2 ^ 64 }
+        ensures ok { OnOk result (self.new ≡ pushed self.old chunk) }
+        ensures err { OnErr result (self.new ≡ self.old) }
+        ensures memory { IsOkUnless result ErrOutOfMemory }
+        ensures succeeds { 0 < self.old.room → IsOk result }
+    {
+        match free_place(&self.held, chunk.tsn) {
+            Some(place) => self.insert(place, chunk),
+            None => unreachable!(),
+        }
+    }
+
+    /// Puts a chunk that came. One that is held, or at or before `cumulative_tsn`, is noted as a duplicate; the answer is false then.
+    pub fn push(&mut self, chunk: ChunkPayloadData, cumulative_tsn: u32) -> Result<bool>
+        requires window { IsTrue (is_new self.old.chunks chunk.tsn cumulative_tsn) → IsWindow cumulative_tsn self.old.chunks chunk.tsn }
+        requires bytes { IsTrue (is_new self.old.chunks chunk.tsn cumulative_tsn) → bytes_of self.old.chunks + length chunk.user_data < 2 ^ 64 }
+        ensures answer { IfOk result (λ new. new ≡ is_new self.old.chunks chunk.tsn cumulative_tsn) }
+        ensures ok { IfOk result (λ new. self.new ≡ (if new then pushed self.old chunk else repeated self.old chunk.tsn)) }
+        ensures err { OnErr result (self.new ≡ self.old) }
+        ensures memory { IsOkUnless result ErrOutOfMemory }
+        ensures succeeds { 0 < self.old.room → IsTrue (is_new self.old.chunks chunk.tsn cumulative_tsn) → IsOk result }
+    {
+        if let Some(place) = free_place(&self.held, chunk.tsn) {
+            if !sna32lte(chunk.tsn, cumulative_tsn) {
+                self.insert(place, chunk)?;
+                return Ok(true);
+            }
+        }
+        self.dup_tsn.push(chunk.tsn)?;
+        Ok(false)
+    }
+
+    // Puts a chunk where it goes.
+    fn insert(&mut self, place: usize, chunk: ChunkPayloadData) -> Result<()>
+        requires place { IsPlaceFor self.old.chunks chunk.tsn place }
+        requires window { SpansOneWindow self.old.chunks chunk.tsn }
+        requires fits { chunk.tsn < 2 ^ 32 }
+        requires bytes { bytes_of self.old.chunks + length chunk.user_data < 2 ^ 64 }
+        ensures ok { OnOk result (self.new ≡ pushed self.old chunk) }
+        ensures err { OnErr result (self.new ≡ self.old) }
+        ensures memory { IsOkUnless result ErrOutOfMemory }
+        ensures succeeds { 0 < self.old.room → IsOk result }
+    {
+        let len = chunk.user_data.len();
+        self.held.insert(place, chunk)?;
+        self.n_bytes += len;
+        Ok(())
+    }
+
+    /// The front chunk, if it has this TSN.
+    pub fn pop(&mut self, tsn: u32) -> Option<ChunkPayloadData>
+        ensures popped { result ≡ front_with tsn self.old.chunks }
+        ensures rest { self.new ≡ with_chunks self.old (without_front tsn self.old.chunks) }
+    {
+        if self.held.front_tsn() != Some(tsn) {
+            return None;
+        }
+        let chunk = self.held.pop_front()?;
+        self.n_bytes -= chunk.user_data.len();
+        Some(chunk)
+    }
+
+    /// Takes out all that is at or before `cumulative_tsn`, however far that is (RFC 3758 3.6).
+    pub fn pop_up_to(&mut self, cumulative_tsn: u32)
+        ensures { self.new ≡ with_chunks self.old (past cumulative_tsn self.old.chunks) }
+    {
+        self.pop_up_to_counted(cumulative_tsn, &mut Turns::new());
+    }
+
+    /// The same, at most one turn for each chunk held.
+    pub fn pop_up_to_counted(&mut self, cumulative_tsn: u32, turns: &mut Turns)
+        ensures kept { self.new ≡ with_chunks self.old (past cumulative_tsn self.old.chunks) }
+        ensures not_back { turns.old ≤ turns.new }
+        ensures cost { turns.new ≤ turns.old + length self.old.chunks }
+    {
+        let mut place = 0;
+        while place < self.held.len() {
+            let chunk = self.held.look(place, turns);
+            if sna32lte(chunk.tsn, cumulative_tsn) {
+                let removed = self.held.remove(place);
+                self.n_bytes -= removed.user_data.len();
+            } else {
+                place += 1;
+            }
+        }
+    }
+
+    /// The chunk with this TSN.
+    pub fn get(&self, tsn: u32) -> Option<&ChunkPayloadData>
+        ensures { option_copied result ≡ find (has_tsn tsn) self.now.chunks }
+    {
+        self.get_counted(tsn, &mut Turns::new())
+    }
+
+    /// The same, and its turns are added: at most as many as the number of held chunks has binary digits.
+    pub fn get_counted<'a>(&'a self, tsn: u32, turns: &mut Turns) -> Option<&'a ChunkPayloadData>
+        ensures value { option_copied result ≡ find (has_tsn tsn) self.now.chunks }
+        ensures variant { is_some result ≡ is_held self.now.chunks tsn }
+        ensures not_back { turns.old ≤ turns.new }
+        ensures cost { IsWithinDigits (length self.now.chunks) (turns.new - turns.old) }
+    {
+        match search(&self.held, tsn, turns) {
+            Ok((_, chunk)) => Some(chunk),
+            Err(_) => None,
+        }
+    }
+
+    /// The TSN of the chunk at a place.
+    pub fn tsn_at(&self, place: usize) -> Option<u32>
+        ensures { result ≡ option_map (λ c. c.tsn) (slice_get self.now.chunks place) }
+    {
+        if place < self.held.len() {
+            Some(self.held.look(place, &mut Turns::new()).tsn)
+        } else {
+            None
+        }
+    }
+
+    /// Takes out the chunk with this TSN, wherever it is.
+    pub fn take(&mut self, tsn: u32) -> Option<ChunkPayloadData>
+        ensures taken { result ≡ find (has_tsn tsn) self.old.chunks }
+        ensures rest { self.new ≡ with_chunks self.old (without tsn self.old.chunks) }
+    {
+        match search(&self.held, tsn, &mut Turns::new()) {
+            Ok((place, _)) => {
+                let chunk = self.held.remove(place);
+                self.n_bytes -= chunk.user_data.len();
+                Some(chunk)
+            }
+            Err(_) => None,
+        }
+    }
+
+    /// Gives up what is held of a message, and answers the bytes that left.
+    pub fn abandon_message(&mut self, message_id: u64) -> usize
+        ensures abandoned { self.new ≡ with_chunks self.old (change_where (is_of message_id) given_up self.old.chunks) }
+        ensures left { bytes_of self.new.chunks + result ≡ bytes_of self.old.chunks }
+    {
+        let mut turns = Turns::new();
+        let before = self.n_bytes;
+        for place in 0..self.held.len() {
+            if self.held.look(place, &mut turns).message_id != message_id {
+                continue;
+            }
+            self.n_bytes -= self.held.mark(place, Mark::Abandoned, &mut turns);
+        }
+        before - self.n_bytes
+    }
+
+    /// Flags each chunk that is neither acknowledged nor abandoned.
+    pub fn mark_all_to_retransmit(&mut self)
+        ensures { self.new ≡ with_chunks self.old (change_where is_outstanding (with_retransmit true) self.old.chunks) }
+    {
+        let mut turns = Turns::new();
+        for place in 0..self.held.len() {
+            if !is_outstanding(self.held.look(place, &mut turns)) {
+                continue;
+            }
+            self.held.mark(place, Mark::Retransmit(true), &mut turns);
+        }
+    }
+
+    /// The duplicates noted so far, oldest first.
+    pub fn duplicates(&self) -> &[u32]
+        ensures { result.now ≡ self.now.duplicates }
+    {
+        &self.dup_tsn
+    }
+
+    /// The same, and forgets them.
+    pub fn pop_duplicates(&mut self, alloc: Global) -> Vec<u32>
+        ensures taken { result.items ≡ self.old.duplicates }
+        ensures rest { self.new ≡ record self.old { duplicates = [] } }
+    {
+        mem::replace(&mut self.dup_tsn, Vec::new(alloc))
+    }
+
+    /// The runs of TSNs held at distance 1 to 65,535 after `cumulative_tsn`: they ascend, and none touches the next (RFC 4960 3.3.4).
+    pub fn get_gap_ack_blocks(&self, alloc: Global, cumulative_tsn: u32) -> Result<Vec<GapAckBlock>>
+        ensures reported { IfOk result (λ blocks. Reports cumulative_tsn self.now.chunks blocks.items) }
+        ensures runs { IfOk result (λ blocks. map ends_of blocks.items ≡ runs_of (gap_offsets cumulative_tsn self.now.chunks)) }
+        ensures memory { IsOkUnless result ErrOutOfMemory }
+    {
+        let mut turns = Turns::new();
+        let mut blocks = Vec::new(alloc);
+        for place in 0..self.held.len() {
+            let chunk = self.held.look(place, &mut turns);
+            let Some(offset) = gap_offset(cumulative_tsn, chunk.tsn) else {
+                continue;
+            };
+            add_offset(&mut blocks, offset)?;
+        }
+        Ok(blocks)
+    }
+
+    /// The blocks as text: `cumTSN=10,2-3,5-5`.
+    pub fn get_gap_ack_blocks_string(&self, alloc: Global, cumulative_tsn: u32) -> Result<String>
+        ensures text { IfOk result (λ s. string_bytes s ≡ gap_text cumulative_tsn (runs_of (gap_offsets cumulative_tsn self.now.chunks))) }
+        ensures memory { IsOkUnless result ErrOutOfMemory }
+    {
+        let blocks = self.get_gap_ack_blocks(alloc, cumulative_tsn)?;
+        let mut text = format!(in alloc; "cumTSN={cumulative_tsn}")?;
+        for block in &blocks {
+            write!(text, ",{}-{}", block.start, block.end)?;
+        }
+        Ok(text)
+    }
+
+    /// An equal queue.
+    pub fn try_clone(&self, alloc: Global) -> Result<PayloadQueue>
+        ensures ok { IfOk result (λ q. q ≡ self.now) }
+        ensures memory { IsOkUnless result ErrOutOfMemory }
+    {
+        let mut turns = Turns::new();
+        let mut held = Held::new(alloc);
+        held.reserve(self.held.len())?;
+        for place in 0..self.held.len() {
+            held.insert(place, self.held.look(place, &mut turns).try_clone()?)?;
+        }
+        held.reserve(self.held.room())?;
+        Ok(PayloadQueue {
+            held,
+            dup_tsn: self.dup_tsn.clone()?,
+            n_bytes: self.n_bytes,
+        })
+    }
+
+    /// Marks a chunk as acknowledged, and answers the bytes that left.
+    pub fn mark_as_acked(&mut self, tsn: u32) -> usize
+        ensures acked { self.new ≡ with_chunks self.old (change_where (has_tsn tsn) acknowledged self.old.chunks) }
+        ensures left { bytes_of self.new.chunks + result ≡ bytes_of self.old.chunks }
+    {
+        self.mark(tsn, Mark::Acknowledged).unwrap_or(0)
+    }
+
+    /// Whether the TSN is held; the chunk has the mark then.
+    pub fn set_retransmit(&mut self, tsn: u32, retransmit: bool) -> bool
+        ensures changed { self.new ≡ with_chunks self.old (change_where (has_tsn tsn) (with_retransmit retransmit) self.old.chunks) }
+        ensures held { result ≡ is_held self.old.chunks tsn }
+    {
+        self.mark(tsn, Mark::Retransmit(retransmit)).is_some()
+    }
+
+    /// Whether the TSN is held; the chunk counts as sent so often then.
+    pub fn set_nsent(&mut self, tsn: u32, nsent: u32) -> bool
+        ensures changed { self.new ≡ with_chunks self.old (change_where (has_tsn tsn) (with_nsent nsent) self.old.chunks) }
+        ensures held { result ≡ is_held self.old.chunks tsn }
+    {
+        self.mark(tsn, Mark::Nsent(nsent)).is_some()
+    }
+
+    /// Whether the TSN is held; the chunk counts as sent at that moment then.
+    pub fn set_since(&mut self, tsn: u32, since: Option<u64>) -> bool
+        ensures changed { self.new ≡ with_chunks self.old (change_where (has_tsn tsn) (with_since since) self.old.chunks) }
+        ensures held { result ≡ is_held self.old.chunks tsn }
+    {
+        self.mark(tsn, Mark::Since(since)).is_some()
+    }
+
+    /// Whether the TSN is held; the chunk has so many missing reports then.
+    pub fn set_miss_indicator(&mut self, tsn: u32, miss_indicator: u8) -> bool
+        ensures changed { self.new ≡ with_chunks self.old (change_where (has_tsn tsn) (with_miss_indicator miss_indicator) self.old.chunks) }
+        ensures held { result ≡ is_held self.old.chunks tsn }
+    {
+        self.mark(tsn, Mark::MissIndicator(miss_indicator))
+            .is_some()
+    }
+
+    // Marks the chunk with this TSN, and answers the bytes that left with it.
+    fn mark(&mut self, tsn: u32, mark: Mark) -> Option<usize>
+        ensures changed { self.new ≡ with_chunks self.old (change_where (has_tsn tsn) (marked mark) self.old.chunks) }
+        ensures held { is_some result ≡ is_held self.old.chunks tsn }
+        ensures left { bytes_of self.new.chunks + unwrap_or result 0 ≡ bytes_of self.old.chunks }
+    {
+        let mut turns = Turns::new();
+        match search(&self.held, tsn, &mut turns) {
+            Ok((place, _)) => {
+                let left = self.held.mark(place, mark, &mut turns);
+                self.n_bytes -= left;
+                Some(left)
+            }
+            Err(_) => None,
+        }
+    }
+
+    /// The TSN of the last chunk.
+    pub fn get_last_tsn_received(&self) -> Option<u32>
+        ensures { result ≡ option_map (λ c. c.tsn) (slice_get self.now.chunks (length self.now.chunks - 1)) }
+    {
+        let len = self.held.len();
+        if len == 0 {
+            return None;
+        }
+        self.tsn_at(len - 1)
+    }
+
+    /// The bytes of user data of all that is held.
+    pub fn get_num_bytes(&self) -> usize
+        ensures { result ≡ bytes_of self.now.chunks }
+    {
+        self.n_bytes
+    }
+
+    pub fn len(&self) -> usize
+        ensures { result ≡ length self.now.chunks }
+    {
+        self.held.len()
+    }
+
+    pub fn is_empty(&self) -> bool
+        ensures { result ≡ (length self.now.chunks == 0) }
+    {
+        self.held.is_empty()
+    }
+
+    /// Whether a chunk of the stream is held.
+    pub fn contains_stream(&self, stream_identifier: u16) -> bool
+        ensures { result ≡ list_any (λ c. c.stream_identifier == stream_identifier) self.now.chunks }
+    {
+        let mut turns = Turns::new();
+        for place in 0..self.held.len() {
+            if self.held.look(place, &mut turns).stream_identifier == stream_identifier {
+                return true;
+            }
+        }
+        false
+    }
+
+    /// From here on `additional` pushes of new TSNs take no memory.
+    pub fn reserve(&mut self, additional: usize) -> Result<()>
+        ensures ok { OnOk result (self.new ≡ record self.old { room = max additional self.old.room }) }
+        ensures err { OnErr result (self.new ≡ self.old) }
+        ensures memory { IsOkUnless result ErrOutOfMemory }
+        ensures succeeds { additional ≤ self.old.room → IsOk result }
+    {
+        self.held.reserve(additional)
+    }
+
+    // The chunk at a place.
+    pub(crate) fn at(&self, place: usize) -> &ChunkPayloadData
+        requires { place < length self.now.chunks }
+        ensures { result.now ≡ slice_index_or self.now.chunks place result.now }
+    {
+        self.held.look(place, &mut Turns::new())
+    }
+}
