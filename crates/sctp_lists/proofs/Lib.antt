@@ -5,3 +5,11 @@ pub mod More
 pub mod Wraps
 pub mod SerialLemmas
 pub mod Edits
+pub mod Cases
+pub mod Getting
+pub mod Totals
+pub mod Rows
+pub mod Pieces
+pub mod Tests
+pub mod Places
+pub mod Alls

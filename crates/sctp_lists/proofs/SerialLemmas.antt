@@ -1,9 +1,9 @@
 -- Distances and the order of serial numbers.
-use Rattle.std.proofs.Common.{◌≡◌, ℕ, ◌+◌, ◌-◌, ◌%◌, ◌^◌, ◌<◌, ◌≤◌, ◌⊎◌, Bool, true, false, IsTrue, ◌≢◌, ◌∙◌, inl, inr, sym, refl, mod-eq_of_lt, arith}
+use Rattle.std.proofs.Common.{◌≡◌, ℕ, ◌+◌, ◌-◌, ◌^◌, ◌<◌, ◌≤◌, ◌⊎◌, true, false, IsTrue, ◌≢◌, ◌∙◌, inl, inr, sym, mod-eq_of_lt, arith}
 use native.Mathlib.Nat.{mod-eq-sub-mod}
 use Rattle.std.proofs.lemmas.Bool.{cases_lt, false≢true}
 use Rattle.std.proofs.lemmas.Bool.Decides.{nat_tests}
-use Rattle.sctp_lists.specs.Serial.{distance, comes_before, at_or_before}
+use Rattle.sctp_lists.specs.Serial.{distance, comes_before}
 
 -- a distance, with no remainder in it
 pub distance_cases : (a b : ℕ) → a < 2 ^ 32 → b < 2 ^ 32 → ((a ≤ b) × (distance a b + a ≡ b)) ⊎ ((b < a) × (distance a b + a ≡ b + 2 ^ 32))

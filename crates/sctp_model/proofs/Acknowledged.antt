@@ -1,4 +1,3 @@
--- Only what arrived or was skipped is acknowledged.
 use Rattle.std.proofs.Common.{◌≡◌, ℕ, zero, suc, ◌+◌, ◌-◌, ◌<◌, ◌≤◌, Bool, true, false, List, [], ◌∷◌, ◌++◌, length, map, get_or, Option, Some, None, refl, ap, sym, ◌∙◌, inl, inr, arith, append-nil, add-one, zero-add}
 use Rattle.std.specs.Prelude.{◌⊎◌, if◌then◌else◌, ◌==◌, ◌&&◌, ◌||◌, not, nat_lt, nat_le, min, max, slice_get, fold, take}
 use Rattle.std.specs.List.{list_any}
@@ -24,19 +23,17 @@ use Rattle.sctp_model.specs.Steps.{History, world_of, IsRun, refusal_of, after}
 use Rattle.sctp_model.specs.Contents.{SackContents, cumulative_tsn, datagram, contents_in, contents_of}
 use Rattle.sctp_model.specs.Laws.{IsSetup, OnEveryRun, AcknowledgedArrived, AcknowledgedIsReported, SacksSay, blocks_by}
 use Rattle.sctp_model.proofs.Shape.{shape}
-use Rattle.sctp_model.proofs.Shapes.{get-beyond, get-numbered, length-numbered}
-use Rattle.sctp_model.proofs.Logged.{Logged, below-seen, seen-count}
-use Rattle.sctp_model.proofs.LoggedRun.{logged-run}
+use Rattle.sctp_model.proofs.Arrivals.{Heard, heard-run, seen_by, seen-below, arrived-beyond, cumulative_is_seen}
 use Rattle.sctp_model.proofs.SenderRun.{Sane, sane-run, fold-keeps}
 use Rattle.sctp_model.proofs.Moves
 use Rattle.sctp_model.proofs.Network
-use Rattle.sctp_model.proofs.Sends.{get-last}
+use Rattle.sctp_lists.proofs.Cases.{or-left, or-split}
+use Rattle.sctp_lists.proofs.Getting.{length-numbered, numbered-at, get-last}
+use Rattle.sctp_lists.proofs.Cases.{or-right}
+
+-- Only what arrived or was skipped is acknowledged.
 
 -- ## A SACK reports what was seen
-
-or-split : (a b : Bool) → (a || b) ≡ true → (a ≡ true) ⊎ (b ≡ true)
-or-split true b e = inl refl
-or-split false b e = inr e
 
 any-take : {A : Type 0} (t : A → Bool) (n : ℕ) (xs : List A) → list_any t (take n xs) ≡ true → list_any t xs ≡ true
 any-take t zero [] e = cc
@@ -122,20 +119,16 @@ any-kept q d from (suc count) e = step (q from) refl e (λ h. any-kept q d (from
     step false f e ih = ih e
 
 -- what the next SACK reports was seen
-report-seen : (w : World) (credit p : ℕ) → reports (report_of w credit) p ≡ true → (arrived_at w p || nat_lt p w.skipped) ≡ true
+report-seen : (w : World) (credit p : ℕ) → reports (report_of w credit) p ≡ true → seen_by w p ≡ true
 report-seen w credit p e = step (or-split (nat_lt p (cumulative w)) (list_any (covers (cumulative w) p) (gap_blocks w)) e)
   where
-    or-left : (a b : Bool) → a ≡ true → (a || b) ≡ true
-    or-left true b e = refl
-    or-left false b e = cc
-
-    step : (nat_lt p (cumulative w) ≡ true) ⊎ (list_any (covers (cumulative w) p) (gap_blocks w) ≡ true) → (arrived_at w p || nat_lt p w.skipped) ≡ true
-    step (inl h) = below-seen w p (grind (arith, nat_tests))
+    step : (nat_lt p (cumulative w) ≡ true) ⊎ (list_any (covers (cumulative w) p) (gap_blocks w) ≡ true) → seen_by w p ≡ true
+    step (inl h) = seen-below w p (grind (arith, nat_tests))
     step (inr h) =
         let r = in-runs (cumulative w) p (distances w) (any-take (covers (cumulative w) p) 16379 (runs_of (distances w)) h) in
         let a : arrived_at w (cumulative w + r.0 - 1) ≡ true = any-kept (λ d. arrived_at w (cumulative w + d - 1)) r.0 1 (min 65535 (length w.slots - cumulative w)) r.2 in
         let same : cumulative w + r.0 - 1 ≡ p = omega (arith, r.1) in
-        or-left (arrived_at w p) (nat_lt p w.skipped) (ap (arrived_at w) (sym same) ∙ a)
+        or-right (nat_lt p w.skipped) (arrived_at w p) (ap (arrived_at w) (sym same) ∙ a)
 
 -- ## What was seen stays seen
 
@@ -209,7 +202,7 @@ sacks-sent log w now (Some n) f =
     let v = Changes.fragments_sent u in
     sacks-append log v.network (Data (numbers_from (length u.slots) (length v.slots - length u.slots)) ∷ []) (subst (SacksFit log) (sym (Network.same-network u)) f) (tt, tt)
 
-sacks-after : (setup : Setup) (older : History) (e : Event) (log : List Coming) → ((p : ℕ) → (arrived_at (world_of setup older) p || nat_lt p (world_of setup older).skipped) ≡ true → is_seen log p ≡ true) → SacksFit log (world_of setup older).network → SacksFit log (after (world_of setup older) e).network
+sacks-after : (setup : Setup) (older : History) (e : Event) (log : List Coming) → ((p : ℕ) → seen_by (world_of setup older) p ≡ true → is_seen log p ≡ true) → SacksFit log (world_of setup older).network → SacksFit log (after (world_of setup older) e).network
 sacks-after setup older (E.Open s) log h f = f
 sacks-after setup older (E.Mode s u v x) log h f = f
 sacks-after setup older (E.Write s x y) log h f = subst (SacksFit log) (sym (Network.network-written (world_of setup older) s x y)) f
@@ -229,7 +222,7 @@ sacks-after setup older (E.Read s) log h f = subst (SacksFit log) (sym (Network.
 pub sacks-run : (setup : Setup) (h : History) → IsSetup setup → IsRun setup h → SacksFit (log_of setup h) (world_of setup h).network
 sacks-run setup [] is run = tt
 sacks-run setup (entry ∷ older) is run =
-    let g = logged-run setup older is run.1.1 in
+    let g = heard-run setup older is run.1.1 in
     sacks-after setup older entry.0 (log_of setup (entry ∷ older)) (λ p e. seen-stays setup older entry.0 entry.1 p (g.seen p ∙ e))
     (sacks-more (log_of setup older) (log_of setup (entry ∷ older)) (λ p e. seen-stays setup older entry.0 entry.1 p e) (world_of setup older).network (sacks-run setup older is run.1.1))
 
@@ -264,20 +257,27 @@ seen-acknowledged setup ((E.Ack x, r) ∷ older) p is run e = seen-acknowledged 
 seen-acknowledged setup ((E.Read x, r) ∷ older) p is run e = seen-acknowledged setup older p is run.1.1 e
 
 -- what was seen was made
-pub seen-made : (w : World) (log : List Coming) (p : ℕ) → Logged w log → is_seen log p ≡ true → p < length w.slots
-seen-made w log p g e = step (or-split (arrived_at w p) (nat_lt p w.skipped) (sym (g.seen p) ∙ e))
+pub seen-made : (w : World) (log : List Coming) (p : ℕ) → Heard w log → is_seen log p ≡ true → p < length w.slots
+seen-made w log p g e = step (or-split (nat_lt p w.skipped) (arrived_at w p) (sym (g.seen p) ∙ e)) (cases_lt p (length w.slots))
   where
-    step : (arrived_at w p ≡ true) ⊎ (nat_lt p w.skipped ≡ true) → p < length w.slots
-    step (inl h) = (g.fragment p h).0
-    step (inr h) = let z : p < w.skipped = grind (arith, nat_tests) in omega (arith, g.short)
+    step : (nat_lt p w.skipped ≡ true) ⊎ (arrived_at w p ≡ true) → (p < length w.slots) ⊎ (length w.slots ≤ p) → p < length w.slots
+    step h (inl l) = l
+    step (inl h) (inr o) = let z : p < w.skipped = grind (arith, nat_tests) in omega (arith, g.short)
+    step (inr h) (inr o) = absurd (not_both (sym (arrived-beyond w p o) ∙ h))
 
 pub acknowledged_arrived : OnEveryRun AcknowledgedArrived
 acknowledged_arrived setup h is run p e =
-    let g = logged-run setup h is run in
+    let g = heard-run setup h is run in
     let s = seen-acknowledged setup h p is run e in (
       seen-made (world_of setup h) (log_of setup h) p g s,
-      ap (λ b. b || is_skipped (log_of setup h) p) (g.new p) ∙ ap (λ b. arrived_at (world_of setup h) p || b) (g.passed p) ∙ sym (g.seen p) ∙ s,
+      ap (λ b. b || is_skipped (log_of setup h) p) (sym (g.arrived p)) ∙ ap (λ b. arrived_at (world_of setup h) p || b) (g.covered p)
+          ∙ swapped (arrived_at (world_of setup h) p) (nat_lt p (world_of setup h).skipped) (sym (g.seen p) ∙ s),
     )
+  where
+    swapped : (a b : Bool) → (b || a) ≡ true → (a || b) ≡ true
+    swapped true b e = refl
+    swapped false true e = refl
+    swapped false false e = e
 
 -- ## What is acknowledged is what the SACKs taken report
 
@@ -293,10 +293,10 @@ acks-quiet setup h w v q made a = record { slots = λ p lt. step p lt (cases_lt 
     step p lt (inr g) = q.fresh p g lt ∙ sym (fails (is_acknowledged_in setup h p) (λ e. absurd (omega (arith, made p e))))
 
 -- the receiver's events acknowledge nothing
-record AsAcknowledged (w v : World) : Type 0 where
-  slots : (p : ℕ) → (Messages.slot_at v p).acknowledged ≡ (Messages.slot_at w p).acknowledged
-  count : length v.slots ≡ length w.slots
-  taken : v.taken ≡ w.taken
+pub record AsAcknowledged (w v : World) : Type 0 where
+  pub slots : (p : ℕ) → (Messages.slot_at v p).acknowledged ≡ (Messages.slot_at w p).acknowledged
+  pub count : length v.slots ≡ length w.slots
+  pub taken : v.taken ≡ w.taken
 
 acks-same : (setup : Setup) (h : History) (w v : World) → AsAcknowledged w v → Acks setup h w → Acks setup h v
 acks-same setup h w v s a = record { slots = λ p lt. s.slots p ∙ a.slots p (omega (arith, s.count)); taken = s.taken ∙ a.taken }
@@ -318,7 +318,7 @@ as-came w p = step (is_new w p)
 as-then : (w v u : World) → AsAcknowledged w v → AsAcknowledged v u → AsAcknowledged w u
 as-then w v u f g = record { slots = λ p. g.slots p ∙ f.slots p; count = g.count ∙ f.count; taken = g.taken ∙ f.taken }
 
-as-datagram : (w : World) (o : Option Datagram) → AsAcknowledged w (Changes.came w o)
+pub as-datagram : (w : World) (o : Option Datagram) → AsAcknowledged w (Changes.came w o)
 as-datagram w None = record { slots = λ k. refl; count = refl; taken = refl }
 as-datagram w (Some (Data ps)) = fold-keeps (AsAcknowledged w) Changes.slot_came (λ v p a. as-then w v (Changes.slot_came v p) a (as-came v p)) ps w (record { slots = λ k. refl; count = refl; taken = refl })
 as-datagram w (Some (Forward upto names)) = step (Changes.skip_counts w upto)
@@ -328,14 +328,9 @@ as-datagram w (Some (Forward upto names)) = step (Changes.skip_counts w upto)
     step false = record { slots = λ k. refl; count = refl; taken = refl }
 as-datagram w (Some (Sack r)) = record { slots = λ k. refl; count = refl; taken = refl }
 
-as-read : (w : World) (s : ℕ) (o : Option ℕ) → AsAcknowledged w (Changes.read_of w s o)
+pub as-read : (w : World) (s : ℕ) (o : Option ℕ) → AsAcknowledged w (Changes.read_of w s o)
 as-read w s None = record { slots = λ k. refl; count = refl; taken = refl }
 as-read w s (Some n) = record { slots = λ k. refl; count = refl; taken = refl }
-
-numbered-at : {A : Type 0} (f : ℕ → A → A) (from k : ℕ) (xs : List A) (d : A) → k < length xs → get_or (each_numbered f from xs) k d ≡ f (from + k) (get_or xs k d)
-numbered-at f from k [] d lt = absurd (omega arith)
-numbered-at f from zero (x ∷ xs) d lt = let z : from ≡ from + 0 = omega arith in ap (λ i. f i x) z
-numbered-at f from (suc k) (x ∷ xs) d lt = numbered-at f (from + 1) k xs d (omega arith) ∙ (let z : from + 1 + k ≡ from + suc k = omega arith in ap (λ i. f i (get_or xs k d)) z)
 
 acks-taken : (setup : Setup) (older : History) (w : World) (k : ℕ) (r : Reply) → w ≡ world_of setup older → Acks setup older w → Acks setup ((E.Acked k, r) ∷ older) (Changes.sack_taken w (slice_get w.network k))
 acks-taken setup older w k r same a = step (slice_get w.network k) (ap (λ v. slice_get v.network k) same)
@@ -365,7 +360,7 @@ acks-step : (setup : Setup) (older : History) (e : Event) (r : Reply) → IsSetu
 acks-step setup older e r is run a = by_event e
   where
     made : (p : ℕ) → is_acknowledged_in setup older p ≡ true → p < length (world_of setup older).slots
-    made p h = seen-made (world_of setup older) (log_of setup older) p (logged-run setup older is run) (seen-acknowledged setup older p is run h)
+    made p h = seen-made (world_of setup older) (log_of setup older) p (heard-run setup older is run) (seen-acknowledged setup older p is run h)
 
     quiet : (v : World) → Moves.Quiet (world_of setup older) v → Acks setup older v
     quiet v q = acks-quiet setup older (world_of setup older) v q made a
@@ -403,12 +398,12 @@ pub sacks_say : OnEveryRun SacksSay
 sacks_say setup h is run credit =
     let w = world_of setup h in
     let log = log_of setup h in
-    let g = logged-run setup h is run in
-    let c : cumulative w ≡ seen_count log (length w.slots) = seen-count w log g in
+    let g = heard-run setup h is run in
+    let c : cumulative w ≡ seen_count log (length w.slots) = cumulative_is_seen setup h is run in
     let blocks : gap_blocks w ≡ blocks_by w log =
     ap (λ q. take 16379 (runs_of (kept (λ d. arrived_at w (q + d - 1)) 1 (min 65535 (length w.slots - q))))) c
-    ∙ ap (λ l. take 16379 (runs_of l)) (kept-same (λ d. arrived_at w (seen_count log (length w.slots) + d - 1)) (λ d. arrived_new log (seen_count log (length w.slots) + d - 1)) 1 (min 65535 (length w.slots - seen_count log (length w.slots))) (λ k a b. sym (g.new (seen_count log (length w.slots) + k - 1)))) in
+    ∙ ap (λ l. take 16379 (runs_of l)) (kept-same (λ d. arrived_at w (seen_count log (length w.slots) + d - 1)) (λ d. arrived_new log (seen_count log (length w.slots) + d - 1)) 1 (min 65535 (length w.slots - seen_count log (length w.slots))) (λ k a b. (g.arrived (seen_count log (length w.slots) + k - 1)))) in
     ap (contents_in (after w (E.Ack credit))) (get-last w.network (Sack (report_of w credit)))
     ∙ ap (λ q. Some (SackContents (cumulative_tsn w q) credit (gap_blocks w) (map (Messages.tsn_of w) (take (16379 - length (gap_blocks w)) w.duplicates)))) c
     ∙ ap (λ b. Some (SackContents (cumulative_tsn w (seen_count log (length w.slots))) credit b (map (Messages.tsn_of w) (take (16379 - length b) w.duplicates)))) blocks
-    ∙ ap (λ d. Some (SackContents (cumulative_tsn w (seen_count log (length w.slots))) credit (blocks_by w log) (map (Messages.tsn_of w) (take (16379 - length (blocks_by w log)) d)))) (sym g.again)
+    ∙ ap (λ d. Some (SackContents (cumulative_tsn w (seen_count log (length w.slots))) credit (blocks_by w log) (map (Messages.tsn_of w) (take (16379 - length (blocks_by w log)) d)))) g.duplicates

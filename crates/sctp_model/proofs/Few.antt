@@ -8,16 +8,16 @@ use Rattle.sctp_lists.proofs.KeptLemmas.{kept-snoc}
 use Rattle.sctp_model.specs.World.{Setup, World}
 use Rattle.sctp_model.proofs.Shape.{Shape, shape, has, sent, parts}
 use Rattle.sctp_model.proofs.Sender.{Sender, is_mark}
-use Rattle.sctp_model.proofs.SenderSteps.{by_same, same-yes}
 use Rattle.sctp_model.proofs.SenderRun.{Sane, accepted_of}
-use Rattle.sctp_model.proofs.Totals
+use Rattle.sctp_lists.proofs.Cases.{by_same, same-yes}
+use Rattle.sctp_lists.proofs.Totals.{total-none, total-one, total-le}
 
 -- each of so many things is of one of the messages
 counted : (g : ℕ → ℕ) (most things : ℕ) → ((p : ℕ) → p < things → g p < most) → total_over (λ n. length (kept (λ p. g p == n) 0 things)) (kept always 0 most) ≡ things
-counted g most zero h = Totals.total-none (λ n. 0) 0 most (λ k a b. refl)
+counted g most zero h = total-none (λ n. 0) 0 most (λ k a b. refl)
 counted g most (suc things) h =
     let ih = counted g most things (λ p lt. h p (omega arith)) in
-    let one = Totals.total-one (λ n. length (kept (λ p. g p == n) 0 things)) (λ n. length (kept (λ p. g p == n) 0 (suc things))) (g things) 1 0 most (omega arith) (omega (arith, h things (omega arith))) (λ k ne. sym (other k ne)) (sym here) in
+    let one = total-one (λ n. length (kept (λ p. g p == n) 0 things)) (λ n. length (kept (λ p. g p == n) 0 (suc things))) (g things) 1 0 most (omega arith) (omega (arith, h things (omega arith))) (λ k ne. sym (other k ne)) (sym here) in
     omega (arith, ih, one)
   where
     more : (k : ℕ) → length (kept (λ p. g p == k) 0 (suc things)) ≡ length (kept (λ p. g p == k) 0 things ++ (if g things == k then things ∷ [] else []))
@@ -42,7 +42,7 @@ length-split p q from (suc count) = step (p from) (q from) (length-split p q (fr
     step false c ih = ih
 
 pub few-slots : (x : Shape) → Sender x → x.slots ≤ accepted_of x
-few-slots x s = omega (arith, counted (λ p. (x.slot p).message) x.count x.slots s.made, Totals.total-le (λ n. length (kept (λ p. (x.slot p).message == n) 0 x.slots)) (parts x) 0 x.count (λ n a b. each n (omega arith)))
+few-slots x s = omega (arith, counted (λ p. (x.slot p).message) x.count x.slots s.made, total-le (λ n. length (kept (λ p. (x.slot p).message == n) 0 x.slots)) (parts x) 0 x.count (λ n a b. each n (omega arith)))
   where
     one : (a b : Bool) (m p : ℕ) → m ≤ p → b ≡ nat_lt m p → m + (if a && b then 1 else 0) ≤ p
     one true true m p le e = let z : m < p = (let w = sym e in grind (arith, nat_tests)) in omega arith

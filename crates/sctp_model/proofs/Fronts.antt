@@ -1,4 +1,3 @@
--- The message to send from is one whose next fragment can take a slot.
 use Rattle.std.proofs.Common.{◌≡◌, ℕ, zero, suc, ◌+◌, ◌<◌, ◌≤◌, Bool, true, false, List, [], ◌∷◌, length, Option, Some, None, refl, ap, sym, ◌∙◌, inl, inr, arith}
 use Rattle.std.specs.Prelude.{◌⊎◌, if◌then◌else◌, ◌==◌, ◌&&◌, not, nat_lt}
 use Rattle.std.proofs.lemmas.Bool.{cases_lt}
@@ -8,20 +7,12 @@ use Rattle.sctp_lists.proofs.KeptLemmas.{front-kept, FrontOf, IsFront}
 use Rattle.sctp_lists.proofs.More.{fails, not_both, both, and, length-kept-positive}
 use Rattle.sctp_model.proofs.Shape.{Shape, has, sent, parts, half, unsent, front_of}
 use Rattle.sctp_model.proofs.Sender.{Sender, is_mark}
-use Rattle.sctp_model.proofs.SenderSteps.{Takes, by_same, same-yes, same-is, negated, sent-some, of-half, half-one}
+use Rattle.sctp_model.proofs.SenderSteps.{Takes, sent-some, of-half, half-one}
 use Rattle.sctp_model.proofs.SenderEnds.{sent-none}
+use Rattle.sctp_lists.proofs.Cases.{same-yes, same-is, negated}
+use Rattle.sctp_lists.proofs.Tests.{FirstOf, first-kept}
 
--- the first that passes, or that none does
-abbrev pub FirstOf : (ℕ → Bool) → ℕ → Option ℕ → Type 0
-FirstOf p count None = (j : ℕ) → j < count → p j ≡ false
-FirstOf p count (Some n) = (n < count) × (p n ≡ true) × ((j : ℕ) → j < n → p j ≡ false)
-
-pub first-kept : (p : ℕ → Bool) (count : ℕ) → FirstOf p count (first_of (kept p 0 count))
-first-kept p count = step (kept p 0 count) (front-kept p 0 count)
-  where
-    step : (l : List ℕ) → FrontOf p 0 count l → FirstOf p count (first_of l)
-    step [] f = λ j lt. f j (omega arith) (omega arith)
-    step (k ∷ rest) f = (omega (arith, f.high), f.passes, λ j lt. f.first j (omega arith) lt)
+-- The message to send from is one whose next fragment can take a slot.
 
 pub half-made : (x : Shape) (n : ℕ) → Sender x → half x n ≡ true → n < x.count
 half-made x n s h = step (cases_lt n x.count)

@@ -10,9 +10,10 @@ use Rattle.sctp_lists.proofs.KeptLemmas.{kept-same}
 use Rattle.sctp_lists.proofs.More.{fails, not_both, both, and}
 use Rattle.sctp_model.proofs.Shape.{Shape, MessagePart, has, sent, parts, half, on, index, slotted, written, abandoned_at, expired_at}
 use Rattle.sctp_model.proofs.Sender.{Sender, sent-slotted, slot-old}
-use Rattle.sctp_model.proofs.SenderSteps.{Takes, by_same, same-yes, same-is, negated, sent-other, sent-grows, of-half}
+use Rattle.sctp_model.proofs.SenderSteps.{Takes, sent-other, sent-grows, of-half}
 use Rattle.sctp_model.proofs.SenderEnds.{sent-none, message-old, on-old}
 use Rattle.sctp_model.proofs.Slots.{sent-made, sent-alive}
+use Rattle.sctp_lists.proofs.Cases.{by_same, same-yes}
 
 -- a message as it was written
 abbrev pub as_written : MessagePart → MessagePart
@@ -28,6 +29,7 @@ pub record Grows (x y : Shape) : Type 0 where
   pub count : x.count ≤ y.count
   pub message : (n : ℕ) → n < x.count → as_written (y.message n) ≡ as_written (x.message n)
   pub abandoned : (n : ℕ) → n < x.count → (x.message n).abandoned ≡ true → (y.message n).abandoned ≡ true
+  pub expired : (n : ℕ) → n < x.count → (x.message n).expired ≡ true → (y.message n).expired ≡ true
   pub sent_more : (n : ℕ) → sent x n ≤ sent y n
   -- a message that was sent wholly or abandoned gets no further slot
   pub ended : (n : ℕ) → 0 < sent x n → IsEnded x n → sent y n ≡ sent x n
@@ -35,7 +37,7 @@ pub record Grows (x y : Shape) : Type 0 where
   pub same_index : (n : ℕ) → 0 < sent x n → (x.message n).ordered ≡ true → index y n ≡ index x n
 
 pub grows-same : (x y : Shape) → y ≡ x → Grows x y
-grows-same x y e = subst (λ z. Grows x z) (sym e) (record { size = refl; slots = omega arith; slot = λ p lt. refl; count = omega arith; message = λ n lt. refl; abandoned = λ n lt e. e; sent_more = λ n. omega arith; ended = λ n a b. refl; same_index = λ n a b. refl })
+grows-same x y e = subst (λ z. Grows x z) (sym e) (record { size = refl; slots = omega arith; slot = λ p lt. refl; count = omega arith; message = λ n lt. refl; abandoned = λ n lt e. e; expired = λ n lt e. e; sent_more = λ n. omega arith; ended = λ n a b. refl; same_index = λ n a b. refl })
 
 pub grows-by : (x y z : Shape) → y ≡ z → Grows x z → Grows x y
 grows-by x y z e g = subst (λ s. Grows x s) (sym e) g
@@ -51,6 +53,7 @@ grows-then x y z s f g = record {
   count = omega (arith, f.count, g.count);
   message = λ n lt. g.message n (omega (arith, f.count)) ∙ f.message n lt;
   abandoned = λ n lt e. g.abandoned n (omega (arith, f.count)) (f.abandoned n lt e);
+  expired = λ n lt e. g.expired n (omega (arith, f.count)) (f.expired n lt e);
   sent_more = λ n. omega (arith, f.sent_more n, g.sent_more n);
   ended = λ n pos e. g.ended n (omega (arith, f.sent_more n)) (later n pos e) ∙ f.ended n pos e;
   same_index = λ n pos o. g.same_index n (omega (arith, f.sent_more n)) (ap (λ m. m.ordered) (f.message n (sent-made x n s pos)) ∙ o) ∙ f.same_index n pos o;
@@ -70,6 +73,7 @@ grows-takes x n t = record {
   count = omega arith;
   message = λ k lt. refl;
   abandoned = λ k lt e. e;
+  expired = λ k lt e. e;
   sent_more = λ k. sent-grows x n false k;
   ended = λ k pos e. by_same {P = sent (slotted x n false) k ≡ sent x k} n k (λ z. absurd (not' k z e)) (λ ne f. sent-other x n false k ne);
   same_index = λ k pos o. refl;
@@ -88,7 +92,7 @@ either true c e = refl
 either false c e = e
 
 pub grows-abandoned : (x : Shape) (n : ℕ) → Grows x (abandoned_at x n)
-grows-abandoned x n = record { size = refl; slots = omega arith; slot = λ p lt. refl; count = omega arith; message = λ k lt. refl; abandoned = λ k lt e. either (k == n) (x.message k).abandoned e; sent_more = λ k. omega arith; ended = λ k a b. refl; same_index = λ k a b. refl }
+grows-abandoned x n = record { size = refl; slots = omega arith; slot = λ p lt. refl; count = omega arith; message = λ k lt. refl; abandoned = λ k lt e. either (k == n) (x.message k).abandoned e; expired = λ k lt e. e; sent_more = λ k. omega arith; ended = λ k a b. refl; same_index = λ k a b. refl }
 
 pub grows-marked : (x : Shape) (n : ℕ) → Grows x (abandoned_at (slotted x n true) n)
 grows-marked x n = record {
@@ -98,6 +102,7 @@ grows-marked x n = record {
   count = omega arith;
   message = λ k lt. refl;
   abandoned = λ k lt e. either (k == n) (x.message k).abandoned e;
+  expired = λ k lt e. e;
   sent_more = λ k. sent-grows x n true k;
   ended = λ k a b. sent-slotted x n k true ∙ none-more (n == k) (sent x k);
   same_index = λ k a b. refl;
@@ -111,6 +116,7 @@ grows-expired x n s z alive = record {
   count = omega arith;
   message = λ k lt. refl;
   abandoned = λ k lt e. e;
+  expired = λ k lt e. either (k == n) (x.message k).expired e;
   sent_more = λ k. omega arith;
   ended = λ k a b. refl;
   same_index = λ k pos o. ap length (kept-same (on (expired_at x n) (x.message k).stream) (on x (x.message k).stream) 0 k (λ j a b. same k pos o j (omega arith) ((x.message j).stream == (x.message k).stream) refl (x.message j).ordered refl));
@@ -134,6 +140,7 @@ grows-written x m s = record {
   count = omega arith;
   message = λ k lt. ap as_written (message-old x m k lt);
   abandoned = λ k lt e. ap (λ y. y.abandoned) (message-old x m k lt) ∙ e;
+  expired = λ k lt e. ap (λ y. y.expired) (message-old x m k lt) ∙ e;
   sent_more = λ k. omega arith;
   ended = λ k a b. refl;
   same_index = λ k pos o. let lt = sent-made x k s pos in
@@ -150,6 +157,7 @@ grows-marks x n = record {
   count = omega arith;
   message = λ k lt. refl;
   abandoned = λ k lt e. e;
+  expired = λ k lt e. e;
   sent_more = λ k. sent-grows x n true k;
   ended = λ k a b. sent-slotted x n k true ∙ none-more (n == k) (sent x k);
   same_index = λ k a b. refl;

@@ -12,13 +12,13 @@ use Rattle.sctp_model.specs.Messages
 use Rattle.sctp_model.specs.Receiver.{arrived_at}
 use Rattle.sctp_model.specs.Changes
 use Rattle.sctp_model.proofs.Shape.{Shape, shape, message_part, sent, half, slotted, abandoned_at, expired_at, written}
-use Rattle.sctp_model.proofs.SenderSteps.{by_last, by_same}
 use Rattle.sctp_model.proofs.Shapes
-use Rattle.sctp_model.proofs.Shapes.{get-beyond, get-snoc, get-snoc_old, get-snoc_new, get-map, length-mapped}
 use Rattle.sctp_model.proofs.Fronts.{front-takes, of-unsent}
 use Rattle.sctp_model.proofs.SenderRun.{Sane, sane-takes, sane-abandoned, sane-started, filled-keeps, written_as, AllSent, sent-all, late-sent}
 use Rattle.sctp_lists.specs.Kept.{numbers_from}
 use Rattle.sctp_model.proofs.Grows.{Grows, grows-same, grows-by, grows-then, grows-takes, grows-abandoned, grows-marked, grows-marks, grows-expired, grows-written}
+use Rattle.sctp_lists.proofs.Cases.{by_same}
+use Rattle.sctp_lists.proofs.Getting.{get-beyond, get-snoc_old, get-snoc_new, get-snoc, get-map, length-mapped}
 
 -- what a sender's change leaves
 pub record Quiet (w v : World) : Type 0 where

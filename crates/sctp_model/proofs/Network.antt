@@ -1,4 +1,3 @@
--- What lies in the network stays true as the record grows.
 use Rattle.std.proofs.Common.{◌≡◌, ℕ, zero, suc, ◌+◌, ◌-◌, ◌<◌, ◌≤◌, ◌%◌, ◌^◌, Bool, true, false, List, [], ◌∷◌, ◌++◌, length, map, Option, Some, None, refl, ap, sym, ◌∙◌, inl, inr, arith, length-append, append-nil, zero-add}
 use Rattle.std.specs.Prelude.{◌⊎◌, if◌then◌else◌, ◌==◌, ◌&&◌, ◌||◌, not, nat_le, nat_lt, fold, slice_get, slice_index_or, max}
 use Rattle.std.specs.List.{list_any, list_all}
@@ -26,7 +25,7 @@ use Rattle.sctp_model.specs.Steps.{History, world_of, IsRun, refusal_of, after, 
 use Rattle.sctp_model.specs.Laws.{OnEveryRun, NoEndMarkIsSent, DatagramsStay}
 use Rattle.sctp_model.proofs.Shape.{Shape, MessagePart, shape, has, sent, parts, index, slotted}
 use Rattle.sctp_model.proofs.Sender.{Sender, slot-old, slot-new}
-use Rattle.sctp_model.proofs.SenderSteps.{by_last, same-yes, same-is, negated, of-has, sent-some}
+use Rattle.sctp_model.proofs.SenderSteps.{of-has, sent-some}
 use Rattle.sctp_model.proofs.Slots.{sent-made, beyond-slots}
 use Rattle.sctp_model.proofs.Shapes
 use Rattle.sctp_model.proofs.SenderRun.{Sane, sane-run, sane-after, sane-started, filled-keeps, fold-keeps, unless-holds, in-flight-sent}
@@ -34,6 +33,11 @@ use Rattle.sctp_model.proofs.Grows.{Grows, IsEnded, as_written, grows-same, grow
 use Rattle.sctp_model.proofs.Moves
 use Rattle.sctp_model.proofs.Fronts.{slot-sent, mark-abandoned}
 use Rattle.sctp_chunks.specs.declared.chunk.chunk_payload_data.PayloadProtocolIdentifier.{PayloadProtocolIdentifier}
+use Rattle.sctp_lists.proofs.Cases.{by_last, same-is, negated}
+use Rattle.sctp_lists.proofs.Getting.{slice-front}
+use Rattle.sctp_lists.proofs.Tests.{all-out}
+
+-- What lies in the network stays true as the record grows.
 
 -- ## Each event extends the record
 
@@ -226,7 +230,7 @@ pub slots-fit : (x : Shape) (from count : ℕ) → ((p : ℕ) → from ≤ p →
 slots-fit x from zero h = tt
 slots-fit x from (suc count) h = let a = h from (omega arith) (omega arith) in (a.0, a.1, slots-fit x (from + 1) count (λ p i j. h p (omega arith) (omega arith)))
 
-network-more : (v : World) → (Changes.fragment_sent v).network ≡ v.network
+pub network-more : (v : World) → (Changes.fragment_sent v).network ≡ v.network
 network-more v = step (Messages.front v)
   where
     step : (o : Option ℕ) → (Changes.fragment_of_sent v o).network ≡ v.network
@@ -250,17 +254,7 @@ fit-sent setup w now (Some n) g a =
     all-of : Moves.Quiet w (Changes.fragments_sent (Changes.started w now)) → AllFit (shape (Changes.fragments_sent (Changes.started w now))) (Changes.fragments_sent (Changes.started w now)).network
     all-of q = fit-kept w (Changes.fragments_sent (Changes.started w now)) g.sender q.grows (same-network (Changes.started w now)) a
 
-all-in-kept : (t p : ℕ → Bool) (q from count : ℕ) → from ≤ q → q < from + count → p q ≡ true → list_all t (kept p from count) ≡ true → t q ≡ true
-all-in-kept t p q from zero a b e h = absurd (omega arith)
-all-in-kept t p q from (suc count) a b e h = step (p from) refl h (eq-or-lt_of_le a) (λ l g. all-in-kept t p q (from + 1) count l (omega arith) e g)
-  where
-    step : (c : Bool) → p from ≡ c → list_all t (if c then from ∷ kept p (from + 1) count else kept p (from + 1) count) ≡ true → (from ≡ q) ⊎ (from < q) → (from + 1 ≤ q → list_all t (kept p (from + 1) count) ≡ true → t q ≡ true) → t q ≡ true
-    step true f g (inl z) ih = ap t (sym z) ∙ (both (t from) (list_all t (kept p (from + 1) count)) g).0
-    step true f g (inr l) ih = ih (omega arith) (both (t from) (list_all t (kept p (from + 1) count)) g).1
-    step false f g (inl z) ih = absurd (not_both (sym f ∙ ap p z ∙ e))
-    step false f g (inr l) ih = ih (omega arith) g
-
-namable : (w : World) (upto n : ℕ) → Sender (shape w) → can_name w upto n ≡ true → IsNamable (shape w) upto n
+pub namable : (w : World) (upto n : ℕ) → Sender (shape w) → can_name w upto n ≡ true → IsNamable (shape w) upto n
 namable w upto n s e =
     let a = both (nat_lt n (length w.messages)) ((Messages.message_at w n).ordered && (is_ended w n && (not (Messages.message_at w n).expired && list_all (λ place. nat_le place upto) (Messages.slots_where w (Messages.belongs_to w n))))) e in
     let b = both (Messages.message_at w n).ordered (is_ended w n && (not (Messages.message_at w n).expired && list_all (λ place. nat_le place upto) (Messages.slots_where w (Messages.belongs_to w n)))) a.1 in
@@ -272,7 +266,7 @@ namable w upto n s e =
       ordered = b.0;
       some = some lt (ended (sent (shape w) n == parts (shape w) n) refl c.0);
       ended = ended (sent (shape w) n == parts (shape w) n) refl c.0;
-      within = λ q l h. let t : nat_le q upto ≡ true = all-in-kept (λ place. nat_le place upto) (Messages.belongs_to w n) q 0 (length w.slots) (omega arith) (omega arith) (both (Messages.belongs_to w n q) (not (Messages.slot_at w q).is_end_mark) h).0 d.1 in grind (arith, nat_tests);
+      within = λ q l h. let t : nat_le q upto ≡ true = all-out (λ place. nat_le place upto) (Messages.belongs_to w n) q 0 (length w.slots) d.1 (omega arith) (omega arith) (both (Messages.belongs_to w n q) (not (Messages.slot_at w q).is_end_mark) h).0 in grind (arith, nat_tests);
     }
   where
     ended : (t : Bool) → (sent (shape w) n == parts (shape w) n) ≡ t → (t || (Messages.message_at w n).abandoned) ≡ true → IsEnded (shape w) n
@@ -283,7 +277,7 @@ namable w upto n s e =
     some lt (inl f) = omega (arith, f, s.some n lt)
     some lt (inr f) = s.abandoned_sent n lt f
 
-names-fit : (w : World) (upto : ℕ) (ns : List ℕ) → Sender (shape w) → list_all (can_name w upto) ns ≡ true → NamesFit (shape w) upto ns
+pub names-fit : (w : World) (upto : ℕ) (ns : List ℕ) → Sender (shape w) → list_all (can_name w upto) ns ≡ true → NamesFit (shape w) upto ns
 names-fit w upto [] s e = tt
 names-fit w upto (n ∷ ns) s e = let a = both (can_name w upto n) (list_all (can_name w upto) ns) e in (namable w upto n s a.0, names-fit w upto ns s a.1)
 
@@ -318,7 +312,7 @@ pub network-written : (w : World) (s : ℕ) (ppi : PayloadProtocolIdentifier) (b
 network-written w s ppi [] = refl
 network-written w s ppi (b ∷ bs) = refl
 
-skip-ok : (w : World) (upto : ℕ) (names : List ℕ) → skip_refusal w upto names ≡ None → (upto < length w.slots) × (list_all (can_name w upto) names ≡ true)
+pub skip-ok : (w : World) (upto : ℕ) (names : List ℕ) → skip_refusal w upto names ≡ None → (upto < length w.slots) × (list_all (can_name w upto) names ≡ true)
 skip-ok w upto names ok =
     let first = unless-holds (nat_lt upto (length w.slots)) SkipUnassigned (unless (list_all (can_name w upto) names && nat_le (length names) 16381) SkipNames None) ok in
     let second = unless-holds (list_all (can_name w upto) names && nat_le (length names) 16381) SkipNames None first.1 in
@@ -431,11 +425,6 @@ contents-stay w v (Forward upto names) s x f =
 contents-stay w v (Sack r) s x f =
     let first : v.setup.first ≡ w.setup.first = ap (λ t. t.first) x.setup in
     ap (λ i. SackContents ((i + (2 ^ 32 - 1) + r.cumulative) % 2 ^ 32) r.credit r.blocks (map (λ p. (i + p) % 2 ^ 32) r.duplicates)) first
-
-slice-front : {A : Type 0} (xs ys : List A) (k : ℕ) → k < length xs → slice_get (xs ++ ys) k ≡ slice_get xs k
-slice-front [] ys k lt = absurd (omega arith)
-slice-front (x ∷ xs) ys zero lt = refl
-slice-front (x ∷ xs) ys (suc k) lt = slice-front xs ys k (omega arith)
 
 pub datagrams_stay : OnEveryRun DatagramsStay
 datagrams_stay setup h is run event k ok lt =

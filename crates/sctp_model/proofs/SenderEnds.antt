@@ -8,7 +8,8 @@ use Rattle.sctp_lists.proofs.KeptLemmas.{kept-none}
 use Rattle.sctp_lists.proofs.More.{fails, not_both, both, and}
 use Rattle.sctp_model.proofs.Shape.{Shape, MessagePart, SlotPart, has, sent, parts, half, unsent, on, slotted, written, abandoned_at, expired_at}
 use Rattle.sctp_model.proofs.Sender.{Sender, is_mark, sent-slotted, marks-slotted, slot-old, slot-new}
-use Rattle.sctp_model.proofs.SenderSteps.{by_last, by_same, same-yes, same-is, negated, of-has, sent-some, of-half, is-half, half-one, sent-other, has-old, has-new, number-slotted, made-slotted, Next, Last, marks_due}
+use Rattle.sctp_model.proofs.SenderSteps.{of-has, sent-some, of-half, is-half, half-one, sent-other, has-old, has-new, number-slotted, made-slotted, Next, Last, marks_due}
+use Rattle.sctp_lists.proofs.Cases.{by_last, by_same, same-yes, same-is}
 
 -- ## Abandonment
 

@@ -22,11 +22,12 @@ use Rattle.sctp_model.specs.Log.{Coming, log_of}
 use Rattle.sctp_model.specs.Laws.{IsSetup, OnEveryRun}
 use Rattle.sctp_model.proofs.Shape.{Shape, MessagePart, shape, message_part, sent, parts, half, slotted, written, abandoned_at, expired_at, front_of}
 use Rattle.sctp_model.proofs.Sender.{Sender}
-use Rattle.sctp_model.proofs.SenderSteps.{by_last, sender-takes, of-half, sent-grows, of-has}
+use Rattle.sctp_model.proofs.SenderSteps.{sender-takes, of-half, sent-grows, of-has}
 use Rattle.sctp_model.proofs.SenderEnds.{sender-marked, sender-abandoned, sender-expired, sender-written, message-old, message-new, parts-old}
 use Rattle.sctp_model.proofs.Shapes
-use Rattle.sctp_model.proofs.Totals.{total-append, total-kept_same}
 use Rattle.sctp_model.proofs.Fronts.{front-takes, half-made, slot-sent, of-unsent}
+use Rattle.sctp_lists.proofs.Cases.{by_last}
+use Rattle.sctp_lists.proofs.Totals.{total-append, total-kept_same}
 
 -- ## The invariant
 
@@ -180,7 +181,7 @@ sane-noted setup v n g = step (Changes.becomes_whole v n)
     step true = sane-changed setup v (Messages.message_at v n).stream (Changes.with_whole n) (λ r. refl) g
     step false = g
 
-sane-came : (setup : Setup) (w : World) (p : ℕ) → Sane setup w → Sane setup (Changes.slot_came w p)
+pub sane-came : (setup : Setup) (w : World) (p : ℕ) → Sane setup w → Sane setup (Changes.slot_came w p)
 sane-came setup w p g = step (Receiver.is_new w p)
   where
     step : (b : Bool) → Sane setup (if b then Changes.whole_noted (record w { slots = changed Changes.mark_arrived p w.slots }) (Messages.message_of w p) else record w { duplicates = w.duplicates ++ p ∷ [] })

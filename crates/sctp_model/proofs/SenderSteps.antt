@@ -1,4 +1,3 @@
--- Each change of messages and slots keeps what the sender keeps.
 use Rattle.std.proofs.Common.{◌≡◌, ℕ, zero, suc, ◌+◌, ◌-◌, ◌<◌, ◌≤◌, ◌^◌, Bool, true, false, List, [], ◌∷◌, ◌++◌, length, Option, Some, None, refl, ap, sym, ◌∙◌, inl, inr, arith, add-one, append-nil, length-append}
 use Rattle.std.specs.Prelude.{◌⊎◌, if◌then◌else◌, ◌==◌, ◌&&◌, ◌||◌, not, nat_lt}
 use Rattle.std.proofs.Math.Nat.{eq-or-lt_of_le}
@@ -9,34 +8,11 @@ use Rattle.sctp_lists.proofs.KeptLemmas.{kept-same, kept-none}
 use Rattle.sctp_lists.proofs.More.{fails, not_both, both, and, length-kept-positive}
 use Rattle.sctp_model.proofs.Shape.{Shape, MessagePart, SlotPart, has, sent, parts, half, unsent, on, slotted, written}
 use Rattle.sctp_model.proofs.Sender.{Sender, is_mark, sent-slotted, marks-slotted, slot-old, slot-new}
+use Rattle.sctp_lists.proofs.Cases.{by_last, by_same, same-yes, same-is, negated}
+
+-- Each change of messages and slots keeps what the sender keeps.
 
 -- ## By cases
-
--- a place before the last or the last one
-pub by_last : {P : Type 0} (p slots : ℕ) → p < slots + 1 → (p < slots → P) → (p ≡ slots → P) → P
-by_last {P} p slots lt old new = step (cases_lt p slots)
-  where
-    step : (p < slots) ⊎ (slots ≤ p) → P
-    step (inl l) = old l
-    step (inr g) = new (omega arith)
-
--- the same number or another
-pub by_same : {P : Type 0} (a b : ℕ) → (a ≡ b → P) → ((a ≡ b → ⊥) → (a == b) ≡ false → P) → P
-by_same {P} a b yes' no' = step (a == b) refl
-  where
-    step : (c : Bool) → (a == b) ≡ c → P
-    step true e = yes' (grind (arith, nat_tests))
-    step false e = no' (grind (arith, nat_tests)) e
-
-pub same-yes : (a : ℕ) → (a == a) ≡ true
-same-yes a = grind (arith, nat_tests)
-
-pub same-is : (a b : ℕ) → (a == b) ≡ true → a ≡ b
-same-is a b e = grind (arith, nat_tests)
-
-pub negated : (b : Bool) → not b ≡ true → b ≡ false
-negated true e = cc
-negated false e = refl
 
 pub of-has : (x : Shape) (n p : ℕ) → has x n p ≡ true → ((x.slot p).message ≡ n) × ((x.slot p).is_end_mark ≡ false)
 of-has x n p h = let a = both ((x.slot p).message == n) (not (x.slot p).is_end_mark) h in (same-is (x.slot p).message n a.0, negated (x.slot p).is_end_mark a.1)

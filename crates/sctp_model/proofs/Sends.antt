@@ -1,4 +1,3 @@
--- Each send takes fragments that wait.
 use Rattle.std.proofs.Common.{◌≡◌, ℕ, zero, suc, ◌+◌, ◌-◌, ◌<◌, ◌≤◌, Bool, true, false, List, [], ◌∷◌, ◌++◌, length, map, Option, Some, None, refl, ap, sym, ◌∙◌, inl, inr, arith, length-append}
 use Rattle.std.specs.Prelude.{◌⊎◌, if◌then◌else◌, ◌==◌, ◌&&◌, ◌||◌, not, nat_lt, ◌↔◌, slice_get}
 use Rattle.std.proofs.lemmas.Bool.{cases_lt}
@@ -20,7 +19,10 @@ use Rattle.sctp_model.proofs.SenderSteps.{Takes, is-half, sent-other, sent-here}
 use Rattle.sctp_model.proofs.Fronts.{front-takes, front-none, is-unsent}
 use Rattle.sctp_model.proofs.SenderRun.{Sane, sane-run, sane-takes, sane-started, filled-keeps}
 use Rattle.sctp_model.proofs.Shapes
-use Rattle.sctp_model.proofs.Totals
+use Rattle.sctp_lists.proofs.Getting.{length-mapped, get-last}
+use Rattle.sctp_lists.proofs.Totals.{length-numbers, length-gathered, total-plus, total-none, total-at, total-one}
+
+-- Each send takes fragments that wait.
 
 -- how many fragments of message n wait
 abbrev pub waiting_of : Shape → ℕ → ℕ
@@ -34,10 +36,10 @@ count-pending w =
     let o : ℕ → Bool = λ n. (Messages.message_at w n).ordered && not (is_given_up w n) in
     let u : ℕ → Bool = λ n. not (Messages.message_at w n).ordered && not (is_given_up w n) in
     length-append (gathered (pending_fragments w) (Messages.messages_where w o)) (gathered (pending_fragments w) (Messages.messages_where w u))
-    ∙ ap (λ c. c + length (gathered (pending_fragments w) (Messages.messages_where w u))) (Totals.length-gathered (pending_fragments w) o 0 (length w.messages))
-    ∙ ap (λ c. total_over (λ n. if o n then length (pending_fragments w n) else 0) (kept always 0 (length w.messages)) + c) (Totals.length-gathered (pending_fragments w) u 0 (length w.messages))
-    ∙ Totals.total-plus (λ n. if o n then length (pending_fragments w n) else 0) (λ n. if u n then length (pending_fragments w n) else 0) (waiting_of (shape w)) always 0 (length w.messages)
-    (λ n a b. each (Messages.message_at w n).ordered (is_given_up w n) (length (pending_fragments w n)) (parts (shape w) n - sent (shape w) n) (Shapes.length-mapped (pending_at w n) (numbers_from (sent (shape w) n) (parts (shape w) n - sent (shape w) n)) ∙ Totals.length-numbers (sent (shape w) n) (parts (shape w) n - sent (shape w) n)))
+    ∙ ap (λ c. c + length (gathered (pending_fragments w) (Messages.messages_where w u))) (length-gathered (pending_fragments w) o 0 (length w.messages))
+    ∙ ap (λ c. total_over (λ n. if o n then length (pending_fragments w n) else 0) (kept always 0 (length w.messages)) + c) (length-gathered (pending_fragments w) u 0 (length w.messages))
+    ∙ total-plus (λ n. if o n then length (pending_fragments w n) else 0) (λ n. if u n then length (pending_fragments w n) else 0) (waiting_of (shape w)) always 0 (length w.messages)
+    (λ n a b. each (Messages.message_at w n).ordered (is_given_up w n) (length (pending_fragments w n)) (parts (shape w) n - sent (shape w) n) (length-mapped (pending_at w n) (numbers_from (sent (shape w) n) (parts (shape w) n - sent (shape w) n)) ∙ length-numbers (sent (shape w) n) (parts (shape w) n - sent (shape w) n)))
   where
     each : (b g : Bool) (l c : ℕ) → l ≡ c → (if b && not g then l else 0) + (if not b && not g then l else 0) ≡ (if g then 0 else c)
     each true true l c e = refl
@@ -47,7 +49,7 @@ count-pending w =
 
 -- nothing waits where there is no front
 none-waits : (x : Shape) → front_of x ≡ None → waiting x ≡ 0
-none-waits x e = Totals.total-none (waiting_of x) 0 x.count (λ n a b. each n (omega arith) (x.message n).expired refl (x.message n).abandoned refl)
+none-waits x e = total-none (waiting_of x) 0 x.count (λ n a b. each n (omega arith) (x.message n).expired refl (x.message n).abandoned refl)
   where
     left : (n : ℕ) → n < x.count → (x.message n).expired ≡ false → (x.message n).abandoned ≡ false → (sent x n < parts x n) ⊎ (parts x n ≤ sent x n) → (0 < sent x n) ⊎ (sent x n ≤ 0) → parts x n - sent x n ≡ 0
     left n lt a b (inr g) s = omega arith
@@ -64,12 +66,12 @@ waits-of x n t = rw (t.kept, t.alive) refl
 
 -- something waits where there is one
 some-waits : (x : Shape) (n : ℕ) → Takes x n → 0 < waiting x
-some-waits x n t = omega (arith, Totals.total-at (waiting_of x) n 0 x.count (omega arith) (omega (arith, t.made)), waits-of x n t, t.more)
+some-waits x n t = omega (arith, total-at (waiting_of x) n 0 x.count (omega arith) (omega (arith, t.made)), waits-of x n t, t.more)
 
 -- a fragment that takes a slot waits no more
 taken-waits : (x : Shape) (n : ℕ) → Takes x n → waiting (slotted x n false) + 1 ≡ waiting x
 taken-waits x n t =
-    Totals.total-one (waiting_of (slotted x n false)) (waiting_of x) n 1 0 x.count (omega arith) (omega (arith, t.made))
+    total-one (waiting_of (slotted x n false)) (waiting_of x) n 1 0 x.count (omega arith) (omega (arith, t.made))
     (λ k ne. ap (λ c. if (x.message k).expired || (x.message k).abandoned then 0 else parts x k - c) (sent-other x n false k (λ e. ne (sym e))))
     (ap (λ c. (if (x.message n).expired || (x.message n).abandoned then 0 else parts x n - c) + 1) (sent-here x n) ∙ here ∙ sym (waits-of x n t))
   where
@@ -108,10 +110,6 @@ sending-more setup w v s = record { sane = sane-takes setup v s.sane; more = r.0
 
     r : (length w.slots < length (Changes.fragment_sent v).slots) × (waiting (shape (Changes.fragment_sent v)) + length (Changes.fragment_sent v).slots ≡ waiting (shape w) + length w.slots) × ((Changes.fragment_sent v).network ≡ w.network)
     r = step (Messages.front v) refl
-
-pub get-last : {A : Type 0} (xs : List A) (y : A) → slice_get (xs ++ y ∷ []) (length xs) ≡ Some y
-get-last [] y = refl
-get-last (x ∷ xs) y = get-last xs y
 
 sending-first : (setup : Setup) (w : World) (now n : ℕ) → Sane setup w → Messages.front w ≡ Some n → Sending setup w (Changes.fragment_sent (Changes.started w now))
 sending-first setup w now n g e = rw f (record {

@@ -1,4 +1,3 @@
--- The shape of the record after each change.
 use Rattle.std.proofs.Common.{◌≡◌, ℕ, zero, suc, ◌+◌, ◌<◌, ◌≤◌, Bool, true, false, List, [], ◌∷◌, ◌++◌, length, map, get_or, refl, ap, sym, ◌∙◌, inl, inr, arith, length-append}
 use Rattle.std.proofs.Math.Path.{fun_ext}
 use Rattle.std.specs.Prelude.{◌⊎◌, if◌then◌else◌, ◌==◌, ◌||◌}
@@ -10,58 +9,11 @@ use Rattle.sctp_model.specs.World.{Message, Slot, Report, World}
 use Rattle.sctp_model.specs.Messages.{message_at, slot_at, no_message, no_slot, sent_of}
 use Rattle.sctp_model.specs.Changes
 use Rattle.sctp_model.proofs.Shape.{Shape, MessagePart, SlotPart, shape, message_part, slot_part, sent, slotted, written, abandoned_at, expired_at}
-use Rattle.sctp_model.proofs.SenderSteps.{by_same, same-yes}
+use Rattle.sctp_lists.proofs.Getting.{get-snoc, get-changed, get-map, length-mapped, get-numbered, length-numbered}
+
+-- The shape of the record after each change.
 
 -- ## Lists
-
-pub get-beyond : {A : Type 0} (xs : List A) (k : ℕ) (d : A) → length xs ≤ k → get_or xs k d ≡ d
-get-beyond [] k d le = refl
-get-beyond (x ∷ xs) zero d le = absurd (omega arith)
-get-beyond (x ∷ xs) (suc k) d le = get-beyond xs k d (omega arith)
-
-pub get-snoc_old : {A : Type 0} (xs : List A) (y : A) (k : ℕ) (d : A) → (k ≡ length xs → ⊥) → get_or (xs ++ y ∷ []) k d ≡ get_or xs k d
-get-snoc_old [] y zero d ne = absurd (ne refl)
-get-snoc_old [] y (suc k) d ne = refl
-get-snoc_old (x ∷ xs) y zero d ne = refl
-get-snoc_old (x ∷ xs) y (suc k) d ne = get-snoc_old xs y k d (λ e. ne (ap suc e))
-
-pub get-snoc_new : {A : Type 0} (xs : List A) (y : A) (d : A) → get_or (xs ++ y ∷ []) (length xs) d ≡ y
-get-snoc_new [] y d = refl
-get-snoc_new (x ∷ xs) y d = get-snoc_new xs y d
-
--- one more element, seen by a function
-pub get-snoc : {A B : Type 0} (g : A → B) (xs : List A) (y : A) (k : ℕ) (d : A) → g (get_or (xs ++ y ∷ []) k d) ≡ (if k == length xs then g y else g (get_or xs k d))
-get-snoc {A} {B} g xs y k d = by_same {P = g (get_or (xs ++ y ∷ []) k d) ≡ (if k == length xs then g y else g (get_or xs k d))} k (length xs)
-    (λ e. ap (λ j. g (get_or (xs ++ y ∷ []) j d)) e ∙ ap g (get-snoc_new xs y d) ∙ sym (ap (λ b. if b then g y else g (get_or xs k d)) (ap (λ j. k == j) (sym e) ∙ same-yes k)))
-    (λ ne f. ap g (get-snoc_old xs y k d ne) ∙ sym (ap (λ b. if b then g y else g (get_or xs k d)) f))
-
--- a changed element, seen by a function, where the change leaves what stands past the end
-pub get-changed : {A B : Type 0} (f : A → A) (g : A → B) (n k : ℕ) (xs : List A) (d : A) → g (f d) ≡ g d → g (get_or (changed f n xs) k d) ≡ (if k == n then g (f (get_or xs k d)) else g (get_or xs k d))
-get-changed {A} {B} f g n k xs d fix = by_same {P = g (get_or (changed f n xs) k d) ≡ (if k == n then g (f (get_or xs k d)) else g (get_or xs k d))} k n
-    (λ e. here e (cases_lt n (length xs)) ∙ sym (ap (λ b. if b then g (f (get_or xs k d)) else g (get_or xs k d)) (ap (λ j. k == j) (sym e) ∙ same-yes k)))
-    (λ ne t. ap g (changed-other f n k xs d ne) ∙ sym (ap (λ b. if b then g (f (get_or xs k d)) else g (get_or xs k d)) t))
-  where
-    here : k ≡ n → (n < length xs) ⊎ (length xs ≤ n) → g (get_or (changed f n xs) k d) ≡ g (f (get_or xs k d))
-    here e (inl l) = ap (λ j. g (get_or (changed f n xs) j d)) e ∙ ap g (changed-same f n xs d l) ∙ ap (λ j. g (f (get_or xs j d))) (sym e)
-    here e (inr o) = ap g (get-beyond (changed f n xs) k d (omega (arith, length-changed f n xs))) ∙ sym fix ∙ ap (λ y. g (f y)) (sym (get-beyond xs k d (omega arith)))
-
-pub get-map : {A B : Type 0} (f : A → A) (g : A → B) → ((x : A) → g (f x) ≡ g x) → (k : ℕ) (xs : List A) (d : A) → g (get_or (map f xs) k d) ≡ g (get_or xs k d)
-get-map f g keeps k [] d = refl
-get-map f g keeps zero (x ∷ xs) d = keeps x
-get-map f g keeps (suc k) (x ∷ xs) d = get-map f g keeps k xs d
-
-pub length-mapped : {A B : Type 0} (f : A → B) (xs : List A) → length (map f xs) ≡ length xs
-length-mapped f [] = refl
-length-mapped f (x ∷ xs) = ap suc (length-mapped f xs)
-
-pub get-numbered : {A B : Type 0} (f : ℕ → A → A) (g : A → B) → ((i : ℕ) (x : A) → g (f i x) ≡ g x) → (from k : ℕ) (xs : List A) (d : A) → g (get_or (each_numbered f from xs) k d) ≡ g (get_or xs k d)
-get-numbered f g keeps from k [] d = refl
-get-numbered f g keeps from zero (x ∷ xs) d = keeps from x
-get-numbered f g keeps from (suc k) (x ∷ xs) d = get-numbered f g keeps (from + 1) k xs d
-
-pub length-numbered : {A : Type 0} (f : ℕ → A → A) (from : ℕ) (xs : List A) → length (each_numbered f from xs) ≡ length xs
-length-numbered f from [] = refl
-length-numbered f from (x ∷ xs) = ap suc (length-numbered f (from + 1) xs)
 
 -- ## Shapes
 

@@ -309,6 +309,40 @@ CountersAreSums setup h w log =
 abbrev pub CountersCount : Type 0
 CountersCount = OnEveryRun CountersAreSums
 
+-- ## Composition without loss
+
+-- message n as it was written, and whether it is ordered
+abbrev pub written_of : World → ℕ → Bool × Log.Shown
+written_of w n = (is_ordered w n, shown_of w n)
+
+-- two records have the same messages, in the same order
+abbrev pub SameWrites : World → World → Type 0
+SameWrites v w = map (written_of v) (numbers_from 0 (length v.messages)) ≡ map (written_of w) (numbers_from 0 (length w.messages))
+
+-- fragment i of message n arrived
+abbrev pub fragment_arrived : World → List Log.Coming → ℕ → ℕ → Bool
+fragment_arrived w log n i =
+    list_any (λ place. Messages.has_fragment w n place && (((Messages.slot_at w place).fragment == i) && Log.arrived_new log place)) (numbers_from 0 (length w.slots))
+
+-- the same fragments arrived
+abbrev pub SameArrivals : World → List Log.Coming → World → List Log.Coming → Type 0
+SameArrivals v log w other = (n i : ℕ) → fragment_arrived v log n i ≡ fragment_arrived w other n i
+
+-- nothing was lost, and all is read on stream s
+pub record IsReadWholly (setup : Setup) (h : History) (s : ℕ) : Type 0 where
+  pub run : IsRun setup h
+  pub lossless : list_all (λ entry. loses_nothing entry.0) h ≡ true
+  pub exhausted : reply_to (world_of setup h) (E.Read s) ≡ R.Nothing
+
+-- without loss what is read in the end is settled by what was written and which of its fragments arrived: the ordered messages, and the set of the unordered ones
+abbrev pub ReadsAreSettled : Type 0
+ReadsAreSettled =
+    (setup : Setup) (g h : History) (s : ℕ) → IsSetup setup → IsReadWholly setup g s → IsReadWholly setup h s →
+    SameWrites (world_of setup g) (world_of setup h) →
+    SameArrivals (world_of setup g) (Log.log_of setup g) (world_of setup h) (Log.log_of setup h) →
+    (map (shown_of (world_of setup g)) (ordered_reads setup g s) ≡ map (shown_of (world_of setup h)) (ordered_reads setup h s))
+    × ((n : ℕ) → list_any (λ m. m == n) (unordered_reads setup g s) ≡ list_any (λ m. m == n) (unordered_reads setup h s))
+
 -- ## The headline: for every first TSN, fragment size and list of events
 
 -- the headline: for every first TSN, fragment size, limit and list of events

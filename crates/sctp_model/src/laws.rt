@@ -1,6 +1,6 @@
 //! What holds of every history of a link: laws, each the contract of a function that does nothing.
 
-ghost use Rattle.sctp_model.specs.Laws.{OnEveryRun, EmitsWherePending, TakesPending, SlotsInOrder, SlotsFollow, OneHalfSent, SentInTurn, IndexesLeaveNoGap, NoEndMarkIsSent, DatagramsStay, Balances, AcknowledgedArrived, AcknowledgedIsReported, SacksSay, NetworkIsMade, ArrivedIsNew, CumulativeIsSeen, ArrivalsAnswered};
+ghost use Rattle.sctp_model.specs.Laws.{OnEveryRun, EmitsWherePending, TakesPending, SlotsInOrder, SlotsFollow, OneHalfSent, SentInTurn, IndexesLeaveNoGap, NoEndMarkIsSent, DatagramsStay, Balances, SumsAreTold, AcknowledgedArrived, AcknowledgedIsReported, SacksSay, NetworkIsMade, ArrivedIsNew, CumulativeIsSeen, ArrivalsAnswered, NamedIsNamed, MessagesAreWrites, StartsOnce, LateAbandonsListed};
 
 /// A Send answers Idle exactly where no fragment is pending; else its new datagram carries the pending fragments that it takes.
 pub fn each_send_emits()
@@ -22,6 +22,7 @@ pub fn slots_are_sound()
 /// Each written byte is pending, in flight or released, in all and on each stream; what was written is the sum over the writes, what was released the sum over the replies that tell of a release.
 pub fn bytes_balance()
     ensures balance { OnEveryRun Balances }
+    ensures sums { OnEveryRun SumsAreTold }
 {}
 
 /// What a taken SACK acknowledges arrived new or was skipped, the record has just what the taken SACKs report, and each SACK says what the order of arrivals gives.
@@ -37,4 +38,16 @@ pub fn arrivals_are_told()
     ensures arrived { OnEveryRun ArrivedIsNew }
     ensures cumulative { OnEveryRun CumulativeIsSeen }
     ensures answered { OnEveryRun ArrivalsAnswered }
+    ensures named { OnEveryRun NamedIsNamed }
+{}
+
+/// The ordered messages of a stream are read in order, each as it was written, as far as they are whole.
+pub fn ordered_reads()
+    ensures writes { OnEveryRun MessagesAreWrites }
+{}
+
+/// A lifetime starts at the first Start or Send after the write, and Late abandons the messages of the slots that it lists and no others.
+pub fn lifetimes_end()
+    ensures once { OnEveryRun StartsOnce }
+    ensures late { OnEveryRun LateAbandonsListed }
 {}

@@ -1,7 +1,8 @@
-use Rattle.sctp_model.proofs.LoggedRun.{network_is_made}
-use Rattle.sctp_model.proofs.LoggedRun.{arrived_is_new}
-use Rattle.sctp_model.proofs.LoggedRun.{cumulative_is_seen}
-use Rattle.sctp_model.proofs.LoggedRun.{arrivals_answered}
+use Rattle.sctp_model.proofs.Made.{network_is_made}
+use Rattle.sctp_model.proofs.Arrivals.{arrived_is_new}
+use Rattle.sctp_model.proofs.Arrivals.{cumulative_is_seen}
+use Rattle.sctp_model.proofs.Arrivals.{arrivals_answered}
+use Rattle.sctp_model.proofs.Names.{named_is_named}
 use Rattle.sctp_model.proofs.laws.arrivals_are_told.Goals as goal
 
 pub returns-clause-network : goal.returns-clause-network
@@ -15,3 +16,6 @@ returns-clause-cumulative c = cumulative_is_seen
 
 pub returns-clause-answered : goal.returns-clause-answered
 returns-clause-answered c = arrivals_answered
+
+pub returns-clause-named : goal.returns-clause-named
+returns-clause-named c = named_is_named

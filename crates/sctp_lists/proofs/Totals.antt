@@ -1,8 +1,9 @@
 -- Sums over numbers.
-use Rattle.std.proofs.Common.{◌≡◌, ℕ, zero, suc, ◌+◌, ◌-◌, ◌<◌, ◌≤◌, Bool, true, false, List, [], ◌∷◌, ◌++◌, length, map, refl, ap, sym, ◌∙◌, inl, inr, arith, length-append}
-use Rattle.std.specs.Prelude.{◌⊎◌, if◌then◌else◌}
+use Rattle.std.proofs.Common.{◌≡◌, ℕ, zero, suc, ◌+◌, ◌<◌, ◌≤◌, Bool, true, false, List, [], ◌∷◌, ◌++◌, length, map, refl, ap, sym, ◌∙◌, inl, inr, arith, zero-add, length-append}
+use Rattle.std.specs.Prelude.{◌⊎◌, if◌then◌else◌, ◌&&◌, not}
 use Rattle.std.proofs.Math.Nat.{eq-or-lt_of_le}
-use Rattle.sctp_lists.specs.Kept.{kept, always, numbers_from, total_over, gathered}
+use Rattle.sctp_lists.specs.Kept.{kept, always, total_over, gathered}
+use Rattle.sctp_lists.proofs.More.{not_both}
 
 pub length-numbers : (from count : ℕ) → length (kept always from count) ≡ count
 length-numbers from zero = refl
@@ -66,3 +67,48 @@ total-kept_same f g p from (suc count) same = step (p from) (same from (omega ar
     step : (b : Bool) → f from ≡ g from → total_over f (kept p (from + 1) count) ≡ total_over g (kept p (from + 1) count) → total_over f (if b then from ∷ kept p (from + 1) count else kept p (from + 1) count) ≡ total_over g (if b then from ∷ kept p (from + 1) count else kept p (from + 1) count)
     step true e ih = omega (arith, e, ih)
     step false e ih = ih
+
+-- the numbers from one on, one further
+pub total-shift : (f : ℕ → ℕ) (from count : ℕ) → total_over f (kept always (from + 1) count) ≡ total_over (λ i. f (i + 1)) (kept always from count)
+total-shift f from zero = refl
+total-shift f from (suc count) = omega (arith, total-shift f (from + 1) count)
+
+pub numbers-append : (a b : ℕ) → kept always 0 a ++ kept always a b ≡ kept always 0 (a + b)
+numbers-append a b = go 0 a a b (omega arith)
+  where
+    go : (from count next more : ℕ) → next ≡ from + count → kept always from count ++ kept always next more ≡ kept always from (count + more)
+    go from zero next more e = let z : next ≡ from = omega arith in ap (λ n. kept always n more) z ∙ ap (kept always from) (sym (zero-add more))
+    go from (suc count) next more e = ap (λ l. from ∷ l) (go (from + 1) count next more (omega arith)) ∙ ap (kept always from) (let z : suc (count + more) ≡ suc count + more = omega arith in z)
+
+-- what passes either test
+pub total-split : (f : ℕ → ℕ) (p q : ℕ → Bool) (from count : ℕ) → total_over f (kept (λ k. p k && not (q k)) from count) + total_over f (kept (λ k. p k && q k) from count) ≡ total_over f (kept p from count)
+total-split f p q from zero = refl
+total-split f p q from (suc count) = step (p from) (q from) (total-split f p q (from + 1) count)
+  where
+    step : (b c : Bool) → total_over f (kept (λ k. p k && not (q k)) (from + 1) count) + total_over f (kept (λ k. p k && q k) (from + 1) count) ≡ total_over f (kept p (from + 1) count)
+        → total_over f (if b && not c then from ∷ kept (λ k. p k && not (q k)) (from + 1) count else kept (λ k. p k && not (q k)) (from + 1) count) + total_over f (if b && c then from ∷ kept (λ k. p k && q k) (from + 1) count else kept (λ k. p k && q k) (from + 1) count) ≡ total_over f (if b then from ∷ kept p (from + 1) count else kept p (from + 1) count)
+    step true true ih = omega (arith, ih)
+    step true false ih = omega (arith, ih)
+    step false c ih = ih
+
+pub total-map : (f g : ℕ → ℕ) (xs : List ℕ) → total_over (λ k. f (g k)) xs ≡ total_over f (map g xs)
+total-map f g [] = refl
+total-map f g (x ∷ xs) = omega (arith, total-map f g xs)
+
+pub total-wider : (f : ℕ → ℕ) (p q : ℕ → Bool) (from count : ℕ) → ((k : ℕ) → from ≤ k → k < from + count → p k ≡ true → q k ≡ true) → total_over f (kept p from count) ≤ total_over f (kept q from count)
+total-wider f p q from zero more = omega arith
+total-wider f p q from (suc count) more = step (p from) (q from) refl refl (total-wider f p q (from + 1) count (λ k a b. more k (omega arith) (omega arith)))
+  where
+    step : (b c : Bool) → p from ≡ b → q from ≡ c → total_over f (kept p (from + 1) count) ≤ total_over f (kept q (from + 1) count) → total_over f (if b then from ∷ kept p (from + 1) count else kept p (from + 1) count) ≤ total_over f (if c then from ∷ kept q (from + 1) count else kept q (from + 1) count)
+    step true true e h ih = omega (arith, ih)
+    step true false e h ih = absurd (not_both (sym h ∙ more from (omega arith) (omega arith) e))
+    step false true e h ih = omega (arith, ih)
+    step false false e h ih = ih
+
+pub total-where : (f : ℕ → ℕ) (p : ℕ → Bool) (from count : ℕ) → total_over f (kept p from count) ≡ total_over (λ n. if p n then f n else 0) (kept always from count)
+total-where f p from zero = refl
+total-where f p from (suc count) = step (p from) (total-where f p (from + 1) count)
+  where
+    step : (b : Bool) → total_over f (kept p (from + 1) count) ≡ total_over (λ n. if p n then f n else 0) (kept always (from + 1) count) → total_over f (if b then from ∷ kept p (from + 1) count else kept p (from + 1) count) ≡ (if b then f from else 0) + total_over (λ n. if p n then f n else 0) (kept always (from + 1) count)
+    step true ih = omega (arith, ih)
+    step false ih = omega (arith, ih)

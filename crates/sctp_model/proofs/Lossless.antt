@@ -1,0 +1,184 @@
+-- Histories in which nothing is lost.
+use Rattle.std.proofs.Common.{◌≡◌, ℕ, zero, suc, ◌+◌, ◌<◌, ◌≤◌, Bool, true, false, List, [], ◌∷◌, ◌++◌, length, map, Option, Some, None, refl, ap, sym, ◌∙◌, inl, inr, arith}
+use Rattle.std.specs.Prelude.{◌⊎◌, if◌then◌else◌, ◌==◌, ◌&&◌, ◌||◌, not, nat_le, slice_get, slice_index_or, fold}
+use Rattle.std.specs.List.{list_any, list_all}
+use Rattle.std.proofs.Math.Path.{subst}
+use Rattle.std.proofs.lemmas.Bool.{cases_lt}
+use Rattle.sctp_lists.proofs.More.{fails, not_both, both, and}
+use Rattle.sctp_model.specs.declared.event.Event.{Event}
+use Rattle.sctp_model.specs.declared.event.Event.TheVariants as E
+use Rattle.sctp_model.specs.Reply.{Reply}
+use Rattle.sctp_model.specs.Reply as R
+use Rattle.sctp_model.specs.World.{Setup, World}
+use Rattle.sctp_model.specs.Messages
+use Rattle.sctp_model.specs.Receiver.{next_read}
+use Rattle.sctp_model.specs.Changes
+use Rattle.sctp_model.specs.Log
+use Rattle.sctp_model.specs.Log.{Coming, SlotCame, SkipCame, SackMade, Made, MadeData, MadeForward, MadeSack, made_in, made_by, log_of, named_by, is_skipped}
+use Rattle.sctp_model.specs.Steps.{History, world_of, IsRun, refusal_of, after}
+use Rattle.sctp_model.specs.Laws.{loses_nothing}
+use Rattle.sctp_model.proofs.Shape.{Shape, shape, message_part, written}
+use Rattle.sctp_model.proofs.Shapes
+use Rattle.sctp_model.proofs.SenderEnds.{message-old, message-new}
+use Rattle.sctp_model.proofs.SenderRun.{written_as}
+use Rattle.sctp_model.proofs.Network
+use Rattle.sctp_model.proofs.BytesTold.{messages-sent}
+use Rattle.sctp_lists.proofs.Cases.{by_last}
+
+-- ## No message is given up
+
+abbrev pub AllAlive : Shape → Type 0
+AllAlive x = (n : ℕ) → n < x.count → ((x.message n).expired ≡ false) × ((x.message n).abandoned ≡ false)
+
+alive-sent : (w : World) (now : ℕ) (o : Option ℕ) → AllAlive (shape w) → AllAlive (shape (Changes.sent_from (Changes.started w now) o))
+alive-sent w now None a = subst AllAlive (sym (Shapes.shape-started w now)) a
+alive-sent w now (Some m) a = λ n lt.
+    let e = messages-sent (Changes.started w now) in
+    let b = (subst AllAlive (sym (Shapes.shape-started w now)) a) n (omega (arith, lt, ap length e)) in
+    (ap (λ ms. (slice_index_or ms n Messages.no_message).expired) e ∙ b.0, ap (λ ms. (slice_index_or ms n Messages.no_message).abandoned) e ∙ b.1)
+
+alive-after : (w : World) (e : Event) → loses_nothing e ≡ true → AllAlive (shape w) → AllAlive (shape (after w e))
+alive-after w (E.Open s) k a = a
+alive-after w (E.Mode s u v x) k a = a
+alive-after w (E.Write s ppi []) k a = a
+alive-after w (E.Write s ppi (b ∷ bs)) k a =
+    let m = message_part (written_as w s ppi (b ∷ bs)) in
+    subst AllAlive (sym (Shapes.shape-written w (written_as w s ppi (b ∷ bs))))
+    (λ n lt. by_last {P = (((written (shape w) m).message n).expired ≡ false) × (((written (shape w) m).message n).abandoned ≡ false)} n (length w.messages) lt
+    (λ o. let c = a n o in let e = message-old (shape w) m n o in (ap (λ y. y.expired) e ∙ c.0, ap (λ y. y.abandoned) e ∙ c.1))
+    (λ z. let e : (written (shape w) m).message n ≡ m = ap (written (shape w) m).message z ∙ message-new (shape w) m in (ap (λ y. y.expired) e, ap (λ y. y.abandoned) e)))
+alive-after w (E.Start now) k a = alive-sent w now None a
+alive-after w (E.Send now) k a = alive-sent w now (Messages.front w) a
+alive-after w (E.Resend x) k a = a
+alive-after w (E.Expire now) k a = cc
+alive-after w (E.Tail now) k a = cc
+alive-after w (E.Late now) k a = cc
+alive-after w (E.Abandon tsn) k a = cc
+alive-after w (E.Skip upto names) k a = cc
+alive-after w (E.Ack credit) k a = a
+alive-after w (E.Arrive x) k a = subst AllAlive (sym (Network.same-came w (slice_get w.network x)).shape_is) a
+alive-after w (E.Acked x) k a = subst AllAlive (sym (Network.same-taken w (slice_get w.network x)).shape_is) a
+alive-after w (E.Read s) k a = subst AllAlive (sym (Network.same-read w s (next_read w s)).shape_is) a
+
+abbrev pub Lossless : History → Type 0
+Lossless h = list_all (λ entry. loses_nothing entry.0) h ≡ true
+
+pub alive-run : (setup : Setup) (h : History) → Lossless h → AllAlive (shape (world_of setup h))
+alive-run setup [] l = λ n lt. absurd (omega arith)
+alive-run setup (entry ∷ older) l = let a = both (loses_nothing entry.0) (list_all (λ entry. loses_nothing entry.0) older) l in alive-after (world_of setup older) entry.0 a.0 (alive-run setup older a.1)
+
+-- ## No skip comes
+
+abbrev is_forward : Made → Bool
+is_forward (MadeForward upto names) = true
+is_forward _ = false
+
+abbrev pub is_skip : Coming → Bool
+is_skip (SkipCame upto names) = true
+is_skip _ = false
+
+any-append : (xs ys : List Made) → list_any is_forward xs ≡ false → list_any is_forward ys ≡ false → list_any is_forward (xs ++ ys) ≡ false
+any-append [] ys a b = b
+any-append (x ∷ xs) ys a b = step (is_forward x) a (λ h. any-append xs ys h b)
+  where
+    step : (c : Bool) → (c || list_any is_forward xs) ≡ false → (list_any is_forward xs ≡ false → list_any is_forward (xs ++ ys) ≡ false) → (c || list_any is_forward (xs ++ ys)) ≡ false
+    step true e ih = cc
+    step false e ih = ih e
+
+none-sent : (setup : Setup) (now : ℕ) (r : Reply) → list_any is_forward (made_by setup (E.Send now) r) ≡ false
+none-sent setup now (R.Sent d tsn ssn count) = refl
+none-sent setup now R.Opened = refl
+none-sent setup now R.«Set» = refl
+none-sent setup now (R.Wrote a b) = refl
+none-sent setup now R.Started = refl
+none-sent setup now R.Idle = refl
+none-sent setup now (R.Resent a) = refl
+none-sent setup now (R.Expired a b) = refl
+none-sent setup now (R.Released a b) = refl
+none-sent setup now (R.Late a b) = refl
+none-sent setup now (R.Skip a) = refl
+none-sent setup now (R.Ack a) = refl
+none-sent setup now R.New = refl
+none-sent setup now R.Repeat = refl
+none-sent setup now R.Skipped = refl
+none-sent setup now R.Stale = refl
+none-sent setup now (R.Acked a) = refl
+none-sent setup now (R.Message a b c) = refl
+none-sent setup now R.Nothing = refl
+
+none-made : (setup : Setup) (e : Event) (r : Reply) → loses_nothing e ≡ true → list_any is_forward (made_by setup e r) ≡ false
+none-made setup (E.Send now) r k = none-sent setup now r
+none-made setup (E.Resend tsn) r k = refl
+none-made setup (E.Skip upto names) r k = cc
+none-made setup (E.Ack credit) r k = refl
+none-made setup (E.Open s) r k = refl
+none-made setup (E.Mode s a b c) r k = refl
+none-made setup (E.Write s a b) r k = refl
+none-made setup (E.Start a) r k = refl
+none-made setup (E.Expire a) r k = refl
+none-made setup (E.Tail a) r k = refl
+none-made setup (E.Late a) r k = refl
+none-made setup (E.Abandon a) r k = refl
+none-made setup (E.Arrive a) r k = refl
+none-made setup (E.Acked a) r k = refl
+none-made setup (E.Read a) r k = refl
+
+none-forward : (setup : Setup) (h : History) → Lossless h → list_any is_forward (made_in setup h) ≡ false
+none-forward setup [] l = refl
+none-forward setup (entry ∷ older) l = let a = both (loses_nothing entry.0) (list_all (λ entry. loses_nothing entry.0) older) l in any-append (made_in setup older) (made_by setup entry.0 entry.1) (none-forward setup older a.1) (none-made setup entry.0 entry.1 a.0)
+
+not-at : (ds : List Made) (k : ℕ) (d : Made) → list_any is_forward ds ≡ false → slice_get ds k ≡ Some d → is_forward d ≡ false
+not-at [] k d a e = cc
+not-at (c ∷ ds) zero d a e = let z : c ≡ d = cc in ap is_forward (sym z) ∙ left (is_forward c) (list_any is_forward ds) a
+  where
+    left : (a b : Bool) → (a || b) ≡ false → a ≡ false
+    left true b e = cc
+    left false b e = refl
+not-at (c ∷ ds) (suc k) d a e = not-at ds k d (right (is_forward c) (list_any is_forward ds) a) e
+  where
+    right : (a b : Bool) → (a || b) ≡ false → b ≡ false
+    right true b e = cc
+    right false b e = e
+
+skips-slots : (ps : List ℕ) (log : List Coming) → list_any is_skip log ≡ false → list_any is_skip (Log.slots_come ps log) ≡ false
+skips-slots [] log e = e
+skips-slots (p ∷ ps) log e = skips-slots ps (SlotCame p ∷ log) e
+
+skips-came : (o : Option Made) (log : List Coming) → ((d : Made) → o ≡ Some d → is_forward d ≡ false) → list_any is_skip log ≡ false → list_any is_skip (Log.datagram_comes o log) ≡ false
+skips-came None log f e = e
+skips-came (Some (MadeData ps)) log f e = skips-slots ps log e
+skips-came (Some (MadeForward upto names)) log f e = absurd (not_both (sym (f (MadeForward upto names) refl)))
+skips-came (Some MadeSack) log f e = e
+
+pub no-skips : (setup : Setup) (h : History) → Lossless h → list_any is_skip (log_of setup h) ≡ false
+no-skips setup [] l = refl
+no-skips setup ((e, r) ∷ older) l = let a = both (loses_nothing e) (list_all (λ entry. loses_nothing entry.0) older) l in step e (no-skips setup older a.1) a.1
+  where
+    step : (e : Event) → list_any is_skip (log_of setup older) ≡ false → Lossless older → list_any is_skip (log_of setup ((e, r) ∷ older)) ≡ false
+    step (E.Arrive k) h l = skips-came (slice_get (made_in setup older) k) (log_of setup older) (λ d e. not-at (made_in setup older) k d (none-forward setup older l) e) h
+    step (E.Ack credit) h l = h
+    step (E.Open s) h l = h
+    step (E.Mode s a b c) h l = h
+    step (E.Write s a b) h l = h
+    step (E.Start a) h l = h
+    step (E.Send a) h l = h
+    step (E.Resend a) h l = h
+    step (E.Expire a) h l = h
+    step (E.Tail a) h l = h
+    step (E.Late a) h l = h
+    step (E.Abandon a) h l = h
+    step (E.Skip a b) h l = h
+    step (E.Acked a) h l = h
+    step (E.Read a) h l = h
+
+pub none-named : (w : World) (s : ℕ) (log : List Coming) → list_any is_skip log ≡ false → named_by w s log ≡ 0
+none-named w s [] e = refl
+none-named w s (SlotCame p ∷ log) e = none-named w s log e
+none-named w s (SkipCame upto names ∷ log) e = cc
+none-named w s (SackMade ∷ log) e = none-named w s log e
+
+pub none-skipped : (log : List Coming) (p : ℕ) → list_any is_skip log ≡ false → is_skipped log p ≡ false
+none-skipped [] p e = refl
+none-skipped (SlotCame q ∷ log) p e = none-skipped log p e
+none-skipped (SkipCame upto names ∷ log) p e = cc
+none-skipped (SackMade ∷ log) p e = none-skipped log p e

@@ -1,0 +1,280 @@
+-- A message is whole in the record exactly where the order of arrivals makes it whole.
+use Rattle.std.proofs.Common.{◌≡◌, ℕ, zero, suc, ◌+◌, ◌-◌, ◌<◌, ◌≤◌, Bool, true, false, List, [], ◌∷◌, ◌++◌, length, map, drop, Option, Some, None, refl, ap, sym, ◌∙◌, inl, inr, arith, append-nil, length-append}
+use Rattle.std.specs.Prelude.{◌⊎◌, if◌then◌else◌, ◌==◌, ◌&&◌, ◌||◌, not, nat_le, nat_lt}
+use Rattle.std.specs.List.{list_any, list_all}
+use Rattle.std.proofs.Math.Path.{subst}
+use Rattle.std.proofs.lemmas.Bool.{cases_lt}
+use Rattle.std.proofs.lemmas.Bool.Decides.{nat_tests}
+use Rattle.sctp_lists.specs.Kept.{kept, passing, first_of, or_else}
+use Rattle.sctp_lists.specs.Lists.{changed}
+use Rattle.sctp_lists.proofs.KeptLemmas.{kept-same, kept-none}
+use Rattle.sctp_lists.proofs.More.{fails, not_both, both, and, same_test, length-kept-positive}
+use Rattle.sctp_lists.proofs.Alls
+use Rattle.sctp_model.specs.World.{Setup, Sack, World, start}
+use Rattle.sctp_model.specs.Messages
+use Rattle.sctp_model.specs.Receiver.{is_new, arrived_at}
+use Rattle.sctp_model.specs.Receiver
+use Rattle.sctp_model.specs.Changes
+use Rattle.sctp_model.specs.Steps.{History, world_of, IsRun}
+use Rattle.sctp_model.specs.Log
+use Rattle.sctp_model.specs.Log.{Coming, SlotCame, SkipCame, SackMade}
+use Rattle.sctp_model.specs.Laws.{IsSetup, OnEveryRun, AllDifferent, WholeIsWhole}
+use Rattle.sctp_model.proofs.Shape.{Shape, MessagePart, shape, has, on, index, sent, parts}
+use Rattle.sctp_model.proofs.Sender.{Sender}
+use Rattle.sctp_model.proofs.SenderSteps.{of-has}
+use Rattle.sctp_model.proofs.SenderEnds.{sent-none}
+use Rattle.sctp_model.proofs.Slots.{sent-made, sent-alive}
+use Rattle.sctp_model.proofs.SenderRun.{Sane, sane-run}
+use Rattle.sctp_model.proofs.Grows.{Grows, IsEnded, as_written, parts-grown}
+use Rattle.sctp_model.proofs.Moves.{Quiet}
+use Rattle.sctp_model.proofs.Network.{NamesFit, same-slot}
+use Rattle.sctp_model.proofs.Events.{Keeps, run-keeps}
+use Rattle.sctp_model.proofs.Arrivals.{Heard, heard-keeps, heard-new, heard-noted, counts-heard, with_arrived, skipped-le, new-unseen, seen_by}
+use Rattle.sctp_model.proofs.View
+use Rattle.sctp_model.proofs.View.{View, view, has_come, come_count, all_come, whole_at, arrived_in, noted_in, skipped_in, read_in, run, line}
+use Rattle.sctp_model.proofs.Names.{view-skip, view-whole_noted}
+use Rattle.sctp_lists.proofs.Cases.{same-yes, same-is}
+
+-- ## By the order of arrivals
+
+abbrev pub slots_in : Shape → ℕ → List ℕ
+slots_in x n = kept (has x n) 0 x.slots
+
+abbrev pub whole_in : Shape → List Coming → ℕ → Bool
+whole_in x log n = (sent x n == parts x n) && (if (x.message n).ordered then list_all (Log.arrived_new log) (slots_in x n) else Log.were_whole (slots_in x n) log)
+
+pub whole-is : (w : World) (log : List Coming) (n : ℕ) → Log.is_whole_by w log n ≡ whole_in (shape w) log n
+whole-is w log n = refl
+
+-- all of these slots have arrived, and no skip covered one
+abbrev pub all_now : List Coming → List ℕ → Bool
+all_now log places = list_all (λ p. Log.arrived_new log p && not (Log.is_skipped log p)) places
+
+-- the slots that came have fragments
+abbrev pub SlotsCame : Shape → List Coming → Type 0
+SlotsCame x [] = Unit {0}
+SlotsCame x (SlotCame p ∷ log) = (p < x.slots) × SlotsCame x log
+SlotsCame x (SkipCame upto names ∷ log) = SlotsCame x log
+SlotsCame x (SackMade ∷ log) = SlotsCame x log
+
+pub came-later : (x y : Shape) → x.slots ≤ y.slots → (log : List Coming) → SlotsCame x log → SlotsCame y log
+came-later x y le [] f = tt
+came-later x y le (SlotCame p ∷ log) f = (omega (arith, f.0, le), came-later x y le log f.1)
+came-later x y le (SkipCame upto names ∷ log) f = came-later x y le log f
+came-later x y le (SackMade ∷ log) f = came-later x y le log f
+
+or-right : (a b : Bool) → b ≡ true → (a || b) ≡ true
+or-right true b e = refl
+or-right false b e = e
+
+or-left : (a b : Bool) → a ≡ true → (a || b) ≡ true
+or-left true b e = refl
+or-left false b e = cc
+
+-- what arrived new came
+pub new-came : (x : Shape) (log : List Coming) (p : ℕ) → SlotsCame x log → Log.arrived_new log p ≡ true → p < x.slots
+new-came x [] p f e = cc
+new-came x (SlotCame q ∷ log) p f e = by (Log.arrived_new log p) refl e (λ h. new-came x log p f.1 h)
+  where
+    by : (b : Bool) → Log.arrived_new log p ≡ b → (b || ((q == p) && not (Log.is_seen log p))) ≡ true → (Log.arrived_new log p ≡ true → p < x.slots) → p < x.slots
+    by true h g ih = ih h
+    by false h g ih = let z = same-is q p (both (q == p) (not (Log.is_seen log p)) g).0 in omega (arith, f.0, z)
+new-came x (SkipCame upto names ∷ log) p f e = new-came x log p f e
+new-came x (SackMade ∷ log) p f e = new-came x log p f e
+
+-- what arrived new did so for good
+new-stays : (coming : Coming) (log : List Coming) (p : ℕ) → Log.arrived_new log p ≡ true → Log.arrived_new (coming ∷ log) p ≡ true
+new-stays (SlotCame q) log p e = or-left (Log.arrived_new log p) ((q == p) && not (Log.is_seen log p)) e
+new-stays (SkipCame upto names) log p e = e
+new-stays SackMade log p e = e
+
+pub all-more : (t u : ℕ → Bool) (xs : List ℕ) → ((k : ℕ) → t k ≡ true → u k ≡ true) → list_all t xs ≡ true → list_all u xs ≡ true
+all-more t u [] h e = refl
+all-more t u (x ∷ xs) h e = let a = both (t x) (list_all t xs) e in and (u x) (list_all u xs) (h x a.0) (all-more t u xs h a.1)
+
+pub either-is : (a b : Bool) → (a || b) ≡ true → (a ≡ true) ⊎ (b ≡ true)
+either-is true b e = inl refl
+either-is false b e = inr e
+
+-- where they were whole, each of them arrived new
+pub were-new : (places : List ℕ) (log : List Coming) → Log.were_whole places log ≡ true → list_all (Log.arrived_new log) places ≡ true
+were-new places [] e = cc
+were-new places (coming ∷ log) e = step (either-is (Log.were_whole places log) (all_now (coming ∷ log) places) e) (λ h. were-new places log h)
+  where
+    step : (Log.were_whole places log ≡ true) ⊎ (all_now (coming ∷ log) places ≡ true) → (Log.were_whole places log ≡ true → list_all (Log.arrived_new log) places ≡ true) → list_all (Log.arrived_new (coming ∷ log)) places ≡ true
+    step (inl h) ih = all-more (Log.arrived_new log) (Log.arrived_new (coming ∷ log)) places (λ k f. new-stays coming log k f) (ih h)
+    step (inr h) ih = all-more (λ p. Log.arrived_new (coming ∷ log) p && not (Log.is_skipped (coming ∷ log) p)) (Log.arrived_new (coming ∷ log)) places (λ k f. (both (Log.arrived_new (coming ∷ log) k) (not (Log.is_skipped (coming ∷ log) k)) f).0) h
+
+-- what is whole now, was
+pub now-were : (p : ℕ) (places : List ℕ) (log : List Coming) → all_now log (p ∷ places) ≡ true → Log.were_whole (p ∷ places) log ≡ true
+now-were p places [] e = cc
+now-were p places (coming ∷ log) e = or-right (Log.were_whole (p ∷ places) log) (all_now (coming ∷ log) (p ∷ places)) e
+
+now-were_some : (places : List ℕ) (log : List Coming) → 0 < length places → all_now log places ≡ true → Log.were_whole places log ≡ true
+now-were_some [] log some e = absurd (omega arith)
+now-were_some (p ∷ ps) log some e = now-were p ps log e
+
+-- ## Later slots and messages
+
+-- the slots of a message that got no further one
+slots-same : (x y : Shape) → Grows x y → (n : ℕ) → sent y n ≡ sent x n → slots_in y n ≡ slots_in x n
+slots-same x y g n e =
+    let more = y.slots - x.slots in
+    let total : y.slots ≡ x.slots + more = omega (arith, g.slots) in
+    let front : kept (has y n) 0 x.slots ≡ slots_in x n = kept-same (has y n) (has x n) 0 x.slots (λ k a b. ap (λ s. (s.message == n) && not s.is_end_mark) (g.slot k (omega arith))) in
+    let split : slots_in y n ≡ slots_in x n ++ kept (has y n) (0 + x.slots) more = ap (kept (has y n) 0) total ∙ Alls.kept-split (has y n) 0 x.slots more ∙ ap (λ l. l ++ kept (has y n) (0 + x.slots) more) front in
+    split ∙ ap (λ l. slots_in x n ++ l) (nothing (kept (has y n) (0 + x.slots) more) (let l = ap length split in omega (arith, e, l, length-append (slots_in x n) (kept (has y n) (0 + x.slots) more)))) ∙ append-nil (slots_in x n)
+  where
+    nothing : (l : List ℕ) → length l ≡ 0 → l ≡ []
+    nothing [] e = refl
+    nothing (x ∷ xs) e = absurd (omega arith)
+
+-- one that got a further one has a slot that never came
+slots-new : (x y : Shape) → Grows x y → (n : ℕ) → sent x n < sent y n → (q : ℕ) × (x.slots ≤ q) × (q < y.slots) × (has y n q ≡ true)
+slots-new x y g n lt =
+    let more = y.slots - x.slots in
+    let total : y.slots ≡ x.slots + more = omega (arith, g.slots) in
+    let front : kept (has y n) 0 x.slots ≡ slots_in x n = kept-same (has y n) (has x n) 0 x.slots (λ k a b. ap (λ s. (s.message == n) && not s.is_end_mark) (g.slot k (omega arith))) in
+    let split : slots_in y n ≡ slots_in x n ++ kept (has y n) (0 + x.slots) more = ap (kept (has y n) 0) total ∙ Alls.kept-split (has y n) 0 x.slots more ∙ ap (λ l. l ++ kept (has y n) (0 + x.slots) more) front in
+    let r = some (has y n) (0 + x.slots) more (let l = ap length split in omega (arith, lt, l, length-append (slots_in x n) (kept (has y n) (0 + x.slots) more))) in
+    (r.0, omega (arith, r.1), omega (arith, r.2, g.slots), r.3)
+  where
+    some : (t : ℕ → Bool) (from count : ℕ) → 0 < length (kept t from count) → (q : ℕ) × (from ≤ q) × (q < from + count) × (t q ≡ true)
+    some t from zero pos = absurd (omega arith)
+    some t from (suc count) pos = step (t from) refl pos (λ h. some t (from + 1) count h)
+      where
+        step : (b : Bool) → t from ≡ b → 0 < length (if b then from ∷ kept t (from + 1) count else kept t (from + 1) count) → (0 < length (kept t (from + 1) count) → (q : ℕ) × (from + 1 ≤ q) × (q < from + 1 + count) × (t q ≡ true)) → (q : ℕ) × (from ≤ q) × (q < from + suc count) × (t q ≡ true)
+        step true e h ih = (from, omega arith, omega arith, e)
+        step false e h ih = let r = ih h in (r.0, omega (arith, r.1), omega (arith, r.2), r.3)
+
+pub whole-later : (x y : Shape) → Sender x → Sender y → Grows x y → (log : List Coming) → SlotsCame x log → (n : ℕ) → n < x.count → whole_in y log n ≡ whole_in x log n
+whole-later x y a b g log f n lt = step (cases_lt (sent x n) (sent y n))
+  where
+    both-ways : Shape → List ℕ → ℕ → Bool → Bool
+    both-ways z places k o = (length places == k) && (if o then list_all (Log.arrived_new log) places else Log.were_whole places log)
+
+    ordered-is : (y.message n).ordered ≡ (x.message n).ordered
+    ordered-is = ap (λ m. m.ordered) (g.message n lt)
+
+    new-none : (o : Bool) → sent x n < sent y n → (if o then list_all (Log.arrived_new log) (slots_in y n) else Log.were_whole (slots_in y n) log) ≡ true → ⊥
+    new-none o more e =
+        let q = slots-new x y g n more in
+        let all : list_all (Log.arrived_new log) (slots_in y n) ≡ true = either o e in
+        absurd (omega (arith, q.1, new-came x log q.0 f (Alls.all-at (Log.arrived_new log) (has y n) q.0 0 y.slots (omega arith) (omega (arith, q.2)) q.3 all)))
+      where
+        either : (o : Bool) → (if o then list_all (Log.arrived_new log) (slots_in y n) else Log.were_whole (slots_in y n) log) ≡ true → list_all (Log.arrived_new log) (slots_in y n) ≡ true
+        either true e = e
+        either false e = were-new (slots_in y n) log e
+
+    step : (sent x n < sent y n) ⊎ (sent y n ≤ sent x n) → whole_in y log n ≡ whole_in x log n
+    step (inl more) =
+        let out : whole_in y log n ≡ false = fails (whole_in y log n) (λ e. new-none (y.message n).ordered more (both (sent y n == parts y n) (if (y.message n).ordered then list_all (Log.arrived_new log) (slots_in y n) else Log.were_whole (slots_in y n) log) e).1) in
+        let not-all : (sent x n == parts x n) ≡ false = fails (sent x n == parts x n) (λ e. let z = same-is (sent x n) (parts x n) e in absurd (omega (arith, more, g.ended n (omega (arith, z, a.some n lt)) (inl z)))) in
+        out ∙ sym (ap (λ c. c && (if (x.message n).ordered then list_all (Log.arrived_new log) (slots_in x n) else Log.were_whole (slots_in x n) log)) not-all)
+    step (inr le) =
+        let same : slots_in y n ≡ slots_in x n = slots-same x y g n (omega (arith, le, g.sent_more n)) in
+        ap (λ l. both-ways y l (parts y n) (y.message n).ordered) same
+        ∙ ap (λ k. both-ways y (slots_in x n) k (y.message n).ordered) (parts-grown x y g n lt)
+        ∙ ap (both-ways y (slots_in x n) (parts x n)) ordered-is
+
+-- a message without slots is not whole
+pub whole-none : (x : Shape) (log : List Coming) (n : ℕ) → sent x n ≡ 0 → 0 < parts x n → whole_in x log n ≡ false
+whole-none x log n z pos =
+    let e : (sent x n == parts x n) ≡ false = (let l : sent x n < parts x n = omega (arith, z, pos) in grind (arith, nat_tests)) in
+    ap (λ c. c && (if (x.message n).ordered then list_all (Log.arrived_new log) (slots_in x n) else Log.were_whole (slots_in x n) log)) e
+
+-- ## By the record
+
+-- each of its slots arrived, and no skip reached one
+abbrev pub due : View → ℕ → Bool
+due v n = all_come v n && list_all (λ p. nat_le v.skipped p) (slots_in v.x n)
+
+pub record Hears (v : View) (log : List Coming) : Type 0 where
+  pub arrived : (p : ℕ) → v.arrived p ≡ Log.arrived_new log p
+  pub covered : (p : ℕ) → Log.is_skipped log p ≡ nat_lt p v.skipped
+
+pub all-come : (v : View) (n : ℕ) → sent v.x n ≤ parts v.x n → all_come v n ≡ ((sent v.x n == parts v.x n) && list_all v.arrived (slots_in v.x n))
+all-come v n le = ands (cases_lt (come_count v n) (sent v.x n)) ∙ ap (λ b. (sent v.x n == parts v.x n) && b) (sym (Alls.all-count (has v.x n) v.arrived 0 v.x.slots))
+  where
+    most : come_count v n ≤ sent v.x n
+    most = less 0 v.x.slots
+      where
+        less : (from count : ℕ) → length (kept (λ k. has v.x n k && v.arrived k) from count) ≤ length (kept (has v.x n) from count)
+        less from zero = omega arith
+        less from (suc count) = step (has v.x n from) (v.arrived from) (less (from + 1) count)
+          where
+            step : (c d : Bool) → length (kept (λ k. has v.x n k && v.arrived k) (from + 1) count) ≤ length (kept (has v.x n) (from + 1) count) → length (if c && d then from ∷ kept (λ k. has v.x n k && v.arrived k) (from + 1) count else kept (λ k. has v.x n k && v.arrived k) (from + 1) count) ≤ length (if c then from ∷ kept (has v.x n) (from + 1) count else kept (has v.x n) (from + 1) count)
+            step true true ih = omega (arith, ih)
+            step true false ih = omega (arith, ih)
+            step false d ih = ih
+
+    ands : (come_count v n < sent v.x n) ⊎ (sent v.x n ≤ come_count v n) → all_come v n ≡ ((sent v.x n == parts v.x n) && (come_count v n == sent v.x n))
+    ands (inl l) =
+        let a : (come_count v n == parts v.x n) ≡ false = (let z : come_count v n < parts v.x n = omega (arith, l, le) in grind (arith, nat_tests)) in
+        let b : (come_count v n == sent v.x n) ≡ false = grind (arith, nat_tests) in
+        a ∙ sym (ap (λ c. (sent v.x n == parts v.x n) && c) b ∙ none (sent v.x n == parts v.x n))
+      where
+        none : (b : Bool) → (b && false) ≡ false
+        none true = refl
+        none false = refl
+    ands (inr g) =
+        let z : come_count v n ≡ sent v.x n = omega (arith, g, most) in
+        ap (λ k. k == parts v.x n) z ∙ sym (ap (λ k. (sent v.x n == parts v.x n) && (k == sent v.x n)) z ∙ ap (λ c. (sent v.x n == parts v.x n) && c) (same-yes (sent v.x n)) ∙ id (sent v.x n == parts v.x n))
+      where
+        id : (b : Bool) → (b && true) ≡ b
+        id true = refl
+        id false = refl
+
+-- what is due is what is whole now
+pub due-now : (v : View) (log : List Coming) (n : ℕ) → Hears v log → sent v.x n ≤ parts v.x n → due v n ≡ ((sent v.x n == parts v.x n) && all_now log (slots_in v.x n))
+due-now v log n h le =
+    ap (λ b. b && list_all (λ p. nat_le v.skipped p) (slots_in v.x n)) (all-come v n le)
+    ∙ assoc (sent v.x n == parts v.x n) (list_all v.arrived (slots_in v.x n)) (list_all (λ p. nat_le v.skipped p) (slots_in v.x n))
+    ∙ ap (λ b. (sent v.x n == parts v.x n) && b) (sym (Alls.all-both v.arrived (λ p. nat_le v.skipped p) (slots_in v.x n))
+    ∙ Alls.all-same (λ p. v.arrived p && nat_le v.skipped p) (λ p. Log.arrived_new log p && not (Log.is_skipped log p)) (has v.x n) 0 v.x.slots (λ k a b e. ap (λ b. b && nat_le v.skipped k) (h.arrived k) ∙ ap (λ b. Log.arrived_new log k && b) (past k (cases_lt k v.skipped) ∙ ap not (sym (h.covered k)))))
+  where
+    assoc : (a b c : Bool) → ((a && b) && c) ≡ (a && (b && c))
+    assoc true b c = refl
+    assoc false b c = refl
+
+    past : (k : ℕ) → (k < v.skipped) ⊎ (v.skipped ≤ k) → nat_le v.skipped k ≡ not (nat_lt k v.skipped)
+    past k (inl l) = grind (arith, nat_tests)
+    past k (inr g) = grind (arith, nat_tests)
+
+-- an unordered message after one thing more came
+pub one-more : (v : View) (coming : Coming) (log : List Coming) (n : ℕ) → Hears v (coming ∷ log) → sent v.x n ≤ parts v.x n → (v.x.message n).ordered ≡ false → whole_in v.x (coming ∷ log) n ≡ (whole_in v.x log n || due v n)
+one-more v coming log n h le o =
+    ap (λ b. (sent v.x n == parts v.x n) && (if b then list_all (Log.arrived_new (coming ∷ log)) (slots_in v.x n) else Log.were_whole (slots_in v.x n) (coming ∷ log))) o
+    ∙ dist (sent v.x n == parts v.x n) (Log.were_whole (slots_in v.x n) log) (all_now (coming ∷ log) (slots_in v.x n))
+    ∙ ap (λ b. b || ((sent v.x n == parts v.x n) && all_now (coming ∷ log) (slots_in v.x n))) (sym (ap (λ b. (sent v.x n == parts v.x n) && (if b then list_all (Log.arrived_new log) (slots_in v.x n) else Log.were_whole (slots_in v.x n) log)) o))
+    ∙ ap (λ b. whole_in v.x log n || b) (sym (due-now v (coming ∷ log) n h le))
+  where
+    dist : (a b c : Bool) → (a && (b || c)) ≡ ((a && b) || (a && c))
+    dist true b c = refl
+    dist false b c = refl
+
+-- what is due was whole
+pub due-whole : (v : View) (log : List Coming) (n : ℕ) → Hears v log → sent v.x n ≤ parts v.x n → 0 < parts v.x n → (v.x.message n).ordered ≡ false → due v n ≡ true → whole_in v.x log n ≡ true
+due-whole v log n h le some o e =
+    let a = both (sent v.x n == parts v.x n) (all_now log (slots_in v.x n)) (sym (due-now v log n h le) ∙ e) in
+    let z = same-is (sent v.x n) (parts v.x n) a.0 in
+    and (sent v.x n == parts v.x n) (if (v.x.message n).ordered then list_all (Log.arrived_new log) (slots_in v.x n) else Log.were_whole (slots_in v.x n) log) a.0
+    (ap (λ b. if b then list_all (Log.arrived_new log) (slots_in v.x n) else Log.were_whole (slots_in v.x n) log) o ∙ now-were_some (slots_in v.x n) log (omega (arith, z, some)) a.1)
+
+-- an unordered message that is whole by the order of arrivals has arrived
+pub whole-come : (v : View) (log : List Coming) (n : ℕ) → ((p : ℕ) → v.arrived p ≡ Log.arrived_new log p) → sent v.x n ≤ parts v.x n → whole_in v.x log n ≡ true → all_come v n ≡ true
+whole-come v log n arrived le e =
+    let a = both (sent v.x n == parts v.x n) (if (v.x.message n).ordered then list_all (Log.arrived_new log) (slots_in v.x n) else Log.were_whole (slots_in v.x n) log) e in
+    all-come v n le ∙ and (sent v.x n == parts v.x n) (list_all v.arrived (slots_in v.x n)) a.0 (Alls.all-same v.arrived (Log.arrived_new log) (has v.x n) 0 v.x.slots (λ k x y z. arrived k) ∙ by (v.x.message n).ordered a.1)
+  where
+    by : (o : Bool) → (if o then list_all (Log.arrived_new log) (slots_in v.x n) else Log.were_whole (slots_in v.x n) log) ≡ true → list_all (Log.arrived_new log) (slots_in v.x n) ≡ true
+    by true e = e
+    by false e = were-new (slots_in v.x n) log e
+
+-- an ordered one is whole exactly where it has arrived
+pub ordered-whole : (v : View) (log : List Coming) (n : ℕ) → ((p : ℕ) → v.arrived p ≡ Log.arrived_new log p) → sent v.x n ≤ parts v.x n → (v.x.message n).ordered ≡ true → whole_at v n ≡ whole_in v.x log n
+ordered-whole v log n arrived le o =
+    ap (λ b. if b then all_come v n else v.read n || list_any (λ k. k == n) (v.whole (v.x.message n).stream)) o
+    ∙ all-come v n le
+    ∙ ap (λ b. (sent v.x n == parts v.x n) && b) (Alls.all-same v.arrived (Log.arrived_new log) (has v.x n) 0 v.x.slots (λ k x y z. arrived k))
+    ∙ sym (ap (λ b. (sent v.x n == parts v.x n) && (if b then list_all (Log.arrived_new log) (slots_in v.x n) else Log.were_whole (slots_in v.x n) log)) o)
