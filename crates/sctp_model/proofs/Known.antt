@@ -202,6 +202,12 @@ differ-more (x ∷ xs) n e a = (any-append (λ y. y == x) xs (n ∷ []) ∙ ap (
 pub not-all : (v : View) (n p : ℕ) → sent v.x n ≤ parts v.x n → p < v.x.slots → has v.x n p ≡ true → v.arrived p ≡ false → all_come v n ≡ false
 not-all v n p le lt h e = fails (all_come v n) (λ a. not_both (sym e ∙ Alls.all-at v.arrived (has v.x n) p 0 v.x.slots (omega arith) (omega arith) h (both (sent v.x n == parts v.x n) (list_all v.arrived (Wholes.slots_in v.x n)) (sym (Wholes.all-come v n le) ∙ a)).1))
 
+-- another message has arrived as it had
+pub come-other : (v : View) (p n : ℕ) → ((v.x.slot p).message ≡ n → ⊥) → come_count (arrived_in v p) n ≡ come_count v n
+come-other v p n ne = ap length (kept-same (has_come (arrived_in v p) n) (has_come v n) 0 v.x.slots (λ k a b. by_same {P = has_come (arrived_in v p) n k ≡ has_come v n k} k p
+    (λ e. let off : has v.x n k ≡ false = fails (has v.x n k) (λ i. ne (sym (ap (λ q. (v.x.slot q).message) e) ∙ (of-has v.x n k i).0)) in rw off refl)
+    (λ nk f. ap (λ b. has v.x n k && (if b then true else v.arrived k)) f)))
+
 module _ (v : View) (log : List Coming) (p : ℕ) (s : Sender v.x) (h : Whole v log) (heard : Wholes.Hears v log) (heard' : Wholes.Hears (arrived_in v p) (SlotCame p ∷ log)) (lt : p < v.x.slots) (mark : (v.x.slot p).is_end_mark ≡ false) (new : v.arrived p ≡ false) where
   abbrev m : ℕ
   m = (v.x.slot p).message
@@ -222,14 +228,8 @@ module _ (v : View) (log : List Coming) (p : ℕ) (s : Sender v.x) (h : Whole v 
   not-whole : (v.x.message m).ordered ≡ false → whole_at v m ≡ false
   not-whole o = fails (whole_at v m) (λ e. not_both (sym (not-all v m p (s.within m made) lt here new) ∙ Wholes.whole-come v log m heard.arrived (s.within m made) (sym (h.agrees m made) ∙ e)))
 
-  -- another message has arrived as it had
-  pub come-other : (n : ℕ) → (m ≡ n → ⊥) → come_count v1 n ≡ come_count v n
-  come-other n ne = ap length (kept-same (has_come v1 n) (has_come v n) 0 v.x.slots (λ k a b. by_same {P = has_come v1 n k ≡ has_come v n k} k p
-      (λ e. let off : has v.x n k ≡ false = fails (has v.x n k) (λ i. ne (sym (ap (λ q. (v.x.slot q).message) e) ∙ (of-has v.x n k i).0)) in rw off refl)
-      (λ nk f. ap (λ b. has v.x n k && (if b then true else v.arrived k)) f)))
-
   due-other : (n : ℕ) → (m ≡ n → ⊥) → Wholes.due v1 n ≡ Wholes.due v n
-  due-other n ne = ap (λ c. (c == parts v.x n) && list_all (λ q. nat_le v.skipped q) (Wholes.slots_in v.x n)) (come-other n ne)
+  due-other n ne = ap (λ c. (c == parts v.x n) && list_all (λ q. nat_le v.skipped q) (Wholes.slots_in v.x n)) (come-other v p n ne)
 
   -- who is whole then
   whole-then : (n : ℕ) → n < v.x.count → (v.x.message n).ordered ≡ false → whole_at v2 n ≡ (whole_at v n || Wholes.due v1 n)

@@ -37,3 +37,6 @@ pub mod Wholes
 pub mod Known
 pub mod KnownRun
 pub mod Due
+pub mod Ordered
+pub mod Received
+pub mod Spans

@@ -129,6 +129,15 @@ slots-same x y g n e =
     nothing [] e = refl
     nothing (x ∷ xs) e = absurd (omega arith)
 
+-- one of the kept numbers
+pub some-kept : (t : ℕ → Bool) (from count : ℕ) → 0 < length (kept t from count) → (q : ℕ) × (from ≤ q) × (q < from + count) × (t q ≡ true)
+some-kept t from zero pos = absurd (omega arith)
+some-kept t from (suc count) pos = step (t from) refl pos (λ h. some-kept t (from + 1) count h)
+  where
+    step : (b : Bool) → t from ≡ b → 0 < length (if b then from ∷ kept t (from + 1) count else kept t (from + 1) count) → (0 < length (kept t (from + 1) count) → (q : ℕ) × (from + 1 ≤ q) × (q < from + 1 + count) × (t q ≡ true)) → (q : ℕ) × (from ≤ q) × (q < from + suc count) × (t q ≡ true)
+    step true e h ih = (from, omega arith, omega arith, e)
+    step false e h ih = let r = ih h in (r.0, omega (arith, r.1), omega (arith, r.2), r.3)
+
 -- one that got a further one has a slot that never came
 slots-new : (x y : Shape) → Grows x y → (n : ℕ) → sent x n < sent y n → (q : ℕ) × (x.slots ≤ q) × (q < y.slots) × (has y n q ≡ true)
 slots-new x y g n lt =
@@ -136,16 +145,8 @@ slots-new x y g n lt =
     let total : y.slots ≡ x.slots + more = omega (arith, g.slots) in
     let front : kept (has y n) 0 x.slots ≡ slots_in x n = kept-same (has y n) (has x n) 0 x.slots (λ k a b. ap (λ s. (s.message == n) && not s.is_end_mark) (g.slot k (omega arith))) in
     let split : slots_in y n ≡ slots_in x n ++ kept (has y n) (0 + x.slots) more = ap (kept (has y n) 0) total ∙ Alls.kept-split (has y n) 0 x.slots more ∙ ap (λ l. l ++ kept (has y n) (0 + x.slots) more) front in
-    let r = some (has y n) (0 + x.slots) more (let l = ap length split in omega (arith, lt, l, length-append (slots_in x n) (kept (has y n) (0 + x.slots) more))) in
+    let r = some-kept (has y n) (0 + x.slots) more (let l = ap length split in omega (arith, lt, l, length-append (slots_in x n) (kept (has y n) (0 + x.slots) more))) in
     (r.0, omega (arith, r.1), omega (arith, r.2, g.slots), r.3)
-  where
-    some : (t : ℕ → Bool) (from count : ℕ) → 0 < length (kept t from count) → (q : ℕ) × (from ≤ q) × (q < from + count) × (t q ≡ true)
-    some t from zero pos = absurd (omega arith)
-    some t from (suc count) pos = step (t from) refl pos (λ h. some t (from + 1) count h)
-      where
-        step : (b : Bool) → t from ≡ b → 0 < length (if b then from ∷ kept t (from + 1) count else kept t (from + 1) count) → (0 < length (kept t (from + 1) count) → (q : ℕ) × (from + 1 ≤ q) × (q < from + 1 + count) × (t q ≡ true)) → (q : ℕ) × (from ≤ q) × (q < from + suc count) × (t q ≡ true)
-        step true e h ih = (from, omega arith, omega arith, e)
-        step false e h ih = let r = ih h in (r.0, omega (arith, r.1), omega (arith, r.2), r.3)
 
 pub whole-later : (x y : Shape) → Sender x → Sender y → Grows x y → (log : List Coming) → SlotsCame x log → (n : ℕ) → n < x.count → whole_in y log n ≡ whole_in x log n
 whole-later x y a b g log f n lt = step (cases_lt (sent x n) (sent y n))

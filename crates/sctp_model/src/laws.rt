@@ -1,6 +1,6 @@
 //! What holds of every history of a link: laws, each the contract of a function that does nothing.
 
-ghost use Rattle.sctp_model.specs.Laws.{OnEveryRun, EmitsWherePending, TakesPending, SlotsInOrder, SlotsFollow, OneHalfSent, SentInTurn, IndexesLeaveNoGap, NoEndMarkIsSent, DatagramsStay, Balances, SumsAreTold, AcknowledgedArrived, AcknowledgedIsReported, SacksSay, NetworkIsMade, ArrivedIsNew, CumulativeIsSeen, ArrivalsAnswered, NamedIsNamed, MessagesAreWrites, StartsOnce, LateAbandonsListed};
+ghost use Rattle.sctp_model.specs.Laws.{OnEveryRun, EmitsWherePending, TakesPending, SlotsInOrder, SlotsFollow, OneHalfSent, SentInTurn, IndexesLeaveNoGap, NoEndMarkIsSent, DatagramsStay, Balances, SumsAreTold, AcknowledgedArrived, AcknowledgedIsReported, SacksSay, NetworkIsMade, ArrivedIsNew, CumulativeIsSeen, ArrivalsAnswered, WholeIsWhole, NamedIsNamed, SpansFit, MessagesAreWrites, StartsOnce, LateAbandonsListed};
 
 /// A Send answers Idle exactly where no fragment is pending; else its new datagram carries the pending fragments that it takes.
 pub fn each_send_emits()
@@ -38,7 +38,9 @@ pub fn arrivals_are_told()
     ensures arrived { OnEveryRun ArrivedIsNew }
     ensures cumulative { OnEveryRun CumulativeIsSeen }
     ensures answered { OnEveryRun ArrivalsAnswered }
+    ensures whole { OnEveryRun WholeIsWhole }
     ensures named { OnEveryRun NamedIsNamed }
+    ensures spans { OnEveryRun SpansFit }
 {}
 
 /// The ordered messages of a stream are read in order, each as it was written, as far as they are whole.
