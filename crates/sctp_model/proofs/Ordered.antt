@@ -12,7 +12,8 @@ use Rattle.sctp_model.specs.Receiver.{greatest}
 use Rattle.sctp_model.specs.Log.{Coming}
 use Rattle.sctp_model.proofs.Shape.{Shape, has, on, index, sent, parts}
 use Rattle.sctp_model.proofs.Sender.{Sender}
-use Rattle.sctp_model.proofs.SenderSteps.{by_same, same-yes, same-is, negated, of-has}
+use Rattle.sctp_model.proofs.SenderSteps.{of-has}
+use Rattle.sctp_lists.proofs.Cases.{by_same, same-yes, same-is, negated}
 use Rattle.sctp_model.proofs.Grows.{Grows}
 use Rattle.sctp_model.proofs.Network.{IsNamable, NamesFit, namable-grown}
 use Rattle.sctp_model.proofs.Slots.{sent-made, sent-alive}

@@ -25,7 +25,7 @@ use Rattle.sctp_model.specs.Log.{Coming}
 use Rattle.sctp_model.specs.Laws.{IsSetup, OnEveryRun, SpansFit}
 use Rattle.sctp_model.proofs.Shape.{Shape, shape, on, index, sent, parts}
 use Rattle.sctp_model.proofs.Sender.{Sender}
-use Rattle.sctp_model.proofs.SenderSteps.{by_same, same-yes, same-is, negated}
+use Rattle.sctp_lists.proofs.Cases.{by_same, same-yes, same-is, negated}
 use Rattle.sctp_model.proofs.SenderRun.{Sane, sane-run, sane-after, unless-holds, found}
 use Rattle.sctp_model.proofs.Slots.{sent-made}
 use Rattle.sctp_model.proofs.Moves.{Quiet, quiet-written, quiet-started, quiet-sent, quiet-expire, quiet-tail, quiet-lates, quiet-abandoned}

@@ -22,3 +22,4 @@ pub mod SlotArrives
 pub mod RunsOnce
 pub mod SlotsArrive
 pub mod SlotsNear
+pub mod SoundRun
