@@ -23,3 +23,4 @@ pub mod RunsOnce
 pub mod SlotsArrive
 pub mod SlotsNear
 pub mod SoundRun
+pub mod FilterQueue
