@@ -24,3 +24,5 @@ pub mod SlotsArrive
 pub mod SlotsNear
 pub mod SoundRun
 pub mod FilterQueue
+pub mod Waiting
+pub mod Written
