@@ -26,3 +26,4 @@ pub mod SoundRun
 pub mod FilterQueue
 pub mod Waiting
 pub mod Written
+pub mod LifetimesStart

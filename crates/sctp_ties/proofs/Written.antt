@@ -89,6 +89,7 @@ module _ (w : World) (m : Message) (made : (p : ℕ) → p < length w.slots → 
     next = omega (arith, t.next, Waiting.len-more w m);
     unstarted = λ n lt. by_last n len (omega (arith, lt, Waiting.len-more w m)) (λ l. ap (λ x. is_some x.started) (Waiting.message-old w m n l) ∙ t.unstarted n l) (λ e. now n e);
     started = omega (arith, t.started, Waiting.len-more w m);
+    begun = t.begun;
   }
     where
       given : (m.expired || m.abandoned) ≡ false

@@ -83,6 +83,8 @@ pub record TiedOutbound (w : World) (q : Outbound) : Type 0 where
   pub next : q.next_message_id ≡ length w.messages
   pub unstarted : (n : ℕ) → n < length w.messages → is_some (message_at w n).started ≡ not (nat_le q.next_unstarted n)
   pub started : q.next_unstarted ≤ length w.messages
+  -- the lifetime of what was sent has started
+  pub begun : (p : ℕ) → p < length w.slots → message_of w p < q.next_unstarted
 
 -- ## What came
 
