@@ -27,3 +27,4 @@ pub mod FilterQueue
 pub mod Waiting
 pub mod Written
 pub mod LifetimesStart
+pub mod Sent
