@@ -28,3 +28,4 @@ pub mod Waiting
 pub mod Written
 pub mod LifetimesStart
 pub mod Sent
+pub mod SentInFlight
