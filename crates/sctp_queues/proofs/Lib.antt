@@ -1,3 +1,8 @@
+pub mod ListLemmas
+pub mod SetLemmas
+pub mod RunLemmas
+pub mod SizeLemmas
+pub mod PieceLemmas
 pub mod Halves
 pub mod Serials
 pub mod Search
@@ -8,10 +13,5 @@ pub mod Whole
 pub mod Sendable
 pub mod Outbounds
 pub mod Abandoned
-pub mod ListLemmas
-pub mod SetLemmas
-pub mod RunLemmas
-pub mod SizeLemmas
-pub mod PieceLemmas
 pub mod CountLemmas
 pub mod Order

@@ -1,5 +1,12 @@
 pub mod DataChunks
 pub mod Turns
+pub mod Sets
+pub mod Runs
+pub mod Around
+pub mod Loose
+pub mod Sizes
+pub mod Pieces
+pub mod Reassembly
 pub mod Stored
 pub mod Marks
 pub mod Window
@@ -8,11 +15,4 @@ pub mod Blocks
 pub mod Pending
 pub mod Whole
 pub mod Outbound
-pub mod Sets
-pub mod Runs
-pub mod Around
-pub mod Loose
-pub mod Sizes
-pub mod Pieces
-pub mod Reassembly
 pub mod Bounded

@@ -1,0 +1,102 @@
+-- What a link's queues hold, against its record.
+use Rattle.std.specs.Prelude.{◌≡◌, ◌<◌, ◌≤◌, ◌-◌, ◌||◌, if◌then◌else◌, ℕ, Bool, ◌&&◌, not, List, length, map, nat_le, is_some, is_none, Option, Some, None, false}
+use Rattle.sctp_lists.specs.Kept.{kept, numbers_from, gathered, first_of}
+use Rattle.sctp_chunks.specs.declared.chunk.chunk_payload_data.ChunkPayloadData.{ChunkPayloadData}
+use Rattle.sctp_chunks.specs.PayloadData.{Data, data_of}
+use Rattle.sctp_chunks.specs.ChunkSet.{fresh}
+use Rattle.sctp_queues.specs.Payload.{Payload}
+use Rattle.sctp_queues.specs.Pending.{Pending}
+use Rattle.sctp_queues.specs.Outbound.{Outbound}
+use Rattle.sctp_queues.specs.Reassembly.{ReassemblyState}
+use Rattle.sctp_queues.specs.declared.pending_queue.Selected.{Selected}
+use Rattle.sctp_model.specs.World.{World}
+use Rattle.sctp_model.specs.Messages.{message_at, message_of, slot_at, stream_at, messages_where, is_half_sent, sent_of, fragment_count, deadline_of}
+use Rattle.sctp_model.specs.Amounts.{is_given_up}
+use Rattle.sctp_model.specs.Contents.{data_with, chunk_at}
+use Rattle.sctp_model.specs.Queues.{FilterRecord, InFlightChunk, PendingFragment, in_flight_at, is_cleared, filter_of}
+use Rattle.sctp_ties.specs.Holds.{reassembly_of}
+
+-- ## What waits to be sent
+
+-- fragment i of message n as it waits: nothing of it was sent yet
+abbrev pub waiting_at : World → ℕ → ℕ → ChunkPayloadData
+waiting_at w n i =
+    record (fresh (data_with w n i 0)) {
+      message_id = n;
+      reliability = Some ((message_at w n).reliability, (message_at w n).value);
+      deadline = deadline_of w n;
+    }
+
+-- the fragments of message n that have no slot
+abbrev pub waiting_of : World → ℕ → List ChunkPayloadData
+waiting_of w n = map (waiting_at w n) (numbers_from (sent_of w n) (fragment_count w n - sent_of w n))
+
+-- those of the messages that pass, one message after another
+abbrev pub waiting_where : World → (ℕ → Bool) → List ChunkPayloadData
+waiting_where w p = gathered (waiting_of w) (messages_where w p)
+
+abbrev pub waits_ordered : World → ℕ → Bool
+waits_ordered w n = (message_at w n).ordered && not (is_given_up w n)
+
+abbrev pub waits_unordered : World → ℕ → Bool
+waits_unordered w n = not (message_at w n).ordered && not (is_given_up w n)
+
+-- the half-sent message, with its kind
+abbrev pub selected_of : World → Option ℕ → Option Selected
+selected_of w None = None
+selected_of w (Some n) = Some (record { message_id = n; unordered = not (message_at w n).ordered })
+
+-- the pending queue, but for its room
+pub record TiedPending (w : World) (q : Pending) : Type 0 where
+  pub ordered : q.ordered ≡ waiting_where w (waits_ordered w)
+  pub unordered : q.unordered ≡ waiting_where w (waits_unordered w)
+  pub selected : q.selected ≡ selected_of w (first_of (messages_where w (is_half_sent w)))
+
+-- ## What is in flight
+
+-- a chunk in flight as the record knows it, and what a further sending of it says
+pub record Sending : Type 0 where
+  pub chunk : InFlightChunk
+  pub says : Option Data
+
+-- nothing where its bytes are gone
+abbrev pub unless_gone : Bool → Data → Option Data
+unless_gone gone d = if gone then None else Some d
+
+abbrev pub sending_of : ChunkPayloadData → Sending
+sending_of c =
+    record {
+      chunk = record { tsn = c.tsn; message = c.message_id; payload = c.user_data; acknowledged = c.acked; abandoned = c.abandoned; deadline = c.deadline };
+      says = unless_gone (c.acked || c.abandoned) (data_of c);
+    }
+
+abbrev pub sending_at : World → ℕ → Sending
+sending_at w place = record { chunk = in_flight_at w place; says = unless_gone (is_cleared w place) (data_of (chunk_at w place)) }
+
+abbrev pub sendings_of : World → List Sending
+sendings_of w = map (sending_at w) (numbers_from w.taken (length w.slots - w.taken))
+
+-- the outbound queue: the number of the next message, and from which on lifetimes have not started
+pub record TiedOutbound (w : World) (q : Outbound) : Type 0 where
+  pub pending : TiedPending w q.pending
+  pub in_flight : map sending_of q.inflight.chunks ≡ sendings_of w
+  pub next : q.next_message_id ≡ length w.messages
+  pub unstarted : (n : ℕ) → n < length w.messages → is_some (message_at w n).started ≡ not (nat_le q.next_unstarted n)
+  pub started : q.next_unstarted ≤ length w.messages
+  -- the lifetime of what was sent has started
+  pub begun : (p : ℕ) → p < length w.slots → message_of w p < q.next_unstarted
+
+-- ## What came
+
+-- the filter of TSNs, with the cumulative TSN that the link keeps
+abbrev pub filter_held : ℕ → Payload → FilterRecord
+filter_held cumulative q = record { cumulative = cumulative; held = map (λ c. c.tsn) q.chunks; duplicates = q.duplicates }
+
+-- ## The link's queues
+
+-- what the queues hold is what the record says; the reassembly queue of a stream is there where the stream is open
+pub record Tied (w : World) (sending : Outbound) (cumulative : ℕ) (seen : Payload) (queues : ℕ → Option ReassemblyState) : Type 0 where
+  pub outbound : TiedOutbound w sending
+  pub filter : filter_held cumulative seen ≡ filter_of w
+  pub reassembly : (s : ℕ) (q : ReassemblyState) → queues s ≡ Some q → q.held ≡ reassembly_of w s
+  pub open_streams : (s : ℕ) → is_some (queues s) ≡ is_some (stream_at w s)
