@@ -4,3 +4,4 @@ pub mod RunLemmas
 pub mod SizeLemmas
 pub mod PieceLemmas
 pub mod CountLemmas
+pub mod CompleteLemmas
