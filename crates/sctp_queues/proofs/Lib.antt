@@ -15,3 +15,4 @@ pub mod Outbounds
 pub mod Abandoned
 pub mod CountLemmas
 pub mod Order
+pub mod CompleteLemmas

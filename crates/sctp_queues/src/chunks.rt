@@ -1,6 +1,6 @@
 //! The fragments of one message.
 
-ghost use Rattle.std.specs.Prelude.{◌≡◌, ◌==◌, ◌+◌, ◌^◌, ◌-◌, ◌<◌, ◌≤◌, ◌&&◌, [], ◌∷◌, length, min, take, drop, ◌++◌, option_map, not, OnOk, OnErr, IfOk, IfErr, if◌then◌else◌};
+ghost use Rattle.std.specs.Prelude.{◌≡◌, ◌==◌, ◌+◌, ◌%◌, ◌^◌, ◌-◌, ◌<◌, ◌≤◌, ◌&&◌, [], ◌∷◌, length, min, take, drop, ◌++◌, option_map, false, not, OnOk, OnErr, IfOk, IfErr, if◌then◌else◌};
 ghost use Rattle.std.specs.List.{list_any, position_or_len, insert, concat};
 ghost use Rattle.sctp_queues.specs.Pieces.{left_from, left_of, piece_of, left_after, bytes_given};
 ghost use Rattle.sctp_queues.specs.declared.chunks.Chunk.{Chunk};
@@ -71,20 +71,7 @@ impl Fragments {
     pub fn is_complete(&self) -> bool
         ensures { result ≡ is_complete self.now.chunks }
     {
-        let Some((first, rest)) = self.chunks.split_first() else {
-            return false;
-        };
-        if !first.beginning_fragment {
-            return false;
-        }
-        let mut last = first;
-        for chunk in rest {
-            if chunk.tsn != last.tsn.wrapping_add(1) {
-                return false;
-            }
-            last = chunk;
-        }
-        last.ending_fragment
+        may_be_complete(&self.chunks) && follow_on(&self.chunks)
     }
 
     /// How many bytes the fragments carry, or the greatest number where they are more.
@@ -294,6 +281,53 @@ fn gather(
         offset = 0;
     }
     Ok((index, offset))
+}
+
+// A test of both ends, which complete fragments pass: it saves the scan of most that are not.
+fn may_be_complete(chunks: &[ChunkPayloadData]) -> bool
+    ensures { result ≡ false → is_complete chunks.now ≡ false }
+{
+    let len = chunks.len();
+    if len == 0 {
+        return false;
+    }
+    let first = &chunks[0];
+    let last = &chunks[len - 1];
+    if !first.beginning_fragment {
+        return false;
+    }
+    if !last.ending_fragment {
+        return false;
+    }
+    last.tsn == tsn_after(first.tsn, len - 1)
+}
+
+// The TSN so many places further.
+fn tsn_after(tsn: u32, places: usize) -> u32
+    ensures value { result ≡ (tsn + places % 2 ^ 32) % 2 ^ 32 }
+    ensures fits { tsn < 2 ^ 32 }
+{
+    tsn.wrapping_add((places % (1 << 32)) as u32)
+}
+
+// Whether the first fragment begins, the last ends, and TSNs rise by one.
+fn follow_on(chunks: &[ChunkPayloadData]) -> bool
+    ensures { result ≡ is_complete chunks.now }
+{
+    let Some((first, rest)) = chunks.split_first() else {
+        return false;
+    };
+    if !first.beginning_fragment {
+        return false;
+    }
+    let mut last = first;
+    for chunk in rest {
+        if chunk.tsn != last.tsn.wrapping_add(1) {
+            return false;
+        }
+        last = chunk;
+    }
+    last.ending_fragment
 }
 
 /// Equal fragments, which share their bytes.
