@@ -29,3 +29,4 @@ pub mod Written
 pub mod LifetimesStart
 pub mod Sent
 pub mod SentInFlight
+pub mod KindsRun
