@@ -21,6 +21,7 @@ use Rattle.sctp_model.specs.Laws.{IsSetup}
 use Rattle.sctp_model.proofs.Shape.{Shape, MessagePart, shape, sent, half, unsent, slotted, written, abandoned_at, expired_at, message_part}
 use Rattle.sctp_model.proofs.Sender.{Sender, sent-slotted}
 use Rattle.sctp_lists.specs.Lists.{pieces}
+use Rattle.sctp_lists.proofs.Getting.{length-numbered}
 use Rattle.sctp_model.proofs.SenderSteps.{IsHalf, of-half, is-half, sent-other, sent-here}
 use Rattle.sctp_model.proofs.SenderEnds.{sent-none}
 use Rattle.sctp_model.proofs.SenderRun.{Sane, sane-run, sane-takes, sane-started, filled-keeps, sends-keep, fold-keeps}
@@ -166,3 +167,64 @@ turns-after setup w (E.Read s) g t = turns-as (shape w) (shape (Changes.read_fro
 pub turns-run : (setup : Setup) (h : History) → IsRun setup h → KindsInTurn (world_of setup h)
 turns-run setup [] run = λ n k h lt ord. cc
 turns-run setup (entry ∷ older) run = turns-after setup (world_of setup older) entry.0 (sane-run setup older run.1.1) (turns-run setup older run.1.1)
+
+-- ## No more slots are acknowledged than there are
+
+taken-sack : (w : World) (r : W.Report) → w.taken ≤ length w.slots → ((p : ℕ) → reports r p ≡ true → p < length w.slots) → max w.taken r.cumulative ≤ length w.slots
+taken-sack w r le inside = by (cases_lt 0 r.cumulative)
+  where
+    by : (0 < r.cumulative) ⊎ (r.cumulative ≤ 0) → max w.taken r.cumulative ≤ length w.slots
+    by (inr z) = omega (arith, le)
+    by (inl pos) =
+        let p : ℕ = r.cumulative - 1 in
+        let low : nat_lt (r.cumulative - 1) r.cumulative ≡ true = grind (arith, nat_tests) in
+        let lt = inside (r.cumulative - 1) (or-first (nat_lt (r.cumulative - 1) r.cumulative) _ low) in
+        omega (arith, le, lt)
+      where
+        or-first : (a b : Bool) → a ≡ true → (a || b) ≡ true
+        or-first true b e = refl
+        or-first false b e = cc
+
+module _ (setup : Setup) (older : History) (is : IsSetup setup) (run : IsRun setup older) where
+  abbrev w : World
+  w = world_of setup older
+
+  seen-in : (r : W.Report) (k : ℕ) → slice_get w.network k ≡ Some (Sack r) → (p : ℕ) → reports r p ≡ true → p < length w.slots
+  seen-in r k e p h = Acknowledged.seen-made w (log_of setup older) p (received-run setup older is run).known.heard (Acknowledged.sack-at (log_of setup older) w.network k (Sack r) (Acknowledged.sacks-run setup older is run) e p h)
+
+  taken-after : (e : Event) → refusal_of w e ≡ None → w.taken ≤ length w.slots → (after w e).taken ≤ length (after w e).slots
+  taken-after e ok le = by e (extends-after setup w e ok (sane-run setup older run)).grows.slots
+    where
+      same : (v : World) → length w.slots ≤ length v.slots → v.taken ≡ w.taken → v.taken ≤ length v.slots
+      same v g t = omega (arith, g, t, le)
+
+      wrote : (s : ℕ) (ppi : _) (bytes : List ℕ) → (Changes.wrote w s ppi bytes).taken ≡ w.taken
+      wrote s ppi [] = refl
+      wrote s ppi (b ∷ bs) = refl
+
+      acked : (k : ℕ) (o : Option Datagram) → slice_get w.network k ≡ o → (Changes.sack_taken w o).taken ≤ length (Changes.sack_taken w o).slots
+      acked k None x = le
+      acked k (Some (W.Data ps)) x = le
+      acked k (Some (Forward upto names)) x = le
+      acked k (Some (Sack r)) x = let m = taken-sack w r le (seen-in r k x) in let l = length-numbered (Changes.acknowledged_by r) 0 w.slots in omega (arith, m, l)
+
+      by : (e : Event) → length w.slots ≤ length (after w e).slots → (after w e).taken ≤ length (after w e).slots
+      by (E.Open s) g = same (after w (E.Open s)) g refl
+      by (E.Mode s unordered reliability value) g = same (after w (E.Mode s unordered reliability value)) g refl
+      by (E.Write s ppi bytes) g = same (after w (E.Write s ppi bytes)) g (wrote s ppi bytes)
+      by (E.Start now) g = same (after w (E.Start now)) g refl
+      by (E.Send now) g = same (after w (E.Send now)) g (Moves.quiet-sent setup w now (front w) (sane-run setup older run)).taken
+      by (E.Resend tsn) g = same (after w (E.Resend tsn)) g refl
+      by (E.Expire now) g = same (after w (E.Expire now)) g (Moves.quiet-expire setup w now (front w) (sane-run setup older run)).taken
+      by (E.Tail now) g = same (after w (E.Tail now)) g (Moves.quiet-tail setup w (Changes.tailing w now) (sane-run setup older run)).taken
+      by (E.Late now) g = same (after w (E.Late now)) g (Moves.quiet-lates setup w now (sane-run setup older run)).taken
+      by (E.Abandon tsn) g = same (after w (E.Abandon tsn)) g (Moves.quiet-abandoned setup w (Messages.message_of w (Messages.place_of w tsn)) (sane-run setup older run)).taken
+      by (E.Skip upto names) g = same (after w (E.Skip upto names)) g refl
+      by (E.Ack credit) g = same (after w (E.Ack credit)) g refl
+      by (E.Arrive k) g = same (after w (E.Arrive k)) g (Acknowledged.as-datagram w (slice_get w.network k)).taken
+      by (E.Acked k) g = acked k (slice_get w.network k) refl
+      by (E.Read s) g = same (after w (E.Read s)) g (Acknowledged.as-read w s (Receiver.next_read w s)).taken
+
+pub taken-run : (setup : Setup) (h : History) → IsSetup setup → IsRun setup h → (world_of setup h).taken ≤ length (world_of setup h).slots
+taken-run setup [] is run = omega arith
+taken-run setup (entry ∷ older) is run = taken-after setup older is run.1.1 entry.0 run.0 (taken-run setup older is run.1.1)
