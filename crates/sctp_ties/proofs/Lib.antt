@@ -30,3 +30,4 @@ pub mod LifetimesStart
 pub mod Sent
 pub mod SentInFlight
 pub mod KindsRun
+pub mod Acked
