@@ -168,11 +168,11 @@ seen-stays setup older (E.Read x) r p e = e
 
 -- ## The invariant
 
-abbrev SackFits : List Coming → Datagram → Type 0
+abbrev pub SackFits : List Coming → Datagram → Type 0
 SackFits log (Sack r) = (p : ℕ) → reports r p ≡ true → is_seen log p ≡ true
 SackFits log d = Unit {0}
 
-abbrev SacksFit : List Coming → List Datagram → Type 0
+abbrev pub SacksFit : List Coming → List Datagram → Type 0
 SacksFit log [] = Unit {0}
 SacksFit log (d ∷ ds) = SackFits log d × SacksFit log ds
 
@@ -189,7 +189,7 @@ sacks-append : (log : List Coming) (ds es : List Datagram) → SacksFit log ds �
 sacks-append log [] es f g = g
 sacks-append log (d ∷ ds) es f g = (f.0, sacks-append log ds es f.1 g)
 
-sack-at : (log : List Coming) (ds : List Datagram) (k : ℕ) (d : Datagram) → SacksFit log ds → slice_get ds k ≡ Some d → SackFits log d
+pub sack-at : (log : List Coming) (ds : List Datagram) (k : ℕ) (d : Datagram) → SacksFit log ds → slice_get ds k ≡ Some d → SackFits log d
 sack-at log [] k d f e = cc
 sack-at log (c ∷ ds) zero d f e = let z : c ≡ d = cc in subst (SackFits log) z f.0
 sack-at log (c ∷ ds) (suc k) d f e = sack-at log ds k d f.1 e

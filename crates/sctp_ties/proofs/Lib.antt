@@ -29,3 +29,5 @@ pub mod Written
 pub mod LifetimesStart
 pub mod Sent
 pub mod SentInFlight
+pub mod KindsRun
+pub mod Acked
