@@ -2,16 +2,16 @@
 #![tactic(auto)]
 
 pub mod chunks;
-pub mod loose;
-pub mod pool;
-pub mod reassembly_queue;
-mod sizes;
 pub mod held;
 mod line;
+pub mod loose;
 pub mod outbound_queue;
 pub mod payload_queue;
 pub mod pending_queue;
+pub mod pool;
+pub mod reassembly_queue;
 #[cfg(test)]
 mod reassembly_tests;
+mod sizes;
 mod skips;
 pub mod turns;

@@ -13,7 +13,7 @@ use Rattle.sctp_lists.proofs.Round.{tsn}
 use Rattle.sctp_chunks.specs.declared.chunk.chunk_payload_data.ChunkPayloadData.{ChunkPayloadData}
 use Rattle.sctp_chunks.specs.PayloadData.{data_of}
 use Rattle.sctp_queues.specs.Marks.{acknowledged}
-use Rattle.sctp_queues.specs.Window.{has_tsn}
+use Rattle.sctp_queues.specs.DataChunks.{has_tsn}
 use Rattle.sctp_queues.specs.Payload.{front_with, without_front}
 use Rattle.sctp_queues.specs.Outbound.{Outbound, with_inflight}
 use Rattle.sctp_model.specs.World.{World, Report, Sack}

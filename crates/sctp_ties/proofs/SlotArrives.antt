@@ -11,7 +11,7 @@ use Rattle.sctp_lists.proofs.KeptLemmas.{front-kept, FrontOf}
 use Rattle.sctp_lists.proofs.More.{fails, not_both, and}
 use Rattle.sctp_chunks.specs.declared.chunk.chunk_payload_data.ChunkPayloadData.{ChunkPayloadData}
 use Rattle.sctp_chunks.specs.ChunkSet.{ChunkSet}
-use Rattle.sctp_queues.specs.Sets.{chunk_before}
+use Rattle.sctp_queues.specs.DataChunks.{chunk_before}
 use Rattle.sctp_queues.specs.Runs.{IsRun, IsEarliestRun}
 use Rattle.sctp_queues.specs.Reassembly.{Reassembly, pushed_ordered, set_of_run, BecomesWhole}
 use Rattle.sctp_queues.specs.Reassembly as queue
