@@ -31,3 +31,4 @@ pub mod Sent
 pub mod SentInFlight
 pub mod KindsRun
 pub mod Acked
+pub mod QuietReceiver
