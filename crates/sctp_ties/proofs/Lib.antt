@@ -32,3 +32,4 @@ pub mod SentInFlight
 pub mod KindsRun
 pub mod Acked
 pub mod QuietReceiver
+pub mod QuietSender
