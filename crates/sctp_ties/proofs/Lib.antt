@@ -33,3 +33,4 @@ pub mod KindsRun
 pub mod Acked
 pub mod QuietReceiver
 pub mod QuietSender
+pub mod InFlight
