@@ -34,3 +34,4 @@ pub mod Acked
 pub mod QuietReceiver
 pub mod QuietSender
 pub mod InFlight
+pub mod Opened
