@@ -35,3 +35,4 @@ pub mod QuietReceiver
 pub mod QuietSender
 pub mod InFlight
 pub mod Opened
+pub mod PendingBytes
