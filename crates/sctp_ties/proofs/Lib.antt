@@ -36,3 +36,4 @@ pub mod QuietSender
 pub mod InFlight
 pub mod Opened
 pub mod PendingBytes
+pub mod Fragments
