@@ -10,14 +10,15 @@ use Rattle.sctp_model.specs.Messages.{front, sent_of, tsn_of}
 use Rattle.sctp_model.specs.Changes.{started, with_slot, fragment_sent, fragment_of_sent}
 use Rattle.sctp_model.specs.Steps.{History, world_of, IsRun}
 use Rattle.sctp_model.proofs.Shape.{shape}
-use Rattle.sctp_model.proofs.SenderRun.{Sane, sane-run}
+use Rattle.sctp_model.proofs.SenderRun.{Sane, sane-run, sane-started}
 use Rattle.sctp_model.proofs.Few
 use Rattle.sctp_model.proofs.Fronts.{front-none}
 use Rattle.sctp_ties.specs.Tied.{waiting_at, TiedOutbound}
 use Rattle.sctp_ties.proofs.Sent.{FrontIs, front_is, pending-sent, pending-idle}
 use Rattle.sctp_ties.proofs.SentInFlight.{tied-sent}
 use Rattle.sctp_ties.proofs.LifetimesStart.{tied-started}
-use Rattle.sctp_ties.proofs.KindsRun.{Going, going-takes, turns-run}
+use Rattle.sctp_ties.proofs.KindsRun.{Going, going-takes, turns-as, turns-run}
+use Rattle.sctp_model.proofs.Shapes
 
 pub going-run : (setup : Setup) (h : History) → IsRun setup h → Going setup (world_of setup h)
 going-run setup h run = record { sane = sane-run setup h run; turns = turns-run setup h run }
@@ -43,3 +44,6 @@ all-begun w now q t = by (q.next_unstarted == q.next_message_id) refl
     by : (b : Bool) → (q.next_unstarted == q.next_message_id) ≡ b → (all_started now q).next_unstarted ≡ length w.messages
     by true e = let z : q.next_unstarted ≡ q.next_message_id = grind (arith, nat_tests) in rw e (z ∙ t.next)
     by false e = rw e t.next
+
+pub going-started : (setup : Setup) (w : World) (now : ℕ) → Going setup w → Going setup (started w now)
+going-started setup w now g = record { sane = sane-started setup w now g.sane; turns = turns-as (shape w) (shape (started w now)) (Shapes.shape-started w now) g.turns }

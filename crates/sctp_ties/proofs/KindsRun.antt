@@ -38,7 +38,7 @@ use Rattle.sctp_ties.proofs.Sent.{KindsInTurn, FrontIs, front_is}
 abbrev pub Turns : Shape → Type 0
 Turns x = (n k : ℕ) → half x n ≡ true → k < n → (x.message k).ordered ≡ (x.message n).ordered → unsent x k ≡ false
 
-turns-as : (x y : Shape) → y ≡ x → Turns x → Turns y
+pub turns-as : (x y : Shape) → y ≡ x → Turns x → Turns y
 turns-as x y e t = subst Turns (sym e) t
 
 turns-written : (x : Shape) (m : MessagePart) → Sender x → Turns x → Turns (written x m)

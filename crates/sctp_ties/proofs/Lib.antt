@@ -37,3 +37,4 @@ pub mod InFlight
 pub mod Opened
 pub mod PendingBytes
 pub mod Fragments
+pub mod SackMade
