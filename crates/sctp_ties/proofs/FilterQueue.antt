@@ -95,6 +95,35 @@ at_or_before-cumulative first c k short lt = step (cases_lt k c)
     step (inl l) = rw (behind first c k short l) (grind (arith, nat_tests))
     step (inr g) = rw (beyond first c k g lt) (grind (arith, nat_tests))
 
+-- ## Windows
+
+kept-inside : (p : ℕ → Bool) (from count k : ℕ) → k < length (kept p from count) → (from ≤ slice_index_or (kept p from count) k 0) × (slice_index_or (kept p from count) k 0 < from + count)
+kept-inside p from zero k lt = absurd (omega arith)
+kept-inside p from (suc count) k lt = step (p from) k lt (λ j l. kept-inside p (from + 1) count j l)
+  where
+    step : (b : Bool) (k : ℕ) → k < length (if b then from ∷ kept p (from + 1) count else kept p (from + 1) count) → ((j : ℕ) → j < length (kept p (from + 1) count) → (from + 1 ≤ slice_index_or (kept p (from + 1) count) j 0) × (slice_index_or (kept p (from + 1) count) j 0 < from + 1 + count)) → (from ≤ slice_index_or (if b then from ∷ kept p (from + 1) count else kept p (from + 1) count) k 0) × (slice_index_or (if b then from ∷ kept p (from + 1) count else kept p (from + 1) count) k 0 < from + suc count)
+    step true zero l ih = (omega arith, omega arith)
+    step true (suc k) l ih = let i = ih k (omega arith) in (omega (arith, i), omega (arith, i))
+    step false k l ih = let i = ih k l in (omega (arith, i), omega (arith, i))
+
+-- chunks of places from c on, and a later place, lie within half a circle of the TSN before c
+pub window-kept : (first c count : ℕ) (p : ℕ → Bool) (cs : List ChunkPayloadData) → tsns cs ≡ map (tsn first) (kept p c count) → c + count ≤ 2 ^ 31 → (q : ℕ) → c ≤ q → q < 2 ^ 31 → IsWindow (tsn_before first c) cs (tsn first q)
+window-kept first c count p cs held short q le lt = record {
+  base_in_range = omega arith;
+  number = near q le lt;
+  held = λ k d l.
+      let many : length (kept p c count) ≡ length cs = sym (length-mapped (tsn first) (kept p c count)) ∙ ap length (sym held) ∙ length-mapped (λ x. x.tsn) cs in
+      let place = slice_index_or (kept p c count) k 0 in
+      let inside = kept-inside p c count k (omega (arith, l, many)) in
+      let same : (slice_index_or cs k d).tsn ≡ tsn first place =
+      sym (get_or-map (λ x. x.tsn) cs k d 0 l) ∙ ap (λ t. slice_index_or t k 0) held ∙ get_or-map (tsn first) (kept p c count) k 0 0 (omega (arith, l, many)) in
+      let n = near place inside.0 (omega (arith, inside.1, short)) in
+      (omega (arith, ap (distance (tsn_before first c)) same, n.0), omega (arith, ap (distance (tsn_before first c)) same, n.1));
+}
+  where
+    near : (q : ℕ) → c ≤ q → q < 2 ^ 31 → IsWithinHalf (tsn_before first c) (tsn first q)
+    near q le l = let e = ahead first c q le l in (omega (arith, e), omega (arith, e))
+
 module _ (w : World) (cs : List ChunkPayloadData) (made : w.skipped ≤ length w.slots) (few : length w.slots < 2 ^ 31) (held : tsns cs ≡ (seen_of w).held) where
   abbrev c : ℕ
   c = cumulative w
@@ -134,20 +163,7 @@ module _ (w : World) (cs : List ChunkPayloadData) (made : w.skipped ≤ length w
 
   -- what is held and what is new lie within half a circle of the cumulative TSN
   pub window-is : (p : ℕ) → p < length w.slots → is_new w p ≡ true → IsWindow (seen_of w).cum cs (tsn_of w p)
-  window-is p lt new =
-      let le : c ≤ p = past-front p new in
-      record {
-        base_in_range = omega arith;
-        number = near p le lt;
-        held = λ k d l.
-            let count : length (kept (arrived_at w) c (length w.slots - c)) ≡ length cs = sym (length-mapped (tsn w.setup.first) (kept (arrived_at w) c (length w.slots - c))) ∙ ap length (sym held) ∙ length-mapped (λ x. x.tsn) cs in
-            let place = slice_index_or (kept (arrived_at w) c (length w.slots - c)) k 0 in
-            let inside = kept-inside c (length w.slots - c) k (omega (arith, l, count)) in
-            let same : (slice_index_or cs k d).tsn ≡ tsn w.setup.first place =
-            sym (get_or-map (λ x. x.tsn) cs k d 0 l) ∙ ap (λ t. slice_index_or t k 0) held ∙ get_or-map (tsn w.setup.first) (kept (arrived_at w) c (length w.slots - c)) k 0 0 (omega (arith, l, count)) in
-            let n = near place inside.0 (omega (arith, inside.1, top)) in
-            (omega (arith, ap (distance (seen_of w).cum) same, n.0), omega (arith, ap (distance (seen_of w).cum) same, n.1));
-      }
+  window-is p lt new = window-kept w.setup.first c (length w.slots - c) (arrived_at w) cs held (omega (arith, top)) p (past-front p new) (omega arith)
     where
       past-front : (p : ℕ) → is_new w p ≡ true → c ≤ p
       past-front p e = step (nat_le c p) (arrived_at w p) refl e
@@ -155,18 +171,6 @@ module _ (w : World) (cs : List ChunkPayloadData) (made : w.skipped ≤ length w
           step : (a b : Bool) → nat_le c p ≡ a → (a && not b) ≡ true → c ≤ p
           step true b h e = grind (arith, nat_tests)
           step false b h e = cc
-
-      near : (q : ℕ) → c ≤ q → q < length w.slots → IsWithinHalf (seen_of w).cum (tsn_of w q)
-      near q le l = let e = ahead w.setup.first c q le (omega arith) in (omega (arith, e), omega (arith, e))
-
-      kept-inside : (from count k : ℕ) → k < length (kept (arrived_at w) from count) → (from ≤ slice_index_or (kept (arrived_at w) from count) k 0) × (slice_index_or (kept (arrived_at w) from count) k 0 < from + count)
-      kept-inside from zero k lt = absurd (omega arith)
-      kept-inside from (suc count) k lt = step (arrived_at w from) k lt (λ j l. kept-inside (from + 1) count j l)
-        where
-          step : (b : Bool) (k : ℕ) → k < length (if b then from ∷ kept (arrived_at w) (from + 1) count else kept (arrived_at w) (from + 1) count) → ((j : ℕ) → j < length (kept (arrived_at w) (from + 1) count) → (from + 1 ≤ slice_index_or (kept (arrived_at w) (from + 1) count) j 0) × (slice_index_or (kept (arrived_at w) (from + 1) count) j 0 < from + 1 + count)) → (from ≤ slice_index_or (if b then from ∷ kept (arrived_at w) (from + 1) count else kept (arrived_at w) (from + 1) count) k 0) × (slice_index_or (if b then from ∷ kept (arrived_at w) (from + 1) count else kept (arrived_at w) (from + 1) count) k 0 < from + suc count)
-          step true zero l ih = (omega arith, omega arith)
-          step true (suc k) l ih = let i = ih k (omega arith) in (omega (arith, i), omega (arith, i))
-          step false k l ih = let i = ih k l in (omega (arith, i), omega (arith, i))
 
   -- ## Gap blocks
 

@@ -35,10 +35,10 @@ use Rattle.sctp_ties.proofs.Sent.{KindsInTurn, FrontIs, front_is}
 
 -- ## Kinds in turn
 
-abbrev Turns : Shape → Type 0
+abbrev pub Turns : Shape → Type 0
 Turns x = (n k : ℕ) → half x n ≡ true → k < n → (x.message k).ordered ≡ (x.message n).ordered → unsent x k ≡ false
 
-turns-as : (x y : Shape) → y ≡ x → Turns x → Turns y
+pub turns-as : (x y : Shape) → y ≡ x → Turns x → Turns y
 turns-as x y e t = subst Turns (sym e) t
 
 turns-written : (x : Shape) (m : MessagePart) → Sender x → Turns x → Turns (written x m)
@@ -102,11 +102,11 @@ turns-takes w n' f t n k h lt ord = by_same {P = unsent (slotted (shape w) n' fa
         ap (λ c. (c == 0) && not (Messages.message_at w k).expired) (sent-other (shape w) n' false k (λ z. omega (arith, e, z, lt)))
         ∙ (f.before k (omega (arith, lt, e)) (ord ∙ ap (λ j. (Messages.message_at w j).ordered) (sym e))).1
 
-record Going (setup : Setup) (w : World) : Type 0 where
-  sane : Sane setup w
-  turns : Turns (shape w)
+pub record Going (setup : Setup) (w : World) : Type 0 where
+  pub sane : Sane setup w
+  pub turns : Turns (shape w)
 
-going-takes : (setup : Setup) (w : World) → Going setup w → Going setup (Changes.fragment_sent w)
+pub going-takes : (setup : Setup) (w : World) → Going setup w → Going setup (Changes.fragment_sent w)
 going-takes setup w g = record { sane = sane-takes setup w g.sane; turns = by (front w) refl }
   where
     by : (o : Option ℕ) → front w ≡ o → Turns (shape (Changes.fragment_of_sent w o))

@@ -31,3 +31,10 @@ pub mod Sent
 pub mod SentInFlight
 pub mod KindsRun
 pub mod Acked
+pub mod QuietReceiver
+pub mod QuietSender
+pub mod InFlight
+pub mod Opened
+pub mod PendingBytes
+pub mod Fragments
+pub mod SackMade

@@ -33,7 +33,7 @@ use Rattle.sctp_ties.proofs.Unordered.{ArrivesLoose, unordered-of}
 
 -- ## Lists
 
-kept-split : (p : ℕ → Bool) (from a b all middle : ℕ) → all ≡ a + b → middle ≡ from + a → kept p from all ≡ kept p from a ++ kept p middle b
+pub kept-split : (p : ℕ → Bool) (from a b all middle : ℕ) → all ≡ a + b → middle ≡ from + a → kept p from all ≡ kept p from a ++ kept p middle b
 kept-split p from zero b all middle e m = let x : all ≡ b = omega arith in let y : middle ≡ from = omega arith in rw (x, y) refl
 kept-split p from (suc a) b all middle e m =
     let x : all ≡ suc (a + b) = omega arith in
