@@ -11,7 +11,8 @@ use Rattle.sctp_lists.proofs.Round.{tsn}
 use Rattle.sctp_chunks.specs.declared.chunk.chunk_payload_data.ChunkPayloadData.{ChunkPayloadData}
 use Rattle.sctp_chunks.specs.PayloadData.{Data, data_of}
 use Rattle.sctp_queues.specs.Marks.{with_retransmit, with_nsent, with_since, with_miss_indicator}
-use Rattle.sctp_queues.specs.Window.{has_tsn, is_held, SpansOneWindow}
+use Rattle.sctp_queues.specs.Window.{is_held, SpansOneWindow}
+use Rattle.sctp_queues.specs.DataChunks.{has_tsn}
 use Rattle.sctp_queues.specs.Outbound.{Outbound, with_inflight}
 use Rattle.sctp_model.specs.World.{World}
 use Rattle.sctp_model.specs.Messages.{message_at, slot_at, message_of, tsn_of}

@@ -6,7 +6,7 @@ use Rattle.std.proofs.lemmas.List.Sums.{sum_by-append, sum_by-cons}
 use Rattle.sctp_lists.specs.Kept.{kept, always, gathered, numbers_from, total_over}
 use Rattle.sctp_lists.proofs.Totals.{total-where, total-plus}
 use Rattle.sctp_chunks.specs.declared.chunk.chunk_payload_data.ChunkPayloadData.{ChunkPayloadData}
-use Rattle.sctp_queues.specs.Window.{bytes_of}
+use Rattle.sctp_queues.specs.DataChunks.{bytes_of}
 use Rattle.sctp_queues.specs.Pending.{Pending, total_bytes}
 use Rattle.sctp_model.specs.World.{World}
 use Rattle.sctp_model.specs.Messages.{message_at, messages_where, fragment_at, sent_of, fragment_count}
