@@ -9,3 +9,4 @@ pub mod Sendable
 pub mod Outbounds
 pub mod Abandoned
 pub mod Order
+pub mod Examples
