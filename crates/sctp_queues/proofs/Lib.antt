@@ -16,3 +16,4 @@ pub mod Abandoned
 pub mod CountLemmas
 pub mod Order
 pub mod CompleteLemmas
+pub mod Examples

@@ -525,3 +525,6 @@ impl PayloadQueue {
         self.held.look(place, &mut Turns::new())
     }
 }
+
+#[cfg(test)]
+pub(crate) mod tests;

@@ -311,3 +311,6 @@ fn selected_without(selected: Option<Selected>, message_id: u64) -> Option<Selec
         None => None,
     }
 }
+
+#[cfg(test)]
+mod tests;

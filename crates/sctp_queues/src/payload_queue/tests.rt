@@ -1,0 +1,190 @@
+//! Worked examples of a payload queue.
+
+ghost use Rattle.std.specs.Prelude.{◌≡◌, ◌<◌, ◌+◌, ◌^◌, [], length, true, false};
+ghost use Rattle.sctp_queues.specs.Window.{IsWindow, IsWithinHalf};
+ghost use Rattle.sctp_queues.specs.DataChunks.{bytes_of};
+
+use super::*;
+use bytes::Bytes;
+use sctp_chunks::chunk::chunk_payload_data::PayloadProtocolIdentifier;
+use std::test::Fail;
+
+/// A whole message of one byte.
+pub(crate) fn chunk(tsn: u32) -> ChunkPayloadData
+    ensures tsn { result.tsn ≡ tsn }
+    ensures len { length result.user_data ≡ 1 }
+{
+    ChunkPayloadData {
+        unordered: false,
+        beginning_fragment: true,
+        ending_fragment: true,
+        immediate_sack: false,
+        tsn,
+        stream_identifier: 1,
+        stream_sequence_number: 0,
+        payload_type: PayloadProtocolIdentifier::Binary,
+        user_data: Bytes::from_static(&[7]),
+        acked: false,
+        miss_indicator: 0,
+        message_id: 0,
+        abandoned: false,
+        since: None,
+        reliability: None,
+        deadline: None,
+        nsent: 0,
+        retransmit: false,
+    }
+}
+
+/// Whether all that is held and the TSN lie at distance 1 to 2^31 after the cumulative TSN.
+pub(crate) fn fits(queue: &PayloadQueue, cumulative_tsn: u32, tsn: u32) -> bool
+    ensures window { result ≡ true → IsWindow cumulative_tsn queue.now.chunks tsn }
+    ensures bytes { result ≡ true → bytes_of queue.now.chunks < 1000 }
+{
+    if !is_within_half(cumulative_tsn, tsn) || queue.get_num_bytes() >= 1000 {
+        return false;
+    }
+    for place in 0..queue.len() {
+        let Some(held) = queue.tsn_at(place) else {
+            return false;
+        };
+        if !is_within_half(cumulative_tsn, held) {
+            return false;
+        }
+    }
+    true
+}
+
+#[tactic(auto, unfolding(sctp_lists::specs::Serial::distance))]
+fn is_within_half(base: u32, tsn: u32) -> bool
+    ensures within { result ≡ true → IsWithinHalf base tsn }
+    ensures fits { base < 2 ^ 32 }
+{
+    let distance = tsn.wrapping_sub(base);
+    0 < distance && distance <= 1 << 31
+}
+
+// The answers of the pushes are left out: a queue in which they came.
+fn filled(alloc: Global, cumulative_tsn: u32, tsns: &[u32]) -> Result<PayloadQueue> {
+    let mut queue = PayloadQueue::new(alloc);
+    for tsn in tsns {
+        if fits(&queue, cumulative_tsn, *tsn) {
+            queue.push(chunk(*tsn), cumulative_tsn)?;
+        }
+    }
+    Ok(queue)
+}
+
+#[test]
+fn reports_blocks(rt: HostRuntime) -> std::result::Result<(), Fail> {
+    for (cumulative_tsn, tsns, want) in [
+        (10, [12, 13, 15], "cumTSN=10,2-3,5-5"),
+        (10, [15, 12, 13], "cumTSN=10,2-3,5-5"),
+        (4294967294, [0, 1, 3], "cumTSN=4294967294,2-3,5-5"),
+        (10, [65546, 65547, 65548], "cumTSN=10"),
+    ] {
+        let queue = filled(rt.alloc(), cumulative_tsn, &tsns)?;
+        let text = queue.get_gap_ack_blocks_string(rt.alloc(), cumulative_tsn)?;
+        assert_eq!(rt; text.as_str(), want);
+    }
+    let blocks = filled(rt.alloc(), 10, &[12, 13, 15])?.get_gap_ack_blocks(rt.alloc(), 10)?;
+    assert_eq!(rt; blocks.len(), 2);
+    assert!(rt; blocks.first().is_some_and(|b| b.start == 2 && b.end == 3));
+    Ok(())
+}
+
+#[test]
+fn pops_half_a_circle(rt: HostRuntime) -> std::result::Result<(), Fail> {
+    let mut queue = filled(rt.alloc(), 10, &[12, 13, 2147483658])?;
+    queue.pop_up_to(2147483657);
+    assert_eq!(rt; (queue.len(), queue.tsn_at(0)), (1, Some(2147483658)));
+    let mut queue = filled(rt.alloc(), 0, &[1, 2147483648])?;
+    queue.pop_up_to_counted(2147483649, &mut Turns::new());
+    assert_eq!(rt; (queue.len(), queue.tsn_at(0)), (1, Some(1)));
+    Ok(())
+}
+
+#[test]
+fn notes_duplicates(rt: HostRuntime) -> std::result::Result<(), Fail> {
+    let mut queue = filled(rt.alloc(), 10, &[12, 13])?;
+    assert!(rt;
+        queue.can_push(&chunk(14), 10)
+            && !queue.can_push(&chunk(12), 10)
+            && !queue.can_push(&chunk(10), 10)
+    );
+    let mut answers = [true; 3];
+    for (place, tsn) in [12, 10, 14].iter().enumerate() {
+        answers[place] = push_any(&mut queue, *tsn)?;
+    }
+    assert_eq!(rt; answers, [false, false, true]);
+    assert_eq!(rt; queue.duplicates(), [12, 10].as_slice());
+    assert_eq!(rt;
+        queue.pop_duplicates(rt.alloc()).as_slice(),
+        [12, 10].as_slice()
+    );
+    assert!(rt; queue.duplicates().is_empty());
+    assert_eq!(rt;
+        (queue.get_last_tsn_received(), queue.get_num_bytes()),
+        (Some(14), 3)
+    );
+    Ok(())
+}
+
+// Pushes where that is allowed; a TSN at or before the cumulative one is.
+fn push_any(queue: &mut PayloadQueue, tsn: u32) -> Result<bool> {
+    if !queue.can_push(&chunk(tsn), 10) || fits(queue, 10, tsn) {
+        return queue.push(chunk(tsn), 10);
+    }
+    Ok(false)
+}
+
+#[test]
+fn marks_and_takes(rt: HostRuntime) -> std::result::Result<(), Fail> {
+    let mut queue = filled(rt.alloc(), 10, &[13, 11, 12])?;
+    assert_eq!(rt;
+        (
+            queue.mark_as_acked(12),
+            queue.mark_as_acked(12),
+            queue.get_num_bytes()
+        ),
+        (1, 0, 2)
+    );
+    assert!(rt;
+        queue.set_retransmit(11, true)
+            && queue.set_nsent(11, 3)
+            && queue.set_since(11, Some(9))
+            && queue.set_miss_indicator(11, 2)
+    );
+    assert!(rt; !queue.set_retransmit(14, true));
+    assert!(rt;
+        queue.get(11).is_some_and(|c| c.retransmit
+            && c.nsent == 3
+            && c.since == Some(9)
+            && c.miss_indicator == 2)
+    );
+    let copy = queue.try_clone(rt.alloc())?;
+    queue.mark_all_to_retransmit();
+    assert!(rt;
+        queue.get(13).is_some_and(|c| c.retransmit) && queue.get(12).is_some_and(|c| !c.retransmit)
+    );
+    assert!(rt; queue.take(13).is_some() && queue.take(13).is_none());
+    assert!(rt; queue.pop(12).is_none() && queue.pop(11).is_some());
+    assert!(rt; queue.contains_stream(1) && !queue.contains_stream(2) && !queue.is_empty());
+    assert_eq!(rt; (queue.len(), copy.len(), copy.get_num_bytes()), (1, 3, 2));
+    assert_eq!(rt; queue.abandon_message(0), 0);
+    assert!(rt; queue.get(12).is_some_and(|c| c.abandoned));
+    Ok(())
+}
+
+#[test]
+fn pushes_within_room(rt: HostRuntime) -> std::result::Result<(), Fail> {
+    let mut queue = PayloadQueue::new(rt.alloc());
+    queue.reserve(2)?;
+    for tsn in [11, 12] {
+        if fits(&queue, 10, tsn) && queue.get(tsn).is_none() {
+            queue.push_no_check(chunk(tsn))?;
+        }
+    }
+    assert_eq!(rt; (queue.len(), queue.tsn_at(1)), (2, Some(12)));
+    Ok(())
+}
