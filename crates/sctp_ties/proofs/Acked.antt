@@ -1,15 +1,12 @@
 -- A SACK is taken: what is in flight then is what the record says.
-use Rattle.std.proofs.Common.{◌≡◌, ℕ, zero, suc, ◌+◌, ◌-◌, ◌<◌, ◌≤◌, ◌^◌, Bool, true, false, List, [], ◌∷◌, ◌++◌, length, map, Option, Some, None, refl, ap, sym, ◌∙◌, inl, inr, arith}
-use Rattle.std.specs.Prelude.{◌⊎◌, if◌then◌else◌, ◌==◌, ◌&&◌, ◌||◌, not, nat_le, nat_lt, is_some, max}
-use Rattle.std.proofs.Math.Path.{subst}
-use Rattle.std.proofs.lemmas.Bool.{cases_lt}
+use Rattle.std.proofs.Common.{◌≡◌, ℕ, zero, suc, ◌+◌, ◌-◌, ◌<◌, ◌≤◌, ◌^◌, Bool, true, false, List, [], ◌∷◌, length, map, Some, None, refl, ap, sym, ◌∙◌, arith}
+use Rattle.std.specs.Prelude.{if◌then◌else◌, ◌==◌, ◌&&◌, ◌||◌, not, nat_lt, max}
 use Rattle.std.proofs.lemmas.Bool.Decides.{nat_tests}
-use Rattle.sctp_lists.specs.Kept.{kept, always, gathered, numbers_from, first_of}
+use Rattle.sctp_lists.specs.Kept.{kept, always, numbers_from, first_of}
 use Rattle.sctp_lists.specs.Lists.{change_where}
 use Rattle.sctp_lists.proofs.KeptLemmas.{map-kept-same, kept-same}
-use Rattle.sctp_lists.proofs.More.{fails, same_test}
+use Rattle.sctp_lists.proofs.More.{same_test}
 use Rattle.sctp_lists.proofs.Getting.{get-numbered, numbered-at, length-numbered}
-use Rattle.sctp_lists.proofs.Round.{tsn}
 use Rattle.sctp_chunks.specs.declared.chunk.chunk_payload_data.ChunkPayloadData.{ChunkPayloadData}
 use Rattle.sctp_chunks.specs.PayloadData.{data_of}
 use Rattle.sctp_queues.specs.Marks.{acknowledged}
@@ -21,10 +18,9 @@ use Rattle.sctp_model.specs.Messages.{message_at, slot_at, message_of, messages_
 use Rattle.sctp_model.specs.Reports.{reports}
 use Rattle.sctp_model.specs.Changes.{sack_taken, acknowledged_by}
 use Rattle.sctp_model.specs.Contents.{chunk_at}
-use Rattle.sctp_model.specs.Queues.{InFlightChunk}
-use Rattle.sctp_model.proofs.Shape.{shape, sent}
+use Rattle.sctp_model.proofs.Shape.{sent}
 use Rattle.sctp_model.proofs.Shapes
-use Rattle.sctp_ties.specs.Tied.{Sending, sending_of, sending_at, sendings_of, unless_gone, selected_of, waiting_of, waiting_where, waits_ordered, waits_unordered, TiedPending, TiedOutbound}
+use Rattle.sctp_ties.specs.Tied.{Sending, sending_of, sending_at, sendings_of, unless_gone, selected_of, waiting_of, waiting_where, waits_ordered, waits_unordered, TiedOutbound}
 use Rattle.sctp_ties.proofs.Waiting
 use Rattle.sctp_ties.proofs.Waiting.{Alike, gathered-same}
 

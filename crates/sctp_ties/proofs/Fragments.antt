@@ -1,23 +1,22 @@
 -- The fragments of a Send go one after another.
-use Rattle.std.proofs.Common.{◌≡◌, ℕ, ◌<◌, ◌≤◌, Bool, true, false, length, Option, Some, None, refl, ap, sym, ◌∙◌, arith}
-use Rattle.std.specs.Prelude.{if◌then◌else◌, ◌==◌}
+use Rattle.std.proofs.Common.{◌≡◌, ℕ, ◌≤◌, Bool, true, false, length, Some, None, refl, sym, ◌∙◌, arith}
+use Rattle.std.specs.Prelude.{◌==◌}
 use Rattle.std.proofs.Math.Path.{subst}
 use Rattle.std.proofs.lemmas.Bool.Decides.{nat_tests}
 use Rattle.sctp_queues.specs.Pending.{peeked}
-use Rattle.sctp_queues.specs.Outbound.{Outbound, all_started, sent_peeked, sent_next}
+use Rattle.sctp_queues.specs.Outbound.{Outbound, all_started, sent_peeked}
 use Rattle.sctp_model.specs.World.{Setup, World}
 use Rattle.sctp_model.specs.Messages.{front, sent_of, tsn_of}
-use Rattle.sctp_model.specs.Changes.{started, with_slot, fragment_sent, fragment_of_sent}
+use Rattle.sctp_model.specs.Changes.{started, fragment_sent, fragment_of_sent}
 use Rattle.sctp_model.specs.Steps.{History, world_of, IsRun}
 use Rattle.sctp_model.proofs.Shape.{shape}
-use Rattle.sctp_model.proofs.SenderRun.{Sane, sane-run, sane-started}
+use Rattle.sctp_model.proofs.SenderRun.{sane-run, sane-started}
 use Rattle.sctp_model.proofs.Few
 use Rattle.sctp_model.proofs.Fronts.{front-none}
 use Rattle.sctp_ties.specs.Tied.{waiting_at, TiedOutbound}
-use Rattle.sctp_ties.proofs.Sent.{FrontIs, front_is, pending-sent, pending-idle}
+use Rattle.sctp_ties.proofs.Sent.{front_is, pending-sent, pending-idle}
 use Rattle.sctp_ties.proofs.SentInFlight.{tied-sent}
-use Rattle.sctp_ties.proofs.LifetimesStart.{tied-started}
-use Rattle.sctp_ties.proofs.KindsRun.{Going, going-takes, turns-as, turns-run}
+use Rattle.sctp_ties.proofs.KindsRun.{Going, turns-as, turns-run}
 use Rattle.sctp_model.proofs.Shapes
 
 pub going-run : (setup : Setup) (h : History) → IsRun setup h → Going setup (world_of setup h)

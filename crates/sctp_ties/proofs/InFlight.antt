@@ -1,21 +1,20 @@
 -- What is in flight: a chunk looked up, marks that the record does not know, and room for the next TSN.
-use Rattle.std.proofs.Common.{◌≡◌, ℕ, zero, suc, ◌+◌, ◌-◌, ◌<◌, ◌≤◌, ◌^◌, Bool, true, false, List, [], ◌∷◌, length, map, Option, Some, None, refl, ap, sym, ◌∙◌, inl, inr, arith}
-use Rattle.std.specs.Prelude.{◌⊎◌, if◌then◌else◌, ◌==◌, ◌&&◌, ◌||◌, not, nat_le, nat_lt, find}
+use Rattle.std.proofs.Common.{◌≡◌, ℕ, zero, suc, ◌+◌, ◌-◌, ◌<◌, ◌≤◌, ◌^◌, Bool, true, false, List, [], ◌∷◌, length, map, Option, Some, refl, ap, sym, ◌∙◌, arith}
+use Rattle.std.specs.Prelude.{if◌then◌else◌, ◌==◌, ◌||◌, find}
 use Rattle.std.specs.List.{list_any}
-use Rattle.std.proofs.lemmas.Bool.{cases_lt}
 use Rattle.std.proofs.lemmas.Bool.Decides.{nat_tests}
 use Rattle.sctp_lists.specs.Kept.{kept, always}
 use Rattle.sctp_lists.specs.Lists.{change_where}
 use Rattle.sctp_lists.proofs.More.{not_both, same_test}
 use Rattle.sctp_lists.proofs.Round.{tsn}
 use Rattle.sctp_chunks.specs.declared.chunk.chunk_payload_data.ChunkPayloadData.{ChunkPayloadData}
-use Rattle.sctp_chunks.specs.PayloadData.{Data, data_of}
+use Rattle.sctp_chunks.specs.PayloadData.{data_of}
 use Rattle.sctp_queues.specs.Marks.{with_retransmit, with_nsent, with_since, with_miss_indicator}
 use Rattle.sctp_queues.specs.Window.{is_held, SpansOneWindow}
 use Rattle.sctp_queues.specs.DataChunks.{has_tsn}
 use Rattle.sctp_queues.specs.Outbound.{Outbound, with_inflight}
 use Rattle.sctp_model.specs.World.{World}
-use Rattle.sctp_model.specs.Messages.{message_at, slot_at, message_of, tsn_of}
+use Rattle.sctp_model.specs.Messages.{tsn_of}
 use Rattle.sctp_model.specs.Contents.{chunk_at}
 use Rattle.sctp_model.specs.Queues.{is_cleared}
 use Rattle.sctp_ties.specs.Tied.{Sending, sending_of, sending_at, sendings_of, unless_gone, TiedOutbound}

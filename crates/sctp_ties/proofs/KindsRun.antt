@@ -1,11 +1,10 @@
 -- In every history messages of a kind are sent in turn, and no more slots are acknowledged than there are.
-use Rattle.std.proofs.Common.{◌≡◌, ℕ, zero, suc, ◌+◌, ◌-◌, ◌<◌, ◌≤◌, Bool, true, false, List, [], ◌∷◌, length, map, Option, Some, None, refl, ap, sym, ◌∙◌, inl, inr, arith}
-use Rattle.std.specs.Prelude.{◌⊎◌, if◌then◌else◌, ◌==◌, ◌&&◌, ◌||◌, not, nat_le, nat_lt, fold, slice_get, max}
+use Rattle.std.proofs.Common.{◌≡◌, ℕ, ◌+◌, ◌-◌, ◌<◌, ◌≤◌, Bool, true, false, List, [], ◌∷◌, length, Option, Some, None, refl, ap, sym, ◌∙◌, inl, inr, arith}
+use Rattle.std.specs.Prelude.{◌⊎◌, if◌then◌else◌, ◌==◌, ◌&&◌, ◌||◌, not, nat_lt, slice_get, max}
 use Rattle.std.proofs.Math.Path.{subst}
 use Rattle.std.proofs.lemmas.Bool.{cases_lt}
 use Rattle.std.proofs.lemmas.Bool.Decides.{nat_tests}
-use Rattle.sctp_lists.proofs.More.{fails, not_both, both, and}
-use Rattle.sctp_lists.proofs.Cases.{by_same, by_last, same-yes, same-is, negated}
+use Rattle.sctp_lists.proofs.Cases.{by_same}
 use Rattle.sctp_model.specs.declared.event.Event.{Event}
 use Rattle.sctp_model.specs.declared.event.Event.TheVariants as E
 use Rattle.sctp_model.specs.World.{Setup, Datagram, Forward, Sack, World, start}
@@ -22,10 +21,9 @@ use Rattle.sctp_model.proofs.Shape.{Shape, MessagePart, shape, sent, half, unsen
 use Rattle.sctp_model.proofs.Sender.{Sender, sent-slotted}
 use Rattle.sctp_lists.specs.Lists.{pieces}
 use Rattle.sctp_lists.proofs.Getting.{length-numbered}
-use Rattle.sctp_model.proofs.SenderSteps.{IsHalf, of-half, is-half, sent-other, sent-here}
+use Rattle.sctp_model.proofs.SenderSteps.{of-half, is-half, sent-other}
 use Rattle.sctp_model.proofs.SenderEnds.{sent-none}
-use Rattle.sctp_model.proofs.SenderRun.{Sane, sane-run, sane-takes, sane-started, filled-keeps, sends-keep, fold-keeps}
-use Rattle.sctp_model.proofs.Fronts.{front-takes}
+use Rattle.sctp_model.proofs.SenderRun.{Sane, sane-run, sane-takes, sane-started, sends-keep, fold-keeps}
 use Rattle.sctp_model.proofs.Shapes
 use Rattle.sctp_model.proofs.Moves
 use Rattle.sctp_model.proofs.Network.{extends-after, same-came, same-taken, same-read}

@@ -1,12 +1,11 @@
 -- Lifetimes start: the outbound queue holds what the record says.
-use Rattle.std.proofs.Common.{◌≡◌, ℕ, zero, suc, ◌+◌, ◌-◌, ◌<◌, ◌≤◌, ◌%◌, ◌^◌, Bool, true, false, List, [], ◌∷◌, ◌++◌, length, map, Option, Some, None, refl, ap, sym, ◌∙◌, inl, inr, arith}
-use Rattle.std.specs.Prelude.{◌⊎◌, if◌then◌else◌, ◌==◌, ◌&&◌, ◌||◌, not, nat_le, nat_lt, is_some, is_none, slice_index_or}
+use Rattle.std.proofs.Common.{◌≡◌, ℕ, suc, ◌-◌, ◌<◌, ◌≤◌, ◌%◌, ◌^◌, Bool, true, false, List, [], ◌∷◌, ◌++◌, length, map, Option, Some, None, refl, ap, sym, ◌∙◌, arith}
+use Rattle.std.specs.Prelude.{if◌then◌else◌, ◌==◌, ◌&&◌, ◌||◌, not, nat_le, nat_lt, is_some, is_none, slice_index_or}
 use Rattle.std.proofs.Math.Path.{subst}
-use Rattle.std.proofs.lemmas.Bool.{cases_lt}
 use Rattle.std.proofs.lemmas.Bool.Decides.{nat_tests}
-use Rattle.sctp_lists.specs.Kept.{kept, always, gathered, numbers_from, first_of}
+use Rattle.sctp_lists.specs.Kept.{kept, gathered, numbers_from, first_of}
 use Rattle.sctp_lists.specs.Lists.{change_where, pieces}
-use Rattle.sctp_lists.proofs.KeptLemmas.{kept-same, map-kept-same, front-kept, FrontOf}
+use Rattle.sctp_lists.proofs.KeptLemmas.{kept-same, front-kept, FrontOf}
 use Rattle.sctp_lists.proofs.Getting.{map-at, length-mapped}
 use Rattle.sctp_chunks.specs.declared.chunk.chunk_payload_data.ChunkPayloadData.{ChunkPayloadData}
 use Rattle.sctp_chunks.specs.declared.chunk.chunk_payload_data.PayloadProtocolIdentifier.{PayloadProtocolIdentifier}
@@ -22,8 +21,7 @@ use Rattle.sctp_model.specs.Messages.{message_at, slot_at, message_of, messages_
 use Rattle.sctp_model.specs.Messages
 use Rattle.sctp_model.specs.Changes.{start_at, started}
 use Rattle.sctp_model.specs.Contents.{data_with}
-use Rattle.sctp_ties.specs.Tied.{waiting_at, waiting_of, waiting_where, waits_ordered, waits_unordered, selected_of, TiedPending, TiedOutbound, sendings_of}
-use Rattle.sctp_ties.proofs.Waiting
+use Rattle.sctp_ties.specs.Tied.{waiting_at, waiting_of, waiting_where, selected_of, TiedOutbound}
 use Rattle.sctp_ties.proofs.Waiting.{Alike, gathered-same}
 use Rattle.sctp_ties.proofs.Written.{sendings-alike}
 

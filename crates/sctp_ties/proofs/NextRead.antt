@@ -1,26 +1,25 @@
 -- A read: what the queue hands out, and what it holds then, are what the record says.
-use Rattle.std.proofs.Common.{◌≡◌, ℕ, ◌<◌, ◌%◌, ◌^◌, Bool, true, false, List, [], ◌∷◌, length, map, Option, Some, None, refl, ap, sym, ◌∙◌, arith}
+use Rattle.std.proofs.Common.{◌≡◌, ℕ, ◌<◌, true, false, List, [], ◌∷◌, length, map, Option, Some, None, refl, ap, sym, ◌∙◌, arith}
 use Rattle.std.specs.Prelude.{if◌then◌else◌, ◌==◌, ◌&&◌, ◌||◌, not, nat_le}
 use Rattle.std.specs.List.{list_any}
 use Rattle.std.proofs.lemmas.Bool.Decides.{nat_tests}
 use Rattle.sctp_lists.specs.Kept.{kept, passing, first_of, or_else}
 use Rattle.sctp_lists.proofs.KeptLemmas.{map-kept-same}
-use Rattle.sctp_lists.proofs.More.{fails, not_both}
-use Rattle.sctp_chunks.specs.ChunkSet.{ChunkSet}
-use Rattle.sctp_queues.specs.Reassembly.{Reassembly, front_readable, after_read, without_first, message_among, message_read, rest_among, rest_read}
+use Rattle.sctp_lists.proofs.More.{fails}
+use Rattle.sctp_queues.specs.Reassembly.{Reassembly, after_read, without_first, message_among, message_read, rest_among, rest_read}
 use Rattle.sctp_model.specs.World.{World, StreamRecord}
 use Rattle.sctp_model.specs.Messages.{message_at, message_of, stream_at, stream_of, is_unordered_on}
-use Rattle.sctp_model.specs.Receiver.{arrived_at, is_whole, is_unread, run_of, next_read, next_of}
+use Rattle.sctp_model.specs.Receiver.{arrived_at, is_whole, is_unread, run_of, next_read}
 use Rattle.sctp_model.specs.Changes.{read_of, read_from}
 use Rattle.sctp_model.specs.Changes
 use Rattle.sctp_model.specs.Contents.{chunk_at}
 use Rattle.sctp_model.specs.Queues.{set_of, whole_set_of, handed_out, is_loose}
-use Rattle.sctp_ties.specs.Holds.{ordered_sets, loose_chunks, reassembly_of}
+use Rattle.sctp_ties.specs.Holds.{loose_chunks, reassembly_of}
 use Rattle.sctp_ties.specs.Sound.{Sound, SoundWhole}
 use Rattle.sctp_ties.proofs.Line
 use Rattle.sctp_ties.proofs.Span.{IsSpan}
 use Rattle.sctp_ties.proofs.Stays.{by_place}
-use Rattle.sctp_ties.proofs.Taken.{is_due, IsDue, map_option, front-gives, due-front}
+use Rattle.sctp_ties.proofs.Taken.{is_due, map_option, front-gives, due-front}
 use Rattle.sctp_ties.proofs.RunLemmas.{run-due}
 use Rattle.sctp_ties.proofs.Reading
 use Rattle.sctp_ties.proofs.Reading.{with_read}

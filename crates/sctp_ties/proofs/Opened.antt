@@ -1,22 +1,20 @@
 -- Streams open and change their mode: the receiver's queues.
-use Rattle.std.proofs.Common.{◌≡◌, ℕ, ◌+◌, ◌<◌, ◌≤◌, ◌%◌, ◌^◌, Bool, true, false, List, [], ◌∷◌, length, map, Option, Some, None, refl, ap, sym, ◌∙◌, arith}
-use Rattle.std.specs.Prelude.{if◌then◌else◌, ◌==◌, ◌&&◌, ◌||◌, not, nat_le, nat_lt, is_some, drop, unwrap_or}
-use Rattle.std.proofs.lemmas.Bool.Decides.{nat_tests}
-use Rattle.sctp_lists.specs.Kept.{kept, leading}
+use Rattle.std.proofs.Common.{◌≡◌, ℕ, ◌+◌, ◌<◌, Bool, true, false, [], length, map, Option, Some, None, refl, ap, sym, ◌∙◌, arith}
+use Rattle.std.specs.Prelude.{is_some, drop, unwrap_or}
+use Rattle.sctp_lists.specs.Kept.{leading}
 use Rattle.sctp_lists.proofs.KeptLemmas.{kept-none}
-use Rattle.sctp_lists.proofs.More.{fails, not_both, both}
-use Rattle.sctp_lists.proofs.Cases.{same-is}
+use Rattle.sctp_lists.proofs.More.{fails, not_both}
 use Rattle.sctp_chunks.specs.declared.chunk.chunk_payload_data.ReliabilityType.{ReliabilityType}
 use Rattle.sctp_queues.specs.Reassembly.{Reassembly}
 use Rattle.sctp_model.specs.World.{Setup, StreamRecord, World}
-use Rattle.sctp_model.specs.Messages.{message_at, message_of, stream_at, stream_of, is_open, no_stream, ordered_on, is_ordered_on, is_unordered_on}
-use Rattle.sctp_model.specs.Receiver.{arrived_at, is_held, held_on, next_of}
+use Rattle.sctp_model.specs.Messages.{message_at, message_of, stream_at, stream_of, is_open, no_stream, ordered_on, is_ordered_on}
+use Rattle.sctp_model.specs.Receiver.{is_held, next_of}
 use Rattle.sctp_model.specs.Changes.{opened, mode_set}
 use Rattle.sctp_model.specs.Contents.{chunk_at}
 use Rattle.sctp_model.specs.Queues.{set_of, whole_set_of, is_loose}
 use Rattle.sctp_model.proofs.SenderRun.{Sane}
 use Rattle.sctp_model.proofs.View
-use Rattle.sctp_ties.specs.Holds.{ordered_sets, whole_sets, loose_chunks, reassembly_of}
+use Rattle.sctp_ties.specs.Holds.{ordered_sets, loose_chunks, reassembly_of}
 use Rattle.sctp_ties.proofs.Keeps
 use Rattle.sctp_ties.proofs.Line
 use Rattle.sctp_ties.proofs.Loose

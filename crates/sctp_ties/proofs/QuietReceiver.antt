@@ -3,28 +3,24 @@ use Rattle.std.proofs.Common.{◌≡◌, ℕ, zero, suc, ◌+◌, ◌-◌, ◌<�
 use Rattle.std.specs.Prelude.{◌⊎◌, if◌then◌else◌, ◌==◌, ◌&&◌, ◌||◌, not, nat_le, nat_lt}
 use Rattle.std.specs.List.{list_any}
 use Rattle.std.proofs.lemmas.Bool.{cases_lt}
-use Rattle.std.proofs.lemmas.Bool.Decides.{nat_tests}
 use Rattle.sctp_lists.specs.Kept.{kept, unbroken}
-use Rattle.sctp_lists.specs.Lists.{Seen}
 use Rattle.sctp_lists.proofs.KeptLemmas.{kept-same, map-kept-same, unbroken-same}
 use Rattle.sctp_lists.proofs.Cases.{same-yes, same-is, or-left, or-right}
 use Rattle.sctp_ties.proofs.Unordered.{unordered-of}
 use Rattle.sctp_ties.proofs.UnorderedStep.{kept-split}
 use Rattle.sctp_ties.proofs.Filter.{cumulative-le}
-use Rattle.sctp_lists.proofs.More.{fails, not_both, kept-short}
-use Rattle.sctp_lists.proofs.Getting.{get-beyond}
+use Rattle.sctp_lists.proofs.More.{fails, kept-short}
 use Rattle.sctp_chunks.specs.ChunkSet.{ChunkSet}
-use Rattle.sctp_chunks.specs.declared.chunk.chunk_payload_data.ChunkPayloadData.{ChunkPayloadData}
 use Rattle.sctp_model.specs.World.{Setup, World}
-use Rattle.sctp_model.specs.Messages.{message_at, message_of, stream_of, is_ordered_on, is_unordered_on, index_of, ordered_before, ssn_of, has_fragment, slots_of, sent_of, fragment_count, no_message, tsn_of}
-use Rattle.sctp_model.specs.Receiver.{arrived_at, arrived_of, has_arrived, is_whole, is_unread, is_held, held_on, next_of, cumulative}
+use Rattle.sctp_model.specs.Messages.{message_at, message_of, stream_of, is_ordered_on, is_unordered_on, index_of, ssn_of, has_fragment, slots_of, sent_of, fragment_count, tsn_of}
+use Rattle.sctp_model.specs.Receiver.{arrived_at, arrived_of, has_arrived, is_whole, is_unread, is_held, next_of, cumulative}
 use Rattle.sctp_model.specs.Log.{Coming}
 use Rattle.sctp_model.specs.Contents.{chunk_at, cumulative_tsn}
 use Rattle.sctp_model.specs.Queues.{set_of, whole_set_of, is_loose, filter_of, FilterRecord}
 use Rattle.sctp_model.proofs.Shape.{shape}
 use Rattle.sctp_model.proofs.SenderRun.{Sane}
 use Rattle.sctp_model.proofs.Moves.{Quiet}
-use Rattle.sctp_model.proofs.Network.{Extends, chunk-stays}
+use Rattle.sctp_model.proofs.Network.{chunk-stays}
 use Rattle.sctp_model.proofs.Arrivals.{arrived-beyond}
 use Rattle.sctp_model.proofs.Names.{on-grown}
 use Rattle.sctp_model.proofs.Slots.{sent-made}
@@ -32,7 +28,7 @@ use Rattle.sctp_model.proofs.View.{view}
 use Rattle.sctp_model.proofs.Known.{Still, still-of, come-still, whole-still, come-sent}
 use Rattle.sctp_model.proofs.Ordered
 use Rattle.sctp_model.proofs.Received.{Received}
-use Rattle.sctp_ties.specs.Holds.{has_come, ordered_sets, whole_sets, loose_chunks, reassembly_of}
+use Rattle.sctp_ties.specs.Holds.{ordered_sets, whole_sets, loose_chunks, reassembly_of}
 use Rattle.sctp_ties.proofs.Line
 use Rattle.sctp_ties.proofs.SkipStep
 use Rattle.sctp_ties.proofs.Taken.{held}

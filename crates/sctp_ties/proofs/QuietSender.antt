@@ -1,9 +1,8 @@
 -- What the receiver does leaves the outbound queue as it is.
-use Rattle.std.proofs.Common.{◌≡◌, ℕ, zero, suc, ◌+◌, ◌-◌, ◌<◌, ◌≤◌, ◌%◌, ◌^◌, Bool, true, false, List, [], ◌∷◌, ◌++◌, length, map, Option, Some, None, refl, ap, sym, ◌∙◌, inl, inr, arith}
-use Rattle.std.specs.Prelude.{◌⊎◌, if◌then◌else◌, ◌==◌, ◌&&◌, ◌||◌, not, nat_le, nat_lt, is_some, slice_index_or}
-use Rattle.std.proofs.Math.Path.{subst}
+use Rattle.std.proofs.Common.{◌≡◌, ℕ, ◌+◌, ◌-◌, ◌%◌, ◌^◌, Bool, true, false, List, [], ◌∷◌, ◌++◌, length, map, Option, Some, None, refl, ap, sym, ◌∙◌, arith}
+use Rattle.std.specs.Prelude.{if◌then◌else◌, ◌==◌, ◌&&◌, ◌||◌, not, nat_lt, is_some, slice_index_or}
 use Rattle.sctp_lists.specs.Kept.{kept, always, gathered, numbers_from, first_of}
-use Rattle.sctp_lists.specs.Lists.{pieces, changed}
+use Rattle.sctp_lists.specs.Lists.{pieces}
 use Rattle.sctp_lists.proofs.KeptLemmas.{kept-same, map-kept-same}
 use Rattle.sctp_lists.proofs.More.{length-changed, changed-keeps}
 use Rattle.sctp_chunks.specs.declared.chunk.chunk_payload_data.ChunkPayloadData.{ChunkPayloadData}
@@ -12,10 +11,10 @@ use Rattle.sctp_chunks.specs.ChunkSet.{fresh}
 use Rattle.sctp_queues.specs.Outbound.{Outbound}
 use Rattle.sctp_queues.specs.declared.pending_queue.Selected.{Selected}
 use Rattle.sctp_model.specs.World.{World, Setup, Message, Slot}
-use Rattle.sctp_model.specs.Messages.{message_at, slot_at, message_of, messages_where, no_message, no_slot, is_ordered_on, ordered_before, index_of, ssn_of, fragment_count, has_fragment, sent_of, is_half_sent, is_timed, is_dcep, deadline_from}
-use Rattle.sctp_model.specs.Changes.{mark_arrived, mark_read, stream_changed, message_changed, with_whole, becomes_whole, skip_counts, named_by, slot_came, skip_came, read_of, whole_noted}
+use Rattle.sctp_model.specs.Messages.{message_at, slot_at, message_of, messages_where, no_message, no_slot, is_ordered_on, ordered_before, ssn_of, fragment_count, has_fragment, sent_of, is_half_sent, is_timed, is_dcep, deadline_from}
+use Rattle.sctp_model.specs.Changes.{mark_arrived, mark_read, stream_changed, with_whole, becomes_whole, skip_counts, named_by, slot_came, skip_came, read_of, whole_noted}
 use Rattle.sctp_model.specs.Receiver.{is_new}
-use Rattle.sctp_ties.specs.Tied.{waiting_at, waiting_of, waiting_where, waits_ordered, waits_unordered, selected_of, TiedPending, TiedOutbound, Sending, unless_gone, sending_at, sendings_of}
+use Rattle.sctp_ties.specs.Tied.{waiting_at, waiting_of, waiting_where, selected_of, TiedOutbound, Sending, unless_gone, sending_at}
 use Rattle.sctp_ties.proofs.Waiting.{gathered-same}
 use Rattle.sctp_ties.proofs.Arrival.{with_arrived}
 

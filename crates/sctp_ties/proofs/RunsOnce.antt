@@ -1,13 +1,13 @@
 -- What an unordered push leaves is determined.
-use Rattle.std.proofs.Common.{◌≡◌, ℕ, ◌+◌, ◌-◌, ◌<◌, ◌≤◌, Bool, true, false, List, [], ◌∷◌, ◌++◌, length, take, drop, None, refl, ap, sym, ◌∙◌, inl, inr, arith}
-use Rattle.std.specs.Prelude.{◌⊎◌, slice_index_or}
+use Rattle.std.proofs.Common.{◌≡◌, ℕ, ◌+◌, ◌<◌, ◌≤◌, Bool, true, false, List, [], ◌∷◌, ◌++◌, take, drop, refl, ap, sym, ◌∙◌, inl, inr, arith}
+use Rattle.std.specs.Prelude.{◌⊎◌}
 use Rattle.std.proofs.lemmas.Bool.{cases_lt}
 use Rattle.sctp_lists.proofs.More.{not_both}
 use Rattle.sctp_chunks.specs.declared.chunk.chunk_payload_data.ChunkPayloadData.{ChunkPayloadData}
 use Rattle.sctp_chunks.specs.declared.chunk.chunk_payload_data.PayloadProtocolIdentifier.TheVariants.{Unknown}
 use Rattle.sctp_chunks.specs.ChunkSet.{fresh}
 use Rattle.sctp_queues.specs.Runs.{IsRun, IsEarliestRun}
-use Rattle.sctp_queues.specs.Reassembly.{Reassembly, set_of_run, TakesRun, BecomesWhole}
+use Rattle.sctp_queues.specs.Reassembly.{Reassembly, set_of_run, BecomesWhole}
 
 some_chunk : ChunkPayloadData
 some_chunk = fresh (record { unordered = false; beginning_fragment = false; ending_fragment = false; immediate_sack = false; tsn = 0; stream_identifier = 0; stream_sequence_number = 0; payload_type = Unknown; user_data = [] })

@@ -1,12 +1,12 @@
 -- A fragment is sent: what waits then is what the record says.
-use Rattle.std.proofs.Common.{◌≡◌, ℕ, zero, suc, ◌+◌, ◌-◌, ◌<◌, ◌≤◌, Bool, true, false, List, [], ◌∷◌, ◌++◌, length, map, Option, Some, None, refl, ap, sym, ◌∙◌, inl, inr, arith}
-use Rattle.std.specs.Prelude.{◌⊎◌, if◌then◌else◌, ◌==◌, ◌&&◌, ◌||◌, not, nat_le, nat_lt, is_some, slice_get}
+use Rattle.std.proofs.Common.{◌≡◌, ℕ, suc, ◌+◌, ◌-◌, ◌<◌, ◌≤◌, Bool, true, false, List, [], ◌∷◌, ◌++◌, length, map, Option, Some, None, refl, ap, sym, ◌∙◌, inl, inr, arith}
+use Rattle.std.specs.Prelude.{◌⊎◌, if◌then◌else◌, ◌==◌, ◌&&◌, ◌||◌, not, nat_lt, slice_get}
 use Rattle.std.proofs.Math.Path.{subst}
 use Rattle.std.proofs.lemmas.Bool.{cases_lt}
 use Rattle.std.proofs.lemmas.Bool.Decides.{nat_tests}
-use Rattle.sctp_lists.specs.Kept.{kept, always, gathered, numbers_from, first_of, or_else}
-use Rattle.sctp_lists.proofs.KeptLemmas.{kept-same, map-kept-same, kept-none, front-kept, FrontOf}
-use Rattle.sctp_lists.proofs.More.{fails, not_both, both, and}
+use Rattle.sctp_lists.specs.Kept.{kept, gathered, numbers_from, first_of, or_else}
+use Rattle.sctp_lists.proofs.KeptLemmas.{kept-none, front-kept, FrontOf}
+use Rattle.sctp_lists.proofs.More.{fails, not_both, both}
 use Rattle.sctp_lists.proofs.Cases.{by_same, negated, same-yes, same-is}
 use Rattle.sctp_lists.proofs.Tests.{FirstOf, first-kept}
 use Rattle.sctp_chunks.specs.declared.chunk.chunk_payload_data.ChunkPayloadData.{ChunkPayloadData}
@@ -16,11 +16,11 @@ use Rattle.sctp_model.specs.World.{World}
 use Rattle.sctp_model.specs.Messages.{message_at, messages_where, front, fragment_count, sent_of, is_half_sent, is_unsent}
 use Rattle.sctp_model.specs.Changes.{with_slot}
 use Rattle.sctp_model.specs.Amounts.{is_given_up}
-use Rattle.sctp_model.proofs.Shape.{Shape, shape, sent}
+use Rattle.sctp_model.proofs.Shape.{shape, sent}
 use Rattle.sctp_model.proofs.Sender.{Sender}
 use Rattle.sctp_model.proofs.SenderSteps
 use Rattle.sctp_model.proofs.SenderSteps.{Takes, is-half, sent-other, sent-here}
-use Rattle.sctp_model.proofs.Fronts.{front-takes, is-unsent, half-made}
+use Rattle.sctp_model.proofs.Fronts.{front-takes, is-unsent}
 use Rattle.sctp_model.proofs.Shapes
 use Rattle.sctp_ties.specs.Tied.{waiting_at, waiting_of, waiting_where, waits_ordered, waits_unordered, selected_of, TiedPending}
 use Rattle.sctp_ties.proofs.Waiting

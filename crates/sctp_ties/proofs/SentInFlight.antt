@@ -1,8 +1,7 @@
 -- A fragment is sent: what is in flight then is what the record says.
-use Rattle.std.proofs.Common.{◌≡◌, ℕ, zero, suc, ◌+◌, ◌-◌, ◌<◌, ◌≤◌, ◌^◌, Bool, true, false, List, [], ◌∷◌, ◌++◌, length, map, Option, Some, None, refl, ap, sym, ◌∙◌, inl, inr, arith}
-use Rattle.std.specs.Prelude.{◌⊎◌, if◌then◌else◌, ◌==◌, ◌&&◌, ◌||◌, not, nat_le, nat_lt, is_some}
+use Rattle.std.proofs.Common.{◌≡◌, ℕ, zero, suc, ◌+◌, ◌-◌, ◌<◌, ◌≤◌, ◌^◌, false, List, [], ◌∷◌, ◌++◌, length, map, refl, ap, sym, ◌∙◌, arith}
+use Rattle.std.specs.Prelude.{if◌then◌else◌}
 use Rattle.std.proofs.Math.Path.{subst}
-use Rattle.std.proofs.lemmas.Bool.{cases_lt}
 use Rattle.std.proofs.lemmas.Bool.Decides.{nat_tests}
 use Rattle.std.proofs.lemmas.List.{map-append}
 use Rattle.sctp_lists.specs.Kept.{kept, always, numbers_from}
@@ -10,16 +9,15 @@ use Rattle.sctp_lists.specs.Lists.{inserted}
 use Rattle.sctp_lists.specs.Serial.{comes_before}
 use Rattle.sctp_lists.proofs.KeptLemmas.{map-kept-same, kept-snoc_in}
 use Rattle.sctp_lists.proofs.Getting.{get-snoc_old, get-snoc_new}
-use Rattle.sctp_lists.proofs.Round.{tsn, comes_before-tsn}
+use Rattle.sctp_lists.proofs.Round.{comes_before-tsn}
 use Rattle.sctp_lists.proofs.Cases.{by_last}
 use Rattle.sctp_chunks.specs.declared.chunk.chunk_payload_data.ChunkPayloadData.{ChunkPayloadData}
-use Rattle.sctp_queues.specs.Pending as pending
 use Rattle.sctp_queues.specs.DataChunks.{chunk_before}
-use Rattle.sctp_queues.specs.Outbound.{Outbound, numbered, sent_of, sent_peeked, sent_next, all_started}
+use Rattle.sctp_queues.specs.Outbound.{Outbound, numbered, sent_of, sent_peeked}
 use Rattle.sctp_model.specs.World.{World, Slot}
 use Rattle.sctp_model.specs.Messages.{message_at, slot_at, message_of, no_slot, tsn_of, front}
 use Rattle.sctp_model.specs.Messages
-use Rattle.sctp_model.specs.Changes.{with_slot, started, fragment_sent}
+use Rattle.sctp_model.specs.Changes.{with_slot}
 use Rattle.sctp_ties.specs.Tied.{waiting_at, Sending, sending_of, sending_at, sendings_of, TiedOutbound}
 use Rattle.sctp_ties.proofs.Written.{sending-alike}
 use Rattle.sctp_ties.proofs.Sent.{FrontIs, pending-sent}

@@ -1,10 +1,8 @@
 -- A fragment arrives: what the reassembly queues and the filter hold then, in the words of the queues.
-use Rattle.std.proofs.Common.{◌≡◌, ℕ, ◌+◌, ◌-◌, ◌<◌, ◌≤◌, Bool, true, false, List, [], ◌∷◌, ◌++◌, length, map, take, drop, Some, refl, ap, sym, ◌∙◌, inl, inr, arith}
-use Rattle.std.specs.Prelude.{◌⊎◌, if◌then◌else◌, ◌==◌, ◌&&◌, not, nat_le, slice_index_or}
-use Rattle.std.proofs.lemmas.Bool.{cases_lt}
+use Rattle.std.proofs.Common.{◌≡◌, ℕ, ◌+◌, ◌<◌, ◌≤◌, Bool, true, false, List, [], ◌∷◌, ◌++◌, length, map, take, drop, Some, refl, ap, sym, ◌∙◌, arith}
+use Rattle.std.specs.Prelude.{◌==◌, ◌&&◌, not, nat_le}
 use Rattle.std.proofs.lemmas.Bool.Decides.{nat_tests}
 use Rattle.std.proofs.lemmas.List.{map-append}
-use Rattle.sctp_lists.specs.Kept.{kept}
 use Rattle.sctp_lists.specs.Lists.{inserted, advanced}
 use Rattle.sctp_lists.specs.Serial.{comes_before}
 use Rattle.sctp_lists.proofs.KeptLemmas.{front-kept, FrontOf}
@@ -12,11 +10,9 @@ use Rattle.sctp_lists.proofs.More.{fails, not_both, and}
 use Rattle.sctp_chunks.specs.declared.chunk.chunk_payload_data.ChunkPayloadData.{ChunkPayloadData}
 use Rattle.sctp_chunks.specs.ChunkSet.{ChunkSet}
 use Rattle.sctp_queues.specs.DataChunks.{chunk_before}
-use Rattle.sctp_queues.specs.Runs.{IsRun, IsEarliestRun}
-use Rattle.sctp_queues.specs.Reassembly.{Reassembly, pushed_ordered, set_of_run, BecomesWhole}
-use Rattle.sctp_queues.specs.Reassembly as queue
+use Rattle.sctp_queues.specs.Reassembly.{pushed_ordered, set_of_run, BecomesWhole}
 use Rattle.sctp_model.specs.World.{World, StreamRecord}
-use Rattle.sctp_model.specs.Messages.{message_at, slot_at, message_of, stream_at, stream_of, is_ordered_on, is_unordered_on, index_of, has_fragment, slots_of, tsn_of}
+use Rattle.sctp_model.specs.Messages.{message_at, slot_at, message_of, stream_at, is_ordered_on, is_unordered_on, index_of, has_fragment, slots_of, tsn_of}
 use Rattle.sctp_model.specs.Receiver.{arrived_at, cumulative, is_new}
 use Rattle.sctp_model.specs.Changes.{stream_changed, with_whole, becomes_whole, slot_came}
 use Rattle.sctp_model.specs.Contents.{chunk_at}

@@ -1,26 +1,21 @@
 -- The fragments of a datagram arrive one after another.
-use Rattle.std.proofs.Common.{◌≡◌, ℕ, ◌+◌, ◌-◌, ◌<◌, ◌≤◌, Bool, true, false, List, [], ◌∷◌, ◌++◌, length, map, Some, Option, refl, ap, sym, ◌∙◌, inl, inr, arith}
-use Rattle.std.specs.Prelude.{◌⊎◌, if◌then◌else◌, ◌==◌, ◌&&◌, ◌||◌, not, nat_le, nat_lt, fold}
+use Rattle.std.proofs.Common.{◌≡◌, ℕ, ◌<◌, Bool, true, false, [], ◌∷◌, ◌++◌, length, Some, refl, ap, sym, ◌∙◌, arith}
+use Rattle.std.specs.Prelude.{if◌then◌else◌, ◌==◌, ◌||◌, not}
 use Rattle.std.specs.List.{list_any}
-use Rattle.std.proofs.lemmas.Bool.{cases_lt}
 use Rattle.std.proofs.lemmas.Bool.Decides.{nat_tests}
-use Rattle.sctp_lists.proofs.More.{fails, not_both, both, and}
+use Rattle.sctp_lists.proofs.More.{both}
 use Rattle.sctp_model.specs.World.{World, StreamRecord}
-use Rattle.sctp_model.specs.Messages.{message_at, slot_at, message_of, stream_at, stream_of, is_ordered_on, is_unordered_on, index_of}
-use Rattle.sctp_model.specs.Receiver.{arrived_at, arrived_of, has_arrived, cumulative, is_new, is_whole, is_unread, is_held, next_of}
+use Rattle.sctp_model.specs.Messages.{message_at, slot_at, message_of, stream_at, stream_of, is_unordered_on}
+use Rattle.sctp_model.specs.Receiver.{is_new}
 use Rattle.sctp_model.specs.Changes.{stream_changed, with_whole, becomes_whole, slot_came}
 use Rattle.sctp_ties.specs.Sound.{Sound, SoundLoose, SoundWhole}
 use Rattle.sctp_ties.proofs.Arrival
 use Rattle.sctp_ties.proofs.Arrival.{with_arrived}
-use Rattle.sctp_ties.proofs.Taken.{held, is-held, IsHeld, whole-ordered}
 use Rattle.sctp_ties.proofs.Keeps
-use Rattle.sctp_ties.proofs.Stays
 use Rattle.sctp_ties.proofs.Stays.{by_place}
 use Rattle.sctp_ties.proofs.SoundAfter
 use Rattle.sctp_ties.proofs.SoundAfter.{Comes}
 use Rattle.sctp_ties.proofs.SoundMore
-use Rattle.sctp_ties.proofs.SkipStep
-use Rattle.sctp_ties.proofs.Unordered.{unordered-of}
 use Rattle.sctp_ties.proofs.UnorderedStep
 use Rattle.sctp_ties.proofs.UnorderedStep.{any-last}
 use Rattle.sctp_ties.proofs.SlotArrives

@@ -1,24 +1,22 @@
 -- While the fragments of a datagram arrive, the indexes in use stay near one another.
-use Rattle.std.proofs.Common.{◌≡◌, ℕ, ◌+◌, ◌-◌, ◌<◌, ◌≤◌, Bool, true, false, List, [], ◌∷◌, ◌++◌, length, map, Some, None, Option, refl, ap, sym, ◌∙◌, inl, inr, arith}
-use Rattle.std.specs.Prelude.{◌⊎◌, if◌then◌else◌, ◌==◌, ◌&&◌, ◌||◌, not, nat_le, nat_lt, fold, find}
+use Rattle.std.proofs.Common.{◌≡◌, ℕ, ◌-◌, ◌≤◌, Bool, true, false, List, [], ◌∷◌, ◌++◌, length, map, Some, refl, ap, sym, ◌∙◌, arith}
+use Rattle.std.specs.Prelude.{if◌then◌else◌, ◌==◌, ◌&&◌, ◌||◌, not, nat_le, fold, find}
 use Rattle.std.specs.List.{list_any, list_all}
-use Rattle.std.proofs.lemmas.Bool.{cases_lt}
 use Rattle.std.proofs.lemmas.Bool.Decides.{nat_tests}
-use Rattle.sctp_lists.specs.Kept.{passing, unbroken}
+use Rattle.sctp_lists.specs.Kept.{passing}
 use Rattle.sctp_lists.proofs.KeptLemmas.{unbroken-passes}
-use Rattle.sctp_lists.proofs.More.{fails, not_both, both, and}
+use Rattle.sctp_lists.proofs.More.{not_both, both, and}
 use Rattle.sctp_model.specs.World.{World, StreamRecord, Data}
-use Rattle.sctp_model.specs.Messages.{message_at, slot_at, message_of, stream_at, stream_of, is_ordered_on, index_of}
-use Rattle.sctp_model.specs.Receiver.{arrived_at, arrived_of, has_arrived, cumulative, is_new, is_whole, is_held, next_of, fits, spans_fit}
+use Rattle.sctp_model.specs.Messages.{message_at, message_of, stream_at, stream_of, is_ordered_on, index_of}
+use Rattle.sctp_model.specs.Receiver.{arrived_at, cumulative, is_new, is_whole, is_held, next_of, fits, spans_fit}
 use Rattle.sctp_model.specs.Changes.{stream_changed, with_whole, becomes_whole, slot_came}
 use Rattle.sctp_model.specs.Steps.{arrival_fits}
 use Rattle.sctp_ties.specs.Sound.{Sound}
 use Rattle.sctp_ties.proofs.Arrival
 use Rattle.sctp_ties.proofs.Arrival.{with_arrived}
 use Rattle.sctp_ties.proofs.Filter
-use Rattle.sctp_ties.proofs.Line
 use Rattle.sctp_ties.proofs.Span.{IsSpan, span}
-use Rattle.sctp_ties.proofs.Taken.{held, is-held, IsHeld, whole-ordered}
+use Rattle.sctp_ties.proofs.Taken.{held, is-held, whole-ordered}
 use Rattle.sctp_ties.proofs.Keeps
 use Rattle.sctp_ties.proofs.Stays.{by_place}
 use Rattle.sctp_ties.proofs.SoundAfter

@@ -1,10 +1,10 @@
 -- What the ties ask of a record holds in every history.
-use Rattle.std.proofs.Common.{◌≡◌, ℕ, zero, suc, ◌+◌, ◌-◌, ◌<◌, ◌≤◌, ◌^◌, Bool, true, false, List, [], ◌∷◌, ◌++◌, length, Option, Some, None, refl, ap, sym, ◌∙◌, inl, inr, arith, zero-add}
+use Rattle.std.proofs.Common.{◌≡◌, ℕ, zero, suc, ◌+◌, ◌-◌, ◌<◌, ◌≤◌, Bool, true, false, List, [], ◌∷◌, ◌++◌, length, Option, Some, None, refl, ap, sym, ◌∙◌, inl, inr, arith, zero-add}
 use Rattle.std.specs.Prelude.{◌⊎◌, if◌then◌else◌, ◌==◌, ◌&&◌, ◌||◌, not, nat_le, is_some}
 use Rattle.std.specs.List.{list_any, list_all}
 use Rattle.std.proofs.lemmas.Bool.{cases_lt}
 use Rattle.std.proofs.lemmas.Bool.Decides.{nat_tests}
-use Rattle.sctp_lists.specs.Kept.{kept, first_of}
+use Rattle.sctp_lists.specs.Kept.{kept}
 use Rattle.sctp_lists.proofs.KeptLemmas.{front-kept, FrontOf, kept-snoc_in, kept-none, length-kept-lt}
 use Rattle.sctp_lists.proofs.More.{fails, not_both, both, and, length-kept-positive}
 use Rattle.sctp_lists.proofs.Totals.{total-at}
@@ -14,13 +14,13 @@ use Rattle.sctp_lists.specs.Lists.{pieces}
 use Rattle.sctp_model.specs.World.{Setup, StreamRecord, World}
 use Rattle.sctp_model.specs.Messages
 use Rattle.sctp_model.specs.Messages.{message_at, slot_at, message_of, stream_at, stream_of, fragment_count, has_fragment, is_ordered_on, is_unordered_on, index_of, slots_of}
-use Rattle.sctp_model.specs.Receiver.{arrived_at, arrived_of, has_arrived, is_whole, next_of}
+use Rattle.sctp_model.specs.Receiver.{arrived_at, arrived_of, has_arrived, is_whole}
 use Rattle.sctp_model.specs.Changes.{becomes_whole}
 use Rattle.sctp_model.specs.Steps.{History, world_of, IsRun}
 use Rattle.sctp_model.specs.Log
 use Rattle.sctp_model.specs.Log.{Coming}
 use Rattle.sctp_model.specs.Laws.{IsSetup}
-use Rattle.sctp_model.proofs.Shape.{Shape, shape, has, sent, parts}
+use Rattle.sctp_model.proofs.Shape.{shape, sent, parts}
 use Rattle.sctp_model.proofs.Sender.{Sender}
 use Rattle.sctp_model.proofs.SenderRun.{Sane, sane-run}
 use Rattle.sctp_model.proofs.Few
@@ -31,7 +31,7 @@ use Rattle.sctp_model.proofs.Known
 use Rattle.sctp_model.proofs.Ordered
 use Rattle.sctp_model.proofs.Received.{Received, received-run}
 use Rattle.sctp_model.proofs.Spans.{spans_fit_always}
-use Rattle.sctp_ties.specs.Sound.{IsLaid, Sound, SoundLoose, SoundWhole}
+use Rattle.sctp_ties.specs.Sound.{IsLaid, Sound}
 use Rattle.sctp_ties.proofs.Arrival
 use Rattle.sctp_ties.proofs.Line
 use Rattle.sctp_ties.proofs.Span.{IsSpan}

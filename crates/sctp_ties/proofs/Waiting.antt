@@ -1,21 +1,13 @@
 -- What waits to be sent: lists of messages' fragments, and a write.
-use Rattle.std.proofs.Common.{◌≡◌, ℕ, zero, suc, ◌+◌, ◌-◌, ◌<◌, ◌≤◌, ◌%◌, ◌^◌, Bool, true, false, List, [], ◌∷◌, ◌++◌, length, map, Option, Some, None, refl, ap, sym, ◌∙◌, inl, inr, arith, add-one, append-nil}
-use Rattle.std.specs.Prelude.{◌⊎◌, if◌then◌else◌, ◌==◌, ◌&&◌, ◌||◌, not, nat_le, nat_lt, is_some}
+use Rattle.std.proofs.Common.{◌≡◌, ℕ, zero, suc, ◌+◌, ◌-◌, ◌<◌, ◌≤◌, ◌%◌, ◌^◌, Bool, true, false, List, [], ◌∷◌, ◌++◌, length, map, refl, ap, sym, ◌∙◌, inl, inr, arith, append-nil}
+use Rattle.std.specs.Prelude.{◌⊎◌, if◌then◌else◌, ◌==◌, ◌&&◌, not}
 use Rattle.std.proofs.lemmas.Bool.{cases_lt}
-use Rattle.std.proofs.lemmas.Bool.Decides.{nat_tests}
-use Rattle.sctp_lists.specs.Kept.{kept, always, gathered, numbers_from, first_of}
-use Rattle.sctp_lists.proofs.KeptLemmas.{kept-same, map-kept-same, kept-snoc, kept-none}
-use Rattle.sctp_lists.proofs.More.{fails, not_both}
-use Rattle.sctp_lists.proofs.Getting.{get-snoc_old, get-snoc_new, get-beyond}
-use Rattle.sctp_lists.proofs.Cases.{by_same}
-use Rattle.sctp_chunks.specs.declared.chunk.chunk_payload_data.ChunkPayloadData.{ChunkPayloadData}
-use Rattle.sctp_queues.specs.Pending.{Pending}
-use Rattle.sctp_queues.specs.Outbound.{Outbound, with_message_id, appended, with_message}
+use Rattle.sctp_lists.specs.Kept.{kept, always, gathered, numbers_from}
+use Rattle.sctp_lists.proofs.KeptLemmas.{kept-same, map-kept-same, kept-snoc}
+use Rattle.sctp_lists.proofs.Getting.{get-snoc_old, get-snoc_new}
 use Rattle.sctp_model.specs.World.{World, Message}
-use Rattle.sctp_model.specs.Messages.{message_at, slot_at, message_of, messages_where, is_ordered_on, ordered_before, index_of, ssn_of, fragment_count, sent_of, is_half_sent, no_message}
-use Rattle.sctp_model.specs.Contents.{data_with}
-use Rattle.sctp_model.specs.Amounts.{is_given_up}
-use Rattle.sctp_ties.specs.Tied.{waiting_at, waiting_of, waiting_where, waits_ordered, waits_unordered, selected_of, TiedPending, TiedOutbound, sending_at, sendings_of, sending_of}
+use Rattle.sctp_model.specs.Messages.{message_at, is_ordered_on, ordered_before, ssn_of, fragment_count, sent_of, no_message}
+use Rattle.sctp_ties.specs.Tied.{waiting_at, waiting_of, waiting_where}
 
 -- ## Lists gathered
 

@@ -1,13 +1,12 @@
 -- A message is written: the outbound queue holds what the record says.
-use Rattle.std.proofs.Common.{◌≡◌, ℕ, suc, ◌+◌, ◌-◌, ◌<◌, ◌≤◌, ◌%◌, ◌^◌, Bool, true, false, List, [], ◌∷◌, ◌++◌, length, map, Option, Some, None, refl, ap, sym, ◌∙◌, inl, inr, arith, append-nil}
-use Rattle.std.specs.Prelude.{◌⊎◌, if◌then◌else◌, ◌==◌, ◌&&◌, ◌||◌, not, nat_le, nat_lt, is_some, slice_index_or}
+use Rattle.std.proofs.Common.{◌≡◌, ℕ, ◌+◌, ◌-◌, ◌<◌, ◌%◌, ◌^◌, Bool, true, false, List, [], ◌∷◌, ◌++◌, length, map, Option, Some, None, refl, ap, sym, ◌∙◌, arith, append-nil}
+use Rattle.std.specs.Prelude.{if◌then◌else◌, ◌==◌, ◌&&◌, ◌||◌, not, nat_le, nat_lt, is_some, slice_index_or}
 use Rattle.std.proofs.Math.Path.{subst}
-use Rattle.std.proofs.lemmas.Bool.{cases_lt}
 use Rattle.std.proofs.lemmas.Bool.Decides.{nat_tests}
 use Rattle.sctp_lists.specs.Kept.{kept, always, numbers_from, first_of}
 use Rattle.sctp_lists.specs.Lists.{pieces}
 use Rattle.sctp_lists.proofs.KeptLemmas.{kept-same, map-kept-same, kept-snoc_out, kept-none, front-kept, FrontOf}
-use Rattle.sctp_lists.proofs.More.{fails, not_both, both}
+use Rattle.sctp_lists.proofs.More.{fails, both}
 use Rattle.sctp_lists.proofs.Cases.{by_last}
 use Rattle.sctp_chunks.specs.declared.chunk.chunk_payload_data.ChunkPayloadData.{ChunkPayloadData}
 use Rattle.sctp_chunks.specs.declared.chunk.chunk_payload_data.PayloadProtocolIdentifier.{PayloadProtocolIdentifier}
@@ -15,9 +14,9 @@ use Rattle.sctp_chunks.specs.ChunkSet.{fresh}
 use Rattle.sctp_queues.specs.Pending.{Pending}
 use Rattle.sctp_queues.specs.Outbound.{Outbound, with_message_id, appended, with_message}
 use Rattle.sctp_model.specs.World.{World, Message, StreamRecord}
-use Rattle.sctp_model.specs.Messages.{message_at, slot_at, message_of, messages_where, ordered_before, ssn_of, has_fragment, fragment_count, sent_of, is_half_sent, is_dcep, is_timed}
-use Rattle.sctp_model.specs.Changes.{message_on, wrote}
-use Rattle.sctp_ties.specs.Tied.{waiting_at, waiting_of, waiting_where, waits_ordered, waits_unordered, selected_of, TiedPending, TiedOutbound, sending_at, sendings_of, sending_of}
+use Rattle.sctp_model.specs.Messages.{message_at, slot_at, message_of, messages_where, ordered_before, has_fragment, fragment_count, sent_of, is_half_sent, is_dcep, is_timed}
+use Rattle.sctp_model.specs.Changes.{message_on}
+use Rattle.sctp_ties.specs.Tied.{waiting_at, waiting_of, waiting_where, waits_ordered, waits_unordered, selected_of, TiedPending, TiedOutbound, sending_at, sendings_of}
 use Rattle.sctp_ties.proofs.Waiting
 use Rattle.sctp_ties.proofs.Waiting.{Alike}
 

@@ -1,6 +1,6 @@
 -- What a link's queues hold, against its record.
-use Rattle.std.specs.Prelude.{◌≡◌, ◌<◌, ◌≤◌, ◌-◌, ◌||◌, if◌then◌else◌, ℕ, Bool, ◌&&◌, not, List, length, map, nat_le, is_some, is_none, Option, Some, None, false}
-use Rattle.sctp_lists.specs.Kept.{kept, numbers_from, gathered, first_of}
+use Rattle.std.specs.Prelude.{◌≡◌, ◌<◌, ◌≤◌, ◌-◌, ◌||◌, if◌then◌else◌, ℕ, Bool, ◌&&◌, not, List, length, map, nat_le, is_some, Option, Some, None}
+use Rattle.sctp_lists.specs.Kept.{numbers_from, gathered, first_of}
 use Rattle.sctp_chunks.specs.declared.chunk.chunk_payload_data.ChunkPayloadData.{ChunkPayloadData}
 use Rattle.sctp_chunks.specs.PayloadData.{Data, data_of}
 use Rattle.sctp_chunks.specs.ChunkSet.{fresh}
@@ -10,10 +10,10 @@ use Rattle.sctp_queues.specs.Outbound.{Outbound}
 use Rattle.sctp_queues.specs.Reassembly.{ReassemblyState}
 use Rattle.sctp_queues.specs.declared.pending_queue.Selected.{Selected}
 use Rattle.sctp_model.specs.World.{World}
-use Rattle.sctp_model.specs.Messages.{message_at, message_of, slot_at, stream_at, messages_where, is_half_sent, sent_of, fragment_count, deadline_of}
+use Rattle.sctp_model.specs.Messages.{message_at, message_of, stream_at, messages_where, is_half_sent, sent_of, fragment_count, deadline_of}
 use Rattle.sctp_model.specs.Amounts.{is_given_up}
 use Rattle.sctp_model.specs.Contents.{data_with, chunk_at}
-use Rattle.sctp_model.specs.Queues.{FilterRecord, InFlightChunk, PendingFragment, in_flight_at, is_cleared, filter_of}
+use Rattle.sctp_model.specs.Queues.{FilterRecord, InFlightChunk, in_flight_at, is_cleared, filter_of}
 use Rattle.sctp_ties.specs.Holds.{reassembly_of}
 
 -- ## What waits to be sent
