@@ -18,7 +18,7 @@ use Rattle.sctp_model.specs.Receiver.{arrived_at, cumulative, is_new, next_read}
 use Rattle.sctp_model.specs.Changes
 use Rattle.sctp_model.specs.Reports.{report_of, reports, distances, gap_blocks}
 use Rattle.sctp_model.specs.Log
-use Rattle.sctp_model.specs.Log.{Coming, SlotCame, SkipCame, SackMade, is_seen, arrived_new, is_skipped, seen_count, duplicates_in, log_of, made_in, Made, MadeData, MadeForward, MadeSack, is_acknowledged_in, taken_in, reported_by}
+use Rattle.sctp_model.specs.Log.{LogEntry, SlotReceived, SkipReceived, SackMade, is_seen, arrived_new, is_skipped, seen_count, duplicates_in, log_of, made_in, Made, MadeData, MadeForward, MadeSack, is_acknowledged_in, taken_in, reported_by}
 use Rattle.sctp_model.specs.Steps.{History, world_of, IsRun, after}
 use Rattle.sctp_model.specs.Contents.{SackContents, cumulative_tsn, contents_in}
 use Rattle.sctp_model.specs.Laws.{IsSetup, OnEveryRun, AcknowledgedArrived, AcknowledgedIsReported, SacksSay, blocks_by}
@@ -131,26 +131,26 @@ report-seen w credit p e = step (or-split (nat_lt p (cumulative w)) (list_any (c
 
 -- ## What was seen stays seen
 
-seen-slots : (ps : List ℕ) (log : List Coming) (p : ℕ) → is_seen log p ≡ true → is_seen (Log.slots_come ps log) p ≡ true
+seen-slots : (ps : List ℕ) (log : List LogEntry) (p : ℕ) → is_seen log p ≡ true → is_seen (Log.slots_come ps log) p ≡ true
 seen-slots [] log p e = e
-seen-slots (q ∷ ps) log p e = seen-slots ps (SlotCame q ∷ log) p (ors (q == p) (is_seen log p) e)
+seen-slots (q ∷ ps) log p e = seen-slots ps (SlotReceived q ∷ log) p (ors (q == p) (is_seen log p) e)
   where
     ors : (x y : Bool) → y ≡ true → (x || y) ≡ true
     ors true y h = refl
     ors false y h = h
 
-seen-came : (o : Option Made) (log : List Coming) (p : ℕ) → is_seen log p ≡ true → is_seen (Log.datagram_comes o log) p ≡ true
-seen-came None log p e = e
-seen-came (Some (MadeData ps)) log p e = seen-slots ps log p e
-seen-came (Some (MadeForward upto names)) log p e = ors (nat_le p upto) (is_seen log p) e
+seen-received : (o : Option Made) (log : List LogEntry) (p : ℕ) → is_seen log p ≡ true → is_seen (Log.datagram_comes o log) p ≡ true
+seen-received None log p e = e
+seen-received (Some (MadeData ps)) log p e = seen-slots ps log p e
+seen-received (Some (MadeForward upto names)) log p e = ors (nat_le p upto) (is_seen log p) e
   where
     ors : (x y : Bool) → y ≡ true → (x || y) ≡ true
     ors true y h = refl
     ors false y h = h
-seen-came (Some MadeSack) log p e = e
+seen-received (Some MadeSack) log p e = e
 
 pub seen-stays : (setup : Setup) (older : History) (event : Event) (r : Reply) (p : ℕ) → is_seen (log_of setup older) p ≡ true → is_seen (log_of setup ((event, r) ∷ older)) p ≡ true
-seen-stays setup older (E.Arrive k) r p e = seen-came (slice_get (made_in setup older) k) (log_of setup older) p e
+seen-stays setup older (E.Arrive k) r p e = seen-received (slice_get (made_in setup older) k) (log_of setup older) p e
 seen-stays setup older (E.Open s) r p e = e
 seen-stays setup older (E.Mode s u v x) r p e = e
 seen-stays setup older (E.Write s x y) r p e = e
@@ -168,15 +168,15 @@ seen-stays setup older (E.Read x) r p e = e
 
 -- ## The invariant
 
-abbrev pub SackFits : List Coming → Datagram → Type 0
+abbrev pub SackFits : List LogEntry → Datagram → Type 0
 SackFits log (Sack r) = (p : ℕ) → reports r p ≡ true → is_seen log p ≡ true
 SackFits log d = Unit {0}
 
-abbrev pub SacksFit : List Coming → List Datagram → Type 0
+abbrev pub SacksFit : List LogEntry → List Datagram → Type 0
 SacksFit log [] = Unit {0}
 SacksFit log (d ∷ ds) = SackFits log d × SacksFit log ds
 
-sacks-more : (old new : List Coming) → ((p : ℕ) → is_seen old p ≡ true → is_seen new p ≡ true) → (ds : List Datagram) → SacksFit old ds → SacksFit new ds
+sacks-more : (old new : List LogEntry) → ((p : ℕ) → is_seen old p ≡ true → is_seen new p ≡ true) → (ds : List Datagram) → SacksFit old ds → SacksFit new ds
 sacks-more old new more [] f = tt
 sacks-more old new more (d ∷ ds) f = (one d f.0, sacks-more old new more ds f.1)
   where
@@ -185,23 +185,23 @@ sacks-more old new more (d ∷ ds) f = (one d f.0, sacks-more old new more ds f.
     one (Data ps) g = tt
     one (Forward upto names) g = tt
 
-sacks-append : (log : List Coming) (ds es : List Datagram) → SacksFit log ds → SacksFit log es → SacksFit log (ds ++ es)
+sacks-append : (log : List LogEntry) (ds es : List Datagram) → SacksFit log ds → SacksFit log es → SacksFit log (ds ++ es)
 sacks-append log [] es f g = g
 sacks-append log (d ∷ ds) es f g = (f.0, sacks-append log ds es f.1 g)
 
-pub sack-at : (log : List Coming) (ds : List Datagram) (k : ℕ) (d : Datagram) → SacksFit log ds → slice_get ds k ≡ Some d → SackFits log d
+pub sack-at : (log : List LogEntry) (ds : List Datagram) (k : ℕ) (d : Datagram) → SacksFit log ds → slice_get ds k ≡ Some d → SackFits log d
 sack-at log [] k d f e = cc
 sack-at log (c ∷ ds) zero d f e = let z : c ≡ d = cc in subst (SackFits log) z f.0
 sack-at log (c ∷ ds) (suc k) d f e = sack-at log ds k d f.1 e
 
-sacks-sent : (log : List Coming) (w : World) (now : ℕ) (o : Option ℕ) → SacksFit log w.network → SacksFit log (Changes.sent_from (Changes.started w now) o).network
+sacks-sent : (log : List LogEntry) (w : World) (now : ℕ) (o : Option ℕ) → SacksFit log w.network → SacksFit log (Changes.sent_from (Changes.started w now) o).network
 sacks-sent log w now None f = f
 sacks-sent log w now (Some n) f =
     let u = Changes.started w now in
     let v = Changes.fragments_sent u in
     sacks-append log v.network (Data (numbers_from (length u.slots) (length v.slots - length u.slots)) ∷ []) (subst (SacksFit log) (sym (Network.same-network u)) f) (tt, tt)
 
-sacks-after : (setup : Setup) (older : History) (e : Event) (log : List Coming) → ((p : ℕ) → seen_by (world_of setup older) p ≡ true → is_seen log p ≡ true) → SacksFit log (world_of setup older).network → SacksFit log (after (world_of setup older) e).network
+sacks-after : (setup : Setup) (older : History) (e : Event) (log : List LogEntry) → ((p : ℕ) → seen_by (world_of setup older) p ≡ true → is_seen log p ≡ true) → SacksFit log (world_of setup older).network → SacksFit log (after (world_of setup older) e).network
 sacks-after setup older (E.Open s) log h f = f
 sacks-after setup older (E.Mode s u v x) log h f = f
 sacks-after setup older (E.Write s x y) log h f = subst (SacksFit log) (sym (Network.network-written (world_of setup older) s x y)) f
@@ -214,7 +214,7 @@ sacks-after setup older (E.Late now) log h f = subst (SacksFit log) (sym (Networ
 sacks-after setup older (E.Abandon tsn) log h f = subst (SacksFit log) (sym (Network.network-abandoned (world_of setup older) (Messages.message_of (world_of setup older) (Messages.place_of (world_of setup older) tsn)))) f
 sacks-after setup older (E.Skip upto names) log h f = sacks-append log (world_of setup older).network (Forward (Messages.place_of (world_of setup older) upto) names.items ∷ []) f (tt, tt)
 sacks-after setup older (E.Ack credit) log h f = sacks-append log (world_of setup older).network (Sack (report_of (world_of setup older) credit) ∷ []) f (λ p e. h p (report-seen (world_of setup older) credit p e), tt)
-sacks-after setup older (E.Arrive k) log h f = subst (SacksFit log) (sym (Network.same-came (world_of setup older) (slice_get (world_of setup older).network k)).network) f
+sacks-after setup older (E.Arrive k) log h f = subst (SacksFit log) (sym (Network.same-received (world_of setup older) (slice_get (world_of setup older).network k)).network) f
 sacks-after setup older (E.Acked k) log h f = subst (SacksFit log) (sym (Network.same-taken (world_of setup older) (slice_get (world_of setup older).network k)).network) f
 sacks-after setup older (E.Read s) log h f = subst (SacksFit log) (sym (Network.same-read (world_of setup older) s (next_read (world_of setup older) s)).network) f
 
@@ -256,7 +256,7 @@ seen-acknowledged setup ((E.Ack x, r) ∷ older) p is run e = seen-acknowledged 
 seen-acknowledged setup ((E.Read x, r) ∷ older) p is run e = seen-acknowledged setup older p is run.1.1 e
 
 -- what was seen was made
-pub seen-made : (w : World) (log : List Coming) (p : ℕ) → Heard w log → is_seen log p ≡ true → p < length w.slots
+pub seen-made : (w : World) (log : List LogEntry) (p : ℕ) → Heard w log → is_seen log p ≡ true → p < length w.slots
 seen-made w log p g e = step (or-split (nat_lt p w.skipped) (arrived_at w p) (sym (g.seen p) ∙ e)) (cases_lt p (length w.slots))
   where
     step : (nat_lt p w.skipped ≡ true) ⊎ (arrived_at w p ≡ true) → (p < length w.slots) ⊎ (length w.slots ≤ p) → p < length w.slots
@@ -300,8 +300,8 @@ pub record AsAcknowledged (w v : World) : Type 0 where
 acks-same : (setup : Setup) (h : History) (w v : World) → AsAcknowledged w v → Acks setup h w → Acks setup h v
 acks-same setup h w v s a = record { slots = λ p lt. s.slots p ∙ a.slots p (omega (arith, s.count)); taken = s.taken ∙ a.taken }
 
-as-came : (w : World) (p : ℕ) → AsAcknowledged w (Changes.slot_came w p)
-as-came w p = step (is_new w p)
+as-received : (w : World) (p : ℕ) → AsAcknowledged w (Changes.slot_received w p)
+as-received w p = step (is_new w p)
   where
     noted : (v : World) (n : ℕ) → AsAcknowledged w v → AsAcknowledged w (Changes.whole_noted v n)
     noted v n a = by_whole (Changes.becomes_whole v n)
@@ -317,9 +317,9 @@ as-came w p = step (is_new w p)
 as-then : (w v u : World) → AsAcknowledged w v → AsAcknowledged v u → AsAcknowledged w u
 as-then w v u f g = record { slots = λ p. g.slots p ∙ f.slots p; count = g.count ∙ f.count; taken = g.taken ∙ f.taken }
 
-pub as-datagram : (w : World) (o : Option Datagram) → AsAcknowledged w (Changes.came w o)
+pub as-datagram : (w : World) (o : Option Datagram) → AsAcknowledged w (Changes.datagram_received w o)
 as-datagram w None = record { slots = λ k. refl; count = refl; taken = refl }
-as-datagram w (Some (Data ps)) = fold-keeps (AsAcknowledged w) Changes.slot_came (λ v p a. as-then w v (Changes.slot_came v p) a (as-came v p)) ps w (record { slots = λ k. refl; count = refl; taken = refl })
+as-datagram w (Some (Data ps)) = fold-keeps (AsAcknowledged w) Changes.slot_received (λ v p a. as-then w v (Changes.slot_received v p) a (as-received v p)) ps w (record { slots = λ k. refl; count = refl; taken = refl })
 as-datagram w (Some (Forward upto names)) = step (Changes.skip_counts w upto)
   where
     step : (b : Bool) → AsAcknowledged w (if b then record w { skipped = upto + 1; streams = map (Changes.named_by w names) w.streams } else w)

@@ -15,7 +15,7 @@ use Rattle.sctp_model.specs.Receiver.{arrived_at, cumulative, is_new}
 use Rattle.sctp_model.specs.Changes
 use Rattle.sctp_model.specs.Steps.{History, world_of, IsRun, arrive_reply}
 use Rattle.sctp_model.specs.Log
-use Rattle.sctp_model.specs.Log.{Coming, SlotCame, SkipCame, SackMade}
+use Rattle.sctp_model.specs.Log.{LogEntry, SlotReceived, SkipReceived, SackMade}
 use Rattle.sctp_model.specs.Laws.{IsSetup, OnEveryRun, ArrivedIsNew, CumulativeIsSeen, ArrivalsAnswered}
 use Rattle.sctp_model.proofs.Events.{Keeps, run-keeps}
 use Rattle.sctp_lists.proofs.Cases.{by_same, same-yes}
@@ -93,7 +93,7 @@ any-none q from (suc count) none = ap (λ b. b || list_any q (kept always (from 
 
 -- ## By what came
 
-pub record Heard (w : World) (log : List Coming) : Type 0 where
+pub record Heard (w : World) (log : List LogEntry) : Type 0 where
   pub arrived : (p : ℕ) → arrived_at w p ≡ Log.arrived_new log p
   pub seen : (p : ℕ) → Log.is_seen log p ≡ seen_by w p
   pub covered : (p : ℕ) → Log.is_skipped log p ≡ nat_lt p w.skipped
@@ -101,7 +101,7 @@ pub record Heard (w : World) (log : List Coming) : Type 0 where
   pub duplicates : w.duplicates ≡ Log.duplicates_in log
 
 -- a skip counts exactly where some slot up to it was not seen
-pub counts-heard : (w : World) (log : List Coming) (upto : ℕ) → Heard w log → Log.counts log upto ≡ Changes.skip_counts w upto
+pub counts-heard : (w : World) (log : List LogEntry) (upto : ℕ) → Heard w log → Log.counts log upto ≡ Changes.skip_counts w upto
 counts-heard w log upto h = step (cases_lt upto (cumulative w))
   where
     step : (upto < cumulative w) ⊎ (cumulative w ≤ upto) → list_any (λ p. not (Log.is_seen log p)) (numbers_from 0 (upto + 1)) ≡ nat_le (cumulative w) upto
@@ -112,7 +112,7 @@ counts-heard w log upto h = step (cases_lt upto (cumulative w))
 
 -- ## Each change
 
-heard-as : (w v : World) (log : List Coming) → ((p : ℕ) → arrived_at v p ≡ arrived_at w p) → v.skipped ≡ w.skipped → v.duplicates ≡ w.duplicates → length w.slots ≤ length v.slots → Heard w log → Heard v log
+heard-as : (w v : World) (log : List LogEntry) → ((p : ℕ) → arrived_at v p ≡ arrived_at w p) → v.skipped ≡ w.skipped → v.duplicates ≡ w.duplicates → length w.slots ≤ length v.slots → Heard w log → Heard v log
 heard-as w v log a s d l h = record {
   arrived = λ p. a p ∙ h.arrived p;
   seen = λ p. h.seen p ∙ ap (λ k. nat_lt p k || arrived_at w p) (sym s) ∙ ap (λ b. nat_lt p v.skipped || b) (sym (a p));
@@ -121,14 +121,14 @@ heard-as w v log a s d l h = record {
   duplicates = d ∙ h.duplicates;
 }
 
-pub heard-noted : (v : World) (n : ℕ) (log : List Coming) → Heard v log → Heard (Changes.whole_noted v n) log
+pub heard-noted : (v : World) (n : ℕ) (log : List LogEntry) → Heard v log → Heard (Changes.whole_noted v n) log
 heard-noted v n log h = step (Changes.becomes_whole v n)
   where
     step : (b : Bool) → Heard (if b then Changes.stream_changed v (Messages.message_at v n).stream (Changes.with_whole n) else v) log
     step true = heard-as v (Changes.stream_changed v (Messages.message_at v n).stream (Changes.with_whole n)) log (λ p. refl) refl refl (omega arith) h
     step false = h
 
-pub heard-new : (w : World) (log : List Coming) (p : ℕ) → p < length w.slots → is_new w p ≡ true → Heard w log → Heard (with_arrived w p) (SlotCame p ∷ log)
+pub heard-new : (w : World) (log : List LogEntry) (p : ℕ) → p < length w.slots → is_new w p ≡ true → Heard w log → Heard (with_arrived w p) (SlotReceived p ∷ log)
 heard-new w log p lt new h = record {
   arrived = λ k. by_same {P = arrived_at (with_arrived w p) k ≡ (Log.arrived_new log k || ((p == k) && not (Log.is_seen log k)))} p k
       (λ e. ap (arrived_at (with_arrived w p)) (sym e) ∙ here ∙ sym (ap (λ j. Log.arrived_new log j || ((p == j) && not (Log.is_seen log j))) (sym e) ∙ or-right (Log.arrived_new log p) ((p == p) && not (Log.is_seen log p)) (ap (λ b. b && not (Log.is_seen log p)) (same-yes p) ∙ ap not unseen)))
@@ -154,7 +154,7 @@ heard-new w log p lt new h = record {
     unseen : Log.is_seen log p ≡ false
     unseen = h.seen p ∙ negated (seen_by w p) (sym (new-unseen w p) ∙ new)
 
-heard-again : (w : World) (log : List Coming) (p : ℕ) → is_new w p ≡ false → Heard w log → Heard (record w { duplicates = w.duplicates ++ p ∷ [] }) (SlotCame p ∷ log)
+heard-again : (w : World) (log : List LogEntry) (p : ℕ) → is_new w p ≡ false → Heard w log → Heard (record w { duplicates = w.duplicates ++ p ∷ [] }) (SlotReceived p ∷ log)
 heard-again w log p old h = record {
   arrived = λ k. h.arrived k ∙ by_same {P = Log.arrived_new log k ≡ (Log.arrived_new log k || ((p == k) && not (Log.is_seen log k)))} p k
       (λ e. sym (ap (λ b. Log.arrived_new log k || ((p == k) && not b)) (ap (Log.is_seen log) (sym e) ∙ seen) ∙ ap (λ b. Log.arrived_new log k || b) (ands (p == k)) ∙ or-none (Log.arrived_new log k)))
@@ -178,17 +178,17 @@ heard-again w log p old h = record {
     seen : Log.is_seen log p ≡ true
     seen = h.seen p ∙ denied (seen_by w p) (sym (new-unseen w p) ∙ old)
 
-heard-slot : (w : World) (log : List Coming) (p : ℕ) → p < length w.slots → Heard w log → Heard (Changes.slot_came w p) (SlotCame p ∷ log)
+heard-slot : (w : World) (log : List LogEntry) (p : ℕ) → p < length w.slots → Heard w log → Heard (Changes.slot_received w p) (SlotReceived p ∷ log)
 heard-slot w log p lt h = step (is_new w p) refl
   where
-    step : (b : Bool) → is_new w p ≡ b → Heard (if b then Changes.whole_noted (with_arrived w p) (Messages.message_of w p) else record w { duplicates = w.duplicates ++ p ∷ [] }) (SlotCame p ∷ log)
-    step true e = heard-noted (with_arrived w p) (Messages.message_of w p) (SlotCame p ∷ log) (heard-new w log p lt e h)
+    step : (b : Bool) → is_new w p ≡ b → Heard (if b then Changes.whole_noted (with_arrived w p) (Messages.message_of w p) else record w { duplicates = w.duplicates ++ p ∷ [] }) (SlotReceived p ∷ log)
+    step true e = heard-noted (with_arrived w p) (Messages.message_of w p) (SlotReceived p ∷ log) (heard-new w log p lt e h)
     step false e = heard-again w log p e h
 
-heard-skip : (w : World) (log : List Coming) (upto : ℕ) (names : List ℕ) → upto < length w.slots → Heard w log → Heard (Changes.skip_came w upto names) (SkipCame upto names ∷ log)
+heard-skip : (w : World) (log : List LogEntry) (upto : ℕ) (names : List ℕ) → upto < length w.slots → Heard w log → Heard (Changes.skip_received w upto names) (SkipReceived upto names ∷ log)
 heard-skip w log upto names lt h = step (Changes.skip_counts w upto) refl
   where
-    step : (b : Bool) → Changes.skip_counts w upto ≡ b → Heard (if b then record w { skipped = upto + 1; streams = map (Changes.named_by w names) w.streams } else w) (SkipCame upto names ∷ log)
+    step : (b : Bool) → Changes.skip_counts w upto ≡ b → Heard (if b then record w { skipped = upto + 1; streams = map (Changes.named_by w names) w.streams } else w) (SkipReceived upto names ∷ log)
     step true e =
         let c : cumulative w ≤ upto = grind (arith, nat_tests) in
         record {

@@ -19,7 +19,7 @@ use Rattle.sctp_model.specs.Changes
 use Rattle.sctp_model.specs.Reports.{reports}
 use Rattle.sctp_model.specs.Log.{Shown, total_shown, length_shown, released_by, released_in}
 use Rattle.sctp_model.specs.Steps.{History, world_of, IsRun, reply_to, after, sent_reply, expired_reply, tail_reply, arrive_reply, read_reply}
-use Rattle.sctp_model.specs.Laws.{IsSetup, OnEveryRun, SumsAreTold}
+use Rattle.sctp_model.specs.Laws.{IsSetup, OnEveryRun, SumsAgree}
 use Rattle.sctp_model.proofs.Shape.{Shape, MessagePart, shape, message_part, has, written}
 use Rattle.sctp_model.proofs.Shapes
 use Rattle.sctp_model.proofs.SenderSteps.{of-has}
@@ -209,15 +209,15 @@ none-read : (w : World) (o : Option ℕ) → released_by (read_reply w o) ≡ 0
 none-read w None = refl
 none-read w (Some n) = refl
 
-none-came : (w : World) (o : Option Datagram) → released_by (arrive_reply w o) ≡ 0
-none-came w None = refl
-none-came w (Some (Sack r)) = refl
-none-came w (Some (Data ps)) = step (list_any (is_new w) ps)
+none-received : (w : World) (o : Option Datagram) → released_by (arrive_reply w o) ≡ 0
+none-received w None = refl
+none-received w (Some (Sack r)) = refl
+none-received w (Some (Data ps)) = step (list_any (is_new w) ps)
   where
     step : (b : Bool) → released_by (if b then R.New else R.Repeat) ≡ 0
     step true = refl
     step false = refl
-none-came w (Some (Forward upto names)) = step (Changes.skip_counts w upto)
+none-received w (Some (Forward upto names)) = step (Changes.skip_counts w upto)
   where
     step : (b : Bool) → released_by (if b then R.Skipped else R.Stale) ≡ 0
     step true = refl
@@ -241,7 +241,7 @@ released-after setup w (E.Late now) is g = grown setup w (Changes.late_abandoned
 released-after setup w (E.Abandon tsn) is g = let n = Messages.message_of w (Messages.place_of w tsn) in grown setup w (Changes.abandoned w n) is g (Moves.quiet-abandoned setup w n g) (count-abandoned w n)
 released-after setup w (E.Skip upto names) is g = omega arith
 released-after setup w (E.Ack credit) is g = omega arith
-released-after setup w (E.Arrive k) is g = omega (arith, released-same w (Changes.came w (slice_get w.network k)) (Network.same-came w (slice_get w.network k)).shape_is (as-datagram w (slice_get w.network k)).slots, none-came w (slice_get w.network k))
+released-after setup w (E.Arrive k) is g = omega (arith, released-same w (Changes.datagram_received w (slice_get w.network k)) (Network.same-received w (slice_get w.network k)).shape_is (as-datagram w (slice_get w.network k)).slots, none-received w (slice_get w.network k))
 released-after setup w (E.Acked k) is g = released-acked w (slice_get w.network k)
 released-after setup w (E.Read s) is g = omega (arith, released-same w (Changes.read_from w s) (Network.same-read w s (next_read w s)).shape_is (as-read w s (next_read w s)).slots, none-read w (next_read w s))
 
@@ -252,8 +252,8 @@ released-run setup (entry ∷ older) is run =
     ∙ ap (λ r. released (world_of setup older) + released_by r) (sym run.1.0)
     ∙ ap (λ c. c + released_by entry.1) (released-run setup older is run.1.1)
 
-pub sums_are_told : OnEveryRun SumsAreTold
-sums_are_told setup h is run = (
+pub sums_agree : OnEveryRun SumsAgree
+sums_agree setup h is run = (
   total-told length_shown (λ n. shown_part ((shape (world_of setup h)).message n)) (kept always 0 (length (world_of setup h).messages)) ∙ ap (total_shown length_shown) (messages_are_writes setup h is run),
   released-run setup h is run,
 )

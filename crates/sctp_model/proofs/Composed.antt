@@ -11,7 +11,7 @@ use Rattle.sctp_lists.proofs.More.{not_both, both, and, same_test}
 use Rattle.sctp_model.specs.World.{World}
 use Rattle.sctp_model.specs.Messages
 use Rattle.sctp_model.specs.Log
-use Rattle.sctp_model.specs.Log.{Coming, SlotCame, SkipCame, SackMade, arrived_new, is_skipped, were_whole, is_whole_by, run_by, whole_by, named_by, log_of, Shown}
+use Rattle.sctp_model.specs.Log.{LogEntry, SlotReceived, SkipReceived, SackMade, arrived_new, is_skipped, were_whole, is_whole_by, run_by, whole_by, named_by, log_of, Shown}
 use Rattle.sctp_model.specs.Steps.{world_of}
 use Rattle.sctp_model.specs.Laws.{OnEveryRun, NothingWhereRead, ReadsAreSettled, fragment_arrived, mode_of, shown_of}
 use Rattle.sctp_model.proofs.Shape.{Shape, shape, has, sent, on}
@@ -34,12 +34,12 @@ use Rattle.sctp_lists.proofs.Tests.{any-out, any-in, all-out, all-more, among-ke
 
 -- ## Whole messages, where no skip came
 
-arrived-more : (c : Coming) (log : List Coming) (p : ℕ) → arrived_new log p ≡ true → arrived_new (c ∷ log) p ≡ true
-arrived-more (SlotCame q) log p e = or-left (arrived_new log p) ((q == p) && not (Log.is_seen log p)) e
-arrived-more (SkipCame upto names) log p e = e
+arrived-more : (c : LogEntry) (log : List LogEntry) (p : ℕ) → arrived_new log p ≡ true → arrived_new (c ∷ log) p ≡ true
+arrived-more (SlotReceived q) log p e = or-left (arrived_new log p) ((q == p) && not (Log.is_seen log p)) e
+arrived-more (SkipReceived upto names) log p e = e
 arrived-more SackMade log p e = e
 
-were-arrived : (places : List ℕ) (log : List Coming) → were_whole places log ≡ true → list_all (arrived_new log) places ≡ true
+were-arrived : (places : List ℕ) (log : List LogEntry) → were_whole places log ≡ true → list_all (arrived_new log) places ≡ true
 were-arrived places [] e = cc
 were-arrived places (c ∷ log) e = side (or-split (were_whole places log) (list_all (λ p. arrived_new (c ∷ log) p && not (is_skipped (c ∷ log) p)) places) e) (λ h. were-arrived places log h)
   where
@@ -47,14 +47,14 @@ were-arrived places (c ∷ log) e = side (or-split (were_whole places log) (list
     side (inl h) ih = all-more (arrived_new log) (arrived_new (c ∷ log)) places (λ p. arrived-more c log p) (ih h)
     side (inr h) ih = all-more (λ p. arrived_new (c ∷ log) p && not (is_skipped (c ∷ log) p)) (arrived_new (c ∷ log)) places (λ p g. (both (arrived_new (c ∷ log) p) (not (is_skipped (c ∷ log) p)) g).0) h
 
-arrived-were : (places : List ℕ) (log : List Coming) → list_any is_skip log ≡ false → 0 < length places → list_all (arrived_new log) places ≡ true → were_whole places log ≡ true
+arrived-were : (places : List ℕ) (log : List LogEntry) → list_any is_skip log ≡ false → 0 < length places → list_all (arrived_new log) places ≡ true → were_whole places log ≡ true
 arrived-were [] log n some e = absurd (omega arith)
 arrived-were (p ∷ ps) [] n some e = cc
 arrived-were (p ∷ ps) (c ∷ log) n some e =
     or-right (were_whole (p ∷ ps) log) (list_all (λ q. arrived_new (c ∷ log) q && not (is_skipped (c ∷ log) q)) (p ∷ ps))
     (all-more (arrived_new (c ∷ log)) (λ q. arrived_new (c ∷ log) q && not (is_skipped (c ∷ log) q)) (p ∷ ps) (λ q h. and (arrived_new (c ∷ log) q) (not (is_skipped (c ∷ log) q)) h (ap not (none-skipped (c ∷ log) q n))) e)
 
-module _ (w : World) (log : List Coming) (n : ℕ) (s : Sender (shape w)) (none : list_any is_skip log ≡ false) (lt : n < length w.messages) where
+module _ (w : World) (log : List LogEntry) (n : ℕ) (s : Sender (shape w)) (none : list_any is_skip log ≡ false) (lt : n < length w.messages) where
   abbrev x : Shape
   x = shape w
 
@@ -106,9 +106,9 @@ module _ (w : World) (log : List Coming) (n : ℕ) (s : Sender (shape w)) (none 
           let count = same-is (Messages.sent_of w n) (Messages.fragment_count w n) (both (Messages.sent_of w n == Messages.fragment_count w n) (if (Messages.message_at w n).ordered then list_all (arrived_new log) (Messages.slots_of w n) else were_whole (Messages.slots_of w n) log) e).0 in
           all-kept (fragment_arrived w log n) always 0 (Messages.fragment_count w n) (λ i a b f.
           let r = slot-for i (omega (arith, count)) in
-          let came = all-out (arrived_new log) (has x n) r.0 0 (length w.slots) (all-arrived e) (omega arith) (omega (arith, r.1)) r.2 in
+          let datagram_received = all-out (arrived_new log) (has x n) r.0 0 (length w.slots) (all-arrived e) (omega arith) (omega (arith, r.1)) r.2 in
           any-in (arrived_as i) always r.0 0 (length w.slots) (omega arith) (omega (arith, r.1)) refl
-          (and (has x n r.0) (((Messages.slot_at w r.0).fragment == i) && arrived_new log r.0) r.2 (and ((Messages.slot_at w r.0).fragment == i) (arrived_new log r.0) (ap (λ k. k == i) r.3 ∙ same-yes i) came)))
+          (and (has x n r.0) (((Messages.slot_at w r.0).fragment == i) && arrived_new log r.0) r.2 (and ((Messages.slot_at w r.0).fragment == i) (arrived_new log r.0) (ap (λ k. k == i) r.3 ∙ same-yes i) datagram_received)))
 
       place : (i : ℕ) → fragment_arrived w log n i ≡ true → (p : ℕ) × (p < length w.slots) × (has x n p ≡ true) × ((Messages.slot_at w p).fragment ≡ i) × (arrived_new log p ≡ true)
       place i e =
@@ -167,7 +167,7 @@ leading-same {A} f g t u p from (suc count) same values = step (p from) (t from)
     step false b c e v ih x y = ih
 
 -- the unordered messages that became whole are those that are whole
-whole-among : (w : World) (s n : ℕ) (log : List Coming) → list_any (λ k. k == n) (whole_by w log s) ≡ (nat_lt n (length w.messages) && (Messages.is_unordered_on w s n && is_whole_by w log n))
+whole-among : (w : World) (s n : ℕ) (log : List LogEntry) → list_any (λ k. k == n) (whole_by w log s) ≡ (nat_lt n (length w.messages) && (Messages.is_unordered_on w s n && is_whole_by w log n))
 whole-among w s n [] = sym (none (nat_lt n (length w.messages)) ((Messages.message_at w n).stream == s) (Messages.message_at w n).ordered (Messages.sent_of w n == Messages.fragment_count w n))
   where
     none : (a b o d : Bool) → (a && ((b && not o) && (d && (if o then list_all (arrived_new []) (Messages.slots_of w n) else false)))) ≡ false
@@ -200,7 +200,7 @@ whole-among w s n (c ∷ log) =
     joined false b o e old new x y = refl
 
 -- the run, where nothing is named
-run-whole : (w : World) (log : List Coming) (s : ℕ) → list_any is_skip log ≡ false → run_by w log s ≡ leading (is_whole_by w log) (Messages.ordered_on w s)
+run-whole : (w : World) (log : List LogEntry) (s : ℕ) → list_any is_skip log ≡ false → run_by w log s ≡ leading (is_whole_by w log) (Messages.ordered_on w s)
 run-whole w log s none =
     ap (λ k. passing (is_whole_by w log) (take k (Messages.ordered_on w s)) ++ leading (is_whole_by w log) (drop k (Messages.ordered_on w s))) (none-named w s log none)
     ∙ front (Messages.ordered_on w s)
@@ -225,7 +225,7 @@ twice false true e = cc
 twice false false e = refl
 
 reads-settled : OnEveryRun NothingWhereRead → ReadsAreSettled
-reads-settled nothing setup g h s is a b writes came =
+reads-settled nothing setup g h s is a b writes datagram_received =
     let v = world_of setup g in
     let w = world_of setup h in
     let l = log_of setup g in
@@ -268,7 +268,7 @@ reads-settled nothing setup g h s is a b writes came =
     whole-same n lt =
         whole-settled (world_of setup g) (log_of setup g) n (sane-run setup g a.run).sender (no-skips setup g a.lossless) (omega (arith, lt, counts))
         ∙ ap (λ c. list_all (fragment_arrived (world_of setup g) (log_of setup g) n) (numbers_from 0 c)) (parts-same n lt)
-        ∙ all-same (fragment_arrived (world_of setup g) (log_of setup g) n) (fragment_arrived (world_of setup h) (log_of setup h) n) 0 (Messages.fragment_count (world_of setup h) n) (came n)
+        ∙ all-same (fragment_arrived (world_of setup g) (log_of setup g) n) (fragment_arrived (world_of setup h) (log_of setup h) n) 0 (Messages.fragment_count (world_of setup h) n) (datagram_received n)
         ∙ sym (whole-settled (world_of setup h) (log_of setup h) n (sane-run setup h b.run).sender (no-skips setup h b.lossless) lt)
 
     on-same : (n : ℕ) → n < length (world_of setup h).messages → on (shape (world_of setup g)) s n ≡ on (shape (world_of setup h)) s n

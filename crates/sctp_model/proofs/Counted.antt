@@ -23,7 +23,7 @@ use Rattle.sctp_model.specs.Steps.{History, world_of, IsRun, refusal_of, reply_t
 use Rattle.sctp_model.specs.Laws.{IsSetup, OnEveryRun, AllDifferent, ReadsShowMessages, ReadsDiffer, CountersAreSums, shown_of}
 use Rattle.sctp_model.proofs.SenderRun.{sane-run}
 use Rattle.sctp_model.proofs.Moves
-use Rattle.sctp_model.proofs.Lifetimes.{messages-came, messages-taken}
+use Rattle.sctp_model.proofs.Lifetimes.{messages-received, messages-taken}
 use Rattle.sctp_model.proofs.Written.{messages_are_writes}
 use Rattle.sctp_model.proofs.BytesTold.{total-told}
 use Rattle.sctp_lists.proofs.Cases.{by_same, same-yes, same-is}
@@ -220,7 +220,7 @@ marked-run show setup ((event, r) ∷ older) is run = by_event event r run.0 run
     by_event (E.Abandon tsn) r ok f all m = let q = quiet (after (world_of setup older) (E.Abandon tsn)) (Moves.quiet-abandoned setup (world_of setup older) (Messages.message_of (world_of setup older) (Messages.place_of (world_of setup older) tsn)) (sane-run setup older run.1.1)) m in record { is = q.is; made = q.made }
     by_event (E.Skip a b) r ok f all m = record { is = m.is; made = m.made }
     by_event (E.Ack a) r ok f all m = record { is = m.is; made = m.made }
-    by_event (E.Arrive k) r ok f all m = let q = same (after (world_of setup older) (E.Arrive k)) (messages-came (world_of setup older) (slice_get (world_of setup older).network k)) m in record { is = q.is; made = q.made }
+    by_event (E.Arrive k) r ok f all m = let q = same (after (world_of setup older) (E.Arrive k)) (messages-received (world_of setup older) (slice_get (world_of setup older).network k)) m in record { is = q.is; made = q.made }
     by_event (E.Acked k) r ok f all m = let q = same (after (world_of setup older) (E.Acked k)) (messages-taken (world_of setup older) (slice_get (world_of setup older).network k)) m in record { is = q.is; made = q.made }
 
 -- ## The law

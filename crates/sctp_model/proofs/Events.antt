@@ -13,54 +13,54 @@ use Rattle.sctp_model.specs.Messages
 use Rattle.sctp_model.specs.Receiver
 use Rattle.sctp_model.specs.Changes
 use Rattle.sctp_model.specs.Steps.{History, world_of, IsRun, refusal_of, after}
-use Rattle.sctp_model.specs.Log.{Coming, SlotCame, SkipCame, SackMade, Made, made_in, datagram_comes, slots_come, log_of}
+use Rattle.sctp_model.specs.Log.{LogEntry, SlotReceived, SkipReceived, SackMade, Made, made_in, datagram_comes, slots_come, log_of}
 use Rattle.sctp_model.specs.Laws.{IsSetup, kind_of}
 use Rattle.sctp_model.proofs.Shape.{shape}
-use Rattle.sctp_model.proofs.SenderRun.{Sane, sane-run, sane-after, sane-came, unless-holds}
+use Rattle.sctp_model.proofs.SenderRun.{Sane, sane-run, sane-after, sane-received, unless-holds}
 use Rattle.sctp_model.proofs.Moves.{Quiet, quiet-none, quiet-datagram, quiet-written, quiet-started, quiet-sent, quiet-expire, quiet-tail, quiet-lates, quiet-abandoned}
 use Rattle.sctp_model.proofs.Network.{SlotsFit, NamesFit, Fits, fit-at, fit-run, same-slot}
 use Rattle.sctp_model.proofs.Made.{made-run}
 use Rattle.sctp_lists.proofs.Cases.{negated}
 
 -- each change keeps P, which speaks of the record and of what came
-pub record Keeps (setup : Setup) (P : World → List Coming → Type 0) : Type 0 where
+pub record Keeps (setup : Setup) (P : World → List LogEntry → Type 0) : Type 0 where
   pub begins : P (start setup) []
-  pub quiet : (w v : World) (log : List Coming) → Sane setup w → Sane setup v → Quiet w v → P w log → P v log
-  pub opened : (w : World) (log : List Coming) (s : ℕ) → Sane setup w → Messages.is_open w s ≡ false → P w log → P (Changes.opened w s) log
-  pub moded : (w : World) (log : List Coming) (s : ℕ) (unordered : Bool) (reliability : ReliabilityType) (value : ℕ) → Sane setup w → P w log → P (Changes.mode_set w s unordered reliability value) log
-  pub slot : (w : World) (log : List Coming) (p : ℕ) → Sane setup w → p < length w.slots → (Messages.slot_at w p).is_end_mark ≡ false → P w log → P (Changes.slot_came w p) (SlotCame p ∷ log)
-  pub skip : (w : World) (log : List Coming) (upto : ℕ) (names : List ℕ) → Sane setup w → upto < length w.slots → NamesFit (shape w) upto names → P w log → P (Changes.skip_came w upto names) (SkipCame upto names ∷ log)
-  pub reported : (w : World) (log : List Coming) (credit : ℕ) → Sane setup w → P w log → P (Changes.reported w credit) (SackMade ∷ log)
-  pub taken : (w : World) (log : List Coming) (r : Report) → Sane setup w → P w log → P (Changes.sack_taken w (Some (Sack r))) log
-  pub read : (w : World) (log : List Coming) (s n : ℕ) → Sane setup w → Messages.is_open w s ≡ true → Receiver.next_read w s ≡ Some n → P w log → P (Changes.read_of w s (Some n)) log
+  pub quiet : (w v : World) (log : List LogEntry) → Sane setup w → Sane setup v → Quiet w v → P w log → P v log
+  pub opened : (w : World) (log : List LogEntry) (s : ℕ) → Sane setup w → Messages.is_open w s ≡ false → P w log → P (Changes.opened w s) log
+  pub moded : (w : World) (log : List LogEntry) (s : ℕ) (unordered : Bool) (reliability : ReliabilityType) (value : ℕ) → Sane setup w → P w log → P (Changes.mode_set w s unordered reliability value) log
+  pub slot : (w : World) (log : List LogEntry) (p : ℕ) → Sane setup w → p < length w.slots → (Messages.slot_at w p).is_end_mark ≡ false → P w log → P (Changes.slot_received w p) (SlotReceived p ∷ log)
+  pub skip : (w : World) (log : List LogEntry) (upto : ℕ) (names : List ℕ) → Sane setup w → upto < length w.slots → NamesFit (shape w) upto names → P w log → P (Changes.skip_received w upto names) (SkipReceived upto names ∷ log)
+  pub reported : (w : World) (log : List LogEntry) (credit : ℕ) → Sane setup w → P w log → P (Changes.reported w credit) (SackMade ∷ log)
+  pub taken : (w : World) (log : List LogEntry) (r : Report) → Sane setup w → P w log → P (Changes.sack_taken w (Some (Sack r))) log
+  pub read : (w : World) (log : List LogEntry) (s n : ℕ) → Sane setup w → Messages.is_open w s ≡ true → Receiver.next_read w s ≡ Some n → P w log → P (Changes.read_of w s (Some n)) log
 
 -- what each change but a read keeps
-pub record Moving (setup : Setup) (P : World → List Coming → Type 0) : Type 0 where
-  pub quiet : (w v : World) (log : List Coming) → Sane setup w → Sane setup v → Quiet w v → P w log → P v log
-  pub opened : (w : World) (log : List Coming) (s : ℕ) → Sane setup w → Messages.is_open w s ≡ false → P w log → P (Changes.opened w s) log
-  pub moded : (w : World) (log : List Coming) (s : ℕ) (unordered : Bool) (reliability : ReliabilityType) (value : ℕ) → Sane setup w → P w log → P (Changes.mode_set w s unordered reliability value) log
-  pub slot : (w : World) (log : List Coming) (p : ℕ) → Sane setup w → p < length w.slots → (Messages.slot_at w p).is_end_mark ≡ false → P w log → P (Changes.slot_came w p) (SlotCame p ∷ log)
-  pub skip : (w : World) (log : List Coming) (upto : ℕ) (names : List ℕ) → Sane setup w → upto < length w.slots → NamesFit (shape w) upto names → P w log → P (Changes.skip_came w upto names) (SkipCame upto names ∷ log)
-  pub reported : (w : World) (log : List Coming) (credit : ℕ) → Sane setup w → P w log → P (Changes.reported w credit) (SackMade ∷ log)
-  pub taken : (w : World) (log : List Coming) (r : Report) → Sane setup w → P w log → P (Changes.sack_taken w (Some (Sack r))) log
+pub record Moving (setup : Setup) (P : World → List LogEntry → Type 0) : Type 0 where
+  pub quiet : (w v : World) (log : List LogEntry) → Sane setup w → Sane setup v → Quiet w v → P w log → P v log
+  pub opened : (w : World) (log : List LogEntry) (s : ℕ) → Sane setup w → Messages.is_open w s ≡ false → P w log → P (Changes.opened w s) log
+  pub moded : (w : World) (log : List LogEntry) (s : ℕ) (unordered : Bool) (reliability : ReliabilityType) (value : ℕ) → Sane setup w → P w log → P (Changes.mode_set w s unordered reliability value) log
+  pub slot : (w : World) (log : List LogEntry) (p : ℕ) → Sane setup w → p < length w.slots → (Messages.slot_at w p).is_end_mark ≡ false → P w log → P (Changes.slot_received w p) (SlotReceived p ∷ log)
+  pub skip : (w : World) (log : List LogEntry) (upto : ℕ) (names : List ℕ) → Sane setup w → upto < length w.slots → NamesFit (shape w) upto names → P w log → P (Changes.skip_received w upto names) (SkipReceived upto names ∷ log)
+  pub reported : (w : World) (log : List LogEntry) (credit : ℕ) → Sane setup w → P w log → P (Changes.reported w credit) (SackMade ∷ log)
+  pub taken : (w : World) (log : List LogEntry) (r : Report) → Sane setup w → P w log → P (Changes.sack_taken w (Some (Sack r))) log
 
-pub moving-of : (setup : Setup) (P : World → List Coming → Type 0) → Keeps setup P → Moving setup P
+pub moving-of : (setup : Setup) (P : World → List LogEntry → Type 0) → Keeps setup P → Moving setup P
 moving-of setup P k = record { quiet = k.quiet; opened = k.opened; moded = k.moded; slot = k.slot; skip = k.skip; reported = k.reported; taken = k.taken }
 
-module _ (setup : Setup) (P : World → List Coming → Type 0) (keeps : Moving setup P) where
-  slots-keep : (ps : List ℕ) (w : World) (log : List Coming) → Sane setup w → SlotsFit (shape w) ps → P w log → P (fold Changes.slot_came w ps) (slots_come ps log)
+module _ (setup : Setup) (P : World → List LogEntry → Type 0) (keeps : Moving setup P) where
+  slots-keep : (ps : List ℕ) (w : World) (log : List LogEntry) → Sane setup w → SlotsFit (shape w) ps → P w log → P (fold Changes.slot_received w ps) (slots_come ps log)
   slots-keep [] w log g f p = p
   slots-keep (q ∷ ps) w log g f p =
-      slots-keep ps (Changes.slot_came w q) (SlotCame q ∷ log) (sane-came setup w q g) (subst (λ x. SlotsFit x ps) (sym (same-slot w q).shape_is) f.2)
+      slots-keep ps (Changes.slot_received w q) (SlotReceived q ∷ log) (sane-received setup w q g) (subst (λ x. SlotsFit x ps) (sym (same-slot w q).shape_is) f.2)
       (keeps.slot w log q g f.0 f.1 p)
 
-  arrive-keeps : (w : World) (log : List Coming) (o : Option Datagram) (m : Option Made) → Sane setup w → ((d : Datagram) → o ≡ Some d → (Fits (shape w) d) × (m ≡ Some (kind_of d))) → (o ≡ None → m ≡ None) → P w log → P (Changes.came w o) (datagram_comes m log)
+  arrive-keeps : (w : World) (log : List LogEntry) (o : Option Datagram) (m : Option Made) → Sane setup w → ((d : Datagram) → o ≡ Some d → (Fits (shape w) d) × (m ≡ Some (kind_of d))) → (o ≡ None → m ≡ None) → P w log → P (Changes.datagram_received w o) (datagram_comes m log)
   arrive-keeps w log None m g f none p = subst (λ x. P w (datagram_comes x log)) (sym (none refl)) p
-  arrive-keeps w log (Some (W.Data ps)) m g f none p = let a = f (W.Data ps) refl in subst (λ x. P (fold Changes.slot_came w ps) (datagram_comes x log)) (sym a.1) (slots-keep ps w log g a.0 p)
-  arrive-keeps w log (Some (Forward upto names)) m g f none p = let a = f (Forward upto names) refl in subst (λ x. P (Changes.skip_came w upto names) (datagram_comes x log)) (sym a.1) (keeps.skip w log upto names g a.0.0 a.0.1 p)
+  arrive-keeps w log (Some (W.Data ps)) m g f none p = let a = f (W.Data ps) refl in subst (λ x. P (fold Changes.slot_received w ps) (datagram_comes x log)) (sym a.1) (slots-keep ps w log g a.0 p)
+  arrive-keeps w log (Some (Forward upto names)) m g f none p = let a = f (Forward upto names) refl in subst (λ x. P (Changes.skip_received w upto names) (datagram_comes x log)) (sym a.1) (keeps.skip w log upto names g a.0.0 a.0.1 p)
   arrive-keeps w log (Some (Sack r)) m g f none p = let a = f (Sack r) refl in subst (λ x. P w (datagram_comes x log)) (sym a.1) p
 
-  taken-keeps : (w : World) (log : List Coming) (o : Option Datagram) → Sane setup w → P w log → P (Changes.sack_taken w o) log
+  taken-keeps : (w : World) (log : List LogEntry) (o : Option Datagram) → Sane setup w → P w log → P (Changes.sack_taken w o) log
   taken-keeps w log None g p = p
   taken-keeps w log (Some (W.Data ps)) g p = p
   taken-keeps w log (Some (Forward upto names)) g p = p
@@ -82,7 +82,7 @@ is_read (E.Read s) = true
 is_read event = false
 
 -- an event that is no read
-pub step-moves : (setup : Setup) (P : World → List Coming → Type 0) → Moving setup P → (older : History) → IsSetup setup → IsRun setup older → (e : Event) (r : Reply) → is_read e ≡ false → refusal_of (world_of setup older) e ≡ None → P (world_of setup older) (log_of setup older) → P (after (world_of setup older) e) (log_of setup ((e, r) ∷ older))
+pub step-moves : (setup : Setup) (P : World → List LogEntry → Type 0) → Moving setup P → (older : History) → IsSetup setup → IsRun setup older → (e : Event) (r : Reply) → is_read e ≡ false → refusal_of (world_of setup older) e ≡ None → P (world_of setup older) (log_of setup older) → P (after (world_of setup older) e) (log_of setup ((e, r) ∷ older))
 step-moves setup P keeps older is run e r no' ok p = by e r no' (sane-run setup older run) ok (sane-after setup (world_of setup older) e ok (sane-run setup older run)) p
   where
     by : (e : Event) (r : Reply) → is_read e ≡ false → Sane setup (world_of setup older) → refusal_of (world_of setup older) e ≡ None → Sane setup (after (world_of setup older) e) → P (world_of setup older) (log_of setup older) → P (after (world_of setup older) e) (log_of setup ((e, r) ∷ older))
@@ -107,7 +107,7 @@ step-moves setup P keeps older is run e r no' ok p = by e r no' (sane-run setup 
     by (E.Read s) r no' g ok a p = cc
 
 -- in every history
-pub run-keeps : (setup : Setup) (P : World → List Coming → Type 0) → Keeps setup P → (h : History) → IsSetup setup → IsRun setup h → P (world_of setup h) (log_of setup h)
+pub run-keeps : (setup : Setup) (P : World → List LogEntry → Type 0) → Keeps setup P → (h : History) → IsSetup setup → IsRun setup h → P (world_of setup h) (log_of setup h)
 run-keeps setup P keeps [] is run = keeps.begins
 run-keeps setup P keeps ((E.Read s, r) ∷ older) is run =
     reads (Receiver.next_read (world_of setup older) s) refl (run-keeps setup P keeps older is run.1.1)

@@ -1,9 +1,9 @@
 -- All laws at once.
-use Rattle.sctp_model.specs.Laws.{EachSendEmits, SlotsAreSound, ArrivalsAreTold, OrderedReads, UnorderedReads, NothingWhenExhausted, OnlyArrivedIsAcknowledged, BytesBalance, LifetimesEnd, CountersCount, Headline, Beside, ReliableDelivery, PartialDelivery}
+use Rattle.sctp_model.specs.Laws.{EachSendEmits, SlotsAreSound, ArrivalsAgree, OrderedReads, UnorderedReads, NothingWhenExhausted, OnlyArrivedIsAcknowledged, BytesBalance, LifetimesEnd, CountersCount, Headline, Beside, ReliableDelivery, PartialDelivery}
 use Rattle.sctp_model.proofs.Acknowledged.{acknowledged_arrived, acknowledged_is_reported, sacks_say}
 use Rattle.sctp_model.proofs.Arrivals.{arrived_is_new, cumulative_is_seen, arrivals_answered}
 use Rattle.sctp_model.proofs.Bytes.{balances}
-use Rattle.sctp_model.proofs.BytesTold.{sums_are_told}
+use Rattle.sctp_model.proofs.BytesTold.{sums_agree}
 use Rattle.sctp_model.proofs.Counted.{reads_differ, counters_are_sums}
 use Rattle.sctp_model.proofs.KnownRun.{whole_is_whole}
 use Rattle.sctp_model.proofs.Lifetimes.{starts_once, late_abandons_listed}
@@ -24,7 +24,7 @@ each-send = (emits_where_pending, takes_pending)
 slots : SlotsAreSound
 slots = (slots_in_order, (slots_follow, (one_half_sent, (sent_in_turn, (indexes_leave_no_gap, (no_end_mark_is_sent, datagrams_stay))))))
 
-arrivals : ArrivalsAreTold
+arrivals : ArrivalsAgree
 arrivals = (network_is_made, (arrived_is_new, (cumulative_is_seen, (arrivals_answered, (whole_is_whole, (named_is_named, spans_fit_always))))))
 
 ordered : OrderedReads
@@ -40,7 +40,7 @@ acknowledged : OnlyArrivedIsAcknowledged
 acknowledged = (acknowledged_arrived, (acknowledged_is_reported, sacks_say))
 
 bytes : BytesBalance
-bytes = (balances, sums_are_told)
+bytes = (balances, sums_agree)
 
 lifetimes : LifetimesEnd
 lifetimes = (starts_once, late_abandons_listed)

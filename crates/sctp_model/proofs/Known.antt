@@ -13,7 +13,7 @@ use Rattle.sctp_model.specs.Messages
 use Rattle.sctp_model.specs.Receiver.{is_new}
 use Rattle.sctp_model.specs.Changes
 use Rattle.sctp_model.specs.Log
-use Rattle.sctp_model.specs.Log.{Coming, SlotCame, SkipCame, SackMade}
+use Rattle.sctp_model.specs.Log.{LogEntry, SlotReceived, SkipReceived, SackMade}
 use Rattle.sctp_model.specs.Laws.{AllDifferent}
 use Rattle.sctp_model.proofs.Shape.{has, on, sent, parts}
 use Rattle.sctp_model.proofs.Sender.{Sender}
@@ -97,20 +97,20 @@ pub record IsReady (v : View) (s n : ℕ) : Type 0 where
   pub kind : (v.x.message n).ordered ≡ false
   pub unread : v.read n ≡ false
 
-pub record Whole (v : View) (log : List Coming) : Type 0 where
-  pub came : Wholes.SlotsCame v.x log
+pub record Whole (v : View) (log : List LogEntry) : Type 0 where
+  pub datagram_received : Wholes.SlotsReceived v.x log
   pub ready : (s n : ℕ) → list_any (λ k. k == n) (v.whole s) ≡ true → IsReady v s n
   pub differ : (s : ℕ) → AllDifferent (v.whole s)
   pub agrees : (n : ℕ) → n < v.x.count → whole_at v n ≡ Wholes.whole_in v.x log n
 
-pub record Known (w : World) (log : List Coming) : Type 0 where
+pub record Known (w : World) (log : List LogEntry) : Type 0 where
   pub heard : Heard w log
   pub whole : Whole (view w) log
 
-pub hears : (w : World) (log : List Coming) → Heard w log → Wholes.Hears (view w) log
+pub hears : (w : World) (log : List LogEntry) → Heard w log → Wholes.Hears (view w) log
 hears w log h = record { arrived = h.arrived; covered = h.covered }
 
-pub whole-as : (u v : View) (log : List Coming) → v ≡ u → Whole u log → Whole v log
+pub whole-as : (u v : View) (log : List LogEntry) → v ≡ u → Whole u log → Whole v log
 whole-as u v log e h = subst (λ y. Whole y log) (sym e) h
 
 -- ## The sender's changes
@@ -118,9 +118,9 @@ whole-as u v log e h = subst (λ y. Whole y log) (sym e) h
 different-same : (xs ys : List ℕ) → ys ≡ xs → AllDifferent xs → AllDifferent ys
 different-same xs ys e a = subst AllDifferent (sym e) a
 
-pub whole-quiet : (u v : View) (log : List Coming) → ((p : ℕ) → u.arrived p ≡ Log.arrived_new log p) → Still u v → Whole u log → Whole v log
+pub whole-quiet : (u v : View) (log : List LogEntry) → ((p : ℕ) → u.arrived p ≡ Log.arrived_new log p) → Still u v → Whole u log → Whole v log
 whole-quiet u v log heard s h = record {
-  came = Wholes.came-later u.x v.x s.grows.slots log h.came;
+  datagram_received = Wholes.received-later u.x v.x s.grows.slots log h.datagram_received;
   ready = λ t n e. let r = h.ready t n (ap (list_any (λ k. k == n)) (sym (s.whole t)) ∙ e) in
       record { made = omega (arith, r.made, s.grows.count); stream = ap (λ m. m.stream) (s.grows.message n r.made) ∙ r.stream; kind = ap (λ m. m.ordered) (s.grows.message n r.made) ∙ r.kind; unread = s.read n r.made ∙ r.unread };
   differ = λ t. different-same (u.whole t) (v.whole t) (s.whole t) (h.differ t);
@@ -144,7 +144,7 @@ whole-quiet u v log heard s h = record {
         let z = same-is (come_count v n) (parts v.x n) y in absurd (omega (arith, z, come-still u v s n, come-sent u n, sent-none u.x n s.sender ge, s.sender'.some n lt)))
 
     by : (n : ℕ) → n < v.x.count → (n < u.x.count) ⊎ (u.x.count ≤ n) → whole_at v n ≡ Wholes.whole_in v.x log n
-    by n lt (inl l) = whole-still u v s n l ∙ h.agrees n l ∙ sym (Wholes.whole-later u.x v.x s.sender s.sender' s.grows log h.came n l)
+    by n lt (inl l) = whole-still u v s n l ∙ h.agrees n l ∙ sym (Wholes.whole-later u.x v.x s.sender s.sender' s.grows log h.datagram_received n l)
     by n lt (inr ge) = new-at n lt ge ∙ sym (new-in n lt ge)
 
 -- ## A slot comes
@@ -152,8 +152,8 @@ whole-quiet u v log heard s h = record {
 abbrev pub noting : View → ℕ → View
 noting v n = if not (v.x.message n).ordered && Wholes.due v n then noted_in v (v.x.message n).stream n else v
 
-pub view-came : (setup : Setup) (w : World) (p : ℕ) → Sane setup w → p < length w.slots → is_new w p ≡ true → view (Changes.slot_came w p) ≡ noting (arrived_in (view w) p) (Messages.message_of w p)
-view-came setup w p g lt new = ap (λ b. view (if b then Changes.whole_noted (with_arrived w p) (Messages.message_of w p) else record w { duplicates = w.duplicates ++ p ∷ [] })) new
+pub view-received : (setup : Setup) (w : World) (p : ℕ) → Sane setup w → p < length w.slots → is_new w p ≡ true → view (Changes.slot_received w p) ≡ noting (arrived_in (view w) p) (Messages.message_of w p)
+view-received setup w p g lt new = ap (λ b. view (if b then Changes.whole_noted (with_arrived w p) (Messages.message_of w p) else record w { duplicates = w.duplicates ++ p ∷ [] })) new
     ∙ step (Changes.becomes_whole (with_arrived w p) (Messages.message_of w p))
     ∙ ap (λ v. noting v (Messages.message_of w p)) (View.view-arrived w p lt)
   where
@@ -186,7 +186,7 @@ come-other v p n ne = ap length (kept-same (has_come (arrived_in v p) n) (has_co
     (λ e. let off : has v.x n k ≡ false = fails (has v.x n k) (λ i. ne (sym (ap (λ q. (v.x.slot q).message) e) ∙ (of-has v.x n k i).0)) in rw off refl)
     (λ nk f. ap (λ b. has v.x n k && (if b then true else v.arrived k)) f)))
 
-module _ (v : View) (log : List Coming) (p : ℕ) (s : Sender v.x) (h : Whole v log) (heard : Wholes.Hears v log) (heard' : Wholes.Hears (arrived_in v p) (SlotCame p ∷ log)) (lt : p < v.x.slots) (mark : (v.x.slot p).is_end_mark ≡ false) (new : v.arrived p ≡ false) where
+module _ (v : View) (log : List LogEntry) (p : ℕ) (s : Sender v.x) (h : Whole v log) (heard : Wholes.Hears v log) (heard' : Wholes.Hears (arrived_in v p) (SlotReceived p ∷ log)) (lt : p < v.x.slots) (mark : (v.x.slot p).is_end_mark ≡ false) (new : v.arrived p ≡ false) where
   abbrev m : ℕ
   m = (v.x.slot p).message
 
@@ -254,34 +254,34 @@ module _ (v : View) (log : List Coming) (p : ℕ) (s : Sender v.x) (h : Whole v 
           by false e = ap (λ b. whole_at v n || b) (due-other n ne ∙ e)
           by true e = let y : whole_at v n ≡ true = h.agrees n l ∙ Wholes.due-whole v log n heard (s.within n l) (s.some n l) o e in ap (λ b. b || Wholes.due v1 n) y ∙ sym (ap (λ b. b || false) y)
 
-  agrees-then : (n : ℕ) → n < v.x.count → whole_at v2 n ≡ Wholes.whole_in v.x (SlotCame p ∷ log) n
+  agrees-then : (n : ℕ) → n < v.x.count → whole_at v2 n ≡ Wholes.whole_in v.x (SlotReceived p ∷ log) n
   agrees-then n l = by (v.x.message n).ordered refl
     where
       kind : (b : Bool) → (v.x.message n).ordered ≡ true → whole_at (if b then noted_in v1 (v.x.message m).stream m else v1) n ≡ whole_at v1 n
       kind true o = ap (λ b. if b then all_come v1 n else v.read n || list_any (λ k. k == n) (if (v.x.message n).stream == (v.x.message m).stream then v.whole (v.x.message n).stream ++ m ∷ [] else v.whole (v.x.message n).stream)) o ∙ sym (ap (λ b. if b then all_come v1 n else v.read n || list_any (λ k. k == n) (v.whole (v.x.message n).stream)) o)
       kind false o = refl
 
-      by : (b : Bool) → (v.x.message n).ordered ≡ b → whole_at v2 n ≡ Wholes.whole_in v.x (SlotCame p ∷ log) n
-      by true o = kind (not (v.x.message m).ordered && Wholes.due v1 m) o ∙ Wholes.ordered-whole v1 (SlotCame p ∷ log) n heard'.arrived (s.within n l) o
-      by false o = whole-then n l o ∙ ap (λ b. b || Wholes.due v1 n) (h.agrees n l) ∙ sym (Wholes.one-more v1 (SlotCame p) log n heard' (s.within n l) o)
+      by : (b : Bool) → (v.x.message n).ordered ≡ b → whole_at v2 n ≡ Wholes.whole_in v.x (SlotReceived p ∷ log) n
+      by true o = kind (not (v.x.message m).ordered && Wholes.due v1 m) o ∙ Wholes.ordered-whole v1 (SlotReceived p ∷ log) n heard'.arrived (s.within n l) o
+      by false o = whole-then n l o ∙ ap (λ b. b || Wholes.due v1 n) (h.agrees n l) ∙ sym (Wholes.one-more v1 (SlotReceived p) log n heard' (s.within n l) o)
 
-  pub whole-slot : Whole v2 (SlotCame p ∷ log)
+  pub whole-slot : Whole v2 (SlotReceived p ∷ log)
   whole-slot = by (not (v.x.message m).ordered && Wholes.due v1 m) refl
     where
-      by : (b : Bool) → (not (v.x.message m).ordered && Wholes.due v1 m) ≡ b → Whole v2 (SlotCame p ∷ log)
+      by : (b : Bool) → (not (v.x.message m).ordered && Wholes.due v1 m) ≡ b → Whole v2 (SlotReceived p ∷ log)
       by false e =
-          whole-as v1 v2 (SlotCame p ∷ log) (ap (λ b. if b then noted_in v1 (v.x.message m).stream m else v1) e)
+          whole-as v1 v2 (SlotReceived p ∷ log) (ap (λ b. if b then noted_in v1 (v.x.message m).stream m else v1) e)
           (record {
-            came = (lt, h.came);
+            datagram_received = (lt, h.datagram_received);
             ready = λ t n i. let r = h.ready t n i in record { made = r.made; stream = r.stream; kind = r.kind; unread = r.unread };
             differ = h.differ;
             agrees = λ n l. ap (λ b. whole_at (if b then noted_in v1 (v.x.message m).stream m else v1) n) (sym e) ∙ agrees-then n l;
           })
       by true e =
           let kind : (v.x.message m).ordered ≡ false = negated (v.x.message m).ordered (both (not (v.x.message m).ordered) (Wholes.due v1 m) e).0 in
-          whole-as (noted_in v1 (v.x.message m).stream m) v2 (SlotCame p ∷ log) (ap (λ b. if b then noted_in v1 (v.x.message m).stream m else v1) e)
+          whole-as (noted_in v1 (v.x.message m).stream m) v2 (SlotReceived p ∷ log) (ap (λ b. if b then noted_in v1 (v.x.message m).stream m else v1) e)
           (record {
-            came = (lt, h.came);
+            datagram_received = (lt, h.datagram_received);
             ready = λ t n i. waits kind t n (t == (v.x.message m).stream) refl i;
             differ = λ t. apart kind t (t == (v.x.message m).stream) refl;
             agrees = λ n l. ap (λ b. whole_at (if b then noted_in v1 (v.x.message m).stream m else v1) n) (sym e) ∙ agrees-then n l;
@@ -313,7 +313,7 @@ module _ (v : View) (log : List Coming) (p : ℕ) (s : Sender v.x) (h : Whole v 
 -- ## Other things come
 
 -- nothing becomes whole
-agrees-still : (u v : View) (coming : Coming) (log : List Coming) → Wholes.Hears u log → Wholes.Hears v (coming ∷ log) → v.x ≡ u.x → Sender u.x → Whole u log → ((n : ℕ) → n < u.x.count → whole_at v n ≡ whole_at u n) → ((n : ℕ) → Wholes.due v n ≡ true → Wholes.due u n ≡ true) → (n : ℕ) → n < u.x.count → whole_at v n ≡ Wholes.whole_in u.x (coming ∷ log) n
+agrees-still : (u v : View) (coming : LogEntry) (log : List LogEntry) → Wholes.Hears u log → Wholes.Hears v (coming ∷ log) → v.x ≡ u.x → Sender u.x → Whole u log → ((n : ℕ) → n < u.x.count → whole_at v n ≡ whole_at u n) → ((n : ℕ) → Wholes.due v n ≡ true → Wholes.due u n ≡ true) → (n : ℕ) → n < u.x.count → whole_at v n ≡ Wholes.whole_in u.x (coming ∷ log) n
 agrees-still u v coming log heard heard' e s h same less n lt = by (u.x.message n).ordered refl
   where
     s' : Sender v.x
@@ -335,15 +335,15 @@ agrees-still u v coming log heard heard' e s h same less n lt = by (u.x.message 
         gone false f = ap (λ b. Wholes.whole_in u.x log n || b) f ∙ or-none (Wholes.whole_in u.x log n)
 
 -- a slot comes again, or a SACK is made
-pub whole-again : (v : View) (coming : Coming) (log : List Coming) → Wholes.Hears v log → Wholes.Hears v (coming ∷ log) → Sender v.x → Wholes.SlotsCame v.x (coming ∷ log) → Whole v log → Whole v (coming ∷ log)
-whole-again v coming log heard heard' s came h = record { came = came; ready = h.ready; differ = h.differ; agrees = agrees-still v v coming log heard heard' refl s h (λ n lt. refl) (λ n e. e) }
+pub whole-again : (v : View) (coming : LogEntry) (log : List LogEntry) → Wholes.Hears v log → Wholes.Hears v (coming ∷ log) → Sender v.x → Wholes.SlotsReceived v.x (coming ∷ log) → Whole v log → Whole v (coming ∷ log)
+whole-again v coming log heard heard' s datagram_received h = record { datagram_received = datagram_received; ready = h.ready; differ = h.differ; agrees = agrees-still v v coming log heard heard' refl s h (λ n lt. refl) (λ n e. e) }
 
-pub whole-skip : (v : View) (log : List Coming) (upto : ℕ) (names : List ℕ) → Wholes.Hears v log → Wholes.Hears (skipped_in v upto names) (SkipCame upto names ∷ log) → Sender v.x → v.skipped ≤ upto → Whole v log → Whole (skipped_in v upto names) (SkipCame upto names ∷ log)
+pub whole-skip : (v : View) (log : List LogEntry) (upto : ℕ) (names : List ℕ) → Wholes.Hears v log → Wholes.Hears (skipped_in v upto names) (SkipReceived upto names ∷ log) → Sender v.x → v.skipped ≤ upto → Whole v log → Whole (skipped_in v upto names) (SkipReceived upto names ∷ log)
 whole-skip v log upto names heard heard' s le h = record {
-  came = h.came;
+  datagram_received = h.datagram_received;
   ready = λ t n i. let r = h.ready t n i in record { made = r.made; stream = r.stream; kind = r.kind; unread = r.unread };
   differ = h.differ;
-  agrees = agrees-still v (skipped_in v upto names) (SkipCame upto names) log heard heard' refl s h (λ n lt. refl) (λ n e. less n e);
+  agrees = agrees-still v (skipped_in v upto names) (SkipReceived upto names) log heard heard' refl s h (λ n lt. refl) (λ n e. less n e);
 }
   where
     less : (n : ℕ) → Wholes.due (skipped_in v upto names) n ≡ true → Wholes.due v n ≡ true
@@ -409,17 +409,17 @@ pub record HasRead (v : View) (s n : ℕ) : Type 0 where
 any-here : (n : ℕ) (rest : List ℕ) → list_any (λ k. k == n) (n ∷ rest) ≡ true
 any-here n rest = ap (λ b. b || list_any (λ k. k == n) rest) (same-yes n)
 
-pub ready-first : (v : View) (log : List Coming) (s n : ℕ) → Whole v log → ReadsWhole v s n → IsReady v s n
+pub ready-first : (v : View) (log : List LogEntry) (s n : ℕ) → Whole v log → ReadsWhole v s n → IsReady v s n
 ready-first v log s n h r = h.ready s n (ap (list_any (λ k. k == n)) r.is ∙ any-here n r.rest)
 
-pub ready-whole : (v : View) (log : List Coming) (s n : ℕ) → Whole v log → ReadsWhole v s n → whole_at v n ≡ true
+pub ready-whole : (v : View) (log : List LogEntry) (s n : ℕ) → Whole v log → ReadsWhole v s n → whole_at v n ≡ true
 ready-whole v log s n h r =
     let i = ready-first v log s n h r in
     ap (λ b. if b then all_come v n else v.read n || list_any (λ k. k == n) (v.whole (v.x.message n).stream)) i.kind
     ∙ or-right (v.read n) (list_any (λ k. k == n) (v.whole (v.x.message n).stream)) (ap (λ t. list_any (λ k. k == n) (v.whole t)) i.stream ∙ ap (list_any (λ k. k == n)) r.is ∙ any-here n r.rest)
 
 -- other messages are whole as they were, and so is this one
-pub whole-read : (v : View) (log : List Coming) (s n : ℕ) → Whole v log → ReadsWhole v s n ⊎ ReadsRun v s n → (k : ℕ) → whole_at (read_in v s n) k ≡ whole_at v k
+pub whole-read : (v : View) (log : List LogEntry) (s n : ℕ) → Whole v log → ReadsWhole v s n ⊎ ReadsRun v s n → (k : ℕ) → whole_at (read_in v s n) k ≡ whole_at v k
 whole-read v log s n h r k = by (v.x.message k).ordered refl
   where
     flat : (b : Bool) → ((v.x.message k).ordered ≡ b) → whole_at v k ≡ (if b then all_come v k else v.read k || list_any (λ j. j == k) (v.whole (v.x.message k).stream))
@@ -453,9 +453,9 @@ whole-read v log s n h r k = by (v.x.message k).ordered refl
         was e (inl a) = ap (whole_at v) e ∙ ready-whole v log s n h a
         was e (inr a) = ap (whole_at v) e ∙ (run-is v s n a).whole_now
 
-pub whole-reading : (v : View) (log : List Coming) (s n : ℕ) → Whole v log → ReadsWhole v s n ⊎ ReadsRun v s n → Whole (read_in v s n) log
+pub whole-reading : (v : View) (log : List LogEntry) (s n : ℕ) → Whole v log → ReadsWhole v s n ⊎ ReadsRun v s n → Whole (read_in v s n) log
 whole-reading v log s n h r = record {
-  came = h.came;
+  datagram_received = h.datagram_received;
   ready = λ t k i. waits t k (t == s) refl i;
   differ = λ t. apart t (t == s);
   agrees = λ k lt. whole-read v log s n h r k ∙ h.agrees k lt;

@@ -60,7 +60,7 @@ started-read w s n None = refl
 started-read w s n (Some m) = changed-keeps Changes.mark_read (λ y. y.started) (λ y. refl) m n w.messages Messages.no_message
 
 -- what comes leaves the messages
-pub messages-slot : (w : World) (p : ℕ) → (Changes.slot_came w p).messages ≡ w.messages
+pub messages-slot : (w : World) (p : ℕ) → (Changes.slot_received w p).messages ≡ w.messages
 messages-slot w p = step (is_new w p)
   where
     noted : (v : World) (n : ℕ) (b : Bool) → (if b then Changes.stream_changed v (Messages.message_at v n).stream (Changes.with_whole n) else v).messages ≡ v.messages
@@ -71,15 +71,15 @@ messages-slot w p = step (is_new w p)
     step true = noted (record w { slots = changed Changes.mark_arrived p w.slots }) (Messages.message_of w p) (Changes.becomes_whole (record w { slots = changed Changes.mark_arrived p w.slots }) (Messages.message_of w p))
     step false = refl
 
-pub messages-came : (w : World) (o : Option Datagram) → (Changes.came w o).messages ≡ w.messages
-messages-came w None = refl
-messages-came w (Some (Data ps)) = fold-keeps (λ v. v.messages ≡ w.messages) Changes.slot_came (λ v p e. messages-slot v p ∙ e) ps w refl
-messages-came w (Some (Forward upto names)) = step (Changes.skip_counts w upto)
+pub messages-received : (w : World) (o : Option Datagram) → (Changes.datagram_received w o).messages ≡ w.messages
+messages-received w None = refl
+messages-received w (Some (Data ps)) = fold-keeps (λ v. v.messages ≡ w.messages) Changes.slot_received (λ v p e. messages-slot v p ∙ e) ps w refl
+messages-received w (Some (Forward upto names)) = step (Changes.skip_counts w upto)
   where
     step : (b : Bool) → (if b then record w { skipped = upto + 1; streams = map (Changes.named_by w names) w.streams } else w).messages ≡ w.messages
     step true = refl
     step false = refl
-messages-came w (Some (Sack r)) = refl
+messages-received w (Some (Sack r)) = refl
 
 pub messages-taken : (w : World) (o : Option Datagram) → (Changes.sack_taken w o).messages ≡ w.messages
 messages-taken w None = refl
@@ -112,7 +112,7 @@ started-after w e n lt = by_event e
     by_event (E.Abandon tsn) = same (after w (E.Abandon tsn)) (started-abandoned w (Messages.message_of w (Messages.place_of w tsn)) n)
     by_event (E.Skip upto names) = same (after w (E.Skip upto names)) refl
     by_event (E.Ack credit) = same (after w (E.Ack credit)) refl
-    by_event (E.Arrive k) = same (after w (E.Arrive k)) (ap (λ ms. (slice_index_or ms n Messages.no_message).started) (messages-came w (slice_get w.network k)))
+    by_event (E.Arrive k) = same (after w (E.Arrive k)) (ap (λ ms. (slice_index_or ms n Messages.no_message).started) (messages-received w (slice_get w.network k)))
     by_event (E.Acked k) = same (after w (E.Acked k)) (ap (λ ms. (slice_index_or ms n Messages.no_message).started) (messages-taken w (slice_get w.network k)))
     by_event (E.Read s) = same (after w (E.Read s)) (started-read w s n (next_read w s))
 
@@ -146,7 +146,7 @@ started-new w (E.Late now) n le lt = absurd (omega (arith, count-late (Changes.l
 started-new w (E.Abandon tsn) n le lt = absurd (omega (arith, count-abandoned w (Messages.message_of w (Messages.place_of w tsn))))
 started-new w (E.Skip upto names) n le lt = absurd (omega arith)
 started-new w (E.Ack credit) n le lt = absurd (omega arith)
-started-new w (E.Arrive k) n le lt = absurd (omega (arith, ap length (messages-came w (slice_get w.network k))))
+started-new w (E.Arrive k) n le lt = absurd (omega (arith, ap length (messages-received w (slice_get w.network k))))
 started-new w (E.Acked k) n le lt = absurd (omega (arith, ap length (messages-taken w (slice_get w.network k))))
 started-new w (E.Read s) n le lt = absurd (few (next_read w s) lt)
   where

@@ -13,7 +13,7 @@ use Rattle.sctp_model.specs.Messages
 use Rattle.sctp_model.specs.Receiver.{next_read}
 use Rattle.sctp_model.specs.Changes
 use Rattle.sctp_model.specs.Log
-use Rattle.sctp_model.specs.Log.{Coming, SlotCame, SkipCame, SackMade, Made, MadeData, MadeForward, MadeSack, made_in, made_by, log_of, named_by, is_skipped}
+use Rattle.sctp_model.specs.Log.{LogEntry, SlotReceived, SkipReceived, SackMade, Made, MadeData, MadeForward, MadeSack, made_in, made_by, log_of, named_by, is_skipped}
 use Rattle.sctp_model.specs.Steps.{History, world_of, after}
 use Rattle.sctp_model.specs.Laws.{loses_nothing}
 use Rattle.sctp_model.proofs.Shape.{Shape, shape, message_part, written}
@@ -55,7 +55,7 @@ alive-after w (E.Late now) k a = cc
 alive-after w (E.Abandon tsn) k a = cc
 alive-after w (E.Skip upto names) k a = cc
 alive-after w (E.Ack credit) k a = a
-alive-after w (E.Arrive x) k a = subst AllAlive (sym (Network.same-came w (slice_get w.network x)).shape_is) a
+alive-after w (E.Arrive x) k a = subst AllAlive (sym (Network.same-received w (slice_get w.network x)).shape_is) a
 alive-after w (E.Acked x) k a = subst AllAlive (sym (Network.same-taken w (slice_get w.network x)).shape_is) a
 alive-after w (E.Read s) k a = subst AllAlive (sym (Network.same-read w s (next_read w s)).shape_is) a
 
@@ -72,8 +72,8 @@ abbrev is_forward : Made → Bool
 is_forward (MadeForward upto names) = true
 is_forward _ = false
 
-abbrev pub is_skip : Coming → Bool
-is_skip (SkipCame upto names) = true
+abbrev pub is_skip : LogEntry → Bool
+is_skip (SkipReceived upto names) = true
 is_skip _ = false
 
 any-append : (xs ys : List Made) → list_any is_forward xs ≡ false → list_any is_forward ys ≡ false → list_any is_forward (xs ++ ys) ≡ false
@@ -139,22 +139,22 @@ not-at (c ∷ ds) (suc k) d a e = not-at ds k d (right (is_forward c) (list_any 
     right true b e = cc
     right false b e = e
 
-skips-slots : (ps : List ℕ) (log : List Coming) → list_any is_skip log ≡ false → list_any is_skip (Log.slots_come ps log) ≡ false
+skips-slots : (ps : List ℕ) (log : List LogEntry) → list_any is_skip log ≡ false → list_any is_skip (Log.slots_come ps log) ≡ false
 skips-slots [] log e = e
-skips-slots (p ∷ ps) log e = skips-slots ps (SlotCame p ∷ log) e
+skips-slots (p ∷ ps) log e = skips-slots ps (SlotReceived p ∷ log) e
 
-skips-came : (o : Option Made) (log : List Coming) → ((d : Made) → o ≡ Some d → is_forward d ≡ false) → list_any is_skip log ≡ false → list_any is_skip (Log.datagram_comes o log) ≡ false
-skips-came None log f e = e
-skips-came (Some (MadeData ps)) log f e = skips-slots ps log e
-skips-came (Some (MadeForward upto names)) log f e = absurd (not_both (sym (f (MadeForward upto names) refl)))
-skips-came (Some MadeSack) log f e = e
+skips-received : (o : Option Made) (log : List LogEntry) → ((d : Made) → o ≡ Some d → is_forward d ≡ false) → list_any is_skip log ≡ false → list_any is_skip (Log.datagram_comes o log) ≡ false
+skips-received None log f e = e
+skips-received (Some (MadeData ps)) log f e = skips-slots ps log e
+skips-received (Some (MadeForward upto names)) log f e = absurd (not_both (sym (f (MadeForward upto names) refl)))
+skips-received (Some MadeSack) log f e = e
 
 pub no-skips : (setup : Setup) (h : History) → Lossless h → list_any is_skip (log_of setup h) ≡ false
 no-skips setup [] l = refl
 no-skips setup ((e, r) ∷ older) l = let a = both (loses_nothing e) (list_all (λ entry. loses_nothing entry.0) older) l in step e (no-skips setup older a.1) a.1
   where
     step : (e : Event) → list_any is_skip (log_of setup older) ≡ false → Lossless older → list_any is_skip (log_of setup ((e, r) ∷ older)) ≡ false
-    step (E.Arrive k) h l = skips-came (slice_get (made_in setup older) k) (log_of setup older) (λ d e. not-at (made_in setup older) k d (none-forward setup older l) e) h
+    step (E.Arrive k) h l = skips-received (slice_get (made_in setup older) k) (log_of setup older) (λ d e. not-at (made_in setup older) k d (none-forward setup older l) e) h
     step (E.Ack credit) h l = h
     step (E.Open s) h l = h
     step (E.Mode s a b c) h l = h
@@ -170,14 +170,14 @@ no-skips setup ((e, r) ∷ older) l = let a = both (loses_nothing e) (list_all (
     step (E.Acked a) h l = h
     step (E.Read a) h l = h
 
-pub none-named : (w : World) (s : ℕ) (log : List Coming) → list_any is_skip log ≡ false → named_by w s log ≡ 0
+pub none-named : (w : World) (s : ℕ) (log : List LogEntry) → list_any is_skip log ≡ false → named_by w s log ≡ 0
 none-named w s [] e = refl
-none-named w s (SlotCame p ∷ log) e = none-named w s log e
-none-named w s (SkipCame upto names ∷ log) e = cc
+none-named w s (SlotReceived p ∷ log) e = none-named w s log e
+none-named w s (SkipReceived upto names ∷ log) e = cc
 none-named w s (SackMade ∷ log) e = none-named w s log e
 
-pub none-skipped : (log : List Coming) (p : ℕ) → list_any is_skip log ≡ false → is_skipped log p ≡ false
+pub none-skipped : (log : List LogEntry) (p : ℕ) → list_any is_skip log ≡ false → is_skipped log p ≡ false
 none-skipped [] p e = refl
-none-skipped (SlotCame q ∷ log) p e = none-skipped log p e
-none-skipped (SkipCame upto names ∷ log) p e = cc
+none-skipped (SlotReceived q ∷ log) p e = none-skipped log p e
+none-skipped (SkipReceived upto names ∷ log) p e = cc
 none-skipped (SackMade ∷ log) p e = none-skipped log p e

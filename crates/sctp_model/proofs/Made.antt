@@ -15,7 +15,7 @@ use Rattle.sctp_model.specs.Log.{MadeData, MadeForward, made_by, made_in, place_
 use Rattle.sctp_model.specs.Laws.{IsSetup, OnEveryRun, NetworkIsMade, kind_of}
 use Rattle.sctp_model.proofs.SenderRun.{Sane, sane-run}
 use Rattle.sctp_model.proofs.Few.{few}
-use Rattle.sctp_model.proofs.Network.{same-network, network-written, network-expired, network-tail, network-late, network-abandoned, same-came, same-taken, same-read}
+use Rattle.sctp_model.proofs.Network.{same-network, network-written, network-expired, network-tail, network-late, network-abandoned, same-received, same-taken, same-read}
 
 -- a TSN that was given out has its place
 pub place-back : (first p : ℕ) → first < 2 ^ 32 → p < 2 ^ 32 → ((first + p) % 2 ^ 32 + (2 ^ 32 - first)) % 2 ^ 32 ≡ p
@@ -54,7 +54,7 @@ made-step setup w (E.Late now) is g = kinds-same w (Changes.late_abandoned w now
 made-step setup w (E.Abandon tsn) is g = kinds-same w (Changes.abandoned w (Messages.message_of w (Messages.place_of w tsn))) (network-abandoned w (Messages.message_of w (Messages.place_of w tsn)))
 made-step setup w (E.Skip upto names) is g = kinds-more w (after w (E.Skip upto names)) (Forward (Messages.place_of w upto) names.items) refl ∙ ap (λ p. map kind_of w.network ++ MadeForward p names.items ∷ []) (place-same setup w upto g)
 made-step setup w (E.Ack credit) is g = map-append kind_of w.network _
-made-step setup w (E.Arrive k) is g = kinds-same w (Changes.came w (slice_get w.network k)) (same-came w (slice_get w.network k)).network
+made-step setup w (E.Arrive k) is g = kinds-same w (Changes.datagram_received w (slice_get w.network k)) (same-received w (slice_get w.network k)).network
 made-step setup w (E.Acked k) is g = kinds-same w (Changes.sack_taken w (slice_get w.network k)) (same-taken w (slice_get w.network k)).network
 made-step setup w (E.Read s) is g = kinds-same w (Changes.read_from w s) (same-read w s (Receiver.next_read w s)).network
 

@@ -21,7 +21,7 @@ use Rattle.sctp_model.proofs.SenderRun.{sane-run, fold-keeps, unless-holds, writ
 use Rattle.sctp_model.proofs.Moves
 use Rattle.sctp_model.proofs.View.{field-kept, field-changed, find-more, either-keeps}
 use Rattle.sctp_model.proofs.BytesTold.{messages-sent}
-use Rattle.sctp_model.proofs.Lifetimes.{messages-came, messages-taken}
+use Rattle.sctp_model.proofs.Lifetimes.{messages-received, messages-taken}
 
 -- Each message has the mode that its stream had when it was written.
 
@@ -40,7 +40,7 @@ SameModes w v = (s : ℕ) → mode_now (stream_of v s) ≡ mode_now (stream_of w
 modes-changed : (w : World) (s : ℕ) (f : StreamRecord → StreamRecord) → ((r : StreamRecord) → (f r).stream ≡ r.stream) → ((r : StreamRecord) → mode_now (f r) ≡ mode_now r) → SameModes w (Changes.stream_changed w s f)
 modes-changed w s f a b t = field-kept mode_now (λ r. if r.stream == s then f r else r) (either-keeps (λ r. r.stream) f a s) (either-keeps mode_now f b s) w t
 
-modes-slot : (w : World) (p : ℕ) → SameModes w (Changes.slot_came w p)
+modes-slot : (w : World) (p : ℕ) → SameModes w (Changes.slot_received w p)
 modes-slot w p = step (is_new w p)
   where
     noted : (v : World) (n : ℕ) (b : Bool) → SameModes v (if b then Changes.stream_changed v (Messages.message_at v n).stream (Changes.with_whole n) else v)
@@ -51,15 +51,15 @@ modes-slot w p = step (is_new w p)
     step true = noted (record w { slots = changed Changes.mark_arrived p w.slots }) (Messages.message_of w p) (Changes.becomes_whole (record w { slots = changed Changes.mark_arrived p w.slots }) (Messages.message_of w p))
     step false = λ t. refl
 
-modes-came : (w : World) (o : Option Datagram) → SameModes w (Changes.came w o)
-modes-came w None = λ t. refl
-modes-came w (Some (Data ps)) = fold-keeps (SameModes w) Changes.slot_came (λ v p e t. modes-slot v p t ∙ e t) ps w (λ t. refl)
-modes-came w (Some (Forward upto names)) = step (Changes.skip_counts w upto)
+modes-received : (w : World) (o : Option Datagram) → SameModes w (Changes.datagram_received w o)
+modes-received w None = λ t. refl
+modes-received w (Some (Data ps)) = fold-keeps (SameModes w) Changes.slot_received (λ v p e t. modes-slot v p t ∙ e t) ps w (λ t. refl)
+modes-received w (Some (Forward upto names)) = step (Changes.skip_counts w upto)
   where
     step : (b : Bool) → SameModes w (if b then record w { skipped = upto + 1; streams = map (Changes.named_by w names) w.streams } else w)
     step true = λ t. field-kept mode_now (Changes.named_by w names) (λ r. refl) (λ r. refl) w t
     step false = λ t. refl
-modes-came w (Some (Sack r)) = λ t. refl
+modes-received w (Some (Sack r)) = λ t. refl
 
 modes-taken : (w : World) (o : Option Datagram) → SameModes w (Changes.sack_taken w o)
 modes-taken w None = λ t. refl
@@ -152,7 +152,7 @@ moded-step setup older e r ok run m = by e ok
     by (E.Abandon tsn) ok = record { streams = quiet (after (world_of setup older) (E.Abandon tsn)) (Moves.quiet-abandoned setup (world_of setup older) (Messages.message_of (world_of setup older) (Messages.place_of (world_of setup older) tsn)) (sane-run setup older run)); messages = kept-abandoned (world_of setup older) (Messages.message_of (world_of setup older) (Messages.place_of (world_of setup older) tsn)) ∙ m.messages }
     by (E.Skip a b) ok = record { streams = m.streams; messages = m.messages }
     by (E.Ack a) ok = record { streams = m.streams; messages = m.messages }
-    by (E.Arrive k) ok = record { streams = λ t. modes-came (world_of setup older) (slice_get (world_of setup older).network k) t ∙ m.streams t; messages = ap (map mode_of) (messages-came (world_of setup older) (slice_get (world_of setup older).network k)) ∙ m.messages }
+    by (E.Arrive k) ok = record { streams = λ t. modes-received (world_of setup older) (slice_get (world_of setup older).network k) t ∙ m.streams t; messages = ap (map mode_of) (messages-received (world_of setup older) (slice_get (world_of setup older).network k)) ∙ m.messages }
     by (E.Acked k) ok = record { streams = λ t. modes-taken (world_of setup older) (slice_get (world_of setup older).network k) t ∙ m.streams t; messages = ap (map mode_of) (messages-taken (world_of setup older) (slice_get (world_of setup older).network k)) ∙ m.messages }
     by (E.Read s) ok = record { streams = λ t. modes-read (world_of setup older) s (next_read (world_of setup older) s) t ∙ m.streams t; messages = kept-read (world_of setup older) s (next_read (world_of setup older) s) ∙ m.messages }
 

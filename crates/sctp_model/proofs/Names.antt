@@ -9,7 +9,7 @@ use Rattle.sctp_model.specs.Receiver.{greatest, is_new}
 use Rattle.sctp_model.specs.Changes
 use Rattle.sctp_model.specs.Steps.{History, world_of, IsRun}
 use Rattle.sctp_model.specs.Log
-use Rattle.sctp_model.specs.Log.{Coming, SlotCame, SkipCame, SackMade}
+use Rattle.sctp_model.specs.Log.{LogEntry, SlotReceived, SkipReceived, SackMade}
 use Rattle.sctp_model.specs.Laws.{IsSetup, OnEveryRun, NamedIsNamed}
 use Rattle.sctp_model.proofs.Shape.{Shape, shape, on, index, sent}
 use Rattle.sctp_model.proofs.Sender.{Sender}
@@ -34,30 +34,30 @@ on-grown x y a b g s n pos =
     ap (λ e. ((y.message n).stream == s) && ((y.message n).ordered && not e)) (sent-alive y n b later ∙ sym (sent-alive x n a pos))
     ∙ ap (λ m. (m.stream == s) && (m.ordered && not (x.message n).expired)) (g.message n made)
 
-abbrev pub named_in : Shape → ℕ → List Coming → ℕ
+abbrev pub named_in : Shape → ℕ → List LogEntry → ℕ
 named_in x s [] = 0
-named_in x s (SkipCame upto names ∷ log) = if Log.counts log upto then greatest (named_in x s log) (map (λ n. index x n + 1) (passing (on x s) names)) else named_in x s log
-named_in x s (SlotCame p ∷ log) = named_in x s log
+named_in x s (SkipReceived upto names ∷ log) = if Log.counts log upto then greatest (named_in x s log) (map (λ n. index x n + 1) (passing (on x s) names)) else named_in x s log
+named_in x s (SlotReceived p ∷ log) = named_in x s log
 named_in x s (SackMade ∷ log) = named_in x s log
 
-pub named-is : (w : World) (s : ℕ) (log : List Coming) → Log.named_by w s log ≡ named_in (shape w) s log
+pub named-is : (w : World) (s : ℕ) (log : List LogEntry) → Log.named_by w s log ≡ named_in (shape w) s log
 named-is w s [] = refl
-named-is w s (SkipCame upto names ∷ log) = ap (λ k. if Log.counts log upto then greatest k (map (λ n. index (shape w) n + 1) (passing (on (shape w) s) names)) else k) (named-is w s log)
-named-is w s (SlotCame p ∷ log) = named-is w s log
+named-is w s (SkipReceived upto names ∷ log) = ap (λ k. if Log.counts log upto then greatest k (map (λ n. index (shape w) n + 1) (passing (on (shape w) s) names)) else k) (named-is w s log)
+named-is w s (SlotReceived p ∷ log) = named-is w s log
 named-is w s (SackMade ∷ log) = named-is w s log
 
 -- the names of what came
-abbrev pub NamesCame : Shape → List Coming → Type 0
-NamesCame x [] = Unit {0}
-NamesCame x (SkipCame upto names ∷ log) = NamesFit x upto names × NamesCame x log
-NamesCame x (SlotCame p ∷ log) = NamesCame x log
-NamesCame x (SackMade ∷ log) = NamesCame x log
+abbrev pub NamesReceived : Shape → List LogEntry → Type 0
+NamesReceived x [] = Unit {0}
+NamesReceived x (SkipReceived upto names ∷ log) = NamesFit x upto names × NamesReceived x log
+NamesReceived x (SlotReceived p ∷ log) = NamesReceived x log
+NamesReceived x (SackMade ∷ log) = NamesReceived x log
 
-names-came-later : (x y : Shape) → Sender x → Grows x y → (log : List Coming) → NamesCame x log → NamesCame y log
-names-came-later x y a g [] f = tt
-names-came-later x y a g (SkipCame upto names ∷ log) f = (names-grown x y a g upto names f.0, names-came-later x y a g log f.1)
-names-came-later x y a g (SlotCame p ∷ log) f = names-came-later x y a g log f
-names-came-later x y a g (SackMade ∷ log) f = names-came-later x y a g log f
+names-received-later : (x y : Shape) → Sender x → Grows x y → (log : List LogEntry) → NamesReceived x log → NamesReceived y log
+names-received-later x y a g [] f = tt
+names-received-later x y a g (SkipReceived upto names ∷ log) f = (names-grown x y a g upto names f.0, names-received-later x y a g log f.1)
+names-received-later x y a g (SlotReceived p ∷ log) f = names-received-later x y a g log f
+names-received-later x y a g (SackMade ∷ log) f = names-received-later x y a g log f
 
 indexes-later : (x y : Shape) → Sender x → Sender y → Grows x y → (s upto : ℕ) (names : List ℕ) → NamesFit x upto names → map (λ n. index y n + 1) (passing (on y s) names) ≡ map (λ n. index x n + 1) (passing (on x s) names)
 indexes-later x y a b g s upto [] f = refl
@@ -69,21 +69,21 @@ indexes-later x y a b g s upto (n ∷ ns) f =
     step true ih = ap (λ i. (i + 1) ∷ map (λ n. index y n + 1) (passing (on y s) ns)) (g.same_index n f.0.some f.0.ordered) ∙ ap (λ l. (index x n + 1) ∷ l) ih
     step false ih = ih
 
-named-later : (x y : Shape) → Sender x → Sender y → Grows x y → (s : ℕ) (log : List Coming) → NamesCame x log → named_in y s log ≡ named_in x s log
+named-later : (x y : Shape) → Sender x → Sender y → Grows x y → (s : ℕ) (log : List LogEntry) → NamesReceived x log → named_in y s log ≡ named_in x s log
 named-later x y a b g s [] f = refl
-named-later x y a b g s (SkipCame upto names ∷ log) f =
+named-later x y a b g s (SkipReceived upto names ∷ log) f =
     ap (λ k. if Log.counts log upto then greatest k (map (λ n. index y n + 1) (passing (on y s) names)) else k) (named-later x y a b g s log f.1)
     ∙ ap (λ l. if Log.counts log upto then greatest (named_in x s log) l else named_in x s log) (indexes-later x y a b g s upto names f.0)
-named-later x y a b g s (SlotCame p ∷ log) f = named-later x y a b g s log f
+named-later x y a b g s (SlotReceived p ∷ log) f = named-later x y a b g s log f
 named-later x y a b g s (SackMade ∷ log) f = named-later x y a b g s log f
 
 -- ## The invariant
 
-pub record Named (v : View) (log : List Coming) : Type 0 where
-  pub fit : NamesCame v.x log
+pub record Named (v : View) (log : List LogEntry) : Type 0 where
+  pub fit : NamesReceived v.x log
   pub is : (s : ℕ) → v.named s ≡ named_in v.x s log
 
-named-as : (u v : View) (log : List Coming) → v ≡ u → Named u log → Named v log
+named-as : (u v : View) (log : List LogEntry) → v ≡ u → Named u log → Named v log
 named-as u v log e h = subst (λ y. Named y log) (sym e) h
 
 -- the messages that a skip names are of open streams
@@ -105,12 +105,12 @@ view-whole_noted setup w n g lt = step (Changes.becomes_whole w n)
     step true = View.view-noted w (Messages.message_at w n).stream n (g.known n lt)
     step false = refl
 
-record Both (w : World) (log : List Coming) : Type 0 where
+record Both (w : World) (log : List LogEntry) : Type 0 where
   heard : Heard w log
   named : Named (view w) log
 
-named-slot : (setup : Setup) (w : World) (log : List Coming) (p : ℕ) → Sane setup w → Named (view w) log → Named (view (Changes.slot_came w p)) (SlotCame p ∷ log)
-named-slot setup w log p g h = record { fit = subst (λ x. NamesCame x log) (sym (same-slot w p).shape_is) h.fit; is = λ s. same s (is_new w p) ∙ h.is s ∙ ap (λ x. named_in x s log) (sym (same-slot w p).shape_is) }
+named-slot : (setup : Setup) (w : World) (log : List LogEntry) (p : ℕ) → Sane setup w → Named (view w) log → Named (view (Changes.slot_received w p)) (SlotReceived p ∷ log)
+named-slot setup w log p g h = record { fit = subst (λ x. NamesReceived x log) (sym (same-slot w p).shape_is) h.fit; is = λ s. same s (is_new w p) ∙ h.is s ∙ ap (λ x. named_in x s log) (sym (same-slot w p).shape_is) }
   where
     noted : (s n : ℕ) (v : World) (b : Bool) → (Messages.stream_of (if b then Changes.stream_changed v (Messages.message_at v n).stream (Changes.with_whole n) else v) s).named ≡ (Messages.stream_of v s).named
     noted s n v true = View.field-kept (λ r. r.named) (λ r. if r.stream == (Messages.message_at v n).stream then Changes.with_whole n r else r) (λ r. stays (r.stream == (Messages.message_at v n).stream) r) (λ r. keeps (r.stream == (Messages.message_at v n).stream) r) v s
@@ -128,11 +128,11 @@ named-slot setup w log p g h = record { fit = subst (λ x. NamesCame x log) (sym
     same s true = noted s (Messages.message_of w p) (with_arrived w p) (Changes.becomes_whole (with_arrived w p) (Messages.message_of w p))
     same s false = refl
 
-named-skip : (setup : Setup) (w : World) (log : List Coming) (upto : ℕ) (names : List ℕ) → Sane setup w → NamesFit (shape w) upto names → Heard w log → Named (view w) log → Named (view (Changes.skip_came w upto names)) (SkipCame upto names ∷ log)
+named-skip : (setup : Setup) (w : World) (log : List LogEntry) (upto : ℕ) (names : List ℕ) → Sane setup w → NamesFit (shape w) upto names → Heard w log → Named (view w) log → Named (view (Changes.skip_received w upto names)) (SkipReceived upto names ∷ log)
 named-skip setup w log upto names g f heard h = step (Changes.skip_counts w upto) refl
   where
-    step : (b : Bool) → Changes.skip_counts w upto ≡ b → Named (view (if b then record w { skipped = upto + 1; streams = map (Changes.named_by w names) w.streams } else w)) (SkipCame upto names ∷ log)
-    step true e = named-as (View.skipped_in (view w) upto names) (view (record w { skipped = upto + 1; streams = map (Changes.named_by w names) w.streams })) (SkipCame upto names ∷ log) (view-skip setup w upto names g f)
+    step : (b : Bool) → Changes.skip_counts w upto ≡ b → Named (view (if b then record w { skipped = upto + 1; streams = map (Changes.named_by w names) w.streams } else w)) (SkipReceived upto names ∷ log)
+    step true e = named-as (View.skipped_in (view w) upto names) (view (record w { skipped = upto + 1; streams = map (Changes.named_by w names) w.streams })) (SkipReceived upto names ∷ log) (view-skip setup w upto names g f)
         (record { fit = (f, h.fit); is = λ s. ap (λ k. greatest k (map (λ n. index (shape w) n + 1) (passing (on (shape w) s) names))) (h.is s) ∙ ap (λ b. if b then greatest (named_in (shape w) s log) (map (λ n. index (shape w) n + 1) (passing (on (shape w) s) names)) else named_in (shape w) s log) (sym (counts-heard w log upto heard ∙ e)) })
     step false e = record { fit = (f, h.fit); is = λ s. h.is s ∙ ap (λ b. if b then greatest (named_in (shape w) s log) (map (λ n. index (shape w) n + 1) (passing (on (shape w) s) names)) else named_in (shape w) s log) (sym (counts-heard w log upto heard ∙ e)) }
 
@@ -144,7 +144,7 @@ named-keeps setup =
       quiet = λ w v log g a q b. record {
         heard = k.quiet w v log g a q b.heard;
         named = record {
-          fit = names-came-later (shape w) (shape v) g.sender q.grows log b.named.fit;
+          fit = names-received-later (shape w) (shape v) g.sender q.grows log b.named.fit;
           is = λ s. ap (λ rs. (Messages.stream_of (record v { streams = rs }) s).named) q.streams ∙ b.named.is s ∙ sym (named-later (shape w) (shape v) g.sender a.sender q.grows s log b.named.fit);
         };
       };

@@ -66,7 +66,7 @@ same-noted v n = step (Changes.becomes_whole v n)
 same-then : (w v u : World) → Same w v → Same v u → Same w u
 same-then w v u f g = record { setup = g.setup ∙ f.setup; network = g.network ∙ f.network; shape_is = g.shape_is ∙ f.shape_is }
 
-pub same-slot : (w : World) (p : ℕ) → Same w (Changes.slot_came w p)
+pub same-slot : (w : World) (p : ℕ) → Same w (Changes.slot_received w p)
 same-slot w p = step (Receiver.is_new w p)
   where
     step : (b : Bool) → Same w (if b then Changes.whole_noted (record w { slots = changed Changes.mark_arrived p w.slots }) (Messages.message_of w p) else record w { duplicates = w.duplicates ++ p ∷ [] })
@@ -75,18 +75,18 @@ same-slot w p = step (Receiver.is_new w p)
         same-then w v (Changes.whole_noted v (Messages.message_of w p)) (record { setup = refl; network = refl; shape_is = Shapes.shape-arrived w p }) (same-noted v (Messages.message_of w p))
     step false = record { setup = refl; network = refl; shape_is = refl }
 
-pub same-slots : (w : World) (ps : List ℕ) → Same w (fold Changes.slot_came w ps)
-same-slots w ps = fold-keeps (Same w) Changes.slot_came (λ v p s. same-then w v (Changes.slot_came v p) s (same-slot v p)) ps w (record { setup = refl; network = refl; shape_is = refl })
+pub same-slots : (w : World) (ps : List ℕ) → Same w (fold Changes.slot_received w ps)
+same-slots w ps = fold-keeps (Same w) Changes.slot_received (λ v p s. same-then w v (Changes.slot_received v p) s (same-slot v p)) ps w (record { setup = refl; network = refl; shape_is = refl })
 
-pub same-came : (w : World) (o : Option Datagram) → Same w (Changes.came w o)
-same-came w None = record { setup = refl; network = refl; shape_is = refl }
-same-came w (Some (W.Data ps)) = same-slots w ps
-same-came w (Some (Forward upto names)) = step (Changes.skip_counts w upto)
+pub same-received : (w : World) (o : Option Datagram) → Same w (Changes.datagram_received w o)
+same-received w None = record { setup = refl; network = refl; shape_is = refl }
+same-received w (Some (W.Data ps)) = same-slots w ps
+same-received w (Some (Forward upto names)) = step (Changes.skip_counts w upto)
   where
     step : (b : Bool) → Same w (if b then record w { skipped = upto + 1; streams = map (Changes.named_by w names) w.streams } else w)
     step true = record { setup = refl; network = refl; shape_is = refl }
     step false = record { setup = refl; network = refl; shape_is = refl }
-same-came w (Some (Sack r)) = record { setup = refl; network = refl; shape_is = refl }
+same-received w (Some (Sack r)) = record { setup = refl; network = refl; shape_is = refl }
 
 pub same-taken : (w : World) (o : Option Datagram) → Same w (Changes.sack_taken w o)
 same-taken w None = record { setup = refl; network = refl; shape_is = refl }
@@ -114,7 +114,7 @@ extends-after setup w (E.Late now) ok g = of-quiet w (Changes.late_abandoned w n
 extends-after setup w (E.Abandon tsn) ok g = of-quiet w (Changes.abandoned w (Messages.message_of w (Messages.place_of w tsn))) (Moves.quiet-abandoned setup w (Messages.message_of w (Messages.place_of w tsn)) g)
 extends-after setup w (E.Skip upto names) ok g = one-datagram w (after w (E.Skip upto names)) (Forward (Messages.place_of w upto) names.items) refl refl refl
 extends-after setup w (E.Ack credit) ok g = one-datagram w (Changes.reported w credit) (Sack (report_of w credit)) refl refl refl
-extends-after setup w (E.Arrive k) ok g = extends-same w (Changes.came w (slice_get w.network k)) (same-came w (slice_get w.network k))
+extends-after setup w (E.Arrive k) ok g = extends-same w (Changes.datagram_received w (slice_get w.network k)) (same-received w (slice_get w.network k))
 extends-after setup w (E.Acked k) ok g = extends-same w (Changes.sack_taken w (slice_get w.network k)) (same-taken w (slice_get w.network k))
 extends-after setup w (E.Read s) ok g = extends-same w (Changes.read_from w s) (same-read w s (Receiver.next_read w s))
 
@@ -340,7 +340,7 @@ fit-after setup w (E.Skip upto names) ok g a =
     let s = skip-ok w (Messages.place_of w upto) names.items ok in
     all-fit-append (shape w) w.network (Forward (Messages.place_of w upto) names.items ∷ []) a ((s.0, names-fit w (Messages.place_of w upto) names.items g.sender s.1), tt)
 fit-after setup w (E.Ack credit) ok g a = all-fit-append (shape w) w.network (Sack (report_of w credit) ∷ []) a (tt, tt)
-fit-after setup w (E.Arrive k) ok g a = fit-same w (Changes.came w (slice_get w.network k)) g.sender (same-came w (slice_get w.network k)) a
+fit-after setup w (E.Arrive k) ok g a = fit-same w (Changes.datagram_received w (slice_get w.network k)) g.sender (same-received w (slice_get w.network k)) a
 fit-after setup w (E.Acked k) ok g a = fit-same w (Changes.sack_taken w (slice_get w.network k)) g.sender (same-taken w (slice_get w.network k)) a
 fit-after setup w (E.Read s) ok g a = fit-same w (Changes.read_from w s) g.sender (same-read w s (Receiver.next_read w s)) a
 

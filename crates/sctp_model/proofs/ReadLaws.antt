@@ -18,7 +18,7 @@ use Rattle.sctp_model.specs.Messages
 use Rattle.sctp_model.specs.Receiver
 use Rattle.sctp_model.specs.Changes
 use Rattle.sctp_model.specs.Log
-use Rattle.sctp_model.specs.Log.{Coming, number_read, numbers_read}
+use Rattle.sctp_model.specs.Log.{LogEntry, number_read, numbers_read}
 use Rattle.sctp_model.specs.Steps.{History, world_of, IsRun, read_reply}
 use Rattle.sctp_model.specs.Laws.{IsSetup, OnEveryRun, ordered_reads, unordered_reads, ReadsBeginRun, ReadsBeginWholeRun, ReadsBeginWhole, UnorderedFirst, NothingWhereRead}
 use Rattle.sctp_model.proofs.Shape.{shape, on, index}
@@ -54,7 +54,7 @@ told-read setup older t s (Some n) g a e b = so_far-as s list' (read_in (view w)
     w : World
     w = world_of setup older
 
-    log : List Coming
+    log : List LogEntry
     log = Log.log_of setup older
 
     list' : List ℕ
@@ -237,7 +237,7 @@ run-is setup h is go s =
     w : World
     w = world_of setup h
 
-    log : List Coming
+    log : List LogEntry
     log = Log.log_of setup h
 
     v : View

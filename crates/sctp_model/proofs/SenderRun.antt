@@ -178,16 +178,16 @@ sane-noted setup v n g = step (Changes.becomes_whole v n)
     step true = sane-changed setup v (Messages.message_at v n).stream (Changes.with_whole n) (λ r. refl) g
     step false = g
 
-pub sane-came : (setup : Setup) (w : World) (p : ℕ) → Sane setup w → Sane setup (Changes.slot_came w p)
-sane-came setup w p g = step (Receiver.is_new w p)
+pub sane-received : (setup : Setup) (w : World) (p : ℕ) → Sane setup w → Sane setup (Changes.slot_received w p)
+sane-received setup w p g = step (Receiver.is_new w p)
   where
     step : (b : Bool) → Sane setup (if b then Changes.whole_noted (record w { slots = changed Changes.mark_arrived p w.slots }) (Messages.message_of w p) else record w { duplicates = w.duplicates ++ p ∷ [] })
     step true = sane-noted setup (record w { slots = changed Changes.mark_arrived p w.slots }) (Messages.message_of w p) (sane-shape setup w.setup (shape w) (shape (record w { slots = changed Changes.mark_arrived p w.slots })) w.streams (Shapes.shape-arrived w p) g)
     step false = g
 
-sane-datagram : (setup : Setup) (w : World) (o : Option Datagram) → Sane setup w → Sane setup (Changes.came w o)
+sane-datagram : (setup : Setup) (w : World) (o : Option Datagram) → Sane setup w → Sane setup (Changes.datagram_received w o)
 sane-datagram setup w None g = g
-sane-datagram setup w (Some (Data slots)) g = fold-keeps (Sane setup) Changes.slot_came (sane-came setup) slots w g
+sane-datagram setup w (Some (Data slots)) g = fold-keeps (Sane setup) Changes.slot_received (sane-received setup) slots w g
 sane-datagram setup w (Some (Forward upto names)) g = step (Changes.skip_counts w upto)
   where
     step : (b : Bool) → Sane setup (if b then record w { skipped = upto + 1; streams = map (Changes.named_by w names) w.streams } else w)

@@ -96,7 +96,7 @@ slots-joined w n s pos all =
 
 -- what is handed out joins to what was written
 handed-joined : (w : World) (n : ℕ) → Sender (shape w) → 0 < w.setup.size → sent (shape w) n ≡ parts (shape w) n → ((Messages.message_at w n).ordered ≡ true → list_all (Receiver.arrived_at w) (Messages.slots_of w n) ≡ true) → joined_bytes (handed_out w n).chunks ≡ (Messages.message_at w n).bytes
-handed-joined w n s pos all came = step (Messages.message_at w n).ordered refl
+handed-joined w n s pos all datagram_received = step (Messages.message_at w n).ordered refl
   where
     ands : (a b : Bool) → (a ≡ true → b ≡ true) → (a && b) ≡ a
     ands true b f = f refl
@@ -105,7 +105,7 @@ handed-joined w n s pos all came = step (Messages.message_at w n).ordered refl
     step : (b : Bool) → (Messages.message_at w n).ordered ≡ b → joined_bytes (handed_out w n).chunks ≡ (Messages.message_at w n).bytes
     step true o =
         ap (λ b. joined_bytes (if b then set_of w n else whole_set_of w n).chunks) o
-        ∙ ap (λ l. joined_bytes (map (chunk_at w) l)) (kept-same (λ p. has (shape w) n p && Receiver.arrived_at w p) (has (shape w) n) 0 (length w.slots) (λ k a b. ands (has (shape w) n k) (Receiver.arrived_at w k) (λ h. all-out (Receiver.arrived_at w) (has (shape w) n) k 0 (length w.slots) (came o) a b h)))
+        ∙ ap (λ l. joined_bytes (map (chunk_at w) l)) (kept-same (λ p. has (shape w) n p && Receiver.arrived_at w p) (has (shape w) n) 0 (length w.slots) (λ k a b. ands (has (shape w) n k) (Receiver.arrived_at w k) (λ h. all-out (Receiver.arrived_at w) (has (shape w) n) k 0 (length w.slots) (datagram_received o) a b h)))
         ∙ slots-joined w n s pos all
     step false o = ap (λ b. joined_bytes (if b then set_of w n else whole_set_of w n).chunks) o ∙ slots-joined w n s pos all
 

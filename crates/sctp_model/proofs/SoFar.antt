@@ -11,7 +11,7 @@ use Rattle.sctp_lists.proofs.Cases.{same-is}
 use Rattle.sctp_lists.proofs.Alls
 use Rattle.sctp_model.specs.World.{World}
 use Rattle.sctp_model.specs.Log
-use Rattle.sctp_model.specs.Log.{Coming, SlotCame, SkipCame, SackMade, Shown}
+use Rattle.sctp_model.specs.Log.{LogEntry, SlotReceived, SkipReceived, SackMade, Shown}
 use Rattle.sctp_model.proofs.Shape.{Shape, shape, has, on, sent, parts}
 use Rattle.sctp_model.proofs.Sender.{Sender}
 use Rattle.sctp_model.proofs.SenderSteps.{of-has}
@@ -20,7 +20,7 @@ use Rattle.sctp_model.proofs.View
 use Rattle.sctp_model.proofs.View.{View, view, all_come, whole_at, arrived_in, noted_in, skipped_in, read_in, line, run, next}
 use Rattle.sctp_model.proofs.Indexes.{on-ordered}
 use Rattle.sctp_model.proofs.Names.{on-grown}
-use Rattle.sctp_model.proofs.Wholes.{SlotsCame, whole_in, slots_in, whole-later, new-came, were-new, some-kept}
+use Rattle.sctp_model.proofs.Wholes.{SlotsReceived, whole_in, slots_in, whole-later, new-received, were-new, some-kept}
 use Rattle.sctp_model.proofs.Known
 use Rattle.sctp_model.proofs.Known.{Known, Whole, Still, IsReady, ReadsWhole, ReadsRun, still-of, hears, differ-more, noting, whole-still}
 use Rattle.sctp_model.proofs.Ordered.{Ordered}
@@ -66,25 +66,25 @@ passing-same t q r (x ∷ xs) same a = let c = both (t x) (list_all t xs) a in a
 abbrev pub off : Shape → ℕ → ℕ → Bool
 off x s n = ((x.message n).stream == s) && not (x.message n).ordered
 
-abbrev pub became : Shape → Coming → List Coming → ℕ → ℕ → Bool
+abbrev pub became : Shape → LogEntry → List LogEntry → ℕ → ℕ → Bool
 became x coming log s n = off x s n && (whole_in x (coming ∷ log) n && not (whole_in x log n))
 
-abbrev pub whole_list : Shape → List Coming → ℕ → List ℕ
+abbrev pub whole_list : Shape → List LogEntry → ℕ → List ℕ
 whole_list x [] s = []
 whole_list x (coming ∷ log) s = whole_list x log s ++ kept (became x coming log s) 0 x.count
 
-pub whole_list-is : (w : World) (log : List Coming) (s : ℕ) → Log.whole_by w log s ≡ whole_list (shape w) log s
+pub whole_list-is : (w : World) (log : List LogEntry) (s : ℕ) → Log.whole_by w log s ≡ whole_list (shape w) log s
 whole_list-is w [] s = refl
 whole_list-is w (coming ∷ log) s = ap (λ l. l ++ kept (became (shape w) coming log s) 0 (length w.messages)) (whole_list-is w log s)
 
 -- a new message is not whole by what came before it
-whole-fresh : (x y : Shape) → Sender x → Sender y → Grows x y → (log : List Coming) → SlotsCame x log → (n : ℕ) → x.count ≤ n → n < y.count → whole_in y log n ≡ false
+whole-fresh : (x y : Shape) → Sender x → Sender y → Grows x y → (log : List LogEntry) → SlotsReceived x log → (n : ℕ) → x.count ≤ n → n < y.count → whole_in y log n ≡ false
 whole-fresh x y a b g log f n ge lt = fails (whole_in y log n) (λ e.
     let c = both (sent y n == parts y n) (if (y.message n).ordered then list_all (Log.arrived_new log) (slots_in y n) else Log.were_whole (slots_in y n) log) e in
     let z = same-is (sent y n) (parts y n) c.0 in
     let q = some-kept (has y n) 0 y.slots (omega (arith, z, b.some n lt)) in
     let new = Alls.all-at (Log.arrived_new log) (has y n) q.0 0 y.slots (omega arith) (omega (arith, q.2)) q.3 (either (y.message n).ordered c.1) in
-    let old = new-came x log q.0 f new in
+    let old = new-received x log q.0 f new in
     let m : (x.slot q.0).message ≡ n = ap (λ s. s.message) (sym (g.slot q.0 old)) ∙ (of-has y n q.0 q.3).0 in
     absurd (omega (arith, a.made q.0 old, m, ge)))
   where
@@ -92,20 +92,20 @@ whole-fresh x y a b g log f n ge lt = fails (whole_in y log n) (λ e.
     either true e = e
     either false e = were-new (slots_in y n) log e
 
-came-tail : (x : Shape) (coming : Coming) (log : List Coming) → SlotsCame x (coming ∷ log) → SlotsCame x log
-came-tail x (SlotCame p) log f = f.1
-came-tail x (SkipCame upto names) log f = f
-came-tail x SackMade log f = f
+received-tail : (x : Shape) (coming : LogEntry) (log : List LogEntry) → SlotsReceived x (coming ∷ log) → SlotsReceived x log
+received-tail x (SlotReceived p) log f = f.1
+received-tail x (SkipReceived upto names) log f = f
+received-tail x SackMade log f = f
 
-pub whole_list-later : (x y : Shape) → Sender x → Sender y → Grows x y → (log : List Coming) → SlotsCame x log → (s : ℕ) → whole_list y log s ≡ whole_list x log s
+pub whole_list-later : (x y : Shape) → Sender x → Sender y → Grows x y → (log : List LogEntry) → SlotsReceived x log → (s : ℕ) → whole_list y log s ≡ whole_list x log s
 whole_list-later x y a b g [] f s = refl
 whole_list-later x y a b g (coming ∷ log) f s =
-    ap (λ l. l ++ kept (became y coming log s) 0 y.count) (whole_list-later x y a b g log (came-tail x coming log f) s)
+    ap (λ l. l ++ kept (became y coming log s) 0 y.count) (whole_list-later x y a b g log (received-tail x coming log f) s)
     ∙ ap (λ l. whole_list x log s ++ l)
     (kept-short (became y coming log s) 0 x.count (y.count - x.count) y.count (omega (arith, g.count)) (λ k c d. ap (λ e. off y s k && (e && not (whole_in y log k))) (whole-fresh x y a b g (coming ∷ log) f k (omega arith) (omega arith)) ∙ none (off y s k))
     ∙ kept-same (became y coming log s) (became x coming log s) 0 x.count (λ k c d.
     ap (λ e. off y s k && (e && not (whole_in y log k))) (whole-later x y a b g (coming ∷ log) f k (omega arith))
-    ∙ ap (λ e. off y s k && (whole_in x (coming ∷ log) k && not e)) (whole-later x y a b g log (came-tail x coming log f) k (omega arith))
+    ∙ ap (λ e. off y s k && (whole_in x (coming ∷ log) k && not e)) (whole-later x y a b g log (received-tail x coming log f) k (omega arith))
     ∙ ap (λ m. ((m.stream == s) && not m.ordered) && (whole_in x (coming ∷ log) k && not (whole_in x log k))) (g.message k (omega arith))))
   where
     none : (b : Bool) → (b && false) ≡ false
@@ -113,7 +113,7 @@ whole_list-later x y a b g (coming ∷ log) f s =
     none false = refl
 
 -- nothing becomes whole
-pub whole_list-same : (x : Shape) (coming : Coming) (log : List Coming) (s : ℕ) → ((n : ℕ) → n < x.count → whole_in x (coming ∷ log) n ≡ whole_in x log n) → whole_list x (coming ∷ log) s ≡ whole_list x log s
+pub whole_list-same : (x : Shape) (coming : LogEntry) (log : List LogEntry) (s : ℕ) → ((n : ℕ) → n < x.count → whole_in x (coming ∷ log) n ≡ whole_in x log n) → whole_list x (coming ∷ log) s ≡ whole_list x log s
 whole_list-same x coming log s same =
     ap (λ l. whole_list x log s ++ l) (kept-none (became x coming log s) 0 x.count (λ k a b. ap (λ e. off x s k && (e && not (whole_in x log k))) (same k (omega arith)) ∙ none (off x s k) (whole_in x log k)))
     ∙ append-nil (whole_list x log s)
@@ -131,7 +131,7 @@ was_read v s n = (nat_lt n v.x.count && ((v.x.message n).stream == s)) && v.read
 abbrev pub read_on : View → ℕ → ℕ → Bool
 read_on v s n = on v.x s n && v.read n
 
-pub record SoFar (s : ℕ) (list : List ℕ) (v : View) (log : List Coming) : Type 0 where
+pub record SoFar (s : ℕ) (list : List ℕ) (v : View) (log : List LogEntry) : Type 0 where
   pub all : list_all (was_read v s) list ≡ true
   pub ordered : passing (λ n. (v.x.message n).ordered) list ≡ kept (read_on v s) 0 v.x.count
   pub unordered : whole_list v.x log s ≡ passing (λ n. not (v.x.message n).ordered) list ++ v.whole s
@@ -139,14 +139,14 @@ pub record SoFar (s : ℕ) (list : List ℕ) (v : View) (log : List Coming) : Ty
 pub was-made : (v : View) (s n : ℕ) → was_read v s n ≡ true → n < v.x.count
 was-made v s n e = let a = (both (nat_lt n v.x.count) ((v.x.message n).stream == s) (both (nat_lt n v.x.count && ((v.x.message n).stream == s)) (v.read n) e).0).0 in grind (arith, nat_tests)
 
-pub so_far-as : (s : ℕ) (list : List ℕ) (u v : View) (log : List Coming) → v ≡ u → SoFar s list u log → SoFar s list v log
+pub so_far-as : (s : ℕ) (list : List ℕ) (u v : View) (log : List LogEntry) → v ≡ u → SoFar s list u log → SoFar s list v log
 so_far-as s list u v log e f = subst (λ y. SoFar s list y log) (sym e) f
 
-pub so_far-still : (s : ℕ) (list : List ℕ) (u v : View) (log : List Coming) → Still u v → Whole u log → Ordered u → SoFar s list u log → SoFar s list v log
+pub so_far-still : (s : ℕ) (list : List ℕ) (u v : View) (log : List LogEntry) → Still u v → Whole u log → Ordered u → SoFar s list u log → SoFar s list v log
 so_far-still s list u v log t h o f = record {
   all = all-more (was_read u s) (was_read v s) list (λ n e. stays n e) f.all;
   ordered = passing-same (was_read u s) (λ n. (v.x.message n).ordered) (λ n. (u.x.message n).ordered) list (λ n e. ap (λ m. m.ordered) (t.grows.message n (was-made u s n e))) f.all ∙ f.ordered ∙ sym lines;
-  unordered = whole_list-later u.x v.x t.sender t.sender' t.grows log h.came s ∙ f.unordered
+  unordered = whole_list-later u.x v.x t.sender t.sender' t.grows log h.datagram_received s ∙ f.unordered
       ∙ ap (λ l. l ++ u.whole s) (sym (passing-same (was_read u s) (λ n. not (v.x.message n).ordered) (λ n. not (u.x.message n).ordered) list (λ n e. ap (λ m. not m.ordered) (t.grows.message n (was-made u s n e))) f.all))
       ∙ ap (λ l. passing (λ n. not (v.x.message n).ordered) list ++ l) (sym (t.whole s));
 }

@@ -12,7 +12,7 @@ use Rattle.sctp_model.specs.World.{Setup, Sack, World}
 use Rattle.sctp_model.specs.Messages
 use Rattle.sctp_model.specs.Receiver.{is_new}
 use Rattle.sctp_model.specs.Changes
-use Rattle.sctp_model.specs.Log.{Coming, SlotCame, SkipCame, SackMade}
+use Rattle.sctp_model.specs.Log.{LogEntry, SlotReceived, SkipReceived, SackMade}
 use Rattle.sctp_model.proofs.Shape.{shape, on}
 use Rattle.sctp_model.proofs.Sender.{Sender}
 use Rattle.sctp_model.proofs.SenderRun.{Sane}
@@ -40,18 +40,18 @@ use Rattle.sctp_lists.proofs.Tests.{all-more}
 
 -- ## A slot comes new
 
-module _ (v : View) (log : List Coming) (p : ℕ) (a : Sender v.x) (h : Whole v log) (heard : Hears v log) (heard' : Hears (arrived_in v p) (SlotCame p ∷ log)) (lt : p < v.x.slots) (mark : (v.x.slot p).is_end_mark ≡ false) (new : v.arrived p ≡ false) where
+module _ (v : View) (log : List LogEntry) (p : ℕ) (a : Sender v.x) (h : Whole v log) (heard : Hears v log) (heard' : Hears (arrived_in v p) (SlotReceived p ∷ log)) (lt : p < v.x.slots) (mark : (v.x.slot p).is_end_mark ≡ false) (new : v.arrived p ≡ false) where
   abbrev m : ℕ
   m = (v.x.slot p).message
 
   abbrev v1 : View
   v1 = arrived_in v p
 
-  whole-now : (n : ℕ) → n < v.x.count → (v.x.message n).ordered ≡ false → whole_in v.x (SlotCame p ∷ log) n ≡ (whole_in v.x log n || due v1 n)
-  whole-now n l o = Wholes.one-more v1 (SlotCame p) log n heard' (a.within n l) o
+  whole-now : (n : ℕ) → n < v.x.count → (v.x.message n).ordered ≡ false → whole_in v.x (SlotReceived p ∷ log) n ≡ (whole_in v.x log n || due v1 n)
+  whole-now n l o = Wholes.one-more v1 (SlotReceived p) log n heard' (a.within n l) o
 
   -- what became whole
-  became-is : (s n : ℕ) → n < v.x.count → (m ≡ n → ⊥) → became v.x (SlotCame p) log s n ≡ false
+  became-is : (s n : ℕ) → n < v.x.count → (m ≡ n → ⊥) → became v.x (SlotReceived p) log s n ≡ false
   became-is s n l ne = kind (v.x.message n).ordered refl
     where
       old : (v.x.message n).ordered ≡ false → (b : Bool) → due v n ≡ b → (whole_in v.x log n || due v1 n) ≡ whole_in v.x log n
@@ -63,11 +63,11 @@ module _ (v : View) (log : List Coming) (p : ℕ) (a : Sender v.x) (h : Whole v 
       none true false = refl
       none false c = refl
 
-      kind : (b : Bool) → (v.x.message n).ordered ≡ b → became v.x (SlotCame p) log s n ≡ false
-      kind true o = ap (λ b. (((v.x.message n).stream == s) && not b) && (whole_in v.x (SlotCame p ∷ log) n && not (whole_in v.x log n))) o ∙ ap (λ b. b && (whole_in v.x (SlotCame p ∷ log) n && not (whole_in v.x log n))) (and-none ((v.x.message n).stream == s))
+      kind : (b : Bool) → (v.x.message n).ordered ≡ b → became v.x (SlotReceived p) log s n ≡ false
+      kind true o = ap (λ b. (((v.x.message n).stream == s) && not b) && (whole_in v.x (SlotReceived p ∷ log) n && not (whole_in v.x log n))) o ∙ ap (λ b. b && (whole_in v.x (SlotReceived p ∷ log) n && not (whole_in v.x log n))) (and-none ((v.x.message n).stream == s))
       kind false o = ap (λ b. off v.x s n && (b && not (whole_in v.x log n))) (whole-now n l o ∙ old o (due v n) refl) ∙ none (off v.x s n) (whole_in v.x log n)
 
-  became-here : (s : ℕ) → became v.x (SlotCame p) log s m ≡ (off v.x s m && due v1 m)
+  became-here : (s : ℕ) → became v.x (SlotReceived p) log s m ≡ (off v.x s m && due v1 m)
   became-here s = kind (v.x.message m).ordered refl
     where
       made : m < v.x.count
@@ -80,17 +80,17 @@ module _ (v : View) (log : List Coming) (p : ℕ) (a : Sender v.x) (h : Whole v 
       flat true = refl
       flat false = refl
 
-      kind : (b : Bool) → (v.x.message m).ordered ≡ b → became v.x (SlotCame p) log s m ≡ (off v.x s m && due v1 m)
+      kind : (b : Bool) → (v.x.message m).ordered ≡ b → became v.x (SlotReceived p) log s m ≡ (off v.x s m && due v1 m)
       kind true o =
           let e : off v.x s m ≡ false = ap (λ b. ((v.x.message m).stream == s) && not b) o ∙ and-none ((v.x.message m).stream == s) in
-          ap (λ b. b && (whole_in v.x (SlotCame p ∷ log) m && not (whole_in v.x log m))) e ∙ sym (ap (λ b. b && due v1 m) e)
+          ap (λ b. b && (whole_in v.x (SlotReceived p ∷ log) m && not (whole_in v.x log m))) e ∙ sym (ap (λ b. b && due v1 m) e)
       kind false o =
           ap (λ b. off v.x s m && (b && not (whole_in v.x log m))) (whole-now m made o)
           ∙ ap (λ b. off v.x s m && ((b || due v1 m) && not b)) (not-then o)
           ∙ ap (λ b. off v.x s m && b) (flat (due v1 m))
 
-  list-is : (s : ℕ) → whole_list v.x (SlotCame p ∷ log) s ≡ whole_list v.x log s ++ (if off v.x s m && due v1 m then m ∷ [] else [])
-  list-is s = ap (λ l. whole_list v.x log s ++ l) (kept-one (became v.x (SlotCame p) log s) m 0 v.x.count (omega arith) (let z = a.made p lt in omega (arith, z)) (λ k x y ne. became-is s k (omega arith) (λ e. ne (sym e))) ∙ ap (λ b. if b then m ∷ [] else []) (became-here s))
+  list-is : (s : ℕ) → whole_list v.x (SlotReceived p ∷ log) s ≡ whole_list v.x log s ++ (if off v.x s m && due v1 m then m ∷ [] else [])
+  list-is s = ap (λ l. whole_list v.x log s ++ l) (kept-one (became v.x (SlotReceived p) log s) m 0 v.x.count (omega arith) (let z = a.made p lt in omega (arith, z)) (λ k x y ne. became-is s k (omega arith) (λ e. ne (sym e))) ∙ ap (λ b. if b then m ∷ [] else []) (became-here s))
 
   queue-is : (s : ℕ) → (noting v1 m).whole s ≡ v.whole s ++ (if off v.x s m && due v1 m then m ∷ [] else [])
   queue-is s = by (v.x.message m).ordered (due v1 m) ((v.x.message m).stream == s) refl
@@ -107,10 +107,10 @@ module _ (v : View) (log : List Coming) (p : ℕ) (a : Sender v.x) (h : Whole v 
       by true d true e = sym (append-nil (v.whole s))
       by true d false e = sym (append-nil (v.whole s))
 
-  pub so_far-new : (s : ℕ) (list : List ℕ) → SoFar s list v log → SoFar s list (noting v1 m) (SlotCame p ∷ log)
+  pub so_far-new : (s : ℕ) (list : List ℕ) → SoFar s list v log → SoFar s list (noting v1 m) (SlotReceived p ∷ log)
   so_far-new s list f = by (not (v.x.message m).ordered && due v1 m) (queue-is s)
     where
-      by : (b : Bool) → (if b then noted_in v1 (v.x.message m).stream m else v1).whole s ≡ v.whole s ++ (if off v.x s m && due v1 m then m ∷ [] else []) → SoFar s list (if b then noted_in v1 (v.x.message m).stream m else v1) (SlotCame p ∷ log)
+      by : (b : Bool) → (if b then noted_in v1 (v.x.message m).stream m else v1).whole s ≡ v.whole s ++ (if off v.x s m && due v1 m then m ∷ [] else []) → SoFar s list (if b then noted_in v1 (v.x.message m).stream m else v1) (SlotReceived p ∷ log)
       by true e = record {
         all = f.all;
         ordered = f.ordered;
@@ -124,49 +124,49 @@ module _ (v : View) (log : List Coming) (p : ℕ) (a : Sender v.x) (h : Whole v 
 
 -- ## Other things come
 
-so_far-again : (v : View) (coming : Coming) (log : List Coming) → Whole v log → Whole v (coming ∷ log) → (s : ℕ) (list : List ℕ) → SoFar s list v log → SoFar s list v (coming ∷ log)
+so_far-again : (v : View) (coming : LogEntry) (log : List LogEntry) → Whole v log → Whole v (coming ∷ log) → (s : ℕ) (list : List ℕ) → SoFar s list v log → SoFar s list v (coming ∷ log)
 so_far-again v coming log h h' s list f = record {
   all = f.all;
   ordered = f.ordered;
   unordered = SoFar.whole_list-same v.x coming log s (λ n lt. sym (h'.agrees n lt) ∙ h.agrees n lt) ∙ f.unordered;
 }
 
-so_far-skip : (v : View) (upto : ℕ) (names : List ℕ) (log : List Coming) → Whole v log → Whole (skipped_in v upto names) (SkipCame upto names ∷ log) → (s : ℕ) (list : List ℕ) → SoFar s list v log → SoFar s list (skipped_in v upto names) (SkipCame upto names ∷ log)
+so_far-skip : (v : View) (upto : ℕ) (names : List ℕ) (log : List LogEntry) → Whole v log → Whole (skipped_in v upto names) (SkipReceived upto names ∷ log) → (s : ℕ) (list : List ℕ) → SoFar s list v log → SoFar s list (skipped_in v upto names) (SkipReceived upto names ∷ log)
 so_far-skip v upto names log h h' s list f = record {
   all = f.all;
   ordered = f.ordered;
-  unordered = SoFar.whole_list-same v.x (SkipCame upto names) log s (λ n lt. sym (h'.agrees n lt) ∙ h.agrees n lt) ∙ f.unordered;
+  unordered = SoFar.whole_list-same v.x (SkipReceived upto names) log s (λ n lt. sym (h'.agrees n lt) ∙ h.agrees n lt) ∙ f.unordered;
 }
 
 -- ## A step that is no read
 
-pub record Told (s : ℕ) (list : List ℕ) (w : World) (log : List Coming) : Type 0 where
+pub record Told (s : ℕ) (list : List ℕ) (w : World) (log : List LogEntry) : Type 0 where
   pub received : Received w log
   pub so_far : SoFar s list (view w) log
 
-so_far-slot : (setup : Setup) (w : World) (log : List Coming) (p s : ℕ) (list : List ℕ) → Sane setup w → p < length w.slots → (Messages.slot_at w p).is_end_mark ≡ false → Known w log → Known (Changes.slot_came w p) (SlotCame p ∷ log) → SoFar s list (view w) log → SoFar s list (view (Changes.slot_came w p)) (SlotCame p ∷ log)
+so_far-slot : (setup : Setup) (w : World) (log : List LogEntry) (p s : ℕ) (list : List ℕ) → Sane setup w → p < length w.slots → (Messages.slot_at w p).is_end_mark ≡ false → Known w log → Known (Changes.slot_received w p) (SlotReceived p ∷ log) → SoFar s list (view w) log → SoFar s list (view (Changes.slot_received w p)) (SlotReceived p ∷ log)
 so_far-slot setup w log p s list g lt mark k k' f = by (is_new w p) refl
   where
-    by : (b : Bool) → is_new w p ≡ b → SoFar s list (view (Changes.slot_came w p)) (SlotCame p ∷ log)
-    by true e = so_far-as s list (noting (arrived_in (view w) p) (Messages.message_of w p)) (view (Changes.slot_came w p)) (SlotCame p ∷ log) (Known.view-came setup w p g lt e)
+    by : (b : Bool) → is_new w p ≡ b → SoFar s list (view (Changes.slot_received w p)) (SlotReceived p ∷ log)
+    by true e = so_far-as s list (noting (arrived_in (view w) p) (Messages.message_of w p)) (view (Changes.slot_received w p)) (SlotReceived p ∷ log) (Known.view-received setup w p g lt e)
         (so_far-new (view w) log p g.sender k.whole (hears w log k.heard) (hears-new w log p lt e k.heard) lt mark (new-not w p e) s list f)
     by false e =
-        let same : view (Changes.slot_came w p) ≡ view w = ap (λ b. view (if b then Changes.whole_noted (with_arrived w p) (Messages.message_of w p) else record w { duplicates = w.duplicates ++ p ∷ [] })) e in
-        so_far-as s list (view w) (view (Changes.slot_came w p)) (SlotCame p ∷ log) same
-        (so_far-again (view w) (SlotCame p) log k.whole (Known.whole-as (view (Changes.slot_came w p)) (view w) (SlotCame p ∷ log) (sym same) k'.whole) s list f)
+        let same : view (Changes.slot_received w p) ≡ view w = ap (λ b. view (if b then Changes.whole_noted (with_arrived w p) (Messages.message_of w p) else record w { duplicates = w.duplicates ++ p ∷ [] })) e in
+        so_far-as s list (view w) (view (Changes.slot_received w p)) (SlotReceived p ∷ log) same
+        (so_far-again (view w) (SlotReceived p) log k.whole (Known.whole-as (view (Changes.slot_received w p)) (view w) (SlotReceived p ∷ log) (sym same) k'.whole) s list f)
 
-so_far-skipped : (setup : Setup) (w : World) (log : List Coming) (upto : ℕ) (names : List ℕ) (s : ℕ) (list : List ℕ) → Sane setup w → NamesFit (shape w) upto names → Known w log → Known (Changes.skip_came w upto names) (SkipCame upto names ∷ log) → SoFar s list (view w) log → SoFar s list (view (Changes.skip_came w upto names)) (SkipCame upto names ∷ log)
+so_far-skipped : (setup : Setup) (w : World) (log : List LogEntry) (upto : ℕ) (names : List ℕ) (s : ℕ) (list : List ℕ) → Sane setup w → NamesFit (shape w) upto names → Known w log → Known (Changes.skip_received w upto names) (SkipReceived upto names ∷ log) → SoFar s list (view w) log → SoFar s list (view (Changes.skip_received w upto names)) (SkipReceived upto names ∷ log)
 so_far-skipped setup w log upto names s list g fit k k' f = by (Changes.skip_counts w upto) refl
   where
-    by : (b : Bool) → Changes.skip_counts w upto ≡ b → SoFar s list (view (Changes.skip_came w upto names)) (SkipCame upto names ∷ log)
+    by : (b : Bool) → Changes.skip_counts w upto ≡ b → SoFar s list (view (Changes.skip_received w upto names)) (SkipReceived upto names ∷ log)
     by true e =
-        let same : view (Changes.skip_came w upto names) ≡ skipped_in (view w) upto names = ap (λ b. view (if b then record w { skipped = upto + 1; streams = map (Changes.named_by w names) w.streams } else w)) e ∙ view-skip setup w upto names g fit in
-        so_far-as s list (skipped_in (view w) upto names) (view (Changes.skip_came w upto names)) (SkipCame upto names ∷ log) same
-        (so_far-skip (view w) upto names log k.whole (Known.whole-as (view (Changes.skip_came w upto names)) (skipped_in (view w) upto names) (SkipCame upto names ∷ log) (sym same) k'.whole) s list f)
+        let same : view (Changes.skip_received w upto names) ≡ skipped_in (view w) upto names = ap (λ b. view (if b then record w { skipped = upto + 1; streams = map (Changes.named_by w names) w.streams } else w)) e ∙ view-skip setup w upto names g fit in
+        so_far-as s list (skipped_in (view w) upto names) (view (Changes.skip_received w upto names)) (SkipReceived upto names ∷ log) same
+        (so_far-skip (view w) upto names log k.whole (Known.whole-as (view (Changes.skip_received w upto names)) (skipped_in (view w) upto names) (SkipReceived upto names ∷ log) (sym same) k'.whole) s list f)
     by false e =
-        let same : view (Changes.skip_came w upto names) ≡ view w = ap (λ b. view (if b then record w { skipped = upto + 1; streams = map (Changes.named_by w names) w.streams } else w)) e in
-        so_far-as s list (view w) (view (Changes.skip_came w upto names)) (SkipCame upto names ∷ log) same
-        (so_far-again (view w) (SkipCame upto names) log k.whole (Known.whole-as (view (Changes.skip_came w upto names)) (view w) (SkipCame upto names ∷ log) (sym same) k'.whole) s list f)
+        let same : view (Changes.skip_received w upto names) ≡ view w = ap (λ b. view (if b then record w { skipped = upto + 1; streams = map (Changes.named_by w names) w.streams } else w)) e in
+        so_far-as s list (view w) (view (Changes.skip_received w upto names)) (SkipReceived upto names ∷ log) same
+        (so_far-again (view w) (SkipReceived upto names) log k.whole (Known.whole-as (view (Changes.skip_received w upto names)) (view w) (SkipReceived upto names ∷ log) (sym same) k'.whole) s list f)
 
 pub told-moving : (setup : Setup) (s : ℕ) (list : List ℕ) → Moving setup (Told s list)
 told-moving setup s list =
@@ -177,7 +177,7 @@ told-moving setup s list =
       moded = λ w log t u r n g b. record { received = k.moded w log t u r n g b.received; so_far = so_far-as s list (view w) (view (Changes.mode_set w t u r n)) log (View.view-moded w t u r n) b.so_far };
       slot = λ w log p g lt m b. let r = k.slot w log p g lt m b.received in record { received = r; so_far = so_far-slot setup w log p s list g lt m b.received.known r.known b.so_far };
       skip = λ w log upto names g lt f b. let r = k.skip w log upto names g lt f b.received in record { received = r; so_far = so_far-skipped setup w log upto names s list g f b.received.known r.known b.so_far };
-      reported = λ w log credit g b. let r = k.reported w log credit g b.received in record { received = r; so_far = so_far-again (view w) SackMade log b.received.known.whole (record { came = r.known.whole.came; ready = r.known.whole.ready; differ = r.known.whole.differ; agrees = r.known.whole.agrees }) s list b.so_far };
+      reported = λ w log credit g b. let r = k.reported w log credit g b.received in record { received = r; so_far = so_far-again (view w) SackMade log b.received.known.whole (record { datagram_received = r.known.whole.datagram_received; ready = r.known.whole.ready; differ = r.known.whole.differ; agrees = r.known.whole.agrees }) s list b.so_far };
       taken = λ w log r g b. record { received = k.taken w log r g b.received; so_far = so_far-as s list (view w) (view (Changes.sack_taken w (Some (Sack r)))) log (View.view-taken w r) b.so_far };
     }
 
@@ -192,7 +192,7 @@ was-stays v s t n k e =
     and (nat_lt k v.x.count && ((v.x.message k).stream == s)) ((read_in v t n).read k) a.0 (stays-read v t n k a.1)
 
 -- on another stream
-pub so_far-elsewhere : (v : View) (log : List Coming) (s t n : ℕ) (list : List ℕ) → (v.x.message n).stream ≡ t → (t == s) ≡ false → SoFar s list v log → SoFar s list (read_in v t n) log
+pub so_far-elsewhere : (v : View) (log : List LogEntry) (s t n : ℕ) (list : List ℕ) → (v.x.message n).stream ≡ t → (t == s) ≡ false → SoFar s list v log → SoFar s list (read_in v t n) log
 so_far-elsewhere v log s t n list on-it ne f = record {
   all = all-more (was_read v s) (was_read (read_in v t n) s) list (λ k e. was-stays v s t n k e) f.all;
   ordered = f.ordered ∙ sym (kept-same (read_on (read_in v t n) s) (read_on v s) 0 v.x.count (λ k a b. by_same {P = read_on (read_in v t n) s k ≡ read_on v s k} k n (λ e. gone k e) (λ z y. ap (λ c. on v.x s k && c) (read-other v t n k z))));
@@ -210,7 +210,7 @@ record IsRead (v : View) (s n : ℕ) : Type 0 where
   stream : (v.x.message n).stream ≡ s
   unread : v.read n ≡ false
 
-read-all : (v : View) (log : List Coming) (s n : ℕ) (list : List ℕ) → IsRead v s n → SoFar s list v log → list_all (was_read (read_in v s n) s) (list ++ n ∷ []) ≡ true
+read-all : (v : View) (log : List LogEntry) (s n : ℕ) (list : List ℕ) → IsRead v s n → SoFar s list v log → list_all (was_read (read_in v s n) s) (list ++ n ∷ []) ≡ true
 read-all v log s n list r f =
     let l = r.made in
     let low : nat_lt n v.x.count ≡ true = grind (arith, nat_tests) in
@@ -218,7 +218,7 @@ read-all v log s n list r f =
     all-one (was_read (read_in v s n) s) list n (all-more (was_read v s) (was_read (read_in v s n) s) list (λ k e. was-stays v s s n k e) f.all)
     (and (nat_lt n v.x.count && ((v.x.message n).stream == s)) ((read_in v s n).read n) (and (nat_lt n v.x.count) ((v.x.message n).stream == s) low on-it) (read-here v s n))
 
-pub so_far-unordered : (v : View) (log : List Coming) (s n : ℕ) (list : List ℕ) → Whole v log → ReadsWhole v s n → SoFar s list v log → SoFar s (list ++ n ∷ []) (read_in v s n) log
+pub so_far-unordered : (v : View) (log : List LogEntry) (s n : ℕ) (list : List ℕ) → Whole v log → ReadsWhole v s n → SoFar s list v log → SoFar s (list ++ n ∷ []) (read_in v s n) log
 so_far-unordered v log s n list h r f =
     let i = ready-first v log s n h r in
     let q : IsRead v s n = record { made = i.made; stream = i.stream; unread = i.unread } in
@@ -241,7 +241,7 @@ so_far-unordered v log s n list h r f =
     dropped [] = refl
     dropped (y ∷ l) = refl
 
-pub so_far-ordered : (v : View) (log : List Coming) (s n : ℕ) (list : List ℕ) → Ordered v → ReadsRun v s n → IsDue v s n → SoFar s list v log → SoFar s (list ++ n ∷ []) (read_in v s n) log
+pub so_far-ordered : (v : View) (log : List LogEntry) (s n : ℕ) (list : List ℕ) → Ordered v → ReadsRun v s n → IsDue v s n → SoFar s list v log → SoFar s (list ++ n ∷ []) (read_in v s n) log
 so_far-ordered v log s n list o r d f =
     let q : IsRead v s n = record { made = d.made; stream = on-stream v.x s n d.on_it; unread = d.unread } in
     let kind = on-ordered v.x s n d.on_it in

@@ -22,7 +22,7 @@ use Rattle.sctp_model.specs.Receiver
 use Rattle.sctp_model.specs.Changes
 use Rattle.sctp_model.specs.Steps.{world_of, refusal_of, unless, is_for_receiver, arrival_fits, adds_to_span}
 use Rattle.sctp_model.specs.Log
-use Rattle.sctp_model.specs.Log.{Coming}
+use Rattle.sctp_model.specs.Log.{LogEntry}
 use Rattle.sctp_model.specs.Laws.{OnEveryRun}
 use Rattle.sctp_model.specs.Sound.{IsLaid, IsSpan, Sound, SoundLoose, InOrder, AllFragments, AllNamable, RecordIsSound, SlotsComeSound, SkipsComeSound}
 use Rattle.sctp_lists.specs.Lists.{pieces}
@@ -32,7 +32,7 @@ use Rattle.sctp_model.proofs.Sender.{Sender}
 use Rattle.sctp_model.proofs.SenderSteps.{of-has}
 use Rattle.sctp_model.proofs.Slots.{slots-row, beyond-slots}
 use Rattle.sctp_model.proofs.Few.{few}
-use Rattle.sctp_model.proofs.SenderRun.{Sane, sane-run, sane-came, unless-holds, found, open-mapped}
+use Rattle.sctp_model.proofs.SenderRun.{Sane, sane-run, sane-received, unless-holds, found, open-mapped}
 use Rattle.sctp_model.proofs.Network
 use Rattle.sctp_model.proofs.Network.{SlotsFit, NamesFit, fit-at, fit-run}
 use Rattle.sctp_model.proofs.View
@@ -95,7 +95,7 @@ laid-of w n s =
 
 -- ## The record that a history leads to, and those between
 
-pub sound-of : (setup : Setup) (w : World) (log : List Coming) → Sane setup w → Received w log → Sound w
+pub sound-of : (setup : Setup) (w : World) (log : List LogEntry) → Sane setup w → Received w log → Sound w
 sound-of setup w log g r =
     let s = g.sender in
     let o = r.ordered in
@@ -112,7 +112,7 @@ sound-of setup w log g r =
       skipped_made = r.known.heard.short;
     }
 
-pub loose-of : (setup : Setup) (w : World) (log : List Coming) → Sane setup w → Received w log → SoundLoose w
+pub loose-of : (setup : Setup) (w : World) (log : List LogEntry) → Sane setup w → Received w log → SoundLoose w
 loose-of setup w log g r =
     let s = g.sender in
     let h = r.known.whole in
@@ -249,7 +249,7 @@ kept-more p q from (suc count) h = step (p from) (q from) refl refl (kept-more p
     step false true e f ih = omega (arith, ih)
     step false false e f ih = ih
 
-later-slot : (setup : Setup) (w : World) (p : ℕ) → Sane setup w → p < length w.slots → Later (view w) (view (Changes.slot_came w p))
+later-slot : (setup : Setup) (w : World) (p : ℕ) → Sane setup w → p < length w.slots → Later (view w) (view (Changes.slot_received w p))
 later-slot setup w p g lt = by (Receiver.is_new w p) refl
   where
     arrives : (k : ℕ) (b : Bool) → Receiver.arrived_at w k ≡ true → (if b then true else Receiver.arrived_at w k) ≡ true
@@ -270,26 +270,26 @@ later-slot setup w p g lt = by (Receiver.is_new w p) refl
     noted true = record { shapes = refl; reads = refl; names = refl; skips = refl; come = λ n. omega arith; arrived = λ k e. e }
     noted false = later-none (View.arrived_in (view w) p)
 
-    by : (b : Bool) → Receiver.is_new w p ≡ b → Later (view w) (view (Changes.slot_came w p))
-    by true e = later-as (view w) (Known.noting (View.arrived_in (view w) p) (Messages.message_of w p)) (view (Changes.slot_came w p)) (Known.view-came setup w p g lt e)
+    by : (b : Bool) → Receiver.is_new w p ≡ b → Later (view w) (view (Changes.slot_received w p))
+    by true e = later-as (view w) (Known.noting (View.arrived_in (view w) p) (Messages.message_of w p)) (view (Changes.slot_received w p)) (Known.view-received setup w p g lt e)
         (later-then (view w) (View.arrived_in (view w) p) (Known.noting (View.arrived_in (view w) p) (Messages.message_of w p)) first (noted (not (Messages.message_at w (Messages.message_of w p)).ordered && Wholes.due (View.arrived_in (view w) p) (Messages.message_of w p))))
-    by false e = later-as (view w) (view w) (view (Changes.slot_came w p)) (ap (λ b. view (if b then Changes.whole_noted (with_arrived w p) (Messages.message_of w p) else record w { duplicates = w.duplicates ++ p ∷ [] })) e) (later-none (view w))
+    by false e = later-as (view w) (view w) (view (Changes.slot_received w p)) (ap (λ b. view (if b then Changes.whole_noted (with_arrived w p) (Messages.message_of w p) else record w { duplicates = w.duplicates ++ p ∷ [] })) e) (later-none (view w))
 
 -- a state on the way
 record Between (setup : Setup) (w : World) : Type 0 where
   sane : Sane setup w
-  log : List Coming
+  log : List LogEntry
   received : Received w log
 
-between-slot : (setup : Setup) (w : World) (p : ℕ) → p < length w.slots → (Messages.slot_at w p).is_end_mark ≡ false → Between setup w → Between setup (Changes.slot_came w p)
-between-slot setup w p lt mark b = record { sane = sane-came setup w p b.sane; log = Log.SlotCame p ∷ b.log; received = (received-keeps setup).slot w b.log p b.sane lt mark b.received }
+between-slot : (setup : Setup) (w : World) (p : ℕ) → p < length w.slots → (Messages.slot_at w p).is_end_mark ≡ false → Between setup w → Between setup (Changes.slot_received w p)
+between-slot setup w p lt mark b = record { sane = sane-received setup w p b.sane; log = Log.SlotReceived p ∷ b.log; received = (received-keeps setup).slot w b.log p b.sane lt mark b.received }
 
 -- after these slots
-between-slots : (setup : Setup) (ps : List ℕ) (w : World) → SlotsFit (shape w) ps → Between setup w → Between setup (fold Changes.slot_came w ps) × Later (view w) (view (fold Changes.slot_came w ps))
+between-slots : (setup : Setup) (ps : List ℕ) (w : World) → SlotsFit (shape w) ps → Between setup w → Between setup (fold Changes.slot_received w ps) × Later (view w) (view (fold Changes.slot_received w ps))
 between-slots setup [] w f b = (b, later-none (view w))
 between-slots setup (p ∷ ps) w f b =
-    let r = between-slots setup ps (Changes.slot_came w p) (subst (λ x. SlotsFit x ps) (sym (Network.same-slot w p).shape_is) f.2) (between-slot setup w p f.0 f.1 b) in
-    (r.0, later-then (view w) (view (Changes.slot_came w p)) (view (fold Changes.slot_came (Changes.slot_came w p) ps)) (later-slot setup w p b.sane f.0) r.1)
+    let r = between-slots setup ps (Changes.slot_received w p) (subst (λ x. SlotsFit x ps) (sym (Network.same-slot w p).shape_is) f.2) (between-slot setup w p f.0 f.1 b) in
+    (r.0, later-then (view w) (view (Changes.slot_received w p)) (view (fold Changes.slot_received (Changes.slot_received w p) ps)) (later-slot setup w p b.sane f.0) r.1)
 
 fold-append : {A B : Type 0} (f : B → A → B) (x : B) (xs ys : List A) → fold f x (xs ++ ys) ≡ fold f (fold f x xs) ys
 fold-append f x [] ys = refl
@@ -361,12 +361,12 @@ adds-it w t (q ∷ ps) p qs new on' = step (Receiver.is_new w q) (t (Messages.me
     step true true e ih = ap (λ c. among (if c then Messages.message_of w q ∷ passing t (map (Messages.message_of w) rest) else passing t (map (Messages.message_of w) rest))) e ∙ or-right (Messages.index_of w (Messages.message_of w q) == Messages.index_of w (Messages.message_of w p)) (among (passing t (map (Messages.message_of w) rest))) ih
     step true false e ih = ap (λ c. among (if c then Messages.message_of w q ∷ passing t (map (Messages.message_of w) rest) else passing t (map (Messages.message_of w) rest))) e ∙ ih
 
-fits-after : (w : World) (k : ℕ) (d : Datagram) → refusal_of w (E.Arrive k) ≡ None → slice_get w.network k ≡ Some d → (Receiver.spans_fit w (adds_to_span w (Some d)) ≡ true) × (Receiver.spans_fit (Changes.came w (Some d)) (adds_to_span w (Some d)) ≡ true)
+fits-after : (w : World) (k : ℕ) (d : Datagram) → refusal_of w (E.Arrive k) ≡ None → slice_get w.network k ≡ Some d → (Receiver.spans_fit w (adds_to_span w (Some d)) ≡ true) × (Receiver.spans_fit (Changes.datagram_received w (Some d)) (adds_to_span w (Some d)) ≡ true)
 fits-after w k d ok e =
     let o : unless (is_for_receiver (Some d)) NoSuchDatagram (unless (arrival_fits w (Some d)) SpanTooWide None) ≡ None = ap (λ x. unless (is_for_receiver x) NoSuchDatagram (unless (arrival_fits w x) SpanTooWide None)) (sym e) ∙ ok in
     let first = unless-holds (is_for_receiver (Some d)) NoSuchDatagram (unless (arrival_fits w (Some d)) SpanTooWide None) o in
     let second = unless-holds (arrival_fits w (Some d)) SpanTooWide None first.1 in
-    both (Receiver.spans_fit w (adds_to_span w (Some d))) (Receiver.spans_fit (Changes.came w (Some d)) (adds_to_span w (Some d))) second.0
+    both (Receiver.spans_fit w (adds_to_span w (Some d))) (Receiver.spans_fit (Changes.datagram_received w (Some d)) (adds_to_span w (Some d))) second.0
 
 pub slots_come_sound : OnEveryRun SlotsComeSound
 slots_come_sound setup h is run k ps p qs ok e =
@@ -376,10 +376,10 @@ slots_come_sound setup h is run k ps p qs ok e =
     w = world_of setup h
 
     v : World
-    v = fold Changes.slot_came w ps
+    v = fold Changes.slot_received w ps
 
     z : World
-    z = fold Changes.slot_came w (ps ++ p ∷ qs)
+    z = fold Changes.slot_received w (ps ++ p ∷ qs)
 
     fit : SlotsFit (shape w) (ps ++ p ∷ qs)
     fit = fit-at (shape w) w.network k (W.Data (ps ++ p ∷ qs)) (fit-run setup h run) e
@@ -399,11 +399,11 @@ slots_come_sound setup h is run k ps p qs ok e =
     there : SlotsFit (shape v) (p ∷ qs)
     there = subst (λ x. SlotsFit x (p ∷ qs)) (sym first.1.shapes) parts'.1
 
-    second : Between setup (fold Changes.slot_came v (p ∷ qs)) × Later (view v) (view (fold Changes.slot_came v (p ∷ qs)))
+    second : Between setup (fold Changes.slot_received v (p ∷ qs)) × Later (view v) (view (fold Changes.slot_received v (p ∷ qs)))
     second = between-slots setup (p ∷ qs) v there b
 
-    whole-fold : z ≡ fold Changes.slot_came v (p ∷ qs)
-    whole-fold = fold-append Changes.slot_came w ps (p ∷ qs)
+    whole-fold : z ≡ fold Changes.slot_received v (p ∷ qs)
+    whole-fold = fold-append Changes.slot_received w ps (p ∷ qs)
 
     near : (s : ℕ) → Messages.is_ordered_on v s (Messages.message_of v p) ≡ true → Receiver.is_new v p ≡ true → IsSpan v s (Messages.index_of v (Messages.message_of v p) ∷ [])
     near s on' new =
@@ -415,7 +415,7 @@ slots_come_sound setup h is run k ps p qs ok e =
         let index-v : (k : ℕ) → Messages.index_of v k ≡ Messages.index_of w k = λ k. ap (λ x. index x k) first.1.shapes in
         let index-z : (k : ℕ) → Messages.index_of z k ≡ Messages.index_of w k = λ k. ap (λ x. index x k) all.shapes in
         let after' = (fits-after w k (W.Data (ps ++ p ∷ qs)) ok e).1 in
-        let opens : Messages.is_open z s ≡ true = subst (λ y. Messages.is_open y s ≡ true) (sym whole-fold) (ap (Messages.is_open (fold Changes.slot_came v (p ∷ qs))) (sym (on-stream (shape w) s m on-w) ∙ ap (λ x. (x.message m).stream) (sym (second.1.shapes ∙ first.1.shapes))) ∙ second.0.sane.known m (subst (λ x. m < x.count) (sym (second.1.shapes ∙ first.1.shapes)) ((sane-run setup h run).sender.made p parts'.1.0))) in
+        let opens : Messages.is_open z s ≡ true = subst (λ y. Messages.is_open y s ≡ true) (sym whole-fold) (ap (Messages.is_open (fold Changes.slot_received v (p ∷ qs))) (sym (on-stream (shape w) s m on-w) ∙ ap (λ x. (x.message m).stream) (sym (second.1.shapes ∙ first.1.shapes))) ∙ second.0.sane.known m (subst (λ x. m < x.count) (sym (second.1.shapes ∙ first.1.shapes)) ((sane-run setup h run).sender.made p parts'.1.0))) in
         let span = span-open z s (adds_to_span w (Some (W.Data (ps ++ p ∷ qs)))) after' opens in
         span-among v z s (map (Messages.index_of z) (passing (Messages.is_ordered_on z s) (adds_to_span w (Some (W.Data (ps ++ p ∷ qs)))))) (Messages.index_of v (Messages.message_of v p) ∷ [])
         (omega (arith, ap (λ x. x.count) l.shapes)) (sym (next-later (view v) (view z) l s)) (λ k. index-v k ∙ sym (index-z k))
@@ -440,14 +440,14 @@ slots_come_sound setup h is run k ps p qs ok e =
 pub skips_come_sound : OnEveryRun SkipsComeSound
 skips_come_sound setup h is run k upto names ok e counts s opens = (
   span-open w s names (ap (Receiver.spans_fit w) (sym adds) ∙ two.0) opens,
-  subst (λ x. IsSpan v s (map (index x) (passing (on x s) names))) (Network.same-came w (Some (Forward upto names))).shape_is (span-open v s names (ap (Receiver.spans_fit v) (sym adds) ∙ two.1) still-open),
+  subst (λ x. IsSpan v s (map (index x) (passing (on x s) names))) (Network.same-received w (Some (Forward upto names))).shape_is (span-open v s names (ap (Receiver.spans_fit v) (sym adds) ∙ two.1) still-open),
 )
   where
     w : World
     w = world_of setup h
 
     v : World
-    v = Changes.came w (Some (Forward upto names))
+    v = Changes.datagram_received w (Some (Forward upto names))
 
     two : (Receiver.spans_fit w (adds_to_span w (Some (Forward upto names))) ≡ true) × (Receiver.spans_fit v (adds_to_span w (Some (Forward upto names))) ≡ true)
     two = fits-after w k (Forward upto names) ok e

@@ -21,7 +21,7 @@ use Rattle.sctp_model.specs.Receiver.{least, greatest, fits, spans_fit}
 use Rattle.sctp_model.specs.Changes
 use Rattle.sctp_model.specs.Steps.{History, world_of, IsRun, refusal_of, after, unless, is_for_receiver, arrival_fits, adds_to_span}
 use Rattle.sctp_model.specs.Log
-use Rattle.sctp_model.specs.Log.{Coming}
+use Rattle.sctp_model.specs.Log.{LogEntry}
 use Rattle.sctp_model.specs.Laws.{IsSetup, OnEveryRun, SpansFit}
 use Rattle.sctp_model.proofs.Shape.{shape, on, index, sent}
 use Rattle.sctp_model.proofs.Sender.{Sender}
@@ -211,13 +211,13 @@ near-still u v t o near s =
 
 -- ## A read
 
-held-read : (v : View) (log : List Coming) (s n t k : ℕ) → Whole v log → ReadsWhole v s n ⊎ ReadsRun v s n → held (read_in v s n) t k ≡ true → (k ≡ n → ⊥) × (held v t k ≡ true)
+held-read : (v : View) (log : List LogEntry) (s n t k : ℕ) → Whole v log → ReadsWhole v s n ⊎ ReadsRun v s n → held (read_in v s n) t k ≡ true → (k ≡ n → ⊥) × (held v t k ≡ true)
 held-read v log s n t k h r e =
     let i = held-of (read_in v s n) t k e in
     let ne : k ≡ n → ⊥ = λ z. not_both (sym i.unread ∙ ap (read_in v s n).read z ∙ Ordered.read-here v s n) in
     (ne, is-held v t k (record { on_it = i.on_it; unread = sym (read-other v s n k ne) ∙ i.unread; some = i.some; kept_for = ap (λ b. b || nat_le (v.named t) (index v.x k)) (sym (whole-read v log s n h r k)) ∙ i.kept_for }))
 
-near-read_other : (v : View) (log : List Coming) (s n t : ℕ) → Whole v log → ReadsWhole v s n ⊎ ReadsRun v s n → next (read_in v s n) t ≡ next v t → IsNear v t → IsNear (read_in v s n) t
+near-read_other : (v : View) (log : List LogEntry) (s n t : ℕ) → Whole v log → ReadsWhole v s n ⊎ ReadsRun v s n → next (read_in v s n) t ≡ next v t → IsNear v t → IsNear (read_in v s n) t
 near-read_other v log s n t h r e near = record {
   low = near.low;
   high = near.high;
@@ -248,7 +248,7 @@ first-held v s n k d lt e = by (cases_lt k n)
             let low : v.named s ≤ index v.x k = grind (arith, nat_tests) in
             absurd (not_both (sym h.unread ∙ next_reads v s k lt h.on_it low (omega (arith, less, d.near))))
 
-near-due : (v : View) (log : List Coming) (s n : ℕ) → Sender v.x → Whole v log → Ordered v → ReadsRun v s n → IsDue v s n → IsNear v s → IsNear (read_in v s n) s
+near-due : (v : View) (log : List LogEntry) (s n : ℕ) → Sender v.x → Whole v log → Ordered v → ReadsRun v s n → IsDue v s n → IsNear v s → IsNear (read_in v s n) s
 near-due v log s n a h o r d near = by (eq-or-lt_of_le d.near)
   where
     past : (k : ℕ) → k < v.x.count → held (read_in v s n) s k ≡ true → index v.x n < index v.x k
@@ -275,7 +275,7 @@ near-due v log s n a h o r d near = by (eq-or-lt_of_le d.near)
           held_below = λ k lt i. omega (arith, near.held_below k lt (held-read v log s n s k h (inr r) i).1);
         }
 
-near-reading : (v : View) (log : List Coming) (s n : ℕ) → Sender v.x → Whole v log → Ordered v → ReadsWhole v s n ⊎ ReadsRun v s n → AllNear v → AllNear (read_in v s n)
+near-reading : (v : View) (log : List LogEntry) (s n : ℕ) → Sender v.x → Whole v log → Ordered v → ReadsWhole v s n ⊎ ReadsRun v s n → AllNear v → AllNear (read_in v s n)
 near-reading v log s n a h o (inl r) near t =
     let kind = (Known.ready-first v log s n h r).kind in
     near-read_other v log s n t h (inl r) (Ordered.next-read_other v s n t a o (λ k i e. not_both (sym kind ∙ ap (λ j. (v.x.message j).ordered) (sym e) ∙ on-ordered v.x t k i))) (near t)
@@ -338,7 +338,7 @@ near-spans setup w messages g e s = by (Messages.stream_at w s) refl
 pub near-as : (u v : View) → v ≡ u → AllNear u → AllNear v
 near-as u v e n = subst AllNear (sym e) n
 
-near-quiet : (setup : Setup) (w v : World) (log : List Coming) → Sane setup w → Sane setup v → Quiet w v → Received w log → AllNear (view w) → AllNear (view v)
+near-quiet : (setup : Setup) (w v : World) (log : List LogEntry) → Sane setup w → Sane setup v → Quiet w v → Received w log → AllNear (view w) → AllNear (view v)
 near-quiet setup w v log g a q r n = near-still (view w) (view v) (still-of setup w v g a q) r.ordered n
 
 near-taken : (w : World) (o : Option Datagram) → AllNear (view w) → AllNear (view (Changes.sack_taken w o))
@@ -347,11 +347,11 @@ near-taken w (Some (W.Data ps)) n = n
 near-taken w (Some (Forward upto names)) n = n
 near-taken w (Some (Sack r)) n = near-as (view w) (view (Changes.sack_taken w (Some (Sack r)))) (View.view-taken w r) n
 
-near-reads : (setup : Setup) (w : World) (log : List Coming) (s : ℕ) (o : Option ℕ) → Sane setup w → Messages.is_open w s ≡ true → Receiver.next_read w s ≡ o → Received w log → AllNear (view w) → AllNear (view (Changes.read_of w s o))
+near-reads : (setup : Setup) (w : World) (log : List LogEntry) (s : ℕ) (o : Option ℕ) → Sane setup w → Messages.is_open w s ≡ true → Receiver.next_read w s ≡ o → Received w log → AllNear (view w) → AllNear (view (Changes.read_of w s o))
 near-reads setup w log s None g a e r n = n
 near-reads setup w log s (Some k) g a e r n = near-as (read_in (view w) s k) (view (Changes.read_of w s (Some k))) (View.view-read w s k a) (near-reading (view w) log s k g.sender r.known.whole r.ordered (reads (view w) s k e) n)
 
-near-after : (setup : Setup) (w : World) (log : List Coming) (e : Event) → Sane setup w → refusal_of w e ≡ None → Sane setup (after w e) → Received w log → AllNear (view w) → AllNear (view (after w e))
+near-after : (setup : Setup) (w : World) (log : List LogEntry) (e : Event) → Sane setup w → refusal_of w e ≡ None → Sane setup (after w e) → Received w log → AllNear (view w) → AllNear (view (after w e))
 near-after setup w log (E.Open s) g ok a r n = near-as (view w) (view (Changes.opened w s)) (View.view-opened w s (negated (Messages.is_open w s) (unless-holds (not (Messages.is_open w s)) StreamOpen None ok).0)) n
 near-after setup w log (E.Mode s u y v) g ok a r n = near-as (view w) (view (Changes.mode_set w s u y v)) (View.view-moded w s u y v) n
 near-after setup w log (E.Write s ppi bytes) g ok a r n = near-quiet setup w (after w (E.Write s ppi bytes)) log g a (quiet-written setup w s ppi bytes g) r n
@@ -368,7 +368,7 @@ near-after setup w log (E.Arrive k) g ok a r n =
     let d = slice_get w.network k in
     let first = unless-holds (is_for_receiver d) NoSuchDatagram (unless (arrival_fits w d) SpanTooWide None) ok in
     let second = unless-holds (arrival_fits w d) SpanTooWide None first.1 in
-    near-spans setup (Changes.came w d) (adds_to_span w d) a (both (spans_fit w (adds_to_span w d)) (spans_fit (Changes.came w d) (adds_to_span w d)) second.0).1
+    near-spans setup (Changes.datagram_received w d) (adds_to_span w d) a (both (spans_fit w (adds_to_span w d)) (spans_fit (Changes.datagram_received w d) (adds_to_span w d)) second.0).1
 near-after setup w log (E.Acked k) g ok a r n = near-taken w (slice_get w.network k) n
 near-after setup w log (E.Read s) g ok a r n = near-reads setup w log s (Receiver.next_read w s) g (unless-holds (Messages.is_open w s) StreamUnknown None ok).0 refl r n
 

@@ -9,7 +9,7 @@ use Rattle.sctp_lists.proofs.More.{fails, both, and}
 use Rattle.sctp_lists.proofs.Alls
 use Rattle.sctp_model.specs.World.{World}
 use Rattle.sctp_model.specs.Log
-use Rattle.sctp_model.specs.Log.{Coming, SlotCame, SkipCame, SackMade}
+use Rattle.sctp_model.specs.Log.{LogEntry, SlotReceived, SkipReceived, SackMade}
 use Rattle.sctp_model.proofs.Shape.{Shape, shape, has, sent, parts}
 use Rattle.sctp_model.proofs.Sender.{Sender}
 use Rattle.sctp_model.proofs.Grows.{Grows, parts-grown}
@@ -25,48 +25,48 @@ use Rattle.sctp_lists.proofs.Tests.{all-more}
 abbrev pub slots_in : Shape → ℕ → List ℕ
 slots_in x n = kept (has x n) 0 x.slots
 
-abbrev pub whole_in : Shape → List Coming → ℕ → Bool
+abbrev pub whole_in : Shape → List LogEntry → ℕ → Bool
 whole_in x log n = (sent x n == parts x n) && (if (x.message n).ordered then list_all (Log.arrived_new log) (slots_in x n) else Log.were_whole (slots_in x n) log)
 
-pub whole-is : (w : World) (log : List Coming) (n : ℕ) → Log.is_whole_by w log n ≡ whole_in (shape w) log n
+pub whole-is : (w : World) (log : List LogEntry) (n : ℕ) → Log.is_whole_by w log n ≡ whole_in (shape w) log n
 whole-is w log n = refl
 
 -- all of these slots have arrived, and no skip covered one
-abbrev pub all_now : List Coming → List ℕ → Bool
+abbrev pub all_now : List LogEntry → List ℕ → Bool
 all_now log places = list_all (λ p. Log.arrived_new log p && not (Log.is_skipped log p)) places
 
 -- the slots that came have fragments
-abbrev pub SlotsCame : Shape → List Coming → Type 0
-SlotsCame x [] = Unit {0}
-SlotsCame x (SlotCame p ∷ log) = (p < x.slots) × SlotsCame x log
-SlotsCame x (SkipCame upto names ∷ log) = SlotsCame x log
-SlotsCame x (SackMade ∷ log) = SlotsCame x log
+abbrev pub SlotsReceived : Shape → List LogEntry → Type 0
+SlotsReceived x [] = Unit {0}
+SlotsReceived x (SlotReceived p ∷ log) = (p < x.slots) × SlotsReceived x log
+SlotsReceived x (SkipReceived upto names ∷ log) = SlotsReceived x log
+SlotsReceived x (SackMade ∷ log) = SlotsReceived x log
 
-pub came-later : (x y : Shape) → x.slots ≤ y.slots → (log : List Coming) → SlotsCame x log → SlotsCame y log
-came-later x y le [] f = tt
-came-later x y le (SlotCame p ∷ log) f = (omega (arith, f.0, le), came-later x y le log f.1)
-came-later x y le (SkipCame upto names ∷ log) f = came-later x y le log f
-came-later x y le (SackMade ∷ log) f = came-later x y le log f
+pub received-later : (x y : Shape) → x.slots ≤ y.slots → (log : List LogEntry) → SlotsReceived x log → SlotsReceived y log
+received-later x y le [] f = tt
+received-later x y le (SlotReceived p ∷ log) f = (omega (arith, f.0, le), received-later x y le log f.1)
+received-later x y le (SkipReceived upto names ∷ log) f = received-later x y le log f
+received-later x y le (SackMade ∷ log) f = received-later x y le log f
 
 -- what arrived new came
-pub new-came : (x : Shape) (log : List Coming) (p : ℕ) → SlotsCame x log → Log.arrived_new log p ≡ true → p < x.slots
-new-came x [] p f e = cc
-new-came x (SlotCame q ∷ log) p f e = by (Log.arrived_new log p) refl e (λ h. new-came x log p f.1 h)
+pub new-received : (x : Shape) (log : List LogEntry) (p : ℕ) → SlotsReceived x log → Log.arrived_new log p ≡ true → p < x.slots
+new-received x [] p f e = cc
+new-received x (SlotReceived q ∷ log) p f e = by (Log.arrived_new log p) refl e (λ h. new-received x log p f.1 h)
   where
     by : (b : Bool) → Log.arrived_new log p ≡ b → (b || ((q == p) && not (Log.is_seen log p))) ≡ true → (Log.arrived_new log p ≡ true → p < x.slots) → p < x.slots
     by true h g ih = ih h
     by false h g ih = let z = same-is q p (both (q == p) (not (Log.is_seen log p)) g).0 in omega (arith, f.0, z)
-new-came x (SkipCame upto names ∷ log) p f e = new-came x log p f e
-new-came x (SackMade ∷ log) p f e = new-came x log p f e
+new-received x (SkipReceived upto names ∷ log) p f e = new-received x log p f e
+new-received x (SackMade ∷ log) p f e = new-received x log p f e
 
 -- what arrived new did so for good
-new-stays : (coming : Coming) (log : List Coming) (p : ℕ) → Log.arrived_new log p ≡ true → Log.arrived_new (coming ∷ log) p ≡ true
-new-stays (SlotCame q) log p e = or-left (Log.arrived_new log p) ((q == p) && not (Log.is_seen log p)) e
-new-stays (SkipCame upto names) log p e = e
+new-stays : (coming : LogEntry) (log : List LogEntry) (p : ℕ) → Log.arrived_new log p ≡ true → Log.arrived_new (coming ∷ log) p ≡ true
+new-stays (SlotReceived q) log p e = or-left (Log.arrived_new log p) ((q == p) && not (Log.is_seen log p)) e
+new-stays (SkipReceived upto names) log p e = e
 new-stays SackMade log p e = e
 
 -- where they were whole, each of them arrived new
-pub were-new : (places : List ℕ) (log : List Coming) → Log.were_whole places log ≡ true → list_all (Log.arrived_new log) places ≡ true
+pub were-new : (places : List ℕ) (log : List LogEntry) → Log.were_whole places log ≡ true → list_all (Log.arrived_new log) places ≡ true
 were-new places [] e = cc
 were-new places (coming ∷ log) e = step (or-split (Log.were_whole places log) (all_now (coming ∷ log) places) e) (λ h. were-new places log h)
   where
@@ -75,11 +75,11 @@ were-new places (coming ∷ log) e = step (or-split (Log.were_whole places log) 
     step (inr h) ih = all-more (λ p. Log.arrived_new (coming ∷ log) p && not (Log.is_skipped (coming ∷ log) p)) (Log.arrived_new (coming ∷ log)) places (λ k f. (both (Log.arrived_new (coming ∷ log) k) (not (Log.is_skipped (coming ∷ log) k)) f).0) h
 
 -- what is whole now, was
-pub now-were : (p : ℕ) (places : List ℕ) (log : List Coming) → all_now log (p ∷ places) ≡ true → Log.were_whole (p ∷ places) log ≡ true
+pub now-were : (p : ℕ) (places : List ℕ) (log : List LogEntry) → all_now log (p ∷ places) ≡ true → Log.were_whole (p ∷ places) log ≡ true
 now-were p places [] e = cc
 now-were p places (coming ∷ log) e = or-right (Log.were_whole (p ∷ places) log) (all_now (coming ∷ log) (p ∷ places)) e
 
-now-were_some : (places : List ℕ) (log : List Coming) → 0 < length places → all_now log places ≡ true → Log.were_whole places log ≡ true
+now-were_some : (places : List ℕ) (log : List LogEntry) → 0 < length places → all_now log places ≡ true → Log.were_whole places log ≡ true
 now-were_some [] log some e = absurd (omega arith)
 now-were_some (p ∷ ps) log some e = now-were p ps log e
 
@@ -117,7 +117,7 @@ slots-new x y g n lt =
     let r = some-kept (has y n) (0 + x.slots) more (let l = ap length split in omega (arith, lt, l, length-append (slots_in x n) (kept (has y n) (0 + x.slots) more))) in
     (r.0, omega (arith, r.1), omega (arith, r.2, g.slots), r.3)
 
-pub whole-later : (x y : Shape) → Sender x → Sender y → Grows x y → (log : List Coming) → SlotsCame x log → (n : ℕ) → n < x.count → whole_in y log n ≡ whole_in x log n
+pub whole-later : (x y : Shape) → Sender x → Sender y → Grows x y → (log : List LogEntry) → SlotsReceived x log → (n : ℕ) → n < x.count → whole_in y log n ≡ whole_in x log n
 whole-later x y a b g log f n lt = step (cases_lt (sent x n) (sent y n))
   where
     both-ways : Shape → List ℕ → ℕ → Bool → Bool
@@ -130,7 +130,7 @@ whole-later x y a b g log f n lt = step (cases_lt (sent x n) (sent y n))
     new-none o more e =
         let q = slots-new x y g n more in
         let all : list_all (Log.arrived_new log) (slots_in y n) ≡ true = either o e in
-        absurd (omega (arith, q.1, new-came x log q.0 f (Alls.all-at (Log.arrived_new log) (has y n) q.0 0 y.slots (omega arith) (omega (arith, q.2)) q.3 all)))
+        absurd (omega (arith, q.1, new-received x log q.0 f (Alls.all-at (Log.arrived_new log) (has y n) q.0 0 y.slots (omega arith) (omega (arith, q.2)) q.3 all)))
       where
         either : (o : Bool) → (if o then list_all (Log.arrived_new log) (slots_in y n) else Log.were_whole (slots_in y n) log) ≡ true → list_all (Log.arrived_new log) (slots_in y n) ≡ true
         either true e = e
@@ -148,7 +148,7 @@ whole-later x y a b g log f n lt = step (cases_lt (sent x n) (sent y n))
         ∙ ap (both-ways y (slots_in x n) (parts x n)) ordered-is
 
 -- a message without slots is not whole
-pub whole-none : (x : Shape) (log : List Coming) (n : ℕ) → sent x n ≡ 0 → 0 < parts x n → whole_in x log n ≡ false
+pub whole-none : (x : Shape) (log : List LogEntry) (n : ℕ) → sent x n ≡ 0 → 0 < parts x n → whole_in x log n ≡ false
 whole-none x log n z pos =
     let e : (sent x n == parts x n) ≡ false = (let l : sent x n < parts x n = omega (arith, z, pos) in grind (arith, nat_tests)) in
     ap (λ c. c && (if (x.message n).ordered then list_all (Log.arrived_new log) (slots_in x n) else Log.were_whole (slots_in x n) log)) e
@@ -159,7 +159,7 @@ whole-none x log n z pos =
 abbrev pub due : View → ℕ → Bool
 due v n = all_come v n && list_all (λ p. nat_le v.skipped p) (slots_in v.x n)
 
-pub record Hears (v : View) (log : List Coming) : Type 0 where
+pub record Hears (v : View) (log : List LogEntry) : Type 0 where
   pub arrived : (p : ℕ) → v.arrived p ≡ Log.arrived_new log p
   pub covered : (p : ℕ) → Log.is_skipped log p ≡ nat_lt p v.skipped
 
@@ -196,7 +196,7 @@ all-come v n le = ands (cases_lt (come_count v n) (sent v.x n)) ∙ ap (λ b. (s
         id false = refl
 
 -- what is due is what is whole now
-pub due-now : (v : View) (log : List Coming) (n : ℕ) → Hears v log → sent v.x n ≤ parts v.x n → due v n ≡ ((sent v.x n == parts v.x n) && all_now log (slots_in v.x n))
+pub due-now : (v : View) (log : List LogEntry) (n : ℕ) → Hears v log → sent v.x n ≤ parts v.x n → due v n ≡ ((sent v.x n == parts v.x n) && all_now log (slots_in v.x n))
 due-now v log n h le =
     ap (λ b. b && list_all (λ p. nat_le v.skipped p) (slots_in v.x n)) (all-come v n le)
     ∙ assoc (sent v.x n == parts v.x n) (list_all v.arrived (slots_in v.x n)) (list_all (λ p. nat_le v.skipped p) (slots_in v.x n))
@@ -212,7 +212,7 @@ due-now v log n h le =
     past k (inr g) = grind (arith, nat_tests)
 
 -- an unordered message after one thing more came
-pub one-more : (v : View) (coming : Coming) (log : List Coming) (n : ℕ) → Hears v (coming ∷ log) → sent v.x n ≤ parts v.x n → (v.x.message n).ordered ≡ false → whole_in v.x (coming ∷ log) n ≡ (whole_in v.x log n || due v n)
+pub one-more : (v : View) (coming : LogEntry) (log : List LogEntry) (n : ℕ) → Hears v (coming ∷ log) → sent v.x n ≤ parts v.x n → (v.x.message n).ordered ≡ false → whole_in v.x (coming ∷ log) n ≡ (whole_in v.x log n || due v n)
 one-more v coming log n h le o =
     ap (λ b. (sent v.x n == parts v.x n) && (if b then list_all (Log.arrived_new (coming ∷ log)) (slots_in v.x n) else Log.were_whole (slots_in v.x n) (coming ∷ log))) o
     ∙ dist (sent v.x n == parts v.x n) (Log.were_whole (slots_in v.x n) log) (all_now (coming ∷ log) (slots_in v.x n))
@@ -224,7 +224,7 @@ one-more v coming log n h le o =
     dist false b c = refl
 
 -- what is due was whole
-pub due-whole : (v : View) (log : List Coming) (n : ℕ) → Hears v log → sent v.x n ≤ parts v.x n → 0 < parts v.x n → (v.x.message n).ordered ≡ false → due v n ≡ true → whole_in v.x log n ≡ true
+pub due-whole : (v : View) (log : List LogEntry) (n : ℕ) → Hears v log → sent v.x n ≤ parts v.x n → 0 < parts v.x n → (v.x.message n).ordered ≡ false → due v n ≡ true → whole_in v.x log n ≡ true
 due-whole v log n h le some o e =
     let a = both (sent v.x n == parts v.x n) (all_now log (slots_in v.x n)) (sym (due-now v log n h le) ∙ e) in
     let z = same-is (sent v.x n) (parts v.x n) a.0 in
@@ -232,7 +232,7 @@ due-whole v log n h le some o e =
     (ap (λ b. if b then list_all (Log.arrived_new log) (slots_in v.x n) else Log.were_whole (slots_in v.x n) log) o ∙ now-were_some (slots_in v.x n) log (omega (arith, z, some)) a.1)
 
 -- an unordered message that is whole by the order of arrivals has arrived
-pub whole-come : (v : View) (log : List Coming) (n : ℕ) → ((p : ℕ) → v.arrived p ≡ Log.arrived_new log p) → sent v.x n ≤ parts v.x n → whole_in v.x log n ≡ true → all_come v n ≡ true
+pub whole-come : (v : View) (log : List LogEntry) (n : ℕ) → ((p : ℕ) → v.arrived p ≡ Log.arrived_new log p) → sent v.x n ≤ parts v.x n → whole_in v.x log n ≡ true → all_come v n ≡ true
 whole-come v log n arrived le e =
     let a = both (sent v.x n == parts v.x n) (if (v.x.message n).ordered then list_all (Log.arrived_new log) (slots_in v.x n) else Log.were_whole (slots_in v.x n) log) e in
     all-come v n le ∙ and (sent v.x n == parts v.x n) (list_all v.arrived (slots_in v.x n)) a.0 (Alls.all-same v.arrived (Log.arrived_new log) (has v.x n) 0 v.x.slots (λ k x y z. arrived k) ∙ by (v.x.message n).ordered a.1)
@@ -242,7 +242,7 @@ whole-come v log n arrived le e =
     by false e = were-new (slots_in v.x n) log e
 
 -- an ordered one is whole exactly where it has arrived
-pub ordered-whole : (v : View) (log : List Coming) (n : ℕ) → ((p : ℕ) → v.arrived p ≡ Log.arrived_new log p) → sent v.x n ≤ parts v.x n → (v.x.message n).ordered ≡ true → whole_at v n ≡ whole_in v.x log n
+pub ordered-whole : (v : View) (log : List LogEntry) (n : ℕ) → ((p : ℕ) → v.arrived p ≡ Log.arrived_new log p) → sent v.x n ≤ parts v.x n → (v.x.message n).ordered ≡ true → whole_at v n ≡ whole_in v.x log n
 ordered-whole v log n arrived le o =
     ap (λ b. if b then all_come v n else v.read n || list_any (λ k. k == n) (v.whole (v.x.message n).stream)) o
     ∙ all-come v n le

@@ -92,7 +92,7 @@ written-step setup older (E.Late now) r ok t = fold-keeps (λ v. told (shape v) 
 written-step setup older (E.Abandon tsn) r ok t = told-abandoned (world_of setup older) (Messages.message_of (world_of setup older) (Messages.place_of (world_of setup older) tsn)) ∙ t
 written-step setup older (E.Skip upto names) r ok t = t
 written-step setup older (E.Ack credit) r ok t = t
-written-step setup older (E.Arrive k) r ok t = ap told (Network.same-came (world_of setup older) (slice_get (world_of setup older).network k)).shape_is ∙ t
+written-step setup older (E.Arrive k) r ok t = ap told (Network.same-received (world_of setup older) (slice_get (world_of setup older).network k)).shape_is ∙ t
 written-step setup older (E.Acked k) r ok t = ap told (Network.same-taken (world_of setup older) (slice_get (world_of setup older).network k)).shape_is ∙ t
 written-step setup older (E.Read s) r ok t = ap told (Network.same-read (world_of setup older) s (next_read (world_of setup older) s)).shape_is ∙ t
 

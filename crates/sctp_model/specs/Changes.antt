@@ -210,8 +210,8 @@ abbrev pub mark_arrived : Slot → Slot
 mark_arrived x = record x { arrived = true }
 
 -- a slot comes: new, or a duplicate that the next SACK reports
-abbrev pub slot_came : World → ℕ → World
-slot_came w place =
+abbrev pub slot_received : World → ℕ → World
+slot_received w place =
     if Receiver.is_new w place
     then whole_noted (record w { slots = changed mark_arrived place w.slots }) (Messages.message_of w place)
     else record w { duplicates = w.duplicates ++ place ∷ [] }
@@ -226,15 +226,15 @@ abbrev pub skip_counts : World → ℕ → Bool
 skip_counts w upto = nat_le (Receiver.cumulative w) upto
 
 -- a skip comes: where it counts, the slots up to it are skipped and its messages named
-abbrev pub skip_came : World → ℕ → List ℕ → World
-skip_came w upto messages =
+abbrev pub skip_received : World → ℕ → List ℕ → World
+skip_received w upto messages =
     if skip_counts w upto then record w { skipped = upto + 1; streams = map (named_by w messages) w.streams } else w
 
 -- a datagram comes to the receiver
-abbrev pub came : World → Option Datagram → World
-came w (Some (Data slots)) = fold slot_came w slots
-came w (Some (Forward upto messages)) = skip_came w upto messages
-came w _ = w
+abbrev pub datagram_received : World → Option Datagram → World
+datagram_received w (Some (Data slots)) = fold slot_received w slots
+datagram_received w (Some (Forward upto messages)) = skip_received w upto messages
+datagram_received w _ = w
 
 -- the next SACK is made
 abbrev pub reported : World → ℕ → World

@@ -24,7 +24,7 @@ pub record IsSetup (setup : Setup) : Type 0 where
   pub size : setup.size ≤ 65519
 
 -- P of every history that a link can have, with its record and what came in it
-abbrev pub OnEveryRun : (Setup → History → World → List Log.Coming → Type 0) → Type 0
+abbrev pub OnEveryRun : (Setup → History → World → List Log.LogEntry → Type 0) → Type 0
 OnEveryRun P = (setup : Setup) (h : History) → IsSetup setup → IsRun setup h → P setup h (world_of setup h) (Log.log_of setup h)
 
 -- xs is a beginning of ys
@@ -43,11 +43,11 @@ abbrev pub pending_count : World → ℕ
 pending_count w = length ((pending_of w).ordered ++ (pending_of w).unordered)
 
 -- Send answers Idle exactly where no fragment is pending
-abbrev pub EmitsWherePending : Setup → History → World → List Log.Coming → Type 0
+abbrev pub EmitsWherePending : Setup → History → World → List Log.LogEntry → Type 0
 EmitsWherePending setup h w log = (now : ℕ) → (reply_to w (E.Send now) ≡ R.Idle) ↔ (pending_count w ≡ 0)
 
 -- else it takes at least one pending fragment, and its datagram carries just those that it takes
-abbrev pub TakesPending : Setup → History → World → List Log.Coming → Type 0
+abbrev pub TakesPending : Setup → History → World → List Log.LogEntry → Type 0
 TakesPending setup h w log =
     (now d tsn ssn count : ℕ) → reply_to w (E.Send now) ≡ R.Sent d tsn ssn count →
     (0 < count) × ((pending_count (after w (E.Send now)) + count ≡ pending_count w) × (slice_get (after w (E.Send now)).network d ≡ Some (Data (numbers_from (length w.slots) count))))
@@ -63,23 +63,23 @@ abbrev pub end_marks_of : World → ℕ → List ℕ
 end_marks_of w n = Messages.slots_where w (λ place. Messages.belongs_to w n place && (Messages.slot_at w place).is_end_mark)
 
 -- the slots of a message have its fragments from the first on, each once; an abandoned one that was not wholly sent has one end mark, and no other has one
-abbrev pub SlotsInOrder : Setup → History → World → List Log.Coming → Type 0
+abbrev pub SlotsInOrder : Setup → History → World → List Log.LogEntry → Type 0
 SlotsInOrder setup h w log =
     (n : ℕ) → n < length w.messages →
     (map (λ place. (Messages.slot_at w place).fragment) (Messages.slots_of w n) ≡ numbers_from 0 (Messages.sent_of w n))
     × ((Messages.sent_of w n ≤ Messages.fragment_count w n) × (length (end_marks_of w n) ≡ (if (Messages.message_at w n).abandoned && nat_lt (Messages.sent_of w n) (Messages.fragment_count w n) then 1 else 0)))
 
 -- its slots follow one another
-abbrev pub SlotsFollow : Setup → History → World → List Log.Coming → Type 0
+abbrev pub SlotsFollow : Setup → History → World → List Log.LogEntry → Type 0
 SlotsFollow setup h w log =
     (n place : ℕ) → first_of (Messages.slots_of w n) ≡ Some place → Messages.slots_of w n ≡ numbers_from place (Messages.sent_of w n)
 
 -- at most one message is half-sent
-abbrev pub OneHalfSent : Setup → History → World → List Log.Coming → Type 0
+abbrev pub OneHalfSent : Setup → History → World → List Log.LogEntry → Type 0
 OneHalfSent setup h w log = length (Messages.messages_where w (Messages.is_half_sent w)) ≤ 1
 
 -- the ordered messages of a stream are sent in the order of their indexes
-abbrev pub SentInTurn : Setup → History → World → List Log.Coming → Type 0
+abbrev pub SentInTurn : Setup → History → World → List Log.LogEntry → Type 0
 SentInTurn setup h w log =
     (s m n : ℕ) → m < n → Messages.is_ordered_on w s m ≡ true → Messages.is_ordered_on w s n ≡ true → 0 < Messages.sent_of w n → 0 < Messages.sent_of w m
 
@@ -89,17 +89,17 @@ sent_before w n =
     kept (λ m. ((Messages.message_at w m).stream == (Messages.message_at w n).stream) && ((Messages.message_at w m).ordered && nat_lt 0 (Messages.sent_of w m))) 0 n
 
 -- the index of an ordered message that was sent is the count of those sent before it: what expired leaves no gap
-abbrev pub IndexesLeaveNoGap : Setup → History → World → List Log.Coming → Type 0
+abbrev pub IndexesLeaveNoGap : Setup → History → World → List Log.LogEntry → Type 0
 IndexesLeaveNoGap setup h w log =
     (n : ℕ) → (Messages.message_at w n).ordered ≡ true → 0 < Messages.sent_of w n → Messages.index_of w n ≡ length (sent_before w n)
 
 -- no end mark is in a datagram
-abbrev pub NoEndMarkIsSent : Setup → History → World → List Log.Coming → Type 0
+abbrev pub NoEndMarkIsSent : Setup → History → World → List Log.LogEntry → Type 0
 NoEndMarkIsSent setup h w log =
     (k : ℕ) (slots : List ℕ) → slice_get w.network k ≡ Some (Data slots) → list_any (λ place. (Messages.slot_at w place).is_end_mark) slots ≡ false
 
 -- what a datagram says never changes
-abbrev pub DatagramsStay : Setup → History → World → List Log.Coming → Type 0
+abbrev pub DatagramsStay : Setup → History → World → List Log.LogEntry → Type 0
 DatagramsStay setup h w log =
     (event : Event) (k : ℕ) → refusal_of w event ≡ None → k < length w.network → datagram (after w event) k ≡ datagram w k
 
@@ -115,41 +115,41 @@ kind_of (Forward upto messages) = Log.MadeForward upto messages
 kind_of (Sack r) = Log.MadeSack
 
 -- the datagrams of the record are those that the events and replies tell of
-abbrev pub NetworkIsMade : Setup → History → World → List Log.Coming → Type 0
+abbrev pub NetworkIsMade : Setup → History → World → List Log.LogEntry → Type 0
 NetworkIsMade setup h w log = map kind_of w.network ≡ Log.made_in setup h
 
 -- ## Arrivals: what the record has of them is what the order of arrivals says
 
 -- a slot has arrived in the record exactly where it arrived new
-abbrev pub ArrivedIsNew : Setup → History → World → List Log.Coming → Type 0
+abbrev pub ArrivedIsNew : Setup → History → World → List Log.LogEntry → Type 0
 ArrivedIsNew setup h w log =
     (place : ℕ) → place < length w.slots → Receiver.arrived_at w place ≡ Log.arrived_new log place
 
 -- the cumulative count is how many slots from the first on were seen
-abbrev pub CumulativeIsSeen : Setup → History → World → List Log.Coming → Type 0
+abbrev pub CumulativeIsSeen : Setup → History → World → List Log.LogEntry → Type 0
 CumulativeIsSeen setup h w log = Receiver.cumulative w ≡ Log.seen_count log (length w.slots)
 
 -- a DATA datagram is New exactly where one of its slots was not seen; a skip is Skipped exactly where it counts
-abbrev pub ArrivalsAnswered : Setup → History → World → List Log.Coming → Type 0
+abbrev pub ArrivalsAnswered : Setup → History → World → List Log.LogEntry → Type 0
 ArrivalsAnswered setup h w log =
     ((k : ℕ) (slots : List ℕ) → slice_get w.network k ≡ Some (Data slots) → reply_to w (E.Arrive k) ≡ (if list_any (λ place. not (Log.is_seen log place)) slots then R.New else R.Repeat))
     × ((k upto : ℕ) (messages : List ℕ) → slice_get w.network k ≡ Some (Forward upto messages) → reply_to w (E.Arrive k) ≡ (if Log.counts log upto then R.Skipped else R.Stale))
 
 -- a message is whole in the record exactly where the order of arrivals makes it whole
-abbrev pub WholeIsWhole : Setup → History → World → List Log.Coming → Type 0
+abbrev pub WholeIsWhole : Setup → History → World → List Log.LogEntry → Type 0
 WholeIsWhole setup h w log = (n : ℕ) → n < length w.messages → Receiver.is_whole w n ≡ Log.is_whole_by w log n
 
 -- the index named last is the greatest that a skip that counted named
-abbrev pub NamedIsNamed : Setup → History → World → List Log.Coming → Type 0
+abbrev pub NamedIsNamed : Setup → History → World → List Log.LogEntry → Type 0
 NamedIsNamed setup h w log = (s : ℕ) → (Messages.stream_of w s).named ≡ Log.named_by w s log
 
 -- in every state the indexes that 16-bit numbers must tell apart lie within half a circle
-abbrev pub SpansFit : Setup → History → World → List Log.Coming → Type 0
+abbrev pub SpansFit : Setup → History → World → List Log.LogEntry → Type 0
 SpansFit setup h w log = Receiver.spans_fit w [] ≡ true
 
 -- what holds of arrivals
-abbrev pub ArrivalsAreTold : Type 0
-ArrivalsAreTold =
+abbrev pub ArrivalsAgree : Type 0
+ArrivalsAgree =
     OnEveryRun NetworkIsMade × (OnEveryRun ArrivedIsNew × (OnEveryRun CumulativeIsSeen × (OnEveryRun ArrivalsAnswered × (OnEveryRun WholeIsWhole × (OnEveryRun NamedIsNamed × OnEveryRun SpansFit)))))
 
 -- ## Reads
@@ -175,7 +175,7 @@ abbrev pub shown_of : World → ℕ → Log.Shown
 shown_of w n = ((Messages.message_at w n).stream, (Messages.message_at w n).ppi, (Messages.message_at w n).bytes)
 
 -- the messages are the accepted writes of at least one byte
-abbrev pub MessagesAreWrites : Setup → History → World → List Log.Coming → Type 0
+abbrev pub MessagesAreWrites : Setup → History → World → List Log.LogEntry → Type 0
 MessagesAreWrites setup h w log = map (shown_of w) (numbers_from 0 (length w.messages)) ≡ Log.writes_in h
 
 -- the mode of a message
@@ -183,16 +183,16 @@ abbrev pub mode_of : Message → Log.Mode
 mode_of m = record { unordered = not m.ordered; reliability = m.reliability; value = m.value }
 
 -- each message has the mode that its stream had when it was written
-abbrev pub ModesAreKept : Setup → History → World → List Log.Coming → Type 0
+abbrev pub ModesAreKept : Setup → History → World → List Log.LogEntry → Type 0
 ModesAreKept setup h w log = map mode_of w.messages ≡ Log.modes_in h
 
 -- each read hands out a message of the stream with its payload type and the bytes that were written
-abbrev pub ReadsShowMessages : Setup → History → World → List Log.Coming → Type 0
+abbrev pub ReadsShowMessages : Setup → History → World → List Log.LogEntry → Type 0
 ReadsShowMessages setup h w log =
     (s : ℕ) → (Log.reads_in h s ≡ map (shown_of w) (Log.numbers_read setup h s)) × (list_all (λ n. nat_lt n (length w.messages) && ((Messages.message_at w n).stream == s)) (Log.numbers_read setup h s) ≡ true)
 
 -- the ordered reads of a stream are a beginning of its run
-abbrev pub ReadsBeginRun : Setup → History → World → List Log.Coming → Type 0
+abbrev pub ReadsBeginRun : Setup → History → World → List Log.LogEntry → Type 0
 ReadsBeginRun setup h w log = (s : ℕ) → IsPrefixOf (ordered_reads setup h s) (Log.run_by w log s)
 
 -- an event that neither expires, abandons nor skips
@@ -205,7 +205,7 @@ loses_nothing (E.Skip upto messages) = false
 loses_nothing event = true
 
 -- without expiry, abandonment and skips the run is the longest run of whole messages from the first on
-abbrev pub ReadsBeginWholeRun : Setup → History → World → List Log.Coming → Type 0
+abbrev pub ReadsBeginWholeRun : Setup → History → World → List Log.LogEntry → Type 0
 ReadsBeginWholeRun setup h w log =
     (s : ℕ) → list_all (λ entry. loses_nothing entry.0) h ≡ true → IsPrefixOf (ordered_reads setup h s) (leading (Log.is_whole_by w log) (Messages.ordered_on w s))
 
@@ -214,15 +214,15 @@ abbrev pub OrderedReads : Type 0
 OrderedReads = OnEveryRun MessagesAreWrites × (OnEveryRun ModesAreKept × (OnEveryRun ReadsShowMessages × (OnEveryRun ReadsBeginRun × OnEveryRun ReadsBeginWholeRun)))
 
 -- the unordered reads are distinct whole messages, in the order in which they became whole
-abbrev pub ReadsBeginWhole : Setup → History → World → List Log.Coming → Type 0
+abbrev pub ReadsBeginWhole : Setup → History → World → List Log.LogEntry → Type 0
 ReadsBeginWhole setup h w log = (s : ℕ) → IsPrefixOf (unordered_reads setup h s) (Log.whole_by w log s)
 
 -- none is read twice
-abbrev pub ReadsDiffer : Setup → History → World → List Log.Coming → Type 0
+abbrev pub ReadsDiffer : Setup → History → World → List Log.LogEntry → Type 0
 ReadsDiffer setup h w log = (s : ℕ) → AllDifferent (Log.numbers_read setup h s)
 
 -- while a whole unordered message is unread, it is read before any ordered one
-abbrev pub UnorderedFirst : Setup → History → World → List Log.Coming → Type 0
+abbrev pub UnorderedFirst : Setup → History → World → List Log.LogEntry → Type 0
 UnorderedFirst setup h w log =
     (s n : ℕ) → slice_get (Log.whole_by w log s) (length (unordered_reads setup h s)) ≡ Some n → Receiver.next_read w s ≡ Some n
 
@@ -231,7 +231,7 @@ abbrev pub UnorderedReads : Type 0
 UnorderedReads = OnEveryRun ReadsBeginWhole × (OnEveryRun ReadsDiffer × OnEveryRun UnorderedFirst)
 
 -- Nothing exactly where the run is exhausted and each whole unordered message was read
-abbrev pub NothingWhereRead : Setup → History → World → List Log.Coming → Type 0
+abbrev pub NothingWhereRead : Setup → History → World → List Log.LogEntry → Type 0
 NothingWhereRead setup h w log =
     (s : ℕ) → (reply_to w (E.Read s) ≡ R.Nothing) ↔ ((ordered_reads setup h s ≡ Log.run_by w log s) × (unordered_reads setup h s ≡ Log.whole_by w log s))
 
@@ -242,24 +242,24 @@ NothingWhenExhausted = OnEveryRun NothingWhereRead
 -- ## Acknowledgement
 
 -- what is acknowledged arrived new or was skipped
-abbrev pub AcknowledgedArrived : Setup → History → World → List Log.Coming → Type 0
+abbrev pub AcknowledgedArrived : Setup → History → World → List Log.LogEntry → Type 0
 AcknowledgedArrived setup h w log =
     (place : ℕ) → Log.is_acknowledged_in setup h place ≡ true →
     (place < length w.slots) × ((Log.arrived_new log place || Log.is_skipped log place) ≡ true)
 
 -- the record has just what the SACKs taken report
-abbrev pub AcknowledgedIsReported : Setup → History → World → List Log.Coming → Type 0
+abbrev pub AcknowledgedIsReported : Setup → History → World → List Log.LogEntry → Type 0
 AcknowledgedIsReported setup h w log =
     ((place : ℕ) → place < length w.slots → (Messages.slot_at w place).acknowledged ≡ Log.is_acknowledged_in setup h place)
     × (w.taken ≡ Log.taken_in setup h)
 
 -- the gap blocks that the order of arrivals gives
-abbrev pub blocks_by : World → List Log.Coming → List (ℕ × ℕ)
+abbrev pub blocks_by : World → List Log.LogEntry → List (ℕ × ℕ)
 blocks_by w log =
     take 16379 (runs_of (kept (λ d. Log.arrived_new log (Log.seen_count log (length w.slots) + d - 1)) 1 (min 65535 (length w.slots - Log.seen_count log (length w.slots)))))
 
 -- a SACK says the cumulative TSN, the credit of its event, the gap blocks, and the duplicates that fit
-abbrev pub SacksSay : Setup → History → World → List Log.Coming → Type 0
+abbrev pub SacksSay : Setup → History → World → List Log.LogEntry → Type 0
 SacksSay setup h w log =
     (credit : ℕ) → datagram (after w (E.Ack credit)) (length w.network) ≡
     Some (SackContents (cumulative_tsn w (Log.seen_count log (length w.slots))) credit (blocks_by w log) (map (Messages.tsn_of w) (take (16379 - length (blocks_by w log)) (Log.duplicates_in log))))
@@ -271,28 +271,28 @@ OnlyArrivedIsAcknowledged = OnEveryRun AcknowledgedArrived × (OnEveryRun Acknow
 -- ## Bytes
 
 -- each written byte is pending, in flight or released: in all, and on each stream
-abbrev pub Balances : Setup → History → World → List Log.Coming → Type 0
+abbrev pub Balances : Setup → History → World → List Log.LogEntry → Type 0
 Balances setup h w log =
     ((Amounts.ledger w).written ≡ (Amounts.ledger w).pending + (Amounts.ledger w).in_flight + (Amounts.ledger w).released)
     × ((s : ℕ) → Amounts.on_stream w s (Amounts.written_bytes w) ≡ Amounts.on_stream w s (Amounts.pending_bytes w) + Amounts.on_stream w s (Amounts.in_flight_bytes w) + Amounts.on_stream w s (Amounts.released_bytes w))
 
 -- written is the sum over the writes, released the sum over the replies that tell of a release
-abbrev pub SumsAreTold : Setup → History → World → List Log.Coming → Type 0
-SumsAreTold setup h w log =
+abbrev pub SumsAgree : Setup → History → World → List Log.LogEntry → Type 0
+SumsAgree setup h w log =
     ((Amounts.ledger w).written ≡ Log.total_shown Log.length_shown (Log.writes_in h)) × ((Amounts.ledger w).released ≡ Log.released_in h)
 
 -- each written byte is pending, in flight or released
 abbrev pub BytesBalance : Type 0
-BytesBalance = OnEveryRun Balances × OnEveryRun SumsAreTold
+BytesBalance = OnEveryRun Balances × OnEveryRun SumsAgree
 
 -- ## Time and counters
 
 -- a lifetime starts at the first Start or Send after the write
-abbrev pub StartsOnce : Setup → History → World → List Log.Coming → Type 0
+abbrev pub StartsOnce : Setup → History → World → List Log.LogEntry → Type 0
 StartsOnce setup h w log = (n : ℕ) → n < length w.messages → (Messages.message_at w n).started ≡ Log.started_in h n
 
 -- Late abandons the messages of the slots that it lists, and no others
-abbrev pub LateAbandonsListed : Setup → History → World → List Log.Coming → Type 0
+abbrev pub LateAbandonsListed : Setup → History → World → List Log.LogEntry → Type 0
 LateAbandonsListed setup h w log =
     (now n : ℕ) → n < length w.messages →
     (Messages.message_at (after w (E.Late now)) n).abandoned ≡ ((Messages.message_at w n).abandoned || list_any (λ place. Messages.message_of w place == n) (late_slots w now))
@@ -302,7 +302,7 @@ abbrev pub LifetimesEnd : Type 0
 LifetimesEnd = OnEveryRun StartsOnce × OnEveryRun LateAbandonsListed
 
 -- the counters of a stream are the saturated sums over its writes and its reads
-abbrev pub CountersAreSums : Setup → History → World → List Log.Coming → Type 0
+abbrev pub CountersAreSums : Setup → History → World → List Log.LogEntry → Type 0
 CountersAreSums setup h w log =
     (s : ℕ) → Messages.is_open w s ≡ true → Amounts.counters_of w s ≡ Some (record {
       stream_identifier = s;
@@ -324,12 +324,12 @@ abbrev pub SameWrites : History → History → Type 0
 SameWrites g h = (Log.writes_in g ≡ Log.writes_in h) × (Log.modes_in g ≡ Log.modes_in h)
 
 -- fragment i of message n arrived
-abbrev pub fragment_arrived : World → List Log.Coming → ℕ → ℕ → Bool
+abbrev pub fragment_arrived : World → List Log.LogEntry → ℕ → ℕ → Bool
 fragment_arrived w log n i =
     list_any (λ place. Messages.has_fragment w n place && (((Messages.slot_at w place).fragment == i) && Log.arrived_new log place)) (numbers_from 0 (length w.slots))
 
 -- the same fragments arrived
-abbrev pub SameArrivals : World → List Log.Coming → World → List Log.Coming → Type 0
+abbrev pub SameArrivals : World → List Log.LogEntry → World → List Log.LogEntry → Type 0
 SameArrivals v log w other = (n i : ℕ) → fragment_arrived v log n i ≡ fragment_arrived w other n i
 
 -- nothing was lost, and all is read on stream s
@@ -356,12 +356,12 @@ Headline =
 
 -- beside the headline: slots, arrivals, lifetimes and counters
 abbrev pub Beside : Type 0
-Beside = SlotsAreSound × (ArrivalsAreTold × (LifetimesEnd × CountersCount))
+Beside = SlotsAreSound × (ArrivalsAgree × (LifetimesEnd × CountersCount))
 
 -- where nothing expires, is abandoned or skipped: the ordered reads begin the longest whole run, with all that holds of every history
 abbrev pub ReliableDelivery : Type 0
 ReliableDelivery =
-    OnEveryRun ReadsBeginWholeRun × (UnorderedReads × (NothingWhenExhausted × (OnlyArrivedIsAcknowledged × (BytesBalance × (ArrivalsAreTold × CountersCount)))))
+    OnEveryRun ReadsBeginWholeRun × (UnorderedReads × (NothingWhenExhausted × (OnlyArrivedIsAcknowledged × (BytesBalance × (ArrivalsAgree × CountersCount)))))
 
 -- all of it
 abbrev pub PartialDelivery : Type 0

@@ -44,90 +44,90 @@ made_in setup [] = []
 made_in setup (entry ∷ older) = made_in setup older ++ made_by setup entry.0 entry.1
 
 -- a slot came, a skip came with the messages that it names, or the receiver made a SACK
-pub data Coming : Type 0 where
-  SlotCame : (place : ℕ) → Coming
-  SkipCame : (upto : ℕ) (messages : List ℕ) → Coming
-  SackMade : Coming
+pub data LogEntry : Type 0 where
+  SlotReceived : (place : ℕ) → LogEntry
+  SkipReceived : (upto : ℕ) (messages : List ℕ) → LogEntry
+  SackMade : LogEntry
 
 -- the slots of a datagram come one after another
-abbrev pub slots_come : List ℕ → List Coming → List Coming
+abbrev pub slots_come : List ℕ → List LogEntry → List LogEntry
 slots_come [] log = log
-slots_come (p ∷ ps) log = slots_come ps (SlotCame p ∷ log)
+slots_come (p ∷ ps) log = slots_come ps (SlotReceived p ∷ log)
 
 -- a datagram comes
-abbrev pub datagram_comes : Option Made → List Coming → List Coming
+abbrev pub datagram_comes : Option Made → List LogEntry → List LogEntry
 datagram_comes (Some (MadeData slots)) log = slots_come slots log
-datagram_comes (Some (MadeForward upto messages)) log = SkipCame upto messages ∷ log
+datagram_comes (Some (MadeForward upto messages)) log = SkipReceived upto messages ∷ log
 datagram_comes _ log = log
 
 -- what came in a history
-abbrev pub log_of : Setup → History → List Coming
+abbrev pub log_of : Setup → History → List LogEntry
 log_of setup [] = []
 log_of setup ((E.Arrive k, r) ∷ older) = datagram_comes (slice_get (made_in setup older) k) (log_of setup older)
 log_of setup ((E.Ack credit, r) ∷ older) = SackMade ∷ log_of setup older
 log_of setup (entry ∷ older) = log_of setup older
 
 -- the slot at this place came, or a skip up to it or past it did
-abbrev pub is_seen : List Coming → ℕ → Bool
+abbrev pub is_seen : List LogEntry → ℕ → Bool
 is_seen [] place = false
-is_seen (SlotCame p ∷ log) place = (p == place) || is_seen log place
-is_seen (SkipCame upto messages ∷ log) place = nat_le place upto || is_seen log place
+is_seen (SlotReceived p ∷ log) place = (p == place) || is_seen log place
+is_seen (SkipReceived upto messages ∷ log) place = nat_le place upto || is_seen log place
 is_seen (SackMade ∷ log) place = is_seen log place
 
 -- the slot arrived new: it came, and neither it nor a skip over it came before
-abbrev pub arrived_new : List Coming → ℕ → Bool
+abbrev pub arrived_new : List LogEntry → ℕ → Bool
 arrived_new [] place = false
-arrived_new (SlotCame p ∷ log) place = arrived_new log place || ((p == place) && not (is_seen log place))
+arrived_new (SlotReceived p ∷ log) place = arrived_new log place || ((p == place) && not (is_seen log place))
 arrived_new (coming ∷ log) place = arrived_new log place
 
 -- a skip up to this slot counts: a slot up to it was not seen yet
-abbrev pub counts : List Coming → ℕ → Bool
+abbrev pub counts : List LogEntry → ℕ → Bool
 counts log upto = list_any (λ place. not (is_seen log place)) (numbers_from 0 (upto + 1))
 
 -- a skip that counted covered the slot
-abbrev pub is_skipped : List Coming → ℕ → Bool
+abbrev pub is_skipped : List LogEntry → ℕ → Bool
 is_skipped [] place = false
-is_skipped (SkipCame upto messages ∷ log) place = is_skipped log place || (counts log upto && nat_le place upto)
+is_skipped (SkipReceived upto messages ∷ log) place = is_skipped log place || (counts log upto && nat_le place upto)
 is_skipped (coming ∷ log) place = is_skipped log place
 
 -- the cumulative count: how many of so many slots, from the first on, were seen
-abbrev pub seen_count : List Coming → ℕ → ℕ
+abbrev pub seen_count : List LogEntry → ℕ → ℕ
 seen_count log slots = unbroken (is_seen log) 0 slots
 
 -- the slots that came and were not new since the last SACK was made, oldest first
-abbrev pub duplicates_in : List Coming → List ℕ
+abbrev pub duplicates_in : List LogEntry → List ℕ
 duplicates_in [] = []
-duplicates_in (SlotCame p ∷ log) = duplicates_in log ++ (if is_seen log p then p ∷ [] else [])
-duplicates_in (SkipCame upto messages ∷ log) = duplicates_in log
+duplicates_in (SlotReceived p ∷ log) = duplicates_in log ++ (if is_seen log p then p ∷ [] else [])
+duplicates_in (SkipReceived upto messages ∷ log) = duplicates_in log
 duplicates_in (SackMade ∷ log) = []
 
 -- ## Whole messages and the run
 
 -- at some moment each of these slots had arrived new and no skip that counted had covered one
-abbrev pub were_whole : List ℕ → List Coming → Bool
+abbrev pub were_whole : List ℕ → List LogEntry → Bool
 were_whole places [] = false
 were_whole places (coming ∷ log) =
     were_whole places log || list_all (λ p. arrived_new (coming ∷ log) p && not (is_skipped (coming ∷ log) p)) places
 
 -- message n is whole: all of it was sent, and each of its slots arrived new; those of an unordered one before a skip covered one
-abbrev pub is_whole_by : World → List Coming → ℕ → Bool
+abbrev pub is_whole_by : World → List LogEntry → ℕ → Bool
 is_whole_by w log n =
     (Messages.sent_of w n == Messages.fragment_count w n) && (if (Messages.message_at w n).ordered then list_all (arrived_new log) (Messages.slots_of w n) else were_whole (Messages.slots_of w n) log)
 
 -- one more than the greatest index on stream s that a skip that counted named, or 0
-abbrev pub named_by : World → ℕ → List Coming → ℕ
+abbrev pub named_by : World → ℕ → List LogEntry → ℕ
 named_by w s [] = 0
-named_by w s (SkipCame upto messages ∷ log) =
+named_by w s (SkipReceived upto messages ∷ log) =
     if counts log upto then greatest (named_by w s log) (map (λ n. Messages.index_of w n + 1) (passing (Messages.is_ordered_on w s) messages)) else named_by w s log
 named_by w s (coming ∷ log) = named_by w s log
 
 -- the whole ordered messages of a stream up to the last one named, then the unbroken whole run
-abbrev pub run_by : World → List Coming → ℕ → List ℕ
+abbrev pub run_by : World → List LogEntry → ℕ → List ℕ
 run_by w log s =
     passing (is_whole_by w log) (take (named_by w s log) (Messages.ordered_on w s)) ++ leading (is_whole_by w log) (drop (named_by w s log) (Messages.ordered_on w s))
 
 -- the unordered messages of stream s, in the order in which they became whole
-abbrev pub whole_by : World → List Coming → ℕ → List ℕ
+abbrev pub whole_by : World → List LogEntry → ℕ → List ℕ
 whole_by w [] s = []
 whole_by w (coming ∷ log) s =
     whole_by w log s ++ Messages.messages_where w (λ n. Messages.is_unordered_on w s n && (is_whole_by w (coming ∷ log) n && not (is_whole_by w log n)))

@@ -6,9 +6,9 @@ use Rattle.sctp_model.specs.declared.event.Event.TheVariants as E
 use Rattle.sctp_model.specs.World.{Setup, StreamRecord, Data, Forward, World}
 use Rattle.sctp_model.specs.Messages.{message_at, slot_at, message_of, stream_at, stream_of, is_open, is_ordered_on, index_of, ordered_on, fragment_count, has_fragment}
 use Rattle.sctp_model.specs.Receiver.{arrived_at, has_arrived, next_of, is_whole, is_new, is_held, cumulative}
-use Rattle.sctp_model.specs.Changes.{becomes_whole, slot_came, came}
+use Rattle.sctp_model.specs.Changes.{becomes_whole, slot_received, datagram_received}
 use Rattle.sctp_model.specs.Steps.{History, refusal_of}
-use Rattle.sctp_model.specs.Log.{Coming}
+use Rattle.sctp_model.specs.Log.{LogEntry}
 
 -- ## Messages, slots and indexes
 
@@ -101,7 +101,7 @@ pub record IsSound (w : World) : Type 0 where
   pub near : (s : ℕ) → IsSpan w s []
 
 -- the record of every history is sound
-abbrev pub RecordIsSound : Setup → History → World → List Coming → Type 0
+abbrev pub RecordIsSound : Setup → History → World → List LogEntry → Type 0
 RecordIsSound setup h w log = IsSound w
 
 -- before each slot of an accepted datagram: it has a fragment, the record is sound, and the index of a new ordered message is near those that matter
@@ -114,12 +114,12 @@ pub record ComesSound (w : World) (p : ℕ) : Type 0 where
   pub near : (s : ℕ) → is_ordered_on w s (message_of w p) ≡ true → is_new w p ≡ true → IsSpan w s (index_of w (message_of w p) ∷ [])
 
 -- the slots of an accepted datagram come to a sound record, one after another
-abbrev pub SlotsComeSound : Setup → History → World → List Coming → Type 0
+abbrev pub SlotsComeSound : Setup → History → World → List LogEntry → Type 0
 SlotsComeSound setup h w log =
-    (k : ℕ) (ps : List ℕ) (p : ℕ) (qs : List ℕ) → refusal_of w (E.Arrive k) ≡ None → slice_get w.network k ≡ Some (Data (ps ++ p ∷ qs)) → ComesSound (fold slot_came w ps) p
+    (k : ℕ) (ps : List ℕ) (p : ℕ) (qs : List ℕ) → refusal_of w (E.Arrive k) ≡ None → slice_get w.network k ≡ Some (Data (ps ++ p ∷ qs)) → ComesSound (fold slot_received w ps) p
 
 -- the indexes that a counting skip names are near those that matter before it and after it
-abbrev pub SkipsComeSound : Setup → History → World → List Coming → Type 0
+abbrev pub SkipsComeSound : Setup → History → World → List LogEntry → Type 0
 SkipsComeSound setup h w log =
     (k upto : ℕ) (names : List ℕ) → refusal_of w (E.Arrive k) ≡ None → slice_get w.network k ≡ Some (Forward upto names) → cumulative w ≤ upto → (s : ℕ) → is_open w s ≡ true →
-    IsSpan w s (map (index_of w) (passing (is_ordered_on w s) names)) × IsSpan (came w (Some (Forward upto names))) s (map (index_of w) (passing (is_ordered_on w s) names))
+    IsSpan w s (map (index_of w) (passing (is_ordered_on w s) names)) × IsSpan (datagram_received w (Some (Forward upto names))) s (map (index_of w) (passing (is_ordered_on w s) names))

@@ -63,7 +63,7 @@ adds_to_span w _ = []
 
 -- the span test, in the state before the arrival and in the one after it
 abbrev pub arrival_fits : World → Option Datagram → Bool
-arrival_fits w d = Receiver.spans_fit w (adds_to_span w d) && Receiver.spans_fit (Changes.came w d) (adds_to_span w d)
+arrival_fits w d = Receiver.spans_fit w (adds_to_span w d) && Receiver.spans_fit (Changes.datagram_received w d) (adds_to_span w d)
 
 -- what a skip up to the slot at this place is refused with, where it is
 abbrev pub skip_refusal : World → ℕ → List ℕ → Option LinkRefusal
@@ -105,7 +105,7 @@ after w (E.Late now) = Changes.late_abandoned w now
 after w (E.Abandon tsn) = Changes.abandoned w (Messages.message_of w (Messages.place_of w tsn))
 after w (E.Skip upto messages) = Changes.with_datagram w (Forward (Messages.place_of w upto) messages.items)
 after w (E.Ack credit) = Changes.reported w credit
-after w (E.Arrive k) = Changes.came w (slice_get w.network k)
+after w (E.Arrive k) = Changes.datagram_received w (slice_get w.network k)
 after w (E.Acked k) = Changes.sack_taken w (slice_get w.network k)
 after w (E.Read s) = Changes.read_from w s
 

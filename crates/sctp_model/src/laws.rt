@@ -1,6 +1,6 @@
 //! What holds of every history of a link: laws, each the contract of a function that does nothing.
 
-ghost use Rattle.sctp_model.specs.Laws.{OnEveryRun, EmitsWherePending, TakesPending, SlotsInOrder, SlotsFollow, OneHalfSent, SentInTurn, IndexesLeaveNoGap, NoEndMarkIsSent, DatagramsStay, Balances, SumsAreTold, AcknowledgedArrived, AcknowledgedIsReported, SacksSay, NetworkIsMade, ArrivedIsNew, CumulativeIsSeen, ArrivalsAnswered, WholeIsWhole, NamedIsNamed, SpansFit, MessagesAreWrites, ModesAreKept, ReadsShowMessages, ReadsBeginRun, ReadsBeginWholeRun, ReadsBeginWhole, ReadsDiffer, UnorderedFirst, NothingWhereRead, StartsOnce, LateAbandonsListed, ReadsAreSettled, CountersAreSums, Headline, Beside, ReliableDelivery, PartialDelivery};
+ghost use Rattle.sctp_model.specs.Laws.{OnEveryRun, EmitsWherePending, TakesPending, SlotsInOrder, SlotsFollow, OneHalfSent, SentInTurn, IndexesLeaveNoGap, NoEndMarkIsSent, DatagramsStay, Balances, SumsAgree, AcknowledgedArrived, AcknowledgedIsReported, SacksSay, NetworkIsMade, ArrivedIsNew, CumulativeIsSeen, ArrivalsAnswered, WholeIsWhole, NamedIsNamed, SpansFit, MessagesAreWrites, ModesAreKept, ReadsShowMessages, ReadsBeginRun, ReadsBeginWholeRun, ReadsBeginWhole, ReadsDiffer, UnorderedFirst, NothingWhereRead, StartsOnce, LateAbandonsListed, ReadsAreSettled, CountersAreSums, Headline, Beside, ReliableDelivery, PartialDelivery};
 ghost use Rattle.sctp_model.specs.Sound.{RecordIsSound, SlotsComeSound, SkipsComeSound};
 
 /// A Send answers Idle exactly where no fragment is pending; else its new datagram carries the pending fragments that it takes.
@@ -23,7 +23,7 @@ pub fn slots_are_sound()
 /// Each written byte is pending, in flight or released, in all and on each stream; what was written is the sum over the writes, what was released the sum over the replies that tell of a release.
 pub fn bytes_balance()
     ensures balance { OnEveryRun Balances }
-    ensures sums { OnEveryRun SumsAreTold }
+    ensures sums { OnEveryRun SumsAgree }
 {}
 
 /// What a taken SACK acknowledges arrived new or was skipped, the record has just what the taken SACKs report, and each SACK says what the order of arrivals gives.
@@ -34,7 +34,7 @@ pub fn only_arrived_is_acknowledged()
 {}
 
 /// What the record has of arrivals is what the order of arrivals in the history says.
-pub fn arrivals_are_told()
+pub fn arrivals_agree()
     ensures network { OnEveryRun NetworkIsMade }
     ensures arrived { OnEveryRun ArrivedIsNew }
     ensures cumulative { OnEveryRun CumulativeIsSeen }

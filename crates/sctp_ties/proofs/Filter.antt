@@ -41,8 +41,8 @@ cumulative-le w made = omega (arith, unbroken-le (arrived_at w) w.skipped (lengt
 
 -- the cumulative count, from any count on up to which all arrived or are skipped
 pub cumulative-from : (w : World) (c : ℕ) → w.skipped ≤ c → c ≤ length w.slots → ((k : ℕ) → w.skipped ≤ k → k < c → arrived_at w k ≡ true) → cumulative w ≡ c + unbroken (arrived_at w) c (length w.slots - c)
-cumulative-from w c low high came =
-    let e = unbroken-on (arrived_at w) w.skipped (c - w.skipped) (length w.slots - c) (length w.slots - w.skipped) c (omega arith) (omega arith) came in
+cumulative-from w c low high datagram_received =
+    let e = unbroken-on (arrived_at w) w.skipped (c - w.skipped) (length w.slots - c) (length w.slots - w.skipped) c (omega arith) (omega arith) datagram_received in
     omega (arith, e)
 
 pub filter-arrived : (w : World) (p : ℕ) → w.skipped ≤ length w.slots → length w.slots < 2 ^ 31 → p < length w.slots → cumulative w ≤ p → arrived_at w p ≡ false → seen_of (with_arrived w p) ≡ advanced (seen_of w).cum (inserted comes_before (tsn_of w p) (seen_of w).held)

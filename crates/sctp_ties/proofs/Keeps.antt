@@ -7,7 +7,7 @@ use Rattle.sctp_lists.proofs.KeptLemmas.{map-kept-same}
 use Rattle.sctp_model.specs.World.{World, StreamRecord}
 use Rattle.sctp_model.specs.Messages.{message_at, message_of, stream_at, stream_of, no_stream, is_ordered_on, index_of, is_unordered_on}
 use Rattle.sctp_model.specs.Receiver.{arrived_at, arrived_of, has_arrived, cumulative, is_whole, is_held, held_on, next_of}
-use Rattle.sctp_model.specs.Changes.{stream_changed, with_whole, becomes_whole, slot_came, read_of}
+use Rattle.sctp_model.specs.Changes.{stream_changed, with_whole, becomes_whole, slot_received, read_of}
 use Rattle.sctp_model.specs.Changes
 use Rattle.sctp_model.specs.Contents.{chunk_at}
 use Rattle.sctp_model.specs.Queues.{whole_set_of, is_loose}
@@ -101,7 +101,7 @@ module _ (v : World) (s : ℕ) (f : StreamRecord → StreamRecord) (stream : (r 
 
 -- ## An unordered chunk arrives: the other streams
 
-pub unordered-elsewhere : (w : World) (s p t : ℕ) → ArrivesLoose w s p → (t ≡ s → ⊥) → reassembly_of (slot_came w p) t ≡ reassembly_of w t
+pub unordered-elsewhere : (w : World) (s p t : ℕ) → ArrivesLoose w s p → (t ≡ s → ⊥) → reassembly_of (slot_received w p) t ≡ reassembly_of w t
 unordered-elsewhere w s p t a ne =
     let n = message_of w p in
     let v = with_arrived w p in
@@ -112,7 +112,7 @@ unordered-elsewhere w s p t a ne =
     let plain : reassembly_of v t ≡ reassembly_of w t = parts refl (Stays.ordered_sets-elsewhere w p t off') (Stays.whole_sets-arrived w p t) (Stays.loose-elsewhere w p t off) in
     let noted : reassembly_of (stream_changed v s (with_whole n)) t ≡ reassembly_of v t =
     restreamed v (stream_changed v s (with_whole n)).streams t (named-changed v s (with_whole n) (λ r. refl) (λ r. refl)) (whole-other v s (with_whole n) (λ r. refl) (λ r. refl) t ne) in
-    let moved : slot_came w p ≡ (if becomes_whole v n then stream_changed v s (with_whole n) else v) = rw (new, u.0) refl in
+    let moved : slot_received w p ≡ (if becomes_whole v n then stream_changed v s (with_whole n) else v) = rw (new, u.0) refl in
     ap (λ x. reassembly_of x t) moved ∙ step v n (becomes_whole v n) noted ∙ plain
   where
     step : (v : World) (n : ℕ) (b : Bool) → reassembly_of (stream_changed v s (with_whole n)) t ≡ reassembly_of v t → reassembly_of (if b then stream_changed v s (with_whole n) else v) t ≡ reassembly_of v t

@@ -26,7 +26,7 @@ use Rattle.sctp_model.proofs.SenderEnds.{sent-none}
 use Rattle.sctp_model.proofs.SenderRun.{Sane, sane-run, sane-takes, sane-started, sends-keep, fold-keeps}
 use Rattle.sctp_model.proofs.Shapes
 use Rattle.sctp_model.proofs.Moves
-use Rattle.sctp_model.proofs.Network.{extends-after, same-came, same-taken, same-read}
+use Rattle.sctp_model.proofs.Network.{extends-after, same-received, same-taken, same-read}
 use Rattle.sctp_model.proofs.Acknowledged
 use Rattle.sctp_model.proofs.Received.{received-run}
 use Rattle.sctp_ties.proofs.Sent.{KindsInTurn, FrontIs, front_is}
@@ -158,7 +158,7 @@ turns-after setup w (E.Late now) g t = fold-keeps (λ v. Turns (shape v)) Change
 turns-after setup w (E.Abandon tsn) g t = turns-gone w (Messages.message_of w (Messages.place_of w tsn)) t
 turns-after setup w (E.Skip upto names) g t = t
 turns-after setup w (E.Ack credit) g t = t
-turns-after setup w (E.Arrive k) g t = turns-as (shape w) (shape (Changes.came w (slice_get w.network k))) (same-came w (slice_get w.network k)).shape_is t
+turns-after setup w (E.Arrive k) g t = turns-as (shape w) (shape (Changes.datagram_received w (slice_get w.network k))) (same-received w (slice_get w.network k)).shape_is t
 turns-after setup w (E.Acked k) g t = turns-as (shape w) (shape (Changes.sack_taken w (slice_get w.network k))) (same-taken w (slice_get w.network k)).shape_is t
 turns-after setup w (E.Read s) g t = turns-as (shape w) (shape (Changes.read_from w s)) (same-read w s (Receiver.next_read w s)).shape_is t
 

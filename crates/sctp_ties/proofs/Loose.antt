@@ -67,7 +67,7 @@ kept-all t p from (suc count) k e a b h = step (p from) refl e (cases_lt from k)
 -- ## What a loose place is
 
 pub record IsLoose (w : World) (s k : ℕ) : Type 0 where
-  pub came : arrived_at w k ≡ true
+  pub datagram_received : arrived_at w k ≡ true
   pub past : w.skipped ≤ k
   pub on : is_unordered_on w s (message_of w k) ≡ true
   pub whole : is_whole w (message_of w k) ≡ false
@@ -82,11 +82,11 @@ loose w s k e =
     let b = both (nat_le w.skipped k) (is_unordered_on w s (message_of w k) && not (is_whole w (message_of w k))) a.1 in
     let c = both (is_unordered_on w s (message_of w k)) (not (is_whole w (message_of w k))) b.1 in
     let le : nat_le w.skipped k ≡ true = b.0 in
-    record { came = a.0; past = grind (arith, nat_tests); on = c.0; whole = negated (is_whole w (message_of w k)) c.1 }
+    record { datagram_received = a.0; past = grind (arith, nat_tests); on = c.0; whole = negated (is_whole w (message_of w k)) c.1 }
 
 pub is-loose : (w : World) (s k : ℕ) → IsLoose w s k → is_loose w s k ≡ true
 is-loose w s k l =
-    and (arrived_at w k) (nat_le w.skipped k && (is_unordered_on w s (message_of w k) && not (is_whole w (message_of w k)))) l.came
+    and (arrived_at w k) (nat_le w.skipped k && (is_unordered_on w s (message_of w k) && not (is_whole w (message_of w k)))) l.datagram_received
     (and (nat_le w.skipped k) (is_unordered_on w s (message_of w k) && not (is_whole w (message_of w k))) (let le = l.past in grind (arith, nat_tests))
     (and (is_unordered_on w s (message_of w k)) (not (is_whole w (message_of w k))) l.on (ap not l.whole)))
 
@@ -102,7 +102,7 @@ pub record IsWholeRun (w : World) (q : ℕ → Bool) (first count : ℕ) : Type 
   pub count_is : count ≡ fragment_count w (message_of w base)
   pub first_is : length (kept q 0 base) ≡ first
 
-module _ (w : World) (q : ℕ → Bool) (first count : ℕ) (sound : Sound w) (more : SoundLoose w) (came : (k : ℕ) → q k ≡ true → has_fragment w (message_of w k) k ≡ true) (run : IsRun (map (chunk_at w) (kept q 0 (length w.slots))) first count) where
+module _ (w : World) (q : ℕ → Bool) (first count : ℕ) (sound : Sound w) (more : SoundLoose w) (datagram_received : (k : ℕ) → q k ≡ true → has_fragment w (message_of w k) k ≡ true) (run : IsRun (map (chunk_at w) (kept q 0 (length w.slots))) first count) where
   abbrev places : List ℕ
   places = kept q 0 (length w.slots)
 
@@ -144,7 +144,7 @@ module _ (w : World) (q : ℕ → Bool) (first count : ℕ) (sound : Sound w) (m
       let middle : (chunk_at w (at (suc i))).beginning_fragment ≡ false = ap (λ x. x.beginning_fragment) (sym (value (suc i) d lt)) ∙ run.no_other (first + suc i) d (omega arith) (omega arith) in
       let later : ((slot_at w (at (suc i))).fragment == 0) ≡ false = middle in
       let positive : 0 < (slot_at w (at (suc i))).fragment = grind (arith, nat_tests) in
-      let here : has_fragment w (message_of w (at (suc i))) (at (suc i)) ≡ true = came (at (suc i)) (passes (suc i) lt) in
+      let here : has_fragment w (message_of w (at (suc i))) (at (suc i)) ≡ true = datagram_received (at (suc i)) (passes (suc i) lt) in
       let back : has_fragment w (message_of w (at (suc i))) (at (suc i) - 1) ≡ true = more.prefix (message_of w (at (suc i))) (at (suc i)) ((slot_at w (at (suc i))).fragment - 1) here (omega arith) in
       let place' : at (suc i) - 1 ≡ at i = omega (arith, next) in
       let same : message_of w (at i) ≡ message_of w (at (suc i)) = ap (message_of w) (sym place') ∙ Arrival.of_message w (message_of w (at (suc i))) (at (suc i) - 1) back in
@@ -175,7 +175,7 @@ module _ (w : World) (q : ℕ → Bool) (first count : ℕ) (sound : Sound w) (m
         begins = starts;
         made = in-slots 0 run.some;
         passes = passes 0 run.some;
-        all = λ i lt. let g = goes_on i lt in (ap q (sym g.0) ∙ passes i lt, ap (has_fragment w (message_of w (at 0))) (sym g.0) ∙ ap (λ m. has_fragment w m (at i)) (sym g.1) ∙ came (at i) (passes i lt));
+        all = λ i lt. let g = goes_on i lt in (ap q (sym g.0) ∙ passes i lt, ap (has_fragment w (message_of w (at 0))) (sym g.0) ∙ ap (λ m. has_fragment w m (at i)) (sym g.1) ∙ datagram_received (at i) (passes i lt));
         count_is = omega (arith, total, ap (fragment_count w) last.1, last.2, run.some);
         first_is = ap (λ x. length (kept q 0 x)) k ∙ r.place_is ∙ omega arith;
       }

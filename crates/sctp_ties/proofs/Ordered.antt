@@ -20,7 +20,7 @@ use Rattle.sctp_lists.proofs.Round.{tsn_differ, tsn_same}
 use Rattle.sctp_model.specs.World.{World}
 use Rattle.sctp_model.specs.Messages.{message_at, slot_at, message_of, stream_of, is_ordered_on, index_of, ssn_of, fragment_count, has_fragment, is_unordered_on}
 use Rattle.sctp_model.specs.Receiver.{arrived_at, arrived_of, has_arrived, cumulative, is_whole, is_unread, is_held, next_of, is_new}
-use Rattle.sctp_model.specs.Changes.{slot_came, becomes_whole}
+use Rattle.sctp_model.specs.Changes.{slot_received, becomes_whole}
 use Rattle.sctp_lists.specs.Lists.{change_first}
 use Rattle.sctp_ties.specs.Sound.{IsLaid, Sound}
 use Rattle.sctp_lists.proofs.More.{fails, not_both, both, any-kept_one, change_first-kept}
@@ -226,7 +226,7 @@ module _ (w : World) (s p : ℕ) (sound : Sound w) (a : Arrives w s p) where
       rw (Stays.whole_sets-arrived w p t, Stays.loose-elsewhere w p t (rw off refl), Stays.ordered_sets-elsewhere w p t (rw off refl)) refl
 
   -- and this is the record's step
-  pub ordered-step : slot_came w p ≡ with_arrived w p
+  pub ordered-step : slot_received w p ≡ with_arrived w p
   ordered-step =
       let new : is_new w p ≡ true = rw a.new (grind (arith, nat_tests, a.fresh)) in
       let kind : becomes_whole (with_arrived w p) n ≡ false = rw (on-ordered w s n a.on) refl in

@@ -14,7 +14,7 @@ use Rattle.sctp_chunks.specs.ChunkSet.{ChunkSet}
 use Rattle.sctp_model.specs.World.{Setup, World}
 use Rattle.sctp_model.specs.Messages.{message_at, message_of, stream_of, is_ordered_on, is_unordered_on, index_of, ssn_of, has_fragment, slots_of, sent_of, fragment_count, tsn_of}
 use Rattle.sctp_model.specs.Receiver.{arrived_at, arrived_of, has_arrived, is_whole, is_unread, is_held, next_of, cumulative}
-use Rattle.sctp_model.specs.Log.{Coming}
+use Rattle.sctp_model.specs.Log.{LogEntry}
 use Rattle.sctp_model.specs.Contents.{chunk_at, cumulative_tsn}
 use Rattle.sctp_model.specs.Queues.{set_of, whole_set_of, is_loose, filter_of, FilterRecord}
 use Rattle.sctp_model.proofs.Shape.{shape}
@@ -40,7 +40,7 @@ unbroken-short p from zero (suc total) le e = ap (λ b. if b then unbroken p (fr
 unbroken-short p from (suc count) zero le e = absurd (omega arith)
 unbroken-short p from (suc count) (suc total) le e = ap (λ k. if p from then k + 1 else 0) (unbroken-short p (from + 1) count total (omega arith) (ap p (let y : from + 1 + count ≡ from + suc count = omega arith in y) ∙ e))
 
-module _ (setup : Setup) (w v : World) (log : List Coming) (g : Sane setup w) (g' : Sane setup v) (q : Quiet w v) (r : Received w log) (sounds : Sounds w) where
+module _ (setup : Setup) (w v : World) (log : List LogEntry) (g : Sane setup w) (g' : Sane setup v) (q : Quiet w v) (r : Received w log) (sounds : Sounds w) where
   still : Still (view w) (view v)
   still = still-of setup w v g g' q
 

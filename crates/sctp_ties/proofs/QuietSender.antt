@@ -12,7 +12,7 @@ use Rattle.sctp_queues.specs.Outbound.{Outbound}
 use Rattle.sctp_queues.specs.declared.pending_queue.Selected.{Selected}
 use Rattle.sctp_model.specs.World.{World, Setup, Message, Slot}
 use Rattle.sctp_model.specs.Messages.{message_at, slot_at, message_of, messages_where, no_message, no_slot, is_ordered_on, ordered_before, ssn_of, fragment_count, has_fragment, sent_of, is_half_sent, is_timed, is_dcep, deadline_from}
-use Rattle.sctp_model.specs.Changes.{mark_arrived, mark_read, stream_changed, with_whole, becomes_whole, skip_counts, named_by, slot_came, skip_came, read_of, whole_noted}
+use Rattle.sctp_model.specs.Changes.{mark_arrived, mark_read, stream_changed, with_whole, becomes_whole, skip_counts, named_by, slot_received, skip_received, read_of, whole_noted}
 use Rattle.sctp_model.specs.Receiver.{is_new}
 use Rattle.sctp_ties.specs.Tied.{waiting_at, waiting_of, waiting_where, selected_of, TiedOutbound, Sending, unless_gone, sending_at}
 use Rattle.sctp_ties.proofs.Waiting.{gathered-same}
@@ -174,7 +174,7 @@ same-arrived w p = record {
   taken = refl;
 }
 
-pub same-slot : (w : World) (p : ℕ) → SameToSender w (slot_came w p)
+pub same-slot : (w : World) (p : ℕ) → SameToSender w (slot_received w p)
 same-slot w p = by (is_new w p)
   where
     by : (b : Bool) → SameToSender w (if b then whole_noted (with_arrived w p) (message_of w p) else record w { duplicates = w.duplicates ++ p ∷ [] })
@@ -185,7 +185,7 @@ same-slot w p = by (is_new w p)
         whole false = same-arrived w p
     by false = same-self w (record w { duplicates = w.duplicates ++ p ∷ [] }) refl refl refl refl
 
-pub same-skip : (w : World) (upto : ℕ) (names : List ℕ) → SameToSender w (skip_came w upto names)
+pub same-skip : (w : World) (upto : ℕ) (names : List ℕ) → SameToSender w (skip_received w upto names)
 same-skip w upto names = by (skip_counts w upto)
   where
     by : (b : Bool) → SameToSender w (if b then record w { skipped = upto + 1; streams = map (named_by w names) w.streams } else w)

@@ -8,7 +8,7 @@ use Rattle.sctp_lists.proofs.KeptLemmas.{map-kept-same}
 use Rattle.sctp_model.specs.World.{World, StreamRecord}
 use Rattle.sctp_model.specs.Messages.{message_at, message_of, stream_at, stream_of, no_stream, is_ordered_on, index_of, ssn_of, tsn_of}
 use Rattle.sctp_model.specs.Receiver.{arrived_at, has_arrived, cumulative, is_whole, is_held, next_of}
-use Rattle.sctp_model.specs.Changes.{named_by, skip_came, skip_counts}
+use Rattle.sctp_model.specs.Changes.{named_by, skip_received, skip_counts}
 use Rattle.sctp_lists.specs.Lists.{after_leading}
 use Rattle.sctp_lists.specs.Serial.{at_or_before}
 use Rattle.sctp_chunks.specs.declared.chunk.chunk_payload_data.ChunkPayloadData.{ChunkPayloadData}
@@ -27,7 +27,7 @@ use Rattle.sctp_ties.proofs.Span.{IsSpan}
 abbrev pub with_skip : World → ℕ → List ℕ → World
 with_skip w upto names = record w { skipped = upto + 1; streams = map (named_by w names) w.streams }
 
-pub skip-step : (w : World) (upto : ℕ) (names : List ℕ) → cumulative w ≤ upto → skip_came w upto names ≡ with_skip w upto names
+pub skip-step : (w : World) (upto : ℕ) (names : List ℕ) → cumulative w ≤ upto → skip_received w upto names ≡ with_skip w upto names
 skip-step w upto names counts = let e : skip_counts w upto ≡ true = grind (arith, nat_tests) in rw e refl
 
 abbrev pub reassembly : ℕ → List ChunkSet → List ChunkSet → List ChunkPayloadData → Reassembly

@@ -14,7 +14,7 @@ use Rattle.sctp_queues.specs.Reassembly.{pushed_ordered, set_of_run, BecomesWhol
 use Rattle.sctp_model.specs.World.{World, StreamRecord}
 use Rattle.sctp_model.specs.Messages.{message_at, slot_at, message_of, stream_at, is_ordered_on, is_unordered_on, index_of, has_fragment, slots_of, tsn_of}
 use Rattle.sctp_model.specs.Receiver.{arrived_at, cumulative, is_new}
-use Rattle.sctp_model.specs.Changes.{stream_changed, with_whole, becomes_whole, slot_came}
+use Rattle.sctp_model.specs.Changes.{stream_changed, with_whole, becomes_whole, slot_received}
 use Rattle.sctp_model.specs.Contents.{chunk_at}
 use Rattle.sctp_model.specs.Queues.{whole_set_of, filter_of}
 use Rattle.sctp_ties.specs.Holds.{loose_chunks, reassembly_of, seen_of}
@@ -36,13 +36,13 @@ use Rattle.sctp_ties.proofs.Line
 -- ## Not new
 
 -- only the duplicates grow
-pub repeated : (w : World) (p : ℕ) → is_new w p ≡ false → slot_came w p ≡ record w { duplicates = w.duplicates ++ p ∷ [] }
+pub repeated : (w : World) (p : ℕ) → is_new w p ≡ false → slot_received w p ≡ record w { duplicates = w.duplicates ++ p ∷ [] }
 repeated w p e = rw e refl
 
-pub repeated-filter : (w : World) (p : ℕ) → is_new w p ≡ false → filter_of (slot_came w p) ≡ record (filter_of w) { duplicates = (filter_of w).duplicates ++ tsn_of w p ∷ [] }
+pub repeated-filter : (w : World) (p : ℕ) → is_new w p ≡ false → filter_of (slot_received w p) ≡ record (filter_of w) { duplicates = (filter_of w).duplicates ++ tsn_of w p ∷ [] }
 repeated-filter w p e = rw (e, map-append (tsn_of w) w.duplicates (p ∷ [])) refl
 
-pub repeated-reassembly : (w : World) (p t : ℕ) → is_new w p ≡ false → reassembly_of (slot_came w p) t ≡ reassembly_of w t
+pub repeated-reassembly : (w : World) (p t : ℕ) → is_new w p ≡ false → reassembly_of (slot_received w p) t ≡ reassembly_of w t
 repeated-reassembly w p t e = rw e refl
 
 -- ## New
@@ -91,7 +91,7 @@ module _ (w : World) (s p : ℕ) (a : Enters w s p) where
   arrives-loose e = record { made = a.made; new = not-arrived w p a.new; fresh = fresh w p a.new; fragment = a.fragment; on = unordered-on e }
 
   -- of an ordered message: the queue of its stream holds it where its push puts it
-  pub ordered-slot : Sound w → (message_at w n).ordered ≡ true → IsSpan w s (index_of w n ∷ []) → reassembly_of (slot_came w p) s ≡ pushed_ordered (chunk_at w p) (reassembly_of w s)
+  pub ordered-slot : Sound w → (message_at w n).ordered ≡ true → IsSpan w s (index_of w n ∷ []) → reassembly_of (slot_received w p) s ≡ pushed_ordered (chunk_at w p) (reassembly_of w s)
   ordered-slot sound e sp = ap (λ v. reassembly_of v s) (Ordered.ordered-step w s p sound (arrives e sp)) ∙ Ordered.ordered-arrived w s p sound (arrives e sp)
 
 -- ## A whole unordered message
@@ -116,7 +116,7 @@ module _ (w : World) (s p : ℕ) (r : StreamRecord) (sound : Sound w) (more : So
   off : is_ordered_on w s (message_of w p) ≡ false
   off = fails (is_ordered_on w s (message_of w p)) (λ e. not_both (sym kind ∙ Line.on-ordered w s (message_of w p) e))
 
-  by_whole : (b : Bool) → becomes_whole v (message_of w p) ≡ b → BecomesWhole xs (reassembly_of w s) (reassembly_of (slot_came w p) s) b
+  by_whole : (b : Bool) → becomes_whole v (message_of w p) ≡ b → BecomesWhole xs (reassembly_of w s) (reassembly_of (slot_received w p) s) b
   by_whole true e =
       let n = message_of w p in
       let t = UnorderedStep.unordered-arrived w s p r sound more loose open' e in
@@ -140,33 +140,33 @@ module _ (w : World) (s p : ℕ) (r : StreamRecord) (sound : Sound w) (more : So
       (k.2, ap (λ x. reassembly_of x s) k.0 ∙ plain)
 
   -- the queue of its stream holds it loose, or the whole message that it completes
-  pub unordered-slot : BecomesWhole xs (reassembly_of w s) (reassembly_of (slot_came w p) s) (becomes_whole v (message_of w p))
+  pub unordered-slot : BecomesWhole xs (reassembly_of w s) (reassembly_of (slot_received w p) s) (becomes_whole v (message_of w p))
   unordered-slot = by_whole (becomes_whole v (message_of w p)) refl
 
 -- ## The other streams, and the filter
 
-pub slot-elsewhere : (w : World) (s p t : ℕ) → Sound w → Enters w s p → IsSpan w s (index_of w (message_of w p) ∷ []) → (t ≡ s → ⊥) → reassembly_of (slot_came w p) t ≡ reassembly_of w t
+pub slot-elsewhere : (w : World) (s p t : ℕ) → Sound w → Enters w s p → IsSpan w s (index_of w (message_of w p) ∷ []) → (t ≡ s → ⊥) → reassembly_of (slot_received w p) t ≡ reassembly_of w t
 slot-elsewhere w s p t sound a sp ne = by_kind (message_at w (message_of w p)).ordered refl
   where
-    by_kind : (b : Bool) → (message_at w (message_of w p)).ordered ≡ b → reassembly_of (slot_came w p) t ≡ reassembly_of w t
+    by_kind : (b : Bool) → (message_at w (message_of w p)).ordered ≡ b → reassembly_of (slot_received w p) t ≡ reassembly_of w t
     by_kind true e = ap (λ v. reassembly_of v t) (Ordered.ordered-step w s p sound (arrives w s p a e sp)) ∙ Ordered.ordered-elsewhere w s p sound (arrives w s p a e sp) t ne
     by_kind false e = Keeps.unordered-elsewhere w s p t (arrives-loose w s p a e) ne
 
 -- what an arrival leaves of the record but for the slot and the stream's whole messages
-noted : (w : World) (p : ℕ) → is_new w p ≡ true → (seen_of (slot_came w p) ≡ seen_of (with_arrived w p)) × ((slot_came w p).duplicates ≡ w.duplicates)
+noted : (w : World) (p : ℕ) → is_new w p ≡ true → (seen_of (slot_received w p) ≡ seen_of (with_arrived w p)) × ((slot_received w p).duplicates ≡ w.duplicates)
 noted w p e = step (becomes_whole (with_arrived w p) (message_of w p)) refl
   where
-    step : (b : Bool) → becomes_whole (with_arrived w p) (message_of w p) ≡ b → (seen_of (slot_came w p) ≡ seen_of (with_arrived w p)) × ((slot_came w p).duplicates ≡ w.duplicates)
+    step : (b : Bool) → becomes_whole (with_arrived w p) (message_of w p) ≡ b → (seen_of (slot_received w p) ≡ seen_of (with_arrived w p)) × ((slot_received w p).duplicates ≡ w.duplicates)
     step true h = rw (e, h) (refl, refl)
     step false h = rw (e, h) (refl, refl)
 
-pub filter-slot : (w : World) (p : ℕ) → Sound w → p < length w.slots → is_new w p ≡ true → seen_of (slot_came w p) ≡ advanced (seen_of w).cum (inserted comes_before (tsn_of w p) (seen_of w).held)
+pub filter-slot : (w : World) (p : ℕ) → Sound w → p < length w.slots → is_new w p ≡ true → seen_of (slot_received w p) ≡ advanced (seen_of w).cum (inserted comes_before (tsn_of w p) (seen_of w).held)
 filter-slot w p sound made e =
     (noted w p e).0 ∙ Filter.filter-arrived w p sound.skipped_made sound.few made (fresh w p e) (not-arrived w p e)
 
-pub duplicates-slot : (w : World) (p : ℕ) → is_new w p ≡ true → (filter_of (slot_came w p)).duplicates ≡ (filter_of w).duplicates
+pub duplicates-slot : (w : World) (p : ℕ) → is_new w p ≡ true → (filter_of (slot_received w p)).duplicates ≡ (filter_of w).duplicates
 duplicates-slot w p e = step (becomes_whole (with_arrived w p) (message_of w p)) refl
   where
-    step : (b : Bool) → becomes_whole (with_arrived w p) (message_of w p) ≡ b → (filter_of (slot_came w p)).duplicates ≡ (filter_of w).duplicates
+    step : (b : Bool) → becomes_whole (with_arrived w p) (message_of w p) ≡ b → (filter_of (slot_received w p)).duplicates ≡ (filter_of w).duplicates
     step true h = rw (e, h) refl
     step false h = rw (e, h) refl

@@ -7,7 +7,7 @@ use Rattle.sctp_lists.proofs.More.{both}
 use Rattle.sctp_model.specs.World.{World, StreamRecord}
 use Rattle.sctp_model.specs.Messages.{message_at, slot_at, message_of, stream_at, stream_of, is_unordered_on}
 use Rattle.sctp_model.specs.Receiver.{is_new}
-use Rattle.sctp_model.specs.Changes.{stream_changed, with_whole, becomes_whole, slot_came}
+use Rattle.sctp_model.specs.Changes.{stream_changed, with_whole, becomes_whole, slot_received}
 use Rattle.sctp_ties.specs.Sound.{Sound, SoundLoose, SoundWhole}
 use Rattle.sctp_ties.proofs.Arrival
 use Rattle.sctp_ties.proofs.Arrival.{with_arrived}
@@ -44,11 +44,11 @@ comes w p c e = record { made = c.made; new = not-arrived w p e; fragment = c.fr
 abbrev pub noted : World → ℕ → Bool → World
 noted w p b = if b then stream_changed (with_arrived w p) (message_at w (message_of w p)).stream (with_whole (message_of w p)) else with_arrived w p
 
-came-is : (w : World) (p : ℕ) → is_new w p ≡ true → slot_came w p ≡ noted w p (becomes_whole (with_arrived w p) (message_of w p))
-came-is w p e = rw e refl
+received-is : (w : World) (p : ℕ) → is_new w p ≡ true → slot_received w p ≡ noted w p (becomes_whole (with_arrived w p) (message_of w p))
+received-is w p e = rw e refl
 
 -- P of the record after a slot, from P of the two forms that it may have
-pub by_step : (P : World → Type 0) (w : World) (p : ℕ) → P (record w { duplicates = w.duplicates ++ p ∷ [] }) → (is_new w p ≡ true → (b : Bool) → becomes_whole (with_arrived w p) (message_of w p) ≡ b → P (noted w p b)) → P (slot_came w p)
+pub by_step : (P : World → Type 0) (w : World) (p : ℕ) → P (record w { duplicates = w.duplicates ++ p ∷ [] }) → (is_new w p ≡ true → (b : Bool) → becomes_whole (with_arrived w p) (message_of w p) ≡ b → P (noted w p b)) → P (slot_received w p)
 by_step P w p again new = step (is_new w p) refl
   where
     step : (b : Bool) → is_new w p ≡ b → P (if b then noted w p (becomes_whole (with_arrived w p) (message_of w p)) else record w { duplicates = w.duplicates ++ p ∷ [] })
@@ -123,5 +123,5 @@ sounds-again w p s = record {
   whole = record { whole_on = s.whole.whole_on };
 }
 
-pub sounds-slot : (w : World) (p : ℕ) → Sounds w → Carried w p → Sounds (slot_came w p)
+pub sounds-slot : (w : World) (p : ℕ) → Sounds w → Carried w p → Sounds (slot_received w p)
 sounds-slot w p s c = by_step Sounds w p (sounds-again w p s) (λ e b h. sounds-new w p s c e b h)

@@ -9,7 +9,7 @@ use Rattle.sctp_lists.proofs.More.{not_both, both, and}
 use Rattle.sctp_model.specs.World.{World, StreamRecord, Data}
 use Rattle.sctp_model.specs.Messages.{message_at, message_of, stream_at, stream_of, is_ordered_on, index_of}
 use Rattle.sctp_model.specs.Receiver.{arrived_at, cumulative, is_new, is_whole, is_held, next_of, fits, spans_fit}
-use Rattle.sctp_model.specs.Changes.{stream_changed, with_whole, becomes_whole, slot_came}
+use Rattle.sctp_model.specs.Changes.{stream_changed, with_whole, becomes_whole, slot_received}
 use Rattle.sctp_model.specs.Steps.{arrival_fits}
 use Rattle.sctp_ties.specs.Sound.{Sound}
 use Rattle.sctp_ties.proofs.Arrival
@@ -84,7 +84,7 @@ held-noted v s n t k h =
       due = ap (λ b. b || nat_le (stream_of u t).named (index_of v k)) whole ∙ ap (λ m. is_whole v k || nat_le m (index_of v k)) (Keeps.named-changed v s (with_whole n) (λ r. refl) (λ r. refl) t) ∙ x.due;
     })
 
-pub among-slot : (w : World) (p : ℕ) → Sounds w → Carried w p → Among w (slot_came w p)
+pub among-slot : (w : World) (p : ℕ) → Sounds w → Carried w p → Among w (slot_received w p)
 among-slot w p s c = by_step (Among w) w p (record { count = omega arith; next = λ t. refl; index = λ k. refl; held = λ t k h. h }) new
   where
     new : is_new w p ≡ true → (b : Bool) → becomes_whole (with_arrived w p) (message_of w p) ≡ b → Among w (noted w p b)
@@ -102,7 +102,7 @@ among-slot w p s c = by_step (Among w) w p (record { count = omega arith; next =
 
 -- ## What a datagram carries stays so
 
-carried-slot : (w : World) (q p : ℕ) → Carried w p → Carried (slot_came w q) p
+carried-slot : (w : World) (q p : ℕ) → Carried w p → Carried (slot_received w q) p
 carried-slot w q p c = by_step (λ u. Carried u p) w q (record { made = c.made; fragment = c.fragment; alive = c.alive; known = c.known }) (λ e b h. new b)
   where
     v : World
@@ -134,36 +134,36 @@ abbrev pub AllCarried : World → List ℕ → Type 0
 AllCarried w [] = Unit {0}
 AllCarried w (p ∷ ps) = Carried w p × AllCarried w ps
 
-pub all_carried-slot : (w : World) (q : ℕ) (ps : List ℕ) → AllCarried w ps → AllCarried (slot_came w q) ps
+pub all_carried-slot : (w : World) (q : ℕ) (ps : List ℕ) → AllCarried w ps → AllCarried (slot_received w q) ps
 all_carried-slot w q [] a = tt
 all_carried-slot w q (p ∷ ps) a = (carried-slot w q p a.0, all_carried-slot w q ps a.1)
 
-pub among-slots : (ps : List ℕ) (w : World) → Sounds w → AllCarried w ps → Among w (fold slot_came w ps)
+pub among-slots : (ps : List ℕ) (w : World) → Sounds w → AllCarried w ps → Among w (fold slot_received w ps)
 among-slots [] w s a = among-self w
 among-slots (p ∷ ps) w s a =
-    among-both w (slot_came w p) (fold slot_came (slot_came w p) ps) (among-slot w p s a.0)
-    (among-slots ps (slot_came w p) (sounds-slot w p s a.0) (all_carried-slot w p ps a.1))
+    among-both w (slot_received w p) (fold slot_received (slot_received w p) ps) (among-slot w p s a.0)
+    (among-slots ps (slot_received w p) (sounds-slot w p s a.0) (all_carried-slot w p ps a.1))
 
-pub sounds-slots : (ps : List ℕ) (w : World) → Sounds w → AllCarried w ps → Sounds (fold slot_came w ps)
+pub sounds-slots : (ps : List ℕ) (w : World) → Sounds w → AllCarried w ps → Sounds (fold slot_received w ps)
 sounds-slots [] w s a = s
-sounds-slots (p ∷ ps) w s a = sounds-slots ps (slot_came w p) (sounds-slot w p s a.0) (all_carried-slot w p ps a.1)
+sounds-slots (p ∷ ps) w s a = sounds-slots ps (slot_received w p) (sounds-slot w p s a.0) (all_carried-slot w p ps a.1)
 
 -- a slot leaves the messages, and each open stream open
-keeps-slot : (w : World) (q p : ℕ) → (message_of (slot_came w q) p ≡ message_of w p) × ((s n : ℕ) → is_ordered_on (slot_came w q) s n ≡ is_ordered_on w s n)
+keeps-slot : (w : World) (q p : ℕ) → (message_of (slot_received w q) p ≡ message_of w p) × ((s n : ℕ) → is_ordered_on (slot_received w q) s n ≡ is_ordered_on w s n)
 keeps-slot w q p = by_step (λ u. (message_of u p ≡ message_of w p) × ((s n : ℕ) → is_ordered_on u s n ≡ is_ordered_on w s n)) w q (refl, λ s n. refl) (λ e b h. new b)
   where
     new : (b : Bool) → (message_of (noted w q b) p ≡ message_of w p) × ((s n : ℕ) → is_ordered_on (noted w q b) s n ≡ is_ordered_on w s n)
     new true = (Arrival.message_of-arrived w q p, λ s n. refl)
     new false = (Arrival.message_of-arrived w q p, λ s n. refl)
 
-pub kept-slots : (ps : List ℕ) (w : World) (p : ℕ) → Sounds w → AllCarried w ps → (message_of (fold slot_came w ps) p ≡ message_of w p) × ((s n : ℕ) → is_ordered_on (fold slot_came w ps) s n ≡ is_ordered_on w s n)
+pub kept-slots : (ps : List ℕ) (w : World) (p : ℕ) → Sounds w → AllCarried w ps → (message_of (fold slot_received w ps) p ≡ message_of w p) × ((s n : ℕ) → is_ordered_on (fold slot_received w ps) s n ≡ is_ordered_on w s n)
 kept-slots [] w p s a = (refl, λ s n. refl)
 kept-slots (q ∷ ps) w p s a =
     let k = keeps-slot w q p in
-    let r = kept-slots ps (slot_came w q) p (sounds-slot w q s a.0) (all_carried-slot w q ps a.1) in
+    let r = kept-slots ps (slot_received w q) p (sounds-slot w q s a.0) (all_carried-slot w q ps a.1) in
     (r.0 ∙ k.0, λ s n. r.1 s n ∙ k.1 s n)
 
-open-slot : (w : World) (q t : ℕ) (r : StreamRecord) → stream_at w t ≡ Some r → (r : StreamRecord) × (stream_at (slot_came w q) t ≡ Some r)
+open-slot : (w : World) (q t : ℕ) (r : StreamRecord) → stream_at w t ≡ Some r → (r : StreamRecord) × (stream_at (slot_received w q) t ≡ Some r)
 open-slot w q t r at = by_step (λ u. (r : StreamRecord) × (stream_at u t ≡ Some r)) w q (r, at) (λ e b h. new b)
   where
     new : (b : Bool) → (r : StreamRecord) × (stream_at (noted w q b) t ≡ Some r)
@@ -174,9 +174,9 @@ open-slot w q t r at = by_step (λ u. (r : StreamRecord) × (stream_at u t ≡ S
         let f : StreamRecord → StreamRecord = λ r. if r.stream == s then g r else r in
         (f r, Keeps.found (with_arrived w q) s g (λ r. refl) (λ r. refl) t ∙ ap (then_by f) at)
 
-pub stays-open : (ps : List ℕ) (w : World) (t : ℕ) (r : StreamRecord) → Sounds w → AllCarried w ps → stream_at w t ≡ Some r → (r : StreamRecord) × (stream_at (fold slot_came w ps) t ≡ Some r)
+pub stays-open : (ps : List ℕ) (w : World) (t : ℕ) (r : StreamRecord) → Sounds w → AllCarried w ps → stream_at w t ≡ Some r → (r : StreamRecord) × (stream_at (fold slot_received w ps) t ≡ Some r)
 stays-open [] w t r s a at = (r, at)
-stays-open (q ∷ ps) w t r s a at = let k = open-slot w q t r at in stays-open ps (slot_came w q) t k.0 (sounds-slot w q s a.0) (all_carried-slot w q ps a.1) k.1
+stays-open (q ∷ ps) w t r s a at = let k = open-slot w q t r at in stays-open ps (slot_received w q) t k.0 (sounds-slot w q s a.0) (all_carried-slot w q ps a.1) k.1
 
 -- ## The span
 
@@ -225,7 +225,7 @@ index-among w s n (m ∷ ms) on h = step (m == n) refl h (λ x. index-among w s 
 -- ## What an accepted arrival knows at each of its fragments
 
 -- what is new after a slot came was new before
-pub new-before : (w : World) (q p : ℕ) → Sound w → Carried w q → is_new (slot_came w q) p ≡ true → is_new w p ≡ true
+pub new-before : (w : World) (q p : ℕ) → Sound w → Carried w q → is_new (slot_received w q) p ≡ true → is_new w p ≡ true
 new-before w q p sound c = by_step (λ u. is_new u p ≡ true → is_new w p ≡ true) w q (λ h. h) (λ e b x h. new e b h)
   where
     small : (a b : ℕ) (x y : Bool) → a ≤ b → (y ≡ false → x ≡ false) → (nat_le b p && not y) ≡ true → (nat_le a p && not x) ≡ true
@@ -254,9 +254,9 @@ new-before w q p sound c = by_step (λ u. is_new u p ≡ true → is_new w p ≡
     new e true h = small (cumulative w) (cumulative (with_arrived w q)) (arrived_at w p) (arrived_at (with_arrived w q) p) (grows e) (stays e) h
     new e false h = small (cumulative w) (cumulative (with_arrived w q)) (arrived_at w p) (arrived_at (with_arrived w q) p) (grows e) (stays e) h
 
-pub new-first : (done : List ℕ) (w : World) (p : ℕ) → Sounds w → AllCarried w done → is_new (fold slot_came w done) p ≡ true → is_new w p ≡ true
+pub new-first : (done : List ℕ) (w : World) (p : ℕ) → Sounds w → AllCarried w done → is_new (fold slot_received w done) p ≡ true → is_new w p ≡ true
 new-first [] w p s a e = e
-new-first (q ∷ done) w p s a e = new-before w q p s.plain a.0 (new-first done (slot_came w q) p (sounds-slot w q s a.0) (all_carried-slot w q done a.1) e)
+new-first (q ∷ done) w p s a e = new-before w q p s.plain a.0 (new-first done (slot_received w q) p (sounds-slot w q s a.0) (all_carried-slot w q done a.1) e)
 
 -- the message of each new slot is among those that the span test adds
 pub adds-new : (w : World) (slots : List ℕ) (p : ℕ) → list_any (λ k. k == p) slots ≡ true → is_new w p ≡ true → list_any (λ k. k == message_of w p) (map (message_of w) (passing (is_new w) slots)) ≡ true
@@ -281,10 +281,10 @@ adds-new w (q ∷ slots) p h e = step (q == p) refl h (λ x. adds-new w slots p 
     step true y x ih = here (let z : q ≡ p = grind (arith, nat_tests) in z)
     step false y x ih = later (is_new w q) (ih x)
 
-pub all_carried-after : (done : List ℕ) (w : World) (ps : List ℕ) → AllCarried w (done ++ ps) → (AllCarried w done) × (AllCarried (fold slot_came w done) ps)
+pub all_carried-after : (done : List ℕ) (w : World) (ps : List ℕ) → AllCarried w (done ++ ps) → (AllCarried w done) × (AllCarried (fold slot_received w done) ps)
 all_carried-after [] w ps a = (tt, a)
 all_carried-after (q ∷ done) w ps a =
-    let r = all_carried-after done (slot_came w q) ps (all_carried-slot w q (done ++ ps) a.1) in
+    let r = all_carried-after done (slot_received w q) ps (all_carried-slot w q (done ++ ps) a.1) in
     let own = split done w ps a.1 in
     ((a.0, own), r.1)
   where
@@ -297,19 +297,19 @@ in-middle [] ps p = let z : (p == p) ≡ true = grind (arith, nat_tests) in ap (
 in-middle (q ∷ done) ps p = or-right (q == p) (list_any (λ k. k == p) (done ++ p ∷ ps)) (in-middle done ps p)
 
 -- where the span test lets a datagram come, it holds at each of its fragments that is new and ordered
-pub span-at : (w : World) (done : List ℕ) (p : ℕ) (ps : List ℕ) → Sounds w → AllCarried w (done ++ p ∷ ps) → arrival_fits w (Some (Data (done ++ p ∷ ps))) ≡ true → (let u = fold slot_came w done in let n = message_of (fold slot_came w done) p in is_new u p ≡ true → (message_at u n).ordered ≡ true → IsSpan u (message_at u n).stream (index_of u n ∷ []))
+pub span-at : (w : World) (done : List ℕ) (p : ℕ) (ps : List ℕ) → Sounds w → AllCarried w (done ++ p ∷ ps) → arrival_fits w (Some (Data (done ++ p ∷ ps))) ≡ true → (let u = fold slot_received w done in let n = message_of (fold slot_received w done) p in is_new u p ≡ true → (message_at u n).ordered ≡ true → IsSpan u (message_at u n).stream (index_of u n ∷ []))
 span-at w done p ps s a fit new ord =
-    let u = fold slot_came w done in
+    let u = fold slot_received w done in
     let split = all_carried-after done w (p ∷ ps) a in
     let c = split.1.0 in
     let now = sounds-slots done w s split.0 in
-    let v = fold slot_came u (p ∷ ps) in
+    let v = fold slot_received u (p ∷ ps) in
     let n = message_of u p in
     let on = (message_at u n).stream in
-    let joined = fold-append slot_came w done (p ∷ ps) in
+    let joined = fold-append slot_received w done (p ∷ ps) in
     let adds = map (message_of w) (passing (is_new w) (done ++ p ∷ ps)) in
     let among = among-slots (p ∷ ps) u now split.1 in
-    let after' = (both (spans_fit w adds) (spans_fit (fold slot_came w (done ++ p ∷ ps)) adds) fit).1 in
+    let after' = (both (spans_fit w adds) (spans_fit (fold slot_received w (done ++ p ∷ ps)) adds) fit).1 in
     let later : spans_fit v adds ≡ true = ap (λ x. spans_fit x adds) (sym joined) ∙ after' in
     let same = kept-slots (p ∷ ps) u p now split.1 in
     let first-same = kept-slots done w p s split.0 in

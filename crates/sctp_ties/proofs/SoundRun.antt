@@ -18,7 +18,7 @@ use Rattle.sctp_model.specs.Receiver.{arrived_at, arrived_of, has_arrived, is_wh
 use Rattle.sctp_model.specs.Changes.{becomes_whole}
 use Rattle.sctp_model.specs.Steps.{History, world_of, IsRun}
 use Rattle.sctp_model.specs.Log
-use Rattle.sctp_model.specs.Log.{Coming}
+use Rattle.sctp_model.specs.Log.{LogEntry}
 use Rattle.sctp_model.specs.Laws.{IsSetup}
 use Rattle.sctp_model.proofs.Shape.{shape, sent, parts}
 use Rattle.sctp_model.proofs.Sender.{Sender}
@@ -107,7 +107,7 @@ module _ (w : World) (a : Sender (shape w)) where
 
 -- ## The receiver
 
-module _ (setup : Setup) (w : World) (log : List Coming) (g : Sane setup w) (r : Received w log) where
+module _ (setup : Setup) (w : World) (log : List LogEntry) (g : Sane setup w) (r : Received w log) where
   hears : Wholes.Hears (view w) log
   hears = Known.hears w log r.known.heard
 

@@ -95,7 +95,7 @@ module _ (w : World) (s p : ℕ) (sound : Sound w) (more : SoundLoose w) (a : Ar
   loose-here : q p ≡ true
   loose-here =
       is-loose v s p (record {
-        came = Arrival.arrived-here w p a.made;
+        datagram_received = Arrival.arrived-here w p a.made;
         past = skipped-le;
         on = ap (is_unordered_on w s) (Arrival.message_of-arrived w p p) ∙ a.on;
         whole = ap (is_whole v) (Arrival.message_of-arrived w p p) ∙ Stays.whole-unordered w p n (unordered-of w s n a.on).1 ∙ not_whole;
@@ -117,7 +117,7 @@ module _ (w : World) (s p : ℕ) (sound : Sound w) (more : SoundLoose w) (a : Ar
   -- ## No other run
 
   pub fragments : (k : ℕ) → q k ≡ true → has_fragment w (message_of w k) k ≡ true
-  fragments k e = Arrival.has-fragment w k (by_place {C = (slot_at w k).is_end_mark ≡ false} k p (λ ne. more.marks k (sym (Arrival.arrived-other w p k ne) ∙ (loose v s k e).came)) (λ z. rw z a.fragment))
+  fragments k e = Arrival.has-fragment w k (by_place {C = (slot_at w k).is_end_mark ≡ false} k p (λ ne. more.marks k (sym (Arrival.arrived-other w p k ne) ∙ (loose v s k e).datagram_received)) (λ z. rw z a.fragment))
 
   becomes : (first c : ℕ) → (r : IsWholeRun w q first c) → becomes_whole v (message_of w r.base) ≡ true
   becomes first c r =
@@ -143,7 +143,7 @@ module _ (w : World) (s p : ℕ) (sound : Sound w) (more : SoundLoose w) (a : Ar
       arrived r k low high =
           let i : r.base + (k - r.base) ≡ k = omega arith in
           let g = r.all (k - r.base) (omega arith) in
-          and (has_fragment v (message_of w r.base) k) (arrived_at v k) (Arrival.has_fragment-arrived w p (message_of w r.base) k ∙ ap (has_fragment w (message_of w r.base)) (sym i) ∙ g.1) (loose v s k (ap q (sym i) ∙ g.0)).came
+          and (has_fragment v (message_of w r.base) k) (arrived_at v k) (Arrival.has_fragment-arrived w p (message_of w r.base) k ∙ ap (has_fragment w (message_of w r.base)) (sym i) ∙ g.1) (loose v s k (ap q (sym i) ∙ g.0)).datagram_received
 
   -- a run is that of the message that came
   pub run-mine : (first c : ℕ) → IsRun xs first c → (becomes_whole v n ≡ true) × (first ≡ length (kept q 0 base)) × (c ≡ count)
@@ -184,7 +184,7 @@ module _ (w : World) (s p : ℕ) (sound : Sound w) (more : SoundLoose w) (a : Ar
         let of : message_of v k ≡ n = Arrival.message_of-arrived w p k ∙ Arrival.of_message w n k frag in
         let past : nat_le w.skipped k ≡ true = kept-all (λ k. nat_le w.skipped k) (has_fragment v n) 0 (length v.slots) k parts.1 (omega arith) (omega (arith, inside k c.0 (cases_lt k (length v.slots)))) c.0 in (
           is-loose v s k (record {
-            came = c.1;
+            datagram_received = c.1;
             past = grind (arith, nat_tests);
             on = ap (is_unordered_on w s) of ∙ a.on;
             whole = ap (is_whole v) of ∙ Stays.whole-unordered w p n (unordered-of w s n a.on).1 ∙ not_whole;

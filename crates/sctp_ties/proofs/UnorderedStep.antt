@@ -17,7 +17,7 @@ use Rattle.sctp_lists.proofs.KeptLemmas.{kept-same, kept-none, map-kept-same}
 use Rattle.sctp_model.specs.World.{World, StreamRecord}
 use Rattle.sctp_model.specs.Messages.{message_at, message_of, stream_at, stream_of, no_stream, is_ordered_on, index_of, fragment_count, has_fragment, is_unordered_on}
 use Rattle.sctp_model.specs.Receiver.{arrived_at, arrived_of, has_arrived, is_whole, is_unread, is_held, next_of, is_new}
-use Rattle.sctp_model.specs.Changes.{stream_changed, with_whole, becomes_whole, slot_came}
+use Rattle.sctp_model.specs.Changes.{stream_changed, with_whole, becomes_whole, slot_received}
 use Rattle.sctp_ties.specs.Sound.{Sound, SoundLoose}
 use Rattle.sctp_lists.proofs.More.{fails, not_both}
 use Rattle.sctp_ties.proofs.Line.{on-ordered}
@@ -191,7 +191,7 @@ module _ (w : World) (s p : ℕ) (r : StreamRecord) (sound : Sound w) (more : So
   front : List ℕ
   front = kept q 0 base
 
-  pub step : slot_came w p ≡ u
+  pub step : slot_received w p ≡ u
   step =
       let new : is_new w p ≡ true = rw a.new (grind (arith, nat_tests, a.fresh)) in
       rw (new, whole, (unordered-of w s n a.on).0) refl
@@ -325,7 +325,7 @@ module _ (w : World) (s p : ℕ) (r : StreamRecord) (sound : Sound w) (more : So
 
 -- where it does not become whole, the queue only keeps the chunk
 module _ (w : World) (s p : ℕ) (sound : Sound w) (more : SoundLoose w) (a : ArrivesLoose w s p) (whole : becomes_whole (with_arrived w p) (message_of w p) ≡ false) where
-  pub unordered-kept : (slot_came w p ≡ with_arrived w p) × (loose_chunks (with_arrived w p) s ≡ inserted chunk_before (chunk_at w p) (loose_chunks w s)) × HasNoRun (inserted chunk_before (chunk_at w p) (loose_chunks w s))
+  pub unordered-kept : (slot_received w p ≡ with_arrived w p) × (loose_chunks (with_arrived w p) s ≡ inserted chunk_before (chunk_at w p) (loose_chunks w s)) × HasNoRun (inserted chunk_before (chunk_at w p) (loose_chunks w s))
   unordered-kept =
       let new : is_new w p ≡ true = rw a.new (grind (arith, nat_tests, a.fresh)) in
       let put = Unordered.loose-put w s p sound more a in

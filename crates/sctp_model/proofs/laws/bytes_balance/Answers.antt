@@ -1,9 +1,9 @@
 use Rattle.sctp_model.proofs.Bytes.{balances}
-use Rattle.sctp_model.proofs.BytesTold.{sums_are_told}
+use Rattle.sctp_model.proofs.BytesTold.{sums_agree}
 use Rattle.sctp_model.proofs.laws.bytes_balance.Goals as goal
 
 pub returns-clause-balance : goal.returns-clause-balance
 returns-clause-balance c = balances
 
 pub returns-clause-sums : goal.returns-clause-sums
-returns-clause-sums c = sums_are_told
+returns-clause-sums c = sums_agree

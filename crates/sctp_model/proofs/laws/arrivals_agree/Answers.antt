@@ -5,7 +5,7 @@ use Rattle.sctp_model.proofs.Arrivals.{arrivals_answered}
 use Rattle.sctp_model.proofs.KnownRun.{whole_is_whole}
 use Rattle.sctp_model.proofs.Names.{named_is_named}
 use Rattle.sctp_model.proofs.Spans.{spans_fit_always}
-use Rattle.sctp_model.proofs.laws.arrivals_are_told.Goals as goal
+use Rattle.sctp_model.proofs.laws.arrivals_agree.Goals as goal
 
 pub returns-clause-network : goal.returns-clause-network
 returns-clause-network c = network_is_made
