@@ -1,4 +1,3 @@
--- Tests on kept numbers.
 use Rattle.std.proofs.Common.{◌≡◌, ℕ, zero, suc, ◌+◌, ◌<◌, ◌≤◌, Bool, true, false, List, [], ◌∷◌, ◌++◌, Option, Some, None, refl, ap, sym, ◌∙◌, inl, inr, arith}
 use Rattle.std.specs.Prelude.{◌⊎◌, if◌then◌else◌, ◌==◌, ◌&&◌, ◌||◌, nat_lt}
 use Rattle.std.specs.List.{list_any, list_all}
@@ -8,6 +7,8 @@ use Rattle.sctp_lists.specs.Kept.{kept, first_of}
 use Rattle.sctp_lists.proofs.KeptLemmas.{front-kept, FrontOf}
 use Rattle.sctp_lists.proofs.More.{not_both, both, and, same_test}
 use Rattle.sctp_lists.proofs.Cases.{same-yes, same-is, or-left, or-right, or-split}
+
+-- Tests on kept numbers.
 
 abbrev pub Found : (ℕ → Bool) → (ℕ → Bool) → ℕ → ℕ → Type 0
 Found t p from count = (k : ℕ) × (from ≤ k) × (k < from + count) × (p k ≡ true) × (t k ≡ true)
@@ -36,14 +37,6 @@ any-in t p k from (suc count) a b f h = step (p from) refl (eq-or-lt_of_le a) (�
     step true g (inr l) ih = or-right (t from) (list_any t (kept p (from + 1) count)) (ih (omega arith))
     step false g (inl e) ih = absurd (not_both (sym g ∙ ap p e ∙ f))
     step false g (inr l) ih = ih (omega arith)
-
-pub all-in : (t p : ℕ → Bool) (from count : ℕ) → ((k : ℕ) → from ≤ k → k < from + count → p k ≡ true → t k ≡ true) → list_all t (kept p from count) ≡ true
-all-in t p from zero h = refl
-all-in t p from (suc count) h = step (p from) refl (all-in t p (from + 1) count (λ k a b. h k (omega arith) (omega arith)))
-  where
-    step : (c : Bool) → p from ≡ c → list_all t (kept p (from + 1) count) ≡ true → list_all t (if c then from ∷ kept p (from + 1) count else kept p (from + 1) count) ≡ true
-    step true g ih = and (t from) (list_all t (kept p (from + 1) count)) (h from (omega arith) (omega arith) g) ih
-    step false g ih = ih
 
 pub all-out : (t p : ℕ → Bool) (k from count : ℕ) → list_all t (kept p from count) ≡ true → from ≤ k → k < from + count → p k ≡ true → t k ≡ true
 all-out t p k from zero e a b f = absurd (omega arith)

@@ -1,33 +1,32 @@
-use Rattle.std.proofs.Common.{◌≡◌, ℕ, zero, suc, ◌+◌, ◌-◌, ◌<◌, ◌≤◌, Bool, true, false, List, [], ◌∷◌, ◌++◌, length, map, get_or, Option, Some, None, refl, ap, sym, ◌∙◌, inl, inr, arith, append-nil, add-one, zero-add}
-use Rattle.std.specs.Prelude.{◌⊎◌, if◌then◌else◌, ◌==◌, ◌&&◌, ◌||◌, not, nat_lt, nat_le, min, max, slice_get, fold, take}
+use Rattle.std.proofs.Common.{◌≡◌, ℕ, zero, suc, ◌+◌, ◌-◌, ◌<◌, ◌≤◌, Bool, true, false, List, [], ◌∷◌, ◌++◌, length, map, Option, Some, None, refl, ap, sym, ◌∙◌, inl, inr, arith, zero-add}
+use Rattle.std.specs.Prelude.{◌⊎◌, if◌then◌else◌, ◌==◌, ◌&&◌, ◌||◌, nat_lt, nat_le, min, max, slice_get, take}
 use Rattle.std.specs.List.{list_any}
 use Rattle.std.proofs.Math.Path.{subst}
 use Rattle.std.proofs.Math.Nat.{eq-or-lt_of_le}
 use Rattle.std.proofs.lemmas.Bool.{cases_lt}
 use Rattle.std.proofs.lemmas.Bool.Decides.{nat_tests}
 use Rattle.sctp_lists.specs.Kept.{kept, runs_of, joined, numbers_from}
-use Rattle.sctp_lists.specs.Lists.{changed, each_numbered}
+use Rattle.sctp_lists.specs.Lists.{changed}
 use Rattle.sctp_lists.proofs.KeptLemmas.{kept-same}
 use Rattle.sctp_lists.proofs.More.{fails, not_both, both, and, changed-keeps, length-changed}
 use Rattle.sctp_model.specs.declared.event.Event.{Event}
 use Rattle.sctp_model.specs.declared.event.Event.TheVariants as E
 use Rattle.sctp_model.specs.Reply.{Reply}
-use Rattle.sctp_model.specs.World.{Setup, Slot, Report, Datagram, Data, Forward, Sack, World, start}
+use Rattle.sctp_model.specs.World.{Setup, Datagram, Data, Forward, Sack, World}
 use Rattle.sctp_model.specs.Messages
 use Rattle.sctp_model.specs.Receiver.{arrived_at, cumulative, is_new, next_read}
 use Rattle.sctp_model.specs.Changes
 use Rattle.sctp_model.specs.Reports.{report_of, reports, distances, gap_blocks}
 use Rattle.sctp_model.specs.Log
 use Rattle.sctp_model.specs.Log.{Coming, SlotCame, SkipCame, SackMade, is_seen, arrived_new, is_skipped, seen_count, duplicates_in, log_of, made_in, Made, MadeData, MadeForward, MadeSack, is_acknowledged_in, taken_in, reported_by}
-use Rattle.sctp_model.specs.Steps.{History, world_of, IsRun, refusal_of, after}
-use Rattle.sctp_model.specs.Contents.{SackContents, cumulative_tsn, datagram, contents_in, contents_of}
+use Rattle.sctp_model.specs.Steps.{History, world_of, IsRun, after}
+use Rattle.sctp_model.specs.Contents.{SackContents, cumulative_tsn, contents_in}
 use Rattle.sctp_model.specs.Laws.{IsSetup, OnEveryRun, AcknowledgedArrived, AcknowledgedIsReported, SacksSay, blocks_by}
-use Rattle.sctp_model.proofs.Shape.{shape}
 use Rattle.sctp_model.proofs.Arrivals.{Heard, heard-run, seen_by, seen-below, arrived-beyond, cumulative_is_seen}
-use Rattle.sctp_model.proofs.SenderRun.{Sane, sane-run, fold-keeps}
+use Rattle.sctp_model.proofs.SenderRun.{sane-run, fold-keeps}
 use Rattle.sctp_model.proofs.Moves
 use Rattle.sctp_model.proofs.Network
-use Rattle.sctp_lists.proofs.Cases.{or-left, or-split}
+use Rattle.sctp_lists.proofs.Cases.{or-split}
 use Rattle.sctp_lists.proofs.Getting.{length-numbered, numbered-at, get-last}
 use Rattle.sctp_lists.proofs.Cases.{or-right}
 

@@ -1,6 +1,5 @@
--- What arrived in the record is what the order of arrivals says.
-use Rattle.std.proofs.Common.{◌≡◌, ℕ, zero, suc, ◌+◌, ◌-◌, ◌<◌, ◌≤◌, Bool, true, false, List, [], ◌∷◌, ◌++◌, length, map, Option, Some, None, refl, ap, sym, ◌∙◌, inl, inr, arith, append-nil, zero-add}
-use Rattle.std.specs.Prelude.{◌⊎◌, if◌then◌else◌, ◌==◌, ◌&&◌, ◌||◌, not, nat_lt, nat_le, slice_get}
+use Rattle.std.proofs.Common.{◌≡◌, ℕ, zero, suc, ◌+◌, ◌-◌, ◌<◌, ◌≤◌, Bool, true, false, List, [], ◌∷◌, ◌++◌, length, map, Some, refl, ap, sym, ◌∙◌, inl, inr, arith, append-nil}
+use Rattle.std.specs.Prelude.{◌⊎◌, if◌then◌else◌, ◌==◌, ◌&&◌, ◌||◌, not, nat_lt, nat_le}
 use Rattle.std.specs.List.{list_any}
 use Rattle.std.proofs.Math.Nat.{eq-or-lt_of_le}
 use Rattle.std.proofs.lemmas.Bool.{cases_lt}
@@ -8,10 +7,9 @@ use Rattle.std.proofs.lemmas.Bool.Decides.{nat_tests}
 use Rattle.sctp_lists.specs.Kept.{kept, always, numbers_from, unbroken}
 use Rattle.sctp_lists.specs.Lists.{changed}
 use Rattle.sctp_lists.proofs.KeptLemmas.{unbroken-same, unbroken-le, unbroken-passes, unbroken-stops, unbroken-on}
-use Rattle.sctp_lists.proofs.More.{fails, not_both, length-changed, changed-same, changed-other}
-use Rattle.sctp_model.specs.declared.event.Event.TheVariants as E
+use Rattle.sctp_lists.proofs.More.{not_both, length-changed, changed-same, changed-other}
 use Rattle.sctp_model.specs.Reply as R
-use Rattle.sctp_model.specs.World.{Setup, Datagram, Data, Forward, Sack, World, start}
+use Rattle.sctp_model.specs.World.{Setup, Sack, World}
 use Rattle.sctp_model.specs.Messages
 use Rattle.sctp_model.specs.Receiver.{arrived_at, cumulative, is_new}
 use Rattle.sctp_model.specs.Changes
@@ -19,11 +17,12 @@ use Rattle.sctp_model.specs.Steps.{History, world_of, IsRun, arrive_reply}
 use Rattle.sctp_model.specs.Log
 use Rattle.sctp_model.specs.Log.{Coming, SlotCame, SkipCame, SackMade}
 use Rattle.sctp_model.specs.Laws.{IsSetup, OnEveryRun, ArrivedIsNew, CumulativeIsSeen, ArrivalsAnswered}
-use Rattle.sctp_model.proofs.SenderRun.{Sane}
-use Rattle.sctp_model.proofs.Moves.{Quiet}
 use Rattle.sctp_model.proofs.Events.{Keeps, run-keeps}
 use Rattle.sctp_lists.proofs.Cases.{by_same, same-yes}
 use Rattle.sctp_lists.proofs.Getting.{get-beyond, get-numbered, length-numbered}
+use Rattle.sctp_lists.proofs.Cases.{or-right, or-none}
+
+-- What arrived in the record is what the order of arrivals says.
 
 -- ## By the record alone
 
@@ -34,14 +33,6 @@ seen_by w p = nat_lt p w.skipped || arrived_at w p
 -- what arrives new at this place
 abbrev pub with_arrived : World → ℕ → World
 with_arrived w p = record w { slots = changed Changes.mark_arrived p w.slots }
-
-or-right : (a b : Bool) → b ≡ true → (a || b) ≡ true
-or-right true b e = refl
-or-right false b e = e
-
-or-none : (a : Bool) → (a || false) ≡ a
-or-none true = refl
-or-none false = refl
 
 pub arrived-beyond : (w : World) (p : ℕ) → length w.slots ≤ p → arrived_at w p ≡ false
 arrived-beyond w p le = ap (λ x. x.arrived) (get-beyond w.slots p Messages.no_slot le)

@@ -1,39 +1,36 @@
-use Rattle.std.proofs.Common.{◌≡◌, ℕ, zero, suc, ◌+◌, ◌-◌, ◌<◌, ◌≤◌, ◌^◌, Bool, true, false, List, [], ◌∷◌, ◌++◌, length, map, get_or, Option, Some, None, refl, ap, sym, ◌∙◌, inl, inr, arith, append-nil, add-one}
+use Rattle.std.proofs.Common.{◌≡◌, ℕ, ◌+◌, ◌-◌, ◌<◌, ◌≤◌, Bool, true, false, List, [], ◌∷◌, length, map, get_or, Option, Some, None, refl, ap, sym, ◌∙◌, arith, add-one}
 use Rattle.std.proofs.Math.Path.{fun_ext}
-use Rattle.std.specs.Prelude.{◌⊎◌, if◌then◌else◌, ◌==◌, ◌&&◌, ◌||◌, not, fold, slice_get, slice_index_or, max}
+use Rattle.std.specs.Prelude.{if◌then◌else◌, ◌==◌, ◌&&◌, ◌||◌, not, fold, slice_get, slice_index_or, max}
 use Rattle.std.specs.List.{list_any}
-use Rattle.std.proofs.lemmas.Bool.{cases_lt}
 use Rattle.sctp_lists.specs.Kept.{kept, always, numbers_from, total_over}
-use Rattle.sctp_lists.specs.Lists.{pieces, each_numbered}
+use Rattle.sctp_lists.specs.Lists.{pieces}
 use Rattle.sctp_lists.proofs.KeptLemmas.{kept-same, kept-none, kept-snoc_in}
 use Rattle.sctp_lists.proofs.More.{fails, not_both, both, and, kept-short, length-changed}
 use Rattle.sctp_model.proofs.Sender.{Sender}
-use Rattle.sctp_chunks.specs.declared.chunk.chunk_payload_data.PayloadProtocolIdentifier.{PayloadProtocolIdentifier}
 use Rattle.sctp_model.specs.declared.event.Event.{Event}
 use Rattle.sctp_model.specs.declared.event.Event.TheVariants as E
 use Rattle.sctp_model.specs.Reply.{Reply}
 use Rattle.sctp_model.specs.Reply as R
-use Rattle.sctp_model.specs.World.{Setup, Report, Datagram, Data, Forward, Sack, World}
+use Rattle.sctp_model.specs.World.{Setup, Datagram, Data, Forward, Sack, World}
 use Rattle.sctp_model.specs.Messages
 use Rattle.sctp_model.specs.Receiver.{next_read, is_new}
 use Rattle.sctp_model.specs.Amounts
 use Rattle.sctp_model.specs.Changes
 use Rattle.sctp_model.specs.Reports.{reports}
-use Rattle.sctp_model.specs.Log.{Shown, total_shown, length_shown, writes_in, released_by, released_in}
-use Rattle.sctp_model.specs.Steps.{History, world_of, IsRun, refusal_of, reply_to, after, sent_reply, expired_reply, tail_reply, arrive_reply, read_reply}
+use Rattle.sctp_model.specs.Log.{Shown, total_shown, length_shown, released_by, released_in}
+use Rattle.sctp_model.specs.Steps.{History, world_of, IsRun, reply_to, after, sent_reply, expired_reply, tail_reply, arrive_reply, read_reply}
 use Rattle.sctp_model.specs.Laws.{IsSetup, OnEveryRun, SumsAreTold}
-use Rattle.sctp_model.proofs.Shape.{Shape, MessagePart, shape, message_part, has, sent, parts, written}
+use Rattle.sctp_model.proofs.Shape.{Shape, MessagePart, shape, message_part, has, written}
 use Rattle.sctp_model.proofs.Shapes
 use Rattle.sctp_model.proofs.SenderSteps.{of-has}
 use Rattle.sctp_model.proofs.SenderEnds.{message-old, message-new}
 use Rattle.sctp_model.proofs.SenderRun.{Sane, sane-run, sends-keep, written_as}
-use Rattle.sctp_model.proofs.Grows.{Grows, as_written}
 use Rattle.sctp_model.proofs.Moves
 use Rattle.sctp_model.proofs.Moves.{Quiet}
 use Rattle.sctp_model.proofs.Network
 use Rattle.sctp_model.proofs.Bytes.{balance, size-some}
-use Rattle.sctp_model.proofs.Acknowledged.{AsAcknowledged, as-datagram, as-read}
-use Rattle.sctp_model.proofs.Written.{told, shown_part, messages_are_writes}
+use Rattle.sctp_model.proofs.Acknowledged.{as-datagram, as-read}
+use Rattle.sctp_model.proofs.Written.{shown_part, messages_are_writes}
 use Rattle.sctp_lists.proofs.Getting.{length-mapped, numbered-at}
 use Rattle.sctp_lists.proofs.Totals.{total-le, total-append, total-kept_same, total-wider}
 

@@ -1,32 +1,32 @@
-use Rattle.std.proofs.Common.{◌≡◌, ℕ, zero, suc, ◌+◌, ◌<◌, ◌≤◌, Bool, true, false, List, [], ◌∷◌, ◌++◌, length, map, take, drop, Option, Some, None, refl, ap, sym, ◌∙◌, inl, inr, arith}
+use Rattle.std.proofs.Common.{◌≡◌, ℕ, zero, suc, ◌+◌, ◌<◌, ◌≤◌, Bool, true, false, List, [], ◌∷◌, ◌++◌, length, map, get_or, take, drop, refl, ap, sym, ◌∙◌, inl, inr, arith}
 use Rattle.std.specs.Prelude.{◌⊎◌, if◌then◌else◌, ◌==◌, ◌&&◌, ◌||◌, not, nat_lt}
 use Rattle.std.specs.List.{list_any, list_all}
-use Rattle.std.proofs.Math.Path.{subst}
 use Rattle.std.proofs.Math.Nat.{eq-or-lt_of_le}
 use Rattle.std.proofs.lemmas.Bool.{cases_lt}
 use Rattle.std.proofs.lemmas.Bool.Decides.{nat_tests}
 use Rattle.sctp_lists.specs.Kept.{kept, always, numbers_from, leading, passing}
 use Rattle.sctp_lists.specs.Lists.{pieces}
 use Rattle.sctp_lists.proofs.KeptLemmas.{kept-same, length-kept-lt}
-use Rattle.sctp_lists.proofs.More.{fails, not_both, both, and, same_test}
-use Rattle.sctp_model.specs.Reply as R
-use Rattle.sctp_model.specs.World.{Setup, World}
+use Rattle.sctp_lists.proofs.More.{not_both, both, and, same_test}
+use Rattle.sctp_model.specs.World.{World}
 use Rattle.sctp_model.specs.Messages
 use Rattle.sctp_model.specs.Log
 use Rattle.sctp_model.specs.Log.{Coming, SlotCame, SkipCame, SackMade, arrived_new, is_skipped, were_whole, is_whole_by, run_by, whole_by, named_by, log_of, Shown}
-use Rattle.sctp_model.specs.Steps.{History, world_of, IsRun}
-use Rattle.sctp_model.specs.Laws.{IsSetup, OnEveryRun, NothingWhereRead, ReadsAreSettled, IsReadWholly, SameWrites, SameArrivals, fragment_arrived, written_of, shown_of, ordered_reads, unordered_reads}
-use Rattle.sctp_model.proofs.Shape.{Shape, shape, has, sent, parts, on}
+use Rattle.sctp_model.specs.Steps.{world_of}
+use Rattle.sctp_model.specs.Laws.{OnEveryRun, NothingWhereRead, ReadsAreSettled, fragment_arrived, mode_of, shown_of}
+use Rattle.sctp_model.proofs.Shape.{Shape, shape, has, sent, on}
 use Rattle.sctp_model.proofs.Sender.{Sender}
-use Rattle.sctp_model.proofs.SenderSteps.{of-has, sent-some}
+use Rattle.sctp_model.proofs.SenderSteps.{of-has}
 use Rattle.sctp_model.proofs.SenderRun.{sane-run}
-use Rattle.sctp_model.proofs.Slots.{sent-made}
-use Rattle.sctp_model.proofs.Lossless.{Lossless, AllAlive, alive-run, is_skip, no-skips, none-named, none-skipped}
+use Rattle.sctp_model.proofs.ReadLaws.{nothing_where_read}
+use Rattle.sctp_model.proofs.Written.{messages_are_writes}
+use Rattle.sctp_model.proofs.Modes.{modes_are_kept}
+use Rattle.sctp_model.proofs.Lossless.{alive-run, is_skip, no-skips, none-named, none-skipped}
 use Rattle.sctp_lists.proofs.Cases.{same-yes, same-is, or-left, or-right, or-split}
 use Rattle.sctp_lists.proofs.Getting.{length-mapped}
 use Rattle.sctp_lists.proofs.Rows.{numbered}
-use Rattle.sctp_lists.proofs.Tests.{any-out, any-in, all-in, all-out, all-more, among-kept, any-append}
-use Rattle.sctp_lists.proofs.Totals.{length-numbers}
+use Rattle.sctp_lists.proofs.Alls.{all-kept}
+use Rattle.sctp_lists.proofs.Tests.{any-out, any-in, all-out, all-more, among-kept, any-append}
 
 -- Without loss what is read in the end is settled by what was written and which of its fragments arrived.
 
@@ -104,7 +104,7 @@ module _ (w : World) (log : List Coming) (n : ℕ) (s : Sender (shape w)) (none 
       to : is_whole_by w log n ≡ true → list_all (fragment_arrived w log n) (numbers_from 0 (Messages.fragment_count w n)) ≡ true
       to e =
           let count = same-is (Messages.sent_of w n) (Messages.fragment_count w n) (both (Messages.sent_of w n == Messages.fragment_count w n) (if (Messages.message_at w n).ordered then list_all (arrived_new log) (Messages.slots_of w n) else were_whole (Messages.slots_of w n) log) e).0 in
-          all-in (fragment_arrived w log n) always 0 (Messages.fragment_count w n) (λ i a b f.
+          all-kept (fragment_arrived w log n) always 0 (Messages.fragment_count w n) (λ i a b f.
           let r = slot-for i (omega (arith, count)) in
           let came = all-out (arrived_new log) (has x n) r.0 0 (length w.slots) (all-arrived e) (omega arith) (omega (arith, r.1)) r.2 in
           any-in (arrived_as i) always r.0 0 (length w.slots) (omega arith) (omega (arith, r.1)) refl
@@ -124,7 +124,7 @@ module _ (w : World) (log : List Coming) (n : ℕ) (s : Sender (shape w)) (none 
           let r = place top.0 (each top.0 (omega (arith, top.1))) in
           let high : top.0 < sent x n = omega (arith, below r.0 r.1 r.2, r.3) in
           let count : Messages.sent_of w n ≡ Messages.fragment_count w n = omega (arith, high, top.1, s.within n lt) in
-          let slots : list_all (arrived_new log) (Messages.slots_of w n) ≡ true = all-in (arrived_new log) (has x n) 0 (length w.slots) (λ p a b h.
+          let slots : list_all (arrived_new log) (Messages.slots_of w n) ≡ true = all-kept (arrived_new log) (has x n) 0 (length w.slots) (λ p a b h.
           let q = place (Messages.slot_at w p).fragment (each (Messages.slot_at w p).fragment (omega (arith, below p (omega arith) h, count))) in
           ap (arrived_new log) (one-slot p q.0 (omega arith) q.1 h q.2 (sym q.3)) ∙ q.4) in
           and (Messages.sent_of w n == Messages.fragment_count w n) (if (Messages.message_at w n).ordered then list_all (arrived_new log) (Messages.slots_of w n) else were_whole (Messages.slots_of w n) log) (ap (λ c. c == Messages.fragment_count w n) count ∙ same-yes (Messages.fragment_count w n))
@@ -213,7 +213,18 @@ all-same : (t u : ℕ → Bool) (from count : ℕ) → ((k : ℕ) → t k ≡ u 
 all-same t u from zero h = refl
 all-same t u from (suc count) h = ap (λ b. b && list_all t (kept always (from + 1) count)) (h from) ∙ ap (λ b. u from && b) (all-same t u (from + 1) count h)
 
-pub reads-settled : OnEveryRun NothingWhereRead → ReadsAreSettled
+mapped-at : {A B : Type 0} (f : A → B) (xs : List A) (k : ℕ) (d : A) → k < length xs → get_or (map f xs) k (f d) ≡ f (get_or xs k d)
+mapped-at f [] k d lt = absurd (omega arith)
+mapped-at f (x ∷ xs) zero d lt = refl
+mapped-at f (x ∷ xs) (suc k) d lt = mapped-at f xs k d (omega arith)
+
+twice : (a b : Bool) → not a ≡ not b → a ≡ b
+twice true true e = refl
+twice true false e = cc
+twice false true e = cc
+twice false false e = refl
+
+reads-settled : OnEveryRun NothingWhereRead → ReadsAreSettled
 reads-settled nothing setup g h s is a b writes came =
     let v = world_of setup g in
     let w = world_of setup h in
@@ -223,7 +234,7 @@ reads-settled nothing setup g h s is a b writes came =
     let hs = (nothing setup h is b.run s).0 b.exhausted in
     let line : Messages.ordered_on v s ≡ Messages.ordered_on w s = ap (kept (on (shape v) s) 0) counts ∙ kept-same (on (shape v) s) (on (shape w) s) 0 (length w.messages) (λ k i j. on-same k (omega arith)) in (
       ap (map (shown_of v)) (gs.0 ∙ run-whole v l s (no-skips setup g a.lossless) ∙ ap (leading (is_whole_by v l)) line)
-          ∙ leading-same (shown_of v) (shown_of w) (is_whole_by v l) (is_whole_by w m) (on (shape w) s) 0 (length w.messages) (λ k i j. whole-same k (omega arith)) (λ k i j. ap (λ y. y.1) (each k (omega arith)))
+          ∙ leading-same (shown_of v) (shown_of w) (is_whole_by v l) (is_whole_by w m) (on (shape w) s) 0 (length w.messages) (λ k i j. whole-same k (omega arith)) (λ k i j. each k (omega arith))
           ∙ sym (ap (map (shown_of w)) (hs.0 ∙ run-whole w m s (no-skips setup h b.lossless))),
       λ n. ap (list_any (λ k. k == n)) gs.1 ∙ whole-among v s n l
           ∙ ap (λ c. nat_lt n c && (Messages.is_unordered_on v s n && is_whole_by v l n)) counts
@@ -232,25 +243,25 @@ reads-settled nothing setup g h s is a b writes came =
     )
   where
     counts : length (world_of setup g).messages ≡ length (world_of setup h).messages
-    counts =
-        sym (length-numbers 0 (length (world_of setup g).messages)) ∙ sym (length-mapped (written_of (world_of setup g)) (kept always 0 (length (world_of setup g).messages)))
-        ∙ ap length writes
-        ∙ length-mapped (written_of (world_of setup h)) (kept always 0 (length (world_of setup h).messages)) ∙ length-numbers 0 (length (world_of setup h).messages)
+    counts = sym (length-mapped mode_of (world_of setup g).messages) ∙ ap length (modes_are_kept setup g is a.run ∙ writes.1 ∙ sym (modes_are_kept setup h is b.run)) ∙ length-mapped mode_of (world_of setup h).messages
 
-    each : (n : ℕ) → n < length (world_of setup h).messages → written_of (world_of setup g) n ≡ written_of (world_of setup h) n
-    each n lt = same-at (written_of (world_of setup g)) (written_of (world_of setup h)) 0 (length (world_of setup h).messages) n (ap (λ c. map (written_of (world_of setup g)) (kept always 0 c)) (sym counts) ∙ writes) (omega arith) (omega arith)
+    each : (n : ℕ) → n < length (world_of setup h).messages → shown_of (world_of setup g) n ≡ shown_of (world_of setup h) n
+    each n lt = same-at (shown_of (world_of setup g)) (shown_of (world_of setup h)) 0 (length (world_of setup h).messages) n
+        (ap (λ c. map (shown_of (world_of setup g)) (kept always 0 c)) (sym counts) ∙ messages_are_writes setup g is a.run ∙ writes.0 ∙ sym (messages_are_writes setup h is b.run)) (omega arith) (omega arith)
 
     ordered-same : (n : ℕ) → n < length (world_of setup h).messages → (Messages.message_at (world_of setup g) n).ordered ≡ (Messages.message_at (world_of setup h) n).ordered
-    ordered-same n lt = ap (λ y. y.0) (each n lt)
+    ordered-same n lt =
+        twice (Messages.message_at (world_of setup g) n).ordered (Messages.message_at (world_of setup h) n).ordered
+        (ap (λ y. y.unordered) (sym (mapped-at mode_of (world_of setup g).messages n Messages.no_message (omega (arith, lt, counts))) ∙ ap (λ l. get_or l n (mode_of Messages.no_message)) (modes_are_kept setup g is a.run ∙ writes.1 ∙ sym (modes_are_kept setup h is b.run)) ∙ mapped-at mode_of (world_of setup h).messages n Messages.no_message lt))
 
     stream-same : (n : ℕ) → n < length (world_of setup h).messages → (Messages.message_at (world_of setup g) n).stream ≡ (Messages.message_at (world_of setup h) n).stream
-    stream-same n lt = ap (λ y. y.1.0) (each n lt)
+    stream-same n lt = ap (λ y. y.0) (each n lt)
 
     parts-same : (n : ℕ) → n < length (world_of setup h).messages → Messages.fragment_count (world_of setup g) n ≡ Messages.fragment_count (world_of setup h) n
     parts-same n lt =
         let p = sane-run setup g a.run in
         let q = sane-run setup h b.run in
-        ap (λ y. length (pieces (length y) (world_of setup g).setup.size y)) (ap (λ y. y.1.2) (each n lt))
+        ap (λ y. length (pieces (length y) (world_of setup g).setup.size y)) (ap (λ y. y.2) (each n lt))
         ∙ ap (λ z. length (pieces (length (Messages.message_at (world_of setup h) n).bytes) z.size (Messages.message_at (world_of setup h) n).bytes)) (p.setup_is ∙ sym q.setup_is)
 
     whole-same : (n : ℕ) → n < length (world_of setup h).messages → is_whole_by (world_of setup g) (log_of setup g) n ≡ is_whole_by (world_of setup h) (log_of setup h) n
@@ -273,3 +284,6 @@ reads-settled nothing setup g h s is a b writes came =
         ap (λ y. ((y == s) && not (Messages.message_at (world_of setup g) n).ordered) && is_whole_by (world_of setup g) (log_of setup g) n) (stream-same n lt)
         ∙ ap (λ y. (((Messages.message_at (world_of setup h) n).stream == s) && not y) && is_whole_by (world_of setup g) (log_of setup g) n) (ordered-same n lt)
         ∙ ap (λ y. Messages.is_unordered_on (world_of setup h) s n && y) (whole-same n lt)
+
+pub reads_are_settled : ReadsAreSettled
+reads_are_settled = reads-settled nothing_where_read

@@ -1,11 +1,14 @@
 use Rattle.std.proofs.Common.{◌≡◌, ℕ, zero, suc, ◌+◌, ◌<◌, ◌≤◌, Bool, true, false, List, [], ◌∷◌, ◌++◌, length, map, Option, Some, None, refl, ap, sym, ◌∙◌, inl, inr, arith, append-nil, zero-add}
-use Rattle.std.specs.Prelude.{◌⊎◌, if◌then◌else◌, ◌==◌, ◌&&◌, ◌||◌, not, nat_lt, fold, slice_get, slice_index_or, option_to_list}
+use Rattle.std.specs.Prelude.{◌⊎◌, if◌then◌else◌, ◌==◌, ◌&&◌, ◌||◌, nat_lt, slice_get, slice_index_or, option_to_list}
 use Rattle.std.specs.List.{list_any, list_all}
+use Rattle.std.proofs.Math.Path.{subst}
+use Rattle.sctp_model.proofs.View.{view}
+use Rattle.sctp_model.proofs.Known.{HasRead, differ-more}
+use Rattle.sctp_model.proofs.Shown.{has-read, reads_show_messages}
 use Rattle.std.proofs.lemmas.Bool.{cases_lt}
 use Rattle.std.proofs.lemmas.Bool.Decides.{nat_tests}
-use Rattle.sctp_lists.specs.Kept.{kept, always, numbers_from, total_over}
-use Rattle.sctp_lists.proofs.KeptLemmas.{kept-same}
-use Rattle.sctp_lists.proofs.More.{fails, not_both, both, and, same_test, changed-keeps, changed-same, changed-other, length-changed}
+use Rattle.sctp_lists.specs.Kept.{kept, always, total_over}
+use Rattle.sctp_lists.proofs.More.{fails, both, changed-keeps, changed-same, changed-other, length-changed}
 use Rattle.sctp_model.specs.declared.event.Event.{Event}
 use Rattle.sctp_model.specs.declared.event.Event.TheVariants as E
 use Rattle.sctp_model.specs.Reply.{Reply}
@@ -15,17 +18,15 @@ use Rattle.sctp_model.specs.Messages
 use Rattle.sctp_model.specs.Receiver.{next_read}
 use Rattle.sctp_model.specs.Amounts
 use Rattle.sctp_model.specs.Changes
-use Rattle.sctp_model.specs.Log
-use Rattle.sctp_model.specs.Log.{Shown, total_shown, shown_on, counted_shown, counted_length, writes_in, reads_in, numbers_read, number_read, log_of}
+use Rattle.sctp_model.specs.Log.{Shown, total_shown, shown_on, counted_shown, counted_length, writes_in, reads_in, numbers_read, number_read}
 use Rattle.sctp_model.specs.Steps.{History, world_of, IsRun, refusal_of, reply_to, after, read_reply}
 use Rattle.sctp_model.specs.Laws.{IsSetup, OnEveryRun, AllDifferent, ReadsShowMessages, ReadsDiffer, CountersAreSums, shown_of}
-use Rattle.sctp_model.proofs.Shape.{shape}
 use Rattle.sctp_model.proofs.SenderRun.{sane-run}
 use Rattle.sctp_model.proofs.Moves
 use Rattle.sctp_model.proofs.Lifetimes.{messages-came, messages-taken}
 use Rattle.sctp_model.proofs.Written.{messages_are_writes}
 use Rattle.sctp_model.proofs.BytesTold.{total-told}
-use Rattle.sctp_lists.proofs.Cases.{by_same, same-yes, same-is, or-split}
+use Rattle.sctp_lists.proofs.Cases.{by_same, same-yes, same-is}
 use Rattle.sctp_lists.proofs.Tests.{any-append}
 use Rattle.sctp_lists.proofs.Totals.{total-none, total-one, total-kept_same, total-where}
 
@@ -245,7 +246,7 @@ received show differ setup h is run s f =
     two true b c = refl
     two false b c = refl
 
-pub counters-sum : OnEveryRun ReadsShowMessages → OnEveryRun ReadsDiffer → OnEveryRun CountersAreSums
+counters-sum : OnEveryRun ReadsShowMessages → OnEveryRun ReadsDiffer → OnEveryRun CountersAreSums
 counters-sum show differ setup h is run s open' =
     let w = world_of setup h in
     let sent : (f : Shown → ℕ) → Amounts.on_stream w s (λ n. f (shown_of w n)) ≡ total_shown f (shown_on s (writes_in h)) = λ f. total-on f (shown_of w) s 0 (length w.messages) ∙ ap (λ l. total_shown f (shown_on s l)) (messages_are_writes setup h is run) in
@@ -255,3 +256,51 @@ counters-sum show differ setup h is run s open' =
     ∙ ap (λ a. Some (counters s (total_shown counted_shown (shown_on s (writes_in h))) a (Amounts.on_stream w s (Amounts.if_read w (Amounts.counted w))) (Amounts.on_stream w s (Amounts.if_read w (Amounts.counted_bytes w))))) (sent counted_length)
     ∙ ap (λ a. Some (counters s (total_shown counted_shown (shown_on s (writes_in h))) (total_shown counted_length (shown_on s (writes_in h))) a (Amounts.on_stream w s (Amounts.if_read w (Amounts.counted_bytes w))))) (got counted_shown)
     ∙ ap (λ a. Some (counters s (total_shown counted_shown (shown_on s (writes_in h))) (total_shown counted_length (shown_on s (writes_in h))) (total_shown counted_shown (reads_in h s)) a)) (got counted_length)
+
+-- ## None is read twice
+
+pub reads_differ : OnEveryRun ReadsDiffer
+reads_differ setup [] is run s = tt
+reads_differ setup ((event, r) ∷ older) is run s = by event r run.1.0 (reads_differ setup older is run.1.1 s)
+  where
+    none : (c : Bool) (l : List ℕ) → l ++ (if c then [] else []) ≡ l
+    none true l = append-nil l
+    none false l = append-nil l
+
+    read : (t : ℕ) (r : Reply) (o : Option ℕ) → next_read (world_of setup older) t ≡ o → r ≡ read_reply (world_of setup older) o → AllDifferent (numbers_read setup older s) → AllDifferent (numbers_read setup ((E.Read t, r) ∷ older) s)
+    read t r None e f d = subst AllDifferent (sym (ap (λ y. numbers_read setup older s ++ (if t == s then number_read (world_of setup older) s y else [])) f ∙ none (t == s) (numbers_read setup older s))) d
+    read t r (Some n) e f d = subst AllDifferent (sym (read-more setup older t n r e f s)) (more (t == s) refl)
+      where
+        hit : HasRead (view (world_of setup older)) t n
+        hit = has-read setup older is run.1.1 t n e
+
+        ands : (b : Bool) → (b && false) ≡ false
+        ands true = refl
+        ands false = refl
+
+        absent : among (numbers_read setup older s) n ≡ false
+        absent = (marked-run reads_show_messages setup older is run.1.1).is s n hit.made ∙ ap (λ b. ((Messages.message_at (world_of setup older) n).stream == s) && b) hit.unread ∙ ands ((Messages.message_at (world_of setup older) n).stream == s)
+
+        more : (b : Bool) → (t == s) ≡ b → AllDifferent (numbers_read setup older s ++ (if b then n ∷ [] else []))
+        more true q = differ-more (numbers_read setup older s) n absent d
+        more false q = subst AllDifferent (sym (append-nil (numbers_read setup older s))) d
+
+    by : (event : Event) (r : Reply) → r ≡ reply_to (world_of setup older) event → AllDifferent (numbers_read setup older s) → AllDifferent (numbers_read setup ((event, r) ∷ older) s)
+    by (E.Read t) r f d = read t r (next_read (world_of setup older) t) refl f d
+    by (E.Open a) r f x = x
+    by (E.Mode a b c d) r f x = x
+    by (E.Write a b c) r f x = x
+    by (E.Start a) r f x = x
+    by (E.Send a) r f x = x
+    by (E.Resend a) r f x = x
+    by (E.Expire a) r f x = x
+    by (E.Tail a) r f x = x
+    by (E.Late a) r f x = x
+    by (E.Abandon a) r f x = x
+    by (E.Skip a b) r f x = x
+    by (E.Ack a) r f x = x
+    by (E.Arrive a) r f x = x
+    by (E.Acked a) r f x = x
+
+pub counters_are_sums : OnEveryRun CountersAreSums
+counters_are_sums = counters-sum reads_show_messages reads_differ

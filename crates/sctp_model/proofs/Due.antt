@@ -1,10 +1,10 @@
 -- The next message of the run is the first one that is due.
-use Rattle.std.proofs.Common.{◌≡◌, ℕ, zero, suc, ◌+◌, ◌-◌, ◌<◌, ◌≤◌, Bool, true, false, List, [], ◌∷◌, ◌++◌, length, take, drop, Option, Some, None, refl, ap, sym, ◌∙◌, inl, inr, arith}
-use Rattle.std.specs.Prelude.{◌⊎◌, if◌then◌else◌, ◌&&◌, not, nat_lt, nat_le}
+use Rattle.std.proofs.Common.{◌≡◌, ℕ, zero, suc, ◌+◌, ◌-◌, ◌<◌, ◌≤◌, Bool, true, false, List, [], ◌∷◌, ◌++◌, length, take, drop, Some, refl, ap, sym, ◌∙◌, arith}
+use Rattle.std.specs.Prelude.{if◌then◌else◌, ◌&&◌, not, nat_lt, nat_le}
 use Rattle.std.proofs.lemmas.Bool.Decides.{nat_tests}
 use Rattle.sctp_lists.specs.Kept.{kept, leading, passing, first_of}
 use Rattle.sctp_lists.proofs.KeptLemmas.{kept-same, kept-none, front-kept, FrontOf, IsFront}
-use Rattle.sctp_lists.proofs.More.{fails, not_both, both, and}
+use Rattle.sctp_lists.proofs.More.{fails, not_both, both}
 use Rattle.sctp_model.proofs.View.{View, line, run, next, whole_at}
 use Rattle.sctp_model.proofs.Shape.{on, index}
 use Rattle.sctp_model.proofs.Indexes.{index_on}
@@ -32,7 +32,7 @@ run-tail wh r (x ∷ xs) all = step (r x) (wh x) refl refl (run-tail wh r xs all
     step false true e h ih = rw (e, h) refl
     step false false e h ih = rw (e, h) refl
 
-take-none : (i : ℕ) (q : ℕ → Bool) → passing q (take i []) ≡ []
+pub take-none : (i : ℕ) (q : ℕ → Bool) → passing q (take i []) ≡ []
 take-none zero q = refl
 take-none (suc i) q = refl
 
@@ -56,7 +56,7 @@ run-first wh r (suc i) (x ∷ xs) all =
     step false false e h ih = rw (e, h) ih
 
 -- the first ones of a line, by their places
-take-kept : (p q : ℕ → Bool) (idx : ℕ → ℕ) (from count i b top : ℕ) → top ≡ b + i → ((k : ℕ) → from ≤ k → k < from + count → p k ≡ true → idx k ≡ b + length (kept p from (k - from))) → passing q (take i (kept p from count)) ≡ kept (λ k. p k && (q k && nat_lt (idx k) top)) from count
+pub take-kept : (p q : ℕ → Bool) (idx : ℕ → ℕ) (from count i b top : ℕ) → top ≡ b + i → ((k : ℕ) → from ≤ k → k < from + count → p k ≡ true → idx k ≡ b + length (kept p from (k - from))) → passing q (take i (kept p from count)) ≡ kept (λ k. p k && (q k && nat_lt (idx k) top)) from count
 take-kept p q idx from zero i b top t places = take-none i q
 take-kept p q idx from (suc count) i b top t places = step (p from) refl i t
     (λ j c e same. take-kept p q idx (from + 1) count j c top e (λ k x y z. same k x y z))

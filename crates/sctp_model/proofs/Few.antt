@@ -1,13 +1,12 @@
 -- There are fewer than 2^31 slots.
-use Rattle.std.proofs.Common.{◌≡◌, ℕ, zero, suc, ◌+◌, ◌-◌, ◌<◌, ◌≤◌, ◌^◌, Bool, true, false, List, [], ◌∷◌, ◌++◌, length, refl, ap, sym, ◌∙◌, inl, inr, arith, length-append, add-one}
-use Rattle.std.specs.Prelude.{◌⊎◌, if◌then◌else◌, ◌==◌, ◌&&◌, not, nat_lt}
-use Rattle.std.proofs.lemmas.Bool.{cases_lt}
+use Rattle.std.proofs.Common.{◌≡◌, ℕ, zero, suc, ◌+◌, ◌<◌, ◌≤◌, ◌^◌, Bool, true, false, [], ◌∷◌, ◌++◌, length, refl, ap, sym, ◌∙◌, arith, length-append}
+use Rattle.std.specs.Prelude.{if◌then◌else◌, ◌==◌, ◌&&◌, not, nat_lt}
 use Rattle.std.proofs.lemmas.Bool.Decides.{nat_tests}
 use Rattle.sctp_lists.specs.Kept.{kept, always, total_over}
 use Rattle.sctp_lists.proofs.KeptLemmas.{kept-snoc}
 use Rattle.sctp_model.specs.World.{Setup, World}
-use Rattle.sctp_model.proofs.Shape.{Shape, shape, has, sent, parts}
-use Rattle.sctp_model.proofs.Sender.{Sender, is_mark}
+use Rattle.sctp_model.proofs.Shape.{Shape, shape, sent, parts}
+use Rattle.sctp_model.proofs.Sender.{Sender}
 use Rattle.sctp_model.proofs.SenderRun.{Sane, accepted_of}
 use Rattle.sctp_lists.proofs.Cases.{by_same, same-yes}
 use Rattle.sctp_lists.proofs.Totals.{total-none, total-one, total-le}

@@ -1,11 +1,9 @@
-use Rattle.std.proofs.Common.{◌≡◌, ℕ, zero, suc, ◌+◌, ◌<◌, ◌≤◌, Bool, true, false, List, [], ◌∷◌, length, Option, Some, None, refl, ap, sym, ◌∙◌, inl, inr, arith}
+use Rattle.std.proofs.Common.{◌≡◌, ℕ, ◌<◌, ◌≤◌, Bool, true, false, length, Option, Some, None, refl, ap, sym, ◌∙◌, inl, inr, arith}
 use Rattle.std.specs.Prelude.{◌⊎◌, if◌then◌else◌, ◌==◌, ◌&&◌, not, nat_lt}
 use Rattle.std.proofs.lemmas.Bool.{cases_lt}
-use Rattle.std.proofs.lemmas.Bool.Decides.{nat_tests}
 use Rattle.sctp_lists.specs.Kept.{kept, first_of, or_else}
-use Rattle.sctp_lists.proofs.KeptLemmas.{front-kept, FrontOf, IsFront}
 use Rattle.sctp_lists.proofs.More.{fails, not_both, both, and, length-kept-positive}
-use Rattle.sctp_model.proofs.Shape.{Shape, has, sent, parts, half, unsent, front_of}
+use Rattle.sctp_model.proofs.Shape.{Shape, sent, parts, half, unsent, front_of}
 use Rattle.sctp_model.proofs.Sender.{Sender, is_mark}
 use Rattle.sctp_model.proofs.SenderSteps.{Takes, sent-some, of-half, half-one}
 use Rattle.sctp_model.proofs.SenderEnds.{sent-none}

@@ -1,19 +1,19 @@
--- What later messages and slots leave as it was.
-use Rattle.std.proofs.Common.{◌≡◌, ℕ, zero, suc, ◌+◌, ◌-◌, ◌<◌, ◌≤◌, Bool, true, false, List, [], ◌∷◌, length, refl, ap, sym, ◌∙◌, inl, inr, arith}
-use Rattle.std.specs.Prelude.{◌⊎◌, if◌then◌else◌, ◌==◌, ◌&&◌, ◌||◌, not, nat_lt}
+use Rattle.std.proofs.Common.{◌≡◌, ℕ, ◌+◌, ◌<◌, ◌≤◌, Bool, true, false, length, refl, ap, sym, ◌∙◌, inl, inr, arith}
+use Rattle.std.specs.Prelude.{◌⊎◌, if◌then◌else◌, ◌==◌, ◌&&◌, ◌||◌, not}
 use Rattle.std.proofs.Math.Path.{subst}
-use Rattle.std.proofs.lemmas.Bool.{cases_lt}
-use Rattle.std.proofs.lemmas.Bool.Decides.{nat_tests}
 use Rattle.sctp_lists.specs.Kept.{kept}
 use Rattle.sctp_lists.specs.Lists.{pieces}
 use Rattle.sctp_lists.proofs.KeptLemmas.{kept-same}
-use Rattle.sctp_lists.proofs.More.{fails, not_both, both, and}
-use Rattle.sctp_model.proofs.Shape.{Shape, MessagePart, has, sent, parts, half, on, index, slotted, written, abandoned_at, expired_at}
+use Rattle.sctp_lists.proofs.More.{not_both, and}
+use Rattle.sctp_model.proofs.Shape.{Shape, MessagePart, sent, parts, on, index, slotted, written, abandoned_at, expired_at}
 use Rattle.sctp_model.proofs.Sender.{Sender, sent-slotted, slot-old}
-use Rattle.sctp_model.proofs.SenderSteps.{Takes, sent-other, sent-grows, of-half}
-use Rattle.sctp_model.proofs.SenderEnds.{sent-none, message-old, on-old}
+use Rattle.sctp_model.proofs.SenderSteps.{Takes, sent-other, sent-grows}
+use Rattle.sctp_model.proofs.SenderEnds.{message-old, on-old}
 use Rattle.sctp_model.proofs.Slots.{sent-made, sent-alive}
 use Rattle.sctp_lists.proofs.Cases.{by_same, same-yes}
+use Rattle.sctp_lists.proofs.Cases.{or-right}
+
+-- What later messages and slots leave as it was.
 
 -- a message as it was written
 abbrev pub as_written : MessagePart → MessagePart
@@ -87,12 +87,8 @@ none-more : (b : Bool) (c : ℕ) → c + (if b && false then 1 else 0) ≡ c
 none-more true c = omega arith
 none-more false c = omega arith
 
-either : (b c : Bool) → c ≡ true → (b || c) ≡ true
-either true c e = refl
-either false c e = e
-
 pub grows-abandoned : (x : Shape) (n : ℕ) → Grows x (abandoned_at x n)
-grows-abandoned x n = record { size = refl; slots = omega arith; slot = λ p lt. refl; count = omega arith; message = λ k lt. refl; abandoned = λ k lt e. either (k == n) (x.message k).abandoned e; expired = λ k lt e. e; sent_more = λ k. omega arith; ended = λ k a b. refl; same_index = λ k a b. refl }
+grows-abandoned x n = record { size = refl; slots = omega arith; slot = λ p lt. refl; count = omega arith; message = λ k lt. refl; abandoned = λ k lt e. or-right (k == n) (x.message k).abandoned e; expired = λ k lt e. e; sent_more = λ k. omega arith; ended = λ k a b. refl; same_index = λ k a b. refl }
 
 pub grows-marked : (x : Shape) (n : ℕ) → Grows x (abandoned_at (slotted x n true) n)
 grows-marked x n = record {
@@ -101,7 +97,7 @@ grows-marked x n = record {
   slot = λ p lt. slot-old x n p true lt;
   count = omega arith;
   message = λ k lt. refl;
-  abandoned = λ k lt e. either (k == n) (x.message k).abandoned e;
+  abandoned = λ k lt e. or-right (k == n) (x.message k).abandoned e;
   expired = λ k lt e. e;
   sent_more = λ k. sent-grows x n true k;
   ended = λ k a b. sent-slotted x n k true ∙ none-more (n == k) (sent x k);
@@ -116,7 +112,7 @@ grows-expired x n s z alive = record {
   count = omega arith;
   message = λ k lt. refl;
   abandoned = λ k lt e. e;
-  expired = λ k lt e. either (k == n) (x.message k).expired e;
+  expired = λ k lt e. or-right (k == n) (x.message k).expired e;
   sent_more = λ k. omega arith;
   ended = λ k a b. refl;
   same_index = λ k pos o. ap length (kept-same (on (expired_at x n) (x.message k).stream) (on x (x.message k).stream) 0 k (λ j a b. same k pos o j (omega arith) ((x.message j).stream == (x.message k).stream) refl (x.message j).ordered refl));

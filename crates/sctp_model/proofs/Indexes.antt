@@ -1,11 +1,11 @@
 -- The ordered messages of a stream, by index, and the one that is expected next.
-use Rattle.std.proofs.Common.{◌≡◌, ℕ, zero, suc, ◌+◌, ◌-◌, ◌<◌, ◌≤◌, Bool, true, false, List, [], ◌∷◌, length, drop, get_or, refl, ap, sym, ◌∙◌, inl, inr, arith, zero-add}
-use Rattle.std.specs.Prelude.{◌⊎◌, if◌then◌else◌, ◌==◌, ◌&&◌, not}
+use Rattle.std.proofs.Common.{◌≡◌, ℕ, ◌+◌, ◌-◌, ◌<◌, ◌≤◌, true, false, length, drop, get_or, refl, ap, sym, ◌∙◌, inl, inr, arith, zero-add}
+use Rattle.std.specs.Prelude.{◌⊎◌, ◌==◌, ◌&&◌, not}
 use Rattle.std.proofs.Math.Nat.{eq-or-lt_of_le}
 use Rattle.std.proofs.lemmas.Bool.{cases_lt}
 use Rattle.sctp_lists.specs.Kept.{kept, leading}
 use Rattle.sctp_lists.proofs.KeptLemmas.{length-kept-lt}
-use Rattle.sctp_lists.proofs.More.{not_both, both, and}
+use Rattle.sctp_lists.proofs.More.{both, and}
 use Rattle.sctp_lists.proofs.Places.{leading-passes, leading-stops, leading-le, leading-is, get-drop, length-dropped, kept-get, kept-place}
 use Rattle.sctp_model.proofs.Shape.{Shape, on, index}
 use Rattle.sctp_model.proofs.View.{View, line, next}

@@ -1,38 +1,36 @@
--- In every history what is whole in the record is what the order of arrivals makes whole.
-use Rattle.std.proofs.Common.{◌≡◌, ℕ, zero, suc, ◌+◌, ◌-◌, ◌<◌, ◌≤◌, Bool, true, false, List, [], ◌∷◌, ◌++◌, length, map, take, drop, Option, Some, None, refl, ap, sym, ◌∙◌, inl, inr, arith}
+use Rattle.std.proofs.Common.{◌≡◌, ℕ, zero, suc, ◌+◌, ◌-◌, ◌<◌, ◌≤◌, Bool, true, false, List, [], ◌∷◌, ◌++◌, length, take, drop, Some, refl, ap, sym, ◌∙◌, inl, inr, arith}
 use Rattle.std.specs.Prelude.{◌⊎◌, if◌then◌else◌, ◌==◌, ◌&&◌, ◌||◌, not, nat_le, nat_lt}
 use Rattle.std.specs.List.{list_any, list_all}
 use Rattle.std.proofs.Math.Path.{subst}
 use Rattle.std.proofs.lemmas.Bool.{cases_lt}
 use Rattle.std.proofs.lemmas.Bool.Decides.{nat_tests}
 use Rattle.sctp_lists.specs.Kept.{kept, passing, leading, first_of, or_else}
-use Rattle.sctp_lists.specs.Lists.{changed}
 use Rattle.sctp_lists.proofs.KeptLemmas.{kept-same}
 use Rattle.sctp_lists.proofs.More.{fails, not_both, both, and, kept-short}
 use Rattle.sctp_lists.proofs.Alls
-use Rattle.sctp_model.specs.World.{Setup, Sack, World, start}
+use Rattle.sctp_model.specs.World.{Setup, World}
 use Rattle.sctp_model.specs.Messages
-use Rattle.sctp_model.specs.Receiver.{is_new, arrived_at, cumulative}
+use Rattle.sctp_model.specs.Receiver.{is_new}
 use Rattle.sctp_model.specs.Changes
-use Rattle.sctp_model.specs.Steps.{History, world_of, IsRun}
 use Rattle.sctp_model.specs.Log
 use Rattle.sctp_model.specs.Log.{Coming, SlotCame, SkipCame, SackMade}
-use Rattle.sctp_model.specs.Laws.{IsSetup, OnEveryRun, AllDifferent, WholeIsWhole}
-use Rattle.sctp_model.proofs.Shape.{Shape, MessagePart, shape, has, on, index, sent, parts}
+use Rattle.sctp_model.specs.Laws.{AllDifferent}
+use Rattle.sctp_model.proofs.Shape.{has, on, sent, parts}
 use Rattle.sctp_model.proofs.Sender.{Sender}
 use Rattle.sctp_model.proofs.SenderSteps.{of-has}
 use Rattle.sctp_model.proofs.SenderEnds.{sent-none}
-use Rattle.sctp_model.proofs.SenderRun.{Sane, sane-run}
+use Rattle.sctp_model.proofs.SenderRun.{Sane}
 use Rattle.sctp_model.proofs.Grows.{Grows, parts-grown}
 use Rattle.sctp_model.proofs.Moves.{Quiet}
-use Rattle.sctp_model.proofs.Network.{NamesFit}
-use Rattle.sctp_model.proofs.Events.{Keeps, run-keeps}
-use Rattle.sctp_model.proofs.Arrivals.{Heard, heard-keeps, heard-new, with_arrived, arrived-beyond, skipped-le, new-unseen, seen_by}
+use Rattle.sctp_model.proofs.Arrivals.{Heard, with_arrived, arrived-beyond}
 use Rattle.sctp_model.proofs.View
 use Rattle.sctp_model.proofs.View.{View, view, has_come, come_count, all_come, whole_at, arrived_in, noted_in, skipped_in, read_in, run, line, next_read}
-use Rattle.sctp_model.proofs.Names.{view-skip}
 use Rattle.sctp_model.proofs.Wholes
 use Rattle.sctp_lists.proofs.Cases.{by_same, same-yes, same-is, negated}
+use Rattle.sctp_lists.proofs.Cases.{or-right, or-split, or-none, and-none}
+use Rattle.sctp_lists.proofs.Tests.{all-more, any-append}
+
+-- In every history what is whole in the record is what the order of arrivals makes whole.
 
 -- ## What the sender's changes leave
 
@@ -62,13 +60,9 @@ still-of setup w v g a q = record {
   skipped = q.skipped;
 }
 
-ands : (b : Bool) → (b && false) ≡ false
-ands true = refl
-ands false = refl
-
 pub come-still : (u v : View) → Still u v → (n : ℕ) → come_count v n ≡ come_count u n
 come-still u v s n = ap length
-    (kept-short (has_come v n) 0 u.x.slots (v.x.slots - u.x.slots) v.x.slots (omega (arith, s.grows.slots)) (λ k a b. ap (λ c. has v.x n k && c) (s.arrived k ∙ s.beyond k (omega arith)) ∙ ands (has v.x n k))
+    (kept-short (has_come v n) 0 u.x.slots (v.x.slots - u.x.slots) v.x.slots (omega (arith, s.grows.slots)) (λ k a b. ap (λ c. has v.x n k && c) (s.arrived k ∙ s.beyond k (omega arith)) ∙ and-none (has v.x n k))
     ∙ kept-same (has_come v n) (has_come u n) 0 u.x.slots (λ k a b. ap (λ c. has v.x n k && c) (s.arrived k) ∙ ap (λ y. ((y.message == n) && not y.is_end_mark) && u.arrived k) (s.grows.slot k (omega arith))))
 
 pub all-still : (u v : View) → Still u v → (n : ℕ) → n < u.x.count → all_come v n ≡ all_come u n
@@ -167,22 +161,6 @@ view-came setup w p g lt new = ap (λ b. view (if b then Changes.whole_noted (wi
     step true = View.view-noted (with_arrived w p) (Messages.message_at w (Messages.message_of w p)).stream (Messages.message_of w p) (g.known (Messages.message_of w p) (g.sender.made p lt))
     step false = refl
 
-or-right : (a b : Bool) → b ≡ true → (a || b) ≡ true
-or-right true b e = refl
-or-right false b e = e
-
-or-none : (a : Bool) → (a || false) ≡ a
-or-none true = refl
-or-none false = refl
-
-pub any-append : (t : ℕ → Bool) (xs ys : List ℕ) → list_any t (xs ++ ys) ≡ (list_any t xs || list_any t ys)
-any-append t [] ys = refl
-any-append t (x ∷ xs) ys = ap (λ b. t x || b) (any-append t xs ys) ∙ assoc (t x) (list_any t xs) (list_any t ys)
-  where
-    assoc : (a b c : Bool) → (a || (b || c)) ≡ ((a || b) || c)
-    assoc true b c = refl
-    assoc false b c = refl
-
 pub differ-more : (xs : List ℕ) (n : ℕ) → list_any (λ k. k == n) xs ≡ false → AllDifferent xs → AllDifferent (xs ++ n ∷ [])
 differ-more [] n e a = (refl, tt)
 differ-more (x ∷ xs) n e a = (any-append (λ y. y == x) xs (n ∷ []) ∙ ap (λ b. b || ((n == x) || false)) a.0 ∙ or-none (n == x) ∙ fails (n == x) (λ h. not_both (sym (left (x == n) (list_any (λ k. k == n) xs) e) ∙ flip (same-is n x h))), differ-more xs n (right (x == n) (list_any (λ k. k == n) xs) e) a.1)
@@ -225,14 +203,14 @@ module _ (v : View) (log : List Coming) (p : ℕ) (s : Sender v.x) (h : Whole v 
   here = and ((v.x.slot p).message == m) (not (v.x.slot p).is_end_mark) (same-yes m) (ap not mark)
 
   -- it was not whole before
-  not-whole : (v.x.message m).ordered ≡ false → whole_at v m ≡ false
+  pub not-whole : (v.x.message m).ordered ≡ false → whole_at v m ≡ false
   not-whole o = fails (whole_at v m) (λ e. not_both (sym (not-all v m p (s.within m made) lt here new) ∙ Wholes.whole-come v log m heard.arrived (s.within m made) (sym (h.agrees m made) ∙ e)))
 
-  due-other : (n : ℕ) → (m ≡ n → ⊥) → Wholes.due v1 n ≡ Wholes.due v n
+  pub due-other : (n : ℕ) → (m ≡ n → ⊥) → Wholes.due v1 n ≡ Wholes.due v n
   due-other n ne = ap (λ c. (c == parts v.x n) && list_all (λ q. nat_le v.skipped q) (Wholes.slots_in v.x n)) (come-other v p n ne)
 
   -- who is whole then
-  whole-then : (n : ℕ) → n < v.x.count → (v.x.message n).ordered ≡ false → whole_at v2 n ≡ (whole_at v n || Wholes.due v1 n)
+  pub whole-then : (n : ℕ) → n < v.x.count → (v.x.message n).ordered ≡ false → whole_at v2 n ≡ (whole_at v n || Wholes.due v1 n)
   whole-then n l o = by_same {P = whole_at v2 n ≡ (whole_at v n || Wholes.due v1 n)} m n
       (λ e. same e (Wholes.due v1 m) refl)
       (λ ne f. other ne f (not (v.x.message m).ordered && Wholes.due v1 m) ∙ sym (stays ne))
@@ -254,7 +232,7 @@ module _ (v : View) (log : List Coming) (p : ℕ) (s : Sender v.x) (h : Whole v 
           or-left' true e = refl
           or-left' false e = cc
       same e false f =
-          ap (λ b. whole_at (if b then noted_in v1 (v.x.message m).stream m else v1) n) (ap (λ b. not (v.x.message m).ordered && b) f ∙ ands (not (v.x.message m).ordered))
+          ap (λ b. whole_at (if b then noted_in v1 (v.x.message m).stream m else v1) n) (ap (λ b. not (v.x.message m).ordered && b) f ∙ and-none (not (v.x.message m).ordered))
           ∙ ap (λ b. if b then all_come v1 n else v.read n || list_any (λ k. k == n) (v.whole (v.x.message n).stream)) o
           ∙ sym plain ∙ sym (or-none (whole_at v n)) ∙ ap (λ b. whole_at v n || b) (sym (ap (Wholes.due v1) (sym e) ∙ f))
 
@@ -320,7 +298,7 @@ module _ (v : View) (log : List Coming) (p : ℕ) (s : Sender v.x) (h : Whole v 
 
           waits : (v.x.message m).ordered ≡ false → (t n : ℕ) → (b : Bool) → (t == (v.x.message m).stream) ≡ b → list_any (λ k. k == n) (if b then v.whole t ++ m ∷ [] else v.whole t) ≡ true → IsReady (noted_in v1 (v.x.message m).stream m) t n
           waits kind t n false f i = old t n i
-          waits kind t n true f i = side (Wholes.either-is (list_any (λ k. k == n) (v.whole t)) ((m == n) || false) (sym (any-append (λ k. k == n) (v.whole t) (m ∷ [])) ∙ i))
+          waits kind t n true f i = side (or-split (list_any (λ k. k == n) (v.whole t)) ((m == n) || false) (sym (any-append (λ k. k == n) (v.whole t) (m ∷ [])) ∙ i))
             where
               side : (list_any (λ k. k == n) (v.whole t) ≡ true) ⊎ (((m == n) || false) ≡ true) → IsReady (noted_in v1 (v.x.message m).stream m) t n
               side (inl j) = old t n j
@@ -371,7 +349,7 @@ whole-skip v log upto names heard heard' s le h = record {
     less : (n : ℕ) → Wholes.due (skipped_in v upto names) n ≡ true → Wholes.due v n ≡ true
     less n e =
         let a = both (all_come v n) (list_all (λ p. nat_le (upto + 1) p) (Wholes.slots_in v.x n)) e in
-        and (all_come v n) (list_all (λ p. nat_le v.skipped p) (Wholes.slots_in v.x n)) a.0 (Wholes.all-more (λ p. nat_le (upto + 1) p) (λ p. nat_le v.skipped p) (Wholes.slots_in v.x n) (λ k f. let z : upto + 1 ≤ k = grind (arith, nat_tests) in let y : v.skipped ≤ k = omega (arith, z, le) in grind (arith, nat_tests)) a.1)
+        and (all_come v n) (list_all (λ p. nat_le v.skipped p) (Wholes.slots_in v.x n)) a.0 (all-more (λ p. nat_le (upto + 1) p) (λ p. nat_le v.skipped p) (Wholes.slots_in v.x n) (λ k f. let z : upto + 1 ≤ k = grind (arith, nat_tests) in let y : v.skipped ≤ k = omega (arith, z, le) in grind (arith, nat_tests)) a.1)
 
 -- ## A read
 

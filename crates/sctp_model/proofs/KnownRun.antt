@@ -1,9 +1,9 @@
 -- In every history what is whole in the record is what the order of arrivals makes whole.
-use Rattle.std.proofs.Common.{◌≡◌, ℕ, ◌+◌, ◌<◌, ◌≤◌, Bool, true, false, List, [], ◌∷◌, ◌++◌, length, map, Option, Some, None, refl, ap, sym, ◌∙◌, arith}
-use Rattle.std.specs.Prelude.{if◌then◌else◌, ◌||◌, not, nat_le, nat_lt}
+use Rattle.std.proofs.Common.{◌≡◌, ℕ, ◌+◌, ◌<◌, ◌≤◌, Bool, true, false, List, [], ◌∷◌, ◌++◌, length, map, Some, refl, ap, sym, ◌∙◌, arith}
+use Rattle.std.specs.Prelude.{if◌then◌else◌, ◌||◌, not, nat_lt}
 use Rattle.std.proofs.Math.Path.{subst}
 use Rattle.std.proofs.lemmas.Bool.Decides.{nat_tests}
-use Rattle.sctp_model.specs.World.{Setup, Sack, World, start}
+use Rattle.sctp_model.specs.World.{Setup, Sack, World}
 use Rattle.sctp_model.specs.Messages
 use Rattle.sctp_model.specs.Receiver.{is_new, arrived_at, cumulative}
 use Rattle.sctp_model.specs.Changes
@@ -12,10 +12,10 @@ use Rattle.sctp_model.specs.Log
 use Rattle.sctp_model.specs.Log.{Coming, SlotCame, SkipCame, SackMade}
 use Rattle.sctp_model.specs.Laws.{IsSetup, OnEveryRun, WholeIsWhole}
 use Rattle.sctp_model.proofs.Shape.{shape}
-use Rattle.sctp_model.proofs.SenderRun.{Sane, sane-run}
-use Rattle.sctp_model.proofs.Network.{NamesFit, SlotsFit, same-slot}
+use Rattle.sctp_model.proofs.SenderRun.{Sane}
+use Rattle.sctp_model.proofs.Network.{NamesFit}
 use Rattle.sctp_model.proofs.Events.{Keeps, run-keeps}
-use Rattle.sctp_model.proofs.Arrivals.{Heard, heard-keeps, heard-new, with_arrived, skipped-le, new-unseen, seen_by}
+use Rattle.sctp_model.proofs.Arrivals.{Heard, heard-keeps, heard-new, with_arrived, skipped-le, new-unseen}
 use Rattle.sctp_model.proofs.View
 use Rattle.sctp_model.proofs.View.{View, view, arrived_in, skipped_in, read_in}
 use Rattle.sctp_model.proofs.Names.{view-skip}
@@ -40,7 +40,7 @@ new-past w p e = let z : nat_lt p w.skipped ≡ false = by (nat_lt p w.skipped) 
     by true b e = cc
     by false b e = refl
 
-hears-as : (u v : View) (log : List Coming) → v ≡ u → Wholes.Hears u log → Wholes.Hears v log
+pub hears-as : (u v : View) (log : List Coming) → v ≡ u → Wholes.Hears u log → Wholes.Hears v log
 hears-as u v log e h = subst (λ y. Wholes.Hears y log) (sym e) h
 
 pub hears-new : (w : World) (log : List Coming) (p : ℕ) → p < length w.slots → is_new w p ≡ true → Heard w log → Wholes.Hears (arrived_in (view w) p) (SlotCame p ∷ log)

@@ -1,23 +1,21 @@
-use Rattle.std.proofs.Common.{◌≡◌, ℕ, zero, suc, ◌+◌, ◌<◌, ◌≤◌, Bool, true, false, List, [], ◌∷◌, ◌++◌, length, map, get_or, Option, Some, None, refl, ap, sym, ◌∙◌, inl, inr, arith, length-append}
-use Rattle.std.specs.Prelude.{◌⊎◌, if◌then◌else◌, ◌==◌, ◌&&◌, ◌||◌, not, nat_lt, fold, slice_get, slice_index_or, is_none}
+use Rattle.std.proofs.Common.{◌≡◌, ℕ, ◌+◌, ◌<◌, ◌≤◌, Bool, true, false, List, [], ◌∷◌, ◌++◌, length, map, Option, Some, None, refl, ap, sym, ◌∙◌, inl, inr, arith, length-append}
+use Rattle.std.specs.Prelude.{◌⊎◌, if◌then◌else◌, ◌==◌, ◌||◌, nat_lt, fold, slice_get, slice_index_or, is_none}
 use Rattle.std.specs.List.{list_any}
 use Rattle.std.proofs.lemmas.Bool.{cases_lt}
 use Rattle.std.proofs.lemmas.Bool.Decides.{nat_tests}
 use Rattle.sctp_lists.specs.Kept.{kept, always, passing, or_else}
 use Rattle.sctp_lists.specs.Lists.{changed}
 use Rattle.sctp_lists.proofs.More.{changed-keeps, length-changed, same_test}
-use Rattle.sctp_chunks.specs.declared.chunk.chunk_payload_data.PayloadProtocolIdentifier.{PayloadProtocolIdentifier}
 use Rattle.sctp_model.specs.declared.event.Event.{Event}
 use Rattle.sctp_model.specs.declared.event.Event.TheVariants as E
 use Rattle.sctp_model.specs.Reply.{Reply}
-use Rattle.sctp_model.specs.World.{Setup, Message, Slot, Datagram, Data, Forward, Sack, World}
+use Rattle.sctp_model.specs.World.{Setup, Datagram, Data, Forward, Sack, World}
 use Rattle.sctp_model.specs.Messages
 use Rattle.sctp_model.specs.Receiver.{next_read, is_new}
 use Rattle.sctp_model.specs.Changes
 use Rattle.sctp_model.specs.Log.{writes_in, started_in, moment_of}
 use Rattle.sctp_model.specs.Steps.{History, world_of, IsRun, refusal_of, after}
 use Rattle.sctp_model.specs.Laws.{IsSetup, OnEveryRun, StartsOnce, LateAbandonsListed, shown_of}
-use Rattle.sctp_model.proofs.Shape.{shape}
 use Rattle.sctp_model.proofs.Shapes
 use Rattle.sctp_model.proofs.SenderRun.{fold-keeps, sane-run, written_as}
 use Rattle.sctp_model.proofs.Network.{extends-after}

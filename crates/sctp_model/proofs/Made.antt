@@ -1,21 +1,18 @@
 -- The datagrams of the record are those that the events and replies tell of.
-use Rattle.std.proofs.Common.{◌≡◌, ℕ, zero, suc, ◌+◌, ◌-◌, ◌<◌, ◌≤◌, ◌%◌, ◌^◌, Bool, true, false, List, [], ◌∷◌, ◌++◌, length, map, Option, Some, None, refl, ap, sym, ◌∙◌, inl, inr, arith, length-append, append-nil}
-use Rattle.std.specs.Prelude.{◌⊎◌, if◌then◌else◌, slice_get}
-use Rattle.std.proofs.Math.Path.{subst}
+use Rattle.std.proofs.Common.{◌≡◌, ℕ, ◌+◌, ◌-◌, ◌<◌, ◌%◌, ◌^◌, [], ◌∷◌, ◌++◌, length, map, Option, Some, None, refl, ap, sym, ◌∙◌, arith, append-nil}
+use Rattle.std.specs.Prelude.{slice_get}
 use Rattle.std.proofs.lemmas.List.{map-append}
 use Rattle.sctp_lists.specs.Kept.{numbers_from}
 use Rattle.sctp_model.specs.declared.event.Event.{Event}
 use Rattle.sctp_model.specs.declared.event.Event.TheVariants as E
-use Rattle.sctp_model.specs.Reply.{Reply}
 use Rattle.sctp_model.specs.World.{Setup, Datagram, Forward, Sack, World, start}
 use Rattle.sctp_model.specs.World as W
 use Rattle.sctp_model.specs.Messages
 use Rattle.sctp_model.specs.Receiver
 use Rattle.sctp_model.specs.Changes
-use Rattle.sctp_model.specs.Steps.{History, world_of, IsRun, refusal_of, reply_to, after, sent_reply}
-use Rattle.sctp_model.specs.Log.{Made, MadeData, MadeForward, MadeSack, made_by, made_in, place_in}
+use Rattle.sctp_model.specs.Steps.{History, world_of, IsRun, reply_to, after, sent_reply}
+use Rattle.sctp_model.specs.Log.{MadeData, MadeForward, made_by, made_in, place_in}
 use Rattle.sctp_model.specs.Laws.{IsSetup, OnEveryRun, NetworkIsMade, kind_of}
-use Rattle.sctp_model.proofs.Shape.{shape}
 use Rattle.sctp_model.proofs.SenderRun.{Sane, sane-run}
 use Rattle.sctp_model.proofs.Few.{few}
 use Rattle.sctp_model.proofs.Network.{same-network, network-written, network-expired, network-tail, network-late, network-abandoned, same-came, same-taken, same-read}

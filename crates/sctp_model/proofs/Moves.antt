@@ -1,17 +1,15 @@
 -- What the sender's events leave to the receiver as it was.
-use Rattle.std.proofs.Common.{◌≡◌, ℕ, zero, suc, ◌+◌, ◌-◌, ◌<◌, ◌≤◌, Bool, true, false, List, [], ◌∷◌, ◌++◌, length, map, Option, Some, None, refl, ap, sym, ◌∙◌, inl, inr, arith, length-append, append-nil, append_assoc}
-use Rattle.std.specs.Prelude.{◌⊎◌, if◌then◌else◌, ◌==◌, ◌&&◌, not, fold}
+use Rattle.std.proofs.Common.{◌≡◌, ℕ, ◌-◌, ◌<◌, ◌≤◌, Bool, true, false, List, [], ◌∷◌, ◌++◌, length, map, Option, Some, None, refl, ap, sym, ◌∙◌, inl, inr, arith, length-append, append-nil, append_assoc}
+use Rattle.std.specs.Prelude.{◌⊎◌, if◌then◌else◌, ◌==◌, ◌&&◌, fold}
 use Rattle.std.proofs.lemmas.Bool.{cases_lt}
 use Rattle.sctp_lists.proofs.More.{length-changed, changed-keeps}
 use Rattle.sctp_lists.specs.Lists.{changed}
 use Rattle.sctp_chunks.specs.declared.chunk.chunk_payload_data.PayloadProtocolIdentifier.{PayloadProtocolIdentifier}
-use Rattle.sctp_model.specs.declared.event.Event.{Event}
-use Rattle.sctp_model.specs.declared.event.Event.TheVariants as E
 use Rattle.sctp_model.specs.World.{Setup, Message, Slot, Datagram, Data, World}
 use Rattle.sctp_model.specs.Messages
 use Rattle.sctp_model.specs.Receiver.{arrived_at}
 use Rattle.sctp_model.specs.Changes
-use Rattle.sctp_model.proofs.Shape.{Shape, shape, message_part, sent, half, slotted, abandoned_at, expired_at, written}
+use Rattle.sctp_model.proofs.Shape.{shape, message_part, slotted, abandoned_at, expired_at, written}
 use Rattle.sctp_model.proofs.Shapes
 use Rattle.sctp_model.proofs.Fronts.{front-takes, of-unsent}
 use Rattle.sctp_model.proofs.SenderRun.{Sane, sane-takes, sane-abandoned, sane-started, filled-keeps, written_as, AllSent, sent-all, late-sent}

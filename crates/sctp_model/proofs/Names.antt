@@ -1,12 +1,9 @@
--- What was named last on a stream is what the skips that counted named.
-use Rattle.std.proofs.Common.{◌≡◌, ℕ, zero, suc, ◌+◌, ◌-◌, ◌<◌, ◌≤◌, Bool, true, false, List, [], ◌∷◌, ◌++◌, length, map, Option, Some, None, refl, ap, sym, ◌∙◌, inl, inr, arith}
-use Rattle.std.specs.Prelude.{◌⊎◌, if◌then◌else◌, ◌==◌, ◌&&◌, not, nat_le}
+use Rattle.std.proofs.Common.{◌≡◌, ℕ, ◌+◌, ◌<◌, Bool, true, false, List, [], ◌∷◌, ◌++◌, length, map, Some, refl, ap, sym, ◌∙◌, arith}
+use Rattle.std.specs.Prelude.{if◌then◌else◌, ◌==◌, ◌&&◌, not}
 use Rattle.std.proofs.Math.Path.{subst}
-use Rattle.std.proofs.lemmas.Bool.{cases_lt}
-use Rattle.sctp_lists.specs.Kept.{kept, passing}
-use Rattle.sctp_lists.specs.Lists.{changed}
+use Rattle.sctp_lists.specs.Kept.{passing}
 use Rattle.sctp_lists.proofs.More.{fails, not_both}
-use Rattle.sctp_model.specs.World.{Setup, Sack, World, start}
+use Rattle.sctp_model.specs.World.{Setup, Sack, World}
 use Rattle.sctp_model.specs.Messages
 use Rattle.sctp_model.specs.Receiver.{greatest, is_new}
 use Rattle.sctp_model.specs.Changes
@@ -14,19 +11,19 @@ use Rattle.sctp_model.specs.Steps.{History, world_of, IsRun}
 use Rattle.sctp_model.specs.Log
 use Rattle.sctp_model.specs.Log.{Coming, SlotCame, SkipCame, SackMade}
 use Rattle.sctp_model.specs.Laws.{IsSetup, OnEveryRun, NamedIsNamed}
-use Rattle.sctp_model.proofs.Shape.{Shape, MessagePart, shape, on, index, sent}
-use Rattle.sctp_model.proofs.Shapes
+use Rattle.sctp_model.proofs.Shape.{Shape, shape, on, index, sent}
 use Rattle.sctp_model.proofs.Sender.{Sender}
 use Rattle.sctp_model.proofs.Slots.{sent-made, sent-alive}
 use Rattle.sctp_model.proofs.SenderRun.{Sane}
-use Rattle.sctp_model.proofs.Grows.{Grows, as_written, grows-same}
-use Rattle.sctp_model.proofs.Moves.{Quiet}
-use Rattle.sctp_model.proofs.Network.{NamesFit, IsNamable, namable-grown, same-slot, same-read, same-taken}
+use Rattle.sctp_model.proofs.Grows.{Grows}
+use Rattle.sctp_model.proofs.Network.{NamesFit, names-grown, same-slot}
 use Rattle.sctp_model.proofs.Events.{Keeps, run-keeps}
 use Rattle.sctp_model.proofs.Arrivals.{Heard, heard-keeps, counts-heard, with_arrived}
 use Rattle.sctp_model.proofs.View
 use Rattle.sctp_model.proofs.View.{View, view, named_more}
 use Rattle.sctp_model.proofs.Indexes.{on-stream}
+
+-- What was named last on a stream is what the skips that counted named.
 
 -- ## What was sent keeps its stream and index
 
@@ -56,13 +53,9 @@ NamesCame x (SkipCame upto names ∷ log) = NamesFit x upto names × NamesCame x
 NamesCame x (SlotCame p ∷ log) = NamesCame x log
 NamesCame x (SackMade ∷ log) = NamesCame x log
 
-names-later : (x y : Shape) → Sender x → Grows x y → (upto : ℕ) (names : List ℕ) → NamesFit x upto names → NamesFit y upto names
-names-later x y a g upto [] f = tt
-names-later x y a g upto (n ∷ ns) f = (namable-grown x y a g upto n f.0, names-later x y a g upto ns f.1)
-
 names-came-later : (x y : Shape) → Sender x → Grows x y → (log : List Coming) → NamesCame x log → NamesCame y log
 names-came-later x y a g [] f = tt
-names-came-later x y a g (SkipCame upto names ∷ log) f = (names-later x y a g upto names f.0, names-came-later x y a g log f.1)
+names-came-later x y a g (SkipCame upto names ∷ log) f = (names-grown x y a g upto names f.0, names-came-later x y a g log f.1)
 names-came-later x y a g (SlotCame p ∷ log) f = names-came-later x y a g log f
 names-came-later x y a g (SackMade ∷ log) f = names-came-later x y a g log f
 

@@ -1,14 +1,13 @@
-use Rattle.std.proofs.Common.{◌≡◌, ℕ, zero, suc, ◌+◌, ◌-◌, ◌<◌, ◌≤◌, ◌%◌, ◌^◌, Bool, true, false, List, [], ◌∷◌, ◌++◌, length, map, Option, Some, None, refl, ap, sym, ◌∙◌, inl, inr, arith, length-append, append-nil, zero-add}
+use Rattle.std.proofs.Common.{◌≡◌, ℕ, zero, suc, ◌+◌, ◌-◌, ◌<◌, ◌≤◌, ◌%◌, ◌^◌, Bool, true, false, List, [], ◌∷◌, ◌++◌, length, map, Option, Some, None, refl, ap, sym, ◌∙◌, inl, inr, arith, append-nil, zero-add}
 use Rattle.std.specs.Prelude.{◌⊎◌, if◌then◌else◌, ◌==◌, ◌&&◌, ◌||◌, not, nat_le, nat_lt, fold, slice_get, slice_index_or, max}
 use Rattle.std.specs.List.{list_any, list_all}
 use Rattle.std.proofs.Math.Path.{subst}
-use Rattle.std.proofs.Math.Nat.{eq-or-lt_of_le}
 use Rattle.std.proofs.lemmas.Bool.{cases_lt}
 use Rattle.std.proofs.lemmas.Bool.Decides.{nat_tests}
 use Rattle.sctp_lists.specs.Kept.{kept, always, numbers_from}
 use Rattle.sctp_lists.specs.Lists.{changed, pieces}
 use Rattle.sctp_lists.proofs.KeptLemmas.{length-kept-lt, length-kept-mono, kept-same}
-use Rattle.sctp_lists.proofs.More.{fails, not_both, both, and}
+use Rattle.sctp_lists.proofs.More.{fails, not_both, both}
 use Rattle.sctp_chunks.specs.PayloadData.{Data}
 use Rattle.sctp_chunks.specs.ChunkSet.{fresh}
 use Rattle.sctp_model.specs.declared.event.Event.{Event}
@@ -20,16 +19,15 @@ use Rattle.sctp_model.specs.Messages
 use Rattle.sctp_model.specs.Receiver
 use Rattle.sctp_model.specs.Changes
 use Rattle.sctp_model.specs.Reports.{report_of}
-use Rattle.sctp_model.specs.Contents.{chunk_at, data_with, name_of, contents_of, contents_in, datagram, DataContents, ForwardContents, SackContents}
+use Rattle.sctp_model.specs.Contents.{chunk_at, name_of, contents_of, contents_in, DataContents, ForwardContents, SackContents}
 use Rattle.sctp_model.specs.Steps.{History, world_of, IsRun, refusal_of, after, unless, can_name, is_ended, can_resend, skip_refusal}
 use Rattle.sctp_model.specs.Laws.{OnEveryRun, NoEndMarkIsSent, DatagramsStay}
 use Rattle.sctp_model.proofs.Shape.{Shape, MessagePart, shape, has, sent, parts, index, slotted}
 use Rattle.sctp_model.proofs.Sender.{Sender, slot-old, slot-new}
-use Rattle.sctp_model.proofs.SenderSteps.{of-has, sent-some}
-use Rattle.sctp_model.proofs.Slots.{sent-made, beyond-slots}
+use Rattle.sctp_model.proofs.Slots.{sent-made}
 use Rattle.sctp_model.proofs.Shapes
-use Rattle.sctp_model.proofs.SenderRun.{Sane, sane-run, sane-after, sane-started, filled-keeps, fold-keeps, unless-holds, in-flight-sent}
-use Rattle.sctp_model.proofs.Grows.{Grows, IsEnded, as_written, grows-same, grows-by, parts-grown}
+use Rattle.sctp_model.proofs.SenderRun.{Sane, sane-run, sane-started, filled-keeps, fold-keeps, unless-holds}
+use Rattle.sctp_model.proofs.Grows.{Grows, IsEnded, as_written, grows-same, parts-grown}
 use Rattle.sctp_model.proofs.Moves
 use Rattle.sctp_model.proofs.Fronts.{slot-sent, mark-abandoned}
 use Rattle.sctp_chunks.specs.declared.chunk.chunk_payload_data.PayloadProtocolIdentifier.{PayloadProtocolIdentifier}
@@ -175,7 +173,7 @@ namable-grown x y s g upto n f = record {
     place q lt h (inl l) = f.within q l (ap (λ s. (s.message == n) && not s.is_end_mark) (sym (g.slot q l)) ∙ h)
     place q lt h (inr o) = absurd (no-later x y g n q f.some f.ended o lt h)
 
-names-grown : (x y : Shape) → Sender x → Grows x y → (upto : ℕ) (ns : List ℕ) → NamesFit x upto ns → NamesFit y upto ns
+pub names-grown : (x y : Shape) → Sender x → Grows x y → (upto : ℕ) (ns : List ℕ) → NamesFit x upto ns → NamesFit y upto ns
 names-grown x y s g upto [] f = tt
 names-grown x y s g upto (n ∷ ns) f = (namable-grown x y s g upto n f.0, names-grown x y s g upto ns f.1)
 

@@ -1,30 +1,26 @@
 -- What the receiver keeps of ordered messages.
-use Rattle.std.proofs.Common.{◌≡◌, ℕ, zero, suc, ◌+◌, ◌-◌, ◌<◌, ◌≤◌, Bool, true, false, List, [], ◌∷◌, ◌++◌, length, map, get_or, Option, Some, None, refl, ap, sym, ◌∙◌, inl, inr, arith}
-use Rattle.std.specs.Prelude.{◌⊎◌, if◌then◌else◌, ◌==◌, ◌&&◌, ◌||◌, not, nat_le, nat_lt, max}
+use Rattle.std.proofs.Common.{◌≡◌, ℕ, ◌+◌, ◌-◌, ◌<◌, ◌≤◌, Bool, true, false, List, [], ◌∷◌, length, map, get_or, refl, ap, sym, ◌∙◌, inl, inr, arith}
+use Rattle.std.specs.Prelude.{◌⊎◌, if◌then◌else◌, ◌==◌, ◌&&◌, ◌||◌, not, nat_le, max}
 use Rattle.std.specs.List.{list_any}
 use Rattle.std.proofs.Math.Path.{subst}
 use Rattle.std.proofs.Math.Nat.{eq-or-lt_of_le}
 use Rattle.std.proofs.lemmas.Bool.{cases_lt}
 use Rattle.std.proofs.lemmas.Bool.Decides.{nat_tests}
-use Rattle.sctp_lists.specs.Kept.{kept, passing, first_of}
-use Rattle.sctp_lists.proofs.More.{fails, not_both, both, and}
+use Rattle.sctp_lists.specs.Kept.{passing}
+use Rattle.sctp_lists.proofs.More.{fails, not_both, and}
 use Rattle.sctp_model.specs.Receiver.{greatest}
-use Rattle.sctp_model.specs.Log.{Coming}
-use Rattle.sctp_model.proofs.Shape.{Shape, has, on, index, sent, parts}
+use Rattle.sctp_model.proofs.Shape.{has, on, index, sent, parts}
 use Rattle.sctp_model.proofs.Sender.{Sender}
-use Rattle.sctp_model.proofs.SenderSteps.{of-has}
-use Rattle.sctp_lists.proofs.Cases.{by_same, same-yes, same-is, negated}
-use Rattle.sctp_model.proofs.Grows.{Grows}
+use Rattle.sctp_lists.proofs.Cases.{by_same, same-yes, same-is}
 use Rattle.sctp_model.proofs.Network.{IsNamable, NamesFit, namable-grown}
-use Rattle.sctp_model.proofs.Slots.{sent-made, sent-alive}
-use Rattle.sctp_model.proofs.View
-use Rattle.sctp_model.proofs.View.{View, come_count, all_come, whole_at, arrived_in, noted_in, skipped_in, read_in, line, run, next, named_more}
-use Rattle.sctp_model.proofs.Indexes
-use Rattle.sctp_model.proofs.Indexes.{on-stream, on-ordered, on-is, index-lt, index-same, index-lt_back, index-short, index-at, next_reads, next_unread, next_passes, next_le, next_by}
+use Rattle.sctp_model.proofs.Slots.{sent-made}
+use Rattle.sctp_model.proofs.View.{View, come_count, all_come, whole_at, arrived_in, noted_in, skipped_in, read_in, line, next, named_more}
+use Rattle.sctp_model.proofs.Indexes.{on-stream, on-ordered, index-lt, index-same, index-short, index-at, next_reads, next_unread, next_passes, next_le, next_by}
 use Rattle.sctp_model.proofs.Names.{on-grown}
 use Rattle.sctp_model.proofs.Wholes.{some-kept}
-use Rattle.sctp_model.proofs.Known.{Still, Whole, IsReady, ReadsWhole, ReadsRun, come-still, all-still, come-sent, come-other, not-all, noting, ready-first}
-use Rattle.sctp_model.proofs.Due.{run-due, is_due, IsDue, due-first}
+use Rattle.sctp_model.proofs.Known.{Still, ReadsRun, all-still, come-sent, come-other, not-all, noting}
+use Rattle.sctp_model.proofs.Due.{run-due, IsDue, due-first}
+use Rattle.sctp_lists.proofs.Cases.{by_same, same-yes, same-is}
 
 -- an ordered message is whole where it has arrived
 pub ordered-at : (v : View) (n : ℕ) → (v.x.message n).ordered ≡ true → whole_at v n ≡ all_come v n
@@ -283,7 +279,7 @@ read-other v s n k ne = ap (λ b. if b then true else v.read k) (fails (k == n) 
 pub read-here : (v : View) (s n : ℕ) → (read_in v s n).read n ≡ true
 read-here v s n = ap (λ b. if b then true else v.read n) (same-yes n)
 
-stays-read : (v : View) (s n k : ℕ) → v.read k ≡ true → (read_in v s n).read k ≡ true
+pub stays-read : (v : View) (s n k : ℕ) → v.read k ≡ true → (read_in v s n).read k ≡ true
 stays-read v s n k e = step (k == n)
   where
     step : (b : Bool) → (if b then true else v.read k) ≡ true

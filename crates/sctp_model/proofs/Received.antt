@@ -1,6 +1,6 @@
 -- In every history: what the receiver keeps.
-use Rattle.std.proofs.Common.{◌≡◌, ℕ, ◌+◌, ◌<◌, ◌≤◌, Bool, true, false, List, [], ◌∷◌, ◌++◌, length, map, Option, Some, None, refl, ap, sym, ◌∙◌, inl, inr, arith}
-use Rattle.std.specs.Prelude.{◌⊎◌, if◌then◌else◌, nat_le}
+use Rattle.std.proofs.Common.{◌≡◌, ℕ, ◌+◌, ◌<◌, ◌≤◌, Bool, true, false, List, [], ◌∷◌, ◌++◌, length, map, Some, refl, ap, sym, ◌∙◌, inl, inr, arith}
+use Rattle.std.specs.Prelude.{◌⊎◌, if◌then◌else◌}
 use Rattle.std.proofs.Math.Path.{subst}
 use Rattle.std.proofs.lemmas.Bool.{cases_lt}
 use Rattle.std.proofs.lemmas.Bool.Decides.{nat_tests}
@@ -17,7 +17,7 @@ use Rattle.sctp_model.proofs.Shape.{shape}
 use Rattle.sctp_model.proofs.SenderRun.{Sane}
 use Rattle.sctp_model.proofs.Network.{NamesFit}
 use Rattle.sctp_model.proofs.Events.{Keeps, run-keeps}
-use Rattle.sctp_model.proofs.Arrivals.{Heard, with_arrived, arrived-beyond, skipped-le}
+use Rattle.sctp_model.proofs.Arrivals.{with_arrived, arrived-beyond, skipped-le}
 use Rattle.sctp_model.proofs.View
 use Rattle.sctp_model.proofs.View.{View, view, arrived_in, skipped_in, read_in}
 use Rattle.sctp_model.proofs.Names.{view-skip}

@@ -8,7 +8,7 @@ use Rattle.sctp_model.specs.declared.event.LinkRefusal.TheVariants as F
 use Rattle.sctp_model.specs.World.{World, start}
 use Rattle.sctp_model.specs.Amounts.{ledger}
 use Rattle.sctp_model.specs.Contents.{DataContents, SackContents}
-use Rattle.sctp_model.proofs.Play.{chunk, Handed, Asked, Ask, Refused, Replied, play, played, contents, streams_shown, queues_shown, reassembly_shown}
+use Rattle.sctp_model.proofs.Play.{chunk, Asked, Ask, Refused, Replied, play, played, contents, streams_shown, queues_shown, reassembly_shown}
 
 -- abandonment after acknowledgement
 abbrev start_abandonment_after_acknowledgement : World

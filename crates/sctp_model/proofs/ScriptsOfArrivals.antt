@@ -7,6 +7,7 @@ use Rattle.sctp_chunks.specs.declared.chunk.chunk_payload_data.ReliabilityType.T
 use Rattle.sctp_model.specs.declared.event.LinkRefusal.TheVariants as F
 use Rattle.sctp_model.specs.World.{World, start}
 use Rattle.sctp_model.specs.Amounts.{ledger}
+use Rattle.sctp_model.specs.Steps.{reply_to}
 use Rattle.sctp_model.specs.Contents.{DataContents, SackContents}
 use Rattle.sctp_model.proofs.Play.{chunk, Handed, Asked, Ask, Refused, Replied, play, played, contents, streams_shown, queues_shown, reassembly_shown}
 
@@ -380,3 +381,18 @@ reassembly_unordered_before_ordered : reassembly_shown (played start_unordered_b
     (1, ([]), ([]), ([])) ∷
     []
 reassembly_unordered_before_ordered = refl
+
+-- a whole unordered message has no stream sequence number of its own: its set has 0, whatever its chunks carry (RFC 4960 6.6)
+abbrev events_set_of_an_unordered_message : List Asked
+events_set_of_an_unordered_message =
+    Ask (E.Open 1) ∷
+    Ask (E.Write 1 P.Binary (97 ∷ 97 ∷ 97 ∷ [])) ∷
+    Ask (E.Mode 1 true T.Reliable 0) ∷
+    Ask (E.Write 1 P.Binary (98 ∷ [])) ∷
+    Ask (E.Send 0) ∷
+    Ask (E.Arrive 0) ∷
+    []
+
+set_of_an_unordered_message : reply_to (played (start (record { first = 10; size = 3; largest = 100; limit = 0 })) events_set_of_an_unordered_message) (E.Read 1) ≡
+    R.Message 1 P.Binary (record { ssn = 0; ppi = P.Binary; chunks = chunk 10 1 1 P.Binary (98 ∷ []) true true true ∷ [] })
+set_of_an_unordered_message = refl

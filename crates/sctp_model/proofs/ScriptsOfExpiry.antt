@@ -7,7 +7,7 @@ use Rattle.sctp_chunks.specs.declared.chunk.chunk_payload_data.ReliabilityType.T
 use Rattle.sctp_model.specs.World.{World, start}
 use Rattle.sctp_model.specs.Amounts.{ledger}
 use Rattle.sctp_model.specs.Contents.{DataContents, SackContents}
-use Rattle.sctp_model.proofs.Play.{chunk, Handed, Asked, Ask, Replied, play, played, contents, streams_shown, queues_shown, reassembly_shown}
+use Rattle.sctp_model.proofs.Play.{chunk, Asked, Ask, Replied, play, played, contents, streams_shown, queues_shown, reassembly_shown}
 
 -- dcep never expires
 abbrev start_dcep_never_expires : World

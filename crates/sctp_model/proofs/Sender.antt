@@ -1,12 +1,10 @@
 -- What the sender keeps of messages and slots: fragments in order, side by side, in the order of the stream.
-use Rattle.std.proofs.Common.{◌≡◌, ℕ, zero, suc, ◌+◌, ◌-◌, ◌<◌, ◌≤◌, ◌^◌, Bool, true, false, List, [], ◌∷◌, ◌++◌, length, Option, Some, None, refl, ap, sym, ◌∙◌, inl, inr, arith, add-one, append-nil, length-append}
-use Rattle.std.specs.Prelude.{◌⊎◌, if◌then◌else◌, ◌==◌, ◌&&◌, ◌||◌, not, nat_lt}
-use Rattle.std.proofs.lemmas.Bool.{cases_lt}
+use Rattle.std.proofs.Common.{◌≡◌, ℕ, ◌+◌, ◌<◌, ◌≤◌, Bool, true, false, List, [], ◌∷◌, ◌++◌, length, refl, ap, ◌∙◌, arith, add-one, length-append}
+use Rattle.std.specs.Prelude.{if◌then◌else◌, ◌==◌, ◌&&◌, not, nat_lt}
 use Rattle.std.proofs.lemmas.Bool.Decides.{nat_tests}
-use Rattle.sctp_lists.specs.Kept.{kept, total_over, numbers_from}
-use Rattle.sctp_lists.proofs.KeptLemmas.{kept-same, kept-snoc, kept-none}
-use Rattle.sctp_lists.proofs.More.{fails, not_both, both, and, length-kept-positive}
-use Rattle.sctp_model.proofs.Shape.{Shape, MessagePart, SlotPart, has, sent, parts, half, unsent, on, slotted, written}
+use Rattle.sctp_lists.specs.Kept.{kept}
+use Rattle.sctp_lists.proofs.KeptLemmas.{kept-same, kept-snoc}
+use Rattle.sctp_model.proofs.Shape.{Shape, SlotPart, has, sent, parts, half, on, slotted}
 
 abbrev pub is_mark : Shape → ℕ → ℕ → Bool
 is_mark x n p = ((x.slot p).message == n) && (x.slot p).is_end_mark

@@ -1,14 +1,14 @@
 -- Writes, expiry and abandonment keep what the sender keeps.
-use Rattle.std.proofs.Common.{◌≡◌, ℕ, zero, suc, ◌+◌, ◌-◌, ◌<◌, ◌≤◌, Bool, true, false, List, [], ◌∷◌, length, refl, ap, sym, ◌∙◌, inl, inr, arith}
+use Rattle.std.proofs.Common.{◌≡◌, ℕ, ◌+◌, ◌<◌, ◌≤◌, Bool, true, false, length, refl, ap, sym, ◌∙◌, inl, inr, arith}
 use Rattle.std.specs.Prelude.{◌⊎◌, if◌then◌else◌, ◌==◌, ◌&&◌, ◌||◌, not, nat_lt}
 use Rattle.std.proofs.lemmas.Bool.{cases_lt}
 use Rattle.std.proofs.lemmas.Bool.Decides.{nat_tests}
 use Rattle.sctp_lists.specs.Kept.{kept}
 use Rattle.sctp_lists.proofs.KeptLemmas.{kept-none}
 use Rattle.sctp_lists.proofs.More.{fails, not_both, both, and}
-use Rattle.sctp_model.proofs.Shape.{Shape, MessagePart, SlotPart, has, sent, parts, half, unsent, on, slotted, written, abandoned_at, expired_at}
+use Rattle.sctp_model.proofs.Shape.{Shape, MessagePart, has, sent, parts, half, on, slotted, written, abandoned_at, expired_at}
 use Rattle.sctp_model.proofs.Sender.{Sender, is_mark, sent-slotted, marks-slotted, slot-old, slot-new}
-use Rattle.sctp_model.proofs.SenderSteps.{of-has, sent-some, of-half, is-half, half-one, sent-other, has-old, has-new, number-slotted, made-slotted, Next, Last, marks_due}
+use Rattle.sctp_model.proofs.SenderSteps.{of-has, sent-some, of-half, is-half, half-one, has-old, has-new, number-slotted, made-slotted, Next, Last, marks_due}
 use Rattle.sctp_lists.proofs.Cases.{by_last, by_same, same-yes, same-is}
 
 -- ## Abandonment

@@ -1,13 +1,12 @@
 -- In every history the sender's slots are sound.
-use Rattle.std.proofs.Common.{◌≡◌, ℕ, zero, suc, ◌+◌, ◌<◌, ◌≤◌, ◌^◌, Bool, true, false, List, [], ◌∷◌, ◌++◌, length, map, Option, Some, None, refl, ap, sym, ◌∙◌, inl, inr, arith, add-one}
-use Rattle.std.specs.Prelude.{◌⊎◌, if◌then◌else◌, ◌==◌, ◌&&◌, ◌||◌, not, nat_lt, find, is_some, slice_get, fold, max, nat_le, unwrap_or}
+use Rattle.std.proofs.Common.{◌≡◌, ℕ, zero, suc, ◌+◌, ◌<◌, ◌^◌, Bool, true, false, List, [], ◌∷◌, ◌++◌, length, map, Option, Some, None, refl, ap, sym, ◌∙◌, arith, add-one}
+use Rattle.std.specs.Prelude.{if◌then◌else◌, ◌==◌, ◌&&◌, nat_lt, find, is_some, slice_get, fold, max, nat_le, unwrap_or}
 use Rattle.std.proofs.Math.Path.{subst}
-use Rattle.std.proofs.lemmas.Bool.{cases_lt}
 use Rattle.std.proofs.lemmas.Bool.Decides.{nat_tests}
 use Rattle.sctp_lists.specs.Kept.{kept, always, numbers_from, total_over, passing}
 use Rattle.sctp_lists.specs.Lists.{changed, pieces}
 use Rattle.sctp_lists.proofs.KeptLemmas.{kept-snoc_in}
-use Rattle.sctp_lists.proofs.More.{fails, not_both, both, and}
+use Rattle.sctp_lists.proofs.More.{both}
 use Rattle.sctp_model.specs.declared.event.Event.{Event}
 use Rattle.sctp_model.specs.declared.event.Event.TheVariants as E
 use Rattle.sctp_model.specs.declared.event.LinkRefusal.{LinkRefusal}
@@ -18,14 +17,12 @@ use Rattle.sctp_model.specs.Messages
 use Rattle.sctp_model.specs.Receiver
 use Rattle.sctp_model.specs.Changes
 use Rattle.sctp_model.specs.Steps.{History, world_of, IsRun, refusal_of, after, unless, fragments_accepted, fragments_in}
-use Rattle.sctp_model.specs.Log.{Coming, log_of}
-use Rattle.sctp_model.specs.Laws.{IsSetup, OnEveryRun}
-use Rattle.sctp_model.proofs.Shape.{Shape, MessagePart, shape, message_part, sent, parts, half, slotted, written, abandoned_at, expired_at, front_of}
+use Rattle.sctp_model.proofs.Shape.{Shape, MessagePart, shape, message_part, sent, parts, slotted, written, abandoned_at, expired_at}
 use Rattle.sctp_model.proofs.Sender.{Sender}
-use Rattle.sctp_model.proofs.SenderSteps.{sender-takes, of-half, sent-grows, of-has}
+use Rattle.sctp_model.proofs.SenderSteps.{sender-takes, of-half, sent-grows}
 use Rattle.sctp_model.proofs.SenderEnds.{sender-marked, sender-abandoned, sender-expired, sender-written, message-old, message-new, parts-old}
 use Rattle.sctp_model.proofs.Shapes
-use Rattle.sctp_model.proofs.Fronts.{front-takes, half-made, slot-sent, of-unsent}
+use Rattle.sctp_model.proofs.Fronts.{front-takes, slot-sent, of-unsent}
 use Rattle.sctp_lists.proofs.Cases.{by_last}
 use Rattle.sctp_lists.proofs.Totals.{total-append, total-kept_same}
 
@@ -52,7 +49,7 @@ sane-shape setup own x y rs e g = subst (λ z. SaneIn setup own z rs) (sym e) g
 
 -- ## Streams
 
-open-mapped : (f : StreamRecord → StreamRecord) (s : ℕ) (rs : List StreamRecord) → ((r : StreamRecord) → (f r).stream ≡ r.stream) → open_in (map f rs) s ≡ open_in rs s
+pub open-mapped : (f : StreamRecord → StreamRecord) (s : ℕ) (rs : List StreamRecord) → ((r : StreamRecord) → (f r).stream ≡ r.stream) → open_in (map f rs) s ≡ open_in rs s
 open-mapped f s [] keeps = refl
 open-mapped f s (r ∷ rs) keeps = step ((f r).stream == s) (r.stream == s) (ap (λ t. t == s) (keeps r)) (open-mapped f s rs keeps)
   where

@@ -1,20 +1,18 @@
-use Rattle.std.proofs.Common.{◌≡◌, ℕ, zero, suc, ◌+◌, ◌-◌, ◌<◌, ◌≤◌, Bool, true, false, List, [], ◌∷◌, ◌++◌, length, map, Option, Some, None, refl, ap, sym, ◌∙◌, inl, inr, arith, length-append}
-use Rattle.std.specs.Prelude.{◌⊎◌, if◌then◌else◌, ◌==◌, ◌&&◌, ◌||◌, not, nat_lt, ◌↔◌, slice_get}
+use Rattle.std.proofs.Common.{◌≡◌, ℕ, ◌+◌, ◌-◌, ◌<◌, ◌≤◌, Bool, true, false, [], ◌∷◌, ◌++◌, length, Option, Some, None, refl, ap, sym, ◌∙◌, inl, inr, arith, length-append}
+use Rattle.std.specs.Prelude.{◌⊎◌, if◌then◌else◌, ◌&&◌, ◌||◌, not, ◌↔◌, slice_get}
 use Rattle.std.proofs.lemmas.Bool.{cases_lt}
 use Rattle.sctp_lists.specs.Kept.{kept, always, numbers_from, total_over, gathered}
-use Rattle.sctp_lists.proofs.More.{fails, not_both, both, and}
+use Rattle.sctp_lists.proofs.More.{not_both}
 use Rattle.sctp_model.specs.declared.event.Event.TheVariants as E
 use Rattle.sctp_model.specs.Reply as R
-use Rattle.sctp_model.specs.World.{Setup, Datagram, Data, World}
+use Rattle.sctp_model.specs.World.{Setup, Data, World}
 use Rattle.sctp_model.specs.Messages
 use Rattle.sctp_model.specs.Amounts.{is_given_up}
 use Rattle.sctp_model.specs.Changes
-use Rattle.sctp_model.specs.Queues.{pending_of, pending_fragments, PendingFragment, pending_at}
-use Rattle.sctp_model.specs.Steps.{History, world_of, IsRun, reply_to, after, sent_reply}
-use Rattle.sctp_model.specs.Log.{log_of}
-use Rattle.sctp_model.specs.Laws.{IsSetup, OnEveryRun, pending_count, EmitsWherePending, TakesPending}
-use Rattle.sctp_model.proofs.Shape.{Shape, shape, sent, parts, half, unsent, slotted, front_of}
-use Rattle.sctp_model.proofs.Sender.{Sender}
+use Rattle.sctp_model.specs.Queues.{pending_fragments, pending_at}
+use Rattle.sctp_model.specs.Steps.{world_of, after, sent_reply}
+use Rattle.sctp_model.specs.Laws.{OnEveryRun, pending_count, EmitsWherePending, TakesPending}
+use Rattle.sctp_model.proofs.Shape.{Shape, shape, sent, parts, slotted, front_of}
 use Rattle.sctp_model.proofs.SenderSteps.{Takes, is-half, sent-other, sent-here}
 use Rattle.sctp_model.proofs.Fronts.{front-takes, front-none, is-unsent}
 use Rattle.sctp_model.proofs.SenderRun.{Sane, sane-run, sane-takes, sane-started, filled-keeps}

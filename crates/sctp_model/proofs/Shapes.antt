@@ -1,14 +1,12 @@
-use Rattle.std.proofs.Common.{◌≡◌, ℕ, zero, suc, ◌+◌, ◌<◌, ◌≤◌, Bool, true, false, List, [], ◌∷◌, ◌++◌, length, map, get_or, refl, ap, sym, ◌∙◌, inl, inr, arith, length-append}
+use Rattle.std.proofs.Common.{◌≡◌, ℕ, ◌+◌, Bool, true, false, List, [], ◌∷◌, ◌++◌, length, map, get_or, refl, ap, ◌∙◌, length-append}
 use Rattle.std.proofs.Math.Path.{fun_ext}
-use Rattle.std.specs.Prelude.{◌⊎◌, if◌then◌else◌, ◌==◌, ◌||◌}
-use Rattle.std.proofs.lemmas.Bool.{cases_lt}
-use Rattle.std.proofs.lemmas.Bool.Decides.{nat_tests}
+use Rattle.std.specs.Prelude.{if◌then◌else◌, ◌==◌, ◌||◌}
 use Rattle.sctp_lists.specs.Lists.{changed, each_numbered}
-use Rattle.sctp_lists.proofs.More.{fails, length-changed, changed-keeps, changed-same, changed-other}
+use Rattle.sctp_lists.proofs.More.{length-changed, changed-keeps}
 use Rattle.sctp_model.specs.World.{Message, Slot, Report, World}
 use Rattle.sctp_model.specs.Messages.{message_at, slot_at, no_message, no_slot, sent_of}
 use Rattle.sctp_model.specs.Changes
-use Rattle.sctp_model.proofs.Shape.{Shape, MessagePart, SlotPart, shape, message_part, slot_part, sent, slotted, written, abandoned_at, expired_at}
+use Rattle.sctp_model.proofs.Shape.{Shape, MessagePart, SlotPart, shape, message_part, slot_part, slotted, written, abandoned_at, expired_at}
 use Rattle.sctp_lists.proofs.Getting.{get-snoc, get-changed, get-map, length-mapped, get-numbered, length-numbered}
 
 -- The shape of the record after each change.

@@ -1,18 +1,17 @@
-use Rattle.std.proofs.Common.{◌≡◌, ℕ, zero, suc, ◌+◌, ◌-◌, ◌<◌, ◌≤◌, Bool, true, false, List, [], ◌∷◌, ◌++◌, length, map, Option, Some, None, refl, ap, sym, ◌∙◌, inl, inr, arith, append-nil, length-append}
-use Rattle.std.specs.Prelude.{◌⊎◌, if◌then◌else◌, ◌==◌, ◌&&◌, not, nat_lt}
+use Rattle.std.proofs.Common.{◌≡◌, ℕ, zero, suc, ◌<◌, ◌≤◌, Bool, true, false, length, Some, refl, ap, sym, ◌∙◌, inl, inr, arith}
+use Rattle.std.specs.Prelude.{◌⊎◌, ◌==◌, ◌&&◌, not, nat_lt}
 use Rattle.std.proofs.lemmas.Bool.{cases_lt}
 use Rattle.std.proofs.lemmas.Bool.Decides.{nat_tests}
-use Rattle.std.proofs.lemmas.List.{map-append}
-use Rattle.sctp_lists.specs.Kept.{kept, always, numbers_from, first_of}
-use Rattle.sctp_lists.proofs.KeptLemmas.{kept-same, kept-none, kept-snoc_in, kept-snoc_out}
-use Rattle.sctp_lists.proofs.More.{fails, not_both, both, and, same_test}
+use Rattle.sctp_lists.specs.Kept.{kept, always, first_of}
+use Rattle.sctp_lists.proofs.KeptLemmas.{kept-same}
+use Rattle.sctp_lists.proofs.More.{fails, not_both, and, same_test}
 use Rattle.sctp_model.specs.World.{World}
 use Rattle.sctp_model.specs.Messages
 use Rattle.sctp_model.specs.Steps.{world_of}
 use Rattle.sctp_model.specs.Laws.{OnEveryRun, SlotsInOrder, SlotsFollow, OneHalfSent, SentInTurn, IndexesLeaveNoGap}
-use Rattle.sctp_model.proofs.Shape.{Shape, shape, has, sent, parts, half, on, index}
+use Rattle.sctp_model.proofs.Shape.{Shape, shape, has, sent, half, on}
 use Rattle.sctp_model.proofs.Sender.{Sender}
-use Rattle.sctp_model.proofs.SenderSteps.{of-has, sent-some, half-one}
+use Rattle.sctp_model.proofs.SenderSteps.{of-has, half-one}
 use Rattle.sctp_model.proofs.SenderEnds.{sent-none}
 use Rattle.sctp_model.proofs.SenderRun.{sane-run}
 use Rattle.sctp_lists.proofs.Cases.{same-yes}

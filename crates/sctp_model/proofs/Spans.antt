@@ -1,5 +1,5 @@
 -- In every state the indexes that 16-bit numbers must tell apart lie within half a circle.
-use Rattle.std.proofs.Common.{◌≡◌, ℕ, zero, suc, ◌+◌, ◌-◌, ◌<◌, ◌≤◌, ◌^◌, Bool, true, false, List, [], ◌∷◌, ◌++◌, length, map, Option, Some, None, refl, ap, sym, ◌∙◌, inl, inr, arith, append-nil, drop}
+use Rattle.std.proofs.Common.{◌≡◌, ℕ, zero, suc, ◌+◌, ◌<◌, ◌≤◌, ◌^◌, Bool, true, false, List, [], ◌∷◌, ◌++◌, length, map, Option, Some, None, refl, ap, sym, ◌∙◌, inl, inr, arith, append-nil, drop}
 use Rattle.std.specs.Prelude.{◌⊎◌, if◌then◌else◌, ◌==◌, ◌&&◌, ◌||◌, not, min, max, nat_lt, nat_le, find, is_some, unwrap_or, slice_get}
 use Rattle.std.specs.List.{list_any, list_all}
 use Rattle.std.proofs.Math.Path.{subst}
@@ -23,11 +23,10 @@ use Rattle.sctp_model.specs.Steps.{History, world_of, IsRun, refusal_of, after, 
 use Rattle.sctp_model.specs.Log
 use Rattle.sctp_model.specs.Log.{Coming}
 use Rattle.sctp_model.specs.Laws.{IsSetup, OnEveryRun, SpansFit}
-use Rattle.sctp_model.proofs.Shape.{Shape, shape, on, index, sent, parts}
+use Rattle.sctp_model.proofs.Shape.{shape, on, index, sent}
 use Rattle.sctp_model.proofs.Sender.{Sender}
-use Rattle.sctp_lists.proofs.Cases.{by_same, same-yes, same-is, negated}
+use Rattle.sctp_lists.proofs.Cases.{by_same, negated}
 use Rattle.sctp_model.proofs.SenderRun.{Sane, sane-run, sane-after, unless-holds, found}
-use Rattle.sctp_model.proofs.Slots.{sent-made}
 use Rattle.sctp_model.proofs.Moves.{Quiet, quiet-written, quiet-started, quiet-sent, quiet-expire, quiet-tail, quiet-lates, quiet-abandoned}
 use Rattle.sctp_model.proofs.View
 use Rattle.sctp_model.proofs.View.{View, view, come_count, all_come, whole_at, held, line, next, read_in}
@@ -36,8 +35,9 @@ use Rattle.sctp_model.proofs.Known
 use Rattle.sctp_model.proofs.Known.{Still, Whole, ReadsWhole, ReadsRun, reads, still-of, come-still, come-sent, whole-still, whole-read}
 use Rattle.sctp_model.proofs.Ordered
 use Rattle.sctp_model.proofs.Ordered.{Ordered, next-still, read-other}
-use Rattle.sctp_model.proofs.Due.{IsDue, is_due}
+use Rattle.sctp_model.proofs.Due.{IsDue}
 use Rattle.sctp_model.proofs.Received.{Received, received-run}
+use Rattle.sctp_lists.proofs.Cases.{by_same, negated}
 
 greatest-append : (x : ℕ) (xs ys : List ℕ) → greatest x (xs ++ ys) ≡ greatest (greatest x xs) ys
 greatest-append x [] ys = refl
@@ -130,6 +130,16 @@ near-fits w s more e =
       held_below = λ k lt h. let i = in-kept (Messages.index_of w) (Receiver.is_held w s) k 0 (length w.messages) (omega arith) (omega arith) h in omega (arith, g, greatest-ge (greatest n held') more, greatest-in n (Messages.index_of w k) held' i);
     }
 
+-- so do the indexes of these messages
+pub near-others : (w : World) (s : ℕ) (more : List ℕ) (e : fits w more s ≡ true) (y : ℕ) → list_any (λ z. z == y) more ≡ true → ((near-fits w s more e).low ≤ y) × (y ≤ (near-fits w s more e).high)
+unfolding near-fits
+near-others w s more e y i =
+    let n = Receiver.next_of w s in
+    let held' = map (Messages.index_of w) (Receiver.held_on w s) in
+    let g : greatest n (held' ++ more) ≡ greatest (greatest n held') more = greatest-append n held' more in
+    let l : least n (held' ++ more) ≡ least (least n held') more = least-append n held' more in
+    (omega (arith, l, least-in (least n held') y more i), omega (arith, g, greatest-in (greatest n held') y more i))
+
 fits-near : (w : World) (s : ℕ) → IsNear (view w) s → fits w [] s ≡ true
 fits-near w s near =
     let n = Receiver.next_of w s in
@@ -141,13 +151,13 @@ fits-near w s near =
 
 -- ## Held messages
 
-record IsHeld (v : View) (s n : ℕ) : Type 0 where
-  on_it : on v.x s n ≡ true
-  unread : v.read n ≡ false
-  some : 0 < come_count v n
-  kept_for : (whole_at v n || nat_le (v.named s) (index v.x n)) ≡ true
+pub record IsHeld (v : View) (s n : ℕ) : Type 0 where
+  pub on_it : on v.x s n ≡ true
+  pub unread : v.read n ≡ false
+  pub some : 0 < come_count v n
+  pub kept_for : (whole_at v n || nat_le (v.named s) (index v.x n)) ≡ true
 
-held-of : (v : View) (s n : ℕ) → held v s n ≡ true → IsHeld v s n
+pub held-of : (v : View) (s n : ℕ) → held v s n ≡ true → IsHeld v s n
 held-of v s n e =
     let a = both (on v.x s n) (not (v.read n) && (nat_lt 0 (come_count v n) && (whole_at v n || nat_le (v.named s) (index v.x n)))) e in
     let b = both (not (v.read n)) (nat_lt 0 (come_count v n) && (whole_at v n || nat_le (v.named s) (index v.x n))) a.1 in
@@ -155,7 +165,7 @@ held-of v s n e =
     let d = c.0 in
     record { on_it = a.0; unread = negated (v.read n) b.0; some = grind (arith, nat_tests); kept_for = c.1 }
 
-is-held : (v : View) (s n : ℕ) → IsHeld v s n → held v s n ≡ true
+pub is-held : (v : View) (s n : ℕ) → IsHeld v s n → held v s n ≡ true
 is-held v s n h =
     let p = h.some in
     and (on v.x s n) (not (v.read n) && (nat_lt 0 (come_count v n) && (whole_at v n || nat_le (v.named s) (index v.x n)))) h.on_it
@@ -308,7 +318,7 @@ near-closed setup w s g e = record {
         next-none : (v : View) (s : ℕ) → line v s ≡ [] → next v s ≤ v.named s
         next-none v s e = let z = leading-le v.read (drop (v.named s) (line v s)) in let y = length-dropped (v.named s) (line v s) in omega (arith, z, y, ap length e)
 
-all-streams : (t : ℕ → Bool) (rs : List StreamRecord) (s : ℕ) (r : StreamRecord) → list_all (λ r. t r.stream) rs ≡ true → find (λ r. r.stream == s) rs ≡ Some r → t r.stream ≡ true
+pub all-streams : (t : ℕ → Bool) (rs : List StreamRecord) (s : ℕ) (r : StreamRecord) → list_all (λ r. t r.stream) rs ≡ true → find (λ r. r.stream == s) rs ≡ Some r → t r.stream ≡ true
 all-streams t [] s r a e = cc
 all-streams t (q ∷ rs) s r a e = let c = both (t q.stream) (list_all (λ r. t r.stream) rs) a in step (q.stream == s) e c.0 (λ h. all-streams t rs s r c.1 h)
   where

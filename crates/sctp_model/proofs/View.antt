@@ -1,23 +1,20 @@
 -- What the receiver's laws speak of: the shape of the record, what arrived, what was read, and what each stream knows.
-use Rattle.std.proofs.Common.{◌≡◌, ℕ, zero, suc, ◌+◌, ◌-◌, ◌<◌, ◌≤◌, Bool, true, false, List, [], ◌∷◌, ◌++◌, length, map, take, drop, get_or, Option, Some, None, refl, ap, sym, ◌∙◌, inl, inr, arith}
+use Rattle.std.proofs.Common.{◌≡◌, ℕ, ◌+◌, ◌<◌, Bool, true, false, List, [], ◌∷◌, ◌++◌, length, map, take, drop, Option, Some, None, refl, ap, sym, ◌∙◌}
 use Rattle.std.proofs.Math.Path.{fun_ext}
-use Rattle.std.specs.Prelude.{◌⊎◌, if◌then◌else◌, ◌==◌, ◌&&◌, ◌||◌, not, nat_lt, nat_le, find, is_some, unwrap_or, max}
+use Rattle.std.specs.Prelude.{if◌then◌else◌, ◌==◌, ◌&&◌, ◌||◌, not, nat_lt, nat_le, find, is_some, unwrap_or, max}
 use Rattle.std.specs.List.{list_any}
-use Rattle.std.proofs.lemmas.Bool.{cases_lt}
-use Rattle.std.proofs.lemmas.Bool.Decides.{nat_tests}
 use Rattle.sctp_lists.specs.Kept.{kept, leading, passing, first_of, or_else}
-use Rattle.sctp_lists.specs.Lists.{changed, each_numbered}
-use Rattle.sctp_lists.proofs.More.{fails, not_both, changed-same, changed-other}
+use Rattle.sctp_lists.proofs.More.{not_both, changed-same, changed-other}
 use Rattle.sctp_chunks.specs.declared.chunk.chunk_payload_data.ReliabilityType.{ReliabilityType}
-use Rattle.sctp_model.specs.World.{Setup, StreamRecord, Sack, Report, World}
+use Rattle.sctp_model.specs.World.{StreamRecord, Sack, Report, World}
 use Rattle.sctp_model.specs.Messages
 use Rattle.sctp_model.specs.Messages.{no_stream, no_slot, no_message, stream_at, stream_of}
 use Rattle.sctp_model.specs.Receiver
 use Rattle.sctp_model.specs.Receiver.{arrived_at, greatest}
 use Rattle.sctp_model.specs.Changes
-use Rattle.sctp_model.proofs.Shape.{Shape, shape, has, sent, parts, on, index}
+use Rattle.sctp_model.proofs.Shape.{Shape, shape, has, parts, on, index}
 use Rattle.sctp_model.proofs.Shapes
-use Rattle.sctp_model.proofs.SenderRun.{Sane, found}
+use Rattle.sctp_model.proofs.SenderRun.{found}
 use Rattle.sctp_model.proofs.Arrivals.{with_arrived}
 use Rattle.sctp_lists.proofs.Cases.{by_same, same-yes, same-is}
 use Rattle.sctp_lists.proofs.Getting.{get-changed, get-numbered}
@@ -122,7 +119,7 @@ field-kept {A} g f keeps same w t = ap (λ o. g (unwrap_or o (no_stream t))) (fi
     by None = refl
     by (Some r) = same r
 
-find-more : (s t : ℕ) (rs : List StreamRecord) → is_some (find (λ r. r.stream == s) rs) ≡ false → unwrap_or (find (λ r. r.stream == t) (rs ++ no_stream s ∷ [])) (no_stream t) ≡ unwrap_or (find (λ r. r.stream == t) rs) (no_stream t)
+pub find-more : (s t : ℕ) (rs : List StreamRecord) → is_some (find (λ r. r.stream == s) rs) ≡ false → unwrap_or (find (λ r. r.stream == t) (rs ++ no_stream s ∷ [])) (no_stream t) ≡ unwrap_or (find (λ r. r.stream == t) rs) (no_stream t)
 find-more s t [] e = step (s == t) refl
   where
     step : (b : Bool) → (s == t) ≡ b → unwrap_or (if b then Some (no_stream s) else None) (no_stream t) ≡ no_stream t
@@ -148,7 +145,7 @@ view-streams w rs named whole a b =
 pub view-opened : (w : World) (s : ℕ) → Messages.is_open w s ≡ false → view (Changes.opened w s) ≡ view w
 view-opened w s e = view-streams w (w.streams ++ no_stream s ∷ []) (view w).named (view w).whole (λ t. ap (λ r. r.named) (find-more s t w.streams e)) (λ t. ap (λ r. r.whole) (find-more s t w.streams e))
 
-either-keeps : {A : Type 0} (g : StreamRecord → A) (f : StreamRecord → StreamRecord) → ((r : StreamRecord) → g (f r) ≡ g r) → (s : ℕ) (r : StreamRecord) → g (if r.stream == s then f r else r) ≡ g r
+pub either-keeps : {A : Type 0} (g : StreamRecord → A) (f : StreamRecord → StreamRecord) → ((r : StreamRecord) → g (f r) ≡ g r) → (s : ℕ) (r : StreamRecord) → g (if r.stream == s then f r else r) ≡ g r
 either-keeps g f same s r = step (r.stream == s)
   where
     step : (b : Bool) → g (if b then f r else r) ≡ g r

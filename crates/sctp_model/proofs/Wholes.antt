@@ -1,39 +1,24 @@
--- A message is whole in the record exactly where the order of arrivals makes it whole.
-use Rattle.std.proofs.Common.{◌≡◌, ℕ, zero, suc, ◌+◌, ◌-◌, ◌<◌, ◌≤◌, Bool, true, false, List, [], ◌∷◌, ◌++◌, length, map, drop, Option, Some, None, refl, ap, sym, ◌∙◌, inl, inr, arith, append-nil, length-append}
+use Rattle.std.proofs.Common.{◌≡◌, ℕ, zero, suc, ◌+◌, ◌-◌, ◌<◌, ◌≤◌, Bool, true, false, List, [], ◌∷◌, ◌++◌, length, refl, ap, sym, ◌∙◌, inl, inr, arith, append-nil, length-append}
 use Rattle.std.specs.Prelude.{◌⊎◌, if◌then◌else◌, ◌==◌, ◌&&◌, ◌||◌, not, nat_le, nat_lt}
 use Rattle.std.specs.List.{list_any, list_all}
-use Rattle.std.proofs.Math.Path.{subst}
 use Rattle.std.proofs.lemmas.Bool.{cases_lt}
 use Rattle.std.proofs.lemmas.Bool.Decides.{nat_tests}
-use Rattle.sctp_lists.specs.Kept.{kept, passing, first_of, or_else}
-use Rattle.sctp_lists.specs.Lists.{changed}
-use Rattle.sctp_lists.proofs.KeptLemmas.{kept-same, kept-none}
-use Rattle.sctp_lists.proofs.More.{fails, not_both, both, and, same_test, length-kept-positive}
+use Rattle.sctp_lists.specs.Kept.{kept}
+use Rattle.sctp_lists.proofs.KeptLemmas.{kept-same}
+use Rattle.sctp_lists.proofs.More.{fails, both, and}
 use Rattle.sctp_lists.proofs.Alls
-use Rattle.sctp_model.specs.World.{Setup, Sack, World, start}
-use Rattle.sctp_model.specs.Messages
-use Rattle.sctp_model.specs.Receiver.{is_new, arrived_at}
-use Rattle.sctp_model.specs.Receiver
-use Rattle.sctp_model.specs.Changes
-use Rattle.sctp_model.specs.Steps.{History, world_of, IsRun}
+use Rattle.sctp_model.specs.World.{World}
 use Rattle.sctp_model.specs.Log
 use Rattle.sctp_model.specs.Log.{Coming, SlotCame, SkipCame, SackMade}
-use Rattle.sctp_model.specs.Laws.{IsSetup, OnEveryRun, AllDifferent, WholeIsWhole}
-use Rattle.sctp_model.proofs.Shape.{Shape, MessagePart, shape, has, on, index, sent, parts}
+use Rattle.sctp_model.proofs.Shape.{Shape, shape, has, sent, parts}
 use Rattle.sctp_model.proofs.Sender.{Sender}
-use Rattle.sctp_model.proofs.SenderSteps.{of-has}
-use Rattle.sctp_model.proofs.SenderEnds.{sent-none}
-use Rattle.sctp_model.proofs.Slots.{sent-made, sent-alive}
-use Rattle.sctp_model.proofs.SenderRun.{Sane, sane-run}
-use Rattle.sctp_model.proofs.Grows.{Grows, IsEnded, as_written, parts-grown}
-use Rattle.sctp_model.proofs.Moves.{Quiet}
-use Rattle.sctp_model.proofs.Network.{NamesFit, same-slot}
-use Rattle.sctp_model.proofs.Events.{Keeps, run-keeps}
-use Rattle.sctp_model.proofs.Arrivals.{Heard, heard-keeps, heard-new, heard-noted, counts-heard, with_arrived, skipped-le, new-unseen, seen_by}
-use Rattle.sctp_model.proofs.View
-use Rattle.sctp_model.proofs.View.{View, view, has_come, come_count, all_come, whole_at, arrived_in, noted_in, skipped_in, read_in, run, line}
-use Rattle.sctp_model.proofs.Names.{view-skip, view-whole_noted}
+use Rattle.sctp_model.proofs.Grows.{Grows, parts-grown}
+use Rattle.sctp_model.proofs.View.{View, come_count, all_come, whole_at}
 use Rattle.sctp_lists.proofs.Cases.{same-yes, same-is}
+use Rattle.sctp_lists.proofs.Cases.{or-left, or-right, or-split}
+use Rattle.sctp_lists.proofs.Tests.{all-more}
+
+-- A message is whole in the record exactly where the order of arrivals makes it whole.
 
 -- ## By the order of arrivals
 
@@ -63,14 +48,6 @@ came-later x y le (SlotCame p ∷ log) f = (omega (arith, f.0, le), came-later x
 came-later x y le (SkipCame upto names ∷ log) f = came-later x y le log f
 came-later x y le (SackMade ∷ log) f = came-later x y le log f
 
-or-right : (a b : Bool) → b ≡ true → (a || b) ≡ true
-or-right true b e = refl
-or-right false b e = e
-
-or-left : (a b : Bool) → a ≡ true → (a || b) ≡ true
-or-left true b e = refl
-or-left false b e = cc
-
 -- what arrived new came
 pub new-came : (x : Shape) (log : List Coming) (p : ℕ) → SlotsCame x log → Log.arrived_new log p ≡ true → p < x.slots
 new-came x [] p f e = cc
@@ -88,18 +65,10 @@ new-stays (SlotCame q) log p e = or-left (Log.arrived_new log p) ((q == p) && no
 new-stays (SkipCame upto names) log p e = e
 new-stays SackMade log p e = e
 
-pub all-more : (t u : ℕ → Bool) (xs : List ℕ) → ((k : ℕ) → t k ≡ true → u k ≡ true) → list_all t xs ≡ true → list_all u xs ≡ true
-all-more t u [] h e = refl
-all-more t u (x ∷ xs) h e = let a = both (t x) (list_all t xs) e in and (u x) (list_all u xs) (h x a.0) (all-more t u xs h a.1)
-
-pub either-is : (a b : Bool) → (a || b) ≡ true → (a ≡ true) ⊎ (b ≡ true)
-either-is true b e = inl refl
-either-is false b e = inr e
-
 -- where they were whole, each of them arrived new
 pub were-new : (places : List ℕ) (log : List Coming) → Log.were_whole places log ≡ true → list_all (Log.arrived_new log) places ≡ true
 were-new places [] e = cc
-were-new places (coming ∷ log) e = step (either-is (Log.were_whole places log) (all_now (coming ∷ log) places) e) (λ h. were-new places log h)
+were-new places (coming ∷ log) e = step (or-split (Log.were_whole places log) (all_now (coming ∷ log) places) e) (λ h. were-new places log h)
   where
     step : (Log.were_whole places log ≡ true) ⊎ (all_now (coming ∷ log) places ≡ true) → (Log.were_whole places log ≡ true → list_all (Log.arrived_new log) places ≡ true) → list_all (Log.arrived_new (coming ∷ log)) places ≡ true
     step (inl h) ih = all-more (Log.arrived_new log) (Log.arrived_new (coming ∷ log)) places (λ k f. new-stays coming log k f) (ih h)

@@ -1,8 +1,8 @@
 -- The messages of the record are the accepted writes.
-use Rattle.std.proofs.Common.{◌≡◌, ℕ, zero, suc, ◌+◌, ◌<◌, ◌≤◌, ◌^◌, Bool, true, false, List, [], ◌∷◌, ◌++◌, length, map, Option, Some, None, refl, ap, sym, ◌∙◌, inl, inr, arith, append-nil, add-one}
-use Rattle.std.specs.Prelude.{if◌then◌else◌, ◌==◌, ◌&&◌, fold, find, is_some, slice_get, unwrap_or, nat_le, nat_lt}
+use Rattle.std.proofs.Common.{◌≡◌, ℕ, ◌+◌, ◌^◌, Bool, true, false, List, [], ◌∷◌, ◌++◌, length, map, Option, Some, None, refl, ap, ◌∙◌, arith, add-one}
+use Rattle.std.specs.Prelude.{if◌then◌else◌, ◌==◌, find, is_some, slice_get, unwrap_or, nat_le, nat_lt}
 use Rattle.std.proofs.lemmas.List.{map-append}
-use Rattle.sctp_lists.specs.Kept.{kept, always, numbers_from, total_over}
+use Rattle.sctp_lists.specs.Kept.{kept, always}
 use Rattle.sctp_lists.proofs.KeptLemmas.{map-kept-same, kept-snoc_in}
 use Rattle.sctp_chunks.specs.declared.chunk.chunk_payload_data.PayloadProtocolIdentifier.{PayloadProtocolIdentifier}
 use Rattle.sctp_model.specs.declared.event.Event.{Event}
@@ -14,9 +14,9 @@ use Rattle.sctp_model.specs.Messages
 use Rattle.sctp_model.specs.Receiver.{next_read}
 use Rattle.sctp_model.specs.Changes
 use Rattle.sctp_model.specs.Log.{Shown, writes_in}
-use Rattle.sctp_model.specs.Steps.{History, world_of, IsRun, refusal_of, after, unless, fragments_accepted, fragments_in}
-use Rattle.sctp_model.specs.Laws.{OnEveryRun, MessagesAreWrites, shown_of}
-use Rattle.sctp_model.proofs.Shape.{Shape, MessagePart, shape, message_part, slotted, written}
+use Rattle.sctp_model.specs.Steps.{History, world_of, refusal_of, after, unless, fragments_accepted, fragments_in}
+use Rattle.sctp_model.specs.Laws.{OnEveryRun, MessagesAreWrites}
+use Rattle.sctp_model.proofs.Shape.{Shape, MessagePart, shape, message_part, written}
 use Rattle.sctp_model.proofs.Shapes
 use Rattle.sctp_model.proofs.SenderEnds.{message-old, message-new}
 use Rattle.sctp_model.proofs.SenderRun.{fold-keeps, sends-keep, found, written_as, unless-holds}

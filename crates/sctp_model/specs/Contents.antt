@@ -1,5 +1,5 @@
 -- What each datagram says, as the chunks of a packet (RFC 4960 3.3.1, 3.3.4, RFC 3758 3.2).
-use Rattle.std.specs.Prelude.{ℕ, ◌+◌, ◌-◌, ◌%◌, ◌^◌, Bool, false, not, ◌==◌, List, map, slice_get, Option, Some, None}
+use Rattle.std.specs.Prelude.{ℕ, ◌+◌, ◌-◌, ◌%◌, ◌^◌, false, not, ◌==◌, List, map, slice_get, Option, Some, None}
 use Rattle.sctp_chunks.specs.declared.chunk.chunk_payload_data.ChunkPayloadData.{ChunkPayloadData}
 use Rattle.sctp_chunks.specs.PayloadData.{Data}
 use Rattle.sctp_chunks.specs.ChunkSet.{fresh}

@@ -5,7 +5,7 @@ use Rattle.sctp_lists.specs.Kept.{kept, leading, passing, numbers_from, first_of
 use Rattle.sctp_model.specs.declared.event.Event.{Event}
 use Rattle.sctp_model.specs.declared.event.Event.TheVariants as E
 use Rattle.sctp_model.specs.Reply as R
-use Rattle.sctp_model.specs.World.{Setup, Datagram, Data, Forward, Sack, World}
+use Rattle.sctp_model.specs.World.{Setup, Message, Datagram, Data, Forward, Sack, World}
 use Rattle.sctp_model.specs.Messages
 use Rattle.sctp_model.specs.Receiver
 use Rattle.sctp_model.specs.Amounts
@@ -178,6 +178,14 @@ shown_of w n = ((Messages.message_at w n).stream, (Messages.message_at w n).ppi,
 abbrev pub MessagesAreWrites : Setup → History → World → List Log.Coming → Type 0
 MessagesAreWrites setup h w log = map (shown_of w) (numbers_from 0 (length w.messages)) ≡ Log.writes_in h
 
+-- the mode of a message
+abbrev pub mode_of : Message → Log.Mode
+mode_of m = record { unordered = not m.ordered; reliability = m.reliability; value = m.value }
+
+-- each message has the mode that its stream had when it was written
+abbrev pub ModesAreKept : Setup → History → World → List Log.Coming → Type 0
+ModesAreKept setup h w log = map mode_of w.messages ≡ Log.modes_in h
+
 -- each read hands out a message of the stream with its payload type and the bytes that were written
 abbrev pub ReadsShowMessages : Setup → History → World → List Log.Coming → Type 0
 ReadsShowMessages setup h w log =
@@ -203,7 +211,7 @@ ReadsBeginWholeRun setup h w log =
 
 -- the ordered messages are read in order, each as it was written
 abbrev pub OrderedReads : Type 0
-OrderedReads = OnEveryRun MessagesAreWrites × (OnEveryRun ReadsShowMessages × (OnEveryRun ReadsBeginRun × OnEveryRun ReadsBeginWholeRun))
+OrderedReads = OnEveryRun MessagesAreWrites × (OnEveryRun ModesAreKept × (OnEveryRun ReadsShowMessages × (OnEveryRun ReadsBeginRun × OnEveryRun ReadsBeginWholeRun)))
 
 -- the unordered reads are distinct whole messages, in the order in which they became whole
 abbrev pub ReadsBeginWhole : Setup → History → World → List Log.Coming → Type 0
@@ -311,13 +319,9 @@ CountersCount = OnEveryRun CountersAreSums
 
 -- ## Composition without loss
 
--- message n as it was written, and whether it is ordered
-abbrev pub written_of : World → ℕ → Bool × Log.Shown
-written_of w n = (is_ordered w n, shown_of w n)
-
--- two records have the same messages, in the same order
-abbrev pub SameWrites : World → World → Type 0
-SameWrites v w = map (written_of v) (numbers_from 0 (length v.messages)) ≡ map (written_of w) (numbers_from 0 (length w.messages))
+-- two histories have the same writes, with the same modes
+abbrev pub SameWrites : History → History → Type 0
+SameWrites g h = (Log.writes_in g ≡ Log.writes_in h) × (Log.modes_in g ≡ Log.modes_in h)
 
 -- fragment i of message n arrived
 abbrev pub fragment_arrived : World → List Log.Coming → ℕ → ℕ → Bool
@@ -338,7 +342,7 @@ pub record IsReadWholly (setup : Setup) (h : History) (s : ℕ) : Type 0 where
 abbrev pub ReadsAreSettled : Type 0
 ReadsAreSettled =
     (setup : Setup) (g h : History) (s : ℕ) → IsSetup setup → IsReadWholly setup g s → IsReadWholly setup h s →
-    SameWrites (world_of setup g) (world_of setup h) →
+    SameWrites g h →
     SameArrivals (world_of setup g) (Log.log_of setup g) (world_of setup h) (Log.log_of setup h) →
     (map (shown_of (world_of setup g)) (ordered_reads setup g s) ≡ map (shown_of (world_of setup h)) (ordered_reads setup h s))
     × ((n : ℕ) → list_any (λ m. m == n) (unordered_reads setup g s) ≡ list_any (λ m. m == n) (unordered_reads setup h s))

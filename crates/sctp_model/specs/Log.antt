@@ -8,6 +8,8 @@ use Rattle.sctp_model.specs.declared.event.Event.TheVariants as E
 use Rattle.sctp_model.specs.Reply.{Reply}
 use Rattle.sctp_model.specs.Reply as R
 use Rattle.sctp_chunks.specs.declared.chunk.chunk_payload_data.PayloadProtocolIdentifier.{PayloadProtocolIdentifier}
+use Rattle.sctp_chunks.specs.declared.chunk.chunk_payload_data.ReliabilityType.{ReliabilityType}
+use Rattle.sctp_chunks.specs.declared.chunk.chunk_payload_data.ReliabilityType.TheVariants.{Reliable}
 use Rattle.sctp_chunks.specs.declared.chunk.chunk_payload_data.ChunkPayloadData.{ChunkPayloadData}
 use Rattle.sctp_model.specs.World.{Setup, Datagram, Sack, World}
 use Rattle.sctp_model.specs.Messages
@@ -172,6 +174,30 @@ writes_in [] = []
 writes_in ((E.Write s ppi [], r) ∷ older) = writes_in older
 writes_in ((E.Write s ppi (b ∷ bs), r) ∷ older) = writes_in older ++ (s, ppi, b ∷ bs) ∷ []
 writes_in (entry ∷ older) = writes_in older
+
+-- how messages are sent: whether they are unordered, and for how long they are tried (RFC 3758 4.1)
+pub record Mode : Type 0 where
+  pub unordered : Bool
+  pub reliability : ReliabilityType
+  pub value : ℕ
+
+-- the mode of stream s: the one set last, ordered and reliable where none was
+abbrev pub mode_in : History → ℕ → Mode
+mode_in [] s = record { unordered = false; reliability = Reliable; value = 0 }
+mode_in ((E.Mode t unordered reliability value, r) ∷ older) s =
+    if t == s then record { unordered = unordered; reliability = reliability; value = value } else mode_in older s
+mode_in (entry ∷ older) s = mode_in older s
+
+-- the mode of a message with this payload type: DCEP is always ordered (RFC 8832 6)
+abbrev pub mode_with : PayloadProtocolIdentifier → Mode → Mode
+mode_with ppi m = record m { unordered = not (Messages.is_dcep ppi || not m.unordered) }
+
+-- the modes of the accepted writes of at least one byte, in order
+abbrev pub modes_in : History → List Mode
+modes_in [] = []
+modes_in ((E.Write s ppi [], r) ∷ older) = modes_in older
+modes_in ((E.Write s ppi (b ∷ bs), r) ∷ older) = modes_in older ++ mode_with ppi (mode_in older s) ∷ []
+modes_in (entry ∷ older) = modes_in older
 
 -- the message that a reply hands out
 abbrev pub shown_by : Reply → List Shown

@@ -1,6 +1,6 @@
 -- What the queues that a link lends hold.
 use Rattle.std.specs.Prelude.{ℕ, ◌-◌, ◌%◌, ◌^◌, Bool, ◌&&◌, ◌||◌, not, nat_le, if◌then◌else◌, List, [], length, map, Option, Some, None}
-use Rattle.sctp_lists.specs.Kept.{kept, passing, numbers_from, gathered, first_of}
+use Rattle.sctp_lists.specs.Kept.{kept, numbers_from, gathered, first_of}
 use Rattle.sctp_chunks.specs.declared.chunk.chunk_payload_data.ChunkPayloadData.{ChunkPayloadData}
 use Rattle.sctp_chunks.specs.declared.chunk.chunk_payload_data.ReliabilityType.{ReliabilityType}
 use Rattle.sctp_chunks.specs.PayloadData.{Data}

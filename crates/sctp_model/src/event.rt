@@ -77,14 +77,24 @@ pub enum Event {
 /// Why a link refuses an event.
 #[derive(Clone, Copy, Debug, PartialEq, Eq)]
 pub enum LinkRefusal {
+    /// The stream is not open.
     StreamUnknown,
+    /// The stream is open already.
     StreamOpen,
+    /// The message is longer than the greatest one.
     MessageTooLarge,
+    /// 2^31 fragments would have been accepted in all.
     TsnsUsedUp,
+    /// There is no such datagram, or it is of another kind.
     NoSuchDatagram,
+    /// The TSN is not in flight; to send it again it must be neither acknowledged nor of an abandoned message.
     NotInFlight,
+    /// The TSN was not given out.
     SkipUnassigned,
+    /// A name is no ordered message whose last slot is at or before the TSN, or there are more than 16,381 names.
     SkipNames,
+    /// Stream sequence numbers could not be told apart (RFC 4960 6.5).
     SpanTooWide,
+    /// Memory was refused; nothing is changed.
     OutOfMemory,
 }

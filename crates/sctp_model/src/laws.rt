@@ -1,6 +1,7 @@
 //! What holds of every history of a link: laws, each the contract of a function that does nothing.
 
-ghost use Rattle.sctp_model.specs.Laws.{OnEveryRun, EmitsWherePending, TakesPending, SlotsInOrder, SlotsFollow, OneHalfSent, SentInTurn, IndexesLeaveNoGap, NoEndMarkIsSent, DatagramsStay, Balances, SumsAreTold, AcknowledgedArrived, AcknowledgedIsReported, SacksSay, NetworkIsMade, ArrivedIsNew, CumulativeIsSeen, ArrivalsAnswered, WholeIsWhole, NamedIsNamed, SpansFit, MessagesAreWrites, StartsOnce, LateAbandonsListed};
+ghost use Rattle.sctp_model.specs.Laws.{OnEveryRun, EmitsWherePending, TakesPending, SlotsInOrder, SlotsFollow, OneHalfSent, SentInTurn, IndexesLeaveNoGap, NoEndMarkIsSent, DatagramsStay, Balances, SumsAreTold, AcknowledgedArrived, AcknowledgedIsReported, SacksSay, NetworkIsMade, ArrivedIsNew, CumulativeIsSeen, ArrivalsAnswered, WholeIsWhole, NamedIsNamed, SpansFit, MessagesAreWrites, ModesAreKept, ReadsShowMessages, ReadsBeginRun, ReadsBeginWholeRun, ReadsBeginWhole, ReadsDiffer, UnorderedFirst, NothingWhereRead, StartsOnce, LateAbandonsListed, ReadsAreSettled, CountersAreSums, Headline, Beside, ReliableDelivery, PartialDelivery};
+ghost use Rattle.sctp_model.specs.Sound.{RecordIsSound, SlotsComeSound, SkipsComeSound};
 
 /// A Send answers Idle exactly where no fragment is pending; else its new datagram carries the pending fragments that it takes.
 pub fn each_send_emits()
@@ -46,10 +47,51 @@ pub fn arrivals_are_told()
 /// The ordered messages of a stream are read in order, each as it was written, as far as they are whole.
 pub fn ordered_reads()
     ensures writes { OnEveryRun MessagesAreWrites }
+    ensures modes { OnEveryRun ModesAreKept }
+    ensures show { OnEveryRun ReadsShowMessages }
+    ensures run { OnEveryRun ReadsBeginRun }
+    ensures whole_run { OnEveryRun ReadsBeginWholeRun }
+{}
+
+/// The unordered messages of a stream are read each once, in the order in which they became whole, and before any ordered one.
+pub fn unordered_reads()
+    ensures whole { OnEveryRun ReadsBeginWhole }
+    ensures differ { OnEveryRun ReadsDiffer }
+    ensures first { OnEveryRun UnorderedFirst }
+{}
+
+/// A Read answers Nothing exactly where the run is exhausted and each whole unordered message was read.
+pub fn nothing_when_exhausted()
+    ensures nothing { OnEveryRun NothingWhereRead }
 {}
 
 /// A lifetime starts at the first Start or Send after the write, and Late abandons the messages of the slots that it lists and no others.
 pub fn lifetimes_end()
     ensures once { OnEveryRun StartsOnce }
     ensures late { OnEveryRun LateAbandonsListed }
+{}
+
+/// Where nothing expires, is abandoned or skipped, two histories with the same writes, in the same modes, and the same fragments arrived read, in the end, the same ordered messages, and the same set of unordered ones.
+pub fn reads_are_settled()
+    ensures settled { ReadsAreSettled }
+{}
+
+/// The counters of a stream are the saturated sums over its writes and its reads.
+pub fn counters_count()
+    ensures sums { OnEveryRun CountersAreSums }
+{}
+
+/// The record of every history is what a receiver's queues need: fragments side by side, indexes near one another, nothing new below what was skipped; so is each state between the slots of a datagram.
+pub fn records_are_sound()
+    ensures sound { OnEveryRun RecordIsSound }
+    ensures slots { OnEveryRun SlotsComeSound }
+    ensures skips { OnEveryRun SkipsComeSound }
+{}
+
+/// What holds of every history of a link, for every first TSN, fragment size, greatest message and limit: each Send emits a pending fragment while one exists; reading until nothing is left gives exactly each whole unordered message once and, per stream in writing order, the whole ordered messages up to the last named, then the unbroken whole run; only what arrived or was skipped is acknowledged; written bytes equal pending plus in flight plus released. Beside it: slots, arrivals, lifetimes, counters, and delivery without loss.
+pub fn every_history()
+    ensures headline { Headline }
+    ensures beside { Beside }
+    ensures reliable { ReliableDelivery }
+    ensures all { PartialDelivery }
 {}

@@ -1,8 +1,8 @@
 use Rattle.sctp_model.proofs.Made.{network_is_made}
-use Rattle.sctp_model.proofs.KnownRun.{whole_is_whole}
 use Rattle.sctp_model.proofs.Arrivals.{arrived_is_new}
 use Rattle.sctp_model.proofs.Arrivals.{cumulative_is_seen}
 use Rattle.sctp_model.proofs.Arrivals.{arrivals_answered}
+use Rattle.sctp_model.proofs.KnownRun.{whole_is_whole}
 use Rattle.sctp_model.proofs.Names.{named_is_named}
 use Rattle.sctp_model.proofs.Spans.{spans_fit_always}
 use Rattle.sctp_model.proofs.laws.arrivals_are_told.Goals as goal
@@ -19,11 +19,11 @@ returns-clause-cumulative c = cumulative_is_seen
 pub returns-clause-answered : goal.returns-clause-answered
 returns-clause-answered c = arrivals_answered
 
-pub returns-clause-named : goal.returns-clause-named
-returns-clause-named c = named_is_named
-
 pub returns-clause-whole : goal.returns-clause-whole
 returns-clause-whole c = whole_is_whole
+
+pub returns-clause-named : goal.returns-clause-named
+returns-clause-named c = named_is_named
 
 pub returns-clause-spans : goal.returns-clause-spans
 returns-clause-spans c = spans_fit_always

@@ -1,5 +1,21 @@
 use Rattle.sctp_model.proofs.Written.{messages_are_writes}
+use Rattle.sctp_model.proofs.Modes.{modes_are_kept}
+use Rattle.sctp_model.proofs.Shown.{reads_show_messages}
+use Rattle.sctp_model.proofs.ReadLaws.{reads_begin_run}
+use Rattle.sctp_model.proofs.ReadLaws.{reads_begin_whole_run}
 use Rattle.sctp_model.proofs.laws.ordered_reads.Goals as goal
 
-pub returns : goal.returns
-returns c = record { writes = messages_are_writes }
+pub returns-clause-writes : goal.returns-clause-writes
+returns-clause-writes c = messages_are_writes
+
+pub returns-clause-modes : goal.returns-clause-modes
+returns-clause-modes c = modes_are_kept
+
+pub returns-clause-show : goal.returns-clause-show
+returns-clause-show c = reads_show_messages
+
+pub returns-clause-run : goal.returns-clause-run
+returns-clause-run c = reads_begin_run
+
+pub returns-clause-whole_run : goal.returns-clause-whole_run
+returns-clause-whole_run c = reads_begin_whole_run

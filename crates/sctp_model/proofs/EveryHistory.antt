@@ -1,0 +1,61 @@
+-- All laws at once.
+use Rattle.sctp_model.specs.Laws.{EachSendEmits, SlotsAreSound, ArrivalsAreTold, OrderedReads, UnorderedReads, NothingWhenExhausted, OnlyArrivedIsAcknowledged, BytesBalance, LifetimesEnd, CountersCount, Headline, Beside, ReliableDelivery, PartialDelivery}
+use Rattle.sctp_model.proofs.Acknowledged.{acknowledged_arrived, acknowledged_is_reported, sacks_say}
+use Rattle.sctp_model.proofs.Arrivals.{arrived_is_new, cumulative_is_seen, arrivals_answered}
+use Rattle.sctp_model.proofs.Bytes.{balances}
+use Rattle.sctp_model.proofs.BytesTold.{sums_are_told}
+use Rattle.sctp_model.proofs.Counted.{reads_differ, counters_are_sums}
+use Rattle.sctp_model.proofs.KnownRun.{whole_is_whole}
+use Rattle.sctp_model.proofs.Lifetimes.{starts_once, late_abandons_listed}
+use Rattle.sctp_model.proofs.Made.{network_is_made}
+use Rattle.sctp_model.proofs.Modes.{modes_are_kept}
+use Rattle.sctp_model.proofs.Names.{named_is_named}
+use Rattle.sctp_model.proofs.Network.{no_end_mark_is_sent, datagrams_stay}
+use Rattle.sctp_model.proofs.ReadLaws.{reads_begin_run, reads_begin_whole_run, reads_begin_whole, unordered_first, nothing_where_read}
+use Rattle.sctp_model.proofs.Sends.{emits_where_pending, takes_pending}
+use Rattle.sctp_model.proofs.Shown.{reads_show_messages}
+use Rattle.sctp_model.proofs.Slots.{slots_in_order, slots_follow, one_half_sent, sent_in_turn, indexes_leave_no_gap}
+use Rattle.sctp_model.proofs.Spans.{spans_fit_always}
+use Rattle.sctp_model.proofs.Written.{messages_are_writes}
+
+each-send : EachSendEmits
+each-send = (emits_where_pending, takes_pending)
+
+slots : SlotsAreSound
+slots = (slots_in_order, (slots_follow, (one_half_sent, (sent_in_turn, (indexes_leave_no_gap, (no_end_mark_is_sent, datagrams_stay))))))
+
+arrivals : ArrivalsAreTold
+arrivals = (network_is_made, (arrived_is_new, (cumulative_is_seen, (arrivals_answered, (whole_is_whole, (named_is_named, spans_fit_always))))))
+
+ordered : OrderedReads
+ordered = (messages_are_writes, (modes_are_kept, (reads_show_messages, (reads_begin_run, reads_begin_whole_run))))
+
+unordered : UnorderedReads
+unordered = (reads_begin_whole, (reads_differ, unordered_first))
+
+nothing : NothingWhenExhausted
+nothing = nothing_where_read
+
+acknowledged : OnlyArrivedIsAcknowledged
+acknowledged = (acknowledged_arrived, (acknowledged_is_reported, sacks_say))
+
+bytes : BytesBalance
+bytes = (balances, sums_are_told)
+
+lifetimes : LifetimesEnd
+lifetimes = (starts_once, late_abandons_listed)
+
+counters : CountersCount
+counters = counters_are_sums
+
+pub headline : Headline
+headline = (each-send, (ordered, (unordered, (nothing, (acknowledged, bytes)))))
+
+pub beside : Beside
+beside = (slots, (arrivals, (lifetimes, counters)))
+
+pub reliable : ReliableDelivery
+reliable = (reads_begin_whole_run, (unordered, (nothing, (acknowledged, (bytes, (arrivals, counters))))))
+
+pub partial : PartialDelivery
+partial = (headline, beside)

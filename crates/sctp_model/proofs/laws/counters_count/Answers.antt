@@ -1,0 +1,5 @@
+use Rattle.sctp_model.proofs.Counted.{counters_are_sums}
+use Rattle.sctp_model.proofs.laws.counters_count.Goals as goal
+
+pub returns : goal.returns
+returns c = record { sums = counters_are_sums }

@@ -1,0 +1,13 @@
+use Rattle.sctp_model.proofs.ReadLaws.{reads_begin_whole}
+use Rattle.sctp_model.proofs.Counted.{reads_differ}
+use Rattle.sctp_model.proofs.ReadLaws.{unordered_first}
+use Rattle.sctp_model.proofs.laws.unordered_reads.Goals as goal
+
+pub returns-clause-whole : goal.returns-clause-whole
+returns-clause-whole c = reads_begin_whole
+
+pub returns-clause-differ : goal.returns-clause-differ
+returns-clause-differ c = reads_differ
+
+pub returns-clause-first : goal.returns-clause-first
+returns-clause-first c = unordered_first
