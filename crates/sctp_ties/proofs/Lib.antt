@@ -38,3 +38,4 @@ pub mod Opened
 pub mod PendingBytes
 pub mod Fragments
 pub mod SackMade
+pub mod Lent

@@ -2,6 +2,8 @@
 use Rattle.std.specs.Prelude.{◌≡◌, ◌<◌, ◌≤◌, ◌-◌, ◌||◌, if◌then◌else◌, ℕ, Bool, ◌&&◌, not, List, length, map, nat_le, is_some, Option, Some, None}
 use Rattle.sctp_lists.specs.Kept.{numbers_from, gathered, first_of}
 use Rattle.sctp_chunks.specs.declared.chunk.chunk_payload_data.ChunkPayloadData.{ChunkPayloadData}
+use Rattle.sctp_chunks.specs.declared.chunk.chunk_payload_data.ReliabilityType.{ReliabilityType}
+use Rattle.sctp_chunks.specs.declared.chunk.chunk_payload_data.ReliabilityType.TheVariants.{Reliable}
 use Rattle.sctp_chunks.specs.PayloadData.{Data, data_of}
 use Rattle.sctp_chunks.specs.ChunkSet.{fresh}
 use Rattle.sctp_queues.specs.Payload.{Payload}
@@ -13,7 +15,7 @@ use Rattle.sctp_model.specs.World.{World}
 use Rattle.sctp_model.specs.Messages.{message_at, message_of, stream_at, messages_where, is_half_sent, sent_of, fragment_count, deadline_of}
 use Rattle.sctp_model.specs.Amounts.{is_given_up}
 use Rattle.sctp_model.specs.Contents.{data_with, chunk_at}
-use Rattle.sctp_model.specs.Queues.{FilterRecord, InFlightChunk, in_flight_at, is_cleared, filter_of}
+use Rattle.sctp_model.specs.Queues.{FilterRecord, InFlightChunk, in_flight_at, is_cleared, filter_of, PendingFragment, PendingRecord}
 use Rattle.sctp_ties.specs.Holds.{reassembly_of}
 
 -- ## What waits to be sent
@@ -100,3 +102,24 @@ pub record Tied (w : World) (sending : Outbound) (cumulative : ℕ) (seen : Payl
   pub filter : filter_held cumulative seen ≡ filter_of w
   pub reassembly : (s : ℕ) (q : ReassemblyState) → queues s ≡ Some q → q.held ≡ reassembly_of w s
   pub open_streams : (s : ℕ) → is_some (queues s) ≡ is_some (stream_at w s)
+
+-- ## What a lent outbound queue shows
+
+abbrev pub mode_of : Option (ReliabilityType × ℕ) → ReliabilityType × ℕ
+mode_of None = (Reliable, 0)
+mode_of (Some r) = r
+
+-- a chunk that waits, in the words of the record
+abbrev pub pending_shown : ChunkPayloadData → PendingFragment
+pending_shown c = record { message = c.message_id; fragment = data_of c; reliability = (mode_of c.reliability).0; value = (mode_of c.reliability).1; deadline = c.deadline }
+
+-- a chunk in flight, in the words of the record
+abbrev pub in_flight_shown : ChunkPayloadData → InFlightChunk
+in_flight_shown c = (sending_of c).chunk
+
+abbrev pub selected_shown : Option Selected → Option Bool
+selected_shown None = None
+selected_shown (Some s) = Some s.unordered
+
+abbrev pub shown : Pending → PendingRecord
+shown q = record { ordered = map pending_shown q.ordered; unordered = map pending_shown q.unordered; selected = selected_shown q.selected }
