@@ -13,6 +13,7 @@ use Rattle.sctp_lists.proofs.KeptLemmas.{any-kept, kept-same}
 use Rattle.sctp_lists.proofs.More.{fails, not_both, kept-short, those-kept}
 use Rattle.sctp_lists.proofs.Round.{tsn, tsn_differ, tsn_same}
 use Rattle.sctp_chunks.specs.declared.chunk.chunk_payload_data.ChunkPayloadData.{ChunkPayloadData}
+use Rattle.sctp_queues.specs.DataChunks
 use Rattle.sctp_queues.specs.Window
 use Rattle.sctp_queues.specs.Window.{IsWithinHalf, IsWindow, is_held}
 use Rattle.sctp_queues.specs.Payload.{front_with, without_front, past}
@@ -50,7 +51,7 @@ pub held-any : (t : ℕ) (cs : List ChunkPayloadData) → is_held cs t ≡ list_
 held-any t [] = refl
 held-any t (c ∷ cs) = step (c.tsn == t) (held-any t cs)
   where
-    step : (b : Bool) → is_some (find (Window.has_tsn t) cs) ≡ list_any (λ u. u == t) (tsns cs) → is_some (if b then Some c else find (Window.has_tsn t) cs) ≡ (b || list_any (λ u. u == t) (tsns cs))
+    step : (b : Bool) → is_some (find (DataChunks.has_tsn t) cs) ≡ list_any (λ u. u == t) (tsns cs) → is_some (if b then Some c else find (DataChunks.has_tsn t) cs) ≡ (b || list_any (λ u. u == t) (tsns cs))
     step true ih = refl
     step false ih = ih
 
