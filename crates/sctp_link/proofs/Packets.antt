@@ -3,12 +3,13 @@ use Rattle.std.proofs.Common.{◌≡◌, ◌≤◌, List, [], ◌∷◌, ◌++�
 use Rattle.std.specs.Prelude.{◌⊎◌}
 use Rattle.std.proofs.Common.{inl, inr}
 use Rattle.sctp_base.specs.declared.error.Error.{Error}
-use Rattle.sctp_base.specs.declared.error.Error.TheVariants.{ErrOutOfMemory, ErrLengthTooLarge}
+use Rattle.sctp_base.specs.declared.error.Error.TheVariants.{ErrOutOfMemory}
 use Rattle.sctp_chunks.specs.declared.chunk.chunk_kind.ChunkKind.{ChunkKind}
 use Rattle.sctp_chunks.specs.declared.chunk.chunk_payload_data.ChunkPayloadData.{ChunkPayloadData}
 use Rattle.sctp_chunks.specs.PayloadData.{Data, data_of}
 use Rattle.sctp_chunks.specs.Wire.{Wire, data_chunk}
 use Rattle.sctp_chunks.specs.Kind.{wire_of}
+use Rattle.sctp_chunks.specs.Check.{IsTextError}
 use Rattle.sctp_chunks.proofs.Lengths.{length_data_value}
 use Rattle.sctp_packets.specs.Packet.{HavePacketText}
 use Rattle.sctp_link.specs.World.{packet_of}
@@ -18,7 +19,7 @@ pub short_text : (d : Data) → length d.user_data ≤ 65519 → HavePacketText 
 short_text d short = (omega (arith, length_data_value d), tt)
 
 -- so it is refused for memory alone
-pub memory_alone : (d : Data) (e : Error) → length d.user_data ≤ 65519 → (e ≡ ErrOutOfMemory) ⊎ ((e ≡ ErrLengthTooLarge) × (HavePacketText (packet_of d) → ⊥)) → e ≡ ErrOutOfMemory
+pub memory_alone : (d : Data) (e : Error) → length d.user_data ≤ 65519 → (e ≡ ErrOutOfMemory) ⊎ (IsTextError e × (HavePacketText (packet_of d) → ⊥)) → e ≡ ErrOutOfMemory
 memory_alone d e short (inl memory) = memory
 memory_alone d e short (inr long) = absurd (long.1 (short_text d short))
 

@@ -14,6 +14,11 @@ pub unreachable-requires : goal.unreachable-requires
 unreachable-requires g c =
     some_kind c.in-Ok.packet.chunks.items (data_chunk c.requires.0) (nil_from_length c.in-Ok.packet.chunks.items (omega (arith, c.in_default.ensures.cases.0))) (ap (λ p. p.chunks) (c.in-Ok.ensures.only (packet_of c.requires.0) c.requires.1))
 
+pub into_data-requires : goal.into_data-requires
+into_data-requires g c =
+    let one : map wire_of c.in-Ok.packet.chunks.items ≡ data_chunk c.requires.0 ∷ [] = ap (λ p. p.chunks) (c.in-Ok.ensures.only (packet_of c.requires.0) c.requires.1) in
+    (c.requires.0, last_kind c.pop.new.self.items c.in-Some.kind (data_chunk c.requires.0) (ap (map wire_of) (sym c.in-Some.ensures.items) ∙ one))
+
 pub returns : goal.returns
 returns g c = λ d reads.
     let one : map wire_of c.in-Ok.packet.chunks.items ≡ data_chunk d ∷ [] = ap (λ p. p.chunks) (c.in-Ok.ensures.only (packet_of d) reads) in
