@@ -1,5 +1,5 @@
 -- Laws of `each`.
-use Rattle.std.proofs.Common.{◌≡◌, ℕ, zero, suc, ◌+◌, List, [], ◌∷◌, ◌++◌, refl, add-one, length, length-append, arith}
+use Rattle.std.proofs.Common.{◌≡◌, ℕ, zero, suc, ◌+◌, [], ◌∷◌, ◌++◌, refl, add-one, length, length-append, arith}
 use Rattle.sctp_base.specs.Each.{each}
 
 pub each_none : {A : Type 0} (f : ℕ → A) → each 0 f ≡ []

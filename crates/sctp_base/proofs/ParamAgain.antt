@@ -1,10 +1,10 @@
 -- What was read is written, and read again.
-use Rattle.std.proofs.Common.{◌≡◌, ◌≢◌, ℕ, zero, suc, ◌+◌, ◌*◌, ◌-◌, ◌/◌, ◌%◌, ◌^◌, ◌<◌, ◌≤◌, Bool, true, false, List, [], ◌∷◌, ◌++◌, length, take, drop, refl, sym, subst, ap, ◌∙◌, arith, append_assoc, length-append, inl, inr}
-use Rattle.std.specs.Prelude.{Option, Some, None, is_some, if◌then◌else◌, nat_le}
+use Rattle.std.proofs.Common.{◌≡◌, ℕ, ◌+◌, ◌*◌, ◌-◌, ◌/◌, ◌^◌, ◌<◌, Bool, true, false, List, [], ◌∷◌, ◌++◌, length, take, drop, refl, sym, ap, ◌∙◌, arith, append_assoc, length-append, inl, inr}
+use Rattle.std.specs.Prelude.{Option, Some, None, if◌then◌else◌, nat_le}
 use Rattle.std.specs.List.{flat_map}
 use Rattle.std.proofs.Math.Seq.{take-length, take-add}
 use Rattle.std.proofs.lemmas.List.{take_at, drop_at, length-take-le, length-drop, append-nil, take-append-drop}
-use Rattle.sctp_base.specs.Field.{AreBytes, be16, be32, u16_at, u32_at}
+use Rattle.sctp_base.specs.Field.{be16, be32, u16_at, u32_at}
 use Rattle.sctp_base.proofs.Fields.{length_be16, length_be32, u16_at_be16, u32_at_be32}
 use Rattle.sctp_base.proofs.Bytes.{be32_u32, u32_fits, u16_at_take, written_each, each_same}
 use Rattle.sctp_base.proofs.ParamTypes.{number_of_type_from}
@@ -17,10 +17,10 @@ use Rattle.sctp_base.specs.declared.param.param_reconfig_response.ParamReconfigR
 use Rattle.sctp_base.specs.declared.param.param_requested_hmac_algorithm.HmacAlgorithm.{HmacAlgorithm}
 use Rattle.sctp_base.specs.Each.{each}
 use Rattle.sctp_base.specs.Padding.{padding_of, padded}
-use Rattle.sctp_base.specs.ParamType.{type_number, type_from}
+use Rattle.sctp_base.specs.ParamType.{type_from}
 use Rattle.sctp_base.specs.AddressTypes.{ReadsAddressTypes, address_types_value, type_text}
-use Rattle.sctp_base.specs.ResetRequest.{ResetRequest, ReadsResetRequest, reset_request_value, reset_request_in}
-use Rattle.sctp_base.specs.ReconfigResponse.{ReadsResponse, response_value, response_in, result_from, result_number, next_tsns_in, next_tsns_text}
+use Rattle.sctp_base.specs.ResetRequest.{ResetRequest, ReadsResetRequest, reset_request_value}
+use Rattle.sctp_base.specs.ReconfigResponse.{ReadsResponse, response_value, result_from, result_number}
 use Rattle.sctp_base.specs.HmacAlgorithm.{ReadsAlgorithms, algorithms_value, algorithm_text, algorithm_from, algorithm_number, IsRequestable}
 use Rattle.sctp_base.specs.ParamFraming.{IsParam, IsParamValue, param_type_at, param_declared, param_value_at, param_framed, after_param}
 use Rattle.sctp_base.specs.ParamKind.{IsReadAs, HasReadType}

@@ -1,5 +1,5 @@
 -- Worked examples of parameters: what bytes say, and how values are written.
-use Rattle.std.proofs.Common.{◌≡◌, List, [], ◌∷◌, refl, arith}
+use Rattle.std.proofs.Common.{◌≡◌, [], ◌∷◌, refl, arith}
 use Rattle.std.specs.Prelude.{Some}
 use Rattle.sctp_base.specs.declared.param.param_type.ParamType.TheVariants.{AdaptLayerInd}
 use Rattle.sctp_base.specs.declared.param.param_reconfig_response.ReconfigResult.TheVariants.{SuccessPerformed}
@@ -7,7 +7,7 @@ use Rattle.sctp_base.specs.Field.{be16, be32, u16_at, u32_at}
 use Rattle.sctp_base.specs.ParamType.{type_from}
 use Rattle.sctp_base.specs.ParamFraming.{param_value_at}
 use Rattle.sctp_base.specs.ResetRequest.{reset_request_value}
-use Rattle.sctp_base.specs.ReconfigResponse.{result_from, result_number, response_value}
+use Rattle.sctp_base.specs.ReconfigResponse.{result_from}
 use Rattle.sctp_base.specs.Param.{outgoing_reset_request, reconfig_response, param_text}
 use Rattle.sctp_base.specs.ParamKind.{ReadsParam}
 

@@ -1,12 +1,12 @@
 -- How long the value of each kind is.
-use Rattle.std.proofs.Common.{◌≡◌, ℕ, suc, refl, ap, ◌+◌, ◌*◌, ◌-◌, ◌/◌, ◌≤◌, Bool, true, false, drop, length-take, List, [], ◌∷◌, length, ◌++◌, arith, length-append}
+use Rattle.std.proofs.Common.{◌≡◌, ℕ, suc, refl, ap, ◌+◌, ◌*◌, ◌-◌, ◌/◌, ◌≤◌, Bool, true, false, drop, length-take, List, [], ◌∷◌, length, arith, length-append}
 use Rattle.std.specs.Prelude.{Option, Some, None, is_some, if◌then◌else◌, nat_le}
 use borrow.Author.Tests.{leb-true}
 use Rattle.std.specs.List.{flat_map}
 use Rattle.std.proofs.lemmas.List.Concat.{flat_map-cons}
 use Rattle.sctp_base.specs.Each.{each}
 use Rattle.sctp_base.proofs.Each.{length_each}
-use Rattle.sctp_base.specs.Field.{be16, be32, u16_at, u32_at}
+use Rattle.sctp_base.specs.Field.{be16, u16_at, u32_at}
 use Rattle.sctp_base.proofs.Fields.{length_be16, length_be32}
 use Rattle.sctp_base.specs.declared.util.ChunkType.{ChunkType}
 use Rattle.sctp_base.specs.ParamType.{type_from}

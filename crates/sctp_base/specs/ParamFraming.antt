@@ -1,5 +1,5 @@
 -- How a parameter is framed: type, length, value (RFC 4960 3.2.1).
-use Rattle.std.specs.Prelude.{◌≡◌, ℕ, ◌+◌, ◌^◌, ◌<◌, ◌≤◌, List, ◌++◌, length, drop, slice_range}
+use Rattle.std.specs.Prelude.{ℕ, ◌+◌, ◌^◌, ◌<◌, ◌≤◌, List, ◌++◌, length, drop, slice_range}
 use Rattle.sctp_base.specs.Field.{be16, u16_at, AreBytes}
 use Rattle.sctp_base.specs.Padding.{padded}
 

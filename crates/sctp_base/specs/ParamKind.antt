@@ -7,7 +7,7 @@ use Rattle.sctp_base.specs.declared.param.param_kind.ParamKind.TheVariants.{Hear
 use Rattle.sctp_base.specs.ParamFraming.{param_type_at}
 use Rattle.sctp_base.specs.ParamFault.{ParamHeaderFault, AddressTypesFault, ResetRequestFault, ResponseFault, AlgorithmsFault}
 use Rattle.sctp_base.specs.ResetRequest.{reset_request_of}
-use Rattle.sctp_base.specs.Param.{Parameter, heartbeat_info, state_cookie, supported_address_types, outgoing_reset_request, reconfig_response, random, chunk_list, requested_hmac_algorithm, supported_extensions, forward_tsn_supported, unknown_param, Reads, HasOwnType, param_number_of}
+use Rattle.sctp_base.specs.Param.{Parameter, heartbeat_info, state_cookie, supported_address_types, outgoing_reset_request, reconfig_response, random, chunk_list, requested_hmac_algorithm, supported_extensions, forward_tsn_supported, unknown_param, Reads, HasOwnType}
 
 -- the wire part of each kind
 abbrev pub parameter_of : ParamKind → Parameter
