@@ -1,10 +1,11 @@
 use crate::packet::Packet;
-use crate::tests::{ZERO, packet_bytes, packet_of, refusal};
+use crate::tests::{packet_of, read_chunks, refusal, rewritten, written_behind};
 use bytes::{Bytes, BytesMut};
 use sctp_base::error::Error;
 use sctp_base::param::param_forward_tsn_supported::ParamForwardTsnSupported;
 use sctp_base::param::param_heartbeat_info::ParamHeartbeatInfo;
 use sctp_base::param::param_kind::ParamKind;
+use sctp_base::util::{CT_ABORT, CT_FORWARD_TSN, CT_I_FORWARD_TSN, CT_SACK, ChunkType};
 use sctp_chunks::chunk::Chunk;
 use sctp_chunks::chunk::chunk_abort::ChunkAbort;
 use sctp_chunks::chunk::chunk_forward_tsn::{ChunkForwardTsn, ChunkForwardTsnStream};
@@ -18,16 +19,19 @@ use sctp_chunks::chunk::error_cause::{ErrorCause, USER_INITIATED_ABORT};
 use std::alloc::Global;
 use std::test::Fail;
 
-/// Reads a packet of these chunks; answers how it is printed chunk by chunk and how it is written.
-fn again(alloc: Global, chunks: &[u8]) -> Result<(String, Bytes), Fail> {
-    let packet = Packet::unmarshal(alloc, &packet_bytes(alloc, chunks)?, &ZERO)?;
-    let mut printed = String::new(alloc);
+// The packet's chunks as they print.
+fn joined(alloc: Global, packet: &Packet) -> Result<String, Fail> {
+    let mut text = String::new(alloc);
     for chunk in &packet.chunks {
-        printed.push_str(&format!(in alloc; "{chunk};")?)?;
+        text.push_str(&format!(in alloc; "{chunk};")?)?;
     }
-    let mut written = packet.marshal(alloc, &ZERO)?;
-    written.advance(12.min(written.len()));
-    Ok((printed, written))
+    Ok(text)
+}
+
+// Reads a packet of these chunks, and prints them.
+fn printed(alloc: Global, chunks: &[u8]) -> Result<String, Fail> {
+    let packet = read_chunks(alloc, chunks)?;
+    joined(alloc, &packet)
 }
 
 // Each row: chunks, how they print, and how they are written where that differs.
@@ -93,60 +97,113 @@ const ROWS: [(&[u8], &str, Option<&[u8]>); 14] = [
 ];
 
 #[test]
-fn kinds_read_and_write(rt: HostRuntime) -> Result<(), Fail> {
+fn kinds_print(rt: HostRuntime) -> Result<(), Fail> {
     let alloc = rt.alloc();
-    for (chunks, printed, written) in ROWS {
-        let (text, bytes) = again(alloc, chunks)?;
-        assert_eq!(rt; text.as_str(), printed);
-        assert_eq!(rt; bytes.as_slice(), written.unwrap_or(chunks));
+    for (chunks, text, _) in ROWS {
+        assert!(rt; printed(alloc, chunks)?.as_str() == text, "not {text}");
     }
     Ok(())
 }
 
 #[test]
-fn kinds_refuse(rt: HostRuntime) -> Result<(), Fail> {
+fn kinds_are_written(rt: HostRuntime) -> Result<(), Fail> {
     let alloc = rt.alloc();
-    let rows: [(&[u8], Error); 13] = [
-        (
-            b"\x03\0\0\x10\0\0\0\x09\0\0\0\0\0\0\xff\xff",
-            Error::ErrSackSizeNotLargeEnoughInfo,
-        ),
-        (
-            b"\x03\0\0\x10\0\0\0\x09\0\0\0\0\0\x01\0\0",
-            Error::ErrSackSizeNotLargeEnoughInfo,
-        ),
-        (b"\xc0\0\0\x0a\0\0\0\x0a\0\x01\0\0", Error::ErrChunkTooShort),
-        (b"\x04\0\0\x08\0\x07\0\x04", Error::ErrHeartbeatParam),
-        (b"\x04\0\0\x08\0\x01\0\x05", Error::ErrParamHeaderTooShort),
-        (b"\x05\0\0\x04", Error::ErrHeartbeatNotLongEnoughInfo),
-        (b"\x06\0\0\x08\0\x0c\0\x03", Error::ErrErrorCauseTooSmall),
-        (b"\x06\0\0\x08\0\x0c\0\x05", Error::ErrErrorCauseTooSmall),
-        (
-            b"\x07\0\0\x09\0\0\0\x0a\0\0\0\0",
-            Error::ErrInvalidChunkSize,
-        ),
-        (b"\x0a\0\0\x05\xff", Error::ErrParseSctpChunkNotEnoughData),
-        (
-            b"\x0a\0\0\x05\xff\0\0\x01",
-            Error::ErrChunkHeaderPaddingNonZero,
-        ),
-        (b"\x82\0\0\x04", Error::ErrChunkTooShort),
-        (b"\x01\0\0\x04", Error::ErrChunkValueNotLongEnough),
-    ];
-    for (chunks, expected) in rows {
-        assert!(rt; refusal(alloc, chunks)? == Some(expected));
+    for (chunks, text, written) in ROWS {
+        let expected = written.unwrap_or(chunks);
+        assert!(rt;
+            rewritten(alloc, chunks)?.as_slice() == expected,
+            "at {text}"
+        );
     }
     Ok(())
 }
 
-/// Whether the packet of this chunk is written, and, where it is not, that the buffer stays.
-fn is_written(alloc: Global, chunk: ChunkKind) -> Result<bool, Fail> {
-    let mut buf = BytesMut::new(alloc);
-    buf.extend_from_slice(b"abc")?;
-    match packet_of(alloc, chunk)?.marshal_to(&mut buf, &ZERO) {
-        Ok(length) => Ok(length == buf.len()),
-        Err(Error::ErrLengthTooLarge) if buf.as_slice() == b"abc".as_slice() => Ok(false),
-        Err(_) => Err(Fail::from("another refusal, or a changed buffer")),
+const REFUSED: [(&[u8], Error); 20] = [
+    (b"\0\x03\0", Error::ErrParseSctpChunkNotEnoughData),
+    (b"\0\x03\0\x03", Error::ErrChunkHeaderInvalidLength),
+    (
+        b"\0\x03\0\x0f\0\0\0\x0a\0\x01\0\0\0\0\0\0",
+        Error::ErrChunkPayloadSmall,
+    ),
+    (
+        b"\0\x03\0\x14\0\0\0\x0a",
+        Error::ErrChunkHeaderNotEnoughSpace,
+    ),
+    (
+        b"\0\x03\0\x13\0\0\0\x0a\0\x01\0\0\0\0\0\x35abc\x01",
+        Error::ErrChunkHeaderPaddingNonZero,
+    ),
+    (
+        b"\0\x03\0\x13\0\0\0\x0a\0\x01\0\0\0\0\0\x35abc",
+        Error::ErrParseSctpChunkNotEnoughData,
+    ),
+    (
+        b"\x03\0\0\x10\0\0\0\x09\0\0\0\0\xff\xff\xff\xff",
+        Error::ErrSackSizeNotLargeEnoughInfo,
+    ),
+    (
+        b"\x03\0\0\x10\0\0\0\x09\0\0\0\0\0\0\xff\xff",
+        Error::ErrSackSizeNotLargeEnoughInfo,
+    ),
+    (
+        b"\x03\0\0\x10\0\0\0\x09\0\0\0\0\0\x01\0\0",
+        Error::ErrSackSizeNotLargeEnoughInfo,
+    ),
+    (b"\xc0\0\0\x0a\0\0\0\x0a\0\x01\0\0", Error::ErrChunkTooShort),
+    (b"\x04\0\0\x08\0\x07\0\x04", Error::ErrHeartbeatParam),
+    (b"\x04\0\0\x08\0\x01\0\x05", Error::ErrParamHeaderTooShort),
+    (b"\x05\0\0\x04", Error::ErrHeartbeatNotLongEnoughInfo),
+    (b"\x06\0\0\x08\0\x0c\0\x03", Error::ErrErrorCauseTooSmall),
+    (b"\x06\0\0\x08\0\x0c\0\x05", Error::ErrErrorCauseTooSmall),
+    (
+        b"\x07\0\0\x09\0\0\0\x0a\0\0\0\0",
+        Error::ErrInvalidChunkSize,
+    ),
+    (b"\x0a\0\0\x05\xff", Error::ErrParseSctpChunkNotEnoughData),
+    (
+        b"\x0a\0\0\x05\xff\0\0\x01",
+        Error::ErrChunkHeaderPaddingNonZero,
+    ),
+    (b"\x82\0\0\x04", Error::ErrChunkTooShort),
+    (b"\x01\0\0\x04", Error::ErrChunkValueNotLongEnough),
+];
+
+#[test]
+fn kinds_refuse(rt: HostRuntime) -> Result<(), Fail> {
+    let alloc = rt.alloc();
+    for (chunks, expected) in REFUSED {
+        assert!(rt;
+            refusal(alloc, chunks)? == Some(expected),
+            "no {expected:?}"
+        );
+    }
+    Ok(())
+}
+
+// Each other number has no kind.
+#[test]
+fn numbers_of_kinds(rt: HostRuntime) -> Result<(), Fail> {
+    for number in 0..=255 {
+        let refused = refusal(rt.alloc(), &[number, 0, 0, 4])?;
+        let has_kind = matches!(number, 0..=11 | 14 | 130 | 192 | 194);
+        let is_unknown = refused == Some(Error::ErrUnmarshalUnknownChunkType);
+        assert!(rt; has_kind != is_unknown, "at {number}");
+    }
+    Ok(())
+}
+
+// Whether the packet of this chunk is written; nothing where it is neither written nor refused for its length.
+fn is_written(alloc: Global, chunk: ChunkKind) -> Result<Option<bool>, Error> {
+    let packet = packet_of(alloc, chunk)?;
+    let (answer, buf) = written_behind(alloc, &packet)?;
+    Ok(outcome(answer, buf.as_slice()))
+}
+
+fn outcome(answer: Result<usize, Error>, buf: &[u8]) -> Option<bool> {
+    match answer {
+        Ok(length) if length == buf.len() => Some(true),
+        Err(Error::ErrLengthTooLarge) if buf == b"abc".as_slice() => Some(false),
+        _ => None,
     }
 }
 
@@ -194,9 +251,7 @@ fn i_forward_tsn(alloc: Global, entries: usize) -> Result<ChunkKind, Error> {
 
 fn cause(alloc: Global, length: usize) -> Result<ErrorCause, Error> {
     let mut raw = BytesMut::new(alloc);
-    for _ in 0..length {
-        raw.extend_from_slice(&[7])?;
-    }
+    raw.resize(length, 7)?;
     Ok(ErrorCause {
         code: USER_INITIATED_ABORT,
         raw: raw.freeze()?,
@@ -209,51 +264,70 @@ fn abort(alloc: Global, length: usize) -> Result<ChunkKind, Error> {
     Ok(ChunkKind::Abort(ChunkAbort { error_causes }))
 }
 
+// A chunk of this type with so many entries, or for ABORT bytes in its cause.
+fn filled(alloc: Global, typ: ChunkType, count: usize) -> Result<ChunkKind, Error> {
+    match typ {
+        CT_SACK => sack(alloc, count),
+        CT_FORWARD_TSN => forward_tsn(alloc, count),
+        CT_I_FORWARD_TSN => i_forward_tsn(alloc, count),
+        _ => abort(alloc, count),
+    }
+}
+
 #[test]
 fn longest_lists(rt: HostRuntime) -> Result<(), Fail> {
     let alloc = rt.alloc();
-    assert!(rt; !is_written(alloc, sack(alloc, 16_380)?)?);
-    assert!(rt; is_written(alloc, sack(alloc, 16_379)?)?);
-    assert!(rt; !is_written(alloc, forward_tsn(alloc, 16_382)?)?);
-    assert!(rt; is_written(alloc, forward_tsn(alloc, 16_381)?)?);
-    assert!(rt; !is_written(alloc, i_forward_tsn(alloc, 8_191)?)?);
-    assert!(rt; is_written(alloc, i_forward_tsn(alloc, 8_190)?)?);
-    assert!(rt; !is_written(alloc, abort(alloc, 65_528)?)?);
-    assert!(rt; is_written(alloc, abort(alloc, 65_527)?)?);
+    let rows = [
+        (CT_SACK, 16_379, true),
+        (CT_SACK, 16_380, false),
+        (CT_FORWARD_TSN, 16_381, true),
+        (CT_FORWARD_TSN, 16_382, false),
+        (CT_I_FORWARD_TSN, 8_190, true),
+        (CT_I_FORWARD_TSN, 8_191, false),
+        (CT_ABORT, 65_527, true),
+        (CT_ABORT, 65_528, false),
+    ];
+    for (typ, count, fits) in rows {
+        let chunk = filled(alloc, typ, count)?;
+        assert!(rt; is_written(alloc, chunk)? == Some(fits), "{count} in {typ}");
+    }
     Ok(())
 }
 
 #[test]
-fn causes_and_pairs_alone(rt: HostRuntime) -> Result<(), Fail> {
+fn causes_alone(rt: HostRuntime) -> Result<(), Fail> {
     let alloc = rt.alloc();
-    let refused = cause(alloc, 65_532)?.marshal(alloc);
-    assert!(rt; matches!(refused, Err(Error::ErrLengthTooLarge)));
-    assert_eq!(rt; cause(alloc, 65_531)?.marshal(alloc)?.len(), 65_535);
-    let small = cause(alloc, 1)?;
-    assert_eq!(rt; small.length(), 5);
-    assert!(rt; small.error_cause_code() == USER_INITIATED_ABORT);
-    let raw = small.marshal(alloc)?;
-    assert_eq!(rt; raw.as_slice(), b"\0\x0c\0\x05\x07".as_slice());
-    assert_eq!(rt; ErrorCause::unmarshal(&raw)?.raw.as_slice(), [7].as_slice());
-    let pair = ChunkForwardTsnStream::unmarshal(&Bytes::copy_from_slice(
-        alloc,
-        b"\0\x01\0\x02\x03",
-    )?)?;
-    assert_eq!(rt; pair.value_length(), 4);
-    assert_eq!(rt; pair.marshal(alloc)?.as_slice(), b"\0\x01\0\x02".as_slice());
-    let short = ChunkForwardTsnStream::unmarshal(&Bytes::copy_from_slice(alloc, b"\0\x01\0")?);
-    assert!(rt; matches!(short, Err(Error::ErrChunkTooShort)));
+    let refused = cause(alloc, 65_532)?.marshal(alloc).err();
+    assert!(rt; refused == Some(Error::ErrLengthTooLarge));
+    let longest = cause(alloc, 65_531)?.marshal(alloc)?.len();
+    assert!(rt; longest == 65_535);
+    let raw = Bytes::copy_from_slice(alloc, b"\0\x0c\0\x05\x07")?;
+    let small = ErrorCause::unmarshal(&raw)?;
+    assert!(rt; small.length() == 5 && small.error_cause_code() == USER_INITIATED_ABORT);
+    assert!(rt; small.raw.as_slice() == [7].as_slice());
+    let written = small.marshal(alloc)?;
+    assert!(rt; written.as_slice() == raw.as_slice());
     Ok(())
 }
 
+#[test]
+fn pairs_alone(rt: HostRuntime) -> Result<(), Fail> {
+    let alloc = rt.alloc();
+    let raw = Bytes::copy_from_slice(alloc, b"\0\x01\0\x02\x03")?;
+    let pair = ChunkForwardTsnStream::unmarshal(&raw)?;
+    assert!(rt; pair.value_length() == 4);
+    let written = pair.marshal(alloc)?;
+    assert!(rt; written.as_slice() == b"\0\x01\0\x02".as_slice());
+    let short = ChunkForwardTsnStream::unmarshal(&raw.slice(..3)?).err();
+    assert!(rt; short == Some(Error::ErrChunkTooShort));
+    Ok(())
+}
+
+// How a HEARTBEAT-ACK of these is refused; nothing also where the buffer was not left as it was.
 fn heartbeat_ack(alloc: Global, params: Vec<ParamKind>) -> Result<Option<Error>, Error> {
-    let mut buf = BytesMut::new(alloc);
-    buf.extend_from_slice(b"abc")?;
+    let mut buf = BytesMut::copy_from_slice(alloc, b"abc")?;
     let refused = ChunkHeartbeatAck { params }.marshal_to(&mut buf).err();
-    if refused.is_some() && buf.as_slice() != b"abc".as_slice() {
-        return Err(Error::ErrShortBuffer);
-    }
-    Ok(refused)
+    Ok(refused.filter(|_| buf.as_slice() == b"abc".as_slice()))
 }
 
 fn info(alloc: Global, length: usize) -> Result<ParamKind, Error> {
@@ -262,24 +336,35 @@ fn info(alloc: Global, length: usize) -> Result<ParamKind, Error> {
     }))
 }
 
+fn infos(alloc: Global, count: usize, length: usize) -> Result<Vec<ParamKind>, Error> {
+    let mut params = Vec::new(alloc);
+    for _ in 0..count {
+        params.push(info(alloc, length)?)?;
+    }
+    Ok(params)
+}
+
 #[test]
 fn heartbeat_acks_of_one_info(rt: HostRuntime) -> Result<(), Fail> {
     let alloc = rt.alloc();
-    let none = heartbeat_ack(alloc, Vec::new(alloc))?;
-    assert!(rt; none == Some(Error::ErrHeartbeatAckParams));
-    let mut two = Vec::new(alloc);
-    two.push(info(alloc, 1)?)?;
-    two.push(info(alloc, 1)?)?;
-    assert!(rt; heartbeat_ack(alloc, two)? == Some(Error::ErrHeartbeatAckParams));
+    let rows = [
+        (0, 1, Some(Error::ErrHeartbeatAckParams)),
+        (2, 1, Some(Error::ErrHeartbeatAckParams)),
+        (1, 1, None),
+        (1, 65_527, None),
+        (1, 65_528, Some(Error::ErrLengthTooLarge)),
+    ];
+    for (count, length, expected) in rows {
+        let params = infos(alloc, count, length)?;
+        assert!(rt;
+            heartbeat_ack(alloc, params)? == expected,
+            "{count} of {length}"
+        );
+    }
     let mut other = Vec::new(alloc);
     other.push(ParamKind::ForwardTsnSupported(ParamForwardTsnSupported))?;
-    assert!(rt; heartbeat_ack(alloc, other)? == Some(Error::ErrHeartbeatAckNotHeartbeatInfo));
-    let mut one = Vec::new(alloc);
-    one.push(info(alloc, 1)?)?;
-    assert!(rt; heartbeat_ack(alloc, one)? == None);
-    let mut long = Vec::new(alloc);
-    long.push(info(alloc, 65_532)?)?;
-    assert!(rt; heartbeat_ack(alloc, long)? == Some(Error::ErrLengthTooLarge));
+    let refused = heartbeat_ack(alloc, other)?;
+    assert!(rt; refused == Some(Error::ErrHeartbeatAckNotHeartbeatInfo));
     Ok(())
 }
 
@@ -318,18 +403,23 @@ fn inits_checked(rt: HostRuntime) -> Result<(), Fail> {
     Ok(())
 }
 
+// How the chunk is checked, and how it is refused to be written.
+fn refusals_of(alloc: Global, chunk: &ChunkReconfig) -> (Option<Error>, Option<Error>) {
+    (chunk.check().err(), chunk.marshal(alloc).err())
+}
+
 #[test]
 fn reconfig_without_first(rt: HostRuntime) -> Result<(), Fail> {
-    let alloc = rt.alloc();
     let chunk = ChunkReconfig {
         param_a: None,
         param_b: None,
     };
-    assert!(rt; chunk.check().err() == Some(Error::ErrChunkReconfigInvalidParamA));
-    assert!(rt; chunk.marshal(alloc).err() == Some(Error::ErrChunkReconfigInvalidParamA));
+    let expected = Some(Error::ErrChunkReconfigInvalidParamA);
+    assert!(rt; refusals_of(rt.alloc(), &chunk) == (expected, expected));
     Ok(())
 }
 
+// The first parameter is padded where a second one follows.
 #[test]
 fn reconfig_with_second(rt: HostRuntime) -> Result<(), Fail> {
     let alloc = rt.alloc();
@@ -337,9 +427,10 @@ fn reconfig_with_second(rt: HostRuntime) -> Result<(), Fail> {
         param_a: Some(info(alloc, 1)?),
         param_b: Some(info(alloc, 2)?),
     };
-    assert!(rt; chunk.check().err() == Some(Error::ErrChunkReconfigInvalidParamCombination));
+    let expected = Some(Error::ErrChunkReconfigInvalidParamCombination);
+    assert!(rt; refusals_of(alloc, &chunk) == (expected, None));
     let written = chunk.try_clone(alloc)?.marshal(alloc)?;
     let text = b"\x82\0\0\x12\0\x01\0\x05\x07\0\0\0\0\x01\0\x06\x07\x07";
-    assert_eq!(rt; written.as_slice(), text.as_slice());
+    assert!(rt; written.as_slice() == text.as_slice());
     Ok(())
 }

@@ -52,15 +52,36 @@ pub fn packet_bytes(alloc: Global, chunks: &[u8]) -> Result<Bytes, Error> {
     Ok(buf.freeze()?)
 }
 
+/// Reads a packet of these chunks.
+pub fn read_chunks(alloc: Global, chunks: &[u8]) -> Result<Packet, Error> {
+    Packet::unmarshal(alloc, &packet_bytes(alloc, chunks)?, &ZERO)
+}
+
+/// How a packet of these chunks is refused.
 pub fn refusal(alloc: Global, chunks: &[u8]) -> Result<Option<Error>, Error> {
     Ok(Packet::unmarshal(alloc, &packet_bytes(alloc, chunks)?, &ZERO).err())
 }
 
+/// Reads a packet of these chunks, and gives the chunks as they are written.
+pub fn rewritten(alloc: Global, chunks: &[u8]) -> Result<Bytes, Error> {
+    let mut written = read_chunks(alloc, chunks)?.marshal(alloc, &ZERO)?;
+    written.advance(HEAD.len().min(written.len()));
+    Ok(written)
+}
+
+/// Writes the packet behind "abc". Gives the answer, and the buffer after it.
+pub fn written_behind(
+    alloc: Global,
+    packet: &Packet,
+) -> Result<(Result<usize, Error>, BytesMut), Error> {
+    let mut buf = BytesMut::copy_from_slice(alloc, b"abc")?;
+    let answer = packet.marshal_to(&mut buf, &ZERO);
+    Ok((answer, buf))
+}
+
 fn data(alloc: Global, length: usize) -> Result<ChunkPayloadData, Error> {
     let mut user_data = BytesMut::new(alloc);
-    for _ in 0..length {
-        user_data.extend_from_slice(&[7])?;
-    }
+    user_data.resize(length, 7)?;
     Ok(ChunkPayloadData {
         unordered: false,
         beginning_fragment: true,
@@ -115,146 +136,160 @@ fn serial_numbers(rt: HostRuntime) -> Result<(), Fail> {
     Ok(())
 }
 
+// How these bytes are refused as a packet.
+fn refusal_of(alloc: Global, raw: &[u8], checksum: Answer) -> Result<Option<Error>, Error> {
+    Ok(Packet::unmarshal(alloc, &Bytes::copy_from_slice(alloc, raw)?, &checksum).err())
+}
+
 #[test]
 fn bare_header(rt: HostRuntime) -> Result<(), Fail> {
     let alloc = rt.alloc();
-    let empty = Packet::unmarshal(alloc, &Bytes::new(), &ZERO);
-    assert!(rt; matches!(empty, Err(Error::ErrPacketRawTooSmall)));
     let header = [0x13, 0x88, 0x13, 0x88, 0, 0, 0, 0, 0x06, 0xa9, 0, 0xe1];
-    let raw = Bytes::copy_from_slice(alloc, &header)?;
     let field = Answer(0xe100a906);
-    let packet = Packet::unmarshal(alloc, &raw, &field)?;
-    assert_eq!(rt; packet.common_header.source_port, 5000);
-    assert_eq!(rt; packet.common_header.destination_port, 5000);
-    assert_eq!(rt; packet.common_header.verification_tag, 0);
-    assert!(rt; packet.chunks.is_empty());
     assert_eq!(rt;
-        packet.marshal(alloc, &field)?.as_slice(),
-        header.as_slice()
+        refusal_of(alloc, b"", ZERO)?,
+        Some(Error::ErrPacketRawTooSmall)
     );
-    let other = Packet::unmarshal(alloc, &raw, &ZERO);
-    assert!(rt; matches!(other, Err(Error::ErrChecksumMismatch)));
+    assert_eq!(rt;
+        refusal_of(alloc, &header, ZERO)?,
+        Some(Error::ErrChecksumMismatch)
+    );
+    let packet = Packet::unmarshal(alloc, &Bytes::copy_from_slice(alloc, &header)?, &field)?;
+    let expected = CommonHeader {
+        source_port: 5000,
+        destination_port: 5000,
+        verification_tag: 0,
+    };
+    assert!(rt; packet.common_header == expected && packet.chunks.is_empty());
+    let written = packet.marshal(alloc, &field)?;
+    assert!(rt; written.as_slice() == header.as_slice());
     Ok(())
+}
+
+// The packet's chunk, where it is one of user data.
+fn only_data(packet: &Packet) -> Option<&ChunkPayloadData> {
+    match packet.chunks.as_slice() {
+        [ChunkKind::PayloadData(c)] => Some(c),
+        _ => None,
+    }
+}
+
+// Whether the chunk is the one of `WHOLE`.
+fn is_whole(c: &ChunkPayloadData) -> bool {
+    c.tsn == 10
+        && c.stream_identifier == 1
+        && c.stream_sequence_number == 0
+        && c.payload_type == PayloadProtocolIdentifier::Binary
+        && c.beginning_fragment
+        && c.ending_fragment
+        && !c.unordered
+        && !c.immediate_sack
+        && c.user_data.as_slice() == b"abc".as_slice()
 }
 
 #[test]
 fn whole_message(rt: HostRuntime) -> Result<(), Fail> {
     let alloc = rt.alloc();
-    let raw = packet_bytes(alloc, &WHOLE)?;
-    let packet = Packet::unmarshal(alloc, &raw, &ZERO)?;
-    assert_eq!(rt; packet.chunks.len(), 1);
-    for chunk in &packet.chunks {
-        let ChunkKind::PayloadData(c) = chunk else {
-            return Err(Fail::from("not user data"));
-        };
-        assert_eq!(rt; c.tsn, 10);
-        assert_eq!(rt; c.stream_identifier, 1);
-        assert_eq!(rt; c.stream_sequence_number, 0);
-        assert!(rt; c.payload_type == PayloadProtocolIdentifier::Binary);
-        assert!(rt; c.beginning_fragment && c.ending_fragment);
-        assert!(rt; !c.unordered && !c.immediate_sack);
-        assert_eq!(rt; c.user_data.as_slice(), b"abc".as_slice());
-        let copy = c.try_clone()?;
-        assert_eq!(rt; copy.user_data.as_slice(), b"abc".as_slice());
-    }
-    assert_eq!(rt; packet.marshal(alloc, &ZERO)?.as_slice(), raw.as_slice());
+    let packet = read_chunks(alloc, &WHOLE)?;
+    assert!(rt; only_data(&packet).is_some_and(|c| is_whole(c)));
+    assert!(rt; rewritten(alloc, &WHOLE)?.as_slice() == WHOLE.as_slice());
     Ok(())
 }
 
-// The flags of a first fragment, a middle one and a last one; a TSN that is about to wrap.
+// A fragment with these flags, and a TSN that is about to wrap.
+fn fragment(flags: u8) -> [u8; 20] {
+    let mut chunk = WHOLE;
+    chunk[1] = flags;
+    chunk[4..8].copy_from_slice(&[0xff, 0xff, 0xff, 0xfe]);
+    chunk
+}
+
+// TSN, and whether the fragment is the first and the last one.
+fn ends(alloc: Global, chunk: &[u8]) -> Result<Option<(u32, bool, bool)>, Error> {
+    let packet = read_chunks(alloc, chunk)?;
+    Ok(only_data(&packet).map(|c| (c.tsn, c.beginning_fragment, c.ending_fragment)))
+}
+
 #[test]
 fn fragments(rt: HostRuntime) -> Result<(), Fail> {
     let alloc = rt.alloc();
     for (flags, first, last) in [(2, true, false), (0, false, false), (1, false, true)] {
-        let mut chunk = WHOLE;
-        chunk[1] = flags;
-        chunk[4..8].copy_from_slice(&[0xff, 0xff, 0xff, 0xfe]);
-        let raw = packet_bytes(alloc, &chunk)?;
-        let packet = Packet::unmarshal(alloc, &raw, &ZERO)?;
-        for chunk in &packet.chunks {
-            let ChunkKind::PayloadData(c) = chunk else {
-                return Err(Fail::from("not user data"));
-            };
-            assert_eq!(rt; c.tsn, 4294967294);
-            assert_eq!(rt; c.beginning_fragment, first);
-            assert_eq!(rt; c.ending_fragment, last);
-        }
-        assert_eq!(rt; packet.marshal(alloc, &ZERO)?.as_slice(), raw.as_slice());
+        let chunk = fragment(flags);
+        assert!(rt; ends(alloc, &chunk)? == Some((4294967294, first, last)));
+        assert!(rt; rewritten(alloc, &chunk)?.as_slice() == chunk.as_slice());
     }
     Ok(())
 }
 
-#[test]
-fn longest_chunk(rt: HostRuntime) -> Result<(), Fail> {
-    let alloc = rt.alloc();
-    let mut buf = BytesMut::new(alloc);
-    buf.extend_from_slice(b"abc")?;
-    let long = packet_of(alloc, ChunkKind::PayloadData(data(alloc, 65_520)?))?;
-    let refused = long.marshal_to(&mut buf, &ZERO);
-    assert!(rt; matches!(refused, Err(Error::ErrLengthTooLarge)));
-    assert_eq!(rt; buf.as_slice(), b"abc".as_slice());
-    let longest = packet_of(alloc, ChunkKind::PayloadData(data(alloc, 65_519)?))?;
-    let length = longest.marshal_to(&mut buf, &ZERO)?;
-    assert_eq!(rt; length, 3 + 12 + 65_536);
-    assert_eq!(rt; buf.len(), length);
-    let front = b"abc\x13\x88\x13\x88\0\0\0\x01\0\0\0\0\0\x03\xff\xff";
-    assert!(rt; buf.as_slice().starts_with(front));
-    Ok(())
+fn long(alloc: Global, length: usize) -> Result<Packet, Error> {
+    packet_of(alloc, ChunkKind::PayloadData(data(alloc, length)?))
 }
 
 #[test]
-pub fn refusals(rt: HostRuntime) -> Result<(), Fail> {
+fn too_long_a_chunk(rt: HostRuntime) -> Result<(), Fail> {
     let alloc = rt.alloc();
-    let short = refusal(alloc, &[0, 3, 0, 3])?;
-    assert!(rt; matches!(short, Some(Error::ErrChunkHeaderInvalidLength)));
-    let small = refusal(
-        alloc,
-        &[0, 3, 0, 0x0f, 0, 0, 0, 0x0a, 0, 1, 0, 0, 0, 0, 0, 0],
-    )?;
-    assert!(rt; matches!(small, Some(Error::ErrChunkPayloadSmall)));
-    let past = refusal(alloc, &[0, 3, 0, 0x14, 0, 0, 0, 0x0a])?;
-    assert!(rt; matches!(past, Some(Error::ErrChunkHeaderNotEnoughSpace)));
-    let mut padded = WHOLE;
-    padded[19] = 1;
-    let dirty = refusal(alloc, &padded)?;
-    assert!(rt; matches!(dirty, Some(Error::ErrChunkHeaderPaddingNonZero)));
-    let unpadded = refusal(alloc, &WHOLE[..19])?;
-    assert!(rt; matches!(unpadded, Some(Error::ErrParseSctpChunkNotEnoughData)));
-    let rest = refusal(alloc, &[0, 3, 0])?;
-    assert!(rt; matches!(rest, Some(Error::ErrParseSctpChunkNotEnoughData)));
-    let reduced = refusal(alloc, &[13, 0, 0, 4])?;
-    assert!(rt; matches!(reduced, Some(Error::ErrUnmarshalUnknownChunkType)));
+    let (answer, buf) = written_behind(alloc, &long(alloc, 65_520)?)?;
+    assert!(rt; answer == Err(Error::ErrLengthTooLarge));
+    assert!(rt; buf.as_slice() == b"abc".as_slice());
     Ok(())
+}
+
+// It is read also where another chunk follows it.
+#[test]
+fn longest_chunk(rt: HostRuntime) -> Result<(), Fail> {
+    let alloc = rt.alloc();
+    let (answer, mut buf) = written_behind(alloc, &long(alloc, 65_519)?)?;
+    assert!(rt; answer == Ok(3 + 12 + 65_536));
+    assert!(rt; buf.len() == 3 + 12 + 65_536);
+    let front = b"abc\x13\x88\x13\x88\0\0\0\x01\0\0\0\0\0\x03\xff\xff";
+    assert!(rt; buf.as_slice().starts_with(front));
+    buf.extend_from_slice(b"\x0b\0\0\x04")?;
+    buf.advance(3);
+    let packet = Packet::unmarshal(alloc, &buf.freeze()?, &ZERO)?;
+    assert!(rt; lengths(&packet) == Some((65_519, true)));
+    Ok(())
+}
+
+// The length of the first chunk's user data, and whether a COOKIE-ACK follows.
+fn lengths(packet: &Packet) -> Option<(usize, bool)> {
+    match packet.chunks.as_slice() {
+        [ChunkKind::PayloadData(c), ChunkKind::CookieAck(_)] => Some((c.user_data.len(), true)),
+        _ => None,
+    }
+}
+
+// A packet of one chunk under the checksum that counts.
+fn counted_bytes(alloc: Global, counted: Counted) -> Result<Bytes, Error> {
+    long(alloc, 1)?.marshal(alloc, &counted)
 }
 
 #[test]
 fn checksum_is_asked(rt: HostRuntime) -> Result<(), Fail> {
-    let alloc = rt.alloc();
     let calls = Cell::new(0);
     let counted = Counted { calls: &calls };
-    let packet = packet_of(alloc, ChunkKind::PayloadData(data(alloc, 1)?))?;
-    let raw = packet.marshal(alloc, &counted)?;
-    assert_eq!(rt; calls.get(), 1);
-    assert!(rt;
-        raw.as_slice()
-            .starts_with(b"\x13\x88\x13\x88\0\0\0\x01\x04\x03\x02\x01")
-    );
-    assert!(rt; Packet::unmarshal(alloc, &raw, &counted).is_ok());
-    assert_eq!(rt; calls.get(), 2);
+    let raw = counted_bytes(rt.alloc(), counted)?;
+    assert!(rt; calls.get() == 1);
+    let front = b"\x13\x88\x13\x88\0\0\0\x01\x04\x03\x02\x01";
+    assert!(rt; raw.as_slice().starts_with(front));
+    assert!(rt; Packet::unmarshal(rt.alloc(), &raw, &counted).is_ok());
+    assert!(rt; calls.get() == 2);
     Ok(())
 }
+
+const WHOLE_HEADER: ChunkHeader = ChunkHeader {
+    typ: CT_PAYLOAD_DATA,
+    flags: 3,
+    value_length: 15,
+};
 
 #[test]
 fn chunk_alone(rt: HostRuntime) -> Result<(), Fail> {
     let alloc = rt.alloc();
     let raw = Bytes::copy_from_slice(alloc, &WHOLE)?;
-    let header = ChunkHeader::unmarshal(&raw)?;
-    assert!(rt; header.typ == CT_PAYLOAD_DATA);
-    assert_eq!(rt; header.value_length, 15);
+    assert!(rt; ChunkHeader::unmarshal(&raw) == Ok(WHOLE_HEADER));
     let chunk = ChunkPayloadData::unmarshal(alloc, &raw)?;
-    assert!(rt; chunk.header()? == header);
-    assert_eq!(rt; chunk.marshal(alloc)?.as_slice(), &WHOLE[..19]);
-    let mut buf = BytesMut::new(alloc);
-    assert_eq!(rt; chunk.marshal_to(&mut buf)?, 19);
+    assert!(rt; chunk.header() == Ok(WHOLE_HEADER));
+    assert!(rt; chunk.marshal(alloc)?.as_slice() == &WHOLE[..19]);
+    assert!(rt; is_whole(&chunk.try_clone()?));
     Ok(())
 }
