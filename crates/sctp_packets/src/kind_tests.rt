@@ -28,10 +28,11 @@ fn joined(alloc: Global, packet: &Packet) -> Result<String, Fail> {
     Ok(text)
 }
 
-// Reads a packet of these chunks, and prints them.
-fn printed(alloc: Global, chunks: &[u8]) -> Result<String, Fail> {
+// Whether a packet of these chunks prints so.
+fn prints_so(alloc: Global, chunks: &[u8], expected: &str) -> Result<bool, Fail> {
     let packet = read_chunks(alloc, chunks)?;
-    joined(alloc, &packet)
+    let text = joined(alloc, &packet)?;
+    Ok(text.as_str() == expected)
 }
 
 // Each row: chunks, how they print, and how they are written where that differs.
@@ -98,21 +99,19 @@ const ROWS: [(&[u8], &str, Option<&[u8]>); 14] = [
 
 #[test]
 fn kinds_print(rt: HostRuntime) -> Result<(), Fail> {
-    let alloc = rt.alloc();
     for (chunks, text, _) in ROWS {
-        assert!(rt; printed(alloc, chunks)?.as_str() == text, "not {text}");
+        assert!(rt; prints_so(rt.alloc(), chunks, text)?, "at {chunks:?}");
     }
     Ok(())
 }
 
 #[test]
 fn kinds_are_written(rt: HostRuntime) -> Result<(), Fail> {
-    let alloc = rt.alloc();
-    for (chunks, text, written) in ROWS {
-        let expected = written.unwrap_or(chunks);
+    for (chunks, _, written) in ROWS {
+        let again = rewritten(rt.alloc(), chunks)?;
         assert!(rt;
-            rewritten(alloc, chunks)?.as_slice() == expected,
-            "at {text}"
+            again.as_slice() == written.unwrap_or(chunks),
+            "at {chunks:?}"
         );
     }
     Ok(())
@@ -274,33 +273,49 @@ fn filled(alloc: Global, typ: ChunkType, count: usize) -> Result<ChunkKind, Erro
     }
 }
 
+fn is_filled_written(alloc: Global, typ: ChunkType, count: usize) -> Result<Option<bool>, Error> {
+    is_written(alloc, filled(alloc, typ, count)?)
+}
+
+// Each type with the most entries that fit.
+const LONGEST: [(ChunkType, usize); 4] = [
+    (CT_SACK, 16_379),
+    (CT_FORWARD_TSN, 16_381),
+    (CT_I_FORWARD_TSN, 8_190),
+    (CT_ABORT, 65_527),
+];
+
 #[test]
 fn longest_lists(rt: HostRuntime) -> Result<(), Fail> {
     let alloc = rt.alloc();
-    let rows = [
-        (CT_SACK, 16_379, true),
-        (CT_SACK, 16_380, false),
-        (CT_FORWARD_TSN, 16_381, true),
-        (CT_FORWARD_TSN, 16_382, false),
-        (CT_I_FORWARD_TSN, 8_190, true),
-        (CT_I_FORWARD_TSN, 8_191, false),
-        (CT_ABORT, 65_527, true),
-        (CT_ABORT, 65_528, false),
-    ];
-    for (typ, count, fits) in rows {
-        let chunk = filled(alloc, typ, count)?;
-        assert!(rt; is_written(alloc, chunk)? == Some(fits), "{count} in {typ}");
+    for (typ, count) in LONGEST {
+        assert!(rt;
+            is_filled_written(alloc, typ, count)? == Some(true),
+            "at {count}"
+        );
+        assert!(rt;
+            is_filled_written(alloc, typ, count + 1)? == Some(false),
+            "after {count}"
+        );
     }
     Ok(())
 }
 
+// The length of the text of a cause with so many bytes.
+fn length_of(alloc: Global, length: usize) -> Result<Result<usize, Error>, Error> {
+    Ok(cause(alloc, length)?.marshal(alloc).map(|raw| raw.len()))
+}
+
 #[test]
-fn causes_alone(rt: HostRuntime) -> Result<(), Fail> {
+fn longest_cause(rt: HostRuntime) -> Result<(), Fail> {
+    assert!(rt; length_of(rt.alloc(), 65_531)? == Ok(65_535));
+    assert!(rt; length_of(rt.alloc(), 65_532)? == Err(Error::ErrLengthTooLarge));
+    Ok(())
+}
+
+#[test]
+fn cause_alone(rt: HostRuntime) -> Result<(), Fail> {
     let alloc = rt.alloc();
-    let refused = cause(alloc, 65_532)?.marshal(alloc).err();
-    assert!(rt; refused == Some(Error::ErrLengthTooLarge));
-    let longest = cause(alloc, 65_531)?.marshal(alloc)?.len();
-    assert!(rt; longest == 65_535);
     let raw = Bytes::copy_from_slice(alloc, b"\0\x0c\0\x05\x07")?;
     let small = ErrorCause::unmarshal(&raw)?;
     assert!(rt; small.length() == 5 && small.error_cause_code() == USER_INITIATED_ABORT);
@@ -344,9 +359,13 @@ fn infos(alloc: Global, count: usize, length: usize) -> Result<Vec<ParamKind>, E
     Ok(params)
 }
 
+// How a HEARTBEAT-ACK of so many infos of this length is refused.
+fn refusal_of_infos(alloc: Global, count: usize, length: usize) -> Result<Option<Error>, Error> {
+    heartbeat_ack(alloc, infos(alloc, count, length)?)
+}
+
 #[test]
 fn heartbeat_acks_of_one_info(rt: HostRuntime) -> Result<(), Fail> {
-    let alloc = rt.alloc();
     let rows = [
         (0, 1, Some(Error::ErrHeartbeatAckParams)),
         (2, 1, Some(Error::ErrHeartbeatAckParams)),
@@ -355,15 +374,17 @@ fn heartbeat_acks_of_one_info(rt: HostRuntime) -> Result<(), Fail> {
         (1, 65_528, Some(Error::ErrLengthTooLarge)),
     ];
     for (count, length, expected) in rows {
-        let params = infos(alloc, count, length)?;
-        assert!(rt;
-            heartbeat_ack(alloc, params)? == expected,
-            "{count} of {length}"
-        );
+        let refused = refusal_of_infos(rt.alloc(), count, length)?;
+        assert!(rt; refused == expected, "{count} of {length}");
     }
-    let mut other = Vec::new(alloc);
+    Ok(())
+}
+
+#[test]
+fn heartbeat_acks_of_no_info(rt: HostRuntime) -> Result<(), Fail> {
+    let mut other = Vec::new(rt.alloc());
     other.push(ParamKind::ForwardTsnSupported(ParamForwardTsnSupported))?;
-    let refused = heartbeat_ack(alloc, other)?;
+    let refused = heartbeat_ack(rt.alloc(), other)?;
     assert!(rt; refused == Some(Error::ErrHeartbeatAckNotHeartbeatInfo));
     Ok(())
 }
@@ -419,17 +440,26 @@ fn reconfig_without_first(rt: HostRuntime) -> Result<(), Fail> {
     Ok(())
 }
 
+fn of_two_infos(alloc: Global) -> Result<ChunkReconfig, Error> {
+    let first = info(alloc, 1)?;
+    let second = info(alloc, 2)?;
+    Ok(ChunkReconfig {
+        param_a: Some(first),
+        param_b: Some(second),
+    })
+}
+
+fn clone_written(alloc: Global, chunk: &ChunkReconfig) -> Result<Bytes, Error> {
+    chunk.try_clone(alloc)?.marshal(alloc)
+}
+
 // The first parameter is padded where a second one follows.
 #[test]
 fn reconfig_with_second(rt: HostRuntime) -> Result<(), Fail> {
-    let alloc = rt.alloc();
-    let chunk = ChunkReconfig {
-        param_a: Some(info(alloc, 1)?),
-        param_b: Some(info(alloc, 2)?),
-    };
+    let chunk = of_two_infos(rt.alloc())?;
     let expected = Some(Error::ErrChunkReconfigInvalidParamCombination);
-    assert!(rt; refusals_of(alloc, &chunk) == (expected, None));
-    let written = chunk.try_clone(alloc)?.marshal(alloc)?;
+    assert!(rt; refusals_of(rt.alloc(), &chunk) == (expected, None));
+    let written = clone_written(rt.alloc(), &chunk)?;
     let text = b"\x82\0\0\x12\0\x01\0\x05\x07\0\0\0\0\x01\0\x06\x07\x07";
     assert!(rt; written.as_slice() == text.as_slice());
     Ok(())

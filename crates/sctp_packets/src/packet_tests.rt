@@ -184,8 +184,10 @@ const HEADER: CommonHeader = CommonHeader {
     verification_tag: 1,
 };
 
-fn tells(decode: &PartialDecode, typ: ChunkType, tag: Option<u32>, cookie: Option<&[u8]>) -> bool {
+fn tells(decode: &PartialDecode, row: (&[u8], ChunkType, Option<u32>, Option<&[u8]>)) -> bool {
+    let (chunks, typ, tag, cookie) = row;
     decode.common_header == HEADER
+        && decode.remaining.as_slice() == chunks
         && decode.first_chunk_type == typ
         && decode.initiate_tag == tag
         && decode.cookie.as_ref().map(|c| c.as_slice()) == cookie
@@ -193,12 +195,10 @@ fn tells(decode: &PartialDecode, typ: ChunkType, tag: Option<u32>, cookie: Optio
 
 #[test]
 fn first_chunks(rt: HostRuntime) -> Result<(), Fail> {
-    let alloc = rt.alloc();
-    for (chunks, typ, tag, cookie) in TOLD {
-        let raw = packet_bytes(alloc, chunks)?;
-        let decode = PartialDecode::unmarshal(alloc, &raw, &ZERO)?;
-        assert!(rt; tells(&decode, typ, tag, cookie), "at {typ}");
-        assert!(rt; decode.remaining.as_slice() == chunks, "at {typ}");
+    for row in TOLD {
+        let raw = packet_bytes(rt.alloc(), row.0)?;
+        let decode = PartialDecode::unmarshal(rt.alloc(), &raw, &ZERO)?;
+        assert!(rt; tells(&decode, row), "at {:?}", row.0);
     }
     Ok(())
 }

@@ -350,13 +350,13 @@ fn longest_values(rt: HostRuntime) -> Result<(), Fail> {
     for (typ, count, length) in LONGEST {
         let param = param_of(alloc, typ, count)?;
         let (answer, buf) = written_behind(alloc, &param)?;
-        assert!(rt; answer == Ok(3 + length as usize), "in {typ}");
+        assert!(rt; answer == Ok(3 + length as usize), "of {count}");
         let [high, low] = u16::to_be_bytes(length);
         assert!(rt;
             buf.as_slice().get(5..7) == Some([high, low].as_slice()),
-            "in {typ}"
+            "of {count}"
         );
-        assert!(rt; buf.as_slice().starts_with(b"abc"), "in {typ}");
+        assert!(rt; buf.as_slice().starts_with(b"abc"), "of {count}");
     }
     Ok(())
 }
@@ -368,11 +368,11 @@ fn too_long_values(rt: HostRuntime) -> Result<(), Fail> {
     for (typ, count, _) in LONGEST {
         let param = param_of(alloc, typ, count + 1)?;
         let (answer, buf) = written_behind(alloc, &param)?;
-        assert!(rt; answer == Err(Error::ErrLengthTooLarge), "in {typ}");
-        assert!(rt; buf.as_slice() == b"abc".as_slice(), "in {typ}");
+        assert!(rt; answer == Err(Error::ErrLengthTooLarge), "of {count}");
+        assert!(rt; buf.as_slice() == b"abc".as_slice(), "of {count}");
         assert!(rt;
             param.header().err() == Some(Error::ErrLengthTooLarge),
-            "in {typ}"
+            "of {count}"
         );
     }
     Ok(())
@@ -459,21 +459,26 @@ const PRINTED: [(&[u8], &str); 11] = [
     ),
 ];
 
-// The parameter that the bytes begin with, as it prints.
-fn shown(alloc: Global, raw: &[u8]) -> Result<String, Error> {
+// Whether the parameter that the bytes begin with prints so.
+fn prints_so(alloc: Global, raw: &[u8], expected: &str) -> Result<bool, Error> {
     let param = read(alloc, raw)?;
-    printed(alloc, &param)
+    let text = printed(alloc, &param)?;
+    Ok(text.as_str() == expected)
 }
 
 #[test]
-fn prints(rt: HostRuntime) -> Result<(), Fail> {
-    let alloc = rt.alloc();
+fn kinds_print(rt: HostRuntime) -> Result<(), Fail> {
     for (raw, text) in PRINTED {
-        assert!(rt; shown(alloc, raw)?.as_str() == text, "not {text}");
+        assert!(rt; prints_so(rt.alloc(), raw, text)?, "at {raw:?}");
     }
-    let result = printed(alloc, &ReconfigResult::from(9))?;
+    Ok(())
+}
+
+#[test]
+fn numbers_print(rt: HostRuntime) -> Result<(), Fail> {
+    let result = printed(rt.alloc(), &ReconfigResult::from(9))?;
     assert!(rt; result.as_str() == "Unknown ReconfigResult");
-    let algorithm = printed(alloc, &HmacAlgorithm::from(0))?;
+    let algorithm = printed(rt.alloc(), &HmacAlgorithm::from(0))?;
     assert!(rt; algorithm.as_str() == "HMAC Reserved (0x00)");
     Ok(())
 }
