@@ -1,8 +1,7 @@
 -- How long the value of each kind is.
 use Rattle.std.proofs.Common.{◌≡◌, ℕ, ◌+◌, ◌*◌, ◌^◌, ◌<◌, ◌≤◌, false, List, [], ◌∷◌, length, ◌++◌, refl, arith, length-append}
-use Rattle.std.specs.List.{flat_map}
-use Rattle.std.proofs.lemmas.List.Concat.{flat_map-cons}
 use Rattle.sctp_base.proofs.Fields.{length_be16, length_be32}
+use Rattle.sctp_base.proofs.ParamLengths.{length_flat_map}
 use Rattle.sctp_base.specs.Field.{be16, be32}
 use Rattle.sctp_chunks.specs.PayloadData.{Data, data_value}
 use Rattle.sctp_chunks.specs.Params.{params_text}
@@ -14,11 +13,6 @@ use Rattle.sctp_chunks.specs.IForwardTsn.{IForwardTsn, i_forward_tsn_value, entr
 pub length_data_value : (d : Data) → length (data_value d) ≡ 12 + length d.user_data
 unfolding data_value
 length_data_value d = simp (length-append, length_be16, length_be32) (omega arith)
-
--- a list whose elements take n bytes each
-pub length_flat_map : {A : Type 0} (f : A → List ℕ) (n : ℕ) → ((x : A) → length (f x) ≡ n) → (xs : List A) → length (flat_map f xs) ≡ n * length xs
-length_flat_map f n each [] = omega arith
-length_flat_map f n each (x ∷ xs) = rw (flat_map-cons, length-append, each x, length_flat_map f n each xs) (omega arith)
 
 pub length_sack_value : (s : Sack) → length (sack_value s) ≡ 12 + 4 * length s.gap_ack_blocks + 4 * length s.duplicate_tsn
 unfolding sack_value

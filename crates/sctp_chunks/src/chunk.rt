@@ -121,7 +121,7 @@ pub trait Chunk {
     /// The chunk as bytes.
     fn marshal(&self, alloc: Global) -> Result<Bytes>
         ensures ok { IfOk result (λ b. HasText (wire self.now) × (b ≡ text_of (wire self.now))) }
-        ensures refused { IfErr result (λ e. TextFault e (wire self.now) ⊎ (e ≡ ErrOutOfMemory)) }
+        ensures refused { IfErr result (λ e. TextFault e (wire self.now) ⊎ ((e ≡ ErrOutOfMemory) × HasText (wire self.now))) }
     {
         let mut buf = BytesMut::new(alloc);
         self.marshal_to(&mut buf)?;

@@ -97,6 +97,55 @@ const ROWS: [(&[u8], &str, Option<&[u8]>); 14] = [
     ),
 ];
 
+// The chunks of recorded packets, INIT, INIT-ACK and INIT, and how they print: each field, each parameter.
+const RECORDED: [(&[u8], &str); 3] = [
+    (
+        b"\x01\0\0\x56\x55\xb9\x64\xa5\0\x02\0\0\x04\0\x08\0\xe8\x6d\x10\x30\xc0\0\0\x04\x80\x08\0\x09\xc0\x0f\xc1\x80\x82\0\0\0\x80\x02\0\x24\x9f\xeb\xbb\x5c\x50\xc9\xbf\x75\x9c\xb1\x2c\x57\x4f\xa4\x5a\x51\xba\x60\x17\x78\x27\x94\x5c\x31\xe6\x5d\x5b\x09\x47\xe2\x22\x06\x80\x04\0\x06\0\x01\0\0\x80\x03\0\x06\x80\xc1\0\0",
+        "INIT is_ack: false
+            initiate_tag: 1438213285
+            advertised_receiver_window_credit: 131072
+            num_outbound_streams: 1024
+            num_inbound_streams: 2048
+            initial_tsn: 3899461680Param 0:
+ Forward TSN supportedParam 1:
+ Supported Extensions FORWARD-TSN Unknown ChunkType: 15 Unknown ChunkType: 193 Unknown ChunkType: 128 RECONFIGParam 2:
+ Random b\"\\x9f\\xeb\\xbb\\\\P\\xc9\\xbfu\\x9c\\xb1,WO\\xa4ZQ\\xba`\\x17x'\\x94\\\\1\\xe6][\\tG\\xe2\\\"\\x06\"Param 3:
+ Requested HMAC Algorithm Parameter HMAC SHA-128Param 4:
+ Chunk List Unknown ChunkType: 128 Unknown ChunkType: 193;",
+    ),
+    (
+        b"\x02\0\0\x1c\xeb\x81\x4e\x01\0\0\0\0\x04\0\x08\0\x50\xdf\x90\xd9\0\x07\0\x08\x94\x06\x2f\x93",
+        "INIT-ACK is_ack: true
+            initiate_tag: 3951119873
+            advertised_receiver_window_credit: 0
+            num_outbound_streams: 1024
+            num_inbound_streams: 2048
+            initial_tsn: 1356828889Param 0:
+ State Cookie: b\"\\x94\\x06/\\x93\";",
+    ),
+    (
+        b"\x01\0\0\x20\x12\x34\x56\x78\0\x02\0\0\x04\0\x04\0\0\0\0\x01\x80\x08\0\x08\x82\xc0\x40\xc2\xc0\0\0\x04",
+        "INIT is_ack: false
+            initiate_tag: 305419896
+            advertised_receiver_window_credit: 131072
+            num_outbound_streams: 1024
+            num_inbound_streams: 1024
+            initial_tsn: 1Param 0:
+ Supported Extensions RECONFIG FORWARD-TSN Unknown ChunkType: 64 I-FORWARD-TSNParam 1:
+ Forward TSN supported;",
+    ),
+];
+
+#[test]
+fn recorded_inits(rt: HostRuntime) -> Result<(), Fail> {
+    for (chunks, text) in RECORDED {
+        assert!(rt; prints_so(rt.alloc(), chunks, text)?, "at {chunks:?}");
+        let again = rewritten(rt.alloc(), chunks)?;
+        assert!(rt; again.as_slice() == chunks, "at {chunks:?}");
+    }
+    Ok(())
+}
+
 #[test]
 fn kinds_print(rt: HostRuntime) -> Result<(), Fail> {
     for (chunks, text, _) in ROWS {

@@ -154,7 +154,7 @@ impl ErrorCause {
     pub fn marshal(&self, alloc: Global) -> Result<Bytes>
         ensures ok { IfOk result (λ b. HasCauseText self.now × (b ≡ cause_text self.now)) }
         ensures refused { IfErr result (λ e. ((e ≡ ErrLengthTooLarge) × (HasCauseText self.now → ⊥))
-            ⊎ (e ≡ ErrOutOfMemory)) }
+            ⊎ ((e ≡ ErrOutOfMemory) × HasCauseText self.now)) }
     {
         let mut buf = BytesMut::new(alloc);
         self.marshal_to(&mut buf)?;
