@@ -204,7 +204,7 @@ fn filled(alloc: Global, max: u32, parts: &[Part]) -> Result<(ReassemblyQueue, b
     Ok((queue, refused))
 }
 
-fn part(tsn: u32, unordered: bool, flags: (bool, bool), bytes: &[u8]) -> Part {
+fn fragment(tsn: u32, unordered: bool, flags: (bool, bool), bytes: &[u8]) -> Part {
     Part {
         tsn,
         ssn: 0,
@@ -219,8 +219,8 @@ fn part(tsn: u32, unordered: bool, flags: (bool, bool), bytes: &[u8]) -> Part {
 fn repeats_are_counted_where_they_are_kept(rt: HostRuntime) -> Result<(), Fail> {
     for (unordered, want) in [(false, 3), (true, 6)] {
         let parts = [
-            part(10, unordered, FIRST, b"aaa"),
-            part(10, unordered, FIRST, b"aaa"),
+            fragment(10, unordered, FIRST, b"aaa"),
+            fragment(10, unordered, FIRST, b"aaa"),
         ];
         let (mut queue, _refused) = filled(rt.alloc(), 100, &parts)?;
         assert_eq!(rt; queue.get_num_bytes(), want);
@@ -233,8 +233,8 @@ fn repeats_are_counted_where_they_are_kept(rt: HostRuntime) -> Result<(), Fail> 
 #[test]
 fn a_message_past_the_maximum_is_refused(rt: HostRuntime) -> Result<(), Fail> {
     let parts = [
-        part(10, false, FIRST, b"aaa"),
-        part(11, false, MIDDLE, b"bbb"),
+        fragment(10, false, FIRST, b"aaa"),
+        fragment(11, false, MIDDLE, b"bbb"),
     ];
     let (queue, refused) = filled(rt.alloc(), 5, &parts)?;
     assert_eq!(rt;
@@ -242,9 +242,9 @@ fn a_message_past_the_maximum_is_refused(rt: HostRuntime) -> Result<(), Fail> {
         (true, 3, 5)
     );
     let parts = [
-        part(10, true, FIRST, b"aaa"),
-        part(12, true, LAST, b"bb"),
-        part(11, true, MIDDLE, b"c"),
+        fragment(10, true, FIRST, b"aaa"),
+        fragment(12, true, LAST, b"bb"),
+        fragment(11, true, MIDDLE, b"c"),
     ];
     let (queue, refused) = filled(rt.alloc(), 5, &parts)?;
     assert_eq!(rt; (refused, queue.get_num_bytes()), (true, 5));
@@ -313,9 +313,9 @@ fn a_bounded_skip_stops_before_later_messages(rt: HostRuntime) -> Result<(), Fai
 fn unordered_messages_are_read_first(rt: HostRuntime) -> Result<(), Fail> {
     let alloc = rt.alloc();
     let parts = [
-        part(10, false, WHOLE, b"aaa"),
-        part(12, true, LAST, b"ccc"),
-        part(11, true, FIRST, b"bbb"),
+        fragment(10, false, WHOLE, b"aaa"),
+        fragment(12, true, LAST, b"ccc"),
+        fragment(11, true, FIRST, b"bbb"),
     ];
     let (mut queue, _refused) = filled(alloc, 100, &parts)?;
     assert_eq!(rt; (queue.si(), queue.unordered().len()), (1, 1));
