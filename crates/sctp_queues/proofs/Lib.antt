@@ -1,4 +1,5 @@
 pub mod ListLemmas
+pub mod SpanLemmas
 pub mod SetLemmas
 pub mod RunLemmas
 pub mod SizeLemmas

@@ -1,5 +1,6 @@
 pub mod DataChunks
 pub mod Turns
+pub mod Spans
 pub mod Sets
 pub mod Runs
 pub mod Around

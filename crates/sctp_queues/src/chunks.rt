@@ -1,14 +1,15 @@
 //! The fragments of one message.
 
-ghost use Rattle.std.specs.Prelude.{◌≡◌, ◌==◌, ◌+◌, ◌%◌, ◌^◌, ◌-◌, ◌<◌, ◌≤◌, ◌&&◌, [], ◌∷◌, length, min, take, drop, ◌++◌, option_map, false, not, OnOk, OnErr, IfOk, IfErr, if◌then◌else◌};
+ghost use Rattle.std.specs.Prelude.{◌≡◌, ◌==◌, ◌+◌, ◌%◌, ◌^◌, ◌-◌, ◌<◌, ◌≤◌, ◌&&◌, [], ◌∷◌, length, map, min, take, drop, ◌++◌, option_map, true, false, not, OnOk, OnErr, IfOk, IfErr, IfSome, MatchOption, if◌then◌else◌};
 ghost use Rattle.std.specs.List.{list_any, position_or_len, insert, concat};
 ghost use Rattle.sctp_queues.specs.Pieces.{left_from, left_of, piece_of, left_after, bytes_given};
 ghost use Rattle.sctp_queues.specs.declared.chunks.Chunk.{Chunk};
 ghost use Rattle.sctp_chunks.specs.declared.chunk.chunk_payload_data.ChunkPayloadData.{ChunkPayloadData};
-ghost use Rattle.sctp_lists.specs.Serial.{comes_before};
+ghost use Rattle.sctp_lists.specs.Serial.{comes_before, distance};
 ghost use Rattle.sctp_lists.specs.Lists.{inserted};
 ghost use Rattle.sctp_queues.specs.Sets.{payload_of, is_complete, with_chunk, answer_with, is_whole_after};
 ghost use Rattle.sctp_queues.specs.DataChunks.{bytes_of, has_tsn, chunk_before};
+ghost use Rattle.sctp_queues.specs.Spans.{IsSpan, IsBehind};
 ghost use Rattle.sctp_base.specs.declared.error.Error.TheVariants.{ErrOutOfMemory, ErrShortBuffer};
 
 use bytes::{Bytes, BytesMut};
@@ -24,21 +25,38 @@ pub struct Fragments {
     ssn: u16,
     ppi: PayloadProtocolIdentifier,
     chunks: Vec<ChunkPayloadData>,
+    // the length of their user data, up to the greatest usize
+    n_bytes: usize,
+    // a TSN after which all lie by less than half a circle, the last one farthest, where one is known
+    base: Option<u32>,
 }
 
 impl Model for Fragments {
+    ghost use Rattle.std.specs.Prelude.{◌≡◌, ◌-◌, ◌^◌, min, map, IfSome};
     ghost use Rattle.sctp_chunks.specs.ChunkSet.{ChunkSet};
+    ghost use Rattle.sctp_queues.specs.DataChunks.{bytes_of};
+    ghost use Rattle.sctp_queues.specs.Spans.{IsSpan};
 
     ghost Value = { ChunkSet };
 
     ghost view = { λ s. record { ssn = s.ssn; ppi = s.ppi; chunks = s.chunks.items } };
+
+    ghost invariant = { λ s. record { counted : s.n_bytes ≡ min (bytes_of s.chunks.items) (2 ^ 64 - 1); span : IfSome s.base (λ b. IsSpan b (map (λ c. c.tsn) s.chunks.items)) } };
 }
 
 impl Fragments {
     pub fn new(ssn: u16, ppi: PayloadProtocolIdentifier, chunks: Vec<ChunkPayloadData>) -> Self
         ensures { result ≡ record { ssn = ssn; ppi = ppi; chunks = chunks.items } }
     {
-        Fragments { ssn, ppi, chunks }
+        let n_bytes = bytes_in(&chunks);
+        let base = base_of(&chunks);
+        Fragments {
+            ssn,
+            ppi,
+            chunks,
+            n_bytes,
+            base,
+        }
     }
 
     pub fn ssn(&self) -> u16
@@ -78,7 +96,7 @@ impl Fragments {
     pub fn len(&self) -> usize
         ensures { result ≡ min (bytes_of self.now.chunks) (2 ^ 64 - 1) }
     {
-        bytes_in(&self.chunks)
+        self.n_bytes
     }
 
     /// Puts a fragment before the first that it comes before, and says whether the set is complete
@@ -89,12 +107,32 @@ impl Fragments {
         ensures err { OnErr result (self.new ≡ self.old) }
         ensures memory { IfErr result (λ e. e ≡ ErrOutOfMemory) }
     {
+        if is_behind(self.base, &self.chunks, chunk.tsn) {
+            let len = chunk.user_data.len();
+            self.chunks.push(chunk)?;
+            self.n_bytes = self.n_bytes.saturating_add(len);
+            return Ok(Some(self.is_complete()));
+        }
         if has_number(&self.chunks, chunk.tsn) {
             return Ok(None);
         }
-        let place = insertion_place(&self.chunks, chunk.tsn);
-        self.chunks.insert(place, chunk)?;
+        self.insert(chunk)?;
         Ok(Some(self.is_complete()))
+    }
+
+    // Puts in a fragment of a TSN that is not there.
+    fn insert(&mut self, chunk: ChunkPayloadData) -> Result<()>
+        requires { list_any (has_tsn chunk.tsn) self.old.chunks ≡ false }
+        ensures ok { OnOk result (self.new ≡ with_chunk chunk self.old) }
+        ensures err { OnErr result (self.new ≡ self.old) }
+        ensures memory { IfErr result (λ e. e ≡ ErrOutOfMemory) }
+    {
+        let place = insertion_place(&self.chunks, chunk.tsn);
+        let len = chunk.user_data.len();
+        self.chunks.insert(place, chunk)?;
+        self.n_bytes = self.n_bytes.saturating_add(len);
+        self.base = base_of(&self.chunks);
+        Ok(())
     }
 }
 
@@ -375,6 +413,52 @@ fn first_after(chunks: &[ChunkPayloadData], tsn: u32) -> usize
         }
     }
     chunks.len()
+}
+
+// How far a TSN lies after another.
+#[tactic(auto, unfolding(sctp_lists::specs::Serial::distance))]
+fn distance(base: u32, tsn: u32) -> u32
+    ensures value { result ≡ distance base tsn }
+    ensures base_fits { base < 2 ^ 32 }
+    ensures fits { tsn < 2 ^ 32 }
+{
+    tsn.wrapping_sub(base)
+}
+
+// A TSN after which all lie by less than half a circle, the last one farthest: the first one, or none.
+fn base_of(chunks: &[ChunkPayloadData]) -> Option<u32>
+    ensures { IfSome result (λ base. IsSpan base (map (λ c. c.tsn) chunks.now)) }
+{
+    let len = chunks.len();
+    if len == 0 {
+        return None;
+    }
+    let base = chunks[0].tsn;
+    let far = distance(base, chunks[len - 1].tsn);
+    if far >= 1 << 31 {
+        return None;
+    }
+    for place in 0..len - 1 {
+        if distance(base, chunks[place].tsn) >= far {
+            return None;
+        }
+    }
+    Some(base)
+}
+
+// Whether a TSN is known to come behind all, by a look at the last one.
+fn is_behind(base: Option<u32>, chunks: &[ChunkPayloadData], tsn: u32) -> bool
+    ensures { result ≡ true → MatchOption base ⊥ (λ b. IsBehind b (map (λ c. c.tsn) chunks.now) tsn) }
+{
+    let len = chunks.len();
+    if len == 0 {
+        return false;
+    }
+    let Some(base) = base else {
+        return false;
+    };
+    let far = distance(base, tsn);
+    far < 1 << 31 && distance(base, chunks[len - 1].tsn) < far
 }
 
 // Whether a fragment has the number.

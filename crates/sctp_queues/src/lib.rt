@@ -5,6 +5,7 @@ pub mod chunks;
 pub mod held;
 mod line;
 pub mod loose;
+mod ordered_sets;
 pub mod outbound_queue;
 pub mod payload_queue;
 pub mod pending_queue;

@@ -13,9 +13,10 @@ ghost use Rattle.sctp_queues.specs.Bounded.{bounded_forwarded, applicable, is_up
 ghost use Rattle.sctp_base.specs.declared.error.Error.TheVariants.{ErrOutOfMemory, ErrInboundPacketTooLarge};
 
 use crate::chunks::{Chunks, Fragments, bytes_in};
+use crate::ordered_sets::{OrderedSets, clone_sets};
 use crate::pool::Pool;
 use crate::sizes::{size_after, size_before};
-use crate::skips::{discard, earliest_from, goal, has_settled, latest_passable};
+use crate::skips::{earliest_from, goal, has_settled, latest_passable};
 use sctp_base::error::{Error, Result};
 use sctp_base::util::{sna16gt, sna16lt, sna16lte, sna32lte};
 use sctp_chunks::chunk::chunk_payload_data::{ChunkPayloadData, PayloadProtocolIdentifier};
@@ -29,7 +30,7 @@ pub struct ReassemblyQueue {
     alloc: Global,
     si: u16,
     next_ssn: u16,
-    ordered: VecDeque<Fragments>,
+    ordered: OrderedSets,
     unordered: VecDeque<Fragments>,
     unordered_chunks: Pool,
     n_bytes: usize,
@@ -43,7 +44,7 @@ impl Model for ReassemblyQueue {
 
     ghost view = { λ q. record {
       si = q.si;
-      held = record { next_ssn = q.next_ssn; ordered = q.ordered.items; unordered = q.unordered.items; loose = q.unordered_chunks };
+      held = record { next_ssn = q.next_ssn; ordered = q.ordered; unordered = q.unordered.items; loose = q.unordered_chunks };
       bytes = q.n_bytes;
       max_message_size = q.max_message_size;
     } };
@@ -60,7 +61,7 @@ impl ReassemblyQueue {
             alloc,
             si,
             next_ssn: 0,
-            ordered: VecDeque::new(alloc),
+            ordered: OrderedSets::new(alloc),
             unordered: VecDeque::new(alloc),
             unordered_chunks: Pool::new(alloc),
             n_bytes: 0,
@@ -77,7 +78,7 @@ impl ReassemblyQueue {
             alloc,
             si: self.si,
             next_ssn: self.next_ssn,
-            ordered: clone_sets(alloc, &self.ordered)?,
+            ordered: self.ordered.try_clone(alloc)?,
             unordered: clone_sets(alloc, &self.unordered)?,
             unordered_chunks: self.unordered_chunks.try_clone(alloc)?,
             n_bytes: self.n_bytes,
@@ -102,7 +103,7 @@ impl ReassemblyQueue {
     pub fn ordered(&self) -> &VecDeque<Fragments>
         ensures { result.now.items ≡ self.now.held.ordered }
     {
-        &self.ordered
+        self.ordered.as_deque()
     }
 
     /// The whole unordered messages.
@@ -174,7 +175,9 @@ impl ReassemblyQueue {
             let loose = self.unordered_chunks.as_slice();
             unordered_size(chunk, loose)
         } else {
-            ordered_size(chunk, &self.ordered)
+            self.ordered
+                .bytes_there(chunk.stream_sequence_number)
+                .saturating_add(chunk.user_data.len())
         };
         projected > self.max_message_size as usize
     }
@@ -189,7 +192,7 @@ impl ReassemblyQueue {
             return Ok(false);
         }
         let len = chunk.user_data.len();
-        let Some(whole) = put_ordered(&mut self.ordered, self.alloc, chunk)? else {
+        let Some(whole) = self.ordered.put(self.alloc, chunk)? else {
             return Ok(false);
         };
         self.n_bytes = self.n_bytes.saturating_add(len);
@@ -252,10 +255,10 @@ impl ReassemblyQueue {
     }
 
     // Lowers the byte count by a number that was counted up to the greatest usize.
-    fn release(&mut self, n_bytes: usize)
-        ensures { (n : ℕ) → n_bytes ≡ min n (2 ^ 64 - 1) → self.new ≡ record self.old { bytes = self.old.bytes - n } }
+    fn release(&mut self, counted: usize)
+        ensures { (n : ℕ) → counted ≡ min n (2 ^ 64 - 1) → self.new ≡ record self.old { bytes = self.old.bytes - n } }
     {
-        self.n_bytes = self.n_bytes.saturating_sub(n_bytes);
+        self.n_bytes = self.n_bytes.saturating_sub(counted);
     }
 
     fn take_message(&mut self) -> Option<Fragments>
@@ -283,7 +286,7 @@ impl ReassemblyQueue {
         ensures complete { complete_sets self.new.held ≡ complete_sets self.old.held }
     {
         self.next_ssn = ssn_past(self.next_ssn, last_ssn);
-        let gone = discard(&mut self.ordered, last_ssn, None);
+        let gone = self.ordered.discard(last_ssn, None);
         self.release(gone);
     }
 
@@ -294,9 +297,9 @@ impl ReassemblyQueue {
         ensures counted { IsCounted self.old → IsCounted self.new }
         ensures complete { complete_sets self.new.held ≡ complete_sets self.old.held }
     {
-        let goal = goal(&self.ordered, last_ssn, new_cumulative_tsn);
+        let goal = goal(self.ordered.as_deque(), last_ssn, new_cumulative_tsn);
         self.next_ssn = ssn_upto(self.next_ssn, goal);
-        let gone = discard(&mut self.ordered, last_ssn, Some(new_cumulative_tsn));
+        let gone = self.ordered.discard(last_ssn, Some(new_cumulative_tsn));
         self.release(gone);
     }
 
@@ -310,16 +313,21 @@ impl ReassemblyQueue {
         ensures { result ≡ applicable last_ssn new_cumulative_tsn peer_last_tsn self.now.held }
     {
         if sna16gt(self.next_ssn, last_ssn)
-            || has_settled(&self.ordered, self.next_ssn, last_ssn, new_cumulative_tsn)
+            || has_settled(
+                self.ordered.as_deque(),
+                self.next_ssn,
+                last_ssn,
+                new_cumulative_tsn,
+            )
         {
             return Some(last_ssn);
         }
-        let first = earliest_from(&self.ordered, last_ssn);
+        let first = earliest_from(self.ordered.as_deque(), last_ssn);
         if is_upto(first, peer_last_tsn) {
             return Some(last_ssn);
         }
         latest_passable(
-            &self.ordered,
+            self.ordered.as_deque(),
             self.next_ssn,
             last_ssn,
             new_cumulative_tsn,
@@ -337,18 +345,6 @@ impl ReassemblyQueue {
         self.unordered_chunks.drop_front(count);
         self.release(gone);
     }
-}
-
-// Equal sets, which share their bytes.
-fn clone_sets(alloc: Global, sets: &VecDeque<Fragments>) -> Result<VecDeque<Fragments>>
-    ensures ok { IfOk result (λ copies. copies.items ≡ sets.now.items) }
-    ensures memory { IfErr result (λ e. e ≡ ErrOutOfMemory) }
-{
-    let mut copies = VecDeque::new(alloc);
-    for place in 0..sets.len() {
-        copies.push_back(sets[place].try_clone(alloc)?)?;
-    }
-    Ok(copies)
 }
 
 // A whole message of these fragments.
@@ -369,88 +365,6 @@ fn unordered_size(chunk: &ChunkPayloadData, loose: &[ChunkPayloadData]) -> usize
     size_before(chunk, loose)
         .saturating_add(chunk.user_data.len())
         .saturating_add(size_after(chunk, loose))
-}
-
-// How long the message of an ordered chunk would be with it, up to the greatest number.
-fn ordered_size(chunk: &ChunkPayloadData, sets: &VecDeque<Fragments>) -> usize
-    ensures { result ≡ min (bytes_of (chunks_of_ssn chunk.now.stream_sequence_number sets.now.items) + length chunk.now.user_data) (2 ^ 64 - 1) }
-{
-    bytes_there(sets, chunk.stream_sequence_number).saturating_add(chunk.user_data.len())
-}
-
-// The bytes of the first set of a number, up to the greatest number.
-fn bytes_there(sets: &VecDeque<Fragments>, ssn: u16) -> usize
-    ensures { result ≡ min (bytes_of (chunks_of_ssn ssn sets.now.items)) (2 ^ 64 - 1) }
-{
-    match set_place(sets, ssn) {
-        Some(place) => sets[place].len(),
-        None => 0,
-    }
-}
-
-// Puts a chunk into the first set of its number, or into a new one at its place.
-fn put_ordered(
-    sets: &mut VecDeque<Fragments>,
-    alloc: Global,
-    chunk: ChunkPayloadData,
-) -> Result<Option<bool>>
-    ensures ok { OnOk result (sets.new.items ≡ sets_with chunk sets.old.items) }
-    ensures answer { IfOk result (λ whole. whole ≡ answer_with chunk (chunks_of_ssn chunk.stream_sequence_number sets.old.items)) }
-    ensures err { OnErr result (sets.new.items ≡ sets.old.items) }
-    ensures memory { IfErr result (λ e. e ≡ ErrOutOfMemory) }
-{
-    match set_place(sets, chunk.stream_sequence_number) {
-        Some(place) => {
-            let set = &mut sets[place];
-            let whole = set.put(chunk)?;
-            Ok(whole)
-        }
-        None => {
-            let place = set_gap(sets, chunk.stream_sequence_number);
-            let set = new_set(alloc, chunk)?;
-            let whole = set.is_complete();
-            sets.insert(place, set)?;
-            Ok(Some(whole))
-        }
-    }
-}
-
-// A set that a chunk alone makes.
-fn new_set(alloc: Global, chunk: ChunkPayloadData) -> Result<Fragments>
-    ensures ok { IfOk result (λ set. set ≡ new_set chunk) }
-    ensures memory { IfErr result (λ e. e ≡ ErrOutOfMemory) }
-{
-    let ssn = chunk.stream_sequence_number;
-    let ppi = chunk.payload_type;
-    let mut chunks = Vec::new(alloc);
-    chunks.push(chunk)?;
-    Ok(Fragments::new(ssn, ppi, chunks))
-}
-
-// The place of the first set of a number.
-fn set_place(sets: &VecDeque<Fragments>, ssn: u16) -> Option<usize>
-    ensures found { IfSome result (λ place. (place ≡ position_or_len (has_ssn ssn) sets.now.items) × (place < length sets.now.items)) }
-    ensures absent { IfNone result (position_or_len (has_ssn ssn) sets.now.items ≡ length sets.now.items) }
-{
-    for place in 0..sets.len() {
-        if sets[place].ssn() == ssn {
-            return Some(place);
-        }
-    }
-    None
-}
-
-// Where a set of this number is put in: before the first that it comes before, or at the end.
-fn set_gap(sets: &VecDeque<Fragments>, ssn: u16) -> usize
-    ensures place { result ≡ position_or_len (λ s. comes_before16 ssn s.ssn) sets.now.items }
-    ensures in_range { result ≤ length sets.now.items }
-{
-    for place in 0..sets.len() {
-        if sna16lt(ssn, sets[place].ssn()) {
-            return place;
-        }
-    }
-    sets.len()
 }
 
 // The number expected next, once no message up to the other one is waited for.

@@ -109,29 +109,43 @@ fn loose_are(rt: &impl Abort, queue: &ReassemblyQueue, tsns: &[u32]) {
     }
 }
 
-#[test]
-fn a_message_is_taken_in_pieces(rt: HostRuntime) -> Result<(), Fail> {
-    let alloc = rt.alloc();
+// A message of two fragments, `ab` and `cd`; whether each push made it whole, the third one a repeat.
+fn letters(alloc: Global) -> Result<(Chunks, [bool; 3]), Error> {
     let mut message = Chunks::new(0, PayloadProtocolIdentifier::String, Vec::new(alloc));
-    assert!(rt; !message.push(ordered(alloc, 10, 0, FIRST, b"ab")?)?);
-    assert!(rt; message.push(ordered(alloc, 11, 0, LAST, b"cd")?)?);
-    assert!(rt; !message.push(ordered(alloc, 11, 0, LAST, b"xx")?)?);
-    assert_eq!(rt; message.len(), 4);
-    assert!(rt; !message.is_empty());
-    assert!(rt; message.is_complete());
+    let first = message.push(ordered(alloc, 10, 0, FIRST, b"ab")?)?;
+    let second = message.push(ordered(alloc, 11, 0, LAST, b"cd")?)?;
+    let third = message.push(ordered(alloc, 11, 0, LAST, b"xx")?)?;
+    Ok((message, [first, second, third]))
+}
+
+#[test]
+fn a_message_is_whole_at_its_last_fragment(rt: HostRuntime) -> Result<(), Fail> {
+    let (message, whole) = letters(rt.alloc())?;
+    assert_eq!(rt; whole, [false, true, false]);
+    assert_eq!(rt;
+        (message.len(), message.is_empty(), message.is_complete()),
+        (4, false, true)
+    );
     let mut short = [0; 3];
     assert_eq!(rt; message.read(&mut short), Err(Error::ErrShortBuffer));
     assert_eq!(rt; short.as_slice(), b"abc".as_slice());
     let mut long = [9; 5];
     assert_eq!(rt; message.read(&mut long), Ok(4));
     assert_eq!(rt; long.as_slice(), [97, 98, 99, 100, 9].as_slice());
+    Ok(())
+}
+
+#[test]
+fn a_message_is_taken_in_pieces(rt: HostRuntime) -> Result<(), Fail> {
+    let alloc = rt.alloc();
+    let (mut message, _whole) = letters(alloc)?;
     piece_is(&rt, &mut message, alloc, 3, Some(b"abc"))?;
     let mut rest = message.try_clone(alloc)?;
+    for (len, want) in [(0, b"".as_slice()), (9, b"d".as_slice())] {
+        piece_is(&rt, &mut rest, alloc, len, Some(want))?;
+    }
     piece_is(&rt, &mut message, alloc, 3, Some(b"d"))?;
-    piece_is(&rt, &mut message, alloc, 3, None)?;
-    piece_is(&rt, &mut rest, alloc, 0, Some(b""))?;
-    piece_is(&rt, &mut rest, alloc, 9, Some(b"d"))?;
-    Ok(())
+    piece_is(&rt, &mut message, alloc, 3, None)
 }
 
 #[test]
@@ -176,41 +190,64 @@ fn half_a_circle_away_is_not_before(rt: HostRuntime) -> Result<(), Fail> {
     Ok(())
 }
 
+// A queue with these parts, and whether each was refused as too long.
+fn filled(alloc: Global, max: u32, parts: &[Part]) -> Result<(ReassemblyQueue, bool), Error> {
+    let mut queue = ReassemblyQueue::new(alloc, 1, max);
+    let mut refused = false;
+    for part in parts {
+        match queue.push(chunk(alloc, part)?) {
+            Ok(_) => {}
+            Err(Error::ErrInboundPacketTooLarge) => refused = true,
+            Err(e) => return Err(e),
+        }
+    }
+    Ok((queue, refused))
+}
+
+fn fragment(tsn: u32, unordered: bool, flags: (bool, bool), bytes: &[u8]) -> Part {
+    Part {
+        tsn,
+        ssn: 0,
+        unordered,
+        begins: flags.0,
+        ends: flags.1,
+        bytes,
+    }
+}
+
 #[test]
 fn repeats_are_counted_where_they_are_kept(rt: HostRuntime) -> Result<(), Fail> {
-    let alloc = rt.alloc();
-    let mut queue = ReassemblyQueue::new(alloc, 1, 100);
-    assert!(rt; !queue.push(ordered(alloc, 10, 0, FIRST, b"aaa")?)?);
-    assert!(rt; !queue.push(ordered(alloc, 10, 0, FIRST, b"aaa")?)?);
-    assert_eq!(rt; queue.get_num_bytes(), 3);
-    let mut queue = ReassemblyQueue::new(alloc, 1, 100);
-    assert!(rt; !queue.push(unordered(alloc, 10, FIRST, b"aaa")?)?);
-    assert!(rt; !queue.push(unordered(alloc, 10, FIRST, b"aaa")?)?);
-    assert_eq!(rt; queue.get_num_bytes(), 6);
-    queue.subtract_num_bytes(7);
-    assert_eq!(rt; queue.get_num_bytes(), 0);
+    for (unordered, want) in [(false, 3), (true, 6)] {
+        let parts = [
+            fragment(10, unordered, FIRST, b"aaa"),
+            fragment(10, unordered, FIRST, b"aaa"),
+        ];
+        let (mut queue, _refused) = filled(rt.alloc(), 100, &parts)?;
+        assert_eq!(rt; queue.get_num_bytes(), want);
+        queue.subtract_num_bytes(7);
+        assert_eq!(rt; queue.get_num_bytes(), 0);
+    }
     Ok(())
 }
 
 #[test]
 fn a_message_past_the_maximum_is_refused(rt: HostRuntime) -> Result<(), Fail> {
-    let alloc = rt.alloc();
-    let mut queue = ReassemblyQueue::new(alloc, 1, 5);
-    assert!(rt; !queue.push(ordered(alloc, 10, 0, FIRST, b"aaa")?)?);
+    let parts = [
+        fragment(10, false, FIRST, b"aaa"),
+        fragment(11, false, MIDDLE, b"bbb"),
+    ];
+    let (queue, refused) = filled(rt.alloc(), 5, &parts)?;
     assert_eq!(rt;
-        queue.push(ordered(alloc, 11, 0, MIDDLE, b"bbb")?),
-        Err(Error::ErrInboundPacketTooLarge)
+        (refused, queue.get_num_bytes(), queue.max_message_size()),
+        (true, 3, 5)
     );
-    assert_eq!(rt; queue.get_num_bytes(), 3);
-    let mut queue = ReassemblyQueue::new(alloc, 1, 5);
-    assert!(rt; !queue.push(unordered(alloc, 10, FIRST, b"aaa")?)?);
-    assert!(rt; !queue.push(unordered(alloc, 12, LAST, b"bb")?)?);
-    assert_eq!(rt;
-        queue.push(unordered(alloc, 11, MIDDLE, b"c")?),
-        Err(Error::ErrInboundPacketTooLarge)
-    );
-    assert_eq!(rt; queue.get_num_bytes(), 5);
-    assert_eq!(rt; queue.max_message_size(), 5);
+    let parts = [
+        fragment(10, true, FIRST, b"aaa"),
+        fragment(12, true, LAST, b"bb"),
+        fragment(11, true, MIDDLE, b"c"),
+    ];
+    let (queue, refused) = filled(rt.alloc(), 5, &parts)?;
+    assert_eq!(rt; (refused, queue.get_num_bytes()), (true, 5));
     Ok(())
 }
 
@@ -241,46 +278,47 @@ fn gapped(alloc: Global) -> Result<ReassemblyQueue, Error> {
 }
 
 #[test]
+fn a_bounded_skip_may_go_so_far(rt: HostRuntime) -> Result<(), Fail> {
+    let queue = gapped(rt.alloc())?;
+    for (tsn, peer, want) in [(11, 12, Some(1)), (11, 11, Some(0)), (10, 9, None)] {
+        assert_eq!(rt;
+            queue.applicable_forward_tsn_for_ordered_bounded(1, tsn, peer),
+            want
+        );
+    }
+    Ok(())
+}
+
+#[test]
 fn a_bounded_skip_stops_before_later_messages(rt: HostRuntime) -> Result<(), Fail> {
-    let alloc = rt.alloc();
-    let mut queue = gapped(alloc)?;
-    assert_eq!(rt;
-        queue.applicable_forward_tsn_for_ordered_bounded(1, 11, 12),
-        Some(1)
-    );
-    assert_eq!(rt;
-        queue.applicable_forward_tsn_for_ordered_bounded(1, 11, 11),
-        Some(0)
-    );
-    assert_eq!(rt;
-        queue.applicable_forward_tsn_for_ordered_bounded(1, 10, 9),
-        None
-    );
-    queue.forward_tsn_for_ordered_bounded(1, 10);
-    assert_eq!(rt; queue.ordered().len(), 2);
-    assert_eq!(rt; queue.next_ssn(), 0);
-    assert_eq!(rt; queue.get_num_bytes(), 3);
-    queue.forward_tsn_for_ordered_bounded(1, 11);
-    assert_eq!(rt; queue.ordered().len(), 1);
-    assert_eq!(rt; queue.next_ssn(), 1);
-    assert_eq!(rt; queue.get_num_bytes(), 2);
-    let mut queue = gapped(alloc)?;
-    queue.forward_tsn_for_ordered_bounded(1, 12);
-    assert_eq!(rt; queue.ordered().len(), 1);
-    assert_eq!(rt; queue.next_ssn(), 2);
-    reads(&rt, &mut queue, b"bc");
+    for (tsn, want) in [(10, (2, 0, 3)), (11, (1, 1, 2)), (12, (1, 2, 2))] {
+        let mut queue = gapped(rt.alloc())?;
+        queue.forward_tsn_for_ordered_bounded(1, tsn);
+        assert_eq!(rt;
+            (
+                queue.ordered().len(),
+                queue.next_ssn(),
+                queue.get_num_bytes()
+            ),
+            want
+        );
+        if tsn == 12 {
+            reads(&rt, &mut queue, b"bc");
+        }
+    }
     Ok(())
 }
 
 #[test]
 fn unordered_messages_are_read_first(rt: HostRuntime) -> Result<(), Fail> {
     let alloc = rt.alloc();
-    let mut queue = ReassemblyQueue::new(alloc, 1, 100);
-    assert_eq!(rt; queue.si(), 1);
-    assert!(rt; queue.push(ordered(alloc, 10, 0, WHOLE, b"aaa")?)?);
-    assert!(rt; !queue.push(unordered(alloc, 12, LAST, b"ccc")?)?);
-    assert!(rt; queue.push(unordered(alloc, 11, FIRST, b"bbb")?)?);
-    assert_eq!(rt; queue.unordered().len(), 1);
+    let parts = [
+        fragment(10, false, WHOLE, b"aaa"),
+        fragment(12, true, LAST, b"ccc"),
+        fragment(11, true, FIRST, b"bbb"),
+    ];
+    let (mut queue, _refused) = filled(alloc, 100, &parts)?;
+    assert_eq!(rt; (queue.si(), queue.unordered().len()), (1, 1));
     reads(&rt, &mut queue, b"bbbccc");
     reads(&rt, &mut queue, b"aaa");
     assert!(rt; queue.find_complete_unordered_chunk_set(alloc)?.is_none());

@@ -176,28 +176,36 @@ fn abandons_once(rt: HostRuntime) -> std::result::Result<(), Fail> {
     Ok(())
 }
 
+// `abcdefg` with a lifetime, its first fragment sent under TSN 10 and acknowledged.
+fn acknowledged_in_part(alloc: Global) -> Result<OutboundQueue> {
+    let mut queue = OutboundQueue::new(alloc);
+    push(&mut queue, letters(alloc, true)?)?;
+    send(&mut queue, &mut 10, 0)?;
+    queue.mark_as_acked(10);
+    Ok(queue)
+}
+
+#[test]
+fn lists_what_is_late(rt: HostRuntime) -> std::result::Result<(), Fail> {
+    let queue = acknowledged_in_part(rt.alloc())?;
+    assert_eq!(rt; (queue.inflight_len(), queue.inflight_bytes()), (1, 0));
+    for (now, want) in [(MILLISECOND - 1, 0), (MILLISECOND, 1)] {
+        let late = queue.expired_inflight(rt.alloc(), now)?;
+        assert_eq!(rt; late.len(), want);
+        assert!(rt; late.iter().all(|tsn| *tsn == 10));
+    }
+    Ok(())
+}
+
 #[test]
 fn gives_up_a_tail(rt: HostRuntime) -> std::result::Result<(), Fail> {
-    let mut queue = OutboundQueue::new(rt.alloc());
-    let mut tsn = 10;
-    push(&mut queue, letters(rt.alloc(), true)?)?;
-    assert_eq!(rt; send(&mut queue, &mut tsn, 0)?, Some(10));
-    assert_eq!(rt; (queue.mark_as_acked(10), queue.inflight_bytes()), (3, 0));
-    assert!(rt;
-        queue
-            .expired_inflight(rt.alloc(), MILLISECOND - 1)?
-            .is_empty()
-    );
-    assert_eq!(rt;
-        queue.expired_inflight(rt.alloc(), MILLISECOND)?.as_slice(),
-        [10].as_slice()
-    );
-    assert!(rt; queue.pop(11).is_none() && queue.pop(10).is_some());
-    assert_eq!(rt; expire_tail(&mut queue, MILLISECOND - 1, &mut tsn)?, None);
-    assert_eq!(rt;
-        expire_tail(&mut queue, MILLISECOND, &mut tsn)?,
-        Some((1, 0, 4))
-    );
+    let mut queue = acknowledged_in_part(rt.alloc())?;
+    let popped = [queue.pop(11).is_some(), queue.pop(10).is_some()];
+    assert_eq!(rt; popped, [false, true]);
+    let mut tsn = 11;
+    for (now, want) in [(MILLISECOND - 1, None), (MILLISECOND, Some((1, 0, 4)))] {
+        assert_eq!(rt; expire_tail(&mut queue, now, &mut tsn)?, want);
+    }
     assert_eq!(rt;
         (tsn, queue.pending_bytes(), queue.is_abandoned(11)),
         (12, 0, true)
@@ -205,31 +213,52 @@ fn gives_up_a_tail(rt: HostRuntime) -> std::result::Result<(), Fail> {
     Ok(())
 }
 
+// The number of a message that waits, and the one that its stream gives it.
+fn numbers(chunk: Option<&ChunkPayloadData>) -> Option<(u64, u16)> {
+    let chunk = chunk?;
+    Some((chunk.message_id, chunk.stream_sequence_number))
+}
+
+// Two messages on stream 1, the first with a lifetime, and one with a lifetime on stream 2. The lifetimes begin at 0.
+fn lapsing(alloc: Global) -> Result<OutboundQueue> {
+    let mut queue = OutboundQueue::new(alloc);
+    for (stream_identifier, number, timed) in [(1, 0, true), (1, 1, false), (2, 0, true)] {
+        push(
+            &mut queue,
+            letter(alloc, stream_identifier, number, false, timed)?,
+        )?;
+    }
+    queue.start_timed_messages(0);
+    Ok(queue)
+}
+
 #[test]
 fn closes_up_later_numbers(rt: HostRuntime) -> std::result::Result<(), Fail> {
-    let mut queue = OutboundQueue::new(rt.alloc());
-    let mut tsn = 10;
-    push(&mut queue, letter(rt.alloc(), 1, 0, false, true)?)?;
-    push(&mut queue, letter(rt.alloc(), 1, 1, false, false)?)?;
-    push(&mut queue, letter(rt.alloc(), 2, 0, false, true)?)?;
-    queue.start_timed_messages(0);
-    assert_eq!(rt; queue.expire_pending(MILLISECOND - 1), None);
-    assert_eq!(rt; queue.expire_pending(MILLISECOND), Some((1, false, 1)));
-    assert_eq!(rt; queue.expire_pending(MILLISECOND), None);
-    assert!(rt;
-        queue
-            .peek_pending()
-            .is_some_and(|c| c.message_id == 1 && c.stream_sequence_number == 0)
-    );
-    assert!(rt;
-        queue
-            .peek_pending_at(1)
-            .is_some_and(|c| c.message_id == 2 && c.stream_sequence_number == 0)
-    );
-    assert!(rt;
-        queue.pending_contains_stream(2) && queue.contains_stream(1) && !queue.contains_stream(3)
-    );
+    let mut queue = lapsing(rt.alloc())?;
+    for (now, want) in [
+        (MILLISECOND - 1, None),
+        (MILLISECOND, Some((1, false, 1))),
+        (MILLISECOND, None),
+    ] {
+        assert_eq!(rt; queue.expire_pending(now), want);
+    }
+    assert_eq!(rt; numbers(queue.peek_pending()), Some((1, 0)));
+    assert_eq!(rt; numbers(queue.peek_pending_at(1)), Some((2, 0)));
+    let streams = [
+        queue.pending_contains_stream(2),
+        queue.contains_stream(1),
+        queue.contains_stream(3),
+    ];
+    assert_eq!(rt; streams, [true, true, false]);
+    Ok(())
+}
+
+#[test]
+fn starts_no_lifetime_twice(rt: HostRuntime) -> std::result::Result<(), Fail> {
+    let mut queue = lapsing(rt.alloc())?;
+    queue.expire_pending(MILLISECOND);
     queue.start_timed_messages(7 * MILLISECOND);
+    let mut tsn = 10;
     assert_eq!(rt; send(&mut queue, &mut tsn, 0)?, Some(10));
     assert_eq!(rt; queue.expire_pending(MILLISECOND), Some((2, false, 1)));
     assert_eq!(rt; send(&mut queue, &mut tsn, 0)?, None);

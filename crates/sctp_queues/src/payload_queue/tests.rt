@@ -107,25 +107,24 @@ fn pops_half_a_circle(rt: HostRuntime) -> std::result::Result<(), Fail> {
 #[test]
 fn notes_duplicates(rt: HostRuntime) -> std::result::Result<(), Fail> {
     let mut queue = filled(rt.alloc(), 10, &[12, 13])?;
-    assert!(rt;
-        queue.can_push(&chunk(14), 10)
-            && !queue.can_push(&chunk(12), 10)
-            && !queue.can_push(&chunk(10), 10)
-    );
-    let mut answers = [true; 3];
+    let mut answers = [(true, true); 3];
     for (place, tsn) in [12, 10, 14].iter().enumerate() {
-        answers[place] = push_any(&mut queue, *tsn)?;
+        let may = queue.can_push(&chunk(*tsn), 10);
+        answers[place] = (may, push_any(&mut queue, *tsn)?);
     }
-    assert_eq!(rt; answers, [false, false, true]);
+    assert_eq!(rt; answers, [(false, false), (false, false), (true, true)]);
     assert_eq!(rt; queue.duplicates(), [12, 10].as_slice());
     assert_eq!(rt;
         queue.pop_duplicates(rt.alloc()).as_slice(),
         [12, 10].as_slice()
     );
-    assert!(rt; queue.duplicates().is_empty());
     assert_eq!(rt;
-        (queue.get_last_tsn_received(), queue.get_num_bytes()),
-        (Some(14), 3)
+        (
+            queue.duplicates().len(),
+            queue.get_last_tsn_received(),
+            queue.get_num_bytes()
+        ),
+        (0, Some(14), 3)
     );
     Ok(())
 }
@@ -138,41 +137,69 @@ fn push_any(queue: &mut PayloadQueue, tsn: u32) -> Result<bool> {
     Ok(false)
 }
 
+// What the setters set of the chunk with a TSN: to be sent again, how often sent, since when, reported missing how often.
+fn marks(queue: &PayloadQueue, tsn: u32) -> Option<(bool, u32, Option<u64>, u8)> {
+    let chunk = queue.get(tsn)?;
+    Some((
+        chunk.retransmit,
+        chunk.nsent,
+        chunk.since,
+        chunk.miss_indicator,
+    ))
+}
+
 #[test]
-fn marks_and_takes(rt: HostRuntime) -> std::result::Result<(), Fail> {
+fn marks_a_chunk(rt: HostRuntime) -> std::result::Result<(), Fail> {
+    let mut queue = filled(rt.alloc(), 10, &[11])?;
+    let set = [
+        queue.set_retransmit(11, true),
+        queue.set_nsent(11, 3),
+        queue.set_since(11, Some(9)),
+        queue.set_miss_indicator(11, 2),
+        queue.set_retransmit(14, true),
+    ];
+    assert_eq!(rt; set, [true, true, true, true, false]);
+    assert_eq!(rt; marks(&queue, 11), Some((true, 3, Some(9), 2)));
+    assert_eq!(rt; marks(&queue, 14), None);
+    Ok(())
+}
+
+#[test]
+fn acknowledges_once(rt: HostRuntime) -> std::result::Result<(), Fail> {
     let mut queue = filled(rt.alloc(), 10, &[13, 11, 12])?;
-    assert_eq!(rt;
-        (
-            queue.mark_as_acked(12),
-            queue.mark_as_acked(12),
-            queue.get_num_bytes()
-        ),
-        (1, 0, 2)
-    );
-    assert!(rt;
-        queue.set_retransmit(11, true)
-            && queue.set_nsent(11, 3)
-            && queue.set_since(11, Some(9))
-            && queue.set_miss_indicator(11, 2)
-    );
-    assert!(rt; !queue.set_retransmit(14, true));
-    assert!(rt;
-        queue.get(11).is_some_and(|c| c.retransmit
-            && c.nsent == 3
-            && c.since == Some(9)
-            && c.miss_indicator == 2)
-    );
-    let copy = queue.try_clone(rt.alloc())?;
+    let given = [
+        queue.mark_as_acked(12),
+        queue.mark_as_acked(12),
+        queue.get_num_bytes(),
+    ];
+    assert_eq!(rt; given, [1, 0, 2]);
     queue.mark_all_to_retransmit();
-    assert!(rt;
-        queue.get(13).is_some_and(|c| c.retransmit) && queue.get(12).is_some_and(|c| !c.retransmit)
+    assert_eq!(rt;
+        (marks(&queue, 13), marks(&queue, 12)),
+        (Some((true, 0, None, 0)), Some((false, 0, None, 0)))
     );
-    assert!(rt; queue.take(13).is_some() && queue.take(13).is_none());
-    assert!(rt; queue.pop(12).is_none() && queue.pop(11).is_some());
-    assert!(rt; queue.contains_stream(1) && !queue.contains_stream(2) && !queue.is_empty());
-    assert_eq!(rt; (queue.len(), copy.len(), copy.get_num_bytes()), (1, 3, 2));
-    assert_eq!(rt; queue.abandon_message(0), 0);
-    assert!(rt; queue.get(12).is_some_and(|c| c.abandoned));
+    assert_eq!(rt; (queue.abandon_message(0), queue.get_num_bytes()), (2, 0));
+    Ok(())
+}
+
+#[test]
+fn takes_out(rt: HostRuntime) -> std::result::Result<(), Fail> {
+    let mut queue = filled(rt.alloc(), 10, &[13, 11, 12])?;
+    let copy = queue.try_clone(rt.alloc())?;
+    let taken = [
+        queue.take(13).is_some(),
+        queue.take(13).is_some(),
+        queue.pop(12).is_some(),
+        queue.pop(11).is_some(),
+    ];
+    assert_eq!(rt; taken, [true, false, false, true]);
+    let left = [
+        queue.contains_stream(1),
+        queue.contains_stream(2),
+        queue.is_empty(),
+    ];
+    assert_eq!(rt; left, [true, false, false]);
+    assert_eq!(rt; (queue.len(), copy.len(), copy.get_num_bytes()), (1, 3, 3));
     Ok(())
 }
 

@@ -7,4 +7,4 @@ pub returns-in_default-clause-ok : goal.returns-in_default-clause-ok
 returns-in_default-clause-ok c =
     let q = c.self.inside in
     let h = rw c.in_default.is at c.in_ok-chunks.ensures.ok in
-    rw (← c.self.view_is) (subst HasNoRun h.1 h.0, ap (λ ls. state_of q.si q.next_ssn q.ordered.items q.unordered.items ls q.n_bytes q.max_message_size) h.1)
+    rw (← c.self.view_is) (subst HasNoRun h.1 h.0, ap (λ ls. state_of q.si q.next_ssn q.ordered q.unordered.items ls q.n_bytes q.max_message_size) h.1)

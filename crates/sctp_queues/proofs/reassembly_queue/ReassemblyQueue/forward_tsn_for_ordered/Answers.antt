@@ -9,7 +9,7 @@ use Rattle.sctp_queues.proofs.reassembly_queue.ReassemblyQueue.forward_tsn_for_o
 pub returns-clause-value : goal.returns-clause-value
 returns-clause-value c =
     let q = c.self.inside in
-    let n = set_bytes (those (is_passed c.args.last_ssn) q.ordered.items) in
+    let n = set_bytes (those (is_passed c.args.last_ssn) q.ordered) in
     rw (← c.self.view_is) (c.release.ensures n c.discard-gone.ensures.bytes
     ∙ ap₂ (λ next sets. state_of q.si next sets q.unordered.items q.unordered_chunks (q.n_bytes - n) q.max_message_size) c.ssn_past-self-inside.ensures c.discard-gone.ensures.rest)
 

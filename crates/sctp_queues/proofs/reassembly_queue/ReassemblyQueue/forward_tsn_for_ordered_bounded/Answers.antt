@@ -2,7 +2,7 @@ use Rattle.std.proofs.Common.{◌≡◌, ◌-◌, if◌then◌else◌, ap, ap₂
 use Rattle.sctp_lists.specs.Serial.{comes_before16}
 use Rattle.sctp_lists.specs.Lists.{those}
 use Rattle.sctp_queues.specs.Reassembly.{set_bytes}
-use Rattle.sctp_queues.specs.Bounded.{is_abandoned}
+use Rattle.sctp_queues.specs.Bounded.{is_abandoned, goal_of}
 use Rattle.sctp_queues.proofs.SetLemmas.{state_of}
 use Rattle.sctp_queues.specs.Reassembly.{ReassemblyState, IsCounted, complete_sets}
 use Rattle.sctp_queues.proofs.CountLemmas.{bounded_counted, bounded_complete}
@@ -11,9 +11,9 @@ use Rattle.sctp_queues.proofs.reassembly_queue.ReassemblyQueue.forward_tsn_for_o
 pub returns-clause-value : goal.returns-clause-value
 returns-clause-value c =
     let q = c.self.inside in
-    let n = set_bytes (those (is_abandoned c.args.last_ssn c.args.new_cumulative_tsn) q.ordered.items) in
+    let n = set_bytes (those (is_abandoned c.args.last_ssn c.args.new_cumulative_tsn) q.ordered) in
     rw (← c.self.view_is) (c.release.ensures n c.discard-gone.ensures.bytes
-    ∙ ap₂ (λ next sets. state_of q.si next sets q.unordered.items q.unordered_chunks (q.n_bytes - n) q.max_message_size) (c.ssn_upto-self-inside.ensures ∙ ap (λ g. if comes_before16 q.next_ssn g then g else q.next_ssn) c.goal-goal.ensures) c.discard-gone.ensures.rest)
+    ∙ ap₂ (λ next sets. state_of q.si next sets q.unordered.items q.unordered_chunks (q.n_bytes - n) q.max_message_size) (c.ssn_upto-self-inside.ensures ∙ ap (λ g. if comes_before16 q.next_ssn g then g else q.next_ssn) (c.goal-goal.ensures ∙ ap (goal_of c.args.last_ssn c.args.new_cumulative_tsn) c.as_deque.ensures)) c.discard-gone.ensures.rest)
 
 pub returns-clause-counted : goal.returns-clause-counted
 returns-clause-counted c h = subst IsCounted (sym (returns-clause-value c)) (bounded_counted c.args.last_ssn c.args.new_cumulative_tsn c.args.self.now h)

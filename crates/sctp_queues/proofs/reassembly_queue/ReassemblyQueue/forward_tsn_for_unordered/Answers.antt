@@ -21,7 +21,7 @@ returns-clause-value c =
     let gone = ap (λ i. take i xs) at ∙ leading_upto-position t xs in
     let counted = rw c.as_slice-2.ensures at c.bytes_in-gone.ensures in
     rw (← c.self.view_is) (c.release.ensures (bytes_of (take k xs)) counted
-    ∙ ap₂ (λ ls ds. state_of q.si q.next_ssn q.ordered.items q.unordered.items ls (q.n_bytes - bytes_of ds) q.max_message_size) left gone)
+    ∙ ap₂ (λ ls ds. state_of q.si q.next_ssn q.ordered q.unordered.items ls (q.n_bytes - bytes_of ds) q.max_message_size) left gone)
 
 pub returns-clause-counted : goal.returns-clause-counted
 returns-clause-counted c h = subst IsCounted (sym (returns-clause-value c)) (drop_counted c.args.new_cumulative_tsn c.args.self.now h)

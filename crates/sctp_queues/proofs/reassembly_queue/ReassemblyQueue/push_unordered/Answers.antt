@@ -14,9 +14,9 @@ returns-in-None-clause-ok c =
     rw (← c.self.view_is) (
       (
         subst HasNoRun h.1 h.0,
-        ap₂ (λ us ls. let r : Reassembly = record { next_ssn = q.next_ssn; ordered = q.ordered.items; unordered = us; loose = ls } in r) c.in_ok-reserve.ensures.items h.1,
+        ap₂ (λ us ls. let r : Reassembly = record { next_ssn = q.next_ssn; ordered = q.ordered; unordered = us; loose = ls } in r) c.in_ok-reserve.ensures.items h.1,
       ),
-      ap (λ b. state_of q.si q.next_ssn q.ordered.items c.reserve.new.self.items c.put.new.self b q.max_message_size) counted,
+      ap (λ b. state_of q.si q.next_ssn q.ordered c.reserve.new.self.items c.put.new.self b q.max_message_size) counted,
     )
 
 pub returns-in-Some-clause-ok : goal.returns-in-Some-clause-ok
@@ -30,7 +30,7 @@ returns-in-Some-clause-ok c =
         first = h.first;
         count = h.count;
         run = h.run;
-        moved = ap₂ (λ us ls. let r : Reassembly = record { next_ssn = q.next_ssn; ordered = q.ordered.items; unordered = us; loose = ls } in r) more h.rest;
+        moved = ap₂ (λ us ls. let r : Reassembly = record { next_ssn = q.next_ssn; ordered = q.ordered; unordered = us; loose = ls } in r) more h.rest;
       },
-      ap (λ b. state_of q.si q.next_ssn q.ordered.items c.push_back_reserved.new.self.items c.put.new.self b q.max_message_size) counted,
+      ap (λ b. state_of q.si q.next_ssn q.ordered c.push_back_reserved.new.self.items c.put.new.self b q.max_message_size) counted,
     )
