@@ -39,3 +39,5 @@ pub mod PendingBytes
 pub mod Fragments
 pub mod SackMade
 pub mod Lent
+pub mod Owned
+pub mod Unacked
