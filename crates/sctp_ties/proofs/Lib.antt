@@ -41,3 +41,5 @@ pub mod SackMade
 pub mod Lent
 pub mod Owned
 pub mod Unacked
+pub mod InFlightBytes
+pub mod MessageSums
