@@ -1,5 +1,5 @@
 -- The bytes that the queue in flight holds are those that the record says.
-use Rattle.std.proofs.Common.{◌≡◌, ℕ, zero, suc, ◌+◌, ◌-◌, ◌<◌, ◌≤◌, Bool, true, false, List, [], ◌∷◌, length, map, Option, Some, None, refl, ap, sym, ◌∙◌, inl, inr, arith}
+use Rattle.std.proofs.Common.{◌≡◌, ℕ, zero, suc, ◌+◌, ◌-◌, ◌<◌, ◌≤◌, Bool, true, false, List, [], ◌∷◌, length, Option, Some, None, refl, ap, sym, ◌∙◌, inl, inr, arith}
 use Rattle.std.specs.Prelude.{◌⊎◌, if◌then◌else◌, ◌||◌, not, nat_lt, max, slice_get}
 use Rattle.std.proofs.lemmas.Bool.{cases_lt}
 use Rattle.std.proofs.lemmas.Bool.Decides.{nat_tests}
@@ -15,9 +15,8 @@ use Rattle.sctp_queues.specs.Pending.{total_bytes}
 use Rattle.sctp_model.specs.declared.event.Event.TheVariants as E
 use Rattle.sctp_model.specs.World.{Setup, Datagram, Data, Forward, Sack, World}
 use Rattle.sctp_model.specs.Messages.{message_at, slot_at, message_of}
-use Rattle.sctp_model.specs.Amounts.{is_given_up, slot_bytes, in_all, written_bytes, pending_bytes, in_flight_bytes, released_bytes, Ledger, ledger}
+use Rattle.sctp_model.specs.Amounts.{in_all, written_bytes, pending_bytes, in_flight_bytes, released_bytes, Ledger, ledger}
 use Rattle.sctp_model.specs.Log.{is_acknowledged_in, taken_in, cumulative_in, reported_by}
-use Rattle.sctp_model.specs.Reports.{reports}
 use Rattle.sctp_model.specs.Contents.{chunk_at}
 use Rattle.sctp_model.specs.Steps.{History, world_of, IsRun}
 use Rattle.sctp_model.specs.Laws.{IsSetup}

@@ -43,3 +43,4 @@ pub mod Owned
 pub mod Unacked
 pub mod InFlightBytes
 pub mod MessageSums
+pub mod StreamAmounts

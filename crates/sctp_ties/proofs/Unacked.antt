@@ -1,5 +1,5 @@
 -- The bytes in flight, by message and by slot.
-use Rattle.std.proofs.Common.{◌≡◌, ℕ, ◌+◌, ◌-◌, ◌<◌, ◌≤◌, Bool, true, false, [], length, get_or, Some, refl, ap, sym, ◌∙◌, arith, zero-add}
+use Rattle.std.proofs.Common.{◌≡◌, ℕ, ◌+◌, ◌-◌, ◌<◌, Bool, true, false, [], length, get_or, Some, refl, ap, sym, ◌∙◌, arith, zero-add}
 use Rattle.std.proofs.Math.Path.{subst}
 use Rattle.std.specs.Prelude.{if◌then◌else◌, ◌==◌, ◌&&◌, ◌||◌, not, max}
 use Rattle.sctp_lists.specs.Kept.{kept, always, numbers_from, total_over}
@@ -128,10 +128,10 @@ unacked_by x a = total_over (bytes_by x) (kept (λ p. not (a p)) 0 x.slots)
 abbrev unacked_on_by : Shape → (ℕ → Bool) → ℕ → ℕ
 unacked_on_by x a t = total_over (bytes_by x) (kept (λ p. not (a p) && ((x.message (x.slot p).message).stream == t)) 0 x.slots)
 
-abbrev pending_by : Shape → ℕ → ℕ
+abbrev pub pending_by : Shape → ℕ → ℕ
 pending_by x n = if (x.message n).expired || (x.message n).abandoned then 0 else total_over (λ i. length (get_or (pieces (length (x.message n).bytes) x.size (x.message n).bytes) i [])) (numbers_from (sent x n) (parts x n - sent x n))
 
-abbrev pending_on_by : Shape → ℕ → ℕ
+abbrev pub pending_on_by : Shape → ℕ → ℕ
 pending_on_by x t = total_over (pending_by x) (kept (λ n. (x.message n).stream == t) 0 x.count)
 
 -- all that the slots hold, with what was written of messages given up

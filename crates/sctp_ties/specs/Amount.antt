@@ -1,6 +1,8 @@
 -- What a stream still has to send or to see acknowledged, and the bytes of it that slots hold.
-use Rattle.std.specs.Prelude.{ℕ, ◌+◌, Bool, ◌&&◌, ◌||◌, not, ◌==◌, if◌then◌else◌}
+use Rattle.std.specs.Prelude.{ℕ, ◌+◌, Bool, true, false, ◌&&◌, ◌||◌, not, ◌==◌, if◌then◌else◌}
 use Rattle.sctp_lists.specs.Kept.{total_over}
+use Rattle.sctp_model.specs.declared.event.Event.{Event}
+use Rattle.sctp_model.specs.declared.event.Event.TheVariants as E
 use Rattle.sctp_model.specs.World.{World, Report}
 use Rattle.sctp_model.specs.Messages.{message_at, slot_at, message_of, slots_where}
 use Rattle.sctp_model.specs.Amounts.{is_given_up, slot_bytes, pending_bytes, in_flight_bytes, on_stream}
@@ -9,6 +11,16 @@ use Rattle.sctp_model.specs.Reports.{reports}
 -- the bytes of a stream that are pending or in flight: what `buffered_amount` says of it where it is open
 abbrev pub amount : World → ℕ → ℕ
 amount w t = on_stream w t (pending_bytes w) + on_stream w t (in_flight_bytes w)
+
+-- an event that writes nothing, gives nothing up and acknowledges nothing
+abbrev pub keeps_amounts : Event → Bool
+keeps_amounts (E.Write s ppi bytes) = false
+keeps_amounts (E.Expire now) = false
+keeps_amounts (E.Tail now) = false
+keeps_amounts (E.Late now) = false
+keeps_amounts (E.Abandon tsn) = false
+keeps_amounts (E.Acked k) = false
+keeps_amounts _ = true
 
 -- the stream of the message that the slot at this place belongs to
 abbrev pub stream_of_slot : World → ℕ → ℕ
