@@ -44,3 +44,5 @@ pub mod Unacked
 pub mod InFlightBytes
 pub mod MessageSums
 pub mod StreamAmounts
+pub mod StreamCounters
+pub mod ToldSums

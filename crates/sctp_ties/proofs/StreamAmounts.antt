@@ -126,8 +126,8 @@ stream-open w s e = by (find (λ r. r.stream == s) w.streams) refl e
 pub write-open : (w : World) (s : ℕ) (ppi : PayloadProtocolIdentifier) (bytes : List ℕ) → refusal_of w (E.Write s ppi bytes) ≡ None → is_open w s ≡ true
 write-open w s ppi bytes ok = (unless-holds (is_open w s) StreamUnknown (unless (nat_le (length bytes) w.setup.largest) MessageTooLarge (unless (nat_lt (fragments_accepted w + fragments_in w bytes) (2 ^ 31)) TsnsUsedUp None)) ok).0
 
-turned : (s t : ℕ) → (s == t) ≡ (t == s)
-turned s t = by_same s t (λ e. ap (λ k. k == t) e ∙ same-yes t ∙ sym (ap (λ k. t == k) e ∙ same-yes t)) (λ ne f. f ∙ sym (fails (t == s) (λ e. ne (sym (same-is t s e)))))
+pub same-turned : (s t : ℕ) → (s == t) ≡ (t == s)
+same-turned s t = by_same s t (λ e. ap (λ k. k == t) e ∙ same-yes t ∙ sym (ap (λ k. t == k) e ∙ same-yes t)) (λ ne f. f ∙ sym (fails (t == s) (λ e. ne (sym (same-is t s e)))))
 
 alive-wrote : (w : World) (s t : ℕ) (ppi : PayloadProtocolIdentifier) (bytes : List ℕ) → (stream_of w s).stream ≡ s → sum_where (wrote w s ppi bytes) (is_on t) alive_bytes ≡ sum_where w (is_on t) alive_bytes + (if t == s then length bytes else 0)
 alive-wrote w s t ppi [] e = none (t == s) (sum_where w (is_on t) alive_bytes)
@@ -138,7 +138,7 @@ alive-wrote w s t ppi [] e = none (t == s) (sum_where w (is_on t) alive_bytes)
 alive-wrote w s t ppi (b ∷ bs) e =
     sum-written w (message_on w (stream_of w s) ppi (b ∷ bs)) (is_on t) alive_bytes
     ∙ ap (λ k. sum_where w (is_on t) alive_bytes + (if k == t then length (b ∷ bs) else 0)) e
-    ∙ ap (λ c. sum_where w (is_on t) alive_bytes + (if c then length (b ∷ bs) else 0)) (turned s t)
+    ∙ ap (λ c. sum_where w (is_on t) alive_bytes + (if c then length (b ∷ bs) else 0)) (same-turned s t)
 
 -- a write adds its bytes to its stream
 pub amount-wrote : (setup : Setup) (w : World) (s t : ℕ) (ppi : PayloadProtocolIdentifier) (bytes : List ℕ) → IsSetup setup → Sane setup w → refusal_of w (E.Write s ppi bytes) ≡ None → amount (wrote w s ppi bytes) t ≡ amount w t + (if t == s then length bytes else 0)
