@@ -6,7 +6,7 @@ use Rattle.sctp_lists.specs.Kept.{kept, always, numbers_from, total_over}
 use Rattle.sctp_lists.specs.Lists.{pieces}
 use Rattle.sctp_lists.proofs.KeptLemmas.{kept-same}
 use Rattle.sctp_lists.proofs.More.{fails}
-use Rattle.sctp_lists.proofs.Cases.{same-yes, same-is}
+use Rattle.sctp_lists.proofs.Cases.{by_same, same-yes, same-is, or-none}
 use Rattle.sctp_lists.proofs.Getting.{numbered-at}
 use Rattle.sctp_lists.proofs.Totals.{total-none, total-one, total-plus, total-split, total-where, total-kept_same}
 use Rattle.sctp_model.specs.World.{World, Report, Sack}
@@ -107,6 +107,37 @@ unacked-marked w acked p e lt =
 pub unacked_on-marked : (w : World) (acked : ℕ → Bool) (p t : ℕ) → acked p ≡ false → p < length w.slots → unacked_on w (λ k. acked k || (k == p)) t + (if stream_of_slot w p == t then bytes_at w p else 0) ≡ unacked_on w acked t
 unacked_on-marked w acked p t e lt = marked-where w acked (λ k. stream_of_slot w k == t) p e lt
 
+-- so too where it was acknowledged before: then none leave
+marked-again : (w : World) (acked c : ℕ → Bool) (p : ℕ) → acked p ≡ true → kept (λ k. not (acked k || (k == p)) && c k) 0 (length w.slots) ≡ kept (λ k. not (acked k) && c k) 0 (length w.slots)
+marked-again w acked c p e = kept-same (λ k. not (acked k || (k == p)) && c k) (λ k. not (acked k) && c k) 0 (length w.slots) (λ k i j. ap (λ b. not b && c k) (by_same {P = (acked k || (k == p)) ≡ acked k} k p
+    (λ z. let a : acked k ≡ true = ap acked z ∙ e in ap (λ b. b || (k == p)) a ∙ sym a)
+    (λ ne f. ap (λ b. acked k || b) f ∙ or-none (acked k))))
+
+pub unacked-taken : (w : World) (acked : ℕ → Bool) (p : ℕ) → p < length w.slots → unacked w (λ k. acked k || (k == p)) + (if acked p then 0 else bytes_at w p) ≡ unacked w acked
+unacked-taken w acked p lt = by (acked p) refl
+  where
+    always-too : (a : ℕ → Bool) → kept (λ k. not (a k) && true) 0 (length w.slots) ≡ kept (λ k. not (a k)) 0 (length w.slots)
+    always-too a = kept-same (λ k. not (a k) && true) (λ k. not (a k)) 0 (length w.slots) (λ k i j. and-true (not (a k)))
+
+    by : (b : Bool) → acked p ≡ b → unacked w (λ k. acked k || (k == p)) + (if b then 0 else bytes_at w p) ≡ unacked w acked
+    by true e = let z = ap (total_over (bytes_at w)) (sym (always-too (λ k. acked k || (k == p))) ∙ marked-again w acked always p e ∙ always-too acked) in omega (arith, z)
+    by false e = unacked-marked w acked p e lt
+
+pub unacked_on-taken : (w : World) (acked : ℕ → Bool) (p t : ℕ) → p < length w.slots → unacked_on w (λ k. acked k || (k == p)) t + (if stream_of_slot w p == t then (if acked p then 0 else bytes_at w p) else 0) ≡ unacked_on w acked t
+unacked_on-taken w acked p t lt = by (acked p) refl
+  where
+    none : (c : Bool) (k : ℕ) → k + (if c then 0 else 0) ≡ k
+    none true k = omega arith
+    none false k = omega arith
+
+    by : (b : Bool) → acked p ≡ b → unacked_on w (λ k. acked k || (k == p)) t + (if stream_of_slot w p == t then (if b then 0 else bytes_at w p) else 0) ≡ unacked_on w acked t
+    by true e = none (stream_of_slot w p == t) (unacked_on w (λ k. acked k || (k == p)) t) ∙ ap (total_over (bytes_at w)) (marked-again w acked (λ k. stream_of_slot w k == t) p e)
+    by false e = unacked_on-marked w acked p t e lt
+
+-- a fragment's slot holds its bytes, where its message was not given up
+pub bytes_at-alive : (w : World) (p : ℕ) → (slot_at w p).is_end_mark ≡ false → is_given_up w (message_of w p) ≡ false → bytes_at w p ≡ slot_bytes w (message_of w p) p
+bytes_at-alive w p e f = ap (λ b. if b || is_given_up w (message_of w p) then 0 else slot_bytes w (message_of w p) p) e ∙ ap (λ b. if b then 0 else slot_bytes w (message_of w p) p) f
+
 -- what is acknowledged may be told by another test that agrees
 pub unacked-same : (w : World) (a b : ℕ → Bool) → ((k : ℕ) → k < length w.slots → a k ≡ b k) → unacked w a ≡ unacked w b
 unacked-same w a b e = ap (total_over (bytes_at w)) (kept-same (λ k. not (a k)) (λ k. not (b k)) 0 (length w.slots) (λ k i j. ap not (e k (omega arith))))
@@ -185,3 +216,7 @@ module _ (w : World) (r : Report) where
   -- that much the released bytes grow
   pub growth-acked : Sender (shape w) → growth w v ≡ unacked w (acknowledged_at w) - unacked w (acknowledged_then w r)
   growth-acked s = omega (arith, released-acked s)
+
+  -- and the bytes in flight shrink
+  pub growth-in_flight : Sender (shape w) → growth w v ≡ in_all w (in_flight_bytes w) - in_all v (in_flight_bytes v)
+  growth-in_flight s = omega (arith, growth-acked s, in-flight-in w s, in-flight-in v (sender-acked s), unacked-acked)
