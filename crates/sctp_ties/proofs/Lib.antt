@@ -46,3 +46,4 @@ pub mod MessageSums
 pub mod StreamAmounts
 pub mod StreamCounters
 pub mod ToldSums
+pub mod GivenUp

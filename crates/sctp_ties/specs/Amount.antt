@@ -12,6 +12,10 @@ use Rattle.sctp_model.specs.Reports.{reports}
 abbrev pub amount : World → ℕ → ℕ
 amount w t = on_stream w t (pending_bytes w) + on_stream w t (in_flight_bytes w)
 
+-- the bytes of message n that are pending or in flight: those that giving it up releases
+abbrev pub held_bytes : World → ℕ → ℕ
+held_bytes w n = pending_bytes w n + in_flight_bytes w n
+
 -- an event that writes nothing, gives nothing up and acknowledges nothing
 abbrev pub keeps_amounts : Event → Bool
 keeps_amounts (E.Write s ppi bytes) = false
