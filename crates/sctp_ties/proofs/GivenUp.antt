@@ -11,7 +11,7 @@ use Rattle.sctp_lists.proofs.Totals.{total-one, total-plus, total-where, total-k
 use Rattle.sctp_model.specs.World.{Message, Slot, World}
 use Rattle.sctp_model.specs.Messages
 use Rattle.sctp_model.specs.Messages.{message_at, slot_at, messages_where, has_fragment, sent_of, no_message, no_slot, is_half_sent}
-use Rattle.sctp_model.specs.Amounts.{is_given_up, pending_bytes, in_flight_bytes}
+use Rattle.sctp_model.specs.Amounts.{is_given_up, in_all, pending_bytes, in_flight_bytes}
 use Rattle.sctp_model.specs.Changes.{with_slot, message_changed, mark_abandoned, mark_expired, abandoned}
 use Rattle.sctp_model.proofs.Shape.{shape, sent}
 use Rattle.sctp_model.proofs.Sender.{sent-slotted}
@@ -124,3 +124,10 @@ amount-abandoned w n t lt = let q : Message → Bool = λ m. m.stream == t in om
 -- so does one that expired
 pub amount-expired : (w : World) (n t : ℕ) → n < length w.messages → amount (message_changed w n mark_expired) t + (if (message_at w n).stream == t then held_bytes w n else 0) ≡ amount w t
 amount-expired w n t lt = let q : Message → Bool = λ m. m.stream == t in omega (arith, held-split w q, held-split (message_changed w n mark_expired) q, held-changed w n mark_expired q (λ m. refl) (λ m. refl) lt)
+
+-- and all that is held shrinks by as much
+pub held-in-abandoned : (w : World) (n : ℕ) → n < length w.messages → in_all (abandoned w n) (held_bytes (abandoned w n)) + held_bytes w n ≡ in_all w (held_bytes w)
+held-in-abandoned w n lt = held-abandoned w n (λ m. true) (λ m. refl) lt
+
+pub held-in-expired : (w : World) (n : ℕ) → n < length w.messages → in_all (message_changed w n mark_expired) (held_bytes (message_changed w n mark_expired)) + held_bytes w n ≡ in_all w (held_bytes w)
+held-in-expired w n lt = held-changed w n mark_expired (λ m. true) (λ m. refl) (λ m. refl) lt

@@ -47,3 +47,4 @@ pub mod StreamAmounts
 pub mod StreamCounters
 pub mod ToldSums
 pub mod GivenUp
+pub mod Released

@@ -42,7 +42,7 @@ pub record AsRead (w v : World) : Type 0 where
   pub told : AsTold w v
   pub read : (n : ℕ) → n < length w.messages → (message_at v n).read ≡ (message_at w n).read
 
-read-quiet : (w v : World) → length v.messages ≡ length w.messages → Quiet w v → AsRead w v
+pub read-quiet : (w v : World) → length v.messages ≡ length w.messages → Quiet w v → AsRead w v
 read-quiet w v count q = record {
   told = record {
     count = count;
