@@ -1,6 +1,6 @@
 -- What is released as messages are given up, by the record and by what the queues hold.
-use Rattle.std.proofs.Common.{◌≡◌, ℕ, ◌+◌, ◌-◌, ◌<◌, Bool, true, false, ◌∷◌, length, Option, Some, None, refl, ap, sym, ◌∙◌, arith}
-use Rattle.std.specs.Prelude.{if◌then◌else◌, ◌==◌, ◌&&◌}
+use Rattle.std.proofs.Common.{◌≡◌, ℕ, ◌+◌, ◌-◌, ◌<◌, Bool, true, false, List, [], ◌∷◌, length, Option, Some, None, refl, ap, sym, ◌∙◌, arith}
+use Rattle.std.specs.Prelude.{if◌then◌else◌, ◌==◌, ◌&&◌, fold}
 use Rattle.sctp_lists.specs.Kept.{always}
 use Rattle.sctp_lists.proofs.More.{both}
 use Rattle.sctp_lists.proofs.Totals.{total-plus}
@@ -11,19 +11,19 @@ use Rattle.sctp_model.specs.declared.event.LinkRefusal.TheVariants.{NotInFlight}
 use Rattle.sctp_model.specs.World.{Setup, World}
 use Rattle.sctp_model.specs.Messages.{message_at, message_of, place_of, front, is_unsent, is_half_sent, is_in_flight, is_lapsed}
 use Rattle.sctp_model.specs.Amounts.{in_all, written_bytes, released_bytes, growth}
-use Rattle.sctp_model.specs.Changes.{abandoned, expired, expiring, front_if, tailing, tail_abandoned}
+use Rattle.sctp_model.specs.Changes.{late_messages, abandoned, expired, expiring, front_if, tailing, tail_abandoned}
 use Rattle.sctp_model.specs.Steps.{History, world_of, IsRun, refusal_of, reply_to, after}
 use Rattle.sctp_model.specs.Laws.{IsSetup}
 use Rattle.sctp_model.proofs.Shape.{shape, sent}
 use Rattle.sctp_model.proofs.SenderSteps.{of-half}
-use Rattle.sctp_model.proofs.SenderRun.{Sane, sane-run, sane-after, sane-abandoned, in-flight-sent, unless-holds}
+use Rattle.sctp_model.proofs.SenderRun.{Sane, AllSent, sent-all, late-sent, sane-run, sane-after, sane-abandoned, in-flight-sent, unless-holds}
 use Rattle.sctp_model.proofs.Slots.{sent-made}
 use Rattle.sctp_model.proofs.Fronts.{front-takes}
 use Rattle.sctp_model.proofs.Moves
 use Rattle.sctp_model.proofs.Moves.{Quiet}
 use Rattle.sctp_model.proofs.Bytes.{balance, balances, size-some}
 use Rattle.sctp_model.proofs.BytesTold.{count-abandoned}
-use Rattle.sctp_ties.specs.Amount.{amount, held_bytes}
+use Rattle.sctp_ties.specs.Amount.{amount, held_bytes, released_along, released_along_on}
 use Rattle.sctp_ties.specs.Counts.{is_write}
 use Rattle.sctp_ties.specs.Tied.{TiedOutbound}
 use Rattle.sctp_ties.proofs.GivenUp.{amount-abandoned, amount-expired, held-in-abandoned, held-in-expired}
@@ -123,3 +123,20 @@ module _ (setup : Setup) (w : World) (tsn : ℕ) (g : Sane setup w) (ok : refusa
 
   pub growth-abandon : IsSetup setup → growth w (after w (E.Abandon tsn)) ≡ held_bytes w gone
   growth-abandon is = omega (arith, released-abandoned setup w gone is g sent-gone)
+
+-- ## Late
+
+released-fold : (setup : Setup) (ns : List ℕ) (w : World) → IsSetup setup → Sane setup w → AllSent w ns → in_all (fold abandoned w ns) (released_bytes (fold abandoned w ns)) ≡ in_all w (released_bytes w) + released_along w ns
+released-fold setup [] w is g a = omega arith
+released-fold setup (n ∷ ns) w is g a = omega (arith, released-abandoned setup w n is g a.0, released-fold setup ns (abandoned w n) is (sane-abandoned setup w n g a.0) (sent-all w n ns a.1))
+
+amount-fold : (setup : Setup) (ns : List ℕ) (w : World) (t : ℕ) → Sane setup w → AllSent w ns → amount (fold abandoned w ns) t + released_along_on w t ns ≡ amount w t
+amount-fold setup [] w t g a = omega arith
+amount-fold setup (n ∷ ns) w t g a = omega (arith, amount-abandoned w n t (sent-made (shape w) n g.sender a.0), amount-fold setup ns (abandoned w n) t (sane-abandoned setup w n g a.0) (sent-all w n ns a.1))
+
+-- a Late takes what its messages hold, one after another
+pub growth-late : (setup : Setup) (w : World) (now : ℕ) → IsSetup setup → Sane setup w → growth w (after w (E.Late now)) ≡ released_along w (late_messages w now)
+growth-late setup w now is g = omega (arith, released-fold setup (late_messages w now) w is g (late-sent setup w now g))
+
+pub amount-late : (setup : Setup) (w : World) (now t : ℕ) → Sane setup w → amount (after w (E.Late now)) t + released_along_on w t (late_messages w now) ≡ amount w t
+amount-late setup w now t g = amount-fold setup (late_messages w now) w t g (late-sent setup w now g)
