@@ -71,11 +71,14 @@ module _ (w : World) (n : ℕ) where
 
 -- ## A message given up holds nothing
 
--- the bytes that message k would hold as this one
+-- the bytes that message k would hold as this one, given up or not
+abbrev held_if : World → ℕ → Bool → Message → ℕ
+held_if w k gone m =
+    (if gone then 0 else total_over (λ i. length (get_or (pieces (length m.bytes) w.setup.size m.bytes) i [])) (numbers_from (sent_of w k) (length (pieces (length m.bytes) w.setup.size m.bytes) - sent_of w k)))
+    + (if gone then 0 else total_over (λ p. length (get_or (pieces (length m.bytes) w.setup.size m.bytes) (slot_at w p).fragment [])) (kept (λ p. has_fragment w k p && not (slot_at w p).acknowledged) 0 (length w.slots)))
+
 abbrev held_as : World → ℕ → Message → ℕ
-held_as w k m =
-    (if m.expired || m.abandoned then 0 else total_over (λ i. length (get_or (pieces (length m.bytes) w.setup.size m.bytes) i [])) (numbers_from (sent_of w k) (length (pieces (length m.bytes) w.setup.size m.bytes) - sent_of w k)))
-    + (if m.expired || m.abandoned then 0 else total_over (λ p. length (get_or (pieces (length m.bytes) w.setup.size m.bytes) (slot_at w p).fragment [])) (kept (λ p. has_fragment w k p && not (slot_at w p).acknowledged) 0 (length w.slots)))
+held_as w k m = held_if w k (m.expired || m.abandoned) m
 
 held-changed : (w : World) (n : ℕ) (f : Message → Message) (q : Message → Bool) → ((m : Message) → q (f m) ≡ q m) → ((m : Message) → ((f m).expired || (f m).abandoned) ≡ true) → n < length w.messages → held_where (message_changed w n f) q + (if q (message_at w n) then held_bytes w n else 0) ≡ held_where w q
 held-changed w n f q same gone lt =
@@ -85,15 +88,10 @@ held-changed w n f q same gone lt =
     let one = total-one (λ k. if q (message_at v k) then held_bytes v k else 0) (λ k. if q (message_at w k) then held_bytes w k else 0) n (if q (message_at w n) then held_bytes w n else 0) 0 (length w.messages) (omega arith) (omega arith)
     (λ k ne. ap (λ m. if q m then held_as w k m else 0) (changed-other f n k w.messages no_message ne))
     (ap (λ m. (if q m then held_as w n m else 0) + (if q (message_at w n) then held_bytes w n else 0)) (changed-same f n w.messages no_message lt)
-    ∙ ap (λ b. (if q (f (message_at w n)) then held_if b (f (message_at w n)) else 0) + (if q (message_at w n) then held_bytes w n else 0)) (gone (message_at w n))
+    ∙ ap (λ b. (if q (f (message_at w n)) then held_if w n b (f (message_at w n)) else 0) + (if q (message_at w n) then held_bytes w n else 0)) (gone (message_at w n))
     ∙ none (q (f (message_at w n))) (if q (message_at w n) then held_bytes w n else 0)) in
     omega (arith, a, b, one)
   where
-    held_if : Bool → Message → ℕ
-    held_if b m =
-        (if b then 0 else total_over (λ i. length (get_or (pieces (length m.bytes) w.setup.size m.bytes) i [])) (numbers_from (sent_of w n) (length (pieces (length m.bytes) w.setup.size m.bytes) - sent_of w n)))
-        + (if b then 0 else total_over (λ p. length (get_or (pieces (length m.bytes) w.setup.size m.bytes) (slot_at w p).fragment [])) (kept (λ p. has_fragment w n p && not (slot_at w p).acknowledged) 0 (length w.slots)))
-
     none : (c : Bool) (k : ℕ) → (if c then 0 + 0 else 0) + k ≡ k
     none true k = omega arith
     none false k = omega arith

@@ -1,6 +1,6 @@
 -- Sums over the messages as more are written, and as they stay.
 use Rattle.std.proofs.Common.{◌≡◌, ℕ, suc, ◌+◌, ◌<◌, Bool, true, false, [], ◌∷◌, ◌++◌, length, refl, ap, ◌∙◌, arith, add-one, length-append}
-use Rattle.std.specs.Prelude.{if◌then◌else◌}
+use Rattle.std.specs.Prelude.{if◌then◌else◌, ◌==◌}
 use Rattle.sctp_lists.specs.Kept.{kept, total_over}
 use Rattle.sctp_lists.proofs.Getting.{get-snoc_old, get-snoc_new}
 use Rattle.sctp_lists.proofs.KeptLemmas.{kept-same, kept-snoc}
@@ -11,6 +11,10 @@ use Rattle.sctp_model.specs.Messages.{message_at, messages_where, no_message}
 -- what f gives for the messages that pass
 abbrev pub sum_where : World → (Message → Bool) → (Message → ℕ) → ℕ
 sum_where w q f = total_over (λ n. f (message_at w n)) (messages_where w (λ n. q (message_at w n)))
+
+-- a message of stream t
+abbrev pub is_on : ℕ → Message → Bool
+is_on t m = m.stream == t
 
 -- one more message
 abbrev pub with_message : World → Message → World

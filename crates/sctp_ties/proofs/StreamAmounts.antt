@@ -32,7 +32,7 @@ use Rattle.sctp_model.proofs.Acknowledged.{as-datagram, as-read}
 use Rattle.sctp_model.proofs.Bytes.{balance, size-some}
 use Rattle.sctp_model.proofs.BytesTold.{messages-sent}
 use Rattle.sctp_ties.specs.Amount.{amount, keeps_amounts, stream_of_slot, bytes_at, acknowledged_at}
-use Rattle.sctp_ties.proofs.MessageSums.{sum_where, message-old, sum-written, sum-same}
+use Rattle.sctp_ties.proofs.MessageSums.{is_on, sum_where, message-old, sum-written, sum-same}
 use Rattle.sctp_ties.proofs.Unacked.{bytes_where, bytes-by_slot, pending_on_by}
 
 -- ## What is not given up is still to be sent, or acknowledged
@@ -40,9 +40,6 @@ use Rattle.sctp_ties.proofs.Unacked.{bytes_where, bytes-by_slot, pending_on_by}
 -- the bytes of a message that was not given up
 abbrev alive_bytes : Message → ℕ
 alive_bytes m = if m.expired || m.abandoned then 0 else length m.bytes
-
-abbrev is_on : ℕ → Message → Bool
-is_on t m = m.stream == t
 
 abbrev acked_on : World → ℕ → ℕ
 acked_on w t = total_over (bytes_at w) (slots_where w (λ p. acknowledged_at w p && (stream_of_slot w p == t)))

@@ -9,7 +9,7 @@ use Rattle.sctp_lists.proofs.Totals.{total-one, total-where}
 use Rattle.sctp_chunks.specs.declared.chunk.chunk_payload_data.PayloadProtocolIdentifier.{PayloadProtocolIdentifier}
 use Rattle.sctp_model.specs.declared.event.Event.{Event}
 use Rattle.sctp_model.specs.declared.event.Event.TheVariants as E
-use Rattle.sctp_model.specs.World.{Setup, Message, World}
+use Rattle.sctp_model.specs.World.{Setup, World}
 use Rattle.sctp_model.specs.Messages.{message_at, message_of, place_of, stream_of, no_message, front}
 use Rattle.sctp_model.specs.Receiver.{next_read}
 use Rattle.sctp_model.specs.Changes
@@ -25,7 +25,7 @@ use Rattle.sctp_model.proofs.Known.{HasRead}
 use Rattle.sctp_model.proofs.View.{view}
 use Rattle.sctp_model.proofs.Shown.{has-read}
 use Rattle.sctp_ties.specs.Counts.{is_write, is_read}
-use Rattle.sctp_ties.proofs.MessageSums.{sum_where, sum-written, sum-same}
+use Rattle.sctp_ties.proofs.MessageSums.{is_on, sum_where, sum-written, sum-same}
 use Rattle.sctp_ties.proofs.StreamAmounts.{count-sent, same-turned}
 
 -- ## What an event leaves
@@ -124,9 +124,6 @@ told-after setup w e g a = by (is_read e) refl
     by false h = (read-after setup w e g a h).told
 
 -- ## Sums
-
-abbrev pub is_on : ℕ → Message → Bool
-is_on t m = m.stream == t
 
 -- a sum over the messages of stream t, of their payload types and bytes
 abbrev pub told_on : World → ℕ → (PayloadProtocolIdentifier → List ℕ → ℕ) → ℕ

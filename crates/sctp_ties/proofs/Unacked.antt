@@ -84,14 +84,10 @@ amount-is w t s = ap (λ k. on_stream w t (pending_bytes w) + k) (in-flight-on w
 marked-where : (w : World) (acked c : ℕ → Bool) (p : ℕ) → acked p ≡ false → p < length w.slots → total_over (bytes_at w) (slots_where w (λ k. not (acked k || (k == p)) && c k)) + (if c p then bytes_at w p else 0) ≡ total_over (bytes_at w) (slots_where w (λ k. not (acked k) && c k))
 marked-where w acked c p e lt =
     let one = total-one (λ k. if not (acked k || (k == p)) && c k then bytes_at w k else 0) (λ k. if not (acked k) && c k then bytes_at w k else 0) p (if c p then bytes_at w p else 0) 0 (length w.slots) (omega arith) (omega arith)
-    (λ k ne. ap (λ b. if not (acked k || b) && c k then bytes_at w k else 0) (fails (k == p) (λ h. ne (same-is k p h))) ∙ ap (λ b. if not b && c k then bytes_at w k else 0) (or-false (acked k)))
+    (λ k ne. ap (λ b. if not (acked k || b) && c k then bytes_at w k else 0) (fails (k == p) (λ h. ne (same-is k p h))) ∙ ap (λ b. if not b && c k then bytes_at w k else 0) (or-none (acked k)))
     (ap (λ b. (if not (acked p || b) && c p then bytes_at w p else 0) + (if c p then bytes_at w p else 0)) (same-yes p) ∙ here (acked p) (c p) e) in
     omega (arith, one, total-where (bytes_at w) (λ k. not (acked k || (k == p)) && c k) 0 (length w.slots), total-where (bytes_at w) (λ k. not (acked k) && c k) 0 (length w.slots))
   where
-    or-false : (b : Bool) → (b || false) ≡ b
-    or-false true = refl
-    or-false false = refl
-
     here : (a d : Bool) → a ≡ false → (if not (a || true) && d then bytes_at w p else 0) + (if d then bytes_at w p else 0) ≡ (if not a && d then bytes_at w p else 0)
     here true d h = cc
     here false d h = zero-add (if d then bytes_at w p else 0)
