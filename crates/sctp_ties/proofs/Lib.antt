@@ -39,3 +39,12 @@ pub mod PendingBytes
 pub mod Fragments
 pub mod SackMade
 pub mod Lent
+pub mod Owned
+pub mod Unacked
+pub mod InFlightBytes
+pub mod MessageSums
+pub mod StreamAmounts
+pub mod StreamCounters
+pub mod ToldSums
+pub mod GivenUp
+pub mod Released
