@@ -39,3 +39,6 @@ pub mod PendingBytes
 pub mod Fragments
 pub mod SackMade
 pub mod Lent
+pub mod InLine
+pub mod SlotsGoOn
+pub mod NoLarger
