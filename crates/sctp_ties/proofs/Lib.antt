@@ -42,3 +42,4 @@ pub mod Lent
 pub mod InLine
 pub mod SlotsGoOn
 pub mod NoLarger
+pub mod SpanEnds

@@ -1,30 +1,41 @@
 -- The span test of a datagram of one fragment, from the ends of what a stream holds.
 use Rattle.std.proofs.Common.{◌≡◌, ℕ, zero, suc, ◌+◌, ◌-◌, ◌<◌, ◌≤◌, ◌^◌, Bool, true, false, List, [], ◌∷◌, ◌++◌, length, map, get_or, Some, refl, ap, sym, ◌∙◌, arith}
-use Rattle.std.specs.Prelude.{if◌then◌else◌, ◌==◌, ◌&&◌, ◌||◌, min, max, nat_lt, nat_le, slice_get}
+use Rattle.std.specs.Prelude.{if◌then◌else◌, ◌==◌, ◌&&◌, ◌||◌, min, max, nat_lt, nat_le, slice_get, slice_index_or}
 use Rattle.std.specs.List.{list_any, list_all}
 use Rattle.std.proofs.lemmas.Bool.Decides.{nat_tests}
 use Rattle.sctp_lists.specs.Kept.{kept, passing}
-use Rattle.sctp_lists.proofs.KeptLemmas.{length-kept-le}
-use Rattle.sctp_lists.proofs.More.{fails, not_both, both, and, same_test}
-use Rattle.sctp_lists.proofs.Cases.{same-yes}
+use Rattle.sctp_lists.proofs.KeptLemmas.{front-kept, FrontOf}
+use Rattle.sctp_lists.proofs.More.{fails, not_both, both, and, same_test, length-kept-positive}
+use Rattle.sctp_lists.proofs.Cases.{same-yes, same-is, or-left, or-right}
+use Rattle.sctp_chunks.specs.declared.chunk.chunk_payload_data.ChunkPayloadData.{ChunkPayloadData}
 use Rattle.sctp_model.specs.World.{Setup, World, StreamRecord, Data}
-use Rattle.sctp_model.specs.Messages.{message_at, message_of, stream_at, stream_of, is_ordered_on, index_of}
-use Rattle.sctp_model.specs.Receiver.{is_new, is_held, is_whole, held_on, next_of, least, greatest, fits, spans_fit}
-use Rattle.sctp_model.specs.Changes.{stream_changed, with_whole, becomes_whole, slot_received}
+use Rattle.sctp_model.specs.Messages.{message_at, slot_at, message_of, stream_of, is_ordered_on, index_of, fragment_count, has_fragment, tsn_of, place_of}
+use Rattle.sctp_model.specs.Receiver.{is_new, arrived_of, has_arrived, is_held, is_whole, held_on, next_of, least, greatest, fits, spans_fit}
+use Rattle.sctp_model.specs.Changes.{stream_changed, with_whole, slot_received}
+use Rattle.sctp_model.specs.Contents.{chunk_at}
+use Rattle.sctp_model.specs.Queues.{set_of, whole_set_of}
 use Rattle.sctp_model.specs.Steps.{History, world_of, IsRun, arrival_fits}
 use Rattle.sctp_model.specs.Laws.{IsSetup}
 use Rattle.sctp_model.proofs.SenderRun.{sane-run}
-use Rattle.sctp_model.proofs.Network.{fit-run}
+use Rattle.sctp_model.proofs.Shape.{shape}
+use Rattle.sctp_model.proofs.SenderSteps.{of-has}
+use Rattle.sctp_model.proofs.Made.{place-back}
+use Rattle.sctp_model.proofs.Network.{fit-run, fit-at}
 use Rattle.sctp_model.proofs.Spans.{spans_fit_always}
+use Rattle.sctp_ties.specs.Holds.{has_come}
+use Rattle.sctp_ties.specs.Sound.{Sound}
 use Rattle.sctp_ties.proofs.Arrival
 use Rattle.sctp_ties.proofs.Arrival.{with_arrived}
 use Rattle.sctp_ties.proofs.Keeps
 use Rattle.sctp_ties.proofs.Line
-use Rattle.sctp_ties.proofs.SlotsArrive.{Carried, noted, by_step}
+use Rattle.sctp_ties.proofs.SlotArrives.{repeated}
+use Rattle.sctp_ties.proofs.SlotsArrive.{Sounds, Carried, noted, by_step}
+use Rattle.sctp_ties.proofs.SoundRun.{carried}
 use Rattle.sctp_ties.proofs.SlotsNear.{span-open}
 use Rattle.sctp_ties.proofs.Span.{IsSpan, span, greatest-append, least-append}
 use Rattle.sctp_ties.proofs.Stays.{by_place}
 use Rattle.sctp_ties.proofs.Taken.{held, is-held, whole-ordered}
+use Rattle.sctp_ties.proofs.Unordered.{unordered-of}
 use Rattle.sctp_ties.proofs.UnorderedStep
 
 -- ## Least and greatest of what passes
@@ -48,26 +59,10 @@ least-over f p from (suc count) x low le h = step (p from) refl (λ z l. least-o
 greatest-all : (x top : ℕ) (ys : List ℕ) → x ≤ top → ((y : ℕ) → list_any (λ z. z == y) ys ≡ true → y ≤ top) → greatest x ys ≤ top
 greatest-all x top [] le h = le
 greatest-all x top (y ∷ ys) le h = greatest-all (max x y) top ys (let z = h y (or-left (y == y) (list_any (λ z. z == y) ys) (same-yes y)) in omega (arith, z, le)) (λ z e. h z (or-right (y == z) (list_any (λ k. k == z) ys) e))
-  where
-    or-left : (a b : Bool) → a ≡ true → (a || b) ≡ true
-    or-left true b e = refl
-    or-left false b e = cc
-
-    or-right : (a b : Bool) → b ≡ true → (a || b) ≡ true
-    or-right true b e = refl
-    or-right false b e = e
 
 least-all : (x low : ℕ) (ys : List ℕ) → low ≤ x → ((y : ℕ) → list_any (λ z. z == y) ys ≡ true → low ≤ y) → low ≤ least x ys
 least-all x low [] le h = le
 least-all x low (y ∷ ys) le h = least-all (min x y) low ys (let z = h y (or-left (y == y) (list_any (λ z. z == y) ys) (same-yes y)) in omega (arith, z, le)) (λ z e. h z (or-right (y == z) (list_any (λ k. k == z) ys) e))
-  where
-    or-left : (a b : Bool) → a ≡ true → (a || b) ≡ true
-    or-left true b e = refl
-    or-left false b e = cc
-
-    or-right : (a b : Bool) → b ≡ true → (a || b) ≡ true
-    or-right true b e = refl
-    or-right false b e = e
 
 -- what lies within a span passes the test
 pub fits-span : (w : World) (s : ℕ) (more : List ℕ) → IsSpan w s more → fits w more s ≡ true
@@ -257,12 +252,120 @@ module _ (w : World) (p : ℕ) (all : spans_fit w [] ≡ true) where
         adding : Bool → List ℕ
         adding b = map (message_of w) (if b then p ∷ [] else [])
 
-        again : spans_fit (slot_received w p) [] ≡ true
-        again = all-streams w p (λ t. fits w [] t) (λ t. fits (slot_received w p) [] t) (λ t e. Span-less t e) all
-          where
-            Span-less : (t : ℕ) → fits w [] t ≡ true → fits (slot_received w p) [] t ≡ true
-            Span-less t e = ?
-
         by : (b : Bool) → is_new w p ≡ b → (spans_fit w (adding b) && spans_fit (slot_received w p) (adding b)) ≡ (if b && (message_at w n).ordered then nat_lt (max (highest w s) (index_of w n)) (min (lowest w s) (index_of w n) + 2 ^ 15) else true)
         by true e = test (message_at w n).ordered refl
-        by false e = and (spans_fit w []) (spans_fit (slot_received w p) []) all (ap (λ b. spans_fit (if b then slot_received w p else record w { duplicates = w.duplicates ++ p ∷ [] }) []) e ∙ all)
+        by false e = and (spans_fit w []) (spans_fit (slot_received w p) []) all (ap (λ v. spans_fit v []) (repeated w p e) ∙ all)
+
+-- what a datagram of one fragment carries, in every history
+pub carried-run : (setup : Setup) (h : History) (k p : ℕ) → IsRun setup h → slice_get (world_of setup h).network k ≡ Some (Data (p ∷ [])) → Carried (world_of setup h) p
+carried-run setup h k p run e =
+    let w = world_of setup h in
+    let f = fit-at (shape w) w.network k (Data (p ∷ [])) (fit-run setup h run) e in
+    carried setup w p (sane-run setup h run) f.0 f.1
+
+-- the test in every history
+pub arrival-fits-run : (setup : Setup) (h : History) (k p : ℕ) → IsSetup setup → IsRun setup h → slice_get (world_of setup h).network k ≡ Some (Data (p ∷ [])) → (let w = world_of setup h in let n = message_of w p in let s = (message_at w n).stream in arrival_fits w (Some (Data (p ∷ []))) ≡ (if is_new w p && (message_at w n).ordered then nat_lt (max (highest w s) (index_of w n)) (min (lowest w s) (index_of w n) + 2 ^ 15) else true))
+arrival-fits-run setup h k p is run e = arrival-fits-one (world_of setup h) p (spans_fit_always setup h is run) (carried-run setup h k p run e)
+
+-- ## The ends
+
+least-from : (f : ℕ → ℕ) (p : ℕ → Bool) (from count x : ℕ) → ((k : ℕ) → from ≤ k → k < from + count → p k ≡ true → x ≤ f k) → least x (map f (kept p from count)) ≡ x
+least-from f p from zero x h = refl
+least-from f p from (suc count) x h = step (p from) refl (least-from f p (from + 1) count x (λ k a b e. h k (omega arith) (omega arith) e))
+  where
+    step : (b : Bool) → p from ≡ b → least x (map f (kept p (from + 1) count)) ≡ x → least x (map f (if b then from ∷ kept p (from + 1) count else kept p (from + 1) count)) ≡ x
+    step true e ih = let m : min x (f from) ≡ x = (let z = h from (omega arith) (omega arith) e in omega (arith, z)) in ap (λ y. least y (map f (kept p (from + 1) count))) m ∙ ih
+    step false e ih = ih
+
+least-front : (f : ℕ → ℕ) (p : ℕ → Bool) (from count x d : ℕ) → ((j k : ℕ) → p j ≡ true → p k ≡ true → j < k → f j < f k) → 0 < length (kept p from count) → least x (map f (kept p from count)) ≡ min x (f (get_or (kept p from count) 0 d))
+least-front f p from zero x d rise some = absurd (omega arith)
+least-front f p from (suc count) x d rise some = step (p from) refl some (least-front f p (from + 1) count x d rise)
+  where
+    step : (b : Bool) → p from ≡ b → 0 < length (if b then from ∷ kept p (from + 1) count else kept p (from + 1) count) → (0 < length (kept p (from + 1) count) → least x (map f (kept p (from + 1) count)) ≡ min x (f (get_or (kept p (from + 1) count) 0 d))) → least x (map f (if b then from ∷ kept p (from + 1) count else kept p (from + 1) count)) ≡ min x (f (get_or (if b then from ∷ kept p (from + 1) count else kept p (from + 1) count) 0 d))
+    step true e lt ih = least-from f p (from + 1) count (min x (f from)) (λ k a b h. let z = rise from k e h (omega arith) in omega (arith, z))
+    step false e lt ih = ih lt
+
+empty : (xs : List ℕ) → length xs ≡ 0 → xs ≡ []
+empty [] e = refl
+empty (x ∷ xs) e = absurd (omega arith)
+
+greatest-back : (f : ℕ → ℕ) (p : ℕ → Bool) (from count x j d : ℕ) → ((j k : ℕ) → p j ≡ true → p k ≡ true → j < k → f j < f k) → length (kept p from count) ≡ suc j → greatest x (map f (kept p from count)) ≡ max x (f (get_or (kept p from count) j d))
+greatest-back f p from zero x j d rise e = absurd (omega arith)
+greatest-back f p from (suc count) x j d rise e = step (p from) refl j e (λ y i z. greatest-back f p (from + 1) count y i d rise z)
+  where
+    step : (b : Bool) → p from ≡ b → (j : ℕ) → length (if b then from ∷ kept p (from + 1) count else kept p (from + 1) count) ≡ suc j → ((y i : ℕ) → length (kept p (from + 1) count) ≡ suc i → greatest y (map f (kept p (from + 1) count)) ≡ max y (f (get_or (kept p (from + 1) count) i d))) → greatest x (map f (if b then from ∷ kept p (from + 1) count else kept p (from + 1) count)) ≡ max x (f (get_or (if b then from ∷ kept p (from + 1) count else kept p (from + 1) count) j d))
+    step true h zero e ih = let none : kept p (from + 1) count ≡ [] = empty (kept p (from + 1) count) (omega arith) in ap (λ l. greatest (max x (f from)) (map f l)) none
+    step true h (suc i) e ih =
+        let lt : i < length (kept p (from + 1) count) = omega arith in
+        let r = Line.kept-place p (from + 1) count i d lt in
+        let more = rise from (get_or (kept p (from + 1) count) i d) h r.passes (omega (arith, r.is)) in
+        ih (max x (f from)) i (omega arith) ∙ omega (arith, more)
+    step false h j e ih = ih x j e
+
+-- the messages held ascend in their indexes
+held-rise : (w : World) (s j k : ℕ) → is_held w s j ≡ true → is_held w s k ≡ true → j < k → index_of w j < index_of w k
+held-rise w s j k a b lt = Line.index-lt w s j k (held w s j a).on (held w s k b).on lt
+
+-- with nothing held both are the index expected next
+pub ends-none : (w : World) (s : ℕ) → held_on w s ≡ [] → (lowest w s ≡ next_of w s) × (highest w s ≡ next_of w s)
+ends-none w s e = (ap (λ l. least (next_of w s) (map (index_of w) l)) e, ap (λ l. greatest (next_of w s) (map (index_of w) l)) e)
+
+-- else the least is at the front
+pub lowest-front : (w : World) (s d : ℕ) → 0 < length (held_on w s) → lowest w s ≡ min (next_of w s) (index_of w (slice_index_or (held_on w s) 0 d))
+lowest-front w s d some = least-front (index_of w) (is_held w s) 0 (length w.messages) (next_of w s) d (held-rise w s) some
+
+-- and the greatest at the back
+pub highest-back : (w : World) (s d : ℕ) → 0 < length (held_on w s) → highest w s ≡ max (next_of w s) (index_of w (slice_index_or (held_on w s) (length (held_on w s) - 1) d))
+highest-back w s d some = greatest-back (index_of w) (is_held w s) 0 (length w.messages) (next_of w s) (length (held_on w s) - 1) d (held-rise w s) (omega (arith, some))
+
+pub ends-some : (w : World) (s a : ℕ) (rest : List ℕ) → held_on w s ≡ a ∷ rest → (lowest w s ≡ min (next_of w s) (index_of w a)) × (highest w s ≡ max (next_of w s) (index_of w (slice_index_or (a ∷ rest) (length rest) a)))
+ends-some w s a rest e =
+    let some : 0 < length (held_on w s) = omega (arith, ap length e) in
+    let last : length (a ∷ rest) - 1 ≡ length rest = omega arith in (
+      lowest-front w s a some ∙ ap (λ l. min (next_of w s) (index_of w (slice_index_or l 0 a))) e,
+      highest-back w s a some ∙ ap (λ l. max (next_of w s) (index_of w (slice_index_or l (length l - 1) a))) e ∙ ap (λ i. max (next_of w s) (index_of w (slice_index_or (a ∷ rest) i a))) last,
+    )
+
+-- ## Where a set begins
+
+-- the first chunk is of a slot of this message, and its TSN gives the slot's place back
+pub record Begins (w : World) (n : ℕ) (chunks : List ChunkPayloadData) : Type 0 where
+  pub place : ℕ
+  pub rest : List ChunkPayloadData
+  pub is : chunks ≡ chunk_at w place ∷ rest
+  pub of : message_of w place ≡ n
+  pub made : place < length w.slots
+  pub fragment : (slot_at w place).is_end_mark ≡ false
+  pub back : place_of w (tsn_of w place) ≡ place
+
+begins-kept : (w : World) (n : ℕ) (q : ℕ → Bool) → w.setup.first < 2 ^ 32 → length w.slots < 2 ^ 31 → ((k : ℕ) → q k ≡ true → has_fragment w n k ≡ true) → 0 < length (kept q 0 (length w.slots)) → Begins w n (map (chunk_at w) (kept q 0 (length w.slots)))
+begins-kept w n q first few has some = step (kept q 0 (length w.slots)) some (front-kept q 0 (length w.slots))
+  where
+    step : (l : List ℕ) → 0 < length l → FrontOf q 0 (length w.slots) l → Begins w n (map (chunk_at w) l)
+    step [] lt f = absurd (omega arith)
+    step (k ∷ rest) lt f =
+        let h = has k f.passes in
+        let o = of-has (shape w) n k h in
+        record { place = k; rest = map (chunk_at w) rest; is = refl; of = o.0; made = omega (arith, f.high); fragment = o.1; back = place-back w.setup.first k first (omega (arith, f.high, few)) }
+
+-- the set of a message that is held
+pub set-begins : (w : World) (s n : ℕ) → Sound w → w.setup.first < 2 ^ 32 → is_held w s n ≡ true → Begins w n (set_of w n).chunks
+set-begins w s n sound first h = begins-kept w n (has_come w n) first sound.few (λ k e. (Arrival.come w n k e).0) (held w s n h).some
+
+-- a whole unordered message
+pub whole-begins : (w : World) (s n : ℕ) → Sounds w → w.setup.first < 2 ^ 32 → list_any (λ k. k == n) (stream_of w s).whole ≡ true → Begins w n (whole_set_of w n).chunks
+whole-begins w s n sounds first e =
+    let o = sounds.whole.whole_on s n e in
+    let u = unordered-of w s n o.0 in
+    let whole : is_whole w n ≡ true =
+    ap (λ b. if b then has_arrived w n else ((message_at w n).read || list_any (λ k. k == n) (stream_of w (message_at w n).stream).whole)) u.1
+    ∙ or-right (message_at w n).read (list_any (λ k. k == n) (stream_of w (message_at w n).stream).whole) (ap (λ t. list_any (λ k. k == n) (stream_of w t).whole) u.0 ∙ e) in
+    let all = same-is (arrived_of w n) (fragment_count w n) (sounds.loose.whole_arrived n u.1 whole) in
+    let some : 0 < length (kept (has_come w n) 0 (length w.slots)) = omega (arith, all, sounds.plain.some n o.1) in
+    let b = begins-kept w n (has_come w n) first sounds.plain.few (λ k h. (Arrival.come w n k h).0) some in
+    begins-kept w n (has_fragment w n) first sounds.plain.few (λ k h. h)
+    (length-kept-positive (has_fragment w n) b.place 0 (length w.slots) (omega arith) (omega (arith, b.made)) (ap (λ m. has_fragment w m b.place) (sym b.of) ∙ Arrival.has-fragment w b.place b.fragment))
+
+-- in every history
+pub first-run : (setup : Setup) (h : History) → IsSetup setup → IsRun setup h → (world_of setup h).setup.first < 2 ^ 32
+first-run setup h is run = rw (ap (λ t. t.first) (sane-run setup h run).setup_is) is.first
