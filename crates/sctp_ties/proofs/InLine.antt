@@ -90,14 +90,14 @@ ssn w n e = step (message_at w n).ordered
 
 -- ## The field of each message counts those before it, until one expires
 
-pub record IsCounted (w : World) : Type 0 where
+pub record CountsBefore (w : World) : Type 0 where
   pub before : (n : ℕ) → n < length w.messages → (message_at w n).before ≡ ordered_before w (message_at w n).stream n
 
-pub ssn-counted : (w : World) (n : ℕ) → IsCounted w → n < length w.messages → ssn_of w n ≡ (message_at w n).before % 2 ^ 16
+pub ssn-counted : (w : World) (n : ℕ) → CountsBefore w → n < length w.messages → ssn_of w n ≡ (message_at w n).before % 2 ^ 16
 ssn-counted w n c lt = ssn w n (c.before n lt)
 
 -- a write keeps it
-pub counted-more : (w : World) (m : Message) → m.before ≡ ordered_before w m.stream (length w.messages) → IsCounted w → IsCounted (with_message w m)
+pub counted-more : (w : World) (m : Message) → m.before ≡ ordered_before w m.stream (length w.messages) → CountsBefore w → CountsBefore (with_message w m)
 counted-more w m e c = record {
   before = λ n lt. by_last {P = (message_at (with_message w m) n).before ≡ ordered_before (with_message w m) (message_at (with_message w m) n).stream n} n (length w.messages) (omega (arith, lt, count-with w m))
       (λ l. ap (λ x. x.before) (message-before w m n l) ∙ c.before n l ∙ sym (before-same w m (message_at w n).stream n (omega arith)) ∙ ap (λ x. ordered_before (with_message w m) x.stream n) (sym (message-before w m n l)))
@@ -105,12 +105,12 @@ counted-more w m e c = record {
       ∙ ap (λ x. ordered_before (with_message w m) x.stream (length w.messages)) (sym (message-last w m)) ∙ ap (λ k. ordered_before (with_message w m) (message_at (with_message w m) k).stream k) (sym z));
 }
 
-pub counted-wrote : (w : World) (s : ℕ) (ppi : PayloadProtocolIdentifier) (bytes : List ℕ) → IsCounted w → IsCounted (wrote w s ppi bytes)
+pub counted-wrote : (w : World) (s : ℕ) (ppi : PayloadProtocolIdentifier) (bytes : List ℕ) → CountsBefore w → CountsBefore (wrote w s ppi bytes)
 counted-wrote w s ppi [] c = c
 counted-wrote w s ppi (b ∷ bs) c = counted-more w (message_on w (stream_of w s) ppi (b ∷ bs)) refl c
 
 -- so does a change that leaves stream, kind, expiry and that field of each message
-pub counted-changed : (w : World) (n : ℕ) (f : Message → Message) → ((m : Message) → (f m).before ≡ m.before) → ((m : Message) → (f m).stream ≡ m.stream) → ((m : Message) (t : ℕ) → (((f m).stream == t) && ((f m).ordered && not (f m).expired)) ≡ ((m.stream == t) && (m.ordered && not m.expired))) → IsCounted w → IsCounted (message_changed w n f)
+pub counted-changed : (w : World) (n : ℕ) (f : Message → Message) → ((m : Message) → (f m).before ≡ m.before) → ((m : Message) → (f m).stream ≡ m.stream) → ((m : Message) (t : ℕ) → (((f m).stream == t) && ((f m).ordered && not (f m).expired)) ≡ ((m.stream == t) && (m.ordered && not m.expired))) → CountsBefore w → CountsBefore (message_changed w n f)
 counted-changed w n f before stream on c = record {
   before = λ k lt.
       let same : (message_at (message_changed w n f) k).stream ≡ (message_at w k).stream = changed-keeps f (λ m. m.stream) stream n k w.messages no_message in
@@ -118,7 +118,7 @@ counted-changed w n f before stream on c = record {
       ∙ sym (ap (λ t. ordered_before (message_changed w n f) t k) same ∙ before-by w (message_changed w n f) (message_at w k).stream k (λ j l. changed-keeps f (λ m. (m.stream == (message_at w k).stream) && (m.ordered && not m.expired)) (λ m. on m (message_at w k).stream) n j w.messages no_message));
 }
 
-pub counted-started : (w : World) (now : ℕ) → IsCounted w → IsCounted (started w now)
+pub counted-started : (w : World) (now : ℕ) → CountsBefore w → CountsBefore (started w now)
 counted-started w now c = record {
   before = λ k lt.
       let same : (message_at (started w now) k).stream ≡ (message_at w k).stream = get-map (start_at now) (λ m. m.stream) (λ m. refl) k w.messages no_message in
@@ -127,7 +127,7 @@ counted-started w now c = record {
 }
 
 -- and what leaves the messages
-pub counted-else : (w v : World) → v.messages ≡ w.messages → IsCounted w → IsCounted v
+pub counted-else : (w v : World) → v.messages ≡ w.messages → CountsBefore w → CountsBefore v
 counted-else w v e c = record {
   before = λ k lt. ap (λ ms. (message_at (record w { messages = ms }) k).before) e ∙ c.before k (omega (arith, lt, ap length e)) ∙ ap (λ ms. ordered_before (record w { messages = ms }) (message_at (record w { messages = ms }) k).stream k) (sym e);
 }

@@ -43,3 +43,4 @@ pub mod InLine
 pub mod SlotsGoOn
 pub mod NoLarger
 pub mod SpanEnds
+pub mod Sizes
