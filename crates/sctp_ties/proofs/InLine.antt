@@ -96,6 +96,10 @@ pub record CountsBefore (w : World) : Type 0 where
 pub ssn-counted : (w : World) (n : ℕ) → CountsBefore w → n < length w.messages → ssn_of w n ≡ (message_at w n).before % 2 ^ 16
 ssn-counted w n c lt = ssn w n (c.before n lt)
 
+-- and so is the index of an ordered one
+pub index-counted : (w : World) (n : ℕ) → CountsBefore w → n < length w.messages → index_of w n ≡ (message_at w n).before
+index-counted w n c lt = sym (c.before n lt)
+
 -- a write keeps it
 pub counted-more : (w : World) (m : Message) → m.before ≡ ordered_before w m.stream (length w.messages) → CountsBefore w → CountsBefore (with_message w m)
 counted-more w m e c = record {

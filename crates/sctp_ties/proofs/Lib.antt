@@ -44,3 +44,4 @@ pub mod SlotsGoOn
 pub mod NoLarger
 pub mod SpanEnds
 pub mod Sizes
+pub mod ReadOne

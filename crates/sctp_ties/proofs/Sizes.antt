@@ -1,5 +1,5 @@
 -- No fragment makes its message larger than the link takes: what the queue counts with it are fragments of its message.
-use Rattle.std.proofs.Common.{◌≡◌, ℕ, zero, suc, ◌+◌, ◌-◌, ◌<◌, ◌≤◌, ◌%◌, ◌^◌, Bool, true, false, List, [], ◌∷◌, ◌++◌, length, map, refl, ap, sym, ◌∙◌, inl, inr, arith, length-append}
+use Rattle.std.proofs.Common.{◌≡◌, ℕ, zero, suc, ◌+◌, ◌-◌, ◌<◌, ◌≤◌, ◌%◌, ◌^◌, Bool, true, false, List, [], ◌∷◌, ◌++◌, length, map, refl, ap, sym, ◌∙◌, inl, inr, arith}
 use Rattle.std.specs.Prelude.{◌⊎◌, if◌then◌else◌, ◌==◌, ◌&&◌, not, nat_lt, reverse, slice_get, Some}
 use Rattle.std.specs.List.{list_any}
 use Rattle.std.proofs.Math.Path.{subst}
@@ -7,10 +7,10 @@ use Rattle.std.proofs.lemmas.Bool.{cases_lt}
 use Rattle.std.proofs.lemmas.Bool.Decides.{nat_tests}
 use Rattle.std.proofs.lemmas.List.{reverse-append}
 use Rattle.std.proofs.lemmas.List.Sums.{sum_by-cons}
-use Rattle.sctp_lists.specs.Kept.{kept, always, total_over, numbers_from}
+use Rattle.sctp_lists.specs.Kept.{kept, always, total_over}
 use Rattle.sctp_lists.specs.Lists.{after_leading}
 use Rattle.sctp_lists.proofs.KeptLemmas.{kept-snoc_in}
-use Rattle.sctp_lists.proofs.More.{fails, not_both, both, and}
+use Rattle.sctp_lists.proofs.More.{not_both, both, and}
 use Rattle.sctp_lists.proofs.Cases.{same-yes, same-is, negated, and-none}
 use Rattle.sctp_lists.proofs.Totals.{total-append, total-at, total-where, total-split, total-kept_same, numbers-append}
 use Rattle.sctp_lists.proofs.Wraps.{same16-index}
@@ -21,7 +21,7 @@ use Rattle.sctp_queues.specs.DataChunks.{bytes_of, has_tsn}
 use Rattle.sctp_queues.specs.Sizes.{previous_tsn, bytes_down, bytes_up, back_from, on_from, size_before, size_after, projected_size}
 use Rattle.sctp_queues.specs.Reassembly.{ReassemblyState, is_too_large}
 use Rattle.sctp_model.specs.World.{Setup, World, Data}
-use Rattle.sctp_model.specs.Messages.{message_at, slot_at, message_of, is_ordered_on, index_of, ssn_of, tsn_of, fragment_at, fragment_count, has_fragment, slots_of, sent_of}
+use Rattle.sctp_model.specs.Messages.{message_at, slot_at, message_of, is_ordered_on, index_of, ssn_of, tsn_of, fragment_at, fragment_count, has_fragment, sent_of}
 use Rattle.sctp_model.specs.Receiver.{arrived_at, is_new, is_held}
 use Rattle.sctp_model.specs.Contents.{chunk_at}
 use Rattle.sctp_model.specs.Queues.{set_of, is_loose}
@@ -33,7 +33,7 @@ use Rattle.sctp_model.specs.Laws.{IsSetup}
 use Rattle.sctp_model.proofs.SenderRun.{Sane, sane-run}
 use Rattle.sctp_model.proofs.Bytes.{slots-bytes, fragments-bytes, size-some}
 use Rattle.sctp_ties.specs.Holds.{has_come, reassembly_of}
-use Rattle.sctp_ties.specs.Sound.{Sound, SoundLoose}
+use Rattle.sctp_ties.specs.Sound.{Sound}
 use Rattle.sctp_ties.proofs.Arrival
 use Rattle.sctp_ties.proofs.Line
 use Rattle.sctp_ties.proofs.Loose
@@ -45,7 +45,6 @@ use Rattle.sctp_ties.proofs.SoundRun.{sounds-run}
 use Rattle.sctp_ties.proofs.SpanEnds.{carried-run}
 use Rattle.sctp_ties.proofs.SlotArrives
 use Rattle.sctp_ties.proofs.Span.{IsSpan}
-use Rattle.sctp_ties.proofs.Stays.{by_place}
 use Rattle.sctp_ties.proofs.Taken.{held}
 
 -- ## Lists

@@ -2,12 +2,14 @@
 use Rattle.std.proofs.Common.{◌≡◌, ℕ, zero, suc, ◌+◌, ◌-◌, ◌<◌, ◌≤◌, ◌^◌, Bool, true, false, List, [], ◌∷◌, ◌++◌, length, map, get_or, Some, refl, ap, sym, ◌∙◌, arith}
 use Rattle.std.specs.Prelude.{if◌then◌else◌, ◌==◌, ◌&&◌, ◌||◌, min, max, nat_lt, nat_le, slice_get, slice_index_or}
 use Rattle.std.specs.List.{list_any, list_all}
+use Rattle.std.proofs.Math.Path.{subst}
 use Rattle.std.proofs.lemmas.Bool.Decides.{nat_tests}
 use Rattle.sctp_lists.specs.Kept.{kept, passing}
 use Rattle.sctp_lists.proofs.KeptLemmas.{front-kept, FrontOf}
 use Rattle.sctp_lists.proofs.More.{fails, not_both, both, and, same_test, length-kept-positive}
 use Rattle.sctp_lists.proofs.Cases.{same-yes, same-is, or-left, or-right}
 use Rattle.sctp_chunks.specs.declared.chunk.chunk_payload_data.ChunkPayloadData.{ChunkPayloadData}
+use Rattle.sctp_chunks.specs.ChunkSet.{ChunkSet}
 use Rattle.sctp_model.specs.World.{Setup, World, StreamRecord, Data}
 use Rattle.sctp_model.specs.Messages.{message_at, slot_at, message_of, stream_of, is_ordered_on, index_of, fragment_count, has_fragment, tsn_of, place_of}
 use Rattle.sctp_model.specs.Receiver.{is_new, arrived_of, has_arrived, is_held, is_whole, held_on, next_of, least, greatest, fits, spans_fit}
@@ -22,12 +24,13 @@ use Rattle.sctp_model.proofs.SenderSteps.{of-has}
 use Rattle.sctp_model.proofs.Made.{place-back}
 use Rattle.sctp_model.proofs.Network.{fit-run, fit-at}
 use Rattle.sctp_model.proofs.Spans.{spans_fit_always}
-use Rattle.sctp_ties.specs.Holds.{has_come}
+use Rattle.sctp_ties.specs.Holds.{has_come, ordered_sets}
 use Rattle.sctp_ties.specs.Sound.{Sound}
 use Rattle.sctp_ties.proofs.Arrival
 use Rattle.sctp_ties.proofs.Arrival.{with_arrived}
 use Rattle.sctp_ties.proofs.Keeps
 use Rattle.sctp_ties.proofs.Line
+use Rattle.sctp_ties.proofs.Loose.{get-map, length-map}
 use Rattle.sctp_ties.proofs.SlotArrives.{repeated}
 use Rattle.sctp_ties.proofs.SlotsArrive.{Sounds, Carried, noted, by_step}
 use Rattle.sctp_ties.proofs.SoundRun.{carried}
@@ -351,6 +354,36 @@ begins-kept w n q first few has some = step (kept q 0 (length w.slots)) some (fr
 -- the set of a message that is held
 pub set-begins : (w : World) (s n : ℕ) → Sound w → w.setup.first < 2 ^ 32 → is_held w s n ≡ true → Begins w n (set_of w n).chunks
 set-begins w s n sound first h = begins-kept w n (has_come w n) first sound.few (λ k e. (Arrival.come w n k e).0) (held w s n h).some
+
+-- a set of the queue of ordered ones is that of a message held
+pub record IsSetOf (w : World) (s n : ℕ) (set : ChunkSet) : Type 0 where
+  pub is : set ≡ set_of w n
+  pub held : is_held w s n ≡ true
+  pub on : is_ordered_on w s n ≡ true
+  pub made : n < length w.messages
+  pub begins : Begins w n set.chunks
+
+pub set-at : (w : World) (s i d : ℕ) (e : ChunkSet) → Sound w → w.setup.first < 2 ^ 32 → i < length (ordered_sets w s) → IsSetOf w s (slice_index_or (held_on w s) i d) (slice_index_or (ordered_sets w s) i e)
+set-at w s i d e sound first lt =
+    let lt' : i < length (held_on w s) = omega (arith, lt, length-map (set_of w) (held_on w s)) in
+    let r = Line.kept-place (is_held w s) 0 (length w.messages) i d lt' in
+    let n = get_or (held_on w s) i d in
+    let same : get_or (ordered_sets w s) i e ≡ set_of w n = get-map (set_of w) (held_on w s) i e lt' ∙ ap (set_of w) (get-default (held_on w s) i 0 d lt') in
+    record {
+      is = same;
+      held = r.passes;
+      on = (held w s n r.passes).on;
+      made = omega (arith, r.is, r.low);
+      begins = subst (λ (x : ChunkSet). Begins w n x.chunks) (sym same) (set-begins w s n sound first r.passes);
+    }
+  where
+    get-default : (xs : List ℕ) (i a b : ℕ) → i < length xs → get_or xs i a ≡ get_or xs i b
+    get-default [] i a b l = absurd (omega arith)
+    get-default (x ∷ xs) zero a b l = refl
+    get-default (x ∷ xs) (suc i) a b l = get-default xs i a b (omega arith)
+
+pub sets-held : (w : World) (s : ℕ) → length (ordered_sets w s) ≡ length (held_on w s)
+sets-held w s = length-map (set_of w) (held_on w s)
 
 -- a whole unordered message
 pub whole-begins : (w : World) (s n : ℕ) → Sounds w → w.setup.first < 2 ^ 32 → list_any (λ k. k == n) (stream_of w s).whole ≡ true → Begins w n (whole_set_of w n).chunks
