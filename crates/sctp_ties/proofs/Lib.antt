@@ -48,3 +48,9 @@ pub mod StreamCounters
 pub mod ToldSums
 pub mod GivenUp
 pub mod Released
+pub mod InLine
+pub mod SlotsGoOn
+pub mod NoLarger
+pub mod SpanEnds
+pub mod Sizes
+pub mod ReadOne
