@@ -51,11 +51,11 @@ IsInFlight w acked from count cs = map sending_of cs ≡ map (λ k. sending_by w
 abbrev gone : Sending → Sending
 gone s = record { chunk = record s.chunk { payload = []; acknowledged = true }; says = None }
 
-abbrev first_of' : List Sending → Sending → Sending
+abbrev pub first_of' : List Sending → Sending → Sending
 first_of' [] d = d
 first_of' (s ∷ ss) d = s
 
-abbrev rest_of' : List Sending → List Sending
+abbrev pub rest_of' : List Sending → List Sending
 rest_of' [] = []
 rest_of' (s ∷ ss) = ss
 

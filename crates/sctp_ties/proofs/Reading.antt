@@ -148,7 +148,7 @@ module _ (w : World) (s n : ℕ) (sound : Sound w) (sp : IsSpan w s []) (d : IsD
   at-line : (j : ℕ) → get_or (ordered_on (with_read w n) s) j 0 ≡ get_or (ordered_on w s) j 0
   at-line j = ap (λ l. get_or l j 0) (line-read w n s)
 
-  next-moves : index_of w n ≡ next_of w s → next_of (with_read w n) s ≡ next_of w s + 1
+  pub next-moves : index_of w n ≡ next_of w s → next_of (with_read w n) s ≡ next_of w s + 1
   next-moves e =
       let line = ordered_on w s in
       let long : index_of w n < length line = Line.index-short w s n d.on in
@@ -172,7 +172,7 @@ module _ (w : World) (s n : ℕ) (sound : Sound w) (sp : IsSpan w s []) (d : IsD
           stays-unread m (λ z. absurd (omega (arith, at.1, ap (index_of w) z, e)))
           (fails (message_at w m).read (λ r. absurd (omega (arith, at.1, sound.read_past s m at.0 r))))
 
-  next-stays : (index_of w n ≡ next_of w s → ⊥) → next_of (with_read w n) s ≡ next_of w s
+  pub next-stays : (index_of w n ≡ next_of w s → ⊥) → next_of (with_read w n) s ≡ next_of w s
   next-stays ne =
       next_is (with_read w n) s (next_of w s) (omega arith) (omega (arith, next_le w s (sound.named_made s), ap length (line-read w n s)))
       (λ j low high. ap (λ m. (message_at (with_read w n) m).read) (at-line j) ∙ stays-read (get_or (ordered_on w s) j 0) (next_passes w s j low high))
@@ -305,7 +305,7 @@ module _ (w : World) (s n : ℕ) (sound : Sound w) (sp : IsSpan w s []) (d : IsD
   arrived-same : (m : ℕ) → has_arrived (with_read w n) m ≡ has_arrived w m
   arrived-same m = ap (λ c. arrived_of w m == c) (count-same m)
 
-  next-other : (t : ℕ) → (t ≡ s → ⊥) → next_of (with_read w n) t ≡ next_of w t
+  pub next-other : (t : ℕ) → (t ≡ s → ⊥) → next_of (with_read w n) t ≡ next_of w t
   next-other t ne =
       next_is (with_read w n) t (next_of w t) (omega arith) (omega (arith, next_le w t (sound.named_made t), ap length (line-read w n t)))
       (λ j low high. ap (λ m. (message_at (with_read w n) m).read) (ap (λ l. get_or l j 0) (line-read w n t)) ∙ stays-read (get_or (ordered_on w t) j 0) (next_passes w t j low high))
