@@ -35,4 +35,5 @@ state_in a =
       cumulative_tsn = a.cumulative_tsn;
       filter = a.filter;
       fragments = a.fragments;
+      written = a.written;
     }

@@ -12,7 +12,11 @@ use Rattle.sctp_model.specs.Steps.{History, StandsFor, fragments_accepted}
 use Rattle.sctp_model.specs.Laws.{IsSetup}
 use Rattle.sctp_ties.specs.Holds.{reassembly_of}
 use Rattle.sctp_ties.specs.Tied.{TiedOutbound, filter_held}
+use Rattle.sctp_ties.specs.Amount.{amount}
+use Rattle.sctp_ties.specs.Counts.{counters_on}
+use Rattle.sctp_model.specs.Amounts.{Counters, in_all, written_bytes}
 use Rattle.sctp_link.specs.declared.lane.Lane.{Lane}
+use Rattle.sctp_link.specs.declared.stream.DataChannelStats.{DataChannelStats}
 use Rattle.sctp_link.specs.Texts.{IsDatagram}
 
 -- a link: its record, and the checksum that it was handed
@@ -36,9 +40,23 @@ pub record State : Type 0 where
   pub filter : Payload
   -- how many fragments were accepted
   pub fragments : ℕ
+  -- how many bytes were written
+  pub written : ℕ
 
 abbrev pub has_number : ℕ → Lane → Bool
 has_number s l = l.state.stream_identifier == s
+
+-- counters as a stream keeps them
+abbrev pub stats_of : Counters → DataChannelStats
+stats_of c =
+    record {
+      stream_identifier = c.stream_identifier;
+      generation = c.generation;
+      messages_sent = c.messages_sent;
+      bytes_sent = c.bytes_sent;
+      messages_received = c.messages_received;
+      bytes_received = c.bytes_received;
+    }
 
 -- what a stream keeps, against the record
 pub record IsLane (w : World) (l : Lane) : Type 0 where
@@ -49,6 +67,8 @@ pub record IsLane (w : World) (l : Lane) : Type 0 where
   pub ordered : l.ordered ≡ ordered_before w l.state.stream_identifier (length w.messages)
   pub number : l.state.sequence_number ≡ l.ordered % 2 ^ 16
   pub next : l.next ≡ next_of w l.state.stream_identifier
+  pub amount : l.state.buffered_amount ≡ amount w l.state.stream_identifier
+  pub stats : l.state.stats ≡ stats_of (counters_on w l.state.stream_identifier)
 
 pub record IsLinked (sum : List ℕ → ℕ) (x : State) : Type 0 where
   pub setup : IsSetup x.world.setup
@@ -60,6 +80,7 @@ pub record IsLinked (sum : List ℕ → ℕ) (x : State) : Type 0 where
   pub filter : filter_held x.cumulative_tsn x.filter ≡ filter_of x.world
   pub next : x.next_tsn ≡ tsn_of x.world (length x.world.slots)
   pub fragments : x.fragments ≡ fragments_accepted x.world
+  pub written : x.written ≡ in_all x.world (written_bytes x.world)
   pub sents : (n : ℕ) → n < length x.world.messages → slice_index_or x.sents n 0 ≡ sent_of x.world n
   pub befores : (n : ℕ) → n < length x.world.messages → (message_at x.world n).before ≡ ordered_before x.world (message_at x.world n).stream n
   pub lanes : (k : ℕ) (d : Lane) → k < length x.lanes → IsLane x.world (slice_index_or x.lanes k d)

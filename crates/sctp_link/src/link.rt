@@ -42,6 +42,8 @@ pub struct Link<C: Checksum + Drop> {
     cumulative_tsn: u32,
     // how many fragments were accepted
     fragments: usize,
+    // how many bytes were written
+    written: u64,
 }
 
 impl<C: Checksum + Drop> Model for Link<C> {
@@ -98,6 +100,7 @@ impl<C: Checksum + Drop> Link<C> {
             filter: PayloadQueue::new(alloc),
             cumulative_tsn: first_tsn.wrapping_sub(1),
             fragments: 0,
+            written: 0,
         }
     }
 
@@ -129,11 +132,19 @@ impl<C: Checksum + Drop> Link<C> {
             Event::Ack { credit } => self.ack(credit),
             Event::Arrive { k } => self.arrive(k),
             Event::Read { stream } => Ok(self.read(stream)),
-            _ => unreachable!(),
+            Event::Expire { now: _now } => unreachable!(),
+            Event::Tail { now: _now } => unreachable!(),
+            Event::Late { now: _now } => unreachable!(),
+            Event::Abandon { tsn: _tsn } => unreachable!(),
+            Event::Skip {
+                upto: _upto,
+                messages: _messages,
+            } => unreachable!(),
+            Event::Acked { k: _k } => unreachable!(),
         };
         match reply {
             Ok(reply) => Ok(reply),
-            Err(_) => Err(LinkRefusal::OutOfMemory),
+            Err(_e) => Err(LinkRefusal::OutOfMemory),
         }
     }
 

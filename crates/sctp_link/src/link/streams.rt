@@ -89,7 +89,8 @@ impl<C: Checksum + Drop> Link<C> {
         let Some(at) = lane_at(&self.lanes, stream) else {
             unreachable!()
         };
-        let count = fragments_in(bytes.len(), self.fragment_size as usize);
+        let len = bytes.len();
+        let count = fragments_in(len, self.fragment_size as usize);
         self.messages.reserve(1)?;
         if self.lanes[at].is_ordered(ppi) {
             self.outbound.reserve(count, 0)?;
@@ -101,6 +102,7 @@ impl<C: Checksum + Drop> Link<C> {
         let number = self.messages.len() as u64;
         put(&mut self.messages, message);
         self.fragments += count;
+        self.written += len as u64;
         Ok(Reply::Wrote {
             number: Some(number),
             fragments: count as u64,
