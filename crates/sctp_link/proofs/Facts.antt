@@ -75,7 +75,7 @@ over sum x P l p = subst P (sym l.stands.is) p
 pub stands-then : (setup : Setup) (w : World) (h : History) (e : Event) → refusal_of w e ≡ None → StandsFor setup w h → StandsFor setup (after w e) ((e, reply_to w e) ∷ h)
 stands-then setup w h e none s = record {
   is = ap (λ v. after v e) s.is;
-  run = (ap (λ v. refusal_of v e) (sym s.is) ∙ none, ap (λ v. reply_to v e) s.is, s.run);
+  run = (ap (λ v. refusal_of v e) (sym s.is) ∙ none, (ap (λ v. reply_to v e) s.is, s.run));
 }
 
 -- what a datagram of before says after it
