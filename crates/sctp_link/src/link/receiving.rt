@@ -19,8 +19,8 @@ use sctp_queues::payload_queue::PayloadQueue;
 
 impl<C: Checksum + Drop> Link<C> {
     ghost use Rattle.sctp_model.specs.World.{Data};
-    ghost use Rattle.sctp_model.specs.Messages.{message_at, message_of, index_of, tsn_of};
-    ghost use Rattle.sctp_model.specs.Receiver.{is_new, is_held};
+    ghost use Rattle.sctp_model.specs.Messages.{message_at, message_of, index_of, tsn_of, is_open};
+    ghost use Rattle.sctp_model.specs.Receiver.{is_new, is_held, held_on, next_of, least, greatest};
     ghost use Rattle.sctp_model.specs.Contents.{chunk_at};
     ghost use Rattle.sctp_model.specs.Queues.{set_of};
     ghost use Rattle.sctp_model.specs.Changes.{slot_received};
@@ -53,7 +53,7 @@ impl<C: Checksum + Drop> Link<C> {
         }
     }
 
-    // Whether stream sequence numbers can still be told apart once the slot has come (RFC 4960 6.5). It looks at the ends of what is held.
+    // Whether stream sequence numbers can still be told apart once the slot has come (RFC 4960 6.5).
     fn span_fits(&self, place: usize) -> bool
         requires { (k : ℕ) × (slice_get self.now.world.network k ≡ Some (Data (place ∷ []))) }
         ensures { result ≡ arrival_fits self.now.world (Some (Data (place ∷ []))) }
@@ -62,20 +62,30 @@ impl<C: Checksum + Drop> Link<C> {
         if !message.ordered || !self.is_new(place) {
             return true;
         }
-        let Some(at) = lane_at(&self.lanes, message.stream) else {
+        let (low, high) = self.ends(message.stream);
+        high.max(message.before) < low.min(message.before) + 0x8000
+    }
+
+    // The least and the greatest of the index expected next and those of the messages held: they stand at the ends of the queue.
+    fn ends(&self, stream: u16) -> (u64, u64)
+        requires { is_open self.now.world stream ≡ true }
+        ensures low { result.0 ≡ least (next_of self.now.world stream) (map (index_of self.now.world) (held_on self.now.world stream)) }
+        ensures high { result.1 ≡ greatest (next_of self.now.world stream) (map (index_of self.now.world) (held_on self.now.world stream)) }
+    {
+        let Some(at) = lane_at(&self.lanes, stream) else {
             unreachable!()
         };
         let lane = &self.lanes[at];
         let held = lane.state.reassembly_queue().ordered();
-        let low = match held.front() {
-            Some(set) => lane.next.min(self.index_of(set)),
-            None => lane.next,
+        let Some(first) = held.front() else {
+            return (lane.next, lane.next);
         };
-        let high = match held.back() {
-            Some(set) => lane.next.max(self.index_of(set)),
-            None => lane.next,
+        let Some(last) = held.back() else {
+            return (lane.next, lane.next);
         };
-        high.max(message.before) < low.min(message.before) + 0x8000
+        let low = lane.next.min(self.index_of(first));
+        let high = lane.next.max(self.index_of(last));
+        (low, high)
     }
 
     // The index of the message whose fragments these are.
