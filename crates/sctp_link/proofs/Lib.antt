@@ -1,2 +1,3 @@
 pub mod PieceLemmas
 pub mod Walks
+pub mod Packets
