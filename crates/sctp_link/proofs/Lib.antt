@@ -2,3 +2,4 @@ pub mod PieceLemmas
 pub mod Facts
 pub mod Lookups
 pub mod Lending
+pub mod Walks
