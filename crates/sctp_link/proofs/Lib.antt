@@ -1,3 +1,6 @@
 pub mod PieceLemmas
+pub mod Facts
+pub mod Lookups
+pub mod Lending
 pub mod Walks
 pub mod Packets

@@ -14,10 +14,11 @@ use Rattle.sctp_queues.specs.DataChunks.{bytes_of}
 use Rattle.sctp_queues.specs.Outbound.{Outbound}
 use Rattle.sctp_queues.specs.Pending.{total_bytes}
 use Rattle.sctp_model.specs.declared.event.Event.TheVariants as E
-use Rattle.sctp_model.specs.World.{Setup, Datagram, Data, Forward, Sack, World}
+use Rattle.sctp_model.specs.World.{Report, Setup, Datagram, Data, Forward, Sack, World}
 use Rattle.sctp_model.specs.Messages.{message_at, slot_at, message_of}
 use Rattle.sctp_model.specs.Amounts.{in_all, written_bytes, pending_bytes, in_flight_bytes, released_bytes, Ledger, ledger}
 use Rattle.sctp_model.specs.Log.{is_acknowledged_in, taken_in, cumulative_in, reported_by}
+use Rattle.sctp_model.specs.Reports.{reports}
 use Rattle.sctp_model.specs.Contents.{chunk_at}
 use Rattle.sctp_model.specs.Steps.{History, world_of, IsRun}
 use Rattle.sctp_model.specs.Laws.{IsSetup}
@@ -27,7 +28,7 @@ use Rattle.sctp_model.proofs.SenderRun.{sane-run}
 use Rattle.sctp_model.proofs.Fronts.{mark-abandoned, slot-sent}
 use Rattle.sctp_model.proofs.Acknowledged.{acknowledged_is_reported}
 use Rattle.sctp_model.proofs.Bytes.{balances}
-use Rattle.sctp_ties.specs.Amount.{stream_of_slot, bytes_at, unacked, acknowledged_at}
+use Rattle.sctp_ties.specs.Amount.{stream_of_slot, bytes_at, unacked, acknowledged_at, acknowledged_then}
 use Rattle.sctp_ties.specs.Tied.{sending_of, unless_gone, TiedOutbound}
 use Rattle.sctp_ties.proofs.Acked.{sending_by, first_of', rest_of', IsInFlight, in-flight-first}
 use Rattle.sctp_ties.proofs.KindsRun.{taken-run}
@@ -177,3 +178,19 @@ ledger-is setup h is run q t =
   where
     four : ℕ → ℕ → ℕ → ℕ → Ledger
     four a b c d = record { written = a; pending = b; in_flight = c; released = d }
+
+-- ## A SACK is taken
+
+-- what it acknowledges cumulatively is acknowledged then, with what was before
+pub then-below : (w : World) (r : Report) (p : ℕ) → ((k : ℕ) → k < w.taken → acknowledged_at w k ≡ true) → p < max w.taken r.cumulative → acknowledged_then w r p ≡ true
+then-below w r p before lt = by (cases_lt p w.taken)
+  where
+    by : (p < w.taken) ⊎ (w.taken ≤ p) → acknowledged_then w r p ≡ true
+    by (inl l) = or-left (acknowledged_at w p) (reports r p) (before p l)
+    by (inr g) = let low : p < r.cumulative = omega (arith, lt, g) in let z : nat_lt p r.cumulative ≡ true = grind (arith, nat_tests) in or-right (acknowledged_at w p) (reports r p) (or-left (nat_lt p r.cumulative) _ z)
+
+-- once what it reports is marked and what it acknowledges cumulatively is popped, the queue holds the bytes that are not acknowledged then
+pub bytes-acked : (setup : Setup) (h : History) → IsSetup setup → IsRun setup h → (r : Report) (cs : List ChunkPayloadData) → max (world_of setup h).taken r.cumulative ≤ length (world_of setup h).slots → IsInFlight (world_of setup h) (acknowledged_then (world_of setup h) r) (max (world_of setup h).taken r.cumulative) (length (world_of setup h).slots - max (world_of setup h).taken r.cumulative) cs → bytes_of cs ≡ unacked (world_of setup h) (acknowledged_then (world_of setup h) r)
+bytes-acked setup h is run r cs le e =
+    let w = world_of setup h in
+    bytes-unacked w (acknowledged_then w r) cs (max w.taken r.cumulative) (sane-run setup h run).sender le (λ p lt. then-below w r p (taken-acknowledged setup h is run) lt) e
