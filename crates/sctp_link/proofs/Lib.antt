@@ -3,3 +3,7 @@ pub mod Hears
 pub mod Apart
 pub mod PieceLemmas
 pub mod Facts
+pub mod Lookups
+pub mod Lending
+pub mod Walks
+pub mod Packets
