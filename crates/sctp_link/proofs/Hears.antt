@@ -28,7 +28,7 @@ use Rattle.sctp_link.specs.declared.record.Slot.{Slot}
 use Rattle.sctp_link.specs.Linked.{State, IsLinked, IsLane, has_number}
 use Rattle.sctp_link.specs.Records.{message_record, slot_record, stream_record}
 use Rattle.sctp_link.proofs.Facts.{facts}
-use Rattle.sctp_link.proofs.Apart.{stream-found, number-found}
+use Rattle.sctp_link.proofs.Lookups.{found-number}
 
 -- ## Elements of the record as the link keeps them
 
@@ -127,7 +127,7 @@ module _ (sum : List ℕ → ℕ) (x : State) (l : IsLinked sum x) (slots : List
 
 module _ (sum : List ℕ → ℕ) (x : State) (l : IsLinked sum x) (at s : ℕ) (d : Lane) (lt : at < length x.lanes) (found : find (has_number s) x.lanes ≡ Some (slice_index_or x.lanes at d)) where
   pub lane-number : (slice_index_or x.lanes at d).state.stream_identifier ≡ s
-  lane-number = number-found s x.lanes (slice_index_or x.lanes at d) found
+  lane-number = found-number s x.lanes (slice_index_or x.lanes at d) found
 
   pub lane-ordered : (slice_index_or x.lanes at d).state.reassembly_queue.held.ordered ≡ ordered_sets x.world s
   lane-ordered = ap (λ q. q.ordered) ((l.lanes at d lt).held) ∙ ap (ordered_sets x.world) lane-number

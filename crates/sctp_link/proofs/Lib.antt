@@ -1,3 +1,4 @@
+pub mod Arrives
 pub mod Frames
 pub mod Hears
 pub mod Apart
