@@ -4,3 +4,5 @@ pub mod Lookups
 pub mod Lending
 pub mod Walks
 pub mod Packets
+pub mod Observed
+pub mod Begins
