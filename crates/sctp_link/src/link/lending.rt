@@ -40,7 +40,10 @@ impl<C: Checksum + Drop> Link<C> {
             written: self.written,
             pending,
             in_flight,
-            released: self.written.saturating_sub(pending).saturating_sub(in_flight),
+            released: self
+                .written
+                .saturating_sub(pending)
+                .saturating_sub(in_flight),
         }
     }
 
