@@ -8,3 +8,5 @@ pub mod Lookups
 pub mod Lending
 pub mod Walks
 pub mod Packets
+pub mod Observed
+pub mod Begins

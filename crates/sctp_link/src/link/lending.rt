@@ -1,10 +1,10 @@
 //! What a link tells of itself: its bytes, its counters, and the queues that it works on.
 
-ghost use Rattle.std.specs.Prelude.{◌≡◌, ◌==◌, ℕ, None, Some, false, MatchOption, map, option_map};
+ghost use Rattle.std.specs.Prelude.{◌≡◌, ◌==◌, ℕ, None, Some, true, false, MatchOption, map, option_map};
 ghost use Rattle.sctp_queues.specs.Payload.{Payload};
 
 use super::Link;
-use crate::lane::lane_at;
+use crate::lane::{Lane, lane_at};
 use crate::stream::DataChannelStats;
 use sctp_base::util::Checksum;
 use sctp_queues::outbound_queue::OutboundQueue;
@@ -28,7 +28,7 @@ impl<C: Checksum + Drop> Link<C> {
     ghost use Rattle.sctp_model.specs.Queues.{pending_of, in_flight_of, filter_of};
     ghost use Rattle.sctp_ties.specs.Holds.{reassembly_of};
     ghost use Rattle.sctp_ties.specs.Tied.{shown, in_flight_shown, filter_held};
-    ghost use Rattle.sctp_link.specs.Linked.{stats_of, ledger_of};
+    ghost use Rattle.sctp_link.specs.Linked.{IsLane, stats_of, ledger_of};
 
     /// The bytes written, and what became of them.
     pub fn ledger(&self) -> Ledger
@@ -40,7 +40,10 @@ impl<C: Checksum + Drop> Link<C> {
             written: self.written,
             pending,
             in_flight,
-            released: self.written.saturating_sub(pending).saturating_sub(in_flight),
+            released: self
+                .written
+                .saturating_sub(pending)
+                .saturating_sub(in_flight),
         }
     }
 
@@ -48,16 +51,20 @@ impl<C: Checksum + Drop> Link<C> {
     pub fn buffered_amount(&self, stream: u16) -> Option<u64>
         ensures { result ≡ buffered_amount self.now.world stream }
     {
-        let at = lane_at(&self.lanes, stream)?;
-        Some(self.lanes[at].state.buffered_amount() as u64)
+        let Some(lane) = self.lane_of(stream) else {
+            return None;
+        };
+        Some(lane.state.buffered_amount() as u64)
     }
 
     /// The counters of an open stream.
     pub fn stats(&self, stream: u16) -> Option<DataChannelStats>
         ensures { result ≡ option_map stats_of (counters_of self.now.world stream) }
     {
-        let at = lane_at(&self.lanes, stream)?;
-        Some(self.lanes[at].state.stats())
+        let Some(lane) = self.lane_of(stream) else {
+            return None;
+        };
+        Some(lane.state.stats())
     }
 
     /// What waits to be sent and what is in flight.
@@ -79,7 +86,19 @@ impl<C: Checksum + Drop> Link<C> {
     pub fn reassembly(&self, stream: u16) -> Option<&ReassemblyQueue>
         ensures { MatchOption result (is_open self.now.world stream ≡ false) (λ q. q.now.held ≡ reassembly_of self.now.world stream) }
     {
-        let at = lane_at(&self.lanes, stream)?;
-        Some(self.lanes[at].state.reassembly_queue())
+        let Some(lane) = self.lane_of(stream) else {
+            return None;
+        };
+        Some(lane.state.reassembly_queue())
+    }
+
+    // What is kept of an open stream.
+    fn lane_of(&self, stream: u16) -> Option<&Lane>
+        ensures { MatchOption result (is_open self.now.world stream ≡ false) (λ l. (is_open self.now.world stream ≡ true) × (l.now.state.stream_identifier ≡ stream) × IsLane self.now.world l.now) }
+    {
+        let Some(at) = lane_at(&self.lanes, stream) else {
+            return None;
+        };
+        Some(&self.lanes[at])
     }
 }

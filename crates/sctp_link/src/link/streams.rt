@@ -27,7 +27,12 @@ impl<C: Checksum + Drop> Link<C> {
         ensures err { OnErr result (self.new.world ≡ self.old.world) }
         ensures memory { IsOkUnless result ErrOutOfMemory }
     {
-        let lane = Lane::new(self.alloc, stream, self.fragment_size, self.max_message_size);
+        let lane = Lane::new(
+            self.alloc,
+            stream,
+            self.fragment_size,
+            self.max_message_size,
+        );
         self.lanes.push(lane)?;
         Ok(Reply::Opened)
     }
