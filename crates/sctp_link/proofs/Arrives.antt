@@ -4,19 +4,17 @@ use Rattle.std.specs.Prelude.{◌==◌, ◌&&◌, not, IsTrue, if◌then◌else�
 use Rattle.std.proofs.Math.Path.{subst}
 use Rattle.sctp_lists.specs.Lists.{changed, inserted, advanced, Seen}
 use Rattle.sctp_lists.specs.Serial.{comes_before}
-use Rattle.sctp_lists.proofs.Cases.{same-yes, negated}
-use Rattle.sctp_lists.proofs.More.{not_both, both}
+use Rattle.sctp_lists.proofs.More.{not_both}
 use Rattle.sctp_chunks.specs.declared.chunk.chunk_payload_data.ChunkPayloadData.{ChunkPayloadData}
 use Rattle.sctp_queues.specs.DataChunks.{chunk_before}
 use Rattle.sctp_queues.specs.Payload
 use Rattle.sctp_queues.specs.Payload.{Payload}
-use Rattle.sctp_queues.specs.Reassembly.{is_too_large, pushed_ordered, BecomesWhole}
 use Rattle.sctp_queues.specs.Window
 use Rattle.sctp_model.specs.declared.event.Event.TheVariants as E
 use Rattle.sctp_model.specs.World.{World, StreamRecord, Data}
 use Rattle.sctp_model.specs.Messages.{message_at, slot_at, message_of, stream_at, index_of, tsn_of}
 use Rattle.sctp_model.specs.Receiver.{is_new, next_of}
-use Rattle.sctp_model.specs.Changes.{slot_received, datagram_received, becomes_whole, with_whole, stream_changed, whole_noted, mark_arrived}
+use Rattle.sctp_model.specs.Changes.{slot_received, datagram_received, whole_noted}
 use Rattle.sctp_model.specs.Contents.{chunk_at}
 use Rattle.sctp_model.specs.Queues.{FilterRecord, filter_of}
 use Rattle.sctp_model.specs.Steps.{refusal_of, after, arrival_fits, is_for_receiver}
@@ -31,20 +29,14 @@ use Rattle.sctp_ties.proofs.FilterQueue.{tsns, tsns-inserted, window-is}
 use Rattle.sctp_ties.proofs.Keeps
 use Rattle.sctp_ties.proofs.QuietSender
 use Rattle.sctp_ties.proofs.ReadOne.{next-arrive}
-use Rattle.sctp_ties.proofs.RunsOnce.{becomes-same}
 use Rattle.sctp_ties.proofs.SlotArrives
 use Rattle.sctp_ties.proofs.SlotArrives.{Enters}
 use Rattle.sctp_ties.proofs.SlotsArrive.{enters}
 use Rattle.sctp_ties.proofs.SlotsNear.{span-at}
-use Rattle.sctp_ties.proofs.Sizes.{never-too-large-run}
 use Rattle.sctp_ties.proofs.Span.{IsSpan}
 use Rattle.sctp_ties.proofs.StreamCounters.{counters-same}
 use Rattle.sctp_link.specs.declared.lane.Lane.{Lane}
-use Rattle.sctp_link.specs.declared.record.Slot.{Slot}
 use Rattle.sctp_link.specs.Linked.{State, IsLinked, IsLane, has_number, stats_of}
-use Rattle.sctp_link.specs.Lanes.{Keeps}
-use Rattle.sctp_link.specs.Records.{slot_record, stream_record}
-use Rattle.sctp_link.proofs.Apart.{ids, IsApart, apart, apart-set, find-apart, differ, each-set, map-set, map-set_same, streams-set}
 use Rattle.sctp_link.proofs.Facts.{facts, over}
 use Rattle.sctp_link.proofs.Frames.{lane-then, linked-then}
 use Rattle.sctp_link.proofs.Hears.{new-tells, come-made}
@@ -56,13 +48,13 @@ module _ (sum : List ℕ → ℕ) (x : State) (l : IsLinked sum x) (k p : ℕ) (
   abbrev v : World
   v = after x.world (E.Arrive k)
 
-  after-is : v ≡ slot_received w p
+  pub after-is : v ≡ slot_received w p
   after-is = ap (datagram_received w) e
 
-  frame : Network.Same w v
+  pub frame : Network.Same w v
   frame = Network.same-received w (slice_get w.network k)
 
-  quiet : QuietSender.SameToSender w v
+  pub quiet : QuietSender.SameToSender w v
   quiet = subst (QuietSender.SameToSender w) (sym after-is) (QuietSender.same-slot w p)
 
   next-stays : (t : ℕ) → next_of v t ≡ next_of w t
@@ -73,13 +65,13 @@ module _ (sum : List ℕ → ℕ) (x : State) (l : IsLinked sum x) (k p : ℕ) (
   counters-stay : (t : ℕ) → counters_on v t ≡ counters_on w t
   counters-stay t = let f = facts sum x l in counters-same w.setup w (E.Arrive k) t f.sane refl refl
 
-  fits : arrival_fits w (Some (Data (p ∷ []))) ≡ true
+  pub fits : arrival_fits w (Some (Data (p ∷ []))) ≡ true
   fits =
       let a = unless-holds (is_for_receiver (slice_get w.network k)) NoSuchDatagram _ none in
       ap (arrival_fits w) (sym e) ∙ (unless-holds (arrival_fits w (slice_get w.network k)) SpanTooWide None a.1).0
 
   -- a lane of which only the queue changes
-  lane-arrived : (y z : Lane) → IsLane w y → z.state ≡ record y.state { reassembly_queue = z.state.reassembly_queue } → z.ordered ≡ y.ordered → z.next ≡ y.next → z.state.reassembly_queue.held ≡ reassembly_of (slot_received w p) y.state.stream_identifier → z.state.reassembly_queue.si ≡ y.state.reassembly_queue.si → z.state.reassembly_queue.max_message_size ≡ y.state.reassembly_queue.max_message_size → IsLane v z
+  pub lane-arrived : (y z : Lane) → IsLane w y → z.state ≡ record y.state { reassembly_queue = z.state.reassembly_queue } → z.ordered ≡ y.ordered → z.next ≡ y.next → z.state.reassembly_queue.held ≡ reassembly_of (slot_received w p) y.state.stream_identifier → z.state.reassembly_queue.si ≡ y.state.reassembly_queue.si → z.state.reassembly_queue.max_message_size ≡ y.state.reassembly_queue.max_message_size → IsLane v z
   lane-arrived y z i state ordered next held si largest =
       let t = y.state.stream_identifier in
       lane-then sum x l (E.Arrive k) none frame refl y z i (ap (λ s. s.stream_identifier) state) (held ∙ ap (λ u. reassembly_of u t) (sym after-is)) si largest
@@ -122,20 +114,20 @@ module _ (sum : List ℕ → ℕ) (x : State) (l : IsLinked sum x) (k p : ℕ) (
     abbrev s : ℕ
     s = (message_at w (message_of w p)).stream
 
-    enter : Enters w s p
+    pub enter : Enters w s p
     enter = let f = facts sum x l in enters w p (f.carried k p e) new
 
-    span-here : (message_at w n).ordered ≡ true → IsSpan w s (index_of w n ∷ [])
+    pub span-here : (message_at w n).ordered ≡ true → IsSpan w s (index_of w n ∷ [])
     span-here o = let f = facts sum x l in span-at w [] p [] f.sounds (f.carried k p e, tt) fits new o
 
-    elsewhere : (t : ℕ) → (t ≡ s → ⊥) → reassembly_of (slot_received w p) t ≡ reassembly_of w t
+    pub elsewhere : (t : ℕ) → (t ≡ s → ⊥) → reassembly_of (slot_received w p) t ≡ reassembly_of w t
     elsewhere t ne = by (message_at w n).ordered refl
       where
         by : (b : Bool) → (message_at w n).ordered ≡ b → reassembly_of (slot_received w p) t ≡ reassembly_of w t
         by true o = let f = facts sum x l in SlotArrives.slot-elsewhere w s p t f.sounds.plain enter (span-here o) ne
         by false o = Keeps.unordered-elsewhere w s p t (SlotArrives.arrives-loose w s p enter o) ne
 
-    noted-is : slot_received w p ≡ whole_noted (with_arrived w p) n
+    pub noted-is : slot_received w p ≡ whole_noted (with_arrived w p) n
     noted-is = ap (λ b. if b then whole_noted (with_arrived w p) n else record w { duplicates = w.duplicates ++ p ∷ [] }) new
 
     -- the filter with its TSN
@@ -148,7 +140,7 @@ module _ (sum : List ℕ → ℕ) (x : State) (l : IsLinked sum x) (k p : ℕ) (
     pub is-new : (c : ChunkPayloadData) → c.tsn ≡ tsn_of w p → Window.is_new x.filter.chunks c.tsn x.cumulative_tsn ≡ true
     is-new c is = ap (λ t. Window.is_new x.filter.chunks t x.cumulative_tsn) is ∙ new-tells sum x p l (come-made sum x l k p e) ∙ new
 
-    moved-filter : (c : ChunkPayloadData) (cumulative : ℕ) (filter : Payload) → c.tsn ≡ tsn_of w p → filter.duplicates ≡ x.filter.duplicates → advanced x.cumulative_tsn (tsns (inserted chunk_before c x.filter.chunks)) ≡ record { cum = cumulative; held = tsns filter.chunks } → filter_held cumulative filter ≡ filter_of v
+    pub moved-filter : (c : ChunkPayloadData) (cumulative : ℕ) (filter : Payload) → c.tsn ≡ tsn_of w p → filter.duplicates ≡ x.filter.duplicates → advanced x.cumulative_tsn (tsns (inserted chunk_before c x.filter.chunks)) ≡ record { cum = cumulative; held = tsns filter.chunks } → filter_held cumulative filter ≡ filter_of v
     moved-filter c cumulative filter is dup moved =
         let f = facts sum x l in
         let seen : seen_of (slot_received w p) ≡ record { cum = cumulative; held = tsns filter.chunks } =

@@ -1,3 +1,4 @@
+pub mod Keeping
 pub mod Arrives
 pub mod Frames
 pub mod Hears

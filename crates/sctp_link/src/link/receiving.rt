@@ -2,9 +2,11 @@
 
 ghost use Rattle.std.specs.Prelude.{◌≡◌, ◌<◌, ◌≤◌, ◌+◌, ◌-◌, ◌^◌, ◌∷◌, ◌++◌, ℕ, [], true, false, None, Some, OnOk, OnErr, IfOk, IsOkUnless, MatchOption, length, slice_get, map};
 ghost use Rattle.sctp_base.specs.declared.error.Error.TheVariants.{ErrOutOfMemory};
-ghost use Rattle.sctp_lists.specs.Lists.{advanced};
+ghost use Rattle.sctp_lists.specs.Lists.{advanced, inserted};
 ghost use Rattle.sctp_chunks.specs.declared.chunk.chunk_payload_data.ChunkPayloadData.{ChunkPayloadData};
+ghost use Rattle.sctp_queues.specs.DataChunks.{chunk_before};
 ghost use Rattle.sctp_queues.specs.Payload.{with_chunks};
+ghost use Rattle.sctp_queues.specs.Window;
 
 use super::{Link, put};
 use crate::datagram::read_data;
@@ -164,9 +166,7 @@ impl<C: Checksum + Drop> Link<C> {
         };
         self.filter.reserve(1)?;
         self.lanes[at].keep(&chunk, number)?;
-        let mark = without_data(chunk);
-        let _ = self.filter.push(mark, self.cumulative_tsn);
-        self.cumulative_tsn = advance(&mut self.filter, self.cumulative_tsn);
+        self.cumulative_tsn = note(&mut self.filter, chunk, self.cumulative_tsn);
         self.slots[place].arrived = true;
         Ok(())
     }
@@ -194,6 +194,21 @@ impl<C: Checksum + Drop> Link<C> {
             chunks,
         }
     }
+}
+
+// Puts the TSN of a new chunk where room was made for it, and answers the cumulative TSN that follows.
+fn note(filter: &mut PayloadQueue, chunk: ChunkPayloadData, cumulative: u32) -> u32
+    requires room { 0 < filter.old.room }
+    requires fresh { Window.is_new filter.old.chunks chunk.tsn cumulative ≡ true }
+    requires window { Window.IsWindow cumulative filter.old.chunks chunk.tsn }
+    ensures moved { advanced cumulative (map (λ c. c.tsn) (inserted chunk_before (record chunk { user_data = [] }) filter.old.chunks)) ≡ record { cum = result; held = map (λ c. c.tsn) filter.new.chunks } }
+    ensures duplicates { filter.new.duplicates ≡ filter.old.duplicates }
+{
+    let mark = without_data(chunk);
+    // The count of bytes, to which the mark adds none, fits.
+    let _held = filter.get_num_bytes();
+    let _ = filter.push(mark, cumulative);
+    advance(filter, cumulative)
 }
 
 // The chunk without its bytes, which a filter of TSNs does not need.
