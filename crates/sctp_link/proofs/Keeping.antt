@@ -1,6 +1,6 @@
 -- A slot that comes for the first time is kept by its stream.
 use Rattle.std.proofs.Common.{◌≡◌, ℕ, ◌+◌, ◌-◌, ◌<◌, ◌%◌, ◌^◌, Bool, true, false, List, [], ◌∷◌, ◌++◌, length, map, Some, None, refl, ap, sym, ◌∙◌, arith}
-use Rattle.std.specs.Prelude.{◌==◌, ◌&&◌, not, is_some, nat_le, if◌then◌else◌, find, slice_get, slice_index_or, slice_set}
+use Rattle.std.specs.Prelude.{◌==◌, ◌&&◌, not, is_some, nat_le, Result, Ok, Err, OnErr, if◌then◌else◌, find, slice_get, slice_index_or, slice_set}
 use Rattle.std.specs.List.{list_all}
 use Rattle.std.proofs.Math.Path.{subst}
 use Rattle.std.proofs.lemmas.List.{length-set}
@@ -215,3 +215,7 @@ pub never-closed : (sum : List ℕ → ℕ) (x : State) (l : IsLinked sum x) (k 
 never-closed sum x l k p e lanes_are none =
     let c = (facts sum x l).carried k p e in
     not_both (sym (none-open x.world (message_at x.world (message_of x.world p)).stream x.lanes lanes_are none) ∙ ap is_some c.known.1)
+
+pub on-err : {T E : Type 0} (r : Result T E) (P : Type 0) → P → OnErr r P
+on-err (Ok v) P p = tt
+on-err (Err e) P p = p
