@@ -209,3 +209,7 @@ module _ (sum : List ℕ → ℕ) (x : State) (l : IsLinked sum x) (k p : ℕ) (
     where
       both : is_new x.world p ≡ true → (message_at x.world n).ordered ≡ true → (is_new x.world p && (message_at x.world n).ordered) ≡ true
       both a b = rw (a, b) refl
+
+pub none-there : (n : ℕ) → (0 < n → false ≡ true) → n ≡ 0
+none-there zero h = refl
+none-there (suc n) h = absurd (not_both (h (omega arith)))

@@ -1,3 +1,4 @@
+pub mod Comes
 pub mod HandsOut
 pub mod Keeping
 pub mod Arrives

@@ -115,8 +115,7 @@ impl<C: Checksum + Drop> Link<C> {
         ensures err { OnErr result (self.new.world ≡ self.old.world) }
         ensures memory { IsOkUnless result ErrOutOfMemory }
     {
-        let chunk = self.receive(k)?;
-        let place = chunk.tsn.wrapping_sub(self.first_tsn) as usize;
+        let (place, chunk) = self.receive(k)?;
         if self.is_new(place) {
             self.keep(place, chunk)?;
             return Ok(Reply::New);
@@ -125,13 +124,18 @@ impl<C: Checksum + Drop> Link<C> {
         Ok(Reply::Repeat)
     }
 
-    // Reads the bytes of datagram k.
-    fn receive(&self, k: u64) -> Result<ChunkPayloadData>
+    // Reads the bytes of datagram k: its slot, and the chunk.
+    fn receive(&self, k: u64) -> Result<(usize, ChunkPayloadData)>
         requires { is_for_receiver (slice_get self.now.world.network k) ≡ true }
-        ensures chunk { (place : ℕ) → slice_get self.now.world.network k ≡ Some (Data (place ∷ [])) → IfOk result (λ c. c ≡ chunk_at self.now.world place) }
+        ensures place { IfOk result (λ r. slice_get self.now.world.network k ≡ Some (Data (r.0 ∷ []))) }
+        ensures chunk { IfOk result (λ r. r.1 ≡ chunk_at self.now.world r.0) }
         ensures memory { IsOkUnless result ErrOutOfMemory }
     {
-        read_data(self.alloc, &self.network[k as usize].bytes, &self.checksum)
+        let Some(place) = self.data_at(k) else {
+            unreachable!()
+        };
+        let chunk = read_data(self.alloc, &self.network[k as usize].bytes, &self.checksum)?;
+        Ok((place, chunk))
     }
 
     // Notes a slot that came again.
