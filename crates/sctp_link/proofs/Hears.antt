@@ -4,18 +4,21 @@ use Rattle.std.specs.Prelude.{◌==◌, ◌&&◌, not, is_some, find, if◌then�
 use Rattle.std.specs.Option.{option_copied}
 use Rattle.std.specs.Borrow.{Bor}
 use Rattle.std.proofs.Math.Path.{subst}
+use Rattle.sctp_lists.specs.Kept.{numbers_from, total_over}
 use Rattle.sctp_lists.specs.Serial.{at_or_before}
+use Rattle.sctp_lists.proofs.KeptLemmas.{length-kept-le}
 use Rattle.sctp_lists.proofs.More.{not_both}
 use Rattle.sctp_chunks.specs.declared.chunk.chunk_payload_data.ChunkPayloadData.{ChunkPayloadData}
 use Rattle.sctp_chunks.specs.ChunkSet.{ChunkSet}
 use Rattle.sctp_queues.specs.DataChunks.{has_tsn}
 use Rattle.sctp_queues.specs.Window
 use Rattle.sctp_model.specs.World.{World, StreamRecord, Data}
-use Rattle.sctp_model.specs.Messages.{message_at, slot_at, message_of, stream_at, index_of, tsn_of, place_of, no_message, no_slot}
+use Rattle.sctp_model.specs.Messages.{message_at, slot_at, message_of, stream_at, index_of, tsn_of, place_of, is_ordered_on, no_message, no_slot}
 use Rattle.sctp_model.specs.Receiver.{is_new, is_held, held_on, next_of, least, greatest}
 use Rattle.sctp_model.specs.Contents.{chunk_at}
 use Rattle.sctp_model.specs.Queues.{set_of}
 use Rattle.sctp_model.specs.Steps.{arrival_fits}
+use Rattle.sctp_model.proofs.Shape.{shape, parts}
 use Rattle.sctp_ties.specs.Holds.{seen_of, ordered_sets, reassembly_of}
 use Rattle.sctp_ties.proofs.Arrival
 use Rattle.sctp_ties.proofs.Line
@@ -166,6 +169,16 @@ module _ (sum : List ℕ → ℕ) (x : State) (l : IsLinked sum x) (at s : ℕ) 
 
 -- ## The span test
 
+-- each message has a fragment
+under-total : (f : ℕ → ℕ) (from count : ℕ) → ((k : ℕ) → from ≤ k → k < from + count → 0 < f k) → count ≤ total_over f (numbers_from from count)
+under-total f from zero h = omega arith
+under-total f from (suc count) h = omega (arith, h from (omega arith) (omega arith), under-total f (from + 1) count (λ k a b. h k (omega arith) (omega arith)))
+
+few-messages : (sum : List ℕ → ℕ) (x : State) → IsLinked sum x → length x.world.messages < 2 ^ 31
+few-messages sum x l =
+    let f = facts sum x l in
+    omega (arith, under-total (parts (shape x.world)) 0 (length x.world.messages) (λ k a b. f.sounds.plain.some k (omega (arith, b))), f.sane.accepted)
+
 module _ (sum : List ℕ → ℕ) (x : State) (l : IsLinked sum x) (k p : ℕ) (e : slice_get x.world.network k ≡ Some (Data (p ∷ []))) where
   abbrev n : ℕ
   n = message_of x.world p
@@ -184,6 +197,10 @@ module _ (sum : List ℕ → ℕ) (x : State) (l : IsLinked sum x) (k p : ℕ) (
 
   pub come-before : (message_at x.world n).before ≡ index_of x.world n
   come-before = l.befores n come-message
+
+  -- there are fewer messages than fragments may be accepted
+  pub few-before : (message_at x.world n).before < 2 ^ 31
+  few-before = omega (arith, come-before, length-kept-le (is_ordered_on x.world s) 0 n, come-message, few-messages sum x l)
 
   fits-is : arrival_fits x.world (Some (Data (p ∷ []))) ≡ (if is_new x.world p && (message_at x.world n).ordered then nat_lt (max (greatest (next_of x.world s) (map (index_of x.world) (held_on x.world s))) (index_of x.world n)) (min (least (next_of x.world s) (map (index_of x.world) (held_on x.world s))) (index_of x.world n) + 2 ^ 15) else true)
   fits-is = let f = facts sum x l in arrival-fits-one x.world p f.spans (f.carried k p e)

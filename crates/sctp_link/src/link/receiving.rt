@@ -61,7 +61,10 @@ impl<C: Checksum + Drop> Link<C> {
         ensures { result ≡ arrival_fits self.now.world (Some (Data (place ∷ []))) }
     {
         let message = &self.messages[self.slots[place].message as usize];
-        if !message.ordered || !self.is_new(place) {
+        if !message.ordered {
+            return true;
+        }
+        if !self.is_new(place) {
             return true;
         }
         let (low, high) = self.ends(message.stream);

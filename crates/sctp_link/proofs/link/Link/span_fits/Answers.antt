@@ -1,45 +1,146 @@
-use Rattle.std.proofs.Common.{rules, ◌≡◌, ◌<◌, ◌≤◌, ◌+◌, ◌-◌, ◌^◌, ◌∷◌, ◌++◌, ℕ, [], true, false, None, Some, OnOk, OnErr, IfOk, IsOkUnless, MatchOption, length, slice_get, slice_index_or, map, ◌*◌, ◌/◌, ◌%◌, Bool, nat_eq, nat_lt, List, slice_set, bit_and, bit_or, Fits, w8, w32, w64, Bor, MutBor}
-use Rattle.sctp_base.specs.declared.error.Error.TheVariants.{ErrOutOfMemory}
-use Rattle.sctp_lists.specs.Lists.{advanced, inserted}
-use Rattle.sctp_chunks.specs.declared.chunk.chunk_payload_data.ChunkPayloadData.{ChunkPayloadData}
-use Rattle.sctp_queues.specs.DataChunks.{chunk_before}
-use Rattle.sctp_queues.specs.Payload.{with_chunks}
-use Rattle.sctp_queues.specs.Window
+use Rattle.std.proofs.Common.{◌≡◌, ℕ, ap, sym, ◌∙◌, ◌<◌, ◌+◌, [], ◌∷◌, true, false, Some, refl, rules, arith, length, map}
+use Rattle.std.specs.Prelude.{slice_get, slice_index_or, is_some, min, max, nat_lt}
+use Rattle.sctp_lists.proofs.Cases.{negated}
 use Rattle.sctp_model.specs.World.{Data}
-use Rattle.sctp_model.specs.Messages.{message_at, message_of, index_of, tsn_of, is_open}
-use Rattle.sctp_model.specs.Receiver.{is_new, is_held, held_on, next_of, least, greatest}
-use Rattle.sctp_model.specs.Contents.{chunk_at}
-use Rattle.sctp_model.specs.Queues.{set_of}
-use Rattle.sctp_model.specs.Changes.{slot_received}
-use Rattle.sctp_model.specs.Steps.{IsRight, refusal_of, is_for_receiver, arrival_fits}
-use Rattle.sctp_model.specs.declared.event.Event.TheVariants as E
-use Rattle.sctp_link.specs.Replies.{told}
+use Rattle.sctp_model.specs.Messages.{message_at, message_of, is_open, index_of}
+use Rattle.sctp_model.specs.Receiver.{is_new, held_on, next_of, least, greatest}
+use Rattle.sctp_link.specs.declared.record.Slot.{Slot}
+use Rattle.sctp_link.specs.Fields.{world_in, state_in}
+use Rattle.sctp_link.specs.Records.{message_record}
+use Rattle.sctp_link.proofs.Hears.{come-made, come-message, come-open, slots-made, messages-made, slot-raw, message-raw, fits-unordered, fits-old, fits-span, few-before}
 use Rattle.sctp_link.proofs.link.Link.span_fits.Goals as goal
 
--- src/link/receiving.rt:63:38
 pub index-requires : goal.index-requires
-index-requires g c = ?
+index-requires g c =
+    let w = world_in c.self.inside in
+    let sum = g.C.Checksum.sum c.self.inside.checksum in
+    let x = state_in c.self.inside in
+    let p = c.args.place in
+    let slots = c.self.inside.slots.items in
+    let messages = c.self.inside.messages.items in
+    let r : (k : ℕ) × (slice_get w.network k ≡ Some (Data (p ∷ []))) = rw (← c.self.view_is) at c.requires in
+    let inside : p < length slots = omega (arith, come-made sum x c.self.invariant r.0 p r.1, slots-made sum x c.self.invariant slots messages refl refl) in
+    omega (arith, inside)
 
--- src/link/receiving.rt:63:24
 pub index-message-requires : goal.index-message-requires
-index-message-requires g c = ?
+index-message-requires g c =
+    let w = world_in c.self.inside in
+    let sum = g.C.Checksum.sum c.self.inside.checksum in
+    let x = state_in c.self.inside in
+    let p = c.args.place in
+    let slots = c.self.inside.slots.items in
+    let messages = c.self.inside.messages.items in
+    let r : (k : ℕ) × (slice_get w.network k ≡ Some (Data (p ∷ []))) = rw (← c.self.view_is) at c.requires in
+    let inside : p < length slots = omega (arith, come-made sum x c.self.invariant r.0 p r.1, slots-made sum x c.self.invariant slots messages refl refl) in
+    let made : message_of w p < length messages = omega (arith, come-message sum x c.self.invariant r.0 p r.1, messages-made sum x c.self.invariant slots messages refl refl) in
+    let number : c.index.result.now.message ≡ message_of w p = ap (λ (t : Slot). t.message) c.index.ensures ∙ sym (ap (λ t. t.message) (slot-raw sum x c.self.invariant slots messages refl refl p c.index.result.now inside)) in
+    omega (arith, number, made)
 
--- src/link/receiving.rt:64:33
 pub is_new-requires : goal.is_new-requires
-is_new-requires g c = ?
+is_new-requires g c =
+    let w = world_in c.self.inside in
+    let sum = g.C.Checksum.sum c.self.inside.checksum in
+    let x = state_in c.self.inside in
+    let p = c.args.place in
+    let slots = c.self.inside.slots.items in
+    let messages = c.self.inside.messages.items in
+    let r : (k : ℕ) × (slice_get w.network k ≡ Some (Data (p ∷ []))) = rw (← c.self.view_is) at c.requires in
+    let inside : p < length slots = omega (arith, come-made sum x c.self.invariant r.0 p r.1, slots-made sum x c.self.invariant slots messages refl refl) in
+    rw (← c.self.view_is) (come-made sum x c.self.invariant r.0 p r.1)
 
--- src/link/receiving.rt:65:13
 pub returns-then-not-message : goal.returns-then-not-message
-returns-then-not-message g c = ?
+returns-then-not-message g c =
+    let w = world_in c.self.inside in
+    let sum = g.C.Checksum.sum c.self.inside.checksum in
+    let x = state_in c.self.inside in
+    let p = c.args.place in
+    let slots = c.self.inside.slots.items in
+    let messages = c.self.inside.messages.items in
+    let r : (k : ℕ) × (slice_get w.network k ≡ Some (Data (p ∷ []))) = rw (← c.self.view_is) at c.requires in
+    let inside : p < length slots = omega (arith, come-made sum x c.self.invariant r.0 p r.1, slots-made sum x c.self.invariant slots messages refl refl) in
+    let made : message_of w p < length messages = omega (arith, come-message sum x c.self.invariant r.0 p r.1, messages-made sum x c.self.invariant slots messages refl refl) in
+    let number : c.index.result.now.message ≡ message_of w p = ap (λ (t : Slot). t.message) c.index.ensures ∙ sym (ap (λ t. t.message) (slot-raw sum x c.self.invariant slots messages refl refl p c.index.result.now inside)) in
+    let m = c.index-message.result.now in
+    let m_is : message_at w (message_of w p) ≡ message_record m = message-raw sum x c.self.invariant slots messages refl refl (message_of w p) m made ∙ ap message_record (sym (c.index-message.ensures ∙ ap (λ k. slice_index_or messages k m) number)) in
+    let kind : m.ordered ≡ false = search rules in
+    rw (← c.self.view_is) (fits-unordered sum x c.self.invariant r.0 p r.1 (ap (λ t. t.ordered) m_is ∙ kind))
 
--- src/link/receiving.rt:67:27
+pub returns-then-not-is_new : goal.returns-then-not-is_new
+returns-then-not-is_new g c =
+    let w = world_in c.self.inside in
+    let sum = g.C.Checksum.sum c.self.inside.checksum in
+    let x = state_in c.self.inside in
+    let p = c.args.place in
+    let slots = c.self.inside.slots.items in
+    let messages = c.self.inside.messages.items in
+    let r : (k : ℕ) × (slice_get w.network k ≡ Some (Data (p ∷ []))) = rw (← c.self.view_is) at c.requires in
+    let inside : p < length slots = omega (arith, come-made sum x c.self.invariant r.0 p r.1, slots-made sum x c.self.invariant slots messages refl refl) in
+    let made : message_of w p < length messages = omega (arith, come-message sum x c.self.invariant r.0 p r.1, messages-made sum x c.self.invariant slots messages refl refl) in
+    let number : c.index.result.now.message ≡ message_of w p = ap (λ (t : Slot). t.message) c.index.ensures ∙ sym (ap (λ t. t.message) (slot-raw sum x c.self.invariant slots messages refl refl p c.index.result.now inside)) in
+    let m = c.index-message.result.now in
+    let m_is : message_at w (message_of w p) ≡ message_record m = message-raw sum x c.self.invariant slots messages refl refl (message_of w p) m made ∙ ap message_record (sym (c.index-message.ensures ∙ ap (λ k. slice_index_or messages k m) number)) in
+    let told : c.is_new.result ≡ is_new w p = rw (← c.self.view_is) at c.is_new.ensures in
+    let answer : c.is_new.result ≡ false = search rules in
+    let old = sym told ∙ answer in
+    rw (← c.self.view_is) (fits-old sum x c.self.invariant r.0 p r.1 old)
+
 pub ends-low-requires : goal.ends-low-requires
-ends-low-requires g c = ?
+ends-low-requires g c =
+    let w = world_in c.self.inside in
+    let sum = g.C.Checksum.sum c.self.inside.checksum in
+    let x = state_in c.self.inside in
+    let p = c.args.place in
+    let slots = c.self.inside.slots.items in
+    let messages = c.self.inside.messages.items in
+    let r : (k : ℕ) × (slice_get w.network k ≡ Some (Data (p ∷ []))) = rw (← c.self.view_is) at c.requires in
+    let inside : p < length slots = omega (arith, come-made sum x c.self.invariant r.0 p r.1, slots-made sum x c.self.invariant slots messages refl refl) in
+    let made : message_of w p < length messages = omega (arith, come-message sum x c.self.invariant r.0 p r.1, messages-made sum x c.self.invariant slots messages refl refl) in
+    let number : c.index.result.now.message ≡ message_of w p = ap (λ (t : Slot). t.message) c.index.ensures ∙ sym (ap (λ t. t.message) (slot-raw sum x c.self.invariant slots messages refl refl p c.index.result.now inside)) in
+    let m = c.index-message.result.now in
+    let m_is : message_at w (message_of w p) ≡ message_record m = message-raw sum x c.self.invariant slots messages refl refl (message_of w p) m made ∙ ap message_record (sym (c.index-message.ensures ∙ ap (λ k. slice_index_or messages k m) number)) in
+    let o = come-open sum x c.self.invariant r.0 p r.1 in
+    let open' : is_open w m.stream ≡ true = ap (λ t. is_open w t.stream) (sym m_is) ∙ ap is_some o.1 in
+    rw (← c.self.view_is) open'
 
--- src/link/receiving.rt:68:36
 pub overflow_add-result : goal.overflow_add-result
-overflow_add-result g c = ?
+overflow_add-result g c =
+    let w = world_in c.self.inside in
+    let sum = g.C.Checksum.sum c.self.inside.checksum in
+    let x = state_in c.self.inside in
+    let p = c.args.place in
+    let slots = c.self.inside.slots.items in
+    let messages = c.self.inside.messages.items in
+    let r : (k : ℕ) × (slice_get w.network k ≡ Some (Data (p ∷ []))) = rw (← c.self.view_is) at c.requires in
+    let inside : p < length slots = omega (arith, come-made sum x c.self.invariant r.0 p r.1, slots-made sum x c.self.invariant slots messages refl refl) in
+    let made : message_of w p < length messages = omega (arith, come-message sum x c.self.invariant r.0 p r.1, messages-made sum x c.self.invariant slots messages refl refl) in
+    let number : c.index.result.now.message ≡ message_of w p = ap (λ (t : Slot). t.message) c.index.ensures ∙ sym (ap (λ t. t.message) (slot-raw sum x c.self.invariant slots messages refl refl p c.index.result.now inside)) in
+    let m = c.index-message.result.now in
+    let m_is : message_at w (message_of w p) ≡ message_record m = message-raw sum x c.self.invariant slots messages refl refl (message_of w p) m made ∙ ap message_record (sym (c.index-message.ensures ∙ ap (λ k. slice_index_or messages k m) number)) in
+    omega (arith, c.min.ensures, ap (λ t. t.before) m_is, few-before sum x c.self.invariant r.0 p r.1)
 
--- src/link/receiving.rt:59:5
 pub returns : goal.returns
-returns g c = ?
+returns g c =
+    let w = world_in c.self.inside in
+    let sum = g.C.Checksum.sum c.self.inside.checksum in
+    let x = state_in c.self.inside in
+    let p = c.args.place in
+    let slots = c.self.inside.slots.items in
+    let messages = c.self.inside.messages.items in
+    let r : (k : ℕ) × (slice_get w.network k ≡ Some (Data (p ∷ []))) = rw (← c.self.view_is) at c.requires in
+    let inside : p < length slots = omega (arith, come-made sum x c.self.invariant r.0 p r.1, slots-made sum x c.self.invariant slots messages refl refl) in
+    let made : message_of w p < length messages = omega (arith, come-message sum x c.self.invariant r.0 p r.1, messages-made sum x c.self.invariant slots messages refl refl) in
+    let number : c.index.result.now.message ≡ message_of w p = ap (λ (t : Slot). t.message) c.index.ensures ∙ sym (ap (λ t. t.message) (slot-raw sum x c.self.invariant slots messages refl refl p c.index.result.now inside)) in
+    let m = c.index-message.result.now in
+    let m_is : message_at w (message_of w p) ≡ message_record m = message-raw sum x c.self.invariant slots messages refl refl (message_of w p) m made ∙ ap message_record (sym (c.index-message.ensures ∙ ap (λ k. slice_index_or messages k m) number)) in
+    let told : c.is_new.result ≡ is_new w p = rw (← c.self.view_is) at c.is_new.ensures in
+    let answer : c.is_new.result ≡ true = search rules in
+    let kind : m.ordered ≡ true = search rules in
+    let low : c.ends-low.result.0 ≡ least (next_of w m.stream) (map (index_of w) (held_on w m.stream)) = rw (← c.self.view_is) at c.ends-low.ensures.low in
+    let high : c.ends-low.result.1 ≡ greatest (next_of w m.stream) (map (index_of w) (held_on w m.stream)) = rw (← c.self.view_is) at c.ends-low.ensures.high in
+    rw (← c.self.view_is) (
+      ap (λ a. nat_lt a (c.min.result + 32768)) c.max.ensures ∙ ap (λ b. nat_lt (max c.ends-low.result.1 m.before) (b + 32768)) c.min.ensures
+      ∙ fits-span sum x c.self.invariant r.0 p r.1 c.ends-low.result.0 c.ends-low.result.1 m.before (sym told ∙ answer) (ap (λ t. t.ordered) m_is ∙ kind)
+        (low ∙ ap (λ t. least (next_of w t.stream) (map (index_of w) (held_on w t.stream))) (sym m_is))
+        (high ∙ ap (λ t. greatest (next_of w t.stream) (map (index_of w) (held_on w t.stream))) (sym m_is))
+        (ap (λ t. t.before) (sym m_is))
+    )
