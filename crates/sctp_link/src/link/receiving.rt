@@ -131,6 +131,7 @@ impl<C: Checksum + Drop> Link<C> {
     fn receive(&self, k: u64) -> Result<(usize, ChunkPayloadData)>
         requires { is_for_receiver (slice_get self.now.world.network k) ≡ true }
         ensures place { IfOk result (λ r. slice_get self.now.world.network k ≡ Some (Data (r.0 ∷ []))) }
+        ensures made { IfOk result (λ r. r.0 < length self.now.world.slots) }
         ensures chunk { IfOk result (λ r. r.1 ≡ chunk_at self.now.world r.0) }
         ensures memory { IsOkUnless result ErrOutOfMemory }
     {
