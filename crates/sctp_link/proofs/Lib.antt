@@ -1,2 +1,4 @@
 pub mod PieceLemmas
 pub mod Facts
+pub mod Frames
+pub mod Opening
