@@ -11,17 +11,23 @@ use Rattle.sctp_model.specs.World as W
 use Rattle.sctp_model.specs.Messages.{ordered_before, no_message, message_at}
 use Rattle.sctp_model.specs.Receiver.{next_of}
 use Rattle.sctp_model.specs.Contents.{contents_of}
-use Rattle.sctp_model.specs.Steps.{refusal_of, after, fragments_accepted}
+use Rattle.sctp_model.specs.Steps.{refusal_of, after, fragments_accepted, world_of}
 use Rattle.sctp_model.specs.Amounts.{in_all, written_bytes}
-use Rattle.sctp_model.proofs.SenderRun.{sane-after}
+use Rattle.sctp_model.specs.Log.{log_of}
+use Rattle.sctp_model.specs.Queues.{filter_of}
+use Rattle.sctp_model.proofs.SenderRun.{sane-run, sane-after}
 use Rattle.sctp_model.proofs.Moves.{Quiet}
-use Rattle.sctp_model.proofs.Received.{Received}
+use Rattle.sctp_model.proofs.Received.{received-run}
 use Rattle.sctp_ties.specs.Holds.{reassembly_of}
-use Rattle.sctp_ties.specs.Amount.{amount}
-use Rattle.sctp_ties.specs.Counts.{counters_on, is_write}
+use Rattle.sctp_ties.specs.Amount.{amount, keeps_amounts}
+use Rattle.sctp_ties.specs.Counts.{counters_on, is_write, is_read}
 use Rattle.sctp_ties.proofs.MessageSums.{sum-same}
 use Rattle.sctp_ties.proofs.ToldSums.{told-after}
-use Rattle.sctp_ties.proofs.StreamCounters.{written-same}
+use Rattle.sctp_ties.proofs.StreamCounters.{written-same, counters-same}
+use Rattle.sctp_ties.proofs.StreamAmounts.{amount-same}
+use Rattle.sctp_ties.proofs.SoundRun.{sounds-run}
+use Rattle.sctp_ties.proofs.QuietReceiver.{reassembly-quiet, filter-quiet}
+use Rattle.sctp_ties.proofs.ReadOne.{KeepsNext, next-same}
 use Rattle.sctp_link.specs.declared.lane.Lane.{Lane}
 use Rattle.sctp_link.specs.Texts.{IsDatagram}
 use Rattle.sctp_link.specs.Linked.{State, IsLane, IsLinked, has_number, stats_of}
@@ -86,6 +92,36 @@ module _ (sum : List ℕ → ℕ) (x : State) (l : IsLinked sum x) (e : Event) (
       made [] k g e = cc
       made (d ∷ ds) zero g e = omega arith
       made (d ∷ ds) (suc k) g e = omega (arith, made ds k g e)
+
+  -- the index expected next
+  pub next-kept : KeepsNext e → (t : ℕ) → next_of v t ≡ next_of w t
+  next-kept keeps t =
+      subst (λ u. refusal_of u e ≡ None → next_of (after u e) t ≡ next_of u t) (sym l.stands.is)
+      (λ ok'. next-same w.setup l.history e t l.setup l.stands.run ok' keeps) ok
+
+  -- the receiver's queues, where the receiver knows of nothing new
+  pub held-quiet : Quiet w v → (t : ℕ) → reassembly_of v t ≡ reassembly_of w t
+  held-quiet q t =
+      subst (λ u. refusal_of u e ≡ None → Quiet u (after u e) → reassembly_of (after u e) t ≡ reassembly_of u t) (sym l.stands.is)
+      (λ ok' q'. let g = sane-run w.setup l.history l.stands.run in reassembly-quiet w.setup (world_of w.setup l.history) (after (world_of w.setup l.history) e) (log_of w.setup l.history) g (sane-after w.setup (world_of w.setup l.history) e ok' g) q' (received-run w.setup l.history l.setup l.stands.run) (sounds-run w.setup l.history l.setup l.stands.run) t)
+      ok q
+
+  pub filter-kept : Quiet w v → filter_of v ≡ filter_of w
+  filter-kept q =
+      subst (λ u. refusal_of u e ≡ None → Quiet u (after u e) → filter_of (after u e) ≡ filter_of u) (sym l.stands.is)
+      (λ ok' q'. let g = sane-run w.setup l.history l.stands.run in filter-quiet w.setup (world_of w.setup l.history) (after (world_of w.setup l.history) e) (log_of w.setup l.history) g (sane-after w.setup (world_of w.setup l.history) e ok' g) q' (received-run w.setup l.history l.setup l.stands.run) (sounds-run w.setup l.history l.setup l.stands.run))
+      ok q
+
+  -- so a stream is as it was, where nothing is written
+  pub lane-quiet : Quiet w v → KeepsNext e → keeps_amounts e ≡ true → is_write e ≡ false → is_read e ≡ false → ((s : ℕ) → ordered_before v s (length v.messages) ≡ ordered_before w s (length w.messages)) → (s : ℕ) → SameLane w v s
+  lane-quiet q keeps amounts no-write no-read before s = record {
+    setup = setup-same;
+    held = held-quiet q s;
+    ordered = before s;
+    next = next-kept keeps s;
+    amount = amount-same w.setup w e s l.setup (facts sum x l).sane amounts;
+    counters = counters-same w.setup w e s (facts sum x l).sane no-write no-read;
+  }
 
   -- what was accepted and what was written
   pub fragments-same : is_write e ≡ false → fragments_accepted v ≡ fragments_accepted w
