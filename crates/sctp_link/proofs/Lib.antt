@@ -2,3 +2,5 @@ pub mod PieceLemmas
 pub mod Facts
 pub mod Frames
 pub mod Opening
+pub mod Starting
+pub mod Walks

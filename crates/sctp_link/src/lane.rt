@@ -183,7 +183,7 @@ fn is_dcep(ppi: PayloadProtocolIdentifier) -> bool
 fn set_mode(chunks: &mut [ChunkPayloadData], reliability: ReliabilityType, value: u32)
     ensures { chunks.new ≡ map (with_mode reliability value) chunks.old }
 {
-    for chunk in chunks.iter_mut() {
-        chunk.reliability = Some((reliability, value));
+    for place in 0..chunks.len() {
+        chunks[place].reliability = Some((reliability, value));
     }
 }
