@@ -3,4 +3,6 @@ pub mod Facts
 pub mod Frames
 pub mod Opening
 pub mod Starting
+pub mod Modes
 pub mod Walks
+pub mod Apart

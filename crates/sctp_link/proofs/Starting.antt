@@ -4,7 +4,7 @@ use Rattle.std.specs.Prelude.{slice_index_or, is_some, is_none, not, nat_le, if�
 use Rattle.std.proofs.Math.Path.{subst}
 use Rattle.std.proofs.lemmas.Bool.Decides.{nat_tests}
 use Rattle.sctp_lists.proofs.Getting.{length-mapped}
-use Rattle.sctp_queues.specs.Outbound.{all_started}
+use Rattle.sctp_queues.specs.Outbound.{Outbound, all_started}
 use Rattle.sctp_model.specs.declared.event.Event.TheVariants as E
 use Rattle.sctp_model.specs.World.{World}
 use Rattle.sctp_model.specs.Messages.{no_message, ordered_before}
@@ -35,7 +35,7 @@ start-all now (m ∷ ms) h =
     starts None e h = rw e refl
     starts (Some t) e h = cc
 
-pub start-records : (now first : ℕ) (ms : List Message) → ((n : ℕ) → n < length ms → n < first → is_some (slice_index_or (map message_record ms) n no_message).started ≡ true) → ((n : ℕ) → n < length ms → first ≤ n → is_some (slice_index_or (map message_record ms) n no_message).started ≡ false) → map message_record (start_from now first ms) ≡ map (start_at now) (map message_record ms)
+pub start-records : (now first : ℕ) (ms : List Message) → ((n : ℕ) → n < length ms → n < first → is_some (slice_index_or (map message_record ms) n no_message).started ≡ true) → ((n : ℕ) → n < length ms → first ≤ n → is_some (slice_index_or (map message_record ms) n no_message).started ≡ false) → map message_record (start_from first now ms) ≡ map (start_at now) (map message_record ms)
 start-records now zero ms old new = start-all now ms (λ n lt. new n lt (omega arith))
 start-records now (suc first) [] old new = refl
 start-records now (suc first) (m ∷ ms) old new =
@@ -47,7 +47,7 @@ start-records now (suc first) (m ∷ ms) old new =
     stays (Some t) e h = rw e refl
 
 -- how much of each was sent stays
-pub start-sents : (now first : ℕ) (ms : List Message) → map (λ m. m.sent) (start_from now first ms) ≡ map (λ m. m.sent) ms
+pub start-sents : (now first : ℕ) (ms : List Message) → map (λ m. m.sent) (start_from first now ms) ≡ map (λ m. m.sent) ms
 start-sents now zero ms = each ms
   where
     each : (ms : List Message) → map (λ m. m.sent) (map (with_start now) ms) ≡ map (λ m. m.sent) ms
@@ -59,7 +59,7 @@ start-sents now (suc first) (m ∷ ms) = ap (λ l. m.sent ∷ l) (start-sents no
 -- ## The event
 
 module _ (sum : List ℕ → ℕ) (x : State) (l : IsLinked sum x) (now : ℕ) where
-  pub starts-records : (ms : List Message) → x.world.messages ≡ map message_record ms → map message_record (start_from now x.unstarted ms) ≡ (started x.world now).messages
+  pub starts-records : (ms : List Message) → x.world.messages ≡ map message_record ms → map message_record (start_from x.unstarted now ms) ≡ (started x.world now).messages
   starts-records ms e =
       start-records now x.unstarted ms
       (λ n lt below. ap (λ r. is_some (slice_index_or r n no_message).started) (sym e) ∙ l.outbound.unstarted n (omega (arith, lt, count)) ∙ ap not (above n below))
@@ -99,3 +99,17 @@ module _ (sum : List ℕ → ℕ) (x : State) (l : IsLinked sum x) (now : ℕ) w
     first = l.first;
     texts = texts-same sum x l (E.Start now) refl refl;
   }
+
+-- the record and what stands beside it, where the messages are those that started
+pub linked-starts : (sum : List ℕ → ℕ) (x : State) (now : ℕ) (ms started' : List Message) (unstarted : ℕ) (q : Outbound) → IsLinked sum x → x.world.messages ≡ map message_record ms → x.sents ≡ map (λ m. m.sent) ms → started' ≡ start_from x.unstarted now ms → unstarted ≡ length ms → q ≡ all_started now x.outbound → IsLinked sum (record x { world = record x.world { messages = map message_record started' }; sents = map (λ m. m.sent) started'; unstarted = unstarted; outbound = q })
+linked-starts sum x now ms started' unstarted q l em es e eu eq =
+    let is : map message_record started' ≡ (started x.world now).messages = ap (map message_record) e ∙ starts-records sum x l now ms em in
+    let same : map (λ m. m.sent) started' ≡ x.sents = ap (map (λ m. m.sent)) e ∙ start-sents now x.unstarted ms ∙ sym es in
+    let count : unstarted ≡ length x.world.messages = eu ∙ sym (length-mapped message_record ms) ∙ ap length (sym em) in
+    subst (λ a. IsLinked sum (record x { world = record x.world { messages = a }; sents = map (λ m. m.sent) started'; unstarted = unstarted; outbound = q })) (sym is)
+    (subst (λ a. IsLinked sum (record x { world = started x.world now; sents = a; unstarted = unstarted; outbound = q })) (sym same)
+    (subst (λ a. IsLinked sum (record x { world = started x.world now; unstarted = a; outbound = q })) (sym count)
+    (subst (λ a. IsLinked sum (record x { world = started x.world now; unstarted = length x.world.messages; outbound = a })) (sym eq) (linked-start sum x l now))))
+
+pub start-moves : (sum : List ℕ → ℕ) (x : State) (now : ℕ) (ms started' : List Message) → IsLinked sum x → x.world.messages ≡ map message_record ms → started' ≡ start_from x.unstarted now ms → record x.world { messages = map message_record started' } ≡ started x.world now
+start-moves sum x now ms started' l em e = ap (λ a. record x.world { messages = a }) (ap (map message_record) e ∙ starts-records sum x l now ms em)
