@@ -6,3 +6,4 @@ pub mod Starting
 pub mod Modes
 pub mod Walks
 pub mod Apart
+pub mod Outgoing
