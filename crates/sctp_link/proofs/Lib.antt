@@ -7,3 +7,5 @@ pub mod Modes
 pub mod Walks
 pub mod Apart
 pub mod Outgoing
+pub mod Sending
+pub mod SentLists
