@@ -9,3 +9,4 @@ pub mod Apart
 pub mod Outgoing
 pub mod Sending
 pub mod SentLists
+pub mod Acking

@@ -26,7 +26,9 @@ impl<C: Checksum + Drop> Link<C> {
         ensures err { OnErr result (self.new.world ≡ self.old.world) }
         ensures memory { IsOkUnless result ErrOutOfMemory }
     {
-        let mut blocks = self.filter.get_gap_ack_blocks(self.alloc, self.cumulative_tsn)?;
+        let mut blocks = self
+            .filter
+            .get_gap_ack_blocks(self.alloc, self.cumulative_tsn)?;
         blocks.truncate(MAX_SACK_ENTRIES);
         let count = (MAX_SACK_ENTRIES - blocks.len()).min(self.duplicates.len());
         let sack = ChunkSelectiveAck {
@@ -39,7 +41,11 @@ impl<C: Checksum + Drop> Link<C> {
         let bytes = write_datagram(self.alloc, ChunkKind::SelectiveAck(sack), &self.checksum)?;
         self.network.reserve(1)?;
         let kind = Kind::Sack {
-            cumulative: u64::from(self.cumulative_tsn.wrapping_sub(self.first_tsn).wrapping_add(1)),
+            cumulative: u64::from(
+                self.cumulative_tsn
+                    .wrapping_sub(self.first_tsn)
+                    .wrapping_add(1),
+            ),
             credit,
             blocks,
             duplicates,

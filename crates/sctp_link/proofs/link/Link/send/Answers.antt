@@ -57,8 +57,8 @@ invariant_of-self-2 g c =
     let same : length c.start_from.new.messages ≡ vec_len ms = search rules in
     let is : (with_items ms c.start_from.new.messages).items ≡ start_from c.self.inside.unstarted c.args.now ms.items = with_items_is ms c.start_from.new.messages same ∙ c.start_from.ensures ∙ ap (start_from c.self.inside.unstarted c.args.now) c.deref_mut.ensures.value in
     linked-sent (g.C.Checksum.sum c.self.inside.checksum) (state_in c.self.inside) c.self.invariant c.args.now c.in-Some.chunk.now e ms.items (with_items ms c.start_from.new.messages).items refl refl is c.index_mut.result.now c.index_mut.ensures.value
-        c.take_fragment-slot.new.message (search rules) c.self.inside.slots.items c.put.new.items.items c.take_fragment-slot.result c.self.inside.network.items c.put-2.new.items.items c.in_ok-bytes.bytes refl (search rules) (search rules) refl (search rules)
-        (data_of (record c.in_ok-chunk.chunk { tsn = c.self.inside.next_tsn })) c.reserve_inflight.new.self c.send_next.new.self _ c.len-self-inside.result c.send_next.new.next_tsn (search rules) (search rules) (search rules) refl c.in_ok-reserve_inflight.ensures.ok (search rules) (search rules) (search rules)
+    c.take_fragment-slot.new.message (search rules) c.self.inside.slots.items c.put.new.items.items c.take_fragment-slot.result c.self.inside.network.items c.put-2.new.items.items c.in_ok-bytes.bytes refl (search rules) (search rules) refl (search rules)
+    (data_of (record c.in_ok-chunk.chunk { tsn = c.self.inside.next_tsn })) c.reserve_inflight.new.self c.send_next.new.self _ c.len-self-inside.result c.send_next.new.next_tsn (search rules) (search rules) (search rules) refl c.in_ok-reserve_inflight.ensures.ok (search rules) (search rules) (search rules)
 
 pub returns-clause-ok : goal.returns-clause-ok
 returns-clause-ok g c =
@@ -68,4 +68,4 @@ returns-clause-ok g c =
     let is : (with_items ms c.start_from.new.messages).items ≡ start_from c.self.inside.unstarted c.args.now ms.items = with_items_is ms c.start_from.new.messages same ∙ c.start_from.ensures ∙ ap (start_from c.self.inside.unstarted c.args.now) c.deref_mut.ensures.value in
     rw (← c.self.view_is)
     (send-is-right (g.C.Checksum.sum c.self.inside.checksum) (state_in c.self.inside) c.self.invariant c.args.now c.in-Some.chunk.now e ms.items (with_items ms c.start_from.new.messages).items refl refl is c.index_mut.result.now c.index_mut.ensures.value
-        c.take_fragment-slot.new.message (search rules) c.self.inside.slots.items c.put.new.items.items c.take_fragment-slot.result c.self.inside.network.items c.put-2.new.items.items c.in_ok-bytes.bytes refl (search rules) (search rules) refl (search rules) c.in-Some.chunk.now.stream_sequence_number c.len-datagram.result refl (search rules))
+    c.take_fragment-slot.new.message (search rules) c.self.inside.slots.items c.put.new.items.items c.take_fragment-slot.result c.self.inside.network.items c.put-2.new.items.items c.in_ok-bytes.bytes refl (search rules) (search rules) refl (search rules) c.in-Some.chunk.now.stream_sequence_number c.len-datagram.result refl (search rules))
