@@ -6,3 +6,12 @@ pub mod Walks
 pub mod Packets
 pub mod Observed
 pub mod Begins
+pub mod Frames
+pub mod Opening
+pub mod Starting
+pub mod Modes
+pub mod Apart
+pub mod Outgoing
+pub mod Sending
+pub mod SentLists
+pub mod Acking
