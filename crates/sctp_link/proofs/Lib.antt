@@ -1,3 +1,8 @@
+pub mod Keeping
+pub mod Arrives
+pub mod Frames
+pub mod Hears
+pub mod Apart
 pub mod PieceLemmas
 pub mod Facts
 pub mod Lookups
@@ -6,11 +11,9 @@ pub mod Walks
 pub mod Packets
 pub mod Observed
 pub mod Begins
-pub mod Frames
 pub mod Opening
 pub mod Starting
 pub mod Modes
-pub mod Apart
 pub mod Outgoing
 pub mod Sending
 pub mod SentLists
