@@ -147,7 +147,6 @@ apart sum x l e =
     let run = apart-run x.world.setup l.history l.stands.run in
     subst IsApart (ids-are x.lanes) (subst (λ rs. IsApart (numbers rs)) e (subst (λ (w : World). IsApart (numbers w.streams)) (sym l.stands.is) run))
 
-<<<<<<< HEAD
 -- a stream is found by its number in the record where it is in the link
 pub stream-found : (s : ℕ) (ls : List Lane) → find (λ r. r.stream == s) (map stream_record ls) ≡ option_map stream_record (find (has_number s) ls)
 stream-found s [] = refl
@@ -165,8 +164,6 @@ number-found s (x ∷ ls) l e = step (x.state.stream_identifier == s) refl e (nu
     step true t h ih = let z : x ≡ l = cc in ap (λ (y : Lane). y.state.stream_identifier) (sym z) ∙ same-is x.state.stream_identifier s t
     step false t h ih = ih h
 
-=======
->>>>>>> link-recv
 none-at : (n : ℕ) (ls : List Lane) (k : ℕ) (d : Lane) → list_any (λ j. j == n) (ids ls) ≡ false → k < length ls → ((slice_index_or ls k d).state.stream_identifier == n) ≡ false
 none-at n [] k d e lt = absurd (omega arith)
 none-at n (l ∷ ls) zero d e lt = (neither (l.state.stream_identifier == n) (list_any (λ j. j == n) (ids ls)) e).0

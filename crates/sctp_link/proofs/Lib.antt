@@ -1,6 +1,7 @@
 pub mod Keeping
 pub mod Arrives
 pub mod Frames
+pub mod LanesAfter
 pub mod Hears
 pub mod Apart
 pub mod PieceLemmas
