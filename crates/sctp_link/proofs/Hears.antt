@@ -96,23 +96,24 @@ module _ (sum : List ℕ → ℕ) (x : State) (l : IsLinked sum x) (slots : List
   pub message-raw : (n : ℕ) (d : Message) → n < length messages → message_at x.world n ≡ message_record (slice_index_or messages n d)
   message-raw n d lt = ap (λ xs. slice_index_or xs n no_message) messages_are ∙ raw-at message_record messages n no_message d lt
 
-  -- the set of a message that is held leads to it, by the TSN of its first chunk
-  module _ (s n : ℕ) (set : ChunkSet) (chunks : List ChunkPayloadData) (d : ChunkPayloadData) (shown : chunks ≡ set.chunks) (h : is_held x.world s n ≡ true) (e : set ≡ set_of x.world n) where
-    abbrev place : ℕ
-    place = ((slice_index_or chunks 0 d).tsn + (2 ^ 32 - x.world.setup.first)) % 2 ^ 32
+  -- the set of a message that is held
+  pub held-begins : (s n : ℕ) (set : ChunkSet) (chunks : List ChunkPayloadData) → chunks ≡ set.chunks → is_held x.world s n ≡ true → set ≡ set_of x.world n → Begins x.world n chunks
+  held-begins s n set chunks shown h e =
+      let f = facts sum x l in
+      subst (Begins x.world n) (sym (shown ∙ ap (λ (y : ChunkSet). y.chunks) e)) (set-begins x.world s n f.sounds.plain f.setup.first h)
 
+  pub held-made : (s n : ℕ) → is_held x.world s n ≡ true → n < length x.world.messages
+  held-made s n h = Line.on-made x.world s n (Taken.held x.world s n h).on
+
+  -- chunks that begin with one of message n lead to it, by its TSN
+  module _ (n : ℕ) (chunks : List ChunkPayloadData) (d : ChunkPayloadData) (b : Begins x.world n chunks) (made : n < length x.world.messages) where
     led : Leads x.world n (slice_index_or chunks 0 d).tsn
-    led =
-        let f = facts sum x l in
-        leads x.world n chunks d (subst (Begins x.world n) (sym (shown ∙ ap (λ (y : ChunkSet). y.chunks) e)) (set-begins x.world s n f.sounds.plain f.setup.first h))
-
-    made : n < length x.world.messages
-    made = Line.on-made x.world s n (Taken.held x.world s n h).on
+    led = leads x.world n chunks d b
 
     pub lead-slot : ((slice_index_or chunks 0 d).tsn + (2 ^ 32 - x.world.setup.first)) % 2 ^ 32 < length slots
     lead-slot = omega (arith, led.made, slots-made)
 
-    lead-number : (y : Slot) → y ≡ slice_index_or slots (((slice_index_or chunks 0 d).tsn + (2 ^ 32 - x.world.setup.first)) % 2 ^ 32) y → y.message ≡ n
+    pub lead-number : (y : Slot) → y ≡ slice_index_or slots (((slice_index_or chunks 0 d).tsn + (2 ^ 32 - x.world.setup.first)) % 2 ^ 32) y → y.message ≡ n
     lead-number y z = ap (λ (t : Slot). t.message) z ∙ sym (ap (λ t. t.message) (slot-raw (place_of x.world (slice_index_or chunks 0 d).tsn) y lead-slot)) ∙ led.of
 
     pub lead-message : (y : Slot) → y ≡ slice_index_or slots (((slice_index_or chunks 0 d).tsn + (2 ^ 32 - x.world.setup.first)) % 2 ^ 32) y → y.message < length messages

@@ -1,3 +1,4 @@
+pub mod HandsOut
 pub mod Keeping
 pub mod Arrives
 pub mod Frames

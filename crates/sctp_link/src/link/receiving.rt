@@ -1,6 +1,6 @@
 //! What comes to the receiver of a link, and what is read there.
 
-ghost use Rattle.std.specs.Prelude.{◌≡◌, ◌<◌, ◌≤◌, ◌+◌, ◌-◌, ◌^◌, ◌∷◌, ◌++◌, ℕ, [], true, false, None, Some, OnOk, OnErr, IfOk, IsOkUnless, MatchOption, length, slice_get, map};
+ghost use Rattle.std.specs.Prelude.{◌≡◌, ◌<◌, ◌≤◌, ◌+◌, ◌-◌, ◌^◌, ◌∷◌, ◌++◌, ℕ, [], true, false, None, Some, OnOk, OnErr, IfOk, IsOkUnless, MatchOption, length, slice_get, slice_index_or, map};
 ghost use Rattle.sctp_base.specs.declared.error.Error.TheVariants.{ErrOutOfMemory};
 ghost use Rattle.sctp_lists.specs.Lists.{advanced, inserted};
 ghost use Rattle.sctp_chunks.specs.declared.chunk.chunk_payload_data.ChunkPayloadData.{ChunkPayloadData};
@@ -182,7 +182,7 @@ impl<C: Checksum + Drop> Link<C> {
         let Some(chunks) = self.lanes[at].read() else {
             return Reply::Nothing;
         };
-        let place = chunks.fragments()[0].tsn.wrapping_sub(self.first_tsn) as usize;
+        let place = first_tsn(&chunks).wrapping_sub(self.first_tsn) as usize;
         let number = self.slots[place].message as usize;
         let message = &mut self.messages[number];
         message.read = true;
@@ -194,6 +194,14 @@ impl<C: Checksum + Drop> Link<C> {
             chunks,
         }
     }
+}
+
+// The TSN of the first fragment of a message.
+fn first_tsn(chunks: &Chunks) -> u32
+    requires { 0 < length chunks.now.set.chunks }
+    ensures { (d : ChunkPayloadData) → result ≡ (slice_index_or chunks.now.set.chunks 0 d).tsn }
+{
+    chunks.fragments()[0].tsn
 }
 
 // Puts the TSN of a new chunk where room was made for it, and answers the cumulative TSN that follows.
