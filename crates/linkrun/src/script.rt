@@ -173,11 +173,13 @@ pub fn print_reply<W: Write>(
     reply: &Result<Reply, LinkRefusal>,
 ) -> Result<(), RunFault> {
     let written = match reply {
-        Ok(Reply::Message {
-            stream,
-            ppi,
-            chunks,
-        }) => return print_message(alloc, output, *stream, *ppi, chunks),
+        Ok(
+            Reply::Message {
+                stream,
+                ppi,
+                chunks,
+            },
+        ) => return print_message(alloc, output, *stream, *ppi, chunks),
         Ok(reply) => print_numbers(output, reply),
         Err(refusal) => write!(output, "refused L{}\n", refusal_number(*refusal)),
     };
@@ -202,7 +204,10 @@ fn print_numbers<W: Write>(output: &mut W, reply: &Reply) -> io::Result<()> {
         } => write!(output, "wrote - {fragments}\n"),
         Reply::Started => write!(output, "started\n"),
         Reply::Sent {
-            datagram, tsn, ssn, ..
+            datagram,
+            tsn,
+            ssn,
+            ..
         } => write!(output, "sent {datagram} {tsn} {ssn}\n"),
         Reply::Idle => write!(output, "idle\n"),
         Reply::Resent { datagram } => write!(output, "resent {datagram}\n"),

@@ -147,6 +147,23 @@ apart sum x l e =
     let run = apart-run x.world.setup l.history l.stands.run in
     subst IsApart (ids-are x.lanes) (subst (λ rs. IsApart (numbers rs)) e (subst (λ (w : World). IsApart (numbers w.streams)) (sym l.stands.is) run))
 
+-- a stream is found by its number in the record where it is in the link
+pub stream-found : (s : ℕ) (ls : List Lane) → find (λ r. r.stream == s) (map stream_record ls) ≡ option_map stream_record (find (has_number s) ls)
+stream-found s [] = refl
+stream-found s (l ∷ ls) = step (l.state.stream_identifier == s) (stream-found s ls)
+  where
+    step : (b : Bool) → find (λ r. r.stream == s) (map stream_record ls) ≡ option_map stream_record (find (has_number s) ls) → (if b then Some (stream_record l) else find (λ r. r.stream == s) (map stream_record ls)) ≡ option_map stream_record (if b then Some l else find (has_number s) ls)
+    step true ih = refl
+    step false ih = ih
+
+pub number-found : (s : ℕ) (ls : List Lane) (l : Lane) → find (has_number s) ls ≡ Some l → l.state.stream_identifier ≡ s
+number-found s [] l e = cc
+number-found s (x ∷ ls) l e = step (x.state.stream_identifier == s) refl e (number-found s ls l)
+  where
+    step : (b : Bool) → (x.state.stream_identifier == s) ≡ b → (if b then Some x else find (has_number s) ls) ≡ Some l → (find (has_number s) ls ≡ Some l → l.state.stream_identifier ≡ s) → l.state.stream_identifier ≡ s
+    step true t h ih = let z : x ≡ l = cc in ap (λ (y : Lane). y.state.stream_identifier) (sym z) ∙ same-is x.state.stream_identifier s t
+    step false t h ih = ih h
+
 none-at : (n : ℕ) (ls : List Lane) (k : ℕ) (d : Lane) → list_any (λ j. j == n) (ids ls) ≡ false → k < length ls → ((slice_index_or ls k d).state.stream_identifier == n) ≡ false
 none-at n [] k d e lt = absurd (omega arith)
 none-at n (l ∷ ls) zero d e lt = (neither (l.state.stream_identifier == n) (list_any (λ j. j == n) (ids ls)) e).0

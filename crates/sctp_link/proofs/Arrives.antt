@@ -38,7 +38,7 @@ use Rattle.sctp_ties.proofs.StreamCounters.{counters-same}
 use Rattle.sctp_link.specs.declared.lane.Lane.{Lane}
 use Rattle.sctp_link.specs.Linked.{State, IsLinked, IsLane, has_number, stats_of}
 use Rattle.sctp_link.proofs.Facts.{facts, over}
-use Rattle.sctp_link.proofs.Frames.{lane-then, linked-then}
+use Rattle.sctp_link.proofs.LanesAfter.{lane-then, linked-then}
 use Rattle.sctp_link.proofs.Hears.{new-tells, come-made}
 
 module _ (sum : List ℕ → ℕ) (x : State) (l : IsLinked sum x) (k p : ℕ) (none : refusal_of x.world (E.Arrive k) ≡ None) (e : slice_get x.world.network k ≡ Some (Data (p ∷ []))) where

@@ -43,7 +43,7 @@ use Rattle.sctp_link.specs.Records.{message_record, stream_record}
 use Rattle.sctp_link.specs.Stats.{counted_bytes, with_received}
 use Rattle.sctp_link.proofs.Apart.{IsApart, ids, apart, apart-set, find-apart, differ, each-set, map-set_same, streams-set}
 use Rattle.sctp_link.proofs.Facts.{facts, over}
-use Rattle.sctp_link.proofs.Frames.{lane-then, linked-then}
+use Rattle.sctp_link.proofs.LanesAfter.{lane-then, linked-then}
 use Rattle.sctp_link.proofs.Lookups.{found-number, some-open, none-open}
 
 -- set twice

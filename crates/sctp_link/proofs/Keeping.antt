@@ -36,7 +36,7 @@ use Rattle.sctp_link.specs.Records.{stream_record}
 use Rattle.sctp_link.proofs.Apart.{IsApart, ids, apart, apart-set, find-apart, differ, each-set, map-set_same, streams-set}
 use Rattle.sctp_link.proofs.Arrives.{after-is, frame, quiet, fits, lane-arrived, enter, span-here, elsewhere, noted-is}
 use Rattle.sctp_link.proofs.Facts.{facts, over}
-use Rattle.sctp_link.proofs.Frames.{linked-then}
+use Rattle.sctp_link.proofs.LanesAfter.{linked-then}
 use Rattle.sctp_link.proofs.Lookups.{found-number, none-open}
 
 and-yes : (b : Bool) → (b && true) ≡ b

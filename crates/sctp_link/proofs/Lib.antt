@@ -3,6 +3,7 @@ pub mod HandsOut
 pub mod Keeping
 pub mod Arrives
 pub mod Frames
+pub mod LanesAfter
 pub mod Hears
 pub mod Apart
 pub mod PieceLemmas
@@ -13,3 +14,10 @@ pub mod Walks
 pub mod Packets
 pub mod Observed
 pub mod Begins
+pub mod Opening
+pub mod Starting
+pub mod Modes
+pub mod Outgoing
+pub mod Sending
+pub mod SentLists
+pub mod Acking

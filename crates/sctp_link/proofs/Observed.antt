@@ -72,7 +72,7 @@ can-resend sum x ms xs p s l messages slots le lt is =
     let made : message_of x.world p < length x.world.messages = (facts sum x l).sane.sender.made p below in
     let has : message_of x.world p < length (map message_record ms) = omega (arith, made, ap length messages) in
     all-right (nat_le x.world.taken p) (nat_lt p (length x.world.slots)) (slot_at x.world p).acknowledged (message_at x.world (message_of x.world p)).abandoned s.acknowledged
-        (le-leb x.world.taken p le)
-        (lt-ltb p (length x.world.slots) below)
-        (ap (λ ys. (slice_index_or ys p no_slot).acknowledged) slots ∙ same-acknowledged xs p s lt ∙ ap (λ y. y.acknowledged) (sym is))
-        (ap (λ ys. (slice_index_or ys (message_of x.world p) no_message).abandoned) messages ∙ not-abandoned ms (message_of x.world p) has)
+    (le-leb x.world.taken p le)
+    (lt-ltb p (length x.world.slots) below)
+    (ap (λ ys. (slice_index_or ys p no_slot).acknowledged) slots ∙ same-acknowledged xs p s lt ∙ ap (λ y. y.acknowledged) (sym is))
+    (ap (λ ys. (slice_index_or ys (message_of x.world p) no_message).abandoned) messages ∙ not-abandoned ms (message_of x.world p) has)

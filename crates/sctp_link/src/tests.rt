@@ -74,7 +74,9 @@ fn carries<C: Checksum + Drop>(link: &Link<C>, k: u64, chunk: &[u8]) -> bool {
     match link.datagram(k) {
         Some(bytes) => {
             let bytes = bytes.as_slice();
-            bytes.len() == 12 + chunk.len() && &bytes[..12] == HEADER.as_slice() && &bytes[12..] == chunk
+            bytes.len() == 12 + chunk.len()
+                && &bytes[..12] == HEADER.as_slice()
+                && &bytes[12..] == chunk
         }
         None => false,
     }
