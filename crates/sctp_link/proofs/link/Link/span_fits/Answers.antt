@@ -138,9 +138,9 @@ returns g c =
     let low : c.ends-low.result.0 ≡ least (next_of w m.stream) (map (index_of w) (held_on w m.stream)) = rw (← c.self.view_is) at c.ends-low.ensures.low in
     let high : c.ends-low.result.1 ≡ greatest (next_of w m.stream) (map (index_of w) (held_on w m.stream)) = rw (← c.self.view_is) at c.ends-low.ensures.high in
     rw (← c.self.view_is) (
-      ap (λ a. nat_lt a (c.min.result + 32768)) c.max.ensures ∙ ap (λ b. nat_lt (max c.ends-low.result.1 m.before) (b + 32768)) c.min.ensures
-      ∙ fits-span sum x c.self.invariant r.0 p r.1 c.ends-low.result.0 c.ends-low.result.1 m.before (sym told ∙ answer) (ap (λ t. t.ordered) m_is ∙ kind)
-        (low ∙ ap (λ t. least (next_of w t.stream) (map (index_of w) (held_on w t.stream))) (sym m_is))
-        (high ∙ ap (λ t. greatest (next_of w t.stream) (map (index_of w) (held_on w t.stream))) (sym m_is))
-        (ap (λ t. t.before) (sym m_is))
+    ap (λ a. nat_lt a (c.min.result + 32768)) c.max.ensures ∙ ap (λ b. nat_lt (max c.ends-low.result.1 m.before) (b + 32768)) c.min.ensures
+    ∙ fits-span sum x c.self.invariant r.0 p r.1 c.ends-low.result.0 c.ends-low.result.1 m.before (sym told ∙ answer) (ap (λ t. t.ordered) m_is ∙ kind)
+    (low ∙ ap (λ t. least (next_of w t.stream) (map (index_of w) (held_on w t.stream))) (sym m_is))
+    (high ∙ ap (λ t. greatest (next_of w t.stream) (map (index_of w) (held_on w t.stream))) (sym m_is))
+    (ap (λ t. t.before) (sym m_is))
     )
