@@ -6,3 +6,4 @@ pub mod Walks
 pub mod Packets
 pub mod Observed
 pub mod Begins
+pub mod AckLoops
