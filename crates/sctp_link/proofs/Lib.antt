@@ -21,3 +21,4 @@ pub mod Outgoing
 pub mod Sending
 pub mod SentLists
 pub mod Acking
+pub mod AckLoops
