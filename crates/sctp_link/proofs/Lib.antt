@@ -10,3 +10,7 @@ pub mod Outgoing
 pub mod Sending
 pub mod SentLists
 pub mod Acking
+pub mod Bounds
+pub mod Fragmented
+pub mod Writing
+pub mod WrittenLists
