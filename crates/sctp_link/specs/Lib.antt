@@ -4,6 +4,7 @@ pub mod Texts
 pub mod Linked
 pub mod Fields
 pub mod Replies
+pub mod Acking
 pub mod Stats
 pub mod State
 pub mod Stream

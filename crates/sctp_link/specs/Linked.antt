@@ -15,6 +15,8 @@ use Rattle.sctp_ties.specs.Tied.{TiedOutbound, filter_held}
 use Rattle.sctp_ties.specs.Amount.{amount}
 use Rattle.sctp_ties.specs.Counts.{counters_on}
 use Rattle.sctp_model.specs.Amounts.{Counters, in_all, written_bytes}
+use Rattle.sctp_model.specs.Amounts as M
+use Rattle.sctp_link.specs.declared.link.lending.Ledger.{Ledger}
 use Rattle.sctp_link.specs.declared.lane.Lane.{Lane}
 use Rattle.sctp_link.specs.declared.stream.DataChannelStats.{DataChannelStats}
 use Rattle.sctp_link.specs.Texts.{IsDatagram}
@@ -57,6 +59,10 @@ stats_of c =
       messages_received = c.messages_received;
       bytes_received = c.bytes_received;
     }
+
+-- the four sums as a link tells them
+abbrev pub ledger_of : M.Ledger → Ledger
+ledger_of l = record { written = l.written; pending = l.pending; in_flight = l.in_flight; released = l.released }
 
 -- what a stream keeps, against the record
 pub record IsLane (w : World) (l : Lane) : Type 0 where

@@ -34,5 +34,4 @@ IsBuilt (E.Tail now) = ⊥
 IsBuilt (E.Late now) = ⊥
 IsBuilt (E.Abandon tsn) = ⊥
 IsBuilt (E.Skip upto messages) = ⊥
-IsBuilt (E.Acked k) = ⊥
 IsBuilt _ = Unit {0}

@@ -136,7 +136,13 @@ impl Lane {
     }
 
     /// Notes that a message was read: with an ordered one that was expected next the next one is.
-    pub fn finish_read(&mut self, ordered: bool, index: u64, ppi: PayloadProtocolIdentifier, len: usize)
+    pub fn finish_read(
+        &mut self,
+        ordered: bool,
+        index: u64,
+        ppi: PayloadProtocolIdentifier,
+        len: usize,
+    )
         requires { index + 1 < 2 ^ 64 }
         ensures state { self.new.state ≡ with_read_stats ppi len self.old.state }
         ensures whole { self.new.whole.items ≡ (if ordered then self.old.whole.items else drop 1 self.old.whole.items) }

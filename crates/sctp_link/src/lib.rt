@@ -9,3 +9,5 @@ mod record;
 pub mod stream;
 #[cfg(test)]
 mod stream_tests;
+#[cfg(test)]
+mod tests;

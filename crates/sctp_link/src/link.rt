@@ -3,7 +3,9 @@
 ghost use Rattle.std.specs.Prelude.{◌≡◌, ◌==◌, ◌<◌, ◌≤◌, ◌+◌, ◌∷◌, ◌++◌, ℕ, [], None, Some, List, OnOk, OnErr, IfOk, IsOkUnless, MatchOption, length, vec_len, vec_capacity, option_map, find};
 ghost use Rattle.sctp_base.specs.declared.error.Error.TheVariants.{ErrOutOfMemory};
 
+mod acknowledged;
 mod acknowledging;
+pub mod lending;
 mod receiving;
 mod sending;
 mod streams;
@@ -131,6 +133,7 @@ impl<C: Checksum + Drop> Link<C> {
             Event::Resend { tsn } => self.resend(tsn),
             Event::Ack { credit } => self.ack(credit),
             Event::Arrive { k } => self.arrive(k),
+            Event::Acked { k } => self.acked(k),
             Event::Read { stream } => Ok(self.read(stream)),
             Event::Expire { now: _now } => unreachable!(),
             Event::Tail { now: _now } => unreachable!(),
@@ -140,7 +143,6 @@ impl<C: Checksum + Drop> Link<C> {
                 upto: _upto,
                 messages: _messages,
             } => unreachable!(),
-            Event::Acked { k: _k } => unreachable!(),
         };
         match reply {
             Ok(reply) => Ok(reply),
@@ -170,6 +172,7 @@ impl<C: Checksum + Drop> Link<C> {
             Event::Write { stream, bytes, .. } => self.refusal_write(*stream, bytes.len()),
             Event::Resend { tsn } => self.refusal_resend(*tsn),
             Event::Arrive { k } => self.refusal_arrive(*k),
+            Event::Acked { k } => self.refusal_acked(*k),
             Event::Read { stream } => self.refusal_unless_open(*stream),
             _ => None,
         }

@@ -1,10 +1,12 @@
 //! What comes to the receiver of a link, and what is read there.
 
-ghost use Rattle.std.specs.Prelude.{◌≡◌, ◌<◌, ◌≤◌, ◌+◌, ◌-◌, ◌^◌, ◌∷◌, ◌++◌, ℕ, [], true, false, None, Some, OnOk, OnErr, IfOk, IsOkUnless, MatchOption, length, slice_get, map};
+ghost use Rattle.std.specs.Prelude.{◌≡◌, ◌<◌, ◌≤◌, ◌+◌, ◌-◌, ◌^◌, ◌∷◌, ◌++◌, ℕ, [], true, false, None, Some, OnOk, OnErr, IfOk, IsOkUnless, MatchOption, length, slice_get, slice_index_or, map};
 ghost use Rattle.sctp_base.specs.declared.error.Error.TheVariants.{ErrOutOfMemory};
-ghost use Rattle.sctp_lists.specs.Lists.{advanced};
+ghost use Rattle.sctp_lists.specs.Lists.{advanced, inserted};
 ghost use Rattle.sctp_chunks.specs.declared.chunk.chunk_payload_data.ChunkPayloadData.{ChunkPayloadData};
+ghost use Rattle.sctp_queues.specs.DataChunks.{chunk_before};
 ghost use Rattle.sctp_queues.specs.Payload.{with_chunks};
+ghost use Rattle.sctp_queues.specs.Window;
 
 use super::{Link, put};
 use crate::datagram::read_data;
@@ -19,8 +21,8 @@ use sctp_queues::payload_queue::PayloadQueue;
 
 impl<C: Checksum + Drop> Link<C> {
     ghost use Rattle.sctp_model.specs.World.{Data};
-    ghost use Rattle.sctp_model.specs.Messages.{message_at, message_of, index_of, tsn_of};
-    ghost use Rattle.sctp_model.specs.Receiver.{is_new, is_held};
+    ghost use Rattle.sctp_model.specs.Messages.{message_at, message_of, index_of, tsn_of, is_open};
+    ghost use Rattle.sctp_model.specs.Receiver.{is_new, is_held, held_on, next_of, least, greatest};
     ghost use Rattle.sctp_model.specs.Contents.{chunk_at};
     ghost use Rattle.sctp_model.specs.Queues.{set_of};
     ghost use Rattle.sctp_model.specs.Changes.{slot_received};
@@ -53,7 +55,7 @@ impl<C: Checksum + Drop> Link<C> {
         }
     }
 
-    // Whether stream sequence numbers can still be told apart once the slot has come (RFC 4960 6.5). It looks at the ends of what is held.
+    // Whether stream sequence numbers can still be told apart once the slot has come (RFC 4960 6.5).
     fn span_fits(&self, place: usize) -> bool
         requires { (k : ℕ) × (slice_get self.now.world.network k ≡ Some (Data (place ∷ []))) }
         ensures { result ≡ arrival_fits self.now.world (Some (Data (place ∷ []))) }
@@ -62,20 +64,30 @@ impl<C: Checksum + Drop> Link<C> {
         if !message.ordered || !self.is_new(place) {
             return true;
         }
-        let Some(at) = lane_at(&self.lanes, message.stream) else {
+        let (low, high) = self.ends(message.stream);
+        high.max(message.before) < low.min(message.before) + 0x8000
+    }
+
+    // The least and the greatest of the index expected next and those of the messages held: they stand at the ends of the queue.
+    fn ends(&self, stream: u16) -> (u64, u64)
+        requires { is_open self.now.world stream ≡ true }
+        ensures low { result.0 ≡ least (next_of self.now.world stream) (map (index_of self.now.world) (held_on self.now.world stream)) }
+        ensures high { result.1 ≡ greatest (next_of self.now.world stream) (map (index_of self.now.world) (held_on self.now.world stream)) }
+    {
+        let Some(at) = lane_at(&self.lanes, stream) else {
             unreachable!()
         };
         let lane = &self.lanes[at];
         let held = lane.state.reassembly_queue().ordered();
-        let low = match held.front() {
-            Some(set) => lane.next.min(self.index_of(set)),
-            None => lane.next,
+        let Some(first) = held.front() else {
+            return (lane.next, lane.next);
         };
-        let high = match held.back() {
-            Some(set) => lane.next.max(self.index_of(set)),
-            None => lane.next,
+        let Some(last) = held.back() else {
+            return (lane.next, lane.next);
         };
-        high.max(message.before) < low.min(message.before) + 0x8000
+        let low = lane.next.min(self.index_of(first));
+        let high = lane.next.max(self.index_of(last));
+        (low, high)
     }
 
     // The index of the message whose fragments these are.
@@ -154,9 +166,7 @@ impl<C: Checksum + Drop> Link<C> {
         };
         self.filter.reserve(1)?;
         self.lanes[at].keep(&chunk, number)?;
-        let mark = without_data(chunk);
-        let _ = self.filter.push(mark, self.cumulative_tsn);
-        self.cumulative_tsn = advance(&mut self.filter, self.cumulative_tsn);
+        self.cumulative_tsn = note(&mut self.filter, chunk, self.cumulative_tsn);
         self.slots[place].arrived = true;
         Ok(())
     }
@@ -172,7 +182,7 @@ impl<C: Checksum + Drop> Link<C> {
         let Some(chunks) = self.lanes[at].read() else {
             return Reply::Nothing;
         };
-        let place = chunks.fragments()[0].tsn.wrapping_sub(self.first_tsn) as usize;
+        let place = first_tsn(&chunks).wrapping_sub(self.first_tsn) as usize;
         let number = self.slots[place].message as usize;
         let message = &mut self.messages[number];
         message.read = true;
@@ -184,6 +194,29 @@ impl<C: Checksum + Drop> Link<C> {
             chunks,
         }
     }
+}
+
+// The TSN of the first fragment of a message.
+fn first_tsn(chunks: &Chunks) -> u32
+    requires { 0 < length chunks.now.set.chunks }
+    ensures { (d : ChunkPayloadData) → result ≡ (slice_index_or chunks.now.set.chunks 0 d).tsn }
+{
+    chunks.fragments()[0].tsn
+}
+
+// Puts the TSN of a new chunk where room was made for it, and answers the cumulative TSN that follows.
+fn note(filter: &mut PayloadQueue, chunk: ChunkPayloadData, cumulative: u32) -> u32
+    requires room { 0 < filter.old.room }
+    requires fresh { Window.is_new filter.old.chunks chunk.tsn cumulative ≡ true }
+    requires window { Window.IsWindow cumulative filter.old.chunks chunk.tsn }
+    ensures moved { advanced cumulative (map (λ c. c.tsn) (inserted chunk_before (record chunk { user_data = [] }) filter.old.chunks)) ≡ record { cum = result; held = map (λ c. c.tsn) filter.new.chunks } }
+    ensures duplicates { filter.new.duplicates ≡ filter.old.duplicates }
+{
+    let mark = without_data(chunk);
+    // The count of bytes, to which the mark adds none, fits.
+    let _held = filter.get_num_bytes();
+    let _ = filter.push(mark, cumulative);
+    advance(filter, cumulative)
 }
 
 // The chunk without its bytes, which a filter of TSNs does not need.
