@@ -19,7 +19,7 @@ pub mod Modes
 pub mod Outgoing
 pub mod Sending
 pub mod SentLists
-pub mod Acking
+pub mod Reporting
 pub mod Bounds
 pub mod Fragmented
 pub mod Writing
