@@ -26,3 +26,5 @@ pub mod Bounds
 pub mod Fragmented
 pub mod Writing
 pub mod WrittenLists
+pub mod SackFrames
+pub mod SackTaken
