@@ -1,15 +1,17 @@
 //! The script language: lines that are events, and lines that are replies.
 
 ghost use Rattle.std.specs.Prelude.{◌≤◌, ℕ, IfOk, IfSome};
+ghost use Rattle.sctp_link.specs.Replies.{IsBuilt};
 
 use crate::RunFault;
 use crate::crc32c::Crc32c;
 use crate::field::{FieldFault, field_bytes, field_text};
-use bytes::Bytes;
+use sctp_chunks::chunk::chunk_payload_data::{PayloadProtocolIdentifier, ReliabilityType};
 use sctp_link::event::{Event, LinkRefusal, Reply};
 use sctp_link::link::Link;
+use sctp_queues::chunks::Chunks;
 use std::alloc::Global;
-use std::io::Write;
+use std::io::{self, Write};
 
 /// Why a line gives no event.
 #[derive(Clone, Copy, Debug, PartialEq, Eq)]
@@ -35,12 +37,15 @@ pub fn read_link(alloc: Global, line: &str) -> Option<Link<Crc32c>> {
     Some(Link::new(alloc, first_tsn, fragment_size, max_message_size, Crc32c))
 }
 
-/// Reads an event.
-pub fn read_event(alloc: Global, line: &str) -> Result<Event, LineFault> {
+/// Reads an event. The word of an event that a link does not take yet is not read.
+pub fn read_event(alloc: Global, line: &str) -> Result<Event, LineFault>
+    ensures { IfOk result (λ event. IsBuilt event) }
+{
     let mut rest = Some(line);
     let word = take_word(&mut rest).ok_or(LineFault::Unreadable)?;
     let event = match word {
         "write" => read_write(alloc, &mut rest)?,
+        "mode" => read_mode(&mut rest).ok_or(LineFault::Unreadable)?,
         _ => read_short(word, &mut rest).ok_or(LineFault::Unreadable)?,
     };
     match rest {
@@ -49,16 +54,28 @@ pub fn read_event(alloc: Global, line: &str) -> Result<Event, LineFault> {
     }
 }
 
-/// Reads the fields of an event of one number.
-fn read_short(word: &str, rest: &mut Option<&str>) -> Option<Event> {
+/// Reads the field of an event of one number.
+fn read_short(word: &str, rest: &mut Option<&str>) -> Option<Event>
+    ensures { IfSome result (λ event. IsBuilt event) }
+{
     match word {
         "open" => Some(Event::Open {
             stream: take_u16(rest)?,
         }),
+        "start" => Some(Event::Start {
+            now: take_u64(rest)?,
+        }),
         "send" => Some(Event::Send {
             now: take_u64(rest)?,
         }),
+        "resend" => Some(Event::Resend {
+            tsn: take_u32(rest)?,
+        }),
+        "ack" => Some(Event::Ack {
+            credit: take_u32(rest)?,
+        }),
         "arrive" => Some(Event::Arrive { k: take_u64(rest)? }),
+        "acked" => Some(Event::Acked { k: take_u64(rest)? }),
         "read" => Some(Event::Read {
             stream: take_u16(rest)?,
         }),
@@ -66,7 +83,32 @@ fn read_short(word: &str, rest: &mut Option<&str>) -> Option<Event> {
     }
 }
 
-fn read_write(alloc: Global, rest: &mut Option<&str>) -> Result<Event, LineFault> {
+fn read_mode(rest: &mut Option<&str>) -> Option<Event>
+    ensures { IfSome result (λ event. IsBuilt event) }
+{
+    let stream = take_u16(rest)?;
+    let unordered = match take_word(rest)? {
+        "ordered" => false,
+        "unordered" => true,
+        _ => return None,
+    };
+    let reliability = match take_word(rest)? {
+        "reliable" => ReliabilityType::Reliable,
+        "rexmit" => ReliabilityType::Rexmit,
+        "timed" => ReliabilityType::Timed,
+        _ => return None,
+    };
+    Some(Event::Mode {
+        stream,
+        unordered,
+        reliability,
+        value: take_u32(rest)?,
+    })
+}
+
+fn read_write(alloc: Global, rest: &mut Option<&str>) -> Result<Event, LineFault>
+    ensures { IfOk result (λ event. IsBuilt event) }
+{
     let stream = take_u16(rest).ok_or(LineFault::Unreadable)?;
     let ppi = take_u32(rest).ok_or(LineFault::Unreadable)?;
     let text = take_word(rest).ok_or(LineFault::Unreadable)?;
@@ -131,35 +173,77 @@ pub fn print_reply<W: Write>(
     reply: &Result<Reply, LinkRefusal>,
 ) -> Result<(), RunFault> {
     let written = match reply {
-        Ok(Reply::Opened) => write!(output, "opened\n"),
         Ok(
-            Reply::Wrote {
-                number: Some(number),
-                fragments,
+            Reply::Message {
+                stream,
+                ppi,
+                chunks,
             },
-        ) => write!(output, "wrote {number} {fragments}\n"),
-        Ok(
-            Reply::Wrote {
-                number: None,
-                fragments,
-            },
-        ) => write!(output, "wrote - {fragments}\n"),
-        Ok(Reply::Sent { datagram, tsn, ssn }) => write!(output, "sent {datagram} {tsn} {ssn}\n"),
-        Ok(Reply::Idle) => write!(output, "idle\n"),
-        Ok(Reply::New) => write!(output, "new\n"),
-        Ok(Reply::Repeat) => write!(output, "repeat\n"),
-        Ok(Reply::Message { stream, ppi, bytes }) => {
-            let Ok(text) = field_text(alloc, bytes) else {
-                return Err(RunFault::Memory);
-            };
-            write!(output, "message {stream} {} {text}\n", ppi.number())
-        }
-        Ok(Reply::Nothing) => write!(output, "none\n"),
+        ) => return print_message(alloc, output, *stream, *ppi, chunks),
+        Ok(reply) => print_numbers(output, reply),
         Err(refusal) => write!(output, "refused L{}\n", refusal_number(*refusal)),
     };
     match written {
         Ok(()) => Ok(()),
         Err(_) => Err(RunFault::Output),
+    }
+}
+
+/// Prints the line of a reply that is a word and numbers.
+fn print_numbers<W: Write>(output: &mut W, reply: &Reply) -> io::Result<()> {
+    match reply {
+        Reply::Opened => write!(output, "opened\n"),
+        Reply::Set => write!(output, "set\n"),
+        Reply::Wrote {
+            number: Some(number),
+            fragments,
+        } => write!(output, "wrote {number} {fragments}\n"),
+        Reply::Wrote {
+            number: None,
+            fragments,
+        } => write!(output, "wrote - {fragments}\n"),
+        Reply::Started => write!(output, "started\n"),
+        Reply::Sent {
+            datagram,
+            tsn,
+            ssn,
+            ..
+        } => write!(output, "sent {datagram} {tsn} {ssn}\n"),
+        Reply::Idle => write!(output, "idle\n"),
+        Reply::Resent { datagram } => write!(output, "resent {datagram}\n"),
+        Reply::Ack { datagram } => write!(output, "ack {datagram}\n"),
+        Reply::New => write!(output, "new\n"),
+        Reply::Repeat => write!(output, "repeat\n"),
+        Reply::Acked { bytes } => write!(output, "acked {bytes}\n"),
+        Reply::Message { .. } | Reply::Nothing => write!(output, "none\n"),
+    }
+}
+
+/// Prints a message, its chunks joined.
+fn print_message<W: Write>(
+    alloc: Global,
+    output: &mut W,
+    stream: u16,
+    ppi: PayloadProtocolIdentifier,
+    chunks: &Chunks,
+) -> Result<(), RunFault> {
+    let Ok(text) = message_text(alloc, chunks) else {
+        return Err(RunFault::Memory);
+    };
+    match write!(output, "message {stream} {} {text}\n", ppi.number()) {
+        Ok(()) => Ok(()),
+        Err(_) => Err(RunFault::Output),
+    }
+}
+
+/// The field of a message's bytes.
+fn message_text(alloc: Global, chunks: &Chunks) -> Result<String, FieldFault> {
+    let Ok(mut bytes) = Vec::from_elem(alloc, 0u8, chunks.len()) else {
+        return Err(FieldFault::OutOfMemory);
+    };
+    match chunks.read(&mut bytes) {
+        Ok(_) => field_text(alloc, &bytes),
+        Err(_) => Err(FieldFault::OutOfMemory),
     }
 }
 

@@ -45,8 +45,8 @@ fn scripts(rt: HostRuntime) -> Result<(), Fail> {
             0,
         ),
         (
-            "link 10 3 3\nwrite 1 53 616161\nopen 1\nopen 1\nopen 2\nwrite 1 53 61616161\narrive 0\nread 2\n",
-            "refused L1\nopened\nrefused L2\nrefused L2\nrefused L3\nrefused L5\nrefused L1\n",
+            "link 10 3 3\nwrite 1 53 616161\nread 1\nmode 1 ordered reliable 0\nopen 1\nopen 1\nopen 2\nwrite 1 53 61616161\narrive 0\nacked 0\nresend 10\nread 3\n",
+            "refused L1\nrefused L1\nrefused L1\nopened\nrefused L2\nopened\nrefused L3\nrefused L5\nrefused L5\nrefused L6\nrefused L1\n",
             0,
         ),
         ("link 10 3 3", "", 0),
@@ -56,6 +56,60 @@ fn scripts(rt: HostRuntime) -> Result<(), Fail> {
         assert_eq!(rt; result.0.as_str(), printed);
         assert_eq!(rt; result.1, Ok(status));
     }
+    Ok(())
+}
+
+/// Fragments, streams, modes, acknowledgement.
+#[test]
+fn scripts_of_fragments(rt: HostRuntime) -> Result<(), Fail> {
+    let alloc = rt.alloc();
+    let cases = [
+        (
+            "link 4294967294 3 100\nopen 1\nwrite 1 53 61626364656667\nsend 0\nsend 0\nsend 0\nsend 0\narrive 2\narrive 0\nread 1\narrive 1\nread 1\nread 1\n",
+            "opened\nwrote 0 3\nsent 0 4294967294 0\nsent 1 4294967295 0\nsent 2 0 0\nidle\nnew\nnew\nnone\nnew\nmessage 1 53 61626364656667\nnone\n",
+        ),
+        (
+            "link 4294967295 2 100\nopen 1\nopen 2\nwrite 1 53 616263\nwrite 2 53 6465\nwrite 1 53 66\nsend 0\nsend 0\nsend 0\nsend 0\narrive 3\narrive 2\nread 1\nread 2\narrive 0\nread 1\narrive 1\nread 1\nread 1\nread 1\n",
+            "opened\nopened\nwrote 0 2\nwrote 1 1\nwrote 2 1\nsent 0 4294967295 0\nsent 1 0 0\nsent 2 1 0\nsent 3 2 1\nnew\nnew\nnone\nmessage 2 53 6465\nnew\nnone\nnew\nmessage 1 53 616263\nmessage 1 53 66\nnone\n",
+        ),
+        (
+            "link 10 3 100\nopen 1\nwrite 1 53 616161\nmode 1 unordered reliable 0\nwrite 1 53 626262636363\nsend 0\nsend 0\nsend 0\narrive 1\narrive 0\nread 1\nread 1\narrive 2\nread 1\n",
+            "opened\nwrote 0 1\nset\nwrote 1 2\nsent 0 10 1\nsent 1 11 1\nsent 2 12 0\nnew\nnew\nmessage 1 53 626262636363\nnone\nnew\nmessage 1 53 616161\n",
+        ),
+        // An acknowledged chunk is not sent again; an earlier SACK changes nothing.
+        (
+            "link 10 3 100\nopen 1\nwrite 1 53 61626364656667\nsend 0\nsend 0\nsend 0\narrive 0\narrive 2\nack 0\nacked 3\nacked 3\nresend 12\nresend 10\nresend 11\narrive 4\nread 1\n",
+            "opened\nwrote 0 3\nsent 0 10 0\nsent 1 11 0\nsent 2 12 0\nnew\nnew\nack 3\nacked 4\nacked 0\nrefused L6\nrefused L6\nresent 4\nnew\nmessage 1 53 61626364656667\n",
+        ),
+        (
+            "link 10 3 100\nopen 1\nmode 1 ordered timed 5\nmode 1 unordered rexmit 0\nstart 0\nwrite 1 53 6161\nsend 0\nack 0\narrive 1\nacked 0\n",
+            "opened\nset\nset\nstarted\nwrote 0 1\nsent 0 10 0\nack 1\nrefused L5\nrefused L5\n",
+        ),
+    ];
+    for (script, printed) in cases {
+        let result = ran(alloc, script.as_bytes())?;
+        assert_eq!(rt; result.0.as_str(), printed);
+        assert_eq!(rt; result.1, Ok(0));
+    }
+    Ok(())
+}
+
+/// Messages of which the receiver waits for the first: indexes up to 32,767 can be told apart, the next cannot.
+#[test]
+fn the_span_of_indexes(rt: HostRuntime) -> Result<(), Fail> {
+    let alloc = rt.alloc();
+    let mut script = String::from_str(alloc, "link 0 1 100\nopen 1\n")?;
+    for _ in 0..32_769 {
+        script.push_str("write 1 53 61\nsend 0\n")?;
+    }
+    script.push_str("arrive 32767\narrive 32768\narrive 32768\n")?;
+    let result = ran(alloc, script.as_bytes())?;
+    assert!(rt;
+        result
+            .0
+            .ends_with("sent 32768 32768 32768\nnew\nrefused L9\nrefused L9\n")
+    );
+    assert_eq!(rt; result.1, Ok(0));
     Ok(())
 }
 
@@ -114,9 +168,20 @@ fn lines_that_cannot_be_read(rt: HostRuntime) -> Result<(), Fail> {
         "arrive",
         "arrive 0 0",
         "read",
-        "mode 1 ordered reliable 0",
-        "start 0",
-        "ack 0",
+        "mode 1 ordered reliable",
+        "mode 1 ordered reliable 4294967296",
+        "mode 1 ordered always 0",
+        "mode 1 reliable 0",
+        "mode 65536 ordered reliable 0",
+        "start",
+        "resend 4294967296",
+        "ack -",
+        "ack 4294967296",
+        "acked",
+        "expire 7",
+        "tail 7",
+        "late 7",
+        "abandon 10",
         "skip 11 -",
     ];
     for line in lines {

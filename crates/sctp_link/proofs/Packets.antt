@@ -1,27 +1,15 @@
--- Packets of one DATA chunk.
-use Rattle.std.proofs.Common.{◌≡◌, ◌≤◌, List, [], ◌∷◌, ◌++◌, length, map, arith}
-use Rattle.std.specs.Prelude.{◌⊎◌}
-use Rattle.std.proofs.Common.{inl, inr}
-use Rattle.sctp_base.specs.declared.error.Error.{Error}
-use Rattle.sctp_base.specs.declared.error.Error.TheVariants.{ErrOutOfMemory}
+-- Packets of one chunk.
+use Rattle.std.proofs.Common.{◌≡◌, List, [], ◌∷◌, ◌++◌, map, refl, ap, ◌∙◌}
+use Rattle.std.specs.List.{AllByRecursion}
 use Rattle.sctp_chunks.specs.declared.chunk.chunk_kind.ChunkKind.{ChunkKind}
+use Rattle.sctp_chunks.specs.declared.chunk.chunk_kind.ChunkKind.TheVariants as K
 use Rattle.sctp_chunks.specs.declared.chunk.chunk_payload_data.ChunkPayloadData.{ChunkPayloadData}
+use Rattle.sctp_chunks.specs.declared.chunk.chunk_selective_ack.ChunkSelectiveAck.{ChunkSelectiveAck}
 use Rattle.sctp_chunks.specs.PayloadData.{Data, data_of}
-use Rattle.sctp_chunks.specs.Wire.{Wire, data_chunk}
+use Rattle.sctp_chunks.specs.SelectiveAck.{Sack, sack_of}
+use Rattle.sctp_chunks.specs.ChunkSet.{fresh, IsFreshData}
+use Rattle.sctp_chunks.specs.Wire.{Wire, data_chunk, sack_chunk}
 use Rattle.sctp_chunks.specs.Kind.{wire_of}
-use Rattle.sctp_chunks.specs.Check.{IsTextError}
-use Rattle.sctp_chunks.proofs.Lengths.{length_data_value}
-use Rattle.sctp_packets.specs.Packet.{HavePacketText}
-use Rattle.sctp_link.specs.World.{packet_of}
-
--- a message within the greatest fragment has a text
-pub short_text : (d : Data) → length d.user_data ≤ 65519 → HavePacketText (packet_of d)
-short_text d short = (omega (arith, length_data_value d), tt)
-
--- so it is refused for memory alone
-pub memory_alone : (d : Data) (e : Error) → length d.user_data ≤ 65519 → (e ≡ ErrOutOfMemory) ⊎ (IsTextError e × (HavePacketText (packet_of d) → ⊥)) → e ≡ ErrOutOfMemory
-memory_alone d e short (inl memory) = memory
-memory_alone d e short (inr long) = absurd (long.1 (short_text d short))
 
 -- a list of chunks whose wire parts are one has a last one
 pub some_kind : (ks : List ChunkKind) (w : Wire) → ks ≡ [] → map wire_of ks ≡ w ∷ [] → ⊥
@@ -34,5 +22,51 @@ last_kind [] kind w one = cc
 last_kind (k ∷ []) kind w one = cc
 last_kind (k ∷ j ∷ ks) kind w one = cc
 
-pub same_data : (c : ChunkPayloadData) (d : Data) → data_chunk (data_of c) ≡ data_chunk d → data_of c ≡ d
+pub all_last : {X : Type 0} (P : X → Type 0) (xs : List X) (x : X) → AllByRecursion P (xs ++ x ∷ []) → P x
+all_last P [] x all = all.0
+all_last P (y ∷ ys) x all = all_last P ys x all.1
+
+-- the wire part of a DATA chunk or of a SACK is of no other kind
+pub data_kind : (k : ChunkKind) (d : Data) → ((c : ChunkPayloadData) → k ≡ K.PayloadData c → ⊥) → wire_of k ≡ data_chunk d → ⊥
+data_kind (K.PayloadData c) d other e = other c refl
+data_kind (K.Init c) d other e = cc
+data_kind (K.SelectiveAck c) d other e = cc
+data_kind (K.Heartbeat c) d other e = cc
+data_kind (K.HeartbeatAck c) d other e = cc
+data_kind (K.Abort c) d other e = cc
+data_kind (K.Shutdown c) d other e = cc
+data_kind (K.ShutdownAck c) d other e = cc
+data_kind (K.Error c) d other e = cc
+data_kind (K.CookieEcho c) d other e = cc
+data_kind (K.CookieAck c) d other e = cc
+data_kind (K.ShutdownComplete c) d other e = cc
+data_kind (K.Reconfig c) d other e = cc
+data_kind (K.ForwardTsn c) d other e = cc
+data_kind (K.IForwardTsn c) d other e = cc
+
+pub sack_kind : (k : ChunkKind) (s : Sack) → ((c : ChunkSelectiveAck) → k ≡ K.SelectiveAck c → ⊥) → wire_of k ≡ sack_chunk s → ⊥
+sack_kind (K.SelectiveAck c) s other e = other c refl
+sack_kind (K.PayloadData c) s other e = cc
+sack_kind (K.Init c) s other e = cc
+sack_kind (K.Heartbeat c) s other e = cc
+sack_kind (K.HeartbeatAck c) s other e = cc
+sack_kind (K.Abort c) s other e = cc
+sack_kind (K.Shutdown c) s other e = cc
+sack_kind (K.ShutdownAck c) s other e = cc
+sack_kind (K.Error c) s other e = cc
+sack_kind (K.CookieEcho c) s other e = cc
+sack_kind (K.CookieAck c) s other e = cc
+sack_kind (K.ShutdownComplete c) s other e = cc
+sack_kind (K.Reconfig c) s other e = cc
+sack_kind (K.ForwardTsn c) s other e = cc
+sack_kind (K.IForwardTsn c) s other e = cc
+
+same_data : (c d : Data) → data_chunk c ≡ data_chunk d → c ≡ d
 same_data c d e = cc
+
+pub same_sack : (c s : Sack) → sack_chunk c ≡ sack_chunk s → c ≡ s
+same_sack c s e = cc
+
+-- a DATA chunk as reading gives it, from its wire part
+pub fresh_data : (c : ChunkPayloadData) (d : Data) → IsFreshData c → data_chunk (data_of c) ≡ data_chunk d → c ≡ fresh d
+fresh_data c d new e = new ∙ ap fresh (same_data (data_of c) d e)

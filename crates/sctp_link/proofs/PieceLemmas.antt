@@ -1,6 +1,7 @@
 -- A list cut into pieces of one size.
-use Rattle.std.proofs.Common.{◌≡◌, ℕ, zero, suc, ◌+◌, ◌-◌, ◌*◌, ◌<◌, ◌≤◌, ◌==◌, min, Bool, true, false, List, [], ◌∷◌, ◌++◌, length, get_or, take, drop, length-drop, refl, sym, ap, ◌∙◌, inl, inr, arith}
+use Rattle.std.proofs.Common.{◌≡◌, ℕ, zero, suc, ◌+◌, ◌-◌, ◌*◌, ◌/◌, ◌%◌, ◌<◌, ◌≤◌, ◌==◌, min, Bool, true, false, List, [], ◌∷◌, ◌++◌, length, get_or, take, drop, length-drop, refl, sym, ap, ◌∙◌, inl, inr, arith}
 use Rattle.std.proofs.Math.Nat.{suc-mul}
+use Rattle.std.proofs.lemmas.Nat.{div-add-mod', mod_below}
 use Rattle.std.proofs.lemmas.Bool.{cases_lt}
 use Rattle.std.proofs.lemmas.Bool.Decides.{nat_tests}
 use Rattle.std.proofs.lemmas.List.{drop-drop, take_all}
@@ -78,3 +79,24 @@ module _ (size : ℕ) (xs : List ℕ) (k at : ℕ) (pos : 0 < size) (place : at 
       ]
       ∙ ap (λ i. take size (drop i xs)) place
       ∙ sym (piece_at (length xs) size xs k (omega arith) pos (omega arith))
+
+-- the count of pieces, from the size of the list
+count_is : (size : ℕ) (xs : List ℕ) (k : ℕ) → 0 < size → length xs ≤ k * size → ((j : ℕ) → k ≡ suc j → j * size < length xs) → k ≡ length (pieces (length xs) size xs)
+count_is size xs zero pos end more = let none = piece_none (length xs) size xs 0 (omega arith) pos end in omega arith
+count_is size xs (suc j) pos end more =
+    let none = piece_none (length xs) size xs (suc j) (omega arith) pos end in
+    let some = piece_below (length xs) size xs j (omega arith) pos (more j refl) in
+    omega arith
+
+pub count_whole : (len size : ℕ) (xs : List ℕ) → 0 < size → len ≡ length xs → len % size ≡ 0 → len / size ≡ length (pieces (length xs) size xs)
+count_whole len size xs pos e even =
+    let whole = div-add-mod' len size in
+    count_is size xs (len / size) pos (omega arith) (λ j is. let next = suc-mul j size in let last : len / size * size ≡ suc j * size = ap (λ k. k * size) is in omega arith)
+
+pub count_more : (len size : ℕ) (xs : List ℕ) → 0 < size → len ≡ length xs → (len % size ≡ 0 → ⊥) → len / size + 1 ≡ length (pieces (length xs) size xs)
+count_more len size xs pos e odd =
+    let whole = div-add-mod' len size in
+    let short = mod_below len size pos in
+    let next = suc-mul (len / size) size in
+    let one : len / size + 1 ≡ suc (len / size) = omega arith in
+    one ∙ count_is size xs (suc (len / size)) pos (omega arith) (λ j is. let same : len / size ≡ j = omega arith in let last : len / size * size ≡ j * size = ap (λ k. k * size) same in omega arith)

@@ -1,13 +1,39 @@
--- The record of a link, from its fields.
+-- The record of a link and what it keeps beside it, from its fields.
+use Rattle.std.specs.Prelude.{ℕ, map}
+use Rattle.sctp_model.specs.World.{World, Setup}
 use Rattle.sctp_link.specs.declared.link.Link.TheInside.{Inside}
-use Rattle.sctp_link.specs.World.{World, setup_of}
+use Rattle.sctp_link.specs.Linked.{State}
+use Rattle.sctp_link.specs.Records.{message_record, slot_record, datagram_record, stream_record}
+
+-- a link has datagrams of one chunk each: their limit is 0
+abbrev pub setup_of : ℕ → ℕ → ℕ → Setup
+setup_of first size largest = record { first = first; size = size; largest = largest; limit = 0 }
 
 abbrev pub world_in : {C : Type 0} → Inside C → World
 world_in a =
     record {
       setup = setup_of a.first_tsn a.fragment_size a.max_message_size;
-      stream = a.stream;
-      messages = a.messages.items;
-      arrived = a.arrived.items;
-      read = a.read;
+      streams = map stream_record a.lanes.items;
+      messages = map message_record a.messages.items;
+      slots = map slot_record a.slots.items;
+      network = map datagram_record a.network.items;
+      skipped = 0;
+      taken = a.taken;
+      duplicates = a.duplicates.items;
+    }
+
+abbrev pub state_in : {C : Type 0} → Inside C → State
+state_in a =
+    record {
+      world = world_in a;
+      lanes = a.lanes.items;
+      sents = map (λ m. m.sent) a.messages.items;
+      unstarted = a.unstarted;
+      datagrams = map (λ d. d.bytes) a.network.items;
+      outbound = a.outbound;
+      next_tsn = a.next_tsn;
+      cumulative_tsn = a.cumulative_tsn;
+      filter = a.filter;
+      fragments = a.fragments;
+      written = a.written;
     }

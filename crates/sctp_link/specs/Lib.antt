@@ -1,8 +1,10 @@
+pub mod Records
+pub mod Lanes
+pub mod Texts
+pub mod Linked
 pub mod Fields
-pub mod History
-pub mod Steps
-pub mod Tied
-pub mod World
+pub mod Replies
+pub mod Acking
 pub mod Stats
 pub mod State
 pub mod Stream

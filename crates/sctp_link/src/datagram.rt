@@ -1,37 +1,39 @@
-//! A datagram of one DATA chunk: written, and read again.
+//! Datagrams of one chunk: written, and read again.
 
-ghost use Rattle.std.specs.Prelude.{◌≡◌, ◌≤◌, length, IfOk};
+ghost use Rattle.std.specs.Prelude.{◌≡◌, ◌≤◌, ◌+◌, ◌∷◌, [], length, IfOk, IsOkUnless};
 ghost use Rattle.sctp_base.specs.declared.error.Error.TheVariants.{ErrOutOfMemory};
 ghost use Rattle.sctp_chunks.specs.PayloadData.{Data, data_of};
-ghost use Rattle.sctp_chunks.specs.Wire.{data_chunk};
-ghost use Rattle.sctp_chunks.specs.Kind.{wire_of};
+ghost use Rattle.sctp_chunks.specs.SelectiveAck.{Sack, sack_of};
+ghost use Rattle.sctp_chunks.specs.ChunkSet.{fresh};
+ghost use Rattle.sctp_chunks.specs.Wire.{Wire, data_chunk, sack_chunk, HasText};
+ghost use Rattle.sctp_chunks.specs.Fits.{Canonical};
+ghost use Rattle.sctp_chunks.specs.Kind.{wire_of, IsFreshKind};
 ghost use Rattle.sctp_packets.specs.Packet.{ReadsPacket, packet_text};
-ghost use Rattle.sctp_link.specs.World.{packet_of};
+ghost use Rattle.sctp_link.specs.Texts.{packet_with};
 
 use bytes::Bytes;
-use sctp_base::error::Error;
+use sctp_base::error::{Error, Result};
 use sctp_base::util::Checksum;
 use sctp_chunks::chunk::chunk_kind::ChunkKind;
 use sctp_chunks::chunk::chunk_payload_data::ChunkPayloadData;
+use sctp_chunks::chunk::chunk_selective_ack::ChunkSelectiveAck;
 use sctp_packets::packet::{CommonHeader, Packet};
-use std::alloc::{AllocError, Global};
+use std::alloc::Global;
 
 const PORT: u16 = 5000;
 
 const VERIFICATION_TAG: u32 = 1;
 
 /// Writes the datagram of a chunk. Its bytes read back.
-pub fn write_datagram<C: Checksum>(
-    alloc: Global,
-    chunk: ChunkPayloadData,
-    checksum: &C,
-) -> Result<Bytes, AllocError>
-    requires { length chunk.user_data ≤ 65519 }
-    ensures text { IfOk result (λ b. b ≡ packet_text (C.sum checksum.now) (packet_of (data_of chunk))) }
-    ensures reads { IfOk result (λ b. ReadsPacket (C.sum checksum.now) b (packet_of (data_of chunk))) }
+pub fn write_datagram<C: Checksum>(alloc: Global, chunk: ChunkKind, checksum: &C) -> Result<Bytes>
+    requires text { HasText (wire_of chunk) }
+    requires canonical { Canonical (wire_of chunk) }
+    ensures text { IfOk result (λ b. b ≡ packet_text (C.sum checksum.now) (packet_with (wire_of chunk ∷ []))) }
+    ensures reads { IfOk result (λ b. ReadsPacket (C.sum checksum.now) b (packet_with (wire_of chunk ∷ []))) }
+    ensures memory { IsOkUnless result ErrOutOfMemory }
 {
     let mut chunks = Vec::new(alloc);
-    chunks.push(ChunkKind::PayloadData(chunk))?;
+    chunks.push(chunk)?;
     let packet = Packet {
         common_header: CommonHeader {
             source_port: PORT,
@@ -40,46 +42,43 @@ pub fn write_datagram<C: Checksum>(
         },
         chunks,
     };
-    match packet.marshal(alloc, checksum) {
-        Ok(bytes) => Ok(bytes),
-        Err(e) => Err(want_of_memory(e)),
-    }
+    packet.marshal(alloc, checksum)
 }
 
-/// Reads a datagram of one DATA chunk. It is refused for memory alone.
-pub fn read_datagram<C: Checksum>(
-    alloc: Global,
-    raw: &Bytes,
-    checksum: &C,
-) -> Result<ChunkPayloadData, AllocError>
-    requires { (d : Data) × ReadsPacket (C.sum checksum.now) raw.now (packet_of d) }
-    ensures { (d : Data) → ReadsPacket (C.sum checksum.now) raw.now (packet_of d)
-        → IfOk result (λ c. data_of c ≡ d) }
+/// Reads a datagram of one chunk. It is refused for memory alone.
+fn read_datagram<C: Checksum>(alloc: Global, raw: &Bytes, checksum: &C) -> Result<ChunkKind>
+    requires { (w : Wire) × ReadsPacket (C.sum checksum.now) raw.now (packet_with (w ∷ [])) }
+    ensures chunk { (w : Wire) → ReadsPacket (C.sum checksum.now) raw.now (packet_with (w ∷ [])) → IfOk result (λ k. wire_of k ≡ w) }
+    ensures fresh { IfOk result (λ k. IsFreshKind k) }
+    ensures memory { IsOkUnless result ErrOutOfMemory }
 {
-    let mut packet = match Packet::unmarshal(alloc, raw, checksum) {
-        Ok(packet) => packet,
-        Err(e) => return Err(want_of_memory(e)),
-    };
+    let mut packet = Packet::unmarshal(alloc, raw, checksum)?;
     let Some(kind) = packet.chunks.pop() else {
         unreachable!()
     };
-    Ok(into_data(kind))
+    Ok(kind)
 }
 
-/// The one refusal that a datagram of this link can meet.
-fn want_of_memory(e: Error) -> AllocError
-    requires { e ≡ ErrOutOfMemory }
+/// Reads a datagram of one DATA chunk.
+pub fn read_data<C: Checksum>(alloc: Global, raw: &Bytes, checksum: &C) -> Result<ChunkPayloadData>
+    requires { (d : Data) × ReadsPacket (C.sum checksum.now) raw.now (packet_with (data_chunk d ∷ [])) }
+    ensures chunk { (d : Data) → ReadsPacket (C.sum checksum.now) raw.now (packet_with (data_chunk d ∷ [])) → IfOk result (λ c. c ≡ fresh d) }
+    ensures memory { IsOkUnless result ErrOutOfMemory }
 {
-    let _ = e;
-    AllocError
+    match read_datagram(alloc, raw, checksum)? {
+        ChunkKind::PayloadData(chunk) => Ok(chunk),
+        _ => unreachable!(),
+    }
 }
 
-fn into_data(kind: ChunkKind) -> ChunkPayloadData
-    requires { (d : Data) × (wire_of kind ≡ data_chunk d) }
-    ensures { wire_of kind ≡ data_chunk (data_of result) }
+/// Reads a datagram of one SACK.
+pub fn read_sack<C: Checksum>(alloc: Global, raw: &Bytes, checksum: &C) -> Result<ChunkSelectiveAck>
+    requires { (s : Sack) × ReadsPacket (C.sum checksum.now) raw.now (packet_with (sack_chunk s ∷ [])) }
+    ensures chunk { (s : Sack) → ReadsPacket (C.sum checksum.now) raw.now (packet_with (sack_chunk s ∷ [])) → IfOk result (λ c. sack_of c ≡ s) }
+    ensures memory { IsOkUnless result ErrOutOfMemory }
 {
-    match kind {
-        ChunkKind::PayloadData(chunk) => chunk,
+    match read_datagram(alloc, raw, checksum)? {
+        ChunkKind::SelectiveAck(chunk) => Ok(chunk),
         _ => unreachable!(),
     }
 }

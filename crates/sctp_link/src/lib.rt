@@ -3,9 +3,9 @@
 
 mod datagram;
 pub mod event;
-pub mod laws;
+mod lane;
 pub mod link;
-pub mod message;
+mod record;
 pub mod stream;
 #[cfg(test)]
 mod stream_tests;

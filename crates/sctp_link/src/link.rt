@@ -1,52 +1,74 @@
-//! The link: each event is answered as its record says.
+//! The link: each event is answered as its record says, over the queues of a sender and a receiver.
 
-ghost use Rattle.std.specs.Prelude.{◌≡◌, ◌<◌, ◌≤◌, ◌+◌, ◌∷◌, ◌++◌, ℕ, [], None, Some, List, OnOk, OnErr, IfOk, MatchOption, length, vec_len, vec_capacity, slice_index_or};
-ghost use Rattle.sctp_chunks.specs.PayloadData.{data_of};
-ghost use Rattle.sctp_link.specs.World.{data_with};
+ghost use Rattle.std.specs.Prelude.{◌≡◌, ◌==◌, ◌<◌, ◌≤◌, ◌+◌, ◌∷◌, ◌++◌, ℕ, [], None, Some, List, OnOk, OnErr, IfOk, IsOkUnless, MatchOption, length, vec_len, vec_capacity, option_map, find};
+ghost use Rattle.sctp_base.specs.declared.error.Error.TheVariants.{ErrOutOfMemory};
 
-use crate::datagram::{read_datagram, write_datagram};
+mod acknowledged;
+mod acknowledging;
+pub mod lending;
+mod receiving;
+mod sending;
+mod streams;
+
 use crate::event::{Event, LinkRefusal, Reply};
-use crate::message::Message;
+use crate::lane::{Lane, lane_at};
+use crate::record::{Datagram, Kind, Message, Slot};
 use bytes::Bytes;
 use sctp_base::util::Checksum;
-use sctp_chunks::chunk::chunk_payload_data::{ChunkPayloadData, PayloadProtocolIdentifier};
-use std::alloc::{AllocError, Global};
+use sctp_queues::outbound_queue::OutboundQueue;
+use sctp_queues::payload_queue::PayloadQueue;
+use std::alloc::Global;
 use std::marker::Model;
 
 /// A sender and a receiver, with the network between them.
 #[derive(Drop)]
 pub struct Link<C: Checksum + Drop> {
     alloc: Global,
+    checksum: C,
     first_tsn: u32,
     fragment_size: u32,
     max_message_size: u32,
-    checksum: C,
-    stream: Option<u16>,
+    lanes: Vec<Lane>,
     messages: Vec<Message>,
-    arrived: Vec<bool>,
-    datagrams: Vec<Bytes>,
-    received: Vec<Option<Message>>,
-    read: u64,
+    // the number of the first message whose lifetime has not started
+    unstarted: usize,
+    slots: Vec<Slot>,
+    network: Vec<Datagram>,
+    // how many slots the taken SACKs acknowledged cumulatively
+    taken: usize,
+    // the places that came again since the last SACK was made
+    duplicates: Vec<u64>,
+    outbound: OutboundQueue,
+    next_tsn: u32,
+    filter: PayloadQueue,
+    cumulative_tsn: u32,
+    // how many fragments were accepted
+    fragments: usize,
+    // how many bytes were written
+    written: u64,
 }
 
 impl<C: Checksum + Drop> Model for Link<C> {
-    ghost use Rattle.sctp_link.specs.World.{Linked};
+    ghost use Rattle.sctp_link.specs.Linked.{Linked, IsLinked};
 
     ghost Value = { Linked C };
 
-    ghost use Rattle.sctp_link.specs.Fields.{world_in};
-    ghost use Rattle.sctp_link.specs.Tied.{Tied};
+    ghost use Rattle.sctp_link.specs.Fields.{world_in, state_in};
 
     ghost view = { λ a. record { world = world_in a; checksum = a.checksum } };
 
-    ghost invariant = { λ a. Tied (C.sum a.checksum) (world_in a) a.datagrams.items a.received.items };
+    ghost invariant = { λ a. IsLinked (C.sum a.checksum) (state_in a) };
 }
 
 impl<C: Checksum + Drop> Link<C> {
-    ghost use Rattle.sctp_link.specs.World.{Setup, World, setup_of, start, is_open, message_at, datagram_of};
-    ghost use Rattle.sctp_link.specs.Steps.{Answers, IsRight, refusal_of};
-    ghost use Rattle.sctp_link.specs.History.{History, StandsFor, StandsAfter};
-    ghost use Rattle.sctp_link.specs.declared.event.Event.TheVariants as E;
+    ghost use Rattle.sctp_model.specs.World.{Setup, start};
+    ghost use Rattle.sctp_model.specs.Messages.{is_open};
+    ghost use Rattle.sctp_model.specs.Contents.{Contents, datagram};
+    ghost use Rattle.sctp_model.specs.Steps.{Answers, History, StandsFor, StandsAfter, refusal_of};
+    ghost use Rattle.sctp_model.specs.declared.event.Event.TheVariants as E;
+    ghost use Rattle.sctp_link.specs.Fields.{setup_of};
+    ghost use Rattle.sctp_link.specs.Replies.{IsBuilt, told_in};
+    ghost use Rattle.sctp_link.specs.Texts.{datagram_text};
 
     /// A link with nothing opened yet. It takes no memory.
     pub fn new(
@@ -64,117 +86,114 @@ impl<C: Checksum + Drop> Link<C> {
     {
         Link {
             alloc,
+            checksum,
             first_tsn,
             fragment_size,
             max_message_size,
-            checksum,
-            stream: None,
+            lanes: Vec::new(alloc),
             messages: Vec::new(alloc),
-            arrived: Vec::new(alloc),
-            datagrams: Vec::new(alloc),
-            received: Vec::new(alloc),
-            read: 0,
+            unstarted: 0,
+            slots: Vec::new(alloc),
+            network: Vec::new(alloc),
+            taken: 0,
+            duplicates: Vec::new(alloc),
+            outbound: OutboundQueue::new(alloc),
+            next_tsn: first_tsn,
+            filter: PayloadQueue::new(alloc),
+            cumulative_tsn: first_tsn.wrapping_sub(1),
+            fragments: 0,
+            written: 0,
         }
     }
 
     /// Takes one event.
     pub fn step(&mut self, event: Event) -> Result<Reply, LinkRefusal>
+        requires { IsBuilt event }
         // What is refused, what is answered, and what is recorded.
-        ensures answers { Answers self.old.world event result self.new.world }
+        ensures answers { Answers self.old.world event (told_in result) self.new.world }
         ensures checksum { self.new.checksum ≡ self.old.checksum }
         // So it is for every history that the link stands for: it then stands for the longer one.
         ensures stands { (setup : Setup) (h : History) → StandsFor setup self.old.world h
-            → StandsAfter setup self.new.world event result h }
+            → StandsAfter setup self.new.world event (told_in result) h }
     {
         if let Some(refusal) = self.refusal(&event) {
             return Err(refusal);
         }
         let reply = match event {
-            Event::Open { stream } => Ok(self.open(stream)),
+            Event::Open { stream } => self.open(stream),
+            Event::Mode {
+                stream,
+                unordered,
+                reliability,
+                value,
+            } => Ok(self.mode(stream, unordered, reliability, value)),
             Event::Write { stream, ppi, bytes } => self.write(stream, ppi, bytes),
+            Event::Start { now } => Ok(self.start(now)),
             Event::Send { now } => self.send(now),
+            Event::Resend { tsn } => self.resend(tsn),
+            Event::Ack { credit } => self.ack(credit),
             Event::Arrive { k } => self.arrive(k),
+            Event::Acked { k } => self.acked(k),
             Event::Read { stream } => Ok(self.read(stream)),
+            Event::Expire { now: _now } => unreachable!(),
+            Event::Tail { now: _now } => unreachable!(),
+            Event::Late { now: _now } => unreachable!(),
+            Event::Abandon { tsn: _tsn } => unreachable!(),
+            Event::Skip {
+                upto: _upto,
+                messages: _messages,
+            } => unreachable!(),
         };
         match reply {
             Ok(reply) => Ok(reply),
-            Err(_) => Err(LinkRefusal::OutOfMemory),
+            Err(_e) => Err(LinkRefusal::OutOfMemory),
         }
     }
 
     /// The bytes of datagram k, None where it was not made.
     pub fn datagram(&self, k: u64) -> Option<&Bytes>
-        ensures { MatchOption result (length self.now.world.arrived ≤ k)
-            (λ b. (k < length self.now.world.arrived) × (b.now ≡ datagram_of (C.sum self.now.checksum) self.now.world k)) }
+        ensures { MatchOption result (datagram self.now.world k ≡ None)
+            (λ b. (c : Contents) × (datagram self.now.world k ≡ Some c) × (b.now ≡ datagram_text (C.sum self.now.checksum) c)) }
     {
-        if k >= self.datagrams.len() as u64 {
+        if k >= self.network.len() as u64 {
             return None;
         }
-        Some(&self.datagrams[k as usize])
+        Some(&self.network[k as usize].bytes)
     }
 
     /// The refusal that is due, the first one that holds.
     fn refusal(&self, event: &Event) -> Option<LinkRefusal>
+        requires { IsBuilt event.now }
         ensures { result ≡ refusal_of self.now.world event.now }
     {
         match event {
             Event::Open { stream } => self.refusal_open(*stream),
-            Event::Write { stream, ppi, bytes } => self.refusal_write(*stream, *ppi, bytes.len()),
-            Event::Send { now: _ } => None,
+            Event::Mode { stream, .. } => self.refusal_unless_open(*stream),
+            Event::Write { stream, bytes, .. } => self.refusal_write(*stream, bytes.len()),
+            Event::Resend { tsn } => self.refusal_resend(*tsn),
             Event::Arrive { k } => self.refusal_arrive(*k),
-            Event::Read { stream } => self.refusal_read(*stream),
+            Event::Acked { k } => self.refusal_acked(*k),
+            Event::Read { stream } => self.refusal_unless_open(*stream),
+            _ => None,
         }
     }
 
     fn is_open(&self, stream: u16) -> bool
         ensures { result ≡ is_open self.now.world stream }
     {
-        match self.stream {
-            Some(open) => open == stream,
-            None => false,
-        }
+        lane_at(&self.lanes, stream).is_some()
     }
 
     fn refusal_open(&self, stream: u16) -> Option<LinkRefusal>
         ensures { result ≡ refusal_of self.now.world (E.Open stream) }
     {
-        if self.stream.is_some() {
+        if self.is_open(stream) {
             return Some(LinkRefusal::StreamOpen);
         }
         None
     }
 
-    fn refusal_write(
-        &self,
-        stream: u16,
-        ppi: PayloadProtocolIdentifier,
-        len: usize,
-    ) -> Option<LinkRefusal>
-        ensures { (bytes : List ℕ) → len ≡ length bytes → result ≡ refusal_of self.now.world (E.Write stream ppi bytes) }
-    {
-        if !self.is_open(stream) {
-            return Some(LinkRefusal::StreamUnknown);
-        }
-        if len > self.max_message_size.min(self.fragment_size) as usize {
-            return Some(LinkRefusal::MessageTooLarge);
-        }
-        let fragments = if len == 0 { 0 } else { 1 };
-        if self.messages.len() + fragments >= 0x8000_0000 {
-            return Some(LinkRefusal::TsnsUsedUp);
-        }
-        None
-    }
-
-    fn refusal_arrive(&self, k: u64) -> Option<LinkRefusal>
-        ensures { result ≡ refusal_of self.now.world (E.Arrive k) }
-    {
-        if k >= self.arrived.len() as u64 {
-            return Some(LinkRefusal::NoSuchDatagram);
-        }
-        None
-    }
-
-    fn refusal_read(&self, stream: u16) -> Option<LinkRefusal>
+    fn refusal_unless_open(&self, stream: u16) -> Option<LinkRefusal>
         ensures { result ≡ refusal_of self.now.world (E.Read stream) }
     {
         if !self.is_open(stream) {
@@ -182,133 +201,6 @@ impl<C: Checksum + Drop> Link<C> {
         }
         None
     }
-
-    fn open(&mut self, stream: u16) -> Reply
-        ensures right { IsRight self.old.world (E.Open stream) result self.new.world }
-        ensures checksum { self.new.checksum ≡ self.old.checksum }
-    {
-        self.stream = Some(stream);
-        Reply::Opened
-    }
-
-    fn write(
-        &mut self,
-        stream: u16,
-        ppi: PayloadProtocolIdentifier,
-        bytes: Bytes,
-    ) -> Result<Reply, AllocError>
-        requires { refusal_of self.old.world (E.Write stream ppi bytes) ≡ None }
-        ensures ok { IfOk result (λ reply. IsRight self.old.world (E.Write stream ppi bytes) reply self.new.world) }
-        ensures checksum { self.new.checksum ≡ self.old.checksum }
-        ensures err { OnErr result (self.new.world ≡ self.old.world) }
-    {
-        if bytes.is_empty() {
-            return Ok(Reply::Wrote {
-                number: None,
-                fragments: 0,
-            });
-        }
-        let number = self.messages.len() as u64;
-        self.messages.push(Message { stream, ppi, bytes })?;
-        Ok(Reply::Wrote {
-            number: Some(number),
-            fragments: 1,
-        })
-    }
-
-    fn send(&mut self, now: u64) -> Result<Reply, AllocError>
-        ensures ok { IfOk result (λ reply. IsRight self.old.world (E.Send now) reply self.new.world) }
-        ensures checksum { self.new.checksum ≡ self.old.checksum }
-        ensures err { OnErr result (self.new.world ≡ self.old.world) }
-    {
-        let slot = self.arrived.len();
-        if slot >= self.messages.len() {
-            return Ok(Reply::Idle);
-        }
-        let tsn = self.first_tsn.wrapping_add(slot as u32);
-        let ssn = (slot % 0x1_0000) as u16;
-        let chunk = data_chunk(&self.messages[slot], tsn, ssn)?;
-        let bytes = write_datagram(self.alloc, chunk, &self.checksum)?;
-        self.datagrams.reserve(1)?;
-        self.arrived.push(false)?;
-        put(&mut self.datagrams, bytes);
-        Ok(Reply::Sent {
-            datagram: slot as u64,
-            tsn,
-            ssn,
-        })
-    }
-
-    fn arrive(&mut self, k: u64) -> Result<Reply, AllocError>
-        requires { refusal_of self.old.world (E.Arrive k) ≡ None }
-        ensures ok { IfOk result (λ reply. IsRight self.old.world (E.Arrive k) reply self.new.world) }
-        ensures checksum { self.new.checksum ≡ self.old.checksum }
-        ensures err { OnErr result (self.new.world ≡ self.old.world) }
-    {
-        let (slot, message) = self.receive(k)?;
-        if self.arrived[slot] {
-            return Ok(Reply::Repeat);
-        }
-        hold(&mut self.received, slot, message)?;
-        self.arrived[slot] = true;
-        Ok(Reply::New)
-    }
-
-    /// Reads the bytes of datagram k: the slot of its TSN, and its message.
-    fn receive(&self, k: u64) -> Result<(usize, Message), AllocError>
-        requires { k < length self.now.world.arrived }
-        ensures slot { IfOk result (λ x. x.0 ≡ k) }
-        ensures message { IfOk result (λ x. x.1 ≡ message_at self.now.world k) }
-    {
-        let raw = &self.datagrams[k as usize];
-        let chunk = read_datagram(self.alloc, raw, &self.checksum)?;
-        let slot = chunk.tsn.wrapping_sub(self.first_tsn) as usize;
-        let message = Message {
-            stream: chunk.stream_identifier,
-            ppi: chunk.payload_type,
-            bytes: chunk.user_data,
-        };
-        Ok((slot, message))
-    }
-
-    fn read(&mut self, stream: u16) -> Reply
-        ensures right { IsRight self.old.world (E.Read stream) result self.new.world }
-        ensures checksum { self.new.checksum ≡ self.old.checksum }
-    {
-        let next = self.read as usize;
-        let Some(message) = take_held(&mut self.received, next) else {
-            return Reply::Nothing;
-        };
-        self.read += 1;
-        let Message { stream, ppi, bytes } = message;
-        Reply::Message { stream, ppi, bytes }
-    }
-}
-
-/// The DATA chunk of a message in one fragment.
-fn data_chunk(message: &Message, tsn: u32, ssn: u16) -> Result<ChunkPayloadData, AllocError>
-    ensures { IfOk result (λ c. data_of c ≡ data_with message.now tsn ssn) }
-{
-    Ok(ChunkPayloadData {
-        unordered: false,
-        beginning_fragment: true,
-        ending_fragment: true,
-        immediate_sack: false,
-        tsn,
-        stream_identifier: message.stream,
-        stream_sequence_number: ssn,
-        payload_type: message.ppi,
-        user_data: message.bytes.clone()?,
-        acked: false,
-        miss_indicator: 0,
-        message_id: 0,
-        abandoned: false,
-        since: None,
-        reliability: None,
-        deadline: None,
-        nsent: 0,
-        retransmit: false,
-    })
 }
 
 /// Puts an item where room was made for it.
@@ -317,42 +209,4 @@ fn put<T: Drop>(items: &mut Vec<T>, item: T)
     ensures { items.new.items ≡ items.old.items ++ item ∷ [] }
 {
     let _ = items.push(item);
-}
-
-/// Holds a message at a place. New places before it hold nothing.
-fn hold(
-    received: &mut Vec<Option<Message>>,
-    place: usize,
-    message: Message,
-) -> Result<(), AllocError>
-    ensures held { OnOk result (slice_index_or received.new.items place None ≡ Some message) }
-    ensures others { (k : ℕ) → (k ≡ place → ⊥) → slice_index_or received.new.items k None ≡ slice_index_or received.old.items k None }
-    ensures err { OnErr result ((k : ℕ) → slice_index_or received.new.items k None ≡ slice_index_or received.old.items k None) }
-{
-    make_room(received, place)?;
-    received[place] = Some(message);
-    Ok(())
-}
-
-/// Lets the list reach this place. The new places hold nothing.
-fn make_room(received: &mut Vec<Option<Message>>, place: usize) -> Result<(), AllocError>
-    ensures same { (k : ℕ) → slice_index_or received.new.items k None ≡ slice_index_or received.old.items k None }
-    ensures ok { OnOk result (place < vec_len received.new) }
-{
-    while received.len() <= place {
-        received.push(None)?;
-    }
-    Ok(())
-}
-
-/// Takes what is held at a place.
-fn take_held(received: &mut Vec<Option<Message>>, place: usize) -> Option<Message>
-    ensures value { result ≡ slice_index_or received.old.items place None }
-    ensures gone { slice_index_or received.new.items place None ≡ None }
-    ensures others { (k : ℕ) → (k ≡ place → ⊥) → slice_index_or received.new.items k None ≡ slice_index_or received.old.items k None }
-{
-    if place >= received.len() {
-        return None;
-    }
-    received[place].take()
 }

@@ -1,11 +1,11 @@
 use crate::event::{Event, LinkRefusal, Reply};
 use crate::link::Link;
+use crate::link::lending::Ledger;
+use crate::stream::DataChannelStats;
 use bytes::{Bytes, BytesMut};
-use sctp_base::error::Error;
 use sctp_base::util::Checksum;
-use sctp_chunks::chunk::chunk_kind::ChunkKind;
-use sctp_chunks::chunk::chunk_payload_data::{ChunkPayloadData, PayloadProtocolIdentifier};
-use sctp_packets::packet::{CommonHeader, Packet};
+use sctp_chunks::chunk::chunk_payload_data::{PayloadProtocolIdentifier, ReliabilityType};
+use sctp_queues::chunks::Chunks;
 use std::alloc::Global;
 use std::cell::Cell;
 use std::test::Fail;
@@ -37,49 +37,140 @@ impl Checksum for Counted<'_> {
     }
 }
 
-fn write(alloc: Global, stream: u16, bytes: &[u8]) -> Result<Event, Fail> {
+/// The header of each datagram, under the checksum that is 0.
+const HEADER: [u8; 12] = [0x13, 0x88, 0x13, 0x88, 0, 0, 0, 1, 0, 0, 0, 0];
+
+fn write(alloc: Global, ppi: PayloadProtocolIdentifier, bytes: &[u8]) -> Result<Event, Fail> {
     Ok(Event::Write {
-        stream,
-        ppi: PayloadProtocolIdentifier::Binary,
+        stream: 1,
+        ppi,
         bytes: Bytes::copy_from_slice(alloc, bytes)?,
     })
 }
 
-/// What a reply says, in one word and numbers.
-fn told(alloc: Global, reply: &Result<Reply, LinkRefusal>) -> Result<String, Fail> {
+fn binary(alloc: Global, bytes: &[u8]) -> Result<Event, Fail> {
+    write(alloc, PayloadProtocolIdentifier::Binary, bytes)
+}
+
+/// A link with stream 1 open, to which these were written and sent as far as `sends` datagrams.
+fn sent<C: Checksum + Drop>(
+    alloc: Global,
+    link: &mut Link<C>,
+    writes: &[&[u8]],
+    sends: usize,
+) -> Result<bool, Fail> {
+    let mut well = link.step(Event::Open { stream: 1 }).is_ok();
+    for bytes in writes {
+        well = well && link.step(binary(alloc, bytes)?).is_ok();
+    }
+    for _ in 0..sends {
+        well = well && link.step(Event::Send { now: 0 }).is_ok();
+    }
+    Ok(well)
+}
+
+/// Whether datagram k is the header and these bytes.
+fn carries<C: Checksum + Drop>(link: &Link<C>, k: u64, chunk: &[u8]) -> bool {
+    match link.datagram(k) {
+        Some(bytes) => {
+            let bytes = bytes.as_slice();
+            bytes.len() == 12 + chunk.len()
+                && &bytes[..12] == HEADER.as_slice()
+                && &bytes[12..] == chunk
+        }
+        None => false,
+    }
+}
+
+/// Whether the reply hands out these bytes.
+fn shows(reply: &Result<Reply, LinkRefusal>, want: &[u8]) -> bool {
     match reply {
-        Ok(Reply::Opened) => Ok(format!(in alloc; "opened")?),
-        Ok(Reply::Wrote { number, fragments }) => {
-            Ok(format!(in alloc; "wrote {number:?} {fragments}")?)
-        }
-        Ok(Reply::Sent { datagram, tsn, ssn }) => {
-            Ok(format!(in alloc; "sent {datagram} {tsn} {ssn}")?)
-        }
-        Ok(Reply::Idle) => Ok(format!(in alloc; "idle")?),
-        Ok(Reply::New) => Ok(format!(in alloc; "new")?),
-        Ok(Reply::Repeat) => Ok(format!(in alloc; "repeat")?),
-        Ok(Reply::Message { stream, ppi, bytes }) => {
-            Ok(format!(in alloc; "message {stream} {ppi:?} {:?}", bytes.as_slice())?)
-        }
-        Ok(Reply::Nothing) => Ok(format!(in alloc; "none")?),
-        Err(refusal) => Ok(format!(in alloc; "{refusal:?}")?),
+        Ok(Reply::Message { chunks, .. }) => reads(chunks, want),
+        _ => false,
+    }
+}
+
+fn reads(chunks: &Chunks, want: &[u8]) -> bool {
+    let mut buf = [0u8; 16];
+    match chunks.read(&mut buf) {
+        Ok(len) => len == want.len() && len <= 16 && &buf[..len] == want,
+        Err(_) => false,
+    }
+}
+
+fn is_new(reply: &Result<Reply, LinkRefusal>) -> bool {
+    matches!(reply, Ok(Reply::New))
+}
+
+fn is_nothing(reply: &Result<Reply, LinkRefusal>) -> bool {
+    matches!(reply, Ok(Reply::Nothing))
+}
+
+fn is_refused(reply: &Result<Reply, LinkRefusal>, want: LinkRefusal) -> bool {
+    match reply {
+        Ok(_) => false,
+        Err(refusal) => *refusal == want,
     }
 }
 
 #[test]
-fn empty_write_takes_no_number(rt: HostRuntime) -> Result<(), Fail> {
+fn fragments_of_a_datagram_each(rt: HostRuntime) -> Result<(), Fail> {
     let alloc = rt.alloc();
-    let mut link = Link::new(alloc, 10, 3, 100, Zero);
-    let steps = [
-        (Event::Open { stream: 1 }, "opened"),
-        (write(alloc, 1, b"")?, "wrote None 0"),
-        (write(alloc, 1, b"aaa")?, "wrote Some(0) 1"),
-        (Event::Send { now: 0 }, "sent 0 10 0"),
-        (Event::Send { now: 0 }, "idle"),
+    let mut link = Link::new(alloc, 4294967294, 3, 100, Zero);
+    assert!(rt; sent(alloc, &mut link, &[b"abcdefg"], 3)?);
+    let first = [
+        0u8, 2, 0, 0x13, 0xff, 0xff, 0xff, 0xfe, 0, 1, 0, 0, 0, 0, 0, 0x35, 0x61, 0x62, 0x63, 0,
     ];
-    for (event, want) in steps {
-        assert_eq!(rt; told(alloc, &link.step(event))?.as_str(), want);
-    }
+    let second = [
+        0u8, 0, 0, 0x13, 0xff, 0xff, 0xff, 0xff, 0, 1, 0, 0, 0, 0, 0, 0x35, 0x64, 0x65, 0x66, 0,
+    ];
+    let third = [
+        0u8, 1, 0, 0x11, 0, 0, 0, 0, 0, 1, 0, 0, 0, 0, 0, 0x35, 0x67, 0, 0, 0,
+    ];
+    assert!(rt; carries(&link, 0, &first));
+    assert!(rt; carries(&link, 1, &second));
+    assert!(rt; carries(&link, 2, &third));
+    assert!(rt; link.datagram(3).is_none());
+    assert!(rt; matches!(link.step(Event::Send { now: 0 }), Ok(Reply::Idle)));
+    Ok(())
+}
+
+#[test]
+fn fragments_in_any_order(rt: HostRuntime) -> Result<(), Fail> {
+    let alloc = rt.alloc();
+    let mut link = Link::new(alloc, 4294967294, 3, 100, Zero);
+    assert!(rt; sent(alloc, &mut link, &[b"abcdefg"], 3)?);
+    assert!(rt; is_new(&link.step(Event::Arrive { k: 2 })));
+    assert!(rt; is_new(&link.step(Event::Arrive { k: 0 })));
+    assert!(rt; is_nothing(&link.step(Event::Read { stream: 1 })));
+    assert!(rt;
+        matches!(
+            link.step(Event::Ack { credit: 0 }),
+            Ok(Reply::Ack { datagram: 3 })
+        )
+    );
+    let sack = [
+        3u8, 0, 0, 0x14, 0xff, 0xff, 0xff, 0xfe, 0, 0, 0, 0, 0, 1, 0, 0, 0, 2, 0, 2,
+    ];
+    assert!(rt; carries(&link, 3, &sack));
+    assert!(rt; is_new(&link.step(Event::Arrive { k: 1 })));
+    assert!(rt; shows(&link.step(Event::Read { stream: 1 }), b"abcdefg"));
+    assert!(rt; is_nothing(&link.step(Event::Read { stream: 1 })));
+    Ok(())
+}
+
+#[test]
+fn duplicates_are_reported(rt: HostRuntime) -> Result<(), Fail> {
+    let alloc = rt.alloc();
+    let mut link = Link::new(alloc, 4294967294, 3, 100, Zero);
+    assert!(rt; sent(alloc, &mut link, &[b"abcdefg"], 3)?);
+    assert!(rt; is_new(&link.step(Event::Arrive { k: 0 })));
+    assert!(rt; matches!(link.step(Event::Arrive { k: 0 }), Ok(Reply::Repeat)));
+    assert!(rt; link.step(Event::Ack { credit: 258 }).is_ok());
+    let sack = [
+        3u8, 0, 0, 0x14, 0xff, 0xff, 0xff, 0xfe, 0, 0, 1, 2, 0, 0, 0, 1, 0xff, 0xff, 0xff, 0xfe,
+    ];
+    assert!(rt; carries(&link, 3, &sack));
     Ok(())
 }
 
@@ -87,68 +178,137 @@ fn empty_write_takes_no_number(rt: HostRuntime) -> Result<(), Fail> {
 fn refusals(rt: HostRuntime) -> Result<(), Fail> {
     let alloc = rt.alloc();
     let mut link = Link::new(alloc, 10, 3, 3, Zero);
-    let steps = [
-        (write(alloc, 1, b"aaa")?, "StreamUnknown"),
-        (Event::Read { stream: 1 }, "StreamUnknown"),
-        (Event::Open { stream: 1 }, "opened"),
-        (Event::Open { stream: 1 }, "StreamOpen"),
-        (Event::Open { stream: 2 }, "StreamOpen"),
-        (write(alloc, 1, b"aaaa")?, "MessageTooLarge"),
-        (Event::Arrive { k: 0 }, "NoSuchDatagram"),
-        (write(alloc, 1, b"aaa")?, "wrote Some(0) 1"),
-        (write(alloc, 1, b"bbb")?, "wrote Some(1) 1"),
-        (Event::Send { now: 0 }, "sent 0 10 0"),
-        (Event::Arrive { k: 1 }, "NoSuchDatagram"),
-    ];
-    for (event, want) in steps {
-        assert_eq!(rt; told(alloc, &link.step(event))?.as_str(), want);
-    }
+    assert!(rt;
+        is_refused(
+            &link.step(binary(alloc, b"aaa")?),
+            LinkRefusal::StreamUnknown
+        )
+    );
+    assert!(rt;
+        is_refused(
+            &link.step(Event::Read { stream: 1 }),
+            LinkRefusal::StreamUnknown
+        )
+    );
+    assert!(rt; link.step(Event::Open { stream: 1 }).is_ok());
+    assert!(rt;
+        is_refused(
+            &link.step(Event::Open { stream: 1 }),
+            LinkRefusal::StreamOpen
+        )
+    );
+    assert!(rt;
+        is_refused(
+            &link.step(binary(alloc, b"aaaa")?),
+            LinkRefusal::MessageTooLarge
+        )
+    );
+    assert!(rt;
+        is_refused(
+            &link.step(Event::Arrive { k: 0 }),
+            LinkRefusal::NoSuchDatagram
+        )
+    );
+    assert!(rt;
+        is_refused(
+            &link.step(Event::Resend { tsn: 10 }),
+            LinkRefusal::NotInFlight
+        )
+    );
+    let mode = Event::Mode {
+        stream: 2,
+        unordered: true,
+        reliability: ReliabilityType::Reliable,
+        value: 0,
+    };
+    assert!(rt; is_refused(&link.step(mode), LinkRefusal::StreamUnknown));
     Ok(())
 }
 
 #[test]
-fn any_order_of_arrival(rt: HostRuntime) -> Result<(), Fail> {
-    let alloc = rt.alloc();
-    let mut link = Link::new(alloc, 4294967295, 1, 1, Zero);
-    let steps = [
-        (Event::Open { stream: 7 }, "opened"),
-        (write(alloc, 7, b"a")?, "wrote Some(0) 1"),
-        (write(alloc, 7, b"b")?, "wrote Some(1) 1"),
-        (Event::Send { now: 0 }, "sent 0 4294967295 0"),
-        (Event::Send { now: 0 }, "sent 1 0 1"),
-        (Event::Arrive { k: 1 }, "new"),
-        (Event::Read { stream: 7 }, "none"),
-        (Event::Arrive { k: 0 }, "new"),
-        (Event::Arrive { k: 1 }, "repeat"),
-        (Event::Read { stream: 7 }, "message 7 Binary [97]"),
-        (Event::Read { stream: 7 }, "message 7 Binary [98]"),
-        (Event::Arrive { k: 0 }, "repeat"),
-        (Event::Read { stream: 7 }, "none"),
-    ];
-    for (event, want) in steps {
-        assert_eq!(rt; told(alloc, &link.step(event))?.as_str(), want);
-    }
-    Ok(())
-}
-
-#[test]
-fn bytes_of_a_datagram(rt: HostRuntime) -> Result<(), Fail> {
+fn unordered_messages_go_first(rt: HostRuntime) -> Result<(), Fail> {
     let alloc = rt.alloc();
     let mut link = Link::new(alloc, 10, 3, 100, Zero);
-    for event in [
-        Event::Open { stream: 1 },
-        write(alloc, 1, b"abc")?,
-        Event::Send { now: 0 },
-    ] {
-        assert!(rt; link.step(event).is_ok());
+    assert!(rt; sent(alloc, &mut link, &[b"aaa"], 0)?);
+    let mode = Event::Mode {
+        stream: 1,
+        unordered: true,
+        reliability: ReliabilityType::Reliable,
+        value: 0,
+    };
+    assert!(rt; matches!(link.step(mode), Ok(Reply::Set)));
+    assert!(rt; link.step(binary(alloc, b"bbbccc")?).is_ok());
+    for _ in 0..3 {
+        assert!(rt; link.step(Event::Send { now: 0 }).is_ok());
     }
-    let want = [
-        0x13, 0x88, 0x13, 0x88, 0, 0, 0, 1, 0, 0, 0, 0, 0, 3, 0, 0x13, 0, 0, 0, 0x0a, 0, 1, 0, 0,
-        0, 0, 0, 0x35, 0x61, 0x62, 0x63, 0,
+    let first = [
+        0u8, 6, 0, 0x13, 0, 0, 0, 0x0a, 0, 1, 0, 1, 0, 0, 0, 0x35, 0x62, 0x62, 0x62, 0,
     ];
-    let bytes = link.datagram(0).ok_or("not made")?;
-    assert_eq!(rt; bytes.as_slice(), want.as_slice());
-    assert!(rt; link.datagram(1).is_none());
+    assert!(rt; carries(&link, 0, &first));
+    assert!(rt; is_new(&link.step(Event::Arrive { k: 1 })));
+    assert!(rt; is_new(&link.step(Event::Arrive { k: 0 })));
+    assert!(rt; shows(&link.step(Event::Read { stream: 1 }), b"bbbccc"));
+    assert!(rt; is_nothing(&link.step(Event::Read { stream: 1 })));
+    assert!(rt; is_new(&link.step(Event::Arrive { k: 2 })));
+    assert!(rt; shows(&link.step(Event::Read { stream: 1 }), b"aaa"));
+    Ok(())
+}
+
+#[test]
+fn lent_queues_and_ledger(rt: HostRuntime) -> Result<(), Fail> {
+    let alloc = rt.alloc();
+    let mut link = Link::new(alloc, 10, 3, 100, Zero);
+    assert!(rt; sent(alloc, &mut link, &[b"abcdefg"], 3)?);
+    assert!(rt; is_new(&link.step(Event::Arrive { k: 0 })));
+    assert!(rt; is_new(&link.step(Event::Arrive { k: 2 })));
+    assert_eq!(rt; link.filter().len(), 1);
+    assert_eq!(rt; link.outbound().inflight_len(), 3);
+    let held = match link.reassembly(1) {
+        Some(queue) => queue.get_num_bytes(),
+        None => 0,
+    };
+    assert_eq!(rt; held, 4);
+    assert!(rt; link.reassembly(2).is_none());
+    let in_flight = Ledger {
+        written: 7,
+        pending: 0,
+        in_flight: 7,
+        released: 0,
+    };
+    assert!(rt; link.ledger() == in_flight);
+    assert_eq!(rt; link.buffered_amount(1), Some(7));
+    assert_eq!(rt; link.buffered_amount(2), None);
+    Ok(())
+}
+
+/// Text and binary count with their bytes, the two empty kinds with none, the others not at all.
+#[test]
+fn counters(rt: HostRuntime) -> Result<(), Fail> {
+    let alloc = rt.alloc();
+    let mut link = Link::new(alloc, 10, 3, 100, Zero);
+    assert!(rt; link.step(Event::Open { stream: 1 }).is_ok());
+    for (ppi, bytes) in [
+        (PayloadProtocolIdentifier::StringEmpty, b"\0".as_slice()),
+        (PayloadProtocolIdentifier::String, b"\xc3\xa9".as_slice()),
+        (PayloadProtocolIdentifier::Dcep, b"\x03".as_slice()),
+        (PayloadProtocolIdentifier::Binary, b"".as_slice()),
+    ] {
+        assert!(rt; link.step(write(alloc, ppi, bytes)?).is_ok());
+    }
+    let mut want = DataChannelStats {
+        stream_identifier: 1,
+        generation: 0,
+        messages_sent: 2,
+        bytes_sent: 2,
+        messages_received: 0,
+        bytes_received: 0,
+    };
+    assert!(rt; link.stats(1) == Some(want));
+    assert!(rt; link.step(Event::Send { now: 0 }).is_ok());
+    assert!(rt; is_new(&link.step(Event::Arrive { k: 0 })));
+    assert!(rt; shows(&link.step(Event::Read { stream: 1 }), b"\0"));
+    want.messages_received = 1;
+    assert!(rt; link.stats(1) == Some(want));
     Ok(())
 }
 
@@ -158,66 +318,12 @@ fn arrivals_read_the_bytes(rt: HostRuntime) -> Result<(), Fail> {
     let alloc = rt.alloc();
     let calls = Cell::new(0);
     let mut link = Link::new(alloc, 10, 3, 100, Counted { calls: &calls });
-    for event in [
-        Event::Open { stream: 1 },
-        write(alloc, 1, b"abc")?,
-        Event::Send { now: 0 },
-    ] {
-        assert!(rt; link.step(event).is_ok());
-    }
-    for want in ["new", "repeat", "repeat"] {
+    assert!(rt; sent(alloc, &mut link, &[b"abc"], 1)?);
+    for _ in 0..3 {
         let before = calls.get();
-        let reply = link.step(Event::Arrive { k: 0 });
-        assert_eq!(rt; told(alloc, &reply)?.as_str(), want);
+        assert!(rt; link.step(Event::Arrive { k: 0 }).is_ok());
         assert!(rt; before < calls.get());
     }
-    Ok(())
-}
-
-fn packet(alloc: Global, len: usize) -> Result<Packet, Fail> {
-    let chunk = ChunkPayloadData {
-        unordered: false,
-        beginning_fragment: true,
-        ending_fragment: true,
-        immediate_sack: false,
-        tsn: 10,
-        stream_identifier: 1,
-        stream_sequence_number: 0,
-        payload_type: PayloadProtocolIdentifier::Binary,
-        user_data: BytesMut::zeroed(alloc, len)?.freeze()?,
-        acked: false,
-        miss_indicator: 0,
-        message_id: 0,
-        abandoned: false,
-        since: None,
-        reliability: None,
-        deadline: None,
-        nsent: 0,
-        retransmit: false,
-    };
-    let mut chunks = Vec::new(alloc);
-    chunks.push(ChunkKind::PayloadData(chunk))?;
-    Ok(Packet {
-        common_header: CommonHeader {
-            source_port: 5000,
-            destination_port: 5000,
-            verification_tag: 1,
-        },
-        chunks,
-    })
-}
-
-#[test]
-fn the_longest_chunk(rt: HostRuntime) -> Result<(), Fail> {
-    let alloc = rt.alloc();
-    let bytes = packet(alloc, 65_519)?.marshal(alloc, &Zero)?;
-    assert_eq!(rt; bytes.len(), 12 + 65_536);
-    assert_eq!(rt; &bytes.as_slice()[12..16], [0u8, 3, 0xff, 0xff].as_slice());
-    let mut buf = BytesMut::new(alloc);
-    buf.extend_from_slice(b"abc")?;
-    let long = packet(alloc, 65_520)?.marshal_to(&mut buf, &Zero);
-    assert!(rt; matches!(long, Err(Error::ErrLengthTooLarge)));
-    assert_eq!(rt; buf.as_slice(), b"abc".as_slice());
     Ok(())
 }
 
@@ -226,24 +332,12 @@ fn the_longest_fragment(rt: HostRuntime) -> Result<(), Fail> {
     let alloc = rt.alloc();
     let mut link = Link::new(alloc, 10, 65_519, 4294967295, Zero);
     let long = BytesMut::zeroed(alloc, 65_520)?;
-    let longest = long.as_slice();
-    assert!(rt; link.step(Event::Open { stream: 1 }).is_ok());
-    let refused = link.step(write(alloc, 1, longest)?);
-    assert_eq!(rt; told(alloc, &refused)?.as_str(), "MessageTooLarge");
-    assert_eq!(rt; longest.len(), 65_520);
-    assert!(rt; link.step(write(alloc, 1, &longest[1..])?).is_ok());
-    assert!(rt; link.step(Event::Send { now: 0 }).is_ok());
-    assert!(rt; link.step(Event::Arrive { k: 0 }).is_ok());
-    let Ok(
-        Reply::Message {
-            stream: _,
-            ppi: _,
-            bytes,
-        },
-    ) = link.step(Event::Read { stream: 1 })
-    else {
+    assert!(rt; sent(alloc, &mut link, &[long.as_slice()], 2)?);
+    assert!(rt; is_new(&link.step(Event::Arrive { k: 1 })));
+    assert!(rt; is_new(&link.step(Event::Arrive { k: 0 })));
+    let Ok(Reply::Message { chunks, .. }) = link.step(Event::Read { stream: 1 }) else {
         return Err(Fail::from("not read"));
     };
-    assert_eq!(rt; bytes.len(), 65_519);
+    assert_eq!(rt; chunks.len(), 65_520);
     Ok(())
 }

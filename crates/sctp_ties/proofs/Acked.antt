@@ -20,33 +20,14 @@ use Rattle.sctp_model.specs.Changes.{sack_taken, acknowledged_by}
 use Rattle.sctp_model.specs.Contents.{chunk_at}
 use Rattle.sctp_model.proofs.Shape.{sent}
 use Rattle.sctp_model.proofs.Shapes
-use Rattle.sctp_ties.specs.Tied.{Sending, sending_of, sending_at, sendings_of, unless_gone, selected_of, waiting_of, waiting_where, waits_ordered, waits_unordered, TiedOutbound}
+use Rattle.sctp_ties.specs.Tied.{Sending, sending_by, IsInFlight, sending_of, sending_at, sendings_of, unless_gone, selected_of, waiting_of, waiting_where, waits_ordered, waits_unordered, TiedOutbound}
 use Rattle.sctp_ties.proofs.Waiting
 use Rattle.sctp_ties.proofs.Waiting.{Alike, gathered-same}
 
 -- ## One slot
 
--- the slot at this place in flight, were it acknowledged or not
-abbrev pub sending_by : World → Bool → ℕ → Sending
-sending_by w acked place =
-    record {
-      chunk = record {
-        tsn = tsn_of w place;
-        message = message_of w place;
-        payload = if acked || (message_at w (message_of w place)).abandoned then [] else (chunk_at w place).user_data;
-        acknowledged = acked;
-        abandoned = (message_at w (message_of w place)).abandoned;
-        deadline = deadline_of w (message_of w place);
-      };
-      says = unless_gone (acked || (message_at w (message_of w place)).abandoned) (data_of (chunk_at w place));
-    }
-
 sending-is : (w : World) (p : ℕ) → sending_at w p ≡ sending_by w (slot_at w p).acknowledged p
 sending-is w p = refl
-
--- what the queue in flight has, where these are acknowledged
-abbrev pub IsInFlight : World → (ℕ → Bool) → ℕ → ℕ → List ChunkPayloadData → Type 0
-IsInFlight w acked from count cs = map sending_of cs ≡ map (λ k. sending_by w (acked k) k) (kept always from count)
 
 abbrev gone : Sending → Sending
 gone s = record { chunk = record s.chunk { payload = []; acknowledged = true }; says = None }

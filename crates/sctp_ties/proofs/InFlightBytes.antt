@@ -29,8 +29,8 @@ use Rattle.sctp_model.proofs.Fronts.{mark-abandoned, slot-sent}
 use Rattle.sctp_model.proofs.Acknowledged.{acknowledged_is_reported}
 use Rattle.sctp_model.proofs.Bytes.{balances}
 use Rattle.sctp_ties.specs.Amount.{stream_of_slot, bytes_at, unacked, acknowledged_at, acknowledged_then}
-use Rattle.sctp_ties.specs.Tied.{sending_of, unless_gone, TiedOutbound}
-use Rattle.sctp_ties.proofs.Acked.{sending_by, first_of', rest_of', IsInFlight, in-flight-first}
+use Rattle.sctp_ties.specs.Tied.{sending_by, IsInFlight, sending_of, unless_gone, TiedOutbound}
+use Rattle.sctp_ties.proofs.Acked.{first_of', rest_of', in-flight-first}
 use Rattle.sctp_ties.proofs.KindsRun.{taken-run}
 use Rattle.sctp_ties.proofs.PendingBytes.{pending-bytes}
 use Rattle.sctp_ties.proofs.Unacked.{in-flight-in}

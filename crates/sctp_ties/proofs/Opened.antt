@@ -45,10 +45,10 @@ module _ (setup : Setup) (w : World) (s : ℕ) (g : Sane setup w) (sounds : Soun
   none-on : (k : ℕ) → k < length w.messages → is_ordered_on w s k ≡ false
   none-on k lt = fails (is_ordered_on w s k) (λ e. no-message k lt (Line.on-stream w s k e))
 
-  line : ordered_on w s ≡ []
+  pub line : ordered_on w s ≡ []
   line = kept-none (is_ordered_on w s) 0 (length w.messages) (λ k a b. none-on k (omega arith))
 
-  next : next_of w s ≡ 0
+  pub next : next_of w s ≡ 0
   next =
       ap (λ r. r.named + length (leading (λ n. (message_at w n).read) (drop r.named (ordered_on w s)))) no-record
       ∙ ap (λ l. 0 + length (leading (λ n. (message_at w n).read) (drop 0 l))) line

@@ -1,6 +1,6 @@
 -- What a link's queues hold, against its record.
-use Rattle.std.specs.Prelude.{◌≡◌, ◌<◌, ◌≤◌, ◌-◌, ◌||◌, if◌then◌else◌, ℕ, Bool, ◌&&◌, not, List, length, map, nat_le, is_some, Option, Some, None}
-use Rattle.sctp_lists.specs.Kept.{numbers_from, gathered, first_of}
+use Rattle.std.specs.Prelude.{◌≡◌, ◌<◌, ◌≤◌, ◌-◌, ◌||◌, if◌then◌else◌, ℕ, Bool, ◌&&◌, not, List, [], length, map, nat_le, is_some, Option, Some, None}
+use Rattle.sctp_lists.specs.Kept.{kept, always, numbers_from, gathered, first_of}
 use Rattle.sctp_chunks.specs.declared.chunk.chunk_payload_data.ChunkPayloadData.{ChunkPayloadData}
 use Rattle.sctp_chunks.specs.declared.chunk.chunk_payload_data.ReliabilityType.{ReliabilityType}
 use Rattle.sctp_chunks.specs.declared.chunk.chunk_payload_data.ReliabilityType.TheVariants.{Reliable}
@@ -12,7 +12,7 @@ use Rattle.sctp_queues.specs.Outbound.{Outbound}
 use Rattle.sctp_queues.specs.Reassembly.{ReassemblyState}
 use Rattle.sctp_queues.specs.declared.pending_queue.Selected.{Selected}
 use Rattle.sctp_model.specs.World.{World}
-use Rattle.sctp_model.specs.Messages.{message_at, message_of, stream_at, messages_where, is_half_sent, sent_of, fragment_count, deadline_of}
+use Rattle.sctp_model.specs.Messages.{message_at, message_of, tsn_of, stream_at, messages_where, is_half_sent, sent_of, fragment_count, deadline_of}
 use Rattle.sctp_model.specs.Amounts.{is_given_up}
 use Rattle.sctp_model.specs.Contents.{data_with, chunk_at}
 use Rattle.sctp_model.specs.Queues.{FilterRecord, InFlightChunk, in_flight_at, is_cleared, filter_of, PendingFragment, PendingRecord}
@@ -77,6 +77,27 @@ sending_at w place = record { chunk = in_flight_at w place; says = unless_gone (
 
 abbrev pub sendings_of : World → List Sending
 sendings_of w = map (sending_at w) (numbers_from w.taken (length w.slots - w.taken))
+
+-- ## While acknowledgements are taken
+
+-- the slot at this place in flight, were it acknowledged or not
+abbrev pub sending_by : World → Bool → ℕ → Sending
+sending_by w acked place =
+    record {
+      chunk = record {
+        tsn = tsn_of w place;
+        message = message_of w place;
+        payload = if acked || (message_at w (message_of w place)).abandoned then [] else (chunk_at w place).user_data;
+        acknowledged = acked;
+        abandoned = (message_at w (message_of w place)).abandoned;
+        deadline = deadline_of w (message_of w place);
+      };
+      says = unless_gone (acked || (message_at w (message_of w place)).abandoned) (data_of (chunk_at w place));
+    }
+
+-- what the queue in flight has, where these are acknowledged
+abbrev pub IsInFlight : World → (ℕ → Bool) → ℕ → ℕ → List ChunkPayloadData → Type 0
+IsInFlight w acked from count cs = map sending_of cs ≡ map (λ k. sending_by w (acked k) k) (kept always from count)
 
 -- the outbound queue: the number of the next message, and from which on lifetimes have not started
 pub record TiedOutbound (w : World) (q : Outbound) : Type 0 where

@@ -1,25 +1,27 @@
-use Rattle.std.proofs.Common.{◌≡◌, ◌∷◌, [], ap, sym, ◌∙◌, arith}
+use Rattle.std.proofs.Common.{◌≡◌, ◌∷◌, [], ap, sym, subst, ◌∙◌, arith}
 use Rattle.std.specs.Prelude.{map}
+use Rattle.std.specs.List.{AllByRecursion}
+use Rattle.std.proofs.lemmas.Result.{err_from_is_err_and}
 use Rattle.std.proofs.lemmas.List.{nil_from_length}
-use Rattle.sctp_chunks.specs.Wire.{data_chunk}
-use Rattle.sctp_chunks.specs.Kind.{wire_of}
-use Rattle.sctp_link.specs.World.{packet_of}
-use Rattle.sctp_link.proofs.Packets.{some_kind, last_kind, same_data}
+use Rattle.sctp_chunks.specs.Kind.{wire_of, IsFreshKind}
+use Rattle.sctp_link.specs.Texts.{packet_with}
+use Rattle.sctp_link.proofs.Packets.{some_kind, last_kind, all_last}
 use Rattle.sctp_link.proofs.datagram.read_datagram.Goals as goal
 
-pub want_of_memory-requires : goal.want_of_memory-requires
-want_of_memory-requires g c = c.in-Err.ensures.only (packet_of c.requires.0) c.requires.1
+pub returns-in_err-packet-clause-memory : goal.returns-in_err-packet-clause-memory
+returns-in_err-packet-clause-memory g c =
+    let only = c.in_err-packet.ensures.only (packet_with (c.requires.0 ∷ [])) c.requires.1 in
+    let p = err_from_is_err_and c.from_residual.result c.from_residual.ensures.1 in
+    rw (p.1, p.2) only
 
 pub unreachable-requires : goal.unreachable-requires
 unreachable-requires g c =
-    some_kind c.in-Ok.packet.chunks.items (data_chunk c.requires.0) (nil_from_length c.in-Ok.packet.chunks.items (omega (arith, c.in_default.ensures.cases.0))) (ap (λ p. p.chunks) (c.in-Ok.ensures.only (packet_of c.requires.0) c.requires.1))
+    some_kind c.in_ok-packet.packet.chunks.items c.requires.0 (nil_from_length c.in_ok-packet.packet.chunks.items (omega (arith, c.in_default.ensures.cases.0))) (ap (λ p. p.chunks) (c.in_ok-packet.ensures.only (packet_with (c.requires.0 ∷ [])) c.requires.1))
 
-pub into_data-requires : goal.into_data-requires
-into_data-requires g c =
-    let one : map wire_of c.in-Ok.packet.chunks.items ≡ data_chunk c.requires.0 ∷ [] = ap (λ p. p.chunks) (c.in-Ok.ensures.only (packet_of c.requires.0) c.requires.1) in
-    (c.requires.0, last_kind c.pop.new.self.items c.in-Some.kind (data_chunk c.requires.0) (ap (map wire_of) (sym c.in-Some.ensures.items) ∙ one))
+pub returns-clause-chunk : goal.returns-clause-chunk
+returns-clause-chunk g c = λ w reads.
+    let one : map wire_of c.in_ok-packet.packet.chunks.items ≡ w ∷ [] = ap (λ p. p.chunks) (c.in_ok-packet.ensures.only (packet_with (w ∷ [])) reads) in
+    last_kind c.pop.new.self.items c.in-Some.kind w (ap (map wire_of) (sym c.in-Some.ensures.items) ∙ one)
 
-pub returns : goal.returns
-returns g c = λ d reads.
-    let one : map wire_of c.in-Ok.packet.chunks.items ≡ data_chunk d ∷ [] = ap (λ p. p.chunks) (c.in-Ok.ensures.only (packet_of d) reads) in
-    same_data c.into_data.result d (sym c.into_data.ensures ∙ last_kind c.pop.new.self.items c.in-Some.kind (data_chunk d) (ap (map wire_of) (sym c.in-Some.ensures.items) ∙ one))
+pub returns-clause-fresh : goal.returns-clause-fresh
+returns-clause-fresh g c = all_last IsFreshKind c.pop.new.self.items c.in-Some.kind (subst (AllByRecursion IsFreshKind) c.in-Some.ensures.items c.in_ok-packet.ensures.fresh)

@@ -1,16 +1,26 @@
-use Rattle.std.proofs.Common.{ap, arith, ◌<◌, length}
-use Rattle.sctp_link.specs.Fields.{world_in}
-use Rattle.sctp_link.proofs.Links.{reads_at, slot_of-tsn}
+use Rattle.std.proofs.Common.{◌≡◌, [], ◌∷◌, Some, refl}
+use Rattle.std.specs.Prelude.{slice_get}
+use Rattle.sctp_chunks.specs.PayloadData.{data_of}
+use Rattle.sctp_model.specs.World.{Data}
+use Rattle.sctp_model.specs.Contents.{chunk_at}
+use Rattle.sctp_link.specs.Fields.{world_in, state_in}
+use Rattle.sctp_link.proofs.Comes.{says-data}
+use Rattle.sctp_link.proofs.Hears.{come-made}
 use Rattle.sctp_link.proofs.link.Link.receive.Goals as goal
 
-pub returns-clause-slot : goal.returns-clause-slot
-returns-clause-slot g c =
-    let made : c.args.k < length c.self.inside.arrived.items = rw (← c.self.view_is) at c.requires in
-    let chunk = c.in_ok-chunk.ensures _ (reads_at (g.C.Checksum.sum c.self.inside.checksum) (world_in c.self.inside) c.args.k c.self.inside.datagrams.items c.index-raw.result.now (λ d. c.self.invariant.texts c.args.k d made) c.index-raw.ensures) in
-    slot_of-tsn (world_in c.self.inside) c.args.k c.in_ok-chunk.chunk.tsn (omega arith) (omega (arith, made, c.self.invariant.slots, c.self.invariant.few)) (ap (λ d. d.tsn) chunk)
+pub read_data-requires : goal.read_data-requires
+read_data-requires g c =
+    let w = world_in c.self.inside in
+    let e : slice_get w.network c.args.k ≡ Some (Data (c.in-Some.place ∷ [])) = rw (← c.self.view_is) at c.in-Some.ensures in
+    (data_of (chunk_at w c.in-Some.place), says-data (g.C.Checksum.sum c.self.inside.checksum) (state_in c.self.inside) c.args.k c.in-Some.place c.self.inside.network.items c.index.result.now c.self.invariant refl refl e c.index.ensures)
 
-pub returns-clause-message : goal.returns-clause-message
-returns-clause-message g c =
-    let made : c.args.k < length c.self.inside.arrived.items = rw (← c.self.view_is) at c.requires in
-    let chunk = c.in_ok-chunk.ensures _ (reads_at (g.C.Checksum.sum c.self.inside.checksum) (world_in c.self.inside) c.args.k c.self.inside.datagrams.items c.index-raw.result.now (λ d. c.self.invariant.texts c.args.k d made) c.index-raw.ensures) in
-    rw (← c.self.view_is) (ap (λ d. record { stream = d.stream_identifier; ppi = d.payload_type; bytes = d.user_data }) chunk)
+pub returns-clause-chunk : goal.returns-clause-chunk
+returns-clause-chunk g c =
+    let w = world_in c.self.inside in
+    let e : slice_get w.network c.args.k ≡ Some (Data (c.in-Some.place ∷ [])) = rw (← c.self.view_is) at c.in-Some.ensures in
+    rw (← c.self.view_is) (c.in_ok-chunk.ensures.chunk (data_of (chunk_at w c.in-Some.place)) (says-data (g.C.Checksum.sum c.self.inside.checksum) (state_in c.self.inside) c.args.k c.in-Some.place c.self.inside.network.items c.index.result.now c.self.invariant refl refl e c.index.ensures))
+
+pub returns-clause-made : goal.returns-clause-made
+returns-clause-made g c =
+    let e : slice_get (world_in c.self.inside).network c.args.k ≡ Some (Data (c.in-Some.place ∷ [])) = rw (← c.self.view_is) at c.in-Some.ensures in
+    rw (← c.self.view_is) (come-made (g.C.Checksum.sum c.self.inside.checksum) (state_in c.self.inside) c.self.invariant c.args.k c.in-Some.place e)

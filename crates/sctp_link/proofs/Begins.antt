@@ -1,0 +1,82 @@
+-- A link with nothing opened yet.
+use Rattle.std.proofs.Common.{◌≡◌, ℕ, ◌+◌, ◌-◌, ◌<◌, ◌≤◌, ◌%◌, ◌^◌, List, [], map, None, refl, ap, arith}
+use Rattle.sctp_queues.specs.Outbound.{Outbound}
+use Rattle.sctp_queues.specs.Payload.{Payload}
+use Rattle.sctp_ties.specs.Tied.{filter_held}
+use Rattle.sctp_link.specs.declared.lane.Lane.{Lane}
+use Rattle.sctp_link.specs.declared.record.Message.{Message}
+use Rattle.sctp_link.specs.declared.record.Slot.{Slot}
+use Rattle.sctp_link.specs.declared.record.Datagram.{Datagram}
+use Rattle.sctp_link.specs.Fields.{setup_of}
+use Rattle.sctp_link.specs.Linked.{State, IsLinked}
+use Rattle.sctp_link.specs.Records.{stream_record, message_record, slot_record, datagram_record}
+
+-- queues that nothing was pushed to
+abbrev pub no_outbound : Outbound
+no_outbound =
+    record {
+      pending = record { ordered = []; unordered = []; selected = None; ordered_room = 0; unordered_room = 0 };
+      inflight = record { chunks = []; duplicates = []; room = 0 };
+      next_message_id = 0;
+      next_unstarted = 0;
+    }
+
+abbrev pub no_payload : Payload
+no_payload = record { chunks = []; duplicates = []; room = 0 }
+
+abbrev pub start_state : ℕ → ℕ → ℕ → List Lane → List Message → List Slot → List Datagram → List ℕ → Outbound → Payload → State
+start_state first size largest lanes messages slots network duplicates outbound filter =
+    record {
+      world = record {
+        setup = setup_of first size largest;
+        streams = map stream_record lanes;
+        messages = map message_record messages;
+        slots = map slot_record slots;
+        network = map datagram_record network;
+        skipped = 0;
+        taken = 0;
+        duplicates = duplicates;
+      };
+      lanes = lanes;
+      sents = map (λ m. m.sent) messages;
+      unstarted = 0;
+      datagrams = map (λ d. d.bytes) network;
+      outbound = outbound;
+      next_tsn = first;
+      cumulative_tsn = (first + (2 ^ 32 - 1)) % 2 ^ 32;
+      filter = filter;
+      fragments = 0;
+      written = 0;
+    }
+
+linked-start : (sum : List ℕ → ℕ) (first size largest : ℕ) → first < 2 ^ 32 → 0 < size → size ≤ 65519 → IsLinked sum (start_state first size largest [] [] [] [] [] no_outbound no_payload)
+linked-start sum first size largest fits some short = record {
+  setup = record { first = fits; some = some; size = short };
+  one_each = refl;
+  history = [];
+  stands = record { is = refl; run = tt };
+  outbound = record {
+    pending = record { ordered = refl; unordered = refl; selected = refl };
+    in_flight = refl;
+    next = refl;
+    unstarted = λ n lt. absurd (omega (arith, lt));
+    started = omega arith;
+    begun = λ p lt. absurd (omega (arith, lt));
+  };
+  unstarted = refl;
+  filter = let same : first + (2 ^ 32 - 1) ≡ first + (2 ^ 32 - 1) + 0 = omega arith in ap (λ t. filter_held (t % 2 ^ 32) no_payload) same;
+  next = omega (arith, fits);
+  fragments = refl;
+  written = refl;
+  sents = λ n lt. absurd (omega (arith, lt));
+  befores = λ n lt. absurd (omega (arith, lt));
+  lanes = λ k d lt. absurd (omega (arith, lt));
+  first = λ k d lt. absurd (omega (arith, lt));
+  texts = λ k d g e. cc;
+}
+
+pub linked-new : (sum : List ℕ → ℕ) (first size largest : ℕ) (lanes : List Lane) (messages : List Message) (slots : List Slot) (network : List Datagram) (duplicates : List ℕ) (outbound : Outbound) (filter : Payload)
+    → first < 2 ^ 32 → 0 < size → size ≤ 65519
+    → lanes ≡ [] → messages ≡ [] → slots ≡ [] → network ≡ [] → duplicates ≡ [] → outbound ≡ no_outbound → filter ≡ no_payload
+    → IsLinked sum (start_state first size largest lanes messages slots network duplicates outbound filter)
+linked-new sum first size largest lanes messages slots network duplicates outbound filter fits some short a b c d e q f = rw (a, b, c, d, e, q, f) (linked-start sum first size largest fits some short)

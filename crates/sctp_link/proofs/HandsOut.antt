@@ -1,0 +1,329 @@
+-- What a read makes of a link.
+use Rattle.std.proofs.Common.{◌≡◌, ℕ, zero, suc, ◌+◌, ◌-◌, ◌<◌, ◌≤◌, Bool, true, false, List, [], ◌∷◌, length, map, drop, Some, None, refl, ap, sym, ◌∙◌, inl, inr, arith}
+use Rattle.std.specs.Prelude.{◌⊎◌, ◌==◌, ◌&&◌, is_some, if◌then◌else◌, find, unwrap_or, slice_index_or, slice_set, Option, option_map}
+use Rattle.std.specs.List.{list_any}
+use Rattle.std.proofs.Math.Path.{subst}
+use Rattle.std.proofs.lemmas.List.{length-set}
+use Rattle.sctp_lists.specs.Lists.{changed}
+use Rattle.sctp_lists.proofs.Cases.{same-yes, same-is, or-left}
+use Rattle.sctp_lists.proofs.KeptLemmas.{front-kept, FrontOf, length-kept-le}
+use Rattle.sctp_chunks.specs.ChunkSet.{ChunkSet}
+use Rattle.sctp_chunks.specs.declared.chunk.chunk_payload_data.PayloadProtocolIdentifier.{PayloadProtocolIdentifier}
+use Rattle.sctp_chunks.specs.declared.chunk.chunk_payload_data.PayloadProtocolIdentifier.TheVariants.{Dcep, String, Binary, StringEmpty, BinaryEmpty, Unknown}
+use Rattle.sctp_queues.specs.Reassembly.{message_read, rest_read, state_read, at_start}
+use Rattle.sctp_queues.specs.declared.chunks.Chunks.{Chunks}
+use Rattle.sctp_model.specs.declared.event.Event.TheVariants as E
+use Rattle.sctp_model.specs.declared.event.LinkRefusal.TheVariants.{StreamUnknown}
+use Rattle.sctp_model.specs.World.{World, StreamRecord}
+use Rattle.sctp_model.specs.World as W
+use Rattle.sctp_model.specs.Messages.{message_at, stream_at, stream_of, index_of, is_unordered_on, is_ordered_on, no_stream}
+use Rattle.sctp_model.specs.Receiver.{is_held, held_on, next_of, next_read}
+use Rattle.sctp_model.specs.Changes.{read_of, read_from, stream_changed, message_changed, mark_read, without_first}
+use Rattle.sctp_model.specs.Queues.{filter_of, set_of, whole_set_of, handed_out}
+use Rattle.sctp_model.specs.Reply as R
+use Rattle.sctp_model.specs.Steps.{refusal_of, reply_to, after, read_reply, unless}
+use Rattle.sctp_model.proofs.Network
+use Rattle.sctp_ties.specs.Holds.{reassembly_of}
+use Rattle.sctp_ties.specs.Counts.{counters_on, received_more, counted_as}
+use Rattle.sctp_ties.proofs.Line
+use Rattle.sctp_ties.proofs.NextRead
+use Rattle.sctp_ties.proofs.QuietSender
+use Rattle.sctp_ties.proofs.ReadOne
+use Rattle.sctp_ties.proofs.ReadOne.{ReadsWhole, ReadsOrdered}
+use Rattle.sctp_ties.proofs.Span.{IsSpan}
+use Rattle.sctp_ties.proofs.SpanEnds.{Begins, set-begins, whole-begins}
+use Rattle.sctp_ties.proofs.StreamCounters.{counters-read, counters-nothing}
+use Rattle.sctp_ties.proofs.Unordered.{unordered-of}
+use Rattle.sctp_link.specs.declared.lane.Lane.{Lane}
+use Rattle.sctp_link.specs.declared.record.Message.{Message}
+use Rattle.sctp_link.specs.declared.stream.StreamState.{StreamState}
+use Rattle.sctp_link.specs.Lanes.{with_read_stats}
+use Rattle.sctp_link.specs.Linked.{State, IsLinked, IsLane, has_number, stats_of}
+use Rattle.sctp_link.specs.Records.{message_record, stream_record}
+use Rattle.sctp_link.specs.Stats.{counted_bytes, with_received}
+use Rattle.sctp_link.proofs.Apart.{IsApart, ids, apart, apart-set, find-apart, differ, each-set, map-set_same, streams-set}
+use Rattle.sctp_link.proofs.Facts.{facts, over}
+use Rattle.sctp_link.proofs.LanesAfter.{lane-then, linked-then}
+use Rattle.sctp_link.proofs.Lookups.{found-number, some-open, none-open}
+
+-- set twice
+pub set-set : {A : Type 0} (xs : List A) (i : ℕ) (a b : A) → slice_set (slice_set xs i a) i b ≡ slice_set xs i b
+set-set [] i a b = refl
+set-set (x ∷ xs) zero a b = refl
+set-set (x ∷ xs) (suc i) a b = ap (λ ys. x ∷ ys) (set-set xs i a b)
+
+-- a message read, counted as the record counts it
+counted-read : (ppi : PayloadProtocolIdentifier) (len : ℕ) (w : World) (t : ℕ) → with_received (counted_bytes ppi len) (stats_of (counters_on w t)) ≡ stats_of (received_more (counted_as ppi len) (counters_on w t))
+counted-read Dcep len w t = refl
+counted-read String len w t = refl
+counted-read Binary len w t = refl
+counted-read StringEmpty len w t = refl
+counted-read BinaryEmpty len w t = refl
+counted-read Unknown len w t = refl
+
+filter-read : (w : World) (s : ℕ) (o : Option ℕ) → filter_of (read_of w s o) ≡ filter_of w
+filter-read w s None = refl
+filter-read w s (Some n) = refl
+
+front-held : (w : World) (s : ℕ) (l : List ℕ) (k : ℕ) (rest : List ℕ) → FrontOf (is_held w s) 0 (length w.messages) l → l ≡ k ∷ rest → is_held w s k ≡ true
+front-held w s [] k rest f e = cc
+front-held w s (j ∷ r) k rest f e = let z : j ≡ k = cc in ap (is_held w s) (sym z) ∙ f.passes
+
+-- what is read, by its kind
+pub record HandsOut (w : World) (s n : ℕ) : Type 0 where
+  pub begins : Begins w n (handed_out w n).chunks
+  pub made : n < length w.messages
+  pub stream : (message_at w n).stream ≡ s
+  pub next : next_of (read_from w s) s ≡ (if (message_at w n).ordered && (index_of w n == next_of w s) then index_of w n + 1 else next_of w s)
+  pub other : (t : ℕ) → (t ≡ s → ⊥) → next_of (read_from w s) t ≡ next_of w t
+  pub whole : (if (message_at w n).ordered then (stream_of w s).whole else drop 1 (stream_of w s).whole) ≡ drop 1 (stream_of w s).whole
+
+module _ (sum : List ℕ → ℕ) (x : State) (l : IsLinked sum x) (s at : ℕ) (d : Lane) (lanes_are : x.world.streams ≡ map stream_record x.lanes) (lt : at < length x.lanes) (found : (d : Lane) → find (has_number s) x.lanes ≡ Some (slice_index_or x.lanes at d)) where
+  abbrev w : World
+  w = x.world
+
+  abbrev v : World
+  v = after x.world (E.Read s)
+
+  abbrev y : Lane
+  y = slice_index_or x.lanes at d
+
+  abbrev r : StreamRecord
+  r = stream_record (slice_index_or x.lanes at d)
+
+  open' : stream_at w s ≡ Some r
+  open' = some-open w s x.lanes y lanes_are (found d)
+
+  none : refusal_of w (E.Read s) ≡ None
+  none = ap (λ o. unless (is_some o) StreamUnknown None) open'
+
+  frame : Network.Same w v
+  frame = Network.same-read w s (next_read w s)
+
+  quiet : QuietSender.SameToSender w v
+  quiet = QuietSender.same-read w s (next_read w s)
+
+  id-at : (c : Lane) → (slice_index_or x.lanes at c).state.stream_identifier ≡ s
+  id-at c = found-number s x.lanes (slice_index_or x.lanes at c) (found c)
+
+  here : y.state.reassembly_queue.held ≡ reassembly_of w s
+  here = (l.lanes at d lt).held ∙ ap (reassembly_of w) (id-at d)
+
+  span : IsSpan w s []
+  span = (facts sum x l).span s r open'
+
+  whole-are : (stream_of w s).whole ≡ y.whole.items
+  whole-are = ap (λ o. (unwrap_or o (no_stream s)).whole) open'
+
+  rest : rest_read y.state.reassembly_queue.held ≡ reassembly_of v s
+  rest = let f = facts sum x l in ap rest_read here ∙ NextRead.rest-is w s r f.sounds.plain f.sounds.whole span open'
+
+  streams-apart : IsApart (ids x.lanes)
+  streams-apart = apart sum x l lanes_are
+
+  filter-stays : filter_of v ≡ filter_of w
+  filter-stays = filter-read w s (next_read w s)
+
+  -- the lane of the stream, and the others
+  lane-read : (z : Lane) → z.state.stream_identifier ≡ y.state.stream_identifier → z.state.reassembly_queue ≡ state_read y.state.reassembly_queue → z.state.max_payload_size ≡ y.state.max_payload_size → z.state.sequence_number ≡ y.state.sequence_number → z.state.buffered_amount ≡ y.state.buffered_amount → z.ordered ≡ y.ordered → z.next ≡ next_of v s → z.state.stats ≡ stats_of (counters_on v s) → IsLane v z
+  lane-read z id queue size number bytes ordered next stats =
+      lane-then sum x l (E.Read s) none frame refl y z (l.lanes at d lt) id (ap (λ q. q.held) queue ∙ rest ∙ ap (reassembly_of v) (sym (id-at d))) (ap (λ q. q.si) queue) (ap (λ q. q.max_message_size) queue) size ordered number
+      (next ∙ ap (next_of v) (sym (id-at d))) bytes (stats ∙ ap (λ t. stats_of (counters_on v t)) (sym (id-at d)))
+
+  each-read : (z : Lane) → IsLane v z → ((t : ℕ) → (t ≡ s → ⊥) → next_of v t ≡ next_of w t) → ((t : ℕ) → (t ≡ s → ⊥) → counters_on v t ≡ counters_on w t) → (j : ℕ) (c : Lane) → j < length (slice_set x.lanes at z) → IsLane v (slice_index_or (slice_set x.lanes at z) j c)
+  each-read z new next counters j c less =
+      let inside : j < length x.lanes = omega (arith, less, length-set x.lanes at z) in
+      each-set (IsLane v) x.lanes at j z c lt new (λ ne. other inside ne)
+    where
+      other : j < length x.lanes → (j ≡ at → ⊥) → IsLane v (slice_index_or x.lanes j c)
+      other inside ne =
+          let f = facts sum x l in
+          let i = l.lanes j c inside in
+          let t = slice_index_or x.lanes j c in
+          let off : t.state.stream_identifier ≡ s → ⊥ = λ h. differ x.lanes j at c streams-apart inside lt ne (h ∙ sym (id-at c)) in
+          lane-then sum x l (E.Read s) none frame refl t t i refl (i.held ∙ sym (NextRead.read-others w s r f.sounds.plain f.sounds.whole span open' t.state.stream_identifier off)) refl refl refl refl refl
+          (i.next ∙ sym (next t.state.stream_identifier off)) refl (i.stats ∙ ap stats_of (sym (counters t.state.stream_identifier off)))
+
+  -- ## Nothing to read
+
+  module _ (e : message_read (slice_index_or x.lanes at d).state.reassembly_queue.held ≡ None) where
+    nothing : next_read w s ≡ None
+    nothing = let f = facts sum x l in ReadOne.none-due w s r f.sounds.plain f.sounds.whole span open' (ap message_read (sym here) ∙ e)
+
+    still : v ≡ w
+    still = ReadOne.nothing-read w s nothing
+
+    pub reply-nothing : R.Nothing ≡ reply_to w (E.Read s)
+    reply-nothing = sym (ap (read_reply w) nothing)
+
+    abbrev z : Lane
+    z = record (slice_index_or x.lanes at d) { state = record (slice_index_or x.lanes at d).state { reassembly_queue = state_read (slice_index_or x.lanes at d).state.reassembly_queue } }
+
+    world-same : record w { streams = map stream_record (slice_set x.lanes at z) } ≡ v
+    world-same = ap {B = World} (λ rs. record w { streams = rs }) (map-set_same stream_record x.lanes at z d refl ∙ sym lanes_are) ∙ sym still
+
+    linked-same : IsLinked sum (record x { world = record w { streams = map stream_record (slice_set x.lanes at z) }; lanes = slice_set x.lanes at z })
+    linked-same =
+        let i = l.lanes at d lt in
+        linked-then sum x l (E.Read s) none frame x.sents (slice_set x.lanes at z) x.cumulative_tsn x.filter (record w { streams = map stream_record (slice_set x.lanes at z) }) refl (l.filter ∙ sym filter-stays)
+        (each-read z (lane-read z refl refl refl refl refl refl (i.next ∙ ap (next_of w) (id-at d) ∙ ap (λ u. next_of u s) (sym still)) (i.stats ∙ ap (λ t. stats_of (counters_on w t)) (id-at d) ∙ ap stats_of (sym (counters-nothing w s s nothing))))
+        (λ t ne. ap (λ u. next_of u t) still) (λ t ne. counters-nothing w s t nothing))
+        (λ j c less. find-apart (slice_set x.lanes at z) j c (apart-set x.lanes at z d streams-apart refl) less)
+        quiet world-same
+
+    module _ (u : Lane) (is : u ≡ record (slice_index_or x.lanes at d) { state = record (slice_index_or x.lanes at d).state { reassembly_queue = state_read (slice_index_or x.lanes at d).state.reassembly_queue } }) where
+      pub world-nothing : record w { streams = map stream_record (slice_set x.lanes at u) } ≡ v
+      world-nothing = ap {B = World} (λ (t : Lane). record w { streams = map stream_record (slice_set x.lanes at t) }) is ∙ world-same
+
+      pub linked-nothing : IsLinked sum (record x { world = record w { streams = map stream_record (slice_set x.lanes at u) }; lanes = slice_set x.lanes at u })
+      linked-nothing = subst (λ (t : Lane). IsLinked sum (record x { world = record w { streams = map stream_record (slice_set x.lanes at t) }; lanes = slice_set x.lanes at t })) (sym is) linked-same
+
+  -- ## A message is read
+
+  hands-whole : (n : ℕ) → ReadsWhole w s n → HandsOut w s n
+  hands-whole n o =
+      let f = facts sum x l in
+      let kind = o.unordered in
+      let any : list_any (λ k. k == n) (stream_of w s).whole ≡ true = ap (list_any (λ k. k == n)) o.whole ∙ or-left (n == n) (list_any (λ k. k == n) o.rest) (same-yes n) in
+      let on = f.sounds.whole.whole_on s n any in
+      record {
+        begins = subst (λ (c : ChunkSet). Begins w n c.chunks) (sym (ap (λ b. if b then set_of w n else whole_set_of w n) kind)) (whole-begins w s n f.sounds f.setup.first any);
+        made = on.1;
+        stream = (unordered-of w s n on.0).0;
+        next = o.next s ∙ sym (ap (λ b. if b && (index_of w n == next_of w s) then index_of w n + 1 else next_of w s) kind);
+        other = λ t ne. o.next t;
+        whole = ap (λ b. if b then (stream_of w s).whole else drop 1 (stream_of w s).whole) kind;
+      }
+
+  hands-ordered : (n : ℕ) → ReadsOrdered w s n → HandsOut w s n
+  hands-ordered n o =
+      let f = facts sum x l in
+      let kind = Line.on-ordered w s n o.due.on in
+      let held = front-held w s (held_on w s) n o.rest (front-kept (is_held w s) 0 (length w.messages)) o.front in
+      record {
+        begins = subst (λ (c : ChunkSet). Begins w n c.chunks) (sym (ap (λ b. if b then set_of w n else whole_set_of w n) kind)) (set-begins w s n f.sounds.plain f.setup.first held);
+        made = Line.on-made w s n o.due.on;
+        stream = Line.on-stream w s n o.due.on;
+        next = o.here ∙ step (index_of w n == next_of w s) refl ∙ sym (ap (λ b. if b && (index_of w n == next_of w s) then index_of w n + 1 else next_of w s) kind);
+        other = o.other;
+        whole = ap (λ b. if b then (stream_of w s).whole else drop 1 (stream_of w s).whole) kind ∙ o.none ∙ sym (ap (drop 1) o.none);
+      }
+    where
+      step : (b : Bool) → (index_of w n == next_of w s) ≡ b → (if b then next_of w s + 1 else next_of w s) ≡ (if b then index_of w n + 1 else next_of w s)
+      step true h = ap (λ k. k + 1) (sym (same-is (index_of w n) (next_of w s) h))
+      step false h = refl
+
+  module _ (set : ChunkSet) (e : message_read (slice_index_or x.lanes at d).state.reassembly_queue.held ≡ Some set) where
+    pub read-is : (n : ℕ) × (next_read w s ≡ Some n) × (set ≡ handed_out w n)
+    read-is = let f = facts sum x l in ReadOne.some-read w s r f.sounds.plain f.sounds.whole span open' set (ap message_read (sym here) ∙ e)
+
+    abbrev n : ℕ
+    n = read-is.0
+
+    pub hands : HandsOut w s read-is.0
+    hands = let f = facts sum x l in by (ReadOne.reads-one w s r f.sounds.plain f.sounds.whole span open' read-is.0 read-is.1)
+      where
+        by : ReadsWhole w s read-is.0 ⊎ ReadsOrdered w s read-is.0 → HandsOut w s read-is.0
+        by (inl o) = hands-whole read-is.0 o
+        by (inr o) = hands-ordered read-is.0 o
+
+    pub hands-begins : Begins w read-is.0 set.chunks
+    hands-begins = subst (λ (c : ChunkSet). Begins w read-is.0 c.chunks) (sym read-is.2) hands.begins
+
+    pub low : (message_at w read-is.0).before < length w.messages
+    low = omega (arith, l.befores read-is.0 hands.made, length-kept-le (is_ordered_on w (message_at w read-is.0).stream) 0 read-is.0, hands.made)
+
+    pub reply-read : R.Message s (message_at w read-is.0).ppi set ≡ reply_to w (E.Read s)
+    reply-read = ap (λ c. R.Message s (message_at w read-is.0).ppi c) read-is.2 ∙ ap (λ t. R.Message t (message_at w read-is.0).ppi (handed_out w read-is.0)) (sym hands.stream) ∙ sym (ap (read_reply w) read-is.1)
+
+    -- with the message m, whose number is n
+    module _ (m : Message) (messages : List W.Message) (z : Lane) (m_is : message_at x.world read-is.0 ≡ message_record m) (messages_are : messages ≡ changed mark_read read-is.0 x.world.messages)
+        (state : z.state ≡ with_read_stats m.ppi (length m.bytes) (record (slice_index_or x.lanes at d).state { reassembly_queue = state_read (slice_index_or x.lanes at d).state.reassembly_queue }))
+        (whole : z.whole.items ≡ (if m.ordered then (slice_index_or x.lanes at d).whole.items else drop 1 (slice_index_or x.lanes at d).whole.items))
+        (ordered : z.ordered ≡ (slice_index_or x.lanes at d).ordered)
+        (next : z.next ≡ (if m.ordered && (m.before == (slice_index_or x.lanes at d).next) then m.before + 1 else (slice_index_or x.lanes at d).next)) where
+      same-id : z.state.stream_identifier ≡ y.state.stream_identifier
+      same-id = ap (λ (t : StreamState). t.stream_identifier) state
+
+      next-is : z.next ≡ next_of v s
+      next-is =
+          let i : m.before ≡ index_of w read-is.0 = ap (λ t. t.before) (sym m_is) ∙ l.befores read-is.0 hands.made in
+          next
+          ∙ ap (λ b. if m.ordered && (b == y.next) then b + 1 else y.next) i
+          ∙ ap (λ b. if b && (index_of w read-is.0 == y.next) then index_of w read-is.0 + 1 else y.next) (ap (λ t. t.ordered) (sym m_is))
+          ∙ ap (λ t. if (message_at w read-is.0).ordered && (index_of w read-is.0 == t) then index_of w read-is.0 + 1 else t) ((l.lanes at d lt).next ∙ ap (next_of w) (id-at d))
+          ∙ sym hands.next
+
+      counters-at : (t : ℕ) → counters_on v t ≡ (if t == s then received_more (counted_as (message_at w read-is.0).ppi (length (message_at w read-is.0).bytes)) (counters_on w t) else counters_on w t)
+      counters-at t =
+          over sum x (λ (u : World). next_read u s ≡ Some read-is.0 → counters_on (read_from u s) t ≡ (if t == s then received_more (counted_as (message_at u read-is.0).ppi (length (message_at u read-is.0).bytes)) (counters_on u t) else counters_on u t)) l
+          (λ h. counters-read w.setup l.history l.setup l.stands.run s t read-is.0 h) read-is.1
+
+      counters-other : (t : ℕ) → (t ≡ s → ⊥) → counters_on v t ≡ counters_on w t
+      counters-other t ne = counters-at t ∙ by (t == s) refl
+        where
+          by : (b : Bool) → (t == s) ≡ b → (if b then received_more (counted_as (message_at w read-is.0).ppi (length (message_at w read-is.0).bytes)) (counters_on w t) else counters_on w t) ≡ counters_on w t
+          by true h = absurd (ne (same-is t s h))
+          by false h = refl
+
+      stats-are : z.state.stats ≡ stats_of (counters_on v s)
+      stats-are =
+          ap (λ (t : StreamState). t.stats) state
+          ∙ ap (with_received (counted_bytes m.ppi (length m.bytes))) ((l.lanes at d lt).stats ∙ ap (λ t. stats_of (counters_on w t)) (id-at d))
+          ∙ counted-read m.ppi (length m.bytes) w s
+          ∙ ap (λ (t : W.Message). stats_of (received_more (counted_as t.ppi (length t.bytes)) (counters_on w s))) (sym m_is)
+          ∙ ap stats_of (sym (counters-at s ∙ ap (λ b. if b then received_more (counted_as (message_at w read-is.0).ppi (length (message_at w read-is.0).bytes)) (counters_on w s) else counters_on w s) (same-yes s)))
+
+      lane-is : IsLane v z
+      lane-is = lane-read z same-id (ap (λ (t : StreamState). t.reassembly_queue) state) (ap (λ (t : StreamState). t.max_payload_size) state) (ap (λ (t : StreamState). t.sequence_number) state) (ap (λ (t : StreamState). t.buffered_amount) state) ordered next-is stats-are
+
+      abbrev shown : StreamState → List ℕ → StreamRecord
+      shown t whole = record { stream = t.stream_identifier; unordered = t.unordered; reliability = t.reliability_type; value = t.reliability_value; named = 0; whole = whole }
+
+      whole-is : z.whole.items ≡ drop 1 y.whole.items
+      whole-is =
+          whole ∙ ap (λ b. if b then y.whole.items else drop 1 y.whole.items) (ap (λ t. t.ordered) (sym m_is))
+          ∙ ap (λ l. if (message_at w read-is.0).ordered then l else drop 1 l) (sym whole-are) ∙ hands.whole ∙ ap (drop 1) whole-are
+
+      streams-are : map stream_record (slice_set x.lanes at z) ≡ map (λ (t : StreamRecord). if t.stream == s then without_first t else t) w.streams
+      streams-are =
+          streams-set x.lanes at z d without_first streams-apart lt (ap (λ (t : StreamState). shown t z.whole.items) state ∙ ap (shown y.state) whole-is)
+          ∙ ap (λ i. map (λ (t : StreamRecord). if t.stream == i then without_first t else t) (map stream_record x.lanes)) (id-at d)
+          ∙ ap (map (λ (t : StreamRecord). if t.stream == s then without_first t else t)) (sym lanes_are)
+
+      pub world-read : record w { streams = map stream_record (slice_set x.lanes at z); messages = messages } ≡ v
+      world-read =
+          ap {B = World} (λ rs. record w { streams = rs; messages = messages }) streams-are
+          ∙ ap {B = World} (λ ms. record w { streams = map (λ (t : StreamRecord). if t.stream == s then without_first t else t) w.streams; messages = ms }) messages_are
+          ∙ sym (ap (read_of w s) read-is.1)
+
+      pub linked-read : (sents : List ℕ) → sents ≡ x.sents → IsLinked sum (record x { world = record w { streams = map stream_record (slice_set x.lanes at z); messages = messages }; sents = sents; lanes = slice_set x.lanes at z })
+      linked-read sents same =
+          linked-then sum x l (E.Read s) none frame sents (slice_set x.lanes at z) x.cumulative_tsn x.filter (record w { streams = map stream_record (slice_set x.lanes at z); messages = messages }) same (l.filter ∙ sym filter-stays)
+          (each-read z lane-is hands.other counters-other)
+          (λ j c less. find-apart (slice_set x.lanes at z) j c (apart-set x.lanes at z d streams-apart same-id) less)
+          quiet world-read
+
+      -- the lane was set before
+      pub world-twice : (a : Lane) → record w { streams = map stream_record (slice_set (slice_set x.lanes at a) at z); messages = messages } ≡ v
+      world-twice a = ap {B = World} (λ ls. record w { streams = map stream_record ls; messages = messages }) (set-set x.lanes at a z) ∙ world-read
+
+      pub linked-twice : (a : Lane) (sents : List ℕ) → sents ≡ x.sents → IsLinked sum (record x { world = record w { streams = map stream_record (slice_set (slice_set x.lanes at a) at z); messages = messages }; sents = sents; lanes = slice_set (slice_set x.lanes at a) at z })
+      linked-twice a sents same = subst (λ ls. IsLinked sum (record x { world = record w { streams = map stream_record ls; messages = messages }; sents = sents; lanes = ls })) (sym (set-set x.lanes at a z)) (linked-read sents same)
+
+-- ## What the queue answered
+
+pub none-mapped : (o : Option ChunkSet) → None ≡ option_map at_start o → o ≡ None
+none-mapped None e = refl
+none-mapped (Some t) e = cc
+
+pub some-mapped : (o : Option ChunkSet) (c : Chunks) → Some c ≡ option_map at_start o → o ≡ Some c.set
+some-mapped None c e = cc
+some-mapped (Some t) c e = let z : c ≡ at_start t = cc in ap (λ (a : Chunks). Some a.set) (sym z)
+
+-- a stream that is read is open
+pub never-shut : (w : World) (s : ℕ) (lanes : List Lane) → w.streams ≡ map stream_record lanes → refusal_of w (E.Read s) ≡ None → find (has_number s) lanes ≡ None → ⊥
+never-shut w s lanes same ok shut =
+    let o : unless (is_some (stream_at w s)) StreamUnknown None ≡ Some StreamUnknown = ap (λ b. unless b StreamUnknown None) (none-open w s lanes same shut) in
+    let z : Some StreamUnknown ≡ None = sym o ∙ ok in
+    cc

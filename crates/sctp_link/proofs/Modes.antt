@@ -1,0 +1,80 @@
+-- A stream takes another mode.
+use Rattle.std.proofs.Common.{◌≡◌, ℕ, ◌<◌, Bool, true, false, List, [], ◌∷◌, length, map, Option, Some, None, refl, ap, sym, ◌∙◌, arith}
+use Rattle.std.specs.Prelude.{◌==◌, if◌then◌else◌, slice_index_or, slice_set, find, is_some}
+use Rattle.std.proofs.Math.Path.{subst}
+use Rattle.std.proofs.lemmas.List.{length-set}
+use Rattle.sctp_lists.proofs.More.{not_both}
+use Rattle.sctp_chunks.specs.declared.chunk.chunk_payload_data.ReliabilityType.{ReliabilityType}
+use Rattle.sctp_model.specs.declared.event.Event.TheVariants as E
+use Rattle.sctp_model.specs.declared.event.LinkRefusal.TheVariants.{StreamUnknown}
+use Rattle.sctp_model.specs.World.{World}
+use Rattle.sctp_model.specs.Messages.{is_open}
+use Rattle.sctp_model.specs.Changes.{mode_set, with_mode}
+use Rattle.sctp_model.specs.Steps.{refusal_of, reply_to}
+use Rattle.sctp_model.proofs.SenderRun.{unless-holds}
+use Rattle.sctp_ties.proofs.Opened
+use Rattle.sctp_ties.proofs.QuietSender.{outbound-same, same-self}
+use Rattle.sctp_link.specs.declared.lane.Lane.{Lane}
+use Rattle.sctp_link.specs.Records.{stream_record}
+use Rattle.sctp_link.specs.Linked.{State, IsLane, IsLinked, has_number}
+use Rattle.sctp_link.proofs.Facts.{stands-then}
+use Rattle.sctp_link.proofs.Frames.{lane-same, next-kept, texts-same}
+use Rattle.sctp_link.proofs.Opening.{open-found}
+use Rattle.sctp_link.proofs.Apart.{apart, apart-set, each-set, find-apart, streams-set, number-found}
+
+-- an open stream is found
+pub found-open : (x : State) (s : ℕ) → x.world.streams ≡ map stream_record x.lanes → is_open x.world s ≡ true → find (has_number s) x.lanes ≡ None → ⊥
+found-open x s streams open' none = not_both (sym (ap is_some none) ∙ open-found s x.lanes ∙ ap (λ rs. is_some (find (λ r. r.stream == s) rs)) (sym streams) ∙ open')
+
+-- a stream with another mode
+abbrev pub moded : Bool → ReliabilityType → ℕ → Lane → Lane
+moded unordered reliability value m = record m { state = record m.state { unordered = unordered; reliability_type = reliability; reliability_value = value } }
+
+module _ (sum : List ℕ → ℕ) (x : State) (l : IsLinked sum x) (s : ℕ) (unordered : Bool) (reliability : ReliabilityType) (value : ℕ) (ok : refusal_of x.world (E.Mode s unordered reliability value) ≡ None) (streams : x.world.streams ≡ map stream_record x.lanes) where
+  abbrev v : World
+  v = mode_set x.world s unordered reliability value
+
+  pub mode-open : is_open x.world s ≡ true
+  mode-open = (unless-holds (is_open x.world s) StreamUnknown None ok).0
+
+  kept : (t : Lane) → IsLane x.world t → IsLane v t
+  kept t i =
+      lane-same x.world v t
+      (record { setup = refl; held = Opened.mode-same x.world s unordered reliability value t.state.stream_identifier; ordered = refl; next = next-kept sum x l (E.Mode s unordered reliability value) ok tt t.state.stream_identifier; amount = refl; counters = refl })
+      i
+
+  changes : (t : Lane) → IsLane v t → IsLane v (moded unordered reliability value t)
+  changes t i = record { held = i.held; si = i.si; largest = i.largest; size = i.size; ordered = i.ordered; number = i.number; next = i.next; amount = i.amount; stats = i.stats }
+
+  module _ (at : ℕ) (d y : Lane) (lt : at < length x.lanes) (here : find (has_number s) x.lanes ≡ Some (slice_index_or x.lanes at d)) (is : y ≡ moded unordered reliability value (slice_index_or x.lanes at d)) where
+    own : (slice_index_or x.lanes at d).state.stream_identifier ≡ s
+    own = number-found s x.lanes (slice_index_or x.lanes at d) here
+
+    pub mode-moves : map stream_record (slice_set x.lanes at y) ≡ v.streams
+    mode-moves =
+        streams-set x.lanes at y d (with_mode unordered reliability value) (apart sum x l streams) lt (ap stream_record is)
+        ∙ ap (λ n. map (λ r. if r.stream == n then with_mode unordered reliability value r else r) (map stream_record x.lanes)) own
+        ∙ ap (map (λ r. if r.stream == s then with_mode unordered reliability value r else r)) (sym streams)
+
+    pub linked-mode : IsLinked sum (record x { world = v; lanes = slice_set x.lanes at y })
+    linked-mode = record {
+      setup = l.setup;
+      one_each = l.one_each;
+      history = (E.Mode s unordered reliability value, reply_to x.world (E.Mode s unordered reliability value)) ∷ l.history;
+      stands = stands-then x.world.setup x.world l.history (E.Mode s unordered reliability value) ok l.stands;
+      outbound = outbound-same x.world v (same-self x.world v refl refl refl refl) x.outbound l.outbound;
+      unstarted = l.unstarted;
+      filter = l.filter;
+      next = l.next;
+      fragments = l.fragments;
+      written = l.written;
+      sents = l.sents;
+      befores = l.befores;
+      lanes = λ k e less. let below : k < length x.lanes = omega (arith, less, length-set x.lanes at y) in
+          at-place k e below;
+      first = λ k e less. find-apart (slice_set x.lanes at y) k e (apart-set x.lanes at y d (apart sum x l streams) (ap (λ m. m.state.stream_identifier) is)) less;
+      texts = texts-same sum x l (E.Mode s unordered reliability value) ok refl;
+    }
+      where
+        at-place : (k : ℕ) (e : Lane) → k < length x.lanes → IsLane v (slice_index_or (slice_set x.lanes at y) k e)
+        at-place k e below = each-set (IsLane v) x.lanes at k y e lt (subst (IsLane v) (sym is) (changes (slice_index_or x.lanes at d) (kept (slice_index_or x.lanes at d) (l.lanes at d lt)))) (λ ne. kept (slice_index_or x.lanes k e) (l.lanes k e below))

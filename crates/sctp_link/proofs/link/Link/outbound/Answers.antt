@@ -1,0 +1,9 @@
+use Rattle.sctp_ties.proofs.Lent.{pending-shown, in-flight-shown}
+use Rattle.sctp_link.specs.Fields.{world_in}
+use Rattle.sctp_link.proofs.link.Link.outbound.Goals as goal
+
+pub returns-clause-pending : goal.returns-clause-pending
+returns-clause-pending g c = rw (← c.self.view_is) (pending-shown (world_in c.self.inside) c.self.inside.outbound.pending c.self.invariant.outbound.pending)
+
+pub returns-clause-in_flight : goal.returns-clause-in_flight
+returns-clause-in_flight g c = rw (← c.self.view_is) (in-flight-shown (world_in c.self.inside) c.self.inside.outbound c.self.invariant.outbound)

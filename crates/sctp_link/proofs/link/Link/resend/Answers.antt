@@ -1,0 +1,36 @@
+use Rattle.std.proofs.Common.{◌≡◌, ◌++◌, ◌∷◌, [], rules, ap, None, Some, ◌∙◌, sym}
+use Rattle.std.specs.Prelude.{find}
+use Rattle.sctp_lists.proofs.Getting.{length-mapped}
+use Rattle.sctp_queues.specs.DataChunks.{has_tsn}
+use Rattle.sctp_model.specs.declared.event.Event.TheVariants as E
+use Rattle.sctp_model.specs.Changes.{resent}
+use Rattle.sctp_model.specs.Messages.{place_of}
+use Rattle.sctp_model.specs.Steps.{refusal_of}
+use Rattle.sctp_link.specs.declared.record.Kind.TheVariants as K
+use Rattle.sctp_link.specs.declared.record.Datagram.{Datagram}
+use Rattle.sctp_link.specs.Records.{datagram_record}
+use Rattle.sctp_link.specs.Fields.{state_in, world_in}
+use Rattle.sctp_link.proofs.Frames.{moved}
+use Rattle.sctp_link.proofs.Outgoing.{never-gone, resend-fits, linked-resend, network-more, bytes-more}
+use Rattle.sctp_link.proofs.link.Link.resend.Goals as goal
+
+pub unreachable-requires : goal.unreachable-requires
+unreachable-requires g c =
+    let ok : refusal_of (world_in c.self.inside) (E.Resend c.args.tsn) ≡ None = rw (← c.self.view_is) at c.requires in
+    never-gone (g.C.Checksum.sum c.self.inside.checksum) (state_in c.self.inside) c.self.invariant c.args.tsn (search rules) ok (search rules)
+
+pub write_datagram-requires-clause-text : goal.write_datagram-requires-clause-text
+write_datagram-requires-clause-text g c =
+    let ok : refusal_of (world_in c.self.inside) (E.Resend c.args.tsn) ≡ None = rw (← c.self.view_is) at c.requires in
+    let e : find (has_tsn c.args.tsn) c.self.inside.outbound.inflight.chunks ≡ Some c.in_ok-chunk.chunk = search rules in
+    (tt, resend-fits (g.C.Checksum.sum c.self.inside.checksum) (state_in c.self.inside) c.self.invariant c.args.tsn (search rules) ok c.in_ok-chunk.chunk e)
+
+pub invariant_of-self-2 : goal.invariant_of-self-2
+invariant_of-self-2 g c =
+    let ok : refusal_of (world_in c.self.inside) (E.Resend c.args.tsn) ≡ None = rw (← c.self.view_is) at c.requires in
+    let e : find (has_tsn c.args.tsn) c.self.inside.outbound.inflight.chunks ≡ Some c.in_ok-chunk.chunk = search rules in
+    let more : c.put.new.items.items ≡ c.self.inside.network.items ++ (let d : Datagram = record { kind = K.Data (place_of (world_in c.self.inside) c.args.tsn); bytes = c.in_ok-bytes.bytes } in d) ∷ [] = search rules in
+    let network = network-more c.self.inside.network.items c.put.new.items.items (K.Data (place_of (world_in c.self.inside) c.args.tsn)) c.in_ok-bytes.bytes more in
+    let bytes = bytes-more c.self.inside.network.items c.put.new.items.items (K.Data (place_of (world_in c.self.inside) c.args.tsn)) c.in_ok-bytes.bytes more in
+    moved _ _ (resent (world_in c.self.inside) c.args.tsn) (ap (λ ds. record (world_in c.self.inside) { network = ds }) network)
+    (rw bytes (linked-resend (g.C.Checksum.sum c.self.inside.checksum) (state_in c.self.inside) c.self.invariant c.args.tsn (search rules) ok c.in_ok-chunk.chunk c.in_ok-bytes.bytes c.saturating_add-nsent.result c.set_nsent.new.self e (search rules) (search rules) (length-mapped (λ (d : Datagram). d.bytes) c.self.inside.network.items ∙ sym (length-mapped datagram_record c.self.inside.network.items)) (search rules)))

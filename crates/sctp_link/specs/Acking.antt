@@ -1,0 +1,64 @@
+-- How far a SACK has been taken, while what it reports is gone through.
+use Rattle.std.specs.Prelude.{◌≡◌, ◌==◌, ℕ, ◌+◌, ◌-◌, ◌<◌, ◌≤◌, ◌^◌, Bool, ◌&&◌, ◌||◌, nat_le, nat_lt, min, if◌then◌else◌, List, length, slice_index_or, true}
+use Rattle.std.specs.List.{list_any}
+use Rattle.sctp_chunks.specs.declared.chunk.chunk_payload_data.ChunkPayloadData.{ChunkPayloadData}
+use Rattle.sctp_chunks.specs.declared.chunk.chunk_selective_ack.GapAckBlock.{GapAckBlock}
+use Rattle.sctp_queues.specs.Outbound.{Outbound, with_inflight}
+use Rattle.sctp_model.specs.World.{World}
+use Rattle.sctp_model.specs.Messages.{slot_at}
+use Rattle.sctp_model.specs.Amounts.{on_stream, pending_bytes}
+use Rattle.sctp_ties.specs.Amount.{unacked_on, stream_of_slot, bytes_at}
+use Rattle.sctp_ties.specs.Tied.{sending_of, sending_by, IsInFlight}
+use Rattle.sctp_link.specs.declared.lane.Lane.{Lane}
+use Rattle.sctp_link.specs.declared.record.Slot.{Slot}
+use Rattle.sctp_link.specs.Records.{slot_record}
+use Rattle.sctp_link.specs.Linked.{has_number}
+
+-- a stream with another buffered amount
+abbrev pub with_amount : ℕ → Lane → Lane
+with_amount n l = record l { state = record l.state { buffered_amount = n } }
+
+-- what a stream still has to send or to see acknowledged, were these slots acknowledged
+abbrev pub amount_with : World → (ℕ → Bool) → ℕ → ℕ
+amount_with w acked s = on_stream w s (pending_bytes w) + unacked_on w acked s
+
+-- bytes go off the amount of a stream
+abbrev pub less_by : ℕ → Lane → Lane
+less_by bytes l = with_amount (l.state.buffered_amount - bytes) l
+
+-- what is known of the record from the beginning
+pub record Acks (first : ℕ) (w : World) : Type 0 where
+  pub first_is : first ≡ w.setup.first
+  pub in_range : w.setup.first < 2 ^ 32
+  pub few : length w.slots < 2 ^ 31
+  pub taken : w.taken ≤ length w.slots
+  pub short : (p : ℕ) → p < length w.slots → bytes_at w p < 2 ^ 31
+  -- the bytes of a chunk in flight are those of its slot
+  pub shares : (p t : ℕ) (b : Bool) (c : ChunkPayloadData) → p < length w.slots → sending_of c ≡ sending_by w b p →
+      (if c.stream_identifier == t then length c.user_data else 0) ≡ (if stream_of_slot w p == t then (if b then 0 else bytes_at w p) else 0)
+
+-- slots, queue and streams once these slots are acknowledged
+pub record IsAcking (w : World) (first : List Lane) (queue : Outbound) (acked : ℕ → Bool) (marked : List Slot) (now : List Lane) (left : Outbound) : Type 0 where
+  pub below : (k : ℕ) → k < w.taken → acked k ≡ true
+  pub count : length marked ≡ length w.slots
+  pub slots : (k : ℕ) (d : Slot) → k < length marked → slot_record (slice_index_or marked k d) ≡ record (slot_at w k) { acknowledged = acked k }
+  pub in_flight : IsInFlight w acked w.taken (length w.slots - w.taken) left.inflight.chunks
+  pub rest : left ≡ with_inflight queue left.inflight.chunks
+  pub lane_count : length now ≡ length first
+  pub lanes : (k : ℕ) (d : Lane) → k < length now → slice_index_or now k d ≡ with_amount (amount_with w acked (slice_index_or first k d).state.stream_identifier) (slice_index_or first k d)
+
+-- and one slot more
+abbrev pub and_one : (ℕ → Bool) → ℕ → ℕ → Bool
+and_one acked p k = acked k || (k == p)
+
+-- and those from one place to another
+abbrev pub and_run : (ℕ → Bool) → ℕ → ℕ → ℕ → Bool
+and_run acked from to k = acked k || (nat_le from k && nat_lt k to)
+
+-- a gap block, by its distances from the cumulative count, reports the slot
+abbrev pub in_block : ℕ → ℕ → GapAckBlock → Bool
+in_block cumulative k b = nat_le (cumulative + b.start) (k + 1) && nat_le (k + 1) (cumulative + b.end)
+
+-- and those that gap blocks report
+abbrev pub and_blocks : (ℕ → Bool) → ℕ → List GapAckBlock → ℕ → Bool
+and_blocks acked cumulative blocks k = acked k || list_any (in_block cumulative k) blocks

@@ -1,0 +1,95 @@
+-- What a link keeps beside its record, and how all of it is tied to the record.
+use Rattle.std.specs.Prelude.{◌≡◌, ◌==◌, ℕ, ◌<◌, ◌%◌, ◌^◌, List, [], length, slice_index_or, slice_get, find, Bool, Option, Some, None}
+use Rattle.sctp_queues.specs.Payload.{Payload}
+use Rattle.sctp_queues.specs.Outbound.{Outbound}
+use Rattle.sctp_model.specs.World as W
+use Rattle.sctp_model.specs.World.{World}
+use Rattle.sctp_model.specs.Messages.{message_at, ordered_before, sent_of, tsn_of}
+use Rattle.sctp_model.specs.Receiver.{next_of}
+use Rattle.sctp_model.specs.Contents.{contents_of}
+use Rattle.sctp_model.specs.Queues.{filter_of}
+use Rattle.sctp_model.specs.Steps.{History, StandsFor, fragments_accepted}
+use Rattle.sctp_model.specs.Laws.{IsSetup}
+use Rattle.sctp_ties.specs.Holds.{reassembly_of}
+use Rattle.sctp_ties.specs.Tied.{TiedOutbound, filter_held}
+use Rattle.sctp_ties.specs.Amount.{amount}
+use Rattle.sctp_ties.specs.Counts.{counters_on}
+use Rattle.sctp_model.specs.Amounts.{Counters, in_all, written_bytes}
+use Rattle.sctp_model.specs.Amounts as M
+use Rattle.sctp_link.specs.declared.link.lending.Ledger.{Ledger}
+use Rattle.sctp_link.specs.declared.lane.Lane.{Lane}
+use Rattle.sctp_link.specs.declared.stream.DataChannelStats.{DataChannelStats}
+use Rattle.sctp_link.specs.Texts.{IsDatagram}
+
+-- a link: its record, and the checksum that it was handed
+pub record Linked (C : Type 0) : Type 0 where
+  pub world : World
+  pub checksum : C
+
+-- the record, and what a link keeps beside it
+pub record State : Type 0 where
+  pub world : World
+  pub lanes : List Lane
+  -- of each message, how many of its fragments have slots
+  pub sents : List ℕ
+  -- the number of the first message whose lifetime has not started
+  pub unstarted : ℕ
+  -- the bytes of each datagram
+  pub datagrams : List (List ℕ)
+  pub outbound : Outbound
+  pub next_tsn : ℕ
+  pub cumulative_tsn : ℕ
+  pub filter : Payload
+  -- how many fragments were accepted
+  pub fragments : ℕ
+  -- how many bytes were written
+  pub written : ℕ
+
+abbrev pub has_number : ℕ → Lane → Bool
+has_number s l = l.state.stream_identifier == s
+
+-- counters as a stream keeps them
+abbrev pub stats_of : Counters → DataChannelStats
+stats_of c =
+    record {
+      stream_identifier = c.stream_identifier;
+      generation = c.generation;
+      messages_sent = c.messages_sent;
+      bytes_sent = c.bytes_sent;
+      messages_received = c.messages_received;
+      bytes_received = c.bytes_received;
+    }
+
+-- the four sums as a link tells them
+abbrev pub ledger_of : M.Ledger → Ledger
+ledger_of l = record { written = l.written; pending = l.pending; in_flight = l.in_flight; released = l.released }
+
+-- what a stream keeps, against the record
+pub record IsLane (w : World) (l : Lane) : Type 0 where
+  pub held : l.state.reassembly_queue.held ≡ reassembly_of w l.state.stream_identifier
+  pub si : l.state.reassembly_queue.si ≡ l.state.stream_identifier
+  pub largest : l.state.reassembly_queue.max_message_size ≡ w.setup.largest
+  pub size : l.state.max_payload_size ≡ w.setup.size
+  pub ordered : l.ordered ≡ ordered_before w l.state.stream_identifier (length w.messages)
+  pub number : l.state.sequence_number ≡ l.ordered % 2 ^ 16
+  pub next : l.next ≡ next_of w l.state.stream_identifier
+  pub amount : l.state.buffered_amount ≡ amount w l.state.stream_identifier
+  pub stats : l.state.stats ≡ stats_of (counters_on w l.state.stream_identifier)
+
+pub record IsLinked (sum : List ℕ → ℕ) (x : State) : Type 0 where
+  pub setup : IsSetup x.world.setup
+  pub one_each : x.world.setup.limit ≡ 0
+  pub history : History
+  pub stands : StandsFor x.world.setup x.world history
+  pub outbound : TiedOutbound x.world x.outbound
+  pub unstarted : x.unstarted ≡ x.outbound.next_unstarted
+  pub filter : filter_held x.cumulative_tsn x.filter ≡ filter_of x.world
+  pub next : x.next_tsn ≡ tsn_of x.world (length x.world.slots)
+  pub fragments : x.fragments ≡ fragments_accepted x.world
+  pub written : x.written ≡ in_all x.world (written_bytes x.world)
+  pub sents : (n : ℕ) → n < length x.world.messages → slice_index_or x.sents n 0 ≡ sent_of x.world n
+  pub befores : (n : ℕ) → n < length x.world.messages → (message_at x.world n).before ≡ ordered_before x.world (message_at x.world n).stream n
+  pub lanes : (k : ℕ) (d : Lane) → k < length x.lanes → IsLane x.world (slice_index_or x.lanes k d)
+  -- no stream is open twice
+  pub first : (k : ℕ) (d : Lane) → k < length x.lanes → find (has_number (slice_index_or x.lanes k d).state.stream_identifier) x.lanes ≡ Some (slice_index_or x.lanes k d)
+  pub texts : (k : ℕ) (d : List ℕ) (g : W.Datagram) → slice_get x.world.network k ≡ Some g → IsDatagram sum (contents_of x.world g) (slice_index_or x.datagrams k d)

@@ -1,0 +1,56 @@
+-- What a link keeps of its messages, slots, datagrams and streams, as the record says it.
+use Rattle.std.specs.Prelude.{ℕ, false, List, [], ◌∷◌, map}
+use Rattle.sctp_chunks.specs.declared.chunk.chunk_selective_ack.GapAckBlock.{GapAckBlock}
+use Rattle.sctp_link.specs.declared.record.Message.{Message}
+use Rattle.sctp_link.specs.declared.record.Slot.{Slot}
+use Rattle.sctp_link.specs.declared.record.Kind.{Kind}
+use Rattle.sctp_link.specs.declared.record.Kind.TheVariants as K
+use Rattle.sctp_link.specs.declared.record.Datagram.{Datagram}
+use Rattle.sctp_link.specs.declared.lane.Lane.{Lane}
+use Rattle.sctp_model.specs.World as W
+
+-- a message: none expires or is abandoned yet
+abbrev pub message_record : Message → W.Message
+message_record m =
+    record {
+      stream = m.stream;
+      ordered = m.ordered;
+      ppi = m.ppi;
+      bytes = m.bytes;
+      reliability = m.reliability;
+      value = m.value;
+      before = m.before;
+      started = m.started;
+      expired = false;
+      abandoned = false;
+      read = m.read;
+    }
+
+-- a slot: no end mark is made yet
+abbrev pub slot_record : Slot → W.Slot
+slot_record x =
+    record { message = x.message; fragment = x.fragment; is_end_mark = false; arrived = x.arrived; acknowledged = x.acknowledged }
+
+abbrev pub ends_of : GapAckBlock → ℕ × ℕ
+ends_of b = (b.start, b.end)
+
+-- a datagram: one slot, or a SACK
+abbrev pub kind_record : Kind → W.Datagram
+kind_record (K.Data place) = W.Data (place ∷ [])
+kind_record (K.Sack cumulative credit blocks duplicates) =
+    W.Sack (record { cumulative = cumulative; credit = credit; blocks = map ends_of blocks.items; duplicates = duplicates.items })
+
+abbrev pub datagram_record : Datagram → W.Datagram
+datagram_record d = kind_record d.kind
+
+-- a stream
+abbrev pub stream_record : Lane → W.StreamRecord
+stream_record l =
+    record {
+      stream = l.state.stream_identifier;
+      unordered = l.state.unordered;
+      reliability = l.state.reliability_type;
+      value = l.state.reliability_value;
+      named = 0;
+      whole = l.whole.items;
+    }

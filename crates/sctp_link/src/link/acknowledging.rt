@@ -1,0 +1,59 @@
+//! What a link acknowledges, and what is acknowledged to it (RFC 4960 3.3.4, 6.2).
+
+ghost use Rattle.std.specs.Prelude.{◌≡◌, None, OnErr, IfOk, IsOkUnless};
+ghost use Rattle.sctp_base.specs.declared.error.Error.TheVariants.{ErrOutOfMemory};
+
+use super::{Link, put};
+use crate::datagram::write_datagram;
+use crate::event::{LinkRefusal, Reply};
+use crate::record::{Datagram, Kind};
+use sctp_base::error::Result;
+use sctp_base::util::Checksum;
+use sctp_chunks::chunk::chunk_kind::ChunkKind;
+use sctp_chunks::chunk::chunk_selective_ack::ChunkSelectiveAck;
+
+// The greatest count of gap blocks and duplicates in a SACK that fits its length.
+const MAX_SACK_ENTRIES: usize = 16379;
+
+impl<C: Checksum + Drop> Link<C> {
+    ghost use Rattle.sctp_model.specs.Steps.{IsRight, refusal_of};
+    ghost use Rattle.sctp_model.specs.declared.event.Event.TheVariants as E;
+    ghost use Rattle.sctp_link.specs.Replies.{told};
+
+    pub(super) fn ack(&mut self, credit: u32) -> Result<Reply>
+        ensures ok { IfOk result (λ reply. IsRight self.old.world (E.Ack credit) (told reply) self.new.world) }
+        ensures checksum { self.new.checksum ≡ self.old.checksum }
+        ensures err { OnErr result (self.new.world ≡ self.old.world) }
+        ensures memory { IsOkUnless result ErrOutOfMemory }
+    {
+        let mut blocks = self
+            .filter
+            .get_gap_ack_blocks(self.alloc, self.cumulative_tsn)?;
+        blocks.truncate(MAX_SACK_ENTRIES);
+        let count = (MAX_SACK_ENTRIES - blocks.len()).min(self.duplicates.len());
+        let sack = ChunkSelectiveAck {
+            cumulative_tsn_ack: self.cumulative_tsn,
+            advertised_receiver_window_credit: credit,
+            gap_ack_blocks: Vec::from_slice(self.alloc, &blocks)?,
+            duplicate_tsn: Vec::from_slice(self.alloc, &self.filter.duplicates()[..count])?,
+        };
+        let duplicates = Vec::from_slice(self.alloc, &self.duplicates[..count])?;
+        let bytes = write_datagram(self.alloc, ChunkKind::SelectiveAck(sack), &self.checksum)?;
+        self.network.reserve(1)?;
+        let kind = Kind::Sack {
+            cumulative: u64::from(
+                self.cumulative_tsn
+                    .wrapping_sub(self.first_tsn)
+                    .wrapping_add(1),
+            ),
+            credit,
+            blocks,
+            duplicates,
+        };
+        let datagram = self.network.len() as u64;
+        self.filter.pop_duplicates(self.alloc);
+        self.duplicates.clear();
+        put(&mut self.network, Datagram { kind, bytes });
+        Ok(Reply::Ack { datagram })
+    }
+}

@@ -1,0 +1,104 @@
+//! What a link tells of itself: its bytes, its counters, and the queues that it works on.
+
+ghost use Rattle.std.specs.Prelude.{◌≡◌, ◌==◌, ℕ, None, Some, true, false, MatchOption, map, option_map};
+ghost use Rattle.sctp_queues.specs.Payload.{Payload};
+
+use super::Link;
+use crate::lane::{Lane, lane_at};
+use crate::stream::DataChannelStats;
+use sctp_base::util::Checksum;
+use sctp_queues::outbound_queue::OutboundQueue;
+use sctp_queues::payload_queue::PayloadQueue;
+use sctp_queues::reassembly_queue::ReassemblyQueue;
+
+/// The bytes of all messages: each written one is pending, in flight or released.
+#[derive(Clone, Copy, Debug, PartialEq, Eq)]
+pub struct Ledger {
+    pub written: u64,
+    pub pending: u64,
+    pub in_flight: u64,
+    pub released: u64,
+}
+
+impl<C: Checksum + Drop> Link<C> {
+    ghost use Rattle.sctp_model.specs.Messages.{is_open};
+    ghost use Rattle.sctp_model.specs.Amounts.{ledger, buffered_amount, counters_of};
+    ghost use Rattle.sctp_model.specs.Receiver.{cumulative};
+    ghost use Rattle.sctp_model.specs.Contents.{cumulative_tsn};
+    ghost use Rattle.sctp_model.specs.Queues.{pending_of, in_flight_of, filter_of};
+    ghost use Rattle.sctp_ties.specs.Holds.{reassembly_of};
+    ghost use Rattle.sctp_ties.specs.Tied.{shown, in_flight_shown, filter_held};
+    ghost use Rattle.sctp_link.specs.Linked.{IsLane, stats_of, ledger_of};
+
+    /// The bytes written, and what became of them.
+    pub fn ledger(&self) -> Ledger
+        ensures { result ≡ ledger_of (ledger self.now.world) }
+    {
+        let pending = self.outbound.pending_bytes() as u64;
+        let in_flight = self.outbound.inflight_bytes() as u64;
+        Ledger {
+            written: self.written,
+            pending,
+            in_flight,
+            released: self
+                .written
+                .saturating_sub(pending)
+                .saturating_sub(in_flight),
+        }
+    }
+
+    /// How many bytes of an open stream wait or are in flight.
+    pub fn buffered_amount(&self, stream: u16) -> Option<u64>
+        ensures { result ≡ buffered_amount self.now.world stream }
+    {
+        let Some(lane) = self.lane_of(stream) else {
+            return None;
+        };
+        Some(lane.state.buffered_amount() as u64)
+    }
+
+    /// The counters of an open stream.
+    pub fn stats(&self, stream: u16) -> Option<DataChannelStats>
+        ensures { result ≡ option_map stats_of (counters_of self.now.world stream) }
+    {
+        let Some(lane) = self.lane_of(stream) else {
+            return None;
+        };
+        Some(lane.state.stats())
+    }
+
+    /// What waits to be sent and what is in flight.
+    pub fn outbound(&self) -> &OutboundQueue
+        ensures pending { shown result.now.pending ≡ pending_of self.now.world }
+        ensures in_flight { map in_flight_shown result.now.inflight.chunks ≡ in_flight_of self.now.world }
+    {
+        &self.outbound
+    }
+
+    /// The TSNs that came beyond the cumulative one, and those that came again.
+    pub fn filter(&self) -> &PayloadQueue
+        ensures { filter_held (cumulative_tsn self.now.world (cumulative self.now.world)) result.now ≡ filter_of self.now.world }
+    {
+        &self.filter
+    }
+
+    /// What came on an open stream and was not read.
+    pub fn reassembly(&self, stream: u16) -> Option<&ReassemblyQueue>
+        ensures { MatchOption result (is_open self.now.world stream ≡ false) (λ q. q.now.held ≡ reassembly_of self.now.world stream) }
+    {
+        let Some(lane) = self.lane_of(stream) else {
+            return None;
+        };
+        Some(lane.state.reassembly_queue())
+    }
+
+    // What is kept of an open stream.
+    fn lane_of(&self, stream: u16) -> Option<&Lane>
+        ensures { MatchOption result (is_open self.now.world stream ≡ false) (λ l. (is_open self.now.world stream ≡ true) × (l.now.state.stream_identifier ≡ stream) × IsLane self.now.world l.now) }
+    {
+        let Some(at) = lane_at(&self.lanes, stream) else {
+            return None;
+        };
+        Some(&self.lanes[at])
+    }
+}

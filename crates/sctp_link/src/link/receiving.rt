@@ -1,0 +1,249 @@
+//! What comes to the receiver of a link, and what is read there.
+
+ghost use Rattle.std.specs.Prelude.{◌≡◌, ◌<◌, ◌≤◌, ◌+◌, ◌-◌, ◌^◌, ◌∷◌, ◌++◌, ℕ, [], true, false, None, Some, OnOk, OnErr, IfOk, IsOkUnless, MatchOption, length, slice_get, slice_index_or, map};
+ghost use Rattle.sctp_base.specs.declared.error.Error.TheVariants.{ErrOutOfMemory};
+ghost use Rattle.sctp_lists.specs.Lists.{advanced, inserted};
+ghost use Rattle.sctp_chunks.specs.declared.chunk.chunk_payload_data.ChunkPayloadData.{ChunkPayloadData};
+ghost use Rattle.sctp_queues.specs.DataChunks.{chunk_before};
+ghost use Rattle.sctp_queues.specs.Payload.{with_chunks};
+ghost use Rattle.sctp_queues.specs.Window;
+
+use super::{Link, put};
+use crate::datagram::read_data;
+use crate::event::{LinkRefusal, Reply};
+use crate::lane::{Lane, lane_at};
+use crate::record::Kind;
+use sctp_base::error::Result;
+use sctp_base::util::{Checksum, sna32lte};
+use sctp_chunks::chunk::chunk_payload_data::ChunkPayloadData;
+use sctp_queues::chunks::{Chunks, Fragments};
+use sctp_queues::payload_queue::PayloadQueue;
+
+impl<C: Checksum + Drop> Link<C> {
+    ghost use Rattle.sctp_model.specs.World.{Data};
+    ghost use Rattle.sctp_model.specs.Messages.{message_at, message_of, index_of, tsn_of, is_open};
+    ghost use Rattle.sctp_model.specs.Receiver.{is_new, is_held, held_on, next_of, least, greatest};
+    ghost use Rattle.sctp_model.specs.Contents.{chunk_at};
+    ghost use Rattle.sctp_model.specs.Queues.{set_of};
+    ghost use Rattle.sctp_model.specs.Changes.{slot_received};
+    ghost use Rattle.sctp_model.specs.Steps.{IsRight, refusal_of, is_for_receiver, arrival_fits};
+    ghost use Rattle.sctp_model.specs.declared.event.Event.TheVariants as E;
+    ghost use Rattle.sctp_link.specs.Replies.{told};
+
+    pub(super) fn refusal_arrive(&self, k: u64) -> Option<LinkRefusal>
+        ensures { result ≡ refusal_of self.now.world (E.Arrive k) }
+    {
+        let Some(place) = self.data_at(k) else {
+            return Some(LinkRefusal::NoSuchDatagram);
+        };
+        if !self.span_fits(place) {
+            return Some(LinkRefusal::SpanTooWide);
+        }
+        None
+    }
+
+    // The place of the slot that datagram k carries.
+    fn data_at(&self, k: u64) -> Option<usize>
+        ensures { MatchOption result (is_for_receiver (slice_get self.now.world.network k) ≡ false) (λ place. slice_get self.now.world.network k ≡ Some (Data (place ∷ []))) }
+    {
+        if k >= self.network.len() as u64 {
+            return None;
+        }
+        match self.network[k as usize].kind {
+            Kind::Data { place } => Some(place as usize),
+            Kind::Sack { .. } => None,
+        }
+    }
+
+    // Whether stream sequence numbers can still be told apart once the slot has come (RFC 4960 6.5).
+    fn span_fits(&self, place: usize) -> bool
+        requires { (k : ℕ) × (slice_get self.now.world.network k ≡ Some (Data (place ∷ []))) }
+        ensures { result ≡ arrival_fits self.now.world (Some (Data (place ∷ []))) }
+    {
+        let message = &self.messages[self.slots[place].message as usize];
+        if !message.ordered {
+            return true;
+        }
+        if !self.is_new(place) {
+            return true;
+        }
+        let (low, high) = self.ends(message.stream);
+        high.max(message.before) < low.min(message.before) + 0x8000
+    }
+
+    // The least and the greatest of the index expected next and those of the messages held: they stand at the ends of the queue.
+    fn ends(&self, stream: u16) -> (u64, u64)
+        requires { is_open self.now.world stream ≡ true }
+        ensures low { result.0 ≡ least (next_of self.now.world stream) (map (index_of self.now.world) (held_on self.now.world stream)) }
+        ensures high { result.1 ≡ greatest (next_of self.now.world stream) (map (index_of self.now.world) (held_on self.now.world stream)) }
+    {
+        let Some(at) = lane_at(&self.lanes, stream) else {
+            unreachable!()
+        };
+        let lane = &self.lanes[at];
+        let held = lane.state.reassembly_queue().ordered();
+        let Some(first) = held.front() else {
+            return (lane.next, lane.next);
+        };
+        let Some(last) = held.back() else {
+            return (lane.next, lane.next);
+        };
+        let low = lane.next.min(self.index_of(first));
+        let high = lane.next.max(self.index_of(last));
+        (low, high)
+    }
+
+    // The index of the message whose fragments these are.
+    fn index_of(&self, set: &Fragments) -> u64
+        requires { (s n : ℕ) × (is_held self.now.world s n ≡ true) × (set.now ≡ set_of self.now.world n) }
+        ensures { (s n : ℕ) → is_held self.now.world s n ≡ true → set.now ≡ set_of self.now.world n → result ≡ index_of self.now.world n }
+    {
+        let tsn = set.fragments()[0].tsn;
+        let place = tsn.wrapping_sub(self.first_tsn) as usize;
+        self.messages[self.slots[place].message as usize].before
+    }
+
+    fn is_new(&self, place: usize) -> bool
+        requires { place < length self.now.world.slots }
+        ensures { result ≡ is_new self.now.world place }
+    {
+        let tsn = self.first_tsn.wrapping_add(place as u32);
+        self.filter.get(tsn).is_none() && !sna32lte(tsn, self.cumulative_tsn)
+    }
+
+    pub(super) fn arrive(&mut self, k: u64) -> Result<Reply>
+        requires { refusal_of self.old.world (E.Arrive k) ≡ None }
+        ensures ok { IfOk result (λ reply. IsRight self.old.world (E.Arrive k) (told reply) self.new.world) }
+        ensures checksum { self.new.checksum ≡ self.old.checksum }
+        ensures err { OnErr result (self.new.world ≡ self.old.world) }
+        ensures memory { IsOkUnless result ErrOutOfMemory }
+    {
+        let (place, chunk) = self.receive(k)?;
+        if self.is_new(place) {
+            self.keep(place, chunk)?;
+            return Ok(Reply::New);
+        }
+        self.repeat(place, chunk)?;
+        Ok(Reply::Repeat)
+    }
+
+    // Reads the bytes of datagram k: its slot, and the chunk.
+    fn receive(&self, k: u64) -> Result<(usize, ChunkPayloadData)>
+        requires { is_for_receiver (slice_get self.now.world.network k) ≡ true }
+        ensures place { IfOk result (λ r. slice_get self.now.world.network k ≡ Some (Data (r.0 ∷ []))) }
+        ensures made { IfOk result (λ r. r.0 < length self.now.world.slots) }
+        ensures chunk { IfOk result (λ r. r.1 ≡ chunk_at self.now.world r.0) }
+        ensures memory { IsOkUnless result ErrOutOfMemory }
+    {
+        let Some(place) = self.data_at(k) else {
+            unreachable!()
+        };
+        let chunk = read_data(self.alloc, &self.network[k as usize].bytes, &self.checksum)?;
+        Ok((place, chunk))
+    }
+
+    // Notes a slot that came again.
+    fn repeat(&mut self, place: usize, chunk: ChunkPayloadData) -> Result<()>
+        requires comes { (k : ℕ) × (refusal_of self.old.world (E.Arrive k) ≡ None) × (slice_get self.old.world.network k ≡ Some (Data (place ∷ []))) }
+        requires old { is_new self.old.world place ≡ false }
+        requires chunk { chunk ≡ chunk_at self.old.world place }
+        ensures ok { OnOk result (self.new.world ≡ slot_received self.old.world place) }
+        ensures checksum { self.new.checksum ≡ self.old.checksum }
+        ensures err { OnErr result (self.new.world ≡ self.old.world) }
+        ensures memory { IsOkUnless result ErrOutOfMemory }
+    {
+        self.duplicates.reserve(1)?;
+        self.filter.push(chunk, self.cumulative_tsn)?;
+        put(&mut self.duplicates, place as u64);
+        Ok(())
+    }
+
+    // Keeps the fragment of a slot that came for the first time.
+    fn keep(&mut self, place: usize, chunk: ChunkPayloadData) -> Result<()>
+        requires comes { (k : ℕ) × (refusal_of self.old.world (E.Arrive k) ≡ None) × (slice_get self.old.world.network k ≡ Some (Data (place ∷ []))) }
+        requires fresh { is_new self.old.world place ≡ true }
+        requires chunk { chunk ≡ chunk_at self.old.world place }
+        ensures ok { OnOk result (self.new.world ≡ slot_received self.old.world place) }
+        ensures checksum { self.new.checksum ≡ self.old.checksum }
+        ensures err { OnErr result (self.new.world ≡ self.old.world) }
+        ensures memory { IsOkUnless result ErrOutOfMemory }
+    {
+        let number = self.slots[place].message;
+        let Some(at) = lane_at(&self.lanes, chunk.stream_identifier) else {
+            unreachable!()
+        };
+        self.filter.reserve(1)?;
+        self.lanes[at].keep(&chunk, number)?;
+        self.cumulative_tsn = note(&mut self.filter, chunk, self.cumulative_tsn);
+        self.slots[place].arrived = true;
+        Ok(())
+    }
+
+    pub(super) fn read(&mut self, stream: u16) -> Reply
+        requires { refusal_of self.old.world (E.Read stream) ≡ None }
+        ensures right { IsRight self.old.world (E.Read stream) (told result) self.new.world }
+        ensures checksum { self.new.checksum ≡ self.old.checksum }
+    {
+        let Some(at) = lane_at(&self.lanes, stream) else {
+            unreachable!()
+        };
+        let Some(chunks) = self.lanes[at].read() else {
+            return Reply::Nothing;
+        };
+        let place = first_tsn(&chunks).wrapping_sub(self.first_tsn) as usize;
+        let number = self.slots[place].message as usize;
+        let message = &mut self.messages[number];
+        message.read = true;
+        let ppi = message.ppi;
+        self.lanes[at].finish_read(message.ordered, message.before, ppi, message.bytes.len());
+        Reply::Message {
+            stream,
+            ppi,
+            chunks,
+        }
+    }
+}
+
+// The TSN of the first fragment of a message.
+fn first_tsn(chunks: &Chunks) -> u32
+    requires { 0 < length chunks.now.set.chunks }
+    ensures { (d : ChunkPayloadData) → result ≡ (slice_index_or chunks.now.set.chunks 0 d).tsn }
+{
+    chunks.fragments()[0].tsn
+}
+
+// Puts the TSN of a new chunk where room was made for it, and answers the cumulative TSN that follows.
+fn note(filter: &mut PayloadQueue, chunk: ChunkPayloadData, cumulative: u32) -> u32
+    requires room { 0 < filter.old.room }
+    requires fresh { Window.is_new filter.old.chunks chunk.tsn cumulative ≡ true }
+    requires window { Window.IsWindow cumulative filter.old.chunks chunk.tsn }
+    ensures moved { advanced cumulative (map (λ c. c.tsn) (inserted chunk_before (record chunk { user_data = [] }) filter.old.chunks)) ≡ record { cum = result; held = map (λ c. c.tsn) filter.new.chunks } }
+    ensures duplicates { filter.new.duplicates ≡ filter.old.duplicates }
+{
+    let mark = without_data(chunk);
+    // The count of bytes, to which the mark adds none, fits.
+    let _held = filter.get_num_bytes();
+    let _ = filter.push(mark, cumulative);
+    advance(filter, cumulative)
+}
+
+// The chunk without its bytes, which a filter of TSNs does not need.
+fn without_data(chunk: ChunkPayloadData) -> ChunkPayloadData
+    ensures { result ≡ record chunk { user_data = [] } }
+{
+    let mut chunk = chunk;
+    chunk.user_data.clear();
+    chunk
+}
+
+// Moves the cumulative TSN over the chunks that stand next to it, which leave the filter (RFC 4960 6.2).
+fn advance(filter: &mut PayloadQueue, cumulative: u32) -> u32
+    ensures moved { advanced cumulative (map (λ c. c.tsn) filter.old.chunks) ≡ record { cum = result; held = map (λ c. c.tsn) filter.new.chunks } }
+    ensures rest { filter.new ≡ with_chunks filter.old filter.new.chunks }
+{
+    let mut cumulative = cumulative;
+    while let Some(_) = filter.pop(cumulative.wrapping_add(1)) {
+        cumulative = cumulative.wrapping_add(1);
+    }
+    cumulative
+}

@@ -1,0 +1,103 @@
+//! What a link sends, and sends again.
+
+ghost use Rattle.std.specs.Prelude.{◌≡◌, ◌<◌, ◌≤◌, ◌+◌, ◌-◌, ◌^◌, ◌∷◌, ◌++◌, ℕ, [], None, Some, OnOk, OnErr, IfOk, IsOkUnless, length, false};
+ghost use Rattle.sctp_base.specs.declared.error.Error.TheVariants.{ErrOutOfMemory};
+
+use super::streams::start_from;
+use super::{Link, put};
+use crate::datagram::write_datagram;
+use crate::event::{LinkRefusal, Reply};
+use crate::record::{Datagram, Kind, Message, Slot};
+use sctp_base::error::Result;
+use sctp_base::util::Checksum;
+use sctp_chunks::chunk::chunk_kind::ChunkKind;
+
+impl<C: Checksum + Drop> Link<C> {
+    ghost use Rattle.sctp_model.specs.Steps.{IsRight, refusal_of};
+    ghost use Rattle.sctp_model.specs.declared.event.Event.TheVariants as E;
+    ghost use Rattle.sctp_link.specs.Replies.{told};
+
+    pub(super) fn send(&mut self, now: u64) -> Result<Reply>
+        ensures ok { IfOk result (λ reply. IsRight self.old.world (E.Send now) (told reply) self.new.world) }
+        ensures checksum { self.new.checksum ≡ self.old.checksum }
+        ensures err { OnErr result (self.new.world ≡ self.old.world) }
+        ensures memory { IsOkUnless result ErrOutOfMemory }
+    {
+        let Some(chunk) = self.outbound.peek_pending() else {
+            self.start(now);
+            return Ok(Reply::Idle);
+        };
+        let number = chunk.message_id;
+        let ssn = chunk.stream_sequence_number;
+        let tsn = self.next_tsn;
+        let mut chunk = chunk.try_clone()?;
+        chunk.tsn = tsn;
+        let bytes = write_datagram(self.alloc, ChunkKind::PayloadData(chunk), &self.checksum)?;
+        self.slots.reserve(1)?;
+        self.network.reserve(1)?;
+        self.outbound.reserve_inflight(1)?;
+        let _ = self.outbound.send_next(&mut self.next_tsn, now);
+        start_from(&mut self.messages, self.unstarted, now);
+        self.unstarted = self.messages.len();
+        let slot = take_fragment(&mut self.messages[number as usize], number);
+        let place = self.slots.len() as u64;
+        let datagram = self.network.len() as u64;
+        put(&mut self.slots, slot);
+        let kind = Kind::Data { place };
+        put(&mut self.network, Datagram { kind, bytes });
+        Ok(Reply::Sent {
+            datagram,
+            tsn,
+            ssn,
+            count: 1,
+        })
+    }
+
+    pub(super) fn refusal_resend(&self, tsn: u32) -> Option<LinkRefusal>
+        ensures { result ≡ refusal_of self.now.world (E.Resend tsn) }
+    {
+        let place = tsn.wrapping_sub(self.first_tsn) as usize;
+        if place < self.taken || place >= self.slots.len() || self.slots[place].acknowledged {
+            return Some(LinkRefusal::NotInFlight);
+        }
+        None
+    }
+
+    pub(super) fn resend(&mut self, tsn: u32) -> Result<Reply>
+        requires { refusal_of self.old.world (E.Resend tsn) ≡ None }
+        ensures ok { IfOk result (λ reply. IsRight self.old.world (E.Resend tsn) (told reply) self.new.world) }
+        ensures checksum { self.new.checksum ≡ self.old.checksum }
+        ensures err { OnErr result (self.new.world ≡ self.old.world) }
+        ensures memory { IsOkUnless result ErrOutOfMemory }
+    {
+        let Some(chunk) = self.outbound.get(tsn) else {
+            unreachable!()
+        };
+        let nsent = chunk.nsent.saturating_add(1);
+        let chunk = chunk.try_clone()?;
+        let bytes = write_datagram(self.alloc, ChunkKind::PayloadData(chunk), &self.checksum)?;
+        self.network.reserve(1)?;
+        self.outbound.set_nsent(tsn, nsent);
+        let place = tsn.wrapping_sub(self.first_tsn) as u64;
+        let datagram = self.network.len() as u64;
+        let kind = Kind::Data { place };
+        put(&mut self.network, Datagram { kind, bytes });
+        Ok(Reply::Resent { datagram })
+    }
+}
+
+/// The slot of the next fragment of a message, which it takes.
+fn take_fragment(message: &mut Message, number: u64) -> Slot
+    requires { message.old.sent + 1 < 2 ^ 64 }
+    ensures slot { result ≡ record { message = number; fragment = message.old.sent; arrived = false; acknowledged = false } }
+    ensures taken { message.new ≡ record message.old { sent = message.old.sent + 1 } }
+{
+    let fragment = message.sent;
+    message.sent += 1;
+    Slot {
+        message: number,
+        fragment,
+        arrived: false,
+        acknowledged: false,
+    }
+}

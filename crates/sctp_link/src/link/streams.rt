@@ -1,0 +1,156 @@
+//! Streams and writes of a link.
+
+ghost use Rattle.std.specs.Prelude.{◌≡◌, ◌<◌, ◌≤◌, ◌+◌, ◌-◌, ◌^◌, ◌∷◌, ◌++◌, ℕ, [], None, Some, List, OnOk, OnErr, IfOk, IsOkUnless, length, nat_le, if◌then◌else◌};
+ghost use Rattle.sctp_base.specs.declared.error.Error.TheVariants.{ErrOutOfMemory};
+ghost use Rattle.sctp_lists.specs.Lists.{pieces};
+ghost use Rattle.sctp_queues.specs.Pending.{reserved};
+ghost use Rattle.sctp_link.specs.Lanes.{start_from};
+ghost use Rattle.sctp_link.specs.declared.record.Message.{Message};
+
+use super::{Link, put};
+use crate::event::{LinkRefusal, Reply};
+use crate::lane::{Lane, lane_at};
+use crate::record::Message;
+use bytes::Bytes;
+use sctp_base::error::Result;
+use sctp_base::util::Checksum;
+use sctp_chunks::chunk::chunk_payload_data::{PayloadProtocolIdentifier, ReliabilityType};
+use sctp_queues::outbound_queue::OutboundQueue;
+
+impl<C: Checksum + Drop> Link<C> {
+    ghost use Rattle.sctp_model.specs.Steps.{IsRight, refusal_of};
+    ghost use Rattle.sctp_model.specs.declared.event.Event.TheVariants as E;
+    ghost use Rattle.sctp_link.specs.Replies.{told};
+
+    pub(super) fn open(&mut self, stream: u16) -> Result<Reply>
+        requires { refusal_of self.old.world (E.Open stream) ≡ None }
+        ensures ok { IfOk result (λ reply. IsRight self.old.world (E.Open stream) (told reply) self.new.world) }
+        ensures checksum { self.new.checksum ≡ self.old.checksum }
+        ensures err { OnErr result (self.new.world ≡ self.old.world) }
+        ensures memory { IsOkUnless result ErrOutOfMemory }
+    {
+        let lane = Lane::new(
+            self.alloc,
+            stream,
+            self.fragment_size,
+            self.max_message_size,
+        );
+        self.lanes.push(lane)?;
+        Ok(Reply::Opened)
+    }
+
+    pub(super) fn mode(
+        &mut self,
+        stream: u16,
+        unordered: bool,
+        reliability: ReliabilityType,
+        value: u32,
+    ) -> Reply
+        requires { refusal_of self.old.world (E.Mode stream unordered reliability value) ≡ None }
+        ensures right { IsRight self.old.world (E.Mode stream unordered reliability value) (told result) self.new.world }
+        ensures checksum { self.new.checksum ≡ self.old.checksum }
+    {
+        let Some(at) = lane_at(&self.lanes, stream) else {
+            unreachable!()
+        };
+        self.lanes[at]
+            .state
+            .set_reliability_params(unordered, reliability, value);
+        Reply::Set
+    }
+
+    pub(super) fn refusal_write(&self, stream: u16, len: usize) -> Option<LinkRefusal>
+        ensures { (ppi : PayloadProtocolIdentifier) (bytes : List ℕ) → len ≡ length bytes → result ≡ refusal_of self.now.world (E.Write stream ppi bytes) }
+    {
+        if !self.is_open(stream) {
+            return Some(LinkRefusal::StreamUnknown);
+        }
+        if len > self.max_message_size as usize {
+            return Some(LinkRefusal::MessageTooLarge);
+        }
+        let fragments = fragments_in(len, self.fragment_size as usize);
+        if self.fragments + fragments >= 0x8000_0000 {
+            return Some(LinkRefusal::TsnsUsedUp);
+        }
+        None
+    }
+
+    pub(super) fn write(
+        &mut self,
+        stream: u16,
+        ppi: PayloadProtocolIdentifier,
+        bytes: Bytes,
+    ) -> Result<Reply>
+        requires { refusal_of self.old.world (E.Write stream ppi bytes) ≡ None }
+        ensures ok { IfOk result (λ reply. IsRight self.old.world (E.Write stream ppi bytes) (told reply) self.new.world) }
+        ensures checksum { self.new.checksum ≡ self.old.checksum }
+        ensures err { OnErr result (self.new.world ≡ self.old.world) }
+        ensures memory { IsOkUnless result ErrOutOfMemory }
+    {
+        if bytes.is_empty() {
+            return Ok(Reply::Wrote {
+                number: None,
+                fragments: 0,
+            });
+        }
+        let Some(at) = lane_at(&self.lanes, stream) else {
+            unreachable!()
+        };
+        let len = bytes.len();
+        let count = fragments_in(len, self.fragment_size as usize);
+        self.messages.reserve(1)?;
+        let ordered = self.lanes[at].is_ordered(ppi);
+        make_room(&mut self.outbound, ordered, count)?;
+        let (message, chunks) = self.lanes[at].write(self.alloc, ppi, bytes)?;
+        let _ = self.outbound.push(chunks);
+        let number = self.messages.len() as u64;
+        put(&mut self.messages, message);
+        self.fragments += count;
+        self.written += len as u64;
+        Ok(Reply::Wrote {
+            number: Some(number),
+            fragments: count as u64,
+        })
+    }
+
+    pub(super) fn start(&mut self, now: u64) -> Reply
+        ensures right { IsRight self.old.world (E.Start now) (told result) self.new.world }
+        ensures checksum { self.new.checksum ≡ self.old.checksum }
+    {
+        self.outbound.start_timed_messages(now);
+        start_from(&mut self.messages, self.unstarted, now);
+        self.unstarted = self.messages.len();
+        Reply::Started
+    }
+}
+
+/// Makes room for the fragments of a message.
+fn make_room(outbound: &mut OutboundQueue, ordered: bool, count: usize) -> Result<()>
+    ensures ok { OnOk result (outbound.new ≡ record outbound.old { pending = reserved outbound.old.pending (if ordered then count else 0) (if ordered then 0 else count) }) }
+    ensures err { OnErr result (outbound.new ≡ outbound.old) }
+    ensures memory { IsOkUnless result ErrOutOfMemory }
+{
+    if ordered {
+        return outbound.reserve(count, 0);
+    }
+    outbound.reserve(0, count)
+}
+
+/// How many fragments of a size so many bytes take.
+fn fragments_in(len: usize, size: usize) -> usize
+    requires { 0 < size }
+    ensures value { (bytes : List ℕ) → len ≡ length bytes → result ≡ length (pieces (length bytes) size bytes) }
+    ensures short { result ≤ len }
+{
+    let whole = len / size;
+    if len % size == 0 { whole } else { whole + 1 }
+}
+
+/// Starts the lifetimes of the messages from a place on.
+pub(super) fn start_from(messages: &mut [Message], first: usize, now: u64)
+    ensures { messages.new ≡ start_from first now messages.old }
+{
+    for place in first..messages.len() {
+        messages[place].started = Some(now);
+    }
+}

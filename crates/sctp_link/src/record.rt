@@ -1,0 +1,56 @@
+//! What a link keeps of messages, slots and datagrams.
+
+use bytes::Bytes;
+use sctp_chunks::chunk::chunk_payload_data::{PayloadProtocolIdentifier, ReliabilityType};
+use sctp_chunks::chunk::chunk_selective_ack::GapAckBlock;
+
+/// An accepted write of at least one byte. Its number is its place.
+#[derive(Drop)]
+pub struct Message {
+    pub stream: u16,
+    pub ordered: bool,
+    pub ppi: PayloadProtocolIdentifier,
+    pub bytes: Bytes,
+    pub reliability: ReliabilityType,
+    pub value: u32,
+    /// How many ordered messages of its stream were written before it.
+    pub before: u64,
+    /// The moment from which its lifetime counts, in nanoseconds.
+    pub started: Option<u64>,
+    pub read: bool,
+    /// How many of its fragments have slots: the first ones.
+    pub sent: u64,
+}
+
+/// A TSN that was given out to a fragment of a message (RFC 4960 3.3.1). The first has place 0.
+#[derive(Clone, Copy, Drop)]
+pub struct Slot {
+    pub message: u64,
+    pub fragment: u64,
+    pub arrived: bool,
+    pub acknowledged: bool,
+}
+
+/// What a datagram says, in places of slots.
+#[derive(Drop)]
+pub enum Kind {
+    /// The DATA chunk of a slot.
+    Data {
+        place: u64,
+    },
+    /// A SACK: how many slots it reports cumulatively, the credit, the gap blocks and the duplicates
+    /// (RFC 4960 3.3.4).
+    Sack {
+        cumulative: u64,
+        credit: u32,
+        blocks: Vec<GapAckBlock>,
+        duplicates: Vec<u64>,
+    },
+}
+
+/// A datagram in the network.
+#[derive(Drop)]
+pub struct Datagram {
+    pub kind: Kind,
+    pub bytes: Bytes,
+}
