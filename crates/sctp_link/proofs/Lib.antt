@@ -20,4 +20,9 @@ pub mod Modes
 pub mod Outgoing
 pub mod Sending
 pub mod SentLists
-pub mod Acking
+pub mod AckLoops
+pub mod Reporting
+pub mod Bounds
+pub mod Fragmented
+pub mod Writing
+pub mod WrittenLists

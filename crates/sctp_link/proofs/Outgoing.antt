@@ -38,7 +38,7 @@ use Rattle.sctp_link.proofs.Frames.{lane-same, next-kept, texts-more}
 
 -- ## Lengths
 
-piece-short : (most size : ℕ) (bytes : List ℕ) (i : ℕ) → length (get_or (pieces most size bytes) i []) ≤ size
+pub piece-short : (most size : ℕ) (bytes : List ℕ) (i : ℕ) → length (get_or (pieces most size bytes) i []) ≤ size
 piece-short zero size bytes i = omega arith
 piece-short (suc most) size [] i = omega arith
 piece-short (suc most) size (x ∷ xs) zero = short size (x ∷ xs)

@@ -1,5 +1,5 @@
 -- How far a SACK has been taken, while what it reports is gone through.
-use Rattle.std.specs.Prelude.{◌≡◌, ◌==◌, ℕ, ◌+◌, ◌-◌, ◌<◌, ◌≤◌, ◌^◌, Bool, ◌&&◌, ◌||◌, nat_le, nat_lt, min, if◌then◌else◌, List, length, slice_index_or, find, Some}
+use Rattle.std.specs.Prelude.{◌≡◌, ◌==◌, ℕ, ◌+◌, ◌-◌, ◌<◌, ◌≤◌, ◌^◌, Bool, ◌&&◌, ◌||◌, nat_le, nat_lt, min, if◌then◌else◌, List, length, slice_index_or, true}
 use Rattle.std.specs.List.{list_any}
 use Rattle.sctp_chunks.specs.declared.chunk.chunk_payload_data.ChunkPayloadData.{ChunkPayloadData}
 use Rattle.sctp_chunks.specs.declared.chunk.chunk_selective_ack.GapAckBlock.{GapAckBlock}
@@ -26,8 +26,8 @@ amount_with w acked s = on_stream w s (pending_bytes w) + unacked_on w acked s
 abbrev pub less_by : ℕ → Lane → Lane
 less_by bytes l = with_amount (l.state.buffered_amount - bytes) l
 
--- what is known of the record and the streams from the beginning
-pub record Acks (first : ℕ) (w : World) (lanes : List Lane) : Type 0 where
+-- what is known of the record from the beginning
+pub record Acks (first : ℕ) (w : World) : Type 0 where
   pub first_is : first ≡ w.setup.first
   pub in_range : w.setup.first < 2 ^ 32
   pub few : length w.slots < 2 ^ 31
@@ -36,17 +36,16 @@ pub record Acks (first : ℕ) (w : World) (lanes : List Lane) : Type 0 where
   -- the bytes of a chunk in flight are those of its slot
   pub shares : (p t : ℕ) (b : Bool) (c : ChunkPayloadData) → p < length w.slots → sending_of c ≡ sending_by w b p →
       (if c.stream_identifier == t then length c.user_data else 0) ≡ (if stream_of_slot w p == t then (if b then 0 else bytes_at w p) else 0)
-  pub known : (p : ℕ) → p < length w.slots → (l : Lane) × (find (has_number (stream_of_slot w p)) lanes ≡ Some l)
-  pub once : (k : ℕ) (d : Lane) → k < length lanes → find (has_number (slice_index_or lanes k d).state.stream_identifier) lanes ≡ Some (slice_index_or lanes k d)
 
 -- slots, queue and streams once these slots are acknowledged
-pub record IsAcking (w : World) (lanes : List Lane) (queue : Outbound) (acked : ℕ → Bool) (slots : List Slot) (now : List Lane) (left : Outbound) : Type 0 where
-  pub count : length slots ≡ length w.slots
-  pub slots : (k : ℕ) (d : Slot) → k < length slots → slot_record (slice_index_or slots k d) ≡ record (slot_at w k) { acknowledged = acked k }
+pub record IsAcking (w : World) (first : List Lane) (queue : Outbound) (acked : ℕ → Bool) (marked : List Slot) (now : List Lane) (left : Outbound) : Type 0 where
+  pub below : (k : ℕ) → k < w.taken → acked k ≡ true
+  pub count : length marked ≡ length w.slots
+  pub slots : (k : ℕ) (d : Slot) → k < length marked → slot_record (slice_index_or marked k d) ≡ record (slot_at w k) { acknowledged = acked k }
   pub in_flight : IsInFlight w acked w.taken (length w.slots - w.taken) left.inflight.chunks
   pub rest : left ≡ with_inflight queue left.inflight.chunks
-  pub lane_count : length now ≡ length lanes
-  pub lanes : (k : ℕ) (d : Lane) → k < length now → slice_index_or now k d ≡ with_amount (amount_with w acked (slice_index_or lanes k d).state.stream_identifier) (slice_index_or lanes k d)
+  pub lane_count : length now ≡ length first
+  pub lanes : (k : ℕ) (d : Lane) → k < length now → slice_index_or now k d ≡ with_amount (amount_with w acked (slice_index_or first k d).state.stream_identifier) (slice_index_or first k d)
 
 -- and one slot more
 abbrev pub and_one : (ℕ → Bool) → ℕ → ℕ → Bool

@@ -1,20 +1,20 @@
 //! What is acknowledged to a link (RFC 4960 3.3.4, 6.2.1).
 
-ghost use Rattle.std.specs.Prelude.{◌≡◌, ◌<◌, ◌≤◌, ◌+◌, ◌-◌, ◌^◌, ℕ, Bool, None, Some, List, OnErr, IfOk, IsOkUnless, length, min};
-ghost use Rattle.std.specs.List.{All};
+ghost use Rattle.std.specs.Prelude.{◌≡◌, ◌<◌, ◌≤◌, ◌+◌, ◌-◌, ◌^◌, ℕ, Bool, true, None, Some, List, OnErr, IfOk, IsOkUnless, length};
+ghost use Rattle.std.specs.List.{list_any};
 ghost use Rattle.sctp_base.specs.declared.error.Error.TheVariants.{ErrOutOfMemory};
-ghost use Rattle.sctp_lists.specs.Lists.{change_first};
+ghost use Rattle.sctp_lists.specs.Lists.{change_where};
 ghost use Rattle.sctp_queues.specs.Outbound.{Outbound, with_inflight};
 ghost use Rattle.sctp_model.specs.World.{World};
 ghost use Rattle.sctp_ties.specs.Tied.{IsInFlight};
 ghost use Rattle.sctp_link.specs.declared.lane.Lane.{Lane};
 ghost use Rattle.sctp_link.specs.Linked.{has_number};
-ghost use Rattle.sctp_link.specs.Acking.{Acks, IsAcking, and_one, and_run, and_blocks, less_by};
+ghost use Rattle.sctp_link.specs.Acking.{Acks, IsAcking, and_one, and_run, and_blocks, in_block, less_by};
 
 use super::Link;
 use crate::datagram::read_sack;
 use crate::event::{LinkRefusal, Reply};
-use crate::lane::{Lane, lane_at};
+use crate::lane::Lane;
 use crate::record::{Kind, Slot};
 use sctp_base::error::Result;
 use sctp_base::util::Checksum;
@@ -74,15 +74,17 @@ impl<C: Checksum + Drop> Link<C> {
     }
 }
 
-/// Takes bytes off the amount of an open stream.
+/// Takes bytes off the amount of a stream, where it is open.
 fn release(lanes: &mut [Lane], stream: u16, bytes: usize)
     requires { bytes < 2 ^ 31 }
-    ensures { lanes.new ≡ change_first (has_number stream) (less_by bytes) lanes.old }
+    ensures { lanes.new ≡ change_where (has_number stream) (less_by bytes) lanes.old }
 {
-    let Some(at) = lane_at(lanes, stream) else {
-        return;
-    };
-    lanes[at].state.on_buffer_released(bytes as i64);
+    for place in 0..lanes.len() {
+        if lanes[place].state.stream_identifier() != stream {
+            continue;
+        }
+        lanes[place].state.on_buffer_released(bytes as i64);
+    }
 }
 
 /// Acknowledges the slot at a place: what it has in flight leaves, and its stream has so much less.
@@ -94,8 +96,8 @@ fn acknowledge(
     place: usize,
 )
     requires place { place < length slots.old }
-    requires known { (w : World) × (first : List Lane) × (queue : Outbound) × (acked : ℕ → Bool) × Acks first_tsn w first × IsAcking w first queue acked slots.old lanes.old outbound.old }
-    ensures { (w : World) (first : List Lane) (queue : Outbound) (acked : ℕ → Bool) → Acks first_tsn w first → IsAcking w first queue acked slots.old lanes.old outbound.old → IsAcking w first queue (and_one acked place) slots.new lanes.new outbound.new }
+    requires known { (w : World) × (first : List Lane) × (queue : Outbound) × (acked : ℕ → Bool) × Acks first_tsn w × IsAcking w first queue acked slots.old lanes.old outbound.old }
+    ensures { (w : World) (first : List Lane) (queue : Outbound) (acked : ℕ → Bool) → Acks first_tsn w → IsAcking w first queue acked slots.old lanes.old outbound.old → IsAcking w first queue (and_one acked place) slots.new lanes.new outbound.new }
 {
     slots[place].acknowledged = true;
     let tsn = first_tsn.wrapping_add(place as u32);
@@ -117,9 +119,9 @@ fn acknowledge_run(
     from: usize,
     to: usize,
 )
-    requires within { to ≤ length slots.old }
-    requires known { (w : World) × (first : List Lane) × (queue : Outbound) × (acked : ℕ → Bool) × Acks first_tsn w first × IsAcking w first queue acked slots.old lanes.old outbound.old }
-    ensures acked { (w : World) (first : List Lane) (queue : Outbound) (acked : ℕ → Bool) → Acks first_tsn w first → IsAcking w first queue acked slots.old lanes.old outbound.old → IsAcking w first queue (and_run acked from to) slots.new lanes.new outbound.new }
+    requires within { from < to → to ≤ length slots.old }
+    requires known { (w : World) × (first : List Lane) × (queue : Outbound) × (acked : ℕ → Bool) × Acks first_tsn w × IsAcking w first queue acked slots.old lanes.old outbound.old }
+    ensures acked { (w : World) (first : List Lane) (queue : Outbound) (acked : ℕ → Bool) → Acks first_tsn w → IsAcking w first queue acked slots.old lanes.old outbound.old → IsAcking w first queue (and_run acked from to) slots.new lanes.new outbound.new }
     ensures count { length slots.new ≡ length slots.old }
 {
     for place in from..to {
@@ -136,9 +138,10 @@ fn acknowledge_blocks(
     cumulative: usize,
     blocks: &[GapAckBlock],
 )
-    requires within { All (λ b. cumulative + b.end ≤ length slots.old) blocks.now }
-    requires known { (w : World) × (first : List Lane) × (queue : Outbound) × (acked : ℕ → Bool) × Acks first_tsn w first × IsAcking w first queue acked slots.old lanes.old outbound.old }
-    ensures { (w : World) (first : List Lane) (queue : Outbound) (acked : ℕ → Bool) → Acks first_tsn w first → IsAcking w first queue acked slots.old lanes.old outbound.old → IsAcking w first queue (and_blocks acked cumulative blocks.now) slots.new lanes.new outbound.new }
+    requires short { cumulative < 2 ^ 32 }
+    requires within { (k : ℕ) → list_any (in_block cumulative k) blocks.now ≡ true → k < length slots.old }
+    requires known { (w : World) × (first : List Lane) × (queue : Outbound) × (acked : ℕ → Bool) × Acks first_tsn w × IsAcking w first queue acked slots.old lanes.old outbound.old }
+    ensures { (w : World) (first : List Lane) (queue : Outbound) (acked : ℕ → Bool) → Acks first_tsn w → IsAcking w first queue acked slots.old lanes.old outbound.old → IsAcking w first queue (and_blocks acked cumulative blocks.now) slots.new lanes.new outbound.new }
 {
     for block in blocks {
         let from = (cumulative + block.start as usize).saturating_sub(1);
@@ -149,6 +152,7 @@ fn acknowledge_blocks(
 
 /// Takes the chunks from one place to another out of what is in flight: they are its front.
 fn pop_run(outbound: &mut OutboundQueue, first_tsn: u32, from: usize, to: usize)
+    requires { to < 2 ^ 31 }
     ensures popped { (w : World) (acked : ℕ → Bool) (last : ℕ) → first_tsn ≡ w.setup.first → to ≤ last → last < 2 ^ 31 → IsInFlight w acked from (last - from) outbound.old.inflight.chunks → from ≤ to → IsInFlight w acked to (last - to) outbound.new.inflight.chunks }
     ensures none { to ≤ from → outbound.new ≡ outbound.old }
     ensures rest { outbound.new ≡ with_inflight outbound.old outbound.new.inflight.chunks }

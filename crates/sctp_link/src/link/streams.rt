@@ -1,8 +1,9 @@
 //! Streams and writes of a link.
 
-ghost use Rattle.std.specs.Prelude.{◌≡◌, ◌<◌, ◌≤◌, ◌+◌, ◌-◌, ◌^◌, ◌∷◌, ◌++◌, ℕ, [], None, Some, List, OnOk, OnErr, IfOk, IsOkUnless, length, nat_le};
+ghost use Rattle.std.specs.Prelude.{◌≡◌, ◌<◌, ◌≤◌, ◌+◌, ◌-◌, ◌^◌, ◌∷◌, ◌++◌, ℕ, [], None, Some, List, OnOk, OnErr, IfOk, IsOkUnless, length, nat_le, if◌then◌else◌};
 ghost use Rattle.sctp_base.specs.declared.error.Error.TheVariants.{ErrOutOfMemory};
 ghost use Rattle.sctp_lists.specs.Lists.{pieces};
+ghost use Rattle.sctp_queues.specs.Pending.{reserved};
 ghost use Rattle.sctp_link.specs.Lanes.{start_from};
 ghost use Rattle.sctp_link.specs.declared.record.Message.{Message};
 
@@ -14,6 +15,7 @@ use bytes::Bytes;
 use sctp_base::error::Result;
 use sctp_base::util::Checksum;
 use sctp_chunks::chunk::chunk_payload_data::{PayloadProtocolIdentifier, ReliabilityType};
+use sctp_queues::outbound_queue::OutboundQueue;
 
 impl<C: Checksum + Drop> Link<C> {
     ghost use Rattle.sctp_model.specs.Steps.{IsRight, refusal_of};
@@ -97,11 +99,8 @@ impl<C: Checksum + Drop> Link<C> {
         let len = bytes.len();
         let count = fragments_in(len, self.fragment_size as usize);
         self.messages.reserve(1)?;
-        if self.lanes[at].is_ordered(ppi) {
-            self.outbound.reserve(count, 0)?;
-        } else {
-            self.outbound.reserve(0, count)?;
-        }
+        let ordered = self.lanes[at].is_ordered(ppi);
+        make_room(&mut self.outbound, ordered, count)?;
         let (message, chunks) = self.lanes[at].write(self.alloc, ppi, bytes)?;
         let _ = self.outbound.push(chunks);
         let number = self.messages.len() as u64;
@@ -123,6 +122,18 @@ impl<C: Checksum + Drop> Link<C> {
         self.unstarted = self.messages.len();
         Reply::Started
     }
+}
+
+/// Makes room for the fragments of a message.
+fn make_room(outbound: &mut OutboundQueue, ordered: bool, count: usize) -> Result<()>
+    ensures ok { OnOk result (outbound.new ≡ record outbound.old { pending = reserved outbound.old.pending (if ordered then count else 0) (if ordered then 0 else count) }) }
+    ensures err { OnErr result (outbound.new ≡ outbound.old) }
+    ensures memory { IsOkUnless result ErrOutOfMemory }
+{
+    if ordered {
+        return outbound.reserve(count, 0);
+    }
+    outbound.reserve(0, count)
 }
 
 /// How many fragments of a size so many bytes take.

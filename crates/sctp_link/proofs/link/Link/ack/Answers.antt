@@ -12,7 +12,7 @@ use Rattle.sctp_link.specs.Records.{datagram_record}
 use Rattle.sctp_link.specs.Fields.{state_in, world_in}
 use Rattle.sctp_link.proofs.Frames.{moved}
 use Rattle.sctp_link.proofs.Outgoing.{network-more, bytes-more}
-use Rattle.sctp_link.proofs.Acking.{sack-short, taken-short, min-short, cumulative-place, report-is, linked-ack, world-acked, repeats-count}
+use Rattle.sctp_link.proofs.Reporting.{sack-short, taken-short, min-short, cumulative-place, report-is, linked-ack, world-acked, repeats-count}
 use Rattle.sctp_link.proofs.link.Link.ack.Goals as goal
 
 pub write_datagram-requires-clause-text : goal.write_datagram-requires-clause-text
