@@ -189,7 +189,7 @@ module _ (sum : List ℕ → ℕ) (x : State) (l : IsLinked sum x) (s : ℕ) (pp
         let known = f.sane.sender.made in
         let r = stream_of w s in
         let waits = all-wait w m.state r ppi bytes (ap (λ (r : StreamRecord). r.stream) stream-is) (ap (λ (r : StreamRecord). r.unordered) stream-is) (ap (λ (r : StreamRecord). r.reliability) stream-is) (ap (λ (r : StreamRecord). r.value) stream-is) i.size
-            (i.number ∙ ap (λ k. k % 2 ^ 16) (i.ordered ∙ ap (λ (r : StreamRecord). ordered_before w r.stream (length w.messages)) (sym stream-is))) known in
+        (i.number ∙ ap (λ k. k % 2 ^ 16) (i.ordered ∙ ap (λ (r : StreamRecord). ordered_before w r.stream (length w.messages)) (sym stream-is))) known in
         Written.tied-written w msg known q (mode (stream.fragment_at m.state ppi bytes 0)) (map mode (map (stream.fragment_at m.state ppi bytes) (numbers_from 1 (length (pieces (length bs) m.state.max_payload_size (drop m.state.max_payload_size bytes)))))) refl refl refl (ap not (ordered-same m.state.unordered ppi ∙ ap (λ (r : StreamRecord). is_dcep ppi || not r.unordered) (sym stream-is))) waits t
 
     -- ## The counts

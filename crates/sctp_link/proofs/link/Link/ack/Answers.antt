@@ -1,8 +1,6 @@
-use Rattle.std.proofs.Common.{◌≡◌, ◌≤◌, ◌+◌, ◌-◌, ◌%◌, ◌^◌, ◌++◌, ◌∷◌, ℕ, List, [], length, take, min, rules, refl, ap, ◌∙◌, sym, arith}
+use Rattle.std.proofs.Common.{◌≡◌, ◌≤◌, ◌+◌, ◌-◌, ◌%◌, ◌^◌, ◌++◌, ◌∷◌, [], length, take, min, rules, refl, ap, ◌∙◌, sym, arith}
 use Rattle.sctp_lists.proofs.Getting.{length-mapped}
-use Rattle.sctp_chunks.specs.declared.chunk.chunk_selective_ack.GapAckBlock.{GapAckBlock}
 use Rattle.sctp_chunks.specs.SelectiveAck.{Sack}
-use Rattle.sctp_model.specs.World.{World}
 use Rattle.sctp_model.specs.Reply as R
 use Rattle.sctp_model.specs.Changes.{reported}
 use Rattle.sctp_link.specs.declared.record.Kind.{Kind}
@@ -12,7 +10,7 @@ use Rattle.sctp_link.specs.Records.{datagram_record}
 use Rattle.sctp_link.specs.Fields.{state_in, world_in}
 use Rattle.sctp_link.proofs.Frames.{moved}
 use Rattle.sctp_link.proofs.Outgoing.{network-more, bytes-more}
-use Rattle.sctp_link.proofs.Reporting.{sack-short, taken-short, min-short, cumulative-place, report-is, linked-ack, world-acked, repeats-count}
+use Rattle.sctp_link.proofs.Reporting.{sack-short, taken-short, min-short, cumulative-place, report-is, linked-ack, world-acked}
 use Rattle.sctp_link.proofs.link.Link.ack.Goals as goal
 
 pub write_datagram-requires-clause-text : goal.write_datagram-requires-clause-text

@@ -1,4 +1,4 @@
-use Rattle.std.proofs.Common.{◌≡◌, rules, refl, ap, None, ◌∙◌, sym}
+use Rattle.std.proofs.Common.{◌≡◌, rules, refl, ap, None}
 use Rattle.sctp_model.specs.declared.event.Event.TheVariants as E
 use Rattle.sctp_model.specs.Changes.{mode_set}
 use Rattle.sctp_model.specs.Steps.{refusal_of}

@@ -1,4 +1,4 @@
-use Rattle.std.proofs.Common.{◌≡◌, ◌<◌, ◌++◌, ◌∷◌, ℕ, List, [], length, rules, refl, ap, None, Some, ◌∙◌, sym, arith, subst}
+use Rattle.std.proofs.Common.{◌≡◌, length, rules, refl, ap, None, Some, ◌∙◌, sym, arith, subst}
 use Rattle.std.specs.Vec.{with_items, vec_len}
 use Rattle.std.proofs.lemmas.List.{with_items_is}
 use Rattle.sctp_lists.proofs.Getting.{length-mapped}
@@ -7,8 +7,6 @@ use Rattle.sctp_queues.specs.Pending.{peeked}
 use Rattle.sctp_queues.specs.Outbound.{Outbound}
 use Rattle.sctp_queues.specs.Window.{SpansOneWindow, is_held}
 use Rattle.sctp_model.specs.Changes.{started}
-use Rattle.sctp_link.specs.declared.record.Message.{Message}
-use Rattle.sctp_link.specs.declared.record.Datagram.{Datagram}
 use Rattle.sctp_link.specs.Records.{message_record}
 use Rattle.sctp_link.specs.Lanes.{start_from}
 use Rattle.sctp_link.specs.Fields.{state_in, world_in}

@@ -1,12 +1,10 @@
-use Rattle.std.proofs.Common.{◌≡◌, ◌<◌, ◌++◌, ◌∷◌, ◌+◌, ◌^◌, ℕ, Bool, List, [], length, rules, refl, ap, None, Some, ◌∙◌, sym, arith, subst}
-use Rattle.std.specs.Prelude.{if◌then◌else◌, slice_index_or, find}
-use Rattle.sctp_chunks.specs.declared.chunk.chunk_payload_data.ChunkPayloadData.{ChunkPayloadData}
+use Rattle.std.proofs.Common.{◌≡◌, ◌<◌, ◌++◌, ◌∷◌, ◌+◌, [], length, rules, refl, ap, None, Some, ◌∙◌, sym, arith, subst}
+use Rattle.std.specs.Prelude.{slice_index_or, find}
 use Rattle.sctp_queues.specs.Whole.{IsMessageOrNone}
 use Rattle.sctp_queues.specs.Outbound.{with_message}
 use Rattle.sctp_model.specs.declared.event.Event.TheVariants as E
 use Rattle.sctp_model.specs.Steps.{refusal_of, fragments_in}
 use Rattle.sctp_link.specs.declared.lane.Lane.{Lane}
-use Rattle.sctp_link.specs.declared.record.Message.{Message}
 use Rattle.sctp_link.specs.Lanes.{is_ordered, message_with, fragments_with_mode, after_write_on}
 use Rattle.sctp_link.specs.Linked.{has_number}
 use Rattle.sctp_link.specs.Fields.{state_in, world_in}
@@ -36,7 +34,7 @@ invariant_of-self-in_err-message g c =
     let lt : c.in-Some.at < length c.self.inside.lanes.items = search rules in
     let here : find (has_number c.args.stream) c.self.inside.lanes.items ≡ Some (slice_index_or c.self.inside.lanes.items c.in-Some.at c.index_mut.result.now) = search rules in
     linked-unwritten (g.C.Checksum.sum c.self.inside.checksum) (state_in c.self.inside) c.self.invariant c.args.stream c.args.ppi c.args.bytes some ok refl c.in-Some.at c.index_mut.result.now lt here
-        c.write.new.self c.make_room.new.outbound _ _ c.self.inside.messages.items c.reserve.new.self.items (c.in_err-message.ensures.err ∙ c.index_mut.ensures.value) c.in_ok-make_room.ensures.ok refl refl (search rules)
+    c.write.new.self c.make_room.new.outbound _ _ c.self.inside.messages.items c.reserve.new.self.items (c.in_err-message.ensures.err ∙ c.index_mut.ensures.value) c.in_ok-make_room.ensures.ok refl refl (search rules)
 
 pub push-requires-clause-message : goal.push-requires-clause-message
 push-requires-clause-message g c =
@@ -51,7 +49,7 @@ push-requires-clause-bytes g c =
     let here : find (has_number c.args.stream) c.self.inside.lanes.items ≡ Some (slice_index_or c.self.inside.lanes.items c.in-Some.at c.index_mut.result.now) = search rules in
     let short = write-short (g.C.Checksum.sum c.self.inside.checksum) (state_in c.self.inside) c.self.invariant c.args.stream c.args.ppi c.args.bytes some ok refl in
     pushed-few (g.C.Checksum.sum c.self.inside.checksum) (state_in c.self.inside) c.self.invariant c.args.stream c.args.ppi c.args.bytes some ok refl c.in-Some.at c.index_mut.result.now lt here
-        c.make_room.new.outbound _ _ c.in_ok-message.chunks.items c.in_ok-make_room.ensures.ok (c.in_ok-message.ensures.chunks ∙ ap (λ (t : Lane). fragments_with_mode t.state c.args.ppi c.args.bytes) c.index_mut.ensures.value) short
+    c.make_room.new.outbound _ _ c.in_ok-message.chunks.items c.in_ok-make_room.ensures.ok (c.in_ok-message.ensures.chunks ∙ ap (λ (t : Lane). fragments_with_mode t.state c.args.ppi c.args.bytes) c.index_mut.ensures.value) short
 
 pub overflow_add-self-2 : goal.overflow_add-self-2
 overflow_add-self-2 g c =
@@ -79,7 +77,7 @@ invariant_of-self-2 g c =
     let room = push-room sum x c.self.invariant c.args.stream c.args.ppi c.args.bytes some ok refl c.in-Some.at c.index_mut.result.now lt here c.in_ok-message.chunks.items c.make_room.new.outbound c.is_ordered-ordered.result c.fragments_in-count.result frags ordered count c.in_ok-make_room.ensures.ok in
     let pushed : c.push.new.self ≡ with_message c.in_ok-message.chunks.items c.make_room.new.outbound = of-ok c.push.result _ c.push.ensures.ok (c.push.ensures.succeeds room) in
     linked-wrote sum x c.self.invariant c.args.stream c.args.ppi c.args.bytes some ok refl c.in-Some.at c.index_mut.result.now lt here c.write.new.self lane c.self.inside.messages.items c.put.new.items.items refl refl more
-        c.make_room.new.outbound c.push.new.self _ _ _ _ c.fragments_in-count.result c.in_ok-make_room.ensures.ok (pushed ∙ ap (λ cs. with_message cs c.make_room.new.outbound) frags) refl count (ap (λ n. c.self.inside.written + n) c.len-len.ensures.value)
+    c.make_room.new.outbound c.push.new.self _ _ _ _ c.fragments_in-count.result c.in_ok-make_room.ensures.ok (pushed ∙ ap (λ cs. with_message cs c.make_room.new.outbound) frags) refl count (ap (λ n. c.self.inside.written + n) c.len-len.ensures.value)
 
 pub returns-clause-ok : goal.returns-clause-ok
 returns-clause-ok g c =
