@@ -1,8 +1,8 @@
 -- What the arrival of a slot makes of a link.
-use Rattle.std.proofs.Common.{◌≡◌, ℕ, ◌+◌, ◌-◌, ◌<◌, ◌%◌, ◌^◌, Bool, true, false, List, [], ◌∷◌, ◌++◌, length, map, Some, None, refl, ap, sym, ◌∙◌, arith}
-use Rattle.std.specs.Prelude.{◌==◌, ◌&&◌, not, IsTrue, if◌then◌else◌, find, slice_get, slice_index_or, slice_set}
+use Rattle.std.proofs.Common.{◌≡◌, ℕ, ◌<◌, Bool, true, false, List, [], ◌∷◌, ◌++◌, length, Some, None, refl, ap, sym, ◌∙◌}
+use Rattle.std.specs.Prelude.{IsTrue, if◌then◌else◌, slice_get, slice_index_or}
 use Rattle.std.proofs.Math.Path.{subst}
-use Rattle.sctp_lists.specs.Lists.{changed, inserted, advanced, Seen}
+use Rattle.sctp_lists.specs.Lists.{inserted, advanced, Seen}
 use Rattle.sctp_lists.specs.Serial.{comes_before}
 use Rattle.sctp_lists.proofs.More.{not_both}
 use Rattle.sctp_chunks.specs.declared.chunk.chunk_payload_data.ChunkPayloadData.{ChunkPayloadData}
@@ -11,8 +11,8 @@ use Rattle.sctp_queues.specs.Payload
 use Rattle.sctp_queues.specs.Payload.{Payload}
 use Rattle.sctp_queues.specs.Window
 use Rattle.sctp_model.specs.declared.event.Event.TheVariants as E
-use Rattle.sctp_model.specs.World.{World, StreamRecord, Data}
-use Rattle.sctp_model.specs.Messages.{message_at, slot_at, message_of, stream_at, index_of, tsn_of}
+use Rattle.sctp_model.specs.World.{World, Data}
+use Rattle.sctp_model.specs.Messages.{message_at, message_of, index_of, tsn_of}
 use Rattle.sctp_model.specs.Receiver.{is_new, next_of}
 use Rattle.sctp_model.specs.Changes.{slot_received, datagram_received, whole_noted}
 use Rattle.sctp_model.specs.Contents.{chunk_at}
@@ -21,7 +21,7 @@ use Rattle.sctp_model.specs.Steps.{refusal_of, after, arrival_fits, is_for_recei
 use Rattle.sctp_model.proofs.Network
 use Rattle.sctp_model.proofs.SenderRun.{unless-holds}
 use Rattle.sctp_model.specs.declared.event.LinkRefusal.TheVariants.{NoSuchDatagram, SpanTooWide}
-use Rattle.sctp_ties.specs.Holds.{reassembly_of, seen_of, loose_chunks}
+use Rattle.sctp_ties.specs.Holds.{reassembly_of, seen_of}
 use Rattle.sctp_ties.specs.Tied.{filter_held}
 use Rattle.sctp_ties.specs.Counts.{counters_on}
 use Rattle.sctp_ties.proofs.Arrival.{with_arrived}
@@ -36,7 +36,7 @@ use Rattle.sctp_ties.proofs.SlotsNear.{span-at}
 use Rattle.sctp_ties.proofs.Span.{IsSpan}
 use Rattle.sctp_ties.proofs.StreamCounters.{counters-same}
 use Rattle.sctp_link.specs.declared.lane.Lane.{Lane}
-use Rattle.sctp_link.specs.Linked.{State, IsLinked, IsLane, has_number, stats_of}
+use Rattle.sctp_link.specs.Linked.{State, IsLinked, IsLane, stats_of}
 use Rattle.sctp_link.proofs.Facts.{facts, over}
 use Rattle.sctp_link.proofs.LanesAfter.{lane-then, linked-then}
 use Rattle.sctp_link.proofs.Hears.{new-tells, come-made}

@@ -1,5 +1,5 @@
 -- What a read makes of a link.
-use Rattle.std.proofs.Common.{◌≡◌, ℕ, zero, suc, ◌+◌, ◌-◌, ◌<◌, ◌≤◌, Bool, true, false, List, [], ◌∷◌, length, map, drop, Some, None, refl, ap, sym, ◌∙◌, inl, inr, arith}
+use Rattle.std.proofs.Common.{◌≡◌, ℕ, zero, suc, ◌+◌, ◌<◌, Bool, true, false, List, [], ◌∷◌, length, map, drop, Some, None, refl, ap, sym, ◌∙◌, inl, inr, arith}
 use Rattle.std.specs.Prelude.{◌⊎◌, ◌==◌, ◌&&◌, is_some, if◌then◌else◌, find, unwrap_or, slice_index_or, slice_set, Option, option_map}
 use Rattle.std.specs.List.{list_any}
 use Rattle.std.proofs.Math.Path.{subst}
@@ -16,9 +16,9 @@ use Rattle.sctp_model.specs.declared.event.Event.TheVariants as E
 use Rattle.sctp_model.specs.declared.event.LinkRefusal.TheVariants.{StreamUnknown}
 use Rattle.sctp_model.specs.World.{World, StreamRecord}
 use Rattle.sctp_model.specs.World as W
-use Rattle.sctp_model.specs.Messages.{message_at, stream_at, stream_of, index_of, is_unordered_on, is_ordered_on, no_stream}
+use Rattle.sctp_model.specs.Messages.{message_at, stream_at, stream_of, index_of, is_ordered_on, no_stream}
 use Rattle.sctp_model.specs.Receiver.{is_held, held_on, next_of, next_read}
-use Rattle.sctp_model.specs.Changes.{read_of, read_from, stream_changed, message_changed, mark_read, without_first}
+use Rattle.sctp_model.specs.Changes.{read_of, read_from, mark_read, without_first}
 use Rattle.sctp_model.specs.Queues.{filter_of, set_of, whole_set_of, handed_out}
 use Rattle.sctp_model.specs.Reply as R
 use Rattle.sctp_model.specs.Steps.{refusal_of, reply_to, after, read_reply, unless}

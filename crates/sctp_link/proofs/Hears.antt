@@ -1,6 +1,6 @@
 -- What a link's queues tell of what comes to its receiver.
 use Rattle.std.proofs.Common.{◌≡◌, ℕ, zero, suc, ◌+◌, ◌-◌, ◌<◌, ◌≤◌, ◌^◌, ◌%◌, Bool, true, false, List, [], ◌∷◌, length, map, Option, Some, None, refl, ap, sym, ◌∙◌, arith}
-use Rattle.std.specs.Prelude.{◌==◌, ◌&&◌, not, is_some, find, if◌then◌else◌, min, max, nat_lt, slice_get, slice_index_or}
+use Rattle.std.specs.Prelude.{◌&&◌, not, is_some, find, if◌then◌else◌, min, max, nat_lt, slice_get, slice_index_or}
 use Rattle.std.specs.Option.{option_copied}
 use Rattle.std.specs.Borrow.{Bor}
 use Rattle.std.proofs.Math.Path.{subst}
@@ -15,11 +15,10 @@ use Rattle.sctp_queues.specs.Window
 use Rattle.sctp_model.specs.World.{World, StreamRecord, Data}
 use Rattle.sctp_model.specs.Messages.{message_at, slot_at, message_of, stream_at, index_of, tsn_of, place_of, is_ordered_on, no_message, no_slot}
 use Rattle.sctp_model.specs.Receiver.{is_new, is_held, held_on, next_of, least, greatest}
-use Rattle.sctp_model.specs.Contents.{chunk_at}
 use Rattle.sctp_model.specs.Queues.{set_of}
 use Rattle.sctp_model.specs.Steps.{arrival_fits}
 use Rattle.sctp_model.proofs.Shape.{shape, parts}
-use Rattle.sctp_ties.specs.Holds.{seen_of, ordered_sets, reassembly_of}
+use Rattle.sctp_ties.specs.Holds.{ordered_sets}
 use Rattle.sctp_ties.proofs.Arrival
 use Rattle.sctp_ties.proofs.Line
 use Rattle.sctp_ties.proofs.Taken
@@ -28,8 +27,8 @@ use Rattle.sctp_ties.proofs.SpanEnds.{Begins, set-begins, set-at, sets-held, end
 use Rattle.sctp_link.specs.declared.lane.Lane.{Lane}
 use Rattle.sctp_link.specs.declared.record.Message.{Message}
 use Rattle.sctp_link.specs.declared.record.Slot.{Slot}
-use Rattle.sctp_link.specs.Linked.{State, IsLinked, IsLane, has_number}
-use Rattle.sctp_link.specs.Records.{message_record, slot_record, stream_record}
+use Rattle.sctp_link.specs.Linked.{State, IsLinked, has_number}
+use Rattle.sctp_link.specs.Records.{message_record, slot_record}
 use Rattle.sctp_link.proofs.Facts.{facts}
 use Rattle.sctp_link.proofs.Lookups.{found-number}
 

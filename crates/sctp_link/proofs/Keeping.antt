@@ -1,5 +1,5 @@
 -- A slot that comes for the first time is kept by its stream.
-use Rattle.std.proofs.Common.{◌≡◌, ℕ, ◌+◌, ◌-◌, ◌<◌, ◌%◌, ◌^◌, Bool, true, false, List, [], ◌∷◌, ◌++◌, length, map, Some, None, refl, ap, sym, ◌∙◌, arith}
+use Rattle.std.proofs.Common.{◌≡◌, ℕ, ◌<◌, ◌%◌, ◌^◌, Bool, true, false, List, [], ◌∷◌, ◌++◌, length, map, Some, None, refl, ap, sym, ◌∙◌, arith}
 use Rattle.std.specs.Prelude.{◌==◌, ◌&&◌, not, is_some, nat_le, Result, Ok, Err, OnErr, if◌then◌else◌, find, slice_get, slice_index_or, slice_set}
 use Rattle.std.specs.List.{list_all}
 use Rattle.std.proofs.Math.Path.{subst}
@@ -10,11 +10,10 @@ use Rattle.sctp_lists.proofs.More.{not_both}
 use Rattle.sctp_queues.specs.DataChunks.{chunk_before}
 use Rattle.sctp_queues.specs.Payload.{Payload}
 use Rattle.sctp_queues.specs.Reassembly.{Reassembly, ReassemblyState, is_too_large, pushed_ordered, BecomesWhole}
-use Rattle.sctp_chunks.specs.declared.chunk.chunk_payload_data.ReliabilityType.{ReliabilityType}
 use Rattle.sctp_model.specs.declared.event.Event.TheVariants as E
 use Rattle.sctp_model.specs.World.{World, StreamRecord, Data}
 use Rattle.sctp_model.specs.World as W
-use Rattle.sctp_model.specs.Messages.{message_at, message_of, stream_at, slots_of, ordered_before}
+use Rattle.sctp_model.specs.Messages.{message_at, message_of, slots_of, ordered_before}
 use Rattle.sctp_model.specs.Receiver.{is_new, has_arrived, next_of}
 use Rattle.sctp_model.specs.Changes.{slot_received, becomes_whole, with_whole, stream_changed, mark_arrived}
 use Rattle.sctp_model.specs.Contents.{chunk_at}

@@ -1,5 +1,5 @@
 -- What an event that leaves the sender's side as it was makes of a link.
-use Rattle.std.proofs.Common.{◌≡◌, ℕ, ◌+◌, ◌<◌, ◌%◌, ◌^◌, true, List, ◌∷◌, length, map, Some, None, refl, ap, sym, ◌∙◌, arith}
+use Rattle.std.proofs.Common.{◌≡◌, ℕ, ◌+◌, ◌<◌, ◌%◌, ◌^◌, true, List, ◌∷◌, length, Some, None, ap, sym, ◌∙◌}
 use Rattle.std.specs.Prelude.{find, slice_get, slice_index_or}
 use Rattle.std.proofs.Math.Path.{subst}
 use Rattle.sctp_lists.specs.Kept.{kept, numbers_from, total_over}
@@ -7,12 +7,11 @@ use Rattle.sctp_queues.specs.Payload.{Payload}
 use Rattle.sctp_model.specs.declared.event.Event.{Event}
 use Rattle.sctp_model.specs.World.{Setup, World}
 use Rattle.sctp_model.specs.World as W
-use Rattle.sctp_model.specs.Messages.{message_at, ordered_before, sent_of, tsn_of}
+use Rattle.sctp_model.specs.Messages.{ordered_before, tsn_of}
 use Rattle.sctp_model.specs.Receiver.{next_of}
 use Rattle.sctp_model.specs.Contents.{contents_of}
 use Rattle.sctp_model.specs.Queues.{filter_of}
-use Rattle.sctp_model.specs.Amounts.{in_all, written_bytes}
-use Rattle.sctp_model.specs.Steps.{History, StandsFor, refusal_of, reply_to, after, fragments_accepted}
+use Rattle.sctp_model.specs.Steps.{StandsFor, refusal_of, reply_to, after}
 use Rattle.sctp_model.specs.Laws.{IsSetup}
 use Rattle.sctp_model.proofs.Shape.{Shape, shape, sent, parts, on}
 use Rattle.sctp_model.proofs.Network.{Same}

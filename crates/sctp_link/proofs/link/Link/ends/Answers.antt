@@ -1,9 +1,7 @@
-use Rattle.std.proofs.Common.{◌≡◌, ℕ, ap, sym, ◌∙◌, ◌<◌, ◌-◌, true, Some, None, refl, rules, arith, length}
-use Rattle.std.specs.Prelude.{find, min, max, slice_index_or, is_some}
+use Rattle.std.proofs.Common.{◌≡◌, ℕ, ap, sym, ◌∙◌, ◌<◌, ◌-◌, true, Some, refl, arith, length}
+use Rattle.std.specs.Prelude.{find, min, max, slice_index_or}
 use Rattle.std.specs.VecDeque.{deque_len}
 use Rattle.sctp_lists.proofs.More.{not_both}
-use Rattle.sctp_queues.specs.declared.chunks.Fragments.{Fragments}
-use Rattle.sctp_chunks.specs.ChunkSet.{ChunkSet}
 use Rattle.sctp_model.specs.Messages.{is_open, index_of}
 use Rattle.sctp_model.specs.Receiver.{held_on, is_held}
 use Rattle.sctp_model.specs.Queues.{set_of}

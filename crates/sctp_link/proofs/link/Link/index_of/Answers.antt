@@ -1,4 +1,4 @@
-use Rattle.std.proofs.Common.{◌≡◌, ℕ, length, refl, true, arith}
+use Rattle.std.proofs.Common.{◌≡◌, ℕ, refl, true, arith}
 use Rattle.sctp_model.specs.Receiver.{is_held}
 use Rattle.sctp_model.specs.Queues.{set_of}
 use Rattle.sctp_link.specs.Fields.{world_in, state_in}

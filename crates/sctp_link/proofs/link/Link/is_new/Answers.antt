@@ -1,4 +1,4 @@
-use Rattle.std.proofs.Common.{◌<◌, length, arith, rules, ◌∙◌}
+use Rattle.std.proofs.Common.{◌<◌, length, arith, ◌∙◌}
 use Rattle.sctp_link.specs.Fields.{world_in, state_in}
 use Rattle.sctp_link.proofs.Facts.{facts}
 use Rattle.sctp_link.proofs.Hears.{new-held, new-unheld}

@@ -1,6 +1,6 @@
-use Rattle.std.proofs.Common.{◌≡◌, ℕ, ap, sym, ◌∙◌, ◌<◌, ◌++◌, ◌∷◌, [], true, Some, None, refl, rules, arith, map, length}
+use Rattle.std.proofs.Common.{◌≡◌, ℕ, ap, sym, ◌∙◌, ◌<◌, ◌∷◌, [], true, Some, None, refl, arith, map, length}
 use Rattle.std.specs.Prelude.{find, slice_get, slice_index_or, slice_set}
-use Rattle.sctp_lists.specs.Lists.{changed, advanced, inserted}
+use Rattle.sctp_lists.specs.Lists.{advanced, inserted}
 use Rattle.sctp_queues.specs.DataChunks.{chunk_before}
 use Rattle.sctp_queues.specs.Payload.{Payload}
 use Rattle.sctp_ties.proofs.FilterQueue.{tsns}

@@ -1,11 +1,9 @@
-use Rattle.std.proofs.Common.{◌≡◌, ℕ, ap, sym, ◌∙◌, ◌<◌, ◌+◌, ◌-◌, ◌^◌, ◌%◌, ◌∷◌, [], true, Some, None, refl, rules, arith, map, length, drop}
-use Rattle.std.specs.Prelude.{find, slice_get, slice_index_or, slice_set, if◌then◌else◌, ◌&&◌, ◌==◌}
+use Rattle.std.proofs.Common.{◌≡◌, ap, sym, ◌∙◌, ◌<◌, ◌+◌, ◌-◌, ◌^◌, ◌%◌, true, Some, None, refl, arith, map, length, drop}
+use Rattle.std.specs.Prelude.{find, slice_index_or, slice_set, if◌then◌else◌, ◌&&◌, ◌==◌}
 use Rattle.std.proofs.lemmas.List.{get_or-set_same}
-use Rattle.sctp_chunks.specs.declared.chunk.chunk_payload_data.ChunkPayloadData.{ChunkPayloadData}
 use Rattle.sctp_lists.specs.Lists.{changed}
 use Rattle.sctp_queues.specs.Reassembly.{message_read, state_read}
-use Rattle.sctp_model.specs.World.{World}
-use Rattle.sctp_model.specs.Messages.{message_at, is_open}
+use Rattle.sctp_model.specs.Messages.{message_at}
 use Rattle.sctp_model.specs.Changes.{mark_read}
 use Rattle.sctp_model.specs.Contents.{chunk_at}
 use Rattle.sctp_model.specs.Reply as R
@@ -13,11 +11,10 @@ use Rattle.sctp_model.specs.Steps.{refusal_of}
 use Rattle.sctp_model.specs.declared.event.Event.TheVariants as E
 use Rattle.sctp_link.specs.declared.lane.Lane.{Lane}
 use Rattle.sctp_link.specs.declared.record.Message.{Message}
-use Rattle.sctp_link.specs.declared.record.Slot.{Slot}
 use Rattle.sctp_link.specs.Fields.{world_in, state_in}
 use Rattle.sctp_link.specs.Lanes.{with_read_stats}
 use Rattle.sctp_link.specs.Linked.{has_number}
-use Rattle.sctp_link.specs.Records.{message_record, stream_record}
+use Rattle.sctp_link.specs.Records.{message_record}
 use Rattle.sctp_link.proofs.Apart.{map-set, map-set_same}
 use Rattle.sctp_link.proofs.Hears.{lead-slot, lead-number, messages-made, message-raw}
 use Rattle.sctp_link.proofs.HandsOut.{none-mapped, some-mapped, world-nothing, linked-nothing, reply-nothing, read-is, hands, hands-begins, low, reply-read, world-twice, linked-twice, never-shut}

@@ -1,4 +1,4 @@
-use Rattle.std.proofs.Common.{◌≡◌, ℕ, ap, ◌∙◌, ◌++◌, ◌∷◌, [], false, Some, None, rules}
+use Rattle.std.proofs.Common.{◌≡◌, ℕ, ap, ◌∙◌, ◌++◌, ◌∷◌, [], false, Some, None}
 use Rattle.std.specs.Prelude.{slice_get}
 use Rattle.sctp_model.specs.World.{Data}
 use Rattle.sctp_model.specs.Receiver.{is_new}

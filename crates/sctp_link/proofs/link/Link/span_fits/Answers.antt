@@ -1,6 +1,5 @@
 use Rattle.std.proofs.Common.{◌≡◌, ℕ, ap, sym, ◌∙◌, ◌<◌, ◌+◌, [], ◌∷◌, true, false, Some, refl, rules, arith, length, map}
-use Rattle.std.specs.Prelude.{slice_get, slice_index_or, is_some, min, max, nat_lt}
-use Rattle.sctp_lists.proofs.Cases.{negated}
+use Rattle.std.specs.Prelude.{slice_get, slice_index_or, is_some, max, nat_lt}
 use Rattle.sctp_model.specs.World.{Data}
 use Rattle.sctp_model.specs.Messages.{message_at, message_of, is_open, index_of}
 use Rattle.sctp_model.specs.Receiver.{is_new, held_on, next_of, least, greatest}
