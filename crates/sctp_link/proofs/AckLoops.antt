@@ -1,10 +1,10 @@
 -- The loops by which a SACK is taken: one slot after another is acknowledged.
-use Rattle.std.proofs.Common.{◌≡◌, ℕ, zero, suc, ◌+◌, ◌-◌, ◌<◌, ◌≤◌, ◌^◌, Bool, true, false, List, [], ◌∷◌, ◌++◌, length, length-set, get_or, set, take, drop, map, Option, Some, None, refl, ap, sym, ◌∙◌, inl, inr, add-one, arith}
-use Rattle.std.specs.Prelude.{if◌then◌else◌, ◌==◌, ◌&&◌, ◌||◌, not, nat_lt, nat_le, max, find, slice_index_or}
+use Rattle.std.proofs.Common.{◌≡◌, ℕ, zero, suc, ◌+◌, ◌-◌, ◌<◌, ◌≤◌, ◌^◌, Bool, true, false, List, [], ◌∷◌, length, length-set, get_or, set, take, map, Some, None, refl, ap, sym, ◌∙◌, inl, inr, add-one, arith}
+use Rattle.std.specs.Prelude.{if◌then◌else◌, ◌==◌, ◌&&◌, ◌||◌, nat_lt, nat_le, max, find, slice_index_or}
 use Rattle.std.specs.List.{list_any}
 use Rattle.std.proofs.lemmas.Bool.{cases_lt, cases_eq, eq-eqb, ne_eqb, eqb-true, eqb-false, lt-ltb, le-ltb, le-leb, lt-leb, leb-true, ltb-true}
 use Rattle.std.proofs.lemmas.Bool.Decides.{nat_tests}
-use Rattle.std.proofs.lemmas.List.{get_or-set_same, get_or-set_other, get_or_default}
+use Rattle.std.proofs.lemmas.List.{get_or-set_same, get_or-set_other}
 use Rattle.sctp_lists.specs.Lists.{change_where}
 use Rattle.sctp_lists.specs.Kept.{kept, always}
 use Rattle.sctp_lists.proofs.More.{same_test}
@@ -14,14 +14,14 @@ use Rattle.sctp_chunks.specs.declared.chunk.chunk_payload_data.ChunkPayloadData.
 use Rattle.sctp_chunks.specs.declared.chunk.chunk_selective_ack.GapAckBlock.{GapAckBlock}
 use Rattle.sctp_queues.specs.Marks.{acknowledged}
 use Rattle.sctp_queues.specs.DataChunks.{has_tsn}
-use Rattle.sctp_queues.specs.Payload.{front_with, without_front}
+use Rattle.sctp_queues.specs.Payload.{without_front}
 use Rattle.sctp_queues.specs.Outbound.{Outbound, with_inflight}
 use Rattle.sctp_model.specs.World as W
 use Rattle.sctp_model.specs.World.{World}
 use Rattle.sctp_model.specs.Messages.{slot_at, tsn_of}
 use Rattle.sctp_model.specs.Amounts.{on_stream, pending_bytes}
-use Rattle.sctp_ties.specs.Amount.{unacked_on, stream_of_slot, bytes_at}
-use Rattle.sctp_ties.specs.Tied.{Sending, sending_of, sending_by, IsInFlight}
+use Rattle.sctp_ties.specs.Amount.{stream_of_slot, bytes_at}
+use Rattle.sctp_ties.specs.Tied.{sending_of, sending_by, IsInFlight}
 use Rattle.sctp_ties.proofs.Acked.{first_of', rest_of', marked-acked, popped-front, in-flight-same}
 use Rattle.sctp_ties.proofs.Unacked.{unacked_on-same, unacked_on-taken}
 use Rattle.sctp_ties.proofs.StreamAmounts.{same-turned}
@@ -29,7 +29,7 @@ use Rattle.sctp_link.specs.declared.lane.Lane.{Lane}
 use Rattle.sctp_link.specs.declared.record.Slot.{Slot}
 use Rattle.sctp_link.specs.Records.{slot_record}
 use Rattle.sctp_link.specs.Linked.{has_number}
-use Rattle.sctp_link.specs.Acking.{Acks, IsAcking, amount_with, with_amount, less_by, and_one, and_run, and_blocks, in_block}
+use Rattle.sctp_link.specs.Acking.{Acks, IsAcking, with_amount, less_by, and_one, and_run, and_blocks, in_block}
 
 -- ## Tests that agree
 

@@ -6,7 +6,7 @@ use Rattle.sctp_chunks.specs.declared.chunk.chunk_kind.ChunkKind.TheVariants as 
 use Rattle.sctp_chunks.specs.declared.chunk.chunk_payload_data.ChunkPayloadData.{ChunkPayloadData}
 use Rattle.sctp_chunks.specs.declared.chunk.chunk_selective_ack.ChunkSelectiveAck.{ChunkSelectiveAck}
 use Rattle.sctp_chunks.specs.PayloadData.{Data, data_of}
-use Rattle.sctp_chunks.specs.SelectiveAck.{Sack, sack_of}
+use Rattle.sctp_chunks.specs.SelectiveAck.{Sack}
 use Rattle.sctp_chunks.specs.ChunkSet.{fresh, IsFreshData}
 use Rattle.sctp_chunks.specs.Wire.{Wire, data_chunk, sack_chunk}
 use Rattle.sctp_chunks.specs.Kind.{wire_of}

@@ -1,5 +1,5 @@
 -- A SACK that is taken leaves what the receiver has as it is.
-use Rattle.std.proofs.Common.{◌≡◌, ℕ, ◌+◌, ◌-◌, ◌%◌, ◌^◌, Bool, List, length, map, Some, refl, ap, ◌∙◌}
+use Rattle.std.proofs.Common.{◌≡◌, ℕ, ◌+◌, ◌-◌, ◌%◌, ◌^◌, Bool, length, map, Some, ap}
 use Rattle.std.specs.Prelude.{if◌then◌else◌, ◌==◌, ◌&&◌, ◌||◌, not, nat_le, nat_lt}
 use Rattle.std.specs.List.{list_any}
 use Rattle.sctp_lists.specs.Kept.{kept, unbroken}
@@ -13,7 +13,7 @@ use Rattle.sctp_model.specs.Contents.{data_with, cumulative_tsn}
 use Rattle.sctp_model.specs.Queues.{FilterRecord, filter_of}
 use Rattle.sctp_model.specs.Changes.{sack_taken}
 use Rattle.sctp_model.proofs.Shape.{has}
-use Rattle.sctp_model.proofs.View.{View, view, view-taken}
+use Rattle.sctp_model.proofs.View.{View, view-taken}
 use Rattle.sctp_ties.specs.Holds.{reassembly_of}
 
 -- ## What came, by what a view tells of the slots

@@ -1,6 +1,6 @@
 -- A SACK is taken: what a link keeps then is what the record says.
 use Rattle.std.proofs.Common.{◌≡◌, ℕ, zero, suc, ◌+◌, ◌-◌, ◌<◌, ◌≤◌, ◌%◌, ◌^◌, Bool, true, false, List, [], ◌∷◌, length, get_or, map, Option, Some, None, refl, ap, sym, ◌∙◌, inl, inr, arith}
-use Rattle.std.specs.Prelude.{if◌then◌else◌, ◌==◌, ◌&&◌, ◌||◌, nat_le, nat_lt, max, min, find, option_map, slice_get, slice_index_or}
+use Rattle.std.specs.Prelude.{if◌then◌else◌, ◌==◌, ◌&&◌, ◌||◌, nat_le, nat_lt, max, find, option_map, slice_get, slice_index_or}
 use Rattle.std.specs.List.{list_any}
 use Rattle.std.proofs.Math.Path.{subst}
 use Rattle.std.proofs.lemmas.Bool.{cases_lt, lt-ltb, le-leb}
@@ -14,18 +14,16 @@ use Rattle.sctp_chunks.specs.Wire.{sack_chunk}
 use Rattle.sctp_packets.specs.Packet.{ReadsPacket}
 use Rattle.sctp_queues.specs.Outbound.{Outbound, with_inflight}
 use Rattle.sctp_queues.specs.DataChunks.{bytes_of}
-use Rattle.sctp_model.specs.declared.event.Event.{Event}
 use Rattle.sctp_model.specs.declared.event.Event.TheVariants as E
 use Rattle.sctp_model.specs.declared.event.LinkRefusal.TheVariants.{NoSuchDatagram}
-use Rattle.sctp_model.specs.Reply as R
 use Rattle.sctp_model.specs.World.{Setup, World, Report, Sack, Forward}
 use Rattle.sctp_model.specs.World as W
-use Rattle.sctp_model.specs.Messages.{slot_at, no_slot, message_at, message_of, tsn_of, fragment_at}
-use Rattle.sctp_model.specs.Amounts.{on_stream, pending_bytes, growth, is_given_up, slot_bytes}
+use Rattle.sctp_model.specs.Messages.{slot_at, no_slot, message_at, message_of, tsn_of}
+use Rattle.sctp_model.specs.Amounts.{growth, is_given_up, slot_bytes}
 use Rattle.sctp_model.specs.Reports.{reports}
 use Rattle.sctp_model.specs.Contents.{contents_of, cumulative_tsn}
 use Rattle.sctp_model.specs.Changes.{sack_taken, acknowledged_by}
-use Rattle.sctp_model.specs.Steps.{History, IsRun, IsRight, StandsFor, world_of, refusal_of, reply_to, after, unless, is_for_sender}
+use Rattle.sctp_model.specs.Steps.{History, IsRun, StandsFor, world_of, refusal_of, reply_to, after, unless, is_for_sender}
 use Rattle.sctp_model.specs.Log.{log_of}
 use Rattle.sctp_model.specs.Laws.{IsSetup}
 use Rattle.sctp_model.proofs.Shape.{shape, sent}
@@ -33,9 +31,9 @@ use Rattle.sctp_model.proofs.Sender.{Sender}
 use Rattle.sctp_model.proofs.Shapes
 use Rattle.sctp_model.proofs.Acknowledged
 use Rattle.sctp_model.proofs.Received.{received-run}
-use Rattle.sctp_ties.specs.Amount.{amount, unacked, unacked_on, bytes_at, acknowledged_at, acknowledged_then}
-use Rattle.sctp_ties.specs.Tied.{IsInFlight, TiedOutbound}
-use Rattle.sctp_ties.proofs.Acked.{in-flight-first, in-flight-same, tied-taken}
+use Rattle.sctp_ties.specs.Amount.{unacked, bytes_at, acknowledged_at, acknowledged_then}
+use Rattle.sctp_ties.specs.Tied.{IsInFlight}
+use Rattle.sctp_ties.proofs.Acked.{in-flight-first, tied-taken}
 use Rattle.sctp_ties.proofs.Unacked.{amount-is, amount-acked, growth-acked}
 use Rattle.sctp_ties.proofs.InFlightBytes.{chunk-on, bytes-unacked, taken-acknowledged, then-below}
 use Rattle.sctp_link.specs.declared.lane.Lane.{Lane}
@@ -45,7 +43,7 @@ use Rattle.sctp_link.specs.Records.{slot_record, datagram_record, stream_record}
 use Rattle.sctp_link.specs.Linked.{State, IsLinked, IsLane, has_number}
 use Rattle.sctp_link.specs.Texts.{IsDatagram, block_of, packet_with}
 use Rattle.sctp_link.specs.Acking.{Acks, IsAcking, amount_with, with_amount, and_run, and_blocks, in_block}
-use Rattle.sctp_link.proofs.Facts.{Facts, facts, over, stands-then, says-still}
+use Rattle.sctp_link.proofs.Facts.{facts, over, stands-then, says-still}
 use Rattle.sctp_link.proofs.AckLoops.{acking-same}
 use Rattle.sctp_link.proofs.SackFrames.{reassembly-taken, filter-taken}
 

@@ -1,5 +1,5 @@
 -- How far a SACK has been taken, while what it reports is gone through.
-use Rattle.std.specs.Prelude.{◌≡◌, ◌==◌, ℕ, ◌+◌, ◌-◌, ◌<◌, ◌≤◌, ◌^◌, Bool, ◌&&◌, ◌||◌, nat_le, nat_lt, min, if◌then◌else◌, List, length, slice_index_or, true}
+use Rattle.std.specs.Prelude.{◌≡◌, ◌==◌, ℕ, ◌+◌, ◌-◌, ◌<◌, ◌≤◌, ◌^◌, Bool, ◌&&◌, ◌||◌, nat_le, nat_lt, if◌then◌else◌, List, length, slice_index_or, true}
 use Rattle.std.specs.List.{list_any}
 use Rattle.sctp_chunks.specs.declared.chunk.chunk_payload_data.ChunkPayloadData.{ChunkPayloadData}
 use Rattle.sctp_chunks.specs.declared.chunk.chunk_selective_ack.GapAckBlock.{GapAckBlock}
@@ -12,7 +12,6 @@ use Rattle.sctp_ties.specs.Tied.{sending_of, sending_by, IsInFlight}
 use Rattle.sctp_link.specs.declared.lane.Lane.{Lane}
 use Rattle.sctp_link.specs.declared.record.Slot.{Slot}
 use Rattle.sctp_link.specs.Records.{slot_record}
-use Rattle.sctp_link.specs.Linked.{has_number}
 
 -- a stream with another buffered amount
 abbrev pub with_amount : ℕ → Lane → Lane

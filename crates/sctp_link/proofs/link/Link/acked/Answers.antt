@@ -1,17 +1,14 @@
-use Rattle.std.proofs.Common.{◌≡◌, ◌<◌, ◌≤◌, ◌+◌, ◌-◌, ◌%◌, ◌^◌, ap, sym, ◌∙◌, refl, length, map, subst, arith}
-use Rattle.std.specs.Prelude.{max}
+use Rattle.std.proofs.Common.{◌+◌, ◌-◌, ◌%◌, ◌^◌, ap, sym, ◌∙◌, refl, length, arith}
 use Rattle.std.specs.List.{list_any}
 use Rattle.sctp_queues.specs.DataChunks.{bytes_of}
 use Rattle.std.specs.Vec.{with_items}
 use Rattle.std.proofs.lemmas.List.{with_items_is}
-use Rattle.sctp_model.specs.Contents.{cumulative_tsn}
 use Rattle.sctp_model.specs.declared.event.Event.TheVariants as E
 use Rattle.sctp_model.specs.Reply as R
-use Rattle.sctp_model.specs.Steps.{refusal_of, IsRight}
+use Rattle.sctp_model.specs.Steps.{refusal_of}
 use Rattle.sctp_ties.specs.Amount.{acknowledged_at}
-use Rattle.sctp_link.specs.Acking.{IsAcking, and_run, and_blocks, in_block}
+use Rattle.sctp_link.specs.Acking.{and_run, in_block}
 use Rattle.sctp_link.specs.Fields.{world_in, state_in}
-use Rattle.sctp_link.specs.Texts.{block_of}
 use Rattle.sctp_link.proofs.Facts.{facts}
 use Rattle.sctp_link.proofs.SackTaken.{sack-there, wire_sack, reads-sack, count-is, count-made, blocks-made, reported, acks, acking-first, taken-all}
 use Rattle.sctp_link.proofs.link.Link.acked.Goals as goal

@@ -1,4 +1,4 @@
-use Rattle.std.proofs.Common.{◌≡◌, ◌<◌, ◌+◌, ◌-◌, ◌∙◌, sym, ap, arith, take, slice_index_or}
+use Rattle.std.proofs.Common.{◌+◌, ◌-◌, ◌∙◌, ap, arith, take, slice_index_or}
 use Rattle.std.proofs.lemmas.List.{take_all}
 use Rattle.sctp_link.specs.Acking.{and_run, and_blocks, in_block}
 use Rattle.sctp_link.proofs.AckLoops.{acking-same, any-at, block-last, block-more}

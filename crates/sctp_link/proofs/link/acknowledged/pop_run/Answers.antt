@@ -1,4 +1,4 @@
-use Rattle.std.proofs.Common.{◌≡◌, ◌∙◌, ◌+◌, ◌%◌, ◌^◌, sym, ap, arith}
+use Rattle.std.proofs.Common.{◌+◌, ◌%◌, ◌^◌, ap, arith}
 use Rattle.sctp_queues.specs.Outbound.{with_inflight}
 use Rattle.sctp_queues.specs.Payload.{without_front}
 use Rattle.sctp_link.proofs.AckLoops.{popped-more}
