@@ -70,15 +70,15 @@ slots-marked : (w : World) (acked : ℕ → Bool) (slots : List Slot) (p : ℕ) 
     → (k : ℕ) (d : Slot) → k < length (set slots p (record (get_or slots p r) { acknowledged = true })) → slot_record (slice_index_or (set slots p (record (get_or slots p r) { acknowledged = true })) k d) ≡ record (slot_at w k) { acknowledged = and_one acked p k }
 slots-marked w acked slots p r lt i k d within = elim (cases_eq k p) [
   | inl same ↦
-    ap (λ j. slot_record (slice_index_or (set slots p marked) j d)) same
-    ∙ ap slot_record (get_or-set_same slots p marked d lt)
-    ∙ ap acknowledged' (i p r lt)
-    ∙ ap (λ j. acknowledged' (slot_at w j)) (sym same)
-    ∙ ap (λ b. with_mark b (slot_at w k)) (sym (ap (λ b. acked k || b) (eq-eqb k p same) ∙ or-true (acked k)))
+      ap (λ j. slot_record (slice_index_or (set slots p marked) j d)) same
+      ∙ ap slot_record (get_or-set_same slots p marked d lt)
+      ∙ ap acknowledged' (i p r lt)
+      ∙ ap (λ j. acknowledged' (slot_at w j)) (sym same)
+      ∙ ap (λ b. with_mark b (slot_at w k)) (sym (ap (λ b. acked k || b) (eq-eqb k p same) ∙ or-true (acked k)))
   | inr other ↦
-    ap slot_record (get_or-set_other slots p k marked d other)
-    ∙ i k d (omega (arith, within, length-set slots p marked))
-    ∙ ap (λ b. with_mark b (slot_at w k)) (sym (ap (λ b. acked k || b) (ne_eqb k p other) ∙ or-false (acked k)))
+      ap slot_record (get_or-set_other slots p k marked d other)
+      ∙ i k d (omega (arith, within, length-set slots p marked))
+      ∙ ap (λ b. with_mark b (slot_at w k)) (sym (ap (λ b. acked k || b) (ne_eqb k p other) ∙ or-false (acked k)))
 ]
   where
     marked : Slot
@@ -163,8 +163,8 @@ acking-none first w lanes queue acked slots now left p r a i lt none =
 pub acking-some : (first : ℕ) (w : World) (lanes : List Lane) (queue : Outbound) (acked : ℕ → Bool) (slots : List Slot) (now : List Lane) (left : Outbound) (p : ℕ) (r : Slot) (c : ChunkPayloadData)
     → Acks first w → IsAcking w lanes queue acked slots now left → p < length slots → find (has_tsn (tsn_of w p)) left.inflight.chunks ≡ Some c
     → IsAcking w lanes queue (and_one acked p) (set slots p (record (get_or slots p r) { acknowledged = true }))
-        (change_where (has_number c.stream_identifier) (less_by (length c.user_data)) now)
-        (with_inflight left (change_where (has_tsn (tsn_of w p)) acknowledged left.inflight.chunks))
+    (change_where (has_number c.stream_identifier) (less_by (length c.user_data)) now)
+    (with_inflight left (change_where (has_tsn (tsn_of w p)) acknowledged left.inflight.chunks))
 acking-some first w lanes queue acked slots now left p r c a i lt some =
     let few = a.few in
     let short : p < 2 ^ 31 = omega (arith, few, lt, i.count) in
@@ -178,12 +178,12 @@ acking-some first w lanes queue acked slots now left p r c a i lt some =
       rest = ap (λ q. with_inflight q (change_where (has_tsn (tsn_of w p)) acknowledged left.inflight.chunks)) i.rest;
       lane_count = length-change_where (has_number c.stream_identifier) (less_by (length c.user_data)) now ∙ i.lane_count;
       lanes = λ k d within.
-        let old : k < length now = omega (arith, within, length-change_where (has_number c.stream_identifier) (less_by (length c.user_data)) now) in
-        let l : Lane = slice_index_or lanes k d in
-        let t : ℕ = (slice_index_or lanes k d).state.stream_identifier in
-        lanes-less now c.stream_identifier (length c.user_data) k d old
-        ∙ ap (less c.stream_identifier (length c.user_data)) (i.lanes k d old)
-        ∙ ap (λ m. with_amount m (slice_index_or lanes k d)) (left-over _ _ _ _ _ (a.shares p (slice_index_or lanes k d).state.stream_identifier (acked p) c made says) (unacked_on-taken w acked p (slice_index_or lanes k d).state.stream_identifier made));
+          let old : k < length now = omega (arith, within, length-change_where (has_number c.stream_identifier) (less_by (length c.user_data)) now) in
+          let l : Lane = slice_index_or lanes k d in
+          let t : ℕ = (slice_index_or lanes k d).state.stream_identifier in
+          lanes-less now c.stream_identifier (length c.user_data) k d old
+          ∙ ap (less c.stream_identifier (length c.user_data)) (i.lanes k d old)
+          ∙ ap (λ m. with_amount m (slice_index_or lanes k d)) (left-over _ _ _ _ _ (a.shares p (slice_index_or lanes k d).state.stream_identifier (acked p) c made says) (unacked_on-taken w acked p (slice_index_or lanes k d).state.stream_identifier made));
     }
   where
     less : ℕ → ℕ → Lane → Lane

@@ -90,8 +90,8 @@ reported sum x l = over sum x Reported l (reported-run x.world.setup l.history l
 pub count-made : (w : World) (k : ℕ) (r : Report) → Reported w → slice_get w.network k ≡ Some (Sack r) → r.cumulative ≤ length w.slots
 count-made w k r made there = elim (cases_lt 0 r.cumulative) [
   | inl some ↦
-    let last = made k r there (r.cumulative - 1) (first-true (nat_lt (r.cumulative - 1) r.cumulative) _ (lt-ltb (r.cumulative - 1) r.cumulative (omega (arith, some)))) in
-    omega (arith, some, last)
+      let last = made k r there (r.cumulative - 1) (first-true (nat_lt (r.cumulative - 1) r.cumulative) _ (lt-ltb (r.cumulative - 1) r.cumulative (omega (arith, some)))) in
+      omega (arith, some, last)
   | inr none ↦ omega (arith, none)
 ]
   where
@@ -191,14 +191,14 @@ same-lists (x ∷ xs) (y ∷ ys) e h = ap (λ z. z ∷ xs) (h 0 x (omega arith))
 pub slots-then : (w : World) (r : Report) (first now : List Lane) (q left : Outbound) (xs : List Slot) → IsAcking w first q (acknowledged_then w r) xs now left → map slot_record xs ≡ (sack_taken w (Some (Sack r))).slots
 slots-then w r first now q left xs i =
     same-lists (map slot_record xs) (sack_taken w (Some (Sack r))).slots (length-mapped slot_record xs ∙ i.count ∙ sym (length-numbered (acknowledged_by r) 0 w.slots))
-        (λ k d lt.
-          let here : k < length xs = omega (arith, lt, length-mapped slot_record xs) in
-          let made : k < length w.slots = omega (arith, here, i.count) in
-          get_or-map slot_record xs k none d here
-          ∙ i.slots k none here
-          ∙ ap (λ j. acknowledged_by r j (slot_at w k)) (let z : k ≡ 0 + k = omega arith in z)
-          ∙ ap (acknowledged_by r (0 + k)) (get_or_default w.slots k no_slot d made)
-          ∙ sym (numbered-at (acknowledged_by r) 0 k w.slots d made))
+    (λ k d lt.
+    let here : k < length xs = omega (arith, lt, length-mapped slot_record xs) in
+    let made : k < length w.slots = omega (arith, here, i.count) in
+    get_or-map slot_record xs k none d here
+    ∙ i.slots k none here
+    ∙ ap (λ j. acknowledged_by r j (slot_at w k)) (let z : k ≡ 0 + k = omega arith in z)
+    ∙ ap (acknowledged_by r (0 + k)) (get_or_default w.slots k no_slot d made)
+    ∙ sym (numbered-at (acknowledged_by r) 0 k w.slots d made))
   where
     none : Slot
     none = record { message = 0; fragment = 0; arrived = false; acknowledged = false }
@@ -259,7 +259,7 @@ linked-taken sum x k r cs l none there e =
           subst (IsLane (sack_taken x.world (Some (Sack r)))) (sym (map-at (as_left x.world r) j x.lanes d here)) (lane-left x.world r (slice_index_or x.lanes j d) f.sane.sender (l.lanes j d here));
       first = λ j d lt. let here : j < length x.lanes = omega (arith, lt, length-mapped (as_left x.world r) x.lanes) in
           subst (λ (a : Lane). find (has_number a.state.stream_identifier) (map (as_left x.world r) x.lanes) ≡ Some a) (sym (map-at (as_left x.world r) j x.lanes d here))
-              (find-left x.world r (slice_index_or x.lanes j d).state.stream_identifier x.lanes ∙ ap (option_map (as_left x.world r)) (l.first j d here));
+          (find-left x.world r (slice_index_or x.lanes j d).state.stream_identifier x.lanes ∙ ap (option_map (as_left x.world r)) (l.first j d here));
       texts = λ j d g there'.
           let says = says-still x.world f (E.Acked k) none j g g there' (subst (λ o. slice_get (sack_taken x.world o).network j ≡ Some g) (sym there) there') in
           subst (λ c. IsDatagram sum c (slice_index_or x.datagrams j d)) (sym (subst (λ o. contents_of (sack_taken x.world o) g ≡ contents_of x.world g) there says)) (l.texts j d g there');
@@ -291,7 +291,7 @@ module _ (sum : List ℕ → ℕ) (x : State) (k : ℕ) (r : Report) (l : IsLink
       → IsAcking x.world x.lanes x.outbound (and_blocks (and_run (acknowledged_at x.world) x.world.taken to) to bs) xs now left → IsAcking x.world x.lanes x.outbound (acknowledged_then x.world r) xs now left
   loops to bs now xs left e f i =
       acking-same x.world x.lanes x.outbound (and_blocks (and_run (acknowledged_at x.world) x.world.taken to) to bs) (acknowledged_then x.world r) xs now left
-          (λ j. ap (λ t. and_blocks (and_run (acknowledged_at x.world) x.world.taken t) t bs j) e ∙ ap (λ b. and_blocks (and_run (acknowledged_at x.world) x.world.taken r.cumulative) r.cumulative b j) f ∙ test-is x.world r below-first j) i
+      (λ j. ap (λ t. and_blocks (and_run (acknowledged_at x.world) x.world.taken t) t bs j) e ∙ ap (λ b. and_blocks (and_run (acknowledged_at x.world) x.world.taken r.cumulative) r.cumulative b j) f ∙ test-is x.world r below-first j) i
 
   moved : (now : List Lane) (xs : List Slot) (left : Outbound) (top : ℕ) → x.world.streams ≡ map stream_record x.lanes → top ≡ max x.world.taken r.cumulative
       → IsAcking x.world x.lanes x.outbound (acknowledged_then x.world r) xs now left → world_taken x.world now xs top ≡ sack_taken x.world (Some (Sack r))
@@ -325,18 +325,18 @@ module _ (sum : List ℕ → ℕ) (x : State) (k : ℕ) (r : Report) (l : IsLink
       let i = loops to bs now xs left to-is bs-is acking in
       let top' : top ≡ max x.world.taken r.cumulative = top-is ∙ ap (max x.world.taken) to-is in
       let flight : IsInFlight x.world (acknowledged_then x.world r) (max x.world.taken r.cumulative) (length x.world.slots - max x.world.taken r.cumulative) gone.inflight.chunks =
-          subst (λ t. IsInFlight x.world (acknowledged_then x.world r) (max x.world.taken t) (length x.world.slots - max x.world.taken t) gone.inflight.chunks) to-is
-          (front-left x.world (acknowledged_then x.world r) to left.inflight.chunks gone.inflight.chunks
-              (λ le. popped x.world (acknowledged_then x.world r) (length x.world.slots) refl (omega (arith, to-is, enough)) few i.in_flight le)
-              (λ le. ap (λ (q : Outbound). q.inflight.chunks) (same le)) i.in_flight) in
+      subst (λ t. IsInFlight x.world (acknowledged_then x.world r) (max x.world.taken t) (length x.world.slots - max x.world.taken t) gone.inflight.chunks) to-is
+      (front-left x.world (acknowledged_then x.world r) to left.inflight.chunks gone.inflight.chunks
+      (λ le. popped x.world (acknowledged_then x.world r) (length x.world.slots) refl (omega (arith, to-is, enough)) few i.in_flight le)
+      (λ le. ap (λ (q : Outbound). q.inflight.chunks) (same le)) i.in_flight) in
       let world = moved now xs left top streams top' i in
       let kept : gone ≡ with_inflight x.outbound gone.inflight.chunks = rest ∙ ap (λ q. with_inflight q gone.inflight.chunks) i.rest in
       record {
         linked =
-          subst (λ u. IsLinked sum (record x { world = u; lanes = now; outbound = gone })) (sym world)
-          (subst (λ q. IsLinked sum (taken_state x r now q)) (sym kept)
-          (subst (λ ls. IsLinked sum (taken_state x r ls (with_inflight x.outbound gone.inflight.chunks))) (sym (lanes-then x.world r x.lanes now x.outbound left xs i))
-          (linked-taken sum x k r gone.inflight.chunks l none there flight)));
+            subst (λ u. IsLinked sum (record x { world = u; lanes = now; outbound = gone })) (sym world)
+            (subst (λ q. IsLinked sum (taken_state x r now q)) (sym kept)
+            (subst (λ ls. IsLinked sum (taken_state x r ls (with_inflight x.outbound gone.inflight.chunks))) (sym (lanes-then x.world r x.lanes now x.outbound left xs i))
+            (linked-taken sum x k r gone.inflight.chunks l none there flight)));
         moves = world ∙ then-is;
         bytes = released gone.inflight.chunks flight ∙ ap (growth x.world) then-is;
       }

@@ -94,7 +94,7 @@ invariant_of-self g c =
     let lanes2 = with_items_is (with_items c.self.inside.lanes c.acknowledge_run.new.lanes) c.acknowledge_blocks.new.lanes (omega (arith, c.acknowledge_blocks.auto.lanes, c.deref_mut-4.ensures.len)) in
     let last = c.acknowledge_blocks.ensures (world_in c.self.inside) c.self.inside.lanes.items c.self.inside.outbound (and_run (acknowledged_at (world_in c.self.inside)) c.self.inside.taken (((c.in_ok-sack.sack.cumulative_tsn_ack + (2 ^ 32 - c.self.inside.first_tsn)) % 2 ^ 32 + 1) % 2 ^ 32)) a (rw (c.deref_mut-3.ensures.value ∙ slots1, c.deref_mut-4.ensures.value ∙ lanes1) next) in
     (taken-all sum (state_in c.self.inside) c.args.k there.0 l none there.1 _ c.deref.result.now (with_items (with_items c.self.inside.lanes c.acknowledge_run.new.lanes) c.acknowledge_blocks.new.lanes).items (with_items (with_items c.self.inside.slots c.acknowledge_run.new.slots) c.acknowledge_blocks.new.slots).items c.acknowledge_blocks.new.outbound c.pop_run.new.outbound c.max-self-inside.result
-        refl count (c.deref.ensures.value ∙ ap (λ s. s.gap_ack_blocks) says) c.max-self-inside.ensures (rw (slots2, lanes2) last) c.pop_run.ensures.popped c.pop_run.ensures.none c.pop_run.ensures.rest).linked
+    refl count (c.deref.ensures.value ∙ ap (λ s. s.gap_ack_blocks) says) c.max-self-inside.ensures (rw (slots2, lanes2) last) c.pop_run.ensures.popped c.pop_run.ensures.none c.pop_run.ensures.rest).linked
 
 pub returns-clause-ok : goal.returns-clause-ok
 returns-clause-ok g c =
@@ -116,7 +116,7 @@ returns-clause-ok g c =
     let lanes2 = with_items_is (with_items c.self.inside.lanes c.acknowledge_run.new.lanes) c.acknowledge_blocks.new.lanes (omega (arith, c.acknowledge_blocks.auto.lanes, c.deref_mut-4.ensures.len)) in
     let last = c.acknowledge_blocks.ensures (world_in c.self.inside) c.self.inside.lanes.items c.self.inside.outbound (and_run (acknowledged_at (world_in c.self.inside)) c.self.inside.taken (((c.in_ok-sack.sack.cumulative_tsn_ack + (2 ^ 32 - c.self.inside.first_tsn)) % 2 ^ 32 + 1) % 2 ^ 32)) a (rw (c.deref_mut-3.ensures.value ∙ slots1, c.deref_mut-4.ensures.value ∙ lanes1) next) in
     let taken = taken-all sum (state_in c.self.inside) c.args.k there.0 l none there.1 _ c.deref.result.now (with_items (with_items c.self.inside.lanes c.acknowledge_run.new.lanes) c.acknowledge_blocks.new.lanes).items (with_items (with_items c.self.inside.slots c.acknowledge_run.new.slots) c.acknowledge_blocks.new.slots).items c.acknowledge_blocks.new.outbound c.pop_run.new.outbound c.max-self-inside.result
-        refl count (c.deref.ensures.value ∙ ap (λ s. s.gap_ack_blocks) says) c.max-self-inside.ensures (rw (slots2, lanes2) last) c.pop_run.ensures.popped c.pop_run.ensures.none c.pop_run.ensures.rest in
+    refl count (c.deref.ensures.value ∙ ap (λ s. s.gap_ack_blocks) says) c.max-self-inside.ensures (rw (slots2, lanes2) last) c.pop_run.ensures.popped c.pop_run.ensures.none c.pop_run.ensures.rest in
     rw (← c.self.view_is) (record {
       right = ap R.Acked (c.saturating_sub-bytes.ensures ∙ ap (λ n. n - c.inflight_bytes.result) c.inflight_bytes-before.ensures ∙ ap (λ n. bytes_of c.self.inside.outbound.inflight.chunks - n) c.inflight_bytes.ensures ∙ taken.bytes);
       moves = taken.moves;

@@ -8,7 +8,7 @@ use Rattle.sctp_link.proofs.link.acknowledged.acknowledge.Goals as goal
 pub returns-in_default : goal.returns-in_default
 returns-in_default c = λ w first queue acked a i.
     acking-none c.args.first_tsn w first queue acked c.args.slots.now c.args.lanes.now c.args.outbound.now c.args.place (record { message = 0; fragment = 0; arrived = false; acknowledged = false }) a i c.requires.place
-        (ap (λ f. find (has_tsn ((f + c.args.place) % 2 ^ 32)) c.args.outbound.now.inflight.chunks) (sym a.first_is) ∙ sym c.get.ensures ∙ ap option_copied c.in_default.is)
+    (ap (λ f. find (has_tsn ((f + c.args.place) % 2 ^ 32)) c.args.outbound.now.inflight.chunks) (sym a.first_is) ∙ sym c.get.ensures ∙ ap option_copied c.in_default.is)
 
 pub release-requires : goal.release-requires
 release-requires c =
@@ -16,11 +16,11 @@ release-requires c =
     let count = k.5.count in
     let place = c.requires.place in
     let short = short-share c.args.first_tsn k.0 k.3 c.args.place c.args.outbound.now.inflight.chunks c.in-Some.chunk.now k.4 (omega (arith, count, place)) k.5.in_flight
-        (ap (λ f. find (has_tsn ((f + c.args.place) % 2 ^ 32)) c.args.outbound.now.inflight.chunks) (sym k.4.first_is) ∙ sym c.get.ensures ∙ ap option_copied c.in-Some.is) in
+    (ap (λ f. find (has_tsn ((f + c.args.place) % 2 ^ 32)) c.args.outbound.now.inflight.chunks) (sym k.4.first_is) ∙ sym c.get.ensures ∙ ap option_copied c.in-Some.is) in
     omega (arith, short, c.len-bytes.ensures.value)
 
 pub returns : goal.returns
 returns c = λ w first queue acked a i.
     let next = acking-some c.args.first_tsn w first queue acked c.args.slots.now c.args.lanes.now c.args.outbound.now c.args.place (record { message = 0; fragment = 0; arrived = false; acknowledged = false }) c.in-Some.chunk.now a i c.requires.place
-        (ap (λ f. find (has_tsn ((f + c.args.place) % 2 ^ 32)) c.args.outbound.now.inflight.chunks) (sym a.first_is) ∙ sym c.get.ensures ∙ ap option_copied c.in-Some.is) in
+    (ap (λ f. find (has_tsn ((f + c.args.place) % 2 ^ 32)) c.args.outbound.now.inflight.chunks) (sym a.first_is) ∙ sym c.get.ensures ∙ ap option_copied c.in-Some.is) in
     rw (c.release.ensures, c.mark_as_acked.ensures.acked, c.len-bytes.ensures.value, a.first_is) next
