@@ -1,3 +1,6 @@
+ghost use Rattle.std.specs.Prelude.{IfOk};
+ghost use Rattle.sctp_link.specs.Replies.{IsBuilt};
+
 use crate::event::{Event, LinkRefusal, Reply};
 use crate::link::Link;
 use crate::link::lending::Ledger;
@@ -40,7 +43,9 @@ impl Checksum for Counted<'_> {
 /// The header of each datagram, under the checksum that is 0.
 const HEADER: [u8; 12] = [0x13, 0x88, 0x13, 0x88, 0, 0, 0, 1, 0, 0, 0, 0];
 
-fn write(alloc: Global, ppi: PayloadProtocolIdentifier, bytes: &[u8]) -> Result<Event, Fail> {
+fn write(alloc: Global, ppi: PayloadProtocolIdentifier, bytes: &[u8]) -> Result<Event, Fail>
+    ensures { IfOk result (λ event. IsBuilt event) }
+{
     Ok(Event::Write {
         stream: 1,
         ppi,
@@ -48,7 +53,9 @@ fn write(alloc: Global, ppi: PayloadProtocolIdentifier, bytes: &[u8]) -> Result<
     })
 }
 
-fn binary(alloc: Global, bytes: &[u8]) -> Result<Event, Fail> {
+fn binary(alloc: Global, bytes: &[u8]) -> Result<Event, Fail>
+    ensures { IfOk result (λ event. IsBuilt event) }
+{
     write(alloc, PayloadProtocolIdentifier::Binary, bytes)
 }
 
@@ -309,6 +316,51 @@ fn counters(rt: HostRuntime) -> Result<(), Fail> {
     assert!(rt; shows(&link.step(Event::Read { stream: 1 }), b"\0"));
     want.messages_received = 1;
     assert!(rt; link.stats(1) == Some(want));
+    Ok(())
+}
+
+/// What a SACK reports leaves the ledger once.
+#[test]
+fn acknowledged_bytes_are_released(rt: HostRuntime) -> Result<(), Fail> {
+    let alloc = rt.alloc();
+    let mut link = Link::new(alloc, 10, 3, 100, Zero);
+    assert!(rt; sent(alloc, &mut link, &[b"abcdefg"], 3)?);
+    assert!(rt; is_new(&link.step(Event::Arrive { k: 0 })));
+    assert!(rt; is_new(&link.step(Event::Arrive { k: 2 })));
+    assert!(rt; link.step(Event::Ack { credit: 0 }).is_ok());
+    assert!(rt;
+        matches!(
+            link.step(Event::Acked { k: 3 }),
+            Ok(Reply::Acked { bytes: 4 })
+        )
+    );
+    let left = Ledger {
+        written: 7,
+        pending: 0,
+        in_flight: 3,
+        released: 4,
+    };
+    assert!(rt; link.ledger() == left);
+    assert!(rt; link.buffered_amount(1) == Some(3));
+    assert!(rt;
+        matches!(
+            link.step(Event::Acked { k: 3 }),
+            Ok(Reply::Acked { bytes: 0 })
+        )
+    );
+    Ok(())
+}
+
+/// Each accepted Acked reads the datagram's bytes, so it asks the checksum.
+#[test]
+fn acknowledgements_read_the_bytes(rt: HostRuntime) -> Result<(), Fail> {
+    let alloc = rt.alloc();
+    let calls = Cell::new(0);
+    let mut link = Link::new(alloc, 10, 3, 100, Counted { calls: &calls });
+    assert!(rt; link.step(Event::Ack { credit: 0 }).is_ok());
+    let before = calls.get();
+    assert!(rt; link.step(Event::Acked { k: 0 }).is_ok());
+    assert!(rt; before < calls.get());
     Ok(())
 }
 
