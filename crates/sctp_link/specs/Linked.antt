@@ -90,6 +90,6 @@ pub record IsLinked (sum : List ℕ → ℕ) (x : State) : Type 0 where
   pub sents : (n : ℕ) → n < length x.world.messages → slice_index_or x.sents n 0 ≡ sent_of x.world n
   pub befores : (n : ℕ) → n < length x.world.messages → (message_at x.world n).before ≡ ordered_before x.world (message_at x.world n).stream n
   pub lanes : (k : ℕ) (d : Lane) → k < length x.lanes → IsLane x.world (slice_index_or x.lanes k d)
-  -- no stream is open twice
+  -- a look-up by a stream's number finds what is kept of it
   pub first : (k : ℕ) (d : Lane) → k < length x.lanes → find (has_number (slice_index_or x.lanes k d).state.stream_identifier) x.lanes ≡ Some (slice_index_or x.lanes k d)
   pub texts : (k : ℕ) (d : List ℕ) (g : W.Datagram) → slice_get x.world.network k ≡ Some g → IsDatagram sum (contents_of x.world g) (slice_index_or x.datagrams k d)
