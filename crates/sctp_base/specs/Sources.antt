@@ -1,6 +1,5 @@
 -- Sources of bytes, made of lists one after another.
-use Rattle.std.specs.Prelude.{ℕ, ◌+◌, ◌==◌, nat_le, if◌then◌else◌, List, [], ◌∷◌, drop, length}
-use Rattle.std.specs.List.{concat}
+use Rattle.std.specs.Prelude.{ℕ, ◌+◌, ◌==◌, nat_le, if◌then◌else◌, List, [], ◌∷◌, length}
 
 -- how many whole lists are used up by a piece of so many bytes: empty ones in front, and the next if it fits
 abbrev pub used_up : ℕ → List (List ℕ) → ℕ

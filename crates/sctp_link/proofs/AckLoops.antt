@@ -2,6 +2,7 @@
 use Rattle.std.proofs.Common.{◌≡◌, ℕ, zero, suc, ◌+◌, ◌-◌, ◌<◌, ◌≤◌, ◌^◌, Bool, true, false, List, [], ◌∷◌, length, length-set, get_or, set, take, map, Some, None, refl, ap, sym, ◌∙◌, inl, inr, add-one, arith}
 use Rattle.std.specs.Prelude.{if◌then◌else◌, ◌==◌, ◌&&◌, ◌||◌, nat_lt, nat_le, max, find, slice_index_or}
 use Rattle.std.specs.List.{list_any}
+use Rattle.std.proofs.Math.Path.{subst}
 use Rattle.std.proofs.lemmas.Bool.{cases_lt, cases_eq, eq-eqb, ne_eqb, eqb-true, eqb-false, lt-ltb, le-ltb, le-leb, lt-leb, leb-true, ltb-true}
 use Rattle.std.proofs.lemmas.Bool.Decides.{nat_tests}
 use Rattle.std.proofs.lemmas.List.{get_or-set_same, get_or-set_other}
@@ -25,8 +26,10 @@ use Rattle.sctp_ties.specs.Tied.{sending_of, sending_by, IsInFlight}
 use Rattle.sctp_ties.proofs.Acked.{first_of', rest_of', marked-acked, popped-front, in-flight-same}
 use Rattle.sctp_ties.proofs.Unacked.{unacked_on-same, unacked_on-taken}
 use Rattle.sctp_ties.proofs.StreamAmounts.{same-turned}
-use Rattle.sctp_link.specs.declared.lane.Lane.{Lane}
+use Rattle.sctp_link.specs.declared.open_stream.OpenStream.{OpenStream}
+use Rattle.sctp_link.specs.declared.link.open_streams.OpenStreams.{OpenStreams}
 use Rattle.sctp_link.specs.declared.record.Slot.{Slot}
+use Rattle.sctp_link.specs.Places.{IsIndexed, stream_numbers}
 use Rattle.sctp_link.specs.Records.{slot_record}
 use Rattle.sctp_link.specs.Linked.{has_number}
 use Rattle.sctp_link.specs.Acking.{Acks, IsAcking, with_amount, less_by, and_one, and_run, and_blocks, in_block}
@@ -34,15 +37,16 @@ use Rattle.sctp_link.specs.Acking.{Acks, IsAcking, with_amount, less_by, and_one
 -- ## Tests that agree
 
 -- what is acknowledged may be told by another test that agrees
-pub acking-same : (w : World) (first : List Lane) (queue : Outbound) (s t : ℕ → Bool) (slots : List Slot) (now : List Lane) (left : Outbound) → ((k : ℕ) → s k ≡ t k) → IsAcking w first queue s slots now left → IsAcking w first queue t slots now left
+pub acking-same : (w : World) (first : List OpenStream) (queue : Outbound) (s t : ℕ → Bool) (slots : List Slot) (now : OpenStreams) (left : Outbound) → ((k : ℕ) → s k ≡ t k) → IsAcking w first queue s slots now left → IsAcking w first queue t slots now left
 acking-same w first queue s t slots now left same i = record {
   below = λ k lt. sym (same k) ∙ i.below k lt;
   count = i.count;
   slots = λ k d lt. i.slots k d lt ∙ ap (acknowledged_if (slot_at w k)) (same k);
   in_flight = in-flight-same w s t w.taken (length w.slots - w.taken) left.inflight.chunks (λ k a b. same k) i.in_flight;
   rest = i.rest;
-  lane_count = i.lane_count;
-  lanes = λ k d lt. i.lanes k d lt ∙ ap (λ u. with_amount (on_stream w (slice_index_or first k d).state.stream_identifier (pending_bytes w) + u) (slice_index_or first k d)) (unacked_on-same w s t (slice_index_or first k d).state.stream_identifier (λ j lt. same j));
+  indexed = i.indexed;
+  stream_count = i.stream_count;
+  open_streams = λ k d lt. i.open_streams k d lt ∙ ap (λ u. with_amount (on_stream w (slice_index_or first k d).state.stream_identifier (pending_bytes w) + u) (slice_index_or first k d)) (unacked_on-same w s t (slice_index_or first k d).state.stream_identifier (λ j lt. same j));
 }
   where
     acknowledged_if : W.Slot → Bool → W.Slot
@@ -124,48 +128,58 @@ missing w acked p short (x ∷ xs) from (suc count) le e f a b =
         above : (from ≡ p → ⊥) → from + 1 ≤ p
         above other = elim (cases_lt from p) [ inl lt ↦ omega (arith, lt) | inr le' ↦ absurd (other (omega (arith, a, le'))) ]
 
+-- no number changes
+numbers-less : (ls : List OpenStream) (s n : ℕ) → stream_numbers (change_where (has_number s) (less_by n) ls) ≡ stream_numbers ls
+numbers-less [] s n = refl
+numbers-less (l ∷ ls) s n = ap (λ k. k ∷ stream_numbers (change_where (has_number s) (less_by n) ls)) (one (has_number s l)) ∙ ap (λ ks. l.state.stream_identifier ∷ ks) (numbers-less ls s n)
+  where
+    one : (b : Bool) → (if b then less_by n l else l).state.stream_identifier ≡ l.state.stream_identifier
+    one true = refl
+    one false = refl
+
 -- bytes go off the amount of the streams of a number
-lanes-less : (ls : List Lane) (s n k : ℕ) (d : Lane) → k < length ls → slice_index_or (change_where (has_number s) (less_by n) ls) k d ≡ with_amount ((slice_index_or ls k d).state.buffered_amount - (if s == (slice_index_or ls k d).state.stream_identifier then n else 0)) (slice_index_or ls k d)
-lanes-less ls s n k d lt =
+streams-less : (ls : List OpenStream) (s n k : ℕ) (d : OpenStream) → k < length ls → slice_index_or (change_where (has_number s) (less_by n) ls) k d ≡ with_amount ((slice_index_or ls k d).state.buffered_amount - (if s == (slice_index_or ls k d).state.stream_identifier then n else 0)) (slice_index_or ls k d)
+streams-less ls s n k d lt =
     ap (λ ys. slice_index_or ys k d) (change_where-map (has_number s) (less_by n) ls)
     ∙ map-at (λ x. if has_number s x then less_by n x else x) k ls d lt
     ∙ one (slice_index_or ls k d)
   where
-    by : (x : Lane) (b : Bool) → (if b then less_by n x else x) ≡ with_amount (x.state.buffered_amount - (if b then n else 0)) x
+    by : (x : OpenStream) (b : Bool) → (if b then less_by n x else x) ≡ with_amount (x.state.buffered_amount - (if b then n else 0)) x
     by x true = refl
     by x false = let none : x.state.buffered_amount ≡ x.state.buffered_amount - 0 = omega arith in ap (λ m. with_amount m x) none
 
-    one : (x : Lane) → (if has_number s x then less_by n x else x) ≡ with_amount (x.state.buffered_amount - (if s == x.state.stream_identifier then n else 0)) x
+    one : (x : OpenStream) → (if has_number s x then less_by n x else x) ≡ with_amount (x.state.buffered_amount - (if s == x.state.stream_identifier then n else 0)) x
     one x = by x (has_number s x) ∙ ap (λ b. with_amount (x.state.buffered_amount - (if b then n else 0)) x) (same-turned x.state.stream_identifier s)
 
 -- a slot that is not in flight
-pub acking-none : (first : ℕ) (w : World) (lanes : List Lane) (queue : Outbound) (acked : ℕ → Bool) (slots : List Slot) (now : List Lane) (left : Outbound) (p : ℕ) (r : Slot)
-    → Acks first w → IsAcking w lanes queue acked slots now left → p < length slots → find (has_tsn (tsn_of w p)) left.inflight.chunks ≡ None
-    → IsAcking w lanes queue (and_one acked p) (set slots p (record (get_or slots p r) { acknowledged = true })) now left
-acking-none first w lanes queue acked slots now left p r a i lt none =
+pub acking-none : (first : ℕ) (w : World) (open_streams : List OpenStream) (queue : Outbound) (acked : ℕ → Bool) (slots : List Slot) (now : OpenStreams) (left : Outbound) (p : ℕ) (r : Slot)
+    → Acks first w → IsAcking w open_streams queue acked slots now left → p < length slots → find (has_tsn (tsn_of w p)) left.inflight.chunks ≡ None
+    → IsAcking w open_streams queue (and_one acked p) (set slots p (record (get_or slots p r) { acknowledged = true })) now left
+acking-none first w open_streams queue acked slots now left p r a i lt none =
     let few = a.few in
     let gone : p < w.taken = elim (cases_lt p w.taken) [
       | inl below ↦ below
       | inr at ↦ absurd (missing w acked p (omega (arith, few, lt, i.count)) left.inflight.chunks w.taken (length w.slots - w.taken) (omega (arith, few, a.taken)) i.in_flight none at (omega (arith, lt, i.count, a.taken)))
     ] in
-    let again = acking-same w lanes queue acked (and_one acked p) slots now left (one-again acked p (i.below p gone)) i in
+    let again = acking-same w open_streams queue acked (and_one acked p) slots now left (one-again acked p (i.below p gone)) i in
     record {
       below = again.below;
       count = length-set slots p _ ∙ i.count;
       slots = slots-marked w acked slots p r lt i.slots;
       in_flight = again.in_flight;
       rest = again.rest;
-      lane_count = again.lane_count;
-      lanes = again.lanes;
+      indexed = again.indexed;
+      stream_count = again.stream_count;
+      open_streams = again.open_streams;
     }
 
 -- and one that is
-pub acking-some : (first : ℕ) (w : World) (lanes : List Lane) (queue : Outbound) (acked : ℕ → Bool) (slots : List Slot) (now : List Lane) (left : Outbound) (p : ℕ) (r : Slot) (c : ChunkPayloadData)
-    → Acks first w → IsAcking w lanes queue acked slots now left → p < length slots → find (has_tsn (tsn_of w p)) left.inflight.chunks ≡ Some c
-    → IsAcking w lanes queue (and_one acked p) (set slots p (record (get_or slots p r) { acknowledged = true }))
-    (change_where (has_number c.stream_identifier) (less_by (length c.user_data)) now)
+pub acking-some : (first : ℕ) (w : World) (open_streams : List OpenStream) (queue : Outbound) (acked : ℕ → Bool) (slots : List Slot) (now less : OpenStreams) (left : Outbound) (p : ℕ) (r : Slot) (c : ChunkPayloadData)
+    → less.items.items ≡ change_where (has_number c.stream_identifier) (less_by (length c.user_data)) now.items.items → less.places ≡ now.places → Acks first w → IsAcking w open_streams queue acked slots now left → p < length slots → find (has_tsn (tsn_of w p)) left.inflight.chunks ≡ Some c
+    → IsAcking w open_streams queue (and_one acked p) (set slots p (record (get_or slots p r) { acknowledged = true }))
+    less
     (with_inflight left (change_where (has_tsn (tsn_of w p)) acknowledged left.inflight.chunks))
-acking-some first w lanes queue acked slots now left p r c a i lt some =
+acking-some first w open_streams queue acked slots now less left p r c items places a i lt some =
     let few = a.few in
     let short : p < 2 ^ 31 = omega (arith, few, lt, i.count) in
     let says = found w acked p short left.inflight.chunks w.taken (length w.slots - w.taken) (omega (arith, few, a.taken)) i.in_flight c some in
@@ -176,18 +190,20 @@ acking-some first w lanes queue acked slots now left p r c a i lt some =
       slots = slots-marked w acked slots p r lt i.slots;
       in_flight = marked-acked w acked p short left.inflight.chunks w.taken (length w.slots - w.taken) (omega (arith, few, a.taken)) i.in_flight;
       rest = ap (λ q. with_inflight q (change_where (has_tsn (tsn_of w p)) acknowledged left.inflight.chunks)) i.rest;
-      lane_count = length-change_where (has_number c.stream_identifier) (less_by (length c.user_data)) now ∙ i.lane_count;
-      lanes = λ k d within.
-          let old : k < length now = omega (arith, within, length-change_where (has_number c.stream_identifier) (less_by (length c.user_data)) now) in
-          let l : Lane = slice_index_or lanes k d in
-          let t : ℕ = (slice_index_or lanes k d).state.stream_identifier in
-          lanes-less now c.stream_identifier (length c.user_data) k d old
-          ∙ ap (less c.stream_identifier (length c.user_data)) (i.lanes k d old)
-          ∙ ap (λ m. with_amount m (slice_index_or lanes k d)) (left-over _ _ _ _ _ (a.shares p (slice_index_or lanes k d).state.stream_identifier (acked p) c made says) (unacked_on-taken w acked p (slice_index_or lanes k d).state.stream_identifier made));
+      indexed = subst (λ t. IsIndexed t (stream_numbers less.items.items)) (sym places) (subst (IsIndexed now.places) (sym (ap stream_numbers items ∙ numbers-less now.items.items c.stream_identifier (length c.user_data))) i.indexed);
+      stream_count = ap length items ∙ length-change_where (has_number c.stream_identifier) (less_by (length c.user_data)) now.items.items ∙ i.stream_count;
+      open_streams = λ k d within.
+          let old : k < length now.items.items = omega (arith, within, ap length items, length-change_where (has_number c.stream_identifier) (less_by (length c.user_data)) now.items.items) in
+          let l : OpenStream = slice_index_or open_streams k d in
+          let t : ℕ = (slice_index_or open_streams k d).state.stream_identifier in
+          ap (λ ls. slice_index_or ls k d) items
+          ∙ streams-less now.items.items c.stream_identifier (length c.user_data) k d old
+          ∙ ap (amount-less c.stream_identifier (length c.user_data)) (i.open_streams k d old)
+          ∙ ap (λ m. with_amount m (slice_index_or open_streams k d)) (left-over _ _ _ _ _ (a.shares p (slice_index_or open_streams k d).state.stream_identifier (acked p) c made says) (unacked_on-taken w acked p (slice_index_or open_streams k d).state.stream_identifier made));
     }
   where
-    less : ℕ → ℕ → Lane → Lane
-    less s n x = with_amount (x.state.buffered_amount - (if s == x.state.stream_identifier then n else 0)) x
+    amount-less : ℕ → ℕ → OpenStream → OpenStream
+    amount-less s n x = with_amount (x.state.buffered_amount - (if s == x.state.stream_identifier then n else 0)) x
 
     left-over : (pending before then' mine share : ℕ) → mine ≡ share → then' + share ≡ before → pending + before - mine ≡ pending + then'
     left-over pending before then' mine share e f = omega (arith, e, f)

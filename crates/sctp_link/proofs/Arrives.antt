@@ -35,10 +35,10 @@ use Rattle.sctp_ties.proofs.SlotsArrive.{enters}
 use Rattle.sctp_ties.proofs.SlotsNear.{span-at}
 use Rattle.sctp_ties.proofs.Span.{IsSpan}
 use Rattle.sctp_ties.proofs.StreamCounters.{counters-same}
-use Rattle.sctp_link.specs.declared.lane.Lane.{Lane}
-use Rattle.sctp_link.specs.Linked.{State, IsLinked, IsLane, stats_of}
+use Rattle.sctp_link.specs.declared.open_stream.OpenStream.{OpenStream}
+use Rattle.sctp_link.specs.Linked.{State, IsLinked, IsOpenStream, stats_of}
 use Rattle.sctp_link.proofs.Facts.{facts, over}
-use Rattle.sctp_link.proofs.LanesAfter.{lane-then, linked-then}
+use Rattle.sctp_link.proofs.StreamsAfter.{stream-then, linked-then}
 use Rattle.sctp_link.proofs.Hears.{new-tells, come-made}
 
 module _ (sum : List ℕ → ℕ) (x : State) (l : IsLinked sum x) (k p : ℕ) (none : refusal_of x.world (E.Arrive k) ≡ None) (e : slice_get x.world.network k ≡ Some (Data (p ∷ []))) where
@@ -70,11 +70,11 @@ module _ (sum : List ℕ → ℕ) (x : State) (l : IsLinked sum x) (k p : ℕ) (
       let a = unless-holds (is_for_receiver (slice_get w.network k)) NoSuchDatagram _ none in
       ap (arrival_fits w) (sym e) ∙ (unless-holds (arrival_fits w (slice_get w.network k)) SpanTooWide None a.1).0
 
-  -- a lane of which only the queue changes
-  pub lane-arrived : (y z : Lane) → IsLane w y → z.state ≡ record y.state { reassembly_queue = z.state.reassembly_queue } → z.ordered ≡ y.ordered → z.next ≡ y.next → z.state.reassembly_queue.held ≡ reassembly_of (slot_received w p) y.state.stream_identifier → z.state.reassembly_queue.si ≡ y.state.reassembly_queue.si → z.state.reassembly_queue.max_message_size ≡ y.state.reassembly_queue.max_message_size → IsLane v z
-  lane-arrived y z i state ordered next held si largest =
+  -- an open stream of which only the queue changes
+  pub stream-arrived : (y z : OpenStream) → IsOpenStream w y → z.state ≡ record y.state { reassembly_queue = z.state.reassembly_queue } → z.ordered ≡ y.ordered → z.next ≡ y.next → z.state.reassembly_queue.held ≡ reassembly_of (slot_received w p) y.state.stream_identifier → z.state.reassembly_queue.si ≡ y.state.reassembly_queue.si → z.state.reassembly_queue.max_message_size ≡ y.state.reassembly_queue.max_message_size → IsOpenStream v z
+  stream-arrived y z i state ordered next held si largest =
       let t = y.state.stream_identifier in
-      lane-then sum x l (E.Arrive k) none frame refl y z i (ap (λ s. s.stream_identifier) state) (held ∙ ap (λ u. reassembly_of u t) (sym after-is)) si largest
+      stream-then sum x l (E.Arrive k) none frame refl y z i (ap (λ s. s.stream_identifier) state) (held ∙ ap (λ u. reassembly_of u t) (sym after-is)) si largest
       (ap (λ s. s.max_payload_size) state) ordered (ap (λ s. s.sequence_number) state) (next ∙ i.next ∙ sym (next-stays t))
       (ap (λ s. s.buffered_amount) state) (ap (λ s. s.stats) state ∙ i.stats ∙ ap stats_of (sym (counters-stay t)))
 
@@ -93,16 +93,16 @@ module _ (sum : List ℕ → ℕ) (x : State) (l : IsLinked sum x) (k p : ℕ) (
         ∙ ap {B = FilterRecord} (λ (y : ChunkPayloadData). record (filter_of w) { duplicates = (filter_of w).duplicates ++ y.tsn ∷ [] }) is
         ∙ sym (SlotArrives.repeated-filter w p old) ∙ ap filter_of (sym after-is)
 
-    each-still : (j : ℕ) (d : Lane) → j < length x.lanes → IsLane v (slice_index_or x.lanes j d)
+    each-still : (j : ℕ) (d : OpenStream) → j < length x.open_streams → IsOpenStream v (slice_index_or x.open_streams j d)
     each-still j d lt =
-        let y = slice_index_or x.lanes j d in
-        let i = l.lanes j d lt in
-        lane-arrived y y i refl refl refl (i.held ∙ sym (SlotArrives.repeated-reassembly w p y.state.stream_identifier old)) refl refl
+        let y = slice_index_or x.open_streams j d in
+        let i = l.open_streams j d lt in
+        stream-arrived y y i refl refl refl (i.held ∙ sym (SlotArrives.repeated-reassembly w p y.state.stream_identifier old)) refl refl
 
     pub linked-repeat : (answer : Bool) (filter : Payload) (u : World) → answer ≡ Window.is_new x.filter.chunks c.tsn x.cumulative_tsn → filter ≡ (if answer then Payload.pushed x.filter c else Payload.repeated x.filter c.tsn) → u ≡ record w { duplicates = w.duplicates ++ p ∷ [] } → IsLinked sum (record x { world = u; filter = filter })
     linked-repeat answer filter u a b same =
         let put : filter ≡ Payload.repeated x.filter c.tsn = b ∙ ap (λ t. if t then Payload.pushed x.filter c else Payload.repeated x.filter c.tsn) (a ∙ not-new) in
-        linked-then sum x l (E.Arrive k) none frame x.sents x.lanes x.cumulative_tsn filter u refl (ap (filter_held x.cumulative_tsn) put ∙ repeated-filter) each-still l.first quiet
+        linked-then sum x l (E.Arrive k) none frame x.sents x.open_streams x.cumulative_tsn filter u refl (ap (filter_held x.cumulative_tsn) put ∙ repeated-filter) each-still l.indexed quiet
         (same ∙ sym (SlotArrives.repeated w p old) ∙ sym after-is)
 
   -- ## It is new

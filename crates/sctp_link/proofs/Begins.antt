@@ -1,14 +1,16 @@
 -- A link with nothing opened yet.
+use Rattle.std.specs.BTreeMap.{BTreeMap}
 use Rattle.std.proofs.Common.{◌≡◌, ℕ, ◌+◌, ◌-◌, ◌<◌, ◌≤◌, ◌%◌, ◌^◌, List, [], map, None, refl, ap, arith}
 use Rattle.sctp_queues.specs.Outbound.{Outbound}
 use Rattle.sctp_queues.specs.Payload.{Payload}
 use Rattle.sctp_ties.specs.Tied.{filter_held}
-use Rattle.sctp_link.specs.declared.lane.Lane.{Lane}
+use Rattle.sctp_link.specs.declared.open_stream.OpenStream.{OpenStream}
 use Rattle.sctp_link.specs.declared.record.Message.{Message}
 use Rattle.sctp_link.specs.declared.record.Slot.{Slot}
 use Rattle.sctp_link.specs.declared.record.Datagram.{Datagram}
 use Rattle.sctp_link.specs.Fields.{setup_of}
 use Rattle.sctp_link.specs.Linked.{State, IsLinked}
+use Rattle.sctp_link.specs.Places.{IsIndexed}
 use Rattle.sctp_link.specs.Records.{stream_record, message_record, slot_record, datagram_record}
 
 -- queues that nothing was pushed to
@@ -24,12 +26,12 @@ no_outbound =
 abbrev pub no_payload : Payload
 no_payload = record { chunks = []; duplicates = []; room = 0 }
 
-abbrev pub start_state : ℕ → ℕ → ℕ → List Lane → List Message → List Slot → List Datagram → List ℕ → Outbound → Payload → State
-start_state first size largest lanes messages slots network duplicates outbound filter =
+abbrev pub start_state : ℕ → ℕ → ℕ → List OpenStream → BTreeMap ℕ ℕ → List Message → List Slot → List Datagram → List ℕ → Outbound → Payload → State
+start_state first size largest open_streams places messages slots network duplicates outbound filter =
     record {
       world = record {
         setup = setup_of first size largest;
-        streams = map stream_record lanes;
+        streams = map stream_record open_streams;
         messages = map message_record messages;
         slots = map slot_record slots;
         network = map datagram_record network;
@@ -37,7 +39,8 @@ start_state first size largest lanes messages slots network duplicates outbound 
         taken = 0;
         duplicates = duplicates;
       };
-      lanes = lanes;
+      open_streams = open_streams;
+      places = places;
       sents = map (λ m. m.sent) messages;
       unstarted = 0;
       datagrams = map (λ d. d.bytes) network;
@@ -49,8 +52,8 @@ start_state first size largest lanes messages slots network duplicates outbound 
       written = 0;
     }
 
-linked-start : (sum : List ℕ → ℕ) (first size largest : ℕ) → first < 2 ^ 32 → 0 < size → size ≤ 65519 → IsLinked sum (start_state first size largest [] [] [] [] [] no_outbound no_payload)
-linked-start sum first size largest fits some short = record {
+linked-start : (sum : List ℕ → ℕ) (first size largest : ℕ) (places : BTreeMap ℕ ℕ) → first < 2 ^ 32 → 0 < size → size ≤ 65519 → IsIndexed places [] → IsLinked sum (start_state first size largest [] places [] [] [] [] no_outbound no_payload)
+linked-start sum first size largest places fits some short indexed = record {
   setup = record { first = fits; some = some; size = short };
   one_each = refl;
   history = [];
@@ -70,13 +73,13 @@ linked-start sum first size largest fits some short = record {
   written = refl;
   sents = λ n lt. absurd (omega (arith, lt));
   befores = λ n lt. absurd (omega (arith, lt));
-  lanes = λ k d lt. absurd (omega (arith, lt));
-  first = λ k d lt. absurd (omega (arith, lt));
+  open_streams = λ k d lt. absurd (omega (arith, lt));
+  indexed = indexed;
   texts = λ k d g e. cc;
 }
 
-pub linked-new : (sum : List ℕ → ℕ) (first size largest : ℕ) (lanes : List Lane) (messages : List Message) (slots : List Slot) (network : List Datagram) (duplicates : List ℕ) (outbound : Outbound) (filter : Payload)
+pub linked-new : (sum : List ℕ → ℕ) (first size largest : ℕ) (open_streams : List OpenStream) (places : BTreeMap ℕ ℕ) (messages : List Message) (slots : List Slot) (network : List Datagram) (duplicates : List ℕ) (outbound : Outbound) (filter : Payload)
     → first < 2 ^ 32 → 0 < size → size ≤ 65519
-    → lanes ≡ [] → messages ≡ [] → slots ≡ [] → network ≡ [] → duplicates ≡ [] → outbound ≡ no_outbound → filter ≡ no_payload
-    → IsLinked sum (start_state first size largest lanes messages slots network duplicates outbound filter)
-linked-new sum first size largest lanes messages slots network duplicates outbound filter fits some short a b c d e q f = rw (a, b, c, d, e, q, f) (linked-start sum first size largest fits some short)
+    → open_streams ≡ [] → IsIndexed places [] → messages ≡ [] → slots ≡ [] → network ≡ [] → duplicates ≡ [] → outbound ≡ no_outbound → filter ≡ no_payload
+    → IsLinked sum (start_state first size largest open_streams places messages slots network duplicates outbound filter)
+linked-new sum first size largest open_streams places messages slots network duplicates outbound filter fits some short a indexed b c d e q f = rw (a, b, c, d, e, q, f) (linked-start sum first size largest places fits some short indexed)

@@ -1,5 +1,5 @@
 -- How much can have been written.
-use Rattle.std.proofs.Common.{◌≡◌, ℕ, zero, suc, ◌+◌, ◌-◌, ◌*◌, ◌<◌, ◌≤◌, ◌^◌, List, [], ◌∷◌, length, map, drop, get_or, refl, ap, sym, ◌∙◌, arith}
+use Rattle.std.proofs.Common.{◌≡◌, ℕ, zero, suc, ◌+◌, ◌*◌, ◌<◌, ◌≤◌, ◌^◌, List, [], ◌∷◌, length, map, drop, refl, arith}
 use Rattle.std.specs.Prelude.{◌==◌}
 use Rattle.std.proofs.lemmas.List.{length-drop}
 use Rattle.std.proofs.lemmas.List.Sums.{sum_by-cons}
@@ -11,10 +11,9 @@ use Rattle.sctp_queues.specs.DataChunks.{bytes_of}
 use Rattle.sctp_queues.specs.Outbound.{total_bytes}
 use Rattle.sctp_model.specs.World.{Setup, World}
 use Rattle.sctp_model.specs.Messages.{message_at, fragment_count}
-use Rattle.sctp_model.specs.Amounts.{in_all, on_stream, written_bytes, pending_bytes, in_flight_bytes, released_bytes, ledger}
-use Rattle.sctp_model.specs.Steps.{fragments_accepted, world_of}
-use Rattle.sctp_model.specs.Laws.{IsSetup, Balances}
-use Rattle.sctp_model.specs.Log.{log_of}
+use Rattle.sctp_model.specs.Amounts.{in_all, on_stream, written_bytes, pending_bytes, in_flight_bytes, released_bytes}
+use Rattle.sctp_model.specs.Steps.{fragments_accepted}
+use Rattle.sctp_model.specs.Laws.{IsSetup}
 use Rattle.sctp_model.proofs.SenderRun.{Sane}
 use Rattle.sctp_model.proofs.Bytes.{balances}
 use Rattle.sctp_ties.specs.Amount.{amount}

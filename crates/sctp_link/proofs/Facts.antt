@@ -1,7 +1,8 @@
 -- What the history that a link stands for tells of its record.
-use Rattle.std.proofs.Common.{◌≡◌, ℕ, ◌+◌, ◌-◌, ◌<◌, ◌≤◌, ◌^◌, true, List, [], ◌∷◌, zero, suc, length, Option, Some, None, refl, ap, sym, ◌∙◌, arith}
+use Rattle.std.proofs.Common.{◌≡◌, ℕ, ◌<◌, ◌≤◌, ◌^◌, true, List, [], ◌∷◌, length, Some, None, ap, sym, ◌∙◌}
 use Rattle.std.specs.Prelude.{slice_get}
 use Rattle.std.proofs.Math.Path.{subst}
+use Rattle.std.proofs.lemmas.Option.{slice_get_within}
 use Rattle.sctp_model.specs.declared.event.Event.{Event}
 use Rattle.sctp_model.specs.World.{Setup, World, StreamRecord, Data}
 use Rattle.sctp_model.specs.World as W
@@ -10,7 +11,6 @@ use Rattle.sctp_model.specs.Receiver.{spans_fit}
 use Rattle.sctp_model.specs.Contents.{contents_of, contents_in, datagram}
 use Rattle.sctp_model.specs.Steps.{History, StandsFor, IsRun, world_of, refusal_of, reply_to, after}
 use Rattle.sctp_model.specs.Laws.{IsSetup}
-use Rattle.sctp_model.specs.Log
 use Rattle.sctp_model.proofs.Shape.{shape}
 use Rattle.sctp_model.proofs.SenderRun.{Sane, sane-run}
 use Rattle.sctp_model.proofs.Few
@@ -81,14 +81,9 @@ stands-then setup w h e none s = record {
 -- what a datagram of before says after it
 pub says-still : (w : World) (f : Facts w) (e : Event) → refusal_of w e ≡ None → (k : ℕ) (g g' : W.Datagram) → slice_get w.network k ≡ Some g → slice_get (after w e).network k ≡ Some g' → contents_of (after w e) g' ≡ contents_of w g
 says-still w f e none k g g' old new =
-    let lt = made w.network k g old in
+    let lt = slice_get_within w.network k g old in
     let same = f.stays e k none lt in
     inner (ap (contents_in (after w e)) (sym new) ∙ same ∙ ap (contents_in w) old)
   where
     inner : {A : Type 0} {a b : A} → Some a ≡ Some b → a ≡ b
     inner e = cc
-
-    made : (ds : List W.Datagram) (k : ℕ) (g : W.Datagram) → slice_get ds k ≡ Some g → k < length ds
-    made [] k g e = cc
-    made (d ∷ ds) zero g e = omega arith
-    made (d ∷ ds) (suc k) g e = omega (arith, made ds k g e)

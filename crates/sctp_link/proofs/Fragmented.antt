@@ -1,6 +1,6 @@
 -- The fragments of a write are one message, and wait as the record says.
-use Rattle.std.proofs.Common.{◌≡◌, ℕ, zero, suc, ◌+◌, ◌-◌, ◌*◌, ◌<◌, ◌≤◌, ◌%◌, ◌^◌, Bool, true, false, List, [], ◌∷◌, ◌++◌, length, map, get_or, drop, Option, Some, None, refl, ap, sym, ◌∙◌, arith}
-use Rattle.std.specs.Prelude.{◌==◌, ◌&&◌, ◌||◌, not, if◌then◌else◌, nat_lt, slice_index_or}
+use Rattle.std.proofs.Common.{◌≡◌, ℕ, zero, suc, ◌+◌, ◌-◌, ◌*◌, ◌<◌, ◌≤◌, ◌%◌, ◌^◌, Bool, true, false, List, [], ◌∷◌, ◌++◌, length, map, drop, Some, None, refl, ap, sym, ◌∙◌, arith}
+use Rattle.std.specs.Prelude.{◌==◌, ◌||◌, not, slice_index_or}
 use Rattle.std.proofs.Math.Path.{subst}
 use Rattle.std.proofs.lemmas.Bool.Decides.{nat_tests}
 use Rattle.sctp_lists.specs.Kept.{kept, always, numbers_from}
@@ -9,12 +9,11 @@ use Rattle.sctp_lists.proofs.Cases.{same-yes}
 use Rattle.sctp_chunks.specs.declared.chunk.chunk_payload_data.ChunkPayloadData.{ChunkPayloadData}
 use Rattle.sctp_chunks.specs.declared.chunk.chunk_payload_data.PayloadProtocolIdentifier.{PayloadProtocolIdentifier}
 use Rattle.sctp_chunks.specs.declared.chunk.chunk_payload_data.PayloadProtocolIdentifier.TheVariants.{Dcep, String, Binary, StringEmpty, BinaryEmpty, Unknown}
-use Rattle.sctp_chunks.specs.declared.chunk.chunk_payload_data.ReliabilityType.{ReliabilityType}
 use Rattle.sctp_queues.specs.Outbound.{with_message_id}
 use Rattle.sctp_queues.specs.Whole.{IsMessage, IsMessageOrNone}
 use Rattle.sctp_queues.specs.DataChunks.{bytes_of}
 use Rattle.sctp_model.specs.World.{World, StreamRecord}
-use Rattle.sctp_model.specs.Messages.{message_of, sent_of, fragment_count, ordered_before, is_dcep}
+use Rattle.sctp_model.specs.Messages.{message_of, fragment_count, ordered_before, is_dcep}
 use Rattle.sctp_model.specs.Changes.{message_on}
 use Rattle.sctp_ties.specs.Tied.{waiting_at, waiting_of}
 use Rattle.sctp_ties.proofs.Waiting
@@ -22,7 +21,7 @@ use Rattle.sctp_ties.proofs.Written
 use Rattle.sctp_link.specs.declared.stream.StreamState.{StreamState}
 use Rattle.sctp_link.specs.Stream as stream
 use Rattle.sctp_link.specs.Stream.{fragment_at, fragments_of, cut}
-use Rattle.sctp_link.specs.Lanes.{with_mode, fragments_with_mode}
+use Rattle.sctp_link.specs.OpenStreams.{with_mode, fragments_with_mode}
 use Rattle.sctp_link.proofs.Outgoing.{piece-short}
 use Rattle.sctp_link.proofs.Bounds.{bytes-few}
 

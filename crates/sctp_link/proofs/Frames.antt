@@ -1,14 +1,15 @@
 -- What an event leaves of a link's streams, bytes and datagrams.
-use Rattle.std.proofs.Common.{◌≡◌, ℕ, ◌+◌, ◌-◌, ◌<◌, ◌≤◌, ◌%◌, ◌^◌, Bool, true, false, List, [], ◌∷◌, ◌++◌, length, map, Option, Some, None, refl, ap, sym, ◌∙◌, arith, length-append, zero, suc}
-use Rattle.std.specs.Prelude.{◌==◌, if◌then◌else◌, slice_get, slice_index_or, find}
+use Rattle.std.proofs.Common.{◌≡◌, ℕ, true, false, List, [], ◌∷◌, ◌++◌, length, Some, None, refl, ap, sym, ◌∙◌, arith, length-append}
+use Rattle.std.specs.Prelude.{slice_get, slice_index_or}
 use Rattle.std.proofs.Math.Path.{subst}
+use Rattle.std.proofs.lemmas.Option.{slice_get_within}
 use Rattle.sctp_lists.specs.Lists.{pieces}
 use Rattle.sctp_lists.proofs.Getting.{get-snoc_old, get-snoc_new, get-last, slice-front}
 use Rattle.sctp_lists.proofs.Cases.{by_last}
 use Rattle.sctp_model.specs.declared.event.Event.{Event}
 use Rattle.sctp_model.specs.World.{Setup, World}
 use Rattle.sctp_model.specs.World as W
-use Rattle.sctp_model.specs.Messages.{ordered_before, no_message, message_at}
+use Rattle.sctp_model.specs.Messages.{ordered_before, message_at}
 use Rattle.sctp_model.specs.Receiver.{next_of}
 use Rattle.sctp_model.specs.Contents.{contents_of}
 use Rattle.sctp_model.specs.Steps.{refusal_of, after, fragments_accepted, world_of}
@@ -28,15 +29,15 @@ use Rattle.sctp_ties.proofs.StreamAmounts.{amount-same}
 use Rattle.sctp_ties.proofs.SoundRun.{sounds-run}
 use Rattle.sctp_ties.proofs.QuietReceiver.{reassembly-quiet, filter-quiet}
 use Rattle.sctp_ties.proofs.ReadOne.{KeepsNext, next-same}
-use Rattle.sctp_link.specs.declared.lane.Lane.{Lane}
+use Rattle.sctp_link.specs.declared.open_stream.OpenStream.{OpenStream}
 use Rattle.sctp_link.specs.Texts.{IsDatagram}
-use Rattle.sctp_link.specs.Linked.{State, IsLane, IsLinked, has_number, stats_of}
-use Rattle.sctp_link.proofs.Facts.{Facts, facts, says-still}
+use Rattle.sctp_link.specs.Linked.{State, IsOpenStream, IsLinked, stats_of}
+use Rattle.sctp_link.proofs.Facts.{facts, says-still}
 
 -- ## A stream
 
 -- all that a stream keeps of the record is as it was
-pub record SameLane (w v : World) (s : ℕ) : Type 0 where
+pub record SameStream (w v : World) (s : ℕ) : Type 0 where
   pub setup : v.setup ≡ w.setup
   pub held : reassembly_of v s ≡ reassembly_of w s
   pub ordered : ordered_before v s (length v.messages) ≡ ordered_before w s (length w.messages)
@@ -44,8 +45,8 @@ pub record SameLane (w v : World) (s : ℕ) : Type 0 where
   pub amount : amount v s ≡ amount w s
   pub counters : counters_on v s ≡ counters_on w s
 
-pub lane-same : (w v : World) (l : Lane) → SameLane w v l.state.stream_identifier → IsLane w l → IsLane v l
-lane-same w v l f i = record {
+pub stream-same : (w v : World) (l : OpenStream) → SameStream w v l.state.stream_identifier → IsOpenStream w l → IsOpenStream v l
+stream-same w v l f i = record {
   held = i.held ∙ sym f.held;
   si = i.si;
   largest = i.largest ∙ ap (λ t. t.largest) (sym f.setup);
@@ -80,18 +81,13 @@ module _ (sum : List ℕ → ℕ) (x : State) (l : IsLinked sum x) (e : Event) (
   -- one more datagram
   pub texts-more : (n : W.Datagram) (bytes : List ℕ) → v.network ≡ w.network ++ n ∷ [] → length x.datagrams ≡ length w.network → IsDatagram sum (contents_of v n) bytes → (k : ℕ) (d : List ℕ) (g : W.Datagram) → slice_get v.network k ≡ Some g → IsDatagram sum (contents_of v g) (slice_index_or (x.datagrams ++ bytes ∷ []) k d)
   texts-more n bytes more count is k d g e' =
-      by_last {P = IsDatagram sum (contents_of v g) (slice_index_or (x.datagrams ++ bytes ∷ []) k d)} k (length w.network) (omega (arith, made v.network k g e', ap length more, length-append w.network (n ∷ [])))
+      by_last {P = IsDatagram sum (contents_of v g) (slice_index_or (x.datagrams ++ bytes ∷ []) k d)} k (length w.network) (omega (arith, slice_get_within v.network k g e', ap length more, length-append w.network (n ∷ [])))
       (λ lt. subst (IsDatagram sum (contents_of v g)) (sym (get-snoc_old x.datagrams bytes k d (λ z. absurd (omega (arith, lt, z, count))))) (text-old k d g (sym (slice-front w.network (n ∷ []) k lt) ∙ ap (λ ds. slice_get ds k) (sym more) ∙ e') e'))
       (λ z. subst (λ g. IsDatagram sum (contents_of v g) (slice_index_or (x.datagrams ++ bytes ∷ []) k d)) (inner (sym (get-last w.network n) ∙ ap (λ ds. slice_get ds (length w.network)) (sym more) ∙ ap (slice_get v.network) (sym z) ∙ e'))
       (subst (IsDatagram sum (contents_of v n)) (sym (ap (λ j. slice_index_or (x.datagrams ++ bytes ∷ []) j d) (z ∙ sym count) ∙ get-snoc_new x.datagrams bytes d)) is))
     where
       inner : {A : Type 0} {a b : A} → Some a ≡ Some b → a ≡ b
       inner e = cc
-
-      made : (ds : List W.Datagram) (k : ℕ) (g : W.Datagram) → slice_get ds k ≡ Some g → k < length ds
-      made [] k g e = cc
-      made (d ∷ ds) zero g e = omega arith
-      made (d ∷ ds) (suc k) g e = omega (arith, made ds k g e)
 
   -- the index expected next
   pub next-kept : KeepsNext e → (t : ℕ) → next_of v t ≡ next_of w t
@@ -113,8 +109,8 @@ module _ (sum : List ℕ → ℕ) (x : State) (l : IsLinked sum x) (e : Event) (
       ok q
 
   -- so a stream is as it was, where nothing is written
-  pub lane-quiet : Quiet w v → KeepsNext e → keeps_amounts e ≡ true → is_write e ≡ false → is_read e ≡ false → ((s : ℕ) → ordered_before v s (length v.messages) ≡ ordered_before w s (length w.messages)) → (s : ℕ) → SameLane w v s
-  lane-quiet q keeps amounts no-write no-read before s = record {
+  pub stream-quiet : Quiet w v → KeepsNext e → keeps_amounts e ≡ true → is_write e ≡ false → is_read e ≡ false → ((s : ℕ) → ordered_before v s (length v.messages) ≡ ordered_before w s (length w.messages)) → (s : ℕ) → SameStream w v s
+  stream-quiet q keeps amounts no-write no-read before s = record {
     setup = setup-same;
     held = held-quiet q s;
     ordered = before s;

@@ -34,17 +34,19 @@ use Rattle.sctp_ties.proofs.Span.{IsSpan}
 use Rattle.sctp_ties.proofs.SpanEnds.{Begins, set-begins, whole-begins}
 use Rattle.sctp_ties.proofs.StreamCounters.{counters-read, counters-nothing}
 use Rattle.sctp_ties.proofs.Unordered.{unordered-of}
-use Rattle.sctp_link.specs.declared.lane.Lane.{Lane}
+use Rattle.sctp_link.specs.declared.open_stream.OpenStream.{OpenStream}
 use Rattle.sctp_link.specs.declared.record.Message.{Message}
 use Rattle.sctp_link.specs.declared.stream.StreamState.{StreamState}
-use Rattle.sctp_link.specs.Lanes.{with_read_stats}
-use Rattle.sctp_link.specs.Linked.{State, IsLinked, IsLane, has_number, stats_of}
+use Rattle.sctp_link.specs.OpenStreams.{with_read_stats}
+use Rattle.sctp_link.specs.Linked.{State, IsLinked, IsOpenStream, has_number, stats_of}
+use Rattle.sctp_link.specs.Places.{stream_numbers}
 use Rattle.sctp_link.specs.Records.{message_record, stream_record}
 use Rattle.sctp_link.specs.Stats.{counted_bytes, with_received}
-use Rattle.sctp_link.proofs.Apart.{IsApart, ids, apart, apart-set, find-apart, differ, each-set, map-set_same, streams-set}
+use Rattle.sctp_link.proofs.Apart.{IsApart, apart, differ, each-set, map-set_same, number-found, streams-set}
+use Rattle.sctp_link.proofs.Places.{indexed-set}
 use Rattle.sctp_link.proofs.Facts.{facts, over}
-use Rattle.sctp_link.proofs.LanesAfter.{lane-then, linked-then}
-use Rattle.sctp_link.proofs.Lookups.{found-number, some-open, none-open}
+use Rattle.sctp_link.proofs.StreamsAfter.{stream-then, linked-then}
+use Rattle.sctp_link.proofs.Lookups.{some-open, none-open}
 
 -- set twice
 pub set-set : {A : Type 0} (xs : List A) (i : ℕ) (a b : A) → slice_set (slice_set xs i a) i b ≡ slice_set xs i b
@@ -78,21 +80,21 @@ pub record HandsOut (w : World) (s n : ℕ) : Type 0 where
   pub other : (t : ℕ) → (t ≡ s → ⊥) → next_of (read_from w s) t ≡ next_of w t
   pub whole : (if (message_at w n).ordered then (stream_of w s).whole else drop 1 (stream_of w s).whole) ≡ drop 1 (stream_of w s).whole
 
-module _ (sum : List ℕ → ℕ) (x : State) (l : IsLinked sum x) (s at : ℕ) (d : Lane) (lanes_are : x.world.streams ≡ map stream_record x.lanes) (lt : at < length x.lanes) (found : (d : Lane) → find (has_number s) x.lanes ≡ Some (slice_index_or x.lanes at d)) where
+module _ (sum : List ℕ → ℕ) (x : State) (l : IsLinked sum x) (s at : ℕ) (d : OpenStream) (streams_are : x.world.streams ≡ map stream_record x.open_streams) (lt : at < length x.open_streams) (found : (d : OpenStream) → find (has_number s) x.open_streams ≡ Some (slice_index_or x.open_streams at d)) where
   abbrev w : World
   w = x.world
 
   abbrev v : World
   v = after x.world (E.Read s)
 
-  abbrev y : Lane
-  y = slice_index_or x.lanes at d
+  abbrev y : OpenStream
+  y = slice_index_or x.open_streams at d
 
   abbrev r : StreamRecord
-  r = stream_record (slice_index_or x.lanes at d)
+  r = stream_record (slice_index_or x.open_streams at d)
 
   open' : stream_at w s ≡ Some r
-  open' = some-open w s x.lanes y lanes_are (found d)
+  open' = some-open w s x.open_streams y streams_are (found d)
 
   none : refusal_of w (E.Read s) ≡ None
   none = ap (λ o. unless (is_some o) StreamUnknown None) open'
@@ -103,11 +105,11 @@ module _ (sum : List ℕ → ℕ) (x : State) (l : IsLinked sum x) (s at : ℕ) 
   quiet : QuietSender.SameToSender w v
   quiet = QuietSender.same-read w s (next_read w s)
 
-  id-at : (c : Lane) → (slice_index_or x.lanes at c).state.stream_identifier ≡ s
-  id-at c = found-number s x.lanes (slice_index_or x.lanes at c) (found c)
+  id-at : (c : OpenStream) → (slice_index_or x.open_streams at c).state.stream_identifier ≡ s
+  id-at c = number-found s x.open_streams (slice_index_or x.open_streams at c) (found c)
 
   here : y.state.reassembly_queue.held ≡ reassembly_of w s
-  here = (l.lanes at d lt).held ∙ ap (reassembly_of w) (id-at d)
+  here = (l.open_streams at d lt).held ∙ ap (reassembly_of w) (id-at d)
 
   span : IsSpan w s []
   span = (facts sum x l).span s r open'
@@ -118,35 +120,35 @@ module _ (sum : List ℕ → ℕ) (x : State) (l : IsLinked sum x) (s at : ℕ) 
   rest : rest_read y.state.reassembly_queue.held ≡ reassembly_of v s
   rest = let f = facts sum x l in ap rest_read here ∙ NextRead.rest-is w s r f.sounds.plain f.sounds.whole span open'
 
-  streams-apart : IsApart (ids x.lanes)
-  streams-apart = apart sum x l lanes_are
+  streams-apart : IsApart (stream_numbers x.open_streams)
+  streams-apart = apart x.places (stream_numbers x.open_streams) l.indexed
 
   filter-stays : filter_of v ≡ filter_of w
   filter-stays = filter-read w s (next_read w s)
 
-  -- the lane of the stream, and the others
-  lane-read : (z : Lane) → z.state.stream_identifier ≡ y.state.stream_identifier → z.state.reassembly_queue ≡ state_read y.state.reassembly_queue → z.state.max_payload_size ≡ y.state.max_payload_size → z.state.sequence_number ≡ y.state.sequence_number → z.state.buffered_amount ≡ y.state.buffered_amount → z.ordered ≡ y.ordered → z.next ≡ next_of v s → z.state.stats ≡ stats_of (counters_on v s) → IsLane v z
-  lane-read z id queue size number bytes ordered next stats =
-      lane-then sum x l (E.Read s) none frame refl y z (l.lanes at d lt) id (ap (λ q. q.held) queue ∙ rest ∙ ap (reassembly_of v) (sym (id-at d))) (ap (λ q. q.si) queue) (ap (λ q. q.max_message_size) queue) size ordered number
+  -- the stream that is read, and the others
+  stream-read : (z : OpenStream) → z.state.stream_identifier ≡ y.state.stream_identifier → z.state.reassembly_queue ≡ state_read y.state.reassembly_queue → z.state.max_payload_size ≡ y.state.max_payload_size → z.state.sequence_number ≡ y.state.sequence_number → z.state.buffered_amount ≡ y.state.buffered_amount → z.ordered ≡ y.ordered → z.next ≡ next_of v s → z.state.stats ≡ stats_of (counters_on v s) → IsOpenStream v z
+  stream-read z id queue size number bytes ordered next stats =
+      stream-then sum x l (E.Read s) none frame refl y z (l.open_streams at d lt) id (ap (λ q. q.held) queue ∙ rest ∙ ap (reassembly_of v) (sym (id-at d))) (ap (λ q. q.si) queue) (ap (λ q. q.max_message_size) queue) size ordered number
       (next ∙ ap (next_of v) (sym (id-at d))) bytes (stats ∙ ap (λ t. stats_of (counters_on v t)) (sym (id-at d)))
 
-  each-read : (z : Lane) → IsLane v z → ((t : ℕ) → (t ≡ s → ⊥) → next_of v t ≡ next_of w t) → ((t : ℕ) → (t ≡ s → ⊥) → counters_on v t ≡ counters_on w t) → (j : ℕ) (c : Lane) → j < length (slice_set x.lanes at z) → IsLane v (slice_index_or (slice_set x.lanes at z) j c)
+  each-read : (z : OpenStream) → IsOpenStream v z → ((t : ℕ) → (t ≡ s → ⊥) → next_of v t ≡ next_of w t) → ((t : ℕ) → (t ≡ s → ⊥) → counters_on v t ≡ counters_on w t) → (j : ℕ) (c : OpenStream) → j < length (slice_set x.open_streams at z) → IsOpenStream v (slice_index_or (slice_set x.open_streams at z) j c)
   each-read z new next counters j c less =
-      let inside : j < length x.lanes = omega (arith, less, length-set x.lanes at z) in
-      each-set (IsLane v) x.lanes at j z c lt new (λ ne. other inside ne)
+      let inside : j < length x.open_streams = omega (arith, less, length-set x.open_streams at z) in
+      each-set (IsOpenStream v) x.open_streams at j z c lt new (λ ne. other inside ne)
     where
-      other : j < length x.lanes → (j ≡ at → ⊥) → IsLane v (slice_index_or x.lanes j c)
+      other : j < length x.open_streams → (j ≡ at → ⊥) → IsOpenStream v (slice_index_or x.open_streams j c)
       other inside ne =
           let f = facts sum x l in
-          let i = l.lanes j c inside in
-          let t = slice_index_or x.lanes j c in
-          let off : t.state.stream_identifier ≡ s → ⊥ = λ h. differ x.lanes j at c streams-apart inside lt ne (h ∙ sym (id-at c)) in
-          lane-then sum x l (E.Read s) none frame refl t t i refl (i.held ∙ sym (NextRead.read-others w s r f.sounds.plain f.sounds.whole span open' t.state.stream_identifier off)) refl refl refl refl refl
+          let i = l.open_streams j c inside in
+          let t = slice_index_or x.open_streams j c in
+          let off : t.state.stream_identifier ≡ s → ⊥ = λ h. differ x.open_streams j at c streams-apart inside lt ne (h ∙ sym (id-at c)) in
+          stream-then sum x l (E.Read s) none frame refl t t i refl (i.held ∙ sym (NextRead.read-others w s r f.sounds.plain f.sounds.whole span open' t.state.stream_identifier off)) refl refl refl refl refl
           (i.next ∙ sym (next t.state.stream_identifier off)) refl (i.stats ∙ ap stats_of (sym (counters t.state.stream_identifier off)))
 
   -- ## Nothing to read
 
-  module _ (e : message_read (slice_index_or x.lanes at d).state.reassembly_queue.held ≡ None) where
+  module _ (e : message_read (slice_index_or x.open_streams at d).state.reassembly_queue.held ≡ None) where
     nothing : next_read w s ≡ None
     nothing = let f = facts sum x l in ReadOne.none-due w s r f.sounds.plain f.sounds.whole span open' (ap message_read (sym here) ∙ e)
 
@@ -156,27 +158,27 @@ module _ (sum : List ℕ → ℕ) (x : State) (l : IsLinked sum x) (s at : ℕ) 
     pub reply-nothing : R.Nothing ≡ reply_to w (E.Read s)
     reply-nothing = sym (ap (read_reply w) nothing)
 
-    abbrev z : Lane
-    z = record (slice_index_or x.lanes at d) { state = record (slice_index_or x.lanes at d).state { reassembly_queue = state_read (slice_index_or x.lanes at d).state.reassembly_queue } }
+    abbrev z : OpenStream
+    z = record (slice_index_or x.open_streams at d) { state = record (slice_index_or x.open_streams at d).state { reassembly_queue = state_read (slice_index_or x.open_streams at d).state.reassembly_queue } }
 
-    world-same : record w { streams = map stream_record (slice_set x.lanes at z) } ≡ v
-    world-same = ap {B = World} (λ rs. record w { streams = rs }) (map-set_same stream_record x.lanes at z d refl ∙ sym lanes_are) ∙ sym still
+    world-same : record w { streams = map stream_record (slice_set x.open_streams at z) } ≡ v
+    world-same = ap {B = World} (λ rs. record w { streams = rs }) (map-set_same stream_record x.open_streams at z d refl ∙ sym streams_are) ∙ sym still
 
-    linked-same : IsLinked sum (record x { world = record w { streams = map stream_record (slice_set x.lanes at z) }; lanes = slice_set x.lanes at z })
+    linked-same : IsLinked sum (record x { world = record w { streams = map stream_record (slice_set x.open_streams at z) }; open_streams = slice_set x.open_streams at z })
     linked-same =
-        let i = l.lanes at d lt in
-        linked-then sum x l (E.Read s) none frame x.sents (slice_set x.lanes at z) x.cumulative_tsn x.filter (record w { streams = map stream_record (slice_set x.lanes at z) }) refl (l.filter ∙ sym filter-stays)
-        (each-read z (lane-read z refl refl refl refl refl refl (i.next ∙ ap (next_of w) (id-at d) ∙ ap (λ u. next_of u s) (sym still)) (i.stats ∙ ap (λ t. stats_of (counters_on w t)) (id-at d) ∙ ap stats_of (sym (counters-nothing w s s nothing))))
+        let i = l.open_streams at d lt in
+        linked-then sum x l (E.Read s) none frame x.sents (slice_set x.open_streams at z) x.cumulative_tsn x.filter (record w { streams = map stream_record (slice_set x.open_streams at z) }) refl (l.filter ∙ sym filter-stays)
+        (each-read z (stream-read z refl refl refl refl refl refl (i.next ∙ ap (next_of w) (id-at d) ∙ ap (λ u. next_of u s) (sym still)) (i.stats ∙ ap (λ t. stats_of (counters_on w t)) (id-at d) ∙ ap stats_of (sym (counters-nothing w s s nothing))))
         (λ t ne. ap (λ u. next_of u t) still) (λ t ne. counters-nothing w s t nothing))
-        (λ j c less. find-apart (slice_set x.lanes at z) j c (apart-set x.lanes at z d streams-apart refl) less)
+        (indexed-set x.places x.open_streams at z d l.indexed refl)
         quiet world-same
 
-    module _ (u : Lane) (is : u ≡ record (slice_index_or x.lanes at d) { state = record (slice_index_or x.lanes at d).state { reassembly_queue = state_read (slice_index_or x.lanes at d).state.reassembly_queue } }) where
-      pub world-nothing : record w { streams = map stream_record (slice_set x.lanes at u) } ≡ v
-      world-nothing = ap {B = World} (λ (t : Lane). record w { streams = map stream_record (slice_set x.lanes at t) }) is ∙ world-same
+    module _ (u : OpenStream) (is : u ≡ record (slice_index_or x.open_streams at d) { state = record (slice_index_or x.open_streams at d).state { reassembly_queue = state_read (slice_index_or x.open_streams at d).state.reassembly_queue } }) where
+      pub world-nothing : record w { streams = map stream_record (slice_set x.open_streams at u) } ≡ v
+      world-nothing = ap {B = World} (λ (t : OpenStream). record w { streams = map stream_record (slice_set x.open_streams at t) }) is ∙ world-same
 
-      pub linked-nothing : IsLinked sum (record x { world = record w { streams = map stream_record (slice_set x.lanes at u) }; lanes = slice_set x.lanes at u })
-      linked-nothing = subst (λ (t : Lane). IsLinked sum (record x { world = record w { streams = map stream_record (slice_set x.lanes at t) }; lanes = slice_set x.lanes at t })) (sym is) linked-same
+      pub linked-nothing : IsLinked sum (record x { world = record w { streams = map stream_record (slice_set x.open_streams at u) }; open_streams = slice_set x.open_streams at u })
+      linked-nothing = subst (λ (t : OpenStream). IsLinked sum (record x { world = record w { streams = map stream_record (slice_set x.open_streams at t) }; open_streams = slice_set x.open_streams at t })) (sym is) linked-same
 
   -- ## A message is read
 
@@ -213,7 +215,7 @@ module _ (sum : List ℕ → ℕ) (x : State) (l : IsLinked sum x) (s at : ℕ) 
       step true h = ap (λ k. k + 1) (sym (same-is (index_of w n) (next_of w s) h))
       step false h = refl
 
-  module _ (set : ChunkSet) (e : message_read (slice_index_or x.lanes at d).state.reassembly_queue.held ≡ Some set) where
+  module _ (set : ChunkSet) (e : message_read (slice_index_or x.open_streams at d).state.reassembly_queue.held ≡ Some set) where
     pub read-is : (n : ℕ) × (next_read w s ≡ Some n) × (set ≡ handed_out w n)
     read-is = let f = facts sum x l in ReadOne.some-read w s r f.sounds.plain f.sounds.whole span open' set (ap message_read (sym here) ∙ e)
 
@@ -237,11 +239,11 @@ module _ (sum : List ℕ → ℕ) (x : State) (l : IsLinked sum x) (s at : ℕ) 
     reply-read = ap (λ c. R.Message s (message_at w read-is.0).ppi c) read-is.2 ∙ ap (λ t. R.Message t (message_at w read-is.0).ppi (handed_out w read-is.0)) (sym hands.stream) ∙ sym (ap (read_reply w) read-is.1)
 
     -- with the message m, whose number is n
-    module _ (m : Message) (messages : List W.Message) (z : Lane) (m_is : message_at x.world read-is.0 ≡ message_record m) (messages_are : messages ≡ changed mark_read read-is.0 x.world.messages)
-        (state : z.state ≡ with_read_stats m.ppi (length m.bytes) (record (slice_index_or x.lanes at d).state { reassembly_queue = state_read (slice_index_or x.lanes at d).state.reassembly_queue }))
-        (whole : z.whole.items ≡ (if m.ordered then (slice_index_or x.lanes at d).whole.items else drop 1 (slice_index_or x.lanes at d).whole.items))
-        (ordered : z.ordered ≡ (slice_index_or x.lanes at d).ordered)
-        (next : z.next ≡ (if m.ordered && (m.before == (slice_index_or x.lanes at d).next) then m.before + 1 else (slice_index_or x.lanes at d).next)) where
+    module _ (m : Message) (messages : List W.Message) (z : OpenStream) (m_is : message_at x.world read-is.0 ≡ message_record m) (messages_are : messages ≡ changed mark_read read-is.0 x.world.messages)
+        (state : z.state ≡ with_read_stats m.ppi (length m.bytes) (record (slice_index_or x.open_streams at d).state { reassembly_queue = state_read (slice_index_or x.open_streams at d).state.reassembly_queue }))
+        (whole : z.whole.items ≡ (if m.ordered then (slice_index_or x.open_streams at d).whole.items else drop 1 (slice_index_or x.open_streams at d).whole.items))
+        (ordered : z.ordered ≡ (slice_index_or x.open_streams at d).ordered)
+        (next : z.next ≡ (if m.ordered && (m.before == (slice_index_or x.open_streams at d).next) then m.before + 1 else (slice_index_or x.open_streams at d).next)) where
       same-id : z.state.stream_identifier ≡ y.state.stream_identifier
       same-id = ap (λ (t : StreamState). t.stream_identifier) state
 
@@ -251,7 +253,7 @@ module _ (sum : List ℕ → ℕ) (x : State) (l : IsLinked sum x) (s at : ℕ) 
           next
           ∙ ap (λ b. if m.ordered && (b == y.next) then b + 1 else y.next) i
           ∙ ap (λ b. if b && (index_of w read-is.0 == y.next) then index_of w read-is.0 + 1 else y.next) (ap (λ t. t.ordered) (sym m_is))
-          ∙ ap (λ t. if (message_at w read-is.0).ordered && (index_of w read-is.0 == t) then index_of w read-is.0 + 1 else t) ((l.lanes at d lt).next ∙ ap (next_of w) (id-at d))
+          ∙ ap (λ t. if (message_at w read-is.0).ordered && (index_of w read-is.0 == t) then index_of w read-is.0 + 1 else t) ((l.open_streams at d lt).next ∙ ap (next_of w) (id-at d))
           ∙ sym hands.next
 
       counters-at : (t : ℕ) → counters_on v t ≡ (if t == s then received_more (counted_as (message_at w read-is.0).ppi (length (message_at w read-is.0).bytes)) (counters_on w t) else counters_on w t)
@@ -269,13 +271,13 @@ module _ (sum : List ℕ → ℕ) (x : State) (l : IsLinked sum x) (s at : ℕ) 
       stats-are : z.state.stats ≡ stats_of (counters_on v s)
       stats-are =
           ap (λ (t : StreamState). t.stats) state
-          ∙ ap (with_received (counted_bytes m.ppi (length m.bytes))) ((l.lanes at d lt).stats ∙ ap (λ t. stats_of (counters_on w t)) (id-at d))
+          ∙ ap (with_received (counted_bytes m.ppi (length m.bytes))) ((l.open_streams at d lt).stats ∙ ap (λ t. stats_of (counters_on w t)) (id-at d))
           ∙ counted-read m.ppi (length m.bytes) w s
           ∙ ap (λ (t : W.Message). stats_of (received_more (counted_as t.ppi (length t.bytes)) (counters_on w s))) (sym m_is)
           ∙ ap stats_of (sym (counters-at s ∙ ap (λ b. if b then received_more (counted_as (message_at w read-is.0).ppi (length (message_at w read-is.0).bytes)) (counters_on w s) else counters_on w s) (same-yes s)))
 
-      lane-is : IsLane v z
-      lane-is = lane-read z same-id (ap (λ (t : StreamState). t.reassembly_queue) state) (ap (λ (t : StreamState). t.max_payload_size) state) (ap (λ (t : StreamState). t.sequence_number) state) (ap (λ (t : StreamState). t.buffered_amount) state) ordered next-is stats-are
+      open_stream-is : IsOpenStream v z
+      open_stream-is = stream-read z same-id (ap (λ (t : StreamState). t.reassembly_queue) state) (ap (λ (t : StreamState). t.max_payload_size) state) (ap (λ (t : StreamState). t.sequence_number) state) (ap (λ (t : StreamState). t.buffered_amount) state) ordered next-is stats-are
 
       abbrev shown : StreamState → List ℕ → StreamRecord
       shown t whole = record { stream = t.stream_identifier; unordered = t.unordered; reliability = t.reliability_type; value = t.reliability_value; named = 0; whole = whole }
@@ -285,31 +287,31 @@ module _ (sum : List ℕ → ℕ) (x : State) (l : IsLinked sum x) (s at : ℕ) 
           whole ∙ ap (λ b. if b then y.whole.items else drop 1 y.whole.items) (ap (λ t. t.ordered) (sym m_is))
           ∙ ap (λ l. if (message_at w read-is.0).ordered then l else drop 1 l) (sym whole-are) ∙ hands.whole ∙ ap (drop 1) whole-are
 
-      streams-are : map stream_record (slice_set x.lanes at z) ≡ map (λ (t : StreamRecord). if t.stream == s then without_first t else t) w.streams
+      streams-are : map stream_record (slice_set x.open_streams at z) ≡ map (λ (t : StreamRecord). if t.stream == s then without_first t else t) w.streams
       streams-are =
-          streams-set x.lanes at z d without_first streams-apart lt (ap (λ (t : StreamState). shown t z.whole.items) state ∙ ap (shown y.state) whole-is)
-          ∙ ap (λ i. map (λ (t : StreamRecord). if t.stream == i then without_first t else t) (map stream_record x.lanes)) (id-at d)
-          ∙ ap (map (λ (t : StreamRecord). if t.stream == s then without_first t else t)) (sym lanes_are)
+          streams-set x.open_streams at z d without_first streams-apart lt (ap (λ (t : StreamState). shown t z.whole.items) state ∙ ap (shown y.state) whole-is)
+          ∙ ap (λ i. map (λ (t : StreamRecord). if t.stream == i then without_first t else t) (map stream_record x.open_streams)) (id-at d)
+          ∙ ap (map (λ (t : StreamRecord). if t.stream == s then without_first t else t)) (sym streams_are)
 
-      pub world-read : record w { streams = map stream_record (slice_set x.lanes at z); messages = messages } ≡ v
+      pub world-read : record w { streams = map stream_record (slice_set x.open_streams at z); messages = messages } ≡ v
       world-read =
           ap {B = World} (λ rs. record w { streams = rs; messages = messages }) streams-are
           ∙ ap {B = World} (λ ms. record w { streams = map (λ (t : StreamRecord). if t.stream == s then without_first t else t) w.streams; messages = ms }) messages_are
           ∙ sym (ap (read_of w s) read-is.1)
 
-      pub linked-read : (sents : List ℕ) → sents ≡ x.sents → IsLinked sum (record x { world = record w { streams = map stream_record (slice_set x.lanes at z); messages = messages }; sents = sents; lanes = slice_set x.lanes at z })
+      pub linked-read : (sents : List ℕ) → sents ≡ x.sents → IsLinked sum (record x { world = record w { streams = map stream_record (slice_set x.open_streams at z); messages = messages }; sents = sents; open_streams = slice_set x.open_streams at z })
       linked-read sents same =
-          linked-then sum x l (E.Read s) none frame sents (slice_set x.lanes at z) x.cumulative_tsn x.filter (record w { streams = map stream_record (slice_set x.lanes at z); messages = messages }) same (l.filter ∙ sym filter-stays)
-          (each-read z lane-is hands.other counters-other)
-          (λ j c less. find-apart (slice_set x.lanes at z) j c (apart-set x.lanes at z d streams-apart same-id) less)
+          linked-then sum x l (E.Read s) none frame sents (slice_set x.open_streams at z) x.cumulative_tsn x.filter (record w { streams = map stream_record (slice_set x.open_streams at z); messages = messages }) same (l.filter ∙ sym filter-stays)
+          (each-read z open_stream-is hands.other counters-other)
+          (indexed-set x.places x.open_streams at z d l.indexed same-id)
           quiet world-read
 
-      -- the lane was set before
-      pub world-twice : (a : Lane) → record w { streams = map stream_record (slice_set (slice_set x.lanes at a) at z); messages = messages } ≡ v
-      world-twice a = ap {B = World} (λ ls. record w { streams = map stream_record ls; messages = messages }) (set-set x.lanes at a z) ∙ world-read
+      -- where the stream was set before
+      pub world-twice : (a : OpenStream) → record w { streams = map stream_record (slice_set (slice_set x.open_streams at a) at z); messages = messages } ≡ v
+      world-twice a = ap {B = World} (λ ls. record w { streams = map stream_record ls; messages = messages }) (set-set x.open_streams at a z) ∙ world-read
 
-      pub linked-twice : (a : Lane) (sents : List ℕ) → sents ≡ x.sents → IsLinked sum (record x { world = record w { streams = map stream_record (slice_set (slice_set x.lanes at a) at z); messages = messages }; sents = sents; lanes = slice_set (slice_set x.lanes at a) at z })
-      linked-twice a sents same = subst (λ ls. IsLinked sum (record x { world = record w { streams = map stream_record ls; messages = messages }; sents = sents; lanes = ls })) (sym (set-set x.lanes at a z)) (linked-read sents same)
+      pub linked-twice : (a : OpenStream) (sents : List ℕ) → sents ≡ x.sents → IsLinked sum (record x { world = record w { streams = map stream_record (slice_set (slice_set x.open_streams at a) at z); messages = messages }; sents = sents; open_streams = slice_set (slice_set x.open_streams at a) at z })
+      linked-twice a sents same = subst (λ ls. IsLinked sum (record x { world = record w { streams = map stream_record ls; messages = messages }; sents = sents; open_streams = ls })) (sym (set-set x.open_streams at a z)) (linked-read sents same)
 
 -- ## What the queue answered
 
@@ -322,8 +324,8 @@ some-mapped None c e = cc
 some-mapped (Some t) c e = let z : c ≡ at_start t = cc in ap (λ (a : Chunks). Some a.set) (sym z)
 
 -- a stream that is read is open
-pub never-shut : (w : World) (s : ℕ) (lanes : List Lane) → w.streams ≡ map stream_record lanes → refusal_of w (E.Read s) ≡ None → find (has_number s) lanes ≡ None → ⊥
-never-shut w s lanes same ok shut =
-    let o : unless (is_some (stream_at w s)) StreamUnknown None ≡ Some StreamUnknown = ap (λ b. unless b StreamUnknown None) (none-open w s lanes same shut) in
+pub never-shut : (w : World) (s : ℕ) (open_streams : List OpenStream) → w.streams ≡ map stream_record open_streams → refusal_of w (E.Read s) ≡ None → find (has_number s) open_streams ≡ None → ⊥
+never-shut w s open_streams same ok shut =
+    let o : unless (is_some (stream_at w s)) StreamUnknown None ≡ Some StreamUnknown = ap (λ b. unless b StreamUnknown None) (none-open w s open_streams same shut) in
     let z : Some StreamUnknown ≡ None = sym o ∙ ok in
     cc

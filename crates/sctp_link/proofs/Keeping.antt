@@ -27,16 +27,18 @@ use Rattle.sctp_ties.proofs.Arrival.{with_arrived}
 use Rattle.sctp_ties.proofs.RunsOnce.{becomes-same}
 use Rattle.sctp_ties.proofs.SlotArrives.{ordered-slot, unordered-slot}
 use Rattle.sctp_ties.proofs.Sizes.{never-too-large-run}
-use Rattle.sctp_link.specs.declared.lane.Lane.{Lane}
+use Rattle.sctp_link.specs.declared.open_stream.OpenStream.{OpenStream}
 use Rattle.sctp_link.specs.declared.stream.StreamState.{StreamState}
-use Rattle.sctp_link.specs.Linked.{State, IsLinked, IsLane, has_number, stats_of}
-use Rattle.sctp_link.specs.Lanes.{Keeps}
+use Rattle.sctp_link.specs.Linked.{State, IsLinked, IsOpenStream, has_number, stats_of}
+use Rattle.sctp_link.specs.OpenStreams.{Keeps}
+use Rattle.sctp_link.specs.Places.{stream_numbers}
 use Rattle.sctp_link.specs.Records.{stream_record}
-use Rattle.sctp_link.proofs.Apart.{IsApart, ids, apart, apart-set, find-apart, differ, each-set, map-set_same, streams-set}
-use Rattle.sctp_link.proofs.Arrives.{after-is, frame, quiet, fits, lane-arrived, enter, span-here, elsewhere, noted-is}
+use Rattle.sctp_link.proofs.Apart.{IsApart, apart, differ, each-set, map-set_same, number-found, streams-set}
+use Rattle.sctp_link.proofs.Places.{indexed-set}
+use Rattle.sctp_link.proofs.Arrives.{after-is, frame, quiet, fits, stream-arrived, enter, span-here, elsewhere, noted-is}
 use Rattle.sctp_link.proofs.Facts.{facts, over}
-use Rattle.sctp_link.proofs.LanesAfter.{linked-then}
-use Rattle.sctp_link.proofs.Lookups.{found-number, none-open}
+use Rattle.sctp_link.proofs.StreamsAfter.{linked-then}
+use Rattle.sctp_link.proofs.Lookups.{none-open}
 
 and-yes : (b : Bool) → (b && true) ≡ b
 and-yes true = refl
@@ -46,7 +48,7 @@ and-yes false = refl
 abbrev shown : StreamState → List ℕ → StreamRecord
 shown s whole = record { stream = s.stream_identifier; unordered = s.unordered; reliability = s.reliability_type; value = s.reliability_value; named = 0; whole = whole }
 
-module _ (sum : List ℕ → ℕ) (x : State) (l : IsLinked sum x) (k p : ℕ) (none : refusal_of x.world (E.Arrive k) ≡ None) (e : slice_get x.world.network k ≡ Some (Data (p ∷ []))) (new : is_new x.world p ≡ true) (at : ℕ) (d : Lane) (lanes_are : x.world.streams ≡ map stream_record x.lanes) (lt : at < length x.lanes) (found : (d : Lane) → find (has_number (message_at x.world (message_of x.world p)).stream) x.lanes ≡ Some (slice_index_or x.lanes at d)) where
+module _ (sum : List ℕ → ℕ) (x : State) (l : IsLinked sum x) (k p : ℕ) (none : refusal_of x.world (E.Arrive k) ≡ None) (e : slice_get x.world.network k ≡ Some (Data (p ∷ []))) (new : is_new x.world p ≡ true) (at : ℕ) (d : OpenStream) (streams_are : x.world.streams ≡ map stream_record x.open_streams) (lt : at < length x.open_streams) (found : (d : OpenStream) → find (has_number (message_at x.world (message_of x.world p)).stream) x.open_streams ≡ Some (slice_index_or x.open_streams at d)) where
   abbrev w : World
   w = x.world
 
@@ -56,27 +58,27 @@ module _ (sum : List ℕ → ℕ) (x : State) (l : IsLinked sum x) (k p : ℕ) (
   abbrev s : ℕ
   s = (message_at x.world (message_of x.world p)).stream
 
-  abbrev y : Lane
-  y = slice_index_or x.lanes at d
+  abbrev y : OpenStream
+  y = slice_index_or x.open_streams at d
 
-  id-at : (c : Lane) → (slice_index_or x.lanes at c).state.stream_identifier ≡ s
-  id-at c = found-number s x.lanes (slice_index_or x.lanes at c) (found c)
+  id-at : (c : OpenStream) → (slice_index_or x.open_streams at c).state.stream_identifier ≡ s
+  id-at c = number-found s x.open_streams (slice_index_or x.open_streams at c) (found c)
 
   here : y.state.reassembly_queue.held ≡ reassembly_of w s
-  here = (l.lanes at d lt).held ∙ ap (reassembly_of w) (id-at d)
+  here = (l.open_streams at d lt).held ∙ ap (reassembly_of w) (id-at d)
 
   -- what the stream's queue asks of the chunk
   pub small : is_too_large (chunk_at w p) y.state.reassembly_queue ≡ false
   small =
       let q = y.state.reassembly_queue in
       over sum x (λ (u : World). slice_get u.network k ≡ Some (Data (p ∷ [])) → arrival_fits u (Some (Data (p ∷ []))) ≡ true → is_new u p ≡ true → q.held ≡ reassembly_of u (message_at u (message_of u p)).stream → is_too_large (chunk_at u p) q ≡ false) l
-      (λ a b c h. never-too-large-run w.setup l.history k p q l.setup l.stands.run a b c h (l.lanes at d lt).largest)
+      (λ a b c h. never-too-large-run w.setup l.history k p q l.setup l.stands.run a b c h (l.open_streams at d lt).largest)
       e (fits sum x l k p none e) new here
 
   pub its-stream : ((chunk_at w p).stream_identifier == y.state.reassembly_queue.si) ≡ true
-  its-stream = ap (λ t. s == t) ((l.lanes at d lt).si ∙ id-at d) ∙ same-yes s
+  its-stream = ap (λ t. s == t) ((l.open_streams at d lt).si ∙ id-at d) ∙ same-yes s
 
-  module _ (z : Lane) (number : ℕ) (number_is : number ≡ message_of x.world p) (keeps : Keeps (chunk_at x.world p) number (slice_index_or x.lanes at d) z) where
+  module _ (z : OpenStream) (number : ℕ) (number_is : number ≡ message_of x.world p) (keeps : Keeps (chunk_at x.world p) number (slice_index_or x.open_streams at d) z) where
     record Holds : Type 0 where
       queue : z.state.reassembly_queue.held ≡ reassembly_of (slot_received w p) s
       noted : (keeps.whole && (chunk_at w p).unordered) ≡ becomes_whole (with_arrived w p) n
@@ -112,8 +114,8 @@ module _ (sum : List ℕ → ℕ) (x : State) (l : IsLinked sum x) (k p : ℕ) (
     same-id : z.state.stream_identifier ≡ y.state.stream_identifier
     same-id = ap (λ (t : StreamState). t.stream_identifier) keeps.state
 
-    streams-apart : IsApart (ids x.lanes)
-    streams-apart = apart sum x l lanes_are
+    streams-apart : IsApart (stream_numbers x.open_streams)
+    streams-apart = apart x.places (stream_numbers x.open_streams) l.indexed
 
     -- ## The record
 
@@ -122,56 +124,56 @@ module _ (sum : List ℕ → ℕ) (x : State) (l : IsLinked sum x) (k p : ℕ) (
         ap (λ (t : StreamState). shown t z.whole.items) keeps.state
         ∙ ap (shown y.state) (keeps.noted ∙ ap (λ c. if c then y.whole.items ++ number ∷ [] else y.whole.items) (holds.noted ∙ h) ∙ ap (λ i. if b then y.whole.items ++ i ∷ [] else y.whole.items) number_is)
 
-    streams-are : (b : Bool) → becomes_whole (with_arrived w p) n ≡ b → map stream_record (slice_set x.lanes at z) ≡ (if b then stream_changed (with_arrived w p) s (with_whole n) else with_arrived w p).streams
+    streams-are : (b : Bool) → becomes_whole (with_arrived w p) n ≡ b → map stream_record (slice_set x.open_streams at z) ≡ (if b then stream_changed (with_arrived w p) s (with_whole n) else with_arrived w p).streams
     streams-are true h =
-        streams-set x.lanes at z d (with_whole n) streams-apart lt (shown-is true h)
-        ∙ ap (λ t. map (λ (r : StreamRecord). if r.stream == t then with_whole n r else r) (map stream_record x.lanes)) (id-at d)
-        ∙ ap (map (λ (r : StreamRecord). if r.stream == s then with_whole n r else r)) (sym lanes_are)
-    streams-are false h = map-set_same stream_record x.lanes at z d (shown-is false h) ∙ sym lanes_are
+        streams-set x.open_streams at z d (with_whole n) streams-apart lt (shown-is true h)
+        ∙ ap (λ t. map (λ (r : StreamRecord). if r.stream == t then with_whole n r else r) (map stream_record x.open_streams)) (id-at d)
+        ∙ ap (map (λ (r : StreamRecord). if r.stream == s then with_whole n r else r)) (sym streams_are)
+    streams-are false h = map-set_same stream_record x.open_streams at z d (shown-is false h) ∙ sym streams_are
 
-    changed-is : (b : Bool) → becomes_whole (with_arrived w p) n ≡ b → record w { streams = map stream_record (slice_set x.lanes at z); slots = changed mark_arrived p w.slots } ≡ (if b then stream_changed (with_arrived w p) s (with_whole n) else with_arrived w p)
+    changed-is : (b : Bool) → becomes_whole (with_arrived w p) n ≡ b → record w { streams = map stream_record (slice_set x.open_streams at z); slots = changed mark_arrived p w.slots } ≡ (if b then stream_changed (with_arrived w p) s (with_whole n) else with_arrived w p)
     changed-is true h = ap {B = World} (λ rs. record w { streams = rs; slots = changed mark_arrived p w.slots }) (streams-are true h)
     changed-is false h = ap {B = World} (λ rs. record w { streams = rs; slots = changed mark_arrived p w.slots }) (streams-are false h)
 
-    pub world-kept : (slots : List W.Slot) → slots ≡ changed mark_arrived p w.slots → record w { streams = map stream_record (slice_set x.lanes at z); slots = slots } ≡ slot_received w p
+    pub world-kept : (slots : List W.Slot) → slots ≡ changed mark_arrived p w.slots → record w { streams = map stream_record (slice_set x.open_streams at z); slots = slots } ≡ slot_received w p
     world-kept slots same =
-        ap {B = World} (λ ss. record w { streams = map stream_record (slice_set x.lanes at z); slots = ss }) same
+        ap {B = World} (λ ss. record w { streams = map stream_record (slice_set x.open_streams at z); slots = ss }) same
         ∙ changed-is (becomes_whole (with_arrived w p) n) refl ∙ sym (noted-is sum x l k p none e new)
 
-    -- ## The lanes
+    -- ## The streams
 
-    each-lane : (j : ℕ) (c : Lane) → j < length (slice_set x.lanes at z) → IsLane (after w (E.Arrive k)) (slice_index_or (slice_set x.lanes at z) j c)
-    each-lane j c less =
-        let inside : j < length x.lanes = omega (arith, less, length-set x.lanes at z) in
-        each-set (IsLane (after w (E.Arrive k))) x.lanes at j z c lt
-        (lane-arrived sum x l k p none e y z (l.lanes at d lt) keeps.state keeps.ordered keeps.next (holds.queue ∙ ap (reassembly_of (slot_received w p)) (sym (id-at d))) holds.si holds.largest)
+    each-stream : (j : ℕ) (c : OpenStream) → j < length (slice_set x.open_streams at z) → IsOpenStream (after w (E.Arrive k)) (slice_index_or (slice_set x.open_streams at z) j c)
+    each-stream j c less =
+        let inside : j < length x.open_streams = omega (arith, less, length-set x.open_streams at z) in
+        each-set (IsOpenStream (after w (E.Arrive k))) x.open_streams at j z c lt
+        (stream-arrived sum x l k p none e y z (l.open_streams at d lt) keeps.state keeps.ordered keeps.next (holds.queue ∙ ap (reassembly_of (slot_received w p)) (sym (id-at d))) holds.si holds.largest)
         (λ ne. other c inside ne)
       where
-        other : (c : Lane) → j < length x.lanes → (j ≡ at → ⊥) → IsLane (after w (E.Arrive k)) (slice_index_or x.lanes j c)
+        other : (c : OpenStream) → j < length x.open_streams → (j ≡ at → ⊥) → IsOpenStream (after w (E.Arrive k)) (slice_index_or x.open_streams j c)
         other c inside ne =
-            let i = l.lanes j c inside in
-            let t = slice_index_or x.lanes j c in
-            lane-arrived sum x l k p none e t t i refl refl refl (i.held ∙ sym (elsewhere sum x l k p none e new t.state.stream_identifier (λ h. differ x.lanes j at c streams-apart inside lt ne (h ∙ sym (id-at c))))) refl refl
+            let i = l.open_streams j c inside in
+            let t = slice_index_or x.open_streams j c in
+            stream-arrived sum x l k p none e t t i refl refl refl (i.held ∙ sym (elsewhere sum x l k p none e new t.state.stream_identifier (λ h. differ x.open_streams j at c streams-apart inside lt ne (h ∙ sym (id-at c))))) refl refl
 
-    pub linked-keep : (cumulative : ℕ) (filter : Payload) (slots : List W.Slot) → filter_held cumulative filter ≡ filter_of (after w (E.Arrive k)) → slots ≡ changed mark_arrived p w.slots → IsLinked sum (record x { world = record w { streams = map stream_record (slice_set x.lanes at z); slots = slots }; lanes = slice_set x.lanes at z; cumulative_tsn = cumulative; filter = filter })
+    pub linked-keep : (cumulative : ℕ) (filter : Payload) (slots : List W.Slot) → filter_held cumulative filter ≡ filter_of (after w (E.Arrive k)) → slots ≡ changed mark_arrived p w.slots → IsLinked sum (record x { world = record w { streams = map stream_record (slice_set x.open_streams at z); slots = slots }; open_streams = slice_set x.open_streams at z; cumulative_tsn = cumulative; filter = filter })
     linked-keep cumulative filter slots f same =
-        linked-then sum x l (E.Arrive k) none (frame sum x l k p none e) x.sents (slice_set x.lanes at z) cumulative filter (record w { streams = map stream_record (slice_set x.lanes at z); slots = slots }) refl f each-lane
-        (λ j c less. find-apart (slice_set x.lanes at z) j c (apart-set x.lanes at z d streams-apart same-id) less)
+        linked-then sum x l (E.Arrive k) none (frame sum x l k p none e) x.sents (slice_set x.open_streams at z) cumulative filter (record w { streams = map stream_record (slice_set x.open_streams at z); slots = slots }) refl f each-stream
+        (indexed-set x.places x.open_streams at z d l.indexed same-id)
         (quiet sum x l k p none e) (world-kept slots same ∙ sym (after-is sum x l k p none e))
 
--- ## A lane that is set as it was
+-- ## An open stream that is set as it was
 
-module _ (sum : List ℕ → ℕ) (x : State) (l : IsLinked sum x) (at : ℕ) (d z : Lane) (lanes_are : x.world.streams ≡ map stream_record x.lanes) (lt : at < length x.lanes) (state : z.state ≡ (slice_index_or x.lanes at d).state) (whole : z.whole.items ≡ (slice_index_or x.lanes at d).whole.items) (ordered : z.ordered ≡ (slice_index_or x.lanes at d).ordered) (next : z.next ≡ (slice_index_or x.lanes at d).next) (filter : Payload) (filter_same : filter_held x.cumulative_tsn filter ≡ filter_held x.cumulative_tsn x.filter) where
-  abbrev was : Lane
-  was = slice_index_or x.lanes at d
+module _ (sum : List ℕ → ℕ) (x : State) (l : IsLinked sum x) (at : ℕ) (d z : OpenStream) (streams_are : x.world.streams ≡ map stream_record x.open_streams) (lt : at < length x.open_streams) (state : z.state ≡ (slice_index_or x.open_streams at d).state) (whole : z.whole.items ≡ (slice_index_or x.open_streams at d).whole.items) (ordered : z.ordered ≡ (slice_index_or x.open_streams at d).ordered) (next : z.next ≡ (slice_index_or x.open_streams at d).next) (filter : Payload) (filter_same : filter_held x.cumulative_tsn filter ≡ filter_held x.cumulative_tsn x.filter) where
+  abbrev was : OpenStream
+  was = slice_index_or x.open_streams at d
 
-  pub streams-stay : map stream_record (slice_set x.lanes at z) ≡ x.world.streams
+  pub streams-stay : map stream_record (slice_set x.open_streams at z) ≡ x.world.streams
   streams-stay =
-      map-set_same stream_record x.lanes at z d (ap (λ (t : StreamState). shown t z.whole.items) state ∙ ap (shown was.state) whole)
-      ∙ sym lanes_are
+      map-set_same stream_record x.open_streams at z d (ap (λ (t : StreamState). shown t z.whole.items) state ∙ ap (shown was.state) whole)
+      ∙ sym streams_are
 
-  lane-stays : IsLane x.world was → IsLane x.world z
-  lane-stays i =
+  stream-stays : IsOpenStream x.world was → IsOpenStream x.world z
+  stream-stays i =
       let id = ap (λ (t : StreamState). t.stream_identifier) state in
       record {
         held = subst (λ (t : StreamState). t.reassembly_queue.held ≡ reassembly_of x.world t.stream_identifier) (sym state) i.held;
@@ -185,7 +187,7 @@ module _ (sum : List ℕ → ℕ) (x : State) (l : IsLinked sum x) (at : ℕ) (d
         stats = subst (λ (t : StreamState). t.stats ≡ stats_of (counters_on x.world t.stream_identifier)) (sym state) i.stats;
       }
 
-  at-still : IsLinked sum (record x { lanes = slice_set x.lanes at z; filter = filter })
+  at-still : IsLinked sum (record x { open_streams = slice_set x.open_streams at z; filter = filter })
   at-still = record {
     setup = l.setup;
     one_each = l.one_each;
@@ -199,21 +201,21 @@ module _ (sum : List ℕ → ℕ) (x : State) (l : IsLinked sum x) (at : ℕ) (d
     written = l.written;
     sents = l.sents;
     befores = l.befores;
-    lanes = λ j c less.
-        let inside : j < length x.lanes = omega (arith, less, length-set x.lanes at z) in
-        each-set (IsLane x.world) x.lanes at j z c lt (lane-stays (l.lanes at d lt)) (λ ne. l.lanes j c inside);
-    first = λ j c less. find-apart (slice_set x.lanes at z) j c (apart-set x.lanes at z d (apart sum x l lanes_are) (ap (λ (t : StreamState). t.stream_identifier) state)) less;
+    open_streams = λ j c less.
+        let inside : j < length x.open_streams = omega (arith, less, length-set x.open_streams at z) in
+        each-set (IsOpenStream x.world) x.open_streams at j z c lt (stream-stays (l.open_streams at d lt)) (λ ne. l.open_streams j c inside);
+    indexed = indexed-set x.places x.open_streams at z d l.indexed (ap (λ (t : StreamState). t.stream_identifier) state);
     texts = l.texts;
   }
 
-  pub linked-still : IsLinked sum (record x { world = record x.world { streams = map stream_record (slice_set x.lanes at z) }; lanes = slice_set x.lanes at z; filter = filter })
-  linked-still = subst (λ rs. IsLinked sum (record x { world = record x.world { streams = rs }; lanes = slice_set x.lanes at z; filter = filter })) (sym streams-stay) at-still
+  pub linked-still : IsLinked sum (record x { world = record x.world { streams = map stream_record (slice_set x.open_streams at z) }; open_streams = slice_set x.open_streams at z; filter = filter })
+  linked-still = subst (λ rs. IsLinked sum (record x { world = record x.world { streams = rs }; open_streams = slice_set x.open_streams at z; filter = filter })) (sym streams-stay) at-still
 
 -- the stream of what comes is open
-pub never-closed : (sum : List ℕ → ℕ) (x : State) (l : IsLinked sum x) (k p : ℕ) → slice_get x.world.network k ≡ Some (Data (p ∷ [])) → x.world.streams ≡ map stream_record x.lanes → find (has_number (message_at x.world (message_of x.world p)).stream) x.lanes ≡ None → ⊥
-never-closed sum x l k p e lanes_are none =
+pub never-closed : (sum : List ℕ → ℕ) (x : State) (l : IsLinked sum x) (k p : ℕ) → slice_get x.world.network k ≡ Some (Data (p ∷ [])) → x.world.streams ≡ map stream_record x.open_streams → find (has_number (message_at x.world (message_of x.world p)).stream) x.open_streams ≡ None → ⊥
+never-closed sum x l k p e streams_are none =
     let c = (facts sum x l).carried k p e in
-    not_both (sym (none-open x.world (message_at x.world (message_of x.world p)).stream x.lanes lanes_are none) ∙ ap is_some c.known.1)
+    not_both (sym (none-open x.world (message_at x.world (message_of x.world p)).stream x.open_streams streams_are none) ∙ ap is_some c.known.1)
 
 pub on-err : {T E : Type 0} (r : Result T E) (P : Type 0) → P → OnErr r P
 on-err (Ok v) P p = tt

@@ -1,6 +1,6 @@
 -- What a link tells of itself.
-use Rattle.std.proofs.Common.{◌≡◌, ℕ, ◌-◌, true, false, List, Option, Some, None, refl, ap, sym, ◌∙◌, arith}
-use Rattle.std.specs.Prelude.{is_some, option_map, if◌then◌else◌, find}
+use Rattle.std.proofs.Common.{◌≡◌, ℕ, ◌-◌, true, false, List, Some, None, refl, ap, sym, ◌∙◌}
+use Rattle.std.specs.Prelude.{option_map, if◌then◌else◌}
 use Rattle.sctp_queues.specs.Pending.{total_bytes}
 use Rattle.sctp_queues.specs.DataChunks.{bytes_of}
 use Rattle.sctp_queues.specs.Outbound.{Outbound}
@@ -12,9 +12,8 @@ use Rattle.sctp_ties.proofs.InFlightBytes.{ledger-is, ledger_by}
 use Rattle.sctp_ties.specs.Amount.{amount}
 use Rattle.sctp_ties.specs.Counts.{counters_on}
 use Rattle.sctp_link.specs.declared.link.lending.Ledger.{Ledger}
-use Rattle.sctp_link.specs.declared.lane.Lane.{Lane}
-use Rattle.sctp_link.specs.Records.{stream_record}
-use Rattle.sctp_link.specs.Linked.{State, IsLinked, IsLane, ledger_of, stats_of}
+use Rattle.sctp_link.specs.declared.open_stream.OpenStream.{OpenStream}
+use Rattle.sctp_link.specs.Linked.{State, IsLinked, IsOpenStream, ledger_of, stats_of}
 use Rattle.sctp_link.proofs.Facts.{over}
 
 -- the ledger, by what the queues hold
@@ -27,10 +26,10 @@ pub same-ledger : {a p f r w q g : ℕ} → a ≡ w → p ≡ q → f ≡ g → 
 same-ledger a p f r = rw (r, a, p, f) refl
 
 -- of an open stream
-pub amount-open : (w : World) (s : ℕ) (l : Lane) → l.state.stream_identifier ≡ s → is_open w s ≡ true → IsLane w l → Some l.state.buffered_amount ≡ buffered_amount w s
+pub amount-open : (w : World) (s : ℕ) (l : OpenStream) → l.state.stream_identifier ≡ s → is_open w s ≡ true → IsOpenStream w l → Some l.state.buffered_amount ≡ buffered_amount w s
 amount-open w s l e open' i = ap (λ n. Some n) (i.amount ∙ ap (amount w) e) ∙ sym (ap (λ b. if b then Some (amount w s) else None) open')
 
-pub stats-open : (w : World) (s : ℕ) (l : Lane) → l.state.stream_identifier ≡ s → is_open w s ≡ true → IsLane w l → Some l.state.stats ≡ option_map stats_of (counters_of w s)
+pub stats-open : (w : World) (s : ℕ) (l : OpenStream) → l.state.stream_identifier ≡ s → is_open w s ≡ true → IsOpenStream w l → Some l.state.stats ≡ option_map stats_of (counters_of w s)
 stats-open w s l e open' i = ap (λ n. Some n) (i.stats ∙ ap (λ t. stats_of (counters_on w t)) e) ∙ sym (ap (λ b. option_map stats_of (if b then Some (counters_on w s) else None)) open')
 
 -- of a stream that is not

@@ -1,9 +1,10 @@
+pub mod Places
 pub mod Comes
 pub mod HandsOut
 pub mod Keeping
 pub mod Arrives
 pub mod Frames
-pub mod LanesAfter
+pub mod StreamsAfter
 pub mod Hears
 pub mod Apart
 pub mod PieceLemmas

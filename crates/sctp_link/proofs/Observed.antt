@@ -1,17 +1,17 @@
 -- What a link tells that is asked of it: which streams are open, what a datagram's bytes say, which TSNs can be sent again.
-use Rattle.std.proofs.Common.{◌≡◌, ℕ, zero, suc, ◌+◌, ◌-◌, ◌<◌, ◌≤◌, ◌%◌, ◌^◌, Bool, true, false, List, [], ◌∷◌, length, map, Option, Some, None, refl, ap, sym, ◌∙◌, arith}
+use Rattle.std.proofs.Common.{◌≡◌, ℕ, zero, suc, ◌<◌, ◌≤◌, ◌^◌, Bool, true, false, List, [], ◌∷◌, length, map, Option, Some, None, refl, ap, sym, ◌∙◌, arith}
 use Rattle.std.specs.Prelude.{◌&&◌, not, find, is_some, slice_get, slice_index_or, MatchOption, nat_le, nat_lt}
 use Rattle.std.proofs.lemmas.Bool.{lt-ltb, le-leb}
-use Rattle.std.proofs.lemmas.List.{get_or-map, get_or_default}
+use Rattle.std.proofs.lemmas.List.{get_or-map}
 use Rattle.sctp_lists.proofs.Getting.{length-mapped}
 use Rattle.sctp_model.specs.World.{World}
 use Rattle.sctp_model.specs.Messages.{is_open, message_at, message_of, slot_at, no_slot, no_message}
 use Rattle.sctp_model.specs.Contents.{Contents, contents_of, contents_in, datagram}
-use Rattle.sctp_model.specs.Steps.{can_resend, fragments_accepted}
+use Rattle.sctp_model.specs.Steps.{can_resend}
 use Rattle.sctp_link.specs.declared.record.Datagram.{Datagram}
 use Rattle.sctp_link.specs.declared.record.Message.{Message}
 use Rattle.sctp_link.specs.declared.record.Slot.{Slot}
-use Rattle.sctp_link.specs.declared.lane.Lane.{Lane}
+use Rattle.sctp_link.specs.declared.open_stream.OpenStream.{OpenStream}
 use Rattle.sctp_link.specs.Linked.{State, IsLinked, has_number}
 use Rattle.sctp_link.specs.Records.{stream_record, datagram_record, slot_record, message_record}
 use Rattle.sctp_link.specs.Texts.{datagram_text}
@@ -19,8 +19,8 @@ use Rattle.sctp_link.proofs.Lookups.{none-open, some-open}
 use Rattle.sctp_link.proofs.Facts.{facts}
 
 -- a stream is open where it is found among those that are kept
-pub open-is : (w : World) (s : ℕ) (ls : List Lane) (o : Option ℕ) → w.streams ≡ map stream_record ls
-    → MatchOption o (find (has_number s) ls ≡ None) (λ k. (k < length ls) × ((d : Lane) → find (has_number s) ls ≡ Some (slice_index_or ls k d)))
+pub open-is : (w : World) (s : ℕ) (ls : List OpenStream) (o : Option ℕ) → w.streams ≡ map stream_record ls
+    → MatchOption o (find (has_number s) ls ≡ None) (λ k. (k < length ls) × ((d : OpenStream) → find (has_number s) ls ≡ Some (slice_index_or ls k d)))
     → is_some o ≡ is_open w s
 open-is w s ls None same m = sym (none-open w s ls same m)
 open-is w s [] (Some k) same m = absurd (omega (arith, m.0))

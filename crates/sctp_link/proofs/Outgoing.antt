@@ -1,11 +1,11 @@
 -- The datagrams that a link makes of DATA chunks.
-use Rattle.std.proofs.Common.{◌≡◌, ℕ, zero, suc, ◌+◌, ◌-◌, ◌<◌, ◌≤◌, ◌%◌, ◌^◌, Bool, true, false, List, [], ◌∷◌, ◌++◌, length, map, take, drop, get_or, Option, Some, None, refl, ap, sym, ◌∙◌, arith, length-append}
-use Rattle.std.specs.Prelude.{◌==◌, ◌&&◌, ◌||◌, not, if◌then◌else◌, nat_le, nat_lt, slice_get, slice_index_or, find}
+use Rattle.std.proofs.Common.{◌≡◌, ℕ, zero, suc, ◌+◌, ◌-◌, ◌<◌, ◌≤◌, ◌^◌, true, false, List, [], ◌∷◌, ◌++◌, length, map, take, drop, get_or, Some, None, refl, ap, sym, ◌∙◌, arith}
+use Rattle.std.specs.Prelude.{◌&&◌, ◌||◌, not, nat_le, nat_lt, slice_index_or, find}
 use Rattle.std.proofs.Math.Path.{subst}
-use Rattle.std.proofs.lemmas.List.{map-append, length-take-le}
+use Rattle.std.proofs.lemmas.List.{map-append}
 use Rattle.std.proofs.lemmas.Bool.Decides.{nat_tests}
 use Rattle.sctp_lists.specs.Lists.{pieces, change_where}
-use Rattle.sctp_lists.proofs.More.{both, not_both}
+use Rattle.sctp_lists.proofs.More.{both}
 use Rattle.sctp_lists.proofs.Cases.{negated}
 use Rattle.sctp_chunks.specs.declared.chunk.chunk_payload_data.ChunkPayloadData.{ChunkPayloadData}
 use Rattle.sctp_chunks.specs.PayloadData.{Data, data_of, data_value}
@@ -34,7 +34,7 @@ use Rattle.sctp_link.specs.Records.{datagram_record, kind_record}
 use Rattle.sctp_link.specs.Texts.{IsDatagram, packet_with}
 use Rattle.sctp_link.specs.Linked.{State, IsLinked}
 use Rattle.sctp_link.proofs.Facts.{facts, stands-then}
-use Rattle.sctp_link.proofs.Frames.{lane-same, next-kept, texts-more}
+use Rattle.sctp_link.proofs.Frames.{stream-same, texts-more}
 
 -- ## Lengths
 
@@ -142,8 +142,8 @@ module _ (sum : List ℕ → ℕ) (x : State) (l : IsLinked sum x) (tsn : ℕ) (
     written = l.written;
     sents = l.sents;
     befores = l.befores;
-    lanes = λ k d lt. lane-same x.world v (slice_index_or x.lanes k d) (record { setup = refl; held = refl; ordered = refl; next = refl; amount = refl; counters = refl }) (l.lanes k d lt);
-    first = l.first;
+    open_streams = λ k d lt. stream-same x.world v (slice_index_or x.open_streams k d) (record { setup = refl; held = refl; ordered = refl; next = refl; amount = refl; counters = refl }) (l.open_streams k d lt);
+    indexed = l.indexed;
     texts = texts-more sum x l (E.Resend tsn) ok (W.Data (p ∷ [])) bytes refl count (says-data sum v p bytes (data_of c) (resend-says c e) text reads);
   }
     where

@@ -1,7 +1,8 @@
 -- A SACK is made.
-use Rattle.std.proofs.Common.{◌≡◌, ℕ, zero, suc, ◌+◌, ◌-◌, ◌*◌, ◌<◌, ◌≤◌, ◌%◌, ◌^◌, List, [], ◌∷◌, ◌++◌, length, map, take, min, refl, ap, sym, ◌∙◌, arith}
+use Rattle.std.proofs.Common.{◌≡◌, ℕ, zero, suc, ◌+◌, ◌-◌, ◌<◌, ◌≤◌, ◌%◌, ◌^◌, List, [], ◌∷◌, ◌++◌, length, map, take, min, refl, ap, sym, ◌∙◌, arith}
 use Rattle.std.specs.Prelude.{slice_index_or}
 use Rattle.std.proofs.Math.Path.{subst}
+use Rattle.std.proofs.lemmas.List.{take-map}
 use Rattle.sctp_lists.specs.Kept.{runs_of}
 use Rattle.sctp_lists.proofs.Getting.{length-mapped}
 use Rattle.sctp_chunks.specs.declared.chunk.chunk_selective_ack.GapAckBlock.{GapAckBlock}
@@ -22,18 +23,12 @@ use Rattle.sctp_model.specs.Queues.{FilterRecord}
 use Rattle.sctp_model.specs.Changes.{reported}
 use Rattle.sctp_model.specs.Steps.{reply_to}
 use Rattle.sctp_ties.proofs.Filter.{cumulative-le}
-use Rattle.sctp_ties.proofs.SackMade.{blocks-are, duplicates-are, reported-outbound}
+use Rattle.sctp_ties.proofs.SackMade.{blocks-are, reported-outbound}
 use Rattle.sctp_link.specs.Records.{ends_of}
 use Rattle.sctp_link.specs.Texts.{IsDatagram, packet_with, block_of}
 use Rattle.sctp_link.specs.Linked.{State, IsLinked}
 use Rattle.sctp_link.proofs.Facts.{facts, stands-then}
-use Rattle.sctp_link.proofs.Frames.{lane-same, texts-more}
-
-map-taken : {A B : Type 0} (f : A → B) (n : ℕ) (xs : List A) → map f (take n xs) ≡ take n (map f xs)
-map-taken f zero [] = refl
-map-taken f zero (x ∷ xs) = refl
-map-taken f (suc n) [] = refl
-map-taken f (suc n) (x ∷ xs) = ap (λ l. f x ∷ l) (map-taken f n xs)
+use Rattle.sctp_link.proofs.Frames.{stream-same, texts-more}
 
 -- no more are taken than there are
 take-min : {A : Type 0} (n k : ℕ) (xs : List A) → k ≡ min n (length xs) → take k xs ≡ take n xs
@@ -92,7 +87,7 @@ module _ (sum : List ℕ → ℕ) (x : State) (l : IsLinked sum x) (credit : ℕ
     pub blocks-made : map ends_of bs ≡ gap_blocks w
     blocks-made =
         let f = facts sum x l in
-        ap (map ends_of) cut ∙ map-taken ends_of 16379 all ∙ ap (take 16379) runs
+        ap (map ends_of) cut ∙ sym (take-map ends_of 16379 all) ∙ ap (take 16379) runs
         ∙ ap (λ t. take 16379 (runs_of (gap_offsets t x.filter.chunks))) cumulative-is
         ∙ sym (blocks-are w credit x.filter.chunks f.sounds.plain.skipped_made f.few (ap (λ (f : FilterRecord). f.held) l.filter))
 
@@ -104,7 +99,7 @@ module _ (sum : List ℕ → ℕ) (x : State) (l : IsLinked sum x) (credit : ℕ
       repeats-told = take-min (16379 - length bs) count w.duplicates counted ∙ ap (λ k. take (16379 - k) w.duplicates) blocks-count
 
       tsns-told : take count x.filter.duplicates ≡ map (tsn_of w) (report_of w credit).duplicates
-      tsns-told = ap (take count) repeats-are ∙ sym (map-taken (tsn_of w) count w.duplicates) ∙ ap (map (tsn_of w)) repeats-told
+      tsns-told = ap (take count) repeats-are ∙ take-map (tsn_of w) count w.duplicates ∙ ap (map (tsn_of w)) repeats-told
 
       pub report-is : (cum : ℕ) (blocks : List (ℕ × ℕ)) (repeats : List ℕ) → cum ≡ cumulative w → blocks ≡ map ends_of bs → repeats ≡ take count w.duplicates → (let r : W.Report = record { cumulative = cum; credit = credit; blocks = blocks; duplicates = repeats } in r) ≡ report_of w credit
       report-is cum blocks repeats a b c =
@@ -134,8 +129,8 @@ module _ (sum : List ℕ → ℕ) (x : State) (l : IsLinked sum x) (credit : ℕ
         written = l.written;
         sents = l.sents;
         befores = l.befores;
-        lanes = λ k d lt. lane-same w v (slice_index_or x.lanes k d) (record { setup = refl; held = refl; ordered = refl; next = refl; amount = refl; counters = refl }) (l.lanes k d lt);
-        first = l.first;
+        open_streams = λ k d lt. stream-same w v (slice_index_or x.open_streams k d) (record { setup = refl; held = refl; ordered = refl; next = refl; amount = refl; counters = refl }) (l.open_streams k d lt);
+        indexed = l.indexed;
         texts = texts-more sum x l (E.Ack credit) refl (W.Sack (report_of w credit)) bytes refl len is;
       })
         where

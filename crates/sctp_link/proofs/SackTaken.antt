@@ -1,6 +1,7 @@
 -- A SACK is taken: what a link keeps then is what the record says.
 use Rattle.std.proofs.Common.{◌≡◌, ℕ, zero, suc, ◌+◌, ◌-◌, ◌<◌, ◌≤◌, ◌%◌, ◌^◌, Bool, true, false, List, [], ◌∷◌, length, get_or, map, Option, Some, None, refl, ap, sym, ◌∙◌, inl, inr, arith}
-use Rattle.std.specs.Prelude.{if◌then◌else◌, ◌==◌, ◌&&◌, ◌||◌, nat_le, nat_lt, max, find, option_map, slice_get, slice_index_or}
+use Rattle.std.specs.Prelude.{if◌then◌else◌, ◌&&◌, ◌||◌, nat_le, nat_lt, max, slice_get, slice_index_or}
+use Rattle.std.specs.BTreeMap.{BTreeMap}
 use Rattle.std.specs.List.{list_any}
 use Rattle.std.proofs.Math.Path.{subst}
 use Rattle.std.proofs.lemmas.Bool.{cases_lt, lt-ltb, le-leb}
@@ -36,11 +37,13 @@ use Rattle.sctp_ties.specs.Tied.{IsInFlight}
 use Rattle.sctp_ties.proofs.Acked.{in-flight-first, tied-taken}
 use Rattle.sctp_ties.proofs.Unacked.{amount-is, amount-acked, growth-acked}
 use Rattle.sctp_ties.proofs.InFlightBytes.{chunk-on, bytes-unacked, taken-acknowledged, then-below}
-use Rattle.sctp_link.specs.declared.lane.Lane.{Lane}
+use Rattle.sctp_link.specs.declared.open_stream.OpenStream.{OpenStream}
+use Rattle.sctp_link.specs.declared.link.open_streams.OpenStreams.{OpenStreams}
 use Rattle.sctp_link.specs.declared.record.Slot.{Slot}
+use Rattle.sctp_link.specs.Places.{IsIndexed, stream_numbers}
 use Rattle.sctp_link.specs.declared.record.Datagram.{Datagram}
 use Rattle.sctp_link.specs.Records.{slot_record, datagram_record, stream_record}
-use Rattle.sctp_link.specs.Linked.{State, IsLinked, IsLane, has_number}
+use Rattle.sctp_link.specs.Linked.{State, IsLinked, IsOpenStream}
 use Rattle.sctp_link.specs.Texts.{IsDatagram, block_of, packet_with}
 use Rattle.sctp_link.specs.Acking.{Acks, IsAcking, amount_with, with_amount, and_run, and_blocks, in_block}
 use Rattle.sctp_link.proofs.Facts.{facts, over, stands-then, says-still}
@@ -139,8 +142,8 @@ acks sum x l =
       shares = λ p t b c lt says. chunk-on x.world b p t c f.sane.sender lt says;
     }
 
-pub acking-first : (sum : List ℕ → ℕ) (x : State) (xs : List Slot) (l : IsLinked sum x) → x.world.slots ≡ map slot_record xs → IsAcking x.world x.lanes x.outbound (acknowledged_at x.world) xs x.lanes x.outbound
-acking-first sum x xs l slots =
+pub acking-first : (sum : List ℕ → ℕ) (x : State) (xs : List Slot) (now : OpenStreams) (l : IsLinked sum x) → x.world.slots ≡ map slot_record xs → x.open_streams ≡ now.items.items → x.places ≡ now.places → IsAcking x.world x.open_streams x.outbound (acknowledged_at x.world) xs now x.outbound
+acking-first sum x xs now l slots items places =
     let f = facts sum x l in
     record {
       below = over sum x (λ w. (p : ℕ) → p < w.taken → acknowledged_at w p ≡ true) l (taken-acknowledged x.world.setup l.history l.setup l.stands.run);
@@ -148,8 +151,9 @@ acking-first sum x xs l slots =
       slots = λ k d lt. sym (ap (λ ys. slice_index_or ys k no_slot) slots ∙ get_or-map slot_record xs k d no_slot lt);
       in_flight = in-flight-first x.world x.outbound l.outbound;
       rest = refl;
-      lane_count = refl;
-      lanes = λ k d lt. ap (λ n. with_amount n (slice_index_or x.lanes k d)) ((l.lanes k d lt).amount ∙ amount-is x.world (slice_index_or x.lanes k d).state.stream_identifier f.sane.sender);
+      indexed = subst (λ ls. IsIndexed now.places (stream_numbers ls)) items (subst (λ t. IsIndexed t (stream_numbers x.open_streams)) places l.indexed);
+      stream_count = ap length (sym items);
+      open_streams = λ k d lt. let lt : k < length x.open_streams = omega (arith, lt, ap length items) in ap (λ ls. slice_index_or ls k d) (sym items) ∙ ap (λ n. with_amount n (slice_index_or x.open_streams k d)) ((l.open_streams k d lt).amount ∙ amount-is x.world (slice_index_or x.open_streams k d).state.stream_identifier f.sane.sender);
     }
 
 -- ## After the last
@@ -188,7 +192,7 @@ same-lists (x ∷ xs) [] e h = absurd (omega (arith, e))
 same-lists (x ∷ xs) (y ∷ ys) e h = ap (λ z. z ∷ xs) (h 0 x (omega arith)) ∙ ap (λ zs. y ∷ zs) (same-lists xs ys (omega (arith, e)) (λ k d lt. h (suc k) d (omega (arith, lt))))
 
 -- the slots are those of the record
-pub slots-then : (w : World) (r : Report) (first now : List Lane) (q left : Outbound) (xs : List Slot) → IsAcking w first q (acknowledged_then w r) xs now left → map slot_record xs ≡ (sack_taken w (Some (Sack r))).slots
+pub slots-then : (w : World) (r : Report) (first : List OpenStream) (now : OpenStreams) (q left : Outbound) (xs : List Slot) → IsAcking w first q (acknowledged_then w r) xs now left → map slot_record xs ≡ (sack_taken w (Some (Sack r))).slots
 slots-then w r first now q left xs i =
     same-lists (map slot_record xs) (sack_taken w (Some (Sack r))).slots (length-mapped slot_record xs ∙ i.count ∙ sym (length-numbered (acknowledged_by r) 0 w.slots))
     (λ k d lt.
@@ -204,24 +208,20 @@ slots-then w r first now q left xs i =
     none = record { message = 0; fragment = 0; arrived = false; acknowledged = false }
 
 -- each stream has the amount of its number
-abbrev as_left : World → Report → Lane → Lane
+abbrev as_left : World → Report → OpenStream → OpenStream
 as_left w r l = with_amount (amount_with w (acknowledged_then w r) l.state.stream_identifier) l
 
-lanes-then : (w : World) (r : Report) (first now : List Lane) (q left : Outbound) (xs : List Slot) → IsAcking w first q (acknowledged_then w r) xs now left → now ≡ map (as_left w r) first
-lanes-then w r first now q left xs i = same-lists now (map (as_left w r) first) (i.lane_count ∙ sym (length-mapped (as_left w r) first)) (λ k d lt. i.lanes k d lt ∙ sym (map-at (as_left w r) k first d (omega (arith, lt, i.lane_count))))
+streams-then : (w : World) (r : Report) (first : List OpenStream) (now : OpenStreams) (q left : Outbound) (xs : List Slot) → IsAcking w first q (acknowledged_then w r) xs now left → now.items.items ≡ map (as_left w r) first
+streams-then w r first now q left xs i = same-lists now.items.items (map (as_left w r) first) (i.stream_count ∙ sym (length-mapped (as_left w r) first)) (λ k d lt. i.open_streams k d lt ∙ sym (map-at (as_left w r) k first d (omega (arith, lt, i.stream_count))))
 
-find-left : (w : World) (r : Report) (s : ℕ) (ls : List Lane) → find (has_number s) (map (as_left w r) ls) ≡ option_map (as_left w r) (find (has_number s) ls)
-find-left w r s [] = refl
-find-left w r s (l ∷ ls) = step (l.state.stream_identifier == s) (find-left w r s ls)
-  where
-    step : (b : Bool) → find (has_number s) (map (as_left w r) ls) ≡ option_map (as_left w r) (find (has_number s) ls) → (if b then Some (as_left w r l) else find (has_number s) (map (as_left w r) ls)) ≡ option_map (as_left w r) (if b then Some l else find (has_number s) ls)
-    step true ih = refl
-    step false ih = ih
+numbers-left : (w : World) (r : Report) (ls : List OpenStream) → stream_numbers (map (as_left w r) ls) ≡ stream_numbers ls
+numbers-left w r [] = refl
+numbers-left w r (l ∷ ls) = ap (λ ks. l.state.stream_identifier ∷ ks) (numbers-left w r ls)
 
 -- ## What a link keeps
 
-lane-left : (w : World) (r : Report) (l : Lane) → Sender (shape w) → IsLane w l → IsLane (sack_taken w (Some (Sack r))) (as_left w r l)
-lane-left w r l sender i = record {
+stream-left : (w : World) (r : Report) (l : OpenStream) → Sender (shape w) → IsOpenStream w l → IsOpenStream (sack_taken w (Some (Sack r))) (as_left w r l)
+stream-left w r l sender i = record {
   held = i.held ∙ sym (reassembly-taken w r l.state.stream_identifier);
   si = i.si;
   largest = i.largest;
@@ -233,13 +233,13 @@ lane-left w r l sender i = record {
   stats = i.stats;
 }
 
-abbrev taken_state : State → Report → List Lane → Outbound → State
-taken_state x r lanes outbound = record x { world = sack_taken x.world (Some (Sack r)); lanes = lanes; outbound = outbound }
+abbrev taken_state : State → Report → List OpenStream → BTreeMap ℕ ℕ → Outbound → State
+taken_state x r open_streams places outbound = record x { world = sack_taken x.world (Some (Sack r)); open_streams = open_streams; places = places; outbound = outbound }
 
-linked-taken : (sum : List ℕ → ℕ) (x : State) (k : ℕ) (r : Report) (cs : List ChunkPayloadData) (l : IsLinked sum x) → refusal_of x.world (E.Acked k) ≡ None → slice_get x.world.network k ≡ Some (Sack r)
+linked-taken : (sum : List ℕ → ℕ) (x : State) (k : ℕ) (r : Report) (places : BTreeMap ℕ ℕ) (cs : List ChunkPayloadData) (l : IsLinked sum x) → IsIndexed places (stream_numbers (map (as_left x.world r) x.open_streams)) → refusal_of x.world (E.Acked k) ≡ None → slice_get x.world.network k ≡ Some (Sack r)
     → IsInFlight x.world (acknowledged_then x.world r) (max x.world.taken r.cumulative) (length x.world.slots - max x.world.taken r.cumulative) cs
-    → IsLinked sum (taken_state x r (map (as_left x.world r) x.lanes) (with_inflight x.outbound cs))
-linked-taken sum x k r cs l none there e =
+    → IsLinked sum (taken_state x r (map (as_left x.world r) x.open_streams) places (with_inflight x.outbound cs))
+linked-taken sum x k r places cs l indexed none there e =
     let w = x.world in
     let f = facts sum x l in
     record {
@@ -255,28 +255,26 @@ linked-taken sum x k r cs l none there e =
       written = l.written;
       sents = λ n lt. l.sents n lt ∙ sym (ap (λ y. sent y n) (Shapes.shape-acknowledged x.world r (max x.world.taken r.cumulative)));
       befores = l.befores;
-      lanes = λ j d lt. let here : j < length x.lanes = omega (arith, lt, length-mapped (as_left x.world r) x.lanes) in
-          subst (IsLane (sack_taken x.world (Some (Sack r)))) (sym (map-at (as_left x.world r) j x.lanes d here)) (lane-left x.world r (slice_index_or x.lanes j d) f.sane.sender (l.lanes j d here));
-      first = λ j d lt. let here : j < length x.lanes = omega (arith, lt, length-mapped (as_left x.world r) x.lanes) in
-          subst (λ (a : Lane). find (has_number a.state.stream_identifier) (map (as_left x.world r) x.lanes) ≡ Some a) (sym (map-at (as_left x.world r) j x.lanes d here))
-          (find-left x.world r (slice_index_or x.lanes j d).state.stream_identifier x.lanes ∙ ap (option_map (as_left x.world r)) (l.first j d here));
+      open_streams = λ j d lt. let here : j < length x.open_streams = omega (arith, lt, length-mapped (as_left x.world r) x.open_streams) in
+          subst (IsOpenStream (sack_taken x.world (Some (Sack r)))) (sym (map-at (as_left x.world r) j x.open_streams d here)) (stream-left x.world r (slice_index_or x.open_streams j d) f.sane.sender (l.open_streams j d here));
+      indexed = indexed;
       texts = λ j d g there'.
           let says = says-still x.world f (E.Acked k) none j g g there' (subst (λ o. slice_get (sack_taken x.world o).network j ≡ Some g) (sym there) there') in
           subst (λ c. IsDatagram sum c (slice_index_or x.datagrams j d)) (sym (subst (λ o. contents_of (sack_taken x.world o) g ≡ contents_of x.world g) there says)) (l.texts j d g there');
     }
 
-streams-left : (w : World) (r : Report) (ls : List Lane) → map stream_record (map (as_left w r) ls) ≡ map stream_record ls
+streams-left : (w : World) (r : Report) (ls : List OpenStream) → map stream_record (map (as_left w r) ls) ≡ map stream_record ls
 streams-left w r [] = refl
 streams-left w r (l ∷ ls) = ap (λ rs. stream_record l ∷ rs) (streams-left w r ls)
 
 -- the record of what is kept
-abbrev pub world_taken : World → List Lane → List Slot → ℕ → World
-world_taken w lanes slots taken = record w { streams = map stream_record lanes; slots = map slot_record slots; taken = taken }
+abbrev pub world_taken : World → List OpenStream → List Slot → ℕ → World
+world_taken w open_streams slots taken = record w { streams = map stream_record open_streams; slots = map slot_record slots; taken = taken }
 
 -- a SACK was taken: what is kept then, and the bytes that left
-pub record Taken (sum : List ℕ → ℕ) (x : State) (k : ℕ) (now : List Lane) (xs : List Slot) (left : Outbound) (top : ℕ) : Type 0 where
-  pub linked : IsLinked sum (record x { world = world_taken x.world now xs top; lanes = now; outbound = left })
-  pub moves : world_taken x.world now xs top ≡ after x.world (E.Acked k)
+pub record Taken (sum : List ℕ → ℕ) (x : State) (k : ℕ) (now : OpenStreams) (xs : List Slot) (left : Outbound) (top : ℕ) : Type 0 where
+  pub linked : IsLinked sum (record x { world = world_taken x.world now.items.items xs top; open_streams = now.items.items; places = now.places; outbound = left })
+  pub moves : world_taken x.world now.items.items xs top ≡ after x.world (E.Acked k)
   pub bytes : bytes_of x.outbound.inflight.chunks - bytes_of left.inflight.chunks ≡ growth x.world (after x.world (E.Acked k))
 
 module _ (sum : List ℕ → ℕ) (x : State) (k : ℕ) (r : Report) (l : IsLinked sum x) (none : refusal_of x.world (E.Acked k) ≡ None) (there : slice_get x.world.network k ≡ Some (Sack r)) where
@@ -287,18 +285,18 @@ module _ (sum : List ℕ → ℕ) (x : State) (k : ℕ) (r : Report) (l : IsLink
   enough = count-made x.world k r (reported sum x l) there
 
   -- both loops
-  loops : (to : ℕ) (bs : List GapAckBlock) (now : List Lane) (xs : List Slot) (left : Outbound) → to ≡ r.cumulative → bs ≡ map block_of r.blocks
-      → IsAcking x.world x.lanes x.outbound (and_blocks (and_run (acknowledged_at x.world) x.world.taken to) to bs) xs now left → IsAcking x.world x.lanes x.outbound (acknowledged_then x.world r) xs now left
+  loops : (to : ℕ) (bs : List GapAckBlock) (now : OpenStreams) (xs : List Slot) (left : Outbound) → to ≡ r.cumulative → bs ≡ map block_of r.blocks
+      → IsAcking x.world x.open_streams x.outbound (and_blocks (and_run (acknowledged_at x.world) x.world.taken to) to bs) xs now left → IsAcking x.world x.open_streams x.outbound (acknowledged_then x.world r) xs now left
   loops to bs now xs left e f i =
-      acking-same x.world x.lanes x.outbound (and_blocks (and_run (acknowledged_at x.world) x.world.taken to) to bs) (acknowledged_then x.world r) xs now left
+      acking-same x.world x.open_streams x.outbound (and_blocks (and_run (acknowledged_at x.world) x.world.taken to) to bs) (acknowledged_then x.world r) xs now left
       (λ j. ap (λ t. and_blocks (and_run (acknowledged_at x.world) x.world.taken t) t bs j) e ∙ ap (λ b. and_blocks (and_run (acknowledged_at x.world) x.world.taken r.cumulative) r.cumulative b j) f ∙ test-is x.world r below-first j) i
 
-  moved : (now : List Lane) (xs : List Slot) (left : Outbound) (top : ℕ) → x.world.streams ≡ map stream_record x.lanes → top ≡ max x.world.taken r.cumulative
-      → IsAcking x.world x.lanes x.outbound (acknowledged_then x.world r) xs now left → world_taken x.world now xs top ≡ sack_taken x.world (Some (Sack r))
+  moved : (now : OpenStreams) (xs : List Slot) (left : Outbound) (top : ℕ) → x.world.streams ≡ map stream_record x.open_streams → top ≡ max x.world.taken r.cumulative
+      → IsAcking x.world x.open_streams x.outbound (acknowledged_then x.world r) xs now left → world_taken x.world now.items.items xs top ≡ sack_taken x.world (Some (Sack r))
   moved now xs left top streams e i =
-      ap (λ ls. world_taken x.world ls xs top) (lanes-then x.world r x.lanes now x.outbound left xs i)
-      ∙ ap (λ rs. let v : World = record x.world { streams = rs; slots = map slot_record xs; taken = top } in v) (streams-left x.world r x.lanes ∙ sym streams)
-      ∙ ap (λ ys. let v : World = record x.world { slots = ys; taken = top } in v) (slots-then x.world r x.lanes now x.outbound left xs i)
+      ap (λ ls. world_taken x.world ls xs top) (streams-then x.world r x.open_streams now x.outbound left xs i)
+      ∙ ap (λ rs. let v : World = record x.world { streams = rs; slots = map slot_record xs; taken = top } in v) (streams-left x.world r x.open_streams ∙ sym streams)
+      ∙ ap (λ ys. let v : World = record x.world { slots = ys; taken = top } in v) (slots-then x.world r x.open_streams now x.outbound left xs i)
       ∙ ap (λ t. let v : World = record (sack_taken x.world (Some (Sack r))) { taken = t } in v) e
 
   then-is : sack_taken x.world (Some (Sack r)) ≡ after x.world (E.Acked k)
@@ -313,9 +311,9 @@ module _ (sum : List ℕ → ℕ) (x : State) (k : ℕ) (r : Report) (l : IsLink
       let last = bytes-unacked x.world (acknowledged_then x.world r) cs (max x.world.taken r.cumulative) sender (omega (arith, f.taken, enough)) (λ p lt. then-below x.world r p below-first lt) e in
       ap (λ n. n - bytes_of cs) first ∙ ap (λ n. unacked x.world (acknowledged_at x.world) - n) last ∙ sym (growth-acked x.world r sender)
 
-  pub taken-all : (to : ℕ) (bs : List GapAckBlock) (now : List Lane) (xs : List Slot) (left gone : Outbound) (top : ℕ)
-      → x.world.streams ≡ map stream_record x.lanes → to ≡ r.cumulative → bs ≡ map block_of r.blocks → top ≡ max x.world.taken to
-      → IsAcking x.world x.lanes x.outbound (and_blocks (and_run (acknowledged_at x.world) x.world.taken to) to bs) xs now left
+  pub taken-all : (to : ℕ) (bs : List GapAckBlock) (now : OpenStreams) (xs : List Slot) (left gone : Outbound) (top : ℕ)
+      → x.world.streams ≡ map stream_record x.open_streams → to ≡ r.cumulative → bs ≡ map block_of r.blocks → top ≡ max x.world.taken to
+      → IsAcking x.world x.open_streams x.outbound (and_blocks (and_run (acknowledged_at x.world) x.world.taken to) to bs) xs now left
       → ((w : World) (acked : ℕ → Bool) (last : ℕ) → x.world.setup.first ≡ w.setup.first → to ≤ last → last < 2 ^ 31 → IsInFlight w acked x.world.taken (last - x.world.taken) left.inflight.chunks → x.world.taken ≤ to → IsInFlight w acked to (last - to) gone.inflight.chunks)
       → (to ≤ x.world.taken → gone ≡ left) → gone ≡ with_inflight left gone.inflight.chunks
       → Taken sum x k now xs gone top
@@ -333,10 +331,10 @@ module _ (sum : List ℕ → ℕ) (x : State) (k : ℕ) (r : Report) (l : IsLink
       let kept : gone ≡ with_inflight x.outbound gone.inflight.chunks = rest ∙ ap (λ q. with_inflight q gone.inflight.chunks) i.rest in
       record {
         linked =
-            subst (λ u. IsLinked sum (record x { world = u; lanes = now; outbound = gone })) (sym world)
-            (subst (λ q. IsLinked sum (taken_state x r now q)) (sym kept)
-            (subst (λ ls. IsLinked sum (taken_state x r ls (with_inflight x.outbound gone.inflight.chunks))) (sym (lanes-then x.world r x.lanes now x.outbound left xs i))
-            (linked-taken sum x k r gone.inflight.chunks l none there flight)));
+            subst (λ u. IsLinked sum (record x { world = u; open_streams = now.items.items; places = now.places; outbound = gone })) (sym world)
+            (subst (λ q. IsLinked sum (taken_state x r now.items.items now.places q)) (sym kept)
+            (subst (λ ls. IsLinked sum (taken_state x r ls now.places (with_inflight x.outbound gone.inflight.chunks))) (sym (streams-then x.world r x.open_streams now x.outbound left xs i))
+            (linked-taken sum x k r now.places gone.inflight.chunks l (subst (λ ls. IsIndexed now.places (stream_numbers ls)) (streams-then x.world r x.open_streams now x.outbound left xs i) i.indexed) none there flight)));
         moves = world ∙ then-is;
         bytes = released gone.inflight.chunks flight ∙ ap (growth x.world) then-is;
       }

@@ -1,17 +1,15 @@
 -- A fragment leaves.
-use Rattle.std.proofs.Common.{◌≡◌, ℕ, zero, suc, ◌+◌, ◌-◌, ◌<◌, ◌≤◌, ◌%◌, ◌^◌, Bool, true, false, List, [], ◌∷◌, ◌++◌, length, map, get_or, Option, Some, None, refl, ap, sym, ◌∙◌, arith, length-append}
+use Rattle.std.proofs.Common.{◌≡◌, ℕ, ◌+◌, ◌-◌, ◌<◌, ◌≤◌, ◌%◌, ◌^◌, true, false, List, [], ◌∷◌, ◌++◌, length, get_or, Option, Some, None, refl, ap, sym, ◌∙◌, arith, length-append}
 use Rattle.std.specs.Prelude.{◌==◌, ◌&&◌, not, if◌then◌else◌, slice_get, slice_index_or}
 use Rattle.std.proofs.Math.Path.{subst}
 use Rattle.sctp_lists.specs.Kept.{numbers_from}
 use Rattle.sctp_lists.specs.Lists.{pieces, changed}
 use Rattle.sctp_lists.proofs.Getting.{get-snoc_new, length-mapped}
 use Rattle.sctp_lists.proofs.KeptLemmas.{length-kept-le}
-use Rattle.sctp_lists.proofs.More.{changed-same, changed-other, length-changed}
+use Rattle.sctp_lists.proofs.More.{changed-same, changed-other}
 use Rattle.sctp_lists.proofs.Cases.{by_same, same-yes}
 use Rattle.sctp_chunks.specs.declared.chunk.chunk_payload_data.ChunkPayloadData.{ChunkPayloadData}
-use Rattle.sctp_chunks.specs.PayloadData.{Data, data_of, data_value}
-use Rattle.sctp_chunks.specs.Wire.{data_chunk}
-use Rattle.sctp_packets.specs.Packet.{ReadsPacket, packet_text}
+use Rattle.sctp_chunks.specs.PayloadData.{Data, data_of}
 use Rattle.sctp_queues.specs.Pending.{peeked}
 use Rattle.sctp_queues.specs.Window.{SpansOneWindow, is_held}
 use Rattle.sctp_queues.specs.Outbound.{Outbound, all_started, sent_of, sent_peeked, sent_next, following_tsn}
@@ -24,12 +22,11 @@ use Rattle.sctp_model.specs.Contents.{data_with, chunk_at, contents_of}
 use Rattle.sctp_model.specs.Queues.{filter_of}
 use Rattle.sctp_model.specs.Amounts.{in_all, written_bytes}
 use Rattle.sctp_model.specs.Reply as R
-use Rattle.sctp_model.specs.Changes.{started, start_at, sent, sent_from, with_data, with_slot, with_datagram, fragment_sent, fragment_of_sent, fragments_sent, filled, plus, next_length}
+use Rattle.sctp_model.specs.Changes.{started, start_at, sent, sent_from, with_data, with_slot, with_datagram, fragment_sent, fragment_of_sent, filled, plus, next_length}
 use Rattle.sctp_model.specs.Steps.{IsRight, StandsFor, reply_to, sent_reply, fragments_accepted}
-use Rattle.sctp_model.proofs.Shape.{Shape, shape, slotted, parts, index, front_of, sent as sent_by}
+use Rattle.sctp_model.proofs.Shape.{Shape, shape, parts, index, front_of, sent as sent_by}
 use Rattle.sctp_model.proofs.Shapes
 use Rattle.sctp_model.proofs.Sender.{sent-slotted}
-use Rattle.sctp_model.proofs.SenderSteps.{Takes}
 use Rattle.sctp_model.proofs.Fronts.{front-takes}
 use Rattle.sctp_model.proofs.Moves
 use Rattle.sctp_model.proofs.Moves.{Quiet}
@@ -39,12 +36,12 @@ use Rattle.sctp_ties.proofs.InFlight.{next-fresh, next-window}
 use Rattle.sctp_ties.proofs.InLine.{before-started, counted-started}
 use Rattle.sctp_ties.proofs.LifetimesStart.{tied-started}
 use Rattle.sctp_ties.proofs.QuietSender.{outbound-same, same-self}
-use Rattle.sctp_link.specs.Texts.{IsDatagram, packet_with}
-use Rattle.sctp_link.specs.Linked.{State, IsLane, IsLinked}
-use Rattle.sctp_link.proofs.Facts.{Facts, facts, stands-then}
-use Rattle.sctp_link.proofs.Frames.{SameLane, lane-same, lane-quiet, filter-kept, texts-more, fragments-same, written-kept}
+use Rattle.sctp_link.specs.Texts.{IsDatagram}
+use Rattle.sctp_link.specs.Linked.{State, IsLinked}
+use Rattle.sctp_link.proofs.Facts.{facts, stands-then}
+use Rattle.sctp_link.proofs.Frames.{SameStream, stream-same, stream-quiet, filter-kept, texts-more, fragments-same, written-kept}
 use Rattle.sctp_link.proofs.Starting.{counts-before}
-use Rattle.sctp_link.proofs.Outgoing.{says-data, chunk-short, fragment-short}
+use Rattle.sctp_link.proofs.Outgoing.{fragment-short}
 
 -- ## What is sent next
 
@@ -183,8 +180,8 @@ module _ (sum : List ℕ → ℕ) (x : State) (l : IsLinked sum x) (now n : ℕ)
   before : (t : ℕ) → ordered_before (sent w now) t (length (sent w now).messages) ≡ ordered_before w t (length w.messages)
   before t = ap (λ z. ordered_before z t (length z.messages)) sent-moves ∙ ap (ordered_before u t) (length-mapped (start_at now) w.messages) ∙ before-started w now t (length w.messages)
 
-  lane-kept : (t : ℕ) → SameLane w v t
-  lane-kept t = subst (λ z. SameLane w z t) sent-moves (lane-quiet sum x l (E.Send now) refl quiet tt refl refl refl before t)
+  stream-kept : (t : ℕ) → SameStream w v t
+  stream-kept t = subst (λ z. SameStream w z t) sent-moves (stream-quiet sum x l (E.Send now) refl quiet tt refl refl refl before t)
 
   outbound-sent : (q : Outbound) → TiedOutbound w q → TiedOutbound v (sent_next q x.next_tsn now)
   outbound-sent q t =
@@ -234,7 +231,7 @@ module _ (sum : List ℕ → ℕ) (x : State) (l : IsLinked sum x) (now n : ℕ)
       written = l.written ∙ sym (ap (λ z. in_all z (written_bytes z)) (sym sent-moves) ∙ written-kept sum x l (E.Send now) refl refl);
       sents = λ k lt. sents-more each k (omega (arith, lt, length-mapped (start_at now) w.messages));
       befores = (counted-started w now (counts-before sum x l now)).before;
-      lanes = λ k d lt. lane-same w v (slice_index_or x.lanes k d) (lane-kept (slice_index_or x.lanes k d).state.stream_identifier) (l.lanes k d lt);
-      first = l.first;
+      open_streams = λ k d lt. stream-same w v (slice_index_or x.open_streams k d) (stream-kept (slice_index_or x.open_streams k d).state.stream_identifier) (l.open_streams k d lt);
+      indexed = l.indexed;
       texts = texts-sent;
     }

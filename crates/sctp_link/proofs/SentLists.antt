@@ -1,8 +1,8 @@
 -- What the lists of a link are once a fragment has left.
-use Rattle.std.proofs.Common.{◌≡◌, ℕ, zero, suc, ◌+◌, ◌-◌, ◌<◌, ◌≤◌, ◌^◌, Bool, true, false, List, [], ◌∷◌, ◌++◌, length, map, get_or, Option, Some, None, refl, ap, sym, ◌∙◌, arith}
-use Rattle.std.specs.Prelude.{slice_set, slice_index_or}
+use Rattle.std.proofs.Common.{◌≡◌, ℕ, zero, suc, ◌+◌, ◌<◌, ◌^◌, false, List, [], ◌∷◌, ◌++◌, length, map, get_or, Some, refl, ap, sym, ◌∙◌, arith}
+use Rattle.std.specs.Prelude.{slice_set}
 use Rattle.std.proofs.Math.Path.{subst}
-use Rattle.std.proofs.lemmas.List.{map-append, length-append}
+use Rattle.std.proofs.lemmas.List.{map-append}
 use Rattle.sctp_lists.specs.Lists.{changed}
 use Rattle.sctp_lists.proofs.Getting.{length-mapped}
 use Rattle.sctp_chunks.specs.declared.chunk.chunk_payload_data.ChunkPayloadData.{ChunkPayloadData}
@@ -16,16 +16,16 @@ use Rattle.sctp_model.specs.Reply as R
 use Rattle.sctp_model.specs.World.{World}
 use Rattle.sctp_model.specs.World as W
 use Rattle.sctp_model.specs.Messages as M
-use Rattle.sctp_model.specs.Contents.{data_with, chunk_at}
+use Rattle.sctp_model.specs.Contents.{chunk_at}
 use Rattle.sctp_model.specs.Changes.{started}
 use Rattle.sctp_model.specs.Steps.{IsRight}
-use Rattle.sctp_ties.specs.Tied.{TiedOutbound, waiting_at}
+use Rattle.sctp_ties.specs.Tied.{TiedOutbound}
 use Rattle.sctp_link.specs.declared.record.Message.{Message}
 use Rattle.sctp_link.specs.declared.record.Slot.{Slot}
 use Rattle.sctp_link.specs.declared.record.Datagram.{Datagram}
 use Rattle.sctp_link.specs.declared.record.Kind.TheVariants as K
 use Rattle.sctp_link.specs.Records.{message_record, slot_record, datagram_record}
-use Rattle.sctp_link.specs.Lanes.{start_from}
+use Rattle.sctp_link.specs.OpenStreams.{start_from}
 use Rattle.sctp_link.specs.Texts.{packet_with}
 use Rattle.sctp_link.specs.Linked.{State, IsLinked}
 use Rattle.sctp_link.proofs.Frames.{moved}

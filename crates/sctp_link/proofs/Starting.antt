@@ -1,26 +1,24 @@
 -- Lifetimes start.
-use Rattle.std.proofs.Common.{◌≡◌, ℕ, zero, suc, ◌+◌, ◌<◌, ◌≤◌, Bool, true, false, List, [], ◌∷◌, ◌++◌, length, map, take, drop, Option, Some, None, refl, ap, sym, ◌∙◌, arith}
-use Rattle.std.specs.Prelude.{slice_index_or, is_some, is_none, not, nat_le, if◌then◌else◌}
+use Rattle.std.proofs.Common.{◌≡◌, ℕ, zero, suc, ◌<◌, ◌≤◌, true, false, List, [], ◌∷◌, length, map, Option, Some, None, refl, ap, sym, ◌∙◌, arith}
+use Rattle.std.specs.Prelude.{slice_index_or, is_some, not, nat_le}
 use Rattle.std.proofs.Math.Path.{subst}
 use Rattle.std.proofs.lemmas.Bool.Decides.{nat_tests}
 use Rattle.sctp_lists.proofs.Getting.{length-mapped}
 use Rattle.sctp_queues.specs.Outbound.{Outbound, all_started}
 use Rattle.sctp_model.specs.declared.event.Event.TheVariants as E
-use Rattle.sctp_model.specs.World.{World}
 use Rattle.sctp_model.specs.Messages.{no_message, ordered_before}
 use Rattle.sctp_model.specs.Changes.{started, start_at}
 use Rattle.sctp_model.specs.Steps.{reply_to}
 use Rattle.sctp_model.proofs.Moves
-use Rattle.sctp_ties.specs.Tied.{TiedOutbound}
 use Rattle.sctp_ties.proofs.LifetimesStart.{tied-started}
 use Rattle.sctp_ties.proofs.Fragments.{all-begun}
 use Rattle.sctp_ties.proofs.InLine.{before-started, counted-started, CountsBefore}
 use Rattle.sctp_link.specs.declared.record.Message.{Message}
 use Rattle.sctp_link.specs.Records.{message_record}
-use Rattle.sctp_link.specs.Lanes.{with_start, start_from}
-use Rattle.sctp_link.specs.Linked.{State, IsLane, IsLinked}
-use Rattle.sctp_link.proofs.Facts.{facts, stands-then}
-use Rattle.sctp_link.proofs.Frames.{lane-same, lane-quiet, texts-same, fragments-same, written-kept}
+use Rattle.sctp_link.specs.OpenStreams.{with_start, start_from}
+use Rattle.sctp_link.specs.Linked.{State, IsLinked}
+use Rattle.sctp_link.proofs.Facts.{stands-then}
+use Rattle.sctp_link.proofs.Frames.{stream-same, stream-quiet, texts-same, fragments-same, written-kept}
 
 -- ## The messages
 
@@ -92,11 +90,11 @@ module _ (sum : List ℕ → ℕ) (x : State) (l : IsLinked sum x) (now : ℕ) w
     written = l.written ∙ sym (written-kept sum x l (E.Start now) refl refl);
     sents = λ n lt. l.sents n (omega (arith, lt, length-mapped (start_at now) x.world.messages));
     befores = (counted-started x.world now counts-before).before;
-    lanes = λ k d lt. lane-same x.world (started x.world now) (slice_index_or x.lanes k d)
-        (lane-quiet sum x l (E.Start now) refl (Moves.quiet-started x.world now) tt refl refl refl
-        (λ s. ap (ordered_before (started x.world now) s) (length-mapped (start_at now) x.world.messages) ∙ before-started x.world now s (length x.world.messages)) (slice_index_or x.lanes k d).state.stream_identifier)
-        (l.lanes k d lt);
-    first = l.first;
+    open_streams = λ k d lt. stream-same x.world (started x.world now) (slice_index_or x.open_streams k d)
+        (stream-quiet sum x l (E.Start now) refl (Moves.quiet-started x.world now) tt refl refl refl
+        (λ s. ap (ordered_before (started x.world now) s) (length-mapped (start_at now) x.world.messages) ∙ before-started x.world now s (length x.world.messages)) (slice_index_or x.open_streams k d).state.stream_identifier)
+        (l.open_streams k d lt);
+    indexed = l.indexed;
     texts = texts-same sum x l (E.Start now) refl refl;
   }
 

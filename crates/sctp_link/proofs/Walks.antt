@@ -1,5 +1,5 @@
 -- A walk over a list to its first element that passes a test, and walks that change each element of it, or of its tail.
-use Rattle.std.proofs.Common.{◌≡◌, ◌<◌, ◌≤◌, ◌+◌, ◌-◌, ℕ, zero, suc, Bool, true, false, List, [], ◌∷◌, ◌++◌, length, get_or, set, take, drop, map, find, Option, Some, None, refl, sym, ap, ◌∙◌, subst, arith, min}
+use Rattle.std.proofs.Common.{◌≡◌, ◌<◌, ◌≤◌, ◌+◌, ◌-◌, ℕ, zero, suc, Bool, true, false, List, [], ◌∷◌, ◌++◌, length, get_or, set, take, drop, map, find, Some, refl, sym, ap, ◌∙◌, arith}
 use Rattle.std.proofs.lemmas.List.{get_or_default, get_or-append_right, set-append_right, length-take-le, length-drop, length-append, take-append-drop, append-nil, take_all, drop_all}
 use Rattle.std.proofs.lemmas.List.Edits.{map_over_more}
 
@@ -8,10 +8,6 @@ module _ {X : Type 0} (p : X → Bool) where
   find_first [] i d lt before here = absurd (omega (arith, lt))
   find_first (x ∷ xs) zero d lt before here = rw here refl
   find_first (x ∷ xs) (suc i) d lt before here = rw (before 0 x (omega arith)) (find_first xs i d (omega (arith, lt)) (λ k d lt. before (suc k) d (omega arith)) here)
-
-  pub find_none : (xs : List X) → ((k : ℕ) (d : X) → k < length xs → p (get_or xs k d) ≡ false) → find p xs ≡ None
-  find_none [] all = refl
-  find_none (x ∷ xs) all = rw (all 0 x (omega arith)) (find_none xs (λ k d lt. all (suc k) d (omega arith)))
 
 module _ {X : Type 0} (f : X → X) where
   -- one place of a walk that changes each element

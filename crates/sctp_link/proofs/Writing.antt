@@ -1,5 +1,5 @@
 -- A write is taken.
-use Rattle.std.proofs.Common.{◌≡◌, ℕ, zero, suc, ◌+◌, ◌-◌, ◌*◌, ◌<◌, ◌≤◌, ◌%◌, ◌^◌, Bool, true, false, List, [], ◌∷◌, ◌++◌, length, map, drop, Option, Some, None, refl, ap, sym, ◌∙◌, arith, length-append}
+use Rattle.std.proofs.Common.{◌≡◌, ℕ, zero, suc, ◌+◌, ◌<◌, ◌%◌, ◌^◌, Bool, true, false, List, [], ◌∷◌, ◌++◌, length, map, drop, Some, None, refl, ap, sym, ◌∙◌, arith, length-append}
 use Rattle.std.specs.Prelude.{◌==◌, ◌&&◌, ◌||◌, not, if◌then◌else◌, nat_lt, slice_index_or, slice_set, find, unwrap_or}
 use Rattle.std.specs.Option.{option_map}
 use Rattle.std.proofs.Math.Path.{subst}
@@ -7,7 +7,7 @@ use Rattle.std.proofs.lemmas.List.{map-append, length-set}
 use Rattle.std.proofs.lemmas.Bool.Decides.{nat_tests}
 use Rattle.sctp_lists.specs.Kept.{numbers_from}
 use Rattle.sctp_lists.specs.Lists.{pieces}
-use Rattle.sctp_lists.proofs.Getting.{get-snoc_old, get-snoc_new, length-mapped}
+use Rattle.sctp_lists.proofs.Getting.{get-snoc_old, get-snoc_new}
 use Rattle.sctp_lists.proofs.Cases.{by_last, same-yes, same-is}
 use Rattle.sctp_lists.proofs.More.{fails}
 use Rattle.sctp_chunks.specs.declared.chunk.chunk_payload_data.ChunkPayloadData.{ChunkPayloadData}
@@ -17,7 +17,7 @@ use Rattle.sctp_queues.specs.Outbound.{Outbound, with_message}
 use Rattle.sctp_model.specs.declared.event.Event.TheVariants as E
 use Rattle.sctp_model.specs.World.{World, StreamRecord}
 use Rattle.sctp_model.specs.World as W
-use Rattle.sctp_model.specs.Messages.{stream_of, no_stream, sent_of, ordered_before, is_dcep, is_open}
+use Rattle.sctp_model.specs.Messages.{stream_of, no_stream, sent_of, ordered_before, is_dcep}
 use Rattle.sctp_model.specs.Receiver.{next_of}
 use Rattle.sctp_model.specs.Amounts.{in_all, written_bytes}
 use Rattle.sctp_model.specs.Changes.{wrote, message_on}
@@ -30,21 +30,23 @@ use Rattle.sctp_ties.specs.Counts.{counters_on, counted_as, sent_more}
 use Rattle.sctp_ties.proofs.Written
 use Rattle.sctp_ties.proofs.InLine
 use Rattle.sctp_ties.proofs.MessageSums.{sum-written}
-use Rattle.sctp_ties.proofs.StreamAmounts.{amount-wrote, write-open}
+use Rattle.sctp_ties.proofs.StreamAmounts.{amount-wrote}
 use Rattle.sctp_ties.proofs.StreamCounters.{written-wrote, counters-wrote}
-use Rattle.sctp_link.specs.declared.lane.Lane.{Lane}
+use Rattle.sctp_link.specs.declared.open_stream.OpenStream.{OpenStream}
 use Rattle.sctp_link.specs.declared.record.Message.{Message}
+use Rattle.sctp_link.specs.Places.{stream_numbers}
 use Rattle.sctp_link.specs.Records.{stream_record, message_record}
 use Rattle.sctp_link.specs.Stats.{with_sent, counted_bytes}
 use Rattle.sctp_link.specs.Stream as stream
-use Rattle.sctp_link.specs.Lanes.{is_ordered, message_with, with_mode, fragments_with_mode, after_write_on}
-use Rattle.sctp_link.specs.Linked.{State, IsLane, IsLinked, has_number, stats_of}
+use Rattle.sctp_link.specs.OpenStreams.{is_ordered, message_with, with_mode, fragments_with_mode, after_write_on}
+use Rattle.sctp_link.specs.Linked.{State, IsOpenStream, IsLinked, has_number, stats_of}
 use Rattle.sctp_link.proofs.Facts.{Facts, facts, stands-then}
-use Rattle.sctp_link.proofs.Frames.{SameLane, lane-same, held-quiet, next-kept, setup-same, texts-same}
+use Rattle.sctp_link.proofs.Frames.{stream-same, held-quiet, next-kept, texts-same}
 use Rattle.sctp_link.proofs.Starting.{counts-before}
 use Rattle.sctp_link.proofs.Bounds.{written-few, amount-few}
 use Rattle.sctp_link.proofs.Fragmented.{ordered-same, all-wait}
-use Rattle.sctp_link.proofs.Apart.{apart, apart-set, each-set, find-apart, map-set_same, stream-found, number-found, differ}
+use Rattle.sctp_link.proofs.Places.{indexed-set}
+use Rattle.sctp_link.proofs.Apart.{apart, each-set, map-set_same, stream-found, number-found, differ}
 
 -- ## Numbers
 
@@ -63,14 +65,14 @@ stats-next BinaryEmpty len w t = refl
 stats-next Unknown len w t = refl
 
 -- a place of a list has one element, whatever stands past its end
-pub same-default : (ls : List Lane) (k : ℕ) (a c : Lane) → k < length ls → slice_index_or ls k a ≡ slice_index_or ls k c
+pub same-default : (ls : List OpenStream) (k : ℕ) (a c : OpenStream) → k < length ls → slice_index_or ls k a ≡ slice_index_or ls k c
 same-default [] k a c lt = absurd (omega arith)
 same-default (t ∷ ls) zero a c lt = refl
 same-default (t ∷ ls) (suc k) a c lt = same-default ls k a c (omega arith)
 
 -- ## The event
 
-module _ (sum : List ℕ → ℕ) (x : State) (l : IsLinked sum x) (s : ℕ) (ppi : PayloadProtocolIdentifier) (b : ℕ) (bs : List ℕ) (ok : refusal_of x.world (E.Write s ppi (b ∷ bs)) ≡ None) (streams : x.world.streams ≡ map stream_record x.lanes) where
+module _ (sum : List ℕ → ℕ) (x : State) (l : IsLinked sum x) (s : ℕ) (ppi : PayloadProtocolIdentifier) (b : ℕ) (bs : List ℕ) (ok : refusal_of x.world (E.Write s ppi (b ∷ bs)) ≡ None) (streams : x.world.streams ≡ map stream_record x.open_streams) where
   abbrev w : World
   w = x.world
 
@@ -89,20 +91,20 @@ module _ (sum : List ℕ → ℕ) (x : State) (l : IsLinked sum x) (s : ℕ) (pp
   pub few : in_all w (written_bytes w) + length bytes < 2 ^ 47
   few = omega (arith, written-few x.world.setup v l.setup sane-new, written-wrote w s ppi bytes)
 
-  module _ (at : ℕ) (d : Lane) (lt : at < length x.lanes) (here : find (has_number s) x.lanes ≡ Some (slice_index_or x.lanes at d)) where
-    abbrev m : Lane
-    m = slice_index_or x.lanes at d
+  module _ (at : ℕ) (d : OpenStream) (lt : at < length x.open_streams) (here : find (has_number s) x.open_streams ≡ Some (slice_index_or x.open_streams at d)) where
+    abbrev m : OpenStream
+    m = slice_index_or x.open_streams at d
 
-    i : IsLane w m
-    i = l.lanes at d lt
+    i : IsOpenStream w m
+    i = l.open_streams at d lt
 
     own : m.state.stream_identifier ≡ s
-    own = number-found s x.lanes m here
+    own = number-found s x.open_streams m here
 
     stream-is : stream_of w s ≡ stream_record m
     stream-is =
         ap (λ rs. unwrap_or (find (λ r. r.stream == s) rs) (no_stream s)) streams
-        ∙ ap (λ o. unwrap_or o (no_stream s)) (stream-found s x.lanes)
+        ∙ ap (λ o. unwrap_or o (no_stream s)) (stream-found s x.open_streams)
         ∙ ap (λ o. unwrap_or (option_map stream_record o) (no_stream s)) here
 
     abbrev msg : W.Message
@@ -130,12 +132,12 @@ module _ (sum : List ℕ → ℕ) (x : State) (l : IsLinked sum x) (s : ℕ) (pp
     next-same : (t : ℕ) → next_of v t ≡ next_of w t
     next-same t = next-kept sum x l (E.Write s ppi bytes) ok tt t
 
-    other : (t : Lane) → (t.state.stream_identifier ≡ s → ⊥) → IsLane w t → IsLane v t
+    other : (t : OpenStream) → (t.state.stream_identifier ≡ s → ⊥) → IsOpenStream w t → IsOpenStream v t
     other t ne j =
         let n = t.state.stream_identifier in
         let off : (n == s) ≡ false = fails (n == s) (λ e. ne (same-is n s e)) in
         let off' : (s == n) ≡ false = fails (s == n) (λ e. ne (sym (same-is s n e))) in
-        lane-same w v t
+        stream-same w v t
         (record {
           setup = refl;
           held = held-quiet sum x l (E.Write s ppi bytes) ok (Moves.quiet-written w.setup w s ppi bytes f.sane) n;
@@ -151,8 +153,8 @@ module _ (sum : List ℕ → ℕ) (x : State) (l : IsLinked sum x) (s : ℕ) (pp
     some : not (length bytes == 0) ≡ true
     some = grind (arith, nat_tests)
 
-    written-lane : IsLane v (after_write_on m ppi bytes)
-    written-lane =
+    written-stream : IsOpenStream v (after_write_on m ppi bytes)
+    written-stream =
         let n = m.state.stream_identifier in
         let on : (s == n) ≡ true = ap (λ k. s == k) own ∙ same-yes s in
         let on' : (n == s) ≡ true = ap (λ k. k == s) own ∙ same-yes s in
@@ -175,8 +177,8 @@ module _ (sum : List ℕ → ℕ) (x : State) (l : IsLinked sum x) (s : ℕ) (pp
         adds true a e z = ap (λ k. k + 1) z
         adds false a e z = omega (arith, z)
 
-    pub streams-wrote : (y : Lane) → y ≡ after_write_on m ppi bytes → map stream_record (slice_set x.lanes at y) ≡ w.streams
-    streams-wrote y e = map-set_same stream_record x.lanes at y d (ap stream_record e) ∙ sym streams
+    pub streams-wrote : (y : OpenStream) → y ≡ after_write_on m ppi bytes → map stream_record (slice_set x.open_streams at y) ≡ w.streams
+    streams-wrote y e = map-set_same stream_record x.open_streams at y d (ap stream_record e) ∙ sym streams
 
     -- ## The queue
 
@@ -204,8 +206,8 @@ module _ (sum : List ℕ → ℕ) (x : State) (l : IsLinked sum x) (s : ℕ) (pp
     fragments-wrote : fragments_accepted v ≡ fragments_accepted w + fragments_in w bytes
     fragments-wrote = sum-written w msg (λ m. true) (λ m. length (pieces (length m.bytes) w.setup.size m.bytes))
 
-    pub linked-write : (y : Lane) (sents : List ℕ) (q r : Outbound) (fragments written count : ℕ) → y ≡ after_write_on m ppi bytes → length x.sents ≡ length w.messages → sents ≡ x.sents ++ 0 ∷ [] → TiedOutbound w q → q.next_unstarted ≡ x.outbound.next_unstarted → r ≡ with_message frags q → fragments ≡ x.fragments + count → count ≡ fragments_in w bytes → written ≡ x.written + length bytes
-        → IsLinked sum (record x { world = v; lanes = slice_set x.lanes at y; sents = sents; outbound = r; fragments = fragments; written = written })
+    pub linked-write : (y : OpenStream) (sents : List ℕ) (q r : Outbound) (fragments written count : ℕ) → y ≡ after_write_on m ppi bytes → length x.sents ≡ length w.messages → sents ≡ x.sents ++ 0 ∷ [] → TiedOutbound w q → q.next_unstarted ≡ x.outbound.next_unstarted → r ≡ with_message frags q → fragments ≡ x.fragments + count → count ≡ fragments_in w bytes → written ≡ x.written + length bytes
+        → IsLinked sum (record x { world = v; open_streams = slice_set x.open_streams at y; sents = sents; outbound = r; fragments = fragments; written = written })
     linked-write y sents q r fragments written count ey each es tied same er ef ec ew = record {
       setup = l.setup;
       one_each = l.one_each;
@@ -219,12 +221,12 @@ module _ (sum : List ℕ → ℕ) (x : State) (l : IsLinked sum x) (s : ℕ) (pp
       written = omega (arith, ew, l.written, written-wrote w s ppi bytes);
       sents = sents-wrote sents each es;
       befores = (InLine.counted-wrote w s ppi bytes (counts-before sum x l 0)).before;
-      lanes = λ k e less. place k e (omega (arith, less, length-set x.lanes at y));
-      first = λ k e less. find-apart (slice_set x.lanes at y) k e (apart-set x.lanes at y d (apart sum x l streams) (ap (λ (t : Lane). t.state.stream_identifier) ey)) less;
+      open_streams = λ k e less. place k e (omega (arith, less, length-set x.open_streams at y));
+      indexed = indexed-set x.places x.open_streams at y d l.indexed (ap (λ (t : OpenStream). t.state.stream_identifier) ey);
       texts = texts-same sum x l (E.Write s ppi bytes) ok refl;
     }
       where
-        place : (k : ℕ) (e : Lane) → k < length x.lanes → IsLane v (slice_index_or (slice_set x.lanes at y) k e)
+        place : (k : ℕ) (e : OpenStream) → k < length x.open_streams → IsOpenStream v (slice_index_or (slice_set x.open_streams at y) k e)
         place k e below =
-            each-set (IsLane v) x.lanes at k y e lt (subst (IsLane v) (sym ey) written-lane)
-            (λ ne. other (slice_index_or x.lanes k e) (λ z. differ x.lanes k at e (apart sum x l streams) below lt ne (z ∙ sym (ap (λ (t : Lane). t.state.stream_identifier) (same-default x.lanes at e d lt) ∙ own))) (l.lanes k e below))
+            each-set (IsOpenStream v) x.open_streams at k y e lt (subst (IsOpenStream v) (sym ey) written-stream)
+            (λ ne. other (slice_index_or x.open_streams k e) (λ z. differ x.open_streams k at e (apart x.places (stream_numbers x.open_streams) l.indexed) below lt ne (z ∙ sym (ap (λ (t : OpenStream). t.state.stream_identifier) (same-default x.open_streams at e d lt) ∙ own))) (l.open_streams k e below))

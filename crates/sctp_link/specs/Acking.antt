@@ -9,12 +9,14 @@ use Rattle.sctp_model.specs.Messages.{slot_at}
 use Rattle.sctp_model.specs.Amounts.{on_stream, pending_bytes}
 use Rattle.sctp_ties.specs.Amount.{unacked_on, stream_of_slot, bytes_at}
 use Rattle.sctp_ties.specs.Tied.{sending_of, sending_by, IsInFlight}
-use Rattle.sctp_link.specs.declared.lane.Lane.{Lane}
+use Rattle.sctp_link.specs.declared.open_stream.OpenStream.{OpenStream}
+use Rattle.sctp_link.specs.declared.link.open_streams.OpenStreams.{OpenStreams}
 use Rattle.sctp_link.specs.declared.record.Slot.{Slot}
+use Rattle.sctp_link.specs.Places.{IsIndexed, stream_numbers}
 use Rattle.sctp_link.specs.Records.{slot_record}
 
 -- a stream with another buffered amount
-abbrev pub with_amount : ℕ → Lane → Lane
+abbrev pub with_amount : ℕ → OpenStream → OpenStream
 with_amount n l = record l { state = record l.state { buffered_amount = n } }
 
 -- what a stream still has to send or to see acknowledged, were these slots acknowledged
@@ -22,7 +24,7 @@ abbrev pub amount_with : World → (ℕ → Bool) → ℕ → ℕ
 amount_with w acked s = on_stream w s (pending_bytes w) + unacked_on w acked s
 
 -- bytes go off the amount of a stream
-abbrev pub less_by : ℕ → Lane → Lane
+abbrev pub less_by : ℕ → OpenStream → OpenStream
 less_by bytes l = with_amount (l.state.buffered_amount - bytes) l
 
 -- what is known of the record from the beginning
@@ -37,14 +39,15 @@ pub record Acks (first : ℕ) (w : World) : Type 0 where
       (if c.stream_identifier == t then length c.user_data else 0) ≡ (if stream_of_slot w p == t then (if b then 0 else bytes_at w p) else 0)
 
 -- slots, queue and streams once these slots are acknowledged
-pub record IsAcking (w : World) (first : List Lane) (queue : Outbound) (acked : ℕ → Bool) (marked : List Slot) (now : List Lane) (left : Outbound) : Type 0 where
+pub record IsAcking (w : World) (first : List OpenStream) (queue : Outbound) (acked : ℕ → Bool) (marked : List Slot) (now : OpenStreams) (left : Outbound) : Type 0 where
   pub below : (k : ℕ) → k < w.taken → acked k ≡ true
   pub count : length marked ≡ length w.slots
   pub slots : (k : ℕ) (d : Slot) → k < length marked → slot_record (slice_index_or marked k d) ≡ record (slot_at w k) { acknowledged = acked k }
   pub in_flight : IsInFlight w acked w.taken (length w.slots - w.taken) left.inflight.chunks
   pub rest : left ≡ with_inflight queue left.inflight.chunks
-  pub lane_count : length now ≡ length first
-  pub lanes : (k : ℕ) (d : Lane) → k < length now → slice_index_or now k d ≡ with_amount (amount_with w acked (slice_index_or first k d).state.stream_identifier) (slice_index_or first k d)
+  pub indexed : IsIndexed now.places (stream_numbers now.items.items)
+  pub stream_count : length now.items.items ≡ length first
+  pub open_streams : (k : ℕ) (d : OpenStream) → k < length now.items.items → slice_index_or now.items.items k d ≡ with_amount (amount_with w acked (slice_index_or first k d).state.stream_identifier) (slice_index_or first k d)
 
 -- and one slot more
 abbrev pub and_one : (ℕ → Bool) → ℕ → ℕ → Bool

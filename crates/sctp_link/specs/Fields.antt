@@ -13,7 +13,7 @@ abbrev pub world_in : {C : Type 0} → Inside C → World
 world_in a =
     record {
       setup = setup_of a.first_tsn a.fragment_size a.max_message_size;
-      streams = map stream_record a.lanes.items;
+      streams = map stream_record a.open_streams.items.items;
       messages = map message_record a.messages.items;
       slots = map slot_record a.slots.items;
       network = map datagram_record a.network.items;
@@ -26,7 +26,8 @@ abbrev pub state_in : {C : Type 0} → Inside C → State
 state_in a =
     record {
       world = world_in a;
-      lanes = a.lanes.items;
+      open_streams = a.open_streams.items.items;
+      places = a.open_streams.places;
       sents = map (λ m. m.sent) a.messages.items;
       unstarted = a.unstarted;
       datagrams = map (λ d. d.bytes) a.network.items;

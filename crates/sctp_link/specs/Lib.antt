@@ -1,5 +1,6 @@
+pub mod Places
 pub mod Records
-pub mod Lanes
+pub mod OpenStreams
 pub mod Texts
 pub mod Linked
 pub mod Fields

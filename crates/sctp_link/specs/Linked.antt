@@ -1,5 +1,6 @@
 -- What a link keeps beside its record, and how all of it is tied to the record.
-use Rattle.std.specs.Prelude.{◌≡◌, ◌==◌, ℕ, ◌<◌, ◌%◌, ◌^◌, List, [], length, slice_index_or, slice_get, find, Bool, Option, Some, None}
+use Rattle.std.specs.Prelude.{◌≡◌, ◌==◌, ℕ, ◌<◌, ◌%◌, ◌^◌, List, length, slice_index_or, slice_get, Bool, Some}
+use Rattle.std.specs.BTreeMap.{BTreeMap}
 use Rattle.sctp_queues.specs.Payload.{Payload}
 use Rattle.sctp_queues.specs.Outbound.{Outbound}
 use Rattle.sctp_model.specs.World as W
@@ -17,8 +18,9 @@ use Rattle.sctp_ties.specs.Counts.{counters_on}
 use Rattle.sctp_model.specs.Amounts.{Counters, in_all, written_bytes}
 use Rattle.sctp_model.specs.Amounts as M
 use Rattle.sctp_link.specs.declared.link.lending.Ledger.{Ledger}
-use Rattle.sctp_link.specs.declared.lane.Lane.{Lane}
+use Rattle.sctp_link.specs.declared.open_stream.OpenStream.{OpenStream}
 use Rattle.sctp_link.specs.declared.stream.DataChannelStats.{DataChannelStats}
+use Rattle.sctp_link.specs.Places.{IsIndexed, stream_numbers}
 use Rattle.sctp_link.specs.Texts.{IsDatagram}
 
 -- a link: its record, and the checksum that it was handed
@@ -29,7 +31,9 @@ pub record Linked (C : Type 0) : Type 0 where
 -- the record, and what a link keeps beside it
 pub record State : Type 0 where
   pub world : World
-  pub lanes : List Lane
+  pub open_streams : List OpenStream
+  -- the place of each, by its number
+  pub places : BTreeMap ℕ ℕ
   -- of each message, how many of its fragments have slots
   pub sents : List ℕ
   -- the number of the first message whose lifetime has not started
@@ -45,7 +49,7 @@ pub record State : Type 0 where
   -- how many bytes were written
   pub written : ℕ
 
-abbrev pub has_number : ℕ → Lane → Bool
+abbrev pub has_number : ℕ → OpenStream → Bool
 has_number s l = l.state.stream_identifier == s
 
 -- counters as a stream keeps them
@@ -65,7 +69,7 @@ abbrev pub ledger_of : M.Ledger → Ledger
 ledger_of l = record { written = l.written; pending = l.pending; in_flight = l.in_flight; released = l.released }
 
 -- what a stream keeps, against the record
-pub record IsLane (w : World) (l : Lane) : Type 0 where
+pub record IsOpenStream (w : World) (l : OpenStream) : Type 0 where
   pub held : l.state.reassembly_queue.held ≡ reassembly_of w l.state.stream_identifier
   pub si : l.state.reassembly_queue.si ≡ l.state.stream_identifier
   pub largest : l.state.reassembly_queue.max_message_size ≡ w.setup.largest
@@ -89,7 +93,7 @@ pub record IsLinked (sum : List ℕ → ℕ) (x : State) : Type 0 where
   pub written : x.written ≡ in_all x.world (written_bytes x.world)
   pub sents : (n : ℕ) → n < length x.world.messages → slice_index_or x.sents n 0 ≡ sent_of x.world n
   pub befores : (n : ℕ) → n < length x.world.messages → (message_at x.world n).before ≡ ordered_before x.world (message_at x.world n).stream n
-  pub lanes : (k : ℕ) (d : Lane) → k < length x.lanes → IsLane x.world (slice_index_or x.lanes k d)
-  -- a look-up by a stream's number finds what is kept of it
-  pub first : (k : ℕ) (d : Lane) → k < length x.lanes → find (has_number (slice_index_or x.lanes k d).state.stream_identifier) x.lanes ≡ Some (slice_index_or x.lanes k d)
+  pub open_streams : (k : ℕ) (d : OpenStream) → k < length x.open_streams → IsOpenStream x.world (slice_index_or x.open_streams k d)
+  -- a stream is found by its number
+  pub indexed : IsIndexed x.places (stream_numbers x.open_streams)
   pub texts : (k : ℕ) (d : List ℕ) (g : W.Datagram) → slice_get x.world.network k ≡ Some g → IsDatagram sum (contents_of x.world g) (slice_index_or x.datagrams k d)

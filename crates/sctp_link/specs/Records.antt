@@ -1,12 +1,12 @@
 -- What a link keeps of its messages, slots, datagrams and streams, as the record says it.
-use Rattle.std.specs.Prelude.{ℕ, false, List, [], ◌∷◌, map}
+use Rattle.std.specs.Prelude.{ℕ, false, [], ◌∷◌, map}
 use Rattle.sctp_chunks.specs.declared.chunk.chunk_selective_ack.GapAckBlock.{GapAckBlock}
 use Rattle.sctp_link.specs.declared.record.Message.{Message}
 use Rattle.sctp_link.specs.declared.record.Slot.{Slot}
 use Rattle.sctp_link.specs.declared.record.Kind.{Kind}
 use Rattle.sctp_link.specs.declared.record.Kind.TheVariants as K
 use Rattle.sctp_link.specs.declared.record.Datagram.{Datagram}
-use Rattle.sctp_link.specs.declared.lane.Lane.{Lane}
+use Rattle.sctp_link.specs.declared.open_stream.OpenStream.{OpenStream}
 use Rattle.sctp_model.specs.World as W
 
 -- a message: none expires or is abandoned yet
@@ -44,7 +44,7 @@ abbrev pub datagram_record : Datagram → W.Datagram
 datagram_record d = kind_record d.kind
 
 -- a stream
-abbrev pub stream_record : Lane → W.StreamRecord
+abbrev pub stream_record : OpenStream → W.StreamRecord
 stream_record l =
     record {
       stream = l.state.stream_identifier;

@@ -1,5 +1,5 @@
 -- What a link answers, in the words of the definitions.
-use Rattle.std.specs.Prelude.{ℕ, Result, Ok, Err}
+use Rattle.std.specs.Prelude.{Result, Ok, Err}
 use Rattle.sctp_model.specs.Reply as R
 use Rattle.sctp_model.specs.declared.event.Event.{Event}
 use Rattle.sctp_model.specs.declared.event.Event.TheVariants as E
@@ -8,24 +8,24 @@ use Rattle.sctp_link.specs.declared.event.Reply.{Reply}
 use Rattle.sctp_link.specs.declared.event.Reply.TheVariants as V
 
 -- a reply: of a message's chunks the fragments are told
-abbrev pub told : Reply → R.Reply
-told V.Opened = R.Opened
-told V.«Set» = R.«Set»
-told (V.Wrote number fragments) = R.Wrote number fragments
-told V.Started = R.Started
-told (V.Sent datagram tsn ssn count) = R.Sent datagram tsn ssn count
-told V.Idle = R.Idle
-told (V.Resent datagram) = R.Resent datagram
-told (V.Ack datagram) = R.Ack datagram
-told V.New = R.New
-told V.Repeat = R.Repeat
-told (V.Acked bytes) = R.Acked bytes
-told (V.Message stream ppi chunks) = R.Message stream ppi chunks.set
-told V.Nothing = R.Nothing
+abbrev pub reply_of : Reply → R.Reply
+reply_of V.Opened = R.Opened
+reply_of V.«Set» = R.«Set»
+reply_of (V.Wrote number fragments) = R.Wrote number fragments
+reply_of V.Started = R.Started
+reply_of (V.Sent datagram tsn ssn count) = R.Sent datagram tsn ssn count
+reply_of V.Idle = R.Idle
+reply_of (V.Resent datagram) = R.Resent datagram
+reply_of (V.Ack datagram) = R.Ack datagram
+reply_of V.New = R.New
+reply_of V.Repeat = R.Repeat
+reply_of (V.Acked bytes) = R.Acked bytes
+reply_of (V.Message stream ppi chunks) = R.Message stream ppi chunks.set
+reply_of V.Nothing = R.Nothing
 
-abbrev pub told_in : Result Reply LinkRefusal → Result R.Reply LinkRefusal
-told_in (Ok reply) = Ok (told reply)
-told_in (Err refusal) = Err refusal
+abbrev pub answer_of : Result Reply LinkRefusal → Result R.Reply LinkRefusal
+answer_of (Ok reply) = Ok (reply_of reply)
+answer_of (Err refusal) = Err refusal
 
 -- the events that a link takes today
 abbrev pub IsBuilt : Event → Type 0

@@ -1,5 +1,5 @@
 -- What a stream keeps, its fragments and its counters.
-use Rattle.std.specs.Prelude.{ℕ, zero, suc, ◌+◌, ◌-◌, ◌%◌, ◌^◌, Bool, true, false, ◌&&◌, not, ◌==◌, min, nat_lt, nat_le, ℤ, pos, negsuc, if◌then◌else◌, List, [], ◌∷◌, length, map, slice_index_or, Option, Some, None}
+use Rattle.std.specs.Prelude.{ℕ, ◌+◌, ◌-◌, ◌%◌, ◌^◌, Bool, true, false, ◌&&◌, not, ◌==◌, nat_lt, nat_le, ℤ, pos, negsuc, if◌then◌else◌, List, [], length, map, slice_index_or, None}
 use Rattle.sctp_lists.specs.Kept.{numbers_from}
 use Rattle.sctp_lists.specs.Lists.{pieces}
 use Rattle.sctp_chunks.specs.declared.chunk.chunk_payload_data.PayloadProtocolIdentifier.{PayloadProtocolIdentifier}

@@ -3,8 +3,8 @@
 
 mod datagram;
 pub mod event;
-mod lane;
 pub mod link;
+mod open_stream;
 mod record;
 pub mod stream;
 #[cfg(test)]

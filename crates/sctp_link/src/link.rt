@@ -6,12 +6,13 @@ ghost use Rattle.sctp_base.specs.declared.error.Error.TheVariants.{ErrOutOfMemor
 mod acknowledged;
 mod acknowledging;
 pub mod lending;
+mod open_streams;
 mod receiving;
 mod sending;
 mod streams;
 
+use self::open_streams::OpenStreams;
 use crate::event::{Event, LinkRefusal, Reply};
-use crate::lane::{Lane, lane_at};
 use crate::record::{Datagram, Kind, Message, Slot};
 use bytes::Bytes;
 use sctp_base::util::Checksum;
@@ -28,7 +29,7 @@ pub struct Link<C: Checksum + Drop> {
     first_tsn: u32,
     fragment_size: u32,
     max_message_size: u32,
-    lanes: Vec<Lane>,
+    open_streams: OpenStreams,
     messages: Vec<Message>,
     // the number of the first message whose lifetime has not started
     unstarted: usize,
@@ -67,7 +68,7 @@ impl<C: Checksum + Drop> Link<C> {
     ghost use Rattle.sctp_model.specs.Steps.{Answers, History, StandsFor, StandsAfter, refusal_of};
     ghost use Rattle.sctp_model.specs.declared.event.Event.TheVariants as E;
     ghost use Rattle.sctp_link.specs.Fields.{setup_of};
-    ghost use Rattle.sctp_link.specs.Replies.{IsBuilt, told_in};
+    ghost use Rattle.sctp_link.specs.Replies.{IsBuilt, answer_of};
     ghost use Rattle.sctp_link.specs.Texts.{datagram_text};
 
     /// A link with nothing opened yet. It takes no memory.
@@ -90,7 +91,7 @@ impl<C: Checksum + Drop> Link<C> {
             first_tsn,
             fragment_size,
             max_message_size,
-            lanes: Vec::new(alloc),
+            open_streams: OpenStreams::new(alloc),
             messages: Vec::new(alloc),
             unstarted: 0,
             slots: Vec::new(alloc),
@@ -106,15 +107,24 @@ impl<C: Checksum + Drop> Link<C> {
         }
     }
 
-    /// Takes one event.
+    /// Takes one event. What is refused changes nothing. The refusals, in the order in which they are looked for:
+    ///
+    /// - Open: `StreamOpen`, where the stream is open.
+    /// - Mode, Write and Read: `StreamUnknown`, where the stream is not open.
+    /// - Write: `MessageTooLarge`, where the bytes are more than the greatest message size; `TsnsUsedUp`, where with
+    ///   its fragments 2^31 or more would have been accepted in all.
+    /// - Resend: `NotInFlight`, where the TSN was not given out or is acknowledged.
+    /// - Arrive and Acked: `NoSuchDatagram`, where datagram k was not made, or is of the other kind.
+    /// - Arrive: `SpanTooWide`, where stream sequence numbers could no longer be told apart (RFC 4960 6.5).
+    /// - Each event that takes memory: `OutOfMemory`, where it was refused.
     pub fn step(&mut self, event: Event) -> Result<Reply, LinkRefusal>
         requires { IsBuilt event }
         // What is refused, what is answered, and what is recorded.
-        ensures answers { Answers self.old.world event (told_in result) self.new.world }
+        ensures answers { Answers self.old.world event (answer_of result) self.new.world }
         ensures checksum { self.new.checksum ≡ self.old.checksum }
         // So it is for every history that the link stands for: it then stands for the longer one.
         ensures stands { (setup : Setup) (h : History) → StandsFor setup self.old.world h
-            → StandsAfter setup self.new.world event (told_in result) h }
+            → StandsAfter setup self.new.world event (answer_of result) h }
     {
         if let Some(refusal) = self.refusal(&event) {
             return Err(refusal);
@@ -181,7 +191,7 @@ impl<C: Checksum + Drop> Link<C> {
     fn is_open(&self, stream: u16) -> bool
         ensures { result ≡ is_open self.now.world stream }
     {
-        lane_at(&self.lanes, stream).is_some()
+        self.open_streams.place_of(stream).is_some()
     }
 
     fn refusal_open(&self, stream: u16) -> Option<LinkRefusal>

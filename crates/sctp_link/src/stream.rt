@@ -76,6 +76,10 @@ pub enum RecvSendState {
 }
 
 impl Default for RecvSendState {
+    ghost use Rattle.sctp_link.specs.declared.stream.RecvSendState.TheVariants.{Closed};
+
+    ghost is_default = { λ s. s ≡ Closed };
+
     fn default() -> RecvSendState {
         RecvSendState::Closed
     }

@@ -182,7 +182,7 @@ fn duplicates_are_reported(rt: HostRuntime) -> Result<(), Fail> {
 }
 
 #[test]
-fn refusals(rt: HostRuntime) -> Result<(), Fail> {
+fn streams_that_are_not_open(rt: HostRuntime) -> Result<(), Fail> {
     let alloc = rt.alloc();
     let mut link = Link::new(alloc, 10, 3, 3, Zero);
     assert!(rt;
@@ -197,6 +197,20 @@ fn refusals(rt: HostRuntime) -> Result<(), Fail> {
             LinkRefusal::StreamUnknown
         )
     );
+    let mode = Event::Mode {
+        stream: 2,
+        unordered: true,
+        reliability: ReliabilityType::Reliable,
+        value: 0,
+    };
+    assert!(rt; is_refused(&link.step(mode), LinkRefusal::StreamUnknown));
+    Ok(())
+}
+
+#[test]
+fn refusals(rt: HostRuntime) -> Result<(), Fail> {
+    let alloc = rt.alloc();
+    let mut link = Link::new(alloc, 10, 3, 3, Zero);
     assert!(rt; link.step(Event::Open { stream: 1 }).is_ok());
     assert!(rt;
         is_refused(
@@ -222,13 +236,6 @@ fn refusals(rt: HostRuntime) -> Result<(), Fail> {
             LinkRefusal::NotInFlight
         )
     );
-    let mode = Event::Mode {
-        stream: 2,
-        unordered: true,
-        reliability: ReliabilityType::Reliable,
-        value: 0,
-    };
-    assert!(rt; is_refused(&link.step(mode), LinkRefusal::StreamUnknown));
     Ok(())
 }
 
@@ -391,5 +398,109 @@ fn the_longest_fragment(rt: HostRuntime) -> Result<(), Fail> {
         return Err(Fail::from("not read"));
     };
     assert_eq!(rt; chunks.len(), 65_520);
+    Ok(())
+}
+
+/// A fragment that was sent again counts once: in the ledger, in the buffered amount and in the counters.
+#[test]
+fn resent_bytes_count_once(rt: HostRuntime) -> Result<(), Fail> {
+    let alloc = rt.alloc();
+    let mut link = Link::new(alloc, 10, 3, 100, Zero);
+    assert!(rt; sent(alloc, &mut link, &[b"abcdefg"], 3)?);
+    assert!(rt; link.step(Event::Resend { tsn: 11 }).is_ok());
+    assert!(rt; is_new(&link.step(Event::Arrive { k: 3 })));
+    assert!(rt; matches!(link.step(Event::Arrive { k: 1 }), Ok(Reply::Repeat)));
+    assert!(rt; is_new(&link.step(Event::Arrive { k: 0 })));
+    assert!(rt; link.step(Event::Ack { credit: 0 }).is_ok());
+    assert!(rt;
+        matches!(
+            link.step(Event::Acked { k: 4 }),
+            Ok(Reply::Acked { bytes: 6 })
+        )
+    );
+    let left = Ledger {
+        written: 7,
+        pending: 0,
+        in_flight: 1,
+        released: 6,
+    };
+    assert!(rt; link.ledger() == left);
+    assert_eq!(rt; link.buffered_amount(1), Some(1));
+    let counted = DataChannelStats {
+        stream_identifier: 1,
+        generation: 0,
+        messages_sent: 1,
+        bytes_sent: 7,
+        messages_received: 0,
+        bytes_received: 0,
+    };
+    assert!(rt; link.stats(1) == Some(counted));
+    Ok(())
+}
+
+fn write_on(alloc: Global, stream: u16, bytes: &[u8]) -> Result<Event, Fail>
+    ensures { IfOk result (λ event. IsBuilt event) }
+{
+    Ok(Event::Write {
+        stream,
+        ppi: PayloadProtocolIdentifier::Binary,
+        bytes: Bytes::copy_from_slice(alloc, bytes)?,
+    })
+}
+
+/// Opens four streams, in no order of their numbers, and writes to each its number, which is sent and comes.
+fn four_streams(alloc: Global, link: &mut Link<Zero>) -> Result<bool, Fail> {
+    let mut well = true;
+    for stream in [9u16, 0, 65535, 3] {
+        well = well && link.step(Event::Open { stream }).is_ok();
+    }
+    for stream in [3u16, 9, 65535, 0] {
+        let event = write_on(alloc, stream, &stream.to_be_bytes())?;
+        well = well && link.step(event).is_ok() && link.step(Event::Send { now: 0 }).is_ok();
+    }
+    Ok(well)
+}
+
+/// Each stream is found by its number, in whichever order they were opened.
+#[test]
+fn streams_by_their_numbers(rt: HostRuntime) -> Result<(), Fail> {
+    let alloc = rt.alloc();
+    let mut link = Link::new(alloc, 10, 3, 100, Zero);
+    assert!(rt; four_streams(alloc, &mut link)?);
+    for k in 0..4 {
+        assert!(rt; is_new(&link.step(Event::Arrive { k })));
+    }
+    for stream in [0u16, 65535, 9, 3] {
+        assert!(rt; shows(&link.step(Event::Read { stream }), &stream.to_be_bytes()));
+        assert!(rt; is_nothing(&link.step(Event::Read { stream })));
+    }
+    assert!(rt; link.reassembly(4).is_none());
+    assert!(rt;
+        is_refused(
+            &link.step(Event::Open { stream: 65535 }),
+            LinkRefusal::StreamOpen
+        )
+    );
+    Ok(())
+}
+
+/// What is acknowledged leaves the amount of its own stream.
+#[test]
+fn streams_are_acknowledged_apart(rt: HostRuntime) -> Result<(), Fail> {
+    let alloc = rt.alloc();
+    let mut link = Link::new(alloc, 10, 3, 100, Zero);
+    assert!(rt; four_streams(alloc, &mut link)?);
+    assert!(rt; is_new(&link.step(Event::Arrive { k: 0 })));
+    assert!(rt; is_new(&link.step(Event::Arrive { k: 2 })));
+    assert!(rt; link.step(Event::Ack { credit: 0 }).is_ok());
+    assert!(rt;
+        matches!(
+            link.step(Event::Acked { k: 4 }),
+            Ok(Reply::Acked { bytes: 4 })
+        )
+    );
+    for (stream, amount) in [(3u16, 0u64), (9, 2), (65535, 0), (0, 2)] {
+        assert_eq!(rt; link.buffered_amount(stream), Some(amount));
+    }
     Ok(())
 }

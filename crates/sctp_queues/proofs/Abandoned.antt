@@ -94,7 +94,7 @@ fails_all p (x ∷ xs) h (suc k) d lt = fails_all p xs (rest (p x) h) k d (omega
     rest true h = absurd (false≢true (sym h))
     rest false h = h
 
-those_empty : (p : ChunkPayloadData → Bool) (xs : List ChunkPayloadData) → list_any p xs ≡ false → those p xs ≡ []
+pub those_empty : (p : ChunkPayloadData → Bool) (xs : List ChunkPayloadData) → list_any p xs ≡ false → those p xs ≡ []
 those_empty p [] h = refl
 those_empty p (x ∷ xs) h = step (p x) h (those_empty p xs)
   where
@@ -135,7 +135,7 @@ without_none os us sel ro ru n m xs s h =
     let selected = selected_stays m sel (λ e. false≢true (sym h ∙ half_waits os us sel ro ru n m xs s e)) in
     ap₂ (λ cs ds. made cs ds (selected_without m sel) ro ru) ordered unordered ∙ ap (λ o. made os us o ro ru) selected
 
-last_removed_none : (m : ℕ) (q : Pending) → waits m q ≡ false → last_removed m q ≡ None
+pub last_removed_none : (m : ℕ) (q : Pending) → waits m q ≡ false → last_removed m q ≡ None
 last_removed_none m q h =
     let none = or_none (list_any (is_of m) q.unordered) (list_any (is_of m) q.ordered) h in
     ap₂ (λ cs ds. last_of (cs ++ ds)) (those_empty (is_of m) q.ordered none.1) (those_empty (is_of m) q.unordered none.0)

@@ -1,11 +1,13 @@
 pub mod ListLemmas
-pub mod SpanLemmas
+pub mod Ascending
 pub mod SetLemmas
 pub mod RunLemmas
 pub mod SizeLemmas
 pub mod PieceLemmas
 pub mod Halves
 pub mod Serials
+pub mod SerialPlaces
+pub mod TakenRuns
 pub mod Search
 pub mod Marked
 pub mod Gaps
@@ -17,4 +19,5 @@ pub mod Abandoned
 pub mod CountLemmas
 pub mod Order
 pub mod CompleteLemmas
+pub mod Numbering
 pub mod Examples

@@ -1,7 +1,7 @@
 -- Lists: places, removals, changes.
-use Rattle.std.proofs.Common.{◌≡◌, ℕ, zero, suc, ◌+◌, ◌++◌, take, drop, length-take-le, ◌≤◌, ◌<◌, Bool, true, false, ◌||◌, not, if◌then◌else◌, List, [], ◌∷◌, length, get_or, set, refl, sym, ap, ◌∙◌, subst, arith}
+use Rattle.std.proofs.Common.{◌≡◌, ℕ, zero, suc, ◌++◌, take, drop, length-take-le, ◌≤◌, ◌<◌, Bool, true, false, ◌||◌, not, if◌then◌else◌, List, [], ◌∷◌, length, get_or, set, refl, sym, ap, ◌∙◌, subst, arith}
 use Rattle.std.proofs.lemmas.Bool.{true≢false}
-use Rattle.std.specs.List.{list_any, position_or_len, remove, insert}
+use Rattle.std.specs.List.{All, list_any, position_or_len, remove, insert}
 use Rattle.std.proofs.Math.ListN.{take-append-drop}
 use Rattle.sctp_lists.specs.Lists.{inserted, change_first, those, after_leading}
 
@@ -42,6 +42,15 @@ module _ {X : Type 0} (p : X → Bool) where
       at_head : (b : Bool) → p x ≡ b → change_first p f xs ≡ set xs (position_or_len p xs) (f (get_or xs (position_or_len p xs) d)) → (if p x then f x ∷ xs else x ∷ change_first p f xs) ≡ set (x ∷ xs) (position_or_len p (x ∷ xs)) (f (get_or (x ∷ xs) (position_or_len p (x ∷ xs)) d))
       at_head true e rec = ap (λ b. if b then f x ∷ xs else x ∷ change_first p f xs) e ∙ ap (λ i. set (x ∷ xs) i (f (get_or (x ∷ xs) i d))) (sym (here x xs e))
       at_head false e rec = ap (λ b. if b then f x ∷ xs else x ∷ change_first p f xs) e ∙ ap (λ ys. x ∷ ys) rec ∙ ap (λ i. set (x ∷ xs) i (f (get_or (x ∷ xs) i d))) (sym (later x xs e))
+
+-- tests that agree on each element find the same place
+pub same_position : {X : Type 0} (p q : X → Bool) (xs : List X) → All (λ x. p x ≡ q x) xs → position_or_len p xs ≡ position_or_len q xs
+same_position p q [] h = refl
+same_position {X = X} p q (x ∷ xs) h = at_head (p x) refl (h 0 x (omega arith)) (same_position p q xs (λ k d lt. h (suc k) d (omega arith)))
+  where
+    at_head : (b : Bool) → p x ≡ b → p x ≡ q x → position_or_len p xs ≡ position_or_len q xs → position_or_len p (x ∷ xs) ≡ position_or_len q (x ∷ xs)
+    at_head true e same rec = here p x xs e ∙ sym (here q x xs (sym same ∙ e))
+    at_head false e same rec = later p x xs e ∙ ap suc rec ∙ sym (later q x xs (sym same ∙ e))
 
 -- what is left behind the elements in front that pass
 pub after_leading-position : {X : Type 0} (p : X → Bool) (xs : List X) → after_leading p xs ≡ drop (position_or_len (λ x. not (p x)) xs) xs

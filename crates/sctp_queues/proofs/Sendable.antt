@@ -462,7 +462,7 @@ half_in_front q xs n c s h e = by q.selected refl s.ordered s.unordered
     by None e w v = absurd (front q.ordered q.unordered w v (subst (λ o. peeked_of o q ≡ Some c) e h))
     by (Some t) e w v = same_of t.message_id (peeked q) h (goes_on q xs n t.message_id s (ap half_of e))
 
-half_gone : (m : ℕ) (sel : Option Selected) → half_of sel ≡ Some m → half_of (selected_without m sel) ≡ None
+pub half_gone : (m : ℕ) (sel : Option Selected) → half_of sel ≡ Some m → half_of (selected_without m sel) ≡ None
 half_gone m None h = absurd (none-some m h)
 half_gone m (Some t) h = let same : t.message_id ≡ m = cc in let it : (t.message_id == m) ≡ true = grind (arith, nat_tests) in rw it refl
 

@@ -1,15 +1,17 @@
 -- Messages stay whole while chunks come, leave and change.
-use Rattle.std.proofs.Common.{◌≡◌, ◌≢◌, ◌==◌, ℕ, ◌+◌, ◌<◌, ◌≤◌, Bool, true, false, not, ◌||◌, if◌then◌else◌, List, [], ◌∷◌, ◌++◌, map, Option, Some, None, refl, sym, ap, ap₂, ◌∙◌, subst, arith}
-use Rattle.std.specs.List.{list_any}
-use Rattle.std.proofs.lemmas.Bool.{false≢true}
+use Rattle.std.proofs.Common.{nat_le, get_or, take, length, ◌⊎◌, inl, inr, ◌≡◌, ◌==◌, ℕ, zero, suc, ◌+◌, ◌<◌, ◌≤◌, Bool, true, false, not, ◌||◌, if◌then◌else◌, List, [], ◌∷◌, ◌++◌, map, Option, Some, None, refl, sym, ap₂, ◌∙◌, subst, arith}
+use Rattle.std.specs.List.{All, list_any}
+use Rattle.std.proofs.lemmas.Bool.{cases_lt}
+use Rattle.std.proofs.lemmas.List.{get_or-take, get_or_default, length-take-le}
 use Rattle.std.proofs.lemmas.Bool.Decides.{nat_tests}
 use Rattle.sctp_chunks.specs.declared.chunk.chunk_payload_data.ChunkPayloadData.{ChunkPayloadData}
-use Rattle.sctp_lists.specs.Lists.{change_where, those, inserted}
+use Rattle.sctp_lists.specs.Lists.{change_where}
+use Rattle.sctp_lists.proofs.Edits.{pairs_cons}
 use Rattle.sctp_queues.specs.declared.pending_queue.Selected.{Selected}
 use Rattle.sctp_queues.specs.Marks.{is_of}
 use Rattle.sctp_queues.specs.Outbound.{with_message_id}
-use Rattle.sctp_queues.specs.Pending.{Pending, selected_without, without_message}
-use Rattle.sctp_queues.specs.Whole.{Stage, free, begun, Follows, stage_after, stage_of, IsWhole, IsMessage}
+use Rattle.sctp_queues.specs.Pending.{is_to_start, without_message}
+use Rattle.sctp_queues.specs.Whole.{Stage, free, begun, NumbersAscend, stage_after, stage_of, IsWhole, IsMessage}
 
 -- all numbers that the stage knows of are below
 abbrev pub IsBelow : Stage → ℕ → Type 0
@@ -191,3 +193,49 @@ stage_below false (Some s) n xs w = by s.unordered w
     by : (u : Bool) → IsWhole false n (if u then free 0 else begun s.message_id) xs → IsBelow (if u then free 0 else begun s.message_id) n
     by true w = omega arith
     by false w = begun_below false n s.message_id xs w
+
+-- ## Numbers
+
+abbrev pub least_of : Stage → ℕ
+least_of (free least) = least
+least_of (begun message) = message
+
+after_least : (c : ChunkPayloadData) → c.message_id ≤ least_of (stage_after c)
+after_least c = step c.ending_fragment
+  where
+    step : (b : Bool) → c.message_id ≤ least_of (if b then free (c.message_id + 1) else begun c.message_id)
+    step true = omega arith
+    step false = omega arith
+
+-- no number is below that of the stage
+numbers_from : (kind : Bool) (below : ℕ) (stage : Stage) (xs : List ChunkPayloadData) → IsWhole kind below stage xs → All (λ c. least_of stage ≤ c.message_id) xs
+numbers_from kind below (free least) [] w k d lt = absurd (omega arith)
+numbers_from kind below (begun message) [] w k d lt = absurd w
+numbers_from kind below (free least) (c ∷ cs) w zero d lt = w.0.1
+numbers_from kind below (begun message) (c ∷ cs) w zero d lt = omega (arith, w.0.1)
+numbers_from kind below (free least) (c ∷ cs) w (suc k) d lt = omega (arith, w.0.1, after_least c, numbers_from kind below (stage_after c) cs w.3 k d (omega arith))
+numbers_from kind below (begun message) (c ∷ cs) w (suc k) d lt = omega (arith, w.0.1, after_least c, numbers_from kind below (stage_after c) cs w.3 k d (omega arith))
+
+-- the numbers of whole messages ascend
+pub numbers_ascend : (kind : Bool) (below : ℕ) (stage : Stage) (xs : List ChunkPayloadData) → IsWhole kind below stage xs → NumbersAscend xs
+numbers_ascend kind below (free least) [] w = λ i j d lt short. absurd (omega arith)
+numbers_ascend kind below (begun message) [] w = absurd w
+numbers_ascend kind below (free least) (c ∷ cs) w = pairs_cons (λ (a b : ChunkPayloadData). a.message_id ≤ b.message_id) c cs (λ k d lt. omega (arith, after_least c, numbers_from kind below (stage_after c) cs w.3 k d lt)) (numbers_ascend kind below (stage_after c) cs w.3)
+numbers_ascend kind below (begun message) (c ∷ cs) w = pairs_cons (λ (a b : ChunkPayloadData). a.message_id ≤ b.message_id) c cs (λ k d lt. omega (arith, after_least c, numbers_from kind below (stage_after c) cs w.3 k d lt)) (numbers_ascend kind below (stage_after c) cs w.3)
+
+-- before a chunk of a lower number no lifetime starts
+pub none_to_start : (first : ℕ) (xs : List ChunkPayloadData) (place : ℕ) (x : ChunkPayloadData) → NumbersAscend xs → place < length xs → x ≡ get_or xs place x → x.message_id < first → All (λ c. is_to_start first c ≡ false) (take (place + 1) xs)
+none_to_start first xs place x ascend within read low k d lt =
+    let n : length (take (place + 1) xs) ≡ place + 1 = length-take-le (place + 1) xs (omega (arith, within)) in
+    let short : k < place + 1 = omega (arith, n, lt) in
+    subst (λ c. is_to_start first c ≡ false) (sym (get_or-take (place + 1) xs k d short)) (early (get_or xs k d) (below short (cases_lt k place)))
+  where
+    early : (c : ChunkPayloadData) → c.message_id < first → is_to_start first c ≡ false
+    early c lt = let it : nat_le first c.message_id ≡ false = grind (arith, nat_tests) in rw it refl
+
+    same : (e : ChunkPayloadData) → (get_or xs place e).message_id < first
+    same e = subst (λ c. c.message_id < first) (read ∙ get_or_default xs place x e within) low
+
+    below : k < place + 1 → (k < place) ⊎ (place ≤ k) → (get_or xs k d).message_id < first
+    below short (inl lt') = omega (arith, ascend k place d lt' within, same d)
+    below short (inr le) = subst (λ i. (get_or xs i d).message_id < first) (omega (arith, short, le)) (same d)

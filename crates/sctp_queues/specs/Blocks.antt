@@ -1,11 +1,12 @@
 -- What gap ack blocks report (RFC 4960 3.3.4).
-use Rattle.std.specs.Prelude.{◌≡◌, ℕ, ◌+◌, ◌^◌, ◌<◌, ◌≤◌, Bool, ◌&&◌, nat_le, nat_lt, ◌==◌, List, [], ◌∷◌, ◌++◌, map, codes, if◌then◌else◌}
+use Rattle.std.specs.Prelude.{◌≡◌, ◌≢◌, ℕ, ◌+◌, ◌%◌, ◌^◌, ◌<◌, ◌≤◌, Bool, false, ◌&&◌, nat_le, nat_lt, ◌==◌, List, [], ◌∷◌, ◌++◌, map, length, slice_index_or, codes}
 use Rattle.std.specs.Fmt.{decimal}
 use Rattle.std.specs.List.{All, AllPairs, list_any}
 use Rattle.sctp_chunks.specs.declared.chunk.chunk_payload_data.ChunkPayloadData.{ChunkPayloadData}
 use Rattle.sctp_chunks.specs.declared.chunk.chunk_selective_ack.GapAckBlock.{GapAckBlock}
 use Rattle.sctp_lists.specs.Lists.{those}
 use Rattle.sctp_lists.specs.Serial.{distance}
+use Rattle.sctp_queues.specs.Runs.{IsRising}
 
 -- each block is a run, and ends more than one before each later one begins
 pub record BlocksAscend (blocks : List GapAckBlock) : Type 0 where
@@ -40,11 +41,23 @@ gap_offsets cumulative chunks = those is_offset (map (λ c. distance cumulative 
 abbrev pub ends_of : GapAckBlock → ℕ × ℕ
 ends_of b = (b.start, b.end)
 
--- a distance put behind runs: it joins the last where it is next to it
-abbrev pub extended_by : ℕ → List (ℕ × ℕ) → List (ℕ × ℕ)
-extended_by d [] = (d, d) ∷ []
-extended_by d (b ∷ []) = if b.1 + 1 == d then (b.0, d) ∷ [] else b ∷ (d, d) ∷ []
-extended_by d (b ∷ c ∷ cs) = b ∷ extended_by d (c ∷ cs)
+-- from the place on, each chunk lies after the cumulative TSN, and farther than the one before
+pub record AscendsFrom (cumulative : ℕ) (chunks : List ChunkPayloadData) (place : ℕ) : Type 0 where
+  pub after : (k : ℕ) (d : ChunkPayloadData) → place ≤ k → k < length chunks → 0 < distance cumulative (slice_index_or chunks k d).tsn
+  pub farther : (i j : ℕ) (d : ChunkPayloadData) → place ≤ i → i < j → j < length chunks → distance cumulative (slice_index_or chunks i d).tsn < distance cumulative (slice_index_or chunks j d).tsn
+
+-- the chunks after the cumulative TSN begin at the place, and no block can hold one before it
+pub record IsFirstAfter (cumulative : ℕ) (chunks : List ChunkPayloadData) (place : ℕ) : Type 0 where
+  pub in_range : place ≤ length chunks
+  pub before : (k : ℕ) (d : ChunkPayloadData) → k < place → is_offset (distance cumulative (slice_index_or chunks k d).tsn) ≡ false
+  pub ascends : AscendsFrom cumulative chunks place
+
+-- of the places before the end, TSNs rise by one from the first to the last, and no farther
+pub record IsRunUntil (chunks : List ChunkPayloadData) (end first last : ℕ) : Type 0 where
+  pub from : first ≤ last
+  pub to : last < end
+  pub rising : IsRising chunks first last
+  pub stops : last + 1 < end → (d : ChunkPayloadData) → (slice_index_or chunks (last + 1) d).tsn ≢ ((slice_index_or chunks last d).tsn + 1) % 2 ^ 32
 
 -- runs as text, a comma before each: `,2-3,5-5`
 abbrev pub runs_text : List (ℕ × ℕ) → List ℕ

@@ -1,6 +1,6 @@
 pub mod DataChunks
 pub mod Turns
-pub mod Spans
+pub mod Ascending
 pub mod Sets
 pub mod Runs
 pub mod Around
@@ -17,3 +17,4 @@ pub mod Pending
 pub mod Whole
 pub mod Outbound
 pub mod Bounded
+pub mod Numbering

@@ -1,6 +1,6 @@
 -- Whole messages that wait one behind another.
 use Rattle.std.specs.Prelude.{◌≡◌, ℕ, ◌+◌, ◌<◌, ◌≤◌, Bool, true, false, not, ◌||◌, List, [], ◌∷◌, ◌++◌, Option, Some, None, if◌then◌else◌}
-use Rattle.std.specs.List.{list_any}
+use Rattle.std.specs.List.{AllPairs, list_any}
 use Rattle.sctp_chunks.specs.declared.chunk.chunk_payload_data.ChunkPayloadData.{ChunkPayloadData}
 use Rattle.sctp_queues.specs.declared.pending_queue.Selected.{Selected}
 use Rattle.sctp_queues.specs.Marks.{is_of}
@@ -30,6 +30,10 @@ abbrev pub stage_of : Bool → Option Selected → Stage
 stage_of kind None = free 0
 stage_of true (Some s) = if s.unordered then begun s.message_id else free 0
 stage_of false (Some s) = if s.unordered then free 0 else begun s.message_id
+
+-- the numbers of the messages ascend
+abbrev pub NumbersAscend : List ChunkPayloadData → Type 0
+NumbersAscend cs = AllPairs (λ c d. c.message_id ≤ d.message_id) cs
 
 -- whether a chunk of the message waits
 abbrev pub waits : ℕ → Pending → Bool

@@ -1,7 +1,8 @@
 //! The fragments of one message.
 
-ghost use Rattle.std.specs.Prelude.{◌≡◌, ◌==◌, ◌+◌, ◌%◌, ◌^◌, ◌-◌, ◌<◌, ◌≤◌, ◌&&◌, [], ◌∷◌, length, map, min, take, drop, ◌++◌, option_map, true, false, not, OnOk, OnErr, IfOk, IfErr, IfSome, MatchOption, if◌then◌else◌};
+ghost use Rattle.std.specs.Prelude.{◌≡◌, ◌==◌, ◌+◌, ◌%◌, ◌^◌, ◌-◌, ◌<◌, ◌≤◌, ◌&&◌, [], ◌∷◌, length, map, min, take, drop, ◌++◌, option_map, true, false, not, OnOk, OnErr, IfOk, IfErr, IfSome, IfNone, if◌then◌else◌};
 ghost use Rattle.std.specs.List.{list_any, position_or_len, insert, concat};
+ghost use Rattle.std.specs.List.Sorted.{IsNonDecreasingBy, IsPartitionPoint};
 ghost use Rattle.sctp_queues.specs.Pieces.{left_from, left_of, piece_of, left_after, bytes_given};
 ghost use Rattle.sctp_queues.specs.declared.chunks.Chunk.{Chunk};
 ghost use Rattle.sctp_chunks.specs.declared.chunk.chunk_payload_data.ChunkPayloadData.{ChunkPayloadData};
@@ -9,9 +10,10 @@ ghost use Rattle.sctp_lists.specs.Serial.{comes_before, distance};
 ghost use Rattle.sctp_lists.specs.Lists.{inserted};
 ghost use Rattle.sctp_queues.specs.Sets.{payload_of, is_complete, with_chunk, answer_with, is_whole_after};
 ghost use Rattle.sctp_queues.specs.DataChunks.{bytes_of, has_tsn, chunk_before};
-ghost use Rattle.sctp_queues.specs.Spans.{IsSpan, IsBehind};
+ghost use Rattle.sctp_queues.specs.Ascending.{IsOrder, IsInsertion};
 ghost use Rattle.sctp_base.specs.declared.error.Error.TheVariants.{ErrOutOfMemory, ErrShortBuffer};
 
+use crate::serial::{Insertion, distance};
 use bytes::{Bytes, BytesMut};
 use sctp_base::error::{Error, Result};
 use sctp_base::util::sna32lt;
@@ -27,21 +29,21 @@ pub struct Fragments {
     chunks: Vec<ChunkPayloadData>,
     // the length of their user data, up to the greatest usize
     n_bytes: usize,
-    // a TSN after which all lie by less than half a circle, the last one farthest, where one is known
-    base: Option<u32>,
+    // whether their TSNs are known to ascend
+    ascending: bool,
 }
 
 impl Model for Fragments {
-    ghost use Rattle.std.specs.Prelude.{◌≡◌, ◌-◌, ◌^◌, min, map, IfSome};
+    ghost use Rattle.std.specs.Prelude.{◌≡◌, ◌-◌, ◌^◌, min, map};
     ghost use Rattle.sctp_chunks.specs.ChunkSet.{ChunkSet};
     ghost use Rattle.sctp_queues.specs.DataChunks.{bytes_of};
-    ghost use Rattle.sctp_queues.specs.Spans.{IsSpan};
+    ghost use Rattle.sctp_queues.specs.Ascending.{IsOrder};
 
     ghost Value = { ChunkSet };
 
     ghost view = { λ s. record { ssn = s.ssn; ppi = s.ppi; chunks = s.chunks.items } };
 
-    ghost invariant = { λ s. record { counted : s.n_bytes ≡ min (bytes_of s.chunks.items) (2 ^ 64 - 1); span : IfSome s.base (λ b. IsSpan b (map (λ c. c.tsn) s.chunks.items)) } };
+    ghost invariant = { λ s. record { counted : s.n_bytes ≡ min (bytes_of s.chunks.items) (2 ^ 64 - 1); order : IsOrder s.ascending (map (λ c. c.tsn) s.chunks.items) } };
 }
 
 impl Fragments {
@@ -49,13 +51,13 @@ impl Fragments {
         ensures { result ≡ record { ssn = ssn; ppi = ppi; chunks = chunks.items } }
     {
         let n_bytes = bytes_in(&chunks);
-        let base = base_of(&chunks);
+        let ascending = is_ascending(&chunks);
         Fragments {
             ssn,
             ppi,
             chunks,
             n_bytes,
-            base,
+            ascending,
         }
     }
 
@@ -107,32 +109,14 @@ impl Fragments {
         ensures err { OnErr result (self.new ≡ self.old) }
         ensures memory { IfErr result (λ e. e ≡ ErrOutOfMemory) }
     {
-        if is_behind(self.base, &self.chunks, chunk.tsn) {
-            let len = chunk.user_data.len();
-            self.chunks.push(chunk)?;
-            self.n_bytes = self.n_bytes.saturating_add(len);
-            return Ok(Some(self.is_complete()));
-        }
-        if has_number(&self.chunks, chunk.tsn) {
+        let Some(at) = insertion(self.ascending, &self.chunks, chunk.tsn) else {
             return Ok(None);
-        }
-        self.insert(chunk)?;
-        Ok(Some(self.is_complete()))
-    }
-
-    // Puts in a fragment of a TSN that is not there.
-    fn insert(&mut self, chunk: ChunkPayloadData) -> Result<()>
-        requires { list_any (has_tsn chunk.tsn) self.old.chunks ≡ false }
-        ensures ok { OnOk result (self.new ≡ with_chunk chunk self.old) }
-        ensures err { OnErr result (self.new ≡ self.old) }
-        ensures memory { IfErr result (λ e. e ≡ ErrOutOfMemory) }
-    {
-        let place = insertion_place(&self.chunks, chunk.tsn);
+        };
         let len = chunk.user_data.len();
-        self.chunks.insert(place, chunk)?;
+        self.chunks.insert(at.place, chunk)?;
         self.n_bytes = self.n_bytes.saturating_add(len);
-        self.base = base_of(&self.chunks);
-        Ok(())
+        self.ascending = at.ascending;
+        Ok(Some(self.is_complete()))
     }
 }
 
@@ -415,50 +399,87 @@ fn first_after(chunks: &[ChunkPayloadData], tsn: u32) -> usize
     chunks.len()
 }
 
-// How far a TSN lies after another.
-#[tactic(auto, unfolding(sctp_lists::specs::Serial::distance))]
-fn distance(base: u32, tsn: u32) -> u32
-    ensures value { result ≡ distance base tsn }
-    ensures base_fits { base < 2 ^ 32 }
-    ensures fits { tsn < 2 ^ 32 }
-{
-    tsn.wrapping_sub(base)
-}
-
-// A TSN after which all lie by less than half a circle, the last one farthest: the first one, or none.
-fn base_of(chunks: &[ChunkPayloadData]) -> Option<u32>
-    ensures { IfSome result (λ base. IsSpan base (map (λ c. c.tsn) chunks.now)) }
+// Where a fragment of this TSN is put in, or nothing where it is there: by halves among TSNs that
+// ascend, unless it lies exactly half a circle from the first.
+fn insertion(ascending: bool, chunks: &[ChunkPayloadData], tsn: u32) -> Option<Insertion>
+    requires { IsOrder ascending (map (λ c. c.tsn) chunks.now) }
+    ensures there { IfNone result (list_any (has_tsn tsn) chunks.now ≡ true) }
+    ensures free { IfSome result (λ at. IsInsertion (has_tsn tsn) (λ c. c.tsn) chunk_before chunks.now at.place at.ascending) }
 {
     let len = chunks.len();
     if len == 0 {
+        return Some(Insertion {
+            place: 0,
+            ascending: true,
+        });
+    }
+    let first = chunks[0].tsn;
+    let far = distance(first, tsn);
+    if !ascending || far == 1 << 31 {
+        return insertion_by_walk(chunks, tsn);
+    }
+    if far > 1 << 31 {
+        let ascending = distance(tsn, chunks[len - 1].tsn) < 1 << 31;
+        return Some(Insertion {
+            place: 0,
+            ascending,
+        });
+    }
+    let place = place_within(chunks, first, far);
+    if chunks[place - 1].tsn == tsn {
         return None;
     }
-    let base = chunks[0].tsn;
-    let far = distance(base, chunks[len - 1].tsn);
-    if far >= 1 << 31 {
+    Some(Insertion {
+        place,
+        ascending: true,
+    })
+}
+
+// The place behind the fragments that lie no farther from the first TSN. The last is looked at first.
+fn place_within(chunks: &[ChunkPayloadData], first: u32, far: u32) -> usize
+    requires { IsNonDecreasingBy (λ c. distance first c.tsn) chunks.now }
+    ensures in_range { result ≤ length chunks.now }
+    ensures split { IsPartitionPoint (λ c. distance first c.tsn ≤ far) (λ c. far < distance first c.tsn) chunks.now result }
+{
+    let len = chunks.len();
+    if len > 0 && distance(first, chunks[len - 1].tsn) <= far {
+        return len;
+    }
+    chunks.partition_point(|c| distance(first, c.tsn) <= far)
+}
+
+// The same by a walk, among any TSNs; they are not known to ascend then.
+fn insertion_by_walk(chunks: &[ChunkPayloadData], tsn: u32) -> Option<Insertion>
+    ensures there { IfNone result (list_any (has_tsn tsn) chunks.now ≡ true) }
+    ensures free { IfSome result (λ at. IsInsertion (has_tsn tsn) (λ c. c.tsn) chunk_before chunks.now at.place at.ascending) }
+{
+    if has_number(chunks, tsn) {
         return None;
     }
-    for place in 0..len - 1 {
-        if distance(base, chunks[place].tsn) >= far {
-            return None;
+    Some(Insertion {
+        place: insertion_place(chunks, tsn),
+        ascending: false,
+    })
+}
+
+// Whether TSNs ascend, seen by how far each lies from the first.
+fn is_ascending(chunks: &[ChunkPayloadData]) -> bool
+    ensures { IsOrder result (map (λ c. c.tsn) chunks.now) }
+{
+    let len = chunks.len();
+    if len == 0 {
+        return true;
+    }
+    let first = chunks[0].tsn;
+    let mut far = 0;
+    for place in 1..len {
+        let next = distance(first, chunks[place].tsn);
+        if next <= far || next >= 1 << 31 {
+            return false;
         }
+        far = next;
     }
-    Some(base)
-}
-
-// Whether a TSN is known to come behind all, by a look at the last one.
-fn is_behind(base: Option<u32>, chunks: &[ChunkPayloadData], tsn: u32) -> bool
-    ensures { result ≡ true → MatchOption base ⊥ (λ b. IsBehind b (map (λ c. c.tsn) chunks.now) tsn) }
-{
-    let len = chunks.len();
-    if len == 0 {
-        return false;
-    }
-    let Some(base) = base else {
-        return false;
-    };
-    let far = distance(base, tsn);
-    far < 1 << 31 && distance(base, chunks[len - 1].tsn) < far
+    true
 }
 
 // Whether a fragment has the number.

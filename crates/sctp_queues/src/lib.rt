@@ -3,8 +3,12 @@
 
 pub mod chunks;
 pub mod held;
+pub mod laws;
 mod line;
 pub mod loose;
+mod loose_places;
+#[cfg(test)]
+mod order_tests;
 mod ordered_sets;
 pub mod outbound_queue;
 pub mod payload_queue;
@@ -13,6 +17,7 @@ pub mod pool;
 pub mod reassembly_queue;
 #[cfg(test)]
 mod reassembly_tests;
+mod serial;
 mod sizes;
 mod skips;
 pub mod turns;

@@ -1,14 +1,14 @@
 //! Chunks that wait in a line: first in, first out.
 
-ghost use Rattle.std.specs.Prelude.{◌≡◌, ◌==◌, ◌+◌, ◌-◌, ◌^◌, ◌<◌, ◌≤◌, ◌++◌, [], ◌∷◌, length, map, max, OnOk, OnErr, IfSome, IfNone, IsOk, IsOkUnless, option_copied, slice_get, true};
-ghost use Rattle.std.specs.List.{list_any};
+ghost use Rattle.std.specs.Prelude.{◌≡◌, ◌==◌, ◌+◌, ◌-◌, ◌^◌, ◌<◌, ◌≤◌, ◌++◌, [], ◌∷◌, length, map, max, OnOk, OnErr, IfSome, IfNone, IsOk, IsOkUnless, option_copied, slice_get, take, true, false};
+ghost use Rattle.std.specs.List.{All, list_any};
 ghost use Rattle.std.specs.VecDeque.{deque_capacity, deque_len};
 ghost use Rattle.sctp_base.specs.declared.error.Error.TheVariants.{ErrOutOfMemory};
 ghost use Rattle.sctp_lists.specs.Lists.{change_where, those};
 ghost use Rattle.sctp_queues.specs.Marks.{is_of};
 ghost use Rattle.sctp_queues.specs.Outbound.{with_message_id};
 ghost use Rattle.sctp_queues.specs.Pending.{removed_bytes, last_of, without_message, is_on, one_lower, is_to_start, with_deadline, is_dcep, is_timed, deadline_at};
-ghost use Rattle.sctp_queues.specs.Whole.{ends, until_end};
+ghost use Rattle.sctp_queues.specs.Whole.{NumbersAscend, ends, until_end};
 ghost use Rattle.sctp_queues.specs.DataChunks.{bytes_of};
 
 use sctp_base::error::Result;
@@ -190,7 +190,17 @@ impl Line {
         ensures started { self.new ≡ with_chunks self.old (change_where (is_to_start first_message_id) (with_deadline now) self.old.chunks) }
         ensures bytes { bytes_of self.new.chunks ≡ bytes_of self.old.chunks }
     {
-        start_in(&mut self.chunks, first_message_id, now);
+        start_in(&mut self.chunks, 0, first_message_id, now);
+    }
+
+    /// The same where numbers ascend: it looks at the messages numbered so, and at the last chunk before them.
+    pub(crate) fn start_latest_messages(&mut self, first_message_id: u64, now: u64)
+        requires { NumbersAscend self.old.chunks }
+        ensures started { self.new ≡ with_chunks self.old (change_where (is_to_start first_message_id) (with_deadline now) self.old.chunks) }
+        ensures bytes { bytes_of self.new.chunks ≡ bytes_of self.old.chunks }
+    {
+        let from = place_of(&self.chunks, first_message_id);
+        start_in(&mut self.chunks, from, first_message_id, now);
     }
 
     pub(crate) fn contains_message(&self, message_id: u64) -> bool
@@ -257,13 +267,31 @@ fn lower_ssns_in(chunks: &mut VecDeque<ChunkPayloadData>, stream_identifier: u16
     }
 }
 
-// Sets the deadlines of timed messages that have none.
-fn start_in(chunks: &mut VecDeque<ChunkPayloadData>, first_message_id: u64, now: u64)
+// Where the chunks of messages numbered from `first_message_id` on begin, sought from the back.
+fn place_of(chunks: &VecDeque<ChunkPayloadData>, first_message_id: u64) -> usize
+    requires { NumbersAscend chunks.now.items }
+    ensures in_range { result ≤ length chunks.now.items }
+    ensures before { All (λ c. is_to_start first_message_id c ≡ false) (take result chunks.now.items) }
+{
+    let mut place = chunks.len();
+    while place > 0 {
+        if chunks[place - 1].message_id < first_message_id {
+            return place;
+        }
+        place -= 1;
+    }
+    0
+}
+
+// Sets the deadlines of timed messages that have none. There are no such messages before `from`.
+fn start_in(chunks: &mut VecDeque<ChunkPayloadData>, from: usize, first_message_id: u64, now: u64)
+    requires in_range { from ≤ length chunks.old.items }
+    requires before { All (λ c. is_to_start first_message_id c ≡ false) (take from chunks.old.items) }
     ensures items { chunks.new.items ≡ change_where (is_to_start first_message_id) (with_deadline now) chunks.old.items }
     ensures len { deque_len chunks.new ≡ deque_len chunks.old }
     ensures capacity { deque_capacity chunks.new ≡ deque_capacity chunks.old }
 {
-    for place in 0..chunks.len() {
+    for place in from..chunks.len() {
         let chunk = &mut chunks[place];
         if !is_to_start(chunk, first_message_id) {
             continue;

@@ -1,30 +1,75 @@
 //! Loose fragments: what came of unordered messages that are not whole. What looks at one takes a turn.
 
-ghost use Rattle.std.specs.Prelude.{◌≡◌, ℕ, ◌==◌, ◌+◌, ◌-◌, ◌^◌, ◌<◌, ◌≤◌, ◌&&◌, [], ◌∷◌, length, slice_index_or, insert, remove, take, drop, ◌++◌, OnOk, OnErr, IfOk, IfErr, IfSome, IfNone, not};
+ghost use Rattle.std.specs.Prelude.{◌≡◌, ℕ, ◌==◌, ◌+◌, ◌-◌, ◌^◌, ◌<◌, ◌≤◌, ◌&&◌, [], ◌∷◌, length, slice_index_or, insert, remove, take, drop, ◌++◌, OnOk, OnErr, IfOk, IfErr, IfSome, IfNone, true, false, IsTrue, not};
 ghost use Rattle.sctp_queues.specs.Runs.{IsEarliestRunAround, HasNoRunAround, IsStretch, IsEarliestRun, HasNoRun};
 ghost use Rattle.sctp_base.specs.declared.error.Error.TheVariants.{ErrOutOfMemory};
+ghost use Rattle.sctp_chunks.specs.declared.chunk.chunk_payload_data.ChunkPayloadData.{ChunkPayloadData};
+ghost use Rattle.sctp_lists.specs.Serial.{comes_before};
 ghost use Rattle.sctp_queues.specs.Around.{IsStart, HasNoStart, IsEnd, IsFirstEnding, HasNoEnd};
+ghost use Rattle.sctp_queues.specs.Loose.{IsOrderMark};
+ghost use Rattle.sctp_queues.specs.Window.{IsSerial};
 
-use crate::chunks::clone_chunks;
 use crate::turns::Turns;
 use sctp_base::error::Error;
+use sctp_base::util::sna32lt;
 use sctp_chunks::chunk::chunk_payload_data::ChunkPayloadData;
 use std::alloc::{AllocError, Global};
+use std::collections::VecDeque;
 use std::marker::Model;
+
+/// A fragment on the heap, so that an insertion among many moves no more than a pointer of each.
+#[derive(Drop)]
+pub struct LooseFragment {
+    chunk: Box<ChunkPayloadData>,
+}
+
+impl Model for LooseFragment {
+    ghost use Rattle.sctp_chunks.specs.declared.chunk.chunk_payload_data.ChunkPayloadData.{ChunkPayloadData};
+
+    ghost Value = { ChunkPayloadData };
+
+    ghost view = { λ f. f.chunk.value };
+}
+
+impl LooseFragment {
+    fn new(alloc: Global, chunk: ChunkPayloadData) -> Result<Self, AllocError>
+        ensures { IfOk result (λ fragment. fragment ≡ chunk) }
+    {
+        let chunk = Box::new(alloc, chunk)?;
+        Ok(LooseFragment { chunk })
+    }
+
+    pub fn chunk(&self) -> &ChunkPayloadData
+        ensures { result.now ≡ self.now }
+    {
+        &self.chunk
+    }
+
+    fn into_chunk(self) -> ChunkPayloadData
+        ensures { result ≡ self }
+    {
+        Box::into_inner(self.chunk)
+    }
+}
 
 /// The loose fragments, by place.
 #[derive(Drop)]
 pub struct Loose {
-    chunks: Vec<ChunkPayloadData>,
+    chunks: VecDeque<LooseFragment>,
+    // whether they stand in serial order, as fragments of honest peers do
+    serial: bool,
 }
 
 impl Model for Loose {
     ghost use Rattle.std.specs.Prelude.{List};
     ghost use Rattle.sctp_chunks.specs.declared.chunk.chunk_payload_data.ChunkPayloadData.{ChunkPayloadData};
+    ghost use Rattle.sctp_queues.specs.Loose.{IsOrderMark};
 
     ghost Value = { List ChunkPayloadData };
 
     ghost view = { λ l. l.chunks.items };
+
+    ghost invariant = { λ l. IsOrderMark l.serial l.chunks.items };
 }
 
 impl Loose {
@@ -32,7 +77,8 @@ impl Loose {
         ensures { result ≡ [] }
     {
         Loose {
-            chunks: Vec::new(alloc),
+            chunks: VecDeque::new(alloc),
+            serial: true,
         }
     }
 
@@ -42,6 +88,13 @@ impl Loose {
         self.chunks.len()
     }
 
+    /// Whether they stand in serial order.
+    pub fn is_serial(&self) -> bool
+        ensures { IsOrderMark result self.now }
+    {
+        self.serial
+    }
+
     /// Looks at a fragment, which is a turn.
     pub fn look<'a>(&'a self, place: usize, turns: &mut Turns) -> &'a ChunkPayloadData
         requires { place < length self.now }
@@ -49,16 +102,38 @@ impl Loose {
         ensures turn { turns.new ≡ turns.old + 1 }
     {
         turns.tick();
-        &self.chunks[place]
+        self.chunks[place].chunk()
     }
 
-    pub fn insert(&mut self, place: usize, chunk: ChunkPayloadData) -> Result<(), AllocError>
+    pub fn insert(
+        &mut self,
+        alloc: Global,
+        place: usize,
+        chunk: ChunkPayloadData,
+    ) -> Result<(), AllocError>
         requires { place ≤ length self.old }
         ensures ok { OnOk result (self.new ≡ insert self.old place chunk) }
         ensures err { OnErr result (self.new ≡ self.old) }
     {
-        self.chunks.insert(place, chunk)?;
+        let serial = self.stays_serial(place, chunk.tsn);
+        let fragment = LooseFragment::new(alloc, chunk)?;
+        self.chunks.insert(place, fragment)?;
+        self.serial = serial;
         Ok(())
+    }
+
+    // Whether they stand in serial order with the number at the place.
+    fn stays_serial(&self, place: usize, tsn: u32) -> bool
+        requires { place ≤ length self.now }
+        ensures { (x : ChunkPayloadData) → x.tsn ≡ tsn → IsOrderMark result (insert self.now place x) }
+    {
+        if !self.serial {
+            return false;
+        }
+        if !is_behind(&self.chunks, place, tsn) {
+            return false;
+        }
+        is_ahead(&self.chunks, place, tsn)
     }
 
     /// Takes out what was looked at.
@@ -67,7 +142,9 @@ impl Loose {
         ensures rest { self.new ≡ remove self.old place }
         ensures value { result ≡ slice_index_or self.old place result }
     {
-        self.chunks.remove(place)
+        let chunk = take_out(&mut self.chunks, place);
+        self.serial = is_still_serial(self.serial, &self.chunks);
+        chunk
     }
 
     /// Takes out some neighbours.
@@ -84,12 +161,13 @@ impl Loose {
     {
         let mut taken = Vec::with_capacity(alloc, count)?;
         for _moved in 0..count {
-            let chunk = self.chunks.remove(first);
+            let chunk = take_out(&mut self.chunks, first);
             match taken.push(chunk) {
                 Ok(()) => {}
                 Err(_) => unreachable!(),
             }
         }
+        self.serial = is_still_serial(self.serial, &self.chunks);
         Ok(taken)
     }
 
@@ -99,13 +177,14 @@ impl Loose {
         ensures memory { IfErr result (λ e. e ≡ ErrOutOfMemory) }
     {
         Ok(Loose {
-            chunks: clone_chunks(alloc, &self.chunks)?,
+            chunks: clone_fragments(alloc, &self.chunks)?,
+            serial: self.serial,
         })
     }
 
     /// All of them, which only the queue's accessor lends on.
-    pub fn as_slice(&self) -> &[ChunkPayloadData]
-        ensures { result.now ≡ self.now }
+    pub fn as_deque(&self) -> &VecDeque<LooseFragment>
+        ensures { result.now.items ≡ self.now }
     {
         &self.chunks
     }
@@ -115,9 +194,111 @@ impl Loose {
         ensures { self.new ≡ drop count self.old }
     {
         for _gone in 0..count {
-            self.chunks.remove(0);
+            self.chunks.pop_front();
         }
+        self.serial = is_still_serial(self.serial, &self.chunks);
     }
+}
+
+// Whether a number comes before another; both fit.
+fn is_before(first: u32, second: u32) -> bool
+    ensures value { result ≡ comes_before first second }
+    ensures first_fits { first < 2 ^ 32 }
+    ensures second_fits { second < 2 ^ 32 }
+{
+    sna32lt(first, second)
+}
+
+// Whether the number comes after what stands before the place: after the nearest and the first.
+fn is_behind(chunks: &VecDeque<LooseFragment>, place: usize, tsn: u32) -> bool
+    requires { place ≤ length chunks.now.items }
+    ensures yes { result ≡ true → IsSerial chunks.now.items → (k : ℕ) (d : ChunkPayloadData) → k < place → IsTrue (comes_before (slice_index_or chunks.now.items k d).tsn tsn) }
+    ensures no { result ≡ false → ((k : ℕ) (d : ChunkPayloadData) → k < place → IsTrue (comes_before (slice_index_or chunks.now.items k d).tsn tsn)) → ⊥ }
+{
+    if place == 0 {
+        return true;
+    }
+    if !is_before(chunks[place - 1].chunk().tsn, tsn) {
+        return false;
+    }
+    is_before(chunks[0].chunk().tsn, tsn)
+}
+
+// Whether the number comes before what stands from the place on: before the nearest and the last.
+fn is_ahead(chunks: &VecDeque<LooseFragment>, place: usize, tsn: u32) -> bool
+    requires { place ≤ length chunks.now.items }
+    ensures yes { result ≡ true → IsSerial chunks.now.items → (k : ℕ) (d : ChunkPayloadData) → place ≤ k → k < length chunks.now.items → IsTrue (comes_before tsn (slice_index_or chunks.now.items k d).tsn) }
+    ensures no { result ≡ false → ((k : ℕ) (d : ChunkPayloadData) → place ≤ k → k < length chunks.now.items → IsTrue (comes_before tsn (slice_index_or chunks.now.items k d).tsn)) → ⊥ }
+{
+    let len = chunks.len();
+    if place == len {
+        return true;
+    }
+    if !is_before(tsn, chunks[place].chunk().tsn) {
+        return false;
+    }
+    is_before(tsn, chunks[len - 1].chunk().tsn)
+}
+
+// Whether fragments stand in serial order: each after the one before it, and after the first.
+fn are_serial(chunks: &VecDeque<LooseFragment>) -> bool
+    ensures { IsOrderMark result chunks.now.items }
+{
+    let len = chunks.len();
+    if len == 0 {
+        return true;
+    }
+    let first = chunks[0].chunk().tsn;
+    let mut last = first;
+    for place in 1..len {
+        let tsn = chunks[place].chunk().tsn;
+        if !is_before(last, tsn) {
+            return false;
+        }
+        if !is_before(first, tsn) {
+            return false;
+        }
+        last = tsn;
+    }
+    true
+}
+
+// Whether what is left stands in serial order: a list that did not is looked through.
+fn is_still_serial(was_serial: bool, chunks: &VecDeque<LooseFragment>) -> bool
+    requires { was_serial ≡ true → IsSerial chunks.now.items }
+    ensures { IsOrderMark result chunks.now.items }
+{
+    if was_serial {
+        return true;
+    }
+    are_serial(chunks)
+}
+
+fn take_out(chunks: &mut VecDeque<LooseFragment>, place: usize) -> ChunkPayloadData
+    requires { place < length chunks.old.items }
+    ensures rest { chunks.new.items ≡ remove chunks.old.items place }
+    ensures value { result ≡ slice_index_or chunks.old.items place result }
+{
+    match chunks.remove(place) {
+        Some(fragment) => fragment.into_chunk(),
+        None => unreachable!(),
+    }
+}
+
+// Equal fragments, which share their bytes.
+fn clone_fragments(
+    alloc: Global,
+    chunks: &VecDeque<LooseFragment>,
+) -> Result<VecDeque<LooseFragment>, Error>
+    ensures ok { IfOk result (λ copies. copies.items ≡ chunks.now.items) }
+    ensures memory { IfErr result (λ e. e ≡ ErrOutOfMemory) }
+{
+    let mut copies = VecDeque::with_capacity(alloc, chunks.len())?;
+    for place in 0..chunks.len() {
+        let copy = chunks[place].chunk().try_clone()?;
+        copies.push_back(LooseFragment::new(alloc, copy)?)?;
+    }
+    Ok(copies)
 }
 
 // Where a run that holds the place begins.

@@ -1,17 +1,19 @@
 //! The sets of ordered messages, in the order of their numbers where these lie within half a circle.
 
-ghost use Rattle.std.specs.Prelude.{◌≡◌, ◌+◌, ◌-◌, ◌^◌, ◌<◌, ◌≤◌, ◌&&◌, [], ◌∷◌, length, map, min, true, false, not, OnOk, OnErr, IfOk, IfErr, IfSome, IfNone, MatchOption};
+ghost use Rattle.std.specs.Prelude.{◌≡◌, ◌+◌, ◌-◌, ◌^◌, ◌<◌, ◌≤◌, ◌&&◌, [], ◌∷◌, length, map, min, true, false, not, OnOk, OnErr, IfOk, IfErr, IfSome, IfNone};
 ghost use Rattle.std.specs.List.{list_any, position_or_len};
-ghost use Rattle.sctp_lists.specs.Serial.{comes_before16, distance16};
-ghost use Rattle.sctp_lists.specs.Lists.{those, inserted};
+ghost use Rattle.std.specs.List.Sorted.{IsNonDecreasingBy, IsPartitionPoint};
+ghost use Rattle.sctp_lists.specs.Serial.{comes_before16, distance};
+ghost use Rattle.sctp_lists.specs.Lists.{those};
 ghost use Rattle.sctp_queues.specs.Reassembly.{set_bytes, without_first};
 ghost use Rattle.sctp_queues.specs.Bounded.{is_given_up};
 ghost use Rattle.sctp_queues.specs.Sets.{is_complete, has_ssn, chunks_of_ssn, sets_with, answer_with, new_set, set_before};
 ghost use Rattle.sctp_queues.specs.DataChunks.{bytes_of};
-ghost use Rattle.sctp_queues.specs.Spans.{IsSpan16, IsBehind16};
+ghost use Rattle.sctp_queues.specs.Ascending.{IsOrder, IsInsertion, upper_half};
 ghost use Rattle.sctp_base.specs.declared.error.Error.TheVariants.{ErrOutOfMemory};
 
 use crate::chunks::Fragments;
+use crate::serial::{Insertion, distance, upper_half};
 use crate::skips;
 use sctp_base::error::Result;
 use sctp_base::util::sna16lt;
@@ -19,24 +21,25 @@ use sctp_chunks::chunk::chunk_payload_data::ChunkPayloadData;
 use std::alloc::Global;
 use std::collections::VecDeque;
 use std::marker::Model;
+use std::result;
 
 #[derive(Drop)]
 pub(crate) struct OrderedSets {
     sets: VecDeque<Fragments>,
-    // a number after which all lie by less than half a circle, the last one farthest, where one is known
-    base: Option<u16>,
+    // whether their numbers are known to ascend
+    ascending: bool,
 }
 
 impl Model for OrderedSets {
-    ghost use Rattle.std.specs.Prelude.{List, map, IfSome};
+    ghost use Rattle.std.specs.Prelude.{List, map};
     ghost use Rattle.sctp_chunks.specs.ChunkSet.{ChunkSet};
-    ghost use Rattle.sctp_queues.specs.Spans.{IsSpan16};
+    ghost use Rattle.sctp_queues.specs.Ascending.{IsOrder, upper_half};
 
     ghost Value = { List ChunkSet };
 
     ghost view = { λ s. s.sets.items };
 
-    ghost invariant = { λ s. IfSome s.base (λ b. IsSpan16 b (map (λ x. x.ssn) s.sets.items)) };
+    ghost invariant = { λ s. IsOrder s.ascending (map (λ x. upper_half x.ssn) s.sets.items) };
 }
 
 impl OrderedSets {
@@ -45,7 +48,7 @@ impl OrderedSets {
     {
         OrderedSets {
             sets: VecDeque::new(alloc),
-            base: None,
+            ascending: true,
         }
     }
 
@@ -56,7 +59,7 @@ impl OrderedSets {
         let sets = clone_sets(alloc, &self.sets)?;
         Ok(OrderedSets {
             sets,
-            base: self.base,
+            ascending: self.ascending,
         })
     }
 
@@ -84,9 +87,9 @@ impl OrderedSets {
     pub(crate) fn bytes_there(&self, ssn: u16) -> usize
         ensures { result ≡ min (bytes_of (chunks_of_ssn ssn self.now)) (2 ^ 64 - 1) }
     {
-        match set_place(self.base, &self.sets, ssn) {
-            Some(place) => self.sets[place].len(),
-            None => 0,
+        match seek(self.ascending, &self.sets, ssn) {
+            Ok(place) => self.sets[place].len(),
+            Err(_) => 0,
         }
     }
 
@@ -97,36 +100,20 @@ impl OrderedSets {
         ensures err { OnErr result (self.new ≡ self.old) }
         ensures memory { IfErr result (λ e. e ≡ ErrOutOfMemory) }
     {
-        match set_place(self.base, &self.sets, chunk.stream_sequence_number) {
-            Some(place) => {
+        match seek(self.ascending, &self.sets, chunk.stream_sequence_number) {
+            Ok(place) => {
                 let set = &mut self.sets[place];
                 let whole = set.put(chunk)?;
                 Ok(whole)
             }
-            None => {
+            Err(at) => {
                 let set = new_set(alloc, chunk)?;
                 let whole = set.is_complete();
-                self.add(set)?;
+                self.sets.insert(at.place, set)?;
+                self.ascending = at.ascending;
                 Ok(Some(whole))
             }
         }
-    }
-
-    // Puts in a set before the first that it comes before.
-    fn add(&mut self, set: Fragments) -> Result<()>
-        ensures ok { OnOk result (self.new ≡ inserted set_before set self.old) }
-        ensures err { OnErr result (self.new ≡ self.old) }
-        ensures memory { IfErr result (λ e. e ≡ ErrOutOfMemory) }
-    {
-        let ssn = set.ssn();
-        if is_behind(self.base, &self.sets, ssn) {
-            self.sets.push_back(set)?;
-            return Ok(());
-        }
-        let place = set_gap(&self.sets, ssn);
-        self.sets.insert(place, set)?;
-        self.base = base_of(&self.sets);
-        Ok(())
     }
 
     /// Removes the sets that a skip up to the number gives up, those alone that miss a TSN where there
@@ -135,9 +122,7 @@ impl OrderedSets {
         ensures rest { self.new ≡ those (λ s. not (is_given_up last_ssn bound s)) self.old }
         ensures bytes { result ≡ min (set_bytes (those (is_given_up last_ssn bound) self.old)) (2 ^ 64 - 1) }
     {
-        let gone = skips::discard(&mut self.sets, last_ssn, bound);
-        self.base = base_of(&self.sets);
-        gone
+        skips::discard(&mut self.sets, last_ssn, bound)
     }
 }
 
@@ -165,23 +150,68 @@ fn new_set(alloc: Global, chunk: ChunkPayloadData) -> Result<Fragments>
     Ok(Fragments::new(ssn, ppi, chunks))
 }
 
-// The place of the first set of a number. The last set is looked at first.
-fn set_place(base: Option<u16>, sets: &VecDeque<Fragments>, ssn: u16) -> Option<usize>
-    requires { IfSome base (λ b. IsSpan16 b (map (λ s. s.ssn) sets.now.items)) }
-    ensures found { IfSome result (λ place. (place ≡ position_or_len (has_ssn ssn) sets.now.items) × (place < length sets.now.items)) }
-    ensures absent { IfNone result (position_or_len (has_ssn ssn) sets.now.items ≡ length sets.now.items) }
+// The place of the first set of a number, or where a set of it is put in: by halves among numbers
+// that ascend, unless it lies exactly half a circle from the first.
+fn seek(ascending: bool, sets: &VecDeque<Fragments>, ssn: u16) -> result::Result<usize, Insertion>
+    requires { IsOrder ascending (map (λ s. upper_half s.ssn) sets.now.items) }
+    ensures there { IfOk result (λ place. (place ≡ position_or_len (has_ssn ssn) sets.now.items) × (place < length sets.now.items)) }
+    ensures free { IfErr result (λ at. IsInsertion (has_ssn ssn) (λ s. upper_half s.ssn) set_before sets.now.items at.place at.ascending) }
 {
     let len = sets.len();
     if len == 0 {
-        return None;
+        return Err(Insertion {
+            place: 0,
+            ascending: true,
+        });
     }
-    if is_behind(base, sets, ssn) {
-        return None;
+    let first = upper_half(sets[0].ssn());
+    let number = upper_half(ssn);
+    let far = distance(first, number);
+    if !ascending || far == 1 << 31 {
+        return seek_by_walk(sets, ssn);
     }
-    if base.is_some() && sets[len - 1].ssn() == ssn {
-        return Some(len - 1);
+    if far > 1 << 31 {
+        let ascending = distance(number, upper_half(sets[len - 1].ssn())) < 1 << 31;
+        return Err(Insertion {
+            place: 0,
+            ascending,
+        });
     }
-    first_place(sets, ssn)
+    let place = place_within(sets, first, far);
+    if sets[place - 1].ssn() == ssn {
+        return Ok(place - 1);
+    }
+    Err(Insertion {
+        place,
+        ascending: true,
+    })
+}
+
+// The place behind the sets that lie no farther from the first number. The last is looked at first.
+fn place_within(sets: &VecDeque<Fragments>, first: u32, far: u32) -> usize
+    requires { IsNonDecreasingBy (λ s. distance first (upper_half s.ssn)) sets.now.items }
+    ensures in_range { result ≤ length sets.now.items }
+    ensures split { IsPartitionPoint (λ s. distance first (upper_half s.ssn) ≤ far) (λ s. far < distance first (upper_half s.ssn)) sets.now.items result }
+{
+    let len = sets.len();
+    if len > 0 && distance(first, upper_half(sets[len - 1].ssn())) <= far {
+        return len;
+    }
+    sets.partition_point(|s| distance(first, upper_half(s.ssn())) <= far)
+}
+
+// The same by a walk, among any numbers; they are not known to ascend then.
+fn seek_by_walk(sets: &VecDeque<Fragments>, ssn: u16) -> result::Result<usize, Insertion>
+    ensures there { IfOk result (λ place. (place ≡ position_or_len (has_ssn ssn) sets.now.items) × (place < length sets.now.items)) }
+    ensures free { IfErr result (λ at. IsInsertion (has_ssn ssn) (λ s. upper_half s.ssn) set_before sets.now.items at.place at.ascending) }
+{
+    match first_place(sets, ssn) {
+        Some(place) => Ok(place),
+        None => Err(Insertion {
+            place: set_gap(sets, ssn),
+            ascending: false,
+        }),
+    }
 }
 
 // The place of the first set of a number.
@@ -208,50 +238,4 @@ fn set_gap(sets: &VecDeque<Fragments>, ssn: u16) -> usize
         }
     }
     sets.len()
-}
-
-// How far a number lies after another.
-#[tactic(auto, unfolding(sctp_lists::specs::Serial::distance16))]
-fn distance(base: u16, ssn: u16) -> u16
-    ensures value { result ≡ distance16 base ssn }
-    ensures base_fits { base < 2 ^ 16 }
-    ensures fits { ssn < 2 ^ 16 }
-{
-    ssn.wrapping_sub(base)
-}
-
-// A number after which all lie by less than half a circle, the last one farthest: the first one, or none.
-fn base_of(sets: &VecDeque<Fragments>) -> Option<u16>
-    ensures { IfSome result (λ base. IsSpan16 base (map (λ s. s.ssn) sets.now.items)) }
-{
-    let len = sets.len();
-    if len == 0 {
-        return None;
-    }
-    let base = sets[0].ssn();
-    let far = distance(base, sets[len - 1].ssn());
-    if far >= 1 << 15 {
-        return None;
-    }
-    for place in 0..len - 1 {
-        if distance(base, sets[place].ssn()) >= far {
-            return None;
-        }
-    }
-    Some(base)
-}
-
-// Whether a number is known to come behind all, by a look at the last one.
-fn is_behind(base: Option<u16>, sets: &VecDeque<Fragments>, ssn: u16) -> bool
-    ensures { result ≡ true → MatchOption base ⊥ (λ b. IsBehind16 b (map (λ s. s.ssn) sets.now.items) ssn) }
-{
-    let len = sets.len();
-    if len == 0 {
-        return false;
-    }
-    let Some(base) = base else {
-        return false;
-    };
-    let far = distance(base, ssn);
-    far < 1 << 15 && distance(base, sets[len - 1].ssn()) < far
 }

@@ -94,7 +94,7 @@ impl OutboundQueue {
             return;
         }
         self.pending
-            .start_timed_messages(self.next_unstarted_message_id, now);
+            .start_latest_messages(self.next_unstarted_message_id, now);
         self.next_unstarted_message_id = self.next_message_id;
     }
 

@@ -1,6 +1,6 @@
 //! Chunks by their TSNs, in serial order: what is in flight, or what came beyond the cumulative TSN.
 
-ghost use Rattle.std.specs.Prelude.{◌≡◌, ◌==◌, ◌≢◌, ℕ, ◌+◌, ◌-◌, ◌^◌, ◌<◌, ◌≤◌, [], ◌||◌, length, map, max, OnOk, OnErr, IfOk, IfErr, IfSome, IsOk, IsOkUnless, IsTrue, All, find, not, option_copied, slice_get, slice_index_or, is_some, unwrap_or, true, false, string_bytes, if◌then◌else◌};
+ghost use Rattle.std.specs.Prelude.{◌≡◌, ◌==◌, ◌≢◌, ℕ, ◌+◌, ◌*◌, ◌-◌, ◌^◌, ◌<◌, ◌≤◌, [], length, map, max, OnOk, OnErr, IfOk, IfErr, IfSome, IsOk, IsOkUnless, IsTrue, All, find, not, option_copied, slice_get, slice_index_or, is_some, unwrap_or, true, false, string_bytes, if◌then◌else◌};
 ghost use Rattle.std.specs.Option.{option_map};
 ghost use Rattle.std.specs.List.{list_any};
 ghost use Rattle.sctp_base.specs.declared.error.Error.TheVariants.{ErrOutOfMemory};
@@ -11,9 +11,10 @@ ghost use Rattle.sctp_queues.specs.Turns.{IsWithinDigits};
 ghost use Rattle.sctp_queues.specs.Window.{IsSerial, IsPlaceFor, IsHeldAt, IsWindow, SpansOneWindow, is_held, is_new};
 ghost use Rattle.sctp_queues.specs.DataChunks.{has_tsn, bytes_of};
 ghost use Rattle.sctp_queues.specs.Marks.{is_outstanding};
-ghost use Rattle.sctp_queues.specs.Blocks.{BlocksAscend, Reports, covered, gap_offsets, ends_of, is_offset, extended_by, gap_text};
+ghost use Rattle.sctp_queues.specs.Blocks.{IsFirstAfter, IsRunUntil, Reports, gap_offsets, ends_of, is_offset, gap_text};
 
 use crate::held::{Held, Mark};
+use crate::serial::distance;
 use crate::turns::Turns;
 use sctp_base::error::Result;
 use sctp_base::util::{sna32lt, sna32lte};
@@ -97,40 +98,87 @@ fn free_place(held: &Held, tsn: u32) -> Option<usize>
 }
 
 // The distance from the cumulative TSN to a TSN, where a gap ack block can hold it.
-#[tactic(auto, unfolding(sctp_lists::specs::Serial::distance))]
 fn gap_offset(cumulative_tsn: u32, tsn: u32) -> Option<u16>
     ensures some { IfSome result (λ offset. (offset ≡ distance cumulative_tsn tsn) × (0 < offset) × (offset < 2 ^ 16)) }
     ensures test { is_some result ≡ is_offset (distance cumulative_tsn tsn) }
     ensures fits { cumulative_tsn < 2 ^ 32 }
 {
-    let distance = tsn.wrapping_sub(cumulative_tsn);
-    if distance == 0 || distance > 65535 {
+    let offset = distance(cumulative_tsn, tsn);
+    if offset == 0 || offset > 65535 {
         return None;
     }
-    Some(distance as u16)
+    Some(offset as u16)
 }
 
-// Adds a distance behind all blocks.
-fn add_offset(blocks: &mut Vec<GapAckBlock>, offset: u16) -> Result<()>
-    requires apart { BlocksAscend blocks.old.items }
-    requires behind { All (λ b. b.end < offset) blocks.old.items }
-    ensures apart { OnOk result (BlocksAscend blocks.new.items) }
-    ensures last { OnOk result (All (λ b. b.end ≤ offset) blocks.new.items) }
-    ensures covers { OnOk result ((n : ℕ) → covered blocks.new.items n ≡ (n == offset) || covered blocks.old.items n) }
-    ensures runs { OnOk result (map ends_of blocks.new.items ≡ extended_by offset (map ends_of blocks.old.items)) }
-    ensures memory { IsOkUnless result ErrOutOfMemory }
+// The place of the first chunk after the cumulative TSN, from where on each is farther after it.
+fn first_after(held: &Held, cumulative_tsn: u32, turns: &mut Turns) -> usize
+    requires { IsSerial held.now.chunks }
+    ensures first { IsFirstAfter cumulative_tsn held.now.chunks result }
+    ensures not_back { turns.old ≤ turns.new }
+    ensures cost { IsWithinDigits (length held.now.chunks) (turns.new - turns.old) }
 {
-    if let Some(block) = blocks.last_mut() {
-        if block.end + 1 == offset {
-            block.end = offset;
-            return Ok(());
+    let Some(front) = held.front_tsn() else {
+        return 0;
+    };
+    if !sna32lte(front, cumulative_tsn) {
+        return 0;
+    }
+    match search(held, cumulative_tsn, turns) {
+        Ok((place, _)) => place + 1,
+        Err(place) => place,
+    }
+}
+
+// The last place before `end` up to which TSNs rise by one, from a place that has the TSN.
+// It looks 1, 2, 4 .. places farther ahead, then between: fewer turns than twice one more than the run's binary logarithm.
+fn run_end(held: &Held, place: usize, tsn: u32, end: usize, turns: &mut Turns) -> usize
+    requires serial { IsSerial held.now.chunks }
+    requires number { (d : _) → (slice_index_or held.now.chunks place d).tsn ≡ tsn }
+    requires some { place < end }
+    requires in_range { end ≤ length held.now.chunks }
+    ensures run { IsRunUntil held.now.chunks end place result }
+    ensures not_back { turns.old ≤ turns.new }
+    ensures cost { 2 ^ (turns.new - turns.old) < 4 * ((result + 1 - place) * (result + 1 - place)) }
+{
+    let mut last = place;
+    let mut tsn = tsn;
+    let mut step = 1;
+    while step < end - last {
+        let ahead = held.look(last + step, turns).tsn;
+        if distance(tsn, ahead) as usize != step {
+            return run_end_between(held, last, tsn, last + step, turns);
+        }
+        last += step;
+        tsn = ahead;
+        step *= 2;
+    }
+    run_end_between(held, last, tsn, end, turns)
+}
+
+// The same by halves: as many turns as the number of places behind the first has binary digits.
+fn run_end_between(held: &Held, place: usize, tsn: u32, end: usize, turns: &mut Turns) -> usize
+    requires serial { IsSerial held.now.chunks }
+    requires number { (d : _) → (slice_index_or held.now.chunks place d).tsn ≡ tsn }
+    requires some { place < end }
+    requires in_range { end ≤ length held.now.chunks }
+    ensures run { IsRunUntil held.now.chunks end place result }
+    ensures not_back { turns.old ≤ turns.new }
+    ensures cost { IsWithinDigits (end - place - 1) (turns.new - turns.old) }
+{
+    let mut last = place;
+    let mut tsn = tsn;
+    let mut beyond = end;
+    while last + 1 < beyond {
+        let middle = last + (beyond - last) / 2;
+        let ahead = held.look(middle, turns).tsn;
+        if distance(tsn, ahead) as usize == middle - last {
+            last = middle;
+            tsn = ahead;
+        } else {
+            beyond = middle;
         }
     }
-    blocks.push(GapAckBlock {
-        start: offset,
-        end: offset,
-    })?;
-    Ok(())
+    last
 }
 
 // Whether the chunk is neither acknowledged nor abandoned.
@@ -362,14 +410,36 @@ impl PayloadQueue {
         ensures runs { IfOk result (λ blocks. map ends_of blocks.items ≡ runs_of (gap_offsets cumulative_tsn self.now.chunks)) }
         ensures memory { IsOkUnless result ErrOutOfMemory }
     {
-        let mut turns = Turns::new();
+        self.get_gap_ack_blocks_counted(alloc, cumulative_tsn, &mut Turns::new())
+    }
+
+    /// The same, and its turns are added: at most 34 for each block, and beside these one more
+    /// than the number of held chunks has binary digits.
+    pub fn get_gap_ack_blocks_counted(
+        &self,
+        alloc: Global,
+        cumulative_tsn: u32,
+        turns: &mut Turns,
+    ) -> Result<Vec<GapAckBlock>>
+        ensures reported { IfOk result (λ blocks. Reports cumulative_tsn self.now.chunks blocks.items) }
+        ensures runs { IfOk result (λ blocks. map ends_of blocks.items ≡ runs_of (gap_offsets cumulative_tsn self.now.chunks)) }
+        ensures memory { IsOkUnless result ErrOutOfMemory }
+        ensures not_back { turns.old ≤ turns.new }
+        ensures cost { IfOk result (λ blocks. IsWithinDigits (length self.now.chunks) (turns.new - turns.old - 34 * length blocks.items - 1)) }
+    {
         let mut blocks = Vec::new(alloc);
-        for place in 0..self.held.len() {
-            let chunk = self.held.look(place, &mut turns);
-            let Some(offset) = gap_offset(cumulative_tsn, chunk.tsn) else {
-                continue;
+        let mut place = first_after(&self.held, cumulative_tsn, turns);
+        while place < self.held.len() {
+            let tsn = self.held.look(place, turns).tsn;
+            let Some(offset) = gap_offset(cumulative_tsn, tsn) else {
+                return Ok(blocks);
             };
-            add_offset(&mut blocks, offset)?;
+            // a block cannot reach past 65,535
+            let reach = (self.held.len() - place).min(65536 - offset as usize);
+            let last = run_end(&self.held, place, tsn, place + reach, turns);
+            let end = offset + (last - place) as u16;
+            blocks.push(GapAckBlock { start: offset, end })?;
+            place = last + 1;
         }
         Ok(blocks)
     }

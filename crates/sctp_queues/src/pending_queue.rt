@@ -5,7 +5,7 @@ ghost use Rattle.std.specs.List.{list_any};
 ghost use Rattle.sctp_base.specs.declared.error.Error.TheVariants.{ErrOutOfMemory};
 ghost use Rattle.sctp_queues.specs.Marks.{is_of};
 ghost use Rattle.sctp_queues.specs.Outbound.{appended, with_message_id};
-ghost use Rattle.sctp_queues.specs.Whole.{has_end, order_of, ordered_first};
+ghost use Rattle.sctp_queues.specs.Whole.{NumbersAscend, has_end, order_of, ordered_first};
 ghost use Rattle.sctp_queues.specs.DataChunks.{bytes_of};
 ghost use Rattle.sctp_queues.specs.Pending.{list_to_pop, selected_after, selected_without};
 
@@ -96,6 +96,16 @@ impl PendingQueue {
     {
         self.ordered.start_timed_messages(first_message_id, now);
         self.unordered.start_timed_messages(first_message_id, now);
+    }
+
+    /// The same where the numbers of each list ascend: it looks at the messages numbered so, and at the last chunk before them.
+    pub(crate) fn start_latest_messages(&mut self, first_message_id: u64, now: u64)
+        requires ordered { NumbersAscend self.old.ordered }
+        requires unordered { NumbersAscend self.old.unordered }
+        ensures { self.new ≡ started first_message_id now self.old }
+    {
+        self.ordered.start_latest_messages(first_message_id, now);
+        self.unordered.start_latest_messages(first_message_id, now);
     }
 
     /// The front of the half-sent message's list; with none half sent the unordered front, else the ordered one.

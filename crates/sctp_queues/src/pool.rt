@@ -1,13 +1,12 @@
 //! The loose fragments of a stream, out of which whole messages are taken.
 
-ghost use Rattle.std.specs.Prelude.{◌≡◌, ◌<◌, ◌≤◌, [], length, remove, insert, IfSome, IfNone, drop, OnErr, IfOk, IfErr, MatchOption};
+ghost use Rattle.std.specs.Prelude.{◌≡◌, ◌<◌, ◌≤◌, ◌&&◌, [], length, remove, insert, IfSome, IfNone, drop, OnErr, IfOk, IfErr, MatchOption};
 ghost use Rattle.sctp_lists.specs.Lists.{inserted};
 ghost use Rattle.sctp_queues.specs.DataChunks.{chunk_before};
 ghost use Rattle.sctp_queues.specs.Runs.{HasNoRun, IsEarliestRun};
 ghost use Rattle.sctp_base.specs.declared.error.Error.TheVariants.{ErrOutOfMemory};
-ghost use Rattle.sctp_queues.specs.Loose.{IsRunTaken, IsMark};
+ghost use Rattle.sctp_queues.specs.Loose.{IsRunTaken, IsMark, place_among};
 
-use crate::chunks::insertion_place;
 use crate::loose::{Loose, find_run, run_around};
 use crate::turns::Turns;
 use sctp_base::error::Error;
@@ -54,10 +53,10 @@ impl Pool {
         })
     }
 
-    pub(crate) fn as_slice(&self) -> &[ChunkPayloadData]
+    pub(crate) fn loose(&self) -> &Loose
         ensures { result.now ≡ self.now }
     {
-        self.loose.as_slice()
+        &self.loose
     }
 
     pub(crate) fn drop_front(&mut self, count: usize)
@@ -72,20 +71,22 @@ impl Pool {
     pub(crate) fn put(
         &mut self,
         alloc: Global,
+        place: usize,
         chunk: ChunkPayloadData,
     ) -> Result<Option<Vec<ChunkPayloadData>>, AllocError>
+        requires { place ≡ place_among chunk.tsn self.old }
         ensures ok { IfOk result (λ run. MatchOption run (HasNoRun self.new × (self.new ≡ inserted chunk_before chunk self.old)) (λ chunks. IsRunTaken (inserted chunk_before chunk self.old) self.new chunks.items)) }
         ensures err { OnErr result (self.new ≡ self.old) }
     {
-        let place = insertion_place(self.loose.as_slice(), chunk.tsn);
-        self.loose.insert(place, chunk)?;
+        self.loose.insert(alloc, place, chunk)?;
+        let serial = self.loose.is_serial();
         let Some((first, count)) = search(&self.loose, self.searched, place) else {
             self.searched = true;
             return Ok(None);
         };
         match self.loose.take_range(alloc, first, count) {
             Ok(chunks) => {
-                self.searched = false;
+                self.searched = is_searched_after(self.searched, serial);
                 Ok(Some(chunks))
             }
             Err(e) => {
@@ -111,6 +112,13 @@ impl Pool {
         self.searched = false;
         Ok(Some(chunks))
     }
+}
+
+// Whether none is loose once the run of a new fragment was taken: in serial order none arises by it.
+fn is_searched_after(searched: bool, serial: bool) -> bool
+    ensures { result ≡ (searched && serial) }
+{
+    searched && serial
 }
 
 // The run that ends earliest. Where none was there before the fragment at the place, only the runs that hold it are looked for.

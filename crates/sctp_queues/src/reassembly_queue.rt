@@ -7,16 +7,20 @@ ghost use Rattle.sctp_lists.specs.Lists.{those};
 ghost use Rattle.sctp_queues.specs.Reassembly.{is_passed, set_bytes, set_of_run};
 ghost use Rattle.sctp_queues.specs.Sets.{has_ssn, chunks_of_ssn, sets_with, answer_with, new_set};
 ghost use Rattle.sctp_queues.specs.DataChunks.{bytes_of};
+ghost use Rattle.sctp_queues.specs.Loose.{place_among};
 ghost use Rattle.sctp_queues.specs.Sizes.{projected_size, size_before, size_after};
 ghost use Rattle.sctp_queues.specs.Runs.{HasNoRun};
 ghost use Rattle.sctp_queues.specs.Bounded.{bounded_forwarded, applicable, is_upto};
 ghost use Rattle.sctp_base.specs.declared.error.Error.TheVariants.{ErrOutOfMemory, ErrInboundPacketTooLarge};
 
-use crate::chunks::{Chunks, Fragments, bytes_in};
+use crate::chunks::{Chunks, Fragments};
+use crate::loose::{Loose, LooseFragment};
+use crate::loose_places::{front_upto, place_for};
 use crate::ordered_sets::{OrderedSets, clone_sets};
 use crate::pool::Pool;
-use crate::sizes::{size_after, size_before};
+use crate::sizes::{bytes_of_front, size_after, size_before};
 use crate::skips::{earliest_from, goal, has_settled, latest_passable};
+use crate::turns::Turns;
 use sctp_base::error::{Error, Result};
 use sctp_base::util::{sna16gt, sna16lt, sna16lte, sna32lte};
 use sctp_chunks::chunk::chunk_payload_data::{ChunkPayloadData, PayloadProtocolIdentifier};
@@ -114,10 +118,10 @@ impl ReassemblyQueue {
     }
 
     /// The fragments of unordered messages that are not whole.
-    pub fn unordered_chunks(&self) -> &[ChunkPayloadData]
-        ensures { result.now ≡ self.now.held.loose }
+    pub fn unordered_chunks(&self) -> &VecDeque<LooseFragment>
+        ensures { result.now.items ≡ self.now.held.loose }
     {
-        self.unordered_chunks.as_slice()
+        self.unordered_chunks.loose().as_deque()
     }
 
     pub fn max_message_size(&self) -> u32
@@ -157,23 +161,34 @@ impl ReassemblyQueue {
         if chunk.stream_identifier != self.si {
             return Ok(false);
         }
-        if self.is_too_large(&chunk) {
+        let place = self.place_of(&chunk);
+        if self.is_too_large(&chunk, place) {
             return Err(Error::ErrInboundPacketTooLarge);
         }
         if chunk.unordered {
-            self.push_unordered(chunk)
+            self.push_unordered(chunk, place)
         } else {
             self.push_ordered(chunk)
         }
     }
 
+    // Where an unordered chunk goes among the loose fragments.
+    fn place_of(&self, chunk: &ChunkPayloadData) -> usize
+        ensures { chunk.now.unordered ≡ true → result ≡ place_among chunk.now.tsn self.now.held.loose }
+    {
+        if !chunk.unordered {
+            return 0;
+        }
+        place_for(self.unordered_chunks.loose(), chunk.tsn, &mut Turns::new())
+    }
+
     // Whether the message of the chunk would be too long with it.
-    fn is_too_large(&self, chunk: &ChunkPayloadData) -> bool
+    fn is_too_large(&self, chunk: &ChunkPayloadData, place: usize) -> bool
+        requires { chunk.now.unordered ≡ true → place ≡ place_among chunk.now.tsn self.now.held.loose }
         ensures { result ≡ nat_lt self.now.max_message_size (projected_size chunk.now self.now.held.ordered self.now.held.loose) }
     {
         let projected = if chunk.unordered {
-            let loose = self.unordered_chunks.as_slice();
-            unordered_size(chunk, loose)
+            unordered_size(chunk, self.unordered_chunks.loose(), place)
         } else {
             self.ordered
                 .bytes_there(chunk.stream_sequence_number)
@@ -199,14 +214,15 @@ impl ReassemblyQueue {
         Ok(whole)
     }
 
-    fn push_unordered(&mut self, chunk: ChunkPayloadData) -> Result<bool>
+    fn push_unordered(&mut self, chunk: ChunkPayloadData, place: usize) -> Result<bool>
+        requires { place ≡ place_among chunk.tsn self.old.held.loose }
         ensures ok { IfOk result (λ whole. PushesUnordered chunk self.old self.new whole) }
         ensures err { OnErr result (self.new ≡ self.old) }
         ensures memory { IfErr result (λ e. e ≡ ErrOutOfMemory) }
     {
         let len = chunk.user_data.len();
         self.unordered.reserve(1)?;
-        let run = self.unordered_chunks.put(self.alloc, chunk)?;
+        let run = self.unordered_chunks.put(self.alloc, place, chunk)?;
         self.n_bytes = self.n_bytes.saturating_add(len);
         match run {
             Some(chunks) => {
@@ -340,8 +356,10 @@ impl ReassemblyQueue {
         ensures value { self.new ≡ unordered_forwarded new_cumulative_tsn self.old }
         ensures counted { IsCounted self.old → IsCounted self.new }
     {
-        let count = front_upto(self.unordered_chunks.as_slice(), new_cumulative_tsn);
-        let gone = bytes_in(&self.unordered_chunks.as_slice()[..count]);
+        let mut turns = Turns::new();
+        let loose = self.unordered_chunks.loose();
+        let count = front_upto(loose, new_cumulative_tsn, &mut turns);
+        let gone = bytes_of_front(loose, count, &mut turns);
         self.unordered_chunks.drop_front(count);
         self.release(gone);
     }
@@ -359,12 +377,13 @@ fn set_of_run(chunks: Vec<ChunkPayloadData>) -> Fragments
 }
 
 // How long the message of an unordered chunk would be with it, up to the greatest number.
-fn unordered_size(chunk: &ChunkPayloadData, loose: &[ChunkPayloadData]) -> usize
+fn unordered_size(chunk: &ChunkPayloadData, loose: &Loose, place: usize) -> usize
+    requires { place ≡ place_among chunk.now.tsn loose.now }
     ensures { result ≡ min (size_before chunk.now loose.now + length chunk.now.user_data + size_after chunk.now loose.now) (2 ^ 64 - 1) }
 {
-    size_before(chunk, loose)
+    size_before(chunk, loose, place)
         .saturating_add(chunk.user_data.len())
-        .saturating_add(size_after(chunk, loose))
+        .saturating_add(size_after(chunk, loose, place))
 }
 
 // The number expected next, once no message up to the other one is waited for.
@@ -397,17 +416,4 @@ fn is_upto(tsn: Option<u32>, peer_last_tsn: u32) -> bool
         Some(tsn) => sna32lte(tsn, peer_last_tsn),
         None => false,
     }
-}
-
-// How many loose fragments stand before the first that is after the number.
-fn front_upto(chunks: &[ChunkPayloadData], tsn: u32) -> usize
-    ensures place { result ≡ position_or_len (λ c. not (at_or_before c.tsn tsn)) chunks.now }
-    ensures in_range { result ≤ length chunks.now }
-{
-    for (place, chunk) in chunks.iter().enumerate() {
-        if !sna32lte(chunk.tsn, tsn) {
-            return place;
-        }
-    }
-    chunks.len()
 }

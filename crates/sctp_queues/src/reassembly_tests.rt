@@ -45,7 +45,7 @@ fn chunk(alloc: Global, part: &Part) -> Result<ChunkPayloadData, Error> {
     })
 }
 
-fn ordered(
+pub(crate) fn ordered(
     alloc: Global,
     tsn: u32,
     ssn: u16,
@@ -80,16 +80,16 @@ fn unordered(
     chunk(alloc, &part)
 }
 
-const FIRST: (bool, bool) = (true, false);
+pub(crate) const FIRST: (bool, bool) = (true, false);
 
-const MIDDLE: (bool, bool) = (false, false);
+pub(crate) const MIDDLE: (bool, bool) = (false, false);
 
-const LAST: (bool, bool) = (false, true);
+pub(crate) const LAST: (bool, bool) = (false, true);
 
-const WHOLE: (bool, bool) = (true, true);
+pub(crate) const WHOLE: (bool, bool) = (true, true);
 
 // The next message has these bytes.
-fn reads(rt: &impl Abort, queue: &mut ReassemblyQueue, bytes: &[u8]) {
+pub(crate) fn reads(rt: &impl Abort, queue: &mut ReassemblyQueue, bytes: &[u8]) {
     let mut buffer = [0; 8];
     match queue.read() {
         Some(message) => {
@@ -104,8 +104,8 @@ fn reads(rt: &impl Abort, queue: &mut ReassemblyQueue, bytes: &[u8]) {
 fn loose_are(rt: &impl Abort, queue: &ReassemblyQueue, tsns: &[u32]) {
     let loose = queue.unordered_chunks();
     assert_eq!(rt; loose.len(), tsns.len());
-    for (chunk, tsn) in loose.iter().zip(tsns.iter()) {
-        assert_eq!(rt; chunk.tsn, *tsn);
+    for (fragment, tsn) in loose.iter().zip(tsns.iter()) {
+        assert_eq!(rt; fragment.chunk().tsn, *tsn);
     }
 }
 
@@ -329,12 +329,67 @@ fn unordered_messages_are_read_first(rt: HostRuntime) -> Result<(), Fail> {
 fn a_run_is_found_round_its_place(rt: HostRuntime) -> Result<(), Fail> {
     let alloc = rt.alloc();
     let mut loose = Loose::new(alloc);
-    loose.insert(0, unordered(alloc, 1, LAST, b"x")?)?;
+    loose.insert(alloc, 0, unordered(alloc, 1, LAST, b"x")?)?;
     assert_eq!(rt; loose.len(), 1);
     assert_eq!(rt; run_around(&loose, 0, &mut Turns::new()), None);
     let mut set = Fragments::new(3, PayloadProtocolIdentifier::Binary, Vec::new(alloc));
     assert_eq!(rt; set.put(ordered(alloc, 1, 3, WHOLE, b"x")?)?, Some(true));
     assert_eq!(rt; set.put(ordered(alloc, 1, 3, WHOLE, b"x")?)?, None);
     assert_eq!(rt; set.ssn(), 3);
+    Ok(())
+}
+
+// What comes, and whether a message is whole with it.
+type Arrival = (u32, (bool, bool), bool);
+
+fn come(
+    rt: &impl Abort,
+    queue: &mut ReassemblyQueue,
+    alloc: Global,
+    arrivals: &[Arrival],
+) -> Result<(), Fail> {
+    for (tsn, flags, whole) in arrivals {
+        assert_eq!(rt; queue.push(unordered(alloc, *tsn, *flags, b"x")?)?, *whole);
+    }
+    Ok(())
+}
+
+#[test]
+fn interleaved_messages_come_whole_over_the_wrap(rt: HostRuntime) -> Result<(), Fail> {
+    let alloc = rt.alloc();
+    let mut queue = ReassemblyQueue::new(alloc, 1, 2);
+    let arrivals = [
+        (2, FIRST, false),
+        (4294967294, FIRST, false),
+        (0, FIRST, false),
+        (1, LAST, true),
+        (3, LAST, true),
+        (5, LAST, false),
+        (4294967295, LAST, true),
+    ];
+    come(&rt, &mut queue, alloc, &arrivals)?;
+    loose_are(&rt, &queue, &[5]);
+    Ok(())
+}
+
+#[test]
+fn repeats_stand_side_by_side_and_order_comes_back(rt: HostRuntime) -> Result<(), Fail> {
+    let alloc = rt.alloc();
+    let mut queue = ReassemblyQueue::new(alloc, 1, 4);
+    let arrivals = [
+        (10, FIRST, false),
+        (10, FIRST, false),
+        (12, MIDDLE, false),
+        (11, LAST, true),
+    ];
+    come(&rt, &mut queue, alloc, &arrivals)?;
+    loose_are(&rt, &queue, &[10, 12]);
+    come(
+        &rt,
+        &mut queue,
+        alloc,
+        &[(13, LAST, false), (11, MIDDLE, true)],
+    )?;
+    loose_are(&rt, &queue, &[]);
     Ok(())
 }

@@ -1,65 +1,56 @@
 //! How long the message of an unordered chunk would be with it.
 
 ghost use Rattle.std.specs.Prelude.{◌≡◌, ◌+◌, ◌-◌, ◌^◌, ◌<◌, ◌≤◌, [], length, min, take, drop, reverse, IfSome, IfNone};
+ghost use Rattle.sctp_queues.specs.DataChunks.{bytes_of};
+ghost use Rattle.sctp_queues.specs.Loose.{place_among};
 ghost use Rattle.sctp_queues.specs.Sizes.{bytes_down, bytes_up, back_from, on_from, size_before, size_after};
 
+use crate::loose::Loose;
+use crate::loose_places::{place_after, place_before};
+use crate::turns::Turns;
 use sctp_chunks::chunk::chunk_payload_data::ChunkPayloadData;
 
-/// The bytes of the loose neighbours that come before the chunk in its message.
-pub(crate) fn size_before(chunk: &ChunkPayloadData, loose: &[ChunkPayloadData]) -> usize
+/// The bytes of the loose neighbours that come before the chunk in its message, seen from where the chunk goes.
+pub(crate) fn size_before(chunk: &ChunkPayloadData, loose: &Loose, place: usize) -> usize
+    requires { place ≡ place_among chunk.now.tsn loose.now }
     ensures { result ≡ min (size_before chunk.now loose.now) (2 ^ 64 - 1) }
 {
     if chunk.beginning_fragment {
         return 0;
     }
-    match last_place(loose, chunk.tsn.wrapping_sub(1)) {
-        Some(place) => bytes_down(&loose[..place + 1], chunk.tsn),
+    let mut turns = Turns::new();
+    match place_before(loose, place, chunk.tsn, &mut turns) {
+        Some(last) => bytes_down(loose, last + 1, chunk.tsn, &mut turns),
         None => 0,
     }
 }
 
-/// The bytes of the loose neighbours that come after the chunk in its message.
-pub(crate) fn size_after(chunk: &ChunkPayloadData, loose: &[ChunkPayloadData]) -> usize
+/// The bytes of the loose neighbours that come after the chunk in its message, seen from where the chunk goes.
+pub(crate) fn size_after(chunk: &ChunkPayloadData, loose: &Loose, place: usize) -> usize
+    requires { place ≡ place_among chunk.now.tsn loose.now }
     ensures { result ≡ min (size_after chunk.now loose.now) (2 ^ 64 - 1) }
 {
     if chunk.ending_fragment {
         return 0;
     }
-    match last_place(loose, chunk.tsn.wrapping_add(1)) {
-        Some(place) => bytes_up(&loose[place..], chunk.tsn),
+    let mut turns = Turns::new();
+    match place_after(loose, place, chunk.tsn, &mut turns) {
+        Some(next) => bytes_up(loose, next, chunk.tsn, &mut turns),
         None => 0,
     }
 }
 
-// The place of the last fragment of this TSN.
-fn last_place(chunks: &[ChunkPayloadData], tsn: u32) -> Option<usize>
-    ensures in_range { IfSome result (λ place. place < length chunks.now) }
-    ensures back { IfSome result (λ place. back_from tsn chunks.now ≡ reverse (take (place + 1) chunks.now)) }
-    ensures on { IfSome result (λ place. on_from tsn chunks.now ≡ drop place chunks.now) }
-    ensures none_back { IfNone result (back_from tsn chunks.now ≡ []) }
-    ensures none_on { IfNone result (on_from tsn chunks.now ≡ []) }
-{
-    let mut end = chunks.len();
-    while end > 0 {
-        let place = end - 1;
-        if chunks[place].tsn == tsn {
-            return Some(place);
-        }
-        end = place;
-    }
-    None
-}
-
-// The bytes of neighbours from the end, while TSNs go down by one, up to one that begins.
-fn bytes_down(chunks: &[ChunkPayloadData], tsn: u32) -> usize
-    ensures { result ≡ min (bytes_down tsn (reverse chunks.now)) (2 ^ 64 - 1) }
+// The bytes of neighbours before a place, from the nearest on, while TSNs go down by one, up to one that begins.
+fn bytes_down(loose: &Loose, end: usize, tsn: u32, turns: &mut Turns) -> usize
+    requires { end ≤ length loose.now }
+    ensures { result ≡ min (bytes_down tsn (reverse (take end loose.now))) (2 ^ 64 - 1) }
 {
     let mut total = 0usize;
     let mut next = tsn;
-    let mut end = chunks.len();
+    let mut end = end;
     while end > 0 {
         let place = end - 1;
-        let chunk = &chunks[place];
+        let chunk = loose.look(place, turns);
         if chunk.tsn != next.wrapping_sub(1) {
             return total;
         }
@@ -73,13 +64,15 @@ fn bytes_down(chunks: &[ChunkPayloadData], tsn: u32) -> usize
     total
 }
 
-// The bytes of neighbours from the front, while TSNs go up by one, up to one that ends.
-fn bytes_up(chunks: &[ChunkPayloadData], tsn: u32) -> usize
-    ensures { result ≡ min (bytes_up tsn chunks.now) (2 ^ 64 - 1) }
+// The bytes of neighbours from a place on, while TSNs go up by one, up to one that ends.
+fn bytes_up(loose: &Loose, from: usize, tsn: u32, turns: &mut Turns) -> usize
+    ensures { result ≡ min (bytes_up tsn (drop from loose.now)) (2 ^ 64 - 1) }
 {
     let mut total = 0usize;
     let mut last = tsn;
-    for chunk in chunks {
+    let mut place = from;
+    while place < loose.len() {
+        let chunk = loose.look(place, turns);
         if chunk.tsn != last.wrapping_add(1) {
             return total;
         }
@@ -88,6 +81,19 @@ fn bytes_up(chunks: &[ChunkPayloadData], tsn: u32) -> usize
             return total;
         }
         last = chunk.tsn;
+        place += 1;
     }
     total
+}
+
+/// How many bytes the first fragments carry, or the greatest number where they are more.
+pub(crate) fn bytes_of_front(loose: &Loose, count: usize, turns: &mut Turns) -> usize
+    requires { count ≤ length loose.now }
+    ensures { result ≡ min (bytes_of (take count loose.now)) (2 ^ 64 - 1) }
+{
+    let mut len = 0usize;
+    for place in 0..count {
+        len = len.saturating_add(loose.look(place, turns).user_data.len());
+    }
+    len
 }

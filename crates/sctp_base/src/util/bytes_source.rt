@@ -65,10 +65,10 @@ pub struct ByteSlice<'a> {
 }
 
 impl<'a> ByteSlice<'a> {
-    pub fn from_slice(data: &'a [u8]) -> Self
-        ensures { result.data.now ≡ data.now }
+    pub fn from_slice(slice: &'a [u8]) -> Self
+        ensures { result.data.now ≡ slice.now }
     {
-        ByteSlice { data }
+        ByteSlice { data: slice }
     }
 }
 

@@ -3,18 +3,16 @@
 ghost use Rattle.std.specs.Prelude.{◌≡◌, ◌<◌, ◌≤◌, ◌+◌, ◌-◌, ◌^◌, ℕ, Bool, true, None, Some, List, OnErr, IfOk, IsOkUnless, length};
 ghost use Rattle.std.specs.List.{list_any};
 ghost use Rattle.sctp_base.specs.declared.error.Error.TheVariants.{ErrOutOfMemory};
-ghost use Rattle.sctp_lists.specs.Lists.{change_where};
 ghost use Rattle.sctp_queues.specs.Outbound.{Outbound, with_inflight};
 ghost use Rattle.sctp_model.specs.World.{World};
 ghost use Rattle.sctp_ties.specs.Tied.{IsInFlight};
-ghost use Rattle.sctp_link.specs.declared.lane.Lane.{Lane};
-ghost use Rattle.sctp_link.specs.Linked.{has_number};
-ghost use Rattle.sctp_link.specs.Acking.{Acks, IsAcking, and_one, and_run, and_blocks, in_block, less_by};
+ghost use Rattle.sctp_link.specs.declared.open_stream.OpenStream.{OpenStream};
+ghost use Rattle.sctp_link.specs.Acking.{Acks, IsAcking, and_one, and_run, and_blocks, in_block};
 
 use super::Link;
+use super::open_streams::OpenStreams;
 use crate::datagram::read_sack;
 use crate::event::{LinkRefusal, Reply};
-use crate::lane::Lane;
 use crate::record::{Kind, Slot};
 use sctp_base::error::Result;
 use sctp_base::util::Checksum;
@@ -24,7 +22,7 @@ use sctp_queues::outbound_queue::OutboundQueue;
 impl<C: Checksum + Drop> Link<C> {
     ghost use Rattle.sctp_model.specs.Steps.{IsRight, refusal_of};
     ghost use Rattle.sctp_model.specs.declared.event.Event.TheVariants as E;
-    ghost use Rattle.sctp_link.specs.Replies.{told};
+    ghost use Rattle.sctp_link.specs.Replies.{reply_of};
 
     pub(super) fn refusal_acked(&self, k: u64) -> Option<LinkRefusal>
         ensures { result ≡ refusal_of self.now.world (E.Acked k) }
@@ -40,7 +38,7 @@ impl<C: Checksum + Drop> Link<C> {
 
     pub(super) fn acked(&mut self, k: u64) -> Result<Reply>
         requires { refusal_of self.old.world (E.Acked k) ≡ None }
-        ensures ok { IfOk result (λ reply. IsRight self.old.world (E.Acked k) (told reply) self.new.world) }
+        ensures ok { IfOk result (λ reply. IsRight self.old.world (E.Acked k) (reply_of reply) self.new.world) }
         ensures checksum { self.new.checksum ≡ self.old.checksum }
         ensures err { OnErr result (self.new.world ≡ self.old.world) }
         ensures memory { IsOkUnless result ErrOutOfMemory }
@@ -53,7 +51,7 @@ impl<C: Checksum + Drop> Link<C> {
         let before = self.outbound.inflight_bytes();
         acknowledge_run(
             &mut self.slots,
-            &mut self.lanes,
+            &mut self.open_streams,
             &mut self.outbound,
             self.first_tsn,
             self.taken,
@@ -61,7 +59,7 @@ impl<C: Checksum + Drop> Link<C> {
         );
         acknowledge_blocks(
             &mut self.slots,
-            &mut self.lanes,
+            &mut self.open_streams,
             &mut self.outbound,
             self.first_tsn,
             cumulative,
@@ -74,30 +72,17 @@ impl<C: Checksum + Drop> Link<C> {
     }
 }
 
-/// Takes bytes off the amount of a stream, where it is open.
-fn release(lanes: &mut [Lane], stream: u16, bytes: usize)
-    requires { bytes < 2 ^ 31 }
-    ensures { lanes.new ≡ change_where (has_number stream) (less_by bytes) lanes.old }
-{
-    for place in 0..lanes.len() {
-        if lanes[place].state.stream_identifier() != stream {
-            continue;
-        }
-        lanes[place].state.on_buffer_released(bytes as i64);
-    }
-}
-
 /// Acknowledges the slot at a place: what it has in flight leaves, and its stream has so much less.
 fn acknowledge(
     slots: &mut [Slot],
-    lanes: &mut [Lane],
+    open_streams: &mut OpenStreams,
     outbound: &mut OutboundQueue,
     first_tsn: u32,
     place: usize,
 )
     requires place { place < length slots.old }
-    requires known { (w : World) × (first : List Lane) × (queue : Outbound) × (acked : ℕ → Bool) × Acks first_tsn w × IsAcking w first queue acked slots.old lanes.old outbound.old }
-    ensures { (w : World) (first : List Lane) (queue : Outbound) (acked : ℕ → Bool) → Acks first_tsn w → IsAcking w first queue acked slots.old lanes.old outbound.old → IsAcking w first queue (and_one acked place) slots.new lanes.new outbound.new }
+    requires known { (w : World) × (first : List OpenStream) × (queue : Outbound) × (acked : ℕ → Bool) × Acks first_tsn w × IsAcking w first queue acked slots.old open_streams.old outbound.old }
+    ensures { (w : World) (first : List OpenStream) (queue : Outbound) (acked : ℕ → Bool) → Acks first_tsn w → IsAcking w first queue acked slots.old open_streams.old outbound.old → IsAcking w first queue (and_one acked place) slots.new open_streams.new outbound.new }
 {
     slots[place].acknowledged = true;
     let tsn = first_tsn.wrapping_add(place as u32);
@@ -107,32 +92,32 @@ fn acknowledge(
     let stream = chunk.stream_identifier;
     let bytes = chunk.user_data.len();
     outbound.mark_as_acked(tsn);
-    release(lanes, stream, bytes);
+    open_streams.release(stream, bytes);
 }
 
 /// Acknowledges the slots from one place to another, if there are any.
 fn acknowledge_run(
     slots: &mut [Slot],
-    lanes: &mut [Lane],
+    open_streams: &mut OpenStreams,
     outbound: &mut OutboundQueue,
     first_tsn: u32,
     from: usize,
     to: usize,
 )
     requires within { from < to → to ≤ length slots.old }
-    requires known { (w : World) × (first : List Lane) × (queue : Outbound) × (acked : ℕ → Bool) × Acks first_tsn w × IsAcking w first queue acked slots.old lanes.old outbound.old }
-    ensures acked { (w : World) (first : List Lane) (queue : Outbound) (acked : ℕ → Bool) → Acks first_tsn w → IsAcking w first queue acked slots.old lanes.old outbound.old → IsAcking w first queue (and_run acked from to) slots.new lanes.new outbound.new }
+    requires known { (w : World) × (first : List OpenStream) × (queue : Outbound) × (acked : ℕ → Bool) × Acks first_tsn w × IsAcking w first queue acked slots.old open_streams.old outbound.old }
+    ensures acked { (w : World) (first : List OpenStream) (queue : Outbound) (acked : ℕ → Bool) → Acks first_tsn w → IsAcking w first queue acked slots.old open_streams.old outbound.old → IsAcking w first queue (and_run acked from to) slots.new open_streams.new outbound.new }
     ensures count { length slots.new ≡ length slots.old }
 {
     for place in from..to {
-        acknowledge(slots, lanes, outbound, first_tsn, place);
+        acknowledge(slots, open_streams, outbound, first_tsn, place);
     }
 }
 
 /// Acknowledges the slots that gap blocks report, by their distances from the cumulative count.
 fn acknowledge_blocks(
     slots: &mut [Slot],
-    lanes: &mut [Lane],
+    open_streams: &mut OpenStreams,
     outbound: &mut OutboundQueue,
     first_tsn: u32,
     cumulative: usize,
@@ -140,13 +125,13 @@ fn acknowledge_blocks(
 )
     requires short { cumulative < 2 ^ 32 }
     requires within { (k : ℕ) → list_any (in_block cumulative k) blocks.now ≡ true → k < length slots.old }
-    requires known { (w : World) × (first : List Lane) × (queue : Outbound) × (acked : ℕ → Bool) × Acks first_tsn w × IsAcking w first queue acked slots.old lanes.old outbound.old }
-    ensures { (w : World) (first : List Lane) (queue : Outbound) (acked : ℕ → Bool) → Acks first_tsn w → IsAcking w first queue acked slots.old lanes.old outbound.old → IsAcking w first queue (and_blocks acked cumulative blocks.now) slots.new lanes.new outbound.new }
+    requires known { (w : World) × (first : List OpenStream) × (queue : Outbound) × (acked : ℕ → Bool) × Acks first_tsn w × IsAcking w first queue acked slots.old open_streams.old outbound.old }
+    ensures { (w : World) (first : List OpenStream) (queue : Outbound) (acked : ℕ → Bool) → Acks first_tsn w → IsAcking w first queue acked slots.old open_streams.old outbound.old → IsAcking w first queue (and_blocks acked cumulative blocks.now) slots.new open_streams.new outbound.new }
 {
     for block in blocks {
         let from = (cumulative + block.start as usize).saturating_sub(1);
         let to = cumulative + block.end as usize;
-        acknowledge_run(slots, lanes, outbound, first_tsn, from, to);
+        acknowledge_run(slots, open_streams, outbound, first_tsn, from, to);
     }
 }
 

@@ -18,10 +18,10 @@ const MAX_SACK_ENTRIES: usize = 16379;
 impl<C: Checksum + Drop> Link<C> {
     ghost use Rattle.sctp_model.specs.Steps.{IsRight, refusal_of};
     ghost use Rattle.sctp_model.specs.declared.event.Event.TheVariants as E;
-    ghost use Rattle.sctp_link.specs.Replies.{told};
+    ghost use Rattle.sctp_link.specs.Replies.{reply_of};
 
     pub(super) fn ack(&mut self, credit: u32) -> Result<Reply>
-        ensures ok { IfOk result (λ reply. IsRight self.old.world (E.Ack credit) (told reply) self.new.world) }
+        ensures ok { IfOk result (λ reply. IsRight self.old.world (E.Ack credit) (reply_of reply) self.new.world) }
         ensures checksum { self.new.checksum ≡ self.old.checksum }
         ensures err { OnErr result (self.new.world ≡ self.old.world) }
         ensures memory { IsOkUnless result ErrOutOfMemory }

@@ -4,7 +4,7 @@ ghost use Rattle.std.specs.Prelude.{◌≡◌, ◌==◌, ℕ, None, Some, true, 
 ghost use Rattle.sctp_queues.specs.Payload.{Payload};
 
 use super::Link;
-use crate::lane::{Lane, lane_at};
+use crate::open_stream::OpenStream;
 use crate::stream::DataChannelStats;
 use sctp_base::util::Checksum;
 use sctp_queues::outbound_queue::OutboundQueue;
@@ -28,7 +28,7 @@ impl<C: Checksum + Drop> Link<C> {
     ghost use Rattle.sctp_model.specs.Queues.{pending_of, in_flight_of, filter_of};
     ghost use Rattle.sctp_ties.specs.Holds.{reassembly_of};
     ghost use Rattle.sctp_ties.specs.Tied.{shown, in_flight_shown, filter_held};
-    ghost use Rattle.sctp_link.specs.Linked.{IsLane, stats_of, ledger_of};
+    ghost use Rattle.sctp_link.specs.Linked.{IsOpenStream, stats_of, ledger_of};
 
     /// The bytes written, and what became of them.
     pub fn ledger(&self) -> Ledger
@@ -51,20 +51,20 @@ impl<C: Checksum + Drop> Link<C> {
     pub fn buffered_amount(&self, stream: u16) -> Option<u64>
         ensures { result ≡ buffered_amount self.now.world stream }
     {
-        let Some(lane) = self.lane_of(stream) else {
+        let Some(open_stream) = self.find_stream(stream) else {
             return None;
         };
-        Some(lane.state.buffered_amount() as u64)
+        Some(open_stream.state.buffered_amount() as u64)
     }
 
     /// The counters of an open stream.
     pub fn stats(&self, stream: u16) -> Option<DataChannelStats>
         ensures { result ≡ option_map stats_of (counters_of self.now.world stream) }
     {
-        let Some(lane) = self.lane_of(stream) else {
+        let Some(open_stream) = self.find_stream(stream) else {
             return None;
         };
-        Some(lane.state.stats())
+        Some(open_stream.state.stats())
     }
 
     /// What waits to be sent and what is in flight.
@@ -84,21 +84,21 @@ impl<C: Checksum + Drop> Link<C> {
 
     /// What came on an open stream and was not read.
     pub fn reassembly(&self, stream: u16) -> Option<&ReassemblyQueue>
-        ensures { MatchOption result (is_open self.now.world stream ≡ false) (λ q. q.now.held ≡ reassembly_of self.now.world stream) }
+        ensures { MatchOption result (is_open self.now.world stream ≡ false) (λ q. (q.now.held ≡ reassembly_of self.now.world stream) × (q.now.si ≡ stream) × (q.now.max_message_size ≡ self.now.world.setup.largest)) }
     {
-        let Some(lane) = self.lane_of(stream) else {
+        let Some(open_stream) = self.find_stream(stream) else {
             return None;
         };
-        Some(lane.state.reassembly_queue())
+        Some(open_stream.state.reassembly_queue())
     }
 
     // What is kept of an open stream.
-    fn lane_of(&self, stream: u16) -> Option<&Lane>
-        ensures { MatchOption result (is_open self.now.world stream ≡ false) (λ l. (is_open self.now.world stream ≡ true) × (l.now.state.stream_identifier ≡ stream) × IsLane self.now.world l.now) }
+    fn find_stream(&self, stream: u16) -> Option<&OpenStream>
+        ensures { MatchOption result (is_open self.now.world stream ≡ false) (λ l. (is_open self.now.world stream ≡ true) × (l.now.state.stream_identifier ≡ stream) × IsOpenStream self.now.world l.now) }
     {
-        let Some(at) = lane_at(&self.lanes, stream) else {
+        let Some(at) = self.open_streams.place_of(stream) else {
             return None;
         };
-        Some(&self.lanes[at])
+        Some(&self.open_streams.items[at])
     }
 }

@@ -11,7 +11,6 @@ ghost use Rattle.sctp_queues.specs.Window;
 use super::{Link, put};
 use crate::datagram::read_data;
 use crate::event::{LinkRefusal, Reply};
-use crate::lane::{Lane, lane_at};
 use crate::record::Kind;
 use sctp_base::error::Result;
 use sctp_base::util::{Checksum, sna32lte};
@@ -28,7 +27,7 @@ impl<C: Checksum + Drop> Link<C> {
     ghost use Rattle.sctp_model.specs.Changes.{slot_received};
     ghost use Rattle.sctp_model.specs.Steps.{IsRight, refusal_of, is_for_receiver, arrival_fits};
     ghost use Rattle.sctp_model.specs.declared.event.Event.TheVariants as E;
-    ghost use Rattle.sctp_link.specs.Replies.{told};
+    ghost use Rattle.sctp_link.specs.Replies.{reply_of};
 
     pub(super) fn refusal_arrive(&self, k: u64) -> Option<LinkRefusal>
         ensures { result ≡ refusal_of self.now.world (E.Arrive k) }
@@ -77,19 +76,19 @@ impl<C: Checksum + Drop> Link<C> {
         ensures low { result.0 ≡ least (next_of self.now.world stream) (map (index_of self.now.world) (held_on self.now.world stream)) }
         ensures high { result.1 ≡ greatest (next_of self.now.world stream) (map (index_of self.now.world) (held_on self.now.world stream)) }
     {
-        let Some(at) = lane_at(&self.lanes, stream) else {
+        let Some(at) = self.open_streams.place_of(stream) else {
             unreachable!()
         };
-        let lane = &self.lanes[at];
-        let held = lane.state.reassembly_queue().ordered();
+        let open_stream = &self.open_streams.items[at];
+        let held = open_stream.state.reassembly_queue().ordered();
         let Some(first) = held.front() else {
-            return (lane.next, lane.next);
+            return (open_stream.next, open_stream.next);
         };
         let Some(last) = held.back() else {
-            return (lane.next, lane.next);
+            return (open_stream.next, open_stream.next);
         };
-        let low = lane.next.min(self.index_of(first));
-        let high = lane.next.max(self.index_of(last));
+        let low = open_stream.next.min(self.index_of(first));
+        let high = open_stream.next.max(self.index_of(last));
         (low, high)
     }
 
@@ -113,7 +112,7 @@ impl<C: Checksum + Drop> Link<C> {
 
     pub(super) fn arrive(&mut self, k: u64) -> Result<Reply>
         requires { refusal_of self.old.world (E.Arrive k) ≡ None }
-        ensures ok { IfOk result (λ reply. IsRight self.old.world (E.Arrive k) (told reply) self.new.world) }
+        ensures ok { IfOk result (λ reply. IsRight self.old.world (E.Arrive k) (reply_of reply) self.new.world) }
         ensures checksum { self.new.checksum ≡ self.old.checksum }
         ensures err { OnErr result (self.new.world ≡ self.old.world) }
         ensures memory { IsOkUnless result ErrOutOfMemory }
@@ -169,11 +168,11 @@ impl<C: Checksum + Drop> Link<C> {
         ensures memory { IsOkUnless result ErrOutOfMemory }
     {
         let number = self.slots[place].message;
-        let Some(at) = lane_at(&self.lanes, chunk.stream_identifier) else {
+        let Some(at) = self.open_streams.place_of(chunk.stream_identifier) else {
             unreachable!()
         };
         self.filter.reserve(1)?;
-        self.lanes[at].keep(&chunk, number)?;
+        self.open_streams.items[at].keep(&chunk, number)?;
         self.cumulative_tsn = note(&mut self.filter, chunk, self.cumulative_tsn);
         self.slots[place].arrived = true;
         Ok(())
@@ -181,13 +180,13 @@ impl<C: Checksum + Drop> Link<C> {
 
     pub(super) fn read(&mut self, stream: u16) -> Reply
         requires { refusal_of self.old.world (E.Read stream) ≡ None }
-        ensures right { IsRight self.old.world (E.Read stream) (told result) self.new.world }
+        ensures right { IsRight self.old.world (E.Read stream) (reply_of result) self.new.world }
         ensures checksum { self.new.checksum ≡ self.old.checksum }
     {
-        let Some(at) = lane_at(&self.lanes, stream) else {
+        let Some(at) = self.open_streams.place_of(stream) else {
             unreachable!()
         };
-        let Some(chunks) = self.lanes[at].read() else {
+        let Some(chunks) = self.open_streams.items[at].read() else {
             return Reply::Nothing;
         };
         let place = first_tsn(&chunks).wrapping_sub(self.first_tsn) as usize;
@@ -195,7 +194,12 @@ impl<C: Checksum + Drop> Link<C> {
         let message = &mut self.messages[number];
         message.read = true;
         let ppi = message.ppi;
-        self.lanes[at].finish_read(message.ordered, message.before, ppi, message.bytes.len());
+        self.open_streams.items[at].finish_read(
+            message.ordered,
+            message.before,
+            ppi,
+            message.bytes.len(),
+        );
         Reply::Message {
             stream,
             ppi,

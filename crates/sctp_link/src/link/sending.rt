@@ -15,10 +15,10 @@ use sctp_chunks::chunk::chunk_kind::ChunkKind;
 impl<C: Checksum + Drop> Link<C> {
     ghost use Rattle.sctp_model.specs.Steps.{IsRight, refusal_of};
     ghost use Rattle.sctp_model.specs.declared.event.Event.TheVariants as E;
-    ghost use Rattle.sctp_link.specs.Replies.{told};
+    ghost use Rattle.sctp_link.specs.Replies.{reply_of};
 
     pub(super) fn send(&mut self, now: u64) -> Result<Reply>
-        ensures ok { IfOk result (λ reply. IsRight self.old.world (E.Send now) (told reply) self.new.world) }
+        ensures ok { IfOk result (λ reply. IsRight self.old.world (E.Send now) (reply_of reply) self.new.world) }
         ensures checksum { self.new.checksum ≡ self.old.checksum }
         ensures err { OnErr result (self.new.world ≡ self.old.world) }
         ensures memory { IsOkUnless result ErrOutOfMemory }
@@ -65,7 +65,7 @@ impl<C: Checksum + Drop> Link<C> {
 
     pub(super) fn resend(&mut self, tsn: u32) -> Result<Reply>
         requires { refusal_of self.old.world (E.Resend tsn) ≡ None }
-        ensures ok { IfOk result (λ reply. IsRight self.old.world (E.Resend tsn) (told reply) self.new.world) }
+        ensures ok { IfOk result (λ reply. IsRight self.old.world (E.Resend tsn) (reply_of reply) self.new.world) }
         ensures checksum { self.new.checksum ≡ self.old.checksum }
         ensures err { OnErr result (self.new.world ≡ self.old.world) }
         ensures memory { IsOkUnless result ErrOutOfMemory }

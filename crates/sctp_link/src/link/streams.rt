@@ -4,12 +4,12 @@ ghost use Rattle.std.specs.Prelude.{◌≡◌, ◌<◌, ◌≤◌, ◌+◌, ◌-
 ghost use Rattle.sctp_base.specs.declared.error.Error.TheVariants.{ErrOutOfMemory};
 ghost use Rattle.sctp_lists.specs.Lists.{pieces};
 ghost use Rattle.sctp_queues.specs.Pending.{reserved};
-ghost use Rattle.sctp_link.specs.Lanes.{start_from};
+ghost use Rattle.sctp_link.specs.OpenStreams.{start_from};
 ghost use Rattle.sctp_link.specs.declared.record.Message.{Message};
 
 use super::{Link, put};
 use crate::event::{LinkRefusal, Reply};
-use crate::lane::{Lane, lane_at};
+use crate::open_stream::OpenStream;
 use crate::record::Message;
 use bytes::Bytes;
 use sctp_base::error::Result;
@@ -20,22 +20,22 @@ use sctp_queues::outbound_queue::OutboundQueue;
 impl<C: Checksum + Drop> Link<C> {
     ghost use Rattle.sctp_model.specs.Steps.{IsRight, refusal_of};
     ghost use Rattle.sctp_model.specs.declared.event.Event.TheVariants as E;
-    ghost use Rattle.sctp_link.specs.Replies.{told};
+    ghost use Rattle.sctp_link.specs.Replies.{reply_of};
 
     pub(super) fn open(&mut self, stream: u16) -> Result<Reply>
         requires { refusal_of self.old.world (E.Open stream) ≡ None }
-        ensures ok { IfOk result (λ reply. IsRight self.old.world (E.Open stream) (told reply) self.new.world) }
+        ensures ok { IfOk result (λ reply. IsRight self.old.world (E.Open stream) (reply_of reply) self.new.world) }
         ensures checksum { self.new.checksum ≡ self.old.checksum }
         ensures err { OnErr result (self.new.world ≡ self.old.world) }
         ensures memory { IsOkUnless result ErrOutOfMemory }
     {
-        let lane = Lane::new(
+        let opened = OpenStream::new(
             self.alloc,
             stream,
             self.fragment_size,
             self.max_message_size,
         );
-        self.lanes.push(lane)?;
+        self.open_streams.push(opened)?;
         Ok(Reply::Opened)
     }
 
@@ -47,13 +47,13 @@ impl<C: Checksum + Drop> Link<C> {
         value: u32,
     ) -> Reply
         requires { refusal_of self.old.world (E.Mode stream unordered reliability value) ≡ None }
-        ensures right { IsRight self.old.world (E.Mode stream unordered reliability value) (told result) self.new.world }
+        ensures right { IsRight self.old.world (E.Mode stream unordered reliability value) (reply_of result) self.new.world }
         ensures checksum { self.new.checksum ≡ self.old.checksum }
     {
-        let Some(at) = lane_at(&self.lanes, stream) else {
+        let Some(at) = self.open_streams.place_of(stream) else {
             unreachable!()
         };
-        self.lanes[at]
+        self.open_streams.items[at]
             .state
             .set_reliability_params(unordered, reliability, value);
         Reply::Set
@@ -82,7 +82,7 @@ impl<C: Checksum + Drop> Link<C> {
         bytes: Bytes,
     ) -> Result<Reply>
         requires { refusal_of self.old.world (E.Write stream ppi bytes) ≡ None }
-        ensures ok { IfOk result (λ reply. IsRight self.old.world (E.Write stream ppi bytes) (told reply) self.new.world) }
+        ensures ok { IfOk result (λ reply. IsRight self.old.world (E.Write stream ppi bytes) (reply_of reply) self.new.world) }
         ensures checksum { self.new.checksum ≡ self.old.checksum }
         ensures err { OnErr result (self.new.world ≡ self.old.world) }
         ensures memory { IsOkUnless result ErrOutOfMemory }
@@ -93,15 +93,15 @@ impl<C: Checksum + Drop> Link<C> {
                 fragments: 0,
             });
         }
-        let Some(at) = lane_at(&self.lanes, stream) else {
+        let Some(at) = self.open_streams.place_of(stream) else {
             unreachable!()
         };
         let len = bytes.len();
         let count = fragments_in(len, self.fragment_size as usize);
         self.messages.reserve(1)?;
-        let ordered = self.lanes[at].is_ordered(ppi);
+        let ordered = self.open_streams.items[at].is_ordered(ppi);
         make_room(&mut self.outbound, ordered, count)?;
-        let (message, chunks) = self.lanes[at].write(self.alloc, ppi, bytes)?;
+        let (message, chunks) = self.open_streams.items[at].write(self.alloc, ppi, bytes)?;
         let _ = self.outbound.push(chunks);
         let number = self.messages.len() as u64;
         put(&mut self.messages, message);
@@ -114,7 +114,7 @@ impl<C: Checksum + Drop> Link<C> {
     }
 
     pub(super) fn start(&mut self, now: u64) -> Reply
-        ensures right { IsRight self.old.world (E.Start now) (told result) self.new.world }
+        ensures right { IsRight self.old.world (E.Start now) (reply_of result) self.new.world }
         ensures checksum { self.new.checksum ≡ self.old.checksum }
     {
         self.outbound.start_timed_messages(now);

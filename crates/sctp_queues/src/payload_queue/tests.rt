@@ -82,6 +82,9 @@ fn reports_blocks(rt: HostRuntime) -> std::result::Result<(), Fail> {
         (10, [15, 12, 13], "cumTSN=10,2-3,5-5"),
         (4294967294, [0, 1, 3], "cumTSN=4294967294,2-3,5-5"),
         (10, [65546, 65547, 65548], "cumTSN=10"),
+        (10, [65544, 65545, 65546], "cumTSN=10,65534-65535"),
+        (4294967293, [4294967295, 0, 1], "cumTSN=4294967293,2-4"),
+        (10, [11, 13, 15], "cumTSN=10,1-1,3-3,5-5"),
     ] {
         let queue = filled(rt.alloc(), cumulative_tsn, &tsns)?;
         let text = queue.get_gap_ack_blocks_string(rt.alloc(), cumulative_tsn)?;
@@ -90,6 +93,28 @@ fn reports_blocks(rt: HostRuntime) -> std::result::Result<(), Fail> {
     let blocks = filled(rt.alloc(), 10, &[12, 13, 15])?.get_gap_ack_blocks(rt.alloc(), 10)?;
     assert_eq!(rt; blocks.len(), 2);
     assert!(rt; blocks.first().is_some_and(|b| b.start == 2 && b.end == 3));
+    Ok(())
+}
+
+#[test]
+fn reports_runs_from_any_tsn(rt: HostRuntime) -> std::result::Result<(), Fail> {
+    let queue = filled(
+        rt.alloc(),
+        10,
+        &[12, 13, 14, 15, 16, 17, 18, 19, 20, 22, 23, 24, 25, 26, 28],
+    )?;
+    for (cumulative_tsn, want) in [
+        (10, "cumTSN=10,2-10,12-16,18-18"),
+        (15, "cumTSN=15,1-5,7-11,13-13"),
+        (21, "cumTSN=21,1-5,7-7"),
+        (28, "cumTSN=28"),
+        (4294967290, "cumTSN=4294967290,18-26,28-32,34-34"),
+        (2147483670, "cumTSN=2147483670"),
+        (4294901778, "cumTSN=4294901778,65530-65535"),
+    ] {
+        let text = queue.get_gap_ack_blocks_string(rt.alloc(), cumulative_tsn)?;
+        assert_eq!(rt; text.as_str(), want);
+    }
     Ok(())
 }
 

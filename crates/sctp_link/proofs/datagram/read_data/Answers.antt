@@ -1,4 +1,4 @@
-use Rattle.std.proofs.Common.{◌≡◌, ap, sym, subst, ◌∙◌}
+use Rattle.std.proofs.Common.{ap, sym, subst, ◌∙◌}
 use Rattle.sctp_chunks.specs.Kind.{wire_of, IsFreshKind}
 use Rattle.sctp_chunks.specs.Wire.{data_chunk}
 use Rattle.sctp_link.proofs.Packets.{data_kind, fresh_data}

@@ -1,8 +1,18 @@
-use Rattle.std.proofs.Common.{◌≡◌, ◌+◌, ◌-◌, ◌<◌, ◌≤◌, length, length-set, get_or, set, sym, ap, ◌∙◌, arith}
-use Rattle.std.proofs.lemmas.Bool.Decides.{nat_tests}
-use Rattle.sctp_lists.proofs.Edits.{changed_step, rewritten_step}
+use Rattle.std.proofs.Common.{◌<◌, ◌++◌, length, length-set, set, take, drop, refl, sym, ap, ◌∙◌, arith}
+use Rattle.std.proofs.lemmas.List.{take-append-drop}
+use Rattle.sctp_lists.proofs.Edits.{change_where-none, changed_step, rewritten_step}
 use Rattle.sctp_queues.specs.Pending.{is_to_start, with_deadline}
 use Rattle.sctp_queues.proofs.line.start_in.Goals as goal
+
+pub loop-place-init : goal.loop-place-init
+loop-place-init c =
+    let xs = c.args.chunks.now.items in
+    record {
+      changed = sym (ap (λ ys. ys ++ drop c.args.from xs) (change_where-none (is_to_start c.args.first_message_id) (with_deadline c.args.now) (take c.args.from xs) c.requires.before) ∙ take-append-drop c.args.from xs);
+      same_length = refl;
+      len = refl;
+      capacity = refl;
+    }
 
 pub loop-place-preserved : goal.loop-place-preserved
 loop-place-preserved c =

@@ -1,5 +1,4 @@
-use Rattle.std.proofs.Common.{◌≡◌, ◌<◌, ◌≤◌, ◌+◌, [], length, get_or, set, drop, ap, ◌∙◌, arith}
-use Rattle.std.specs.List.{concat}
+use Rattle.std.proofs.Common.{◌<◌, length, arith}
 use Rattle.sctp_base.proofs.SourceLemmas.{left_whole, left_part, joins_part}
 use Rattle.sctp_base.proofs.util.bytes_source.pop_from.Goals as goal
 

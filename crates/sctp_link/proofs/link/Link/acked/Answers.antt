@@ -29,14 +29,14 @@ acknowledge_run-requires-clause-within g c = λ some.
     let made = count-made (world_in c.self.inside) c.args.k there.0 (reported sum (state_in c.self.inside) l) there.1 in
     let few = (facts sum (state_in c.self.inside) l).few in
     let count = count-is c.self.inside.first_tsn there.0.cumulative c.in_ok-sack.sack.cumulative_tsn_ack l.setup.first (omega (arith, made, few)) (ap (λ s. s.cumulative_tsn_ack) says) in
-    let first = acking-first sum (state_in c.self.inside) c.self.inside.slots.items l refl in
+    let first = acking-first sum (state_in c.self.inside) c.self.inside.slots.items c.self.inside.open_streams l refl refl refl in
     omega (arith, count, made, first.count, ap length c.deref_mut.ensures.value)
 
 pub acknowledge_run-requires-clause-known : goal.acknowledge_run-requires-clause-known
 acknowledge_run-requires-clause-known g c =
     let sum = g.C.Checksum.sum c.self.inside.checksum in
-    let first = acking-first sum (state_in c.self.inside) c.self.inside.slots.items c.self.invariant refl in
-    rw (c.deref_mut.ensures.value, c.deref_mut-2.ensures.value) (world_in c.self.inside, c.self.inside.lanes.items, c.self.inside.outbound, acknowledged_at (world_in c.self.inside), acks sum (state_in c.self.inside) c.self.invariant, first)
+    let first = acking-first sum (state_in c.self.inside) c.self.inside.slots.items c.self.inside.open_streams c.self.invariant refl refl refl in
+    rw c.deref_mut.ensures.value (world_in c.self.inside, c.self.inside.open_streams.items.items, c.self.inside.outbound, acknowledged_at (world_in c.self.inside), acks sum (state_in c.self.inside) c.self.invariant, first)
 
 pub acknowledge_blocks-requires-clause-within : goal.acknowledge_blocks-requires-clause-within
 acknowledge_blocks-requires-clause-within g c = λ p any.
@@ -48,19 +48,18 @@ acknowledge_blocks-requires-clause-within g c = λ p any.
     let made = count-made (world_in c.self.inside) c.args.k there.0 (reported sum (state_in c.self.inside) l) there.1 in
     let few = (facts sum (state_in c.self.inside) l).few in
     let count = count-is c.self.inside.first_tsn there.0.cumulative c.in_ok-sack.sack.cumulative_tsn_ack l.setup.first (omega (arith, made, few)) (ap (λ s. s.cumulative_tsn_ack) says) in
-    let first = acking-first sum (state_in c.self.inside) c.self.inside.slots.items l refl in
+    let first = acking-first sum (state_in c.self.inside) c.self.inside.slots.items c.self.inside.open_streams l refl refl refl in
     let last = blocks-made (world_in c.self.inside) c.args.k there.0 (reported sum (state_in c.self.inside) l) there.1 p (sym (ap (λ t. list_any (in_block t p) c.deref.result.now) count ∙ ap (λ bs. list_any (in_block there.0.cumulative p) bs) (c.deref.ensures.value ∙ ap (λ s. s.gap_ack_blocks) says)) ∙ any) in
     let slots1 = with_items_is c.self.inside.slots c.acknowledge_run.new.slots (omega (arith, c.acknowledge_run.auto.slots, c.deref_mut.ensures.len)) in
-    omega (arith, last, first.count, ap length c.deref_mut.ensures.value, c.acknowledge_run.ensures.count, ap length (c.deref_mut-3.ensures.value ∙ slots1))
+    omega (arith, last, first.count, ap length c.deref_mut.ensures.value, c.acknowledge_run.ensures.count, ap length (c.deref_mut-2.ensures.value ∙ slots1))
 
 pub acknowledge_blocks-requires-clause-known : goal.acknowledge_blocks-requires-clause-known
 acknowledge_blocks-requires-clause-known g c =
     let sum = g.C.Checksum.sum c.self.inside.checksum in
-    let first = acking-first sum (state_in c.self.inside) c.self.inside.slots.items c.self.invariant refl in
-    let next = c.acknowledge_run.ensures.acked (world_in c.self.inside) c.self.inside.lanes.items c.self.inside.outbound (acknowledged_at (world_in c.self.inside)) (acks sum (state_in c.self.inside) c.self.invariant) (rw (c.deref_mut.ensures.value, c.deref_mut-2.ensures.value) first) in
+    let first = acking-first sum (state_in c.self.inside) c.self.inside.slots.items c.self.inside.open_streams c.self.invariant refl refl refl in
+    let next = c.acknowledge_run.ensures.acked (world_in c.self.inside) c.self.inside.open_streams.items.items c.self.inside.outbound (acknowledged_at (world_in c.self.inside)) (acks sum (state_in c.self.inside) c.self.invariant) (rw c.deref_mut.ensures.value first) in
     let slots1 = with_items_is c.self.inside.slots c.acknowledge_run.new.slots (omega (arith, c.acknowledge_run.auto.slots, c.deref_mut.ensures.len)) in
-    let lanes1 = with_items_is c.self.inside.lanes c.acknowledge_run.new.lanes (omega (arith, c.acknowledge_run.auto.lanes, c.deref_mut-2.ensures.len)) in
-    rw (c.deref_mut-3.ensures.value ∙ slots1, c.deref_mut-4.ensures.value ∙ lanes1) (world_in c.self.inside, c.self.inside.lanes.items, c.self.inside.outbound, and_run (acknowledged_at (world_in c.self.inside)) c.self.inside.taken (((c.in_ok-sack.sack.cumulative_tsn_ack + (2 ^ 32 - c.self.inside.first_tsn)) % 2 ^ 32 + 1) % 2 ^ 32), acks sum (state_in c.self.inside) c.self.invariant, next)
+    rw (c.deref_mut-2.ensures.value ∙ slots1) (world_in c.self.inside, c.self.inside.open_streams.items.items, c.self.inside.outbound, and_run (acknowledged_at (world_in c.self.inside)) c.self.inside.taken (((c.in_ok-sack.sack.cumulative_tsn_ack + (2 ^ 32 - c.self.inside.first_tsn)) % 2 ^ 32 + 1) % 2 ^ 32), acks sum (state_in c.self.inside) c.self.invariant, next)
 
 pub pop_run-requires : goal.pop_run-requires
 pop_run-requires g c =
@@ -86,15 +85,13 @@ invariant_of-self g c =
     let few = (facts sum (state_in c.self.inside) l).few in
     let count = count-is c.self.inside.first_tsn there.0.cumulative c.in_ok-sack.sack.cumulative_tsn_ack l.setup.first (omega (arith, made, few)) (ap (λ s. s.cumulative_tsn_ack) says) in
     let a = acks sum (state_in c.self.inside) l in
-    let first = acking-first sum (state_in c.self.inside) c.self.inside.slots.items l refl in
-    let next = c.acknowledge_run.ensures.acked (world_in c.self.inside) c.self.inside.lanes.items c.self.inside.outbound (acknowledged_at (world_in c.self.inside)) a (rw (c.deref_mut.ensures.value, c.deref_mut-2.ensures.value) first) in
+    let first = acking-first sum (state_in c.self.inside) c.self.inside.slots.items c.self.inside.open_streams l refl refl refl in
+    let next = c.acknowledge_run.ensures.acked (world_in c.self.inside) c.self.inside.open_streams.items.items c.self.inside.outbound (acknowledged_at (world_in c.self.inside)) a (rw c.deref_mut.ensures.value first) in
     let slots1 = with_items_is c.self.inside.slots c.acknowledge_run.new.slots (omega (arith, c.acknowledge_run.auto.slots, c.deref_mut.ensures.len)) in
-    let lanes1 = with_items_is c.self.inside.lanes c.acknowledge_run.new.lanes (omega (arith, c.acknowledge_run.auto.lanes, c.deref_mut-2.ensures.len)) in
-    let slots2 = with_items_is (with_items c.self.inside.slots c.acknowledge_run.new.slots) c.acknowledge_blocks.new.slots (omega (arith, c.acknowledge_blocks.auto.slots, c.deref_mut-3.ensures.len)) in
-    let lanes2 = with_items_is (with_items c.self.inside.lanes c.acknowledge_run.new.lanes) c.acknowledge_blocks.new.lanes (omega (arith, c.acknowledge_blocks.auto.lanes, c.deref_mut-4.ensures.len)) in
-    let last = c.acknowledge_blocks.ensures (world_in c.self.inside) c.self.inside.lanes.items c.self.inside.outbound (and_run (acknowledged_at (world_in c.self.inside)) c.self.inside.taken (((c.in_ok-sack.sack.cumulative_tsn_ack + (2 ^ 32 - c.self.inside.first_tsn)) % 2 ^ 32 + 1) % 2 ^ 32)) a (rw (c.deref_mut-3.ensures.value ∙ slots1, c.deref_mut-4.ensures.value ∙ lanes1) next) in
-    (taken-all sum (state_in c.self.inside) c.args.k there.0 l none there.1 _ c.deref.result.now (with_items (with_items c.self.inside.lanes c.acknowledge_run.new.lanes) c.acknowledge_blocks.new.lanes).items (with_items (with_items c.self.inside.slots c.acknowledge_run.new.slots) c.acknowledge_blocks.new.slots).items c.acknowledge_blocks.new.outbound c.pop_run.new.outbound c.max-self-inside.result
-    refl count (c.deref.ensures.value ∙ ap (λ s. s.gap_ack_blocks) says) c.max-self-inside.ensures (rw (slots2, lanes2) last) c.pop_run.ensures.popped c.pop_run.ensures.none c.pop_run.ensures.rest).linked
+    let slots2 = with_items_is (with_items c.self.inside.slots c.acknowledge_run.new.slots) c.acknowledge_blocks.new.slots (omega (arith, c.acknowledge_blocks.auto.slots, c.deref_mut-2.ensures.len)) in
+    let last = c.acknowledge_blocks.ensures (world_in c.self.inside) c.self.inside.open_streams.items.items c.self.inside.outbound (and_run (acknowledged_at (world_in c.self.inside)) c.self.inside.taken (((c.in_ok-sack.sack.cumulative_tsn_ack + (2 ^ 32 - c.self.inside.first_tsn)) % 2 ^ 32 + 1) % 2 ^ 32)) a (rw (c.deref_mut-2.ensures.value ∙ slots1) next) in
+    (taken-all sum (state_in c.self.inside) c.args.k there.0 l none there.1 _ c.deref.result.now c.acknowledge_blocks.new.open_streams (with_items (with_items c.self.inside.slots c.acknowledge_run.new.slots) c.acknowledge_blocks.new.slots).items c.acknowledge_blocks.new.outbound c.pop_run.new.outbound c.max-self-inside.result
+    refl count (c.deref.ensures.value ∙ ap (λ s. s.gap_ack_blocks) says) c.max-self-inside.ensures (rw slots2 last) c.pop_run.ensures.popped c.pop_run.ensures.none c.pop_run.ensures.rest).linked
 
 pub returns-clause-ok : goal.returns-clause-ok
 returns-clause-ok g c =
@@ -108,15 +105,13 @@ returns-clause-ok g c =
     let few = (facts sum (state_in c.self.inside) l).few in
     let count = count-is c.self.inside.first_tsn there.0.cumulative c.in_ok-sack.sack.cumulative_tsn_ack l.setup.first (omega (arith, made, few)) (ap (λ s. s.cumulative_tsn_ack) says) in
     let a = acks sum (state_in c.self.inside) l in
-    let first = acking-first sum (state_in c.self.inside) c.self.inside.slots.items l refl in
-    let next = c.acknowledge_run.ensures.acked (world_in c.self.inside) c.self.inside.lanes.items c.self.inside.outbound (acknowledged_at (world_in c.self.inside)) a (rw (c.deref_mut.ensures.value, c.deref_mut-2.ensures.value) first) in
+    let first = acking-first sum (state_in c.self.inside) c.self.inside.slots.items c.self.inside.open_streams l refl refl refl in
+    let next = c.acknowledge_run.ensures.acked (world_in c.self.inside) c.self.inside.open_streams.items.items c.self.inside.outbound (acknowledged_at (world_in c.self.inside)) a (rw c.deref_mut.ensures.value first) in
     let slots1 = with_items_is c.self.inside.slots c.acknowledge_run.new.slots (omega (arith, c.acknowledge_run.auto.slots, c.deref_mut.ensures.len)) in
-    let lanes1 = with_items_is c.self.inside.lanes c.acknowledge_run.new.lanes (omega (arith, c.acknowledge_run.auto.lanes, c.deref_mut-2.ensures.len)) in
-    let slots2 = with_items_is (with_items c.self.inside.slots c.acknowledge_run.new.slots) c.acknowledge_blocks.new.slots (omega (arith, c.acknowledge_blocks.auto.slots, c.deref_mut-3.ensures.len)) in
-    let lanes2 = with_items_is (with_items c.self.inside.lanes c.acknowledge_run.new.lanes) c.acknowledge_blocks.new.lanes (omega (arith, c.acknowledge_blocks.auto.lanes, c.deref_mut-4.ensures.len)) in
-    let last = c.acknowledge_blocks.ensures (world_in c.self.inside) c.self.inside.lanes.items c.self.inside.outbound (and_run (acknowledged_at (world_in c.self.inside)) c.self.inside.taken (((c.in_ok-sack.sack.cumulative_tsn_ack + (2 ^ 32 - c.self.inside.first_tsn)) % 2 ^ 32 + 1) % 2 ^ 32)) a (rw (c.deref_mut-3.ensures.value ∙ slots1, c.deref_mut-4.ensures.value ∙ lanes1) next) in
-    let taken = taken-all sum (state_in c.self.inside) c.args.k there.0 l none there.1 _ c.deref.result.now (with_items (with_items c.self.inside.lanes c.acknowledge_run.new.lanes) c.acknowledge_blocks.new.lanes).items (with_items (with_items c.self.inside.slots c.acknowledge_run.new.slots) c.acknowledge_blocks.new.slots).items c.acknowledge_blocks.new.outbound c.pop_run.new.outbound c.max-self-inside.result
-    refl count (c.deref.ensures.value ∙ ap (λ s. s.gap_ack_blocks) says) c.max-self-inside.ensures (rw (slots2, lanes2) last) c.pop_run.ensures.popped c.pop_run.ensures.none c.pop_run.ensures.rest in
+    let slots2 = with_items_is (with_items c.self.inside.slots c.acknowledge_run.new.slots) c.acknowledge_blocks.new.slots (omega (arith, c.acknowledge_blocks.auto.slots, c.deref_mut-2.ensures.len)) in
+    let last = c.acknowledge_blocks.ensures (world_in c.self.inside) c.self.inside.open_streams.items.items c.self.inside.outbound (and_run (acknowledged_at (world_in c.self.inside)) c.self.inside.taken (((c.in_ok-sack.sack.cumulative_tsn_ack + (2 ^ 32 - c.self.inside.first_tsn)) % 2 ^ 32 + 1) % 2 ^ 32)) a (rw (c.deref_mut-2.ensures.value ∙ slots1) next) in
+    let taken = taken-all sum (state_in c.self.inside) c.args.k there.0 l none there.1 _ c.deref.result.now c.acknowledge_blocks.new.open_streams (with_items (with_items c.self.inside.slots c.acknowledge_run.new.slots) c.acknowledge_blocks.new.slots).items c.acknowledge_blocks.new.outbound c.pop_run.new.outbound c.max-self-inside.result
+    refl count (c.deref.ensures.value ∙ ap (λ s. s.gap_ack_blocks) says) c.max-self-inside.ensures (rw slots2 last) c.pop_run.ensures.popped c.pop_run.ensures.none c.pop_run.ensures.rest in
     rw (← c.self.view_is) (record {
       right = ap R.Acked (c.saturating_sub-bytes.ensures ∙ ap (λ n. n - c.inflight_bytes.result) c.inflight_bytes-before.ensures ∙ ap (λ n. bytes_of c.self.inside.outbound.inflight.chunks - n) c.inflight_bytes.ensures ∙ taken.bytes);
       moves = taken.moves;

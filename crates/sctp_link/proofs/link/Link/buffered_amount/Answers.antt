@@ -1,4 +1,4 @@
-use Rattle.std.proofs.Common.{ap, sym, ◌∙◌, Some}
+use Rattle.std.proofs.Common.{ap, ◌∙◌, Some}
 use Rattle.sctp_link.proofs.Lending.{amount-open, amount-closed}
 use Rattle.sctp_link.proofs.link.Link.buffered_amount.Goals as goal
 
@@ -8,4 +8,4 @@ returns-in_default g c = amount-closed c.args.self.now.world c.args.stream c.in_
 pub returns : goal.returns
 returns g c =
     let e = c.in-Some.ensures in
-    ap (λ n. Some n) c.buffered_amount.ensures ∙ amount-open c.args.self.now.world c.args.stream c.in-Some.lane.now e.1 e.0 e.2
+    ap (λ n. Some n) c.buffered_amount.ensures ∙ amount-open c.args.self.now.world c.args.stream c.in-Some.open_stream.now e.1 e.0 e.2

@@ -14,9 +14,9 @@ use Rattle.sctp_model.specs.Changes.{mark_arrived}
 use Rattle.sctp_model.specs.Contents.{chunk_at}
 use Rattle.sctp_model.specs.Steps.{refusal_of}
 use Rattle.sctp_model.specs.declared.event.Event.TheVariants as E
-use Rattle.sctp_link.specs.declared.lane.Lane.{Lane}
+use Rattle.sctp_link.specs.declared.open_stream.OpenStream.{OpenStream}
 use Rattle.sctp_link.specs.Fields.{world_in, state_in}
-use Rattle.sctp_link.specs.Lanes.{Keeps}
+use Rattle.sctp_link.specs.OpenStreams.{Keeps}
 use Rattle.sctp_link.specs.Linked.{has_number}
 use Rattle.sctp_link.specs.Records.{slot_record, stream_record}
 use Rattle.sctp_link.proofs.Apart.{map-set}
@@ -45,7 +45,7 @@ unreachable-requires g c =
     let r : (k : ℕ) × (refusal_of w (E.Arrive k) ≡ None) × (slice_get w.network k ≡ Some (Data (p ∷ []))) = rw (← c.self.view_is) at c.requires.comes in
     let new : is_new w p ≡ true = rw (← c.self.view_is) at c.requires.fresh in
     let is : c.args.chunk ≡ chunk_at w p = rw (← c.self.view_is) at c.requires.chunk in
-    never-closed sum x c.self.invariant r.0 p r.2 refl (ap (λ y. find (has_number y.stream_identifier) c.self.inside.lanes.items) (sym is) ∙ ap (find (has_number c.args.chunk.stream_identifier)) (sym c.deref.ensures.value) ∙ c.in_default.ensures)
+    never-closed sum x c.self.invariant r.0 p r.2 refl (ap (λ y. find (has_number y.stream_identifier) c.self.inside.open_streams.items.items) (sym is) ∙ c.in_default.ensures)
 
 pub keep-requires-clause-size : goal.keep-requires-clause-size
 keep-requires-clause-size g c =
@@ -56,8 +56,8 @@ keep-requires-clause-size g c =
     let r : (k : ℕ) × (refusal_of w (E.Arrive k) ≡ None) × (slice_get w.network k ≡ Some (Data (p ∷ []))) = rw (← c.self.view_is) at c.requires.comes in
     let new : is_new w p ≡ true = rw (← c.self.view_is) at c.requires.fresh in
     let is : c.args.chunk ≡ chunk_at w p = rw (← c.self.view_is) at c.requires.chunk in
-    let lt : c.in-Some.at < length c.self.inside.lanes.items = rw (← c.deref.ensures.value) c.in-Some.ensures.0 in
-    let found : (d : Lane) → find (has_number (message_at w (message_of w p)).stream) c.self.inside.lanes.items ≡ Some (slice_index_or c.self.inside.lanes.items c.in-Some.at d) = λ d. ap (λ y. find (has_number y.stream_identifier) c.self.inside.lanes.items) (sym is) ∙ ap (find (has_number c.args.chunk.stream_identifier)) (sym c.deref.ensures.value) ∙ c.in-Some.ensures.1 d ∙ ap (λ ls. Some (slice_index_or ls c.in-Some.at d)) c.deref.ensures.value in
+    let lt : c.in-Some.at < length c.self.inside.open_streams.items.items = c.in-Some.ensures.0 in
+    let found : (d : OpenStream) → find (has_number (message_at w (message_of w p)).stream) c.self.inside.open_streams.items.items ≡ Some (slice_index_or c.self.inside.open_streams.items.items c.in-Some.at d) = λ d. ap (λ y. find (has_number y.stream_identifier) c.self.inside.open_streams.items.items) (sym is) ∙ c.in-Some.ensures.1 d in
     let was = c.index_mut.ensures.value in
     rw (is, was) (small sum x c.self.invariant r.0 p r.1 r.2 new c.in-Some.at c.index_mut.result.now refl lt found)
 
@@ -70,8 +70,8 @@ keep-requires-clause-stream g c =
     let r : (k : ℕ) × (refusal_of w (E.Arrive k) ≡ None) × (slice_get w.network k ≡ Some (Data (p ∷ []))) = rw (← c.self.view_is) at c.requires.comes in
     let new : is_new w p ≡ true = rw (← c.self.view_is) at c.requires.fresh in
     let is : c.args.chunk ≡ chunk_at w p = rw (← c.self.view_is) at c.requires.chunk in
-    let lt : c.in-Some.at < length c.self.inside.lanes.items = rw (← c.deref.ensures.value) c.in-Some.ensures.0 in
-    let found : (d : Lane) → find (has_number (message_at w (message_of w p)).stream) c.self.inside.lanes.items ≡ Some (slice_index_or c.self.inside.lanes.items c.in-Some.at d) = λ d. ap (λ y. find (has_number y.stream_identifier) c.self.inside.lanes.items) (sym is) ∙ ap (find (has_number c.args.chunk.stream_identifier)) (sym c.deref.ensures.value) ∙ c.in-Some.ensures.1 d ∙ ap (λ ls. Some (slice_index_or ls c.in-Some.at d)) c.deref.ensures.value in
+    let lt : c.in-Some.at < length c.self.inside.open_streams.items.items = c.in-Some.ensures.0 in
+    let found : (d : OpenStream) → find (has_number (message_at w (message_of w p)).stream) c.self.inside.open_streams.items.items ≡ Some (slice_index_or c.self.inside.open_streams.items.items c.in-Some.at d) = λ d. ap (λ y. find (has_number y.stream_identifier) c.self.inside.open_streams.items.items) (sym is) ∙ c.in-Some.ensures.1 d in
     let was = c.index_mut.ensures.value in
     rw (is, was) (its-stream sum x c.self.invariant r.0 p r.1 r.2 new c.in-Some.at c.index_mut.result.now refl lt found)
 
@@ -84,12 +84,12 @@ invariant_of-self-in_err-keep g c =
     let r : (k : ℕ) × (refusal_of w (E.Arrive k) ≡ None) × (slice_get w.network k ≡ Some (Data (p ∷ []))) = rw (← c.self.view_is) at c.requires.comes in
     let new : is_new w p ≡ true = rw (← c.self.view_is) at c.requires.fresh in
     let is : c.args.chunk ≡ chunk_at w p = rw (← c.self.view_is) at c.requires.chunk in
-    let lt : c.in-Some.at < length c.self.inside.lanes.items = rw (← c.deref.ensures.value) c.in-Some.ensures.0 in
-    let found : (d : Lane) → find (has_number (message_at w (message_of w p)).stream) c.self.inside.lanes.items ≡ Some (slice_index_or c.self.inside.lanes.items c.in-Some.at d) = λ d. ap (λ y. find (has_number y.stream_identifier) c.self.inside.lanes.items) (sym is) ∙ ap (find (has_number c.args.chunk.stream_identifier)) (sym c.deref.ensures.value) ∙ c.in-Some.ensures.1 d ∙ ap (λ ls. Some (slice_index_or ls c.in-Some.at d)) c.deref.ensures.value in
+    let lt : c.in-Some.at < length c.self.inside.open_streams.items.items = c.in-Some.ensures.0 in
+    let found : (d : OpenStream) → find (has_number (message_at w (message_of w p)).stream) c.self.inside.open_streams.items.items ≡ Some (slice_index_or c.self.inside.open_streams.items.items c.in-Some.at d) = λ d. ap (λ y. find (has_number y.stream_identifier) c.self.inside.open_streams.items.items) (sym is) ∙ c.in-Some.ensures.1 d in
     let was = c.index_mut.ensures.value in
     let kept = c.in_err-keep.ensures.err in
     linked-still sum x c.self.invariant c.in-Some.at c.index_mut.result.now c.keep.new.self refl lt
-    (kept.0 ∙ ap (λ (l : Lane). l.state) was) (kept.1 ∙ ap (λ (l : Lane). l.whole.items) was) (kept.2 ∙ ap (λ (l : Lane). l.ordered) was) (kept.3 ∙ ap (λ (l : Lane). l.next) was)
+    (kept.0 ∙ ap (λ (l : OpenStream). l.state) was) (kept.1 ∙ ap (λ (l : OpenStream). l.whole.items) was) (kept.2 ∙ ap (λ (l : OpenStream). l.ordered) was) (kept.3 ∙ ap (λ (l : OpenStream). l.next) was)
     c.reserve.new.self (ap (filter_held c.self.inside.cumulative_tsn) c.in_ok-reserve.ensures.ok)
 
 pub returns-in_err-keep-clause-err : goal.returns-in_err-keep-clause-err
@@ -101,13 +101,13 @@ returns-in_err-keep-clause-err g c =
     let r : (k : ℕ) × (refusal_of w (E.Arrive k) ≡ None) × (slice_get w.network k ≡ Some (Data (p ∷ []))) = rw (← c.self.view_is) at c.requires.comes in
     let new : is_new w p ≡ true = rw (← c.self.view_is) at c.requires.fresh in
     let is : c.args.chunk ≡ chunk_at w p = rw (← c.self.view_is) at c.requires.chunk in
-    let lt : c.in-Some.at < length c.self.inside.lanes.items = rw (← c.deref.ensures.value) c.in-Some.ensures.0 in
-    let found : (d : Lane) → find (has_number (message_at w (message_of w p)).stream) c.self.inside.lanes.items ≡ Some (slice_index_or c.self.inside.lanes.items c.in-Some.at d) = λ d. ap (λ y. find (has_number y.stream_identifier) c.self.inside.lanes.items) (sym is) ∙ ap (find (has_number c.args.chunk.stream_identifier)) (sym c.deref.ensures.value) ∙ c.in-Some.ensures.1 d ∙ ap (λ ls. Some (slice_index_or ls c.in-Some.at d)) c.deref.ensures.value in
+    let lt : c.in-Some.at < length c.self.inside.open_streams.items.items = c.in-Some.ensures.0 in
+    let found : (d : OpenStream) → find (has_number (message_at w (message_of w p)).stream) c.self.inside.open_streams.items.items ≡ Some (slice_index_or c.self.inside.open_streams.items.items c.in-Some.at d) = λ d. ap (λ y. find (has_number y.stream_identifier) c.self.inside.open_streams.items.items) (sym is) ∙ c.in-Some.ensures.1 d in
     let was = c.index_mut.ensures.value in
     let kept = c.in_err-keep.ensures.err in
-    let same : map stream_record (slice_set c.self.inside.lanes.items c.in-Some.at c.keep.new.self) ≡ (world_in c.self.inside).streams =
+    let same : map stream_record (slice_set c.self.inside.open_streams.items.items c.in-Some.at c.keep.new.self) ≡ (world_in c.self.inside).streams =
     streams-stay sum x c.self.invariant c.in-Some.at c.index_mut.result.now c.keep.new.self refl lt
-    (kept.0 ∙ ap (λ (l : Lane). l.state) was) (kept.1 ∙ ap (λ (l : Lane). l.whole.items) was) (kept.2 ∙ ap (λ (l : Lane). l.ordered) was) (kept.3 ∙ ap (λ (l : Lane). l.next) was)
+    (kept.0 ∙ ap (λ (l : OpenStream). l.state) was) (kept.1 ∙ ap (λ (l : OpenStream). l.whole.items) was) (kept.2 ∙ ap (λ (l : OpenStream). l.ordered) was) (kept.3 ∙ ap (λ (l : OpenStream). l.next) was)
     c.reserve.new.self (ap (filter_held c.self.inside.cumulative_tsn) c.in_ok-reserve.ensures.ok) in
     rw (← c.self.view_is) (on-err c.from_residual-in_err-keep.result _ (ap {B = World} (λ rs. record w { streams = rs }) same))
 
@@ -153,10 +153,10 @@ invariant_of-self-2 g c =
     let r : (k : ℕ) × (refusal_of w (E.Arrive k) ≡ None) × (slice_get w.network k ≡ Some (Data (p ∷ []))) = rw (← c.self.view_is) at c.requires.comes in
     let new : is_new w p ≡ true = rw (← c.self.view_is) at c.requires.fresh in
     let is : c.args.chunk ≡ chunk_at w p = rw (← c.self.view_is) at c.requires.chunk in
-    let lt : c.in-Some.at < length c.self.inside.lanes.items = rw (← c.deref.ensures.value) c.in-Some.ensures.0 in
-    let found : (d : Lane) → find (has_number (message_at w (message_of w p)).stream) c.self.inside.lanes.items ≡ Some (slice_index_or c.self.inside.lanes.items c.in-Some.at d) = λ d. ap (λ y. find (has_number y.stream_identifier) c.self.inside.lanes.items) (sym is) ∙ ap (find (has_number c.args.chunk.stream_identifier)) (sym c.deref.ensures.value) ∙ c.in-Some.ensures.1 d ∙ ap (λ ls. Some (slice_index_or ls c.in-Some.at d)) c.deref.ensures.value in
+    let lt : c.in-Some.at < length c.self.inside.open_streams.items.items = c.in-Some.ensures.0 in
+    let found : (d : OpenStream) → find (has_number (message_at w (message_of w p)).stream) c.self.inside.open_streams.items.items ≡ Some (slice_index_or c.self.inside.open_streams.items.items c.in-Some.at d) = λ d. ap (λ y. find (has_number y.stream_identifier) c.self.inside.open_streams.items.items) (sym is) ∙ c.in-Some.ensures.1 d in
     let was = c.index_mut.ensures.value in
-    let keeps : Keeps (chunk_at w p) c.index.result.now.message (slice_index_or c.self.inside.lanes.items c.in-Some.at c.index_mut.result.now) c.keep.new.self = rw (← is, ← was) c.in_ok-keep.ensures.ok in
+    let keeps : Keeps (chunk_at w p) c.index.result.now.message (slice_index_or c.self.inside.open_streams.items.items c.in-Some.at c.index_mut.result.now) c.keep.new.self = rw (← is, ← was) c.in_ok-keep.ensures.ok in
     let inside : p < length c.self.inside.slots.items = omega (arith, come-made sum x c.self.invariant r.0 p r.2, slots-made sum x c.self.invariant c.self.inside.slots.items c.self.inside.messages.items refl refl) in
     let number : c.index.result.now.message ≡ message_of w p = ap (λ (t : Slot). t.message) c.index.ensures ∙ sym (ap (λ t. t.message) (slot-raw sum x c.self.invariant c.self.inside.slots.items c.self.inside.messages.items refl refl p c.index.result.now inside)) in
     let slots = map-set slot_record mark_arrived c.self.inside.slots.items p (record c.index_mut-2.result.now { arrived = true }) c.index_mut-2.result.now inside (ap (λ (t : Slot). slot_record (record t { arrived = true })) c.index_mut-2.ensures.value) in
@@ -175,10 +175,10 @@ returns-clause-ok g c =
     let r : (k : ℕ) × (refusal_of w (E.Arrive k) ≡ None) × (slice_get w.network k ≡ Some (Data (p ∷ []))) = rw (← c.self.view_is) at c.requires.comes in
     let new : is_new w p ≡ true = rw (← c.self.view_is) at c.requires.fresh in
     let is : c.args.chunk ≡ chunk_at w p = rw (← c.self.view_is) at c.requires.chunk in
-    let lt : c.in-Some.at < length c.self.inside.lanes.items = rw (← c.deref.ensures.value) c.in-Some.ensures.0 in
-    let found : (d : Lane) → find (has_number (message_at w (message_of w p)).stream) c.self.inside.lanes.items ≡ Some (slice_index_or c.self.inside.lanes.items c.in-Some.at d) = λ d. ap (λ y. find (has_number y.stream_identifier) c.self.inside.lanes.items) (sym is) ∙ ap (find (has_number c.args.chunk.stream_identifier)) (sym c.deref.ensures.value) ∙ c.in-Some.ensures.1 d ∙ ap (λ ls. Some (slice_index_or ls c.in-Some.at d)) c.deref.ensures.value in
+    let lt : c.in-Some.at < length c.self.inside.open_streams.items.items = c.in-Some.ensures.0 in
+    let found : (d : OpenStream) → find (has_number (message_at w (message_of w p)).stream) c.self.inside.open_streams.items.items ≡ Some (slice_index_or c.self.inside.open_streams.items.items c.in-Some.at d) = λ d. ap (λ y. find (has_number y.stream_identifier) c.self.inside.open_streams.items.items) (sym is) ∙ c.in-Some.ensures.1 d in
     let was = c.index_mut.ensures.value in
-    let keeps : Keeps (chunk_at w p) c.index.result.now.message (slice_index_or c.self.inside.lanes.items c.in-Some.at c.index_mut.result.now) c.keep.new.self = rw (← is, ← was) c.in_ok-keep.ensures.ok in
+    let keeps : Keeps (chunk_at w p) c.index.result.now.message (slice_index_or c.self.inside.open_streams.items.items c.in-Some.at c.index_mut.result.now) c.keep.new.self = rw (← is, ← was) c.in_ok-keep.ensures.ok in
     let inside : p < length c.self.inside.slots.items = omega (arith, come-made sum x c.self.invariant r.0 p r.2, slots-made sum x c.self.invariant c.self.inside.slots.items c.self.inside.messages.items refl refl) in
     let number : c.index.result.now.message ≡ message_of w p = ap (λ (t : Slot). t.message) c.index.ensures ∙ sym (ap (λ t. t.message) (slot-raw sum x c.self.invariant c.self.inside.slots.items c.self.inside.messages.items refl refl p c.index.result.now inside)) in
     let slots = map-set slot_record mark_arrived c.self.inside.slots.items p (record c.index_mut-2.result.now { arrived = true }) c.index_mut-2.result.now inside (ap (λ (t : Slot). slot_record (record t { arrived = true })) c.index_mut-2.ensures.value) in

@@ -9,10 +9,10 @@ use Rattle.sctp_model.specs.Contents.{chunk_at}
 use Rattle.sctp_model.specs.Reply as R
 use Rattle.sctp_model.specs.Steps.{refusal_of}
 use Rattle.sctp_model.specs.declared.event.Event.TheVariants as E
-use Rattle.sctp_link.specs.declared.lane.Lane.{Lane}
+use Rattle.sctp_link.specs.declared.open_stream.OpenStream.{OpenStream}
 use Rattle.sctp_link.specs.declared.record.Message.{Message}
 use Rattle.sctp_link.specs.Fields.{world_in, state_in}
-use Rattle.sctp_link.specs.Lanes.{with_read_stats}
+use Rattle.sctp_link.specs.OpenStreams.{with_read_stats}
 use Rattle.sctp_link.specs.Linked.{has_number}
 use Rattle.sctp_link.specs.Records.{message_record}
 use Rattle.sctp_link.proofs.Apart.{map-set, map-set_same}
@@ -26,9 +26,9 @@ unreachable-requires g c =
     let sum = g.C.Checksum.sum c.self.inside.checksum in
     let x = state_in c.self.inside in
     let s = c.args.stream in
-    let lanes = c.self.inside.lanes.items in
+    let open_streams = c.self.inside.open_streams.items.items in
     let ok : refusal_of w (E.Read s) ≡ None = rw (← c.self.view_is) at c.requires in
-    never-shut w s lanes refl ok (ap (find (has_number s)) (sym c.deref.ensures.value) ∙ c.in_default.ensures)
+    never-shut w s open_streams refl ok (c.in_default.ensures)
 
 pub invariant_of-self : goal.invariant_of-self
 invariant_of-self g c =
@@ -36,15 +36,15 @@ invariant_of-self g c =
     let sum = g.C.Checksum.sum c.self.inside.checksum in
     let x = state_in c.self.inside in
     let s = c.args.stream in
-    let lanes = c.self.inside.lanes.items in
+    let open_streams = c.self.inside.open_streams.items.items in
     let at = c.in-Some.at in
     let d = c.index_mut.result.now in
-    let lt : at < length lanes = rw (← c.deref.ensures.value) c.in-Some.ensures.0 in
-    let found : (d : Lane) → find (has_number s) lanes ≡ Some (slice_index_or lanes at d) = λ d. ap (find (has_number s)) (sym c.deref.ensures.value) ∙ c.in-Some.ensures.1 d ∙ ap (λ ls. Some (slice_index_or ls at d)) c.deref.ensures.value in
-    let rest : c.read.new.self ≡ record (slice_index_or lanes at d) { state = record (slice_index_or lanes at d).state { reassembly_queue = state_read (slice_index_or lanes at d).state.reassembly_queue } } =
-    c.read.ensures.rest ∙ ap (λ (l : Lane). record l { state = record l.state { reassembly_queue = state_read l.state.reassembly_queue } }) c.index_mut.ensures.value in
-    let e : message_read (slice_index_or lanes at d).state.reassembly_queue.held ≡ None =
-    ap (λ (l : Lane). message_read l.state.reassembly_queue.held) (sym c.index_mut.ensures.value) ∙ none-mapped (message_read d.state.reassembly_queue.held) c.in_default-read.ensures.message in
+    let lt : at < length open_streams = c.in-Some.ensures.0 in
+    let found : (d : OpenStream) → find (has_number s) open_streams ≡ Some (slice_index_or open_streams at d) = λ d. c.in-Some.ensures.1 d in
+    let rest : c.read.new.self ≡ record (slice_index_or open_streams at d) { state = record (slice_index_or open_streams at d).state { reassembly_queue = state_read (slice_index_or open_streams at d).state.reassembly_queue } } =
+    c.read.ensures.rest ∙ ap (λ (l : OpenStream). record l { state = record l.state { reassembly_queue = state_read l.state.reassembly_queue } }) c.index_mut.ensures.value in
+    let e : message_read (slice_index_or open_streams at d).state.reassembly_queue.held ≡ None =
+    ap (λ (l : OpenStream). message_read l.state.reassembly_queue.held) (sym c.index_mut.ensures.value) ∙ none-mapped (message_read d.state.reassembly_queue.held) c.in_default-read.ensures.message in
     linked-nothing sum x c.self.invariant s at d refl lt found e c.read.new.self rest
 
 pub returns-in_default-read-clause-right : goal.returns-in_default-read-clause-right
@@ -53,15 +53,15 @@ returns-in_default-read-clause-right g c =
     let sum = g.C.Checksum.sum c.self.inside.checksum in
     let x = state_in c.self.inside in
     let s = c.args.stream in
-    let lanes = c.self.inside.lanes.items in
+    let open_streams = c.self.inside.open_streams.items.items in
     let at = c.in-Some.at in
     let d = c.index_mut.result.now in
-    let lt : at < length lanes = rw (← c.deref.ensures.value) c.in-Some.ensures.0 in
-    let found : (d : Lane) → find (has_number s) lanes ≡ Some (slice_index_or lanes at d) = λ d. ap (find (has_number s)) (sym c.deref.ensures.value) ∙ c.in-Some.ensures.1 d ∙ ap (λ ls. Some (slice_index_or ls at d)) c.deref.ensures.value in
-    let rest : c.read.new.self ≡ record (slice_index_or lanes at d) { state = record (slice_index_or lanes at d).state { reassembly_queue = state_read (slice_index_or lanes at d).state.reassembly_queue } } =
-    c.read.ensures.rest ∙ ap (λ (l : Lane). record l { state = record l.state { reassembly_queue = state_read l.state.reassembly_queue } }) c.index_mut.ensures.value in
-    let e : message_read (slice_index_or lanes at d).state.reassembly_queue.held ≡ None =
-    ap (λ (l : Lane). message_read l.state.reassembly_queue.held) (sym c.index_mut.ensures.value) ∙ none-mapped (message_read d.state.reassembly_queue.held) c.in_default-read.ensures.message in
+    let lt : at < length open_streams = c.in-Some.ensures.0 in
+    let found : (d : OpenStream) → find (has_number s) open_streams ≡ Some (slice_index_or open_streams at d) = λ d. c.in-Some.ensures.1 d in
+    let rest : c.read.new.self ≡ record (slice_index_or open_streams at d) { state = record (slice_index_or open_streams at d).state { reassembly_queue = state_read (slice_index_or open_streams at d).state.reassembly_queue } } =
+    c.read.ensures.rest ∙ ap (λ (l : OpenStream). record l { state = record l.state { reassembly_queue = state_read l.state.reassembly_queue } }) c.index_mut.ensures.value in
+    let e : message_read (slice_index_or open_streams at d).state.reassembly_queue.held ≡ None =
+    ap (λ (l : OpenStream). message_read l.state.reassembly_queue.held) (sym c.index_mut.ensures.value) ∙ none-mapped (message_read d.state.reassembly_queue.held) c.in_default-read.ensures.message in
     rw (← c.self.view_is) (record { right = reply-nothing sum x c.self.invariant s at d refl lt found e; moves = world-nothing sum x c.self.invariant s at d refl lt found e c.read.new.self rest })
 
 pub first_tsn-requires : goal.first_tsn-requires
@@ -70,16 +70,16 @@ first_tsn-requires g c =
     let sum = g.C.Checksum.sum c.self.inside.checksum in
     let x = state_in c.self.inside in
     let s = c.args.stream in
-    let lanes = c.self.inside.lanes.items in
+    let open_streams = c.self.inside.open_streams.items.items in
     let at = c.in-Some.at in
     let d = c.index_mut.result.now in
-    let lt : at < length lanes = rw (← c.deref.ensures.value) c.in-Some.ensures.0 in
-    let found : (d : Lane) → find (has_number s) lanes ≡ Some (slice_index_or lanes at d) = λ d. ap (find (has_number s)) (sym c.deref.ensures.value) ∙ c.in-Some.ensures.1 d ∙ ap (λ ls. Some (slice_index_or ls at d)) c.deref.ensures.value in
-    let rest : c.read.new.self ≡ record (slice_index_or lanes at d) { state = record (slice_index_or lanes at d).state { reassembly_queue = state_read (slice_index_or lanes at d).state.reassembly_queue } } =
-    c.read.ensures.rest ∙ ap (λ (l : Lane). record l { state = record l.state { reassembly_queue = state_read l.state.reassembly_queue } }) c.index_mut.ensures.value in
+    let lt : at < length open_streams = c.in-Some.ensures.0 in
+    let found : (d : OpenStream) → find (has_number s) open_streams ≡ Some (slice_index_or open_streams at d) = λ d. c.in-Some.ensures.1 d in
+    let rest : c.read.new.self ≡ record (slice_index_or open_streams at d) { state = record (slice_index_or open_streams at d).state { reassembly_queue = state_read (slice_index_or open_streams at d).state.reassembly_queue } } =
+    c.read.ensures.rest ∙ ap (λ (l : OpenStream). record l { state = record l.state { reassembly_queue = state_read l.state.reassembly_queue } }) c.index_mut.ensures.value in
     let set = c.in-Some-read.chunks.set in
-    let e : message_read (slice_index_or lanes at d).state.reassembly_queue.held ≡ Some set =
-    ap (λ (l : Lane). message_read l.state.reassembly_queue.held) (sym c.index_mut.ensures.value) ∙ some-mapped (message_read d.state.reassembly_queue.held) c.in-Some-read.chunks c.in-Some-read.ensures.message in
+    let e : message_read (slice_index_or open_streams at d).state.reassembly_queue.held ≡ Some set =
+    ap (λ (l : OpenStream). message_read l.state.reassembly_queue.held) (sym c.index_mut.ensures.value) ∙ some-mapped (message_read d.state.reassembly_queue.held) c.in-Some-read.chunks c.in-Some-read.ensures.message in
     omega (arith, ap length (hands-begins sum x c.self.invariant s at d refl lt found set e).is)
 
 pub index-requires : goal.index-requires
@@ -88,16 +88,16 @@ index-requires g c =
     let sum = g.C.Checksum.sum c.self.inside.checksum in
     let x = state_in c.self.inside in
     let s = c.args.stream in
-    let lanes = c.self.inside.lanes.items in
+    let open_streams = c.self.inside.open_streams.items.items in
     let at = c.in-Some.at in
     let d = c.index_mut.result.now in
-    let lt : at < length lanes = rw (← c.deref.ensures.value) c.in-Some.ensures.0 in
-    let found : (d : Lane) → find (has_number s) lanes ≡ Some (slice_index_or lanes at d) = λ d. ap (find (has_number s)) (sym c.deref.ensures.value) ∙ c.in-Some.ensures.1 d ∙ ap (λ ls. Some (slice_index_or ls at d)) c.deref.ensures.value in
-    let rest : c.read.new.self ≡ record (slice_index_or lanes at d) { state = record (slice_index_or lanes at d).state { reassembly_queue = state_read (slice_index_or lanes at d).state.reassembly_queue } } =
-    c.read.ensures.rest ∙ ap (λ (l : Lane). record l { state = record l.state { reassembly_queue = state_read l.state.reassembly_queue } }) c.index_mut.ensures.value in
+    let lt : at < length open_streams = c.in-Some.ensures.0 in
+    let found : (d : OpenStream) → find (has_number s) open_streams ≡ Some (slice_index_or open_streams at d) = λ d. c.in-Some.ensures.1 d in
+    let rest : c.read.new.self ≡ record (slice_index_or open_streams at d) { state = record (slice_index_or open_streams at d).state { reassembly_queue = state_read (slice_index_or open_streams at d).state.reassembly_queue } } =
+    c.read.ensures.rest ∙ ap (λ (l : OpenStream). record l { state = record l.state { reassembly_queue = state_read l.state.reassembly_queue } }) c.index_mut.ensures.value in
     let set = c.in-Some-read.chunks.set in
-    let e : message_read (slice_index_or lanes at d).state.reassembly_queue.held ≡ Some set =
-    ap (λ (l : Lane). message_read l.state.reassembly_queue.held) (sym c.index_mut.ensures.value) ∙ some-mapped (message_read d.state.reassembly_queue.held) c.in-Some-read.chunks c.in-Some-read.ensures.message in
+    let e : message_read (slice_index_or open_streams at d).state.reassembly_queue.held ≡ Some set =
+    ap (λ (l : OpenStream). message_read l.state.reassembly_queue.held) (sym c.index_mut.ensures.value) ∙ some-mapped (message_read d.state.reassembly_queue.held) c.in-Some-read.chunks c.in-Some-read.ensures.message in
     let slots = c.self.inside.slots.items in
     let messages = c.self.inside.messages.items in
     let read = read-is sum x c.self.invariant s at d refl lt found set e in
@@ -114,16 +114,16 @@ index_mut-message-requires g c =
     let sum = g.C.Checksum.sum c.self.inside.checksum in
     let x = state_in c.self.inside in
     let s = c.args.stream in
-    let lanes = c.self.inside.lanes.items in
+    let open_streams = c.self.inside.open_streams.items.items in
     let at = c.in-Some.at in
     let d = c.index_mut.result.now in
-    let lt : at < length lanes = rw (← c.deref.ensures.value) c.in-Some.ensures.0 in
-    let found : (d : Lane) → find (has_number s) lanes ≡ Some (slice_index_or lanes at d) = λ d. ap (find (has_number s)) (sym c.deref.ensures.value) ∙ c.in-Some.ensures.1 d ∙ ap (λ ls. Some (slice_index_or ls at d)) c.deref.ensures.value in
-    let rest : c.read.new.self ≡ record (slice_index_or lanes at d) { state = record (slice_index_or lanes at d).state { reassembly_queue = state_read (slice_index_or lanes at d).state.reassembly_queue } } =
-    c.read.ensures.rest ∙ ap (λ (l : Lane). record l { state = record l.state { reassembly_queue = state_read l.state.reassembly_queue } }) c.index_mut.ensures.value in
+    let lt : at < length open_streams = c.in-Some.ensures.0 in
+    let found : (d : OpenStream) → find (has_number s) open_streams ≡ Some (slice_index_or open_streams at d) = λ d. c.in-Some.ensures.1 d in
+    let rest : c.read.new.self ≡ record (slice_index_or open_streams at d) { state = record (slice_index_or open_streams at d).state { reassembly_queue = state_read (slice_index_or open_streams at d).state.reassembly_queue } } =
+    c.read.ensures.rest ∙ ap (λ (l : OpenStream). record l { state = record l.state { reassembly_queue = state_read l.state.reassembly_queue } }) c.index_mut.ensures.value in
     let set = c.in-Some-read.chunks.set in
-    let e : message_read (slice_index_or lanes at d).state.reassembly_queue.held ≡ Some set =
-    ap (λ (l : Lane). message_read l.state.reassembly_queue.held) (sym c.index_mut.ensures.value) ∙ some-mapped (message_read d.state.reassembly_queue.held) c.in-Some-read.chunks c.in-Some-read.ensures.message in
+    let e : message_read (slice_index_or open_streams at d).state.reassembly_queue.held ≡ Some set =
+    ap (λ (l : OpenStream). message_read l.state.reassembly_queue.held) (sym c.index_mut.ensures.value) ∙ some-mapped (message_read d.state.reassembly_queue.held) c.in-Some-read.chunks c.in-Some-read.ensures.message in
     let slots = c.self.inside.slots.items in
     let messages = c.self.inside.messages.items in
     let read = read-is sum x c.self.invariant s at d refl lt found set e in
@@ -143,16 +143,16 @@ finish_read-requires g c =
     let sum = g.C.Checksum.sum c.self.inside.checksum in
     let x = state_in c.self.inside in
     let s = c.args.stream in
-    let lanes = c.self.inside.lanes.items in
+    let open_streams = c.self.inside.open_streams.items.items in
     let at = c.in-Some.at in
     let d = c.index_mut.result.now in
-    let lt : at < length lanes = rw (← c.deref.ensures.value) c.in-Some.ensures.0 in
-    let found : (d : Lane) → find (has_number s) lanes ≡ Some (slice_index_or lanes at d) = λ d. ap (find (has_number s)) (sym c.deref.ensures.value) ∙ c.in-Some.ensures.1 d ∙ ap (λ ls. Some (slice_index_or ls at d)) c.deref.ensures.value in
-    let rest : c.read.new.self ≡ record (slice_index_or lanes at d) { state = record (slice_index_or lanes at d).state { reassembly_queue = state_read (slice_index_or lanes at d).state.reassembly_queue } } =
-    c.read.ensures.rest ∙ ap (λ (l : Lane). record l { state = record l.state { reassembly_queue = state_read l.state.reassembly_queue } }) c.index_mut.ensures.value in
+    let lt : at < length open_streams = c.in-Some.ensures.0 in
+    let found : (d : OpenStream) → find (has_number s) open_streams ≡ Some (slice_index_or open_streams at d) = λ d. c.in-Some.ensures.1 d in
+    let rest : c.read.new.self ≡ record (slice_index_or open_streams at d) { state = record (slice_index_or open_streams at d).state { reassembly_queue = state_read (slice_index_or open_streams at d).state.reassembly_queue } } =
+    c.read.ensures.rest ∙ ap (λ (l : OpenStream). record l { state = record l.state { reassembly_queue = state_read l.state.reassembly_queue } }) c.index_mut.ensures.value in
     let set = c.in-Some-read.chunks.set in
-    let e : message_read (slice_index_or lanes at d).state.reassembly_queue.held ≡ Some set =
-    ap (λ (l : Lane). message_read l.state.reassembly_queue.held) (sym c.index_mut.ensures.value) ∙ some-mapped (message_read d.state.reassembly_queue.held) c.in-Some-read.chunks c.in-Some-read.ensures.message in
+    let e : message_read (slice_index_or open_streams at d).state.reassembly_queue.held ≡ Some set =
+    ap (λ (l : OpenStream). message_read l.state.reassembly_queue.held) (sym c.index_mut.ensures.value) ∙ some-mapped (message_read d.state.reassembly_queue.held) c.in-Some-read.chunks c.in-Some-read.ensures.message in
     let slots = c.self.inside.slots.items in
     let messages = c.self.inside.messages.items in
     let read = read-is sum x c.self.invariant s at d refl lt found set e in
@@ -175,16 +175,16 @@ invariant_of-self-2 g c =
     let sum = g.C.Checksum.sum c.self.inside.checksum in
     let x = state_in c.self.inside in
     let s = c.args.stream in
-    let lanes = c.self.inside.lanes.items in
+    let open_streams = c.self.inside.open_streams.items.items in
     let at = c.in-Some.at in
     let d = c.index_mut.result.now in
-    let lt : at < length lanes = rw (← c.deref.ensures.value) c.in-Some.ensures.0 in
-    let found : (d : Lane) → find (has_number s) lanes ≡ Some (slice_index_or lanes at d) = λ d. ap (find (has_number s)) (sym c.deref.ensures.value) ∙ c.in-Some.ensures.1 d ∙ ap (λ ls. Some (slice_index_or ls at d)) c.deref.ensures.value in
-    let rest : c.read.new.self ≡ record (slice_index_or lanes at d) { state = record (slice_index_or lanes at d).state { reassembly_queue = state_read (slice_index_or lanes at d).state.reassembly_queue } } =
-    c.read.ensures.rest ∙ ap (λ (l : Lane). record l { state = record l.state { reassembly_queue = state_read l.state.reassembly_queue } }) c.index_mut.ensures.value in
+    let lt : at < length open_streams = c.in-Some.ensures.0 in
+    let found : (d : OpenStream) → find (has_number s) open_streams ≡ Some (slice_index_or open_streams at d) = λ d. c.in-Some.ensures.1 d in
+    let rest : c.read.new.self ≡ record (slice_index_or open_streams at d) { state = record (slice_index_or open_streams at d).state { reassembly_queue = state_read (slice_index_or open_streams at d).state.reassembly_queue } } =
+    c.read.ensures.rest ∙ ap (λ (l : OpenStream). record l { state = record l.state { reassembly_queue = state_read l.state.reassembly_queue } }) c.index_mut.ensures.value in
     let set = c.in-Some-read.chunks.set in
-    let e : message_read (slice_index_or lanes at d).state.reassembly_queue.held ≡ Some set =
-    ap (λ (l : Lane). message_read l.state.reassembly_queue.held) (sym c.index_mut.ensures.value) ∙ some-mapped (message_read d.state.reassembly_queue.held) c.in-Some-read.chunks c.in-Some-read.ensures.message in
+    let e : message_read (slice_index_or open_streams at d).state.reassembly_queue.held ≡ Some set =
+    ap (λ (l : OpenStream). message_read l.state.reassembly_queue.held) (sym c.index_mut.ensures.value) ∙ some-mapped (message_read d.state.reassembly_queue.held) c.in-Some-read.chunks c.in-Some-read.ensures.message in
     let slots = c.self.inside.slots.items in
     let messages = c.self.inside.messages.items in
     let read = read-is sum x c.self.invariant s at d refl lt found set e in
@@ -202,12 +202,12 @@ invariant_of-self-2 g c =
     let m' : Message = record m { read = true } in
     let messages_are : map message_record (slice_set messages c.index.result.now.message m') ≡ changed mark_read n w.messages =
     ap (λ i. map message_record (slice_set messages i m')) number ∙ map-set message_record mark_read messages n m' m inside (ap (λ (t : Message). message_record (record t { read = true })) here) in
-    let was : c.index_mut-2.result.now ≡ record (slice_index_or lanes at d) { state = record (slice_index_or lanes at d).state { reassembly_queue = state_read (slice_index_or lanes at d).state.reassembly_queue } } =
-    c.index_mut-2.ensures.value ∙ get_or-set_same lanes at c.read.new.self c.index_mut-2.result.now lt ∙ rest in
-    let state = c.finish_read.ensures.state ∙ ap (λ len. with_read_stats m.ppi len c.index_mut-2.result.now.state) c.len.ensures.value ∙ ap (λ (l : Lane). with_read_stats m.ppi (length m.bytes) l.state) was in
-    let whole = c.finish_read.ensures.whole ∙ ap (λ (l : Lane). if m.ordered then l.whole.items else drop 1 l.whole.items) was in
-    let ordered = c.finish_read.ensures.ordered ∙ ap (λ (l : Lane). l.ordered) was in
-    let next = c.finish_read.ensures.next ∙ ap (λ (l : Lane). if m.ordered && (m.before == l.next) then m.before + 1 else l.next) was in
+    let was : c.index_mut-2.result.now ≡ record (slice_index_or open_streams at d) { state = record (slice_index_or open_streams at d).state { reassembly_queue = state_read (slice_index_or open_streams at d).state.reassembly_queue } } =
+    c.index_mut-2.ensures.value ∙ get_or-set_same open_streams at c.read.new.self c.index_mut-2.result.now lt ∙ rest in
+    let state = c.finish_read.ensures.state ∙ ap (λ len. with_read_stats m.ppi len c.index_mut-2.result.now.state) c.len.ensures.value ∙ ap (λ (l : OpenStream). with_read_stats m.ppi (length m.bytes) l.state) was in
+    let whole = c.finish_read.ensures.whole ∙ ap (λ (l : OpenStream). if m.ordered then l.whole.items else drop 1 l.whole.items) was in
+    let ordered = c.finish_read.ensures.ordered ∙ ap (λ (l : OpenStream). l.ordered) was in
+    let next = c.finish_read.ensures.next ∙ ap (λ (l : OpenStream). if m.ordered && (m.before == l.next) then m.before + 1 else l.next) was in
     linked-twice sum x c.self.invariant s at d refl lt found set e m (map message_record (slice_set messages c.index.result.now.message m')) c.finish_read.new.self m_is messages_are state whole ordered next c.read.new.self
     (map (λ (t : Message). t.sent) (slice_set messages c.index.result.now.message m')) (map-set_same (λ (t : Message). t.sent) messages c.index.result.now.message m' m (ap (λ (t : Message). t.sent) c.index_mut-message.ensures.value))
 
@@ -217,16 +217,16 @@ returns-clause-right g c =
     let sum = g.C.Checksum.sum c.self.inside.checksum in
     let x = state_in c.self.inside in
     let s = c.args.stream in
-    let lanes = c.self.inside.lanes.items in
+    let open_streams = c.self.inside.open_streams.items.items in
     let at = c.in-Some.at in
     let d = c.index_mut.result.now in
-    let lt : at < length lanes = rw (← c.deref.ensures.value) c.in-Some.ensures.0 in
-    let found : (d : Lane) → find (has_number s) lanes ≡ Some (slice_index_or lanes at d) = λ d. ap (find (has_number s)) (sym c.deref.ensures.value) ∙ c.in-Some.ensures.1 d ∙ ap (λ ls. Some (slice_index_or ls at d)) c.deref.ensures.value in
-    let rest : c.read.new.self ≡ record (slice_index_or lanes at d) { state = record (slice_index_or lanes at d).state { reassembly_queue = state_read (slice_index_or lanes at d).state.reassembly_queue } } =
-    c.read.ensures.rest ∙ ap (λ (l : Lane). record l { state = record l.state { reassembly_queue = state_read l.state.reassembly_queue } }) c.index_mut.ensures.value in
+    let lt : at < length open_streams = c.in-Some.ensures.0 in
+    let found : (d : OpenStream) → find (has_number s) open_streams ≡ Some (slice_index_or open_streams at d) = λ d. c.in-Some.ensures.1 d in
+    let rest : c.read.new.self ≡ record (slice_index_or open_streams at d) { state = record (slice_index_or open_streams at d).state { reassembly_queue = state_read (slice_index_or open_streams at d).state.reassembly_queue } } =
+    c.read.ensures.rest ∙ ap (λ (l : OpenStream). record l { state = record l.state { reassembly_queue = state_read l.state.reassembly_queue } }) c.index_mut.ensures.value in
     let set = c.in-Some-read.chunks.set in
-    let e : message_read (slice_index_or lanes at d).state.reassembly_queue.held ≡ Some set =
-    ap (λ (l : Lane). message_read l.state.reassembly_queue.held) (sym c.index_mut.ensures.value) ∙ some-mapped (message_read d.state.reassembly_queue.held) c.in-Some-read.chunks c.in-Some-read.ensures.message in
+    let e : message_read (slice_index_or open_streams at d).state.reassembly_queue.held ≡ Some set =
+    ap (λ (l : OpenStream). message_read l.state.reassembly_queue.held) (sym c.index_mut.ensures.value) ∙ some-mapped (message_read d.state.reassembly_queue.held) c.in-Some-read.chunks c.in-Some-read.ensures.message in
     let slots = c.self.inside.slots.items in
     let messages = c.self.inside.messages.items in
     let read = read-is sum x c.self.invariant s at d refl lt found set e in
@@ -244,12 +244,12 @@ returns-clause-right g c =
     let m' : Message = record m { read = true } in
     let messages_are : map message_record (slice_set messages c.index.result.now.message m') ≡ changed mark_read n w.messages =
     ap (λ i. map message_record (slice_set messages i m')) number ∙ map-set message_record mark_read messages n m' m inside (ap (λ (t : Message). message_record (record t { read = true })) here) in
-    let was : c.index_mut-2.result.now ≡ record (slice_index_or lanes at d) { state = record (slice_index_or lanes at d).state { reassembly_queue = state_read (slice_index_or lanes at d).state.reassembly_queue } } =
-    c.index_mut-2.ensures.value ∙ get_or-set_same lanes at c.read.new.self c.index_mut-2.result.now lt ∙ rest in
-    let state = c.finish_read.ensures.state ∙ ap (λ len. with_read_stats m.ppi len c.index_mut-2.result.now.state) c.len.ensures.value ∙ ap (λ (l : Lane). with_read_stats m.ppi (length m.bytes) l.state) was in
-    let whole = c.finish_read.ensures.whole ∙ ap (λ (l : Lane). if m.ordered then l.whole.items else drop 1 l.whole.items) was in
-    let ordered = c.finish_read.ensures.ordered ∙ ap (λ (l : Lane). l.ordered) was in
-    let next = c.finish_read.ensures.next ∙ ap (λ (l : Lane). if m.ordered && (m.before == l.next) then m.before + 1 else l.next) was in
+    let was : c.index_mut-2.result.now ≡ record (slice_index_or open_streams at d) { state = record (slice_index_or open_streams at d).state { reassembly_queue = state_read (slice_index_or open_streams at d).state.reassembly_queue } } =
+    c.index_mut-2.ensures.value ∙ get_or-set_same open_streams at c.read.new.self c.index_mut-2.result.now lt ∙ rest in
+    let state = c.finish_read.ensures.state ∙ ap (λ len. with_read_stats m.ppi len c.index_mut-2.result.now.state) c.len.ensures.value ∙ ap (λ (l : OpenStream). with_read_stats m.ppi (length m.bytes) l.state) was in
+    let whole = c.finish_read.ensures.whole ∙ ap (λ (l : OpenStream). if m.ordered then l.whole.items else drop 1 l.whole.items) was in
+    let ordered = c.finish_read.ensures.ordered ∙ ap (λ (l : OpenStream). l.ordered) was in
+    let next = c.finish_read.ensures.next ∙ ap (λ (l : OpenStream). if m.ordered && (m.before == l.next) then m.before + 1 else l.next) was in
     rw (← c.self.view_is) (record {
       right = ap (λ p. R.Message s p set) (sym (ap (λ t. t.ppi) m_is)) ∙ reply-read sum x c.self.invariant s at d refl lt found set e;
       moves = world-twice sum x c.self.invariant s at d refl lt found set e m (map message_record (slice_set messages c.index.result.now.message m')) c.finish_read.new.self m_is messages_are state whole ordered next c.read.new.self;

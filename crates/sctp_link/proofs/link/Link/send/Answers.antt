@@ -8,7 +8,7 @@ use Rattle.sctp_queues.specs.Outbound.{Outbound}
 use Rattle.sctp_queues.specs.Window.{SpansOneWindow, is_held}
 use Rattle.sctp_model.specs.Changes.{started}
 use Rattle.sctp_link.specs.Records.{message_record}
-use Rattle.sctp_link.specs.Lanes.{start_from}
+use Rattle.sctp_link.specs.OpenStreams.{start_from}
 use Rattle.sctp_link.specs.Fields.{state_in, world_in}
 use Rattle.sctp_link.proofs.Outgoing.{chunk-short}
 use Rattle.sctp_link.proofs.Sending.{next-is, next-fits, idle-right, tsn-fresh, tsn-window}

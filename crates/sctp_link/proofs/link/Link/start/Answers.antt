@@ -2,7 +2,7 @@ use Rattle.std.proofs.Common.{◌≡◌, rules, refl, ap, ◌∙◌, length}
 use Rattle.std.specs.Vec.{with_items, vec_len}
 use Rattle.std.proofs.lemmas.List.{with_items_is}
 use Rattle.sctp_link.specs.Fields.{state_in}
-use Rattle.sctp_link.specs.Lanes.{start_from}
+use Rattle.sctp_link.specs.OpenStreams.{start_from}
 use Rattle.sctp_link.proofs.Starting.{linked-starts, start-moves}
 use Rattle.sctp_link.proofs.link.Link.start.Goals as goal
 

@@ -1,4 +1,4 @@
-use Rattle.std.proofs.Common.{ap, sym, ◌∙◌, Some}
+use Rattle.std.proofs.Common.{ap, ◌∙◌, Some}
 use Rattle.sctp_link.proofs.Lending.{stats-open, stats-closed}
 use Rattle.sctp_link.proofs.link.Link.stats.Goals as goal
 
@@ -8,4 +8,4 @@ returns-in_default g c = stats-closed c.args.self.now.world c.args.stream c.in_d
 pub returns : goal.returns
 returns g c =
     let e = c.in-Some.ensures in
-    ap (λ n. Some n) c.stats.ensures ∙ stats-open c.args.self.now.world c.args.stream c.in-Some.lane.now e.1 e.0 e.2
+    ap (λ n. Some n) c.stats.ensures ∙ stats-open c.args.self.now.world c.args.stream c.in-Some.open_stream.now e.1 e.0 e.2

@@ -18,7 +18,7 @@ acknowledge_run-requires-clause-known c =
 pub loop-block-preserved : goal.loop-block-preserved
 loop-block-preserved c = record {
   acked = λ w first queue acked a i.
-      acking-same w first queue _ (and_blocks acked c.args.cumulative (take (c.loop-block.block-index + 1) c.args.blocks.now)) c.acknowledge_run.new.slots c.acknowledge_run.new.lanes c.acknowledge_run.new.outbound
+      acking-same w first queue _ (and_blocks acked c.args.cumulative (take (c.loop-block.block-index + 1) c.args.blocks.now)) c.acknowledge_run.new.slots c.acknowledge_run.new.open_streams c.acknowledge_run.new.outbound
       (λ j. ap (λ f. and_run (and_blocks acked c.args.cumulative (take c.loop-block.block-index c.args.blocks.now)) f (c.args.cumulative + (slice_index_or c.args.blocks.now c.loop-block.block-index (record { start = 0; end = 0 })).end) j) c.saturating_sub-from.ensures
       ∙ block-more acked c.args.cumulative c.args.blocks.now c.loop-block.block-index (record { start = 0; end = 0 }) c.loop-block-test.true j)
       (c.acknowledge_run.ensures.acked w first queue (and_blocks acked c.args.cumulative (take c.loop-block.block-index c.args.blocks.now)) a (c.loop-block.invariant.acked w first queue acked a i));
@@ -27,6 +27,6 @@ loop-block-preserved c = record {
 
 pub returns : goal.returns
 returns c = λ w first queue acked a i.
-    acking-same w first queue (and_blocks acked c.args.cumulative (take c.loop-block.block-index c.args.blocks.now)) (and_blocks acked c.args.cumulative c.args.blocks.now) c.loop-block.slots c.loop-block.lanes c.loop-block.outbound
+    acking-same w first queue (and_blocks acked c.args.cumulative (take c.loop-block.block-index c.args.blocks.now)) (and_blocks acked c.args.cumulative c.args.blocks.now) c.loop-block.slots c.loop-block.open_streams c.loop-block.outbound
     (λ j. ap (λ bs. and_blocks acked c.args.cumulative bs j) (take_all c.loop-block.block-index c.args.blocks.now c.loop-block-test.false))
     (c.loop-block.invariant.acked w first queue acked a i)

@@ -1,4 +1,4 @@
-use Rattle.std.proofs.Common.{◌≡◌, ◌<◌, ◌^◌, length, map}
+use Rattle.std.proofs.Common.{◌≡◌, length, map}
 use Rattle.sctp_lists.specs.Lists.{advanced}
 use Rattle.sctp_queues.specs.Payload.{with_chunks}
 use Rattle.sctp_link.proofs.link.receiving.advance.Given as goal

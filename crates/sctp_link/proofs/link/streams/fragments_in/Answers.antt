@@ -1,4 +1,3 @@
-use Rattle.std.proofs.Common.{◌≡◌, ◌∙◌, sym, length, arith}
 use Rattle.sctp_link.proofs.PieceLemmas.{count_whole, count_more}
 use Rattle.sctp_link.proofs.link.streams.fragments_in.Goals as goal
 

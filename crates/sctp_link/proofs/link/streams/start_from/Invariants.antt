@@ -1,5 +1,5 @@
-use Rattle.std.proofs.Common.{◌≡◌, ◌≤◌, length}
-use Rattle.sctp_link.specs.Lanes.{with_start}
+use Rattle.std.proofs.Common.{◌≡◌, length}
+use Rattle.sctp_link.specs.OpenStreams.{with_start}
 use Rattle.sctp_link.proofs.Walks.{changed_to}
 use Rattle.sctp_link.proofs.link.streams.start_from.Given as goal
 

@@ -2,4 +2,7 @@ use Rattle.std.proofs.Common.{◌≡◌, drop}
 use Rattle.sctp_queues.proofs.loose.Loose.drop_front.Given as goal
 
 abbrev pub invariant-loop-gone : goal.invariant-loop-gone
-invariant-loop-gone l = l.self-inside.chunks.items ≡ drop l._gone l.initial.self-inside.chunks.items
+invariant-loop-gone l = record {
+  rest : l.self-inside.chunks.items ≡ drop l._gone l.initial.self-inside.chunks.items;
+  serial : l.self-inside.serial ≡ l.initial.self-inside.serial;
+}

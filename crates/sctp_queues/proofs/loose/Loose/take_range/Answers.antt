@@ -1,7 +1,9 @@
-use Rattle.std.proofs.Common.{◌≡◌, ◌+◌, ◌-◌, ◌<◌, ◌≤◌, ◌++◌, ◌∷◌, [], List, length, take, drop, get_or, length-take-le, length-drop, get_or-drop, remove, sym, ap, subst, ◌∙◌, arith}
+use Rattle.std.proofs.Common.{◌≡◌, ◌+◌, ◌<◌, ◌++◌, ◌∷◌, [], List, length, take, drop, get_or, length-take-le, length-drop, get_or-drop, remove, sym, ap, subst, ◌∙◌, arith}
 use Rattle.std.proofs.lemmas.List.{drop_more, take_more}
 use Rattle.sctp_chunks.specs.declared.chunk.chunk_payload_data.ChunkPayloadData.{ChunkPayloadData}
+use Rattle.sctp_queues.specs.Window.{IsSerial}
 use Rattle.sctp_queues.proofs.ListLemmas.{remove_seam, get_seam}
+use Rattle.sctp_queues.proofs.SerialPlaces.{mark_is_on, serial_cut}
 use Rattle.sctp_queues.proofs.loose.Loose.take_range.Goals as goal
 
 pub loop-moved-preserved : goal.loop-moved-preserved
@@ -9,16 +11,23 @@ loop-moved-preserved c =
     let xs = c.self.inside.chunks.items in
     let f = c.args.first in
     let k = c.loop-moved._moved in
-    let y = c.remove-chunk.result in
+    let y = c.take_out-chunk.result in
     let all = ap length c.self.view_is in
     let within : f + k < length xs = omega arith in
     let front = length-take-le f xs (omega arith) in
     let long = ap length (sym c.loop-moved.invariant.rest) in
     let split : c.loop-moved.self-inside.chunks.items ≡ take f xs ++ get_or xs (f + k) y ∷ drop (f + k + 1) xs = c.loop-moved.invariant.rest ∙ ap (λ ys. take f xs ++ ys) (drop_more xs (f + k) y within) in
-    let read : y ≡ get_or xs (f + k) y = c.remove-chunk.ensures.value ∙ ap (λ ys. get_or ys f y) split ∙ get_seam (take f xs) (get_or xs (f + k) y) (drop (f + k + 1) xs) f y front in
+    let read : y ≡ get_or xs (f + k) y = c.take_out-chunk.ensures.value ∙ ap (λ ys. get_or ys f y) split ∙ get_seam (take f xs) (get_or xs (f + k) y) (drop (f + k + 1) xs) f y front in
     record {
       taken = c.in-Ok.ensures.items ∙ ap (λ (ys : List ChunkPayloadData). ys ++ y ∷ []) c.loop-moved.invariant.taken ∙ ap (λ u. take k (drop f xs) ++ u ∷ []) (read ∙ sym (get_or-drop f xs k y)) ∙ sym (take_more (drop f xs) k y (omega (arith, length-drop f xs)));
-      rest = c.remove-chunk.ensures.items ∙ ap (λ ys. remove ys f) split ∙ remove_seam (take f xs) (get_or xs (f + k) y) (drop (f + k + 1) xs) f front ∙ ap (λ i. take f xs ++ drop i xs) (omega arith);
+      rest = c.take_out-chunk.ensures.rest ∙ ap (λ ys. remove ys f) split ∙ remove_seam (take f xs) (get_or xs (f + k) y) (drop (f + k + 1) xs) f front ∙ ap (λ i. take f xs ++ drop i xs) (omega arith);
       room = omega (arith, c.loop-moved.invariant.room, c.in-Ok.ensures.capacity);
       len = omega (arith, c.loop-moved.invariant.len, c.in-Ok.ensures.len);
+      serial = c.loop-moved.invariant.serial;
     }
+
+pub is_still_serial-self-inside-requires : goal.is_still_serial-self-inside-requires
+is_still_serial-self-inside-requires c on =
+    let xs = c.self.inside.chunks.items in
+    let all = ap length c.self.view_is in
+    subst IsSerial (sym c.loop-moved.invariant.rest) (serial_cut xs c.args.first c.loop-moved._moved (omega (arith, c.requires, c.loop-moved.auto._moved-end)) (mark_is_on _ xs (sym c.loop-moved.invariant.serial ∙ on) c.self.invariant))

@@ -1,4 +1,4 @@
-use Rattle.std.proofs.Common.{◌≡◌, ◌+◌, ◌-◌, ◌≤◌, ◌++◌, length, take, drop, vec_len, vec_capacity}
+use Rattle.std.proofs.Common.{◌≡◌, ◌+◌, ◌≤◌, ◌++◌, take, drop, vec_len, vec_capacity}
 use Rattle.sctp_queues.proofs.loose.Loose.take_range.Given as goal
 
 abbrev pub invariant-loop-moved : goal.invariant-loop-moved
@@ -7,4 +7,5 @@ invariant-loop-moved l = record {
   rest : l.self-inside.chunks.items ≡ take l.first l.initial.self-inside.chunks.items ++ drop (l.first + l._moved) l.initial.self-inside.chunks.items;
   room : l.count ≤ vec_capacity l.taken;
   len : vec_len l.taken ≡ l._moved;
+  serial : l.self-inside.serial ≡ l.initial.self-inside.serial;
 }

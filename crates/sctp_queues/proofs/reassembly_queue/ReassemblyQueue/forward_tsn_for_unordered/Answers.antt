@@ -16,10 +16,10 @@ returns-clause-value c =
     let t = c.args.new_cumulative_tsn in
     let xs = q.unordered_chunks in
     let k = c.front_upto-count.result in
-    let at : k ≡ position_or_len (λ x. not (at_or_before x.tsn t)) xs = c.front_upto-count.ensures.place ∙ ap (position_or_len (λ x. not (at_or_before x.tsn t))) c.as_slice.ensures in
+    let at : k ≡ position_or_len (λ x. not (at_or_before x.tsn t)) xs = c.front_upto-count.ensures.place ∙ ap (position_or_len (λ x. not (at_or_before x.tsn t))) c.loose-loose.ensures in
     let left : c.drop_front.new.self ≡ after_leading (λ x. at_or_before x.tsn t) xs = c.drop_front.ensures ∙ ap (λ i. drop i xs) at ∙ sym (after_leading-position (λ x. at_or_before x.tsn t) xs) in
     let gone = ap (λ i. take i xs) at ∙ leading_upto-position t xs in
-    let counted = rw c.as_slice-2.ensures at c.bytes_in-gone.ensures in
+    let counted = rw c.loose-loose.ensures at c.bytes_of_front-gone.ensures in
     rw (← c.self.view_is) (c.release.ensures (bytes_of (take k xs)) counted
     ∙ ap₂ (λ ls ds. state_of q.si q.next_ssn q.ordered q.unordered.items ls (q.n_bytes - bytes_of ds) q.max_message_size) left gone)
 

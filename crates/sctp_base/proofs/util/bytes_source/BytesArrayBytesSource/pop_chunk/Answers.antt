@@ -1,4 +1,4 @@
-use Rattle.std.proofs.Common.{◌≡◌, ◌<◌, ◌≤◌, ◌+◌, ◌^◌, ◌++◌, length, length-append, drop, ap, ◌∙◌, arith}
+use Rattle.std.proofs.Common.{◌≡◌, ◌<◌, ◌≤◌, ◌^◌, ◌++◌, length, length-append, drop, ap, arith}
 use Rattle.std.specs.List.{concat}
 use Rattle.sctp_base.proofs.util.bytes_source.BytesArrayBytesSource.pop_chunk.Goals as goal
 

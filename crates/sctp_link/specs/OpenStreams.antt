@@ -1,0 +1,74 @@
+-- What a stream of a link makes of a write.
+use Rattle.sctp_queues.specs.Reassembly.{ordered_pushed, PushesUnordered}
+use Rattle.std.specs.Prelude.{◌≡◌, ◌&&◌, ℕ, ◌+◌, Bool, true, false, not, ◌||◌, if◌then◌else◌, List, [], ◌∷◌, length, map, take, drop, ◌++◌, Some, None}
+use Rattle.sctp_chunks.specs.declared.chunk.chunk_payload_data.ChunkPayloadData.{ChunkPayloadData}
+use Rattle.sctp_chunks.specs.declared.chunk.chunk_payload_data.ReliabilityType.{ReliabilityType}
+use Rattle.sctp_chunks.specs.declared.chunk.chunk_payload_data.PayloadProtocolIdentifier.{PayloadProtocolIdentifier}
+use Rattle.sctp_model.specs.Messages.{is_dcep}
+use Rattle.sctp_link.specs.declared.open_stream.OpenStream.{OpenStream}
+use Rattle.sctp_link.specs.declared.record.Message.{Message}
+use Rattle.sctp_link.specs.declared.stream.StreamState.{StreamState}
+use Rattle.sctp_link.specs.Stats.{with_sent, with_received, counted_bytes}
+use Rattle.sctp_link.specs.Stream.{after_write, fragments_of}
+
+-- a fragment with the mode of its message
+abbrev pub with_mode : ReliabilityType → ℕ → ChunkPayloadData → ChunkPayloadData
+with_mode reliability value c = record c { reliability = Some (reliability, value) }
+
+-- the fragments of a write, each with the mode of the stream
+abbrev pub fragments_with_mode : StreamState → PayloadProtocolIdentifier → List ℕ → List ChunkPayloadData
+fragments_with_mode s ppi bytes = map (with_mode s.reliability_type s.reliability_value) (fragments_of s ppi bytes)
+
+-- whether a write is ordered
+abbrev pub is_ordered : OpenStream → PayloadProtocolIdentifier → Bool
+is_ordered l ppi = is_dcep ppi || not l.state.unordered
+
+-- the message that a write makes
+abbrev pub message_with : OpenStream → PayloadProtocolIdentifier → List ℕ → Message
+message_with l ppi bytes =
+    record {
+      stream = l.state.stream_identifier;
+      ordered = is_ordered l ppi;
+      ppi = ppi;
+      bytes = bytes;
+      reliability = l.state.reliability_type;
+      value = l.state.reliability_value;
+      before = l.ordered;
+      started = None;
+      read = false;
+      sent = 0;
+    }
+
+-- with one message more sent
+abbrev pub with_sent_stats : PayloadProtocolIdentifier → ℕ → StreamState → StreamState
+with_sent_stats ppi len s = record s { stats = with_sent (counted_bytes ppi len) s.stats }
+
+-- with one message more read
+abbrev pub with_read_stats : PayloadProtocolIdentifier → ℕ → StreamState → StreamState
+with_read_stats ppi len s = record s { stats = with_received (counted_bytes ppi len) s.stats }
+
+-- the stream after a write
+abbrev pub after_write_on : OpenStream → PayloadProtocolIdentifier → List ℕ → OpenStream
+after_write_on l ppi bytes =
+    record l {
+      state = with_sent_stats ppi (length bytes) (after_write l.state ppi bytes);
+      ordered = if is_ordered l ppi then l.ordered + 1 else l.ordered;
+    }
+
+-- a message whose lifetime starts
+abbrev pub with_start : ℕ → Message → Message
+with_start now m = record m { started = Some now }
+
+-- the lifetimes of the messages from a place on start
+abbrev pub start_from : ℕ → ℕ → List Message → List Message
+start_from first now ms = take first ms ++ map (with_start now) (drop first ms)
+
+-- a chunk is kept: the queue changes as by a push, and an unordered message that becomes whole is noted
+pub record Keeps (x : ChunkPayloadData) (number : ℕ) (old new : OpenStream) : Type 0 where
+  pub whole : Bool
+  pub ordered_queue : x.unordered ≡ false → new.state.reassembly_queue ≡ ordered_pushed x old.state.reassembly_queue
+  pub unordered_queue : x.unordered ≡ true → PushesUnordered x old.state.reassembly_queue new.state.reassembly_queue whole
+  pub noted : new.whole.items ≡ (if whole && x.unordered then old.whole.items ++ number ∷ [] else old.whole.items)
+  pub state : new.state ≡ record old.state { reassembly_queue = new.state.reassembly_queue }
+  pub ordered : new.ordered ≡ old.ordered
+  pub next : new.next ≡ old.next

@@ -1,0 +1,182 @@
+//! A stream of a link.
+
+ghost use Rattle.std.specs.Prelude.{◌≡◌, ◌+◌, ◌<◌, ◌≤◌, ◌^◌, ◌==◌, ℕ, [], length, map, slice_index_or, find, drop, ◌&&◌, if◌then◌else◌, true, false, option_map, Some, None, OnOk, OnErr, IfOk, IsOkUnless, MatchOption};
+ghost use Rattle.sctp_base.specs.declared.error.Error.TheVariants.{ErrOutOfMemory};
+ghost use Rattle.sctp_chunks.specs.declared.chunk.chunk_payload_data.PayloadProtocolIdentifier.TheVariants.{Unknown};
+ghost use Rattle.sctp_model.specs.Messages.{is_dcep};
+ghost use Rattle.sctp_link.specs.OpenStreams.{with_mode};
+ghost use Rattle.sctp_link.specs.declared.open_stream.OpenStream.{OpenStream};
+
+use crate::record::Message;
+use crate::stream::StreamState;
+use bytes::Bytes;
+use sctp_base::error::Result;
+use sctp_chunks::chunk::chunk_payload_data::{
+    ChunkPayloadData, PayloadProtocolIdentifier, ReliabilityType,
+};
+use sctp_queues::chunks::Chunks;
+use std::alloc::Global;
+use std::collections::VecDeque;
+
+/// An open stream: its state, and what a link knows of its messages.
+#[derive(Drop)]
+pub struct OpenStream {
+    pub state: StreamState,
+    /// The unordered messages that are whole and not read, in the order in which they became whole.
+    pub whole: VecDeque<u64>,
+    /// How many ordered messages were written.
+    pub ordered: u64,
+    /// The index of the ordered message that is expected next.
+    pub next: u64,
+}
+
+impl OpenStream {
+    ghost use Rattle.sctp_link.specs.Stream.{new_stream};
+    ghost use Rattle.sctp_link.specs.OpenStreams.{is_ordered, message_with, fragments_with_mode, after_write_on, with_sent_stats, with_read_stats, Keeps};
+    ghost use Rattle.sctp_queues.specs.Reassembly.{is_too_large, message_read, state_read, at_start};
+
+    /// A stream that nothing was written to.
+    pub fn new(alloc: Global, stream: u16, max_payload_size: u32, max_message_size: u32) -> Self
+        requires { (0 < max_payload_size) × (max_payload_size ≤ 65519) }
+        ensures state { result.state ≡ new_stream stream max_payload_size max_message_size Unknown }
+        ensures whole { result.whole.items ≡ [] }
+        ensures ordered { result.ordered ≡ 0 }
+        ensures next { result.next ≡ 0 }
+    {
+        OpenStream {
+            state: StreamState::new(
+                alloc,
+                stream,
+                max_payload_size,
+                max_message_size,
+                PayloadProtocolIdentifier::Unknown,
+            ),
+            whole: VecDeque::new(alloc),
+            ordered: 0,
+            next: 0,
+        }
+    }
+
+    /// Whether a write with this payload type is ordered (RFC 8832 6).
+    pub fn is_ordered(&self, ppi: PayloadProtocolIdentifier) -> bool
+        ensures { result ≡ is_ordered self.now ppi }
+    {
+        is_dcep(ppi) || !self.state.unordered()
+    }
+
+    /// Takes a write of at least one byte: what is kept of it, and its fragments, which wait for their TSNs.
+    pub fn write(
+        &mut self,
+        alloc: Global,
+        ppi: PayloadProtocolIdentifier,
+        bytes: Bytes,
+    ) -> Result<(Message, Vec<ChunkPayloadData>)>
+        requires { self.old.ordered + 1 < 2 ^ 64 }
+        ensures message { IfOk result (λ r. r.0 ≡ message_with self.old ppi bytes) }
+        ensures chunks { IfOk result (λ r. r.1.items ≡ fragments_with_mode self.old.state ppi bytes) }
+        ensures rest { 0 < length bytes → OnOk result (self.new ≡ after_write_on self.old ppi bytes) }
+        ensures err { OnErr result (self.new ≡ self.old) }
+        ensures memory { IsOkUnless result ErrOutOfMemory }
+    {
+        let reliability = self.state.reliability_type();
+        let value = self.state.reliability_value();
+        let (_, mut chunks) = self.state.packetize(alloc, &bytes, ppi)?;
+        set_mode(&mut chunks, reliability, value);
+        self.count_sent(ppi, bytes.len());
+        let ordered = self.is_ordered(ppi);
+        let before = self.ordered;
+        if ordered {
+            self.ordered += 1;
+        }
+        let message = Message {
+            stream: self.state.stream_identifier(),
+            ordered,
+            ppi,
+            bytes,
+            reliability,
+            value,
+            before,
+            started: None,
+            read: false,
+            sent: 0,
+        };
+        Ok((message, chunks))
+    }
+
+    fn count_sent(&mut self, ppi: PayloadProtocolIdentifier, len: usize)
+        ensures { self.new ≡ record self.old { state = with_sent_stats ppi len self.old.state } }
+    {
+        let mut stats = self.state.stats();
+        stats.sent(ppi, len);
+        self.state.set_stats(stats);
+    }
+
+    /// Takes a DATA chunk for reassembly. A message that becomes whole by an unordered one is noted under its number.
+    pub fn keep(&mut self, chunk: &ChunkPayloadData, number: u64) -> Result<()>
+        requires size { is_too_large chunk.now self.old.state.reassembly_queue ≡ false }
+        requires stream { (chunk.now.stream_identifier == self.old.state.reassembly_queue.si) ≡ true }
+        ensures ok { OnOk result (Keeps chunk.now number self.old self.new) }
+        ensures err { OnErr result ((self.new.state ≡ self.old.state) × (self.new.whole.items ≡ self.old.whole.items) × (self.new.ordered ≡ self.old.ordered) × (self.new.next ≡ self.old.next)) }
+        ensures memory { IsOkUnless result ErrOutOfMemory }
+    {
+        self.whole.reserve(1)?;
+        if self.state.handle_data(chunk)? && chunk.unordered {
+            self.whole.push_back_reserved(number);
+        }
+        Ok(())
+    }
+
+    /// The next message of the queue.
+    pub fn read(&mut self) -> Option<Chunks>
+        ensures message { result ≡ option_map at_start (message_read self.old.state.reassembly_queue.held) }
+        ensures rest { self.new ≡ record self.old { state = record self.old.state { reassembly_queue = state_read self.old.state.reassembly_queue } } }
+    {
+        self.state.reassembly_queue_mut().read()
+    }
+
+    /// Notes that a message was read: with an ordered one that was expected next the next one is.
+    pub fn finish_read(
+        &mut self,
+        ordered: bool,
+        index: u64,
+        ppi: PayloadProtocolIdentifier,
+        len: usize,
+    )
+        requires { index + 1 < 2 ^ 64 }
+        ensures state { self.new.state ≡ with_read_stats ppi len self.old.state }
+        ensures whole { self.new.whole.items ≡ (if ordered then self.old.whole.items else drop 1 self.old.whole.items) }
+        ensures ordered { self.new.ordered ≡ self.old.ordered }
+        ensures next { self.new.next ≡ (if ordered && (index == self.old.next) then index + 1 else self.old.next) }
+    {
+        if !ordered {
+            self.whole.pop_front();
+        } else if index == self.next {
+            self.next = index + 1;
+        }
+        self.count_read(ppi, len);
+    }
+
+    /// Counts a message that was read.
+    pub fn count_read(&mut self, ppi: PayloadProtocolIdentifier, len: usize)
+        ensures { self.new ≡ record self.old { state = with_read_stats ppi len self.old.state } }
+    {
+        let mut stats = self.state.stats();
+        stats.received(ppi, len);
+        self.state.set_stats(stats);
+    }
+}
+
+fn is_dcep(ppi: PayloadProtocolIdentifier) -> bool
+    ensures { result ≡ is_dcep ppi }
+{
+    matches!(ppi, PayloadProtocolIdentifier::Dcep)
+}
+
+// Gives each fragment the mode of its message.
+fn set_mode(chunks: &mut [ChunkPayloadData], reliability: ReliabilityType, value: u32)
+    ensures { chunks.new ≡ map (with_mode reliability value) chunks.old }
+{
+    for place in 0..chunks.len() {
+        chunks[place].reliability = Some((reliability, value));
+    }
+}

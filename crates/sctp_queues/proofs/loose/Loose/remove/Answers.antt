@@ -1,0 +1,10 @@
+use Rattle.std.proofs.Common.{length, sym, ap, subst, arith}
+use Rattle.sctp_queues.specs.Window.{IsSerial}
+use Rattle.sctp_queues.proofs.Serials.{serial_remove}
+use Rattle.sctp_queues.proofs.SerialPlaces.{mark_is_on}
+use Rattle.sctp_queues.proofs.loose.Loose.remove.Goals as goal
+
+pub is_still_serial-self-inside-requires : goal.is_still_serial-self-inside-requires
+is_still_serial-self-inside-requires c on =
+    let xs = c.self.inside.chunks.items in
+    subst IsSerial (sym c.take_out-chunk.ensures.rest) (serial_remove xs c.args.place (omega (arith, ap length c.self.view_is, c.requires)) (mark_is_on _ xs on c.self.invariant))

@@ -1,0 +1,112 @@
+use Rattle.std.proofs.Math.Nat.{pow-le-pow_right}
+use Rattle.std.proofs.lemmas.Nat.{mul-le}
+use Rattle.std.proofs.lemmas.Bool.{cases_lt}
+use Rattle.sctp_queues.specs.Turns.{IsWithinDigits}
+use Rattle.std.proofs.Common.{◌*◌, inl, inr, length-append, ◌≡◌, ◌||◌, ℕ, ◌+◌, ◌-◌, ◌^◌, ◌<◌, ◌≤◌, [], ◌∷◌, length, map, take, get_or, sym, ap, ◌∙◌, subst, arith}
+use Rattle.std.specs.List.{All, list_any}
+use Rattle.std.proofs.lemmas.List.{get_or_default, map-append}
+use Rattle.std.proofs.lemmas.List.Elements.{All-push}
+use Rattle.std.proofs.lemmas.List.Quantifiers.{all_pairs_push}
+use Rattle.sctp_chunks.specs.declared.chunk.chunk_payload_data.ChunkPayloadData.{ChunkPayloadData}
+use Rattle.sctp_chunks.specs.declared.chunk.chunk_selective_ack.GapAckBlock.{GapAckBlock}
+use Rattle.sctp_lists.specs.Kept.{runs_of}
+use Rattle.sctp_lists.specs.Serial.{distance}
+use Rattle.sctp_lists.proofs.Edits.{list_any-append}
+use Rattle.sctp_queues.specs.Blocks.{BlocksAscend, Reports, is_in_block, is_reported, covered, gap_offsets, ends_of}
+use Rattle.sctp_queues.proofs.Gaps.{InReach, or_false, runs_more, covered_more, run_distances, run_apart, front_offsets, front_reported, rest_offsets, rest_reported, out_from}
+use Rattle.sctp_queues.proofs.payload_queue.PayloadQueue.get_gap_ack_blocks_counted.Goals as goal
+
+-- fewer turns are within as many digits
+fewer : (n s t : ℕ) → s ≤ t → IsWithinDigits n t → IsWithinDigits n s
+fewer n s t le h = let less = pow-le-pow_right {n = 2} (omega arith) le in omega arith
+
+-- no block is so long that its end takes more
+turns_of_a_run : (t l : ℕ) → 2 ^ t < 4 * (l * l) → l < 2 ^ 16 → t ≤ 33
+turns_of_a_run t l h small = elim (cases_lt t 34) [
+  | inl low ↦ omega arith
+  | inr high ↦
+      let most : l * l ≤ 65535 * 65535 = mul-le l l 65535 65535 (omega arith) (omega arith) in
+      let less : 2 ^ 34 ≤ 2 ^ t = pow-le-pow_right {n = 2} (omega arith) high in
+      absurd (omega arith)
+]
+
+pub loop-place-init : goal.loop-place-init
+loop-place-init c =
+    let xs = c.self.inside.held.chunks in
+    let first = c.first_after-place.ensures.first in
+    let items = c.new-blocks.ensures.items in
+    record {
+      in_range = first.in_range;
+      ahead = first.ascends;
+      ascend = subst BlocksAscend (sym items) (record { runs = λ k d lt. absurd (omega arith); apart = λ i j d lt short. absurd (omega arith) });
+      behind = λ j d le lt small k b short. absurd (omega (arith, ap length items));
+      not_back = c.first_after-place.ensures.not_back;
+      cost = fewer (length xs) _ _ (omega arith) c.first_after-place.ensures.cost;
+      exact = λ n. ap (λ bs. covered bs n) items ∙ sym (front_reported c.args.cumulative_tsn xs c.first_after-place.result first.before n);
+      runs = ap (map ends_of) items ∙ ap runs_of (sym (front_offsets c.args.cumulative_tsn xs c.first_after-place.result first.before));
+    }
+
+pub loop-place-preserved : goal.loop-place-preserved
+loop-place-preserved c =
+    let xs = c.self.inside.held.chunks in
+    let cumulative = c.args.cumulative_tsn in
+    let place = c.loop-place.place in
+    let x = c.look.result.now in
+    let offset = c.in-Some.offset in
+    let last = c.run_end-last.result in
+    let bs = c.loop-place.blocks.items in
+    let inv = c.loop-place.invariant in
+    let some = c.in-Some.ensures.some in
+    let run = c.run_end-last.ensures.run in
+    let fits = c.ranges.cumulative_tsn.fits in
+    let serial = c.self.invariant.serial in
+    let block : GapAckBlock = record { start = offset; end = offset + (last - place) } in
+    let short : last < length xs = omega (arith, run.to, c.min-reach.ensures) in
+    let within_reach : offset + (last - place) < 2 ^ 16 = omega (arith, run.to, run.from, c.min-reach.ensures, some) in
+    let here : distance cumulative (get_or xs place x).tsn ≡ offset = sym (some.0 ∙ ap (λ (y : ChunkPayloadData). distance cumulative y.tsn) c.look.ensures.value) in
+    let along = λ (k : ℕ) (le : k ≤ last - place). run_distances cumulative xs place last fits serial inv.ahead short run.rising x k (omega (arith, run.from)) ∙ ap (λ o. o + k) here in
+    let reach : InReach cumulative xs place x offset (last - place) = record { in_range = omega (arith, run.from); positive = some.1; small = within_reach; along = along } in
+    let apart : All (λ b. b.end + 1 < offset) bs = subst (λ o. All (λ (b : GapAckBlock). b.end + 1 < o) bs) here (inv.behind place x (omega arith) (omega (arith, run.from)) (omega (arith, here, some))) in
+    let next : place + (last - place) + 1 ≡ last + 1 = omega (arith, run.from) in
+    let items = c.in_ok-push.ensures.items in
+    let turns = turns_of_a_run (c.run_end-last.new.turns - c.look.new.turns) (last + 1 - place) c.run_end-last.ensures.cost (omega (arith, run.to, run.from, c.min-reach.ensures, some)) in
+    record {
+      in_range = omega arith;
+      ahead = record { after = λ k d le. inv.ahead.after k d (omega (arith, run.from)); farther = λ i j d le. inv.ahead.farther i j d (omega (arith, run.from)) };
+      ascend = subst BlocksAscend (sym items) (record {
+        runs = All-push (λ (b : GapAckBlock). b.start ≤ b.end) bs block inv.ascend.runs (omega arith);
+        apart = all_pairs_push (λ (a b : GapAckBlock). a.end + 1 < b.start) bs block inv.ascend.apart apart;
+      });
+      behind = λ j d le lt small. subst (All (λ (b : GapAckBlock). b.end + 1 < distance cumulative (get_or xs j d).tsn)) (sym items)
+          (All-push (λ (b : GapAckBlock). b.end + 1 < distance cumulative (get_or xs j d).tsn) bs block (inv.behind j d (omega (arith, run.from)) lt small)
+          (run_apart cumulative xs place (place + c.min-reach.result) last offset fits serial inv.ahead (omega (arith, c.min-reach.ensures)) (λ cut. omega (arith, c.min-reach.ensures, some)) run j d
+          (ap (λ (y : ChunkPayloadData). distance cumulative y.tsn) (get_or_default xs place d x (omega arith)) ∙ here) le lt small));
+      not_back = omega (arith, c.run_end-last.ensures.not_back, inv.not_back);
+      cost = fewer (length xs) _ _ (omega (arith, turns, c.run_end-last.ensures.not_back, ap length items, length-append bs (block ∷ []))) inv.cost;
+      exact = λ n. ap (λ ys. covered ys n) items ∙ list_any-append (is_in_block n) bs (block ∷ []) ∙ ap (λ b. covered bs n || b) (or_false (is_in_block n block))
+          ∙ covered_more cumulative xs place x offset bs n (last - place) reach (inv.exact n) ∙ ap (λ i. list_any (is_reported cumulative n) (take i xs)) next;
+      runs = ap (map ends_of) items ∙ map-append ends_of bs (block ∷ []) ∙ runs_more cumulative xs place x offset bs (last - place) reach apart inv.runs ∙ ap (λ i. runs_of (gap_offsets cumulative (take i xs))) next;
+    }
+
+pub returns-in_default-clause-reported : goal.returns-in_default-clause-reported
+returns-in_default-clause-reported c =
+    let xs = c.self.inside.held.chunks in
+    let inv = c.loop-place.invariant in
+    let rest = out_from c.args.cumulative_tsn xs c.loop-place.place c.look.result.now inv.ahead (omega arith) c.look.ensures.value (sym c.in_default.ensures.test) in
+    subst (λ cs. Reports c.args.cumulative_tsn cs c.loop-place.blocks.items) (ap (λ q. q.chunks) c.self.view_is) (record {
+      ascend = inv.ascend;
+      exact = λ n. inv.exact n ∙ rest_reported c.args.cumulative_tsn xs c.loop-place.place rest n;
+    })
+
+pub returns-in_default-clause-runs : goal.returns-in_default-clause-runs
+returns-in_default-clause-runs c =
+    let xs = c.self.inside.held.chunks in
+    let inv = c.loop-place.invariant in
+    let rest = out_from c.args.cumulative_tsn xs c.loop-place.place c.look.result.now inv.ahead (omega arith) c.look.ensures.value (sym c.in_default.ensures.test) in
+    inv.runs ∙ ap runs_of (rest_offsets c.args.cumulative_tsn xs c.loop-place.place rest ∙ ap (λ q. gap_offsets c.args.cumulative_tsn q.chunks) c.self.view_is)
+
+pub returns-in_default-clause-cost : goal.returns-in_default-clause-cost
+returns-in_default-clause-cost c = subst (λ cs. IsWithinDigits (length cs) (c.look.new.turns - c.args.turns.now - 34 * length c.loop-place.blocks.items - 1)) (ap (λ q. q.chunks) c.self.view_is) (fewer _ _ _ (omega arith) c.loop-place.invariant.cost)
+
+pub returns-clause-cost : goal.returns-clause-cost
+returns-clause-cost c = subst (λ cs. IsWithinDigits (length cs) (c.loop-place.turns - c.args.turns.now - 34 * length c.loop-place.blocks.items - 1)) (ap (λ q. q.chunks) c.self.view_is) (fewer _ _ _ (omega arith) c.loop-place.invariant.cost)

@@ -1,0 +1,18 @@
+use Rattle.std.proofs.Common.{◌≡◌, ◌-◌, ◌+◌, ◌^◌, ◌<◌, ◌≤◌, get_or}
+use Rattle.sctp_chunks.specs.declared.chunk.chunk_payload_data.ChunkPayloadData.{ChunkPayloadData}
+use Rattle.sctp_queues.specs.Runs.{IsRising}
+use Rattle.sctp_queues.proofs.payload_queue.run_end.Given as goal
+
+abbrev pub invariant-loop-step : goal.invariant-loop-step
+invariant-loop-step l = record {
+  from : l.place ≤ l.last;
+  in_range : l.last < l.end;
+  known : l.last + 1 ≡ l.place + l.step;
+  number : (d : ChunkPayloadData) → (get_or l.held.chunks l.last d).tsn ≡ l.tsn;
+  rising : IsRising l.held.chunks l.place l.last;
+  not_back : l.initial.turns ≤ l.turns;
+  cost : 2 ^ (l.turns - l.initial.turns) ≡ l.step;
+}
+
+abbrev pub decreases-loop-step : goal.decreases-loop-step
+decreases-loop-step l = l.end - l.last
