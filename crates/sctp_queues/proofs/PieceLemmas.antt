@@ -1,5 +1,5 @@
 -- Messages copied into a buffer, and taken piece by piece.
-use Rattle.std.proofs.Common.{◌≡◌, ℕ, zero, suc, ◌+◌, ◌-◌, ◌<◌, ◌≤◌, min, nat_le, true, false, if◌then◌else◌, List, [], ◌∷◌, ◌++◌, map, length, get_or, take, drop, refl, sym, ap, ap₂, subst, ◌∙◌, append_assoc, length-take-le, length-drop, inl, inr, arith}
+use Rattle.std.proofs.Common.{◌≡◌, ℕ, zero, suc, ◌+◌, ◌-◌, ◌<◌, ◌≤◌, min, nat_le, true, false, if◌then◌else◌, List, [], ◌∷◌, ◌++◌, map, length, get_or, take, drop, Some, refl, sym, ap, ap₂, subst, ◌∙◌, append_assoc, length-take-le, length-drop, inl, inr, arith}
 use Rattle.std.specs.List.{concat}
 use Rattle.std.proofs.lemmas.Bool.{cases_lt}
 use Rattle.std.proofs.lemmas.Bool.Decides.{nat_tests}
@@ -7,7 +7,7 @@ use Rattle.std.proofs.lemmas.List.{take_more, drop_more, drop-drop, append-nil, 
 use Rattle.std.proofs.Math.Seq.{take-append_seam, take-append-add, drop-append-add}
 use Rattle.sctp_chunks.specs.declared.chunk.chunk_payload_data.ChunkPayloadData.{ChunkPayloadData}
 use Rattle.sctp_queues.specs.Sets.{payload_of}
-use Rattle.sctp_queues.specs.Pieces.{cut_first, left_from, left_after}
+use Rattle.sctp_queues.specs.Pieces.{cut_first, left_from, piece_of, left_after}
 
 pub payload-append : (xs ys : List ChunkPayloadData) → payload_of (xs ++ ys) ≡ payload_of xs ++ payload_of ys
 payload-append [] ys = refl
@@ -49,6 +49,14 @@ left_head chunks i o d lt = ap (λ cs. cut_first o (map (λ c. c.user_data) cs))
     whole : (xss : List (List ℕ)) → cut_first 0 xss ≡ xss
     whole [] = refl
     whole (xs ∷ xss) = refl
+
+-- where a fragment is left, so is a piece
+pub piece_some : (n : ℕ) (chunks : List ChunkPayloadData) (i o : ℕ) → i < length chunks → piece_of n (left_from chunks i o) ≡ Some (take n (concat (left_from chunks i o)))
+piece_some n chunks i o lt = head (drop i chunks) (subst (λ k. 0 < k) (sym (length-drop i chunks)) (omega arith))
+  where
+    head : (cs : List ChunkPayloadData) → 0 < length cs → piece_of n (cut_first o (map (λ c. c.user_data) cs)) ≡ Some (take n (concat (cut_first o (map (λ c. c.user_data) cs))))
+    head [] h = absurd (omega arith)
+    head (c ∷ cs) h = refl
 
 -- the whole rest of a fragment is a slice of it
 pub slice_rest : (bytes : List ℕ) (o start n : ℕ) → start ≡ min o (length bytes) → length bytes - start ≤ n → take (start + n - start) (drop start bytes) ≡ drop o bytes

@@ -253,10 +253,8 @@ impl Chunks {
         if self.index >= chunks.len() {
             return Ok(None);
         }
-        let left = bytes_in(&chunks[self.index..]).saturating_sub(
-            self.offset.min(chunks[self.index].user_data.len()),
-        );
-        let mut buf = BytesMut::with_capacity(alloc, left.min(max_length))?;
+        let room = room_of(chunks, self.index, self.offset, max_length);
+        let mut buf = BytesMut::with_capacity(alloc, room)?;
         let (index, offset) = gather(chunks, self.index, self.offset, max_length, &mut buf)?;
         let bytes = buf.freeze()?;
         self.index = index;
@@ -272,6 +270,22 @@ fn put_at(buf: &mut [u8], at: usize, bytes: &[u8])
 {
     let end = at + bytes.len();
     buf[at..end].copy_from_slice(bytes);
+}
+
+// How many bytes are left from a place on, or the limit where they are more. It looks no further than the limit.
+fn room_of(chunks: &[ChunkPayloadData], index: usize, offset: usize, limit: usize) -> usize
+    ensures { result ≡ min limit (length (concat (left_from chunks.now index offset))) }
+{
+    let mut index = index;
+    let mut offset = offset;
+    let mut wanted = limit;
+    while index < chunks.len() && wanted > 0 {
+        let len = chunks[index].user_data.len();
+        wanted = wanted.saturating_sub(len.saturating_sub(offset));
+        index += 1;
+        offset = 0;
+    }
+    limit - wanted
 }
 
 // Appends the next bytes of the fragments, at most so many, and says where the next piece begins.

@@ -1,8 +1,17 @@
-use Rattle.std.proofs.Common.{◌≡◌, ◌≤◌, ◌++◌, length, length-take-le, take, sym, ap, ap₂, subst, ◌∙◌, ◌<◌}
+use Rattle.std.proofs.Common.{◌≡◌, ◌≤◌, ◌++◌, length, length-take-le, take, sym, Some, arith, ap, ap₂, subst, ◌∙◌, ◌<◌}
 use Rattle.std.specs.List.{concat}
 use Rattle.sctp_queues.specs.Pieces.{left_of, left_after}
-use Rattle.sctp_queues.proofs.PieceLemmas.{pieces_join, piece_full, pieces_end}
+use Rattle.sctp_queues.proofs.PieceLemmas.{pieces_join, piece_full, pieces_end, piece_some}
 use Rattle.sctp_queues.proofs.chunks.Chunks.next.Goals as goal
+
+pub returns-clause-piece : goal.returns-clause-piece
+returns-clause-piece c =
+    let given = rw c.fragments-chunks.ensures at c.in_ok-index.ensures.bytes in
+    let chunks = c.args.self.now.set.chunks in
+    let here : c.args.self.now.index < length c.fragments-chunks.result.now = omega (arith, c.if-self-chunks.false) in
+    let within : c.args.self.now.index < length chunks = subst (λ xs. c.args.self.now.index < length xs) c.fragments-chunks.ensures here in
+    let some = piece_some c.args.max_length chunks c.args.self.now.index c.args.self.now.offset within in
+    ap (λ xs. Some xs) (c.in_ok-bytes.ensures.ok ∙ given) ∙ sym some
 
 pub returns-clause-joins : goal.returns-clause-joins
 returns-clause-joins c =
