@@ -1,13 +1,13 @@
 -- Causes that are written read back.
-use Rattle.std.proofs.Common.{◌≡◌, ℕ, ◌+◌, ◌-◌, ◌^◌, ◌<◌, ◌≤◌, List, [], ◌∷◌, ◌++◌, length, take, drop, refl, sym, ap, subst, ◌∙◌, arith, append_assoc, length-append}
-use Rattle.std.specs.List.{flat_map, AllByRecursion}
+use Rattle.std.proofs.Common.{◌≡◌, ℕ, ◌+◌, ◌-◌, ◌^◌, ◌<◌, List, [], ◌∷◌, ◌++◌, length, take, drop, refl, sym, ap, subst, ◌∙◌, arith, append_assoc, length-append}
+use Rattle.std.specs.List.{AllByRecursion}
 use Rattle.std.proofs.lemmas.List.{take_at, drop_at}
 use Rattle.std.proofs.lemmas.List.Concat.{flat_map-cons}
 use Rattle.sctp_base.specs.Field.{be16, u16_at}
 use Rattle.sctp_base.specs.Walk.{Walks}
 use Rattle.sctp_base.proofs.Fields.{length_be16, u16_at_be16}
 use Rattle.sctp_chunks.specs.declared.chunk.error_cause.ErrorCause.{ErrorCause}
-use Rattle.sctp_chunks.specs.ErrorCause.{ReadsCause, ReadsCauses, IsCause, HasCauseText, after_cause, cause_declared, cause_value_at, cause_text, causes_text}
+use Rattle.sctp_chunks.specs.ErrorCause.{ReadsCause, ReadsCauses, HasCauseText, after_cause, cause_declared, cause_value_at, cause_text, causes_text}
 use Rattle.sctp_chunks.specs.Fits.{FitsCause}
 use Rattle.sctp_chunks.proofs.Causes.{length_cause_text}
 

@@ -1,5 +1,5 @@
 -- What is written of a chunk reads back, for each kind.
-use Rattle.std.proofs.Common.{◌≡◌, ℕ, ◌+◌, ◌*◌, ◌-◌, ◌/◌, ◌%◌, ◌^◌, ◌<◌, ◌≤◌, Bool, true, false, List, [], ◌∷◌, ◌++◌, length, drop, All, refl, sym, subst, ap, ◌∙◌, arith, append_assoc, length-append}
+use Rattle.std.proofs.Common.{◌≡◌, ℕ, ◌+◌, ◌*◌, ◌-◌, ◌/◌, ◌^◌, ◌<◌, Bool, true, false, List, [], ◌∷◌, ◌++◌, length, drop, All, refl, sym, subst, ap, ◌∙◌, arith, append_assoc, length-append}
 use Rattle.std.specs.Prelude.{slice_index}
 use Rattle.std.specs.List.{flat_map}
 use Rattle.std.proofs.lemmas.List.{append-nil, drop_at}
@@ -13,8 +13,8 @@ use Rattle.sctp_chunks.specs.declared.chunk.chunk_forward_tsn.ChunkForwardTsnStr
 use Rattle.sctp_chunks.specs.declared.chunk.chunk_i_forward_tsn.ChunkIForwardTsnStream.{ChunkIForwardTsnStream}
 use Rattle.sctp_chunks.specs.PayloadData.{has_flag, weight}
 use Rattle.sctp_chunks.specs.Params.{ReadBack, params_text}
-use Rattle.sctp_chunks.specs.Init.{Init, ReadsInit, init_value, init_in}
-use Rattle.sctp_chunks.specs.SelectiveAck.{Sack, ReadsSack, sack_value, sack_in, block_at, block_text}
+use Rattle.sctp_chunks.specs.Init.{Init, ReadsInit, init_value}
+use Rattle.sctp_chunks.specs.SelectiveAck.{Sack, ReadsSack, sack_value, block_at, block_text}
 use Rattle.sctp_chunks.specs.ForwardTsn.{ForwardTsn, ReadsForwardTsn, forward_tsn_value, stream_at, stream_text}
 use Rattle.sctp_chunks.specs.IForwardTsn.{IForwardTsn, ReadsIForwardTsn, i_forward_tsn_value, entry_at, entry_text}
 use Rattle.sctp_chunks.specs.Fits.{Fits, FitsInit, FitsBlock, FitsSack, FitsStream, FitsForwardTsn, FitsEntry, FitsIForwardTsn, Canonical}

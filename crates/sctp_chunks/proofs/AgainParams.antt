@@ -1,9 +1,9 @@
 -- Parameters that are written read back.
-use Rattle.std.proofs.Common.{◌≡◌, ℕ, ◌+◌, ◌<◌, ◌≤◌, true, false, List, [], ◌∷◌, ◌++◌, length, drop, replicate, refl, sym, ap, subst, ◌∙◌, arith, append_assoc, length-append}
+use Rattle.std.proofs.Common.{◌≡◌, ℕ, ◌+◌, true, false, List, [], ◌∷◌, ◌++◌, length, replicate, refl, sym, ap, subst, ◌∙◌, arith, append_assoc}
 use Rattle.std.specs.Prelude.{Option, Some, None}
 use Rattle.std.proofs.lemmas.List.{append-nil, length-replicate}
 use Rattle.std.proofs.Math.ListN.{drop_of_length-le}
-use Rattle.sctp_base.specs.Padding.{padding_of, padded}
+use Rattle.sctp_base.specs.Padding.{padding_of}
 use Rattle.sctp_base.specs.Walk.{Walks}
 use Rattle.sctp_base.specs.ParamFraming.{param_declared, after_param}
 use Rattle.sctp_base.specs.Param.{Parameter, heartbeat_info, ReadsBack, param_text, param_value_of}

@@ -1,5 +1,5 @@
 -- Bytes begin with one chunk at most.
-use Rattle.std.proofs.Common.{◌≡◌, ◌≢◌, ℕ, ◌<◌, ◌≤◌, Bool, true, false, List, length, drop, refl, ap, sym, ◌∙◌, arith}
+use Rattle.std.proofs.Common.{◌≡◌, ℕ, ◌<◌, ◌≤◌, Bool, true, false, List, length, drop, refl, ap, sym, ◌∙◌, arith}
 use Rattle.sctp_base.proofs.Walks.{walks_one}
 use Rattle.sctp_chunks.specs.declared.chunk.error_cause.ErrorCause.{ErrorCause}
 use Rattle.std.specs.Prelude.{Option, Some, None}
@@ -17,7 +17,7 @@ use Rattle.sctp_chunks.specs.SelectiveAck.{Sack}
 use Rattle.sctp_chunks.specs.ErrorCause.{ReadsCause, ReadsCauses, after_cause}
 use Rattle.sctp_chunks.specs.ForwardTsn.{ForwardTsn}
 use Rattle.sctp_chunks.specs.IForwardTsn.{IForwardTsn}
-use Rattle.sctp_chunks.specs.Wire.{Wire, data_chunk, init_chunk, sack_chunk, heartbeat_chunk, heartbeat_ack_chunk, reconfig_chunk, IsInit, abort_chunk, shutdown_chunk, shutdown_ack_chunk, error_chunk, cookie_echo_chunk, cookie_ack_chunk, shutdown_complete_chunk, forward_tsn_chunk, i_forward_tsn_chunk, ReadsChunk, type_of}
+use Rattle.sctp_chunks.specs.Wire.{Wire, data_chunk, init_chunk, sack_chunk, heartbeat_chunk, heartbeat_ack_chunk, reconfig_chunk, IsInit, abort_chunk, shutdown_chunk, shutdown_ack_chunk, error_chunk, cookie_echo_chunk, cookie_ack_chunk, shutdown_complete_chunk, forward_tsn_chunk, i_forward_tsn_chunk, ReadsChunk}
 
 -- no cause stands where fewer than four bytes are left
 pub no_cause : (bytes : List ℕ) → length bytes < 4 → (c : ErrorCause) → ReadsCause bytes c → ⊥

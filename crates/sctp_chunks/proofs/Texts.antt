@@ -1,6 +1,6 @@
 -- Why a chunk has no text.
-use Rattle.std.proofs.Common.{◌≡◌, List, [], ◌∷◌, inl, inr, refl}
-use Rattle.std.specs.Prelude.{Option, Some, None, ◌⊎◌}
+use Rattle.std.proofs.Common.{List, [], ◌∷◌, inl, inr}
+use Rattle.std.specs.Prelude.{Option, Some, None}
 use Rattle.sctp_base.specs.declared.error.Error.{Error}
 use Rattle.sctp_base.specs.Param.{Parameter}
 use Rattle.sctp_chunks.specs.Heartbeat.{IsOneInfo, OneInfoFault}

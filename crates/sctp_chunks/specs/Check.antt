@@ -1,12 +1,12 @@
 -- What is asked of a chunk beside its text: by `check`, and before it is written.
-use Rattle.std.specs.Prelude.{◌≡◌, ◌≢◌, ℕ, ◌+◌, ◌^◌, ◌<◌, ◌≤◌, ◌⊎◌, Option, Some, None, length}
+use Rattle.std.specs.Prelude.{◌≡◌, ◌≢◌, ◌<◌, ◌≤◌, ◌⊎◌, Option, Some, None}
 use Rattle.sctp_base.specs.declared.error.Error.{Error}
 use Rattle.sctp_base.specs.declared.error.Error.TheVariants as errors
 use Rattle.sctp_base.specs.Param.{Parameter}
 use Rattle.sctp_chunks.specs.Init.{Init}
-use Rattle.sctp_chunks.specs.Heartbeat.{IsOneInfo, OneInfoFault}
+use Rattle.sctp_chunks.specs.Heartbeat.{OneInfoFault}
 use Rattle.sctp_chunks.specs.Reconfig.{IsPair, PairFault}
-use Rattle.sctp_chunks.specs.Wire.{Wire, init_chunk, heartbeat_ack_chunk, reconfig_chunk, HasForm, HasLength, HasText, value_of}
+use Rattle.sctp_chunks.specs.Wire.{Wire, init_chunk, heartbeat_ack_chunk, reconfig_chunk, HasLength}
 
 -- the values that an INIT must not have (RFC 4960 3.3.2), the first one named
 abbrev pub IsCheckedInit : Init → Type 0

@@ -1,5 +1,5 @@
 -- HEARTBEAT and HEARTBEAT-ACK: what the sender wants back (RFC 4960 3.3.5, 3.3.6).
-use Rattle.std.specs.Prelude.{◌≡◌, ◌≢◌, ℕ, List, [], ◌∷◌, ◌⊎◌, length}
+use Rattle.std.specs.Prelude.{◌≡◌, ◌≢◌, ℕ, List, [], ◌∷◌}
 use Rattle.sctp_base.specs.Param.{Parameter, heartbeat_info, ReadsBack, param_type_of}
 use Rattle.sctp_base.specs.ParamKind.{IsReadAs, ReadsParam}
 use Rattle.sctp_base.specs.declared.param.param_type.ParamType.TheVariants as types

@@ -1,5 +1,5 @@
 -- Parameters one behind the other, read and written (RFC 4960 3.2.1).
-use Rattle.std.specs.Prelude.{◌≡◌, ℕ, ◌<◌, ◌≤◌, Bool, true, false, List, [], ◌∷◌, ◌++◌, length, replicate}
+use Rattle.std.specs.Prelude.{ℕ, ◌<◌, ◌≤◌, Bool, true, false, List, [], ◌∷◌, ◌++◌, length, replicate}
 use Rattle.std.specs.List.{AllByRecursion}
 use Rattle.sctp_base.specs.Padding.{padding_of}
 use Rattle.sctp_base.specs.Walk.{Walks}

@@ -1,5 +1,5 @@
 -- RECONFIG: streams are reset or added (RFC 6525 3.1).
-use Rattle.std.specs.Prelude.{◌≡◌, ◌≢◌, ℕ, ◌⊎◌, true, false, Option, Some, None, option_map, List, [], ◌++◌, length}
+use Rattle.std.specs.Prelude.{◌≡◌, ℕ, ◌⊎◌, true, false, Option, Some, None, option_map, List, [], ◌++◌, length}
 use Rattle.sctp_base.specs.ParamFraming.{after_param}
 use Rattle.sctp_base.specs.Param.{Parameter, ReadsBack, param_type_of}
 use Rattle.sctp_base.specs.ParamKind.{IsReadAs, ReadsParam, parameter_of}

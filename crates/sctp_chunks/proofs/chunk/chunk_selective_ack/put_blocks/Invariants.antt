@@ -1,4 +1,4 @@
-use Rattle.std.proofs.Common.{◌≡◌, ◌+◌, ◌*◌, ◌<◌, ◌^◌, ◌++◌, length, take}
+use Rattle.std.proofs.Common.{◌≡◌, ◌+◌, ◌*◌, ◌++◌, take}
 use Rattle.std.specs.List.{flat_map, AllByRecursion}
 use Rattle.sctp_chunks.specs.SelectiveAck.{block_text}
 use Rattle.sctp_chunks.specs.Fits.{FitsBlock}

@@ -1,4 +1,4 @@
-use Rattle.std.proofs.Common.{◌≡◌, ◌+◌, ◌<◌, ◌≤◌, ◌^◌, length, refl, append_assoc, arith}
+use Rattle.std.proofs.Common.{refl, append_assoc, arith}
 use Rattle.std.proofs.lemmas.Grind.{common_steps}
 use Rattle.sctp_chunks.proofs.Causes.{causes_at, causes_next, causes_next_length}
 use Rattle.sctp_chunks.proofs.chunk.error_cause.put_causes.Goals as goal

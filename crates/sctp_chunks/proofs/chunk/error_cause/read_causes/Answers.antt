@@ -1,4 +1,4 @@
-use Rattle.std.proofs.Common.{◌≡◌, ℕ, List, length, arith, ap, inl, inr}
+use Rattle.std.proofs.Common.{◌≡◌, length, arith, ap, inl, inr}
 use Rattle.std.proofs.lemmas.Result.{err_from_is_err_and}
 use Rattle.sctp_base.proofs.Walks.{walks_none, walks_next, walks_step}
 use Rattle.sctp_chunks.specs.ErrorCause.{ReadsCause, after_cause}

@@ -1,4 +1,4 @@
-use Rattle.std.proofs.Common.{◌≡◌, ◌+◌, length, append_assoc, refl}
+use Rattle.std.proofs.Common.{◌+◌, length, append_assoc, refl}
 use Rattle.sctp_base.specs.Param.{param_value_of}
 use Rattle.sctp_base.specs.ParamKind.{parameter_of}
 use Rattle.sctp_base.proofs.ParamLengths.{length_param_text}

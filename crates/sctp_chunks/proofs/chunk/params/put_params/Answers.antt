@@ -1,4 +1,4 @@
-use Rattle.std.proofs.Common.{◌≡◌, ◌+◌, ◌≤◌, ◌<◌, ◌++◌, length, ap, append_assoc, arith}
+use Rattle.std.proofs.Common.{length, ap, append_assoc, arith}
 use Rattle.std.proofs.lemmas.List.{append-nil}
 use Rattle.sctp_chunks.proofs.ParamsText.{params_text_from, params_length_from, no_params_left}
 use Rattle.sctp_chunks.proofs.chunk.params.put_params.Goals as goal
