@@ -1,19 +1,19 @@
 -- A packet that is written reads back.
-use Rattle.std.proofs.Common.{◌≡◌, ℕ, ◌+◌, ◌<◌, ◌≤◌, ◌^◌, List, [], ◌∷◌, ◌++◌, length, take, drop, replicate, All, refl, sym, ap, ◌∙◌, subst, arith, append_assoc, length-append}
-use Rattle.std.specs.List.{flat_map, AllByRecursion}
+use Rattle.std.proofs.Common.{◌≡◌, ℕ, ◌+◌, ◌<◌, ◌^◌, List, [], ◌∷◌, ◌++◌, length, take, drop, replicate, All, refl, sym, ap, ◌∙◌, subst, arith, append_assoc, length-append}
+use Rattle.std.specs.List.{AllByRecursion}
 use Rattle.std.proofs.lemmas.List.{take_at, drop_at, append-nil, length-replicate}
 use Rattle.std.proofs.lemmas.List.Elements.{All-replicate}
 use Rattle.std.proofs.lemmas.List.Concat.{flat_map-cons}
 use Rattle.sctp_base.specs.Field.{be16, be32, le32, u16_at, u32_at, u32_le_at}
 use Rattle.sctp_base.specs.Padding.{padding_of, padded, four_zeroes}
-use Rattle.sctp_base.proofs.Fields.{length_be16, length_be32, length_le32, u16_at_be16, u32_at_be32, u32_le_at_le32}
-use Rattle.sctp_chunks.specs.Framing.{declared, framed}
+use Rattle.sctp_base.proofs.Fields.{length_be16, length_le32, u16_at_be16, u32_at_be32, u32_le_at_le32}
+use Rattle.sctp_chunks.specs.Framing.{declared}
 use Rattle.sctp_chunks.specs.Wire.{Wire, HasText, text_of, type_of, flags_of, value_of}
 use Rattle.sctp_chunks.specs.Fits.{Fits, Canonical}
 use Rattle.sctp_chunks.proofs.Again.{framed_declared}
 use Rattle.sctp_chunks.proofs.AgainKinds.{chunk_again}
 use Rattle.sctp_base.specs.Walk.{Walks}
-use Rattle.sctp_packets.specs.Packet.{Parts, Steps, after, IsCanonical, padded_text, body_of, head_text, head_of, packet_text, summed, IsHeaded, ReadsPacket, HavePacketText, FitsParts}
+use Rattle.sctp_packets.specs.Packet.{Parts, Steps, after, IsCanonical, padded_text, body_of, head_text, head_of, packet_text, summed, ReadsPacket, HavePacketText, FitsParts}
 use Rattle.sctp_packets.proofs.Sealed.{length_head_text}
 use Rattle.sctp_packets.proofs.Written.{length_text}
 

@@ -1,12 +1,12 @@
 -- What must stand in the bytes of a packet for each refusal.
-use Rattle.std.specs.Prelude.{◌≡◌, ◌≢◌, ℕ, ◌+◌, ◌<◌, ◌≤◌, ◌⊎◌, List, [], length, drop}
+use Rattle.std.specs.Prelude.{◌≡◌, ◌≢◌, ℕ, ◌<◌, ◌≤◌, ◌⊎◌, List, length, drop}
 use Rattle.sctp_base.specs.declared.error.Error.{Error}
 use Rattle.sctp_base.specs.declared.error.Error.TheVariants as errors
 use Rattle.sctp_base.specs.Field.{u32_le_at}
 use Rattle.sctp_base.specs.Padding.{padded}
 use Rattle.sctp_chunks.specs.Framing.{declared}
-use Rattle.sctp_chunks.specs.Wire.{Wire, ReadsChunk}
-use Rattle.sctp_chunks.specs.Kind.{IsRead, KindFault}
+use Rattle.sctp_chunks.specs.Wire.{Wire}
+use Rattle.sctp_chunks.specs.Kind.{KindFault}
 use Rattle.sctp_base.specs.Walk.{Walks}
 use Rattle.sctp_packets.specs.Packet.{Steps, after, summed}
 

@@ -1,5 +1,5 @@
 -- Packets: a header, and chunks that fill the rest exactly (RFC 4960 3).
-use Rattle.std.specs.Prelude.{◌≡◌, ℕ, ◌+◌, ◌≤◌, ◌<◌, ◌^◌, List, [], ◌∷◌, ◌++◌, length, take, drop, map, replicate}
+use Rattle.std.specs.Prelude.{◌≡◌, ℕ, ◌≤◌, ◌<◌, ◌^◌, List, [], ◌++◌, length, take, drop, map, replicate}
 use Rattle.std.specs.List.{flat_map, AllByRecursion}
 use Rattle.sctp_base.specs.Field.{be16, be32, le32, u16_at, u32_at, u32_le_at}
 use Rattle.sctp_base.specs.Padding.{padding_of, padded, four_zeroes}

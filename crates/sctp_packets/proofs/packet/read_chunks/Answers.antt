@@ -1,9 +1,9 @@
-use Rattle.std.proofs.Common.{◌≡◌, ℕ, ◌<◌, ◌≤◌, ◌∷◌, ◌++◌, [], List, length, drop, arith, refl, sym, ap, ◌∙◌, subst, inl, inr}
+use Rattle.std.proofs.Common.{◌≡◌, length, arith, inl, inr}
 use Rattle.std.specs.Prelude.{map}
 use Rattle.std.proofs.lemmas.Result.{err_from_is_err_and}
 use Rattle.std.proofs.lemmas.Grind.{common_steps}
 use Rattle.std.proofs.lemmas.List.{map-append, nil_from_length}
-use Rattle.sctp_chunks.specs.Wire.{Wire, HasText}
+use Rattle.sctp_chunks.specs.Wire.{HasText}
 use Rattle.sctp_chunks.specs.Kind.{wire_of, IsFreshKind}
 use Rattle.sctp_base.proofs.Walks.{walks_none, walks_next}
 use Rattle.sctp_packets.specs.Packet.{Steps, after}

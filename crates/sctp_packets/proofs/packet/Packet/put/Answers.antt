@@ -1,10 +1,9 @@
-use Rattle.std.proofs.Common.{◌≡◌, ℕ, ◌+◌, ◌≤◌, List, ◌++◌, length, take, drop, refl, sym, ap, ◌∙◌, append_assoc, arith, inl, inr, subst, ◌<◌, ◌^◌}
+use Rattle.std.proofs.Common.{◌≡◌, ℕ, List, ◌++◌, refl, append_assoc, arith, inl, inr, subst, ◌<◌, ◌^◌}
 use Rattle.std.specs.Prelude.{map}
-use Rattle.sctp_base.specs.Field.{le32}
 use Rattle.sctp_base.specs.Padding.{four_zeroes}
 use Rattle.sctp_chunks.specs.Kind.{wire_of}
-use Rattle.sctp_packets.specs.Packet.{parts_of, head_of, body_of, packet_text}
-use Rattle.sctp_packets.proofs.Sealed.{length_head_text, unsealed, unsealed_long, sealed, summed_is, kept_front}
+use Rattle.sctp_packets.specs.Packet.{parts_of, head_of, body_of}
+use Rattle.sctp_packets.proofs.Sealed.{length_head_text, unsealed_long, sealed, summed_is, kept_front}
 use Rattle.std.proofs.lemmas.Result.{err_from_is_err_and}
 use Rattle.sctp_packets.proofs.Written.{length_packet_text}
 use Rattle.sctp_packets.proofs.packet.Packet.put.Goals as goal

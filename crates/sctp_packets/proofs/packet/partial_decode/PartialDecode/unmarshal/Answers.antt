@@ -1,4 +1,4 @@
-use Rattle.std.proofs.Common.{◌≡◌, ◌<◌, ◌≤◌, length, drop, sym, ap, ◌∙◌, arith, rules}
+use Rattle.std.proofs.Common.{length, drop, ap, ◌∙◌, arith, rules}
 use Rattle.sctp_chunks.specs.Framing.{IsFramed, type_at}
 use Rattle.sctp_packets.specs.Partial.{IsInitType}
 use Rattle.sctp_packets.proofs.Partial.{first_step, some_chunks, framed_no_fault, init_long}
