@@ -331,7 +331,7 @@ fn run_start(
     Some(first)
 }
 
-// Where the shortest run that holds the place ends, if it begins.
+// Where the shortest run that holds the place ends, if one does.
 fn run_end(loose: &Loose, place: usize, here: &ChunkPayloadData, turns: &mut Turns) -> Option<usize>
     requires in_range { place < length loose.now }
     requires value { here.now ≡ slice_index_or loose.now place here.now }
@@ -362,6 +362,8 @@ fn run_end(loose: &Loose, place: usize, here: &ChunkPayloadData, turns: &mut Tur
 }
 
 /// The run that holds the place, the one that ends earliest.
+///
+/// The end is looked for first: what comes behind all others, as in order, has none but its own.
 pub fn run_around(loose: &Loose, place: usize, turns: &mut Turns) -> Option<(usize, usize)>
     requires { place < length loose.now }
     ensures found { IfSome result (λ run. IsEarliestRunAround loose.now place run.0 run.1) }
@@ -370,8 +372,8 @@ pub fn run_around(loose: &Loose, place: usize, turns: &mut Turns) -> Option<(usi
     ensures cost { (first last : ℕ) → IsStretch loose.now place first last → turns.new ≤ turns.old + (last + 1 - first) + 2 }
 {
     let here = loose.look(place, turns);
-    let first = run_start(loose, place, here, turns)?;
     let last = run_end(loose, place, here, turns)?;
+    let first = run_start(loose, place, here, turns)?;
     Some((first, last + 1 - first))
 }
 
