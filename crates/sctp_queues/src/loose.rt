@@ -1,11 +1,12 @@
 //! Loose fragments: what came of unordered messages that are not whole. What looks at one takes a turn.
 
-ghost use Rattle.std.specs.Prelude.{◌≡◌, ℕ, ◌==◌, ◌+◌, ◌-◌, ◌^◌, ◌<◌, ◌≤◌, ◌&&◌, [], ◌∷◌, length, slice_index_or, insert, remove, take, drop, ◌++◌, OnOk, OnErr, IfOk, IfErr, IfSome, IfNone, true, false, IsTrue, not};
+ghost use Rattle.std.specs.Prelude.{◌≡◌, ℕ, ◌==◌, ◌+◌, ◌-◌, ◌^◌, ◌<◌, ◌≤◌, ◌&&◌, [], ◌∷◌, length, min, slice_index_or, insert, remove, take, drop, ◌++◌, OnOk, OnErr, IfOk, IfErr, IfSome, IfNone, true, false, IsTrue, not};
 ghost use Rattle.sctp_queues.specs.Runs.{IsEarliestRunAround, HasNoRunAround, IsStretch, IsEarliestRun, HasNoRun};
 ghost use Rattle.sctp_base.specs.declared.error.Error.TheVariants.{ErrOutOfMemory};
 ghost use Rattle.sctp_chunks.specs.declared.chunk.chunk_payload_data.ChunkPayloadData.{ChunkPayloadData};
 ghost use Rattle.sctp_lists.specs.Serial.{comes_before};
 ghost use Rattle.sctp_queues.specs.Around.{IsStart, HasNoStart, IsEnd, IsFirstEnding, HasNoEnd};
+ghost use Rattle.sctp_queues.specs.DataChunks.{bytes_of};
 ghost use Rattle.sctp_queues.specs.Loose.{IsOrderMark};
 ghost use Rattle.sctp_queues.specs.Window.{IsSerial};
 
@@ -56,20 +57,23 @@ impl LooseFragment {
 #[derive(Drop)]
 pub struct Loose {
     chunks: VecDeque<LooseFragment>,
+    // the length of their user data, up to the greatest usize
+    n_bytes: usize,
     // whether they stand in serial order, as fragments of honest peers do
     serial: bool,
 }
 
 impl Model for Loose {
-    ghost use Rattle.std.specs.Prelude.{List};
+    ghost use Rattle.std.specs.Prelude.{◌≡◌, ◌-◌, ◌^◌, min, List};
     ghost use Rattle.sctp_chunks.specs.declared.chunk.chunk_payload_data.ChunkPayloadData.{ChunkPayloadData};
+    ghost use Rattle.sctp_queues.specs.DataChunks.{bytes_of};
     ghost use Rattle.sctp_queues.specs.Loose.{IsOrderMark};
 
     ghost Value = { List ChunkPayloadData };
 
     ghost view = { λ l. l.chunks.items };
 
-    ghost invariant = { λ l. IsOrderMark l.serial l.chunks.items };
+    ghost invariant = { λ l. record { counted : l.n_bytes ≡ min (bytes_of l.chunks.items) (2 ^ 64 - 1); order : IsOrderMark l.serial l.chunks.items } };
 }
 
 impl Loose {
@@ -78,6 +82,7 @@ impl Loose {
     {
         Loose {
             chunks: VecDeque::new(alloc),
+            n_bytes: 0,
             serial: true,
         }
     }
@@ -86,6 +91,13 @@ impl Loose {
         ensures { result ≡ length self.now }
     {
         self.chunks.len()
+    }
+
+    /// How many bytes they carry, or the greatest number where they are more.
+    pub fn get_num_bytes(&self) -> usize
+        ensures { result ≡ min (bytes_of self.now) (2 ^ 64 - 1) }
+    {
+        self.n_bytes
     }
 
     /// Whether they stand in serial order.
@@ -116,8 +128,10 @@ impl Loose {
         ensures err { OnErr result (self.new ≡ self.old) }
     {
         let serial = self.stays_serial(place, chunk.tsn);
+        let len = chunk.user_data.len();
         let fragment = LooseFragment::new(alloc, chunk)?;
         self.chunks.insert(place, fragment)?;
+        self.n_bytes = self.n_bytes.saturating_add(len);
         self.serial = serial;
         Ok(())
     }
@@ -143,6 +157,7 @@ impl Loose {
         ensures value { result ≡ slice_index_or self.old place result }
     {
         let chunk = take_out(&mut self.chunks, place);
+        self.n_bytes = bytes_without(self.n_bytes, chunk.user_data.len(), &self.chunks);
         self.serial = is_still_serial(self.serial, &self.chunks);
         chunk
     }
@@ -160,6 +175,7 @@ impl Loose {
         ensures err { OnErr result (self.new ≡ self.old) }
     {
         let mut taken = Vec::with_capacity(alloc, count)?;
+        let gone = bytes_from(&self.chunks, first, count);
         for _moved in 0..count {
             let chunk = take_out(&mut self.chunks, first);
             match taken.push(chunk) {
@@ -167,6 +183,7 @@ impl Loose {
                 Err(_) => unreachable!(),
             }
         }
+        self.n_bytes = bytes_without(self.n_bytes, gone, &self.chunks);
         self.serial = is_still_serial(self.serial, &self.chunks);
         Ok(taken)
     }
@@ -178,6 +195,7 @@ impl Loose {
     {
         Ok(Loose {
             chunks: clone_fragments(alloc, &self.chunks)?,
+            n_bytes: self.n_bytes,
             serial: self.serial,
         })
     }
@@ -193,9 +211,11 @@ impl Loose {
         requires { count ≤ length self.old }
         ensures { self.new ≡ drop count self.old }
     {
+        let gone = bytes_from(&self.chunks, 0, count);
         for _gone in 0..count {
             self.chunks.pop_front();
         }
+        self.n_bytes = bytes_without(self.n_bytes, gone, &self.chunks);
         self.serial = is_still_serial(self.serial, &self.chunks);
     }
 }
@@ -272,6 +292,28 @@ fn is_still_serial(was_serial: bool, chunks: &VecDeque<LooseFragment>) -> bool
         return true;
     }
     are_serial(chunks)
+}
+
+// How many bytes some neighbours carry, up to the greatest number.
+fn bytes_from(chunks: &VecDeque<LooseFragment>, first: usize, count: usize) -> usize
+    requires { first + count ≤ length chunks.now.items }
+    ensures { result ≡ min (bytes_of (take count (drop first chunks.now.items))) (2 ^ 64 - 1) }
+{
+    let mut bytes = 0usize;
+    for step in 0..count {
+        bytes = bytes.saturating_add(chunks[first + step].chunk().user_data.len());
+    }
+    bytes
+}
+
+// The bytes of what is left, where so many were taken of so many: past the greatest number the rest is counted anew.
+fn bytes_without(n_bytes: usize, gone: usize, chunks: &VecDeque<LooseFragment>) -> usize
+    ensures { (n : ℕ) → n_bytes ≡ min (n + bytes_of chunks.now.items) (2 ^ 64 - 1) → gone ≡ min n (2 ^ 64 - 1) → result ≡ min (bytes_of chunks.now.items) (2 ^ 64 - 1) }
+{
+    if n_bytes < usize::MAX {
+        return n_bytes.saturating_sub(gone);
+    }
+    bytes_from(chunks, 0, chunks.len())
 }
 
 fn take_out(chunks: &mut VecDeque<LooseFragment>, place: usize) -> ChunkPayloadData
