@@ -8,6 +8,7 @@ ghost use Rattle.sctp_lists.specs.Serial.{comes_before};
 ghost use Rattle.sctp_queues.specs.Around.{IsStart, HasNoStart, IsEnd, IsFirstEnding, HasNoEnd};
 ghost use Rattle.sctp_queues.specs.DataChunks.{bytes_of};
 ghost use Rattle.sctp_queues.specs.Loose.{IsOrderMark};
+ghost use Rattle.sctp_queues.specs.Sets.{next_tsn};
 ghost use Rattle.sctp_queues.specs.Window.{IsSerial};
 
 use crate::turns::Turns;
@@ -379,6 +380,7 @@ fn run_end(loose: &Loose, place: usize, here: &ChunkPayloadData, turns: &mut Tur
     requires value { here.now ≡ slice_index_or loose.now place here.now }
     ensures found { IfSome result (λ last. IsEnd loose.now place last × IsFirstEnding loose.now place last) }
     ensures fits { IfSome result (λ last. last + 1 < 2 ^ 64) }
+    ensures spent { IfSome result (λ last. turns.new + place ≡ turns.old + last) }
     ensures none { IfNone result (HasNoEnd loose.now place) }
     ensures not_back { turns.old ≤ turns.new }
     ensures cost { (first last : ℕ) → IsStretch loose.now place first last → turns.new ≤ turns.old + (last - place) + 1 }
@@ -403,20 +405,62 @@ fn run_end(loose: &Loose, place: usize, here: &ChunkPayloadData, turns: &mut Tur
     Some(last)
 }
 
+// Whether no run that holds the place begins before it, so far as a look at the nearest tells.
+fn is_cut_off(loose: &Loose, place: usize, here: &ChunkPayloadData, turns: &mut Turns) -> bool
+    requires in_range { place < length loose.now }
+    requires value { here.now ≡ slice_index_or loose.now place here.now }
+    ensures yes { result ≡ true → HasNoStart loose.now place }
+    ensures no { result ≡ false → here.now.beginning_fragment ≡ false → (0 < place) × ((d : ChunkPayloadData) → here.now.tsn ≡ next_tsn (slice_index_or loose.now (place - 1) d).tsn) }
+    ensures not_back { turns.old ≤ turns.new }
+    ensures cost { turns.new ≤ turns.old + 1 }
+{
+    if here.beginning_fragment {
+        return false;
+    }
+    if place == 0 {
+        return true;
+    }
+    here.tsn != loose.look(place - 1, turns).tsn.wrapping_add(1)
+}
+
+// The run that holds the place, the one that ends earliest, by walks: to its end, then to its start.
+fn run_through(
+    loose: &Loose,
+    place: usize,
+    here: &ChunkPayloadData,
+    turns: &mut Turns,
+) -> Option<(usize, usize)>
+    requires in_range { place < length loose.now }
+    requires value { here.now ≡ slice_index_or loose.now place here.now }
+    ensures found { IfSome result (λ run. IsEarliestRunAround loose.now place run.0 run.1) }
+    ensures none { IfNone result (HasNoRunAround loose.now place) }
+    ensures not_back { turns.old ≤ turns.new }
+    ensures cost { (first last : ℕ) → IsStretch loose.now place first last → turns.new ≤ turns.old + (last + 1 - first) }
+    ensures at_back { (first : ℕ) → IsStretch loose.now place first place → here.now.ending_fragment ≡ false → turns.new ≤ turns.old + 1 }
+{
+    let last = run_end(loose, place, here, turns)?;
+    let first = run_start(loose, place, here, turns)?;
+    Some((first, last + 1 - first))
+}
+
 /// The run that holds the place, the one that ends earliest.
 ///
-/// The end is looked for first: what comes behind all others, as in order, has none but its own.
+/// At the front of its stretch what does not begin takes two turns at most, at the back what does not end
+/// three: so does each fragment of a message that comes in order or reversed, but the last.
 pub fn run_around(loose: &Loose, place: usize, turns: &mut Turns) -> Option<(usize, usize)>
     requires { place < length loose.now }
     ensures found { IfSome result (λ run. IsEarliestRunAround loose.now place run.0 run.1) }
     ensures none { IfNone result (HasNoRunAround loose.now place) }
     ensures not_back { turns.old ≤ turns.new }
     ensures cost { (first last : ℕ) → IsStretch loose.now place first last → turns.new ≤ turns.old + (last + 1 - first) + 2 }
+    ensures at_front { (last : ℕ) → IsStretch loose.now place place last → ((d : ChunkPayloadData) → (slice_index_or loose.now place d).beginning_fragment ≡ false) → turns.new ≤ turns.old + 2 }
+    ensures at_back { (first : ℕ) → IsStretch loose.now place first place → ((d : ChunkPayloadData) → (slice_index_or loose.now place d).ending_fragment ≡ false) → turns.new ≤ turns.old + 3 }
 {
     let here = loose.look(place, turns);
-    let last = run_end(loose, place, here, turns)?;
-    let first = run_start(loose, place, here, turns)?;
-    Some((first, last + 1 - first))
+    if is_cut_off(loose, place, here, turns) {
+        return None;
+    }
+    run_through(loose, place, here, turns)
 }
 
 /// The run that ends earliest, by a scan of all.
