@@ -202,8 +202,8 @@ impl ReassemblyQueue {
         projected > self.max_message_size as usize
     }
 
-    // Whether the chunk and all loose fragments are no longer than one message may be. Then its message is
-    // not, since in serial order no fragment stands on both sides of it; so no neighbour is looked at.
+    // Whether all loose fragments and the chunk are no longer than one message may be, in serial order. Then its
+    // message is no longer either, since no fragment stands on both sides of the chunk.
     fn fits_beside_all(&self, chunk: &ChunkPayloadData) -> bool
         ensures yes { result ≡ true → IsSerial self.now.held.loose × (bytes_of self.now.held.loose + length chunk.now.user_data ≤ self.now.max_message_size) }
         ensures no { result ≡ false → IsSerial self.now.held.loose → self.now.max_message_size < bytes_of self.now.held.loose + length chunk.now.user_data }
