@@ -9,7 +9,7 @@ use Rattle.std.proofs.lemmas.List.Folds.{list_any_none}
 use Rattle.std.proofs.lemmas.List.Sums.{sum_by-cons, sum_by-append, sum_by-take-drop}
 use Rattle.sctp_chunks.specs.declared.chunk.chunk_payload_data.ChunkPayloadData.{ChunkPayloadData}
 use Rattle.sctp_lists.specs.Lists.{after_leading}
-use Rattle.sctp_lists.specs.Serial.{distance, comes_before}
+use Rattle.sctp_lists.specs.Serial.{comes_before}
 use Rattle.sctp_lists.proofs.More.{fails}
 use Rattle.sctp_lists.proofs.SerialLemmas.{comes_before_from}
 use Rattle.sctp_queues.specs.DataChunks.{bytes_of, has_tsn}

@@ -1,4 +1,4 @@
-use Rattle.std.proofs.Common.{◌≡◌, ℕ, ◌+◌, ◌-◌, ◌<◌, ◌≤◌, arith}
+use Rattle.std.proofs.Common.{◌+◌, ◌-◌, arith}
 use Rattle.sctp_queues.proofs.RunLemmas.{start_of, end_of, joined, stretch_to, not_at_back}
 use Rattle.sctp_queues.proofs.loose.run_through.Goals as goal
 

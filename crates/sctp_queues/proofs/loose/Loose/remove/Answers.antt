@@ -1,4 +1,4 @@
-use Rattle.std.proofs.Common.{length, sym, ap, subst, ◌∙◌, arith}
+use Rattle.std.proofs.Common.{length, sym, ap, subst, arith}
 use Rattle.sctp_queues.specs.Window.{IsSerial}
 use Rattle.sctp_queues.proofs.LooseBytes.{one_out}
 use Rattle.sctp_queues.proofs.Serials.{serial_remove}

@@ -1,6 +1,5 @@
-use Rattle.std.proofs.Common.{◌≡◌, ◌≤◌, ◌<◌, nat_lt, false, if◌then◌else◌, sym, ap, ◌∙◌, arith}
+use Rattle.std.proofs.Common.{arith}
 use Rattle.std.proofs.lemmas.Bool.Decides.{nat_tests}
-use Rattle.sctp_queues.specs.Sizes.{projected_size}
 use Rattle.sctp_queues.proofs.SizeBounds.{within_all}
 use Rattle.sctp_queues.proofs.reassembly_queue.ReassemblyQueue.is_too_large.Goals as goal
 
