@@ -3,6 +3,8 @@ pub mod Ascending
 pub mod SetLemmas
 pub mod RunLemmas
 pub mod SizeLemmas
+pub mod LooseBytes
+pub mod SizeBounds
 pub mod PieceLemmas
 pub mod Halves
 pub mod Serials

@@ -145,7 +145,7 @@ module _ (xs : List ChunkPayloadData) (s : IsSerial xs) (n : ℕ) (small : n < 2
 
   -- what stands behind where the number goes lies within half a circle after it, or has it for the half
   module _ (place : ℕ) (at : place ≡ place_among n xs) where
-    in_front : (k : ℕ) (d : ChunkPayloadData) → k < place → comes_before n (get_or xs k d).tsn ≡ false
+    pub in_front : (k : ℕ) (d : ChunkPayloadData) → k < place → comes_before n (get_or xs k d).tsn ≡ false
     in_front k d lt = fails_before_first (λ e. comes_before n e.tsn) xs k d (omega arith)
 
     there : (d : ChunkPayloadData) → place < length xs → comes_before n (get_or xs place d).tsn ≡ true
@@ -153,7 +153,7 @@ module _ (xs : List ChunkPayloadData) (s : IsSerial xs) (n : ℕ) (small : n < 2
 
     module _ (m : ℕ) (small_m : m < 2 ^ 32) (one : distance m n ≡ 1) where
       -- the number before it stands in front of there
-      is_front : (k : ℕ) (d : ChunkPayloadData) → k < length xs → (get_or xs k d).tsn ≡ m → k < place
+      pub is_front : (k : ℕ) (d : ChunkPayloadData) → k < length xs → (get_or xs k d).tsn ≡ m → k < place
       is_front k d lt same = elim (cases_lt k place) [
         | inl low ↦ low
         | inr high ↦

@@ -1,12 +1,14 @@
 //! Loose fragments: what came of unordered messages that are not whole. What looks at one takes a turn.
 
-ghost use Rattle.std.specs.Prelude.{◌≡◌, ℕ, ◌==◌, ◌+◌, ◌-◌, ◌^◌, ◌<◌, ◌≤◌, ◌&&◌, [], ◌∷◌, length, slice_index_or, insert, remove, take, drop, ◌++◌, OnOk, OnErr, IfOk, IfErr, IfSome, IfNone, true, false, IsTrue, not};
+ghost use Rattle.std.specs.Prelude.{◌≡◌, ℕ, ◌==◌, ◌+◌, ◌-◌, ◌^◌, ◌<◌, ◌≤◌, ◌&&◌, [], ◌∷◌, length, min, slice_index_or, insert, remove, take, drop, ◌++◌, OnOk, OnErr, IfOk, IfErr, IfSome, IfNone, true, false, IsTrue, not};
 ghost use Rattle.sctp_queues.specs.Runs.{IsEarliestRunAround, HasNoRunAround, IsStretch, IsEarliestRun, HasNoRun};
 ghost use Rattle.sctp_base.specs.declared.error.Error.TheVariants.{ErrOutOfMemory};
 ghost use Rattle.sctp_chunks.specs.declared.chunk.chunk_payload_data.ChunkPayloadData.{ChunkPayloadData};
 ghost use Rattle.sctp_lists.specs.Serial.{comes_before};
 ghost use Rattle.sctp_queues.specs.Around.{IsStart, HasNoStart, IsEnd, IsFirstEnding, HasNoEnd};
+ghost use Rattle.sctp_queues.specs.DataChunks.{bytes_of};
 ghost use Rattle.sctp_queues.specs.Loose.{IsOrderMark};
+ghost use Rattle.sctp_queues.specs.Sets.{next_tsn};
 ghost use Rattle.sctp_queues.specs.Window.{IsSerial};
 
 use crate::turns::Turns;
@@ -56,20 +58,23 @@ impl LooseFragment {
 #[derive(Drop)]
 pub struct Loose {
     chunks: VecDeque<LooseFragment>,
+    // the length of their user data, up to the greatest usize
+    n_bytes: usize,
     // whether they stand in serial order, as fragments of honest peers do
     serial: bool,
 }
 
 impl Model for Loose {
-    ghost use Rattle.std.specs.Prelude.{List};
+    ghost use Rattle.std.specs.Prelude.{◌≡◌, ◌-◌, ◌^◌, min, List};
     ghost use Rattle.sctp_chunks.specs.declared.chunk.chunk_payload_data.ChunkPayloadData.{ChunkPayloadData};
+    ghost use Rattle.sctp_queues.specs.DataChunks.{bytes_of};
     ghost use Rattle.sctp_queues.specs.Loose.{IsOrderMark};
 
     ghost Value = { List ChunkPayloadData };
 
     ghost view = { λ l. l.chunks.items };
 
-    ghost invariant = { λ l. IsOrderMark l.serial l.chunks.items };
+    ghost invariant = { λ l. record { counted : l.n_bytes ≡ min (bytes_of l.chunks.items) (2 ^ 64 - 1); order : IsOrderMark l.serial l.chunks.items } };
 }
 
 impl Loose {
@@ -78,6 +83,7 @@ impl Loose {
     {
         Loose {
             chunks: VecDeque::new(alloc),
+            n_bytes: 0,
             serial: true,
         }
     }
@@ -86,6 +92,13 @@ impl Loose {
         ensures { result ≡ length self.now }
     {
         self.chunks.len()
+    }
+
+    /// How many bytes they carry, or the greatest number where they are more.
+    pub fn get_num_bytes(&self) -> usize
+        ensures { result ≡ min (bytes_of self.now) (2 ^ 64 - 1) }
+    {
+        self.n_bytes
     }
 
     /// Whether they stand in serial order.
@@ -116,8 +129,10 @@ impl Loose {
         ensures err { OnErr result (self.new ≡ self.old) }
     {
         let serial = self.stays_serial(place, chunk.tsn);
+        let len = chunk.user_data.len();
         let fragment = LooseFragment::new(alloc, chunk)?;
         self.chunks.insert(place, fragment)?;
+        self.n_bytes = self.n_bytes.saturating_add(len);
         self.serial = serial;
         Ok(())
     }
@@ -143,6 +158,7 @@ impl Loose {
         ensures value { result ≡ slice_index_or self.old place result }
     {
         let chunk = take_out(&mut self.chunks, place);
+        self.n_bytes = bytes_without(self.n_bytes, chunk.user_data.len(), &self.chunks);
         self.serial = is_still_serial(self.serial, &self.chunks);
         chunk
     }
@@ -160,6 +176,7 @@ impl Loose {
         ensures err { OnErr result (self.new ≡ self.old) }
     {
         let mut taken = Vec::with_capacity(alloc, count)?;
+        let gone = bytes_from(&self.chunks, first, count);
         for _moved in 0..count {
             let chunk = take_out(&mut self.chunks, first);
             match taken.push(chunk) {
@@ -167,6 +184,7 @@ impl Loose {
                 Err(_) => unreachable!(),
             }
         }
+        self.n_bytes = bytes_without(self.n_bytes, gone, &self.chunks);
         self.serial = is_still_serial(self.serial, &self.chunks);
         Ok(taken)
     }
@@ -178,6 +196,7 @@ impl Loose {
     {
         Ok(Loose {
             chunks: clone_fragments(alloc, &self.chunks)?,
+            n_bytes: self.n_bytes,
             serial: self.serial,
         })
     }
@@ -193,9 +212,11 @@ impl Loose {
         requires { count ≤ length self.old }
         ensures { self.new ≡ drop count self.old }
     {
+        let gone = bytes_from(&self.chunks, 0, count);
         for _gone in 0..count {
             self.chunks.pop_front();
         }
+        self.n_bytes = bytes_without(self.n_bytes, gone, &self.chunks);
         self.serial = is_still_serial(self.serial, &self.chunks);
     }
 }
@@ -274,6 +295,28 @@ fn is_still_serial(was_serial: bool, chunks: &VecDeque<LooseFragment>) -> bool
     are_serial(chunks)
 }
 
+// How many bytes some neighbours carry, up to the greatest number.
+fn bytes_from(chunks: &VecDeque<LooseFragment>, first: usize, count: usize) -> usize
+    requires { first + count ≤ length chunks.now.items }
+    ensures { result ≡ min (bytes_of (take count (drop first chunks.now.items))) (2 ^ 64 - 1) }
+{
+    let mut bytes = 0usize;
+    for step in 0..count {
+        bytes = bytes.saturating_add(chunks[first + step].chunk().user_data.len());
+    }
+    bytes
+}
+
+// The bytes of what is left, where so many were taken of so many: past the greatest number the rest is counted anew.
+fn bytes_without(n_bytes: usize, gone: usize, chunks: &VecDeque<LooseFragment>) -> usize
+    ensures { (n : ℕ) → n_bytes ≡ min (n + bytes_of chunks.now.items) (2 ^ 64 - 1) → gone ≡ min n (2 ^ 64 - 1) → result ≡ min (bytes_of chunks.now.items) (2 ^ 64 - 1) }
+{
+    if n_bytes < usize::MAX {
+        return n_bytes.saturating_sub(gone);
+    }
+    bytes_from(chunks, 0, chunks.len())
+}
+
 fn take_out(chunks: &mut VecDeque<LooseFragment>, place: usize) -> ChunkPayloadData
     requires { place < length chunks.old.items }
     ensures rest { chunks.new.items ≡ remove chunks.old.items place }
@@ -331,12 +374,13 @@ fn run_start(
     Some(first)
 }
 
-// Where the shortest run that holds the place ends, if it begins.
+// Where the shortest run that holds the place ends, if one does.
 fn run_end(loose: &Loose, place: usize, here: &ChunkPayloadData, turns: &mut Turns) -> Option<usize>
     requires in_range { place < length loose.now }
     requires value { here.now ≡ slice_index_or loose.now place here.now }
     ensures found { IfSome result (λ last. IsEnd loose.now place last × IsFirstEnding loose.now place last) }
     ensures fits { IfSome result (λ last. last + 1 < 2 ^ 64) }
+    ensures spent { IfSome result (λ last. turns.new + place ≡ turns.old + last) }
     ensures none { IfNone result (HasNoEnd loose.now place) }
     ensures not_back { turns.old ≤ turns.new }
     ensures cost { (first last : ℕ) → IsStretch loose.now place first last → turns.new ≤ turns.old + (last - place) + 1 }
@@ -361,18 +405,62 @@ fn run_end(loose: &Loose, place: usize, here: &ChunkPayloadData, turns: &mut Tur
     Some(last)
 }
 
+// Whether no run that holds the place begins before it, so far as a look at the nearest tells.
+fn is_cut_off(loose: &Loose, place: usize, here: &ChunkPayloadData, turns: &mut Turns) -> bool
+    requires in_range { place < length loose.now }
+    requires value { here.now ≡ slice_index_or loose.now place here.now }
+    ensures yes { result ≡ true → HasNoStart loose.now place }
+    ensures no { result ≡ false → here.now.beginning_fragment ≡ false → (0 < place) × ((d : ChunkPayloadData) → here.now.tsn ≡ next_tsn (slice_index_or loose.now (place - 1) d).tsn) }
+    ensures not_back { turns.old ≤ turns.new }
+    ensures cost { turns.new ≤ turns.old + 1 }
+{
+    if here.beginning_fragment {
+        return false;
+    }
+    if place == 0 {
+        return true;
+    }
+    here.tsn != loose.look(place - 1, turns).tsn.wrapping_add(1)
+}
+
+// The run that holds the place, the one that ends earliest, by walks: to its end, then to its start.
+fn run_through(
+    loose: &Loose,
+    place: usize,
+    here: &ChunkPayloadData,
+    turns: &mut Turns,
+) -> Option<(usize, usize)>
+    requires in_range { place < length loose.now }
+    requires value { here.now ≡ slice_index_or loose.now place here.now }
+    ensures found { IfSome result (λ run. IsEarliestRunAround loose.now place run.0 run.1) }
+    ensures none { IfNone result (HasNoRunAround loose.now place) }
+    ensures not_back { turns.old ≤ turns.new }
+    ensures cost { (first last : ℕ) → IsStretch loose.now place first last → turns.new ≤ turns.old + (last + 1 - first) }
+    ensures at_back { (first : ℕ) → IsStretch loose.now place first place → here.now.ending_fragment ≡ false → turns.new ≤ turns.old + 1 }
+{
+    let last = run_end(loose, place, here, turns)?;
+    let first = run_start(loose, place, here, turns)?;
+    Some((first, last + 1 - first))
+}
+
 /// The run that holds the place, the one that ends earliest.
+///
+/// At the front of its stretch what does not begin takes two turns at most, at the back what does not end
+/// three: so does each fragment of a message that comes in order or reversed, but the last.
 pub fn run_around(loose: &Loose, place: usize, turns: &mut Turns) -> Option<(usize, usize)>
     requires { place < length loose.now }
     ensures found { IfSome result (λ run. IsEarliestRunAround loose.now place run.0 run.1) }
     ensures none { IfNone result (HasNoRunAround loose.now place) }
     ensures not_back { turns.old ≤ turns.new }
     ensures cost { (first last : ℕ) → IsStretch loose.now place first last → turns.new ≤ turns.old + (last + 1 - first) + 2 }
+    ensures at_front { (last : ℕ) → IsStretch loose.now place place last → ((d : ChunkPayloadData) → (slice_index_or loose.now place d).beginning_fragment ≡ false) → turns.new ≤ turns.old + 2 }
+    ensures at_back { (first : ℕ) → IsStretch loose.now place first place → ((d : ChunkPayloadData) → (slice_index_or loose.now place d).ending_fragment ≡ false) → turns.new ≤ turns.old + 3 }
 {
     let here = loose.look(place, turns);
-    let first = run_start(loose, place, here, turns)?;
-    let last = run_end(loose, place, here, turns)?;
-    Some((first, last + 1 - first))
+    if is_cut_off(loose, place, here, turns) {
+        return None;
+    }
+    run_through(loose, place, here, turns)
 }
 
 /// The run that ends earliest, by a scan of all.

@@ -10,6 +10,7 @@ ghost use Rattle.sctp_queues.specs.DataChunks.{bytes_of};
 ghost use Rattle.sctp_queues.specs.Loose.{place_among};
 ghost use Rattle.sctp_queues.specs.Sizes.{projected_size, size_before, size_after};
 ghost use Rattle.sctp_queues.specs.Runs.{HasNoRun};
+ghost use Rattle.sctp_queues.specs.Window.{IsSerial};
 ghost use Rattle.sctp_queues.specs.Bounded.{bounded_forwarded, applicable, is_upto};
 ghost use Rattle.sctp_base.specs.declared.error.Error.TheVariants.{ErrOutOfMemory, ErrInboundPacketTooLarge};
 
@@ -184,9 +185,13 @@ impl ReassemblyQueue {
 
     // Whether the message of the chunk would be too long with it.
     fn is_too_large(&self, chunk: &ChunkPayloadData, place: usize) -> bool
-        requires { chunk.now.unordered ≡ true → place ≡ place_among chunk.now.tsn self.now.held.loose }
+        requires place { chunk.now.unordered ≡ true → place ≡ place_among chunk.now.tsn self.now.held.loose }
+        requires fits { chunk.now.tsn < 2 ^ 32 }
         ensures { result ≡ nat_lt self.now.max_message_size (projected_size chunk.now self.now.held.ordered self.now.held.loose) }
     {
+        if chunk.unordered && self.fits_beside_all(chunk) {
+            return false;
+        }
         let projected = if chunk.unordered {
             unordered_size(chunk, self.unordered_chunks.loose(), place)
         } else {
@@ -195,6 +200,17 @@ impl ReassemblyQueue {
                 .saturating_add(chunk.user_data.len())
         };
         projected > self.max_message_size as usize
+    }
+
+    // Whether all loose fragments and the chunk are no longer than one message may be, in serial order. Then its
+    // message is no longer either, since no fragment stands on both sides of the chunk.
+    fn fits_beside_all(&self, chunk: &ChunkPayloadData) -> bool
+        ensures yes { result ≡ true → IsSerial self.now.held.loose × (bytes_of self.now.held.loose + length chunk.now.user_data ≤ self.now.max_message_size) }
+        ensures no { result ≡ false → IsSerial self.now.held.loose → self.now.max_message_size < bytes_of self.now.held.loose + length chunk.now.user_data }
+    {
+        let loose = self.unordered_chunks.loose();
+        let all = loose.get_num_bytes().saturating_add(chunk.user_data.len());
+        loose.is_serial() && all <= self.max_message_size as usize
     }
 
     fn push_ordered(&mut self, chunk: ChunkPayloadData) -> Result<bool>

@@ -1,22 +1,13 @@
-use Rattle.std.proofs.Common.{◌≡◌, ℕ, ◌+◌, ◌-◌, ◌<◌, ◌≤◌, IfNone, sym, subst, arith}
-use Rattle.sctp_queues.specs.Runs.{HasNoRunAround}
-use Rattle.sctp_queues.proofs.RunLemmas.{start_of, end_of, joined}
+use Rattle.std.proofs.Common.{ap, ◌∙◌, arith}
+use Rattle.sctp_chunks.specs.declared.chunk.chunk_payload_data.ChunkPayloadData.{ChunkPayloadData}
+use Rattle.sctp_queues.proofs.RunLemmas.{start_of}
 use Rattle.sctp_queues.proofs.loose.run_around.Goals as goal
 
-pub returns-in_err-first-clause-none : goal.returns-in_err-first-clause-none
-returns-in_err-first-clause-none c = rw c.from_residual.ensures (λ f n r. c.in_err-first.ensures.none f (start_of _ c.args.place f n r))
+pub returns-then-is_cut_off-clause-none : goal.returns-then-is_cut_off-clause-none
+returns-then-is_cut_off-clause-none c f n r = c.is_cut_off.ensures.yes c.if-is_cut_off.true f (start_of _ c.args.place f n r)
 
-pub returns-in_err-first-clause-cost : goal.returns-in_err-first-clause-cost
-returns-in_err-first-clause-cost c s t w = omega (arith, w.holds_from, w.holds_to, c.in_err-first.ensures.cost s t w)
-
-pub returns-in_err-last-clause-none : goal.returns-in_err-last-clause-none
-returns-in_err-last-clause-none c = rw c.from_residual-in_err-last.ensures (λ f n r. c.in_err-last.ensures.none (f + n - 1) (end_of _ c.args.place f n r))
-
-pub returns-in_err-last-clause-cost : goal.returns-in_err-last-clause-cost
-returns-in_err-last-clause-cost c s t w = omega (arith, w.holds_from, w.holds_to, c.in_ok-first.ensures.cost s t w, c.in_err-last.ensures.cost s t w)
-
-pub returns-clause-found : goal.returns-clause-found
-returns-clause-found c = joined _ c.args.place c.look-here.result.now _ _ c.in_ok-first.ensures.found c.in_ok-last.ensures.found.0 c.in_ok-last.ensures.found.1
-
-pub returns-clause-cost : goal.returns-clause-cost
-returns-clause-cost c s t w = omega (arith, w.holds_from, w.holds_to, c.in_ok-first.ensures.cost s t w, c.in_ok-last.ensures.cost s t w)
+pub returns-clause-at_back : goal.returns-clause-at_back
+returns-clause-at_back c s w open_end =
+    let x = c.look-here.result.now in
+    let here = ap (λ (y : ChunkPayloadData). y.ending_fragment) c.look-here.ensures.value ∙ open_end x in
+    omega (arith, c.look-here.ensures.turn, c.is_cut_off.ensures.cost, c.run_through.ensures.at_back s w here)

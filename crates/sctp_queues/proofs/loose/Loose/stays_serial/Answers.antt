@@ -10,7 +10,7 @@ pub returns-then-not-self : goal.returns-then-not-self
 returns-then-not-self c x e s =
     let xs = c.self.inside.chunks.items in
     let le : c.args.place ≤ length xs = omega (arith, ap length c.self.view_is, c.requires) in
-    mark_is_off _ xs c.if-not-self.true c.self.invariant (serial_without xs c.args.place x le (subst (λ ys. IsSerial (insert ys c.args.place x)) (sym c.self.view_is) s))
+    mark_is_off _ xs c.if-not-self.true c.self.invariant.order (serial_without xs c.args.place x le (subst (λ ys. IsSerial (insert ys c.args.place x)) (sym c.self.view_is) s))
 
 pub returns-then-not-is_behind : goal.returns-then-not-is_behind
 returns-then-not-is_behind c x e s =
@@ -23,7 +23,7 @@ pub returns : goal.returns
 returns c x e =
     let xs = c.self.inside.chunks.items in
     let le : c.args.place ≤ length xs = omega (arith, ap length c.self.view_is, c.requires) in
-    let serial = mark_is_on _ xs c.if-not-self.false c.self.invariant in
+    let serial = mark_is_on _ xs c.if-not-self.false c.self.invariant.order in
     subst (λ ys. IsOrderMark c.is_ahead.result (insert ys c.args.place x)) c.self.view_is (mark_of c.is_ahead.result (insert xs c.args.place x)
     (λ on. serial_insert_at xs c.args.place x le (subst (λ t. t < 2 ^ 32) (sym e) c.ranges.tsn.fits) serial
     (λ k d lt. subst (λ t. IsTrue (comes_before (get_or xs k d).tsn t)) (sym e) (c.is_behind.ensures.yes c.if-not-is_behind.false serial k d lt))

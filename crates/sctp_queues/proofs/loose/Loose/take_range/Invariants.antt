@@ -7,5 +7,6 @@ invariant-loop-moved l = record {
   rest : l.self-inside.chunks.items ≡ take l.first l.initial.self-inside.chunks.items ++ drop (l.first + l._moved) l.initial.self-inside.chunks.items;
   room : l.count ≤ vec_capacity l.taken;
   len : vec_len l.taken ≡ l._moved;
+  counted : l.self-inside.n_bytes ≡ l.initial.self-inside.n_bytes;
   serial : l.self-inside.serial ≡ l.initial.self-inside.serial;
 }
