@@ -129,16 +129,38 @@ fn first_after(held: &Held, cumulative_tsn: u32, turns: &mut Turns) -> usize
     }
 }
 
-// The last place before `end` up to which TSNs rise by one, from a place that has the TSN.
-// It looks 1, 2, 4 .. places farther ahead, then between: fewer turns than twice one more than the run's binary logarithm.
-fn run_end(held: &Held, place: usize, tsn: u32, end: usize, turns: &mut Turns) -> usize
+// The TSN at a place: the one that was seen there, or else a look.
+fn seen_or_look(held: &Held, place: usize, seen: Option<u32>, turns: &mut Turns) -> u32
+    requires in_range { place < length held.now.chunks }
+    requires seen { IfSome seen (λ tsn. (d : _) → (slice_index_or held.now.chunks place d).tsn ≡ tsn) }
+    ensures number { (d : _) → (slice_index_or held.now.chunks place d).tsn ≡ result }
+    ensures not_back { turns.old ≤ turns.new }
+    ensures cost { turns.new ≤ turns.old + 1 }
+{
+    match seen {
+        Some(tsn) => tsn,
+        None => held.look(place, turns).tsn,
+    }
+}
+
+// The last place before `end` up to which TSNs rise by one, from a place that has the TSN, and the TSN behind it where it was seen.
+// It looks at the next one, then as far ahead as the run reaches, then between: fewer turns than twice one more than the run's
+// binary logarithm.
+fn run_end(
+    held: &Held,
+    place: usize,
+    tsn: u32,
+    end: usize,
+    turns: &mut Turns,
+) -> (usize, Option<u32>)
     requires serial { IsSerial held.now.chunks }
     requires number { (d : _) → (slice_index_or held.now.chunks place d).tsn ≡ tsn }
     requires some { place < end }
     requires in_range { end ≤ length held.now.chunks }
-    ensures run { IsRunUntil held.now.chunks end place result }
+    ensures run { IsRunUntil held.now.chunks end place result.0 }
+    ensures seen { IfSome result.1 (λ tsn. (d : _) → (slice_index_or held.now.chunks (result.0 + 1) d).tsn ≡ tsn) }
     ensures not_back { turns.old ≤ turns.new }
-    ensures cost { 2 ^ (turns.new - turns.old) < 4 * ((result + 1 - place) * (result + 1 - place)) }
+    ensures cost { 2 ^ (turns.new - turns.old) < 4 * ((result.0 + 1 - place) * (result.0 + 1 - place)) }
 {
     let mut last = place;
     let mut tsn = tsn;
@@ -146,13 +168,16 @@ fn run_end(held: &Held, place: usize, tsn: u32, end: usize, turns: &mut Turns) -
     while step < end - last {
         let ahead = held.look(last + step, turns).tsn;
         if distance(tsn, ahead) as usize != step {
-            return run_end_between(held, last, tsn, last + step, turns);
+            if step == 1 {
+                return (last, Some(ahead));
+            }
+            return (run_end_between(held, last, tsn, last + step, turns), None);
         }
         last += step;
         tsn = ahead;
-        step *= 2;
+        step = last - place;
     }
-    run_end_between(held, last, tsn, end, turns)
+    (run_end_between(held, last, tsn, end, turns), None)
 }
 
 // The same by halves: as many turns as the number of places behind the first has binary digits.
@@ -429,17 +454,19 @@ impl PayloadQueue {
     {
         let mut blocks = Vec::new(alloc);
         let mut place = first_after(&self.held, cumulative_tsn, turns);
+        let mut seen = None;
         while place < self.held.len() {
-            let tsn = self.held.look(place, turns).tsn;
+            let tsn = seen_or_look(&self.held, place, seen, turns);
             let Some(offset) = gap_offset(cumulative_tsn, tsn) else {
                 return Ok(blocks);
             };
             // a block cannot reach past 65,535
             let reach = (self.held.len() - place).min(65536 - offset as usize);
-            let last = run_end(&self.held, place, tsn, place + reach, turns);
+            let (last, next) = run_end(&self.held, place, tsn, place + reach, turns);
             let end = offset + (last - place) as u16;
             blocks.push(GapAckBlock { start: offset, end })?;
             place = last + 1;
+            seen = next;
         }
         Ok(blocks)
     }

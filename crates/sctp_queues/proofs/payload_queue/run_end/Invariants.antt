@@ -1,4 +1,4 @@
-use Rattle.std.proofs.Common.{◌≡◌, ◌-◌, ◌+◌, ◌^◌, ◌<◌, ◌≤◌, get_or}
+use Rattle.std.proofs.Common.{◌≡◌, ℕ, ◌-◌, ◌+◌, ◌*◌, ◌^◌, ◌<◌, ◌≤◌, max, get_or}
 use Rattle.sctp_chunks.specs.declared.chunk.chunk_payload_data.ChunkPayloadData.{ChunkPayloadData}
 use Rattle.sctp_queues.specs.Runs.{IsRising}
 use Rattle.sctp_queues.proofs.payload_queue.run_end.Given as goal
@@ -7,11 +7,12 @@ abbrev pub invariant-loop-step : goal.invariant-loop-step
 invariant-loop-step l = record {
   from : l.place ≤ l.last;
   in_range : l.last < l.end;
-  known : l.last + 1 ≡ l.place + l.step;
+  known : l.step ≡ max 1 (l.last - l.place);
+  power : (j : ℕ) × (l.step ≡ 2 ^ j);
   number : (d : ChunkPayloadData) → (get_or l.held.chunks l.last d).tsn ≡ l.tsn;
   rising : IsRising l.held.chunks l.place l.last;
   not_back : l.initial.turns ≤ l.turns;
-  cost : 2 ^ (l.turns - l.initial.turns) ≡ l.step;
+  cost : 2 ^ (l.turns - l.initial.turns) ≤ max 1 (2 * (l.last - l.place));
 }
 
 abbrev pub decreases-loop-step : goal.decreases-loop-step

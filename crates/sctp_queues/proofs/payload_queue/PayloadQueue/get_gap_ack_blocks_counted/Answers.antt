@@ -2,7 +2,7 @@ use Rattle.std.proofs.Math.Nat.{pow-le-pow_right}
 use Rattle.std.proofs.lemmas.Nat.{mul-le}
 use Rattle.std.proofs.lemmas.Bool.{cases_lt}
 use Rattle.sctp_queues.specs.Turns.{IsWithinDigits}
-use Rattle.std.proofs.Common.{◌*◌, inl, inr, length-append, ◌≡◌, ◌||◌, ℕ, ◌+◌, ◌-◌, ◌^◌, ◌<◌, ◌≤◌, [], ◌∷◌, length, map, take, get_or, sym, ap, ◌∙◌, subst, arith}
+use Rattle.std.proofs.Common.{◌*◌, inl, inr, zero, suc, List, refl, length-append, ◌≡◌, ◌||◌, ℕ, ◌+◌, ◌-◌, ◌^◌, ◌<◌, ◌≤◌, [], ◌∷◌, length, map, take, get_or, sym, ap, ◌∙◌, subst, arith}
 use Rattle.std.specs.List.{All, list_any}
 use Rattle.std.proofs.lemmas.List.{get_or_default, map-append}
 use Rattle.std.proofs.lemmas.List.Elements.{All-push}
@@ -12,7 +12,7 @@ use Rattle.sctp_chunks.specs.declared.chunk.chunk_selective_ack.GapAckBlock.{Gap
 use Rattle.sctp_lists.specs.Kept.{runs_of}
 use Rattle.sctp_lists.specs.Serial.{distance}
 use Rattle.sctp_lists.proofs.Edits.{list_any-append}
-use Rattle.sctp_queues.specs.Blocks.{BlocksAscend, Reports, is_in_block, is_reported, covered, gap_offsets, ends_of}
+use Rattle.sctp_queues.specs.Blocks.{BlocksAscend, Reports, is_in_block, is_reported, covered, gap_offsets, ends_of, is_offset}
 use Rattle.sctp_queues.proofs.Gaps.{InReach, or_false, runs_more, covered_more, run_distances, run_apart, front_offsets, front_reported, rest_offsets, rest_reported, out_from}
 use Rattle.sctp_queues.proofs.payload_queue.PayloadQueue.get_gap_ack_blocks_counted.Goals as goal
 
@@ -30,6 +30,15 @@ turns_of_a_run t l h small = elim (cases_lt t 34) [
       absurd (omega arith)
 ]
 
+-- what stands at a place, and its TSN
+at_place : (xs : List ChunkPayloadData) (place tsn : ℕ) → place < length xs → ((d : ChunkPayloadData) → (get_or xs place d).tsn ≡ tsn) → (x : ChunkPayloadData) × (x ≡ get_or xs place x) × (x.tsn ≡ tsn)
+at_place xs place tsn lt number = let e = element xs place lt in (e.0, e.1, ap (λ (x : ChunkPayloadData). x.tsn) e.1 ∙ number e.0)
+  where
+    element : (ys : List ChunkPayloadData) (i : ℕ) → i < length ys → (x : ChunkPayloadData) × (x ≡ get_or ys i x)
+    element [] i lt = absurd (omega arith)
+    element (y ∷ ys) zero lt = (y, refl)
+    element (y ∷ ys) (suc i) lt = element ys i (omega arith)
+
 pub loop-place-init : goal.loop-place-init
 loop-place-init c =
     let xs = c.self.inside.held.chunks in
@@ -37,6 +46,7 @@ loop-place-init c =
     let items = c.new-blocks.ensures.items in
     record {
       in_range = first.in_range;
+      seen = tt;
       ahead = first.ascends;
       ascend = subst BlocksAscend (sym items) (record { runs = λ k d lt. absurd (omega arith); apart = λ i j d lt short. absurd (omega arith) });
       behind = λ j d le lt small k b short. absurd (omega (arith, ap length items));
@@ -51,9 +61,10 @@ loop-place-preserved c =
     let xs = c.self.inside.held.chunks in
     let cumulative = c.args.cumulative_tsn in
     let place = c.loop-place.place in
-    let x = c.look.result.now in
+    let at = at_place xs place c.seen_or_look-tsn.result (omega arith) c.seen_or_look-tsn.ensures.number in
+    let x = at.0 in
     let offset = c.in-Some.offset in
-    let last = c.run_end-last.result in
+    let last = c.run_end-last.result.0 in
     let bs = c.loop-place.blocks.items in
     let inv = c.loop-place.invariant in
     let some = c.in-Some.ensures.some in
@@ -63,15 +74,16 @@ loop-place-preserved c =
     let block : GapAckBlock = record { start = offset; end = offset + (last - place) } in
     let short : last < length xs = omega (arith, run.to, c.min-reach.ensures) in
     let within_reach : offset + (last - place) < 2 ^ 16 = omega (arith, run.to, run.from, c.min-reach.ensures, some) in
-    let here : distance cumulative (get_or xs place x).tsn ≡ offset = sym (some.0 ∙ ap (λ (y : ChunkPayloadData). distance cumulative y.tsn) c.look.ensures.value) in
+    let here : distance cumulative (get_or xs place x).tsn ≡ offset = sym (some.0 ∙ ap (distance cumulative) (sym (at.2)) ∙ ap (λ (y : ChunkPayloadData). distance cumulative y.tsn) (at.1)) in
     let along = λ (k : ℕ) (le : k ≤ last - place). run_distances cumulative xs place last fits serial inv.ahead short run.rising x k (omega (arith, run.from)) ∙ ap (λ o. o + k) here in
     let reach : InReach cumulative xs place x offset (last - place) = record { in_range = omega (arith, run.from); positive = some.1; small = within_reach; along = along } in
     let apart : All (λ b. b.end + 1 < offset) bs = subst (λ o. All (λ (b : GapAckBlock). b.end + 1 < o) bs) here (inv.behind place x (omega arith) (omega (arith, run.from)) (omega (arith, here, some))) in
     let next : place + (last - place) + 1 ≡ last + 1 = omega (arith, run.from) in
     let items = c.in_ok-push.ensures.items in
-    let turns = turns_of_a_run (c.run_end-last.new.turns - c.look.new.turns) (last + 1 - place) c.run_end-last.ensures.cost (omega (arith, run.to, run.from, c.min-reach.ensures, some)) in
+    let turns = turns_of_a_run (c.run_end-last.new.turns - c.seen_or_look-tsn.new.turns) (last + 1 - place) c.run_end-last.ensures.cost (omega (arith, run.to, run.from, c.min-reach.ensures, some)) in
     record {
       in_range = omega arith;
+      seen = c.run_end-last.ensures.seen;
       ahead = record { after = λ k d le. inv.ahead.after k d (omega (arith, run.from)); farther = λ i j d le. inv.ahead.farther i j d (omega (arith, run.from)) };
       ascend = subst BlocksAscend (sym items) (record {
         runs = All-push (λ (b : GapAckBlock). b.start ≤ b.end) bs block inv.ascend.runs (omega arith);
@@ -81,8 +93,8 @@ loop-place-preserved c =
           (All-push (λ (b : GapAckBlock). b.end + 1 < distance cumulative (get_or xs j d).tsn) bs block (inv.behind j d (omega (arith, run.from)) lt small)
           (run_apart cumulative xs place (place + c.min-reach.result) last offset fits serial inv.ahead (omega (arith, c.min-reach.ensures)) (λ cut. omega (arith, c.min-reach.ensures, some)) run j d
           (ap (λ (y : ChunkPayloadData). distance cumulative y.tsn) (get_or_default xs place d x (omega arith)) ∙ here) le lt small));
-      not_back = omega (arith, c.run_end-last.ensures.not_back, inv.not_back);
-      cost = fewer (length xs) _ _ (omega (arith, turns, c.run_end-last.ensures.not_back, ap length items, length-append bs (block ∷ []))) inv.cost;
+      not_back = omega (arith, c.run_end-last.ensures.not_back, c.seen_or_look-tsn.ensures.not_back, inv.not_back);
+      cost = fewer (length xs) _ _ (omega (arith, turns, c.run_end-last.ensures.not_back, c.seen_or_look-tsn.ensures.not_back, c.seen_or_look-tsn.ensures.cost, ap length items, length-append bs (block ∷ []))) inv.cost;
       exact = λ n. ap (λ ys. covered ys n) items ∙ list_any-append (is_in_block n) bs (block ∷ []) ∙ ap (λ b. covered bs n || b) (or_false (is_in_block n block))
           ∙ covered_more cumulative xs place x offset bs n (last - place) reach (inv.exact n) ∙ ap (λ i. list_any (is_reported cumulative n) (take i xs)) next;
       runs = ap (map ends_of) items ∙ map-append ends_of bs (block ∷ []) ∙ runs_more cumulative xs place x offset bs (last - place) reach apart inv.runs ∙ ap (λ i. runs_of (gap_offsets cumulative (take i xs))) next;
@@ -92,7 +104,8 @@ pub returns-in_default-clause-reported : goal.returns-in_default-clause-reported
 returns-in_default-clause-reported c =
     let xs = c.self.inside.held.chunks in
     let inv = c.loop-place.invariant in
-    let rest = out_from c.args.cumulative_tsn xs c.loop-place.place c.look.result.now inv.ahead (omega arith) c.look.ensures.value (sym c.in_default.ensures.test) in
+    let at = at_place xs c.loop-place.place c.seen_or_look-tsn.result (omega arith) c.seen_or_look-tsn.ensures.number in
+    let rest = out_from c.args.cumulative_tsn xs c.loop-place.place (at.0) inv.ahead (omega arith) (at.1) (ap (λ t. is_offset (distance c.args.cumulative_tsn t)) (at.2) ∙ sym c.in_default.ensures.test) in
     subst (λ cs. Reports c.args.cumulative_tsn cs c.loop-place.blocks.items) (ap (λ q. q.chunks) c.self.view_is) (record {
       ascend = inv.ascend;
       exact = λ n. inv.exact n ∙ rest_reported c.args.cumulative_tsn xs c.loop-place.place rest n;
@@ -102,11 +115,12 @@ pub returns-in_default-clause-runs : goal.returns-in_default-clause-runs
 returns-in_default-clause-runs c =
     let xs = c.self.inside.held.chunks in
     let inv = c.loop-place.invariant in
-    let rest = out_from c.args.cumulative_tsn xs c.loop-place.place c.look.result.now inv.ahead (omega arith) c.look.ensures.value (sym c.in_default.ensures.test) in
+    let at = at_place xs c.loop-place.place c.seen_or_look-tsn.result (omega arith) c.seen_or_look-tsn.ensures.number in
+    let rest = out_from c.args.cumulative_tsn xs c.loop-place.place (at.0) inv.ahead (omega arith) (at.1) (ap (λ t. is_offset (distance c.args.cumulative_tsn t)) (at.2) ∙ sym c.in_default.ensures.test) in
     inv.runs ∙ ap runs_of (rest_offsets c.args.cumulative_tsn xs c.loop-place.place rest ∙ ap (λ q. gap_offsets c.args.cumulative_tsn q.chunks) c.self.view_is)
 
 pub returns-in_default-clause-cost : goal.returns-in_default-clause-cost
-returns-in_default-clause-cost c = subst (λ cs. IsWithinDigits (length cs) (c.look.new.turns - c.args.turns.now - 34 * length c.loop-place.blocks.items - 1)) (ap (λ q. q.chunks) c.self.view_is) (fewer _ _ _ (omega arith) c.loop-place.invariant.cost)
+returns-in_default-clause-cost c = subst (λ cs. IsWithinDigits (length cs) (c.seen_or_look-tsn.new.turns - c.args.turns.now - 34 * length c.loop-place.blocks.items - 1)) (ap (λ q. q.chunks) c.self.view_is) (fewer _ _ _ (omega arith) c.loop-place.invariant.cost)
 
 pub returns-clause-cost : goal.returns-clause-cost
 returns-clause-cost c = subst (λ cs. IsWithinDigits (length cs) (c.loop-place.turns - c.args.turns.now - 34 * length c.loop-place.blocks.items - 1)) (ap (λ q. q.chunks) c.self.view_is) (fewer _ _ _ (omega arith) c.loop-place.invariant.cost)

@@ -1,4 +1,5 @@
 use Rattle.std.proofs.Common.{◌≡◌, ℕ, ◌+◌, ◌-◌, ◌*◌, ◌^◌, ◌<◌, ◌≤◌, length, map, take, get_or}
+use Rattle.std.specs.Prelude.{IfSome}
 use Rattle.std.specs.List.{All, list_any}
 use Rattle.sctp_chunks.specs.declared.chunk.chunk_payload_data.ChunkPayloadData.{ChunkPayloadData}
 use Rattle.sctp_lists.specs.Kept.{runs_of}
@@ -10,6 +11,7 @@ use Rattle.sctp_queues.proofs.payload_queue.PayloadQueue.get_gap_ack_blocks_coun
 abbrev pub invariant-loop-place : goal.invariant-loop-place
 invariant-loop-place l = record {
   in_range : l.place ≤ length l.self-inside.held.chunks;
+  seen : IfSome l.seen (λ tsn. (d : ChunkPayloadData) → (get_or l.self-inside.held.chunks l.place d).tsn ≡ tsn);
   ahead : AscendsFrom l.cumulative_tsn l.self-inside.held.chunks l.place;
   ascend : BlocksAscend l.blocks.items;
   behind : (j : ℕ) (d : ChunkPayloadData) → l.place ≤ j → j < length l.self-inside.held.chunks → distance l.cumulative_tsn (get_or l.self-inside.held.chunks j d).tsn < 2 ^ 16 → All (λ b. b.end + 1 < distance l.cumulative_tsn (get_or l.self-inside.held.chunks j d).tsn) l.blocks.items;
