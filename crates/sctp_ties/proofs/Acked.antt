@@ -2,25 +2,23 @@
 use Rattle.std.proofs.Common.{◌≡◌, ℕ, zero, suc, ◌+◌, ◌-◌, ◌<◌, ◌≤◌, ◌^◌, Bool, true, false, List, [], ◌∷◌, length, map, Some, None, refl, ap, sym, ◌∙◌, arith}
 use Rattle.std.specs.Prelude.{if◌then◌else◌, ◌==◌, ◌&&◌, ◌||◌, not, nat_lt, max}
 use Rattle.std.proofs.lemmas.Bool.Decides.{nat_tests}
-use Rattle.sctp_lists.specs.Kept.{kept, always, numbers_from, first_of}
+use Rattle.sctp_lists.specs.Kept.{always, numbers_from, first_of}
 use Rattle.sctp_lists.specs.Lists.{change_where}
 use Rattle.sctp_lists.proofs.KeptLemmas.{map-kept-same, kept-same}
 use Rattle.sctp_lists.proofs.More.{same_test}
 use Rattle.sctp_lists.proofs.Getting.{get-numbered, numbered-at, length-numbered}
 use Rattle.sctp_chunks.specs.declared.chunk.chunk_payload_data.ChunkPayloadData.{ChunkPayloadData}
-use Rattle.sctp_chunks.specs.PayloadData.{data_of}
 use Rattle.sctp_queues.specs.Marks.{acknowledged}
 use Rattle.sctp_queues.specs.DataChunks.{has_tsn}
 use Rattle.sctp_queues.specs.Payload.{front_with, without_front}
 use Rattle.sctp_queues.specs.Outbound.{Outbound, with_inflight}
 use Rattle.sctp_model.specs.World.{World, Report, Sack}
-use Rattle.sctp_model.specs.Messages.{message_at, slot_at, message_of, messages_where, no_slot, tsn_of, sent_of, fragment_count, is_half_sent, deadline_of}
+use Rattle.sctp_model.specs.Messages.{message_at, slot_at, message_of, messages_where, no_slot, tsn_of, sent_of, fragment_count, is_half_sent}
 use Rattle.sctp_model.specs.Reports.{reports}
 use Rattle.sctp_model.specs.Changes.{sack_taken, acknowledged_by}
-use Rattle.sctp_model.specs.Contents.{chunk_at}
 use Rattle.sctp_model.proofs.Shape.{sent}
 use Rattle.sctp_model.proofs.Shapes
-use Rattle.sctp_ties.specs.Tied.{Sending, sending_by, IsInFlight, sending_of, sending_at, sendings_of, unless_gone, selected_of, waiting_of, waiting_where, waits_ordered, waits_unordered, TiedOutbound}
+use Rattle.sctp_ties.specs.Tied.{Sending, sending_by, IsInFlight, sending_of, sending_at, sendings_of, selected_of, waiting_of, waiting_where, waits_ordered, waits_unordered, TiedOutbound}
 use Rattle.sctp_ties.proofs.Waiting
 use Rattle.sctp_ties.proofs.Waiting.{Alike, gathered-same}
 
