@@ -17,10 +17,9 @@ use Rattle.sctp_model.specs.Receiver.{is_new, next_of}
 use Rattle.sctp_model.specs.Changes.{slot_received, datagram_received, whole_noted}
 use Rattle.sctp_model.specs.Contents.{chunk_at}
 use Rattle.sctp_model.specs.Queues.{FilterRecord, filter_of}
-use Rattle.sctp_model.specs.Steps.{refusal_of, after, arrival_fits, is_for_receiver}
+use Rattle.sctp_model.specs.Steps.{refusal_of, after}
+use Rattle.sctp_model.specs.Sound.{IsSpan}
 use Rattle.sctp_model.proofs.Network
-use Rattle.sctp_model.proofs.SenderRun.{unless-holds}
-use Rattle.sctp_model.specs.declared.event.LinkRefusal.TheVariants.{NoSuchDatagram, SpanTooWide}
 use Rattle.sctp_ties.specs.Holds.{reassembly_of, seen_of}
 use Rattle.sctp_ties.specs.Tied.{filter_held}
 use Rattle.sctp_ties.specs.Counts.{counters_on}
@@ -31,9 +30,7 @@ use Rattle.sctp_ties.proofs.QuietSender
 use Rattle.sctp_ties.proofs.ReadOne.{next-arrive}
 use Rattle.sctp_ties.proofs.SlotArrives
 use Rattle.sctp_ties.proofs.SlotArrives.{Enters}
-use Rattle.sctp_ties.proofs.SlotsArrive.{enters}
-use Rattle.sctp_ties.proofs.SlotsNear.{span-at}
-use Rattle.sctp_ties.proofs.Span.{IsSpan}
+use Rattle.sctp_ties.proofs.Carried.{enters}
 use Rattle.sctp_ties.proofs.StreamCounters.{counters-same}
 use Rattle.sctp_link.specs.declared.open_stream.OpenStream.{OpenStream}
 use Rattle.sctp_link.specs.Linked.{State, IsLinked, IsOpenStream, stats_of}
@@ -60,15 +57,10 @@ module _ (sum : List ℕ → ℕ) (x : State) (l : IsLinked sum x) (k p : ℕ) (
   next-stays : (t : ℕ) → next_of v t ≡ next_of w t
   next-stays t =
       over sum x (λ (u : World). slice_get u.network k ≡ Some (Data (p ∷ [])) → next_of (after u (E.Arrive k)) t ≡ next_of u t) l
-      (λ h. next-arrive w.setup l.history k t (p ∷ []) l.setup l.stands.run h) e
+      (λ h. next-arrive w.setup l.history k t (p ∷ []) h) e
 
   counters-stay : (t : ℕ) → counters_on v t ≡ counters_on w t
   counters-stay t = let f = facts sum x l in counters-same w.setup w (E.Arrive k) t f.sane refl refl
-
-  pub fits : arrival_fits w (Some (Data (p ∷ []))) ≡ true
-  fits =
-      let a = unless-holds (is_for_receiver (slice_get w.network k)) NoSuchDatagram _ none in
-      ap (arrival_fits w) (sym e) ∙ (unless-holds (arrival_fits w (slice_get w.network k)) SpanTooWide None a.1).0
 
   -- an open stream of which only the queue changes
   pub stream-arrived : (y z : OpenStream) → IsOpenStream w y → z.state ≡ record y.state { reassembly_queue = z.state.reassembly_queue } → z.ordered ≡ y.ordered → z.next ≡ y.next → z.state.reassembly_queue.held ≡ reassembly_of (slot_received w p) y.state.stream_identifier → z.state.reassembly_queue.si ≡ y.state.reassembly_queue.si → z.state.reassembly_queue.max_message_size ≡ y.state.reassembly_queue.max_message_size → IsOpenStream v z
@@ -118,13 +110,13 @@ module _ (sum : List ℕ → ℕ) (x : State) (l : IsLinked sum x) (k p : ℕ) (
     enter = let f = facts sum x l in enters w p (f.carried k p e) new
 
     pub span-here : (message_at w n).ordered ≡ true → IsSpan w s (index_of w n ∷ [])
-    span-here o = let f = facts sum x l in span-at w [] p [] f.sounds (f.carried k p e, tt) fits new o
+    span-here o = let f = facts sum x l in (f.comes k p none e).near s (SlotArrives.ordered-on w s p enter o) new
 
     pub elsewhere : (t : ℕ) → (t ≡ s → ⊥) → reassembly_of (slot_received w p) t ≡ reassembly_of w t
     elsewhere t ne = by (message_at w n).ordered refl
       where
         by : (b : Bool) → (message_at w n).ordered ≡ b → reassembly_of (slot_received w p) t ≡ reassembly_of w t
-        by true o = let f = facts sum x l in SlotArrives.slot-elsewhere w s p t f.sounds.plain enter (span-here o) ne
+        by true o = let f = facts sum x l in SlotArrives.slot-elsewhere w s p t f.sound.sound enter (span-here o) ne
         by false o = Keeps.unordered-elsewhere w s p t (SlotArrives.arrives-loose w s p enter o) ne
 
     pub noted-is : slot_received w p ≡ whole_noted (with_arrived w p) n
@@ -134,7 +126,7 @@ module _ (sum : List ℕ → ℕ) (x : State) (l : IsLinked sum x) (k p : ℕ) (
     pub window : (c : ChunkPayloadData) → c.tsn ≡ tsn_of w p → IsTrue (Window.is_new x.filter.chunks c.tsn x.cumulative_tsn) → Window.IsWindow x.cumulative_tsn x.filter.chunks c.tsn
     window c is t =
         let f = facts sum x l in
-        let i = window-is w x.filter.chunks f.sounds.plain.skipped_made f.few (ap (λ r. r.held) l.filter) p (come-made sum x l k p e) new in
+        let i = window-is w x.filter.chunks f.sound.sound.skipped_made f.few (ap (λ r. r.held) l.filter) p (come-made sum x l k p e) new in
         subst (λ b. Window.IsWindow b x.filter.chunks c.tsn) (sym (ap (λ r. r.cumulative) l.filter)) (subst (Window.IsWindow (seen_of w).cum x.filter.chunks) (sym is) i)
 
     pub is-new : (c : ChunkPayloadData) → c.tsn ≡ tsn_of w p → Window.is_new x.filter.chunks c.tsn x.cumulative_tsn ≡ true
@@ -144,7 +136,7 @@ module _ (sum : List ℕ → ℕ) (x : State) (l : IsLinked sum x) (k p : ℕ) (
     moved-filter c cumulative filter is dup moved =
         let f = facts sum x l in
         let seen : seen_of (slot_received w p) ≡ record { cum = cumulative; held = tsns filter.chunks } =
-        SlotArrives.filter-slot w p f.sounds.plain (come-made sum x l k p e) new
+        SlotArrives.filter-slot w p f.sound.sound (come-made sum x l k p e) new
         ∙ sym (ap (λ a. advanced a (tsns (inserted chunk_before c x.filter.chunks))) (ap (λ r. r.cumulative) l.filter) ∙ ap (advanced (seen_of w).cum) (tsns-inserted c x.filter.chunks ∙ ap (λ t. inserted comes_before t (tsns x.filter.chunks)) is ∙ ap (inserted comes_before (tsn_of w p)) (ap (λ r. r.held) l.filter)))
         ∙ moved in
         let dups : filter.duplicates ≡ (filter_of (slot_received w p)).duplicates = dup ∙ ap (λ r. r.duplicates) l.filter ∙ sym (SlotArrives.duplicates-slot w p new) in

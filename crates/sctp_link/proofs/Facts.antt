@@ -4,24 +4,24 @@ use Rattle.std.specs.Prelude.{slice_get}
 use Rattle.std.proofs.Math.Path.{subst}
 use Rattle.std.proofs.lemmas.Option.{slice_get_within}
 use Rattle.sctp_model.specs.declared.event.Event.{Event}
+use Rattle.sctp_model.specs.declared.event.Event.TheVariants as E
 use Rattle.sctp_model.specs.World.{Setup, World, StreamRecord, Data}
 use Rattle.sctp_model.specs.World as W
-use Rattle.sctp_model.specs.Messages.{message_at, stream_at}
+use Rattle.sctp_model.specs.Messages.{message_at}
 use Rattle.sctp_model.specs.Receiver.{spans_fit}
 use Rattle.sctp_model.specs.Contents.{contents_of, contents_in, datagram}
 use Rattle.sctp_model.specs.Steps.{History, StandsFor, IsRun, world_of, refusal_of, reply_to, after}
 use Rattle.sctp_model.specs.Laws.{IsSetup}
+use Rattle.sctp_model.specs.Sound.{IsSound, ComesSound}
 use Rattle.sctp_model.proofs.Shape.{shape}
 use Rattle.sctp_model.proofs.SenderRun.{Sane, sane-run}
 use Rattle.sctp_model.proofs.Few
 use Rattle.sctp_model.proofs.Network.{AllFit, fit-run, datagrams_stay}
 use Rattle.sctp_model.proofs.Spans.{spans_fit_always}
-use Rattle.sctp_ties.proofs.Span.{IsSpan}
-use Rattle.sctp_ties.proofs.SlotsArrive.{Sounds, Carried}
-use Rattle.sctp_ties.proofs.SoundRun.{sounds-run, span-run}
+use Rattle.sctp_model.proofs.SoundRun.{record_is_sound, slots_come_sound}
+use Rattle.sctp_ties.proofs.Carried.{Carried, carried-run}
 use Rattle.sctp_ties.proofs.KindsRun.{Going, taken-run}
 use Rattle.sctp_ties.proofs.Fragments.{going-run}
-use Rattle.sctp_ties.proofs.SpanEnds.{carried-run}
 use Rattle.sctp_ties.proofs.NoLarger.{no-larger}
 use Rattle.sctp_link.specs.Linked.{State, IsLinked}
 
@@ -30,13 +30,13 @@ pub record Facts (w : World) : Type 0 where
   pub setup : IsSetup w.setup
   pub sane : Sane w.setup w
   pub going : Going w.setup w
-  pub sounds : Sounds w
-  pub span : (s : ℕ) (r : StreamRecord) → stream_at w s ≡ Some r → IsSpan w s []
+  pub sound : IsSound w
   pub spans : spans_fit w [] ≡ true
   pub few : length w.slots < 2 ^ 31
   pub taken : w.taken ≤ length w.slots
   pub fit : AllFit (shape w) w.network
   pub carried : (k p : ℕ) → slice_get w.network k ≡ Some (Data (p ∷ [])) → Carried w p
+  pub comes : (k p : ℕ) → refusal_of w (E.Arrive k) ≡ None → slice_get w.network k ≡ Some (Data (p ∷ [])) → ComesSound w p
   pub largest : (n : ℕ) → n < length w.messages → length (message_at w n).bytes ≤ w.setup.largest
   -- what a datagram says never changes
   pub stays : (e : Event) (k : ℕ) → refusal_of w e ≡ None → k < length w.network → datagram (after w e) k ≡ datagram w k
@@ -50,13 +50,13 @@ of-run setup h is run same =
       setup = subst IsSetup (sym same) is;
       sane = sane;
       going = subst (λ s. Going s w) (sym same) (going-run setup h run);
-      sounds = sounds-run setup h is run;
-      span = λ s r e. span-run setup h s r is run e;
+      sound = record_is_sound setup h is run;
       spans = spans_fit_always setup h is run;
       few = Few.few w.setup w sane;
       taken = taken-run setup h is run;
       fit = fit-run setup h run;
       carried = λ k p e. carried-run setup h k p run e;
+      comes = λ k p none e. slots_come_sound setup h is run k [] p [] none e;
       largest = λ n lt. let le = no-larger setup h n is run lt in subst (λ s. length (message_at w n).bytes ≤ s.largest) (sym same) le;
       stays = λ e k none lt. datagrams_stay setup h is run e k none lt;
     }

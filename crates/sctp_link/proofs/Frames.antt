@@ -26,7 +26,7 @@ use Rattle.sctp_ties.proofs.MessageSums.{sum-same}
 use Rattle.sctp_ties.proofs.ToldSums.{told-after}
 use Rattle.sctp_ties.proofs.StreamCounters.{written-same, counters-same}
 use Rattle.sctp_ties.proofs.StreamAmounts.{amount-same}
-use Rattle.sctp_ties.proofs.SoundRun.{sounds-run}
+use Rattle.sctp_model.proofs.SoundRun.{record_is_sound}
 use Rattle.sctp_ties.proofs.QuietReceiver.{reassembly-quiet, filter-quiet}
 use Rattle.sctp_ties.proofs.ReadOne.{KeepsNext, next-same}
 use Rattle.sctp_link.specs.declared.open_stream.OpenStream.{OpenStream}
@@ -99,13 +99,13 @@ module _ (sum : List ℕ → ℕ) (x : State) (l : IsLinked sum x) (e : Event) (
   pub held-quiet : Quiet w v → (t : ℕ) → reassembly_of v t ≡ reassembly_of w t
   held-quiet q t =
       subst (λ u. refusal_of u e ≡ None → Quiet u (after u e) → reassembly_of (after u e) t ≡ reassembly_of u t) (sym l.stands.is)
-      (λ ok' q'. let g = sane-run w.setup l.history l.stands.run in reassembly-quiet w.setup (world_of w.setup l.history) (after (world_of w.setup l.history) e) (log_of w.setup l.history) g (sane-after w.setup (world_of w.setup l.history) e ok' g) q' (received-run w.setup l.history l.setup l.stands.run) (sounds-run w.setup l.history l.setup l.stands.run) t)
+      (λ ok' q'. let g = sane-run w.setup l.history l.stands.run in reassembly-quiet w.setup (world_of w.setup l.history) (after (world_of w.setup l.history) e) (log_of w.setup l.history) g (sane-after w.setup (world_of w.setup l.history) e ok' g) q' (received-run w.setup l.history l.setup l.stands.run) (record_is_sound w.setup l.history l.setup l.stands.run) t)
       ok q
 
   pub filter-kept : Quiet w v → filter_of v ≡ filter_of w
   filter-kept q =
       subst (λ u. refusal_of u e ≡ None → Quiet u (after u e) → filter_of (after u e) ≡ filter_of u) (sym l.stands.is)
-      (λ ok' q'. let g = sane-run w.setup l.history l.stands.run in filter-quiet w.setup (world_of w.setup l.history) (after (world_of w.setup l.history) e) (log_of w.setup l.history) g (sane-after w.setup (world_of w.setup l.history) e ok' g) q' (received-run w.setup l.history l.setup l.stands.run) (sounds-run w.setup l.history l.setup l.stands.run))
+      (λ ok' q'. let g = sane-run w.setup l.history l.stands.run in filter-quiet w.setup (world_of w.setup l.history) (after (world_of w.setup l.history) e) (log_of w.setup l.history) g (sane-after w.setup (world_of w.setup l.history) e ok' g) q' (received-run w.setup l.history l.setup l.stands.run) (record_is_sound w.setup l.history l.setup l.stands.run))
       ok q
 
   -- so a stream is as it was, where nothing is written

@@ -21,6 +21,7 @@ use Rattle.sctp_model.specs.Receiver.{is_held, held_on, next_of, next_read}
 use Rattle.sctp_model.specs.Changes.{read_of, read_from, mark_read, without_first}
 use Rattle.sctp_model.specs.Queues.{filter_of, set_of, whole_set_of, handed_out}
 use Rattle.sctp_model.specs.Reply as R
+use Rattle.sctp_model.specs.Sound.{IsSpan}
 use Rattle.sctp_model.specs.Steps.{refusal_of, reply_to, after, read_reply, unless}
 use Rattle.sctp_model.proofs.Network
 use Rattle.sctp_ties.specs.Holds.{reassembly_of}
@@ -30,10 +31,8 @@ use Rattle.sctp_ties.proofs.NextRead
 use Rattle.sctp_ties.proofs.QuietSender
 use Rattle.sctp_ties.proofs.ReadOne
 use Rattle.sctp_ties.proofs.ReadOne.{ReadsWhole, ReadsOrdered}
-use Rattle.sctp_ties.proofs.Span.{IsSpan}
 use Rattle.sctp_ties.proofs.SpanEnds.{Begins, set-begins, whole-begins}
 use Rattle.sctp_ties.proofs.StreamCounters.{counters-read, counters-nothing}
-use Rattle.sctp_ties.proofs.Unordered.{unordered-of}
 use Rattle.sctp_link.specs.declared.open_stream.OpenStream.{OpenStream}
 use Rattle.sctp_link.specs.declared.record.Message.{Message}
 use Rattle.sctp_link.specs.declared.stream.StreamState.{StreamState}
@@ -112,13 +111,13 @@ module _ (sum : List ℕ → ℕ) (x : State) (l : IsLinked sum x) (s at : ℕ) 
   here = (l.open_streams at d lt).held ∙ ap (reassembly_of w) (id-at d)
 
   span : IsSpan w s []
-  span = (facts sum x l).span s r open'
+  span = (facts sum x l).sound.near s
 
   whole-are : (stream_of w s).whole ≡ y.whole.items
   whole-are = ap (λ o. (unwrap_or o (no_stream s)).whole) open'
 
   rest : rest_read y.state.reassembly_queue.held ≡ reassembly_of v s
-  rest = let f = facts sum x l in ap rest_read here ∙ NextRead.rest-is w s r f.sounds.plain f.sounds.whole span open'
+  rest = let f = facts sum x l in ap rest_read here ∙ NextRead.rest-is w s r f.sound.sound f.sound.loose span open'
 
   streams-apart : IsApart (stream_numbers x.open_streams)
   streams-apart = apart x.places (stream_numbers x.open_streams) l.indexed
@@ -143,14 +142,14 @@ module _ (sum : List ℕ → ℕ) (x : State) (l : IsLinked sum x) (s at : ℕ) 
           let i = l.open_streams j c inside in
           let t = slice_index_or x.open_streams j c in
           let off : t.state.stream_identifier ≡ s → ⊥ = λ h. differ x.open_streams j at c streams-apart inside lt ne (h ∙ sym (id-at c)) in
-          stream-then sum x l (E.Read s) none frame refl t t i refl (i.held ∙ sym (NextRead.read-others w s r f.sounds.plain f.sounds.whole span open' t.state.stream_identifier off)) refl refl refl refl refl
+          stream-then sum x l (E.Read s) none frame refl t t i refl (i.held ∙ sym (NextRead.read-others w s r f.sound.sound f.sound.loose span open' t.state.stream_identifier off)) refl refl refl refl refl
           (i.next ∙ sym (next t.state.stream_identifier off)) refl (i.stats ∙ ap stats_of (sym (counters t.state.stream_identifier off)))
 
   -- ## Nothing to read
 
   module _ (e : message_read (slice_index_or x.open_streams at d).state.reassembly_queue.held ≡ None) where
     nothing : next_read w s ≡ None
-    nothing = let f = facts sum x l in ReadOne.none-due w s r f.sounds.plain f.sounds.whole span open' (ap message_read (sym here) ∙ e)
+    nothing = let f = facts sum x l in ReadOne.none-due w s r f.sound.sound f.sound.loose span open' (ap message_read (sym here) ∙ e)
 
     still : v ≡ w
     still = ReadOne.nothing-read w s nothing
@@ -187,11 +186,11 @@ module _ (sum : List ℕ → ℕ) (x : State) (l : IsLinked sum x) (s at : ℕ) 
       let f = facts sum x l in
       let kind = o.unordered in
       let any : list_any (λ k. k == n) (stream_of w s).whole ≡ true = ap (list_any (λ k. k == n)) o.whole ∙ or-left (n == n) (list_any (λ k. k == n) o.rest) (same-yes n) in
-      let on = f.sounds.whole.whole_on s n any in
+      let waits = f.sound.loose.waits s n any in
       record {
-        begins = subst (λ (c : ChunkSet). Begins w n c.chunks) (sym (ap (λ b. if b then set_of w n else whole_set_of w n) kind)) (whole-begins w s n f.sounds f.setup.first any);
-        made = on.1;
-        stream = (unordered-of w s n on.0).0;
+        begins = subst (λ (c : ChunkSet). Begins w n c.chunks) (sym (ap (λ b. if b then set_of w n else whole_set_of w n) kind)) (whole-begins w s n f.sound.sound f.sound.loose f.setup.first any);
+        made = waits.made;
+        stream = waits.stream;
         next = o.next s ∙ sym (ap (λ b. if b && (index_of w n == next_of w s) then index_of w n + 1 else next_of w s) kind);
         other = λ t ne. o.next t;
         whole = ap (λ b. if b then (stream_of w s).whole else drop 1 (stream_of w s).whole) kind;
@@ -203,7 +202,7 @@ module _ (sum : List ℕ → ℕ) (x : State) (l : IsLinked sum x) (s at : ℕ) 
       let kind = Line.on-ordered w s n o.due.on in
       let held = front-held w s (held_on w s) n o.rest (front-kept (is_held w s) 0 (length w.messages)) o.front in
       record {
-        begins = subst (λ (c : ChunkSet). Begins w n c.chunks) (sym (ap (λ b. if b then set_of w n else whole_set_of w n) kind)) (set-begins w s n f.sounds.plain f.setup.first held);
+        begins = subst (λ (c : ChunkSet). Begins w n c.chunks) (sym (ap (λ b. if b then set_of w n else whole_set_of w n) kind)) (set-begins w s n f.sound.sound f.setup.first held);
         made = Line.on-made w s n o.due.on;
         stream = Line.on-stream w s n o.due.on;
         next = o.here ∙ step (index_of w n == next_of w s) refl ∙ sym (ap (λ b. if b && (index_of w n == next_of w s) then index_of w n + 1 else next_of w s) kind);
@@ -217,13 +216,13 @@ module _ (sum : List ℕ → ℕ) (x : State) (l : IsLinked sum x) (s at : ℕ) 
 
   module _ (set : ChunkSet) (e : message_read (slice_index_or x.open_streams at d).state.reassembly_queue.held ≡ Some set) where
     pub read-is : (n : ℕ) × (next_read w s ≡ Some n) × (set ≡ handed_out w n)
-    read-is = let f = facts sum x l in ReadOne.some-read w s r f.sounds.plain f.sounds.whole span open' set (ap message_read (sym here) ∙ e)
+    read-is = let f = facts sum x l in ReadOne.some-read w s r f.sound.sound f.sound.loose span open' set (ap message_read (sym here) ∙ e)
 
     abbrev n : ℕ
     n = read-is.0
 
     pub hands : HandsOut w s read-is.0
-    hands = let f = facts sum x l in by (ReadOne.reads-one w s r f.sounds.plain f.sounds.whole span open' read-is.0 read-is.1)
+    hands = let f = facts sum x l in by (ReadOne.reads-one w s r f.sound.sound f.sound.loose span open' read-is.0 read-is.1)
       where
         by : ReadsWhole w s read-is.0 ⊎ ReadsOrdered w s read-is.0 → HandsOut w s read-is.0
         by (inl o) = hands-whole read-is.0 o

@@ -50,7 +50,7 @@ module _ (sum : List ℕ → ℕ) (x : State) (p : ℕ) (l : IsLinked sum x) (ma
   new-tells =
       let f = facts sum x l in
       ap (Window.is_new x.filter.chunks (tsn_of x.world p)) (ap (λ r. r.cumulative) l.filter)
-      ∙ new-is x.world x.filter.chunks f.sounds.plain.skipped_made f.few (ap (λ r. r.held) l.filter) p made
+      ∙ new-is x.world x.filter.chunks f.sound.sound.skipped_made f.few (ap (λ r. r.held) l.filter) p made
 
   copied-some : (o : Option (Bor ChunkPayloadData)) → is_some (option_copied o) ≡ is_some o
   copied-some None = refl
@@ -102,7 +102,7 @@ module _ (sum : List ℕ → ℕ) (x : State) (l : IsLinked sum x) (slots : List
   pub held-begins : (s n : ℕ) (set : ChunkSet) (chunks : List ChunkPayloadData) → chunks ≡ set.chunks → is_held x.world s n ≡ true → set ≡ set_of x.world n → Begins x.world n chunks
   held-begins s n set chunks shown h e =
       let f = facts sum x l in
-      subst (Begins x.world n) (sym (shown ∙ ap (λ (y : ChunkSet). y.chunks) e)) (set-begins x.world s n f.sounds.plain f.setup.first h)
+      subst (Begins x.world n) (sym (shown ∙ ap (λ (y : ChunkSet). y.chunks) e)) (set-begins x.world s n f.sound.sound f.setup.first h)
 
   pub held-made : (s n : ℕ) → is_held x.world s n ≡ true → n < length x.world.messages
   held-made s n h = Line.on-made x.world s n (Taken.held x.world s n h).on
@@ -152,7 +152,7 @@ module _ (sum : List ℕ → ℕ) (x : State) (l : IsLinked sum x) (at s : ℕ) 
   pub set-held : (i : ℕ) (e : ChunkSet) → i < length (slice_index_or x.open_streams at d).state.reassembly_queue.held.ordered → (is_held x.world s (slice_index_or (held_on x.world s) i 0) ≡ true) × (slice_index_or (slice_index_or x.open_streams at d).state.reassembly_queue.held.ordered i e ≡ set_of x.world (slice_index_or (held_on x.world s) i 0))
   set-held i e less =
       let f = facts sum x l in
-      let o = set-at x.world s i 0 e f.sounds.plain f.setup.first (omega (arith, less, ap length stream-ordered)) in
+      let o = set-at x.world s i 0 e f.sound.sound f.setup.first (omega (arith, less, ap length stream-ordered)) in
       (o.held, ap (λ ss. slice_index_or ss i e) stream-ordered ∙ o.is)
 
   pub low-front : (i : ℕ) → 0 < length (slice_index_or x.open_streams at d).state.reassembly_queue.held.ordered → i ≡ index_of x.world (slice_index_or (held_on x.world s) 0 0) → min (slice_index_or x.open_streams at d).next i ≡ least (next_of x.world s) (map (index_of x.world) (held_on x.world s))
@@ -176,7 +176,7 @@ under-total f from (suc count) h = omega (arith, h from (omega arith) (omega ari
 few-messages : (sum : List ℕ → ℕ) (x : State) → IsLinked sum x → length x.world.messages < 2 ^ 31
 few-messages sum x l =
     let f = facts sum x l in
-    omega (arith, under-total (parts (shape x.world)) 0 (length x.world.messages) (λ k a b. f.sounds.plain.some k (omega (arith, b))), f.sane.accepted)
+    omega (arith, under-total (parts (shape x.world)) 0 (length x.world.messages) (λ k a b. f.sound.sound.some k (omega (arith, b))), f.sane.accepted)
 
 module _ (sum : List ℕ → ℕ) (x : State) (l : IsLinked sum x) (k p : ℕ) (e : slice_get x.world.network k ≡ Some (Data (p ∷ []))) where
   abbrev n : ℕ
@@ -189,7 +189,7 @@ module _ (sum : List ℕ → ℕ) (x : State) (l : IsLinked sum x) (k p : ℕ) (
   come-made = ((facts sum x l).carried k p e).made
 
   pub come-message : n < length x.world.messages
-  come-message = let f = facts sum x l in f.sounds.plain.made n p (Arrival.has-fragment x.world p (f.carried k p e).fragment)
+  come-message = let f = facts sum x l in f.sound.sound.made n p (Arrival.has-fragment x.world p (f.carried k p e).fragment)
 
   pub come-open : (r : StreamRecord) × (stream_at x.world s ≡ Some r)
   come-open = ((facts sum x l).carried k p e).known

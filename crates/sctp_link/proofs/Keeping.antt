@@ -18,7 +18,7 @@ use Rattle.sctp_model.specs.Receiver.{is_new, has_arrived, next_of}
 use Rattle.sctp_model.specs.Changes.{slot_received, becomes_whole, with_whole, stream_changed, mark_arrived}
 use Rattle.sctp_model.specs.Contents.{chunk_at}
 use Rattle.sctp_model.specs.Queues.{filter_of}
-use Rattle.sctp_model.specs.Steps.{refusal_of, after, arrival_fits}
+use Rattle.sctp_model.specs.Steps.{refusal_of, after}
 use Rattle.sctp_ties.specs.Holds.{reassembly_of}
 use Rattle.sctp_ties.specs.Tied.{filter_held}
 use Rattle.sctp_ties.specs.Amount.{amount}
@@ -35,7 +35,7 @@ use Rattle.sctp_link.specs.Places.{stream_numbers}
 use Rattle.sctp_link.specs.Records.{stream_record}
 use Rattle.sctp_link.proofs.Apart.{IsApart, apart, differ, each-set, map-set_same, number-found, streams-set}
 use Rattle.sctp_link.proofs.Places.{indexed-set}
-use Rattle.sctp_link.proofs.Arrives.{after-is, frame, quiet, fits, stream-arrived, enter, span-here, elsewhere, noted-is}
+use Rattle.sctp_link.proofs.Arrives.{after-is, frame, quiet, stream-arrived, enter, span-here, elsewhere, noted-is}
 use Rattle.sctp_link.proofs.Facts.{facts, over}
 use Rattle.sctp_link.proofs.StreamsAfter.{linked-then}
 use Rattle.sctp_link.proofs.Lookups.{none-open}
@@ -71,9 +71,9 @@ module _ (sum : List ℕ → ℕ) (x : State) (l : IsLinked sum x) (k p : ℕ) (
   pub small : is_too_large (chunk_at w p) y.state.reassembly_queue ≡ false
   small =
       let q = y.state.reassembly_queue in
-      over sum x (λ (u : World). slice_get u.network k ≡ Some (Data (p ∷ [])) → arrival_fits u (Some (Data (p ∷ []))) ≡ true → is_new u p ≡ true → q.held ≡ reassembly_of u (message_at u (message_of u p)).stream → is_too_large (chunk_at u p) q ≡ false) l
+      over sum x (λ (u : World). slice_get u.network k ≡ Some (Data (p ∷ [])) → refusal_of u (E.Arrive k) ≡ None → is_new u p ≡ true → q.held ≡ reassembly_of u (message_at u (message_of u p)).stream → is_too_large (chunk_at u p) q ≡ false) l
       (λ a b c h. never-too-large-run w.setup l.history k p q l.setup l.stands.run a b c h (l.open_streams at d lt).largest)
-      e (fits sum x l k p none e) new here
+      e none new here
 
   pub its-stream : ((chunk_at w p).stream_identifier == y.state.reassembly_queue.si) ≡ true
   its-stream = ap (λ t. s == t) ((l.open_streams at d lt).si ∙ id-at d) ∙ same-yes s
@@ -90,7 +90,7 @@ module _ (sum : List ℕ → ℕ) (x : State) (l : IsLinked sum x) (k p : ℕ) (
         let f = facts sum x l in
         let q = keeps.ordered_queue (ap not o) in
         record {
-          queue = ap (λ (r : ReassemblyState). r.held) q ∙ ap (pushed_ordered (chunk_at w p)) here ∙ sym (ordered-slot w s p (enter sum x l k p none e new) f.sounds.plain o (span-here sum x l k p none e new o));
+          queue = ap (λ (r : ReassemblyState). r.held) q ∙ ap (pushed_ordered (chunk_at w p)) here ∙ sym (ordered-slot w s p (enter sum x l k p none e new) f.sound.sound o (span-here sum x l k p none e new o));
           noted = ap (λ b. keeps.whole && not b) o ∙ and-none keeps.whole ∙ sym (ap (λ b. not b && (has_arrived (with_arrived w p) n && list_all (λ i. nat_le w.skipped i) (slots_of (with_arrived w p) n))) o);
           si = ap (λ (r : ReassemblyState). r.si) q;
           largest = ap (λ (r : ReassemblyState). r.max_message_size) q;
@@ -100,7 +100,7 @@ module _ (sum : List ℕ → ℕ) (x : State) (l : IsLinked sum x) (k p : ℕ) (
         let c = f.carried k p e in
         let q = keeps.unordered_queue (ap not o) in
         let pushed = subst (λ (h : Reassembly). BecomesWhole (inserted chunk_before (chunk_at w p) h.loose) h z.state.reassembly_queue.held keeps.whole) here q.0 in
-        let same = becomes-same (inserted chunk_before (chunk_at w p) (reassembly_of w s).loose) (reassembly_of w s) z.state.reassembly_queue.held (reassembly_of (slot_received w p) s) keeps.whole (becomes_whole (with_arrived w p) n) pushed (unordered-slot w s p c.known.0 f.sounds.plain f.sounds.loose (enter sum x l k p none e new) o c.known.1) in
+        let same = becomes-same (inserted chunk_before (chunk_at w p) (reassembly_of w s).loose) (reassembly_of w s) z.state.reassembly_queue.held (reassembly_of (slot_received w p) s) keeps.whole (becomes_whole (with_arrived w p) n) pushed (unordered-slot w s p c.known.0 f.sound.sound f.sound.loose (enter sum x l k p none e new) o c.known.1) in
         record {
           queue = same.0;
           noted = ap (λ b. keeps.whole && not b) o ∙ and-yes keeps.whole ∙ same.1;

@@ -72,15 +72,15 @@ module _ (sum : List ℕ → ℕ) (x : State) (l : IsLinked sum x) (s : ℕ) (ok
 
   stream-new : (m : OpenStream) → m.state ≡ new_stream s x.world.setup.size x.world.setup.largest Unknown → m.ordered ≡ 0 → m.next ≡ 0 → IsOpenStream (opened x.world s) m
   stream-new m is none first =
-      let a : reassembly_of (opened x.world s) s ≡ (let q : Reassembly = record { next_ssn = 0; ordered = []; unordered = []; loose = [] } in q) = Opened.opened-same x.world s s closed ∙ Opened.closed-empty x.world.setup x.world s f.sane f.sounds closed in
-      let n : next_of (opened x.world s) s ≡ 0 = subst (λ u. next_of (opened u s) s ≡ next_of u s) (sym l.stands.is) (next-same x.world.setup l.history (E.Open s) s l.setup l.stands.run (ap (λ u. refusal_of u (E.Open s)) (sym l.stands.is) ∙ ok) tt) ∙ Opened.next x.world.setup x.world s f.sane f.sounds closed in
+      let a : reassembly_of (opened x.world s) s ≡ (let q : Reassembly = record { next_ssn = 0; ordered = []; unordered = []; loose = [] } in q) = Opened.opened-same x.world s s closed ∙ Opened.closed-empty x.world.setup x.world s f.sane closed in
+      let n : next_of (opened x.world s) s ≡ 0 = subst (λ u. next_of (opened u s) s ≡ next_of u s) (sym l.stands.is) (next-same x.world.setup l.history (E.Open s) s l.setup l.stands.run (ap (λ u. refusal_of u (E.Open s)) (sym l.stands.is) ∙ ok) tt) ∙ Opened.next x.world.setup x.world s f.sane closed in
       subst (λ st. IsOpenStream (opened x.world s) (record m { state = st })) (sym is)
       (record {
         held = sym a;
         si = refl;
         largest = refl;
         size = refl;
-        ordered = none ∙ sym (ap length (Opened.line x.world.setup x.world s f.sane f.sounds closed));
+        ordered = none ∙ sym (ap length (Opened.line x.world.setup x.world s f.sane closed));
         number = sym (ap (λ k. k % 2 ^ 16) none);
         next = first ∙ sym n;
         amount = sym (amount-none x.world.setup x.world s f.sane closed);

@@ -78,7 +78,7 @@ module _ (sum : List ℕ → ℕ) (x : State) (l : IsLinked sum x) (credit : ℕ
   pub cumulative-place : ((x.cumulative_tsn + (2 ^ 32 - w.setup.first)) % 2 ^ 32 + 1) % 2 ^ 32 ≡ cumulative w
   cumulative-place =
       let f = facts sum x l in
-      let top = cumulative-le w f.sounds.plain.skipped_made in
+      let top = cumulative-le w f.sound.sound.skipped_made in
       let first = l.setup.first in
       let few = f.few in
       omega (arith, cumulative-is, top, first, few)
@@ -89,7 +89,7 @@ module _ (sum : List ℕ → ℕ) (x : State) (l : IsLinked sum x) (credit : ℕ
         let f = facts sum x l in
         ap (map ends_of) cut ∙ sym (take-map ends_of 16379 all) ∙ ap (take 16379) runs
         ∙ ap (λ t. take 16379 (runs_of (gap_offsets t x.filter.chunks))) cumulative-is
-        ∙ sym (blocks-are w credit x.filter.chunks f.sounds.plain.skipped_made f.few (ap (λ (f : FilterRecord). f.held) l.filter))
+        ∙ sym (blocks-are w credit x.filter.chunks f.sound.sound.skipped_made f.few (ap (λ (f : FilterRecord). f.held) l.filter))
 
     blocks-count : length bs ≡ length (gap_blocks w)
     blocks-count = sym (length-mapped ends_of bs) ∙ ap length blocks-made

@@ -18,7 +18,7 @@ use Rattle.sctp_model.specs.World.{World}
 use Rattle.sctp_model.specs.Messages.{message_at, slot_at, message_of, stream_of, no_slot, is_ordered_on, index_of, fragment_count, has_fragment}
 use Rattle.sctp_model.specs.Receiver.{arrived_at, arrived_of, has_arrived, is_whole, is_unread, is_held}
 use Rattle.sctp_model.specs.Changes.{mark_arrived}
-use Rattle.sctp_ties.specs.Sound.{IsLaid, Sound}
+use Rattle.sctp_model.specs.Sound.{IsLaid, Sound}
 use Rattle.sctp_lists.proofs.More.{fails, not_both, both, same_test, length-changed, changed-same, changed-other, changed-keeps, kept-short, length-kept-one_more}
 use Rattle.sctp_ties.proofs.Complete.{IsMessage, complete-kept}
 

@@ -1,11 +1,11 @@
--- Stream records that change elsewhere, reads as the record has them, and the invariant after an arrival.
-use Rattle.std.proofs.Common.{◌≡◌, ℕ, ◌≤◌, Bool, true, false, List, [], length, map, drop, Option, Some, None, refl, ap, sym, ◌∙◌, arith}
+-- Stream records that change elsewhere, and reads as the record has them.
+use Rattle.std.proofs.Common.{◌≡◌, ℕ, Bool, true, false, List, [], length, map, drop, Option, Some, None, refl, ap, sym, ◌∙◌, arith}
 use Rattle.std.specs.Prelude.{if◌then◌else◌, ◌==◌, ◌&&◌, ◌||◌, not, nat_le, unwrap_or}
 use Rattle.std.specs.List.{list_any}
 use Rattle.std.proofs.lemmas.Bool.Decides.{nat_tests}
 use Rattle.sctp_lists.proofs.KeptLemmas.{map-kept-same}
 use Rattle.sctp_model.specs.World.{World, StreamRecord}
-use Rattle.sctp_model.specs.Messages.{message_at, message_of, stream_at, stream_of, no_stream, is_ordered_on, index_of, is_unordered_on}
+use Rattle.sctp_model.specs.Messages.{message_at, message_of, stream_at, stream_of, no_stream, is_ordered_on, is_unordered_on}
 use Rattle.sctp_model.specs.Receiver.{arrived_at, arrived_of, has_arrived, cumulative, is_whole, is_held, held_on, next_of}
 use Rattle.sctp_model.specs.Changes.{stream_changed, with_whole, becomes_whole, slot_received, read_of}
 use Rattle.sctp_model.specs.Changes
@@ -17,23 +17,11 @@ use Rattle.sctp_ties.proofs.Arrival.{with_arrived}
 use Rattle.sctp_ties.proofs.Stays
 use Rattle.sctp_ties.proofs.Stays.{by_place}
 use Rattle.sctp_ties.proofs.SkipStep.{then_by, find-map, find-passes, parts}
-use Rattle.sctp_ties.proofs.Span.{IsSpan}
 use Rattle.sctp_model.specs.Receiver
 use Rattle.sctp_ties.proofs.Line
 use Rattle.sctp_ties.proofs.Reading.{with_read}
 use Rattle.sctp_ties.proofs.Unordered.{ArrivesLoose, unordered-of}
 use Rattle.sctp_ties.proofs.UnorderedStep.{with_streams, next-streams, sets-streams}
-
--- the span test of a later state serves an earlier one of the same Arrive, whose held messages are among the later ones
-pub span-among : (w v : World) (s : ℕ) (more fewer : List ℕ) → length w.messages ≤ length v.messages → next_of w s ≡ next_of v s → ((k : ℕ) → index_of w k ≡ index_of v k) → ((k : ℕ) → is_held w s k ≡ true → is_held v s k ≡ true) → ((y : ℕ) → list_any (λ z. z == y) fewer ≡ true → list_any (λ z. z == y) more ≡ true) → IsSpan v s more → IsSpan w s fewer
-span-among w v s more fewer le next index held others sp = record {
-  low = sp.low;
-  high = sp.high;
-  short = sp.short;
-  next = (omega (arith, next, sp.next), omega (arith, next, sp.next));
-  held = λ k lt h. (omega (arith, sp.held k (omega (arith, le)) (held k h), index k), omega (arith, sp.held k (omega (arith, le)) (held k h), index k));
-  others = λ y h. sp.others y (others y h);
-}
 
 -- ## A stream's queue where the stream's record is as it was
 

@@ -1,7 +1,6 @@
 pub mod Complete
 pub mod Arrival
 pub mod Line
-pub mod Span
 pub mod Stays
 pub mod Ordered
 pub mod Filter
@@ -14,15 +13,11 @@ pub mod Loose
 pub mod Unordered
 pub mod UnorderedStep
 pub mod Keeps
-pub mod SoundAfter
-pub mod SoundSkip
-pub mod SoundMore
+pub mod UnorderedRead
 pub mod NextRead
 pub mod SlotArrives
 pub mod RunsOnce
-pub mod SlotsArrive
-pub mod SlotsNear
-pub mod SoundRun
+pub mod Carried
 pub mod FilterQueue
 pub mod Waiting
 pub mod Written

@@ -14,7 +14,7 @@ use Rattle.sctp_chunks.specs.declared.chunk.chunk_payload_data.ChunkPayloadData.
 use Rattle.sctp_queues.specs.Runs.{IsRun}
 use Rattle.sctp_model.specs.Contents.{chunk_at}
 use Rattle.sctp_model.specs.Queues.{is_loose}
-use Rattle.sctp_ties.specs.Sound.{Sound, SoundLoose}
+use Rattle.sctp_model.specs.Sound.{Sound, SoundLoose}
 use Rattle.sctp_lists.proofs.More.{not_both, both, and}
 use Rattle.sctp_ties.proofs.Line.{kept-place}
 use Rattle.sctp_ties.proofs.Arrival

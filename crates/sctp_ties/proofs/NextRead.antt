@@ -15,9 +15,8 @@ use Rattle.sctp_model.specs.Changes
 use Rattle.sctp_model.specs.Contents.{chunk_at}
 use Rattle.sctp_model.specs.Queues.{set_of, whole_set_of, handed_out, is_loose}
 use Rattle.sctp_ties.specs.Holds.{loose_chunks, reassembly_of}
-use Rattle.sctp_ties.specs.Sound.{Sound, SoundWhole}
+use Rattle.sctp_model.specs.Sound.{IsSpan, Sound, SoundLoose}
 use Rattle.sctp_ties.proofs.Line
-use Rattle.sctp_ties.proofs.Span.{IsSpan}
 use Rattle.sctp_ties.proofs.Stays.{by_place}
 use Rattle.sctp_ties.proofs.Taken.{is_due, map_option, front-gives, due-front}
 use Rattle.sctp_ties.proofs.RunLemmas.{run-due}
@@ -25,8 +24,8 @@ use Rattle.sctp_ties.proofs.Reading
 use Rattle.sctp_ties.proofs.Reading.{with_read}
 use Rattle.sctp_ties.proofs.Keeps
 use Rattle.sctp_ties.proofs.SkipStep
-use Rattle.sctp_ties.proofs.SoundAfter
-use Rattle.sctp_ties.proofs.Unordered.{unordered-of}
+use Rattle.sctp_ties.proofs.UnorderedRead
+use Rattle.sctp_ties.proofs.Unordered.{unordered-of, waits-on}
 
 first-in : (n : ℕ) (rest : List ℕ) → list_any (λ k. k == n) (n ∷ rest) ≡ true
 first-in n rest = let z : (n == n) ≡ true = grind (arith, nat_tests) in ap (λ b. b || list_any (λ k. k == n) rest) z
@@ -46,7 +45,7 @@ loose-other w n t off =
         (λ ne. rw (Reading.message-other w n m ne) refl)
         (λ e. ap (λ j. is_unordered_on (with_read w n) t j && not (is_whole (with_read w n) j)) e ∙ ap (λ b. b && not (is_whole (with_read w n) n)) still ∙ sym (ap (λ j. is_unordered_on w t j && not (is_whole w j)) e ∙ ap (λ b. b && not (is_whole w n)) off))
 
-module _ (w : World) (s : ℕ) (r : StreamRecord) (sound : Sound w) (more : SoundWhole w) (sp : IsSpan w s []) (open' : stream_at w s ≡ Some r) where
+module _ (w : World) (s : ℕ) (r : StreamRecord) (sound : Sound w) (more : SoundLoose w) (sp : IsSpan w s []) (open' : stream_at w s ≡ Some r) where
   abbrev due : Option ℕ
   due = first_of (kept (is_due w s) 0 (length w.messages))
 
@@ -67,7 +66,7 @@ module _ (w : World) (s : ℕ) (r : StreamRecord) (sound : Sound w) (more : Soun
   given (Some n) e = ap (λ x. Some x) (handed-ordered n (Line.on-ordered w s n (due-front w s sound sp n e).0.on))
 
   of-front : (n : ℕ) (rest : List ℕ) → (stream_of w s).whole ≡ n ∷ rest → (is_unordered_on w s n ≡ true) × (n < length w.messages)
-  of-front n rest e = more.whole_on s n (ap (list_any (λ k. k == n)) e ∙ first-in n rest)
+  of-front n rest e = let i = more.waits s n (ap (list_any (λ k. k == n)) e ∙ first-in n rest) in (waits-on w s n i, i.made)
 
   message-with : (l : List ℕ) → (stream_of w s).whole ≡ l → message_among (map (whole_set_of w) l) (reassembly_of w s) ≡ map_option (handed_out w) (next_with l)
   message-with [] e = front-gives w s sound sp ∙ given due refl ∙ ap (map_option (handed_out w)) (sym next-due)
@@ -90,7 +89,7 @@ module _ (w : World) (s : ℕ) (r : StreamRecord) (sound : Sound w) (more : Soun
   rest-with (n ∷ rest) e =
       let f = of-front n rest e in
       ap (λ l. let q : Reassembly = record (reassembly_of w s) { unordered = l } in q) (ap (λ l. without_first (map (whole_set_of w) l)) (sym e))
-      ∙ sym (SoundAfter.unordered-read_off w s n rest r sound f.0 f.1 open' e)
+      ∙ sym (UnorderedRead.unordered-read_off w s n rest r sound f.0 f.1 open' e)
 
   -- and holds then what the record says
   pub rest-is : rest_read (reassembly_of w s) ≡ reassembly_of (read_from w s) s
@@ -110,7 +109,7 @@ module _ (w : World) (s : ℕ) (r : StreamRecord) (sound : Sound w) (more : Soun
       let v = with_read w n in
       let g = Changes.without_first in
       let off : is_unordered_on w t n ≡ false = fails (is_unordered_on w t n) (λ h. ne (sym (unordered-of w t n h).0 ∙ u.0)) in
-      let plain : reassembly_of v t ≡ reassembly_of w t = SkipStep.parts (SoundAfter.next-read_unordered w n sound u.1 t) (SoundAfter.sets-read_unordered w n sound u.1 t) (Reading.whole_sets-read w n t) (loose-other w n t off) in
+      let plain : reassembly_of v t ≡ reassembly_of w t = SkipStep.parts (UnorderedRead.next-read_unordered w n sound u.1 t) (UnorderedRead.sets-read_unordered w n sound u.1 t) (Reading.whole_sets-read w n t) (loose-other w n t off) in
       Keeps.restreamed v (Changes.stream_changed v s g).streams t (Keeps.named-changed v s g (λ r. refl) (λ r. refl)) (Keeps.whole-other v s g (λ r. refl) (λ r. refl) t ne)
       ∙ plain
 

@@ -21,7 +21,6 @@ use Rattle.sctp_ties.proofs.Loose
 use Rattle.sctp_ties.proofs.SkipStep
 use Rattle.sctp_ties.proofs.Taken.{held}
 use Rattle.sctp_ties.proofs.Unordered.{unordered-of}
-use Rattle.sctp_ties.proofs.SlotsArrive.{Sounds}
 
 -- the queues of the streams that are open stay as they are
 pub opened-same : (w : World) (s t : ℕ) → is_open w s ≡ false → reassembly_of (opened w s) t ≡ reassembly_of w t
@@ -31,7 +30,7 @@ pub mode-same : (w : World) (s : ℕ) (unordered : Bool) (reliability : Reliabil
 mode-same w s u r n t = Keeps.restreamed w (mode_set w s u r n).streams t (λ x. ap (λ y. y.named x) (View.view-moded w s u r n)) (ap (λ y. y.whole t) (View.view-moded w s u r n))
 
 -- a stream that is not open has nothing
-module _ (setup : Setup) (w : World) (s : ℕ) (g : Sane setup w) (sounds : Sounds w) (closed : is_open w s ≡ false) where
+module _ (setup : Setup) (w : World) (s : ℕ) (g : Sane setup w) (closed : is_open w s ≡ false) where
   no-message : (n : ℕ) → n < length w.messages → (message_at w n).stream ≡ s → ⊥
   no-message n lt e = not_both (sym closed ∙ ap (is_open w) (sym e) ∙ g.known n lt)
 

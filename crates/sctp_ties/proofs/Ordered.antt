@@ -22,14 +22,13 @@ use Rattle.sctp_model.specs.Messages.{message_at, slot_at, message_of, stream_of
 use Rattle.sctp_model.specs.Receiver.{arrived_at, arrived_of, has_arrived, cumulative, is_whole, is_unread, is_held, next_of, is_new}
 use Rattle.sctp_model.specs.Changes.{slot_received, becomes_whole}
 use Rattle.sctp_lists.specs.Lists.{change_first}
-use Rattle.sctp_ties.specs.Sound.{IsLaid, Sound}
+use Rattle.sctp_model.specs.Sound.{IsLaid, IsSpan, Sound}
 use Rattle.sctp_lists.proofs.More.{fails, not_both, both, any-kept_one, change_first-kept}
 use Rattle.sctp_lists.proofs.Wraps.{comes_before16-index, same16-index}
 use Rattle.sctp_ties.proofs.Line.{index-lt, index-same, ssn_on, on-made, on-ordered, on-stream, next_reads}
 use Rattle.sctp_ties.proofs.Stays
 use Rattle.sctp_ties.proofs.Arrival
 use Rattle.sctp_ties.proofs.Arrival.{with_arrived}
-use Rattle.sctp_ties.proofs.Span.{IsSpan}
 
 -- what an accepted Arrive of a new slot of an ordered message knows
 pub record Arrives (w : World) (s p : ℕ) : Type 0 where

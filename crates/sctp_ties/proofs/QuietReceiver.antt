@@ -6,7 +6,6 @@ use Rattle.std.proofs.lemmas.Bool.{cases_lt}
 use Rattle.sctp_lists.specs.Kept.{kept, unbroken}
 use Rattle.sctp_lists.proofs.KeptLemmas.{kept-same, map-kept-same, unbroken-same}
 use Rattle.sctp_lists.proofs.Cases.{same-yes, same-is, or-left, or-right}
-use Rattle.sctp_ties.proofs.Unordered.{unordered-of}
 use Rattle.sctp_ties.proofs.UnorderedStep.{kept-split}
 use Rattle.sctp_ties.proofs.Filter.{cumulative-le}
 use Rattle.sctp_lists.proofs.More.{fails, kept-short}
@@ -15,6 +14,7 @@ use Rattle.sctp_model.specs.World.{Setup, World}
 use Rattle.sctp_model.specs.Messages.{message_at, message_of, stream_of, is_ordered_on, is_unordered_on, index_of, ssn_of, has_fragment, slots_of, sent_of, fragment_count, tsn_of}
 use Rattle.sctp_model.specs.Receiver.{arrived_at, arrived_of, has_arrived, is_whole, is_unread, is_held, next_of, cumulative}
 use Rattle.sctp_model.specs.Log.{LogEntry}
+use Rattle.sctp_model.specs.Sound.{IsSound}
 use Rattle.sctp_model.specs.Contents.{chunk_at, cumulative_tsn}
 use Rattle.sctp_model.specs.Queues.{set_of, whole_set_of, is_loose, filter_of, FilterRecord}
 use Rattle.sctp_model.proofs.Shape.{shape}
@@ -32,7 +32,6 @@ use Rattle.sctp_ties.specs.Holds.{ordered_sets, whole_sets, loose_chunks, reasse
 use Rattle.sctp_ties.proofs.Line
 use Rattle.sctp_ties.proofs.SkipStep
 use Rattle.sctp_ties.proofs.Taken.{held}
-use Rattle.sctp_ties.proofs.SlotsArrive.{Sounds}
 
 unbroken-short : (p : ℕ → Bool) (from count total : ℕ) → count ≤ total → p (from + count) ≡ false → unbroken p from total ≡ unbroken p from count
 unbroken-short p from zero zero le e = refl
@@ -40,7 +39,7 @@ unbroken-short p from zero (suc total) le e = ap (λ b. if b then unbroken p (fr
 unbroken-short p from (suc count) zero le e = absurd (omega arith)
 unbroken-short p from (suc count) (suc total) le e = ap (λ k. if p from then k + 1 else 0) (unbroken-short p (from + 1) count total (omega arith) (ap p (let y : from + 1 + count ≡ from + suc count = omega arith in y) ∙ e))
 
-module _ (setup : Setup) (w v : World) (log : List LogEntry) (g : Sane setup w) (g' : Sane setup v) (q : Quiet w v) (r : Received w log) (sounds : Sounds w) where
+module _ (setup : Setup) (w v : World) (log : List LogEntry) (g : Sane setup w) (g' : Sane setup v) (q : Quiet w v) (r : Received w log) (sound : IsSound w) where
   still : Still (view w) (view v)
   still = still-of setup w v g g' q
 
@@ -181,11 +180,10 @@ module _ (setup : Setup) (w v : World) (log : List LogEntry) (g : Sane setup w) 
     where
       one : (n : ℕ) → list_any (λ k. k == n) (stream_of w s).whole ≡ true → whole_set_of v n ≡ whole_set_of w n
       one n e =
-          let o = sounds.whole.whole_on s n e in
-          let u = unordered-of w s n o.0 in
-          whole-set-same n o.1 (sounds.loose.whole_arrived n u.1
-          (ap (λ b. if b then has_arrived w n else ((message_at w n).read || list_any (λ k. k == n) (stream_of w (message_at w n).stream).whole)) u.1
-          ∙ or-right (message_at w n).read (list_any (λ k. k == n) (stream_of w (message_at w n).stream).whole) (ap (λ t. list_any (λ k. k == n) (stream_of w t).whole) u.0 ∙ e)))
+          let i = sound.loose.waits s n e in
+          whole-set-same n i.made (sound.loose.whole_arrived n i.unordered
+          (ap (λ b. if b then has_arrived w n else ((message_at w n).read || list_any (λ k. k == n) (stream_of w (message_at w n).stream).whole)) i.unordered
+          ∙ or-right (message_at w n).read (list_any (λ k. k == n) (stream_of w (message_at w n).stream).whole) (ap (λ t. list_any (λ k. k == n) (stream_of w t).whole) i.stream ∙ e)))
 
       over : (l : List ℕ) → ((n : ℕ) → list_any (λ k. k == n) l ≡ true → list_any (λ k. k == n) (stream_of w s).whole ≡ true) → map (whole_set_of v) l ≡ map (whole_set_of w) l
       over [] h = refl
@@ -201,7 +199,7 @@ module _ (setup : Setup) (w v : World) (log : List LogEntry) (g : Sane setup w) 
 
   cumulative-quiet : cumulative v ≡ cumulative w
   cumulative-quiet =
-      let short = sounds.plain.skipped_made in
+      let short = sound.sound.skipped_made in
       ap (λ k. k + unbroken (arrived_at v) k (length v.slots - k)) q.skipped
       ∙ ap (λ c. w.skipped + c) (unbroken-short (arrived_at v) w.skipped (length w.slots - w.skipped) (length v.slots - w.skipped) (omega (arith, slots-le)) (arrived-none (w.skipped + (length w.slots - w.skipped)) (omega (arith, short)))
       ∙ unbroken-same (arrived_at v) (arrived_at w) w.skipped (length w.slots - w.skipped) (λ k a b. q.arrived k))
@@ -209,7 +207,7 @@ module _ (setup : Setup) (w v : World) (log : List LogEntry) (g : Sane setup w) 
   pub filter-quiet : filter_of v ≡ filter_of w
   filter-quiet =
       let c = cumulative w in
-      let top = cumulative-le w sounds.plain.skipped_made in
+      let top = cumulative-le w sound.sound.skipped_made in
       let held' : map (tsn_of v) (kept (arrived_at v) (cumulative v) (length v.slots - cumulative v)) ≡ map (tsn_of w) (kept (arrived_at w) c (length w.slots - c)) =
       ap (λ k. map (tsn_of v) (kept (arrived_at v) k (length v.slots - k))) cumulative-quiet
       ∙ ap (map (tsn_of v)) (kept-short (arrived_at v) c (length w.slots - c) (length v.slots - length w.slots) (length v.slots - c) (omega (arith, slots-le, top)) (λ k a b. arrived-none k (omega (arith, top, a))))

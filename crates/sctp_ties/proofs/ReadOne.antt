@@ -1,6 +1,6 @@
 -- What a read and the other events make of the index expected next, and when the queue has nothing to read.
 use Rattle.std.proofs.Common.{◌≡◌, ℕ, ◌+◌, Bool, true, false, List, [], ◌∷◌, Option, Some, None, refl, ap, sym, ◌∙◌, inl, inr, arith}
-use Rattle.std.specs.Prelude.{◌⊎◌, ◌↔◌, if◌then◌else◌, ◌==◌, not, slice_get}
+use Rattle.std.specs.Prelude.{◌⊎◌, ◌↔◌, if◌then◌else◌, ◌==◌, not, fold, slice_get}
 use Rattle.std.specs.List.{list_any}
 use Rattle.std.proofs.lemmas.Bool.Decides.{nat_tests}
 use Rattle.sctp_lists.specs.Kept.{passing, first_of, or_else}
@@ -12,37 +12,34 @@ use Rattle.sctp_model.specs.declared.event.Event.TheVariants as E
 use Rattle.sctp_model.specs.declared.event.LinkRefusal.TheVariants.{StreamOpen}
 use Rattle.sctp_model.specs.World.{Setup, World, StreamRecord, Datagram, Data, Forward, Sack}
 use Rattle.sctp_model.specs.Messages
-use Rattle.sctp_model.specs.Messages.{stream_at, stream_of, index_of}
+use Rattle.sctp_model.specs.Messages.{message_of, stream_at, stream_of, index_of}
 use Rattle.sctp_model.specs.Receiver.{next_of, next_read, held_on, is_unread, run_of}
 use Rattle.sctp_model.specs.Changes
 use Rattle.sctp_model.specs.Changes.{read_of, read_from, stream_changed, slot_received}
 use Rattle.sctp_model.specs.Queues.{set_of, whole_set_of, handed_out}
 use Rattle.sctp_model.specs.Steps.{History, world_of, IsRun, refusal_of, after}
 use Rattle.sctp_model.specs.Laws.{IsSetup}
-use Rattle.sctp_model.proofs.Shape.{shape}
 use Rattle.sctp_model.proofs.SenderRun.{sane-run, sane-after, unless-holds}
 use Rattle.sctp_model.proofs.Moves
 use Rattle.sctp_model.proofs.Moves.{Quiet}
 use Rattle.sctp_model.proofs.Known.{still-of}
 use Rattle.sctp_model.proofs.Ordered
 use Rattle.sctp_model.proofs.Received.{received-run}
+use Rattle.sctp_model.proofs.SoundRun.{record_is_sound}
 use Rattle.sctp_model.proofs.View
 use Rattle.sctp_model.proofs.View.{view}
-use Rattle.sctp_model.proofs.Network.{fit-run, fit-at}
 use Rattle.sctp_ties.specs.Holds.{reassembly_of}
-use Rattle.sctp_ties.specs.Sound.{Sound, SoundWhole}
+use Rattle.sctp_model.specs.Sound.{IsSpan, Sound, SoundLoose}
 use Rattle.sctp_ties.proofs.Keeps
 use Rattle.sctp_ties.proofs.Line
 use Rattle.sctp_ties.proofs.NextRead
 use Rattle.sctp_ties.proofs.Reading
 use Rattle.sctp_ties.proofs.Reading.{with_read}
 use Rattle.sctp_ties.proofs.RunLemmas.{run-due}
-use Rattle.sctp_ties.proofs.SlotsNear.{AllCarried, among-slots}
-use Rattle.sctp_ties.proofs.SoundAfter
-use Rattle.sctp_ties.proofs.SoundRun.{sounds-run, span-run, all_carried}
-use Rattle.sctp_ties.proofs.Span.{IsSpan}
+use Rattle.sctp_ties.proofs.UnorderedRead
+use Rattle.sctp_ties.proofs.Arrival.{with_arrived}
+use Rattle.sctp_ties.proofs.Carried.{by_step, noted}
 use Rattle.sctp_ties.proofs.Taken.{IsDue, map_option, due-front}
-use Rattle.sctp_ties.proofs.Unordered.{unordered-of}
 use Rattle.sctp_ties.proofs.UnorderedStep
 
 -- ## A read
@@ -68,7 +65,7 @@ pub record ReadsWhole (w : World) (s n : ℕ) : Type 0 where
 pub nothing-read : (w : World) (s : ℕ) → next_read w s ≡ None → read_from w s ≡ w
 nothing-read w s e = ap (read_of w s) e
 
-module _ (w : World) (s : ℕ) (r : StreamRecord) (sound : Sound w) (more : SoundWhole w) (sp : IsSpan w s []) (open' : stream_at w s ≡ Some r) where
+module _ (w : World) (s : ℕ) (r : StreamRecord) (sound : Sound w) (more : SoundLoose w) (sp : IsSpan w s []) (open' : stream_at w s ≡ Some r) where
   -- the index expected next after a read is that of the record with the message read
   restreamed : (n t : ℕ) → next_of (read_of w s (Some n)) t ≡ next_of (with_read w n) t
   restreamed n t = UnorderedStep.next-streams (with_read w n) (read_of w s (Some n)).streams (Keeps.named-changed (with_read w n) s Changes.without_first (λ r. refl) (λ r. refl)) t
@@ -76,12 +73,12 @@ module _ (w : World) (s : ℕ) (r : StreamRecord) (sound : Sound w) (more : Soun
   pub whole-read : (n : ℕ) (rest : List ℕ) → (stream_of w s).whole ≡ n ∷ rest → ReadsWhole w s n
   whole-read n rest e =
       let front : next_read w s ≡ Some n = ap (λ l. or_else (first_of l) (first_of (passing (is_unread w) (run_of w s)))) e in
-      let kind = (unordered-of w s n (more.whole_on s n (ap (λ l. list_any (λ k. k == n) l) e ∙ first-in n rest)).0).1 in
+      let kind = (more.waits s n (ap (λ l. list_any (λ k. k == n) l) e ∙ first-in n rest)).unordered in
       record {
         rest = rest;
         whole = e;
         unordered = kind;
-        next = λ t. ap (λ o. next_of (read_of w s o) t) front ∙ restreamed n t ∙ SoundAfter.next-read_unordered w n sound kind t;
+        next = λ t. ap (λ o. next_of (read_of w s o) t) front ∙ restreamed n t ∙ UnorderedRead.next-read_unordered w n sound kind t;
       }
     where
       first-in : (n : ℕ) (rest : List ℕ) → list_any (λ k. k == n) (n ∷ rest) ≡ true
@@ -141,10 +138,10 @@ module _ (w : World) (s : ℕ) (r : StreamRecord) (sound : Sound w) (more : Soun
 
 -- in every history, on an open stream
 pub reads-run : (setup : Setup) (h : History) (s n : ℕ) (r : StreamRecord) → IsSetup setup → IsRun setup h → stream_at (world_of setup h) s ≡ Some r → next_read (world_of setup h) s ≡ Some n → ReadsWhole (world_of setup h) s n ⊎ ReadsOrdered (world_of setup h) s n
-reads-run setup h s n r is run open' = let k = sounds-run setup h is run in reads-one (world_of setup h) s r k.plain k.whole (span-run setup h s r is run open') open' n
+reads-run setup h s n r is run open' = let k = record_is_sound setup h is run in reads-one (world_of setup h) s r k.sound k.loose (k.near s) open' n
 
 pub none-run : (setup : Setup) (h : History) (s : ℕ) (r : StreamRecord) → IsSetup setup → IsRun setup h → stream_at (world_of setup h) s ≡ Some r → (message_read (reassembly_of (world_of setup h) s) ≡ None) ↔ (next_read (world_of setup h) s ≡ None)
-none-run setup h s r is run open' = let k = sounds-run setup h is run in none (world_of setup h) s r k.plain k.whole (span-run setup h s r is run open') open'
+none-run setup h s r is run open' = let k = record_is_sound setup h is run in none (world_of setup h) s r k.sound k.loose (k.near s) open'
 
 -- ## The other events leave the index expected next
 
@@ -194,8 +191,19 @@ next-same setup h e t is run ok keeps = by e ok keeps
     by (E.Read s) ok keeps = absurd keeps
 
 -- nor does the arrival of fragments move it
-pub next-arrive : (setup : Setup) (h : History) (k t : ℕ) (slots : List ℕ) → IsSetup setup → IsRun setup h → slice_get (world_of setup h).network k ≡ Some (Data slots) → next_of (after (world_of setup h) (E.Arrive k)) t ≡ next_of (world_of setup h) t
-next-arrive setup h k t slots is run e =
+next-slots : (ps : List ℕ) (w : World) (t : ℕ) → next_of (fold slot_received w ps) t ≡ next_of w t
+next-slots [] w t = refl
+next-slots (p ∷ ps) w t = next-slots ps (slot_received w p) t ∙ by_step (λ u. next_of u t ≡ next_of w t) w p refl (λ e b h. new b)
+  where
+    new : (b : Bool) → next_of (noted w p b) t ≡ next_of w t
+    new false = refl
+    new true =
+        let v = with_arrived w p in
+        let on = (Messages.message_at w (message_of w p)).stream in
+        let f = Changes.with_whole (message_of w p) in
+        UnorderedStep.next-streams v (Changes.stream_changed v on f).streams (Keeps.named-changed v on f (λ r. refl) (λ r. refl)) t
+
+pub next-arrive : (setup : Setup) (h : History) (k t : ℕ) (slots : List ℕ) → slice_get (world_of setup h).network k ≡ Some (Data slots) → next_of (after (world_of setup h) (E.Arrive k)) t ≡ next_of (world_of setup h) t
+next-arrive setup h k t slots e =
     let w = world_of setup h in
-    let all : AllCarried w slots = all_carried setup w slots (sane-run setup h run) (fit-at (shape w) w.network k (Data slots) (fit-run setup h run) e) in
-    ap (λ d. next_of (Changes.datagram_received w d) t) e ∙ sym ((among-slots slots w (sounds-run setup h is run) all).next t)
+    ap (λ d. next_of (Changes.datagram_received w d) t) e ∙ next-slots slots w t

@@ -1,7 +1,6 @@
 -- A read of an ordered message: what it leaves.
 use Rattle.std.proofs.Common.{◌≡◌, ℕ, ◌+◌, ◌-◌, ◌<◌, ◌≤◌, ◌%◌, ◌^◌, Bool, true, false, List, [], ◌∷◌, length, map, get_or, Some, refl, ap, sym, ◌∙◌, inl, inr, arith}
 use Rattle.std.specs.Prelude.{◌⊎◌, if◌then◌else◌, ◌==◌, ◌&&◌, not, nat_le}
-use Rattle.std.proofs.lemmas.Bool.{cases_lt}
 use Rattle.std.proofs.lemmas.Bool.Decides.{nat_tests}
 use Rattle.std.proofs.Math.Nat.{eq-or-lt_of_le}
 use Rattle.sctp_lists.specs.Kept.{kept}
@@ -12,10 +11,10 @@ use Rattle.sctp_model.specs.Queues.{set_of, whole_set_of, is_loose}
 use Rattle.sctp_ties.specs.Holds.{ordered_sets, whole_sets, loose_chunks, reassembly_of}
 use Rattle.sctp_lists.proofs.KeptLemmas.{kept-same, kept-skip, map-kept-same, front-kept, FrontOf, IsFront}
 use Rattle.sctp_model.specs.World.{World}
-use Rattle.sctp_model.specs.Messages.{message_at, message_of, stream_of, no_message, is_ordered_on, index_of, ssn_of, fragment_count, fragments_of, has_fragment, ordered_on, slots_of, is_unordered_on}
-use Rattle.sctp_model.specs.Receiver.{arrived_at, arrived_of, has_arrived, is_whole, is_held, held_on, next_of}
+use Rattle.sctp_model.specs.Messages.{message_at, message_of, stream_of, no_message, is_ordered_on, index_of, ssn_of, fragments_of, has_fragment, ordered_on, slots_of, is_unordered_on}
+use Rattle.sctp_model.specs.Receiver.{arrived_at, is_whole, is_held, held_on, next_of}
 use Rattle.sctp_model.specs.Changes.{mark_read}
-use Rattle.sctp_ties.specs.Sound.{Sound}
+use Rattle.sctp_model.specs.Sound.{IsSpan, Sound}
 use Rattle.sctp_lists.proofs.More.{fails, not_both, length-changed, changed-same, changed-other, changed-keeps}
 use Rattle.sctp_lists.proofs.Wraps.{same16-index}
 use Rattle.sctp_ties.proofs.Line
@@ -24,7 +23,6 @@ use Rattle.sctp_ties.proofs.Stays.{map-all, by_place}
 use Rattle.sctp_lists.proofs.Wraps
 use Rattle.sctp_ties.proofs.Taken
 use Rattle.sctp_ties.proofs.Taken.{IsHeld, held, is_due, IsDue, due, is-due, whole_held}
-use Rattle.sctp_ties.proofs.Span.{IsSpan}
 
 abbrev pub with_read : World → ℕ → World
 with_read w n = record w { messages = changed mark_read n w.messages }
@@ -198,66 +196,7 @@ module _ (w : World) (s n : ℕ) (sound : Sound w) (sp : IsSpan w s []) (d : IsD
   ordered-read_off rest e =
       rw (next-read, sets-left rest e, whole_sets-read w n s, loose-read w n s (on-ordered w s n d.on)) refl
 
-  -- ## The indexes are still near one another, and the other streams are as they were
-
-  pub span-read : (rest : List ℕ) → held_on w s ≡ n ∷ rest → IsSpan (with_read w n) s []
-  span-read rest e = step (index_of w n == next_of w s) refl
-    where
-      near : (sp.low ≤ index_of w n) × (index_of w n ≤ sp.high)
-      near = sp.held n n-made n-held
-
-      left : (k : ℕ) → k < length w.messages → is_held (with_read w n) s k ≡ true → is_held w s k ≡ true
-      left k lt h = by_place {C = is_held w s k ≡ true} k n (λ ne. sym (held-read w n s k ne) ∙ h) (λ z. absurd (not_both (sym (held-now w n s n-made) ∙ ap (is_held (with_read w n) s) (sym z) ∙ h)))
-
-      first : (k : ℕ) → is_held w s k ≡ true → n ≤ k
-      first k h = by (cases_lt k n)
-        where
-          front : (l : List ℕ) → l ≡ n ∷ rest → FrontOf (is_held w s) 0 (length w.messages) l → IsFront (is_held w s) 0 (length w.messages) n rest
-          front l e f = rw e at f
-
-          by : (k < n) ⊎ (n ≤ k) → n ≤ k
-          by (inl l) = absurd (not_both (sym ((front (held_on w s) e (front-kept (is_held w s) 0 (length w.messages))).first k (omega arith) l) ∙ h))
-          by (inr g) = g
-
-      beyond : (k : ℕ) → k < length w.messages → is_held (with_read w n) s k ≡ true → index_of w n + 1 ≤ index_of w k
-      beyond k lt h =
-          by_place {C = index_of w n + 1 ≤ index_of w k} k n
-          (λ ne. let x : is_held w s k ≡ true = left k lt h in let more : index_of w n < index_of w k = index-lt w s n k d.on (held w s k x).on (strict (first k x) ne) in omega (arith, more))
-          (λ z. absurd (not_both (sym (held-now w n s n-made) ∙ ap (is_held (with_read w n) s) (sym z) ∙ h)))
-        where
-          strict : n ≤ k → (k ≡ n → ⊥) → n < k
-          strict le ne = by (eq-or-lt_of_le le)
-            where
-              by : (n ≡ k) ⊎ (n < k) → n < k
-              by (inl z) = absurd (ne (sym z))
-              by (inr l) = l
-
-      step : (b : Bool) → (index_of w n == next_of w s) ≡ b → IsSpan (with_read w n) s []
-      step true t =
-          let same : index_of w n ≡ next_of w s = grind (arith, nat_tests) in
-          let moved = next-moves same in
-          record {
-            low = next_of w s + 1;
-            high = sp.high + 1;
-            short = omega (arith, sp.short, sp.next);
-            next = (omega (arith, moved), omega (arith, moved, sp.next));
-            held = λ k lt h.
-                let lt' : k < length w.messages = omega (arith, lt, count-read w n) in
-                (omega (arith, beyond k lt' h, index-read w n k, same), omega (arith, sp.held k lt' (left k lt' h), index-read w n k));
-            others = λ y i. cc;
-          }
-      step false t =
-          let moved = next-stays (λ h. grind (arith, nat_tests)) in
-          record {
-            low = sp.low;
-            high = sp.high;
-            short = sp.short;
-            next = (omega (arith, moved, sp.next), omega (arith, moved, sp.next));
-            held = λ k lt h.
-                let lt' : k < length w.messages = omega (arith, lt, count-read w n) in
-                (omega (arith, sp.held k lt' (left k lt' h), index-read w n k), omega (arith, sp.held k lt' (left k lt' h), index-read w n k));
-            others = λ y i. cc;
-          }
+  -- ## The other streams are as they were
 
   pub read-elsewhere : (t : ℕ) → (t ≡ s → ⊥) → reassembly_of (with_read w n) t ≡ reassembly_of w t
   read-elsewhere t ne = rw (ap (λ x. x % 2 ^ 16) next-same, sets-same, whole_sets-read w n t, loose-read w n t (on-ordered w s n d.on)) refl
@@ -286,25 +225,6 @@ module _ (w : World) (s n : ℕ) (sound : Sound w) (sp : IsSpan w s []) (d : IsD
               stays-unread m (off m at.0)
               (fails (message_at w m).read (λ r. absurd (omega (arith, at.1, sound.read_past t m at.0 r))))
 
-  -- ## The invariant after it
-
-  next-grows : (next_of w s ≤ next_of (with_read w n) s) × (index_of w n < next_of (with_read w n) s)
-  next-grows = step (index_of w n == next_of w s) refl
-    where
-      step : (b : Bool) → (index_of w n == next_of w s) ≡ b → (next_of w s ≤ next_of (with_read w n) s) × (index_of w n < next_of (with_read w n) s)
-      step true e = let h : index_of w n ≡ next_of w s = grind (arith, nat_tests) in (omega (arith, next-moves h), omega (arith, next-moves h))
-      step false e =
-          let ne : index_of w n ≡ next_of w s → ⊥ = λ h. grind (arith, nat_tests) in
-          let le = d.le in
-          let lt : index_of w n < next_of w s = grind (arith, nat_tests) in
-          (omega (arith, next-stays ne), omega (arith, next-stays ne, lt))
-
-  count-same : (m : ℕ) → fragment_count (with_read w n) m ≡ fragment_count w m
-  count-same m = ap length (fragments-read w n m)
-
-  arrived-same : (m : ℕ) → has_arrived (with_read w n) m ≡ has_arrived w m
-  arrived-same m = ap (λ c. arrived_of w m == c) (count-same m)
-
   pub next-other : (t : ℕ) → (t ≡ s → ⊥) → next_of (with_read w n) t ≡ next_of w t
   next-other t ne =
       next_is (with_read w n) t (next_of w t) (omega arith) (omega (arith, next_le w t (sound.named_made t), ap length (line-read w n t)))
@@ -317,27 +237,3 @@ module _ (w : World) (s n : ℕ) (sound : Sound w) (sp : IsSpan w s []) (d : IsD
           let at = index-at w t (next_of w t) lt in
           stays-unread m (λ z. ne (sym (Line.on-stream w t m at.0) ∙ ap (λ k. (message_at w k).stream) z ∙ Line.on-stream w s n d.on))
           (fails (message_at w m).read (λ r. absurd (omega (arith, at.1, sound.read_past t m at.0 r))))
-
-  pub sound-read : Sound (with_read w n)
-  sound-read = record {
-    few = sound.few;
-    some = λ m lt. rw (count-same m) (sound.some m (omega (arith, lt, count-read w n)));
-    short = λ m lt. rw (count-same m) (sound.short m (omega (arith, lt, count-read w n)));
-    laid = λ m. let l = sound.laid m in (l.0, record { at = l.1.at; within = λ k h. rw (count-same m) (l.1.within k h) });
-    made = λ m k h. omega (arith, sound.made m k h, count-read w n);
-    read_whole = λ t m on r. arrived-same m ∙ by_place {C = has_arrived w m ≡ true} m n
-        (λ ne. sound.read_whole t m (sym (on-read w n t m) ∙ on) (ap (λ x. x.read) (sym (message-other w n m ne)) ∙ r))
-        (λ z. rw z (sym (Taken.whole-ordered w s n d.on) ∙ d.whole));
-    read_past = λ t m on r. by_place {C = index_of (with_read w n) m < next_of (with_read w n) t} m n
-        (λ ne. older t m ne (sound.read_past t m (sym (on-read w n t m) ∙ on) (ap (λ x. x.read) (sym (message-other w n m ne)) ∙ r)))
-        (λ z. let same : t ≡ s = sym (Line.on-stream w t m (sym (on-read w n t m) ∙ on)) ∙ ap (λ k. (message_at w k).stream) z ∙ Line.on-stream w s n d.on in
-        rw (same, z, index-read w n n) (next-grows.1));
-    named_skipped = λ t m k on lt h. sound.named_skipped t m k (sym (on-read w n t m) ∙ on) (omega (arith, lt, index-read w n m)) h;
-    named_made = λ t. rw (line-read w n t) (sound.named_made t);
-    skipped_made = sound.skipped_made;
-  }
-    where
-      older : (t m : ℕ) → (m ≡ n → ⊥) → index_of w m < next_of w t → index_of (with_read w n) m < next_of (with_read w n) t
-      older t m ne lt = by_place {C = index_of (with_read w n) m < next_of (with_read w n) t} t s
-          (λ x. omega (arith, lt, index-read w n m, next-other t x))
-          (λ z. omega (arith, lt, index-read w n m, next-grows, ap (next_of w) z, ap (next_of (with_read w n)) z))

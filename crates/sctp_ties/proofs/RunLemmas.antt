@@ -7,7 +7,7 @@ use Rattle.sctp_lists.proofs.KeptLemmas.{kept-same, kept-none}
 use Rattle.sctp_model.specs.World.{World}
 use Rattle.sctp_model.specs.Messages.{message_at, stream_of, is_ordered_on, index_of, ordered_on}
 use Rattle.sctp_model.specs.Receiver.{is_whole, is_unread, run_of, next_of}
-use Rattle.sctp_ties.specs.Sound.{Sound}
+use Rattle.sctp_model.specs.Sound.{Sound}
 use Rattle.sctp_lists.proofs.More.{fails, not_both, both}
 use Rattle.sctp_ties.proofs.Line.{index_on}
 use Rattle.sctp_ties.proofs.Taken.{is_due, whole-ordered}

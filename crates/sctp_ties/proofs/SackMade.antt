@@ -1,5 +1,6 @@
 -- The next SACK says what the filter of TSNs holds.
-use Rattle.std.proofs.Common.{◌≡◌, ℕ, zero, suc, ◌-◌, ◌<◌, ◌≤◌, ◌^◌, List, [], ◌∷◌, length, map, take, refl, ap, sym}
+use Rattle.std.proofs.Common.{◌≡◌, ℕ, ◌-◌, ◌<◌, ◌≤◌, ◌^◌, List, [], length, map, take, refl, ap, sym}
+use Rattle.std.proofs.lemmas.List.{take-map}
 use Rattle.sctp_lists.specs.Kept.{runs_of}
 use Rattle.sctp_chunks.specs.declared.chunk.chunk_payload_data.ChunkPayloadData.{ChunkPayloadData}
 use Rattle.sctp_queues.specs.Blocks.{gap_offsets}
@@ -18,15 +19,9 @@ use Rattle.sctp_ties.proofs.QuietSender.{outbound-same, same-self}
 pub blocks-are : (w : World) (credit : ℕ) (cs : List ChunkPayloadData) → w.skipped ≤ length w.slots → length w.slots < 2 ^ 31 → tsns cs ≡ (seen_of w).held → (report_of w credit).blocks ≡ take 16379 (runs_of (gap_offsets (seen_of w).cum cs))
 blocks-are w credit cs made few held = ap (λ ds. take 16379 (runs_of ds)) (sym (distances-is w cs made few held))
 
-map-taken : {A B : Type 0} (f : A → B) (n : ℕ) (xs : List A) → map f (take n xs) ≡ take n (map f xs)
-map-taken f zero [] = refl
-map-taken f zero (x ∷ xs) = refl
-map-taken f (suc n) [] = refl
-map-taken f (suc n) (x ∷ xs) = ap (λ l. f x ∷ l) (map-taken f n xs)
-
 -- its duplicates are the first that still fit
 pub duplicates-are : (w : World) (credit : ℕ) → map (tsn_of w) (report_of w credit).duplicates ≡ take (16379 - length (gap_blocks w)) (filter_of w).duplicates
-duplicates-are w credit = map-taken (tsn_of w) (16379 - length (gap_blocks w)) w.duplicates
+duplicates-are w credit = sym (take-map (tsn_of w) (16379 - length (gap_blocks w)) w.duplicates)
 
 -- and the filter has none then
 pub reported-filter : (w : World) (credit : ℕ) → filter_of (reported w credit) ≡ record (filter_of w) { duplicates = [] }

@@ -1,6 +1,6 @@
 -- No fragment makes its message larger than the link takes: what the queue counts with it are fragments of its message.
 use Rattle.std.proofs.Common.{◌≡◌, ℕ, zero, suc, ◌+◌, ◌-◌, ◌<◌, ◌≤◌, ◌%◌, ◌^◌, Bool, true, false, List, [], ◌∷◌, ◌++◌, length, map, refl, ap, sym, ◌∙◌, inl, inr, arith}
-use Rattle.std.specs.Prelude.{◌⊎◌, if◌then◌else◌, ◌==◌, ◌&&◌, not, nat_lt, reverse, slice_get, Some}
+use Rattle.std.specs.Prelude.{◌⊎◌, if◌then◌else◌, ◌==◌, ◌&&◌, not, nat_lt, reverse, slice_get, Some, None}
 use Rattle.std.specs.List.{list_any}
 use Rattle.std.proofs.Math.Path.{subst}
 use Rattle.std.proofs.lemmas.Bool.{cases_lt}
@@ -28,23 +28,21 @@ use Rattle.sctp_model.specs.Queues.{set_of, is_loose}
 use Rattle.sctp_model.specs.Amounts
 use Rattle.sctp_model.proofs.Shape.{shape}
 use Rattle.sctp_model.proofs.Sender.{Sender}
-use Rattle.sctp_model.specs.Steps.{History, world_of, IsRun, arrival_fits}
+use Rattle.sctp_model.specs.declared.event.Event.TheVariants as E
+use Rattle.sctp_model.specs.Steps.{History, world_of, refusal_of, IsRun}
 use Rattle.sctp_model.specs.Laws.{IsSetup}
 use Rattle.sctp_model.proofs.SenderRun.{Sane, sane-run}
+use Rattle.sctp_model.proofs.SoundRun.{slots_come_sound}
 use Rattle.sctp_model.proofs.Bytes.{slots-bytes, fragments-bytes, size-some}
 use Rattle.sctp_ties.specs.Holds.{has_come, reassembly_of}
-use Rattle.sctp_ties.specs.Sound.{Sound}
+use Rattle.sctp_model.specs.Sound.{IsSpan, Sound, SoundLoose}
 use Rattle.sctp_ties.proofs.Arrival
 use Rattle.sctp_ties.proofs.Line
 use Rattle.sctp_ties.proofs.Loose
 use Rattle.sctp_ties.proofs.NoLarger.{no-larger}
 use Rattle.sctp_ties.proofs.SlotsGoOn.{AllGoOn, goes-run}
-use Rattle.sctp_ties.proofs.SlotsArrive.{Sounds, Carried, enters}
-use Rattle.sctp_ties.proofs.SlotsNear.{span-at}
-use Rattle.sctp_ties.proofs.SoundRun.{sounds-run}
-use Rattle.sctp_ties.proofs.SpanEnds.{carried-run}
+use Rattle.sctp_ties.proofs.Carried.{Carried, enters, carried-run}
 use Rattle.sctp_ties.proofs.SlotArrives
-use Rattle.sctp_ties.proofs.Span.{IsSpan}
 use Rattle.sctp_ties.proofs.Taken.{held}
 
 -- ## Lists
@@ -270,7 +268,7 @@ module _ (w : World) (sound : Sound w) (n : ℕ) where
 
 -- ## What the queue asks
 
-module _ (setup : Setup) (w : World) (p : ℕ) (q : ReassemblyState) (g : Sane setup w) (sounds : Sounds w) (goes : AllGoOn (shape w)) (pos : 0 < w.setup.size) (c : Carried w p) (new : is_new w p ≡ true)
+module _ (setup : Setup) (w : World) (p : ℕ) (q : ReassemblyState) (g : Sane setup w) (sound : Sound w) (more : SoundLoose w) (goes : AllGoOn (shape w)) (pos : 0 < w.setup.size) (c : Carried w p) (new : is_new w p ≡ true)
     (near : (message_at w (message_of w p)).ordered ≡ true → IsSpan w (message_at w (message_of w p)).stream (index_of w (message_of w p) ∷ []))
     (short : length (message_at w (message_of w p)).bytes ≤ w.setup.largest)
     (holds : q.held ≡ reassembly_of w (message_at w (message_of w p)).stream) (limit : q.max_message_size ≡ w.setup.largest) where
@@ -284,7 +282,7 @@ module _ (setup : Setup) (w : World) (p : ℕ) (q : ReassemblyState) (g : Sane s
   fragment = Arrival.has-fragment w p c.fragment
 
   loose-slots : AllSlots w (map (chunk_at w) (kept (is_loose w s) 0 (length w.slots)))
-  loose-slots = slots-kept w (is_loose w s) 0 (length w.slots) (λ k a b e. (omega arith, sounds.loose.marks k (Loose.loose w s k e).datagram_received))
+  loose-slots = slots-kept w (is_loose w s) 0 (length w.slots) (λ k a b e. (omega arith, more.marks k (Loose.loose w s k e).datagram_received))
 
   -- what the queue adds up, by whether the message is unordered
   sum-by : Bool → ℕ
@@ -294,11 +292,11 @@ module _ (setup : Setup) (w : World) (p : ℕ) (q : ReassemblyState) (g : Sane s
   unfolding sum-by
   bound true e =
       let on = SlotArrives.ordered-on w s p (enters w p c new) e in
-      let r = set-with w sounds.plain n s p g.sender c.made fragment (SlotArrives.not-arrived w p new) (sounds.plain.made n p fragment) on (near e) in
-      subst (λ b. sum-by (not b) ≤ length (message_at w n).bytes) (sym e) (omega (arith, r, all-bytes w sounds.plain n pos))
+      let r = set-with w sound n s p g.sender c.made fragment (SlotArrives.not-arrived w p new) (sound.made n p fragment) on (near e) in
+      subst (λ b. sum-by (not b) ≤ length (message_at w n).bytes) (sym e) (omega (arith, r, all-bytes w sound n pos))
   bound false e =
-      let r = around w sounds.plain n goes sounds.loose.prefix p (map (chunk_at w) (kept (is_loose w s) 0 (length w.slots))) c.made fragment loose-slots in
-      subst (λ b. sum-by (not b) ≤ length (message_at w n).bytes) (sym e) (omega (arith, r, all-bytes w sounds.plain n pos))
+      let r = around w sound n goes more.prefix p (map (chunk_at w) (kept (is_loose w s) 0 (length w.slots))) c.made fragment loose-slots in
+      subst (λ b. sum-by (not b) ≤ length (message_at w n).bytes) (sym e) (omega (arith, r, all-bytes w sound n pos))
 
   -- a new fragment does not make its message larger than the longest taken
   pub never-too-large : is_too_large (chunk_at w p) q ≡ false
@@ -310,13 +308,13 @@ module _ (setup : Setup) (w : World) (p : ℕ) (q : ReassemblyState) (g : Sane s
       ∙ ap (λ b. ((chunk_at w p).stream_identifier == q.si) && b) no ∙ and-none ((chunk_at w p).stream_identifier == q.si)
 
 -- in every history, for a datagram of one fragment that the span test lets come
-pub never-too-large-run : (setup : Setup) (h : History) (k p : ℕ) (q : ReassemblyState) → IsSetup setup → IsRun setup h → slice_get (world_of setup h).network k ≡ Some (Data (p ∷ [])) → arrival_fits (world_of setup h) (Some (Data (p ∷ []))) ≡ true → is_new (world_of setup h) p ≡ true
+pub never-too-large-run : (setup : Setup) (h : History) (k p : ℕ) (q : ReassemblyState) → IsSetup setup → IsRun setup h → slice_get (world_of setup h).network k ≡ Some (Data (p ∷ [])) → refusal_of (world_of setup h) (E.Arrive k) ≡ None → is_new (world_of setup h) p ≡ true
     → q.held ≡ reassembly_of (world_of setup h) (message_at (world_of setup h) (message_of (world_of setup h) p)).stream → q.max_message_size ≡ setup.largest → is_too_large (chunk_at (world_of setup h) p) q ≡ false
-never-too-large-run setup h k p q is run e fit new holds limit =
+never-too-large-run setup h k p q is run e ok new holds limit =
     let w = world_of setup h in
     let g = sane-run setup h run in
-    let sounds = sounds-run setup h is run in
+    let a = slots_come_sound setup h is run k [] p [] ok e in
     let c = carried-run setup h k p run e in
     let largest : w.setup.largest ≡ setup.largest = ap (λ t. t.largest) g.setup_is in
-    never-too-large setup w p q g sounds (goes-run setup h run) (size-some setup w is g) c new (λ o. span-at w [] p [] sounds (c, tt) fit new o)
-    (omega (arith, largest, no-larger setup h (message_of w p) is run (sounds.plain.made (message_of w p) p (Arrival.has-fragment w p c.fragment)))) holds (limit ∙ sym largest)
+    never-too-large setup w p q g a.sound a.loose (goes-run setup h run) (size-some setup w is g) c new (λ o. a.near (message_at w (message_of w p)).stream (SlotArrives.ordered-on w (message_at w (message_of w p)).stream p (enters w p c new) o) new)
+    (omega (arith, largest, no-larger setup h (message_of w p) is run (a.sound.made (message_of w p) p (Arrival.has-fragment w p c.fragment)))) holds (limit ∙ sym largest)

@@ -17,12 +17,11 @@ use Rattle.sctp_queues.specs.Reassembly.{Reassembly, forwarded_each, forwarded_u
 use Rattle.sctp_model.specs.Contents.{chunk_at}
 use Rattle.sctp_model.specs.Queues.{set_of, whole_set_of, is_loose}
 use Rattle.sctp_ties.specs.Holds.{ordered_sets, whole_sets, loose_chunks, reassembly_of}
-use Rattle.sctp_ties.specs.Sound.{Sound}
+use Rattle.sctp_model.specs.Sound.{IsSpan, Sound}
 use Rattle.sctp_lists.proofs.More.{after_leading-kept}
 use Rattle.sctp_lists.proofs.Wraps.{at_or_before-tsn}
 use Rattle.sctp_ties.proofs.Skips
 use Rattle.sctp_ties.proofs.Skips.{held_past, next_past, queue_past, next_past-is, IsNear, AllNear, named_with, forwarded-all}
-use Rattle.sctp_ties.proofs.Span.{IsSpan}
 
 abbrev pub with_skip : World → ℕ → List ℕ → World
 with_skip w upto names = record w { skipped = upto + 1; streams = map (named_by w names) w.streams }

@@ -12,7 +12,7 @@ use Rattle.sctp_queues.specs.Reassembly.{Reassembly, is_passed, forwarded_ordere
 use Rattle.sctp_queues.specs.Sets.{is_complete}
 use Rattle.sctp_ties.specs.Holds.{chunks_come, whole_sets, loose_chunks}
 use Rattle.sctp_model.specs.Queues.{set_of}
-use Rattle.sctp_ties.specs.Sound.{Sound}
+use Rattle.sctp_model.specs.Sound.{Sound}
 use Rattle.sctp_lists.proofs.More.{fails, both, those-kept}
 use Rattle.sctp_lists.proofs.Wraps.{at_or_before16-index, next16}
 use Rattle.sctp_ties.proofs.Line.{on-made, ssn_on, index-at, leading-is, length-dropped, get-drop, next_le, next_passes, next_unread}

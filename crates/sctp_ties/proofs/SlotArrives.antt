@@ -18,7 +18,7 @@ use Rattle.sctp_model.specs.Changes.{stream_changed, with_whole, becomes_whole, 
 use Rattle.sctp_model.specs.Contents.{chunk_at}
 use Rattle.sctp_model.specs.Queues.{whole_set_of, filter_of}
 use Rattle.sctp_ties.specs.Holds.{loose_chunks, reassembly_of, seen_of}
-use Rattle.sctp_ties.specs.Sound.{Sound, SoundLoose}
+use Rattle.sctp_model.specs.Sound.{IsSpan, Sound, SoundLoose}
 use Rattle.sctp_ties.proofs.Arrival
 use Rattle.sctp_ties.proofs.Arrival.{with_arrived}
 use Rattle.sctp_ties.proofs.Filter
@@ -29,7 +29,6 @@ use Rattle.sctp_ties.proofs.Unordered.{ArrivesLoose}
 use Rattle.sctp_ties.proofs.UnorderedStep
 use Rattle.sctp_ties.proofs.Keeps
 use Rattle.sctp_ties.proofs.SkipStep
-use Rattle.sctp_ties.proofs.Span.{IsSpan}
 use Rattle.sctp_ties.proofs.Stays
 use Rattle.sctp_ties.proofs.Line
 

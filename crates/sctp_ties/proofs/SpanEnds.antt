@@ -1,6 +1,6 @@
 -- The span test of a datagram of one fragment, from the ends of what a stream holds.
 use Rattle.std.proofs.Common.{◌≡◌, ℕ, zero, suc, ◌+◌, ◌-◌, ◌<◌, ◌≤◌, ◌^◌, Bool, true, false, List, [], ◌∷◌, ◌++◌, length, map, get_or, Some, refl, ap, sym, ◌∙◌, arith}
-use Rattle.std.specs.Prelude.{if◌then◌else◌, ◌==◌, ◌&&◌, ◌||◌, min, max, nat_lt, nat_le, slice_get, slice_index_or}
+use Rattle.std.specs.Prelude.{if◌then◌else◌, ◌==◌, ◌&&◌, ◌||◌, min, max, nat_lt, nat_le, slice_get, slice_index_or, is_some}
 use Rattle.std.specs.List.{list_any, list_all}
 use Rattle.std.proofs.Math.Path.{subst}
 use Rattle.std.proofs.lemmas.Bool.Decides.{nat_tests}
@@ -22,23 +22,19 @@ use Rattle.sctp_model.proofs.SenderRun.{sane-run}
 use Rattle.sctp_model.proofs.Shape.{shape}
 use Rattle.sctp_model.proofs.SenderSteps.{of-has}
 use Rattle.sctp_model.proofs.Made.{place-back}
-use Rattle.sctp_model.proofs.Network.{fit-run, fit-at}
 use Rattle.sctp_model.proofs.Spans.{spans_fit_always}
+use Rattle.sctp_model.proofs.SoundRun.{span-fits, span-open}
 use Rattle.sctp_ties.specs.Holds.{has_come, ordered_sets}
-use Rattle.sctp_ties.specs.Sound.{Sound}
+use Rattle.sctp_model.specs.Sound.{IsSpan, Sound, SoundLoose}
 use Rattle.sctp_ties.proofs.Arrival
 use Rattle.sctp_ties.proofs.Arrival.{with_arrived}
 use Rattle.sctp_ties.proofs.Keeps
 use Rattle.sctp_ties.proofs.Line
 use Rattle.sctp_ties.proofs.Loose.{get-map, length-map}
 use Rattle.sctp_ties.proofs.SlotArrives.{repeated}
-use Rattle.sctp_ties.proofs.SlotsArrive.{Sounds, Carried, noted, by_step}
-use Rattle.sctp_ties.proofs.SoundRun.{carried}
-use Rattle.sctp_ties.proofs.SlotsNear.{span-open}
-use Rattle.sctp_ties.proofs.Span.{IsSpan, span, greatest-append, least-append}
+use Rattle.sctp_ties.proofs.Carried.{Carried, carried-run, noted, by_step}
 use Rattle.sctp_ties.proofs.Stays.{by_place}
 use Rattle.sctp_ties.proofs.Taken.{held, is-held, whole-ordered}
-use Rattle.sctp_ties.proofs.Unordered.{unordered-of}
 use Rattle.sctp_ties.proofs.UnorderedStep
 
 -- ## Least and greatest of what passes
@@ -66,6 +62,14 @@ greatest-all x top (y ∷ ys) le h = greatest-all (max x y) top ys (let z = h y 
 least-all : (x low : ℕ) (ys : List ℕ) → low ≤ x → ((y : ℕ) → list_any (λ z. z == y) ys ≡ true → low ≤ y) → low ≤ least x ys
 least-all x low [] le h = le
 least-all x low (y ∷ ys) le h = least-all (min x y) low ys (let z = h y (or-left (y == y) (list_any (λ z. z == y) ys) (same-yes y)) in omega (arith, z, le)) (λ z e. h z (or-right (y == z) (list_any (λ k. k == z) ys) e))
+
+greatest-append : (x : ℕ) (xs ys : List ℕ) → greatest x (xs ++ ys) ≡ greatest (greatest x xs) ys
+greatest-append x [] ys = refl
+greatest-append x (y ∷ xs) ys = greatest-append (max x y) xs ys
+
+least-append : (x : ℕ) (xs ys : List ℕ) → least x (xs ++ ys) ≡ least (least x xs) ys
+least-append x [] ys = refl
+least-append x (y ∷ xs) ys = least-append (min x y) xs ys
 
 -- what lies within a span passes the test
 pub fits-span : (w : World) (s : ℕ) (more : List ℕ) → IsSpan w s more → fits w more s ≡ true
@@ -208,7 +212,7 @@ module _ (w : World) (p : ℕ) (all : spans_fit w [] ≡ true) where
   after-fits : ((t : ℕ) → fits w [] t ≡ true → fits w (adds w t n) t ≡ true) → spans_fit (slot_received w p) (n ∷ []) ≡ true
   after-fits one =
       all-streams w p (λ t. fits w [] t) (λ t. fits (slot_received w p) (adds (slot_received w p) t n) t)
-      (λ t e. fits-span (slot_received w p) t (adds (slot_received w p) t n) (spans-after t (span w t (adds w t n) (one t e)))) all
+      (λ t e. fits-span (slot_received w p) t (adds (slot_received w p) t n) (spans-after t (span-fits w t (adds w t n) (one t e)))) all
 
   before-fits : ((t : ℕ) → fits w [] t ≡ true → fits w (adds w t n) t ≡ true) → spans_fit w (n ∷ []) ≡ true
   before-fits one = each w.streams all
@@ -237,7 +241,7 @@ module _ (w : World) (p : ℕ) (all : spans_fit w [] ≡ true) where
 
     ordered-before : (message_at w n).ordered ≡ true → spans_fit w (n ∷ []) ≡ fits w (index_of w n ∷ []) s
     ordered-before kind = same_test (spans_fit w (n ∷ [])) (fits w (index_of w n ∷ []) s)
-        (λ e. sym (ap (λ more. fits w more s) (adds-by w s n true (mine-on kind))) ∙ fits-span w s (adds w s n) (span-open w s c.known.0 (n ∷ []) e c.known.1))
+        (λ e. sym (ap (λ more. fits w more s) (adds-by w s n true (mine-on kind))) ∙ fits-span w s (adds w s n) (span-open w s (n ∷ []) e (ap is_some c.known.1)))
         (λ e. before-fits (ordered-adds e))
 
     test : (b : Bool) → (message_at w n).ordered ≡ b → (spans_fit w (n ∷ []) && spans_fit (slot_received w p) (n ∷ [])) ≡ (if b then nat_lt (max (highest w s) (index_of w n)) (min (lowest w s) (index_of w n) + 2 ^ 15) else true)
@@ -258,13 +262,6 @@ module _ (w : World) (p : ℕ) (all : spans_fit w [] ≡ true) where
         by : (b : Bool) → is_new w p ≡ b → (spans_fit w (adding b) && spans_fit (slot_received w p) (adding b)) ≡ (if b && (message_at w n).ordered then nat_lt (max (highest w s) (index_of w n)) (min (lowest w s) (index_of w n) + 2 ^ 15) else true)
         by true e = test (message_at w n).ordered refl
         by false e = and (spans_fit w []) (spans_fit (slot_received w p) []) all (ap (λ v. spans_fit v []) (repeated w p e) ∙ all)
-
--- what a datagram of one fragment carries, in every history
-pub carried-run : (setup : Setup) (h : History) (k p : ℕ) → IsRun setup h → slice_get (world_of setup h).network k ≡ Some (Data (p ∷ [])) → Carried (world_of setup h) p
-carried-run setup h k p run e =
-    let w = world_of setup h in
-    let f = fit-at (shape w) w.network k (Data (p ∷ [])) (fit-run setup h run) e in
-    carried setup w p (sane-run setup h run) f.0 f.1
 
 -- the test in every history
 pub arrival-fits-run : (setup : Setup) (h : History) (k p : ℕ) → IsSetup setup → IsRun setup h → slice_get (world_of setup h).network k ≡ Some (Data (p ∷ [])) → (let w = world_of setup h in let n = message_of w p in let s = (message_at w n).stream in arrival_fits w (Some (Data (p ∷ []))) ≡ (if is_new w p && (message_at w n).ordered then nat_lt (max (highest w s) (index_of w n)) (min (lowest w s) (index_of w n) + 2 ^ 15) else true))
@@ -386,17 +383,16 @@ pub sets-held : (w : World) (s : ℕ) → length (ordered_sets w s) ≡ length (
 sets-held w s = length-map (set_of w) (held_on w s)
 
 -- a whole unordered message
-pub whole-begins : (w : World) (s n : ℕ) → Sounds w → w.setup.first < 2 ^ 32 → list_any (λ k. k == n) (stream_of w s).whole ≡ true → Begins w n (whole_set_of w n).chunks
-whole-begins w s n sounds first e =
-    let o = sounds.whole.whole_on s n e in
-    let u = unordered-of w s n o.0 in
+pub whole-begins : (w : World) (s n : ℕ) → Sound w → SoundLoose w → w.setup.first < 2 ^ 32 → list_any (λ k. k == n) (stream_of w s).whole ≡ true → Begins w n (whole_set_of w n).chunks
+whole-begins w s n sound more first e =
+    let i = more.waits s n e in
     let whole : is_whole w n ≡ true =
-    ap (λ b. if b then has_arrived w n else ((message_at w n).read || list_any (λ k. k == n) (stream_of w (message_at w n).stream).whole)) u.1
-    ∙ or-right (message_at w n).read (list_any (λ k. k == n) (stream_of w (message_at w n).stream).whole) (ap (λ t. list_any (λ k. k == n) (stream_of w t).whole) u.0 ∙ e) in
-    let all = same-is (arrived_of w n) (fragment_count w n) (sounds.loose.whole_arrived n u.1 whole) in
-    let some : 0 < length (kept (has_come w n) 0 (length w.slots)) = omega (arith, all, sounds.plain.some n o.1) in
-    let b = begins-kept w n (has_come w n) first sounds.plain.few (λ k h. (Arrival.come w n k h).0) some in
-    begins-kept w n (has_fragment w n) first sounds.plain.few (λ k h. h)
+    ap (λ b. if b then has_arrived w n else ((message_at w n).read || list_any (λ k. k == n) (stream_of w (message_at w n).stream).whole)) i.unordered
+    ∙ or-right (message_at w n).read (list_any (λ k. k == n) (stream_of w (message_at w n).stream).whole) (ap (λ t. list_any (λ k. k == n) (stream_of w t).whole) i.stream ∙ e) in
+    let all = same-is (arrived_of w n) (fragment_count w n) (more.whole_arrived n i.unordered whole) in
+    let some : 0 < length (kept (has_come w n) 0 (length w.slots)) = omega (arith, all, sound.some n i.made) in
+    let b = begins-kept w n (has_come w n) first sound.few (λ k h. (Arrival.come w n k h).0) some in
+    begins-kept w n (has_fragment w n) first sound.few (λ k h. h)
     (length-kept-positive (has_fragment w n) b.place 0 (length w.slots) (omega arith) (omega (arith, b.made)) (ap (λ m. has_fragment w m b.place) (sym b.of) ∙ Arrival.has-fragment w b.place b.fragment))
 
 -- in every history

@@ -14,12 +14,11 @@ use Rattle.sctp_queues.specs.Reassembly.{is_readable, front_readable}
 use Rattle.sctp_lists.specs.Serial.{at_or_before16}
 use Rattle.sctp_model.specs.Queues.{set_of}
 use Rattle.sctp_ties.specs.Holds.{ordered_sets, chunks_come}
-use Rattle.sctp_ties.specs.Sound.{Sound}
+use Rattle.sctp_model.specs.Sound.{IsSpan, Sound}
 use Rattle.sctp_lists.proofs.More.{fails, not_both, both, and}
 use Rattle.sctp_lists.proofs.Wraps.{at_or_before16-index}
 use Rattle.sctp_ties.proofs.Line.{on-made, on-ordered, ssn_on, index-lt, next_reads}
 use Rattle.sctp_ties.proofs.Arrival.{complete_is_whole}
-use Rattle.sctp_ties.proofs.Span.{IsSpan}
 
 -- an ordered message that may be read: whole, unread, and not after the one expected next
 abbrev pub is_due : World → ℕ → ℕ → Bool

@@ -17,7 +17,7 @@ use Rattle.sctp_model.specs.World.{World}
 use Rattle.sctp_model.specs.Messages.{message_at, slot_at, message_of, fragment_count, has_fragment, slots_of, is_unordered_on}
 use Rattle.sctp_model.specs.Receiver.{arrived_at, arrived_of, has_arrived, cumulative, is_whole}
 use Rattle.sctp_model.specs.Changes.{becomes_whole}
-use Rattle.sctp_ties.specs.Sound.{IsLaid, Sound, SoundLoose}
+use Rattle.sctp_model.specs.Sound.{IsLaid, Sound, IsWaiting, SoundLoose}
 use Rattle.sctp_lists.proofs.More.{fails, not_both, both, and}
 use Rattle.sctp_ties.proofs.Line.{kept-get}
 use Rattle.sctp_ties.proofs.Arrival
@@ -43,6 +43,12 @@ unordered-of w s n e =
     let a = both ((message_at w n).stream == s) (not (message_at w n).ordered) e in
     let h : ((message_at w n).stream == s) ≡ true = a.0 in
     (grind (arith, nat_tests), negated (message_at w n).ordered a.1)
+
+-- one that waits to be read is an unordered message of its stream
+pub waits-on : (w : World) (s n : ℕ) → IsWaiting w s n → is_unordered_on w s n ≡ true
+waits-on w s n i =
+    let hit : ((message_at w n).stream == s) ≡ true = (let z = i.stream in grind (arith, nat_tests)) in
+    and ((message_at w n).stream == s) (not (message_at w n).ordered) hit (ap not i.unordered)
 
 pub laid-arrived : (w : World) (p n base : ℕ) → IsLaid w n base → IsLaid (with_arrived w p) n base
 laid-arrived w p n base laid = record {

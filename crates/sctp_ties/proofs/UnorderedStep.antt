@@ -18,7 +18,7 @@ use Rattle.sctp_model.specs.World.{World, StreamRecord}
 use Rattle.sctp_model.specs.Messages.{message_at, message_of, stream_at, stream_of, no_stream, is_ordered_on, index_of, fragment_count, has_fragment, is_unordered_on}
 use Rattle.sctp_model.specs.Receiver.{arrived_at, arrived_of, has_arrived, is_whole, is_unread, is_held, next_of, is_new}
 use Rattle.sctp_model.specs.Changes.{stream_changed, with_whole, becomes_whole, slot_received}
-use Rattle.sctp_ties.specs.Sound.{Sound, SoundLoose}
+use Rattle.sctp_model.specs.Sound.{Sound, SoundLoose}
 use Rattle.sctp_lists.proofs.More.{fails, not_both}
 use Rattle.sctp_ties.proofs.Line.{on-ordered}
 use Rattle.sctp_ties.proofs.Arrival

@@ -1,92 +1,32 @@
--- The invariant after an arrival, and an unordered read.
-use Rattle.std.proofs.Common.{◌≡◌, ℕ, ◌+◌, ◌-◌, ◌<◌, ◌≤◌, Bool, true, false, List, [], ◌∷◌, length, map, drop, get_or, Some, refl, ap, sym, ◌∙◌, arith}
+-- A read of an unordered message: the queues hold then what the record says.
+use Rattle.std.proofs.Common.{◌≡◌, ℕ, ◌<◌, Bool, true, false, List, [], ◌∷◌, length, map, drop, get_or, Some, refl, ap, sym, ◌∙◌, arith}
 use Rattle.std.specs.Prelude.{if◌then◌else◌, ◌==◌, ◌&&◌, ◌||◌, not, nat_le}
 use Rattle.std.specs.List.{list_any}
 use Rattle.std.proofs.lemmas.Bool.Decides.{nat_tests}
 use Rattle.sctp_lists.specs.Kept.{kept}
-use Rattle.sctp_lists.proofs.KeptLemmas.{map-kept-same, length-kept-le}
+use Rattle.sctp_lists.proofs.KeptLemmas.{map-kept-same}
 use Rattle.sctp_model.specs.World.{World, StreamRecord}
-use Rattle.sctp_model.specs.Messages.{message_at, slot_at, message_of, stream_at, stream_of, is_ordered_on, fragment_count, has_fragment, ordered_on, is_unordered_on}
-use Rattle.sctp_model.specs.Receiver.{arrived_at, arrived_of, has_arrived, is_whole, is_held, next_of}
+use Rattle.sctp_model.specs.Messages.{message_at, message_of, stream_at, stream_of, is_ordered_on, ordered_on, is_unordered_on}
+use Rattle.sctp_model.specs.Receiver.{arrived_at, has_arrived, is_whole, is_held, next_of}
 use Rattle.sctp_model.specs.Changes.{stream_changed, with_whole, becomes_whole, read_of}
 use Rattle.sctp_model.specs.Changes
 use Rattle.sctp_queues.specs.Reassembly.{Reassembly, without_first}
 use Rattle.sctp_model.specs.Contents.{chunk_at}
-use Rattle.sctp_ties.specs.Holds.{has_come, ordered_sets, loose_chunks, reassembly_of}
+use Rattle.sctp_ties.specs.Holds.{ordered_sets, loose_chunks, reassembly_of}
 use Rattle.sctp_model.specs.Queues.{set_of, whole_set_of, is_loose}
-use Rattle.sctp_ties.specs.Sound.{Sound, SoundLoose}
-use Rattle.sctp_lists.proofs.More.{fails, not_both, both}
+use Rattle.sctp_model.specs.Sound.{Sound}
+use Rattle.sctp_lists.proofs.More.{fails, not_both}
 use Rattle.sctp_ties.proofs.Line
 use Rattle.sctp_ties.proofs.Line.{index-at, next_is, next_le, next_passes}
-use Rattle.sctp_ties.proofs.Arrival
-use Rattle.sctp_ties.proofs.Arrival.{with_arrived}
 use Rattle.sctp_ties.proofs.Stays
 use Rattle.sctp_ties.proofs.Stays.{by_place}
 use Rattle.sctp_ties.proofs.Taken.{held}
 use Rattle.sctp_ties.proofs.Reading
 use Rattle.sctp_ties.proofs.Reading.{with_read}
-use Rattle.sctp_ties.proofs.Unordered.{unordered-of, laid-arrived, becomes-elsewhere}
+use Rattle.sctp_ties.proofs.Unordered.{unordered-of}
 use Rattle.sctp_ties.proofs.UnorderedStep
 use Rattle.sctp_ties.proofs.SkipStep
 use Rattle.sctp_ties.proofs.Keeps
-
--- an arrival of a fragment, ordered or not
-pub record Comes (w : World) (p : ℕ) : Type 0 where
-  pub made : p < length w.slots
-  pub new : arrived_at w p ≡ false
-  pub fragment : (slot_at w p).is_end_mark ≡ false
-
-pub not_all : (w : World) (p : ℕ) → Sound w → Comes w p → has_arrived w (message_of w p) ≡ false
-not_all w p sound c =
-    let n = message_of w p in
-    let l = sound.laid n in
-    let most : arrived_of (with_arrived w p) n ≤ fragment_count w n = rw (Arrival.window (with_arrived w p) n l.0 (laid-arrived w p n l.0 l.1)) (length-kept-le (has_come (with_arrived w p) n) l.0 (fragment_count w n)) in
-    fails (has_arrived w n) (λ e. let z : arrived_of w n ≡ fragment_count w n = grind (arith, nat_tests) in absurd (omega (arith, Arrival.arrived_of-here w p c.made c.new c.fragment, most, z)))
-
-pub sound-arrived : (w : World) (p : ℕ) → Sound w → Comes w p → Sound (with_arrived w p)
-sound-arrived w p sound c = record {
-  few = rw (Arrival.count-arrived w p) sound.few;
-  some = sound.some;
-  short = sound.short;
-  laid = λ n. let l = sound.laid n in (l.0, laid-arrived w p n l.0 l.1);
-  made = λ n k e. sound.made n k (sym (Arrival.has_fragment-arrived w p n k) ∙ e);
-  read_whole = λ s m on r.
-      let all = sound.read_whole s m on r in
-      ap (λ x. x == fragment_count w m) (Arrival.arrived_of-elsewhere w p m (λ e. not_both (sym (not_all w p sound c) ∙ ap (has_arrived w) e ∙ all))) ∙ all;
-  read_past = sound.read_past;
-  named_skipped = λ s n k on lt e. sound.named_skipped s n k on lt (sym (Arrival.has_fragment-arrived w p n k) ∙ e);
-  named_made = sound.named_made;
-  skipped_made = rw (Arrival.count-arrived w p) sound.skipped_made;
-}
-
-pub prefix-arrived : (w : World) (p : ℕ) → SoundLoose w → (n k j : ℕ) → has_fragment (with_arrived w p) n k ≡ true → (slot_at (with_arrived w p) k).fragment ≡ j + 1 → has_fragment (with_arrived w p) n (k - 1) ≡ true
-prefix-arrived w p more n k j h f = Arrival.has_fragment-arrived w p n (k - 1) ∙ more.prefix n k j (sym (Arrival.has_fragment-arrived w p n k) ∙ h) (sym (Arrival.fragment-arrived w p k) ∙ f)
-
-pub marks-arrived : (w : World) (p : ℕ) → SoundLoose w → Comes w p → (k : ℕ) → arrived_at (with_arrived w p) k ≡ true → (slot_at (with_arrived w p) k).is_end_mark ≡ false
-marks-arrived w p more c k e = Arrival.mark-arrived w p k ∙ by_place {C = (slot_at w k).is_end_mark ≡ false} k p (λ ne. more.marks k (sym (Arrival.arrived-other w p k ne) ∙ e)) (λ z. rw z c.fragment)
-
--- where no unordered message becomes whole
-pub sound_loose-arrived : (w : World) (p : ℕ) → Sound w → SoundLoose w → Comes w p → becomes_whole (with_arrived w p) (message_of w p) ≡ false → SoundLoose (with_arrived w p)
-sound_loose-arrived w p sound more c none = record {
-  prefix = prefix-arrived w p more;
-  marks = marks-arrived w p more c;
-  whole_arrived = λ m kind e.
-      let all = more.whole_arrived m kind (sym (Stays.whole-unordered w p m kind) ∙ e) in
-      ap (λ x. x == fragment_count w m) (Arrival.arrived_of-elsewhere w p m (λ z. not_both (sym (not_all w p sound c) ∙ ap (has_arrived w) z ∙ all))) ∙ all;
-  arrived_whole = λ m e.
-      by_place {C = is_whole (with_arrived w p) m ≡ true} (message_of w p) m
-      (λ ne. Stays.whole-unordered w p m (kind m e) ∙ more.arrived_whole m (sym (becomes-elsewhere w p m ne) ∙ e))
-      (λ z. absurd (not_both (sym none ∙ ap (becomes_whole (with_arrived w p)) z ∙ e)));
-}
-  where
-    negated : (b : Bool) → not b ≡ true → b ≡ false
-    negated true e = cc
-    negated false e = refl
-
-    kind : (m : ℕ) → becomes_whole (with_arrived w p) m ≡ true → (message_at w m).ordered ≡ false
-    kind m e = negated (message_at w m).ordered (both (not (message_at w m).ordered) _ e).0
-
--- ## An unordered read
 
 abbrev pub after_read_unordered : Reassembly → Reassembly
 after_read_unordered q = record q { unordered = without_first q.unordered }
