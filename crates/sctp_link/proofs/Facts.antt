@@ -5,7 +5,7 @@ use Rattle.std.proofs.Math.Path.{subst}
 use Rattle.std.proofs.lemmas.Option.{slice_get_within}
 use Rattle.sctp_model.specs.declared.event.Event.{Event}
 use Rattle.sctp_model.specs.declared.event.Event.TheVariants as E
-use Rattle.sctp_model.specs.World.{Setup, World, StreamRecord, Data}
+use Rattle.sctp_model.specs.World.{Setup, World, Data}
 use Rattle.sctp_model.specs.World as W
 use Rattle.sctp_model.specs.Messages.{message_at}
 use Rattle.sctp_model.specs.Receiver.{spans_fit}

@@ -18,11 +18,11 @@ use Rattle.sctp_model.specs.Sound.{IsSpan, Sound}
 use Rattle.sctp_lists.proofs.More.{fails, not_both, length-changed, changed-same, changed-other, changed-keeps}
 use Rattle.sctp_lists.proofs.Wraps.{same16-index}
 use Rattle.sctp_ties.proofs.Line
-use Rattle.sctp_ties.proofs.Line.{on-made, on-ordered, ssn_on, index-lt, index-same, line-at, index-at, next_is, next_le, next_passes}
+use Rattle.sctp_ties.proofs.Line.{on-made, on-ordered, ssn_on, line-at, index-at, next_is, next_le, next_passes}
 use Rattle.sctp_ties.proofs.Stays.{map-all, by_place}
 use Rattle.sctp_lists.proofs.Wraps
 use Rattle.sctp_ties.proofs.Taken
-use Rattle.sctp_ties.proofs.Taken.{IsHeld, held, is_due, IsDue, due, is-due, whole_held}
+use Rattle.sctp_ties.proofs.Taken.{held, IsDue, whole_held}
 
 abbrev pub with_read : World → ℕ → World
 with_read w n = record w { messages = changed mark_read n w.messages }

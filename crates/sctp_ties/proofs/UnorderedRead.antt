@@ -8,7 +8,7 @@ use Rattle.sctp_lists.proofs.KeptLemmas.{map-kept-same}
 use Rattle.sctp_model.specs.World.{World, StreamRecord}
 use Rattle.sctp_model.specs.Messages.{message_at, message_of, stream_at, stream_of, is_ordered_on, ordered_on, is_unordered_on}
 use Rattle.sctp_model.specs.Receiver.{arrived_at, has_arrived, is_whole, is_held, next_of}
-use Rattle.sctp_model.specs.Changes.{stream_changed, with_whole, becomes_whole, read_of}
+use Rattle.sctp_model.specs.Changes.{read_of}
 use Rattle.sctp_model.specs.Changes
 use Rattle.sctp_queues.specs.Reassembly.{Reassembly, without_first}
 use Rattle.sctp_model.specs.Contents.{chunk_at}
