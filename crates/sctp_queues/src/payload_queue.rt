@@ -168,31 +168,39 @@ fn run_end(
     while step < end - last {
         let ahead = held.look(last + step, turns).tsn;
         if distance(tsn, ahead) as usize != step {
-            if step == 1 {
-                return (last, Some(ahead));
-            }
-            return (run_end_between(held, last, tsn, last + step, turns), None);
+            return run_end_between(held, last, tsn, last + step, Some(ahead), turns);
         }
         last += step;
         tsn = ahead;
         step = last - place;
     }
-    (run_end_between(held, last, tsn, end, turns), None)
+    run_end_between(held, last, tsn, end, None, turns)
 }
 
-// The same by halves: as many turns as the number of places behind the first has binary digits.
-fn run_end_between(held: &Held, place: usize, tsn: u32, end: usize, turns: &mut Turns) -> usize
+// The same by halves, where the TSN at the end may have been seen: as many turns as the number of places behind the first has
+// binary digits.
+fn run_end_between(
+    held: &Held,
+    place: usize,
+    tsn: u32,
+    end: usize,
+    seen: Option<u32>,
+    turns: &mut Turns,
+) -> (usize, Option<u32>)
     requires serial { IsSerial held.now.chunks }
     requires number { (d : _) → (slice_index_or held.now.chunks place d).tsn ≡ tsn }
     requires some { place < end }
     requires in_range { end ≤ length held.now.chunks }
-    ensures run { IsRunUntil held.now.chunks end place result }
+    requires seen { IfSome seen (λ tsn. (d : _) → (slice_index_or held.now.chunks end d).tsn ≡ tsn) }
+    ensures run { IsRunUntil held.now.chunks end place result.0 }
+    ensures seen { IfSome result.1 (λ tsn. (d : _) → (slice_index_or held.now.chunks (result.0 + 1) d).tsn ≡ tsn) }
     ensures not_back { turns.old ≤ turns.new }
     ensures cost { IsWithinDigits (end - place - 1) (turns.new - turns.old) }
 {
     let mut last = place;
     let mut tsn = tsn;
     let mut beyond = end;
+    let mut seen = seen;
     while last + 1 < beyond {
         let middle = last + (beyond - last) / 2;
         let ahead = held.look(middle, turns).tsn;
@@ -201,9 +209,10 @@ fn run_end_between(held: &Held, place: usize, tsn: u32, end: usize, turns: &mut 
             tsn = ahead;
         } else {
             beyond = middle;
+            seen = Some(ahead);
         }
     }
-    last
+    (last, seen)
 }
 
 // Whether the chunk is neither acknowledged nor abandoned.

@@ -2,7 +2,6 @@ use Rattle.std.proofs.Common.{◌≡◌, ℕ, ◌+◌, ◌-◌, ◌*◌, ◌^◌
 use Rattle.std.proofs.Math.Nat.{mul-le-mul, pow-le-pow_right}
 use Rattle.std.proofs.lemmas.Bool.{cases_lt}
 use Rattle.std.proofs.lemmas.Nat.{pow-add}
-use Rattle.sctp_queues.specs.Blocks.{IsRunUntil}
 use Rattle.sctp_queues.proofs.Gaps.{number_ahead, rises_ahead, breaks_ahead, rising_on, run_cut}
 use Rattle.sctp_queues.proofs.Halves.{one_more}
 use Rattle.sctp_queues.proofs.payload_queue.run_end.Goals as goal
@@ -32,29 +31,13 @@ turns_of_both t u v l tu uv first second =
     subst (λ n. 2 ^ n < 4 * (l * l)) {x = u - t + (v - u)} (omega arith)
     (subst (λ n. n < 4 * (l * l)) (sym (pow-add 2 (u - t) (v - u))) (product (2 ^ (u - t)) (2 ^ (v - u)) l first second))
 
-pub returns-then-step-eq1-clause-run : goal.returns-then-step-eq1-clause-run
-returns-then-step-eq1-clause-run c =
-    let xs = c.args.held.now.chunks in
-    let last = c.loop-step.last in
-    let step = c.loop-step.step in
-    let short : last + step < length xs = omega (arith, c.requires.in_range) in
-    let alone : IsRunUntil xs (last + step) last last = record { from = omega arith; to = omega arith; rising = λ k d le lt. absurd (omega arith); stops = λ within. absurd (omega arith) } in
-    run_cut xs c.args.place last (last + step) c.args.end last (omega arith) c.requires.in_range c.loop-step.invariant.from c.loop-step.invariant.rising
-    (breaks_ahead xs c.requires.serial last c.loop-step.tsn step c.look.result.now short c.loop-step.invariant.number c.look.ensures.value (λ e. c.if-distance-step.true (c.distance.ensures.value ∙ e)))
-    alone
-
-pub returns-then-step-eq1-clause-cost : goal.returns-then-step-eq1-clause-cost
-returns-then-step-eq1-clause-cost c =
-    let more = one_more c.args.turns.now c.loop-step.turns c.look.new.turns c.loop-step.invariant.not_back c.look.ensures.turn in
-    omega (arith, product (2 ^ (c.look.new.turns - c.args.turns.now)) 1 (c.loop-step.last + 1 - c.args.place) (omega (arith, more, c.loop-step.invariant.cost, c.loop-step.invariant.from)) (omega (arith, c.loop-step.invariant.from)))
-
 pub returns-then-distance-step-clause-run : goal.returns-then-distance-step-clause-run
 returns-then-distance-step-clause-run c =
     let xs = c.args.held.now.chunks in
     let last = c.loop-step.last in
     let step = c.loop-step.step in
     let short : last + step < length xs = omega (arith, c.requires.in_range) in
-    run_cut xs c.args.place last (last + step) c.args.end c.run_end_between.result (omega arith) c.requires.in_range c.loop-step.invariant.from c.loop-step.invariant.rising
+    run_cut xs c.args.place last (last + step) c.args.end c.run_end_between.result.0 (omega arith) c.requires.in_range c.loop-step.invariant.from c.loop-step.invariant.rising
     (breaks_ahead xs c.requires.serial last c.loop-step.tsn step c.look.result.now short c.loop-step.invariant.number c.look.ensures.value (λ e. c.if-distance-step.true (c.distance.ensures.value ∙ e)))
     c.run_end_between.ensures.run
 
