@@ -1,5 +1,5 @@
 -- Messages that are given up.
-use Rattle.std.proofs.Common.{◌≡◌, ◌==◌, ℕ, zero, suc, ◌+◌, ◌-◌, ◌<◌, ◌≤◌, Bool, true, false, not, ◌||◌, max, if◌then◌else◌, List, [], ◌∷◌, ◌++◌, length, get_or, Option, Some, None, is_some, refl, sym, ap, ap₂, ◌∙◌, subst, inl, inr, arith}
+use Rattle.std.proofs.Common.{◌≡◌, ◌==◌, ℕ, zero, suc, ◌-◌, ◌<◌, Bool, true, false, ◌||◌, max, if◌then◌else◌, List, [], ◌∷◌, ◌++◌, get_or, Option, Some, None, is_some, refl, sym, ap, ap₂, ◌∙◌, subst, inl, inr, arith}
 use Rattle.std.specs.List.{All, find, list_any}
 use Rattle.std.proofs.lemmas.Bool.{false≢true, cases_lt}
 use Rattle.std.proofs.lemmas.Bool.Decides.{nat_tests}
@@ -12,9 +12,9 @@ use Rattle.sctp_queues.specs.Marks.{is_of, given_up}
 use Rattle.sctp_queues.specs.Outbound.{Outbound, abandoned, end_mark, with_end_mark}
 use Rattle.sctp_queues.specs.DataChunks.{chunk_before, has_tsn}
 use Rattle.sctp_queues.specs.Payload as payload
-use Rattle.sctp_queues.specs.Pending.{Pending, last_of, last_removed, selected_without, without, without_message}
-use Rattle.sctp_queues.specs.Whole.{Stage, free, begun, stage_of, IsWhole, IsSendable, half_of, half_sent, waits}
-use Rattle.sctp_queues.specs.Window.{IsWindow, IsWithinHalf, SpansOneWindow, is_held}
+use Rattle.sctp_queues.specs.Pending.{Pending, last_of, last_removed, selected_without, without}
+use Rattle.sctp_queues.specs.Whole.{free, begun, stage_of, IsWhole, IsSendable, half_of, half_sent, waits}
+use Rattle.sctp_queues.specs.Window.{IsWithinHalf, SpansOneWindow, is_held}
 use Rattle.sctp_queues.proofs.Sendable.{made, or_false, or_left, or_right, not_true, sendable-marked, sendable-without}
 use Rattle.sctp_queues.proofs.Whole.{KeepsMessage, none_past, none_without}
 

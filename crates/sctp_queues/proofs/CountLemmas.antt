@@ -1,5 +1,5 @@
 -- The byte count follows what is held.
-use Rattle.std.proofs.Common.{◌≡◌, ℕ, zero, suc, ◌+◌, ◌-◌, ◌^◌, ◌<◌, ◌≤◌, ◌==◌, ◌&&◌, ◌||◌, min, Bool, true, false, not, if◌then◌else◌, List, [], ◌∷◌, ◌++◌, Option, Some, None, Result, Ok, Err, OnOk, OnErr, IfOk, length, take, drop, refl, sym, ap, ap₂, subst, ◌∙◌, arith}
+use Rattle.std.proofs.Common.{◌≡◌, ℕ, ◌+◌, ◌-◌, ◌^◌, ◌<◌, ◌&&◌, ◌||◌, Bool, true, false, not, if◌then◌else◌, List, [], ◌∷◌, Some, None, Result, Ok, Err, OnOk, OnErr, IfOk, length, take, drop, refl, sym, ap, ◌∙◌, arith}
 use Rattle.std.specs.List.{list_any, sum_by}
 use Rattle.std.proofs.lemmas.Bool.{true≢false}
 use Rattle.std.proofs.lemmas.List.{take-append-drop, drop-drop}
@@ -10,7 +10,7 @@ use Rattle.sctp_chunks.specs.declared.chunk.chunk_payload_data.ChunkPayloadData.
 use Rattle.sctp_chunks.specs.ChunkSet.{ChunkSet}
 use Rattle.sctp_queues.specs.Sets.{has_ssn, with_chunk, new_set, sets_with, chunks_of_ssn, set_before, is_complete}
 use Rattle.sctp_queues.specs.DataChunks.{bytes_of, has_tsn, chunk_before}
-use Rattle.sctp_queues.specs.Reassembly.{Reassembly, ReassemblyState, set_bytes, held_bytes, IsCounted, count_up, is_kept, pushed_ordered, ordered_pushed, set_of_run, BecomesWhole, TakesRun, PushesUnordered, is_readable, state_read, message_read, rest_read, after_read, bytes_read, leading_upto, unordered_forwarded, ordered_forwarded, forwarded_ordered, is_passed, complete_sets}
+use Rattle.sctp_queues.specs.Reassembly.{Reassembly, ReassemblyState, set_bytes, held_bytes, IsCounted, count_up, ordered_pushed, set_of_run, BecomesWhole, PushesUnordered, is_readable, state_read, message_read, rest_read, after_read, bytes_read, leading_upto, unordered_forwarded, ordered_forwarded, forwarded_ordered, is_passed, complete_sets}
 use Rattle.sctp_queues.specs.Bounded.{bounded_forwarded, forwarded_bounded, is_abandoned, misses}
 use Rattle.sctp_queues.proofs.SetLemmas.{chunks_none}
 

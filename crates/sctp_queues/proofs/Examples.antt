@@ -1,12 +1,11 @@
 -- Worked examples, by computation.
-use Rattle.std.proofs.Common.{◌≡◌, ℕ, ◌+◌, ◌*◌, ◌^◌, ◌≤◌, Bool, true, false, List, [], ◌∷◌, map, None, lit≤, refl, arith}
+use Rattle.std.proofs.Common.{◌≡◌, ℕ, Bool, true, false, List, [], ◌∷◌, map, None, lit≤, refl, arith}
 use Rattle.sctp_chunks.specs.declared.chunk.chunk_payload_data.ChunkPayloadData.{ChunkPayloadData}
 use Rattle.sctp_chunks.specs.declared.chunk.chunk_payload_data.PayloadProtocolIdentifier.TheVariants as identifiers
 use Rattle.sctp_lists.specs.Kept.{runs_of}
 use Rattle.sctp_lists.specs.Serial.{comes_before, distance}
 use Rattle.sctp_queues.specs.Numbering.{Call, push, send_next, abandon, mark_as_acked, pop, after_all, at_first}
 use Rattle.sctp_queues.specs.Turns.{IsWithinDigits}
-use Rattle.sctp_queues.specs.Blocks.{gap_text}
 
 -- among three held chunks two looks are enough, and three are too many; among none there is nothing to look at
 two_of_three : IsWithinDigits 3 2

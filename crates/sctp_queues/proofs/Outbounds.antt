@@ -1,5 +1,5 @@
 -- What a send leaves.
-use Rattle.std.proofs.Common.{◌≡◌, ◌==◌, ℕ, ◌+◌, ◌-◌, ◌<◌, ◌≤◌, ◌++◌, map, length, take, get_or, max, Bool, true, false, if◌then◌else◌, List, [], ◌∷◌, Option, Some, None, is_some, refl, sym, ap, ◌∙◌, subst, arith}
+use Rattle.std.proofs.Common.{◌≡◌, ◌==◌, ℕ, ◌+◌, ◌-◌, ◌<◌, ◌++◌, map, length, take, get_or, max, Bool, true, false, if◌then◌else◌, List, [], ◌∷◌, Option, Some, None, is_some, refl, sym, ap, ◌∙◌, arith}
 use Rattle.std.proofs.lemmas.List.{map-append}
 use Rattle.std.proofs.lemmas.Bool.{false≢true}
 use Rattle.sctp_chunks.specs.declared.chunk.chunk_payload_data.ChunkPayloadData.{ChunkPayloadData}
@@ -7,8 +7,7 @@ use Rattle.sctp_lists.specs.Lists.{those}
 use Rattle.sctp_lists.proofs.Edits.{those-more}
 use Rattle.sctp_queues.specs.declared.pending_queue.Selected.{Selected}
 use Rattle.sctp_queues.specs.Outbound.{Outbound, all_started, sent_of, sent_peeked, sent_next}
-use Rattle.sctp_queues.specs.Pending.{Pending, started, peeked}
-use Rattle.sctp_queues.specs.Payload as payload
+use Rattle.sctp_queues.specs.Pending.{started, peeked}
 
 peeked_started : (first now : ℕ) (os us : List ChunkPayloadData) (sel : Option Selected) (ro ru : ℕ) → is_some (peeked (started first now (record { ordered = os; unordered = us; selected = sel; ordered_room = ro; unordered_room = ru }))) ≡ is_some (peeked (record { ordered = os; unordered = us; selected = sel; ordered_room = ro; unordered_room = ru }))
 peeked_started first now os (u ∷ us) None ro ru = refl

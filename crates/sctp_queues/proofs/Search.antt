@@ -1,11 +1,11 @@
 -- A binary search for a number.
-use Rattle.std.proofs.Common.{◌≡◌, ◌≢◌, ℕ, ◌+◌, ◌-◌, ◌^◌, ◌<◌, ◌≤◌, ◌⊎◌, Bool, true, false, IsTrue, List, length, get_or, ◌∙◌, inl, inr, sym, refl, ap, subst, arith}
+use Rattle.std.proofs.Common.{◌≡◌, ◌≢◌, ℕ, ◌+◌, ◌-◌, ◌^◌, ◌<◌, ◌≤◌, false, IsTrue, List, length, get_or, ◌∙◌, inl, inr, sym, ap, subst, arith}
 use Rattle.std.specs.List.{All}
-use Rattle.std.proofs.lemmas.Bool.{cases_lt, cases_eq, false≢true}
+use Rattle.std.proofs.lemmas.Bool.{cases_lt, false≢true}
 use Rattle.sctp_chunks.specs.declared.chunk.chunk_payload_data.ChunkPayloadData.{ChunkPayloadData}
-use Rattle.sctp_lists.specs.Serial.{distance, comes_before}
+use Rattle.sctp_lists.specs.Serial.{comes_before}
 use Rattle.sctp_lists.proofs.SerialLemmas.{before_asym, before_irrefl, before_total, before_trans}
-use Rattle.sctp_queues.specs.Window.{IsSerial, IsPlaceFor, IsWindow, IsWithinHalf, SpansOneWindow}
+use Rattle.sctp_queues.specs.Window.{IsSerial, IsPlaceFor, IsWindow, IsWithinHalf}
 use Rattle.std.proofs.lemmas.List.{get_or_default}
 
 -- what is left of the search

@@ -1,20 +1,20 @@
 -- The queues stay sendable while chunks come, leave and change.
-use Rattle.std.proofs.Common.{◌≡◌, ◌≢◌, ◌==◌, ℕ, zero, suc, ◌+◌, ◌-◌, ◌<◌, ◌≤◌, Bool, true, false, not, ◌||◌, ◌&&◌, if◌then◌else◌, List, [], ◌∷◌, ◌++◌, length, map, Option, Some, None, slice_get, ◌⊎◌, inl, inr, refl, sym, ap, ap₂, ◌∙◌, subst, arith}
+use Rattle.std.proofs.Common.{◌≡◌, ◌==◌, ℕ, zero, suc, ◌+◌, ◌<◌, ◌≤◌, Bool, true, false, not, ◌||◌, ◌&&◌, if◌then◌else◌, List, [], ◌∷◌, ◌++◌, length, map, Option, Some, None, slice_get, ◌⊎◌, inl, inr, refl, sym, ap, ap₂, ◌∙◌, subst, arith}
 use Rattle.std.specs.List.{find, list_any}
 use Rattle.std.proofs.lemmas.Bool.{false≢true}
 use Rattle.std.proofs.lemmas.Bool.Decides.{nat_tests}
 use Rattle.std.proofs.lemmas.List.Sums.{sum_by-cons}
 use Rattle.std.proofs.lemmas.Option.{none-some}
 use Rattle.sctp_chunks.specs.declared.chunk.chunk_payload_data.ChunkPayloadData.{ChunkPayloadData}
-use Rattle.sctp_lists.specs.Lists.{change_where, those, inserted}
+use Rattle.sctp_lists.specs.Lists.{change_where, inserted}
 use Rattle.sctp_lists.proofs.Edits.{list_any-append, list_any-inserted, list_any-those}
 use Rattle.sctp_queues.specs.declared.pending_queue.Selected.{Selected}
 use Rattle.sctp_queues.specs.Marks.{is_of}
 use Rattle.sctp_queues.specs.Outbound.{Outbound, abandoned, with_message_id, appended, after_sends, taken_of, tsn_after, following_tsn}
 use Rattle.sctp_queues.specs.Payload.{without_front}
 use Rattle.sctp_queues.specs.DataChunks.{chunk_before, bytes_of, has_tsn}
-use Rattle.sctp_queues.specs.Pending.{Pending, front_of, list_of, peeked, peeked_of, popped, popped_from, list_to_pop, rest_after, rest_from, rest_of, selected_after, selected_without, without, without_message, total_bytes}
-use Rattle.sctp_queues.specs.Whole.{Stage, free, begun, Follows, GoesOn, stage_after, stage_of, IsWhole, IsMessage, IsMessageOrNone, IsSendable, ends, half_of, half_sent, has_end, in_order, order_of, rest_then, waits}
+use Rattle.sctp_queues.specs.Pending.{Pending, front_of, list_of, peeked, peeked_of, popped, popped_from, list_to_pop, rest_after, rest_from, selected_after, selected_without, without, without_message, total_bytes}
+use Rattle.sctp_queues.specs.Whole.{free, begun, GoesOn, stage_after, stage_of, IsWhole, IsMessage, IsMessageOrNone, IsSendable, ends, half_of, half_sent, has_end, in_order, order_of, rest_then, waits}
 use Rattle.sctp_queues.proofs.Whole.{IsWhole-append, IsWhole-message, IsWhole-without, IsWhole-change_where, KeepsMessage, list_any-change_where, list_any-message, none_before, none_past, none_without, stage_below, stage_without, weaken_bound, weaken_start}
 
 abbrev pub made : List ChunkPayloadData → List ChunkPayloadData → Option Selected → ℕ → ℕ → Pending

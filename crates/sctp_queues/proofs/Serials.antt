@@ -1,11 +1,11 @@
 -- Chunks in serial order: each TSN is held once, and edits keep the order.
-use Rattle.std.proofs.Common.{◌≡◌, ◌≢◌, ℕ, ◌+◌, ◌^◌, ◌-◌, ◌<◌, ◌≤◌, Bool, true, false, not, cond, eqb, IsTrue, List, [], ◌∷◌, length, length-set, get_or, set, Option, Some, None, is_some, ◌||◌, ◌∙◌, sym, refl, ap, subst, inl, inr, arith}
-use Rattle.std.specs.List.{All, AllPairs, filter, find, insert, remove, list_any, slice_get, position_or_len}
+use Rattle.std.proofs.Common.{◌≡◌, ◌≢◌, ℕ, ◌+◌, ◌^◌, ◌-◌, ◌<◌, false, not, IsTrue, List, ◌∷◌, length, length-set, get_or, set, Some, None, ◌∙◌, sym, ap, subst, inl, inr, arith}
+use Rattle.std.specs.List.{All, find, insert, remove, slice_get, position_or_len}
 use Rattle.std.proofs.lemmas.Bool.{cases_lt, cases_eq, false≢true}
 use Rattle.std.proofs.lemmas.Bool.Decides.{nat_tests}
-use Rattle.std.proofs.lemmas.Grind.{elements, common_steps}
+use Rattle.std.proofs.lemmas.Grind.{common_steps}
 use Rattle.std.proofs.lemmas.List.{get_or_default}
-use Rattle.std.proofs.lemmas.List.Elements.{All-head, All-tail}
+use Rattle.std.proofs.lemmas.List.Elements.{All-tail}
 use Rattle.std.proofs.lemmas.List.Quantifiers.{all_pairs_remove}
 use Rattle.std.proofs.lemmas.List.Sums.{prefix_len_is}
 use Rattle.std.proofs.lemmas.List.Folds.{find_at}
@@ -13,7 +13,7 @@ use Rattle.std.proofs.lemmas.List.Edits.{length-insert, get_or-insert_below, get
 use Rattle.std.proofs.lemmas.Option.{slice_get-get_or}
 use Rattle.sctp_chunks.specs.declared.chunk.chunk_payload_data.ChunkPayloadData.{ChunkPayloadData}
 use Rattle.sctp_lists.specs.Lists.{inserted}
-use Rattle.sctp_lists.specs.Serial.{distance, comes_before}
+use Rattle.sctp_lists.specs.Serial.{comes_before}
 use Rattle.sctp_lists.proofs.Edits.{OnlyAt, find-none, inserted-at, pairs_insert, pairs_tail}
 use Rattle.sctp_lists.proofs.SerialLemmas.{before_asym, before_irrefl}
 use Rattle.sctp_queues.specs.Window.{IsSerial, IsHeldAt, IsPlaceFor, SpansOneWindow}

@@ -1,4 +1,4 @@
-use Rattle.std.proofs.Common.{◌≡◌, ◌-◌, ◌^◌, length, take, min}
+use Rattle.std.proofs.Common.{◌≡◌, ◌-◌, ◌^◌, take, min}
 use Rattle.sctp_queues.specs.DataChunks.{bytes_of}
 use Rattle.sctp_queues.proofs.chunks.bytes_in.Given as goal
 

@@ -1,4 +1,4 @@
-use Rattle.std.proofs.Common.{◌≡◌, ◌-◌, ◌≤◌, ◌++◌, length, take, drop}
+use Rattle.std.proofs.Common.{◌≡◌, ◌-◌, ◌++◌, length, take}
 use Rattle.std.specs.List.{concat}
 use Rattle.sctp_queues.specs.Pieces.{left_from, left_after}
 use Rattle.sctp_queues.proofs.chunks.gather.Given as goal

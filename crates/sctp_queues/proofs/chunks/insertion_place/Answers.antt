@@ -1,4 +1,4 @@
-use Rattle.std.proofs.Common.{◌≡◌, sym, ap, ◌∙◌, subst}
+use Rattle.std.proofs.Common.{sym, ap, ◌∙◌}
 use Rattle.std.specs.List.{position_or_len, insert}
 use Rattle.sctp_lists.specs.Serial.{comes_before}
 use Rattle.sctp_queues.specs.DataChunks.{chunk_before}

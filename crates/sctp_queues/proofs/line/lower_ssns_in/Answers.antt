@@ -1,4 +1,4 @@
-use Rattle.std.proofs.Common.{◌≡◌, ◌+◌, ◌-◌, ◌<◌, ◌≤◌, length, length-set, get_or, set, sym, ap, ◌∙◌, arith}
+use Rattle.std.proofs.Common.{◌<◌, length, length-set, ◌∙◌, arith}
 use Rattle.std.proofs.lemmas.Bool.Decides.{nat_tests}
 use Rattle.sctp_lists.proofs.Edits.{changed_step, rewritten_step}
 use Rattle.sctp_queues.specs.Pending.{is_on, one_lower}

@@ -1,4 +1,4 @@
-use Rattle.std.proofs.Common.{◌≡◌, ℕ, ◌+◌, ◌-◌, ◌<◌, ◌≤◌, arith}
+use Rattle.std.proofs.Common.{arith}
 use Rattle.sctp_queues.proofs.RunLemmas.{not_at_plain, earliest_from, not_without_end}
 use Rattle.sctp_queues.proofs.loose.find_run.Goals as goal
 

@@ -1,4 +1,4 @@
-use Rattle.std.proofs.Common.{◌≡◌, ℕ, ◌+◌, ◌-◌, ◌<◌, ◌≤◌, arith}
+use Rattle.std.proofs.Common.{arith}
 use Rattle.sctp_queues.proofs.RunLemmas.{stretch_to, none_at_last, none_at_beginning, none_at_gap}
 use Rattle.sctp_queues.proofs.loose.run_end.Goals as goal
 

@@ -1,4 +1,4 @@
-use Rattle.std.proofs.Common.{◌≡◌, ℕ, ◌+◌, ◌-◌, ◌<◌, ◌≤◌, arith}
+use Rattle.std.proofs.Common.{arith}
 use Rattle.sctp_queues.proofs.RunLemmas.{stretch_from, none_at_zero, none_at_break}
 use Rattle.sctp_queues.proofs.loose.run_start.Goals as goal
 

@@ -1,4 +1,4 @@
-use Rattle.std.proofs.Common.{◌+◌, ◌-◌, ◌*◌, ◌^◌, ◌<◌, ◌≤◌, ◌≡◌, ◌/◌, length, sym, ◌∙◌, subst, ap, arith, rules}
+use Rattle.std.proofs.Common.{◌-◌, sym, ◌∙◌, arith}
 use Rattle.sctp_queues.proofs.Search.{narrowed_right, narrowed_left}
 use Rattle.sctp_queues.proofs.Halves.{halved, digits_left, one_more}
 use Rattle.sctp_queues.proofs.payload_queue.search.Goals as goal

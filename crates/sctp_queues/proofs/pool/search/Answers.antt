@@ -1,4 +1,4 @@
-use Rattle.std.proofs.Common.{◌<◌, remove, ap, subst}
+use Rattle.std.proofs.Common.{remove, subst}
 use Rattle.sctp_queues.specs.Loose.{IsMark}
 use Rattle.sctp_queues.proofs.ListLemmas.{an_element}
 use Rattle.sctp_queues.proofs.RunLemmas.{earliest_of_around, none_of_around}

@@ -1,9 +1,8 @@
-use Rattle.std.proofs.Common.{◌≡◌, ◌+◌, ◌-◌, ◌^◌, ◌<◌, ◌≤◌, ◌&&◌, not, true, false, length, min, sym, ap, ap₂, subst, ◌∙◌, drop, arith}
+use Rattle.std.proofs.Common.{◌≡◌, ◌<◌, not, true, length, sym, ap, ◌∙◌, drop, arith}
 use Rattle.std.proofs.lemmas.List.{get_or_default, at_drop_all}
 use Rattle.std.specs.List.{sum_by, remove}
 use Rattle.std.proofs.lemmas.List.Edits.{length-remove}
 use Rattle.std.proofs.lemmas.List.Sums.{sum_by-cons}
-use Rattle.sctp_lists.specs.Serial.{at_or_before16}
 use Rattle.sctp_lists.specs.Lists.{those}
 use Rattle.sctp_chunks.specs.ChunkSet.{ChunkSet}
 use Rattle.sctp_queues.specs.DataChunks.{bytes_of}

@@ -1,6 +1,6 @@
-use Rattle.std.proofs.Common.{◌≡◌, ◌≤◌, ◌++◌, length, length-take-le, take, sym, Some, arith, ap, ap₂, subst, ◌∙◌, ◌<◌}
+use Rattle.std.proofs.Common.{◌++◌, length, length-take-le, sym, Some, arith, ap, ap₂, subst, ◌∙◌, ◌<◌}
 use Rattle.std.specs.List.{concat}
-use Rattle.sctp_queues.specs.Pieces.{left_of, left_after}
+use Rattle.sctp_queues.specs.Pieces.{left_of}
 use Rattle.sctp_queues.proofs.PieceLemmas.{pieces_join, piece_full, pieces_end, piece_some}
 use Rattle.sctp_queues.proofs.chunks.Chunks.next.Goals as goal
 

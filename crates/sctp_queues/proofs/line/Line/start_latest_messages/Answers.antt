@@ -1,4 +1,4 @@
-use Rattle.std.proofs.Common.{◌≡◌, refl, sym, ap, ◌∙◌, arith}
+use Rattle.std.proofs.Common.{refl, sym, ap, ◌∙◌, arith}
 use Rattle.sctp_queues.specs.DataChunks.{bytes_of}
 use Rattle.sctp_queues.specs.Pending.{is_to_start, with_deadline}
 use Rattle.sctp_queues.proofs.Waiting.{bytes_of-change_where}

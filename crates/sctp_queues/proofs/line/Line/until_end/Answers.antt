@@ -1,4 +1,4 @@
-use Rattle.std.proofs.Common.{◌+◌, ◌<◌, drop, arith}
+use Rattle.std.proofs.Common.{drop, arith}
 use Rattle.sctp_queues.proofs.Order.{until_end_some}
 use Rattle.sctp_queues.proofs.line.Line.until_end.Goals as goal
 

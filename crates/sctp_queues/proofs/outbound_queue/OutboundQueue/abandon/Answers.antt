@@ -1,4 +1,4 @@
-use Rattle.std.proofs.Common.{◌≡◌, sym}
+use Rattle.std.proofs.Common.{sym}
 use Rattle.sctp_queues.specs.Outbound.{Outbound}
 use Rattle.sctp_queues.proofs.Sendable.{found_in, kept_or_gone}
 use Rattle.sctp_queues.proofs.outbound_queue.OutboundQueue.abandon.Goals as goal

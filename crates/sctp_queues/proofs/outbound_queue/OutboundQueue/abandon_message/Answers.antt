@@ -1,4 +1,4 @@
-use Rattle.std.proofs.Common.{◌≡◌, ◌+◌, ◌<◌, refl, sym, ap, ◌∙◌, subst, arith}
+use Rattle.std.proofs.Common.{refl, sym, ap, ◌∙◌, arith}
 use Rattle.sctp_queues.specs.Marks.{is_of, given_up}
 use Rattle.sctp_queues.specs.Outbound.{Outbound, abandoned}
 use Rattle.sctp_queues.proofs.Abandoned.{abandoned_none, abandoned_room}

@@ -1,4 +1,4 @@
-use Rattle.std.proofs.Common.{◌≡◌, ◌+◌, ◌<◌, refl, ap, ◌∙◌, arith}
+use Rattle.std.proofs.Common.{refl, arith}
 use Rattle.sctp_queues.specs.Pending.{is_on, one_lower}
 use Rattle.sctp_queues.proofs.Sendable.{sendable-ordered_changed}
 use Rattle.sctp_queues.proofs.Waiting.{bytes_of-change_where}

@@ -1,4 +1,4 @@
-use Rattle.std.proofs.Common.{◌≡◌, ◌+◌, ◌<◌, ◌++◌, ◌∷◌, [], true, false, length, append-nil, sym, ap, ◌∙◌, arith}
+use Rattle.std.proofs.Common.{◌<◌, ◌++◌, ◌∷◌, [], true, false, length, append-nil, sym, ap, ◌∙◌, arith}
 use Rattle.sctp_queues.specs.Outbound.{is_late}
 use Rattle.sctp_queues.proofs.Outbounds.{tsns_more}
 use Rattle.sctp_queues.proofs.outbound_queue.OutboundQueue.expired_inflight.Goals as goal

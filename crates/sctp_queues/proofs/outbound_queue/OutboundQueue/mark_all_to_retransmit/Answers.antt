@@ -1,4 +1,4 @@
-use Rattle.std.proofs.Common.{◌+◌, ◌<◌, true, refl, arith}
+use Rattle.std.proofs.Common.{true, refl, arith}
 use Rattle.sctp_queues.specs.Marks.{is_outstanding, with_retransmit}
 use Rattle.sctp_queues.proofs.Sendable.{sendable-marked}
 use Rattle.sctp_queues.proofs.Waiting.{bytes_of-change_where}

@@ -1,4 +1,4 @@
-use Rattle.std.proofs.Common.{◌≡◌, sym, ap, ◌∙◌}
+use Rattle.std.proofs.Common.{ap, ◌∙◌}
 use Rattle.sctp_queues.specs.Outbound.{after_sends}
 use Rattle.sctp_queues.specs.Pending.{peeked}
 use Rattle.sctp_queues.proofs.Sendable.{order_is, has_end_of}

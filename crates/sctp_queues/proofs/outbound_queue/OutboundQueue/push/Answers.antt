@@ -1,4 +1,4 @@
-use Rattle.std.proofs.Common.{◌≡◌, ◌+◌, ◌<◌, ◌^◌, sym, ap, subst, ◌∙◌, arith, slice_get}
+use Rattle.std.proofs.Common.{◌+◌, ◌<◌, ◌^◌, sym, ap, subst, ◌∙◌, arith, slice_get}
 use Rattle.sctp_queues.specs.Outbound.{total_bytes}
 use Rattle.sctp_queues.specs.DataChunks.{bytes_of}
 use Rattle.sctp_queues.proofs.Sendable.{message_of_first, sendable-pushed}

@@ -1,4 +1,4 @@
-use Rattle.std.proofs.Common.{◌+◌, ◌<◌, arith}
+use Rattle.std.proofs.Common.{arith}
 use Rattle.sctp_queues.proofs.Sendable.{sendable-without}
 use Rattle.sctp_queues.proofs.outbound_queue.OutboundQueue.remove_pending.Goals as goal
 

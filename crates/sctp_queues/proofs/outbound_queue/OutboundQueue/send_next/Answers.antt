@@ -1,4 +1,4 @@
-use Rattle.std.proofs.Common.{◌≡◌, ◌+◌, ◌<◌, Some, None, is_some, IsSome, refl, sym, ap, subst, ◌∙◌, arith}
+use Rattle.std.proofs.Common.{◌≡◌, Some, is_some, sym, ap, subst, ◌∙◌}
 use Rattle.sctp_queues.specs.Outbound.{Outbound, all_started, sent_next, sent_peeked}
 use Rattle.sctp_queues.specs.Pending.{peeked}
 use Rattle.sctp_queues.specs.Whole.{GoesOn, half_sent}

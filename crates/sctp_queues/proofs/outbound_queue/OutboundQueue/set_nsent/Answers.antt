@@ -1,4 +1,4 @@
-use Rattle.std.proofs.Common.{◌+◌, ◌<◌, refl, arith}
+use Rattle.std.proofs.Common.{refl, arith}
 use Rattle.sctp_queues.specs.Marks.{with_nsent}
 use Rattle.sctp_queues.specs.DataChunks.{has_tsn}
 use Rattle.sctp_queues.proofs.Sendable.{sendable-marked}

@@ -1,4 +1,4 @@
-use Rattle.std.proofs.Common.{◌+◌, ◌<◌, true, false, refl, arith}
+use Rattle.std.proofs.Common.{true, false, refl, arith}
 use Rattle.sctp_queues.specs.Pending.{is_to_start, with_deadline}
 use Rattle.sctp_queues.specs.Whole.{stage_of}
 use Rattle.sctp_queues.proofs.Sendable.{sendable-changed}

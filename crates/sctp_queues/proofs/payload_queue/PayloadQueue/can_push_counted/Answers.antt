@@ -1,4 +1,4 @@
-use Rattle.std.proofs.Common.{◌≡◌, not, ap, sym, ◌∙◌, refl, rules}
+use Rattle.std.proofs.Common.{not, ap, sym, ◌∙◌}
 use Rattle.sctp_queues.proofs.payload_queue.PayloadQueue.can_push_counted.Goals as goal
 
 pub returns-then-is_none-clause-answer : goal.returns-then-is_none-clause-answer

@@ -1,5 +1,4 @@
-use Rattle.std.proofs.Common.{◌≡◌, ◌+◌, ◌-◌, ◌<◌, ◌≤◌, length, sym, ap, subst, ◌∙◌, arith}
-use Rattle.std.specs.List.{insert}
+use Rattle.std.proofs.Common.{◌-◌, length, sym, ap, subst, arith}
 use Rattle.std.proofs.lemmas.List.Sums.{sum_by-insert}
 use Rattle.sctp_queues.specs.Window.{SpansOneWindow, IsPlaceFor}
 use Rattle.sctp_queues.specs.Payload.{Payload}

@@ -1,4 +1,4 @@
-use Rattle.std.proofs.Common.{◌≡◌, ◌++◌, ◌≤◌, true, length, take, drop}
+use Rattle.std.proofs.Common.{◌≡◌, ◌++◌, true, length, take, drop}
 use Rattle.sctp_lists.specs.Lists.{change_where}
 use Rattle.sctp_queues.specs.Marks.{is_outstanding, with_retransmit}
 use Rattle.sctp_queues.specs.Window.{IsSerial}

@@ -1,4 +1,4 @@
-use Rattle.std.proofs.Common.{◌≡◌, ◌+◌, ◌-◌, ◌≤◌, ◌++◌, not, length, take, drop}
+use Rattle.std.proofs.Common.{◌≡◌, ◌+◌, ◌-◌, ◌≤◌, ◌++◌, length, take, drop}
 use Rattle.sctp_queues.specs.Window.{IsSerial}
 use Rattle.sctp_queues.specs.DataChunks.{bytes_of}
 use Rattle.sctp_queues.specs.Payload.{past}

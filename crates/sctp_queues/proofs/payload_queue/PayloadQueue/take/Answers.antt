@@ -1,4 +1,4 @@
-use Rattle.std.proofs.Common.{◌≡◌, ◌+◌, ◌-◌, ◌<◌, ◌≤◌, length, Some, refl, sym, ap, subst, ◌∙◌, arith}
+use Rattle.std.proofs.Common.{length, Some, sym, ap, ◌∙◌, arith}
 use Rattle.std.proofs.lemmas.List.Sums.{sum_by-remove}
 use Rattle.sctp_queues.specs.DataChunks.{has_tsn}
 use Rattle.sctp_queues.proofs.Serials.{serial_remove, only_here, same_but_chunks}

@@ -1,4 +1,4 @@
-use Rattle.std.proofs.Common.{◌≡◌, ◌-◌, ◌≤◌, length, take, max}
+use Rattle.std.proofs.Common.{◌≡◌, ◌-◌, length, take}
 use Rattle.sctp_queues.proofs.payload_queue.PayloadQueue.try_clone.Given as goal
 
 abbrev pub invariant-loop-place : goal.invariant-loop-place

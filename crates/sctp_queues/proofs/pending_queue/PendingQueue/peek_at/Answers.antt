@@ -1,4 +1,4 @@
-use Rattle.std.proofs.Common.{◌≡◌, ◌+◌, ◌-◌, ◌<◌, ◌≤◌, true, length, sym, ◌∙◌, subst, arith}
+use Rattle.std.proofs.Common.{◌≡◌, ◌-◌, ◌<◌, true, sym, ◌∙◌, subst, arith}
 use Rattle.sctp_queues.specs.Whole.{has_end, ordered_first}
 use Rattle.sctp_queues.proofs.Order.{at_first, at_unordered, at_last}
 use Rattle.sctp_queues.proofs.pending_queue.PendingQueue.peek_at.Goals as goal

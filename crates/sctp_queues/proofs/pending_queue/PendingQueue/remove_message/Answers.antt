@@ -1,4 +1,4 @@
-use Rattle.std.proofs.Common.{◌≡◌, ap, ap₂, sym, ◌∙◌}
+use Rattle.std.proofs.Common.{ap₂, sym, ◌∙◌}
 use Rattle.std.specs.Option.{option_or}
 use Rattle.sctp_lists.specs.Lists.{those}
 use Rattle.sctp_queues.specs.Marks.{is_of}

@@ -1,5 +1,4 @@
-use Rattle.std.proofs.Common.{◌≤◌, length, sym, ap, subst, arith}
-use Rattle.sctp_queues.specs.Loose.{IsMark}
+use Rattle.std.proofs.Common.{length, ap, arith}
 use Rattle.sctp_queues.proofs.RunLemmas.{mark_after_drop}
 use Rattle.sctp_queues.proofs.pool.Pool.drop_front.Goals as goal
 

@@ -1,4 +1,4 @@
-use Rattle.std.proofs.Common.{◌≡◌, sym, ap, subst, ◌∙◌}
+use Rattle.std.proofs.Common.{ap, subst}
 use Rattle.sctp_queues.specs.Runs.{HasNoRun}
 use Rattle.sctp_queues.proofs.SetLemmas.{state_of}
 use Rattle.sctp_queues.proofs.reassembly_queue.ReassemblyQueue.find_complete_unordered_chunk_set.Goals as goal

@@ -1,4 +1,4 @@
-use Rattle.std.proofs.Common.{◌≡◌, ◌-◌, ap₂, ◌∙◌, sym, subst, ap}
+use Rattle.std.proofs.Common.{◌-◌, ap₂, ◌∙◌, sym, subst, ap}
 use Rattle.sctp_lists.specs.Lists.{those}
 use Rattle.sctp_queues.specs.Reassembly.{is_passed, set_bytes}
 use Rattle.sctp_queues.proofs.SetLemmas.{state_of}

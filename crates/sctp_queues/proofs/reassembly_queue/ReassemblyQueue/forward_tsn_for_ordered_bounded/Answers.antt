@@ -1,4 +1,4 @@
-use Rattle.std.proofs.Common.{◌≡◌, ◌-◌, if◌then◌else◌, ap, ap₂, ◌∙◌, sym, subst}
+use Rattle.std.proofs.Common.{◌-◌, if◌then◌else◌, ap, ap₂, ◌∙◌, sym, subst}
 use Rattle.sctp_lists.specs.Serial.{comes_before16}
 use Rattle.sctp_lists.specs.Lists.{those}
 use Rattle.sctp_queues.specs.Reassembly.{set_bytes}

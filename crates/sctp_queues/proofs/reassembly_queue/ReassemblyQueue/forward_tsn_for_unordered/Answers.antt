@@ -3,10 +3,9 @@ use Rattle.std.specs.List.{position_or_len}
 use Rattle.sctp_lists.specs.Serial.{at_or_before}
 use Rattle.sctp_lists.specs.Lists.{after_leading}
 use Rattle.sctp_queues.specs.DataChunks.{bytes_of}
-use Rattle.sctp_queues.specs.Reassembly.{leading_upto}
 use Rattle.sctp_queues.proofs.ListLemmas.{after_leading-position}
 use Rattle.sctp_queues.proofs.SetLemmas.{state_of, leading_upto-position}
-use Rattle.sctp_queues.specs.Reassembly.{ReassemblyState, IsCounted, complete_sets}
+use Rattle.sctp_queues.specs.Reassembly.{IsCounted}
 use Rattle.sctp_queues.proofs.CountLemmas.{drop_counted}
 use Rattle.sctp_queues.proofs.reassembly_queue.ReassemblyQueue.forward_tsn_for_unordered.Goals as goal
 

@@ -1,5 +1,4 @@
-use Rattle.std.proofs.Common.{◌≡◌, ◌∷◌, ◌++◌, [], List, take, drop, length, sym, ap, ap₂, subst, ◌∙◌}
-use Rattle.sctp_chunks.specs.declared.chunk.chunk_payload_data.ChunkPayloadData.{ChunkPayloadData}
+use Rattle.std.proofs.Common.{◌∷◌, ◌++◌, [], List, ap, ap₂, subst, ◌∙◌}
 use Rattle.sctp_chunks.specs.ChunkSet.{ChunkSet}
 use Rattle.sctp_queues.specs.Runs.{HasNoRun}
 use Rattle.sctp_queues.specs.Reassembly.{Reassembly, set_of_run, count_up}

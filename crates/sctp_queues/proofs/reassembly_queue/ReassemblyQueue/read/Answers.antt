@@ -1,4 +1,4 @@
-use Rattle.std.proofs.Common.{◌≡◌, ◌-◌, ap, ◌∙◌}
+use Rattle.std.proofs.Common.{◌-◌, ap, ◌∙◌}
 use Rattle.sctp_queues.specs.DataChunks.{bytes_of}
 use Rattle.sctp_queues.specs.Reassembly.{ReassemblyState, rest_read, bytes_read}
 use Rattle.sctp_queues.proofs.reassembly_queue.ReassemblyQueue.read.Goals as goal
