@@ -1,9 +1,9 @@
 //! Worked examples of streams.
 
-use crate::stream::{DataChannelStats, RecvSendState, StreamState};
 use bytes::Bytes;
 use sctp_base::error::Error;
 use sctp_chunks::chunk::chunk_payload_data::{PayloadProtocolIdentifier, ReliabilityType};
+use sctp_link::stream::{DataChannelStats, RecvSendState, StreamState};
 use std::alloc::Global;
 use std::test::Fail;
 

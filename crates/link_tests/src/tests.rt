@@ -1,13 +1,13 @@
 ghost use Rattle.std.specs.Prelude.{IfOk};
 ghost use Rattle.sctp_link.specs.Replies.{IsBuilt};
 
-use crate::event::{Event, LinkRefusal, Reply};
-use crate::link::Link;
-use crate::link::lending::Ledger;
-use crate::stream::DataChannelStats;
 use bytes::{Bytes, BytesMut};
 use sctp_base::util::Checksum;
 use sctp_chunks::chunk::chunk_payload_data::{PayloadProtocolIdentifier, ReliabilityType};
+use sctp_link::event::{Event, LinkRefusal, Reply};
+use sctp_link::link::Link;
+use sctp_link::link::lending::Ledger;
+use sctp_link::stream::DataChannelStats;
 use sctp_queues::chunks::Chunks;
 use std::alloc::Global;
 use std::cell::Cell;

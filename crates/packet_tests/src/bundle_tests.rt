@@ -1,4 +1,3 @@
-use crate::packet::{CommonHeader, Packet, PartialDecode};
 use crate::tests::{Answer, ZERO, packet_bytes, read_chunks};
 use bytes::Bytes;
 use sctp_base::error::Error;
@@ -6,6 +5,7 @@ use sctp_base::param::param_kind::ParamKind;
 use sctp_base::util::{CT_COOKIE_ACK, CT_COOKIE_ECHO, CT_INIT, CT_INIT_ACK, ChunkType};
 use sctp_chunks::chunk::chunk_init::ChunkInit;
 use sctp_chunks::chunk::chunk_kind::ChunkKind;
+use sctp_packets::packet::{CommonHeader, Packet, PartialDecode};
 use std::alloc::Global;
 use std::test::Fail;
 

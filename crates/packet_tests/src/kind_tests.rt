@@ -1,4 +1,3 @@
-use crate::packet::Packet;
 use crate::tests::{packet_of, read_chunks, refusal, rewritten, written_behind};
 use bytes::{Bytes, BytesMut};
 use sctp_base::error::Error;
@@ -16,6 +15,7 @@ use sctp_chunks::chunk::chunk_kind::ChunkKind;
 use sctp_chunks::chunk::chunk_reconfig::ChunkReconfig;
 use sctp_chunks::chunk::chunk_selective_ack::{ChunkSelectiveAck, GapAckBlock};
 use sctp_chunks::chunk::error_cause::{ErrorCause, USER_INITIATED_ABORT};
+use sctp_packets::packet::Packet;
 use std::alloc::Global;
 use std::test::Fail;
 

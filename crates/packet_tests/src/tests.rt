@@ -1,4 +1,3 @@
-use crate::packet::{CommonHeader, Packet};
 use bytes::{Bytes, BytesMut};
 use sctp_base::error::Error;
 use sctp_base::util::{
@@ -9,6 +8,7 @@ use sctp_chunks::chunk::Chunk;
 use sctp_chunks::chunk::chunk_header::ChunkHeader;
 use sctp_chunks::chunk::chunk_kind::ChunkKind;
 use sctp_chunks::chunk::chunk_payload_data::{ChunkPayloadData, PayloadProtocolIdentifier};
+use sctp_packets::packet::{CommonHeader, Packet};
 use std::alloc::Global;
 use std::cell::Cell;
 use std::test::Fail;
