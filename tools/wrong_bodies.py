@@ -1,13 +1,13 @@
 #!/usr/bin/env python3
 """Tries every wrong body of a crate and judges each by the function that it turns; or packs them into few files.
 
-    python3 tools/wrong_bodies.py CRATE [JOBS]
+    python3 tools/wrong_bodies.py CRATE [JOBS [WORD..]]
     python3 tools/wrong_bodies.py --pack CRATE
 
 run at the top of the repository. The first finds the kit's command `rt` on the PATH and runs over libraries that `rt check` has proved. The gate
 asks of a file in must-fail/ only that the crate with all its wrong bodies is refused; here they are put into as few copies of the crate as have
 at most one in each function, and each must be refused in its own function. Prints those that are not, and ends with a count; the exit status is
-0 where each was refused.
+0 where each was refused. With words it tries those alone whose file's name or title has one of them.
 
 With --pack it tries nothing: it writes must-fail/ anew, so that all wrong bodies stand in as few files 0_bodies.edit, 1_bodies.edit, .. as have
 at most one in each function, the largest first. A file whose first line begins with "Alone: " stays as it is. Each body keeps its texts and its
@@ -206,11 +206,12 @@ def main():
         for name in sys.argv[2:]:
             pack(f"crates/{name}")
         return 0
-    crate_name, jobs = sys.argv[1], sys.argv[2] if len(sys.argv) > 2 else "4"
+    crate_name, jobs, words = sys.argv[1], sys.argv[2] if len(sys.argv) > 2 else "4", sys.argv[3:]
     sys.argv = ["rt"]
     rt = kit()
     crate = next(it for it in rt.rtlib.crates_below(os.getcwd()) if it.name == crate_name)
     bodies = [it for edit in rt.edits_of(crate)[0] for it in named(edit)]
+    bodies = [it for it in bodies if not words or any(word in it[0] for word in words)]
     survived = 0
     with tempfile.TemporaryDirectory(prefix="wrong-bodies-") as room:
         kept = f"{room}/kept"
