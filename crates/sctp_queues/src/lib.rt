@@ -7,16 +7,12 @@ pub mod laws;
 mod line;
 pub mod loose;
 mod loose_places;
-#[cfg(test)]
-mod order_tests;
 mod ordered_sets;
 pub mod outbound_queue;
 pub mod payload_queue;
 pub mod pending_queue;
 pub mod pool;
 pub mod reassembly_queue;
-#[cfg(test)]
-mod reassembly_tests;
 mod serial;
 mod sizes;
 mod skips;

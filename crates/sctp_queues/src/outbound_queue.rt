@@ -508,6 +508,3 @@ fn is_late(chunk: &ChunkPayloadData, pending: &PendingQueue, now: u64) -> bool
         && is_past(chunk.deadline, now)
         && (!chunk.acked || pending.contains_message(chunk.message_id))
 }
-
-#[cfg(test)]
-mod tests;

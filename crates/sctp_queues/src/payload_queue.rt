@@ -631,6 +631,3 @@ impl PayloadQueue {
         self.held.look(place, &mut Turns::new())
     }
 }
-
-#[cfg(test)]
-pub(crate) mod tests;

@@ -321,6 +321,3 @@ fn selected_without(selected: Option<Selected>, message_id: u64) -> Option<Selec
         None => None,
     }
 }
-
-#[cfg(test)]
-mod tests;

@@ -1,14 +1,18 @@
 //! Worked examples of an outbound queue. Moments are nanoseconds; the lifetimes here are one millisecond.
 
 ghost use Rattle.std.specs.Prelude.{◌≡◌, ◌<◌, true, false, IfOk};
+ghost use Rattle.std.specs.List.{All};
 ghost use Rattle.sctp_queues.specs.Whole.{IsMessageOrNone};
-ghost use Rattle.sctp_queues.specs.Window.{SpansOneWindow, is_held};
+ghost use Rattle.sctp_queues.specs.Window.{IsWithinHalf, SpansOneWindow, is_held};
 ghost use Rattle.sctp_queues.specs.DataChunks.{bytes_of};
 
-use super::*;
-use crate::payload_queue::tests::{chunk, fits};
+use crate::chunk::chunk;
+use crate::payload_queue::is_within_half;
 use bytes::Bytes;
-use sctp_chunks::chunk::chunk_payload_data::ReliabilityType;
+use sctp_base::error::Error;
+use sctp_chunks::chunk::chunk_payload_data::{ChunkPayloadData, ReliabilityType};
+use sctp_queues::outbound_queue::OutboundQueue;
+use std::alloc::Global;
 use std::test::Fail;
 
 const MILLISECOND: u64 = 1_000_000;
@@ -39,7 +43,7 @@ fn fragment(
 }
 
 // `abcdefg` in three fragments.
-fn letters(alloc: Global, timed: bool) -> Result<Vec<ChunkPayloadData>>
+fn letters(alloc: Global, timed: bool) -> Result<Vec<ChunkPayloadData>, Error>
     ensures message { IfOk result (λ v. IsMessageOrNone v.items) }
     ensures bytes { IfOk result (λ v. bytes_of v.items < 100) }
 {
@@ -57,7 +61,7 @@ fn letter(
     number: u16,
     unordered: bool,
     timed: bool,
-) -> Result<Vec<ChunkPayloadData>>
+) -> Result<Vec<ChunkPayloadData>, Error>
     ensures message { IfOk result (λ v. IsMessageOrNone v.items) }
     ensures bytes { IfOk result (λ v. bytes_of v.items < 100) }
 {
@@ -75,7 +79,7 @@ fn letter(
     Ok(chunks)
 }
 
-fn push(queue: &mut OutboundQueue, chunks: Vec<ChunkPayloadData>) -> Result<()>
+fn push(queue: &mut OutboundQueue, chunks: Vec<ChunkPayloadData>) -> Result<(), Error>
     requires message { IsMessageOrNone chunks.items }
     requires bytes { bytes_of chunks.items < 100 }
 {
@@ -88,15 +92,32 @@ fn push(queue: &mut OutboundQueue, chunks: Vec<ChunkPayloadData>) -> Result<()>
     Ok(())
 }
 
+// How far behind the next TSN those in flight may lie here.
+const REACH: u32 = 1000;
+
+// Whether so many TSNs behind the base are in flight as there are chunks in flight, so that no other is.
+fn are_behind(queue: &OutboundQueue, base: u32) -> bool
+    ensures { result ≡ true → All (λ c. IsWithinHalf base c.tsn) queue.now.inflight.chunks }
+{
+    let mut found = 0usize;
+    for step in 0..REACH {
+        if queue.get(base.wrapping_add(step + 1)).is_some() {
+            found += 1;
+        }
+    }
+    found == queue.inflight_len()
+}
+
 // Whether the TSN is free, in one window with those in flight.
 fn is_free(queue: &OutboundQueue, tsn: u32) -> bool
     ensures fresh { result ≡ true → is_held queue.now.inflight.chunks tsn ≡ false }
     ensures window { result ≡ true → SpansOneWindow queue.now.inflight.chunks tsn }
 {
-    queue.get(tsn).is_none() && fits(&queue.inflight, tsn.wrapping_sub(1000), tsn)
+    let base = tsn.wrapping_sub(REACH);
+    queue.get(tsn).is_none() && is_within_half(base, tsn) && are_behind(queue, base)
 }
 
-fn send(queue: &mut OutboundQueue, next_tsn: &mut u32, now: u64) -> Result<Option<u32>> {
+fn send(queue: &mut OutboundQueue, next_tsn: &mut u32, now: u64) -> Result<Option<u32>, Error> {
     if is_free(queue, *next_tsn) {
         return queue.send_next(next_tsn, now);
     }
@@ -107,7 +128,7 @@ fn abandon(
     queue: &mut OutboundQueue,
     tsn: u32,
     next_tsn: &mut u32,
-) -> Result<Option<(u16, usize)>> {
+) -> Result<Option<(u16, usize)>, Error> {
     if is_free(queue, *next_tsn) {
         return queue.abandon(tsn, next_tsn);
     }
@@ -118,7 +139,7 @@ fn expire_tail(
     queue: &mut OutboundQueue,
     now: u64,
     next_tsn: &mut u32,
-) -> Result<Option<(u16, u64, usize)>> {
+) -> Result<Option<(u16, u64, usize)>, Error> {
     if is_free(queue, *next_tsn) {
         return queue.expire_pending_tail(now, next_tsn);
     }
@@ -126,7 +147,7 @@ fn expire_tail(
 }
 
 // `abcdefg`, its first fragment sent under TSN 10.
-fn half_sent(alloc: Global) -> Result<OutboundQueue> {
+fn half_sent(alloc: Global) -> Result<OutboundQueue, Error> {
     let mut queue = OutboundQueue::new(alloc);
     push(&mut queue, letters(alloc, false)?)?;
     send(&mut queue, &mut 10, 0)?;
@@ -134,7 +155,7 @@ fn half_sent(alloc: Global) -> Result<OutboundQueue> {
 }
 
 #[test]
-fn leaves_an_end_mark(rt: HostRuntime) -> std::result::Result<(), Fail> {
+fn leaves_an_end_mark(rt: HostRuntime) -> Result<(), Fail> {
     let mut queue = half_sent(rt.alloc())?;
     let mut tsn = 11;
     assert_eq!(rt; abandon(&mut queue, 10, &mut tsn)?, Some((1, 7)));
@@ -158,7 +179,7 @@ fn leaves_an_end_mark(rt: HostRuntime) -> std::result::Result<(), Fail> {
 }
 
 #[test]
-fn abandons_once(rt: HostRuntime) -> std::result::Result<(), Fail> {
+fn abandons_once(rt: HostRuntime) -> Result<(), Fail> {
     let mut queue = half_sent(rt.alloc())?;
     let mut tsn = 11;
     assert_eq!(rt; abandon(&mut queue, 99, &mut tsn)?, None);
@@ -177,7 +198,7 @@ fn abandons_once(rt: HostRuntime) -> std::result::Result<(), Fail> {
 }
 
 // `abcdefg` with a lifetime, its first fragment sent under TSN 10 and acknowledged.
-fn acknowledged_in_part(alloc: Global) -> Result<OutboundQueue> {
+fn acknowledged_in_part(alloc: Global) -> Result<OutboundQueue, Error> {
     let mut queue = OutboundQueue::new(alloc);
     push(&mut queue, letters(alloc, true)?)?;
     send(&mut queue, &mut 10, 0)?;
@@ -186,7 +207,7 @@ fn acknowledged_in_part(alloc: Global) -> Result<OutboundQueue> {
 }
 
 #[test]
-fn lists_what_is_late(rt: HostRuntime) -> std::result::Result<(), Fail> {
+fn lists_what_is_late(rt: HostRuntime) -> Result<(), Fail> {
     let queue = acknowledged_in_part(rt.alloc())?;
     assert_eq!(rt; (queue.inflight_len(), queue.inflight_bytes()), (1, 0));
     for (now, want) in [(MILLISECOND - 1, 0), (MILLISECOND, 1)] {
@@ -198,7 +219,7 @@ fn lists_what_is_late(rt: HostRuntime) -> std::result::Result<(), Fail> {
 }
 
 #[test]
-fn gives_up_a_tail(rt: HostRuntime) -> std::result::Result<(), Fail> {
+fn gives_up_a_tail(rt: HostRuntime) -> Result<(), Fail> {
     let mut queue = acknowledged_in_part(rt.alloc())?;
     let popped = [queue.pop(11).is_some(), queue.pop(10).is_some()];
     assert_eq!(rt; popped, [false, true]);
@@ -220,7 +241,7 @@ fn numbers(chunk: Option<&ChunkPayloadData>) -> Option<(u64, u16)> {
 }
 
 // Two messages on stream 1, the first with a lifetime, and one with a lifetime on stream 2. The lifetimes begin at 0.
-fn lapsing(alloc: Global) -> Result<OutboundQueue> {
+fn lapsing(alloc: Global) -> Result<OutboundQueue, Error> {
     let mut queue = OutboundQueue::new(alloc);
     for (stream_identifier, number, timed) in [(1, 0, true), (1, 1, false), (2, 0, true)] {
         push(
@@ -233,7 +254,7 @@ fn lapsing(alloc: Global) -> Result<OutboundQueue> {
 }
 
 #[test]
-fn closes_up_later_numbers(rt: HostRuntime) -> std::result::Result<(), Fail> {
+fn closes_up_later_numbers(rt: HostRuntime) -> Result<(), Fail> {
     let mut queue = lapsing(rt.alloc())?;
     for (now, want) in [
         (MILLISECOND - 1, None),
@@ -254,7 +275,7 @@ fn closes_up_later_numbers(rt: HostRuntime) -> std::result::Result<(), Fail> {
 }
 
 #[test]
-fn starts_no_lifetime_twice(rt: HostRuntime) -> std::result::Result<(), Fail> {
+fn starts_no_lifetime_twice(rt: HostRuntime) -> Result<(), Fail> {
     let mut queue = lapsing(rt.alloc())?;
     queue.expire_pending(MILLISECOND);
     queue.start_timed_messages(7 * MILLISECOND);
@@ -266,7 +287,7 @@ fn starts_no_lifetime_twice(rt: HostRuntime) -> std::result::Result<(), Fail> {
 }
 
 #[test]
-fn starts_at_the_end_of_time(rt: HostRuntime) -> std::result::Result<(), Fail> {
+fn starts_at_the_end_of_time(rt: HostRuntime) -> Result<(), Fail> {
     for (start, want) in [
         (u64::MAX - MILLISECOND, Some((1, false, 1))),
         (u64::MAX, None),
@@ -281,7 +302,7 @@ fn starts_at_the_end_of_time(rt: HostRuntime) -> std::result::Result<(), Fail> {
 }
 
 #[test]
-fn peeks_in_order(rt: HostRuntime) -> std::result::Result<(), Fail> {
+fn peeks_in_order(rt: HostRuntime) -> Result<(), Fail> {
     let mut queue = half_sent(rt.alloc())?;
     queue.reserve(1, 1)?;
     push(&mut queue, letter(rt.alloc(), 1, 1, false, false)?)?;
@@ -298,7 +319,7 @@ fn peeks_in_order(rt: HostRuntime) -> std::result::Result<(), Fail> {
 }
 
 #[test]
-fn sends_around_the_end(rt: HostRuntime) -> std::result::Result<(), Fail> {
+fn sends_around_the_end(rt: HostRuntime) -> Result<(), Fail> {
     let mut queue = OutboundQueue::new(rt.alloc());
     let mut tsn = 4294967295;
     queue.reserve_inflight(3)?;
@@ -311,7 +332,7 @@ fn sends_around_the_end(rt: HostRuntime) -> std::result::Result<(), Fail> {
 }
 
 #[test]
-fn marks_what_is_in_flight(rt: HostRuntime) -> std::result::Result<(), Fail> {
+fn marks_what_is_in_flight(rt: HostRuntime) -> Result<(), Fail> {
     let mut queue = half_sent(rt.alloc())?;
     queue.mark_all_to_retransmit();
     assert!(rt;
@@ -335,7 +356,7 @@ fn marks_what_is_in_flight(rt: HostRuntime) -> std::result::Result<(), Fail> {
 }
 
 #[test]
-fn pushes_nothing(rt: HostRuntime) -> std::result::Result<(), Fail> {
+fn pushes_nothing(rt: HostRuntime) -> Result<(), Fail> {
     let mut queue = OutboundQueue::new(rt.alloc());
     let none: Vec<ChunkPayloadData> = Vec::new(rt.alloc());
     push(&mut queue, none)?;

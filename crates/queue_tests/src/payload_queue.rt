@@ -1,43 +1,18 @@
 //! Worked examples of a payload queue.
 
-ghost use Rattle.std.specs.Prelude.{◌≡◌, ◌<◌, ◌+◌, ◌^◌, [], length, true, false};
+ghost use Rattle.std.specs.Prelude.{◌≡◌, ◌<◌, ◌^◌, true, false};
 ghost use Rattle.sctp_queues.specs.Window.{IsWindow, IsWithinHalf};
 ghost use Rattle.sctp_queues.specs.DataChunks.{bytes_of};
 
-use super::*;
-use bytes::Bytes;
-use sctp_chunks::chunk::chunk_payload_data::PayloadProtocolIdentifier;
+use crate::chunk::chunk;
+use sctp_base::error::Error;
+use sctp_queues::payload_queue::PayloadQueue;
+use sctp_queues::turns::Turns;
+use std::alloc::Global;
 use std::test::Fail;
 
-/// A whole message of one byte.
-pub(crate) fn chunk(tsn: u32) -> ChunkPayloadData
-    ensures tsn { result.tsn ≡ tsn }
-    ensures len { length result.user_data ≡ 1 }
-{
-    ChunkPayloadData {
-        unordered: false,
-        beginning_fragment: true,
-        ending_fragment: true,
-        immediate_sack: false,
-        tsn,
-        stream_identifier: 1,
-        stream_sequence_number: 0,
-        payload_type: PayloadProtocolIdentifier::Binary,
-        user_data: Bytes::from_static(&[7]),
-        acked: false,
-        miss_indicator: 0,
-        message_id: 0,
-        abandoned: false,
-        since: None,
-        reliability: None,
-        deadline: None,
-        nsent: 0,
-        retransmit: false,
-    }
-}
-
-/// Whether all that is held and the TSN lie at distance 1 to 2^31 after the cumulative TSN.
-pub(crate) fn fits(queue: &PayloadQueue, cumulative_tsn: u32, tsn: u32) -> bool
+// Whether all that is held and the TSN lie at distance 1 to 2^31 after the cumulative TSN.
+fn fits(queue: &PayloadQueue, cumulative_tsn: u32, tsn: u32) -> bool
     ensures window { result ≡ true → IsWindow cumulative_tsn queue.now.chunks tsn }
     ensures bytes { result ≡ true → bytes_of queue.now.chunks < 1000 }
 {
@@ -56,7 +31,7 @@ pub(crate) fn fits(queue: &PayloadQueue, cumulative_tsn: u32, tsn: u32) -> bool
 }
 
 #[tactic(auto, unfolding(sctp_lists::specs::Serial::distance))]
-fn is_within_half(base: u32, tsn: u32) -> bool
+pub(crate) fn is_within_half(base: u32, tsn: u32) -> bool
     ensures within { result ≡ true → IsWithinHalf base tsn }
     ensures fits { base < 2 ^ 32 }
 {
@@ -65,7 +40,7 @@ fn is_within_half(base: u32, tsn: u32) -> bool
 }
 
 // The answers of the pushes are left out: a queue in which they came.
-fn filled(alloc: Global, cumulative_tsn: u32, tsns: &[u32]) -> Result<PayloadQueue> {
+fn filled(alloc: Global, cumulative_tsn: u32, tsns: &[u32]) -> Result<PayloadQueue, Error> {
     let mut queue = PayloadQueue::new(alloc);
     for tsn in tsns {
         if fits(&queue, cumulative_tsn, *tsn) {
@@ -76,7 +51,7 @@ fn filled(alloc: Global, cumulative_tsn: u32, tsns: &[u32]) -> Result<PayloadQue
 }
 
 #[test]
-fn reports_blocks(rt: HostRuntime) -> std::result::Result<(), Fail> {
+fn reports_blocks(rt: HostRuntime) -> Result<(), Fail> {
     for (cumulative_tsn, tsns, want) in [
         (10, [12, 13, 15], "cumTSN=10,2-3,5-5"),
         (10, [15, 12, 13], "cumTSN=10,2-3,5-5"),
@@ -97,7 +72,7 @@ fn reports_blocks(rt: HostRuntime) -> std::result::Result<(), Fail> {
 }
 
 #[test]
-fn reports_runs_from_any_tsn(rt: HostRuntime) -> std::result::Result<(), Fail> {
+fn reports_runs_from_any_tsn(rt: HostRuntime) -> Result<(), Fail> {
     let queue = filled(
         rt.alloc(),
         10,
@@ -119,7 +94,7 @@ fn reports_runs_from_any_tsn(rt: HostRuntime) -> std::result::Result<(), Fail> {
 }
 
 #[test]
-fn pops_half_a_circle(rt: HostRuntime) -> std::result::Result<(), Fail> {
+fn pops_half_a_circle(rt: HostRuntime) -> Result<(), Fail> {
     let mut queue = filled(rt.alloc(), 10, &[12, 13, 2147483658])?;
     queue.pop_up_to(2147483657);
     assert_eq!(rt; (queue.len(), queue.tsn_at(0)), (1, Some(2147483658)));
@@ -130,7 +105,7 @@ fn pops_half_a_circle(rt: HostRuntime) -> std::result::Result<(), Fail> {
 }
 
 #[test]
-fn notes_duplicates(rt: HostRuntime) -> std::result::Result<(), Fail> {
+fn notes_duplicates(rt: HostRuntime) -> Result<(), Fail> {
     let mut queue = filled(rt.alloc(), 10, &[12, 13])?;
     let mut answers = [(true, true); 3];
     for (place, tsn) in [12, 10, 14].iter().enumerate() {
@@ -155,7 +130,7 @@ fn notes_duplicates(rt: HostRuntime) -> std::result::Result<(), Fail> {
 }
 
 // Pushes where that is allowed; a TSN at or before the cumulative one is.
-fn push_any(queue: &mut PayloadQueue, tsn: u32) -> Result<bool> {
+fn push_any(queue: &mut PayloadQueue, tsn: u32) -> Result<bool, Error> {
     if !queue.can_push(&chunk(tsn), 10) || fits(queue, 10, tsn) {
         return queue.push(chunk(tsn), 10);
     }
@@ -174,7 +149,7 @@ fn marks(queue: &PayloadQueue, tsn: u32) -> Option<(bool, u32, Option<u64>, u8)>
 }
 
 #[test]
-fn marks_a_chunk(rt: HostRuntime) -> std::result::Result<(), Fail> {
+fn marks_a_chunk(rt: HostRuntime) -> Result<(), Fail> {
     let mut queue = filled(rt.alloc(), 10, &[11])?;
     let set = [
         queue.set_retransmit(11, true),
@@ -190,7 +165,7 @@ fn marks_a_chunk(rt: HostRuntime) -> std::result::Result<(), Fail> {
 }
 
 #[test]
-fn acknowledges_once(rt: HostRuntime) -> std::result::Result<(), Fail> {
+fn acknowledges_once(rt: HostRuntime) -> Result<(), Fail> {
     let mut queue = filled(rt.alloc(), 10, &[13, 11, 12])?;
     let given = [
         queue.mark_as_acked(12),
@@ -208,7 +183,7 @@ fn acknowledges_once(rt: HostRuntime) -> std::result::Result<(), Fail> {
 }
 
 #[test]
-fn takes_out(rt: HostRuntime) -> std::result::Result<(), Fail> {
+fn takes_out(rt: HostRuntime) -> Result<(), Fail> {
     let mut queue = filled(rt.alloc(), 10, &[13, 11, 12])?;
     let copy = queue.try_clone(rt.alloc())?;
     let taken = [
@@ -229,7 +204,7 @@ fn takes_out(rt: HostRuntime) -> std::result::Result<(), Fail> {
 }
 
 #[test]
-fn pushes_within_room(rt: HostRuntime) -> std::result::Result<(), Fail> {
+fn pushes_within_room(rt: HostRuntime) -> Result<(), Fail> {
     let mut queue = PayloadQueue::new(rt.alloc());
     queue.reserve(2)?;
     for tsn in [11, 12] {

@@ -1,13 +1,76 @@
-//! Fragments and sets that come in any order: where they stand is worked out from the order of
-//! serial numbers by hand.
+//! Worked examples of messages: taken whole and in pieces, and their fragments in any order. Where those stand is worked out
+//! from the order of serial numbers by hand.
 
-use crate::chunks::Fragments;
-use crate::reassembly_queue::ReassemblyQueue;
-use crate::reassembly_tests::{FIRST, LAST, MIDDLE, WHOLE, ordered, reads};
+use crate::part::{FIRST, LAST, MIDDLE, WHOLE, ordered};
+use sctp_base::error::Error;
 use sctp_chunks::chunk::chunk_payload_data::PayloadProtocolIdentifier;
+use sctp_queues::chunks::{Chunks, Fragments};
 use std::alloc::Global;
 use std::process::Abort;
 use std::test::Fail;
+
+// A message of two fragments, `ab` and `cd`; whether each push made it whole, the third one a repeat.
+fn letters(alloc: Global) -> Result<(Chunks, [bool; 3]), Error> {
+    let mut message = Chunks::new(0, PayloadProtocolIdentifier::String, Vec::new(alloc));
+    let first = message.push(ordered(alloc, 10, 0, FIRST, b"ab")?)?;
+    let second = message.push(ordered(alloc, 11, 0, LAST, b"cd")?)?;
+    let third = message.push(ordered(alloc, 11, 0, LAST, b"xx")?)?;
+    Ok((message, [first, second, third]))
+}
+
+#[test]
+fn a_message_is_whole_at_its_last_fragment(rt: HostRuntime) -> Result<(), Fail> {
+    let (message, whole) = letters(rt.alloc())?;
+    assert_eq!(rt; whole, [false, true, false]);
+    assert_eq!(rt;
+        (message.len(), message.is_empty(), message.is_complete()),
+        (4, false, true)
+    );
+    let mut short = [0; 3];
+    assert_eq!(rt; message.read(&mut short), Err(Error::ErrShortBuffer));
+    assert_eq!(rt; short.as_slice(), b"abc".as_slice());
+    let mut long = [9; 5];
+    assert_eq!(rt; message.read(&mut long), Ok(4));
+    assert_eq!(rt; long.as_slice(), [97, 98, 99, 100, 9].as_slice());
+    Ok(())
+}
+
+#[test]
+fn a_message_is_taken_in_pieces(rt: HostRuntime) -> Result<(), Fail> {
+    let alloc = rt.alloc();
+    let (mut message, _whole) = letters(alloc)?;
+    piece_is(&rt, &mut message, alloc, 3, Some(b"abc"))?;
+    let mut rest = message.try_clone(alloc)?;
+    for (len, want) in [(0, b"".as_slice()), (9, b"d".as_slice())] {
+        piece_is(&rt, &mut rest, alloc, len, Some(want))?;
+    }
+    piece_is(&rt, &mut message, alloc, 3, Some(b"d"))?;
+    piece_is(&rt, &mut message, alloc, 3, None)
+}
+
+#[test]
+fn an_empty_fragment_is_one_piece(rt: HostRuntime) -> Result<(), Fail> {
+    let alloc = rt.alloc();
+    let mut message = Chunks::new(0, PayloadProtocolIdentifier::String, Vec::new(alloc));
+    piece_is(&rt, &mut message, alloc, 3, None)?;
+    assert!(rt; message.push(ordered(alloc, 10, 0, WHOLE, b"")?)?);
+    assert!(rt; message.is_empty());
+    piece_is(&rt, &mut message, alloc, 3, Some(b""))?;
+    piece_is(&rt, &mut message, alloc, 3, None)
+}
+
+// The next piece has these bytes, or there is none.
+fn piece_is(
+    rt: &impl Abort,
+    message: &mut Chunks,
+    alloc: Global,
+    len: usize,
+    bytes: Option<&[u8]>,
+) -> Result<(), Fail> {
+    let piece = message.next(alloc, len)?;
+    assert_eq!(rt; piece.as_ref().map(|p| p.bytes.as_slice()), bytes);
+    Ok(())
+}
 
 // Fragments of these TSNs, put in one after another behind those that are given at once.
 fn put(alloc: Global, given: &[u32], tsns: &[u32]) -> Result<Fragments, Fail> {
@@ -82,69 +145,5 @@ fn fragments_may_be_given_in_any_order(rt: HostRuntime) -> Result<(), Fail> {
     tsns_are(&rt, &set, &[9, 10, 12, 13, 14]);
     let set = put(rt.alloc(), &[10, 2147483658, 9], &[11, 9])?;
     tsns_are(&rt, &set, &[10, 11, 2147483658, 9]);
-    Ok(())
-}
-
-// A queue that skipped up to these numbers, and that whole messages of these came to.
-fn came(alloc: Global, skipped: &[u16], ssns: &[u16]) -> Result<ReassemblyQueue, Fail> {
-    let mut queue = ReassemblyQueue::new(alloc, 1, 100);
-    for ssn in skipped {
-        queue.forward_tsn_for_ordered(*ssn);
-    }
-    for ssn in ssns {
-        let _whole = queue.push(ordered(alloc, u32::from(*ssn), *ssn, WHOLE, b"x")?)?;
-    }
-    Ok(queue)
-}
-
-// The sets have these numbers.
-fn ssns_are(rt: &impl Abort, queue: &ReassemblyQueue, want: &[u16]) {
-    assert_eq!(rt; queue.ordered().len(), want.len());
-    for (set, ssn) in queue.ordered().iter().zip(want.iter()) {
-        assert_eq!(rt; set.ssn(), *ssn);
-    }
-}
-
-#[test]
-fn messages_that_come_in_reverse_are_read_in_order(rt: HostRuntime) -> Result<(), Fail> {
-    let mut queue = came(rt.alloc(), &[], &[4, 3, 2, 1, 0])?;
-    ssns_are(&rt, &queue, &[0, 1, 2, 3, 4]);
-    for _ in 0..5 {
-        reads(&rt, &mut queue, b"x");
-    }
-    assert!(rt; !queue.is_readable());
-    Ok(())
-}
-
-#[test]
-fn messages_stand_in_order_where_numbers_wrap(rt: HostRuntime) -> Result<(), Fail> {
-    for ssns in [[1, 65534, 0, 65535, 2], [65535, 2, 65534, 1, 0]] {
-        let queue = came(rt.alloc(), &[32767, 65533], &ssns)?;
-        ssns_are(&rt, &queue, &[65534, 65535, 0, 1, 2]);
-    }
-    Ok(())
-}
-
-// 0 and 32768 lie half a circle apart, so neither comes before the other; 1 comes before 32768.
-#[test]
-fn a_message_half_a_circle_away_goes_behind(rt: HostRuntime) -> Result<(), Fail> {
-    let queue = came(rt.alloc(), &[], &[0, 32768, 1, 32767, 1])?;
-    ssns_are(&rt, &queue, &[0, 1, 32767, 32768]);
-    let queue = came(rt.alloc(), &[], &[32768, 0, 1, 32767, 0])?;
-    ssns_are(&rt, &queue, &[1, 32767, 32768, 0]);
-    Ok(())
-}
-
-#[test]
-fn a_fragment_finds_its_message_among_many(rt: HostRuntime) -> Result<(), Fail> {
-    let alloc = rt.alloc();
-    let mut queue = ReassemblyQueue::new(alloc, 1, 100);
-    for (tsn, ssn) in [(11, 5), (5, 2), (9, 4), (7, 3)] {
-        assert!(rt; !queue.push(ordered(alloc, tsn, ssn, LAST, b"b")?)?);
-    }
-    for (tsn, ssn) in [(8, 4), (4, 2), (10, 5), (6, 3)] {
-        assert!(rt; queue.push(ordered(alloc, tsn, ssn, FIRST, b"a")?)?);
-    }
-    ssns_are(&rt, &queue, &[2, 3, 4, 5]);
     Ok(())
 }

@@ -2,8 +2,10 @@
 
 ghost use Rattle.std.specs.Prelude.{◌≡◌, length};
 
-use super::*;
-use crate::payload_queue::tests::chunk;
+use crate::chunk::chunk;
+use sctp_base::error::Error;
+use sctp_chunks::chunk::chunk_payload_data::ChunkPayloadData;
+use sctp_queues::pending_queue::PendingQueue;
 use std::test::Fail;
 
 // A chunk of one byte that begins a message.
@@ -17,7 +19,7 @@ fn beginning(message_id: u64, unordered: bool, ending_fragment: bool) -> ChunkPa
     chunk
 }
 
-fn push(queue: &mut PendingQueue, chunk: ChunkPayloadData) -> Result<()>
+fn push(queue: &mut PendingQueue, chunk: ChunkPayloadData) -> Result<(), Error>
     requires { length chunk.user_data ≡ 1 }
 {
     if queue.get_num_bytes() < 1000 {
@@ -27,7 +29,7 @@ fn push(queue: &mut PendingQueue, chunk: ChunkPayloadData) -> Result<()>
 }
 
 #[test]
-fn unordered_goes_first(rt: HostRuntime) -> std::result::Result<(), Fail> {
+fn unordered_goes_first(rt: HostRuntime) -> Result<(), Fail> {
     let mut queue = PendingQueue::new(rt.alloc());
     queue.reserve(1, 1)?;
     push(&mut queue, beginning(0, false, true))?;
@@ -46,7 +48,7 @@ fn unordered_goes_first(rt: HostRuntime) -> std::result::Result<(), Fail> {
 }
 
 #[test]
-fn a_message_with_no_end_stays_half_sent(rt: HostRuntime) -> std::result::Result<(), Fail> {
+fn a_message_with_no_end_stays_half_sent(rt: HostRuntime) -> Result<(), Fail> {
     let mut queue = PendingQueue::new(rt.alloc());
     push(&mut queue, beginning(0, false, false))?;
     assert!(rt; queue.pop(true, false).is_some());

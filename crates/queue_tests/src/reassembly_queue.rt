@@ -1,95 +1,14 @@
-//! Worked examples of reassembly.
+//! Worked examples of a reassembly queue. Where sets stand is worked out from the order of serial numbers by hand.
 
-use crate::chunks::{Chunks, Fragments};
-use crate::loose::{Loose, run_around};
-use crate::reassembly_queue::ReassemblyQueue;
-use crate::turns::Turns;
-use bytes::Bytes;
+use crate::part::{FIRST, LAST, MIDDLE, Part, WHOLE, chunk, ordered, unordered};
 use sctp_base::error::Error;
-use sctp_chunks::chunk::chunk_payload_data::{ChunkPayloadData, PayloadProtocolIdentifier};
+use sctp_queues::reassembly_queue::ReassemblyQueue;
 use std::alloc::Global;
 use std::process::Abort;
 use std::test::Fail;
 
-// What a fragment carries, and where it stands in its message.
-#[derive(Drop)]
-struct Part<'a> {
-    tsn: u32,
-    ssn: u16,
-    unordered: bool,
-    begins: bool,
-    ends: bool,
-    bytes: &'a [u8],
-}
-
-fn chunk(alloc: Global, part: &Part) -> Result<ChunkPayloadData, Error> {
-    Ok(ChunkPayloadData {
-        unordered: part.unordered,
-        beginning_fragment: part.begins,
-        ending_fragment: part.ends,
-        immediate_sack: false,
-        tsn: part.tsn,
-        stream_identifier: 1,
-        stream_sequence_number: part.ssn,
-        payload_type: PayloadProtocolIdentifier::Binary,
-        user_data: Bytes::copy_from_slice(alloc, part.bytes)?,
-        acked: false,
-        miss_indicator: 0,
-        message_id: 0,
-        abandoned: false,
-        since: None,
-        reliability: None,
-        deadline: None,
-        nsent: 0,
-        retransmit: false,
-    })
-}
-
-pub(crate) fn ordered(
-    alloc: Global,
-    tsn: u32,
-    ssn: u16,
-    flags: (bool, bool),
-    bytes: &[u8],
-) -> Result<ChunkPayloadData, Error> {
-    let part = Part {
-        tsn,
-        ssn,
-        unordered: false,
-        begins: flags.0,
-        ends: flags.1,
-        bytes,
-    };
-    chunk(alloc, &part)
-}
-
-fn unordered(
-    alloc: Global,
-    tsn: u32,
-    flags: (bool, bool),
-    bytes: &[u8],
-) -> Result<ChunkPayloadData, Error> {
-    let part = Part {
-        tsn,
-        ssn: 0,
-        unordered: true,
-        begins: flags.0,
-        ends: flags.1,
-        bytes,
-    };
-    chunk(alloc, &part)
-}
-
-pub(crate) const FIRST: (bool, bool) = (true, false);
-
-pub(crate) const MIDDLE: (bool, bool) = (false, false);
-
-pub(crate) const LAST: (bool, bool) = (false, true);
-
-pub(crate) const WHOLE: (bool, bool) = (true, true);
-
 // The next message has these bytes.
-pub(crate) fn reads(rt: &impl Abort, queue: &mut ReassemblyQueue, bytes: &[u8]) {
+fn reads(rt: &impl Abort, queue: &mut ReassemblyQueue, bytes: &[u8]) {
     let mut buffer = [0; 8];
     match queue.read() {
         Some(message) => {
@@ -107,69 +26,6 @@ fn loose_are(rt: &impl Abort, queue: &ReassemblyQueue, tsns: &[u32]) {
     for (fragment, tsn) in loose.iter().zip(tsns.iter()) {
         assert_eq!(rt; fragment.chunk().tsn, *tsn);
     }
-}
-
-// A message of two fragments, `ab` and `cd`; whether each push made it whole, the third one a repeat.
-fn letters(alloc: Global) -> Result<(Chunks, [bool; 3]), Error> {
-    let mut message = Chunks::new(0, PayloadProtocolIdentifier::String, Vec::new(alloc));
-    let first = message.push(ordered(alloc, 10, 0, FIRST, b"ab")?)?;
-    let second = message.push(ordered(alloc, 11, 0, LAST, b"cd")?)?;
-    let third = message.push(ordered(alloc, 11, 0, LAST, b"xx")?)?;
-    Ok((message, [first, second, third]))
-}
-
-#[test]
-fn a_message_is_whole_at_its_last_fragment(rt: HostRuntime) -> Result<(), Fail> {
-    let (message, whole) = letters(rt.alloc())?;
-    assert_eq!(rt; whole, [false, true, false]);
-    assert_eq!(rt;
-        (message.len(), message.is_empty(), message.is_complete()),
-        (4, false, true)
-    );
-    let mut short = [0; 3];
-    assert_eq!(rt; message.read(&mut short), Err(Error::ErrShortBuffer));
-    assert_eq!(rt; short.as_slice(), b"abc".as_slice());
-    let mut long = [9; 5];
-    assert_eq!(rt; message.read(&mut long), Ok(4));
-    assert_eq!(rt; long.as_slice(), [97, 98, 99, 100, 9].as_slice());
-    Ok(())
-}
-
-#[test]
-fn a_message_is_taken_in_pieces(rt: HostRuntime) -> Result<(), Fail> {
-    let alloc = rt.alloc();
-    let (mut message, _whole) = letters(alloc)?;
-    piece_is(&rt, &mut message, alloc, 3, Some(b"abc"))?;
-    let mut rest = message.try_clone(alloc)?;
-    for (len, want) in [(0, b"".as_slice()), (9, b"d".as_slice())] {
-        piece_is(&rt, &mut rest, alloc, len, Some(want))?;
-    }
-    piece_is(&rt, &mut message, alloc, 3, Some(b"d"))?;
-    piece_is(&rt, &mut message, alloc, 3, None)
-}
-
-#[test]
-fn an_empty_fragment_is_one_piece(rt: HostRuntime) -> Result<(), Fail> {
-    let alloc = rt.alloc();
-    let mut message = Chunks::new(0, PayloadProtocolIdentifier::String, Vec::new(alloc));
-    piece_is(&rt, &mut message, alloc, 3, None)?;
-    assert!(rt; message.push(ordered(alloc, 10, 0, WHOLE, b"")?)?);
-    assert!(rt; message.is_empty());
-    piece_is(&rt, &mut message, alloc, 3, Some(b""))?;
-    piece_is(&rt, &mut message, alloc, 3, None)
-}
-
-// The next piece has these bytes, or there is none.
-fn piece_is(
-    rt: &impl Abort,
-    message: &mut Chunks,
-    alloc: Global,
-    len: usize,
-    bytes: Option<&[u8]>,
-) -> Result<(), Fail> {
-    let piece = message.next(alloc, len)?;
-    assert_eq!(rt; piece.as_ref().map(|p| p.bytes.as_slice()), bytes);
-    Ok(())
 }
 
 #[test]
@@ -325,20 +181,6 @@ fn unordered_messages_are_read_first(rt: HostRuntime) -> Result<(), Fail> {
     Ok(())
 }
 
-#[test]
-fn a_run_is_found_round_its_place(rt: HostRuntime) -> Result<(), Fail> {
-    let alloc = rt.alloc();
-    let mut loose = Loose::new(alloc);
-    loose.insert(alloc, 0, unordered(alloc, 1, LAST, b"x")?)?;
-    assert_eq!(rt; loose.len(), 1);
-    assert_eq!(rt; run_around(&loose, 0, &mut Turns::new()), None);
-    let mut set = Fragments::new(3, PayloadProtocolIdentifier::Binary, Vec::new(alloc));
-    assert_eq!(rt; set.put(ordered(alloc, 1, 3, WHOLE, b"x")?)?, Some(true));
-    assert_eq!(rt; set.put(ordered(alloc, 1, 3, WHOLE, b"x")?)?, None);
-    assert_eq!(rt; set.ssn(), 3);
-    Ok(())
-}
-
 // What comes, and whether a message is whole with it.
 type Arrival = (u32, (bool, bool), bool);
 
@@ -391,5 +233,69 @@ fn repeats_stand_side_by_side_and_order_comes_back(rt: HostRuntime) -> Result<()
         &[(13, LAST, false), (11, MIDDLE, true)],
     )?;
     loose_are(&rt, &queue, &[]);
+    Ok(())
+}
+
+// A queue that skipped up to these numbers, and that whole messages of these came to.
+fn came(alloc: Global, skipped: &[u16], ssns: &[u16]) -> Result<ReassemblyQueue, Fail> {
+    let mut queue = ReassemblyQueue::new(alloc, 1, 100);
+    for ssn in skipped {
+        queue.forward_tsn_for_ordered(*ssn);
+    }
+    for ssn in ssns {
+        let _whole = queue.push(ordered(alloc, u32::from(*ssn), *ssn, WHOLE, b"x")?)?;
+    }
+    Ok(queue)
+}
+
+// The sets have these numbers.
+fn ssns_are(rt: &impl Abort, queue: &ReassemblyQueue, want: &[u16]) {
+    assert_eq!(rt; queue.ordered().len(), want.len());
+    for (set, ssn) in queue.ordered().iter().zip(want.iter()) {
+        assert_eq!(rt; set.ssn(), *ssn);
+    }
+}
+
+#[test]
+fn messages_that_come_in_reverse_are_read_in_order(rt: HostRuntime) -> Result<(), Fail> {
+    let mut queue = came(rt.alloc(), &[], &[4, 3, 2, 1, 0])?;
+    ssns_are(&rt, &queue, &[0, 1, 2, 3, 4]);
+    for _ in 0..5 {
+        reads(&rt, &mut queue, b"x");
+    }
+    assert!(rt; !queue.is_readable());
+    Ok(())
+}
+
+#[test]
+fn messages_stand_in_order_where_numbers_wrap(rt: HostRuntime) -> Result<(), Fail> {
+    for ssns in [[1, 65534, 0, 65535, 2], [65535, 2, 65534, 1, 0]] {
+        let queue = came(rt.alloc(), &[32767, 65533], &ssns)?;
+        ssns_are(&rt, &queue, &[65534, 65535, 0, 1, 2]);
+    }
+    Ok(())
+}
+
+// 0 and 32768 lie half a circle apart, so neither comes before the other; 1 comes before 32768.
+#[test]
+fn a_message_half_a_circle_away_goes_behind(rt: HostRuntime) -> Result<(), Fail> {
+    let queue = came(rt.alloc(), &[], &[0, 32768, 1, 32767, 1])?;
+    ssns_are(&rt, &queue, &[0, 1, 32767, 32768]);
+    let queue = came(rt.alloc(), &[], &[32768, 0, 1, 32767, 0])?;
+    ssns_are(&rt, &queue, &[1, 32767, 32768, 0]);
+    Ok(())
+}
+
+#[test]
+fn a_fragment_finds_its_message_among_many(rt: HostRuntime) -> Result<(), Fail> {
+    let alloc = rt.alloc();
+    let mut queue = ReassemblyQueue::new(alloc, 1, 100);
+    for (tsn, ssn) in [(11, 5), (5, 2), (9, 4), (7, 3)] {
+        assert!(rt; !queue.push(ordered(alloc, tsn, ssn, LAST, b"b")?)?);
+    }
+    for (tsn, ssn) in [(8, 4), (4, 2), (10, 5), (6, 3)] {
+        assert!(rt; queue.push(ordered(alloc, tsn, ssn, FIRST, b"a")?)?);
+    }
+    ssns_are(&rt, &queue, &[2, 3, 4, 5]);
     Ok(())
 }
