@@ -2,7 +2,7 @@
 
 ghost use Rattle.std.specs.Prelude.{◌≡◌, ◌<◌, true, false, IfOk};
 ghost use Rattle.std.specs.List.{All};
-ghost use Rattle.sctp_queues.specs.Whole.{IsMessageOrNone};
+ghost use Rattle.sctp_queues.specs.pending_queue.Whole.{IsMessageOrNone};
 ghost use Rattle.sctp_queues.specs.Window.{IsWithinHalf, SpansOneWindow, is_held};
 ghost use Rattle.sctp_queues.specs.DataChunks.{bytes_of};
 
