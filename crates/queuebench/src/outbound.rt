@@ -2,7 +2,7 @@
 
 ghost use Rattle.std.specs.Prelude.{◌≡◌, ◌+◌, ◌<◌, ◌^◌, [], IfOk};
 ghost use Rattle.sctp_queues.specs.DataChunks.{bytes_of};
-ghost use Rattle.sctp_queues.specs.Whole.{IsMessageOrNone};
+ghost use Rattle.sctp_queues.specs.pending_queue.Whole.{IsMessageOrNone};
 ghost use Rattle.queuebench.specs.Near.{AreBelow};
 
 use crate::subject::{Measured, whole};

@@ -7,8 +7,8 @@ use Rattle.sctp_lists.specs.Serial.{comes_before}
 use Rattle.sctp_lists.proofs.More.{not_both}
 use Rattle.sctp_chunks.specs.declared.chunk.chunk_payload_data.ChunkPayloadData.{ChunkPayloadData}
 use Rattle.sctp_queues.specs.DataChunks.{chunk_before}
-use Rattle.sctp_queues.specs.Payload
-use Rattle.sctp_queues.specs.Payload.{Payload}
+use Rattle.sctp_queues.specs.payload_queue.PayloadQueue as Payload
+use Rattle.sctp_queues.specs.payload_queue.PayloadQueue.{Payload}
 use Rattle.sctp_queues.specs.Window
 use Rattle.sctp_model.specs.declared.event.Event.TheVariants as E
 use Rattle.sctp_model.specs.World.{World, Data}

@@ -10,8 +10,8 @@ use Rattle.sctp_lists.proofs.KeptLemmas.{front-kept, FrontOf, length-kept-le}
 use Rattle.sctp_chunks.specs.ChunkSet.{ChunkSet}
 use Rattle.sctp_chunks.specs.declared.chunk.chunk_payload_data.PayloadProtocolIdentifier.{PayloadProtocolIdentifier}
 use Rattle.sctp_chunks.specs.declared.chunk.chunk_payload_data.PayloadProtocolIdentifier.TheVariants.{Dcep, String, Binary, StringEmpty, BinaryEmpty, Unknown}
-use Rattle.sctp_queues.specs.Reassembly.{message_read, rest_read, state_read, at_start}
-use Rattle.sctp_queues.specs.declared.chunks.Chunks.{Chunks}
+use Rattle.sctp_queues.specs.reassembly_queue.ReassemblyQueue.{message_read, rest_read, state_read, at_start}
+use Rattle.sctp_queues.specs.declared.reassembly_queue.chunks.Chunks.{Chunks}
 use Rattle.sctp_model.specs.declared.event.Event.TheVariants as E
 use Rattle.sctp_model.specs.declared.event.LinkRefusal.TheVariants.{StreamUnknown}
 use Rattle.sctp_model.specs.World.{World, StreamRecord}

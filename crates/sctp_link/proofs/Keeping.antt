@@ -8,8 +8,8 @@ use Rattle.sctp_lists.specs.Lists.{changed, inserted}
 use Rattle.sctp_lists.proofs.Cases.{same-yes, and-none}
 use Rattle.sctp_lists.proofs.More.{not_both}
 use Rattle.sctp_queues.specs.DataChunks.{chunk_before}
-use Rattle.sctp_queues.specs.Payload.{Payload}
-use Rattle.sctp_queues.specs.Reassembly.{Reassembly, ReassemblyState, is_too_large, pushed_ordered, BecomesWhole}
+use Rattle.sctp_queues.specs.payload_queue.PayloadQueue.{Payload}
+use Rattle.sctp_queues.specs.reassembly_queue.ReassemblyQueue.{Reassembly, ReassemblyState, is_too_large, pushed_ordered, BecomesWhole}
 use Rattle.sctp_model.specs.declared.event.Event.TheVariants as E
 use Rattle.sctp_model.specs.World.{World, StreamRecord, Data}
 use Rattle.sctp_model.specs.World as W

@@ -11,9 +11,9 @@ use Rattle.sctp_lists.proofs.Totals.{length-numbers}
 use Rattle.sctp_lists.proofs.KeptLemmas.{length-kept-le}
 use Rattle.sctp_chunks.specs.declared.chunk.chunk_payload_data.ChunkPayloadData.{ChunkPayloadData}
 use Rattle.sctp_chunks.specs.declared.chunk.chunk_payload_data.PayloadProtocolIdentifier.{PayloadProtocolIdentifier}
-use Rattle.sctp_queues.specs.Pending.{reserved, room_for}
+use Rattle.sctp_queues.specs.pending_queue.PendingQueue.{reserved, room_for}
 use Rattle.sctp_queues.specs.DataChunks.{bytes_of}
-use Rattle.sctp_queues.specs.Outbound.{Outbound, with_message, has_room, total_bytes}
+use Rattle.sctp_queues.specs.outbound_queue.OutboundQueue.{Outbound, with_message, has_room, total_bytes}
 use Rattle.sctp_model.specs.declared.event.Event.TheVariants as E
 use Rattle.sctp_model.specs.declared.event.LinkRefusal.{LinkRefusal}
 use Rattle.sctp_model.specs.declared.event.LinkRefusal.TheVariants.{StreamUnknown, MessageTooLarge, TsnsUsedUp}

@@ -1,8 +1,8 @@
 -- What a link keeps beside its record, and how all of it is tied to the record.
 use Rattle.std.specs.Prelude.{◌≡◌, ◌==◌, ℕ, ◌<◌, ◌%◌, ◌^◌, List, length, slice_index_or, slice_get, Bool, Some}
 use Rattle.std.specs.BTreeMap.{BTreeMap}
-use Rattle.sctp_queues.specs.Payload.{Payload}
-use Rattle.sctp_queues.specs.Outbound.{Outbound}
+use Rattle.sctp_queues.specs.payload_queue.PayloadQueue.{Payload}
+use Rattle.sctp_queues.specs.outbound_queue.OutboundQueue.{Outbound}
 use Rattle.sctp_model.specs.World as W
 use Rattle.sctp_model.specs.World.{World}
 use Rattle.sctp_model.specs.Messages.{message_at, ordered_before, sent_of, tsn_of}

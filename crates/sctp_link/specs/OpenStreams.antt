@@ -1,5 +1,5 @@
 -- What a stream of a link makes of a write.
-use Rattle.sctp_queues.specs.Reassembly.{ordered_pushed, PushesUnordered}
+use Rattle.sctp_queues.specs.reassembly_queue.ReassemblyQueue.{ordered_pushed, PushesUnordered}
 use Rattle.std.specs.Prelude.{◌≡◌, ◌&&◌, ℕ, ◌+◌, Bool, true, false, not, ◌||◌, if◌then◌else◌, List, [], ◌∷◌, length, map, take, drop, ◌++◌, Some, None}
 use Rattle.sctp_chunks.specs.declared.chunk.chunk_payload_data.ChunkPayloadData.{ChunkPayloadData}
 use Rattle.sctp_chunks.specs.declared.chunk.chunk_payload_data.ReliabilityType.{ReliabilityType}

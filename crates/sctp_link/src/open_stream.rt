@@ -33,7 +33,7 @@ pub struct OpenStream {
 impl OpenStream {
     ghost use Rattle.sctp_link.specs.Stream.{new_stream};
     ghost use Rattle.sctp_link.specs.OpenStreams.{is_ordered, message_with, fragments_with_mode, after_write_on, with_sent_stats, with_read_stats, Keeps};
-    ghost use Rattle.sctp_queues.specs.Reassembly.{is_too_large, message_read, state_read, at_start};
+    ghost use Rattle.sctp_queues.specs.reassembly_queue.ReassemblyQueue.{is_too_large, message_read, state_read, at_start};
 
     /// A stream that nothing was written to.
     pub fn new(alloc: Global, stream: u16, max_payload_size: u32, max_message_size: u32) -> Self

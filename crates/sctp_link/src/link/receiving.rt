@@ -5,7 +5,7 @@ ghost use Rattle.sctp_base.specs.declared.error.Error.TheVariants.{ErrOutOfMemor
 ghost use Rattle.sctp_lists.specs.Lists.{advanced, inserted};
 ghost use Rattle.sctp_chunks.specs.declared.chunk.chunk_payload_data.ChunkPayloadData.{ChunkPayloadData};
 ghost use Rattle.sctp_queues.specs.DataChunks.{chunk_before};
-ghost use Rattle.sctp_queues.specs.Payload.{with_chunks};
+ghost use Rattle.sctp_queues.specs.payload_queue.PayloadQueue.{with_chunks};
 ghost use Rattle.sctp_queues.specs.Window;
 
 use super::{Link, put};
