@@ -13,6 +13,7 @@ pub mod Few
 pub mod Made
 pub mod Events
 pub mod Sends
+pub mod Limits
 pub mod Bytes
 pub mod Written
 pub mod BytesTold
@@ -20,6 +21,7 @@ pub mod Lifetimes
 pub mod Modes
 pub mod Arrivals
 pub mod Acknowledged
+pub mod Lapses
 pub mod View
 pub mod Indexes
 pub mod Names

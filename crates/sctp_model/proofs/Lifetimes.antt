@@ -187,10 +187,10 @@ starts_once setup h is run = (begins-run setup h is run).each
 
 -- ## Late
 
-swap : (m n : ℕ) → (n == m) ≡ (m == n)
+pub swap : (m n : ℕ) → (n == m) ≡ (m == n)
 swap m n = same_test (n == m) (m == n) (λ e. grind (arith, nat_tests)) (λ e. grind (arith, nat_tests))
 
-abandoned-by : (w : World) (m n : ℕ) → (Messages.message_at (Changes.abandoned w m) n).abandoned ≡ ((n == m) || (Messages.message_at w n).abandoned)
+pub abandoned-by : (w : World) (m n : ℕ) → (Messages.message_at (Changes.abandoned w m) n).abandoned ≡ ((n == m) || (Messages.message_at w n).abandoned)
 abandoned-by w m n = step (Messages.is_half_sent w m)
   where
     step : (b : Bool) → (Messages.message_at (Changes.message_changed (if b then Changes.with_slot w m true else w) m Changes.mark_abandoned) n).abandoned ≡ ((n == m) || (Messages.message_at w n).abandoned)

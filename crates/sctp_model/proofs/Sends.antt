@@ -1,17 +1,20 @@
 use Rattle.std.proofs.Common.{◌≡◌, ℕ, ◌+◌, ◌-◌, ◌<◌, ◌≤◌, Bool, true, false, [], ◌∷◌, ◌++◌, length, Option, Some, None, refl, ap, sym, ◌∙◌, inl, inr, arith, length-append}
-use Rattle.std.specs.Prelude.{◌⊎◌, if◌then◌else◌, ◌&&◌, ◌||◌, not, ◌↔◌, slice_get}
+use Rattle.std.specs.Prelude.{◌⊎◌, if◌then◌else◌, ◌&&◌, ◌||◌, not, ◌↔◌, slice_get, is_some, Result, Ok, Err}
 use Rattle.std.proofs.lemmas.Bool.{cases_lt}
 use Rattle.sctp_lists.specs.Kept.{kept, always, numbers_from, total_over, gathered}
 use Rattle.sctp_lists.proofs.More.{not_both}
 use Rattle.sctp_model.specs.declared.event.Event.TheVariants as E
+use Rattle.sctp_model.specs.declared.event.LinkRefusal.{LinkRefusal}
+use Rattle.sctp_model.specs.declared.event.LinkRefusal.TheVariants.{StreamUnknown, StreamOpen, MessageTooLarge, TsnsUsedUp, NoSuchDatagram, NotInFlight, SkipUnassigned, SkipNames, SpanTooWide, OutOfMemory}
+use Rattle.sctp_model.specs.Reply.{Reply}
 use Rattle.sctp_model.specs.Reply as R
 use Rattle.sctp_model.specs.World.{Setup, Data, World}
 use Rattle.sctp_model.specs.Messages
 use Rattle.sctp_model.specs.Amounts.{is_given_up}
 use Rattle.sctp_model.specs.Changes
 use Rattle.sctp_model.specs.Queues.{pending_fragments, pending_at}
-use Rattle.sctp_model.specs.Steps.{world_of, after, sent_reply}
-use Rattle.sctp_model.specs.Laws.{OnEveryRun, pending_count, EmitsWherePending, TakesPending}
+use Rattle.sctp_model.specs.Steps.{world_of, after, refusal_of, reply_to, sent_reply, Answers}
+use Rattle.sctp_model.specs.Laws.{OnEveryRun, pending_count, EmitsWherePending, TakesPending, IdleIsAnswered}
 use Rattle.sctp_model.proofs.Shape.{Shape, shape, sent, parts, slotted, front_of}
 use Rattle.sctp_model.proofs.SenderSteps.{Takes, is-half, sent-other, sent-here}
 use Rattle.sctp_model.proofs.Fronts.{front-takes, front-none, is-unsent}
@@ -153,3 +156,34 @@ takes_pending setup h is run now d tsn ssn count e = step (Messages.front (world
                 ∙ ap (λ k. Some (Data (numbers_from (length (world_of setup h).slots) k))) c,
           ),
         )
+
+-- an idle Send wants no memory
+pub idle_is_answered : OnEveryRun IdleIsAnswered
+idle_is_answered setup h is run now result new a = (told result a, λ z. idle result a ((emits_where_pending setup h is run now).1 z))
+  where
+    w : World
+    w = world_of setup h
+
+    told : (result : Result Reply LinkRefusal) → Answers w (E.Send now) result new → result ≡ Ok R.Idle → pending_count w ≡ 0
+    told (Ok reply) a e = let z : reply ≡ R.Idle = cc in (emits_where_pending setup h is run now).0 (sym a.1.right ∙ z)
+    told (Err refusal) a e = cc
+
+    never : (r : LinkRefusal) → refusal_of w (E.Send now) ≡ Some r → ⊥
+    never r e = cc
+
+    none : (o : Option ℕ) → sent_reply w (after w (E.Send now)) o ≡ R.Idle → is_some o ≡ false
+    none None e = refl
+    none (Some n) e = cc
+
+    idle : (result : Result Reply LinkRefusal) → Answers w (E.Send now) result new → reply_to w (E.Send now) ≡ R.Idle → result ≡ Ok R.Idle
+    idle (Ok reply) a e = ap Ok (a.1.right ∙ e)
+    idle (Err OutOfMemory) a e = absurd (not_both (sym (ap (λ b. b && true) (none (Messages.front w) e)) ∙ a.because))
+    idle (Err StreamUnknown) a e = absurd (never StreamUnknown a.because)
+    idle (Err StreamOpen) a e = absurd (never StreamOpen a.because)
+    idle (Err MessageTooLarge) a e = absurd (never MessageTooLarge a.because)
+    idle (Err TsnsUsedUp) a e = absurd (never TsnsUsedUp a.because)
+    idle (Err NoSuchDatagram) a e = absurd (never NoSuchDatagram a.because)
+    idle (Err NotInFlight) a e = absurd (never NotInFlight a.because)
+    idle (Err SkipUnassigned) a e = absurd (never SkipUnassigned a.because)
+    idle (Err SkipNames) a e = absurd (never SkipNames a.because)
+    idle (Err SpanTooWide) a e = absurd (never SpanTooWide a.because)
