@@ -48,4 +48,5 @@ mod ScriptsOfArrivals
 mod ScriptsOfExpiry
 mod ScriptsOfAbandonment
 mod ScriptsOfSkips
+mod ScriptsOfLaws
 mod LongScripts

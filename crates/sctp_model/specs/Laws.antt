@@ -55,19 +55,22 @@ TakesPending setup h w log =
     (now d tsn ssn count : ℕ) → reply_to w (E.Send now) ≡ R.Sent d tsn ssn count →
     (0 < count) × ((pending_count (after w (E.Send now)) + count ≡ pending_count w) × (slice_get (after w (E.Send now)).network d ≡ Some (Data (numbers_from (length w.slots) count))))
 
--- a step answers Idle to a Send exactly where no fragment is pending, however little memory there is
+-- a step answers Idle to a Send exactly where no fragment is pending, be memory refused or not
 abbrev pub IdleIsAnswered : Setup → History → World → List Log.LogEntry → Type 0
 IdleIsAnswered setup h w log =
-    (now : ℕ) (result : Result Reply LinkRefusal) (new : World) → Answers w (E.Send now) result new →
+    (now : ℕ) (result : Result Reply LinkRefusal) (new : World) →
+    Answers w (E.Send now) result new →
     (result ≡ Ok R.Idle) ↔ (pending_count w ≡ 0)
 
 -- each Send emits a pending fragment while one exists
 abbrev pub EachSendEmits : Type 0
-EachSendEmits = OnEveryRun EmitsWherePending × (OnEveryRun TakesPending × OnEveryRun IdleIsAnswered)
+EachSendEmits =
+    OnEveryRun EmitsWherePending × (OnEveryRun TakesPending × OnEveryRun IdleIsAnswered)
 
 -- ## The limit of a datagram
 
--- the length of a DATA chunk: 16 bytes, its user data, and padding up to a multiple of four (RFC 4960 3.3.1)
+-- the length of a DATA chunk with these user data: 16 bytes, the data, and padding up to a
+-- multiple of four (RFC 4960 3.3.1)
 abbrev pub data_length : List ℕ → ℕ
 data_length bytes = 16 + (length bytes + 3) / 4 * 4
 
@@ -76,7 +79,7 @@ abbrev pub packet_length : List ChunkPayloadData → ℕ
 packet_length [] = 12
 packet_length (chunk ∷ chunks) = data_length chunk.user_data + packet_length chunks
 
--- the datagram of a Send has as many chunks as are told; one of several is no longer than the limit
+-- the datagram of a Send has as many chunks as are told; with several it is within the limit
 abbrev pub WithinLimit : Setup → History → World → List Log.LogEntry → Type 0
 WithinLimit setup h w log =
     (now d tsn ssn count : ℕ) (chunks : List ChunkPayloadData) →
@@ -97,7 +100,7 @@ FilledToLimit setup h w log =
     Messages.front (after w (E.Send now)) ≡ Some n →
     setup.limit < packet_length chunks + data_length (next_fragment (after w (E.Send now)) n)
 
--- a datagram has as many fragments as the limit allows, and no more; the first one however small it is
+-- a datagram has as many fragments as the limit allows, and the first one in any case
 abbrev pub DatagramsKeepLimit : Type 0
 DatagramsKeepLimit = OnEveryRun WithinLimit × OnEveryRun FilledToLimit
 
@@ -336,9 +339,10 @@ BytesBalance = OnEveryRun Balances × OnEveryRun SumsAgree
 abbrev pub StartsOnce : Setup → History → World → List Log.LogEntry → Type 0
 StartsOnce setup h w log = (n : ℕ) → n < length w.messages → (Messages.message_at w n).started ≡ Log.started_in h n
 
--- a lifetime is over in the record exactly where the write, its mode, its start and the moment say so
+-- a lifetime is over in the record exactly where the write, its mode, its start and now say so
 abbrev pub LapsesByEvents : Setup → History → World → List Log.LogEntry → Type 0
-LapsesByEvents setup h w log = (now n : ℕ) → Messages.is_lapsed w now n ≡ Log.has_lapsed h now n
+LapsesByEvents setup h w log =
+    (now n : ℕ) → Messages.is_lapsed w now n ≡ Log.has_lapsed h now n
 
 -- what is told of a message, where there is one, and else Idle
 abbrev pub told_of : (ℕ → Reply) → Option ℕ → Reply
@@ -349,52 +353,87 @@ told_of tell (Some n) = tell n
 abbrev pub is_this : Option ℕ → ℕ → Bool
 is_this o n = list_any (λ m. m == n) (option_to_list o)
 
+-- message n expired
+abbrev pub has_expired : World → ℕ → Bool
+has_expired w n = (Messages.message_at w n).expired
+
+-- message n was abandoned
+abbrev pub is_abandoned : World → ℕ → Bool
+is_abandoned w n = (Messages.message_at w n).abandoned
+
+-- an event adds to the messages of which this is so just those that pass
+abbrev pub AddsJust : World → Event → (World → ℕ → Bool) → (ℕ → Bool) → Type 0
+AddsJust w event flag p =
+    (n : ℕ) → n < length w.messages → flag (after w event) n ≡ (flag w n || p n)
+
+-- Expired with the stream of message n and the bytes that the Expire releases
+abbrev pub expired_with : World → ℕ → ℕ → Reply
+expired_with w now n =
+    R.Expired (Messages.message_at w n).stream (Amounts.growth w (after w (E.Expire now)))
+
+-- Released with the stream of message n and the bytes that the Tail releases
+abbrev pub released_with : World → ℕ → ℕ → Reply
+released_with w now n =
+    R.Released (Messages.message_at w n).stream (Amounts.growth w (after w (E.Tail now)))
+
+-- the front, where it has lapsed and this many of its fragments were sent
+abbrev pub lapsed_front : History → World → ℕ → (ℕ → Bool) → Option ℕ
+lapsed_front h w now sent =
+    first_of (passing (λ n. Log.has_lapsed h now n && sent (Messages.sent_of w n))
+    (option_to_list (Messages.front w)))
+
 -- the front, where it has lapsed and nothing of it was sent
 abbrev pub lapsed_unsent : History → World → ℕ → Option ℕ
-lapsed_unsent h w now =
-    first_of (passing (λ n. Log.has_lapsed h now n && (Messages.sent_of w n == 0)) (option_to_list (Messages.front w)))
+lapsed_unsent h w now = lapsed_front h w now (λ sent. sent == 0)
 
 -- the front, where it has lapsed and some of it was sent
 abbrev pub lapsed_half_sent : History → World → ℕ → Option ℕ
-lapsed_half_sent h w now =
-    first_of (passing (λ n. Log.has_lapsed h now n && nat_lt 0 (Messages.sent_of w n)) (option_to_list (Messages.front w)))
+lapsed_half_sent h w now = lapsed_front h w now (λ sent. nat_lt 0 sent)
 
--- Expire removes the front where it has lapsed and nothing of it was sent, and no other; it answers Expired exactly there, with the bytes released, else Idle
+-- Expire removes the front where it has lapsed and nothing of it was sent, and no other message;
+-- it answers Expired exactly there, and else Idle
 abbrev pub ExpiresLapsed : Setup → History → World → List Log.LogEntry → Type 0
 ExpiresLapsed setup h w log =
     (now : ℕ) →
-    (reply_to w (E.Expire now) ≡ told_of (λ n. R.Expired (Messages.message_at w n).stream (Amounts.growth w (after w (E.Expire now)))) (lapsed_unsent h w now))
-    × ((n : ℕ) → n < length w.messages →
-    (Messages.message_at (after w (E.Expire now)) n).expired ≡ ((Messages.message_at w n).expired || is_this (lapsed_unsent h w now) n))
+    (reply_to w (E.Expire now) ≡ told_of (expired_with w now) (lapsed_unsent h w now))
+    × AddsJust w (E.Expire now) has_expired (is_this (lapsed_unsent h w now))
 
--- Tail abandons the front where it has lapsed and some of it was sent, and no other; it answers Released exactly there, with the bytes released, else Idle
+-- Tail abandons the front where it has lapsed and some of it was sent, and no other message;
+-- it answers Released exactly there, and else Idle
 abbrev pub TailAbandonsLapsed : Setup → History → World → List Log.LogEntry → Type 0
 TailAbandonsLapsed setup h w log =
     (now : ℕ) →
-    (reply_to w (E.Tail now) ≡ told_of (λ n. R.Released (Messages.message_at w n).stream (Amounts.growth w (after w (E.Tail now)))) (lapsed_half_sent h w now))
-    × ((n : ℕ) → n < length w.messages →
-    (Messages.message_at (after w (E.Tail now)) n).abandoned ≡ ((Messages.message_at w n).abandoned || is_this (lapsed_half_sent h w now) n))
+    (reply_to w (E.Tail now) ≡ told_of (released_with w now) (lapsed_half_sent h w now))
+    × AddsJust w (E.Tail now) is_abandoned (is_this (lapsed_half_sent h w now))
 
--- the slot at this place, of message n, is late by the events: no taken SACK acknowledged it cumulatively, the message has lapsed and was not abandoned,
--- and either no taken SACK reports the slot or fragments of the message still wait
+-- the slot at this place, of message n, is late by the events: no taken SACK acknowledged it
+-- cumulatively, the message has lapsed and was not abandoned, and either no taken SACK reports
+-- the slot or fragments of the message still wait
 abbrev pub is_late_in : Setup → History → World → ℕ → ℕ → ℕ → Bool
 is_late_in setup h w now n place =
     nat_le (Log.taken_in setup h) place
     && (Log.has_lapsed h now n
-    && (not (Messages.message_at w n).abandoned
-    && (not (Log.is_acknowledged_in setup h place) || nat_lt (Messages.sent_of w n) (Messages.fragment_count w n))))
+    && (not (is_abandoned w n)
+    && (not (Log.is_acknowledged_in setup h place)
+    || nat_lt (Messages.sent_of w n) (Messages.fragment_count w n))))
 
 -- the late slots, by the events
 abbrev pub lapsed_slots : Setup → History → World → ℕ → List ℕ
-lapsed_slots setup h w now = Messages.slots_where w (λ place. is_late_in setup h w now (Messages.message_of w place) place)
+lapsed_slots setup h w now =
+    Messages.slots_where w (λ place. is_late_in setup h w now (Messages.message_of w place) place)
 
--- Late lists those slots, abandons their messages, and no others, and answers how many they are, with the bytes released
+-- message n has one of these slots
+abbrev pub has_one_of : World → List ℕ → ℕ → Bool
+has_one_of w slots n = list_any (λ place. Messages.message_of w place == n) slots
+
+-- Late answers how many slots are late by the events, and the bytes released; it abandons the
+-- messages of those slots, and no others
 abbrev pub LateListsLapsed : Setup → History → World → List Log.LogEntry → Type 0
 LateListsLapsed setup h w log =
     (now : ℕ) →
-    (reply_to w (E.Late now) ≡ R.Late (length (lapsed_slots setup h w now)) (Amounts.growth w (after w (E.Late now))))
-    × ((n : ℕ) → n < length w.messages →
-    (Messages.message_at (after w (E.Late now)) n).abandoned ≡ ((Messages.message_at w n).abandoned || list_any (λ place. Messages.message_of w place == n) (lapsed_slots setup h w now)))
+    (reply_to w (E.Late now) ≡
+    R.Late (length (lapsed_slots setup h w now)) (Amounts.growth w (after w (E.Late now))))
+    × AddsJust w (E.Late now) is_abandoned (has_one_of w (lapsed_slots setup h w now))
 
 -- Late abandons the messages of the slots that it lists, and no others
 abbrev pub LateAbandonsListed : Setup → History → World → List Log.LogEntry → Type 0
@@ -402,10 +441,15 @@ LateAbandonsListed setup h w log =
     (now n : ℕ) → n < length w.messages →
     (Messages.message_at (after w (E.Late now)) n).abandoned ≡ ((Messages.message_at w n).abandoned || list_any (λ place. Messages.message_of w place == n) (late_slots w now))
 
--- lifetimes start once; messages lapse by the events alone; Expire, Tail and Late answer and release exactly for those that have lapsed
+-- lifetimes start once, messages lapse by the events, and Expire, Tail and Late go by that
 abbrev pub LifetimesEnd : Type 0
 LifetimesEnd =
-    OnEveryRun StartsOnce × (OnEveryRun LapsesByEvents × (OnEveryRun ExpiresLapsed × (OnEveryRun TailAbandonsLapsed × (OnEveryRun LateListsLapsed × OnEveryRun LateAbandonsListed))))
+    OnEveryRun StartsOnce
+    × (OnEveryRun LapsesByEvents
+    × (OnEveryRun ExpiresLapsed
+    × (OnEveryRun TailAbandonsLapsed
+    × (OnEveryRun LateListsLapsed
+    × OnEveryRun LateAbandonsListed))))
 
 -- the counters of a stream are the saturated sums over its writes and its reads
 abbrev pub CountersAreSums : Setup → History → World → List Log.LogEntry → Type 0
@@ -462,7 +506,8 @@ Headline =
 
 -- beside the headline: slots, limits of datagrams, arrivals, lifetimes and counters
 abbrev pub Beside : Type 0
-Beside = SlotsAreSound × (DatagramsKeepLimit × (ArrivalsAgree × (LifetimesEnd × CountersCount)))
+Beside =
+    SlotsAreSound × (DatagramsKeepLimit × (ArrivalsAgree × (LifetimesEnd × CountersCount)))
 
 -- where nothing expires, is abandoned or skipped: the ordered reads begin the longest whole run, with all that holds of every history
 abbrev pub ReliableDelivery : Type 0

@@ -236,13 +236,15 @@ abbrev pub started_in : History → ℕ → Option ℕ
 started_in [] n = None
 started_in (entry ∷ older) n = or_else (started_in older n) (if nat_lt n (length (writes_in older)) then moment_of entry.0 else None)
 
--- a message in this mode with this payload type can lapse: a timed one (RFC 3758 4.1, RFC 7496 4.1), but no DCEP message (RFC 8832 6)
+-- a message in this mode with this payload type can lapse: a timed one (RFC 3758 4.1), but no
+-- DCEP message (RFC 8832 6)
 abbrev pub can_lapse : ReliabilityType → PayloadProtocolIdentifier → Bool
 can_lapse Timed Dcep = false
 can_lapse Timed ppi = true
 can_lapse reliability ppi = false
 
--- a lifetime of so many milliseconds that started then is over now: it ended at a moment, in nanoseconds, that is at most the greatest u64
+-- a lifetime of so many milliseconds that started then is over now: its end, in nanoseconds, is
+-- a moment that 64 bits hold, and now is not before it
 abbrev pub is_over : ℕ → ℕ → Option ℕ → Bool
 is_over now value None = false
 is_over now value (Some start) =
@@ -250,12 +252,14 @@ is_over now value (Some start) =
 
 -- a write in this mode, whose lifetime started then, has lapsed now
 abbrev pub write_lapsed : ℕ → Option ℕ → Option Shown → Option Mode → Bool
-write_lapsed now start (Some x) (Some m) = can_lapse m.reliability x.1 && is_over now m.value start
+write_lapsed now start (Some x) (Some m) =
+    can_lapse m.reliability x.1 && is_over now m.value start
 write_lapsed now start x m = false
 
--- message n has lapsed now, by its write, the mode of its stream then, and the first Start or Send after it
+-- message n has lapsed now, by its write, its mode, and the first Start or Send after it
 abbrev pub has_lapsed : History → ℕ → ℕ → Bool
-has_lapsed h now n = write_lapsed now (started_in h n) (slice_get (writes_in h) n) (slice_get (modes_in h) n)
+has_lapsed h now n =
+    write_lapsed now (started_in h n) (slice_get (writes_in h) n) (slice_get (modes_in h) n)
 
 -- the bytes that a reply tells were released
 abbrev pub released_by : Reply → ℕ

@@ -164,8 +164,9 @@ pub record IsRight (old : World) (event : Event) (reply : Reply) (new : World) :
   pub right : reply ≡ reply_to old event
   pub moves : new ≡ after old event
 
--- an accepted event can take memory: never Mode, Start, Expire or Read; a Write of some bytes, a Send with a fragment pending,
--- a Tail and a Late of what has lapsed, an Abandon of a half-sent message, which takes an end mark; each other event
+-- an accepted event can take memory: never Mode, Start, Expire or Read; a Write of some bytes,
+-- a Send with a fragment pending, a Tail and a Late of what has lapsed, an Abandon of a half-sent
+-- message, which takes an end mark; each other event
 abbrev pub takes_memory : World → Event → Bool
 takes_memory w (E.Mode s unordered reliability value) = false
 takes_memory w (E.Write s ppi bytes) = nat_lt 0 (length bytes)
@@ -178,7 +179,8 @@ takes_memory w (E.Abandon tsn) = Messages.is_half_sent w (Messages.message_of w 
 takes_memory w (E.Read s) = false
 takes_memory w e = true
 
--- want of memory may refuse an event that can take memory, and no other, where no test before it does; an Arrive reads its datagram before the span test
+-- want of memory may refuse an event that can take memory, and no other, where no test before it
+-- does; an Arrive reads its datagram before the span test
 abbrev pub may_want_memory : World → Event → Bool
 may_want_memory w (E.Arrive k) = is_for_receiver (slice_get w.network k)
 may_want_memory w e = takes_memory w e && is_none (refusal_of w e)

@@ -3,14 +3,17 @@
 ghost use Rattle.sctp_model.specs.Laws.{OnEveryRun, EmitsWherePending, TakesPending, IdleIsAnswered, WithinLimit, FilledToLimit, SlotsInOrder, SlotsFollow, OneHalfSent, SentInTurn, IndexesLeaveNoGap, NoEndMarkIsSent, DatagramsStay, Balances, SumsAgree, AcknowledgedArrived, AcknowledgedIsReported, SacksSay, NetworkIsMade, ArrivedIsNew, CumulativeIsSeen, ArrivalsAnswered, WholeIsWhole, NamedIsNamed, SpansFit, MessagesAreWrites, ModesAreKept, ReadsShowMessages, ReadsBeginRun, ReadsBeginWholeRun, ReadsBeginWhole, ReadsDiffer, UnorderedFirst, NothingWhereRead, StartsOnce, LapsesByEvents, ExpiresLapsed, TailAbandonsLapsed, LateListsLapsed, LateAbandonsListed, ReadsAreSettled, CountersAreSums, Headline, Beside, ReliableDelivery, PartialDelivery};
 ghost use Rattle.sctp_model.specs.Sound.{RecordIsSound, SlotsComeSound, SkipsComeSound};
 
-/// A Send answers Idle exactly where no fragment is pending, however little memory there is; else its new datagram carries the pending fragments that it takes.
+/// A Send answers Idle exactly where no fragment is pending, be memory refused or not; else its
+/// new datagram carries the pending fragments that it takes.
 pub fn each_send_emits()
     ensures idle { OnEveryRun EmitsWherePending }
     ensures takes { OnEveryRun TakesPending }
     ensures answered { OnEveryRun IdleIsAnswered }
 {}
 
-/// A Send takes one fragment, however small the limit is, and then each that still fits: a datagram of several is no longer than the limit, and with the next fragment, where one waits, it would be longer (RFC 4960 3.1, 3.3.1).
+/// A Send takes one fragment, however small the limit is, and then each that still fits: a
+/// datagram of several is no longer than the limit, and with the next fragment, where one waits,
+/// it would be longer. Lengths are in bytes, padding included (RFC 4960 3.1, 3.3.1).
 pub fn datagrams_keep_the_limit()
     ensures within { OnEveryRun WithinLimit }
     ensures filled { OnEveryRun FilledToLimit }
@@ -72,7 +75,11 @@ pub fn nothing_when_exhausted()
     ensures nothing { OnEveryRun NothingWhereRead }
 {}
 
-/// A lifetime starts at the first Start or Send after the write; a message has lapsed exactly where it was written in timed mode, is not DCEP, and now is at least its start plus its lifetime, a moment that u64 holds (RFC 3758 4.1, RFC 8832 6). Expire, Tail and Late answer and release exactly for those, and Late abandons the messages of the slots that it lists and no others.
+/// A lifetime starts at the first Start or Send after the write. A message has lapsed exactly
+/// where it was written in timed mode, is not DCEP, and now, in nanoseconds, is at least its start
+/// plus its lifetime in milliseconds, a moment that 64 bits hold (RFC 3758 4.1, RFC 8832 6).
+/// Expire, Tail and Late answer, remove and abandon exactly by that; Late abandons the messages of
+/// the slots that it lists and no others.
 pub fn lifetimes_end()
     ensures once { OnEveryRun StartsOnce }
     ensures lapse { OnEveryRun LapsesByEvents }
