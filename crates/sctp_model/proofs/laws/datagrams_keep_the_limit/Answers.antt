@@ -1,5 +1,5 @@
-use Rattle.sctp_model.proofs.Limits.{within_limit}
-use Rattle.sctp_model.proofs.Limits.{filled_to_limit}
+use Rattle.sctp_model.proofs.sender.Limits.{within_limit}
+use Rattle.sctp_model.proofs.sender.Limits.{filled_to_limit}
 use Rattle.sctp_model.proofs.laws.datagrams_keep_the_limit.Goals as goal
 
 pub returns-clause-within : goal.returns-clause-within

@@ -1,6 +1,6 @@
-use Rattle.sctp_model.proofs.Sends.{emits_where_pending}
-use Rattle.sctp_model.proofs.Sends.{takes_pending}
-use Rattle.sctp_model.proofs.Sends.{idle_is_answered}
+use Rattle.sctp_model.proofs.sender.Sends.{emits_where_pending}
+use Rattle.sctp_model.proofs.sender.Sends.{takes_pending}
+use Rattle.sctp_model.proofs.sender.Sends.{idle_is_answered}
 use Rattle.sctp_model.proofs.laws.each_send_emits.Goals as goal
 
 pub returns-clause-idle : goal.returns-clause-idle

@@ -1,6 +1,6 @@
-use Rattle.sctp_model.proofs.Lifetimes.{starts_once}
-use Rattle.sctp_model.proofs.Lapses.{lapses_by_events, expires_lapsed, tail_abandons_lapsed, late_lists_lapsed}
-use Rattle.sctp_model.proofs.Lifetimes.{late_abandons_listed}
+use Rattle.sctp_model.proofs.sender.Lifetimes.{starts_once}
+use Rattle.sctp_model.proofs.sender.Lapses.{lapses_by_events, expires_lapsed, tail_abandons_lapsed, late_lists_lapsed}
+use Rattle.sctp_model.proofs.sender.Lifetimes.{late_abandons_listed}
 use Rattle.sctp_model.proofs.laws.lifetimes_end.Goals as goal
 
 pub returns-clause-once : goal.returns-clause-once
