@@ -19,7 +19,7 @@ use Rattle.sctp_model.specs.Contents.{chunk_at}
 use Rattle.sctp_model.specs.Queues.{FilterRecord, filter_of}
 use Rattle.sctp_model.specs.Steps.{refusal_of, after}
 use Rattle.sctp_model.specs.Sound.{IsSpan}
-use Rattle.sctp_model.proofs.Network
+use Rattle.sctp_model.proofs.sender.Network
 use Rattle.sctp_ties.specs.Holds.{reassembly_of, seen_of}
 use Rattle.sctp_ties.specs.Tied.{filter_held}
 use Rattle.sctp_ties.specs.Counts.{counters_on}

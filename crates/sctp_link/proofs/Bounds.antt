@@ -14,8 +14,8 @@ use Rattle.sctp_model.specs.Messages.{message_at, fragment_count}
 use Rattle.sctp_model.specs.Amounts.{in_all, on_stream, written_bytes, pending_bytes, in_flight_bytes, released_bytes}
 use Rattle.sctp_model.specs.Steps.{fragments_accepted}
 use Rattle.sctp_model.specs.Laws.{IsSetup}
-use Rattle.sctp_model.proofs.SenderRun.{Sane}
-use Rattle.sctp_model.proofs.Bytes.{balances}
+use Rattle.sctp_model.proofs.sender.SenderRun.{Sane}
+use Rattle.sctp_model.proofs.acknowledgement.Bytes.{balances}
 use Rattle.sctp_ties.specs.Amount.{amount}
 use Rattle.sctp_ties.specs.Tied.{TiedOutbound}
 use Rattle.sctp_ties.proofs.PendingBytes.{pending-bytes}

@@ -16,9 +16,9 @@ use Rattle.sctp_model.specs.Steps.{refusal_of, after, fragments_accepted, world_
 use Rattle.sctp_model.specs.Amounts.{in_all, written_bytes}
 use Rattle.sctp_model.specs.Log.{log_of}
 use Rattle.sctp_model.specs.Queues.{filter_of}
-use Rattle.sctp_model.proofs.SenderRun.{sane-run, sane-after}
-use Rattle.sctp_model.proofs.Moves.{Quiet}
-use Rattle.sctp_model.proofs.Received.{received-run}
+use Rattle.sctp_model.proofs.sender.SenderRun.{sane-run, sane-after}
+use Rattle.sctp_model.proofs.sender.Moves.{Quiet}
+use Rattle.sctp_model.proofs.receiver.Received.{received-run}
 use Rattle.sctp_ties.specs.Holds.{reassembly_of}
 use Rattle.sctp_ties.specs.Amount.{amount, keeps_amounts}
 use Rattle.sctp_ties.specs.Counts.{counters_on, is_write, is_read}
@@ -26,7 +26,7 @@ use Rattle.sctp_ties.proofs.MessageSums.{sum-same}
 use Rattle.sctp_ties.proofs.ToldSums.{told-after}
 use Rattle.sctp_ties.proofs.StreamCounters.{written-same, counters-same}
 use Rattle.sctp_ties.proofs.StreamAmounts.{amount-same}
-use Rattle.sctp_model.proofs.SoundRun.{record_is_sound}
+use Rattle.sctp_model.proofs.receiver.SoundRun.{record_is_sound}
 use Rattle.sctp_ties.proofs.QuietReceiver.{reassembly-quiet, filter-quiet}
 use Rattle.sctp_ties.proofs.ReadOne.{KeepsNext, next-same}
 use Rattle.sctp_link.specs.declared.open_stream.OpenStream.{OpenStream}

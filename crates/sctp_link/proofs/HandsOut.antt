@@ -23,7 +23,7 @@ use Rattle.sctp_model.specs.Queues.{filter_of, set_of, whole_set_of, handed_out}
 use Rattle.sctp_model.specs.Reply as R
 use Rattle.sctp_model.specs.Sound.{IsSpan}
 use Rattle.sctp_model.specs.Steps.{refusal_of, reply_to, after, read_reply, unless}
-use Rattle.sctp_model.proofs.Network
+use Rattle.sctp_model.proofs.sender.Network
 use Rattle.sctp_ties.specs.Holds.{reassembly_of}
 use Rattle.sctp_ties.specs.Counts.{counters_on, received_more, counted_as}
 use Rattle.sctp_ties.proofs.Line

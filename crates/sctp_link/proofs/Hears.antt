@@ -17,7 +17,7 @@ use Rattle.sctp_model.specs.Messages.{message_at, slot_at, message_of, stream_at
 use Rattle.sctp_model.specs.Receiver.{is_new, is_held, held_on, next_of, least, greatest}
 use Rattle.sctp_model.specs.Queues.{set_of}
 use Rattle.sctp_model.specs.Steps.{arrival_fits}
-use Rattle.sctp_model.proofs.Shape.{shape, parts}
+use Rattle.sctp_model.proofs.sender.Shape.{shape, parts}
 use Rattle.sctp_ties.specs.Holds.{ordered_sets}
 use Rattle.sctp_ties.proofs.Arrival
 use Rattle.sctp_ties.proofs.Line

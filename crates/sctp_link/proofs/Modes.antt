@@ -11,7 +11,7 @@ use Rattle.sctp_model.specs.World.{World}
 use Rattle.sctp_model.specs.Messages.{is_open}
 use Rattle.sctp_model.specs.Changes.{mode_set, with_mode}
 use Rattle.sctp_model.specs.Steps.{refusal_of, reply_to}
-use Rattle.sctp_model.proofs.SenderRun.{unless-holds}
+use Rattle.sctp_model.proofs.sender.SenderRun.{unless-holds}
 use Rattle.sctp_ties.proofs.Opened
 use Rattle.sctp_ties.proofs.QuietSender.{outbound-same, same-self}
 use Rattle.sctp_link.specs.declared.open_stream.OpenStream.{OpenStream}

@@ -16,7 +16,7 @@ use Rattle.sctp_model.specs.Messages.{is_open, no_stream}
 use Rattle.sctp_model.specs.Receiver.{next_of}
 use Rattle.sctp_model.specs.Changes.{opened}
 use Rattle.sctp_model.specs.Steps.{refusal_of, reply_to}
-use Rattle.sctp_model.proofs.SenderRun.{unless-holds}
+use Rattle.sctp_model.proofs.sender.SenderRun.{unless-holds}
 use Rattle.sctp_ties.proofs.Opened
 use Rattle.sctp_ties.proofs.ReadOne.{next-same}
 use Rattle.sctp_ties.proofs.StreamAmounts.{amount-none}

@@ -24,7 +24,7 @@ use Rattle.sctp_model.specs.Contents.{chunk_at, contents_of}
 use Rattle.sctp_model.specs.Queues.{is_cleared}
 use Rattle.sctp_model.specs.Changes.{resent}
 use Rattle.sctp_model.specs.Steps.{refusal_of, reply_to, can_resend}
-use Rattle.sctp_model.proofs.SenderRun.{unless-holds}
+use Rattle.sctp_model.proofs.sender.SenderRun.{unless-holds}
 use Rattle.sctp_ties.specs.Tied.{TiedOutbound}
 use Rattle.sctp_ties.proofs.InFlight.{Found, found-in, says-same, tied-marked, nsent-quiet}
 use Rattle.sctp_ties.proofs.QuietSender.{outbound-same, same-self}

@@ -12,8 +12,8 @@ use Rattle.sctp_model.specs.Receiver.{is_unread, next_of}
 use Rattle.sctp_model.specs.Contents.{data_with, cumulative_tsn}
 use Rattle.sctp_model.specs.Queues.{FilterRecord, filter_of}
 use Rattle.sctp_model.specs.Changes.{sack_taken}
-use Rattle.sctp_model.proofs.Shape.{has}
-use Rattle.sctp_model.proofs.View.{View, view-taken}
+use Rattle.sctp_model.proofs.sender.Shape.{has}
+use Rattle.sctp_model.proofs.receiver.View.{View, view-taken}
 use Rattle.sctp_ties.specs.Holds.{reassembly_of}
 
 -- ## What came, by what a view tells of the slots

@@ -27,11 +27,11 @@ use Rattle.sctp_model.specs.Changes.{sack_taken, acknowledged_by}
 use Rattle.sctp_model.specs.Steps.{History, IsRun, StandsFor, world_of, refusal_of, reply_to, after, unless, is_for_sender}
 use Rattle.sctp_model.specs.Log.{log_of}
 use Rattle.sctp_model.specs.Laws.{IsSetup}
-use Rattle.sctp_model.proofs.Shape.{shape, sent}
-use Rattle.sctp_model.proofs.Sender.{Sender}
-use Rattle.sctp_model.proofs.Shapes
-use Rattle.sctp_model.proofs.Acknowledged
-use Rattle.sctp_model.proofs.Received.{received-run}
+use Rattle.sctp_model.proofs.sender.Shape.{shape, sent}
+use Rattle.sctp_model.proofs.sender.Sender.{Sender}
+use Rattle.sctp_model.proofs.sender.Shapes
+use Rattle.sctp_model.proofs.acknowledgement.Acknowledged
+use Rattle.sctp_model.proofs.receiver.Received.{received-run}
 use Rattle.sctp_ties.specs.Amount.{unacked, bytes_at, acknowledged_at, acknowledged_then}
 use Rattle.sctp_ties.specs.Tied.{IsInFlight}
 use Rattle.sctp_ties.proofs.Acked.{in-flight-first, tied-taken}

@@ -24,12 +24,12 @@ use Rattle.sctp_model.specs.Amounts.{in_all, written_bytes}
 use Rattle.sctp_model.specs.Reply as R
 use Rattle.sctp_model.specs.Changes.{started, start_at, sent, sent_from, with_data, with_slot, with_datagram, fragment_sent, fragment_of_sent, filled, plus, next_length}
 use Rattle.sctp_model.specs.Steps.{IsRight, StandsFor, reply_to, sent_reply, fragments_accepted}
-use Rattle.sctp_model.proofs.Shape.{Shape, shape, parts, index, front_of, sent as sent_by}
-use Rattle.sctp_model.proofs.Shapes
-use Rattle.sctp_model.proofs.Sender.{sent-slotted}
-use Rattle.sctp_model.proofs.Fronts.{front-takes}
-use Rattle.sctp_model.proofs.Moves
-use Rattle.sctp_model.proofs.Moves.{Quiet}
+use Rattle.sctp_model.proofs.sender.Shape.{Shape, shape, parts, index, front_of, sent as sent_by}
+use Rattle.sctp_model.proofs.sender.Shapes
+use Rattle.sctp_model.proofs.sender.Sender.{sent-slotted}
+use Rattle.sctp_model.proofs.sender.Fronts.{front-takes}
+use Rattle.sctp_model.proofs.sender.Moves
+use Rattle.sctp_model.proofs.sender.Moves.{Quiet}
 use Rattle.sctp_ties.specs.Tied.{waiting_at, TiedOutbound}
 use Rattle.sctp_ties.proofs.Fragments.{shown, idle, all-begun, tied-fragment, going-started}
 use Rattle.sctp_ties.proofs.InFlight.{next-fresh, next-window}

@@ -9,7 +9,7 @@ use Rattle.sctp_model.specs.declared.event.Event.TheVariants as E
 use Rattle.sctp_model.specs.Messages.{no_message, ordered_before}
 use Rattle.sctp_model.specs.Changes.{started, start_at}
 use Rattle.sctp_model.specs.Steps.{reply_to}
-use Rattle.sctp_model.proofs.Moves
+use Rattle.sctp_model.proofs.sender.Moves
 use Rattle.sctp_ties.proofs.LifetimesStart.{tied-started}
 use Rattle.sctp_ties.proofs.Fragments.{all-begun}
 use Rattle.sctp_ties.proofs.InLine.{before-started, counted-started, CountsBefore}

@@ -13,8 +13,8 @@ use Rattle.sctp_model.specs.Contents.{contents_of}
 use Rattle.sctp_model.specs.Queues.{filter_of}
 use Rattle.sctp_model.specs.Steps.{StandsFor, refusal_of, reply_to, after}
 use Rattle.sctp_model.specs.Laws.{IsSetup}
-use Rattle.sctp_model.proofs.Shape.{Shape, shape, sent, parts, on}
-use Rattle.sctp_model.proofs.Network.{Same}
+use Rattle.sctp_model.proofs.sender.Shape.{Shape, shape, sent, parts, on}
+use Rattle.sctp_model.proofs.sender.Network.{Same}
 use Rattle.sctp_ties.specs.Holds.{reassembly_of}
 use Rattle.sctp_ties.specs.Tied.{filter_held}
 use Rattle.sctp_ties.specs.Amount.{amount, keeps_amounts}

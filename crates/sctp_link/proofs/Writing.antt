@@ -22,8 +22,8 @@ use Rattle.sctp_model.specs.Receiver.{next_of}
 use Rattle.sctp_model.specs.Amounts.{in_all, written_bytes}
 use Rattle.sctp_model.specs.Changes.{wrote, message_on}
 use Rattle.sctp_model.specs.Steps.{refusal_of, reply_to, fragments_accepted, fragments_in}
-use Rattle.sctp_model.proofs.SenderRun.{Sane, sane-after}
-use Rattle.sctp_model.proofs.Moves
+use Rattle.sctp_model.proofs.sender.SenderRun.{Sane, sane-after}
+use Rattle.sctp_model.proofs.sender.Moves
 use Rattle.sctp_ties.specs.Tied.{TiedOutbound}
 use Rattle.sctp_ties.specs.Amount.{amount}
 use Rattle.sctp_ties.specs.Counts.{counters_on, counted_as, sent_more}

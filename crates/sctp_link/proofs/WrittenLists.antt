@@ -22,7 +22,7 @@ use Rattle.sctp_model.specs.World.{World}
 use Rattle.sctp_model.specs.Messages.{is_open}
 use Rattle.sctp_model.specs.Changes.{wrote}
 use Rattle.sctp_model.specs.Steps.{refusal_of, unless, IsRight, fragments_in, fragments_accepted}
-use Rattle.sctp_model.proofs.SenderRun.{unless-holds}
+use Rattle.sctp_model.proofs.sender.SenderRun.{unless-holds}
 use Rattle.sctp_model.specs.Messages as M
 use Rattle.sctp_ties.specs.Tied.{TiedOutbound}
 use Rattle.sctp_ties.proofs.StreamAmounts.{write-open}

@@ -16,8 +16,8 @@ use Rattle.sctp_model.specs.World.{World, Report, Sack}
 use Rattle.sctp_model.specs.Messages.{message_at, slot_at, message_of, messages_where, no_slot, tsn_of, sent_of, fragment_count, is_half_sent}
 use Rattle.sctp_model.specs.Reports.{reports}
 use Rattle.sctp_model.specs.Changes.{sack_taken, acknowledged_by}
-use Rattle.sctp_model.proofs.Shape.{sent}
-use Rattle.sctp_model.proofs.Shapes
+use Rattle.sctp_model.proofs.sender.Shape.{sent}
+use Rattle.sctp_model.proofs.sender.Shapes
 use Rattle.sctp_ties.specs.Tied.{Sending, sending_by, IsInFlight, sending_of, sending_at, sendings_of, selected_of, waiting_of, waiting_where, waits_ordered, waits_unordered, TiedOutbound}
 use Rattle.sctp_ties.proofs.Waiting
 use Rattle.sctp_ties.proofs.Waiting.{Alike, gathered-same}

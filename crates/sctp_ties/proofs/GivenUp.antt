@@ -13,9 +13,9 @@ use Rattle.sctp_model.specs.Messages
 use Rattle.sctp_model.specs.Messages.{message_at, slot_at, messages_where, has_fragment, sent_of, no_message, no_slot, is_half_sent}
 use Rattle.sctp_model.specs.Amounts.{is_given_up, in_all, pending_bytes, in_flight_bytes}
 use Rattle.sctp_model.specs.Changes.{with_slot, message_changed, mark_abandoned, mark_expired, abandoned}
-use Rattle.sctp_model.proofs.Shape.{shape, sent}
-use Rattle.sctp_model.proofs.Sender.{sent-slotted}
-use Rattle.sctp_model.proofs.Shapes
+use Rattle.sctp_model.proofs.sender.Shape.{shape, sent}
+use Rattle.sctp_model.proofs.sender.Sender.{sent-slotted}
+use Rattle.sctp_model.proofs.sender.Shapes
 use Rattle.sctp_ties.specs.Amount.{amount, held_bytes}
 
 -- the bytes held, of the messages that pass

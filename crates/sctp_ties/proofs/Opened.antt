@@ -12,8 +12,8 @@ use Rattle.sctp_model.specs.Receiver.{is_held, next_of}
 use Rattle.sctp_model.specs.Changes.{opened, mode_set}
 use Rattle.sctp_model.specs.Contents.{chunk_at}
 use Rattle.sctp_model.specs.Queues.{set_of, whole_set_of, is_loose}
-use Rattle.sctp_model.proofs.SenderRun.{Sane}
-use Rattle.sctp_model.proofs.View
+use Rattle.sctp_model.proofs.sender.SenderRun.{Sane}
+use Rattle.sctp_model.proofs.receiver.View
 use Rattle.sctp_ties.specs.Holds.{ordered_sets, loose_chunks, reassembly_of}
 use Rattle.sctp_ties.proofs.Keeps
 use Rattle.sctp_ties.proofs.Line

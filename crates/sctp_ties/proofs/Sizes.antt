@@ -26,14 +26,14 @@ use Rattle.sctp_model.specs.Receiver.{arrived_at, is_new, is_held}
 use Rattle.sctp_model.specs.Contents.{chunk_at}
 use Rattle.sctp_model.specs.Queues.{set_of, is_loose}
 use Rattle.sctp_model.specs.Amounts
-use Rattle.sctp_model.proofs.Shape.{shape}
-use Rattle.sctp_model.proofs.Sender.{Sender}
+use Rattle.sctp_model.proofs.sender.Shape.{shape}
+use Rattle.sctp_model.proofs.sender.Sender.{Sender}
 use Rattle.sctp_model.specs.declared.event.Event.TheVariants as E
 use Rattle.sctp_model.specs.Steps.{History, world_of, refusal_of, IsRun}
 use Rattle.sctp_model.specs.Laws.{IsSetup}
-use Rattle.sctp_model.proofs.SenderRun.{Sane, sane-run}
-use Rattle.sctp_model.proofs.SoundRun.{slots_come_sound}
-use Rattle.sctp_model.proofs.Bytes.{slots-bytes, fragments-bytes, size-some}
+use Rattle.sctp_model.proofs.sender.SenderRun.{Sane, sane-run}
+use Rattle.sctp_model.proofs.receiver.SoundRun.{slots_come_sound}
+use Rattle.sctp_model.proofs.acknowledgement.Bytes.{slots-bytes, fragments-bytes, size-some}
 use Rattle.sctp_ties.specs.Holds.{has_come, reassembly_of}
 use Rattle.sctp_model.specs.Sound.{IsSpan, Sound, SoundLoose}
 use Rattle.sctp_ties.proofs.Arrival
