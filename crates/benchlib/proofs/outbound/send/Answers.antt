@@ -1,6 +1,6 @@
 use Rattle.std.proofs.Common.{arith}
-use Rattle.queuebench.proofs.NearLemmas.{absent-below, below-sent, window-below}
-use Rattle.queuebench.proofs.outbound.send.Goals as goal
+use Rattle.benchlib.proofs.NearLemmas.{absent-below, below-sent, window-below}
+use Rattle.benchlib.proofs.outbound.send.Goals as goal
 
 pub send_next-requires-clause-fresh : goal.send_next-requires-clause-fresh
 send_next-requires-clause-fresh c = absent-below c.args.tsn c.args.queue.now.inflight.chunks c.requires.in_flight

@@ -1,17 +1,9 @@
-//! What a run gives, and the chunks that the runs are over.
+//! The chunks that runs of the queues are over.
 
 ghost use Rattle.std.specs.Prelude.{◌≡◌, ◌<◌, length, true};
 
 use bytes::Bytes;
 use sctp_chunks::chunk::chunk_payload_data::{ChunkPayloadData, PayloadProtocolIdentifier};
-use std::time::Duration;
-
-/// How much a run gave, and how long it took.
-#[derive(Drop)]
-pub struct Measured {
-    pub given: usize,
-    pub elapsed: Duration,
-}
 
 /// In which order chunks come.
 #[derive(Clone, Copy)]

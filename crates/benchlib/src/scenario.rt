@@ -1,7 +1,14 @@
 //! What is run, and how it is told.
 
 use crate::subject::{Delivery, Order};
+use crate::timing::{Fastest, Measured};
+use crate::{outbound, payload, reassembly};
+use std::alloc::Global;
 use std::fmt;
+use std::time::Clock;
+
+// So many units are measured of each scenario, in as many runs as that takes.
+const UNITS: u32 = 100_000;
 
 /// What is run.
 #[derive(Clone, Copy)]
@@ -86,4 +93,27 @@ pub fn is_slow(scenario: Scenario) -> bool {
         Scenario::PushAndPop(count, Order::Shuffled) => count > 1000,
         _ => false,
     }
+}
+
+/// One run.
+pub fn measure(clock: &impl Clock, alloc: Global, scenario: Scenario) -> anyhow::Result<Measured> {
+    match scenario {
+        Scenario::PushAndPop(count, order) => payload::push_and_pop(clock, alloc, count, order),
+        Scenario::SendNext(count) => outbound::send_all(clock, alloc, count),
+        Scenario::GapBlocks(run) => payload::gap_blocks(clock, alloc, run),
+        Scenario::OneMessage(delivery, order) => {
+            reassembly::one_message(clock, alloc, delivery, order)
+        }
+        Scenario::Interleaved => reassembly::interleaved(clock, alloc),
+    }
+}
+
+/// The nanoseconds that a unit took in the fastest run.
+pub fn fastest(clock: &impl Clock, alloc: Global, scenario: Scenario) -> anyhow::Result<u128> {
+    let units = unit_of(scenario).units.max(1);
+    let mut fastest = Fastest::new();
+    for _ in 0..UNITS / units {
+        fastest.note(measure(clock, alloc, scenario)?.elapsed);
+    }
+    Ok(fastest.of_each(units))
 }

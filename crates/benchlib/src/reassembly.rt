@@ -2,7 +2,8 @@
 
 ghost use Rattle.std.specs.Prelude.{◌<◌};
 
-use crate::subject::{Delivery, Measured, Order, fragment, number_at};
+use crate::subject::{Delivery, Order, fragment, number_at};
+use crate::timing::Measured;
 use bytes::Bytes;
 use sctp_base::error::Result;
 use sctp_queues::chunks::Chunks;

@@ -11,7 +11,7 @@ use Rattle.sctp_queues.specs.Payload.{Payload, pushed, repeated}
 use Rattle.sctp_queues.specs.Pending as pending
 use Rattle.sctp_queues.specs.Window.{IsWindow, IsWithinHalf, is_held}
 use Rattle.sctp_queues.proofs.Serials.{not_found}
-use Rattle.queuebench.specs.Near.{AreBelow}
+use Rattle.benchlib.specs.Near.{AreBelow}
 
 abbrev pub IsBelow : ℕ → ChunkPayloadData → Type 0
 IsBelow bound c = (0 < c.tsn) × (c.tsn < bound)

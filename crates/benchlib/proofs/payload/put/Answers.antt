@@ -1,6 +1,6 @@
 use Rattle.std.proofs.Common.{◌^◌, arith}
-use Rattle.queuebench.proofs.NearLemmas.{window-below, below-pushed}
-use Rattle.queuebench.proofs.payload.put.Goals as goal
+use Rattle.benchlib.proofs.NearLemmas.{window-below, below-pushed}
+use Rattle.benchlib.proofs.payload.put.Goals as goal
 
 pub push-requires-clause-window : goal.push-requires-clause-window
 push-requires-clause-window c = λ _. window-below (2 ^ 31) c.args.queue.now.chunks c.whole-chunk.result.tsn (omega arith) (omega arith) (omega arith) c.requires.held

@@ -1,9 +1,10 @@
 //! Runs of a payload queue.
 
 ghost use Rattle.std.specs.Prelude.{◌<◌, ◌^◌};
-ghost use Rattle.queuebench.specs.Near.{AreBelow};
+ghost use Rattle.benchlib.specs.Near.{AreBelow};
 
-use crate::subject::{Measured, Order, number_at, whole};
+use crate::subject::{Order, number_at, whole};
+use crate::timing::Measured;
 use sctp_base::error::Result;
 use sctp_queues::payload_queue::PayloadQueue;
 use std::alloc::Global;

@@ -3,9 +3,10 @@
 ghost use Rattle.std.specs.Prelude.{◌≡◌, ◌+◌, ◌<◌, ◌^◌, [], IfOk};
 ghost use Rattle.sctp_queues.specs.DataChunks.{bytes_of};
 ghost use Rattle.sctp_queues.specs.Whole.{IsMessageOrNone};
-ghost use Rattle.queuebench.specs.Near.{AreBelow};
+ghost use Rattle.benchlib.specs.Near.{AreBelow};
 
-use crate::subject::{Measured, whole};
+use crate::subject::whole;
+use crate::timing::Measured;
 use sctp_base::error::Result;
 use sctp_chunks::chunk::chunk_payload_data::ChunkPayloadData;
 use sctp_queues::outbound_queue::OutboundQueue;
