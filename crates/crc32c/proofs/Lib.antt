@@ -1,3 +1,4 @@
 pub mod Shifts
 pub mod Rows
 pub mod Chunks
+pub mod Examples

@@ -30,9 +30,11 @@ unfolding row zero_bytes
 row_at zero b h = get_or-map-range_with_len (shifted 8) 0 256 b b 0 h (omega arith)
 row_at (suc k) b h =
     let short : b < length (row k) = omega (arith, row_length k) in
-    get_or-map (shifted 8) (row k) b 0 0 short ∙ ap (shifted 8) (row_at k b h) ∙ sym (zero_bytes-up (suc k) b)
+    get_or-map (shifted 8) (row k) b 0 0 short
+    ∙ ap (shifted 8) (row_at k b h) ∙ sym (zero_bytes-up (suc k) b)
 
-pub table_at : (k b : ℕ) → k < 8 → b < 256 → get_or (get_or TABLES k []) b 0 ≡ zero_bytes (suc k) b
+pub table_at : (k b : ℕ) → k < 8 → b < 256
+    → get_or (get_or TABLES k []) b 0 ≡ zero_bytes (suc k) b
 table_at k b hk hb =
     ap (λ rows. get_or (get_or rows k []) b 0) tables_are
     ∙ ap (λ it. get_or it b 0) (get_or-map-range_with_len row 0 8 k k [] hk (omega arith))

@@ -5,34 +5,46 @@ use Rattle.std.specs.Int.{w64, from_le_bytes}
 use Rattle.std.specs.Int.Bits.{xor_assoc, xor_self, xor_zero_r, xor_comm, xor_shr, xor_mod, xor_block}
 use Rattle.crc32c.specs.Castagnoli.{shift, shifted, byte_step, zero_bytes}
 
-by_parity : (ra rb ha hb : ℕ) → ra < 2 → rb < 2 → (if bit_xor ra rb == 0 then bit_xor ha hb else bit_xor (bit_xor ha hb) 0x82f63b78) ≡ bit_xor (if ra == 0 then ha else bit_xor ha 0x82f63b78) (if rb == 0 then hb else bit_xor hb 0x82f63b78)
-by_parity zero zero ha hb ea eb = refl
-by_parity zero (suc zero) ha hb ea eb = xor_assoc ha hb 0x82f63b78
-by_parity (suc zero) zero ha hb ea eb = xor_assoc ha hb 0x82f63b78 ∙ ap (bit_xor ha) (xor_comm hb 0x82f63b78) ∙ sym (xor_assoc ha 0x82f63b78 hb)
-by_parity (suc zero) (suc zero) ha hb ea eb =
-    sym (xor_assoc ha 0x82f63b78 (bit_xor hb 0x82f63b78)
-    ∙ ap (bit_xor ha) (xor_comm 0x82f63b78 (bit_xor hb 0x82f63b78) ∙ xor_assoc hb 0x82f63b78 0x82f63b78 ∙ ap (bit_xor hb) (xor_self 0x82f63b78) ∙ xor_zero_r hb))
-by_parity (suc (suc ra)) rb ha hb ea eb = absurd (omega arith)
-by_parity zero (suc (suc rb)) ha hb ea eb = absurd (omega arith)
-by_parity (suc zero) (suc (suc rb)) ha hb ea eb = absurd (omega arith)
+-- the polynomial beside, where a bit fell out
+beside : ℕ → ℕ → ℕ
+beside bit half = if bit == 0 then half else bit_xor half 0x82f63b78
+
+by_parity : (p q a b : ℕ) → p < 2 → q < 2
+    → beside (bit_xor p q) (bit_xor a b) ≡ bit_xor (beside p a) (beside q b)
+unfolding beside
+by_parity zero zero a b hp hq = refl
+by_parity zero (suc zero) a b hp hq = xor_assoc a b 0x82f63b78
+by_parity (suc zero) zero a b hp hq =
+    xor_assoc a b 0x82f63b78
+    ∙ ap (bit_xor a) (xor_comm b 0x82f63b78)
+    ∙ sym (xor_assoc a 0x82f63b78 b)
+by_parity (suc zero) (suc zero) a b hp hq =
+    let twice : bit_xor (bit_xor b 0x82f63b78) 0x82f63b78 ≡ b =
+    xor_assoc b 0x82f63b78 0x82f63b78 ∙ ap (bit_xor b) (xor_self 0x82f63b78) ∙ xor_zero_r b in
+    sym (xor_assoc a 0x82f63b78 (bit_xor b 0x82f63b78)
+    ∙ ap (bit_xor a) (xor_comm 0x82f63b78 (bit_xor b 0x82f63b78) ∙ twice))
+by_parity (suc (suc p)) q a b hp hq = absurd (omega arith)
+by_parity zero (suc (suc q)) a b hp hq = absurd (omega arith)
+by_parity (suc zero) (suc (suc q)) a b hp hq = absurd (omega arith)
 
 shift_xor : (a b : ℕ) → shift (bit_xor a b) ≡ bit_xor (shift a) (shift b)
-unfolding shift
+unfolding shift beside
 shift_xor a b =
-    (λ i. if xor_mod a b 1 i == 0 then xor_shr a b 1 i else bit_xor (xor_shr a b 1 i) 0x82f63b78)
+    (λ i. beside (xor_mod a b 1 i) (xor_shr a b 1 i))
     ∙ by_parity (a % 2) (b % 2) (a / 2) (b / 2) (omega arith) (omega arith)
 
-shifted_xor : (bits a b : ℕ) → shifted bits (bit_xor a b) ≡ bit_xor (shifted bits a) (shifted bits b)
+shifted_xor : (bits a b : ℕ)
+    → shifted bits (bit_xor a b) ≡ bit_xor (shifted bits a) (shifted bits b)
 unfolding shifted
 shifted_xor zero a b = refl
 shifted_xor (suc bits) a b = ap (shifted bits) (shift_xor a b) ∙ shifted_xor bits (shift a) (shift b)
 
 shift_half : (a b : ℕ) → a ≡ b * 2 → shift a ≡ b
-unfolding shift
+unfolding shift beside
 shift_half a b e =
     let even : a % 2 ≡ 0 = omega arith in
     let half : a / 2 ≡ b = omega arith in
-    λ i. if even i == 0 then half i else bit_xor (half i) 0x82f63b78
+    λ i. beside (even i) (half i)
 
 shifted_byte : (m : ℕ) → shifted 8 (m * 256) ≡ m
 unfolding shifted
@@ -59,7 +71,8 @@ joined high low h =
     (λ i. bit_xor (one i) (two i)) ∙ xor_block 8 0 high low 0 h (omega arith) ∙ omega arith
 
 -- the lowest byte of a number, and what is above it
-pub zero_bytes-suc : (k x : ℕ) → zero_bytes (suc k) x ≡ bit_xor (zero_bytes (suc k) (x % 256)) (zero_bytes k (x / 256))
+pub zero_bytes-suc : (k x : ℕ)
+    → zero_bytes (suc k) x ≡ bit_xor (zero_bytes (suc k) (x % 256)) (zero_bytes k (x / 256))
 unfolding zero_bytes
 zero_bytes-suc k x =
     let parts : x ≡ x % 256 + x / 256 * 256 = omega arith in
@@ -72,7 +85,8 @@ unfoldable pub word_of : List ℕ → ℕ
 word_of [] = 0
 word_of (b ∷ bs) = b + word_of bs * 256
 
-pub fold-word_of : (bs : List ℕ) (r : ℕ) → ((i : ℕ) → get_or bs i 0 < 256) → fold byte_step r bs ≡ zero_bytes (length bs) (bit_xor r (word_of bs))
+pub fold-word_of : (bs : List ℕ) (r : ℕ) → ((i : ℕ) → get_or bs i 0 < 256)
+    → fold byte_step r bs ≡ zero_bytes (length bs) (bit_xor r (word_of bs))
 unfolding byte_step zero_bytes word_of
 fold-word_of [] r h = sym (xor_zero_r r)
 fold-word_of (b ∷ bs) r h =
@@ -83,27 +97,35 @@ fold-word_of (b ∷ bs) r h =
     ∙ ap (shifted 8) (xor_assoc r b (word_of bs * 256) ∙ ap (bit_xor r) (joined (word_of bs) b (h 0))))
 
 -- a byte's step by the remainder of one byte
-pub byte_step-by_table : (r b : ℕ) → b < 256 → byte_step r b ≡ bit_xor (zero_bytes 1 (bit_xor r b % 256)) (r / 256)
+pub byte_step-by_table : (r b : ℕ) → b < 256
+    → byte_step r b ≡ bit_xor (zero_bytes 1 (bit_xor r b % 256)) (r / 256)
 unfolding byte_step zero_bytes
 byte_step-by_table r b h =
     let none : b / 256 ≡ 0 = omega arith in
-    let high : bit_xor r b / 256 ≡ r / 256 = xor_shr r b 8 ∙ ap (bit_xor (r / 256)) none ∙ xor_zero_r (r / 256) in
+    let high : bit_xor r b / 256 ≡ r / 256 =
+    xor_shr r b 8 ∙ ap (bit_xor (r / 256)) none ∙ xor_zero_r (r / 256) in
     zero_bytes-suc 0 (bit_xor r b) ∙ ap (bit_xor (zero_bytes 1 (bit_xor r b % 256))) high
 
 -- the eight bytes of a word
-pub eight_bytes : (x : ℕ) → x < 2 ^ 64 → zero_bytes 8 x ≡ bit_xor (zero_bytes 8 (x % 256)) (bit_xor (zero_bytes 7 (x / 2 ^ 8 % 256)) (bit_xor (zero_bytes 6 (x / 2 ^ 16 % 256)) (bit_xor (zero_bytes 5 (x / 2 ^ 24 % 256)) (bit_xor (zero_bytes 4 (x / 2 ^ 32 % 256)) (bit_xor (zero_bytes 3 (x / 2 ^ 40 % 256)) (bit_xor (zero_bytes 2 (x / 2 ^ 48 % 256)) (zero_bytes 1 (x / 2 ^ 56 % 256))))))))
+pub eight_bytes : (x : ℕ) → x < 2 ^ 64 → zero_bytes 8 x
+    ≡ bit_xor (zero_bytes 8 (x % 256)) (bit_xor (zero_bytes 7 (x / 2 ^ 8 % 256))
+    (bit_xor (zero_bytes 6 (x / 2 ^ 16 % 256)) (bit_xor (zero_bytes 5 (x / 2 ^ 24 % 256))
+    (bit_xor (zero_bytes 4 (x / 2 ^ 32 % 256)) (bit_xor (zero_bytes 3 (x / 2 ^ 40 % 256))
+    (bit_xor (zero_bytes 2 (x / 2 ^ 48 % 256)) (zero_bytes 1 (x / 2 ^ 56 % 256))))))))
 eight_bytes x h =
-    zero_bytes-suc 7 x ∙ ap (bit_xor (zero_bytes 8 (x % 256)))
-    (zero_bytes-suc 6 (x / 2 ^ 8) ∙ at (x / 2 ^ 8 / 256) (x / 2 ^ 16) 7 6 (x / 2 ^ 8 % 256) (omega arith) ∙ ap (bit_xor (zero_bytes 7 (x / 2 ^ 8 % 256)))
-    (zero_bytes-suc 5 (x / 2 ^ 16) ∙ at (x / 2 ^ 16 / 256) (x / 2 ^ 24) 6 5 (x / 2 ^ 16 % 256) (omega arith) ∙ ap (bit_xor (zero_bytes 6 (x / 2 ^ 16 % 256)))
-    (zero_bytes-suc 4 (x / 2 ^ 24) ∙ at (x / 2 ^ 24 / 256) (x / 2 ^ 32) 5 4 (x / 2 ^ 24 % 256) (omega arith) ∙ ap (bit_xor (zero_bytes 5 (x / 2 ^ 24 % 256)))
-    (zero_bytes-suc 3 (x / 2 ^ 32) ∙ at (x / 2 ^ 32 / 256) (x / 2 ^ 40) 4 3 (x / 2 ^ 32 % 256) (omega arith) ∙ ap (bit_xor (zero_bytes 4 (x / 2 ^ 32 % 256)))
-    (zero_bytes-suc 2 (x / 2 ^ 40) ∙ at (x / 2 ^ 40 / 256) (x / 2 ^ 48) 3 2 (x / 2 ^ 40 % 256) (omega arith) ∙ ap (bit_xor (zero_bytes 3 (x / 2 ^ 40 % 256)))
-    (zero_bytes-suc 1 (x / 2 ^ 48) ∙ at (x / 2 ^ 48 / 256) (x / 2 ^ 56) 2 1 (x / 2 ^ 48 % 256) (omega arith) ∙ ap (bit_xor (zero_bytes 2 (x / 2 ^ 48 % 256)))
-    (ap (zero_bytes 1) (omega arith))))))))
+    zero_bytes-suc 7 x
+    ∙ ap (bit_xor (zero_bytes 8 (x % 256))) (from 6 (x / 2 ^ 8) (x / 2 ^ 16) (omega arith)
+    ∙ ap (bit_xor (zero_bytes 7 (x / 2 ^ 8 % 256))) (from 5 (x / 2 ^ 16) (x / 2 ^ 24) (omega arith)
+    ∙ ap (bit_xor (zero_bytes 6 (x / 2 ^ 16 % 256))) (from 4 (x / 2 ^ 24) (x / 2 ^ 32) (omega arith)
+    ∙ ap (bit_xor (zero_bytes 5 (x / 2 ^ 24 % 256))) (from 3 (x / 2 ^ 32) (x / 2 ^ 40) (omega arith)
+    ∙ ap (bit_xor (zero_bytes 4 (x / 2 ^ 32 % 256))) (from 2 (x / 2 ^ 40) (x / 2 ^ 48) (omega arith)
+    ∙ ap (bit_xor (zero_bytes 3 (x / 2 ^ 40 % 256))) (from 1 (x / 2 ^ 48) (x / 2 ^ 56) (omega arith)
+    ∙ ap (bit_xor (zero_bytes 2 (x / 2 ^ 48 % 256))) (ap (zero_bytes 1) (omega arith))))))))
   where
-    at : (y z j k low : ℕ) → y ≡ z → bit_xor (zero_bytes j low) (zero_bytes k y) ≡ bit_xor (zero_bytes j low) (zero_bytes k z)
-    at y z j k low e = ap (λ n. bit_xor (zero_bytes j low) (zero_bytes k n)) e
+    from : (k y above : ℕ) → y / 256 ≡ above
+        → zero_bytes (suc k) y ≡ bit_xor (zero_bytes (suc k) (y % 256)) (zero_bytes k above)
+    from k y above e =
+        zero_bytes-suc k y ∙ ap (λ n. bit_xor (zero_bytes (suc k) (y % 256)) (zero_bytes k n)) e
 
 word_of-le : (bs : List ℕ) → length bs ≡ 8 → word_of bs ≡ from_le_bytes w64 bs
 unfolding word_of
@@ -119,5 +141,7 @@ word_of-le (a ∷ b ∷ c ∷ d ∷ e ∷ f ∷ g ∷ []) len = absurd (omega ar
 word_of-le (a ∷ b ∷ c ∷ d ∷ e ∷ f ∷ g ∷ h ∷ i ∷ bs) len = absurd (omega arith)
 
 -- eight bytes as one word
-pub fold-eight : (r : ℕ) (bs : List ℕ) → length bs ≡ 8 → ((i : ℕ) → get_or bs i 0 < 256) → fold byte_step r bs ≡ zero_bytes 8 (bit_xor r (from_le_bytes w64 bs))
-fold-eight r bs len bytes = fold-word_of bs r bytes ∙ (λ i. zero_bytes (len i) (bit_xor r (word_of-le bs len i)))
+pub fold-eight : (r : ℕ) (bs : List ℕ) → length bs ≡ 8 → ((i : ℕ) → get_or bs i 0 < 256)
+    → fold byte_step r bs ≡ zero_bytes 8 (bit_xor r (from_le_bytes w64 bs))
+fold-eight r bs len bytes =
+    fold-word_of bs r bytes ∙ (λ i. zero_bytes (len i) (bit_xor r (word_of-le bs len i)))
