@@ -1,9 +1,9 @@
 use Rattle.std.proofs.Common.{◌≡◌, ◌∙◌, ap, true, false}
 use Rattle.std.specs.Prelude.{nat_eq}
 use lib.Pointwise.{pointwise}
-use Rattle.linkrun.specs.Field.{dash}
-use Rattle.linkrun.proofs.Fields.{refused}
-use Rattle.linkrun.proofs.field.field_bytes.Goals as goal
+use Rattle.linkscript.specs.Field.{dash}
+use Rattle.linkscript.proofs.Fields.{refused}
+use Rattle.linkscript.proofs.field.field_bytes.Goals as goal
 
 not_dash : false ≡ true → ⊥
 not_dash e = cc

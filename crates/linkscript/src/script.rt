@@ -3,9 +3,9 @@
 ghost use Rattle.std.specs.Prelude.{◌≤◌, ℕ, IfOk, IfSome};
 ghost use Rattle.sctp_link.specs.Replies.{IsBuilt};
 
-use crate::RunFault;
-use crate::crc32c::Crc32c;
 use crate::field::{FieldFault, field_bytes, field_text};
+use crate::run::RunFault;
+use sctp_base::util::Checksum;
 use sctp_chunks::chunk::chunk_payload_data::{PayloadProtocolIdentifier, ReliabilityType};
 use sctp_link::event::{Event, LinkRefusal, Reply};
 use sctp_link::link::Link;
@@ -23,7 +23,7 @@ pub enum LineFault {
 const MAX_FRAGMENT_SIZE: u32 = 65_519;
 
 /// Reads `link FIRST SIZE MAX`.
-pub fn read_link(alloc: Global, line: &str) -> Option<Link<Crc32c>> {
+pub fn read_link<C: Checksum + Drop>(alloc: Global, checksum: C, line: &str) -> Option<Link<C>> {
     let mut rest = Some(line);
     if take_word(&mut rest)? != "link" {
         return None;
@@ -34,7 +34,7 @@ pub fn read_link(alloc: Global, line: &str) -> Option<Link<Crc32c>> {
     if rest.is_some() || fragment_size < 1 || fragment_size > MAX_FRAGMENT_SIZE {
         return None;
     }
-    Some(Link::new(alloc, first_tsn, fragment_size, max_message_size, Crc32c))
+    Some(Link::new(alloc, first_tsn, fragment_size, max_message_size, checksum))
 }
 
 /// Reads an event. The word of an event that a link does not take yet is not read.

@@ -2,9 +2,9 @@
 
 ghost use Rattle.std.specs.Prelude.{◌≡◌, ◌≢◌, ◌⊎◌, ℕ, List, IfOk, IfErr};
 ghost use Rattle.std.specs.String.{string_bytes};
-ghost use Rattle.linkrun.specs.Field.{IsField, field_of};
+ghost use Rattle.linkscript.specs.Field.{IsField, field_of};
 ghost use Rattle.hex.specs.declared.error.FromHexError.TheVariants as hex_errors;
-ghost use Rattle.linkrun.specs.declared.field.FieldFault.TheVariants.{NotHex, OutOfMemory};
+ghost use Rattle.linkscript.specs.declared.field.FieldFault.TheVariants.{NotHex, OutOfMemory};
 
 use bytes::Bytes;
 use hex::FromHexError;

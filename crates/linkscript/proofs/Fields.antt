@@ -5,9 +5,9 @@ use Rattle.hex.specs.Hex.{decode_of, IsBytes}
 use Rattle.hex.proofs.HexLemmas.{decode_of-encode_lower}
 use Rattle.hex.specs.declared.error.FromHexError.{FromHexError}
 use Rattle.hex.specs.declared.error.FromHexError.TheVariants as hex_errors
-use Rattle.linkrun.specs.declared.field.FieldFault.{FieldFault}
-use Rattle.linkrun.specs.declared.field.FieldFault.TheVariants.{NotHex, OutOfMemory}
-use Rattle.linkrun.specs.Field.{dash, IsField, field_of}
+use Rattle.linkscript.specs.declared.field.FieldFault.{FieldFault}
+use Rattle.linkscript.specs.declared.field.FieldFault.TheVariants.{NotHex, OutOfMemory}
+use Rattle.linkscript.specs.Field.{dash, IsField, field_of}
 
 -- the field of some bytes is read as them
 pub field_again : (bytes : List ℕ) → IsBytes bytes → IsField (field_of bytes) bytes
