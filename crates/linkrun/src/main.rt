@@ -6,12 +6,11 @@ ghost use Rattle.std.specs.Prelude.{◌≡◌, ◌⊎◌, IfOk};
 pub mod checksum;
 
 use crate::checksum::Crc32c;
+pub use linkscript::run::RunFault;
 use linkscript::run::run_under;
 use std::alloc::Global;
 use std::io::{self, BufWriter, Read, Write};
 use std::process::ExitCode;
-
-pub use linkscript::run::RunFault;
 
 /// Reads a script whole, runs it line by line on a link under CRC-32C, and prints a line for each
 /// reply. The status is 0, or 2 where a line cannot be read: that is the last one then.
