@@ -1,11 +1,17 @@
 #!/usr/bin/env python3
-"""Tries every wrong body of a crate and judges each by the function that it turns.
+"""Tries every wrong body of a crate and judges each by the function that it turns; or packs them into few files.
 
-    python3 tools/wrong_bodies.py CRATE [JOBS]
+    python3 tools/wrong_bodies.py CRATE [JOBS [WORD..]]
+    python3 tools/wrong_bodies.py --pack CRATE
 
-run at the top of the repository, over libraries that `rt check` has proved. The gate asks of a file in must-fail/ only that the crate with all
-its wrong bodies is refused; here they are put into as few copies of the crate as have at most one in each function, and each must be refused in
-its own function. Prints those that are not, and ends with a count; the exit status is 0 where each was refused.
+run at the top of the repository. The first finds the kit's command `rt` on the PATH and runs over libraries that `rt check` has proved. The gate
+asks of a file in must-fail/ only that the crate with all its wrong bodies is refused; here they are put into as few copies of the crate as have
+at most one in each function, and each must be refused in its own function. Prints those that are not, and ends with a count; the exit status is
+0 where each was refused. With words it tries those alone whose file's name or title has one of them.
+
+With --pack it tries nothing: it writes must-fail/ anew, so that all wrong bodies stand in as few files 0_bodies.edit, 1_bodies.edit, .. as have
+at most one in each function, the largest first. A file whose first line begins with "Alone: " stays as it is. Each body keeps its texts and its
+title; the body of a file without titles takes the file's name as its title, in words. What comes out rests on the bodies and the sources alone.
 """
 import importlib.machinery
 import importlib.util
@@ -15,36 +21,47 @@ import shutil
 import sys
 import tempfile
 
-RT = os.path.realpath(shutil.which("rt") or "/opt/rattle/bin/rt")
+ALONE = "Alone: "
+HEAD = """Each title is a wrong body of its own, in a function of its own; each is refused in that function (docs/GATE.md says how they were tried).
+"""
 FN = re.compile(r"\s*(?:pub(?:\([a-z]+\))?\s+)?(?:const\s+)?fn\s+(\w+)")
 
 
 def kit():
     """Returns the kit's command `rt` as a module: how it finds crates, applies an edit and checks a copy."""
-    sys.path.insert(0, os.path.dirname(RT))
-    loader = importlib.machinery.SourceFileLoader("rt_of_the_kit", RT)
+    path = shutil.which("rt")
+    if not path:
+        sys.exit("wrong_bodies.py: the kit's command rt is not on the PATH")
+    path = os.path.realpath(path)
+    sys.path.insert(0, os.path.dirname(path))
+    loader = importlib.machinery.SourceFileLoader("rt_of_the_kit", path)
     found = importlib.util.module_from_spec(importlib.util.spec_from_loader(loader.name, loader))
     loader.exec_module(found)
     return found
 
 
 def bodies_of(edit):
-    """Returns the wrong bodies of an edit file: for each its title and its (file, old, new)."""
-    found, path, old, title = [], "", "", None
+    """Returns the wrong bodies of an edit file: for each its title ("" where it has none) and its (file, old, new)."""
+    found, path, old = [], "", ""
     with open(edit, encoding="utf-8") as text:
         for line in text.read().split("\n"):
             if line.startswith("file: "):
                 path = line[len("file: "):].strip()
             elif line.startswith("- "):
-                title = line[2:].strip()
+                found.append((line[2:].strip(), []))
             elif line.startswith("old: "):
                 old = line[len("old: "):]
             elif line.startswith("new:"):
-                name = f"{os.path.basename(edit)}{f' ({title})' if title else ''}"
-                if not found or found[-1][0] != name:
-                    found.append((name, []))
-                found[-1][1].append((path, old, line[len("new:"):][1:]))
-    return found
+                if not found:
+                    found.append(("", []))
+                found[-1][1].append((path, old, line[len("new:"):].removeprefix(" ")))
+    return [it for it in found if it[1]]
+
+
+def named(edit):
+    """Returns the wrong bodies of an edit file, each under the file's name and its title."""
+    name = os.path.basename(edit)
+    return [(f"{name} ({title})" if title else name, pairs) for title, pairs in bodies_of(edit)]
 
 
 def function_of(text, old):
@@ -60,14 +77,30 @@ def function_of(text, old):
     return owner, name[1] if name else "", begin
 
 
+def source_of(folder, path):
+    with open(f"{folder}/{path}", encoding="utf-8") as it:
+        return it.read()
+
+
+def functions_of(folder, name, pairs):
+    """Returns the functions that a wrong body turns, each a file, a type, a name and a line, or stops where a text does not stand once."""
+    texts, functions = {}, set()
+    for path, old, new in pairs:
+        text = texts.get(path) or source_of(folder, path)
+        if text.count(old) != 1:
+            sys.exit(f"{name}: its text does not stand once in {path}: {old}")
+        functions.add((path, *function_of(text, old)))
+        texts[path] = text.replace(old, new)
+    return functions
+
+
 def copies_of(folder, bodies):
     """Returns sets of wrong bodies with at most one in each function, each set with the texts that it makes."""
     copies = []
     for name, pairs in bodies:
-        own = {path: open(f"{folder}/{path}", encoding="utf-8").read() for path, _, _ in pairs}
-        functions = {(path, *function_of(own[path], old)) for path, old, _ in pairs}
+        functions = functions_of(folder, name, pairs)
         for texts, held, taken in [*copies, ({}, [], set())]:
-            now = {path: texts.get(path, own[path]) for path in own}
+            now = {path: texts.get(path) or source_of(folder, path) for path, _, _ in pairs}
             ready = not functions & taken
             for path, old, new in pairs:
                 ready = ready and now[path].count(old) == 1
@@ -79,9 +112,69 @@ def copies_of(folder, bodies):
                 taken |= functions
                 held.append((name, functions))
                 break
-        else:
-            sys.exit(f"{name}: its text does not stand once in the source")
     return copies
+
+
+def text_of(bodies):
+    """Returns the text of a shared file: its first line, then for each source file its wrong bodies under their titles."""
+    lines, last = [HEAD], ""
+    for title, pairs in bodies:
+        for number, (path, old, new) in enumerate(pairs):
+            if path != last:
+                lines.append(f"file: {path}\n")
+                last = path
+            if number == 0:
+                lines.append(f"- {title}")
+            lines += [f"old: {old}", f"new: {new}" if new else "new:"]
+        lines.append("")
+    return "\n".join(lines).rstrip("\n") + "\n"
+
+
+def pack(folder):
+    """Writes the must-fail files of a crate anew: those that stand alone as they are, all other wrong bodies in as few files as serve."""
+    room = f"{folder}/must-fail"
+    edits = {it: bodies_of(f"{room}/{it}") for it in sorted(os.listdir(room)) if it.endswith(".edit")}
+    shared = {it: bodies for it, bodies in edits.items() if not source_of(room, it).startswith(ALONE)}
+    bodies = [(title or it.removesuffix(".edit").replace("_", " "), pairs) for it, found in shared.items() for title, pairs in found]
+    bodies.sort(key=lambda it: (it[1][0][0], it[0]))
+    twice = sorted({title for title, _ in bodies if [it for it, _ in bodies].count(title) > 1})
+    if twice:
+        sys.exit(f"{folder}: more than one wrong body has the title {', '.join(map(repr, twice))}")
+    pairs_of = dict(bodies)
+    files = [[(title, pairs_of[title]) for title, _ in held] for _, held, _ in copies_of(folder, bodies)]
+    files.sort(key=len, reverse=True)
+    written = {f"{number}_bodies.edit": text_of(it) for number, it in enumerate(files)}
+    alone = [it for it in edits if it not in shared]
+    if set(alone) & set(written):
+        sys.exit(f"{folder}: a file of shared bodies is marked as one that stands alone")
+    for it in shared:
+        os.remove(f"{room}/{it}")
+    for it, text in written.items():
+        with open(f"{room}/{it}", "w", encoding="utf-8") as out:
+            out.write(text)
+    check_packed(folder, edits, written)
+    for it, found in zip(written, files):
+        print(f"{room}/{it}: {len(found)} wrong bodies")
+    print(f"{folder}: {sum(map(len, files))} wrong bodies in {len(files)} files, {len(alone)} files alone")
+    for it in files[3:]:
+        print(f"a fourth file or more for {', '.join(title for title, _ in it)}")
+
+
+def check_packed(folder, before, written):
+    """Stops where a wrong body was lost, made or changed, or where a text of a written file does not stand once as the earlier pairs left it."""
+    room = f"{folder}/must-fail"
+    after = {it: bodies_of(f"{room}/{it}") for it in os.listdir(room) if it.endswith(".edit")}
+    old, new = (sorted(pairs for found in it.values() for _, pairs in found) for it in (before, after))
+    if old != new:
+        sys.exit(f"{folder}: the wrong bodies are not those that were there; git has them")
+    for it in written:
+        taken = set()
+        for title, pairs in after[it]:
+            functions = functions_of(folder, title, pairs)
+            if functions & taken:
+                sys.exit(f"{room}/{it}: {title}: two wrong bodies in one function")
+            taken |= functions
+        functions_of(folder, it, [pair for _, pairs in after[it] for pair in pairs])
 
 
 def refused_in(out):
@@ -109,11 +202,16 @@ def is_refused(functions, refused, crate):
 
 
 def main():
-    crate_name, jobs = sys.argv[1], sys.argv[2] if len(sys.argv) > 2 else "4"
+    if sys.argv[1:2] == ["--pack"]:
+        for name in sys.argv[2:]:
+            pack(f"crates/{name}")
+        return 0
+    crate_name, jobs, words = sys.argv[1], sys.argv[2] if len(sys.argv) > 2 else "4", sys.argv[3:]
     sys.argv = ["rt"]
     rt = kit()
     crate = next(it for it in rt.rtlib.crates_below(os.getcwd()) if it.name == crate_name)
-    bodies = [it for edit in rt.edits_of(crate)[0] for it in bodies_of(edit)]
+    bodies = [it for edit in rt.edits_of(crate)[0] for it in named(edit)]
+    bodies = [it for it in bodies if not words or any(word in it[0] for word in words)]
     survived = 0
     with tempfile.TemporaryDirectory(prefix="wrong-bodies-") as room:
         kept = f"{room}/kept"

@@ -1,73 +1,14 @@
 //! Measures how long a packet of one DATA chunk with 1,200 bytes takes to be read and to be written, under a
 //! checksum that is always 0. It prints whether both gave the right thing and, with the argument `times`, how
-//! many nanoseconds they took.
+//! many nanoseconds they took, and how many the packet's CRC-32C took.
 #![tactic(auto)]
 
-mod subject;
-
-use crate::subject::{Zero, datagram, is_expected};
-use bytes::{Bytes, BytesMut};
-use sctp_base::error::Result;
+use benchlib::packet::{
+    Zero, datagram, is_expected, time_of_reading, time_of_summing, time_of_writing,
+};
+use bytes::BytesMut;
 use sctp_packets::packet::Packet;
-use std::alloc::Global;
 use std::env;
-use std::time::{Clock, Instant};
-
-const BATCHES: u32 = 200;
-
-const ROUNDS: u32 = 20_000;
-
-/// Reads the packet `ROUNDS` times, and gives how many chunks that were.
-fn read(alloc: Global, raw: &Bytes) -> Result<usize> {
-    let mut chunks = 0usize;
-    for _ in 0..ROUNDS {
-        let packet = Packet::unmarshal(alloc, raw, &Zero)?;
-        chunks = chunks.wrapping_add(packet.chunks.len());
-    }
-    Ok(chunks)
-}
-
-/// Writes the packet `ROUNDS` times into the same buffer, and gives how many bytes that were.
-fn write(buf: &mut BytesMut, packet: &Packet) -> Result<usize> {
-    let mut bytes = 0usize;
-    for _ in 0..ROUNDS {
-        buf.clear();
-        bytes = bytes.wrapping_add(packet.marshal_to(buf, &Zero)?);
-    }
-    Ok(bytes)
-}
-
-/// The nanoseconds that one reading took, in the fastest batch.
-fn time_of_reading(clock: &impl Clock, alloc: Global, raw: &Bytes) -> anyhow::Result<u128> {
-    let mut least = u128::MAX;
-    for _ in 0..BATCHES {
-        let start = Instant::now(clock)?;
-        let chunks = read(alloc, raw)?;
-        let elapsed = start.elapsed(clock)?;
-        if chunks == ROUNDS as usize {
-            least = least.min(elapsed.as_nanos() / ROUNDS as u128);
-        }
-    }
-    Ok(least)
-}
-
-/// The nanoseconds that one writing took, in the fastest batch.
-fn time_of_writing(
-    clock: &impl Clock,
-    buf: &mut BytesMut,
-    packet: &Packet,
-) -> anyhow::Result<u128> {
-    let mut least = u128::MAX;
-    for _ in 0..BATCHES {
-        let start = Instant::now(clock)?;
-        let bytes = write(buf, packet)?;
-        let elapsed = start.elapsed(clock)?;
-        if bytes >= ROUNDS as usize {
-            least = least.min(elapsed.as_nanos() / ROUNDS as u128);
-        }
-    }
-    Ok(least)
-}
 
 fn main(rt: HostRuntime) -> anyhow::Result<()> {
     let alloc = rt.alloc();
@@ -92,6 +33,8 @@ fn main(rt: HostRuntime) -> anyhow::Result<()> {
         println!(rt; "unmarshal: {reading} ns")?;
         let writing = time_of_writing(&rt, &mut buf, &packet)?;
         println!(rt; "marshal_to: {writing} ns")?;
+        let (summing, sum) = time_of_summing(&rt, &raw)?;
+        println!(rt; "crc32c of its 1228 bytes: {summing} ns ({sum:08x} after all)")?;
     }
     Ok(())
 }

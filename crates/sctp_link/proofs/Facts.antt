@@ -13,12 +13,12 @@ use Rattle.sctp_model.specs.Contents.{contents_of, contents_in, datagram}
 use Rattle.sctp_model.specs.Steps.{History, StandsFor, IsRun, world_of, refusal_of, reply_to, after}
 use Rattle.sctp_model.specs.Laws.{IsSetup}
 use Rattle.sctp_model.specs.Sound.{IsSound, ComesSound}
-use Rattle.sctp_model.proofs.Shape.{shape}
-use Rattle.sctp_model.proofs.SenderRun.{Sane, sane-run}
-use Rattle.sctp_model.proofs.Few
-use Rattle.sctp_model.proofs.Network.{AllFit, fit-run, datagrams_stay}
-use Rattle.sctp_model.proofs.Spans.{spans_fit_always}
-use Rattle.sctp_model.proofs.SoundRun.{record_is_sound, slots_come_sound}
+use Rattle.sctp_model.proofs.sender.Shape.{shape}
+use Rattle.sctp_model.proofs.sender.SenderRun.{Sane, sane-run}
+use Rattle.sctp_model.proofs.sender.Few
+use Rattle.sctp_model.proofs.sender.Network.{AllFit, fit-run, datagrams_stay}
+use Rattle.sctp_model.proofs.receiver.Spans.{spans_fit_always}
+use Rattle.sctp_model.proofs.receiver.SoundRun.{record_is_sound, slots_come_sound}
 use Rattle.sctp_ties.proofs.Carried.{Carried, carried-run}
 use Rattle.sctp_ties.proofs.KindsRun.{Going, taken-run}
 use Rattle.sctp_ties.proofs.Fragments.{going-run}

@@ -9,8 +9,8 @@ use Rattle.sctp_lists.proofs.Cases.{same-yes}
 use Rattle.sctp_chunks.specs.declared.chunk.chunk_payload_data.ChunkPayloadData.{ChunkPayloadData}
 use Rattle.sctp_chunks.specs.declared.chunk.chunk_payload_data.PayloadProtocolIdentifier.{PayloadProtocolIdentifier}
 use Rattle.sctp_chunks.specs.declared.chunk.chunk_payload_data.PayloadProtocolIdentifier.TheVariants.{Dcep, String, Binary, StringEmpty, BinaryEmpty, Unknown}
-use Rattle.sctp_queues.specs.Outbound.{with_message_id}
-use Rattle.sctp_queues.specs.Whole.{IsMessage, IsMessageOrNone}
+use Rattle.sctp_queues.specs.outbound_queue.OutboundQueue.{with_message_id}
+use Rattle.sctp_queues.specs.pending_queue.Whole.{IsMessage, IsMessageOrNone}
 use Rattle.sctp_queues.specs.DataChunks.{bytes_of}
 use Rattle.sctp_model.specs.World.{World, StreamRecord}
 use Rattle.sctp_model.specs.Messages.{message_of, fragment_count, ordered_before, is_dcep}

@@ -14,7 +14,7 @@ use Rattle.sctp_chunks.proofs.Lengths.{length_data_value}
 use Rattle.sctp_packets.specs.Packet.{ReadsPacket, packet_text}
 use Rattle.sctp_queues.specs.DataChunks.{has_tsn}
 use Rattle.sctp_queues.specs.Marks.{with_nsent}
-use Rattle.sctp_queues.specs.Outbound.{Outbound, with_inflight}
+use Rattle.sctp_queues.specs.outbound_queue.OutboundQueue.{Outbound, with_inflight}
 use Rattle.sctp_model.specs.declared.event.Event.TheVariants as E
 use Rattle.sctp_model.specs.declared.event.LinkRefusal.TheVariants.{NotInFlight}
 use Rattle.sctp_model.specs.World.{World}
@@ -24,7 +24,7 @@ use Rattle.sctp_model.specs.Contents.{chunk_at, contents_of}
 use Rattle.sctp_model.specs.Queues.{is_cleared}
 use Rattle.sctp_model.specs.Changes.{resent}
 use Rattle.sctp_model.specs.Steps.{refusal_of, reply_to, can_resend}
-use Rattle.sctp_model.proofs.SenderRun.{unless-holds}
+use Rattle.sctp_model.proofs.sender.SenderRun.{unless-holds}
 use Rattle.sctp_ties.specs.Tied.{TiedOutbound}
 use Rattle.sctp_ties.proofs.InFlight.{Found, found-in, says-same, tied-marked, nsent-quiet}
 use Rattle.sctp_ties.proofs.QuietSender.{outbound-same, same-self}
@@ -141,8 +141,9 @@ module _ (sum : List ℕ → ℕ) (x : State) (l : IsLinked sum x) (tsn : ℕ) (
     fragments = l.fragments;
     written = l.written;
     sents = l.sents;
-    befores = l.befores;
-    open_streams = λ k d lt. stream-same x.world v (slice_index_or x.open_streams k d) (record { setup = refl; held = refl; ordered = refl; next = refl; amount = refl; counters = refl }) (l.open_streams k d lt);
+    indexes = l.indexes;
+    low = l.low;
+    open_streams = λ k d lt. stream-same x.world v (slice_index_or x.open_streams k d) (record { setup = refl; held = refl; ordered = refl; next = refl; amount = refl; counters = refl }) refl (l.open_streams k d lt);
     indexed = l.indexed;
     texts = texts-more sum x l (E.Resend tsn) ok (W.Data (p ∷ [])) bytes refl count (says-data sum v p bytes (data_of c) (resend-says c e) text reads);
   }

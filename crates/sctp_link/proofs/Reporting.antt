@@ -10,8 +10,8 @@ use Rattle.sctp_chunks.specs.SelectiveAck.{Sack, sack_value}
 use Rattle.sctp_chunks.specs.Wire.{sack_chunk}
 use Rattle.sctp_chunks.proofs.Lengths.{length_sack_value}
 use Rattle.sctp_packets.specs.Packet.{ReadsPacket, packet_text}
-use Rattle.sctp_queues.specs.Blocks.{gap_offsets}
-use Rattle.sctp_queues.specs.Payload.{Payload}
+use Rattle.sctp_queues.specs.payload_queue.Blocks.{gap_offsets}
+use Rattle.sctp_queues.specs.payload_queue.PayloadQueue.{Payload}
 use Rattle.sctp_model.specs.declared.event.Event.TheVariants as E
 use Rattle.sctp_model.specs.World.{World}
 use Rattle.sctp_model.specs.World as W
@@ -128,8 +128,9 @@ module _ (sum : List ℕ → ℕ) (x : State) (l : IsLinked sum x) (credit : ℕ
         fragments = l.fragments;
         written = l.written;
         sents = l.sents;
-        befores = l.befores;
-        open_streams = λ k d lt. stream-same w v (slice_index_or x.open_streams k d) (record { setup = refl; held = refl; ordered = refl; next = refl; amount = refl; counters = refl }) (l.open_streams k d lt);
+        indexes = l.indexes;
+        low = l.low;
+        open_streams = λ k d lt. stream-same w v (slice_index_or x.open_streams k d) (record { setup = refl; held = refl; ordered = refl; next = refl; amount = refl; counters = refl }) refl (l.open_streams k d lt);
         indexed = l.indexed;
         texts = texts-more sum x l (E.Ack credit) refl (W.Sack (report_of w credit)) bytes refl len is;
       })

@@ -5,15 +5,15 @@ use Rattle.std.specs.List.{list_any}
 use Rattle.sctp_lists.specs.Kept.{kept, unbroken}
 use Rattle.sctp_chunks.specs.declared.chunk.chunk_payload_data.ChunkPayloadData.{ChunkPayloadData}
 use Rattle.sctp_chunks.specs.ChunkSet.{ChunkSet, fresh}
-use Rattle.sctp_queues.specs.Reassembly.{Reassembly}
+use Rattle.sctp_queues.specs.reassembly_queue.ReassemblyQueue.{Reassembly}
 use Rattle.sctp_model.specs.World.{World, Report, Sack}
 use Rattle.sctp_model.specs.Messages.{message_at, stream_of, is_ordered_on, is_unordered_on, index_of, ssn_of, fragment_count, tsn_of}
 use Rattle.sctp_model.specs.Receiver.{is_unread, next_of}
 use Rattle.sctp_model.specs.Contents.{data_with, cumulative_tsn}
 use Rattle.sctp_model.specs.Queues.{FilterRecord, filter_of}
 use Rattle.sctp_model.specs.Changes.{sack_taken}
-use Rattle.sctp_model.proofs.Shape.{has}
-use Rattle.sctp_model.proofs.View.{View, view-taken}
+use Rattle.sctp_model.proofs.sender.Shape.{has}
+use Rattle.sctp_model.proofs.receiver.View.{View, view-taken}
 use Rattle.sctp_ties.specs.Holds.{reassembly_of}
 
 -- ## What came, by what a view tells of the slots

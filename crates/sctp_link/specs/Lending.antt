@@ -1,6 +1,6 @@
 -- A stream that lends its queue.
 use Rattle.std.specs.Borrow.{Lends, MutBor, Fml}
-use Rattle.sctp_queues.specs.Reassembly.{ReassemblyState}
+use Rattle.sctp_queues.specs.reassembly_queue.ReassemblyQueue.{ReassemblyState}
 use Rattle.sctp_queues.specs.contracts.reassembly_queue.ReassemblyQueue as queue
 use Rattle.sctp_link.specs.declared.stream.StreamState.{StreamState}
 use Rattle.sctp_link.specs.contracts.stream.StreamState as stream

@@ -7,7 +7,3 @@ pub mod link;
 mod open_stream;
 mod record;
 pub mod stream;
-#[cfg(test)]
-mod stream_tests;
-#[cfg(test)]
-mod tests;

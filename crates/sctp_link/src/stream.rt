@@ -154,10 +154,10 @@ pub struct StreamState {
 impl StreamState {
     ghost use Rattle.sctp_link.specs.State.{can_read, can_write, finished};
     ghost use Rattle.sctp_link.specs.Stream.{is_ordered, fragment, fragments_of, after_write, rises_high, released, falls_low, new_stream};
-    ghost use Rattle.sctp_queues.specs.Sets.{payload_of};
+    ghost use Rattle.sctp_queues.specs.reassembly_queue.Fragments.{payload_of};
     ghost use Rattle.sctp_link.specs.Lending.{LendsQueue};
     ghost use Rattle.std.specs.Borrow.{sem};
-    ghost use Rattle.sctp_queues.specs.Reassembly.{is_too_large, ordered_pushed, is_whole_with, PushesUnordered};
+    ghost use Rattle.sctp_queues.specs.reassembly_queue.ReassemblyQueue.{is_too_large, ordered_pushed, is_whole_with, PushesUnordered};
 
     /// A stream that is open both ways, ordered and reliable, with fragments of at most
     /// `max_payload_size` bytes of user data and messages of at most `max_receive_message_size` bytes.

@@ -14,13 +14,13 @@ use Rattle.sctp_model.specs.Log
 use Rattle.sctp_model.specs.Log.{LogEntry, SlotReceived, SkipReceived, SackMade, arrived_new, is_skipped, were_whole, is_whole_by, run_by, whole_by, named_by, log_of, Shown}
 use Rattle.sctp_model.specs.Steps.{world_of}
 use Rattle.sctp_model.specs.Laws.{OnEveryRun, NothingWhereRead, ReadsAreSettled, fragment_arrived, mode_of, shown_of}
-use Rattle.sctp_model.proofs.Shape.{Shape, shape, has, sent, on}
-use Rattle.sctp_model.proofs.Sender.{Sender}
-use Rattle.sctp_model.proofs.SenderSteps.{of-has}
-use Rattle.sctp_model.proofs.SenderRun.{sane-run}
-use Rattle.sctp_model.proofs.ReadLaws.{nothing_where_read}
-use Rattle.sctp_model.proofs.Written.{messages_are_writes}
-use Rattle.sctp_model.proofs.Modes.{modes_are_kept}
+use Rattle.sctp_model.proofs.sender.Shape.{Shape, shape, has, sent, on}
+use Rattle.sctp_model.proofs.sender.Sender.{Sender}
+use Rattle.sctp_model.proofs.sender.SenderSteps.{of-has}
+use Rattle.sctp_model.proofs.sender.SenderRun.{sane-run}
+use Rattle.sctp_model.proofs.receiver.ReadLaws.{nothing_where_read}
+use Rattle.sctp_model.proofs.sender.Written.{messages_are_writes}
+use Rattle.sctp_model.proofs.sender.Modes.{modes_are_kept}
 use Rattle.sctp_model.proofs.Lossless.{alive-run, is_skip, no-skips, none-named, none-skipped}
 use Rattle.sctp_lists.proofs.Cases.{same-yes, same-is, or-left, or-right, or-split}
 use Rattle.sctp_lists.proofs.Getting.{length-mapped}

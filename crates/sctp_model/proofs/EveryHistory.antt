@@ -1,25 +1,27 @@
 -- All laws at once.
-use Rattle.sctp_model.specs.Laws.{EachSendEmits, SlotsAreSound, ArrivalsAgree, OrderedReads, UnorderedReads, NothingWhenExhausted, OnlyArrivedIsAcknowledged, BytesBalance, LifetimesEnd, CountersCount, Headline, Beside, ReliableDelivery, PartialDelivery}
-use Rattle.sctp_model.proofs.Acknowledged.{acknowledged_arrived, acknowledged_is_reported, sacks_say}
-use Rattle.sctp_model.proofs.Arrivals.{arrived_is_new, cumulative_is_seen, arrivals_answered}
-use Rattle.sctp_model.proofs.Bytes.{balances}
-use Rattle.sctp_model.proofs.BytesTold.{sums_agree}
-use Rattle.sctp_model.proofs.Counted.{reads_differ, counters_are_sums}
-use Rattle.sctp_model.proofs.KnownRun.{whole_is_whole}
-use Rattle.sctp_model.proofs.Lifetimes.{starts_once, late_abandons_listed}
-use Rattle.sctp_model.proofs.Made.{network_is_made}
-use Rattle.sctp_model.proofs.Modes.{modes_are_kept}
-use Rattle.sctp_model.proofs.Names.{named_is_named}
-use Rattle.sctp_model.proofs.Network.{no_end_mark_is_sent, datagrams_stay}
-use Rattle.sctp_model.proofs.ReadLaws.{reads_begin_run, reads_begin_whole_run, reads_begin_whole, unordered_first, nothing_where_read}
-use Rattle.sctp_model.proofs.Sends.{emits_where_pending, takes_pending}
-use Rattle.sctp_model.proofs.Shown.{reads_show_messages}
-use Rattle.sctp_model.proofs.Slots.{slots_in_order, slots_follow, one_half_sent, sent_in_turn, indexes_leave_no_gap}
-use Rattle.sctp_model.proofs.Spans.{spans_fit_always}
-use Rattle.sctp_model.proofs.Written.{messages_are_writes}
+use Rattle.sctp_model.specs.Laws.{EachSendEmits, SlotsAreSound, ArrivalsAgree, OrderedReads, UnorderedReads, NothingWhenExhausted, OnlyArrivedIsAcknowledged, BytesBalance, LifetimesEnd, DatagramsKeepLimit, CountersCount, Headline, Beside, ReliableDelivery, PartialDelivery}
+use Rattle.sctp_model.proofs.acknowledgement.Acknowledged.{acknowledged_arrived, acknowledged_is_reported, sacks_say}
+use Rattle.sctp_model.proofs.receiver.Arrivals.{arrived_is_new, cumulative_is_seen, arrivals_answered}
+use Rattle.sctp_model.proofs.acknowledgement.Bytes.{balances}
+use Rattle.sctp_model.proofs.acknowledgement.BytesTold.{sums_agree}
+use Rattle.sctp_model.proofs.receiver.Counted.{reads_differ, counters_are_sums}
+use Rattle.sctp_model.proofs.receiver.KnownRun.{whole_is_whole}
+use Rattle.sctp_model.proofs.sender.Lifetimes.{starts_once, late_abandons_listed}
+use Rattle.sctp_model.proofs.sender.Lapses.{lapses_by_events, expires_lapsed, tail_abandons_lapsed, late_lists_lapsed}
+use Rattle.sctp_model.proofs.sender.Limits.{within_limit, filled_to_limit}
+use Rattle.sctp_model.proofs.sender.Made.{network_is_made}
+use Rattle.sctp_model.proofs.sender.Modes.{modes_are_kept}
+use Rattle.sctp_model.proofs.receiver.Names.{named_is_named}
+use Rattle.sctp_model.proofs.sender.Network.{no_end_mark_is_sent, datagrams_stay}
+use Rattle.sctp_model.proofs.receiver.ReadLaws.{reads_begin_run, reads_begin_whole_run, reads_begin_whole, unordered_first, nothing_where_read}
+use Rattle.sctp_model.proofs.sender.Sends.{emits_where_pending, takes_pending, idle_is_answered}
+use Rattle.sctp_model.proofs.receiver.Shown.{reads_show_messages}
+use Rattle.sctp_model.proofs.sender.Slots.{slots_in_order, slots_follow, one_half_sent, sent_in_turn, indexes_leave_no_gap}
+use Rattle.sctp_model.proofs.receiver.Spans.{spans_fit_always}
+use Rattle.sctp_model.proofs.sender.Written.{messages_are_writes}
 
 each-send : EachSendEmits
-each-send = (emits_where_pending, takes_pending)
+each-send = (emits_where_pending, (takes_pending, idle_is_answered))
 
 slots : SlotsAreSound
 slots = (slots_in_order, (slots_follow, (one_half_sent, (sent_in_turn, (indexes_leave_no_gap, (no_end_mark_is_sent, datagrams_stay))))))
@@ -43,7 +45,10 @@ bytes : BytesBalance
 bytes = (balances, sums_agree)
 
 lifetimes : LifetimesEnd
-lifetimes = (starts_once, late_abandons_listed)
+lifetimes = (starts_once, (lapses_by_events, (expires_lapsed, (tail_abandons_lapsed, (late_lists_lapsed, late_abandons_listed)))))
+
+limits : DatagramsKeepLimit
+limits = (within_limit, filled_to_limit)
 
 counters : CountersCount
 counters = counters_are_sums
@@ -52,7 +57,7 @@ pub headline : Headline
 headline = (each-send, (ordered, (unordered, (nothing, (acknowledged, bytes)))))
 
 pub beside : Beside
-beside = (slots, (arrivals, (lifetimes, counters)))
+beside = (slots, (limits, (arrivals, (lifetimes, counters))))
 
 pub reliable : ReliableDelivery
 reliable = (reads_begin_whole_run, (unordered, (nothing, (acknowledged, (bytes, (arrivals, counters))))))

@@ -16,12 +16,12 @@ use Rattle.sctp_model.specs.Log
 use Rattle.sctp_model.specs.Log.{LogEntry, SlotReceived, SkipReceived, SackMade, Made, MadeData, MadeForward, MadeSack, made_in, made_by, log_of, named_by, is_skipped}
 use Rattle.sctp_model.specs.Steps.{History, world_of, after}
 use Rattle.sctp_model.specs.Laws.{loses_nothing}
-use Rattle.sctp_model.proofs.Shape.{Shape, shape, message_part, written}
-use Rattle.sctp_model.proofs.Shapes
-use Rattle.sctp_model.proofs.SenderEnds.{message-old, message-new}
-use Rattle.sctp_model.proofs.SenderRun.{written_as}
-use Rattle.sctp_model.proofs.Network
-use Rattle.sctp_model.proofs.BytesTold.{messages-sent}
+use Rattle.sctp_model.proofs.sender.Shape.{Shape, shape, message_part, written}
+use Rattle.sctp_model.proofs.sender.Shapes
+use Rattle.sctp_model.proofs.sender.SenderEnds.{message-old, message-new}
+use Rattle.sctp_model.proofs.sender.SenderRun.{written_as}
+use Rattle.sctp_model.proofs.sender.Network
+use Rattle.sctp_model.proofs.acknowledgement.BytesTold.{messages-sent}
 use Rattle.sctp_lists.proofs.Cases.{by_last}
 
 -- ## No message is given up

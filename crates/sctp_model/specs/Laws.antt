@@ -1,17 +1,20 @@
 -- What holds of every history. Each law is the contract of an empty public function.
-use Rattle.std.specs.Prelude.{◌≡◌, ℕ, ◌+◌, ◌-◌, ◌^◌, ◌<◌, ◌≤◌, ◌↔◌, min, Bool, true, false, ◌&&◌, ◌||◌, not, ◌==◌, nat_lt, if◌then◌else◌, List, [], ◌∷◌, ◌++◌, length, take, map, slice_get, Some, None}
+use Rattle.std.specs.Prelude.{◌≡◌, ℕ, ◌+◌, ◌-◌, ◌*◌, ◌/◌, ◌^◌, ◌<◌, ◌≤◌, ◌↔◌, min, Bool, true, false, ◌&&◌, ◌||◌, not, ◌==◌, nat_lt, nat_le, if◌then◌else◌, List, [], ◌∷◌, ◌++◌, length, take, map, slice_get, Option, Some, None, option_to_list, Result, Ok}
 use Rattle.std.specs.List.{list_any, list_all}
 use Rattle.sctp_lists.specs.Kept.{kept, leading, passing, numbers_from, first_of, runs_of}
 use Rattle.sctp_model.specs.declared.event.Event.{Event}
 use Rattle.sctp_model.specs.declared.event.Event.TheVariants as E
+use Rattle.sctp_chunks.specs.declared.chunk.chunk_payload_data.ChunkPayloadData.{ChunkPayloadData}
+use Rattle.sctp_model.specs.declared.event.LinkRefusal.{LinkRefusal}
+use Rattle.sctp_model.specs.Reply.{Reply}
 use Rattle.sctp_model.specs.Reply as R
 use Rattle.sctp_model.specs.World.{Setup, Message, Datagram, Data, Forward, Sack, World}
 use Rattle.sctp_model.specs.Messages
 use Rattle.sctp_model.specs.Receiver
 use Rattle.sctp_model.specs.Amounts
 use Rattle.sctp_model.specs.Changes.{late_slots}
-use Rattle.sctp_model.specs.Steps.{History, world_of, IsRun, refusal_of, reply_to, after}
-use Rattle.sctp_model.specs.Contents.{SackContents, cumulative_tsn, datagram}
+use Rattle.sctp_model.specs.Steps.{History, world_of, IsRun, refusal_of, reply_to, after, Answers}
+use Rattle.sctp_model.specs.Contents.{DataContents, SackContents, cumulative_tsn, datagram}
 use Rattle.sctp_model.specs.Queues.{pending_of}
 use Rattle.sctp_model.specs.Log
 
@@ -52,9 +55,54 @@ TakesPending setup h w log =
     (now d tsn ssn count : ℕ) → reply_to w (E.Send now) ≡ R.Sent d tsn ssn count →
     (0 < count) × ((pending_count (after w (E.Send now)) + count ≡ pending_count w) × (slice_get (after w (E.Send now)).network d ≡ Some (Data (numbers_from (length w.slots) count))))
 
+-- a step answers Idle to a Send exactly where no fragment is pending, be memory refused or not
+abbrev pub IdleIsAnswered : Setup → History → World → List Log.LogEntry → Type 0
+IdleIsAnswered setup h w log =
+    (now : ℕ) (result : Result Reply LinkRefusal) (new : World) →
+    Answers w (E.Send now) result new →
+    (result ≡ Ok R.Idle) ↔ (pending_count w ≡ 0)
+
 -- each Send emits a pending fragment while one exists
 abbrev pub EachSendEmits : Type 0
-EachSendEmits = OnEveryRun EmitsWherePending × OnEveryRun TakesPending
+EachSendEmits =
+    OnEveryRun EmitsWherePending × (OnEveryRun TakesPending × OnEveryRun IdleIsAnswered)
+
+-- ## The limit of a datagram
+
+-- the length of a DATA chunk with these user data: 16 bytes, the data, and padding up to a
+-- multiple of four (RFC 4960 3.3.1)
+abbrev pub data_length : List ℕ → ℕ
+data_length bytes = 16 + (length bytes + 3) / 4 * 4
+
+-- the length of a packet of these DATA chunks: the common header has 12 bytes (RFC 4960 3.1)
+abbrev pub packet_length : List ChunkPayloadData → ℕ
+packet_length [] = 12
+packet_length (chunk ∷ chunks) = data_length chunk.user_data + packet_length chunks
+
+-- the datagram of a Send has as many chunks as are told; with several it is within the limit
+abbrev pub WithinLimit : Setup → History → World → List Log.LogEntry → Type 0
+WithinLimit setup h w log =
+    (now d tsn ssn count : ℕ) (chunks : List ChunkPayloadData) →
+    reply_to w (E.Send now) ≡ R.Sent d tsn ssn count →
+    datagram (after w (E.Send now)) d ≡ Some (DataContents chunks) →
+    (length chunks ≡ count) × (1 < count → packet_length chunks ≤ setup.limit)
+
+-- the next fragment of message n
+abbrev pub next_fragment : World → ℕ → List ℕ
+next_fragment w n = Messages.fragment_at w n (Messages.sent_of w n)
+
+-- with the fragment that is next then, where one waits, it would be longer than the limit
+abbrev pub FilledToLimit : Setup → History → World → List Log.LogEntry → Type 0
+FilledToLimit setup h w log =
+    (now d tsn ssn count n : ℕ) (chunks : List ChunkPayloadData) →
+    reply_to w (E.Send now) ≡ R.Sent d tsn ssn count →
+    datagram (after w (E.Send now)) d ≡ Some (DataContents chunks) →
+    Messages.front (after w (E.Send now)) ≡ Some n →
+    setup.limit < packet_length chunks + data_length (next_fragment (after w (E.Send now)) n)
+
+-- a datagram has as many fragments as the limit allows, and the first one in any case
+abbrev pub DatagramsKeepLimit : Type 0
+DatagramsKeepLimit = OnEveryRun WithinLimit × OnEveryRun FilledToLimit
 
 -- ## Slots
 
@@ -291,15 +339,117 @@ BytesBalance = OnEveryRun Balances × OnEveryRun SumsAgree
 abbrev pub StartsOnce : Setup → History → World → List Log.LogEntry → Type 0
 StartsOnce setup h w log = (n : ℕ) → n < length w.messages → (Messages.message_at w n).started ≡ Log.started_in h n
 
+-- a lifetime is over in the record exactly where the write, its mode, its start and now say so
+abbrev pub LapsesByEvents : Setup → History → World → List Log.LogEntry → Type 0
+LapsesByEvents setup h w log =
+    (now n : ℕ) → Messages.is_lapsed w now n ≡ Log.has_lapsed h now n
+
+-- what is told of a message, where there is one, and else Idle
+abbrev pub told_of : (ℕ → Reply) → Option ℕ → Reply
+told_of tell None = R.Idle
+told_of tell (Some n) = tell n
+
+-- message n is this one
+abbrev pub is_this : Option ℕ → ℕ → Bool
+is_this o n = list_any (λ m. m == n) (option_to_list o)
+
+-- message n expired
+abbrev pub has_expired : World → ℕ → Bool
+has_expired w n = (Messages.message_at w n).expired
+
+-- message n was abandoned
+abbrev pub is_abandoned : World → ℕ → Bool
+is_abandoned w n = (Messages.message_at w n).abandoned
+
+-- an event adds to the messages of which this is so just those that pass
+abbrev pub AddsJust : World → Event → (World → ℕ → Bool) → (ℕ → Bool) → Type 0
+AddsJust w event flag p =
+    (n : ℕ) → n < length w.messages → flag (after w event) n ≡ (flag w n || p n)
+
+-- Expired with the stream of message n and the bytes that the Expire releases
+abbrev pub expired_with : World → ℕ → ℕ → Reply
+expired_with w now n =
+    R.Expired (Messages.message_at w n).stream (Amounts.growth w (after w (E.Expire now)))
+
+-- Released with the stream of message n and the bytes that the Tail releases
+abbrev pub released_with : World → ℕ → ℕ → Reply
+released_with w now n =
+    R.Released (Messages.message_at w n).stream (Amounts.growth w (after w (E.Tail now)))
+
+-- the front, where it has lapsed and this many of its fragments were sent
+abbrev pub lapsed_front : History → World → ℕ → (ℕ → Bool) → Option ℕ
+lapsed_front h w now sent =
+    first_of (passing (λ n. Log.has_lapsed h now n && sent (Messages.sent_of w n))
+    (option_to_list (Messages.front w)))
+
+-- the front, where it has lapsed and nothing of it was sent
+abbrev pub lapsed_unsent : History → World → ℕ → Option ℕ
+lapsed_unsent h w now = lapsed_front h w now (λ sent. sent == 0)
+
+-- the front, where it has lapsed and some of it was sent
+abbrev pub lapsed_half_sent : History → World → ℕ → Option ℕ
+lapsed_half_sent h w now = lapsed_front h w now (λ sent. nat_lt 0 sent)
+
+-- Expire removes the front where it has lapsed and nothing of it was sent, and no other message;
+-- it answers Expired exactly there, and else Idle
+abbrev pub ExpiresLapsed : Setup → History → World → List Log.LogEntry → Type 0
+ExpiresLapsed setup h w log =
+    (now : ℕ) →
+    (reply_to w (E.Expire now) ≡ told_of (expired_with w now) (lapsed_unsent h w now))
+    × AddsJust w (E.Expire now) has_expired (is_this (lapsed_unsent h w now))
+
+-- Tail abandons the front where it has lapsed and some of it was sent, and no other message;
+-- it answers Released exactly there, and else Idle
+abbrev pub TailAbandonsLapsed : Setup → History → World → List Log.LogEntry → Type 0
+TailAbandonsLapsed setup h w log =
+    (now : ℕ) →
+    (reply_to w (E.Tail now) ≡ told_of (released_with w now) (lapsed_half_sent h w now))
+    × AddsJust w (E.Tail now) is_abandoned (is_this (lapsed_half_sent h w now))
+
+-- the slot at this place, of message n, is late by the events: no taken SACK acknowledged it
+-- cumulatively, the message has lapsed and was not abandoned, and either no taken SACK reports
+-- the slot or fragments of the message still wait
+abbrev pub is_late_in : Setup → History → World → ℕ → ℕ → ℕ → Bool
+is_late_in setup h w now n place =
+    nat_le (Log.taken_in setup h) place
+    && (Log.has_lapsed h now n
+    && (not (is_abandoned w n)
+    && (not (Log.is_acknowledged_in setup h place)
+    || nat_lt (Messages.sent_of w n) (Messages.fragment_count w n))))
+
+-- the late slots, by the events
+abbrev pub lapsed_slots : Setup → History → World → ℕ → List ℕ
+lapsed_slots setup h w now =
+    Messages.slots_where w (λ place. is_late_in setup h w now (Messages.message_of w place) place)
+
+-- message n has one of these slots
+abbrev pub has_one_of : World → List ℕ → ℕ → Bool
+has_one_of w slots n = list_any (λ place. Messages.message_of w place == n) slots
+
+-- Late answers how many slots are late by the events, and the bytes released; it abandons the
+-- messages of those slots, and no others
+abbrev pub LateListsLapsed : Setup → History → World → List Log.LogEntry → Type 0
+LateListsLapsed setup h w log =
+    (now : ℕ) →
+    (reply_to w (E.Late now) ≡
+    R.Late (length (lapsed_slots setup h w now)) (Amounts.growth w (after w (E.Late now))))
+    × AddsJust w (E.Late now) is_abandoned (has_one_of w (lapsed_slots setup h w now))
+
 -- Late abandons the messages of the slots that it lists, and no others
 abbrev pub LateAbandonsListed : Setup → History → World → List Log.LogEntry → Type 0
 LateAbandonsListed setup h w log =
     (now n : ℕ) → n < length w.messages →
     (Messages.message_at (after w (E.Late now)) n).abandoned ≡ ((Messages.message_at w n).abandoned || list_any (λ place. Messages.message_of w place == n) (late_slots w now))
 
--- lifetimes start once, and Late abandons what it lists
+-- lifetimes start once, messages lapse by the events, and Expire, Tail and Late go by that
 abbrev pub LifetimesEnd : Type 0
-LifetimesEnd = OnEveryRun StartsOnce × OnEveryRun LateAbandonsListed
+LifetimesEnd =
+    OnEveryRun StartsOnce
+    × (OnEveryRun LapsesByEvents
+    × (OnEveryRun ExpiresLapsed
+    × (OnEveryRun TailAbandonsLapsed
+    × (OnEveryRun LateListsLapsed
+    × OnEveryRun LateAbandonsListed))))
 
 -- the counters of a stream are the saturated sums over its writes and its reads
 abbrev pub CountersAreSums : Setup → History → World → List Log.LogEntry → Type 0
@@ -354,9 +504,10 @@ abbrev pub Headline : Type 0
 Headline =
     EachSendEmits × (OrderedReads × (UnorderedReads × (NothingWhenExhausted × (OnlyArrivedIsAcknowledged × BytesBalance))))
 
--- beside the headline: slots, arrivals, lifetimes and counters
+-- beside the headline: slots, limits of datagrams, arrivals, lifetimes and counters
 abbrev pub Beside : Type 0
-Beside = SlotsAreSound × (ArrivalsAgree × (LifetimesEnd × CountersCount))
+Beside =
+    SlotsAreSound × (DatagramsKeepLimit × (ArrivalsAgree × (LifetimesEnd × CountersCount)))
 
 -- where nothing expires, is abandoned or skipped: the ordered reads begin the longest whole run, with all that holds of every history
 abbrev pub ReliableDelivery : Type 0

@@ -1,6 +1,6 @@
 -- What a history says by itself: what came to the receiver in which order, and what follows from that order alone.
 -- No flag of the record is looked at. The newest entry stands first.
-use Rattle.std.specs.Prelude.{ℕ, ◌%◌, ◌^◌, ◌+◌, ◌-◌, max, Bool, false, ◌&&◌, ◌||◌, not, ◌==◌, nat_lt, nat_le, if◌then◌else◌, List, [], ◌∷◌, ◌++◌, length, take, drop, map, slice_get, Option, Some, None, option_to_list}
+use Rattle.std.specs.Prelude.{ℕ, ◌%◌, ◌^◌, ◌+◌, ◌-◌, ◌*◌, max, Bool, true, false, ◌&&◌, ◌||◌, not, ◌==◌, nat_lt, nat_le, if◌then◌else◌, List, [], ◌∷◌, ◌++◌, length, take, drop, map, slice_get, Option, Some, None, option_to_list}
 use Rattle.std.specs.List.{list_any, list_all}
 use Rattle.sctp_lists.specs.Kept.{unbroken, leading, passing, numbers_from, or_else}
 use Rattle.sctp_model.specs.declared.event.Event.{Event}
@@ -8,8 +8,9 @@ use Rattle.sctp_model.specs.declared.event.Event.TheVariants as E
 use Rattle.sctp_model.specs.Reply.{Reply}
 use Rattle.sctp_model.specs.Reply as R
 use Rattle.sctp_chunks.specs.declared.chunk.chunk_payload_data.PayloadProtocolIdentifier.{PayloadProtocolIdentifier}
+use Rattle.sctp_chunks.specs.declared.chunk.chunk_payload_data.PayloadProtocolIdentifier.TheVariants.{Dcep}
 use Rattle.sctp_chunks.specs.declared.chunk.chunk_payload_data.ReliabilityType.{ReliabilityType}
-use Rattle.sctp_chunks.specs.declared.chunk.chunk_payload_data.ReliabilityType.TheVariants.{Reliable}
+use Rattle.sctp_chunks.specs.declared.chunk.chunk_payload_data.ReliabilityType.TheVariants.{Reliable, Timed}
 use Rattle.sctp_chunks.specs.declared.chunk.chunk_payload_data.ChunkPayloadData.{ChunkPayloadData}
 use Rattle.sctp_model.specs.World.{Setup, Datagram, Sack, World}
 use Rattle.sctp_model.specs.Messages
@@ -234,6 +235,31 @@ moment_of _ = None
 abbrev pub started_in : History → ℕ → Option ℕ
 started_in [] n = None
 started_in (entry ∷ older) n = or_else (started_in older n) (if nat_lt n (length (writes_in older)) then moment_of entry.0 else None)
+
+-- a message in this mode with this payload type can lapse: a timed one (RFC 3758 4.1), but no
+-- DCEP message (RFC 8832 6)
+abbrev pub can_lapse : ReliabilityType → PayloadProtocolIdentifier → Bool
+can_lapse Timed Dcep = false
+can_lapse Timed ppi = true
+can_lapse reliability ppi = false
+
+-- a lifetime of so many milliseconds that started then is over now: its end, in nanoseconds, is
+-- a moment that 64 bits hold, and now is not before it
+abbrev pub is_over : ℕ → ℕ → Option ℕ → Bool
+is_over now value None = false
+is_over now value (Some start) =
+    nat_lt (start + value * 1000000) (2 ^ 64) && nat_le (start + value * 1000000) now
+
+-- a write in this mode, whose lifetime started then, has lapsed now
+abbrev pub write_lapsed : ℕ → Option ℕ → Option Shown → Option Mode → Bool
+write_lapsed now start (Some x) (Some m) =
+    can_lapse m.reliability x.1 && is_over now m.value start
+write_lapsed now start x m = false
+
+-- message n has lapsed now, by its write, its mode, and the first Start or Send after it
+abbrev pub has_lapsed : History → ℕ → ℕ → Bool
+has_lapsed h now n =
+    write_lapsed now (started_in h n) (slice_get (writes_in h) n) (slice_get (modes_in h) n)
 
 -- the bytes that a reply tells were released
 abbrev pub released_by : Reply → ℕ

@@ -1,12 +1,22 @@
 //! What holds of every history of a link: laws, each the contract of a function that does nothing.
 
-ghost use Rattle.sctp_model.specs.Laws.{OnEveryRun, EmitsWherePending, TakesPending, SlotsInOrder, SlotsFollow, OneHalfSent, SentInTurn, IndexesLeaveNoGap, NoEndMarkIsSent, DatagramsStay, Balances, SumsAgree, AcknowledgedArrived, AcknowledgedIsReported, SacksSay, NetworkIsMade, ArrivedIsNew, CumulativeIsSeen, ArrivalsAnswered, WholeIsWhole, NamedIsNamed, SpansFit, MessagesAreWrites, ModesAreKept, ReadsShowMessages, ReadsBeginRun, ReadsBeginWholeRun, ReadsBeginWhole, ReadsDiffer, UnorderedFirst, NothingWhereRead, StartsOnce, LateAbandonsListed, ReadsAreSettled, CountersAreSums, Headline, Beside, ReliableDelivery, PartialDelivery};
+ghost use Rattle.sctp_model.specs.Laws.{OnEveryRun, EmitsWherePending, TakesPending, IdleIsAnswered, WithinLimit, FilledToLimit, SlotsInOrder, SlotsFollow, OneHalfSent, SentInTurn, IndexesLeaveNoGap, NoEndMarkIsSent, DatagramsStay, Balances, SumsAgree, AcknowledgedArrived, AcknowledgedIsReported, SacksSay, NetworkIsMade, ArrivedIsNew, CumulativeIsSeen, ArrivalsAnswered, WholeIsWhole, NamedIsNamed, SpansFit, MessagesAreWrites, ModesAreKept, ReadsShowMessages, ReadsBeginRun, ReadsBeginWholeRun, ReadsBeginWhole, ReadsDiffer, UnorderedFirst, NothingWhereRead, StartsOnce, LapsesByEvents, ExpiresLapsed, TailAbandonsLapsed, LateListsLapsed, LateAbandonsListed, ReadsAreSettled, CountersAreSums, Headline, Beside, ReliableDelivery, PartialDelivery};
 ghost use Rattle.sctp_model.specs.Sound.{RecordIsSound, SlotsComeSound, SkipsComeSound};
 
-/// A Send answers Idle exactly where no fragment is pending; else its new datagram carries the pending fragments that it takes.
+/// A Send answers Idle exactly where no fragment is pending, be memory refused or not; else its
+/// new datagram carries the pending fragments that it takes.
 pub fn each_send_emits()
     ensures idle { OnEveryRun EmitsWherePending }
     ensures takes { OnEveryRun TakesPending }
+    ensures answered { OnEveryRun IdleIsAnswered }
+{}
+
+/// A Send takes one fragment, however small the limit is, and then each that still fits: a
+/// datagram of several is no longer than the limit, and with the next fragment, where one waits,
+/// it would be longer. Lengths are in bytes, padding included (RFC 4960 3.1, 3.3.1).
+pub fn datagrams_keep_the_limit()
+    ensures within { OnEveryRun WithinLimit }
+    ensures filled { OnEveryRun FilledToLimit }
 {}
 
 /// The slots of a message have its fragments in order, side by side; the messages of a stream are sent in turn; an abandoned half-sent one takes one end mark, which no datagram carries; what a datagram says never changes.
@@ -65,9 +75,17 @@ pub fn nothing_when_exhausted()
     ensures nothing { OnEveryRun NothingWhereRead }
 {}
 
-/// A lifetime starts at the first Start or Send after the write, and Late abandons the messages of the slots that it lists and no others.
+/// A lifetime starts at the first Start or Send after the write. A message has lapsed exactly
+/// where it was written in timed mode, is not DCEP, and now, in nanoseconds, is at least its start
+/// plus its lifetime in milliseconds, a moment that 64 bits hold (RFC 3758 4.1, RFC 8832 6).
+/// Expire, Tail and Late answer, remove and abandon exactly by that; Late abandons the messages of
+/// the slots that it lists and no others.
 pub fn lifetimes_end()
     ensures once { OnEveryRun StartsOnce }
+    ensures lapse { OnEveryRun LapsesByEvents }
+    ensures expire { OnEveryRun ExpiresLapsed }
+    ensures tail { OnEveryRun TailAbandonsLapsed }
+    ensures listed { OnEveryRun LateListsLapsed }
     ensures late { OnEveryRun LateAbandonsListed }
 {}
 
@@ -88,7 +106,7 @@ pub fn records_are_sound()
     ensures skips { OnEveryRun SkipsComeSound }
 {}
 
-/// What holds of every history of a link, for every first TSN, fragment size, greatest message and limit: each Send emits a pending fragment while one exists; reading until nothing is left gives exactly each whole unordered message once and, per stream in writing order, the whole ordered messages up to the last named, then the unbroken whole run; only what arrived or was skipped is acknowledged; written bytes equal pending plus in flight plus released. Beside it: slots, arrivals, lifetimes, counters, and delivery without loss.
+/// What holds of every history of a link, for every first TSN, fragment size, greatest message and limit: each Send emits a pending fragment while one exists; reading until nothing is left gives exactly each whole unordered message once and, per stream in writing order, the whole ordered messages up to the last named, then the unbroken whole run; only what arrived or was skipped is acknowledged; written bytes equal pending plus in flight plus released. Beside it: slots, limits of datagrams, arrivals, lifetimes, counters, and delivery without loss.
 pub fn every_history()
     ensures headline { Headline }
     ensures beside { Beside }

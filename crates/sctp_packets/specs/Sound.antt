@@ -22,10 +22,15 @@ pub record IsSound (p : Parts) : Type 0 where
   pub alone : has_init p.chunks ≡ true → length p.chunks ≡ 1
   pub tag : has_init p.chunks ≡ true → p.verification_tag ≡ 0
 
+-- why an INIT in a packet does not stand alone under tag 0: the first of both that it breaks
+abbrev pub InitFault : Error → Parts → Type 0
+InitFault e p =
+    ((e ≡ errors.ErrInitChunkBundled) × (has_init p.chunks ≡ true) × (length p.chunks ≢ 1))
+    ⊎ ((e ≡ errors.ErrInitChunkVerifyTagNotZero) × (has_init p.chunks ≡ true) × (length p.chunks ≡ 1) × (p.verification_tag ≢ 0))
+
 -- why a packet is not sound: the first rule that it breaks
 abbrev pub SoundFault : Error → Parts → Type 0
 SoundFault e p =
     ((e ≡ errors.ErrSctpPacketSourcePortZero) × (p.source_port ≡ 0))
     ⊎ ((e ≡ errors.ErrSctpPacketDestinationPortZero) × (p.source_port ≢ 0) × (p.destination_port ≡ 0))
-    ⊎ ((e ≡ errors.ErrInitChunkBundled) × (p.source_port ≢ 0) × (p.destination_port ≢ 0) × (has_init p.chunks ≡ true) × (length p.chunks ≢ 1))
-    ⊎ ((e ≡ errors.ErrInitChunkVerifyTagNotZero) × (p.source_port ≢ 0) × (p.destination_port ≢ 0) × (has_init p.chunks ≡ true) × (length p.chunks ≡ 1) × (p.verification_tag ≢ 0))
+    ⊎ ((p.source_port ≢ 0) × (p.destination_port ≢ 0) × InitFault e p)

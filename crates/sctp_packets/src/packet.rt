@@ -1,6 +1,6 @@
 //! A packet.
 
-ghost use Rattle.std.specs.Prelude.{◌≡◌, ◌<◌, ◌^◌, ◌+◌, ◌++◌, ℕ, List, length, map, drop, ◌⊎◌, IfOk, IfErr, IsOkUnless, OnOk, OnErr, take, ◌≤◌};
+ghost use Rattle.std.specs.Prelude.{◌≡◌, ◌<◌, ◌^◌, ◌+◌, ◌++◌, ℕ, List, true, length, map, drop, ◌⊎◌, IfOk, IfErr, IsOkUnless, OnOk, OnErr, take, ◌≤◌};
 ghost use Rattle.std.specs.List.{AllByRecursion};
 ghost use Rattle.std.specs.Prelude.{[]};
 ghost use Rattle.sctp_base.specs.Field.{le32, u16_at, u32_at};
@@ -14,7 +14,7 @@ ghost use Rattle.sctp_chunks.specs.Framing.{declared};
 ghost use Rattle.sctp_base.specs.Padding.{padded, four_zeroes};
 ghost use Rattle.sctp_base.specs.Walk.{Walks};
 ghost use Rattle.sctp_packets.specs.Packet.{Parts, parts_of, IsCanonical, IsHeaded, ReadsPacket, Steps, after, padded_text, body_of, head_text, head_of, HavePacketText, packet_text, FitsParts};
-ghost use Rattle.sctp_packets.specs.Sound.{is_init, has_init, IsSound, SoundFault};
+ghost use Rattle.sctp_packets.specs.Sound.{is_init, has_init, IsSound, InitFault, SoundFault};
 ghost use Rattle.sctp_packets.specs.Fault.{HeadFault, PacketFault, PlaceFault, WalkFault, FirstTextFault, PacketTextFault, LacksRoom};
 
 pub mod partial_decode;
@@ -313,6 +313,17 @@ impl Packet {
         if self.common_header.destination_port == 0 {
             return Err(Error::ErrSctpPacketDestinationPortZero);
         }
+        self.check_init()
+    }
+
+    // Tests that an INIT stands alone under tag 0.
+    fn check_init(&self) -> Result<()>
+        ensures alone { OnOk result (has_init (parts_of self.now).chunks ≡ true
+            → length (parts_of self.now).chunks ≡ 1) }
+        ensures tag { OnOk result (has_init (parts_of self.now).chunks ≡ true
+            → (parts_of self.now).verification_tag ≡ 0) }
+        ensures fault { IfErr result (λ e. InitFault e (parts_of self.now)) }
+    {
         let has_init = has_init(&self.chunks);
         if has_init && self.chunks.len() != 1 {
             return Err(Error::ErrInitChunkBundled);

@@ -4,7 +4,7 @@ use Rattle.sctp_chunks.specs.declared.chunk.chunk_payload_data.ChunkPayloadData.
 use Rattle.sctp_chunks.specs.declared.chunk.chunk_payload_data.PayloadProtocolIdentifier.TheVariants as identifiers
 use Rattle.sctp_lists.specs.Kept.{runs_of}
 use Rattle.sctp_lists.specs.Serial.{comes_before, distance}
-use Rattle.sctp_queues.specs.Numbering.{Call, push, send_next, abandon, mark_as_acked, pop, after_all, at_first}
+use Rattle.sctp_queues.specs.outbound_queue.Numbering.{Call, push, send_next, abandon, mark_as_acked, pop, after_all, at_first}
 use Rattle.sctp_queues.specs.Turns.{IsWithinDigits}
 
 -- among three held chunks two looks are enough, and three are too many; among none there is nothing to look at

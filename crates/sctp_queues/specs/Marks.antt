@@ -1,8 +1,8 @@
 -- What marks make of a chunk.
 use Rattle.std.specs.Prelude.{ℕ, Bool, true, false, not, ◌&&◌, ◌==◌, [], Option}
 use Rattle.sctp_chunks.specs.declared.chunk.chunk_payload_data.ChunkPayloadData.{ChunkPayloadData}
-use Rattle.sctp_queues.specs.declared.held.Mark.{Mark}
-use Rattle.sctp_queues.specs.declared.held.Mark.TheVariants.{Acknowledged, Abandoned, Retransmit, Nsent, Since, MissIndicator}
+use Rattle.sctp_queues.specs.declared.payload_queue.held.Mark.{Mark}
+use Rattle.sctp_queues.specs.declared.payload_queue.held.Mark.TheVariants.{Acknowledged, Abandoned, Retransmit, Nsent, Since, MissIndicator}
 
 -- acknowledged: its bytes are gone
 abbrev pub acknowledged : ChunkPayloadData → ChunkPayloadData

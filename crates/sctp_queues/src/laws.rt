@@ -1,6 +1,6 @@
 //! What holds after every run of calls: laws, each the contract of a function that does nothing.
 
-ghost use Rattle.sctp_queues.specs.Numbering.{AfterEachRun, AreConsecutive, PutsInFlight, StandInLine, WasPut};
+ghost use Rattle.sctp_queues.specs.outbound_queue.Numbering.{AfterEachRun, AreConsecutive, PutsInFlight, StandInLine, WasPut};
 
 /// The fragments of one message have consecutive TSNs, where each call of an outbound queue is handed the next TSN as the
 /// one before left it: they are put in flight side by side, under TSNs that rise by one, and so is an end mark behind them.

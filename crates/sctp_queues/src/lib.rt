@@ -1,23 +1,13 @@
 //! The queues of an association: what waits, what is in flight, what came.
 #![tactic(auto)]
 
-pub mod chunks;
-pub mod held;
 pub mod laws;
-mod line;
-pub mod loose;
-mod loose_places;
-#[cfg(test)]
-mod order_tests;
-mod ordered_sets;
 pub mod outbound_queue;
 pub mod payload_queue;
 pub mod pending_queue;
-pub mod pool;
 pub mod reassembly_queue;
-#[cfg(test)]
-mod reassembly_tests;
 mod serial;
-mod sizes;
-mod skips;
 pub mod turns;
+
+pub use payload_queue::held;
+pub use reassembly_queue::{chunks, loose};

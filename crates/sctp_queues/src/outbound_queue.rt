@@ -6,15 +6,15 @@ ghost use Rattle.std.specs.List.{list_any};
 ghost use Rattle.sctp_base.specs.declared.error.Error.TheVariants.{ErrOutOfMemory};
 ghost use Rattle.sctp_lists.specs.Lists.{change_where};
 ghost use Rattle.sctp_queues.specs.Marks.{is_outstanding};
-ghost use Rattle.sctp_queues.specs.Pending as pending;
-ghost use Rattle.sctp_queues.specs.Whole.{GoesOn, IsMessageOrNone, half_sent, waits};
+ghost use Rattle.sctp_queues.specs.pending_queue.PendingQueue as pending;
+ghost use Rattle.sctp_queues.specs.pending_queue.Whole.{GoesOn, IsMessageOrNone, half_sent, waits};
 ghost use Rattle.sctp_queues.specs.Window.{SpansOneWindow, is_held};
 ghost use Rattle.sctp_queues.specs.DataChunks.{has_tsn, bytes_of};
-ghost use Rattle.sctp_queues.specs.Outbound.{is_past, is_expired, is_expired_tail, is_late, released_of, expired_bytes, tail_bytes};
+ghost use Rattle.sctp_queues.specs.outbound_queue.OutboundQueue.{is_past, is_expired, is_expired_tail, is_late, released_of, expired_bytes, tail_bytes};
 
-use crate::line::is_dcep;
 use crate::payload_queue::{PayloadQueue, is_outstanding};
 use crate::pending_queue::PendingQueue;
+use crate::pending_queue::line::is_dcep;
 use sctp_base::error::Result;
 use sctp_chunks::chunk::chunk_payload_data::ChunkPayloadData;
 use std::alloc::Global;
@@ -31,9 +31,9 @@ pub struct OutboundQueue {
 
 impl Model for OutboundQueue {
     ghost use Rattle.std.specs.Prelude.{◌+◌, ◌^◌, ◌<◌};
-    ghost use Rattle.sctp_queues.specs.Outbound.{Outbound};
-    ghost use Rattle.sctp_queues.specs.Pending.{total_bytes};
-    ghost use Rattle.sctp_queues.specs.Whole.{IsSendable};
+    ghost use Rattle.sctp_queues.specs.outbound_queue.OutboundQueue.{Outbound};
+    ghost use Rattle.sctp_queues.specs.pending_queue.PendingQueue.{total_bytes};
+    ghost use Rattle.sctp_queues.specs.pending_queue.Whole.{IsSendable};
     ghost use Rattle.sctp_queues.specs.DataChunks.{bytes_of};
 
     ghost Value = { Outbound };
@@ -45,8 +45,8 @@ impl Model for OutboundQueue {
 
 impl OutboundQueue {
     ghost use Rattle.sctp_queues.specs.Marks.{acknowledged, with_retransmit, with_nsent, with_since, with_miss_indicator};
-    ghost use Rattle.sctp_queues.specs.Outbound.{Outbound, total_bytes, with_inflight, with_message, has_room, all_started, following_tsn, sent_peeked, sent_next, abandoned, tsn_after, to_abandon, abandoned_of, tsn_after_of, has_tail, expiring, expired_of, expiring_tail, message_of, late_tsns, after_sends};
-    ghost use Rattle.sctp_queues.specs.Payload.{front_with, without_front};
+    ghost use Rattle.sctp_queues.specs.outbound_queue.OutboundQueue.{Outbound, total_bytes, with_inflight, with_message, has_room, all_started, following_tsn, sent_peeked, sent_next, abandoned, tsn_after, to_abandon, abandoned_of, tsn_after_of, has_tail, expiring, expired_of, expiring_tail, message_of, late_tsns, after_sends};
+    ghost use Rattle.sctp_queues.specs.payload_queue.PayloadQueue.{front_with, without_front};
 
     pub fn new(alloc: Global) -> Self
         ensures { result ≡ record { pending = record { ordered = []; unordered = []; selected = None; ordered_room = 0; unordered_room = 0 }; inflight = record { chunks = []; duplicates = []; room = 0 }; next_message_id = 0; next_unstarted = 0 } }
@@ -508,6 +508,3 @@ fn is_late(chunk: &ChunkPayloadData, pending: &PendingQueue, now: u64) -> bool
         && is_past(chunk.deadline, now)
         && (!chunk.acked || pending.contains_message(chunk.message_id))
 }
-
-#[cfg(test)]
-mod tests;

@@ -11,9 +11,11 @@ ghost use Rattle.sctp_queues.specs.Turns.{IsWithinDigits};
 ghost use Rattle.sctp_queues.specs.Window.{IsSerial, IsPlaceFor, IsHeldAt, IsWindow, SpansOneWindow, is_held, is_new};
 ghost use Rattle.sctp_queues.specs.DataChunks.{has_tsn, bytes_of};
 ghost use Rattle.sctp_queues.specs.Marks.{is_outstanding};
-ghost use Rattle.sctp_queues.specs.Blocks.{IsFirstAfter, IsRunUntil, Reports, gap_offsets, ends_of, is_offset, gap_text};
+ghost use Rattle.sctp_queues.specs.payload_queue.Blocks.{IsFirstAfter, IsRunUntil, Reports, gap_offsets, ends_of, is_offset, gap_text};
 
-use crate::held::{Held, Mark};
+pub mod held;
+
+use self::held::{Held, Mark};
 use crate::serial::distance;
 use crate::turns::Turns;
 use sctp_base::error::Result;
@@ -33,7 +35,7 @@ pub struct PayloadQueue {
 
 impl Model for PayloadQueue {
     ghost use Rattle.std.specs.Prelude.{◌≡◌};
-    ghost use Rattle.sctp_queues.specs.Payload.{Payload};
+    ghost use Rattle.sctp_queues.specs.payload_queue.PayloadQueue.{Payload};
     ghost use Rattle.sctp_queues.specs.Window.{IsSerial};
     ghost use Rattle.sctp_queues.specs.DataChunks.{bytes_of};
 
@@ -223,7 +225,7 @@ pub(crate) fn is_outstanding(chunk: &ChunkPayloadData) -> bool
 }
 
 impl PayloadQueue {
-    ghost use Rattle.sctp_queues.specs.Payload.{Payload, with_chunks, pushed, repeated, front_with, without_front, without, past};
+    ghost use Rattle.sctp_queues.specs.payload_queue.PayloadQueue.{Payload, with_chunks, pushed, repeated, front_with, without_front, without, past};
     ghost use Rattle.sctp_queues.specs.Marks.{marked, acknowledged, given_up, with_retransmit, with_nsent, with_since, with_miss_indicator, is_of};
 
     pub fn new(alloc: Global) -> Self
@@ -631,6 +633,3 @@ impl PayloadQueue {
         self.held.look(place, &mut Turns::new())
     }
 }
-
-#[cfg(test)]
-pub(crate) mod tests;

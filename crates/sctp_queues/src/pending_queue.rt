@@ -4,12 +4,14 @@ ghost use Rattle.std.specs.Prelude.{◌≡◌, ◌==◌, ◌+◌, ◌^◌, ◌<�
 ghost use Rattle.std.specs.List.{list_any};
 ghost use Rattle.sctp_base.specs.declared.error.Error.TheVariants.{ErrOutOfMemory};
 ghost use Rattle.sctp_queues.specs.Marks.{is_of};
-ghost use Rattle.sctp_queues.specs.Outbound.{appended, with_message_id};
-ghost use Rattle.sctp_queues.specs.Whole.{NumbersAscend, has_end, order_of, ordered_first};
+ghost use Rattle.sctp_queues.specs.outbound_queue.OutboundQueue.{appended, with_message_id};
+ghost use Rattle.sctp_queues.specs.pending_queue.Whole.{NumbersAscend, has_end, order_of, ordered_first};
 ghost use Rattle.sctp_queues.specs.DataChunks.{bytes_of};
-ghost use Rattle.sctp_queues.specs.Pending.{list_to_pop, selected_after, selected_without};
+ghost use Rattle.sctp_queues.specs.pending_queue.PendingQueue.{list_to_pop, selected_after, selected_without};
 
-use crate::line::Line;
+pub(crate) mod line;
+
+use self::line::Line;
 use sctp_base::error::Result;
 use sctp_chunks::chunk::chunk_payload_data::ChunkPayloadData;
 use std::alloc::Global;
@@ -32,7 +34,7 @@ pub struct PendingQueue {
 
 impl Model for PendingQueue {
     ghost use Rattle.std.specs.Prelude.{◌+◌, ◌^◌, ◌<◌};
-    ghost use Rattle.sctp_queues.specs.Pending.{Pending};
+    ghost use Rattle.sctp_queues.specs.pending_queue.PendingQueue.{Pending};
     ghost use Rattle.sctp_queues.specs.DataChunks.{bytes_of};
 
     ghost Value = { Pending };
@@ -43,7 +45,7 @@ impl Model for PendingQueue {
 }
 
 impl PendingQueue {
-    ghost use Rattle.sctp_queues.specs.Pending.{Pending, chunk_count, total_bytes, room_for, reserved, pushed, peeked, popped, rest_after, list_of, rest_of, removed_bytes, last_removed, without, closed_up, started, is_on};
+    ghost use Rattle.sctp_queues.specs.pending_queue.PendingQueue.{Pending, chunk_count, total_bytes, room_for, reserved, pushed, peeked, popped, rest_after, list_of, rest_of, removed_bytes, last_removed, without, closed_up, started, is_on};
 
     pub fn new(alloc: Global) -> Self
         ensures { result ≡ record { ordered = []; unordered = []; selected = None; ordered_room = 0; unordered_room = 0 } }
@@ -321,6 +323,3 @@ fn selected_without(selected: Option<Selected>, message_id: u64) -> Option<Selec
         None => None,
     }
 }
-
-#[cfg(test)]
-mod tests;

@@ -4,23 +4,31 @@ ghost use Rattle.std.specs.Prelude.{◌≡◌, ℕ, ◌==◌, nat_lt, ◌+◌, �
 ghost use Rattle.std.specs.List.{list_any, position_or_len};
 ghost use Rattle.sctp_lists.specs.Serial.{comes_before16, at_or_before, at_or_before16};
 ghost use Rattle.sctp_lists.specs.Lists.{those};
-ghost use Rattle.sctp_queues.specs.Reassembly.{is_passed, set_bytes, set_of_run};
-ghost use Rattle.sctp_queues.specs.Sets.{has_ssn, chunks_of_ssn, sets_with, answer_with, new_set};
+ghost use Rattle.sctp_queues.specs.reassembly_queue.ReassemblyQueue.{is_passed, set_bytes, set_of_run};
+ghost use Rattle.sctp_queues.specs.reassembly_queue.Fragments.{has_ssn, chunks_of_ssn, sets_with, answer_with, new_set};
 ghost use Rattle.sctp_queues.specs.DataChunks.{bytes_of};
-ghost use Rattle.sctp_queues.specs.Loose.{place_among};
-ghost use Rattle.sctp_queues.specs.Sizes.{projected_size, size_before, size_after};
-ghost use Rattle.sctp_queues.specs.Runs.{HasNoRun};
+ghost use Rattle.sctp_queues.specs.reassembly_queue.Loose.{place_among};
+ghost use Rattle.sctp_queues.specs.reassembly_queue.Sizes.{projected_size, size_before, size_after};
+ghost use Rattle.sctp_queues.specs.reassembly_queue.Runs.{HasNoRun};
 ghost use Rattle.sctp_queues.specs.Window.{IsSerial};
-ghost use Rattle.sctp_queues.specs.Bounded.{bounded_forwarded, applicable, is_upto};
+ghost use Rattle.sctp_queues.specs.reassembly_queue.Skips.{bounded_forwarded, applicable, is_upto};
 ghost use Rattle.sctp_base.specs.declared.error.Error.TheVariants.{ErrOutOfMemory, ErrInboundPacketTooLarge};
 
-use crate::chunks::{Chunks, Fragments};
-use crate::loose::{Loose, LooseFragment};
-use crate::loose_places::{front_upto, place_for};
-use crate::ordered_sets::{OrderedSets, clone_sets};
-use crate::pool::Pool;
-use crate::sizes::{bytes_of_front, size_after, size_before};
-use crate::skips::{earliest_from, goal, has_settled, latest_passable};
+pub mod chunks;
+pub mod loose;
+mod loose_places;
+mod ordered_sets;
+mod pool;
+mod sizes;
+mod skips;
+
+use self::chunks::{Chunks, Fragments};
+use self::loose::{Loose, LooseFragment};
+use self::loose_places::{front_upto, place_for};
+use self::ordered_sets::{OrderedSets, clone_sets};
+use self::pool::Pool;
+use self::sizes::{bytes_of_front, size_after, size_before};
+use self::skips::{earliest_from, goal, has_settled, latest_passable};
 use crate::turns::Turns;
 use sctp_base::error::{Error, Result};
 use sctp_base::util::{sna16gt, sna16lt, sna16lte, sna32lte};
@@ -43,7 +51,7 @@ pub struct ReassemblyQueue {
 }
 
 impl Model for ReassemblyQueue {
-    ghost use Rattle.sctp_queues.specs.Reassembly.{ReassemblyState};
+    ghost use Rattle.sctp_queues.specs.reassembly_queue.ReassemblyQueue.{ReassemblyState};
 
     ghost Value = { ReassemblyState };
 
@@ -56,7 +64,7 @@ impl Model for ReassemblyQueue {
 }
 
 impl ReassemblyQueue {
-    ghost use Rattle.sctp_queues.specs.Reassembly.{ReassemblyState, message_read, rest_read, state_read, at_start, ordered_forwarded, unordered_forwarded, is_too_large, ordered_pushed, is_whole_with, PushesUnordered, GivesRun, IsCounted, held_bytes, complete_sets};
+    ghost use Rattle.sctp_queues.specs.reassembly_queue.ReassemblyQueue.{ReassemblyState, message_read, rest_read, state_read, at_start, ordered_forwarded, unordered_forwarded, is_too_large, ordered_pushed, is_whole_with, PushesUnordered, GivesRun, IsCounted, held_bytes, complete_sets};
 
     /// An empty queue of the stream `si`, which takes messages of at most `max_message_size` bytes.
     pub fn new(alloc: Global, si: u16, max_message_size: u32) -> Self

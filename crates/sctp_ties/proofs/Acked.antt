@@ -10,14 +10,14 @@ use Rattle.sctp_lists.proofs.Getting.{get-numbered, numbered-at, length-numbered
 use Rattle.sctp_chunks.specs.declared.chunk.chunk_payload_data.ChunkPayloadData.{ChunkPayloadData}
 use Rattle.sctp_queues.specs.Marks.{acknowledged}
 use Rattle.sctp_queues.specs.DataChunks.{has_tsn}
-use Rattle.sctp_queues.specs.Payload.{front_with, without_front}
-use Rattle.sctp_queues.specs.Outbound.{Outbound, with_inflight}
+use Rattle.sctp_queues.specs.payload_queue.PayloadQueue.{front_with, without_front}
+use Rattle.sctp_queues.specs.outbound_queue.OutboundQueue.{Outbound, with_inflight}
 use Rattle.sctp_model.specs.World.{World, Report, Sack}
 use Rattle.sctp_model.specs.Messages.{message_at, slot_at, message_of, messages_where, no_slot, tsn_of, sent_of, fragment_count, is_half_sent}
 use Rattle.sctp_model.specs.Reports.{reports}
 use Rattle.sctp_model.specs.Changes.{sack_taken, acknowledged_by}
-use Rattle.sctp_model.proofs.Shape.{sent}
-use Rattle.sctp_model.proofs.Shapes
+use Rattle.sctp_model.proofs.sender.Shape.{sent}
+use Rattle.sctp_model.proofs.sender.Shapes
 use Rattle.sctp_ties.specs.Tied.{Sending, sending_by, IsInFlight, sending_of, sending_at, sendings_of, selected_of, waiting_of, waiting_where, waits_ordered, waits_unordered, TiedOutbound}
 use Rattle.sctp_ties.proofs.Waiting
 use Rattle.sctp_ties.proofs.Waiting.{Alike, gathered-same}

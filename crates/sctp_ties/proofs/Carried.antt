@@ -7,9 +7,9 @@ use Rattle.sctp_model.specs.Messages.{message_at, slot_at, message_of, stream_at
 use Rattle.sctp_model.specs.Receiver.{is_new}
 use Rattle.sctp_model.specs.Changes.{stream_changed, with_whole, becomes_whole, slot_received}
 use Rattle.sctp_model.specs.Steps.{History, world_of, IsRun}
-use Rattle.sctp_model.proofs.Shape.{shape, sent}
-use Rattle.sctp_model.proofs.SenderRun.{Sane, sane-run}
-use Rattle.sctp_model.proofs.Network.{fit-run, fit-at}
+use Rattle.sctp_model.proofs.sender.Shape.{shape, sent}
+use Rattle.sctp_model.proofs.sender.SenderRun.{Sane, sane-run}
+use Rattle.sctp_model.proofs.sender.Network.{fit-run, fit-at}
 use Rattle.sctp_ties.proofs.Arrival
 use Rattle.sctp_ties.proofs.Arrival.{with_arrived}
 use Rattle.sctp_ties.proofs.SlotArrives.{Enters}

@@ -16,9 +16,9 @@ use Rattle.sctp_chunks.specs.declared.chunk.chunk_payload_data.ChunkPayloadData.
 use Rattle.sctp_queues.specs.DataChunks
 use Rattle.sctp_queues.specs.Window
 use Rattle.sctp_queues.specs.Window.{IsWithinHalf, IsWindow, is_held}
-use Rattle.sctp_queues.specs.Payload.{front_with, without_front, past}
+use Rattle.sctp_queues.specs.payload_queue.PayloadQueue.{front_with, without_front, past}
 use Rattle.sctp_queues.specs.DataChunks.{chunk_before}
-use Rattle.sctp_queues.specs.Blocks.{is_offset, gap_offsets}
+use Rattle.sctp_queues.specs.payload_queue.Blocks.{is_offset, gap_offsets}
 use Rattle.sctp_model.specs.World.{World}
 use Rattle.sctp_model.specs.Messages.{tsn_of}
 use Rattle.sctp_model.specs.Receiver.{arrived_at, cumulative, is_new}

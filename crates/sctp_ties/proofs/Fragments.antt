@@ -3,21 +3,21 @@ use Rattle.std.proofs.Common.{◌≡◌, ℕ, ◌≤◌, Bool, true, false, leng
 use Rattle.std.specs.Prelude.{◌==◌}
 use Rattle.std.proofs.Math.Path.{subst}
 use Rattle.std.proofs.lemmas.Bool.Decides.{nat_tests}
-use Rattle.sctp_queues.specs.Pending.{peeked}
-use Rattle.sctp_queues.specs.Outbound.{Outbound, all_started, sent_peeked}
+use Rattle.sctp_queues.specs.pending_queue.PendingQueue.{peeked}
+use Rattle.sctp_queues.specs.outbound_queue.OutboundQueue.{Outbound, all_started, sent_peeked}
 use Rattle.sctp_model.specs.World.{Setup, World}
 use Rattle.sctp_model.specs.Messages.{front, sent_of, tsn_of}
 use Rattle.sctp_model.specs.Changes.{started, fragment_sent, fragment_of_sent}
 use Rattle.sctp_model.specs.Steps.{History, world_of, IsRun}
-use Rattle.sctp_model.proofs.Shape.{shape}
-use Rattle.sctp_model.proofs.SenderRun.{sane-run, sane-started}
-use Rattle.sctp_model.proofs.Few
-use Rattle.sctp_model.proofs.Fronts.{front-none}
+use Rattle.sctp_model.proofs.sender.Shape.{shape}
+use Rattle.sctp_model.proofs.sender.SenderRun.{sane-run, sane-started}
+use Rattle.sctp_model.proofs.sender.Few
+use Rattle.sctp_model.proofs.sender.Fronts.{front-none}
 use Rattle.sctp_ties.specs.Tied.{waiting_at, TiedOutbound}
 use Rattle.sctp_ties.proofs.Sent.{front_is, pending-sent, pending-idle}
 use Rattle.sctp_ties.proofs.SentInFlight.{tied-sent}
 use Rattle.sctp_ties.proofs.KindsRun.{Going, turns-as, turns-run}
-use Rattle.sctp_model.proofs.Shapes
+use Rattle.sctp_model.proofs.sender.Shapes
 
 pub going-run : (setup : Setup) (h : History) → IsRun setup h → Going setup (world_of setup h)
 going-run setup h run = record { sane = sane-run setup h run; turns = turns-run setup h run }

@@ -13,9 +13,9 @@ use Rattle.sctp_model.specs.Messages
 use Rattle.sctp_model.specs.Messages.{message_at, slot_at, messages_where, has_fragment, sent_of, no_message, no_slot, is_half_sent}
 use Rattle.sctp_model.specs.Amounts.{is_given_up, in_all, pending_bytes, in_flight_bytes}
 use Rattle.sctp_model.specs.Changes.{with_slot, message_changed, mark_abandoned, mark_expired, abandoned}
-use Rattle.sctp_model.proofs.Shape.{shape, sent}
-use Rattle.sctp_model.proofs.Sender.{sent-slotted}
-use Rattle.sctp_model.proofs.Shapes
+use Rattle.sctp_model.proofs.sender.Shape.{shape, sent}
+use Rattle.sctp_model.proofs.sender.Sender.{sent-slotted}
+use Rattle.sctp_model.proofs.sender.Shapes
 use Rattle.sctp_ties.specs.Amount.{amount, held_bytes}
 
 -- the bytes held, of the messages that pass
@@ -37,7 +37,7 @@ module _ (w : World) (n : ℕ) where
   slot-old : (p : ℕ) → p < length w.slots → slot_at v p ≡ slot_at w p
   slot-old p lt = get-snoc_old w.slots mark p no_slot (λ e. absurd (omega arith))
 
-  sent-same : (k : ℕ) → sent_of v k ≡ sent_of w k
+  pub sent-same : (k : ℕ) → sent_of v k ≡ sent_of w k
   sent-same k = ap (λ x. sent x k) (Shapes.shape-slot w n true) ∙ sent-slotted (shape w) n k true ∙ none (n == k)
     where
       none : (b : Bool) → sent_of w k + (if b && false then 1 else 0) ≡ sent_of w k

@@ -11,8 +11,8 @@ use Rattle.sctp_lists.proofs.Totals.{total-none, total-append, total-where, tota
 use Rattle.sctp_chunks.specs.declared.chunk.chunk_payload_data.ChunkPayloadData.{ChunkPayloadData}
 use Rattle.sctp_chunks.specs.PayloadData.{data_of}
 use Rattle.sctp_queues.specs.DataChunks.{bytes_of}
-use Rattle.sctp_queues.specs.Outbound.{Outbound}
-use Rattle.sctp_queues.specs.Pending.{total_bytes}
+use Rattle.sctp_queues.specs.outbound_queue.OutboundQueue.{Outbound}
+use Rattle.sctp_queues.specs.pending_queue.PendingQueue.{total_bytes}
 use Rattle.sctp_model.specs.declared.event.Event.TheVariants as E
 use Rattle.sctp_model.specs.World.{Report, Setup, Datagram, Data, Forward, Sack, World}
 use Rattle.sctp_model.specs.Messages.{message_at, slot_at, message_of}
@@ -22,12 +22,12 @@ use Rattle.sctp_model.specs.Reports.{reports}
 use Rattle.sctp_model.specs.Contents.{chunk_at}
 use Rattle.sctp_model.specs.Steps.{History, world_of, IsRun}
 use Rattle.sctp_model.specs.Laws.{IsSetup}
-use Rattle.sctp_model.proofs.Shape.{shape}
-use Rattle.sctp_model.proofs.Sender.{Sender}
-use Rattle.sctp_model.proofs.SenderRun.{sane-run}
-use Rattle.sctp_model.proofs.Fronts.{mark-abandoned, slot-sent}
-use Rattle.sctp_model.proofs.Acknowledged.{acknowledged_is_reported}
-use Rattle.sctp_model.proofs.Bytes.{balances}
+use Rattle.sctp_model.proofs.sender.Shape.{shape}
+use Rattle.sctp_model.proofs.sender.Sender.{Sender}
+use Rattle.sctp_model.proofs.sender.SenderRun.{sane-run}
+use Rattle.sctp_model.proofs.sender.Fronts.{mark-abandoned, slot-sent}
+use Rattle.sctp_model.proofs.acknowledgement.Acknowledged.{acknowledged_is_reported}
+use Rattle.sctp_model.proofs.acknowledgement.Bytes.{balances}
 use Rattle.sctp_ties.specs.Amount.{stream_of_slot, bytes_at, unacked, acknowledged_at, acknowledged_then}
 use Rattle.sctp_ties.specs.Tied.{sending_by, IsInFlight, sending_of, unless_gone, TiedOutbound}
 use Rattle.sctp_ties.proofs.Acked.{first_of', rest_of', in-flight-first}

@@ -17,18 +17,18 @@ use Rattle.sctp_model.specs.Reports.{reports}
 use Rattle.sctp_model.specs.Steps.{History, world_of, IsRun, refusal_of, after}
 use Rattle.sctp_model.specs.Log.{log_of}
 use Rattle.sctp_model.specs.Laws.{IsSetup}
-use Rattle.sctp_model.proofs.Shape.{Shape, MessagePart, shape, sent, half, unsent, slotted, written, abandoned_at, expired_at, message_part}
-use Rattle.sctp_model.proofs.Sender.{Sender, sent-slotted}
+use Rattle.sctp_model.proofs.sender.Shape.{Shape, MessagePart, shape, sent, half, unsent, slotted, written, abandoned_at, expired_at, message_part}
+use Rattle.sctp_model.proofs.sender.Sender.{Sender, sent-slotted}
 use Rattle.sctp_lists.specs.Lists.{pieces}
 use Rattle.sctp_lists.proofs.Getting.{length-numbered}
-use Rattle.sctp_model.proofs.SenderSteps.{of-half, is-half, sent-other}
-use Rattle.sctp_model.proofs.SenderEnds.{sent-none}
-use Rattle.sctp_model.proofs.SenderRun.{Sane, sane-run, sane-takes, sane-started, sends-keep, fold-keeps}
-use Rattle.sctp_model.proofs.Shapes
-use Rattle.sctp_model.proofs.Moves
-use Rattle.sctp_model.proofs.Network.{extends-after, same-received, same-taken, same-read}
-use Rattle.sctp_model.proofs.Acknowledged
-use Rattle.sctp_model.proofs.Received.{received-run}
+use Rattle.sctp_model.proofs.sender.SenderSteps.{of-half, is-half, sent-other}
+use Rattle.sctp_model.proofs.sender.SenderEnds.{sent-none}
+use Rattle.sctp_model.proofs.sender.SenderRun.{Sane, sane-run, sane-takes, sane-started, sends-keep, fold-keeps}
+use Rattle.sctp_model.proofs.sender.Shapes
+use Rattle.sctp_model.proofs.sender.Moves
+use Rattle.sctp_model.proofs.sender.Network.{extends-after, same-received, same-taken, same-read}
+use Rattle.sctp_model.proofs.acknowledgement.Acknowledged
+use Rattle.sctp_model.proofs.receiver.Received.{received-run}
 use Rattle.sctp_ties.proofs.Sent.{KindsInTurn, FrontIs, front_is}
 
 -- ## Kinds in turn

@@ -49,3 +49,14 @@ pub mod NoLarger
 pub mod SpanEnds
 pub mod Sizes
 pub mod ReadOne
+pub mod ExpiredLists
+pub mod Expired
+pub mod ExpiredReply
+pub mod Begun
+pub mod BegunRun
+pub mod AbandonedLists
+pub mod Abandoned
+pub mod AbandonedLate
+pub mod AbandonedEvents
+pub mod AbandonedLink
+pub mod AbandonedBytes

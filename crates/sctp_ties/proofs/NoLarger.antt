@@ -17,8 +17,8 @@ use Rattle.sctp_model.specs.Messages.{message_at}
 use Rattle.sctp_model.specs.Steps.{History, world_of, IsRun, refusal_of, unless, fragments_accepted, fragments_in}
 use Rattle.sctp_model.specs.Log.{Shown, writes_in}
 use Rattle.sctp_model.specs.Laws.{IsSetup, shown_of}
-use Rattle.sctp_model.proofs.SenderRun.{sane-run, unless-holds}
-use Rattle.sctp_model.proofs.Written.{messages_are_writes}
+use Rattle.sctp_model.proofs.sender.SenderRun.{sane-run, unless-holds}
+use Rattle.sctp_model.proofs.sender.Written.{messages_are_writes}
 
 -- no longer than this
 abbrev short : ℕ → Shown → Bool

@@ -5,15 +5,15 @@ use Rattle.sctp_lists.specs.Kept.{leading}
 use Rattle.sctp_lists.proofs.KeptLemmas.{kept-none}
 use Rattle.sctp_lists.proofs.More.{fails, not_both}
 use Rattle.sctp_chunks.specs.declared.chunk.chunk_payload_data.ReliabilityType.{ReliabilityType}
-use Rattle.sctp_queues.specs.Reassembly.{Reassembly}
+use Rattle.sctp_queues.specs.reassembly_queue.ReassemblyQueue.{Reassembly}
 use Rattle.sctp_model.specs.World.{Setup, StreamRecord, World}
 use Rattle.sctp_model.specs.Messages.{message_at, message_of, stream_at, stream_of, is_open, no_stream, ordered_on, is_ordered_on}
 use Rattle.sctp_model.specs.Receiver.{is_held, next_of}
 use Rattle.sctp_model.specs.Changes.{opened, mode_set}
 use Rattle.sctp_model.specs.Contents.{chunk_at}
 use Rattle.sctp_model.specs.Queues.{set_of, whole_set_of, is_loose}
-use Rattle.sctp_model.proofs.SenderRun.{Sane}
-use Rattle.sctp_model.proofs.View
+use Rattle.sctp_model.proofs.sender.SenderRun.{Sane}
+use Rattle.sctp_model.proofs.receiver.View
 use Rattle.sctp_ties.specs.Holds.{ordered_sets, loose_chunks, reassembly_of}
 use Rattle.sctp_ties.proofs.Keeps
 use Rattle.sctp_ties.proofs.Line

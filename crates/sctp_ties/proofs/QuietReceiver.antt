@@ -17,17 +17,17 @@ use Rattle.sctp_model.specs.Log.{LogEntry}
 use Rattle.sctp_model.specs.Sound.{IsSound}
 use Rattle.sctp_model.specs.Contents.{chunk_at, cumulative_tsn}
 use Rattle.sctp_model.specs.Queues.{set_of, whole_set_of, is_loose, filter_of, FilterRecord}
-use Rattle.sctp_model.proofs.Shape.{shape}
-use Rattle.sctp_model.proofs.SenderRun.{Sane}
-use Rattle.sctp_model.proofs.Moves.{Quiet}
-use Rattle.sctp_model.proofs.Network.{chunk-stays}
-use Rattle.sctp_model.proofs.Arrivals.{arrived-beyond}
-use Rattle.sctp_model.proofs.Names.{on-grown}
-use Rattle.sctp_model.proofs.Slots.{sent-made}
-use Rattle.sctp_model.proofs.View.{view}
-use Rattle.sctp_model.proofs.Known.{Still, still-of, come-still, whole-still, come-sent}
-use Rattle.sctp_model.proofs.Ordered
-use Rattle.sctp_model.proofs.Received.{Received}
+use Rattle.sctp_model.proofs.sender.Shape.{shape}
+use Rattle.sctp_model.proofs.sender.SenderRun.{Sane}
+use Rattle.sctp_model.proofs.sender.Moves.{Quiet}
+use Rattle.sctp_model.proofs.sender.Network.{chunk-stays}
+use Rattle.sctp_model.proofs.receiver.Arrivals.{arrived-beyond}
+use Rattle.sctp_model.proofs.receiver.Names.{on-grown}
+use Rattle.sctp_model.proofs.sender.Slots.{sent-made}
+use Rattle.sctp_model.proofs.receiver.View.{view}
+use Rattle.sctp_model.proofs.receiver.Known.{Still, still-of, come-still, whole-still, come-sent}
+use Rattle.sctp_model.proofs.receiver.Ordered
+use Rattle.sctp_model.proofs.receiver.Received.{Received}
 use Rattle.sctp_ties.specs.Holds.{ordered_sets, whole_sets, loose_chunks, reassembly_of}
 use Rattle.sctp_ties.proofs.Line
 use Rattle.sctp_ties.proofs.SkipStep

@@ -6,7 +6,7 @@ use Rattle.std.proofs.lemmas.Bool.Decides.{nat_tests}
 use Rattle.sctp_lists.specs.Kept.{passing, first_of, or_else}
 use Rattle.sctp_lists.proofs.Cases.{negated}
 use Rattle.sctp_chunks.specs.ChunkSet.{ChunkSet}
-use Rattle.sctp_queues.specs.Reassembly.{message_read}
+use Rattle.sctp_queues.specs.reassembly_queue.ReassemblyQueue.{message_read}
 use Rattle.sctp_model.specs.declared.event.Event.{Event}
 use Rattle.sctp_model.specs.declared.event.Event.TheVariants as E
 use Rattle.sctp_model.specs.declared.event.LinkRefusal.TheVariants.{StreamOpen}
@@ -19,15 +19,15 @@ use Rattle.sctp_model.specs.Changes.{read_of, read_from, stream_changed, slot_re
 use Rattle.sctp_model.specs.Queues.{set_of, whole_set_of, handed_out}
 use Rattle.sctp_model.specs.Steps.{History, world_of, IsRun, refusal_of, after}
 use Rattle.sctp_model.specs.Laws.{IsSetup}
-use Rattle.sctp_model.proofs.SenderRun.{sane-run, sane-after, unless-holds}
-use Rattle.sctp_model.proofs.Moves
-use Rattle.sctp_model.proofs.Moves.{Quiet}
-use Rattle.sctp_model.proofs.Known.{still-of}
-use Rattle.sctp_model.proofs.Ordered
-use Rattle.sctp_model.proofs.Received.{received-run}
-use Rattle.sctp_model.proofs.SoundRun.{record_is_sound}
-use Rattle.sctp_model.proofs.View
-use Rattle.sctp_model.proofs.View.{view}
+use Rattle.sctp_model.proofs.sender.SenderRun.{sane-run, sane-after, unless-holds}
+use Rattle.sctp_model.proofs.sender.Moves
+use Rattle.sctp_model.proofs.sender.Moves.{Quiet}
+use Rattle.sctp_model.proofs.receiver.Known.{still-of}
+use Rattle.sctp_model.proofs.receiver.Ordered
+use Rattle.sctp_model.proofs.receiver.Received.{received-run}
+use Rattle.sctp_model.proofs.receiver.SoundRun.{record_is_sound}
+use Rattle.sctp_model.proofs.receiver.View
+use Rattle.sctp_model.proofs.receiver.View.{view}
 use Rattle.sctp_ties.specs.Holds.{reassembly_of}
 use Rattle.sctp_model.specs.Sound.{IsSpan, Sound, SoundLoose}
 use Rattle.sctp_ties.proofs.Keeps

@@ -4,7 +4,7 @@ use Rattle.std.specs.Prelude.{if◌then◌else◌, ◌==◌, ◌&&◌, fold}
 use Rattle.sctp_lists.specs.Kept.{always}
 use Rattle.sctp_lists.proofs.More.{both}
 use Rattle.sctp_lists.proofs.Totals.{total-plus}
-use Rattle.sctp_queues.specs.Outbound.{Outbound, total_bytes}
+use Rattle.sctp_queues.specs.outbound_queue.OutboundQueue.{Outbound, total_bytes}
 use Rattle.sctp_model.specs.declared.event.Event.{Event}
 use Rattle.sctp_model.specs.declared.event.Event.TheVariants as E
 use Rattle.sctp_model.specs.declared.event.LinkRefusal.TheVariants.{NotInFlight}
@@ -14,15 +14,15 @@ use Rattle.sctp_model.specs.Amounts.{in_all, written_bytes, released_bytes, grow
 use Rattle.sctp_model.specs.Changes.{late_messages, abandoned, expired, expiring, front_if, tailing, tail_abandoned}
 use Rattle.sctp_model.specs.Steps.{History, world_of, IsRun, refusal_of, reply_to, after}
 use Rattle.sctp_model.specs.Laws.{IsSetup}
-use Rattle.sctp_model.proofs.Shape.{shape, sent}
-use Rattle.sctp_model.proofs.SenderSteps.{of-half}
-use Rattle.sctp_model.proofs.SenderRun.{Sane, AllSent, sent-all, late-sent, sane-run, sane-after, sane-abandoned, in-flight-sent, unless-holds}
-use Rattle.sctp_model.proofs.Slots.{sent-made}
-use Rattle.sctp_model.proofs.Fronts.{front-takes}
-use Rattle.sctp_model.proofs.Moves
-use Rattle.sctp_model.proofs.Moves.{Quiet}
-use Rattle.sctp_model.proofs.Bytes.{balance, balances, size-some}
-use Rattle.sctp_model.proofs.BytesTold.{count-abandoned}
+use Rattle.sctp_model.proofs.sender.Shape.{shape, sent}
+use Rattle.sctp_model.proofs.sender.SenderSteps.{of-half}
+use Rattle.sctp_model.proofs.sender.SenderRun.{Sane, AllSent, sent-all, late-sent, sane-run, sane-after, sane-abandoned, in-flight-sent, unless-holds}
+use Rattle.sctp_model.proofs.sender.Slots.{sent-made}
+use Rattle.sctp_model.proofs.sender.Fronts.{front-takes}
+use Rattle.sctp_model.proofs.sender.Moves
+use Rattle.sctp_model.proofs.sender.Moves.{Quiet}
+use Rattle.sctp_model.proofs.acknowledgement.Bytes.{balance, balances, size-some}
+use Rattle.sctp_model.proofs.acknowledgement.BytesTold.{count-abandoned}
 use Rattle.sctp_ties.specs.Amount.{amount, held_bytes, released_along, released_along_on}
 use Rattle.sctp_ties.specs.Counts.{is_write}
 use Rattle.sctp_ties.specs.Tied.{TiedOutbound}

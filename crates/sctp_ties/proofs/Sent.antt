@@ -11,17 +11,17 @@ use Rattle.sctp_lists.proofs.Cases.{by_same, negated, same-yes, same-is}
 use Rattle.sctp_lists.proofs.Tests.{FirstOf, first-kept}
 use Rattle.sctp_chunks.specs.declared.chunk.chunk_payload_data.ChunkPayloadData.{ChunkPayloadData}
 use Rattle.sctp_queues.specs.declared.pending_queue.Selected.{Selected}
-use Rattle.sctp_queues.specs.Pending.{Pending, list_of, front_of, peeked, peeked_of, list_to_pop, rest_after, rest_from, rest_of, selected_after}
+use Rattle.sctp_queues.specs.pending_queue.PendingQueue.{Pending, list_of, front_of, peeked, peeked_of, list_to_pop, rest_after, rest_from, rest_of, selected_after}
 use Rattle.sctp_model.specs.World.{World}
 use Rattle.sctp_model.specs.Messages.{message_at, messages_where, front, fragment_count, sent_of, is_half_sent, is_unsent}
 use Rattle.sctp_model.specs.Changes.{with_slot}
 use Rattle.sctp_model.specs.Amounts.{is_given_up}
-use Rattle.sctp_model.proofs.Shape.{shape, sent}
-use Rattle.sctp_model.proofs.Sender.{Sender}
-use Rattle.sctp_model.proofs.SenderSteps
-use Rattle.sctp_model.proofs.SenderSteps.{Takes, is-half, sent-other, sent-here}
-use Rattle.sctp_model.proofs.Fronts.{front-takes, is-unsent}
-use Rattle.sctp_model.proofs.Shapes
+use Rattle.sctp_model.proofs.sender.Shape.{shape, sent}
+use Rattle.sctp_model.proofs.sender.Sender.{Sender}
+use Rattle.sctp_model.proofs.sender.SenderSteps
+use Rattle.sctp_model.proofs.sender.SenderSteps.{Takes, is-half, sent-other, sent-here}
+use Rattle.sctp_model.proofs.sender.Fronts.{front-takes, is-unsent}
+use Rattle.sctp_model.proofs.sender.Shapes
 use Rattle.sctp_ties.specs.Tied.{waiting_at, waiting_of, waiting_where, waits_ordered, waits_unordered, selected_of, TiedPending}
 use Rattle.sctp_ties.proofs.Waiting
 use Rattle.sctp_ties.proofs.Waiting.{Alike, gathered-same, gathered-from, gathered-none}

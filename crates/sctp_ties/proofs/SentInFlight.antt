@@ -13,7 +13,7 @@ use Rattle.sctp_lists.proofs.Round.{comes_before-tsn}
 use Rattle.sctp_lists.proofs.Cases.{by_last}
 use Rattle.sctp_chunks.specs.declared.chunk.chunk_payload_data.ChunkPayloadData.{ChunkPayloadData}
 use Rattle.sctp_queues.specs.DataChunks.{chunk_before}
-use Rattle.sctp_queues.specs.Outbound.{Outbound, numbered, sent_of, sent_peeked}
+use Rattle.sctp_queues.specs.outbound_queue.OutboundQueue.{Outbound, numbered, sent_of, sent_peeked}
 use Rattle.sctp_model.specs.World.{World, Slot}
 use Rattle.sctp_model.specs.Messages.{message_at, slot_at, message_of, no_slot, tsn_of, front}
 use Rattle.sctp_model.specs.Messages
@@ -23,7 +23,7 @@ use Rattle.sctp_ties.proofs.Written.{sending-alike}
 use Rattle.sctp_ties.proofs.Sent.{FrontIs, pending-sent}
 
 -- a chunk behind all others goes to the end
-put-last : (w : World) (x : ChunkPayloadData) (p : ℕ) → x.tsn ≡ tsn_of w p → p < 2 ^ 31 → (cs : List ChunkPayloadData) (from count : ℕ) → map sending_of cs ≡ map (sending_at w) (kept always from count) → from + count ≤ p → inserted chunk_before x cs ≡ cs ++ x ∷ []
+pub put-last : (w : World) (x : ChunkPayloadData) (p : ℕ) → x.tsn ≡ tsn_of w p → p < 2 ^ 31 → (cs : List ChunkPayloadData) (from count : ℕ) → map sending_of cs ≡ map (sending_at w) (kept always from count) → from + count ≤ p → inserted chunk_before x cs ≡ cs ++ x ∷ []
 put-last w x p e short [] from count same le = refl
 put-last w x p e short (c ∷ cs) from zero same le = cc
 put-last w x p e short (c ∷ cs) from (suc count) same le =

@@ -16,24 +16,24 @@ use Rattle.sctp_lists.proofs.Totals.{total-append, total-at, total-where, total-
 use Rattle.sctp_lists.proofs.Wraps.{same16-index}
 use Rattle.sctp_chunks.specs.declared.chunk.chunk_payload_data.ChunkPayloadData.{ChunkPayloadData}
 use Rattle.sctp_chunks.specs.ChunkSet.{ChunkSet}
-use Rattle.sctp_queues.specs.Sets.{next_tsn, has_ssn, chunks_of_ssn}
+use Rattle.sctp_queues.specs.reassembly_queue.Fragments.{next_tsn, has_ssn, chunks_of_ssn}
 use Rattle.sctp_queues.specs.DataChunks.{bytes_of, has_tsn}
-use Rattle.sctp_queues.specs.Sizes.{previous_tsn, bytes_down, bytes_up, back_from, on_from, size_before, size_after, projected_size}
-use Rattle.sctp_queues.specs.Reassembly.{ReassemblyState, is_too_large}
+use Rattle.sctp_queues.specs.reassembly_queue.Sizes.{previous_tsn, bytes_down, bytes_up, back_from, on_from, size_before, size_after, projected_size}
+use Rattle.sctp_queues.specs.reassembly_queue.ReassemblyQueue.{ReassemblyState, is_too_large}
 use Rattle.sctp_model.specs.World.{Setup, World, Data}
 use Rattle.sctp_model.specs.Messages.{message_at, slot_at, message_of, is_ordered_on, index_of, ssn_of, tsn_of, fragment_at, fragment_count, has_fragment, sent_of}
 use Rattle.sctp_model.specs.Receiver.{arrived_at, is_new, is_held}
 use Rattle.sctp_model.specs.Contents.{chunk_at}
 use Rattle.sctp_model.specs.Queues.{set_of, is_loose}
 use Rattle.sctp_model.specs.Amounts
-use Rattle.sctp_model.proofs.Shape.{shape}
-use Rattle.sctp_model.proofs.Sender.{Sender}
+use Rattle.sctp_model.proofs.sender.Shape.{shape}
+use Rattle.sctp_model.proofs.sender.Sender.{Sender}
 use Rattle.sctp_model.specs.declared.event.Event.TheVariants as E
 use Rattle.sctp_model.specs.Steps.{History, world_of, refusal_of, IsRun}
 use Rattle.sctp_model.specs.Laws.{IsSetup}
-use Rattle.sctp_model.proofs.SenderRun.{Sane, sane-run}
-use Rattle.sctp_model.proofs.SoundRun.{slots_come_sound}
-use Rattle.sctp_model.proofs.Bytes.{slots-bytes, fragments-bytes, size-some}
+use Rattle.sctp_model.proofs.sender.SenderRun.{Sane, sane-run}
+use Rattle.sctp_model.proofs.receiver.SoundRun.{slots_come_sound}
+use Rattle.sctp_model.proofs.acknowledgement.Bytes.{slots-bytes, fragments-bytes, size-some}
 use Rattle.sctp_ties.specs.Holds.{has_come, reassembly_of}
 use Rattle.sctp_model.specs.Sound.{IsSpan, Sound, SoundLoose}
 use Rattle.sctp_ties.proofs.Arrival

@@ -13,14 +13,14 @@ use Rattle.sctp_model.specs.Messages
 use Rattle.sctp_model.specs.Receiver
 use Rattle.sctp_model.specs.Changes
 use Rattle.sctp_model.specs.Steps.{History, world_of, IsRun, after}
-use Rattle.sctp_model.proofs.Shape.{Shape, MessagePart, shape, message_part, has, sent, parts, half, slotted, written, abandoned_at, expired_at}
-use Rattle.sctp_model.proofs.Shapes
-use Rattle.sctp_model.proofs.Sender.{Sender, slot-old, slot-new}
-use Rattle.sctp_model.proofs.SenderSteps.{is-half, half-one}
-use Rattle.sctp_model.proofs.SenderEnds.{message-old, parts-old}
-use Rattle.sctp_model.proofs.SenderRun.{Sane, sane-run, sane-takes, sane-started, sane-abandoned, sends-keep, written_as, AllSent, sent-all, late-sent}
-use Rattle.sctp_model.proofs.Fronts.{front-takes}
-use Rattle.sctp_model.proofs.Network.{same-received, same-taken, same-read}
+use Rattle.sctp_model.proofs.sender.Shape.{Shape, MessagePart, shape, message_part, has, sent, parts, half, slotted, written, abandoned_at, expired_at}
+use Rattle.sctp_model.proofs.sender.Shapes
+use Rattle.sctp_model.proofs.sender.Sender.{Sender, slot-old, slot-new}
+use Rattle.sctp_model.proofs.sender.SenderSteps.{is-half, half-one}
+use Rattle.sctp_model.proofs.sender.SenderEnds.{message-old, parts-old}
+use Rattle.sctp_model.proofs.sender.SenderRun.{Sane, sane-run, sane-takes, sane-started, sane-abandoned, sends-keep, written_as, AllSent, sent-all, late-sent}
+use Rattle.sctp_model.proofs.sender.Fronts.{front-takes}
+use Rattle.sctp_model.proofs.sender.Network.{same-received, same-taken, same-read}
 
 -- after a fragment that does not end its message: the next slot is of this message, and where there is none it is not abandoned
 pub record GoesOn (x : Shape) (p : ℕ) : Type 0 where

@@ -18,12 +18,12 @@ use Rattle.sctp_model.specs.Contents.{chunk_at}
 use Rattle.sctp_model.specs.Queues.{set_of, whole_set_of}
 use Rattle.sctp_model.specs.Steps.{History, world_of, IsRun, arrival_fits}
 use Rattle.sctp_model.specs.Laws.{IsSetup}
-use Rattle.sctp_model.proofs.SenderRun.{sane-run}
-use Rattle.sctp_model.proofs.Shape.{shape}
-use Rattle.sctp_model.proofs.SenderSteps.{of-has}
-use Rattle.sctp_model.proofs.Made.{place-back}
-use Rattle.sctp_model.proofs.Spans.{spans_fit_always}
-use Rattle.sctp_model.proofs.SoundRun.{span-fits, span-open}
+use Rattle.sctp_model.proofs.sender.SenderRun.{sane-run}
+use Rattle.sctp_model.proofs.sender.Shape.{shape}
+use Rattle.sctp_model.proofs.sender.SenderSteps.{of-has}
+use Rattle.sctp_model.proofs.sender.Made.{place-back}
+use Rattle.sctp_model.proofs.receiver.Spans.{spans_fit_always}
+use Rattle.sctp_model.proofs.receiver.SoundRun.{span-fits, span-open}
 use Rattle.sctp_ties.specs.Holds.{has_come, ordered_sets}
 use Rattle.sctp_model.specs.Sound.{IsSpan, Sound, SoundLoose}
 use Rattle.sctp_ties.proofs.Arrival

@@ -21,16 +21,16 @@ use Rattle.sctp_model.specs.Changes
 use Rattle.sctp_model.specs.Changes.{message_on, wrote}
 use Rattle.sctp_model.specs.Steps.{refusal_of, after, unless, fragments_accepted, fragments_in}
 use Rattle.sctp_model.specs.Laws.{IsSetup}
-use Rattle.sctp_model.proofs.Shape.{Shape, shape, has}
-use Rattle.sctp_model.proofs.Sender.{Sender}
-use Rattle.sctp_model.proofs.SenderRun.{Sane, sane-after, unless-holds, found}
-use Rattle.sctp_model.proofs.Shapes
-use Rattle.sctp_model.proofs.Moves
-use Rattle.sctp_model.proofs.Moves.{Quiet}
-use Rattle.sctp_model.proofs.Network
-use Rattle.sctp_model.proofs.Acknowledged.{as-datagram, as-read}
-use Rattle.sctp_model.proofs.Bytes.{balance, size-some}
-use Rattle.sctp_model.proofs.BytesTold.{messages-sent}
+use Rattle.sctp_model.proofs.sender.Shape.{Shape, shape, has}
+use Rattle.sctp_model.proofs.sender.Sender.{Sender}
+use Rattle.sctp_model.proofs.sender.SenderRun.{Sane, sane-after, unless-holds, found}
+use Rattle.sctp_model.proofs.sender.Shapes
+use Rattle.sctp_model.proofs.sender.Moves
+use Rattle.sctp_model.proofs.sender.Moves.{Quiet}
+use Rattle.sctp_model.proofs.sender.Network
+use Rattle.sctp_model.proofs.acknowledgement.Acknowledged.{as-datagram, as-read}
+use Rattle.sctp_model.proofs.acknowledgement.Bytes.{balance, size-some}
+use Rattle.sctp_model.proofs.acknowledgement.BytesTold.{messages-sent}
 use Rattle.sctp_ties.specs.Amount.{amount, keeps_amounts, stream_of_slot, bytes_at, acknowledged_at}
 use Rattle.sctp_ties.proofs.MessageSums.{is_on, sum_where, message-old, sum-written, sum-same}
 use Rattle.sctp_ties.proofs.Unacked.{bytes_where, bytes-by_slot, pending_on_by}

@@ -13,7 +13,7 @@ use Rattle.sctp_model.specs.Amounts.{Counters, in_all, on_stream, written_bytes,
 use Rattle.sctp_model.specs.Changes.{message_on, wrote, read_of, read_from}
 use Rattle.sctp_model.specs.Steps.{History, world_of, IsRun, refusal_of, after}
 use Rattle.sctp_model.specs.Laws.{IsSetup}
-use Rattle.sctp_model.proofs.SenderRun.{Sane}
+use Rattle.sctp_model.proofs.sender.SenderRun.{Sane}
 use Rattle.sctp_ties.specs.Counts.{is_write, is_read, counters_on, no_counters, counted_as, count_more, sent_more, received_more}
 use Rattle.sctp_ties.proofs.MessageSums.{sum-written, sum-same}
 use Rattle.sctp_ties.proofs.StreamAmounts.{stream-open, write-open, none-written}

@@ -16,14 +16,14 @@ use Rattle.sctp_model.specs.Changes
 use Rattle.sctp_model.specs.Changes.{message_on, wrote, read_of, read_from, mark_read}
 use Rattle.sctp_model.specs.Steps.{History, world_of, IsRun, after}
 use Rattle.sctp_model.specs.Laws.{IsSetup}
-use Rattle.sctp_model.proofs.SenderRun.{Sane}
-use Rattle.sctp_model.proofs.Moves
-use Rattle.sctp_model.proofs.Moves.{Quiet}
-use Rattle.sctp_model.proofs.BytesTold.{count-abandoned, count-late}
-use Rattle.sctp_model.proofs.Lifetimes.{messages-received, messages-taken}
-use Rattle.sctp_model.proofs.Known.{HasRead}
-use Rattle.sctp_model.proofs.View.{view}
-use Rattle.sctp_model.proofs.Shown.{has-read}
+use Rattle.sctp_model.proofs.sender.SenderRun.{Sane}
+use Rattle.sctp_model.proofs.sender.Moves
+use Rattle.sctp_model.proofs.sender.Moves.{Quiet}
+use Rattle.sctp_model.proofs.acknowledgement.BytesTold.{count-abandoned, count-late}
+use Rattle.sctp_model.proofs.sender.Lifetimes.{messages-received, messages-taken}
+use Rattle.sctp_model.proofs.receiver.Known.{HasRead}
+use Rattle.sctp_model.proofs.receiver.View.{view}
+use Rattle.sctp_model.proofs.receiver.Shown.{has-read}
 use Rattle.sctp_ties.specs.Counts.{is_write, is_read}
 use Rattle.sctp_ties.proofs.MessageSums.{is_on, sum_where, sum-written, sum-same}
 use Rattle.sctp_ties.proofs.StreamAmounts.{count-sent, same-turned}

@@ -14,9 +14,9 @@ use Rattle.sctp_model.specs.Messages.{message_at, slot_at, message_of, messages_
 use Rattle.sctp_model.specs.Amounts.{is_given_up, slot_bytes, in_all, on_stream, written_bytes, pending_bytes, in_flight_bytes, released_bytes, growth}
 use Rattle.sctp_model.specs.Reports.{reports}
 use Rattle.sctp_model.specs.Changes.{sack_taken, acknowledged_by}
-use Rattle.sctp_model.proofs.Shape.{Shape, shape, sent, parts}
-use Rattle.sctp_model.proofs.Shapes
-use Rattle.sctp_model.proofs.Sender.{Sender}
+use Rattle.sctp_model.proofs.sender.Shape.{Shape, shape, sent, parts}
+use Rattle.sctp_model.proofs.sender.Shapes
+use Rattle.sctp_model.proofs.sender.Sender.{Sender}
 use Rattle.sctp_ties.specs.Amount.{amount, stream_of_slot, bytes_at, unacked, unacked_on, acknowledged_at, acknowledged_then}
 use Rattle.sctp_ties.proofs.Owned.{total-owned}
 

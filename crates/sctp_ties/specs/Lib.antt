@@ -2,3 +2,4 @@ pub mod Holds
 pub mod Tied
 pub mod Amount
 pub mod Counts
+pub mod Indexes

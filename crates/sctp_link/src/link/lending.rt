@@ -1,7 +1,7 @@
 //! What a link tells of itself: its bytes, its counters, and the queues that it works on.
 
 ghost use Rattle.std.specs.Prelude.{◌≡◌, ◌==◌, ℕ, None, Some, true, false, MatchOption, map, option_map};
-ghost use Rattle.sctp_queues.specs.Payload.{Payload};
+ghost use Rattle.sctp_queues.specs.payload_queue.PayloadQueue.{Payload};
 
 use super::Link;
 use crate::open_stream::OpenStream;

@@ -1,6 +1,6 @@
 //! A packet of which only the beginning was read.
 
-ghost use Rattle.std.specs.Prelude.{◌≡◌, ◌≤◌, ◌<◌, IfOk, IfErr, length, drop};
+ghost use Rattle.std.specs.Prelude.{◌≡◌, ◌≤◌, ◌<◌, ◌==◌, ◌||◌, if◌then◌else◌, IfOk, IfErr, OnOk, Option, Some, None, length, drop};
 ghost use Rattle.std.specs.List.{AllByRecursion};
 ghost use Rattle.sctp_base.specs.declared.error.Error.TheVariants.{ErrChunkValueNotLongEnough};
 ghost use Rattle.sctp_base.specs.Outcome.{OrMemory, GivesUnlessMemory};
@@ -33,6 +33,22 @@ pub struct PartialDecode {
     pub cookie: Option<Bytes>,
 }
 
+/// The initiate tag, where a chunk of this type with this value is an INIT or INIT-ACK.
+fn initiate_tag_in(typ: ChunkType, value: &[u8]) -> Result<Option<u32>>
+    ensures long { OnOk result (IsInitType typ.0 → 4 ≤ length value.now) }
+    ensures tag { IfOk result (λ t. t ≡ (if typ.0 == 1 || typ.0 == 2 then Some (u32_at value.now 0) else None)) }
+    ensures fault { IfErr result (λ e. (e ≡ ErrChunkValueNotLongEnough) × IsInitType typ.0
+        × (length value.now < 4)) }
+{
+    if typ != CT_INIT && typ != CT_INIT_ACK {
+        return Ok(None);
+    }
+    if value.len() < INITIATE_TAG_LENGTH {
+        return Err(Error::ErrChunkValueNotLongEnough);
+    }
+    Ok(Some(read_u32(value, 0)))
+}
+
 impl PartialDecode {
     /// Reads the header, tests the checksum, and reads the header of the first chunk.
     pub fn unmarshal<C: Checksum>(
@@ -55,15 +71,7 @@ impl PartialDecode {
             return Err(Error::ErrParseSctpChunkNotEnoughData);
         }
         let (header, value) = open_any(&remaining)?;
-        let is_init = header.typ == CT_INIT || header.typ == CT_INIT_ACK;
-        if is_init && value.len() < INITIATE_TAG_LENGTH {
-            return Err(Error::ErrChunkValueNotLongEnough);
-        }
-        let initiate_tag = if is_init {
-            Some(read_u32(value, 0))
-        } else {
-            None
-        };
+        let initiate_tag = initiate_tag_in(header.typ, value)?;
         let cookie = if header.typ == CT_COOKIE_ECHO {
             Some(share_value(&remaining, value, 0)?)
         } else {

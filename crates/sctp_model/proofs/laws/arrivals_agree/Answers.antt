@@ -1,10 +1,10 @@
-use Rattle.sctp_model.proofs.Made.{network_is_made}
-use Rattle.sctp_model.proofs.Arrivals.{arrived_is_new}
-use Rattle.sctp_model.proofs.Arrivals.{cumulative_is_seen}
-use Rattle.sctp_model.proofs.Arrivals.{arrivals_answered}
-use Rattle.sctp_model.proofs.KnownRun.{whole_is_whole}
-use Rattle.sctp_model.proofs.Names.{named_is_named}
-use Rattle.sctp_model.proofs.Spans.{spans_fit_always}
+use Rattle.sctp_model.proofs.sender.Made.{network_is_made}
+use Rattle.sctp_model.proofs.receiver.Arrivals.{arrived_is_new}
+use Rattle.sctp_model.proofs.receiver.Arrivals.{cumulative_is_seen}
+use Rattle.sctp_model.proofs.receiver.Arrivals.{arrivals_answered}
+use Rattle.sctp_model.proofs.receiver.KnownRun.{whole_is_whole}
+use Rattle.sctp_model.proofs.receiver.Names.{named_is_named}
+use Rattle.sctp_model.proofs.receiver.Spans.{spans_fit_always}
 use Rattle.sctp_model.proofs.laws.arrivals_agree.Goals as goal
 
 pub returns-clause-network : goal.returns-clause-network

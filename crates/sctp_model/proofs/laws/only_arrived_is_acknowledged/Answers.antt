@@ -1,6 +1,6 @@
-use Rattle.sctp_model.proofs.Acknowledged.{acknowledged_arrived}
-use Rattle.sctp_model.proofs.Acknowledged.{acknowledged_is_reported}
-use Rattle.sctp_model.proofs.Acknowledged.{sacks_say}
+use Rattle.sctp_model.proofs.acknowledgement.Acknowledged.{acknowledged_arrived}
+use Rattle.sctp_model.proofs.acknowledgement.Acknowledged.{acknowledged_is_reported}
+use Rattle.sctp_model.proofs.acknowledgement.Acknowledged.{sacks_say}
 use Rattle.sctp_model.proofs.laws.only_arrived_is_acknowledged.Goals as goal
 
 pub returns-clause-arrived : goal.returns-clause-arrived

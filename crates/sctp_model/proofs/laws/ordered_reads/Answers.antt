@@ -1,8 +1,8 @@
-use Rattle.sctp_model.proofs.Written.{messages_are_writes}
-use Rattle.sctp_model.proofs.Modes.{modes_are_kept}
-use Rattle.sctp_model.proofs.Shown.{reads_show_messages}
-use Rattle.sctp_model.proofs.ReadLaws.{reads_begin_run}
-use Rattle.sctp_model.proofs.ReadLaws.{reads_begin_whole_run}
+use Rattle.sctp_model.proofs.sender.Written.{messages_are_writes}
+use Rattle.sctp_model.proofs.sender.Modes.{modes_are_kept}
+use Rattle.sctp_model.proofs.receiver.Shown.{reads_show_messages}
+use Rattle.sctp_model.proofs.receiver.ReadLaws.{reads_begin_run}
+use Rattle.sctp_model.proofs.receiver.ReadLaws.{reads_begin_whole_run}
 use Rattle.sctp_model.proofs.laws.ordered_reads.Goals as goal
 
 pub returns-clause-writes : goal.returns-clause-writes

@@ -1,4 +1,4 @@
-use Rattle.sctp_model.proofs.SoundRun.{record_is_sound, slots_come_sound, skips_come_sound}
+use Rattle.sctp_model.proofs.receiver.SoundRun.{record_is_sound, slots_come_sound, skips_come_sound}
 use Rattle.sctp_model.proofs.laws.records_are_sound.Goals as goal
 
 pub returns-clause-sound : goal.returns-clause-sound

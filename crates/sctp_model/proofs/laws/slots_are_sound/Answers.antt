@@ -1,10 +1,10 @@
-use Rattle.sctp_model.proofs.Slots.{slots_in_order}
-use Rattle.sctp_model.proofs.Slots.{slots_follow}
-use Rattle.sctp_model.proofs.Slots.{one_half_sent}
-use Rattle.sctp_model.proofs.Slots.{sent_in_turn}
-use Rattle.sctp_model.proofs.Slots.{indexes_leave_no_gap}
-use Rattle.sctp_model.proofs.Network.{no_end_mark_is_sent}
-use Rattle.sctp_model.proofs.Network.{datagrams_stay}
+use Rattle.sctp_model.proofs.sender.Slots.{slots_in_order}
+use Rattle.sctp_model.proofs.sender.Slots.{slots_follow}
+use Rattle.sctp_model.proofs.sender.Slots.{one_half_sent}
+use Rattle.sctp_model.proofs.sender.Slots.{sent_in_turn}
+use Rattle.sctp_model.proofs.sender.Slots.{indexes_leave_no_gap}
+use Rattle.sctp_model.proofs.sender.Network.{no_end_mark_is_sent}
+use Rattle.sctp_model.proofs.sender.Network.{datagrams_stay}
 use Rattle.sctp_model.proofs.laws.slots_are_sound.Goals as goal
 
 pub returns-clause-in_order : goal.returns-clause-in_order

@@ -1,6 +1,6 @@
-use Rattle.sctp_model.proofs.ReadLaws.{reads_begin_whole}
-use Rattle.sctp_model.proofs.Counted.{reads_differ}
-use Rattle.sctp_model.proofs.ReadLaws.{unordered_first}
+use Rattle.sctp_model.proofs.receiver.ReadLaws.{reads_begin_whole}
+use Rattle.sctp_model.proofs.receiver.Counted.{reads_differ}
+use Rattle.sctp_model.proofs.receiver.ReadLaws.{unordered_first}
 use Rattle.sctp_model.proofs.laws.unordered_reads.Goals as goal
 
 pub returns-clause-whole : goal.returns-clause-whole

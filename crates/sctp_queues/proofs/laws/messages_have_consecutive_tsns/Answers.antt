@@ -1,4 +1,4 @@
-use Rattle.sctp_queues.proofs.Numbering as numbering
+use Rattle.sctp_queues.proofs.lemmas.outbound_queue.Numbering as numbering
 use Rattle.sctp_queues.proofs.laws.messages_have_consecutive_tsns.Goals as goal
 
 pub returns : goal.returns

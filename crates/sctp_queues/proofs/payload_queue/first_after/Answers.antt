@@ -1,6 +1,6 @@
 use Rattle.std.proofs.Common.{sym, ◌∙◌, inl, inr, arith}
 use Rattle.std.proofs.lemmas.Bool.{cases_lt}
-use Rattle.sctp_queues.proofs.Gaps.{few, first_found, front_is, first_at_front, first_absent}
+use Rattle.sctp_queues.proofs.lemmas.payload_queue.Gaps.{few, first_found, front_is, first_at_front, first_absent}
 use Rattle.sctp_queues.proofs.payload_queue.first_after.Goals as goal
 
 pub returns-then-not-sna32lte-clause-first : goal.returns-then-not-sna32lte-clause-first

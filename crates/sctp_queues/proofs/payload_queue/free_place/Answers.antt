@@ -1,7 +1,7 @@
 use Rattle.std.proofs.Common.{◌≡◌, not, is_some, sym, ap, ◌∙◌, ◌-◌, get_or, length, subst, arith}
 use Rattle.sctp_queues.specs.Window.{IsPlaceFor}
-use Rattle.sctp_queues.proofs.Search.{Narrowed, none_has, place_found, narrowed_none, behind_last}
-use Rattle.sctp_queues.proofs.Serials.{find_held, not_found}
+use Rattle.sctp_queues.proofs.lemmas.payload_queue.Search.{Narrowed, none_has, place_found, narrowed_none, behind_last}
+use Rattle.sctp_queues.proofs.lemmas.Serials.{find_held, not_found}
 use Rattle.sctp_queues.proofs.payload_queue.free_place.Goals as goal
 
 pub returns-in-Ok-clause-free : goal.returns-in-Ok-clause-free

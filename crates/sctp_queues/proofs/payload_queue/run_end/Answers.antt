@@ -2,8 +2,8 @@ use Rattle.std.proofs.Common.{◌≡◌, ℕ, ◌+◌, ◌-◌, ◌*◌, ◌^◌
 use Rattle.std.proofs.Math.Nat.{mul-le-mul, pow-le-pow_right}
 use Rattle.std.proofs.lemmas.Bool.{cases_lt}
 use Rattle.std.proofs.lemmas.Nat.{pow-add}
-use Rattle.sctp_queues.proofs.Gaps.{number_ahead, rises_ahead, breaks_ahead, rising_on, run_cut}
-use Rattle.sctp_queues.proofs.Halves.{one_more}
+use Rattle.sctp_queues.proofs.lemmas.payload_queue.Gaps.{number_ahead, rises_ahead, breaks_ahead, rising_on, run_cut}
+use Rattle.sctp_queues.proofs.lemmas.Halves.{one_more}
 use Rattle.sctp_queues.proofs.payload_queue.run_end.Goals as goal
 
 -- a power of two below twice another is at most that one

@@ -1,6 +1,6 @@
 use Rattle.std.proofs.Common.{◌≡◌, ℕ, ◌-◌, ◌*◌, ◌^◌, ◌<◌, ◌≤◌, max, get_or}
 use Rattle.sctp_chunks.specs.declared.chunk.chunk_payload_data.ChunkPayloadData.{ChunkPayloadData}
-use Rattle.sctp_queues.specs.Runs.{IsRising}
+use Rattle.sctp_queues.specs.reassembly_queue.Runs.{IsRising}
 use Rattle.sctp_queues.proofs.payload_queue.run_end.Given as goal
 
 abbrev pub invariant-loop-step : goal.invariant-loop-step

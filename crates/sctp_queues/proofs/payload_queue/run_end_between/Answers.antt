@@ -1,6 +1,6 @@
 use Rattle.std.proofs.Common.{◌+◌, ◌-◌, ◌<◌, ◌/◌, length, sym, ◌∙◌, arith}
-use Rattle.sctp_queues.proofs.Gaps.{number_ahead, rises_ahead, breaks_ahead, rising_on}
-use Rattle.sctp_queues.proofs.Halves.{halved, digits_left, one_more}
+use Rattle.sctp_queues.proofs.lemmas.payload_queue.Gaps.{number_ahead, rises_ahead, breaks_ahead, rising_on}
+use Rattle.sctp_queues.proofs.lemmas.Halves.{halved, digits_left, one_more}
 use Rattle.sctp_queues.proofs.payload_queue.run_end_between.Goals as goal
 
 pub loop-last-preserved-then-distance-middle : goal.loop-last-preserved-then-distance-middle

@@ -1,7 +1,7 @@
 use Rattle.std.proofs.Common.{◌≡◌, ◌-◌, ◌+◌, ◌*◌, ◌^◌, ◌<◌, ◌≤◌, get_or}
 use Rattle.std.specs.Prelude.{IfSome}
 use Rattle.sctp_chunks.specs.declared.chunk.chunk_payload_data.ChunkPayloadData.{ChunkPayloadData}
-use Rattle.sctp_queues.specs.Runs.{IsRising}
+use Rattle.sctp_queues.specs.reassembly_queue.Runs.{IsRising}
 use Rattle.sctp_queues.proofs.payload_queue.run_end_between.Given as goal
 
 abbrev pub invariant-loop-last : goal.invariant-loop-last

@@ -1,6 +1,6 @@
 use Rattle.std.proofs.Common.{◌-◌, sym, ◌∙◌, arith}
-use Rattle.sctp_queues.proofs.Search.{narrowed_right, narrowed_left}
-use Rattle.sctp_queues.proofs.Halves.{halved, digits_left, one_more}
+use Rattle.sctp_queues.proofs.lemmas.payload_queue.Search.{narrowed_right, narrowed_left}
+use Rattle.sctp_queues.proofs.lemmas.Halves.{halved, digits_left, one_more}
 use Rattle.sctp_queues.proofs.payload_queue.search.Goals as goal
 
 pub returns-then-chunk-tsn-clause-cost : goal.returns-then-chunk-tsn-clause-cost

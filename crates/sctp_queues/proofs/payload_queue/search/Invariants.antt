@@ -1,5 +1,5 @@
 use Rattle.std.proofs.Common.{◌-◌, ◌+◌, ◌*◌, ◌^◌, ◌≤◌, length}
-use Rattle.sctp_queues.proofs.Search.{Narrowed}
+use Rattle.sctp_queues.proofs.lemmas.payload_queue.Search.{Narrowed}
 use Rattle.sctp_queues.proofs.payload_queue.search.Given as goal
 
 abbrev pub invariant-loop-low : goal.invariant-loop-low

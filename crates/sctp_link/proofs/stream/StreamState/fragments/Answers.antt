@@ -5,8 +5,8 @@ use Rattle.std.proofs.Math.Seq.{take-add}
 use Rattle.sctp_lists.specs.Kept.{numbers_from, always}
 use Rattle.sctp_lists.proofs.KeptLemmas.{kept-snoc_in}
 use Rattle.sctp_chunks.specs.declared.chunk.chunk_payload_data.ChunkPayloadData.{ChunkPayloadData}
-use Rattle.sctp_queues.specs.Sets.{payload_of}
-use Rattle.sctp_queues.proofs.PieceLemmas.{payload-append}
+use Rattle.sctp_queues.specs.reassembly_queue.Fragments.{payload_of}
+use Rattle.sctp_queues.proofs.lemmas.reassembly_queue.PieceLemmas.{payload-append}
 use Rattle.sctp_link.specs.Stream.{fragment, fragment_at, cut}
 use Rattle.sctp_link.proofs.PieceLemmas.{piece_below, piece_none, begins, ends, slice_is}
 use Rattle.sctp_link.proofs.stream.StreamState.fragments.Goals as goal

@@ -1,6 +1,6 @@
 use Rattle.std.proofs.Common.{◌≡◌, ◌*◌, ◌-◌, ◌≤◌, min, map, length, take}
 use Rattle.sctp_lists.specs.Kept.{numbers_from}
-use Rattle.sctp_queues.specs.Sets.{payload_of}
+use Rattle.sctp_queues.specs.reassembly_queue.Fragments.{payload_of}
 use Rattle.sctp_link.specs.Stream.{fragment_at, cut}
 use Rattle.sctp_link.proofs.stream.StreamState.fragments.Given as goal
 

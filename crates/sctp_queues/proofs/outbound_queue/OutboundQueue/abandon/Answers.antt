@@ -1,6 +1,6 @@
 use Rattle.std.proofs.Common.{sym}
-use Rattle.sctp_queues.specs.Outbound.{Outbound}
-use Rattle.sctp_queues.proofs.Sendable.{found_in, kept_or_gone}
+use Rattle.sctp_queues.specs.outbound_queue.OutboundQueue.{Outbound}
+use Rattle.sctp_queues.proofs.lemmas.outbound_queue.Sendable.{found_in, kept_or_gone}
 use Rattle.sctp_queues.proofs.outbound_queue.OutboundQueue.abandon.Goals as goal
 
 pub returns-clause-half : goal.returns-clause-half

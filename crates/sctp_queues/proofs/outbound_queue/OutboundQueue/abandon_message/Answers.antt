@@ -1,9 +1,9 @@
 use Rattle.std.proofs.Common.{refl, sym, ap, ◌∙◌, arith}
 use Rattle.sctp_queues.specs.Marks.{is_of, given_up}
-use Rattle.sctp_queues.specs.Outbound.{Outbound, abandoned}
-use Rattle.sctp_queues.proofs.Abandoned.{abandoned_none, abandoned_room}
-use Rattle.sctp_queues.proofs.Sendable.{sendable-marked}
-use Rattle.sctp_queues.proofs.Whole.{KeepsMessage}
+use Rattle.sctp_queues.specs.outbound_queue.OutboundQueue.{Outbound, abandoned}
+use Rattle.sctp_queues.proofs.lemmas.outbound_queue.Abandoned.{abandoned_none, abandoned_room}
+use Rattle.sctp_queues.proofs.lemmas.outbound_queue.Sendable.{sendable-marked}
+use Rattle.sctp_queues.proofs.lemmas.pending_queue.Whole.{KeepsMessage}
 use Rattle.sctp_queues.proofs.outbound_queue.OutboundQueue.abandon_message.Goals as goal
 
 pub invariant_of-self : goal.invariant_of-self

@@ -2,11 +2,11 @@ use Rattle.std.proofs.Common.{◌≡◌, true, false, length, refl, sym, ◌∙�
 use Rattle.sctp_chunks.specs.declared.chunk.chunk_payload_data.ChunkPayloadData.{ChunkPayloadData}
 use Rattle.sctp_lists.proofs.Edits.{sum_by-inserted}
 use Rattle.sctp_queues.specs.Marks.{is_of, given_up}
-use Rattle.sctp_queues.specs.Outbound.{end_mark}
+use Rattle.sctp_queues.specs.outbound_queue.OutboundQueue.{end_mark}
 use Rattle.sctp_queues.specs.DataChunks.{chunk_before}
-use Rattle.sctp_queues.specs.Whole.{waits}
+use Rattle.sctp_queues.specs.pending_queue.Whole.{waits}
 use Rattle.sctp_queues.specs.Window.{SpansOneWindow, is_held}
-use Rattle.sctp_queues.proofs.Abandoned.{is_held-change_where, window-change_where, no_last, last_is_of, sendable-abandoned}
+use Rattle.sctp_queues.proofs.lemmas.outbound_queue.Abandoned.{is_held-change_where, window-change_where, no_last, last_is_of, sendable-abandoned}
 use Rattle.sctp_queues.proofs.outbound_queue.OutboundQueue.abandon_with_tail.Goals as goal
 
 pub unreachable-requires : goal.unreachable-requires

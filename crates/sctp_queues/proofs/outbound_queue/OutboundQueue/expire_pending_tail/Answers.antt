@@ -1,7 +1,7 @@
 use Rattle.std.proofs.Common.{◌≡◌, Bool, true, false, not, ◌&&◌, refl, sym, ◌∙◌}
 use Rattle.std.proofs.lemmas.Bool.{false≢true}
-use Rattle.sctp_queues.specs.Outbound.{Outbound}
-use Rattle.sctp_queues.proofs.Sendable.{half_in_front, kept_or_gone}
+use Rattle.sctp_queues.specs.outbound_queue.OutboundQueue.{Outbound}
+use Rattle.sctp_queues.proofs.lemmas.outbound_queue.Sendable.{half_in_front, kept_or_gone}
 use Rattle.sctp_queues.proofs.outbound_queue.OutboundQueue.expire_pending_tail.Goals as goal
 
 not_first : (a b : Bool) → (not a && b) ≡ true → a ≡ false

@@ -1,6 +1,6 @@
 use Rattle.std.proofs.Common.{◌<◌, ◌++◌, ◌∷◌, [], true, false, length, append-nil, sym, ap, ◌∙◌, arith}
-use Rattle.sctp_queues.specs.Outbound.{is_late}
-use Rattle.sctp_queues.proofs.Outbounds.{tsns_more}
+use Rattle.sctp_queues.specs.outbound_queue.OutboundQueue.{is_late}
+use Rattle.sctp_queues.proofs.lemmas.outbound_queue.Outbounds.{tsns_more}
 use Rattle.sctp_queues.proofs.outbound_queue.OutboundQueue.expired_inflight.Goals as goal
 
 pub loop-place-preserved : goal.loop-place-preserved

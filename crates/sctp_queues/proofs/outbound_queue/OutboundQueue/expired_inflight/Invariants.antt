@@ -1,6 +1,6 @@
 use Rattle.std.proofs.Common.{◌≡◌, map, take}
 use Rattle.sctp_lists.specs.Lists.{those}
-use Rattle.sctp_queues.specs.Outbound.{is_late}
+use Rattle.sctp_queues.specs.outbound_queue.OutboundQueue.{is_late}
 use Rattle.sctp_queues.proofs.outbound_queue.OutboundQueue.expired_inflight.Given as goal
 
 abbrev pub invariant-loop-place : goal.invariant-loop-place

@@ -1,7 +1,7 @@
 use Rattle.std.proofs.Common.{◌≡◌, Some, sym, subst}
-use Rattle.sctp_queues.specs.Pending.{peeked}
-use Rattle.sctp_queues.specs.Whole.{GoesOn, half_sent}
-use Rattle.sctp_queues.proofs.Sendable.{goes_on}
+use Rattle.sctp_queues.specs.pending_queue.PendingQueue.{peeked}
+use Rattle.sctp_queues.specs.pending_queue.Whole.{GoesOn, half_sent}
+use Rattle.sctp_queues.proofs.lemmas.outbound_queue.Sendable.{goes_on}
 use Rattle.sctp_queues.proofs.outbound_queue.OutboundQueue.peek_pending.Goals as goal
 
 pub returns-clause-goes_on : goal.returns-clause-goes_on

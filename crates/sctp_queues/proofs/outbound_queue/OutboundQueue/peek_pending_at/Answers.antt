@@ -1,7 +1,7 @@
 use Rattle.std.proofs.Common.{ap, ◌∙◌}
-use Rattle.sctp_queues.specs.Outbound.{after_sends}
-use Rattle.sctp_queues.specs.Pending.{peeked}
-use Rattle.sctp_queues.proofs.Sendable.{order_is, has_end_of}
+use Rattle.sctp_queues.specs.outbound_queue.OutboundQueue.{after_sends}
+use Rattle.sctp_queues.specs.pending_queue.PendingQueue.{peeked}
+use Rattle.sctp_queues.proofs.lemmas.outbound_queue.Sendable.{order_is, has_end_of}
 use Rattle.sctp_queues.proofs.outbound_queue.OutboundQueue.peek_pending_at.Goals as goal
 
 pub peek_at-requires : goal.peek_at-requires

@@ -1,5 +1,5 @@
 use Rattle.std.proofs.Common.{arith}
-use Rattle.sctp_queues.proofs.Sendable.{sendable-fewer, list_any-without_front, without_front_le}
+use Rattle.sctp_queues.proofs.lemmas.outbound_queue.Sendable.{sendable-fewer, list_any-without_front, without_front_le}
 use Rattle.sctp_queues.proofs.outbound_queue.OutboundQueue.pop.Goals as goal
 
 pub invariant_of-self : goal.invariant_of-self

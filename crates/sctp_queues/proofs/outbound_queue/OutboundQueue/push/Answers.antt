@@ -1,7 +1,7 @@
 use Rattle.std.proofs.Common.{◌+◌, ◌<◌, ◌^◌, sym, ap, subst, ◌∙◌, arith, slice_get}
-use Rattle.sctp_queues.specs.Outbound.{total_bytes}
+use Rattle.sctp_queues.specs.outbound_queue.OutboundQueue.{total_bytes}
 use Rattle.sctp_queues.specs.DataChunks.{bytes_of}
-use Rattle.sctp_queues.proofs.Sendable.{message_of_first, sendable-pushed}
+use Rattle.sctp_queues.proofs.lemmas.outbound_queue.Sendable.{message_of_first, sendable-pushed}
 use Rattle.sctp_queues.proofs.outbound_queue.OutboundQueue.push.Goals as goal
 
 pub invariant_of-self-2 : goal.invariant_of-self-2

@@ -1,5 +1,5 @@
 use Rattle.std.proofs.Common.{arith}
-use Rattle.sctp_queues.proofs.Sendable.{sendable-without}
+use Rattle.sctp_queues.proofs.lemmas.outbound_queue.Sendable.{sendable-without}
 use Rattle.sctp_queues.proofs.outbound_queue.OutboundQueue.remove_pending.Goals as goal
 
 pub invariant_of-self : goal.invariant_of-self

@@ -1,9 +1,9 @@
 use Rattle.std.proofs.Common.{◌≡◌, Some, is_some, sym, ap, subst, ◌∙◌}
-use Rattle.sctp_queues.specs.Outbound.{Outbound, all_started, sent_next, sent_peeked}
-use Rattle.sctp_queues.specs.Pending.{peeked}
-use Rattle.sctp_queues.specs.Whole.{GoesOn, half_sent}
-use Rattle.sctp_queues.proofs.Sendable.{goes_on}
-use Rattle.sctp_queues.proofs.Outbounds.{peeked_all_started, sent_none, sent_some}
+use Rattle.sctp_queues.specs.outbound_queue.OutboundQueue.{Outbound, all_started, sent_next, sent_peeked}
+use Rattle.sctp_queues.specs.pending_queue.PendingQueue.{peeked}
+use Rattle.sctp_queues.specs.pending_queue.Whole.{GoesOn, half_sent}
+use Rattle.sctp_queues.proofs.lemmas.outbound_queue.Sendable.{goes_on}
+use Rattle.sctp_queues.proofs.lemmas.outbound_queue.Outbounds.{peeked_all_started, sent_none, sent_some}
 use Rattle.sctp_queues.proofs.outbound_queue.OutboundQueue.send_next.Goals as goal
 
 pub returns-in_default-clause-ok : goal.returns-in_default-clause-ok

@@ -2,9 +2,9 @@ use Rattle.std.proofs.Common.{◌≡◌, Some, length, refl, sym, ap, ◌∙◌,
 use Rattle.std.proofs.lemmas.Option.{none-some}
 use Rattle.sctp_chunks.specs.declared.chunk.chunk_payload_data.ChunkPayloadData.{ChunkPayloadData}
 use Rattle.sctp_lists.proofs.Edits.{sum_by-inserted}
-use Rattle.sctp_queues.specs.Outbound.{numbered}
+use Rattle.sctp_queues.specs.outbound_queue.OutboundQueue.{numbered}
 use Rattle.sctp_queues.specs.DataChunks.{chunk_before}
-use Rattle.sctp_queues.proofs.Sendable.{popped_bytes, sendable-sent}
+use Rattle.sctp_queues.proofs.lemmas.outbound_queue.Sendable.{popped_bytes, sendable-sent}
 use Rattle.sctp_queues.proofs.outbound_queue.OutboundQueue.send_peeked.Goals as goal
 
 same_chunk : (x y : ChunkPayloadData) → Some x ≡ Some y → x ≡ y

@@ -1,9 +1,9 @@
 use Rattle.std.proofs.Common.{refl, arith}
 use Rattle.sctp_queues.specs.Marks.{with_retransmit}
 use Rattle.sctp_queues.specs.DataChunks.{has_tsn}
-use Rattle.sctp_queues.proofs.Sendable.{sendable-marked}
-use Rattle.sctp_queues.proofs.Waiting.{bytes_of-change_where}
-use Rattle.sctp_queues.proofs.Whole.{KeepsMessage}
+use Rattle.sctp_queues.proofs.lemmas.outbound_queue.Sendable.{sendable-marked}
+use Rattle.sctp_queues.proofs.lemmas.pending_queue.Waiting.{bytes_of-change_where}
+use Rattle.sctp_queues.proofs.lemmas.pending_queue.Whole.{KeepsMessage}
 use Rattle.sctp_queues.proofs.outbound_queue.OutboundQueue.set_retransmit.Goals as goal
 
 pub invariant_of-self : goal.invariant_of-self

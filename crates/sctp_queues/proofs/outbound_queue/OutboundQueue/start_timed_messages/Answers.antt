@@ -1,9 +1,9 @@
 use Rattle.std.proofs.Common.{true, false, refl, arith}
-use Rattle.sctp_queues.specs.Pending.{is_to_start, with_deadline}
-use Rattle.sctp_queues.specs.Whole.{stage_of}
-use Rattle.sctp_queues.proofs.Sendable.{sendable-changed}
-use Rattle.sctp_queues.proofs.Waiting.{bytes_of-change_where}
-use Rattle.sctp_queues.proofs.Whole.{KeepsMessage, numbers_ascend}
+use Rattle.sctp_queues.specs.pending_queue.PendingQueue.{is_to_start, with_deadline}
+use Rattle.sctp_queues.specs.pending_queue.Whole.{stage_of}
+use Rattle.sctp_queues.proofs.lemmas.outbound_queue.Sendable.{sendable-changed}
+use Rattle.sctp_queues.proofs.lemmas.pending_queue.Waiting.{bytes_of-change_where}
+use Rattle.sctp_queues.proofs.lemmas.pending_queue.Whole.{KeepsMessage, numbers_ascend}
 use Rattle.sctp_queues.proofs.outbound_queue.OutboundQueue.start_timed_messages.Goals as goal
 
 pub start_latest_messages-requires-clause-ordered : goal.start_latest_messages-requires-clause-ordered

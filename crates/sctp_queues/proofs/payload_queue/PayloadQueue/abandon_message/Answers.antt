@@ -2,7 +2,7 @@ use Rattle.std.proofs.Common.{◌≡◌, ◌<◌, length, length-set, get_or, se
 use Rattle.std.proofs.lemmas.Bool.Decides.{nat_tests}
 use Rattle.std.proofs.lemmas.List.Sums.{sum_by-set}
 use Rattle.sctp_queues.specs.Marks.{is_of, given_up}
-use Rattle.sctp_queues.proofs.Serials.{serial_set_of}
+use Rattle.sctp_queues.proofs.lemmas.Serials.{serial_set_of}
 use Rattle.sctp_lists.proofs.Edits.{changed_step, unchanged_step}
 use Rattle.sctp_queues.proofs.payload_queue.PayloadQueue.abandon_message.Goals as goal
 

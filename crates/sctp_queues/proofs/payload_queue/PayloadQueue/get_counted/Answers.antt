@@ -1,5 +1,5 @@
 use Rattle.std.proofs.Common.{sym, ap, is_some}
-use Rattle.sctp_queues.proofs.Serials.{find_held, not_found}
+use Rattle.sctp_queues.proofs.lemmas.Serials.{find_held, not_found}
 use Rattle.sctp_queues.proofs.payload_queue.PayloadQueue.get_counted.Goals as goal
 
 pub returns-in-Ok-clause-value : goal.returns-in-Ok-clause-value

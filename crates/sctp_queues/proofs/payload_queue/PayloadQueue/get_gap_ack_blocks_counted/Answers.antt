@@ -12,8 +12,8 @@ use Rattle.sctp_chunks.specs.declared.chunk.chunk_selective_ack.GapAckBlock.{Gap
 use Rattle.sctp_lists.specs.Kept.{runs_of}
 use Rattle.sctp_lists.specs.Serial.{distance}
 use Rattle.sctp_lists.proofs.Edits.{list_any-append}
-use Rattle.sctp_queues.specs.Blocks.{BlocksAscend, Reports, is_in_block, is_reported, covered, gap_offsets, ends_of, is_offset}
-use Rattle.sctp_queues.proofs.Gaps.{InReach, or_false, runs_more, covered_more, run_distances, run_apart, front_offsets, front_reported, rest_offsets, rest_reported, out_from}
+use Rattle.sctp_queues.specs.payload_queue.Blocks.{BlocksAscend, Reports, is_in_block, is_reported, covered, gap_offsets, ends_of, is_offset}
+use Rattle.sctp_queues.proofs.lemmas.payload_queue.Gaps.{InReach, or_false, runs_more, covered_more, run_distances, run_apart, front_offsets, front_reported, rest_offsets, rest_reported, out_from}
 use Rattle.sctp_queues.proofs.payload_queue.PayloadQueue.get_gap_ack_blocks_counted.Goals as goal
 
 -- fewer turns are within as many digits

@@ -5,7 +5,7 @@ use Rattle.sctp_chunks.specs.declared.chunk.chunk_payload_data.ChunkPayloadData.
 use Rattle.sctp_lists.specs.Kept.{runs_of}
 use Rattle.sctp_lists.specs.Serial.{distance}
 use Rattle.sctp_queues.specs.Turns.{IsWithinDigits}
-use Rattle.sctp_queues.specs.Blocks.{AscendsFrom, BlocksAscend, covered, is_reported, gap_offsets, ends_of}
+use Rattle.sctp_queues.specs.payload_queue.Blocks.{AscendsFrom, BlocksAscend, covered, is_reported, gap_offsets, ends_of}
 use Rattle.sctp_queues.proofs.payload_queue.PayloadQueue.get_gap_ack_blocks_counted.Given as goal
 
 abbrev pub invariant-loop-place : goal.invariant-loop-place

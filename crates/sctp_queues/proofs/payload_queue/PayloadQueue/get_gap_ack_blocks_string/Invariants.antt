@@ -1,5 +1,5 @@
 use Rattle.std.proofs.Common.{◌≡◌, ◌++◌, drop, map, string_bytes}
-use Rattle.sctp_queues.specs.Blocks.{ends_of, gap_text, runs_text}
+use Rattle.sctp_queues.specs.payload_queue.Blocks.{ends_of, gap_text, runs_text}
 use Rattle.sctp_queues.proofs.payload_queue.PayloadQueue.get_gap_ack_blocks_string.Given as goal
 
 abbrev pub invariant-loop-block : goal.invariant-loop-block

@@ -1,8 +1,8 @@
 use Rattle.std.proofs.Common.{◌-◌, length, sym, ap, subst, arith}
 use Rattle.std.proofs.lemmas.List.Sums.{sum_by-insert}
 use Rattle.sctp_queues.specs.Window.{SpansOneWindow, IsPlaceFor}
-use Rattle.sctp_queues.specs.Payload.{Payload}
-use Rattle.sctp_queues.proofs.Serials.{serial_insert, inserted-place}
+use Rattle.sctp_queues.specs.payload_queue.PayloadQueue.{Payload}
+use Rattle.sctp_queues.proofs.lemmas.Serials.{serial_insert, inserted-place}
 use Rattle.sctp_queues.proofs.payload_queue.PayloadQueue.insert.Goals as goal
 
 pub invariant_of-self-2 : goal.invariant_of-self-2

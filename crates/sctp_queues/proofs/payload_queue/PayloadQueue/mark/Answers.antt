@@ -2,10 +2,10 @@ use Rattle.std.proofs.Common.{length, is_some, sym, ap, slice_index_or, arith}
 use Rattle.std.proofs.lemmas.List.Sums.{sum_by-set}
 use Rattle.sctp_queues.specs.DataChunks.{has_tsn}
 use Rattle.sctp_queues.specs.Marks.{marked}
-use Rattle.sctp_queues.proofs.Serials.{serial_set_of, only_here, same_but_chunks}
+use Rattle.sctp_queues.proofs.lemmas.Serials.{serial_set_of, only_here, same_but_chunks}
 use Rattle.sctp_lists.proofs.Edits.{change_where-only, change_where-none}
-use Rattle.sctp_queues.proofs.Serials.{fails_from_absent, find_held, not_found}
-use Rattle.sctp_queues.proofs.Marked.{marked-tsn}
+use Rattle.sctp_queues.proofs.lemmas.Serials.{fails_from_absent, find_held, not_found}
+use Rattle.sctp_queues.proofs.lemmas.payload_queue.Marked.{marked-tsn}
 use Rattle.sctp_queues.proofs.payload_queue.PayloadQueue.mark.Goals as goal
 
 pub invariant_of-self : goal.invariant_of-self

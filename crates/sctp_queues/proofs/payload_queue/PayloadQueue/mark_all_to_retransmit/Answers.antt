@@ -1,7 +1,7 @@
 use Rattle.std.proofs.Common.{◌<◌, true, length, length-set, get_or, set, refl, sym, ap, ◌∙◌, arith}
 use Rattle.std.proofs.lemmas.List.Sums.{sum_by-set}
 use Rattle.sctp_queues.specs.Marks.{is_outstanding, with_retransmit}
-use Rattle.sctp_queues.proofs.Serials.{serial_set_of}
+use Rattle.sctp_queues.proofs.lemmas.Serials.{serial_set_of}
 use Rattle.sctp_lists.proofs.Edits.{changed_step, unchanged_step}
 use Rattle.sctp_queues.proofs.payload_queue.PayloadQueue.mark_all_to_retransmit.Goals as goal
 

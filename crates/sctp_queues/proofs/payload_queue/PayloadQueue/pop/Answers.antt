@@ -2,7 +2,7 @@ use Rattle.std.proofs.Common.{length, ap, subst, arith}
 use Rattle.std.proofs.lemmas.List.Sums.{sum_by-cons}
 use Rattle.sctp_queues.specs.Window.{IsSerial}
 use Rattle.sctp_queues.specs.DataChunks.{bytes_of}
-use Rattle.sctp_queues.proofs.Serials.{serial_tail}
+use Rattle.sctp_queues.proofs.lemmas.Serials.{serial_tail}
 use Rattle.sctp_queues.proofs.payload_queue.PayloadQueue.pop.Goals as goal
 
 pub invariant_of-self-2 : goal.invariant_of-self-2

@@ -1,7 +1,7 @@
 use Rattle.std.proofs.Common.{◌<◌, ◌∙◌, not, length, sym, ap, arith}
 use Rattle.std.proofs.lemmas.List.Edits.{length-remove}
 use Rattle.std.proofs.lemmas.List.Sums.{sum_by-remove}
-use Rattle.sctp_queues.proofs.Serials.{serial_remove}
+use Rattle.sctp_queues.proofs.lemmas.Serials.{serial_remove}
 use Rattle.sctp_lists.proofs.Edits.{removed_step}
 use Rattle.sctp_queues.proofs.payload_queue.PayloadQueue.pop_up_to_counted.Goals as goal
 

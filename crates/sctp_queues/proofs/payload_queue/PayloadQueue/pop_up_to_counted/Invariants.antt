@@ -1,7 +1,7 @@
 use Rattle.std.proofs.Common.{◌≡◌, ◌+◌, ◌-◌, ◌≤◌, ◌++◌, length, take, drop}
 use Rattle.sctp_queues.specs.Window.{IsSerial}
 use Rattle.sctp_queues.specs.DataChunks.{bytes_of}
-use Rattle.sctp_queues.specs.Payload.{past}
+use Rattle.sctp_queues.specs.payload_queue.PayloadQueue.{past}
 use Rattle.sctp_queues.proofs.payload_queue.PayloadQueue.pop_up_to_counted.Given as goal
 
 abbrev pub invariant-loop-place : goal.invariant-loop-place

@@ -1,9 +1,9 @@
 use Rattle.std.proofs.Common.{length, Some, sym, ap, ◌∙◌, arith}
 use Rattle.std.proofs.lemmas.List.Sums.{sum_by-remove}
 use Rattle.sctp_queues.specs.DataChunks.{has_tsn}
-use Rattle.sctp_queues.proofs.Serials.{serial_remove, only_here, same_but_chunks}
+use Rattle.sctp_queues.proofs.lemmas.Serials.{serial_remove, only_here, same_but_chunks}
 use Rattle.sctp_lists.proofs.Edits.{those-only, those-none}
-use Rattle.sctp_queues.proofs.Serials.{fails_from_absent, find_held, not_found, read_is}
+use Rattle.sctp_queues.proofs.lemmas.Serials.{fails_from_absent, find_held, not_found, read_is}
 use Rattle.sctp_queues.proofs.payload_queue.PayloadQueue.take.Goals as goal
 
 pub invariant_of-self : goal.invariant_of-self

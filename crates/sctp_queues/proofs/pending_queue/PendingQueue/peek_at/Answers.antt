@@ -1,6 +1,6 @@
 use Rattle.std.proofs.Common.{◌≡◌, ◌-◌, ◌<◌, true, sym, ◌∙◌, subst, arith}
-use Rattle.sctp_queues.specs.Whole.{has_end, ordered_first}
-use Rattle.sctp_queues.proofs.Order.{at_first, at_unordered, at_last}
+use Rattle.sctp_queues.specs.pending_queue.Whole.{has_end, ordered_first}
+use Rattle.sctp_queues.proofs.lemmas.pending_queue.Order.{at_first, at_unordered, at_last}
 use Rattle.sctp_queues.proofs.pending_queue.PendingQueue.peek_at.Goals as goal
 
 pub returns-in_default : goal.returns-in_default

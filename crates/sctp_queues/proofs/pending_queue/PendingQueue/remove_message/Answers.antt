@@ -2,7 +2,7 @@ use Rattle.std.proofs.Common.{ap₂, sym, ◌∙◌}
 use Rattle.std.specs.Option.{option_or}
 use Rattle.sctp_lists.specs.Lists.{those}
 use Rattle.sctp_queues.specs.Marks.{is_of}
-use Rattle.sctp_queues.proofs.Waiting.{last_of-append}
+use Rattle.sctp_queues.proofs.lemmas.pending_queue.Waiting.{last_of-append}
 use Rattle.sctp_queues.proofs.pending_queue.PendingQueue.remove_message.Goals as goal
 
 pub returns-clause-last : goal.returns-clause-last

@@ -1,6 +1,6 @@
 use Rattle.std.proofs.Common.{ap, subst}
-use Rattle.sctp_queues.specs.Runs.{HasNoRun}
-use Rattle.sctp_queues.proofs.SetLemmas.{state_of}
+use Rattle.sctp_queues.specs.reassembly_queue.Runs.{HasNoRun}
+use Rattle.sctp_queues.proofs.lemmas.reassembly_queue.SetLemmas.{state_of}
 use Rattle.sctp_queues.proofs.reassembly_queue.ReassemblyQueue.find_complete_unordered_chunk_set.Goals as goal
 
 pub returns-in_default-clause-ok : goal.returns-in_default-clause-ok

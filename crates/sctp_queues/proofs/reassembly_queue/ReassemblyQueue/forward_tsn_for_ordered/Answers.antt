@@ -1,9 +1,9 @@
 use Rattle.std.proofs.Common.{◌-◌, ap₂, ◌∙◌, sym, subst, ap}
 use Rattle.sctp_lists.specs.Lists.{those}
-use Rattle.sctp_queues.specs.Reassembly.{is_passed, set_bytes}
-use Rattle.sctp_queues.proofs.SetLemmas.{state_of}
-use Rattle.sctp_queues.specs.Reassembly.{ReassemblyState, IsCounted, complete_sets}
-use Rattle.sctp_queues.proofs.CountLemmas.{skip_counted, skip_complete}
+use Rattle.sctp_queues.specs.reassembly_queue.ReassemblyQueue.{is_passed, set_bytes}
+use Rattle.sctp_queues.proofs.lemmas.reassembly_queue.SetLemmas.{state_of}
+use Rattle.sctp_queues.specs.reassembly_queue.ReassemblyQueue.{ReassemblyState, IsCounted, complete_sets}
+use Rattle.sctp_queues.proofs.lemmas.reassembly_queue.CountLemmas.{skip_counted, skip_complete}
 use Rattle.sctp_queues.proofs.reassembly_queue.ReassemblyQueue.forward_tsn_for_ordered.Goals as goal
 
 pub returns-clause-value : goal.returns-clause-value

@@ -3,10 +3,10 @@ use Rattle.std.specs.List.{position_or_len}
 use Rattle.sctp_lists.specs.Serial.{at_or_before}
 use Rattle.sctp_lists.specs.Lists.{after_leading}
 use Rattle.sctp_queues.specs.DataChunks.{bytes_of}
-use Rattle.sctp_queues.proofs.ListLemmas.{after_leading-position}
-use Rattle.sctp_queues.proofs.SetLemmas.{state_of, leading_upto-position}
-use Rattle.sctp_queues.specs.Reassembly.{IsCounted}
-use Rattle.sctp_queues.proofs.CountLemmas.{drop_counted}
+use Rattle.sctp_queues.proofs.lemmas.ListLemmas.{after_leading-position}
+use Rattle.sctp_queues.proofs.lemmas.reassembly_queue.SetLemmas.{state_of, leading_upto-position}
+use Rattle.sctp_queues.specs.reassembly_queue.ReassemblyQueue.{IsCounted}
+use Rattle.sctp_queues.proofs.lemmas.reassembly_queue.CountLemmas.{drop_counted}
 use Rattle.sctp_queues.proofs.reassembly_queue.ReassemblyQueue.forward_tsn_for_unordered.Goals as goal
 
 pub returns-clause-value : goal.returns-clause-value

@@ -1,6 +1,6 @@
 use Rattle.std.proofs.Common.{arith}
 use Rattle.std.proofs.lemmas.Bool.Decides.{nat_tests}
-use Rattle.sctp_queues.proofs.SizeBounds.{within_all}
+use Rattle.sctp_queues.proofs.lemmas.reassembly_queue.SizeBounds.{within_all}
 use Rattle.sctp_queues.proofs.reassembly_queue.ReassemblyQueue.is_too_large.Goals as goal
 
 pub returns-then-fits_beside_all : goal.returns-then-fits_beside_all

@@ -1,6 +1,6 @@
 use Rattle.std.proofs.Common.{sym, subst}
-use Rattle.sctp_queues.specs.Reassembly.{IsCounted}
-use Rattle.sctp_queues.proofs.CountLemmas.{ordered_counted, unordered_counted, either, either_of}
+use Rattle.sctp_queues.specs.reassembly_queue.ReassemblyQueue.{IsCounted}
+use Rattle.sctp_queues.proofs.lemmas.reassembly_queue.CountLemmas.{ordered_counted, unordered_counted, either, either_of}
 use Rattle.sctp_queues.proofs.reassembly_queue.ReassemblyQueue.push.Goals as goal
 
 pub returns-then-chunk-clause-counted : goal.returns-then-chunk-clause-counted

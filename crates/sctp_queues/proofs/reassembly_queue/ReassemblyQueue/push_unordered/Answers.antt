@@ -1,8 +1,8 @@
 use Rattle.std.proofs.Common.{◌∷◌, ◌++◌, [], List, ap, ap₂, subst, ◌∙◌}
 use Rattle.sctp_chunks.specs.ChunkSet.{ChunkSet}
-use Rattle.sctp_queues.specs.Runs.{HasNoRun}
-use Rattle.sctp_queues.specs.Reassembly.{Reassembly, set_of_run, count_up}
-use Rattle.sctp_queues.proofs.SetLemmas.{state_of}
+use Rattle.sctp_queues.specs.reassembly_queue.Runs.{HasNoRun}
+use Rattle.sctp_queues.specs.reassembly_queue.ReassemblyQueue.{Reassembly, set_of_run, count_up}
+use Rattle.sctp_queues.proofs.lemmas.reassembly_queue.SetLemmas.{state_of}
 use Rattle.sctp_queues.proofs.reassembly_queue.ReassemblyQueue.push_unordered.Goals as goal
 
 pub returns-in-None-clause-ok : goal.returns-in-None-clause-ok

@@ -1,6 +1,6 @@
 use Rattle.std.proofs.Common.{◌-◌, ap, ◌∙◌}
 use Rattle.sctp_queues.specs.DataChunks.{bytes_of}
-use Rattle.sctp_queues.specs.Reassembly.{ReassemblyState, rest_read, bytes_read}
+use Rattle.sctp_queues.specs.reassembly_queue.ReassemblyQueue.{ReassemblyState, rest_read, bytes_read}
 use Rattle.sctp_queues.proofs.reassembly_queue.ReassemblyQueue.read.Goals as goal
 
 pub returns-clause-rest : goal.returns-clause-rest

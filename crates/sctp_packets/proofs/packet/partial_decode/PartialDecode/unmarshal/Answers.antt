@@ -16,13 +16,15 @@ returns-in_err-header-clause-packets g c = λ p r some.
     let framed : IsFramed c.in_ok-common_header.remaining = rw c.in_ok-common_header.ensures.rest step.1.chunk.is_framed in
     absurd (framed_no_fault _ _ c.in_err-header.ensures.fault framed)
 
-pub returns-then-value-lt-INITIATE_TAG_LENGTH-clause-packets : goal.returns-then-value-lt-INITIATE_TAG_LENGTH-clause-packets
-returns-then-value-lt-INITIATE_TAG_LENGTH-clause-packets g c = λ p r some.
+pub returns-in_err-initiate_tag-clause-packets : goal.returns-in_err-initiate_tag-clause-packets
+returns-in_err-initiate_tag-clause-packets g c = λ p r some.
     let step = first_step (drop 12 c.args.raw.now) p.chunks r.chunks some in
-    let typ : IsInitType (type_at (drop 12 c.args.raw.now)) = search rules in
+    let rest = c.in_ok-common_header.ensures.rest in
+    let fault = c.in_err-initiate_tag.ensures.fault in
+    let typ : IsInitType (type_at (drop 12 c.args.raw.now)) = search (rules, rest, fault, c.in_ok-header.ensures) in
     let long = init_long (drop 12 c.args.raw.now) step.0 step.1 typ in
-    let value = rw c.in_ok-common_header.ensures.rest at c.in_ok-header.ensures.value in
-    absurd (omega (arith, long, ap length value))
+    let value = rw rest at c.in_ok-header.ensures.value in
+    absurd (omega (arith, long, fault.2, ap length value))
 
 pub returns-clause-finished : goal.returns-clause-finished
 returns-clause-finished g c = λ p f.

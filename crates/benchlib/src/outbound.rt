@@ -1,0 +1,73 @@
+//! Runs of an outbound queue.
+
+ghost use Rattle.std.specs.Prelude.{◌≡◌, ◌+◌, ◌<◌, ◌^◌, [], IfOk};
+ghost use Rattle.sctp_queues.specs.DataChunks.{bytes_of};
+ghost use Rattle.sctp_queues.specs.pending_queue.Whole.{IsMessageOrNone};
+ghost use Rattle.benchlib.specs.Near.{AreBelow};
+
+use crate::subject::whole;
+use crate::timing::Measured;
+use sctp_base::error::Result;
+use sctp_chunks::chunk::chunk_payload_data::ChunkPayloadData;
+use sctp_queues::outbound_queue::OutboundQueue;
+use std::alloc::Global;
+use std::time::{Clock, Instant};
+
+// More bytes, and more messages, than any run takes.
+const MOST: usize = 1_000_000;
+
+// A message of one fragment.
+fn message(alloc: Global) -> Result<Vec<ChunkPayloadData>>
+    ensures whole { IfOk result (λ chunks. IsMessageOrNone chunks.items) }
+    ensures bytes { IfOk result (λ chunks. bytes_of chunks.items < 100) }
+{
+    let mut chunks = Vec::with_capacity(alloc, 1)?;
+    chunks.push(whole(0))?;
+    Ok(chunks)
+}
+
+// A queue in which so many messages wait.
+fn waiting(alloc: Global, count: u16) -> Result<OutboundQueue>
+    ensures { IfOk result (λ queue. queue.inflight.chunks ≡ []) }
+{
+    let mut queue = OutboundQueue::new(alloc);
+    for _ in 0..count {
+        if queue.pending_bytes() < MOST && queue.next_message_id() < MOST as u64 {
+            queue.push(message(alloc)?)?;
+        }
+    }
+    Ok(queue)
+}
+
+// Sends the chunk in front under this TSN, and says whether there was one.
+fn send(queue: &mut OutboundQueue, tsn: u32) -> Result<bool>
+    requires in_flight { AreBelow tsn queue.old.inflight.chunks }
+    requires some { 0 < tsn }
+    requires near { tsn < 2 ^ 31 }
+    ensures { AreBelow (tsn + 1) queue.new.inflight.chunks }
+{
+    let mut next_tsn = tsn;
+    Ok(queue.send_next(&mut next_tsn, 0)?.is_some())
+}
+
+// Sends so often, and gives how often there was something.
+fn send_each(queue: &mut OutboundQueue, count: u16) -> Result<usize>
+    requires { queue.old.inflight.chunks ≡ [] }
+{
+    let mut sent = 0usize;
+    for place in 0..count {
+        if send(queue, u32::from(place) + 1)? {
+            sent = sent.wrapping_add(1);
+        }
+    }
+    Ok(sent)
+}
+
+/// Sends messages of one fragment that wait.
+pub fn send_all(clock: &impl Clock, alloc: Global, count: u16) -> anyhow::Result<Measured> {
+    let mut queue = waiting(alloc, count)?;
+    let start = Instant::now(clock)?;
+    let given = send_each(&mut queue, count)?;
+    let elapsed = start.elapsed(clock)?;
+    Ok(Measured { given, elapsed })
+}

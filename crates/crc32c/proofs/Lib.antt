@@ -1,0 +1,4 @@
+pub mod Shifts
+pub mod Rows
+pub mod Chunks
+pub mod Examples

@@ -1,0 +1,7 @@
+//! Tests of streams and of the link.
+#![tactic(auto)]
+
+#[cfg(test)]
+mod stream_tests;
+#[cfg(test)]
+mod tests;

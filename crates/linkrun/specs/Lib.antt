@@ -1,2 +1,0 @@
-pub mod Crc
-pub mod Field

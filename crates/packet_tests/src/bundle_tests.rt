@@ -1,0 +1,309 @@
+use crate::tests::{Answer, ZERO, packet_bytes, read_chunks};
+use bytes::Bytes;
+use sctp_base::error::Error;
+use sctp_base::param::param_kind::ParamKind;
+use sctp_base::util::{CT_COOKIE_ACK, CT_COOKIE_ECHO, CT_INIT, CT_INIT_ACK, ChunkType};
+use sctp_chunks::chunk::chunk_init::ChunkInit;
+use sctp_chunks::chunk::chunk_kind::ChunkKind;
+use sctp_packets::packet::{CommonHeader, Packet, PartialDecode};
+use std::alloc::Global;
+use std::test::Fail;
+
+// Of an INIT: its tag, credit, outbound and inbound streams, first TSN, and how many parameters it has.
+type Fields = (u32, u32, u16, u16, u32, usize);
+
+// Recorded packets: INIT, INIT-ACK, INIT.
+const VECTORS: [(&[u8], ChunkType, Fields); 3] = [
+    (
+        b"\x13\x88\x13\x88\0\0\0\0\x81\x46\x9d\xfc\x01\0\0\x56\x55\xb9\x64\xa5\0\x02\0\0\x04\0\x08\0\xe8\x6d\x10\x30\xc0\0\0\x04\x80\x08\0\x09\xc0\x0f\xc1\x80\x82\0\0\0\x80\x02\0\x24\x9f\xeb\xbb\x5c\x50\xc9\xbf\x75\x9c\xb1\x2c\x57\x4f\xa4\x5a\x51\xba\x60\x17\x78\x27\x94\x5c\x31\xe6\x5d\x5b\x09\x47\xe2\x22\x06\x80\x04\0\x06\0\x01\0\0\x80\x03\0\x06\x80\xc1\0\0",
+        CT_INIT,
+        (1438213285, 131072, 1024, 2048, 3899461680, 5),
+    ),
+    (
+        b"\x13\x88\x13\x88\xce\x15\x79\xa2\x96\x19\xe8\xb2\x02\0\0\x1c\xeb\x81\x4e\x01\0\0\0\0\x04\0\x08\0\x50\xdf\x90\xd9\0\x07\0\x08\x94\x06\x2f\x93",
+        CT_INIT_ACK,
+        (3951119873, 0, 1024, 2048, 1356828889, 1),
+    ),
+    (
+        b"\x13\x88\x13\x88\0\0\0\0\x92\x57\x55\xc7\x01\0\0\x20\x12\x34\x56\x78\0\x02\0\0\x04\0\x04\0\0\0\0\x01\x80\x08\0\x08\x82\xc0\x40\xc2\xc0\0\0\x04",
+        CT_INIT,
+        (305419896, 131072, 1024, 1024, 1, 2),
+    ),
+];
+
+// A checksum that answers the packet's own field.
+fn field_of(raw: &[u8]) -> Answer {
+    match raw {
+        [_, _, _, _, _, _, _, _, a, b, c, d, ..] => Answer(u32::from_le_bytes([*a, *b, *c, *d])),
+        _ => ZERO,
+    }
+}
+
+fn partial(alloc: Global, raw: &[u8]) -> Result<PartialDecode, Error> {
+    PartialDecode::unmarshal(alloc, &Bytes::copy_from_slice(alloc, raw)?, &field_of(raw))
+}
+
+fn finished(alloc: Global, raw: &[u8]) -> Result<Packet, Error> {
+    partial(alloc, raw)?.finish(alloc)
+}
+
+fn whole(alloc: Global, raw: &[u8]) -> Result<Packet, Error> {
+    Packet::unmarshal(alloc, &Bytes::copy_from_slice(alloc, raw)?, &field_of(raw))
+}
+
+// What the first chunk's header tells.
+fn told(alloc: Global, raw: &[u8]) -> Result<(ChunkType, Option<u32>), Error> {
+    let decode = partial(alloc, raw)?;
+    Ok((decode.first_chunk_type, decode.initiate_tag))
+}
+
+// The packet's chunk, where it is an INIT or INIT-ACK.
+fn only_init(packet: &Packet) -> Option<&ChunkInit> {
+    match packet.chunks.as_slice() {
+        [ChunkKind::Init(c)] => Some(c),
+        _ => None,
+    }
+}
+
+fn fields(c: &ChunkInit) -> Fields {
+    (
+        c.initiate_tag,
+        c.advertised_receiver_window_credit,
+        c.num_outbound_streams,
+        c.num_inbound_streams,
+        c.initial_tsn,
+        c.params.len(),
+    )
+}
+
+// Whether the packet is an allowed one of these fields, and is written as these bytes.
+fn is_recorded(
+    alloc: Global,
+    packet: &Packet,
+    raw: &[u8],
+    expected: Fields,
+) -> Result<bool, Error> {
+    let written = packet.marshal(alloc, &field_of(raw))?;
+    Ok(
+        written.as_slice() == raw
+            && packet.check_packet().is_ok()
+            && only_init(packet).is_some_and(|c| fields(c) == expected),
+    )
+}
+
+#[test]
+fn vectors(rt: HostRuntime) -> Result<(), Fail> {
+    let alloc = rt.alloc();
+    for (raw, typ, expected) in VECTORS {
+        assert!(rt; told(alloc, raw)? == (typ, Some(expected.0)));
+        let packet = whole(alloc, raw)?;
+        assert!(rt; is_recorded(alloc, &packet, raw, expected)?);
+        let packet = finished(alloc, raw)?;
+        assert!(rt; is_recorded(alloc, &packet, raw, expected)?);
+    }
+    Ok(())
+}
+
+// Whether these are the parameters of the first recorded packet.
+fn are_recorded(params: &[ParamKind]) -> bool {
+    match params {
+        [
+            ParamKind::ForwardTsnSupported(_),
+            ParamKind::SupportedExtensions(extensions),
+            ParamKind::Random(random),
+            ParamKind::RequestedHmacAlgorithm(hmac),
+            ParamKind::ChunkList(list),
+        ] => {
+            extensions.chunk_types.len() == 5
+                && random.random_data.len() == 32
+                && hmac.available_algorithms.len() == 1
+                && list.chunk_types.len() == 2
+        }
+        _ => false,
+    }
+}
+
+#[test]
+fn parameters(rt: HostRuntime) -> Result<(), Fail> {
+    let packet = whole(rt.alloc(), VECTORS[0].0)?;
+    assert!(rt; only_init(&packet).is_some_and(|c| are_recorded(&c.params)));
+    Ok(())
+}
+
+// How a front of a recorded packet is refused: by Packet::unmarshal, and by PartialDecode or its finish.
+fn refusals_of_front(length: usize, cut_padding: bool) -> (Option<Error>, Option<Error>) {
+    let short = Some(Error::ErrParseSctpChunkNotEnoughData);
+    match length {
+        0..12 => (
+            Some(Error::ErrPacketRawTooSmall),
+            Some(Error::ErrPacketRawTooSmall),
+        ),
+        12 => (None, short),
+        13..16 => (short, short),
+        _ if cut_padding => (short, short),
+        _ => (
+            Some(Error::ErrChunkHeaderNotEnoughSpace),
+            Some(Error::ErrChunkHeaderNotEnoughSpace),
+        ),
+    }
+}
+
+#[test]
+fn fronts(rt: HostRuntime) -> Result<(), Fail> {
+    let alloc = rt.alloc();
+    for (raw, _, _) in VECTORS {
+        for length in 0..raw.len() {
+            let front = &raw[..length];
+            // only the first vector ends in padding, of two bytes
+            let expected = refusals_of_front(length, length >= 98);
+            assert!(rt; whole(alloc, front).err() == expected.0, "at {length}");
+            assert!(rt; finished(alloc, front).err() == expected.1, "at {length}");
+        }
+    }
+    assert!(rt; told(alloc, &VECTORS[0].0[..98])?.0 == CT_INIT);
+    Ok(())
+}
+
+const TOLD: [(&[u8], ChunkType, Option<u32>, Option<&[u8]>); 4] = [
+    (
+        b"\x0a\0\0\x05\xff\0\0\0",
+        CT_COOKIE_ECHO,
+        None,
+        Some(b"\xff"),
+    ),
+    (b"\x0b\0\0\x04", CT_COOKIE_ACK, None, None),
+    // a type without a kind is read so far, and refused by finish
+    (b"\x0d\0\0\x04", ChunkType(13), None, None),
+    (b"\x01\0\0\x08\0\0\0\x07", CT_INIT, Some(7), None),
+];
+
+// The header of the packets that begin with `HEAD`.
+const HEADER: CommonHeader = CommonHeader {
+    source_port: 5000,
+    destination_port: 5000,
+    verification_tag: 1,
+};
+
+fn tells(decode: &PartialDecode, row: (&[u8], ChunkType, Option<u32>, Option<&[u8]>)) -> bool {
+    let (chunks, typ, tag, cookie) = row;
+    decode.common_header == HEADER
+        && decode.remaining.as_slice() == chunks
+        && decode.first_chunk_type == typ
+        && decode.initiate_tag == tag
+        && decode.cookie.as_ref().map(|c| c.as_slice()) == cookie
+}
+
+#[test]
+fn first_chunks(rt: HostRuntime) -> Result<(), Fail> {
+    for row in TOLD {
+        let raw = packet_bytes(rt.alloc(), row.0)?;
+        let decode = PartialDecode::unmarshal(rt.alloc(), &raw, &ZERO)?;
+        assert!(rt; tells(&decode, row), "at {:?}", row.0);
+    }
+    Ok(())
+}
+
+const REFUSED: [(&[u8], Error); 5] = [
+    (b"", Error::ErrParseSctpChunkNotEnoughData),
+    (b"\x02\0\0\x06\0\0\0\0", Error::ErrChunkValueNotLongEnough),
+    (b"\x03\0\0\x03", Error::ErrChunkHeaderInvalidLength),
+    (
+        b"\x03\0\0\x05\0\0\0\x01",
+        Error::ErrChunkHeaderPaddingNonZero,
+    ),
+    (b"\x0d\0\0\x04", Error::ErrUnmarshalUnknownChunkType),
+];
+
+// How these chunks are refused, by PartialDecode or its finish.
+fn refusal_in_two(alloc: Global, chunks: &[u8]) -> Result<Option<Error>, Error> {
+    let raw = packet_bytes(alloc, chunks)?;
+    match PartialDecode::unmarshal(alloc, &raw, &ZERO) {
+        Ok(decode) => Ok(decode.finish(alloc).err()),
+        Err(e) => Ok(Some(e)),
+    }
+}
+
+#[test]
+fn first_chunks_refused(rt: HostRuntime) -> Result<(), Fail> {
+    for (chunks, expected) in REFUSED {
+        let refused = refusal_in_two(rt.alloc(), chunks)?;
+        assert!(rt; refused == Some(expected), "no {expected:?}");
+    }
+    Ok(())
+}
+
+const INIT: &[u8] = b"\x01\0\0\x14\0\0\0\x01\0\0\x05\xdc\0\x01\0\x01\0\0\0\0";
+
+const INIT_AND_ACK: &[u8] = b"\x01\0\0\x14\0\0\0\x01\0\0\x05\xdc\0\x01\0\x01\0\0\0\0\x0b\0\0\x04";
+
+const ACK_AND_INIT: &[u8] = b"\x0b\0\0\x04\x01\0\0\x14\0\0\0\x01\0\0\x05\xdc\0\x01\0\x01\0\0\0\0";
+
+const ACK_AND_INIT_ACK: &[u8] =
+    b"\x0b\0\0\x04\x02\0\0\x14\0\0\0\x01\0\0\x05\xdc\0\x01\0\x01\0\0\0\0";
+
+// Source and destination port, tag, chunks, and how the packet is refused.
+const CHECKED: [(u16, u16, u32, &[u8], Option<Error>); 8] = [
+    (5000, 5000, 0, b"", None),
+    (5000, 5000, 0, INIT, None),
+    (
+        5000,
+        5000,
+        1,
+        INIT,
+        Some(Error::ErrInitChunkVerifyTagNotZero),
+    ),
+    (
+        5000,
+        5000,
+        1,
+        INIT_AND_ACK,
+        Some(Error::ErrInitChunkBundled),
+    ),
+    (
+        5000,
+        5000,
+        0,
+        ACK_AND_INIT,
+        Some(Error::ErrInitChunkBundled),
+    ),
+    (5000, 5000, 1, ACK_AND_INIT_ACK, None),
+    (
+        5000,
+        0,
+        1,
+        INIT_AND_ACK,
+        Some(Error::ErrSctpPacketDestinationPortZero),
+    ),
+    (
+        0,
+        0,
+        1,
+        INIT_AND_ACK,
+        Some(Error::ErrSctpPacketSourcePortZero),
+    ),
+];
+
+#[test]
+fn rules_for_all_packets(rt: HostRuntime) -> Result<(), Fail> {
+    for (source_port, destination_port, verification_tag, chunks, expected) in CHECKED {
+        let mut packet = read_chunks(rt.alloc(), chunks)?;
+        packet.common_header = CommonHeader {
+            source_port,
+            destination_port,
+            verification_tag,
+        };
+        assert!(rt; packet.check_packet().err() == expected, "not {expected:?}");
+    }
+    Ok(())
+}
+
+const PRINTED: &str =
+    "Packet:\n        source_port: 5000\n        destination_port: 5000\n        verification_tag: 1\n        Chunk: COOKIE-ACKChunk: SHUTDOWN-ACK";
+
+#[test]
+fn printed_packet(rt: HostRuntime) -> Result<(), Fail> {
+    let packet = read_chunks(rt.alloc(), b"\x0b\0\0\x04\x08\0\0\x04")?;
+    let printed = format!(in rt.alloc(); "{packet}")?;
+    assert!(rt; printed.as_str() == PRINTED);
+    Ok(())
+}

@@ -1,0 +1,515 @@
+use crate::tests::{packet_of, read_chunks, refusal, rewritten, written_behind};
+use bytes::{Bytes, BytesMut};
+use sctp_base::error::Error;
+use sctp_base::param::param_forward_tsn_supported::ParamForwardTsnSupported;
+use sctp_base::param::param_heartbeat_info::ParamHeartbeatInfo;
+use sctp_base::param::param_kind::ParamKind;
+use sctp_base::util::{CT_ABORT, CT_FORWARD_TSN, CT_I_FORWARD_TSN, CT_SACK, ChunkType};
+use sctp_chunks::chunk::Chunk;
+use sctp_chunks::chunk::chunk_abort::ChunkAbort;
+use sctp_chunks::chunk::chunk_forward_tsn::{ChunkForwardTsn, ChunkForwardTsnStream};
+use sctp_chunks::chunk::chunk_heartbeat_ack::ChunkHeartbeatAck;
+use sctp_chunks::chunk::chunk_i_forward_tsn::{ChunkIForwardTsn, ChunkIForwardTsnStream};
+use sctp_chunks::chunk::chunk_init::ChunkInit;
+use sctp_chunks::chunk::chunk_kind::ChunkKind;
+use sctp_chunks::chunk::chunk_reconfig::ChunkReconfig;
+use sctp_chunks::chunk::chunk_selective_ack::{ChunkSelectiveAck, GapAckBlock};
+use sctp_chunks::chunk::error_cause::{ErrorCause, USER_INITIATED_ABORT};
+use sctp_packets::packet::Packet;
+use std::alloc::Global;
+use std::test::Fail;
+
+// The packet's chunks as they print.
+fn joined(alloc: Global, packet: &Packet) -> Result<String, Fail> {
+    let mut text = String::new(alloc);
+    for chunk in &packet.chunks {
+        text.push_str(&format!(in alloc; "{chunk};")?)?;
+    }
+    Ok(text)
+}
+
+// Whether a packet of these chunks prints so.
+fn prints_so(alloc: Global, chunks: &[u8], expected: &str) -> Result<bool, Fail> {
+    let packet = read_chunks(alloc, chunks)?;
+    let text = joined(alloc, &packet)?;
+    Ok(text.as_str() == expected)
+}
+
+// Each row: chunks, how they print, and how they are written where that differs.
+const ROWS: [(&[u8], &str, Option<&[u8]>); 14] = [
+    (
+        b"\x82\0\0\x18\0\x10\0\x14\0\0\0\x01\0\0\0\x01\0\0\0\x07\0\0\0\x08",
+        "Param A:\n Re-configuration Response Parameter 1 1: Success - Performed;",
+        None,
+    ),
+    (b"\x04\0\0\x0a\0\x01\0\x06\x61\x62\0\0", "HEARTBEAT;", None),
+    (
+        b"\x05\0\0\x0a\0\x01\0\x06\x61\x62\0\0",
+        "HEARTBEAT-ACK;",
+        None,
+    ),
+    (
+        b"\x03\0\0\x18\0\0\0\x09\0\0\0\0\0\x01\0\x01\0\x02\0\x03\0\0\0\x0a",
+        "SACK cumTsnAck=9 arwnd=0 dupTsn=[10]\n gap ack: 2 - 3;",
+        None,
+    ),
+    (b"\x0a\0\0\x05\xff\0\0\0", "COOKIE-ECHO;", None),
+    (
+        b"\x0b\0\0\x08\x0b\0\0\x04",
+        "COOKIE-ACK;",
+        Some(b"\x0b\0\0\x04"),
+    ),
+    (
+        b"\x0b\0\0\x05\xaa\x01\x02\x03\x0b\0\0\x04",
+        "COOKIE-ACK;COOKIE-ACK;",
+        Some(b"\x0b\0\0\x04\x0b\0\0\x04"),
+    ),
+    (
+        b"\xc2\0\0\x0a\0\0\0\x0a\0\x01\0\0",
+        "I-FORWARD-TSN\nNew Cumulative TSN: 10;",
+        Some(b"\xc2\0\0\x08\0\0\0\x0a"),
+    ),
+    (
+        b"\xc2\0\0\x10\0\0\0\x0a\0\x01\x01\0\0\0\0\x02",
+        "I-FORWARD-TSN\nNew Cumulative TSN: 10\n - si=1, unordered=true, mid=2;",
+        None,
+    ),
+    (
+        b"\xc0\0\0\x0c\0\0\0\x0b\0\x01\0\x01",
+        "FORWARD-TSN\nNew Cumulative TSN: 11\n - si=1, ssn=1;",
+        None,
+    ),
+    (
+        b"\x06\0\0\x08\0\x0c\0\x04",
+        "ABORT\n - User Initiated Abort;",
+        None,
+    ),
+    (
+        b"\x09\0\0\x09\0\x0d\0\x05\x2a\0\0\0",
+        "ERROR\n - Protocol Violation;",
+        None,
+    ),
+    (b"\x07\0\0\x08\0\0\0\x0a", "SHUTDOWN;", None),
+    (
+        b"\x08\0\0\x04\x0e\0\0\x04",
+        "SHUTDOWN-ACK;SHUTDOWN-COMPLETE;",
+        None,
+    ),
+];
+
+// The chunks of recorded packets, INIT, INIT-ACK and INIT, and how they print: each field, each parameter.
+const RECORDED: [(&[u8], &str); 3] = [
+    (
+        b"\x01\0\0\x56\x55\xb9\x64\xa5\0\x02\0\0\x04\0\x08\0\xe8\x6d\x10\x30\xc0\0\0\x04\x80\x08\0\x09\xc0\x0f\xc1\x80\x82\0\0\0\x80\x02\0\x24\x9f\xeb\xbb\x5c\x50\xc9\xbf\x75\x9c\xb1\x2c\x57\x4f\xa4\x5a\x51\xba\x60\x17\x78\x27\x94\x5c\x31\xe6\x5d\x5b\x09\x47\xe2\x22\x06\x80\x04\0\x06\0\x01\0\0\x80\x03\0\x06\x80\xc1\0\0",
+        "INIT is_ack: false
+            initiate_tag: 1438213285
+            advertised_receiver_window_credit: 131072
+            num_outbound_streams: 1024
+            num_inbound_streams: 2048
+            initial_tsn: 3899461680Param 0:
+ Forward TSN supportedParam 1:
+ Supported Extensions FORWARD-TSN Unknown ChunkType: 15 Unknown ChunkType: 193 Unknown ChunkType: 128 RECONFIGParam 2:
+ Random b\"\\x9f\\xeb\\xbb\\\\P\\xc9\\xbfu\\x9c\\xb1,WO\\xa4ZQ\\xba`\\x17x'\\x94\\\\1\\xe6][\\tG\\xe2\\\"\\x06\"Param 3:
+ Requested HMAC Algorithm Parameter HMAC SHA-128Param 4:
+ Chunk List Unknown ChunkType: 128 Unknown ChunkType: 193;",
+    ),
+    (
+        b"\x02\0\0\x1c\xeb\x81\x4e\x01\0\0\0\0\x04\0\x08\0\x50\xdf\x90\xd9\0\x07\0\x08\x94\x06\x2f\x93",
+        "INIT-ACK is_ack: true
+            initiate_tag: 3951119873
+            advertised_receiver_window_credit: 0
+            num_outbound_streams: 1024
+            num_inbound_streams: 2048
+            initial_tsn: 1356828889Param 0:
+ State Cookie: b\"\\x94\\x06/\\x93\";",
+    ),
+    (
+        b"\x01\0\0\x20\x12\x34\x56\x78\0\x02\0\0\x04\0\x04\0\0\0\0\x01\x80\x08\0\x08\x82\xc0\x40\xc2\xc0\0\0\x04",
+        "INIT is_ack: false
+            initiate_tag: 305419896
+            advertised_receiver_window_credit: 131072
+            num_outbound_streams: 1024
+            num_inbound_streams: 1024
+            initial_tsn: 1Param 0:
+ Supported Extensions RECONFIG FORWARD-TSN Unknown ChunkType: 64 I-FORWARD-TSNParam 1:
+ Forward TSN supported;",
+    ),
+];
+
+#[test]
+fn recorded_inits(rt: HostRuntime) -> Result<(), Fail> {
+    for (chunks, text) in RECORDED {
+        assert!(rt; prints_so(rt.alloc(), chunks, text)?, "at {chunks:?}");
+        let again = rewritten(rt.alloc(), chunks)?;
+        assert!(rt; again.as_slice() == chunks, "at {chunks:?}");
+    }
+    Ok(())
+}
+
+#[test]
+fn kinds_print(rt: HostRuntime) -> Result<(), Fail> {
+    for (chunks, text, _) in ROWS {
+        assert!(rt; prints_so(rt.alloc(), chunks, text)?, "at {chunks:?}");
+    }
+    Ok(())
+}
+
+#[test]
+fn kinds_are_written(rt: HostRuntime) -> Result<(), Fail> {
+    for (chunks, _, written) in ROWS {
+        let again = rewritten(rt.alloc(), chunks)?;
+        assert!(rt;
+            again.as_slice() == written.unwrap_or(chunks),
+            "at {chunks:?}"
+        );
+    }
+    Ok(())
+}
+
+const REFUSED: [(&[u8], Error); 20] = [
+    (b"\0\x03\0", Error::ErrParseSctpChunkNotEnoughData),
+    (b"\0\x03\0\x03", Error::ErrChunkHeaderInvalidLength),
+    (
+        b"\0\x03\0\x0f\0\0\0\x0a\0\x01\0\0\0\0\0\0",
+        Error::ErrChunkPayloadSmall,
+    ),
+    (
+        b"\0\x03\0\x14\0\0\0\x0a",
+        Error::ErrChunkHeaderNotEnoughSpace,
+    ),
+    (
+        b"\0\x03\0\x13\0\0\0\x0a\0\x01\0\0\0\0\0\x35abc\x01",
+        Error::ErrChunkHeaderPaddingNonZero,
+    ),
+    (
+        b"\0\x03\0\x13\0\0\0\x0a\0\x01\0\0\0\0\0\x35abc",
+        Error::ErrParseSctpChunkNotEnoughData,
+    ),
+    (
+        b"\x03\0\0\x10\0\0\0\x09\0\0\0\0\xff\xff\xff\xff",
+        Error::ErrSackSizeNotLargeEnoughInfo,
+    ),
+    (
+        b"\x03\0\0\x10\0\0\0\x09\0\0\0\0\0\0\xff\xff",
+        Error::ErrSackSizeNotLargeEnoughInfo,
+    ),
+    (
+        b"\x03\0\0\x10\0\0\0\x09\0\0\0\0\0\x01\0\0",
+        Error::ErrSackSizeNotLargeEnoughInfo,
+    ),
+    (b"\xc0\0\0\x0a\0\0\0\x0a\0\x01\0\0", Error::ErrChunkTooShort),
+    (b"\x04\0\0\x08\0\x07\0\x04", Error::ErrHeartbeatParam),
+    (b"\x04\0\0\x08\0\x01\0\x05", Error::ErrParamHeaderTooShort),
+    (b"\x05\0\0\x04", Error::ErrHeartbeatNotLongEnoughInfo),
+    (b"\x06\0\0\x08\0\x0c\0\x03", Error::ErrErrorCauseTooSmall),
+    (b"\x06\0\0\x08\0\x0c\0\x05", Error::ErrErrorCauseTooSmall),
+    (
+        b"\x07\0\0\x09\0\0\0\x0a\0\0\0\0",
+        Error::ErrInvalidChunkSize,
+    ),
+    (b"\x0a\0\0\x05\xff", Error::ErrParseSctpChunkNotEnoughData),
+    (
+        b"\x0a\0\0\x05\xff\0\0\x01",
+        Error::ErrChunkHeaderPaddingNonZero,
+    ),
+    (b"\x82\0\0\x04", Error::ErrChunkTooShort),
+    (b"\x01\0\0\x04", Error::ErrChunkValueNotLongEnough),
+];
+
+#[test]
+fn kinds_refuse(rt: HostRuntime) -> Result<(), Fail> {
+    let alloc = rt.alloc();
+    for (chunks, expected) in REFUSED {
+        assert!(rt;
+            refusal(alloc, chunks)? == Some(expected),
+            "no {expected:?}"
+        );
+    }
+    Ok(())
+}
+
+// Each other number has no kind.
+#[test]
+fn numbers_of_kinds(rt: HostRuntime) -> Result<(), Fail> {
+    for number in 0..=255 {
+        let refused = refusal(rt.alloc(), &[number, 0, 0, 4])?;
+        let has_kind = matches!(number, 0..=11 | 14 | 130 | 192 | 194);
+        let is_unknown = refused == Some(Error::ErrUnmarshalUnknownChunkType);
+        assert!(rt; has_kind != is_unknown, "at {number}");
+    }
+    Ok(())
+}
+
+// Whether the packet of this chunk is written; nothing where it is neither written nor refused for its length.
+fn is_written(alloc: Global, chunk: ChunkKind) -> Result<Option<bool>, Error> {
+    let packet = packet_of(alloc, chunk)?;
+    let (answer, buf) = written_behind(alloc, &packet)?;
+    Ok(outcome(answer, buf.as_slice()))
+}
+
+fn outcome(answer: Result<usize, Error>, buf: &[u8]) -> Option<bool> {
+    match answer {
+        Ok(length) if length == buf.len() => Some(true),
+        Err(Error::ErrLengthTooLarge) if buf == b"abc".as_slice() => Some(false),
+        _ => None,
+    }
+}
+
+fn sack(alloc: Global, blocks: usize) -> Result<ChunkKind, Error> {
+    let mut gap_ack_blocks = Vec::new(alloc);
+    for _ in 0..blocks {
+        gap_ack_blocks.push(GapAckBlock { start: 2, end: 3 })?;
+    }
+    Ok(ChunkKind::SelectiveAck(ChunkSelectiveAck {
+        cumulative_tsn_ack: 9,
+        advertised_receiver_window_credit: 0,
+        gap_ack_blocks,
+        duplicate_tsn: Vec::new(alloc),
+    }))
+}
+
+fn forward_tsn(alloc: Global, pairs: usize) -> Result<ChunkKind, Error> {
+    let mut streams = Vec::new(alloc);
+    for _ in 0..pairs {
+        streams.push(ChunkForwardTsnStream {
+            identifier: 1,
+            sequence: 2,
+        })?;
+    }
+    Ok(ChunkKind::ForwardTsn(ChunkForwardTsn {
+        new_cumulative_tsn: 9,
+        streams,
+    }))
+}
+
+fn i_forward_tsn(alloc: Global, entries: usize) -> Result<ChunkKind, Error> {
+    let mut streams = Vec::new(alloc);
+    for _ in 0..entries {
+        streams.push(ChunkIForwardTsnStream {
+            identifier: 1,
+            unordered: false,
+            mid: 2,
+        })?;
+    }
+    Ok(ChunkKind::IForwardTsn(ChunkIForwardTsn {
+        new_cumulative_tsn: 9,
+        streams,
+    }))
+}
+
+fn cause(alloc: Global, length: usize) -> Result<ErrorCause, Error> {
+    let mut raw = BytesMut::new(alloc);
+    raw.resize(length, 7)?;
+    Ok(ErrorCause {
+        code: USER_INITIATED_ABORT,
+        raw: raw.freeze()?,
+    })
+}
+
+fn abort(alloc: Global, length: usize) -> Result<ChunkKind, Error> {
+    let mut error_causes = Vec::new(alloc);
+    error_causes.push(cause(alloc, length)?)?;
+    Ok(ChunkKind::Abort(ChunkAbort { error_causes }))
+}
+
+// A chunk of this type with so many entries, or for ABORT bytes in its cause.
+fn filled(alloc: Global, typ: ChunkType, count: usize) -> Result<ChunkKind, Error> {
+    match typ {
+        CT_SACK => sack(alloc, count),
+        CT_FORWARD_TSN => forward_tsn(alloc, count),
+        CT_I_FORWARD_TSN => i_forward_tsn(alloc, count),
+        _ => abort(alloc, count),
+    }
+}
+
+fn is_filled_written(alloc: Global, typ: ChunkType, count: usize) -> Result<Option<bool>, Error> {
+    is_written(alloc, filled(alloc, typ, count)?)
+}
+
+// Each type with the most entries that fit.
+const LONGEST: [(ChunkType, usize); 4] = [
+    (CT_SACK, 16_379),
+    (CT_FORWARD_TSN, 16_381),
+    (CT_I_FORWARD_TSN, 8_190),
+    (CT_ABORT, 65_527),
+];
+
+#[test]
+fn longest_lists(rt: HostRuntime) -> Result<(), Fail> {
+    let alloc = rt.alloc();
+    for (typ, count) in LONGEST {
+        assert!(rt;
+            is_filled_written(alloc, typ, count)? == Some(true),
+            "at {count}"
+        );
+        assert!(rt;
+            is_filled_written(alloc, typ, count + 1)? == Some(false),
+            "after {count}"
+        );
+    }
+    Ok(())
+}
+
+// The length of the text of a cause with so many bytes.
+fn length_of(alloc: Global, length: usize) -> Result<Result<usize, Error>, Error> {
+    Ok(cause(alloc, length)?.marshal(alloc).map(|raw| raw.len()))
+}
+
+#[test]
+fn longest_cause(rt: HostRuntime) -> Result<(), Fail> {
+    assert!(rt; length_of(rt.alloc(), 65_531)? == Ok(65_535));
+    assert!(rt; length_of(rt.alloc(), 65_532)? == Err(Error::ErrLengthTooLarge));
+    Ok(())
+}
+
+#[test]
+fn cause_alone(rt: HostRuntime) -> Result<(), Fail> {
+    let alloc = rt.alloc();
+    let raw = Bytes::copy_from_slice(alloc, b"\0\x0c\0\x05\x07")?;
+    let small = ErrorCause::unmarshal(&raw)?;
+    assert!(rt; small.length() == 5 && small.error_cause_code() == USER_INITIATED_ABORT);
+    assert!(rt; small.raw.as_slice() == [7].as_slice());
+    let written = small.marshal(alloc)?;
+    assert!(rt; written.as_slice() == raw.as_slice());
+    Ok(())
+}
+
+#[test]
+fn pairs_alone(rt: HostRuntime) -> Result<(), Fail> {
+    let alloc = rt.alloc();
+    let raw = Bytes::copy_from_slice(alloc, b"\0\x01\0\x02\x03")?;
+    let pair = ChunkForwardTsnStream::unmarshal(&raw)?;
+    assert!(rt; pair.value_length() == 4);
+    let written = pair.marshal(alloc)?;
+    assert!(rt; written.as_slice() == b"\0\x01\0\x02".as_slice());
+    let short = ChunkForwardTsnStream::unmarshal(&raw.slice(..3)?).err();
+    assert!(rt; short == Some(Error::ErrChunkTooShort));
+    Ok(())
+}
+
+// How a HEARTBEAT-ACK of these is refused; nothing also where the buffer was not left as it was.
+fn heartbeat_ack(alloc: Global, params: Vec<ParamKind>) -> Result<Option<Error>, Error> {
+    let mut buf = BytesMut::copy_from_slice(alloc, b"abc")?;
+    let refused = ChunkHeartbeatAck { params }.marshal_to(&mut buf).err();
+    Ok(refused.filter(|_| buf.as_slice() == b"abc".as_slice()))
+}
+
+fn info(alloc: Global, length: usize) -> Result<ParamKind, Error> {
+    Ok(ParamKind::HeartbeatInfo(ParamHeartbeatInfo {
+        heartbeat_information: cause(alloc, length)?.raw,
+    }))
+}
+
+fn infos(alloc: Global, count: usize, length: usize) -> Result<Vec<ParamKind>, Error> {
+    let mut params = Vec::new(alloc);
+    for _ in 0..count {
+        params.push(info(alloc, length)?)?;
+    }
+    Ok(params)
+}
+
+// How a HEARTBEAT-ACK of so many infos of this length is refused.
+fn refusal_of_infos(alloc: Global, count: usize, length: usize) -> Result<Option<Error>, Error> {
+    heartbeat_ack(alloc, infos(alloc, count, length)?)
+}
+
+#[test]
+fn heartbeat_acks_of_one_info(rt: HostRuntime) -> Result<(), Fail> {
+    let rows = [
+        (0, 1, Some(Error::ErrHeartbeatAckParams)),
+        (2, 1, Some(Error::ErrHeartbeatAckParams)),
+        (1, 1, None),
+        (1, 65_527, None),
+        (1, 65_528, Some(Error::ErrLengthTooLarge)),
+    ];
+    for (count, length, expected) in rows {
+        let refused = refusal_of_infos(rt.alloc(), count, length)?;
+        assert!(rt; refused == expected, "{count} of {length}");
+    }
+    Ok(())
+}
+
+#[test]
+fn heartbeat_acks_of_no_info(rt: HostRuntime) -> Result<(), Fail> {
+    let mut other = Vec::new(rt.alloc());
+    other.push(ParamKind::ForwardTsnSupported(ParamForwardTsnSupported))?;
+    let refused = heartbeat_ack(rt.alloc(), other)?;
+    assert!(rt; refused == Some(Error::ErrHeartbeatAckNotHeartbeatInfo));
+    Ok(())
+}
+
+fn init(alloc: Global) -> ChunkInit {
+    ChunkInit {
+        is_ack: false,
+        initiate_tag: 1,
+        advertised_receiver_window_credit: 1500,
+        num_outbound_streams: 1,
+        num_inbound_streams: 1,
+        initial_tsn: 0,
+        params: Vec::new(alloc),
+    }
+}
+
+#[test]
+fn inits_checked(rt: HostRuntime) -> Result<(), Fail> {
+    let alloc = rt.alloc();
+    let mut chunk = init(alloc);
+    assert!(rt; chunk.check().is_ok());
+    chunk.set_supported_extensions(alloc)?;
+    let printed = format!(in alloc; "{chunk}")?;
+    assert!(rt;
+        printed.as_str().ends_with(
+            "initial_tsn: 0Param 0:\n Supported Extensions RECONFIG FORWARD-TSN"
+        )
+    );
+    chunk.advertised_receiver_window_credit = 1499;
+    assert!(rt; chunk.check().err() == Some(Error::ErrInitAdvertisedReceiver1500));
+    chunk.num_outbound_streams = 0;
+    assert!(rt; chunk.check().err() == Some(Error::ErrInitOutboundStreamRequestZero));
+    chunk.num_inbound_streams = 0;
+    assert!(rt; chunk.check().err() == Some(Error::ErrInitInboundStreamRequestZero));
+    chunk.initiate_tag = 0;
+    assert!(rt; chunk.check().err() == Some(Error::ErrChunkTypeInitInitiateTagZero));
+    Ok(())
+}
+
+// How the chunk is checked, and how it is refused to be written.
+fn refusals_of(alloc: Global, chunk: &ChunkReconfig) -> (Option<Error>, Option<Error>) {
+    (chunk.check().err(), chunk.marshal(alloc).err())
+}
+
+#[test]
+fn reconfig_without_first(rt: HostRuntime) -> Result<(), Fail> {
+    let chunk = ChunkReconfig {
+        param_a: None,
+        param_b: None,
+    };
+    let expected = Some(Error::ErrChunkReconfigInvalidParamA);
+    assert!(rt; refusals_of(rt.alloc(), &chunk) == (expected, expected));
+    Ok(())
+}
+
+fn of_two_infos(alloc: Global) -> Result<ChunkReconfig, Error> {
+    let first = info(alloc, 1)?;
+    let second = info(alloc, 2)?;
+    Ok(ChunkReconfig {
+        param_a: Some(first),
+        param_b: Some(second),
+    })
+}
+
+fn clone_written(alloc: Global, chunk: &ChunkReconfig) -> Result<Bytes, Error> {
+    chunk.try_clone(alloc)?.marshal(alloc)
+}
+
+// The first parameter is padded where a second one follows.
+#[test]
+fn reconfig_with_second(rt: HostRuntime) -> Result<(), Fail> {
+    let chunk = of_two_infos(rt.alloc())?;
+    let expected = Some(Error::ErrChunkReconfigInvalidParamCombination);
+    assert!(rt; refusals_of(rt.alloc(), &chunk) == (expected, None));
+    let written = clone_written(rt.alloc(), &chunk)?;
+    let text = b"\x82\0\0\x12\0\x01\0\x05\x07\0\0\0\0\x01\0\x06\x07\x07";
+    assert!(rt; written.as_slice() == text.as_slice());
+    Ok(())
+}

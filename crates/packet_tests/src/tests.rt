@@ -1,0 +1,295 @@
+use bytes::{Bytes, BytesMut};
+use sctp_base::error::Error;
+use sctp_base::util::{
+    CT_PAYLOAD_DATA, Checksum, get_padding_size, sna16gt, sna16lt, sna32gt, sna32gte, sna32lt,
+    sna32lte,
+};
+use sctp_chunks::chunk::Chunk;
+use sctp_chunks::chunk::chunk_header::ChunkHeader;
+use sctp_chunks::chunk::chunk_kind::ChunkKind;
+use sctp_chunks::chunk::chunk_payload_data::{ChunkPayloadData, PayloadProtocolIdentifier};
+use sctp_packets::packet::{CommonHeader, Packet};
+use std::alloc::Global;
+use std::cell::Cell;
+use std::test::Fail;
+
+/// Answers the same number for any bytes: 0, or the field of a recorded packet.
+#[derive(Clone, Copy)]
+pub struct Answer(pub u32);
+
+impl Checksum for Answer {
+    ghost sum = { λ c bytes. c.0 };
+
+    fn checksum(&self, _head: &[u8], _tail: &[u8]) -> u32 {
+        self.0
+    }
+}
+
+pub const ZERO: Answer = Answer(0);
+
+/// Counts how often it is asked.
+#[derive(Clone, Copy)]
+struct Counted<'a> {
+    calls: &'a Cell<u32>,
+}
+
+impl Checksum for Counted<'_> {
+    ghost sum = { λ _ bytes. 0x01020304 };
+
+    fn checksum(&self, _head: &[u8], _tail: &[u8]) -> u32 {
+        self.calls.set(self.calls.get().wrapping_add(1));
+        0x01020304
+    }
+}
+
+const HEAD: [u8; 12] = [0x13, 0x88, 0x13, 0x88, 0, 0, 0, 1, 0, 0, 0, 0];
+
+/// The packet with the usual header and these chunks.
+pub fn packet_bytes(alloc: Global, chunks: &[u8]) -> Result<Bytes, Error> {
+    let mut buf = BytesMut::new(alloc);
+    buf.extend_from_slice(&HEAD)?;
+    buf.extend_from_slice(chunks)?;
+    Ok(buf.freeze()?)
+}
+
+/// Reads a packet of these chunks.
+pub fn read_chunks(alloc: Global, chunks: &[u8]) -> Result<Packet, Error> {
+    Packet::unmarshal(alloc, &packet_bytes(alloc, chunks)?, &ZERO)
+}
+
+/// How a packet of these chunks is refused.
+pub fn refusal(alloc: Global, chunks: &[u8]) -> Result<Option<Error>, Error> {
+    Ok(Packet::unmarshal(alloc, &packet_bytes(alloc, chunks)?, &ZERO).err())
+}
+
+/// Reads a packet of these chunks, and gives the chunks as they are written.
+pub fn rewritten(alloc: Global, chunks: &[u8]) -> Result<Bytes, Error> {
+    let mut written = read_chunks(alloc, chunks)?.marshal(alloc, &ZERO)?;
+    written.advance(HEAD.len().min(written.len()));
+    Ok(written)
+}
+
+/// Writes the packet behind "abc". Gives the answer, and the buffer after it.
+pub fn written_behind(
+    alloc: Global,
+    packet: &Packet,
+) -> Result<(Result<usize, Error>, BytesMut), Error> {
+    let mut buf = BytesMut::copy_from_slice(alloc, b"abc")?;
+    let answer = packet.marshal_to(&mut buf, &ZERO);
+    Ok((answer, buf))
+}
+
+fn data(alloc: Global, length: usize) -> Result<ChunkPayloadData, Error> {
+    let mut user_data = BytesMut::new(alloc);
+    user_data.resize(length, 7)?;
+    Ok(ChunkPayloadData {
+        unordered: false,
+        beginning_fragment: true,
+        ending_fragment: true,
+        immediate_sack: false,
+        tsn: 10,
+        stream_identifier: 1,
+        stream_sequence_number: 0,
+        payload_type: PayloadProtocolIdentifier::Binary,
+        user_data: user_data.freeze()?,
+        acked: false,
+        miss_indicator: 0,
+        message_id: 0,
+        abandoned: false,
+        since: None,
+        reliability: None,
+        deadline: None,
+        nsent: 0,
+        retransmit: false,
+    })
+}
+
+pub fn packet_of(alloc: Global, chunk: ChunkKind) -> Result<Packet, Error> {
+    let mut chunks = Vec::new(alloc);
+    chunks.push(chunk)?;
+    Ok(Packet {
+        common_header: CommonHeader {
+            source_port: 5000,
+            destination_port: 5000,
+            verification_tag: 1,
+        },
+        chunks,
+    })
+}
+
+const WHOLE: [u8; 20] = [
+    0, 3, 0, 0x13, 0, 0, 0, 0x0a, 0, 1, 0, 0, 0, 0, 0, 0x35, 0x61, 0x62, 0x63, 0,
+];
+
+#[test]
+fn serial_numbers(rt: HostRuntime) -> Result<(), Fail> {
+    assert!(rt; !sna32lt(0, 2147483648));
+    assert!(rt; sna32gt(0, 2147483648));
+    assert!(rt; sna32gt(2147483648, 0));
+    assert!(rt; sna32lt(4294967295, 0));
+    assert!(rt; sna32lte(5, 5));
+    assert!(rt; sna32gte(6, 5));
+    assert!(rt; sna16lt(65535, 0));
+    assert!(rt; sna16gt(0, 32768));
+    assert_eq!(rt; get_padding_size(5), 3);
+    assert_eq!(rt; get_padding_size(8), 0);
+    Ok(())
+}
+
+// How these bytes are refused as a packet.
+fn refusal_of(alloc: Global, raw: &[u8], checksum: Answer) -> Result<Option<Error>, Error> {
+    Ok(Packet::unmarshal(alloc, &Bytes::copy_from_slice(alloc, raw)?, &checksum).err())
+}
+
+#[test]
+fn bare_header(rt: HostRuntime) -> Result<(), Fail> {
+    let alloc = rt.alloc();
+    let header = [0x13, 0x88, 0x13, 0x88, 0, 0, 0, 0, 0x06, 0xa9, 0, 0xe1];
+    let field = Answer(0xe100a906);
+    assert_eq!(rt;
+        refusal_of(alloc, b"", ZERO)?,
+        Some(Error::ErrPacketRawTooSmall)
+    );
+    assert_eq!(rt;
+        refusal_of(alloc, &header, ZERO)?,
+        Some(Error::ErrChecksumMismatch)
+    );
+    let packet = Packet::unmarshal(alloc, &Bytes::copy_from_slice(alloc, &header)?, &field)?;
+    let expected = CommonHeader {
+        source_port: 5000,
+        destination_port: 5000,
+        verification_tag: 0,
+    };
+    assert!(rt; packet.common_header == expected && packet.chunks.is_empty());
+    let written = packet.marshal(alloc, &field)?;
+    assert!(rt; written.as_slice() == header.as_slice());
+    Ok(())
+}
+
+// The packet's chunk, where it is one of user data.
+fn only_data(packet: &Packet) -> Option<&ChunkPayloadData> {
+    match packet.chunks.as_slice() {
+        [ChunkKind::PayloadData(c)] => Some(c),
+        _ => None,
+    }
+}
+
+// Whether the chunk is the one of `WHOLE`.
+fn is_whole(c: &ChunkPayloadData) -> bool {
+    c.tsn == 10
+        && c.stream_identifier == 1
+        && c.stream_sequence_number == 0
+        && c.payload_type == PayloadProtocolIdentifier::Binary
+        && c.beginning_fragment
+        && c.ending_fragment
+        && !c.unordered
+        && !c.immediate_sack
+        && c.user_data.as_slice() == b"abc".as_slice()
+}
+
+#[test]
+fn whole_message(rt: HostRuntime) -> Result<(), Fail> {
+    let alloc = rt.alloc();
+    let packet = read_chunks(alloc, &WHOLE)?;
+    assert!(rt; only_data(&packet).is_some_and(|c| is_whole(c)));
+    assert!(rt; rewritten(alloc, &WHOLE)?.as_slice() == WHOLE.as_slice());
+    Ok(())
+}
+
+// A fragment with these flags, and a TSN that is about to wrap.
+fn fragment(flags: u8) -> [u8; 20] {
+    let mut chunk = WHOLE;
+    chunk[1] = flags;
+    chunk[4..8].copy_from_slice(&[0xff, 0xff, 0xff, 0xfe]);
+    chunk
+}
+
+// TSN, and whether the fragment is the first and the last one.
+fn ends(alloc: Global, chunk: &[u8]) -> Result<Option<(u32, bool, bool)>, Error> {
+    let packet = read_chunks(alloc, chunk)?;
+    Ok(only_data(&packet).map(|c| (c.tsn, c.beginning_fragment, c.ending_fragment)))
+}
+
+#[test]
+fn fragments(rt: HostRuntime) -> Result<(), Fail> {
+    let alloc = rt.alloc();
+    for (flags, first, last) in [(2, true, false), (0, false, false), (1, false, true)] {
+        let chunk = fragment(flags);
+        assert!(rt; ends(alloc, &chunk)? == Some((4294967294, first, last)));
+        assert!(rt; rewritten(alloc, &chunk)?.as_slice() == chunk.as_slice());
+    }
+    Ok(())
+}
+
+fn long(alloc: Global, length: usize) -> Result<Packet, Error> {
+    packet_of(alloc, ChunkKind::PayloadData(data(alloc, length)?))
+}
+
+#[test]
+fn too_long_a_chunk(rt: HostRuntime) -> Result<(), Fail> {
+    let alloc = rt.alloc();
+    let (answer, buf) = written_behind(alloc, &long(alloc, 65_520)?)?;
+    assert!(rt; answer == Err(Error::ErrLengthTooLarge));
+    assert!(rt; buf.as_slice() == b"abc".as_slice());
+    Ok(())
+}
+
+// It is read also where another chunk follows it.
+#[test]
+fn longest_chunk(rt: HostRuntime) -> Result<(), Fail> {
+    let alloc = rt.alloc();
+    let (answer, mut buf) = written_behind(alloc, &long(alloc, 65_519)?)?;
+    assert!(rt; answer == Ok(3 + 12 + 65_536));
+    assert!(rt; buf.len() == 3 + 12 + 65_536);
+    let front = b"abc\x13\x88\x13\x88\0\0\0\x01\0\0\0\0\0\x03\xff\xff";
+    assert!(rt; buf.as_slice().starts_with(front));
+    buf.extend_from_slice(b"\x0b\0\0\x04")?;
+    buf.advance(3);
+    let packet = Packet::unmarshal(alloc, &buf.freeze()?, &ZERO)?;
+    assert!(rt; lengths(&packet) == Some((65_519, true)));
+    Ok(())
+}
+
+// The length of the first chunk's user data, and whether a COOKIE-ACK follows.
+fn lengths(packet: &Packet) -> Option<(usize, bool)> {
+    match packet.chunks.as_slice() {
+        [ChunkKind::PayloadData(c), ChunkKind::CookieAck(_)] => Some((c.user_data.len(), true)),
+        _ => None,
+    }
+}
+
+// A packet of one chunk under the checksum that counts.
+fn counted_bytes(alloc: Global, counted: Counted) -> Result<Bytes, Error> {
+    long(alloc, 1)?.marshal(alloc, &counted)
+}
+
+#[test]
+fn checksum_is_asked(rt: HostRuntime) -> Result<(), Fail> {
+    let calls = Cell::new(0);
+    let counted = Counted { calls: &calls };
+    let raw = counted_bytes(rt.alloc(), counted)?;
+    assert!(rt; calls.get() == 1);
+    let front = b"\x13\x88\x13\x88\0\0\0\x01\x04\x03\x02\x01";
+    assert!(rt; raw.as_slice().starts_with(front));
+    assert!(rt; Packet::unmarshal(rt.alloc(), &raw, &counted).is_ok());
+    assert!(rt; calls.get() == 2);
+    Ok(())
+}
+
+const WHOLE_HEADER: ChunkHeader = ChunkHeader {
+    typ: CT_PAYLOAD_DATA,
+    flags: 3,
+    value_length: 15,
+};
+
+#[test]
+fn chunk_alone(rt: HostRuntime) -> Result<(), Fail> {
+    let alloc = rt.alloc();
+    let raw = Bytes::copy_from_slice(alloc, &WHOLE)?;
+    assert!(rt; ChunkHeader::unmarshal(&raw) == Ok(WHOLE_HEADER));
+    let chunk = ChunkPayloadData::unmarshal(alloc, &raw)?;
+    assert!(rt; chunk.header() == Ok(WHOLE_HEADER));
+    assert!(rt; chunk.marshal(alloc)?.as_slice() == &WHOLE[..19]);
+    assert!(rt; is_whole(&chunk.try_clone()?));
+    Ok(())
+}

@@ -1,0 +1,9 @@
+//! Worked scripts, and packets under CRC-32C.
+#![tactic(auto)]
+
+#[cfg(test)]
+mod checksum;
+#[cfg(test)]
+mod packets;
+#[cfg(test)]
+mod scripts;

@@ -1,0 +1,55 @@
+//! Recorded packets under CRC-32C.
+
+use crate::checksum::Crc32c;
+use bytes::Bytes;
+use sctp_base::error::Error;
+use sctp_base::util::Checksum;
+use sctp_packets::packet::{Packet, PartialDecode};
+use std::alloc::Global;
+use std::test::Fail;
+
+/// Four zero bytes are part of each checksum.
+#[test]
+fn sum_of_a_header(rt: HostRuntime) {
+    let sum = Crc32c.checksum(b"\x13\x88\x13\x88\0\0\0\0", b"");
+    assert_eq!(rt; sum, 0xe100_a906);
+}
+
+// Recorded packets: a bare header, an INIT, an INIT-ACK, another INIT.
+const RECORDED: [&[u8]; 4] = [
+    b"\x13\x88\x13\x88\0\0\0\0\x06\xa9\0\xe1",
+    b"\x13\x88\x13\x88\0\0\0\0\x81\x46\x9d\xfc\x01\0\0\x56\x55\xb9\x64\xa5\0\x02\0\0\x04\0\x08\0\xe8\x6d\x10\x30\xc0\0\0\x04\x80\x08\0\x09\xc0\x0f\xc1\x80\x82\0\0\0\x80\x02\0\x24\x9f\xeb\xbb\x5c\x50\xc9\xbf\x75\x9c\xb1\x2c\x57\x4f\xa4\x5a\x51\xba\x60\x17\x78\x27\x94\x5c\x31\xe6\x5d\x5b\x09\x47\xe2\x22\x06\x80\x04\0\x06\0\x01\0\0\x80\x03\0\x06\x80\xc1\0\0",
+    b"\x13\x88\x13\x88\xce\x15\x79\xa2\x96\x19\xe8\xb2\x02\0\0\x1c\xeb\x81\x4e\x01\0\0\0\0\x04\0\x08\0\x50\xdf\x90\xd9\0\x07\0\x08\x94\x06\x2f\x93",
+    b"\x13\x88\x13\x88\0\0\0\0\x92\x57\x55\xc7\x01\0\0\x20\x12\x34\x56\x78\0\x02\0\0\x04\0\x04\0\0\0\0\x01\x80\x08\0\x08\x82\xc0\x40\xc2\xc0\0\0\x04",
+];
+
+// What these bytes are read as and written again.
+fn rewritten(alloc: Global, raw: &[u8]) -> Result<Bytes, Error> {
+    let raw = Bytes::copy_from_slice(alloc, raw)?;
+    Packet::unmarshal(alloc, &raw, &Crc32c)?.marshal(alloc, &Crc32c)
+}
+
+#[test]
+fn recorded_packets(rt: HostRuntime) -> Result<(), Fail> {
+    for raw in RECORDED {
+        let written = rewritten(rt.alloc(), raw)?;
+        assert!(rt; written.as_slice() == raw);
+    }
+    Ok(())
+}
+
+// The initiate tag that the first chunk tells, and how many chunks there are.
+fn told(alloc: Global, raw: &[u8]) -> Result<(Option<u32>, usize), Error> {
+    let raw = Bytes::copy_from_slice(alloc, raw)?;
+    let decode = PartialDecode::unmarshal(alloc, &raw, &Crc32c)?;
+    Ok((decode.initiate_tag, decode.finish(alloc)?.chunks.len()))
+}
+
+#[test]
+fn recorded_beginnings(rt: HostRuntime) -> Result<(), Fail> {
+    let alloc = rt.alloc();
+    let bare = told(alloc, RECORDED[0]);
+    assert!(rt; bare == Err(Error::ErrParseSctpChunkNotEnoughData));
+    assert!(rt; told(alloc, RECORDED[3])? == (Some(0x12345678), 1));
+    Ok(())
+}

@@ -1,0 +1,408 @@
+use Rattle.std.proofs.Common.{◌≡◌, ℕ, zero, suc, ◌+◌, ◌-◌, ◌<◌, ◌≤◌, Bool, true, false, List, [], ◌∷◌, ◌++◌, length, map, Option, Some, None, refl, ap, sym, ◌∙◌, inl, inr, arith, zero-add}
+use Rattle.std.specs.Prelude.{◌⊎◌, if◌then◌else◌, ◌==◌, ◌&&◌, ◌||◌, nat_lt, nat_le, min, max, slice_get, take}
+use Rattle.std.specs.List.{list_any}
+use Rattle.std.proofs.Math.Path.{subst}
+use Rattle.std.proofs.Math.Nat.{eq-or-lt_of_le}
+use Rattle.std.proofs.lemmas.Bool.{cases_lt}
+use Rattle.std.proofs.lemmas.Bool.Decides.{nat_tests}
+use Rattle.sctp_lists.specs.Kept.{kept, runs_of, joined, numbers_from}
+use Rattle.sctp_lists.specs.Lists.{changed}
+use Rattle.sctp_lists.proofs.KeptLemmas.{kept-same}
+use Rattle.sctp_lists.proofs.More.{fails, not_both, both, and, changed-keeps, length-changed}
+use Rattle.sctp_model.specs.declared.event.Event.{Event}
+use Rattle.sctp_model.specs.declared.event.Event.TheVariants as E
+use Rattle.sctp_model.specs.Reply.{Reply}
+use Rattle.sctp_model.specs.World.{Setup, Datagram, Data, Forward, Sack, World}
+use Rattle.sctp_model.specs.Messages
+use Rattle.sctp_model.specs.Receiver.{arrived_at, cumulative, is_new, next_read}
+use Rattle.sctp_model.specs.Changes
+use Rattle.sctp_model.specs.Reports.{report_of, reports, distances, gap_blocks}
+use Rattle.sctp_model.specs.Log
+use Rattle.sctp_model.specs.Log.{LogEntry, SlotReceived, SkipReceived, SackMade, is_seen, arrived_new, is_skipped, seen_count, duplicates_in, log_of, made_in, Made, MadeData, MadeForward, MadeSack, is_acknowledged_in, taken_in, reported_by}
+use Rattle.sctp_model.specs.Steps.{History, world_of, IsRun, after}
+use Rattle.sctp_model.specs.Contents.{SackContents, cumulative_tsn, contents_in}
+use Rattle.sctp_model.specs.Laws.{IsSetup, OnEveryRun, AcknowledgedArrived, AcknowledgedIsReported, SacksSay, blocks_by}
+use Rattle.sctp_model.proofs.receiver.Arrivals.{Heard, heard-run, seen_by, seen-below, arrived-beyond, cumulative_is_seen}
+use Rattle.sctp_model.proofs.sender.SenderRun.{sane-run, fold-keeps}
+use Rattle.sctp_model.proofs.sender.Moves
+use Rattle.sctp_model.proofs.sender.Network
+use Rattle.sctp_lists.proofs.Cases.{or-split}
+use Rattle.sctp_lists.proofs.Getting.{length-numbered, numbered-at, get-last}
+use Rattle.sctp_lists.proofs.Cases.{or-right}
+
+-- Only what arrived or was skipped is acknowledged.
+
+-- ## A SACK reports what was seen
+
+any-take : {A : Type 0} (t : A → Bool) (n : ℕ) (xs : List A) → list_any t (take n xs) ≡ true → list_any t xs ≡ true
+any-take t zero [] e = cc
+any-take t zero (x ∷ xs) e = cc
+any-take t (suc n) [] e = cc
+any-take t (suc n) (x ∷ xs) e = step (t x) e (λ h. any-take t n xs h)
+  where
+    step : (b : Bool) → (b || list_any t (take n xs)) ≡ true → (list_any t (take n xs) ≡ true → list_any t xs ≡ true) → (b || list_any t xs) ≡ true
+    step true e ih = refl
+    step false e ih = ih e
+
+abbrev covers : ℕ → ℕ → ℕ × ℕ → Bool
+covers c p b = nat_le (c + b.0) (p + 1) && nat_le (p + 1) (c + b.1)
+
+abbrev Hit : ℕ → ℕ → List ℕ → Type 0
+Hit c p ds = (d : ℕ) × (c + d ≡ p + 1) × (list_any (λ k. k == d) ds ≡ true)
+
+-- what a run covers is one of the numbers
+in-runs : (c p : ℕ) (ds : List ℕ) → list_any (covers c p) (runs_of ds) ≡ true → Hit c p ds
+in-runs c p [] e = cc
+in-runs c p (d ∷ ds) e = by_rest (runs_of ds) refl e (λ h. in-runs c p ds h)
+  where
+    here : c + d ≡ p + 1 → Hit c p (d ∷ ds)
+    here e = (d, e, (let z : (d == d) ≡ true = grind (arith, nat_tests) in rw z refl))
+
+    later : Hit c p ds → Hit c p (d ∷ ds)
+    later h = (h.0, h.1, step (d == h.0) (list_any (λ k. k == h.0) ds) h.2)
+      where
+        step : (a b : Bool) → b ≡ true → (a || b) ≡ true
+        step true b e = refl
+        step false b e = e
+
+    exact : covers c p (d, d) ≡ true → Hit c p (d ∷ ds)
+    exact e = let a = both (nat_le (c + d) (p + 1)) (nat_le (p + 1) (c + d)) e in let x = a.0 in let y = a.1 in let l : c + d ≤ p + 1 = grind (arith, nat_tests) in let g : p + 1 ≤ c + d = grind (arith, nat_tests) in here (omega arith)
+
+    wider : (b : ℕ × ℕ) → b.0 ≡ d + 1 → covers c p (d, b.1) ≡ true → (covers c p b ≡ true → Hit c p ds) → Hit c p (d ∷ ds)
+    wider b s e ih = let a = both (nat_le (c + d) (p + 1)) (nat_le (p + 1) (c + b.1)) e in let x = a.0 in let y = a.1 in let l : c + d ≤ p + 1 = grind (arith, nat_tests) in side l y (eq-or-lt_of_le l)
+      where
+        side : c + d ≤ p + 1 → nat_le (p + 1) (c + b.1) ≡ true → (c + d ≡ p + 1) ⊎ (c + d < p + 1) → Hit c p (d ∷ ds)
+        side l y (inl z) = here z
+        side l y (inr z) = let q : c + b.0 ≤ p + 1 = omega (arith, s) in later (ih (and (nat_le (c + b.0) (p + 1)) (nat_le (p + 1) (c + b.1)) (grind (arith, nat_tests)) y))
+
+    by_rest : (bs : List (ℕ × ℕ)) → runs_of ds ≡ bs → list_any (covers c p) (joined d bs) ≡ true → (list_any (covers c p) bs ≡ true → Hit c p ds) → Hit c p (d ∷ ds)
+    by_rest [] f e ih = side (or-split (covers c p (d, d)) false e)
+      where
+        side : (covers c p (d, d) ≡ true) ⊎ (false ≡ true) → Hit c p (d ∷ ds)
+        side (inl h) = exact h
+        side (inr h) = cc
+    by_rest (b ∷ bs) f e ih = step (b.0 == d + 1) refl e
+      where
+        old : covers c p b ≡ true → Hit c p ds
+        old h = ih (ap (λ a. a || list_any (covers c p) bs) h)
+
+        rest : list_any (covers c p) bs ≡ true → Hit c p ds
+        rest h = ih (ors (covers c p b) (list_any (covers c p) bs) h)
+          where
+            ors : (x y : Bool) → y ≡ true → (x || y) ≡ true
+            ors true y h = refl
+            ors false y h = h
+
+        joint : b.0 ≡ d + 1 → (covers c p (d, b.1) ≡ true) ⊎ (list_any (covers c p) bs ≡ true) → Hit c p (d ∷ ds)
+        joint s (inl h) = wider b s h old
+        joint s (inr h) = later (rest h)
+
+        apart : (covers c p (d, d) ≡ true) ⊎ ((covers c p b || list_any (covers c p) bs) ≡ true) → Hit c p (d ∷ ds)
+        apart (inl h) = exact h
+        apart (inr h) = later (ih h)
+
+        step : (t : Bool) → (b.0 == d + 1) ≡ t → list_any (covers c p) (if t then (d, b.1) ∷ bs else (d, d) ∷ b ∷ bs) ≡ true → Hit c p (d ∷ ds)
+        step true s e = joint (grind (arith, nat_tests)) (or-split (covers c p (d, b.1)) (list_any (covers c p) bs) e)
+        step false s e = apart (or-split (covers c p (d, d)) (covers c p b || list_any (covers c p) bs) e)
+
+any-kept : (q : ℕ → Bool) (d from count : ℕ) → list_any (λ k. k == d) (kept q from count) ≡ true → q d ≡ true
+any-kept q d from zero e = cc
+any-kept q d from (suc count) e = step (q from) refl e (λ h. any-kept q d (from + 1) count h)
+  where
+    step : (b : Bool) → q from ≡ b → list_any (λ k. k == d) (if b then from ∷ kept q (from + 1) count else kept q (from + 1) count) ≡ true → (list_any (λ k. k == d) (kept q (from + 1) count) ≡ true → q d ≡ true) → q d ≡ true
+    step true f e ih = side (or-split (from == d) (list_any (λ k. k == d) (kept q (from + 1) count)) e)
+      where
+        side : ((from == d) ≡ true) ⊎ (list_any (λ k. k == d) (kept q (from + 1) count) ≡ true) → q d ≡ true
+        side (inl h) = let z : from ≡ d = grind (arith, nat_tests) in ap q (sym z) ∙ f
+        side (inr h) = ih h
+    step false f e ih = ih e
+
+-- what the next SACK reports was seen
+report-seen : (w : World) (credit p : ℕ) → reports (report_of w credit) p ≡ true → seen_by w p ≡ true
+report-seen w credit p e = step (or-split (nat_lt p (cumulative w)) (list_any (covers (cumulative w) p) (gap_blocks w)) e)
+  where
+    step : (nat_lt p (cumulative w) ≡ true) ⊎ (list_any (covers (cumulative w) p) (gap_blocks w) ≡ true) → seen_by w p ≡ true
+    step (inl h) = seen-below w p (grind (arith, nat_tests))
+    step (inr h) =
+        let r = in-runs (cumulative w) p (distances w) (any-take (covers (cumulative w) p) 16379 (runs_of (distances w)) h) in
+        let a : arrived_at w (cumulative w + r.0 - 1) ≡ true = any-kept (λ d. arrived_at w (cumulative w + d - 1)) r.0 1 (min 65535 (length w.slots - cumulative w)) r.2 in
+        let same : cumulative w + r.0 - 1 ≡ p = omega (arith, r.1) in
+        or-right (nat_lt p w.skipped) (arrived_at w p) (ap (arrived_at w) (sym same) ∙ a)
+
+-- ## What was seen stays seen
+
+seen-slots : (ps : List ℕ) (log : List LogEntry) (p : ℕ) → is_seen log p ≡ true → is_seen (Log.slots_come ps log) p ≡ true
+seen-slots [] log p e = e
+seen-slots (q ∷ ps) log p e = seen-slots ps (SlotReceived q ∷ log) p (ors (q == p) (is_seen log p) e)
+  where
+    ors : (x y : Bool) → y ≡ true → (x || y) ≡ true
+    ors true y h = refl
+    ors false y h = h
+
+seen-received : (o : Option Made) (log : List LogEntry) (p : ℕ) → is_seen log p ≡ true → is_seen (Log.datagram_comes o log) p ≡ true
+seen-received None log p e = e
+seen-received (Some (MadeData ps)) log p e = seen-slots ps log p e
+seen-received (Some (MadeForward upto names)) log p e = ors (nat_le p upto) (is_seen log p) e
+  where
+    ors : (x y : Bool) → y ≡ true → (x || y) ≡ true
+    ors true y h = refl
+    ors false y h = h
+seen-received (Some MadeSack) log p e = e
+
+pub seen-stays : (setup : Setup) (older : History) (event : Event) (r : Reply) (p : ℕ) → is_seen (log_of setup older) p ≡ true → is_seen (log_of setup ((event, r) ∷ older)) p ≡ true
+seen-stays setup older (E.Arrive k) r p e = seen-received (slice_get (made_in setup older) k) (log_of setup older) p e
+seen-stays setup older (E.Open s) r p e = e
+seen-stays setup older (E.Mode s u v x) r p e = e
+seen-stays setup older (E.Write s x y) r p e = e
+seen-stays setup older (E.Start x) r p e = e
+seen-stays setup older (E.Send x) r p e = e
+seen-stays setup older (E.Resend x) r p e = e
+seen-stays setup older (E.Expire x) r p e = e
+seen-stays setup older (E.Tail x) r p e = e
+seen-stays setup older (E.Late x) r p e = e
+seen-stays setup older (E.Abandon x) r p e = e
+seen-stays setup older (E.Skip x y) r p e = e
+seen-stays setup older (E.Ack x) r p e = e
+seen-stays setup older (E.Acked x) r p e = e
+seen-stays setup older (E.Read x) r p e = e
+
+-- ## The invariant
+
+abbrev pub SackFits : List LogEntry → Datagram → Type 0
+SackFits log (Sack r) = (p : ℕ) → reports r p ≡ true → is_seen log p ≡ true
+SackFits log d = Unit {0}
+
+abbrev pub SacksFit : List LogEntry → List Datagram → Type 0
+SacksFit log [] = Unit {0}
+SacksFit log (d ∷ ds) = SackFits log d × SacksFit log ds
+
+sacks-more : (old new : List LogEntry) → ((p : ℕ) → is_seen old p ≡ true → is_seen new p ≡ true) → (ds : List Datagram) → SacksFit old ds → SacksFit new ds
+sacks-more old new more [] f = tt
+sacks-more old new more (d ∷ ds) f = (one d f.0, sacks-more old new more ds f.1)
+  where
+    one : (d : Datagram) → SackFits old d → SackFits new d
+    one (Sack r) g = λ p e. more p (g p e)
+    one (Data ps) g = tt
+    one (Forward upto names) g = tt
+
+sacks-append : (log : List LogEntry) (ds es : List Datagram) → SacksFit log ds → SacksFit log es → SacksFit log (ds ++ es)
+sacks-append log [] es f g = g
+sacks-append log (d ∷ ds) es f g = (f.0, sacks-append log ds es f.1 g)
+
+pub sack-at : (log : List LogEntry) (ds : List Datagram) (k : ℕ) (d : Datagram) → SacksFit log ds → slice_get ds k ≡ Some d → SackFits log d
+sack-at log [] k d f e = cc
+sack-at log (c ∷ ds) zero d f e = let z : c ≡ d = cc in subst (SackFits log) z f.0
+sack-at log (c ∷ ds) (suc k) d f e = sack-at log ds k d f.1 e
+
+sacks-sent : (log : List LogEntry) (w : World) (now : ℕ) (o : Option ℕ) → SacksFit log w.network → SacksFit log (Changes.sent_from (Changes.started w now) o).network
+sacks-sent log w now None f = f
+sacks-sent log w now (Some n) f =
+    let u = Changes.started w now in
+    let v = Changes.fragments_sent u in
+    sacks-append log v.network (Data (numbers_from (length u.slots) (length v.slots - length u.slots)) ∷ []) (subst (SacksFit log) (sym (Network.same-network u)) f) (tt, tt)
+
+sacks-after : (setup : Setup) (older : History) (e : Event) (log : List LogEntry) → ((p : ℕ) → seen_by (world_of setup older) p ≡ true → is_seen log p ≡ true) → SacksFit log (world_of setup older).network → SacksFit log (after (world_of setup older) e).network
+sacks-after setup older (E.Open s) log h f = f
+sacks-after setup older (E.Mode s u v x) log h f = f
+sacks-after setup older (E.Write s x y) log h f = subst (SacksFit log) (sym (Network.network-written (world_of setup older) s x y)) f
+sacks-after setup older (E.Start x) log h f = f
+sacks-after setup older (E.Send now) log h f = sacks-sent log (world_of setup older) now (Messages.front (world_of setup older)) f
+sacks-after setup older (E.Resend tsn) log h f = sacks-append log (world_of setup older).network (Data (Messages.place_of (world_of setup older) tsn ∷ []) ∷ []) f (tt, tt)
+sacks-after setup older (E.Expire now) log h f = subst (SacksFit log) (sym (Network.network-expired (world_of setup older) (Changes.expiring (world_of setup older) now))) f
+sacks-after setup older (E.Tail now) log h f = subst (SacksFit log) (sym (Network.network-tail (world_of setup older) (Changes.tailing (world_of setup older) now))) f
+sacks-after setup older (E.Late now) log h f = subst (SacksFit log) (sym (Network.network-late (Changes.late_messages (world_of setup older) now) (world_of setup older))) f
+sacks-after setup older (E.Abandon tsn) log h f = subst (SacksFit log) (sym (Network.network-abandoned (world_of setup older) (Messages.message_of (world_of setup older) (Messages.place_of (world_of setup older) tsn)))) f
+sacks-after setup older (E.Skip upto names) log h f = sacks-append log (world_of setup older).network (Forward (Messages.place_of (world_of setup older) upto) names.items ∷ []) f (tt, tt)
+sacks-after setup older (E.Ack credit) log h f = sacks-append log (world_of setup older).network (Sack (report_of (world_of setup older) credit) ∷ []) f (λ p e. h p (report-seen (world_of setup older) credit p e), tt)
+sacks-after setup older (E.Arrive k) log h f = subst (SacksFit log) (sym (Network.same-received (world_of setup older) (slice_get (world_of setup older).network k)).network) f
+sacks-after setup older (E.Acked k) log h f = subst (SacksFit log) (sym (Network.same-taken (world_of setup older) (slice_get (world_of setup older).network k)).network) f
+sacks-after setup older (E.Read s) log h f = subst (SacksFit log) (sym (Network.same-read (world_of setup older) s (next_read (world_of setup older) s)).network) f
+
+pub sacks-run : (setup : Setup) (h : History) → IsSetup setup → IsRun setup h → SacksFit (log_of setup h) (world_of setup h).network
+sacks-run setup [] is run = tt
+sacks-run setup (entry ∷ older) is run =
+    let g = heard-run setup older is run.1.1 in
+    sacks-after setup older entry.0 (log_of setup (entry ∷ older)) (λ p e. seen-stays setup older entry.0 entry.1 p (g.seen p ∙ e))
+    (sacks-more (log_of setup older) (log_of setup (entry ∷ older)) (λ p e. seen-stays setup older entry.0 entry.1 p e) (world_of setup older).network (sacks-run setup older is run.1.1))
+
+-- ## What is acknowledged was seen
+
+seen-acknowledged : (setup : Setup) (h : History) (p : ℕ) → IsSetup setup → IsRun setup h → is_acknowledged_in setup h p ≡ true → is_seen (log_of setup h) p ≡ true
+seen-acknowledged setup [] p is run e = cc
+seen-acknowledged setup ((E.Acked k, r) ∷ older) p is run e = step (slice_get (world_of setup older).network k) refl (or-split (is_acknowledged_in setup older p) (reported_by (slice_get (world_of setup older).network k) p) e) (λ h. seen-acknowledged setup older p is run.1.1 h)
+  where
+    new : (o : Option Datagram) → slice_get (world_of setup older).network k ≡ o → reported_by o p ≡ true → is_seen (log_of setup older) p ≡ true
+    new None f e = cc
+    new (Some (Data ps)) f e = cc
+    new (Some (Forward upto names)) f e = cc
+    new (Some (Sack r)) f e = sack-at (log_of setup older) (world_of setup older).network k (Sack r) (sacks-run setup older is run.1.1) f p e
+
+    step : (o : Option Datagram) → slice_get (world_of setup older).network k ≡ o → (is_acknowledged_in setup older p ≡ true) ⊎ (reported_by (slice_get (world_of setup older).network k) p ≡ true) → (is_acknowledged_in setup older p ≡ true → is_seen (log_of setup older) p ≡ true) → is_seen (log_of setup older) p ≡ true
+    step o f (inl h) ih = ih h
+    step o f (inr h) ih = new (slice_get (world_of setup older).network k) refl h
+seen-acknowledged setup ((E.Arrive k, r) ∷ older) p is run e = seen-stays setup older (E.Arrive k) r p (seen-acknowledged setup older p is run.1.1 e)
+seen-acknowledged setup ((E.Open s, r) ∷ older) p is run e = seen-acknowledged setup older p is run.1.1 e
+seen-acknowledged setup ((E.Mode s u v x, r) ∷ older) p is run e = seen-acknowledged setup older p is run.1.1 e
+seen-acknowledged setup ((E.Write s x y, r) ∷ older) p is run e = seen-acknowledged setup older p is run.1.1 e
+seen-acknowledged setup ((E.Start x, r) ∷ older) p is run e = seen-acknowledged setup older p is run.1.1 e
+seen-acknowledged setup ((E.Send x, r) ∷ older) p is run e = seen-acknowledged setup older p is run.1.1 e
+seen-acknowledged setup ((E.Resend x, r) ∷ older) p is run e = seen-acknowledged setup older p is run.1.1 e
+seen-acknowledged setup ((E.Expire x, r) ∷ older) p is run e = seen-acknowledged setup older p is run.1.1 e
+seen-acknowledged setup ((E.Tail x, r) ∷ older) p is run e = seen-acknowledged setup older p is run.1.1 e
+seen-acknowledged setup ((E.Late x, r) ∷ older) p is run e = seen-acknowledged setup older p is run.1.1 e
+seen-acknowledged setup ((E.Abandon x, r) ∷ older) p is run e = seen-acknowledged setup older p is run.1.1 e
+seen-acknowledged setup ((E.Skip x y, r) ∷ older) p is run e = seen-acknowledged setup older p is run.1.1 e
+seen-acknowledged setup ((E.Ack x, r) ∷ older) p is run e = seen-acknowledged setup older p is run.1.1 e
+seen-acknowledged setup ((E.Read x, r) ∷ older) p is run e = seen-acknowledged setup older p is run.1.1 e
+
+-- what was seen was made
+pub seen-made : (w : World) (log : List LogEntry) (p : ℕ) → Heard w log → is_seen log p ≡ true → p < length w.slots
+seen-made w log p g e = step (or-split (nat_lt p w.skipped) (arrived_at w p) (sym (g.seen p) ∙ e)) (cases_lt p (length w.slots))
+  where
+    step : (nat_lt p w.skipped ≡ true) ⊎ (arrived_at w p ≡ true) → (p < length w.slots) ⊎ (length w.slots ≤ p) → p < length w.slots
+    step h (inl l) = l
+    step (inl h) (inr o) = let z : p < w.skipped = grind (arith, nat_tests) in omega (arith, g.short)
+    step (inr h) (inr o) = absurd (not_both (sym (arrived-beyond w p o) ∙ h))
+
+pub acknowledged_arrived : OnEveryRun AcknowledgedArrived
+acknowledged_arrived setup h is run p e =
+    let g = heard-run setup h is run in
+    let s = seen-acknowledged setup h p is run e in (
+      seen-made (world_of setup h) (log_of setup h) p g s,
+      ap (λ b. b || is_skipped (log_of setup h) p) (sym (g.arrived p)) ∙ ap (λ b. arrived_at (world_of setup h) p || b) (g.covered p)
+          ∙ swapped (arrived_at (world_of setup h) p) (nat_lt p (world_of setup h).skipped) (sym (g.seen p) ∙ s),
+    )
+  where
+    swapped : (a b : Bool) → (b || a) ≡ true → (a || b) ≡ true
+    swapped true b e = refl
+    swapped false true e = refl
+    swapped false false e = e
+
+-- ## What is acknowledged is what the SACKs taken report
+
+record Acks (setup : Setup) (h : History) (w : World) : Type 0 where
+  slots : (p : ℕ) → p < length w.slots → (Messages.slot_at w p).acknowledged ≡ is_acknowledged_in setup h p
+  taken : w.taken ≡ taken_in setup h
+
+acks-quiet : (setup : Setup) (h : History) (w v : World) → Moves.Quiet w v → ((p : ℕ) → is_acknowledged_in setup h p ≡ true → p < length w.slots) → Acks setup h w → Acks setup h v
+acks-quiet setup h w v q made a = record { slots = λ p lt. step p lt (cases_lt p (length w.slots)); taken = q.taken ∙ a.taken }
+  where
+    step : (p : ℕ) → p < length v.slots → (p < length w.slots) ⊎ (length w.slots ≤ p) → (Messages.slot_at v p).acknowledged ≡ is_acknowledged_in setup h p
+    step p lt (inl l) = q.acknowledged p l ∙ a.slots p l
+    step p lt (inr g) = q.fresh p g lt ∙ sym (fails (is_acknowledged_in setup h p) (λ e. absurd (omega (arith, made p e))))
+
+-- the receiver's events acknowledge nothing
+pub record AsAcknowledged (w v : World) : Type 0 where
+  pub slots : (p : ℕ) → (Messages.slot_at v p).acknowledged ≡ (Messages.slot_at w p).acknowledged
+  pub count : length v.slots ≡ length w.slots
+  pub taken : v.taken ≡ w.taken
+
+acks-same : (setup : Setup) (h : History) (w v : World) → AsAcknowledged w v → Acks setup h w → Acks setup h v
+acks-same setup h w v s a = record { slots = λ p lt. s.slots p ∙ a.slots p (omega (arith, s.count)); taken = s.taken ∙ a.taken }
+
+as-received : (w : World) (p : ℕ) → AsAcknowledged w (Changes.slot_received w p)
+as-received w p = step (is_new w p)
+  where
+    noted : (v : World) (n : ℕ) → AsAcknowledged w v → AsAcknowledged w (Changes.whole_noted v n)
+    noted v n a = by_whole (Changes.becomes_whole v n)
+      where
+        by_whole : (b : Bool) → AsAcknowledged w (if b then Changes.stream_changed v (Messages.message_at v n).stream (Changes.with_whole n) else v)
+        by_whole true = record { slots = a.slots; count = a.count; taken = a.taken }
+        by_whole false = a
+
+    step : (b : Bool) → AsAcknowledged w (if b then Changes.whole_noted (record w { slots = changed Changes.mark_arrived p w.slots }) (Messages.message_of w p) else record w { duplicates = w.duplicates ++ p ∷ [] })
+    step true = noted (record w { slots = changed Changes.mark_arrived p w.slots }) (Messages.message_of w p) (record { slots = λ k. changed-keeps Changes.mark_arrived (λ x. x.acknowledged) (λ x. refl) p k w.slots Messages.no_slot; count = length-changed Changes.mark_arrived p w.slots; taken = refl })
+    step false = record { slots = λ k. refl; count = refl; taken = refl }
+
+as-then : (w v u : World) → AsAcknowledged w v → AsAcknowledged v u → AsAcknowledged w u
+as-then w v u f g = record { slots = λ p. g.slots p ∙ f.slots p; count = g.count ∙ f.count; taken = g.taken ∙ f.taken }
+
+pub as-datagram : (w : World) (o : Option Datagram) → AsAcknowledged w (Changes.datagram_received w o)
+as-datagram w None = record { slots = λ k. refl; count = refl; taken = refl }
+as-datagram w (Some (Data ps)) = fold-keeps (AsAcknowledged w) Changes.slot_received (λ v p a. as-then w v (Changes.slot_received v p) a (as-received v p)) ps w (record { slots = λ k. refl; count = refl; taken = refl })
+as-datagram w (Some (Forward upto names)) = step (Changes.skip_counts w upto)
+  where
+    step : (b : Bool) → AsAcknowledged w (if b then record w { skipped = upto + 1; streams = map (Changes.named_by w names) w.streams } else w)
+    step true = record { slots = λ k. refl; count = refl; taken = refl }
+    step false = record { slots = λ k. refl; count = refl; taken = refl }
+as-datagram w (Some (Sack r)) = record { slots = λ k. refl; count = refl; taken = refl }
+
+pub as-read : (w : World) (s : ℕ) (o : Option ℕ) → AsAcknowledged w (Changes.read_of w s o)
+as-read w s None = record { slots = λ k. refl; count = refl; taken = refl }
+as-read w s (Some n) = record { slots = λ k. refl; count = refl; taken = refl }
+
+acks-taken : (setup : Setup) (older : History) (w : World) (k : ℕ) (r : Reply) → w ≡ world_of setup older → Acks setup older w → Acks setup ((E.Acked k, r) ∷ older) (Changes.sack_taken w (slice_get w.network k))
+acks-taken setup older w k r same a = step (slice_get w.network k) (ap (λ v. slice_get v.network k) same)
+  where
+    ors : (b : Bool) → (b || false) ≡ b
+    ors true = refl
+    ors false = refl
+
+    zeros : (n : ℕ) → max n 0 ≡ n
+    zeros n = omega arith
+
+    step : (o : Option Datagram) → o ≡ slice_get (world_of setup older).network k → Acks setup ((E.Acked k, r) ∷ older) (Changes.sack_taken w o)
+    step None e = record { slots = λ p lt. a.slots p lt ∙ sym (ap (λ o. is_acknowledged_in setup older p || reported_by o p) (sym e) ∙ ors (is_acknowledged_in setup older p)); taken = a.taken ∙ sym (ap (λ o. max (taken_in setup older) (Log.cumulative_in o)) (sym e) ∙ zeros (taken_in setup older)) }
+    step (Some (Data ps)) e = record { slots = λ p lt. a.slots p lt ∙ sym (ap (λ o. is_acknowledged_in setup older p || reported_by o p) (sym e) ∙ ors (is_acknowledged_in setup older p)); taken = a.taken ∙ sym (ap (λ o. max (taken_in setup older) (Log.cumulative_in o)) (sym e) ∙ zeros (taken_in setup older)) }
+    step (Some (Forward upto names)) e = record { slots = λ p lt. a.slots p lt ∙ sym (ap (λ o. is_acknowledged_in setup older p || reported_by o p) (sym e) ∙ ors (is_acknowledged_in setup older p)); taken = a.taken ∙ sym (ap (λ o. max (taken_in setup older) (Log.cumulative_in o)) (sym e) ∙ zeros (taken_in setup older)) }
+    step (Some (Sack x)) e = record {
+      slots = λ p lt.
+          let lt' : p < length w.slots = omega (arith, lt, length-numbered (Changes.acknowledged_by x) 0 w.slots) in
+          ap (λ y. y.acknowledged) (numbered-at (Changes.acknowledged_by x) 0 p w.slots Messages.no_slot lt')
+          ∙ ap (λ i. (Messages.slot_at w p).acknowledged || reports x i) (zero-add p)
+          ∙ ap (λ b. b || reports x p) (a.slots p lt')
+          ∙ ap (λ o. is_acknowledged_in setup older p || reported_by o p) e;
+      taken = ap (λ c. max c x.cumulative) a.taken ∙ ap (λ o. max (taken_in setup older) (Log.cumulative_in o)) e;
+    }
+
+acks-step : (setup : Setup) (older : History) (e : Event) (r : Reply) → IsSetup setup → IsRun setup older → Acks setup older (world_of setup older) → Acks setup ((e, r) ∷ older) (after (world_of setup older) e)
+acks-step setup older e r is run a = by_event e
+  where
+    made : (p : ℕ) → is_acknowledged_in setup older p ≡ true → p < length (world_of setup older).slots
+    made p h = seen-made (world_of setup older) (log_of setup older) p (heard-run setup older is run) (seen-acknowledged setup older p is run h)
+
+    quiet : (v : World) → Moves.Quiet (world_of setup older) v → Acks setup older v
+    quiet v q = acks-quiet setup older (world_of setup older) v q made a
+
+    same : (v : World) → AsAcknowledged (world_of setup older) v → Acks setup older v
+    same v s = acks-same setup older (world_of setup older) v s a
+
+    by_event : (e : Event) → Acks setup ((e, r) ∷ older) (after (world_of setup older) e)
+    by_event (E.Open s) = record { slots = a.slots; taken = a.taken }
+    by_event (E.Mode s u v x) = record { slots = a.slots; taken = a.taken }
+    by_event (E.Write s x y) = let b = quiet (after (world_of setup older) (E.Write s x y)) (Moves.quiet-written setup (world_of setup older) s x y (sane-run setup older run)) in record { slots = b.slots; taken = b.taken }
+    by_event (E.Start now) = let b = quiet (after (world_of setup older) (E.Start now)) (Moves.quiet-started (world_of setup older) now) in record { slots = b.slots; taken = b.taken }
+    by_event (E.Send now) = let b = quiet (after (world_of setup older) (E.Send now)) (Moves.quiet-sent setup (world_of setup older) now (Messages.front (world_of setup older)) (sane-run setup older run)) in record { slots = b.slots; taken = b.taken }
+    by_event (E.Resend x) = record { slots = a.slots; taken = a.taken }
+    by_event (E.Expire now) = let b = quiet (after (world_of setup older) (E.Expire now)) (Moves.quiet-expire setup (world_of setup older) now (Messages.front (world_of setup older)) (sane-run setup older run)) in record { slots = b.slots; taken = b.taken }
+    by_event (E.Tail now) = let b = quiet (after (world_of setup older) (E.Tail now)) (Moves.quiet-tail setup (world_of setup older) (Changes.tailing (world_of setup older) now) (sane-run setup older run)) in record { slots = b.slots; taken = b.taken }
+    by_event (E.Late now) = let b = quiet (after (world_of setup older) (E.Late now)) (Moves.quiet-lates setup (world_of setup older) now (sane-run setup older run)) in record { slots = b.slots; taken = b.taken }
+    by_event (E.Abandon tsn) = let b = quiet (after (world_of setup older) (E.Abandon tsn)) (Moves.quiet-abandoned setup (world_of setup older) (Messages.message_of (world_of setup older) (Messages.place_of (world_of setup older) tsn)) (sane-run setup older run)) in record { slots = b.slots; taken = b.taken }
+    by_event (E.Skip upto names) = record { slots = a.slots; taken = a.taken }
+    by_event (E.Ack credit) = record { slots = a.slots; taken = a.taken }
+    by_event (E.Arrive k) = let b = same (after (world_of setup older) (E.Arrive k)) (as-datagram (world_of setup older) (slice_get (world_of setup older).network k)) in record { slots = b.slots; taken = b.taken }
+    by_event (E.Acked k) = acks-taken setup older (world_of setup older) k r refl a
+    by_event (E.Read s) = let b = same (after (world_of setup older) (E.Read s)) (as-read (world_of setup older) s (next_read (world_of setup older) s)) in record { slots = b.slots; taken = b.taken }
+
+acks-run : (setup : Setup) (h : History) → IsSetup setup → IsRun setup h → Acks setup h (world_of setup h)
+acks-run setup [] is run = record { slots = λ p lt. absurd (omega arith); taken = refl }
+acks-run setup (entry ∷ older) is run = acks-step setup older entry.0 entry.1 is run.1.1 (acks-run setup older is run.1.1)
+
+pub acknowledged_is_reported : OnEveryRun AcknowledgedIsReported
+acknowledged_is_reported setup h is run = let a = acks-run setup h is run in (a.slots, a.taken)
+
+-- ## What a SACK says
+
+pub sacks_say : OnEveryRun SacksSay
+sacks_say setup h is run credit =
+    let w = world_of setup h in
+    let log = log_of setup h in
+    let g = heard-run setup h is run in
+    let c : cumulative w ≡ seen_count log (length w.slots) = cumulative_is_seen setup h is run in
+    let blocks : gap_blocks w ≡ blocks_by w log =
+    ap (λ q. take 16379 (runs_of (kept (λ d. arrived_at w (q + d - 1)) 1 (min 65535 (length w.slots - q))))) c
+    ∙ ap (λ l. take 16379 (runs_of l)) (kept-same (λ d. arrived_at w (seen_count log (length w.slots) + d - 1)) (λ d. arrived_new log (seen_count log (length w.slots) + d - 1)) 1 (min 65535 (length w.slots - seen_count log (length w.slots))) (λ k a b. (g.arrived (seen_count log (length w.slots) + k - 1)))) in
+    ap (contents_in (after w (E.Ack credit))) (get-last w.network (Sack (report_of w credit)))
+    ∙ ap (λ q. Some (SackContents (cumulative_tsn w q) credit (gap_blocks w) (map (Messages.tsn_of w) (take (16379 - length (gap_blocks w)) w.duplicates)))) c
+    ∙ ap (λ b. Some (SackContents (cumulative_tsn w (seen_count log (length w.slots))) credit b (map (Messages.tsn_of w) (take (16379 - length b) w.duplicates)))) blocks
+    ∙ ap (λ d. Some (SackContents (cumulative_tsn w (seen_count log (length w.slots))) credit (blocks_by w log) (map (Messages.tsn_of w) (take (16379 - length (blocks_by w log)) d)))) g.duplicates

@@ -1,0 +1,217 @@
+use Rattle.std.proofs.Common.{◌≡◌, ℕ, zero, suc, ◌+◌, ◌-◌, ◌*◌, ◌/◌, ◌<◌, ◌≤◌, Bool, true, false, List, [], ◌∷◌, length, map, Option, Some, None, refl, ap, sym, ◌∙◌, inl, inr, arith}
+use Rattle.std.specs.Prelude.{◌⊎◌, if◌then◌else◌, nat_le, slice_index_or}
+use Rattle.std.proofs.lemmas.Bool.Decides.{nat_tests}
+use Rattle.sctp_lists.specs.Kept.{kept, always, numbers_from, total_over}
+use Rattle.sctp_lists.specs.Lists.{pieces}
+use Rattle.sctp_lists.proofs.KeptLemmas.{kept-snoc_in}
+use Rattle.sctp_lists.proofs.Getting.{length-mapped}
+use Rattle.sctp_lists.proofs.Totals.{length-numbers, total-append, total-kept_same}
+use Rattle.sctp_chunks.specs.declared.chunk.chunk_payload_data.ChunkPayloadData.{ChunkPayloadData}
+use Rattle.sctp_model.specs.declared.event.Event.TheVariants as E
+use Rattle.sctp_model.specs.Reply as R
+use Rattle.sctp_model.specs.World.{Setup, World}
+use Rattle.sctp_model.specs.Messages
+use Rattle.sctp_model.specs.Changes
+use Rattle.sctp_model.specs.Contents.{chunk_at, contents_in, datagram, DataContents}
+use Rattle.sctp_model.specs.Steps.{History, world_of, IsRun, reply_to, after, sent_reply}
+use Rattle.sctp_model.specs.Laws.{IsSetup, OnEveryRun, WithinLimit, FilledToLimit, data_length, packet_length, next_fragment}
+use Rattle.sctp_model.proofs.sender.Shape.{Shape, shape, sent, slotted, front_of}
+use Rattle.sctp_model.proofs.sender.Sender.{slot-old, slot-new}
+use Rattle.sctp_model.proofs.sender.SenderRun.{sane-run}
+use Rattle.sctp_model.proofs.sender.Shapes
+use Rattle.sctp_model.proofs.sender.Sends.{takes_pending}
+
+-- A datagram of several fragments is within the limit, and the next fragment would not fit.
+
+-- ## The length of what took slots
+
+-- the fragment in the slot at this place
+abbrev data_in : Shape → ℕ → List ℕ
+data_in x p = slice_index_or (pieces (length (x.message (x.slot p).message).bytes) x.size (x.message (x.slot p).message).bytes) (x.slot p).fragment []
+
+-- the length of a packet of the chunks of all slots from this one on
+abbrev used_from : Shape → ℕ → ℕ
+used_from x start = 12 + total_over (λ p. data_length (data_in x p)) (numbers_from start (x.slots - start))
+
+-- the length of the next fragment of message n
+abbrev next_of : World → ℕ → ℕ
+next_of w n = data_length (next_fragment w n)
+
+chunk-is : (b : ℕ) → Changes.chunk_length b ≡ 16 + (b + 3) / 4 * 4
+chunk-is b = omega arith
+
+used-more : (w : World) (n start : ℕ) → start ≤ length w.slots → used_from (slotted (shape w) n false) start ≡ used_from (shape w) start + next_of w n
+used-more w n start le =
+    let x = shape w in
+    let y = slotted x n false in
+    let f : ℕ → ℕ = λ p. data_length (data_in y p) in
+    let count : x.slots + 1 - start ≡ suc (x.slots - start) = omega (arith, le) in
+    let last : x.slots ≡ start + (x.slots - start) = omega (arith, le) in
+    let all = ap (λ c. total_over f (kept always start c)) count
+    ∙ ap (total_over f) (kept-snoc_in always start (x.slots - start) x.slots last refl)
+    ∙ total-append f (kept always start (x.slots - start)) (x.slots ∷ []) in
+    let old = total-kept_same f (λ p. data_length (data_in x p)) always start (x.slots - start) (λ k a b. ap (λ s. data_length (slice_index_or (pieces (length (x.message s.message).bytes) x.size (x.message s.message).bytes) s.fragment [])) (slot-old x n k false (omega (arith, le)))) in
+    let new : f x.slots ≡ next_of w n = ap (λ s. data_length (slice_index_or (pieces (length (x.message s.message).bytes) x.size (x.message s.message).bytes) s.fragment [])) (slot-new x n false) in
+    omega (arith, all, old, new)
+
+-- ## As a datagram is filled
+
+-- a record in which this much is used of a datagram that begins with this slot
+record Filling (setup : Setup) (start used : ℕ) (v : World) : Type 0 where
+  own : v.setup ≡ setup
+  begun : start ≤ length v.slots
+  is : used ≡ used_from (shape v) start
+
+filling-more : (setup : Setup) (start used : ℕ) (v : World) (n : ℕ) → Filling setup start used v → Filling setup start (Changes.plus used (Changes.next_length_of v (Some n))) (Changes.with_slot v n false)
+filling-more setup start used v n f = record {
+  own = f.own;
+  begun = omega (arith, f.begun, ap (λ y. y.slots) (Shapes.shape-slot v n false));
+  is = omega (arith, f.is, ap (λ y. used_from y start) (Shapes.shape-slot v n false), used-more v n start f.begun, chunk-is (length (next_fragment v n)));
+}
+
+-- what filling makes of a record of which this much was used
+record Filled (setup : Setup) (start used : ℕ) (v u : World) : Type 0 where
+  length_now : ℕ
+  filling : Filling setup start length_now u
+  kept_within : (length_now ≤ setup.limit) ⊎ ((length_now ≡ used) × (length u.slots ≡ length v.slots))
+  full : (n : ℕ) → Messages.front u ≡ Some n → setup.limit < length_now + next_of u n
+
+fill : (setup : Setup) (start most used : ℕ) (v : World) → Filling setup start used v → setup.limit < used + most → Filled setup start used v (Changes.filled most used v)
+fill setup start zero used v f fuel = record { length_now = used; filling = f; kept_within = inr (refl, refl); full = λ n e. omega (arith, fuel) }
+fill setup start (suc most) used v f fuel = step (λ n g m. fill setup start most (used + more n) (Changes.with_slot v n false) g m) (Messages.front v) refl
+  where
+    more : ℕ → ℕ
+    more n = Changes.chunk_length (length (next_fragment v n))
+
+    limit : v.setup.limit ≡ setup.limit
+    limit = ap (λ t. t.limit) f.own
+
+    Rest : ℕ → Type 0
+    Rest n = Filling setup start (used + more n) (Changes.with_slot v n false) → setup.limit < used + more n + most → Filled setup start (used + more n) (Changes.with_slot v n false) (Changes.filled most (used + more n) (Changes.with_slot v n false))
+
+    low : (n now : ℕ) (P : Type 0) → used + more n ≤ setup.limit → (now ≤ setup.limit) ⊎ ((now ≡ used + more n) × P) → now ≤ setup.limit
+    low n now P fits (inl l) = l
+    low n now P fits (inr e) = omega (arith, e.0, fits)
+
+    test : (n : ℕ) → Rest n → Messages.front v ≡ Some n → (b : Bool) → nat_le (used + more n) v.setup.limit ≡ b
+        → Filled setup start used v (if b then Changes.filled most (used + more n) (Changes.with_slot v n false) else v)
+    test n rest e true t =
+        let fits : used + more n ≤ setup.limit = (let z : used + more n ≤ v.setup.limit = grind (arith, nat_tests) in omega (arith, z, limit)) in
+        let r = rest (filling-more setup start used v n f) (omega (arith, fuel)) in
+        record { length_now = r.length_now; filling = r.filling; kept_within = inl (low n r.length_now _ fits r.kept_within); full = r.full }
+    test n rest e false t = record {
+      length_now = used;
+      filling = f;
+      kept_within = inr (refl, refl);
+      full = λ k g.
+          let same : n ≡ k = cc in
+          let z : v.setup.limit < used + more n = grind (arith, nat_tests) in
+          omega (arith, z, limit, chunk-is (length (next_fragment v n)), ap (next_of v) same);
+    }
+
+    step : ((n : ℕ) → Rest n) → (o : Option ℕ) → Messages.front v ≡ o → Filled setup start used v (if Changes.chunk_fits v used (Changes.next_length_of v o) then Changes.filled most (Changes.plus used (Changes.next_length_of v o)) (Changes.fragment_of_sent v o) else v)
+    step rest None e = record { length_now = used; filling = f; kept_within = inr (refl, refl); full = λ n g. cc }
+    step rest (Some n) e = test n (rest n) e (nat_le (used + more n) v.setup.limit) refl
+
+-- ## A Send
+
+abbrev taken : World → ℕ → World
+taken w now = Changes.fragments_sent (Changes.started w now)
+
+record Sent (setup : Setup) (w : World) (now : ℕ) : Type 0 where
+  length_now : ℕ
+  is : length_now ≡ used_from (shape (taken w now)) (length w.slots)
+  kept_within : (length_now ≤ setup.limit) ⊎ (length (taken w now).slots ≡ length w.slots + 1)
+  full : (n : ℕ) → Messages.front (taken w now) ≡ Some n → setup.limit < length_now + next_of (taken w now) n
+
+send-fills : (setup : Setup) (w : World) (now n : ℕ) → w.setup ≡ setup → Messages.front w ≡ Some n → Sent setup w now
+send-fills setup w now n own e = step (Messages.front (Changes.started w now)) refl (ap front_of (Shapes.shape-started w now) ∙ e)
+  where
+    u : World
+    u = Changes.started w now
+
+    base : Filling setup (length w.slots) 12 u
+    base = record { own = own; begun = omega arith; is = let z : length w.slots - length w.slots ≡ 0 = omega arith in sym (ap (λ c. 12 + total_over (λ p. data_length (data_in (shape u) p)) (numbers_from (length w.slots) c)) z) }
+
+    step : (o : Option ℕ) → Messages.front u ≡ o → o ≡ Some n → Sent setup w now
+    step o f g =
+        let one = filling-more setup (length w.slots) 12 u n base in
+        let limit : u.setup.limit ≡ setup.limit = ap (λ t. t.limit) own in
+        let r = fill setup (length w.slots) u.setup.limit (12 + Changes.chunk_length (length (next_fragment u n))) (Changes.with_slot u n false) one (omega (arith, limit)) in
+        let same : Changes.filled u.setup.limit (12 + Changes.chunk_length (length (next_fragment u n))) (Changes.with_slot u n false) ≡ taken w now =
+        sym (ap (λ o. Changes.filled u.setup.limit (Changes.plus 12 (Changes.next_length_of u o)) (Changes.fragment_of_sent u o)) (f ∙ g)) in
+        record {
+          length_now = r.length_now;
+          is = r.filling.is ∙ ap (λ v. used_from (shape v) (length w.slots)) same;
+          kept_within = low r.length_now (r.length_now ≡ 12 + Changes.chunk_length (length (next_fragment u n))) (Changes.filled u.setup.limit (12 + Changes.chunk_length (length (next_fragment u n))) (Changes.with_slot u n false)) r.kept_within (ap (λ v. length v.slots) same);
+          full = λ k h. omega (arith, r.full k (ap Messages.front same ∙ h), ap (λ v. next_of v k) same);
+        }
+      where
+        low : (now' : ℕ) (P : Type 0) (v : World) → (now' ≤ setup.limit) ⊎ (P × (length v.slots ≡ length (Changes.with_slot u n false).slots)) → length v.slots ≡ length (taken w now).slots → (now' ≤ setup.limit) ⊎ (length (taken w now).slots ≡ length w.slots + 1)
+        low now' P v (inl l) s = inl l
+        low now' P v (inr e) s = inr (omega (arith, s, e.1, ap (λ y. y.slots) (Shapes.shape-slot u n false)))
+
+packet-is : (w : World) (from count : ℕ) → packet_length (map (chunk_at w) (kept always from count)) ≡ 12 + total_over (λ p. data_length (data_in (shape w) p)) (kept always from count)
+packet-is w from zero = refl
+packet-is w from (suc count) = omega (arith, packet-is w (from + 1) count)
+
+-- what a Send made, by its reply
+record Made (setup : Setup) (w : World) (now count : ℕ) (chunks : List ChunkPayloadData) : Type 0 where
+  filled : Sent setup w now
+  many : length chunks ≡ count
+  is : packet_length chunks ≡ used_from (shape (taken w now)) (length w.slots)
+  slots : length (taken w now).slots ≡ length w.slots + count
+  same_front : Messages.front (after w (E.Send now)) ≡ Messages.front (taken w now)
+  same_next : (n : ℕ) → next_of (after w (E.Send now)) n ≡ next_of (taken w now) n
+
+send-made : (setup : Setup) (h : History) → IsSetup setup → IsRun setup h → (now d tsn ssn count : ℕ) (chunks : List ChunkPayloadData) → reply_to (world_of setup h) (E.Send now) ≡ R.Sent d tsn ssn count
+    → datagram (after (world_of setup h) (E.Send now)) d ≡ Some (DataContents chunks) → Made setup (world_of setup h) now count chunks
+send-made setup h is run now d tsn ssn count chunks e m = step (Messages.front w) refl e
+  where
+    w : World
+    w = world_of setup h
+
+    listed : map (chunk_at (after w (E.Send now))) (numbers_from (length w.slots) count) ≡ chunks
+    listed = let z = sym (ap (contents_in (after w (E.Send now))) (takes_pending setup h is run now d tsn ssn count e).1.1) ∙ m in cc
+
+    some : 0 < count
+    some = (takes_pending setup h is run now d tsn ssn count e).0
+
+    step : (o : Option ℕ) → Messages.front w ≡ o → sent_reply w (after w (E.Send now)) o ≡ R.Sent d tsn ssn count → Made setup w now count chunks
+    step None f i = cc
+    step (Some n) f i =
+        let v = taken w now in
+        let made : after w (E.Send now) ≡ Changes.with_data (Changes.started w now) v = ap (Changes.sent_from (Changes.started w now)) f in
+        let c : length (after w (E.Send now)).slots - length w.slots ≡ count = cc in
+        let long : length (after w (E.Send now)).slots ≡ length v.slots = ap (λ y. length y.slots) made in
+        let all : length v.slots - length w.slots ≡ count = omega (arith, c, long) in
+        let same : shape (after w (E.Send now)) ≡ shape v = ap shape made in
+        record {
+          filled = send-fills setup w now n (sane-run setup h run).setup_is f;
+          many = sym (ap length listed) ∙ length-mapped (chunk_at (after w (E.Send now))) (numbers_from (length w.slots) count) ∙ length-numbers (length w.slots) count;
+          is = sym (ap packet_length listed) ∙ packet-is (after w (E.Send now)) (length w.slots) count
+              ∙ ap (λ x. 12 + total_over (λ p. data_length (data_in x p)) (numbers_from (length w.slots) count)) same
+              ∙ ap (λ k. 12 + total_over (λ p. data_length (data_in (shape v) p)) (numbers_from (length w.slots) k)) (sym all);
+          slots = omega (arith, all, some);
+          same_front = ap front_of same;
+          same_next = λ k. ap (λ x. data_length (slice_index_or (pieces (length (x.message k).bytes) x.size (x.message k).bytes) (sent x k) [])) same;
+        }
+
+-- ## The laws
+
+pub within_limit : OnEveryRun WithinLimit
+within_limit setup h is run now d tsn ssn count chunks e m =
+    let s = send-made setup h is run now d tsn ssn count chunks e m in
+    (s.many, λ several. low s several s.filled.kept_within)
+  where
+    w : World
+    w = world_of setup h
+
+    low : (s : Made setup w now count chunks) → 1 < count → (s.filled.length_now ≤ setup.limit) ⊎ (length (taken w now).slots ≡ length w.slots + 1) → packet_length chunks ≤ setup.limit
+    low s several (inl l) = omega (arith, l, s.is, s.filled.is)
+    low s several (inr one) = absurd (omega (arith, one, s.slots, several))
+
+pub filled_to_limit : OnEveryRun FilledToLimit
+filled_to_limit setup h is run now d tsn ssn count n chunks e m f =
+    let s = send-made setup h is run now d tsn ssn count chunks e m in
+    omega (arith, s.filled.full n (sym s.same_front ∙ f), s.is, s.filled.is, s.same_next n)

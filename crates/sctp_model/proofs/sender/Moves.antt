@@ -1,0 +1,237 @@
+-- What the sender's events leave to the receiver as it was.
+use Rattle.std.proofs.Common.{◌≡◌, ℕ, ◌-◌, ◌<◌, ◌≤◌, Bool, true, false, List, [], ◌∷◌, ◌++◌, length, map, Option, Some, None, refl, ap, sym, ◌∙◌, inl, inr, arith, length-append, append-nil, append_assoc}
+use Rattle.std.specs.Prelude.{◌⊎◌, if◌then◌else◌, ◌==◌, ◌&&◌, fold}
+use Rattle.std.proofs.lemmas.Bool.{cases_lt}
+use Rattle.sctp_lists.proofs.More.{length-changed, changed-keeps}
+use Rattle.sctp_lists.specs.Lists.{changed}
+use Rattle.sctp_chunks.specs.declared.chunk.chunk_payload_data.PayloadProtocolIdentifier.{PayloadProtocolIdentifier}
+use Rattle.sctp_model.specs.World.{Setup, Message, Slot, Datagram, Data, World}
+use Rattle.sctp_model.specs.Messages
+use Rattle.sctp_model.specs.Receiver.{arrived_at}
+use Rattle.sctp_model.specs.Changes
+use Rattle.sctp_model.proofs.sender.Shape.{shape, message_part, slotted, abandoned_at, expired_at, written}
+use Rattle.sctp_model.proofs.sender.Shapes
+use Rattle.sctp_model.proofs.sender.Fronts.{front-takes, of-unsent}
+use Rattle.sctp_model.proofs.sender.SenderRun.{Sane, sane-takes, sane-abandoned, sane-started, filled-keeps, written_as, AllSent, sent-all, late-sent}
+use Rattle.sctp_lists.specs.Kept.{numbers_from}
+use Rattle.sctp_model.proofs.sender.Grows.{Grows, grows-same, grows-by, grows-then, grows-takes, grows-abandoned, grows-marked, grows-marks, grows-expired, grows-written}
+use Rattle.sctp_lists.proofs.Cases.{by_same}
+use Rattle.sctp_lists.proofs.Getting.{get-beyond, get-snoc_old, get-snoc_new, get-snoc, get-map, length-mapped}
+
+-- what a sender's change leaves
+pub record Quiet (w v : World) : Type 0 where
+  pub setup : v.setup ≡ w.setup
+  pub streams : v.streams ≡ w.streams
+  pub skipped : v.skipped ≡ w.skipped
+  pub taken : v.taken ≡ w.taken
+  pub duplicates : v.duplicates ≡ w.duplicates
+  pub network : (rest : List Datagram) × (v.network ≡ w.network ++ rest)
+  pub arrived : (p : ℕ) → arrived_at v p ≡ arrived_at w p
+  pub acknowledged : (p : ℕ) → p < length w.slots → (Messages.slot_at v p).acknowledged ≡ (Messages.slot_at w p).acknowledged
+  pub fresh : (p : ℕ) → length w.slots ≤ p → p < length v.slots → (Messages.slot_at v p).acknowledged ≡ false
+  pub read : (n : ℕ) → n < length w.messages → (Messages.message_at v n).read ≡ (Messages.message_at w n).read
+  pub unread : (n : ℕ) → length w.messages ≤ n → n < length v.messages → (Messages.message_at v n).read ≡ false
+  pub grows : Grows (shape w) (shape v)
+
+pub quiet-none : (w : World) → Quiet w w
+quiet-none w = record {
+  setup = refl;
+  streams = refl;
+  skipped = refl;
+  taken = refl;
+  duplicates = refl;
+  network = ([], sym (append-nil w.network));
+  arrived = λ p. refl;
+  acknowledged = λ p lt. refl;
+  fresh = λ p a b. absurd (omega arith);
+  read = λ n lt. refl;
+  unread = λ n a b. absurd (omega arith);
+  grows = grows-same (shape w) (shape w) refl;
+}
+
+pub quiet-then : (setup : Setup) (w v u : World) → Sane setup w → Quiet w v → Quiet v u → Quiet w u
+quiet-then setup w v u g f h = record {
+  setup = h.setup ∙ f.setup;
+  streams = h.streams ∙ f.streams;
+  skipped = h.skipped ∙ f.skipped;
+  taken = h.taken ∙ f.taken;
+  duplicates = h.duplicates ∙ f.duplicates;
+  network = (f.network.0 ++ h.network.0, h.network.1 ∙ ap (λ l. l ++ h.network.0) f.network.1 ∙ append_assoc w.network f.network.0 h.network.0);
+  arrived = λ p. h.arrived p ∙ f.arrived p;
+  acknowledged = λ p lt. h.acknowledged p (omega (arith, f.grows.slots)) ∙ f.acknowledged p lt;
+  fresh = λ p a b. older p a b (cases_lt p (length v.slots));
+  read = λ n lt. h.read n (omega (arith, f.grows.count)) ∙ f.read n lt;
+  unread = λ n a b. newer n a b (cases_lt n (length v.messages));
+  grows = grows-then (shape w) (shape v) (shape u) g.sender f.grows h.grows;
+}
+  where
+    older : (p : ℕ) → length w.slots ≤ p → p < length u.slots → (p < length v.slots) ⊎ (length v.slots ≤ p) → (Messages.slot_at u p).acknowledged ≡ false
+    older p a b (inl l) = h.acknowledged p l ∙ f.fresh p a l
+    older p a b (inr g) = h.fresh p g b
+
+    newer : (n : ℕ) → length w.messages ≤ n → n < length u.messages → (n < length v.messages) ⊎ (length v.messages ≤ n) → (Messages.message_at u n).read ≡ false
+    newer n a b (inl l) = h.read n l ∙ f.unread n a l
+    newer n a b (inr g) = h.unread n g b
+
+-- ## Each change
+
+quiet-messages : (w : World) (ms : List Message) → length ms ≡ length w.messages → ((n : ℕ) → (Messages.message_at (record w { messages = ms }) n).read ≡ (Messages.message_at w n).read) → Grows (shape w) (shape (record w { messages = ms })) → Quiet w (record w { messages = ms })
+quiet-messages w ms l r g = record {
+  setup = refl;
+  streams = refl;
+  skipped = refl;
+  taken = refl;
+  duplicates = refl;
+  network = ([], sym (append-nil w.network));
+  arrived = λ p. refl;
+  acknowledged = λ p lt. refl;
+  fresh = λ p a b. absurd (omega arith);
+  read = λ n lt. r n;
+  unread = λ n a b. absurd (omega (arith, l));
+  grows = g;
+}
+
+pub quiet-started : (w : World) (now : ℕ) → Quiet w (Changes.started w now)
+quiet-started w now = quiet-messages w (map (Changes.start_at now) w.messages) (length-mapped (Changes.start_at now) w.messages) (λ n. get-map (Changes.start_at now) (λ m. m.read) (λ m. refl) n w.messages Messages.no_message) (grows-same (shape w) (shape (Changes.started w now)) (Shapes.shape-started w now))
+
+quiet-flagged : (w : World) (n : ℕ) (f : Message → Message) → ((m : Message) → (f m).read ≡ m.read) → Grows (shape w) (shape (Changes.message_changed w n f)) → Quiet w (Changes.message_changed w n f)
+quiet-flagged w n f keeps g = quiet-messages w (changed f n w.messages) (length-changed f n w.messages) (λ k. changed-keeps f (λ m. m.read) keeps n k w.messages Messages.no_message) g
+
+quiet-slot : (w : World) (n : ℕ) (mark : Bool) → Grows (shape w) (shape (Changes.with_slot w n mark)) → Quiet w (Changes.with_slot w n mark)
+quiet-slot w n mark g = record {
+  setup = refl;
+  streams = refl;
+  skipped = refl;
+  taken = refl;
+  duplicates = refl;
+  network = ([], sym (append-nil w.network));
+  arrived = λ p. get-snoc (λ x. x.arrived) w.slots new p Messages.no_slot ∙ by_same {P = (if p == length w.slots then false else arrived_at w p) ≡ arrived_at w p} p (length w.slots)
+      (λ e. same (p == length w.slots) (arrived_at w p) (ap (λ x. x.arrived) (get-beyond w.slots p Messages.no_slot (omega arith))))
+      (λ ne f. ap (λ b. if b then false else arrived_at w p) f);
+  acknowledged = λ p lt. ap (λ x. x.acknowledged) (get-snoc_old w.slots new p Messages.no_slot (λ e. absurd (omega arith)));
+  fresh = λ p a b. let e : p ≡ length w.slots = omega (arith, length-append w.slots (new ∷ [])) in ap (λ q. (Messages.slot_at (Changes.with_slot w n mark) q).acknowledged) e ∙ ap (λ x. x.acknowledged) (get-snoc_new w.slots new Messages.no_slot);
+  read = λ n lt. refl;
+  unread = λ n a b. absurd (omega arith);
+  grows = g;
+}
+  where
+    new : Slot
+    new = record { message = n; fragment = Messages.sent_of w n; is_end_mark = mark; arrived = false; acknowledged = false }
+
+    same : (b c : Bool) → c ≡ false → (if b then false else c) ≡ c
+    same true c e = sym e
+    same false c e = refl
+
+pub quiet-takes : (setup : Setup) (w : World) → Sane setup w → Quiet w (Changes.fragment_sent w)
+quiet-takes setup w g = step (Messages.front w) refl
+  where
+    step : (o : Option ℕ) → Messages.front w ≡ o → Quiet w (Changes.fragment_of_sent w o)
+    step None e = quiet-none w
+    step (Some n) e = quiet-slot w n false (grows-by (shape w) (shape (Changes.with_slot w n false)) (slotted (shape w) n false) (Shapes.shape-slot w n false) (grows-takes (shape w) n (front-takes (shape w) n g.sender e)))
+
+pub quiet-abandoned : (setup : Setup) (w : World) (n : ℕ) → Sane setup w → Quiet w (Changes.abandoned w n)
+quiet-abandoned setup w n g = step (Messages.is_half_sent w n) refl
+  where
+    joined : (v : World) → Quiet w v → Grows (shape w) (shape (Changes.message_changed v n Changes.mark_abandoned)) → Quiet w (Changes.message_changed v n Changes.mark_abandoned)
+    joined v q grown = record {
+      setup = q.setup;
+      streams = q.streams;
+      skipped = q.skipped;
+      taken = q.taken;
+      duplicates = q.duplicates;
+      network = q.network;
+      arrived = q.arrived;
+      acknowledged = q.acknowledged;
+      fresh = q.fresh;
+      read = λ k lt. changed-keeps Changes.mark_abandoned (λ m. m.read) (λ m. refl) n k v.messages Messages.no_message ∙ q.read k lt;
+      unread = λ k a b. changed-keeps Changes.mark_abandoned (λ m. m.read) (λ m. refl) n k v.messages Messages.no_message ∙ q.unread k a (omega (arith, b, length-changed Changes.mark_abandoned n v.messages));
+      grows = grown;
+    }
+
+    slot-grows : Grows (shape w) (shape (Changes.with_slot w n true))
+    slot-grows = grows-by (shape w) (shape (Changes.with_slot w n true)) (slotted (shape w) n true) (Shapes.shape-slot w n true) (grows-marks (shape w) n)
+
+    step : (b : Bool) → Messages.is_half_sent w n ≡ b → Quiet w (Changes.message_changed (if b then Changes.with_slot w n true else w) n Changes.mark_abandoned)
+    step true e = joined (Changes.with_slot w n true) (quiet-slot w n true slot-grows)
+        (grows-by (shape w) (shape (Changes.message_changed (Changes.with_slot w n true) n Changes.mark_abandoned)) (abandoned_at (slotted (shape w) n true) n) (Shapes.shape-abandoned (Changes.with_slot w n true) n ∙ ap (λ y. abandoned_at y n) (Shapes.shape-slot w n true)) (grows-marked (shape w) n))
+    step false e = joined w (quiet-none w) (grows-by (shape w) (shape (Changes.message_changed w n Changes.mark_abandoned)) (abandoned_at (shape w) n) (Shapes.shape-abandoned w n) (grows-abandoned (shape w) n))
+
+pub quiet-expired : (setup : Setup) (w : World) (n : ℕ) → Sane setup w → Messages.is_unsent w n ≡ true → Quiet w (Changes.message_changed w n Changes.mark_expired)
+quiet-expired setup w n g e = let u = of-unsent (shape w) n e in quiet-flagged w n Changes.mark_expired (λ m. refl) (grows-by (shape w) (shape (Changes.message_changed w n Changes.mark_expired)) (expired_at (shape w) n) (Shapes.shape-expired w n) (grows-expired (shape w) n g.sender u.none u.alive))
+
+pub quiet-written : (setup : Setup) (w : World) (s : ℕ) (ppi : PayloadProtocolIdentifier) (bytes : List ℕ) → Sane setup w → Quiet w (Changes.wrote w s ppi bytes)
+quiet-written setup w s ppi [] g = quiet-none w
+quiet-written setup w s ppi (b ∷ bs) g = record {
+  setup = refl;
+  streams = refl;
+  skipped = refl;
+  taken = refl;
+  duplicates = refl;
+  network = ([], sym (append-nil w.network));
+  arrived = λ p. refl;
+  acknowledged = λ p lt. refl;
+  fresh = λ p a b. absurd (omega arith);
+  read = λ n lt. ap (λ m. m.read) (get-snoc_old w.messages m n Messages.no_message (λ e. absurd (omega arith)));
+  unread = λ n a lt. let e : n ≡ length w.messages = omega (arith, length-append w.messages (m ∷ [])) in ap (λ q. (Messages.message_at (Changes.wrote w s ppi (b ∷ bs)) q).read) e ∙ ap (λ y. y.read) (get-snoc_new w.messages m Messages.no_message);
+  grows = grows-by (shape w) (shape (Changes.wrote w s ppi (b ∷ bs))) (written (shape w) (message_part m)) (Shapes.shape-written w m) (grows-written (shape w) (message_part m) g.sender);
+}
+  where
+    m : Message
+    m = written_as w s ppi (b ∷ bs)
+
+pub quiet-datagram : (w v : World) (d : Datagram) → Quiet w v → Quiet w (Changes.with_datagram v d)
+quiet-datagram w v d q = record {
+  setup = q.setup;
+  streams = q.streams;
+  skipped = q.skipped;
+  taken = q.taken;
+  duplicates = q.duplicates;
+  network = (q.network.0 ++ d ∷ [], ap (λ l. l ++ d ∷ []) q.network.1 ∙ append_assoc w.network q.network.0 (d ∷ []));
+  arrived = q.arrived;
+  acknowledged = q.acknowledged;
+  fresh = q.fresh;
+  read = q.read;
+  unread = q.unread;
+  grows = q.grows;
+}
+
+-- ## Sends and late messages
+
+pub record Reached (setup : Setup) (w v : World) : Type 0 where
+  pub sane : Sane setup v
+  pub quiet : Quiet w v
+
+pub reached-more : (setup : Setup) (w : World) → Sane setup w → (v : World) → Reached setup w v → Reached setup w (Changes.fragment_sent v)
+reached-more setup w g v r = record { sane = sane-takes setup v r.sane; quiet = quiet-then setup w v (Changes.fragment_sent v) g r.quiet (quiet-takes setup v r.sane) }
+
+pub quiet-sent : (setup : Setup) (w : World) (now : ℕ) (o : Option ℕ) → Sane setup w → Quiet w (Changes.sent_from (Changes.started w now) o)
+quiet-sent setup w now None g = quiet-started w now
+quiet-sent setup w now (Some n) g =
+    let u = Changes.started w now in
+    let first : Reached setup w (Changes.fragment_sent u) = reached-more setup w g u (record { sane = sane-started setup w now g; quiet = quiet-started w now }) in
+    let all : Reached setup w (Changes.fragments_sent u) = filled-keeps (Reached setup w) (reached-more setup w g) u.setup.limit (Changes.plus 12 (Changes.next_length u)) (Changes.fragment_sent u) first in
+    quiet-datagram w (Changes.fragments_sent u) (Data (numbers_from (length u.slots) (length (Changes.fragments_sent u).slots - length u.slots))) all.quiet
+
+quiet-late : (setup : Setup) (ns : List ℕ) (w : World) → Sane setup w → AllSent w ns → Quiet w (fold Changes.abandoned w ns)
+quiet-late setup [] w g a = quiet-none w
+quiet-late setup (n ∷ ns) w g a =
+    let h = sane-abandoned setup w n g a.0 in
+    quiet-then setup w (Changes.abandoned w n) (fold Changes.abandoned (Changes.abandoned w n) ns) g (quiet-abandoned setup w n g) (quiet-late setup ns (Changes.abandoned w n) h (sent-all w n ns a.1))
+
+-- ## The sender's events
+
+pub quiet-expire : (setup : Setup) (w : World) (now : ℕ) (o : Option ℕ) → Sane setup w → Quiet w (Changes.expired w (Changes.front_if w (λ n. Messages.is_unsent w n && Messages.is_lapsed w now n) o))
+quiet-expire setup w now None g = quiet-none w
+quiet-expire setup w now (Some n) g = step (Messages.is_unsent w n) (Messages.is_lapsed w now n) refl
+  where
+    step : (b c : Bool) → Messages.is_unsent w n ≡ b → Quiet w (Changes.expired w (if b && c then Some n else None))
+    step true true e = quiet-expired setup w n g e
+    step true false e = quiet-none w
+    step false c e = quiet-none w
+
+pub quiet-tail : (setup : Setup) (w : World) (o : Option ℕ) → Sane setup w → Quiet w (Changes.tail_abandoned w o)
+quiet-tail setup w None g = quiet-none w
+quiet-tail setup w (Some n) g = quiet-abandoned setup w n g
+
+pub quiet-lates : (setup : Setup) (w : World) (now : ℕ) → Sane setup w → Quiet w (Changes.late_abandoned w now)
+quiet-lates setup w now g = quiet-late setup (Changes.late_messages w now) w g (late-sent setup w now g)

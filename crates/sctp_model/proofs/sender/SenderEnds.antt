@@ -1,0 +1,207 @@
+-- Writes, expiry and abandonment keep what the sender keeps.
+use Rattle.std.proofs.Common.{◌≡◌, ℕ, ◌+◌, ◌<◌, ◌≤◌, Bool, true, false, length, refl, ap, sym, ◌∙◌, inl, inr, arith}
+use Rattle.std.specs.Prelude.{◌⊎◌, if◌then◌else◌, ◌==◌, ◌&&◌, ◌||◌, not, nat_lt}
+use Rattle.std.proofs.lemmas.Bool.{cases_lt}
+use Rattle.std.proofs.lemmas.Bool.Decides.{nat_tests}
+use Rattle.sctp_lists.specs.Kept.{kept}
+use Rattle.sctp_lists.proofs.KeptLemmas.{kept-none}
+use Rattle.sctp_lists.proofs.More.{fails, not_both, both, and}
+use Rattle.sctp_model.proofs.sender.Shape.{Shape, MessagePart, has, sent, parts, half, on, slotted, written, abandoned_at, expired_at}
+use Rattle.sctp_model.proofs.sender.Sender.{Sender, is_mark, sent-slotted, marks-slotted, slot-old, slot-new}
+use Rattle.sctp_model.proofs.sender.SenderSteps.{of-has, sent-some, of-half, is-half, half-one, has-old, has-new, number-slotted, made-slotted, Next, Last, marks_due}
+use Rattle.sctp_lists.proofs.Cases.{by_last, by_same, same-yes, same-is}
+
+-- ## Abandonment
+
+-- with an end mark, where the message is half-sent
+module _ (x : Shape) (n : ℕ) (s : Sender x) (h : half x n ≡ true) where
+  abbrev y : Shape
+  y = abandoned_at (slotted x n true) n
+
+  sent-same : (k : ℕ) → sent y k ≡ sent x k
+  sent-same k = sent-slotted x n k true ∙ none (n == k) (sent x k)
+    where
+      none : (b : Bool) (c : ℕ) → c + (if b && false then 1 else 0) ≡ c
+      none true c = omega arith
+      none false c = omega arith
+
+  made-n : n < x.count
+  made-n = let l = s.last n h in rw (of-has x n l.0 l.2).0 at (s.made l.0 (omega (arith, l.1)))
+
+  new-none : (k : ℕ) → has y k x.slots ≡ false
+  new-none k = has-new x n true k ∙ none (n == k)
+    where
+      none : (b : Bool) → (b && false) ≡ false
+      none true = refl
+      none false = refl
+
+  pub sender-marked : Sender y
+  sender-marked = record {
+    some = s.some;
+    made = made-slotted x n true s made-n;
+    number = number-slotted x n true s;
+    beside = λ p lt mark pos. by_last {P = Next y p} p x.slots lt (λ o. old p o mark pos) (λ e. absurd (not_both (sym mark ∙ (ap (λ r. (y.slot r).is_end_mark) e ∙ ap (λ z. z.is_end_mark) (slot-new x n true)))));
+    last = λ k g. by_same {P = Last y k} k n
+        (λ e. absurd (not_both (sym (of-half y k g).alive ∙ (let z : (k == n) ≡ true = ap (λ j. k == j) (sym e) ∙ same-yes k in rw z refl))))
+        (λ ne f. absurd (ne (half-one x k n s (was k f g) h)));
+    within = λ k lt. omega (arith, sent-same k, s.within k lt);
+    marks = λ k lt. marks-slotted x n k true ∙ by_same {P = length (kept (is_mark x k) 0 x.slots) + (if (n == k) && true then 1 else 0) ≡ marks_due y k} n k
+        (λ e. ended k e)
+        (λ ne f. other k ne f lt);
+    expired_unsent = λ k lt e. sent-same k ∙ s.expired_unsent k lt e;
+    abandoned_sent = λ k lt e. by_same {P = 0 < sent y k} n k
+        (λ z. omega (arith, (of-half x n h).some, ap (sent x) z, sent-same k))
+        (λ ne f. omega (arith, sent-same k, s.abandoned_sent k lt (before k ne e)));
+    turn = λ r j k jk lt a b pos. omega (arith, sent-same j, s.turn r j k jk lt a b (omega (arith, pos, sent-same k)));
+    ascend = λ r j k p q jk a b lp lq hp hq. by_last {P = p < q} p x.slots lp
+        (λ op. by_last {P = p < q} q x.slots lq (λ oq. s.ascend r j k p q jk a b op oq (sym (has-old x n true j p op) ∙ hp) (sym (has-old x n true k q oq) ∙ hq)) (λ eq. absurd (not_both (sym (new-none k) ∙ ap (has y k) (sym eq) ∙ hq))))
+        (λ ep. absurd (not_both (sym (new-none j) ∙ ap (has y j) (sym ep) ∙ hp)));
+  }
+    where
+      old : (p : ℕ) → p < x.slots → (y.slot p).is_end_mark ≡ false → 0 < (y.slot p).fragment → Next y p
+      old p o mark pos =
+          let z = slot-old x n p true o in
+          let r = s.beside p o (ap (λ v. v.is_end_mark) (sym z) ∙ mark) (rw z at pos) in
+          (r.0, r.1, ap (λ v. has y v.message r.0) z ∙ has-old x n true (x.slot p).message r.0 (omega (arith, r.1)) ∙ r.2)
+
+      off : (k : ℕ) → (n ≡ k → ⊥) → (k == n) ≡ false
+      off k ne = fails (k == n) (λ z. ne (sym (same-is k n z)))
+
+      before : (k : ℕ) → (n ≡ k → ⊥) → (y.message k).abandoned ≡ true → (x.message k).abandoned ≡ true
+      before k ne e = ap (λ b. b || (x.message k).abandoned) (sym (off k ne)) ∙ e
+
+      was : (k : ℕ) → (k == n) ≡ false → half y k ≡ true → half x k ≡ true
+      was k f g =
+          let i = of-half y k g in
+          is-half x k (omega (arith, i.some, sent-same k)) (omega (arith, i.more, sent-same k)) (ap (λ b. b || (x.message k).abandoned) (sym f) ∙ i.alive)
+
+      ended : (k : ℕ) → n ≡ k → length (kept (is_mark x k) 0 x.slots) + (if (n == k) && true then 1 else 0) ≡ marks_due y k
+      ended k e =
+          let i = of-half x n h in
+          let hit : (n == k) ≡ true = ap (λ j. n == j) (sym e) ∙ same-yes n in
+          let hit' : (k == n) ≡ true = ap (λ j. j == n) (sym e) ∙ same-yes n in
+          let few : length (kept (is_mark x k) 0 x.slots) ≡ 0 = ap (λ j. length (kept (is_mark x j) 0 x.slots)) (sym e) ∙ s.marks n made-n ∙ ap (λ b. if b && nat_lt (sent x n) (parts x n) then 1 else 0) i.alive in
+          let more : nat_lt (sent y k) (parts x k) ≡ true = (let l : sent y k < parts x k = omega (arith, sent-same k, ap (sent x) e, ap (parts x) e, i.more) in grind (arith, nat_tests)) in
+          ap (λ b. length (kept (is_mark x k) 0 x.slots) + (if b && true then 1 else 0)) hit
+          ∙ ap (λ c. c + 1) few
+          ∙ sym (ap (λ b. if (b || (x.message k).abandoned) && nat_lt (sent y k) (parts x k) then 1 else 0) hit' ∙ ap (λ b. if true && b then 1 else 0) more)
+
+      other : (k : ℕ) → (n ≡ k → ⊥) → (n == k) ≡ false → k < x.count → length (kept (is_mark x k) 0 x.slots) + (if (n == k) && true then 1 else 0) ≡ marks_due y k
+      other k ne f lt =
+          let z : length (kept (is_mark x k) 0 x.slots) + 0 ≡ length (kept (is_mark x k) 0 x.slots) = omega arith in
+          ap (λ b. length (kept (is_mark x k) 0 x.slots) + (if b && true then 1 else 0)) f ∙ z ∙ s.marks k lt
+          ∙ ap (λ c. if (x.message k).abandoned && nat_lt c (parts x k) then 1 else 0) (sym (sent-same k))
+          ∙ ap (λ b. if (b || (x.message k).abandoned) && nat_lt (sent y k) (parts x k) then 1 else 0) (sym (off k ne))
+
+-- without one, where it was sent or abandoned before
+pub sender-abandoned : (x : Shape) (n : ℕ) → Sender x → half x n ≡ false → 0 < sent x n → Sender (abandoned_at x n)
+sender-abandoned x n s no' pos = record {
+  some = s.some;
+  made = s.made;
+  number = s.number;
+  beside = s.beside;
+  last = λ k g. let i = of-half (abandoned_at x n) k g in s.last k (is-half x k i.some i.more (alive (k == n) (x.message k).abandoned i.alive));
+  within = s.within;
+  marks = λ k lt. s.marks k lt ∙ by_same {P = marks_due x k ≡ marks_due (abandoned_at x n) k} k n
+      (λ e. by_flag k e (x.message k).abandoned refl (cases_lt (sent x k) (parts x k)))
+      (λ ne f. ap (λ b. if (b || (x.message k).abandoned) && nat_lt (sent x k) (parts x k) then 1 else 0) (sym f));
+  expired_unsent = s.expired_unsent;
+  abandoned_sent = λ k lt e. by_same {P = 0 < sent x k} k n
+      (λ z. omega (arith, ap (sent x) z))
+      (λ ne f. s.abandoned_sent k lt (ap (λ b. b || (x.message k).abandoned) (sym f) ∙ e));
+  turn = s.turn;
+  ascend = s.ascend;
+}
+  where
+    alive : (b c : Bool) → (b || c) ≡ false → c ≡ false
+    alive true c e = cc
+    alive false c e = e
+
+    by_flag : (k : ℕ) → k ≡ n → (b : Bool) → (x.message k).abandoned ≡ b → (sent x k < parts x k) ⊎ (parts x k ≤ sent x k) → marks_due x k ≡ marks_due (abandoned_at x n) k
+    by_flag k e true f side = let hit : (k == n) ≡ true = ap (λ j. k == j) (sym e) ∙ same-yes k in rw (f, hit) refl
+    by_flag k e false f (inl l) = absurd (not_both (sym no' ∙ ap (half x) (sym e) ∙ is-half x k (omega (arith, ap (sent x) e)) l f))
+    by_flag k e false f (inr g) =
+        let z : nat_lt (sent x k) (parts x k) ≡ false = grind (arith, nat_tests) in
+        ap (λ b. if (x.message k).abandoned && b then 1 else 0) z ∙ none (x.message k).abandoned ∙ sym (ap (λ b. if ((k == n) || (x.message k).abandoned) && b then 1 else 0) z ∙ none ((k == n) || (x.message k).abandoned))
+      where
+        none : (b : Bool) → ◌≡◌ {A = ℕ} (if b && false then 1 else 0) 0
+        none true = refl
+        none false = refl
+
+-- ## Expiry
+
+pub sender-expired : (x : Shape) (n : ℕ) → Sender x → sent x n ≡ 0 → Sender (expired_at x n)
+sender-expired x n s z = record {
+  some = s.some;
+  made = s.made;
+  number = s.number;
+  beside = s.beside;
+  last = s.last;
+  within = s.within;
+  marks = s.marks;
+  expired_unsent = λ k lt e. by_same {P = sent x k ≡ 0} k n
+      (λ i. ap (sent x) i ∙ z)
+      (λ ne f. s.expired_unsent k lt (ap (λ b. b || (x.message k).expired) (sym f) ∙ e));
+  abandoned_sent = s.abandoned_sent;
+  turn = λ r j k jk lt a b pos. s.turn r j k jk lt (was r j a) (was r k b) pos;
+  ascend = λ r j k p q jk a b. s.ascend r j k p q jk (was r j a) (was r k b);
+}
+  where
+    was : (r k : ℕ) → on (expired_at x n) r k ≡ true → on x r k ≡ true
+    was r k e =
+        let a = both ((x.message k).stream == r) ((x.message k).ordered && not ((k == n) || (x.message k).expired)) e in
+        let b = both (x.message k).ordered (not ((k == n) || (x.message k).expired)) a.1 in
+        and ((x.message k).stream == r) ((x.message k).ordered && not (x.message k).expired) a.0 (and (x.message k).ordered (not (x.message k).expired) b.0 (less (k == n) (x.message k).expired b.1))
+      where
+        less : (b c : Bool) → not (b || c) ≡ true → not c ≡ true
+        less true c e = cc
+        less false c e = e
+
+-- ## Writes
+
+pub sent-none : (x : Shape) (n : ℕ) → Sender x → x.count ≤ n → sent x n ≡ 0
+sent-none x n s le = ap length (kept-none (has x n) 0 x.slots (λ p a b. fails (has x n p) (λ h. absurd (omega (arith, (of-has x n p h).0, s.made p (omega arith))))))
+
+module _ (x : Shape) (m : MessagePart) where
+  abbrev z : Shape
+  z = written x m
+
+  pub message-old : (k : ℕ) → k < x.count → z.message k ≡ x.message k
+  message-old k lt = let e : (k == x.count) ≡ false = grind (arith, nat_tests) in rw e refl
+
+  pub message-new : z.message x.count ≡ m
+  message-new = let e : (x.count == x.count) ≡ true = grind (arith, nat_tests) in rw e refl
+
+  pub parts-old : (k : ℕ) → k < x.count → parts z k ≡ parts x k
+  parts-old k lt = rw (message-old k lt) refl
+
+  pub on-old : (r k : ℕ) → k < x.count → on z r k ≡ on x r k
+  on-old r k lt = rw (message-old k lt) refl
+
+  pub sender-written : Sender x → m.expired ≡ false → m.abandoned ≡ false → 0 < parts z x.count → Sender z
+  sender-written s fresh kept' some = record {
+    some = λ k lt. by_last {P = 0 < parts z k} k x.count lt (λ o. omega (arith, parts-old k o, s.some k o)) (λ e. rw e some);
+    made = λ p lt. omega (arith, s.made p lt);
+    number = s.number;
+    beside = s.beside;
+    last = λ k h. let i = of-half z k h in by_made {P = Last z k} k i.some (λ o. s.last k (is-half x k i.some (omega (arith, i.more, parts-old k o)) (ap (λ v. v.abandoned) (sym (message-old k o)) ∙ i.alive)));
+    within = λ k lt. by_last {P = sent x k ≤ parts z k} k x.count lt (λ o. omega (arith, parts-old k o, s.within k o)) (λ e. omega (arith, none k e));
+    marks = λ k lt. by_last {P = length (kept (is_mark x k) 0 x.slots) ≡ marks_due z k} k x.count lt
+        (λ o. s.marks k o ∙ ap (λ b. if b && nat_lt (sent x k) (parts x k) then 1 else 0) (ap (λ v. v.abandoned) (sym (message-old k o))) ∙ ap (λ c. if (z.message k).abandoned && nat_lt (sent x k) c then 1 else 0) (sym (parts-old k o)))
+        (λ e. ap length (kept-none (is_mark x k) 0 x.slots (λ p a b. fails (is_mark x k p) (λ h. absurd (omega (arith, same-is (x.slot p).message k (both ((x.slot p).message == k) (x.slot p).is_end_mark h).0, s.made p (omega arith))))))
+        ∙ sym (ap (λ b. if b && nat_lt (sent x k) (parts z k) then 1 else 0) (ap (λ j. (z.message j).abandoned) e ∙ ap (λ v. v.abandoned) message-new ∙ kept')));
+    expired_unsent = λ k lt e. by_last {P = sent x k ≡ 0} k x.count lt (λ o. s.expired_unsent k o (ap (λ v. v.expired) (sym (message-old k o)) ∙ e)) (λ i. none k i);
+    abandoned_sent = λ k lt e. by_last {P = 0 < sent x k} k x.count lt (λ o. s.abandoned_sent k o (ap (λ v. v.abandoned) (sym (message-old k o)) ∙ e)) (λ i. absurd (not_both (sym kept' ∙ ap (λ v. v.abandoned) (sym message-new) ∙ ap (λ j. (z.message j).abandoned) (sym i) ∙ e)));
+    turn = λ r j k jk lt a b pos. by_made {P = 0 < sent x j} k pos (λ o. s.turn r j k jk o (sym (on-old r j (omega arith)) ∙ a) (sym (on-old r k o) ∙ b) pos);
+    ascend = λ r j k p q jk a b lp lq hp hq. by_made {P = p < q} k (sent-some x k q lq hq) (λ o. s.ascend r j k p q jk (sym (on-old r j (omega arith)) ∙ a) (sym (on-old r k o) ∙ b) lp lq hp hq);
+  }
+    where
+      none : (k : ℕ) → k ≡ x.count → sent x k ≡ 0
+      none k e = sent-none x k s (omega arith)
+
+      by_made : {P : Type 0} (k : ℕ) → 0 < sent x k → (k < x.count → P) → P
+      by_made {P} k pos f = step (cases_lt k x.count)
+        where
+          step : (k < x.count) ⊎ (x.count ≤ k) → P
+          step (inl l) = f l
+          step (inr g) = absurd (omega (arith, sent-none x k s g))

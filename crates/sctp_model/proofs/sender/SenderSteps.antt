@@ -1,0 +1,173 @@
+use Rattle.std.proofs.Common.{◌≡◌, ℕ, ◌+◌, ◌<◌, ◌≤◌, Bool, true, false, length, refl, ap, sym, ◌∙◌, inl, inr, arith}
+use Rattle.std.specs.Prelude.{◌⊎◌, if◌then◌else◌, ◌==◌, ◌&&◌, not, nat_lt}
+use Rattle.std.proofs.lemmas.Bool.{cases_lt}
+use Rattle.std.proofs.lemmas.Bool.Decides.{nat_tests}
+use Rattle.sctp_lists.specs.Kept.{kept}
+use Rattle.sctp_lists.proofs.KeptLemmas.{kept-same}
+use Rattle.sctp_lists.proofs.More.{fails, not_both, both, and, length-kept-positive}
+use Rattle.sctp_model.proofs.sender.Shape.{Shape, has, sent, parts, half, on, slotted}
+use Rattle.sctp_model.proofs.sender.Sender.{Sender, is_mark, sent-slotted, marks-slotted, slot-old, slot-new}
+use Rattle.sctp_lists.proofs.Cases.{by_last, by_same, same-yes, same-is, negated}
+
+-- Each change of messages and slots keeps what the sender keeps.
+
+-- ## By cases
+
+pub of-has : (x : Shape) (n p : ℕ) → has x n p ≡ true → ((x.slot p).message ≡ n) × ((x.slot p).is_end_mark ≡ false)
+of-has x n p h = let a = both ((x.slot p).message == n) (not (x.slot p).is_end_mark) h in (same-is (x.slot p).message n a.0, negated (x.slot p).is_end_mark a.1)
+
+-- a slot with a fragment of a message: some was sent
+pub sent-some : (x : Shape) (n p : ℕ) → p < x.slots → has x n p ≡ true → 0 < sent x n
+sent-some x n p lt h = length-kept-positive (has x n) p 0 x.slots (omega arith) (omega arith) h
+
+pub record IsHalf (x : Shape) (n : ℕ) : Type 0 where
+  pub some : 0 < sent x n
+  pub more : sent x n < parts x n
+  pub alive : (x.message n).abandoned ≡ false
+
+pub of-half : (x : Shape) (n : ℕ) → half x n ≡ true → IsHalf x n
+of-half x n h =
+    let a = both (nat_lt 0 (sent x n)) (nat_lt (sent x n) (parts x n) && not (x.message n).abandoned) h in
+    let b = both (nat_lt (sent x n) (parts x n)) (not (x.message n).abandoned) a.1 in
+    let c = a.0 in
+    let d = b.0 in
+    record { some = grind (arith, nat_tests); more = grind (arith, nat_tests); alive = negated (x.message n).abandoned b.1 }
+
+pub is-half : (x : Shape) (n : ℕ) → 0 < sent x n → sent x n < parts x n → (x.message n).abandoned ≡ false → half x n ≡ true
+is-half x n a b c = and (nat_lt 0 (sent x n)) (nat_lt (sent x n) (parts x n) && not (x.message n).abandoned) (grind (arith, nat_tests)) (and (nat_lt (sent x n) (parts x n)) (not (x.message n).abandoned) (grind (arith, nat_tests)) (ap not c))
+
+-- at most one message is half-sent
+pub half-one : (x : Shape) (j k : ℕ) → Sender x → half x j ≡ true → half x k ≡ true → j ≡ k
+half-one x j k s a b =
+    let p = s.last j a in
+    let q = s.last k b in
+    let same : p.0 ≡ q.0 = omega (arith, p.1, q.1) in
+    sym (of-has x j p.0 p.2).0 ∙ ap (λ r. (x.slot r).message) same ∙ (of-has x k q.0 q.2).0
+
+-- ## A fragment takes a slot
+
+-- message n is one to send from
+pub record Takes (x : Shape) (n : ℕ) : Type 0 where
+  pub made : n < x.count
+  pub more : sent x n < parts x n
+  pub kept : (x.message n).expired ≡ false
+  pub alive : (x.message n).abandoned ≡ false
+  pub alone : (k : ℕ) → half x k ≡ true → k ≡ n
+  pub turn : (x.message n).ordered ≡ true → sent x n ≡ 0 → (m : ℕ) → m < n → (x.message m).ordered ≡ true → (x.message m).expired ≡ false → 0 < sent x m
+
+module _ (x : Shape) (n : ℕ) (m : Bool) where
+  abbrev y : Shape
+  y = slotted x n m
+
+  pub sent-other : (k : ℕ) → (n ≡ k → ⊥) → sent y k ≡ sent x k
+  sent-other k ne = sent-slotted x n k m ∙ (let e : (n == k) ≡ false = fails (n == k) (λ h. ne (same-is n k h)) in rw e (omega arith))
+
+  pub sent-grows : (k : ℕ) → sent x k ≤ sent y k
+  sent-grows k = omega (arith, sent-slotted x n k m)
+
+  pub has-old : (k p : ℕ) → p < x.slots → has y k p ≡ has x k p
+  has-old k p lt = ap (λ s. (s.message == k) && not s.is_end_mark) (slot-old x n p m lt)
+
+  pub has-new : (k : ℕ) → has y k x.slots ≡ ((n == k) && not m)
+  has-new k = ap (λ s. (s.message == k) && not s.is_end_mark) (slot-new x n m)
+
+  -- a slot has the number of its fragment
+  pub number-slotted : Sender x → (p : ℕ) → p < y.slots → (y.slot p).fragment ≡ length (kept (has y (y.slot p).message) 0 p)
+  number-slotted s p lt = by_last p x.slots lt
+      (λ l. ap (λ z. z.fragment) (slot-old x n p m l) ∙ s.number p l ∙ sym (ap (λ z. length (kept (has y z.message) 0 p)) (slot-old x n p m l) ∙ upto (x.slot p).message p (omega arith)))
+      (λ e. let q : (y.slot p).fragment ≡ sent x n = ap (λ r. (y.slot r).fragment) e ∙ ap (λ z. z.fragment) (slot-new x n m) in
+      q ∙ sym (ap (λ r. length (kept (has y (y.slot r).message) 0 r)) e ∙ ap (λ z. length (kept (has y z.message) 0 x.slots)) (slot-new x n m) ∙ upto n x.slots (omega arith)))
+    where
+      upto : (k p : ℕ) → p ≤ x.slots → length (kept (has y k) 0 p) ≡ length (kept (has x k) 0 p)
+      upto k p le = ap length (kept-same (has y k) (has x k) 0 p (λ j a b. has-old k j (omega arith)))
+
+  pub made-slotted : Sender x → n < x.count → (p : ℕ) → p < y.slots → (y.slot p).message < y.count
+  made-slotted s lt p l = by_last p x.slots l
+      (λ o. rw (slot-old x n p m o) (s.made p o))
+      (λ e. rw (ap (λ r. (y.slot r).message) e ∙ ap (λ z. z.message) (slot-new x n m)) lt)
+
+-- the new slot is the last of its message
+pub here : (x : Shape) (n : ℕ) → has (slotted x n false) n x.slots ≡ true
+here x n = has-new x n false n ∙ and (n == n) (not false) (same-yes n) refl
+
+pub sent-here : (x : Shape) (n : ℕ) → sent (slotted x n false) n ≡ sent x n + 1
+sent-here x n = sent-slotted x n n false ∙ (let e : (n == n) ≡ true = same-yes n in rw e refl)
+
+abbrev pub Next : Shape → ℕ → Type 0
+Next y p = (q : ℕ) × (p ≡ q + 1) × (has y (y.slot p).message q ≡ true)
+
+abbrev pub Last : Shape → ℕ → Type 0
+Last y k = (q : ℕ) × (y.slots ≡ q + 1) × (has y k q ≡ true)
+
+abbrev pub marks_due : Shape → ℕ → ℕ
+marks_due z k = if (z.message k).abandoned && nat_lt (sent z k) (parts z k) then 1 else 0
+
+pub sender-takes : (x : Shape) (n : ℕ) → Sender x → Takes x n → Sender (slotted x n false)
+sender-takes x n s t = record {
+  some = s.some;
+  made = made-slotted x n false s t.made;
+  number = number-slotted x n false s;
+  beside = λ p lt mark pos. by_last {P = Next (slotted x n false) p} p x.slots lt (λ o. old p o mark pos) (λ e. new p e pos);
+  last = λ k h. by_same {P = Last (slotted x n false) k} n k
+      (λ e. (x.slots, refl, ap (λ j. has (slotted x n false) j x.slots) (sym e) ∙ here x n))
+      (λ ne f. absurd (ne (sym (t.alone k (ap (λ c. nat_lt 0 c && (nat_lt c (parts x k) && not (x.message k).abandoned)) (sym (sent-other x n false k ne)) ∙ h)))));
+  within = λ k lt. by_same {P = sent (slotted x n false) k ≤ parts x k} n k
+      (λ e. let z : sent (slotted x n false) k ≡ sent x n + 1 = ap (sent (slotted x n false)) (sym e) ∙ sent-here x n in let w : parts x n ≡ parts x k = ap (parts x) e in omega (arith, t.more, z, w))
+      (λ ne f. omega (arith, sent-other x n false k ne, s.within k lt));
+  marks = λ k lt. marks-slotted x n k false ∙ none (n == k) (length (kept (is_mark x k) 0 x.slots)) ∙ s.marks k lt ∙ by_same {P = marks_due x k ≡ marks_due (slotted x n false) k} n k
+      (λ e. let dead : (x.message k).abandoned ≡ false = ap (λ j. (x.message j).abandoned) (sym e) ∙ t.alive in rw dead refl)
+      (λ ne f. ap (λ c. if (x.message k).abandoned && nat_lt c (parts x k) then 1 else 0) (sym (sent-other x n false k ne)));
+  expired_unsent = λ k lt e. sent-other x n false k (λ z. not_both (sym t.kept ∙ ap (λ j. (x.message j).expired) z ∙ e)) ∙ s.expired_unsent k lt e;
+  abandoned_sent = λ k lt e. omega (arith, sent-grows x n false k, s.abandoned_sent k lt e);
+  turn = λ r j k jk lt a b pos. by_same {P = 0 < sent (slotted x n false) j} n k
+      (λ e. first r j k jk lt a b e (cases_lt 0 (sent x n)))
+      (λ ne f. omega (arith, sent-grows x n false j, s.turn r j k jk lt a b (omega (arith, pos, sent-other x n false k ne))));
+  ascend = λ r j k p q jk a b lp lq hp hq. by_last {P = p < q} q x.slots lq
+      (λ oq. by_last {P = p < q} p x.slots lp
+      (λ op. s.ascend r j k p q jk a b op oq (sym (has-old x n false j p op) ∙ hp) (sym (has-old x n false k q oq) ∙ hq))
+      (λ ep. absurd (early r j k q jk a b oq (sym (has-old x n false k q oq) ∙ hq) (taken j p ep hp))))
+      (λ eq. by_last {P = p < q} p x.slots lp (λ op. omega arith) (λ ep. absurd (clash j k jk (taken j p ep hp) (taken k q eq hq))));
+}
+  where
+    none : (b : Bool) (c : ℕ) → c + (if b && false then 1 else 0) ≡ c
+    none true c = omega arith
+    none false c = omega arith
+
+    old : (p : ℕ) → p < x.slots → ((slotted x n false).slot p).is_end_mark ≡ false → 0 < ((slotted x n false).slot p).fragment → Next (slotted x n false) p
+    old p o mark pos =
+        let z = slot-old x n p false o in
+        let r = s.beside p o (ap (λ v. v.is_end_mark) (sym z) ∙ mark) (rw z at pos) in
+        (r.0, r.1, ap (λ v. has (slotted x n false) v.message r.0) z ∙ has-old x n false (x.slot p).message r.0 (omega (arith, r.1)) ∙ r.2)
+
+    new : (p : ℕ) → p ≡ x.slots → 0 < ((slotted x n false).slot p).fragment → Next (slotted x n false) p
+    new p e pos =
+        let z : (slotted x n false).slot p ≡ record { message = n; fragment = sent x n; is_end_mark = false } = ap (slotted x n false).slot e ∙ slot-new x n false in
+        let some : 0 < sent x n = omega (arith, pos, ap (λ v. v.fragment) z) in
+        let r = s.last n (is-half x n some t.more t.alive) in
+        (r.0, e ∙ r.1, ap (λ v. has (slotted x n false) v.message r.0) z ∙ has-old x n false n r.0 (omega (arith, r.1)) ∙ r.2)
+
+    -- the new slot is of message n alone
+    taken : (k p : ℕ) → p ≡ x.slots → has (slotted x n false) k p ≡ true → n ≡ k
+    taken k p e h = same-is n k (both (n == k) (not false) (sym (has-new x n false k) ∙ ap (has (slotted x n false) k) (sym e) ∙ h)).0
+
+    clash : (j k : ℕ) → j < k → n ≡ j → n ≡ k → ⊥
+    clash j k lt a b = absurd (omega arith)
+
+    -- the first of it: those before it were sent
+    first : (r j k : ℕ) → j < k → k < x.count → on x r j ≡ true → on x r k ≡ true → n ≡ k → (0 < sent x n) ⊎ (sent x n ≤ 0) → 0 < sent (slotted x n false) j
+    first r j k jk lt a b e (inl pos) = omega (arith, sent-grows x n false j, s.turn r j k jk lt a b (omega (arith, pos, ap (sent x) e)))
+    first r j k jk lt a b e (inr z) =
+        let p = both ((x.message j).stream == r) ((x.message j).ordered && not (x.message j).expired) a in
+        let q = both (x.message j).ordered (not (x.message j).expired) p.1 in
+        let kp = both ((x.message k).stream == r) ((x.message k).ordered && not (x.message k).expired) b in
+        let kq = both (x.message k).ordered (not (x.message k).expired) kp.1 in
+        omega (arith, sent-grows x n false j, t.turn (ap (λ i. (x.message i).ordered) e ∙ kq.0) (omega arith) j (omega arith) q.0 (negated (x.message j).expired q.1))
+
+    -- a later message of the stream has no slot yet
+    early : (r j k q : ℕ) → j < k → on x r j ≡ true → on x r k ≡ true → q < x.slots → has x k q ≡ true → n ≡ j → ⊥
+    early r j k q jk a b lq h e =
+        let lt : k < x.count = rw (of-has x k q h).0 at (s.made q lq) in
+        let some : 0 < sent x n = omega (arith, s.turn r j k jk lt a b (sent-some x k q lq h), ap (sent x) e) in
+        let l = s.last n (is-half x n some t.more t.alive) in
+        let less : l.0 < q = s.ascend r j k l.0 q jk a b (omega (arith, l.1)) lq (ap (λ i. has x i l.0) (sym e) ∙ l.2) h in
+        absurd (omega (arith, l.1))

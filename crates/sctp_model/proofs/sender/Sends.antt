@@ -1,0 +1,189 @@
+use Rattle.std.proofs.Common.{◌≡◌, ℕ, ◌+◌, ◌-◌, ◌<◌, ◌≤◌, Bool, true, false, [], ◌∷◌, ◌++◌, length, Option, Some, None, refl, ap, sym, ◌∙◌, inl, inr, arith, length-append}
+use Rattle.std.specs.Prelude.{◌⊎◌, if◌then◌else◌, ◌&&◌, ◌||◌, not, ◌↔◌, slice_get, is_some, Result, Ok, Err}
+use Rattle.std.proofs.lemmas.Bool.{cases_lt}
+use Rattle.sctp_lists.specs.Kept.{kept, always, numbers_from, total_over, gathered}
+use Rattle.sctp_lists.proofs.More.{not_both}
+use Rattle.sctp_model.specs.declared.event.Event.TheVariants as E
+use Rattle.sctp_model.specs.declared.event.LinkRefusal.{LinkRefusal}
+use Rattle.sctp_model.specs.declared.event.LinkRefusal.TheVariants.{StreamUnknown, StreamOpen, MessageTooLarge, TsnsUsedUp, NoSuchDatagram, NotInFlight, SkipUnassigned, SkipNames, SpanTooWide, OutOfMemory}
+use Rattle.sctp_model.specs.Reply.{Reply}
+use Rattle.sctp_model.specs.Reply as R
+use Rattle.sctp_model.specs.World.{Setup, Data, World}
+use Rattle.sctp_model.specs.Messages
+use Rattle.sctp_model.specs.Amounts.{is_given_up}
+use Rattle.sctp_model.specs.Changes
+use Rattle.sctp_model.specs.Queues.{pending_fragments, pending_at}
+use Rattle.sctp_model.specs.Steps.{world_of, after, refusal_of, reply_to, sent_reply, Answers}
+use Rattle.sctp_model.specs.Laws.{OnEveryRun, pending_count, EmitsWherePending, TakesPending, IdleIsAnswered}
+use Rattle.sctp_model.proofs.sender.Shape.{Shape, shape, sent, parts, slotted, front_of}
+use Rattle.sctp_model.proofs.sender.SenderSteps.{Takes, is-half, sent-other, sent-here}
+use Rattle.sctp_model.proofs.sender.Fronts.{front-takes, front-none, is-unsent}
+use Rattle.sctp_model.proofs.sender.SenderRun.{Sane, sane-run, sane-takes, sane-started, filled-keeps}
+use Rattle.sctp_model.proofs.sender.Shapes
+use Rattle.sctp_lists.proofs.Getting.{length-mapped, get-last}
+use Rattle.sctp_lists.proofs.Totals.{length-numbers, length-gathered, total-plus, total-none, total-at, total-one}
+
+-- Each send takes fragments that wait.
+
+-- how many fragments of message n wait
+abbrev pub waiting_of : Shape → ℕ → ℕ
+waiting_of x n = if (x.message n).expired || (x.message n).abandoned then 0 else parts x n - sent x n
+
+abbrev pub waiting : Shape → ℕ
+waiting x = total_over (waiting_of x) (numbers_from 0 x.count)
+
+count-pending : (w : World) → pending_count w ≡ waiting (shape w)
+count-pending w =
+    let o : ℕ → Bool = λ n. (Messages.message_at w n).ordered && not (is_given_up w n) in
+    let u : ℕ → Bool = λ n. not (Messages.message_at w n).ordered && not (is_given_up w n) in
+    length-append (gathered (pending_fragments w) (Messages.messages_where w o)) (gathered (pending_fragments w) (Messages.messages_where w u))
+    ∙ ap (λ c. c + length (gathered (pending_fragments w) (Messages.messages_where w u))) (length-gathered (pending_fragments w) o 0 (length w.messages))
+    ∙ ap (λ c. total_over (λ n. if o n then length (pending_fragments w n) else 0) (kept always 0 (length w.messages)) + c) (length-gathered (pending_fragments w) u 0 (length w.messages))
+    ∙ total-plus (λ n. if o n then length (pending_fragments w n) else 0) (λ n. if u n then length (pending_fragments w n) else 0) (waiting_of (shape w)) always 0 (length w.messages)
+    (λ n a b. each (Messages.message_at w n).ordered (is_given_up w n) (length (pending_fragments w n)) (parts (shape w) n - sent (shape w) n) (length-mapped (pending_at w n) (numbers_from (sent (shape w) n) (parts (shape w) n - sent (shape w) n)) ∙ length-numbers (sent (shape w) n) (parts (shape w) n - sent (shape w) n)))
+  where
+    each : (b g : Bool) (l c : ℕ) → l ≡ c → (if b && not g then l else 0) + (if not b && not g then l else 0) ≡ (if g then 0 else c)
+    each true true l c e = refl
+    each true false l c e = omega (arith, e)
+    each false true l c e = refl
+    each false false l c e = omega (arith, e)
+
+-- nothing waits where there is no front
+none-waits : (x : Shape) → front_of x ≡ None → waiting x ≡ 0
+none-waits x e = total-none (waiting_of x) 0 x.count (λ n a b. each n (omega arith) (x.message n).expired refl (x.message n).abandoned refl)
+  where
+    left : (n : ℕ) → n < x.count → (x.message n).expired ≡ false → (x.message n).abandoned ≡ false → (sent x n < parts x n) ⊎ (parts x n ≤ sent x n) → (0 < sent x n) ⊎ (sent x n ≤ 0) → parts x n - sent x n ≡ 0
+    left n lt a b (inr g) s = omega arith
+    left n lt a b (inl l) (inl pos) = absurd (not_both (sym (front-none x e n lt).0 ∙ is-half x n pos l b))
+    left n lt a b (inl l) (inr z) = absurd (not_both (sym (front-none x e n lt).1 ∙ is-unsent x n (omega arith) a))
+
+    each : (n : ℕ) → n < x.count → (a : Bool) → (x.message n).expired ≡ a → (b : Bool) → (x.message n).abandoned ≡ b → waiting_of x n ≡ 0
+    each n lt true p b q = rw p refl
+    each n lt false p true q = rw (p, q) refl
+    each n lt false p false q = rw (p, q) (left n lt p q (cases_lt (sent x n) (parts x n)) (cases_lt 0 (sent x n)))
+
+waits-of : (x : Shape) (n : ℕ) → Takes x n → waiting_of x n ≡ parts x n - sent x n
+waits-of x n t = rw (t.kept, t.alive) refl
+
+-- something waits where there is one
+some-waits : (x : Shape) (n : ℕ) → Takes x n → 0 < waiting x
+some-waits x n t = omega (arith, total-at (waiting_of x) n 0 x.count (omega arith) (omega (arith, t.made)), waits-of x n t, t.more)
+
+-- a fragment that takes a slot waits no more
+taken-waits : (x : Shape) (n : ℕ) → Takes x n → waiting (slotted x n false) + 1 ≡ waiting x
+taken-waits x n t =
+    total-one (waiting_of (slotted x n false)) (waiting_of x) n 1 0 x.count (omega arith) (omega (arith, t.made))
+    (λ k ne. ap (λ c. if (x.message k).expired || (x.message k).abandoned then 0 else parts x k - c) (sent-other x n false k (λ e. ne (sym e))))
+    (ap (λ c. (if (x.message n).expired || (x.message n).abandoned then 0 else parts x n - c) + 1) (sent-here x n) ∙ here ∙ sym (waits-of x n t))
+  where
+    here : (if (x.message n).expired || (x.message n).abandoned then 0 else parts x n - (sent x n + 1)) + 1 ≡ parts x n - sent x n
+    here = rw (t.kept, t.alive) (omega (arith, t.more))
+
+-- ## The law
+
+pub emits_where_pending : OnEveryRun EmitsWherePending
+emits_where_pending setup h is run now = step (Messages.front (world_of setup h)) refl
+  where
+    step : (o : Option ℕ) → Messages.front (world_of setup h) ≡ o → (sent_reply (world_of setup h) (after (world_of setup h) (E.Send now)) o ≡ R.Idle) ↔ (pending_count (world_of setup h) ≡ 0)
+    step None e = (λ i. count-pending (world_of setup h) ∙ none-waits (shape (world_of setup h)) e, λ z. refl)
+    step (Some n) e = (
+      λ i. cc,
+      λ z. absurd (omega (arith, z, count-pending (world_of setup h), some-waits (shape (world_of setup h)) n (front-takes (shape (world_of setup h)) n (sane-run setup h run).sender e))),
+    )
+
+-- what a record of which some fragments took slots keeps
+record Sending (setup : Setup) (w v : World) : Type 0 where
+  sane : Sane setup v
+  more : length w.slots < length v.slots
+  balance : waiting (shape v) + length v.slots ≡ waiting (shape w) + length w.slots
+  network : v.network ≡ w.network
+
+sending-more : (setup : Setup) (w v : World) → Sending setup w v → Sending setup w (Changes.fragment_sent v)
+sending-more setup w v s = record { sane = sane-takes setup v s.sane; more = r.0; balance = r.1; network = r.2 }
+  where
+    step : (o : Option ℕ) → Messages.front v ≡ o → (length w.slots < length (Changes.fragment_of_sent v o).slots) × (waiting (shape (Changes.fragment_of_sent v o)) + length (Changes.fragment_of_sent v o).slots ≡ waiting (shape w) + length w.slots) × ((Changes.fragment_of_sent v o).network ≡ w.network)
+    step None e = (s.more, s.balance, s.network)
+    step (Some n) e =
+        let t = front-takes (shape v) n s.sane.sender e in
+        let i = Shapes.shape-slot v n false in
+        let l = ap (λ y. y.slots) i in
+        (omega (arith, l, s.more), omega (arith, l, ap waiting i, taken-waits (shape v) n t, s.balance), s.network)
+
+    r : (length w.slots < length (Changes.fragment_sent v).slots) × (waiting (shape (Changes.fragment_sent v)) + length (Changes.fragment_sent v).slots ≡ waiting (shape w) + length w.slots) × ((Changes.fragment_sent v).network ≡ w.network)
+    r = step (Messages.front v) refl
+
+sending-first : (setup : Setup) (w : World) (now n : ℕ) → Sane setup w → Messages.front w ≡ Some n → Sending setup w (Changes.fragment_sent (Changes.started w now))
+sending-first setup w now n g e = rw f (record {
+  sane = rw f at (sane-takes setup (Changes.started w now) (sane-started setup w now g));
+  more = omega (arith, l, slots);
+  balance = omega (arith, l, slots, ap waiting i, ap (λ y. waiting (slotted y n false)) same, taken-waits (shape w) n (front-takes (shape w) n g.sender e));
+  network = refl;
+})
+  where
+    same : shape (Changes.started w now) ≡ shape w
+    same = Shapes.shape-started w now
+
+    f : Messages.front (Changes.started w now) ≡ Some n
+    f = ap front_of same ∙ e
+
+    i : shape (Changes.with_slot (Changes.started w now) n false) ≡ slotted (shape (Changes.started w now)) n false
+    i = Shapes.shape-slot (Changes.started w now) n false
+
+    l : length (Changes.with_slot (Changes.started w now) n false).slots ≡ length w.slots + 1
+    l = ap (λ y. y.slots) i
+
+    slots : length (Changes.started w now).slots ≡ length w.slots
+    slots = refl
+
+pub takes_pending : OnEveryRun TakesPending
+takes_pending setup h is run now d tsn ssn count e = step (Messages.front (world_of setup h)) refl e
+  where
+    step : (o : Option ℕ) → Messages.front (world_of setup h) ≡ o
+        → sent_reply (world_of setup h) (Changes.sent_from (Changes.started (world_of setup h) now) o) o ≡ R.Sent d tsn ssn count
+        → (0 < count) × ((pending_count (Changes.sent_from (Changes.started (world_of setup h) now) o) + count ≡ pending_count (world_of setup h)) × (slice_get (Changes.sent_from (Changes.started (world_of setup h) now) o).network d ≡ Some (Data (numbers_from (length (world_of setup h).slots) count))))
+    step None f i = cc
+    step (Some n) f i =
+        let u = Changes.started (world_of setup h) now in
+        let v = Changes.fragments_sent u in
+        let s : Sending setup (world_of setup h) v = filled-keeps (Sending setup (world_of setup h)) (λ v q. sending-more setup (world_of setup h) v q) u.setup.limit (Changes.plus 12 (Changes.next_length u)) (Changes.fragment_sent u) (sending-first setup (world_of setup h) now n (sane-run setup h run) f) in
+        let c : length v.slots - length (world_of setup h).slots ≡ count = cc in
+        let dd : length (world_of setup h).network ≡ d = cc in (
+          omega (arith, s.more, c),
+          (
+            omega (arith, s.more, c, s.balance, count-pending (world_of setup h), count-pending (Changes.with_data u v)),
+            ap (λ k. slice_get (v.network ++ Data (numbers_from (length (world_of setup h).slots) (length v.slots - length (world_of setup h).slots)) ∷ []) k) (sym dd ∙ ap length (sym s.network))
+                ∙ get-last v.network (Data (numbers_from (length (world_of setup h).slots) (length v.slots - length (world_of setup h).slots)))
+                ∙ ap (λ k. Some (Data (numbers_from (length (world_of setup h).slots) k))) c,
+          ),
+        )
+
+-- an idle Send wants no memory
+pub idle_is_answered : OnEveryRun IdleIsAnswered
+idle_is_answered setup h is run now result new a = (told result a, λ z. idle result a ((emits_where_pending setup h is run now).1 z))
+  where
+    w : World
+    w = world_of setup h
+
+    told : (result : Result Reply LinkRefusal) → Answers w (E.Send now) result new → result ≡ Ok R.Idle → pending_count w ≡ 0
+    told (Ok reply) a e = let z : reply ≡ R.Idle = cc in (emits_where_pending setup h is run now).0 (sym a.1.right ∙ z)
+    told (Err refusal) a e = cc
+
+    never : (r : LinkRefusal) → refusal_of w (E.Send now) ≡ Some r → ⊥
+    never r e = cc
+
+    none : (o : Option ℕ) → sent_reply w (after w (E.Send now)) o ≡ R.Idle → is_some o ≡ false
+    none None e = refl
+    none (Some n) e = cc
+
+    idle : (result : Result Reply LinkRefusal) → Answers w (E.Send now) result new → reply_to w (E.Send now) ≡ R.Idle → result ≡ Ok R.Idle
+    idle (Ok reply) a e = ap Ok (a.1.right ∙ e)
+    idle (Err OutOfMemory) a e = absurd (not_both (sym (ap (λ b. b && true) (none (Messages.front w) e)) ∙ a.because))
+    idle (Err StreamUnknown) a e = absurd (never StreamUnknown a.because)
+    idle (Err StreamOpen) a e = absurd (never StreamOpen a.because)
+    idle (Err MessageTooLarge) a e = absurd (never MessageTooLarge a.because)
+    idle (Err TsnsUsedUp) a e = absurd (never TsnsUsedUp a.because)
+    idle (Err NoSuchDatagram) a e = absurd (never NoSuchDatagram a.because)
+    idle (Err NotInFlight) a e = absurd (never NotInFlight a.because)
+    idle (Err SkipUnassigned) a e = absurd (never SkipUnassigned a.because)
+    idle (Err SkipNames) a e = absurd (never SkipNames a.because)
+    idle (Err SpanTooWide) a e = absurd (never SpanTooWide a.because)

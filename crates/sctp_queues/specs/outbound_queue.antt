@@ -1,0 +1,3 @@
+-- What the contracts of `OutboundQueue` cite.
+pub mod Numbering
+pub mod OutboundQueue

@@ -1,0 +1,3 @@
+-- What the contracts of `PayloadQueue` cite.
+pub mod Blocks
+pub mod PayloadQueue

@@ -1,0 +1,3 @@
+-- What the contracts of `PendingQueue` cite.
+pub mod PendingQueue
+pub mod Whole
