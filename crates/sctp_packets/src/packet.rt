@@ -6,7 +6,7 @@ ghost use Rattle.std.specs.Prelude.{[]};
 ghost use Rattle.sctp_base.specs.Field.{le32, u16_at, u32_at};
 ghost use Rattle.sctp_base.specs.declared.error.Error.TheVariants.{ErrOutOfMemory};
 ghost use Rattle.sctp_base.specs.Outcome.{OrMemory, GivesUnlessMemory};
-ghost use Rattle.sctp_chunks.specs.Check.{TextFault};
+ghost use Rattle.sctp_chunks.specs.Check.{TextFault, IsTextError};
 ghost use Rattle.sctp_chunks.specs.Kind.{wire_of, IsFreshKind};
 ghost use Rattle.sctp_chunks.specs.Fits.{Fits, Canonical};
 ghost use Rattle.sctp_chunks.specs.Wire.{Wire, HasText};
@@ -237,7 +237,12 @@ impl Packet {
         ensures reads_back { IsCanonical (parts_of self.now) → OnOk result (ReadsPacket (C.sum checksum.now)
             (packet_text (C.sum checksum.now) (parts_of self.now)) (parts_of self.now)) }
         ensures err { OnErr result (buf.new.items ≡ buf.old.items) }
-        ensures refused { IfErr result (λ e. PacketTextFault e (parts_of self.now)
+        ensures refused { IfErr result (λ e.
+            (IsTextError e × (HavePacketText (parts_of self.now) → ⊥))
+            ⊎ ((e ≡ ErrOutOfMemory)
+            × (buf.old.spare < length (packet_text (C.sum checksum.now) (parts_of self.now))))) }
+        // The fault is that of the first chunk without a text; for memory it is refused only where room was short before it.
+        ensures names { IfErr result (λ e. PacketTextFault e (parts_of self.now)
             ⊎ ((e ≡ ErrOutOfMemory) × LacksRoom buf.old.spare 12 (parts_of self.now).chunks)) }
     {
         let start = buf.len();
@@ -256,7 +261,9 @@ impl Packet {
             × (b ≡ packet_text (C.sum checksum.now) (parts_of self.now))) }
         ensures reads_back { IsCanonical (parts_of self.now)
             → IfOk result (λ b. ReadsPacket (C.sum checksum.now) b (parts_of self.now)) }
-        ensures refused { IfErr result (λ e. OrMemory e (PacketTextFault e (parts_of self.now))) }
+        ensures refused { IfErr result (λ e. OrMemory e
+            (IsTextError e × (HavePacketText (parts_of self.now) → ⊥))) }
+        ensures names { IfErr result (λ e. OrMemory e (PacketTextFault e (parts_of self.now))) }
     {
         let mut buf = BytesMut::new(alloc);
         self.marshal_to(&mut buf, checksum)?;
