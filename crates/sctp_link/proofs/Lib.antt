@@ -1,4 +1,6 @@
 pub mod Places
+pub mod ChangedStreams
+pub mod Expiring
 pub mod Comes
 pub mod HandsOut
 pub mod Keeping

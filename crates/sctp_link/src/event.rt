@@ -27,6 +27,11 @@ pub enum Reply {
     Resent {
         datagram: u64,
     },
+    /// The stream of the message that expired, and how many bytes left.
+    Expired {
+        stream: u16,
+        bytes: u64,
+    },
     Ack {
         datagram: u64,
     },

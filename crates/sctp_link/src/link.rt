@@ -5,6 +5,7 @@ ghost use Rattle.sctp_base.specs.declared.error.Error.TheVariants.{ErrOutOfMemor
 
 mod acknowledged;
 mod acknowledging;
+mod expiring;
 pub mod lending;
 mod open_streams;
 mod receiving;
@@ -165,7 +166,7 @@ impl<C: Checksum + Drop> Link<C> {
             Event::Arrive { k } => self.arrive(k),
             Event::Acked { k } => self.acked(k),
             Event::Read { stream } => Ok(self.read(stream)),
-            Event::Expire { now: _now } => unreachable!(),
+            Event::Expire { now } => Ok(self.expire(now)),
             Event::Tail { now: _now } => unreachable!(),
             Event::Late { now: _now } => unreachable!(),
             Event::Abandon { tsn: _tsn } => unreachable!(),
