@@ -154,10 +154,10 @@ module _ (sum : List ℕ → ℕ) (x : State) (l : IsLinked sum x) (now : ℕ) w
           let inside : k < length x.open_streams = omega (arith, lt, ap length ls_is, length-change_where (has_number s) (expired_on ordered bytes) x.open_streams) in
           subst (IsOpenStream v)
           (sym (
-            ap (λ a. slice_index_or a k d) ls_is ∙ changed-at (expired_on ordered bytes) s x.open_streams k d inside
-            ∙ ap (λ t. if t == y.state.stream_identifier then expired_on ordered bytes y else y) s_is
-            ∙ ap (λ o. if (message_at x.world n).stream == y.state.stream_identifier then expired_on o bytes y else y) kind
-            ∙ ap (λ b. if (message_at x.world n).stream == y.state.stream_identifier then expired_on (message_at x.world n).ordered b y else y) bytes_is
+          ap (λ a. slice_index_or a k d) ls_is ∙ changed-at (expired_on ordered bytes) s x.open_streams k d inside
+          ∙ ap (λ t. if t == y.state.stream_identifier then expired_on ordered bytes y else y) s_is
+          ∙ ap (λ o. if (message_at x.world n).stream == y.state.stream_identifier then expired_on o bytes y else y) kind
+          ∙ ap (λ b. if (message_at x.world n).stream == y.state.stream_identifier then expired_on (message_at x.world n).ordered b y else y) bytes_is
           ))
           (stream-expired y (l.open_streams k d inside))
 

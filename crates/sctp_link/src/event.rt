@@ -32,6 +32,11 @@ pub enum Reply {
         stream: u16,
         bytes: u64,
     },
+    /// The stream of the message that was given up, and how many bytes left.
+    Released {
+        stream: u16,
+        bytes: u64,
+    },
     Ack {
         datagram: u64,
     },

@@ -46,5 +46,8 @@ returns-clause-right g c =
     let r = expires (g.C.Checksum.sum c.self.inside.checksum) (state_in c.self.inside) c.self.invariant c.args.now c.in-Some.chunk.now (c.in-Some-expire_pending.stream, c.in-Some-expire_pending.unordered, c.in-Some-expire_pending.bytes) c.expire_pending.new.self shown c.in-Some-expire_pending.ensures.answer c.in-Some-expire_pending.ensures.released c.in-Some-expire_pending.ensures.expired in
     let ms = c.self.inside.messages.items in
     let lt : c.in-Some.chunk.now.message_id < length ms = omega (arith, r.made, length-mapped message_record ms) in
-    rw (← c.self.view_is) (record { right = r.right; moves = moves-expired (g.C.Checksum.sum c.self.inside.checksum) (state_in c.self.inside) c.self.invariant c.args.now c.in-Some.chunk.now.message_id r.is c.in-Some-expire_pending.stream c.in-Some-expire_pending.bytes (not c.in-Some-expire_pending.unordered) c.expire.new.self.items.items c.expire_pending.new.self r.stream r.kind r.bytes c.expire.ensures.items c.in-Some-expire_pending.ensures.expired
-    ms (record c.index_mut.result.now { expired = true }) c.index_mut.result.now refl refl refl lt (ap (λ (t : Message). record t { expired = true }) c.index_mut.ensures.value); })
+    rw (← c.self.view_is) (record {
+      right = r.right;
+      moves = moves-expired (g.C.Checksum.sum c.self.inside.checksum) (state_in c.self.inside) c.self.invariant c.args.now c.in-Some.chunk.now.message_id r.is c.in-Some-expire_pending.stream c.in-Some-expire_pending.bytes (not c.in-Some-expire_pending.unordered) c.expire.new.self.items.items c.expire_pending.new.self r.stream r.kind r.bytes c.expire.ensures.items c.in-Some-expire_pending.ensures.expired
+          ms (record c.index_mut.result.now { expired = true }) c.index_mut.result.now refl refl refl lt (ap (λ (t : Message). record t { expired = true }) c.index_mut.ensures.value);
+    })
