@@ -79,6 +79,24 @@ fn read_short(word: &str, rest: &mut Option<&str>) -> Option<Event>
         "read" => Some(Event::Read {
             stream: take_u16(rest)?,
         }),
+        _ => read_giving_up(word, rest),
+    }
+}
+
+/// Reads the field of an event that gives up a message.
+fn read_giving_up(word: &str, rest: &mut Option<&str>) -> Option<Event>
+    ensures { IfSome result (λ event. IsBuilt event) }
+{
+    match word {
+        "expire" => Some(Event::Expire {
+            now: take_u64(rest)?,
+        }),
+        "tail" => Some(Event::Tail {
+            now: take_u64(rest)?,
+        }),
+        "abandon" => Some(Event::Abandon {
+            tsn: take_u32(rest)?,
+        }),
         _ => None,
     }
 }
@@ -211,6 +229,8 @@ fn print_numbers<W: Write>(output: &mut W, reply: &Reply) -> io::Result<()> {
         } => write!(output, "sent {datagram} {tsn} {ssn}\n"),
         Reply::Idle => write!(output, "idle\n"),
         Reply::Resent { datagram } => write!(output, "resent {datagram}\n"),
+        Reply::Expired { stream, bytes } => write!(output, "expired {stream} {bytes}\n"),
+        Reply::Released { stream, bytes } => write!(output, "released {stream} {bytes}\n"),
         Reply::Ack { datagram } => write!(output, "ack {datagram}\n"),
         Reply::New => write!(output, "new\n"),
         Reply::Repeat => write!(output, "repeat\n"),
