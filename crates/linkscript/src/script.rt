@@ -1,7 +1,6 @@
 //! The script language: lines that are events, and lines that are replies.
 
-ghost use Rattle.std.specs.Prelude.{◌≤◌, ℕ, IfOk, IfSome};
-ghost use Rattle.sctp_link.specs.Replies.{IsBuilt};
+ghost use Rattle.std.specs.Prelude.{◌≤◌, ℕ, IfSome};
 
 use crate::field::{FieldFault, field_bytes, field_text};
 use crate::run::RunFault;
@@ -37,14 +36,13 @@ pub fn read_link<C: Checksum + Drop>(alloc: Global, checksum: C, line: &str) -> 
     Some(Link::new(alloc, first_tsn, fragment_size, max_message_size, checksum))
 }
 
-/// Reads an event. The word of an event that a link does not take yet is not read.
-pub fn read_event(alloc: Global, line: &str) -> Result<Event, LineFault>
-    ensures { IfOk result (λ event. IsBuilt event) }
-{
+/// Reads an event.
+pub fn read_event(alloc: Global, line: &str) -> Result<Event, LineFault> {
     let mut rest = Some(line);
     let word = take_word(&mut rest).ok_or(LineFault::Unreadable)?;
     let event = match word {
         "write" => read_write(alloc, &mut rest)?,
+        "skip" => read_skip(alloc, &mut rest)?,
         "mode" => read_mode(&mut rest).ok_or(LineFault::Unreadable)?,
         _ => read_short(word, &mut rest).ok_or(LineFault::Unreadable)?,
     };
@@ -55,9 +53,7 @@ pub fn read_event(alloc: Global, line: &str) -> Result<Event, LineFault>
 }
 
 /// Reads the field of an event of one number.
-fn read_short(word: &str, rest: &mut Option<&str>) -> Option<Event>
-    ensures { IfSome result (λ event. IsBuilt event) }
-{
+fn read_short(word: &str, rest: &mut Option<&str>) -> Option<Event> {
     match word {
         "open" => Some(Event::Open {
             stream: take_u16(rest)?,
@@ -69,6 +65,18 @@ fn read_short(word: &str, rest: &mut Option<&str>) -> Option<Event>
             now: take_u64(rest)?,
         }),
         "resend" => Some(Event::Resend {
+            tsn: take_u32(rest)?,
+        }),
+        "expire" => Some(Event::Expire {
+            now: take_u64(rest)?,
+        }),
+        "tail" => Some(Event::Tail {
+            now: take_u64(rest)?,
+        }),
+        "late" => Some(Event::Late {
+            now: take_u64(rest)?,
+        }),
+        "abandon" => Some(Event::Abandon {
             tsn: take_u32(rest)?,
         }),
         "ack" => Some(Event::Ack {
@@ -83,9 +91,7 @@ fn read_short(word: &str, rest: &mut Option<&str>) -> Option<Event>
     }
 }
 
-fn read_mode(rest: &mut Option<&str>) -> Option<Event>
-    ensures { IfSome result (λ event. IsBuilt event) }
-{
+fn read_mode(rest: &mut Option<&str>) -> Option<Event> {
     let stream = take_u16(rest)?;
     let unordered = match take_word(rest)? {
         "ordered" => false,
@@ -106,9 +112,7 @@ fn read_mode(rest: &mut Option<&str>) -> Option<Event>
     })
 }
 
-fn read_write(alloc: Global, rest: &mut Option<&str>) -> Result<Event, LineFault>
-    ensures { IfOk result (λ event. IsBuilt event) }
-{
+fn read_write(alloc: Global, rest: &mut Option<&str>) -> Result<Event, LineFault> {
     let stream = take_u16(rest).ok_or(LineFault::Unreadable)?;
     let ppi = take_u32(rest).ok_or(LineFault::Unreadable)?;
     let text = take_word(rest).ok_or(LineFault::Unreadable)?;
@@ -122,6 +126,23 @@ fn read_write(alloc: Global, rest: &mut Option<&str>) -> Result<Event, LineFault
         ppi: ppi.into(),
         bytes,
     })
+}
+
+/// Reads the fields of a skip: a TSN, and the numbers of messages with commas between them, or `-`.
+fn read_skip(alloc: Global, rest: &mut Option<&str>) -> Result<Event, LineFault> {
+    let upto = take_u32(rest).ok_or(LineFault::Unreadable)?;
+    let names = take_word(rest).ok_or(LineFault::Unreadable)?;
+    let mut messages = Vec::new(alloc);
+    if names == "-" {
+        return Ok(Event::Skip { upto, messages });
+    }
+    for name in names.split(',') {
+        let number = number_of(name, u64::MAX).ok_or(LineFault::Unreadable)?;
+        if messages.push(number).is_err() {
+            return Err(LineFault::Memory);
+        }
+    }
+    Ok(Event::Skip { upto, messages })
 }
 
 /// Takes the next word. Words stand one space apart.
@@ -143,7 +164,13 @@ fn take_word<'a>(rest: &mut Option<&'a str>) -> Option<&'a str> {
 fn take_number(rest: &mut Option<&str>, most: u64) -> Option<u64>
     ensures { IfSome result (λ n. n ≤ most) }
 {
-    let word = take_word(rest)?;
+    number_of(take_word(rest)?, most)
+}
+
+/// The number that these decimal digits write, where it is at most this one.
+fn number_of(word: &str, most: u64) -> Option<u64>
+    ensures { IfSome result (λ n. n ≤ most) }
+{
     if !word.bytes().all(|b| b.is_ascii_digit()) {
         return None;
     }
@@ -211,9 +238,15 @@ fn print_numbers<W: Write>(output: &mut W, reply: &Reply) -> io::Result<()> {
         } => write!(output, "sent {datagram} {tsn} {ssn}\n"),
         Reply::Idle => write!(output, "idle\n"),
         Reply::Resent { datagram } => write!(output, "resent {datagram}\n"),
+        Reply::Expired { stream, bytes } => write!(output, "expired {stream} {bytes}\n"),
+        Reply::Released { stream, bytes } => write!(output, "released {stream} {bytes}\n"),
+        Reply::Late { listed, bytes } => write!(output, "late {listed} {bytes}\n"),
+        Reply::Skip { datagram } => write!(output, "skip {datagram}\n"),
         Reply::Ack { datagram } => write!(output, "ack {datagram}\n"),
         Reply::New => write!(output, "new\n"),
         Reply::Repeat => write!(output, "repeat\n"),
+        Reply::Skipped => write!(output, "skipped\n"),
+        Reply::Stale => write!(output, "stale\n"),
         Reply::Acked { bytes } => write!(output, "acked {bytes}\n"),
         Reply::Message { .. } | Reply::Nothing => write!(output, "none\n"),
     }
