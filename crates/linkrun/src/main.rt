@@ -6,7 +6,8 @@ ghost use Rattle.std.specs.Prelude.{◌≡◌, ◌⊎◌, IfOk};
 pub mod checksum;
 
 use crate::checksum::Crc32c;
-use linkscript::run::{RunFault, run_under};
+pub use linkscript::run::RunFault;
+use linkscript::run::run_under;
 use std::alloc::Global;
 use std::io::{self, BufWriter, Read, Write};
 use std::process::ExitCode;

@@ -24,4 +24,4 @@ no_form e _ f = absurd f
 -- a refusal of writing says that there is no text, by one of four errors
 pub no_text : (e : Error) (w : Wire) → TextFault e w → IsTextError e × (HasText w → ⊥)
 no_text e w (inl f) = no_form e w f
-no_text e w (inr f) = (inl f.0, λ t. f.1 t.1)
+no_text e w (inr f) = (inl f.0, λ t. f.2 t.1)

@@ -6,7 +6,7 @@ use Rattle.sctp_base.specs.Param.{Parameter}
 use Rattle.sctp_chunks.specs.Init.{Init}
 use Rattle.sctp_chunks.specs.Heartbeat.{OneInfoFault}
 use Rattle.sctp_chunks.specs.Reconfig.{IsPair, PairFault}
-use Rattle.sctp_chunks.specs.Wire.{Wire, init_chunk, heartbeat_ack_chunk, reconfig_chunk, HasLength}
+use Rattle.sctp_chunks.specs.Wire.{Wire, init_chunk, heartbeat_ack_chunk, reconfig_chunk, HasForm, HasLength}
 
 -- the values that an INIT must not have (RFC 4960 3.3.2), the first one named
 abbrev pub IsCheckedInit : Init → Type 0
@@ -41,9 +41,9 @@ FormFault e (heartbeat_ack_chunk ps) = OneInfoFault e ps
 FormFault e (reconfig_chunk r) = NoFirstFault e r.param_a
 FormFault e _ = ⊥
 
--- why a chunk has no text
+-- why a chunk has no text: what its kind asks for comes before its length
 abbrev pub TextFault : Error → Wire → Type 0
-TextFault e w = FormFault e w ⊎ ((e ≡ errors.ErrLengthTooLarge) × (HasLength w → ⊥))
+TextFault e w = FormFault e w ⊎ ((e ≡ errors.ErrLengthTooLarge) × HasForm w × (HasLength w → ⊥))
 
 -- the errors that say that there is no text
 abbrev pub IsTextError : Error → Type 0

@@ -1,24 +1,36 @@
 -- What is written of chunks.
-use Rattle.std.proofs.Common.{◌≡◌, ℕ, zero, suc, ◌+◌, ◌-◌, ◌<◌, ◌≤◌, List, [], ◌∷◌, ◌++◌, length, get_or, take, replicate, refl, arith, ap, ◌∙◌, length-append, append_assoc}
+use Rattle.std.proofs.Common.{◌≡◌, ℕ, zero, suc, ◌+◌, ◌-◌, ◌<◌, ◌≤◌, List, [], ◌∷◌, ◌++◌, length, get_or, take, replicate, refl, arith, ap, ◌∙◌, length-append, append_assoc, inl, inr}
 use Rattle.std.specs.Prelude.{map}
 use Rattle.std.specs.List.{AllByRecursion}
 use Rattle.std.proofs.lemmas.List.{length-replicate}
 use Rattle.std.proofs.lemmas.List.Concat.{flat_map-cons}
+use Rattle.sctp_base.specs.declared.error.Error.{Error}
 use Rattle.sctp_base.specs.Padding.{padding_of}
 use Rattle.sctp_chunks.specs.declared.chunk.chunk_kind.ChunkKind.{ChunkKind}
 use Rattle.sctp_chunks.specs.Kind.{wire_of}
 use Rattle.sctp_chunks.specs.Wire.{Wire, HasText, text_of, value_of}
+use Rattle.sctp_chunks.specs.Check.{TextFault, IsTextError}
+use Rattle.sctp_chunks.proofs.Texts.{no_text}
 use Rattle.sctp_base.specs.Field.{be16, le32}
 use Rattle.sctp_base.specs.Padding.{four_zeroes}
 use Rattle.sctp_base.proofs.Fields.{length_be16, length_le32}
 use Rattle.sctp_packets.specs.Packet.{Parts, padded_text, body_of, head_of, packet_text}
+use Rattle.sctp_packets.specs.Fault.{FirstTextFault, LacksRoom}
 use Rattle.sctp_packets.proofs.Sealed.{length_head_text}
 
--- each of the chunks has a text
-pub has_text_at : (cs : List ChunkKind) (i : ℕ) (d : ChunkKind) → i < length cs → AllByRecursion HasText (map wire_of cs) → HasText (wire_of (get_or cs i d))
-has_text_at [] i d lt all = absurd (omega arith)
-has_text_at (c ∷ cs) zero d lt all = all.0
-has_text_at (c ∷ cs) (suc i) d lt all = has_text_at cs i d (omega arith) all.1
+-- chunks that have a text, and then one that has none
+pub first_fault_at : (e : Error) (cs : List ChunkKind) (i : ℕ) (d : ChunkKind) → i < length cs → AllByRecursion HasText (map wire_of (take i cs))
+    → TextFault e (wire_of (get_or cs i d)) → FirstTextFault e (map wire_of cs)
+first_fault_at e [] i d lt texts fault = absurd (omega arith)
+first_fault_at e (c ∷ cs) zero d lt texts fault = inl fault
+first_fault_at e (c ∷ cs) (suc i) d lt texts fault = inr (texts.0, first_fault_at e cs i d (omega arith) texts.1 fault)
+
+-- chunks that have a text, and one more
+pub texts_next : (cs : List ChunkKind) (i : ℕ) (d : ChunkKind) → i < length cs → AllByRecursion HasText (map wire_of (take i cs)) → HasText (wire_of (get_or cs i d))
+    → AllByRecursion HasText (take (suc i) (map wire_of cs))
+texts_next [] i d lt texts text = absurd (omega arith)
+texts_next (c ∷ cs) zero d lt texts text = (text, tt)
+texts_next (c ∷ cs) (suc i) d lt texts text = (texts.0, texts_next cs i d (omega arith) texts.1 text)
 
 -- a text and its padding, appended one after the other
 pub padded_after : (old new after : List ℕ) (w : Wire) (padding : ℕ) → new ≡ old ++ text_of w → padding ≡ padding_of (length new - length old)
@@ -37,19 +49,37 @@ pub length_padded_text : (w : Wire) → length (padded_text w) ≡ 4 + length (v
 unfolding padded_text
 length_padded_text w = rw (length-append, length-replicate, length_text w) refl
 
--- the chunks up to a place and the one there take no more than all of them
-pub body_at : (cs : List ChunkKind) (i : ℕ) (d : ChunkKind) → i < length cs
-    → length (body_of (map wire_of (take i cs))) + length (padded_text (wire_of (get_or cs i d))) ≤ length (body_of (map wire_of cs))
-body_at [] i d lt = absurd (omega arith)
-body_at (c ∷ cs) zero d lt = rw (flat_map-cons, length-append) (omega arith)
-body_at (c ∷ cs) (suc i) d lt =
-    let more = body_at cs i d (omega arith) in
-    let here : length (body_of (map wire_of (take (suc i) (c ∷ cs)))) ≡ length (padded_text (wire_of c)) + length (body_of (map wire_of (take i cs))) =
-    rw (flat_map-cons, length-append) refl in
-    let all : length (body_of (map wire_of (c ∷ cs))) ≡ length (padded_text (wire_of c)) + length (body_of (map wire_of cs)) = rw (flat_map-cons, length-append) refl in
-    omega (arith, more, here, all)
+length_body : (w : Wire) (ws : List Wire) → length (body_of (w ∷ ws)) ≡ length (padded_text w) + length (body_of ws)
+length_body w ws = rw (flat_map-cons, length-append) refl
+
+-- how much the chunks up to a place and the one there take
+pub length_body_next : (cs : List ChunkKind) (i : ℕ) (d : ChunkKind) → i < length cs
+    → length (body_of (take (suc i) (map wire_of cs))) ≡ length (body_of (map wire_of (take i cs))) + length (padded_text (wire_of (get_or cs i d)))
+length_body_next [] i d lt = absurd (omega arith)
+length_body_next (c ∷ cs) zero d lt = omega (arith, length_body (wire_of c) [])
+length_body_next (c ∷ cs) (suc i) d lt =
+    let more = length_body_next cs i d (omega arith) in
+    let here = length_body (wire_of c) (map wire_of (take i cs)) in
+    let next = length_body (wire_of c) (take (suc i) (map wire_of cs)) in
+    omega (arith, more, here, next)
+
+-- the first chunks take no more than all of them
+pub length_body_take : (n : ℕ) (ws : List Wire) → length (body_of (take n ws)) ≤ length (body_of ws)
+length_body_take zero ws = omega arith
+length_body_take (suc n) [] = omega arith
+length_body_take (suc n) (w ∷ ws) = omega (arith, length_body_take n ws, length_body w ws, length_body w (take n ws))
 
 pub length_packet_text : (sum : List ℕ → ℕ) (p : Parts) → length (packet_text sum p) ≡ 12 + length (body_of p.chunks)
 length_packet_text sum p =
     let total = sum (head_of p ++ four_zeroes ++ body_of p.chunks) in
     omega (arith, length-append (head_of p ++ le32 total) (body_of p.chunks), length-append (head_of p) (le32 total), length_le32 total, length_head_text p.source_port p.destination_port p.verification_tag)
+
+-- room for the text of a packet is room for its header and its first chunks
+pub lacks_text : (sum : List ℕ → ℕ) (room : ℕ) (p : Parts) → LacksRoom room 12 p.chunks → room < length (packet_text sum p)
+lacks_text sum room p lacks = omega (arith, lacks.2, length_body_take lacks.0 p.chunks, length_packet_text sum p)
+
+-- a packet whose writing names a fault has no text
+pub no_packet_text : (e : Error) (ws : List Wire) → FirstTextFault e ws → IsTextError e × (AllByRecursion HasText ws → ⊥)
+no_packet_text e [] fault = absurd fault
+no_packet_text e (w ∷ ws) (inl fault) = let n = no_text e w fault in (n.0, λ all. n.1 all.0)
+no_packet_text e (w ∷ ws) (inr more) = let n = no_packet_text e ws more.1 in (n.0, λ all. n.1 all.1)

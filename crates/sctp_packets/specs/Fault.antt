@@ -1,14 +1,16 @@
--- What must stand in the bytes of a packet for each refusal.
-use Rattle.std.specs.Prelude.{◌≡◌, ◌≢◌, ℕ, ◌<◌, ◌≤◌, ◌⊎◌, List, length, drop}
+-- What must stand in the bytes of a packet for each refusal, and why a packet is not written.
+use Rattle.std.specs.Prelude.{◌≡◌, ◌≢◌, ℕ, ◌+◌, ◌<◌, ◌≤◌, ◌⊎◌, List, [], ◌∷◌, length, take, drop}
+use Rattle.std.specs.List.{AllByRecursion}
 use Rattle.sctp_base.specs.declared.error.Error.{Error}
 use Rattle.sctp_base.specs.declared.error.Error.TheVariants as errors
 use Rattle.sctp_base.specs.Field.{u32_le_at}
 use Rattle.sctp_base.specs.Padding.{padded}
 use Rattle.sctp_chunks.specs.Framing.{declared}
-use Rattle.sctp_chunks.specs.Wire.{Wire}
+use Rattle.sctp_chunks.specs.Wire.{Wire, HasText}
+use Rattle.sctp_chunks.specs.Check.{TextFault}
 use Rattle.sctp_chunks.specs.Kind.{KindFault}
 use Rattle.sctp_base.specs.Walk.{Walks}
-use Rattle.sctp_packets.specs.Packet.{Steps, after, summed}
+use Rattle.sctp_packets.specs.Packet.{Parts, Steps, after, summed, body_of}
 
 -- where the walk stands
 abbrev pub PlaceFault : Error → List ℕ → Type 0
@@ -29,3 +31,18 @@ HeadFault sum e bytes =
 
 abbrev pub PacketFault : (List ℕ → ℕ) → Error → List ℕ → Type 0
 PacketFault sum e bytes = HeadFault sum e bytes ⊎ WalkFault e (drop 12 bytes)
+
+-- ---- writing
+
+-- the refusal of the first of these chunks that has no text
+abbrev pub FirstTextFault : Error → List Wire → Type 0
+FirstTextFault e [] = ⊥
+FirstTextFault e (w ∷ ws) = TextFault e w ⊎ (HasText w × FirstTextFault e ws)
+
+-- why a packet has no text
+abbrev pub PacketTextFault : Error → Parts → Type 0
+PacketTextFault e p = FirstTextFault e p.chunks
+
+-- the room is short of so many bytes and of some first chunks, each of which has a text
+abbrev pub LacksRoom : ℕ → ℕ → List Wire → Type 0
+LacksRoom room head ws = (n : ℕ) × AllByRecursion HasText (take n ws) × (room < head + length (body_of (take n ws)))

@@ -5,7 +5,7 @@ use Rattle.sctp_base.specs.declared.error.Error.TheVariants as errors
 use Rattle.sctp_base.specs.Field.{u16_at, u32_at}
 use Rattle.sctp_base.specs.Walk.{Walks}
 use Rattle.sctp_chunks.specs.Framing.{IsFramed, type_at, value_at}
-use Rattle.sctp_chunks.specs.Fault.{HeaderFault}
+use Rattle.sctp_chunks.specs.Fault.{HeaderFault, IsInitChunk}
 use Rattle.sctp_packets.specs.declared.packet.partial_decode.PartialDecode.{PartialDecode}
 use Rattle.sctp_packets.specs.Packet.{Parts, IsHeaded, Steps, after}
 use Rattle.sctp_packets.specs.Fault.{HeadFault}
@@ -45,9 +45,10 @@ pub record Finishes (d : PartialDecode) (p : Parts) : Type 0 where
 abbrev pub HasChunks : Parts → Type 0
 HasChunks p = 0 < length p.chunks
 
+-- why such a beginning is refused. A value is at fault only in an INIT or INIT-ACK that is framed
 abbrev pub PartialFault : (List ℕ → ℕ) → Error → List ℕ → Type 0
 PartialFault sum e bytes =
     HeadFault sum e bytes
     ⊎ ((e ≡ errors.ErrParseSctpChunkNotEnoughData) × (12 ≤ length bytes) × (length bytes < 16))
     ⊎ ((16 ≤ length bytes) × HeaderFault e (drop 12 bytes))
-    ⊎ ((e ≡ errors.ErrChunkValueNotLongEnough) × IsInitType (type_at (drop 12 bytes)) × (length (value_at (drop 12 bytes)) < 4))
+    ⊎ ((e ≡ errors.ErrChunkValueNotLongEnough) × IsInitChunk (drop 12 bytes) × (length (value_at (drop 12 bytes)) < 4))

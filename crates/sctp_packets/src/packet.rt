@@ -6,7 +6,7 @@ ghost use Rattle.std.specs.Prelude.{[]};
 ghost use Rattle.sctp_base.specs.Field.{le32, u16_at, u32_at};
 ghost use Rattle.sctp_base.specs.declared.error.Error.TheVariants.{ErrOutOfMemory};
 ghost use Rattle.sctp_base.specs.Outcome.{OrMemory, GivesUnlessMemory};
-ghost use Rattle.sctp_chunks.specs.Check.{IsTextError};
+ghost use Rattle.sctp_chunks.specs.Check.{TextFault, IsTextError};
 ghost use Rattle.sctp_chunks.specs.Kind.{wire_of, IsFreshKind};
 ghost use Rattle.sctp_chunks.specs.Fits.{Fits, Canonical};
 ghost use Rattle.sctp_chunks.specs.Wire.{Wire, HasText};
@@ -15,7 +15,7 @@ ghost use Rattle.sctp_base.specs.Padding.{padded, four_zeroes};
 ghost use Rattle.sctp_base.specs.Walk.{Walks};
 ghost use Rattle.sctp_packets.specs.Packet.{Parts, parts_of, IsCanonical, IsHeaded, ReadsPacket, Steps, after, padded_text, body_of, head_text, head_of, HavePacketText, packet_text, FitsParts};
 ghost use Rattle.sctp_packets.specs.Sound.{is_init, has_init, IsSound, InitFault, SoundFault};
-ghost use Rattle.sctp_packets.specs.Fault.{HeadFault, PacketFault, PlaceFault, WalkFault};
+ghost use Rattle.sctp_packets.specs.Fault.{HeadFault, PacketFault, PlaceFault, WalkFault, FirstTextFault, PacketTextFault, LacksRoom};
 
 pub mod partial_decode;
 
@@ -137,8 +137,9 @@ fn put_chunk(buf: &mut BytesMut, chunk: &ChunkKind) -> Result<()>
     ensures spare { OnOk result (buf.old.spare ≤ buf.new.spare + length (padded_text (wire_of chunk.now))) }
     ensures fits { OnOk result (Fits (wire_of chunk.now)) }
     ensures err { OnErr result (buf.new.items ≡ buf.old.items) }
-    ensures refused { IfErr result (λ e. (IsTextError e × (HasText (wire_of chunk.now) → ⊥))
-        ⊎ ((e ≡ ErrOutOfMemory) × (buf.old.spare < length (padded_text (wire_of chunk.now))))) }
+    ensures refused { IfErr result (λ e. TextFault e (wire_of chunk.now)
+        ⊎ ((e ≡ ErrOutOfMemory) × HasText (wire_of chunk.now)
+        × (buf.old.spare < length (padded_text (wire_of chunk.now))))) }
 {
     let start = buf.len();
     let end = chunk.marshal_to(buf)?;
@@ -159,9 +160,8 @@ fn put_chunks(buf: &mut BytesMut, chunks: &[ChunkKind]) -> Result<()>
     ensures fits { OnOk result (AllByRecursion Fits (map wire_of chunks.now)) }
     ensures kept { take (length buf.old.items) buf.new.items ≡ buf.old.items }
     ensures spare { OnOk result (buf.old.spare ≤ buf.new.spare + length (body_of (map wire_of chunks.now))) }
-    ensures refused { IfErr result (λ e.
-        (IsTextError e × (AllByRecursion HasText (map wire_of chunks.now) → ⊥))
-        ⊎ ((e ≡ ErrOutOfMemory) × (buf.old.spare < length (body_of (map wire_of chunks.now))))) }
+    ensures refused { IfErr result (λ e. FirstTextFault e (map wire_of chunks.now)
+        ⊎ ((e ≡ ErrOutOfMemory) × LacksRoom buf.old.spare 0 (map wire_of chunks.now))) }
 {
     for chunk in chunks {
         put_chunk(buf, chunk)?;
@@ -241,6 +241,9 @@ impl Packet {
             (IsTextError e × (HavePacketText (parts_of self.now) → ⊥))
             ⊎ ((e ≡ ErrOutOfMemory)
             × (buf.old.spare < length (packet_text (C.sum checksum.now) (parts_of self.now))))) }
+        // The fault is that of the first chunk without a text; for memory it is refused only where room was short before it.
+        ensures names { IfErr result (λ e. PacketTextFault e (parts_of self.now)
+            ⊎ ((e ≡ ErrOutOfMemory) × LacksRoom buf.old.spare 12 (parts_of self.now).chunks)) }
     {
         let start = buf.len();
         match self.put(buf, checksum) {
@@ -260,6 +263,7 @@ impl Packet {
             → IfOk result (λ b. ReadsPacket (C.sum checksum.now) b (parts_of self.now)) }
         ensures refused { IfErr result (λ e. OrMemory e
             (IsTextError e × (HavePacketText (parts_of self.now) → ⊥))) }
+        ensures names { IfErr result (λ e. OrMemory e (PacketTextFault e (parts_of self.now))) }
     {
         let mut buf = BytesMut::new(alloc);
         self.marshal_to(&mut buf, checksum)?;
@@ -274,10 +278,8 @@ impl Packet {
         ensures sum_fits { OnOk result (C.sum checksum.now
             (head_of (parts_of self.now) ++ four_zeroes ++ body_of (parts_of self.now).chunks) < 2 ^ 32) }
         ensures kept { take (length buf.old.items) buf.new.items ≡ buf.old.items }
-        ensures refused { IfErr result (λ e.
-            (IsTextError e × (HavePacketText (parts_of self.now) → ⊥))
-            ⊎ ((e ≡ ErrOutOfMemory)
-            × (buf.old.spare < length (packet_text (C.sum checksum.now) (parts_of self.now))))) }
+        ensures refused { IfErr result (λ e. PacketTextFault e (parts_of self.now)
+            ⊎ ((e ≡ ErrOutOfMemory) × LacksRoom buf.old.spare 12 (parts_of self.now).chunks)) }
     {
         let start = buf.len();
         put_head(buf, self.common_header)?;

@@ -2,7 +2,6 @@ use Rattle.std.proofs.Common.{◌≡◌, ◌-◌, ◌+◌, length, refl, rules, 
 use Rattle.std.proofs.lemmas.Result.{err_from_is_err_and}
 use Rattle.sctp_chunks.specs.Kind.{wire_of}
 use Rattle.sctp_chunks.specs.Wire.{text_of, value_of}
-use Rattle.sctp_chunks.proofs.Texts.{no_text}
 use Rattle.sctp_packets.proofs.Written.{padded_after, length_padded_text, length_text}
 use Rattle.sctp_packets.proofs.packet.put_chunk.Goals as goal
 
@@ -17,8 +16,8 @@ returns-in_err-end-clause-refused c =
     let p = err_from_is_err_and c.from_residual.result c.from_residual.ensures.1 in
     let len = length_padded_text (wire_of c.args.chunk.now) in
     rw (p.1, p.2) (elim c.in_err-end.ensures.refused [
-      | inl long ↦ inl (no_text _ _ long)
-      | inr memory ↦ inr (memory.0, omega (arith, len, memory.2))
+      | inl fault ↦ inl fault
+      | inr memory ↦ inr (memory.0, memory.1, omega (arith, len, memory.2))
     ])
 
 pub returns-in-Ok-clause-spare : goal.returns-in-Ok-clause-spare
@@ -35,4 +34,4 @@ returns-in-Err-clause-refused c =
     let taken : c.in_ok-end.end - c.len-start.result ≡ 4 + length (value_of w) =
     omega (arith, length_text w, ap length c.in_ok-end.ensures.ok.1, length-append c.args.buf.now.items (text_of w), c.in_ok-end.ensures.ok.2, c.len-start.ensures.value) in
     let padding = rw taken at c.get_padding_size-padding.ensures in
-    inr (refl, omega (arith, length_padded_text w, padding, c.in_ok-end.ensures.spare, c.in-Err.ensures.spare))
+    inr (refl, c.in_ok-end.ensures.ok.0, omega (arith, length_padded_text w, padding, c.in_ok-end.ensures.spare, c.in-Err.ensures.spare))

@@ -5,7 +5,6 @@ use Rattle.sctp_chunks.specs.Kind.{wire_of}
 use Rattle.sctp_packets.specs.Packet.{parts_of, head_of, body_of}
 use Rattle.sctp_packets.proofs.Sealed.{length_head_text, unsealed_long, sealed, summed_is, kept_front}
 use Rattle.std.proofs.lemmas.Result.{err_from_is_err_and}
-use Rattle.sctp_packets.proofs.Written.{length_packet_text}
 use Rattle.sctp_packets.proofs.packet.Packet.put.Goals as goal
 
 pub returns-in_err-put_chunks-clause-kept : goal.returns-in_err-put_chunks-clause-kept
@@ -41,14 +40,14 @@ returns-clause-sum_fits g c =
 pub returns-in_err-put_head-clause-refused : goal.returns-in_err-put_head-clause-refused
 returns-in_err-put_head-clause-refused g c =
     let p = err_from_is_err_and c.from_residual.result c.from_residual.ensures.1 in
-    let len = length_packet_text (g.C.Checksum.sum c.args.checksum.now) (parts_of c.args.self.now) in
-    rw (p.1, p.2) (inr (c.in_err-put_head.ensures.refused.0, omega (arith, len, c.in_err-put_head.ensures.refused.1)))
+    rw (p.1, p.2) (inr (c.in_err-put_head.ensures.refused.0, (0, tt, omega (arith, c.in_err-put_head.ensures.refused.1))))
 
 pub returns-in_err-put_chunks-clause-refused : goal.returns-in_err-put_chunks-clause-refused
 returns-in_err-put_chunks-clause-refused g c =
     let p = err_from_is_err_and c.from_residual-in_err-put_chunks.result c.from_residual-in_err-put_chunks.ensures.1 in
-    let len = length_packet_text (g.C.Checksum.sum c.args.checksum.now) (parts_of c.args.self.now) in
     rw (p.1, p.2) (elim c.in_err-put_chunks.ensures.refused [
-      | inl long ↦ inl (long.0, λ all. long.1 (rw c.deref.ensures.value all))
-      | inr memory ↦ inr (memory.0, let short = rw c.deref.ensures.value at memory.1 in omega (arith, len, short, c.in_ok-put_head.ensures.spare))
+      | inl fault ↦ inl (rw (← c.deref.ensures.value) fault)
+      | inr memory ↦
+          let short = rw c.deref.ensures.value at memory.1 in
+          inr (memory.0, (short.0, short.1, omega (arith, short.2, c.in_ok-put_head.ensures.spare)))
     ])
