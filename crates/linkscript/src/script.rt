@@ -1,6 +1,7 @@
 //! The script language: lines that are events, and lines that are replies.
 
-ghost use Rattle.std.specs.Prelude.{◌≤◌, ℕ, IfSome};
+ghost use Rattle.std.specs.Prelude.{◌≤◌, ℕ, IfOk, IfSome};
+ghost use Rattle.sctp_link.specs.Replies.{IsBuilt};
 
 use crate::field::{FieldFault, field_bytes, field_text};
 use crate::run::RunFault;
@@ -36,8 +37,10 @@ pub fn read_link<C: Checksum + Drop>(alloc: Global, checksum: C, line: &str) -> 
     Some(Link::new(alloc, first_tsn, fragment_size, max_message_size, checksum))
 }
 
-/// Reads an event.
-pub fn read_event(alloc: Global, line: &str) -> Result<Event, LineFault> {
+/// Reads an event. The word of an event that a link does not take yet is not read.
+pub fn read_event(alloc: Global, line: &str) -> Result<Event, LineFault>
+    ensures { IfOk result (λ event. IsBuilt event) }
+{
     let mut rest = Some(line);
     let word = take_word(&mut rest).ok_or(LineFault::Unreadable)?;
     let event = match word {
@@ -53,7 +56,9 @@ pub fn read_event(alloc: Global, line: &str) -> Result<Event, LineFault> {
 }
 
 /// Reads the field of an event of one number.
-fn read_short(word: &str, rest: &mut Option<&str>) -> Option<Event> {
+fn read_short(word: &str, rest: &mut Option<&str>) -> Option<Event>
+    ensures { IfSome result (λ event. IsBuilt event) }
+{
     match word {
         "open" => Some(Event::Open {
             stream: take_u16(rest)?,
@@ -67,18 +72,6 @@ fn read_short(word: &str, rest: &mut Option<&str>) -> Option<Event> {
         "resend" => Some(Event::Resend {
             tsn: take_u32(rest)?,
         }),
-        "expire" => Some(Event::Expire {
-            now: take_u64(rest)?,
-        }),
-        "tail" => Some(Event::Tail {
-            now: take_u64(rest)?,
-        }),
-        "late" => Some(Event::Late {
-            now: take_u64(rest)?,
-        }),
-        "abandon" => Some(Event::Abandon {
-            tsn: take_u32(rest)?,
-        }),
         "ack" => Some(Event::Ack {
             credit: take_u32(rest)?,
         }),
@@ -87,11 +80,31 @@ fn read_short(word: &str, rest: &mut Option<&str>) -> Option<Event> {
         "read" => Some(Event::Read {
             stream: take_u16(rest)?,
         }),
+        _ => read_giving_up(word, rest),
+    }
+}
+
+/// Reads the field of an event that gives up a message.
+fn read_giving_up(word: &str, rest: &mut Option<&str>) -> Option<Event>
+    ensures { IfSome result (λ event. IsBuilt event) }
+{
+    match word {
+        "expire" => Some(Event::Expire {
+            now: take_u64(rest)?,
+        }),
+        "tail" => Some(Event::Tail {
+            now: take_u64(rest)?,
+        }),
+        "abandon" => Some(Event::Abandon {
+            tsn: take_u32(rest)?,
+        }),
         _ => None,
     }
 }
 
-fn read_mode(rest: &mut Option<&str>) -> Option<Event> {
+fn read_mode(rest: &mut Option<&str>) -> Option<Event>
+    ensures { IfSome result (λ event. IsBuilt event) }
+{
     let stream = take_u16(rest)?;
     let unordered = match take_word(rest)? {
         "ordered" => false,
@@ -112,7 +125,9 @@ fn read_mode(rest: &mut Option<&str>) -> Option<Event> {
     })
 }
 
-fn read_write(alloc: Global, rest: &mut Option<&str>) -> Result<Event, LineFault> {
+fn read_write(alloc: Global, rest: &mut Option<&str>) -> Result<Event, LineFault>
+    ensures { IfOk result (λ event. IsBuilt event) }
+{
     let stream = take_u16(rest).ok_or(LineFault::Unreadable)?;
     let ppi = take_u32(rest).ok_or(LineFault::Unreadable)?;
     let text = take_word(rest).ok_or(LineFault::Unreadable)?;
@@ -129,7 +144,9 @@ fn read_write(alloc: Global, rest: &mut Option<&str>) -> Result<Event, LineFault
 }
 
 /// Reads the fields of a skip: a TSN, and the numbers of messages with commas between them, or `-`.
-fn read_skip(alloc: Global, rest: &mut Option<&str>) -> Result<Event, LineFault> {
+fn read_skip(alloc: Global, rest: &mut Option<&str>) -> Result<Event, LineFault>
+    ensures { IfOk result (λ event. IsBuilt event) }
+{
     let upto = take_u32(rest).ok_or(LineFault::Unreadable)?;
     let names = take_word(rest).ok_or(LineFault::Unreadable)?;
     let mut messages = Vec::new(alloc);
@@ -240,7 +257,6 @@ fn print_numbers<W: Write>(output: &mut W, reply: &Reply) -> io::Result<()> {
         Reply::Resent { datagram } => write!(output, "resent {datagram}\n"),
         Reply::Expired { stream, bytes } => write!(output, "expired {stream} {bytes}\n"),
         Reply::Released { stream, bytes } => write!(output, "released {stream} {bytes}\n"),
-        Reply::Late { listed, bytes } => write!(output, "late {listed} {bytes}\n"),
         Reply::Skip { datagram } => write!(output, "skip {datagram}\n"),
         Reply::Ack { datagram } => write!(output, "ack {datagram}\n"),
         Reply::New => write!(output, "new\n"),

@@ -62,14 +62,6 @@ fn scripts_of_abandonment(rt: HostRuntime) -> Result<(), Fail> {
             "opened\nwrote 0 2\nsent 0 10 0\nsent 1 11 0\nnew\nack 2\nacked 3\nreleased 1 3\n",
         ),
         (
-            "link 10 3 100\nopen 1\nmode 1 ordered timed 1\nwrite 1 53 616263646566\nsend 0\nsend 0\nlate 1000000\nwrite 1 53 67\nsend 0\n",
-            "opened\nset\nwrote 0 2\nsent 0 10 0\nsent 1 11 0\nlate 2 6\nwrote 1 1\nsent 2 12 1\n",
-        ),
-        (
-            "link 10 3 100\nopen 1\nmode 1 ordered timed 1\nwrite 1 53 61626364656667\nsend 0\nlate 999999\nlate 1000000\nlate 1000000\ntail 1000000\n",
-            "opened\nset\nwrote 0 3\nsent 0 10 0\nlate 0 0\nlate 1 7\nlate 0 0\nidle\n",
-        ),
-        (
             "link 10 3 100\nopen 1\nmode 1 ordered timed 1\nwrite 1 53 61626364656667\nsend 0\narrive 0\nack 0\nacked 1\ntail 999999\ntail 1000000\n",
             "opened\nset\nwrote 0 3\nsent 0 10 0\nnew\nack 1\nacked 3\nidle\nreleased 1 4\n",
         ),

@@ -1,4 +1,8 @@
 pub mod Places
+pub mod ChangedStreams
+pub mod Expiring
+pub mod Abandoning
+pub mod GivingUp
 pub mod Comes
 pub mod HandsOut
 pub mod Keeping

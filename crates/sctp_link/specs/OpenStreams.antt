@@ -1,6 +1,6 @@
 -- What a stream of a link makes of a write.
 use Rattle.sctp_queues.specs.reassembly_queue.ReassemblyQueue.{ordered_pushed, PushesUnordered}
-use Rattle.std.specs.Prelude.{◌≡◌, ◌&&◌, ℕ, ◌+◌, Bool, true, false, not, ◌||◌, if◌then◌else◌, List, [], ◌∷◌, length, map, take, drop, ◌++◌, Option, Some, None, find, ◌==◌}
+use Rattle.std.specs.Prelude.{◌≡◌, ◌&&◌, ℕ, ◌+◌, ◌-◌, ◌%◌, ◌^◌, Bool, true, false, not, ◌||◌, if◌then◌else◌, List, [], ◌∷◌, length, map, take, drop, ◌++◌, Option, Some, None, find, ◌==◌}
 use Rattle.sctp_chunks.specs.declared.chunk.chunk_payload_data.ChunkPayloadData.{ChunkPayloadData}
 use Rattle.sctp_chunks.specs.declared.chunk.chunk_payload_data.ReliabilityType.{ReliabilityType}
 use Rattle.sctp_chunks.specs.declared.chunk.chunk_payload_data.PayloadProtocolIdentifier.{PayloadProtocolIdentifier}
@@ -68,6 +68,16 @@ with_start now m = record m { started = Some now }
 -- the lifetimes of the messages from a place on start
 abbrev pub start_from : ℕ → ℕ → List Message → List Message
 start_from first now ms = take first ms ++ map (with_start now) (drop first ms)
+
+-- the stream of a message that expired: fewer bytes wait, and where it is ordered the count and the next number are one lower
+abbrev pub expired_on : Bool → ℕ → OpenStream → OpenStream
+expired_on true bytes l = record l { ordered = l.ordered - 1; state = record l.state { buffered_amount = l.state.buffered_amount - bytes; sequence_number = (l.state.sequence_number + (2 ^ 16 - 1)) % 2 ^ 16 } }
+expired_on false bytes l = record l { state = record l.state { buffered_amount = l.state.buffered_amount - bytes } }
+
+-- the slots that giving up a message takes: one for its end mark, where it is half-sent
+abbrev pub marks : Bool → ℕ → ℕ → List Slot
+marks false number fragment = []
+marks true number fragment = record { message = number; fragment = fragment; is_end_mark = true; arrived = false; acknowledged = false } ∷ []
 
 -- the slot of a fragment
 abbrev pub slot_with : ℕ → ℕ → Slot

@@ -16,6 +16,8 @@ reply_of V.Started = R.Started
 reply_of (V.Sent datagram tsn ssn count) = R.Sent datagram tsn ssn count
 reply_of V.Idle = R.Idle
 reply_of (V.Resent datagram) = R.Resent datagram
+reply_of (V.Expired stream bytes) = R.Expired stream bytes
+reply_of (V.Released stream bytes) = R.Released stream bytes
 reply_of (V.Ack datagram) = R.Ack datagram
 reply_of V.New = R.New
 reply_of V.Repeat = R.Repeat
@@ -29,9 +31,6 @@ answer_of (Err refusal) = Err refusal
 
 -- the events that a link takes today
 abbrev pub IsBuilt : Event → Type 0
-IsBuilt (E.Expire now) = ⊥
-IsBuilt (E.Tail now) = ⊥
 IsBuilt (E.Late now) = ⊥
-IsBuilt (E.Abandon tsn) = ⊥
 IsBuilt (E.Skip upto messages) = ⊥
 IsBuilt _ = Unit {0}

@@ -27,6 +27,16 @@ pub enum Reply {
     Resent {
         datagram: u64,
     },
+    /// The stream of the message that expired, and how many bytes left.
+    Expired {
+        stream: u16,
+        bytes: u64,
+    },
+    /// The stream of the message that was given up, and how many bytes left.
+    Released {
+        stream: u16,
+        bytes: u64,
+    },
     Ack {
         datagram: u64,
     },

@@ -3,8 +3,10 @@
 ghost use Rattle.std.specs.Prelude.{◌≡◌, ◌==◌, ◌<◌, ◌≤◌, ◌+◌, ◌∷◌, ◌++◌, ℕ, [], None, Some, List, OnOk, OnErr, IfOk, IsOkUnless, MatchOption, length, vec_len, vec_capacity, option_map, find, true};
 ghost use Rattle.sctp_base.specs.declared.error.Error.TheVariants.{ErrOutOfMemory};
 
+mod abandoning;
 mod acknowledged;
 mod acknowledging;
+mod expiring;
 pub mod lending;
 mod open_streams;
 mod receiving;
@@ -118,6 +120,7 @@ impl<C: Checksum + Drop> Link<C> {
     /// - Write: `MessageTooLarge`, where the bytes are more than the greatest message size; `TsnsUsedUp`, where with
     ///   its fragments 2^31 or more would have been accepted in all.
     /// - Resend: `NotInFlight`, where the TSN was not given out, is acknowledged, or its message is abandoned.
+    /// - Abandon: `NotInFlight`, where the TSN was not given out or is acknowledged cumulatively.
     /// - Arrive and Acked: `NoSuchDatagram`, where datagram k was not made, or is of the other kind.
     /// - Arrive: `SpanTooWide`, where stream sequence numbers could no longer be told apart (RFC 4960 6.5).
     /// - Each event that takes memory: `OutOfMemory`, where it was refused.
@@ -165,10 +168,10 @@ impl<C: Checksum + Drop> Link<C> {
             Event::Arrive { k } => self.arrive(k),
             Event::Acked { k } => self.acked(k),
             Event::Read { stream } => Ok(self.read(stream)),
-            Event::Expire { now: _now } => unreachable!(),
-            Event::Tail { now: _now } => unreachable!(),
+            Event::Expire { now } => Ok(self.expire(now)),
+            Event::Tail { now } => self.tail(now),
             Event::Late { now: _now } => unreachable!(),
-            Event::Abandon { tsn: _tsn } => unreachable!(),
+            Event::Abandon { tsn } => self.abandon(tsn),
             Event::Skip {
                 upto: _upto,
                 messages: _messages,
@@ -197,6 +200,7 @@ impl<C: Checksum + Drop> Link<C> {
             Event::Mode { stream, .. } => self.refusal_unless_open(*stream),
             Event::Write { stream, bytes, .. } => self.refusal_write(*stream, bytes.len()),
             Event::Resend { tsn } => self.refusal_resend(*tsn),
+            Event::Abandon { tsn } => self.refusal_abandon(*tsn),
             Event::Arrive { k } => self.refusal_arrive(*k),
             Event::Acked { k } => self.refusal_acked(*k),
             Event::Read { stream } => self.refusal_unless_open(*stream),

@@ -36,7 +36,7 @@ pub struct OpenStream {
 
 impl OpenStream {
     ghost use Rattle.sctp_link.specs.Stream.{new_stream};
-    ghost use Rattle.sctp_link.specs.OpenStreams.{is_ordered, message_with, fragments_with_mode, after_write_on, with_sent_stats, with_read_stats, Keeps};
+    ghost use Rattle.sctp_link.specs.OpenStreams.{is_ordered, message_with, fragments_with_mode, after_write_on, expired_on, with_sent_stats, with_read_stats, Keeps};
     ghost use Rattle.sctp_queues.specs.reassembly_queue.ReassemblyQueue.{is_too_large, message_read, state_read, at_start};
 
     /// A stream that nothing was written to.
@@ -120,6 +120,19 @@ impl OpenStream {
         let mut stats = self.state.stats();
         stats.sent(ppi, len);
         self.state.set_stats(stats);
+    }
+
+    /// Takes off a message that expired: its bytes, and an ordered one from the counts.
+    pub fn expire(&mut self, ordered: bool, bytes: usize)
+        requires { bytes < 2 ^ 63 }
+        ensures { self.new ≡ expired_on ordered bytes self.old }
+    {
+        self.state.on_buffer_released(bytes as i64);
+        if ordered {
+            self.ordered = self.ordered.saturating_sub(1);
+            let number = self.state.sequence_number().wrapping_sub(1);
+            self.state.set_sequence_number(number);
+        }
     }
 
     /// Takes a DATA chunk for reassembly. A message that becomes whole by an unordered one is noted under its number.

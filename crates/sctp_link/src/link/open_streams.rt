@@ -6,7 +6,7 @@ ghost use Rattle.sctp_lists.specs.Lists.{change_where};
 ghost use Rattle.sctp_link.specs.declared.open_stream.OpenStream.{OpenStream};
 ghost use Rattle.sctp_link.specs.Acking.{less_by};
 ghost use Rattle.sctp_link.specs.Linked.{has_number};
-ghost use Rattle.sctp_link.specs.OpenStreams.{begun_of, with_begun};
+ghost use Rattle.sctp_link.specs.OpenStreams.{begun_of, with_begun, expired_on};
 ghost use Rattle.sctp_link.specs.Places.{IsIndexed, stream_numbers};
 
 use super::put;
@@ -78,10 +78,23 @@ impl OpenStreams {
         index
     }
 
+    /// Takes a message that expired off its stream, where it is open.
+    pub fn expire(&mut self, stream: u16, ordered: bool, bytes: usize)
+        requires indexed { IsIndexed self.old.places (stream_numbers self.old.items.items) }
+        requires short { bytes < 2 ^ 63 }
+        ensures items { self.new.items.items ≡ change_where (has_number stream) (expired_on ordered bytes) self.old.items.items }
+        ensures places { self.new.places ≡ self.old.places }
+    {
+        let Some(at) = self.place_of(stream) else {
+            return;
+        };
+        self.items[at].expire(ordered, bytes);
+    }
+
     /// Takes bytes off the amount of a stream, where it is open.
     pub fn release(&mut self, stream: u16, bytes: usize)
         requires indexed { IsIndexed self.old.places (stream_numbers self.old.items.items) }
-        requires short { bytes < 2 ^ 31 }
+        requires short { bytes < 2 ^ 63 }
         ensures items { self.new.items.items ≡ change_where (has_number stream) (less_by bytes) self.old.items.items }
         ensures places { self.new.places ≡ self.old.places }
     {

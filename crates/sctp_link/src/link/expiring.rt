@@ -1,0 +1,32 @@
+//! Messages whose lifetime ends before any of them is sent (RFC 3758 3.5, RFC 7496 4.1).
+
+ghost use Rattle.std.specs.Prelude.{◌≡◌};
+
+use super::Link;
+use crate::event::Reply;
+use sctp_base::util::Checksum;
+
+impl<C: Checksum + Drop> Link<C> {
+    ghost use Rattle.sctp_model.specs.Steps.{IsRight};
+    ghost use Rattle.sctp_model.specs.declared.event.Event.TheVariants as E;
+    ghost use Rattle.sctp_link.specs.Replies.{reply_of};
+
+    pub(super) fn expire(&mut self, now: u64) -> Reply
+        ensures right { IsRight self.old.world (E.Expire now) (reply_of result) self.new.world }
+        ensures checksum { self.new.checksum ≡ self.old.checksum }
+    {
+        let Some(chunk) = self.outbound.peek_pending() else {
+            return Reply::Idle;
+        };
+        let number = chunk.message_id as usize;
+        let Some((stream, unordered, bytes)) = self.outbound.expire_pending(now) else {
+            return Reply::Idle;
+        };
+        self.messages[number].expired = true;
+        self.open_streams.expire(stream, !unordered, bytes);
+        Reply::Expired {
+            stream,
+            bytes: bytes as u64,
+        }
+    }
+}
