@@ -1,5 +1,8 @@
 //! Expiry, abandonment and FORWARD-TSN: the bytes of datagrams, the ledger, and what the lent queues hold.
 
+ghost use Rattle.std.specs.Prelude.{IfOk};
+ghost use Rattle.sctp_link.specs.Replies.{IsBuilt};
+
 use crate::tests::{Zero, binary, carries, is_new, is_nothing, sent, shows};
 use bytes::Bytes;
 use sctp_chunks::chunk::chunk_payload_data::{PayloadProtocolIdentifier, ReliabilityType};
@@ -10,7 +13,9 @@ use std::alloc::Global;
 use std::test::Fail;
 
 /// Sets stream 1 to ordered messages with a lifetime of a millisecond, or with none.
-fn mode(timed: bool) -> Event {
+fn mode(timed: bool) -> Event
+    ensures { IsBuilt result }
+{
     let reliability = if timed {
         ReliabilityType::Timed
     } else {
@@ -25,7 +30,9 @@ fn mode(timed: bool) -> Event {
 }
 
 /// A FORWARD-TSN up to this TSN that names these messages.
-fn skip(alloc: Global, upto: u32, names: &[u64]) -> Result<Event, Fail> {
+fn skip(alloc: Global, upto: u32, names: &[u64]) -> Result<Event, Fail>
+    ensures { IfOk result (λ event. IsBuilt event) }
+{
     Ok(Event::Skip {
         upto,
         messages: Vec::from_slice(alloc, names)?,

@@ -1,3 +1,6 @@
+ghost use Rattle.std.specs.Prelude.{IfOk};
+ghost use Rattle.sctp_link.specs.Replies.{IsBuilt};
+
 use bytes::{Bytes, BytesMut};
 use sctp_base::util::Checksum;
 use sctp_chunks::chunk::chunk_payload_data::{PayloadProtocolIdentifier, ReliabilityType};
@@ -40,7 +43,9 @@ impl Checksum for Counted<'_> {
 /// The header of each datagram, under the checksum that is 0.
 const HEADER: [u8; 12] = [0x13, 0x88, 0x13, 0x88, 0, 0, 0, 1, 0, 0, 0, 0];
 
-pub fn write(alloc: Global, ppi: PayloadProtocolIdentifier, bytes: &[u8]) -> Result<Event, Fail> {
+pub fn write(alloc: Global, ppi: PayloadProtocolIdentifier, bytes: &[u8]) -> Result<Event, Fail>
+    ensures { IfOk result (λ event. IsBuilt event) }
+{
     Ok(Event::Write {
         stream: 1,
         ppi,
@@ -48,7 +53,9 @@ pub fn write(alloc: Global, ppi: PayloadProtocolIdentifier, bytes: &[u8]) -> Res
     })
 }
 
-pub fn binary(alloc: Global, bytes: &[u8]) -> Result<Event, Fail> {
+pub fn binary(alloc: Global, bytes: &[u8]) -> Result<Event, Fail>
+    ensures { IfOk result (λ event. IsBuilt event) }
+{
     write(alloc, PayloadProtocolIdentifier::Binary, bytes)
 }
 
@@ -431,7 +438,9 @@ fn resent_bytes_count_once(rt: HostRuntime) -> Result<(), Fail> {
     Ok(())
 }
 
-fn write_on(alloc: Global, stream: u16, bytes: &[u8]) -> Result<Event, Fail> {
+fn write_on(alloc: Global, stream: u16, bytes: &[u8]) -> Result<Event, Fail>
+    ensures { IfOk result (λ event. IsBuilt event) }
+{
     Ok(Event::Write {
         stream,
         ppi: PayloadProtocolIdentifier::Binary,
