@@ -47,5 +47,6 @@ pub mod InLine
 pub mod SlotsGoOn
 pub mod NoLarger
 pub mod SpanEnds
+pub mod SkipSpans
 pub mod Sizes
 pub mod ReadOne
