@@ -48,5 +48,6 @@ pub mod SlotsGoOn
 pub mod NoLarger
 pub mod SpanEnds
 pub mod SkipSpans
+pub mod LastSlot
 pub mod Sizes
 pub mod ReadOne
