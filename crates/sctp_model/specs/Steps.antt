@@ -1,5 +1,5 @@
 -- Which event is refused with what, which reply is right, and what the record is then.
-use Rattle.std.specs.Prelude.{◌≡◌, ℕ, ◌+◌, ◌-◌, ◌^◌, Bool, true, false, ◌&&◌, ◌||◌, not, ◌==◌, nat_lt, nat_le, if◌then◌else◌, List, [], ◌∷◌, length, map, slice_get, Option, Some, None, is_none, Result, Ok, Err}
+use Rattle.std.specs.Prelude.{◌≡◌, ℕ, ◌+◌, ◌-◌, ◌^◌, Bool, true, false, ◌&&◌, ◌||◌, not, ◌==◌, nat_lt, nat_le, if◌then◌else◌, List, [], ◌∷◌, length, map, slice_get, Option, Some, None, is_none, is_some, Result, Ok, Err}
 use Rattle.std.specs.List.{list_all, list_any}
 use Rattle.sctp_lists.specs.Kept.{passing}
 use Rattle.sctp_lists.specs.Lists.{pieces}
@@ -164,14 +164,24 @@ pub record IsRight (old : World) (event : Event) (reply : Reply) (new : World) :
   pub right : reply ≡ reply_to old event
   pub moves : new ≡ after old event
 
--- want of memory may refuse an event only where no test before it does, and never Mode, Start, Expire or Read, which take none
+-- an accepted event can take memory: never Mode, Start, Expire or Read; a Write of some bytes, a Send with a fragment pending,
+-- a Tail and a Late of what has lapsed, an Abandon of a half-sent message, which takes an end mark; each other event
+abbrev pub takes_memory : World → Event → Bool
+takes_memory w (E.Mode s unordered reliability value) = false
+takes_memory w (E.Write s ppi bytes) = nat_lt 0 (length bytes)
+takes_memory w (E.Start now) = false
+takes_memory w (E.Send now) = is_some (Messages.front w)
+takes_memory w (E.Expire now) = false
+takes_memory w (E.Tail now) = is_some (Changes.tailing w now)
+takes_memory w (E.Late now) = nat_lt 0 (length (Changes.late_slots w now))
+takes_memory w (E.Abandon tsn) = Messages.is_half_sent w (Messages.message_of w (Messages.place_of w tsn))
+takes_memory w (E.Read s) = false
+takes_memory w e = true
+
+-- want of memory may refuse an event that can take memory, and no other, where no test before it does; an Arrive reads its datagram before the span test
 abbrev pub may_want_memory : World → Event → Bool
-may_want_memory w (E.Mode s unordered reliability value) = false
-may_want_memory w (E.Start now) = false
-may_want_memory w (E.Expire now) = false
-may_want_memory w (E.Read s) = false
 may_want_memory w (E.Arrive k) = is_for_receiver (slice_get w.network k)
-may_want_memory w e = is_none (refusal_of w e)
+may_want_memory w e = takes_memory w e && is_none (refusal_of w e)
 
 -- the event may be refused with this
 abbrev pub Refuses : World → Event → LinkRefusal → Type 0

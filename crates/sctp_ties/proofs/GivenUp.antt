@@ -37,7 +37,7 @@ module _ (w : World) (n : ℕ) where
   slot-old : (p : ℕ) → p < length w.slots → slot_at v p ≡ slot_at w p
   slot-old p lt = get-snoc_old w.slots mark p no_slot (λ e. absurd (omega arith))
 
-  sent-same : (k : ℕ) → sent_of v k ≡ sent_of w k
+  pub sent-same : (k : ℕ) → sent_of v k ≡ sent_of w k
   sent-same k = ap (λ x. sent x k) (Shapes.shape-slot w n true) ∙ sent-slotted (shape w) n k true ∙ none (n == k)
     where
       none : (b : Bool) → sent_of w k + (if b && false then 1 else 0) ≡ sent_of w k

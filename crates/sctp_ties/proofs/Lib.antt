@@ -51,3 +51,14 @@ pub mod SkipSpans
 pub mod LastSlot
 pub mod Sizes
 pub mod ReadOne
+pub mod ExpiredLists
+pub mod Expired
+pub mod ExpiredReply
+pub mod Begun
+pub mod BegunRun
+pub mod AbandonedLists
+pub mod Abandoned
+pub mod AbandonedLate
+pub mod AbandonedEvents
+pub mod AbandonedLink
+pub mod AbandonedBytes

@@ -34,7 +34,7 @@ pub record SameToSender (w v : World) : Type 0 where
   pub taken : v.taken ≡ w.taken
 
 -- the words of the outbound queue, over those
-abbrev chunk_by : Setup → Message → ℕ → ℕ → ℕ → Data
+abbrev pub chunk_by : Setup → Message → ℕ → ℕ → ℕ → Data
 chunk_by s m ssn i tsn = record {
   unordered = not m.ordered;
   beginning_fragment = i == 0;
@@ -47,10 +47,10 @@ chunk_by s m ssn i tsn = record {
   user_data = slice_index_or (pieces (length m.bytes) s.size m.bytes) i [];
 }
 
-abbrev deadline_by : Message → Option ℕ
+abbrev pub deadline_by : Message → Option ℕ
 deadline_by m = if is_timed m.reliability && not (is_dcep m.ppi) then deadline_from m.value m.started else None
 
-abbrev waiting_by : Setup → Message → ℕ → ℕ → ℕ → ChunkPayloadData
+abbrev pub waiting_by : Setup → Message → ℕ → ℕ → ℕ → ChunkPayloadData
 waiting_by s m ssn n i = record (fresh (chunk_by s m ssn i 0)) { message_id = n; reliability = Some (m.reliability, m.value); deadline = deadline_by m }
 
 abbrev sending_by : Setup → Message → ℕ → Slot → ℕ → Sending

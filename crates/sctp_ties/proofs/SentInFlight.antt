@@ -23,7 +23,7 @@ use Rattle.sctp_ties.proofs.Written.{sending-alike}
 use Rattle.sctp_ties.proofs.Sent.{FrontIs, pending-sent}
 
 -- a chunk behind all others goes to the end
-put-last : (w : World) (x : ChunkPayloadData) (p : ℕ) → x.tsn ≡ tsn_of w p → p < 2 ^ 31 → (cs : List ChunkPayloadData) (from count : ℕ) → map sending_of cs ≡ map (sending_at w) (kept always from count) → from + count ≤ p → inserted chunk_before x cs ≡ cs ++ x ∷ []
+pub put-last : (w : World) (x : ChunkPayloadData) (p : ℕ) → x.tsn ≡ tsn_of w p → p < 2 ^ 31 → (cs : List ChunkPayloadData) (from count : ℕ) → map sending_of cs ≡ map (sending_at w) (kept always from count) → from + count ≤ p → inserted chunk_before x cs ≡ cs ++ x ∷ []
 put-last w x p e short [] from count same le = refl
 put-last w x p e short (c ∷ cs) from zero same le = cc
 put-last w x p e short (c ∷ cs) from (suc count) same le =

@@ -3,3 +3,4 @@ pub mod Naming
 pub mod Tied
 pub mod Amount
 pub mod Counts
+pub mod Indexes
