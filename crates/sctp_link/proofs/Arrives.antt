@@ -63,11 +63,11 @@ module _ (sum : List ℕ → ℕ) (x : State) (l : IsLinked sum x) (k p : ℕ) (
   counters-stay t = let f = facts sum x l in counters-same w.setup w (E.Arrive k) t f.sane refl refl
 
   -- an open stream of which only the queue changes
-  pub stream-arrived : (y z : OpenStream) → IsOpenStream w y → z.state ≡ record y.state { reassembly_queue = z.state.reassembly_queue } → z.ordered ≡ y.ordered → z.next ≡ y.next → z.state.reassembly_queue.held ≡ reassembly_of (slot_received w p) y.state.stream_identifier → z.state.reassembly_queue.si ≡ y.state.reassembly_queue.si → z.state.reassembly_queue.max_message_size ≡ y.state.reassembly_queue.max_message_size → IsOpenStream v z
-  stream-arrived y z i state ordered next held si largest =
+  pub stream-arrived : (y z : OpenStream) → IsOpenStream w y → z.state ≡ record y.state { reassembly_queue = z.state.reassembly_queue } → z.ordered ≡ y.ordered → z.begun ≡ y.begun → z.next ≡ y.next → z.state.reassembly_queue.held ≡ reassembly_of (slot_received w p) y.state.stream_identifier → z.state.reassembly_queue.si ≡ y.state.reassembly_queue.si → z.state.reassembly_queue.max_message_size ≡ y.state.reassembly_queue.max_message_size → IsOpenStream v z
+  stream-arrived y z i state ordered begun next held si largest =
       let t = y.state.stream_identifier in
       stream-then sum x l (E.Arrive k) none frame refl y z i (ap (λ s. s.stream_identifier) state) (held ∙ ap (λ u. reassembly_of u t) (sym after-is)) si largest
-      (ap (λ s. s.max_payload_size) state) ordered (ap (λ s. s.sequence_number) state) (next ∙ i.next ∙ sym (next-stays t))
+      (ap (λ s. s.max_payload_size) state) ordered (ap (λ s. s.sequence_number) state) begun (next ∙ i.next ∙ sym (next-stays t))
       (ap (λ s. s.buffered_amount) state) (ap (λ s. s.stats) state ∙ i.stats ∙ ap stats_of (sym (counters-stay t)))
 
   -- ## It came before
@@ -89,12 +89,12 @@ module _ (sum : List ℕ → ℕ) (x : State) (l : IsLinked sum x) (k p : ℕ) (
     each-still j d lt =
         let y = slice_index_or x.open_streams j d in
         let i = l.open_streams j d lt in
-        stream-arrived y y i refl refl refl (i.held ∙ sym (SlotArrives.repeated-reassembly w p y.state.stream_identifier old)) refl refl
+        stream-arrived y y i refl refl refl refl (i.held ∙ sym (SlotArrives.repeated-reassembly w p y.state.stream_identifier old)) refl refl
 
     pub linked-repeat : (answer : Bool) (filter : Payload) (u : World) → answer ≡ Window.is_new x.filter.chunks c.tsn x.cumulative_tsn → filter ≡ (if answer then Payload.pushed x.filter c else Payload.repeated x.filter c.tsn) → u ≡ record w { duplicates = w.duplicates ++ p ∷ [] } → IsLinked sum (record x { world = u; filter = filter })
     linked-repeat answer filter u a b same =
         let put : filter ≡ Payload.repeated x.filter c.tsn = b ∙ ap (λ t. if t then Payload.pushed x.filter c else Payload.repeated x.filter c.tsn) (a ∙ not-new) in
-        linked-then sum x l (E.Arrive k) none frame x.sents x.open_streams x.cumulative_tsn filter u refl (ap (filter_held x.cumulative_tsn) put ∙ repeated-filter) each-still l.indexed quiet
+        linked-then sum x l (E.Arrive k) none frame x.progress x.open_streams x.cumulative_tsn filter u refl (ap (filter_held x.cumulative_tsn) put ∙ repeated-filter) each-still l.indexed quiet
         (same ∙ sym (SlotArrives.repeated w p old) ∙ sym after-is)
 
   -- ## It is new

@@ -11,7 +11,7 @@ use Rattle.sctp_link.specs.declared.record.Datagram.{Datagram}
 use Rattle.sctp_link.specs.Fields.{setup_of}
 use Rattle.sctp_link.specs.Linked.{State, IsLinked}
 use Rattle.sctp_link.specs.Places.{IsIndexed}
-use Rattle.sctp_link.specs.Records.{stream_record, message_record, slot_record, datagram_record}
+use Rattle.sctp_link.specs.Records.{stream_record, message_record, slot_record, datagram_record, progress_of}
 
 -- queues that nothing was pushed to
 abbrev pub no_outbound : Outbound
@@ -41,7 +41,7 @@ start_state first size largest open_streams places messages slots network duplic
       };
       open_streams = open_streams;
       places = places;
-      sents = map (λ m. m.sent) messages;
+      progress = map progress_of messages;
       unstarted = 0;
       datagrams = map (λ d. d.bytes) network;
       outbound = outbound;
@@ -72,7 +72,8 @@ linked-start sum first size largest places fits some short indexed = record {
   fragments = refl;
   written = refl;
   sents = λ n lt. absurd (omega (arith, lt));
-  befores = λ n lt. absurd (omega (arith, lt));
+  indexes = λ n pos o. absurd (omega (arith, pos));
+  low = λ n. omega arith;
   open_streams = λ k d lt. absurd (omega (arith, lt));
   indexed = indexed;
   texts = λ k d g e. cc;

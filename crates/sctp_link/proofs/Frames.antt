@@ -18,10 +18,14 @@ use Rattle.sctp_model.specs.Log.{log_of}
 use Rattle.sctp_model.specs.Queues.{filter_of}
 use Rattle.sctp_model.proofs.SenderRun.{sane-run, sane-after}
 use Rattle.sctp_model.proofs.Moves.{Quiet}
+use Rattle.sctp_model.proofs.Shape.{shape}
 use Rattle.sctp_model.proofs.Received.{received-run}
 use Rattle.sctp_ties.specs.Holds.{reassembly_of}
 use Rattle.sctp_ties.specs.Amount.{amount, keeps_amounts}
 use Rattle.sctp_ties.specs.Counts.{counters_on, is_write, is_read}
+use Rattle.sctp_ties.specs.Indexes.{begun_on}
+use Rattle.sctp_ties.proofs.Begun.{Indexed}
+use Rattle.sctp_ties.proofs.BegunRun.{SendsNone, none-after, counted-after}
 use Rattle.sctp_ties.proofs.MessageSums.{sum-same}
 use Rattle.sctp_ties.proofs.ToldSums.{told-after}
 use Rattle.sctp_ties.proofs.StreamCounters.{written-same, counters-same}
@@ -33,10 +37,11 @@ use Rattle.sctp_link.specs.declared.open_stream.OpenStream.{OpenStream}
 use Rattle.sctp_link.specs.Texts.{IsDatagram}
 use Rattle.sctp_link.specs.Linked.{State, IsOpenStream, IsLinked, stats_of}
 use Rattle.sctp_link.proofs.Facts.{facts, says-still}
+use Rattle.sctp_link.proofs.Beginning.{index_kept, indexed-of}
 
 -- ## A stream
 
--- all that a stream keeps of the record is as it was
+-- all that a stream keeps of the record is as it was, but for the count of messages begun
 pub record SameStream (w v : World) (s : ℕ) : Type 0 where
   pub setup : v.setup ≡ w.setup
   pub held : reassembly_of v s ≡ reassembly_of w s
@@ -45,18 +50,22 @@ pub record SameStream (w v : World) (s : ℕ) : Type 0 where
   pub amount : amount v s ≡ amount w s
   pub counters : counters_on v s ≡ counters_on w s
 
-pub stream-same : (w v : World) (l : OpenStream) → SameStream w v l.state.stream_identifier → IsOpenStream w l → IsOpenStream v l
-stream-same w v l f i = record {
+pub stream-with : (w v : World) (l : OpenStream) (n : ℕ) → SameStream w v l.state.stream_identifier → n ≡ begun_on v l.state.stream_identifier → IsOpenStream w l → IsOpenStream v (record l { begun = n })
+stream-with w v l n f e i = record {
   held = i.held ∙ sym f.held;
   si = i.si;
   largest = i.largest ∙ ap (λ t. t.largest) (sym f.setup);
   size = i.size ∙ ap (λ t. t.size) (sym f.setup);
   ordered = i.ordered ∙ sym f.ordered;
   number = i.number;
+  begun = e;
   next = i.next ∙ sym f.next;
   amount = i.amount ∙ sym f.amount;
   stats = i.stats ∙ ap stats_of (sym f.counters);
 }
+
+pub stream-same : (w v : World) (l : OpenStream) → SameStream w v l.state.stream_identifier → begun_on v l.state.stream_identifier ≡ begun_on w l.state.stream_identifier → IsOpenStream w l → IsOpenStream v l
+stream-same w v l f same i = stream-with w v l l.begun f (i.begun ∙ sym same) i
 
 -- ## What an event leaves
 
@@ -107,6 +116,13 @@ module _ (sum : List ℕ → ℕ) (x : State) (l : IsLinked sum x) (e : Event) (
       subst (λ u. refusal_of u e ≡ None → Quiet u (after u e) → filter_of (after u e) ≡ filter_of u) (sym l.stands.is)
       (λ ok' q'. let g = sane-run w.setup l.history l.stands.run in filter-quiet w.setup (world_of w.setup l.history) (after (world_of w.setup l.history) e) (log_of w.setup l.history) g (sane-after w.setup (world_of w.setup l.history) e ok' g) q' (received-run w.setup l.history l.setup l.stands.run) (record_is_sound w.setup l.history l.setup l.stands.run))
       ok q
+
+  -- indexes, where no fragment is sent
+  pub begun-kept : SendsNone e → (t : ℕ) → begun_on v t ≡ begun_on w t
+  begun-kept none t = (none-after w.setup w e (facts sum x l).sane none).begun t
+
+  pub indexed-kept : SendsNone e → Indexed (shape v) (index_kept x.progress)
+  indexed-kept none = (counted-after w.setup w e (index_kept x.progress) (begun_on w) ok (facts sum x l).sane none (record { indexed = indexed-of sum x l; begun = λ s. refl })).indexed
 
   -- so a stream is as it was, where nothing is written
   pub stream-quiet : Quiet w v → KeepsNext e → keeps_amounts e ≡ true → is_write e ≡ false → is_read e ≡ false → ((s : ℕ) → ordered_before v s (length v.messages) ≡ ordered_before w s (length w.messages)) → (s : ℕ) → SameStream w v s

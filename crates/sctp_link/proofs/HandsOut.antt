@@ -6,7 +6,7 @@ use Rattle.std.proofs.Math.Path.{subst}
 use Rattle.std.proofs.lemmas.List.{length-set}
 use Rattle.sctp_lists.specs.Lists.{changed}
 use Rattle.sctp_lists.proofs.Cases.{same-yes, same-is, or-left}
-use Rattle.sctp_lists.proofs.KeptLemmas.{front-kept, FrontOf, length-kept-le}
+use Rattle.sctp_lists.proofs.KeptLemmas.{front-kept, FrontOf}
 use Rattle.sctp_chunks.specs.ChunkSet.{ChunkSet}
 use Rattle.sctp_chunks.specs.declared.chunk.chunk_payload_data.PayloadProtocolIdentifier.{PayloadProtocolIdentifier}
 use Rattle.sctp_chunks.specs.declared.chunk.chunk_payload_data.PayloadProtocolIdentifier.TheVariants.{Dcep, String, Binary, StringEmpty, BinaryEmpty, Unknown}
@@ -16,7 +16,7 @@ use Rattle.sctp_model.specs.declared.event.Event.TheVariants as E
 use Rattle.sctp_model.specs.declared.event.LinkRefusal.TheVariants.{StreamUnknown}
 use Rattle.sctp_model.specs.World.{World, StreamRecord}
 use Rattle.sctp_model.specs.World as W
-use Rattle.sctp_model.specs.Messages.{message_at, stream_at, stream_of, index_of, is_ordered_on, no_stream}
+use Rattle.sctp_model.specs.Messages.{message_at, stream_at, stream_of, index_of, sent_of, no_stream}
 use Rattle.sctp_model.specs.Receiver.{is_held, held_on, next_of, next_read}
 use Rattle.sctp_model.specs.Changes.{read_of, read_from, mark_read, without_first}
 use Rattle.sctp_model.specs.Queues.{filter_of, set_of, whole_set_of, handed_out}
@@ -24,6 +24,8 @@ use Rattle.sctp_model.specs.Reply as R
 use Rattle.sctp_model.specs.Sound.{IsSpan}
 use Rattle.sctp_model.specs.Steps.{refusal_of, reply_to, after, read_reply, unless}
 use Rattle.sctp_model.proofs.Network
+use Rattle.sctp_model.proofs.Shape.{shape}
+use Rattle.sctp_model.proofs.Fronts.{slot-sent}
 use Rattle.sctp_ties.specs.Holds.{reassembly_of}
 use Rattle.sctp_ties.specs.Counts.{counters_on, received_more, counted_as}
 use Rattle.sctp_ties.proofs.Line
@@ -41,6 +43,7 @@ use Rattle.sctp_link.specs.Linked.{State, IsLinked, IsOpenStream, has_number, st
 use Rattle.sctp_link.specs.Places.{stream_numbers}
 use Rattle.sctp_link.specs.Records.{message_record, stream_record}
 use Rattle.sctp_link.specs.Stats.{counted_bytes, with_received}
+use Rattle.sctp_link.proofs.Beginning.{index_kept}
 use Rattle.sctp_link.proofs.Apart.{IsApart, apart, differ, each-set, map-set_same, number-found, streams-set}
 use Rattle.sctp_link.proofs.Places.{indexed-set}
 use Rattle.sctp_link.proofs.Facts.{facts, over}
@@ -126,9 +129,9 @@ module _ (sum : List ℕ → ℕ) (x : State) (l : IsLinked sum x) (s at : ℕ) 
   filter-stays = filter-read w s (next_read w s)
 
   -- the stream that is read, and the others
-  stream-read : (z : OpenStream) → z.state.stream_identifier ≡ y.state.stream_identifier → z.state.reassembly_queue ≡ state_read y.state.reassembly_queue → z.state.max_payload_size ≡ y.state.max_payload_size → z.state.sequence_number ≡ y.state.sequence_number → z.state.buffered_amount ≡ y.state.buffered_amount → z.ordered ≡ y.ordered → z.next ≡ next_of v s → z.state.stats ≡ stats_of (counters_on v s) → IsOpenStream v z
-  stream-read z id queue size number bytes ordered next stats =
-      stream-then sum x l (E.Read s) none frame refl y z (l.open_streams at d lt) id (ap (λ q. q.held) queue ∙ rest ∙ ap (reassembly_of v) (sym (id-at d))) (ap (λ q. q.si) queue) (ap (λ q. q.max_message_size) queue) size ordered number
+  stream-read : (z : OpenStream) → z.state.stream_identifier ≡ y.state.stream_identifier → z.state.reassembly_queue ≡ state_read y.state.reassembly_queue → z.state.max_payload_size ≡ y.state.max_payload_size → z.state.sequence_number ≡ y.state.sequence_number → z.state.buffered_amount ≡ y.state.buffered_amount → z.ordered ≡ y.ordered → z.begun ≡ y.begun → z.next ≡ next_of v s → z.state.stats ≡ stats_of (counters_on v s) → IsOpenStream v z
+  stream-read z id queue size number bytes ordered begun next stats =
+      stream-then sum x l (E.Read s) none frame refl y z (l.open_streams at d lt) id (ap (λ q. q.held) queue ∙ rest ∙ ap (reassembly_of v) (sym (id-at d))) (ap (λ q. q.si) queue) (ap (λ q. q.max_message_size) queue) size ordered number begun
       (next ∙ ap (next_of v) (sym (id-at d))) bytes (stats ∙ ap (λ t. stats_of (counters_on v t)) (sym (id-at d)))
 
   each-read : (z : OpenStream) → IsOpenStream v z → ((t : ℕ) → (t ≡ s → ⊥) → next_of v t ≡ next_of w t) → ((t : ℕ) → (t ≡ s → ⊥) → counters_on v t ≡ counters_on w t) → (j : ℕ) (c : OpenStream) → j < length (slice_set x.open_streams at z) → IsOpenStream v (slice_index_or (slice_set x.open_streams at z) j c)
@@ -142,7 +145,7 @@ module _ (sum : List ℕ → ℕ) (x : State) (l : IsLinked sum x) (s at : ℕ) 
           let i = l.open_streams j c inside in
           let t = slice_index_or x.open_streams j c in
           let off : t.state.stream_identifier ≡ s → ⊥ = λ h. differ x.open_streams j at c streams-apart inside lt ne (h ∙ sym (id-at c)) in
-          stream-then sum x l (E.Read s) none frame refl t t i refl (i.held ∙ sym (NextRead.read-others w s r f.sound.sound f.sound.loose span open' t.state.stream_identifier off)) refl refl refl refl refl
+          stream-then sum x l (E.Read s) none frame refl t t i refl (i.held ∙ sym (NextRead.read-others w s r f.sound.sound f.sound.loose span open' t.state.stream_identifier off)) refl refl refl refl refl refl
           (i.next ∙ sym (next t.state.stream_identifier off)) refl (i.stats ∙ ap stats_of (sym (counters t.state.stream_identifier off)))
 
   -- ## Nothing to read
@@ -166,8 +169,8 @@ module _ (sum : List ℕ → ℕ) (x : State) (l : IsLinked sum x) (s at : ℕ) 
     linked-same : IsLinked sum (record x { world = record w { streams = map stream_record (slice_set x.open_streams at z) }; open_streams = slice_set x.open_streams at z })
     linked-same =
         let i = l.open_streams at d lt in
-        linked-then sum x l (E.Read s) none frame x.sents (slice_set x.open_streams at z) x.cumulative_tsn x.filter (record w { streams = map stream_record (slice_set x.open_streams at z) }) refl (l.filter ∙ sym filter-stays)
-        (each-read z (stream-read z refl refl refl refl refl refl (i.next ∙ ap (next_of w) (id-at d) ∙ ap (λ u. next_of u s) (sym still)) (i.stats ∙ ap (λ t. stats_of (counters_on w t)) (id-at d) ∙ ap stats_of (sym (counters-nothing w s s nothing))))
+        linked-then sum x l (E.Read s) none frame x.progress (slice_set x.open_streams at z) x.cumulative_tsn x.filter (record w { streams = map stream_record (slice_set x.open_streams at z) }) refl (l.filter ∙ sym filter-stays)
+        (each-read z (stream-read z refl refl refl refl refl refl refl (i.next ∙ ap (next_of w) (id-at d) ∙ ap (λ u. next_of u s) (sym still)) (i.stats ∙ ap (λ t. stats_of (counters_on w t)) (id-at d) ∙ ap stats_of (sym (counters-nothing w s s nothing))))
         (λ t ne. ap (λ u. next_of u t) still) (λ t ne. counters-nothing w s t nothing))
         (indexed-set x.places x.open_streams at z d l.indexed refl)
         quiet world-same
@@ -231,8 +234,12 @@ module _ (sum : List ℕ → ℕ) (x : State) (l : IsLinked sum x) (s at : ℕ) 
     pub hands-begins : Begins w read-is.0 set.chunks
     hands-begins = subst (λ (c : ChunkSet). Begins w read-is.0 c.chunks) (sym read-is.2) hands.begins
 
-    pub low : (message_at w read-is.0).before < length w.messages
-    low = omega (arith, l.befores read-is.0 hands.made, length-kept-le (is_ordered_on w (message_at w read-is.0).stream) 0 read-is.0, hands.made)
+    pub low : index_kept x.progress read-is.0 < length w.messages
+    low = omega (arith, l.low read-is.0, hands.made)
+
+    -- it has its index, as some of it was sent
+    sent-some : 0 < sent_of w read-is.0
+    sent-some = subst (λ n. 0 < sent_of w n) hands-begins.of (slot-sent (shape w) hands-begins.place (facts sum x l).sane.sender hands-begins.made)
 
     pub reply-read : R.Message s (message_at w read-is.0).ppi set ≡ reply_to w (E.Read s)
     reply-read = ap (λ c. R.Message s (message_at w read-is.0).ppi c) read-is.2 ∙ ap (λ t. R.Message t (message_at w read-is.0).ppi (handed_out w read-is.0)) (sym hands.stream) ∙ sym (ap (read_reply w) read-is.1)
@@ -241,19 +248,26 @@ module _ (sum : List ℕ → ℕ) (x : State) (l : IsLinked sum x) (s at : ℕ) 
     module _ (m : Message) (messages : List W.Message) (z : OpenStream) (m_is : message_at x.world read-is.0 ≡ message_record m) (messages_are : messages ≡ changed mark_read read-is.0 x.world.messages)
         (state : z.state ≡ with_read_stats m.ppi (length m.bytes) (record (slice_index_or x.open_streams at d).state { reassembly_queue = state_read (slice_index_or x.open_streams at d).state.reassembly_queue }))
         (whole : z.whole.items ≡ (if m.ordered then (slice_index_or x.open_streams at d).whole.items else drop 1 (slice_index_or x.open_streams at d).whole.items))
+        (index : m.index ≡ index_kept x.progress read-is.0)
         (ordered : z.ordered ≡ (slice_index_or x.open_streams at d).ordered)
-        (next : z.next ≡ (if m.ordered && (m.before == (slice_index_or x.open_streams at d).next) then m.before + 1 else (slice_index_or x.open_streams at d).next)) where
+        (begun : z.begun ≡ (slice_index_or x.open_streams at d).begun)
+        (named : z.named ≡ (slice_index_or x.open_streams at d).named)
+        (next : z.next ≡ (if m.ordered && (m.index == (slice_index_or x.open_streams at d).next) then m.index + 1 else (slice_index_or x.open_streams at d).next)) where
       same-id : z.state.stream_identifier ≡ y.state.stream_identifier
       same-id = ap (λ (t : StreamState). t.stream_identifier) state
 
       next-is : z.next ≡ next_of v s
       next-is =
-          let i : m.before ≡ index_of w read-is.0 = ap (λ t. t.before) (sym m_is) ∙ l.befores read-is.0 hands.made in
+          let kind : (message_at w read-is.0).ordered ≡ m.ordered = ap (λ t. t.ordered) m_is in
           next
-          ∙ ap (λ b. if m.ordered && (b == y.next) then b + 1 else y.next) i
+          ∙ indexed m.ordered m.index (index_of w read-is.0) (λ o. index ∙ l.indexes read-is.0 sent-some (kind ∙ o))
           ∙ ap (λ b. if b && (index_of w read-is.0 == y.next) then index_of w read-is.0 + 1 else y.next) (ap (λ t. t.ordered) (sym m_is))
           ∙ ap (λ t. if (message_at w read-is.0).ordered && (index_of w read-is.0 == t) then index_of w read-is.0 + 1 else t) ((l.open_streams at d lt).next ∙ ap (next_of w) (id-at d))
           ∙ sym hands.next
+        where
+          indexed : (o : Bool) (a b : ℕ) → (o ≡ true → a ≡ b) → (if o && (a == y.next) then a + 1 else y.next) ≡ (if o && (b == y.next) then b + 1 else y.next)
+          indexed true a b e = ap (λ c. if true && (c == y.next) then c + 1 else y.next) (e refl)
+          indexed false a b e = refl
 
       counters-at : (t : ℕ) → counters_on v t ≡ (if t == s then received_more (counted_as (message_at w read-is.0).ppi (length (message_at w read-is.0).bytes)) (counters_on w t) else counters_on w t)
       counters-at t =
@@ -276,10 +290,10 @@ module _ (sum : List ℕ → ℕ) (x : State) (l : IsLinked sum x) (s at : ℕ) 
           ∙ ap stats_of (sym (counters-at s ∙ ap (λ b. if b then received_more (counted_as (message_at w read-is.0).ppi (length (message_at w read-is.0).bytes)) (counters_on w s) else counters_on w s) (same-yes s)))
 
       open_stream-is : IsOpenStream v z
-      open_stream-is = stream-read z same-id (ap (λ (t : StreamState). t.reassembly_queue) state) (ap (λ (t : StreamState). t.max_payload_size) state) (ap (λ (t : StreamState). t.sequence_number) state) (ap (λ (t : StreamState). t.buffered_amount) state) ordered next-is stats-are
+      open_stream-is = stream-read z same-id (ap (λ (t : StreamState). t.reassembly_queue) state) (ap (λ (t : StreamState). t.max_payload_size) state) (ap (λ (t : StreamState). t.sequence_number) state) (ap (λ (t : StreamState). t.buffered_amount) state) ordered begun next-is stats-are
 
-      abbrev shown : StreamState → List ℕ → StreamRecord
-      shown t whole = record { stream = t.stream_identifier; unordered = t.unordered; reliability = t.reliability_type; value = t.reliability_value; named = 0; whole = whole }
+      abbrev shown : ℕ → StreamState → List ℕ → StreamRecord
+      shown named t whole = record { stream = t.stream_identifier; unordered = t.unordered; reliability = t.reliability_type; value = t.reliability_value; named = named; whole = whole }
 
       whole-is : z.whole.items ≡ drop 1 y.whole.items
       whole-is =
@@ -288,7 +302,7 @@ module _ (sum : List ℕ → ℕ) (x : State) (l : IsLinked sum x) (s at : ℕ) 
 
       streams-are : map stream_record (slice_set x.open_streams at z) ≡ map (λ (t : StreamRecord). if t.stream == s then without_first t else t) w.streams
       streams-are =
-          streams-set x.open_streams at z d without_first streams-apart lt (ap (λ (t : StreamState). shown t z.whole.items) state ∙ ap (shown y.state) whole-is)
+          streams-set x.open_streams at z d without_first streams-apart lt (ap (λ (t : StreamState). shown z.named t z.whole.items) state ∙ ap (λ n. shown n y.state z.whole.items) named ∙ ap (shown y.named y.state) whole-is)
           ∙ ap (λ i. map (λ (t : StreamRecord). if t.stream == i then without_first t else t) (map stream_record x.open_streams)) (id-at d)
           ∙ ap (map (λ (t : StreamRecord). if t.stream == s then without_first t else t)) (sym streams_are)
 
@@ -298,9 +312,9 @@ module _ (sum : List ℕ → ℕ) (x : State) (l : IsLinked sum x) (s at : ℕ) 
           ∙ ap {B = World} (λ ms. record w { streams = map (λ (t : StreamRecord). if t.stream == s then without_first t else t) w.streams; messages = ms }) messages_are
           ∙ sym (ap (read_of w s) read-is.1)
 
-      pub linked-read : (sents : List ℕ) → sents ≡ x.sents → IsLinked sum (record x { world = record w { streams = map stream_record (slice_set x.open_streams at z); messages = messages }; sents = sents; open_streams = slice_set x.open_streams at z })
-      linked-read sents same =
-          linked-then sum x l (E.Read s) none frame sents (slice_set x.open_streams at z) x.cumulative_tsn x.filter (record w { streams = map stream_record (slice_set x.open_streams at z); messages = messages }) same (l.filter ∙ sym filter-stays)
+      pub linked-read : (progress : List (ℕ × ℕ)) → progress ≡ x.progress → IsLinked sum (record x { world = record w { streams = map stream_record (slice_set x.open_streams at z); messages = messages }; progress = progress; open_streams = slice_set x.open_streams at z })
+      linked-read progress same =
+          linked-then sum x l (E.Read s) none frame progress (slice_set x.open_streams at z) x.cumulative_tsn x.filter (record w { streams = map stream_record (slice_set x.open_streams at z); messages = messages }) same (l.filter ∙ sym filter-stays)
           (each-read z open_stream-is hands.other counters-other)
           (indexed-set x.places x.open_streams at z d l.indexed same-id)
           quiet world-read
@@ -309,8 +323,8 @@ module _ (sum : List ℕ → ℕ) (x : State) (l : IsLinked sum x) (s at : ℕ) 
       pub world-twice : (a : OpenStream) → record w { streams = map stream_record (slice_set (slice_set x.open_streams at a) at z); messages = messages } ≡ v
       world-twice a = ap {B = World} (λ ls. record w { streams = map stream_record ls; messages = messages }) (set-set x.open_streams at a z) ∙ world-read
 
-      pub linked-twice : (a : OpenStream) (sents : List ℕ) → sents ≡ x.sents → IsLinked sum (record x { world = record w { streams = map stream_record (slice_set (slice_set x.open_streams at a) at z); messages = messages }; sents = sents; open_streams = slice_set (slice_set x.open_streams at a) at z })
-      linked-twice a sents same = subst (λ ls. IsLinked sum (record x { world = record w { streams = map stream_record ls; messages = messages }; sents = sents; open_streams = ls })) (sym (set-set x.open_streams at a z)) (linked-read sents same)
+      pub linked-twice : (a : OpenStream) (progress : List (ℕ × ℕ)) → progress ≡ x.progress → IsLinked sum (record x { world = record w { streams = map stream_record (slice_set (slice_set x.open_streams at a) at z); messages = messages }; progress = progress; open_streams = slice_set (slice_set x.open_streams at a) at z })
+      linked-twice a progress same = subst (λ ls. IsLinked sum (record x { world = record w { streams = map stream_record ls; messages = messages }; progress = progress; open_streams = ls })) (sym (set-set x.open_streams at a z)) (linked-read progress same)
 
 -- ## What the queue answered
 

@@ -6,18 +6,18 @@ use Rattle.std.specs.Borrow.{Bor}
 use Rattle.std.proofs.Math.Path.{subst}
 use Rattle.sctp_lists.specs.Kept.{numbers_from, total_over}
 use Rattle.sctp_lists.specs.Serial.{at_or_before}
-use Rattle.sctp_lists.proofs.KeptLemmas.{length-kept-le}
 use Rattle.sctp_lists.proofs.More.{not_both}
 use Rattle.sctp_chunks.specs.declared.chunk.chunk_payload_data.ChunkPayloadData.{ChunkPayloadData}
 use Rattle.sctp_chunks.specs.ChunkSet.{ChunkSet}
 use Rattle.sctp_queues.specs.DataChunks.{has_tsn}
 use Rattle.sctp_queues.specs.Window
 use Rattle.sctp_model.specs.World.{World, StreamRecord, Data}
-use Rattle.sctp_model.specs.Messages.{message_at, slot_at, message_of, stream_at, index_of, tsn_of, place_of, is_ordered_on, no_message, no_slot}
+use Rattle.sctp_model.specs.Messages.{message_at, slot_at, message_of, stream_at, index_of, sent_of, tsn_of, place_of, no_message, no_slot}
 use Rattle.sctp_model.specs.Receiver.{is_new, is_held, held_on, next_of, least, greatest}
 use Rattle.sctp_model.specs.Queues.{set_of}
 use Rattle.sctp_model.specs.Steps.{arrival_fits}
 use Rattle.sctp_model.proofs.Shape.{shape, parts}
+use Rattle.sctp_model.proofs.Fronts.{slot-sent}
 use Rattle.sctp_ties.specs.Holds.{ordered_sets}
 use Rattle.sctp_ties.proofs.Arrival
 use Rattle.sctp_ties.proofs.Line
@@ -28,7 +28,8 @@ use Rattle.sctp_link.specs.declared.open_stream.OpenStream.{OpenStream}
 use Rattle.sctp_link.specs.declared.record.Message.{Message}
 use Rattle.sctp_link.specs.declared.record.Slot.{Slot}
 use Rattle.sctp_link.specs.Linked.{State, IsLinked, has_number}
-use Rattle.sctp_link.specs.Records.{message_record, slot_record}
+use Rattle.sctp_link.specs.Records.{message_record, slot_record, progress_of}
+use Rattle.sctp_link.proofs.Beginning.{index_kept}
 use Rattle.sctp_link.proofs.Facts.{facts}
 use Rattle.sctp_link.proofs.Apart.{number-found}
 
@@ -98,11 +99,17 @@ module _ (sum : List ℕ → ℕ) (x : State) (l : IsLinked sum x) (slots : List
   pub message-raw : (n : ℕ) (d : Message) → n < length messages → message_at x.world n ≡ message_record (slice_index_or messages n d)
   message-raw n d lt = ap (λ xs. slice_index_or xs n no_message) messages_are ∙ raw-at message_record messages n no_message d lt
 
+  pub kept-raw : x.progress ≡ map progress_of messages → (n : ℕ) (d : Message) → n < length messages → index_kept x.progress n ≡ (slice_index_or messages n d).index
+  kept-raw kept n d lt = ap (λ ps. index_kept ps n) kept ∙ ap (λ p. p.1) (raw-at progress_of messages n (0, 0) d lt)
+
   -- the set of a message that is held
   pub held-begins : (s n : ℕ) (set : ChunkSet) (chunks : List ChunkPayloadData) → chunks ≡ set.chunks → is_held x.world s n ≡ true → set ≡ set_of x.world n → Begins x.world n chunks
   held-begins s n set chunks shown h e =
       let f = facts sum x l in
       subst (Begins x.world n) (sym (shown ∙ ap (λ (y : ChunkSet). y.chunks) e)) (set-begins x.world s n f.sound.sound f.setup.first h)
+
+  pub held-ordered : (s n : ℕ) → is_held x.world s n ≡ true → (message_at x.world n).ordered ≡ true
+  held-ordered s n h = Line.on-ordered x.world s n (Taken.held x.world s n h).on
 
   pub held-made : (s n : ℕ) → is_held x.world s n ≡ true → n < length x.world.messages
   held-made s n h = Line.on-made x.world s n (Taken.held x.world s n h).on
@@ -121,10 +128,11 @@ module _ (sum : List ℕ → ℕ) (x : State) (l : IsLinked sum x) (slots : List
     pub lead-message : (y : Slot) → y ≡ slice_index_or slots (((slice_index_or chunks 0 d).tsn + (2 ^ 32 - x.world.setup.first)) % 2 ^ 32) y → y.message < length messages
     lead-message y z = omega (arith, lead-number y z, made, messages-made)
 
-    pub lead-before : (y : Slot) (m : Message) → y ≡ slice_index_or slots (((slice_index_or chunks 0 d).tsn + (2 ^ 32 - x.world.setup.first)) % 2 ^ 32) y → m ≡ slice_index_or messages y.message m → m.before ≡ index_of x.world n
-    lead-before y m z t =
-        ap (λ (t : Message). t.before) (t ∙ ap (λ k. slice_index_or messages k m) (lead-number y z))
-        ∙ sym (ap (λ t. t.before) (message-raw n m (omega (arith, made, messages-made)))) ∙ l.befores n made
+    pub lead-index : x.progress ≡ map progress_of messages → (message_at x.world n).ordered ≡ true → (y : Slot) (m : Message) → y ≡ slice_index_or slots (((slice_index_or chunks 0 d).tsn + (2 ^ 32 - x.world.setup.first)) % 2 ^ 32) y → m ≡ slice_index_or messages y.message m → m.index ≡ index_of x.world n
+    lead-index kept o y m z t =
+        ap (λ (t : Message). t.index) (t ∙ ap (λ k. slice_index_or messages k m) (lead-number y z))
+        ∙ sym (kept-raw kept n m (omega (arith, made, messages-made)))
+        ∙ l.indexes n (subst (λ k. 0 < sent_of x.world k) led.of (slot-sent (shape x.world) (place_of x.world (slice_index_or chunks 0 d).tsn) (facts sum x l).sane.sender led.made)) o
 
 -- ## The ends of what is held
 
@@ -194,12 +202,12 @@ module _ (sum : List ℕ → ℕ) (x : State) (l : IsLinked sum x) (k p : ℕ) (
   pub come-open : (r : StreamRecord) × (stream_at x.world s ≡ Some r)
   come-open = ((facts sum x l).carried k p e).known
 
-  pub come-before : (message_at x.world n).before ≡ index_of x.world n
-  come-before = l.befores n come-message
+  pub come-index : (message_at x.world n).ordered ≡ true → index_kept x.progress n ≡ index_of x.world n
+  come-index o = l.indexes n (slot-sent (shape x.world) p (facts sum x l).sane.sender come-made) o
 
   -- there are fewer messages than fragments may be accepted
-  pub few-before : (message_at x.world n).before < 2 ^ 31
-  few-before = omega (arith, come-before, length-kept-le (is_ordered_on x.world s) 0 n, come-message, few-messages sum x l)
+  pub few-index : index_kept x.progress n < 2 ^ 31
+  few-index = omega (arith, l.low n, come-message, few-messages sum x l)
 
   fits-is : arrival_fits x.world (Some (Data (p ∷ []))) ≡ (if is_new x.world p && (message_at x.world n).ordered then nat_lt (max (greatest (next_of x.world s) (map (index_of x.world) (held_on x.world s))) (index_of x.world n)) (min (least (next_of x.world s) (map (index_of x.world) (held_on x.world s))) (index_of x.world n) + 2 ^ 15) else true)
   fits-is = let f = facts sum x l in arrival-fits-one x.world p f.spans (f.carried k p e)
@@ -215,9 +223,9 @@ module _ (sum : List ℕ → ℕ) (x : State) (l : IsLinked sum x) (k p : ℕ) (
   pub fits-old : is_new x.world p ≡ false → true ≡ arrival_fits x.world (Some (Data (p ∷ [])))
   fits-old h = sym (fits-is ∙ ap (λ a. if a && (message_at x.world n).ordered then nat_lt (max (greatest (next_of x.world s) (map (index_of x.world) (held_on x.world s))) (index_of x.world n)) (min (least (next_of x.world s) (map (index_of x.world) (held_on x.world s))) (index_of x.world n) + 2 ^ 15) else true) h)
 
-  pub fits-span : (low high before : ℕ) → is_new x.world p ≡ true → (message_at x.world n).ordered ≡ true → low ≡ least (next_of x.world s) (map (index_of x.world) (held_on x.world s)) → high ≡ greatest (next_of x.world s) (map (index_of x.world) (held_on x.world s)) → before ≡ (message_at x.world n).before → nat_lt (max high before) (min low before + 32768) ≡ arrival_fits x.world (Some (Data (p ∷ [])))
-  fits-span low high before new ordered a b c =
-      let i : before ≡ index_of x.world n = c ∙ come-before in
+  pub fits-span : (low high place : ℕ) → is_new x.world p ≡ true → (message_at x.world n).ordered ≡ true → low ≡ least (next_of x.world s) (map (index_of x.world) (held_on x.world s)) → high ≡ greatest (next_of x.world s) (map (index_of x.world) (held_on x.world s)) → place ≡ index_kept x.progress n → nat_lt (max high place) (min low place + 32768) ≡ arrival_fits x.world (Some (Data (p ∷ [])))
+  fits-span low high place new ordered a b c =
+      let i : place ≡ index_of x.world n = c ∙ come-index ordered in
       ap (λ y. nat_lt (max high y) (min low y + 32768)) i
       ∙ ap (λ y. nat_lt (max y (index_of x.world n)) (min low (index_of x.world n) + 32768)) b
       ∙ ap (λ y. nat_lt (max (greatest (next_of x.world s) (map (index_of x.world) (held_on x.world s))) (index_of x.world n)) (min y (index_of x.world n) + 32768)) a

@@ -23,6 +23,7 @@ use Rattle.sctp_ties.specs.Holds.{reassembly_of}
 use Rattle.sctp_ties.specs.Tied.{filter_held}
 use Rattle.sctp_ties.specs.Amount.{amount}
 use Rattle.sctp_ties.specs.Counts.{counters_on}
+use Rattle.sctp_ties.specs.Indexes.{begun_on}
 use Rattle.sctp_ties.proofs.Arrival.{with_arrived}
 use Rattle.sctp_ties.proofs.RunsOnce.{becomes-same}
 use Rattle.sctp_ties.proofs.SlotArrives.{ordered-slot, unordered-slot}
@@ -45,8 +46,8 @@ and-yes true = refl
 and-yes false = refl
 
 -- a stream with these whole messages
-abbrev shown : StreamState → List ℕ → StreamRecord
-shown s whole = record { stream = s.stream_identifier; unordered = s.unordered; reliability = s.reliability_type; value = s.reliability_value; named = 0; whole = whole }
+abbrev shown : ℕ → StreamState → List ℕ → StreamRecord
+shown named s whole = record { stream = s.stream_identifier; unordered = s.unordered; reliability = s.reliability_type; value = s.reliability_value; named = named; whole = whole }
 
 module _ (sum : List ℕ → ℕ) (x : State) (l : IsLinked sum x) (k p : ℕ) (none : refusal_of x.world (E.Arrive k) ≡ None) (e : slice_get x.world.network k ≡ Some (Data (p ∷ []))) (new : is_new x.world p ≡ true) (at : ℕ) (d : OpenStream) (streams_are : x.world.streams ≡ map stream_record x.open_streams) (lt : at < length x.open_streams) (found : (d : OpenStream) → find (has_number (message_at x.world (message_of x.world p)).stream) x.open_streams ≡ Some (slice_index_or x.open_streams at d)) where
   abbrev w : World
@@ -119,10 +120,11 @@ module _ (sum : List ℕ → ℕ) (x : State) (l : IsLinked sum x) (k p : ℕ) (
 
     -- ## The record
 
-    shown-is : (b : Bool) → becomes_whole (with_arrived w p) n ≡ b → stream_record z ≡ shown y.state (if b then y.whole.items ++ n ∷ [] else y.whole.items)
+    shown-is : (b : Bool) → becomes_whole (with_arrived w p) n ≡ b → stream_record z ≡ shown y.named y.state (if b then y.whole.items ++ n ∷ [] else y.whole.items)
     shown-is b h =
-        ap (λ (t : StreamState). shown t z.whole.items) keeps.state
-        ∙ ap (shown y.state) (keeps.noted ∙ ap (λ c. if c then y.whole.items ++ number ∷ [] else y.whole.items) (holds.noted ∙ h) ∙ ap (λ i. if b then y.whole.items ++ i ∷ [] else y.whole.items) number_is)
+        ap (λ (t : StreamState). shown z.named t z.whole.items) keeps.state
+        ∙ ap (λ n. shown n y.state z.whole.items) keeps.named
+        ∙ ap (shown y.named y.state) (keeps.noted ∙ ap (λ c. if c then y.whole.items ++ number ∷ [] else y.whole.items) (holds.noted ∙ h) ∙ ap (λ i. if b then y.whole.items ++ i ∷ [] else y.whole.items) number_is)
 
     streams-are : (b : Bool) → becomes_whole (with_arrived w p) n ≡ b → map stream_record (slice_set x.open_streams at z) ≡ (if b then stream_changed (with_arrived w p) s (with_whole n) else with_arrived w p).streams
     streams-are true h =
@@ -146,30 +148,30 @@ module _ (sum : List ℕ → ℕ) (x : State) (l : IsLinked sum x) (k p : ℕ) (
     each-stream j c less =
         let inside : j < length x.open_streams = omega (arith, less, length-set x.open_streams at z) in
         each-set (IsOpenStream (after w (E.Arrive k))) x.open_streams at j z c lt
-        (stream-arrived sum x l k p none e y z (l.open_streams at d lt) keeps.state keeps.ordered keeps.next (holds.queue ∙ ap (reassembly_of (slot_received w p)) (sym (id-at d))) holds.si holds.largest)
+        (stream-arrived sum x l k p none e y z (l.open_streams at d lt) keeps.state keeps.ordered keeps.begun keeps.next (holds.queue ∙ ap (reassembly_of (slot_received w p)) (sym (id-at d))) holds.si holds.largest)
         (λ ne. other c inside ne)
       where
         other : (c : OpenStream) → j < length x.open_streams → (j ≡ at → ⊥) → IsOpenStream (after w (E.Arrive k)) (slice_index_or x.open_streams j c)
         other c inside ne =
             let i = l.open_streams j c inside in
             let t = slice_index_or x.open_streams j c in
-            stream-arrived sum x l k p none e t t i refl refl refl (i.held ∙ sym (elsewhere sum x l k p none e new t.state.stream_identifier (λ h. differ x.open_streams j at c streams-apart inside lt ne (h ∙ sym (id-at c))))) refl refl
+            stream-arrived sum x l k p none e t t i refl refl refl refl (i.held ∙ sym (elsewhere sum x l k p none e new t.state.stream_identifier (λ h. differ x.open_streams j at c streams-apart inside lt ne (h ∙ sym (id-at c))))) refl refl
 
     pub linked-keep : (cumulative : ℕ) (filter : Payload) (slots : List W.Slot) → filter_held cumulative filter ≡ filter_of (after w (E.Arrive k)) → slots ≡ changed mark_arrived p w.slots → IsLinked sum (record x { world = record w { streams = map stream_record (slice_set x.open_streams at z); slots = slots }; open_streams = slice_set x.open_streams at z; cumulative_tsn = cumulative; filter = filter })
     linked-keep cumulative filter slots f same =
-        linked-then sum x l (E.Arrive k) none (frame sum x l k p none e) x.sents (slice_set x.open_streams at z) cumulative filter (record w { streams = map stream_record (slice_set x.open_streams at z); slots = slots }) refl f each-stream
+        linked-then sum x l (E.Arrive k) none (frame sum x l k p none e) x.progress (slice_set x.open_streams at z) cumulative filter (record w { streams = map stream_record (slice_set x.open_streams at z); slots = slots }) refl f each-stream
         (indexed-set x.places x.open_streams at z d l.indexed same-id)
         (quiet sum x l k p none e) (world-kept slots same ∙ sym (after-is sum x l k p none e))
 
 -- ## An open stream that is set as it was
 
-module _ (sum : List ℕ → ℕ) (x : State) (l : IsLinked sum x) (at : ℕ) (d z : OpenStream) (streams_are : x.world.streams ≡ map stream_record x.open_streams) (lt : at < length x.open_streams) (state : z.state ≡ (slice_index_or x.open_streams at d).state) (whole : z.whole.items ≡ (slice_index_or x.open_streams at d).whole.items) (ordered : z.ordered ≡ (slice_index_or x.open_streams at d).ordered) (next : z.next ≡ (slice_index_or x.open_streams at d).next) (filter : Payload) (filter_same : filter_held x.cumulative_tsn filter ≡ filter_held x.cumulative_tsn x.filter) where
+module _ (sum : List ℕ → ℕ) (x : State) (l : IsLinked sum x) (at : ℕ) (d z : OpenStream) (streams_are : x.world.streams ≡ map stream_record x.open_streams) (lt : at < length x.open_streams) (state : z.state ≡ (slice_index_or x.open_streams at d).state) (whole : z.whole.items ≡ (slice_index_or x.open_streams at d).whole.items) (ordered : z.ordered ≡ (slice_index_or x.open_streams at d).ordered) (begun : z.begun ≡ (slice_index_or x.open_streams at d).begun) (next : z.next ≡ (slice_index_or x.open_streams at d).next) (named : z.named ≡ (slice_index_or x.open_streams at d).named) (filter : Payload) (filter_same : filter_held x.cumulative_tsn filter ≡ filter_held x.cumulative_tsn x.filter) where
   abbrev was : OpenStream
   was = slice_index_or x.open_streams at d
 
   pub streams-stay : map stream_record (slice_set x.open_streams at z) ≡ x.world.streams
   streams-stay =
-      map-set_same stream_record x.open_streams at z d (ap (λ (t : StreamState). shown t z.whole.items) state ∙ ap (shown was.state) whole)
+      map-set_same stream_record x.open_streams at z d (ap (λ (t : StreamState). shown z.named t z.whole.items) state ∙ ap (λ n. shown n was.state z.whole.items) named ∙ ap (shown was.named was.state) whole)
       ∙ sym streams_are
 
   stream-stays : IsOpenStream x.world was → IsOpenStream x.world z
@@ -182,6 +184,7 @@ module _ (sum : List ℕ → ℕ) (x : State) (l : IsLinked sum x) (at : ℕ) (d
         size = subst (λ (t : StreamState). t.max_payload_size ≡ x.world.setup.size) (sym state) i.size;
         ordered = ordered ∙ subst (λ (t : StreamState). was.ordered ≡ ordered_before x.world t.stream_identifier (length x.world.messages)) (sym state) i.ordered;
         number = ap (λ (t : StreamState). t.sequence_number) state ∙ i.number ∙ ap (λ m. m % 2 ^ 16) (sym ordered);
+        begun = begun ∙ subst (λ (t : StreamState). was.begun ≡ begun_on x.world t.stream_identifier) (sym state) i.begun;
         next = next ∙ subst (λ (t : StreamState). was.next ≡ next_of x.world t.stream_identifier) (sym state) i.next;
         amount = subst (λ (t : StreamState). t.buffered_amount ≡ amount x.world t.stream_identifier) (sym state) i.amount;
         stats = subst (λ (t : StreamState). t.stats ≡ stats_of (counters_on x.world t.stream_identifier)) (sym state) i.stats;
@@ -200,7 +203,8 @@ module _ (sum : List ℕ → ℕ) (x : State) (l : IsLinked sum x) (at : ℕ) (d
     fragments = l.fragments;
     written = l.written;
     sents = l.sents;
-    befores = l.befores;
+    indexes = l.indexes;
+    low = l.low;
     open_streams = λ j c less.
         let inside : j < length x.open_streams = omega (arith, less, length-set x.open_streams at z) in
         each-set (IsOpenStream x.world) x.open_streams at j z c lt (stream-stays (l.open_streams at d lt)) (λ ne. l.open_streams j c inside);

@@ -12,9 +12,11 @@ pub mod Facts
 pub mod Lookups
 pub mod Lending
 pub mod Walks
+pub mod Wants
 pub mod Packets
 pub mod Observed
 pub mod Begins
+pub mod Beginning
 pub mod Opening
 pub mod Starting
 pub mod Modes

@@ -43,10 +43,10 @@ module _ (sum : List ℕ → ℕ) (x : State) (l : IsLinked sum x) (s : ℕ) (un
   kept t i =
       stream-same x.world v t
       (record { setup = refl; held = Opened.mode-same x.world s unordered reliability value t.state.stream_identifier; ordered = refl; next = next-kept sum x l (E.Mode s unordered reliability value) ok tt t.state.stream_identifier; amount = refl; counters = refl })
-      i
+      refl i
 
   changes : (t : OpenStream) → IsOpenStream v t → IsOpenStream v (moded unordered reliability value t)
-  changes t i = record { held = i.held; si = i.si; largest = i.largest; size = i.size; ordered = i.ordered; number = i.number; next = i.next; amount = i.amount; stats = i.stats }
+  changes t i = record { held = i.held; si = i.si; largest = i.largest; size = i.size; ordered = i.ordered; number = i.number; begun = i.begun; next = i.next; amount = i.amount; stats = i.stats }
 
   module _ (at : ℕ) (d y : OpenStream) (lt : at < length x.open_streams) (here : find (has_number s) x.open_streams ≡ Some (slice_index_or x.open_streams at d)) (is : y ≡ moded unordered reliability value (slice_index_or x.open_streams at d)) where
     own : (slice_index_or x.open_streams at d).state.stream_identifier ≡ s
@@ -71,7 +71,8 @@ module _ (sum : List ℕ → ℕ) (x : State) (l : IsLinked sum x) (s : ℕ) (un
       fragments = l.fragments;
       written = l.written;
       sents = l.sents;
-      befores = l.befores;
+      indexes = l.indexes;
+      low = l.low;
       open_streams = λ k e less. let below : k < length x.open_streams = omega (arith, less, length-set x.open_streams at y) in
           at-place k e below;
       indexed = indexed-set x.places x.open_streams at y d l.indexed (ap (λ m. m.state.stream_identifier) is);

@@ -1,10 +1,12 @@
 -- What a link tells that is asked of it: which streams are open, what a datagram's bytes say, which TSNs can be sent again.
 use Rattle.std.proofs.Common.{◌≡◌, ℕ, zero, suc, ◌<◌, ◌≤◌, ◌^◌, Bool, true, false, List, [], ◌∷◌, length, map, Option, Some, None, refl, ap, sym, ◌∙◌, arith}
-use Rattle.std.specs.Prelude.{◌&&◌, not, find, is_some, slice_get, slice_index_or, MatchOption, nat_le, nat_lt}
+use Rattle.std.specs.Prelude.{◌&&◌, ◌||◌, not, find, is_some, slice_get, slice_index_or, MatchOption, nat_le, nat_lt}
 use Rattle.std.proofs.lemmas.Bool.{lt-ltb, le-leb}
 use Rattle.std.proofs.lemmas.List.{get_or-map}
 use Rattle.sctp_lists.proofs.Getting.{length-mapped}
 use Rattle.sctp_model.specs.World.{World}
+use Rattle.sctp_model.specs.World as W
+use Rattle.sctp_model.specs.Queues.{is_cleared}
 use Rattle.sctp_model.specs.Messages.{is_open, message_at, message_of, slot_at, no_slot, no_message}
 use Rattle.sctp_model.specs.Contents.{Contents, contents_of, contents_in, datagram}
 use Rattle.sctp_model.specs.Steps.{can_resend}
@@ -46,33 +48,30 @@ says-bytes sum x ds k d l network bytes lt is =
 pub few-fragments : (sum : List ℕ → ℕ) (x : State) → IsLinked sum x → x.fragments < 2 ^ 31
 few-fragments sum x l = omega (arith, l.fragments, (facts sum x l).sane.accepted)
 
-not-abandoned : (ms : List Message) (n : ℕ) → n < length (map message_record ms) → (slice_index_or (map message_record ms) n no_message).abandoned ≡ false
-not-abandoned [] n lt = absurd (omega (arith, lt))
-not-abandoned (m ∷ ms) zero lt = refl
-not-abandoned (m ∷ ms) (suc n) lt = not-abandoned ms n (omega (arith, lt))
+all-right : (a b c d : Bool) → a ≡ true → b ≡ true → ((a && b) && (not c && not d)) ≡ not (c || d)
+all-right true true true d h i = refl
+all-right true true false d h i = refl
+all-right true false c d h i = cc
+all-right false b c d h i = cc
 
-same-acknowledged : (xs : List Slot) (p : ℕ) (s : Slot) → p < length xs → (slice_index_or (map slot_record xs) p no_slot).acknowledged ≡ (slice_index_or xs p s).acknowledged
-same-acknowledged [] p s lt = absurd (omega (arith, lt))
-same-acknowledged (x ∷ xs) zero s lt = refl
-same-acknowledged (x ∷ xs) (suc p) s lt = same-acknowledged xs p s (omega (arith, lt))
+-- the message of a slot
+pub slot-message : (sum : List ℕ → ℕ) (x : State) (xs : List Slot) (p : ℕ) (s : Slot) → IsLinked sum x → x.world.slots ≡ map slot_record xs → p < length x.world.slots → s ≡ slice_index_or xs p s → (slot_at x.world p ≡ slot_record s) × (s.message < length x.world.messages)
+slot-message sum x xs p s l slots lt is =
+    let within : p < length xs = omega (arith, lt, ap length slots, length-mapped slot_record xs) in
+    let same : slot_at x.world p ≡ slot_record s = ap (λ ys. slice_index_or ys p no_slot) slots ∙ get_or-map slot_record xs p s no_slot within ∙ ap slot_record (sym is) in
+    let made = (facts sum x l).sane.sender.made p lt in
+    (same, omega (arith, made, ap (λ t. t.message) same))
 
-all-right : (a b c d e : Bool) → a ≡ true → b ≡ true → c ≡ e → d ≡ false → ((a && b) && (not c && not d)) ≡ not e
-all-right true true c false true h i j k = rw j refl
-all-right true true c false false h i j k = rw j refl
-all-right true true c true e h i j k = cc
-all-right true false c d e h i j k = cc
-all-right false b c d e h i j k = cc
+-- a slot is acknowledged, or its message abandoned
+pub cleared-is : (sum : List ℕ → ℕ) (x : State) (ms : List Message) (xs : List Slot) (p : ℕ) (s : Slot) (m : Message) → IsLinked sum x → x.world.messages ≡ map message_record ms → x.world.slots ≡ map slot_record xs → p < length x.world.slots → s ≡ slice_index_or xs p s → m ≡ slice_index_or ms s.message m
+    → (s.acknowledged || m.abandoned) ≡ is_cleared x.world p
+cleared-is sum x ms xs p s m l messages slots lt is im =
+    let r = slot-message sum x xs p s l slots lt is in
+    let within : s.message < length ms = omega (arith, r.1, ap length messages, length-mapped message_record ms) in
+    let same : message_at x.world s.message ≡ message_record m = ap (λ ys. slice_index_or ys s.message no_message) messages ∙ get_or-map message_record ms s.message m no_message within ∙ ap message_record (sym im) in
+    ap (λ b. s.acknowledged || b) (sym (ap (λ t. t.abandoned) same))
+    ∙ sym (ap (λ (t : W.Slot). t.acknowledged || (message_at x.world t.message).abandoned) r.0)
 
--- a slot that was not acknowledged can be sent again: no message is given up
-pub can-resend : (sum : List ℕ → ℕ) (x : State) (ms : List Message) (xs : List Slot) (p : ℕ) (s : Slot) → IsLinked sum x → x.world.messages ≡ map message_record ms → x.world.slots ≡ map slot_record xs
-    → x.world.taken ≤ p → p < length xs → s ≡ slice_index_or xs p s → can_resend x.world p ≡ not s.acknowledged
-can-resend sum x ms xs p s l messages slots le lt is =
-    let count : length x.world.slots ≡ length xs = ap length slots ∙ length-mapped slot_record xs in
-    let below : p < length x.world.slots = omega (arith, lt, count) in
-    let made : message_of x.world p < length x.world.messages = (facts sum x l).sane.sender.made p below in
-    let has : message_of x.world p < length (map message_record ms) = omega (arith, made, ap length messages) in
-    all-right (nat_le x.world.taken p) (nat_lt p (length x.world.slots)) (slot_at x.world p).acknowledged (message_at x.world (message_of x.world p)).abandoned s.acknowledged
-    (le-leb x.world.taken p le)
-    (lt-ltb p (length x.world.slots) below)
-    (ap (λ ys. (slice_index_or ys p no_slot).acknowledged) slots ∙ same-acknowledged xs p s lt ∙ ap (λ y. y.acknowledged) (sym is))
-    (ap (λ ys. (slice_index_or ys (message_of x.world p) no_message).abandoned) messages ∙ not-abandoned ms (message_of x.world p) has)
+-- one that is neither, among those in flight, can be sent again
+pub can-resend : (w : World) (p : ℕ) → w.taken ≤ p → p < length w.slots → can_resend w p ≡ not (is_cleared w p)
+can-resend w p le lt = all-right (nat_le w.taken p) (nat_lt p (length w.slots)) (slot_at w p).acknowledged (message_at w (message_of w p)).abandoned (le-leb w.taken p le) (lt-ltb p (length w.slots) lt)

@@ -17,6 +17,7 @@ use Rattle.sctp_model.specs.Receiver.{next_of}
 use Rattle.sctp_model.specs.Changes.{opened}
 use Rattle.sctp_model.specs.Steps.{refusal_of, reply_to}
 use Rattle.sctp_model.proofs.SenderRun.{unless-holds}
+use Rattle.sctp_ties.proofs.BegunRun.{begun-closed}
 use Rattle.sctp_ties.proofs.Opened
 use Rattle.sctp_ties.proofs.ReadOne.{next-same}
 use Rattle.sctp_ties.proofs.StreamAmounts.{amount-none}
@@ -43,11 +44,12 @@ open-found s (l ∷ ls) = by (l.state.stream_identifier == s) (open-found s ls)
     by false e = e
 
 -- the record of one more stream
-pub streams-more : (s size largest : ℕ) (ls open_streams : List OpenStream) (m : OpenStream) → open_streams ≡ ls ++ m ∷ [] → m.state ≡ new_stream s size largest Unknown → m.whole.items ≡ [] → map stream_record open_streams ≡ map stream_record ls ++ no_stream s ∷ []
-streams-more s size largest ls open_streams m e is none =
+pub streams-more : (s size largest : ℕ) (ls open_streams : List OpenStream) (m : OpenStream) → open_streams ≡ ls ++ m ∷ [] → m.state ≡ new_stream s size largest Unknown → m.whole.items ≡ [] → m.named ≡ 0 → map stream_record open_streams ≡ map stream_record ls ++ no_stream s ∷ []
+streams-more s size largest ls open_streams m e is none unnamed =
     ap (map stream_record) e ∙ map-append stream_record ls (m ∷ [])
     ∙ ap (λ st. map stream_record ls ++ stream_record (record m { state = st }) ∷ []) is
-    ∙ ap (λ ws. let r : StreamRecord = record { stream = s; unordered = false; reliability = Reliable; value = 0; named = 0; whole = ws } in map stream_record ls ++ r ∷ []) none
+    ∙ ap (λ ws. let r : StreamRecord = record { stream = s; unordered = false; reliability = Reliable; value = 0; named = m.named; whole = ws } in map stream_record ls ++ r ∷ []) none
+    ∙ ap (λ n. let r : StreamRecord = record { stream = s; unordered = false; reliability = Reliable; value = 0; named = n; whole = [] } in map stream_record ls ++ r ∷ []) unnamed
 
 -- ## The event
 
@@ -68,10 +70,10 @@ module _ (sum : List ℕ → ℕ) (x : State) (l : IsLinked sum x) (s : ℕ) (ok
   stream-old t i =
       stream-same x.world (opened x.world s) t
       (record { setup = refl; held = Opened.opened-same x.world s t.state.stream_identifier closed; ordered = refl; next = subst (λ u. next_of (opened u s) t.state.stream_identifier ≡ next_of u t.state.stream_identifier) (sym l.stands.is) (next-same x.world.setup l.history (E.Open s) t.state.stream_identifier l.setup l.stands.run (ap (λ u. refusal_of u (E.Open s)) (sym l.stands.is) ∙ ok) tt); amount = refl; counters = refl })
-      i
+      refl i
 
-  stream-new : (m : OpenStream) → m.state ≡ new_stream s x.world.setup.size x.world.setup.largest Unknown → m.ordered ≡ 0 → m.next ≡ 0 → IsOpenStream (opened x.world s) m
-  stream-new m is none first =
+  stream-new : (m : OpenStream) → m.state ≡ new_stream s x.world.setup.size x.world.setup.largest Unknown → m.ordered ≡ 0 → m.begun ≡ 0 → m.next ≡ 0 → IsOpenStream (opened x.world s) m
+  stream-new m is none no-begun first =
       let a : reassembly_of (opened x.world s) s ≡ (let q : Reassembly = record { next_ssn = 0; ordered = []; unordered = []; loose = [] } in q) = Opened.opened-same x.world s s closed ∙ Opened.closed-empty x.world.setup x.world s f.sane closed in
       let n : next_of (opened x.world s) s ≡ 0 = subst (λ u. next_of (opened u s) s ≡ next_of u s) (sym l.stands.is) (next-same x.world.setup l.history (E.Open s) s l.setup l.stands.run (ap (λ u. refusal_of u (E.Open s)) (sym l.stands.is) ∙ ok) tt) ∙ Opened.next x.world.setup x.world s f.sane closed in
       subst (λ st. IsOpenStream (opened x.world s) (record m { state = st })) (sym is)
@@ -82,6 +84,7 @@ module _ (sum : List ℕ → ℕ) (x : State) (l : IsLinked sum x) (s : ℕ) (ok
         size = refl;
         ordered = none ∙ sym (ap length (Opened.line x.world.setup x.world s f.sane closed));
         number = sym (ap (λ k. k % 2 ^ 16) none);
+        begun = no-begun ∙ sym (begun-closed x.world.setup x.world s f.sane closed);
         next = first ∙ sym n;
         amount = sym (amount-none x.world.setup x.world s f.sane closed);
         stats = sym (ap stats_of (counters-none x.world.setup x.world s f.sane closed));
@@ -95,8 +98,8 @@ module _ (sum : List ℕ → ℕ) (x : State) (l : IsLinked sum x) (s : ℕ) (ok
       none None e = refl
       none (Some t) e = cc
 
-  pub linked-open : (m : OpenStream) (open_streams : List OpenStream) (places : BTreeMap ℕ ℕ) → open_streams ≡ x.open_streams ++ m ∷ [] → IsIndexed places (stream_numbers open_streams) → m.state ≡ new_stream s x.world.setup.size x.world.setup.largest Unknown → m.ordered ≡ 0 → m.next ≡ 0 → IsLinked sum (record x { world = opened x.world s; open_streams = open_streams; places = places })
-  linked-open m open_streams places e found is none first = subst (λ ls. IsLinked sum (record x { world = opened x.world s; open_streams = ls; places = places })) (sym e) (record {
+  pub linked-open : (m : OpenStream) (open_streams : List OpenStream) (places : BTreeMap ℕ ℕ) → open_streams ≡ x.open_streams ++ m ∷ [] → IsIndexed places (stream_numbers open_streams) → m.state ≡ new_stream s x.world.setup.size x.world.setup.largest Unknown → m.ordered ≡ 0 → m.begun ≡ 0 → m.next ≡ 0 → IsLinked sum (record x { world = opened x.world s; open_streams = open_streams; places = places })
+  linked-open m open_streams places e found is none no-begun first = subst (λ ls. IsLinked sum (record x { world = opened x.world s; open_streams = ls; places = places })) (sym e) (record {
     setup = l.setup;
     one_each = l.one_each;
     history = (E.Open s, reply_to x.world (E.Open s)) ∷ l.history;
@@ -108,10 +111,11 @@ module _ (sum : List ℕ → ℕ) (x : State) (l : IsLinked sum x) (s : ℕ) (ok
     fragments = l.fragments;
     written = l.written;
     sents = l.sents;
-    befores = l.befores;
+    indexes = l.indexes;
+    low = l.low;
     open_streams = λ k d lt. by_last {P = IsOpenStream (opened x.world s) (slice_index_or (x.open_streams ++ m ∷ []) k d)} k (length x.open_streams) (omega (arith, lt, length-append x.open_streams (m ∷ [])))
         (λ below. subst (IsOpenStream (opened x.world s)) (sym (get-snoc_old x.open_streams m k d (λ z. absurd (omega (arith, below, z))))) (stream-old (slice_index_or x.open_streams k d) (l.open_streams k d below)))
-        (λ z. subst (IsOpenStream (opened x.world s)) (sym (ap (λ j. slice_index_or (x.open_streams ++ m ∷ []) j d) z ∙ get-snoc_new x.open_streams m d)) (stream-new m is none first));
+        (λ z. subst (IsOpenStream (opened x.world s)) (sym (ap (λ j. slice_index_or (x.open_streams ++ m ∷ []) j d) z ∙ get-snoc_new x.open_streams m d)) (stream-new m is none no-begun first));
     indexed = subst (λ ls. IsIndexed places (stream_numbers ls)) e found;
     texts = texts-same sum x l (E.Open s) ok refl;
   })

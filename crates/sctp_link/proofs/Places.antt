@@ -13,7 +13,6 @@ use Rattle.sctp_lists.specs.Lists.{change_where}
 use Rattle.sctp_lists.proofs.Edits.{OnlyAt, change_where-only, change_where-none, find-none}
 use Rattle.sctp_lists.proofs.Getting.{get-last, length-mapped, slice-front}
 use Rattle.sctp_link.specs.declared.open_stream.OpenStream.{OpenStream}
-use Rattle.sctp_link.specs.Acking.{less_by}
 use Rattle.sctp_link.specs.Linked.{has_number}
 use Rattle.sctp_link.specs.Places.{IsIndexed, stream_numbers}
 use Rattle.sctp_link.proofs.Apart.{map-set_same, number-found}
@@ -70,13 +69,13 @@ module _ (places : BTreeMap ℕ ℕ) (ls : List OpenStream) (indexed : IsIndexed
   place-of None e = place-none (sym e)
   place-of (Some k) e = place-found k (sym e)
 
-  -- where it was found, it alone has less
-  pub less-at : (n k : ℕ) (d : OpenStream) → k < length ls → find (has_number s) ls ≡ Some (slice_index_or ls k d) → set ls k (less_by n (get_or ls k d)) ≡ change_where (has_number s) (less_by n) ls
-  less-at n k d lt e = sym (change_where-only (has_number s) (less_by n) ls k d (place-only k ((indexed s k).1 (number-at ls k d lt ∙ ap (λ m. Some m) (number-found s ls (slice_index_or ls k d) e)))))
+  -- where it was found, it alone is changed
+  pub changed-found : (f : OpenStream → OpenStream) (k : ℕ) (d : OpenStream) → k < length ls → find (has_number s) ls ≡ Some (slice_index_or ls k d) → set ls k (f (get_or ls k d)) ≡ change_where (has_number s) f ls
+  changed-found f k d lt e = sym (change_where-only (has_number s) f ls k d (place-only k ((indexed s k).1 (number-at ls k d lt ∙ ap (λ m. Some m) (number-found s ls (slice_index_or ls k d) e)))))
 
--- where none was found, none has less
-pub less-none : (ls : List OpenStream) (s n : ℕ) → find (has_number s) ls ≡ None → ls ≡ change_where (has_number s) (less_by n) ls
-less-none ls s n none = sym (change_where-none (has_number s) (less_by n) ls (λ k d lt. ne_eqb _ _ (λ z. unnumbered s ls k none (number-at ls k d lt ∙ ap (λ m. Some m) z))))
+-- where none was found, none is changed
+pub changed-none : (f : OpenStream → OpenStream) (ls : List OpenStream) (s : ℕ) → find (has_number s) ls ≡ None → ls ≡ change_where (has_number s) f ls
+changed-none f ls s none = sym (change_where-none (has_number s) f ls (λ k d lt. ne_eqb _ _ (λ z. unnumbered s ls k none (number-at ls k d lt ∙ ap (λ m. Some m) z))))
 
 -- ## What an index becomes
 

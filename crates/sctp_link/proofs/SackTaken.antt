@@ -36,6 +36,8 @@ use Rattle.sctp_ties.specs.Amount.{unacked, bytes_at, acknowledged_at, acknowled
 use Rattle.sctp_ties.specs.Tied.{IsInFlight}
 use Rattle.sctp_ties.proofs.Acked.{in-flight-first, tied-taken}
 use Rattle.sctp_ties.proofs.Unacked.{amount-is, amount-acked, growth-acked}
+use Rattle.sctp_ties.proofs.Begun
+use Rattle.sctp_ties.proofs.Begun.{Indexed}
 use Rattle.sctp_ties.proofs.InFlightBytes.{chunk-on, bytes-unacked, taken-acknowledged, then-below}
 use Rattle.sctp_link.specs.declared.open_stream.OpenStream.{OpenStream}
 use Rattle.sctp_link.specs.declared.link.open_streams.OpenStreams.{OpenStreams}
@@ -48,6 +50,8 @@ use Rattle.sctp_link.specs.Texts.{IsDatagram, block_of, packet_with}
 use Rattle.sctp_link.specs.Acking.{Acks, IsAcking, amount_with, with_amount, and_run, and_blocks, in_block}
 use Rattle.sctp_link.proofs.Facts.{facts, over, stands-then, says-still}
 use Rattle.sctp_link.proofs.AckLoops.{acking-same}
+use Rattle.sctp_link.proofs.Beginning.{index_kept, indexed-of}
+use Rattle.sctp_link.specs.OpenStreams.{slot_with}
 use Rattle.sctp_link.proofs.SackFrames.{reassembly-taken, filter-taken}
 
 -- ## The SACK that is there
@@ -205,7 +209,7 @@ slots-then w r first now q left xs i =
     ∙ sym (numbered-at (acknowledged_by r) 0 k w.slots d made))
   where
     none : Slot
-    none = record { message = 0; fragment = 0; arrived = false; acknowledged = false }
+    none = slot_with 0 0
 
 -- each stream has the amount of its number
 abbrev as_left : World → Report → OpenStream → OpenStream
@@ -228,6 +232,7 @@ stream-left w r l sender i = record {
   size = i.size;
   ordered = i.ordered;
   number = i.number;
+  begun = i.begun ∙ sym (ap (λ y. Begun.begun y l.state.stream_identifier) (Shapes.shape-acknowledged w r (max w.taken r.cumulative)));
   next = i.next;
   amount = sym (amount-acked w r l.state.stream_identifier sender);
   stats = i.stats;
@@ -254,7 +259,8 @@ linked-taken sum x k r places cs l indexed none there e =
       fragments = l.fragments;
       written = l.written;
       sents = λ n lt. l.sents n lt ∙ sym (ap (λ y. sent y n) (Shapes.shape-acknowledged x.world r (max x.world.taken r.cumulative)));
-      befores = l.befores;
+      indexes = (subst (λ y. Indexed y (index_kept x.progress)) (sym (Shapes.shape-acknowledged x.world r (max x.world.taken r.cumulative))) (indexed-of sum x l)).is;
+      low = l.low;
       open_streams = λ j d lt. let here : j < length x.open_streams = omega (arith, lt, length-mapped (as_left x.world r) x.open_streams) in
           subst (IsOpenStream (sack_taken x.world (Some (Sack r)))) (sym (map-at (as_left x.world r) j x.open_streams d here)) (stream-left x.world r (slice_index_or x.open_streams j d) f.sane.sender (l.open_streams j d here));
       indexed = indexed;

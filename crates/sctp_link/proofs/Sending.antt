@@ -1,5 +1,5 @@
 -- A fragment leaves.
-use Rattle.std.proofs.Common.{◌≡◌, ℕ, ◌+◌, ◌-◌, ◌<◌, ◌≤◌, ◌%◌, ◌^◌, true, false, List, [], ◌∷◌, ◌++◌, length, get_or, Option, Some, None, refl, ap, sym, ◌∙◌, arith, length-append}
+use Rattle.std.proofs.Common.{◌≡◌, ℕ, Bool, ◌+◌, ◌-◌, ◌<◌, ◌≤◌, ◌%◌, ◌^◌, true, false, List, [], ◌∷◌, ◌++◌, length, get_or, Option, Some, None, refl, ap, sym, ◌∙◌, arith, length-append}
 use Rattle.std.specs.Prelude.{◌==◌, ◌&&◌, not, if◌then◌else◌, slice_get, slice_index_or}
 use Rattle.std.proofs.Math.Path.{subst}
 use Rattle.sctp_lists.specs.Kept.{numbers_from}
@@ -14,7 +14,7 @@ use Rattle.sctp_queues.specs.Pending.{peeked}
 use Rattle.sctp_queues.specs.Window.{SpansOneWindow, is_held}
 use Rattle.sctp_queues.specs.Outbound.{Outbound, all_started, sent_of, sent_peeked, sent_next, following_tsn}
 use Rattle.sctp_model.specs.declared.event.Event.TheVariants as E
-use Rattle.sctp_model.specs.World.{World, Slot, Message}
+use Rattle.sctp_model.specs.World.{World, StreamRecord, Slot, Message}
 use Rattle.sctp_model.specs.World as W
 use Rattle.sctp_model.specs.Messages as M
 use Rattle.sctp_model.specs.Messages.{message_at, slot_at, message_of, no_slot, tsn_of, front, fragment_count, ordered_before, ssn_of}
@@ -24,23 +24,29 @@ use Rattle.sctp_model.specs.Amounts.{in_all, written_bytes}
 use Rattle.sctp_model.specs.Reply as R
 use Rattle.sctp_model.specs.Changes.{started, start_at, sent, sent_from, with_data, with_slot, with_datagram, fragment_sent, fragment_of_sent, filled, plus, next_length}
 use Rattle.sctp_model.specs.Steps.{IsRight, StandsFor, reply_to, sent_reply, fragments_accepted}
-use Rattle.sctp_model.proofs.Shape.{Shape, shape, parts, index, front_of, sent as sent_by}
+use Rattle.sctp_model.proofs.Shape.{Shape, shape, slotted, parts, index, front_of, sent as sent_by}
 use Rattle.sctp_model.proofs.Shapes
 use Rattle.sctp_model.proofs.Sender.{sent-slotted}
+use Rattle.sctp_model.proofs.SenderSteps.{Takes}
 use Rattle.sctp_model.proofs.Fronts.{front-takes}
 use Rattle.sctp_model.proofs.Moves
 use Rattle.sctp_model.proofs.Moves.{Quiet}
 use Rattle.sctp_ties.specs.Tied.{waiting_at, TiedOutbound}
 use Rattle.sctp_ties.proofs.Fragments.{shown, idle, all-begun, tied-fragment, going-started}
 use Rattle.sctp_ties.proofs.InFlight.{next-fresh, next-window}
-use Rattle.sctp_ties.proofs.InLine.{before-started, counted-started}
+use Rattle.sctp_ties.specs.Indexes.{begun_on}
+use Rattle.sctp_ties.proofs.Begun
+use Rattle.sctp_ties.proofs.Begun.{Indexed, indexed-taken}
+use Rattle.sctp_ties.proofs.InLine.{before-started}
 use Rattle.sctp_ties.proofs.LifetimesStart.{tied-started}
 use Rattle.sctp_ties.proofs.QuietSender.{outbound-same, same-self}
 use Rattle.sctp_link.specs.Texts.{IsDatagram}
-use Rattle.sctp_link.specs.Linked.{State, IsLinked}
+use Rattle.sctp_link.specs.declared.open_stream.OpenStream.{OpenStream}
+use Rattle.sctp_link.specs.Places.{IsIndexed}
+use Rattle.sctp_link.specs.Linked.{State, IsLinked, IsOpenStream}
 use Rattle.sctp_link.proofs.Facts.{facts, stands-then}
-use Rattle.sctp_link.proofs.Frames.{SameStream, stream-same, stream-quiet, filter-kept, texts-more, fragments-same, written-kept}
-use Rattle.sctp_link.proofs.Starting.{counts-before}
+use Rattle.sctp_link.proofs.Frames.{SameStream, stream-with, stream-quiet, filter-kept, texts-more, fragments-same, written-kept}
+use Rattle.sctp_link.proofs.Beginning.{index_kept, indexed-of, begun_with, numbers-begun, length-begun, begun-at}
 use Rattle.sctp_link.proofs.Outgoing.{fragment-short}
 
 -- ## What is sent next
@@ -124,6 +130,10 @@ next-started : (q : Outbound) (tsn now : ℕ) (o : Option ChunkPayloadData) → 
 next-started q tsn now None = refl
 next-started q tsn now (Some c) = refl
 
+-- a message with one fragment more sent, which takes this index where it is begun
+abbrev pub took : Bool → ℕ → ℕ × ℕ → ℕ × ℕ
+took go i p = (p.0 + 1, if go then i else p.1)
+
 -- ## The event
 
 module _ (sum : List ℕ → ℕ) (x : State) (l : IsLinked sum x) (now n : ℕ) (fr : front x.world ≡ Some n) (made : n < length x.world.messages) where
@@ -194,31 +204,65 @@ module _ (sum : List ℕ → ℕ) (x : State) (l : IsLinked sum x) (now n : ℕ)
   sent-more : (k : ℕ) → M.sent_of v k ≡ M.sent_of w k + (if (n == k) && true then 1 else 0)
   sent-more k = ap (λ y. sent_by y k) (Shapes.shape-slot u n false) ∙ sent-slotted (shape u) n k false
 
-  sents-more : length x.sents ≡ length w.messages → (k : ℕ) → k < length w.messages → slice_index_or (changed (λ c. c + 1) n x.sents) k 0 ≡ M.sent_of v k
-  sents-more count k lt =
-      by_same {P = slice_index_or (changed (λ c. c + 1) n x.sents) k 0 ≡ M.sent_of v k} n k
-      (λ e. ap (λ j. slice_index_or (changed (λ c. c + 1) n x.sents) j 0) (sym e) ∙ changed-same (λ c. c + 1) n x.sents 0 (omega (arith, made, count)) ∙ ap (λ c. c + 1) (l.sents n made)
+  sents-more : (go : Bool) (i : ℕ) → length x.progress ≡ length w.messages → (k : ℕ) → k < length w.messages → (slice_index_or (changed (took go i) n x.progress) k (0, 0)).0 ≡ M.sent_of v k
+  sents-more go i count k lt =
+      by_same {P = (slice_index_or (changed (took go i) n x.progress) k (0, 0)).0 ≡ M.sent_of v k} n k
+      (λ e. ap (λ j. (slice_index_or (changed (took go i) n x.progress) j (0, 0)).0) (sym e) ∙ ap (λ p. p.0) (changed-same (took go i) n x.progress (0, 0) (omega (arith, made, count))) ∙ ap (λ c. c + 1) (l.sents n made)
       ∙ sym (ap (M.sent_of v) (sym e) ∙ sent-more n ∙ ap (λ b. M.sent_of w n + (if b && true then 1 else 0)) (same-yes n)))
-      (λ ne no'. changed-other (λ c. c + 1) n k x.sents 0 (λ z. ne (sym z)) ∙ l.sents k lt ∙ plus-none (M.sent_of w k) ∙ sym (sent-more k ∙ ap (λ b. M.sent_of w k + (if b && true then 1 else 0)) no'))
+      (λ ne no'. ap (λ p. p.0) (changed-other (took go i) n k x.progress (0, 0) (λ z. ne (sym z))) ∙ l.sents k lt ∙ plus-none (M.sent_of w k) ∙ sym (sent-more k ∙ ap (λ b. M.sent_of w k + (if b && true then 1 else 0)) no'))
     where
       plus-none : (a : ℕ) → a ≡ a + 0
       plus-none a = omega arith
 
+  -- ## Its index
+
+  shape-sent : shape v ≡ slotted (shape w) n false
+  shape-sent = Shapes.shape-slot u n false ∙ ap (λ y. slotted y n false) (Shapes.shape-started w now)
+
+  takes : Takes (shape w) n
+  takes = front-takes (shape w) n (facts sum x l).sane.sender fr
+
+  module _ (go : Bool) (i t : ℕ) (go_is : go ≡ ((message_at x.world n).ordered && (M.sent_of x.world n == 0))) (t_is : t ≡ (message_at x.world n).stream) (i_is : i ≡ begun_on x.world t) (count : length x.progress ≡ length x.world.messages) where
+    indexed-sent : Indexed (shape v) (index_kept (changed (took go i) n x.progress))
+    indexed-sent = subst (λ y. Indexed y (index_kept (changed (took go i) n x.progress))) (sym shape-sent)
+        (indexed-taken (shape w) n (index_kept x.progress) (index_kept (changed (took go i) n x.progress)) (facts sum x l).sane.sender takes
+        (λ k ne. ap (λ p. p.1) (changed-other (took go i) n k x.progress (0, 0) ne))
+        (ap (λ p. p.1) (changed-same (took go i) n x.progress (0, 0) (omega (arith, made, count)))
+        ∙ ap (λ b. if b then i else index_kept x.progress n) go_is
+        ∙ ap (λ j. if (message_at w n).ordered && (M.sent_of w n == 0) then j else index_kept x.progress n) (i_is ∙ ap (begun_on w) t_is))
+        (indexed-of sum x l))
+
+    begun-sent : (s' : ℕ) → begun_on v s' ≡ begun_on w s' + (if (t == s') && go then 1 else 0)
+    begun-sent s' =
+        ap (λ y. Begun.begun y s') shape-sent ∙ Begun.begun-taken (shape w) n s' takes.made
+        ∙ ap (λ b. begun_on w s' + (if ((message_at w n).stream == s') && b then 1 else 0)) (sym go_is)
+        ∙ ap (λ j. begun_on w s' + (if (j == s') && go then 1 else 0)) (sym t_is)
+
+    stream-sent : (k : ℕ) (d : OpenStream) → k < length (begun_with go t x.open_streams) → IsOpenStream v (slice_index_or (begun_with go t x.open_streams) k d)
+    stream-sent k d lt =
+        let inside : k < length x.open_streams = omega (arith, lt, length-begun go t x.open_streams) in
+        let y = slice_index_or x.open_streams k d in
+        let i = l.open_streams k d inside in
+        subst (IsOpenStream v) (sym (begun-at go t x.open_streams k d inside))
+        (stream-with w v y (y.begun + (if (t == y.state.stream_identifier) && go then 1 else 0)) (stream-kept y.state.stream_identifier)
+        (ap (λ b. b + (if (t == y.state.stream_identifier) && go then 1 else 0)) i.begun ∙ sym (begun-sent y.state.stream_identifier)) i)
+
   -- the record that the link then has
-  pub world-is : (ms : List Message) (ss : List Slot) (ns : List W.Datagram) → ms ≡ u.messages → ss ≡ w.slots ++ new ∷ [] → ns ≡ w.network ++ W.Data (here ∷ []) ∷ [] → record w { messages = ms; slots = ss; network = ns } ≡ v
-  world-is ms ss ns a b c =
-      ap (λ m. record w { messages = m; slots = ss; network = ns }) a
+  pub world-is : (rs : List StreamRecord) (ms : List Message) (ss : List Slot) (ns : List W.Datagram) → rs ≡ w.streams → ms ≡ u.messages → ss ≡ w.slots ++ new ∷ [] → ns ≡ w.network ++ W.Data (here ∷ []) ∷ [] → record w { streams = rs; messages = ms; slots = ss; network = ns } ≡ v
+  world-is rs ms ss ns r a b c =
+      ap (λ t. record w { streams = t; messages = ms; slots = ss; network = ns }) r
+      ∙ ap (λ m. record w { messages = m; slots = ss; network = ns }) a
       ∙ ap (λ m. record u { slots = m; network = ns }) b
       ∙ ap (λ m. record s { network = m }) c
 
-  module _ (bytes : List ℕ) (text : IsDatagram sum (contents_of v (W.Data (here ∷ []))) bytes) (q : Outbound) (tied : TiedOutbound w q) (count : length x.datagrams ≡ length w.network) (each : length x.sents ≡ length w.messages) where
+  module _ (bytes : List ℕ) (text : IsDatagram sum (contents_of v (W.Data (here ∷ []))) bytes) (q : Outbound) (tied : TiedOutbound w q) (count : length x.datagrams ≡ length w.network) (each : length x.progress ≡ length w.messages) where
     texts-sent : (k : ℕ) (d : List ℕ) (g : W.Datagram) → slice_get v.network k ≡ Some g → IsDatagram sum (contents_of v g) (slice_index_or (x.datagrams ++ bytes ∷ []) k d)
     texts-sent =
         subst (λ z. (k : ℕ) (d : List ℕ) (g : W.Datagram) → slice_get z.network k ≡ Some g → IsDatagram sum (contents_of z g) (slice_index_or (x.datagrams ++ bytes ∷ []) k d)) sent-moves
         (texts-more sum x l (E.Send now) refl (W.Data (here ∷ [])) bytes (ap (λ z. z.network) sent-moves) count (subst (λ z. IsDatagram sum (contents_of z (W.Data (here ∷ []))) bytes) (sym sent-moves) text))
 
-    pub linked-send : IsLinked sum (record x { world = v; sents = changed (λ c. c + 1) n x.sents; unstarted = length w.messages; datagrams = x.datagrams ++ bytes ∷ []; outbound = sent_next q x.next_tsn now; next_tsn = following_tsn x.next_tsn })
-    linked-send = record {
+    pub linked-send : (go : Bool) (i t : ℕ) → go ≡ ((message_at x.world n).ordered && (M.sent_of x.world n == 0)) → t ≡ (message_at x.world n).stream → i ≡ begun_on x.world t → IsLinked sum (record x { world = v; open_streams = begun_with go t x.open_streams; progress = changed (took go i) n x.progress; unstarted = length w.messages; datagrams = x.datagrams ++ bytes ∷ []; outbound = sent_next q x.next_tsn now; next_tsn = following_tsn x.next_tsn })
+    linked-send go i t go_is t_is i_is = record {
       setup = l.setup;
       one_each = l.one_each;
       history = (E.Send now, reply_to w (E.Send now)) ∷ l.history;
@@ -229,9 +273,10 @@ module _ (sum : List ℕ → ℕ) (x : State) (l : IsLinked sum x) (now n : ℕ)
       next = ap following_tsn l.next ∙ omega (arith, length-append w.slots (new ∷ []));
       fragments = l.fragments ∙ sym (ap fragments_accepted (sym sent-moves) ∙ fragments-same sum x l (E.Send now) refl refl);
       written = l.written ∙ sym (ap (λ z. in_all z (written_bytes z)) (sym sent-moves) ∙ written-kept sum x l (E.Send now) refl refl);
-      sents = λ k lt. sents-more each k (omega (arith, lt, length-mapped (start_at now) w.messages));
-      befores = (counted-started w now (counts-before sum x l now)).before;
-      open_streams = λ k d lt. stream-same w v (slice_index_or x.open_streams k d) (stream-kept (slice_index_or x.open_streams k d).state.stream_identifier) (l.open_streams k d lt);
-      indexed = l.indexed;
+      sents = λ k lt. sents-more go i each k (omega (arith, lt, length-mapped (start_at now) w.messages));
+      indexes = (indexed-sent go i t go_is t_is i_is each).is;
+      low = (indexed-sent go i t go_is t_is i_is each).low;
+      open_streams = stream-sent go i t go_is t_is i_is each;
+      indexed = subst (IsIndexed x.places) (sym (numbers-begun go t x.open_streams)) l.indexed;
       texts = texts-sent;
     }

@@ -12,13 +12,13 @@ use Rattle.sctp_model.specs.Steps.{reply_to}
 use Rattle.sctp_model.proofs.Moves
 use Rattle.sctp_ties.proofs.LifetimesStart.{tied-started}
 use Rattle.sctp_ties.proofs.Fragments.{all-begun}
-use Rattle.sctp_ties.proofs.InLine.{before-started, counted-started, CountsBefore}
+use Rattle.sctp_ties.proofs.InLine.{before-started}
 use Rattle.sctp_link.specs.declared.record.Message.{Message}
-use Rattle.sctp_link.specs.Records.{message_record}
+use Rattle.sctp_link.specs.Records.{message_record, progress_of}
 use Rattle.sctp_link.specs.OpenStreams.{with_start, start_from}
 use Rattle.sctp_link.specs.Linked.{State, IsLinked}
 use Rattle.sctp_link.proofs.Facts.{stands-then}
-use Rattle.sctp_link.proofs.Frames.{stream-same, stream-quiet, texts-same, fragments-same, written-kept}
+use Rattle.sctp_link.proofs.Frames.{stream-same, stream-quiet, begun-kept, indexed-kept, texts-same, fragments-same, written-kept}
 
 -- ## The messages
 
@@ -44,15 +44,15 @@ start-records now (suc first) (m ∷ ms) old new =
     stays None e h = cc
     stays (Some t) e h = rw e refl
 
--- how much of each was sent stays
-pub start-sents : (now first : ℕ) (ms : List Message) → map (λ m. m.sent) (start_from first now ms) ≡ map (λ m. m.sent) ms
-start-sents now zero ms = each ms
+-- how far each was sent stays
+pub start-progress : (now first : ℕ) (ms : List Message) → map progress_of (start_from first now ms) ≡ map progress_of ms
+start-progress now zero ms = each ms
   where
-    each : (ms : List Message) → map (λ m. m.sent) (map (with_start now) ms) ≡ map (λ m. m.sent) ms
+    each : (ms : List Message) → map progress_of (map (with_start now) ms) ≡ map progress_of ms
     each [] = refl
-    each (m ∷ ms) = ap (λ l. m.sent ∷ l) (each ms)
-start-sents now (suc first) [] = refl
-start-sents now (suc first) (m ∷ ms) = ap (λ l. m.sent ∷ l) (start-sents now first ms)
+    each (m ∷ ms) = ap (λ l. progress_of m ∷ l) (each ms)
+start-progress now (suc first) [] = refl
+start-progress now (suc first) (m ∷ ms) = ap (λ l. progress_of m ∷ l) (start-progress now first ms)
 
 -- ## The event
 
@@ -73,9 +73,6 @@ module _ (sum : List ℕ → ℕ) (x : State) (l : IsLinked sum x) (now : ℕ) w
       reached : (n : ℕ) → x.unstarted ≤ n → nat_le x.outbound.next_unstarted n ≡ true
       reached n le = let s = l.unstarted in grind (arith, nat_tests)
 
-  pub counts-before : CountsBefore x.world
-  counts-before = record { before = l.befores }
-
   pub linked-start : IsLinked sum (record x { world = started x.world now; unstarted = length x.world.messages; outbound = all_started now x.outbound })
   linked-start = record {
     setup = l.setup;
@@ -89,23 +86,24 @@ module _ (sum : List ℕ → ℕ) (x : State) (l : IsLinked sum x) (now : ℕ) w
     fragments = l.fragments ∙ sym (fragments-same sum x l (E.Start now) refl refl);
     written = l.written ∙ sym (written-kept sum x l (E.Start now) refl refl);
     sents = λ n lt. l.sents n (omega (arith, lt, length-mapped (start_at now) x.world.messages));
-    befores = (counted-started x.world now counts-before).before;
+    indexes = (indexed-kept sum x l (E.Start now) refl tt).is;
+    low = l.low;
     open_streams = λ k d lt. stream-same x.world (started x.world now) (slice_index_or x.open_streams k d)
         (stream-quiet sum x l (E.Start now) refl (Moves.quiet-started x.world now) tt refl refl refl
         (λ s. ap (ordered_before (started x.world now) s) (length-mapped (start_at now) x.world.messages) ∙ before-started x.world now s (length x.world.messages)) (slice_index_or x.open_streams k d).state.stream_identifier)
-        (l.open_streams k d lt);
+        (begun-kept sum x l (E.Start now) refl tt (slice_index_or x.open_streams k d).state.stream_identifier) (l.open_streams k d lt);
     indexed = l.indexed;
     texts = texts-same sum x l (E.Start now) refl refl;
   }
 
 -- the record and what stands beside it, where the messages are those that started
-pub linked-starts : (sum : List ℕ → ℕ) (x : State) (now : ℕ) (ms started' : List Message) (unstarted : ℕ) (q : Outbound) → IsLinked sum x → x.world.messages ≡ map message_record ms → x.sents ≡ map (λ m. m.sent) ms → started' ≡ start_from x.unstarted now ms → unstarted ≡ length ms → q ≡ all_started now x.outbound → IsLinked sum (record x { world = record x.world { messages = map message_record started' }; sents = map (λ m. m.sent) started'; unstarted = unstarted; outbound = q })
+pub linked-starts : (sum : List ℕ → ℕ) (x : State) (now : ℕ) (ms started' : List Message) (unstarted : ℕ) (q : Outbound) → IsLinked sum x → x.world.messages ≡ map message_record ms → x.progress ≡ map progress_of ms → started' ≡ start_from x.unstarted now ms → unstarted ≡ length ms → q ≡ all_started now x.outbound → IsLinked sum (record x { world = record x.world { messages = map message_record started' }; progress = map progress_of started'; unstarted = unstarted; outbound = q })
 linked-starts sum x now ms started' unstarted q l em es e eu eq =
     let is : map message_record started' ≡ (started x.world now).messages = ap (map message_record) e ∙ starts-records sum x l now ms em in
-    let same : map (λ m. m.sent) started' ≡ x.sents = ap (map (λ m. m.sent)) e ∙ start-sents now x.unstarted ms ∙ sym es in
+    let same : map progress_of started' ≡ x.progress = ap (map progress_of) e ∙ start-progress now x.unstarted ms ∙ sym es in
     let count : unstarted ≡ length x.world.messages = eu ∙ sym (length-mapped message_record ms) ∙ ap length (sym em) in
-    subst (λ a. IsLinked sum (record x { world = record x.world { messages = a }; sents = map (λ m. m.sent) started'; unstarted = unstarted; outbound = q })) (sym is)
-    (subst (λ a. IsLinked sum (record x { world = started x.world now; sents = a; unstarted = unstarted; outbound = q })) (sym same)
+    subst (λ a. IsLinked sum (record x { world = record x.world { messages = a }; progress = map progress_of started'; unstarted = unstarted; outbound = q })) (sym is)
+    (subst (λ a. IsLinked sum (record x { world = started x.world now; progress = a; unstarted = unstarted; outbound = q })) (sym same)
     (subst (λ a. IsLinked sum (record x { world = started x.world now; unstarted = a; outbound = q })) (sym count)
     (subst (λ a. IsLinked sum (record x { world = started x.world now; unstarted = length x.world.messages; outbound = a })) (sym eq) (linked-start sum x l now))))
 

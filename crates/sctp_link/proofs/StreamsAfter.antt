@@ -19,6 +19,9 @@ use Rattle.sctp_ties.specs.Holds.{reassembly_of}
 use Rattle.sctp_ties.specs.Tied.{filter_held}
 use Rattle.sctp_ties.specs.Amount.{amount, keeps_amounts}
 use Rattle.sctp_ties.specs.Counts.{counters_on}
+use Rattle.sctp_ties.specs.Indexes.{begun_on}
+use Rattle.sctp_ties.proofs.Begun
+use Rattle.sctp_ties.proofs.Begun.{Indexed}
 use Rattle.sctp_ties.proofs.QuietSender.{SameToSender, outbound-same}
 use Rattle.sctp_ties.proofs.StreamAmounts.{amount-same}
 use Rattle.sctp_link.specs.declared.open_stream.OpenStream.{OpenStream}
@@ -26,6 +29,7 @@ use Rattle.sctp_link.specs.Linked.{State, IsLinked, IsOpenStream, stats_of}
 use Rattle.sctp_link.specs.Places.{IsIndexed, stream_numbers}
 use Rattle.sctp_link.specs.Texts.{IsDatagram}
 use Rattle.sctp_link.proofs.Facts.{facts, stands-then, says-still}
+use Rattle.sctp_link.proofs.Beginning.{index_kept, indexed-of}
 
 module _ (sum : List ℕ → ℕ) (x : State) (l : IsLinked sum x) (e : Event) (none : refusal_of x.world e ≡ None) (s : Same x.world (after x.world e)) where
   abbrev w : World
@@ -50,8 +54,8 @@ module _ (sum : List ℕ → ℕ) (x : State) (l : IsLinked sum x) (e : Event) (
       subst (λ c. IsDatagram sum c (slice_index_or x.datagrams k d)) (sym says) (l.texts k d g old)
 
   -- what such an event leaves of an open stream
-  pub stream-then : keeps_amounts e ≡ true → (y z : OpenStream) → IsOpenStream w y → z.state.stream_identifier ≡ y.state.stream_identifier → z.state.reassembly_queue.held ≡ reassembly_of v y.state.stream_identifier → z.state.reassembly_queue.si ≡ y.state.reassembly_queue.si → z.state.reassembly_queue.max_message_size ≡ y.state.reassembly_queue.max_message_size → z.state.max_payload_size ≡ y.state.max_payload_size → z.ordered ≡ y.ordered → z.state.sequence_number ≡ y.state.sequence_number → z.next ≡ next_of v y.state.stream_identifier → z.state.buffered_amount ≡ y.state.buffered_amount → z.state.stats ≡ stats_of (counters_on v y.state.stream_identifier) → IsOpenStream v z
-  stream-then keeps y z i id held si largest size ordered number next bytes stats =
+  pub stream-then : keeps_amounts e ≡ true → (y z : OpenStream) → IsOpenStream w y → z.state.stream_identifier ≡ y.state.stream_identifier → z.state.reassembly_queue.held ≡ reassembly_of v y.state.stream_identifier → z.state.reassembly_queue.si ≡ y.state.reassembly_queue.si → z.state.reassembly_queue.max_message_size ≡ y.state.reassembly_queue.max_message_size → z.state.max_payload_size ≡ y.state.max_payload_size → z.ordered ≡ y.ordered → z.state.sequence_number ≡ y.state.sequence_number → z.begun ≡ y.begun → z.next ≡ next_of v y.state.stream_identifier → z.state.buffered_amount ≡ y.state.buffered_amount → z.state.stats ≡ stats_of (counters_on v y.state.stream_identifier) → IsOpenStream v z
+  stream-then keeps y z i id held si largest size ordered number begun next bytes stats =
       let t = y.state.stream_identifier in
       let f = facts sum x l in
       let before : ordered_before v t (length v.messages) ≡ ordered_before w t (length w.messages) = ap (λ (b : Shape). length (kept (on b t) 0 b.count)) s.shape_is in
@@ -63,13 +67,17 @@ module _ (sum : List ℕ → ℕ) (x : State) (l : IsLinked sum x) (e : Event) (
         size = size ∙ i.size ∙ sym (ap (λ t. t.size) s.setup);
         ordered = ordered ∙ i.ordered ∙ sym before ∙ ap (λ a. ordered_before v a (length v.messages)) (sym id);
         number = number ∙ i.number ∙ ap (λ n. n % 2 ^ 16) (sym ordered);
+        begun = begun ∙ i.begun ∙ sym (ap (λ (b : Shape). Begun.begun b t) s.shape_is) ∙ ap (begun_on v) (sym id);
         next = next ∙ ap (next_of v) (sym id);
         amount = bytes ∙ i.amount ∙ sym same ∙ ap (amount v) (sym id);
         stats = stats ∙ ap (λ a. stats_of (counters_on v a)) (sym id);
       }
 
-  module _ (sents : List ℕ) (open_streams : List OpenStream) (cumulative : ℕ) (filter : Payload) (u : World) (sents_same : sents ≡ x.sents) (filter_is : filter_held cumulative filter ≡ filter_of v) (each : (k : ℕ) (d : OpenStream) → k < length open_streams → IsOpenStream v (slice_index_or open_streams k d)) (found : IsIndexed x.places (stream_numbers open_streams)) (q : SameToSender w v) (is : u ≡ v) where
-    at-after : IsLinked sum (record x { world = v; sents = sents; open_streams = open_streams; cumulative_tsn = cumulative; filter = filter })
+  module _ (progress : List (ℕ × ℕ)) (open_streams : List OpenStream) (cumulative : ℕ) (filter : Payload) (u : World) (progress_same : progress ≡ x.progress) (filter_is : filter_held cumulative filter ≡ filter_of v) (each : (k : ℕ) (d : OpenStream) → k < length open_streams → IsOpenStream v (slice_index_or open_streams k d)) (found : IsIndexed x.places (stream_numbers open_streams)) (q : SameToSender w v) (is : u ≡ v) where
+    indexed-then : Indexed (shape v) (index_kept progress)
+    indexed-then = subst (λ ps. Indexed (shape v) (index_kept ps)) (sym progress_same) (on-shape (λ b. Indexed b (index_kept x.progress)) (indexed-of sum x l))
+
+    at-after : IsLinked sum (record x { world = v; progress = progress; open_streams = open_streams; cumulative_tsn = cumulative; filter = filter })
     at-after = record {
       setup = subst IsSetup (sym s.setup) l.setup;
       one_each = ap (λ t. t.limit) s.setup ∙ l.one_each;
@@ -81,13 +89,14 @@ module _ (sum : List ℕ → ℕ) (x : State) (l : IsLinked sum x) (e : Event) (
       next = l.next ∙ ap (tsn_of w) (sym (ap (λ b. b.slots) s.shape_is)) ∙ ap (λ a. (a + length v.slots) % 2 ^ 32) (sym first-same);
       fragments = l.fragments ∙ sym (ap (λ b. total_over (parts b) (numbers_from 0 b.count)) s.shape_is);
       written = l.written ∙ sym (ap (λ b. total_over (λ n. length (b.message n).bytes) (numbers_from 0 b.count)) s.shape_is);
-      sents = λ n lt. ap (λ c. slice_index_or c n 0) sents_same ∙ on-shape (λ b. (n : ℕ) → n < b.count → slice_index_or x.sents n 0 ≡ sent b n) l.sents n lt;
-      befores = on-shape (λ b. (n : ℕ) → n < b.count → (b.message n).before ≡ length (kept (on b (b.message n).stream) 0 n)) l.befores;
+      sents = λ n lt. ap (λ (c : List (ℕ × ℕ)). (slice_index_or c n (0, 0)).0) progress_same ∙ on-shape (λ b. (n : ℕ) → n < b.count → (slice_index_or x.progress n (0, 0)).0 ≡ sent b n) l.sents n lt;
+      indexes = indexed-then.is;
+      low = indexed-then.low;
       open_streams = each;
       indexed = found;
       texts = texts-same;
     }
 
     -- the link after it
-    pub linked-then : IsLinked sum (record x { world = u; sents = sents; open_streams = open_streams; cumulative_tsn = cumulative; filter = filter })
-    linked-then = subst (λ (t : World). IsLinked sum (record x { world = t; sents = sents; open_streams = open_streams; cumulative_tsn = cumulative; filter = filter })) (sym is) at-after
+    pub linked-then : IsLinked sum (record x { world = u; progress = progress; open_streams = open_streams; cumulative_tsn = cumulative; filter = filter })
+    linked-then = subst (λ (t : World). IsLinked sum (record x { world = t; progress = progress; open_streams = open_streams; cumulative_tsn = cumulative; filter = filter })) (sym is) at-after

@@ -7,7 +7,6 @@ use Rattle.std.proofs.lemmas.List.{map-append, length-set}
 use Rattle.std.proofs.lemmas.Bool.Decides.{nat_tests}
 use Rattle.sctp_lists.specs.Kept.{numbers_from}
 use Rattle.sctp_lists.specs.Lists.{pieces}
-use Rattle.sctp_lists.proofs.Getting.{get-snoc_old, get-snoc_new}
 use Rattle.sctp_lists.proofs.Cases.{by_last, same-yes, same-is}
 use Rattle.sctp_lists.proofs.More.{fails}
 use Rattle.sctp_chunks.specs.declared.chunk.chunk_payload_data.ChunkPayloadData.{ChunkPayloadData}
@@ -22,7 +21,9 @@ use Rattle.sctp_model.specs.Receiver.{next_of}
 use Rattle.sctp_model.specs.Amounts.{in_all, written_bytes}
 use Rattle.sctp_model.specs.Changes.{wrote, message_on}
 use Rattle.sctp_model.specs.Steps.{refusal_of, reply_to, fragments_accepted, fragments_in}
+use Rattle.sctp_model.proofs.Shape.{shape}
 use Rattle.sctp_model.proofs.SenderRun.{Sane, sane-after}
+use Rattle.sctp_ties.proofs.Begun.{Indexed}
 use Rattle.sctp_model.proofs.Moves
 use Rattle.sctp_ties.specs.Tied.{TiedOutbound}
 use Rattle.sctp_ties.specs.Amount.{amount}
@@ -41,8 +42,8 @@ use Rattle.sctp_link.specs.Stream as stream
 use Rattle.sctp_link.specs.OpenStreams.{is_ordered, message_with, with_mode, fragments_with_mode, after_write_on}
 use Rattle.sctp_link.specs.Linked.{State, IsOpenStream, IsLinked, has_number, stats_of}
 use Rattle.sctp_link.proofs.Facts.{Facts, facts, stands-then}
-use Rattle.sctp_link.proofs.Frames.{stream-same, held-quiet, next-kept, texts-same}
-use Rattle.sctp_link.proofs.Starting.{counts-before}
+use Rattle.sctp_link.proofs.Frames.{stream-same, begun-kept, indexed-kept, held-quiet, next-kept, texts-same}
+use Rattle.sctp_link.proofs.Beginning.{index_kept, progress-more}
 use Rattle.sctp_link.proofs.Bounds.{written-few, amount-few}
 use Rattle.sctp_link.proofs.Fragmented.{ordered-same, all-wait}
 use Rattle.sctp_link.proofs.Places.{indexed-set}
@@ -145,7 +146,7 @@ module _ (sum : List ℕ → ℕ) (x : State) (l : IsLinked sum x) (s : ℕ) (pp
           next = next-same n;
           amount = amount-wrote w.setup w s n ppi bytes l.setup f.sane ok ∙ ap (λ c. amount w n + (if c then length bytes else 0)) off ∙ plus-none (amount w n);
           counters = counters-wrote w s n ppi bytes ok ∙ ap (λ c. if c && not (length bytes == 0) then sent_more (counted_as ppi (length bytes)) (counters_on w n) else counters_on w n) off;
-        }) j
+        }) (begun-kept sum x l (E.Write s ppi bytes) ok tt n) j
       where
         plus-none : (a : ℕ) → a + 0 ≡ a
         plus-none a = omega arith
@@ -167,6 +168,7 @@ module _ (sum : List ℕ → ℕ) (x : State) (l : IsLinked sum x) (s : ℕ) (pp
           size = i.size;
           ordered = adds (is_ordered m ppi) m.ordered (ordered_before w n (length w.messages)) i.ordered ∙ sym (before-wrote n ∙ ap (λ c. ordered_before w n (length w.messages) + (if c && is_ordered m ppi then 1 else 0)) on);
           number = ap (λ c. if c && nat_lt 0 (length bytes) then (m.state.sequence_number + 1) % 2 ^ 16 else m.state.sequence_number) (ordered-same m.state.unordered ppi) ∙ number-next (is_ordered m ppi) b bs m.state.sequence_number m.ordered i.number;
+          begun = i.begun ∙ sym (begun-kept sum x l (E.Write s ppi bytes) ok tt n);
           next = i.next ∙ sym (next-same n);
           amount = omega (arith, i.amount, grown, short, few);
           stats = ap (with_sent (counted_bytes ppi (length bytes))) i.stats ∙ stats-next ppi (length bytes) w n
@@ -196,19 +198,32 @@ module _ (sum : List ℕ → ℕ) (x : State) (l : IsLinked sum x) (s : ℕ) (pp
 
     -- ## The counts
 
-    sents-wrote : (sents : List ℕ) → length x.sents ≡ length w.messages → sents ≡ x.sents ++ 0 ∷ [] → (k : ℕ) → k < length v.messages → slice_index_or sents k 0 ≡ sent_of v k
-    sents-wrote sents count e k less =
-        ap (λ a. slice_index_or a k 0) e
-        ∙ by_last {P = slice_index_or (x.sents ++ 0 ∷ []) k 0 ≡ sent_of v k} k (length w.messages) (omega (arith, less, length-append w.messages (msg ∷ [])))
-        (λ old. get-snoc_old x.sents 0 k 0 (λ z. absurd (omega (arith, old, z, count))) ∙ l.sents k old)
-        (λ z. ap (λ j. slice_index_or (x.sents ++ 0 ∷ []) j 0) (z ∙ sym count) ∙ get-snoc_new x.sents 0 0 ∙ sym (ap (sent_of v) z ∙ Written.unsent w msg f.sane.sender.made))
+    sents-wrote : (progress : List (ℕ × ℕ)) → length x.progress ≡ length w.messages → progress ≡ x.progress ++ (0, 0) ∷ [] → (k : ℕ) → k < length v.messages → (slice_index_or progress k (0, 0)).0 ≡ sent_of v k
+    sents-wrote progress count e k less =
+        ap (λ (a : List (ℕ × ℕ)). (slice_index_or a k (0, 0)).0) e ∙ ap (λ (p : ℕ × ℕ). p.0) (progress-more x.progress k)
+        ∙ by_last {P = (slice_index_or x.progress k (0, 0)).0 ≡ sent_of v k} k (length w.messages) (omega (arith, less, length-append w.messages (msg ∷ [])))
+        (λ old. l.sents k old ∙ sym (sent-kept k))
+        (λ z. ap (λ j. (slice_index_or x.progress j (0, 0)).0) (z ∙ sym count) ∙ ap (λ (p : ℕ × ℕ). p.0) (past-last x.progress) ∙ sym (ap (sent_of v) z ∙ Written.unsent w msg f.sane.sender.made))
+      where
+        sent-kept : (k : ℕ) → sent_of v k ≡ sent_of w k
+        sent-kept k = refl
+
+        past-last : (ps : List (ℕ × ℕ)) → slice_index_or ps (length ps) (0, 0) ≡ (0, 0)
+        past-last [] = refl
+        past-last (p ∷ ps) = past-last ps
 
     fragments-wrote : fragments_accepted v ≡ fragments_accepted w + fragments_in w bytes
     fragments-wrote = sum-written w msg (λ m. true) (λ m. length (pieces (length m.bytes) w.setup.size m.bytes))
 
-    pub linked-write : (y : OpenStream) (sents : List ℕ) (q r : Outbound) (fragments written count : ℕ) → y ≡ after_write_on m ppi bytes → length x.sents ≡ length w.messages → sents ≡ x.sents ++ 0 ∷ [] → TiedOutbound w q → q.next_unstarted ≡ x.outbound.next_unstarted → r ≡ with_message frags q → fragments ≡ x.fragments + count → count ≡ fragments_in w bytes → written ≡ x.written + length bytes
-        → IsLinked sum (record x { world = v; open_streams = slice_set x.open_streams at y; sents = sents; outbound = r; fragments = fragments; written = written })
-    linked-write y sents q r fragments written count ey each es tied same er ef ec ew = record {
+    indexes-wrote : (progress : List (ℕ × ℕ)) → progress ≡ x.progress ++ (0, 0) ∷ [] → Indexed (shape v) (index_kept progress)
+    indexes-wrote progress e =
+        let i = indexed-kept sum x l (E.Write s ppi bytes) ok tt in
+        let same : (k : ℕ) → index_kept progress k ≡ index_kept x.progress k = λ k. ap (λ a. index_kept a k) e ∙ ap (λ (p : ℕ × ℕ). p.1) (progress-more x.progress k) in
+        record { is = λ k pos o. same k ∙ i.is k pos o; low = λ k. omega (arith, same k, i.low k) }
+
+    pub linked-write : (y : OpenStream) (progress : List (ℕ × ℕ)) (q r : Outbound) (fragments written count : ℕ) → y ≡ after_write_on m ppi bytes → length x.progress ≡ length w.messages → progress ≡ x.progress ++ (0, 0) ∷ [] → TiedOutbound w q → q.next_unstarted ≡ x.outbound.next_unstarted → r ≡ with_message frags q → fragments ≡ x.fragments + count → count ≡ fragments_in w bytes → written ≡ x.written + length bytes
+        → IsLinked sum (record x { world = v; open_streams = slice_set x.open_streams at y; progress = progress; outbound = r; fragments = fragments; written = written })
+    linked-write y progress q r fragments written count ey each es tied same er ef ec ew = record {
       setup = l.setup;
       one_each = l.one_each;
       history = (E.Write s ppi bytes, reply_to w (E.Write s ppi bytes)) ∷ l.history;
@@ -219,8 +234,9 @@ module _ (sum : List ℕ → ℕ) (x : State) (l : IsLinked sum x) (s : ℕ) (pp
       next = l.next;
       fragments = omega (arith, ef, ec, l.fragments, fragments-wrote);
       written = omega (arith, ew, l.written, written-wrote w s ppi bytes);
-      sents = sents-wrote sents each es;
-      befores = (InLine.counted-wrote w s ppi bytes (counts-before sum x l 0)).before;
+      sents = sents-wrote progress each es;
+      indexes = (indexes-wrote progress es).is;
+      low = (indexes-wrote progress es).low;
       open_streams = λ k e less. place k e (omega (arith, less, length-set x.open_streams at y));
       indexed = indexed-set x.places x.open_streams at y d l.indexed (ap (λ (t : OpenStream). t.state.stream_identifier) ey);
       texts = texts-same sum x l (E.Write s ppi bytes) ok refl;

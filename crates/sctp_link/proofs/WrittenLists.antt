@@ -28,7 +28,7 @@ use Rattle.sctp_ties.specs.Tied.{TiedOutbound}
 use Rattle.sctp_ties.proofs.StreamAmounts.{write-open}
 use Rattle.sctp_link.specs.declared.open_stream.OpenStream.{OpenStream}
 use Rattle.sctp_link.specs.declared.record.Message.{Message}
-use Rattle.sctp_link.specs.Records.{stream_record, message_record}
+use Rattle.sctp_link.specs.Records.{stream_record, message_record, progress_of}
 use Rattle.sctp_link.specs.Stream as stream
 use Rattle.sctp_link.specs.Stream.{cut}
 use Rattle.sctp_link.specs.OpenStreams.{is_ordered, message_with, fragments_with_mode, after_write_on}
@@ -130,7 +130,7 @@ module _ (sum : List ℕ → ℕ) (x : State) (l : IsLinked sum x) (s : ℕ) (pp
         let own : bytes_of frags ≡ bytes_of (fragments_with_mode m.state ppi bytes) = ap bytes_of ef in
         omega (arith, queued, mine, total, own, count-is, short, write-few, l.written)
 
-    module _ (y : OpenStream) (ey : y ≡ after_write_on m ppi bytes) (ms more : List Message) (em : x.world.messages ≡ map message_record ms) (es : x.sents ≡ map (λ m. m.sent) ms) (e : more ≡ ms ++ message_with m ppi bytes ∷ []) where
+    module _ (y : OpenStream) (ey : y ≡ after_write_on m ppi bytes) (ms more : List Message) (em : x.world.messages ≡ map message_record ms) (es : x.progress ≡ map progress_of ms) (e : more ≡ ms ++ message_with m ppi bytes ∷ []) where
       pub world-wrote : record x.world { streams = map stream_record (slice_set x.open_streams at y); messages = map message_record more } ≡ wrote x.world s ppi bytes
       world-wrote = by bytes some ok ey e
         where
@@ -151,29 +151,29 @@ module _ (sum : List ℕ → ℕ) (x : State) (l : IsLinked sum x) (s : ℕ) (pp
           full = grind (arith, nat_tests)
 
       pub linked-wrote : (q r : Outbound) (a b fragments written count : ℕ) → q ≡ record x.outbound { pending = reserved x.outbound.pending a b } → r ≡ with_message (fragments_with_mode m.state ppi bytes) q → fragments ≡ x.fragments + count → count ≡ fragments_in x.world bytes → written ≡ x.written + length bytes
-          → IsLinked sum (record x { world = record x.world { streams = map stream_record (slice_set x.open_streams at y); messages = map message_record more }; open_streams = slice_set x.open_streams at y; sents = map (λ m. m.sent) more; outbound = r; fragments = fragments; written = written })
+          → IsLinked sum (record x { world = record x.world { streams = map stream_record (slice_set x.open_streams at y); messages = map message_record more }; open_streams = slice_set x.open_streams at y; progress = map progress_of more; outbound = r; fragments = fragments; written = written })
       linked-wrote q r a b fragments written count eq er ef ec ew =
-          moved sum (record x { world = record x.world { streams = map stream_record (slice_set x.open_streams at y); messages = map message_record more }; open_streams = slice_set x.open_streams at y; sents = map (λ m. m.sent) more; outbound = r; fragments = fragments; written = written }) (wrote x.world s ppi bytes) world-wrote
+          moved sum (record x { world = record x.world { streams = map stream_record (slice_set x.open_streams at y); messages = map message_record more }; open_streams = slice_set x.open_streams at y; progress = map progress_of more; outbound = r; fragments = fragments; written = written }) (wrote x.world s ppi bytes) world-wrote
           (by bytes some ok ey e er ec ew)
         where
           by : (bytes : List ℕ) → 0 < length bytes → refusal_of x.world (E.Write s ppi bytes) ≡ None → y ≡ after_write_on m ppi bytes → more ≡ ms ++ message_with m ppi bytes ∷ [] → r ≡ with_message (fragments_with_mode m.state ppi bytes) q → count ≡ fragments_in x.world bytes → written ≡ x.written + length bytes
-              → IsLinked sum (record x { world = wrote x.world s ppi bytes; open_streams = slice_set x.open_streams at y; sents = map (λ m. m.sent) more; outbound = r; fragments = fragments; written = written })
+              → IsLinked sum (record x { world = wrote x.world s ppi bytes; open_streams = slice_set x.open_streams at y; progress = map progress_of more; outbound = r; fragments = fragments; written = written })
           by [] some ok ey e er ec ew = absurd (omega arith)
           by (b' ∷ bs) some ok ey e er ec ew =
-              Writing.linked-write sum x l s ppi b' bs ok streams at d lt here y (map (λ m. m.sent) more) q r fragments written count ey
-              (ap length es ∙ length-mapped (λ (m : Message). m.sent) ms ∙ sym (ap length em ∙ length-mapped message_record ms))
-              (ap (map (λ m. m.sent)) e ∙ map-append (λ (m : Message). m.sent) ms (message_with m ppi (b' ∷ bs) ∷ []) ∙ ap (λ a. a ++ 0 ∷ []) (sym es))
+              Writing.linked-write sum x l s ppi b' bs ok streams at d lt here y (map progress_of more) q r fragments written count ey
+              (ap length es ∙ length-mapped progress_of ms ∙ sym (ap length em ∙ length-mapped message_record ms))
+              (ap (map progress_of) e ∙ map-append progress_of ms (message_with m ppi (b' ∷ bs) ∷ []) ∙ ap (λ a. a ++ (0, 0) ∷ []) (sym es))
               (tied-reserved x.world x.outbound q a b eq l.outbound) (ap (λ (o : Outbound). o.next_unstarted) eq) er ef ec ew
 
     -- want of memory changes nothing that counts
-    pub linked-unwritten : (y : OpenStream) (q : Outbound) (a b : ℕ) (ms same : List Message) → y ≡ m → q ≡ record x.outbound { pending = reserved x.outbound.pending a b } → x.world.messages ≡ map message_record ms → x.sents ≡ map (λ m. m.sent) ms → same ≡ ms
-        → IsLinked sum (record x { world = record x.world { streams = map stream_record (slice_set x.open_streams at y); messages = map message_record same }; open_streams = slice_set x.open_streams at y; sents = map (λ m. m.sent) same; outbound = q })
+    pub linked-unwritten : (y : OpenStream) (q : Outbound) (a b : ℕ) (ms same : List Message) → y ≡ m → q ≡ record x.outbound { pending = reserved x.outbound.pending a b } → x.world.messages ≡ map message_record ms → x.progress ≡ map progress_of ms → same ≡ ms
+        → IsLinked sum (record x { world = record x.world { streams = map stream_record (slice_set x.open_streams at y); messages = map message_record same }; open_streams = slice_set x.open_streams at y; progress = map progress_of same; outbound = q })
     linked-unwritten y q a b ms same ey eq em es e =
         let own : slice_set x.open_streams at y ≡ x.open_streams = set-own x.open_streams at y d ey in
-        subst (λ ls. IsLinked sum (record x { world = record x.world { streams = map stream_record ls; messages = map message_record same }; open_streams = ls; sents = map (λ m. m.sent) same; outbound = q })) (sym own)
-        (subst (λ rs. IsLinked sum (record x { world = record x.world { streams = rs; messages = map message_record same }; sents = map (λ m. m.sent) same; outbound = q })) streams
-        (subst (λ rs. IsLinked sum (record x { world = record x.world { messages = rs }; sents = map (λ m. m.sent) same; outbound = q })) (em ∙ ap (map message_record) (sym e))
-        (subst (λ rs. IsLinked sum (record x { sents = rs; outbound = q })) (es ∙ ap (map (λ m. m.sent)) (sym e))
+        subst (λ ls. IsLinked sum (record x { world = record x.world { streams = map stream_record ls; messages = map message_record same }; open_streams = ls; progress = map progress_of same; outbound = q })) (sym own)
+        (subst (λ rs. IsLinked sum (record x { world = record x.world { streams = rs; messages = map message_record same }; progress = map progress_of same; outbound = q })) streams
+        (subst (λ rs. IsLinked sum (record x { world = record x.world { messages = rs }; progress = map progress_of same; outbound = q })) (em ∙ ap (map message_record) (sym e))
+        (subst (λ rs. IsLinked sum (record x { progress = rs; outbound = q })) (es ∙ ap (map progress_of) (sym e))
         (record {
           setup = l.setup;
           one_each = l.one_each;
@@ -186,7 +186,8 @@ module _ (sum : List ℕ → ℕ) (x : State) (l : IsLinked sum x) (s : ℕ) (pp
           fragments = l.fragments;
           written = l.written;
           sents = l.sents;
-          befores = l.befores;
+          indexes = l.indexes;
+          low = l.low;
           open_streams = l.open_streams;
           indexed = l.indexed;
           texts = l.texts;

@@ -3,7 +3,7 @@ use Rattle.std.specs.Prelude.{ℕ, map}
 use Rattle.sctp_model.specs.World.{World, Setup}
 use Rattle.sctp_link.specs.declared.link.Link.TheInside.{Inside}
 use Rattle.sctp_link.specs.Linked.{State}
-use Rattle.sctp_link.specs.Records.{message_record, slot_record, datagram_record, stream_record}
+use Rattle.sctp_link.specs.Records.{message_record, progress_of, slot_record, datagram_record, stream_record}
 
 -- a link has datagrams of one chunk each: their limit is 0
 abbrev pub setup_of : ℕ → ℕ → ℕ → Setup
@@ -17,7 +17,7 @@ world_in a =
       messages = map message_record a.messages.items;
       slots = map slot_record a.slots.items;
       network = map datagram_record a.network.items;
-      skipped = 0;
+      skipped = a.skipped;
       taken = a.taken;
       duplicates = a.duplicates.items;
     }
@@ -28,7 +28,7 @@ state_in a =
       world = world_in a;
       open_streams = a.open_streams.items.items;
       places = a.open_streams.places;
-      sents = map (λ m. m.sent) a.messages.items;
+      progress = map progress_of a.messages.items;
       unstarted = a.unstarted;
       datagrams = map (λ d. d.bytes) a.network.items;
       outbound = a.outbound;

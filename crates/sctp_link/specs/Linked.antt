@@ -1,11 +1,11 @@
 -- What a link keeps beside its record, and how all of it is tied to the record.
-use Rattle.std.specs.Prelude.{◌≡◌, ◌==◌, ℕ, ◌<◌, ◌%◌, ◌^◌, List, length, slice_index_or, slice_get, Bool, Some}
+use Rattle.std.specs.Prelude.{◌≡◌, ◌==◌, ℕ, ◌<◌, ◌≤◌, true, ◌%◌, ◌^◌, List, length, slice_index_or, slice_get, Bool, Some}
 use Rattle.std.specs.BTreeMap.{BTreeMap}
 use Rattle.sctp_queues.specs.Payload.{Payload}
 use Rattle.sctp_queues.specs.Outbound.{Outbound}
 use Rattle.sctp_model.specs.World as W
 use Rattle.sctp_model.specs.World.{World}
-use Rattle.sctp_model.specs.Messages.{message_at, ordered_before, sent_of, tsn_of}
+use Rattle.sctp_model.specs.Messages.{message_at, ordered_before, index_of, sent_of, tsn_of}
 use Rattle.sctp_model.specs.Receiver.{next_of}
 use Rattle.sctp_model.specs.Contents.{contents_of}
 use Rattle.sctp_model.specs.Queues.{filter_of}
@@ -15,6 +15,7 @@ use Rattle.sctp_ties.specs.Holds.{reassembly_of}
 use Rattle.sctp_ties.specs.Tied.{TiedOutbound, filter_held}
 use Rattle.sctp_ties.specs.Amount.{amount}
 use Rattle.sctp_ties.specs.Counts.{counters_on}
+use Rattle.sctp_ties.specs.Indexes.{begun_on}
 use Rattle.sctp_model.specs.Amounts.{Counters, in_all, written_bytes}
 use Rattle.sctp_model.specs.Amounts as M
 use Rattle.sctp_link.specs.declared.link.lending.Ledger.{Ledger}
@@ -34,8 +35,8 @@ pub record State : Type 0 where
   pub open_streams : List OpenStream
   -- the place of each, by its number
   pub places : BTreeMap ℕ ℕ
-  -- of each message, how many of its fragments have slots
-  pub sents : List ℕ
+  -- of each message, how many of its fragments have slots, and its index
+  pub progress : List (ℕ × ℕ)
   -- the number of the first message whose lifetime has not started
   pub unstarted : ℕ
   -- the bytes of each datagram
@@ -76,6 +77,7 @@ pub record IsOpenStream (w : World) (l : OpenStream) : Type 0 where
   pub size : l.state.max_payload_size ≡ w.setup.size
   pub ordered : l.ordered ≡ ordered_before w l.state.stream_identifier (length w.messages)
   pub number : l.state.sequence_number ≡ l.ordered % 2 ^ 16
+  pub begun : l.begun ≡ begun_on w l.state.stream_identifier
   pub next : l.next ≡ next_of w l.state.stream_identifier
   pub amount : l.state.buffered_amount ≡ amount w l.state.stream_identifier
   pub stats : l.state.stats ≡ stats_of (counters_on w l.state.stream_identifier)
@@ -91,8 +93,10 @@ pub record IsLinked (sum : List ℕ → ℕ) (x : State) : Type 0 where
   pub next : x.next_tsn ≡ tsn_of x.world (length x.world.slots)
   pub fragments : x.fragments ≡ fragments_accepted x.world
   pub written : x.written ≡ in_all x.world (written_bytes x.world)
-  pub sents : (n : ℕ) → n < length x.world.messages → slice_index_or x.sents n 0 ≡ sent_of x.world n
-  pub befores : (n : ℕ) → n < length x.world.messages → (message_at x.world n).before ≡ ordered_before x.world (message_at x.world n).stream n
+  pub sents : (n : ℕ) → n < length x.world.messages → (slice_index_or x.progress n (0, 0)).0 ≡ sent_of x.world n
+  -- an ordered message has its index once some of it was sent
+  pub indexes : (n : ℕ) → 0 < sent_of x.world n → (message_at x.world n).ordered ≡ true → (slice_index_or x.progress n (0, 0)).1 ≡ index_of x.world n
+  pub low : (n : ℕ) → (slice_index_or x.progress n (0, 0)).1 ≤ n
   pub open_streams : (k : ℕ) (d : OpenStream) → k < length x.open_streams → IsOpenStream x.world (slice_index_or x.open_streams k d)
   -- a stream is found by its number
   pub indexed : IsIndexed x.places (stream_numbers x.open_streams)

@@ -1,12 +1,15 @@
 -- What a stream of a link makes of a write.
 use Rattle.sctp_queues.specs.Reassembly.{ordered_pushed, PushesUnordered}
-use Rattle.std.specs.Prelude.{◌≡◌, ◌&&◌, ℕ, ◌+◌, Bool, true, false, not, ◌||◌, if◌then◌else◌, List, [], ◌∷◌, length, map, take, drop, ◌++◌, Some, None}
+use Rattle.std.specs.Prelude.{◌≡◌, ◌&&◌, ℕ, ◌+◌, Bool, true, false, not, ◌||◌, if◌then◌else◌, List, [], ◌∷◌, length, map, take, drop, ◌++◌, Option, Some, None, find, ◌==◌}
 use Rattle.sctp_chunks.specs.declared.chunk.chunk_payload_data.ChunkPayloadData.{ChunkPayloadData}
 use Rattle.sctp_chunks.specs.declared.chunk.chunk_payload_data.ReliabilityType.{ReliabilityType}
 use Rattle.sctp_chunks.specs.declared.chunk.chunk_payload_data.PayloadProtocolIdentifier.{PayloadProtocolIdentifier}
 use Rattle.sctp_model.specs.Messages.{is_dcep}
 use Rattle.sctp_link.specs.declared.open_stream.OpenStream.{OpenStream}
 use Rattle.sctp_link.specs.declared.record.Message.{Message}
+use Rattle.sctp_link.specs.declared.record.Slot.{Slot}
+use Rattle.sctp_lists.specs.Lists.{change_where}
+use Rattle.sctp_link.specs.Linked.{has_number}
 use Rattle.sctp_link.specs.declared.stream.StreamState.{StreamState}
 use Rattle.sctp_link.specs.Stats.{with_sent, with_received, counted_bytes}
 use Rattle.sctp_link.specs.Stream.{after_write, fragments_of}
@@ -34,7 +37,10 @@ message_with l ppi bytes =
       reliability = l.state.reliability_type;
       value = l.state.reliability_value;
       before = l.ordered;
+      index = 0;
       started = None;
+      expired = false;
+      abandoned = false;
       read = false;
       sent = 0;
     }
@@ -63,6 +69,35 @@ with_start now m = record m { started = Some now }
 abbrev pub start_from : ℕ → ℕ → List Message → List Message
 start_from first now ms = take first ms ++ map (with_start now) (drop first ms)
 
+-- the slot of a fragment
+abbrev pub slot_with : ℕ → ℕ → Slot
+slot_with number fragment = record { message = number; fragment = fragment; is_end_mark = false; arrived = false; acknowledged = false }
+
+-- how many ordered messages a stream has begun, where there is one
+abbrev pub begun_in : Option OpenStream → ℕ
+begun_in None = 0
+begun_in (Some l) = l.begun
+
+-- those of the stream with a number
+abbrev pub begun_of : ℕ → List OpenStream → ℕ
+begun_of s ls = begun_in (find (has_number s) ls)
+
+-- and one more
+abbrev pub with_begun : OpenStream → OpenStream
+with_begun l = record l { begun = l.begun + 1 }
+
+-- the next fragment of a message is its first one, and it is ordered
+abbrev pub begins : Message → Bool
+begins m = m.ordered && (m.sent == 0)
+
+-- a message with one fragment more sent: with the first it takes its index
+abbrev pub with_fragment : List OpenStream → Message → Message
+with_fragment ls m = record m { sent = m.sent + 1; index = if begins m then begun_of m.stream ls else m.index }
+
+-- the streams then
+abbrev pub begun_by : Message → List OpenStream → List OpenStream
+begun_by m ls = if begins m then change_where (has_number m.stream) with_begun ls else ls
+
 -- a chunk is kept: the queue changes as by a push, and an unordered message that becomes whole is noted
 pub record Keeps (x : ChunkPayloadData) (number : ℕ) (old new : OpenStream) : Type 0 where
   pub whole : Bool
@@ -71,4 +106,6 @@ pub record Keeps (x : ChunkPayloadData) (number : ℕ) (old new : OpenStream) : 
   pub noted : new.whole.items ≡ (if whole && x.unordered then old.whole.items ++ number ∷ [] else old.whole.items)
   pub state : new.state ≡ record old.state { reassembly_queue = new.state.reassembly_queue }
   pub ordered : new.ordered ≡ old.ordered
+  pub begun : new.begun ≡ old.begun
   pub next : new.next ≡ old.next
+  pub named : new.named ≡ old.named

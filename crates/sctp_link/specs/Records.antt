@@ -1,5 +1,5 @@
 -- What a link keeps of its messages, slots, datagrams and streams, as the record says it.
-use Rattle.std.specs.Prelude.{ℕ, false, [], ◌∷◌, map}
+use Rattle.std.specs.Prelude.{ℕ, [], ◌∷◌, map}
 use Rattle.sctp_chunks.specs.declared.chunk.chunk_selective_ack.GapAckBlock.{GapAckBlock}
 use Rattle.sctp_link.specs.declared.record.Message.{Message}
 use Rattle.sctp_link.specs.declared.record.Slot.{Slot}
@@ -9,7 +9,7 @@ use Rattle.sctp_link.specs.declared.record.Datagram.{Datagram}
 use Rattle.sctp_link.specs.declared.open_stream.OpenStream.{OpenStream}
 use Rattle.sctp_model.specs.World as W
 
--- a message: none expires or is abandoned yet
+-- a message
 abbrev pub message_record : Message → W.Message
 message_record m =
     record {
@@ -21,15 +21,19 @@ message_record m =
       value = m.value;
       before = m.before;
       started = m.started;
-      expired = false;
-      abandoned = false;
+      expired = m.expired;
+      abandoned = m.abandoned;
       read = m.read;
     }
 
--- a slot: no end mark is made yet
+-- how many fragments of a message have slots, and its index
+abbrev pub progress_of : Message → ℕ × ℕ
+progress_of m = (m.sent, m.index)
+
+-- a slot
 abbrev pub slot_record : Slot → W.Slot
 slot_record x =
-    record { message = x.message; fragment = x.fragment; is_end_mark = false; arrived = x.arrived; acknowledged = x.acknowledged }
+    record { message = x.message; fragment = x.fragment; is_end_mark = x.is_end_mark; arrived = x.arrived; acknowledged = x.acknowledged }
 
 abbrev pub ends_of : GapAckBlock → ℕ × ℕ
 ends_of b = (b.start, b.end)
@@ -51,6 +55,6 @@ stream_record l =
       unordered = l.state.unordered;
       reliability = l.state.reliability_type;
       value = l.state.reliability_value;
-      named = 0;
+      named = l.named;
       whole = l.whole.items;
     }

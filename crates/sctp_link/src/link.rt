@@ -1,6 +1,6 @@
 //! The link: each event is answered as its record says, over the queues of a sender and a receiver.
 
-ghost use Rattle.std.specs.Prelude.{◌≡◌, ◌==◌, ◌<◌, ◌≤◌, ◌+◌, ◌∷◌, ◌++◌, ℕ, [], None, Some, List, OnOk, OnErr, IfOk, IsOkUnless, MatchOption, length, vec_len, vec_capacity, option_map, find};
+ghost use Rattle.std.specs.Prelude.{◌≡◌, ◌==◌, ◌<◌, ◌≤◌, ◌+◌, ◌∷◌, ◌++◌, ℕ, [], None, Some, List, OnOk, OnErr, IfOk, IsOkUnless, MatchOption, length, vec_len, vec_capacity, option_map, find, true};
 ghost use Rattle.sctp_base.specs.declared.error.Error.TheVariants.{ErrOutOfMemory};
 
 mod acknowledged;
@@ -15,6 +15,7 @@ use self::open_streams::OpenStreams;
 use crate::event::{Event, LinkRefusal, Reply};
 use crate::record::{Datagram, Kind, Message, Slot};
 use bytes::Bytes;
+use sctp_base::error::Error;
 use sctp_base::util::Checksum;
 use sctp_queues::outbound_queue::OutboundQueue;
 use sctp_queues::payload_queue::PayloadQueue;
@@ -35,6 +36,8 @@ pub struct Link<C: Checksum + Drop> {
     unstarted: usize,
     slots: Vec<Slot>,
     network: Vec<Datagram>,
+    // how many slots the last counting skip covered
+    skipped: usize,
     // how many slots the taken SACKs acknowledged cumulatively
     taken: usize,
     // the places that came again since the last SACK was made
@@ -65,10 +68,10 @@ impl<C: Checksum + Drop> Link<C> {
     ghost use Rattle.sctp_model.specs.World.{Setup, start};
     ghost use Rattle.sctp_model.specs.Messages.{is_open};
     ghost use Rattle.sctp_model.specs.Contents.{Contents, datagram};
-    ghost use Rattle.sctp_model.specs.Steps.{Answers, History, StandsFor, StandsAfter, refusal_of};
+    ghost use Rattle.sctp_model.specs.Steps.{Answers, History, StandsFor, StandsAfter, IsRight, refusal_of, takes_memory};
     ghost use Rattle.sctp_model.specs.declared.event.Event.TheVariants as E;
     ghost use Rattle.sctp_link.specs.Fields.{setup_of};
-    ghost use Rattle.sctp_link.specs.Replies.{IsBuilt, answer_of};
+    ghost use Rattle.sctp_link.specs.Replies.{IsBuilt, reply_of, answer_of};
     ghost use Rattle.sctp_link.specs.Texts.{datagram_text};
 
     /// A link with nothing opened yet. It takes no memory.
@@ -96,6 +99,7 @@ impl<C: Checksum + Drop> Link<C> {
             unstarted: 0,
             slots: Vec::new(alloc),
             network: Vec::new(alloc),
+            skipped: 0,
             taken: 0,
             duplicates: Vec::new(alloc),
             outbound: OutboundQueue::new(alloc),
@@ -113,7 +117,7 @@ impl<C: Checksum + Drop> Link<C> {
     /// - Mode, Write and Read: `StreamUnknown`, where the stream is not open.
     /// - Write: `MessageTooLarge`, where the bytes are more than the greatest message size; `TsnsUsedUp`, where with
     ///   its fragments 2^31 or more would have been accepted in all.
-    /// - Resend: `NotInFlight`, where the TSN was not given out or is acknowledged.
+    /// - Resend: `NotInFlight`, where the TSN was not given out, is acknowledged, or its message is abandoned.
     /// - Arrive and Acked: `NoSuchDatagram`, where datagram k was not made, or is of the other kind.
     /// - Arrive: `SpanTooWide`, where stream sequence numbers could no longer be told apart (RFC 4960 6.5).
     /// - Each event that takes memory: `OutOfMemory`, where it was refused.
@@ -129,7 +133,23 @@ impl<C: Checksum + Drop> Link<C> {
         if let Some(refusal) = self.refusal(&event) {
             return Err(refusal);
         }
-        let reply = match event {
+        match self.take(event) {
+            Ok(reply) => Ok(reply),
+            Err(_e) => Err(LinkRefusal::OutOfMemory),
+        }
+    }
+
+    // Takes an event that is not refused.
+    fn take(&mut self, event: Event) -> Result<Reply, Error>
+        requires built { IsBuilt event }
+        requires accepted { refusal_of self.old.world event ≡ None }
+        ensures ok { IfOk result (λ reply. IsRight self.old.world event (reply_of reply) self.new.world) }
+        ensures checksum { self.new.checksum ≡ self.old.checksum }
+        ensures err { OnErr result (self.new.world ≡ self.old.world) }
+        ensures memory { IsOkUnless result ErrOutOfMemory }
+        ensures wants { OnErr result (takes_memory self.old.world event ≡ true) }
+    {
+        match event {
             Event::Open { stream } => self.open(stream),
             Event::Mode {
                 stream,
@@ -153,10 +173,6 @@ impl<C: Checksum + Drop> Link<C> {
                 upto: _upto,
                 messages: _messages,
             } => unreachable!(),
-        };
-        match reply {
-            Ok(reply) => Ok(reply),
-            Err(_e) => Err(LinkRefusal::OutOfMemory),
         }
     }
 

@@ -24,10 +24,14 @@ pub struct OpenStream {
     pub state: StreamState,
     /// The unordered messages that are whole and not read, in the order in which they became whole.
     pub whole: VecDeque<u64>,
-    /// How many ordered messages were written.
+    /// How many ordered messages were written and did not expire.
     pub ordered: u64,
+    /// How many of them were begun to be sent.
+    pub begun: u64,
     /// The index of the ordered message that is expected next.
     pub next: u64,
+    /// One more than the greatest index that a counting skip named, or 0.
+    pub named: u64,
 }
 
 impl OpenStream {
@@ -41,7 +45,9 @@ impl OpenStream {
         ensures state { result.state ≡ new_stream stream max_payload_size max_message_size Unknown }
         ensures whole { result.whole.items ≡ [] }
         ensures ordered { result.ordered ≡ 0 }
+        ensures begun { result.begun ≡ 0 }
         ensures next { result.next ≡ 0 }
+        ensures named { result.named ≡ 0 }
     {
         OpenStream {
             state: StreamState::new(
@@ -53,7 +59,9 @@ impl OpenStream {
             ),
             whole: VecDeque::new(alloc),
             ordered: 0,
+            begun: 0,
             next: 0,
+            named: 0,
         }
     }
 
@@ -96,7 +104,10 @@ impl OpenStream {
             reliability,
             value,
             before,
+            index: 0,
             started: None,
+            expired: false,
+            abandoned: false,
             read: false,
             sent: 0,
         };
@@ -116,7 +127,7 @@ impl OpenStream {
         requires size { is_too_large chunk.now self.old.state.reassembly_queue ≡ false }
         requires stream { (chunk.now.stream_identifier == self.old.state.reassembly_queue.si) ≡ true }
         ensures ok { OnOk result (Keeps chunk.now number self.old self.new) }
-        ensures err { OnErr result ((self.new.state ≡ self.old.state) × (self.new.whole.items ≡ self.old.whole.items) × (self.new.ordered ≡ self.old.ordered) × (self.new.next ≡ self.old.next)) }
+        ensures err { OnErr result ((self.new.state ≡ self.old.state) × (self.new.whole.items ≡ self.old.whole.items) × (self.new.ordered ≡ self.old.ordered) × (self.new.begun ≡ self.old.begun) × (self.new.next ≡ self.old.next) × (self.new.named ≡ self.old.named)) }
         ensures memory { IsOkUnless result ErrOutOfMemory }
     {
         self.whole.reserve(1)?;
@@ -146,6 +157,8 @@ impl OpenStream {
         ensures state { self.new.state ≡ with_read_stats ppi len self.old.state }
         ensures whole { self.new.whole.items ≡ (if ordered then self.old.whole.items else drop 1 self.old.whole.items) }
         ensures ordered { self.new.ordered ≡ self.old.ordered }
+        ensures begun { self.new.begun ≡ self.old.begun }
+        ensures named { self.new.named ≡ self.old.named }
         ensures next { self.new.next ≡ (if ordered && (index == self.old.next) then index + 1 else self.old.next) }
     {
         if !ordered {

@@ -13,20 +13,26 @@ pub struct Message {
     pub bytes: Bytes,
     pub reliability: ReliabilityType,
     pub value: u32,
-    /// How many ordered messages of its stream were written before it.
+    /// How many ordered messages of its stream were written before it and had not expired then.
     pub before: u64,
+    /// The index of an ordered one of which some was sent: how many of its stream were begun before it.
+    pub index: u64,
     /// The moment from which its lifetime counts, in nanoseconds.
     pub started: Option<u64>,
+    pub expired: bool,
+    pub abandoned: bool,
     pub read: bool,
     /// How many of its fragments have slots: the first ones.
     pub sent: u64,
 }
 
-/// A TSN that was given out to a fragment of a message (RFC 4960 3.3.1). The first has place 0.
+/// A TSN that was given out to a fragment of a message, or to the end mark of an abandoned one (RFC 4960 3.3.1).
+/// The first has place 0.
 #[derive(Clone, Copy, Drop)]
 pub struct Slot {
     pub message: u64,
     pub fragment: u64,
+    pub is_end_mark: bool,
     pub arrived: bool,
     pub acknowledged: bool,
 }

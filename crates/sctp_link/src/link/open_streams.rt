@@ -1,11 +1,12 @@
 //! The open streams of a link, found by their numbers.
 
-ghost use Rattle.std.specs.Prelude.{◌≡◌, ◌<◌, ◌^◌, ◌∷◌, ◌++◌, [], None, Some, OnOk, OnErr, IsOkUnless, MatchOption, find, length, slice_index_or};
+ghost use Rattle.std.specs.Prelude.{◌≡◌, ◌<◌, ◌^◌, ◌∷◌, ◌++◌, [], ◌+◌, None, Some, OnOk, OnErr, IsOkUnless, MatchOption, find, length, slice_index_or};
 ghost use Rattle.sctp_base.specs.declared.error.Error.TheVariants.{ErrOutOfMemory};
 ghost use Rattle.sctp_lists.specs.Lists.{change_where};
 ghost use Rattle.sctp_link.specs.declared.open_stream.OpenStream.{OpenStream};
 ghost use Rattle.sctp_link.specs.Acking.{less_by};
 ghost use Rattle.sctp_link.specs.Linked.{has_number};
+ghost use Rattle.sctp_link.specs.OpenStreams.{begun_of, with_begun};
 ghost use Rattle.sctp_link.specs.Places.{IsIndexed, stream_numbers};
 
 use super::put;
@@ -58,6 +59,23 @@ impl OpenStreams {
         self.places.insert(number, place)?;
         put(&mut self.items, stream);
         Ok(())
+    }
+
+    /// The index of the next ordered message of a stream that is begun, which is begun; 0 where the stream is not open.
+    pub fn begin(&mut self, stream: u16) -> u64
+        requires indexed { IsIndexed self.old.places (stream_numbers self.old.items.items) }
+        requires few { begun_of stream self.old.items.items + 1 < 2 ^ 64 }
+        ensures index { result ≡ begun_of stream self.old.items.items }
+        ensures items { self.new.items.items ≡ change_where (has_number stream) with_begun self.old.items.items }
+        ensures places { self.new.places ≡ self.old.places }
+    {
+        let Some(at) = self.place_of(stream) else {
+            return 0;
+        };
+        let open_stream = &mut self.items[at];
+        let index = open_stream.begun;
+        open_stream.begun = index + 1;
+        index
     }
 
     /// Takes bytes off the amount of a stream, where it is open.

@@ -67,7 +67,7 @@ impl<C: Checksum + Drop> Link<C> {
             return true;
         }
         let (low, high) = self.ends(message.stream);
-        high.max(message.before) < low.min(message.before) + 0x8000
+        high.max(message.index) < low.min(message.index) + 0x8000
     }
 
     // The least and the greatest of the index expected next and those of the messages held: they stand at the ends of the queue.
@@ -99,7 +99,7 @@ impl<C: Checksum + Drop> Link<C> {
     {
         let tsn = set.fragments()[0].tsn;
         let place = tsn.wrapping_sub(self.first_tsn) as usize;
-        self.messages[self.slots[place].message as usize].before
+        self.messages[self.slots[place].message as usize].index
     }
 
     fn is_new(&self, place: usize) -> bool
@@ -196,7 +196,7 @@ impl<C: Checksum + Drop> Link<C> {
         let ppi = message.ppi;
         self.open_streams.items[at].finish_read(
             message.ordered,
-            message.before,
+            message.index,
             ppi,
             message.bytes.len(),
         );

@@ -1,8 +1,11 @@
 //! What a link sends, and sends again.
 
-ghost use Rattle.std.specs.Prelude.{◌≡◌, ◌<◌, ◌≤◌, ◌+◌, ◌-◌, ◌^◌, ◌∷◌, ◌++◌, ℕ, [], None, Some, OnOk, OnErr, IfOk, IsOkUnless, length, false};
+ghost use Rattle.std.specs.Prelude.{◌≡◌, ◌<◌, ◌≤◌, ◌+◌, ◌-◌, ◌^◌, ◌∷◌, ◌++◌, ℕ, [], None, Some, OnOk, OnErr, IfOk, IsOkUnless, length, true};
 ghost use Rattle.sctp_base.specs.declared.error.Error.TheVariants.{ErrOutOfMemory};
+ghost use Rattle.sctp_link.specs.OpenStreams.{slot_with, with_fragment, begun_of, begun_by};
+ghost use Rattle.sctp_link.specs.Places.{IsIndexed, stream_numbers};
 
+use super::open_streams::OpenStreams;
 use super::streams::start_from;
 use super::{Link, put};
 use crate::datagram::write_datagram;
@@ -13,7 +16,8 @@ use sctp_base::util::Checksum;
 use sctp_chunks::chunk::chunk_kind::ChunkKind;
 
 impl<C: Checksum + Drop> Link<C> {
-    ghost use Rattle.sctp_model.specs.Steps.{IsRight, refusal_of};
+    ghost use Rattle.sctp_model.specs.Queues.{is_cleared};
+    ghost use Rattle.sctp_model.specs.Steps.{IsRight, refusal_of, takes_memory};
     ghost use Rattle.sctp_model.specs.declared.event.Event.TheVariants as E;
     ghost use Rattle.sctp_link.specs.Replies.{reply_of};
 
@@ -22,6 +26,7 @@ impl<C: Checksum + Drop> Link<C> {
         ensures checksum { self.new.checksum ≡ self.old.checksum }
         ensures err { OnErr result (self.new.world ≡ self.old.world) }
         ensures memory { IsOkUnless result ErrOutOfMemory }
+        ensures wants { OnErr result (takes_memory self.old.world (E.Send now) ≡ true) }
     {
         let Some(chunk) = self.outbound.peek_pending() else {
             self.start(now);
@@ -39,7 +44,11 @@ impl<C: Checksum + Drop> Link<C> {
         let _ = self.outbound.send_next(&mut self.next_tsn, now);
         start_from(&mut self.messages, self.unstarted, now);
         self.unstarted = self.messages.len();
-        let slot = take_fragment(&mut self.messages[number as usize], number);
+        let slot = take_fragment(
+            &mut self.messages[number as usize],
+            &mut self.open_streams,
+            number,
+        );
         let place = self.slots.len() as u64;
         let datagram = self.network.len() as u64;
         put(&mut self.slots, slot);
@@ -57,10 +66,19 @@ impl<C: Checksum + Drop> Link<C> {
         ensures { result ≡ refusal_of self.now.world (E.Resend tsn) }
     {
         let place = tsn.wrapping_sub(self.first_tsn) as usize;
-        if place < self.taken || place >= self.slots.len() || self.slots[place].acknowledged {
+        if place < self.taken || place >= self.slots.len() || self.is_cleared(place) {
             return Some(LinkRefusal::NotInFlight);
         }
         None
+    }
+
+    // Whether a slot is acknowledged or its message abandoned: then it is not sent again.
+    fn is_cleared(&self, place: usize) -> bool
+        requires { place < length self.now.world.slots }
+        ensures { result ≡ is_cleared self.now.world place }
+    {
+        let slot = &self.slots[place];
+        slot.acknowledged || self.messages[slot.message as usize].abandoned
     }
 
     pub(super) fn resend(&mut self, tsn: u32) -> Result<Reply>
@@ -86,17 +104,25 @@ impl<C: Checksum + Drop> Link<C> {
     }
 }
 
-/// The slot of the next fragment of a message, which it takes.
-fn take_fragment(message: &mut Message, number: u64) -> Slot
-    requires { message.old.sent + 1 < 2 ^ 64 }
-    ensures slot { result ≡ record { message = number; fragment = message.old.sent; arrived = false; acknowledged = false } }
-    ensures taken { message.new ≡ record message.old { sent = message.old.sent + 1 } }
+/// The slot of the next fragment of a message, which it takes. The first one of an ordered message takes an index.
+fn take_fragment(message: &mut Message, open_streams: &mut OpenStreams, number: u64) -> Slot
+    requires fits { message.old.sent + 1 < 2 ^ 64 }
+    requires indexed { IsIndexed open_streams.old.places (stream_numbers open_streams.old.items.items) }
+    requires few { begun_of message.old.stream open_streams.old.items.items + 1 < 2 ^ 64 }
+    ensures slot { result ≡ slot_with number message.old.sent }
+    ensures taken { message.new ≡ with_fragment open_streams.old.items.items message.old }
+    ensures items { open_streams.new.items.items ≡ begun_by message.old open_streams.old.items.items }
+    ensures places { open_streams.new.places ≡ open_streams.old.places }
 {
+    if message.ordered && message.sent == 0 {
+        message.index = open_streams.begin(message.stream);
+    }
     let fragment = message.sent;
     message.sent += 1;
     Slot {
         message: number,
         fragment,
+        is_end_mark: false,
         arrived: false,
         acknowledged: false,
     }

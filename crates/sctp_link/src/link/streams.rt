@@ -1,6 +1,6 @@
 //! Streams and writes of a link.
 
-ghost use Rattle.std.specs.Prelude.{◌≡◌, ◌<◌, ◌≤◌, ◌+◌, ◌-◌, ◌^◌, ◌∷◌, ◌++◌, ℕ, [], None, Some, List, OnOk, OnErr, IfOk, IsOkUnless, length, nat_le, if◌then◌else◌};
+ghost use Rattle.std.specs.Prelude.{◌≡◌, ◌<◌, ◌≤◌, ◌+◌, ◌-◌, ◌^◌, ◌∷◌, ◌++◌, ℕ, [], None, Some, List, OnOk, OnErr, IfOk, IsOkUnless, length, nat_le, if◌then◌else◌, true};
 ghost use Rattle.sctp_base.specs.declared.error.Error.TheVariants.{ErrOutOfMemory};
 ghost use Rattle.sctp_lists.specs.Lists.{pieces};
 ghost use Rattle.sctp_queues.specs.Pending.{reserved};
@@ -18,7 +18,7 @@ use sctp_chunks::chunk::chunk_payload_data::{PayloadProtocolIdentifier, Reliabil
 use sctp_queues::outbound_queue::OutboundQueue;
 
 impl<C: Checksum + Drop> Link<C> {
-    ghost use Rattle.sctp_model.specs.Steps.{IsRight, refusal_of};
+    ghost use Rattle.sctp_model.specs.Steps.{IsRight, refusal_of, takes_memory};
     ghost use Rattle.sctp_model.specs.declared.event.Event.TheVariants as E;
     ghost use Rattle.sctp_link.specs.Replies.{reply_of};
 
@@ -86,6 +86,7 @@ impl<C: Checksum + Drop> Link<C> {
         ensures checksum { self.new.checksum ≡ self.old.checksum }
         ensures err { OnErr result (self.new.world ≡ self.old.world) }
         ensures memory { IsOkUnless result ErrOutOfMemory }
+        ensures wants { OnErr result (takes_memory self.old.world (E.Write stream ppi bytes) ≡ true) }
     {
         if bytes.is_empty() {
             return Ok(Reply::Wrote {

@@ -2,7 +2,7 @@ use Rattle.std.proofs.Common.{◌≡◌, ℕ, refl, true, arith}
 use Rattle.sctp_model.specs.Receiver.{is_held}
 use Rattle.sctp_model.specs.Queues.{set_of}
 use Rattle.sctp_link.specs.Fields.{world_in, state_in}
-use Rattle.sctp_link.proofs.Hears.{held-begins, held-made, lead-slot, lead-message, lead-before}
+use Rattle.sctp_link.proofs.Hears.{held-begins, held-made, lead-slot, lead-message, lead-index, held-ordered}
 use Rattle.sctp_link.proofs.link.Link.index_of.Goals as goal
 
 pub index-requires : goal.index-requires
@@ -33,4 +33,4 @@ returns g c =
     let x = state_in c.self.inside in
     let slots = c.self.inside.slots.items in
     let messages = c.self.inside.messages.items in
-    rw (← c.self.view_is) (λ s n h e. lead-before sum x c.self.invariant slots messages refl refl n c.fragments.result.now c.index-fragments-0.result (held-begins sum x c.self.invariant slots messages refl refl s n c.args.set.now c.fragments.result.now c.fragments.ensures h e) (held-made sum x c.self.invariant slots messages refl refl s n h) c.index.result.now c.index-2.result.now c.index.ensures c.index-2.ensures)
+    rw (← c.self.view_is) (λ s n h e. lead-index sum x c.self.invariant slots messages refl refl n c.fragments.result.now c.index-fragments-0.result (held-begins sum x c.self.invariant slots messages refl refl s n c.args.set.now c.fragments.result.now c.fragments.ensures h e) (held-made sum x c.self.invariant slots messages refl refl s n h) refl (held-ordered sum x c.self.invariant slots messages refl refl s n h) c.index.result.now c.index-2.result.now c.index.ensures c.index-2.ensures)

@@ -89,7 +89,7 @@ invariant_of-self-in_err-keep g c =
     let was = c.index_mut.ensures.value in
     let kept = c.in_err-keep.ensures.err in
     linked-still sum x c.self.invariant c.in-Some.at c.index_mut.result.now c.keep.new.self refl lt
-    (kept.0 ∙ ap (λ (l : OpenStream). l.state) was) (kept.1 ∙ ap (λ (l : OpenStream). l.whole.items) was) (kept.2 ∙ ap (λ (l : OpenStream). l.ordered) was) (kept.3 ∙ ap (λ (l : OpenStream). l.next) was)
+    (kept.0 ∙ ap (λ (l : OpenStream). l.state) was) (kept.1 ∙ ap (λ (l : OpenStream). l.whole.items) was) (kept.2 ∙ ap (λ (l : OpenStream). l.ordered) was) (kept.3 ∙ ap (λ (l : OpenStream). l.begun) was) (kept.4 ∙ ap (λ (l : OpenStream). l.next) was) (kept.5 ∙ ap (λ (l : OpenStream). l.named) was)
     c.reserve.new.self (ap (filter_held c.self.inside.cumulative_tsn) c.in_ok-reserve.ensures.ok)
 
 pub returns-in_err-keep-clause-err : goal.returns-in_err-keep-clause-err
@@ -107,7 +107,7 @@ returns-in_err-keep-clause-err g c =
     let kept = c.in_err-keep.ensures.err in
     let same : map stream_record (slice_set c.self.inside.open_streams.items.items c.in-Some.at c.keep.new.self) ≡ (world_in c.self.inside).streams =
     streams-stay sum x c.self.invariant c.in-Some.at c.index_mut.result.now c.keep.new.self refl lt
-    (kept.0 ∙ ap (λ (l : OpenStream). l.state) was) (kept.1 ∙ ap (λ (l : OpenStream). l.whole.items) was) (kept.2 ∙ ap (λ (l : OpenStream). l.ordered) was) (kept.3 ∙ ap (λ (l : OpenStream). l.next) was)
+    (kept.0 ∙ ap (λ (l : OpenStream). l.state) was) (kept.1 ∙ ap (λ (l : OpenStream). l.whole.items) was) (kept.2 ∙ ap (λ (l : OpenStream). l.ordered) was) (kept.3 ∙ ap (λ (l : OpenStream). l.begun) was) (kept.4 ∙ ap (λ (l : OpenStream). l.next) was) (kept.5 ∙ ap (λ (l : OpenStream). l.named) was)
     c.reserve.new.self (ap (filter_held c.self.inside.cumulative_tsn) c.in_ok-reserve.ensures.ok) in
     rw (← c.self.view_is) (on-err c.from_residual-in_err-keep.result _ (ap {B = World} (λ rs. record w { streams = rs }) same))
 

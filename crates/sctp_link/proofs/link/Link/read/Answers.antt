@@ -14,9 +14,9 @@ use Rattle.sctp_link.specs.declared.record.Message.{Message}
 use Rattle.sctp_link.specs.Fields.{world_in, state_in}
 use Rattle.sctp_link.specs.OpenStreams.{with_read_stats}
 use Rattle.sctp_link.specs.Linked.{has_number}
-use Rattle.sctp_link.specs.Records.{message_record}
+use Rattle.sctp_link.specs.Records.{message_record, progress_of}
 use Rattle.sctp_link.proofs.Apart.{map-set, map-set_same}
-use Rattle.sctp_link.proofs.Hears.{lead-slot, lead-number, messages-made, message-raw}
+use Rattle.sctp_link.proofs.Hears.{lead-slot, lead-number, messages-made, message-raw, kept-raw}
 use Rattle.sctp_link.proofs.HandsOut.{none-mapped, some-mapped, world-nothing, linked-nothing, reply-nothing, read-is, hands, hands-begins, low, reply-read, world-twice, linked-twice, never-shut}
 use Rattle.sctp_link.proofs.link.Link.read.Goals as goal
 
@@ -167,7 +167,7 @@ finish_read-requires g c =
     let m = c.index_mut-message.result.now in
     let here : m ≡ slice_index_or messages n m = c.index_mut-message.ensures.value ∙ ap (λ i. slice_index_or messages i m) number in
     let m_is : message_at w n ≡ message_record m = message-raw sum x c.self.invariant slots messages refl refl n m inside ∙ ap message_record (sym here) in
-    omega (arith, ap (λ t. t.before) m_is, low sum x c.self.invariant s at d refl lt found set e, messages-made sum x c.self.invariant slots messages refl refl)
+    omega (arith, kept-raw sum x c.self.invariant slots messages refl refl refl n m inside ∙ ap (λ (t : Message). t.index) (sym here), low sum x c.self.invariant s at d refl lt found set e, messages-made sum x c.self.invariant slots messages refl refl)
 
 pub invariant_of-self-2 : goal.invariant_of-self-2
 invariant_of-self-2 g c =
@@ -207,9 +207,12 @@ invariant_of-self-2 g c =
     let state = c.finish_read.ensures.state ∙ ap (λ len. with_read_stats m.ppi len c.index_mut-2.result.now.state) c.len.ensures.value ∙ ap (λ (l : OpenStream). with_read_stats m.ppi (length m.bytes) l.state) was in
     let whole = c.finish_read.ensures.whole ∙ ap (λ (l : OpenStream). if m.ordered then l.whole.items else drop 1 l.whole.items) was in
     let ordered = c.finish_read.ensures.ordered ∙ ap (λ (l : OpenStream). l.ordered) was in
-    let next = c.finish_read.ensures.next ∙ ap (λ (l : OpenStream). if m.ordered && (m.before == l.next) then m.before + 1 else l.next) was in
-    linked-twice sum x c.self.invariant s at d refl lt found set e m (map message_record (slice_set messages c.index.result.now.message m')) c.finish_read.new.self m_is messages_are state whole ordered next c.read.new.self
-    (map (λ (t : Message). t.sent) (slice_set messages c.index.result.now.message m')) (map-set_same (λ (t : Message). t.sent) messages c.index.result.now.message m' m (ap (λ (t : Message). t.sent) c.index_mut-message.ensures.value))
+    let begun = c.finish_read.ensures.begun ∙ ap (λ (l : OpenStream). l.begun) was in
+    let named = c.finish_read.ensures.named ∙ ap (λ (l : OpenStream). l.named) was in
+    let index = ap (λ (t : Message). t.index) here ∙ sym (kept-raw sum x c.self.invariant slots messages refl refl refl n m inside) in
+    let next = c.finish_read.ensures.next ∙ ap (λ (l : OpenStream). if m.ordered && (m.index == l.next) then m.index + 1 else l.next) was in
+    linked-twice sum x c.self.invariant s at d refl lt found set e m (map message_record (slice_set messages c.index.result.now.message m')) c.finish_read.new.self m_is messages_are state whole index ordered begun named next c.read.new.self
+    (map progress_of (slice_set messages c.index.result.now.message m')) (map-set_same progress_of messages c.index.result.now.message m' m (ap progress_of c.index_mut-message.ensures.value))
 
 pub returns-clause-right : goal.returns-clause-right
 returns-clause-right g c =
@@ -249,8 +252,11 @@ returns-clause-right g c =
     let state = c.finish_read.ensures.state ∙ ap (λ len. with_read_stats m.ppi len c.index_mut-2.result.now.state) c.len.ensures.value ∙ ap (λ (l : OpenStream). with_read_stats m.ppi (length m.bytes) l.state) was in
     let whole = c.finish_read.ensures.whole ∙ ap (λ (l : OpenStream). if m.ordered then l.whole.items else drop 1 l.whole.items) was in
     let ordered = c.finish_read.ensures.ordered ∙ ap (λ (l : OpenStream). l.ordered) was in
-    let next = c.finish_read.ensures.next ∙ ap (λ (l : OpenStream). if m.ordered && (m.before == l.next) then m.before + 1 else l.next) was in
+    let begun = c.finish_read.ensures.begun ∙ ap (λ (l : OpenStream). l.begun) was in
+    let named = c.finish_read.ensures.named ∙ ap (λ (l : OpenStream). l.named) was in
+    let index = ap (λ (t : Message). t.index) here ∙ sym (kept-raw sum x c.self.invariant slots messages refl refl refl n m inside) in
+    let next = c.finish_read.ensures.next ∙ ap (λ (l : OpenStream). if m.ordered && (m.index == l.next) then m.index + 1 else l.next) was in
     rw (← c.self.view_is) (record {
       right = ap (λ p. R.Message s p set) (sym (ap (λ t. t.ppi) m_is)) ∙ reply-read sum x c.self.invariant s at d refl lt found set e;
-      moves = world-twice sum x c.self.invariant s at d refl lt found set e m (map message_record (slice_set messages c.index.result.now.message m')) c.finish_read.new.self m_is messages_are state whole ordered next c.read.new.self;
+      moves = world-twice sum x c.self.invariant s at d refl lt found set e m (map message_record (slice_set messages c.index.result.now.message m')) c.finish_read.new.self m_is messages_are state whole index ordered begun named next c.read.new.self;
     })

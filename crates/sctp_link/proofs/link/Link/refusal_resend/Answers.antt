@@ -1,11 +1,20 @@
-use Rattle.std.proofs.Common.{ap, sym, refl, ◌∙◌, ◌%◌, ◌+◌, ◌-◌, ◌^◌, not, None, arith}
+use Rattle.std.proofs.Common.{ap, sym, ◌∙◌, ◌≡◌, ◌%◌, ◌+◌, ◌-◌, ◌<◌, ◌^◌, not, length, None, arith}
+use Rattle.sctp_lists.proofs.Getting.{length-mapped}
+use Rattle.sctp_model.specs.Queues.{is_cleared}
 use Rattle.sctp_model.specs.Steps.{unless}
 use Rattle.sctp_model.specs.declared.event.LinkRefusal.TheVariants.{NotInFlight}
-use Rattle.sctp_link.specs.Fields.{state_in}
+use Rattle.sctp_link.specs.Fields.{world_in}
+use Rattle.sctp_link.specs.Records.{slot_record}
 use Rattle.sctp_link.proofs.Observed.{can-resend}
 use Rattle.sctp_link.proofs.link.Link.refusal_resend.Goals as goal
 
+pub is_cleared-requires : goal.is_cleared-requires
+is_cleared-requires g c = rw (← c.self.view_is) (omega (arith, c.if-place-len.false, c.len.ensures, length-mapped slot_record c.self.inside.slots.items))
+
 pub returns : goal.returns
 returns g c =
-    let can = can-resend (g.C.Checksum.sum c.self.inside.checksum) (state_in c.self.inside) c.self.inside.messages.items c.self.inside.slots.items ((c.args.tsn + (2 ^ 32 - c.self.inside.first_tsn)) % 2 ^ 32) c.index.result.now c.self.invariant refl refl c.if-place-self.false (omega (arith, c.if-place-len.false, c.len.ensures)) c.index.ensures in
-    rw (← c.self.view_is) (sym (ap (λ b. unless b NotInFlight None) (can ∙ ap not c.if-index.false)))
+    let w = world_in c.self.inside in
+    let p = (c.args.tsn + (2 ^ 32 - c.self.inside.first_tsn)) % 2 ^ 32 in
+    let lt : p < length w.slots = omega (arith, c.if-place-len.false, c.len.ensures, length-mapped slot_record c.self.inside.slots.items) in
+    let told : c.is_cleared.result ≡ is_cleared w p = rw (← c.self.view_is) at c.is_cleared.ensures in
+    rw (← c.self.view_is) (sym (ap (λ b. unless b NotInFlight None) (can-resend w p c.if-place-self.false lt ∙ ap not (sym told) ∙ ap not c.if-is_cleared.false)))

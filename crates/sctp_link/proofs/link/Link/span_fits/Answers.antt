@@ -3,10 +3,12 @@ use Rattle.std.specs.Prelude.{slice_get, slice_index_or, is_some, max, nat_lt}
 use Rattle.sctp_model.specs.World.{Data}
 use Rattle.sctp_model.specs.Messages.{message_at, message_of, is_open, index_of}
 use Rattle.sctp_model.specs.Receiver.{is_new, held_on, next_of, least, greatest}
+use Rattle.sctp_link.specs.declared.record.Message.{Message}
 use Rattle.sctp_link.specs.declared.record.Slot.{Slot}
+use Rattle.sctp_link.proofs.Beginning.{index_kept}
 use Rattle.sctp_link.specs.Fields.{world_in, state_in}
 use Rattle.sctp_link.specs.Records.{message_record}
-use Rattle.sctp_link.proofs.Hears.{come-made, come-message, come-open, slots-made, messages-made, slot-raw, message-raw, fits-unordered, fits-old, fits-span, few-before}
+use Rattle.sctp_link.proofs.Hears.{come-made, come-message, come-open, slots-made, messages-made, slot-raw, message-raw, fits-unordered, fits-old, fits-span, kept-raw, few-index}
 use Rattle.sctp_link.proofs.link.Link.span_fits.Goals as goal
 
 pub index-requires : goal.index-requires
@@ -115,7 +117,8 @@ overflow_add-result g c =
     let number : c.index.result.now.message ≡ message_of w p = ap (λ (t : Slot). t.message) c.index.ensures ∙ sym (ap (λ t. t.message) (slot-raw sum x c.self.invariant slots messages refl refl p c.index.result.now inside)) in
     let m = c.index-message.result.now in
     let m_is : message_at w (message_of w p) ≡ message_record m = message-raw sum x c.self.invariant slots messages refl refl (message_of w p) m made ∙ ap message_record (sym (c.index-message.ensures ∙ ap (λ k. slice_index_or messages k m) number)) in
-    omega (arith, c.min.ensures, ap (λ t. t.before) m_is, few-before sum x c.self.invariant r.0 p r.1)
+    let i : index_kept x.progress (message_of w p) ≡ m.index = kept-raw sum x c.self.invariant slots messages refl refl refl (message_of w p) m made ∙ ap (λ (t : Message). t.index) (sym (c.index-message.ensures ∙ ap (λ k. slice_index_or messages k m) number)) in
+    omega (arith, c.min.ensures, i, few-index sum x c.self.invariant r.0 p r.1)
 
 pub returns : goal.returns
 returns g c =
@@ -136,10 +139,11 @@ returns g c =
     let kind : m.ordered ≡ true = search rules in
     let low : c.ends-low.result.0 ≡ least (next_of w m.stream) (map (index_of w) (held_on w m.stream)) = rw (← c.self.view_is) at c.ends-low.ensures.low in
     let high : c.ends-low.result.1 ≡ greatest (next_of w m.stream) (map (index_of w) (held_on w m.stream)) = rw (← c.self.view_is) at c.ends-low.ensures.high in
+    let i : index_kept x.progress (message_of w p) ≡ m.index = kept-raw sum x c.self.invariant slots messages refl refl refl (message_of w p) m made ∙ ap (λ (t : Message). t.index) (sym (c.index-message.ensures ∙ ap (λ k. slice_index_or messages k m) number)) in
     rw (← c.self.view_is) (
-    ap (λ a. nat_lt a (c.min.result + 32768)) c.max.ensures ∙ ap (λ b. nat_lt (max c.ends-low.result.1 m.before) (b + 32768)) c.min.ensures
-    ∙ fits-span sum x c.self.invariant r.0 p r.1 c.ends-low.result.0 c.ends-low.result.1 m.before (sym told ∙ answer) (ap (λ t. t.ordered) m_is ∙ kind)
+    ap (λ a. nat_lt a (c.min.result + 32768)) c.max.ensures ∙ ap (λ b. nat_lt (max c.ends-low.result.1 m.index) (b + 32768)) c.min.ensures
+    ∙ fits-span sum x c.self.invariant r.0 p r.1 c.ends-low.result.0 c.ends-low.result.1 m.index (sym told ∙ answer) (ap (λ t. t.ordered) m_is ∙ kind)
     (low ∙ ap (λ t. least (next_of w t.stream) (map (index_of w) (held_on w t.stream))) (sym m_is))
     (high ∙ ap (λ t. greatest (next_of w t.stream) (map (index_of w) (held_on w t.stream))) (sym m_is))
-    (ap (λ t. t.before) (sym m_is))
+    (sym i)
     )

@@ -1,5 +1,5 @@
-use Rattle.std.proofs.Common.{◌≡◌, ◌<◌, ◌++◌, ◌∷◌, ◌+◌, [], length, rules, refl, ap, None, Some, ◌∙◌, sym, arith, subst}
-use Rattle.std.specs.Prelude.{slice_index_or, find}
+use Rattle.std.proofs.Common.{◌≡◌, ◌<◌, ◌++◌, ◌∷◌, ◌+◌, [], length, map, rules, refl, ap, None, Some, ◌∙◌, sym, arith, subst}
+use Rattle.std.specs.Prelude.{slice_index_or, slice_set, find}
 use Rattle.sctp_queues.specs.Whole.{IsMessageOrNone}
 use Rattle.sctp_queues.specs.Outbound.{with_message}
 use Rattle.sctp_model.specs.declared.event.Event.TheVariants as E
@@ -7,7 +7,11 @@ use Rattle.sctp_model.specs.Steps.{refusal_of, fragments_in}
 use Rattle.sctp_link.specs.declared.open_stream.OpenStream.{OpenStream}
 use Rattle.sctp_link.specs.OpenStreams.{is_ordered, message_with, fragments_with_mode, after_write_on}
 use Rattle.sctp_link.specs.Linked.{has_number}
+use Rattle.sctp_link.specs.Records.{stream_record, message_record}
+use Rattle.sctp_model.specs.World.{World}
 use Rattle.sctp_link.specs.Fields.{state_in, world_in}
+use Rattle.sctp_link.proofs.Apart.{map-set_same}
+use Rattle.sctp_link.proofs.Keeping.{on-err}
 use Rattle.sctp_link.proofs.Writing.{same-default}
 use Rattle.sctp_link.proofs.Fragmented.{one-message}
 use Rattle.sctp_link.proofs.WrittenLists.{some-bytes, of-ok, write-found, write-short, fits-64, next-short, push-room, pushed-few, write-right, linked-wrote, linked-unwritten}
@@ -96,3 +100,13 @@ returns-clause-ok g c =
     let count : c.fragments_in-count.result ≡ fragments_in (world_in c.self.inside) c.args.bytes = c.fragments_in-count.ensures.value c.args.bytes c.len-len.ensures.value in
     let number : c.len-number.result ≡ length c.self.inside.messages.items = search rules in
     rw (← c.self.view_is) (write-right sum x c.self.invariant c.args.stream c.args.ppi c.args.bytes some ok refl c.in-Some.at c.index_mut.result.now lt here c.write.new.self open_stream c.self.inside.messages.items c.put.new.items.items refl refl more c.len-number.result c.fragments_in-count.result number count)
+
+pub returns-in_err-message-clause-err : goal.returns-in_err-message-clause-err
+returns-in_err-message-clause-err g c =
+    let w = world_in c.self.inside in
+    let ls = c.self.inside.open_streams.items.items in
+    let same : map stream_record (slice_set ls c.in-Some.at c.write.new.self) ≡ w.streams = map-set_same stream_record ls c.in-Some.at c.write.new.self c.index_mut.result.now (ap stream_record (c.in_err-message.ensures.err ∙ c.index_mut.ensures.value)) in
+    let kept : c.reserve.new.self.items ≡ c.self.inside.messages.items = search rules in
+    rw (← c.self.view_is)
+    (on-err c.from_residual-in_err-message.result _
+    (ap {B = World} (λ rs. record w { streams = rs; messages = map message_record c.reserve.new.self.items }) same ∙ ap {B = World} (λ ms. record w { messages = map message_record ms }) kept))
