@@ -12,6 +12,8 @@ pub mod Facts
 pub mod Lookups
 pub mod Lending
 pub mod Walks
+pub mod Skipping
+pub mod SkipComes
 pub mod Wants
 pub mod Packets
 pub mod Observed

@@ -6,6 +6,7 @@ pub mod event;
 pub mod link;
 mod open_stream;
 mod record;
+mod skipped;
 pub mod stream;
 #[cfg(test)]
 mod stream_tests;

@@ -9,6 +9,7 @@ pub mod lending;
 mod open_streams;
 mod receiving;
 mod sending;
+mod skipping;
 mod streams;
 
 use self::open_streams::OpenStreams;

@@ -65,7 +65,7 @@ pub fn pairs_of(
         let message = &messages[*number as usize];
         pairs.push(ChunkForwardTsnStream {
             identifier: message.stream,
-            sequence: message.index as u16,
+            sequence: (message.index % 0x10000) as u16,
         })?;
     }
     Ok(pairs)

@@ -181,6 +181,12 @@ end-short w s c (n ∷ ns) le = step (is_ordered_on w s n) refl (λ d l. end-sho
         ih (max c (index_of w n + 1)) (omega (arith, le, i, Line.on-made w s n e))
     step false e ih = ih c le
 
+pub next-short : (w : World) (s : ℕ) → Sound w → next_of w s ≤ length w.messages
+next-short w s sound = omega (arith, Line.next_le w s (sound.named_made s), length-kept-le (is_ordered_on w s) 0 (length w.messages))
+
+pub least-start : (w : World) (s : ℕ) → lowest_held w s ≤ next_of w s
+least-start w s = least-le (index_of w) (next_of w s) (held_on w s)
+
 module _ (w : World) (s upto : ℕ) (names : List ℕ) (r : StreamRecord) (sound : Sound w) (open' : stream_at w s ≡ Some r) where
   abbrev v : World
   v = with_skip w upto names
@@ -229,9 +235,6 @@ module _ (w : World) (s upto : ℕ) (names : List ℕ) (r : StreamRecord) (sound
     abbrev mine : List ℕ
     mine = map (index_of w) (on_stream w s names)
 
-    next-short : next_of w s ≤ length w.messages
-    next-short = omega (arith, Line.next_le w s (sound.named_made s), length-kept-le (is_ordered_on w s) 0 (length w.messages))
-
     -- the test after it tells of the end
     told : fits v mine s ≡ true → nat_lt end (min_with first low + 2 ^ 15) ≡ true
     told e = by (whole_first w (held_on w s)) refl
@@ -245,7 +248,7 @@ module _ (w : World) (s upto : ℕ) (names : List ℕ) (r : StreamRecord) (sound
         below : sp.low ≤ low
         below =
             let short = end-short w s 0 names (omega arith) in
-            least-all (2 ^ 64 - 1) sp.low mine (omega (arith, next-skip, sp.next, short, next-short, few)) (λ y h. (sp.others y h).0)
+            least-all (2 ^ 64 - 1) sp.low mine (omega (arith, next-skip, sp.next, short, next-short w s sound, few)) (λ y h. (sp.others y h).0)
 
         by : (o : Option ℕ) → whole_first w (held_on w s) ≡ o → nat_lt end (min_with o low + 2 ^ 15) ≡ true
         by None f = let lt : end < low + 2 ^ 15 = omega (arith, top, below, sp.short) in grind (arith, nat_tests)
@@ -301,7 +304,7 @@ module _ (w : World) (s upto : ℕ) (names : List ℕ) (r : StreamRecord) (sound
     pub fits-both : (fits w mine s && fits v mine s) ≡ names_fit w s names
     fits-both =
         let lowest = least-le (index_of w) (next_of w s) (held_on w s) in
-        let before = fits-before w s names (omega (arith, lowest, next-short, few)) in
+        let before = fits-before w s names (omega (arith, lowest, next-short w s sound, few)) in
         by (nat_lt (max (highest_held w s) (end - 1)) (min (lowest_held w s) low + 2 ^ 15)) refl before
       where
         by : (b : Bool) → nat_lt (max (highest_held w s) (end - 1)) (min (lowest_held w s) low + 2 ^ 15) ≡ b → fits w mine s ≡ nat_lt (max (highest_held w s) (end - 1)) (min (lowest_held w s) low + 2 ^ 15) → (fits w mine s && fits v mine s) ≡ names_fit w s names
