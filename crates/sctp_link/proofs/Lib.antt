@@ -14,6 +14,7 @@ pub mod Lending
 pub mod Walks
 pub mod Skipping
 pub mod SkipComes
+pub mod SkipMade
 pub mod Wants
 pub mod Packets
 pub mod Observed

@@ -197,7 +197,7 @@ all-same : (f g : StreamRecord → Bool) (rs : List StreamRecord) → ((i : ℕ)
 all-same f g [] h = refl
 all-same f g (r ∷ rs) h = ap (λ b. b && list_all f rs) (h 0 r (omega arith)) ∙ ap (λ b. g r && b) (all-same f g rs (λ i d lt. h (suc i) d (omega arith)))
 
-all-next : (P : StreamRecord → Bool) (rs : List StreamRecord) (i : ℕ) (b : Bool) → i < length rs → ((r : StreamRecord) → slice_get rs i ≡ Some r → b ≡ P r) → list_all P (take i rs) ≡ true → list_all P (take (suc i) rs) ≡ b
+all-next : {X : Type 0} (P : X → Bool) (rs : List X) (i : ℕ) (b : Bool) → i < length rs → ((r : X) → slice_get rs i ≡ Some r → b ≡ P r) → list_all P (take i rs) ≡ true → list_all P (take (suc i) rs) ≡ b
 all-next P [] i b lt h e = absurd (omega arith)
 all-next P (r ∷ rs) zero b lt h e = or-true (P r) ∙ sym (h r refl)
   where
@@ -208,10 +208,10 @@ all-next P (r ∷ rs) (suc i) b lt h e =
     let t = both (P r) (list_all P (take i rs)) e in
     ap (λ c. c && list_all P (take (suc i) rs)) t.0 ∙ all-next P rs i b (omega arith) h t.1
 
-pub all-more : (P : StreamRecord → Bool) (rs : List StreamRecord) (i : ℕ) (b : Bool) → i < length rs → ((r : StreamRecord) → slice_get rs i ≡ Some r → b ≡ P r) → list_all P (take i rs) ≡ true → list_all P (take (i + 1) rs) ≡ b
+pub all-more : {X : Type 0} (P : X → Bool) (rs : List X) (i : ℕ) (b : Bool) → i < length rs → ((r : X) → slice_get rs i ≡ Some r → b ≡ P r) → list_all P (take i rs) ≡ true → list_all P (take (i + 1) rs) ≡ b
 all-more P rs i b lt h e = ap (λ k. list_all P (take k rs)) (add-one i) ∙ all-next P rs i b lt h e
 
-pub all-no : (P : StreamRecord → Bool) (rs : List StreamRecord) (i : ℕ) → list_all P (take i rs) ≡ false → list_all P rs ≡ false
+pub all-no : {X : Type 0} (P : X → Bool) (rs : List X) (i : ℕ) → list_all P (take i rs) ≡ false → list_all P rs ≡ false
 all-no P rs zero e = cc
 all-no P [] (suc i) e = cc
 all-no P (r ∷ rs) (suc i) e = step (P r) e (λ h. all-no P rs i h)
@@ -253,6 +253,18 @@ reads-skip sum x k upto names ds y l network same e is =
     let t = l.texts k y.bytes (Forward upto names) e in
     let bytes : slice_index_or x.datagrams k y.bytes ≡ y.bytes = ap (λ bs. slice_index_or bs k y.bytes) same ∙ raw-at (λ d. d.bytes) ds k y.bytes y lt ∙ ap (λ (d : Datagram). d.bytes) (sym is) in
     subst (λ b. ReadsPacket sum b (packet_with (forward_tsn_chunk (wire_skip x.world upto names) ∷ []))) bytes t.reads
+
+-- what a datagram is, from what a link keeps of it
+pub kept-kind : (ds : List Datagram) (k : ℕ) (y : Datagram) → k < length ds → y ≡ slice_index_or ds k y → slice_get (map datagram_record ds) k ≡ Some (kind_record y.kind)
+kept-kind [] k y lt is = absurd (omega arith)
+kept-kind (d ∷ ds) zero y lt is = ap (λ (z : Datagram). Some (kind_record z.kind)) (sym is)
+kept-kind (d ∷ ds) (suc k) y lt is = kept-kind ds k y (omega arith) is
+
+-- the element at a place
+pub told-at : {X : Type 0} (xs : List X) (i : ℕ) (y r : X) → y ≡ slice_index_or xs i y → slice_get xs i ≡ Some r → y ≡ r
+told-at [] i y r is e = cc
+told-at (x ∷ xs) zero y r is e = is ∙ (let same : x ≡ r = cc in same)
+told-at (x ∷ xs) (suc i) y r is e = told-at xs i y r is e
 
 -- the names that a link keeps of a datagram
 pub names-kept : (ds : List Datagram) (k : ℕ) (y : Datagram) (u upto : ℕ) (told names : List ℕ) → slice_get (map datagram_record ds) k ≡ Some (Forward upto names) → y ≡ slice_index_or ds k y → kind_record y.kind ≡ Forward u told → told ≡ names

@@ -36,5 +36,4 @@ IsBuilt (E.Expire now) = ⊥
 IsBuilt (E.Tail now) = ⊥
 IsBuilt (E.Late now) = ⊥
 IsBuilt (E.Abandon tsn) = ⊥
-IsBuilt (E.Skip upto messages) = ⊥
 IsBuilt _ = Unit {0}

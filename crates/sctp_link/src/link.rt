@@ -6,6 +6,7 @@ ghost use Rattle.sctp_base.specs.declared.error.Error.TheVariants.{ErrOutOfMemor
 mod acknowledged;
 mod acknowledging;
 pub mod lending;
+mod naming;
 mod open_streams;
 mod receiving;
 mod sending;
@@ -119,6 +120,8 @@ impl<C: Checksum + Drop> Link<C> {
     /// - Write: `MessageTooLarge`, where the bytes are more than the greatest message size; `TsnsUsedUp`, where with
     ///   its fragments 2^31 or more would have been accepted in all.
     /// - Resend: `NotInFlight`, where the TSN was not given out, is acknowledged, or its message is abandoned.
+    /// - Skip: `SkipUnassigned`, where the TSN was not given out; `SkipNames`, where there are more names than fit a
+    ///   FORWARD-TSN, or one that is not an ordered message whose last slot is at or before the TSN's.
     /// - Arrive and Acked: `NoSuchDatagram`, where datagram k was not made, or is of the other kind.
     /// - Arrive: `SpanTooWide`, where stream sequence numbers could no longer be told apart (RFC 4960 6.5).
     /// - Each event that takes memory: `OutOfMemory`, where it was refused.
@@ -170,10 +173,7 @@ impl<C: Checksum + Drop> Link<C> {
             Event::Tail { now: _now } => unreachable!(),
             Event::Late { now: _now } => unreachable!(),
             Event::Abandon { tsn: _tsn } => unreachable!(),
-            Event::Skip {
-                upto: _upto,
-                messages: _messages,
-            } => unreachable!(),
+            Event::Skip { upto, messages } => self.skip(upto, messages),
         }
     }
 
@@ -198,6 +198,7 @@ impl<C: Checksum + Drop> Link<C> {
             Event::Mode { stream, .. } => self.refusal_unless_open(*stream),
             Event::Write { stream, bytes, .. } => self.refusal_write(*stream, bytes.len()),
             Event::Resend { tsn } => self.refusal_resend(*tsn),
+            Event::Skip { upto, messages } => self.refusal_skip(*upto, messages),
             Event::Arrive { k } => self.refusal_arrive(*k),
             Event::Acked { k } => self.refusal_acked(*k),
             Event::Read { stream } => self.refusal_unless_open(*stream),

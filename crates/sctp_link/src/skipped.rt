@@ -72,12 +72,7 @@ pub fn pairs_of(
 }
 
 /// The arrival of a skip up to a TSN, which names these messages, on each open stream. It takes no memory.
-pub fn skip_streams(
-    open_streams: &mut [OpenStream],
-    messages: &[Message],
-    names: &[u64],
-    tsn: u32,
-)
+pub fn skip_streams(open_streams: &mut [OpenStream], messages: &[Message], names: &[u64], tsn: u32)
     requires { (n : ℕ) → index_in messages.now n + 1 < 2 ^ 64 }
     ensures { open_streams.new ≡ map (skipped_by messages.now names.now tsn) open_streams.old }
 {

@@ -42,6 +42,7 @@ impl<C: Checksum + Drop> Link<C> {
 
     // Whether a skip up to a slot can name each of these messages.
     fn can_name_each(&self, place: usize, messages: &[u64]) -> bool
+        requires { place < length self.now.world.slots }
         ensures { result ≡ list_all (can_name self.now.world place) messages.now }
     {
         for at in 0..messages.len() {
@@ -54,6 +55,7 @@ impl<C: Checksum + Drop> Link<C> {
 
     // Whether a skip up to a slot can name a message: an ordered one whose last slot is at or before it.
     fn can_name(&self, place: usize, number: u64) -> bool
+        requires { place < length self.now.world.slots }
         ensures { result ≡ can_name self.now.world place number }
     {
         if number >= self.messages.len() as u64 {
@@ -87,7 +89,8 @@ impl<C: Checksum + Drop> Link<C> {
         requires { place < length self.now.world.slots }
         ensures { result ≡ not (list_all (λ p. nat_le p place) (slots_where self.now.world (belongs_to self.now.world number))) }
     {
-        for later in place + 1..self.slots.len() {
+        let count = self.slots.len();
+        for later in place + 1..count {
             if self.slots[later].message == number {
                 return true;
             }

@@ -7,6 +7,8 @@ ghost use Rattle.sctp_chunks.specs.declared.chunk.chunk_payload_data.ChunkPayloa
 ghost use Rattle.sctp_queues.specs.DataChunks.{chunk_before};
 ghost use Rattle.sctp_queues.specs.Payload.{with_chunks};
 ghost use Rattle.sctp_queues.specs.Window;
+ghost use Rattle.sctp_model.specs.Steps.{unless};
+ghost use Rattle.sctp_model.specs.declared.event.LinkRefusal.TheVariants.{SpanTooWide};
 
 use super::{Link, put};
 use crate::datagram::read_data;
@@ -35,15 +37,11 @@ impl<C: Checksum + Drop> Link<C> {
         if k >= self.network.len() as u64 {
             return Some(LinkRefusal::NoSuchDatagram);
         }
-        let fits = match &self.network[k as usize].kind {
-            Kind::Data { place } => self.span_fits(*place as usize),
-            Kind::Forward { upto, messages } => self.skip_fits(*upto, messages),
-            Kind::Sack { .. } => return Some(LinkRefusal::NoSuchDatagram),
-        };
-        if !fits {
-            return Some(LinkRefusal::SpanTooWide);
+        match &self.network[k as usize].kind {
+            Kind::Data { place } => unless_fits(self.span_fits(*place as usize)),
+            Kind::Forward { upto, messages } => unless_fits(self.skip_fits(*upto, messages)),
+            Kind::Sack { .. } => Some(LinkRefusal::NoSuchDatagram),
         }
-        None
     }
 
     // Whether stream sequence numbers can still be told apart once the slot has come (RFC 4960 6.5).
@@ -208,6 +206,17 @@ impl<C: Checksum + Drop> Link<C> {
             ppi,
             chunks,
         }
+    }
+}
+
+// The refusal of what fails the span test.
+fn unless_fits(fits: bool) -> Option<LinkRefusal>
+    ensures { result ≡ unless fits SpanTooWide None }
+{
+    if fits {
+        None
+    } else {
+        Some(LinkRefusal::SpanTooWide)
     }
 }
 

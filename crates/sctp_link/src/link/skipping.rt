@@ -92,11 +92,7 @@ impl<C: Checksum + Drop> Link<C> {
         ensures err { OnErr result (self.new.world ≡ self.old.world) }
         ensures memory { IsOkUnless result ErrOutOfMemory }
     {
-        let chunk = read_forward_tsn(
-            self.alloc,
-            &self.network[k as usize].bytes,
-            &self.checksum,
-        )?;
+        let chunk = read_forward_tsn(self.alloc, &self.network[k as usize].bytes, &self.checksum)?;
         let cumulative = count_of(self.cumulative_tsn, self.first_tsn);
         if cumulative > upto {
             return Ok(Reply::Stale);

@@ -138,7 +138,7 @@ fn make_room(outbound: &mut OutboundQueue, ordered: bool, count: usize) -> Resul
 }
 
 /// How many fragments of a size so many bytes take.
-fn fragments_in(len: usize, size: usize) -> usize
+pub(super) fn fragments_in(len: usize, size: usize) -> usize
     requires { 0 < size }
     ensures value { (bytes : List ℕ) → len ≡ length bytes → result ≡ length (pieces (length bytes) size bytes) }
     ensures short { result ≤ len }
