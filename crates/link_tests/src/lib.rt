@@ -2,6 +2,8 @@
 #![tactic(auto)]
 
 #[cfg(test)]
+mod event_tests;
+#[cfg(test)]
 mod stream_tests;
 #[cfg(test)]
 mod tests;

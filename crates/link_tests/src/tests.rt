@@ -15,7 +15,7 @@ use std::test::Fail;
 
 /// The checksum that is always 0.
 #[derive(Clone, Copy)]
-struct Zero;
+pub struct Zero;
 
 impl Checksum for Zero {
     ghost sum = { λ _ bytes. 0 };
@@ -43,7 +43,7 @@ impl Checksum for Counted<'_> {
 /// The header of each datagram, under the checksum that is 0.
 const HEADER: [u8; 12] = [0x13, 0x88, 0x13, 0x88, 0, 0, 0, 1, 0, 0, 0, 0];
 
-fn write(alloc: Global, ppi: PayloadProtocolIdentifier, bytes: &[u8]) -> Result<Event, Fail>
+pub fn write(alloc: Global, ppi: PayloadProtocolIdentifier, bytes: &[u8]) -> Result<Event, Fail>
     ensures { IfOk result (λ event. IsBuilt event) }
 {
     Ok(Event::Write {
@@ -53,14 +53,14 @@ fn write(alloc: Global, ppi: PayloadProtocolIdentifier, bytes: &[u8]) -> Result<
     })
 }
 
-fn binary(alloc: Global, bytes: &[u8]) -> Result<Event, Fail>
+pub fn binary(alloc: Global, bytes: &[u8]) -> Result<Event, Fail>
     ensures { IfOk result (λ event. IsBuilt event) }
 {
     write(alloc, PayloadProtocolIdentifier::Binary, bytes)
 }
 
 /// A link with stream 1 open, to which these were written and sent as far as `sends` datagrams.
-fn sent<C: Checksum + Drop>(
+pub fn sent<C: Checksum + Drop>(
     alloc: Global,
     link: &mut Link<C>,
     writes: &[&[u8]],
@@ -77,7 +77,7 @@ fn sent<C: Checksum + Drop>(
 }
 
 /// Whether datagram k is the header and these bytes.
-fn carries<C: Checksum + Drop>(link: &Link<C>, k: u64, chunk: &[u8]) -> bool {
+pub fn carries<C: Checksum + Drop>(link: &Link<C>, k: u64, chunk: &[u8]) -> bool {
     match link.datagram(k) {
         Some(bytes) => {
             let bytes = bytes.as_slice();
@@ -90,7 +90,7 @@ fn carries<C: Checksum + Drop>(link: &Link<C>, k: u64, chunk: &[u8]) -> bool {
 }
 
 /// Whether the reply hands out these bytes.
-fn shows(reply: &Result<Reply, LinkRefusal>, want: &[u8]) -> bool {
+pub fn shows(reply: &Result<Reply, LinkRefusal>, want: &[u8]) -> bool {
     match reply {
         Ok(Reply::Message { chunks, .. }) => reads(chunks, want),
         _ => false,
@@ -105,11 +105,11 @@ fn reads(chunks: &Chunks, want: &[u8]) -> bool {
     }
 }
 
-fn is_new(reply: &Result<Reply, LinkRefusal>) -> bool {
+pub fn is_new(reply: &Result<Reply, LinkRefusal>) -> bool {
     matches!(reply, Ok(Reply::New))
 }
 
-fn is_nothing(reply: &Result<Reply, LinkRefusal>) -> bool {
+pub fn is_nothing(reply: &Result<Reply, LinkRefusal>) -> bool {
     matches!(reply, Ok(Reply::Nothing))
 }
 

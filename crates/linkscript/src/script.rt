@@ -45,6 +45,7 @@ pub fn read_event(alloc: Global, line: &str) -> Result<Event, LineFault>
     let word = take_word(&mut rest).ok_or(LineFault::Unreadable)?;
     let event = match word {
         "write" => read_write(alloc, &mut rest)?,
+        "skip" => read_skip(alloc, &mut rest)?,
         "mode" => read_mode(&mut rest).ok_or(LineFault::Unreadable)?,
         _ => read_short(word, &mut rest).ok_or(LineFault::Unreadable)?,
     };
@@ -142,6 +143,25 @@ fn read_write(alloc: Global, rest: &mut Option<&str>) -> Result<Event, LineFault
     })
 }
 
+/// Reads the fields of a skip: a TSN, and the numbers of messages with commas between them, or `-`.
+fn read_skip(alloc: Global, rest: &mut Option<&str>) -> Result<Event, LineFault>
+    ensures { IfOk result (λ event. IsBuilt event) }
+{
+    let upto = take_u32(rest).ok_or(LineFault::Unreadable)?;
+    let names = take_word(rest).ok_or(LineFault::Unreadable)?;
+    let mut messages = Vec::new(alloc);
+    if names == "-" {
+        return Ok(Event::Skip { upto, messages });
+    }
+    for name in names.split(',') {
+        let number = number_of(name, u64::MAX).ok_or(LineFault::Unreadable)?;
+        if messages.push(number).is_err() {
+            return Err(LineFault::Memory);
+        }
+    }
+    Ok(Event::Skip { upto, messages })
+}
+
 /// Takes the next word. Words stand one space apart.
 fn take_word<'a>(rest: &mut Option<&'a str>) -> Option<&'a str> {
     let line = (*rest)?;
@@ -161,7 +181,13 @@ fn take_word<'a>(rest: &mut Option<&'a str>) -> Option<&'a str> {
 fn take_number(rest: &mut Option<&str>, most: u64) -> Option<u64>
     ensures { IfSome result (λ n. n ≤ most) }
 {
-    let word = take_word(rest)?;
+    number_of(take_word(rest)?, most)
+}
+
+/// The number that these decimal digits write, where it is at most this one.
+fn number_of(word: &str, most: u64) -> Option<u64>
+    ensures { IfSome result (λ n. n ≤ most) }
+{
     if !word.bytes().all(|b| b.is_ascii_digit()) {
         return None;
     }
@@ -231,9 +257,12 @@ fn print_numbers<W: Write>(output: &mut W, reply: &Reply) -> io::Result<()> {
         Reply::Resent { datagram } => write!(output, "resent {datagram}\n"),
         Reply::Expired { stream, bytes } => write!(output, "expired {stream} {bytes}\n"),
         Reply::Released { stream, bytes } => write!(output, "released {stream} {bytes}\n"),
+        Reply::Skip { datagram } => write!(output, "skip {datagram}\n"),
         Reply::Ack { datagram } => write!(output, "ack {datagram}\n"),
         Reply::New => write!(output, "new\n"),
         Reply::Repeat => write!(output, "repeat\n"),
+        Reply::Skipped => write!(output, "skipped\n"),
+        Reply::Stale => write!(output, "stale\n"),
         Reply::Acked { bytes } => write!(output, "acked {bytes}\n"),
         Reply::Message { .. } | Reply::Nothing => write!(output, "none\n"),
     }

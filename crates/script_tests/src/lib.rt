@@ -4,6 +4,8 @@
 #[cfg(test)]
 mod checksum;
 #[cfg(test)]
+mod events;
+#[cfg(test)]
 mod packets;
 #[cfg(test)]
 mod scripts;

@@ -8,7 +8,7 @@ use std::io::{self, ErrorKind, Read, Write};
 use std::test::Fail;
 
 /// What a script prints, and its status.
-fn ran(alloc: Global, script: &[u8]) -> Result<(String, Result<u8, RunFault>), Fail> {
+pub fn ran(alloc: Global, script: &[u8]) -> Result<(String, Result<u8, RunFault>), Fail> {
     let mut input = script;
     let mut output = Vec::new(alloc);
     let status = run_under(alloc, Crc32c, &mut input, &mut output);
@@ -200,11 +200,15 @@ fn lines_that_cannot_be_read(rt: HostRuntime) -> Result<(), Fail> {
         "ack -",
         "ack 4294967296",
         "acked",
-        "expire -",
-        "tail",
+        "expire",
+        "tail -1",
         "late 7",
         "abandon 4294967296",
-        "skip 11 -",
+        "skip 11",
+        "skip - 0",
+        "skip 11 0,",
+        "skip 11 0,-",
+        "skip 11 0 1",
     ];
     for line in lines {
         assert!(rt; ends_a_script(alloc, line)?, "at {line:?}");

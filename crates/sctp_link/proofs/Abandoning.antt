@@ -1,5 +1,5 @@
 -- A message is given up: what a link keeps.
-use Rattle.std.proofs.Common.{◌≡◌, ℕ, ◌+◌, ◌-◌, ◌<◌, ◌≤◌, ◌%◌, ◌^◌, Bool, true, false, List, [], ◌∷◌, ◌++◌, length, map, Option, Some, None, refl, ap, sym, ◌∙◌, arith, append-nil}
+use Rattle.std.proofs.Common.{◌≡◌, ℕ, ◌+◌, ◌-◌, ◌<◌, Bool, true, false, List, [], ◌∷◌, ◌++◌, length, map, Some, None, refl, ap, sym, ◌∙◌, arith}
 use Rattle.std.specs.Prelude.{if◌then◌else◌, ◌==◌, slice_get, slice_index_or, slice_set}
 use Rattle.std.specs.BTreeMap.{BTreeMap}
 use Rattle.std.proofs.Math.Path.{subst}
@@ -15,7 +15,7 @@ use Rattle.sctp_model.specs.Receiver.{next_of}
 use Rattle.sctp_model.specs.Contents.{contents_of}
 use Rattle.sctp_model.specs.Queues.{filter_of}
 use Rattle.sctp_model.specs.Amounts.{in_all, written_bytes}
-use Rattle.sctp_model.specs.Changes.{abandoned, with_slot, message_changed, mark_abandoned}
+use Rattle.sctp_model.specs.Changes.{abandoned, mark_abandoned}
 use Rattle.sctp_model.specs.Laws.{IsSetup}
 use Rattle.sctp_model.specs.Steps.{StandsFor, refusal_of, after, reply_to, fragments_accepted}
 use Rattle.sctp_model.proofs.sender.Moves

@@ -1,11 +1,10 @@
 -- A message is begun: what its stream counts then, and the index that it takes.
-use Rattle.std.proofs.Common.{◌≡◌, ℕ, zero, suc, ◌+◌, ◌<◌, ◌≤◌, ◌^◌, Bool, true, false, List, [], ◌∷◌, ◌++◌, length, map, Option, Some, None, refl, ap, sym, ◌∙◌, arith}
-use Rattle.std.specs.Prelude.{if◌then◌else◌, ◌==◌, ◌&&◌, find, is_some, slice_index_or}
+use Rattle.std.proofs.Common.{◌≡◌, ℕ, zero, suc, ◌+◌, ◌<◌, ◌^◌, Bool, true, false, List, [], ◌∷◌, ◌++◌, length, map, Option, Some, None, refl, ap, sym, ◌∙◌, arith}
+use Rattle.std.specs.Prelude.{if◌then◌else◌, ◌==◌, ◌&&◌, find, slice_index_or}
 use Rattle.std.proofs.Math.Path.{subst}
 use Rattle.sctp_lists.specs.Lists.{change_where}
 use Rattle.sctp_lists.proofs.KeptLemmas.{length-kept-le}
 use Rattle.sctp_lists.proofs.More.{not_both}
-use Rattle.sctp_model.specs.World.{World}
 use Rattle.sctp_model.specs.Messages.{is_open}
 use Rattle.sctp_model.proofs.sender.Shape.{shape}
 use Rattle.sctp_ties.specs.Indexes.{is_begun_on, begun_on}

@@ -13,7 +13,7 @@ use Rattle.sctp_link.specs.Records.{datagram_record}
 use Rattle.sctp_link.specs.Texts.{packet_with}
 use Rattle.sctp_link.proofs.Hears.{raw-at, raw-length}
 
-made-at : {A : Type 0} (ds : List A) (k : ℕ) (g : A) → slice_get ds k ≡ Some g → k < length ds
+pub made-at : {A : Type 0} (ds : List A) (k : ℕ) (g : A) → slice_get ds k ≡ Some g → k < length ds
 made-at [] k g e = cc
 made-at (d ∷ ds) zero g e = omega arith
 made-at (d ∷ ds) (suc k) g e = omega (arith, made-at ds k g e)

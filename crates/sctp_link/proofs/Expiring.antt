@@ -1,6 +1,6 @@
 -- A message expires: what a link keeps.
-use Rattle.std.proofs.Common.{◌≡◌, ℕ, ◌+◌, ◌-◌, ◌<◌, ◌≤◌, ◌%◌, ◌^◌, Bool, true, false, List, ◌∷◌, length, map, Option, Some, None, refl, ap, sym, ◌∙◌, arith}
-use Rattle.std.specs.Prelude.{if◌then◌else◌, ◌==◌, ◌&&◌, not, slice_get, slice_index_or, slice_set}
+use Rattle.std.proofs.Common.{◌≡◌, ℕ, ◌+◌, ◌-◌, ◌<◌, ◌%◌, ◌^◌, Bool, true, false, List, ◌∷◌, length, map, Option, Some, None, refl, ap, sym, ◌∙◌, arith}
+use Rattle.std.specs.Prelude.{if◌then◌else◌, ◌==◌, ◌&&◌, not, slice_index_or, slice_set}
 use Rattle.std.specs.BTreeMap.{BTreeMap}
 use Rattle.std.specs.Option.{option_map}
 use Rattle.std.proofs.Math.Path.{subst}
@@ -13,12 +13,9 @@ use Rattle.sctp_queues.specs.outbound_queue.OutboundQueue as outbound
 use Rattle.sctp_queues.specs.outbound_queue.OutboundQueue.{Outbound, expired_of, expired_bytes, total_bytes}
 use Rattle.sctp_model.specs.declared.event.Event.TheVariants as E
 use Rattle.sctp_model.specs.Reply as R
-use Rattle.sctp_model.specs.World as W
 use Rattle.sctp_model.specs.World.{World}
 use Rattle.sctp_model.specs.Messages.{message_at, ordered_before, sent_of, tsn_of, front}
 use Rattle.sctp_model.specs.Receiver.{next_of}
-use Rattle.sctp_model.specs.Contents.{contents_of}
-use Rattle.sctp_model.specs.Queues.{filter_of}
 use Rattle.sctp_model.specs.Changes.{expired, expiring, mark_expired, message_changed}
 use Rattle.sctp_model.specs.Laws.{IsSetup}
 use Rattle.sctp_model.specs.Steps.{IsRight, StandsFor, after, reply_to, expired_reply}
@@ -27,7 +24,7 @@ use Rattle.sctp_model.proofs.sender.Fronts.{front-takes}
 use Rattle.sctp_model.proofs.sender.Moves
 use Rattle.sctp_model.proofs.sender.Moves.{Quiet}
 use Rattle.sctp_model.proofs.sender.Shape.{shape}
-use Rattle.sctp_ties.specs.Tied.{waiting_at, TiedOutbound}
+use Rattle.sctp_ties.specs.Tied.{TiedOutbound}
 use Rattle.sctp_ties.specs.Amount.{amount, held_bytes}
 use Rattle.sctp_ties.specs.Holds.{reassembly_of}
 use Rattle.sctp_ties.specs.Counts.{counters_on}
@@ -35,7 +32,7 @@ use Rattle.sctp_ties.specs.Indexes.{begun_on}
 use Rattle.sctp_ties.proofs.Released.{amount-expire}
 use Rattle.sctp_ties.proofs.StreamCounters.{counters-same}
 use Rattle.sctp_ties.proofs.Expired.{tied-expire, expiring-front}
-use Rattle.sctp_ties.proofs.ExpiredReply.{count-expire, number-lower, tells, Tells, TellsOf, peeked-is, reply-expire, reply_of, bytes-expire}
+use Rattle.sctp_ties.proofs.ExpiredReply.{count-expire, number-lower, tells, Tells, peeked-is, reply-expire, bytes-expire}
 use Rattle.sctp_link.specs.declared.open_stream.OpenStream.{OpenStream}
 use Rattle.sctp_link.specs.declared.record.Message.{Message}
 use Rattle.sctp_link.specs.OpenStreams.{expired_on}

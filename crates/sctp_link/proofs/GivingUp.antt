@@ -1,6 +1,6 @@
 -- A message is given up: what the outbound queue answers.
-use Rattle.std.proofs.Common.{◌≡◌, ℕ, ◌+◌, ◌-◌, ◌<◌, ◌≤◌, ◌%◌, ◌^◌, Bool, true, false, List, length, Option, Some, None, refl, ap, sym, ◌∙◌, arith}
-use Rattle.std.specs.Prelude.{if◌then◌else◌, ◌==◌, ◌&&◌, not, nat_le, nat_lt, is_some, find}
+use Rattle.std.proofs.Common.{◌≡◌, ℕ, ◌+◌, ◌-◌, ◌<◌, ◌≤◌, ◌^◌, Bool, true, false, List, length, Option, Some, None, refl, ap, sym, ◌∙◌, arith}
+use Rattle.std.specs.Prelude.{if◌then◌else◌, ◌==◌, ◌&&◌, not, nat_le, nat_lt, find}
 use Rattle.std.specs.Option.{option_map}
 use Rattle.std.proofs.Math.Path.{subst}
 use Rattle.std.proofs.lemmas.Bool.Decides.{nat_tests}
@@ -14,7 +14,7 @@ use Rattle.sctp_model.specs.declared.event.Event.{Event}
 use Rattle.sctp_model.specs.declared.event.Event.TheVariants as E
 use Rattle.sctp_model.specs.declared.event.LinkRefusal.TheVariants.{NotInFlight}
 use Rattle.sctp_model.specs.World.{World}
-use Rattle.sctp_model.specs.Messages.{message_at, message_of, tsn_of, place_of, front, sent_of, fragment_count, deadline_of, is_reached, is_lapsed, is_half_sent, is_in_flight}
+use Rattle.sctp_model.specs.Messages.{message_at, message_of, tsn_of, place_of, sent_of, fragment_count, deadline_of, is_reached, is_lapsed, is_half_sent, is_in_flight}
 use Rattle.sctp_model.specs.Amounts.{growth}
 use Rattle.sctp_model.specs.Changes.{abandoned, tailing, tail_abandoned, front_if}
 use Rattle.sctp_model.specs.Reply as R
@@ -24,7 +24,7 @@ use Rattle.sctp_model.proofs.sender.SenderSteps.{is-half}
 use Rattle.sctp_model.proofs.sender.Fronts.{front-takes}
 use Rattle.sctp_model.proofs.sender.Shape.{shape}
 use Rattle.sctp_ties.specs.Amount.{held_bytes}
-use Rattle.sctp_ties.specs.Tied.{waiting_at, TiedOutbound}
+use Rattle.sctp_ties.specs.Tied.{TiedOutbound}
 use Rattle.sctp_ties.proofs.AbandonedBytes.{bytes-abandon, bytes-tail}
 use Rattle.sctp_ties.proofs.AbandonedEvents.{tied-abandon, next-abandon, tied-tail, next-tail, tail-is, tail-tsn}
 use Rattle.sctp_ties.proofs.InFlight.{Found, found-in}

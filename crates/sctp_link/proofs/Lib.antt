@@ -16,6 +16,9 @@ pub mod Facts
 pub mod Lookups
 pub mod Lending
 pub mod Walks
+pub mod Skipping
+pub mod SkipComes
+pub mod SkipMade
 pub mod Wants
 pub mod Packets
 pub mod Observed

@@ -5,10 +5,12 @@ use Rattle.sctp_chunks.specs.declared.chunk.chunk_kind.ChunkKind.{ChunkKind}
 use Rattle.sctp_chunks.specs.declared.chunk.chunk_kind.ChunkKind.TheVariants as K
 use Rattle.sctp_chunks.specs.declared.chunk.chunk_payload_data.ChunkPayloadData.{ChunkPayloadData}
 use Rattle.sctp_chunks.specs.declared.chunk.chunk_selective_ack.ChunkSelectiveAck.{ChunkSelectiveAck}
+use Rattle.sctp_chunks.specs.declared.chunk.chunk_forward_tsn.ChunkForwardTsn.{ChunkForwardTsn}
 use Rattle.sctp_chunks.specs.PayloadData.{Data, data_of}
 use Rattle.sctp_chunks.specs.SelectiveAck.{Sack}
+use Rattle.sctp_chunks.specs.ForwardTsn.{ForwardTsn}
 use Rattle.sctp_chunks.specs.ChunkSet.{fresh, IsFreshData}
-use Rattle.sctp_chunks.specs.Wire.{Wire, data_chunk, sack_chunk}
+use Rattle.sctp_chunks.specs.Wire.{Wire, data_chunk, sack_chunk, forward_tsn_chunk}
 use Rattle.sctp_chunks.specs.Kind.{wire_of}
 
 -- a list of chunks whose wire parts are one has a last one
@@ -26,7 +28,7 @@ pub all_last : {X : Type 0} (P : X → Type 0) (xs : List X) (x : X) → AllByRe
 all_last P [] x all = all.0
 all_last P (y ∷ ys) x all = all_last P ys x all.1
 
--- the wire part of a DATA chunk or of a SACK is of no other kind
+-- the wire part of a DATA chunk, of a SACK or of a FORWARD-TSN is of no other kind
 pub data_kind : (k : ChunkKind) (d : Data) → ((c : ChunkPayloadData) → k ≡ K.PayloadData c → ⊥) → wire_of k ≡ data_chunk d → ⊥
 data_kind (K.PayloadData c) d other e = other c refl
 data_kind (K.Init c) d other e = cc
@@ -61,11 +63,31 @@ sack_kind (K.Reconfig c) s other e = cc
 sack_kind (K.ForwardTsn c) s other e = cc
 sack_kind (K.IForwardTsn c) s other e = cc
 
+pub forward_tsn_kind : (k : ChunkKind) (f : ForwardTsn) → ((c : ChunkForwardTsn) → k ≡ K.ForwardTsn c → ⊥) → wire_of k ≡ forward_tsn_chunk f → ⊥
+forward_tsn_kind (K.ForwardTsn c) f other e = other c refl
+forward_tsn_kind (K.PayloadData c) f other e = cc
+forward_tsn_kind (K.Init c) f other e = cc
+forward_tsn_kind (K.SelectiveAck c) f other e = cc
+forward_tsn_kind (K.Heartbeat c) f other e = cc
+forward_tsn_kind (K.HeartbeatAck c) f other e = cc
+forward_tsn_kind (K.Abort c) f other e = cc
+forward_tsn_kind (K.Shutdown c) f other e = cc
+forward_tsn_kind (K.ShutdownAck c) f other e = cc
+forward_tsn_kind (K.Error c) f other e = cc
+forward_tsn_kind (K.CookieEcho c) f other e = cc
+forward_tsn_kind (K.CookieAck c) f other e = cc
+forward_tsn_kind (K.ShutdownComplete c) f other e = cc
+forward_tsn_kind (K.Reconfig c) f other e = cc
+forward_tsn_kind (K.IForwardTsn c) f other e = cc
+
 same_data : (c d : Data) → data_chunk c ≡ data_chunk d → c ≡ d
 same_data c d e = cc
 
 pub same_sack : (c s : Sack) → sack_chunk c ≡ sack_chunk s → c ≡ s
 same_sack c s e = cc
+
+pub same_forward_tsn : (c f : ForwardTsn) → forward_tsn_chunk c ≡ forward_tsn_chunk f → c ≡ f
+same_forward_tsn c f e = cc
 
 -- a DATA chunk as reading gives it, from its wire part
 pub fresh_data : (c : ChunkPayloadData) (d : Data) → IsFreshData c → data_chunk (data_of c) ≡ data_chunk d → c ≡ fresh d

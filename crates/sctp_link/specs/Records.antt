@@ -38,9 +38,10 @@ slot_record x =
 abbrev pub ends_of : GapAckBlock → ℕ × ℕ
 ends_of b = (b.start, b.end)
 
--- a datagram: one slot, or a SACK
+-- a datagram: one slot, a FORWARD-TSN or a SACK
 abbrev pub kind_record : Kind → W.Datagram
 kind_record (K.Data place) = W.Data (place ∷ [])
+kind_record (K.Forward upto messages) = W.Forward upto messages.items
 kind_record (K.Sack cumulative credit blocks duplicates) =
     W.Sack (record { cumulative = cumulative; credit = credit; blocks = map ends_of blocks.items; duplicates = duplicates.items })
 

@@ -18,6 +18,9 @@ reply_of V.Idle = R.Idle
 reply_of (V.Resent datagram) = R.Resent datagram
 reply_of (V.Expired stream bytes) = R.Expired stream bytes
 reply_of (V.Released stream bytes) = R.Released stream bytes
+reply_of (V.Skip datagram) = R.Skip datagram
+reply_of V.Skipped = R.Skipped
+reply_of V.Stale = R.Stale
 reply_of (V.Ack datagram) = R.Ack datagram
 reply_of V.New = R.New
 reply_of V.Repeat = R.Repeat
@@ -32,5 +35,4 @@ answer_of (Err refusal) = Err refusal
 -- the events that a link takes today
 abbrev pub IsBuilt : Event → Type 0
 IsBuilt (E.Late now) = ⊥
-IsBuilt (E.Skip upto messages) = ⊥
 IsBuilt _ = Unit {0}

@@ -4,8 +4,9 @@ ghost use Rattle.std.specs.Prelude.{◌≡◌, ◌≤◌, ◌+◌, ◌∷◌, []
 ghost use Rattle.sctp_base.specs.declared.error.Error.TheVariants.{ErrOutOfMemory};
 ghost use Rattle.sctp_chunks.specs.PayloadData.{Data, data_of};
 ghost use Rattle.sctp_chunks.specs.SelectiveAck.{Sack, sack_of};
+ghost use Rattle.sctp_chunks.specs.ForwardTsn.{ForwardTsn, forward_tsn_of};
 ghost use Rattle.sctp_chunks.specs.ChunkSet.{fresh};
-ghost use Rattle.sctp_chunks.specs.Wire.{Wire, data_chunk, sack_chunk, HasText};
+ghost use Rattle.sctp_chunks.specs.Wire.{Wire, data_chunk, sack_chunk, forward_tsn_chunk, HasText};
 ghost use Rattle.sctp_chunks.specs.Fits.{Canonical};
 ghost use Rattle.sctp_chunks.specs.Kind.{wire_of, IsFreshKind};
 ghost use Rattle.sctp_packets.specs.Packet.{ReadsPacket, packet_text};
@@ -14,6 +15,7 @@ ghost use Rattle.sctp_link.specs.Texts.{packet_with};
 use bytes::Bytes;
 use sctp_base::error::{Error, Result};
 use sctp_base::util::Checksum;
+use sctp_chunks::chunk::chunk_forward_tsn::ChunkForwardTsn;
 use sctp_chunks::chunk::chunk_kind::ChunkKind;
 use sctp_chunks::chunk::chunk_payload_data::ChunkPayloadData;
 use sctp_chunks::chunk::chunk_selective_ack::ChunkSelectiveAck;
@@ -79,6 +81,22 @@ pub fn read_sack<C: Checksum>(alloc: Global, raw: &Bytes, checksum: &C) -> Resul
 {
     match read_datagram(alloc, raw, checksum)? {
         ChunkKind::SelectiveAck(chunk) => Ok(chunk),
+        _ => unreachable!(),
+    }
+}
+
+/// Reads a datagram of one FORWARD-TSN.
+pub fn read_forward_tsn<C: Checksum>(
+    alloc: Global,
+    raw: &Bytes,
+    checksum: &C,
+) -> Result<ChunkForwardTsn>
+    requires { (f : ForwardTsn) × ReadsPacket (C.sum checksum.now) raw.now (packet_with (forward_tsn_chunk f ∷ [])) }
+    ensures chunk { (f : ForwardTsn) → ReadsPacket (C.sum checksum.now) raw.now (packet_with (forward_tsn_chunk f ∷ [])) → IfOk result (λ c. forward_tsn_of c ≡ f) }
+    ensures memory { IsOkUnless result ErrOutOfMemory }
+{
+    match read_datagram(alloc, raw, checksum)? {
+        ChunkKind::ForwardTsn(chunk) => Ok(chunk),
         _ => unreachable!(),
     }
 }

@@ -37,6 +37,10 @@ pub enum Reply {
         stream: u16,
         bytes: u64,
     },
+    /// The FORWARD-TSN's number.
+    Skip {
+        datagram: u64,
+    },
     Ack {
         datagram: u64,
     },
@@ -44,6 +48,10 @@ pub enum Reply {
     New,
     /// The datagram's TSN had arrived before.
     Repeat,
+    /// The FORWARD-TSN was past what had come, and was followed.
+    Skipped,
+    /// The FORWARD-TSN was not past what had come, and changed nothing.
+    Stale,
     /// How many bytes left what is in flight.
     Acked {
         bytes: u64,

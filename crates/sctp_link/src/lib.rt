@@ -6,4 +6,5 @@ pub mod event;
 pub mod link;
 mod open_stream;
 mod record;
+mod skipped;
 pub mod stream;

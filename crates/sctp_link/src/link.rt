@@ -8,9 +8,11 @@ mod acknowledged;
 mod acknowledging;
 mod expiring;
 pub mod lending;
+mod naming;
 mod open_streams;
 mod receiving;
 mod sending;
+mod skipping;
 mod streams;
 
 use self::open_streams::OpenStreams;
@@ -121,6 +123,8 @@ impl<C: Checksum + Drop> Link<C> {
     ///   its fragments 2^31 or more would have been accepted in all.
     /// - Resend: `NotInFlight`, where the TSN was not given out, is acknowledged, or its message is abandoned.
     /// - Abandon: `NotInFlight`, where the TSN was not given out or is acknowledged cumulatively.
+    /// - Skip: `SkipUnassigned`, where the TSN was not given out; `SkipNames`, where there are more names than fit a
+    ///   FORWARD-TSN, or one that is not an ordered message whose last slot is at or before the TSN's.
     /// - Arrive and Acked: `NoSuchDatagram`, where datagram k was not made, or is of the other kind.
     /// - Arrive: `SpanTooWide`, where stream sequence numbers could no longer be told apart (RFC 4960 6.5).
     /// - Each event that takes memory: `OutOfMemory`, where it was refused.
@@ -172,10 +176,7 @@ impl<C: Checksum + Drop> Link<C> {
             Event::Tail { now } => self.tail(now),
             Event::Late { now: _now } => unreachable!(),
             Event::Abandon { tsn } => self.abandon(tsn),
-            Event::Skip {
-                upto: _upto,
-                messages: _messages,
-            } => unreachable!(),
+            Event::Skip { upto, messages } => self.skip(upto, messages),
         }
     }
 
@@ -201,6 +202,7 @@ impl<C: Checksum + Drop> Link<C> {
             Event::Write { stream, bytes, .. } => self.refusal_write(*stream, bytes.len()),
             Event::Resend { tsn } => self.refusal_resend(*tsn),
             Event::Abandon { tsn } => self.refusal_abandon(*tsn),
+            Event::Skip { upto, messages } => self.refusal_skip(*upto, messages),
             Event::Arrive { k } => self.refusal_arrive(*k),
             Event::Acked { k } => self.refusal_acked(*k),
             Event::Read { stream } => self.refusal_unless_open(*stream),

@@ -5,9 +5,11 @@ ghost use Rattle.sctp_base.specs.declared.error.Error.TheVariants.{ErrOutOfMemor
 ghost use Rattle.sctp_chunks.specs.declared.chunk.chunk_payload_data.PayloadProtocolIdentifier.TheVariants.{Unknown};
 ghost use Rattle.sctp_model.specs.Messages.{is_dcep};
 ghost use Rattle.sctp_link.specs.OpenStreams.{with_mode};
+ghost use Rattle.sctp_link.specs.Skips.{skipped_stream, gone_to};
 ghost use Rattle.sctp_link.specs.declared.open_stream.OpenStream.{OpenStream};
 
 use crate::record::Message;
+use crate::skipped::Named;
 use crate::stream::StreamState;
 use bytes::Bytes;
 use sctp_base::error::Result;
@@ -15,6 +17,7 @@ use sctp_chunks::chunk::chunk_payload_data::{
     ChunkPayloadData, PayloadProtocolIdentifier, ReliabilityType,
 };
 use sctp_queues::chunks::Chunks;
+use sctp_queues::reassembly_queue::ReassemblyQueue;
 use std::alloc::Global;
 use std::collections::VecDeque;
 
@@ -182,6 +185,17 @@ impl OpenStream {
         self.count_read(ppi, len);
     }
 
+    /// A skip up to a TSN comes, which names so much of the stream (RFC 3758 3.6). It takes no memory.
+    pub fn skip(&mut self, named: Named, tsn: u32)
+        ensures { self.new ≡ skipped_stream named tsn self.old }
+    {
+        let queue = self.state.reassembly_queue_mut();
+        go_to(queue, named.end);
+        queue.forward_tsn_for_unordered(tsn);
+        self.next = self.next.max(named.end);
+        self.named = self.named.max(named.end);
+    }
+
     /// Counts a message that was read.
     pub fn count_read(&mut self, ppi: PayloadProtocolIdentifier, len: usize)
         ensures { self.new ≡ record self.old { state = with_read_stats ppi len self.old.state } }
@@ -190,6 +204,16 @@ impl OpenStream {
         stats.received(ppi, len);
         self.state.set_stats(stats);
     }
+}
+
+// Goes forward to the last message that a skip named, where it named one.
+fn go_to(queue: &mut ReassemblyQueue, end: u64)
+    ensures { queue.new ≡ gone_to end queue.old }
+{
+    if end == 0 {
+        return;
+    }
+    queue.forward_tsn_for_ordered(((end - 1) % 0x10000) as u16);
 }
 
 fn is_dcep(ppi: PayloadProtocolIdentifier) -> bool

@@ -44,6 +44,11 @@ pub enum Kind {
     Data {
         place: u64,
     },
+    /// A FORWARD-TSN up to a slot that names messages (RFC 3758 3.2).
+    Forward {
+        upto: u64,
+        messages: Vec<u64>,
+    },
     /// A SACK: how many slots it reports cumulatively, the credit, the gap blocks and the duplicates
     /// (RFC 4960 3.3.4).
     Sack {

@@ -47,6 +47,8 @@ pub mod InLine
 pub mod SlotsGoOn
 pub mod NoLarger
 pub mod SpanEnds
+pub mod SkipSpans
+pub mod LastSlot
 pub mod Sizes
 pub mod ReadOne
 pub mod ExpiredLists

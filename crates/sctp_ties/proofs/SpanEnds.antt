@@ -59,15 +59,15 @@ greatest-all : (x top : ℕ) (ys : List ℕ) → x ≤ top → ((y : ℕ) → li
 greatest-all x top [] le h = le
 greatest-all x top (y ∷ ys) le h = greatest-all (max x y) top ys (let z = h y (or-left (y == y) (list_any (λ z. z == y) ys) (same-yes y)) in omega (arith, z, le)) (λ z e. h z (or-right (y == z) (list_any (λ k. k == z) ys) e))
 
-least-all : (x low : ℕ) (ys : List ℕ) → low ≤ x → ((y : ℕ) → list_any (λ z. z == y) ys ≡ true → low ≤ y) → low ≤ least x ys
+pub least-all : (x low : ℕ) (ys : List ℕ) → low ≤ x → ((y : ℕ) → list_any (λ z. z == y) ys ≡ true → low ≤ y) → low ≤ least x ys
 least-all x low [] le h = le
 least-all x low (y ∷ ys) le h = least-all (min x y) low ys (let z = h y (or-left (y == y) (list_any (λ z. z == y) ys) (same-yes y)) in omega (arith, z, le)) (λ z e. h z (or-right (y == z) (list_any (λ k. k == z) ys) e))
 
-greatest-append : (x : ℕ) (xs ys : List ℕ) → greatest x (xs ++ ys) ≡ greatest (greatest x xs) ys
+pub greatest-append : (x : ℕ) (xs ys : List ℕ) → greatest x (xs ++ ys) ≡ greatest (greatest x xs) ys
 greatest-append x [] ys = refl
 greatest-append x (y ∷ xs) ys = greatest-append (max x y) xs ys
 
-least-append : (x : ℕ) (xs ys : List ℕ) → least x (xs ++ ys) ≡ least (least x xs) ys
+pub least-append : (x : ℕ) (xs ys : List ℕ) → least x (xs ++ ys) ≡ least (least x xs) ys
 least-append x [] ys = refl
 least-append x (y ∷ xs) ys = least-append (min x y) xs ys
 
@@ -303,7 +303,7 @@ greatest-back f p from (suc count) x j d rise e = step (p from) refl j e (λ y i
     step false h j e ih = ih x j e
 
 -- the messages held ascend in their indexes
-held-rise : (w : World) (s j k : ℕ) → is_held w s j ≡ true → is_held w s k ≡ true → j < k → index_of w j < index_of w k
+pub held-rise : (w : World) (s j k : ℕ) → is_held w s j ≡ true → is_held w s k ≡ true → j < k → index_of w j < index_of w k
 held-rise w s j k a b lt = Line.index-lt w s j k (held w s j a).on (held w s k b).on lt
 
 -- with nothing held both are the index expected next

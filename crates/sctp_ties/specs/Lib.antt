@@ -1,4 +1,5 @@
 pub mod Holds
+pub mod Naming
 pub mod Tied
 pub mod Amount
 pub mod Counts

@@ -32,6 +32,7 @@ impl<C: Checksum + Drop> Link<C> {
         }
         match self.network[k as usize].kind {
             Kind::Data { place: _place } => Some(LinkRefusal::NoSuchDatagram),
+            Kind::Forward { .. } => Some(LinkRefusal::NoSuchDatagram),
             Kind::Sack { .. } => None,
         }
     }

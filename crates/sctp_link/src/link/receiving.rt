@@ -7,6 +7,8 @@ ghost use Rattle.sctp_chunks.specs.declared.chunk.chunk_payload_data.ChunkPayloa
 ghost use Rattle.sctp_queues.specs.DataChunks.{chunk_before};
 ghost use Rattle.sctp_queues.specs.payload_queue.PayloadQueue.{with_chunks};
 ghost use Rattle.sctp_queues.specs.Window;
+ghost use Rattle.sctp_model.specs.Steps.{unless};
+ghost use Rattle.sctp_model.specs.declared.event.LinkRefusal.TheVariants.{SpanTooWide};
 
 use super::{Link, put};
 use crate::datagram::read_data;
@@ -32,25 +34,13 @@ impl<C: Checksum + Drop> Link<C> {
     pub(super) fn refusal_arrive(&self, k: u64) -> Option<LinkRefusal>
         ensures { result ≡ refusal_of self.now.world (E.Arrive k) }
     {
-        let Some(place) = self.data_at(k) else {
-            return Some(LinkRefusal::NoSuchDatagram);
-        };
-        if !self.span_fits(place) {
-            return Some(LinkRefusal::SpanTooWide);
-        }
-        None
-    }
-
-    // The place of the slot that datagram k carries.
-    fn data_at(&self, k: u64) -> Option<usize>
-        ensures { MatchOption result (is_for_receiver (slice_get self.now.world.network k) ≡ false) (λ place. slice_get self.now.world.network k ≡ Some (Data (place ∷ []))) }
-    {
         if k >= self.network.len() as u64 {
-            return None;
+            return Some(LinkRefusal::NoSuchDatagram);
         }
-        match self.network[k as usize].kind {
-            Kind::Data { place } => Some(place as usize),
-            Kind::Sack { .. } => None,
+        match &self.network[k as usize].kind {
+            Kind::Data { place } => unless_fits(self.span_fits(*place as usize)),
+            Kind::Forward { upto, messages } => unless_fits(self.skip_fits(*upto, messages)),
+            Kind::Sack { .. } => Some(LinkRefusal::NoSuchDatagram),
         }
     }
 
@@ -71,7 +61,7 @@ impl<C: Checksum + Drop> Link<C> {
     }
 
     // The least and the greatest of the index expected next and those of the messages held: they stand at the ends of the queue.
-    fn ends(&self, stream: u16) -> (u64, u64)
+    pub(super) fn ends(&self, stream: u16) -> (u64, u64)
         requires { is_open self.now.world stream ≡ true }
         ensures low { result.0 ≡ least (next_of self.now.world stream) (map (index_of self.now.world) (held_on self.now.world stream)) }
         ensures high { result.1 ≡ greatest (next_of self.now.world stream) (map (index_of self.now.world) (held_on self.now.world stream)) }
@@ -93,7 +83,7 @@ impl<C: Checksum + Drop> Link<C> {
     }
 
     // The index of the message whose fragments these are.
-    fn index_of(&self, set: &Fragments) -> u64
+    pub(super) fn index_of(&self, set: &Fragments) -> u64
         requires { (s n : ℕ) × (is_held self.now.world s n ≡ true) × (set.now ≡ set_of self.now.world n) }
         ensures { (s n : ℕ) → is_held self.now.world s n ≡ true → set.now ≡ set_of self.now.world n → result ≡ index_of self.now.world n }
     {
@@ -117,7 +107,23 @@ impl<C: Checksum + Drop> Link<C> {
         ensures err { OnErr result (self.new.world ≡ self.old.world) }
         ensures memory { IsOkUnless result ErrOutOfMemory }
     {
-        let (place, chunk) = self.receive(k)?;
+        match self.network[k as usize].kind {
+            Kind::Data { place } => self.arrive_data(k, place as usize),
+            Kind::Forward { upto, .. } => self.arrive_skip(k, upto),
+            Kind::Sack { .. } => unreachable!(),
+        }
+    }
+
+    // Takes the DATA chunk of datagram k, that of the slot at a place.
+    fn arrive_data(&mut self, k: u64, place: usize) -> Result<Reply>
+        requires none { refusal_of self.old.world (E.Arrive k) ≡ None }
+        requires lies { slice_get self.old.world.network k ≡ Some (Data (place ∷ [])) }
+        ensures ok { IfOk result (λ reply. IsRight self.old.world (E.Arrive k) (reply_of reply) self.new.world) }
+        ensures checksum { self.new.checksum ≡ self.old.checksum }
+        ensures err { OnErr result (self.new.world ≡ self.old.world) }
+        ensures memory { IsOkUnless result ErrOutOfMemory }
+    {
+        let chunk = self.receive(k, place)?;
         if self.is_new(place) {
             self.keep(place, chunk)?;
             return Ok(Reply::New);
@@ -126,19 +132,14 @@ impl<C: Checksum + Drop> Link<C> {
         Ok(Reply::Repeat)
     }
 
-    // Reads the bytes of datagram k: its slot, and the chunk.
-    fn receive(&self, k: u64) -> Result<(usize, ChunkPayloadData)>
-        requires { is_for_receiver (slice_get self.now.world.network k) ≡ true }
-        ensures place { IfOk result (λ r. slice_get self.now.world.network k ≡ Some (Data (r.0 ∷ []))) }
-        ensures made { IfOk result (λ r. r.0 < length self.now.world.slots) }
-        ensures chunk { IfOk result (λ r. r.1 ≡ chunk_at self.now.world r.0) }
+    // Reads the bytes of datagram k, which has the DATA chunk of the slot at a place.
+    fn receive(&self, k: u64, place: usize) -> Result<ChunkPayloadData>
+        requires { slice_get self.now.world.network k ≡ Some (Data (place ∷ [])) }
+        ensures made { IfOk result (λ c. place < length self.now.world.slots) }
+        ensures chunk { IfOk result (λ c. c ≡ chunk_at self.now.world place) }
         ensures memory { IsOkUnless result ErrOutOfMemory }
     {
-        let Some(place) = self.data_at(k) else {
-            unreachable!()
-        };
-        let chunk = read_data(self.alloc, &self.network[k as usize].bytes, &self.checksum)?;
-        Ok((place, chunk))
+        read_data(self.alloc, &self.network[k as usize].bytes, &self.checksum)
     }
 
     // Notes a slot that came again.
@@ -208,6 +209,17 @@ impl<C: Checksum + Drop> Link<C> {
     }
 }
 
+// The refusal of what fails the span test.
+fn unless_fits(fits: bool) -> Option<LinkRefusal>
+    ensures { result ≡ unless fits SpanTooWide None }
+{
+    if fits {
+        None
+    } else {
+        Some(LinkRefusal::SpanTooWide)
+    }
+}
+
 // The TSN of the first fragment of a message.
 fn first_tsn(chunks: &Chunks) -> u32
     requires { 0 < length chunks.now.set.chunks }
@@ -241,7 +253,7 @@ fn without_data(chunk: ChunkPayloadData) -> ChunkPayloadData
 }
 
 // Moves the cumulative TSN over the chunks that stand next to it, which leave the filter (RFC 4960 6.2).
-fn advance(filter: &mut PayloadQueue, cumulative: u32) -> u32
+pub(super) fn advance(filter: &mut PayloadQueue, cumulative: u32) -> u32
     ensures moved { advanced cumulative (map (λ c. c.tsn) filter.old.chunks) ≡ record { cum = result; held = map (λ c. c.tsn) filter.new.chunks } }
     ensures rest { filter.new ≡ with_chunks filter.old filter.new.chunks }
 {

@@ -1,4 +1,4 @@
-use Rattle.std.proofs.Common.{◌≡◌, ◌<◌, ◌+◌, ◌^◌, ◌++◌, Bool, true, false, ap, sym, ◌∙◌, Some, None, refl, rules, arith, length, subst, ℕ}
+use Rattle.std.proofs.Common.{◌≡◌, ◌<◌, ◌+◌, ◌^◌, ◌++◌, Bool, true, false, ap, sym, ◌∙◌, None, refl, rules, arith, length, subst, ℕ}
 use Rattle.std.specs.Prelude.{slice_index_or}
 use Rattle.std.specs.Option.{option_map}
 use Rattle.sctp_lists.proofs.Getting.{length-mapped}

@@ -1,4 +1,3 @@
-use Rattle.std.proofs.Common.{ap, sym, ◌∙◌}
 use Rattle.sctp_link.specs.OpenStreams.{expired_on}
 use Rattle.sctp_link.proofs.Places.{changed-found, changed-none}
 use Rattle.sctp_link.proofs.link.open_streams.OpenStreams.expire.Goals as goal

@@ -1,0 +1,54 @@
+use Rattle.std.proofs.Common.{◌≡◌, ℕ, ◌≤◌, true, List, Some, refl, ap, sym, ◌∙◌, arith}
+use Rattle.std.specs.Prelude.{slice_get, if◌then◌else◌}
+use Rattle.std.proofs.lemmas.Bool.Decides.{nat_tests}
+use Rattle.sctp_chunks.specs.ForwardTsn.{ForwardTsn}
+use Rattle.sctp_model.specs.World.{Forward}
+use Rattle.sctp_model.specs.Receiver.{cumulative}
+use Rattle.sctp_model.specs.Changes.{skip_counts, datagram_received}
+use Rattle.sctp_model.specs.Steps.{arrive_reply}
+use Rattle.sctp_model.specs.Reply as R
+use Rattle.sctp_link.specs.Fields.{world_in, state_in}
+use Rattle.sctp_link.proofs.Reporting.{cumulative-place}
+use Rattle.sctp_link.proofs.SkipComes.{wire_skip, reads-skip}
+use Rattle.sctp_link.proofs.link.Link.arrive_skip.Goals as goal
+
+pub read_forward_tsn-requires : goal.read_forward_tsn-requires
+read_forward_tsn-requires g c =
+    let w = world_in c.self.inside in
+    let sum = g.C.Checksum.sum c.self.inside.checksum in
+    let x = state_in c.self.inside in
+    let lies : (names : List ℕ) × (slice_get w.network c.args.k ≡ Some (Forward c.args.upto names)) = rw (← c.self.view_is) at c.requires.lies in
+    (wire_skip w c.args.upto lies.0, reads-skip sum x c.args.k c.args.upto lies.0 c.self.inside.network.items c.index.result.now c.self.invariant refl refl lies.1 c.index.ensures)
+
+pub follow-requires-clause-tsn : goal.follow-requires-clause-tsn
+follow-requires-clause-tsn g c =
+    let w = world_in c.self.inside in
+    let sum = g.C.Checksum.sum c.self.inside.checksum in
+    let x = state_in c.self.inside in
+    let lies : (names : List ℕ) × (slice_get w.network c.args.k ≡ Some (Forward c.args.upto names)) = rw (← c.self.view_is) at c.requires.lies in
+    let says = c.in_ok-chunk.ensures.chunk (wire_skip w c.args.upto lies.0) (reads-skip sum x c.args.k c.args.upto lies.0 c.self.inside.network.items c.index.result.now c.self.invariant refl refl lies.1 c.index.ensures) in
+    rw (← c.self.view_is) (ap (λ (f : ForwardTsn). f.new_cumulative_tsn) says)
+
+pub follow-requires-clause-counts : goal.follow-requires-clause-counts
+follow-requires-clause-counts g c =
+    let w = world_in c.self.inside in
+    let sum = g.C.Checksum.sum c.self.inside.checksum in
+    let x = state_in c.self.inside in
+    let past : cumulative w ≤ c.args.upto = omega (arith, c.if-cumulative-upto.false, c.count_of-cumulative.ensures ∙ cumulative-place sum x c.self.invariant 0) in
+    let counted : skip_counts w c.args.upto ≡ true = grind (arith, nat_tests) in
+    rw (← c.self.view_is) counted
+
+pub returns-clause-ok : goal.returns-clause-ok
+returns-clause-ok g c =
+    let w = world_in c.self.inside in
+    let sum = g.C.Checksum.sum c.self.inside.checksum in
+    let x = state_in c.self.inside in
+    let past : cumulative w ≤ c.args.upto = omega (arith, c.if-cumulative-upto.false, c.count_of-cumulative.ensures ∙ cumulative-place sum x c.self.invariant 0) in
+    let counted : skip_counts w c.args.upto ≡ true = grind (arith, nat_tests) in
+    let v = c.args.self.now.world in
+    let counts : skip_counts v c.args.upto ≡ true = rw (← c.self.view_is) counted in
+    let lies = c.requires.lies in
+    record {
+      right = sym (ap (arrive_reply v) lies.1 ∙ ap (λ b. if b then R.Skipped else R.Stale) counts);
+      moves = c.follow.ensures.followed lies.0 lies.1 ∙ sym (ap (datagram_received v) lies.1);
+    }

@@ -1,0 +1,6 @@
+use Rattle.std.proofs.Common.{◌≡◌, ℕ, ◌<◌, false}
+use Rattle.sctp_model.specs.Messages.{belongs_to}
+use Rattle.sctp_link.proofs.link.Link.goes_past.Given as goal
+
+abbrev pub invariant-loop-later : goal.invariant-loop-later
+invariant-loop-later g l = (p : ℕ) → l.place < p → p < l.later → belongs_to l.self.world l.number p ≡ false

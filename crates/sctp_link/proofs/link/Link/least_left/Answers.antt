@@ -1,0 +1,105 @@
+use Rattle.std.proofs.Common.{◌≡◌, ℕ, ap, sym, ◌∙◌, ◌<◌, true, false, Some, None, refl, arith, length}
+use Rattle.std.specs.Prelude.{find, min, slice_index_or, if◌then◌else◌}
+use Rattle.std.specs.VecDeque.{deque_len}
+use Rattle.sctp_lists.proofs.More.{not_both}
+use Rattle.sctp_queues.specs.reassembly_queue.Fragments.{is_complete}
+use Rattle.sctp_model.specs.Messages.{is_open, index_of}
+use Rattle.sctp_model.specs.Receiver.{held_on, is_held, is_whole}
+use Rattle.sctp_model.specs.Queues.{set_of}
+use Rattle.sctp_ties.specs.Naming.{min_with}
+use Rattle.sctp_link.specs.declared.open_stream.OpenStream.{OpenStream}
+use Rattle.sctp_link.specs.Fields.{world_in, state_in}
+use Rattle.sctp_link.specs.Linked.{has_number}
+use Rattle.sctp_link.proofs.Lookups.{none-open}
+use Rattle.sctp_link.proofs.Hears.{set-held, none-there}
+use Rattle.sctp_link.proofs.SkipComes.{whole-set, first-at, first-none, stream-some}
+use Rattle.sctp_link.proofs.link.Link.least_left.Goals as goal
+
+pub unreachable-requires : goal.unreachable-requires
+unreachable-requires g c =
+    let w = world_in c.self.inside in
+    let s = c.args.stream in
+    let o : is_open w s ≡ true = rw (← c.self.view_is) at c.requires in
+    not_both (sym (none-open w s c.self.inside.open_streams.items.items refl (c.in_default.ensures)) ∙ o)
+
+pub returns-in_default-front : goal.returns-in_default-front
+returns-in_default-front g c =
+    let w = world_in c.self.inside in
+    let sum = g.C.Checksum.sum c.self.inside.checksum in
+    let x = state_in c.self.inside in
+    let s = c.args.stream in
+    let open_streams = c.self.inside.open_streams.items.items in
+    let at = c.in-Some.at in
+    let d = c.index-open_stream.result.now in
+    let lt : at < length open_streams = c.in-Some.ensures.0 in
+    let found : find (has_number s) open_streams ≡ Some (slice_index_or open_streams at d) = c.in-Some.ensures.1 d in
+    let was = c.index-open_stream.ensures in
+    let held = c.ordered-held.ensures ∙ ap (λ q. q.held.ordered) c.reassembly_queue.ensures ∙ ap (λ (l : OpenStream). l.state.reassembly_queue.held.ordered) was in
+    let empty : length (slice_index_or open_streams at d).state.reassembly_queue.held.ordered ≡ 0 = omega (arith, ap length held, none-there (deque_len c.ordered-held.result.now) c.in_default-front.ensures.variant.1) in
+    rw (← c.self.view_is) (first-none sum x c.self.invariant at s d lt found empty c.args.low)
+
+pub returns-then-not-is_complete : goal.returns-then-not-is_complete
+returns-then-not-is_complete g c =
+    let w = world_in c.self.inside in
+    let sum = g.C.Checksum.sum c.self.inside.checksum in
+    let x = state_in c.self.inside in
+    let s = c.args.stream in
+    let open_streams = c.self.inside.open_streams.items.items in
+    let at = c.in-Some.at in
+    let d = c.index-open_stream.result.now in
+    let lt : at < length open_streams = c.in-Some.ensures.0 in
+    let found : find (has_number s) open_streams ≡ Some (slice_index_or open_streams at d) = c.in-Some.ensures.1 d in
+    let was = c.index-open_stream.ensures in
+    let held = c.ordered-held.ensures ∙ ap (λ q. q.held.ordered) c.reassembly_queue.ensures ∙ ap (λ (l : OpenStream). l.state.reassembly_queue.held.ordered) was in
+    let first = c.in-Some-front.first.now in
+    let some : 0 < length (slice_index_or open_streams at d).state.reassembly_queue.held.ordered = omega (arith, ap length held, c.in-Some-front.ensures.variant.0 refl) in
+    let h = set-held sum x c.self.invariant at s d lt found 0 first some in
+    let is = c.in-Some-front.ensures.lookup ∙ ap (λ is. slice_index_or is 0 first) held ∙ h.1 in
+    let count = stream-some sum x c.self.invariant at s d lt found some in
+    let whole = whole-set sum x c.self.invariant s (slice_index_or (held_on w s) 0 0) first h.0 is in
+    let partial : is_complete first.chunks ≡ false = sym c.is_complete.ensures ∙ c.if-not-is_complete.true in
+    rw (← c.self.view_is) (ap (λ o. min_with o c.args.low) (sym (first-at w s count ∙ ap (λ b. if b then Some (index_of w (slice_index_or (held_on w s) 0 0)) else None) (sym whole ∙ partial))))
+
+pub index_of-requires : goal.index_of-requires
+index_of-requires g c =
+    let w = world_in c.self.inside in
+    let sum = g.C.Checksum.sum c.self.inside.checksum in
+    let x = state_in c.self.inside in
+    let s = c.args.stream in
+    let open_streams = c.self.inside.open_streams.items.items in
+    let at = c.in-Some.at in
+    let d = c.index-open_stream.result.now in
+    let lt : at < length open_streams = c.in-Some.ensures.0 in
+    let found : find (has_number s) open_streams ≡ Some (slice_index_or open_streams at d) = c.in-Some.ensures.1 d in
+    let was = c.index-open_stream.ensures in
+    let held = c.ordered-held.ensures ∙ ap (λ q. q.held.ordered) c.reassembly_queue.ensures ∙ ap (λ (l : OpenStream). l.state.reassembly_queue.held.ordered) was in
+    let first = c.in-Some-front.first.now in
+    let some : 0 < length (slice_index_or open_streams at d).state.reassembly_queue.held.ordered = omega (arith, ap length held, c.in-Some-front.ensures.variant.0 refl) in
+    let h = set-held sum x c.self.invariant at s d lt found 0 first some in
+    let is = c.in-Some-front.ensures.lookup ∙ ap (λ is. slice_index_or is 0 first) held ∙ h.1 in
+    rw (← c.self.view_is) (s, slice_index_or (held_on w s) 0 0, h.0, is)
+
+pub returns : goal.returns
+returns g c =
+    let w = world_in c.self.inside in
+    let sum = g.C.Checksum.sum c.self.inside.checksum in
+    let x = state_in c.self.inside in
+    let s = c.args.stream in
+    let open_streams = c.self.inside.open_streams.items.items in
+    let at = c.in-Some.at in
+    let d = c.index-open_stream.result.now in
+    let lt : at < length open_streams = c.in-Some.ensures.0 in
+    let found : find (has_number s) open_streams ≡ Some (slice_index_or open_streams at d) = c.in-Some.ensures.1 d in
+    let was = c.index-open_stream.ensures in
+    let held = c.ordered-held.ensures ∙ ap (λ q. q.held.ordered) c.reassembly_queue.ensures ∙ ap (λ (l : OpenStream). l.state.reassembly_queue.held.ordered) was in
+    let first = c.in-Some-front.first.now in
+    let some : 0 < length (slice_index_or open_streams at d).state.reassembly_queue.held.ordered = omega (arith, ap length held, c.in-Some-front.ensures.variant.0 refl) in
+    let h = set-held sum x c.self.invariant at s d lt found 0 first some in
+    let is = c.in-Some-front.ensures.lookup ∙ ap (λ is. slice_index_or is 0 first) held ∙ h.1 in
+    let count = stream-some sum x c.self.invariant at s d lt found some in
+    let whole = whole-set sum x c.self.invariant s (slice_index_or (held_on w s) 0 0) first h.0 is in
+    let complete : is_complete first.chunks ≡ true = sym c.is_complete.ensures ∙ c.if-not-is_complete.false in
+    let told : (s n : ℕ) → is_held w s n ≡ true → first ≡ set_of w n → c.index_of.result ≡ index_of w n = rw (← c.self.view_is) at c.index_of.ensures in
+    rw (← c.self.view_is)
+    (c.min.ensures ∙ ap (min c.args.low) (told s (slice_index_or (held_on w s) 0 0) h.0 is)
+    ∙ ap (λ o. min_with o c.args.low) (sym (first-at w s count ∙ ap (λ b. if b then Some (index_of w (slice_index_or (held_on w s) 0 0)) else None) (sym whole ∙ complete))))

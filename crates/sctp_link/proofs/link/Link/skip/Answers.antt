@@ -1,0 +1,48 @@
+use Rattle.std.proofs.Common.{◌≡◌, ◌∷◌, ◌++◌, [], rules, None, refl, ap, sym, ◌∙◌, map, arith}
+use Rattle.sctp_lists.proofs.Getting.{length-mapped}
+use Rattle.sctp_chunks.specs.ForwardTsn.{ForwardTsn}
+use Rattle.sctp_model.specs.declared.event.Event.TheVariants as E
+use Rattle.sctp_model.specs.World.{Forward}
+use Rattle.sctp_model.specs.Messages.{place_of, tsn_of}
+use Rattle.sctp_model.specs.Changes.{with_datagram}
+use Rattle.sctp_model.specs.Steps.{skip_refusal}
+use Rattle.sctp_link.specs.declared.record.Kind.TheVariants as K
+use Rattle.sctp_link.specs.declared.record.Datagram.{Datagram}
+use Rattle.sctp_link.specs.Records.{datagram_record}
+use Rattle.sctp_link.specs.Skips.{pair_in}
+use Rattle.sctp_link.specs.Fields.{state_in, world_in}
+use Rattle.sctp_link.proofs.Frames.{moved}
+use Rattle.sctp_link.proofs.Outgoing.{network-more, bytes-more}
+use Rattle.sctp_link.proofs.SkipMade.{pairs-short, skip-says, linked-made}
+use Rattle.sctp_link.proofs.link.Link.skip.Goals as goal
+
+pub write_datagram-requires-clause-text : goal.write_datagram-requires-clause-text
+write_datagram-requires-clause-text g c =
+    let w = world_in c.self.inside in
+    let sum = g.C.Checksum.sum c.self.inside.checksum in
+    let x = state_in c.self.inside in
+    let ms = c.self.inside.messages.items in
+    let names = c.args.messages.items in
+    let place = place_of w c.args.upto in
+    let ok : skip_refusal w place names ≡ None = rw (← c.self.view_is) at c.requires in
+    let pairs : c.in_ok-streams.streams.items ≡ map (pair_in ms) names = c.in_ok-streams.ensures.pairs ∙ ap (λ qs. map (pair_in qs) c.deref-2.result.now) c.deref.ensures.value ∙ ap (map (pair_in ms)) c.deref-2.ensures.value in
+    let f : ForwardTsn = record { new_cumulative_tsn = c.args.upto; streams = c.in_ok-streams.streams.items } in
+    (tt, pairs-short sum x c.self.invariant place names ok ms refl refl f pairs)
+
+pub invariant_of-self-2 : goal.invariant_of-self-2
+invariant_of-self-2 g c =
+    let w = world_in c.self.inside in
+    let sum = g.C.Checksum.sum c.self.inside.checksum in
+    let x = state_in c.self.inside in
+    let ms = c.self.inside.messages.items in
+    let names = c.args.messages.items in
+    let place = place_of w c.args.upto in
+    let ok : skip_refusal w place names ≡ None = rw (← c.self.view_is) at c.requires in
+    let pairs : c.in_ok-streams.streams.items ≡ map (pair_in ms) names = c.in_ok-streams.ensures.pairs ∙ ap (λ qs. map (pair_in qs) c.deref-2.result.now) c.deref.ensures.value ∙ ap (map (pair_in ms)) c.deref-2.ensures.value in
+    let f : ForwardTsn = record { new_cumulative_tsn = c.args.upto; streams = c.in_ok-streams.streams.items } in
+    let own : c.args.upto ≡ tsn_of w place = omega (arith, c.self.invariant.setup.first, c.ranges.upto.fits) in
+    let more : c.put.new.items.items ≡ c.self.inside.network.items ++ (let d : Datagram = record { kind = K.Forward place c.args.messages; bytes = c.in_ok-bytes.bytes } in d) ∷ [] = search rules in
+    let network = network-more c.self.inside.network.items c.put.new.items.items (K.Forward place c.args.messages) c.in_ok-bytes.bytes more in
+    let bytes = bytes-more c.self.inside.network.items c.put.new.items.items (K.Forward place c.args.messages) c.in_ok-bytes.bytes more in
+    moved _ _ (with_datagram w (Forward place names)) (ap (λ ds. record w { network = ds }) network)
+    (rw bytes (linked-made sum x c.self.invariant place names ok f (skip-says sum x c.self.invariant place names ok ms refl refl f own pairs) c.in_ok-bytes.bytes (E.Skip c.args.upto c.args.messages) ok refl c.in_ok-bytes.ensures.text c.in_ok-bytes.ensures.reads (length-mapped (λ (d : Datagram). d.bytes) c.self.inside.network.items ∙ sym (length-mapped datagram_record c.self.inside.network.items))))

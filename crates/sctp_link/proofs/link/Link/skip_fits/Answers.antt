@@ -1,0 +1,30 @@
+use Rattle.std.proofs.Common.{◌≡◌, ◌<◌, ◌≤◌, true, false, sym, ◌∙◌, arith}
+use Rattle.std.specs.List.{list_all}
+use Rattle.std.proofs.lemmas.Bool.Decides.{nat_tests}
+use Rattle.sctp_model.specs.Changes.{skip_counts}
+use Rattle.sctp_model.specs.Receiver.{cumulative}
+use Rattle.sctp_ties.specs.Naming.{names_fit}
+use Rattle.sctp_ties.proofs.SkipSpans.{stale-fits}
+use Rattle.sctp_link.specs.Fields.{world_in, state_in}
+use Rattle.sctp_link.proofs.Facts.{facts}
+use Rattle.sctp_link.proofs.Reporting.{cumulative-place}
+use Rattle.sctp_link.proofs.SkipComes.{all-fit}
+use Rattle.sctp_link.proofs.link.Link.skip_fits.Goals as goal
+
+pub returns-then-cumulative-upto : goal.returns-then-cumulative-upto
+returns-then-cumulative-upto g c =
+    let w = world_in c.self.inside in
+    let sum = g.C.Checksum.sum c.self.inside.checksum in
+    let x = state_in c.self.inside in
+    let past : c.args.upto < cumulative w = omega (arith, c.if-cumulative-upto.true, c.count_of-cumulative.ensures ∙ cumulative-place sum x c.self.invariant 0) in
+    let stale : skip_counts w c.args.upto ≡ false = grind (arith, nat_tests) in
+    rw (← c.self.view_is) (sym (stale-fits w c.args.upto c.args.names.now stale (facts sum x c.self.invariant).spans))
+
+pub returns : goal.returns
+returns g c =
+    let w = world_in c.self.inside in
+    let sum = g.C.Checksum.sum c.self.inside.checksum in
+    let x = state_in c.self.inside in
+    let past : cumulative w ≤ c.args.upto = omega (arith, c.if-cumulative-upto.false, c.count_of-cumulative.ensures ∙ cumulative-place sum x c.self.invariant 0) in
+    let all : c.names_fit.result ≡ list_all (λ r. names_fit w r.stream c.args.names.now) w.streams = rw (← c.self.view_is) at c.names_fit.ensures in
+    rw (← c.self.view_is) (all ∙ all-fit sum x c.self.invariant c.args.upto c.args.names.now past)

@@ -1,0 +1,6 @@
+use Rattle.std.proofs.Common.{◌≡◌, map, take}
+use Rattle.sctp_link.specs.Skips.{pair_in}
+use Rattle.sctp_link.proofs.skipped.pairs_of.Given as goal
+
+abbrev pub invariant-loop-number : goal.invariant-loop-number
+invariant-loop-number l = l.pairs.items ≡ map (pair_in l.messages) (take l.number-index l.names)

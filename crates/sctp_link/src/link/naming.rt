@@ -1,0 +1,121 @@
+//! The FORWARD-TSN that a link makes (RFC 3758 3.2).
+
+ghost use Rattle.std.specs.Prelude.{◌≡◌, ◌<◌, ◌≤◌, ◌+◌, ◌-◌, ◌^◌, ◌∷◌, ◌++◌, ℕ, [], true, false, not, None, Some, OnErr, IfOk, IsOkUnless, length, nat_le};
+ghost use Rattle.std.specs.List.{list_all};
+ghost use Rattle.sctp_base.specs.declared.error.Error.TheVariants.{ErrOutOfMemory};
+
+use super::streams::fragments_in;
+use super::{Link, put};
+use crate::datagram::write_datagram;
+use crate::event::{LinkRefusal, Reply};
+use crate::record::{Datagram, Kind};
+use crate::skipped::pairs_of;
+use sctp_base::error::Result;
+use sctp_base::util::Checksum;
+use sctp_chunks::chunk::chunk_forward_tsn::ChunkForwardTsn;
+use sctp_chunks::chunk::chunk_kind::ChunkKind;
+
+// The greatest count of names in a FORWARD-TSN that fits its length.
+const MAX_NAMES: usize = 16381;
+
+impl<C: Checksum + Drop> Link<C> {
+    ghost use Rattle.sctp_model.specs.Messages.{place_of, belongs_to, slots_where};
+    ghost use Rattle.sctp_model.specs.Steps.{IsRight, refusal_of, skip_refusal, can_name, is_ended};
+    ghost use Rattle.sctp_model.specs.declared.event.Event.TheVariants as E;
+    ghost use Rattle.sctp_link.specs.Replies.{reply_of};
+
+    pub(super) fn refusal_skip(&self, upto: u32, messages: &[u64]) -> Option<LinkRefusal>
+        ensures { result ≡ skip_refusal self.now.world (place_of self.now.world upto) messages.now }
+    {
+        let place = upto.wrapping_sub(self.first_tsn) as usize;
+        if place >= self.slots.len() {
+            return Some(LinkRefusal::SkipUnassigned);
+        }
+        if messages.len() > MAX_NAMES {
+            return Some(LinkRefusal::SkipNames);
+        }
+        if !self.can_name_each(place, messages) {
+            return Some(LinkRefusal::SkipNames);
+        }
+        None
+    }
+
+    // Whether a skip up to a slot can name each of these messages.
+    fn can_name_each(&self, place: usize, messages: &[u64]) -> bool
+        requires { place < length self.now.world.slots }
+        ensures { result ≡ list_all (can_name self.now.world place) messages.now }
+    {
+        for at in 0..messages.len() {
+            if !self.can_name(place, messages[at]) {
+                return false;
+            }
+        }
+        true
+    }
+
+    // Whether a skip up to a slot can name a message: an ordered one whose last slot is at or before it.
+    fn can_name(&self, place: usize, number: u64) -> bool
+        requires { place < length self.now.world.slots }
+        ensures { result ≡ can_name self.now.world place number }
+    {
+        if number >= self.messages.len() as u64 {
+            return false;
+        }
+        let message = &self.messages[number as usize];
+        if !message.ordered {
+            return false;
+        }
+        if message.expired {
+            return false;
+        }
+        if !self.is_ended(number) {
+            return false;
+        }
+        !self.goes_past(place, number)
+    }
+
+    // Whether all of a message has slots, or it was abandoned.
+    fn is_ended(&self, number: u64) -> bool
+        requires { number < length self.now.world.messages }
+        ensures { result ≡ is_ended self.now.world number }
+    {
+        let message = &self.messages[number as usize];
+        let count = fragments_in(message.bytes.len(), self.fragment_size as usize);
+        message.abandoned || message.sent == count as u64
+    }
+
+    // Whether a message has a slot past this one.
+    fn goes_past(&self, place: usize, number: u64) -> bool
+        requires { place < length self.now.world.slots }
+        ensures { result ≡ not (list_all (λ p. nat_le p place) (slots_where self.now.world (belongs_to self.now.world number))) }
+    {
+        let count = self.slots.len();
+        for later in place + 1..count {
+            if self.slots[later].message == number {
+                return true;
+            }
+        }
+        false
+    }
+
+    pub(super) fn skip(&mut self, upto: u32, messages: Vec<u64>) -> Result<Reply>
+        requires { skip_refusal self.old.world (place_of self.old.world upto) messages.items ≡ None }
+        ensures ok { IfOk result (λ reply. IsRight self.old.world (E.Skip upto messages) (reply_of reply) self.new.world) }
+        ensures checksum { self.new.checksum ≡ self.old.checksum }
+        ensures err { OnErr result (self.new.world ≡ self.old.world) }
+        ensures memory { IsOkUnless result ErrOutOfMemory }
+    {
+        let streams = pairs_of(self.alloc, &self.messages, &messages)?;
+        let chunk = ChunkForwardTsn {
+            new_cumulative_tsn: upto,
+            streams,
+        };
+        let bytes = write_datagram(self.alloc, ChunkKind::ForwardTsn(chunk), &self.checksum)?;
+        self.network.reserve(1)?;
+        let upto = upto.wrapping_sub(self.first_tsn) as u64;
+        let datagram = self.network.len() as u64;
+        let kind = Kind::Forward { upto, messages };
+        put(&mut self.network, Datagram { kind, bytes });
+        Ok(Reply::Skip { datagram })
+    }
+}

@@ -1,0 +1,128 @@
+//! What the arrival of a FORWARD-TSN makes of the receiver of a link (RFC 3758 3.6).
+
+ghost use Rattle.std.specs.Prelude.{◌≡◌, ◌<◌, ◌≤◌, ◌+◌, ◌-◌, ◌%◌, ◌^◌, ◌∷◌, ℕ, List, true, None, Some, OnErr, IfOk, IsOkUnless, length, slice_get};
+ghost use Rattle.std.specs.List.{list_all};
+ghost use Rattle.sctp_base.specs.declared.error.Error.TheVariants.{ErrOutOfMemory};
+
+use super::Link;
+use super::receiving::advance;
+use crate::datagram::read_forward_tsn;
+use crate::event::Reply;
+use crate::record::Kind;
+use crate::skipped::{named_on, skip_streams};
+use sctp_base::error::Result;
+use sctp_base::util::Checksum;
+
+impl<C: Checksum + Drop> Link<C> {
+    ghost use Rattle.sctp_model.specs.World.{Forward, StreamRecord};
+    ghost use Rattle.sctp_model.specs.Messages.{is_open, tsn_of};
+    ghost use Rattle.sctp_model.specs.Receiver.{held_on};
+    ghost use Rattle.sctp_model.specs.Changes.{skip_counts, skip_received};
+    ghost use Rattle.sctp_model.specs.Steps.{IsRight, refusal_of, arrival_fits};
+    ghost use Rattle.sctp_model.specs.declared.event.Event.TheVariants as E;
+    ghost use Rattle.sctp_ties.specs.Naming.{names_fit, whole_first, min_with};
+    ghost use Rattle.sctp_link.specs.Replies.{reply_of};
+
+    // Whether stream sequence numbers can be told apart before a skip and after it (RFC 4960 6.5).
+    pub(super) fn skip_fits(&self, upto: u64, names: &[u64]) -> bool
+        requires { (k : ℕ) × (slice_get self.now.world.network k ≡ Some (Forward upto names.now)) }
+        ensures { result ≡ arrival_fits self.now.world (Some (Forward upto names.now)) }
+    {
+        let cumulative = count_of(self.cumulative_tsn, self.first_tsn);
+        if cumulative > upto {
+            return true;
+        }
+        self.names_fit(upto, names)
+    }
+
+    // So on each open stream.
+    fn names_fit(&self, upto: u64, names: &[u64]) -> bool
+        requires { (k : ℕ) × (slice_get self.now.world.network k ≡ Some (Forward upto names.now)) }
+        ensures { result ≡ list_all (λ r. names_fit self.now.world r.stream names.now) self.now.world.streams }
+    {
+        for at in 0..self.open_streams.items.len() {
+            if !self.stream_fits(at, upto, names) {
+                return false;
+            }
+        }
+        true
+    }
+
+    // On the stream at a place, from the ends of what is held and of what is named.
+    fn stream_fits(&self, at: usize, upto: u64, names: &[u64]) -> bool
+        requires inside { at < length self.now.world.streams }
+        requires lies { (k : ℕ) × (slice_get self.now.world.network k ≡ Some (Forward upto names.now)) }
+        ensures { (r : StreamRecord) → slice_get self.now.world.streams at ≡ Some r → result ≡ names_fit self.now.world r.stream names.now }
+    {
+        let stream = self.open_streams.items[at].state.stream_identifier();
+        let named = named_on(&self.messages, stream, names);
+        let (low, high) = self.ends(stream);
+        let span = low.min(named.low) + 0x8000;
+        if high.max(named.end.saturating_sub(1)) >= span {
+            return false;
+        }
+        named.end < span || named.end - 0x8000 < self.least_left(stream, named.low)
+    }
+
+    // The lesser of an index and that of the first message held, where it is whole: no skip gives that up.
+    fn least_left(&self, stream: u16, low: u64) -> u64
+        requires { is_open self.now.world stream ≡ true }
+        ensures { result ≡ min_with (whole_first self.now.world (held_on self.now.world stream)) low }
+    {
+        let Some(at) = self.open_streams.place_of(stream) else {
+            unreachable!()
+        };
+        let open_stream = &self.open_streams.items[at];
+        let held = open_stream.state.reassembly_queue().ordered();
+        let Some(first) = held.front() else {
+            return low;
+        };
+        if !first.is_complete() {
+            return low;
+        }
+        low.min(self.index_of(first))
+    }
+
+    // Takes the FORWARD-TSN of datagram k, which goes up to this slot.
+    pub(super) fn arrive_skip(&mut self, k: u64, upto: u64) -> Result<Reply>
+        requires none { refusal_of self.old.world (E.Arrive k) ≡ None }
+        requires lies { (names : List ℕ) × (slice_get self.old.world.network k ≡ Some (Forward upto names)) }
+        ensures ok { IfOk result (λ reply. IsRight self.old.world (E.Arrive k) (reply_of reply) self.new.world) }
+        ensures checksum { self.new.checksum ≡ self.old.checksum }
+        ensures err { OnErr result (self.new.world ≡ self.old.world) }
+        ensures memory { IsOkUnless result ErrOutOfMemory }
+    {
+        let chunk = read_forward_tsn(self.alloc, &self.network[k as usize].bytes, &self.checksum)?;
+        let cumulative = count_of(self.cumulative_tsn, self.first_tsn);
+        if cumulative > upto {
+            return Ok(Reply::Stale);
+        }
+        self.follow(k, upto, chunk.new_cumulative_tsn);
+        Ok(Reply::Skipped)
+    }
+
+    // Follows a skip that counts: gives up what it skips on each stream. It takes no memory.
+    fn follow(&mut self, k: u64, upto: u64, tsn: u32)
+        requires none { refusal_of self.old.world (E.Arrive k) ≡ None }
+        requires lies { (names : List ℕ) × (slice_get self.old.world.network k ≡ Some (Forward upto names)) }
+        requires counts { skip_counts self.old.world upto ≡ true }
+        requires tsn { tsn ≡ tsn_of self.old.world upto }
+        ensures followed { (names : List ℕ) → slice_get self.old.world.network k ≡ Some (Forward upto names) → self.new.world ≡ skip_received self.old.world upto names }
+        ensures checksum { self.new.checksum ≡ self.old.checksum }
+    {
+        let Kind::Forward { messages, .. } = &self.network[k as usize].kind else {
+            unreachable!()
+        };
+        skip_streams(&mut self.open_streams.items, &self.messages, messages, tsn);
+        self.skipped = upto as usize + 1;
+        self.filter.pop_up_to(tsn);
+        self.cumulative_tsn = advance(&mut self.filter, tsn);
+    }
+}
+
+// How many slots a cumulative TSN covers.
+fn count_of(cumulative_tsn: u32, first_tsn: u32) -> u64
+    ensures { result ≡ ((cumulative_tsn + (2 ^ 32 - first_tsn)) % 2 ^ 32 + 1) % 2 ^ 32 }
+{
+    u64::from(cumulative_tsn.wrapping_sub(first_tsn).wrapping_add(1))
+}

@@ -1,0 +1,84 @@
+//! What a FORWARD-TSN names on a stream, and what its arrival makes of the streams (RFC 3758 3.2, 3.6).
+
+ghost use Rattle.std.specs.Prelude.{◌≡◌, ◌+◌, ◌<◌, ◌^◌, ℕ, length, map, slice_index_or, IfOk, IsOkUnless};
+ghost use Rattle.sctp_base.specs.declared.error.Error.TheVariants.{ErrOutOfMemory};
+ghost use Rattle.sctp_link.specs.Skips.{index_in, named_from, none_named, with_name, pair_in, skipped_by};
+
+use crate::open_stream::OpenStream;
+use crate::record::Message;
+use sctp_base::error::Result;
+use sctp_chunks::chunk::chunk_forward_tsn::ChunkForwardTsnStream;
+use std::alloc::Global;
+
+/// What a skip names on a stream: the least index, and one more than the greatest, or 0 where it names none.
+#[derive(Clone, Copy, Drop)]
+pub struct Named {
+    pub low: u64,
+    pub end: u64,
+}
+
+/// What a skip that names these messages names on a stream.
+pub fn named_on(messages: &[Message], stream: u16, names: &[u64]) -> Named
+    requires { (n : ℕ) → index_in messages.now n + 1 < 2 ^ 64 }
+    ensures { result ≡ named_from messages.now stream none_named names.now }
+{
+    let mut named = Named {
+        low: u64::MAX,
+        end: 0,
+    };
+    for number in names {
+        named = with_name(messages, stream, *number, named);
+    }
+    named
+}
+
+// And one message more.
+fn with_name(messages: &[Message], stream: u16, number: u64, named: Named) -> Named
+    requires { (n : ℕ) → index_in messages.now n + 1 < 2 ^ 64 }
+    ensures { result ≡ with_name messages.now stream number named }
+{
+    let Some(message) = messages.get(number as usize) else {
+        return named;
+    };
+    if message.stream != stream || !message.ordered || message.expired {
+        return named;
+    }
+    Named {
+        low: named.low.min(message.index),
+        end: named.end.max(message.index + 1),
+    }
+}
+
+/// The pairs that name these messages.
+pub fn pairs_of(
+    alloc: Global,
+    messages: &[Message],
+    names: &[u64],
+) -> Result<Vec<ChunkForwardTsnStream>>
+    requires { (i d : ℕ) → i < length names.now → slice_index_or names.now i d < length messages.now }
+    ensures pairs { IfOk result (λ ps. ps.items ≡ map (pair_in messages.now) names.now) }
+    ensures memory { IsOkUnless result ErrOutOfMemory }
+{
+    let mut pairs = Vec::new(alloc);
+    pairs.reserve(names.len())?;
+    for number in names {
+        let message = &messages[*number as usize];
+        pairs.push(ChunkForwardTsnStream {
+            identifier: message.stream,
+            sequence: (message.index % 0x10000) as u16,
+        })?;
+    }
+    Ok(pairs)
+}
+
+/// The arrival of a skip up to a TSN, which names these messages, on each open stream. It takes no memory.
+pub fn skip_streams(open_streams: &mut [OpenStream], messages: &[Message], names: &[u64], tsn: u32)
+    requires { (n : ℕ) → index_in messages.now n + 1 < 2 ^ 64 }
+    ensures { open_streams.new ≡ map (skipped_by messages.now names.now tsn) open_streams.old }
+{
+    for place in 0..open_streams.len() {
+        let open_stream = &mut open_streams[place];
+        let named = named_on(messages, open_stream.state.stream_identifier(), names);
+        open_stream.skip(named, tsn);
+    }
+}
