@@ -69,7 +69,15 @@ fn expired_bytes_are_released(rt: HostRuntime) -> Result<(), Fail> {
     assert!(rt; link.step(other).is_ok());
     assert!(rt; link.step(Event::Start { now: 0 }).is_ok());
     let expired = link.step(Event::Expire { now: 1_000_000 });
-    assert!(rt; matches!(expired, Ok(Reply::Expired { stream: 1, bytes: 1 })));
+    assert!(rt;
+        matches!(
+            expired,
+            Ok(Reply::Expired {
+                stream: 1,
+                bytes: 1
+            })
+        )
+    );
     assert!(rt; link.step(binary(alloc, b"d")?).is_ok());
     for _ in 0..3 {
         assert!(rt; link.step(Event::Send { now: 0 }).is_ok());
@@ -92,10 +100,23 @@ fn abandoned_bytes_are_released(rt: HostRuntime) -> Result<(), Fail> {
     assert!(rt; sent(alloc, &mut link, &[b"abcdef"], 2)?);
     assert!(rt; is_new(&link.step(Event::Arrive { k: 1 })));
     assert!(rt; link.step(Event::Ack { credit: 0 }).is_ok());
-    assert!(rt; matches!(link.step(Event::Acked { k: 2 }), Ok(Reply::Acked { bytes: 3 })));
+    assert!(rt;
+        matches!(
+            link.step(Event::Acked { k: 2 }),
+            Ok(Reply::Acked { bytes: 3 })
+        )
+    );
     assert!(rt; link.outbound().earliest_outstanding_tsn() == Some(10));
     let released = link.step(Event::Abandon { tsn: 11 });
-    assert!(rt; matches!(released, Ok(Reply::Released { stream: 1, bytes: 3 })));
+    assert!(rt;
+        matches!(
+            released,
+            Ok(Reply::Released {
+                stream: 1,
+                bytes: 3
+            })
+        )
+    );
     assert!(rt; link.outbound().earliest_outstanding_tsn().is_none());
     assert!(rt; sums(&link, 6, 0, 0, 6));
     Ok(())
@@ -112,9 +133,22 @@ fn the_tail_is_released(rt: HostRuntime) -> Result<(), Fail> {
     assert!(rt; link.step(Event::Send { now: 0 }).is_ok());
     assert!(rt; is_new(&link.step(Event::Arrive { k: 0 })));
     assert!(rt; link.step(Event::Ack { credit: 0 }).is_ok());
-    assert!(rt; matches!(link.step(Event::Acked { k: 1 }), Ok(Reply::Acked { bytes: 3 })));
+    assert!(rt;
+        matches!(
+            link.step(Event::Acked { k: 1 }),
+            Ok(Reply::Acked { bytes: 3 })
+        )
+    );
     let tail = link.step(Event::Tail { now: 1_000_000 });
-    assert!(rt; matches!(tail, Ok(Reply::Released { stream: 1, bytes: 4 })));
+    assert!(rt;
+        matches!(
+            tail,
+            Ok(Reply::Released {
+                stream: 1,
+                bytes: 4
+            })
+        )
+    );
     assert!(rt; sums(&link, 7, 0, 0, 7));
     Ok(())
 }
@@ -127,16 +161,37 @@ fn skips_are_written(rt: HostRuntime) -> Result<(), Fail> {
     assert!(rt; sent(alloc, &mut link, &[b"aaa", b"bbb", b"ccc"], 3)?);
     assert!(rt; is_new(&link.step(Event::Arrive { k: 1 })));
     assert!(rt; link.step(Event::Abandon { tsn: 10 }).is_ok());
-    assert!(rt; matches!(link.step(skip(alloc, 10, &[0])?), Ok(Reply::Skip { datagram: 3 })));
+    assert!(rt;
+        matches!(
+            link.step(skip(alloc, 10, &[0])?),
+            Ok(Reply::Skip { datagram: 3 })
+        )
+    );
     assert!(rt; carries(&link, 3, &[0xc0, 0, 0, 12, 0, 0, 0, 10, 0, 1, 0, 0]));
-    assert!(rt; matches!(link.step(skip(alloc, 11, &[1])?), Ok(Reply::Skip { datagram: 4 })));
+    assert!(rt;
+        matches!(
+            link.step(skip(alloc, 11, &[1])?),
+            Ok(Reply::Skip { datagram: 4 })
+        )
+    );
     assert!(rt; carries(&link, 4, &[0xc0, 0, 0, 12, 0, 0, 0, 11, 0, 1, 0, 1]));
-    assert!(rt; matches!(link.step(skip(alloc, 11, &[])?), Ok(Reply::Skip { datagram: 5 })));
+    assert!(rt;
+        matches!(
+            link.step(skip(alloc, 11, &[])?),
+            Ok(Reply::Skip { datagram: 5 })
+        )
+    );
     assert!(rt; carries(&link, 5, &[0xc0, 0, 0, 8, 0, 0, 0, 11]));
     assert!(rt; matches!(link.step(Event::Arrive { k: 3 }), Ok(Reply::Skipped)));
     // The cumulative TSN is 11.
     assert!(rt; link.step(Event::Ack { credit: 0 }).is_ok());
-    assert!(rt; carries(&link, 6, &[3, 0, 0, 16, 0, 0, 0, 11, 0, 0, 0, 0, 0, 0, 0, 0]));
+    assert!(rt;
+        carries(
+            &link,
+            6,
+            &[3, 0, 0, 16, 0, 0, 0, 11, 0, 0, 0, 0, 0, 0, 0, 0]
+        )
+    );
     Ok(())
 }
 
@@ -155,10 +210,21 @@ fn a_skip_is_acknowledged(rt: HostRuntime) -> Result<(), Fail> {
     assert!(rt; is_new(&link.step(Event::Arrive { k: 1 })));
     assert!(rt; matches!(link.step(Event::Arrive { k: 2 }), Ok(Reply::Skipped)));
     assert!(rt; link.step(Event::Ack { credit: 0 }).is_ok());
-    assert!(rt; carries(&link, 3, &[3, 0, 0, 16, 0, 0, 0, 12, 0, 0, 0, 0, 0, 0, 0, 0]));
+    assert!(rt;
+        carries(
+            &link,
+            3,
+            &[3, 0, 0, 16, 0, 0, 0, 12, 0, 0, 0, 0, 0, 0, 0, 0]
+        )
+    );
     assert!(rt; shows(&link.step(Event::Read { stream: 1 }), b"x"));
     assert!(rt; is_nothing(&link.step(Event::Read { stream: 1 })));
-    assert!(rt; matches!(link.step(Event::Acked { k: 3 }), Ok(Reply::Acked { bytes: 1 })));
+    assert!(rt;
+        matches!(
+            link.step(Event::Acked { k: 3 }),
+            Ok(Reply::Acked { bytes: 1 })
+        )
+    );
     assert!(rt; sums(&link, 8, 0, 0, 8));
     Ok(())
 }
