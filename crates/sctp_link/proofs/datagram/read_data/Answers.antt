@@ -1,7 +1,7 @@
 use Rattle.std.proofs.Common.{ap, sym, subst, ◌∙◌}
 use Rattle.sctp_chunks.specs.Kind.{wire_of, IsFreshKind}
 use Rattle.sctp_chunks.specs.Wire.{data_chunk}
-use Rattle.sctp_link.proofs.Packets.{data_kind, fresh_data}
+use Rattle.sctp_link.proofs.upkeep.Packets.{data_kind, fresh_data}
 use Rattle.sctp_link.proofs.datagram.read_data.Goals as goal
 
 pub unreachable-requires : goal.unreachable-requires

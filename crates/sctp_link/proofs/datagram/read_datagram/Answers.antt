@@ -5,7 +5,7 @@ use Rattle.std.proofs.lemmas.Result.{err_from_is_err_and}
 use Rattle.std.proofs.lemmas.List.{nil_from_length}
 use Rattle.sctp_chunks.specs.Kind.{wire_of, IsFreshKind}
 use Rattle.sctp_link.specs.Texts.{packet_with}
-use Rattle.sctp_link.proofs.Packets.{some_kind, last_kind, all_last}
+use Rattle.sctp_link.proofs.upkeep.Packets.{some_kind, last_kind, all_last}
 use Rattle.sctp_link.proofs.datagram.read_datagram.Goals as goal
 
 pub returns-in_err-packet-clause-memory : goal.returns-in_err-packet-clause-memory

@@ -2,7 +2,7 @@ use Rattle.std.proofs.Common.{ap, sym, ◌∙◌}
 use Rattle.sctp_chunks.specs.SelectiveAck.{sack_of}
 use Rattle.sctp_chunks.specs.Kind.{wire_of}
 use Rattle.sctp_chunks.specs.Wire.{sack_chunk}
-use Rattle.sctp_link.proofs.Packets.{sack_kind, same_sack}
+use Rattle.sctp_link.proofs.upkeep.Packets.{sack_kind, same_sack}
 use Rattle.sctp_link.proofs.datagram.read_sack.Goals as goal
 
 pub unreachable-requires : goal.unreachable-requires

@@ -1,6 +1,6 @@
 use Rattle.std.proofs.Common.{◌∙◌, length-set}
 use Rattle.sctp_link.specs.OpenStreams.{with_mode}
-use Rattle.sctp_link.proofs.Walks.{mapped_step}
+use Rattle.sctp_link.proofs.upkeep.Walks.{mapped_step}
 use Rattle.sctp_link.proofs.open_stream.set_mode.Goals as goal
 
 pub loop-place-preserved : goal.loop-place-preserved

@@ -1,7 +1,7 @@
 use Rattle.std.proofs.Common.{ap, ◌∙◌, length-set, arith}
 use Rattle.std.specs.Prelude.{slice_set, slice_index_or}
 use Rattle.sctp_link.specs.Skips.{named_from, none_named, skipped_by, skipped_stream}
-use Rattle.sctp_link.proofs.Walks.{changed_more}
+use Rattle.sctp_link.proofs.upkeep.Walks.{changed_more}
 use Rattle.sctp_link.proofs.skipped.skip_streams.Goals as goal
 
 pub loop-place-preserved : goal.loop-place-preserved

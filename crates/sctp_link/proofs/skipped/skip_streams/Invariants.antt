@@ -1,6 +1,6 @@
 use Rattle.std.proofs.Common.{◌≡◌, length}
 use Rattle.sctp_link.specs.Skips.{skipped_by}
-use Rattle.sctp_link.proofs.Walks.{changed_to}
+use Rattle.sctp_link.proofs.upkeep.Walks.{changed_to}
 use Rattle.sctp_link.proofs.skipped.skip_streams.Given as goal
 
 abbrev pub invariant-loop-place : goal.invariant-loop-place

@@ -8,9 +8,9 @@ use Rattle.sctp_link.specs.declared.record.Kind.TheVariants as K
 use Rattle.sctp_link.specs.declared.record.Datagram.{Datagram}
 use Rattle.sctp_link.specs.Records.{datagram_record}
 use Rattle.sctp_link.specs.Fields.{state_in, world_in}
-use Rattle.sctp_link.proofs.Frames.{moved}
-use Rattle.sctp_link.proofs.Outgoing.{network-more, bytes-more}
-use Rattle.sctp_link.proofs.Reporting.{sack-short, taken-short, min-short, cumulative-place, report-is, linked-ack, world-acked}
+use Rattle.sctp_link.proofs.upkeep.Frames.{moved}
+use Rattle.sctp_link.proofs.sender.Outgoing.{network-more, bytes-more}
+use Rattle.sctp_link.proofs.acknowledging.Reporting.{sack-short, taken-short, min-short, cumulative-place, report-is, linked-ack, world-acked}
 use Rattle.sctp_link.proofs.link.Link.ack.Goals as goal
 
 pub write_datagram-requires-clause-text : goal.write_datagram-requires-clause-text

@@ -9,8 +9,8 @@ use Rattle.sctp_model.specs.Steps.{refusal_of}
 use Rattle.sctp_ties.specs.Amount.{acknowledged_at}
 use Rattle.sctp_link.specs.Acking.{and_run, in_block}
 use Rattle.sctp_link.specs.Fields.{world_in, state_in}
-use Rattle.sctp_link.proofs.Facts.{facts}
-use Rattle.sctp_link.proofs.SackTaken.{sack-there, wire_sack, reads-sack, count-is, count-made, blocks-made, reported, acks, acking-first, taken-all}
+use Rattle.sctp_link.proofs.upkeep.Facts.{facts}
+use Rattle.sctp_link.proofs.acknowledging.SackTaken.{sack-there, wire_sack, reads-sack, count-is, count-made, blocks-made, reported, acks, acking-first, taken-all}
 use Rattle.sctp_link.proofs.link.Link.acked.Goals as goal
 
 pub read_sack-requires : goal.read_sack-requires

@@ -8,8 +8,8 @@ use Rattle.sctp_model.specs.Changes.{skip_counts, datagram_received}
 use Rattle.sctp_model.specs.Steps.{arrive_reply}
 use Rattle.sctp_model.specs.Reply as R
 use Rattle.sctp_link.specs.Fields.{world_in, state_in}
-use Rattle.sctp_link.proofs.Reporting.{cumulative-place}
-use Rattle.sctp_link.proofs.SkipComes.{wire_skip, reads-skip}
+use Rattle.sctp_link.proofs.acknowledging.Reporting.{cumulative-place}
+use Rattle.sctp_link.proofs.skipping.SkipComes.{wire_skip, reads-skip}
 use Rattle.sctp_link.proofs.link.Link.arrive_skip.Goals as goal
 
 pub read_forward_tsn-requires : goal.read_forward_tsn-requires

@@ -1,6 +1,6 @@
 use Rattle.std.proofs.Common.{refl, arith}
 use Rattle.sctp_link.specs.Fields.{state_in}
-use Rattle.sctp_link.proofs.Observed.{says-bytes}
+use Rattle.sctp_link.proofs.upkeep.Observed.{says-bytes}
 use Rattle.sctp_link.proofs.link.Link.datagram.Goals as goal
 
 pub returns : goal.returns

@@ -8,8 +8,8 @@ use Rattle.sctp_model.specs.Queues.{set_of}
 use Rattle.sctp_link.specs.declared.open_stream.OpenStream.{OpenStream}
 use Rattle.sctp_link.specs.Fields.{world_in, state_in}
 use Rattle.sctp_link.specs.Linked.{has_number}
-use Rattle.sctp_link.proofs.Lookups.{none-open}
-use Rattle.sctp_link.proofs.Hears.{ends-empty, set-held, low-front, high-back, none-there}
+use Rattle.sctp_link.proofs.upkeep.Lookups.{none-open}
+use Rattle.sctp_link.proofs.receiver.Hears.{ends-empty, set-held, low-front, high-back, none-there}
 use Rattle.sctp_link.proofs.link.Link.ends.Goals as goal
 
 pub unreachable-requires : goal.unreachable-requires

@@ -4,7 +4,7 @@ use Rattle.sctp_queues.specs.pending_queue.PendingQueue.{peeked}
 use Rattle.sctp_link.specs.declared.record.Message.{Message}
 use Rattle.sctp_link.specs.Fields.{state_in}
 use Rattle.sctp_link.specs.Records.{message_record}
-use Rattle.sctp_link.proofs.Expiring.{idle-right, linked-idle, none-waits, none-expires, expires, linked-expired, moves-expired}
+use Rattle.sctp_link.proofs.giving_up.Expiring.{idle-right, linked-idle, none-waits, none-expires, expires, linked-expired, moves-expired}
 use Rattle.sctp_link.proofs.link.Link.expire.Goals as goal
 
 pub returns-in_default-clause-right : goal.returns-in_default-clause-right

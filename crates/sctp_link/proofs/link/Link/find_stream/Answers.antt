@@ -1,6 +1,6 @@
 use Rattle.std.proofs.Common.{refl}
 use Rattle.sctp_link.specs.Fields.{world_in, state_in}
-use Rattle.sctp_link.proofs.Lookups.{none-open, kept-at}
+use Rattle.sctp_link.proofs.upkeep.Lookups.{none-open, kept-at}
 use Rattle.sctp_link.proofs.link.Link.find_stream.Goals as goal
 
 pub returns-in_default : goal.returns-in_default

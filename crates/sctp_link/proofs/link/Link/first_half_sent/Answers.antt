@@ -3,10 +3,10 @@ use Rattle.std.specs.Prelude.{find, slice_index_or}
 use Rattle.std.specs.List.{list_all}
 use Rattle.sctp_model.specs.Messages.{place_of, is_in_flight, is_half_sent}
 use Rattle.sctp_ties.specs.InTurn.{message_of_tsn}
-use Rattle.sctp_ties.proofs.AbandonedInTurn.{each-of}
+use Rattle.sctp_ties.proofs.giving_up.AbandonedInTurn.{each-of}
 use Rattle.sctp_link.specs.Fields.{state_in, world_in}
-use Rattle.sctp_link.proofs.LateTsns.{found-step, found-none, place-made}
-use Rattle.sctp_link.proofs.Observed.{slot-message}
+use Rattle.sctp_link.proofs.giving_up.LateTsns.{found-step, found-none, place-made}
+use Rattle.sctp_link.proofs.upkeep.Observed.{slot-message}
 use Rattle.sctp_link.proofs.link.Link.first_half_sent.Goals as goal
 
 pub is_half_sent-requires : goal.is_half_sent-requires

@@ -12,8 +12,8 @@ use Rattle.sctp_model.specs.Steps.{refusal_of}
 use Rattle.sctp_link.specs.Fields.{world_in, state_in}
 use Rattle.sctp_link.specs.Records.{kind_record}
 use Rattle.sctp_link.specs.Skips.{skipped_by}
-use Rattle.sctp_link.proofs.Facts.{facts}
-use Rattle.sctp_link.proofs.SkipComes.{skips-in, names-kept, same-names, linked-follow, received-follow}
+use Rattle.sctp_link.proofs.upkeep.Facts.{facts}
+use Rattle.sctp_link.proofs.skipping.SkipComes.{skips-in, names-kept, same-names, linked-follow, received-follow}
 use Rattle.sctp_link.proofs.link.Link.follow.Goals as goal
 
 pub overflow_add-self : goal.overflow_add-self

@@ -11,12 +11,12 @@ use Rattle.sctp_link.specs.declared.record.Message.{Message}
 use Rattle.sctp_link.specs.Fields.{state_in, world_in}
 use Rattle.sctp_link.specs.OpenStreams.{marks}
 use Rattle.sctp_link.specs.Records.{message_record}
-use Rattle.sctp_link.proofs.Abandoning.{world-given, linked-given}
-use Rattle.sctp_link.proofs.GivingUp.{Gives, gives, high, half-tail, never-none}
-use Rattle.sctp_link.proofs.Hears.{message-raw}
-use Rattle.sctp_link.proofs.Keeping.{on-err}
-use Rattle.sctp_link.proofs.Observed.{slot-message}
-use Rattle.sctp_link.proofs.Sending.{tsn-fresh, tsn-window}
+use Rattle.sctp_link.proofs.giving_up.Abandoning.{world-given, linked-given}
+use Rattle.sctp_link.proofs.giving_up.GivingUp.{Gives, gives, high, half-tail, never-none}
+use Rattle.sctp_link.proofs.receiver.Hears.{message-raw}
+use Rattle.sctp_link.proofs.receiver.Keeping.{on-err}
+use Rattle.sctp_link.proofs.upkeep.Observed.{slot-message}
+use Rattle.sctp_link.proofs.sender.Sending.{tsn-fresh, tsn-window}
 use Rattle.sctp_link.proofs.link.Link.give_up.Goals as goal
 
 must : (b : Bool) → (b ≡ false → false ≡ true) → b ≡ true

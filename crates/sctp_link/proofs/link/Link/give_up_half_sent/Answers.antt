@@ -3,7 +3,7 @@ use Rattle.sctp_model.specs.Messages.{place_of, is_in_flight, is_half_sent}
 use Rattle.sctp_model.specs.Steps.{unless}
 use Rattle.sctp_model.specs.declared.event.LinkRefusal.TheVariants.{NotInFlight}
 use Rattle.sctp_ties.specs.InTurn.{message_of_tsn}
-use Rattle.sctp_ties.proofs.AbandonedInTurn.{find-among}
+use Rattle.sctp_ties.proofs.giving_up.AbandonedInTurn.{find-among}
 use Rattle.sctp_link.proofs.link.Link.give_up_half_sent.Goals as goal
 
 pub give_up-requires : goal.give_up-requires

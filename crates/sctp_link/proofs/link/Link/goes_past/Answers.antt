@@ -4,9 +4,9 @@ use Rattle.std.proofs.lemmas.Bool.Decides.{nat_tests}
 use Rattle.sctp_lists.proofs.Cases.{by_last, same-yes}
 use Rattle.sctp_model.specs.Messages.{belongs_to, message_of}
 use Rattle.sctp_link.specs.Fields.{world_in, state_in}
-use Rattle.sctp_link.proofs.Facts.{facts}
-use Rattle.sctp_link.proofs.Hears.{slots-made}
-use Rattle.sctp_link.proofs.SkipMade.{past-none, past-some, slot-of}
+use Rattle.sctp_link.proofs.upkeep.Facts.{facts}
+use Rattle.sctp_link.proofs.receiver.Hears.{slots-made}
+use Rattle.sctp_link.proofs.skipping.SkipMade.{past-none, past-some, slot-of}
 use Rattle.sctp_link.proofs.link.Link.goes_past.Goals as goal
 
 pub overflow_step-later : goal.overflow_step-later

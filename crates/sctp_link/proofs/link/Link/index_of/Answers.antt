@@ -2,7 +2,7 @@ use Rattle.std.proofs.Common.{◌≡◌, ℕ, refl, true, arith}
 use Rattle.sctp_model.specs.Receiver.{is_held}
 use Rattle.sctp_model.specs.Queues.{set_of}
 use Rattle.sctp_link.specs.Fields.{world_in, state_in}
-use Rattle.sctp_link.proofs.Hears.{held-begins, held-made, lead-slot, lead-message, lead-index, held-ordered}
+use Rattle.sctp_link.proofs.receiver.Hears.{held-begins, held-made, lead-slot, lead-message, lead-index, held-ordered}
 use Rattle.sctp_link.proofs.link.Link.index_of.Goals as goal
 
 pub index-requires : goal.index-requires

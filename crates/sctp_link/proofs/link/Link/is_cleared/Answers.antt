@@ -2,7 +2,7 @@ use Rattle.std.proofs.Common.{◌<◌, refl, arith, length}
 use Rattle.sctp_lists.proofs.Getting.{length-mapped}
 use Rattle.sctp_link.specs.Fields.{state_in, world_in}
 use Rattle.sctp_link.specs.Records.{message_record}
-use Rattle.sctp_link.proofs.Observed.{slot-message}
+use Rattle.sctp_link.proofs.upkeep.Observed.{slot-message}
 use Rattle.sctp_link.proofs.link.Link.is_cleared.Goals as goal
 
 pub index-requires : goal.index-requires

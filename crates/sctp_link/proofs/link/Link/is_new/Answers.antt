@@ -1,7 +1,7 @@
 use Rattle.std.proofs.Common.{◌<◌, length, arith, ◌∙◌}
 use Rattle.sctp_link.specs.Fields.{world_in, state_in}
-use Rattle.sctp_link.proofs.Facts.{facts}
-use Rattle.sctp_link.proofs.Hears.{new-held, new-unheld}
+use Rattle.sctp_link.proofs.upkeep.Facts.{facts}
+use Rattle.sctp_link.proofs.receiver.Hears.{new-held, new-unheld}
 use Rattle.sctp_link.proofs.link.Link.is_new.Goals as goal
 
 pub overflow_cast-tsn : goal.overflow_cast-tsn

@@ -1,6 +1,6 @@
 use Rattle.std.proofs.Common.{◌∙◌, refl}
 use Rattle.sctp_link.specs.Fields.{world_in}
-use Rattle.sctp_link.proofs.Observed.{open-is}
+use Rattle.sctp_link.proofs.upkeep.Observed.{open-is}
 use Rattle.sctp_link.proofs.link.Link.is_open.Goals as goal
 
 pub returns : goal.returns

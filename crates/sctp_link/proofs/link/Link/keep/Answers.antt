@@ -3,7 +3,7 @@ use Rattle.std.specs.Prelude.{find, slice_get, slice_index_or, slice_set}
 use Rattle.sctp_lists.specs.Lists.{advanced, inserted}
 use Rattle.sctp_queues.specs.DataChunks.{chunk_before}
 use Rattle.sctp_queues.specs.payload_queue.PayloadQueue.{Payload}
-use Rattle.sctp_ties.proofs.FilterQueue.{tsns}
+use Rattle.sctp_ties.proofs.arriving.FilterQueue.{tsns}
 use Rattle.sctp_link.specs.declared.record.Slot.{Slot}
 use Rattle.sctp_chunks.specs.declared.chunk.chunk_payload_data.ChunkPayloadData.{ChunkPayloadData}
 use Rattle.sctp_ties.specs.Tied.{filter_held}
@@ -19,10 +19,10 @@ use Rattle.sctp_link.specs.Fields.{world_in, state_in}
 use Rattle.sctp_link.specs.OpenStreams.{Keeps}
 use Rattle.sctp_link.specs.Linked.{has_number}
 use Rattle.sctp_link.specs.Records.{slot_record, stream_record}
-use Rattle.sctp_link.proofs.Apart.{map-set}
-use Rattle.sctp_link.proofs.Arrives.{moved-filter, window, is-new}
-use Rattle.sctp_link.proofs.Hears.{come-made, slots-made, slot-raw}
-use Rattle.sctp_link.proofs.Keeping.{small, its-stream, world-kept, linked-keep, streams-stay, linked-still, never-closed, on-err}
+use Rattle.sctp_link.proofs.upkeep.Apart.{map-set}
+use Rattle.sctp_link.proofs.receiver.Arrives.{moved-filter, window, is-new}
+use Rattle.sctp_link.proofs.receiver.Hears.{come-made, slots-made, slot-raw}
+use Rattle.sctp_link.proofs.receiver.Keeping.{small, its-stream, world-kept, linked-keep, streams-stay, linked-still, never-closed, on-err}
 use Rattle.sctp_link.proofs.link.Link.keep.Goals as goal
 
 pub index-requires : goal.index-requires

@@ -4,10 +4,10 @@ use Rattle.std.specs.List.{list_all}
 use Rattle.sctp_model.specs.Messages.{place_of, is_in_flight, is_half_sent}
 use Rattle.sctp_model.specs.Amounts.{growth}
 use Rattle.sctp_ties.specs.InTurn.{message_of_tsn, given_up}
-use Rattle.sctp_ties.proofs.AbandonedInTurn.{GivesInTurn, accepted-now, takes-none, goes-on}
+use Rattle.sctp_ties.proofs.giving_up.AbandonedInTurn.{GivesInTurn, accepted-now, takes-none, goes-on}
 use Rattle.sctp_link.specs.Fields.{state_in, world_in}
-use Rattle.sctp_link.proofs.Keeping.{on-err}
-use Rattle.sctp_link.proofs.LateTsns.{fly, takes, takes-unless, begun, done, turn-few}
+use Rattle.sctp_link.proofs.receiver.Keeping.{on-err}
+use Rattle.sctp_link.proofs.giving_up.LateTsns.{fly, takes, takes-unless, begun, done, turn-few}
 use Rattle.sctp_link.proofs.link.Link.late.Goals as goal
 
 pub returns-in_err-tsns-clause-wants : goal.returns-in_err-tsns-clause-wants

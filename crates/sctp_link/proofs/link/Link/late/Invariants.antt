@@ -2,7 +2,7 @@ use Rattle.std.proofs.Common.{◌≡◌}
 use Rattle.std.specs.Prelude.{find}
 use Rattle.sctp_model.specs.Messages.{is_half_sent}
 use Rattle.sctp_ties.specs.InTurn.{message_of_tsn}
-use Rattle.sctp_ties.proofs.AbandonedInTurn.{GivesInTurn}
+use Rattle.sctp_ties.proofs.giving_up.AbandonedInTurn.{GivesInTurn}
 use Rattle.sctp_link.proofs.link.Link.late.Given as goal
 
 abbrev pub invariant-loop-at : goal.invariant-loop-at

@@ -10,9 +10,9 @@ use Rattle.sctp_ties.specs.Naming.{min_with}
 use Rattle.sctp_link.specs.declared.open_stream.OpenStream.{OpenStream}
 use Rattle.sctp_link.specs.Fields.{world_in, state_in}
 use Rattle.sctp_link.specs.Linked.{has_number}
-use Rattle.sctp_link.proofs.Lookups.{none-open}
-use Rattle.sctp_link.proofs.Hears.{set-held, none-there}
-use Rattle.sctp_link.proofs.SkipComes.{whole-set, first-at, first-none, stream-some}
+use Rattle.sctp_link.proofs.upkeep.Lookups.{none-open}
+use Rattle.sctp_link.proofs.receiver.Hears.{set-held, none-there}
+use Rattle.sctp_link.proofs.skipping.SkipComes.{whole-set, first-at, first-none, stream-some}
 use Rattle.sctp_link.proofs.link.Link.least_left.Goals as goal
 
 pub unreachable-requires : goal.unreachable-requires

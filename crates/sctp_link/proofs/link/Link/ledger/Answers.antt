@@ -1,7 +1,7 @@
 use Rattle.std.proofs.Common.{ap, sym, ◌∙◌, arith}
 use Rattle.sctp_link.specs.Fields.{state_in}
 use Rattle.sctp_link.specs.Linked.{ledger_of}
-use Rattle.sctp_link.proofs.Lending.{ledger-now, same-ledger}
+use Rattle.sctp_link.proofs.upkeep.Lending.{ledger-now, same-ledger}
 use Rattle.sctp_link.proofs.link.Link.ledger.Goals as goal
 
 pub returns : goal.returns

@@ -3,8 +3,8 @@ use Rattle.sctp_model.specs.declared.event.Event.TheVariants as E
 use Rattle.sctp_model.specs.Changes.{mode_set}
 use Rattle.sctp_model.specs.Steps.{refusal_of}
 use Rattle.sctp_link.specs.Fields.{state_in, world_in}
-use Rattle.sctp_link.proofs.Frames.{moved}
-use Rattle.sctp_link.proofs.Modes.{found-open, mode-open, mode-moves, linked-mode}
+use Rattle.sctp_link.proofs.upkeep.Frames.{moved}
+use Rattle.sctp_link.proofs.sender.Modes.{found-open, mode-open, mode-moves, linked-mode}
 use Rattle.sctp_link.proofs.link.Link.mode.Goals as goal
 
 pub unreachable-requires : goal.unreachable-requires

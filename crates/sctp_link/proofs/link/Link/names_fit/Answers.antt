@@ -3,8 +3,8 @@ use Rattle.std.specs.List.{list_all}
 use Rattle.std.proofs.lemmas.List.{take_all}
 use Rattle.sctp_ties.specs.Naming.{names_fit}
 use Rattle.sctp_link.specs.Records.{stream_record}
-use Rattle.sctp_link.proofs.Hears.{raw-length}
-use Rattle.sctp_link.proofs.SkipComes.{all-more, all-no}
+use Rattle.sctp_link.proofs.receiver.Hears.{raw-length}
+use Rattle.sctp_link.proofs.skipping.SkipComes.{all-more, all-no}
 use Rattle.sctp_link.proofs.link.Link.names_fit.Goals as goal
 
 pub loop-at-init : goal.loop-at-init

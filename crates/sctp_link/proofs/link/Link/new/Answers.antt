@@ -1,4 +1,4 @@
-use Rattle.sctp_link.proofs.Begins.{linked-new}
+use Rattle.sctp_link.proofs.sender.Begins.{linked-new}
 use Rattle.sctp_link.proofs.link.Link.new.Goals as goal
 
 pub invariant_of-result : goal.invariant_of-result

@@ -3,8 +3,8 @@ use Rattle.sctp_model.specs.declared.event.Event.TheVariants as E
 use Rattle.sctp_model.specs.Changes.{opened}
 use Rattle.sctp_model.specs.Steps.{refusal_of}
 use Rattle.sctp_link.specs.Fields.{state_in, world_in}
-use Rattle.sctp_link.proofs.Frames.{moved}
-use Rattle.sctp_link.proofs.Opening.{linked-open, new-number, streams-more}
+use Rattle.sctp_link.proofs.upkeep.Frames.{moved}
+use Rattle.sctp_link.proofs.sender.Opening.{linked-open, new-number, streams-more}
 use Rattle.sctp_link.proofs.link.Link.open.Goals as goal
 
 pub push-requires-clause-indexed : goal.push-requires-clause-indexed

@@ -15,9 +15,9 @@ use Rattle.sctp_link.specs.Fields.{world_in, state_in}
 use Rattle.sctp_link.specs.OpenStreams.{with_read_stats}
 use Rattle.sctp_link.specs.Linked.{has_number}
 use Rattle.sctp_link.specs.Records.{message_record, progress_of}
-use Rattle.sctp_link.proofs.Apart.{map-set, map-set_same}
-use Rattle.sctp_link.proofs.Hears.{lead-slot, lead-number, messages-made, message-raw, kept-raw}
-use Rattle.sctp_link.proofs.HandsOut.{none-mapped, some-mapped, world-nothing, linked-nothing, reply-nothing, read-is, hands, hands-begins, low, reply-read, world-twice, linked-twice, never-shut}
+use Rattle.sctp_link.proofs.upkeep.Apart.{map-set, map-set_same}
+use Rattle.sctp_link.proofs.receiver.Hears.{lead-slot, lead-number, messages-made, message-raw, kept-raw}
+use Rattle.sctp_link.proofs.receiver.HandsOut.{none-mapped, some-mapped, world-nothing, linked-nothing, reply-nothing, read-is, hands, hands-begins, low, reply-read, world-twice, linked-twice, never-shut}
 use Rattle.sctp_link.proofs.link.Link.read.Goals as goal
 
 pub unreachable-requires : goal.unreachable-requires

@@ -4,9 +4,9 @@ use Rattle.sctp_chunks.specs.PayloadData.{data_of}
 use Rattle.sctp_model.specs.World.{Data}
 use Rattle.sctp_model.specs.Contents.{chunk_at}
 use Rattle.sctp_link.specs.Fields.{world_in, state_in}
-use Rattle.sctp_link.proofs.Comes.{says-data}
-use Rattle.sctp_link.proofs.Hears.{come-made}
-use Rattle.sctp_link.proofs.SkipComes.{if-ok}
+use Rattle.sctp_link.proofs.receiver.Comes.{says-data}
+use Rattle.sctp_link.proofs.receiver.Hears.{come-made}
+use Rattle.sctp_link.proofs.skipping.SkipComes.{if-ok}
 use Rattle.sctp_link.proofs.link.Link.receive.Goals as goal
 
 pub read_data-requires : goal.read_data-requires

@@ -5,7 +5,7 @@ use Rattle.sctp_model.specs.Steps.{unless, is_for_receiver, arrival_fits}
 use Rattle.sctp_model.specs.declared.event.LinkRefusal.TheVariants.{NoSuchDatagram, SpanTooWide}
 use Rattle.sctp_link.specs.Fields.{world_in}
 use Rattle.sctp_link.specs.Records.{kind_record}
-use Rattle.sctp_link.proofs.SkipComes.{kept-kind}
+use Rattle.sctp_link.proofs.skipping.SkipComes.{kept-kind}
 use Rattle.sctp_link.proofs.link.Link.refusal_arrive.Goals as goal
 
 pub span_fits-requires : goal.span_fits-requires

@@ -5,7 +5,7 @@ use Rattle.sctp_model.specs.Steps.{unless}
 use Rattle.sctp_model.specs.declared.event.LinkRefusal.TheVariants.{NotInFlight}
 use Rattle.sctp_link.specs.Fields.{world_in}
 use Rattle.sctp_link.specs.Records.{slot_record}
-use Rattle.sctp_link.proofs.Observed.{can-resend}
+use Rattle.sctp_link.proofs.upkeep.Observed.{can-resend}
 use Rattle.sctp_link.proofs.link.Link.refusal_resend.Goals as goal
 
 pub is_cleared-requires : goal.is_cleared-requires

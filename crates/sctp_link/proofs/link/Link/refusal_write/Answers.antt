@@ -1,6 +1,6 @@
 use Rattle.std.proofs.Common.{arith}
 use Rattle.sctp_link.specs.Fields.{state_in}
-use Rattle.sctp_link.proofs.Observed.{few-fragments}
+use Rattle.sctp_link.proofs.upkeep.Observed.{few-fragments}
 use Rattle.sctp_link.proofs.link.Link.refusal_write.Goals as goal
 
 pub overflow_add-self-inside : goal.overflow_add-self-inside

@@ -6,7 +6,7 @@ use Rattle.sctp_model.specs.Contents.{chunk_at}
 use Rattle.sctp_model.specs.Steps.{refusal_of}
 use Rattle.sctp_model.specs.declared.event.Event.TheVariants as E
 use Rattle.sctp_link.specs.Fields.{world_in, state_in}
-use Rattle.sctp_link.proofs.Arrives.{never, linked-repeat}
+use Rattle.sctp_link.proofs.receiver.Arrives.{never, linked-repeat}
 use Rattle.sctp_link.proofs.link.Link.repeat.Goals as goal
 
 pub push-requires-clause-window : goal.push-requires-clause-window

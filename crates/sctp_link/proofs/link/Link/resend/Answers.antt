@@ -10,8 +10,8 @@ use Rattle.sctp_link.specs.declared.record.Kind.TheVariants as K
 use Rattle.sctp_link.specs.declared.record.Datagram.{Datagram}
 use Rattle.sctp_link.specs.Records.{datagram_record}
 use Rattle.sctp_link.specs.Fields.{state_in, world_in}
-use Rattle.sctp_link.proofs.Frames.{moved}
-use Rattle.sctp_link.proofs.Outgoing.{never-gone, resend-fits, linked-resend, network-more, bytes-more}
+use Rattle.sctp_link.proofs.upkeep.Frames.{moved}
+use Rattle.sctp_link.proofs.sender.Outgoing.{never-gone, resend-fits, linked-resend, network-more, bytes-more}
 use Rattle.sctp_link.proofs.link.Link.resend.Goals as goal
 
 pub unreachable-requires : goal.unreachable-requires

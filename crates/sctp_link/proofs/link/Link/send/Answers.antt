@@ -11,10 +11,10 @@ use Rattle.sctp_model.specs.Changes.{started}
 use Rattle.sctp_link.specs.Records.{message_record}
 use Rattle.sctp_link.specs.OpenStreams.{start_from}
 use Rattle.sctp_link.specs.Fields.{state_in, world_in}
-use Rattle.sctp_link.proofs.Keeping.{on-err}
-use Rattle.sctp_link.proofs.Outgoing.{chunk-short}
-use Rattle.sctp_link.proofs.Sending.{next-is, next-fits, idle-right, tsn-fresh, tsn-window}
-use Rattle.sctp_link.proofs.SentLists.{old-few, old-begun, linked-sent, send-is-right}
+use Rattle.sctp_link.proofs.receiver.Keeping.{on-err}
+use Rattle.sctp_link.proofs.sender.Outgoing.{chunk-short}
+use Rattle.sctp_link.proofs.sender.Sending.{next-is, next-fits, idle-right, tsn-fresh, tsn-window}
+use Rattle.sctp_link.proofs.sender.SentLists.{old-few, old-begun, linked-sent, send-is-right}
 use Rattle.sctp_link.proofs.link.Link.send.Goals as goal
 
 pub returns-in_default-clause-ok : goal.returns-in_default-clause-ok

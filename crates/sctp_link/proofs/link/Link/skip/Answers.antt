@@ -11,9 +11,9 @@ use Rattle.sctp_link.specs.declared.record.Datagram.{Datagram}
 use Rattle.sctp_link.specs.Records.{datagram_record}
 use Rattle.sctp_link.specs.Skips.{pair_in}
 use Rattle.sctp_link.specs.Fields.{state_in, world_in}
-use Rattle.sctp_link.proofs.Frames.{moved}
-use Rattle.sctp_link.proofs.Outgoing.{network-more, bytes-more}
-use Rattle.sctp_link.proofs.SkipMade.{pairs-short, skip-says, linked-made}
+use Rattle.sctp_link.proofs.upkeep.Frames.{moved}
+use Rattle.sctp_link.proofs.sender.Outgoing.{network-more, bytes-more}
+use Rattle.sctp_link.proofs.skipping.SkipMade.{pairs-short, skip-says, linked-made}
 use Rattle.sctp_link.proofs.link.Link.skip.Goals as goal
 
 pub write_datagram-requires-clause-text : goal.write_datagram-requires-clause-text

@@ -4,11 +4,11 @@ use Rattle.std.proofs.lemmas.Bool.Decides.{nat_tests}
 use Rattle.sctp_model.specs.Changes.{skip_counts}
 use Rattle.sctp_model.specs.Receiver.{cumulative}
 use Rattle.sctp_ties.specs.Naming.{names_fit}
-use Rattle.sctp_ties.proofs.SkipSpans.{stale-fits}
+use Rattle.sctp_ties.proofs.skipping.SkipSpans.{stale-fits}
 use Rattle.sctp_link.specs.Fields.{world_in, state_in}
-use Rattle.sctp_link.proofs.Facts.{facts}
-use Rattle.sctp_link.proofs.Reporting.{cumulative-place}
-use Rattle.sctp_link.proofs.SkipComes.{all-fit}
+use Rattle.sctp_link.proofs.upkeep.Facts.{facts}
+use Rattle.sctp_link.proofs.acknowledging.Reporting.{cumulative-place}
+use Rattle.sctp_link.proofs.skipping.SkipComes.{all-fit}
 use Rattle.sctp_link.proofs.link.Link.skip_fits.Goals as goal
 
 pub returns-then-cumulative-upto : goal.returns-then-cumulative-upto

@@ -5,10 +5,10 @@ use Rattle.sctp_model.specs.Messages.{message_at, message_of, is_open, index_of}
 use Rattle.sctp_model.specs.Receiver.{is_new, held_on, next_of, least, greatest}
 use Rattle.sctp_link.specs.declared.record.Message.{Message}
 use Rattle.sctp_link.specs.declared.record.Slot.{Slot}
-use Rattle.sctp_link.proofs.Beginning.{index_kept}
+use Rattle.sctp_link.proofs.sender.Beginning.{index_kept}
 use Rattle.sctp_link.specs.Fields.{world_in, state_in}
 use Rattle.sctp_link.specs.Records.{message_record}
-use Rattle.sctp_link.proofs.Hears.{come-made, come-message, come-open, slots-made, messages-made, slot-raw, message-raw, fits-unordered, fits-old, fits-span, kept-raw, few-index}
+use Rattle.sctp_link.proofs.receiver.Hears.{come-made, come-message, come-open, slots-made, messages-made, slot-raw, message-raw, fits-unordered, fits-old, fits-span, kept-raw, few-index}
 use Rattle.sctp_link.proofs.link.Link.span_fits.Goals as goal
 
 pub index-requires : goal.index-requires

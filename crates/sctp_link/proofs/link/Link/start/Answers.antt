@@ -3,7 +3,7 @@ use Rattle.std.specs.Vec.{with_items, vec_len}
 use Rattle.std.proofs.lemmas.List.{with_items_is}
 use Rattle.sctp_link.specs.Fields.{state_in}
 use Rattle.sctp_link.specs.OpenStreams.{start_from}
-use Rattle.sctp_link.proofs.Starting.{linked-starts, start-moves}
+use Rattle.sctp_link.proofs.sender.Starting.{linked-starts, start-moves}
 use Rattle.sctp_link.proofs.link.Link.start.Goals as goal
 
 pub invariant_of-self : goal.invariant_of-self

@@ -1,6 +1,6 @@
 use Rattle.std.proofs.Common.{◌≡◌, rules, None}
 use Rattle.sctp_model.specs.Steps.{refusal_of}
-use Rattle.sctp_link.proofs.Wants.{may-want}
+use Rattle.sctp_link.proofs.upkeep.Wants.{may-want}
 use Rattle.sctp_link.proofs.link.Link.step.Goals as goal
 
 pub returns-in-Err-clause-answers : goal.returns-in-Err-clause-answers

@@ -8,8 +8,8 @@ use Rattle.sctp_link.specs.declared.open_stream.OpenStream.{OpenStream}
 use Rattle.sctp_link.specs.Fields.{world_in, state_in}
 use Rattle.sctp_link.specs.Records.{stream_record}
 use Rattle.sctp_link.specs.Skips.{named_from, none_named}
-use Rattle.sctp_link.proofs.Hears.{raw-length}
-use Rattle.sctp_link.proofs.SkipComes.{open-at, record-at, skips-in, names-are, judged, lowest-short}
+use Rattle.sctp_link.proofs.receiver.Hears.{raw-length}
+use Rattle.sctp_link.proofs.skipping.SkipComes.{open-at, record-at, skips-in, names-are, judged, lowest-short}
 use Rattle.sctp_link.proofs.link.Link.stream_fits.Goals as goal
 
 pub ends-low-requires : goal.ends-low-requires

@@ -12,11 +12,11 @@ use Rattle.sctp_link.specs.declared.record.Message.{Message}
 use Rattle.sctp_link.specs.Fields.{state_in, world_in}
 use Rattle.sctp_link.specs.OpenStreams.{marks}
 use Rattle.sctp_link.specs.Records.{message_record}
-use Rattle.sctp_link.proofs.Abandoning.{world-given, linked-given}
-use Rattle.sctp_link.proofs.GivingUp.{none-tails, half-front, whole-idle, early-idle, tails, idle-tail, tail-right, answer-is, never-idle, gives-tail}
-use Rattle.sctp_link.proofs.Hears.{message-raw}
-use Rattle.sctp_link.proofs.Keeping.{on-err}
-use Rattle.sctp_link.proofs.Sending.{next-is, tsn-fresh, tsn-window}
+use Rattle.sctp_link.proofs.giving_up.Abandoning.{world-given, linked-given}
+use Rattle.sctp_link.proofs.giving_up.GivingUp.{none-tails, half-front, whole-idle, early-idle, tails, idle-tail, tail-right, answer-is, never-idle, gives-tail}
+use Rattle.sctp_link.proofs.receiver.Hears.{message-raw}
+use Rattle.sctp_link.proofs.receiver.Keeping.{on-err}
+use Rattle.sctp_link.proofs.sender.Sending.{next-is, tsn-fresh, tsn-window}
 use Rattle.sctp_link.proofs.link.Link.tail.Goals as goal
 
 pub returns-in_default-clause-ok : goal.returns-in_default-clause-ok

@@ -10,11 +10,11 @@ use Rattle.sctp_link.specs.Linked.{has_number}
 use Rattle.sctp_link.specs.Records.{stream_record, message_record}
 use Rattle.sctp_model.specs.World.{World}
 use Rattle.sctp_link.specs.Fields.{state_in, world_in}
-use Rattle.sctp_link.proofs.Apart.{map-set_same}
-use Rattle.sctp_link.proofs.Keeping.{on-err}
-use Rattle.sctp_link.proofs.Writing.{same-default}
-use Rattle.sctp_link.proofs.Fragmented.{one-message}
-use Rattle.sctp_link.proofs.WrittenLists.{some-bytes, of-ok, write-found, write-short, fits-64, next-short, push-room, pushed-few, write-right, linked-wrote, linked-unwritten}
+use Rattle.sctp_link.proofs.upkeep.Apart.{map-set_same}
+use Rattle.sctp_link.proofs.receiver.Keeping.{on-err}
+use Rattle.sctp_link.proofs.sender.Writing.{same-default}
+use Rattle.sctp_link.proofs.sender.Fragmented.{one-message}
+use Rattle.sctp_link.proofs.sender.WrittenLists.{some-bytes, of-ok, write-found, write-short, fits-64, next-short, push-room, pushed-few, write-right, linked-wrote, linked-unwritten}
 use Rattle.sctp_link.proofs.link.Link.write.Goals as goal
 
 pub unreachable-requires : goal.unreachable-requires

@@ -6,7 +6,7 @@ use Rattle.sctp_queues.specs.DataChunks.{has_tsn}
 use Rattle.sctp_link.specs.Acking.{less_by}
 use Rattle.sctp_link.specs.Linked.{has_number}
 use Rattle.sctp_link.specs.OpenStreams.{slot_with}
-use Rattle.sctp_link.proofs.AckLoops.{acking-none, acking-some, short-share}
+use Rattle.sctp_link.proofs.acknowledging.AckLoops.{acking-none, acking-some, short-share}
 use Rattle.sctp_link.proofs.link.acknowledged.acknowledge.Goals as goal
 
 pub returns-in_default : goal.returns-in_default

@@ -1,7 +1,7 @@
 use Rattle.std.proofs.Common.{◌+◌, ◌-◌, ◌∙◌, ap, arith, take, slice_index_or}
 use Rattle.std.proofs.lemmas.List.{take_all}
 use Rattle.sctp_link.specs.Acking.{and_run, and_blocks, in_block}
-use Rattle.sctp_link.proofs.AckLoops.{acking-same, any-at, block-last, block-more}
+use Rattle.sctp_link.proofs.acknowledging.AckLoops.{acking-same, any-at, block-last, block-more}
 use Rattle.sctp_link.proofs.link.acknowledged.acknowledge_blocks.Goals as goal
 
 pub acknowledge_run-requires-clause-within : goal.acknowledge_run-requires-clause-within

@@ -1,6 +1,6 @@
 use Rattle.std.proofs.Common.{◌+◌, sym, ◌∙◌, arith}
 use Rattle.sctp_link.specs.Acking.{and_one, and_run}
-use Rattle.sctp_link.proofs.AckLoops.{acking-same, run-more, run-all}
+use Rattle.sctp_link.proofs.acknowledging.AckLoops.{acking-same, run-more, run-all}
 use Rattle.sctp_link.proofs.link.acknowledged.acknowledge_run.Goals as goal
 
 pub acknowledge-requires-clause-known : goal.acknowledge-requires-clause-known

@@ -1,6 +1,6 @@
 use Rattle.std.proofs.Common.{◌∙◌, refl, length-set, arith}
 use Rattle.sctp_link.specs.OpenStreams.{with_start}
-use Rattle.sctp_link.proofs.Walks.{changed_none, changed_more, changed_all}
+use Rattle.sctp_link.proofs.upkeep.Walks.{changed_none, changed_more, changed_all}
 use Rattle.sctp_link.proofs.link.streams.start_from.Goals as goal
 
 pub loop-place-init : goal.loop-place-init

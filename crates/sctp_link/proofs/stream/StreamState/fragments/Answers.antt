@@ -8,7 +8,7 @@ use Rattle.sctp_chunks.specs.declared.chunk.chunk_payload_data.ChunkPayloadData.
 use Rattle.sctp_queues.specs.reassembly_queue.Fragments.{payload_of}
 use Rattle.sctp_queues.proofs.lemmas.reassembly_queue.PieceLemmas.{payload-append}
 use Rattle.sctp_link.specs.Stream.{fragment, fragment_at, cut}
-use Rattle.sctp_link.proofs.PieceLemmas.{piece_below, piece_none, begins, ends, slice_is}
+use Rattle.sctp_link.proofs.sender.PieceLemmas.{piece_below, piece_none, begins, ends, slice_is}
 use Rattle.sctp_link.proofs.stream.StreamState.fragments.Goals as goal
 
 pub loop-at-preserved : goal.loop-at-preserved

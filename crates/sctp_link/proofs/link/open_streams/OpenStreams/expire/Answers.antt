@@ -1,5 +1,5 @@
 use Rattle.sctp_link.specs.OpenStreams.{expired_on}
-use Rattle.sctp_link.proofs.Places.{changed-found, changed-none}
+use Rattle.sctp_link.proofs.upkeep.Places.{changed-found, changed-none}
 use Rattle.sctp_link.proofs.link.open_streams.OpenStreams.expire.Goals as goal
 
 pub returns-in_default-clause-items : goal.returns-in_default-clause-items

@@ -1,5 +1,5 @@
 use Rattle.std.proofs.Common.{◌∙◌}
-use Rattle.sctp_link.proofs.Places.{place-of}
+use Rattle.sctp_link.proofs.upkeep.Places.{place-of}
 use Rattle.sctp_link.proofs.link.open_streams.OpenStreams.place_of.Goals as goal
 
 pub returns : goal.returns

@@ -1,5 +1,5 @@
 use Rattle.std.proofs.Common.{◌++◌, ◌∷◌, [], rules, ◌∙◌, ap}
-use Rattle.sctp_link.proofs.Places.{indexed-more}
+use Rattle.sctp_link.proofs.upkeep.Places.{indexed-more}
 use Rattle.sctp_link.proofs.link.open_streams.OpenStreams.push.Goals as goal
 
 pub returns-clause-indexed : goal.returns-clause-indexed

@@ -2,7 +2,7 @@ use Rattle.std.proofs.Common.{◌≡◌, ap, arith, to_z, w64}
 use Rattle.std.proofs.lemmas.Int.{to_z_pos}
 use Rattle.sctp_link.specs.Acking.{less_by}
 use Rattle.sctp_link.specs.Stream.{released}
-use Rattle.sctp_link.proofs.Places.{changed-found, changed-none}
+use Rattle.sctp_link.proofs.upkeep.Places.{changed-found, changed-none}
 use Rattle.sctp_link.proofs.link.open_streams.OpenStreams.release.Goals as goal
 
 pub returns-in_default-clause-items : goal.returns-in_default-clause-items

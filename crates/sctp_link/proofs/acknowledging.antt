@@ -1,0 +1,4 @@
+pub mod AckLoops
+pub mod Reporting
+pub mod SackFrames
+pub mod SackTaken

@@ -1,0 +1,147 @@
+-- A SACK is made.
+use Rattle.std.proofs.Common.{◌≡◌, ℕ, zero, suc, ◌+◌, ◌-◌, ◌<◌, ◌≤◌, ◌%◌, ◌^◌, List, [], ◌∷◌, ◌++◌, length, map, take, min, refl, ap, sym, ◌∙◌, arith}
+use Rattle.std.specs.Prelude.{slice_index_or}
+use Rattle.std.proofs.Math.Path.{subst}
+use Rattle.std.proofs.lemmas.List.{take-map}
+use Rattle.sctp_lists.specs.Kept.{runs_of}
+use Rattle.sctp_lists.proofs.Getting.{length-mapped}
+use Rattle.sctp_chunks.specs.declared.chunk.chunk_selective_ack.GapAckBlock.{GapAckBlock}
+use Rattle.sctp_chunks.specs.SelectiveAck.{Sack, sack_value}
+use Rattle.sctp_chunks.specs.Wire.{sack_chunk}
+use Rattle.sctp_chunks.proofs.Lengths.{length_sack_value}
+use Rattle.sctp_packets.specs.Packet.{ReadsPacket, packet_text}
+use Rattle.sctp_queues.specs.payload_queue.Blocks.{gap_offsets}
+use Rattle.sctp_queues.specs.payload_queue.PayloadQueue.{Payload}
+use Rattle.sctp_model.specs.declared.event.Event.TheVariants as E
+use Rattle.sctp_model.specs.World.{World}
+use Rattle.sctp_model.specs.World as W
+use Rattle.sctp_model.specs.Messages.{tsn_of}
+use Rattle.sctp_model.specs.Receiver.{cumulative}
+use Rattle.sctp_model.specs.Reports.{report_of, gap_blocks}
+use Rattle.sctp_model.specs.Contents.{contents_of, cumulative_tsn}
+use Rattle.sctp_model.specs.Queues.{FilterRecord}
+use Rattle.sctp_model.specs.Changes.{reported}
+use Rattle.sctp_model.specs.Steps.{reply_to}
+use Rattle.sctp_ties.proofs.arriving.Filter.{cumulative-le}
+use Rattle.sctp_ties.proofs.acknowledging.SackMade.{blocks-are, reported-outbound}
+use Rattle.sctp_link.specs.Records.{ends_of}
+use Rattle.sctp_link.specs.Texts.{IsDatagram, packet_with, block_of}
+use Rattle.sctp_link.specs.Linked.{State, IsLinked}
+use Rattle.sctp_link.proofs.upkeep.Facts.{facts, stands-then}
+use Rattle.sctp_link.proofs.upkeep.Frames.{stream-same, texts-more}
+
+-- no more are taken than there are
+take-min : {A : Type 0} (n k : ℕ) (xs : List A) → k ≡ min n (length xs) → take k xs ≡ take n xs
+take-min zero zero [] e = refl
+take-min (suc n) zero [] e = refl
+take-min n (suc k) [] e = absurd (omega (arith, e))
+take-min zero k (x ∷ xs) e = let z : k ≡ 0 = omega (arith, e) in ap (λ j. take j (x ∷ xs)) z
+take-min (suc n) zero (x ∷ xs) e = absurd (omega (arith, e))
+take-min (suc n) (suc k) (x ∷ xs) e = ap (λ l. x ∷ l) (take-min n k xs (omega (arith, e)))
+
+length-taken : {A : Type 0} (n : ℕ) (xs : List A) → length (take n xs) ≤ n
+length-taken zero xs = omega arith
+length-taken (suc n) [] = omega arith
+length-taken (suc n) (x ∷ xs) = omega (arith, length-taken n xs)
+
+blocks-again : (bs : List GapAckBlock) → map block_of (map ends_of bs) ≡ bs
+blocks-again [] = refl
+blocks-again (b ∷ bs) = ap (λ l. b ∷ l) (blocks-again bs)
+
+-- so many entries fit
+pub sack-short : (s : Sack) → length s.gap_ack_blocks ≤ 16379 → length s.duplicate_tsn ≤ 16379 - length s.gap_ack_blocks → 4 + length (sack_value s) < 2 ^ 16
+sack-short s a b = omega (arith, length_sack_value s, a, b)
+
+pub taken-short : {A : Type 0} (xs ys : List A) → ys ≡ take 16379 xs → length ys ≤ 16379
+taken-short xs ys e = omega (arith, ap length e, length-taken 16379 xs)
+
+pub min-short : {A : Type 0} (xs ys : List A) (blocks count : ℕ) → ys ≡ take count xs → count ≤ 16379 - blocks → length ys ≤ 16379 - blocks
+min-short xs ys blocks count e le = omega (arith, ap length e, length-taken count xs, le)
+
+module _ (sum : List ℕ → ℕ) (x : State) (l : IsLinked sum x) (credit : ℕ) where
+  abbrev w : World
+  w = x.world
+
+  abbrev v : World
+  v = reported x.world credit
+
+  cumulative-is : x.cumulative_tsn ≡ cumulative_tsn w (cumulative w)
+  cumulative-is = ap (λ (f : FilterRecord). f.cumulative) l.filter
+
+  repeats-are : x.filter.duplicates ≡ map (tsn_of w) w.duplicates
+  repeats-are = ap (λ (f : FilterRecord). f.duplicates) l.filter
+
+  -- as many repeats are noted in both
+  pub repeats-count : length x.filter.duplicates ≡ length w.duplicates
+  repeats-count = ap length repeats-are ∙ length-mapped (tsn_of w) w.duplicates
+
+  pub cumulative-place : ((x.cumulative_tsn + (2 ^ 32 - w.setup.first)) % 2 ^ 32 + 1) % 2 ^ 32 ≡ cumulative w
+  cumulative-place =
+      let f = facts sum x l in
+      let top = cumulative-le w f.sound.sound.skipped_made in
+      let first = l.setup.first in
+      let few = f.few in
+      omega (arith, cumulative-is, top, first, few)
+
+  module _ (all bs : List GapAckBlock) (runs : map ends_of all ≡ runs_of (gap_offsets x.cumulative_tsn x.filter.chunks)) (cut : bs ≡ take 16379 all) where
+    pub blocks-made : map ends_of bs ≡ gap_blocks w
+    blocks-made =
+        let f = facts sum x l in
+        ap (map ends_of) cut ∙ sym (take-map ends_of 16379 all) ∙ ap (take 16379) runs
+        ∙ ap (λ t. take 16379 (runs_of (gap_offsets t x.filter.chunks))) cumulative-is
+        ∙ sym (blocks-are w credit x.filter.chunks f.sound.sound.skipped_made f.few (ap (λ (f : FilterRecord). f.held) l.filter))
+
+    blocks-count : length bs ≡ length (gap_blocks w)
+    blocks-count = sym (length-mapped ends_of bs) ∙ ap length blocks-made
+
+    module _ (count : ℕ) (counted : count ≡ min (16379 - length bs) (length w.duplicates)) where
+      pub repeats-told : take count w.duplicates ≡ (report_of w credit).duplicates
+      repeats-told = take-min (16379 - length bs) count w.duplicates counted ∙ ap (λ k. take (16379 - k) w.duplicates) blocks-count
+
+      tsns-told : take count x.filter.duplicates ≡ map (tsn_of w) (report_of w credit).duplicates
+      tsns-told = ap (take count) repeats-are ∙ take-map (tsn_of w) count w.duplicates ∙ ap (map (tsn_of w)) repeats-told
+
+      pub report-is : (cum : ℕ) (blocks : List (ℕ × ℕ)) (repeats : List ℕ) → cum ≡ cumulative w → blocks ≡ map ends_of bs → repeats ≡ take count w.duplicates → (let r : W.Report = record { cumulative = cum; credit = credit; blocks = blocks; duplicates = repeats } in r) ≡ report_of w credit
+      report-is cum blocks repeats a b c =
+          ap (λ k. let r : W.Report = record { cumulative = k; credit = credit; blocks = blocks; duplicates = repeats } in r) a
+          ∙ ap (λ k. let r : W.Report = record { cumulative = cumulative w; credit = credit; blocks = k; duplicates = repeats } in r) (b ∙ blocks-made)
+          ∙ ap (λ k. let r : W.Report = record { cumulative = cumulative w; credit = credit; blocks = gap_blocks w; duplicates = k } in r) (c ∙ repeats-told)
+
+      says : (s : Sack) → s.cumulative_tsn_ack ≡ x.cumulative_tsn → s.advertised_receiver_window_credit ≡ credit → s.gap_ack_blocks ≡ bs → s.duplicate_tsn ≡ take count x.filter.duplicates
+          → s ≡ (let t : Sack = record { cumulative_tsn_ack = cumulative_tsn w (cumulative w); advertised_receiver_window_credit = credit; gap_ack_blocks = map block_of (gap_blocks w); duplicate_tsn = map (tsn_of w) (report_of w credit).duplicates } in t)
+      says s a b c d =
+          ap (λ k. let t : Sack = record { cumulative_tsn_ack = k; advertised_receiver_window_credit = s.advertised_receiver_window_credit; gap_ack_blocks = s.gap_ack_blocks; duplicate_tsn = s.duplicate_tsn } in t) (a ∙ cumulative-is)
+          ∙ ap (λ k. let t : Sack = record { cumulative_tsn_ack = cumulative_tsn w (cumulative w); advertised_receiver_window_credit = k; gap_ack_blocks = s.gap_ack_blocks; duplicate_tsn = s.duplicate_tsn } in t) b
+          ∙ ap (λ k. let t : Sack = record { cumulative_tsn_ack = cumulative_tsn w (cumulative w); advertised_receiver_window_credit = credit; gap_ack_blocks = k; duplicate_tsn = s.duplicate_tsn } in t) (c ∙ sym (blocks-again bs) ∙ ap (map block_of) blocks-made)
+          ∙ ap (λ k. let t : Sack = record { cumulative_tsn_ack = cumulative_tsn w (cumulative w); advertised_receiver_window_credit = credit; gap_ack_blocks = map block_of (gap_blocks w); duplicate_tsn = k } in t) (d ∙ tsns-told)
+
+      pub linked-ack : (s : Sack) (bytes : List ℕ) (filter : Payload) → s.cumulative_tsn_ack ≡ x.cumulative_tsn → s.advertised_receiver_window_credit ≡ credit → s.gap_ack_blocks ≡ bs → s.duplicate_tsn ≡ take count x.filter.duplicates → bytes ≡ packet_text sum (packet_with (sack_chunk s ∷ [])) → ReadsPacket sum bytes (packet_with (sack_chunk s ∷ [])) → length x.datagrams ≡ length w.network → filter ≡ record x.filter { duplicates = [] } → IsLinked sum (record x { world = v; datagrams = x.datagrams ++ bytes ∷ []; filter = filter })
+      linked-ack s bytes filter ea eb ec ed text reads len ef = subst (λ f. IsLinked sum (record x { world = v; datagrams = x.datagrams ++ bytes ∷ []; filter = f })) (sym ef) (record {
+        setup = l.setup;
+        one_each = l.one_each;
+        history = (E.Ack credit, reply_to w (E.Ack credit)) ∷ l.history;
+        stands = stands-then w.setup w l.history (E.Ack credit) refl l.stands;
+        outbound = reported-outbound w credit x.outbound l.outbound;
+        unstarted = l.unstarted;
+        filter = ap (λ (f : FilterRecord). let r : FilterRecord = record { cumulative = f.cumulative; held = f.held; duplicates = [] } in r) l.filter;
+        next = l.next;
+        fragments = l.fragments;
+        written = l.written;
+        sents = l.sents;
+        indexes = l.indexes;
+        low = l.low;
+        open_streams = λ k d lt. stream-same w v (slice_index_or x.open_streams k d) (record { setup = refl; held = refl; ordered = refl; next = refl; amount = refl; counters = refl }) refl (l.open_streams k d lt);
+        indexed = l.indexed;
+        texts = texts-more sum x l (E.Ack credit) refl (W.Sack (report_of w credit)) bytes refl len is;
+      })
+        where
+          is : IsDatagram sum (contents_of v (W.Sack (report_of w credit))) bytes
+          is =
+              let e = says s ea eb ec ed in
+              record { text = text ∙ ap (λ t. packet_text sum (packet_with (sack_chunk t ∷ []))) e; reads = subst (λ t. ReadsPacket sum bytes (packet_with (sack_chunk t ∷ []))) e reads }
+
+-- the record with the datagram that says it
+pub world-acked : (w : World) (credit : ℕ) (network : List W.Datagram) (repeats : List ℕ) (r : W.Report) → network ≡ w.network ++ W.Sack r ∷ [] → r ≡ report_of w credit → repeats ≡ [] → record w { network = network; duplicates = repeats } ≡ reported w credit
+world-acked w credit network repeats r a b c =
+    ap (λ n. record w { network = n; duplicates = repeats }) (a ∙ ap (λ s. w.network ++ W.Sack s ∷ []) b)
+    ∙ ap (λ d. record w { network = w.network ++ W.Sack (report_of w credit) ∷ []; duplicates = d }) c

@@ -1,0 +1,5 @@
+pub mod Comes
+pub mod HandsOut
+pub mod Keeping
+pub mod Arrives
+pub mod Hears

@@ -1,0 +1,344 @@
+-- What a read makes of a link.
+use Rattle.std.proofs.Common.{◌≡◌, ℕ, zero, suc, ◌+◌, ◌<◌, Bool, true, false, List, [], ◌∷◌, length, map, drop, Some, None, refl, ap, sym, ◌∙◌, inl, inr, arith}
+use Rattle.std.specs.Prelude.{◌⊎◌, ◌==◌, ◌&&◌, is_some, if◌then◌else◌, find, unwrap_or, slice_index_or, slice_set, Option, option_map}
+use Rattle.std.specs.List.{list_any}
+use Rattle.std.proofs.Math.Path.{subst}
+use Rattle.std.proofs.lemmas.List.{length-set}
+use Rattle.sctp_lists.specs.Lists.{changed}
+use Rattle.sctp_lists.proofs.Cases.{same-yes, same-is, or-left}
+use Rattle.sctp_lists.proofs.KeptLemmas.{front-kept, FrontOf}
+use Rattle.sctp_chunks.specs.ChunkSet.{ChunkSet}
+use Rattle.sctp_chunks.specs.declared.chunk.chunk_payload_data.PayloadProtocolIdentifier.{PayloadProtocolIdentifier}
+use Rattle.sctp_chunks.specs.declared.chunk.chunk_payload_data.PayloadProtocolIdentifier.TheVariants.{Dcep, String, Binary, StringEmpty, BinaryEmpty, Unknown}
+use Rattle.sctp_queues.specs.reassembly_queue.ReassemblyQueue.{message_read, rest_read, state_read, at_start}
+use Rattle.sctp_queues.specs.declared.reassembly_queue.chunks.Chunks.{Chunks}
+use Rattle.sctp_model.specs.declared.event.Event.TheVariants as E
+use Rattle.sctp_model.specs.declared.event.LinkRefusal.TheVariants.{StreamUnknown}
+use Rattle.sctp_model.specs.World.{World, StreamRecord}
+use Rattle.sctp_model.specs.World as W
+use Rattle.sctp_model.specs.Messages.{message_at, stream_at, stream_of, index_of, sent_of, no_stream}
+use Rattle.sctp_model.specs.Receiver.{is_held, held_on, next_of, next_read}
+use Rattle.sctp_model.specs.Changes.{read_of, read_from, mark_read, without_first}
+use Rattle.sctp_model.specs.Queues.{filter_of, set_of, whole_set_of, handed_out}
+use Rattle.sctp_model.specs.Reply as R
+use Rattle.sctp_model.specs.Sound.{IsSpan}
+use Rattle.sctp_model.specs.Steps.{refusal_of, reply_to, after, read_reply, unless}
+use Rattle.sctp_model.proofs.sender.Network
+use Rattle.sctp_model.proofs.sender.Shape.{shape}
+use Rattle.sctp_model.proofs.sender.Fronts.{slot-sent}
+use Rattle.sctp_ties.specs.Holds.{reassembly_of}
+use Rattle.sctp_ties.specs.Counts.{counters_on, received_more, counted_as}
+use Rattle.sctp_ties.proofs.reading.Line
+use Rattle.sctp_ties.proofs.reading.NextRead
+use Rattle.sctp_ties.proofs.acknowledging.QuietSender
+use Rattle.sctp_ties.proofs.reading.ReadOne
+use Rattle.sctp_ties.proofs.reading.ReadOne.{ReadsWhole, ReadsOrdered}
+use Rattle.sctp_ties.proofs.arriving.SpanEnds.{Begins, set-begins, whole-begins}
+use Rattle.sctp_ties.proofs.amounts.StreamCounters.{counters-read, counters-nothing}
+use Rattle.sctp_link.specs.declared.open_stream.OpenStream.{OpenStream}
+use Rattle.sctp_link.specs.declared.record.Message.{Message}
+use Rattle.sctp_link.specs.declared.stream.StreamState.{StreamState}
+use Rattle.sctp_link.specs.OpenStreams.{with_read_stats}
+use Rattle.sctp_link.specs.Linked.{State, IsLinked, IsOpenStream, has_number, stats_of}
+use Rattle.sctp_link.specs.Places.{stream_numbers}
+use Rattle.sctp_link.specs.Records.{message_record, stream_record}
+use Rattle.sctp_link.specs.Stats.{counted_bytes, with_received}
+use Rattle.sctp_link.proofs.sender.Beginning.{index_kept}
+use Rattle.sctp_link.proofs.upkeep.Apart.{IsApart, apart, differ, each-set, map-set_same, number-found, streams-set}
+use Rattle.sctp_link.proofs.upkeep.Places.{indexed-set}
+use Rattle.sctp_link.proofs.upkeep.Facts.{facts, over}
+use Rattle.sctp_link.proofs.upkeep.StreamsAfter.{stream-then, linked-then}
+use Rattle.sctp_link.proofs.upkeep.Lookups.{some-open, none-open}
+
+-- set twice
+pub set-set : {A : Type 0} (xs : List A) (i : ℕ) (a b : A) → slice_set (slice_set xs i a) i b ≡ slice_set xs i b
+set-set [] i a b = refl
+set-set (x ∷ xs) zero a b = refl
+set-set (x ∷ xs) (suc i) a b = ap (λ ys. x ∷ ys) (set-set xs i a b)
+
+-- a message read, counted as the record counts it
+counted-read : (ppi : PayloadProtocolIdentifier) (len : ℕ) (w : World) (t : ℕ) → with_received (counted_bytes ppi len) (stats_of (counters_on w t)) ≡ stats_of (received_more (counted_as ppi len) (counters_on w t))
+counted-read Dcep len w t = refl
+counted-read String len w t = refl
+counted-read Binary len w t = refl
+counted-read StringEmpty len w t = refl
+counted-read BinaryEmpty len w t = refl
+counted-read Unknown len w t = refl
+
+filter-read : (w : World) (s : ℕ) (o : Option ℕ) → filter_of (read_of w s o) ≡ filter_of w
+filter-read w s None = refl
+filter-read w s (Some n) = refl
+
+front-held : (w : World) (s : ℕ) (l : List ℕ) (k : ℕ) (rest : List ℕ) → FrontOf (is_held w s) 0 (length w.messages) l → l ≡ k ∷ rest → is_held w s k ≡ true
+front-held w s [] k rest f e = cc
+front-held w s (j ∷ r) k rest f e = let z : j ≡ k = cc in ap (is_held w s) (sym z) ∙ f.passes
+
+-- what is read, by its kind
+pub record HandsOut (w : World) (s n : ℕ) : Type 0 where
+  pub begins : Begins w n (handed_out w n).chunks
+  pub made : n < length w.messages
+  pub stream : (message_at w n).stream ≡ s
+  pub next : next_of (read_from w s) s ≡ (if (message_at w n).ordered && (index_of w n == next_of w s) then index_of w n + 1 else next_of w s)
+  pub other : (t : ℕ) → (t ≡ s → ⊥) → next_of (read_from w s) t ≡ next_of w t
+  pub whole : (if (message_at w n).ordered then (stream_of w s).whole else drop 1 (stream_of w s).whole) ≡ drop 1 (stream_of w s).whole
+
+module _ (sum : List ℕ → ℕ) (x : State) (l : IsLinked sum x) (s at : ℕ) (d : OpenStream) (streams_are : x.world.streams ≡ map stream_record x.open_streams) (lt : at < length x.open_streams) (found : (d : OpenStream) → find (has_number s) x.open_streams ≡ Some (slice_index_or x.open_streams at d)) where
+  abbrev w : World
+  w = x.world
+
+  abbrev v : World
+  v = after x.world (E.Read s)
+
+  abbrev y : OpenStream
+  y = slice_index_or x.open_streams at d
+
+  abbrev r : StreamRecord
+  r = stream_record (slice_index_or x.open_streams at d)
+
+  open' : stream_at w s ≡ Some r
+  open' = some-open w s x.open_streams y streams_are (found d)
+
+  none : refusal_of w (E.Read s) ≡ None
+  none = ap (λ o. unless (is_some o) StreamUnknown None) open'
+
+  frame : Network.Same w v
+  frame = Network.same-read w s (next_read w s)
+
+  quiet : QuietSender.SameToSender w v
+  quiet = QuietSender.same-read w s (next_read w s)
+
+  id-at : (c : OpenStream) → (slice_index_or x.open_streams at c).state.stream_identifier ≡ s
+  id-at c = number-found s x.open_streams (slice_index_or x.open_streams at c) (found c)
+
+  here : y.state.reassembly_queue.held ≡ reassembly_of w s
+  here = (l.open_streams at d lt).held ∙ ap (reassembly_of w) (id-at d)
+
+  span : IsSpan w s []
+  span = (facts sum x l).sound.near s
+
+  whole-are : (stream_of w s).whole ≡ y.whole.items
+  whole-are = ap (λ o. (unwrap_or o (no_stream s)).whole) open'
+
+  rest : rest_read y.state.reassembly_queue.held ≡ reassembly_of v s
+  rest = let f = facts sum x l in ap rest_read here ∙ NextRead.rest-is w s r f.sound.sound f.sound.loose span open'
+
+  streams-apart : IsApart (stream_numbers x.open_streams)
+  streams-apart = apart x.places (stream_numbers x.open_streams) l.indexed
+
+  filter-stays : filter_of v ≡ filter_of w
+  filter-stays = filter-read w s (next_read w s)
+
+  -- the stream that is read, and the others
+  stream-read : (z : OpenStream) → z.state.stream_identifier ≡ y.state.stream_identifier → z.state.reassembly_queue ≡ state_read y.state.reassembly_queue → z.state.max_payload_size ≡ y.state.max_payload_size → z.state.sequence_number ≡ y.state.sequence_number → z.state.buffered_amount ≡ y.state.buffered_amount → z.ordered ≡ y.ordered → z.begun ≡ y.begun → z.next ≡ next_of v s → z.state.stats ≡ stats_of (counters_on v s) → IsOpenStream v z
+  stream-read z id queue size number bytes ordered begun next stats =
+      stream-then sum x l (E.Read s) none frame refl y z (l.open_streams at d lt) id (ap (λ q. q.held) queue ∙ rest ∙ ap (reassembly_of v) (sym (id-at d))) (ap (λ q. q.si) queue) (ap (λ q. q.max_message_size) queue) size ordered number begun
+      (next ∙ ap (next_of v) (sym (id-at d))) bytes (stats ∙ ap (λ t. stats_of (counters_on v t)) (sym (id-at d)))
+
+  each-read : (z : OpenStream) → IsOpenStream v z → ((t : ℕ) → (t ≡ s → ⊥) → next_of v t ≡ next_of w t) → ((t : ℕ) → (t ≡ s → ⊥) → counters_on v t ≡ counters_on w t) → (j : ℕ) (c : OpenStream) → j < length (slice_set x.open_streams at z) → IsOpenStream v (slice_index_or (slice_set x.open_streams at z) j c)
+  each-read z new next counters j c less =
+      let inside : j < length x.open_streams = omega (arith, less, length-set x.open_streams at z) in
+      each-set (IsOpenStream v) x.open_streams at j z c lt new (λ ne. other inside ne)
+    where
+      other : j < length x.open_streams → (j ≡ at → ⊥) → IsOpenStream v (slice_index_or x.open_streams j c)
+      other inside ne =
+          let f = facts sum x l in
+          let i = l.open_streams j c inside in
+          let t = slice_index_or x.open_streams j c in
+          let off : t.state.stream_identifier ≡ s → ⊥ = λ h. differ x.open_streams j at c streams-apart inside lt ne (h ∙ sym (id-at c)) in
+          stream-then sum x l (E.Read s) none frame refl t t i refl (i.held ∙ sym (NextRead.read-others w s r f.sound.sound f.sound.loose span open' t.state.stream_identifier off)) refl refl refl refl refl refl
+          (i.next ∙ sym (next t.state.stream_identifier off)) refl (i.stats ∙ ap stats_of (sym (counters t.state.stream_identifier off)))
+
+  -- ## Nothing to read
+
+  module _ (e : message_read (slice_index_or x.open_streams at d).state.reassembly_queue.held ≡ None) where
+    nothing : next_read w s ≡ None
+    nothing = let f = facts sum x l in ReadOne.none-due w s r f.sound.sound f.sound.loose span open' (ap message_read (sym here) ∙ e)
+
+    still : v ≡ w
+    still = ReadOne.nothing-read w s nothing
+
+    pub reply-nothing : R.Nothing ≡ reply_to w (E.Read s)
+    reply-nothing = sym (ap (read_reply w) nothing)
+
+    abbrev z : OpenStream
+    z = record (slice_index_or x.open_streams at d) { state = record (slice_index_or x.open_streams at d).state { reassembly_queue = state_read (slice_index_or x.open_streams at d).state.reassembly_queue } }
+
+    world-same : record w { streams = map stream_record (slice_set x.open_streams at z) } ≡ v
+    world-same = ap {B = World} (λ rs. record w { streams = rs }) (map-set_same stream_record x.open_streams at z d refl ∙ sym streams_are) ∙ sym still
+
+    linked-same : IsLinked sum (record x { world = record w { streams = map stream_record (slice_set x.open_streams at z) }; open_streams = slice_set x.open_streams at z })
+    linked-same =
+        let i = l.open_streams at d lt in
+        linked-then sum x l (E.Read s) none frame x.progress (slice_set x.open_streams at z) x.cumulative_tsn x.filter (record w { streams = map stream_record (slice_set x.open_streams at z) }) refl (l.filter ∙ sym filter-stays)
+        (each-read z (stream-read z refl refl refl refl refl refl refl (i.next ∙ ap (next_of w) (id-at d) ∙ ap (λ u. next_of u s) (sym still)) (i.stats ∙ ap (λ t. stats_of (counters_on w t)) (id-at d) ∙ ap stats_of (sym (counters-nothing w s s nothing))))
+        (λ t ne. ap (λ u. next_of u t) still) (λ t ne. counters-nothing w s t nothing))
+        (indexed-set x.places x.open_streams at z d l.indexed refl)
+        quiet world-same
+
+    module _ (u : OpenStream) (is : u ≡ record (slice_index_or x.open_streams at d) { state = record (slice_index_or x.open_streams at d).state { reassembly_queue = state_read (slice_index_or x.open_streams at d).state.reassembly_queue } }) where
+      pub world-nothing : record w { streams = map stream_record (slice_set x.open_streams at u) } ≡ v
+      world-nothing = ap {B = World} (λ (t : OpenStream). record w { streams = map stream_record (slice_set x.open_streams at t) }) is ∙ world-same
+
+      pub linked-nothing : IsLinked sum (record x { world = record w { streams = map stream_record (slice_set x.open_streams at u) }; open_streams = slice_set x.open_streams at u })
+      linked-nothing = subst (λ (t : OpenStream). IsLinked sum (record x { world = record w { streams = map stream_record (slice_set x.open_streams at t) }; open_streams = slice_set x.open_streams at t })) (sym is) linked-same
+
+  -- ## A message is read
+
+  hands-whole : (n : ℕ) → ReadsWhole w s n → HandsOut w s n
+  hands-whole n o =
+      let f = facts sum x l in
+      let kind = o.unordered in
+      let any : list_any (λ k. k == n) (stream_of w s).whole ≡ true = ap (list_any (λ k. k == n)) o.whole ∙ or-left (n == n) (list_any (λ k. k == n) o.rest) (same-yes n) in
+      let waits = f.sound.loose.waits s n any in
+      record {
+        begins = subst (λ (c : ChunkSet). Begins w n c.chunks) (sym (ap (λ b. if b then set_of w n else whole_set_of w n) kind)) (whole-begins w s n f.sound.sound f.sound.loose f.setup.first any);
+        made = waits.made;
+        stream = waits.stream;
+        next = o.next s ∙ sym (ap (λ b. if b && (index_of w n == next_of w s) then index_of w n + 1 else next_of w s) kind);
+        other = λ t ne. o.next t;
+        whole = ap (λ b. if b then (stream_of w s).whole else drop 1 (stream_of w s).whole) kind;
+      }
+
+  hands-ordered : (n : ℕ) → ReadsOrdered w s n → HandsOut w s n
+  hands-ordered n o =
+      let f = facts sum x l in
+      let kind = Line.on-ordered w s n o.due.on in
+      let held = front-held w s (held_on w s) n o.rest (front-kept (is_held w s) 0 (length w.messages)) o.front in
+      record {
+        begins = subst (λ (c : ChunkSet). Begins w n c.chunks) (sym (ap (λ b. if b then set_of w n else whole_set_of w n) kind)) (set-begins w s n f.sound.sound f.setup.first held);
+        made = Line.on-made w s n o.due.on;
+        stream = Line.on-stream w s n o.due.on;
+        next = o.here ∙ step (index_of w n == next_of w s) refl ∙ sym (ap (λ b. if b && (index_of w n == next_of w s) then index_of w n + 1 else next_of w s) kind);
+        other = o.other;
+        whole = ap (λ b. if b then (stream_of w s).whole else drop 1 (stream_of w s).whole) kind ∙ o.none ∙ sym (ap (drop 1) o.none);
+      }
+    where
+      step : (b : Bool) → (index_of w n == next_of w s) ≡ b → (if b then next_of w s + 1 else next_of w s) ≡ (if b then index_of w n + 1 else next_of w s)
+      step true h = ap (λ k. k + 1) (sym (same-is (index_of w n) (next_of w s) h))
+      step false h = refl
+
+  module _ (set : ChunkSet) (e : message_read (slice_index_or x.open_streams at d).state.reassembly_queue.held ≡ Some set) where
+    pub read-is : (n : ℕ) × (next_read w s ≡ Some n) × (set ≡ handed_out w n)
+    read-is = let f = facts sum x l in ReadOne.some-read w s r f.sound.sound f.sound.loose span open' set (ap message_read (sym here) ∙ e)
+
+    abbrev n : ℕ
+    n = read-is.0
+
+    pub hands : HandsOut w s read-is.0
+    hands = let f = facts sum x l in by (ReadOne.reads-one w s r f.sound.sound f.sound.loose span open' read-is.0 read-is.1)
+      where
+        by : ReadsWhole w s read-is.0 ⊎ ReadsOrdered w s read-is.0 → HandsOut w s read-is.0
+        by (inl o) = hands-whole read-is.0 o
+        by (inr o) = hands-ordered read-is.0 o
+
+    pub hands-begins : Begins w read-is.0 set.chunks
+    hands-begins = subst (λ (c : ChunkSet). Begins w read-is.0 c.chunks) (sym read-is.2) hands.begins
+
+    pub low : index_kept x.progress read-is.0 < length w.messages
+    low = omega (arith, l.low read-is.0, hands.made)
+
+    -- it has its index, as some of it was sent
+    sent-some : 0 < sent_of w read-is.0
+    sent-some = subst (λ n. 0 < sent_of w n) hands-begins.of (slot-sent (shape w) hands-begins.place (facts sum x l).sane.sender hands-begins.made)
+
+    pub reply-read : R.Message s (message_at w read-is.0).ppi set ≡ reply_to w (E.Read s)
+    reply-read = ap (λ c. R.Message s (message_at w read-is.0).ppi c) read-is.2 ∙ ap (λ t. R.Message t (message_at w read-is.0).ppi (handed_out w read-is.0)) (sym hands.stream) ∙ sym (ap (read_reply w) read-is.1)
+
+    -- with the message m, whose number is n
+    module _ (m : Message) (messages : List W.Message) (z : OpenStream) (m_is : message_at x.world read-is.0 ≡ message_record m) (messages_are : messages ≡ changed mark_read read-is.0 x.world.messages)
+        (state : z.state ≡ with_read_stats m.ppi (length m.bytes) (record (slice_index_or x.open_streams at d).state { reassembly_queue = state_read (slice_index_or x.open_streams at d).state.reassembly_queue }))
+        (whole : z.whole.items ≡ (if m.ordered then (slice_index_or x.open_streams at d).whole.items else drop 1 (slice_index_or x.open_streams at d).whole.items))
+        (index : m.index ≡ index_kept x.progress read-is.0)
+        (ordered : z.ordered ≡ (slice_index_or x.open_streams at d).ordered)
+        (begun : z.begun ≡ (slice_index_or x.open_streams at d).begun)
+        (named : z.named ≡ (slice_index_or x.open_streams at d).named)
+        (next : z.next ≡ (if m.ordered && (m.index == (slice_index_or x.open_streams at d).next) then m.index + 1 else (slice_index_or x.open_streams at d).next)) where
+      same-id : z.state.stream_identifier ≡ y.state.stream_identifier
+      same-id = ap (λ (t : StreamState). t.stream_identifier) state
+
+      next-is : z.next ≡ next_of v s
+      next-is =
+          let kind : (message_at w read-is.0).ordered ≡ m.ordered = ap (λ t. t.ordered) m_is in
+          next
+          ∙ indexed m.ordered m.index (index_of w read-is.0) (λ o. index ∙ l.indexes read-is.0 sent-some (kind ∙ o))
+          ∙ ap (λ b. if b && (index_of w read-is.0 == y.next) then index_of w read-is.0 + 1 else y.next) (ap (λ t. t.ordered) (sym m_is))
+          ∙ ap (λ t. if (message_at w read-is.0).ordered && (index_of w read-is.0 == t) then index_of w read-is.0 + 1 else t) ((l.open_streams at d lt).next ∙ ap (next_of w) (id-at d))
+          ∙ sym hands.next
+        where
+          indexed : (o : Bool) (a b : ℕ) → (o ≡ true → a ≡ b) → (if o && (a == y.next) then a + 1 else y.next) ≡ (if o && (b == y.next) then b + 1 else y.next)
+          indexed true a b e = ap (λ c. if true && (c == y.next) then c + 1 else y.next) (e refl)
+          indexed false a b e = refl
+
+      counters-at : (t : ℕ) → counters_on v t ≡ (if t == s then received_more (counted_as (message_at w read-is.0).ppi (length (message_at w read-is.0).bytes)) (counters_on w t) else counters_on w t)
+      counters-at t =
+          over sum x (λ (u : World). next_read u s ≡ Some read-is.0 → counters_on (read_from u s) t ≡ (if t == s then received_more (counted_as (message_at u read-is.0).ppi (length (message_at u read-is.0).bytes)) (counters_on u t) else counters_on u t)) l
+          (λ h. counters-read w.setup l.history l.setup l.stands.run s t read-is.0 h) read-is.1
+
+      counters-other : (t : ℕ) → (t ≡ s → ⊥) → counters_on v t ≡ counters_on w t
+      counters-other t ne = counters-at t ∙ by (t == s) refl
+        where
+          by : (b : Bool) → (t == s) ≡ b → (if b then received_more (counted_as (message_at w read-is.0).ppi (length (message_at w read-is.0).bytes)) (counters_on w t) else counters_on w t) ≡ counters_on w t
+          by true h = absurd (ne (same-is t s h))
+          by false h = refl
+
+      stats-are : z.state.stats ≡ stats_of (counters_on v s)
+      stats-are =
+          ap (λ (t : StreamState). t.stats) state
+          ∙ ap (with_received (counted_bytes m.ppi (length m.bytes))) ((l.open_streams at d lt).stats ∙ ap (λ t. stats_of (counters_on w t)) (id-at d))
+          ∙ counted-read m.ppi (length m.bytes) w s
+          ∙ ap (λ (t : W.Message). stats_of (received_more (counted_as t.ppi (length t.bytes)) (counters_on w s))) (sym m_is)
+          ∙ ap stats_of (sym (counters-at s ∙ ap (λ b. if b then received_more (counted_as (message_at w read-is.0).ppi (length (message_at w read-is.0).bytes)) (counters_on w s) else counters_on w s) (same-yes s)))
+
+      open_stream-is : IsOpenStream v z
+      open_stream-is = stream-read z same-id (ap (λ (t : StreamState). t.reassembly_queue) state) (ap (λ (t : StreamState). t.max_payload_size) state) (ap (λ (t : StreamState). t.sequence_number) state) (ap (λ (t : StreamState). t.buffered_amount) state) ordered begun next-is stats-are
+
+      abbrev shown : ℕ → StreamState → List ℕ → StreamRecord
+      shown named t whole = record { stream = t.stream_identifier; unordered = t.unordered; reliability = t.reliability_type; value = t.reliability_value; named = named; whole = whole }
+
+      whole-is : z.whole.items ≡ drop 1 y.whole.items
+      whole-is =
+          whole ∙ ap (λ b. if b then y.whole.items else drop 1 y.whole.items) (ap (λ t. t.ordered) (sym m_is))
+          ∙ ap (λ l. if (message_at w read-is.0).ordered then l else drop 1 l) (sym whole-are) ∙ hands.whole ∙ ap (drop 1) whole-are
+
+      streams-are : map stream_record (slice_set x.open_streams at z) ≡ map (λ (t : StreamRecord). if t.stream == s then without_first t else t) w.streams
+      streams-are =
+          streams-set x.open_streams at z d without_first streams-apart lt (ap (λ (t : StreamState). shown z.named t z.whole.items) state ∙ ap (λ n. shown n y.state z.whole.items) named ∙ ap (shown y.named y.state) whole-is)
+          ∙ ap (λ i. map (λ (t : StreamRecord). if t.stream == i then without_first t else t) (map stream_record x.open_streams)) (id-at d)
+          ∙ ap (map (λ (t : StreamRecord). if t.stream == s then without_first t else t)) (sym streams_are)
+
+      pub world-read : record w { streams = map stream_record (slice_set x.open_streams at z); messages = messages } ≡ v
+      world-read =
+          ap {B = World} (λ rs. record w { streams = rs; messages = messages }) streams-are
+          ∙ ap {B = World} (λ ms. record w { streams = map (λ (t : StreamRecord). if t.stream == s then without_first t else t) w.streams; messages = ms }) messages_are
+          ∙ sym (ap (read_of w s) read-is.1)
+
+      pub linked-read : (progress : List (ℕ × ℕ)) → progress ≡ x.progress → IsLinked sum (record x { world = record w { streams = map stream_record (slice_set x.open_streams at z); messages = messages }; progress = progress; open_streams = slice_set x.open_streams at z })
+      linked-read progress same =
+          linked-then sum x l (E.Read s) none frame progress (slice_set x.open_streams at z) x.cumulative_tsn x.filter (record w { streams = map stream_record (slice_set x.open_streams at z); messages = messages }) same (l.filter ∙ sym filter-stays)
+          (each-read z open_stream-is hands.other counters-other)
+          (indexed-set x.places x.open_streams at z d l.indexed same-id)
+          quiet world-read
+
+      -- where the stream was set before
+      pub world-twice : (a : OpenStream) → record w { streams = map stream_record (slice_set (slice_set x.open_streams at a) at z); messages = messages } ≡ v
+      world-twice a = ap {B = World} (λ ls. record w { streams = map stream_record ls; messages = messages }) (set-set x.open_streams at a z) ∙ world-read
+
+      pub linked-twice : (a : OpenStream) (progress : List (ℕ × ℕ)) → progress ≡ x.progress → IsLinked sum (record x { world = record w { streams = map stream_record (slice_set (slice_set x.open_streams at a) at z); messages = messages }; progress = progress; open_streams = slice_set (slice_set x.open_streams at a) at z })
+      linked-twice a progress same = subst (λ ls. IsLinked sum (record x { world = record w { streams = map stream_record ls; messages = messages }; progress = progress; open_streams = ls })) (sym (set-set x.open_streams at a z)) (linked-read progress same)
+
+-- ## What the queue answered
+
+pub none-mapped : (o : Option ChunkSet) → None ≡ option_map at_start o → o ≡ None
+none-mapped None e = refl
+none-mapped (Some t) e = cc
+
+pub some-mapped : (o : Option ChunkSet) (c : Chunks) → Some c ≡ option_map at_start o → o ≡ Some c.set
+some-mapped None c e = cc
+some-mapped (Some t) c e = let z : c ≡ at_start t = cc in ap (λ (a : Chunks). Some a.set) (sym z)
+
+-- a stream that is read is open
+pub never-shut : (w : World) (s : ℕ) (open_streams : List OpenStream) → w.streams ≡ map stream_record open_streams → refusal_of w (E.Read s) ≡ None → find (has_number s) open_streams ≡ None → ⊥
+never-shut w s open_streams same ok shut =
+    let o : unless (is_some (stream_at w s)) StreamUnknown None ≡ Some StreamUnknown = ap (λ b. unless b StreamUnknown None) (none-open w s open_streams same shut) in
+    let z : Some StreamUnknown ≡ None = sym o ∙ ok in
+    cc

@@ -1,0 +1,239 @@
+-- What a link's queues tell of what comes to its receiver.
+use Rattle.std.proofs.Common.{◌≡◌, ℕ, zero, suc, ◌+◌, ◌-◌, ◌<◌, ◌≤◌, ◌^◌, ◌%◌, Bool, true, false, List, [], ◌∷◌, length, map, Option, Some, None, refl, ap, sym, ◌∙◌, arith}
+use Rattle.std.specs.Prelude.{◌&&◌, not, is_some, find, if◌then◌else◌, min, max, nat_lt, slice_get, slice_index_or}
+use Rattle.std.specs.Option.{option_copied}
+use Rattle.std.specs.Borrow.{Bor}
+use Rattle.std.proofs.Math.Path.{subst}
+use Rattle.sctp_lists.specs.Kept.{numbers_from, total_over}
+use Rattle.sctp_lists.specs.Serial.{at_or_before}
+use Rattle.sctp_lists.proofs.More.{not_both}
+use Rattle.sctp_chunks.specs.declared.chunk.chunk_payload_data.ChunkPayloadData.{ChunkPayloadData}
+use Rattle.sctp_chunks.specs.ChunkSet.{ChunkSet}
+use Rattle.sctp_queues.specs.DataChunks.{has_tsn}
+use Rattle.sctp_queues.specs.Window
+use Rattle.sctp_model.specs.World.{World, StreamRecord, Data}
+use Rattle.sctp_model.specs.Messages.{message_at, slot_at, message_of, stream_at, index_of, sent_of, tsn_of, place_of, no_message, no_slot}
+use Rattle.sctp_model.specs.Receiver.{is_new, is_held, held_on, next_of, least, greatest}
+use Rattle.sctp_model.specs.Queues.{set_of}
+use Rattle.sctp_model.specs.Steps.{arrival_fits}
+use Rattle.sctp_model.proofs.sender.Shape.{shape, parts}
+use Rattle.sctp_model.proofs.sender.Fronts.{slot-sent}
+use Rattle.sctp_ties.specs.Holds.{ordered_sets}
+use Rattle.sctp_ties.proofs.arriving.Arrival
+use Rattle.sctp_ties.proofs.reading.Line
+use Rattle.sctp_ties.proofs.reading.Taken
+use Rattle.sctp_ties.proofs.arriving.FilterQueue.{new-is}
+use Rattle.sctp_ties.proofs.arriving.SpanEnds.{Begins, set-begins, set-at, sets-held, ends-none, lowest-front, highest-back, arrival-fits-one}
+use Rattle.sctp_link.specs.declared.open_stream.OpenStream.{OpenStream}
+use Rattle.sctp_link.specs.declared.record.Message.{Message}
+use Rattle.sctp_link.specs.declared.record.Slot.{Slot}
+use Rattle.sctp_link.specs.Linked.{State, IsLinked, has_number}
+use Rattle.sctp_link.specs.Records.{message_record, slot_record, progress_of}
+use Rattle.sctp_link.proofs.sender.Beginning.{index_kept}
+use Rattle.sctp_link.proofs.upkeep.Facts.{facts}
+use Rattle.sctp_link.proofs.upkeep.Apart.{number-found}
+
+-- ## Elements of the record as the link keeps them
+
+pub raw-at : {A B : Type 0} (f : A → B) (xs : List A) (i : ℕ) (e : B) (d : A) → i < length xs → slice_index_or (map f xs) i e ≡ f (slice_index_or xs i d)
+raw-at f [] i e d lt = absurd (omega arith)
+raw-at f (x ∷ xs) zero e d lt = refl
+raw-at f (x ∷ xs) (suc i) e d lt = raw-at f xs i e d (omega arith)
+
+pub raw-length : {A B : Type 0} (f : A → B) (xs : List A) → length (map f xs) ≡ length xs
+raw-length f [] = refl
+raw-length f (x ∷ xs) = ap suc (raw-length f xs)
+
+-- ## Whether a slot is new
+
+module _ (sum : List ℕ → ℕ) (x : State) (p : ℕ) (l : IsLinked sum x) (made : p < length x.world.slots) where
+  pub new-tells : Window.is_new x.filter.chunks ((x.world.setup.first + p) % 2 ^ 32) x.cumulative_tsn ≡ is_new x.world p
+  new-tells =
+      let f = facts sum x l in
+      ap (Window.is_new x.filter.chunks (tsn_of x.world p)) (ap (λ r. r.cumulative) l.filter)
+      ∙ new-is x.world x.filter.chunks f.sound.sound.skipped_made f.few (ap (λ r. r.held) l.filter) p made
+
+  copied-some : (o : Option (Bor ChunkPayloadData)) → is_some (option_copied o) ≡ is_some o
+  copied-some None = refl
+  copied-some (Some c) = refl
+
+  held-is : (b : Bool) (found : Option (Bor ChunkPayloadData)) → option_copied found ≡ find (has_tsn ((x.world.setup.first + p) % 2 ^ 32)) x.filter.chunks → is_some found ≡ b → Window.is_held x.filter.chunks ((x.world.setup.first + p) % 2 ^ 32) ≡ b
+  held-is b found f e = sym (ap is_some f) ∙ copied-some found ∙ e
+
+  -- its TSN is not held
+  pub new-unheld : (found : Option (Bor ChunkPayloadData)) (before : Bool) → option_copied found ≡ find (has_tsn ((x.world.setup.first + p) % 2 ^ 32)) x.filter.chunks → is_some found ≡ false → before ≡ at_or_before ((x.world.setup.first + p) % 2 ^ 32) x.cumulative_tsn → not before ≡ is_new x.world p
+  new-unheld found before f none e =
+      ap not e
+      ∙ sym (ap (λ h. not h && not (at_or_before ((x.world.setup.first + p) % 2 ^ 32) x.cumulative_tsn)) (held-is false found f none))
+      ∙ new-tells
+
+  -- its TSN is held
+  pub new-held : (found : Option (Bor ChunkPayloadData)) → option_copied found ≡ find (has_tsn ((x.world.setup.first + p) % 2 ^ 32)) x.filter.chunks → is_some found ≡ true → false ≡ is_new x.world p
+  new-held found f some =
+      sym (ap (λ h. not h && not (at_or_before ((x.world.setup.first + p) % 2 ^ 32) x.cumulative_tsn)) (held-is true found f some))
+      ∙ new-tells
+
+-- ## Which message a set is of
+
+-- the TSN leads to a slot of this message
+pub record Leads (w : World) (n tsn : ℕ) : Type 0 where
+  pub made : place_of w tsn < length w.slots
+  pub of : message_of w (place_of w tsn) ≡ n
+
+pub leads : (w : World) (n : ℕ) (chunks : List ChunkPayloadData) (d : ChunkPayloadData) → Begins w n chunks → Leads w n (slice_index_or chunks 0 d).tsn
+leads w n chunks d b =
+    let tsn : (slice_index_or chunks 0 d).tsn ≡ tsn_of w b.place = ap (λ cs. (slice_index_or cs 0 d).tsn) b.is in
+    let back : place_of w (slice_index_or chunks 0 d).tsn ≡ b.place = ap (place_of w) tsn ∙ b.back in
+    record { made = omega (arith, back, b.made); of = ap (message_of w) back ∙ b.of }
+
+module _ (sum : List ℕ → ℕ) (x : State) (l : IsLinked sum x) (slots : List Slot) (messages : List Message) (slots_are : x.world.slots ≡ map slot_record slots) (messages_are : x.world.messages ≡ map message_record messages) where
+  pub slots-made : length x.world.slots ≡ length slots
+  slots-made = ap length slots_are ∙ raw-length slot_record slots
+
+  pub messages-made : length x.world.messages ≡ length messages
+  messages-made = ap length messages_are ∙ raw-length message_record messages
+
+  pub slot-raw : (p : ℕ) (d : Slot) → p < length slots → slot_at x.world p ≡ slot_record (slice_index_or slots p d)
+  slot-raw p d lt = ap (λ xs. slice_index_or xs p no_slot) slots_are ∙ raw-at slot_record slots p no_slot d lt
+
+  pub message-raw : (n : ℕ) (d : Message) → n < length messages → message_at x.world n ≡ message_record (slice_index_or messages n d)
+  message-raw n d lt = ap (λ xs. slice_index_or xs n no_message) messages_are ∙ raw-at message_record messages n no_message d lt
+
+  pub kept-raw : x.progress ≡ map progress_of messages → (n : ℕ) (d : Message) → n < length messages → index_kept x.progress n ≡ (slice_index_or messages n d).index
+  kept-raw kept n d lt = ap (λ ps. index_kept ps n) kept ∙ ap (λ p. p.1) (raw-at progress_of messages n (0, 0) d lt)
+
+  -- the set of a message that is held
+  pub held-begins : (s n : ℕ) (set : ChunkSet) (chunks : List ChunkPayloadData) → chunks ≡ set.chunks → is_held x.world s n ≡ true → set ≡ set_of x.world n → Begins x.world n chunks
+  held-begins s n set chunks shown h e =
+      let f = facts sum x l in
+      subst (Begins x.world n) (sym (shown ∙ ap (λ (y : ChunkSet). y.chunks) e)) (set-begins x.world s n f.sound.sound f.setup.first h)
+
+  pub held-ordered : (s n : ℕ) → is_held x.world s n ≡ true → (message_at x.world n).ordered ≡ true
+  held-ordered s n h = Line.on-ordered x.world s n (Taken.held x.world s n h).on
+
+  pub held-made : (s n : ℕ) → is_held x.world s n ≡ true → n < length x.world.messages
+  held-made s n h = Line.on-made x.world s n (Taken.held x.world s n h).on
+
+  -- chunks that begin with one of message n lead to it, by its TSN
+  module _ (n : ℕ) (chunks : List ChunkPayloadData) (d : ChunkPayloadData) (b : Begins x.world n chunks) (made : n < length x.world.messages) where
+    led : Leads x.world n (slice_index_or chunks 0 d).tsn
+    led = leads x.world n chunks d b
+
+    pub lead-slot : ((slice_index_or chunks 0 d).tsn + (2 ^ 32 - x.world.setup.first)) % 2 ^ 32 < length slots
+    lead-slot = omega (arith, led.made, slots-made)
+
+    pub lead-number : (y : Slot) → y ≡ slice_index_or slots (((slice_index_or chunks 0 d).tsn + (2 ^ 32 - x.world.setup.first)) % 2 ^ 32) y → y.message ≡ n
+    lead-number y z = ap (λ (t : Slot). t.message) z ∙ sym (ap (λ t. t.message) (slot-raw (place_of x.world (slice_index_or chunks 0 d).tsn) y lead-slot)) ∙ led.of
+
+    pub lead-message : (y : Slot) → y ≡ slice_index_or slots (((slice_index_or chunks 0 d).tsn + (2 ^ 32 - x.world.setup.first)) % 2 ^ 32) y → y.message < length messages
+    lead-message y z = omega (arith, lead-number y z, made, messages-made)
+
+    pub lead-index : x.progress ≡ map progress_of messages → (message_at x.world n).ordered ≡ true → (y : Slot) (m : Message) → y ≡ slice_index_or slots (((slice_index_or chunks 0 d).tsn + (2 ^ 32 - x.world.setup.first)) % 2 ^ 32) y → m ≡ slice_index_or messages y.message m → m.index ≡ index_of x.world n
+    lead-index kept o y m z t =
+        ap (λ (t : Message). t.index) (t ∙ ap (λ k. slice_index_or messages k m) (lead-number y z))
+        ∙ sym (kept-raw kept n m (omega (arith, made, messages-made)))
+        ∙ l.indexes n (subst (λ k. 0 < sent_of x.world k) led.of (slot-sent (shape x.world) (place_of x.world (slice_index_or chunks 0 d).tsn) (facts sum x l).sane.sender led.made)) o
+
+-- ## The ends of what is held
+
+module _ (sum : List ℕ → ℕ) (x : State) (l : IsLinked sum x) (at s : ℕ) (d : OpenStream) (lt : at < length x.open_streams) (found : find (has_number s) x.open_streams ≡ Some (slice_index_or x.open_streams at d)) where
+  pub stream-number : (slice_index_or x.open_streams at d).state.stream_identifier ≡ s
+  stream-number = number-found s x.open_streams (slice_index_or x.open_streams at d) found
+
+  pub stream-ordered : (slice_index_or x.open_streams at d).state.reassembly_queue.held.ordered ≡ ordered_sets x.world s
+  stream-ordered = ap (λ q. q.ordered) ((l.open_streams at d lt).held) ∙ ap (ordered_sets x.world) stream-number
+
+  pub stream-next : (slice_index_or x.open_streams at d).next ≡ next_of x.world s
+  stream-next = (l.open_streams at d lt).next ∙ ap (next_of x.world) stream-number
+
+  empty : (xs : List ℕ) → length xs ≡ 0 → xs ≡ []
+  empty [] e = refl
+  empty (y ∷ ys) e = absurd (omega arith)
+
+  -- nothing is held
+  pub ends-empty : length (slice_index_or x.open_streams at d).state.reassembly_queue.held.ordered ≡ 0 → ((slice_index_or x.open_streams at d).next ≡ least (next_of x.world s) (map (index_of x.world) (held_on x.world s))) × ((slice_index_or x.open_streams at d).next ≡ greatest (next_of x.world s) (map (index_of x.world) (held_on x.world s)))
+  ends-empty e =
+      let none : held_on x.world s ≡ [] = empty (held_on x.world s) (sym (sets-held x.world s) ∙ sym (ap length stream-ordered) ∙ e) in
+      let ends = ends-none x.world s none in (stream-next ∙ sym ends.0, stream-next ∙ sym ends.1)
+
+  -- a set of the queue is of a message that is held
+  pub set-held : (i : ℕ) (e : ChunkSet) → i < length (slice_index_or x.open_streams at d).state.reassembly_queue.held.ordered → (is_held x.world s (slice_index_or (held_on x.world s) i 0) ≡ true) × (slice_index_or (slice_index_or x.open_streams at d).state.reassembly_queue.held.ordered i e ≡ set_of x.world (slice_index_or (held_on x.world s) i 0))
+  set-held i e less =
+      let f = facts sum x l in
+      let o = set-at x.world s i 0 e f.sound.sound f.setup.first (omega (arith, less, ap length stream-ordered)) in
+      (o.held, ap (λ ss. slice_index_or ss i e) stream-ordered ∙ o.is)
+
+  pub low-front : (i : ℕ) → 0 < length (slice_index_or x.open_streams at d).state.reassembly_queue.held.ordered → i ≡ index_of x.world (slice_index_or (held_on x.world s) 0 0) → min (slice_index_or x.open_streams at d).next i ≡ least (next_of x.world s) (map (index_of x.world) (held_on x.world s))
+  low-front i some e = ap (min (slice_index_or x.open_streams at d).next) e ∙ ap (λ n. min n (index_of x.world (slice_index_or (held_on x.world s) 0 0))) stream-next ∙ sym (lowest-front x.world s 0 (omega (arith, some, ap length stream-ordered, sets-held x.world s)))
+
+  pub high-back : (i : ℕ) → 0 < length (slice_index_or x.open_streams at d).state.reassembly_queue.held.ordered → i ≡ index_of x.world (slice_index_or (held_on x.world s) (length (slice_index_or x.open_streams at d).state.reassembly_queue.held.ordered - 1) 0) → max (slice_index_or x.open_streams at d).next i ≡ greatest (next_of x.world s) (map (index_of x.world) (held_on x.world s))
+  high-back i some e =
+      let same : length (slice_index_or x.open_streams at d).state.reassembly_queue.held.ordered ≡ length (held_on x.world s) = ap length stream-ordered ∙ sets-held x.world s in
+      ap (max (slice_index_or x.open_streams at d).next) e
+      ∙ ap (λ n. max n (index_of x.world (slice_index_or (held_on x.world s) (length (slice_index_or x.open_streams at d).state.reassembly_queue.held.ordered - 1) 0))) stream-next
+      ∙ ap (λ k. max (next_of x.world s) (index_of x.world (slice_index_or (held_on x.world s) (k - 1) 0))) same
+      ∙ sym (highest-back x.world s 0 (omega (arith, some, same)))
+
+-- ## The span test
+
+-- each message has a fragment
+under-total : (f : ℕ → ℕ) (from count : ℕ) → ((k : ℕ) → from ≤ k → k < from + count → 0 < f k) → count ≤ total_over f (numbers_from from count)
+under-total f from zero h = omega arith
+under-total f from (suc count) h = omega (arith, h from (omega arith) (omega arith), under-total f (from + 1) count (λ k a b. h k (omega arith) (omega arith)))
+
+few-messages : (sum : List ℕ → ℕ) (x : State) → IsLinked sum x → length x.world.messages < 2 ^ 31
+few-messages sum x l =
+    let f = facts sum x l in
+    omega (arith, under-total (parts (shape x.world)) 0 (length x.world.messages) (λ k a b. f.sound.sound.some k (omega (arith, b))), f.sane.accepted)
+
+module _ (sum : List ℕ → ℕ) (x : State) (l : IsLinked sum x) (k p : ℕ) (e : slice_get x.world.network k ≡ Some (Data (p ∷ []))) where
+  abbrev n : ℕ
+  n = message_of x.world p
+
+  abbrev s : ℕ
+  s = (message_at x.world (message_of x.world p)).stream
+
+  pub come-made : p < length x.world.slots
+  come-made = ((facts sum x l).carried k p e).made
+
+  pub come-message : n < length x.world.messages
+  come-message = let f = facts sum x l in f.sound.sound.made n p (Arrival.has-fragment x.world p (f.carried k p e).fragment)
+
+  pub come-open : (r : StreamRecord) × (stream_at x.world s ≡ Some r)
+  come-open = ((facts sum x l).carried k p e).known
+
+  pub come-index : (message_at x.world n).ordered ≡ true → index_kept x.progress n ≡ index_of x.world n
+  come-index o = l.indexes n (slot-sent (shape x.world) p (facts sum x l).sane.sender come-made) o
+
+  -- there are fewer messages than fragments may be accepted
+  pub few-index : index_kept x.progress n < 2 ^ 31
+  few-index = omega (arith, l.low n, come-message, few-messages sum x l)
+
+  fits-is : arrival_fits x.world (Some (Data (p ∷ []))) ≡ (if is_new x.world p && (message_at x.world n).ordered then nat_lt (max (greatest (next_of x.world s) (map (index_of x.world) (held_on x.world s))) (index_of x.world n)) (min (least (next_of x.world s) (map (index_of x.world) (held_on x.world s))) (index_of x.world n) + 2 ^ 15) else true)
+  fits-is = let f = facts sum x l in arrival-fits-one x.world p f.spans (f.carried k p e)
+
+  neither : (a b : Bool) (c : Bool) → b ≡ false → (if a && b then c else true) ≡ true
+  neither true false c h = refl
+  neither true true c h = cc
+  neither false b c h = refl
+
+  pub fits-unordered : (message_at x.world n).ordered ≡ false → true ≡ arrival_fits x.world (Some (Data (p ∷ [])))
+  fits-unordered h = sym (fits-is ∙ neither (is_new x.world p) (message_at x.world n).ordered _ h)
+
+  pub fits-old : is_new x.world p ≡ false → true ≡ arrival_fits x.world (Some (Data (p ∷ [])))
+  fits-old h = sym (fits-is ∙ ap (λ a. if a && (message_at x.world n).ordered then nat_lt (max (greatest (next_of x.world s) (map (index_of x.world) (held_on x.world s))) (index_of x.world n)) (min (least (next_of x.world s) (map (index_of x.world) (held_on x.world s))) (index_of x.world n) + 2 ^ 15) else true) h)
+
+  pub fits-span : (low high place : ℕ) → is_new x.world p ≡ true → (message_at x.world n).ordered ≡ true → low ≡ least (next_of x.world s) (map (index_of x.world) (held_on x.world s)) → high ≡ greatest (next_of x.world s) (map (index_of x.world) (held_on x.world s)) → place ≡ index_kept x.progress n → nat_lt (max high place) (min low place + 32768) ≡ arrival_fits x.world (Some (Data (p ∷ [])))
+  fits-span low high place new ordered a b c =
+      let i : place ≡ index_of x.world n = c ∙ come-index ordered in
+      ap (λ y. nat_lt (max high y) (min low y + 32768)) i
+      ∙ ap (λ y. nat_lt (max y (index_of x.world n)) (min low (index_of x.world n) + 32768)) b
+      ∙ ap (λ y. nat_lt (max (greatest (next_of x.world s) (map (index_of x.world) (held_on x.world s))) (index_of x.world n)) (min y (index_of x.world n) + 32768)) a
+      ∙ sym (fits-is ∙ ap (λ t. if t then nat_lt (max (greatest (next_of x.world s) (map (index_of x.world) (held_on x.world s))) (index_of x.world n)) (min (least (next_of x.world s) (map (index_of x.world) (held_on x.world s))) (index_of x.world n) + 2 ^ 15) else true) (both new ordered))
+    where
+      both : is_new x.world p ≡ true → (message_at x.world n).ordered ≡ true → (is_new x.world p && (message_at x.world n).ordered) ≡ true
+      both a b = rw (a, b) refl
+
+pub none-there : (n : ℕ) → (0 < n → false ≡ true) → n ≡ 0
+none-there zero h = refl
+none-there (suc n) h = absurd (not_both (h (omega arith)))

@@ -1,0 +1,12 @@
+pub mod PieceLemmas
+pub mod Begins
+pub mod Beginning
+pub mod Opening
+pub mod Starting
+pub mod Modes
+pub mod Outgoing
+pub mod Sending
+pub mod SentLists
+pub mod Fragmented
+pub mod Writing
+pub mod WrittenLists

@@ -1,0 +1,99 @@
+-- A message is begun: what its stream counts then, and the index that it takes.
+use Rattle.std.proofs.Common.{◌≡◌, ℕ, zero, suc, ◌+◌, ◌<◌, ◌^◌, Bool, true, false, List, [], ◌∷◌, ◌++◌, length, map, Option, Some, None, refl, ap, sym, ◌∙◌, arith}
+use Rattle.std.specs.Prelude.{if◌then◌else◌, ◌==◌, ◌&&◌, find, slice_index_or}
+use Rattle.std.proofs.Math.Path.{subst}
+use Rattle.sctp_lists.specs.Lists.{change_where}
+use Rattle.sctp_lists.proofs.KeptLemmas.{length-kept-le}
+use Rattle.sctp_lists.proofs.More.{not_both}
+use Rattle.sctp_model.specs.Messages.{is_open}
+use Rattle.sctp_model.proofs.sender.Shape.{shape}
+use Rattle.sctp_ties.specs.Indexes.{is_begun_on, begun_on}
+use Rattle.sctp_ties.proofs.sending.Begun.{Indexed}
+use Rattle.sctp_ties.proofs.amounts.StreamAmounts.{same-turned}
+use Rattle.sctp_link.specs.declared.open_stream.OpenStream.{OpenStream}
+use Rattle.sctp_link.specs.Linked.{State, IsLinked, IsOpenStream, has_number}
+use Rattle.sctp_link.specs.OpenStreams.{begun_in, begun_of, with_begun}
+use Rattle.sctp_link.specs.Places.{stream_numbers}
+use Rattle.sctp_link.specs.Records.{stream_record}
+use Rattle.sctp_link.proofs.upkeep.Apart.{number-found}
+use Rattle.sctp_link.proofs.upkeep.Bounds.{messages-few}
+use Rattle.sctp_link.proofs.upkeep.Facts.{facts}
+use Rattle.sctp_link.proofs.upkeep.Lookups.{none-open}
+
+-- the index that a link keeps of each message
+abbrev pub index_kept : List (ℕ × ℕ) → ℕ → ℕ
+index_kept ps n = (slice_index_or ps n (0, 0)).1
+
+pub indexed-of : (sum : List ℕ → ℕ) (x : State) → IsLinked sum x → Indexed (shape x.world) (index_kept x.progress)
+indexed-of sum x l = record { is = l.indexes; low = l.low }
+
+-- a new message has the index that stands past the last one
+pub progress-more : (ps : List (ℕ × ℕ)) (n : ℕ) → slice_index_or (ps ++ (0, 0) ∷ []) n (0, 0) ≡ slice_index_or ps n (0, 0)
+progress-more [] zero = refl
+progress-more [] (suc n) = refl
+progress-more (p ∷ ps) zero = refl
+progress-more (p ∷ ps) (suc n) = progress-more ps n
+
+-- ## The streams, one of which begins a message or none
+
+abbrev pub begun_with : Bool → ℕ → List OpenStream → List OpenStream
+begun_with go s ls = if go then change_where (has_number s) with_begun ls else ls
+
+abbrev pub plus_begun : ℕ → OpenStream → OpenStream
+plus_begun n l = record l { begun = l.begun + n }
+
+pub same-field : {A : Type 0} (f : OpenStream → A) → ((l : OpenStream) → f (with_begun l) ≡ f l) → (go : Bool) (s : ℕ) (ls : List OpenStream) → map f (begun_with go s ls) ≡ map f ls
+same-field f e false s ls = refl
+same-field f e true s [] = refl
+same-field f e true s (l ∷ ls) = ap (λ x. x ∷ map f (change_where (has_number s) with_begun ls)) (one (has_number s l)) ∙ ap (λ xs. f l ∷ xs) (same-field f e true s ls)
+  where
+    one : (b : Bool) → f (if b then with_begun l else l) ≡ f l
+    one true = e l
+    one false = refl
+
+pub numbers-begun : (go : Bool) (s : ℕ) (ls : List OpenStream) → stream_numbers (begun_with go s ls) ≡ stream_numbers ls
+numbers-begun go s ls = same-field (λ l. l.state.stream_identifier) (λ l. refl) go s ls
+
+pub records-begun : (go : Bool) (s : ℕ) (ls : List OpenStream) → map stream_record (begun_with go s ls) ≡ map stream_record ls
+records-begun go s ls = same-field stream_record (λ l. refl) go s ls
+
+pub length-begun : (go : Bool) (s : ℕ) (ls : List OpenStream) → length (begun_with go s ls) ≡ length ls
+length-begun false s ls = refl
+length-begun true s [] = refl
+length-begun true s (l ∷ ls) = ap suc (length-begun true s ls)
+
+pub begun-at : (go : Bool) (s : ℕ) (ls : List OpenStream) (k : ℕ) (d : OpenStream) → k < length ls → slice_index_or (begun_with go s ls) k d ≡ plus_begun (if (s == (slice_index_or ls k d).state.stream_identifier) && go then 1 else 0) (slice_index_or ls k d)
+begun-at false s ls k d lt = none (s == (slice_index_or ls k d).state.stream_identifier) (slice_index_or ls k d)
+  where
+    none : (b : Bool) (l : OpenStream) → l ≡ plus_begun (if b && false then 1 else 0) l
+    none true l = let e : l.begun ≡ l.begun + 0 = omega arith in ap (λ n. record l { begun = n }) e
+    none false l = let e : l.begun ≡ l.begun + 0 = omega arith in ap (λ n. record l { begun = n }) e
+begun-at true s [] k d lt = absurd (omega arith)
+begun-at true s (l ∷ ls) zero d lt = one (l.state.stream_identifier == s) ∙ ap (λ b. plus_begun (if b && true then 1 else 0) l) (same-turned l.state.stream_identifier s)
+  where
+    one : (b : Bool) → (if b then with_begun l else l) ≡ plus_begun (if b && true then 1 else 0) l
+    one true = refl
+    one false = let e : l.begun ≡ l.begun + 0 = omega arith in ap (λ n. record l { begun = n }) e
+begun-at true s (l ∷ ls) (suc k) d lt = begun-at true s ls k d (omega arith)
+
+-- ## The count of a stream
+
+-- what holds of each holds of the one that is found
+found-one : (P : OpenStream → Type 0) (s : ℕ) (ls : List OpenStream) → ((k : ℕ) (d : OpenStream) → k < length ls → P (slice_index_or ls k d)) → (l : OpenStream) → find (has_number s) ls ≡ Some l → P l
+found-one P s [] h l e = cc
+found-one P s (x ∷ ls) h l e = step (x.state.stream_identifier == s) e (λ z. found-one P s ls (λ k d lt. h (suc k) d (omega (arith, lt))) l z)
+  where
+    step : (b : Bool) → (if b then Some x else find (has_number s) ls) ≡ Some l → (find (has_number s) ls ≡ Some l → P l) → P l
+    step true z ih = let same : x ≡ l = cc in subst P same (h 0 x (omega arith))
+    step false z ih = ih z
+
+module _ (sum : List ℕ → ℕ) (x : State) (l : IsLinked sum x) (s : ℕ) (streams : x.world.streams ≡ map stream_record x.open_streams) (opened : is_open x.world s ≡ true) where
+  pub begun-is : begun_of s x.open_streams ≡ begun_on x.world s
+  begun-is = by (find (has_number s) x.open_streams) refl
+    where
+      by : (o : Option OpenStream) → find (has_number s) x.open_streams ≡ o → begun_in o ≡ begun_on x.world s
+      by None e = absurd (not_both (sym (none-open x.world s x.open_streams streams e) ∙ opened))
+      by (Some y) e = (found-one (IsOpenStream x.world) s x.open_streams l.open_streams y e).begun ∙ ap (begun_on x.world) (number-found s x.open_streams y e)
+
+  pub begun-few : begun_of s x.open_streams + 1 < 2 ^ 64
+  begun-few = omega (arith, begun-is, length-kept-le (is_begun_on x.world s) 0 (length x.world.messages), messages-few x.world.setup x.world (facts sum x l).sane)

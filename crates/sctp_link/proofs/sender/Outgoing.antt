@@ -1,0 +1,152 @@
+-- The datagrams that a link makes of DATA chunks.
+use Rattle.std.proofs.Common.{◌≡◌, ℕ, zero, suc, ◌+◌, ◌-◌, ◌<◌, ◌≤◌, ◌^◌, true, false, List, [], ◌∷◌, ◌++◌, length, map, take, drop, get_or, Some, None, refl, ap, sym, ◌∙◌, arith}
+use Rattle.std.specs.Prelude.{◌&&◌, ◌||◌, not, nat_le, nat_lt, slice_index_or, find}
+use Rattle.std.proofs.Math.Path.{subst}
+use Rattle.std.proofs.lemmas.List.{map-append}
+use Rattle.std.proofs.lemmas.Bool.Decides.{nat_tests}
+use Rattle.sctp_lists.specs.Lists.{pieces, change_where}
+use Rattle.sctp_lists.proofs.More.{both}
+use Rattle.sctp_lists.proofs.Cases.{negated}
+use Rattle.sctp_chunks.specs.declared.chunk.chunk_payload_data.ChunkPayloadData.{ChunkPayloadData}
+use Rattle.sctp_chunks.specs.PayloadData.{Data, data_of, data_value}
+use Rattle.sctp_chunks.specs.Wire.{data_chunk}
+use Rattle.sctp_chunks.proofs.Lengths.{length_data_value}
+use Rattle.sctp_packets.specs.Packet.{ReadsPacket, packet_text}
+use Rattle.sctp_queues.specs.DataChunks.{has_tsn}
+use Rattle.sctp_queues.specs.Marks.{with_nsent}
+use Rattle.sctp_queues.specs.outbound_queue.OutboundQueue.{Outbound, with_inflight}
+use Rattle.sctp_model.specs.declared.event.Event.TheVariants as E
+use Rattle.sctp_model.specs.declared.event.LinkRefusal.TheVariants.{NotInFlight}
+use Rattle.sctp_model.specs.World.{World}
+use Rattle.sctp_model.specs.World as W
+use Rattle.sctp_model.specs.Messages.{slot_at, message_at, message_of, tsn_of, place_of, is_in_flight}
+use Rattle.sctp_model.specs.Contents.{chunk_at, contents_of}
+use Rattle.sctp_model.specs.Queues.{is_cleared}
+use Rattle.sctp_model.specs.Changes.{resent}
+use Rattle.sctp_model.specs.Steps.{refusal_of, reply_to, can_resend}
+use Rattle.sctp_model.proofs.sender.SenderRun.{unless-holds}
+use Rattle.sctp_ties.specs.Tied.{TiedOutbound}
+use Rattle.sctp_ties.proofs.sending.InFlight.{Found, found-in, says-same, tied-marked, nsent-quiet}
+use Rattle.sctp_ties.proofs.acknowledging.QuietSender.{outbound-same, same-self}
+use Rattle.sctp_link.specs.declared.record.Kind.{Kind}
+use Rattle.sctp_link.specs.declared.record.Datagram.{Datagram}
+use Rattle.sctp_link.specs.Records.{datagram_record, kind_record}
+use Rattle.sctp_link.specs.Texts.{IsDatagram, packet_with}
+use Rattle.sctp_link.specs.Linked.{State, IsLinked}
+use Rattle.sctp_link.proofs.upkeep.Facts.{facts, stands-then}
+use Rattle.sctp_link.proofs.upkeep.Frames.{stream-same, texts-more}
+
+-- ## Lengths
+
+pub piece-short : (most size : ℕ) (bytes : List ℕ) (i : ℕ) → length (get_or (pieces most size bytes) i []) ≤ size
+piece-short zero size bytes i = omega arith
+piece-short (suc most) size [] i = omega arith
+piece-short (suc most) size (x ∷ xs) zero = short size (x ∷ xs)
+  where
+    short : (n : ℕ) (xs : List ℕ) → length (take n xs) ≤ n
+    short zero xs = omega arith
+    short (suc n) [] = omega arith
+    short (suc n) (x ∷ xs) = omega (arith, short n xs)
+piece-short (suc most) size (x ∷ xs) (suc i) = piece-short most size (drop size (x ∷ xs)) i
+
+-- a chunk with a fragment has a text
+pub chunk-short : (d : Data) → length d.user_data ≤ 65519 → 4 + length (data_value d) < 2 ^ 16
+chunk-short d le = omega (arith, length_data_value d, le)
+
+pub fragment-short : (sum : List ℕ → ℕ) (x : State) → IsLinked sum x → (n i : ℕ) → length (get_or (pieces (length (message_at x.world n).bytes) x.world.setup.size (message_at x.world n).bytes) i []) ≤ 65519
+fragment-short sum x l n i = omega (arith, piece-short (length (message_at x.world n).bytes) x.world.setup.size (message_at x.world n).bytes i, l.setup.size)
+
+-- ## Datagrams
+
+pub says-data : (sum : List ℕ → ℕ) (v : World) (p : ℕ) (bytes : List ℕ) (d : Data) → d ≡ data_of (chunk_at v p) → bytes ≡ packet_text sum (packet_with (data_chunk d ∷ [])) → ReadsPacket sum bytes (packet_with (data_chunk d ∷ [])) → IsDatagram sum (contents_of v (W.Data (p ∷ []))) bytes
+says-data sum v p bytes d is text reads = record {
+  text = text ∙ ap (λ e. packet_text sum (packet_with (data_chunk e ∷ []))) is;
+  reads = subst (λ e. ReadsPacket sum bytes (packet_with (data_chunk e ∷ []))) is reads;
+}
+
+pub network-more : (ds es : List Datagram) (k : Kind) (bytes : List ℕ) → es ≡ ds ++ (let d : Datagram = record { kind = k; bytes = bytes } in d) ∷ [] → map datagram_record es ≡ map datagram_record ds ++ kind_record k ∷ []
+network-more ds es k bytes e = ap (map datagram_record) e ∙ map-append datagram_record ds ((let d : Datagram = record { kind = k; bytes = bytes } in d) ∷ [])
+
+pub bytes-more : (ds es : List Datagram) (k : Kind) (bytes : List ℕ) → es ≡ ds ++ (let d : Datagram = record { kind = k; bytes = bytes } in d) ∷ [] → map (λ d. d.bytes) es ≡ map (λ d. d.bytes) ds ++ bytes ∷ []
+bytes-more ds es k bytes e = ap (map (λ d. d.bytes)) e ∙ map-append (λ (d : Datagram). d.bytes) ds ((let d : Datagram = record { kind = k; bytes = bytes } in d) ∷ [])
+
+-- ## A chunk leaves again
+
+module _ (sum : List ℕ → ℕ) (x : State) (l : IsLinked sum x) (tsn : ℕ) (small : tsn < 2 ^ 32) (ok : refusal_of x.world (E.Resend tsn) ≡ None) where
+  abbrev p : ℕ
+  p = place_of x.world tsn
+
+  abbrev cs : List ChunkPayloadData
+  cs = x.outbound.inflight.chunks
+
+  can : can_resend x.world p ≡ true
+  can = (unless-holds (can_resend x.world p) NotInFlight None ok).0
+
+  flies : is_in_flight x.world p ≡ true
+  flies = (both (is_in_flight x.world p) _ can).0
+
+  rest : (not (slot_at x.world p).acknowledged && not (message_at x.world (message_of x.world p)).abandoned) ≡ true
+  rest = (both (is_in_flight x.world p) _ can).1
+
+  pub from : x.world.taken ≤ p
+  from = let e = (both (nat_le x.world.taken p) (nat_lt p (length x.world.slots)) flies).0 in grind (arith, nat_tests)
+
+  pub below : p < length x.world.slots
+  below = let e = (both (nat_le x.world.taken p) (nat_lt p (length x.world.slots)) flies).1 in grind (arith, nat_tests)
+
+  clear : is_cleared x.world p ≡ false
+  clear =
+      let r = both (not (slot_at x.world p).acknowledged) (not (message_at x.world (message_of x.world p)).abandoned) rest in
+      ap (λ b. b || (message_at x.world (message_of x.world p)).abandoned) (negated (slot_at x.world p).acknowledged r.0) ∙ negated (message_at x.world (message_of x.world p)).abandoned r.1
+
+  own : tsn_of x.world p ≡ tsn
+  own = let f = l.setup.first in omega (arith, f, small)
+
+  found : Found x.world p cs
+  found =
+      let f = facts sum x l in
+      found-in x.world p (omega (arith, below, f.few)) cs x.world.taken (length x.world.slots - x.world.taken) (omega (arith, f.few, f.taken)) from (omega (arith, below, f.taken)) l.outbound.in_flight
+
+  there : find (has_tsn tsn) cs ≡ Some found.chunk
+  there = ap (λ t. find (has_tsn t) cs) (sym own) ∙ found.is
+
+  pub never-gone : find (has_tsn tsn) cs ≡ None → ⊥
+  never-gone e = differ (sym there ∙ e)
+    where
+      differ : {A : Type 0} {a : A} → Some a ≡ None → ⊥
+      differ e = cc
+
+  -- what is found says what its slot does
+  pub resend-says : (c : ChunkPayloadData) → find (has_tsn tsn) cs ≡ Some c → data_of c ≡ data_of (chunk_at x.world p)
+  resend-says c e = ap data_of (inner (sym e ∙ there)) ∙ says-same x.world p found.chunk found.says clear
+    where
+      inner : {A : Type 0} {a b : A} → Some a ≡ Some b → a ≡ b
+      inner e = cc
+
+  pub resend-fits : (c : ChunkPayloadData) → find (has_tsn tsn) cs ≡ Some c → 4 + length (data_value (data_of c)) < 2 ^ 16
+  resend-fits c e =
+      let is : c.user_data ≡ (chunk_at x.world p).user_data = ap (λ (d : Data). d.user_data) (resend-says c e) in
+      chunk-short (data_of c) (omega (arith, ap length is, fragment-short sum x l (message_of x.world p) (slot_at x.world p).fragment))
+
+  pub linked-resend : (c : ChunkPayloadData) (bytes : List ℕ) (nsent : ℕ) (q : Outbound) → find (has_tsn tsn) cs ≡ Some c → bytes ≡ packet_text sum (packet_with (data_chunk (data_of c) ∷ [])) → ReadsPacket sum bytes (packet_with (data_chunk (data_of c) ∷ [])) → length x.datagrams ≡ length x.world.network → q ≡ with_inflight x.outbound (change_where (has_tsn tsn) (with_nsent nsent) cs) → IsLinked sum (record x { world = resent x.world tsn; datagrams = x.datagrams ++ bytes ∷ []; outbound = q })
+  linked-resend c bytes nsent q e text reads count eq = record {
+    setup = l.setup;
+    one_each = l.one_each;
+    history = (E.Resend tsn, reply_to x.world (E.Resend tsn)) ∷ l.history;
+    stands = stands-then x.world.setup x.world l.history (E.Resend tsn) ok l.stands;
+    outbound = subst (TiedOutbound v) (sym eq) (outbound-same x.world v (same-self x.world v refl refl refl refl) _ (tied-marked x.world x.outbound (has_tsn tsn) (with_nsent nsent) (nsent-quiet nsent) l.outbound));
+    unstarted = l.unstarted ∙ sym (ap (λ (r : Outbound). r.next_unstarted) eq);
+    filter = l.filter;
+    next = l.next;
+    fragments = l.fragments;
+    written = l.written;
+    sents = l.sents;
+    indexes = l.indexes;
+    low = l.low;
+    open_streams = λ k d lt. stream-same x.world v (slice_index_or x.open_streams k d) (record { setup = refl; held = refl; ordered = refl; next = refl; amount = refl; counters = refl }) refl (l.open_streams k d lt);
+    indexed = l.indexed;
+    texts = texts-more sum x l (E.Resend tsn) ok (W.Data (p ∷ [])) bytes refl count (says-data sum v p bytes (data_of c) (resend-says c e) text reads);
+  }
+    where
+      v : World
+      v = resent x.world tsn

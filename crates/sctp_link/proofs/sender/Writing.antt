@@ -1,0 +1,248 @@
+-- A write is taken.
+use Rattle.std.proofs.Common.{◌≡◌, ℕ, zero, suc, ◌+◌, ◌<◌, ◌%◌, ◌^◌, Bool, true, false, List, [], ◌∷◌, ◌++◌, length, map, drop, Some, None, refl, ap, sym, ◌∙◌, arith, length-append}
+use Rattle.std.specs.Prelude.{◌==◌, ◌&&◌, ◌||◌, not, if◌then◌else◌, nat_lt, slice_index_or, slice_set, find, unwrap_or}
+use Rattle.std.specs.Option.{option_map}
+use Rattle.std.proofs.Math.Path.{subst}
+use Rattle.std.proofs.lemmas.List.{map-append, length-set}
+use Rattle.std.proofs.lemmas.Bool.Decides.{nat_tests}
+use Rattle.sctp_lists.specs.Kept.{numbers_from}
+use Rattle.sctp_lists.specs.Lists.{pieces}
+use Rattle.sctp_lists.proofs.Cases.{by_last, same-yes, same-is}
+use Rattle.sctp_lists.proofs.More.{fails}
+use Rattle.sctp_chunks.specs.declared.chunk.chunk_payload_data.ChunkPayloadData.{ChunkPayloadData}
+use Rattle.sctp_chunks.specs.declared.chunk.chunk_payload_data.PayloadProtocolIdentifier.{PayloadProtocolIdentifier}
+use Rattle.sctp_chunks.specs.declared.chunk.chunk_payload_data.PayloadProtocolIdentifier.TheVariants.{Dcep, String, Binary, StringEmpty, BinaryEmpty, Unknown}
+use Rattle.sctp_queues.specs.outbound_queue.OutboundQueue.{Outbound, with_message}
+use Rattle.sctp_model.specs.declared.event.Event.TheVariants as E
+use Rattle.sctp_model.specs.World.{World, StreamRecord}
+use Rattle.sctp_model.specs.World as W
+use Rattle.sctp_model.specs.Messages.{stream_of, no_stream, sent_of, ordered_before, is_dcep}
+use Rattle.sctp_model.specs.Receiver.{next_of}
+use Rattle.sctp_model.specs.Amounts.{in_all, written_bytes}
+use Rattle.sctp_model.specs.Changes.{wrote, message_on}
+use Rattle.sctp_model.specs.Steps.{refusal_of, reply_to, fragments_accepted, fragments_in}
+use Rattle.sctp_model.proofs.sender.Shape.{shape}
+use Rattle.sctp_model.proofs.sender.SenderRun.{Sane, sane-after}
+use Rattle.sctp_ties.proofs.sending.Begun.{Indexed}
+use Rattle.sctp_model.proofs.sender.Moves
+use Rattle.sctp_ties.specs.Tied.{TiedOutbound}
+use Rattle.sctp_ties.specs.Amount.{amount}
+use Rattle.sctp_ties.specs.Counts.{counters_on, counted_as, sent_more}
+use Rattle.sctp_ties.proofs.sending.Written
+use Rattle.sctp_ties.proofs.sending.InLine
+use Rattle.sctp_ties.proofs.amounts.MessageSums.{sum-written}
+use Rattle.sctp_ties.proofs.amounts.StreamAmounts.{amount-wrote}
+use Rattle.sctp_ties.proofs.amounts.StreamCounters.{written-wrote, counters-wrote}
+use Rattle.sctp_link.specs.declared.open_stream.OpenStream.{OpenStream}
+use Rattle.sctp_link.specs.declared.record.Message.{Message}
+use Rattle.sctp_link.specs.Places.{stream_numbers}
+use Rattle.sctp_link.specs.Records.{stream_record, message_record}
+use Rattle.sctp_link.specs.Stats.{with_sent, counted_bytes}
+use Rattle.sctp_link.specs.Stream as stream
+use Rattle.sctp_link.specs.OpenStreams.{is_ordered, message_with, with_mode, fragments_with_mode, after_write_on}
+use Rattle.sctp_link.specs.Linked.{State, IsOpenStream, IsLinked, has_number, stats_of}
+use Rattle.sctp_link.proofs.upkeep.Facts.{Facts, facts, stands-then}
+use Rattle.sctp_link.proofs.upkeep.Frames.{stream-same, begun-kept, indexed-kept, held-quiet, next-kept, texts-same}
+use Rattle.sctp_link.proofs.sender.Beginning.{index_kept, progress-more}
+use Rattle.sctp_link.proofs.upkeep.Bounds.{written-few, amount-few}
+use Rattle.sctp_link.proofs.sender.Fragmented.{ordered-same, all-wait}
+use Rattle.sctp_link.proofs.upkeep.Places.{indexed-set}
+use Rattle.sctp_link.proofs.upkeep.Apart.{apart, each-set, map-set_same, stream-found, number-found, differ}
+
+-- ## Numbers
+
+number-next : (c : Bool) (b : ℕ) (bs : List ℕ) (seq ordered : ℕ) → seq ≡ ordered % 2 ^ 16 → (if c && nat_lt 0 (length (b ∷ bs)) then (seq + 1) % 2 ^ 16 else seq) ≡ (if c then ordered + 1 else ordered) % 2 ^ 16
+number-next true b bs seq ordered e =
+    let some : nat_lt 0 (length (b ∷ bs)) ≡ true = grind (arith, nat_tests) in
+    ap (λ t. if t then (seq + 1) % 2 ^ 16 else seq) some ∙ omega (arith, e)
+number-next false b bs seq ordered e = e
+
+stats-next : (ppi : PayloadProtocolIdentifier) (len : ℕ) (w : World) (t : ℕ) → with_sent (counted_bytes ppi len) (stats_of (counters_on w t)) ≡ stats_of (sent_more (counted_as ppi len) (counters_on w t))
+stats-next Dcep len w t = refl
+stats-next String len w t = refl
+stats-next Binary len w t = refl
+stats-next StringEmpty len w t = refl
+stats-next BinaryEmpty len w t = refl
+stats-next Unknown len w t = refl
+
+-- a place of a list has one element, whatever stands past its end
+pub same-default : (ls : List OpenStream) (k : ℕ) (a c : OpenStream) → k < length ls → slice_index_or ls k a ≡ slice_index_or ls k c
+same-default [] k a c lt = absurd (omega arith)
+same-default (t ∷ ls) zero a c lt = refl
+same-default (t ∷ ls) (suc k) a c lt = same-default ls k a c (omega arith)
+
+-- ## The event
+
+module _ (sum : List ℕ → ℕ) (x : State) (l : IsLinked sum x) (s : ℕ) (ppi : PayloadProtocolIdentifier) (b : ℕ) (bs : List ℕ) (ok : refusal_of x.world (E.Write s ppi (b ∷ bs)) ≡ None) (streams : x.world.streams ≡ map stream_record x.open_streams) where
+  abbrev w : World
+  w = x.world
+
+  abbrev bytes : List ℕ
+  bytes = b ∷ bs
+
+  abbrev v : World
+  v = wrote x.world s ppi (b ∷ bs)
+
+  f : Facts x.world
+  f = facts sum x l
+
+  sane-new : Sane x.world.setup v
+  sane-new = sane-after x.world.setup x.world (E.Write s ppi bytes) ok f.sane
+
+  pub few : in_all w (written_bytes w) + length bytes < 2 ^ 47
+  few = omega (arith, written-few x.world.setup v l.setup sane-new, written-wrote w s ppi bytes)
+
+  module _ (at : ℕ) (d : OpenStream) (lt : at < length x.open_streams) (here : find (has_number s) x.open_streams ≡ Some (slice_index_or x.open_streams at d)) where
+    abbrev m : OpenStream
+    m = slice_index_or x.open_streams at d
+
+    i : IsOpenStream w m
+    i = l.open_streams at d lt
+
+    own : m.state.stream_identifier ≡ s
+    own = number-found s x.open_streams m here
+
+    stream-is : stream_of w s ≡ stream_record m
+    stream-is =
+        ap (λ rs. unwrap_or (find (λ r. r.stream == s) rs) (no_stream s)) streams
+        ∙ ap (λ o. unwrap_or o (no_stream s)) (stream-found s x.open_streams)
+        ∙ ap (λ o. unwrap_or (option_map stream_record o) (no_stream s)) here
+
+    abbrev msg : W.Message
+    msg = message_on w (stream_of w s) ppi bytes
+
+    message-is : message_record (message_with m ppi bytes) ≡ msg
+    message-is =
+        ap (λ k. record (message_on w (stream_record m) ppi bytes) { before = k }) i.ordered
+        ∙ ap (λ r. message_on w r ppi bytes) (sym stream-is)
+
+    pub messages-wrote : (ms more : List Message) → w.messages ≡ map message_record ms → more ≡ ms ++ message_with m ppi bytes ∷ [] → map message_record more ≡ v.messages
+    messages-wrote ms more em e =
+        ap (map message_record) e ∙ map-append message_record ms (message_with m ppi bytes ∷ [])
+        ∙ ap (λ a. a ++ message_record (message_with m ppi bytes) ∷ []) (sym em)
+        ∙ ap (λ a. w.messages ++ a ∷ []) message-is
+
+    -- ## The streams
+
+    before-wrote : (t : ℕ) → ordered_before v t (length v.messages) ≡ ordered_before w t (length w.messages) + (if (s == t) && is_ordered m ppi then 1 else 0)
+    before-wrote t =
+        InLine.before-more w msg t refl
+        ∙ ap (λ r. ordered_before w t (length w.messages) + (if (r.stream == t) && (is_dcep ppi || not r.unordered) then 1 else 0)) stream-is
+        ∙ ap (λ k. ordered_before w t (length w.messages) + (if (k == t) && is_ordered m ppi then 1 else 0)) own
+
+    next-same : (t : ℕ) → next_of v t ≡ next_of w t
+    next-same t = next-kept sum x l (E.Write s ppi bytes) ok tt t
+
+    other : (t : OpenStream) → (t.state.stream_identifier ≡ s → ⊥) → IsOpenStream w t → IsOpenStream v t
+    other t ne j =
+        let n = t.state.stream_identifier in
+        let off : (n == s) ≡ false = fails (n == s) (λ e. ne (same-is n s e)) in
+        let off' : (s == n) ≡ false = fails (s == n) (λ e. ne (sym (same-is s n e))) in
+        stream-same w v t
+        (record {
+          setup = refl;
+          held = held-quiet sum x l (E.Write s ppi bytes) ok (Moves.quiet-written w.setup w s ppi bytes f.sane) n;
+          ordered = before-wrote n ∙ ap (λ c. ordered_before w n (length w.messages) + (if c && is_ordered m ppi then 1 else 0)) off' ∙ plus-none (ordered_before w n (length w.messages));
+          next = next-same n;
+          amount = amount-wrote w.setup w s n ppi bytes l.setup f.sane ok ∙ ap (λ c. amount w n + (if c then length bytes else 0)) off ∙ plus-none (amount w n);
+          counters = counters-wrote w s n ppi bytes ok ∙ ap (λ c. if c && not (length bytes == 0) then sent_more (counted_as ppi (length bytes)) (counters_on w n) else counters_on w n) off;
+        }) (begun-kept sum x l (E.Write s ppi bytes) ok tt n) j
+      where
+        plus-none : (a : ℕ) → a + 0 ≡ a
+        plus-none a = omega arith
+
+    some : not (length bytes == 0) ≡ true
+    some = grind (arith, nat_tests)
+
+    written-stream : IsOpenStream v (after_write_on m ppi bytes)
+    written-stream =
+        let n = m.state.stream_identifier in
+        let on : (s == n) ≡ true = ap (λ k. s == k) own ∙ same-yes s in
+        let on' : (n == s) ≡ true = ap (λ k. k == s) own ∙ same-yes s in
+        let grown : amount v n ≡ amount w n + length bytes = amount-wrote w.setup w s n ppi bytes l.setup f.sane ok ∙ ap (λ c. amount w n + (if c then length bytes else 0)) on' in
+        let short = amount-few sum x n l in
+        record {
+          held = i.held ∙ sym (held-quiet sum x l (E.Write s ppi bytes) ok (Moves.quiet-written w.setup w s ppi bytes f.sane) n);
+          si = i.si;
+          largest = i.largest;
+          size = i.size;
+          ordered = adds (is_ordered m ppi) m.ordered (ordered_before w n (length w.messages)) i.ordered ∙ sym (before-wrote n ∙ ap (λ c. ordered_before w n (length w.messages) + (if c && is_ordered m ppi then 1 else 0)) on);
+          number = ap (λ c. if c && nat_lt 0 (length bytes) then (m.state.sequence_number + 1) % 2 ^ 16 else m.state.sequence_number) (ordered-same m.state.unordered ppi) ∙ number-next (is_ordered m ppi) b bs m.state.sequence_number m.ordered i.number;
+          begun = i.begun ∙ sym (begun-kept sum x l (E.Write s ppi bytes) ok tt n);
+          next = i.next ∙ sym (next-same n);
+          amount = omega (arith, i.amount, grown, short, few);
+          stats = ap (with_sent (counted_bytes ppi (length bytes))) i.stats ∙ stats-next ppi (length bytes) w n
+              ∙ sym (ap stats_of (counters-wrote w s n ppi bytes ok ∙ ap (λ c. if c && not (length bytes == 0) then sent_more (counted_as ppi (length bytes)) (counters_on w n) else counters_on w n) on' ∙ ap (λ c. if c then sent_more (counted_as ppi (length bytes)) (counters_on w n) else counters_on w n) some));
+        }
+      where
+        adds : (c : Bool) (a e : ℕ) → a ≡ e → (if c then a + 1 else a) ≡ e + (if true && c then 1 else 0)
+        adds true a e z = ap (λ k. k + 1) z
+        adds false a e z = omega (arith, z)
+
+    pub streams-wrote : (y : OpenStream) → y ≡ after_write_on m ppi bytes → map stream_record (slice_set x.open_streams at y) ≡ w.streams
+    streams-wrote y e = map-set_same stream_record x.open_streams at y d (ap stream_record e) ∙ sym streams
+
+    -- ## The queue
+
+    abbrev frags : List ChunkPayloadData
+    frags = fragments_with_mode m.state ppi bytes
+
+    outbound-wrote : (q : Outbound) → TiedOutbound w q → TiedOutbound v (with_message frags q)
+    outbound-wrote q t =
+        let mode : ChunkPayloadData → ChunkPayloadData = with_mode m.state.reliability_type m.state.reliability_value in
+        let known = f.sane.sender.made in
+        let r = stream_of w s in
+        let waits = all-wait w m.state r ppi bytes (ap (λ (r : StreamRecord). r.stream) stream-is) (ap (λ (r : StreamRecord). r.unordered) stream-is) (ap (λ (r : StreamRecord). r.reliability) stream-is) (ap (λ (r : StreamRecord). r.value) stream-is) i.size
+        (i.number ∙ ap (λ k. k % 2 ^ 16) (i.ordered ∙ ap (λ (r : StreamRecord). ordered_before w r.stream (length w.messages)) (sym stream-is))) known in
+        Written.tied-written w msg known q (mode (stream.fragment_at m.state ppi bytes 0)) (map mode (map (stream.fragment_at m.state ppi bytes) (numbers_from 1 (length (pieces (length bs) m.state.max_payload_size (drop m.state.max_payload_size bytes)))))) refl refl refl (ap not (ordered-same m.state.unordered ppi ∙ ap (λ (r : StreamRecord). is_dcep ppi || not r.unordered) (sym stream-is))) waits t
+
+    -- ## The counts
+
+    sents-wrote : (progress : List (ℕ × ℕ)) → length x.progress ≡ length w.messages → progress ≡ x.progress ++ (0, 0) ∷ [] → (k : ℕ) → k < length v.messages → (slice_index_or progress k (0, 0)).0 ≡ sent_of v k
+    sents-wrote progress count e k less =
+        ap (λ (a : List (ℕ × ℕ)). (slice_index_or a k (0, 0)).0) e ∙ ap (λ (p : ℕ × ℕ). p.0) (progress-more x.progress k)
+        ∙ by_last {P = (slice_index_or x.progress k (0, 0)).0 ≡ sent_of v k} k (length w.messages) (omega (arith, less, length-append w.messages (msg ∷ [])))
+        (λ old. l.sents k old ∙ sym (sent-kept k))
+        (λ z. ap (λ j. (slice_index_or x.progress j (0, 0)).0) (z ∙ sym count) ∙ ap (λ (p : ℕ × ℕ). p.0) (past-last x.progress) ∙ sym (ap (sent_of v) z ∙ Written.unsent w msg f.sane.sender.made))
+      where
+        sent-kept : (k : ℕ) → sent_of v k ≡ sent_of w k
+        sent-kept k = refl
+
+        past-last : (ps : List (ℕ × ℕ)) → slice_index_or ps (length ps) (0, 0) ≡ (0, 0)
+        past-last [] = refl
+        past-last (p ∷ ps) = past-last ps
+
+    fragments-wrote : fragments_accepted v ≡ fragments_accepted w + fragments_in w bytes
+    fragments-wrote = sum-written w msg (λ m. true) (λ m. length (pieces (length m.bytes) w.setup.size m.bytes))
+
+    indexes-wrote : (progress : List (ℕ × ℕ)) → progress ≡ x.progress ++ (0, 0) ∷ [] → Indexed (shape v) (index_kept progress)
+    indexes-wrote progress e =
+        let i = indexed-kept sum x l (E.Write s ppi bytes) ok tt in
+        let same : (k : ℕ) → index_kept progress k ≡ index_kept x.progress k = λ k. ap (λ a. index_kept a k) e ∙ ap (λ (p : ℕ × ℕ). p.1) (progress-more x.progress k) in
+        record { is = λ k pos o. same k ∙ i.is k pos o; low = λ k. omega (arith, same k, i.low k) }
+
+    pub linked-write : (y : OpenStream) (progress : List (ℕ × ℕ)) (q r : Outbound) (fragments written count : ℕ) → y ≡ after_write_on m ppi bytes → length x.progress ≡ length w.messages → progress ≡ x.progress ++ (0, 0) ∷ [] → TiedOutbound w q → q.next_unstarted ≡ x.outbound.next_unstarted → r ≡ with_message frags q → fragments ≡ x.fragments + count → count ≡ fragments_in w bytes → written ≡ x.written + length bytes
+        → IsLinked sum (record x { world = v; open_streams = slice_set x.open_streams at y; progress = progress; outbound = r; fragments = fragments; written = written })
+    linked-write y progress q r fragments written count ey each es tied same er ef ec ew = record {
+      setup = l.setup;
+      one_each = l.one_each;
+      history = (E.Write s ppi bytes, reply_to w (E.Write s ppi bytes)) ∷ l.history;
+      stands = stands-then w.setup w l.history (E.Write s ppi bytes) ok l.stands;
+      outbound = subst (TiedOutbound v) (sym er) (outbound-wrote q tied);
+      unstarted = l.unstarted ∙ sym (ap (λ (o : Outbound). o.next_unstarted) er ∙ same);
+      filter = l.filter;
+      next = l.next;
+      fragments = omega (arith, ef, ec, l.fragments, fragments-wrote);
+      written = omega (arith, ew, l.written, written-wrote w s ppi bytes);
+      sents = sents-wrote progress each es;
+      indexes = (indexes-wrote progress es).is;
+      low = (indexes-wrote progress es).low;
+      open_streams = λ k e less. place k e (omega (arith, less, length-set x.open_streams at y));
+      indexed = indexed-set x.places x.open_streams at y d l.indexed (ap (λ (t : OpenStream). t.state.stream_identifier) ey);
+      texts = texts-same sum x l (E.Write s ppi bytes) ok refl;
+    }
+      where
+        place : (k : ℕ) (e : OpenStream) → k < length x.open_streams → IsOpenStream v (slice_index_or (slice_set x.open_streams at y) k e)
+        place k e below =
+            each-set (IsOpenStream v) x.open_streams at k y e lt (subst (IsOpenStream v) (sym ey) written-stream)
+            (λ ne. other (slice_index_or x.open_streams k e) (λ z. differ x.open_streams k at e (apart x.places (stream_numbers x.open_streams) l.indexed) below lt ne (z ∙ sym (ap (λ (t : OpenStream). t.state.stream_identifier) (same-default x.open_streams at e d lt) ∙ own))) (l.open_streams k e below))

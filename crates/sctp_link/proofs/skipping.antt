@@ -1,0 +1,3 @@
+pub mod Skipping
+pub mod SkipComes
+pub mod SkipMade

@@ -1,0 +1,418 @@
+-- The arrival of a FORWARD-TSN: what it names, its span test, and what it makes of a link.
+use Rattle.std.proofs.Common.{◌≡◌, ℕ, zero, suc, ◌+◌, ◌-◌, ◌<◌, ◌≤◌, ◌^◌, ◌%◌, Bool, true, false, List, [], ◌∷◌, length, map, Some, None, refl, ap, sym, ◌∙◌, arith, not, add-one}
+use Rattle.std.specs.Prelude.{if◌then◌else◌, ◌==◌, ◌&&◌, min, max, nat_lt, find, take, slice_get, slice_index_or, is_some, Result, Ok, Err, IfOk}
+use Rattle.std.specs.List.{list_all}
+use Rattle.std.proofs.Math.Path.{subst}
+use Rattle.std.proofs.lemmas.Bool.Decides.{nat_tests}
+use Rattle.sctp_lists.specs.Kept.{passing}
+use Rattle.sctp_lists.specs.Lists.{advanced, those, Seen}
+use Rattle.sctp_lists.specs.Serial.{at_or_before}
+use Rattle.sctp_lists.proofs.Cases.{same-yes}
+use Rattle.sctp_lists.proofs.More.{and, both, same_test}
+use Rattle.sctp_chunks.specs.ChunkSet.{ChunkSet}
+use Rattle.sctp_chunks.specs.ForwardTsn.{ForwardTsn}
+use Rattle.sctp_chunks.specs.Wire.{forward_tsn_chunk}
+use Rattle.sctp_packets.specs.Packet.{ReadsPacket}
+use Rattle.sctp_queues.specs.reassembly_queue.Fragments.{is_complete}
+use Rattle.sctp_queues.specs.payload_queue.PayloadQueue.{Payload, past, with_chunks}
+use Rattle.sctp_queues.specs.reassembly_queue.ReassemblyQueue.{ReassemblyState, ordered_forwarded, unordered_forwarded, forwarded_ordered, forwarded_unordered}
+use Rattle.sctp_model.specs.declared.event.Event.TheVariants as E
+use Rattle.sctp_model.specs.World.{World, StreamRecord, Forward}
+use Rattle.sctp_model.specs.World as W
+use Rattle.sctp_model.specs.Messages.{stream_at, is_open, is_ordered_on, index_of, tsn_of}
+use Rattle.sctp_model.specs.Receiver.{cumulative, next_of, is_held, is_whole, held_on, fits, greatest, least}
+use Rattle.sctp_model.specs.Changes.{named_by, skip_received, datagram_received}
+use Rattle.sctp_model.specs.Contents.{name_of}
+use Rattle.sctp_model.specs.Queues.{FilterRecord, filter_of, set_of}
+use Rattle.sctp_model.specs.Steps.{refusal_of, after, arrival_fits}
+use Rattle.sctp_model.specs.Sound.{IsSpan}
+use Rattle.sctp_model.proofs.sender.Shape.{shape}
+use Rattle.sctp_model.proofs.sender.Network
+use Rattle.sctp_model.proofs.sender.Network.{IsNamable, NamesFit, fit-at}
+use Rattle.sctp_model.proofs.receiver.SoundRun.{skips_come_sound}
+use Rattle.sctp_ties.specs.Holds.{reassembly_of, seen_of}
+use Rattle.sctp_ties.specs.Naming.{on_stream, low_named, end_named, lowest_held, highest_held, whole_first, min_with, names_fit}
+use Rattle.sctp_ties.specs.Tied.{filter_held}
+use Rattle.sctp_ties.specs.Counts.{counters_on}
+use Rattle.sctp_ties.proofs.arriving.Arrival
+use Rattle.sctp_ties.proofs.arriving.Filter.{filter-skipped}
+use Rattle.sctp_ties.proofs.arriving.FilterQueue.{tsns, tsns-past}
+use Rattle.sctp_ties.proofs.reading.Line
+use Rattle.sctp_ties.proofs.acknowledging.QuietSender
+use Rattle.sctp_ties.proofs.reading.Taken
+use Rattle.sctp_ties.proofs.skipping.SkipStep.{with_skip, skip-step}
+use Rattle.sctp_ties.proofs.skipping.SkipSpans.{gone_forward, queue-skip, next-skip, named-from, fits-both, skip-fits, next-short, least-start}
+use Rattle.sctp_ties.proofs.arriving.SpanEnds.{sets-held}
+use Rattle.sctp_ties.proofs.amounts.StreamCounters.{counters-same}
+use Rattle.sctp_link.specs.declared.open_stream.OpenStream.{OpenStream}
+use Rattle.sctp_link.specs.declared.skipped.Named.{Named}
+use Rattle.sctp_link.specs.declared.record.Message.{Message}
+use Rattle.sctp_link.specs.declared.record.Datagram.{Datagram}
+use Rattle.sctp_link.specs.Linked.{State, IsLinked, IsOpenStream, has_number, stats_of}
+use Rattle.sctp_link.specs.Records.{message_record, progress_of, stream_record, datagram_record, kind_record}
+use Rattle.sctp_link.specs.Skips.{index_in, is_on, named_from, none_named, gone_to, skipped_by}
+use Rattle.sctp_link.specs.Texts.{packet_with, name_with}
+use Rattle.sctp_link.specs.Places.{IsIndexed, stream_numbers}
+use Rattle.sctp_link.proofs.upkeep.Bounds.{messages-few}
+use Rattle.sctp_link.proofs.receiver.Comes.{made-at}
+use Rattle.sctp_link.proofs.upkeep.Facts.{facts, over}
+use Rattle.sctp_link.proofs.receiver.Hears.{raw-at, raw-length, stream-ordered}
+use Rattle.sctp_link.proofs.upkeep.StreamsAfter.{stream-then, linked-then}
+
+-- ## What it names
+
+-- the names of the record, by the messages that a link keeps
+module _ (sum : List ℕ → ℕ) (x : State) (l : IsLinked sum x) (ms : List Message) (messages_are : x.world.messages ≡ map message_record ms) (progress_are : x.progress ≡ map progress_of ms) where
+  on-is : (s n : ℕ) → is_on ms s n ≡ is_ordered_on x.world s n
+  on-is s n = ap (λ rs. is_ordered_on (record x.world { messages = rs }) s n) (sym messages_are)
+
+  pub index-is : (upto n : ℕ) → IsNamable (shape x.world) upto n → index_in ms n ≡ index_of x.world n
+  index-is upto n i = ap (λ (ps : List (ℕ × ℕ)). (slice_index_or ps n (0, 0)).1) (sym progress_are) ∙ l.indexes n i.some i.ordered
+
+  -- the same function on those that pass
+  mapped-is : (f g : ℕ → ℕ) (upto s : ℕ) (ns : List ℕ) → ((n : ℕ) → IsNamable (shape x.world) upto n → f n ≡ g n) → NamesFit (shape x.world) upto ns → map f (passing (is_on ms s) ns) ≡ map g (on_stream x.world s ns)
+  mapped-is f g upto s [] same fit = refl
+  mapped-is f g upto s (n ∷ ns) same fit = ap (λ b. map f (if b then n ∷ passing (is_on ms s) ns else passing (is_on ms s) ns)) (on-is s n) ∙ step (is_ordered_on x.world s n) (mapped-is f g upto s ns same fit.1)
+    where
+      step : (b : Bool) → map f (passing (is_on ms s) ns) ≡ map g (on_stream x.world s ns) → map f (if b then n ∷ passing (is_on ms s) ns else passing (is_on ms s) ns) ≡ map g (if b then n ∷ on_stream x.world s ns else on_stream x.world s ns)
+      step true ih = ap (λ y. y ∷ map f (passing (is_on ms s) ns)) (same n fit.0) ∙ ap (λ ys. g n ∷ ys) ih
+      step false ih = ih
+
+  pub names-are : (upto s : ℕ) (ns : List ℕ) → NamesFit (shape x.world) upto ns → named_from ms s none_named ns ≡ (let r : Named = record { low = low_named x.world s ns; end = end_named x.world s ns } in r)
+  names-are upto s ns fit =
+      let low = mapped-is (index_in ms) (index_of x.world) upto s ns (λ n i. index-is upto n i) fit in
+      let end = mapped-is (λ n. index_in ms n + 1) (λ n. index_of x.world n + 1) upto s ns (λ n i. ap (λ k. k + 1) (index-is upto n i)) fit in
+      ap (λ is. let r : Named = record { low = least (2 ^ 64 - 1) is; end = greatest 0 (map (λ n. index_in ms n + 1) (passing (is_on ms s) ns)) } in r) low
+      ∙ ap (λ is. let r : Named = record { low = low_named x.world s ns; end = greatest 0 is } in r) end
+
+pub if-ok : {T E : Type 0} {P : Type 0} (r : Result T E) → P → IfOk r (λ v. P)
+if-ok (Ok v) p = p
+if-ok (Err e) p = tt
+
+-- ## A stream at a place
+
+pub found-at : (i : ℕ) (rs : List StreamRecord) (d : StreamRecord) → i < length rs → (r : StreamRecord) × (find (λ q. q.stream == (slice_index_or rs i d).stream) rs ≡ Some r)
+found-at i [] d lt = absurd (omega arith)
+found-at zero (q ∷ rs) d lt = (q, ap (λ b. if b then Some q else find (λ p. p.stream == q.stream) rs) (same-yes q.stream))
+found-at (suc i) (q ∷ rs) d lt = step (q.stream == (slice_index_or rs i d).stream) (found-at i rs d (omega arith))
+  where
+    step : (b : Bool) → (r : StreamRecord) × (find (λ p. p.stream == (slice_index_or rs i d).stream) rs ≡ Some r) → (r : StreamRecord) × ((if b then Some q else find (λ p. p.stream == (slice_index_or rs i d).stream) rs) ≡ Some r)
+    step true f = (q, refl)
+    step false f = f
+
+pub open-at : (x : State) → x.world.streams ≡ map stream_record x.open_streams → (j : ℕ) (d : OpenStream) → j < length x.open_streams → (r : StreamRecord) × (stream_at x.world (slice_index_or x.open_streams j d).state.stream_identifier ≡ Some r)
+open-at x streams_are j d lt =
+    let f = found-at j (map stream_record x.open_streams) (stream_record d) (omega (arith, lt, raw-length stream_record x.open_streams)) in
+    let same : (slice_index_or (map stream_record x.open_streams) j (stream_record d)).stream ≡ (slice_index_or x.open_streams j d).state.stream_identifier = ap (λ (q : StreamRecord). q.stream) (raw-at stream_record x.open_streams j (stream_record d) d lt) in
+    (f.0, ap (λ t. find (λ (q : StreamRecord). q.stream == t) x.world.streams) (sym same) ∙ ap (find (λ q. q.stream == (slice_index_or (map stream_record x.open_streams) j (stream_record d)).stream)) streams_are ∙ f.1)
+
+pub record-at : (ls : List OpenStream) (j : ℕ) (d : OpenStream) (r : StreamRecord) → slice_get (map stream_record ls) j ≡ Some r → r.stream ≡ (slice_index_or ls j d).state.stream_identifier
+record-at [] j d r e = cc
+record-at (y ∷ ls) zero d r e = let same : stream_record y ≡ r = cc in ap (λ q. q.stream) (sym same)
+record-at (y ∷ ls) (suc j) d r e = record-at ls j d r e
+
+-- ## The first message held
+
+pub first-at : (w : World) (s : ℕ) → 0 < length (held_on w s) → whole_first w (held_on w s) ≡ (if is_whole w (slice_index_or (held_on w s) 0 0) then Some (index_of w (slice_index_or (held_on w s) 0 0)) else None)
+first-at w s some = by (held_on w s) some
+  where
+    by : (ns : List ℕ) → 0 < length ns → whole_first w ns ≡ (if is_whole w (slice_index_or ns 0 0) then Some (index_of w (slice_index_or ns 0 0)) else None)
+    by [] lt = absurd (omega arith)
+    by (n ∷ ns) lt = refl
+
+pub whole-set : (sum : List ℕ → ℕ) (x : State) (l : IsLinked sum x) (s n : ℕ) (set : ChunkSet) → is_held x.world s n ≡ true → set ≡ set_of x.world n → is_complete set.chunks ≡ is_whole x.world n
+whole-set sum x l s n set h e =
+    let on = (Taken.held x.world s n h).on in
+    ap (λ (q : ChunkSet). is_complete q.chunks) e ∙ Arrival.complete_is_whole x.world n (facts sum x l).sound.sound (Line.on-made x.world s n on) ∙ sym (Taken.whole-ordered x.world s n on)
+
+-- a stream found at a place
+module _ (sum : List ℕ → ℕ) (x : State) (l : IsLinked sum x) (at s : ℕ) (d : OpenStream) (lt : at < length x.open_streams) (found : find (has_number s) x.open_streams ≡ Some (slice_index_or x.open_streams at d)) where
+  held-count : length (slice_index_or x.open_streams at d).state.reassembly_queue.held.ordered ≡ length (held_on x.world s)
+  held-count = ap length (stream-ordered sum x l at s d lt found) ∙ sets-held x.world s
+
+  pub stream-some : 0 < length (slice_index_or x.open_streams at d).state.reassembly_queue.held.ordered → 0 < length (held_on x.world s)
+  stream-some some = omega (arith, some, held-count)
+
+  pub first-none : length (slice_index_or x.open_streams at d).state.reassembly_queue.held.ordered ≡ 0 → (low : ℕ) → low ≡ min_with (whole_first x.world (held_on x.world s)) low
+  first-none e low = by (held_on x.world s) (sym held-count ∙ e)
+    where
+      by : (ns : List ℕ) → length ns ≡ 0 → low ≡ min_with (whole_first x.world ns) low
+      by [] z = refl
+      by (n ∷ ns) z = absurd (omega arith)
+
+-- the first one held is at least the least
+pub first-over : (w : World) (s a : ℕ) → min (lowest_held w s) a ≤ min_with (whole_first w (held_on w s)) a
+first-over w s a = by (held_on w s)
+  where
+    least-le : (c : ℕ) (ns : List ℕ) → least c (map (index_of w) ns) ≤ c
+    least-le c [] = omega arith
+    least-le c (n ∷ ns) = omega (arith, least-le (min c (index_of w n)) ns)
+
+    by : (ns : List ℕ) → min (least (next_of w s) (map (index_of w) ns)) a ≤ min_with (whole_first w ns) a
+    by [] = omega arith
+    by (n ∷ ns) = step (is_whole w n) (least-le (min (next_of w s) (index_of w n)) ns)
+      where
+        step : (b : Bool) → least (min (next_of w s) (index_of w n)) (map (index_of w) ns) ≤ min (next_of w s) (index_of w n) → min (least (min (next_of w s) (index_of w n)) (map (index_of w) ns)) a ≤ min_with (if b then Some (index_of w n) else None) a
+        step true le = omega (arith, le)
+        step false le = omega (arith, le)
+
+-- ## The span test
+
+pub lowest-short : (sum : List ℕ → ℕ) (x : State) → IsLinked sum x → (s : ℕ) → lowest_held x.world s < 2 ^ 31
+lowest-short sum x l s =
+    let f = facts sum x l in
+    omega (arith, next-short x.world s f.sound.sound, least-start x.world s, messages-few x.world.setup x.world f.sane)
+
+-- the code's test against the one of the record
+pub record Judged (w : World) (s : ℕ) (names : List ℕ) (lo hi : ℕ) (nm : Named) : Type 0 where
+  pub no' : min lo nm.low + 32768 ≤ max hi (nm.end - 1) → false ≡ names_fit w s names
+  pub yes' : max hi (nm.end - 1) < min lo nm.low + 32768 → nm.end < min lo nm.low + 32768 → nat_lt nm.end (min lo nm.low + 32768) ≡ names_fit w s names
+  pub edge : (m : ℕ) → m ≡ min_with (whole_first w (held_on w s)) nm.low → max hi (nm.end - 1) < min lo nm.low + 32768 → min lo nm.low + 32768 ≤ nm.end → nat_lt (nm.end - 32768) m ≡ names_fit w s names
+
+pub judged : (w : World) (s : ℕ) (names : List ℕ) (lo hi : ℕ) (nm : Named) → lo ≡ lowest_held w s → hi ≡ highest_held w s → nm ≡ (let r : Named = record { low = low_named w s names; end = end_named w s names } in r) → Judged w s names lo hi nm
+judged w s names lo hi nm a b c =
+    let same : names_fit w s names ≡ (nat_lt (max hi (nm.end - 1)) (min lo nm.low + 2 ^ 15) && nat_lt nm.end (min_with (whole_first w (held_on w s)) nm.low + 2 ^ 15)) =
+    ap (λ h. nat_lt (max h (end_named w s names - 1)) (min (lowest_held w s) (low_named w s names) + 2 ^ 15) && nat_lt (end_named w s names) (min_with (whole_first w (held_on w s)) (low_named w s names) + 2 ^ 15)) (sym b)
+    ∙ ap (λ h. nat_lt (max hi (end_named w s names - 1)) (min h (low_named w s names) + 2 ^ 15) && nat_lt (end_named w s names) (min_with (whole_first w (held_on w s)) (low_named w s names) + 2 ^ 15)) (sym a)
+    ∙ ap (λ (r : Named). nat_lt (max hi (r.end - 1)) (min lo r.low + 2 ^ 15) && nat_lt r.end (min_with (whole_first w (held_on w s)) r.low + 2 ^ 15)) (sym c) in
+    let over' : min lo nm.low ≤ min_with (whole_first w (held_on w s)) nm.low = omega (arith, a, first-over w s nm.low) in
+    record {
+      no' = λ le. (let e : nat_lt (max hi (nm.end - 1)) (min lo nm.low + 2 ^ 15) ≡ false = grind (arith, nat_tests) in sym (same ∙ ap (λ t. t && nat_lt nm.end (min_with (whole_first w (held_on w s)) nm.low + 2 ^ 15)) e));
+      yes' = λ near lt. (let e : nat_lt (max hi (nm.end - 1)) (min lo nm.low + 2 ^ 15) ≡ true = grind (arith, nat_tests) in
+          let g : nat_lt nm.end (min_with (whole_first w (held_on w s)) nm.low + 2 ^ 15) ≡ true = (let t : nm.end < min_with (whole_first w (held_on w s)) nm.low + 2 ^ 15 = omega (arith, lt, over') in grind (arith, nat_tests)) in
+          let h : nat_lt nm.end (min lo nm.low + 32768) ≡ true = grind (arith, nat_tests) in
+          h ∙ sym (same ∙ and (nat_lt (max hi (nm.end - 1)) (min lo nm.low + 2 ^ 15)) (nat_lt nm.end (min_with (whole_first w (held_on w s)) nm.low + 2 ^ 15)) e g));
+      edge = λ m is near le. (let e : nat_lt (max hi (nm.end - 1)) (min lo nm.low + 2 ^ 15) ≡ true = grind (arith, nat_tests) in
+          ap (nat_lt (nm.end - 32768)) is ∙ moved nm.end (min_with (whole_first w (held_on w s)) nm.low) (omega (arith, le))
+          ∙ sym (same ∙ ap (λ t. t && nat_lt nm.end (min_with (whole_first w (held_on w s)) nm.low + 2 ^ 15)) e));
+    }
+  where
+    moved : (a b : ℕ) → 32768 ≤ a → nat_lt (a - 32768) b ≡ nat_lt a (b + 2 ^ 15)
+    moved a b le = same_test (nat_lt (a - 32768) b) (nat_lt a (b + 2 ^ 15)) (λ e. let t : a - 32768 < b = grind (arith, nat_tests) in let u : a < b + 2 ^ 15 = omega (arith, t, le) in grind (arith, nat_tests)) (λ e. let t : a < b + 2 ^ 15 = grind (arith, nat_tests) in let u : a - 32768 < b = omega (arith, t, le) in grind (arith, nat_tests))
+
+-- ## On all streams
+
+all-same : (f g : StreamRecord → Bool) (rs : List StreamRecord) → ((i : ℕ) (d : StreamRecord) → i < length rs → f (slice_index_or rs i d) ≡ g (slice_index_or rs i d)) → list_all f rs ≡ list_all g rs
+all-same f g [] h = refl
+all-same f g (r ∷ rs) h = ap (λ b. b && list_all f rs) (h 0 r (omega arith)) ∙ ap (λ b. g r && b) (all-same f g rs (λ i d lt. h (suc i) d (omega arith)))
+
+all-next : {X : Type 0} (P : X → Bool) (rs : List X) (i : ℕ) (b : Bool) → i < length rs → ((r : X) → slice_get rs i ≡ Some r → b ≡ P r) → list_all P (take i rs) ≡ true → list_all P (take (suc i) rs) ≡ b
+all-next P [] i b lt h e = absurd (omega arith)
+all-next P (r ∷ rs) zero b lt h e = or-true (P r) ∙ sym (h r refl)
+  where
+    or-true : (c : Bool) → (c && true) ≡ c
+    or-true true = refl
+    or-true false = refl
+all-next P (r ∷ rs) (suc i) b lt h e =
+    let t = both (P r) (list_all P (take i rs)) e in
+    ap (λ c. c && list_all P (take (suc i) rs)) t.0 ∙ all-next P rs i b (omega arith) h t.1
+
+pub all-more : {X : Type 0} (P : X → Bool) (rs : List X) (i : ℕ) (b : Bool) → i < length rs → ((r : X) → slice_get rs i ≡ Some r → b ≡ P r) → list_all P (take i rs) ≡ true → list_all P (take (i + 1) rs) ≡ b
+all-more P rs i b lt h e = ap (λ k. list_all P (take k rs)) (add-one i) ∙ all-next P rs i b lt h e
+
+pub all-no : {X : Type 0} (P : X → Bool) (rs : List X) (i : ℕ) → list_all P (take i rs) ≡ false → list_all P rs ≡ false
+all-no P rs zero e = cc
+all-no P [] (suc i) e = cc
+all-no P (r ∷ rs) (suc i) e = step (P r) e (λ h. all-no P rs i h)
+  where
+    step : (b : Bool) → (b && list_all P (take i rs)) ≡ false → (list_all P (take i rs) ≡ false → list_all P rs ≡ false) → (b && list_all P rs) ≡ false
+    step true e ih = ih e
+    step false e ih = refl
+
+-- a skip that lies in the network
+pub record Skips (w : World) (upto : ℕ) (names : List ℕ) : Type 0 where
+  pub made : upto < length w.slots
+  pub fit : NamesFit (shape w) upto names
+
+pub skips-in : (sum : List ℕ → ℕ) (x : State) (l : IsLinked sum x) (k upto : ℕ) (names : List ℕ) → slice_get x.world.network k ≡ Some (Forward upto names) → Skips x.world upto names
+skips-in sum x l k upto names e =
+    let f = fit-at (shape x.world) x.world.network k (Forward upto names) (facts sum x l).fit e in
+    record { made = f.0; fit = f.1 }
+
+-- on an open stream
+pub stream-fits : (sum : List ℕ → ℕ) (x : State) (l : IsLinked sum x) (s upto : ℕ) (names : List ℕ) (r : StreamRecord) → stream_at x.world s ≡ Some r → (fits x.world (map (index_of x.world) (on_stream x.world s names)) s && fits (with_skip x.world upto names) (map (index_of x.world) (on_stream x.world s names)) s) ≡ names_fit x.world s names
+stream-fits sum x l s upto names r e =
+    let f = facts sum x l in
+    fits-both x.world s upto names r f.sound.sound e (messages-few x.world.setup x.world f.sane)
+
+-- all of them
+pub all-fit : (sum : List ℕ → ℕ) (x : State) (l : IsLinked sum x) (upto : ℕ) (names : List ℕ) → cumulative x.world ≤ upto → list_all (λ r. names_fit x.world r.stream names) x.world.streams ≡ arrival_fits x.world (Some (Forward upto names))
+all-fit sum x l upto names counts =
+    sym (skip-fits x.world upto names counts
+    ∙ all-same (λ r. fits x.world (map (index_of x.world) (on_stream x.world r.stream names)) r.stream && fits (with_skip x.world upto names) (map (index_of x.world) (on_stream x.world r.stream names)) r.stream) (λ r. names_fit x.world r.stream names) x.world.streams
+    (λ i d lt. let f = found-at i x.world.streams d lt in stream-fits sum x l (slice_index_or x.world.streams i d).stream upto names f.0 f.1))
+
+-- what its bytes read as
+abbrev pub wire_skip : World → ℕ → List ℕ → ForwardTsn
+wire_skip w upto names = record { new_cumulative_tsn = tsn_of w upto; streams = map name_with (map (name_of w) names) }
+
+pub reads-skip : (sum : List ℕ → ℕ) (x : State) (k upto : ℕ) (names : List ℕ) (ds : List Datagram) (y : Datagram) → IsLinked sum x → x.world.network ≡ map datagram_record ds → x.datagrams ≡ map (λ d. d.bytes) ds → slice_get x.world.network k ≡ Some (Forward upto names) → y ≡ slice_index_or ds k y → ReadsPacket sum y.bytes (packet_with (forward_tsn_chunk (wire_skip x.world upto names) ∷ []))
+reads-skip sum x k upto names ds y l network same e is =
+    let lt : k < length ds = omega (arith, made-at x.world.network k (Forward upto names) e, ap length network, raw-length datagram_record ds) in
+    let t = l.texts k y.bytes (Forward upto names) e in
+    let bytes : slice_index_or x.datagrams k y.bytes ≡ y.bytes = ap (λ bs. slice_index_or bs k y.bytes) same ∙ raw-at (λ d. d.bytes) ds k y.bytes y lt ∙ ap (λ (d : Datagram). d.bytes) (sym is) in
+    subst (λ b. ReadsPacket sum b (packet_with (forward_tsn_chunk (wire_skip x.world upto names) ∷ []))) bytes t.reads
+
+-- what a datagram is, from what a link keeps of it
+pub kept-kind : (ds : List Datagram) (k : ℕ) (y : Datagram) → k < length ds → y ≡ slice_index_or ds k y → slice_get (map datagram_record ds) k ≡ Some (kind_record y.kind)
+kept-kind [] k y lt is = absurd (omega arith)
+kept-kind (d ∷ ds) zero y lt is = ap (λ (z : Datagram). Some (kind_record z.kind)) (sym is)
+kept-kind (d ∷ ds) (suc k) y lt is = kept-kind ds k y (omega arith) is
+
+-- the element at a place
+pub told-at : {X : Type 0} (xs : List X) (i : ℕ) (y r : X) → y ≡ slice_index_or xs i y → slice_get xs i ≡ Some r → y ≡ r
+told-at [] i y r is e = cc
+told-at (x ∷ xs) zero y r is e = is ∙ (let same : x ≡ r = cc in same)
+told-at (x ∷ xs) (suc i) y r is e = told-at xs i y r is e
+
+-- the names that a link keeps of a datagram
+pub names-kept : (ds : List Datagram) (k : ℕ) (y : Datagram) (u upto : ℕ) (told names : List ℕ) → slice_get (map datagram_record ds) k ≡ Some (Forward upto names) → y ≡ slice_index_or ds k y → kind_record y.kind ≡ Forward u told → told ≡ names
+names-kept [] k y u upto told names e is kind = cc
+names-kept (d ∷ ds) zero y u upto told names e is kind = inner (sym kind ∙ ap datagram_record is ∙ found (datagram_record d) e)
+  where
+    found : (g : W.Datagram) → Some g ≡ Some (Forward upto names) → g ≡ Forward upto names
+    found g h = cc
+
+    inner : Forward u told ≡ Forward upto names → told ≡ names
+    inner h = cc
+names-kept (d ∷ ds) (suc k) y u upto told names e is kind = names-kept ds k y u upto told names e is kind
+
+pub same-names : (w : World) (k upto : ℕ) (names others : List ℕ) → slice_get w.network k ≡ Some (Forward upto names) → slice_get w.network k ≡ Some (Forward upto others) → names ≡ others
+same-names w k upto names others e f = inner (sym e ∙ f)
+  where
+    inner : Some (Forward upto names) ≡ Some (Forward upto others) → names ≡ others
+    inner h = cc
+
+-- ## What it makes of a link
+
+module _ (sum : List ℕ → ℕ) (x : State) (l : IsLinked sum x) (k upto : ℕ) (names : List ℕ) (none : refusal_of x.world (E.Arrive k) ≡ None) (e : slice_get x.world.network k ≡ Some (Forward upto names)) (counts : cumulative x.world ≤ upto) where
+  abbrev w : World
+  w = x.world
+
+  abbrev v : World
+  v = after x.world (E.Arrive k)
+
+  pub after-is : v ≡ with_skip w upto names
+  after-is = ap (datagram_received w) e ∙ skip-step w upto names counts
+
+  pub frame : Network.Same w v
+  frame = Network.same-received w (slice_get w.network k)
+
+  quiet : QuietSender.SameToSender w v
+  quiet = subst (QuietSender.SameToSender w) (sym (ap (datagram_received w) e)) (QuietSender.same-skip w upto names)
+
+  spans : (s : ℕ) → is_open w s ≡ true → IsSpan w s (map (index_of w) (on_stream w s names)) × IsSpan (with_skip w upto names) s (map (index_of w) (on_stream w s names))
+  spans s o =
+      let two =
+      over sum x (λ (u : World). refusal_of u (E.Arrive k) ≡ None → slice_get u.network k ≡ Some (Forward upto names) → cumulative u ≤ upto → is_open u s ≡ true → IsSpan u s (map (index_of u) (passing (is_ordered_on u s) names)) × IsSpan (datagram_received u (Some (Forward upto names))) s (map (index_of u) (passing (is_ordered_on u s) names))) l
+      (λ a b c d. skips_come_sound w.setup l.history l.setup l.stands.run k upto names a b c s d) none e counts o in
+      (two.0, subst (λ (u : World). IsSpan u s (map (index_of w) (on_stream w s names))) (skip-step w upto names counts) two.1)
+
+  counters-stay : (t : ℕ) → counters_on v t ≡ counters_on w t
+  counters-stay t = counters-same w.setup w (E.Arrive k) t (facts sum x l).sane refl refl
+
+  module _ (ms : List Message) (messages_are : x.world.messages ≡ map message_record ms) (progress_are : x.progress ≡ map progress_of ms) (streams_are : x.world.streams ≡ map stream_record x.open_streams) where
+    skips : Skips w upto names
+    skips = skips-in sum x l k upto names e
+
+    named-is : (s : ℕ) → named_from ms s none_named names ≡ (let r : Named = record { low = low_named w s names; end = end_named w s names } in r)
+    named-is s = names-are sum x l ms messages_are progress_are upto s names skips.fit
+
+    abbrev turned : OpenStream → OpenStream
+    turned y = skipped_by ms names (tsn_of x.world upto) y
+
+    -- ## The record
+
+    stream-is : (y : OpenStream) → stream_record (turned y) ≡ named_by w names (stream_record y)
+    stream-is y =
+        ap (λ (n : Named). record (stream_record y) { named = max y.named n.end }) (named-is y.state.stream_identifier)
+        ∙ ap (λ m. record (stream_record y) { named = m }) (sym (named-from w y.named (on_stream w y.state.stream_identifier names)))
+
+    streams-are : (ls : List OpenStream) → map stream_record (map turned ls) ≡ map (named_by w names) (map stream_record ls)
+    streams-are [] = refl
+    streams-are (y ∷ ls) = ap (λ r. r ∷ map stream_record (map turned ls)) (stream-is y) ∙ ap (λ rs. named_by w names (stream_record y) ∷ rs) (streams-are ls)
+
+    pub world-skipped : (skipped : ℕ) → skipped ≡ upto + 1 → record w { streams = map stream_record (map turned x.open_streams); skipped = skipped } ≡ v
+    world-skipped skipped same =
+        ap (λ n. record w { streams = map stream_record (map turned x.open_streams); skipped = n }) same
+        ∙ ap (λ rs. record w { streams = rs; skipped = upto + 1 }) (streams-are x.open_streams ∙ ap (map (named_by w names)) (sym streams_are))
+        ∙ sym after-is
+
+    -- ## The streams
+
+    gone-held : (end tsn : ℕ) (q : ReassemblyState) → (unordered_forwarded tsn (gone_to end q)).held ≡ forwarded_unordered tsn (gone_forward end q.held)
+    gone-held end tsn q = step (end == 0)
+      where
+        step : (b : Bool) → (unordered_forwarded tsn (if b then q else ordered_forwarded ((end - 1) % 2 ^ 16) q)).held ≡ forwarded_unordered tsn (if b then q.held else forwarded_ordered ((end - 1) % 2 ^ 16) q.held)
+        step true = refl
+        step false = refl
+
+    gone-rest : (end tsn : ℕ) (q : ReassemblyState) → ((unordered_forwarded tsn (gone_to end q)).si ≡ q.si) × ((unordered_forwarded tsn (gone_to end q)).max_message_size ≡ q.max_message_size)
+    gone-rest end tsn q = step (end == 0)
+      where
+        step : (b : Bool) → ((unordered_forwarded tsn (if b then q else ordered_forwarded ((end - 1) % 2 ^ 16) q)).si ≡ q.si) × ((unordered_forwarded tsn (if b then q else ordered_forwarded ((end - 1) % 2 ^ 16) q)).max_message_size ≡ q.max_message_size)
+        step true = (refl, refl)
+        step false = (refl, refl)
+
+    stream-skipped : (y : OpenStream) (r : StreamRecord) → stream_at w y.state.stream_identifier ≡ Some r → IsOpenStream w y → IsOpenStream v (turned y)
+    stream-skipped y r o i =
+        let s = y.state.stream_identifier in
+        let f = facts sum x l in
+        let tsn = tsn_of w upto in
+        let end = (named_from ms s none_named names).end in
+        let end-is : end ≡ end_named w s names = ap (λ (n : Named). n.end) (named-is s) in
+        let sp = spans s (ap is_some o) in
+        let queue = queue-skip w s upto names r f.sound.sound skips.made counts o sp.0 sp.1 in
+        let rest = gone-rest end tsn y.state.reassembly_queue in
+        stream-then sum x l (E.Arrive k) none frame refl y (turned y) i refl
+        (gone-held end tsn y.state.reassembly_queue ∙ ap (λ n. forwarded_unordered tsn (gone_forward n y.state.reassembly_queue.held)) end-is ∙ ap (λ h. forwarded_unordered tsn (gone_forward (end_named w s names) h)) i.held
+        ∙ sym queue ∙ ap (λ u. reassembly_of u s) (sym after-is))
+        rest.0 rest.1 refl refl refl refl
+        (ap (λ n. max y.next n) end-is ∙ ap (λ n. max n (end_named w s names)) i.next ∙ sym (next-skip w s upto names r f.sound.sound o) ∙ ap (λ u. next_of u s) (sym after-is))
+        refl (i.stats ∙ ap stats_of (sym (counters-stay s)))
+
+    each-skipped : (j : ℕ) (d : OpenStream) → j < length (map turned x.open_streams) → IsOpenStream v (slice_index_or (map turned x.open_streams) j d)
+    each-skipped j d lt =
+        let inside : j < length x.open_streams = omega (arith, lt, raw-length turned x.open_streams) in
+        let o = open-at x streams_are j d inside in
+        subst (IsOpenStream v) (sym (raw-at turned x.open_streams j d d inside))
+        (stream-skipped (slice_index_or x.open_streams j d) o.0 o.1 (l.open_streams j d inside))
+
+    numbers-same : (ls : List OpenStream) → stream_numbers (map turned ls) ≡ stream_numbers ls
+    numbers-same [] = refl
+    numbers-same (y ∷ ls) = ap (λ ns. y.state.stream_identifier ∷ ns) (numbers-same ls)
+
+    -- ## The filter
+
+    pub filter-gone : (first filter : Payload) (cumulative' : ℕ) → first ≡ with_chunks x.filter (past (tsn_of w upto) x.filter.chunks) → advanced (tsn_of w upto) (tsns first.chunks) ≡ record { cum = cumulative'; held = tsns filter.chunks } → filter ≡ with_chunks first filter.chunks → filter_held cumulative' filter ≡ filter_of v
+    filter-gone first filter cum' gone moved rest =
+        let f = facts sum x l in
+        let tsn = tsn_of w upto in
+        let held : tsns first.chunks ≡ those (λ t. not (at_or_before t tsn)) (seen_of w).held =
+        ap (λ (q : Payload). tsns q.chunks) gone ∙ tsns-past tsn x.filter.chunks ∙ ap (those (λ t. not (at_or_before t tsn))) (ap (λ (r : FilterRecord). r.held) l.filter) in
+        let seen : seen_of v ≡ record { cum = cum'; held = tsns filter.chunks } = ap seen_of after-is ∙ filter-skipped w upto f.few skips.made counts ∙ ap (advanced tsn) (sym held) ∙ moved in
+        let dups : filter.duplicates ≡ (filter_of v).duplicates = ap (λ (q : Payload). q.duplicates) rest ∙ ap (λ (q : Payload). q.duplicates) gone ∙ ap (λ (r : FilterRecord). r.duplicates) l.filter ∙ ap (λ u. (filter_of u).duplicates) (sym after-is) in
+        ap {B = FilterRecord} (λ d. record { cumulative = cum'; held = tsns filter.chunks; duplicates = d }) dups
+        ∙ ap {B = FilterRecord} (λ (a : Seen). record { cumulative = a.cum; held = a.held; duplicates = (filter_of v).duplicates }) (sym seen)
+
+    pub linked-skip : (filter : Payload) (cumulative' : ℕ) (u : World) → filter_held cumulative' filter ≡ filter_of v → u ≡ v → IsLinked sum (record x { world = u; open_streams = map turned x.open_streams; cumulative_tsn = cumulative'; filter = filter })
+    linked-skip filter cum' u held same =
+        linked-then sum x l (E.Arrive k) none frame x.progress (map turned x.open_streams) cum' filter u refl held each-skipped
+        (subst (IsIndexed x.places) (sym (numbers-same x.open_streams)) l.indexed) quiet same
+
+    -- the same for the streams that the code left
+    module _ (ls : List OpenStream) (tsn skipped : ℕ) (tsn_is : tsn ≡ tsn_of x.world upto) (ls_are : ls ≡ map (skipped_by ms names tsn) x.open_streams) (count : skipped ≡ upto + 1) where
+      turned-are : ls ≡ map turned x.open_streams
+      turned-are = ls_are ∙ ap (λ t. map (skipped_by ms names t) x.open_streams) tsn_is
+
+      pub world-follow : record w { streams = map stream_record ls; skipped = skipped } ≡ v
+      world-follow = ap (λ rs. record w { streams = map stream_record rs; skipped = skipped }) turned-are ∙ world-skipped skipped count
+
+      pub received-follow : record w { streams = map stream_record ls; skipped = skipped } ≡ skip_received w upto names
+      received-follow = world-follow ∙ ap (datagram_received w) e
+
+      pub linked-follow : (first filter : Payload) (cumulative' : ℕ) → first ≡ with_chunks x.filter (past tsn x.filter.chunks) → advanced tsn (tsns first.chunks) ≡ record { cum = cumulative'; held = tsns filter.chunks } → filter ≡ with_chunks first filter.chunks → IsLinked sum (record x { world = record w { streams = map stream_record ls; skipped = skipped }; open_streams = ls; cumulative_tsn = cumulative'; filter = filter })
+      linked-follow first filter cum' gone moved rest =
+          let held = filter-gone first filter cum' (gone ∙ ap (λ t. with_chunks x.filter (past t x.filter.chunks)) tsn_is) (ap (λ t. advanced t (tsns first.chunks)) (sym tsn_is) ∙ moved) rest in
+          subst (λ ys. IsLinked sum (record x { world = record w { streams = map stream_record ls; skipped = skipped }; open_streams = ys; cumulative_tsn = cum'; filter = filter })) (sym turned-are)
+          (linked-skip filter cum' (record w { streams = map stream_record ls; skipped = skipped }) held world-follow)

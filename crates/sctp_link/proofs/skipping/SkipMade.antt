@@ -1,0 +1,132 @@
+-- A FORWARD-TSN is made: what it may name, what it says, and the link after it.
+use Rattle.std.proofs.Common.{◌≡◌, ℕ, zero, suc, ◌+◌, ◌<◌, ◌≤◌, ◌^◌, ◌%◌, true, false, List, [], ◌∷◌, ◌++◌, length, map, None, refl, ap, sym, ◌∙◌, inl, inr, arith, not}
+use Rattle.std.specs.Prelude.{◌⊎◌, if◌then◌else◌, ◌&&◌, nat_le, nat_lt, slice_get, slice_index_or, Some}
+use Rattle.std.specs.List.{list_all}
+use Rattle.std.proofs.Math.Path.{subst}
+use Rattle.std.proofs.lemmas.Bool.{cases_lt}
+use Rattle.std.proofs.lemmas.Bool.Decides.{nat_tests}
+use Rattle.sctp_lists.proofs.Alls.{all-kept, all-at}
+use Rattle.sctp_lists.proofs.More.{both, fails, not_both}
+use Rattle.sctp_chunks.specs.ForwardTsn.{ForwardTsn, forward_tsn_value}
+use Rattle.sctp_chunks.specs.Wire.{forward_tsn_chunk}
+use Rattle.sctp_chunks.proofs.Lengths.{length_forward_tsn_value}
+use Rattle.sctp_packets.specs.Packet.{ReadsPacket, packet_text}
+use Rattle.sctp_model.specs.declared.event.Event.{Event}
+use Rattle.sctp_model.specs.declared.event.LinkRefusal.TheVariants.{SkipUnassigned, SkipNames}
+use Rattle.sctp_model.specs.World.{World, Forward}
+use Rattle.sctp_model.specs.World as W
+use Rattle.sctp_model.specs.Messages.{message_at, message_of, index_of, belongs_to, slots_where, tsn_of}
+use Rattle.sctp_model.specs.Contents.{name_of, contents_of}
+use Rattle.sctp_model.specs.Changes.{with_datagram}
+use Rattle.sctp_model.specs.Steps.{StandsFor, refusal_of, reply_to, after, can_name, skip_refusal}
+use Rattle.sctp_model.proofs.sender.Network.{NamesFit, names-fit}
+use Rattle.sctp_model.proofs.sender.SenderRun.{unless-holds}
+use Rattle.sctp_model.proofs.sender.Shape.{shape}
+use Rattle.sctp_ties.proofs.acknowledging.QuietSender.{outbound-same, same-self}
+use Rattle.sctp_link.specs.declared.record.Message.{Message}
+use Rattle.sctp_link.specs.declared.record.Slot.{Slot}
+use Rattle.sctp_link.specs.Records.{message_record, slot_record, progress_of}
+use Rattle.sctp_link.specs.Skips.{index_in, message_in, pair_in}
+use Rattle.sctp_link.specs.Texts.{IsDatagram, packet_with, name_with}
+use Rattle.sctp_link.specs.Linked.{State, IsLinked}
+use Rattle.sctp_link.proofs.upkeep.Facts.{facts, stands-then}
+use Rattle.sctp_link.proofs.upkeep.Frames.{stream-same, texts-more}
+use Rattle.sctp_link.proofs.receiver.Hears.{slot-raw}
+use Rattle.sctp_link.proofs.skipping.SkipComes.{wire_skip, index-is}
+
+-- ## What it may name
+
+-- no slot past a place is of the message
+pub past-none : (w : World) (n upto : ℕ) → ((p : ℕ) → upto < p → p < length w.slots → belongs_to w n p ≡ false) → false ≡ not (list_all (λ p. nat_le p upto) (slots_where w (belongs_to w n)))
+past-none w n upto h = sym (ap not (all-kept (λ p. nat_le p upto) (belongs_to w n) 0 (length w.slots) (λ p a b e. by p (omega (arith, b)) e (cases_lt upto p))))
+  where
+    by : (p : ℕ) → p < length w.slots → belongs_to w n p ≡ true → (upto < p) ⊎ (p ≤ upto) → nat_le p upto ≡ true
+    by p lt e (inl l) = absurd (not_both (sym (h p l lt) ∙ e))
+    by p lt e (inr le) = grind (arith, nat_tests)
+
+pub past-some : (w : World) (n upto p : ℕ) → upto < p → p < length w.slots → belongs_to w n p ≡ true → true ≡ not (list_all (λ p. nat_le p upto) (slots_where w (belongs_to w n)))
+past-some w n upto p lt inside e =
+    sym (ap not (fails (list_all (λ p. nat_le p upto) (slots_where w (belongs_to w n))) (λ a. let t = all-at (λ p. nat_le p upto) (belongs_to w n) p 0 (length w.slots) (omega arith) (omega (arith, inside)) e a in let le : p ≤ upto = grind (arith, nat_tests) in absurd (omega (arith, le, lt)))))
+
+-- the message of a slot, as a link keeps it
+pub slot-of : (sum : List ℕ → ℕ) (x : State) (l : IsLinked sum x) (slots : List Slot) (messages : List Message) → x.world.slots ≡ map slot_record slots → x.world.messages ≡ map message_record messages → (p : ℕ) (y : Slot) → p < length slots → y ≡ slice_index_or slots p y → message_of x.world p ≡ y.message
+slot-of sum x l slots messages a b p y lt is = ap (λ t. t.message) (slot-raw sum x l slots messages a b p y lt) ∙ ap (λ (t : Slot). t.message) (sym is)
+
+-- ## What it says
+
+-- what an accepted skip meets
+pub record Names (w : World) (upto : ℕ) (names : List ℕ) : Type 0 where
+  pub made : upto < length w.slots
+  pub can : list_all (can_name w upto) names ≡ true
+  pub few : length names ≤ 16381
+
+pub accepted : (w : World) (upto : ℕ) (names : List ℕ) → skip_refusal w upto names ≡ None → Names w upto names
+accepted w upto names ok =
+    let a = unless-holds (nat_lt upto (length w.slots)) SkipUnassigned _ ok in
+    let b = unless-holds (list_all (can_name w upto) names && nat_le (length names) 16381) SkipNames None a.1 in
+    let c = both (list_all (can_name w upto) names) (nat_le (length names) 16381) b.0 in
+    let e = a.0 in
+    let f = c.1 in
+    record { made = grind (arith, nat_tests); can = c.0; few = grind (arith, nat_tests) }
+
+pub names-made : (w : World) (upto : ℕ) (names : List ℕ) → list_all (can_name w upto) names ≡ true → (i d : ℕ) → i < length names → slice_index_or names i d < length w.messages
+names-made w upto [] e i d lt = absurd (omega arith)
+names-made w upto (n ∷ ns) e zero d lt = let t = (both (nat_lt n (length w.messages)) _ (both (can_name w upto n) (list_all (can_name w upto) ns) e).0).0 in grind (arith, nat_tests)
+names-made w upto (n ∷ ns) e (suc i) d lt = names-made w upto ns (both (can_name w upto n) (list_all (can_name w upto) ns) e).1 i d (omega arith)
+
+-- so many names fit
+pub skip-short : (f : ForwardTsn) → length f.streams ≤ 16381 → 4 + length (forward_tsn_value f) < 2 ^ 16
+skip-short f le = omega (arith, length_forward_tsn_value f, le)
+
+length-as : {A B : Type 0} (f : A → B) (xs : List A) → length (map f xs) ≡ length xs
+length-as f [] = refl
+length-as f (x ∷ xs) = ap suc (length-as f xs)
+
+module _ (sum : List ℕ → ℕ) (x : State) (l : IsLinked sum x) (upto : ℕ) (names : List ℕ) (ok : skip_refusal x.world upto names ≡ None) where
+  abbrev w : World
+  w = x.world
+
+  abbrev v : World
+  v = with_datagram x.world (Forward upto names)
+
+  fit : NamesFit (shape w) upto names
+  fit = names-fit w upto names (facts sum x l).sane.sender (accepted w upto names ok).can
+
+  module _ (ms : List Message) (messages_are : x.world.messages ≡ map message_record ms) (progress_are : x.progress ≡ map progress_of ms) where
+    pairs-as : (ns : List ℕ) → NamesFit (shape w) upto ns → map (pair_in ms) ns ≡ map name_with (map (name_of w) ns)
+    pairs-as [] f = refl
+    pairs-as (n ∷ ns) f =
+        let stream : (message_in ms n).stream ≡ (message_at w n).stream = ap (λ rs. (message_at (record w { messages = rs }) n).stream) (sym messages_are) in
+        let index = index-is sum x l ms messages_are progress_are upto n f.0 in
+        let ssn = ap (λ b. (if b then index_of w n else (message_at w n).before) % 2 ^ 16) f.0.ordered in
+        ap (λ s. name_with (s, index_in ms n % 2 ^ 16) ∷ map (pair_in ms) ns) stream ∙ ap (λ i. name_with ((message_at w n).stream, i % 2 ^ 16) ∷ map (pair_in ms) ns) index
+        ∙ ap (λ i. name_with ((message_at w n).stream, i) ∷ map (pair_in ms) ns) (sym ssn) ∙ ap (λ ps. name_with (name_of w n) ∷ ps) (pairs-as ns f.1)
+
+    pub skip-says : (f : ForwardTsn) → f.new_cumulative_tsn ≡ tsn_of w upto → f.streams ≡ map (pair_in ms) names → f ≡ wire_skip w upto names
+    skip-says f a b =
+        ap (λ t. let r : ForwardTsn = record { new_cumulative_tsn = t; streams = f.streams } in r) a
+        ∙ ap (λ ps. let r : ForwardTsn = record { new_cumulative_tsn = tsn_of w upto; streams = ps } in r) (b ∙ pairs-as names fit)
+
+    pub pairs-short : (f : ForwardTsn) → f.streams ≡ map (pair_in ms) names → 4 + length (forward_tsn_value f) < 2 ^ 16
+    pairs-short f b = skip-short f (omega (arith, ap length b, length-as (pair_in ms) names, (accepted w upto names ok).few))
+
+  pub linked-made : (f : ForwardTsn) → f ≡ wire_skip x.world upto names → (bytes : List ℕ) (e : Event) → refusal_of w e ≡ None → after w e ≡ v → bytes ≡ packet_text sum (packet_with (forward_tsn_chunk f ∷ [])) → ReadsPacket sum bytes (packet_with (forward_tsn_chunk f ∷ [])) → length x.datagrams ≡ length w.network → IsLinked sum (record x { world = v; datagrams = x.datagrams ++ bytes ∷ [] })
+  linked-made f says bytes e none is text reads count = record {
+    setup = l.setup;
+    one_each = l.one_each;
+    history = (e, reply_to w e) ∷ l.history;
+    stands = subst (λ u. StandsFor w.setup u ((e, reply_to w e) ∷ l.history)) is (stands-then w.setup w l.history e none l.stands);
+    outbound = outbound-same w v (same-self w v refl refl refl refl) x.outbound l.outbound;
+    unstarted = l.unstarted;
+    filter = l.filter;
+    next = l.next;
+    fragments = l.fragments;
+    written = l.written;
+    sents = l.sents;
+    indexes = l.indexes;
+    low = l.low;
+    open_streams = λ k d lt. stream-same w v (slice_index_or x.open_streams k d) (record { setup = refl; held = refl; ordered = refl; next = refl; amount = refl; counters = refl }) refl (l.open_streams k d lt);
+    indexed = l.indexed;
+    texts = subst (λ (u : World). (k : ℕ) (d : List ℕ) (g : W.Datagram) → slice_get u.network k ≡ Some g → IsDatagram sum (contents_of u g) (slice_index_or (x.datagrams ++ bytes ∷ []) k d)) is
+        (texts-more sum x l e none (Forward upto names) bytes (ap (λ (u : World). u.network) is) count (subst (λ (u : World). IsDatagram sum (contents_of u (Forward upto names)) bytes) (sym is) (record { text = text ∙ ap (λ t. packet_text sum (packet_with (forward_tsn_chunk t ∷ []))) says; reads = subst (λ t. ReadsPacket sum bytes (packet_with (forward_tsn_chunk t ∷ []))) says reads })));
+  }

@@ -1,0 +1,13 @@
+pub mod Places
+pub mod ChangedStreams
+pub mod Frames
+pub mod StreamsAfter
+pub mod Apart
+pub mod Facts
+pub mod Lookups
+pub mod Lending
+pub mod Walks
+pub mod Wants
+pub mod Packets
+pub mod Observed
+pub mod Bounds

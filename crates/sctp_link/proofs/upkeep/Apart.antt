@@ -1,0 +1,117 @@
+-- No stream of a link is open twice, and what the change of one of its streams, slots or messages makes of the record.
+use Rattle.std.proofs.Common.{◌≡◌, ℕ, zero, suc, ◌<◌, Bool, true, false, List, [], ◌∷◌, length, map, Some, refl, ap, sym, ◌∙◌, arith}
+use Rattle.std.specs.BTreeMap.{BTreeMap}
+use Rattle.std.specs.Prelude.{◌==◌, ◌||◌, find, if◌then◌else◌, slice_get, slice_index_or, slice_set}
+use Rattle.std.specs.Option.{option_map}
+use Rattle.std.specs.List.{list_any}
+use Rattle.std.proofs.Math.Path.{subst}
+use Rattle.std.proofs.lemmas.Bool.{ne_eqb}
+use Rattle.std.proofs.lemmas.List.{get_or-set_same, get_or-set_other}
+use Rattle.sctp_lists.specs.Lists.{changed}
+use Rattle.sctp_lists.proofs.Cases.{same-yes, same-is}
+use Rattle.sctp_lists.proofs.More.{not_both}
+use Rattle.sctp_model.specs.World.{StreamRecord}
+use Rattle.sctp_ties.proofs.arriving.Stays.{by_place}
+use Rattle.sctp_ties.proofs.amounts.StreamAmounts.{same-turned}
+use Rattle.sctp_link.specs.declared.open_stream.OpenStream.{OpenStream}
+use Rattle.sctp_link.specs.Linked.{has_number}
+use Rattle.sctp_link.specs.Places.{IsIndexed, stream_numbers}
+use Rattle.sctp_link.specs.Records.{stream_record}
+
+-- ## Numbers
+
+-- none stands twice
+abbrev pub IsApart : List ℕ → Type 0
+IsApart [] = Unit {0}
+IsApart (n ∷ ns) = (list_any (λ k. k == n) ns ≡ false) × IsApart ns
+
+neither : (a b : Bool) → (a || b) ≡ false → (a ≡ false) × (b ≡ false)
+neither true b e = cc
+neither false b e = (refl, e)
+
+none-is : (n : ℕ) (ns : List ℕ) → ((k : ℕ) → slice_get ns k ≡ Some n → ⊥) → list_any (λ k. k == n) ns ≡ false
+none-is n [] h = refl
+none-is n (m ∷ ns) h = ap (λ b. b || list_any (λ k. k == n) ns) (ne_eqb m n (λ e. h 0 (ap (λ k. Some k) e))) ∙ none-is n ns (λ k e. h (suc k) e)
+
+one-place : (ns : List ℕ) → ((j k s : ℕ) → slice_get ns j ≡ Some s → slice_get ns k ≡ Some s → j ≡ k) → IsApart ns
+one-place [] d = tt
+one-place (n ∷ ns) d = (none-is n ns (λ k e. let same = d 0 (suc k) n refl e in omega (arith, same)), one-place ns (λ j k s a b. let same = d (suc j) (suc k) s a b in omega (arith, same)))
+
+-- each number has one place in an index
+pub apart : (places : BTreeMap ℕ ℕ) (ns : List ℕ) → IsIndexed places ns → IsApart ns
+apart places ns i = one-place ns (λ j k s a b. same (sym ((i s j).1 a) ∙ (i s k).1 b))
+  where
+    same : {j k : ℕ} → Some j ≡ Some k → j ≡ k
+    same e = cc
+
+-- ## Open streams
+
+-- a stream is found by its number in the record where it is in the link
+pub stream-found : (s : ℕ) (ls : List OpenStream) → find (λ r. r.stream == s) (map stream_record ls) ≡ option_map stream_record (find (has_number s) ls)
+stream-found s [] = refl
+stream-found s (l ∷ ls) = step (l.state.stream_identifier == s) (stream-found s ls)
+  where
+    step : (b : Bool) → find (λ r. r.stream == s) (map stream_record ls) ≡ option_map stream_record (find (has_number s) ls) → (if b then Some (stream_record l) else find (λ r. r.stream == s) (map stream_record ls)) ≡ option_map stream_record (if b then Some l else find (has_number s) ls)
+    step true ih = refl
+    step false ih = ih
+
+pub number-found : (s : ℕ) (ls : List OpenStream) (l : OpenStream) → find (has_number s) ls ≡ Some l → l.state.stream_identifier ≡ s
+number-found s [] l e = cc
+number-found s (x ∷ ls) l e = step (x.state.stream_identifier == s) refl e (number-found s ls l)
+  where
+    step : (b : Bool) → (x.state.stream_identifier == s) ≡ b → (if b then Some x else find (has_number s) ls) ≡ Some l → (find (has_number s) ls ≡ Some l → l.state.stream_identifier ≡ s) → l.state.stream_identifier ≡ s
+    step true t h ih = let z : x ≡ l = cc in ap (λ (y : OpenStream). y.state.stream_identifier) (sym z) ∙ same-is x.state.stream_identifier s t
+    step false t h ih = ih h
+
+none-at : (n : ℕ) (ls : List OpenStream) (k : ℕ) (d : OpenStream) → list_any (λ j. j == n) (stream_numbers ls) ≡ false → k < length ls → ((slice_index_or ls k d).state.stream_identifier == n) ≡ false
+none-at n [] k d e lt = absurd (omega arith)
+none-at n (l ∷ ls) zero d e lt = (neither (l.state.stream_identifier == n) (list_any (λ j. j == n) (stream_numbers ls)) e).0
+none-at n (l ∷ ls) (suc k) d e lt = none-at n ls k d (neither (l.state.stream_identifier == n) (list_any (λ j. j == n) (stream_numbers ls)) e).1 (omega arith)
+
+-- two streams have two numbers
+pub differ : (ls : List OpenStream) (j k : ℕ) (d : OpenStream) → IsApart (stream_numbers ls) → j < length ls → k < length ls → (j ≡ k → ⊥) → (slice_index_or ls j d).state.stream_identifier ≡ (slice_index_or ls k d).state.stream_identifier → ⊥
+differ [] j k d a lj lk ne e = omega arith
+differ (l ∷ ls) zero zero d a lj lk ne e = ne refl
+differ (l ∷ ls) zero (suc k) d a lj lk ne e = not_both (sym (none-at l.state.stream_identifier ls k d a.0 (omega arith)) ∙ ap (λ n. n == l.state.stream_identifier) (sym e) ∙ same-yes l.state.stream_identifier)
+differ (l ∷ ls) (suc j) zero d a lj lk ne e = not_both (sym (none-at l.state.stream_identifier ls j d a.0 (omega arith)) ∙ ap (λ n. n == l.state.stream_identifier) e ∙ same-yes l.state.stream_identifier)
+differ (l ∷ ls) (suc j) (suc k) d a lj lk ne e = differ ls j k d a.1 (omega arith) (omega arith) (λ z. ne (ap suc z)) e
+
+-- ## One element is set
+
+pub map-set : {A B : Type 0} (f : A → B) (g : B → B) (xs : List A) (i : ℕ) (y d : A) → i < length xs → f y ≡ g (f (slice_index_or xs i d)) → map f (slice_set xs i y) ≡ changed g i (map f xs)
+map-set f g [] i y d lt e = absurd (omega arith)
+map-set f g (x ∷ xs) zero y d lt e = ap (λ b. b ∷ map f xs) e
+map-set f g (x ∷ xs) (suc i) y d lt e = ap (λ bs. f x ∷ bs) (map-set f g xs i y d (omega arith) e)
+
+pub map-set_same : {A B : Type 0} (f : A → B) (xs : List A) (i : ℕ) (y d : A) → f y ≡ f (slice_index_or xs i d) → map f (slice_set xs i y) ≡ map f xs
+map-set_same f [] i y d e = refl
+map-set_same f (x ∷ xs) zero y d e = ap (λ b. b ∷ map f xs) e
+map-set_same f (x ∷ xs) (suc i) y d e = ap (λ bs. f x ∷ bs) (map-set_same f xs i y d e)
+
+untouched : (s : ℕ) (f : StreamRecord → StreamRecord) (ls : List OpenStream) → list_any (λ k. k == s) (stream_numbers ls) ≡ false → map (λ r. if r.stream == s then f r else r) (map stream_record ls) ≡ map stream_record ls
+untouched s f [] e = refl
+untouched s f (l ∷ ls) e =
+    let x = neither (l.state.stream_identifier == s) (list_any (λ k. k == s) (stream_numbers ls)) e in
+    ap (λ b. (if b then f (stream_record l) else stream_record l) ∷ map (λ r. if r.stream == s then f r else r) (map stream_record ls)) x.0
+    ∙ ap (λ rs. stream_record l ∷ rs) (untouched s f ls x.1)
+
+-- one stream is set: so its stream changes in the record
+pub streams-set : (ls : List OpenStream) (k : ℕ) (y d : OpenStream) (f : StreamRecord → StreamRecord) → IsApart (stream_numbers ls) → k < length ls → stream_record y ≡ f (stream_record (slice_index_or ls k d)) → map stream_record (slice_set ls k y) ≡ map (λ r. if r.stream == (slice_index_or ls k d).state.stream_identifier then f r else r) (map stream_record ls)
+streams-set [] k y d f a lt e = absurd (omega arith)
+streams-set (l ∷ ls) zero y d f a lt e =
+    let s = l.state.stream_identifier in
+    ap (λ r. r ∷ map stream_record ls) e
+    ∙ ap (λ rs. f (stream_record l) ∷ rs) (sym (untouched s f ls a.0))
+    ∙ ap (λ b. (if b then f (stream_record l) else stream_record l) ∷ map (λ r. if r.stream == s then f r else r) (map stream_record ls)) (sym (same-yes s))
+streams-set (l ∷ ls) (suc k) y d f a lt e =
+    let s = (slice_index_or ls k d).state.stream_identifier in
+    let off : (l.state.stream_identifier == s) ≡ false = same-turned l.state.stream_identifier s ∙ none-at l.state.stream_identifier ls k d a.0 (omega arith) in
+    ap (λ rs. stream_record l ∷ rs) (streams-set ls k y d f a.1 (omega arith) e)
+    ∙ ap (λ b. (if b then f (stream_record l) else stream_record l) ∷ map (λ r. if r.stream == s then f r else r) (map stream_record ls)) (sym off)
+
+-- what holds of the new stream and of the others holds of each
+pub each-set : (P : OpenStream → Type 0) (ls : List OpenStream) (k j : ℕ) (y d : OpenStream) → k < length ls → P y → ((j ≡ k → ⊥) → P (slice_index_or ls j d)) → P (slice_index_or (slice_set ls k y) j d)
+each-set P ls k j y d lt new old =
+    by_place {C = P (slice_index_or (slice_set ls k y) j d)} j k
+    (λ ne. subst P (sym (get_or-set_other ls k j y d ne)) (old ne))
+    (λ e. subst (λ i. P (slice_index_or (slice_set ls k y) i d)) (sym e) (subst P (sym (get_or-set_same ls k y d lt)) new))

@@ -1,0 +1,89 @@
+-- What the history that a link stands for tells of its record.
+use Rattle.std.proofs.Common.{◌≡◌, ℕ, ◌<◌, ◌≤◌, ◌^◌, true, List, [], ◌∷◌, length, Some, None, ap, sym, ◌∙◌}
+use Rattle.std.specs.Prelude.{slice_get}
+use Rattle.std.proofs.Math.Path.{subst}
+use Rattle.std.proofs.lemmas.Option.{slice_get_within}
+use Rattle.sctp_model.specs.declared.event.Event.{Event}
+use Rattle.sctp_model.specs.declared.event.Event.TheVariants as E
+use Rattle.sctp_model.specs.World.{Setup, World, Data}
+use Rattle.sctp_model.specs.World as W
+use Rattle.sctp_model.specs.Messages.{message_at}
+use Rattle.sctp_model.specs.Receiver.{spans_fit}
+use Rattle.sctp_model.specs.Contents.{contents_of, contents_in, datagram}
+use Rattle.sctp_model.specs.Steps.{History, StandsFor, IsRun, world_of, refusal_of, reply_to, after}
+use Rattle.sctp_model.specs.Laws.{IsSetup}
+use Rattle.sctp_model.specs.Sound.{IsSound, ComesSound}
+use Rattle.sctp_model.proofs.sender.Shape.{shape}
+use Rattle.sctp_model.proofs.sender.SenderRun.{Sane, sane-run}
+use Rattle.sctp_model.proofs.sender.Few
+use Rattle.sctp_model.proofs.sender.Network.{AllFit, fit-run, datagrams_stay}
+use Rattle.sctp_model.proofs.receiver.Spans.{spans_fit_always}
+use Rattle.sctp_model.proofs.receiver.SoundRun.{record_is_sound, slots_come_sound}
+use Rattle.sctp_ties.proofs.arriving.Carried.{Carried, carried-run}
+use Rattle.sctp_ties.proofs.sending.KindsRun.{Going, taken-run}
+use Rattle.sctp_ties.proofs.sending.Fragments.{going-run}
+use Rattle.sctp_ties.proofs.amounts.NoLarger.{no-larger}
+use Rattle.sctp_link.specs.Linked.{State, IsLinked}
+
+-- what every record that a history leads to keeps
+pub record Facts (w : World) : Type 0 where
+  pub setup : IsSetup w.setup
+  pub sane : Sane w.setup w
+  pub going : Going w.setup w
+  pub sound : IsSound w
+  pub spans : spans_fit w [] ≡ true
+  pub few : length w.slots < 2 ^ 31
+  pub taken : w.taken ≤ length w.slots
+  pub fit : AllFit (shape w) w.network
+  pub carried : (k p : ℕ) → slice_get w.network k ≡ Some (Data (p ∷ [])) → Carried w p
+  pub comes : (k p : ℕ) → refusal_of w (E.Arrive k) ≡ None → slice_get w.network k ≡ Some (Data (p ∷ [])) → ComesSound w p
+  pub largest : (n : ℕ) → n < length w.messages → length (message_at w n).bytes ≤ w.setup.largest
+  -- what a datagram says never changes
+  pub stays : (e : Event) (k : ℕ) → refusal_of w e ≡ None → k < length w.network → datagram (after w e) k ≡ datagram w k
+
+-- those of the record of a history
+of-run : (setup : Setup) (h : History) → IsSetup setup → IsRun setup h → (world_of setup h).setup ≡ setup → Facts (world_of setup h)
+of-run setup h is run same =
+    let w = world_of setup h in
+    let sane : Sane w.setup w = subst (λ s. Sane s w) (sym same) (sane-run setup h run) in
+    record {
+      setup = subst IsSetup (sym same) is;
+      sane = sane;
+      going = subst (λ s. Going s w) (sym same) (going-run setup h run);
+      sound = record_is_sound setup h is run;
+      spans = spans_fit_always setup h is run;
+      few = Few.few w.setup w sane;
+      taken = taken-run setup h is run;
+      fit = fit-run setup h run;
+      carried = λ k p e. carried-run setup h k p run e;
+      comes = λ k p none e. slots_come_sound setup h is run k [] p [] none e;
+      largest = λ n lt. let le = no-larger setup h n is run lt in subst (λ s. length (message_at w n).bytes ≤ s.largest) (sym same) le;
+      stays = λ e k none lt. datagrams_stay setup h is run e k none lt;
+    }
+
+pub facts : (sum : List ℕ → ℕ) (x : State) → IsLinked sum x → Facts x.world
+facts sum x l =
+    let setup = x.world.setup in
+    let is = l.stands.is in
+    subst Facts (sym is) (of-run setup l.history l.setup l.stands.run (ap (λ w. w.setup) (sym is)))
+
+-- a property of every record that a history leads to, at the link's
+pub over : (sum : List ℕ → ℕ) (x : State) (P : World → Type 0) (l : IsLinked sum x) → P (world_of x.world.setup l.history) → P x.world
+over sum x P l p = subst P (sym l.stands.is) p
+
+-- after an accepted event the record stands for the longer history
+pub stands-then : (setup : Setup) (w : World) (h : History) (e : Event) → refusal_of w e ≡ None → StandsFor setup w h → StandsFor setup (after w e) ((e, reply_to w e) ∷ h)
+stands-then setup w h e none s = record {
+  is = ap (λ v. after v e) s.is;
+  run = (ap (λ v. refusal_of v e) (sym s.is) ∙ none, (ap (λ v. reply_to v e) s.is, s.run));
+}
+
+-- what a datagram of before says after it
+pub says-still : (w : World) (f : Facts w) (e : Event) → refusal_of w e ≡ None → (k : ℕ) (g g' : W.Datagram) → slice_get w.network k ≡ Some g → slice_get (after w e).network k ≡ Some g' → contents_of (after w e) g' ≡ contents_of w g
+says-still w f e none k g g' old new =
+    let lt = slice_get_within w.network k g old in
+    let same = f.stays e k none lt in
+    inner (ap (contents_in (after w e)) (sym new) ∙ same ∙ ap (contents_in w) old)
+  where
+    inner : {A : Type 0} {a b : A} → Some a ≡ Some b → a ≡ b
+    inner e = cc

@@ -1,0 +1,33 @@
+-- A stream looked up among those that a link keeps.
+use Rattle.std.proofs.Common.{◌≡◌, ℕ, ◌<◌, true, false, List, length, map, Some, None, ap, sym, ◌∙◌}
+use Rattle.std.specs.Prelude.{◌==◌, find, is_some, option_map, slice_index_or}
+use Rattle.std.proofs.Math.Path.{subst}
+use Rattle.sctp_model.specs.World.{World}
+use Rattle.sctp_model.specs.Messages.{is_open, stream_at}
+use Rattle.sctp_link.specs.declared.open_stream.OpenStream.{OpenStream}
+use Rattle.sctp_link.specs.Linked.{has_number, State, IsLinked, IsOpenStream}
+use Rattle.sctp_link.specs.Records.{stream_record}
+use Rattle.sctp_link.proofs.upkeep.Apart.{number-found, stream-found}
+
+-- nothing is kept of a stream that is not open
+pub none-open : (w : World) (s : ℕ) (ls : List OpenStream) → w.streams ≡ map stream_record ls → find (has_number s) ls ≡ None → is_open w s ≡ false
+none-open w s ls same e = ap is_some (ap (find (λ r. r.stream == s)) same ∙ stream-found s ls ∙ ap (option_map stream_record) e)
+
+pub some-open : (w : World) (s : ℕ) (ls : List OpenStream) (l : OpenStream) → w.streams ≡ map stream_record ls → find (has_number s) ls ≡ Some l → stream_at w s ≡ Some (stream_record l)
+some-open w s ls l same e = ap (find (λ r. r.stream == s)) same ∙ stream-found s ls ∙ ap (option_map stream_record) e
+
+-- what is kept of an open stream, at its place
+pub record IsKept (sum : List ℕ → ℕ) (x : State) (s : ℕ) (l : OpenStream) : Type 0 where
+  pub is_open : is_open x.world s ≡ true
+  pub number : l.state.stream_identifier ≡ s
+  pub open_stream : IsOpenStream x.world l
+
+pub kept-at : (sum : List ℕ → ℕ) (x : State) (s k : ℕ) (l : OpenStream) → x.world.streams ≡ map stream_record x.open_streams → IsLinked sum x → k < length x.open_streams → find (has_number s) x.open_streams ≡ Some (slice_index_or x.open_streams k l) → l ≡ slice_index_or x.open_streams k l → IsKept sum x s l
+kept-at sum x s k l same i lt found is = record {
+  is_open = ap is_some (some-open x.world s x.open_streams l same here);
+  number = number-found s x.open_streams l here;
+  open_stream = subst (IsOpenStream x.world) (sym is) (i.open_streams k l lt);
+}
+  where
+    here : find (has_number s) x.open_streams ≡ Some l
+    here = found ∙ ap (λ y. Some y) (sym is)

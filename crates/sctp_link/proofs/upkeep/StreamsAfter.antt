@@ -1,0 +1,102 @@
+-- What an event that leaves the sender's side as it was makes of a link.
+use Rattle.std.proofs.Common.{◌≡◌, ℕ, ◌+◌, ◌<◌, ◌%◌, ◌^◌, true, List, ◌∷◌, length, Some, None, ap, sym, ◌∙◌}
+use Rattle.std.specs.Prelude.{slice_get, slice_index_or}
+use Rattle.std.proofs.Math.Path.{subst}
+use Rattle.sctp_lists.specs.Kept.{kept, numbers_from, total_over}
+use Rattle.sctp_queues.specs.payload_queue.PayloadQueue.{Payload}
+use Rattle.sctp_model.specs.declared.event.Event.{Event}
+use Rattle.sctp_model.specs.World.{Setup, World}
+use Rattle.sctp_model.specs.World as W
+use Rattle.sctp_model.specs.Messages.{ordered_before, tsn_of}
+use Rattle.sctp_model.specs.Receiver.{next_of}
+use Rattle.sctp_model.specs.Contents.{contents_of}
+use Rattle.sctp_model.specs.Queues.{filter_of}
+use Rattle.sctp_model.specs.Steps.{StandsFor, refusal_of, reply_to, after}
+use Rattle.sctp_model.specs.Laws.{IsSetup}
+use Rattle.sctp_model.proofs.sender.Shape.{Shape, shape, sent, parts, on}
+use Rattle.sctp_model.proofs.sender.Network.{Same}
+use Rattle.sctp_ties.specs.Holds.{reassembly_of}
+use Rattle.sctp_ties.specs.Tied.{filter_held}
+use Rattle.sctp_ties.specs.Amount.{amount, keeps_amounts}
+use Rattle.sctp_ties.specs.Counts.{counters_on}
+use Rattle.sctp_ties.specs.Indexes.{begun_on}
+use Rattle.sctp_ties.proofs.sending.Begun
+use Rattle.sctp_ties.proofs.sending.Begun.{Indexed}
+use Rattle.sctp_ties.proofs.acknowledging.QuietSender.{SameToSender, outbound-same}
+use Rattle.sctp_ties.proofs.amounts.StreamAmounts.{amount-same}
+use Rattle.sctp_link.specs.declared.open_stream.OpenStream.{OpenStream}
+use Rattle.sctp_link.specs.Linked.{State, IsLinked, IsOpenStream, stats_of}
+use Rattle.sctp_link.specs.Places.{IsIndexed, stream_numbers}
+use Rattle.sctp_link.specs.Texts.{IsDatagram}
+use Rattle.sctp_link.proofs.upkeep.Facts.{facts, stands-then, says-still}
+use Rattle.sctp_link.proofs.sender.Beginning.{index_kept, indexed-of}
+
+module _ (sum : List ℕ → ℕ) (x : State) (l : IsLinked sum x) (e : Event) (none : refusal_of x.world e ≡ None) (s : Same x.world (after x.world e)) where
+  abbrev w : World
+  w = x.world
+
+  abbrev v : World
+  v = after x.world e
+
+  on-shape : (P : Shape → Type 0) → P (shape w) → P (shape v)
+  on-shape P p = subst P (sym s.shape_is) p
+
+  first-same : v.setup.first ≡ w.setup.first
+  first-same = ap (λ t. t.first) s.setup
+
+  stands-same : StandsFor v.setup v ((e, reply_to w e) ∷ l.history)
+  stands-same = subst (λ (t : Setup). StandsFor t v ((e, reply_to w e) ∷ l.history)) (sym s.setup) (stands-then w.setup w l.history e none l.stands)
+
+  texts-same : (k : ℕ) (d : List ℕ) (g : W.Datagram) → slice_get v.network k ≡ Some g → IsDatagram sum (contents_of v g) (slice_index_or x.datagrams k d)
+  texts-same k d g new =
+      let old : slice_get w.network k ≡ Some g = ap (λ ds. slice_get ds k) (sym s.network) ∙ new in
+      let says = says-still w (facts sum x l) e none k g g old new in
+      subst (λ c. IsDatagram sum c (slice_index_or x.datagrams k d)) (sym says) (l.texts k d g old)
+
+  -- what such an event leaves of an open stream
+  pub stream-then : keeps_amounts e ≡ true → (y z : OpenStream) → IsOpenStream w y → z.state.stream_identifier ≡ y.state.stream_identifier → z.state.reassembly_queue.held ≡ reassembly_of v y.state.stream_identifier → z.state.reassembly_queue.si ≡ y.state.reassembly_queue.si → z.state.reassembly_queue.max_message_size ≡ y.state.reassembly_queue.max_message_size → z.state.max_payload_size ≡ y.state.max_payload_size → z.ordered ≡ y.ordered → z.state.sequence_number ≡ y.state.sequence_number → z.begun ≡ y.begun → z.next ≡ next_of v y.state.stream_identifier → z.state.buffered_amount ≡ y.state.buffered_amount → z.state.stats ≡ stats_of (counters_on v y.state.stream_identifier) → IsOpenStream v z
+  stream-then keeps y z i id held si largest size ordered number begun next bytes stats =
+      let t = y.state.stream_identifier in
+      let f = facts sum x l in
+      let before : ordered_before v t (length v.messages) ≡ ordered_before w t (length w.messages) = ap (λ (b : Shape). length (kept (on b t) 0 b.count)) s.shape_is in
+      let same = amount-same w.setup w e t f.setup f.sane keeps in
+      record {
+        held = held ∙ ap (reassembly_of v) (sym id);
+        si = si ∙ i.si ∙ sym id;
+        largest = largest ∙ i.largest ∙ sym (ap (λ t. t.largest) s.setup);
+        size = size ∙ i.size ∙ sym (ap (λ t. t.size) s.setup);
+        ordered = ordered ∙ i.ordered ∙ sym before ∙ ap (λ a. ordered_before v a (length v.messages)) (sym id);
+        number = number ∙ i.number ∙ ap (λ n. n % 2 ^ 16) (sym ordered);
+        begun = begun ∙ i.begun ∙ sym (ap (λ (b : Shape). Begun.begun b t) s.shape_is) ∙ ap (begun_on v) (sym id);
+        next = next ∙ ap (next_of v) (sym id);
+        amount = bytes ∙ i.amount ∙ sym same ∙ ap (amount v) (sym id);
+        stats = stats ∙ ap (λ a. stats_of (counters_on v a)) (sym id);
+      }
+
+  module _ (progress : List (ℕ × ℕ)) (open_streams : List OpenStream) (cumulative : ℕ) (filter : Payload) (u : World) (progress_same : progress ≡ x.progress) (filter_is : filter_held cumulative filter ≡ filter_of v) (each : (k : ℕ) (d : OpenStream) → k < length open_streams → IsOpenStream v (slice_index_or open_streams k d)) (found : IsIndexed x.places (stream_numbers open_streams)) (q : SameToSender w v) (is : u ≡ v) where
+    indexed-then : Indexed (shape v) (index_kept progress)
+    indexed-then = subst (λ ps. Indexed (shape v) (index_kept ps)) (sym progress_same) (on-shape (λ b. Indexed b (index_kept x.progress)) (indexed-of sum x l))
+
+    at-after : IsLinked sum (record x { world = v; progress = progress; open_streams = open_streams; cumulative_tsn = cumulative; filter = filter })
+    at-after = record {
+      setup = subst IsSetup (sym s.setup) l.setup;
+      one_each = ap (λ t. t.limit) s.setup ∙ l.one_each;
+      history = (e, reply_to w e) ∷ l.history;
+      stands = stands-same;
+      outbound = outbound-same w v q x.outbound l.outbound;
+      unstarted = l.unstarted;
+      filter = filter_is;
+      next = l.next ∙ ap (tsn_of w) (sym (ap (λ b. b.slots) s.shape_is)) ∙ ap (λ a. (a + length v.slots) % 2 ^ 32) (sym first-same);
+      fragments = l.fragments ∙ sym (ap (λ b. total_over (parts b) (numbers_from 0 b.count)) s.shape_is);
+      written = l.written ∙ sym (ap (λ b. total_over (λ n. length (b.message n).bytes) (numbers_from 0 b.count)) s.shape_is);
+      sents = λ n lt. ap (λ (c : List (ℕ × ℕ)). (slice_index_or c n (0, 0)).0) progress_same ∙ on-shape (λ b. (n : ℕ) → n < b.count → (slice_index_or x.progress n (0, 0)).0 ≡ sent b n) l.sents n lt;
+      indexes = indexed-then.is;
+      low = indexed-then.low;
+      open_streams = each;
+      indexed = found;
+      texts = texts-same;
+    }
+
+    -- the link after it
+    pub linked-then : IsLinked sum (record x { world = u; progress = progress; open_streams = open_streams; cumulative_tsn = cumulative; filter = filter })
+    linked-then = subst (λ (t : World). IsLinked sum (record x { world = t; progress = progress; open_streams = open_streams; cumulative_tsn = cumulative; filter = filter })) (sym is) at-after

@@ -1,0 +1,4 @@
+pub mod Acked
+pub mod QuietSender
+pub mod SackMade
+pub mod Unacked

@@ -1,0 +1,9 @@
+pub mod PendingBytes
+pub mod Owned
+pub mod InFlightBytes
+pub mod MessageSums
+pub mod StreamAmounts
+pub mod StreamCounters
+pub mod ToldSums
+pub mod NoLarger
+pub mod Sizes

@@ -1,0 +1,123 @@
+-- What else a link keeps, as it abandons: what it writes into its record, and a Late as Abandons in turn.
+use Rattle.std.proofs.Common.{◌≡◌, ℕ, ◌+◌, ◌-◌, ◌<◌, ◌≤◌, ◌%◌, ◌^◌, Bool, true, false, List, [], ◌∷◌, ◌++◌, length, Option, Some, None, refl, ap, sym, ◌∙◌, arith, append-nil}
+use Rattle.std.specs.Prelude.{if◌then◌else◌, ◌==◌, not, nat_lt, nat_le, fold, find}
+use Rattle.std.proofs.lemmas.Bool.Decides.{nat_tests}
+use Rattle.sctp_lists.specs.Kept.{always, numbers_from, total_over}
+use Rattle.sctp_lists.specs.Lists.{changed}
+use Rattle.sctp_lists.proofs.More.{length-changed, and}
+use Rattle.sctp_lists.proofs.Getting.{length-mapped}
+use Rattle.sctp_lists.proofs.Totals.{total-kept_same}
+use Rattle.sctp_queues.specs.DataChunks.{has_tsn}
+use Rattle.sctp_queues.specs.outbound_queue.OutboundQueue as queue
+use Rattle.sctp_queues.specs.outbound_queue.OutboundQueue.{Outbound, to_abandon, tsn_after_of, has_tail, late_tsns, following_tsn}
+use Rattle.sctp_model.specs.declared.event.Event.TheVariants as E
+use Rattle.sctp_model.specs.declared.event.LinkRefusal.TheVariants.{NotInFlight}
+use Rattle.sctp_model.specs.World.{World, Setup, Slot}
+use Rattle.sctp_model.specs.Messages.{message_at, message_of, ordered_before, fragment_count, sent_of, is_half_sent, is_in_flight, tsn_of, place_of}
+use Rattle.sctp_model.specs.Changes.{abandoned, with_slot, message_changed, mark_abandoned, late_slots}
+use Rattle.sctp_model.specs.Steps.{History, world_of, IsRun, refusal_of, reply_to, after, fragments_accepted, unless}
+use Rattle.sctp_model.proofs.sender.Shape.{shape}
+use Rattle.sctp_model.proofs.sender.Sender.{Sender}
+use Rattle.sctp_model.proofs.sender.SenderRun.{Sane}
+use Rattle.sctp_model.proofs.sender.Few.{few}
+use Rattle.sctp_ties.specs.Tied.{TiedOutbound}
+use Rattle.sctp_ties.proofs.giving_up.Abandoned.{marked, alive, alive-same, before-same, count-same}
+use Rattle.sctp_ties.proofs.giving_up.AbandonedLate.{messages-then}
+use Rattle.sctp_ties.proofs.giving_up.AbandonedEvents.{IsGiving, tail-tsn, late-tsns}
+
+-- ## Room
+
+-- room that is taken beforehand changes nothing
+pub tied-room : (w : World) (q : Outbound) (room : ℕ) → TiedOutbound w q → TiedOutbound w (record q { inflight = record q.inflight { room = room } })
+tied-room w q room t = record { pending = t.pending; in_flight = t.in_flight; next = t.next; unstarted = t.unstarted; started = t.started; begun = t.begun }
+
+-- ## What the link writes
+
+-- the end mark, where there is one
+abbrev pub mark_of : World → ℕ → List Slot
+mark_of w n = if is_half_sent w n then record { message = n; fragment = sent_of w n; is_end_mark = true; arrived = false; acknowledged = false } ∷ [] else []
+
+pub abandoned-is : (w : World) (n : ℕ) → abandoned w n ≡ record w { messages = changed mark_abandoned n w.messages; slots = w.slots ++ mark_of w n }
+abandoned-is w n = by (is_half_sent w n)
+  where
+    by : (b : Bool) → message_changed (if b then with_slot w n true else w) n mark_abandoned ≡ record w { messages = changed mark_abandoned n w.messages; slots = w.slots ++ (if b then record { message = n; fragment = sent_of w n; is_end_mark = true; arrived = false; acknowledged = false } ∷ [] else []) }
+    by true = refl
+    by false = ap (λ l. let v : World = record w { messages = changed mark_abandoned n w.messages; slots = l } in v) (sym (append-nil w.slots))
+
+-- the next TSN moves where there is one
+pub moves-tsn : (setup : Setup) (w : World) (p : ℕ) (q : Outbound) → Sane setup w → w.taken ≤ p → p < length w.slots → TiedOutbound w q → (tsn_after_of (to_abandon (find (has_tsn (tsn_of w p)) q.inflight.chunks)) (tsn_of w (length w.slots)) q == tsn_of w (length w.slots)) ≡ not (is_half_sent w (message_of w p))
+moves-tsn setup w p q g low high t = by (to_abandon (find (has_tsn (tsn_of w p)) q.inflight.chunks)) ∙ ap not (tail-tsn setup w p q g low high t)
+  where
+    here : ℕ
+    here = tsn_of w (length w.slots)
+
+    moved : (b : Bool) → ((if b then following_tsn here else here) == here) ≡ not b
+    moved true = grind (arith, nat_tests, (let z : (following_tsn here ≡ here → ⊥) = λ e. omega (arith, e) in z))
+    moved false = grind (arith, nat_tests)
+
+    by : (o : Option ℕ) → (tsn_after_of o here q == here) ≡ not (has_tail o q)
+    by None = moved false
+    by (Some m) = moved (queue.has_tail (Some m) q)
+
+-- ## What stays
+
+pub count-then : (w : World) (n : ℕ) → length (abandoned w n).messages ≡ length w.messages
+count-then w n = ap length (messages-then w n) ∙ length-changed mark_abandoned n w.messages
+
+pub fragments-then : (w : World) (n : ℕ) → fragments_accepted (abandoned w n) ≡ fragments_accepted w
+fragments-then w n = by (is_half_sent w n)
+  where
+    same : fragments_accepted (marked w n) ≡ fragments_accepted w
+    same = ap (λ c. total_over (fragment_count (marked w n)) (numbers_from 0 c)) (length-changed mark_abandoned n w.messages) ∙ total-kept_same (fragment_count (marked w n)) (fragment_count w) always 0 (length w.messages) (λ k a b. count-same w n k)
+
+    by : (b : Bool) → fragments_accepted (message_changed (if b then with_slot w n true else w) n mark_abandoned) ≡ fragments_accepted w
+    by true = same
+    by false = same
+
+-- the count of ordered messages before one, and the one that was noted with it
+pub before-then : (w : World) (n s k : ℕ) → ordered_before (abandoned w n) s k ≡ ordered_before w s k
+before-then w n s k = by (is_half_sent w n)
+  where
+    by : (b : Bool) → ordered_before (message_changed (if b then with_slot w n true else w) n mark_abandoned) s k ≡ ordered_before w s k
+    by true = before-same w n s k
+    by false = before-same w n s k
+
+pub alive-then : (w : World) (n k : ℕ) → alive (message_at (abandoned w n) k) ≡ alive (message_at w k)
+alive-then w n k = by (is_half_sent w n)
+  where
+    by : (b : Bool) → alive (message_at (message_changed (if b then with_slot w n true else w) n mark_abandoned) k) ≡ alive (message_at w k)
+    by true = alive-same w n k
+    by false = alive-same w n k
+
+-- ## A Late, as Abandons in turn
+
+pub late-count : (w : World) (now : ℕ) (q : Outbound) → Sender (shape w) → w.taken ≤ length w.slots → TiedOutbound w q → length (late_tsns now q) ≡ length (late_slots w now)
+late-count w now q s made t = ap length (late-tsns w now q s made t) ∙ length-mapped (tsn_of w) (late_slots w now)
+
+pub place-back : (w : World) (p : ℕ) → w.setup.first < 2 ^ 32 → p < 2 ^ 32 → place_of w (tsn_of w p) ≡ p
+place-back w p first short = omega (arith, first, short)
+
+-- each is an Abandon that is accepted, of a record that a history leads to
+module _ (setup : Setup) (w v : World) (p : ℕ) (g : IsGiving setup w v) (first : w.setup.first < 2 ^ 32) (low : w.taken ≤ p) (high : p < length w.slots) where
+  back : place_of v (tsn_of w p) ≡ p
+  back = ap (λ s. (tsn_of w p + (2 ^ 32 - s.first)) % 2 ^ 32) g.first ∙ place-back w p first (omega (arith, high, g.more, few setup v g.sane))
+
+  pub accepted : refusal_of v (E.Abandon (tsn_of w p)) ≡ None
+  accepted =
+      ap (λ k. unless (is_in_flight v k) NotInFlight None) back
+      ∙ ap (λ b. unless b NotInFlight None) (and (nat_le v.taken p) (nat_lt p (length v.slots)) (let l : v.taken ≤ p = omega (arith, low, g.taken) in grind (arith, nat_tests)) (let l : p < length v.slots = omega (arith, high, g.more) in grind (arith, nat_tests)))
+
+  pub after-is : after v (E.Abandon (tsn_of w p)) ≡ abandoned v (message_of w p)
+  after-is = ap (λ k. abandoned v (message_of v k)) back ∙ ap (λ x. abandoned v x.message) (g.slot p high)
+
+  pub history-then : (h : History) → v ≡ world_of setup h → IsRun setup h → (longer : History) × (abandoned v (message_of w p) ≡ world_of setup longer) × IsRun setup longer
+  history-then h is run = (
+    (E.Abandon (tsn_of w p), reply_to (world_of setup h) (E.Abandon (tsn_of w p))) ∷ h,
+    sym after-is ∙ ap (λ u. after u (E.Abandon (tsn_of w p))) is,
+    (ap (λ u. refusal_of u (E.Abandon (tsn_of w p))) (sym is) ∙ accepted, (refl, run)),
+  )
+
+-- one more of them
+pub fold-more : {A : Type 0} (f : World → A → World) (w : World) (xs : List A) (x : A) → fold f w (xs ++ x ∷ []) ≡ f (fold f w xs) x
+fold-more f w [] x = refl
+fold-more f w (y ∷ xs) x = fold-more f (f w y) xs x

@@ -1,0 +1,7 @@
+pub mod Line
+pub mod Taken
+pub mod Reading
+pub mod Keeps
+pub mod UnorderedRead
+pub mod NextRead
+pub mod ReadOne
