@@ -2,17 +2,21 @@
 use Rattle.std.proofs.Common.{◌≡◌, ℕ, zero, suc, ◌+◌, ◌-◌, ◌<◌, ◌≤◌, Bool, true, false, List, [], ◌∷◌, ◌++◌, length, map, get_or, take, drop, refl, ap, sym, ◌∙◌, inl, inr, arith}
 use Rattle.std.specs.Prelude.{◌⊎◌, if◌then◌else◌, ◌==◌, ◌&&◌, ◌||◌, not, nat_lt}
 use Rattle.std.specs.List.{list_any, list_all}
+use Rattle.std.proofs.Math.Nat.{eq-or-lt_of_le}
 use Rattle.std.proofs.lemmas.Bool.{cases_lt}
 use Rattle.std.proofs.lemmas.Bool.Decides.{nat_tests}
-use Rattle.sctp_lists.specs.Kept.{kept, always, leading, passing}
+use Rattle.sctp_lists.specs.Kept.{kept, always, numbers_from, leading, passing}
+use Rattle.sctp_lists.specs.Lists.{pieces}
 use Rattle.sctp_lists.proofs.KeptLemmas.{kept-same, kept-none, map-kept-same, length-kept-lt}
 use Rattle.sctp_lists.proofs.More.{fails, not_both, both, and, same_test}
 use Rattle.sctp_model.specs.World.{Setup, World}
 use Rattle.sctp_model.specs.Messages
 use Rattle.sctp_model.specs.Log
-use Rattle.sctp_model.specs.Log.{LogEntry, SlotReceived, SkipReceived, SackMade, arrived_new, is_skipped, were_whole, is_whole_by, run_by, whole_by, named_by, log_of, Shown, Mode, written_on, writes_on, modes_in}
-use Rattle.sctp_model.specs.Steps.{History, world_of, IsRun}
-use Rattle.sctp_model.specs.Laws.{OnEveryRun, IsSetup, ReadsAreSettled, ReadsByArrivals, NoneIsLost, messages_on, fragment_arrived, arrived_wholly, arrivals_on, is_passed_over, was_lost, has_loss_on, has_expired, loses_nothing, ordered_run, unordered_wholes, ordered_shown, unordered_shown, ordered_reads, unordered_reads, is_ordered, mode_of, shown_of}
+use Rattle.sctp_model.specs.Log.{LogEntry, SlotReceived, SkipReceived, SackMade, arrived_new, is_skipped, were_whole, is_whole_by, run_by, whole_by, named_by, log_of, Shown, Mode, written_on, writes_on, writes_in, modes_in}
+use Rattle.sctp_model.specs.Steps.{History, world_of, reply_to, IsRun}
+use Rattle.sctp_model.specs.declared.event.Event.TheVariants as E
+use Rattle.sctp_model.specs.Reply as R
+use Rattle.sctp_model.specs.Laws.{OnEveryRun, IsSetup, IsReadWholly, ReadsAreSettled, ReadsByArrivals, NoneIsLost, messages_on, fragment_arrived, arrived_wholly, arrivals_on, is_passed_over, was_lost, has_loss_on, has_expired, loses_nothing, ordered_run, unordered_wholes, ordered_shown, unordered_shown, ordered_reads, unordered_reads, is_ordered, mode_of, shown_of}
 use Rattle.sctp_model.proofs.sender.Shape.{Shape, shape, has, sent}
 use Rattle.sctp_model.proofs.sender.Sender.{Sender}
 use Rattle.sctp_model.proofs.sender.SenderSteps.{of-has}
@@ -21,10 +25,11 @@ use Rattle.sctp_model.proofs.receiver.Due.{take-kept}
 use Rattle.sctp_model.proofs.receiver.ReadLaws.{nothing_where_read, passing-kept}
 use Rattle.sctp_model.proofs.sender.Written.{messages_are_writes}
 use Rattle.sctp_model.proofs.sender.Modes.{modes_are_kept}
-use Rattle.sctp_model.proofs.Lossless.{alive-run, is_skip, no-skips, none-named, none-skipped}
-use Rattle.sctp_lists.proofs.Cases.{same-yes, same-is, negated, or-left, or-right, or-split}
+use Rattle.sctp_model.proofs.Lossless.{Lossless, alive-run, is_skip, no-skips, none-named, none-skipped}
+use Rattle.sctp_lists.proofs.Cases.{same-yes, same-is, negated, or-left, or-right, or-split, and-none}
+use Rattle.sctp_lists.proofs.Getting.{length-mapped}
 use Rattle.sctp_lists.proofs.Rows.{numbered}
-use Rattle.sctp_lists.proofs.Alls.{all-kept}
+use Rattle.sctp_lists.proofs.Alls.{all-kept, all-same}
 use Rattle.sctp_lists.proofs.Tests.{any-out, any-in, all-out, all-more, among-kept, any-append}
 
 -- ## Whole messages
@@ -386,3 +391,127 @@ reads_are_settled a b g h s x y writes arrivals =
     let one = ap (λ xs. ordered_run xs (arrivals_on a g s)) writes ∙ ap (ordered_run (writes_on h s)) arrivals in
     let two = ap (λ xs. unordered_wholes xs (arrivals_on a g s)) writes ∙ ap (unordered_wholes (writes_on h s)) arrivals in
     (p.0 ∙ one ∙ sym q.0, p.1 ∙ two ∙ sym q.1)
+
+-- ## The form that asks more
+
+-- two histories of one link have the same writes, the same of them unordered, and on stream s the same fragments arrived
+pub record SameFragments (setup : Setup) (g h : History) (s : ℕ) : Type 0 where
+  pub writes : writes_in g ≡ writes_in h
+  pub kinds : map (λ m. m.unordered) (modes_in g) ≡ map (λ m. m.unordered) (modes_in h)
+  pub fragments : (n i : ℕ) → (Messages.message_at (world_of setup h) n).stream ≡ s → fragment_arrived (world_of setup g) (log_of setup g) n i ≡ fragment_arrived (world_of setup h) (log_of setup h) n i
+
+written-kinds : (s : ℕ) (xs : List Shown) (ms ns : List Mode) → map (λ m. m.unordered) ms ≡ map (λ m. m.unordered) ns → written_on s xs ms ≡ written_on s xs ns
+written-kinds s [] ms ns e = refl
+written-kinds s (y ∷ ys) [] [] e = refl
+written-kinds s (y ∷ ys) [] (n ∷ ns) e = cc
+written-kinds s (y ∷ ys) (m ∷ ms) [] e = cc
+written-kinds s (y ∷ ys) (m ∷ ms) (n ∷ ns) e =
+    let first : m.unordered ≡ n.unordered = cc in
+    let others : map (λ m. m.unordered) ms ≡ map (λ m. m.unordered) ns = cc in
+    step (y.0 == s) first (written-kinds s ys ms ns others)
+  where
+    step : (b : Bool) → m.unordered ≡ n.unordered → written_on s ys ms ≡ written_on s ys ns → (if b then (y, m.unordered) ∷ written_on s ys ms else written_on s ys ms) ≡ (if b then (y, n.unordered) ∷ written_on s ys ns else written_on s ys ns)
+    step true k ih = ap (λ u. (y, u) ∷ written_on s ys ms) k ∙ ap (λ l. (y, n.unordered) ∷ l) ih
+    step false k ih = ih
+
+-- values that agree one after another agree at each number
+same-at : {A : Type 0} (f g : ℕ → A) (p : ℕ → Bool) (from count n : ℕ) → map f (kept p from count) ≡ map g (kept p from count) → from ≤ n → n < from + count → p n ≡ true → f n ≡ g n
+same-at f g p from zero n e a b h = absurd (omega arith)
+same-at {A} f g p from (suc count) n e a b h = step (p from) refl e (eq-or-lt_of_le a) (λ t l. same-at f g p (from + 1) count n t l (omega arith) h)
+  where
+    step : (b : Bool) → p from ≡ b → map f (if b then from ∷ kept p (from + 1) count else kept p (from + 1) count) ≡ map g (if b then from ∷ kept p (from + 1) count else kept p (from + 1) count) → (from ≡ n) ⊎ (from < n) → (map f (kept p (from + 1) count) ≡ map g (kept p (from + 1) count) → from + 1 ≤ n → f n ≡ g n) → f n ≡ g n
+    step true x t (inl z) ih = let y : f from ≡ g from = cc in ap f (sym z) ∙ y ∙ ap g z
+    step true x t (inr l) ih = let y : map f (kept p (from + 1) count) ≡ map g (kept p (from + 1) count) = cc in ih y (omega arith)
+    step false x t (inl z) ih = absurd (not_both (sym x ∙ ap p z ∙ h))
+    step false x t (inr l) ih = ih t (omega arith)
+
+module _ (setup : Setup) (g h : History) (s : ℕ) (a : IsReadWholly setup g s) (b : IsReadWholly setup h s) (same : SameFragments setup g h s) where
+  abbrev old : World
+  old = world_of setup g
+
+  abbrev new : World
+  new = world_of setup h
+
+  abbrev there : ℕ → Bool
+  there n = (Messages.message_at new n).stream == s
+
+  counts : length old.messages ≡ length new.messages
+  counts =
+      sym (length-mapped (shown_of old) (kept always 0 (length old.messages)) ∙ length-always 0 (length old.messages))
+      ∙ ap length (messages_are_writes setup g a.is a.run ∙ same.writes ∙ sym (messages_are_writes setup h b.is b.run))
+      ∙ (length-mapped (shown_of new) (kept always 0 (length new.messages)) ∙ length-always 0 (length new.messages))
+    where
+      length-always : (from count : ℕ) → length (kept always from count) ≡ count
+      length-always from zero = refl
+      length-always from (suc count) = ap suc (length-always (from + 1) count)
+
+  each : (n : ℕ) → n < length new.messages → shown_of old n ≡ shown_of new n
+  each n lt =
+      same-at (shown_of old) (shown_of new) always 0 (length new.messages) n
+      (ap (λ c. map (shown_of old) (kept always 0 c)) (sym counts) ∙ messages_are_writes setup g a.is a.run ∙ same.writes ∙ sym (messages_are_writes setup h b.is b.run)) (omega arith) (omega arith) refl
+
+  line : messages_on old s ≡ messages_on new s
+  line =
+      ap (kept (λ n. (Messages.message_at old n).stream == s) 0) counts
+      ∙ kept-same (λ n. (Messages.message_at old n).stream == s) there 0 (length new.messages) (λ n i j. ap (λ y. y.0 == s) (each n (omega arith)))
+
+  parts-same : (n : ℕ) → n < length new.messages → Messages.fragment_count old n ≡ Messages.fragment_count new n
+  parts-same n lt =
+      ap (λ y. length (pieces (length y) old.setup.size y)) (ap (λ y. y.2) (each n lt))
+      ∙ ap (λ z. length (pieces (length (Messages.message_at new n).bytes) z.size (Messages.message_at new n).bytes)) ((sane-run setup g a.run).setup_is ∙ sym (sane-run setup h b.run).setup_is)
+
+  arrivals : arrivals_on setup g s ≡ arrivals_on setup h s
+  arrivals =
+      ap (map (arrived_wholly old (log_of setup g))) line
+      ∙ map-kept-same (arrived_wholly old (log_of setup g)) (arrived_wholly new (log_of setup h)) there there 0 (length new.messages) (λ n i j. refl) (λ n i j at.
+      ap (λ c. list_all (fragment_arrived old (log_of setup g) n) (numbers_from 0 c)) (parts-same n (omega arith))
+      ∙ all-same (fragment_arrived old (log_of setup g) n) (fragment_arrived new (log_of setup h) n) always 0 (Messages.fragment_count new n) (λ k x y z. same.fragments n k (same-is (Messages.message_at new n).stream s at)))
+
+  both-read : (ordered_shown setup g s ≡ ordered_shown setup h s) × (unordered_shown setup g s ≡ unordered_shown setup h s)
+  both-read =
+      reads_are_settled setup setup g h s a b
+      (ap (λ xs. written_on s xs (modes_in g)) same.writes ∙ written-kinds s (writes_in h) (modes_in g) (modes_in h) same.kinds)
+      arrivals
+
+  abbrev was_read : History → ℕ → Bool
+  was_read k n = list_any (λ m. m == n) (unordered_reads setup k s)
+
+  among : (k : History) → IsReadWholly setup k s → (n : ℕ) → was_read k n ≡ (nat_lt n (length (world_of setup k).messages) && (Messages.is_unordered_on (world_of setup k) s n && is_whole_by (world_of setup k) (log_of setup k) n))
+  among k c n = ap (list_any (λ m. m == n)) ((nothing_where_read setup k c.is c.run s).0 c.exhausted).1 ∙ whole-among (world_of setup k) s n (log_of setup k)
+
+  each-read : (n : ℕ) → was_read g n ≡ was_read h n
+  each-read n = step (nat_lt n (length new.messages)) refl (there n) refl
+    where
+      step : (l : Bool) → nat_lt n (length new.messages) ≡ l → (c : Bool) → there n ≡ c → was_read g n ≡ was_read h n
+      step true l true c =
+          let lt : n < length new.messages = grind (arith, nat_tests) in
+          same-at (was_read g) (was_read h) there 0 (length new.messages) n (ap (map (was_read g)) (sym line) ∙ both-read.1) (omega arith) (omega arith) c
+      step true l false c =
+          let lt : n < length new.messages = grind (arith, nat_tests) in
+          among g a n
+          ∙ ap (λ y. nat_lt n (length old.messages) && ((y && not (Messages.message_at old n).ordered) && is_whole_by old (log_of setup g) n)) (ap (λ y. y.0 == s) (each n lt) ∙ c)
+          ∙ and-none (nat_lt n (length old.messages))
+          ∙ sym (among h b n
+          ∙ ap (λ y. nat_lt n (length new.messages) && ((y && not (Messages.message_at new n).ordered) && is_whole_by new (log_of setup h) n)) c
+          ∙ and-none (nat_lt n (length new.messages)))
+      step false l c e =
+          among g a n
+          ∙ ap (λ y. y && (Messages.is_unordered_on old s n && is_whole_by old (log_of setup g) n)) (ap (nat_lt n) counts ∙ l)
+          ∙ sym (among h b n ∙ ap (λ y. y && (Messages.is_unordered_on new s n && is_whole_by new (log_of setup h) n)) l)
+
+-- the same ordered messages are read, and by number the same unordered ones
+pub settled-by_number : (setup : Setup) (g h : History) (s : ℕ) → IsReadWholly setup g s → IsReadWholly setup h s → SameFragments setup g h s →
+    (ordered_shown setup g s ≡ ordered_shown setup h s) × ((n : ℕ) → list_any (λ m. m == n) (unordered_reads setup g s) ≡ list_any (λ m. m == n) (unordered_reads setup h s))
+settled-by_number setup g h s a b same = ((both-read setup g h s a b same).0, each-read setup g h s a b same)
+
+-- so too where no event can lose, all modes are the same, and the same fragments of all messages arrived
+pub settled-lossless : (setup : Setup) (g h : History) (s : ℕ) → IsSetup setup → IsRun setup g → IsRun setup h → Lossless g → Lossless h →
+    reply_to (world_of setup g) (E.Read s) ≡ R.Nothing → reply_to (world_of setup h) (E.Read s) ≡ R.Nothing →
+    writes_in g ≡ writes_in h → modes_in g ≡ modes_in h →
+    ((n i : ℕ) → fragment_arrived (world_of setup g) (log_of setup g) n i ≡ fragment_arrived (world_of setup h) (log_of setup h) n i) →
+    (ordered_shown setup g s ≡ ordered_shown setup h s) × ((n : ℕ) → list_any (λ m. m == n) (unordered_reads setup g s) ≡ list_any (λ m. m == n) (unordered_reads setup h s))
+settled-lossless setup g h s is a b k l x y writes modes fragments =
+    settled-by_number setup g h s
+    (record { is = is; run = a; unlost = none_is_lost setup g is a s k; exhausted = x })
+    (record { is = is; run = b; unlost = none_is_lost setup h is b s l; exhausted = y })
+    (record { writes = writes; kinds = ap (map (λ m. m.unordered)) modes; fragments = λ n i e. fragments n i })

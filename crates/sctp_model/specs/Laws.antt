@@ -478,7 +478,7 @@ messages_on w s = Messages.messages_where w (λ n. (Messages.message_at w n).str
 abbrev pub SameWrites : History → History → ℕ → Type 0
 SameWrites g h s = Log.writes_on g s ≡ Log.writes_on h s
 
--- fragment i of message n arrived
+-- fragment i of message n arrived: its slot came, and neither it nor a skip over it had come before
 abbrev pub fragment_arrived : World → List Log.LogEntry → ℕ → ℕ → Bool
 fragment_arrived w log n i =
     list_any (λ place. Messages.has_fragment w n place && (((Messages.slot_at w place).fragment == i) && Log.arrived_new log place)) (numbers_from 0 (length w.slots))

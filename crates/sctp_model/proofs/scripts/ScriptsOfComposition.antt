@@ -8,7 +8,7 @@ use Rattle.sctp_model.specs.declared.event.Event.TheVariants as E
 use Rattle.sctp_model.specs.World.{Setup, World}
 use Rattle.sctp_model.specs.Log.{LogEntry, SlotReceived, SkipReceived, Shown, modes_in, writes_on, started_in, log_of}
 use Rattle.sctp_model.specs.Steps.{History, world_of}
-use Rattle.sctp_model.specs.Laws.{IsReadWholly, arrivals_on, fragment_arrived, was_lost, has_loss_on, loses_nothing, ordered_shown, unordered_shown}
+use Rattle.sctp_model.specs.Laws.{IsReadWholly, arrivals_on, fragment_arrived, was_lost, has_loss_on, loses_nothing, ordered_run, unordered_wholes, ordered_shown, unordered_shown}
 use Rattle.sctp_model.proofs.scripts.Play.{told, told-run}
 use Rattle.sctp_model.proofs.Composed.{reads_are_settled}
 
@@ -17,7 +17,7 @@ use Rattle.sctp_model.proofs.Composed.{reads_are_settled}
 abbrev setup : Setup
 setup = record { first = 10; size = 3; largest = 100; limit = 0 }
 
--- stream 1: an ordered message of two fragments, an unordered one, and an ordered one of which only the first fragment arrives; stream 2: a message that arrives
+-- stream 1: an ordered message of two fragments, an unordered one, an ordered one of which only the first fragment arrives, and one behind it; stream 2: a message that arrives
 abbrev base_events : List Event
 base_events =
     E.Open 1 ∷
@@ -27,6 +27,7 @@ base_events =
     E.Write 1 P.Binary (101 ∷ []) ∷
     E.Mode 1 false T.Reliable 0 ∷
     E.Write 1 P.Binary (102 ∷ 103 ∷ 104 ∷ 105 ∷ []) ∷
+    E.Write 1 P.Binary (106 ∷ []) ∷
     E.Write 2 P.Binary (120 ∷ []) ∷
     E.Send 0 ∷
     E.Send 0 ∷
@@ -34,11 +35,13 @@ base_events =
     E.Send 0 ∷
     E.Send 0 ∷
     E.Send 0 ∷
-    E.Arrive 5 ∷
+    E.Send 0 ∷
+    E.Arrive 6 ∷
     E.Arrive 0 ∷
     E.Arrive 1 ∷
     E.Arrive 2 ∷
     E.Arrive 3 ∷
+    E.Arrive 5 ∷
     E.Read 1 ∷
     E.Read 1 ∷
     []
@@ -51,12 +54,13 @@ writes_1 =
     ((1, P.Binary, 97 ∷ 98 ∷ 99 ∷ 100 ∷ []), false) ∷
     ((1, P.Binary, 101 ∷ []), true) ∷
     ((1, P.Binary, 102 ∷ 103 ∷ 104 ∷ 105 ∷ []), false) ∷
+    ((1, P.Binary, 106 ∷ []), false) ∷
     []
 
 base_writes : writes_on base 1 ≡ writes_1
 base_writes = refl
 
-base_arrivals : arrivals_on setup base 1 ≡ true ∷ true ∷ false ∷ []
+base_arrivals : arrivals_on setup base 1 ≡ true ∷ true ∷ false ∷ true ∷ []
 base_arrivals = refl
 
 base_is_read : IsReadWholly setup base 1
@@ -70,8 +74,18 @@ base_is_read = record {
 base_ordered : ordered_shown setup base 1 ≡ (1, P.Binary, 97 ∷ 98 ∷ 99 ∷ 100 ∷ []) ∷ []
 base_ordered = refl
 
-base_unordered : unordered_shown setup base 1 ≡ false ∷ true ∷ false ∷ []
+base_unordered : unordered_shown setup base 1 ≡ false ∷ true ∷ false ∷ false ∷ []
 base_unordered = refl
+
+-- by the words of the law: as above, and where the unordered message alone did not arrive
+base_by_arrivals : map (ordered_run writes_1) ((true ∷ true ∷ false ∷ true ∷ []) ∷ (true ∷ false ∷ true ∷ true ∷ []) ∷ []) ≡
+    ((1, P.Binary, 97 ∷ 98 ∷ 99 ∷ 100 ∷ []) ∷ []) ∷
+    ((1, P.Binary, 97 ∷ 98 ∷ 99 ∷ 100 ∷ []) ∷ (1, P.Binary, 102 ∷ 103 ∷ 104 ∷ 105 ∷ []) ∷ (1, P.Binary, 106 ∷ []) ∷ []) ∷
+    []
+base_by_arrivals = refl
+
+wholes_by_arrivals : map (unordered_wholes writes_1) ((true ∷ true ∷ false ∷ true ∷ []) ∷ (true ∷ false ∷ true ∷ true ∷ []) ∷ []) ≡ (false ∷ true ∷ false ∷ false ∷ []) ∷ (false ∷ false ∷ false ∷ false ∷ []) ∷ []
+wholes_by_arrivals = refl
 
 -- ## Other lifetimes, and other arrivals on stream 2
 
@@ -86,8 +100,11 @@ timed_events =
     E.Write 1 P.Binary (101 ∷ []) ∷
     E.Mode 1 false T.Timed 7 ∷
     E.Write 1 P.Binary (102 ∷ 103 ∷ 104 ∷ 105 ∷ []) ∷
+    E.Write 1 P.Binary (106 ∷ []) ∷
     E.Write 2 P.Binary (120 ∷ []) ∷
     E.Start 9 ∷
+    E.Send 10 ∷
+    E.Send 10 ∷
     E.Send 10 ∷
     E.Send 10 ∷
     E.Send 10 ∷
@@ -95,6 +112,7 @@ timed_events =
     E.Arrive 1 ∷
     E.Arrive 2 ∷
     E.Arrive 0 ∷
+    E.Arrive 5 ∷
     E.Read 1 ∷
     E.Read 1 ∷
     []
@@ -114,11 +132,11 @@ timed_is_read = record {
 timed_writes : writes_on timed 1 ≡ writes_1
 timed_writes = refl
 
-timed_arrivals : arrivals_on setup timed 1 ≡ true ∷ true ∷ false ∷ []
+timed_arrivals : arrivals_on setup timed 1 ≡ true ∷ true ∷ false ∷ true ∷ []
 timed_arrivals = refl
 
 -- what it does not ask: the same lifetimes, moments, arrivals on stream 2, and fragments of what did not arrive wholly
-lifetimes : map (λ h. map (λ m. m.value) (modes_in h)) (base ∷ timed ∷ []) ≡ (0 ∷ 0 ∷ 0 ∷ 0 ∷ []) ∷ (5 ∷ 3 ∷ 7 ∷ 0 ∷ []) ∷ []
+lifetimes : map (λ h. map (λ m. m.value) (modes_in h)) (base ∷ timed ∷ []) ≡ (0 ∷ 0 ∷ 0 ∷ 0 ∷ 0 ∷ []) ∷ (5 ∷ 3 ∷ 7 ∷ 7 ∷ 0 ∷ []) ∷ []
 lifetimes = refl
 
 moments : map (λ h. started_in h 0) (base ∷ timed ∷ []) ≡ Some 0 ∷ Some 9 ∷ []
@@ -139,7 +157,7 @@ timed_reads = reads_are_settled setup setup base timed 1 base_is_read timed_is_r
 abbrev other : Setup
 other = record { first = 4294967295; size = 2; largest = 50; limit = 72 }
 
--- another first TSN, fragment size and limit; a message of stream 2 expires, one datagram carries three fragments and comes twice, a SACK is taken, and the message that did not arrive is abandoned
+-- another first TSN, fragment size and limit; a message of stream 2 expires, one datagram carries three fragments and comes twice, a SACK is taken, and the message that did not arrive, of the stream itself, is abandoned
 abbrev link_events : List Event
 link_events =
     E.Open 2 ∷
@@ -155,9 +173,12 @@ link_events =
     E.Expire 1000000 ∷
     E.Send 1000001 ∷
     E.Send 1000002 ∷
+    E.Write 1 P.Binary (106 ∷ []) ∷
+    E.Send 1000003 ∷
+    E.Arrive 2 ∷
     E.Arrive 0 ∷
     E.Ack 7 ∷
-    E.Acked 2 ∷
+    E.Acked 3 ∷
     E.Abandon 2 ∷
     E.Arrive 0 ∷
     E.Read 1 ∷
@@ -179,7 +200,7 @@ link_is_read = record {
 link_writes : writes_on link 1 ≡ writes_1
 link_writes = refl
 
-link_arrivals : arrivals_on other link 1 ≡ true ∷ true ∷ false ∷ []
+link_arrivals : arrivals_on other link 1 ≡ true ∷ true ∷ false ∷ true ∷ []
 link_arrivals = refl
 
 link_loses : list_all (λ entry. loses_nothing entry.0) link ≡ false
