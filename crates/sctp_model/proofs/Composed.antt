@@ -1,4 +1,5 @@
-use Rattle.std.proofs.Common.{◌≡◌, ℕ, zero, suc, ◌+◌, ◌<◌, ◌≤◌, Bool, true, false, List, [], ◌∷◌, ◌++◌, length, map, get_or, take, drop, refl, ap, sym, ◌∙◌, inl, inr, arith}
+-- Without loss what is read in the end is settled by what was written and by what of it arrived.
+use Rattle.std.proofs.Common.{◌≡◌, ℕ, zero, suc, ◌+◌, ◌-◌, ◌<◌, ◌≤◌, Bool, true, false, List, [], ◌∷◌, ◌++◌, length, map, get_or, take, drop, refl, ap, sym, ◌∙◌, inl, inr, arith}
 use Rattle.std.specs.Prelude.{◌⊎◌, if◌then◌else◌, ◌==◌, ◌&&◌, ◌||◌, not, nat_lt}
 use Rattle.std.specs.List.{list_any, list_all}
 use Rattle.std.proofs.Math.Nat.{eq-or-lt_of_le}
@@ -6,33 +7,32 @@ use Rattle.std.proofs.lemmas.Bool.{cases_lt}
 use Rattle.std.proofs.lemmas.Bool.Decides.{nat_tests}
 use Rattle.sctp_lists.specs.Kept.{kept, always, numbers_from, leading, passing}
 use Rattle.sctp_lists.specs.Lists.{pieces}
-use Rattle.sctp_lists.proofs.KeptLemmas.{kept-same, length-kept-lt}
-use Rattle.sctp_lists.proofs.More.{not_both, both, and, same_test}
-use Rattle.sctp_model.specs.World.{World}
+use Rattle.sctp_lists.proofs.KeptLemmas.{kept-same, kept-none, map-kept-same, length-kept-lt}
+use Rattle.sctp_lists.proofs.More.{fails, not_both, both, and, same_test}
+use Rattle.sctp_model.specs.World.{Setup, World}
 use Rattle.sctp_model.specs.Messages
 use Rattle.sctp_model.specs.Log
-use Rattle.sctp_model.specs.Log.{LogEntry, SlotReceived, SkipReceived, SackMade, arrived_new, is_skipped, were_whole, is_whole_by, run_by, whole_by, named_by, log_of, Shown}
-use Rattle.sctp_model.specs.Steps.{world_of}
-use Rattle.sctp_model.specs.Laws.{OnEveryRun, NothingWhereRead, ReadsAreSettled, fragment_arrived, mode_of, shown_of}
-use Rattle.sctp_model.proofs.sender.Shape.{Shape, shape, has, sent, on}
+use Rattle.sctp_model.specs.Log.{LogEntry, SlotReceived, SkipReceived, SackMade, arrived_new, is_skipped, were_whole, is_whole_by, run_by, whole_by, named_by, log_of, Shown, Mode, written_on, writes_on, writes_in, modes_in}
+use Rattle.sctp_model.specs.Steps.{History, world_of, reply_to, IsRun}
+use Rattle.sctp_model.specs.declared.event.Event.TheVariants as E
+use Rattle.sctp_model.specs.Reply as R
+use Rattle.sctp_model.specs.Laws.{OnEveryRun, IsSetup, IsReadWholly, ReadsAreSettled, ReadsByArrivals, NoneIsLost, messages_on, fragment_arrived, arrived_wholly, arrivals_on, is_passed_over, was_lost, has_loss_on, has_expired, loses_nothing, ordered_run, unordered_wholes, ordered_shown, unordered_shown, ordered_reads, unordered_reads, is_ordered, mode_of, shown_of}
+use Rattle.sctp_model.proofs.sender.Shape.{Shape, shape, has, sent}
 use Rattle.sctp_model.proofs.sender.Sender.{Sender}
 use Rattle.sctp_model.proofs.sender.SenderSteps.{of-has}
 use Rattle.sctp_model.proofs.sender.SenderRun.{sane-run}
-use Rattle.sctp_model.proofs.receiver.ReadLaws.{nothing_where_read}
+use Rattle.sctp_model.proofs.receiver.Due.{take-kept}
+use Rattle.sctp_model.proofs.receiver.ReadLaws.{nothing_where_read, passing-kept}
 use Rattle.sctp_model.proofs.sender.Written.{messages_are_writes}
 use Rattle.sctp_model.proofs.sender.Modes.{modes_are_kept}
-use Rattle.sctp_model.proofs.Lossless.{alive-run, is_skip, no-skips, none-named, none-skipped}
-use Rattle.sctp_lists.proofs.Cases.{same-yes, same-is, or-left, or-right, or-split}
+use Rattle.sctp_model.proofs.Lossless.{Lossless, alive-run, is_skip, no-skips, none-named, none-skipped}
+use Rattle.sctp_lists.proofs.Cases.{same-yes, same-is, negated, or-left, or-right, or-split, and-none}
 use Rattle.sctp_lists.proofs.Getting.{length-mapped}
 use Rattle.sctp_lists.proofs.Rows.{numbered}
-use Rattle.sctp_lists.proofs.Alls.{all-kept}
+use Rattle.sctp_lists.proofs.Alls.{all-kept, all-same}
 use Rattle.sctp_lists.proofs.Tests.{any-out, any-in, all-out, all-more, among-kept, any-append}
 
--- Without loss what is read in the end is settled by what was written and which of its fragments arrived.
-
--- ## Tests on kept numbers
-
--- ## Whole messages, where no skip came
+-- ## Whole messages
 
 arrived-more : (c : LogEntry) (log : List LogEntry) (p : ℕ) → arrived_new log p ≡ true → arrived_new (c ∷ log) p ≡ true
 arrived-more (SlotReceived q) log p e = or-left (arrived_new log p) ((q == p) && not (Log.is_seen log p)) e
@@ -54,7 +54,7 @@ arrived-were (p ∷ ps) (c ∷ log) n some e =
     or-right (were_whole (p ∷ ps) log) (list_all (λ q. arrived_new (c ∷ log) q && not (is_skipped (c ∷ log) q)) (p ∷ ps))
     (all-more (arrived_new (c ∷ log)) (λ q. arrived_new (c ∷ log) q && not (is_skipped (c ∷ log) q)) (p ∷ ps) (λ q h. and (arrived_new (c ∷ log) q) (not (is_skipped (c ∷ log) q)) h (ap not (none-skipped (c ∷ log) q n))) e)
 
-module _ (w : World) (log : List LogEntry) (n : ℕ) (s : Sender (shape w)) (none : list_any is_skip log ≡ false) (lt : n < length w.messages) where
+module _ (w : World) (log : List LogEntry) (n : ℕ) (s : Sender (shape w)) (lt : n < length w.messages) where
   abbrev x : Shape
   x = shape w
 
@@ -97,74 +97,127 @@ module _ (w : World) (log : List LogEntry) (n : ℕ) (s : Sender (shape w)) (non
       step true h = h
       step false h = were-arrived (Messages.slots_of w n) log h
 
-  -- a message is whole exactly where each of its fragments arrived
-  pub whole-settled : is_whole_by w log n ≡ list_all (fragment_arrived w log n) (numbers_from 0 (Messages.fragment_count w n))
-  whole-settled = same_test (is_whole_by w log n) (list_all (fragment_arrived w log n) (numbers_from 0 (Messages.fragment_count w n))) to from
+  place : (i : ℕ) → fragment_arrived w log n i ≡ true → (p : ℕ) × (p < length w.slots) × (has x n p ≡ true) × ((Messages.slot_at w p).fragment ≡ i) × (arrived_new log p ≡ true)
+  place i e =
+      let r = any-out (arrived_as i) always 0 (length w.slots) e in
+      let a = both (has x n r.0) (((Messages.slot_at w r.0).fragment == i) && arrived_new log r.0) r.4 in
+      let b = both ((Messages.slot_at w r.0).fragment == i) (arrived_new log r.0) a.1 in
+      (r.0, omega (arith, r.2), a.0, same-is (Messages.slot_at w r.0).fragment i b.0, b.1)
+
+  -- where each fragment arrived, all of the message was sent, and each of its slots arrived
+  pub wholly-sent : arrived_wholly w log n ≡ true → (Messages.sent_of w n ≡ Messages.fragment_count w n) × (list_all (arrived_new log) (Messages.slots_of w n) ≡ true)
+  wholly-sent e =
+      let each : (i : ℕ) → i < Messages.fragment_count w n → fragment_arrived w log n i ≡ true = λ i l. all-out (fragment_arrived w log n) always i 0 (Messages.fragment_count w n) e (omega arith) (omega arith) refl in
+      let top = last (Messages.fragment_count w n) (s.some n lt) in
+      let r = place top.0 (each top.0 (omega (arith, top.1))) in
+      let high : top.0 < sent x n = omega (arith, below r.0 r.1 r.2, r.3) in
+      let count : Messages.sent_of w n ≡ Messages.fragment_count w n = omega (arith, high, top.1, s.within n lt) in (
+        count,
+        all-kept (arrived_new log) (has x n) 0 (length w.slots) (λ p a b h.
+            let q = place (Messages.slot_at w p).fragment (each (Messages.slot_at w p).fragment (omega (arith, below p (omega arith) h, count))) in
+            ap (arrived_new log) (one-slot p q.0 (omega arith) q.1 h q.2 (sym q.3)) ∙ q.4),
+      )
     where
-      to : is_whole_by w log n ≡ true → list_all (fragment_arrived w log n) (numbers_from 0 (Messages.fragment_count w n)) ≡ true
-      to e =
-          let count = same-is (Messages.sent_of w n) (Messages.fragment_count w n) (both (Messages.sent_of w n == Messages.fragment_count w n) (if (Messages.message_at w n).ordered then list_all (arrived_new log) (Messages.slots_of w n) else were_whole (Messages.slots_of w n) log) e).0 in
-          all-kept (fragment_arrived w log n) always 0 (Messages.fragment_count w n) (λ i a b f.
-          let r = slot-for i (omega (arith, count)) in
-          let datagram_received = all-out (arrived_new log) (has x n) r.0 0 (length w.slots) (all-arrived e) (omega arith) (omega (arith, r.1)) r.2 in
-          any-in (arrived_as i) always r.0 0 (length w.slots) (omega arith) (omega (arith, r.1)) refl
-          (and (has x n r.0) (((Messages.slot_at w r.0).fragment == i) && arrived_new log r.0) r.2 (and ((Messages.slot_at w r.0).fragment == i) (arrived_new log r.0) (ap (λ k. k == i) r.3 ∙ same-yes i) datagram_received)))
+      last : (c : ℕ) → 0 < c → (i : ℕ) × (c ≡ i + 1)
+      last zero l = absurd (omega arith)
+      last (suc c) l = (c, omega arith)
 
-      place : (i : ℕ) → fragment_arrived w log n i ≡ true → (p : ℕ) × (p < length w.slots) × (has x n p ≡ true) × ((Messages.slot_at w p).fragment ≡ i) × (arrived_new log p ≡ true)
-      place i e =
-          let r = any-out (arrived_as i) always 0 (length w.slots) e in
-          let a = both (has x n r.0) (((Messages.slot_at w r.0).fragment == i) && arrived_new log r.0) r.4 in
-          let b = both ((Messages.slot_at w r.0).fragment == i) (arrived_new log r.0) a.1 in
-          (r.0, omega (arith, r.2), a.0, same-is (Messages.slot_at w r.0).fragment i b.0, b.1)
+  whole-arrived : is_whole_by w log n ≡ true → arrived_wholly w log n ≡ true
+  whole-arrived e =
+      let count = same-is (Messages.sent_of w n) (Messages.fragment_count w n) (both (Messages.sent_of w n == Messages.fragment_count w n) (if (Messages.message_at w n).ordered then list_all (arrived_new log) (Messages.slots_of w n) else were_whole (Messages.slots_of w n) log) e).0 in
+      all-kept (fragment_arrived w log n) always 0 (Messages.fragment_count w n) (λ i a b f.
+      let r = slot-for i (omega (arith, count)) in
+      let came = all-out (arrived_new log) (has x n) r.0 0 (length w.slots) (all-arrived e) (omega arith) (omega (arith, r.1)) r.2 in
+      any-in (arrived_as i) always r.0 0 (length w.slots) (omega arith) (omega (arith, r.1)) refl
+      (and (has x n r.0) (((Messages.slot_at w r.0).fragment == i) && arrived_new log r.0) r.2 (and ((Messages.slot_at w r.0).fragment == i) (arrived_new log r.0) (ap (λ k. k == i) r.3 ∙ same-yes i) came)))
 
-      from : list_all (fragment_arrived w log n) (numbers_from 0 (Messages.fragment_count w n)) ≡ true → is_whole_by w log n ≡ true
-      from e =
-          let each : (i : ℕ) → i < Messages.fragment_count w n → fragment_arrived w log n i ≡ true = λ i l. all-out (fragment_arrived w log n) always i 0 (Messages.fragment_count w n) e (omega arith) (omega arith) refl in
-          let top = last (Messages.fragment_count w n) (s.some n lt) in
-          let r = place top.0 (each top.0 (omega (arith, top.1))) in
-          let high : top.0 < sent x n = omega (arith, below r.0 r.1 r.2, r.3) in
-          let count : Messages.sent_of w n ≡ Messages.fragment_count w n = omega (arith, high, top.1, s.within n lt) in
-          let slots : list_all (arrived_new log) (Messages.slots_of w n) ≡ true = all-kept (arrived_new log) (has x n) 0 (length w.slots) (λ p a b h.
-          let q = place (Messages.slot_at w p).fragment (each (Messages.slot_at w p).fragment (omega (arith, below p (omega arith) h, count))) in
-          ap (arrived_new log) (one-slot p q.0 (omega arith) q.1 h q.2 (sym q.3)) ∙ q.4) in
-          and (Messages.sent_of w n == Messages.fragment_count w n) (if (Messages.message_at w n).ordered then list_all (arrived_new log) (Messages.slots_of w n) else were_whole (Messages.slots_of w n) log) (ap (λ c. c == Messages.fragment_count w n) count ∙ same-yes (Messages.fragment_count w n))
-          (kind (Messages.message_at w n).ordered slots (omega (arith, count, s.some n lt)))
-        where
-          last : (c : ℕ) → 0 < c → (i : ℕ) × (c ≡ i + 1)
-          last zero l = absurd (omega arith)
-          last (suc c) l = (c, omega arith)
+  -- a message is whole exactly where it arrived wholly, an unordered one before a skip covered a fragment
+  pub whole-settled : ((Messages.message_at w n).ordered ≡ false → arrived_wholly w log n ≡ true → were_whole (Messages.slots_of w n) log ≡ true) → is_whole_by w log n ≡ arrived_wholly w log n
+  whole-settled early = same_test (is_whole_by w log n) (arrived_wholly w log n) whole-arrived (λ e.
+      let a = wholly-sent e in
+      and (Messages.sent_of w n == Messages.fragment_count w n) (if (Messages.message_at w n).ordered then list_all (arrived_new log) (Messages.slots_of w n) else were_whole (Messages.slots_of w n) log) (ap (λ c. c == Messages.fragment_count w n) a.0 ∙ same-yes (Messages.fragment_count w n))
+      (kind (Messages.message_at w n).ordered refl a.1 e))
+    where
+      kind : (b : Bool) → (Messages.message_at w n).ordered ≡ b → list_all (arrived_new log) (Messages.slots_of w n) ≡ true → arrived_wholly w log n ≡ true → (if b then list_all (arrived_new log) (Messages.slots_of w n) else were_whole (Messages.slots_of w n) log) ≡ true
+      kind true o h e = h
+      kind false o h e = early o e
 
-          kind : (b : Bool) → list_all (arrived_new log) (Messages.slots_of w n) ≡ true → 0 < length (Messages.slots_of w n) → (if b then list_all (arrived_new log) (Messages.slots_of w n) else were_whole (Messages.slots_of w n) log) ≡ true
-          kind true h some = h
-          kind false h some = arrived-were (Messages.slots_of w n) log none some h
+  -- without skips an unordered message is whole where it arrived wholly
+  pub early-enough : list_any is_skip log ≡ false → arrived_wholly w log n ≡ true → were_whole (Messages.slots_of w n) log ≡ true
+  early-enough none e = let a = wholly-sent e in arrived-were (Messages.slots_of w n) log none (omega (arith, a.0, s.some n lt)) a.1
 
--- ## Two histories
+-- ## What was lost
 
-same-at : {A : Type 0} (f g : ℕ → A) (from count n : ℕ) → map f (kept always from count) ≡ map g (kept always from count) → from ≤ n → n < from + count → f n ≡ g n
-same-at f g from zero n e a b = absurd (omega arith)
-same-at f g from (suc count) n e a b = step (eq-or-lt_of_le a) (λ l. same-at f g (from + 1) count n (tails e) l (omega arith))
+-- none of a stream's messages was lost
+record Unlost (w : World) (log : List LogEntry) (s n : ℕ) : Type 0 where
+  unexpired : (Messages.message_at w n).ordered ≡ true → (Messages.message_at w n).expired ≡ false
+  near : (Messages.message_at w n).ordered ≡ true → nat_lt (Messages.ordered_before w s n) (named_by w s log) ≡ true → arrived_wholly w log n ≡ true
+  early : (Messages.message_at w n).ordered ≡ false → arrived_wholly w log n ≡ true → were_whole (Messages.slots_of w n) log ≡ true
+
+unlost-parts : (w : World) (log : List LogEntry) (s n : ℕ) → (Messages.message_at w n).stream ≡ s → was_lost w log n ≡ false → Unlost w log s n
+unlost-parts w log s n at e = record {
+  unexpired = λ o. (ordered-parts (Messages.message_at w n).ordered (Messages.message_at w n).expired (is_passed_over w log n) (arrived_wholly w log n) (were_whole (Messages.slots_of w n) log) o e).0;
+  near = λ o l. (ordered-parts (Messages.message_at w n).ordered (Messages.message_at w n).expired (is_passed_over w log n) (arrived_wholly w log n) (were_whole (Messages.slots_of w n) log) o e).1 (ap (λ t. nat_lt (Messages.ordered_before w t n) (named_by w t log)) at ∙ l);
+  early = unordered-parts (Messages.message_at w n).ordered (Messages.message_at w n).expired (is_passed_over w log n) (arrived_wholly w log n) (were_whole (Messages.slots_of w n) log) e;
+}
   where
-    tails : f from ∷ map f (kept always (from + 1) count) ≡ g from ∷ map g (kept always (from + 1) count) → map f (kept always (from + 1) count) ≡ map g (kept always (from + 1) count)
-    tails h = cc
+    ordered-parts : (o x p a u : Bool) → o ≡ true → (if o then x || (p && not a) else a && not u) ≡ false → (x ≡ false) × (p ≡ true → a ≡ true)
+    ordered-parts true false true true u e f = (refl, λ h. refl)
+    ordered-parts true false true false u e f = cc
+    ordered-parts true false false a u e f = (refl, λ h. cc)
+    ordered-parts true true p a u e f = cc
+    ordered-parts false x p a u e f = cc
 
-    heads : f from ∷ map f (kept always (from + 1) count) ≡ g from ∷ map g (kept always (from + 1) count) → f from ≡ g from
-    heads h = cc
+    unordered-parts : (o x p a u : Bool) → (if o then x || (p && not a) else a && not u) ≡ false → o ≡ false → a ≡ true → u ≡ true
+    unordered-parts false x p true true f e g = refl
+    unordered-parts false x p true false f e g = cc
+    unordered-parts false x p false u f e g = cc
+    unordered-parts true x p a u f e g = cc
 
-    step : (from ≡ n) ⊎ (from < n) → (from + 1 ≤ n → f n ≡ g n) → f n ≡ g n
-    step (inl z) ih = ap f (sym z) ∙ heads e ∙ ap g z
-    step (inr l) ih = ih (omega arith)
+-- where none has a property, this one has not
+none-has : (t p : ℕ → Bool) (count : ℕ) → list_any t (kept p 0 count) ≡ false → (n : ℕ) → n < count → p n ≡ true → t n ≡ false
+none-has t p count e n lt h = fails (t n) (λ y. not_both (sym e ∙ any-in t p n 0 count (omega arith) (omega arith) h y))
 
--- the leading ones, where tests and values agree
-leading-same : {A : Type 0} (f g : ℕ → A) (t u p : ℕ → Bool) (from count : ℕ) → ((k : ℕ) → from ≤ k → k < from + count → t k ≡ u k) → ((k : ℕ) → from ≤ k → k < from + count → f k ≡ g k) → map f (leading t (kept p from count)) ≡ map g (leading u (kept p from count))
-leading-same f g t u p from zero same values = refl
-leading-same {A} f g t u p from (suc count) same values = step (p from) (t from) (u from) (same from (omega arith) (omega arith)) (values from (omega arith) (omega arith)) (leading-same f g t u p (from + 1) count (λ k a b. same k (omega arith) (omega arith)) (λ k a b. values k (omega arith) (omega arith))) refl refl
+-- none has it where each has not
+has-none : (t p : ℕ → Bool) (from count : ℕ) → ((n : ℕ) → from ≤ n → n < from + count → p n ≡ true → t n ≡ false) → list_any t (kept p from count) ≡ false
+has-none t p from zero h = refl
+has-none t p from (suc count) h = step (p from) refl (has-none t p (from + 1) count (λ n a b e. h n (omega arith) (omega arith) e))
   where
-    step : (a b c : Bool) → b ≡ c → f from ≡ g from → map f (leading t (kept p (from + 1) count)) ≡ map g (leading u (kept p (from + 1) count)) → t from ≡ b → u from ≡ c → map f (leading t (if a then from ∷ kept p (from + 1) count else kept p (from + 1) count)) ≡ map g (leading u (if a then from ∷ kept p (from + 1) count else kept p (from + 1) count))
-    step true true true e v ih x y = rw (x, y) (ap (λ h. h ∷ map f (leading t (kept p (from + 1) count))) v ∙ ap (λ l. g from ∷ l) ih)
-    step true false false e v ih x y = rw (x, y) refl
-    step true true false e v ih x y = cc
-    step true false true e v ih x y = cc
-    step false b c e v ih x y = ih
+    step : (b : Bool) → p from ≡ b → list_any t (kept p (from + 1) count) ≡ false → list_any t (if b then from ∷ kept p (from + 1) count else kept p (from + 1) count) ≡ false
+    step true e ih = rw (h from (omega arith) (omega arith) e) ih
+    step false e ih = ih
+
+-- without losing events nothing is lost
+module _ (setup : Setup) (h : History) (run : IsRun setup h) (lossless : list_all (λ entry. loses_nothing entry.0) h ≡ true) where
+  abbrev v : World
+  v = world_of setup h
+
+  abbrev came : List LogEntry
+  came = log_of setup h
+
+  none : list_any is_skip came ≡ false
+  none = no-skips setup h lossless
+
+  late : (n : ℕ) → n < length v.messages → (a : Bool) → arrived_wholly v came n ≡ a → (a && not (were_whole (Messages.slots_of v n) came)) ≡ false
+  late n lt true e = ap not (early-enough v came n (sane-run setup h run).sender lt none e)
+  late n lt false e = refl
+
+  never : (i : ℕ) → nat_lt i 0 ≡ false
+  never i = grind (arith, nat_tests)
+
+  not-lost : (n : ℕ) → n < length v.messages → (o : Bool) → (if o then has_expired v n || (is_passed_over v came n && not (arrived_wholly v came n)) else arrived_wholly v came n && not (were_whole (Messages.slots_of v n) came)) ≡ false
+  not-lost n lt true =
+      let unnamed : is_passed_over v came n ≡ false = ap (nat_lt (Messages.index_of v n)) (none-named v (Messages.message_at v n).stream came none) ∙ never (Messages.index_of v n) in
+      rw ((alive-run setup h lossless n lt).0, unnamed) refl
+  not-lost n lt false = late n lt (arrived_wholly v came n) refl
+
+  none-lost : (s : ℕ) → has_loss_on setup h s ≡ false
+  none-lost s = has-none (was_lost v came) (λ n. (Messages.message_at v n).stream == s) 0 (length v.messages) (λ n a b at. not-lost n (omega arith) (Messages.message_at v n).ordered)
+
+pub none_is_lost : OnEveryRun NoneIsLost
+none_is_lost setup h is run s lossless = none-lost setup h run lossless s
+
+-- ## What is read
 
 -- the unordered messages that became whole are those that are whole
 whole-among : (w : World) (s n : ℕ) (log : List LogEntry) → list_any (λ k. k == n) (whole_by w log s) ≡ (nat_lt n (length w.messages) && (Messages.is_unordered_on w s n && is_whole_by w log n))
@@ -199,91 +252,266 @@ whole-among w s n (c ∷ log) =
     joined true false o e old new x y = refl
     joined false b o e old new x y = refl
 
--- the run, where nothing is named
-run-whole : (w : World) (log : List LogEntry) (s : ℕ) → list_any is_skip log ≡ false → run_by w log s ≡ leading (is_whole_by w log) (Messages.ordered_on w s)
-run-whole w log s none =
-    ap (λ k. passing (is_whole_by w log) (take k (Messages.ordered_on w s)) ++ leading (is_whole_by w log) (drop k (Messages.ordered_on w s))) (none-named w s log none)
-    ∙ front (Messages.ordered_on w s)
+-- the run, where each of those passed over is whole
+run-passed : (t : ℕ → Bool) (i : ℕ) (xs : List ℕ) → passing (λ n. not (t n)) (take i xs) ≡ [] → passing t (take i xs) ++ leading t (drop i xs) ≡ leading t xs
+run-passed t zero [] e = refl
+run-passed t zero (x ∷ xs) e = refl
+run-passed t (suc i) [] e = refl
+run-passed t (suc i) (x ∷ xs) e = step (t x) e (run-passed t i xs)
   where
-    front : (xs : List ℕ) → passing (is_whole_by w log) (take 0 xs) ++ leading (is_whole_by w log) (drop 0 xs) ≡ leading (is_whole_by w log) xs
-    front [] = refl
-    front (x ∷ xs) = refl
+    step : (b : Bool) → (if not b then x ∷ passing (λ n. not (t n)) (take i xs) else passing (λ n. not (t n)) (take i xs)) ≡ [] → (passing (λ n. not (t n)) (take i xs) ≡ [] → passing t (take i xs) ++ leading t (drop i xs) ≡ leading t xs) → (if b then x ∷ passing t (take i xs) else passing t (take i xs)) ++ leading t (drop i xs) ≡ (if b then x ∷ leading t xs else [])
+    step true e ih = ap (λ l. x ∷ l) (ih e)
+    step false e ih = cc
 
-all-same : (t u : ℕ → Bool) (from count : ℕ) → ((k : ℕ) → t k ≡ u k) → list_all t (kept always from count) ≡ list_all u (kept always from count)
-all-same t u from zero h = refl
-all-same t u from (suc count) h = ap (λ b. b && list_all t (kept always (from + 1) count)) (h from) ∙ ap (λ b. u from && b) (all-same t u (from + 1) count h)
-
-mapped-at : {A B : Type 0} (f : A → B) (xs : List A) (k : ℕ) (d : A) → k < length xs → get_or (map f xs) k (f d) ≡ f (get_or xs k d)
-mapped-at f [] k d lt = absurd (omega arith)
-mapped-at f (x ∷ xs) zero d lt = refl
-mapped-at f (x ∷ xs) (suc k) d lt = mapped-at f xs k d (omega arith)
-
-twice : (a b : Bool) → not a ≡ not b → a ≡ b
-twice true true e = refl
-twice true false e = cc
-twice false true e = cc
-twice false false e = refl
-
-reads-settled : OnEveryRun NothingWhereRead → ReadsAreSettled
-reads-settled nothing setup g h s is a b writes datagram_received =
-    let v = world_of setup g in
-    let w = world_of setup h in
-    let l = log_of setup g in
-    let m = log_of setup h in
-    let gs = (nothing setup g is a.run s).0 a.exhausted in
-    let hs = (nothing setup h is b.run s).0 b.exhausted in
-    let line : Messages.ordered_on v s ≡ Messages.ordered_on w s = ap (kept (on (shape v) s) 0) counts ∙ kept-same (on (shape v) s) (on (shape w) s) 0 (length w.messages) (λ k i j. on-same k (omega arith)) in (
-      ap (map (shown_of v)) (gs.0 ∙ run-whole v l s (no-skips setup g a.lossless) ∙ ap (leading (is_whole_by v l)) line)
-          ∙ leading-same (shown_of v) (shown_of w) (is_whole_by v l) (is_whole_by w m) (on (shape w) s) 0 (length w.messages) (λ k i j. whole-same k (omega arith)) (λ k i j. each k (omega arith))
-          ∙ sym (ap (map (shown_of w)) (hs.0 ∙ run-whole w m s (no-skips setup h b.lossless))),
-      λ n. ap (list_any (λ k. k == n)) gs.1 ∙ whole-among v s n l
-          ∙ ap (λ c. nat_lt n c && (Messages.is_unordered_on v s n && is_whole_by v l n)) counts
-          ∙ unordered-same n (nat_lt n (length w.messages)) refl
-          ∙ sym (ap (list_any (λ k. k == n)) hs.1 ∙ whole-among w s n m),
-    )
+-- the ordered ones in the lead, by what was written and what arrived
+leading-as : (f : ℕ → Shown) (o t : ℕ → Bool) (ns : List ℕ) → map f (leading t (passing o ns)) ≡ ordered_run (map (λ n. (f n, not (o n))) ns) (map t ns)
+leading-as f o t [] = refl
+leading-as f o t (n ∷ ns) = step (o n) (t n) refl (leading-as f o t ns)
   where
-    counts : length (world_of setup g).messages ≡ length (world_of setup h).messages
-    counts = sym (length-mapped mode_of (world_of setup g).messages) ∙ ap length (modes_are_kept setup g is a.run ∙ writes.1 ∙ sym (modes_are_kept setup h is b.run)) ∙ length-mapped mode_of (world_of setup h).messages
+    step : (a b : Bool) → t n ≡ b → map f (leading t (passing o ns)) ≡ ordered_run (map (λ n. (f n, not (o n))) ns) (map t ns)
+        → map f (leading t (if a then n ∷ passing o ns else passing o ns)) ≡ (if not a then ordered_run (map (λ n. (f n, not (o n))) ns) (map t ns) else (if b then f n ∷ ordered_run (map (λ n. (f n, not (o n))) ns) (map t ns) else []))
+    step true true y ih = rw y (ap (λ l. f n ∷ l) ih)
+    step true false y ih = rw y refl
+    step false b y ih = ih
 
-    each : (n : ℕ) → n < length (world_of setup h).messages → shown_of (world_of setup g) n ≡ shown_of (world_of setup h) n
-    each n lt = same-at (shown_of (world_of setup g)) (shown_of (world_of setup h)) 0 (length (world_of setup h).messages) n
-        (ap (λ c. map (shown_of (world_of setup g)) (kept always 0 c)) (sym counts) ∙ messages_are_writes setup g is a.run ∙ writes.0 ∙ sym (messages_are_writes setup h is b.run)) (omega arith) (omega arith)
+-- the unordered whole ones, by what was written and what arrived
+wholes-as : (f : ℕ → Shown) (o t : ℕ → Bool) (ns : List ℕ) → map (λ n. not (o n) && t n) ns ≡ unordered_wholes (map (λ n. (f n, not (o n))) ns) (map t ns)
+wholes-as f o t [] = refl
+wholes-as f o t (n ∷ ns) = ap (λ l. (not (o n) && t n) ∷ l) (wholes-as f o t ns)
 
-    ordered-same : (n : ℕ) → n < length (world_of setup h).messages → (Messages.message_at (world_of setup g) n).ordered ≡ (Messages.message_at (world_of setup h) n).ordered
-    ordered-same n lt =
-        twice (Messages.message_at (world_of setup g) n).ordered (Messages.message_at (world_of setup h) n).ordered
-        (ap (λ y. y.unordered) (sym (mapped-at mode_of (world_of setup g).messages n Messages.no_message (omega (arith, lt, counts))) ∙ ap (λ l. get_or l n (mode_of Messages.no_message)) (modes_are_kept setup g is a.run ∙ writes.1 ∙ sym (modes_are_kept setup h is b.run)) ∙ mapped-at mode_of (world_of setup h).messages n Messages.no_message lt))
+-- the writes on a stream, by number
+written-as : (s : ℕ) (f : ℕ → Shown) (g : ℕ → Mode) (from count : ℕ) → written_on s (map f (kept always from count)) (map g (kept always from count)) ≡ map (λ n. (f n, (g n).unordered)) (kept (λ n. (f n).0 == s) from count)
+written-as s f g from zero = refl
+written-as s f g from (suc count) = step ((f from).0 == s) (written-as s f g (from + 1) count)
+  where
+    step : (b : Bool) → written_on s (map f (kept always (from + 1) count)) (map g (kept always (from + 1) count)) ≡ map (λ n. (f n, (g n).unordered)) (kept (λ n. (f n).0 == s) (from + 1) count)
+        → (if b then (f from, (g from).unordered) ∷ written_on s (map f (kept always (from + 1) count)) (map g (kept always (from + 1) count)) else written_on s (map f (kept always (from + 1) count)) (map g (kept always (from + 1) count))) ≡ map (λ n. (f n, (g n).unordered)) (if b then from ∷ kept (λ n. (f n).0 == s) (from + 1) count else kept (λ n. (f n).0 == s) (from + 1) count)
+    step true ih = ap (λ l. (f from, (g from).unordered) ∷ l) ih
+    step false ih = ih
 
-    stream-same : (n : ℕ) → n < length (world_of setup h).messages → (Messages.message_at (world_of setup g) n).stream ≡ (Messages.message_at (world_of setup h) n).stream
-    stream-same n lt = ap (λ y. y.0) (each n lt)
+-- a list by its places
+moved-up : {A : Type 0} (h : ℕ → A) (from count : ℕ) → map h (kept always (from + 1) count) ≡ map (λ n. h (n + 1)) (kept always from count)
+moved-up h from zero = refl
+moved-up h from (suc count) = ap (λ l. h (from + 1) ∷ l) (moved-up h (from + 1) count)
 
-    parts-same : (n : ℕ) → n < length (world_of setup h).messages → Messages.fragment_count (world_of setup g) n ≡ Messages.fragment_count (world_of setup h) n
-    parts-same n lt =
-        let p = sane-run setup g a.run in
-        let q = sane-run setup h b.run in
-        ap (λ y. length (pieces (length y) (world_of setup g).setup.size y)) (ap (λ y. y.2) (each n lt))
-        ∙ ap (λ z. length (pieces (length (Messages.message_at (world_of setup h) n).bytes) z.size (Messages.message_at (world_of setup h) n).bytes)) (p.setup_is ∙ sym q.setup_is)
+by-place : {A B : Type 0} (f : A → B) (d : A) (xs : List A) → map f xs ≡ map (λ n. f (get_or xs n d)) (kept always 0 (length xs))
+by-place f d [] = refl
+by-place f d (x ∷ xs) =
+    ap (λ l. f x ∷ l) (by-place f d xs
+    ∙ map-kept-same (λ n. f (get_or xs n d)) (λ n. f (get_or (x ∷ xs) (n + 1) d)) always always 0 (length xs) (λ k a b. refl) (λ k a b e. ap (λ j. f (get_or (x ∷ xs) j d)) (let z : suc k ≡ k + 1 = omega arith in z))
+    ∙ sym (moved-up (λ n. f (get_or (x ∷ xs) n d)) 0 (length xs)))
 
-    whole-same : (n : ℕ) → n < length (world_of setup h).messages → is_whole_by (world_of setup g) (log_of setup g) n ≡ is_whole_by (world_of setup h) (log_of setup h) n
-    whole-same n lt =
-        whole-settled (world_of setup g) (log_of setup g) n (sane-run setup g a.run).sender (no-skips setup g a.lossless) (omega (arith, lt, counts))
-        ∙ ap (λ c. list_all (fragment_arrived (world_of setup g) (log_of setup g) n) (numbers_from 0 c)) (parts-same n lt)
-        ∙ all-same (fragment_arrived (world_of setup g) (log_of setup g) n) (fragment_arrived (world_of setup h) (log_of setup h) n) 0 (Messages.fragment_count (world_of setup h) n) (datagram_received n)
-        ∙ sym (whole-settled (world_of setup h) (log_of setup h) n (sane-run setup h b.run).sender (no-skips setup h b.lossless) lt)
+-- ## One history
 
-    on-same : (n : ℕ) → n < length (world_of setup h).messages → on (shape (world_of setup g)) s n ≡ on (shape (world_of setup h)) s n
-    on-same n lt =
-        ap (λ y. (y == s) && ((Messages.message_at (world_of setup g) n).ordered && not (Messages.message_at (world_of setup g) n).expired)) (stream-same n lt)
-        ∙ ap (λ y. ((Messages.message_at (world_of setup h) n).stream == s) && (y && not (Messages.message_at (world_of setup g) n).expired)) (ordered-same n lt)
-        ∙ ap (λ y. ((Messages.message_at (world_of setup h) n).stream == s) && ((Messages.message_at (world_of setup h) n).ordered && not y)) ((alive-run setup g a.lossless n (omega (arith, lt, counts))).0 ∙ sym (alive-run setup h b.lossless n lt).0)
+module _ (setup : Setup) (h : History) (s : ℕ) (is : IsSetup setup) (run : IsRun setup h) (unlost : has_loss_on setup h s ≡ false) where
+  abbrev w : World
+  w = world_of setup h
 
-    unordered-same : (n : ℕ) (t : Bool) → nat_lt n (length (world_of setup h).messages) ≡ t → (t && (Messages.is_unordered_on (world_of setup g) s n && is_whole_by (world_of setup g) (log_of setup g) n)) ≡ (t && (Messages.is_unordered_on (world_of setup h) s n && is_whole_by (world_of setup h) (log_of setup h) n))
-    unordered-same n false e = refl
-    unordered-same n true e =
-        let lt : n < length (world_of setup h).messages = grind (arith, nat_tests) in
-        ap (λ y. ((y == s) && not (Messages.message_at (world_of setup g) n).ordered) && is_whole_by (world_of setup g) (log_of setup g) n) (stream-same n lt)
-        ∙ ap (λ y. (((Messages.message_at (world_of setup h) n).stream == s) && not y) && is_whole_by (world_of setup g) (log_of setup g) n) (ordered-same n lt)
-        ∙ ap (λ y. Messages.is_unordered_on (world_of setup h) s n && y) (whole-same n lt)
+  abbrev log : List LogEntry
+  log = log_of setup h
+
+  abbrev here : ℕ → Bool
+  here n = (Messages.message_at w n).stream == s
+
+  parts : (n : ℕ) → n < length w.messages → here n ≡ true → Unlost w log s n
+  parts n lt at = unlost-parts w log s n (same-is (Messages.message_at w n).stream s at) (none-has (was_lost w log) here (length w.messages) unlost n lt at)
+
+  whole-here : (n : ℕ) → n < length w.messages → here n ≡ true → is_whole_by w log n ≡ arrived_wholly w log n
+  whole-here n lt at = whole-settled w log n (sane-run setup h run).sender lt (parts n lt at).early
+
+  wholes-are : map (is_whole_by w log) (messages_on w s) ≡ arrivals_on setup h s
+  wholes-are = map-kept-same (is_whole_by w log) (arrived_wholly w log) here here 0 (length w.messages) (λ k a b. refl) (λ k a b e. whole-here k (omega arith) e)
+
+  writes-are : writes_on h s ≡ map (λ n. (shown_of w n, not (is_ordered w n))) (messages_on w s)
+  writes-are =
+      ap (λ xs. written_on s xs (modes_in h)) (sym (messages_are_writes setup h is run))
+      ∙ ap (written_on s (map (shown_of w) (kept always 0 (length w.messages)))) (sym (modes_are_kept setup h is run) ∙ by-place mode_of Messages.no_message w.messages)
+      ∙ written-as s (shown_of w) (λ n. mode_of (Messages.message_at w n)) 0 (length w.messages)
+
+  line-is : Messages.ordered_on w s ≡ passing (is_ordered w) (messages_on w s)
+  line-is =
+      kept-same (Messages.is_ordered_on w s) (λ n. here n && is_ordered w n) 0 (length w.messages) (λ n a b. step n (omega arith) (here n) refl (is_ordered w n) refl)
+      ∙ sym (passing-kept (is_ordered w) here 0 (length w.messages))
+    where
+      step : (n : ℕ) → n < length w.messages → (b : Bool) → here n ≡ b → (o : Bool) → is_ordered w n ≡ o → (b && (o && not (Messages.message_at w n).expired)) ≡ (b && o)
+      step n lt true at true o = ap not ((parts n lt at).unexpired o)
+      step n lt true at false o = refl
+      step n lt false at t o = refl
+
+  placed : (k : ℕ) → Messages.ordered_before w s k ≡ 0 + length (kept (Messages.is_ordered_on w s) 0 (k - 0))
+  placed k =
+      let z : k ≡ k - 0 = omega arith in
+      let e : length (kept (Messages.is_ordered_on w s) 0 k) ≡ length (kept (Messages.is_ordered_on w s) 0 (k - 0)) = ap (λ j. length (kept (Messages.is_ordered_on w s) 0 j)) z in
+      omega (arith, e)
+
+  -- each of those passed over is whole
+  none-passed : passing (λ n. not (is_whole_by w log n)) (take (named_by w s log) (Messages.ordered_on w s)) ≡ []
+  none-passed =
+      take-kept (Messages.is_ordered_on w s) (λ n. not (is_whole_by w log n)) (Messages.ordered_before w s) 0 (length w.messages) (named_by w s log) 0 (named_by w s log) (omega arith) (λ k a b e. placed k)
+      ∙ kept-none (λ n. Messages.is_ordered_on w s n && (not (is_whole_by w log n) && nat_lt (Messages.ordered_before w s n) (named_by w s log))) 0 (length w.messages) (λ n a b. fails (Messages.is_ordered_on w s n && (not (is_whole_by w log n) && nat_lt (Messages.ordered_before w s n) (named_by w s log))) (λ e.
+      let c = both (Messages.is_ordered_on w s n) (not (is_whole_by w log n) && nat_lt (Messages.ordered_before w s n) (named_by w s log)) e in
+      let d = both (here n) (is_ordered w n && not (Messages.message_at w n).expired) c.0 in
+      let o = both (is_ordered w n) (not (Messages.message_at w n).expired) d.1 in
+      let f = both (not (is_whole_by w log n)) (nat_lt (Messages.ordered_before w s n) (named_by w s log)) c.1 in
+      not_both (sym (negated (is_whole_by w log n) f.0) ∙ whole-here n (omega arith) d.0 ∙ (parts n (omega arith) d.0).near o.0 f.1)))
+
+  run-is : run_by w log s ≡ leading (is_whole_by w log) (passing (is_ordered w) (messages_on w s))
+  run-is = run-passed (is_whole_by w log) (named_by w s log) (Messages.ordered_on w s) none-passed ∙ ap (leading (is_whole_by w log)) line-is
+
+  pub ordered-settled : ordered_reads setup h s ≡ run_by w log s → ordered_shown setup h s ≡ ordered_run (writes_on h s) (arrivals_on setup h s)
+  ordered-settled e =
+      ap (map (shown_of w)) (e ∙ run-is)
+      ∙ leading-as (shown_of w) (is_ordered w) (is_whole_by w log) (messages_on w s)
+      ∙ ap (λ xs. ordered_run xs (map (is_whole_by w log) (messages_on w s))) (sym writes-are)
+      ∙ ap (ordered_run (writes_on h s)) wholes-are
+
+  pub unordered-settled : unordered_reads setup h s ≡ whole_by w log s → unordered_shown setup h s ≡ unordered_wholes (writes_on h s) (arrivals_on setup h s)
+  unordered-settled e =
+      map-kept-same (λ n. list_any (λ m. m == n) (unordered_reads setup h s)) (λ n. not (is_ordered w n) && is_whole_by w log n) here here 0 (length w.messages) (λ k a b. refl) (λ n a b at. ap (list_any (λ m. m == n)) e ∙ whole-among w s n log ∙ step n (nat_lt n (length w.messages)) (let lt : n < length w.messages = omega arith in grind (arith, nat_tests)) (here n) at)
+      ∙ wholes-as (shown_of w) (is_ordered w) (is_whole_by w log) (messages_on w s)
+      ∙ ap (λ xs. unordered_wholes xs (map (is_whole_by w log) (messages_on w s))) (sym writes-are)
+      ∙ ap (unordered_wholes (writes_on h s)) wholes-are
+    where
+      step : (n : ℕ) (l : Bool) → l ≡ true → (b : Bool) → b ≡ true → (l && ((b && not (is_ordered w n)) && is_whole_by w log n)) ≡ (not (is_ordered w n) && is_whole_by w log n)
+      step n true e true f = refl
+      step n true e false f = cc
+      step n false e b f = cc
+
+pub reads_by_arrivals : OnEveryRun ReadsByArrivals
+reads_by_arrivals setup h is run s unlost exhausted =
+    let r = (nothing_where_read setup h is run s).0 exhausted in
+    (ordered-settled setup h s is run unlost r.0, unordered-settled setup h s is run unlost r.1)
+
+-- ## Two histories
 
 pub reads_are_settled : ReadsAreSettled
-reads_are_settled = reads-settled nothing_where_read
+reads_are_settled a b g h s x y writes arrivals =
+    let p = reads_by_arrivals a g x.is x.run s x.unlost x.exhausted in
+    let q = reads_by_arrivals b h y.is y.run s y.unlost y.exhausted in
+    let one = ap (λ xs. ordered_run xs (arrivals_on a g s)) writes ∙ ap (ordered_run (writes_on h s)) arrivals in
+    let two = ap (λ xs. unordered_wholes xs (arrivals_on a g s)) writes ∙ ap (unordered_wholes (writes_on h s)) arrivals in
+    (p.0 ∙ one ∙ sym q.0, p.1 ∙ two ∙ sym q.1)
+
+-- ## The form that asks more
+
+-- two histories of one link have the same writes, the same of them unordered, and on stream s the same fragments arrived
+pub record SameFragments (setup : Setup) (g h : History) (s : ℕ) : Type 0 where
+  pub writes : writes_in g ≡ writes_in h
+  pub kinds : map (λ m. m.unordered) (modes_in g) ≡ map (λ m. m.unordered) (modes_in h)
+  pub fragments : (n i : ℕ) → (Messages.message_at (world_of setup h) n).stream ≡ s → fragment_arrived (world_of setup g) (log_of setup g) n i ≡ fragment_arrived (world_of setup h) (log_of setup h) n i
+
+written-kinds : (s : ℕ) (xs : List Shown) (ms ns : List Mode) → map (λ m. m.unordered) ms ≡ map (λ m. m.unordered) ns → written_on s xs ms ≡ written_on s xs ns
+written-kinds s [] ms ns e = refl
+written-kinds s (y ∷ ys) [] [] e = refl
+written-kinds s (y ∷ ys) [] (n ∷ ns) e = cc
+written-kinds s (y ∷ ys) (m ∷ ms) [] e = cc
+written-kinds s (y ∷ ys) (m ∷ ms) (n ∷ ns) e =
+    let first : m.unordered ≡ n.unordered = cc in
+    let others : map (λ m. m.unordered) ms ≡ map (λ m. m.unordered) ns = cc in
+    step (y.0 == s) first (written-kinds s ys ms ns others)
+  where
+    step : (b : Bool) → m.unordered ≡ n.unordered → written_on s ys ms ≡ written_on s ys ns → (if b then (y, m.unordered) ∷ written_on s ys ms else written_on s ys ms) ≡ (if b then (y, n.unordered) ∷ written_on s ys ns else written_on s ys ns)
+    step true k ih = ap (λ u. (y, u) ∷ written_on s ys ms) k ∙ ap (λ l. (y, n.unordered) ∷ l) ih
+    step false k ih = ih
+
+-- values that agree one after another agree at each number
+same-at : {A : Type 0} (f g : ℕ → A) (p : ℕ → Bool) (from count n : ℕ) → map f (kept p from count) ≡ map g (kept p from count) → from ≤ n → n < from + count → p n ≡ true → f n ≡ g n
+same-at f g p from zero n e a b h = absurd (omega arith)
+same-at {A} f g p from (suc count) n e a b h = step (p from) refl e (eq-or-lt_of_le a) (λ t l. same-at f g p (from + 1) count n t l (omega arith) h)
+  where
+    step : (b : Bool) → p from ≡ b → map f (if b then from ∷ kept p (from + 1) count else kept p (from + 1) count) ≡ map g (if b then from ∷ kept p (from + 1) count else kept p (from + 1) count) → (from ≡ n) ⊎ (from < n) → (map f (kept p (from + 1) count) ≡ map g (kept p (from + 1) count) → from + 1 ≤ n → f n ≡ g n) → f n ≡ g n
+    step true x t (inl z) ih = let y : f from ≡ g from = cc in ap f (sym z) ∙ y ∙ ap g z
+    step true x t (inr l) ih = let y : map f (kept p (from + 1) count) ≡ map g (kept p (from + 1) count) = cc in ih y (omega arith)
+    step false x t (inl z) ih = absurd (not_both (sym x ∙ ap p z ∙ h))
+    step false x t (inr l) ih = ih t (omega arith)
+
+module _ (setup : Setup) (g h : History) (s : ℕ) (a : IsReadWholly setup g s) (b : IsReadWholly setup h s) (same : SameFragments setup g h s) where
+  abbrev old : World
+  old = world_of setup g
+
+  abbrev new : World
+  new = world_of setup h
+
+  abbrev there : ℕ → Bool
+  there n = (Messages.message_at new n).stream == s
+
+  counts : length old.messages ≡ length new.messages
+  counts =
+      sym (length-mapped (shown_of old) (kept always 0 (length old.messages)) ∙ length-always 0 (length old.messages))
+      ∙ ap length (messages_are_writes setup g a.is a.run ∙ same.writes ∙ sym (messages_are_writes setup h b.is b.run))
+      ∙ (length-mapped (shown_of new) (kept always 0 (length new.messages)) ∙ length-always 0 (length new.messages))
+    where
+      length-always : (from count : ℕ) → length (kept always from count) ≡ count
+      length-always from zero = refl
+      length-always from (suc count) = ap suc (length-always (from + 1) count)
+
+  each : (n : ℕ) → n < length new.messages → shown_of old n ≡ shown_of new n
+  each n lt =
+      same-at (shown_of old) (shown_of new) always 0 (length new.messages) n
+      (ap (λ c. map (shown_of old) (kept always 0 c)) (sym counts) ∙ messages_are_writes setup g a.is a.run ∙ same.writes ∙ sym (messages_are_writes setup h b.is b.run)) (omega arith) (omega arith) refl
+
+  line : messages_on old s ≡ messages_on new s
+  line =
+      ap (kept (λ n. (Messages.message_at old n).stream == s) 0) counts
+      ∙ kept-same (λ n. (Messages.message_at old n).stream == s) there 0 (length new.messages) (λ n i j. ap (λ y. y.0 == s) (each n (omega arith)))
+
+  parts-same : (n : ℕ) → n < length new.messages → Messages.fragment_count old n ≡ Messages.fragment_count new n
+  parts-same n lt =
+      ap (λ y. length (pieces (length y) old.setup.size y)) (ap (λ y. y.2) (each n lt))
+      ∙ ap (λ z. length (pieces (length (Messages.message_at new n).bytes) z.size (Messages.message_at new n).bytes)) ((sane-run setup g a.run).setup_is ∙ sym (sane-run setup h b.run).setup_is)
+
+  arrivals : arrivals_on setup g s ≡ arrivals_on setup h s
+  arrivals =
+      ap (map (arrived_wholly old (log_of setup g))) line
+      ∙ map-kept-same (arrived_wholly old (log_of setup g)) (arrived_wholly new (log_of setup h)) there there 0 (length new.messages) (λ n i j. refl) (λ n i j at.
+      ap (λ c. list_all (fragment_arrived old (log_of setup g) n) (numbers_from 0 c)) (parts-same n (omega arith))
+      ∙ all-same (fragment_arrived old (log_of setup g) n) (fragment_arrived new (log_of setup h) n) always 0 (Messages.fragment_count new n) (λ k x y z. same.fragments n k (same-is (Messages.message_at new n).stream s at)))
+
+  both-read : (ordered_shown setup g s ≡ ordered_shown setup h s) × (unordered_shown setup g s ≡ unordered_shown setup h s)
+  both-read =
+      reads_are_settled setup setup g h s a b
+      (ap (λ xs. written_on s xs (modes_in g)) same.writes ∙ written-kinds s (writes_in h) (modes_in g) (modes_in h) same.kinds)
+      arrivals
+
+  abbrev was_read : History → ℕ → Bool
+  was_read k n = list_any (λ m. m == n) (unordered_reads setup k s)
+
+  among : (k : History) → IsReadWholly setup k s → (n : ℕ) → was_read k n ≡ (nat_lt n (length (world_of setup k).messages) && (Messages.is_unordered_on (world_of setup k) s n && is_whole_by (world_of setup k) (log_of setup k) n))
+  among k c n = ap (list_any (λ m. m == n)) ((nothing_where_read setup k c.is c.run s).0 c.exhausted).1 ∙ whole-among (world_of setup k) s n (log_of setup k)
+
+  each-read : (n : ℕ) → was_read g n ≡ was_read h n
+  each-read n = step (nat_lt n (length new.messages)) refl (there n) refl
+    where
+      step : (l : Bool) → nat_lt n (length new.messages) ≡ l → (c : Bool) → there n ≡ c → was_read g n ≡ was_read h n
+      step true l true c =
+          let lt : n < length new.messages = grind (arith, nat_tests) in
+          same-at (was_read g) (was_read h) there 0 (length new.messages) n (ap (map (was_read g)) (sym line) ∙ both-read.1) (omega arith) (omega arith) c
+      step true l false c =
+          let lt : n < length new.messages = grind (arith, nat_tests) in
+          among g a n
+          ∙ ap (λ y. nat_lt n (length old.messages) && ((y && not (Messages.message_at old n).ordered) && is_whole_by old (log_of setup g) n)) (ap (λ y. y.0 == s) (each n lt) ∙ c)
+          ∙ and-none (nat_lt n (length old.messages))
+          ∙ sym (among h b n
+          ∙ ap (λ y. nat_lt n (length new.messages) && ((y && not (Messages.message_at new n).ordered) && is_whole_by new (log_of setup h) n)) c
+          ∙ and-none (nat_lt n (length new.messages)))
+      step false l c e =
+          among g a n
+          ∙ ap (λ y. y && (Messages.is_unordered_on old s n && is_whole_by old (log_of setup g) n)) (ap (nat_lt n) counts ∙ l)
+          ∙ sym (among h b n ∙ ap (λ y. y && (Messages.is_unordered_on new s n && is_whole_by new (log_of setup h) n)) l)
+
+-- the same ordered messages are read, and by number the same unordered ones
+pub settled-by_number : (setup : Setup) (g h : History) (s : ℕ) → IsReadWholly setup g s → IsReadWholly setup h s → SameFragments setup g h s →
+    (ordered_shown setup g s ≡ ordered_shown setup h s) × ((n : ℕ) → list_any (λ m. m == n) (unordered_reads setup g s) ≡ list_any (λ m. m == n) (unordered_reads setup h s))
+settled-by_number setup g h s a b same = ((both-read setup g h s a b same).0, each-read setup g h s a b same)
+
+-- so too where no event can lose, all modes are the same, and the same fragments of all messages arrived
+pub settled-lossless : (setup : Setup) (g h : History) (s : ℕ) → IsSetup setup → IsRun setup g → IsRun setup h → Lossless g → Lossless h →
+    reply_to (world_of setup g) (E.Read s) ≡ R.Nothing → reply_to (world_of setup h) (E.Read s) ≡ R.Nothing →
+    writes_in g ≡ writes_in h → modes_in g ≡ modes_in h →
+    ((n i : ℕ) → fragment_arrived (world_of setup g) (log_of setup g) n i ≡ fragment_arrived (world_of setup h) (log_of setup h) n i) →
+    (ordered_shown setup g s ≡ ordered_shown setup h s) × ((n : ℕ) → list_any (λ m. m == n) (unordered_reads setup g s) ≡ list_any (λ m. m == n) (unordered_reads setup h s))
+settled-lossless setup g h s is a b k l x y writes modes fragments =
+    settled-by_number setup g h s
+    (record { is = is; run = a; unlost = none_is_lost setup g is a s k; exhausted = x })
+    (record { is = is; run = b; unlost = none_is_lost setup h is b s l; exhausted = y })
+    (record { writes = writes; kinds = ap (map (λ m. m.unordered)) modes; fragments = λ n i e. fragments n i })

@@ -1,5 +1,5 @@
 -- All laws at once.
-use Rattle.sctp_model.specs.Laws.{EachSendEmits, SlotsAreSound, ArrivalsAgree, OrderedReads, UnorderedReads, NothingWhenExhausted, OnlyArrivedIsAcknowledged, BytesBalance, LifetimesEnd, DatagramsKeepLimit, CountersCount, Headline, Beside, ReliableDelivery, PartialDelivery}
+use Rattle.sctp_model.specs.Laws.{EachSendEmits, SlotsAreSound, ArrivalsAgree, OrderedReads, UnorderedReads, NothingWhenExhausted, OnlyArrivedIsAcknowledged, BytesBalance, LifetimesEnd, DatagramsKeepLimit, CountersCount, Composition, RecordsAreSound, Headline, Beside, ReliableDelivery, PartialDelivery}
 use Rattle.sctp_model.proofs.acknowledgement.Acknowledged.{acknowledged_arrived, acknowledged_is_reported, sacks_say}
 use Rattle.sctp_model.proofs.receiver.Arrivals.{arrived_is_new, cumulative_is_seen, arrivals_answered}
 use Rattle.sctp_model.proofs.acknowledgement.Bytes.{balances}
@@ -18,7 +18,9 @@ use Rattle.sctp_model.proofs.sender.Sends.{emits_where_pending, takes_pending, i
 use Rattle.sctp_model.proofs.receiver.Shown.{reads_show_messages}
 use Rattle.sctp_model.proofs.sender.Slots.{slots_in_order, slots_follow, one_half_sent, sent_in_turn, indexes_leave_no_gap}
 use Rattle.sctp_model.proofs.receiver.Spans.{spans_fit_always}
+use Rattle.sctp_model.proofs.receiver.SoundRun.{record_is_sound, slots_come_sound, skips_come_sound}
 use Rattle.sctp_model.proofs.sender.Written.{messages_are_writes}
+use Rattle.sctp_model.proofs.Composed.{reads_are_settled, reads_by_arrivals, none_is_lost}
 
 each-send : EachSendEmits
 each-send = (emits_where_pending, (takes_pending, idle_is_answered))
@@ -53,14 +55,20 @@ limits = (within_limit, filled_to_limit)
 counters : CountersCount
 counters = counters_are_sums
 
+composition : Composition
+composition = (reads_are_settled, (reads_by_arrivals, none_is_lost))
+
+records : RecordsAreSound
+records = (record_is_sound, (slots_come_sound, skips_come_sound))
+
 pub headline : Headline
 headline = (each-send, (ordered, (unordered, (nothing, (acknowledged, bytes)))))
 
 pub beside : Beside
-beside = (slots, (limits, (arrivals, (lifetimes, counters))))
+beside = (slots, (limits, (arrivals, (lifetimes, (counters, (composition, records))))))
 
 pub reliable : ReliableDelivery
-reliable = (reads_begin_whole_run, (unordered, (nothing, (acknowledged, (bytes, (arrivals, counters))))))
+reliable = (reads_begin_whole_run, (composition, (unordered, (nothing, (acknowledged, (bytes, (arrivals, counters)))))))
 
 pub partial : PartialDelivery
 partial = (headline, beside)

@@ -6,4 +6,5 @@ mod ScriptsOfExpiry
 mod ScriptsOfAbandonment
 mod ScriptsOfSkips
 mod ScriptsOfLaws
+mod ScriptsOfComposition
 mod LongScripts

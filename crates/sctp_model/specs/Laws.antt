@@ -16,6 +16,7 @@ use Rattle.sctp_model.specs.Changes.{late_slots}
 use Rattle.sctp_model.specs.Steps.{History, world_of, IsRun, refusal_of, reply_to, after, Answers}
 use Rattle.sctp_model.specs.Contents.{DataContents, SackContents, cumulative_tsn, datagram}
 use Rattle.sctp_model.specs.Queues.{pending_of}
+use Rattle.sctp_model.specs.Sound.{RecordIsSound, SlotsComeSound, SkipsComeSound}
 use Rattle.sctp_model.specs.Log
 
 -- ## Every history
@@ -469,33 +470,102 @@ CountersCount = OnEveryRun CountersAreSums
 
 -- ## Composition without loss
 
--- two histories have the same writes, with the same modes
-abbrev pub SameWrites : History → History → Type 0
-SameWrites g h = (Log.writes_in g ≡ Log.writes_in h) × (Log.modes_in g ≡ Log.modes_in h)
+-- the messages of stream s, by number, in the order in which they were written
+abbrev pub messages_on : World → ℕ → List ℕ
+messages_on w s = Messages.messages_where w (λ n. (Messages.message_at w n).stream == s)
 
--- fragment i of message n arrived
+-- two histories have the same writes on stream s: the same messages, the same of them unordered
+abbrev pub SameWrites : History → History → ℕ → Type 0
+SameWrites g h s = Log.writes_on g s ≡ Log.writes_on h s
+
+-- fragment i of message n arrived: its slot came, and neither it nor a skip over it had come before
 abbrev pub fragment_arrived : World → List Log.LogEntry → ℕ → ℕ → Bool
 fragment_arrived w log n i =
     list_any (λ place. Messages.has_fragment w n place && (((Messages.slot_at w place).fragment == i) && Log.arrived_new log place)) (numbers_from 0 (length w.slots))
 
--- the same fragments arrived
-abbrev pub SameArrivals : World → List Log.LogEntry → World → List Log.LogEntry → Type 0
-SameArrivals v log w other = (n i : ℕ) → fragment_arrived v log n i ≡ fragment_arrived w other n i
+-- message n arrived wholly: each of its fragments did
+abbrev pub arrived_wholly : World → List Log.LogEntry → ℕ → Bool
+arrived_wholly w log n =
+    list_all (fragment_arrived w log n) (numbers_from 0 (Messages.fragment_count w n))
 
--- nothing was lost, and all is read on stream s
+-- of each message of stream s, whether it arrived wholly
+abbrev pub arrivals_on : Setup → History → ℕ → List Bool
+arrivals_on setup h s =
+    map (arrived_wholly (world_of setup h) (Log.log_of setup h)) (messages_on (world_of setup h) s)
+
+-- skips that counted named message n or a later one of its stream
+abbrev pub is_passed_over : World → List Log.LogEntry → ℕ → Bool
+is_passed_over w log n =
+    nat_lt (Messages.index_of w n) (Log.named_by w (Messages.message_at w n).stream log)
+
+-- message n was lost: an ordered one expired, or was passed over and did not arrive wholly; an
+-- unordered one arrived wholly, but not before a skip that counted covered a fragment of it
+abbrev pub was_lost : World → List Log.LogEntry → ℕ → Bool
+was_lost w log n =
+    if is_ordered w n
+    then has_expired w n || (is_passed_over w log n && not (arrived_wholly w log n))
+    else arrived_wholly w log n && not (Log.were_whole (Messages.slots_of w n) log)
+
+-- some message of stream s was lost
+abbrev pub has_loss_on : Setup → History → ℕ → Bool
+has_loss_on setup h s =
+    list_any (was_lost (world_of setup h) (Log.log_of setup h)) (messages_on (world_of setup h) s)
+
+-- where no event expires, abandons or skips, no message is lost
+abbrev pub NoneIsLost : Setup → History → World → List Log.LogEntry → Type 0
+NoneIsLost setup h w log =
+    (s : ℕ) → list_all (λ entry. loses_nothing entry.0) h ≡ true → has_loss_on setup h s ≡ false
+
+-- of writes and of whether each arrived wholly: the ordered messages up to the first that did not
+abbrev pub ordered_run : List (Log.Shown × Bool) → List Bool → List Log.Shown
+ordered_run [] arrived = []
+ordered_run (x ∷ xs) [] = []
+ordered_run (x ∷ xs) (t ∷ ts) =
+    if x.1 then ordered_run xs ts else (if t then x.0 ∷ ordered_run xs ts else [])
+
+-- of each write, whether it is unordered and arrived wholly
+abbrev pub unordered_wholes : List (Log.Shown × Bool) → List Bool → List Bool
+unordered_wholes [] arrived = []
+unordered_wholes (x ∷ xs) [] = []
+unordered_wholes (x ∷ xs) (t ∷ ts) = (x.1 && t) ∷ unordered_wholes xs ts
+
+-- the ordered reads of stream s, each as it was written
+abbrev pub ordered_shown : Setup → History → ℕ → List Log.Shown
+ordered_shown setup h s = map (shown_of (world_of setup h)) (ordered_reads setup h s)
+
+-- of each message of stream s, whether it was read as an unordered one
+abbrev pub unordered_shown : Setup → History → ℕ → List Bool
+unordered_shown setup h s =
+    map (λ n. list_any (λ m. m == n) (unordered_reads setup h s)) (messages_on (world_of setup h) s)
+
+-- where no message of a stream was lost and all is read, its ordered reads are its ordered writes
+-- up to the first that did not arrive wholly, and of its unordered writes those were read that did
+abbrev pub ReadsByArrivals : Setup → History → World → List Log.LogEntry → Type 0
+ReadsByArrivals setup h w log =
+    (s : ℕ) → has_loss_on setup h s ≡ false → reply_to w (E.Read s) ≡ R.Nothing →
+    (ordered_shown setup h s ≡ ordered_run (Log.writes_on h s) (arrivals_on setup h s))
+    × (unordered_shown setup h s ≡ unordered_wholes (Log.writes_on h s) (arrivals_on setup h s))
+
+-- no message of stream s was lost, and all of it is read
 pub record IsReadWholly (setup : Setup) (h : History) (s : ℕ) : Type 0 where
+  pub is : IsSetup setup
   pub run : IsRun setup h
-  pub lossless : list_all (λ entry. loses_nothing entry.0) h ≡ true
+  pub unlost : has_loss_on setup h s ≡ false
   pub exhausted : reply_to (world_of setup h) (E.Read s) ≡ R.Nothing
 
--- without loss what is read in the end is settled by what was written and which of its fragments arrived: the ordered messages, and the set of the unordered ones
+-- without loss what is read of a stream in the end is settled by the writes on it and by which of
+-- its messages arrived wholly: the ordered reads, and the set of the unordered ones. All else may
+-- differ: lifetimes and moments, the other streams, fragments, datagrams and their order, SACKs
 abbrev pub ReadsAreSettled : Type 0
 ReadsAreSettled =
-    (setup : Setup) (g h : History) (s : ℕ) → IsSetup setup → IsReadWholly setup g s → IsReadWholly setup h s →
-    SameWrites g h →
-    SameArrivals (world_of setup g) (Log.log_of setup g) (world_of setup h) (Log.log_of setup h) →
-    (map (shown_of (world_of setup g)) (ordered_reads setup g s) ≡ map (shown_of (world_of setup h)) (ordered_reads setup h s))
-    × ((n : ℕ) → list_any (λ m. m == n) (unordered_reads setup g s) ≡ list_any (λ m. m == n) (unordered_reads setup h s))
+    (a b : Setup) (g h : History) (s : ℕ) → IsReadWholly a g s → IsReadWholly b h s →
+    SameWrites g h s → arrivals_on a g s ≡ arrivals_on b h s →
+    (ordered_shown a g s ≡ ordered_shown b h s) × (unordered_shown a g s ≡ unordered_shown b h s)
+
+-- the reads by what arrived, one history by itself and two beside each other, and that nothing is
+-- lost without an event that may lose
+abbrev pub Composition : Type 0
+Composition = ReadsAreSettled × (OnEveryRun ReadsByArrivals × OnEveryRun NoneIsLost)
 
 -- ## The headline: for every first TSN, fragment size and list of events
 
@@ -504,16 +574,21 @@ abbrev pub Headline : Type 0
 Headline =
     EachSendEmits × (OrderedReads × (UnorderedReads × (NothingWhenExhausted × (OnlyArrivedIsAcknowledged × BytesBalance))))
 
--- beside the headline: slots, limits of datagrams, arrivals, lifetimes and counters
+-- the record is sound in every history, and while datagrams come
+abbrev pub RecordsAreSound : Type 0
+RecordsAreSound =
+    OnEveryRun RecordIsSound × (OnEveryRun SlotsComeSound × OnEveryRun SkipsComeSound)
+
+-- beside the headline: slots, limits of datagrams, arrivals, lifetimes, counters, reads without loss, sound records
 abbrev pub Beside : Type 0
 Beside =
-    SlotsAreSound × (DatagramsKeepLimit × (ArrivalsAgree × (LifetimesEnd × CountersCount)))
+    SlotsAreSound × (DatagramsKeepLimit × (ArrivalsAgree × (LifetimesEnd × (CountersCount × (Composition × RecordsAreSound)))))
 
--- where nothing expires, is abandoned or skipped: the ordered reads begin the longest whole run, with all that holds of every history
+-- where nothing expires, is abandoned or skipped: the ordered reads begin the longest whole run and what arrived settles the reads, with all that holds of every history
 abbrev pub ReliableDelivery : Type 0
 ReliableDelivery =
-    OnEveryRun ReadsBeginWholeRun × (UnorderedReads × (NothingWhenExhausted × (OnlyArrivedIsAcknowledged × (BytesBalance × (ArrivalsAgree × CountersCount)))))
+    OnEveryRun ReadsBeginWholeRun × (Composition × (UnorderedReads × (NothingWhenExhausted × (OnlyArrivedIsAcknowledged × (BytesBalance × (ArrivalsAgree × CountersCount))))))
 
--- all of it
+-- all laws of this crate
 abbrev pub PartialDelivery : Type 0
 PartialDelivery = Headline × Beside

@@ -200,6 +200,17 @@ modes_in ((E.Write s ppi [], r) ∷ older) = modes_in older
 modes_in ((E.Write s ppi (b ∷ bs), r) ∷ older) = modes_in older ++ mode_with ppi (mode_in older s) ∷ []
 modes_in (entry ∷ older) = modes_in older
 
+-- those of stream s among writes in these modes: each message, and whether it is unordered
+abbrev pub written_on : ℕ → List Shown → List Mode → List (Shown × Bool)
+written_on s [] modes = []
+written_on s (x ∷ xs) [] = []
+written_on s (x ∷ xs) (m ∷ ms) =
+    if x.0 == s then (x, m.unordered) ∷ written_on s xs ms else written_on s xs ms
+
+-- the accepted writes of at least one byte on stream s, in order: each message, and whether it is unordered
+abbrev pub writes_on : History → ℕ → List (Shown × Bool)
+writes_on h s = written_on s (writes_in h) (modes_in h)
+
 -- the message that a reply hands out
 abbrev pub shown_by : Reply → List Shown
 shown_by (R.Message s ppi chunks) = (s, ppi, joined_bytes chunks.chunks) ∷ []

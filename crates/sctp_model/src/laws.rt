@@ -1,6 +1,6 @@
 //! What holds of every history of a link: laws, each the contract of a function that does nothing.
 
-ghost use Rattle.sctp_model.specs.Laws.{OnEveryRun, EmitsWherePending, TakesPending, IdleIsAnswered, WithinLimit, FilledToLimit, SlotsInOrder, SlotsFollow, OneHalfSent, SentInTurn, IndexesLeaveNoGap, NoEndMarkIsSent, DatagramsStay, Balances, SumsAgree, AcknowledgedArrived, AcknowledgedIsReported, SacksSay, NetworkIsMade, ArrivedIsNew, CumulativeIsSeen, ArrivalsAnswered, WholeIsWhole, NamedIsNamed, SpansFit, MessagesAreWrites, ModesAreKept, ReadsShowMessages, ReadsBeginRun, ReadsBeginWholeRun, ReadsBeginWhole, ReadsDiffer, UnorderedFirst, NothingWhereRead, StartsOnce, LapsesByEvents, ExpiresLapsed, TailAbandonsLapsed, LateListsLapsed, LateAbandonsListed, ReadsAreSettled, CountersAreSums, Headline, Beside, ReliableDelivery, PartialDelivery};
+ghost use Rattle.sctp_model.specs.Laws.{OnEveryRun, EmitsWherePending, TakesPending, IdleIsAnswered, WithinLimit, FilledToLimit, SlotsInOrder, SlotsFollow, OneHalfSent, SentInTurn, IndexesLeaveNoGap, NoEndMarkIsSent, DatagramsStay, Balances, SumsAgree, AcknowledgedArrived, AcknowledgedIsReported, SacksSay, NetworkIsMade, ArrivedIsNew, CumulativeIsSeen, ArrivalsAnswered, WholeIsWhole, NamedIsNamed, SpansFit, MessagesAreWrites, ModesAreKept, ReadsShowMessages, ReadsBeginRun, ReadsBeginWholeRun, ReadsBeginWhole, ReadsDiffer, UnorderedFirst, NothingWhereRead, StartsOnce, LapsesByEvents, ExpiresLapsed, TailAbandonsLapsed, LateListsLapsed, LateAbandonsListed, ReadsAreSettled, ReadsByArrivals, NoneIsLost, CountersAreSums, Headline, Beside, ReliableDelivery, PartialDelivery};
 ghost use Rattle.sctp_model.specs.Sound.{RecordIsSound, SlotsComeSound, SkipsComeSound};
 
 /// A Send answers Idle exactly where no fragment is pending, be memory refused or not; else its
@@ -89,9 +89,20 @@ pub fn lifetimes_end()
     ensures late { OnEveryRun LateAbandonsListed }
 {}
 
-/// Where nothing expires, is abandoned or skipped, two histories with the same writes, in the same modes, and the same fragments arrived read, in the end, the same ordered messages, and the same set of unordered ones.
+/// Where no message of a stream was lost, what is read of it in the end is settled by the writes on
+/// it (each message, and whether it is ordered) and by which of its messages arrived wholly. Two
+/// histories, even of links with other first TSNs, fragment sizes and limits, that agree in these
+/// read the same ordered messages in the same order, and the same set of unordered ones. All else
+/// may differ: lifetimes and when they start, what is written, arrives, expires, is abandoned or
+/// skipped on other streams, fragments that arrived of messages that did not arrive wholly, in which
+/// datagrams and in which order, SACKs, and what the sender abandoned of the stream itself.
+/// Lost is an ordered message that expired, or that a skip passed over before it arrived wholly, and
+/// an unordered one that arrived wholly, but only after a skip covered a part of it (RFC 3758 3.6);
+/// without an Expire, Tail, Late, Abandon and Skip no message is lost.
 pub fn reads_are_settled()
     ensures settled { ReadsAreSettled }
+    ensures by_arrivals { OnEveryRun ReadsByArrivals }
+    ensures none_lost { OnEveryRun NoneIsLost }
 {}
 
 /// The counters of a stream are the saturated sums over its writes and its reads.
@@ -106,7 +117,12 @@ pub fn records_are_sound()
     ensures skips { OnEveryRun SkipsComeSound }
 {}
 
-/// What holds of every history of a link, for every first TSN, fragment size, greatest message and limit: each Send emits a pending fragment while one exists; reading until nothing is left gives exactly each whole unordered message once and, per stream in writing order, the whole ordered messages up to the last named, then the unbroken whole run; only what arrived or was skipped is acknowledged; written bytes equal pending plus in flight plus released. Beside it: slots, limits of datagrams, arrivals, lifetimes, counters, and delivery without loss.
+/// All laws of this module at once, for every history of a link, every first TSN, fragment size,
+/// greatest message and limit: each Send emits a pending fragment while one exists; reading until
+/// nothing is left gives exactly each whole unordered message once and, per stream in writing order,
+/// the whole ordered messages up to the last named, then the unbroken whole run; only what arrived or
+/// was skipped is acknowledged; written bytes equal pending plus in flight plus released. Beside it:
+/// slots, limits of datagrams, arrivals, lifetimes, counters, reads without loss, and sound records.
 pub fn every_history()
     ensures headline { Headline }
     ensures beside { Beside }

@@ -119,7 +119,7 @@ kept-halves t r from (suc count) down = step (t from) (r from) refl refl (kept-h
         let none : reads' ≡ [] = kept-none (λ k. t k && r k) (from + 1) count (λ k a b. fails (t k && r k) (λ g. let c = both (t k) (r k) g in not_both (sym f ∙ down from k (omega arith) e c.0 c.1))) in
         ap (λ l. from ∷ l) (ih ∙ ap (λ l. l ++ others) none) ∙ sym (ap (λ l. l ++ from ∷ others) none)
 
-passing-kept : (q p : ℕ → Bool) (from count : ℕ) → passing q (kept p from count) ≡ kept (λ k. p k && q k) from count
+pub passing-kept : (q p : ℕ → Bool) (from count : ℕ) → passing q (kept p from count) ≡ kept (λ k. p k && q k) from count
 passing-kept q p from zero = refl
 passing-kept q p from (suc count) = step (p from) (q from) refl (passing-kept q p (from + 1) count)
   where

@@ -1,5 +1,7 @@
 -- A script played by the definitions: the answer to each event in the record reached so far, and what is shown of that record.
-use Rattle.std.specs.Prelude.{ℕ, Bool, false, List, [], ◌∷◌, length, map, Option, Some, None, unwrap_or}
+use Rattle.std.proofs.Common.{◌≡◌, refl}
+use Rattle.std.specs.Prelude.{ℕ, Bool, true, false, ◌&&◌, List, [], ◌∷◌, length, map, Option, Some, None, is_none, unwrap_or}
+use Rattle.sctp_lists.proofs.More.{both}
 use Rattle.sctp_model.specs.declared.event.Event.{Event}
 use Rattle.sctp_chunks.specs.declared.chunk.chunk_payload_data.PayloadProtocolIdentifier.{PayloadProtocolIdentifier}
 use Rattle.sctp_chunks.specs.declared.chunk.chunk_payload_data.ChunkPayloadData.{ChunkPayloadData}
@@ -7,10 +9,11 @@ use Rattle.sctp_chunks.specs.ChunkSet.{ChunkSet, fresh}
 use Rattle.sctp_model.specs.Reply.{Reply}
 use Rattle.sctp_model.specs.Reply as R
 use Rattle.sctp_model.specs.declared.event.LinkRefusal.{LinkRefusal}
-use Rattle.sctp_model.specs.World.{StreamRecord, Datagram, World, Forward}
+use Rattle.sctp_model.specs.World.{Setup, StreamRecord, Datagram, World, Forward}
 use Rattle.sctp_model.specs.Messages
 use Rattle.sctp_model.specs.Changes
 use Rattle.sctp_model.specs.Steps
+use Rattle.sctp_model.specs.Steps.{History, IsRun}
 use Rattle.sctp_model.specs.Amounts.{buffered_amount, Counters, counters_of}
 use Rattle.sctp_model.specs.Contents.{Contents, contents_of}
 use Rattle.sctp_model.specs.Queues.{PendingFragment, pending_of, InFlightChunk, in_flight_of, filter_of, reassembly_of}
@@ -71,6 +74,30 @@ play w (e ∷ es) = answer_to w e ∷ play (next w e) es
 abbrev pub played : World → List Asked → World
 played w [] = w
 played w (e ∷ es) = played (next w e) es
+
+-- ## Histories
+
+-- these events, with the right replies, after a history
+abbrev pub told : Setup → List Event → History → History
+told setup [] h = h
+told setup (e ∷ es) h = told setup es ((e, Steps.reply_to (Steps.world_of setup h) e) ∷ h)
+
+-- none of them is refused
+abbrev pub accepted : Setup → List Event → History → Bool
+accepted setup [] h = true
+accepted setup (e ∷ es) h =
+    is_none (Steps.refusal_of (Steps.world_of setup h) e) && accepted setup es ((e, Steps.reply_to (Steps.world_of setup h) e) ∷ h)
+
+none-is : (o : Option LinkRefusal) → is_none o ≡ true → o ≡ None
+none-is None e = refl
+none-is (Some refusal) e = cc
+
+pub told-run : (setup : Setup) (es : List Event) (h : History) → accepted setup es h ≡ true → IsRun setup h → IsRun setup (told setup es h)
+told-run setup [] h e run = run
+told-run setup (x ∷ xs) h e run =
+    let now = (x, Steps.reply_to (Steps.world_of setup h) x) ∷ h in
+    let a = both (is_none (Steps.refusal_of (Steps.world_of setup h) x)) (accepted setup xs now) e in
+    told-run setup xs now a.1 (none-is (Steps.refusal_of (Steps.world_of setup h) x) a.0, (refl, run))
 
 -- ## What is shown of the record in the end
 

@@ -5,17 +5,12 @@ use Rattle.sctp_chunks.specs.declared.chunk.chunk_payload_data.PayloadProtocolId
 use Rattle.sctp_chunks.specs.declared.chunk.chunk_payload_data.ReliabilityType.TheVariants as T
 use Rattle.sctp_model.specs.declared.event.Event.{Event}
 use Rattle.sctp_model.specs.declared.event.Event.TheVariants as E
-use Rattle.sctp_model.specs.Reply as R
 use Rattle.sctp_model.specs.World.{Setup}
 use Rattle.sctp_model.specs.Contents.{Contents, DataContents, datagram}
 use Rattle.sctp_model.specs.Log.{has_lapsed}
-use Rattle.sctp_model.specs.Steps.{History, world_of, reply_to, may_want_memory}
+use Rattle.sctp_model.specs.Steps.{History, world_of, may_want_memory}
 use Rattle.sctp_model.specs.Laws.{data_length, packet_length, next_fragment, lapsed_unsent, lapsed_half_sent, lapsed_slots}
-
--- these events, with the right replies, after a history
-abbrev told : Setup → List Event → History → History
-told setup [] h = h
-told setup (e ∷ es) h = told setup es ((e, reply_to (world_of setup h) e) ∷ h)
+use Rattle.sctp_model.proofs.scripts.Play.{told}
 
 abbrev setup_of : ℕ → Setup
 setup_of limit = record { first = 10; size = 3; largest = 100; limit = limit }
