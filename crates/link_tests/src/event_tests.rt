@@ -1,11 +1,12 @@
 //! Expiry, abandonment and FORWARD-TSN: the bytes of datagrams, the ledger, and what the lent queues hold.
 
-use crate::tests::{Zero, binary, carries, is_new, is_nothing, sent, shows};
+use crate::tests::{Counted, Zero, binary, carries, is_new, is_nothing, sent, shows};
 use sctp_chunks::chunk::chunk_payload_data::ReliabilityType;
 use sctp_link::event::{Event, Reply};
 use sctp_link::link::Link;
 use sctp_link::link::lending::Ledger;
 use std::alloc::Global;
+use std::cell::Cell;
 use std::test::Fail;
 
 /// Sets stream 1 to ordered messages with a lifetime of a millisecond, or with none.
@@ -219,5 +220,21 @@ fn a_skip_is_acknowledged(rt: HostRuntime) -> Result<(), Fail> {
         )
     );
     assert!(rt; sums(&link, 8, 0, 0, 8));
+    Ok(())
+}
+
+/// Each arrival of a FORWARD-TSN reads its bytes, so it asks the checksum.
+#[test]
+fn skips_read_the_bytes(rt: HostRuntime) -> Result<(), Fail> {
+    let alloc = rt.alloc();
+    let calls = Cell::new(0);
+    let mut link = Link::new(alloc, 10, 3, 100, Counted { calls: &calls });
+    assert!(rt; sent(alloc, &mut link, &[b"abc"], 1)?);
+    assert!(rt; link.step(skip(alloc, 10, &[0])?).is_ok());
+    for _ in 0..2 {
+        let before = calls.get();
+        assert!(rt; link.step(Event::Arrive { k: 1 }).is_ok());
+        assert!(rt; before < calls.get());
+    }
     Ok(())
 }
