@@ -1,5 +1,5 @@
-//! Parameters (RFC 4960 3.2.1): a type and a length, two bytes each, and a value. The length counts its four header
-//! bytes and the value, not the padding behind it.
+//! Parameters (RFC 4960 3.2.1): a type and a length, two bytes each, and a value.
+//! The length counts its four header bytes and the value, not the padding behind it.
 
 ghost use Rattle.std.specs.Prelude.{◌≡◌, ◌+◌, ◌≤◌, ◌<◌, ◌^◌, ◌++◌, ◌⊎◌, ℕ, List, length, IfOk, IfErr, OnErr, IsOkUnless};
 ghost use Rattle.sctp_base.specs.declared.error.Error.{Error};
@@ -41,8 +41,8 @@ pub trait Param {
     // what must stand in the bytes for a refusal
     ghost fault: { Error → List ℕ → Type 0 };
 
-    /// Reads the parameter that the bytes begin with. It ends at its declared length; what stands behind belongs to
-    /// whoever reads next. Of the single kinds only `ParamChunkList` tests the type number.
+    /// Reads the parameter that the bytes begin with. It ends at its declared length; what stands behind
+    /// belongs to whoever reads next. Of the single kinds only `ParamChunkList` tests the type number.
     /// Refuses with `ErrParamHeaderTooShort`, with the kind's own error, or for memory.
     fn unmarshal(alloc: Global, raw: &Bytes) -> Result<Self>
     where
@@ -75,8 +75,8 @@ pub trait Param {
         ensures ok { IfOk result (λ p. wire p ≡ wire self.now) }
         ensures memory { IsOkUnless result ErrOutOfMemory };
 
-    /// The header that the parameter is written with. Refuses with `ErrLengthTooLarge`, exactly where four bytes
-    /// and the value are more than 65,535.
+    /// The header that the parameter is written with. Refuses with `ErrLengthTooLarge`,
+    /// exactly where four bytes and the value are more than 65,535.
     fn header(&self) -> Result<ParamHeader>
         ensures ok { IfOk result (λ h. HasParamText (wire self.now) × (h.typ ≡ param_type_of (wire self.now))
             × (h.value_length ≡ length (param_value_of (wire self.now)))) }
@@ -99,8 +99,8 @@ pub trait Param {
     }
 
     /// Appends the parameter, with no padding, and answers the buffer's length.
-    /// Refuses with `ErrLengthTooLarge` as `header` does, or for memory where the buffer lacked room. The buffer's
-    /// bytes are as they were then.
+    /// Refuses with `ErrLengthTooLarge` as `header` does, or for memory where the
+    /// buffer lacked room. The buffer's bytes are as they were then.
     fn marshal_to(&self, buf: &mut BytesMut) -> Result<usize>
         ensures ok { IfOk result (λ n. HasParamText (wire self.now)
             × (buf.new.items ≡ buf.old.items ++ param_text (wire self.now)) × (n ≡ length buf.new.items)) }

@@ -33,8 +33,8 @@ pub fn sna32lte(i1: u32, i2: u32) -> bool
     i2.wrapping_sub(i1) < 1 << 31
 }
 
-/// Whether `i1` is neither `i2` nor before it: at a distance of exactly 2^31, which RFC 1982 3.2 leaves undefined,
-/// it is so in both directions.
+/// Whether `i1` is neither `i2` nor before it: at a distance of exactly 2^31, which
+/// RFC 1982 3.2 leaves undefined, it is so in both directions.
 #[tactic(auto, unfolding(sctp_lists::specs::Serial::distance, sctp_lists::specs::Serial::comes_before, sctp_lists::specs::Serial::comes_after))]
 pub fn sna32gt(i1: u32, i2: u32) -> bool
     ensures { result ≡ comes_after i1 i2 }
@@ -58,8 +58,8 @@ pub fn sna32eq(i1: u32, i2: u32) -> bool
     i1 == i2
 }
 
-/// Whether `i1` comes before `i2`: `i2` lies 1 to 2^15 - 1 after it (RFC 1982 3.2). Stream sequence numbers are
-/// compared so (RFC 4960 1.6).
+/// Whether `i1` comes before `i2`: `i2` lies 1 to 2^15 - 1 after it (RFC 1982 3.2).
+/// Stream sequence numbers are compared so (RFC 4960 1.6).
 #[tactic(auto, unfolding(sctp_lists::specs::Serial::distance16, sctp_lists::specs::Serial::comes_before16))]
 pub fn sna16lt(i1: u16, i2: u16) -> bool
     ensures { result ≡ comes_before16 i1 i2 }
@@ -77,8 +77,8 @@ pub fn sna16lte(i1: u16, i2: u16) -> bool
     i2.wrapping_sub(i1) < 1 << 15
 }
 
-/// Whether `i1` is neither `i2` nor before it: at a distance of exactly 2^15, which RFC 1982 3.2 leaves undefined,
-/// it is so in both directions.
+/// Whether `i1` is neither `i2` nor before it: at a distance of exactly 2^15, which
+/// RFC 1982 3.2 leaves undefined, it is so in both directions.
 #[tactic(auto, unfolding(sctp_lists::specs::Serial::distance16, sctp_lists::specs::Serial::comes_before16, sctp_lists::specs::Serial::comes_after16))]
 pub fn sna16gt(i1: u16, i2: u16) -> bool
     ensures { result ≡ comes_after16 i1 i2 }
@@ -109,20 +109,20 @@ pub fn get_padding_size(len: usize) -> usize
     (PADDING_MULTIPLE - len % PADDING_MULTIPLE) % PADDING_MULTIPLE
 }
 
-/// A checksum of packets: one function of a packet's bytes, taken with four zero bytes where the checksum itself
-/// stands (RFC 4960 6.8, Appendix B). Each function will do; SCTP's own is CRC-32C.
+/// A checksum of packets: one function of a packet's bytes, taken with four zero bytes where the
+/// checksum itself stands (RFC 4960 6.8, Appendix B). Each function will do; SCTP's own is CRC-32C.
 pub trait Checksum {
     // the sum of the bytes
     ghost sum: { Self → List ℕ → ℕ };
 
-    /// The sum of `head`, four zero bytes and `tail`: `head` is bytes 0 to 7 of a packet, `tail` all from byte 12
-    /// on. It is written into bytes 8 to 11 with the lowest byte first.
+    /// The sum of `head`, four zero bytes and `tail`: `head` is bytes 0 to 7 of a packet,
+    /// `tail` all from byte 12 on. It is written into bytes 8 to 11 with the lowest byte first.
     fn checksum(&self, head: &[u8], tail: &[u8]) -> u32
         ensures { result ≡ sum self.now (head.now ++ four_zeroes ++ tail.now) };
 }
 
-/// The number that says what a chunk is, its first byte (RFC 4960 3.2). It prints as its name, or as `Unknown
-/// ChunkType: N`.
+/// The number that says what a chunk is, its first byte (RFC 4960 3.2). It prints
+/// as its name, or as `Unknown ChunkType: N`.
 #[derive(Clone, Copy, Debug, PartialEq, Eq)]
 pub struct ChunkType(pub u8);
 

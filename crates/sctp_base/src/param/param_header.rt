@@ -18,8 +18,8 @@ use std::fmt;
 /// The bytes of a header: type and length, two each.
 pub const PARAM_HEADER_LENGTH: usize = 4;
 
-/// What a parameter is, and how many bytes its value has (RFC 4960 3.2.1). The length that is written counts the
-/// header's four bytes too.
+/// What a parameter is, and how many bytes its value has (RFC 4960 3.2.1). The
+/// length that is written counts the header's four bytes too.
 #[derive(Clone, Copy, Debug, PartialEq, Eq)]
 pub struct ParamHeader {
     pub typ: ParamType,
@@ -35,8 +35,8 @@ impl fmt::Display for ParamHeader {
 }
 
 impl ParamHeader {
-    /// The header of a parameter with a value of so many bytes. Refuses with `ErrLengthTooLarge`, exactly where
-    /// four bytes and the value are more than 65,535.
+    /// The header of a parameter with a value of so many bytes. Refuses with
+    /// `ErrLengthTooLarge`, exactly where four bytes and the value are more than 65,535.
     pub fn of(typ: ParamType, value_length: usize) -> Result<Self>
         ensures ok { IfOk result (λ h. (4 + value_length < 2 ^ 16) × (h.typ ≡ typ) × (h.value_length ≡ value_length)) }
         ensures err { IfErr result (λ e. (e ≡ ErrLengthTooLarge) × (2 ^ 16 ≤ 4 + value_length)) }
@@ -50,8 +50,8 @@ impl ParamHeader {
         })
     }
 
-    /// Reads the header of the parameter that the bytes begin with. Refuses with `ErrParamHeaderTooShort`, where
-    /// there are under four bytes, the length is under four, or it passes the bytes.
+    /// Reads the header of the parameter that the bytes begin with. Refuses with `ErrParamHeaderTooShort`,
+    /// where there are under four bytes, the length is under four, or it passes the bytes.
     pub fn unmarshal(raw: &Bytes) -> Result<Self>
         ensures is_param { IfOk result (λ h. IsParam raw.now) }
         ensures fields { IfOk result (λ h. (h.typ ≡ type_from (param_type_at raw.now)) × (4 + h.value_length ≡ param_declared raw.now)) }
@@ -80,8 +80,8 @@ impl ParamHeader {
     }
 
     /// Appends the header, and answers the buffer's length.
-    /// Refuses with `ErrLengthTooLarge` as `of` does, or for memory where the buffer lacked room for four bytes.
-    /// The buffer's bytes are as they were then.
+    /// Refuses with `ErrLengthTooLarge` as `of` does, or for memory where the
+    /// buffer lacked room for four bytes. The buffer's bytes are as they were then.
     pub fn marshal_to(&self, buf: &mut BytesMut) -> Result<usize>
         ensures ok { IfOk result (λ n. (4 + self.now.value_length < 2 ^ 16)
             × (buf.new.items ≡ buf.old.items ++ (be16 (type_number self.now.typ) ++ be16 (4 + self.now.value_length)))
@@ -134,8 +134,8 @@ fn lend_value(raw: &[u8], value_length: usize) -> &[u8]
     &raw[PARAM_HEADER_LENGTH..PARAM_HEADER_LENGTH + value_length]
 }
 
-/// Reads the header of a parameter, and lends its value. Refuses as `ParamHeader::unmarshal` does, and takes no
-/// memory.
+/// Reads the header of a parameter, and lends its value. Refuses as
+/// `ParamHeader::unmarshal` does, and takes no memory.
 #[tactic(auto, unfolding(crate::specs::ParamFraming::param_value_at))]
 pub fn open_param(raw: &Bytes) -> Result<(ParamHeader, &[u8])>
     ensures is_param { IfOk result (λ x. IsParam raw.now) }

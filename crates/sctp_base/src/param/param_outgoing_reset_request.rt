@@ -22,16 +22,16 @@ use std::fmt;
 /// Where the stream identifiers begin in the value, in bytes.
 pub const PARAM_OUTGOING_RESET_REQUEST_STREAM_IDENTIFIERS_OFFSET: usize = 12;
 
-/// The request to reset some outgoing streams, or all of them where none is listed (RFC 6525 4.1, type 13). The
-/// value is three numbers of four bytes, then two bytes for each stream.
-/// Refuses a value of under 12 bytes with `ErrSsnResetRequestParamTooShort`, an odd longer one with
-/// `ErrSsnResetRequestParamInvalidLength`.
+/// The request to reset some outgoing streams, or all of them where none is listed (RFC 6525 4.1,
+/// type 13). The value is three numbers of four bytes, then two bytes for each stream.
+/// Refuses a value of under 12 bytes with `ErrSsnResetRequestParamTooShort`, an odd
+/// longer one with `ErrSsnResetRequestParamInvalidLength`.
 #[derive(Debug, Drop, PartialEq, Eq)]
 pub struct ParamOutgoingResetRequest {
     /// The number of this request: it begins at the initial TSN and rises by one with each request.
     pub reconfig_request_sequence_number: u32,
-    /// Where this request answers one of the peer's, the number of that request; else the next number expected,
-    /// minus one.
+    /// Where this request answers one of the peer's, the number of that request;
+    /// else the next number expected, minus one.
     pub reconfig_response_sequence_number: u32,
     /// The last TSN that the sender assigned.
     pub sender_last_tsn: u32,

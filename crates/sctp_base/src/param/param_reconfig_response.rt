@@ -15,8 +15,8 @@ use bytes::{Bytes, BytesMut};
 use std::alloc::Global;
 use std::fmt;
 
-/// What became of a request (RFC 6525 4.4). Any other number than 0 to 6 is read as `Unknown`, which is written as
-/// 7. It prints as its number and name.
+/// What became of a request (RFC 6525 4.4). Any other number than 0 to 6 is read as
+/// `Unknown`, which is written as 7. It prints as its number and name.
 #[derive(Clone, Copy, Debug, PartialEq, Eq)]
 pub enum ReconfigResult {
     /// Success, there was nothing to do.
@@ -84,8 +84,8 @@ impl From<ReconfigResult> for u32 {
     }
 }
 
-/// The response to a request, by the request's number (RFC 6525 4.4, type 16). The value is two numbers of four
-/// bytes, and two more where TSNs are named; what follows is ignored.
+/// The response to a request, by the request's number (RFC 6525 4.4, type 16). The value is
+/// two numbers of four bytes, and two more where TSNs are named; what follows is ignored.
 /// Refuses a value of under eight bytes with `ErrReconfigRespParamTooShort`.
 #[derive(Clone, Copy, Debug, PartialEq, Eq)]
 pub struct ParamReconfigResponse {

@@ -18,8 +18,8 @@ use bytes::{Bytes, BytesMut};
 use std::alloc::Global;
 use std::fmt;
 
-/// How chunks are authenticated (RFC 4895 3.3). Any other number than 0 to 3 is `Unknown`, which is written as 4.
-/// Only 1 and 3 are read in a parameter.
+/// How chunks are authenticated (RFC 4895 3.3). Any other number than 0 to 3 is
+/// `Unknown`, which is written as 4. Only 1 and 3 are read in a parameter.
 #[derive(Clone, Copy, Debug, PartialEq, Eq)]
 pub enum HmacAlgorithm {
     /// Reserved.
@@ -74,8 +74,8 @@ impl From<HmacAlgorithm> for u16 {
     }
 }
 
-/// The algorithms, the preferred one first (RFC 4895 3.3, type 32772). The value is two bytes for each; a last odd
-/// byte is ignored.
+/// The algorithms, the preferred one first (RFC 4895 3.3, type 32772). The value is
+/// two bytes for each; a last odd byte is ignored.
 /// Refuses another number than 1 and 3 with `ErrInvalidAlgorithmType`.
 #[derive(Debug, Drop, PartialEq, Eq)]
 pub struct ParamRequestedHmacAlgorithm {

@@ -27,8 +27,8 @@ impl fmt::Display for ParamStateCookie {
 }
 
 impl ParamStateCookie {
-    /// A cookie of these 32 bytes, which the caller is to draw at random: there is no random source here. Refuses
-    /// only for memory.
+    /// A cookie of these 32 bytes, which the caller is to draw at random: there is
+    /// no random source here. Refuses only for memory.
     pub fn new(alloc: Global, cookie: [u8; 32]) -> Result<Self>
         ensures ok { IfOk result (λ p. p.cookie ≡ cookie) }
         ensures memory { IsOkUnless result ErrOutOfMemory }

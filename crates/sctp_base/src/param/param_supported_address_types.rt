@@ -20,8 +20,8 @@ use bytes::{Bytes, BytesMut};
 use std::alloc::Global;
 use std::fmt;
 
-/// The types of the address parameters that the sender of an INIT can use (RFC 4960 3.3.2.1, type 12). The value is
-/// two bytes for each.
+/// The types of the address parameters that the sender of an INIT can use
+/// (RFC 4960 3.3.2.1, type 12). The value is two bytes for each.
 /// Refuses an odd value with `ErrSupportedAddressTypesParamInvalidLength`.
 #[derive(Debug, Drop, PartialEq, Eq)]
 pub struct ParamSupportedAddressTypes {

@@ -10,8 +10,8 @@ use bytes::Bytes;
 use std::alloc::Global;
 use std::mem;
 
-/// Whether two byte strings are equal. Where their lengths are, the loop looks at all bytes, so that the place of a
-/// difference does not show in its time; nothing is proved of time.
+/// Whether two byte strings are equal. Where their lengths are, the loop looks at all bytes,
+/// so that the place of a difference does not show in its time; nothing is proved of time.
 pub fn constant_time_eq(a: &[u8], b: &[u8]) -> bool
     ensures { IsTrue result ↔ (a.now ≡ b.now) }
 {
@@ -28,8 +28,8 @@ pub fn constant_time_eq(a: &[u8], b: &[u8]) -> bool
 /// The number of an association.
 pub type AssociationId = u32;
 
-/// Gives numbers to associations. Only the interface is here: nothing is promised of the numbers, not even that
-/// none comes twice.
+/// Gives numbers to associations. Only the interface is here: nothing is promised
+/// of the numbers, not even that none comes twice.
 pub trait AssociationIdGenerator: Send + Sync {
     /// The next number.
     fn generate_aid(&mut self) -> AssociationId;
@@ -38,14 +38,14 @@ pub trait AssociationIdGenerator: Send + Sync {
     fn aid_lifetime(&self) -> Option<u64>;
 }
 
-/// A source of one or more buffers, which are made into `Bytes` as they are asked for. The pieces, joined, are the
-/// bytes of the source.
+/// A source of one or more buffers, which are made into `Bytes` as they are asked
+/// for. The pieces, joined, are the bytes of the source.
 pub trait BytesSource {
     // the bytes that are left
     ghost left: { Self → List ℕ };
 
-    /// The next piece, of at most `limit` bytes, and how many whole chunks of the source it used up, empty ones
-    /// that were skipped included. It is empty exactly where the limit is 0 or nothing is left.
+    /// The next piece, of at most `limit` bytes, and how many whole chunks of the source it used up, empty
+    /// ones that were skipped included. It is empty exactly where the limit is 0 or nothing is left.
     /// Refuses only for memory, and what is left is the same then.
     fn pop_chunk(&mut self, alloc: Global, limit: usize) -> Result<(Bytes, usize)>
         ensures joins { IfOk result (λ p. p.0 ++ left self.new ≡ left self.old) }
