@@ -61,7 +61,9 @@ impl OpenStreams {
         Ok(())
     }
 
-    /// The index of the next ordered message of a stream that is begun, which is begun; 0 where the stream is not open.
+    /// The index of the next ordered message of a stream that is begun, which is
+    /// begun; 0 where the stream is not open.
+    /// Precondition: fewer than the greatest u64 were begun.
     pub fn begin(&mut self, stream: u16) -> u64
         requires indexed { IsIndexed self.old.places (stream_numbers self.old.items.items) }
         requires few { begun_of stream self.old.items.items + 1 < 2 ^ 64 }
@@ -79,6 +81,7 @@ impl OpenStreams {
     }
 
     /// Takes a message that expired off its stream, where it is open.
+    /// Precondition: it has fewer than 2^63 bytes.
     pub fn expire(&mut self, stream: u16, ordered: bool, bytes: usize)
         requires indexed { IsIndexed self.old.places (stream_numbers self.old.items.items) }
         requires short { bytes < 2 ^ 63 }
@@ -92,6 +95,7 @@ impl OpenStreams {
     }
 
     /// Takes bytes off the amount of a stream, where it is open.
+    /// Precondition: they are fewer than 2^63.
     pub fn release(&mut self, stream: u16, bytes: usize)
         requires indexed { IsIndexed self.old.places (stream_numbers self.old.items.items) }
         requires short { bytes < 2 ^ 63 }

@@ -22,6 +22,7 @@ impl<C: Checksum + Drop> Link<C> {
     ghost use Rattle.sctp_model.specs.declared.event.Event.TheVariants as E;
     ghost use Rattle.sctp_link.specs.Replies.{reply_of};
 
+    /// Opens a stream. Refuses only for memory, and nothing changes then.
     pub(super) fn open(&mut self, stream: u16) -> Result<Reply>
         requires { refusal_of self.old.world (E.Open stream) ≡ None }
         ensures ok { IfOk result (λ reply. IsRight self.old.world (E.Open stream) (reply_of reply) self.new.world) }
@@ -39,6 +40,7 @@ impl<C: Checksum + Drop> Link<C> {
         Ok(Reply::Opened)
     }
 
+    /// Sets the mode of later writes.
     pub(super) fn mode(
         &mut self,
         stream: u16,
@@ -59,6 +61,7 @@ impl<C: Checksum + Drop> Link<C> {
         Reply::Set
     }
 
+    /// Why a write of `len` bytes is refused, if it is.
     pub(super) fn refusal_write(&self, stream: u16, len: usize) -> Option<LinkRefusal>
         ensures { (ppi : PayloadProtocolIdentifier) (bytes : List ℕ) → len ≡ length bytes → result ≡ refusal_of self.now.world (E.Write stream ppi bytes) }
     {
@@ -75,6 +78,7 @@ impl<C: Checksum + Drop> Link<C> {
         None
     }
 
+    /// Takes a write. Refuses only for memory, and nothing changes then.
     pub(super) fn write(
         &mut self,
         stream: u16,
@@ -114,6 +118,7 @@ impl<C: Checksum + Drop> Link<C> {
         })
     }
 
+    /// Starts the lifetimes of the messages written since the last time; `now` is in nanoseconds.
     pub(super) fn start(&mut self, now: u64) -> Reply
         ensures right { IsRight self.old.world (E.Start now) (reply_of result) self.new.world }
         ensures checksum { self.new.checksum ≡ self.old.checksum }
