@@ -32,7 +32,7 @@ mod params;
 use bytes::{Bytes, BytesMut};
 use chunk_header::{ChunkHeader, put_header};
 use sctp_base::error::Result;
-use sctp_base::util::ChunkType;
+pub use sctp_base::util::ChunkType;
 use std::alloc::Global;
 
 /// What every kind of chunk can do. Values and lengths count bytes, without the padding behind the chunk.

@@ -7,9 +7,8 @@ ghost use Rattle.sctp_link.specs.Stats.{counted_bytes, with_sent, with_received,
 
 use bytes::Bytes;
 use sctp_base::error::{Error, Result};
-use sctp_chunks::chunk::chunk_payload_data::{
-    ChunkPayloadData, PayloadProtocolIdentifier, ReliabilityType,
-};
+pub use sctp_chunks::chunk::chunk_payload_data::ReliabilityType;
+use sctp_chunks::chunk::chunk_payload_data::{ChunkPayloadData, PayloadProtocolIdentifier};
 use sctp_chunks::chunk::error_cause::ErrorCauseCode;
 use sctp_queues::reassembly_queue::ReassemblyQueue;
 use std::alloc::Global;
