@@ -1,7 +1,8 @@
 //! DATA: user data.
 
-ghost use Rattle.std.specs.Prelude.{◌≡◌, ◌+◌, ◌^◌, ◌<◌, ◌≤◌, ◌++◌, ℕ, length, IfOk, IfErr, IsOkUnless};
+ghost use Rattle.std.specs.Prelude.{◌≡◌, ◌+◌, ◌^◌, ◌<◌, ◌≤◌, ◌++◌, ℕ, Some, length, IfOk, IfErr, IsOkUnless};
 ghost use Rattle.sctp_chunks.specs.PayloadData.{payload_type_from, payload_type_number, data_of, data_value, data_flags};
+ghost use Rattle.sctp_chunks.specs.Names.{payload_type_name, reliability_name};
 ghost use Rattle.sctp_chunks.specs.Reliability.{reliability_from};
 ghost use Rattle.sctp_chunks.specs.Wire.{Wire, data_chunk, IsData, ReadsChunk, HasText, text_of};
 ghost use Rattle.sctp_chunks.specs.Fault.{DataFault};
@@ -154,6 +155,8 @@ pub struct ChunkPayloadData {
 }
 
 impl fmt::Display for PayloadProtocolIdentifier {
+    ghost output = { λ p. Some (payload_type_name p) };
+
     fn fmt<W: fmt::Write>(&self, f: &mut fmt::Formatter<W>) -> fmt::Result {
         f.write_str(match self {
             PayloadProtocolIdentifier::Dcep => "WebRTC DCEP",
@@ -180,6 +183,8 @@ impl From<u8> for ReliabilityType {
 }
 
 impl fmt::Display for ReliabilityType {
+    ghost output = { λ r. Some (reliability_name r) };
+
     fn fmt<W: fmt::Write>(&self, f: &mut fmt::Formatter<W>) -> fmt::Result {
         f.write_str(match self {
             ReliabilityType::Reliable => "Reliable",
