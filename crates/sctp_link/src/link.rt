@@ -237,6 +237,7 @@ impl<C: Checksum + Drop> Link<C> {
 }
 
 /// Puts an item where room was made for it.
+/// Precondition: there is room.
 fn put<T: Drop>(items: &mut Vec<T>, item: T)
     requires { vec_len items.old < vec_capacity items.old }
     ensures { items.new.items ≡ items.old.items ++ item ∷ [] }

@@ -113,7 +113,7 @@ impl PendingQueue {
 
     /// The same where the numbers of each list ascend: it looks at the messages
     /// numbered so, and at the last chunk before them.
-    /// Precondition: they do.
+    /// Precondition: they do. `now` is in nanoseconds.
     pub(crate) fn start_latest_messages(&mut self, first_message_id: u64, now: u64)
         requires ordered { NumbersAscend self.old.ordered }
         requires unordered { NumbersAscend self.old.unordered }

@@ -46,6 +46,7 @@ impl<C: Checksum + Drop> Link<C> {
     }
 
     /// Gives up the message of a TSN in flight. Refuses only for memory, and nothing changes then.
+    /// Precondition: the event is not to be refused.
     pub(super) fn abandon(&mut self, tsn: u32) -> Result<Reply>
         requires { refusal_of self.old.world (E.Abandon tsn) ≡ None }
         ensures ok { IfOk result (λ reply. IsRight self.old.world (E.Abandon tsn) (reply_of reply) self.new.world) }

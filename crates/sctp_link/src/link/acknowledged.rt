@@ -39,6 +39,7 @@ impl<C: Checksum + Drop> Link<C> {
     }
 
     /// Takes datagram k to the sender. Refuses only for memory, and nothing changes then.
+    /// Precondition: the event is not to be refused.
     pub(super) fn acked(&mut self, k: u64) -> Result<Reply>
         requires { refusal_of self.old.world (E.Acked k) ≡ None }
         ensures ok { IfOk result (λ reply. IsRight self.old.world (E.Acked k) (reply_of reply) self.new.world) }

@@ -100,6 +100,7 @@ impl<C: Checksum + Drop> Link<C> {
     }
 
     /// Makes a FORWARD-TSN. Refuses only for memory, and nothing changes then.
+    /// Precondition: the event is not to be refused.
     pub(super) fn skip(&mut self, upto: u32, messages: Vec<u64>) -> Result<Reply>
         requires { skip_refusal self.old.world (place_of self.old.world upto) messages.items ≡ None }
         ensures ok { IfOk result (λ reply. IsRight self.old.world (E.Skip upto messages) (reply_of reply) self.new.world) }

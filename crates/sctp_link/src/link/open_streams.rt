@@ -44,7 +44,8 @@ impl OpenStreams {
         self.places.get(&stream).copied()
     }
 
-    /// Puts a stream after the others.
+    /// Puts a stream after the others. Refuses only for memory, and the streams are as they were then.
+    /// Precondition: its number is not open.
     pub fn push(&mut self, stream: OpenStream) -> Result<()>
         requires indexed { IsIndexed self.old.places (stream_numbers self.old.items.items) }
         requires new { find (has_number stream.state.stream_identifier) self.old.items.items ≡ None }

@@ -102,6 +102,7 @@ impl<C: Checksum + Drop> Link<C> {
     }
 
     /// Takes datagram k to the receiver. Refuses only for memory, and nothing changes then.
+    /// Precondition: the event is not to be refused.
     pub(super) fn arrive(&mut self, k: u64) -> Result<Reply>
         requires { refusal_of self.old.world (E.Arrive k) ≡ None }
         ensures ok { IfOk result (λ reply. IsRight self.old.world (E.Arrive k) (reply_of reply) self.new.world) }
@@ -182,6 +183,7 @@ impl<C: Checksum + Drop> Link<C> {
     }
 
     /// Reads the next message of a stream.
+    /// Precondition: the event is not to be refused.
     pub(super) fn read(&mut self, stream: u16) -> Reply
         requires { refusal_of self.old.world (E.Read stream) ≡ None }
         ensures right { IsRight self.old.world (E.Read stream) (reply_of result) self.new.world }

@@ -84,6 +84,7 @@ impl<C: Checksum + Drop> Link<C> {
     }
 
     /// Sends the chunk of a TSN again. Refuses only for memory, and nothing changes then.
+    /// Precondition: the event is not to be refused.
     pub(super) fn resend(&mut self, tsn: u32) -> Result<Reply>
         requires { refusal_of self.old.world (E.Resend tsn) ≡ None }
         ensures ok { IfOk result (λ reply. IsRight self.old.world (E.Resend tsn) (reply_of reply) self.new.world) }

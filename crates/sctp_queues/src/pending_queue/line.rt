@@ -206,6 +206,7 @@ impl Line {
     }
 
     /// The same where numbers ascend: it looks at the messages numbered so, and at the last chunk before them.
+    /// Precondition: they do. `now` is in nanoseconds.
     pub(crate) fn start_latest_messages(&mut self, first_message_id: u64, now: u64)
         requires { NumbersAscend self.old.chunks }
         ensures started { self.new ≡ with_chunks self.old (change_where (is_to_start first_message_id) (with_deadline now) self.old.chunks) }
