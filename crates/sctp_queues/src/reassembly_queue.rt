@@ -150,7 +150,7 @@ impl ReassemblyQueue {
         self.n_bytes
     }
 
-    /// Lowers the byte count by so many bytes; it stops at 0.
+    /// Lowers the byte count, which stops at 0.
     pub fn subtract_num_bytes(&mut self, n_bytes: usize)
         ensures { self.new ≡ record self.old { bytes = self.old.bytes - n_bytes } }
     {
@@ -267,8 +267,7 @@ impl ReassemblyQueue {
         }
     }
 
-    /// Takes the run that ends earliest out of the loose fragments, if there is one. The byte count
-    /// stays. A push does so by itself. Refuses only for memory, and the queue is as it was then.
+    /// Takes the run that ends earliest out of the loose fragments, if there is one. The byte count stays.
     pub fn find_complete_unordered_chunk_set(&mut self, alloc: Global) -> Result<Option<Chunks>>
         ensures ok { IfOk result (λ set. MatchOption set (HasNoRun self.old.held.loose × (self.new ≡ self.old)) (λ chunks. GivesRun self.old self.new chunks.set × (chunks ≡ at_start chunks.set))) }
         ensures err { OnErr result (self.new ≡ self.old) }
