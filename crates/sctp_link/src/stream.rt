@@ -173,7 +173,7 @@ impl StreamState {
 
     /// A stream that is open both ways, ordered and reliable, with fragments of at most `max_payload_size`
     /// bytes of user data and messages of at most `max_receive_message_size` bytes. All counts are 0, the
-    /// low threshold too; the high one is the greatest usize, which turns it off. It takes no memory.
+    /// low threshold too; the high one is the greatest usize. It takes no memory.
     /// Precondition: `max_payload_size` is 1 to 65,519.
     pub fn new(
         alloc: Global,
@@ -214,7 +214,7 @@ impl StreamState {
         }
     }
 
-    /// Cuts a write into fragments of `max_payload_size` bytes, the last one shorter,
+    /// Cuts a write into fragments of `max_payload_size` bytes, the last one of what is left,
     /// and says whether the buffered amount rose from under to at least the high
     /// threshold. Messages that establish a channel are ordered always (RFC 8832 6).
     ///
@@ -546,7 +546,7 @@ impl StreamState {
         self.reassembly_queue.push(chunk)
     }
 
-    /// Whether it can be read from.
+    /// Whether the direction of reads is open.
     pub fn is_readable(&self) -> bool
         ensures { result ≡ can_read self.now.state }
     {
@@ -556,7 +556,7 @@ impl StreamState {
         )
     }
 
-    /// Whether it can be written to.
+    /// Whether the direction of writes is open.
     pub fn is_writable(&self) -> bool
         ensures { result ≡ can_write self.now.state }
     {
