@@ -2,8 +2,9 @@
 
 use bytes::Bytes;
 use sctp_base::error::Error;
-use sctp_chunks::chunk::chunk_payload_data::{PayloadProtocolIdentifier, ReliabilityType};
-use sctp_link::stream::{DataChannelStats, RecvSendState, StreamState};
+use sctp_chunks::PayloadProtocolIdentifier;
+use sctp_link::stream::ReliabilityType;
+use sctp_link::{DataChannelStats, RecvSendState, StreamState};
 use std::alloc::Global;
 use std::test::Fail;
 

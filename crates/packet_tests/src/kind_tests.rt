@@ -4,10 +4,10 @@ use sctp_base::error::Error;
 use sctp_base::param::param_forward_tsn_supported::ParamForwardTsnSupported;
 use sctp_base::param::param_heartbeat_info::ParamHeartbeatInfo;
 use sctp_base::param::param_kind::ParamKind;
-use sctp_base::util::{CT_ABORT, CT_FORWARD_TSN, CT_I_FORWARD_TSN, CT_SACK, ChunkType};
-use sctp_chunks::chunk::Chunk;
+use sctp_base::util::{CT_ABORT, CT_FORWARD_TSN, CT_I_FORWARD_TSN, CT_SACK};
 use sctp_chunks::chunk::chunk_abort::ChunkAbort;
 use sctp_chunks::chunk::chunk_forward_tsn::{ChunkForwardTsn, ChunkForwardTsnStream};
+use sctp_chunks::chunk::chunk_header::ChunkHeader;
 use sctp_chunks::chunk::chunk_heartbeat_ack::ChunkHeartbeatAck;
 use sctp_chunks::chunk::chunk_i_forward_tsn::{ChunkIForwardTsn, ChunkIForwardTsnStream};
 use sctp_chunks::chunk::chunk_init::ChunkInit;
@@ -15,7 +15,8 @@ use sctp_chunks::chunk::chunk_kind::ChunkKind;
 use sctp_chunks::chunk::chunk_reconfig::ChunkReconfig;
 use sctp_chunks::chunk::chunk_selective_ack::{ChunkSelectiveAck, GapAckBlock};
 use sctp_chunks::chunk::error_cause::{ErrorCause, USER_INITIATED_ABORT};
-use sctp_packets::packet::Packet;
+use sctp_chunks::chunk::{Chunk, ChunkType};
+use sctp_packets::Packet;
 use std::alloc::Global;
 use std::test::Fail;
 
@@ -36,10 +37,20 @@ fn prints_so(alloc: Global, chunks: &[u8], expected: &str) -> Result<bool, Fail>
 }
 
 // Each row: chunks, how they print, and how they are written where that differs.
-const ROWS: [(&[u8], &str, Option<&[u8]>); 14] = [
+const ROWS: [(&[u8], &str, Option<&[u8]>); 17] = [
+    (
+        b"\0\x03\0\x13\0\0\0\x0a\0\x01\0\0\0\0\0\x35abc\0",
+        "DATA\n10;",
+        None,
+    ),
     (
         b"\x82\0\0\x18\0\x10\0\x14\0\0\0\x01\0\0\0\x01\0\0\0\x07\0\0\0\x08",
         "Param A:\n Re-configuration Response Parameter 1 1: Success - Performed;",
+        None,
+    ),
+    (
+        b"\x82\0\0\x26\0\x10\0\x0c\0\0\0\x01\0\0\0\x01\0\x0d\0\x16\0\0\0\x01\0\0\0\x02\0\0\0\x03\0\x04\0\x05\0\x06\0\0",
+        "Param A:\n Re-configuration Response Parameter 1 1: Success - PerformedParam B:\n Outgoing SSN Reset Request Parameter 1 2 3 [4, 5, 6];",
         None,
     ),
     (b"\x04\0\0\x0a\0\x01\0\x06\x61\x62\0\0", "HEARTBEAT;", None),
@@ -87,6 +98,11 @@ const ROWS: [(&[u8], &str, Option<&[u8]>); 14] = [
     (
         b"\x09\0\0\x09\0\x0d\0\x05\x2a\0\0\0",
         "ERROR\n - Protocol Violation;",
+        None,
+    ),
+    (
+        b"\x09\0\0\x08\0\x0e\0\x04",
+        "ERROR\n - Unknown CauseCode: 14;",
         None,
     ),
     (b"\x07\0\0\x08\0\0\0\x0a", "SHUTDOWN;", None),
@@ -384,6 +400,24 @@ fn pairs_alone(rt: HostRuntime) -> Result<(), Fail> {
     assert!(rt; written.as_slice() == b"\0\x01\0\x02".as_slice());
     let short = ChunkForwardTsnStream::unmarshal(&raw.slice(..3)?).err();
     assert!(rt; short == Some(Error::ErrChunkTooShort));
+    Ok(())
+}
+
+// A header prints the name of its type, a pair its two numbers, a refusal its name.
+#[test]
+fn parts_print(rt: HostRuntime) -> Result<(), Fail> {
+    let header = ChunkHeader {
+        typ: CT_SACK,
+        flags: 0,
+        value_length: 4,
+    };
+    let pair = ChunkForwardTsnStream {
+        identifier: 1,
+        sequence: 2,
+    };
+    let refusal = Error::ErrShortBuffer;
+    let text = format!(in rt.alloc(); "{header}: {pair}: {refusal}")?;
+    assert!(rt; text.as_str() == "SACK: 1, 2: ErrShortBuffer");
     Ok(())
 }
 

@@ -1,4 +1,5 @@
-//! Parameters (RFC 4960 3.2.1).
+//! Parameters (RFC 4960 3.2.1): a type and a length, two bytes each, and a value.
+//! The length counts its four header bytes and the value, not the padding behind it.
 
 ghost use Rattle.std.specs.Prelude.{◌≡◌, ◌+◌, ◌≤◌, ◌<◌, ◌^◌, ◌++◌, ◌⊎◌, ℕ, List, length, IfOk, IfErr, OnErr, IsOkUnless};
 ghost use Rattle.sctp_base.specs.declared.error.Error.{Error};
@@ -29,7 +30,7 @@ use param_type::ParamType;
 use std::alloc::Global;
 use std::fmt;
 
-/// What every kind of parameter can do.
+/// What every kind of parameter can do. Values and lengths count bytes, without padding.
 pub trait Param {
     // the wire part
     ghost wire: { Self → Parameter };
@@ -40,7 +41,9 @@ pub trait Param {
     // what must stand in the bytes for a refusal
     ghost fault: { Error → List ℕ → Type 0 };
 
-    /// Reads the parameter that the bytes begin with. It ends at its declared length.
+    /// Reads the parameter that the bytes begin with. It ends at its declared length; what stands behind
+    /// belongs to whoever reads next. Of the single kinds only `ParamChunkList` tests the type number.
+    /// Refuses with `ErrParamHeaderTooShort`, with the kind's own error, or for memory.
     fn unmarshal(alloc: Global, raw: &Bytes) -> Result<Self>
     where
         Self: Sized,
@@ -53,25 +56,27 @@ pub trait Param {
     fn param_type(&self) -> ParamType
         ensures { result ≡ param_type_of (wire self.now) };
 
-    /// The length of the value.
+    /// The length of the value, in bytes, also where it is too long to be declared.
     fn value_length(&self) -> usize
         ensures { result ≡ length (param_value_of (wire self.now)) };
 
-    /// Appends the value. There is room for it.
+    /// Appends the value. It takes no memory.
+    /// Precondition: the parameter has a text (its length can be declared), and the buffer has room for the value.
     fn put_value(&self, buf: &mut BytesMut)
         requires text { HasParamText (wire self.now) }
         requires room { length (param_value_of (wire self.now)) ≤ buf.old.spare }
         ensures items { buf.new.items ≡ buf.old.items ++ param_value_of (wire self.now) }
         ensures spare { buf.new.spare + length (param_value_of (wire self.now)) ≡ buf.old.spare };
 
-    /// An equal parameter, which shares its bytes.
+    /// An equal parameter, which shares its bytes. Refuses only for memory.
     fn try_clone(&self, alloc: Global) -> Result<Self>
     where
         Self: Sized,
         ensures ok { IfOk result (λ p. wire p ≡ wire self.now) }
         ensures memory { IsOkUnless result ErrOutOfMemory };
 
-    /// The header that the parameter is written with.
+    /// The header that the parameter is written with. Refuses with `ErrLengthTooLarge`,
+    /// exactly where four bytes and the value are more than 65,535.
     fn header(&self) -> Result<ParamHeader>
         ensures ok { IfOk result (λ h. HasParamText (wire self.now) × (h.typ ≡ param_type_of (wire self.now))
             × (h.value_length ≡ length (param_value_of (wire self.now)))) }
@@ -80,7 +85,8 @@ pub trait Param {
         ParamHeader::of(self.param_type(), self.value_length())
     }
 
-    /// Appends the parameter, with no padding. There is room for it.
+    /// Appends the parameter, with no padding. It takes no memory.
+    /// Precondition: the parameter has a text, and the buffer has room for four bytes and the value.
     #[tactic(auto, unfolding(crate::specs::Param::param_text))]
     fn put(&self, buf: &mut BytesMut)
         requires text { HasParamText (wire self.now) }
@@ -93,6 +99,8 @@ pub trait Param {
     }
 
     /// Appends the parameter, with no padding, and answers the buffer's length.
+    /// Refuses with `ErrLengthTooLarge` as `header` does, or for memory where the
+    /// buffer lacked room. The buffer's bytes are as they were then.
     fn marshal_to(&self, buf: &mut BytesMut) -> Result<usize>
         ensures ok { IfOk result (λ n. HasParamText (wire self.now)
             × (buf.new.items ≡ buf.old.items ++ param_text (wire self.now)) × (n ≡ length buf.new.items)) }
@@ -106,7 +114,7 @@ pub trait Param {
         Ok(buf.len())
     }
 
-    /// The parameter as bytes.
+    /// The parameter as bytes, with no padding. Refuses with `ErrLengthTooLarge` as `header` does, or for memory.
     fn marshal(&self, alloc: Global) -> Result<Bytes>
         ensures ok { IfOk result (λ b. HasParamText (wire self.now) × (b ≡ param_text (wire self.now))) }
         ensures refused { IfErr result (λ e. ((e ≡ ErrLengthTooLarge) × (HasParamText (wire self.now) → ⊥))
@@ -118,7 +126,7 @@ pub trait Param {
     }
 }
 
-/// Reads chunk types, one in a byte.
+/// Reads chunk types, one in a byte. Refuses only for memory.
 fn read_chunk_types(alloc: Global, value: &[u8]) -> Result<Vec<ChunkType>>
     ensures ok { IfOk result (λ v. v.items ≡ chunk_types value.now) }
     ensures memory { IsOkUnless result ErrOutOfMemory }
@@ -126,7 +134,8 @@ fn read_chunk_types(alloc: Global, value: &[u8]) -> Result<Vec<ChunkType>>
     Ok(value.iter().map(|b| ChunkType(*b)).collect(alloc)?)
 }
 
-/// Appends chunk types, one in a byte. There is room for them.
+/// Appends chunk types, one in a byte.
+/// Precondition: the buffer has room for them.
 fn put_chunk_types(buf: &mut BytesMut, types: &[ChunkType])
     requires { length types.now ≤ buf.old.spare }
     ensures items { buf.new.items ≡ buf.old.items ++ chunk_type_numbers types.now }

@@ -24,7 +24,7 @@ pub fn sna32lt(i1: u32, i2: u32) -> bool
     0 < distance && distance < 1 << 31
 }
 
-/// Whether `i1` is `i2` or comes before it.
+/// Whether `i1` is `i2` or comes before it (RFC 1982 3.2).
 #[tactic(auto, unfolding(sctp_lists::specs::Serial::distance, sctp_lists::specs::Serial::comes_before, sctp_lists::specs::Serial::at_or_before))]
 pub fn sna32lte(i1: u32, i2: u32) -> bool
     ensures value { result ≡ at_or_before i1 i2 }
@@ -33,7 +33,8 @@ pub fn sna32lte(i1: u32, i2: u32) -> bool
     i2.wrapping_sub(i1) < 1 << 31
 }
 
-/// Whether `i1` is neither `i2` nor before it: at a distance of exactly 2^31 it is so in both directions.
+/// Whether `i1` is neither `i2` nor before it: at a distance of exactly 2^31, which
+/// RFC 1982 3.2 leaves undefined, it is so in both directions.
 #[tactic(auto, unfolding(sctp_lists::specs::Serial::distance, sctp_lists::specs::Serial::comes_before, sctp_lists::specs::Serial::comes_after))]
 pub fn sna32gt(i1: u32, i2: u32) -> bool
     ensures { result ≡ comes_after i1 i2 }
@@ -41,7 +42,7 @@ pub fn sna32gt(i1: u32, i2: u32) -> bool
     i2.wrapping_sub(i1) >= 1 << 31
 }
 
-/// Whether `i1` is not before `i2`.
+/// Whether `i1` is not before `i2`: it is `i2` or `sna32gt` holds.
 #[tactic(auto, unfolding(sctp_lists::specs::Serial::distance, sctp_lists::specs::Serial::comes_before, sctp_lists::specs::Serial::comes_after))]
 pub fn sna32gte(i1: u32, i2: u32) -> bool
     ensures value { result ≡ not (comes_before i1 i2) }
@@ -58,6 +59,7 @@ pub fn sna32eq(i1: u32, i2: u32) -> bool
 }
 
 /// Whether `i1` comes before `i2`: `i2` lies 1 to 2^15 - 1 after it (RFC 1982 3.2).
+/// Stream sequence numbers are compared so (RFC 4960 1.6).
 #[tactic(auto, unfolding(sctp_lists::specs::Serial::distance16, sctp_lists::specs::Serial::comes_before16))]
 pub fn sna16lt(i1: u16, i2: u16) -> bool
     ensures { result ≡ comes_before16 i1 i2 }
@@ -66,7 +68,7 @@ pub fn sna16lt(i1: u16, i2: u16) -> bool
     0 < distance && distance < 1 << 15
 }
 
-/// Whether `i1` is `i2` or comes before it.
+/// Whether `i1` is `i2` or comes before it (RFC 1982 3.2).
 #[tactic(auto, unfolding(sctp_lists::specs::Serial::distance16, sctp_lists::specs::Serial::comes_before16, sctp_lists::specs::Serial::at_or_before16))]
 pub fn sna16lte(i1: u16, i2: u16) -> bool
     ensures value { result ≡ at_or_before16 i1 i2 }
@@ -75,7 +77,8 @@ pub fn sna16lte(i1: u16, i2: u16) -> bool
     i2.wrapping_sub(i1) < 1 << 15
 }
 
-/// Whether `i1` is neither `i2` nor before it: at a distance of exactly 2^15 it is so in both directions.
+/// Whether `i1` is neither `i2` nor before it: at a distance of exactly 2^15, which
+/// RFC 1982 3.2 leaves undefined, it is so in both directions.
 #[tactic(auto, unfolding(sctp_lists::specs::Serial::distance16, sctp_lists::specs::Serial::comes_before16, sctp_lists::specs::Serial::comes_after16))]
 pub fn sna16gt(i1: u16, i2: u16) -> bool
     ensures { result ≡ comes_after16 i1 i2 }
@@ -83,7 +86,7 @@ pub fn sna16gt(i1: u16, i2: u16) -> bool
     i2.wrapping_sub(i1) >= 1 << 15
 }
 
-/// Whether `i1` is not before `i2`.
+/// Whether `i1` is not before `i2`: it is `i2` or `sna16gt` holds.
 #[tactic(auto, unfolding(sctp_lists::specs::Serial::distance16, sctp_lists::specs::Serial::comes_before16, sctp_lists::specs::Serial::comes_after16))]
 pub fn sna16gte(i1: u16, i2: u16) -> bool
     ensures value { result ≡ not (comes_before16 i1 i2) }
@@ -99,7 +102,7 @@ pub fn sna16eq(i1: u16, i2: u16) -> bool
     i1 == i2
 }
 
-/// How many bytes fill `len` up to a multiple of four: 0 to 3.
+/// How many zero bytes fill `len` bytes up to a multiple of four: 0 to 3 (RFC 4960 3.2).
 pub fn get_padding_size(len: usize) -> usize
     ensures { result ≡ padding_of len }
 {
@@ -107,52 +110,71 @@ pub fn get_padding_size(len: usize) -> usize
 }
 
 /// A checksum of packets: one function of a packet's bytes, taken with four zero bytes where the
-/// checksum itself stands (RFC 4960 6.8, Appendix B).
+/// checksum itself stands (RFC 4960 6.8, Appendix B). Each function will do; SCTP's own is CRC-32C.
 pub trait Checksum {
     // the sum of the bytes
     ghost sum: { Self → List ℕ → ℕ };
 
-    /// The sum of `head`, four zero bytes and `tail`: `head` is what stands before the checksum, `tail` what follows it.
+    /// The sum of `head`, four zero bytes and `tail`: `head` is bytes 0 to 7 of a packet,
+    /// `tail` all from byte 12 on. It is written into bytes 8 to 11 with the lowest byte first.
     fn checksum(&self, head: &[u8], tail: &[u8]) -> u32
         ensures { result ≡ sum self.now (head.now ++ four_zeroes ++ tail.now) };
 }
 
-/// The number that says what a chunk is (RFC 4960 3.2).
+/// The number that says what a chunk is, its first byte (RFC 4960 3.2). It prints
+/// as its name, or as `Unknown ChunkType: N`.
 #[derive(Clone, Copy, Debug, PartialEq, Eq)]
 pub struct ChunkType(pub u8);
 
+/// DATA (RFC 4960 3.3.1)
 pub const CT_PAYLOAD_DATA: ChunkType = ChunkType(0);
 
+/// INIT (RFC 4960 3.3.2)
 pub const CT_INIT: ChunkType = ChunkType(1);
 
+/// INIT-ACK (RFC 4960 3.3.3)
 pub const CT_INIT_ACK: ChunkType = ChunkType(2);
 
+/// SACK (RFC 4960 3.3.4)
 pub const CT_SACK: ChunkType = ChunkType(3);
 
+/// HEARTBEAT (RFC 4960 3.3.5)
 pub const CT_HEARTBEAT: ChunkType = ChunkType(4);
 
+/// HEARTBEAT-ACK (RFC 4960 3.3.6)
 pub const CT_HEARTBEAT_ACK: ChunkType = ChunkType(5);
 
+/// ABORT (RFC 4960 3.3.7)
 pub const CT_ABORT: ChunkType = ChunkType(6);
 
+/// SHUTDOWN (RFC 4960 3.3.8)
 pub const CT_SHUTDOWN: ChunkType = ChunkType(7);
 
+/// SHUTDOWN-ACK (RFC 4960 3.3.9)
 pub const CT_SHUTDOWN_ACK: ChunkType = ChunkType(8);
 
+/// ERROR (RFC 4960 3.3.10)
 pub const CT_ERROR: ChunkType = ChunkType(9);
 
+/// COOKIE-ECHO (RFC 4960 3.3.11)
 pub const CT_COOKIE_ECHO: ChunkType = ChunkType(10);
 
+/// COOKIE-ACK (RFC 4960 3.3.12)
 pub const CT_COOKIE_ACK: ChunkType = ChunkType(11);
 
+/// CWR, which no `ChunkKind` reads (RFC 4960 Appendix A). It prints as ECNE.
 pub const CT_CWR: ChunkType = ChunkType(13);
 
+/// SHUTDOWN-COMPLETE (RFC 4960 3.3.13)
 pub const CT_SHUTDOWN_COMPLETE: ChunkType = ChunkType(14);
 
+/// RECONFIG (RFC 6525 3.1)
 pub const CT_RECONFIG: ChunkType = ChunkType(130);
 
+/// FORWARD-TSN (RFC 3758 3.2)
 pub const CT_FORWARD_TSN: ChunkType = ChunkType(192);
 
+/// I-FORWARD-TSN (RFC 8260 2.3.1)
 pub const CT_I_FORWARD_TSN: ChunkType = ChunkType(194);
 
 impl fmt::Display for ChunkType {

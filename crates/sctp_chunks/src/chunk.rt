@@ -1,4 +1,5 @@
-//! The kinds of chunk.
+//! The kinds of chunk (RFC 4960 3.2): a type, flags, a length of two bytes, and a value.
+//! The length counts the four header bytes and the value, not the padding behind it.
 
 ghost use Rattle.std.specs.Prelude.{◌≡◌, ◌+◌, ◌^◌, ◌≤◌, ◌<◌, ◌++◌, ◌⊎◌, ℕ, List, length, min, IfOk, IfErr, OnOk, OnErr};
 ghost use Rattle.sctp_base.specs.declared.error.Error.{Error};
@@ -31,10 +32,10 @@ mod params;
 use bytes::{Bytes, BytesMut};
 use chunk_header::{ChunkHeader, put_header};
 use sctp_base::error::Result;
-use sctp_base::util::ChunkType;
+pub use sctp_base::util::ChunkType;
 use std::alloc::Global;
 
-/// What every kind of chunk can do.
+/// What every kind of chunk can do. Values and lengths count bytes, without the padding behind the chunk.
 pub trait Chunk {
     // the wire part
     ghost wire: { Self → Wire };
@@ -48,7 +49,10 @@ pub trait Chunk {
     // what must stand in the bytes for a refusal
     ghost fault: { Error → List ℕ → Type 0 };
 
-    /// Reads the chunk that the bytes begin with. They are all that follow from the chunk on.
+    /// Reads the chunk that the bytes begin with. They are all that follow from the chunk
+    /// on: where one to three stand behind its length, they are tested as its padding.
+    /// Refuses with an error of the header (`ChunkHeader::unmarshal`), the kind's
+    /// `ErrChunkTypeNot..`, its own for a value at fault, or for memory.
     fn unmarshal(alloc: Global, raw: &Bytes) -> Result<Self>
     where
         Self: Sized,
@@ -60,7 +64,7 @@ pub trait Chunk {
         ensures canonical { IfOk result (λ c. Canonical (wire c)) }
         ensures fresh { IfOk result (λ c. IsFresh c) };
 
-    /// The length of the value, up to the greatest `usize`.
+    /// The length of the value, in bytes, up to the greatest `usize`.
     fn value_length(&self) -> usize
         ensures { result ≡ min (length (value_of (wire self.now))) usize.MAX };
 
@@ -68,11 +72,13 @@ pub trait Chunk {
     fn chunk_type(&self) -> ChunkType
         ensures { result.0 ≡ type_of (wire self.now) };
 
-    /// The flags that the chunk is written with.
+    /// The flags that the chunk is written with: 0 but for DATA.
     fn flags(&self) -> u8
         ensures { result ≡ flags_of (wire self.now) };
 
-    /// Appends the value. There is room for it.
+    /// Appends the value. It takes no memory.
+    /// Precondition: the chunk has a text (`check_form` and `header` accept it),
+    /// and the buffer has room for the value.
     fn put_value(&self, buf: &mut BytesMut)
         requires text { HasText (wire self.now) }
         requires room { length (value_of (wire self.now)) ≤ buf.old.spare }
@@ -80,17 +86,20 @@ pub trait Chunk {
         ensures spare { buf.new.spare + length (value_of (wire self.now)) ≡ buf.old.spare }
         ensures fits { Fits (wire self.now) };
 
-    /// Whether the values are allowed; only INIT and RECONFIG ask for something.
+    /// Whether the values are allowed. Only INIT (RFC 4960 3.3.2, 6) and RECONFIG (RFC 6525 3.1) ask
+    /// for something; the first rule that is broken is named. Neither reading nor writing asks for it.
     fn check(&self) -> Result<()>
         ensures ok { OnOk result (IsChecked (wire self.now)) }
         ensures err { IfErr result (λ e. CheckFault e (wire self.now)) };
 
-    /// Whether the kind has a text for the chunk, its length apart; only HEARTBEAT-ACK and RECONFIG ask for something.
+    /// Whether the kind has a text for the chunk, its length apart. Only HEARTBEAT-ACK asks for something
+    /// (`ErrHeartbeatAckParams`, `ErrHeartbeatAckNotHeartbeatInfo`), and RECONFIG (`ErrChunkReconfigInvalidParamA`).
     fn check_form(&self) -> Result<()>
         ensures ok { OnOk result (HasForm (wire self.now)) }
         ensures err { IfErr result (λ e. FormFault e (wire self.now)) };
 
-    /// The header that the chunk is written with.
+    /// The header that the chunk is written with. Refuses with `ErrLengthTooLarge`,
+    /// exactly where four bytes and the value are more than 65,535.
     fn header(&self) -> Result<ChunkHeader>
         ensures ok { IfOk result (λ h. HasLength (wire self.now) × (h.typ.0 ≡ type_of (wire self.now))
             × (h.flags ≡ flags_of (wire self.now)) × (h.value_length ≡ length (value_of (wire self.now)))) }
@@ -100,6 +109,8 @@ pub trait Chunk {
     }
 
     /// Appends the chunk, with no padding, and answers the buffer's length.
+    /// Refuses as `check_form` and then `header` do, or for memory where the buffer
+    /// lacked room. The buffer's bytes are as they were then.
     #[tactic(auto, using(crate::proofs::AgainKinds::text_again))]
     fn marshal_to(&self, buf: &mut BytesMut) -> Result<usize>
         ensures ok { IfOk result (λ n. HasText (wire self.now)
@@ -118,7 +129,7 @@ pub trait Chunk {
         Ok(buf.len())
     }
 
-    /// The chunk as bytes.
+    /// The chunk as bytes, with no padding. Refuses as `check_form` and then `header` do, or for memory.
     fn marshal(&self, alloc: Global) -> Result<Bytes>
         ensures ok { IfOk result (λ b. HasText (wire self.now) × (b ≡ text_of (wire self.now))) }
         ensures refused { IfErr result (λ e. TextFault e (wire self.now) ⊎ ((e ≡ ErrOutOfMemory) × HasText (wire self.now))) }

@@ -26,7 +26,8 @@ const PORT: u16 = 5000;
 
 const VERIFICATION_TAG: u32 = 1;
 
-/// Writes the datagram of a chunk. Its bytes read back.
+/// Writes the datagram of a chunk. Its bytes read back. Refuses only for memory.
+/// Precondition: the chunk has a text, which reads back.
 pub fn write_datagram<C: Checksum>(alloc: Global, chunk: ChunkKind, checksum: &C) -> Result<Bytes>
     requires text { HasText (wire_of chunk) }
     requires canonical { Canonical (wire_of chunk) }
@@ -48,6 +49,7 @@ pub fn write_datagram<C: Checksum>(alloc: Global, chunk: ChunkKind, checksum: &C
 }
 
 /// Reads a datagram of one chunk. It is refused for memory alone.
+/// Precondition: the bytes are one, under the checksum.
 fn read_datagram<C: Checksum>(alloc: Global, raw: &Bytes, checksum: &C) -> Result<ChunkKind>
     requires { (w : Wire) × ReadsPacket (C.sum checksum.now) raw.now (packet_with (w ∷ [])) }
     ensures chunk { (w : Wire) → ReadsPacket (C.sum checksum.now) raw.now (packet_with (w ∷ [])) → IfOk result (λ k. wire_of k ≡ w) }
@@ -61,7 +63,8 @@ fn read_datagram<C: Checksum>(alloc: Global, raw: &Bytes, checksum: &C) -> Resul
     Ok(kind)
 }
 
-/// Reads a datagram of one DATA chunk.
+/// Reads a datagram of one DATA chunk. Refuses only for memory.
+/// Precondition: the bytes are one, under the checksum.
 pub fn read_data<C: Checksum>(alloc: Global, raw: &Bytes, checksum: &C) -> Result<ChunkPayloadData>
     requires { (d : Data) × ReadsPacket (C.sum checksum.now) raw.now (packet_with (data_chunk d ∷ [])) }
     ensures chunk { (d : Data) → ReadsPacket (C.sum checksum.now) raw.now (packet_with (data_chunk d ∷ [])) → IfOk result (λ c. c ≡ fresh d) }
@@ -73,7 +76,8 @@ pub fn read_data<C: Checksum>(alloc: Global, raw: &Bytes, checksum: &C) -> Resul
     }
 }
 
-/// Reads a datagram of one SACK.
+/// Reads a datagram of one SACK. Refuses only for memory.
+/// Precondition: the bytes are one, under the checksum.
 pub fn read_sack<C: Checksum>(alloc: Global, raw: &Bytes, checksum: &C) -> Result<ChunkSelectiveAck>
     requires { (s : Sack) × ReadsPacket (C.sum checksum.now) raw.now (packet_with (sack_chunk s ∷ [])) }
     ensures chunk { (s : Sack) → ReadsPacket (C.sum checksum.now) raw.now (packet_with (sack_chunk s ∷ [])) → IfOk result (λ c. sack_of c ≡ s) }
@@ -85,7 +89,8 @@ pub fn read_sack<C: Checksum>(alloc: Global, raw: &Bytes, checksum: &C) -> Resul
     }
 }
 
-/// Reads a datagram of one FORWARD-TSN.
+/// Reads a datagram of one FORWARD-TSN. Refuses only for memory.
+/// Precondition: the bytes are one, under the checksum.
 pub fn read_forward_tsn<C: Checksum>(
     alloc: Global,
     raw: &Bytes,

@@ -7,13 +7,16 @@ use sctp_queues::chunks::Chunks;
 /// What a link answers to an accepted event.
 #[derive(Drop)]
 pub enum Reply {
+    /// The stream is open.
     Opened,
+    /// The mode is set.
     Set,
     /// A write's number, None where it was empty, and its count of fragments.
     Wrote {
         number: Option<u64>,
         fragments: u64,
     },
+    /// Lifetimes are started.
     Started,
     /// The datagram's number, the TSN and the stream sequence number of its first chunk, and how many chunks it has.
     Sent {
@@ -24,6 +27,7 @@ pub enum Reply {
     },
     /// There was nothing to send.
     Idle,
+    /// The number of the datagram that the chunk was sent again in.
     Resent {
         datagram: u64,
     },
@@ -46,6 +50,7 @@ pub enum Reply {
     Skip {
         datagram: u64,
     },
+    /// The SACK's number.
     Ack {
         datagram: u64,
     },

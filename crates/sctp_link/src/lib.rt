@@ -8,3 +8,10 @@ mod open_stream;
 mod record;
 mod skipped;
 pub mod stream;
+
+pub use event::{Event, LinkRefusal, Reply};
+pub use link::Link;
+pub use link::lending::Ledger;
+pub use stream::{
+    DataChannelStats, RecvSendState, StreamEvent, StreamId, StreamResetError, StreamState,
+};

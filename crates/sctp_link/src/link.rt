@@ -80,6 +80,9 @@ impl<C: Checksum + Drop> Link<C> {
     ghost use Rattle.sctp_link.specs.Texts.{datagram_text};
 
     /// A link with nothing opened yet. It takes no memory.
+    /// It cuts messages into fragments of `fragment_size` bytes, and takes messages
+    /// of at most `max_message_size` bytes.
+    /// Precondition: `fragment_size` is 1 to 65,519.
     pub fn new(
         alloc: Global,
         first_tsn: u32,
@@ -234,6 +237,7 @@ impl<C: Checksum + Drop> Link<C> {
 }
 
 /// Puts an item where room was made for it.
+/// Precondition: there is room.
 fn put<T: Drop>(items: &mut Vec<T>, item: T)
     requires { vec_len items.old < vec_capacity items.old }
     ensures { items.new.items ≡ items.old.items ++ item ∷ [] }

@@ -24,6 +24,7 @@ use std::collections::VecDeque;
 /// An open stream: its state, and what a link knows of its messages.
 #[derive(Drop)]
 pub struct OpenStream {
+    /// How its writes are cut, and what came on it.
     pub state: StreamState,
     /// The unordered messages that are whole and not read, in the order in which they became whole.
     pub whole: VecDeque<u64>,
@@ -42,7 +43,8 @@ impl OpenStream {
     ghost use Rattle.sctp_link.specs.OpenStreams.{is_ordered, message_with, fragments_with_mode, after_write_on, expired_on, with_sent_stats, with_read_stats, Keeps};
     ghost use Rattle.sctp_queues.specs.reassembly_queue.ReassemblyQueue.{is_too_large, message_read, state_read, at_start};
 
-    /// A stream that nothing was written to.
+    /// A stream that nothing was written to. It takes no memory.
+    /// Precondition: `max_payload_size` is 1 to 65,519.
     pub fn new(alloc: Global, stream: u16, max_payload_size: u32, max_message_size: u32) -> Self
         requires { (0 < max_payload_size) × (max_payload_size ≤ 65519) }
         ensures state { result.state ≡ new_stream stream max_payload_size max_message_size Unknown }
@@ -75,7 +77,10 @@ impl OpenStream {
         is_dcep(ppi) || !self.state.unordered()
     }
 
-    /// Takes a write of at least one byte: what is kept of it, and its fragments, which wait for their TSNs.
+    /// Takes a write of at least one byte: what is kept of it, and its fragments,
+    /// which wait for their TSNs and have its mode.
+    /// Precondition: fewer than the greatest u64 ordered messages were written.
+    /// Refuses only for memory, and the stream is as it was then.
     pub fn write(
         &mut self,
         alloc: Global,
@@ -117,6 +122,7 @@ impl OpenStream {
         Ok((message, chunks))
     }
 
+    /// Counts a message that was accepted.
     fn count_sent(&mut self, ppi: PayloadProtocolIdentifier, len: usize)
         ensures { self.new ≡ record self.old { state = with_sent_stats ppi len self.old.state } }
     {
@@ -125,7 +131,9 @@ impl OpenStream {
         self.state.set_stats(stats);
     }
 
-    /// Takes off a message that expired: its bytes, and an ordered one from the counts.
+    /// Takes off a message that expired: its bytes, and an ordered one from the
+    /// counts, whose number the next write takes.
+    /// Precondition: it has fewer than 2^63 bytes.
     pub fn expire(&mut self, ordered: bool, bytes: usize)
         requires { bytes < 2 ^ 63 }
         ensures { self.new ≡ expired_on ordered bytes self.old }
@@ -139,6 +147,8 @@ impl OpenStream {
     }
 
     /// Takes a DATA chunk for reassembly. A message that becomes whole by an unordered one is noted under its number.
+    /// Precondition: the chunk is of this stream, and its message not too long with it.
+    /// Refuses only for memory, and what the stream has is as it was then.
     pub fn keep(&mut self, chunk: &ChunkPayloadData, number: u64) -> Result<()>
         requires size { is_too_large chunk.now self.old.state.reassembly_queue ≡ false }
         requires stream { (chunk.now.stream_identifier == self.old.state.reassembly_queue.si) ≡ true }
@@ -153,7 +163,7 @@ impl OpenStream {
         Ok(())
     }
 
-    /// The next message of the queue.
+    /// The next message of the queue; None where there is none to read.
     pub fn read(&mut self) -> Option<Chunks>
         ensures message { result ≡ option_map at_start (message_read self.old.state.reassembly_queue.held) }
         ensures rest { self.new ≡ record self.old { state = record self.old.state { reassembly_queue = state_read self.old.state.reassembly_queue } } }
@@ -161,7 +171,8 @@ impl OpenStream {
         self.state.reassembly_queue_mut().read()
     }
 
-    /// Notes that a message was read: with an ordered one that was expected next the next one is.
+    /// Notes that a message of `len` bytes was read: with an ordered one that was expected next the next one is.
+    /// Precondition: `index` is below the greatest u64.
     pub fn finish_read(
         &mut self,
         ordered: bool,
@@ -196,7 +207,7 @@ impl OpenStream {
         self.named = self.named.max(named.end);
     }
 
-    /// Counts a message that was read.
+    /// Counts a message of `len` bytes that was read.
     pub fn count_read(&mut self, ppi: PayloadProtocolIdentifier, len: usize)
         ensures { self.new ≡ record self.old { state = with_read_stats ppi len self.old.state } }
     {
@@ -216,6 +227,7 @@ fn go_to(queue: &mut ReassemblyQueue, end: u64)
     queue.forward_tsn_for_ordered(((end - 1) % 0x10000) as u16);
 }
 
+/// Whether it is a message that establishes a channel (RFC 8832).
 fn is_dcep(ppi: PayloadProtocolIdentifier) -> bool
     ensures { result ≡ is_dcep ppi }
 {

@@ -11,7 +11,9 @@ pub struct Message {
     pub ordered: bool,
     pub ppi: PayloadProtocolIdentifier,
     pub bytes: Bytes,
+    /// How far its sending goes.
     pub reliability: ReliabilityType,
+    /// The value beside it: sendings after the first, or its lifetime in milliseconds.
     pub value: u32,
     /// How many ordered messages of its stream were written before it and had not expired then.
     pub before: u64,
@@ -30,8 +32,11 @@ pub struct Message {
 /// The first has place 0.
 #[derive(Clone, Copy, Drop)]
 pub struct Slot {
+    /// The number of the message.
     pub message: u64,
+    /// The number of the fragment in its message, from 0.
     pub fragment: u64,
+    /// Whether it is an end mark, which has no fragment.
     pub is_end_mark: bool,
     pub arrived: bool,
     pub acknowledged: bool,

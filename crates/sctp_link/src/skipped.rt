@@ -18,6 +18,7 @@ pub struct Named {
 }
 
 /// What a skip that names these messages names on a stream.
+/// Precondition: the index of each message is below the greatest u64.
 pub fn named_on(messages: &[Message], stream: u16, names: &[u64]) -> Named
     requires { (n : ℕ) → index_in messages.now n + 1 < 2 ^ 64 }
     ensures { result ≡ named_from messages.now stream none_named names.now }
@@ -49,7 +50,8 @@ fn with_name(messages: &[Message], stream: u16, number: u64, named: Named) -> Na
     }
 }
 
-/// The pairs that name these messages.
+/// The pairs that name these messages (RFC 3758 3.2). Refuses only for memory.
+/// Precondition: each name is the number of a message.
 pub fn pairs_of(
     alloc: Global,
     messages: &[Message],
@@ -72,6 +74,7 @@ pub fn pairs_of(
 }
 
 /// The arrival of a skip up to a TSN, which names these messages, on each open stream. It takes no memory.
+/// Precondition: the index of each message is below the greatest u64.
 pub fn skip_streams(open_streams: &mut [OpenStream], messages: &[Message], names: &[u64], tsn: u32)
     requires { (n : ℕ) → index_in messages.now n + 1 < 2 ^ 64 }
     ensures { open_streams.new ≡ map (skipped_by messages.now names.now tsn) open_streams.old }

@@ -7,34 +7,40 @@ ghost use Rattle.sctp_link.specs.Stats.{counted_bytes, with_sent, with_received,
 
 use bytes::Bytes;
 use sctp_base::error::{Error, Result};
-use sctp_chunks::chunk::chunk_payload_data::{
-    ChunkPayloadData, PayloadProtocolIdentifier, ReliabilityType,
-};
+pub use sctp_chunks::chunk::chunk_payload_data::ReliabilityType;
+use sctp_chunks::chunk::chunk_payload_data::{ChunkPayloadData, PayloadProtocolIdentifier};
 use sctp_chunks::chunk::error_cause::ErrorCauseCode;
 use sctp_queues::reassembly_queue::ReassemblyQueue;
 use std::alloc::Global;
 use std::marker::Model;
 
-/// The number of a stream in its association.
+/// The number of a stream in its association (RFC 4960 3.3.1).
 pub type StreamId = u16;
 
 /// Messages and bytes at the boundary to the application. All counters stop at the greatest number.
 ///
-/// A write counts once it was accepted, a read once a message was given. Text and binary messages
-/// count with their bytes, the two empty kinds with none, others not at all.
+/// A write counts once it was accepted, a read once a message was given; what is sent again or given up changes
+/// nothing. Text and binary messages count with their bytes, the two empty kinds with none (the byte that is
+/// sent in their place is not counted), others not at all. A write of no bytes queues no message, and is not to
+/// be counted. What a report asks for beside these, as a label and the moment, is for the layer above.
 #[derive(Clone, Copy, Debug, PartialEq, Eq)]
 pub struct DataChannelStats {
+    /// The stream.
     pub stream_identifier: StreamId,
-    /// Which use of the number this is, within an association.
+    /// Which use of the number this is, within an association: a number can be used again after a reset.
     pub generation: u64,
+    /// How many messages were accepted for sending.
     pub messages_sent: u64,
+    /// How many bytes they have.
     pub bytes_sent: u64,
+    /// How many messages were read.
     pub messages_received: u64,
+    /// How many bytes they have.
     pub bytes_received: u64,
 }
 
 impl DataChannelStats {
-    /// Counts a message that was sent.
+    /// Counts a message of `len` bytes that was accepted for sending.
     pub fn sent(&mut self, ppi: PayloadProtocolIdentifier, len: usize)
         ensures { self.new ≡ with_sent (counted_bytes ppi len) self.old }
     {
@@ -44,7 +50,7 @@ impl DataChannelStats {
         }
     }
 
-    /// Counts a message that was read.
+    /// Counts a message of `len` bytes that was read.
     pub fn received(&mut self, ppi: PayloadProtocolIdentifier, len: usize)
         ensures { self.new ≡ with_received (counted_bytes ppi len) self.old }
     {
@@ -69,12 +75,17 @@ fn counted_bytes(ppi: PayloadProtocolIdentifier, len: usize) -> Option<u64>
 /// Which directions of a stream are open.
 #[derive(Clone, Copy, Debug, PartialEq, Eq)]
 pub enum RecvSendState {
+    /// Neither.
     Closed = 0,
+    /// It can be read from.
     Readable = 1,
+    /// It can be written to.
     Writable = 2,
+    /// Both.
     ReadWritable = 3,
 }
 
+/// Closed.
 impl Default for RecvSendState {
     ghost use Rattle.sctp_link.specs.declared.stream.RecvSendState.TheVariants.{Closed};
 
@@ -85,6 +96,7 @@ impl Default for RecvSendState {
     }
 }
 
+/// 1 is `Readable`, 2 `Writable`, 3 `ReadWritable`, any other number `Closed`.
 impl From<u8> for RecvSendState {
     ghost use Rattle.sctp_link.specs.State.{state_from};
 
@@ -132,7 +144,7 @@ impl PayloadSize {
     }
 }
 
-/// The state of a stream.
+/// What a stream keeps: how its writes are cut and sent, what of them waits, and what came of the peer's messages.
 #[derive(Drop)]
 pub struct StreamState {
     stats: DataChannelStats,
@@ -159,8 +171,10 @@ impl StreamState {
     ghost use Rattle.std.specs.Borrow.{sem};
     ghost use Rattle.sctp_queues.specs.reassembly_queue.ReassemblyQueue.{is_too_large, ordered_pushed, is_whole_with, PushesUnordered};
 
-    /// A stream that is open both ways, ordered and reliable, with fragments of at most
-    /// `max_payload_size` bytes of user data and messages of at most `max_receive_message_size` bytes.
+    /// A stream that is open both ways, ordered and reliable, with fragments of at most `max_payload_size`
+    /// bytes of user data and messages of at most `max_receive_message_size` bytes. All counts are 0, the
+    /// low threshold too; the high one is the greatest usize. It takes no memory.
+    /// Precondition: `max_payload_size` is 1 to 65,519.
     pub fn new(
         alloc: Global,
         stream_identifier: StreamId,
@@ -200,11 +214,14 @@ impl StreamState {
         }
     }
 
-    /// Cuts a write into fragments, and says whether the buffered amount rose from under to at
-    /// least the high threshold. Messages that establish a channel are ordered always.
+    /// Cuts a write into fragments of `max_payload_size` bytes, the last one of what is left,
+    /// and says whether the buffered amount rose from under to at least the high
+    /// threshold. Messages that establish a channel are ordered always (RFC 8832 6).
     ///
-    /// An ordered write of some bytes takes the sequence number. Refuses only for memory. The amount
-    /// grows up to the greatest usize.
+    /// An ordered write of some bytes takes the sequence number, an unordered one carries it
+    /// and takes none (RFC 4960 6.6). A write of no bytes gives no fragment. The fragments have
+    /// no TSN, message number or reliability yet. The amount grows up to the greatest usize.
+    /// Refuses only for memory, and the stream is as it was then.
     pub fn packetize(
         &mut self,
         alloc: Global,
@@ -299,8 +316,8 @@ impl StreamState {
         }
     }
 
-    /// Takes bytes off the buffered amount, which stops at 0, and says whether it fell from over to
-    /// at most the low threshold. At most 0 bytes change nothing.
+    /// Takes bytes off the buffered amount, which stops at 0, and says whether it fell from over to at most the
+    /// low threshold. At most 0 bytes change nothing. For bytes that the peer acknowledged, or that were given up.
     pub fn on_buffer_released(&mut self, n_bytes_released: i64) -> bool
         ensures low { result ≡ falls_low self.old (released n_bytes_released) }
         ensures rest { self.new ≡ record self.old { buffered_amount = self.old.buffered_amount - released n_bytes_released } }
@@ -313,7 +330,7 @@ impl StreamState {
         from_amount > self.buffered_amount_low && self.buffered_amount <= self.buffered_amount_low
     }
 
-    /// Closes the direction of writes.
+    /// Closes the direction of writes. The direction of reads stays as it is.
     pub fn finish(&mut self)
         ensures { self.new ≡ record self.old { state = finished self.old.state } }
     {
@@ -323,18 +340,21 @@ impl StreamState {
         };
     }
 
+    /// The stream.
     pub fn stream_identifier(&self) -> StreamId
         ensures { result ≡ self.now.stream_identifier }
     {
         self.stream_identifier
     }
 
+    /// What user data is that is written without a type.
     pub fn get_default_payload_type(&self) -> PayloadProtocolIdentifier
         ensures { result ≡ self.now.default_payload_type }
     {
         self.default_payload_type
     }
 
+    /// Sets what user data is that is written without a type.
     pub fn set_default_payload_type(&mut self, default_payload_type: PayloadProtocolIdentifier)
         ensures { self.new ≡ record self.old { default_payload_type = default_payload_type } }
     {
@@ -348,31 +368,37 @@ impl StreamState {
         self.buffered_amount
     }
 
+    /// The amount, in bytes, down to which a fall is told. It is 0 at first.
     pub fn buffered_amount_low_threshold(&self) -> usize
         ensures { result ≡ self.now.buffered_amount_low }
     {
         self.buffered_amount_low
     }
 
+    /// Sets the low threshold, in bytes.
     pub fn set_buffered_amount_low_threshold(&mut self, th: usize)
         ensures { self.new ≡ record self.old { buffered_amount_low = th } }
     {
         self.buffered_amount_low = th;
     }
 
+    /// The amount, in bytes, from which on a rise is told. It is the greatest usize at first.
     pub fn buffered_amount_high_threshold(&self) -> usize
         ensures { result ≡ self.now.buffered_amount_high }
     {
         self.buffered_amount_high
     }
 
+    /// Sets the high threshold, in bytes.
     pub fn set_buffered_amount_high_threshold(&mut self, th: usize)
         ensures { self.new ≡ record self.old { buffered_amount_high = th } }
     {
         self.buffered_amount_high = th;
     }
 
-    /// Whether later writes are unordered, and how long they are tried for.
+    /// Whether later writes are unordered, and how far their sending goes: `rel_val` counts
+    /// the sendings of a chunk after the first (`Rexmit`), or is a lifetime in milliseconds
+    /// (`Timed`), or means nothing (`Reliable`). What was written keeps what it has.
     pub fn set_reliability_params(
         &mut self,
         unordered: bool,
@@ -386,42 +412,50 @@ impl StreamState {
         self.reliability_value = rel_val;
     }
 
+    /// Whether later writes are unordered.
     pub fn unordered(&self) -> bool
         ensures { result ≡ self.now.unordered }
     {
         self.unordered
     }
 
+    /// How far the sending of later writes goes.
     pub fn reliability_type(&self) -> ReliabilityType
         ensures { result ≡ self.now.reliability_type }
     {
         self.reliability_type
     }
 
+    /// The value beside it: sendings after the first, or milliseconds.
     pub fn reliability_value(&self) -> u32
         ensures { result ≡ self.now.reliability_value }
     {
         self.reliability_value
     }
 
+    /// The counters.
     pub fn stats(&self) -> DataChannelStats
         ensures { result ≡ self.now.stats }
     {
         self.stats
     }
 
+    /// Sets the counters.
     pub fn set_stats(&mut self, stats: DataChannelStats)
         ensures { self.new ≡ record self.old { stats = stats } }
     {
         self.stats = stats;
     }
 
+    /// The number from which on messages belong to this use of the stream's number,
+    /// as the layer above set it. Nothing here looks at it.
     pub fn first_message_id(&self) -> u64
         ensures { result ≡ self.now.first_message_id }
     {
         self.first_message_id
     }
 
+    /// Sets the number from which on messages belong to this use of the stream's number.
     pub fn set_first_message_id(&mut self, first_message_id: u64)
         ensures { self.new ≡ record self.old { first_message_id = first_message_id } }
     {
@@ -436,6 +470,8 @@ impl StreamState {
         self.max_payload_size.get()
     }
 
+    /// Sets how many bytes of user data a later fragment has at most.
+    /// Precondition: 1 to 65,519, which is what a DATA chunk can carry.
     pub fn set_max_payload_size(&mut self, max_payload_size: u32)
         requires { (0 < max_payload_size) × (max_payload_size ≤ 65519) }
         ensures { self.new ≡ record self.old { max_payload_size = max_payload_size } }
@@ -443,25 +479,28 @@ impl StreamState {
         self.max_payload_size = PayloadSize::new(max_payload_size);
     }
 
-    /// The stream sequence number of the next ordered write.
+    /// The stream sequence number of the next ordered write: 0 at first, and 65,535 is followed by 0 (RFC 4960 6.5).
     pub fn sequence_number(&self) -> u16
         ensures { result ≡ self.now.sequence_number }
     {
         self.sequence_number
     }
 
+    /// Sets the number of the next ordered write, as after an unsent message expired, or after a reset.
     pub fn set_sequence_number(&mut self, sequence_number: u16)
         ensures { self.new ≡ record self.old { sequence_number = sequence_number } }
     {
         self.sequence_number = sequence_number;
     }
 
+    /// Which directions are open.
     pub fn state(&self) -> RecvSendState
         ensures { result ≡ self.now.state }
     {
         self.state
     }
 
+    /// Sets which directions are open.
     pub fn set_state(&mut self, state: RecvSendState)
         ensures { self.new ≡ record self.old { state = state } }
     {
@@ -475,6 +514,7 @@ impl StreamState {
         &self.reassembly_queue
     }
 
+    /// The same, to be changed: as by a read or a skip.
     pub fn reassembly_queue_mut(&mut self) -> &mut ReassemblyQueue
         ensures* writes_back { sem 𝓛 (LendsQueue self.entry result) }
         ensures value { result.now ≡ self.old.reassembly_queue }
@@ -482,16 +522,17 @@ impl StreamState {
         &mut self.reassembly_queue
     }
 
+    /// Its byte count.
     pub fn get_num_bytes_in_reassembly_queue(&self) -> usize
         ensures { result ≡ self.now.reassembly_queue.bytes }
     {
         self.reassembly_queue.get_num_bytes()
     }
 
-    /// Takes a DATA chunk for reassembly, and says whether a message became whole by it.
-    ///
-    /// The queue changes as by its `push`, and nothing else. ErrInboundPacketTooLarge: the message would be too long;
-    /// ErrOutOfMemory.
+    /// Takes a DATA chunk for reassembly, and says whether a message became whole
+    /// by it. The queue changes as by its `push`, and nothing else.
+    /// Refuses with `ErrInboundPacketTooLarge`, where the message would be longer
+    /// than the queue takes, or for memory. The stream is as it was then.
     pub fn handle_data(&mut self, pd: &ChunkPayloadData) -> Result<bool>
         ensures other_stream { (pd.now.stream_identifier == self.old.reassembly_queue.si) ≡ false → IfOk result (λ whole. (whole ≡ false) × (self.new ≡ self.old)) }
         ensures ordered { (pd.now.stream_identifier == self.old.reassembly_queue.si) ≡ true → pd.now.unordered ≡ false → IfOk result (λ whole. (self.new.reassembly_queue ≡ ordered_pushed pd.now self.old.reassembly_queue) × (whole ≡ is_whole_with pd.now self.old.reassembly_queue.held)) }
@@ -505,6 +546,7 @@ impl StreamState {
         self.reassembly_queue.push(chunk)
     }
 
+    /// Whether the direction of reads is open.
     pub fn is_readable(&self) -> bool
         ensures { result ≡ can_read self.now.state }
     {
@@ -514,6 +556,7 @@ impl StreamState {
         )
     }
 
+    /// Whether the direction of writes is open.
     pub fn is_writable(&self) -> bool
         ensures { result ≡ can_write self.now.state }
     {
@@ -534,7 +577,7 @@ pub enum StreamResetError {
     Failed,
 }
 
-/// What happened to a stream.
+/// What happened to a stream, or to streams at all: names for the layer above, which makes them. Nothing here does.
 #[derive(Debug, Drop, PartialEq, Eq)]
 #[non_exhaustive]
 pub enum StreamEvent {

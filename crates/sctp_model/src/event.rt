@@ -10,7 +10,8 @@ pub enum Event {
     Open {
         stream: u16,
     },
-    /// Sets how later messages of a stream are sent.
+    /// Sets how later messages of a stream are sent. `value` counts the sendings of a chunk after the
+    /// first (`Rexmit`), or is a lifetime in milliseconds (`Timed`), or means nothing (`Reliable`).
     Mode {
         stream: u16,
         unordered: bool,
@@ -23,7 +24,7 @@ pub enum Event {
         ppi: PayloadProtocolIdentifier,
         bytes: Bytes,
     },
-    /// Starts the lifetimes of messages; `now` is in nanoseconds.
+    /// Starts the lifetimes of messages; `now` is in nanoseconds, here and below.
     Start {
         now: u64,
     },
@@ -51,12 +52,12 @@ pub enum Event {
     Abandon {
         tsn: u32,
     },
-    /// Makes a FORWARD-TSN up to a TSN, which names messages (RFC 3758 3.2).
+    /// Makes a FORWARD-TSN up to a TSN, which names messages by their numbers (RFC 3758 3.2).
     Skip {
         upto: u32,
         messages: Vec<u64>,
     },
-    /// Makes a SACK with this credit (RFC 4960 3.3.4).
+    /// Makes a SACK with this credit, in bytes (RFC 4960 3.3.4).
     Ack {
         credit: u32,
     },

@@ -1,4 +1,6 @@
-//! A packet.
+//! Packets: a header of 12 bytes, then chunks, each with zeros behind it up to a multiple of four (RFC 4960 3).
+//! The header is source port and destination port, two bytes each, the verification tag and the checksum, four
+//! bytes each. The checksum stands with its lowest byte first, every other number with its highest.
 
 ghost use Rattle.std.specs.Prelude.{◌≡◌, ◌<◌, ◌^◌, ◌+◌, ◌++◌, ℕ, List, true, length, map, drop, ◌⊎◌, IfOk, IfErr, IsOkUnless, OnOk, OnErr, take, ◌≤◌};
 ghost use Rattle.std.specs.List.{AllByRecursion};
@@ -30,15 +32,22 @@ use sctp_chunks::chunk::chunk_kind::ChunkKind;
 use std::alloc::Global;
 use std::fmt;
 
+/// The bytes of a header.
 pub const PACKET_HEADER_SIZE: usize = 12;
 
+/// What the header says beside the checksum (RFC 4960 3.1).
 #[derive(Clone, Copy, Debug, PartialEq, Eq)]
 pub struct CommonHeader {
+    /// The sender's port, for which 0 is not allowed.
     pub source_port: u16,
+    /// The receiver's port, for which 0 is not allowed.
     pub destination_port: u16,
+    /// The tag that the receiver gave to its peer, by which packets of an old
+    /// association are told; 0 with an INIT (RFC 4960 8.5).
     pub verification_tag: u32,
 }
 
+/// A header and the chunks behind it (RFC 4960 3). There may be none.
 #[derive(Debug, Drop)]
 pub struct Packet {
     pub common_header: CommonHeader,
@@ -59,7 +68,9 @@ impl fmt::Display for Packet {
     }
 }
 
-/// Reads the chunk at the front, and how many bytes it takes with its padding.
+/// Reads the chunk at the front, and how many bytes it takes with its padding, which has to be
+/// there. Refuses with `ErrParseSctpChunkNotEnoughData`, or as `ChunkKind::unmarshal` does.
+/// Precondition: there are bytes.
 fn read_step(alloc: Global, rest: &Bytes) -> Result<(ChunkKind, usize)>
     requires { 0 < length rest.now }
     ensures found { IfOk result (λ x. Steps rest.now (wire_of x.0)) }
@@ -82,6 +93,7 @@ fn read_step(alloc: Global, rest: &Bytes) -> Result<(ChunkKind, usize)>
     Ok((chunk, length))
 }
 
+/// Reads chunks up to the end of the bytes. Refuses as `read_step` does at a place that the walk comes to.
 fn read_chunks(alloc: Global, raw: Bytes) -> Result<Vec<ChunkKind>>
     ensures found { IfOk result (λ v. Walks Steps after raw (map wire_of v.items) []) }
     ensures only { (ws : List Wire) → Walks Steps after raw ws []
@@ -102,6 +114,7 @@ fn read_chunks(alloc: Global, raw: Bytes) -> Result<Vec<ChunkKind>>
 }
 
 /// Reads the header and tests the checksum. Gives the header and the bytes after it.
+/// Refuses with `ErrPacketRawTooSmall`, `ErrChecksumMismatch`, or for memory.
 fn open_packet<C: Checksum>(raw: &Bytes, checksum: &C) -> Result<(CommonHeader, Bytes)>
     ensures headed { IfOk result (λ x. IsHeaded (C.sum checksum.now) raw.now) }
     ensures source_port { IfOk result (λ x. x.0.source_port ≡ u16_at raw.now 0) }
@@ -130,7 +143,7 @@ fn open_packet<C: Checksum>(raw: &Bytes, checksum: &C) -> Result<(CommonHeader, 
     Ok((header, rest))
 }
 
-/// Appends a chunk and its padding.
+/// Appends a chunk and its padding. Refuses as `Chunk::marshal_to` does, and the bytes are as they were then.
 fn put_chunk(buf: &mut BytesMut, chunk: &ChunkKind) -> Result<()>
     ensures ok { OnOk result (HasText (wire_of chunk.now)
         × (buf.new.items ≡ buf.old.items ++ padded_text (wire_of chunk.now))) }
@@ -207,7 +220,10 @@ fn store_checksum<C: Checksum>(buf: &mut BytesMut, start: usize, checksum: &C)
 }
 
 impl Packet {
-    /// Reads a packet, all of the bytes.
+    /// Reads a packet, all of the bytes. A header alone is a packet without chunks.
+    /// Refuses under 12 bytes with `ErrPacketRawTooSmall`, another checksum with `ErrChecksumMismatch`, a last
+    /// chunk whose padding is not there, or one to three bytes too many, with `ErrParseSctpChunkNotEnoughData`, a
+    /// chunk as `ChunkKind::unmarshal` does; or for memory. A chunk of an unknown type refuses the whole packet.
     pub fn unmarshal<C: Checksum>(alloc: Global, raw: &Bytes, checksum: &C) -> Result<Packet>
         ensures found { IfOk result (λ p. ReadsPacket (C.sum checksum.now) raw.now (parts_of p)) }
         ensures only { (p : Parts) → ReadsPacket (C.sum checksum.now) raw.now p
@@ -227,7 +243,10 @@ impl Packet {
         })
     }
 
-    /// Appends the packet, and answers the buffer's length.
+    /// Appends the packet, whatever stands before it in the buffer, and answers the
+    /// buffer's length. The checksum is of the packet's own bytes.
+    /// Refuses as `Chunk::marshal_to` does for the first chunk that has no text, or for
+    /// memory where the buffer lacked room. The buffer's bytes are as they were then.
     #[tactic(auto, using(crate::proofs::Again::packet_again))]
     pub fn marshal_to<C: Checksum>(&self, buf: &mut BytesMut, checksum: &C) -> Result<usize>
         ensures ok { IfOk result (λ n. HavePacketText (parts_of self.now)
@@ -255,7 +274,7 @@ impl Packet {
         }
     }
 
-    /// The packet as bytes.
+    /// The packet as bytes. Refuses as `Chunk::marshal` does for the first chunk that has no text, or for memory.
     pub fn marshal<C: Checksum>(&self, alloc: Global, checksum: &C) -> Result<Bytes>
         ensures ok { IfOk result (λ b. HavePacketText (parts_of self.now)
             × (b ≡ packet_text (C.sum checksum.now) (parts_of self.now))) }
@@ -308,8 +327,11 @@ fn has_init(chunks: &[ChunkKind]) -> bool
 }
 
 impl Packet {
-    /// Tests what all packets must keep to: ports are not 0, and an INIT stands alone under tag 0
-    /// (RFC 4960 3.1, 6.10, 8.5.1).
+    /// Tests what all packets must keep to, in this order: ports are not 0 (RFC 4960 3.1), an INIT
+    /// is the only chunk (RFC 4960 6.10), and it stands under tag 0 (RFC 4960 8.5.1). An INIT-ACK
+    /// may stand with others. Neither reading nor writing asks for it, and it takes no memory.
+    /// Refuses with `ErrSctpPacketSourcePortZero`, `ErrSctpPacketDestinationPortZero`,
+    /// `ErrInitChunkBundled` or `ErrInitChunkVerifyTagNotZero`.
     pub fn check_packet(&self) -> Result<()>
         ensures ok { OnOk result (IsSound (parts_of self.now)) }
         ensures fault { IfErr result (λ e. SoundFault e (parts_of self.now)) }

@@ -9,5 +9,9 @@ pub mod reassembly_queue;
 mod serial;
 pub mod turns;
 
-pub use payload_queue::held;
-pub use reassembly_queue::{chunks, loose};
+pub use outbound_queue::OutboundQueue;
+pub use payload_queue::{PayloadQueue, held};
+pub use pending_queue::PendingQueue;
+pub use reassembly_queue::chunks::{Chunk, Chunks, Fragments};
+pub use reassembly_queue::{ReassemblyQueue, chunks, loose};
+pub use turns::Turns;

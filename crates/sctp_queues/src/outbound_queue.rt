@@ -20,7 +20,8 @@ use sctp_chunks::chunk::chunk_payload_data::ChunkPayloadData;
 use std::alloc::Global;
 use std::marker::Model;
 
-/// Messages that wait, and their chunks in flight. A number names the fragments of a message in both.
+/// Messages that wait, and their chunks in flight. A number that all fragments of a message share finds them in
+/// both when the message is given up. Moments are in nanoseconds, from any beginning that the caller keeps to.
 #[derive(Drop)]
 pub struct OutboundQueue {
     pending: PendingQueue,
@@ -48,6 +49,7 @@ impl OutboundQueue {
     ghost use Rattle.sctp_queues.specs.outbound_queue.OutboundQueue.{Outbound, total_bytes, with_inflight, with_message, has_room, all_started, following_tsn, sent_peeked, sent_next, abandoned, tsn_after, to_abandon, abandoned_of, tsn_after_of, has_tail, expiring, expired_of, expiring_tail, message_of, late_tsns, after_sends};
     ghost use Rattle.sctp_queues.specs.payload_queue.PayloadQueue.{front_with, without_front};
 
+    /// A queue of nothing, whose first message gets the number 0. It takes no memory.
     pub fn new(alloc: Global) -> Self
         ensures { result ≡ record { pending = record { ordered = []; unordered = []; selected = None; ordered_room = 0; unordered_room = 0 }; inflight = record { chunks = []; duplicates = []; room = 0 }; next_message_id = 0; next_unstarted = 0 } }
     {
@@ -59,7 +61,7 @@ impl OutboundQueue {
         }
     }
 
-    /// The number of the next message.
+    /// The number that the next message gets: how many were pushed.
     pub fn next_message_id(&self) -> u64
         ensures { result ≡ self.now.next_message_id }
     {
@@ -67,6 +69,11 @@ impl OutboundQueue {
     }
 
     /// Puts the fragments of a message behind those that wait, under the next number.
+    /// An empty list changes nothing. Numbers are never used twice, so that one
+    /// never stands for two messages that wait.
+    /// Precondition: the list is empty, or one whole message, all ordered or all unordered; the number is
+    /// below the greatest u64; and the bytes that wait and are in flight, with these, are fewer than 2^64.
+    /// Refuses only for memory, and never within the room of `reserve`. The queue is as it was then.
     pub fn push(&mut self, chunks: Vec<ChunkPayloadData>) -> Result<()>
         requires message { IsMessageOrNone chunks.items }
         requires number { self.old.next_message_id + 1 < 2 ^ 64 }
@@ -86,7 +93,9 @@ impl OutboundQueue {
         Ok(())
     }
 
-    /// Starts the lifetimes of the messages pushed since the last time. No message is started twice.
+    /// Starts the lifetimes of the messages pushed since the last time: their deadlines are `now`
+    /// plus the milliseconds of their reliability, in nanoseconds. No message is started twice, and
+    /// so none starts later than the first call or `send_next` after its push. It takes no memory.
     pub fn start_timed_messages(&mut self, now: u64)
         ensures { self.new ≡ all_started now self.old }
     {
@@ -106,7 +115,7 @@ impl OutboundQueue {
         self.pending.peek()
     }
 
-    /// The chunk that a peek would give after so many sends, its deadline not yet started.
+    /// The chunk that a peek would give after so many sends, its deadline not yet started. None where fewer wait.
     pub fn peek_pending_at(&self, sends: usize) -> Option<&ChunkPayloadData>
         ensures { option_copied result ≡ pending.peeked (after_sends sends self.now.pending) }
     {
@@ -114,6 +123,11 @@ impl OutboundQueue {
     }
 
     /// Starts lifetimes and puts the peeked chunk in flight under `next_tsn`, which goes up by one.
+    /// Its `since` is `now`, in nanoseconds, and its `nsent` is 1. Answers the TSN,
+    /// or None with nothing pending; lifetimes start then too.
+    /// Precondition: `next_tsn` is not in flight, and lies with all that is at distance 1 to 2^31 after some number.
+    /// Refuses only for memory, and not where nothing is pending nor within the
+    /// room of `reserve_inflight`. The queue and `next_tsn` are as they were then.
     pub fn send_next(&mut self, next_tsn: &mut u32, now: u64) -> Result<Option<u32>>
         requires fresh { is_held self.old.inflight.chunks next_tsn.old ≡ false }
         requires window { SpansOneWindow self.old.inflight.chunks next_tsn.old }
@@ -163,8 +177,15 @@ impl OutboundQueue {
         }
     }
 
-    /// Gives up the message of a chunk in flight: its chunks in flight are cleared and flagged, its unsent tail goes, and one
-    /// end mark in flight stands for the tail. Answers the stream and the bytes that left (RFC 3758 3.5).
+    /// Gives up the message of a chunk in flight: its chunks in flight are cleared and flagged, its
+    /// unsent tail goes, and one end mark in flight stands for the tail, an empty last fragment
+    /// (RFC 3758 3.5). Answers the stream and the bytes that left, 0 where the message was given up
+    /// before; None where the TSN is not in flight. The mark takes `next_tsn`, which goes up by one,
+    /// so that a FORWARD-TSN has a TSN to go to even where every fragment that was sent arrived and
+    /// only its acknowledgement was lost. One mark is enough: the tail's bytes never had TSNs.
+    /// Precondition: as for `send_next`.
+    /// Refuses only for memory, and not where the message has no tail nor within the
+    /// room of `reserve_inflight`. The queue and `next_tsn` are as they were then.
     pub fn abandon(&mut self, tsn: u32, next_tsn: &mut u32) -> Result<Option<(u16, usize)>>
         requires fresh { is_held self.old.inflight.chunks next_tsn.old ≡ false }
         requires window { SpansOneWindow self.old.inflight.chunks next_tsn.old }
@@ -238,8 +259,11 @@ impl OutboundQueue {
         in_flight + pending
     }
 
-    /// Removes the message in front, where it is lapsed and wholly unsent, without a TSN. The later numbers of its stream close
-    /// up where it is ordered. Answers its stream, whether it is unordered, and its bytes.
+    /// Removes the message in front, where it is lapsed and wholly unsent, without a TSN: a
+    /// FORWARD-TSN need not pass it. The later numbers of its stream close up where it is ordered;
+    /// the caller lowers the stream's next number by one. Answers its stream, whether it is
+    /// unordered, and its bytes. `now` is in nanoseconds; a message is lapsed from its deadline
+    /// on, and an empty fragment and one that establishes a channel never are. It takes no memory.
     pub fn expire_pending(&mut self, now: u64) -> Option<(u16, bool, usize)>
         ensures answer { option_map {U = ℕ × Bool} (λ a. (a.0, a.1)) result ≡ option_map {U = ℕ × Bool} (λ c. (c.stream_identifier, c.unordered)) (expiring now self.old) }
         ensures released { total_bytes self.new + expired_bytes result ≡ total_bytes self.old }
@@ -276,8 +300,12 @@ impl OutboundQueue {
         self.pending.compact_ordered_ssns(stream_identifier);
     }
 
-    /// Gives up the rest of the half-sent message in front, where it is lapsed; its fragments in flight may all be acknowledged
-    /// and gone. Answers its stream, its number and the bytes that left.
+    /// Gives up the rest of the half-sent message in front, where it is lapsed, as `abandon` does;
+    /// its fragments in flight may all be acknowledged and gone, so that no TSN is left to abandon
+    /// it by. `now` is in nanoseconds. Answers its stream, its number and the bytes that left.
+    /// Precondition: as for `send_next`.
+    /// Refuses only for memory, and not where there is no such message nor within the
+    /// room of `reserve_inflight`. The queue and `next_tsn` are as they were then.
     pub fn expire_pending_tail(
         &mut self,
         now: u64,
@@ -308,7 +336,10 @@ impl OutboundQueue {
         Ok(Some((stream_identifier, message_id, bytes)))
     }
 
-    /// The TSNs of lapsed chunks in flight that are not abandoned, and not acknowledged or of a message with an unsent tail.
+    /// The TSNs of lapsed chunks in flight that are not abandoned, and not acknowledged or of a message with an
+    /// unsent tail, in serial order. A message that was acknowledged whole is not named. They are listed before any
+    /// of them is abandoned, so that what is given up does not hang on how much may be sent. `now` is in nanoseconds.
+    /// Refuses only for memory, and not where there are none.
     pub fn expired_inflight(&self, alloc: Global, now: u64) -> Result<Vec<u32>>
         ensures ok { IfOk result (λ tsns. tsns.items ≡ late_tsns now self.now) }
         ensures memory { IsOkUnless result ErrOutOfMemory }
@@ -340,7 +371,8 @@ impl OutboundQueue {
         self.inflight.pop(tsn)
     }
 
-    /// Marks a chunk in flight as acknowledged, and answers the bytes that left.
+    /// Marks a chunk in flight as acknowledged: its bytes go, and it is not to be
+    /// sent again. Answers how many bytes left, 0 where the TSN is not in flight.
     pub fn mark_as_acked(&mut self, tsn: u32) -> usize
         ensures acked { self.new ≡ with_inflight self.old (change_where (has_tsn tsn) acknowledged self.old.inflight.chunks) }
         ensures left { total_bytes self.new + result ≡ total_bytes self.old }
@@ -348,14 +380,15 @@ impl OutboundQueue {
         self.inflight.mark_as_acked(tsn)
     }
 
-    /// Flags each chunk in flight that is neither acknowledged nor abandoned.
+    /// Flags each chunk in flight that is neither acknowledged nor abandoned to be
+    /// sent again, as after the retransmission timer ran out (RFC 4960 6.3.3).
     pub fn mark_all_to_retransmit(&mut self)
         ensures { self.new ≡ with_inflight self.old (change_where is_outstanding (with_retransmit true) self.old.inflight.chunks) }
     {
         self.inflight.mark_all_to_retransmit();
     }
 
-    /// Whether the TSN is in flight; the chunk has the mark then.
+    /// Whether the TSN is in flight; the chunk is to be sent again then, or not, as `retransmit` says.
     pub fn set_retransmit(&mut self, tsn: u32, retransmit: bool) -> bool
         ensures changed { self.new ≡ with_inflight self.old (change_where (has_tsn tsn) (with_retransmit retransmit) self.old.inflight.chunks) }
         ensures held { result ≡ is_held self.old.inflight.chunks tsn }
@@ -371,7 +404,7 @@ impl OutboundQueue {
         self.inflight.set_nsent(tsn, nsent)
     }
 
-    /// Whether the TSN is in flight; the chunk counts as sent at that moment then.
+    /// Whether the TSN is in flight; the chunk counts as sent at that moment then, in nanoseconds.
     pub fn set_since(&mut self, tsn: u32, since: Option<u64>) -> bool
         ensures changed { self.new ≡ with_inflight self.old (change_where (has_tsn tsn) (with_since since) self.old.inflight.chunks) }
         ensures held { result ≡ is_held self.old.inflight.chunks tsn }
@@ -379,7 +412,8 @@ impl OutboundQueue {
         self.inflight.set_since(tsn, since)
     }
 
-    /// Whether the TSN is in flight; the chunk has so many missing reports then.
+    /// Whether the TSN is in flight; the chunk then counts as reported missing by so
+    /// many acknowledgements, which fast retransmission looks at (RFC 4960 7.2.4).
     pub fn set_miss_indicator(&mut self, tsn: u32, miss_indicator: u8) -> bool
         ensures changed { self.new ≡ with_inflight self.old (change_where (has_tsn tsn) (with_miss_indicator miss_indicator) self.old.inflight.chunks) }
         ensures held { result ≡ is_held self.old.inflight.chunks tsn }
@@ -387,7 +421,7 @@ impl OutboundQueue {
         self.inflight.set_miss_indicator(tsn, miss_indicator)
     }
 
-    /// Whether the chunk in flight with this TSN is abandoned.
+    /// Whether the chunk in flight with this TSN is abandoned; false where there is none.
     pub fn is_abandoned(&self, tsn: u32) -> bool
         ensures { result ≡ unwrap_or (option_map (λ c. c.abandoned) (find (has_tsn tsn) self.now.inflight.chunks)) false }
     {
@@ -397,7 +431,8 @@ impl OutboundQueue {
         }
     }
 
-    /// The first TSN in flight that is neither acknowledged nor abandoned.
+    /// The first TSN in flight that is neither acknowledged nor abandoned: a
+    /// FORWARD-TSN can go up to before it (RFC 3758 3.5).
     pub fn earliest_outstanding_tsn(&self) -> Option<u32>
         ensures { result ≡ option_map (λ c. c.tsn) (find is_outstanding self.now.inflight.chunks) }
     {
@@ -454,6 +489,7 @@ impl OutboundQueue {
     }
 
     /// From here on so many pushes of ordered and of unordered fragments take no memory.
+    /// Refuses only for memory, and the queue is as it was then.
     pub fn reserve(&mut self, ordered: usize, unordered: usize) -> Result<()>
         ensures ok { OnOk result (self.new ≡ record self.old { pending = pending.reserved self.old.pending ordered unordered }) }
         ensures err { OnErr result (self.new ≡ self.old) }
@@ -463,7 +499,8 @@ impl OutboundQueue {
         self.pending.reserve(ordered, unordered)
     }
 
-    /// From here on so many sends take no memory.
+    /// From here on so many sends and end marks take no memory.
+    /// Refuses only for memory, and the queue is as it was then.
     pub fn reserve_inflight(&mut self, sends: usize) -> Result<()>
         ensures ok { OnOk result (self.new ≡ record self.old { inflight = record self.old.inflight { room = max sends self.old.inflight.room } }) }
         ensures err { OnErr result (self.new ≡ self.old) }

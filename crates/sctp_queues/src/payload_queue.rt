@@ -26,6 +26,8 @@ use std::alloc::Global;
 use std::marker::Model;
 use std::mem;
 
+/// Chunks by their TSNs, each TSN once, in serial order (RFC 4960 1.6): on the sender what is in
+/// flight, on the receiver what came beyond the cumulative TSN. It also notes which TSNs came again.
 #[derive(Drop)]
 pub struct PayloadQueue {
     held: Held,
@@ -228,6 +230,7 @@ impl PayloadQueue {
     ghost use Rattle.sctp_queues.specs.payload_queue.PayloadQueue.{Payload, with_chunks, pushed, repeated, front_with, without_front, without, past};
     ghost use Rattle.sctp_queues.specs.Marks.{marked, acknowledged, given_up, with_retransmit, with_nsent, with_since, with_miss_indicator, is_of};
 
+    /// A queue of nothing. It takes no memory.
     pub fn new(alloc: Global) -> Self
         ensures { result ≡ record { chunks = []; duplicates = []; room = 0 } }
     {
@@ -238,14 +241,14 @@ impl PayloadQueue {
         }
     }
 
-    /// Whether the chunk is neither held nor at or before `cumulative_tsn`.
+    /// Whether the chunk is neither held nor at or before `cumulative_tsn`. `push` keeps such a one.
     pub fn can_push(&self, chunk: &ChunkPayloadData, cumulative_tsn: u32) -> bool
         ensures { result ≡ is_new self.now.chunks chunk.now.tsn cumulative_tsn }
     {
         self.can_push_counted(chunk, cumulative_tsn, &mut Turns::new())
     }
 
-    /// The same, and its turns are added.
+    /// The same, and its turns are added: at most as many as the number of held chunks has binary digits.
     pub fn can_push_counted(
         &self,
         chunk: &ChunkPayloadData,
@@ -260,6 +263,9 @@ impl PayloadQueue {
     }
 
     /// Puts a chunk whose TSN is not held, in one window with all that are.
+    /// Precondition: its TSN is not held; it and all that is held lie at distance 1
+    /// to 2^31 after some number; and the bytes of all are fewer than 2^64.
+    /// Refuses only for memory, and never within the room of `reserve`. The queue is as it was then.
     pub fn push_no_check(&mut self, chunk: ChunkPayloadData) -> Result<()>
         requires fresh { is_held self.old.chunks chunk.tsn ≡ false }
         requires window { SpansOneWindow self.old.chunks chunk.tsn }
@@ -275,7 +281,11 @@ impl PayloadQueue {
         }
     }
 
-    /// Puts a chunk that came. One that is held, or at or before `cumulative_tsn`, is noted as a duplicate; the answer is false then.
+    /// Puts a chunk that came. One that is held, or at or before `cumulative_tsn`, is noted as
+    /// a duplicate, which the next SACK reports (RFC 4960 3.3.4); the answer is false then.
+    /// Precondition: where the chunk is new (`can_push`), it and all that is held lie at
+    /// distance 1 to 2^31 after `cumulative_tsn`, and the bytes of all are fewer than 2^64.
+    /// Refuses only for memory, and a new chunk never within the room of `reserve`. The queue is as it was then.
     pub fn push(&mut self, chunk: ChunkPayloadData, cumulative_tsn: u32) -> Result<bool>
         requires window { IsTrue (is_new self.old.chunks chunk.tsn cumulative_tsn) → IsWindow cumulative_tsn self.old.chunks chunk.tsn }
         requires bytes { IsTrue (is_new self.old.chunks chunk.tsn cumulative_tsn) → bytes_of self.old.chunks + length chunk.user_data < 2 ^ 64 }
@@ -312,7 +322,7 @@ impl PayloadQueue {
         Ok(())
     }
 
-    /// The front chunk, if it has this TSN.
+    /// The front chunk, taken out, if it has this TSN.
     pub fn pop(&mut self, tsn: u32) -> Option<ChunkPayloadData>
         ensures popped { result ≡ front_with tsn self.old.chunks }
         ensures rest { self.new ≡ with_chunks self.old (without_front tsn self.old.chunks) }
@@ -325,14 +335,16 @@ impl PayloadQueue {
         Some(chunk)
     }
 
-    /// Takes out all that is at or before `cumulative_tsn`, however far that is (RFC 3758 3.6).
+    /// Takes out all that is at or before `cumulative_tsn` (RFC 3758 3.6). The number
+    /// comes off the wire in a FORWARD-TSN and may lie almost 2^31 ahead: what a
+    /// hostile jump costs depends on how much is held, not on how far it goes.
     pub fn pop_up_to(&mut self, cumulative_tsn: u32)
         ensures { self.new ≡ with_chunks self.old (past cumulative_tsn self.old.chunks) }
     {
         self.pop_up_to_counted(cumulative_tsn, &mut Turns::new());
     }
 
-    /// The same, at most one turn for each chunk held.
+    /// The same, and its turns are added: at most one for each chunk held.
     pub fn pop_up_to_counted(&mut self, cumulative_tsn: u32, turns: &mut Turns)
         ensures kept { self.new ≡ with_chunks self.old (past cumulative_tsn self.old.chunks) }
         ensures not_back { turns.old ≤ turns.new }
@@ -370,7 +382,7 @@ impl PayloadQueue {
         }
     }
 
-    /// The TSN of the chunk at a place.
+    /// The TSN of the chunk at a place, counted from 0 in serial order; None past the last.
     pub fn tsn_at(&self, place: usize) -> Option<u32>
         ensures { result ≡ option_map (λ c. c.tsn) (slice_get self.now.chunks place) }
     {
@@ -396,7 +408,8 @@ impl PayloadQueue {
         }
     }
 
-    /// Gives up what is held of a message, and answers the bytes that left.
+    /// Gives up what is held of a message: its chunks are cleared and flagged, whatever their TSNs,
+    /// and stay in flight until they are taken out (RFC 3758 3.5). Answers the bytes that left.
     pub fn abandon_message(&mut self, message_id: u64) -> usize
         ensures abandoned { self.new ≡ with_chunks self.old (change_where (is_of message_id) given_up self.old.chunks) }
         ensures left { bytes_of self.new.chunks + result ≡ bytes_of self.old.chunks }
@@ -412,7 +425,8 @@ impl PayloadQueue {
         before - self.n_bytes
     }
 
-    /// Flags each chunk that is neither acknowledged nor abandoned.
+    /// Flags each chunk that is neither acknowledged nor abandoned to be sent
+    /// again, as after the retransmission timer ran out (RFC 4960 6.3.3).
     pub fn mark_all_to_retransmit(&mut self)
         ensures { self.new ≡ with_chunks self.old (change_where is_outstanding (with_retransmit true) self.old.chunks) }
     {
@@ -425,7 +439,7 @@ impl PayloadQueue {
         }
     }
 
-    /// The duplicates noted so far, oldest first.
+    /// The TSNs that came again, noted so far, oldest first (RFC 4960 3.3.4).
     pub fn duplicates(&self) -> &[u32]
         ensures { result.now ≡ self.now.duplicates }
     {
@@ -440,7 +454,9 @@ impl PayloadQueue {
         mem::replace(&mut self.dup_tsn, Vec::new(alloc))
     }
 
-    /// The runs of TSNs held at distance 1 to 65,535 after `cumulative_tsn`: they ascend, and none touches the next (RFC 4960 3.3.4).
+    /// The runs of TSNs held at distance 1 to 65,535 after `cumulative_tsn`: they ascend, and none
+    /// touches the next (RFC 4960 3.3.4). A distance there has two bytes and does not wrap: farther TSNs
+    /// stay held, and are reported once the cumulative TSN has come nearer. Refuses only for memory.
     pub fn get_gap_ack_blocks(&self, alloc: Global, cumulative_tsn: u32) -> Result<Vec<GapAckBlock>>
         ensures reported { IfOk result (λ blocks. Reports cumulative_tsn self.now.chunks blocks.items) }
         ensures runs { IfOk result (λ blocks. map ends_of blocks.items ≡ runs_of (gap_offsets cumulative_tsn self.now.chunks)) }
@@ -482,7 +498,7 @@ impl PayloadQueue {
         Ok(blocks)
     }
 
-    /// The blocks as text: `cumTSN=10,2-3,5-5`.
+    /// The blocks as text: `cumTSN=10,2-3,5-5`. Refuses only for memory.
     pub fn get_gap_ack_blocks_string(&self, alloc: Global, cumulative_tsn: u32) -> Result<String>
         ensures text { IfOk result (λ s. string_bytes s ≡ gap_text cumulative_tsn (runs_of (gap_offsets cumulative_tsn self.now.chunks))) }
         ensures memory { IsOkUnless result ErrOutOfMemory }
@@ -495,7 +511,7 @@ impl PayloadQueue {
         Ok(text)
     }
 
-    /// An equal queue.
+    /// An equal queue, which shares its bytes; its room is as great. Refuses only for memory.
     pub fn try_clone(&self, alloc: Global) -> Result<PayloadQueue>
         ensures ok { IfOk result (λ q. q ≡ self.now) }
         ensures memory { IsOkUnless result ErrOutOfMemory }
@@ -514,7 +530,8 @@ impl PayloadQueue {
         })
     }
 
-    /// Marks a chunk as acknowledged, and answers the bytes that left.
+    /// Marks a chunk as acknowledged: its bytes go, and it is not to be sent again.
+    /// Answers how many bytes left, 0 where the TSN is not held.
     pub fn mark_as_acked(&mut self, tsn: u32) -> usize
         ensures acked { self.new ≡ with_chunks self.old (change_where (has_tsn tsn) acknowledged self.old.chunks) }
         ensures left { bytes_of self.new.chunks + result ≡ bytes_of self.old.chunks }
@@ -522,7 +539,7 @@ impl PayloadQueue {
         self.mark(tsn, Mark::Acknowledged).unwrap_or(0)
     }
 
-    /// Whether the TSN is held; the chunk has the mark then.
+    /// Whether the TSN is held; the chunk is to be sent again then, or not, as `retransmit` says.
     pub fn set_retransmit(&mut self, tsn: u32, retransmit: bool) -> bool
         ensures changed { self.new ≡ with_chunks self.old (change_where (has_tsn tsn) (with_retransmit retransmit) self.old.chunks) }
         ensures held { result ≡ is_held self.old.chunks tsn }
@@ -538,7 +555,7 @@ impl PayloadQueue {
         self.mark(tsn, Mark::Nsent(nsent)).is_some()
     }
 
-    /// Whether the TSN is held; the chunk counts as sent at that moment then.
+    /// Whether the TSN is held; the chunk counts as sent at that moment then, in nanoseconds.
     pub fn set_since(&mut self, tsn: u32, since: Option<u64>) -> bool
         ensures changed { self.new ≡ with_chunks self.old (change_where (has_tsn tsn) (with_since since) self.old.chunks) }
         ensures held { result ≡ is_held self.old.chunks tsn }
@@ -546,7 +563,8 @@ impl PayloadQueue {
         self.mark(tsn, Mark::Since(since)).is_some()
     }
 
-    /// Whether the TSN is held; the chunk has so many missing reports then.
+    /// Whether the TSN is held; the chunk then counts as reported missing by so
+    /// many acknowledgements, which fast retransmission looks at (RFC 4960 7.2.4).
     pub fn set_miss_indicator(&mut self, tsn: u32, miss_indicator: u8) -> bool
         ensures changed { self.new ≡ with_chunks self.old (change_where (has_tsn tsn) (with_miss_indicator miss_indicator) self.old.chunks) }
         ensures held { result ≡ is_held self.old.chunks tsn }
@@ -572,7 +590,7 @@ impl PayloadQueue {
         }
     }
 
-    /// The TSN of the last chunk.
+    /// The TSN of the last chunk in serial order; None where nothing is held.
     pub fn get_last_tsn_received(&self) -> Option<u32>
         ensures { result ≡ option_map (λ c. c.tsn) (slice_get self.now.chunks (length self.now.chunks - 1)) }
     {
@@ -590,12 +608,14 @@ impl PayloadQueue {
         self.n_bytes
     }
 
+    /// How many chunks are held.
     pub fn len(&self) -> usize
         ensures { result ≡ length self.now.chunks }
     {
         self.held.len()
     }
 
+    /// Whether nothing is held.
     pub fn is_empty(&self) -> bool
         ensures { result ≡ (length self.now.chunks == 0) }
     {
@@ -616,6 +636,7 @@ impl PayloadQueue {
     }
 
     /// From here on `additional` pushes of new TSNs take no memory.
+    /// Refuses only for memory, and the queue is as it was then.
     pub fn reserve(&mut self, additional: usize) -> Result<()>
         ensures ok { OnOk result (self.new ≡ record self.old { room = max additional self.old.room }) }
         ensures err { OnErr result (self.new ≡ self.old) }

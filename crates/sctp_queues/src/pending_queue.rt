@@ -17,10 +17,13 @@ use sctp_chunks::chunk::chunk_payload_data::ChunkPayloadData;
 use std::alloc::Global;
 use std::marker::Model;
 
-/// A message whose first fragment left and whose ending fragment did not.
+/// A message whose first fragment left and whose ending fragment did not. The queue goes on with
+/// its list until then, so that the TSNs of its fragments can follow one another (RFC 4960 3.3.1).
 #[derive(Clone, Copy, PartialEq, Eq)]
 pub struct Selected {
+    /// Its number.
     pub message_id: u64,
+    /// Which list it is in.
     pub unordered: bool,
 }
 
@@ -47,6 +50,7 @@ impl Model for PendingQueue {
 impl PendingQueue {
     ghost use Rattle.sctp_queues.specs.pending_queue.PendingQueue.{Pending, chunk_count, total_bytes, room_for, reserved, pushed, peeked, popped, rest_after, list_of, rest_of, removed_bytes, last_removed, without, closed_up, started, is_on};
 
+    /// A queue of nothing. It takes no memory.
     pub fn new(alloc: Global) -> Self
         ensures { result ≡ record { ordered = []; unordered = []; selected = None; ordered_room = 0; unordered_room = 0 } }
     {
@@ -57,6 +61,9 @@ impl PendingQueue {
         }
     }
 
+    /// Puts a chunk behind the others of the list that its `unordered` names.
+    /// Precondition: the bytes of all, with its own, are fewer than 2^64.
+    /// Refuses only for memory, and never within the room of `reserve`. The queue is as it was then.
     pub fn push(&mut self, chunk: ChunkPayloadData) -> Result<()>
         requires { total_bytes self.old + length chunk.user_data < 2 ^ 64 }
         ensures ok { OnOk result (self.new ≡ pushed self.old chunk) }
@@ -72,6 +79,8 @@ impl PendingQueue {
     }
 
     /// Puts the fragments of a message behind those of one list, under its number.
+    /// Precondition: the bytes of all, with theirs, are fewer than 2^64.
+    /// Refuses only for memory, and never within the room of `reserve`. The queue is as it was then.
     pub(crate) fn push_message(
         &mut self,
         chunks: Vec<ChunkPayloadData>,
@@ -92,7 +101,9 @@ impl PendingQueue {
         }
     }
 
-    /// Starts the lifetimes of timed messages numbered from `first_message_id` on that have no deadline yet.
+    /// Starts the lifetimes of timed messages numbered from `first_message_id` on that have no deadline yet:
+    /// it is `now`, in nanoseconds, plus the milliseconds of their reliability, or none where that passes
+    /// the greatest u64. Messages that establish a channel never get one (RFC 8832 6). It takes no memory.
     pub fn start_timed_messages(&mut self, first_message_id: u64, now: u64)
         ensures { self.new ≡ started first_message_id now self.old }
     {
@@ -100,7 +111,9 @@ impl PendingQueue {
         self.unordered.start_timed_messages(first_message_id, now);
     }
 
-    /// The same where the numbers of each list ascend: it looks at the messages numbered so, and at the last chunk before them.
+    /// The same where the numbers of each list ascend: it looks at the messages
+    /// numbered so, and at the last chunk before them.
+    /// Precondition: they do. `now` is in nanoseconds.
     pub(crate) fn start_latest_messages(&mut self, first_message_id: u64, now: u64)
         requires ordered { NumbersAscend self.old.ordered }
         requires unordered { NumbersAscend self.old.unordered }
@@ -124,6 +137,7 @@ impl PendingQueue {
     }
 
     /// The chunk that goes after so many others.
+    /// Precondition: where the half-sent message is ordered, its ending fragment waits.
     pub(crate) fn peek_at(&self, index: usize) -> Option<&ChunkPayloadData>
         requires { has_end self.now.selected self.now.ordered ≡ true }
         ensures { option_copied result ≡ slice_get (order_of self.now) index }
@@ -155,7 +169,9 @@ impl PendingQueue {
         }
     }
 
-    /// Takes the front of the half-sent message's list; with none half sent that of the list that `unordered` names, if a message begins there.
+    /// Takes the front of the half-sent message's list; with none half sent that of the
+    /// list that `unordered` names, where `beginning_fragment` is true. Handed the flags of
+    /// what a peek shows, it takes that chunk, if a message is half sent or begins there.
     pub fn pop(&mut self, beginning_fragment: bool, unordered: bool) -> Option<ChunkPayloadData>
         ensures popped { result ≡ popped beginning_fragment unordered self.old }
         ensures rest { self.new ≡ rest_after beginning_fragment unordered self.old }
@@ -178,6 +194,7 @@ impl PendingQueue {
         Some(chunk)
     }
 
+    /// The list that the flag names.
     fn list(&self, unordered: bool) -> &Line
         ensures { result.now.chunks ≡ list_of unordered self.now }
     {
@@ -188,14 +205,16 @@ impl PendingQueue {
         }
     }
 
-    /// Lowers the numbers of a stream's ordered messages by one.
+    /// Lowers the stream sequence numbers of a stream's ordered chunks by one: so
+    /// the gap closes that a wholly unsent message left. It takes no memory.
     pub fn compact_ordered_ssns(&mut self, stream_identifier: u16)
         ensures { self.new ≡ closed_up stream_identifier self.old }
     {
         self.ordered.lower_ssns(stream_identifier);
     }
 
-    /// Removes what waits of a message, the ordered chunks first, and answers its bytes and the chunk removed last.
+    /// Removes what waits of a message, the ordered chunks first, and answers its bytes and the chunk
+    /// removed last. A message that is half sent stays so, unless it is this one. It takes no memory.
     pub fn remove_message(&mut self, message_id: u64) -> (usize, Option<ChunkPayloadData>)
         ensures bytes { result.0 ≡ removed_bytes message_id self.old.ordered + removed_bytes message_id self.old.unordered }
         ensures left { total_bytes self.new + result.0 ≡ total_bytes self.old }
@@ -218,12 +237,14 @@ impl PendingQueue {
         self.ordered.get_num_bytes() + self.unordered.get_num_bytes()
     }
 
+    /// How many chunks wait.
     pub fn len(&self) -> usize
         ensures { result ≡ chunk_count self.now }
     {
         self.ordered.len() + self.unordered.len()
     }
 
+    /// Whether none waits.
     pub fn is_empty(&self) -> bool
         ensures { result ≡ (chunk_count self.now == 0) }
     {
@@ -246,6 +267,7 @@ impl PendingQueue {
     }
 
     /// From here on so many pushes of ordered and of unordered chunks take no memory.
+    /// Refuses only for memory, and the queue is as it was then.
     pub fn reserve(&mut self, ordered: usize, unordered: usize) -> Result<()>
         ensures ok { OnOk result (self.new ≡ reserved self.old ordered unordered) }
         ensures err { OnErr result (self.new ≡ self.old) }

@@ -37,7 +37,8 @@ use std::alloc::Global;
 use std::collections::VecDeque;
 use std::marker::Model;
 
-/// What came of the messages of one stream and was not read.
+/// What came of the messages of one stream and was not read: sets of ordered fragments by their
+/// stream sequence numbers, whole unordered messages, and loose fragments of unordered ones.
 #[derive(Drop)]
 pub struct ReassemblyQueue {
     alloc: Global,
@@ -66,7 +67,8 @@ impl Model for ReassemblyQueue {
 impl ReassemblyQueue {
     ghost use Rattle.sctp_queues.specs.reassembly_queue.ReassemblyQueue.{ReassemblyState, message_read, rest_read, state_read, at_start, ordered_forwarded, unordered_forwarded, is_too_large, ordered_pushed, is_whole_with, PushesUnordered, GivesRun, IsCounted, held_bytes, complete_sets};
 
-    /// An empty queue of the stream `si`, which takes messages of at most `max_message_size` bytes.
+    /// An empty queue of the stream `si`, which takes messages of at most `max_message_size`
+    /// bytes and expects the stream sequence number 0 first (RFC 4960 6.5). It takes no memory.
     pub fn new(alloc: Global, si: u16, max_message_size: u32) -> Self
         ensures { result ≡ record { si = si; held = record { next_ssn = 0; ordered = []; unordered = []; loose = [] }; bytes = 0; max_message_size = max_message_size } }
     {
@@ -99,6 +101,7 @@ impl ReassemblyQueue {
         })
     }
 
+    /// The stream.
     pub fn si(&self) -> u16
         ensures { result ≡ self.now.si }
     {
@@ -133,13 +136,14 @@ impl ReassemblyQueue {
         self.unordered_chunks.loose().as_deque()
     }
 
+    /// How many bytes a message may have.
     pub fn max_message_size(&self) -> u32
         ensures { result ≡ self.now.max_message_size }
     {
         self.max_message_size
     }
 
-    /// The byte count.
+    /// The byte count: it rises by what `push` keeps, and falls by what is read or given up.
     pub fn get_num_bytes(&self) -> usize
         ensures { result ≡ self.now.bytes }
     {
@@ -155,9 +159,11 @@ impl ReassemblyQueue {
 
     /// Takes a chunk, and says whether a message became whole by it.
     ///
-    /// A chunk of another stream, an ordered one before the next number and one whose TSN is in its
-    /// set are not kept. ErrInboundPacketTooLarge: its message would be longer than
-    /// `max_message_size`; ErrOutOfMemory. The byte count grows up to the greatest usize.
+    /// A chunk of another stream, an ordered one before the next number and one whose
+    /// TSN is in its set are not kept. Repeats of unordered ones are kept: the filter
+    /// of TSNs keeps them away. The byte count grows up to the greatest usize.
+    /// Refuses with `ErrInboundPacketTooLarge`, exactly where its message would be
+    /// longer than `max_message_size`, or for memory. The queue is as it was then.
     pub fn push(&mut self, chunk: ChunkPayloadData) -> Result<bool>
         ensures other_stream { (chunk.stream_identifier == self.old.si) ≡ false → (result ≡ Ok false) × (self.new ≡ self.old) }
         ensures ordered { (chunk.stream_identifier == self.old.si) ≡ true → chunk.unordered ≡ false → IfOk result (λ whole. (self.new ≡ ordered_pushed chunk self.old) × (whole ≡ is_whole_with chunk self.old.held)) }
@@ -221,6 +227,7 @@ impl ReassemblyQueue {
         loose.is_serial() && all <= self.max_message_size as usize
     }
 
+    /// Takes an ordered chunk. Refuses only for memory.
     fn push_ordered(&mut self, chunk: ChunkPayloadData) -> Result<bool>
         ensures ok { OnOk result (self.new ≡ ordered_pushed chunk self.old) }
         ensures answer { IfOk result (λ whole. whole ≡ is_whole_with chunk self.old.held) }
@@ -238,6 +245,9 @@ impl ReassemblyQueue {
         Ok(whole)
     }
 
+    /// Takes an unordered chunk.
+    /// Precondition: `place` is where it goes among the loose fragments.
+    /// Refuses only for memory.
     fn push_unordered(&mut self, chunk: ChunkPayloadData, place: usize) -> Result<bool>
         requires { place ≡ place_among chunk.tsn self.old.held.loose }
         ensures ok { IfOk result (λ whole. PushesUnordered chunk self.old self.new whole) }
@@ -282,8 +292,8 @@ impl ReassemblyQueue {
         }
     }
 
-    /// Takes out the first whole unordered message, else the front ordered one where it is whole
-    /// and its number is not after the next.
+    /// Takes out the first whole unordered message, else the front ordered one where it is whole and its number is
+    /// not after the next (RFC 4960 6.6). The next number rises only with a message that has it. It takes no memory.
     pub fn read(&mut self) -> Option<Chunks>
         ensures message { result ≡ option_map at_start (message_read self.old.held) }
         ensures rest { self.new ≡ state_read self.old }
@@ -301,6 +311,7 @@ impl ReassemblyQueue {
         self.n_bytes = self.n_bytes.saturating_sub(counted);
     }
 
+    /// The same, without the byte count.
     fn take_message(&mut self) -> Option<Fragments>
         ensures message { result ≡ message_read self.old.held }
         ensures rest { self.new ≡ record self.old { held = rest_read self.old.held } }
@@ -319,7 +330,8 @@ impl ReassemblyQueue {
         Some(set)
     }
 
-    /// Gives up the incomplete sets at or before the number, and waits for none of them (RFC 3758 3.6).
+    /// Gives up the incomplete sets at or before the number, and waits for none of
+    /// them (RFC 3758 3.6). Whole ones stay and can be read. It takes no memory.
     pub fn forward_tsn_for_ordered(&mut self, last_ssn: u16)
         ensures value { self.new ≡ ordered_forwarded last_ssn self.old }
         ensures counted { IsCounted self.old → IsCounted self.new }
@@ -330,8 +342,9 @@ impl ReassemblyQueue {
         self.release(gone);
     }
 
-    /// Gives up the incomplete sets at or before the number that miss a TSN at or before the given
-    /// one, and waits for none of them, but stops before the first set that it leaves alone.
+    /// Gives up the incomplete sets at or before the number that miss a TSN at or before the given one, and waits
+    /// for none of them, but stops before the first set that it leaves alone. So a FORWARD-TSN that was kept over
+    /// a reset of the stream does not reach into messages whose TSNs lie behind its own. It takes no memory.
     pub fn forward_tsn_for_ordered_bounded(&mut self, last_ssn: u16, new_cumulative_tsn: u32)
         ensures value { self.new ≡ bounded_forwarded last_ssn new_cumulative_tsn self.old }
         ensures counted { IsCounted self.old → IsCounted self.new }
@@ -343,7 +356,9 @@ impl ReassemblyQueue {
         self.release(gone);
     }
 
-    /// The greatest number, at most `last_ssn`, up to which a bounded skip may go now, if any.
+    /// The greatest number, at most `last_ssn`, up to which a bounded skip may go now, if any:
+    /// as far as the TSNs that came show that it overtakes no message that is still to come.
+    /// `peer_last_tsn` is the TSN up to which all came from the peer. It takes no memory.
     pub fn applicable_forward_tsn_for_ordered_bounded(
         &self,
         last_ssn: u16,
@@ -375,7 +390,8 @@ impl ReassemblyQueue {
         )
     }
 
-    /// Drops the loose fragments up to the first that is after the TSN (RFC 3758 3.6).
+    /// Drops the loose fragments up to the first that is after the TSN
+    /// (RFC 3758 3.6). Whole unordered messages stay. It takes no memory.
     pub fn forward_tsn_for_unordered(&mut self, new_cumulative_tsn: u32)
         ensures value { self.new ≡ unordered_forwarded new_cumulative_tsn self.old }
         ensures counted { IsCounted self.old → IsCounted self.new }

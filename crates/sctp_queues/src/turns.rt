@@ -31,6 +31,7 @@ impl Model for Turns {
 }
 
 impl Turns {
+    /// No turns.
     pub fn new() -> Turns
         ensures { result ≡ 0 }
     {

@@ -13,7 +13,8 @@ use bytes::{Bytes, BytesMut};
 use std::alloc::Global;
 use std::fmt;
 
-/// The chunk types. It is the one parameter whose own reader tests the type number.
+/// The chunk types, one in a byte of the value. It is the one parameter whose own
+/// reader tests the type number: `ErrParamTypeUnexpected` where it is not 32771.
 #[derive(Debug, Drop, PartialEq, Eq)]
 pub struct ParamChunkList {
     pub chunk_types: Vec<ChunkType>,

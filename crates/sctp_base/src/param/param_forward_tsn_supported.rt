@@ -15,7 +15,8 @@ use bytes::{Bytes, BytesMut};
 use std::alloc::Global;
 use std::fmt;
 
-/// The sender of an INIT or INIT-ACK understands FORWARD-TSN. A value is ignored.
+/// The sender of an INIT or INIT-ACK understands FORWARD-TSN (RFC 3758 3.1, type
+/// 49152). A value is ignored, and written empty.
 #[derive(Clone, Copy, Debug, PartialEq, Eq)]
 pub struct ParamForwardTsnSupported;
 

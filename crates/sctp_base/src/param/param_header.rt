@@ -18,7 +18,8 @@ use std::fmt;
 /// The bytes of a header: type and length, two each.
 pub const PARAM_HEADER_LENGTH: usize = 4;
 
-/// What a parameter is, and how many bytes its value has.
+/// What a parameter is, and how many bytes its value has (RFC 4960 3.2.1). The
+/// length that is written counts the header's four bytes too.
 #[derive(Clone, Copy, Debug, PartialEq, Eq)]
 pub struct ParamHeader {
     pub typ: ParamType,
@@ -34,7 +35,8 @@ impl fmt::Display for ParamHeader {
 }
 
 impl ParamHeader {
-    /// The header of a parameter with a value of this length, where it can be declared.
+    /// The header of a parameter with a value of so many bytes. Refuses with
+    /// `ErrLengthTooLarge`, exactly where four bytes and the value are more than 65,535.
     pub fn of(typ: ParamType, value_length: usize) -> Result<Self>
         ensures ok { IfOk result (λ h. (4 + value_length < 2 ^ 16) × (h.typ ≡ typ) × (h.value_length ≡ value_length)) }
         ensures err { IfErr result (λ e. (e ≡ ErrLengthTooLarge) × (2 ^ 16 ≤ 4 + value_length)) }
@@ -48,7 +50,8 @@ impl ParamHeader {
         })
     }
 
-    /// Reads the header of the parameter that the bytes begin with.
+    /// Reads the header of the parameter that the bytes begin with. Refuses with `ErrParamHeaderTooShort`,
+    /// where there are under four bytes, the length is under four, or it passes the bytes.
     pub fn unmarshal(raw: &Bytes) -> Result<Self>
         ensures is_param { IfOk result (λ h. IsParam raw.now) }
         ensures fields { IfOk result (λ h. (h.typ ≡ type_from (param_type_at raw.now)) × (4 + h.value_length ≡ param_declared raw.now)) }
@@ -69,7 +72,7 @@ impl ParamHeader {
         })
     }
 
-    /// The length of the value.
+    /// The length of the value, in bytes.
     pub fn value_length(&self) -> usize
         ensures { result ≡ self.now.value_length }
     {
@@ -77,6 +80,8 @@ impl ParamHeader {
     }
 
     /// Appends the header, and answers the buffer's length.
+    /// Refuses with `ErrLengthTooLarge` as `of` does, or for memory where the
+    /// buffer lacked room for four bytes. The buffer's bytes are as they were then.
     pub fn marshal_to(&self, buf: &mut BytesMut) -> Result<usize>
         ensures ok { IfOk result (λ n. (4 + self.now.value_length < 2 ^ 16)
             × (buf.new.items ≡ buf.old.items ++ (be16 (type_number self.now.typ) ++ be16 (4 + self.now.value_length)))
@@ -94,7 +99,7 @@ impl ParamHeader {
         Ok(buf.len())
     }
 
-    /// The header as bytes.
+    /// The header as bytes. Refuses with `ErrLengthTooLarge` as `of` does, or for memory.
     pub fn marshal(&self, alloc: Global) -> Result<Bytes>
         ensures ok { IfOk result (λ b. (4 + self.now.value_length < 2 ^ 16)
             × (b ≡ be16 (type_number self.now.typ) ++ be16 (4 + self.now.value_length))) }
@@ -107,7 +112,8 @@ impl ParamHeader {
     }
 }
 
-/// Appends the header of a parameter with a value of this length. There is room for it.
+/// Appends the header of a parameter with a value of so many bytes. It takes no memory.
+/// Precondition: four bytes and the value are at most 65,535, and the buffer has room for four bytes.
 pub fn put_header(buf: &mut BytesMut, typ: ParamType, value_length: usize)
     requires text { 4 + value_length < 2 ^ 16 }
     requires room { 4 ≤ buf.old.spare }
@@ -119,6 +125,7 @@ pub fn put_header(buf: &mut BytesMut, typ: ParamType, value_length: usize)
 }
 
 /// Lends the value that follows a header.
+/// Precondition: it lies within the bytes.
 fn lend_value(raw: &[u8], value_length: usize) -> &[u8]
     requires { PARAM_HEADER_LENGTH + value_length ≤ length raw.now }
     ensures value { result.now ≡ slice_range raw.now PARAM_HEADER_LENGTH (PARAM_HEADER_LENGTH + value_length) }
@@ -127,7 +134,8 @@ fn lend_value(raw: &[u8], value_length: usize) -> &[u8]
     &raw[PARAM_HEADER_LENGTH..PARAM_HEADER_LENGTH + value_length]
 }
 
-/// Reads the header of a parameter, and lends its value.
+/// Reads the header of a parameter, and lends its value. Refuses as
+/// `ParamHeader::unmarshal` does, and takes no memory.
 #[tactic(auto, unfolding(crate::specs::ParamFraming::param_value_at))]
 pub fn open_param(raw: &Bytes) -> Result<(ParamHeader, &[u8])>
     ensures is_param { IfOk result (λ x. IsParam raw.now) }
@@ -141,7 +149,7 @@ pub fn open_param(raw: &Bytes) -> Result<(ParamHeader, &[u8])>
     Ok((header, value))
 }
 
-/// Reads the header of a parameter, and shares its value.
+/// Reads the header of a parameter, and shares its value. Refuses as `ParamHeader::unmarshal` does, or for memory.
 #[tactic(auto, unfolding(crate::specs::ParamFraming::param_value_at))]
 pub fn share_param(raw: &Bytes) -> Result<(ParamHeader, Bytes)>
     ensures is_param { IfOk result (λ x. IsParam raw.now) }

@@ -12,7 +12,8 @@ use bytes::{Bytes, BytesMut};
 use std::alloc::Global;
 use std::fmt;
 
-/// Bytes that the peer sends back as they are.
+/// Bytes that the peer sends back as they are: only their sender knows what they
+/// mean (RFC 4960 3.3.5, type 1). The value is those bytes.
 #[derive(Debug, Drop, PartialEq, Eq)]
 pub struct ParamHeartbeatInfo {
     pub heartbeat_information: Bytes,

@@ -25,7 +25,8 @@ use bytes::{Bytes, BytesMut};
 use std::alloc::Global;
 use std::fmt;
 
-/// A parameter of one of the kinds that are read.
+/// A parameter of one of the ten kinds that are read, or one of an unknown type
+/// that is kept. It prints as that kind does.
 #[derive(Debug, Drop, PartialEq, Eq)]
 pub enum ParamKind {
     HeartbeatInfo(ParamHeartbeatInfo),
@@ -59,8 +60,10 @@ impl fmt::Display for ParamKind {
     }
 }
 
-/// Reads the parameter that the bytes begin with, by its type. A type of no kind is kept where its
-/// highest bit is set, else refused (RFC 4960 3.2.1).
+/// Reads the parameter that the bytes begin with, by its type. A type of no kind is kept as
+/// `ParamUnknown` where its highest bit is set, else refused with `ErrParamTypeUnhandled`: that
+/// bit says that a receiver which does not know the type skips it and goes on (RFC 4960 3.2.1).
+/// Refuses with `ErrParamHeaderTooShort` where there is no header, else as the kind's reader does.
 #[tactic(auto, using(crate::proofs::ParamAgain::own_again), unfolding(crate::specs::ParamKind::ParamFault))]
 pub fn build_param(alloc: Global, raw: &Bytes) -> Result<ParamKind>
     ensures found { IfOk result (λ p. ReadsParam raw.now (parameter_of p)) }

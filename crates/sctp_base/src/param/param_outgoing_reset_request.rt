@@ -19,18 +19,23 @@ use bytes::{Bytes, BytesMut};
 use std::alloc::Global;
 use std::fmt;
 
-/// Where the stream identifiers begin in the value.
+/// Where the stream identifiers begin in the value, in bytes.
 pub const PARAM_OUTGOING_RESET_REQUEST_STREAM_IDENTIFIERS_OFFSET: usize = 12;
 
-/// The request to reset some outgoing streams, or all of them where none is listed.
+/// The request to reset some outgoing streams, or all of them where none is listed (RFC 6525 4.1,
+/// type 13). The value is three numbers of four bytes, then two bytes for each stream.
+/// Refuses a value of under 12 bytes with `ErrSsnResetRequestParamTooShort`, an odd
+/// longer one with `ErrSsnResetRequestParamInvalidLength`.
 #[derive(Debug, Drop, PartialEq, Eq)]
 pub struct ParamOutgoingResetRequest {
     /// The number of this request: it begins at the initial TSN and rises by one with each request.
     pub reconfig_request_sequence_number: u32,
-    /// Where this request answers one of the peer's, the number of that request; else the next number expected, minus one.
+    /// Where this request answers one of the peer's, the number of that request;
+    /// else the next number expected, minus one.
     pub reconfig_response_sequence_number: u32,
     /// The last TSN that the sender assigned.
     pub sender_last_tsn: u32,
+    /// The streams whose numbers are to begin at 0 again.
     pub stream_identifiers: Vec<u16>,
 }
 
@@ -48,6 +53,8 @@ impl fmt::Display for ParamOutgoingResetRequest {
     }
 }
 
+/// Reads so many stream identifiers from `at` on, two bytes each. Refuses only for memory.
+/// Precondition: they are there.
 #[tactic(auto, using(crate::proofs::Each::each_none, crate::proofs::Each::each_next))]
 fn read_streams(alloc: Global, value: &[u8], at: usize, count: usize) -> Result<Vec<u16>>
     requires { at + 2 * count ≤ length value.now }
@@ -61,6 +68,8 @@ fn read_streams(alloc: Global, value: &[u8], at: usize, count: usize) -> Result<
     Ok(streams)
 }
 
+/// Appends stream identifiers, two bytes each.
+/// Precondition: the buffer has room for them.
 fn put_streams(buf: &mut BytesMut, streams: &[u16])
     requires { 2 * length streams.now ≤ buf.old.spare }
     ensures items { buf.new.items ≡ buf.old.items ++ flat_map be16 streams.now }

@@ -12,7 +12,7 @@ use bytes::{Bytes, BytesMut};
 use std::alloc::Global;
 use std::fmt;
 
-/// The sender's random bytes.
+/// The sender's random bytes (RFC 4895 3.1, type 32770). The value is those bytes, however many.
 #[derive(Debug, Drop, PartialEq, Eq)]
 pub struct ParamRandom {
     pub random_data: Bytes,

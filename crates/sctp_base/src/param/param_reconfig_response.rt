@@ -15,16 +15,25 @@ use bytes::{Bytes, BytesMut};
 use std::alloc::Global;
 use std::fmt;
 
-/// What became of a request.
+/// What became of a request (RFC 6525 4.4). Any other number than 0 to 6 is read as
+/// `Unknown`, which is written as 7. It prints as its number and name.
 #[derive(Clone, Copy, Debug, PartialEq, Eq)]
 pub enum ReconfigResult {
+    /// Success, there was nothing to do.
     SuccessNop = 0,
+    /// Success, it was done.
     SuccessPerformed = 1,
+    /// The peer denied it.
     Denied = 2,
+    /// A stream number in the request was wrong.
     ErrorWrongSsn = 3,
+    /// Another request is being worked on.
     ErrorRequestAlreadyInProgress = 4,
+    /// The sequence number was not the expected one.
     ErrorBadSequenceNumber = 5,
+    /// It is being worked on: ask again.
     InProgress = 6,
+    /// Another number.
     Unknown,
 }
 
@@ -46,6 +55,7 @@ impl fmt::Display for ReconfigResult {
     }
 }
 
+/// The result with a number, `Unknown` for a number past 6.
 #[tactic(auto, unfolding(crate::specs::ReconfigResponse::result_from))]
 impl From<u32> for ReconfigResult {
     ghost from_gives = { λ n r. r ≡ result_from n };
@@ -64,6 +74,7 @@ impl From<u32> for ReconfigResult {
     }
 }
 
+/// The number of a result, 7 for `Unknown`.
 #[tactic(auto, unfolding(crate::specs::ReconfigResponse::result_number))]
 impl From<ReconfigResult> for u32 {
     ghost from_gives = { λ r n. n ≡ result_number r };
@@ -73,14 +84,16 @@ impl From<ReconfigResult> for u32 {
     }
 }
 
-/// The response to a request, by the request's number.
+/// The response to a request, by the request's number (RFC 6525 4.4, type 16). The value is
+/// two numbers of four bytes, and two more where TSNs are named; what follows is ignored.
+/// Refuses a value of under eight bytes with `ErrReconfigRespParamTooShort`.
 #[derive(Clone, Copy, Debug, PartialEq, Eq)]
 pub struct ParamReconfigResponse {
     /// The request's sequence number.
     pub reconfig_response_sequence_number: u32,
     /// What became of the request.
     pub result: ReconfigResult,
-    /// The sender's next TSN and the receiver's next TSN, where the response names them.
+    /// The sender's next TSN and the receiver's next TSN, where the value has 16 bytes or more.
     pub next_tsns: Option<(u32, u32)>,
 }
 

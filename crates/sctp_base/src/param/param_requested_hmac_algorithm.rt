@@ -18,13 +18,19 @@ use bytes::{Bytes, BytesMut};
 use std::alloc::Global;
 use std::fmt;
 
-/// How chunks are authenticated.
+/// How chunks are authenticated (RFC 4895 3.3). Any other number than 0 to 3 is
+/// `Unknown`, which is written as 4. Only 1 and 3 are read in a parameter.
 #[derive(Clone, Copy, Debug, PartialEq, Eq)]
 pub enum HmacAlgorithm {
+    /// Reserved.
     HmacResv1 = 0,
+    /// SHA-1, which each endpoint that authenticates has to support. It prints as `HMAC SHA-128`.
     HmacSha128 = 1,
+    /// Reserved.
     HmacResv2 = 2,
+    /// SHA-256.
     HmacSha256 = 3,
+    /// Another number.
     Unknown,
 }
 
@@ -42,6 +48,7 @@ impl fmt::Display for HmacAlgorithm {
     }
 }
 
+/// The algorithm with a number, `Unknown` for a number past 3.
 #[tactic(auto, unfolding(crate::specs::HmacAlgorithm::algorithm_from))]
 impl From<u16> for HmacAlgorithm {
     ghost from_gives = { λ n a. a ≡ algorithm_from n };
@@ -57,6 +64,7 @@ impl From<u16> for HmacAlgorithm {
     }
 }
 
+/// The number of an algorithm, 4 for `Unknown`.
 #[tactic(auto, unfolding(crate::specs::HmacAlgorithm::algorithm_number))]
 impl From<HmacAlgorithm> for u16 {
     ghost from_gives = { λ a n. n ≡ algorithm_number a };
@@ -66,7 +74,9 @@ impl From<HmacAlgorithm> for u16 {
     }
 }
 
-/// The algorithms, the preferred one first.
+/// The algorithms, the preferred one first (RFC 4895 3.3, type 32772). The value is
+/// two bytes for each; a last odd byte is ignored.
+/// Refuses another number than 1 and 3 with `ErrInvalidAlgorithmType`.
 #[derive(Debug, Drop, PartialEq, Eq)]
 pub struct ParamRequestedHmacAlgorithm {
     pub available_algorithms: Vec<HmacAlgorithm>,
@@ -96,6 +106,8 @@ fn read_algorithms(alloc: Global, value: &[u8]) -> Result<Vec<HmacAlgorithm>>
     Ok(algorithms)
 }
 
+/// Appends the numbers of algorithms, two bytes each.
+/// Precondition: the buffer has room for them.
 fn put_algorithms(buf: &mut BytesMut, algorithms: &[HmacAlgorithm])
     requires { 2 * length algorithms.now ≤ buf.old.spare }
     ensures items { buf.new.items ≡ buf.old.items ++ flat_map algorithm_text algorithms.now }

@@ -14,7 +14,7 @@ use bytes::{Bytes, BytesMut};
 use std::alloc::Global;
 use std::fmt;
 
-/// What the peer sends back in its COOKIE-ECHO.
+/// What the peer sends back in its COOKIE-ECHO (RFC 4960 3.3.3.1, type 7). The value is the cookie's bytes.
 #[derive(Debug, Drop, PartialEq, Eq)]
 pub struct ParamStateCookie {
     pub cookie: Bytes,
@@ -27,7 +27,8 @@ impl fmt::Display for ParamStateCookie {
 }
 
 impl ParamStateCookie {
-    /// A cookie of these bytes, which are to be drawn at random.
+    /// A cookie of these 32 bytes, which the caller is to draw at random: there is
+    /// no random source here. Refuses only for memory.
     pub fn new(alloc: Global, cookie: [u8; 32]) -> Result<Self>
         ensures ok { IfOk result (λ p. p.cookie ≡ cookie) }
         ensures memory { IsOkUnless result ErrOutOfMemory }

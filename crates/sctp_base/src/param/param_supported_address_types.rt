@@ -20,7 +20,9 @@ use bytes::{Bytes, BytesMut};
 use std::alloc::Global;
 use std::fmt;
 
-/// The types of the address parameters that the sender of an INIT can use.
+/// The types of the address parameters that the sender of an INIT can use
+/// (RFC 4960 3.3.2.1, type 12). The value is two bytes for each.
+/// Refuses an odd value with `ErrSupportedAddressTypesParamInvalidLength`.
 #[derive(Debug, Drop, PartialEq, Eq)]
 pub struct ParamSupportedAddressTypes {
     pub address_types: Vec<ParamType>,
@@ -36,7 +38,8 @@ impl fmt::Display for ParamSupportedAddressTypes {
     }
 }
 
-/// Reads so many types, two bytes each.
+/// Reads so many types, two bytes each. Refuses only for memory.
+/// Precondition: they are there.
 #[tactic(auto, using(crate::proofs::Each::each_none, crate::proofs::Each::each_next))]
 fn read_types(alloc: Global, value: &[u8], count: usize) -> Result<Vec<ParamType>>
     requires { 2 * count ≤ length value.now }
@@ -50,6 +53,8 @@ fn read_types(alloc: Global, value: &[u8], count: usize) -> Result<Vec<ParamType
     Ok(types)
 }
 
+/// Appends the numbers of types, two bytes each.
+/// Precondition: the buffer has room for them.
 fn put_param_types(buf: &mut BytesMut, types: &[ParamType])
     requires { 2 * length types.now ≤ buf.old.spare }
     ensures items { buf.new.items ≡ buf.old.items ++ flat_map type_text types.now }

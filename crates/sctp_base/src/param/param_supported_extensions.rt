@@ -13,7 +13,8 @@ use bytes::{Bytes, BytesMut};
 use std::alloc::Global;
 use std::fmt;
 
-/// The chunk types of the extensions.
+/// The chunk types of the extensions that the sender understands, one in a byte of
+/// the value (RFC 5061 4.2.7, type 32776).
 #[derive(Debug, Drop, PartialEq, Eq)]
 pub struct ParamSupportedExtensions {
     pub chunk_types: Vec<ChunkType>,

@@ -5,7 +5,8 @@ ghost use Rattle.sctp_base.specs.ParamType.{type_number, type_from, type_name};
 
 use std::fmt;
 
-/// What a parameter is (RFC 4960 3.2.1).
+/// What a parameter is, by the number in its first two bytes (RFC 4960 3.2.1). It
+/// prints as its name. Most of them are names alone: `build_param` says which are read.
 #[derive(Clone, Copy, Debug, PartialEq, Eq)]
 pub enum ParamType {
     /// Heartbeat Info (RFC 4960 3.3.5)
@@ -138,7 +139,7 @@ impl From<u16> for ParamType {
     }
 }
 
-/// The number of a type.
+/// The number of a type, of an `Unknown` one the number that it holds.
 impl From<ParamType> for u16 {
     ghost from_gives = { λ t n. n ≡ type_number t };
 

@@ -12,10 +12,12 @@ use bytes::{Bytes, BytesMut};
 use std::alloc::Global;
 use std::fmt;
 
-/// Any parameter, kept as it stands: it can be written again, as in a report to its sender.
+/// Any parameter, kept as it stands: it can be written again, as in a report to its sender (RFC 4960 3.2.1, 3.2.2).
 #[derive(Debug, Drop, PartialEq, Eq)]
 pub struct ParamUnknown {
+    /// The type number.
     pub typ: u16,
+    /// The value, without header and padding.
     pub value: Bytes,
 }
 

@@ -10,7 +10,8 @@ use bytes::Bytes;
 use std::alloc::Global;
 use std::mem;
 
-/// Whether two byte strings are equal, by a loop that looks at all bytes of strings of one length.
+/// Whether two byte strings are equal. Where their lengths are, the loop looks at all bytes,
+/// so that the place of a difference does not show in its time; nothing is proved of time.
 pub fn constant_time_eq(a: &[u8], b: &[u8]) -> bool
     ensures { IsTrue result ↔ (a.now ≡ b.now) }
 {
@@ -27,22 +28,25 @@ pub fn constant_time_eq(a: &[u8], b: &[u8]) -> bool
 /// The number of an association.
 pub type AssociationId = u32;
 
-/// Gives numbers to associations. Nothing is promised of the numbers.
+/// Gives numbers to associations. Only the interface is here: nothing is promised
+/// of the numbers, not even that none comes twice.
 pub trait AssociationIdGenerator: Send + Sync {
+    /// The next number.
     fn generate_aid(&mut self) -> AssociationId;
 
-    /// How long a number lasts, in nanoseconds, if it ends.
+    /// How long a number lasts, in nanoseconds, None where it does not end.
     fn aid_lifetime(&self) -> Option<u64>;
 }
 
-/// A source of one or more buffers, which are made into `Bytes` as they are asked for.
+/// A source of one or more buffers, which are made into `Bytes` as they are asked
+/// for. The pieces, joined, are the bytes of the source.
 pub trait BytesSource {
     // the bytes that are left
     ghost left: { Self → List ℕ };
 
-    /// The next piece, of at most `limit` bytes, and how many whole chunks of the source it used up,
-    /// empty ones that were skipped included. It is empty where the limit is 0 or nothing is left.
-    /// Refuses only for memory.
+    /// The next piece, of at most `limit` bytes, and how many whole chunks of the source it used up, empty
+    /// ones that were skipped included. It is empty exactly where the limit is 0 or nothing is left.
+    /// Refuses only for memory, and what is left is the same then.
     fn pop_chunk(&mut self, alloc: Global, limit: usize) -> Result<(Bytes, usize)>
         ensures joins { IfOk result (λ p. p.0 ++ left self.new ≡ left self.old) }
         ensures limited { IfOk result (λ p. length p.0 ≤ limit) }
@@ -50,6 +54,7 @@ pub trait BytesSource {
         ensures err { OnErr result (left self.new ≡ left self.old) }
         ensures memory { IfErr result (λ e. e ≡ ErrOutOfMemory) };
 
+    /// Whether any bytes are left.
     fn has_remaining(&self) -> bool
         ensures { result ≡ nat_lt 0 (length (left self.now)) };
 
@@ -58,13 +63,14 @@ pub trait BytesSource {
         ensures { result ≡ length (left self.now) };
 }
 
-/// A source over a slice, which is copied piece by piece.
+/// A source over a slice, which is copied piece by piece. It counts as one chunk, used up with its last bytes.
 #[derive(Drop)]
 pub struct ByteSlice<'a> {
     data: &'a [u8],
 }
 
 impl<'a> ByteSlice<'a> {
+    /// A source of all bytes of the slice. It copies none.
     pub fn from_slice(slice: &'a [u8]) -> Self
         ensures { result.data.now ≡ slice.now }
     {
@@ -114,7 +120,8 @@ pub struct BytesArray<'a> {
 }
 
 impl<'a> BytesArray<'a> {
-    /// A source over these buffers.
+    /// A source over these buffers, none of which is used up yet.
+    /// Precondition: their lengths sum to less than 2^64.
     pub fn from_chunks(chunks: &'a mut [Bytes]) -> Self
         requires { length (concat chunks.old) < 2 ^ 64 }
         ensures chunks { result.chunks.now ≡ chunks.old }

@@ -12,7 +12,8 @@ use sctp_base::util::{CT_COOKIE_ACK, ChunkType};
 use std::alloc::Global;
 use std::fmt;
 
-/// The answer to a COOKIE-ECHO (RFC 4960 3.3.12). Its value is ignored, and written empty.
+/// The answer to a COOKIE-ECHO (RFC 4960 3.3.12, type 11). Its value is ignored, and written empty.
+/// Refuses another type with `ErrChunkTypeNotCookieAck`.
 #[derive(Clone, Copy, Debug, PartialEq, Eq)]
 pub struct ChunkCookieAck;
 

@@ -12,7 +12,8 @@ use sctp_base::util::{CT_COOKIE_ECHO, ChunkType};
 use std::alloc::Global;
 use std::fmt;
 
-/// The cookie of the peer's INIT-ACK (RFC 4960 3.3.11).
+/// The cookie of the peer's INIT-ACK (RFC 4960 3.3.11, type 10). The value is the cookie's bytes, however many.
+/// Refuses another type with `ErrChunkTypeNotCookieEcho`.
 #[derive(Debug, Drop)]
 pub struct ChunkCookieEcho {
     pub cookie: Bytes,

@@ -18,14 +18,19 @@ use sctp_base::util::{CT_FORWARD_TSN, ChunkType};
 use std::alloc::Global;
 use std::fmt;
 
+/// The bytes of the new cumulative TSN, which stands before the pairs.
 pub const NEW_CUMULATIVE_TSN_LENGTH: usize = 4;
 
+/// The bytes of a pair: stream and sequence number, two each.
 pub const FORWARD_TSN_STREAM_LENGTH: usize = 4;
 
-/// A stream, and the greatest stream sequence number that is skipped on it (RFC 3758 3.2).
+/// A stream, and the greatest stream sequence number that is skipped on it (RFC 3758 3.2). Its
+/// receiver can deliver what waited for the skipped messages. Unordered messages have no pair.
 #[derive(Clone, Copy, Debug, PartialEq, Eq)]
 pub struct ChunkForwardTsnStream {
+    /// The stream.
     pub identifier: u16,
+    /// The stream sequence number of the last message that is skipped.
     pub sequence: u16,
 }
 
@@ -36,7 +41,8 @@ impl fmt::Display for ChunkForwardTsnStream {
 }
 
 impl ChunkForwardTsnStream {
-    /// Reads the pair that the bytes begin with. It has no chunk header.
+    /// Reads the pair that the bytes begin with. It has no chunk header. Refuses
+    /// under four bytes with `ErrChunkTooShort`.
     pub fn unmarshal(raw: &Bytes) -> Result<Self>
         ensures ok { IfOk result (λ s. (4 ≤ length raw.now) × (s ≡ stream_at raw.now 0)) }
         ensures err { IfErr result (λ e. (e ≡ ErrChunkTooShort) × (length raw.now < 4)) }
@@ -47,7 +53,7 @@ impl ChunkForwardTsnStream {
         Ok(read_stream(raw.as_slice(), 0))
     }
 
-    /// The length of the pair.
+    /// The length of the pair: four bytes.
     pub fn value_length(&self) -> usize
         ensures { result ≡ length (stream_text self.now) }
     {
@@ -55,6 +61,7 @@ impl ChunkForwardTsnStream {
     }
 
     /// Appends the pair, and answers the buffer's length.
+    /// Refuses only for memory, where the buffer lacked room for four bytes. Its bytes are as they were then.
     pub fn marshal_to(&self, buf: &mut BytesMut) -> Result<usize>
         ensures ok { IfOk result (λ n. (buf.new.items ≡ buf.old.items ++ stream_text self.now)
             × (n ≡ length buf.new.items)) }
@@ -66,7 +73,7 @@ impl ChunkForwardTsnStream {
         Ok(buf.len())
     }
 
-    /// The pair as bytes.
+    /// The pair as four bytes. Refuses only for memory.
     pub fn marshal(&self, alloc: Global) -> Result<Bytes>
         ensures ok { IfOk result (λ b. b ≡ stream_text self.now) }
         ensures memory { IsOkUnless result ErrOutOfMemory }
@@ -76,7 +83,8 @@ impl ChunkForwardTsnStream {
         Ok(buf.freeze()?)
     }
 
-    /// Appends the pair. There is room for it.
+    /// Appends the pair.
+    /// Precondition: the buffer has room for four bytes.
     fn put(&self, buf: &mut BytesMut)
         requires { 4 ≤ buf.old.spare }
         ensures items { buf.new.items ≡ buf.old.items ++ stream_text self.now }
@@ -89,6 +97,7 @@ impl ChunkForwardTsnStream {
 }
 
 /// The pair that stands at a place.
+/// Precondition: there are four bytes from there on.
 fn read_stream(bytes: &[u8], at: usize) -> ChunkForwardTsnStream
     requires { at + 4 ≤ length bytes.now }
     ensures { result ≡ stream_at bytes.now at }
@@ -99,6 +108,8 @@ fn read_stream(bytes: &[u8], at: usize) -> ChunkForwardTsnStream
     }
 }
 
+/// Reads so many pairs, which stand behind the new cumulative TSN. Refuses only for memory.
+/// Precondition: they are there.
 #[tactic(auto, using(sctp_base::proofs::Each::each_none, sctp_base::proofs::Each::each_next))]
 fn read_streams(alloc: Global, value: &[u8], count: usize) -> Result<Vec<ChunkForwardTsnStream>>
     requires { 4 + 4 * count ≤ length value.now }
@@ -112,6 +123,8 @@ fn read_streams(alloc: Global, value: &[u8], count: usize) -> Result<Vec<ChunkFo
     Ok(streams)
 }
 
+/// Appends pairs.
+/// Precondition: the buffer has room for four bytes each.
 fn put_streams(buf: &mut BytesMut, streams: &[ChunkForwardTsnStream])
     requires { 4 * length streams.now ≤ buf.old.spare }
     ensures items { buf.new.items ≡ buf.old.items ++ flat_map stream_text streams.now }
@@ -123,11 +136,16 @@ fn put_streams(buf: &mut BytesMut, streams: &[ChunkForwardTsnStream])
     }
 }
 
-/// The receiver is to take every TSN up to this one as received, and on the named streams every message up to the
-/// sequence number beside it (RFC 3758 3.2).
+/// The sender gave messages up: the receiver is to take every TSN up to this one as received, and no
+/// longer to report it as missing, and on the named streams every message up to the sequence number
+/// beside it as skipped (RFC 3758 3.2, type 192). The value is the TSN, then the pairs, at most 16,381.
+/// Refuses another type with `ErrChunkTypeNotForwardTsn`, a value of under four
+/// bytes, or with one to three behind the pairs, with `ErrChunkTooShort`.
 #[derive(Debug, Drop)]
 pub struct ChunkForwardTsn {
+    /// The last TSN that is to count as received.
     pub new_cumulative_tsn: u32,
+    /// The streams on which ordered messages are skipped.
     pub streams: Vec<ChunkForwardTsnStream>,
 }
 

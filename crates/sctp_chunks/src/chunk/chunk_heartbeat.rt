@@ -19,9 +19,14 @@ use sctp_base::util::{CT_HEARTBEAT, ChunkType};
 use std::alloc::Global;
 use std::fmt;
 
-/// Asks the peer to send the parameter back (RFC 4960 3.3.5). Parameters are written without padding.
+/// Asks the peer to send the parameter back (RFC 4960 3.3.5, type 4). The value is one Heartbeat
+/// Info; bytes behind it are ignored. Parameters are written one behind the other, without padding.
+/// Refuses another type with `ErrChunkTypeNotHeartbeat`, a value of under four
+/// bytes with `ErrHeartbeatNotLongEnoughInfo`, another parameter with
+/// `ErrHeartbeatParam`, and a parameter as `build_param` does.
 #[derive(Debug, Drop)]
 pub struct ChunkHeartbeat {
+    /// A chunk that was read has exactly one, a Heartbeat Info.
     pub params: Vec<ParamKind>,
 }
 
@@ -31,7 +36,9 @@ impl fmt::Display for ChunkHeartbeat {
     }
 }
 
-/// Reads the one parameter of a HEARTBEAT or HEARTBEAT-ACK. Bytes after it are ignored.
+/// Reads the one parameter of a HEARTBEAT or HEARTBEAT-ACK (RFC 4960 3.3.5, 3.3.6). Bytes after it are ignored.
+/// Refuses under four bytes with `ErrHeartbeatNotLongEnoughInfo`, another parameter
+/// with `ErrHeartbeatParam`, and a parameter as `build_param` does.
 pub fn read_info(alloc: Global, value: &Bytes) -> Result<Vec<ParamKind>>
     ensures found { IfOk result (λ v. ReadsHeartbeat value.now (map parameter_of v.items)) }
     ensures again { IfOk result (λ v. IsReadHeartbeat (map parameter_of v.items)) }

@@ -18,9 +18,12 @@ use sctp_base::util::{CT_HEARTBEAT_ACK, ChunkType};
 use std::alloc::Global;
 use std::fmt;
 
-/// Gives the parameter of a HEARTBEAT back (RFC 4960 3.3.6). It is written only with exactly one parameter, a Heartbeat Info.
+/// Gives the parameter of a HEARTBEAT back (RFC 4960 3.3.6, type 5). It is read as a HEARTBEAT
+/// is, under `ErrChunkTypeNotHeartbeatAck`. It is written only with exactly one parameter, a
+/// Heartbeat Info: else `ErrHeartbeatAckParams` or `ErrHeartbeatAckNotHeartbeatInfo`.
 #[derive(Debug, Drop)]
 pub struct ChunkHeartbeatAck {
+    /// A chunk that was read has exactly one, a Heartbeat Info.
     pub params: Vec<ParamKind>,
 }
 

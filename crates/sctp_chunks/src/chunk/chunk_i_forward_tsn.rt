@@ -19,18 +19,24 @@ use sctp_base::util::{CT_I_FORWARD_TSN, ChunkType};
 use std::alloc::Global;
 use std::fmt;
 
+/// The bytes of an entry: stream two, flags one, reserved one, message identifier four.
 const I_FORWARD_TSN_STREAM_ENTRY_LENGTH: usize = 8;
 
-/// A stream, and the greatest message identifier that is skipped on it, among its ordered or its unordered messages
-/// (RFC 8260 2.3.1, but for the place of the bit that says unordered).
+/// A stream, and the greatest message identifier that is skipped on it, among its
+/// ordered or its unordered messages (RFC 8260 2.3.1, but for the place of the bit
+/// that says unordered: it is bit 0 of the third byte here, of the fourth there).
 #[derive(Clone, Copy, Debug, PartialEq, Eq)]
 pub struct ChunkIForwardTsnStream {
+    /// The stream.
     pub identifier: u16,
+    /// Whether unordered messages are skipped. The other bits of the flags are ignored, and written 0.
     pub unordered: bool,
+    /// The message identifier of the last message that is skipped.
     pub mid: u32,
 }
 
 /// The entry that stands at a place.
+/// Precondition: there are eight bytes from there on.
 fn read_entry(bytes: &[u8], at: usize) -> ChunkIForwardTsnStream
     requires { at + 8 ≤ length bytes.now }
     ensures { result ≡ entry_at bytes.now at }
@@ -42,6 +48,8 @@ fn read_entry(bytes: &[u8], at: usize) -> ChunkIForwardTsnStream
     }
 }
 
+/// Reads so many entries, which stand behind the new cumulative TSN. Refuses only for memory.
+/// Precondition: they are there.
 #[tactic(auto, using(sctp_base::proofs::Each::each_none, sctp_base::proofs::Each::each_next))]
 fn read_entries(alloc: Global, value: &[u8], count: usize) -> Result<Vec<ChunkIForwardTsnStream>>
     requires { 4 + 8 * count ≤ length value.now }
@@ -55,7 +63,8 @@ fn read_entries(alloc: Global, value: &[u8], count: usize) -> Result<Vec<ChunkIF
     Ok(streams)
 }
 
-/// Appends an entry. There is room for it.
+/// Appends an entry.
+/// Precondition: the buffer has room for eight bytes.
 fn put_entry(buf: &mut BytesMut, entry: &ChunkIForwardTsnStream)
     requires { 8 ≤ buf.old.spare }
     ensures items { buf.new.items ≡ buf.old.items ++ entry_text entry.now }
@@ -67,6 +76,8 @@ fn put_entry(buf: &mut BytesMut, entry: &ChunkIForwardTsnStream)
     put_u32(buf, entry.mid);
 }
 
+/// Appends entries.
+/// Precondition: the buffer has room for eight bytes each.
 fn put_entries(buf: &mut BytesMut, entries: &[ChunkIForwardTsnStream])
     requires { 8 * length entries.now ≤ buf.old.spare }
     ensures items { buf.new.items ≡ buf.old.items ++ flat_map entry_text entries.now }
@@ -78,10 +89,15 @@ fn put_entries(buf: &mut BytesMut, entries: &[ChunkIForwardTsnStream])
     }
 }
 
-/// The receiver is to take every TSN up to this one as received, and the named messages as skipped (RFC 8260 2.3.1).
+/// FORWARD-TSN with message identifiers of four bytes in the place of stream sequence
+/// numbers, and a bit for unordered messages (RFC 8260 2.3.1, type 194). The value is the
+/// TSN, then entries of eight bytes, at most 8,190; a rest of under eight bytes is ignored.
+/// Refuses another type with `ErrChunkTypeNotForwardTsn`, a value of under four bytes with `ErrChunkTooShort`.
 #[derive(Debug, Drop)]
 pub struct ChunkIForwardTsn {
+    /// The last TSN that is to count as received.
     pub new_cumulative_tsn: u32,
+    /// The streams on which messages are skipped.
     pub streams: Vec<ChunkIForwardTsnStream>,
 }
 

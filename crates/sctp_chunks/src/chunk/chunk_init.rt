@@ -20,22 +20,37 @@ use sctp_base::util::{CT_FORWARD_TSN, CT_INIT, CT_INIT_ACK, CT_RECONFIG, ChunkTy
 use std::alloc::Global;
 use std::fmt;
 
+/// The bytes of the value before its parameters.
 pub const INIT_CHUNK_MIN_LENGTH: usize = 16;
 
+/// The bytes of a parameter's header.
 pub const INIT_OPTIONAL_VAR_HEADER_LENGTH: usize = 4;
 
-/// What one side says of itself when an association begins (RFC 4960 3.3.2, 3.3.3).
+/// What one side says of itself when an association begins (RFC 4960 3.3.2 and 3.3.3,
+/// types 1 and 2). The value is 16 bytes, then parameters, padded to multiples of
+/// four between one another; up to three bytes behind the last are ignored.
+/// Refuses another type with `ErrChunkTypeNotTypeInit`, a value of under 16 bytes with `ErrChunkValueNotLongEnough`,
+/// flags other than 0 with `ErrChunkTypeInitFlagZero`, and a parameter as `build_param` does. `check` refuses, in
+/// this order, tag 0, 0 inbound streams, 0 outbound streams and a credit under 1,500 bytes.
 #[derive(Debug, Drop)]
 pub struct ChunkInit {
+    /// Whether it is an INIT-ACK.
     pub is_ack: bool,
+    /// The verification tag that the other side is to put into its packets (RFC 4960 8.5).
     pub initiate_tag: u32,
+    /// How many bytes of user data its sender has room for.
     pub advertised_receiver_window_credit: u32,
+    /// How many streams its sender wants to send on.
     pub num_outbound_streams: u16,
+    /// How many streams its sender takes at most.
     pub num_inbound_streams: u16,
+    /// The TSN of the first DATA chunk that its sender sends.
     pub initial_tsn: u32,
+    /// The optional parameters, in the order in which they stand.
     pub params: Vec<ParamKind>,
 }
 
+/// An INIT-ACK, which has the same fields (RFC 4960 3.3.3).
 pub type ChunkInitAck = ChunkInit;
 
 impl fmt::Display for ChunkInit {
@@ -63,7 +78,8 @@ impl fmt::Display for ChunkInit {
 }
 
 impl ChunkInit {
-    /// Says that RECONFIG and FORWARD-TSN chunks are understood (RFC 5061 4.2.7).
+    /// Adds the parameter that says that RECONFIG and FORWARD-TSN chunks are understood
+    /// (RFC 5061 4.2.7). Refuses only for memory, and the chunk is as it was then.
     pub fn set_supported_extensions(&mut self, alloc: Global) -> Result<()>
         ensures ok { OnOk result (init_of self.new ≡ record (init_of self.old) {
           params = map parameter_of self.old.params.items

@@ -29,6 +29,9 @@ use sctp_base::util::{
 use std::alloc::Global;
 use std::fmt;
 
+/// A chunk of one of the fifteen kinds that a packet is read for, chosen by its type (RFC 4960 3.2).
+/// INIT and INIT-ACK are one kind. It prints, and is read and written, as that kind is.
+/// Refuses under four bytes with `ErrChunkHeaderTooSmall`, and a type of no kind with `ErrUnmarshalUnknownChunkType`.
 #[derive(Debug, Drop)]
 pub enum ChunkKind {
     PayloadData(ChunkPayloadData),

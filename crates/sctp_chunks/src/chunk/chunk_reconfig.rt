@@ -22,10 +22,17 @@ use sctp_base::util::{CT_RECONFIG, ChunkType};
 use std::alloc::Global;
 use std::fmt;
 
-/// Asks for streams to be reset or added, or answers such a request (RFC 6525 3.1).
+/// Asks for streams to be reset or added, or answers such a request (RFC 6525 3.1,
+/// type 130). The value is one parameter, and a second where bytes are left behind
+/// the first and its padding; bytes behind the second are ignored.
+/// Refuses another type with `ErrChunkTypeNotReconfig`, a value of under four bytes with `ErrChunkTooShort`, and a
+/// parameter as `build_param` does. It is written only with a first parameter: else `ErrChunkReconfigInvalidParamA`.
+/// `check` also asks that the two types may stand together: else `ErrChunkReconfigInvalidParamCombination`.
 #[derive(Debug, Drop)]
 pub struct ChunkReconfig {
+    /// The first parameter, which a chunk that was read has.
     pub param_a: Option<ParamKind>,
+    /// The second, if there is one. The first is padded to a multiple of four before it.
     pub param_b: Option<ParamKind>,
 }
 
@@ -41,6 +48,7 @@ impl fmt::Display for ChunkReconfig {
     }
 }
 
+/// An equal parameter, if there is one. Refuses only for memory.
 fn clone_param(param: &Option<ParamKind>, alloc: Global) -> Result<Option<ParamKind>>
     ensures ok { IfOk result (λ p. option_map parameter_of p ≡ option_map parameter_of param.now) }
     ensures memory { IsOkUnless result ErrOutOfMemory }
@@ -52,7 +60,7 @@ fn clone_param(param: &Option<ParamKind>, alloc: Global) -> Result<Option<ParamK
 }
 
 impl ChunkReconfig {
-    /// An equal chunk, which shares its bytes.
+    /// An equal chunk, which shares its bytes. Refuses only for memory.
     pub fn try_clone(&self, alloc: Global) -> Result<Self>
         ensures ok { IfOk result (λ c. reconfig_of c ≡ reconfig_of self.now) }
         ensures memory { IsOkUnless result ErrOutOfMemory }
@@ -64,7 +72,9 @@ impl ChunkReconfig {
     }
 }
 
-/// Whether parameters of these types may stand together (RFC 6525 3.1).
+/// Whether parameters of these types may stand together (RFC 6525 3.1): the requests
+/// to reset outgoing and incoming streams, those to add outgoing and incoming ones,
+/// a response and a request to reset outgoing ones, and two responses.
 fn may_stand_together(a: ParamType, b: ParamType) -> bool
     ensures { IsTrue result ↔ MayStandTogether a b }
 {

@@ -19,12 +19,15 @@ use sctp_base::util::{CT_SACK, ChunkType};
 use std::alloc::Global;
 use std::fmt;
 
+/// The bytes of the value before the blocks: TSN four, credit four, the counts of blocks and of duplicates two each.
 pub const SELECTIVE_ACK_HEADER_SIZE: usize = 12;
 
-/// A run of TSNs that arrived, by their distances from the cumulative TSN (RFC 4960 3.3.4).
+/// A run of TSNs that arrived, by the distances of its first and its last from the cumulative TSN (RFC 4960 3.3.4).
 #[derive(Clone, Copy, Debug, PartialEq, Eq)]
 pub struct GapAckBlock {
+    /// The distance of the first.
     pub start: u16,
+    /// The distance of the last.
     pub end: u16,
 }
 
@@ -34,12 +37,19 @@ impl fmt::Display for GapAckBlock {
     }
 }
 
-/// Which TSNs arrived, and which of them arrived again (RFC 4960 3.3.4).
+/// Which TSNs arrived, and which of them arrived again (RFC 4960 3.3.4, type 3). The value is 12 bytes, then
+/// the blocks and the duplicates, four bytes each, at most 16,379 of both together; what follows is ignored.
+/// Refuses another type with `ErrChunkTypeNotSack`, a value of under 12 bytes, or
+/// of fewer than its counts ask for, with `ErrSackSizeNotLargeEnoughInfo`.
 #[derive(Debug, Drop)]
 pub struct ChunkSelectiveAck {
+    /// The last TSN up to which all arrived.
     pub cumulative_tsn_ack: u32,
+    /// How many bytes of user data its sender has room for.
     pub advertised_receiver_window_credit: u32,
+    /// The runs that arrived beyond it.
     pub gap_ack_blocks: Vec<GapAckBlock>,
+    /// The TSNs that came again since the last SACK.
     pub duplicate_tsn: Vec<u32>,
 }
 
@@ -57,6 +67,8 @@ impl fmt::Display for ChunkSelectiveAck {
     }
 }
 
+/// Reads so many blocks from `at` on. Refuses only for memory.
+/// Precondition: they are there.
 #[tactic(auto, using(sctp_base::proofs::Each::each_none, sctp_base::proofs::Each::each_next))]
 fn read_blocks(alloc: Global, value: &[u8], at: usize, count: usize) -> Result<Vec<GapAckBlock>>
     requires { at + 4 * count ≤ length value.now }
@@ -72,6 +84,8 @@ fn read_blocks(alloc: Global, value: &[u8], at: usize, count: usize) -> Result<V
     Ok(blocks)
 }
 
+/// Reads so many numbers of four bytes from `at` on. Refuses only for memory.
+/// Precondition: they are there.
 #[tactic(auto, using(sctp_base::proofs::Each::each_none, sctp_base::proofs::Each::each_next))]
 fn read_numbers(alloc: Global, value: &[u8], at: usize, count: usize) -> Result<Vec<u32>>
     requires { at + 4 * count ≤ length value.now }
@@ -85,6 +99,8 @@ fn read_numbers(alloc: Global, value: &[u8], at: usize, count: usize) -> Result<
     Ok(numbers)
 }
 
+/// Appends blocks.
+/// Precondition: the buffer has room for four bytes each.
 fn put_blocks(buf: &mut BytesMut, blocks: &[GapAckBlock])
     requires { 4 * length blocks.now ≤ buf.old.spare }
     ensures items { buf.new.items ≡ buf.old.items ++ flat_map block_text blocks.now }
@@ -97,6 +113,8 @@ fn put_blocks(buf: &mut BytesMut, blocks: &[GapAckBlock])
     }
 }
 
+/// Appends numbers of four bytes.
+/// Precondition: the buffer has room for them.
 fn put_numbers(buf: &mut BytesMut, numbers: &[u32])
     requires { 4 * length numbers.now ≤ buf.old.spare }
     ensures items { buf.new.items ≡ buf.old.items ++ flat_map be32 numbers.now }
@@ -109,7 +127,7 @@ fn put_numbers(buf: &mut BytesMut, numbers: &[u32])
 }
 
 impl ChunkSelectiveAck {
-    /// An equal acknowledgement.
+    /// An equal acknowledgement. Refuses only for memory.
     pub fn try_clone(&self, alloc: Global) -> Result<Self>
         ensures ok { IfOk result (λ c. sack_of c ≡ sack_of self.now) }
         ensures memory { IsOkUnless result ErrOutOfMemory }

@@ -12,11 +12,14 @@ use sctp_base::util::{CT_SHUTDOWN, ChunkType};
 use std::alloc::Global;
 use std::fmt;
 
+/// The bytes of the value.
 pub const CUMULATIVE_TSN_ACK_LENGTH: usize = 4;
 
-/// The sender has no more user data, and received all up to this TSN (RFC 4960 3.3.8).
+/// The sender has no more user data, and received all up to this TSN (RFC 4960 3.3.8, type 7). The value is the TSN.
+/// Refuses another type with `ErrChunkTypeNotShutdown`, a value of other than four bytes with `ErrInvalidChunkSize`.
 #[derive(Clone, Copy, Debug, PartialEq, Eq)]
 pub struct ChunkShutdown {
+    /// The last TSN up to which all arrived.
     pub cumulative_tsn_ack: u32,
 }
 

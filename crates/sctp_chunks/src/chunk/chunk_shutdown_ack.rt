@@ -12,7 +12,8 @@ use sctp_base::util::{CT_SHUTDOWN_ACK, ChunkType};
 use std::alloc::Global;
 use std::fmt;
 
-/// The answer to a SHUTDOWN (RFC 4960 3.3.9). Its value is ignored, and written empty.
+/// The answer to a SHUTDOWN (RFC 4960 3.3.9, type 8). Its value is ignored, and written empty.
+/// Refuses another type with `ErrChunkTypeNotShutdownAck`.
 #[derive(Clone, Copy, Debug, PartialEq, Eq)]
 pub struct ChunkShutdownAck;
 

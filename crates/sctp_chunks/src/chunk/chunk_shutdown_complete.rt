@@ -12,7 +12,9 @@ use sctp_base::util::{CT_SHUTDOWN_COMPLETE, ChunkType};
 use std::alloc::Global;
 use std::fmt;
 
-/// The answer to a SHUTDOWN-ACK (RFC 4960 3.3.13). Its value is ignored, and written empty.
+/// The answer to a SHUTDOWN-ACK (RFC 4960 3.3.13, type 14). Its value is ignored,
+/// and written empty. The flags, and so the T bit, are not kept.
+/// Refuses another type with `ErrChunkTypeNotShutdownComplete`.
 #[derive(Clone, Copy, Debug, PartialEq, Eq)]
 pub struct ChunkShutdownComplete;
 

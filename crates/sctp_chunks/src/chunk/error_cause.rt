@@ -1,4 +1,4 @@
-//! Error causes, which ABORT and ERROR carry.
+//! Error causes, which ABORT and ERROR carry (RFC 4960 3.3.10).
 
 ghost use Rattle.std.specs.Prelude.{◌≡◌, ◌+◌, ◌^◌, ◌<◌, ◌≤◌, ◌++◌, ◌⊎◌, List, length, min, drop, IfOk, IfErr, OnErr, IsOkUnless};
 ghost use Rattle.std.specs.List.{AllByRecursion};
@@ -16,38 +16,53 @@ use sctp_base::field::{put_u16, read_u16};
 use std::alloc::Global;
 use std::fmt;
 
+/// The bytes before the value of a cause: code and length, two each.
 pub const ERROR_CAUSE_HEADER_LENGTH: usize = 4;
 
-/// The number that says what went wrong (RFC 4960 3.3.10).
+/// The number that says what went wrong (RFC 4960 3.3.10). It prints as its name, or as `Unknown CauseCode: N`.
 #[derive(Clone, Copy, Debug, PartialEq, Eq)]
 pub struct ErrorCauseCode(pub u16);
 
+/// A DATA chunk came on a stream that does not exist (RFC 4960 3.3.10.1).
 pub const INVALID_STREAM_IDENTIFIER: ErrorCauseCode = ErrorCauseCode(1);
 
+/// A parameter that has to be there is missing (RFC 4960 3.3.10.2).
 pub const MISSING_MANDATORY_PARAMETER: ErrorCauseCode = ErrorCauseCode(2);
 
+/// The cookie is too old (RFC 4960 3.3.10.3).
 pub const STALE_COOKIE_ERROR: ErrorCauseCode = ErrorCauseCode(3);
 
+/// There is no room for the association (RFC 4960 3.3.10.4).
 pub const OUT_OF_RESOURCE: ErrorCauseCode = ErrorCauseCode(4);
 
+/// An address cannot be resolved (RFC 4960 3.3.10.5).
 pub const UNRESOLVABLE_ADDRESS: ErrorCauseCode = ErrorCauseCode(5);
 
+/// A chunk of a type that is not known (RFC 4960 3.3.10.6).
 pub const UNRECOGNIZED_CHUNK_TYPE: ErrorCauseCode = ErrorCauseCode(6);
 
+/// A parameter has a value that is not allowed (RFC 4960 3.3.10.7).
 pub const INVALID_MANDATORY_PARAMETER: ErrorCauseCode = ErrorCauseCode(7);
 
+/// Parameters of types that are not known (RFC 4960 3.3.10.8).
 pub const UNRECOGNIZED_PARAMETERS: ErrorCauseCode = ErrorCauseCode(8);
 
+/// A DATA chunk has no user data (RFC 4960 3.3.10.9).
 pub const NO_USER_DATA: ErrorCauseCode = ErrorCauseCode(9);
 
+/// A COOKIE-ECHO came while the association was being shut down (RFC 4960 3.3.10.10).
 pub const COOKIE_RECEIVED_WHILE_SHUTTING_DOWN: ErrorCauseCode = ErrorCauseCode(10);
 
+/// The association is begun anew with addresses that were not there before (RFC 4960 3.3.10.11).
 pub const RESTART_OF_AN_ASSOCIATION_WITH_NEW_ADDRESSES: ErrorCauseCode = ErrorCauseCode(11);
 
+/// The user asked for the ABORT (RFC 4960 3.3.10.12).
 pub const USER_INITIATED_ABORT: ErrorCauseCode = ErrorCauseCode(12);
 
+/// The peer broke the protocol in a way that no other code names (RFC 4960 3.3.10.13).
 pub const PROTOCOL_VIOLATION: ErrorCauseCode = ErrorCauseCode(13);
 
+/// The code with a number.
 impl From<u16> for ErrorCauseCode {
     ghost from_gives = { λ n c. c.0 ≡ n };
 
@@ -79,17 +94,21 @@ impl fmt::Display for ErrorCauseCode {
     }
 }
 
-/// What went wrong: a code, and what it says of it (RFC 4960 3.3.10).
+/// What went wrong: a code, and what is said of it (RFC 4960 3.3.10).
 #[derive(Debug, Drop)]
 pub struct ErrorCause {
     pub code: ErrorCauseCode,
+    /// The value, without the header.
     pub raw: Bytes,
 }
 
+/// A cause with the code 7 (RFC 4960 3.3.10.7): a name for `ErrorCause`, which does not test the code.
 pub type ErrorCauseInvalidMandatoryParameter = ErrorCause;
 
+/// A cause with the code 6 (RFC 4960 3.3.10.6): a name for `ErrorCause`, which does not test the code.
 pub type ErrorCauseUnrecognizedChunkType = ErrorCause;
 
+/// A cause with the code 13 (RFC 4960 3.3.10.13): a name for `ErrorCause`, which does not test the code.
 pub type ErrorCauseProtocolViolation = ErrorCause;
 
 impl fmt::Display for ErrorCause {
@@ -99,7 +118,9 @@ impl fmt::Display for ErrorCause {
 }
 
 impl ErrorCause {
-    /// Reads the cause that the bytes begin with.
+    /// Reads the cause that the bytes begin with. It ends at its declared length.
+    /// Refuses with `ErrErrorCauseTooSmall`, where there are under four bytes, the
+    /// length is under four, or it passes the bytes; or for memory.
     #[tactic(auto, unfolding(crate::specs::ErrorCause::cause_value_at))]
     pub fn unmarshal(raw: &Bytes) -> Result<Self>
         ensures found { IfOk result (λ c. ReadsCause raw.now c) }
@@ -120,7 +141,7 @@ impl ErrorCause {
         })
     }
 
-    /// The length of the cause with its header.
+    /// The length of the cause with its header, in bytes.
     pub fn length(&self) -> usize
         ensures value { result ≡ 4 + length self.now.raw }
         ensures bound { result < 2 ^ 63 + 4 }
@@ -128,6 +149,7 @@ impl ErrorCause {
         ERROR_CAUSE_HEADER_LENGTH + self.raw.len()
     }
 
+    /// The code.
     pub fn error_cause_code(&self) -> ErrorCauseCode
         ensures { result ≡ self.now.code }
     {
@@ -135,6 +157,8 @@ impl ErrorCause {
     }
 
     /// Appends the cause, and answers the buffer's length.
+    /// Refuses with `ErrLengthTooLarge`, exactly where the cause has more than 65,535
+    /// bytes, or for memory where the buffer lacked room. Its bytes are as they were then.
     pub fn marshal_to(&self, buf: &mut BytesMut) -> Result<usize>
         ensures ok { IfOk result (λ n. HasCauseText self.now
             × (buf.new.items ≡ buf.old.items ++ cause_text self.now) × (n ≡ length buf.new.items)) }
@@ -150,7 +174,7 @@ impl ErrorCause {
         Ok(buf.len())
     }
 
-    /// The cause as bytes.
+    /// The cause as bytes. Refuses with `ErrLengthTooLarge`, exactly where it has more than 65,535, or for memory.
     pub fn marshal(&self, alloc: Global) -> Result<Bytes>
         ensures ok { IfOk result (λ b. HasCauseText self.now × (b ≡ cause_text self.now)) }
         ensures refused { IfErr result (λ e. ((e ≡ ErrLengthTooLarge) × (HasCauseText self.now → ⊥))
@@ -161,7 +185,8 @@ impl ErrorCause {
         Ok(buf.freeze()?)
     }
 
-    /// Appends the cause. There is room for it.
+    /// Appends the cause.
+    /// Precondition: it has at most 65,535 bytes, and the buffer has room for them.
     #[tactic(auto, unfolding(crate::specs::ErrorCause::cause_text))]
     fn put(&self, buf: &mut BytesMut)
         requires text { HasCauseText self.now }
@@ -176,7 +201,7 @@ impl ErrorCause {
     }
 }
 
-/// Reads the cause at the front, and how many bytes it takes.
+/// Reads the cause at the front, and how many bytes it takes. Refuses as `ErrorCause::unmarshal` does.
 #[tactic(auto, unfolding(crate::specs::ErrorCause::after_cause))]
 fn read_cause(rest: &Bytes) -> Result<(ErrorCause, usize)>
     ensures found { IfOk result (λ x. ReadsCause rest.now x.0) }
@@ -190,7 +215,8 @@ fn read_cause(rest: &Bytes) -> Result<(ErrorCause, usize)>
     Ok((cause, length))
 }
 
-/// Reads causes up to where fewer than four bytes are left.
+/// Reads causes one behind the other, with no padding between them, up to where
+/// fewer than four bytes are left. Refuses as `ErrorCause::unmarshal` does.
 pub fn read_causes(alloc: Global, raw: Bytes) -> Result<Vec<ErrorCause>>
     ensures found { IfOk result (λ v. ReadsCauses raw v.items) }
     ensures only { (cs : List ErrorCause) → ReadsCauses raw cs → GivesUnlessMemory result (λ v. v.items ≡ cs) }
@@ -206,7 +232,7 @@ pub fn read_causes(alloc: Global, raw: Bytes) -> Result<Vec<ErrorCause>>
     Ok(causes)
 }
 
-/// The length of the causes as they are written, up to the greatest `usize`.
+/// The length of the causes as they are written, in bytes, up to the greatest `usize`.
 pub fn causes_length(causes: &[ErrorCause]) -> usize
     ensures { result ≡ min (length (causes_text causes.now)) usize.MAX }
 {
@@ -217,7 +243,8 @@ pub fn causes_length(causes: &[ErrorCause]) -> usize
     total
 }
 
-/// Appends causes. There is room for them.
+/// Appends causes. It takes no memory.
+/// Precondition: they have under 65,536 bytes, and the buffer has room for them.
 pub fn put_causes(buf: &mut BytesMut, causes: &[ErrorCause])
     requires text { length (causes_text causes.now) < 2 ^ 16 }
     requires room { length (causes_text causes.now) ≤ buf.old.spare }

@@ -16,7 +16,8 @@ use sctp_base::param::param_kind::{ParamKind, build_param};
 use sctp_base::util::get_padding_size;
 use std::alloc::Global;
 
-/// Reads the parameter at the front, and how many bytes it takes with the padding that stands there.
+/// Reads the parameter at the front, and how many bytes it takes with the padding
+/// that stands there: the last one's may be missing. Refuses as `build_param` does.
 #[tactic(auto, using(std::proofs::lemmas::List::drop_min), unfolding(sctp_base::specs::ParamFraming::after_param))]
 pub fn read_param(alloc: Global, rest: &Bytes) -> Result<(ParamKind, usize)>
     ensures found { IfOk result (λ x. ReadsParam rest.now (parameter_of x.0)) }
@@ -32,7 +33,7 @@ pub fn read_param(alloc: Global, rest: &Bytes) -> Result<(ParamKind, usize)>
     Ok((param, length.min(rest.len())))
 }
 
-/// Reads parameters up to where fewer than four bytes are left.
+/// Reads parameters up to where fewer than four bytes are left. Refuses as `build_param` does.
 pub fn read_params(alloc: Global, raw: Bytes) -> Result<Vec<ParamKind>>
     ensures found { IfOk result (λ v. ReadsParams raw (map parameter_of v.items)) }
     ensures again { IfOk result (λ v. ReadBack (map parameter_of v.items)) }
@@ -49,7 +50,7 @@ pub fn read_params(alloc: Global, raw: Bytes) -> Result<Vec<ParamKind>>
     Ok(params)
 }
 
-/// How many zeros follow a parameter.
+/// How many zeros follow a parameter: 0 to 3, and none where it is to stand bare.
 pub fn gap_after(param: &ParamKind, bare: bool) -> usize
     ensures { result ≡ gap bare (4 + length (param_value_of (parameter_of param.now))) }
 {
@@ -61,7 +62,8 @@ pub fn gap_after(param: &ParamKind, bare: bool) -> usize
     }
 }
 
-/// Appends a parameter, with its padding unless it is to stand bare. There is room for it.
+/// Appends a parameter, with its padding unless it is to stand bare. It takes no memory.
+/// Precondition: that is under 65,536 bytes, and the buffer has room for them.
 #[tactic(auto, using(crate::proofs::ParamsText::length_padded_param, sctp_base::proofs::ParamLengths::length_param_text, crate::proofs::ParamsText::padded_is))]
 pub fn put_param(buf: &mut BytesMut, param: &ParamKind, bare: bool)
     requires text { length (padded_param bare (parameter_of param.now)) < 2 ^ 16 }
@@ -75,6 +77,7 @@ pub fn put_param(buf: &mut BytesMut, param: &ParamKind, bare: bool)
 }
 
 /// Whether the parameter at a place stands bare: all do, or the last one.
+/// Precondition: the place is one of them.
 fn stands_bare(bare: bool, i: usize, count: usize) -> bool
     requires { i < count }
     ensures { result ≡ (bare || i + 1 == count) }
@@ -82,7 +85,9 @@ fn stands_bare(bare: bool, i: usize, count: usize) -> bool
     bare || i + 1 == count
 }
 
-/// Appends parameters. There is room for them.
+/// Appends parameters, padded to multiples of four between one another, or all bare: the
+/// padding of the last is none of the chunk's length (RFC 4960 3.2). It takes no memory.
+/// Precondition: that is under 65,536 bytes, and the buffer has room for them.
 pub fn put_params(buf: &mut BytesMut, params: &[ParamKind], bare: bool)
     requires text { length (params_text bare (map parameter_of params.now)) < 2 ^ 16 }
     requires room { length (params_text bare (map parameter_of params.now)) ≤ buf.old.spare }
@@ -94,7 +99,7 @@ pub fn put_params(buf: &mut BytesMut, params: &[ParamKind], bare: bool)
     }
 }
 
-/// The length of a parameter as it is written, up to the greatest `usize`.
+/// The length of a parameter as it is written, in bytes, up to the greatest `usize`.
 #[tactic(auto, using(crate::proofs::ParamsText::length_padded_param))]
 pub fn param_length(param: &ParamKind, bare: bool) -> usize
     ensures { result ≡ min (length (padded_param bare (parameter_of param.now))) usize.MAX }
@@ -103,7 +108,7 @@ pub fn param_length(param: &ParamKind, bare: bool) -> usize
     own.saturating_add(gap_after(param, bare))
 }
 
-/// The length of the parameters as they are written, up to the greatest `usize`.
+/// The length of the parameters as they are written, in bytes, up to the greatest `usize`.
 pub fn params_length(params: &[ParamKind], bare: bool) -> usize
     ensures { result ≡ min (length (params_text bare (map parameter_of params.now))) usize.MAX }
 {

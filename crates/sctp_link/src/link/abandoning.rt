@@ -24,6 +24,7 @@ impl<C: Checksum + Drop> Link<C> {
     ghost use Rattle.sctp_model.specs.declared.event.Event.TheVariants as E;
     ghost use Rattle.sctp_link.specs.Replies.{reply_of};
 
+    /// Why the message of a TSN is not given up, if it is not.
     pub(super) fn refusal_abandon(&self, tsn: u32) -> Option<LinkRefusal>
         ensures { result ≡ refusal_of self.now.world (E.Abandon tsn) }
     {
@@ -44,6 +45,8 @@ impl<C: Checksum + Drop> Link<C> {
         0 < message.sent && message.sent < count as u64 && !message.abandoned
     }
 
+    /// Gives up the message of a TSN in flight. Refuses only for memory, and nothing changes then.
+    /// Precondition: the event is not to be refused.
     pub(super) fn abandon(&mut self, tsn: u32) -> Result<Reply>
         requires { refusal_of self.old.world (E.Abandon tsn) ≡ None }
         ensures ok { IfOk result (λ reply. IsRight self.old.world (E.Abandon tsn) (reply_of reply) self.new.world) }
@@ -87,6 +90,8 @@ impl<C: Checksum + Drop> Link<C> {
         Ok((stream, bytes as u64))
     }
 
+    /// Gives up the front message where it is half-sent and its lifetime is over;
+    /// `now` is in nanoseconds. Refuses only for memory, and nothing changes then.
     pub(super) fn tail(&mut self, now: u64) -> Result<Reply>
         ensures ok { IfOk result (λ reply. IsRight self.old.world (E.Tail now) (reply_of reply) self.new.world) }
         ensures checksum { self.new.checksum ≡ self.old.checksum }

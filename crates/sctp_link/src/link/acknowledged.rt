@@ -24,6 +24,7 @@ impl<C: Checksum + Drop> Link<C> {
     ghost use Rattle.sctp_model.specs.declared.event.Event.TheVariants as E;
     ghost use Rattle.sctp_link.specs.Replies.{reply_of};
 
+    /// Why datagram k is not taken by the sender, if it is not.
     pub(super) fn refusal_acked(&self, k: u64) -> Option<LinkRefusal>
         ensures { result ≡ refusal_of self.now.world (E.Acked k) }
     {
@@ -37,6 +38,8 @@ impl<C: Checksum + Drop> Link<C> {
         }
     }
 
+    /// Takes datagram k to the sender. Refuses only for memory, and nothing changes then.
+    /// Precondition: the event is not to be refused.
     pub(super) fn acked(&mut self, k: u64) -> Result<Reply>
         requires { refusal_of self.old.world (E.Acked k) ≡ None }
         ensures ok { IfOk result (λ reply. IsRight self.old.world (E.Acked k) (reply_of reply) self.new.world) }

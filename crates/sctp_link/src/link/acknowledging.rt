@@ -20,6 +20,7 @@ impl<C: Checksum + Drop> Link<C> {
     ghost use Rattle.sctp_model.specs.declared.event.Event.TheVariants as E;
     ghost use Rattle.sctp_link.specs.Replies.{reply_of};
 
+    /// Makes a SACK; `credit` is in bytes. Refuses only for memory, and nothing changes then.
     pub(super) fn ack(&mut self, credit: u32) -> Result<Reply>
         ensures ok { IfOk result (λ reply. IsRight self.old.world (E.Ack credit) (reply_of reply) self.new.world) }
         ensures checksum { self.new.checksum ≡ self.old.checksum }

@@ -11,6 +11,8 @@ impl<C: Checksum + Drop> Link<C> {
     ghost use Rattle.sctp_model.specs.declared.event.Event.TheVariants as E;
     ghost use Rattle.sctp_link.specs.Replies.{reply_of};
 
+    /// Removes the front message where it is unsent and its lifetime is over; `now`
+    /// is in nanoseconds. It takes no memory.
     pub(super) fn expire(&mut self, now: u64) -> Reply
         ensures right { IsRight self.old.world (E.Expire now) (reply_of result) self.new.world }
         ensures checksum { self.new.checksum ≡ self.old.checksum }

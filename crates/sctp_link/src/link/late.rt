@@ -17,6 +17,8 @@ impl<C: Checksum + Drop> Link<C> {
     ghost use Rattle.sctp_model.specs.declared.event.Event.TheVariants as E;
     ghost use Rattle.sctp_link.specs.Replies.{reply_of};
 
+    /// Gives up the messages in flight whose lifetime is over; `now` is in
+    /// nanoseconds. Refuses only for memory, and nothing changes then.
     pub(super) fn late(&mut self, now: u64) -> Result<Reply>
         ensures ok { IfOk result (λ reply. IsRight self.old.world (E.Late now) (reply_of reply) self.new.world) }
         ensures checksum { self.new.checksum ≡ self.old.checksum }

@@ -14,9 +14,13 @@ use sctp_queues::reassembly_queue::ReassemblyQueue;
 /// The bytes of all messages: each written one is pending, in flight or released.
 #[derive(Clone, Copy, Debug, PartialEq, Eq)]
 pub struct Ledger {
+    /// The bytes of all accepted writes.
     pub written: u64,
+    /// Those that wait to be sent.
     pub pending: u64,
+    /// Those that were sent, and neither acknowledged nor given up.
     pub in_flight: u64,
+    /// All others: acknowledged, expired or given up.
     pub released: u64,
 }
 
@@ -47,7 +51,7 @@ impl<C: Checksum + Drop> Link<C> {
         }
     }
 
-    /// How many bytes of an open stream wait or are in flight.
+    /// How many bytes of an open stream wait or are in flight; None where it is not open.
     pub fn buffered_amount(&self, stream: u16) -> Option<u64>
         ensures { result ≡ buffered_amount self.now.world stream }
     {
@@ -57,7 +61,7 @@ impl<C: Checksum + Drop> Link<C> {
         Some(open_stream.state.buffered_amount() as u64)
     }
 
-    /// The counters of an open stream.
+    /// The counters of an open stream; None where it is not open.
     pub fn stats(&self, stream: u16) -> Option<DataChannelStats>
         ensures { result ≡ option_map stats_of (counters_of self.now.world stream) }
     {
@@ -77,14 +81,15 @@ impl<C: Checksum + Drop> Link<C> {
         &self.outbound
     }
 
-    /// The TSNs that came beyond the cumulative one, and those that came again.
+    /// The TSNs that came beyond the cumulative one, and those that came again
+    /// since the last SACK was made. Its chunks have no bytes.
     pub fn filter(&self) -> &PayloadQueue
         ensures { filter_held (cumulative_tsn self.now.world (cumulative self.now.world)) result.now ≡ filter_of self.now.world }
     {
         &self.filter
     }
 
-    /// What came on an open stream and was not read.
+    /// What came on an open stream and was not read; None where it is not open.
     pub fn reassembly(&self, stream: u16) -> Option<&ReassemblyQueue>
         ensures { MatchOption result (is_open self.now.world stream ≡ false) (λ q. (q.now.held ≡ reassembly_of self.now.world stream) × (q.now.si ≡ stream) × (q.now.max_message_size ≡ self.now.world.setup.largest)) }
     {

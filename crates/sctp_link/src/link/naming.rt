@@ -24,6 +24,7 @@ impl<C: Checksum + Drop> Link<C> {
     ghost use Rattle.sctp_model.specs.declared.event.Event.TheVariants as E;
     ghost use Rattle.sctp_link.specs.Replies.{reply_of};
 
+    /// Why a FORWARD-TSN is not made, if it is not.
     pub(super) fn refusal_skip(&self, upto: u32, messages: &[u64]) -> Option<LinkRefusal>
         ensures { result ≡ skip_refusal self.now.world (place_of self.now.world upto) messages.now }
     {
@@ -98,6 +99,8 @@ impl<C: Checksum + Drop> Link<C> {
         false
     }
 
+    /// Makes a FORWARD-TSN. Refuses only for memory, and nothing changes then.
+    /// Precondition: the event is not to be refused.
     pub(super) fn skip(&mut self, upto: u32, messages: Vec<u64>) -> Result<Reply>
         requires { skip_refusal self.old.world (place_of self.old.world upto) messages.items ≡ None }
         ensures ok { IfOk result (λ reply. IsRight self.old.world (E.Skip upto messages) (reply_of reply) self.new.world) }

@@ -44,7 +44,8 @@ impl OpenStreams {
         self.places.get(&stream).copied()
     }
 
-    /// Puts a stream after the others.
+    /// Puts a stream after the others. Refuses only for memory, and the streams are as they were then.
+    /// Precondition: its number is not open.
     pub fn push(&mut self, stream: OpenStream) -> Result<()>
         requires indexed { IsIndexed self.old.places (stream_numbers self.old.items.items) }
         requires new { find (has_number stream.state.stream_identifier) self.old.items.items ≡ None }
@@ -61,7 +62,9 @@ impl OpenStreams {
         Ok(())
     }
 
-    /// The index of the next ordered message of a stream that is begun, which is begun; 0 where the stream is not open.
+    /// The index of the next ordered message of a stream that is begun, which is
+    /// begun; 0 where the stream is not open.
+    /// Precondition: fewer than the greatest u64 were begun.
     pub fn begin(&mut self, stream: u16) -> u64
         requires indexed { IsIndexed self.old.places (stream_numbers self.old.items.items) }
         requires few { begun_of stream self.old.items.items + 1 < 2 ^ 64 }
@@ -79,6 +82,7 @@ impl OpenStreams {
     }
 
     /// Takes a message that expired off its stream, where it is open.
+    /// Precondition: it has fewer than 2^63 bytes.
     pub fn expire(&mut self, stream: u16, ordered: bool, bytes: usize)
         requires indexed { IsIndexed self.old.places (stream_numbers self.old.items.items) }
         requires short { bytes < 2 ^ 63 }
@@ -92,6 +96,7 @@ impl OpenStreams {
     }
 
     /// Takes bytes off the amount of a stream, where it is open.
+    /// Precondition: they are fewer than 2^63.
     pub fn release(&mut self, stream: u16, bytes: usize)
         requires indexed { IsIndexed self.old.places (stream_numbers self.old.items.items) }
         requires short { bytes < 2 ^ 63 }

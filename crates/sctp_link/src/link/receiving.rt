@@ -31,6 +31,7 @@ impl<C: Checksum + Drop> Link<C> {
     ghost use Rattle.sctp_model.specs.declared.event.Event.TheVariants as E;
     ghost use Rattle.sctp_link.specs.Replies.{reply_of};
 
+    /// Why datagram k is not taken by the receiver, if it is not.
     pub(super) fn refusal_arrive(&self, k: u64) -> Option<LinkRefusal>
         ensures { result ≡ refusal_of self.now.world (E.Arrive k) }
     {
@@ -100,6 +101,8 @@ impl<C: Checksum + Drop> Link<C> {
         self.filter.get(tsn).is_none() && !sna32lte(tsn, self.cumulative_tsn)
     }
 
+    /// Takes datagram k to the receiver. Refuses only for memory, and nothing changes then.
+    /// Precondition: the event is not to be refused.
     pub(super) fn arrive(&mut self, k: u64) -> Result<Reply>
         requires { refusal_of self.old.world (E.Arrive k) ≡ None }
         ensures ok { IfOk result (λ reply. IsRight self.old.world (E.Arrive k) (reply_of reply) self.new.world) }
@@ -179,6 +182,8 @@ impl<C: Checksum + Drop> Link<C> {
         Ok(())
     }
 
+    /// Reads the next message of a stream.
+    /// Precondition: the event is not to be refused.
     pub(super) fn read(&mut self, stream: u16) -> Reply
         requires { refusal_of self.old.world (E.Read stream) ≡ None }
         ensures right { IsRight self.old.world (E.Read stream) (reply_of result) self.new.world }

@@ -21,6 +21,7 @@ impl<C: Checksum + Drop> Link<C> {
     ghost use Rattle.sctp_model.specs.declared.event.Event.TheVariants as E;
     ghost use Rattle.sctp_link.specs.Replies.{reply_of};
 
+    /// Sends one pending fragment; `now` is in nanoseconds. Refuses only for memory, and nothing changes then.
     pub(super) fn send(&mut self, now: u64) -> Result<Reply>
         ensures ok { IfOk result (λ reply. IsRight self.old.world (E.Send now) (reply_of reply) self.new.world) }
         ensures checksum { self.new.checksum ≡ self.old.checksum }
@@ -62,6 +63,7 @@ impl<C: Checksum + Drop> Link<C> {
         })
     }
 
+    /// Why a TSN is not sent again, if it is not.
     pub(super) fn refusal_resend(&self, tsn: u32) -> Option<LinkRefusal>
         ensures { result ≡ refusal_of self.now.world (E.Resend tsn) }
     {
@@ -81,6 +83,8 @@ impl<C: Checksum + Drop> Link<C> {
         slot.acknowledged || self.messages[slot.message as usize].abandoned
     }
 
+    /// Sends the chunk of a TSN again. Refuses only for memory, and nothing changes then.
+    /// Precondition: the event is not to be refused.
     pub(super) fn resend(&mut self, tsn: u32) -> Result<Reply>
         requires { refusal_of self.old.world (E.Resend tsn) ≡ None }
         ensures ok { IfOk result (λ reply. IsRight self.old.world (E.Resend tsn) (reply_of reply) self.new.world) }

@@ -22,6 +22,8 @@ impl<C: Checksum + Drop> Link<C> {
     ghost use Rattle.sctp_model.specs.declared.event.Event.TheVariants as E;
     ghost use Rattle.sctp_link.specs.Replies.{reply_of};
 
+    /// Opens a stream. Refuses only for memory, and nothing changes then.
+    /// Precondition: the event is not to be refused.
     pub(super) fn open(&mut self, stream: u16) -> Result<Reply>
         requires { refusal_of self.old.world (E.Open stream) ≡ None }
         ensures ok { IfOk result (λ reply. IsRight self.old.world (E.Open stream) (reply_of reply) self.new.world) }
@@ -39,6 +41,8 @@ impl<C: Checksum + Drop> Link<C> {
         Ok(Reply::Opened)
     }
 
+    /// Sets the mode of later writes.
+    /// Precondition: the event is not to be refused.
     pub(super) fn mode(
         &mut self,
         stream: u16,
@@ -59,6 +63,7 @@ impl<C: Checksum + Drop> Link<C> {
         Reply::Set
     }
 
+    /// Why a write of `len` bytes is refused, if it is.
     pub(super) fn refusal_write(&self, stream: u16, len: usize) -> Option<LinkRefusal>
         ensures { (ppi : PayloadProtocolIdentifier) (bytes : List ℕ) → len ≡ length bytes → result ≡ refusal_of self.now.world (E.Write stream ppi bytes) }
     {
@@ -75,6 +80,8 @@ impl<C: Checksum + Drop> Link<C> {
         None
     }
 
+    /// Takes a write. Refuses only for memory, and nothing changes then.
+    /// Precondition: the event is not to be refused.
     pub(super) fn write(
         &mut self,
         stream: u16,
@@ -114,6 +121,7 @@ impl<C: Checksum + Drop> Link<C> {
         })
     }
 
+    /// Starts the lifetimes of the messages written since the last time; `now` is in nanoseconds.
     pub(super) fn start(&mut self, now: u64) -> Reply
         ensures right { IsRight self.old.world (E.Start now) (reply_of result) self.new.world }
         ensures checksum { self.new.checksum ≡ self.old.checksum }
@@ -125,7 +133,7 @@ impl<C: Checksum + Drop> Link<C> {
     }
 }
 
-/// Makes room for the fragments of a message.
+/// Makes room for the fragments of a message. Refuses only for memory, and nothing changes then.
 fn make_room(outbound: &mut OutboundQueue, ordered: bool, count: usize) -> Result<()>
     ensures ok { OnOk result (outbound.new ≡ record outbound.old { pending = reserved outbound.old.pending (if ordered then count else 0) (if ordered then 0 else count) }) }
     ensures err { OnErr result (outbound.new ≡ outbound.old) }
@@ -138,6 +146,7 @@ fn make_room(outbound: &mut OutboundQueue, ordered: bool, count: usize) -> Resul
 }
 
 /// How many fragments of a size so many bytes take.
+/// Precondition: the size is not 0.
 pub(super) fn fragments_in(len: usize, size: usize) -> usize
     requires { 0 < size }
     ensures value { (bytes : List ℕ) → len ≡ length bytes → result ≡ length (pieces (length bytes) size bytes) }
@@ -147,7 +156,7 @@ pub(super) fn fragments_in(len: usize, size: usize) -> usize
     if len % size == 0 { whole } else { whole + 1 }
 }
 
-/// Starts the lifetimes of the messages from a place on.
+/// Starts the lifetimes of the messages from a place on; `now` is in nanoseconds.
 pub(super) fn start_from(messages: &mut [Message], first: usize, now: u64)
     ensures { messages.new ≡ start_from first now messages.old }
 {

@@ -18,14 +18,18 @@ use sctp_base::util::{CT_COOKIE_ECHO, CT_INIT, CT_INIT_ACK, Checksum, ChunkType}
 use sctp_chunks::chunk::chunk_header::{CHUNK_HEADER_SIZE, open_any, share_value};
 use std::alloc::Global;
 
+/// The bytes of an initiate tag, which a value begins with.
 const INITIATE_TAG_LENGTH: usize = 4;
 
-/// What tells where a packet belongs, before its chunks are read.
+/// What tells where a packet belongs, before its chunks are read: its tag, or where
+/// that says nothing, what its first chunk carries (RFC 4960 8.4, 8.5.1).
 #[derive(Debug, Drop)]
 pub struct PartialDecode {
+    /// The header.
     pub common_header: CommonHeader,
-    /// The bytes after the header.
+    /// The bytes after the header, which `finish` reads.
     pub remaining: Bytes,
+    /// The type of the first chunk, which may be of no kind.
     pub first_chunk_type: ChunkType,
     /// The initiate tag, where the first chunk is an INIT or INIT-ACK.
     pub initiate_tag: Option<u32>,
@@ -34,6 +38,7 @@ pub struct PartialDecode {
 }
 
 /// The initiate tag, where a chunk of this type with this value is an INIT or INIT-ACK.
+/// Refuses such a value of under four bytes with `ErrChunkValueNotLongEnough`.
 fn initiate_tag_in(typ: ChunkType, value: &[u8]) -> Result<Option<u32>>
     ensures long { OnOk result (IsInitType typ.0 → 4 ≤ length value.now) }
     ensures tag { IfOk result (λ t. t ≡ (if typ.0 == 1 || typ.0 == 2 then Some (u32_at value.now 0) else None)) }
@@ -50,7 +55,11 @@ fn initiate_tag_in(typ: ChunkType, value: &[u8]) -> Result<Option<u32>>
 }
 
 impl PartialDecode {
-    /// Reads the header, tests the checksum, and reads the header of the first chunk.
+    /// Reads the header, tests the checksum, and reads the header of the first
+    /// chunk. A packet without chunks is refused.
+    /// Refuses as `Packet::unmarshal` does for its header, under four bytes behind it with
+    /// `ErrParseSctpChunkNotEnoughData`, the first header as `ChunkHeader::unmarshal` does, an INIT
+    /// or INIT-ACK with a value of under four bytes with `ErrChunkValueNotLongEnough`; or for memory.
     pub fn unmarshal<C: Checksum>(
         _alloc: Global,
         raw: &Bytes,
@@ -86,7 +95,9 @@ impl PartialDecode {
         })
     }
 
-    /// Reads the chunks.
+    /// Reads the chunks. After a successful `unmarshal` it gives the packet exactly
+    /// where `Packet::unmarshal` gives it, memory apart.
+    /// Refuses as `Packet::unmarshal` does for its chunks, and what was decoded is not handed back.
     pub fn finish(self, alloc: Global) -> Result<Packet>
         ensures found { IfOk result (λ p. Finishes self (parts_of p)) }
         ensures only { (p : Parts) → Finishes self p → GivesUnlessMemory result (λ q. parts_of q ≡ p) }

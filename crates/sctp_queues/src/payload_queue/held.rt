@@ -11,18 +11,24 @@ use std::alloc::Global;
 use std::collections::VecDeque;
 use std::marker::Model;
 
-/// What is noted of a chunk in flight.
+/// What is noted of a chunk in flight, for its sender alone.
 #[derive(Clone, Copy, PartialEq, Eq)]
 pub(crate) enum Mark {
+    /// The peer has it: its bytes go.
     Acknowledged,
+    /// Its message is given up: its bytes go.
     Abandoned,
+    /// Whether it is to be sent again.
     Retransmit(bool),
+    /// How often it was sent.
     Nsent(u32),
+    /// When it was sent, in nanoseconds.
     Since(Option<u64>),
+    /// How many acknowledgements reported it missing.
     MissIndicator(u8),
 }
 
-/// Chunks by place. The next `room` insertions take no memory.
+/// Chunks by place, from 0. The next `room` insertions take no memory.
 #[derive(Drop)]
 pub struct Held {
     chunks: VecDeque<ChunkPayloadData>,
@@ -45,6 +51,7 @@ impl Held {
     ghost use Rattle.sctp_queues.specs.Stored.{with_chunks};
     ghost use Rattle.sctp_queues.specs.Marks.{marked};
 
+    /// No chunks. It takes no memory.
     pub fn new(alloc: Global) -> Self
         ensures { result ≡ record { chunks = []; room = 0 } }
     {
@@ -54,12 +61,14 @@ impl Held {
         }
     }
 
+    /// How many chunks there are.
     pub fn len(&self) -> usize
         ensures { result ≡ length self.now.chunks }
     {
         self.chunks.len()
     }
 
+    /// Whether there are none.
     pub fn is_empty(&self) -> bool
         ensures { result ≡ (length self.now.chunks == 0) }
     {
@@ -73,7 +82,8 @@ impl Held {
         self.room
     }
 
-    /// Looks at a chunk, which is a turn.
+    /// Looks at the chunk at a place, which is a turn.
+    /// Precondition: the place has one.
     pub fn look<'a>(&'a self, place: usize, turns: &mut Turns) -> &'a ChunkPayloadData
         requires { place < length self.now.chunks }
         ensures value { result.now ≡ slice_index_or self.now.chunks place result.now }
@@ -83,7 +93,7 @@ impl Held {
         &self.chunks[place]
     }
 
-    /// The TSN of the first chunk.
+    /// The TSN of the first chunk; None where there are none.
     pub fn front_tsn(&self) -> Option<u32>
         ensures { result ≡ option_map (λ c. c.tsn) (slice_get self.now.chunks 0) }
     {
@@ -94,6 +104,7 @@ impl Held {
     }
 
     /// From here on `additional` insertions take no memory.
+    /// Refuses only for memory, and nothing changes then.
     pub fn reserve(&mut self, additional: usize) -> Result<()>
         ensures ok { OnOk result (self.new ≡ record self.old { room = max additional self.old.room }) }
         ensures err { OnErr result (self.new ≡ self.old) }
@@ -108,6 +119,9 @@ impl Held {
         Ok(())
     }
 
+    /// Puts a chunk at a place, before the one that is there.
+    /// Precondition: the place is at most the number of chunks.
+    /// Refuses only for memory, and never within the room. Nothing changes then.
     pub fn insert(&mut self, place: usize, chunk: ChunkPayloadData) -> Result<()>
         requires { place ≤ length self.old.chunks }
         ensures ok { OnOk result (self.new ≡ record { chunks = insert self.old.chunks place chunk; room = self.old.room - 1 }) }
@@ -120,6 +134,8 @@ impl Held {
         Ok(())
     }
 
+    /// Takes out the chunk at a place. The room stays as it is.
+    /// Precondition: the place has one.
     pub fn remove(&mut self, place: usize) -> ChunkPayloadData
         requires { place < length self.old.chunks }
         ensures removed { self.new ≡ with_chunks self.old (remove self.old.chunks place) }
@@ -131,6 +147,7 @@ impl Held {
         }
     }
 
+    /// Takes out the first chunk; None where there are none.
     pub fn pop_front(&mut self) -> Option<ChunkPayloadData>
         ensures popped { IfSome result (λ chunk. self.old ≡ with_chunks self.new (chunk ∷ self.new.chunks)) }
         ensures empty { IfNone result ((self.old.chunks ≡ []) × (self.new ≡ self.old)) }
@@ -138,7 +155,8 @@ impl Held {
         self.chunks.pop_front()
     }
 
-    /// Marks a chunk, which is a turn, and answers how many bytes left with it.
+    /// Marks the chunk at a place, which is a turn, and answers how many bytes left with it.
+    /// Precondition: the place has one.
     pub(crate) fn mark(&mut self, place: usize, mark: Mark, turns: &mut Turns) -> usize
         requires { place < length self.old.chunks }
         ensures changed { (d : _) → self.new ≡ with_chunks self.old (slice_set self.old.chunks place (marked mark (slice_index_or self.old.chunks place d))) }

@@ -43,6 +43,7 @@ impl Model for Line {
 impl Line {
     ghost use Rattle.sctp_queues.specs.Stored.{with_chunks};
 
+    /// No chunks. It takes no memory.
     pub(crate) fn new(alloc: Global) -> Self
         ensures { result ≡ record { chunks = []; room = 0 } }
     {
@@ -53,6 +54,7 @@ impl Line {
         }
     }
 
+    /// How many chunks wait.
     pub(crate) fn len(&self) -> usize
         ensures value { result ≡ length self.now.chunks }
         ensures bound { result < 2 ^ 63 }
@@ -75,6 +77,7 @@ impl Line {
     }
 
     /// How many chunks the rest of the message in front has, where they are at most `most`.
+    /// Precondition: an ending fragment waits.
     pub(crate) fn until_end(&self, most: usize) -> Option<usize>
         requires { list_any ends self.now.chunks ≡ true }
         ensures some { IfSome result (λ n. (n ≡ until_end self.now.chunks) × (n ≤ most)) }
@@ -92,6 +95,7 @@ impl Line {
     }
 
     /// From here on `additional` pushes take no memory.
+    /// Refuses only for memory, and nothing changes then.
     pub(crate) fn reserve(&mut self, additional: usize) -> Result<()>
         ensures ok { OnOk result (self.new ≡ record self.old { room = max additional self.old.room }) }
         ensures err { OnErr result (self.new ≡ self.old) }
@@ -114,6 +118,7 @@ impl Line {
     }
 
     /// Counts on no more room than this.
+    /// Precondition: it is at most the room.
     pub(crate) fn keep_room(&mut self, room: usize)
         requires { room ≤ self.old.room }
         ensures { self.new ≡ record self.old { room = room } }
@@ -121,6 +126,9 @@ impl Line {
         self.room = room;
     }
 
+    /// Puts a chunk behind the others.
+    /// Precondition: the bytes of all are fewer than 2^64.
+    /// Refuses only for memory, and never within the room. Nothing changes then.
     pub(crate) fn push_back(&mut self, chunk: ChunkPayloadData) -> Result<()>
         requires { bytes_of self.old.chunks + length chunk.user_data < 2 ^ 64 }
         ensures ok { OnOk result (self.new ≡ record { chunks = self.old.chunks ++ chunk ∷ []; room = self.old.room - 1 }) }
@@ -136,6 +144,8 @@ impl Line {
     }
 
     /// Puts the fragments of a message behind, under its number.
+    /// Precondition: the bytes of all are fewer than 2^64.
+    /// Refuses only for memory, and never within the room. Nothing changes then.
     pub(crate) fn append(&mut self, chunks: Vec<ChunkPayloadData>, message_id: u64) -> Result<()>
         requires { bytes_of self.old.chunks + bytes_of chunks.items < 2 ^ 64 }
         ensures ok { OnOk result (self.new ≡ record { chunks = self.old.chunks ++ map (with_message_id message_id) chunks.items; room = self.old.room - length chunks.items }) }
@@ -156,6 +166,7 @@ impl Line {
         Ok(())
     }
 
+    /// Takes out the first chunk; None where there are none.
     pub(crate) fn pop_front(&mut self) -> Option<ChunkPayloadData>
         ensures popped { IfSome result (λ chunk. self.old ≡ with_chunks self.new (chunk ∷ self.new.chunks)) }
         ensures empty { IfNone result ((self.old.chunks ≡ []) × (self.new ≡ self.old)) }
@@ -185,7 +196,8 @@ impl Line {
         lower_ssns_in(&mut self.chunks, stream_identifier);
     }
 
-    /// Starts the lifetimes of timed messages numbered from `first_message_id` on that have no deadline yet.
+    /// Starts the lifetimes of timed messages numbered from `first_message_id` on
+    /// that have no deadline yet. `now` is in nanoseconds.
     pub(crate) fn start_timed_messages(&mut self, first_message_id: u64, now: u64)
         ensures started { self.new ≡ with_chunks self.old (change_where (is_to_start first_message_id) (with_deadline now) self.old.chunks) }
         ensures bytes { bytes_of self.new.chunks ≡ bytes_of self.old.chunks }
@@ -194,6 +206,7 @@ impl Line {
     }
 
     /// The same where numbers ascend: it looks at the messages numbered so, and at the last chunk before them.
+    /// Precondition: they do. `now` is in nanoseconds.
     pub(crate) fn start_latest_messages(&mut self, first_message_id: u64, now: u64)
         requires { NumbersAscend self.old.chunks }
         ensures started { self.new ≡ with_chunks self.old (change_where (is_to_start first_message_id) (with_deadline now) self.old.chunks) }
@@ -203,6 +216,7 @@ impl Line {
         start_in(&mut self.chunks, from, first_message_id, now);
     }
 
+    /// Whether a chunk of the message waits.
     pub(crate) fn contains_message(&self, message_id: u64) -> bool
         ensures { result ≡ list_any (is_of message_id) self.now.chunks }
     {
@@ -211,6 +225,7 @@ impl Line {
             .any(|chunk| chunk.message_id == message_id)
     }
 
+    /// Whether a chunk of the stream waits.
     pub(crate) fn contains_stream(&self, stream_identifier: u16) -> bool
         ensures { result ≡ list_any (is_on stream_identifier) self.now.chunks }
     {
@@ -321,6 +336,7 @@ fn deadline_of(chunk: &ChunkPayloadData, now: u64) -> Option<u64>
     now.checked_add(milliseconds * 1_000_000)
 }
 
+/// Whether it is a message that establishes a channel (RFC 8832).
 pub(crate) fn is_dcep(payload_type: PayloadProtocolIdentifier) -> bool
     ensures { result ≡ is_dcep payload_type }
 {
@@ -330,6 +346,7 @@ pub(crate) fn is_dcep(payload_type: PayloadProtocolIdentifier) -> bool
     }
 }
 
+/// Whether there is a lifetime.
 fn is_timed(reliability: Option<(ReliabilityType, u32)>) -> bool
     ensures { result ≡ is_timed reliability }
 {

@@ -21,7 +21,7 @@ use sctp_chunks::chunk::chunk_payload_data::{ChunkPayloadData, PayloadProtocolId
 use std::alloc::Global;
 use std::marker::Model;
 
-/// The fragments that share one stream sequence number.
+/// The fragments that share one stream sequence number, or those of one unordered message.
 #[derive(Drop)]
 pub struct Fragments {
     ssn: u16,
@@ -47,6 +47,7 @@ impl Model for Fragments {
 }
 
 impl Fragments {
+    /// A set of these fragments, in the order in which they are given. It takes no memory.
     pub fn new(ssn: u16, ppi: PayloadProtocolIdentifier, chunks: Vec<ChunkPayloadData>) -> Self
         ensures { result ≡ record { ssn = ssn; ppi = ppi; chunks = chunks.items } }
     {
@@ -61,18 +62,21 @@ impl Fragments {
         }
     }
 
+    /// The stream sequence number, 0 of an unordered message.
     pub fn ssn(&self) -> u16
         ensures { result ≡ self.now.ssn }
     {
         self.ssn
     }
 
+    /// What the user data is, as the fragment that made the set says.
     pub fn ppi(&self) -> PayloadProtocolIdentifier
         ensures { result ≡ self.now.ppi }
     {
         self.ppi
     }
 
+    /// The fragments.
     pub fn fragments(&self) -> &[ChunkPayloadData]
         ensures { result.now ≡ self.now.chunks }
     {
@@ -101,8 +105,8 @@ impl Fragments {
         self.n_bytes
     }
 
-    /// Puts a fragment before the first that it comes before, and says whether the set is complete
-    /// then; None where its TSN is there already.
+    /// Puts a fragment before the first that it comes before, and says whether the set is complete then;
+    /// None where its TSN is there already. Refuses only for memory, and the set is as it was then.
     pub fn put(&mut self, chunk: ChunkPayloadData) -> Result<Option<bool>>
         ensures ok { OnOk result (self.new ≡ with_chunk chunk self.old) }
         ensures answer { IfOk result (λ whole. whole ≡ answer_with chunk self.old.chunks) }
@@ -126,7 +130,7 @@ pub struct Chunk {
     pub bytes: Bytes,
 }
 
-/// The fragments of a message, which can be taken piece by piece.
+/// The fragments of a message, which can be read whole, or taken piece by piece.
 #[derive(Drop)]
 pub struct Chunks {
     set: Fragments,
@@ -136,7 +140,7 @@ pub struct Chunks {
 }
 
 impl Chunks {
-    /// A message of these fragments, of which nothing was taken.
+    /// A message of these fragments, of which nothing was taken. It takes no memory.
     pub fn new(ssn: u16, ppi: PayloadProtocolIdentifier, chunks: Vec<ChunkPayloadData>) -> Self
         ensures left { concat (left_of result) ≡ payload_of chunks.items }
         ensures value { result ≡ record { set = record { ssn = ssn; ppi = ppi; chunks = chunks.items }; index = 0; offset = 0 } }
@@ -144,6 +148,7 @@ impl Chunks {
         Chunks::of(Fragments::new(ssn, ppi, chunks))
     }
 
+    /// The message of a set, of which nothing was taken.
     pub(crate) fn of(set: Fragments) -> Self
         ensures { result ≡ record { set = set; index = 0; offset = 0 } }
     {
@@ -166,12 +171,14 @@ impl Chunks {
         })
     }
 
+    /// The stream sequence number, 0 of an unordered message.
     pub fn ssn(&self) -> u16
         ensures { result ≡ self.now.set.ssn }
     {
         self.set.ssn()
     }
 
+    /// What the user data is.
     pub fn ppi(&self) -> PayloadProtocolIdentifier
         ensures { result ≡ self.now.set.ppi }
     {
@@ -206,8 +213,8 @@ impl Chunks {
         self.set.len() == 0
     }
 
-    /// Puts a fragment before the first that it comes before, unless its TSN is there, and says
-    /// whether the set became complete by it. Refuses only for memory.
+    /// Puts a fragment before the first that it comes before, unless its TSN is there, and says whether
+    /// the set became complete by it. Refuses only for memory, and the message is as it was then.
     pub fn push(&mut self, chunk: ChunkPayloadData) -> Result<bool>
         ensures ok { OnOk result (self.new ≡ record self.old { set = with_chunk chunk self.old.set }) }
         ensures answer { IfOk result (λ whole. whole ≡ is_whole_after chunk self.old.set.chunks) }
@@ -217,9 +224,10 @@ impl Chunks {
         Ok(self.set.put(chunk)?.unwrap_or(false))
     }
 
-    /// Copies the whole message into the buffer and gives its length.
-    ///
-    /// ErrShortBuffer: the message is longer, and the buffer is filled with its beginning.
+    /// Copies the whole message into the buffer and gives its length in bytes. What
+    /// follows in the buffer stays, and nothing is taken.
+    /// Refuses with `ErrShortBuffer`, exactly where the message is longer: the
+    /// buffer is filled with its beginning then.
     pub fn read(&self, buf: &mut [u8]) -> Result<usize>
         ensures ok { IfOk result (λ n. (n ≡ length (payload_of self.now.set.chunks)) × (n ≤ length buf.old) × (buf.new ≡ payload_of self.now.set.chunks ++ drop n buf.old)) }
         ensures short { IfErr result (λ e. (e ≡ ErrShortBuffer) × (length buf.old < length (payload_of self.now.set.chunks)) × (buf.new ≡ take (length buf.old) (payload_of self.now.set.chunks))) }
@@ -237,8 +245,10 @@ impl Chunks {
         Ok(n_written)
     }
 
-    /// The next `max_length` bytes of the message, or as many as are left; None once every fragment
-    /// was taken. A message of empty fragments gives one empty piece. Refuses only for memory.
+    /// The next `max_length` bytes of the message, or as many as are left; None once
+    /// every fragment was taken. A message of empty fragments gives one empty piece.
+    /// No more room is asked for than the piece takes, however great `max_length` is.
+    /// Refuses only for memory, and nothing is taken then.
     pub fn next(&mut self, alloc: Global, max_length: usize) -> Result<Option<Chunk>>
         ensures piece { IfOk result (λ piece. option_map (λ (c : Chunk). c.bytes) piece ≡ piece_of max_length (left_of self.old)) }
         ensures left { OnOk result (left_of self.new ≡ left_after max_length (left_of self.old)) }

@@ -34,6 +34,7 @@ impl Model for LooseFragment {
 }
 
 impl LooseFragment {
+    /// Puts a fragment on the heap.
     fn new(alloc: Global, chunk: ChunkPayloadData) -> Result<Self, AllocError>
         ensures { IfOk result (λ fragment. fragment ≡ chunk) }
     {
@@ -41,12 +42,14 @@ impl LooseFragment {
         Ok(LooseFragment { chunk })
     }
 
+    /// The fragment.
     pub fn chunk(&self) -> &ChunkPayloadData
         ensures { result.now ≡ self.now }
     {
         &self.chunk
     }
 
+    /// The fragment, taken from the heap.
     fn into_chunk(self) -> ChunkPayloadData
         ensures { result ≡ self }
     {
@@ -54,7 +57,7 @@ impl LooseFragment {
     }
 }
 
-/// The loose fragments, by place.
+/// The loose fragments, by place, from 0.
 #[derive(Drop)]
 pub struct Loose {
     chunks: VecDeque<LooseFragment>,
@@ -78,6 +81,7 @@ impl Model for Loose {
 }
 
 impl Loose {
+    /// No fragments. It takes no memory.
     pub fn new(alloc: Global) -> Self
         ensures { result ≡ [] }
     {
@@ -88,6 +92,7 @@ impl Loose {
         }
     }
 
+    /// How many there are.
     pub fn len(&self) -> usize
         ensures { result ≡ length self.now }
     {
@@ -101,14 +106,15 @@ impl Loose {
         self.n_bytes
     }
 
-    /// Whether they stand in serial order.
+    /// Whether they stand in serial order: each before all that follow it.
     pub fn is_serial(&self) -> bool
         ensures { IsOrderMark result self.now }
     {
         self.serial
     }
 
-    /// Looks at a fragment, which is a turn.
+    /// Looks at the fragment at a place, which is a turn.
+    /// Precondition: the place has one.
     pub fn look<'a>(&'a self, place: usize, turns: &mut Turns) -> &'a ChunkPayloadData
         requires { place < length self.now }
         ensures value { result.now ≡ slice_index_or self.now place result.now }
@@ -118,6 +124,9 @@ impl Loose {
         self.chunks[place].chunk()
     }
 
+    /// Puts a fragment at a place, before the one that is there.
+    /// Precondition: the place is at most their number.
+    /// Refuses only for memory, and nothing changes then.
     pub fn insert(
         &mut self,
         alloc: Global,
@@ -151,7 +160,8 @@ impl Loose {
         is_ahead(&self.chunks, place, tsn)
     }
 
-    /// Takes out what was looked at.
+    /// Takes out the fragment at a place. It takes no memory.
+    /// Precondition: the place has one.
     pub fn remove(&mut self, place: usize) -> ChunkPayloadData
         requires { place < length self.old }
         ensures rest { self.new ≡ remove self.old place }
@@ -163,7 +173,9 @@ impl Loose {
         chunk
     }
 
-    /// Takes out some neighbours.
+    /// Takes out `count` neighbours from place `first` on.
+    /// Precondition: they are there.
+    /// Refuses only for memory, and nothing changes then.
     pub fn take_range(
         &mut self,
         alloc: Global,
@@ -208,6 +220,8 @@ impl Loose {
         &self.chunks
     }
 
+    /// Drops the first `count`. It takes no memory.
+    /// Precondition: there are so many.
     pub fn drop_front(&mut self, count: usize)
         requires { count ≤ length self.old }
         ensures { self.new ≡ drop count self.old }
@@ -317,6 +331,8 @@ fn bytes_without(n_bytes: usize, gone: usize, chunks: &VecDeque<LooseFragment>) 
     bytes_from(chunks, 0, chunks.len())
 }
 
+/// Takes out the fragment at a place.
+/// Precondition: the place has one.
 fn take_out(chunks: &mut VecDeque<LooseFragment>, place: usize) -> ChunkPayloadData
     requires { place < length chunks.old.items }
     ensures rest { chunks.new.items ≡ remove chunks.old.items place }
@@ -443,10 +459,12 @@ fn run_through(
     Some((first, last + 1 - first))
 }
 
-/// The run that holds the place, the one that ends earliest.
+/// The place and the length of the run that holds the place, the one that ends earliest; None where there is
+/// none. A run is a whole message: it begins, no other fragment in it does, TSNs rise by one, and its last ends.
 ///
-/// At the front of its stretch what does not begin takes two turns at most, at the back what does not end
-/// three: so does each fragment of a message that comes in order or reversed, but the last.
+/// At the front of its stretch what does not begin takes two turns at most, at the back what does
+/// not end three: so does each fragment of a message that comes in order or reversed, but the last.
+/// Precondition: the place has a fragment.
 pub fn run_around(loose: &Loose, place: usize, turns: &mut Turns) -> Option<(usize, usize)>
     requires { place < length loose.now }
     ensures found { IfSome result (λ run. IsEarliestRunAround loose.now place run.0 run.1) }
@@ -463,7 +481,7 @@ pub fn run_around(loose: &Loose, place: usize, turns: &mut Turns) -> Option<(usi
     run_through(loose, place, here, turns)
 }
 
-/// The run that ends earliest, by a scan of all.
+/// The place and the length of the run that ends earliest, by a scan of all; None where there is none.
 pub fn find_run(loose: &Loose, turns: &mut Turns) -> Option<(usize, usize)>
     ensures found { IfSome result (λ run. IsEarliestRun loose.now run.0 run.1) }
     ensures none { IfNone result (HasNoRun loose.now) }

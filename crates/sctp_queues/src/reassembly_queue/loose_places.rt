@@ -78,6 +78,7 @@ fn by_halves(loose: &Loose, tsn: u32, turns: &mut Turns) -> usize
 }
 
 /// The place of the last fragment of the number before this one, seen from where this one goes.
+/// Precondition: `place` is where this one goes.
 pub(crate) fn place_before(
     loose: &Loose,
     place: usize,
@@ -113,6 +114,7 @@ pub(crate) fn place_before(
 }
 
 /// The place of the last fragment of the number after this one, seen from where this one goes.
+/// Precondition: `place` is where this one goes.
 pub(crate) fn place_after(loose: &Loose, place: usize, tsn: u32, turns: &mut Turns) -> Option<usize>
     requires { place ≡ place_among tsn loose.now }
     ensures in_range { IfSome result (λ at. at < length loose.now) }

@@ -23,6 +23,7 @@ use std::collections::VecDeque;
 use std::marker::Model;
 use std::result;
 
+/// The sets of ordered messages.
 #[derive(Drop)]
 pub(crate) struct OrderedSets {
     sets: VecDeque<Fragments>,
@@ -43,6 +44,7 @@ impl Model for OrderedSets {
 }
 
 impl OrderedSets {
+    /// No sets. It takes no memory.
     pub(crate) fn new(alloc: Global) -> Self
         ensures { result ≡ [] }
     {
@@ -52,6 +54,7 @@ impl OrderedSets {
         }
     }
 
+    /// Equal sets, which share their bytes. Refuses only for memory.
     pub(crate) fn try_clone(&self, alloc: Global) -> Result<Self>
         ensures ok { IfOk result (λ sets. sets ≡ self.now) }
         ensures memory { IfErr result (λ e. e ≡ ErrOutOfMemory) }
@@ -63,12 +66,14 @@ impl OrderedSets {
         })
     }
 
+    /// All of them.
     pub(crate) fn as_deque(&self) -> &VecDeque<Fragments>
         ensures { result.now.items ≡ self.now }
     {
         &self.sets
     }
 
+    /// The first set.
     pub(crate) fn front(&self) -> Option<&Fragments>
         ensures some { IfSome result (λ s. self.now ≡ s.now ∷ without_first self.now) }
         ensures none { IfNone result (self.now ≡ []) }
@@ -76,6 +81,7 @@ impl OrderedSets {
         self.sets.front()
     }
 
+    /// Takes out the first set.
     pub(crate) fn pop_front(&mut self) -> Option<Fragments>
         ensures some { IfSome result (λ s. self.old ≡ s ∷ self.new) }
         ensures none { IfNone result ((self.old ≡ []) × (self.new ≡ self.old)) }
@@ -93,7 +99,8 @@ impl OrderedSets {
         }
     }
 
-    /// Puts a chunk into the first set of its number, or into a new one at its place.
+    /// Puts a chunk into the first set of its number, or into a new one at its place, and says whether that set
+    /// is complete then; None where its TSN is there already. Refuses only for memory, and nothing changes then.
     pub(crate) fn put(&mut self, alloc: Global, chunk: ChunkPayloadData) -> Result<Option<bool>>
         ensures ok { OnOk result (self.new ≡ sets_with chunk self.old) }
         ensures answer { IfOk result (λ whole. whole ≡ answer_with chunk (chunks_of_ssn chunk.stream_sequence_number self.old)) }

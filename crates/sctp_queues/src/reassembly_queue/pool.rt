@@ -14,6 +14,7 @@ use sctp_chunks::chunk::chunk_payload_data::ChunkPayloadData;
 use std::alloc::{AllocError, Global};
 use std::marker::Model;
 
+/// The loose fragments, and whether they are known to hold no whole message.
 #[derive(Drop)]
 pub(crate) struct Pool {
     loose: Loose,
@@ -34,6 +35,7 @@ impl Model for Pool {
 }
 
 impl Pool {
+    /// No fragments. It takes no memory.
     pub(crate) fn new(alloc: Global) -> Self
         ensures { result ≡ [] }
     {
@@ -43,6 +45,7 @@ impl Pool {
         }
     }
 
+    /// Equal fragments, which share their bytes. Refuses only for memory.
     pub(crate) fn try_clone(&self, alloc: Global) -> Result<Self, Error>
         ensures ok { IfOk result (λ pool. pool ≡ self.now) }
         ensures memory { IfErr result (λ e. e ≡ ErrOutOfMemory) }
@@ -53,12 +56,15 @@ impl Pool {
         })
     }
 
+    /// The fragments.
     pub(crate) fn loose(&self) -> &Loose
         ensures { result.now ≡ self.now }
     {
         &self.loose
     }
 
+    /// Drops the first `count`.
+    /// Precondition: there are so many.
     pub(crate) fn drop_front(&mut self, count: usize)
         requires { count ≤ length self.old }
         ensures { self.new ≡ drop count self.old }
@@ -66,8 +72,10 @@ impl Pool {
         self.loose.drop_front(count);
     }
 
-    /// Puts a fragment before the first that it comes before, and takes out the run that ends
-    /// earliest, if there is one.
+    /// Puts a fragment before the first that it comes before, and takes out the run
+    /// that ends earliest, if there is one.
+    /// Precondition: `place` is that place.
+    /// Refuses only for memory, and nothing changes then.
     pub(crate) fn put(
         &mut self,
         alloc: Global,
@@ -96,7 +104,7 @@ impl Pool {
         }
     }
 
-    /// Takes out the run that ends earliest, if there is one.
+    /// Takes out the run that ends earliest, if there is one. Refuses only for memory, and nothing changes then.
     pub(crate) fn take_run(
         &mut self,
         alloc: Global,

@@ -11,6 +11,7 @@ use crate::turns::Turns;
 use sctp_chunks::chunk::chunk_payload_data::ChunkPayloadData;
 
 /// The bytes of the loose neighbours that come before the chunk in its message, seen from where the chunk goes.
+/// Precondition: `place` is that.
 pub(crate) fn size_before(chunk: &ChunkPayloadData, loose: &Loose, place: usize) -> usize
     requires { place ≡ place_among chunk.now.tsn loose.now }
     ensures { result ≡ min (size_before chunk.now loose.now) (2 ^ 64 - 1) }
@@ -26,6 +27,7 @@ pub(crate) fn size_before(chunk: &ChunkPayloadData, loose: &Loose, place: usize)
 }
 
 /// The bytes of the loose neighbours that come after the chunk in its message, seen from where the chunk goes.
+/// Precondition: `place` is that.
 pub(crate) fn size_after(chunk: &ChunkPayloadData, loose: &Loose, place: usize) -> usize
     requires { place ≡ place_among chunk.now.tsn loose.now }
     ensures { result ≡ min (size_after chunk.now loose.now) (2 ^ 64 - 1) }
@@ -87,6 +89,7 @@ fn bytes_up(loose: &Loose, from: usize, tsn: u32, turns: &mut Turns) -> usize
 }
 
 /// How many bytes the first fragments carry, or the greatest number where they are more.
+/// Precondition: there are so many fragments.
 pub(crate) fn bytes_of_front(loose: &Loose, count: usize, turns: &mut Turns) -> usize
     requires { count ≤ length loose.now }
     ensures { result ≡ min (bytes_of (take count loose.now)) (2 ^ 64 - 1) }
