@@ -1,8 +1,5 @@
 //! Expiry, abandonment and FORWARD-TSN: the bytes of datagrams, the ledger, and what the lent queues hold.
 
-ghost use Rattle.std.specs.Prelude.{IfOk};
-ghost use Rattle.sctp_link.specs.Replies.{IsBuilt};
-
 use crate::tests::{Zero, binary, carries, is_new, is_nothing, sent, shows};
 use sctp_chunks::chunk::chunk_payload_data::ReliabilityType;
 use sctp_link::event::{Event, Reply};
@@ -12,9 +9,7 @@ use std::alloc::Global;
 use std::test::Fail;
 
 /// Sets stream 1 to ordered messages with a lifetime of a millisecond, or with none.
-fn mode(timed: bool) -> Event
-    ensures { IsBuilt result }
-{
+fn mode(timed: bool) -> Event {
     let reliability = if timed {
         ReliabilityType::Timed
     } else {
@@ -29,9 +24,7 @@ fn mode(timed: bool) -> Event
 }
 
 /// A FORWARD-TSN up to this TSN that names these messages.
-fn skip(alloc: Global, upto: u32, names: &[u64]) -> Result<Event, Fail>
-    ensures { IfOk result (λ event. IsBuilt event) }
-{
+fn skip(alloc: Global, upto: u32, names: &[u64]) -> Result<Event, Fail> {
     Ok(Event::Skip {
         upto,
         messages: Vec::from_slice(alloc, names)?,

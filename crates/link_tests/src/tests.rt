@@ -1,6 +1,3 @@
-ghost use Rattle.std.specs.Prelude.{IfOk};
-ghost use Rattle.sctp_link.specs.Replies.{IsBuilt};
-
 use bytes::{Bytes, BytesMut};
 use sctp_base::util::Checksum;
 use sctp_chunks::chunk::chunk_payload_data::{PayloadProtocolIdentifier, ReliabilityType};
@@ -43,9 +40,7 @@ impl Checksum for Counted<'_> {
 /// The header of each datagram, under the checksum that is 0.
 const HEADER: [u8; 12] = [0x13, 0x88, 0x13, 0x88, 0, 0, 0, 1, 0, 0, 0, 0];
 
-pub fn write(alloc: Global, ppi: PayloadProtocolIdentifier, bytes: &[u8]) -> Result<Event, Fail>
-    ensures { IfOk result (λ event. IsBuilt event) }
-{
+pub fn write(alloc: Global, ppi: PayloadProtocolIdentifier, bytes: &[u8]) -> Result<Event, Fail> {
     Ok(Event::Write {
         stream: 1,
         ppi,
@@ -53,9 +48,7 @@ pub fn write(alloc: Global, ppi: PayloadProtocolIdentifier, bytes: &[u8]) -> Res
     })
 }
 
-pub fn binary(alloc: Global, bytes: &[u8]) -> Result<Event, Fail>
-    ensures { IfOk result (λ event. IsBuilt event) }
-{
+pub fn binary(alloc: Global, bytes: &[u8]) -> Result<Event, Fail> {
     write(alloc, PayloadProtocolIdentifier::Binary, bytes)
 }
 
@@ -438,9 +431,7 @@ fn resent_bytes_count_once(rt: HostRuntime) -> Result<(), Fail> {
     Ok(())
 }
 
-fn write_on(alloc: Global, stream: u16, bytes: &[u8]) -> Result<Event, Fail>
-    ensures { IfOk result (λ event. IsBuilt event) }
-{
+fn write_on(alloc: Global, stream: u16, bytes: &[u8]) -> Result<Event, Fail> {
     Ok(Event::Write {
         stream,
         ppi: PayloadProtocolIdentifier::Binary,

@@ -1,7 +1,6 @@
 //! The script language: lines that are events, and lines that are replies.
 
-ghost use Rattle.std.specs.Prelude.{◌≤◌, ℕ, IfOk, IfSome};
-ghost use Rattle.sctp_link.specs.Replies.{IsBuilt};
+ghost use Rattle.std.specs.Prelude.{◌≤◌, ℕ, IfSome};
 
 use crate::field::{FieldFault, field_bytes, field_text};
 use crate::run::RunFault;
@@ -37,10 +36,8 @@ pub fn read_link<C: Checksum + Drop>(alloc: Global, checksum: C, line: &str) -> 
     Some(Link::new(alloc, first_tsn, fragment_size, max_message_size, checksum))
 }
 
-/// Reads an event. The word of an event that a link does not take yet is not read.
-pub fn read_event(alloc: Global, line: &str) -> Result<Event, LineFault>
-    ensures { IfOk result (λ event. IsBuilt event) }
-{
+/// Reads an event.
+pub fn read_event(alloc: Global, line: &str) -> Result<Event, LineFault> {
     let mut rest = Some(line);
     let word = take_word(&mut rest).ok_or(LineFault::Unreadable)?;
     let event = match word {
@@ -56,9 +53,7 @@ pub fn read_event(alloc: Global, line: &str) -> Result<Event, LineFault>
 }
 
 /// Reads the field of an event of one number.
-fn read_short(word: &str, rest: &mut Option<&str>) -> Option<Event>
-    ensures { IfSome result (λ event. IsBuilt event) }
-{
+fn read_short(word: &str, rest: &mut Option<&str>) -> Option<Event> {
     match word {
         "open" => Some(Event::Open {
             stream: take_u16(rest)?,
@@ -85,14 +80,15 @@ fn read_short(word: &str, rest: &mut Option<&str>) -> Option<Event>
 }
 
 /// Reads the field of an event that gives up a message.
-fn read_giving_up(word: &str, rest: &mut Option<&str>) -> Option<Event>
-    ensures { IfSome result (λ event. IsBuilt event) }
-{
+fn read_giving_up(word: &str, rest: &mut Option<&str>) -> Option<Event> {
     match word {
         "expire" => Some(Event::Expire {
             now: take_u64(rest)?,
         }),
         "tail" => Some(Event::Tail {
+            now: take_u64(rest)?,
+        }),
+        "late" => Some(Event::Late {
             now: take_u64(rest)?,
         }),
         "abandon" => Some(Event::Abandon {
@@ -102,9 +98,7 @@ fn read_giving_up(word: &str, rest: &mut Option<&str>) -> Option<Event>
     }
 }
 
-fn read_mode(rest: &mut Option<&str>) -> Option<Event>
-    ensures { IfSome result (λ event. IsBuilt event) }
-{
+fn read_mode(rest: &mut Option<&str>) -> Option<Event> {
     let stream = take_u16(rest)?;
     let unordered = match take_word(rest)? {
         "ordered" => false,
@@ -125,9 +119,7 @@ fn read_mode(rest: &mut Option<&str>) -> Option<Event>
     })
 }
 
-fn read_write(alloc: Global, rest: &mut Option<&str>) -> Result<Event, LineFault>
-    ensures { IfOk result (λ event. IsBuilt event) }
-{
+fn read_write(alloc: Global, rest: &mut Option<&str>) -> Result<Event, LineFault> {
     let stream = take_u16(rest).ok_or(LineFault::Unreadable)?;
     let ppi = take_u32(rest).ok_or(LineFault::Unreadable)?;
     let text = take_word(rest).ok_or(LineFault::Unreadable)?;
@@ -144,9 +136,7 @@ fn read_write(alloc: Global, rest: &mut Option<&str>) -> Result<Event, LineFault
 }
 
 /// Reads the fields of a skip: a TSN, and the numbers of messages with commas between them, or `-`.
-fn read_skip(alloc: Global, rest: &mut Option<&str>) -> Result<Event, LineFault>
-    ensures { IfOk result (λ event. IsBuilt event) }
-{
+fn read_skip(alloc: Global, rest: &mut Option<&str>) -> Result<Event, LineFault> {
     let upto = take_u32(rest).ok_or(LineFault::Unreadable)?;
     let names = take_word(rest).ok_or(LineFault::Unreadable)?;
     let mut messages = Vec::new(alloc);
@@ -257,6 +247,7 @@ fn print_numbers<W: Write>(output: &mut W, reply: &Reply) -> io::Result<()> {
         Reply::Resent { datagram } => write!(output, "resent {datagram}\n"),
         Reply::Expired { stream, bytes } => write!(output, "expired {stream} {bytes}\n"),
         Reply::Released { stream, bytes } => write!(output, "released {stream} {bytes}\n"),
+        Reply::Late { listed, bytes } => write!(output, "late {listed} {bytes}\n"),
         Reply::Skip { datagram } => write!(output, "skip {datagram}\n"),
         Reply::Ack { datagram } => write!(output, "ack {datagram}\n"),
         Reply::New => write!(output, "new\n"),

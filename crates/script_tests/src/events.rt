@@ -65,6 +65,21 @@ fn scripts_of_abandonment(rt: HostRuntime) -> Result<(), Fail> {
             "link 10 3 100\nopen 1\nmode 1 ordered timed 1\nwrite 1 53 61626364656667\nsend 0\narrive 0\nack 0\nacked 1\ntail 999999\ntail 1000000\n",
             "opened\nset\nwrote 0 3\nsent 0 10 0\nnew\nack 1\nacked 3\nidle\nreleased 1 4\n",
         ),
+        // Both TSNs of a message that is wholly in flight are late; its stream sequence number stays taken.
+        (
+            "link 10 3 100\nopen 1\nmode 1 ordered timed 1\nwrite 1 53 616263646566\nsend 0\nsend 0\nlate 1000000\nwrite 1 53 67\nsend 0\n",
+            "opened\nset\nwrote 0 2\nsent 0 10 0\nsent 1 11 0\nlate 2 6\nwrote 1 1\nsent 2 12 1\n",
+        ),
+        // A half-sent one is late from its deadline on, and once.
+        (
+            "link 10 3 100\nopen 1\nmode 1 ordered timed 1\nwrite 1 53 61626364656667\nsend 0\nlate 999999\nlate 1000000\nlate 1000000\ntail 1000000\n",
+            "opened\nset\nwrote 0 3\nsent 0 10 0\nlate 0 0\nlate 1 7\nlate 0 0\nidle\n",
+        ),
+        // An acknowledged TSN of a half-sent message is late too; its bytes left before.
+        (
+            "link 10 3 100\nopen 1\nmode 1 ordered timed 1\nwrite 1 53 616263646566676869\nsend 0\nsend 0\narrive 1\nack 0\nacked 2\nlate 1000000\nsend 0\n",
+            "opened\nset\nwrote 0 3\nsent 0 10 0\nsent 1 11 0\nnew\nack 2\nacked 3\nlate 2 6\nidle\n",
+        ),
     ];
     for (script, printed) in cases {
         let result = ran(alloc, script.as_bytes())?;

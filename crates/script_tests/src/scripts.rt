@@ -202,7 +202,7 @@ fn lines_that_cannot_be_read(rt: HostRuntime) -> Result<(), Fail> {
         "acked",
         "expire",
         "tail -1",
-        "late 7",
+        "late 18446744073709551616",
         "abandon 4294967296",
         "skip 11",
         "skip - 0",

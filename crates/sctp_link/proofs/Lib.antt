@@ -3,6 +3,7 @@ pub mod ChangedStreams
 pub mod Expiring
 pub mod Abandoning
 pub mod GivingUp
+pub mod LateTsns
 pub mod Comes
 pub mod HandsOut
 pub mod Keeping

@@ -1,11 +1,10 @@
 -- A FORWARD-TSN is made: what it may name, what it says, and the link after it.
-use Rattle.std.proofs.Common.{◌≡◌, ℕ, zero, suc, ◌+◌, ◌-◌, ◌*◌, ◌<◌, ◌≤◌, ◌^◌, ◌%◌, Bool, true, false, List, [], ◌∷◌, ◌++◌, length, map, None, refl, ap, sym, ◌∙◌, inl, inr, arith, not}
+use Rattle.std.proofs.Common.{◌≡◌, ℕ, zero, suc, ◌+◌, ◌<◌, ◌≤◌, ◌^◌, ◌%◌, true, false, List, [], ◌∷◌, ◌++◌, length, map, None, refl, ap, sym, ◌∙◌, inl, inr, arith, not}
 use Rattle.std.specs.Prelude.{◌⊎◌, if◌then◌else◌, ◌&&◌, nat_le, nat_lt, slice_get, slice_index_or, Some}
 use Rattle.std.specs.List.{list_all}
 use Rattle.std.proofs.Math.Path.{subst}
 use Rattle.std.proofs.lemmas.Bool.{cases_lt}
 use Rattle.std.proofs.lemmas.Bool.Decides.{nat_tests}
-use Rattle.sctp_lists.specs.Kept.{kept}
 use Rattle.sctp_lists.proofs.Alls.{all-kept, all-at}
 use Rattle.sctp_lists.proofs.More.{both, fails, not_both}
 use Rattle.sctp_chunks.specs.ForwardTsn.{ForwardTsn, forward_tsn_value}
@@ -13,11 +12,10 @@ use Rattle.sctp_chunks.specs.Wire.{forward_tsn_chunk}
 use Rattle.sctp_chunks.proofs.Lengths.{length_forward_tsn_value}
 use Rattle.sctp_packets.specs.Packet.{ReadsPacket, packet_text}
 use Rattle.sctp_model.specs.declared.event.Event.{Event}
-use Rattle.sctp_model.specs.declared.event.Event.TheVariants as E
 use Rattle.sctp_model.specs.declared.event.LinkRefusal.TheVariants.{SkipUnassigned, SkipNames}
 use Rattle.sctp_model.specs.World.{World, Forward}
 use Rattle.sctp_model.specs.World as W
-use Rattle.sctp_model.specs.Messages.{message_at, message_of, index_of, belongs_to, slots_where, place_of, tsn_of}
+use Rattle.sctp_model.specs.Messages.{message_at, message_of, index_of, belongs_to, slots_where, tsn_of}
 use Rattle.sctp_model.specs.Contents.{name_of, contents_of}
 use Rattle.sctp_model.specs.Changes.{with_datagram}
 use Rattle.sctp_model.specs.Steps.{StandsFor, refusal_of, reply_to, after, can_name, skip_refusal}

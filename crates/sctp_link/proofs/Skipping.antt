@@ -1,5 +1,5 @@
 -- What a skip names, one message after another.
-use Rattle.std.proofs.Common.{◌≡◌, ℕ, ◌+◌, ◌-◌, ◌<◌, ◌^◌, Bool, true, false, List, [], ◌∷◌, length, map, refl, ap, sym, ◌∙◌}
+use Rattle.std.proofs.Common.{◌≡◌, ℕ, ◌+◌, ◌<◌, Bool, true, false, List, ◌∷◌, length, map, refl, ap}
 use Rattle.std.specs.Prelude.{if◌then◌else◌, slice_index_or, min, max}
 use Rattle.sctp_lists.specs.Kept.{passing}
 use Rattle.sctp_model.specs.Receiver.{least, greatest}

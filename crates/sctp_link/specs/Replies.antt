@@ -1,8 +1,6 @@
 -- What a link answers, in the words of the definitions.
 use Rattle.std.specs.Prelude.{Result, Ok, Err}
 use Rattle.sctp_model.specs.Reply as R
-use Rattle.sctp_model.specs.declared.event.Event.{Event}
-use Rattle.sctp_model.specs.declared.event.Event.TheVariants as E
 use Rattle.sctp_model.specs.declared.event.LinkRefusal.{LinkRefusal}
 use Rattle.sctp_link.specs.declared.event.Reply.{Reply}
 use Rattle.sctp_link.specs.declared.event.Reply.TheVariants as V
@@ -18,6 +16,7 @@ reply_of V.Idle = R.Idle
 reply_of (V.Resent datagram) = R.Resent datagram
 reply_of (V.Expired stream bytes) = R.Expired stream bytes
 reply_of (V.Released stream bytes) = R.Released stream bytes
+reply_of (V.Late listed bytes) = R.Late listed bytes
 reply_of (V.Skip datagram) = R.Skip datagram
 reply_of V.Skipped = R.Skipped
 reply_of V.Stale = R.Stale
@@ -31,8 +30,3 @@ reply_of V.Nothing = R.Nothing
 abbrev pub answer_of : Result Reply LinkRefusal → Result R.Reply LinkRefusal
 answer_of (Ok reply) = Ok (reply_of reply)
 answer_of (Err refusal) = Err refusal
-
--- the events that a link takes today
-abbrev pub IsBuilt : Event → Type 0
-IsBuilt (E.Late now) = ⊥
-IsBuilt _ = Unit {0}

@@ -37,6 +37,11 @@ pub enum Reply {
         stream: u16,
         bytes: u64,
     },
+    /// How many TSNs were late, and how many bytes left with their messages.
+    Late {
+        listed: u64,
+        bytes: u64,
+    },
     /// The FORWARD-TSN's number.
     Skip {
         datagram: u64,

@@ -7,6 +7,7 @@ mod abandoning;
 mod acknowledged;
 mod acknowledging;
 mod expiring;
+mod late;
 pub mod lending;
 mod naming;
 mod open_streams;
@@ -75,7 +76,7 @@ impl<C: Checksum + Drop> Link<C> {
     ghost use Rattle.sctp_model.specs.Steps.{Answers, History, StandsFor, StandsAfter, IsRight, refusal_of, takes_memory};
     ghost use Rattle.sctp_model.specs.declared.event.Event.TheVariants as E;
     ghost use Rattle.sctp_link.specs.Fields.{setup_of};
-    ghost use Rattle.sctp_link.specs.Replies.{IsBuilt, reply_of, answer_of};
+    ghost use Rattle.sctp_link.specs.Replies.{reply_of, answer_of};
     ghost use Rattle.sctp_link.specs.Texts.{datagram_text};
 
     /// A link with nothing opened yet. It takes no memory.
@@ -129,7 +130,6 @@ impl<C: Checksum + Drop> Link<C> {
     /// - Arrive: `SpanTooWide`, where stream sequence numbers could no longer be told apart (RFC 4960 6.5).
     /// - Each event that takes memory: `OutOfMemory`, where it was refused.
     pub fn step(&mut self, event: Event) -> Result<Reply, LinkRefusal>
-        requires { IsBuilt event }
         // What is refused, what is answered, and what is recorded.
         ensures answers { Answers self.old.world event (answer_of result) self.new.world }
         ensures checksum { self.new.checksum ≡ self.old.checksum }
@@ -148,7 +148,6 @@ impl<C: Checksum + Drop> Link<C> {
 
     // Takes an event that is not refused.
     fn take(&mut self, event: Event) -> Result<Reply, Error>
-        requires built { IsBuilt event }
         requires accepted { refusal_of self.old.world event ≡ None }
         ensures ok { IfOk result (λ reply. IsRight self.old.world event (reply_of reply) self.new.world) }
         ensures checksum { self.new.checksum ≡ self.old.checksum }
@@ -174,7 +173,7 @@ impl<C: Checksum + Drop> Link<C> {
             Event::Read { stream } => Ok(self.read(stream)),
             Event::Expire { now } => Ok(self.expire(now)),
             Event::Tail { now } => self.tail(now),
-            Event::Late { now: _now } => unreachable!(),
+            Event::Late { now } => self.late(now),
             Event::Abandon { tsn } => self.abandon(tsn),
             Event::Skip { upto, messages } => self.skip(upto, messages),
         }
@@ -193,7 +192,6 @@ impl<C: Checksum + Drop> Link<C> {
 
     /// The refusal that is due, the first one that holds.
     fn refusal(&self, event: &Event) -> Option<LinkRefusal>
-        requires { IsBuilt event.now }
         ensures { result ≡ refusal_of self.now.world event.now }
     {
         match event {

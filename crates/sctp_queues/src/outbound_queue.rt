@@ -339,6 +339,7 @@ impl OutboundQueue {
     pub fn expired_inflight(&self, alloc: Global, now: u64) -> Result<Vec<u32>>
         ensures ok { IfOk result (λ tsns. tsns.items ≡ late_tsns now self.now) }
         ensures memory { IsOkUnless result ErrOutOfMemory }
+        ensures idle { late_tsns now self.now ≡ [] → IsOk result }
     {
         let mut tsns = Vec::new(alloc);
         for place in 0..self.inflight.len() {

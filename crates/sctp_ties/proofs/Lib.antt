@@ -61,4 +61,5 @@ pub mod Abandoned
 pub mod AbandonedLate
 pub mod AbandonedEvents
 pub mod AbandonedLink
+pub mod AbandonedInTurn
 pub mod AbandonedBytes

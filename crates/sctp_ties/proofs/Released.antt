@@ -54,7 +54,7 @@ growth-by_queues setup h is run e ok a q r t u =
 
 -- ## By the record
 
-balance-in : (setup : Setup) (w : World) → IsSetup setup → Sane setup w → in_all w (held_bytes w) + in_all w (released_bytes w) ≡ in_all w (written_bytes w)
+pub balance-in : (setup : Setup) (w : World) → IsSetup setup → Sane setup w → in_all w (held_bytes w) + in_all w (released_bytes w) ≡ in_all w (written_bytes w)
 balance-in setup w is g = total-plus (held_bytes w) (released_bytes w) (written_bytes w) always 0 (length w.messages) (λ n a b. balance w n g.sender (size-some setup w is g) (omega arith))
 
 written-as : (w v : World) → AsTold w v → in_all v (written_bytes v) ≡ in_all w (written_bytes w)

@@ -4,3 +4,4 @@ pub mod Tied
 pub mod Amount
 pub mod Counts
 pub mod Indexes
+pub mod InTurn

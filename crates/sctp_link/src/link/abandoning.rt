@@ -35,7 +35,7 @@ impl<C: Checksum + Drop> Link<C> {
     }
 
     // Whether some but not all of a message was sent, and it is not given up.
-    fn is_half_sent(&self, number: usize) -> bool
+    pub(super) fn is_half_sent(&self, number: usize) -> bool
         requires { number < length self.now.world.messages }
         ensures { result ≡ is_half_sent self.now.world number }
     {
@@ -57,7 +57,7 @@ impl<C: Checksum + Drop> Link<C> {
     }
 
     // Gives up the message of a TSN in flight: its stream, and how many bytes left. It takes memory only for an end mark.
-    fn give_up(&mut self, tsn: u32) -> Result<(u16, u64)>
+    pub(super) fn give_up(&mut self, tsn: u32) -> Result<(u16, u64)>
         requires { refusal_of self.old.world (E.Abandon tsn) ≡ None }
         ensures moves { OnOk result (self.new.world ≡ after self.old.world (E.Abandon tsn)) }
         ensures stream { IfOk result (λ r. r.0 ≡ (message_at self.old.world (message_of self.old.world (place_of self.old.world tsn))).stream) }

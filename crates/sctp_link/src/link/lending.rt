@@ -27,7 +27,7 @@ impl<C: Checksum + Drop> Link<C> {
     ghost use Rattle.sctp_model.specs.Contents.{cumulative_tsn};
     ghost use Rattle.sctp_model.specs.Queues.{pending_of, in_flight_of, filter_of};
     ghost use Rattle.sctp_ties.specs.Holds.{reassembly_of};
-    ghost use Rattle.sctp_ties.specs.Tied.{shown, in_flight_shown, filter_held};
+    ghost use Rattle.sctp_ties.specs.Tied.{shown, in_flight_shown, filter_held, sending_of, sendings_of};
     ghost use Rattle.sctp_link.specs.Linked.{IsOpenStream, stats_of, ledger_of};
 
     /// The bytes written, and what became of them.
@@ -71,6 +71,8 @@ impl<C: Checksum + Drop> Link<C> {
     pub fn outbound(&self) -> &OutboundQueue
         ensures pending { shown result.now.pending ≡ pending_of self.now.world }
         ensures in_flight { map in_flight_shown result.now.inflight.chunks ≡ in_flight_of self.now.world }
+        // what a further sending of each says, with its stream, stream sequence number and flags, while it has its bytes
+        ensures says { map sending_of result.now.inflight.chunks ≡ sendings_of self.now.world }
     {
         &self.outbound
     }

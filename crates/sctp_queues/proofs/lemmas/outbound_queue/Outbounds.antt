@@ -1,5 +1,5 @@
 -- What a send leaves.
-use Rattle.std.proofs.Common.{◌≡◌, ◌==◌, ℕ, ◌+◌, ◌-◌, ◌<◌, ◌++◌, map, length, take, get_or, max, Bool, true, false, if◌then◌else◌, List, [], ◌∷◌, Option, Some, None, is_some, refl, sym, ap, ◌∙◌, arith}
+use Rattle.std.proofs.Common.{◌≡◌, ◌==◌, ℕ, zero, suc, ◌+◌, ◌-◌, ◌<◌, ◌++◌, map, length, take, get_or, max, Bool, true, false, if◌then◌else◌, List, [], ◌∷◌, Option, Some, None, is_some, refl, sym, ap, ◌∙◌, arith}
 use Rattle.std.proofs.lemmas.List.{map-append}
 use Rattle.std.proofs.lemmas.Bool.{false≢true}
 use Rattle.sctp_chunks.specs.declared.chunk.chunk_payload_data.ChunkPayloadData.{ChunkPayloadData}
@@ -64,3 +64,17 @@ tsns_more p xs i x b lt read e =
     step true false e = cc
     step false true e = cc
     step false false e = refl
+
+-- where a chunk is listed the list is not empty
+pub none_listed : (p : ChunkPayloadData → Bool) (xs : List ChunkPayloadData) (i : ℕ) (x : ChunkPayloadData) → i < length xs → x ≡ get_or xs i x → p x ≡ true → map (λ (c : ChunkPayloadData). c.tsn) (those p xs) ≡ [] → ⊥
+none_listed p [] i x lt read h e = omega (arith, lt)
+none_listed p (y ∷ ys) zero x lt read h e = by (p y) (ap p (sym read) ∙ h) e
+  where
+    by : (b : Bool) → b ≡ true → map (λ (c : ChunkPayloadData). c.tsn) (if b then y ∷ those p ys else those p ys) ≡ [] → ⊥
+    by true f e = cc
+    by false f e = cc
+none_listed p (y ∷ ys) (suc i) x lt read h e = none_listed p ys i x (omega (arith, lt)) read h (by (p y) e)
+  where
+    by : (b : Bool) → map (λ (c : ChunkPayloadData). c.tsn) (if b then y ∷ those p ys else those p ys) ≡ [] → map (λ (c : ChunkPayloadData). c.tsn) (those p ys) ≡ []
+    by true e = cc
+    by false e = e

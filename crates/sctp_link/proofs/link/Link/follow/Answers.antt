@@ -1,4 +1,4 @@
-use Rattle.std.proofs.Common.{◌≡◌, ℕ, ◌<◌, ◌≤◌, ◌+◌, true, List, None, Some, refl, ap, sym, ◌∙◌, arith, rules, length, map}
+use Rattle.std.proofs.Common.{◌≡◌, ℕ, ◌≤◌, ◌+◌, true, List, None, Some, refl, ap, ◌∙◌, arith, rules, length, map}
 use Rattle.std.specs.Prelude.{slice_get}
 use Rattle.std.specs.Vec.{with_items, vec_len}
 use Rattle.std.proofs.lemmas.List.{with_items_is}

@@ -4,7 +4,7 @@ use Rattle.std.specs.VecDeque.{deque_len}
 use Rattle.sctp_lists.proofs.More.{not_both}
 use Rattle.sctp_queues.specs.reassembly_queue.Fragments.{is_complete}
 use Rattle.sctp_model.specs.Messages.{is_open, index_of}
-use Rattle.sctp_model.specs.Receiver.{held_on, is_held, is_whole}
+use Rattle.sctp_model.specs.Receiver.{held_on, is_held}
 use Rattle.sctp_model.specs.Queues.{set_of}
 use Rattle.sctp_ties.specs.Naming.{min_with}
 use Rattle.sctp_link.specs.declared.open_stream.OpenStream.{OpenStream}

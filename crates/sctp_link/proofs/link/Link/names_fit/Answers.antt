@@ -1,10 +1,7 @@
-use Rattle.std.proofs.Common.{◌≡◌, ℕ, ◌<◌, ◌≤◌, ◌+◌, true, false, Some, refl, ap, sym, ◌∙◌, arith, length}
-use Rattle.std.specs.Prelude.{slice_get}
+use Rattle.std.proofs.Common.{◌<◌, ◌≤◌, ◌+◌, refl, ap, sym, ◌∙◌, arith, length}
 use Rattle.std.specs.List.{list_all}
 use Rattle.std.proofs.lemmas.List.{take_all}
-use Rattle.sctp_model.specs.World.{StreamRecord}
 use Rattle.sctp_ties.specs.Naming.{names_fit}
-use Rattle.sctp_link.specs.Fields.{world_in}
 use Rattle.sctp_link.specs.Records.{stream_record}
 use Rattle.sctp_link.proofs.Hears.{raw-length}
 use Rattle.sctp_link.proofs.SkipComes.{all-more, all-no}

@@ -7,3 +7,6 @@ returns-clause-pending g c = rw (← c.self.view_is) (pending-shown (world_in c.
 
 pub returns-clause-in_flight : goal.returns-clause-in_flight
 returns-clause-in_flight g c = rw (← c.self.view_is) (in-flight-shown (world_in c.self.inside) c.self.inside.outbound c.self.invariant.outbound)
+
+pub returns-clause-says : goal.returns-clause-says
+returns-clause-says g c = rw (← c.self.view_is) c.self.invariant.outbound.in_flight

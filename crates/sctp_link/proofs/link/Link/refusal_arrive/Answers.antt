@@ -1,4 +1,4 @@
-use Rattle.std.proofs.Common.{◌≡◌, ℕ, ◌<◌, List, [], ◌∷◌, Some, None, ap, sym, ◌∙◌, rules, length}
+use Rattle.std.proofs.Common.{◌≡◌, ◌<◌, [], ◌∷◌, Some, None, ap, sym, ◌∙◌, rules, length}
 use Rattle.std.specs.Prelude.{Option, slice_get}
 use Rattle.sctp_model.specs.World.{Datagram, Data, Forward}
 use Rattle.sctp_model.specs.Steps.{unless, is_for_receiver, arrival_fits}

@@ -1,5 +1,5 @@
-use Rattle.std.proofs.Common.{◌≡◌, ℕ, ◌+◌, ◌-◌, ◌<◌, ◌≤◌, true, false, Some, refl, ap, sym, ◌∙◌, arith, length, map}
-use Rattle.std.specs.Prelude.{is_some, slice_get, slice_index_or, min, max, nat_lt}
+use Rattle.std.proofs.Common.{◌≡◌, ℕ, ◌+◌, ◌<◌, true, Some, refl, ap, sym, ◌∙◌, arith, length, map}
+use Rattle.std.specs.Prelude.{is_some, slice_get, slice_index_or, nat_lt}
 use Rattle.sctp_model.specs.World.{Forward, StreamRecord}
 use Rattle.sctp_model.specs.Messages.{is_open, index_of}
 use Rattle.sctp_model.specs.Receiver.{held_on, next_of, least, greatest}
@@ -8,8 +8,6 @@ use Rattle.sctp_link.specs.declared.open_stream.OpenStream.{OpenStream}
 use Rattle.sctp_link.specs.Fields.{world_in, state_in}
 use Rattle.sctp_link.specs.Records.{stream_record}
 use Rattle.sctp_link.specs.Skips.{named_from, none_named}
-use Rattle.sctp_link.proofs.Bounds.{messages-few}
-use Rattle.sctp_link.proofs.Facts.{facts}
 use Rattle.sctp_link.proofs.Hears.{raw-length}
 use Rattle.sctp_link.proofs.SkipComes.{open-at, record-at, skips-in, names-are, judged, lowest-short}
 use Rattle.sctp_link.proofs.link.Link.stream_fits.Goals as goal
