@@ -1,7 +1,6 @@
 //! Runs of an outbound queue.
 
 ghost use Rattle.std.specs.Prelude.{◌≡◌, ◌+◌, ◌<◌, ◌^◌, [], IfOk};
-ghost use Rattle.sctp_queues.specs.DataChunks.{bytes_of};
 ghost use Rattle.sctp_queues.specs.pending_queue.Whole.{IsMessageOrNone};
 ghost use Rattle.benchlib.specs.Near.{AreBelow};
 
@@ -13,13 +12,9 @@ use sctp_queues::outbound_queue::OutboundQueue;
 use std::alloc::Global;
 use std::time::{Clock, Instant};
 
-// More bytes, and more messages, than any run takes.
-const MOST: usize = 1_000_000;
-
 // A message of one fragment.
 fn message(alloc: Global) -> Result<Vec<ChunkPayloadData>>
-    ensures whole { IfOk result (λ chunks. IsMessageOrNone chunks.items) }
-    ensures bytes { IfOk result (λ chunks. bytes_of chunks.items < 100) }
+    ensures { IfOk result (λ chunks. IsMessageOrNone chunks.items) }
 {
     let mut chunks = Vec::with_capacity(alloc, 1)?;
     chunks.push(whole(0))?;
@@ -32,8 +27,9 @@ fn waiting(alloc: Global, count: u16) -> Result<OutboundQueue>
 {
     let mut queue = OutboundQueue::new(alloc);
     for _ in 0..count {
-        if queue.pending_bytes() < MOST && queue.next_message_id() < MOST as u64 {
-            queue.push(message(alloc)?)?;
+        let chunks = message(alloc)?;
+        if queue.can_push(&chunks) {
+            queue.push(chunks)?;
         }
     }
     Ok(queue)

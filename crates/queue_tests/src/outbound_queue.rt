@@ -1,13 +1,6 @@
 //! Worked examples of an outbound queue. Moments are nanoseconds; the lifetimes here are one millisecond.
 
-ghost use Rattle.std.specs.Prelude.{◌≡◌, ◌<◌, true, false, IfOk};
-ghost use Rattle.std.specs.List.{All};
-ghost use Rattle.sctp_queues.specs.pending_queue.Whole.{IsMessageOrNone};
-ghost use Rattle.sctp_queues.specs.Window.{IsWithinHalf, SpansOneWindow, is_held};
-ghost use Rattle.sctp_queues.specs.DataChunks.{bytes_of};
-
 use crate::chunk::chunk;
-use crate::payload_queue::is_within_half;
 use bytes::Bytes;
 use sctp_base::error::Error;
 use sctp_chunks::chunk::chunk_payload_data::{ChunkPayloadData, ReliabilityType};
@@ -24,12 +17,7 @@ fn fragment(
     first: bool,
     last: bool,
     user_data: Bytes,
-) -> ChunkPayloadData
-    ensures kind { result.unordered ≡ false }
-    ensures begins { result.beginning_fragment ≡ first }
-    ensures ends { result.ending_fragment ≡ last }
-    ensures data { result.user_data ≡ user_data }
-{
+) -> ChunkPayloadData {
     let mut fragment = chunk(0);
     fragment.stream_identifier = stream_identifier;
     fragment.unordered = false;
@@ -43,10 +31,7 @@ fn fragment(
 }
 
 // `abcdefg` in three fragments.
-fn letters(alloc: Global, timed: bool) -> Result<Vec<ChunkPayloadData>, Error>
-    ensures message { IfOk result (λ v. IsMessageOrNone v.items) }
-    ensures bytes { IfOk result (λ v. bytes_of v.items < 100) }
-{
+fn letters(alloc: Global, timed: bool) -> Result<Vec<ChunkPayloadData>, Error> {
     let mut chunks = Vec::with_capacity(alloc, 3)?;
     chunks.push(fragment(1, timed, true, false, Bytes::from_static(&[97, 98, 99])))?;
     chunks.push(fragment(1, timed, false, false, Bytes::from_static(&[100, 101, 102])))?;
@@ -61,10 +46,7 @@ fn letter(
     number: u16,
     unordered: bool,
     timed: bool,
-) -> Result<Vec<ChunkPayloadData>, Error>
-    ensures message { IfOk result (λ v. IsMessageOrNone v.items) }
-    ensures bytes { IfOk result (λ v. bytes_of v.items < 100) }
-{
+) -> Result<Vec<ChunkPayloadData>, Error> {
     let mut only = fragment(
         stream_identifier,
         timed,
@@ -79,46 +61,15 @@ fn letter(
     Ok(chunks)
 }
 
-fn push(queue: &mut OutboundQueue, chunks: Vec<ChunkPayloadData>) -> Result<(), Error>
-    requires message { IsMessageOrNone chunks.items }
-    requires bytes { bytes_of chunks.items < 100 }
-{
-    if queue.next_message_id() < 100
-        && queue.pending_bytes() < 1000
-        && queue.inflight_bytes() < 1000
-    {
+fn push(queue: &mut OutboundQueue, chunks: Vec<ChunkPayloadData>) -> Result<(), Error> {
+    if queue.can_push(&chunks) {
         return queue.push(chunks);
     }
     Ok(())
 }
 
-// How far behind the next TSN those in flight may lie here.
-const REACH: u32 = 1000;
-
-// Whether so many TSNs behind the base are in flight as there are chunks in flight, so that no other is.
-fn are_behind(queue: &OutboundQueue, base: u32) -> bool
-    ensures { result ≡ true → All (λ c. IsWithinHalf base c.tsn) queue.now.inflight.chunks }
-{
-    let mut found = 0usize;
-    for step in 0..REACH {
-        if queue.get(base.wrapping_add(step + 1)).is_some() {
-            found += 1;
-        }
-    }
-    found == queue.inflight_len()
-}
-
-// Whether the TSN is free, in one window with those in flight.
-fn is_free(queue: &OutboundQueue, tsn: u32) -> bool
-    ensures fresh { result ≡ true → is_held queue.now.inflight.chunks tsn ≡ false }
-    ensures window { result ≡ true → SpansOneWindow queue.now.inflight.chunks tsn }
-{
-    let base = tsn.wrapping_sub(REACH);
-    queue.get(tsn).is_none() && is_within_half(base, tsn) && are_behind(queue, base)
-}
-
 fn send(queue: &mut OutboundQueue, next_tsn: &mut u32, now: u64) -> Result<Option<u32>, Error> {
-    if is_free(queue, *next_tsn) {
+    if queue.can_send(*next_tsn) {
         return queue.send_next(next_tsn, now);
     }
     Ok(None)
@@ -129,7 +80,7 @@ fn abandon(
     tsn: u32,
     next_tsn: &mut u32,
 ) -> Result<Option<(u16, usize)>, Error> {
-    if is_free(queue, *next_tsn) {
+    if queue.can_send(*next_tsn) {
         return queue.abandon(tsn, next_tsn);
     }
     Ok(None)
@@ -140,7 +91,7 @@ fn expire_tail(
     now: u64,
     next_tsn: &mut u32,
 ) -> Result<Option<(u16, u64, usize)>, Error> {
-    if is_free(queue, *next_tsn) {
+    if queue.can_send(*next_tsn) {
         return queue.expire_pending_tail(now, next_tsn);
     }
     Ok(None)
@@ -361,5 +312,61 @@ fn pushes_nothing(rt: HostRuntime) -> Result<(), Fail> {
     let none: Vec<ChunkPayloadData> = Vec::new(rt.alloc());
     push(&mut queue, none)?;
     assert_eq!(rt; (queue.next_message_id(), queue.pending_len()), (0, 0));
+    Ok(())
+}
+
+// Two ordered fragments with these flags, or an ordered and an unordered one.
+fn two(
+    alloc: Global,
+    begin: [bool; 2],
+    end: [bool; 2],
+    mixed: bool,
+) -> Result<Vec<ChunkPayloadData>, Error> {
+    let mut chunks = Vec::with_capacity(alloc, 2)?;
+    for place in 0..2 {
+        let mut next = fragment(
+            1,
+            false,
+            begin[place],
+            end[place],
+            Bytes::from_static(&[97]),
+        );
+        next.unordered = mixed && place == 1;
+        chunks.push(next)?;
+    }
+    Ok(chunks)
+}
+
+#[test]
+fn takes_one_message_of_one_kind(rt: HostRuntime) -> Result<(), Fail> {
+    let queue = OutboundQueue::new(rt.alloc());
+    for (begin, end, mixed, want) in [
+        ([true, false], [false, true], false, true),
+        ([true, false], [false, true], true, false),
+        ([false, true], [true, false], false, false),
+        ([true, true], [true, true], false, false),
+        ([true, false], [false, false], false, false),
+        ([false, false], [false, true], false, false),
+    ] {
+        let chunks = two(rt.alloc(), begin, end, mixed)?;
+        assert_eq!(rt; queue.can_push(&chunks), want);
+    }
+    Ok(())
+}
+
+// 2147483657 lies less than half a circle after 10, and 2147483659 less than half a circle before it.
+#[test]
+fn tells_what_may_be_sent(rt: HostRuntime) -> Result<(), Fail> {
+    let queue = half_sent(rt.alloc())?;
+    for (tsn, want) in [
+        (9, true),
+        (10, false),
+        (11, true),
+        (2147483657, true),
+        (2147483658, false),
+        (2147483659, true),
+    ] {
+        assert_eq!(rt; queue.can_send(tsn), want);
+    }
     Ok(())
 }

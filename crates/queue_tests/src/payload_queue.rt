@@ -1,9 +1,5 @@
 //! Worked examples of a payload queue.
 
-ghost use Rattle.std.specs.Prelude.{◌≡◌, ◌<◌, ◌^◌, true, false};
-ghost use Rattle.sctp_queues.specs.Window.{IsWindow, IsWithinHalf};
-ghost use Rattle.sctp_queues.specs.DataChunks.{bytes_of};
-
 use crate::chunk::chunk;
 use sctp_base::error::Error;
 use sctp_queues::payload_queue::PayloadQueue;
@@ -11,39 +7,11 @@ use sctp_queues::turns::Turns;
 use std::alloc::Global;
 use std::test::Fail;
 
-// Whether all that is held and the TSN lie at distance 1 to 2^31 after the cumulative TSN.
-fn fits(queue: &PayloadQueue, cumulative_tsn: u32, tsn: u32) -> bool
-    ensures window { result ≡ true → IsWindow cumulative_tsn queue.now.chunks tsn }
-    ensures bytes { result ≡ true → bytes_of queue.now.chunks < 1000 }
-{
-    if !is_within_half(cumulative_tsn, tsn) || queue.get_num_bytes() >= 1000 {
-        return false;
-    }
-    for place in 0..queue.len() {
-        let Some(held) = queue.tsn_at(place) else {
-            return false;
-        };
-        if !is_within_half(cumulative_tsn, held) {
-            return false;
-        }
-    }
-    true
-}
-
-#[tactic(auto, unfolding(sctp_lists::specs::Serial::distance))]
-pub(crate) fn is_within_half(base: u32, tsn: u32) -> bool
-    ensures within { result ≡ true → IsWithinHalf base tsn }
-    ensures fits { base < 2 ^ 32 }
-{
-    let distance = tsn.wrapping_sub(base);
-    0 < distance && distance <= 1 << 31
-}
-
 // The answers of the pushes are left out: a queue in which they came.
 fn filled(alloc: Global, cumulative_tsn: u32, tsns: &[u32]) -> Result<PayloadQueue, Error> {
     let mut queue = PayloadQueue::new(alloc);
     for tsn in tsns {
-        if fits(&queue, cumulative_tsn, *tsn) {
+        if queue.fits(cumulative_tsn, *tsn) && queue.get_num_bytes() < 1000 {
             queue.push(chunk(*tsn), cumulative_tsn)?;
         }
     }
@@ -131,7 +99,7 @@ fn notes_duplicates(rt: HostRuntime) -> Result<(), Fail> {
 
 // Pushes where that is allowed; a TSN at or before the cumulative one is.
 fn push_any(queue: &mut PayloadQueue, tsn: u32) -> Result<bool, Error> {
-    if !queue.can_push(&chunk(tsn), 10) || fits(queue, 10, tsn) {
+    if queue.fits(10, tsn) && queue.get_num_bytes() < 1000 {
         return queue.push(chunk(tsn), 10);
     }
     Ok(false)
@@ -208,10 +176,49 @@ fn pushes_within_room(rt: HostRuntime) -> Result<(), Fail> {
     let mut queue = PayloadQueue::new(rt.alloc());
     queue.reserve(2)?;
     for tsn in [11, 12] {
-        if fits(&queue, 10, tsn) && queue.get(tsn).is_none() {
+        if queue.can_push_no_check(tsn) && queue.get_num_bytes() < 1000 {
             queue.push_no_check(chunk(tsn))?;
         }
     }
     assert_eq!(rt; (queue.len(), queue.tsn_at(1)), (2, Some(12)));
+    Ok(())
+}
+
+// 2147483658 lies half a circle after 10. What is held, and what is at or before the cumulative TSN, is noted whatever else is held.
+#[test]
+fn tells_what_fits(rt: HostRuntime) -> Result<(), Fail> {
+    let queue = filled(rt.alloc(), 10, &[12, 13])?;
+    for (cumulative_tsn, tsn, want) in [
+        (10, 14, true),
+        (10, 12, true),
+        (10, 2147483658, true),
+        (10, 2147483659, true),
+        (12, 20, false),
+        (12, 13, true),
+        (12, 5, true),
+        (2147483660, 2147483662, false),
+        (2147483661, 2147483662, true),
+    ] {
+        assert_eq!(rt; queue.fits(cumulative_tsn, tsn), want);
+    }
+    Ok(())
+}
+
+// The numbers from 12 on that are less than half a circle away end at 2147483659; those before 13 begin at 2147483662.
+#[test]
+fn tells_what_may_stand_beside_the_rest(rt: HostRuntime) -> Result<(), Fail> {
+    let queue = filled(rt.alloc(), 10, &[12, 13])?;
+    for (tsn, want) in [
+        (11, true),
+        (12, false),
+        (13, false),
+        (14, true),
+        (2147483659, true),
+        (2147483660, false),
+        (2147483661, false),
+        (2147483662, true),
+    ] {
+        assert_eq!(rt; queue.can_push_no_check(tsn), want);
+    }
     Ok(())
 }

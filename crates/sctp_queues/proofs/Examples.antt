@@ -5,6 +5,7 @@ use Rattle.sctp_chunks.specs.declared.chunk.chunk_payload_data.PayloadProtocolId
 use Rattle.sctp_lists.specs.Kept.{runs_of}
 use Rattle.sctp_lists.specs.Serial.{comes_before, distance}
 use Rattle.sctp_queues.specs.outbound_queue.Numbering.{Call, push, send_next, abandon, mark_as_acked, pop, after_all, at_first}
+use Rattle.sctp_queues.specs.reassembly_queue.Chunks.{taken_whole}
 use Rattle.sctp_queues.specs.Turns.{IsWithinDigits}
 
 -- among three held chunks two looks are enough, and three are too many; among none there is nothing to look at
@@ -23,6 +24,13 @@ one_of_none h = omega arith
 -- the runs of the distances 2, 3 and 5
 three_distances : runs_of (2 ∷ 3 ∷ 5 ∷ []) ≡ (2, 3) ∷ (5, 5) ∷ []
 three_distances = refl
+
+-- of fragments of two bytes, none and one, a piece of two bytes takes the first two to their end, and one of a byte takes none so
+takes_two_whole : taken_whole 2 ((7 ∷ 7 ∷ []) ∷ [] ∷ (7 ∷ []) ∷ []) ≡ 2
+takes_two_whole = refl
+
+takes_none_whole : taken_whole 1 ((7 ∷ 7 ∷ []) ∷ [] ∷ (7 ∷ []) ∷ []) ≡ 0
+takes_none_whole = refl
 
 -- ## Runs of calls
 

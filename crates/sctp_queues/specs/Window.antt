@@ -1,5 +1,5 @@
 -- Chunks in serial order, and the TSNs that they span.
-use Rattle.std.specs.Prelude.{◌≡◌, ℕ, ◌^◌, ◌<◌, ◌≤◌, ◌==◌, Bool, ◌&&◌, not, IsTrue, is_some, List, length, slice_index_or}
+use Rattle.std.specs.Prelude.{◌≡◌, ℕ, ◌^◌, ◌<◌, ◌≤◌, ◌==◌, Bool, ◌&&◌, not, IsTrue, is_some, List, [], ◌∷◌, length, slice_index_or, if◌then◌else◌}
 use Rattle.std.specs.List.{All, AllPairs, sum_by, find}
 use Rattle.sctp_chunks.specs.declared.chunk.chunk_payload_data.ChunkPayloadData.{ChunkPayloadData}
 use Rattle.sctp_lists.specs.Serial.{distance, comes_before, at_or_before}
@@ -23,6 +23,11 @@ pub record IsWindow (base : ℕ) (chunks : List ChunkPayloadData) (tsn : ℕ) : 
 -- there is such a base
 abbrev pub SpansOneWindow : List ChunkPayloadData → ℕ → Type 0
 SpansOneWindow chunks tsn = (base : ℕ) × IsWindow base chunks tsn
+
+-- the TSN where it comes before the first chunk, or there is none; else that one's
+abbrev pub first_among : ℕ → List ChunkPayloadData → ℕ
+first_among tsn [] = tsn
+first_among tsn (c ∷ cs) = if comes_before tsn c.tsn then tsn else c.tsn
 
 -- whether the TSN is held
 abbrev pub is_held : List ChunkPayloadData → ℕ → Bool

@@ -12,6 +12,9 @@ ghost use Rattle.sctp_queues.specs.Window.{SpansOneWindow, is_held};
 ghost use Rattle.sctp_queues.specs.DataChunks.{has_tsn, bytes_of};
 ghost use Rattle.sctp_queues.specs.outbound_queue.OutboundQueue.{is_past, is_expired, is_expired_tail, is_late, released_of, expired_bytes, tail_bytes};
 
+mod message;
+
+use self::message::{is_message_or_none, is_room_for};
 use crate::payload_queue::{PayloadQueue, is_outstanding};
 use crate::pending_queue::PendingQueue;
 use crate::pending_queue::line::is_dcep;
@@ -68,6 +71,20 @@ impl OutboundQueue {
         self.next_message_id
     }
 
+    /// Whether `push` may be called with these chunks: they are none or one whole message, all ordered or all unordered; the number
+    /// of the next message is below the greatest u64; and all bytes, with theirs, are at most the greatest usize.
+    pub fn can_push(&self, chunks: &[ChunkPayloadData]) -> bool
+        ensures message { result ≡ true → IsMessageOrNone chunks.now }
+        ensures number { result ≡ true → self.now.next_message_id + 1 < 2 ^ 64 }
+        ensures bytes { result ≡ true → total_bytes self.now + bytes_of chunks.now < 2 ^ 64 }
+        ensures exact { IsMessageOrNone chunks.now → self.now.next_message_id + 1 < 2 ^ 64 → total_bytes self.now + bytes_of chunks.now < 2 ^ 64 → result ≡ true }
+    {
+        let n_bytes = self.pending.get_num_bytes() + self.inflight.get_num_bytes();
+        self.next_message_id < u64::MAX
+            && is_room_for(n_bytes, chunks)
+            && is_message_or_none(chunks)
+    }
+
     /// Puts the fragments of a message behind those that wait, under the next number.
     /// An empty list changes nothing. Numbers are never used twice, so that one
     /// never stands for two messages that wait.
@@ -120,6 +137,16 @@ impl OutboundQueue {
         ensures { option_copied result ≡ pending.peeked (after_sends sends self.now.pending) }
     {
         self.pending.peek_at(sends)
+    }
+
+    /// Whether `send_next`, `abandon` and `expire_pending_tail` may be called with this next TSN: it is not in flight, and there is a
+    /// number after which it and all that are lie at distance 1 to 2^31.
+    pub fn can_send(&self, next_tsn: u32) -> bool
+        ensures fresh { result ≡ true → is_held self.now.inflight.chunks next_tsn ≡ false }
+        ensures window { result ≡ true → SpansOneWindow self.now.inflight.chunks next_tsn }
+        ensures exact { is_held self.now.inflight.chunks next_tsn ≡ false → SpansOneWindow self.now.inflight.chunks next_tsn → result ≡ true }
+    {
+        self.inflight.can_push_no_check(next_tsn)
     }
 
     /// Starts lifetimes and puts the peeked chunk in flight under `next_tsn`, which goes up by one.

@@ -14,8 +14,10 @@ ghost use Rattle.sctp_queues.specs.Marks.{is_outstanding};
 ghost use Rattle.sctp_queues.specs.payload_queue.Blocks.{IsFirstAfter, IsRunUntil, Reports, gap_offsets, ends_of, is_offset, gap_text};
 
 pub mod held;
+mod window;
 
 use self::held::{Held, Mark};
+use self::window::{are_within_half, span_one_window};
 use crate::serial::distance;
 use crate::turns::Turns;
 use sctp_base::error::Result;
@@ -262,6 +264,28 @@ impl PayloadQueue {
         self.get_counted(chunk.tsn, turns).is_none() && !sna32lte(chunk.tsn, cumulative_tsn)
     }
 
+    /// Whether TSNs let `push` be called with a chunk of this TSN: it is not new, or it and all that is held lie at distance 1 to 2^31
+    /// after `cumulative_tsn`. Two chunks are looked at, and the TSN is searched for only where one of those lies elsewhere.
+    pub fn fits(&self, cumulative_tsn: u32, tsn: u32) -> bool
+        ensures yes { result ≡ true → IsTrue (is_new self.now.chunks tsn cumulative_tsn) → IsWindow cumulative_tsn self.now.chunks tsn }
+        ensures no { (IsTrue (is_new self.now.chunks tsn cumulative_tsn) → IsWindow cumulative_tsn self.now.chunks tsn) → result ≡ true }
+    {
+        if are_within_half(&self.held, cumulative_tsn) {
+            return true;
+        }
+        self.get(tsn).is_some() || sna32lte(tsn, cumulative_tsn)
+    }
+
+    /// Whether TSNs let `push_no_check` be called with a chunk of this TSN: it is not held, and there is a number after which it and all
+    /// that is held lie at distance 1 to 2^31. The TSN is searched for only where it does not come after the last.
+    pub fn can_push_no_check(&self, tsn: u32) -> bool
+        ensures fresh { result ≡ true → is_held self.now.chunks tsn ≡ false }
+        ensures window { result ≡ true → SpansOneWindow self.now.chunks tsn }
+        ensures exact { is_held self.now.chunks tsn ≡ false → SpansOneWindow self.now.chunks tsn → result ≡ true }
+    {
+        span_one_window(&self.held, tsn) && free_place(&self.held, tsn).is_some()
+    }
+
     /// Puts a chunk whose TSN is not held, in one window with all that are.
     /// Precondition: its TSN is not held; it and all that is held lie at distance 1
     /// to 2^31 after some number; and the bytes of all are fewer than 2^64.
@@ -466,7 +490,7 @@ impl PayloadQueue {
     }
 
     /// The same, and its turns are added: at most 34 for each block, and beside these one more
-    /// than the number of held chunks has binary digits.
+    /// than the number of held chunks has binary digits; where memory runs out, for each block that there would be else.
     pub fn get_gap_ack_blocks_counted(
         &self,
         alloc: Global,
@@ -478,6 +502,7 @@ impl PayloadQueue {
         ensures memory { IsOkUnless result ErrOutOfMemory }
         ensures not_back { turns.old ≤ turns.new }
         ensures cost { IfOk result (λ blocks. IsWithinDigits (length self.now.chunks) (turns.new - turns.old - 34 * length blocks.items - 1)) }
+        ensures cost_of_runs { IsWithinDigits (length self.now.chunks) (turns.new - turns.old - 34 * length (runs_of (gap_offsets cumulative_tsn self.now.chunks)) - 1) }
     {
         let mut blocks = Vec::new(alloc);
         let mut place = first_after(&self.held, cumulative_tsn, turns);

@@ -65,7 +65,7 @@ impl Model for ReassemblyQueue {
 }
 
 impl ReassemblyQueue {
-    ghost use Rattle.sctp_queues.specs.reassembly_queue.ReassemblyQueue.{ReassemblyState, message_read, rest_read, state_read, at_start, ordered_forwarded, unordered_forwarded, is_too_large, ordered_pushed, is_whole_with, PushesUnordered, GivesRun, IsCounted, held_bytes, complete_sets};
+    ghost use Rattle.sctp_queues.specs.reassembly_queue.ReassemblyQueue.{ReassemblyState, message_read, rest_read, state_read, at_start, ordered_forwarded, unordered_forwarded, is_too_large, ordered_pushed, is_whole_with, PushesUnordered, GivesRun, IsCounted, held_bytes, bytes_read, complete_sets};
 
     /// An empty queue of the stream `si`, which takes messages of at most `max_message_size`
     /// bytes and expects the stream sequence number 0 first (RFC 4960 6.5). It takes no memory.
@@ -150,9 +150,10 @@ impl ReassemblyQueue {
         self.n_bytes
     }
 
-    /// Lowers the byte count, which stops at 0.
+    /// Lowers the byte count, which stops at 0. Where it was the sum of the bytes held and so many more, it is the sum again.
     pub fn subtract_num_bytes(&mut self, n_bytes: usize)
-        ensures { self.new ≡ record self.old { bytes = self.old.bytes - n_bytes } }
+        ensures counted { self.old.bytes ≡ held_bytes self.old.held + n_bytes → IsCounted self.new }
+        ensures value { self.new ≡ record self.old { bytes = self.old.bytes - n_bytes } }
     {
         self.n_bytes = self.n_bytes.saturating_sub(n_bytes);
     }
@@ -267,9 +268,11 @@ impl ReassemblyQueue {
         }
     }
 
-    /// Takes the run that ends earliest out of the loose fragments, if there is one. The byte count stays.
+    /// Takes the run that ends earliest out of the loose fragments, if there is one. The byte count stays: where it was the sum of
+    /// the bytes held, it is more by those of the run, until `subtract_num_bytes` takes them off.
     pub fn find_complete_unordered_chunk_set(&mut self, alloc: Global) -> Result<Option<Chunks>>
         ensures ok { IfOk result (λ set. MatchOption set (HasNoRun self.old.held.loose × (self.new ≡ self.old)) (λ chunks. GivesRun self.old self.new chunks.set × (chunks ≡ at_start chunks.set))) }
+        ensures counted { IfOk result (λ set. IsCounted self.old → self.new.bytes ≡ held_bytes self.new.held + bytes_read (option_map (λ c. c.set) set)) }
         ensures err { OnErr result (self.new ≡ self.old) }
         ensures memory { IfErr result (λ e. e ≡ ErrOutOfMemory) }
     {

@@ -1,4 +1,5 @@
 -- Lemmas on a payload queue.
+pub mod Ends
 pub mod Gaps
 pub mod Marked
 pub mod Search

@@ -1,5 +1,5 @@
 -- A message taken piece by piece.
-use Rattle.std.specs.Prelude.{ℕ, ◌-◌, nat_le, if◌then◌else◌, List, [], ◌∷◌, map, take, drop, length, Option, Some, None}
+use Rattle.std.specs.Prelude.{ℕ, ◌+◌, ◌-◌, nat_le, if◌then◌else◌, List, [], ◌∷◌, map, take, drop, length, Option, Some, None}
 use Rattle.std.specs.List.{concat}
 use Rattle.sctp_chunks.specs.declared.chunk.chunk_payload_data.ChunkPayloadData.{ChunkPayloadData}
 use Rattle.sctp_queues.specs.declared.reassembly_queue.chunks.Chunk.{Chunk}
@@ -27,6 +27,11 @@ piece_of n (xs ∷ xss) = Some (take n (concat (xs ∷ xss)))
 abbrev pub left_after : ℕ → List (List ℕ) → List (List ℕ)
 left_after n [] = []
 left_after n (xs ∷ xss) = if nat_le (length xs) n then left_after (n - length xs) xss else drop n xs ∷ xss
+
+-- how many fragments the next piece takes to their end
+abbrev pub taken_whole : ℕ → List (List ℕ) → ℕ
+taken_whole n [] = 0
+taken_whole n (xs ∷ xss) = if nat_le (length xs) n then taken_whole (n - length xs) xss + 1 else 0
 
 -- the bytes of a piece
 abbrev pub bytes_given : Option Chunk → List ℕ

@@ -1,9 +1,9 @@
 //! The fragments of one message.
 
-ghost use Rattle.std.specs.Prelude.{◌≡◌, ◌==◌, ◌+◌, ◌%◌, ◌^◌, ◌-◌, ◌<◌, ◌≤◌, ◌&&◌, [], ◌∷◌, length, map, min, take, drop, ◌++◌, option_map, true, false, not, OnOk, OnErr, IfOk, IfErr, IfSome, IfNone, if◌then◌else◌};
+ghost use Rattle.std.specs.Prelude.{◌≡◌, ◌==◌, ◌+◌, ◌*◌, ◌%◌, ◌^◌, ◌-◌, ◌<◌, ◌≤◌, ◌&&◌, [], ◌∷◌, length, map, min, take, drop, ◌++◌, option_map, slice_index_or, true, false, not, OnOk, OnErr, IfOk, IfErr, IfSome, IfNone, if◌then◌else◌};
 ghost use Rattle.std.specs.List.{list_any, position_or_len, insert, concat};
 ghost use Rattle.std.specs.List.Sorted.{IsNonDecreasingBy, IsPartitionPoint};
-ghost use Rattle.sctp_queues.specs.reassembly_queue.Chunks.{left_from, left_of, piece_of, left_after, bytes_given};
+ghost use Rattle.sctp_queues.specs.reassembly_queue.Chunks.{left_from, left_of, piece_of, left_after, taken_whole, bytes_given};
 ghost use Rattle.sctp_queues.specs.declared.reassembly_queue.chunks.Chunk.{Chunk};
 ghost use Rattle.sctp_chunks.specs.declared.chunk.chunk_payload_data.ChunkPayloadData.{ChunkPayloadData};
 ghost use Rattle.sctp_lists.specs.Serial.{comes_before, distance};
@@ -14,6 +14,7 @@ ghost use Rattle.sctp_queues.specs.Ascending.{IsOrder, IsInsertion};
 ghost use Rattle.sctp_base.specs.declared.error.Error.TheVariants.{ErrOutOfMemory, ErrShortBuffer};
 
 use crate::serial::{Insertion, distance};
+use crate::turns::Turns;
 use bytes::{Bytes, BytesMut};
 use sctp_base::error::{Error, Result};
 use sctp_base::util::sna32lt;
@@ -259,13 +260,34 @@ impl Chunks {
         ensures err { OnErr result (self.new ≡ self.old) }
         ensures memory { IfErr result (λ e. e ≡ ErrOutOfMemory) }
     {
+        self.next_counted(alloc, max_length, &mut Turns::new())
+    }
+
+    /// The same, and its turns are added: at most two for each fragment that the piece takes to its end, and two more.
+    pub fn next_counted(
+        &mut self,
+        alloc: Global,
+        max_length: usize,
+        turns: &mut Turns,
+    ) -> Result<Option<Chunk>>
+        ensures piece { IfOk result (λ piece. option_map (λ (c : Chunk). c.bytes) piece ≡ piece_of max_length (left_of self.old)) }
+        ensures left { OnOk result (left_of self.new ≡ left_after max_length (left_of self.old)) }
+        ensures joins { IfOk result (λ piece. bytes_given piece ++ concat (left_of self.new) ≡ concat (left_of self.old)) }
+        ensures asked { IfOk result (λ piece. 0 < length (left_of self.new) → length (bytes_given piece) ≡ max_length) }
+        ensures ends { length (concat (left_of self.old)) ≤ max_length → OnOk result (left_of self.new ≡ []) }
+        ensures set { self.new.set ≡ self.old.set }
+        ensures err { OnErr result (self.new ≡ self.old) }
+        ensures memory { IfErr result (λ e. e ≡ ErrOutOfMemory) }
+        ensures not_back { turns.old ≤ turns.new }
+        ensures cost { turns.new ≤ turns.old + 2 * (taken_whole max_length (left_of self.old) + 1) }
+    {
         let chunks = self.set.fragments();
         if self.index >= chunks.len() {
             return Ok(None);
         }
-        let room = room_of(chunks, self.index, self.offset, max_length);
+        let room = room_of(chunks, self.index, self.offset, max_length, turns);
         let mut buf = BytesMut::with_capacity(alloc, room)?;
-        let (index, offset) = gather(chunks, self.index, self.offset, max_length, &mut buf)?;
+        let (index, offset) = gather(chunks, self.index, self.offset, max_length, &mut buf, turns)?;
         let bytes = buf.freeze()?;
         self.index = index;
         self.offset = offset;
@@ -282,15 +304,33 @@ fn put_at(buf: &mut [u8], at: usize, bytes: &[u8])
     buf[at..end].copy_from_slice(bytes);
 }
 
+// Looks at a fragment, which is a turn.
+fn look<'a>(chunks: &'a [ChunkPayloadData], place: usize, turns: &mut Turns) -> &'a ChunkPayloadData
+    requires { place < length chunks.now }
+    ensures value { result.now ≡ slice_index_or chunks.now place result.now }
+    ensures turn { turns.new ≡ turns.old + 1 }
+{
+    turns.tick();
+    &chunks[place]
+}
+
 // How many bytes are left from a place on, or the limit where they are more. It looks no further than the limit.
-fn room_of(chunks: &[ChunkPayloadData], index: usize, offset: usize, limit: usize) -> usize
-    ensures { result ≡ min limit (length (concat (left_from chunks.now index offset))) }
+fn room_of(
+    chunks: &[ChunkPayloadData],
+    index: usize,
+    offset: usize,
+    limit: usize,
+    turns: &mut Turns,
+) -> usize
+    ensures room { result ≡ min limit (length (concat (left_from chunks.now index offset))) }
+    ensures not_back { turns.old ≤ turns.new }
+    ensures cost { turns.new ≤ turns.old + taken_whole limit (left_from chunks.now index offset) + 1 }
 {
     let mut index = index;
     let mut offset = offset;
     let mut wanted = limit;
     while index < chunks.len() && wanted > 0 {
-        let len = chunks[index].user_data.len();
+        let len = look(chunks, index, turns).user_data.len();
         wanted = wanted.saturating_sub(len.saturating_sub(offset));
         index += 1;
         offset = 0;
@@ -305,17 +345,20 @@ fn gather(
     offset: usize,
     max_length: usize,
     buf: &mut BytesMut,
+    turns: &mut Turns,
 ) -> Result<(usize, usize)>
     requires { buf.old.items ≡ [] }
     ensures bytes { OnOk result (buf.new.items ≡ take max_length (concat (left_from chunks.now index offset))) }
     ensures left { IfOk result (λ at. left_from chunks.now at.0 at.1 ≡ left_after max_length (left_from chunks.now index offset)) }
     ensures memory { IfErr result (λ e. e ≡ ErrOutOfMemory) }
+    ensures not_back { turns.old ≤ turns.new }
+    ensures cost { turns.new ≤ turns.old + taken_whole max_length (left_from chunks.now index offset) + 1 }
 {
     let mut index = index;
     let mut offset = offset;
     let mut room = max_length;
     while index < chunks.len() {
-        let data = chunks[index].user_data.as_slice();
+        let data = look(chunks, index, turns).user_data.as_slice();
         let start = offset.min(data.len());
         let n = room.min(data.len() - start);
         buf.extend_from_slice(&data[start..start + n])?;

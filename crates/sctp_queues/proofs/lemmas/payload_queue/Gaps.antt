@@ -1,5 +1,5 @@
 -- Distances along held chunks, and the blocks of those in reach.
-use Rattle.std.proofs.Common.{◌≡◌, ◌==◌, ◌||◌, ◌&&◌, ◌+◌, ◌-◌, ◌%◌, ◌^◌, ◌<◌, ◌≤◌, ℕ, zero, suc, Bool, true, false, IsTrue, if◌then◌else◌, List, [], ◌∷◌, ◌++◌, map, length, get_or, take, drop, get_or-drop, length-drop, Some, inl, inr, refl, sym, ap, ap₂, ◌∙◌, subst, arith, append-nil}
+use Rattle.std.proofs.Common.{◌≡◌, ◌==◌, ◌||◌, ◌&&◌, ◌+◌, ◌-◌, ◌%◌, ◌^◌, ◌<◌, ◌≤◌, ℕ, zero, suc, Bool, true, false, IsTrue, if◌then◌else◌, List, [], ◌∷◌, ◌++◌, map, length, get_or, take, drop, get_or-drop, length-drop, Some, inl, inr, refl, sym, ap, ap₂, ◌∙◌, subst, arith, append-nil, append_assoc}
 use Rattle.std.specs.Prelude.{nat_le}
 use Rattle.std.specs.List.{All, list_any, slice_get}
 use Rattle.std.specs.Option.{option_map}
@@ -319,6 +319,22 @@ unfolding extended_by
 runs_of-snoc [] d = refl
 runs_of-snoc (x ∷ ds) d = ap (joined x) (runs_of-snoc ds d) ∙ joined-extended_by x d (runs_of ds)
 
+-- distances put behind others take no run away
+longer : (d : ℕ) (bs : List (ℕ × ℕ)) → length bs ≤ length (extended_by d bs)
+unfolding extended_by
+longer d [] = omega arith
+longer d (b ∷ []) = last (b.1 + 1 == d)
+  where
+    last : (t : Bool) → length (b ∷ []) ≤ length (if t then (b.0, d) ∷ [] else b ∷ (d, d) ∷ [])
+    last true = omega arith
+    last false = omega arith
+longer d (b ∷ c ∷ cs) = let rec = longer d (c ∷ cs) in omega arith
+
+runs_grow : (ds es : List ℕ) → length (runs_of ds) ≤ length (runs_of (ds ++ es))
+runs_grow ds [] = omega (arith, ap (λ xs. length (runs_of xs)) (append-nil ds))
+runs_grow ds (e ∷ es) =
+    omega (arith, longer e (runs_of ds), ap length (runs_of-snoc ds e), runs_grow (ds ++ e ∷ []) es, ap (λ xs. length (runs_of xs)) (append_assoc ds (e ∷ []) es))
+
 -- a distance apart from all blocks is a run of its own
 extended_by-apart : (d : ℕ) (bs : List GapAckBlock) → All (λ b. b.end + 1 < d) bs → extended_by d (map ends_of bs) ≡ map ends_of bs ++ (d, d) ∷ []
 unfolding extended_by
@@ -446,6 +462,13 @@ module _ (cumulative : ℕ) (xs : List ChunkPayloadData) (place : ℕ) where
 
     pub rest_reported : (n : ℕ) → list_any (is_reported cumulative n) (take place xs) ≡ list_any (is_reported cumulative n) xs
     rest_reported n = sym (ap (list_any (is_reported cumulative n)) (sym (take-append-drop place xs)) ∙ list_any-append (is_reported cumulative n) (take place xs) (drop place xs) ∙ ap (λ b. list_any (is_reported cumulative n) (take place xs) || b) (none_reported cumulative n (drop place xs) rest_out) ∙ or_false _)
+
+-- the chunks in front have no more runs than all
+pub front_runs : (cumulative : ℕ) (xs : List ChunkPayloadData) (place : ℕ) → length (runs_of (gap_offsets cumulative (take place xs))) ≤ length (runs_of (gap_offsets cumulative xs))
+front_runs cumulative xs place =
+    let far = λ (c : ChunkPayloadData). distance cumulative c.tsn in
+    let whole = ap (gap_offsets cumulative) (sym (take-append-drop place xs)) ∙ ap (those is_offset) (map-append far (take place xs) (drop place xs)) ∙ those-append is_offset (map far (take place xs)) (map far (drop place xs)) in
+    omega (arith, runs_grow (gap_offsets cumulative (take place xs)) (gap_offsets cumulative (drop place xs)), ap (λ ds. length (runs_of ds)) whole)
 
 -- once out of reach, all is
 pub out_from : (cumulative : ℕ) (xs : List ChunkPayloadData) (place : ℕ) (x : ChunkPayloadData) → AscendsFrom cumulative xs place → place < length xs → x ≡ get_or xs place x → is_offset (distance cumulative x.tsn) ≡ false → (k : ℕ) (d : ChunkPayloadData) → place ≤ k → k < length xs → is_offset (distance cumulative (get_or xs k d).tsn) ≡ false

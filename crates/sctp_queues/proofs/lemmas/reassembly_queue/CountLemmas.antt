@@ -1,5 +1,5 @@
 -- The byte count follows what is held.
-use Rattle.std.proofs.Common.{◌≡◌, ℕ, ◌+◌, ◌-◌, ◌^◌, ◌<◌, ◌&&◌, ◌||◌, Bool, true, false, not, if◌then◌else◌, List, [], ◌∷◌, Some, None, Result, Ok, Err, OnOk, OnErr, IfOk, length, take, drop, refl, sym, ap, ◌∙◌, arith}
+use Rattle.std.proofs.Common.{◌≡◌, ℕ, ◌+◌, ◌-◌, ◌^◌, ◌<◌, ◌&&◌, ◌||◌, Bool, true, false, not, if◌then◌else◌, List, [], ◌∷◌, ◌++◌, Some, None, Result, Ok, Err, OnOk, OnErr, IfOk, length, take, drop, refl, sym, ap, ◌∙◌, arith}
 use Rattle.std.specs.List.{list_any, sum_by}
 use Rattle.std.proofs.lemmas.Bool.{true≢false}
 use Rattle.std.proofs.lemmas.List.{take-append-drop, drop-drop}
@@ -11,6 +11,7 @@ use Rattle.sctp_chunks.specs.ChunkSet.{ChunkSet}
 use Rattle.sctp_queues.specs.reassembly_queue.Fragments.{has_ssn, with_chunk, new_set, sets_with, chunks_of_ssn, set_before, is_complete}
 use Rattle.sctp_queues.specs.DataChunks.{bytes_of, has_tsn, chunk_before}
 use Rattle.sctp_queues.specs.reassembly_queue.ReassemblyQueue.{Reassembly, ReassemblyState, set_bytes, held_bytes, IsCounted, count_up, ordered_pushed, set_of_run, BecomesWhole, PushesUnordered, is_readable, state_read, message_read, rest_read, after_read, bytes_read, leading_upto, unordered_forwarded, ordered_forwarded, forwarded_ordered, is_passed, complete_sets}
+use Rattle.sctp_queues.specs.reassembly_queue.Loose.{IsRunTaken}
 use Rattle.sctp_queues.specs.reassembly_queue.Skips.{bounded_forwarded, forwarded_bounded, is_abandoned, misses}
 use Rattle.sctp_queues.proofs.lemmas.reassembly_queue.SetLemmas.{chunks_none}
 
@@ -92,21 +93,31 @@ ordered_counted x q fits h = at_test (comes_before16 x.stream_sequence_number q.
     at_test false false more = omega (arith, h, more, fits)
 
 -- a run moves from the loose fragments to the whole messages
-run_bytes : (cs : List ChunkPayloadData) → bytes_of (set_of_run cs).chunks ≡ bytes_of cs
+pub run_bytes : (cs : List ChunkPayloadData) → bytes_of (set_of_run cs).chunks ≡ bytes_of cs
 run_bytes [] = refl
 run_bytes (c ∷ cs) = refl
+
+-- a run between a front and a rest
+run_between : (xs : List ChunkPayloadData) (first count : ℕ) → bytes_of xs ≡ bytes_of (take first xs ++ drop (first + count) xs) + bytes_of (take count (drop first xs))
+run_between xs first count =
+    let run = take count (drop first xs) in
+    let rest = drop (first + count) xs in
+    let split : bytes_of xs ≡ bytes_of (take first xs) + bytes_of (drop first xs) = ap bytes_of (sym (take-append-drop first xs)) ∙ sum_by-append (λ (c : ChunkPayloadData). length c.user_data) (take first xs) (drop first xs) in
+    let split_run : bytes_of (drop first xs) ≡ bytes_of run + bytes_of rest = ap bytes_of (sym (take-append-drop count (drop first xs))) ∙ sum_by-append (λ (c : ChunkPayloadData). length c.user_data) run (drop count (drop first xs)) ∙ ap (λ ys. bytes_of run + bytes_of ys) (drop-drop count first xs) in
+    let left = sum_by-append (λ (c : ChunkPayloadData). length c.user_data) (take first xs) rest in
+    omega (arith, split, split_run, left)
+
+-- a run that is taken out has the bytes that are gone
+pub taken_bytes : (xs left taken : List ChunkPayloadData) → IsRunTaken xs left taken → bytes_of xs ≡ bytes_of left + bytes_of taken
+taken_bytes xs left taken h = omega (arith, run_between xs h.first h.count, ap bytes_of h.rest, ap bytes_of h.fragments)
 
 pub whole_bytes : (xs : List ChunkPayloadData) (old new : Reassembly) (whole : Bool) → BecomesWhole xs old new whole → held_bytes new ≡ set_bytes old.ordered + set_bytes old.unordered + bytes_of xs
 whole_bytes xs old new false h = ap held_bytes h.1
 whole_bytes xs old new true h =
     let run = take h.count (drop h.first xs) in
-    let rest = drop (h.first + h.count) xs in
-    let split : bytes_of xs ≡ bytes_of (take h.first xs) + bytes_of (drop h.first xs) = ap bytes_of (sym (take-append-drop h.first xs)) ∙ sum_by-append (λ (c : ChunkPayloadData). length c.user_data) (take h.first xs) (drop h.first xs) in
-    let split_run : bytes_of (drop h.first xs) ≡ bytes_of run + bytes_of rest = ap bytes_of (sym (take-append-drop h.count (drop h.first xs))) ∙ sum_by-append (λ (c : ChunkPayloadData). length c.user_data) run (drop h.count (drop h.first xs)) ∙ ap (λ ys. bytes_of run + bytes_of ys) (drop-drop h.count h.first xs) in
-    let left = sum_by-append (λ (c : ChunkPayloadData). length c.user_data) (take h.first xs) rest in
     let moved = sum_by-append (λ (s : ChunkSet). bytes_of s.chunks) old.unordered (set_of_run run ∷ []) in
     let one = sum_by-cons (λ (s : ChunkSet). bytes_of s.chunks) (set_of_run run) [] in
-    ap held_bytes h.moved ∙ omega (arith, split, split_run, left, moved, one, run_bytes run)
+    ap held_bytes h.moved ∙ omega (arith, run_between xs h.first h.count, moved, one, run_bytes run)
 
 -- an unordered push counts its fragment
 pub unordered_counted : (x : ChunkPayloadData) (old new : ReassemblyState) (whole : Bool) → PushesUnordered x old new whole → held_bytes old.held + length x.user_data < 2 ^ 64 → IsCounted old → IsCounted new

@@ -7,7 +7,7 @@ use Rattle.std.proofs.lemmas.List.{take_more, drop_more, drop-drop, append-nil, 
 use Rattle.std.proofs.Math.Seq.{take-append_seam, take-append-add, drop-append-add}
 use Rattle.sctp_chunks.specs.declared.chunk.chunk_payload_data.ChunkPayloadData.{ChunkPayloadData}
 use Rattle.sctp_queues.specs.reassembly_queue.Fragments.{payload_of}
-use Rattle.sctp_queues.specs.reassembly_queue.Chunks.{cut_first, left_from, piece_of, left_after}
+use Rattle.sctp_queues.specs.reassembly_queue.Chunks.{cut_first, left_from, piece_of, left_after, taken_whole}
 
 pub payload-append : (xs ys : List ChunkPayloadData) → payload_of (xs ++ ys) ≡ payload_of xs ++ payload_of ys
 payload-append [] ys = refl
@@ -128,3 +128,11 @@ whole_payload (x ∷ xs) = ap (λ ys. x.user_data ++ ys) (joined xs)
     joined : (cs : List ChunkPayloadData) → concat (map (λ c. c.user_data) cs) ≡ payload_of cs
     joined [] = refl
     joined (c ∷ cs) = ap (λ ys. c.user_data ++ ys) (joined cs)
+
+-- one more is taken to its end
+pub taken_more_of : (n rest : ℕ) (chunks : List ChunkPayloadData) (i o : ℕ) (d : ChunkPayloadData) → i < length chunks → rest ≡ length (drop o (get_or chunks i d).user_data) → rest ≤ n → taken_whole n (left_from chunks i o) ≡ taken_whole (n - rest) (left_from chunks (i + 1) 0) + 1
+taken_more_of n rest chunks i o d lt e le =
+    let fits : nat_le (length (drop o (get_or chunks i d).user_data)) n ≡ true = grind (arith, nat_tests) in
+    ap (taken_whole n) (left_head chunks i o d lt)
+    ∙ ap (λ b. if b then taken_whole (n - length (drop o (get_or chunks i d).user_data)) (left_from chunks (i + 1) 0) + 1 else 0) fits
+    ∙ ap (λ k. taken_whole (n - k) (left_from chunks (i + 1) 0) + 1) (sym e)

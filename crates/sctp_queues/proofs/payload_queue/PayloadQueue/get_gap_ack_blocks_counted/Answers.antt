@@ -4,7 +4,7 @@ use Rattle.std.proofs.lemmas.Bool.{cases_lt}
 use Rattle.sctp_queues.specs.Turns.{IsWithinDigits}
 use Rattle.std.proofs.Common.{◌*◌, inl, inr, zero, suc, List, refl, length-append, ◌≡◌, ◌||◌, ℕ, ◌+◌, ◌-◌, ◌^◌, ◌<◌, ◌≤◌, [], ◌∷◌, length, map, take, get_or, sym, ap, ◌∙◌, subst, arith}
 use Rattle.std.specs.List.{All, list_any}
-use Rattle.std.proofs.lemmas.List.{get_or_default, map-append}
+use Rattle.std.proofs.lemmas.List.{get_or_default, length-map, map-append}
 use Rattle.std.proofs.lemmas.List.Elements.{All-push}
 use Rattle.std.proofs.lemmas.List.Quantifiers.{all_pairs_push}
 use Rattle.sctp_chunks.specs.declared.chunk.chunk_payload_data.ChunkPayloadData.{ChunkPayloadData}
@@ -13,7 +13,7 @@ use Rattle.sctp_lists.specs.Kept.{runs_of}
 use Rattle.sctp_lists.specs.Serial.{distance}
 use Rattle.sctp_lists.proofs.Edits.{list_any-append}
 use Rattle.sctp_queues.specs.payload_queue.Blocks.{BlocksAscend, Reports, is_in_block, is_reported, covered, gap_offsets, ends_of, is_offset}
-use Rattle.sctp_queues.proofs.lemmas.payload_queue.Gaps.{InReach, or_false, runs_more, covered_more, run_distances, run_apart, front_offsets, front_reported, rest_offsets, rest_reported, out_from}
+use Rattle.sctp_queues.proofs.lemmas.payload_queue.Gaps.{InReach, or_false, runs_more, covered_more, run_distances, run_apart, front_offsets, front_reported, rest_offsets, rest_reported, out_from, front_runs}
 use Rattle.sctp_queues.proofs.payload_queue.PayloadQueue.get_gap_ack_blocks_counted.Goals as goal
 
 -- fewer turns are within as many digits
@@ -29,6 +29,10 @@ turns_of_a_run t l h small = elim (cases_lt t 34) [
       let less : 2 ^ 34 ≤ 2 ^ t = pow-le-pow_right {n = 2} (omega arith) high in
       absurd (omega arith)
 ]
+
+-- so far there are no more blocks than of all chunks
+no_more : (cumulative : ℕ) (xs : List ChunkPayloadData) (place : ℕ) (bs : List GapAckBlock) → map ends_of bs ≡ runs_of (gap_offsets cumulative (take place xs)) → length bs ≤ length (runs_of (gap_offsets cumulative xs))
+no_more cumulative xs place bs runs = omega (arith, length-map bs ends_of, ap length runs, front_runs cumulative xs place)
 
 -- what stands at a place, and its TSN
 at_place : (xs : List ChunkPayloadData) (place tsn : ℕ) → place < length xs → ((d : ChunkPayloadData) → (get_or xs place d).tsn ≡ tsn) → (x : ChunkPayloadData) × (x ≡ get_or xs place x) × (x.tsn ≡ tsn)
@@ -124,3 +128,44 @@ returns-in_default-clause-cost c = subst (λ cs. IsWithinDigits (length cs) (c.s
 
 pub returns-clause-cost : goal.returns-clause-cost
 returns-clause-cost c = subst (λ cs. IsWithinDigits (length cs) (c.loop-place.turns - c.args.turns.now - 34 * length c.loop-place.blocks.items - 1)) (ap (λ q. q.chunks) c.self.view_is) (fewer _ _ _ (omega arith) c.loop-place.invariant.cost)
+
+pub returns-in_default-clause-cost_of_runs : goal.returns-in_default-clause-cost_of_runs
+returns-in_default-clause-cost_of_runs c =
+    let xs = c.self.inside.held.chunks in
+    let bs = c.loop-place.blocks.items in
+    let cumulative = c.args.cumulative_tsn in
+    let inv = c.loop-place.invariant in
+    let most : length bs ≤ length (runs_of (gap_offsets cumulative xs)) = no_more cumulative xs c.loop-place.place bs inv.runs in
+    subst (λ cs. IsWithinDigits (length cs) (c.seen_or_look-tsn.new.turns - c.args.turns.now - 34 * length (runs_of (gap_offsets cumulative cs)) - 1)) (ap (λ q. q.chunks) c.self.view_is)
+    (fewer _ _ _ (omega (arith, c.seen_or_look-tsn.ensures.cost)) inv.cost)
+
+pub returns-in_err-push-clause-cost_of_runs : goal.returns-in_err-push-clause-cost_of_runs
+returns-in_err-push-clause-cost_of_runs c =
+    let xs = c.self.inside.held.chunks in
+    let bs = c.loop-place.blocks.items in
+    let cumulative = c.args.cumulative_tsn in
+    let place = c.loop-place.place in
+    let offset = c.in-Some.offset in
+    let inv = c.loop-place.invariant in
+    let some = c.in-Some.ensures.some in
+    let run = c.run_end-last.ensures.run in
+    let at = at_place xs place c.seen_or_look-tsn.result (omega arith) c.seen_or_look-tsn.ensures.number in
+    let x = at.0 in
+    let here : distance cumulative (get_or xs place x).tsn ≡ offset = sym (some.0 ∙ ap (distance cumulative) (sym (at.2)) ∙ ap (λ (y : ChunkPayloadData). distance cumulative y.tsn) (at.1)) in
+    let reach : InReach cumulative xs place x offset 0 = record { in_range = omega arith; positive = some.1; small = omega (arith, some); along = λ k le. subst (λ j. distance cumulative (get_or xs (place + j) x).tsn ≡ offset + j) {x = 0} (omega arith) (subst (λ j. distance cumulative (get_or xs j x).tsn ≡ offset + 0) {x = place} (omega arith) (here ∙ omega arith)) } in
+    let apart : All (λ b. b.end + 1 < offset) bs = subst (λ o. All (λ (b : GapAckBlock). b.end + 1 < o) bs) here (inv.behind place x (omega arith) (omega arith) (omega (arith, here, some))) in
+    let one_more = ap length (runs_more cumulative xs place x offset bs 0 reach apart inv.runs) in
+    let most : length bs + 1 ≤ length (runs_of (gap_offsets cumulative xs)) = omega (arith, length-map bs ends_of, length-append (map ends_of bs) ((offset, offset + 0) ∷ []), one_more, front_runs cumulative xs (place + 0 + 1)) in
+    let turns = turns_of_a_run (c.run_end-last.new.turns - c.seen_or_look-tsn.new.turns) (c.run_end-last.result.0 + 1 - place) c.run_end-last.ensures.cost (omega (arith, run.to, run.from, c.min-reach.ensures, some)) in
+    subst (λ cs. IsWithinDigits (length cs) (c.run_end-last.new.turns - c.args.turns.now - 34 * length (runs_of (gap_offsets cumulative cs)) - 1)) (ap (λ q. q.chunks) c.self.view_is)
+    (fewer _ _ _ (omega (arith, most, turns, c.run_end-last.ensures.not_back, c.seen_or_look-tsn.ensures.not_back, c.seen_or_look-tsn.ensures.cost)) inv.cost)
+
+pub returns-clause-cost_of_runs : goal.returns-clause-cost_of_runs
+returns-clause-cost_of_runs c =
+    let xs = c.self.inside.held.chunks in
+    let bs = c.loop-place.blocks.items in
+    let cumulative = c.args.cumulative_tsn in
+    let inv = c.loop-place.invariant in
+    let most : length bs ≤ length (runs_of (gap_offsets cumulative xs)) = no_more cumulative xs c.loop-place.place bs inv.runs in
+    subst (λ cs. IsWithinDigits (length cs) (c.loop-place.turns - c.args.turns.now - 34 * length (runs_of (gap_offsets cumulative cs)) - 1)) (ap (λ q. q.chunks) c.self.view_is)
+    (fewer _ _ _ (omega arith) inv.cost)

@@ -2,7 +2,7 @@ use Rattle.std.proofs.Common.{◌++◌, length, length-take-le, sym, Some, arith
 use Rattle.std.specs.List.{concat}
 use Rattle.sctp_queues.specs.reassembly_queue.Chunks.{left_of}
 use Rattle.sctp_queues.proofs.lemmas.reassembly_queue.PieceLemmas.{pieces_join, piece_full, pieces_end, piece_some}
-use Rattle.sctp_queues.proofs.reassembly_queue.chunks.Chunks.next.Goals as goal
+use Rattle.sctp_queues.proofs.reassembly_queue.chunks.Chunks.next_counted.Goals as goal
 
 pub returns-clause-piece : goal.returns-clause-piece
 returns-clause-piece c =
