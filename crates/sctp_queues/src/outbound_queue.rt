@@ -89,7 +89,7 @@ impl OutboundQueue {
     /// An empty list changes nothing. Numbers are never used twice, so that one
     /// never stands for two messages that wait.
     /// Precondition: the list is empty, or one whole message, all ordered or all unordered; the number is
-    /// below the greatest u64; and the bytes that wait and are in flight, with these, are fewer than 2^64.
+    /// below the greatest u64; and the bytes that wait and are in flight, with these, are fewer than 2^64. `can_push` tells.
     /// Refuses only for memory, and never within the room of `reserve`. The queue is as it was then.
     pub fn push(&mut self, chunks: Vec<ChunkPayloadData>) -> Result<()>
         requires message { IsMessageOrNone chunks.items }
@@ -152,8 +152,8 @@ impl OutboundQueue {
     /// Starts lifetimes and puts the peeked chunk in flight under `next_tsn`, which goes up by one.
     /// Its `since` is `now`, in nanoseconds, and its `nsent` is 1. Answers the TSN,
     /// or None with nothing pending; lifetimes start then too.
-    /// Precondition: `next_tsn` is not in flight, and lies with all that is at distance 1 to 2^31 after some number.
-    /// Refuses only for memory, and not where nothing is pending nor within the
+    /// Precondition: `next_tsn` is not in flight, and lies with all that is at distance 1 to 2^31 after some number;
+    /// `can_send` tells. Refuses only for memory, and not where nothing is pending nor within the
     /// room of `reserve_inflight`. The queue and `next_tsn` are as they were then.
     pub fn send_next(&mut self, next_tsn: &mut u32, now: u64) -> Result<Option<u32>>
         requires fresh { is_held self.old.inflight.chunks next_tsn.old ≡ false }

@@ -288,7 +288,7 @@ impl PayloadQueue {
 
     /// Puts a chunk whose TSN is not held, in one window with all that are.
     /// Precondition: its TSN is not held; it and all that is held lie at distance 1
-    /// to 2^31 after some number; and the bytes of all are fewer than 2^64.
+    /// to 2^31 after some number (`can_push_no_check` tells); and the bytes of all are fewer than 2^64.
     /// Refuses only for memory, and never within the room of `reserve`. The queue is as it was then.
     pub fn push_no_check(&mut self, chunk: ChunkPayloadData) -> Result<()>
         requires fresh { is_held self.old.chunks chunk.tsn ≡ false }
@@ -308,7 +308,7 @@ impl PayloadQueue {
     /// Puts a chunk that came. One that is held, or at or before `cumulative_tsn`, is noted as
     /// a duplicate, which the next SACK reports (RFC 4960 3.3.4); the answer is false then.
     /// Precondition: where the chunk is new (`can_push`), it and all that is held lie at
-    /// distance 1 to 2^31 after `cumulative_tsn`, and the bytes of all are fewer than 2^64.
+    /// distance 1 to 2^31 after `cumulative_tsn` (`fits` tells), and the bytes of all are fewer than 2^64.
     /// Refuses only for memory, and a new chunk never within the room of `reserve`. The queue is as it was then.
     pub fn push(&mut self, chunk: ChunkPayloadData, cumulative_tsn: u32) -> Result<bool>
         requires window { IsTrue (is_new self.old.chunks chunk.tsn cumulative_tsn) → IsWindow cumulative_tsn self.old.chunks chunk.tsn }

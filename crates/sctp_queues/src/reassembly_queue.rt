@@ -269,7 +269,8 @@ impl ReassemblyQueue {
     }
 
     /// Takes the run that ends earliest out of the loose fragments, if there is one. The byte count stays: where it was the sum of
-    /// the bytes held, it is more by those of the run, until `subtract_num_bytes` takes them off.
+    /// the bytes held, it is more by those of the run, until `subtract_num_bytes` takes them off. Refuses only for memory; the queue
+    /// is as it was then.
     pub fn find_complete_unordered_chunk_set(&mut self, alloc: Global) -> Result<Option<Chunks>>
         ensures ok { IfOk result (λ set. MatchOption set (HasNoRun self.old.held.loose × (self.new ≡ self.old)) (λ chunks. GivesRun self.old self.new chunks.set × (chunks ≡ at_start chunks.set))) }
         ensures counted { IfOk result (λ set. IsCounted self.old → self.new.bytes ≡ held_bytes self.new.held + bytes_read (option_map (λ c. c.set) set)) }
