@@ -1,0 +1,4 @@
+//! Looks at a datagram, whatever its bytes.
+#![tactic(auto)]
+
+pub mod dissection;
