@@ -128,8 +128,8 @@ fn read_strict(alloc: Global, rest: &Bytes) -> Result<ChunkKind, Error>
 {
     let chunk = ChunkKind::unmarshal(alloc, rest)?;
     let length = read_u16(rest.as_slice(), 2) as usize;
-    let length = length + get_padding_size(length);
-    if rest.len() < length {
+    let span = length + get_padding_size(length);
+    if rest.len() < span {
         return Err(Error::ErrParseSctpChunkNotEnoughData);
     }
     Ok(chunk)
