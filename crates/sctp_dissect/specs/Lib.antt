@@ -1,1 +1,2 @@
 pub mod Dissection
+pub mod Params

@@ -2,3 +2,4 @@
 #![tactic(auto)]
 
 pub mod dissection;
+pub mod params;

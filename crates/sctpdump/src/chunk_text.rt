@@ -1,5 +1,8 @@
 //! A chunk as text.
 
+ghost use Rattle.std.specs.Prelude.{◌≤◌, length};
+
+use bytes::Bytes;
 use sctp_base::field::{read_u16, read_u32};
 use sctp_base::param::param_kind::ParamKind;
 use sctp_chunks::chunk::Chunk;
@@ -12,7 +15,8 @@ use sctp_chunks::chunk::chunk_reconfig::ChunkReconfig;
 use sctp_chunks::chunk::chunk_selective_ack::ChunkSelectiveAck;
 use sctp_chunks::chunk::error_cause::ErrorCause;
 use sctp_dissect::dissection::{Item, RawChunk, Reading};
-use std::alloc::AllocError;
+use sctp_dissect::params::{ParamReading, dissect_params};
+use std::alloc::{AllocError, Global};
 use std::fmt;
 
 /// The type of I-DATA (RFC 8260 2.1).
@@ -118,18 +122,17 @@ fn put_data(text: &mut String, c: &ChunkPayloadData, bytes: &[u8]) -> Result<(),
     put_bytes(text, "User data", c.user_data.as_slice())
 }
 
-fn put_init(text: &mut String, c: &ChunkInit) -> Result<(), AllocError> {
-    let (tag, credit, tsn) = (
-        c.initiate_tag,
-        c.advertised_receiver_window_credit,
-        c.initial_tsn,
-    );
-    let (outbound, inbound) = (c.num_outbound_streams, c.num_inbound_streams);
+/// The fixed part of an INIT or INIT-ACK, as it stands in the first sixteen bytes of its value.
+fn put_init(text: &mut String, value: &[u8]) -> Result<(), AllocError>
+    requires { 16 ≤ length value.now }
+{
+    let (tag, credit) = (read_u32(value, 0), read_u32(value, 4));
+    let (outbound, inbound) = (read_u16(value, 8), read_u16(value, 10));
+    let tsn = read_u32(value, 12);
     write!(
         text,
         "        Initiate tag: 0x{tag:08x}\n        Advertised receiver window credit: {credit}\n        Outbound streams: {outbound}, inbound: {inbound}\n        Initial TSN: {tsn}\n"
-    )?;
-    put_params(text, &c.params)
+    )
 }
 
 fn put_sack(text: &mut String, c: &ChunkSelectiveAck) -> Result<(), AllocError> {
@@ -172,6 +175,13 @@ fn put_reconfig(text: &mut String, c: &ChunkReconfig) -> Result<(), AllocError> 
         (Some(a), None) => write!(text, "        Parameter: {a}\n"),
         _ => Ok(()),
     }
+}
+
+fn put_strict_init(text: &mut String, c: &ChunkInit, bytes: &[u8]) -> Result<(), AllocError> {
+    if bytes.len() >= 20 {
+        put_init(text, &bytes[4..])?;
+    }
+    put_params(text, &c.params)
 }
 
 fn put_forward_tsn(text: &mut String, c: &ChunkForwardTsn) -> Result<(), AllocError> {
@@ -218,7 +228,7 @@ fn put_i_forward_tsn(
 fn put_strict(text: &mut String, chunk: &ChunkKind, bytes: &[u8]) -> Result<(), AllocError> {
     match chunk {
         ChunkKind::PayloadData(c) => put_data(text, c, bytes),
-        ChunkKind::Init(c) => put_init(text, c),
+        ChunkKind::Init(c) => put_strict_init(text, c, bytes),
         ChunkKind::SelectiveAck(c) => put_sack(text, c),
         ChunkKind::Heartbeat(c) => put_params(text, &c.params),
         ChunkKind::HeartbeatAck(c) => put_params(text, &c.params),
@@ -239,25 +249,56 @@ fn put_strict(text: &mut String, chunk: &ChunkKind, bytes: &[u8]) -> Result<(), 
     }
 }
 
-/// What a chunk shows that is refused. I-DATA has fields for show.
-fn put_raw(text: &mut String, raw: &RawChunk) -> Result<(), AllocError> {
-    let value = raw.value.as_slice();
-    let refusal = raw.refusal;
-    if raw.typ.0 != I_DATA || value.len() < 16 {
-        write!(text, "        Refused: {refusal}\n")?;
-        return put_bytes(text, "Value", value);
-    }
+/// I-DATA, for show (RFC 8260 2.1).
+fn put_i_data(text: &mut String, value: &[u8]) -> Result<(), AllocError>
+    requires { 16 ≤ length value.now }
+{
     let (tsn, stream) = (read_u32(value, 0), read_u16(value, 4));
     let (mid, ppid) = (read_u32(value, 8), read_u32(value, 12));
     write!(
         text,
-        "        Refused: {refusal}\n        TSN: {tsn}\n        Stream identifier: {stream}\n        Message identifier: {mid}\n        Payload protocol identifier or fragment: {ppid}\n"
+        "        TSN: {tsn}\n        Stream identifier: {stream}\n        Message identifier: {mid}\n        Payload protocol identifier or fragment: {ppid}\n"
     )?;
     put_bytes(text, "User data", &value[16..])
 }
 
+/// Parameters, read or raw, one behind the other.
+fn put_raw_params(alloc: Global, text: &mut String, raw: Bytes) -> Result<(), AllocError> {
+    let params = dissect_params(alloc, raw)?;
+    for item in &params.items {
+        match &item.reading {
+            ParamReading::Strict(param) => write!(text, "        Parameter: {param}\n")?,
+            ParamReading::Raw(param) => {
+                let (typ, refusal) = (param.typ, param.refusal);
+                write!(text, "        Parameter: type {typ}, {refusal}\n")?;
+                put_bytes(text, "Parameter value", param.value.as_slice())?;
+            }
+        }
+    }
+    if params.rest.is_empty() {
+        return Ok(());
+    }
+    put_bytes(text, "Left over", params.rest.as_slice())
+}
+
+/// What a chunk shows that is refused.
+fn put_raw(alloc: Global, text: &mut String, raw: &RawChunk) -> Result<(), AllocError> {
+    write!(text, "        Refused: {}\n", raw.refusal)?;
+    let value = raw.value.as_slice();
+    let is_long = value.len() >= 16;
+    match raw.typ.0 {
+        I_DATA if is_long => put_i_data(text, value),
+        1 | 2 if is_long => {
+            put_init(text, value)?;
+            put_raw_params(alloc, text, raw.value.slice(16..value.len())?)
+        }
+        4 | 5 | 130 => put_raw_params(alloc, text, raw.value.clone()?),
+        _ => put_bytes(text, "Value", value),
+    }
+}
+
 /// The block of a chunk.
-pub fn put_block(text: &mut String, item: &Item) -> Result<(), AllocError> {
+pub fn put_block(alloc: Global, text: &mut String, item: &Item) -> Result<(), AllocError> {
     let bytes = item.bytes.as_slice();
     let typ = type_of(item);
     let name = ChunkName(typ);
@@ -269,6 +310,6 @@ pub fn put_block(text: &mut String, item: &Item) -> Result<(), AllocError> {
     )?;
     match &item.reading {
         Reading::Strict(chunk) => put_strict(text, chunk, bytes),
-        Reading::Raw(raw) => put_raw(text, raw),
+        Reading::Raw(raw) => put_raw(alloc, text, raw),
     }
 }

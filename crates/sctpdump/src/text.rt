@@ -86,12 +86,17 @@ fn put_line(text: &mut String, seen: &Dissection) -> Result<(), AllocError> {
 }
 
 /// The blocks below the line of a packet.
-fn put_blocks(text: &mut String, seen: &Dissection, sum: Sum) -> Result<(), AllocError> {
+fn put_blocks(
+    alloc: Global,
+    text: &mut String,
+    seen: &Dissection,
+    sum: Sum,
+) -> Result<(), AllocError> {
     if let Some(header) = &seen.header {
         put_sums(text, header, sum)?;
     }
     for item in &seen.items {
-        put_block(text, item)?;
+        put_block(alloc, text, item)?;
     }
     match seen.fault {
         Some(fault) => {
@@ -116,7 +121,7 @@ fn packet_text(
     let mut text = String::new(alloc);
     put_ends(&mut text, time, datagram)?;
     put_line(&mut text, &seen)?;
-    put_blocks(&mut text, &seen, options.sum)?;
+    put_blocks(alloc, &mut text, &seen, options.sum)?;
     Ok(text)
 }
 
