@@ -1,0 +1,2 @@
+pub mod Dissection
+pub mod Params

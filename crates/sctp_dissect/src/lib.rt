@@ -1,0 +1,5 @@
+//! Looks at a datagram, whatever its bytes.
+#![tactic(auto)]
+
+pub mod dissection;
+pub mod params;

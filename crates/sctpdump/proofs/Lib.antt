@@ -1,0 +1,6 @@
+pub mod Known
+pub mod Entries
+pub mod Lines
+pub mod Heads
+pub mod Runs
+pub mod Texts

@@ -1,0 +1,85 @@
+//! Prints the SCTP packets of a capture, or of lines of hex text.
+#![tactic(auto)]
+
+pub mod checksum;
+pub mod chunk_text;
+pub mod frame;
+pub mod record;
+pub mod run;
+pub mod summary;
+pub mod text;
+pub mod window;
+
+use crate::checksum::Sum;
+use crate::run::run;
+use clap::{Arg, ArgAction, Command};
+use std::io::{self, BufWriter, Read, Write};
+use std::process::ExitCode;
+use std::{env, fs};
+
+/// The UDP port of SCTP in UDP (RFC 6951).
+const TUNNEL_PORT: u16 = 9899;
+
+/// Runs, and answers the exit status: 1 where the input cannot be read, the output not written, or memory ran out.
+fn run_on<R: Read + Drop>(rt: &HostRuntime, sum: Sum, port: u16, input: R) -> ExitCode {
+    let Ok(mut output) = BufWriter::new(rt.alloc(), io::writer(rt)) else {
+        return ExitCode::FAILURE;
+    };
+    let result = run(rt.alloc(), sum, port, input, &mut output);
+    match (result, output.flush()) {
+        (Ok(_), Ok(())) => ExitCode::SUCCESS,
+        _ => ExitCode::FAILURE,
+    }
+}
+
+fn run_file(rt: &HostRuntime, sum: Sum, port: u16, file: &str) -> ExitCode {
+    if file == "-" {
+        return run_on(rt, sum, port, rt.reader());
+    }
+    match fs::open(rt, file) {
+        Ok(input) => run_on(rt, sum, port, input),
+        Err(_) => ExitCode::FAILURE,
+    }
+}
+
+/// The port that a word names.
+fn port_of(word: Option<&str>) -> Option<u16> {
+    match word {
+        None => Some(TUNNEL_PORT),
+        Some(word) => word.parse::<u16>().ok(),
+    }
+}
+
+/// The command line is `sctpdump [--no-checksum] [--port N] [FILE | -]`. The exit status is 2 where it is another.
+fn main(rt: HostRuntime) -> anyhow::Result<ExitCode> {
+    let alloc = rt.alloc();
+    let command = Command::new(alloc, "sctpdump")
+        .arg(
+            Arg::new(alloc, "no-checksum")
+                .long("no-checksum")
+                .action(ArgAction::SetTrue),
+        )?
+        .arg(Arg::new(alloc, "port").long("port"))?
+        .arg(Arg::new(alloc, "file"))?;
+    let mut words = Vec::new(alloc);
+    for word in env::args(&rt)? {
+        words.push(word)?;
+    }
+    let matches = match command.try_get_matches_from(&words) {
+        Ok(matches) => matches,
+        Err(e) => {
+            eprintln!(rt; "{e}")?;
+            return Ok(ExitCode::from(2));
+        }
+    };
+    let sum = if matches.get_flag("no-checksum") {
+        Sum::Unchecked
+    } else {
+        Sum::Crc32c
+    };
+    let Some(port) = port_of(matches.get_str("port")) else {
+        eprintln!(rt; "the port is a number up to 65535")?;
+        return Ok(ExitCode::from(2));
+    };
+    Ok(run_file(&rt, sum, port, matches.get_str("file").unwrap_or("-")))
+}
