@@ -1,7 +1,12 @@
 //! What a link sends, and sends again.
 
-ghost use Rattle.std.specs.Prelude.{◌≡◌, ◌<◌, ◌≤◌, ◌+◌, ◌-◌, ◌^◌, ◌∷◌, ◌++◌, ℕ, [], None, Some, OnOk, OnErr, IfOk, IsOkUnless, length, true};
+ghost use Rattle.std.specs.Prelude.{◌≡◌, ◌<◌, ◌≤◌, ◌+◌, ◌-◌, ◌^◌, ◌∷◌, ◌++◌, ℕ, [], None, Some, OnOk, OnErr, IfOk, IsOkUnless, length, min, find, true};
 ghost use Rattle.sctp_base.specs.declared.error.Error.TheVariants.{ErrOutOfMemory};
+ghost use Rattle.sctp_lists.specs.Lists.{change_where};
+ghost use Rattle.sctp_chunks.specs.declared.chunk.chunk_payload_data.ChunkPayloadData.{ChunkPayloadData};
+ghost use Rattle.sctp_queues.specs.DataChunks.{has_tsn};
+ghost use Rattle.sctp_queues.specs.Marks.{with_nsent};
+ghost use Rattle.sctp_queues.specs.outbound_queue.OutboundQueue.{with_inflight};
 ghost use Rattle.sctp_link.specs.OpenStreams.{slot_with, with_fragment, begun_of, begun_by};
 ghost use Rattle.sctp_link.specs.Places.{IsIndexed, stream_numbers};
 
@@ -14,6 +19,7 @@ use crate::record::{Datagram, Kind, Message, Slot};
 use sctp_base::error::Result;
 use sctp_base::util::Checksum;
 use sctp_chunks::chunk::chunk_kind::ChunkKind;
+use sctp_queues::outbound_queue::OutboundQueue;
 
 impl<C: Checksum + Drop> Link<C> {
     ghost use Rattle.sctp_model.specs.Queues.{is_cleared};
@@ -95,11 +101,10 @@ impl<C: Checksum + Drop> Link<C> {
         let Some(chunk) = self.outbound.get(tsn) else {
             unreachable!()
         };
-        let nsent = chunk.nsent.saturating_add(1);
         let chunk = chunk.try_clone()?;
         let bytes = write_datagram(self.alloc, ChunkKind::PayloadData(chunk), &self.checksum)?;
         self.network.reserve(1)?;
-        self.outbound.set_nsent(tsn, nsent);
+        count_resend(&mut self.outbound, tsn);
         let place = tsn.wrapping_sub(self.first_tsn) as u64;
         let datagram = self.network.len() as u64;
         let kind = Kind::Data { place };
@@ -130,4 +135,18 @@ fn take_fragment(message: &mut Message, open_streams: &mut OpenStreams, number: 
         arrived: false,
         acknowledged: false,
     }
+}
+
+/// Counts one more sending of the chunk in flight with this TSN; the count stays at the greatest u32.
+fn count_resend(outbound: &mut OutboundQueue, tsn: u32)
+    ensures counted { (c : ChunkPayloadData) → find (has_tsn tsn) outbound.old.inflight.chunks ≡ Some c
+        → outbound.new ≡ with_inflight outbound.old
+        (change_where (has_tsn tsn) (with_nsent (min (c.nsent + 1) (2 ^ 32 - 1))) outbound.old.inflight.chunks) }
+    ensures none { find (has_tsn tsn) outbound.old.inflight.chunks ≡ None → outbound.new ≡ outbound.old }
+{
+    let Some(chunk) = outbound.get(tsn) else {
+        return;
+    };
+    let nsent = chunk.nsent.saturating_add(1);
+    outbound.set_nsent(tsn, nsent);
 }

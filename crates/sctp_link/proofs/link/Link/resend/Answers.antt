@@ -1,5 +1,5 @@
-use Rattle.std.proofs.Common.{◌≡◌, ◌++◌, ◌∷◌, [], rules, ap, None, Some, ◌∙◌, sym}
-use Rattle.std.specs.Prelude.{find}
+use Rattle.std.proofs.Common.{◌≡◌, ◌+◌, ◌-◌, ◌^◌, ◌++◌, ◌∷◌, [], rules, ap, None, Some, ◌∙◌, sym}
+use Rattle.std.specs.Prelude.{find, min}
 use Rattle.sctp_lists.proofs.Getting.{length-mapped}
 use Rattle.sctp_queues.specs.DataChunks.{has_tsn}
 use Rattle.sctp_model.specs.declared.event.Event.TheVariants as E
@@ -33,4 +33,4 @@ invariant_of-self-2 g c =
     let network = network-more c.self.inside.network.items c.put.new.items.items (K.Data (place_of (world_in c.self.inside) c.args.tsn)) c.in_ok-bytes.bytes more in
     let bytes = bytes-more c.self.inside.network.items c.put.new.items.items (K.Data (place_of (world_in c.self.inside) c.args.tsn)) c.in_ok-bytes.bytes more in
     moved _ _ (resent (world_in c.self.inside) c.args.tsn) (ap (λ ds. record (world_in c.self.inside) { network = ds }) network)
-    (rw bytes (linked-resend (g.C.Checksum.sum c.self.inside.checksum) (state_in c.self.inside) c.self.invariant c.args.tsn (search rules) ok c.in_ok-chunk.chunk c.in_ok-bytes.bytes c.saturating_add-nsent.result c.set_nsent.new.self e (search rules) (search rules) (length-mapped (λ (d : Datagram). d.bytes) c.self.inside.network.items ∙ sym (length-mapped datagram_record c.self.inside.network.items)) (search rules)))
+    (rw bytes (linked-resend (g.C.Checksum.sum c.self.inside.checksum) (state_in c.self.inside) c.self.invariant c.args.tsn (search rules) ok c.in_ok-chunk.chunk c.in_ok-bytes.bytes (min (c.in_ok-chunk.chunk.nsent + 1) (2 ^ 32 - 1)) c.count_resend.new.outbound e (search rules) (search rules) (length-mapped (λ (d : Datagram). d.bytes) c.self.inside.network.items ∙ sym (length-mapped datagram_record c.self.inside.network.items)) (c.count_resend.ensures.counted c.in_ok-chunk.chunk e)))
