@@ -17,6 +17,7 @@ pub struct Summary {
 }
 
 impl Summary {
+    /// The summary of no record. Refuses only for memory.
     pub fn new(alloc: Global) -> Result<Self, AllocError> {
         Ok(Summary {
             packets: 0,

@@ -1,29 +1,23 @@
--- What else a link keeps, as it abandons: what it writes into its record, and a Late as Abandons in turn.
-use Rattle.std.proofs.Common.{◌≡◌, ℕ, ◌+◌, ◌-◌, ◌<◌, ◌≤◌, ◌%◌, ◌^◌, Bool, true, false, List, [], ◌∷◌, ◌++◌, length, Option, Some, None, refl, ap, sym, ◌∙◌, arith, append-nil}
-use Rattle.std.specs.Prelude.{if◌then◌else◌, ◌==◌, not, nat_lt, nat_le, fold, find}
+-- What else a link keeps, as it abandons: what it writes into its record, and the place of a TSN.
+use Rattle.std.proofs.Common.{◌≡◌, ℕ, ◌<◌, ◌≤◌, ◌^◌, Bool, true, false, List, [], ◌∷◌, ◌++◌, length, Option, Some, None, refl, ap, sym, ◌∙◌, arith, append-nil}
+use Rattle.std.specs.Prelude.{if◌then◌else◌, ◌==◌, not, find}
 use Rattle.std.proofs.lemmas.Bool.Decides.{nat_tests}
 use Rattle.sctp_lists.specs.Kept.{always, numbers_from, total_over}
 use Rattle.sctp_lists.specs.Lists.{changed}
-use Rattle.sctp_lists.proofs.More.{length-changed, and}
-use Rattle.sctp_lists.proofs.Getting.{length-mapped}
+use Rattle.sctp_lists.proofs.More.{length-changed}
 use Rattle.sctp_lists.proofs.Totals.{total-kept_same}
 use Rattle.sctp_queues.specs.DataChunks.{has_tsn}
 use Rattle.sctp_queues.specs.outbound_queue.OutboundQueue as queue
 use Rattle.sctp_queues.specs.outbound_queue.OutboundQueue.{Outbound, to_abandon, tsn_after_of, has_tail, late_tsns, following_tsn}
-use Rattle.sctp_model.specs.declared.event.Event.TheVariants as E
-use Rattle.sctp_model.specs.declared.event.LinkRefusal.TheVariants.{NotInFlight}
 use Rattle.sctp_model.specs.World.{World, Setup, Slot}
-use Rattle.sctp_model.specs.Messages.{message_at, message_of, ordered_before, fragment_count, sent_of, is_half_sent, is_in_flight, tsn_of, place_of}
-use Rattle.sctp_model.specs.Changes.{abandoned, with_slot, message_changed, mark_abandoned, late_slots}
-use Rattle.sctp_model.specs.Steps.{History, world_of, IsRun, refusal_of, reply_to, after, fragments_accepted, unless}
-use Rattle.sctp_model.proofs.sender.Shape.{shape}
-use Rattle.sctp_model.proofs.sender.Sender.{Sender}
+use Rattle.sctp_model.specs.Messages.{message_at, message_of, ordered_before, fragment_count, sent_of, is_half_sent, tsn_of, place_of}
+use Rattle.sctp_model.specs.Changes.{abandoned, with_slot, message_changed, mark_abandoned}
+use Rattle.sctp_model.specs.Steps.{fragments_accepted}
 use Rattle.sctp_model.proofs.sender.SenderRun.{Sane}
-use Rattle.sctp_model.proofs.sender.Few.{few}
 use Rattle.sctp_ties.specs.Tied.{TiedOutbound}
 use Rattle.sctp_ties.proofs.giving_up.Abandoned.{marked, alive, alive-same, before-same, count-same}
 use Rattle.sctp_ties.proofs.giving_up.AbandonedLate.{messages-then}
-use Rattle.sctp_ties.proofs.giving_up.AbandonedEvents.{IsGiving, tail-tsn, late-tsns}
+use Rattle.sctp_ties.proofs.giving_up.AbandonedEvents.{tail-tsn}
 
 -- ## Room
 
@@ -89,35 +83,7 @@ alive-then w n k = by (is_half_sent w n)
     by true = alive-same w n k
     by false = alive-same w n k
 
--- ## A Late, as Abandons in turn
-
-pub late-count : (w : World) (now : ℕ) (q : Outbound) → Sender (shape w) → w.taken ≤ length w.slots → TiedOutbound w q → length (late_tsns now q) ≡ length (late_slots w now)
-late-count w now q s made t = ap length (late-tsns w now q s made t) ∙ length-mapped (tsn_of w) (late_slots w now)
+-- ## The place of a TSN
 
 pub place-back : (w : World) (p : ℕ) → w.setup.first < 2 ^ 32 → p < 2 ^ 32 → place_of w (tsn_of w p) ≡ p
 place-back w p first short = omega (arith, first, short)
-
--- each is an Abandon that is accepted, of a record that a history leads to
-module _ (setup : Setup) (w v : World) (p : ℕ) (g : IsGiving setup w v) (first : w.setup.first < 2 ^ 32) (low : w.taken ≤ p) (high : p < length w.slots) where
-  back : place_of v (tsn_of w p) ≡ p
-  back = ap (λ s. (tsn_of w p + (2 ^ 32 - s.first)) % 2 ^ 32) g.first ∙ place-back w p first (omega (arith, high, g.more, few setup v g.sane))
-
-  pub accepted : refusal_of v (E.Abandon (tsn_of w p)) ≡ None
-  accepted =
-      ap (λ k. unless (is_in_flight v k) NotInFlight None) back
-      ∙ ap (λ b. unless b NotInFlight None) (and (nat_le v.taken p) (nat_lt p (length v.slots)) (let l : v.taken ≤ p = omega (arith, low, g.taken) in grind (arith, nat_tests)) (let l : p < length v.slots = omega (arith, high, g.more) in grind (arith, nat_tests)))
-
-  pub after-is : after v (E.Abandon (tsn_of w p)) ≡ abandoned v (message_of w p)
-  after-is = ap (λ k. abandoned v (message_of v k)) back ∙ ap (λ x. abandoned v x.message) (g.slot p high)
-
-  pub history-then : (h : History) → v ≡ world_of setup h → IsRun setup h → (longer : History) × (abandoned v (message_of w p) ≡ world_of setup longer) × IsRun setup longer
-  history-then h is run = (
-    (E.Abandon (tsn_of w p), reply_to (world_of setup h) (E.Abandon (tsn_of w p))) ∷ h,
-    sym after-is ∙ ap (λ u. after u (E.Abandon (tsn_of w p))) is,
-    (ap (λ u. refusal_of u (E.Abandon (tsn_of w p))) (sym is) ∙ accepted, (refl, run)),
-  )
-
--- one more of them
-pub fold-more : {A : Type 0} (f : World → A → World) (w : World) (xs : List A) (x : A) → fold f w (xs ++ x ∷ []) ≡ f (fold f w xs) x
-fold-more f w [] x = refl
-fold-more f w (y ∷ xs) x = fold-more f (f w y) xs x
