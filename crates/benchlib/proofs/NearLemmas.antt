@@ -5,12 +5,12 @@ use Rattle.std.proofs.lemmas.List.Elements.{All-head, All-tail, All-cons, All-ni
 use Rattle.sctp_lists.specs.Lists.{inserted}
 use Rattle.sctp_lists.specs.Serial.{distance}
 use Rattle.sctp_chunks.specs.declared.chunk.chunk_payload_data.ChunkPayloadData.{ChunkPayloadData}
-use Rattle.sctp_queues.specs.DataChunks.{chunk_before}
-use Rattle.sctp_queues.specs.outbound_queue.OutboundQueue.{Outbound, all_started, numbered, sent_next, sent_of}
-use Rattle.sctp_queues.specs.payload_queue.PayloadQueue.{Payload, pushed, repeated}
-use Rattle.sctp_queues.specs.pending_queue.PendingQueue as pending
-use Rattle.sctp_queues.specs.Window.{IsWindow, IsWithinHalf, is_held}
-use Rattle.sctp_queues.proofs.lemmas.Serials.{not_found}
+use Rattle.sctp_serial.specs.DataChunks.{chunk_before}
+use Rattle.sctp_outbound.specs.outbound_queue.OutboundQueue.{Outbound, all_started, numbered, sent_next, sent_of}
+use Rattle.sctp_outbound.specs.payload_queue.PayloadQueue.{Payload, pushed, repeated}
+use Rattle.sctp_outbound.specs.pending_queue.PendingQueue as pending
+use Rattle.sctp_serial.specs.Window.{IsWindow, IsWithinHalf, is_held}
+use Rattle.sctp_serial.proofs.lemmas.Serials.{not_found}
 use Rattle.benchlib.specs.Near.{AreBelow}
 
 abbrev pub IsBelow : ℕ → ChunkPayloadData → Type 0

@@ -1,7 +1,7 @@
 //! Runs of an outbound queue.
 
 ghost use Rattle.std.specs.Prelude.{◌≡◌, ◌+◌, ◌<◌, ◌^◌, [], IfOk};
-ghost use Rattle.sctp_queues.specs.pending_queue.Whole.{IsMessageOrNone};
+ghost use Rattle.sctp_outbound.specs.pending_queue.Whole.{IsMessageOrNone};
 ghost use Rattle.benchlib.specs.Near.{AreBelow};
 
 use crate::subject::whole;

@@ -1,4 +1,3 @@
-pub mod PieceLemmas
 pub mod Begins
 pub mod Beginning
 pub mod Opening

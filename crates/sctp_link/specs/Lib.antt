@@ -7,7 +7,3 @@ pub mod Fields
 pub mod Replies
 pub mod Skips
 pub mod Acking
-pub mod Stats
-pub mod State
-pub mod Stream
-pub mod Lending

@@ -1,5 +1,5 @@
 -- What a stream of a link makes of a write.
-use Rattle.sctp_queues.specs.reassembly_queue.ReassemblyQueue.{ordered_pushed, PushesUnordered}
+use Rattle.sctp_reassembly.specs.reassembly_queue.ReassemblyQueue.{ordered_pushed, PushesUnordered}
 use Rattle.std.specs.Prelude.{◌≡◌, ◌&&◌, ℕ, ◌+◌, ◌-◌, ◌%◌, ◌^◌, Bool, true, false, not, ◌||◌, if◌then◌else◌, List, [], ◌∷◌, length, map, take, drop, ◌++◌, Option, Some, None, find, ◌==◌}
 use Rattle.sctp_chunks.specs.declared.chunk.chunk_payload_data.ChunkPayloadData.{ChunkPayloadData}
 use Rattle.sctp_chunks.specs.declared.chunk.chunk_payload_data.ReliabilityType.{ReliabilityType}
@@ -10,9 +10,9 @@ use Rattle.sctp_link.specs.declared.record.Message.{Message}
 use Rattle.sctp_link.specs.declared.record.Slot.{Slot}
 use Rattle.sctp_lists.specs.Lists.{change_where}
 use Rattle.sctp_link.specs.Linked.{has_number}
-use Rattle.sctp_link.specs.declared.stream.StreamState.{StreamState}
-use Rattle.sctp_link.specs.Stats.{with_sent, with_received, counted_bytes}
-use Rattle.sctp_link.specs.Stream.{after_write, fragments_of}
+use Rattle.sctp_transfer.specs.declared.stream.StreamState.{StreamState}
+use Rattle.sctp_transfer.specs.Stats.{with_sent, with_received, counted_bytes}
+use Rattle.sctp_transfer.specs.Stream.{after_write, fragments_of}
 
 -- a fragment with the mode of its message
 abbrev pub with_mode : ReliabilityType → ℕ → ChunkPayloadData → ChunkPayloadData

@@ -2,7 +2,7 @@
 use Rattle.std.specs.Prelude.{ℕ, ◌+◌, ◌-◌, ◌%◌, ◌^◌, min, max, Bool, ◌&&◌, not, ◌==◌, if◌then◌else◌, List, map, slice_index_or}
 use Rattle.sctp_lists.specs.Kept.{passing}
 use Rattle.sctp_chunks.specs.declared.chunk.chunk_forward_tsn.ChunkForwardTsnStream.{ChunkForwardTsnStream}
-use Rattle.sctp_queues.specs.reassembly_queue.ReassemblyQueue.{ReassemblyState, ordered_forwarded, unordered_forwarded}
+use Rattle.sctp_reassembly.specs.reassembly_queue.ReassemblyQueue.{ReassemblyState, ordered_forwarded, unordered_forwarded}
 use Rattle.sctp_model.specs.World as W
 use Rattle.sctp_model.specs.Messages.{no_message}
 use Rattle.sctp_model.specs.Receiver.{least, greatest}

@@ -7,11 +7,11 @@ pub mod link;
 mod open_stream;
 mod record;
 mod skipped;
-pub mod stream;
 
 pub use event::{Event, LinkRefusal, Reply};
 pub use link::Link;
 pub use link::lending::Ledger;
-pub use stream::{
+pub use sctp_transfer::stream;
+pub use sctp_transfer::stream::{
     DataChannelStats, RecvSendState, StreamEvent, StreamId, StreamResetError, StreamState,
 };

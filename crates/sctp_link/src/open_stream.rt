@@ -10,7 +10,7 @@ ghost use Rattle.sctp_link.specs.declared.open_stream.OpenStream.{OpenStream};
 
 use crate::record::Message;
 use crate::skipped::Named;
-use crate::stream::StreamState;
+use sctp_transfer::stream::StreamState;
 use bytes::Bytes;
 use sctp_base::error::Result;
 use sctp_chunks::chunk::chunk_payload_data::{
@@ -39,9 +39,9 @@ pub struct OpenStream {
 }
 
 impl OpenStream {
-    ghost use Rattle.sctp_link.specs.Stream.{new_stream};
+    ghost use Rattle.sctp_transfer.specs.Stream.{new_stream};
     ghost use Rattle.sctp_link.specs.OpenStreams.{is_ordered, message_with, fragments_with_mode, after_write_on, expired_on, with_sent_stats, with_read_stats, Keeps};
-    ghost use Rattle.sctp_queues.specs.reassembly_queue.ReassemblyQueue.{is_too_large, message_read, state_read, at_start};
+    ghost use Rattle.sctp_reassembly.specs.reassembly_queue.ReassemblyQueue.{is_too_large, message_read, state_read, at_start};
 
     /// A stream that nothing was written to. It takes no memory.
     /// Precondition: `max_payload_size` is 1 to 65,519.

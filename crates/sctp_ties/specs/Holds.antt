@@ -4,7 +4,7 @@ use Rattle.sctp_lists.specs.Kept.{kept}
 use Rattle.sctp_lists.specs.Lists.{Seen}
 use Rattle.sctp_chunks.specs.declared.chunk.chunk_payload_data.ChunkPayloadData.{ChunkPayloadData}
 use Rattle.sctp_chunks.specs.ChunkSet.{ChunkSet}
-use Rattle.sctp_queues.specs.reassembly_queue.ReassemblyQueue.{Reassembly}
+use Rattle.sctp_reassembly.specs.reassembly_queue.ReassemblyQueue.{Reassembly}
 use Rattle.sctp_model.specs.World.{World}
 use Rattle.sctp_model.specs.Messages.{stream_of, has_fragment}
 use Rattle.sctp_model.specs.Receiver.{arrived_at, held_on}

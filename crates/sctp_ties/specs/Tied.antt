@@ -6,11 +6,11 @@ use Rattle.sctp_chunks.specs.declared.chunk.chunk_payload_data.ReliabilityType.{
 use Rattle.sctp_chunks.specs.declared.chunk.chunk_payload_data.ReliabilityType.TheVariants.{Reliable}
 use Rattle.sctp_chunks.specs.PayloadData.{Data, data_of}
 use Rattle.sctp_chunks.specs.ChunkSet.{fresh}
-use Rattle.sctp_queues.specs.payload_queue.PayloadQueue.{Payload}
-use Rattle.sctp_queues.specs.pending_queue.PendingQueue.{Pending}
-use Rattle.sctp_queues.specs.outbound_queue.OutboundQueue.{Outbound}
-use Rattle.sctp_queues.specs.reassembly_queue.ReassemblyQueue.{ReassemblyState}
-use Rattle.sctp_queues.specs.declared.pending_queue.Selected.{Selected}
+use Rattle.sctp_outbound.specs.payload_queue.PayloadQueue.{Payload}
+use Rattle.sctp_outbound.specs.pending_queue.PendingQueue.{Pending}
+use Rattle.sctp_outbound.specs.outbound_queue.OutboundQueue.{Outbound}
+use Rattle.sctp_reassembly.specs.reassembly_queue.ReassemblyQueue.{ReassemblyState}
+use Rattle.sctp_outbound.specs.declared.pending_queue.Selected.{Selected}
 use Rattle.sctp_model.specs.World.{World}
 use Rattle.sctp_model.specs.Messages.{message_at, message_of, tsn_of, stream_at, messages_where, is_half_sent, sent_of, fragment_count, deadline_of}
 use Rattle.sctp_model.specs.Amounts.{is_given_up}

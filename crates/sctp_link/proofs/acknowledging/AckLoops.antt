@@ -13,10 +13,10 @@ use Rattle.sctp_lists.proofs.Edits.{change_where-map, length-change_where}
 use Rattle.sctp_lists.proofs.Getting.{map-at}
 use Rattle.sctp_chunks.specs.declared.chunk.chunk_payload_data.ChunkPayloadData.{ChunkPayloadData}
 use Rattle.sctp_chunks.specs.declared.chunk.chunk_selective_ack.GapAckBlock.{GapAckBlock}
-use Rattle.sctp_queues.specs.Marks.{acknowledged}
-use Rattle.sctp_queues.specs.DataChunks.{has_tsn}
-use Rattle.sctp_queues.specs.payload_queue.PayloadQueue.{without_front}
-use Rattle.sctp_queues.specs.outbound_queue.OutboundQueue.{Outbound, with_inflight}
+use Rattle.sctp_outbound.specs.Marks.{acknowledged}
+use Rattle.sctp_serial.specs.DataChunks.{has_tsn}
+use Rattle.sctp_outbound.specs.payload_queue.PayloadQueue.{without_front}
+use Rattle.sctp_outbound.specs.outbound_queue.OutboundQueue.{Outbound, with_inflight}
 use Rattle.sctp_model.specs.World as W
 use Rattle.sctp_model.specs.World.{World}
 use Rattle.sctp_model.specs.Messages.{slot_at, tsn_of}

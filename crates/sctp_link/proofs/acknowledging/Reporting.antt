@@ -10,8 +10,8 @@ use Rattle.sctp_chunks.specs.SelectiveAck.{Sack, sack_value}
 use Rattle.sctp_chunks.specs.Wire.{sack_chunk}
 use Rattle.sctp_chunks.proofs.Lengths.{length_sack_value}
 use Rattle.sctp_packets.specs.Packet.{ReadsPacket, packet_text}
-use Rattle.sctp_queues.specs.payload_queue.Blocks.{gap_offsets}
-use Rattle.sctp_queues.specs.payload_queue.PayloadQueue.{Payload}
+use Rattle.sctp_outbound.specs.payload_queue.Blocks.{gap_offsets}
+use Rattle.sctp_outbound.specs.payload_queue.PayloadQueue.{Payload}
 use Rattle.sctp_model.specs.declared.event.Event.TheVariants as E
 use Rattle.sctp_model.specs.World.{World}
 use Rattle.sctp_model.specs.World as W

@@ -5,7 +5,7 @@ use Rattle.std.specs.List.{list_any}
 use Rattle.sctp_lists.specs.Kept.{kept, unbroken}
 use Rattle.sctp_chunks.specs.declared.chunk.chunk_payload_data.ChunkPayloadData.{ChunkPayloadData}
 use Rattle.sctp_chunks.specs.ChunkSet.{ChunkSet, fresh}
-use Rattle.sctp_queues.specs.reassembly_queue.ReassemblyQueue.{Reassembly}
+use Rattle.sctp_reassembly.specs.reassembly_queue.ReassemblyQueue.{Reassembly}
 use Rattle.sctp_model.specs.World.{World, Report, Sack}
 use Rattle.sctp_model.specs.Messages.{message_at, stream_of, is_ordered_on, is_unordered_on, index_of, ssn_of, fragment_count, tsn_of}
 use Rattle.sctp_model.specs.Receiver.{is_unread, next_of}

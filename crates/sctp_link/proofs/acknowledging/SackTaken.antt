@@ -13,8 +13,8 @@ use Rattle.sctp_chunks.specs.declared.chunk.chunk_payload_data.ChunkPayloadData.
 use Rattle.sctp_chunks.specs.SelectiveAck
 use Rattle.sctp_chunks.specs.Wire.{sack_chunk}
 use Rattle.sctp_packets.specs.Packet.{ReadsPacket}
-use Rattle.sctp_queues.specs.outbound_queue.OutboundQueue.{Outbound, with_inflight}
-use Rattle.sctp_queues.specs.DataChunks.{bytes_of}
+use Rattle.sctp_outbound.specs.outbound_queue.OutboundQueue.{Outbound, with_inflight}
+use Rattle.sctp_serial.specs.DataChunks.{bytes_of}
 use Rattle.sctp_model.specs.declared.event.Event.TheVariants as E
 use Rattle.sctp_model.specs.declared.event.LinkRefusal.TheVariants.{NoSuchDatagram}
 use Rattle.sctp_model.specs.World.{Setup, World, Report, Sack, Forward}

@@ -8,7 +8,7 @@ use Rattle.std.proofs.Math.Seq.{drop-cons}
 use Rattle.std.proofs.lemmas.Bool.{false≢true}
 use Rattle.std.proofs.lemmas.Bool.Decides.{nat_tests}
 use Rattle.sctp_lists.proofs.More.{both}
-use Rattle.sctp_queues.specs.outbound_queue.OutboundQueue.{late_tsns}
+use Rattle.sctp_outbound.specs.outbound_queue.OutboundQueue.{late_tsns}
 use Rattle.sctp_model.specs.declared.event.Event.TheVariants as E
 use Rattle.sctp_model.specs.World.{World}
 use Rattle.sctp_model.specs.Messages.{is_in_flight, is_half_sent, place_of}

@@ -6,10 +6,10 @@ use Rattle.sctp_lists.specs.Lists.{inserted, advanced, Seen}
 use Rattle.sctp_lists.specs.Serial.{comes_before}
 use Rattle.sctp_lists.proofs.More.{not_both}
 use Rattle.sctp_chunks.specs.declared.chunk.chunk_payload_data.ChunkPayloadData.{ChunkPayloadData}
-use Rattle.sctp_queues.specs.DataChunks.{chunk_before}
-use Rattle.sctp_queues.specs.payload_queue.PayloadQueue as Payload
-use Rattle.sctp_queues.specs.payload_queue.PayloadQueue.{Payload}
-use Rattle.sctp_queues.specs.Window
+use Rattle.sctp_serial.specs.DataChunks.{chunk_before}
+use Rattle.sctp_outbound.specs.payload_queue.PayloadQueue as Payload
+use Rattle.sctp_outbound.specs.payload_queue.PayloadQueue.{Payload}
+use Rattle.sctp_serial.specs.Window
 use Rattle.sctp_model.specs.declared.event.Event.TheVariants as E
 use Rattle.sctp_model.specs.World.{World, Data}
 use Rattle.sctp_model.specs.Messages.{message_at, message_of, index_of, tsn_of}

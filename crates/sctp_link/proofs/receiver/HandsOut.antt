@@ -10,8 +10,8 @@ use Rattle.sctp_lists.proofs.KeptLemmas.{front-kept, FrontOf}
 use Rattle.sctp_chunks.specs.ChunkSet.{ChunkSet}
 use Rattle.sctp_chunks.specs.declared.chunk.chunk_payload_data.PayloadProtocolIdentifier.{PayloadProtocolIdentifier}
 use Rattle.sctp_chunks.specs.declared.chunk.chunk_payload_data.PayloadProtocolIdentifier.TheVariants.{Dcep, String, Binary, StringEmpty, BinaryEmpty, Unknown}
-use Rattle.sctp_queues.specs.reassembly_queue.ReassemblyQueue.{message_read, rest_read, state_read, at_start}
-use Rattle.sctp_queues.specs.declared.reassembly_queue.chunks.Chunks.{Chunks}
+use Rattle.sctp_reassembly.specs.reassembly_queue.ReassemblyQueue.{message_read, rest_read, state_read, at_start}
+use Rattle.sctp_reassembly.specs.declared.reassembly_queue.chunks.Chunks.{Chunks}
 use Rattle.sctp_model.specs.declared.event.Event.TheVariants as E
 use Rattle.sctp_model.specs.declared.event.LinkRefusal.TheVariants.{StreamUnknown}
 use Rattle.sctp_model.specs.World.{World, StreamRecord}
@@ -37,12 +37,12 @@ use Rattle.sctp_ties.proofs.arriving.SpanEnds.{Begins, set-begins, whole-begins}
 use Rattle.sctp_ties.proofs.amounts.StreamCounters.{counters-read, counters-nothing}
 use Rattle.sctp_link.specs.declared.open_stream.OpenStream.{OpenStream}
 use Rattle.sctp_link.specs.declared.record.Message.{Message}
-use Rattle.sctp_link.specs.declared.stream.StreamState.{StreamState}
+use Rattle.sctp_transfer.specs.declared.stream.StreamState.{StreamState}
 use Rattle.sctp_link.specs.OpenStreams.{with_read_stats}
 use Rattle.sctp_link.specs.Linked.{State, IsLinked, IsOpenStream, has_number, stats_of}
 use Rattle.sctp_link.specs.Places.{stream_numbers}
 use Rattle.sctp_link.specs.Records.{message_record, stream_record}
-use Rattle.sctp_link.specs.Stats.{counted_bytes, with_received}
+use Rattle.sctp_transfer.specs.Stats.{counted_bytes, with_received}
 use Rattle.sctp_link.proofs.sender.Beginning.{index_kept}
 use Rattle.sctp_link.proofs.upkeep.Apart.{IsApart, apart, differ, each-set, map-set_same, number-found, streams-set}
 use Rattle.sctp_link.proofs.upkeep.Places.{indexed-set}

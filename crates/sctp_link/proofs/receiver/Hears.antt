@@ -9,8 +9,8 @@ use Rattle.sctp_lists.specs.Serial.{at_or_before}
 use Rattle.sctp_lists.proofs.More.{not_both}
 use Rattle.sctp_chunks.specs.declared.chunk.chunk_payload_data.ChunkPayloadData.{ChunkPayloadData}
 use Rattle.sctp_chunks.specs.ChunkSet.{ChunkSet}
-use Rattle.sctp_queues.specs.DataChunks.{has_tsn}
-use Rattle.sctp_queues.specs.Window
+use Rattle.sctp_serial.specs.DataChunks.{has_tsn}
+use Rattle.sctp_serial.specs.Window
 use Rattle.sctp_model.specs.World.{World, StreamRecord, Data}
 use Rattle.sctp_model.specs.Messages.{message_at, slot_at, message_of, stream_at, index_of, sent_of, tsn_of, place_of, no_message, no_slot}
 use Rattle.sctp_model.specs.Receiver.{is_new, is_held, held_on, next_of, least, greatest}

@@ -7,9 +7,9 @@ use Rattle.std.proofs.lemmas.List.{length-set}
 use Rattle.sctp_lists.specs.Lists.{changed, inserted}
 use Rattle.sctp_lists.proofs.Cases.{same-yes, and-none}
 use Rattle.sctp_lists.proofs.More.{not_both}
-use Rattle.sctp_queues.specs.DataChunks.{chunk_before}
-use Rattle.sctp_queues.specs.payload_queue.PayloadQueue.{Payload}
-use Rattle.sctp_queues.specs.reassembly_queue.ReassemblyQueue.{Reassembly, ReassemblyState, is_too_large, pushed_ordered, BecomesWhole}
+use Rattle.sctp_serial.specs.DataChunks.{chunk_before}
+use Rattle.sctp_outbound.specs.payload_queue.PayloadQueue.{Payload}
+use Rattle.sctp_reassembly.specs.reassembly_queue.ReassemblyQueue.{Reassembly, ReassemblyState, is_too_large, pushed_ordered, BecomesWhole}
 use Rattle.sctp_model.specs.declared.event.Event.TheVariants as E
 use Rattle.sctp_model.specs.World.{World, StreamRecord, Data}
 use Rattle.sctp_model.specs.World as W
@@ -29,7 +29,7 @@ use Rattle.sctp_ties.proofs.arriving.RunsOnce.{becomes-same}
 use Rattle.sctp_ties.proofs.arriving.SlotArrives.{ordered-slot, unordered-slot}
 use Rattle.sctp_ties.proofs.amounts.Sizes.{never-too-large-run}
 use Rattle.sctp_link.specs.declared.open_stream.OpenStream.{OpenStream}
-use Rattle.sctp_link.specs.declared.stream.StreamState.{StreamState}
+use Rattle.sctp_transfer.specs.declared.stream.StreamState.{StreamState}
 use Rattle.sctp_link.specs.Linked.{State, IsLinked, IsOpenStream, has_number, stats_of}
 use Rattle.sctp_link.specs.OpenStreams.{Keeps}
 use Rattle.sctp_link.specs.Places.{stream_numbers}

@@ -9,18 +9,18 @@ use Rattle.sctp_lists.proofs.Cases.{same-yes}
 use Rattle.sctp_chunks.specs.declared.chunk.chunk_payload_data.ChunkPayloadData.{ChunkPayloadData}
 use Rattle.sctp_chunks.specs.declared.chunk.chunk_payload_data.PayloadProtocolIdentifier.{PayloadProtocolIdentifier}
 use Rattle.sctp_chunks.specs.declared.chunk.chunk_payload_data.PayloadProtocolIdentifier.TheVariants.{Dcep, String, Binary, StringEmpty, BinaryEmpty, Unknown}
-use Rattle.sctp_queues.specs.outbound_queue.OutboundQueue.{with_message_id}
-use Rattle.sctp_queues.specs.pending_queue.Whole.{IsMessage, IsMessageOrNone}
-use Rattle.sctp_queues.specs.DataChunks.{bytes_of}
+use Rattle.sctp_outbound.specs.outbound_queue.OutboundQueue.{with_message_id}
+use Rattle.sctp_outbound.specs.pending_queue.Whole.{IsMessage, IsMessageOrNone}
+use Rattle.sctp_serial.specs.DataChunks.{bytes_of}
 use Rattle.sctp_model.specs.World.{World, StreamRecord}
 use Rattle.sctp_model.specs.Messages.{message_of, fragment_count, ordered_before, is_dcep}
 use Rattle.sctp_model.specs.Changes.{message_on}
 use Rattle.sctp_ties.specs.Tied.{waiting_at, waiting_of}
 use Rattle.sctp_ties.proofs.sending.Waiting
 use Rattle.sctp_ties.proofs.sending.Written
-use Rattle.sctp_link.specs.declared.stream.StreamState.{StreamState}
-use Rattle.sctp_link.specs.Stream as stream
-use Rattle.sctp_link.specs.Stream.{fragment_at, fragments_of, cut}
+use Rattle.sctp_transfer.specs.declared.stream.StreamState.{StreamState}
+use Rattle.sctp_transfer.specs.Stream as stream
+use Rattle.sctp_transfer.specs.Stream.{fragment_at, fragments_of, cut}
 use Rattle.sctp_link.specs.OpenStreams.{with_mode, fragments_with_mode}
 use Rattle.sctp_link.proofs.sender.Outgoing.{piece-short}
 use Rattle.sctp_link.proofs.upkeep.Bounds.{bytes-few}

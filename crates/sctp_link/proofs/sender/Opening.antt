@@ -8,7 +8,7 @@ use Rattle.sctp_lists.proofs.Getting.{get-snoc_old, get-snoc_new}
 use Rattle.sctp_lists.proofs.Cases.{by_last, negated}
 use Rattle.sctp_chunks.specs.declared.chunk.chunk_payload_data.PayloadProtocolIdentifier.TheVariants.{Unknown}
 use Rattle.sctp_chunks.specs.declared.chunk.chunk_payload_data.ReliabilityType.TheVariants.{Reliable}
-use Rattle.sctp_queues.specs.reassembly_queue.ReassemblyQueue.{Reassembly}
+use Rattle.sctp_reassembly.specs.reassembly_queue.ReassemblyQueue.{Reassembly}
 use Rattle.sctp_model.specs.declared.event.Event.TheVariants as E
 use Rattle.sctp_model.specs.declared.event.LinkRefusal.TheVariants.{StreamOpen}
 use Rattle.sctp_model.specs.World.{World, StreamRecord}
@@ -27,7 +27,7 @@ use Rattle.sctp_ties.specs.Holds.{reassembly_of}
 use Rattle.sctp_link.specs.declared.open_stream.OpenStream.{OpenStream}
 use Rattle.sctp_link.specs.Places.{IsIndexed, stream_numbers}
 use Rattle.sctp_link.specs.Records.{stream_record}
-use Rattle.sctp_link.specs.Stream.{new_stream}
+use Rattle.sctp_transfer.specs.Stream.{new_stream}
 use Rattle.sctp_link.specs.Linked.{State, IsOpenStream, IsLinked, has_number, stats_of}
 use Rattle.sctp_link.proofs.upkeep.Facts.{Facts, facts, stands-then}
 use Rattle.sctp_link.proofs.upkeep.Frames.{stream-same, texts-same}

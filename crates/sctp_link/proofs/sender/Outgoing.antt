@@ -12,9 +12,9 @@ use Rattle.sctp_chunks.specs.PayloadData.{Data, data_of, data_value}
 use Rattle.sctp_chunks.specs.Wire.{data_chunk}
 use Rattle.sctp_chunks.proofs.Lengths.{length_data_value}
 use Rattle.sctp_packets.specs.Packet.{ReadsPacket, packet_text}
-use Rattle.sctp_queues.specs.DataChunks.{has_tsn}
-use Rattle.sctp_queues.specs.Marks.{with_nsent}
-use Rattle.sctp_queues.specs.outbound_queue.OutboundQueue.{Outbound, with_inflight}
+use Rattle.sctp_serial.specs.DataChunks.{has_tsn}
+use Rattle.sctp_outbound.specs.Marks.{with_nsent}
+use Rattle.sctp_outbound.specs.outbound_queue.OutboundQueue.{Outbound, with_inflight}
 use Rattle.sctp_model.specs.declared.event.Event.TheVariants as E
 use Rattle.sctp_model.specs.declared.event.LinkRefusal.TheVariants.{NotInFlight}
 use Rattle.sctp_model.specs.World.{World}

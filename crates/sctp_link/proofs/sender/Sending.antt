@@ -10,9 +10,9 @@ use Rattle.sctp_lists.proofs.More.{changed-same, changed-other}
 use Rattle.sctp_lists.proofs.Cases.{by_same, same-yes}
 use Rattle.sctp_chunks.specs.declared.chunk.chunk_payload_data.ChunkPayloadData.{ChunkPayloadData}
 use Rattle.sctp_chunks.specs.PayloadData.{Data, data_of}
-use Rattle.sctp_queues.specs.pending_queue.PendingQueue.{peeked}
-use Rattle.sctp_queues.specs.Window.{SpansOneWindow, is_held}
-use Rattle.sctp_queues.specs.outbound_queue.OutboundQueue.{Outbound, all_started, sent_of, sent_peeked, sent_next, following_tsn}
+use Rattle.sctp_outbound.specs.pending_queue.PendingQueue.{peeked}
+use Rattle.sctp_serial.specs.Window.{SpansOneWindow, is_held}
+use Rattle.sctp_outbound.specs.outbound_queue.OutboundQueue.{Outbound, all_started, sent_of, sent_peeked, sent_next, following_tsn}
 use Rattle.sctp_model.specs.declared.event.Event.TheVariants as E
 use Rattle.sctp_model.specs.World.{World, StreamRecord, Slot, Message}
 use Rattle.sctp_model.specs.World as W

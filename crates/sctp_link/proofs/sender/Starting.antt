@@ -4,7 +4,7 @@ use Rattle.std.specs.Prelude.{slice_index_or, is_some, not, nat_le}
 use Rattle.std.proofs.Math.Path.{subst}
 use Rattle.std.proofs.lemmas.Bool.Decides.{nat_tests}
 use Rattle.sctp_lists.proofs.Getting.{length-mapped}
-use Rattle.sctp_queues.specs.outbound_queue.OutboundQueue.{Outbound, all_started}
+use Rattle.sctp_outbound.specs.outbound_queue.OutboundQueue.{Outbound, all_started}
 use Rattle.sctp_model.specs.declared.event.Event.TheVariants as E
 use Rattle.sctp_model.specs.Messages.{no_message, ordered_before}
 use Rattle.sctp_model.specs.Changes.{started, start_at}

@@ -12,7 +12,7 @@ use Rattle.sctp_lists.proofs.More.{fails}
 use Rattle.sctp_chunks.specs.declared.chunk.chunk_payload_data.ChunkPayloadData.{ChunkPayloadData}
 use Rattle.sctp_chunks.specs.declared.chunk.chunk_payload_data.PayloadProtocolIdentifier.{PayloadProtocolIdentifier}
 use Rattle.sctp_chunks.specs.declared.chunk.chunk_payload_data.PayloadProtocolIdentifier.TheVariants.{Dcep, String, Binary, StringEmpty, BinaryEmpty, Unknown}
-use Rattle.sctp_queues.specs.outbound_queue.OutboundQueue.{Outbound, with_message}
+use Rattle.sctp_outbound.specs.outbound_queue.OutboundQueue.{Outbound, with_message}
 use Rattle.sctp_model.specs.declared.event.Event.TheVariants as E
 use Rattle.sctp_model.specs.World.{World, StreamRecord}
 use Rattle.sctp_model.specs.World as W
@@ -37,8 +37,8 @@ use Rattle.sctp_link.specs.declared.open_stream.OpenStream.{OpenStream}
 use Rattle.sctp_link.specs.declared.record.Message.{Message}
 use Rattle.sctp_link.specs.Places.{stream_numbers}
 use Rattle.sctp_link.specs.Records.{stream_record, message_record}
-use Rattle.sctp_link.specs.Stats.{with_sent, counted_bytes}
-use Rattle.sctp_link.specs.Stream as stream
+use Rattle.sctp_transfer.specs.Stats.{with_sent, counted_bytes}
+use Rattle.sctp_transfer.specs.Stream as stream
 use Rattle.sctp_link.specs.OpenStreams.{is_ordered, message_with, with_mode, fragments_with_mode, after_write_on}
 use Rattle.sctp_link.specs.Linked.{State, IsOpenStream, IsLinked, has_number, stats_of}
 use Rattle.sctp_link.proofs.upkeep.Facts.{Facts, facts, stands-then}

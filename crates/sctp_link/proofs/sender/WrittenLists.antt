@@ -11,9 +11,9 @@ use Rattle.sctp_lists.proofs.Totals.{length-numbers}
 use Rattle.sctp_lists.proofs.KeptLemmas.{length-kept-le}
 use Rattle.sctp_chunks.specs.declared.chunk.chunk_payload_data.ChunkPayloadData.{ChunkPayloadData}
 use Rattle.sctp_chunks.specs.declared.chunk.chunk_payload_data.PayloadProtocolIdentifier.{PayloadProtocolIdentifier}
-use Rattle.sctp_queues.specs.pending_queue.PendingQueue.{reserved, room_for}
-use Rattle.sctp_queues.specs.DataChunks.{bytes_of}
-use Rattle.sctp_queues.specs.outbound_queue.OutboundQueue.{Outbound, with_message, has_room, total_bytes}
+use Rattle.sctp_outbound.specs.pending_queue.PendingQueue.{reserved, room_for}
+use Rattle.sctp_serial.specs.DataChunks.{bytes_of}
+use Rattle.sctp_outbound.specs.outbound_queue.OutboundQueue.{Outbound, with_message, has_room, total_bytes}
 use Rattle.sctp_model.specs.declared.event.Event.TheVariants as E
 use Rattle.sctp_model.specs.declared.event.LinkRefusal.{LinkRefusal}
 use Rattle.sctp_model.specs.declared.event.LinkRefusal.TheVariants.{StreamUnknown, MessageTooLarge, TsnsUsedUp}
@@ -29,8 +29,8 @@ use Rattle.sctp_ties.proofs.amounts.StreamAmounts.{write-open}
 use Rattle.sctp_link.specs.declared.open_stream.OpenStream.{OpenStream}
 use Rattle.sctp_link.specs.declared.record.Message.{Message}
 use Rattle.sctp_link.specs.Records.{stream_record, message_record, progress_of}
-use Rattle.sctp_link.specs.Stream as stream
-use Rattle.sctp_link.specs.Stream.{cut}
+use Rattle.sctp_transfer.specs.Stream as stream
+use Rattle.sctp_transfer.specs.Stream.{cut}
 use Rattle.sctp_link.specs.OpenStreams.{is_ordered, message_with, fragments_with_mode, after_write_on}
 use Rattle.sctp_link.specs.Linked.{State, IsOpenStream, IsLinked, has_number}
 use Rattle.sctp_link.proofs.upkeep.Facts.{facts}

@@ -13,9 +13,9 @@ use Rattle.sctp_chunks.specs.ChunkSet.{ChunkSet}
 use Rattle.sctp_chunks.specs.ForwardTsn.{ForwardTsn}
 use Rattle.sctp_chunks.specs.Wire.{forward_tsn_chunk}
 use Rattle.sctp_packets.specs.Packet.{ReadsPacket}
-use Rattle.sctp_queues.specs.reassembly_queue.Fragments.{is_complete}
-use Rattle.sctp_queues.specs.payload_queue.PayloadQueue.{Payload, past, with_chunks}
-use Rattle.sctp_queues.specs.reassembly_queue.ReassemblyQueue.{ReassemblyState, ordered_forwarded, unordered_forwarded, forwarded_ordered, forwarded_unordered}
+use Rattle.sctp_reassembly.specs.reassembly_queue.Fragments.{is_complete}
+use Rattle.sctp_outbound.specs.payload_queue.PayloadQueue.{Payload, past, with_chunks}
+use Rattle.sctp_reassembly.specs.reassembly_queue.ReassemblyQueue.{ReassemblyState, ordered_forwarded, unordered_forwarded, forwarded_ordered, forwarded_unordered}
 use Rattle.sctp_model.specs.declared.event.Event.TheVariants as E
 use Rattle.sctp_model.specs.World.{World, StreamRecord, Forward}
 use Rattle.sctp_model.specs.World as W

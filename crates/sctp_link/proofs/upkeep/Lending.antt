@@ -1,9 +1,9 @@
 -- What a link tells of itself.
 use Rattle.std.proofs.Common.{◌≡◌, ℕ, ◌-◌, true, false, List, Some, None, refl, ap, sym, ◌∙◌}
 use Rattle.std.specs.Prelude.{option_map, if◌then◌else◌}
-use Rattle.sctp_queues.specs.pending_queue.PendingQueue.{total_bytes}
-use Rattle.sctp_queues.specs.DataChunks.{bytes_of}
-use Rattle.sctp_queues.specs.outbound_queue.OutboundQueue.{Outbound}
+use Rattle.sctp_outbound.specs.pending_queue.PendingQueue.{total_bytes}
+use Rattle.sctp_serial.specs.DataChunks.{bytes_of}
+use Rattle.sctp_outbound.specs.outbound_queue.OutboundQueue.{Outbound}
 use Rattle.sctp_model.specs.World.{World}
 use Rattle.sctp_model.specs.Messages.{is_open}
 use Rattle.sctp_model.specs.Amounts.{ledger, in_all, written_bytes, buffered_amount, counters_of}

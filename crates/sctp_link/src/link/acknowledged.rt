@@ -3,7 +3,7 @@
 ghost use Rattle.std.specs.Prelude.{◌≡◌, ◌<◌, ◌≤◌, ◌+◌, ◌-◌, ◌^◌, ℕ, Bool, true, None, Some, List, OnErr, IfOk, IsOkUnless, length};
 ghost use Rattle.std.specs.List.{list_any};
 ghost use Rattle.sctp_base.specs.declared.error.Error.TheVariants.{ErrOutOfMemory};
-ghost use Rattle.sctp_queues.specs.outbound_queue.OutboundQueue.{Outbound, with_inflight};
+ghost use Rattle.sctp_outbound.specs.outbound_queue.OutboundQueue.{Outbound, with_inflight};
 ghost use Rattle.sctp_model.specs.World.{World};
 ghost use Rattle.sctp_ties.specs.Tied.{IsInFlight};
 ghost use Rattle.sctp_link.specs.declared.open_stream.OpenStream.{OpenStream};

@@ -1,11 +1,11 @@
 //! What a link tells of itself: its bytes, its counters, and the queues that it works on.
 
 ghost use Rattle.std.specs.Prelude.{◌≡◌, ◌==◌, ℕ, None, Some, true, false, MatchOption, map, option_map};
-ghost use Rattle.sctp_queues.specs.payload_queue.PayloadQueue.{Payload};
+ghost use Rattle.sctp_outbound.specs.payload_queue.PayloadQueue.{Payload};
 
 use super::Link;
 use crate::open_stream::OpenStream;
-use crate::stream::DataChannelStats;
+use sctp_transfer::stream::DataChannelStats;
 use sctp_base::util::Checksum;
 use sctp_queues::outbound_queue::OutboundQueue;
 use sctp_queues::payload_queue::PayloadQueue;

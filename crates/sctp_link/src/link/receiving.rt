@@ -4,9 +4,9 @@ ghost use Rattle.std.specs.Prelude.{◌≡◌, ◌<◌, ◌≤◌, ◌+◌, ◌-
 ghost use Rattle.sctp_base.specs.declared.error.Error.TheVariants.{ErrOutOfMemory};
 ghost use Rattle.sctp_lists.specs.Lists.{advanced, inserted};
 ghost use Rattle.sctp_chunks.specs.declared.chunk.chunk_payload_data.ChunkPayloadData.{ChunkPayloadData};
-ghost use Rattle.sctp_queues.specs.DataChunks.{chunk_before};
-ghost use Rattle.sctp_queues.specs.payload_queue.PayloadQueue.{with_chunks};
-ghost use Rattle.sctp_queues.specs.Window;
+ghost use Rattle.sctp_serial.specs.DataChunks.{chunk_before};
+ghost use Rattle.sctp_outbound.specs.payload_queue.PayloadQueue.{with_chunks};
+ghost use Rattle.sctp_serial.specs.Window;
 ghost use Rattle.sctp_model.specs.Steps.{unless};
 ghost use Rattle.sctp_model.specs.declared.event.LinkRefusal.TheVariants.{SpanTooWide};
 

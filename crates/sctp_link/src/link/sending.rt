@@ -4,9 +4,9 @@ ghost use Rattle.std.specs.Prelude.{◌≡◌, ◌<◌, ◌≤◌, ◌+◌, ◌-
 ghost use Rattle.sctp_base.specs.declared.error.Error.TheVariants.{ErrOutOfMemory};
 ghost use Rattle.sctp_lists.specs.Lists.{change_where};
 ghost use Rattle.sctp_chunks.specs.declared.chunk.chunk_payload_data.ChunkPayloadData.{ChunkPayloadData};
-ghost use Rattle.sctp_queues.specs.DataChunks.{has_tsn};
-ghost use Rattle.sctp_queues.specs.Marks.{with_nsent};
-ghost use Rattle.sctp_queues.specs.outbound_queue.OutboundQueue.{with_inflight};
+ghost use Rattle.sctp_serial.specs.DataChunks.{has_tsn};
+ghost use Rattle.sctp_outbound.specs.Marks.{with_nsent};
+ghost use Rattle.sctp_outbound.specs.outbound_queue.OutboundQueue.{with_inflight};
 ghost use Rattle.sctp_link.specs.OpenStreams.{slot_with, with_fragment, begun_of, begun_by};
 ghost use Rattle.sctp_link.specs.Places.{IsIndexed, stream_numbers};
 

@@ -8,10 +8,10 @@ use Rattle.sctp_lists.proofs.KeptLemmas.{map-kept-same, kept-same}
 use Rattle.sctp_lists.proofs.More.{same_test}
 use Rattle.sctp_lists.proofs.Getting.{get-numbered, numbered-at, length-numbered}
 use Rattle.sctp_chunks.specs.declared.chunk.chunk_payload_data.ChunkPayloadData.{ChunkPayloadData}
-use Rattle.sctp_queues.specs.Marks.{acknowledged}
-use Rattle.sctp_queues.specs.DataChunks.{has_tsn}
-use Rattle.sctp_queues.specs.payload_queue.PayloadQueue.{front_with, without_front}
-use Rattle.sctp_queues.specs.outbound_queue.OutboundQueue.{Outbound, with_inflight}
+use Rattle.sctp_outbound.specs.Marks.{acknowledged}
+use Rattle.sctp_serial.specs.DataChunks.{has_tsn}
+use Rattle.sctp_outbound.specs.payload_queue.PayloadQueue.{front_with, without_front}
+use Rattle.sctp_outbound.specs.outbound_queue.OutboundQueue.{Outbound, with_inflight}
 use Rattle.sctp_model.specs.World.{World, Report, Sack}
 use Rattle.sctp_model.specs.Messages.{message_at, slot_at, message_of, messages_where, no_slot, tsn_of, sent_of, fragment_count, is_half_sent}
 use Rattle.sctp_model.specs.Reports.{reports}

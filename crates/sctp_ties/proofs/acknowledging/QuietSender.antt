@@ -8,8 +8,8 @@ use Rattle.sctp_lists.proofs.More.{length-changed, changed-keeps}
 use Rattle.sctp_chunks.specs.declared.chunk.chunk_payload_data.ChunkPayloadData.{ChunkPayloadData}
 use Rattle.sctp_chunks.specs.PayloadData.{Data, data_of}
 use Rattle.sctp_chunks.specs.ChunkSet.{fresh}
-use Rattle.sctp_queues.specs.outbound_queue.OutboundQueue.{Outbound}
-use Rattle.sctp_queues.specs.declared.pending_queue.Selected.{Selected}
+use Rattle.sctp_outbound.specs.outbound_queue.OutboundQueue.{Outbound}
+use Rattle.sctp_outbound.specs.declared.pending_queue.Selected.{Selected}
 use Rattle.sctp_model.specs.World.{World, Setup, Message, Slot}
 use Rattle.sctp_model.specs.Messages.{message_at, slot_at, message_of, messages_where, no_message, no_slot, is_ordered_on, ordered_before, ssn_of, fragment_count, has_fragment, sent_of, is_half_sent, is_timed, is_dcep, deadline_from}
 use Rattle.sctp_model.specs.Changes.{mark_arrived, mark_read, stream_changed, with_whole, becomes_whole, skip_counts, named_by, slot_received, skip_received, read_of, whole_noted}

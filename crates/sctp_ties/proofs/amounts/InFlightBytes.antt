@@ -10,9 +10,9 @@ use Rattle.sctp_lists.proofs.More.{fails, not_both}
 use Rattle.sctp_lists.proofs.Totals.{total-none, total-append, total-where, total-kept_same, numbers-append}
 use Rattle.sctp_chunks.specs.declared.chunk.chunk_payload_data.ChunkPayloadData.{ChunkPayloadData}
 use Rattle.sctp_chunks.specs.PayloadData.{data_of}
-use Rattle.sctp_queues.specs.DataChunks.{bytes_of}
-use Rattle.sctp_queues.specs.outbound_queue.OutboundQueue.{Outbound}
-use Rattle.sctp_queues.specs.pending_queue.PendingQueue.{total_bytes}
+use Rattle.sctp_serial.specs.DataChunks.{bytes_of}
+use Rattle.sctp_outbound.specs.outbound_queue.OutboundQueue.{Outbound}
+use Rattle.sctp_outbound.specs.pending_queue.PendingQueue.{total_bytes}
 use Rattle.sctp_model.specs.declared.event.Event.TheVariants as E
 use Rattle.sctp_model.specs.World.{Report, Setup, Datagram, Data, Forward, Sack, World}
 use Rattle.sctp_model.specs.Messages.{message_at, slot_at, message_of}

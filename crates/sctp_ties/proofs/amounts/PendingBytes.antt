@@ -5,8 +5,8 @@ use Rattle.std.proofs.lemmas.List.Sums.{sum_by-append, sum_by-cons}
 use Rattle.sctp_lists.specs.Kept.{kept, always, gathered, numbers_from, total_over}
 use Rattle.sctp_lists.proofs.Totals.{total-where, total-plus}
 use Rattle.sctp_chunks.specs.declared.chunk.chunk_payload_data.ChunkPayloadData.{ChunkPayloadData}
-use Rattle.sctp_queues.specs.DataChunks.{bytes_of}
-use Rattle.sctp_queues.specs.pending_queue.PendingQueue.{Pending, total_bytes}
+use Rattle.sctp_serial.specs.DataChunks.{bytes_of}
+use Rattle.sctp_outbound.specs.pending_queue.PendingQueue.{Pending, total_bytes}
 use Rattle.sctp_model.specs.World.{World}
 use Rattle.sctp_model.specs.Messages.{message_at, messages_where, fragment_at, sent_of, fragment_count}
 use Rattle.sctp_model.specs.Amounts.{is_given_up, in_all, pending_bytes, unsent_bytes}

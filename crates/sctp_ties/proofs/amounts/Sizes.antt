@@ -16,10 +16,10 @@ use Rattle.sctp_lists.proofs.Totals.{total-append, total-at, total-where, total-
 use Rattle.sctp_lists.proofs.Wraps.{same16-index}
 use Rattle.sctp_chunks.specs.declared.chunk.chunk_payload_data.ChunkPayloadData.{ChunkPayloadData}
 use Rattle.sctp_chunks.specs.ChunkSet.{ChunkSet}
-use Rattle.sctp_queues.specs.reassembly_queue.Fragments.{next_tsn, has_ssn, chunks_of_ssn}
-use Rattle.sctp_queues.specs.DataChunks.{bytes_of, has_tsn}
-use Rattle.sctp_queues.specs.reassembly_queue.Sizes.{previous_tsn, bytes_down, bytes_up, back_from, on_from, size_before, size_after, projected_size}
-use Rattle.sctp_queues.specs.reassembly_queue.ReassemblyQueue.{ReassemblyState, is_too_large}
+use Rattle.sctp_reassembly.specs.reassembly_queue.Fragments.{next_tsn, has_ssn, chunks_of_ssn}
+use Rattle.sctp_serial.specs.DataChunks.{bytes_of, has_tsn}
+use Rattle.sctp_reassembly.specs.reassembly_queue.Sizes.{previous_tsn, bytes_down, bytes_up, back_from, on_from, size_before, size_after, projected_size}
+use Rattle.sctp_reassembly.specs.reassembly_queue.ReassemblyQueue.{ReassemblyState, is_too_large}
 use Rattle.sctp_model.specs.World.{Setup, World, Data}
 use Rattle.sctp_model.specs.Messages.{message_at, slot_at, message_of, is_ordered_on, index_of, ssn_of, tsn_of, fragment_at, fragment_count, has_fragment, sent_of}
 use Rattle.sctp_model.specs.Receiver.{arrived_at, is_new, is_held}

@@ -7,8 +7,8 @@ use Rattle.std.proofs.lemmas.Grind.{common_steps}
 use Rattle.sctp_lists.specs.Kept.{kept}
 use Rattle.sctp_lists.specs.Lists.{changed, inserted}
 use Rattle.sctp_chunks.specs.ChunkSet.{ChunkSet}
-use Rattle.sctp_queues.specs.reassembly_queue.Fragments.{is_complete}
-use Rattle.sctp_queues.specs.DataChunks.{chunk_before}
+use Rattle.sctp_reassembly.specs.reassembly_queue.Fragments.{is_complete}
+use Rattle.sctp_serial.specs.DataChunks.{chunk_before}
 use Rattle.sctp_model.specs.Contents.{chunk_at}
 use Rattle.sctp_ties.specs.Holds.{has_come, chunks_come}
 use Rattle.sctp_model.specs.Queues.{set_of}

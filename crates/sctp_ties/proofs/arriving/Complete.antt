@@ -6,7 +6,7 @@ use Rattle.sctp_lists.specs.Kept.{kept}
 use Rattle.sctp_lists.proofs.KeptLemmas.{length-kept-le, front-kept, FrontOf}
 use Rattle.sctp_lists.proofs.Round.{tsn}
 use Rattle.sctp_chunks.specs.declared.chunk.chunk_payload_data.ChunkPayloadData.{ChunkPayloadData}
-use Rattle.sctp_queues.specs.reassembly_queue.Fragments.{completes, is_complete}
+use Rattle.sctp_reassembly.specs.reassembly_queue.Fragments.{completes, is_complete}
 use Rattle.sctp_lists.proofs.More.{fails, same_test}
 
 -- the chunks of a message that lies at count places from base on

@@ -13,12 +13,12 @@ use Rattle.sctp_lists.proofs.KeptLemmas.{any-kept, kept-same}
 use Rattle.sctp_lists.proofs.More.{fails, not_both, kept-short, those-kept}
 use Rattle.sctp_lists.proofs.Round.{tsn, tsn_differ, tsn_same}
 use Rattle.sctp_chunks.specs.declared.chunk.chunk_payload_data.ChunkPayloadData.{ChunkPayloadData}
-use Rattle.sctp_queues.specs.DataChunks
-use Rattle.sctp_queues.specs.Window
-use Rattle.sctp_queues.specs.Window.{IsWithinHalf, IsWindow, is_held}
-use Rattle.sctp_queues.specs.payload_queue.PayloadQueue.{front_with, without_front, past}
-use Rattle.sctp_queues.specs.DataChunks.{chunk_before}
-use Rattle.sctp_queues.specs.payload_queue.Blocks.{is_offset, gap_offsets}
+use Rattle.sctp_serial.specs.DataChunks
+use Rattle.sctp_serial.specs.Window
+use Rattle.sctp_serial.specs.Window.{IsWithinHalf, IsWindow, is_held}
+use Rattle.sctp_outbound.specs.payload_queue.PayloadQueue.{front_with, without_front, past}
+use Rattle.sctp_serial.specs.DataChunks.{chunk_before}
+use Rattle.sctp_outbound.specs.payload_queue.Blocks.{is_offset, gap_offsets}
 use Rattle.sctp_model.specs.World.{World}
 use Rattle.sctp_model.specs.Messages.{tsn_of}
 use Rattle.sctp_model.specs.Receiver.{arrived_at, cumulative, is_new}

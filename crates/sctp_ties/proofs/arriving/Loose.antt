@@ -11,7 +11,7 @@ use Rattle.sctp_model.specs.World.{World}
 use Rattle.sctp_model.specs.Messages.{slot_at, message_of, fragment_count, has_fragment, is_unordered_on}
 use Rattle.sctp_model.specs.Receiver.{arrived_at, is_whole}
 use Rattle.sctp_chunks.specs.declared.chunk.chunk_payload_data.ChunkPayloadData.{ChunkPayloadData}
-use Rattle.sctp_queues.specs.reassembly_queue.Runs.{IsRun}
+use Rattle.sctp_serial.specs.Runs.{IsRun}
 use Rattle.sctp_model.specs.Contents.{chunk_at}
 use Rattle.sctp_model.specs.Queues.{is_loose}
 use Rattle.sctp_model.specs.Sound.{Sound, SoundLoose}

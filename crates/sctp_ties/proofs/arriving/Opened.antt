@@ -5,7 +5,7 @@ use Rattle.sctp_lists.specs.Kept.{leading}
 use Rattle.sctp_lists.proofs.KeptLemmas.{kept-none}
 use Rattle.sctp_lists.proofs.More.{fails, not_both}
 use Rattle.sctp_chunks.specs.declared.chunk.chunk_payload_data.ReliabilityType.{ReliabilityType}
-use Rattle.sctp_queues.specs.reassembly_queue.ReassemblyQueue.{Reassembly}
+use Rattle.sctp_reassembly.specs.reassembly_queue.ReassemblyQueue.{Reassembly}
 use Rattle.sctp_model.specs.World.{Setup, StreamRecord, World}
 use Rattle.sctp_model.specs.Messages.{message_at, message_of, stream_at, stream_of, is_open, no_stream, ordered_on, is_ordered_on}
 use Rattle.sctp_model.specs.Receiver.{is_held, next_of}

@@ -8,9 +8,9 @@ use Rattle.std.proofs.lemmas.Grind.{common_steps}
 use Rattle.sctp_lists.specs.Kept.{kept}
 use Rattle.sctp_lists.specs.Lists.{inserted}
 use Rattle.sctp_chunks.specs.ChunkSet.{ChunkSet}
-use Rattle.sctp_queues.specs.reassembly_queue.Fragments.{set_before, has_ssn, with_chunk, new_set, sets_with}
-use Rattle.sctp_queues.specs.DataChunks.{chunk_before, has_tsn}
-use Rattle.sctp_queues.specs.reassembly_queue.ReassemblyQueue.{pushed_ordered}
+use Rattle.sctp_reassembly.specs.reassembly_queue.Fragments.{set_before, has_ssn, with_chunk, new_set, sets_with}
+use Rattle.sctp_serial.specs.DataChunks.{chunk_before, has_tsn}
+use Rattle.sctp_reassembly.specs.reassembly_queue.ReassemblyQueue.{pushed_ordered}
 use Rattle.sctp_model.specs.Contents.{chunk_at}
 use Rattle.sctp_ties.specs.Holds.{has_come, chunks_come, ordered_sets, reassembly_of}
 use Rattle.sctp_model.specs.Queues.{set_of}

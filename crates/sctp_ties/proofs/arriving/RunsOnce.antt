@@ -6,8 +6,8 @@ use Rattle.sctp_lists.proofs.More.{not_both}
 use Rattle.sctp_chunks.specs.declared.chunk.chunk_payload_data.ChunkPayloadData.{ChunkPayloadData}
 use Rattle.sctp_chunks.specs.declared.chunk.chunk_payload_data.PayloadProtocolIdentifier.TheVariants.{Unknown}
 use Rattle.sctp_chunks.specs.ChunkSet.{fresh}
-use Rattle.sctp_queues.specs.reassembly_queue.Runs.{IsRun, IsEarliestRun}
-use Rattle.sctp_queues.specs.reassembly_queue.ReassemblyQueue.{Reassembly, set_of_run, BecomesWhole}
+use Rattle.sctp_serial.specs.Runs.{IsRun, IsEarliestRun}
+use Rattle.sctp_reassembly.specs.reassembly_queue.ReassemblyQueue.{Reassembly, set_of_run, BecomesWhole}
 
 some_chunk : ChunkPayloadData
 some_chunk = fresh (record { unordered = false; beginning_fragment = false; ending_fragment = false; immediate_sack = false; tsn = 0; stream_identifier = 0; stream_sequence_number = 0; payload_type = Unknown; user_data = [] })

@@ -9,8 +9,8 @@ use Rattle.sctp_lists.proofs.KeptLemmas.{front-kept, FrontOf}
 use Rattle.sctp_lists.proofs.More.{fails, not_both, and}
 use Rattle.sctp_chunks.specs.declared.chunk.chunk_payload_data.ChunkPayloadData.{ChunkPayloadData}
 use Rattle.sctp_chunks.specs.ChunkSet.{ChunkSet}
-use Rattle.sctp_queues.specs.DataChunks.{chunk_before}
-use Rattle.sctp_queues.specs.reassembly_queue.ReassemblyQueue.{pushed_ordered, set_of_run, BecomesWhole}
+use Rattle.sctp_serial.specs.DataChunks.{chunk_before}
+use Rattle.sctp_reassembly.specs.reassembly_queue.ReassemblyQueue.{pushed_ordered, set_of_run, BecomesWhole}
 use Rattle.sctp_model.specs.World.{World, StreamRecord}
 use Rattle.sctp_model.specs.Messages.{message_at, slot_at, message_of, stream_at, is_ordered_on, is_unordered_on, index_of, has_fragment, slots_of, tsn_of}
 use Rattle.sctp_model.specs.Receiver.{arrived_at, cumulative, is_new}

@@ -7,8 +7,8 @@ use Rattle.std.proofs.lemmas.Bool.Decides.{nat_tests}
 use Rattle.sctp_lists.specs.Kept.{kept}
 use Rattle.sctp_lists.specs.Lists.{inserted}
 use Rattle.sctp_chunks.specs.declared.chunk.chunk_payload_data.ChunkPayloadData.{ChunkPayloadData}
-use Rattle.sctp_queues.specs.reassembly_queue.Runs.{IsRun, IsEarliestRun, HasNoRun}
-use Rattle.sctp_queues.specs.DataChunks.{chunk_before}
+use Rattle.sctp_serial.specs.Runs.{IsRun, IsEarliestRun, HasNoRun}
+use Rattle.sctp_serial.specs.DataChunks.{chunk_before}
 use Rattle.sctp_model.specs.Contents.{chunk_at}
 use Rattle.sctp_ties.specs.Holds.{has_come, loose_chunks}
 use Rattle.sctp_model.specs.Queues.{is_loose}

@@ -8,8 +8,8 @@ use Rattle.sctp_lists.specs.Kept.{kept}
 use Rattle.sctp_lists.specs.Lists.{inserted}
 use Rattle.sctp_chunks.specs.declared.chunk.chunk_payload_data.ChunkPayloadData.{ChunkPayloadData}
 use Rattle.sctp_chunks.specs.ChunkSet.{ChunkSet}
-use Rattle.sctp_queues.specs.reassembly_queue.Runs.{IsEarliestRun, HasNoRun}
-use Rattle.sctp_queues.specs.DataChunks.{chunk_before}
+use Rattle.sctp_serial.specs.Runs.{IsEarliestRun, HasNoRun}
+use Rattle.sctp_serial.specs.DataChunks.{chunk_before}
 use Rattle.sctp_model.specs.Contents.{chunk_at}
 use Rattle.sctp_model.specs.Queues.{set_of, whole_set_of, is_loose}
 use Rattle.sctp_ties.specs.Holds.{ordered_sets, whole_sets, loose_chunks}

@@ -13,13 +13,13 @@ use Rattle.sctp_lists.proofs.Cases.{by_last, by_same, same-yes}
 use Rattle.sctp_chunks.specs.declared.chunk.chunk_payload_data.ChunkPayloadData.{ChunkPayloadData}
 use Rattle.sctp_chunks.specs.PayloadData.{data_of}
 use Rattle.sctp_chunks.specs.ChunkSet.{fresh}
-use Rattle.sctp_queues.specs.declared.pending_queue.Selected.{Selected}
-use Rattle.sctp_queues.specs.Marks.{is_of, given_up}
-use Rattle.sctp_queues.specs.payload_queue.PayloadQueue as payload
-use Rattle.sctp_queues.specs.pending_queue.PendingQueue.{Pending, selected_without, without, without_message, last_removed}
-use Rattle.sctp_queues.specs.pending_queue.Whole.{waits}
-use Rattle.sctp_queues.specs.outbound_queue.OutboundQueue as queue
-use Rattle.sctp_queues.specs.outbound_queue.OutboundQueue.{Outbound, end_mark, with_end_mark, tsn_after, following_tsn}
+use Rattle.sctp_outbound.specs.declared.pending_queue.Selected.{Selected}
+use Rattle.sctp_outbound.specs.Marks.{is_of, given_up}
+use Rattle.sctp_outbound.specs.payload_queue.PayloadQueue as payload
+use Rattle.sctp_outbound.specs.pending_queue.PendingQueue.{Pending, selected_without, without, without_message, last_removed}
+use Rattle.sctp_outbound.specs.pending_queue.Whole.{waits}
+use Rattle.sctp_outbound.specs.outbound_queue.OutboundQueue as queue
+use Rattle.sctp_outbound.specs.outbound_queue.OutboundQueue.{Outbound, end_mark, with_end_mark, tsn_after, following_tsn}
 use Rattle.sctp_model.specs.World.{World, Setup, Message, Slot}
 use Rattle.sctp_model.specs.Messages.{message_at, slot_at, message_of, messages_where, no_message, no_slot, is_ordered_on, ordered_before, ssn_of, fragment_count, has_fragment, sent_of, is_half_sent, tsn_of}
 use Rattle.sctp_model.specs.Amounts.{is_given_up}

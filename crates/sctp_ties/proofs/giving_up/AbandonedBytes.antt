@@ -1,8 +1,8 @@
 -- The bytes that leave, by what the queue holds before and after.
 use Rattle.std.proofs.Common.{◌≡◌, ℕ, ◌+◌, ◌-◌, ◌<◌, ◌^◌, length, Some, None, refl, ap, sym, ◌∙◌, arith}
 use Rattle.std.specs.Prelude.{if◌then◌else◌, ◌==◌, find}
-use Rattle.sctp_queues.specs.DataChunks.{has_tsn}
-use Rattle.sctp_queues.specs.outbound_queue.OutboundQueue.{Outbound, total_bytes, to_abandon, abandoned_of, message_of, expiring_tail, late_tsns}
+use Rattle.sctp_serial.specs.DataChunks.{has_tsn}
+use Rattle.sctp_outbound.specs.outbound_queue.OutboundQueue.{Outbound, total_bytes, to_abandon, abandoned_of, message_of, expiring_tail, late_tsns}
 use Rattle.sctp_model.specs.declared.event.Event.TheVariants as E
 use Rattle.sctp_model.specs.World.{World, Setup}
 use Rattle.sctp_model.specs.Messages

@@ -13,12 +13,12 @@ use Rattle.sctp_lists.proofs.Getting.{get-snoc_old}
 use Rattle.sctp_chunks.specs.declared.chunk.chunk_payload_data.ChunkPayloadData.{ChunkPayloadData}
 use Rattle.sctp_chunks.specs.declared.chunk.chunk_payload_data.PayloadProtocolIdentifier.{PayloadProtocolIdentifier}
 use Rattle.sctp_chunks.specs.declared.chunk.chunk_payload_data.PayloadProtocolIdentifier.TheVariants as P
-use Rattle.sctp_queues.specs.DataChunks.{has_tsn}
-use Rattle.sctp_queues.specs.pending_queue.PendingQueue as pending
-use Rattle.sctp_queues.specs.pending_queue.PendingQueue.{Pending, peeked}
-use Rattle.sctp_queues.specs.pending_queue.Whole.{waits}
-use Rattle.sctp_queues.specs.outbound_queue.OutboundQueue as queue
-use Rattle.sctp_queues.specs.outbound_queue.OutboundQueue.{Outbound, to_abandon, abandoned_of, tsn_after_of, has_tail, is_past, expiring_tail, is_expired_tail, late_tsns}
+use Rattle.sctp_serial.specs.DataChunks.{has_tsn}
+use Rattle.sctp_outbound.specs.pending_queue.PendingQueue as pending
+use Rattle.sctp_outbound.specs.pending_queue.PendingQueue.{Pending, peeked}
+use Rattle.sctp_outbound.specs.pending_queue.Whole.{waits}
+use Rattle.sctp_outbound.specs.outbound_queue.OutboundQueue as queue
+use Rattle.sctp_outbound.specs.outbound_queue.OutboundQueue.{Outbound, to_abandon, abandoned_of, tsn_after_of, has_tail, is_past, expiring_tail, is_expired_tail, late_tsns}
 use Rattle.sctp_model.specs.declared.event.Event.TheVariants as E
 use Rattle.sctp_model.specs.declared.event.LinkRefusal.TheVariants.{NotInFlight}
 use Rattle.sctp_model.specs.World.{World, Setup, Slot}

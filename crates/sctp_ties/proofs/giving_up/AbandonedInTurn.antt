@@ -11,7 +11,7 @@ use Rattle.sctp_lists.specs.Kept.{passing}
 use Rattle.sctp_lists.proofs.Cases.{same-yes}
 use Rattle.sctp_lists.proofs.Getting.{length-mapped}
 use Rattle.sctp_lists.proofs.More.{both, and}
-use Rattle.sctp_queues.specs.outbound_queue.OutboundQueue.{Outbound, late_tsns}
+use Rattle.sctp_outbound.specs.outbound_queue.OutboundQueue.{Outbound, late_tsns}
 use Rattle.sctp_model.specs.declared.event.Event.TheVariants as E
 use Rattle.sctp_model.specs.declared.event.LinkRefusal.TheVariants.{NotInFlight}
 use Rattle.sctp_model.specs.World.{World}

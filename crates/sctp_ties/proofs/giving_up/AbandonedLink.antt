@@ -6,9 +6,9 @@ use Rattle.sctp_lists.specs.Kept.{always, numbers_from, total_over}
 use Rattle.sctp_lists.specs.Lists.{changed}
 use Rattle.sctp_lists.proofs.More.{length-changed}
 use Rattle.sctp_lists.proofs.Totals.{total-kept_same}
-use Rattle.sctp_queues.specs.DataChunks.{has_tsn}
-use Rattle.sctp_queues.specs.outbound_queue.OutboundQueue as queue
-use Rattle.sctp_queues.specs.outbound_queue.OutboundQueue.{Outbound, to_abandon, tsn_after_of, has_tail, late_tsns, following_tsn}
+use Rattle.sctp_serial.specs.DataChunks.{has_tsn}
+use Rattle.sctp_outbound.specs.outbound_queue.OutboundQueue as queue
+use Rattle.sctp_outbound.specs.outbound_queue.OutboundQueue.{Outbound, to_abandon, tsn_after_of, has_tail, late_tsns, following_tsn}
 use Rattle.sctp_model.specs.World.{World, Setup, Slot}
 use Rattle.sctp_model.specs.Messages.{message_at, message_of, ordered_before, fragment_count, sent_of, is_half_sent, tsn_of, place_of}
 use Rattle.sctp_model.specs.Changes.{abandoned, with_slot, message_changed, mark_abandoned}

@@ -11,9 +11,9 @@ use Rattle.sctp_lists.proofs.KeptLemmas.{kept-none}
 use Rattle.sctp_lists.proofs.More.{both, not_both, fails}
 use Rattle.sctp_lists.proofs.Cases.{by_same, same-yes, same-is}
 use Rattle.sctp_chunks.specs.declared.chunk.chunk_payload_data.ChunkPayloadData.{ChunkPayloadData}
-use Rattle.sctp_queues.specs.Marks.{is_of}
-use Rattle.sctp_queues.specs.pending_queue.PendingQueue.{Pending, last_of, last_removed}
-use Rattle.sctp_queues.specs.pending_queue.Whole.{waits}
+use Rattle.sctp_outbound.specs.Marks.{is_of}
+use Rattle.sctp_outbound.specs.pending_queue.PendingQueue.{Pending, last_of, last_removed}
+use Rattle.sctp_outbound.specs.pending_queue.Whole.{waits}
 use Rattle.sctp_model.specs.World.{World}
 use Rattle.sctp_model.specs.Messages.{message_at, fragment_count, sent_of}
 use Rattle.sctp_model.specs.Amounts.{is_given_up}

@@ -13,11 +13,11 @@ use Rattle.sctp_lists.proofs.Cases.{by_same, negated, same-yes, same-is}
 use Rattle.sctp_chunks.specs.declared.chunk.chunk_payload_data.ChunkPayloadData.{ChunkPayloadData}
 use Rattle.sctp_chunks.specs.declared.chunk.chunk_payload_data.PayloadProtocolIdentifier.{PayloadProtocolIdentifier}
 use Rattle.sctp_chunks.specs.declared.chunk.chunk_payload_data.PayloadProtocolIdentifier.TheVariants.{Dcep, String, Binary, StringEmpty, BinaryEmpty, Unknown}
-use Rattle.sctp_queues.specs.Marks.{is_of}
-use Rattle.sctp_queues.specs.pending_queue.PendingQueue as pending
-use Rattle.sctp_queues.specs.pending_queue.PendingQueue.{Pending, without, without_message, selected_without, closed_up, is_on, one_lower, peeked}
-use Rattle.sctp_queues.specs.outbound_queue.OutboundQueue as outbound
-use Rattle.sctp_queues.specs.outbound_queue.OutboundQueue.{Outbound, expired_of, is_expired, is_past, passing}
+use Rattle.sctp_outbound.specs.Marks.{is_of}
+use Rattle.sctp_outbound.specs.pending_queue.PendingQueue as pending
+use Rattle.sctp_outbound.specs.pending_queue.PendingQueue.{Pending, without, without_message, selected_without, closed_up, is_on, one_lower, peeked}
+use Rattle.sctp_outbound.specs.outbound_queue.OutboundQueue as outbound
+use Rattle.sctp_outbound.specs.outbound_queue.OutboundQueue.{Outbound, expired_of, is_expired, is_past, passing}
 use Rattle.sctp_model.specs.declared.event.Event.TheVariants as E
 use Rattle.sctp_model.specs.World.{World, Message, Setup}
 use Rattle.sctp_model.specs.Messages.{message_at, slot_at, message_of, messages_where, front, is_ordered_on, ordered_before, index_of, ssn_of, fragment_count, fragment_at, has_fragment, sent_of, is_half_sent, is_unsent, is_lapsed, is_reached, deadline_of, no_message}

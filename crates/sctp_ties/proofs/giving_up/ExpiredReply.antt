@@ -5,9 +5,9 @@ use Rattle.std.specs.Option.{option_map}
 use Rattle.std.proofs.Math.Path.{subst}
 use Rattle.sctp_lists.proofs.More.{both}
 use Rattle.sctp_lists.proofs.Cases.{same-is}
-use Rattle.sctp_queues.specs.pending_queue.PendingQueue.{peeked}
-use Rattle.sctp_queues.specs.outbound_queue.OutboundQueue as outbound
-use Rattle.sctp_queues.specs.outbound_queue.OutboundQueue.{Outbound, expired_of, expired_bytes, total_bytes}
+use Rattle.sctp_outbound.specs.pending_queue.PendingQueue.{peeked}
+use Rattle.sctp_outbound.specs.outbound_queue.OutboundQueue as outbound
+use Rattle.sctp_outbound.specs.outbound_queue.OutboundQueue.{Outbound, expired_of, expired_bytes, total_bytes}
 use Rattle.sctp_model.specs.declared.event.Event.TheVariants as E
 use Rattle.sctp_model.specs.Reply.{Reply}
 use Rattle.sctp_model.specs.Reply as R

@@ -4,7 +4,7 @@ use Rattle.std.specs.Prelude.{if◌then◌else◌, ◌==◌, ◌&&◌, fold}
 use Rattle.sctp_lists.specs.Kept.{always}
 use Rattle.sctp_lists.proofs.More.{both}
 use Rattle.sctp_lists.proofs.Totals.{total-plus}
-use Rattle.sctp_queues.specs.outbound_queue.OutboundQueue.{Outbound, total_bytes}
+use Rattle.sctp_outbound.specs.outbound_queue.OutboundQueue.{Outbound, total_bytes}
 use Rattle.sctp_model.specs.declared.event.Event.{Event}
 use Rattle.sctp_model.specs.declared.event.Event.TheVariants as E
 use Rattle.sctp_model.specs.declared.event.LinkRefusal.TheVariants.{NotInFlight}

@@ -6,7 +6,7 @@ use Rattle.std.proofs.lemmas.Bool.Decides.{nat_tests}
 use Rattle.sctp_lists.specs.Kept.{kept, passing, first_of, or_else}
 use Rattle.sctp_lists.proofs.KeptLemmas.{map-kept-same}
 use Rattle.sctp_lists.proofs.More.{fails}
-use Rattle.sctp_queues.specs.reassembly_queue.ReassemblyQueue.{Reassembly, after_read, without_first, message_among, message_read, rest_among, rest_read}
+use Rattle.sctp_reassembly.specs.reassembly_queue.ReassemblyQueue.{Reassembly, after_read, without_first, message_among, message_read, rest_among, rest_read}
 use Rattle.sctp_model.specs.World.{World, StreamRecord}
 use Rattle.sctp_model.specs.Messages.{message_at, message_of, stream_at, stream_of, is_unordered_on}
 use Rattle.sctp_model.specs.Receiver.{arrived_at, is_whole, is_unread, run_of, next_read}

@@ -9,8 +9,8 @@ use Rattle.sctp_lists.proofs.KeptLemmas.{kept-none, kept-skip, front-kept, Front
 use Rattle.sctp_model.specs.World.{World}
 use Rattle.sctp_model.specs.Messages.{message_at, stream_of, is_ordered_on, index_of, ssn_of, fragment_count}
 use Rattle.sctp_model.specs.Receiver.{arrived_of, has_arrived, is_whole, is_unread, is_held, held_on, next_of}
-use Rattle.sctp_queues.specs.reassembly_queue.Fragments.{is_complete}
-use Rattle.sctp_queues.specs.reassembly_queue.ReassemblyQueue.{is_readable, front_readable}
+use Rattle.sctp_reassembly.specs.reassembly_queue.Fragments.{is_complete}
+use Rattle.sctp_reassembly.specs.reassembly_queue.ReassemblyQueue.{is_readable, front_readable}
 use Rattle.sctp_lists.specs.Serial.{at_or_before16}
 use Rattle.sctp_model.specs.Queues.{set_of}
 use Rattle.sctp_ties.specs.Holds.{ordered_sets, chunks_come}

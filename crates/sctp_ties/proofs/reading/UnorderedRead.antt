@@ -10,7 +10,7 @@ use Rattle.sctp_model.specs.Messages.{message_at, message_of, stream_at, stream_
 use Rattle.sctp_model.specs.Receiver.{arrived_at, has_arrived, is_whole, is_held, next_of}
 use Rattle.sctp_model.specs.Changes.{read_of}
 use Rattle.sctp_model.specs.Changes
-use Rattle.sctp_queues.specs.reassembly_queue.ReassemblyQueue.{Reassembly, without_first}
+use Rattle.sctp_reassembly.specs.reassembly_queue.ReassemblyQueue.{Reassembly, without_first}
 use Rattle.sctp_model.specs.Contents.{chunk_at}
 use Rattle.sctp_ties.specs.Holds.{ordered_sets, loose_chunks, reassembly_of}
 use Rattle.sctp_model.specs.Queues.{set_of, whole_set_of, is_loose}

@@ -3,8 +3,8 @@ use Rattle.std.proofs.Common.{◌≡◌, ℕ, ◌≤◌, Bool, true, false, leng
 use Rattle.std.specs.Prelude.{◌==◌}
 use Rattle.std.proofs.Math.Path.{subst}
 use Rattle.std.proofs.lemmas.Bool.Decides.{nat_tests}
-use Rattle.sctp_queues.specs.pending_queue.PendingQueue.{peeked}
-use Rattle.sctp_queues.specs.outbound_queue.OutboundQueue.{Outbound, all_started, sent_peeked}
+use Rattle.sctp_outbound.specs.pending_queue.PendingQueue.{peeked}
+use Rattle.sctp_outbound.specs.outbound_queue.OutboundQueue.{Outbound, all_started, sent_peeked}
 use Rattle.sctp_model.specs.World.{Setup, World}
 use Rattle.sctp_model.specs.Messages.{front, sent_of, tsn_of}
 use Rattle.sctp_model.specs.Changes.{started, fragment_sent, fragment_of_sent}

@@ -9,10 +9,10 @@ use Rattle.sctp_lists.proofs.More.{not_both, same_test}
 use Rattle.sctp_lists.proofs.Round.{tsn}
 use Rattle.sctp_chunks.specs.declared.chunk.chunk_payload_data.ChunkPayloadData.{ChunkPayloadData}
 use Rattle.sctp_chunks.specs.PayloadData.{data_of}
-use Rattle.sctp_queues.specs.Marks.{with_retransmit, with_nsent, with_since, with_miss_indicator}
-use Rattle.sctp_queues.specs.Window.{is_held, SpansOneWindow}
-use Rattle.sctp_queues.specs.DataChunks.{has_tsn}
-use Rattle.sctp_queues.specs.outbound_queue.OutboundQueue.{Outbound, with_inflight}
+use Rattle.sctp_outbound.specs.Marks.{with_retransmit, with_nsent, with_since, with_miss_indicator}
+use Rattle.sctp_serial.specs.Window.{is_held, SpansOneWindow}
+use Rattle.sctp_serial.specs.DataChunks.{has_tsn}
+use Rattle.sctp_outbound.specs.outbound_queue.OutboundQueue.{Outbound, with_inflight}
 use Rattle.sctp_model.specs.World.{World}
 use Rattle.sctp_model.specs.Messages.{tsn_of}
 use Rattle.sctp_model.specs.Contents.{chunk_at}

@@ -2,8 +2,8 @@
 use Rattle.std.proofs.Common.{◌≡◌, ℕ, ◌-◌, List, [], ◌∷◌, ◌++◌, length, map, Option, Some, None, refl, ap, sym, ◌∙◌}
 use Rattle.std.proofs.lemmas.List.{map-append}
 use Rattle.sctp_lists.specs.Kept.{gathered, numbers_from, first_of}
-use Rattle.sctp_queues.specs.pending_queue.PendingQueue.{Pending}
-use Rattle.sctp_queues.specs.outbound_queue.OutboundQueue.{Outbound}
+use Rattle.sctp_outbound.specs.pending_queue.PendingQueue.{Pending}
+use Rattle.sctp_outbound.specs.outbound_queue.OutboundQueue.{Outbound}
 use Rattle.sctp_model.specs.World.{World}
 use Rattle.sctp_model.specs.Messages.{messages_where, is_half_sent, sent_of, fragment_count}
 use Rattle.sctp_model.specs.Queues.{PendingRecord, pending_fragments, pending_of, in_flight_of, kind_of}

@@ -14,8 +14,8 @@ use Rattle.sctp_chunks.specs.declared.chunk.chunk_payload_data.ReliabilityType.{
 use Rattle.sctp_chunks.specs.declared.chunk.chunk_payload_data.ReliabilityType.TheVariants.{Reliable, Rexmit, Timed}
 use Rattle.sctp_chunks.specs.PayloadData.{Data}
 use Rattle.sctp_chunks.specs.ChunkSet.{fresh}
-use Rattle.sctp_queues.specs.pending_queue.PendingQueue as pending
-use Rattle.sctp_queues.specs.outbound_queue.OutboundQueue.{Outbound, all_started}
+use Rattle.sctp_outbound.specs.pending_queue.PendingQueue as pending
+use Rattle.sctp_outbound.specs.outbound_queue.OutboundQueue.{Outbound, all_started}
 use Rattle.sctp_model.specs.World.{World, Message}
 use Rattle.sctp_model.specs.Messages.{message_at, slot_at, message_of, messages_where, is_ordered_on, ordered_before, index_of, ssn_of, fragment_count, sent_of, is_half_sent, no_message, deadline_of, deadline_from}
 use Rattle.sctp_model.specs.Messages

@@ -10,8 +10,8 @@ use Rattle.sctp_lists.proofs.More.{fails, not_both, both}
 use Rattle.sctp_lists.proofs.Cases.{by_same, negated, same-yes, same-is}
 use Rattle.sctp_lists.proofs.Tests.{FirstOf, first-kept}
 use Rattle.sctp_chunks.specs.declared.chunk.chunk_payload_data.ChunkPayloadData.{ChunkPayloadData}
-use Rattle.sctp_queues.specs.declared.pending_queue.Selected.{Selected}
-use Rattle.sctp_queues.specs.pending_queue.PendingQueue.{Pending, list_of, front_of, peeked, peeked_of, list_to_pop, rest_after, rest_from, rest_of, selected_after}
+use Rattle.sctp_outbound.specs.declared.pending_queue.Selected.{Selected}
+use Rattle.sctp_outbound.specs.pending_queue.PendingQueue.{Pending, list_of, front_of, peeked, peeked_of, list_to_pop, rest_after, rest_from, rest_of, selected_after}
 use Rattle.sctp_model.specs.World.{World}
 use Rattle.sctp_model.specs.Messages.{message_at, messages_where, front, fragment_count, sent_of, is_half_sent, is_unsent}
 use Rattle.sctp_model.specs.Changes.{with_slot}

@@ -12,8 +12,8 @@ use Rattle.sctp_lists.proofs.Getting.{get-snoc_old, get-snoc_new}
 use Rattle.sctp_lists.proofs.Round.{comes_before-tsn}
 use Rattle.sctp_lists.proofs.Cases.{by_last}
 use Rattle.sctp_chunks.specs.declared.chunk.chunk_payload_data.ChunkPayloadData.{ChunkPayloadData}
-use Rattle.sctp_queues.specs.DataChunks.{chunk_before}
-use Rattle.sctp_queues.specs.outbound_queue.OutboundQueue.{Outbound, numbered, sent_of, sent_peeked}
+use Rattle.sctp_serial.specs.DataChunks.{chunk_before}
+use Rattle.sctp_outbound.specs.outbound_queue.OutboundQueue.{Outbound, numbered, sent_of, sent_peeked}
 use Rattle.sctp_model.specs.World.{World, Slot}
 use Rattle.sctp_model.specs.Messages.{message_at, slot_at, message_of, no_slot, tsn_of, front}
 use Rattle.sctp_model.specs.Messages

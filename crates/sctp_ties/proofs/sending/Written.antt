@@ -11,8 +11,8 @@ use Rattle.sctp_lists.proofs.Cases.{by_last}
 use Rattle.sctp_chunks.specs.declared.chunk.chunk_payload_data.ChunkPayloadData.{ChunkPayloadData}
 use Rattle.sctp_chunks.specs.declared.chunk.chunk_payload_data.PayloadProtocolIdentifier.{PayloadProtocolIdentifier}
 use Rattle.sctp_chunks.specs.ChunkSet.{fresh}
-use Rattle.sctp_queues.specs.pending_queue.PendingQueue.{Pending}
-use Rattle.sctp_queues.specs.outbound_queue.OutboundQueue.{Outbound, with_message_id, appended, with_message}
+use Rattle.sctp_outbound.specs.pending_queue.PendingQueue.{Pending}
+use Rattle.sctp_outbound.specs.outbound_queue.OutboundQueue.{Outbound, with_message_id, appended, with_message}
 use Rattle.sctp_model.specs.World.{World, Message, StreamRecord}
 use Rattle.sctp_model.specs.Messages.{message_at, slot_at, message_of, messages_where, ordered_before, has_fragment, fragment_count, sent_of, is_half_sent, is_dcep, is_timed}
 use Rattle.sctp_model.specs.Changes.{message_on}

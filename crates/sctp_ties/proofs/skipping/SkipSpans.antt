@@ -16,7 +16,7 @@ use Rattle.sctp_model.specs.Changes.{named_by, skip_counts, skip_received}
 use Rattle.sctp_model.specs.Steps.{arrival_fits}
 use Rattle.sctp_model.specs.Sound.{IsSpan, Sound}
 use Rattle.sctp_model.proofs.receiver.SoundRun.{span-fits}
-use Rattle.sctp_queues.specs.reassembly_queue.ReassemblyQueue.{Reassembly, forwarded_ordered, forwarded_unordered}
+use Rattle.sctp_reassembly.specs.reassembly_queue.ReassemblyQueue.{Reassembly, forwarded_ordered, forwarded_unordered}
 use Rattle.sctp_ties.specs.Holds.{reassembly_of}
 use Rattle.sctp_ties.specs.Naming.{on_stream, low_named, end_named, lowest_held, highest_held, whole_first, min_with, names_fit}
 use Rattle.sctp_ties.proofs.reading.Line

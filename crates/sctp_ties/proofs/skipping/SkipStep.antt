@@ -13,7 +13,7 @@ use Rattle.sctp_lists.specs.Lists.{after_leading}
 use Rattle.sctp_lists.specs.Serial.{at_or_before}
 use Rattle.sctp_chunks.specs.declared.chunk.chunk_payload_data.ChunkPayloadData.{ChunkPayloadData}
 use Rattle.sctp_chunks.specs.ChunkSet.{ChunkSet}
-use Rattle.sctp_queues.specs.reassembly_queue.ReassemblyQueue.{Reassembly, forwarded_ordered, forwarded_each, forwarded_unordered}
+use Rattle.sctp_reassembly.specs.reassembly_queue.ReassemblyQueue.{Reassembly, forwarded_ordered, forwarded_each, forwarded_unordered}
 use Rattle.sctp_model.specs.Contents.{chunk_at}
 use Rattle.sctp_model.specs.Queues.{set_of, whole_set_of, is_loose}
 use Rattle.sctp_ties.specs.Holds.{ordered_sets, whole_sets, loose_chunks, reassembly_of}

@@ -8,8 +8,8 @@ use Rattle.sctp_model.specs.World.{World}
 use Rattle.sctp_model.specs.Messages.{message_at, stream_of, is_ordered_on, index_of, ssn_of, ordered_on}
 use Rattle.sctp_model.specs.Receiver.{arrived_of, is_whole, is_unread, is_held, next_of, greatest}
 use Rattle.sctp_lists.specs.Serial.{at_or_before16}
-use Rattle.sctp_queues.specs.reassembly_queue.ReassemblyQueue.{Reassembly, is_passed, forwarded_ordered, forwarded_each}
-use Rattle.sctp_queues.specs.reassembly_queue.Fragments.{is_complete}
+use Rattle.sctp_reassembly.specs.reassembly_queue.ReassemblyQueue.{Reassembly, is_passed, forwarded_ordered, forwarded_each}
+use Rattle.sctp_reassembly.specs.reassembly_queue.Fragments.{is_complete}
 use Rattle.sctp_ties.specs.Holds.{chunks_come, whole_sets, loose_chunks}
 use Rattle.sctp_model.specs.Queues.{set_of}
 use Rattle.sctp_model.specs.Sound.{Sound}

@@ -1,6 +1,6 @@
 use Rattle.std.proofs.Common.{◌+◌, ◌-◌, ◌%◌, ◌^◌, ap, sym, ◌∙◌, refl, length, arith}
 use Rattle.std.specs.List.{list_any}
-use Rattle.sctp_queues.specs.DataChunks.{bytes_of}
+use Rattle.sctp_serial.specs.DataChunks.{bytes_of}
 use Rattle.std.specs.Vec.{with_items}
 use Rattle.std.proofs.lemmas.List.{with_items_is}
 use Rattle.sctp_model.specs.declared.event.Event.TheVariants as E

@@ -1,6 +1,6 @@
 use Rattle.std.proofs.Common.{◌≡◌, ◌<◌, ap, not, true, Some, None, refl, rules, arith, length}
 use Rattle.sctp_lists.proofs.Getting.{length-mapped}
-use Rattle.sctp_queues.specs.pending_queue.PendingQueue.{peeked}
+use Rattle.sctp_outbound.specs.pending_queue.PendingQueue.{peeked}
 use Rattle.sctp_link.specs.declared.record.Message.{Message}
 use Rattle.sctp_link.specs.Fields.{state_in}
 use Rattle.sctp_link.specs.Records.{message_record}

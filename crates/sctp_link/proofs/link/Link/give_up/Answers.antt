@@ -2,7 +2,7 @@ use Rattle.std.proofs.Common.{◌≡◌, ◌<◌, ◌+◌, ◌^◌, ◌++◌, Bo
 use Rattle.std.specs.Prelude.{slice_index_or}
 use Rattle.std.specs.Option.{option_map}
 use Rattle.sctp_lists.proofs.Getting.{length-mapped}
-use Rattle.sctp_queues.specs.outbound_queue.OutboundQueue.{total_bytes, released_of}
+use Rattle.sctp_outbound.specs.outbound_queue.OutboundQueue.{total_bytes, released_of}
 use Rattle.sctp_model.specs.Amounts.{growth}
 use Rattle.sctp_model.specs.Messages.{message_at, message_of, place_of, is_half_sent}
 use Rattle.sctp_model.specs.Steps.{refusal_of}

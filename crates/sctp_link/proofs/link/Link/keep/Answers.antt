@@ -1,8 +1,8 @@
 use Rattle.std.proofs.Common.{◌≡◌, ℕ, ap, sym, ◌∙◌, ◌<◌, ◌∷◌, [], true, Some, None, refl, arith, map, length}
 use Rattle.std.specs.Prelude.{find, slice_get, slice_index_or, slice_set}
 use Rattle.sctp_lists.specs.Lists.{advanced, inserted}
-use Rattle.sctp_queues.specs.DataChunks.{chunk_before}
-use Rattle.sctp_queues.specs.payload_queue.PayloadQueue.{Payload}
+use Rattle.sctp_serial.specs.DataChunks.{chunk_before}
+use Rattle.sctp_outbound.specs.payload_queue.PayloadQueue.{Payload}
 use Rattle.sctp_ties.proofs.arriving.FilterQueue.{tsns}
 use Rattle.sctp_link.specs.declared.record.Slot.{Slot}
 use Rattle.sctp_chunks.specs.declared.chunk.chunk_payload_data.ChunkPayloadData.{ChunkPayloadData}

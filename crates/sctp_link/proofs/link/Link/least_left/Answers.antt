@@ -2,7 +2,7 @@ use Rattle.std.proofs.Common.{◌≡◌, ℕ, ap, sym, ◌∙◌, ◌<◌, true,
 use Rattle.std.specs.Prelude.{find, min, slice_index_or, if◌then◌else◌}
 use Rattle.std.specs.VecDeque.{deque_len}
 use Rattle.sctp_lists.proofs.More.{not_both}
-use Rattle.sctp_queues.specs.reassembly_queue.Fragments.{is_complete}
+use Rattle.sctp_reassembly.specs.reassembly_queue.Fragments.{is_complete}
 use Rattle.sctp_model.specs.Messages.{is_open, index_of}
 use Rattle.sctp_model.specs.Receiver.{held_on, is_held}
 use Rattle.sctp_model.specs.Queues.{set_of}

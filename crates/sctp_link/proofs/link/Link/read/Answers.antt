@@ -2,7 +2,7 @@ use Rattle.std.proofs.Common.{◌≡◌, ap, sym, ◌∙◌, ◌<◌, ◌+◌, �
 use Rattle.std.specs.Prelude.{find, slice_index_or, slice_set, if◌then◌else◌, ◌&&◌, ◌==◌}
 use Rattle.std.proofs.lemmas.List.{get_or-set_same}
 use Rattle.sctp_lists.specs.Lists.{changed}
-use Rattle.sctp_queues.specs.reassembly_queue.ReassemblyQueue.{message_read, state_read}
+use Rattle.sctp_reassembly.specs.reassembly_queue.ReassemblyQueue.{message_read, state_read}
 use Rattle.sctp_model.specs.Messages.{message_at}
 use Rattle.sctp_model.specs.Changes.{mark_read}
 use Rattle.sctp_model.specs.Contents.{chunk_at}

@@ -4,9 +4,9 @@ use Rattle.std.specs.Vec.{with_items, vec_len}
 use Rattle.std.proofs.lemmas.List.{with_items_is}
 use Rattle.sctp_lists.proofs.Getting.{length-mapped}
 use Rattle.sctp_chunks.specs.PayloadData.{data_of}
-use Rattle.sctp_queues.specs.pending_queue.PendingQueue.{peeked}
-use Rattle.sctp_queues.specs.outbound_queue.OutboundQueue.{Outbound}
-use Rattle.sctp_queues.specs.Window.{SpansOneWindow, is_held}
+use Rattle.sctp_outbound.specs.pending_queue.PendingQueue.{peeked}
+use Rattle.sctp_outbound.specs.outbound_queue.OutboundQueue.{Outbound}
+use Rattle.sctp_serial.specs.Window.{SpansOneWindow, is_held}
 use Rattle.sctp_model.specs.Changes.{started}
 use Rattle.sctp_link.specs.Records.{message_record}
 use Rattle.sctp_link.specs.OpenStreams.{start_from}

@@ -2,8 +2,8 @@ use Rattle.std.proofs.Common.{◌≡◌, ◌<◌, ◌+◌, ◌++◌, true, ap, s
 use Rattle.std.specs.Prelude.{slice_index_or, is_some}
 use Rattle.std.specs.Option.{option_map}
 use Rattle.sctp_lists.proofs.Getting.{length-mapped}
-use Rattle.sctp_queues.specs.pending_queue.PendingQueue.{peeked}
-use Rattle.sctp_queues.specs.outbound_queue.OutboundQueue.{total_bytes, tail_bytes, expiring_tail}
+use Rattle.sctp_outbound.specs.pending_queue.PendingQueue.{peeked}
+use Rattle.sctp_outbound.specs.outbound_queue.OutboundQueue.{total_bytes, tail_bytes, expiring_tail}
 use Rattle.sctp_model.specs.Amounts.{growth}
 use Rattle.sctp_model.specs.Changes.{tailing}
 use Rattle.sctp_model.specs.Messages.{message_at, is_half_sent}

@@ -1,7 +1,7 @@
 use Rattle.std.proofs.Common.{◌≡◌, ◌<◌, ◌++◌, ◌∷◌, ◌+◌, [], length, map, rules, refl, ap, None, Some, ◌∙◌, sym, arith, subst}
 use Rattle.std.specs.Prelude.{slice_index_or, slice_set, find}
-use Rattle.sctp_queues.specs.pending_queue.Whole.{IsMessageOrNone}
-use Rattle.sctp_queues.specs.outbound_queue.OutboundQueue.{with_message}
+use Rattle.sctp_outbound.specs.pending_queue.Whole.{IsMessageOrNone}
+use Rattle.sctp_outbound.specs.outbound_queue.OutboundQueue.{with_message}
 use Rattle.sctp_model.specs.declared.event.Event.TheVariants as E
 use Rattle.sctp_model.specs.Steps.{refusal_of, fragments_in}
 use Rattle.sctp_link.specs.declared.open_stream.OpenStream.{OpenStream}

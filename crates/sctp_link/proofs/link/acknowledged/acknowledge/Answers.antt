@@ -2,7 +2,7 @@ use Rattle.std.proofs.Common.{◌+◌, ◌%◌, ◌^◌, ap, sym, ◌∙◌, ari
 use Rattle.std.specs.Prelude.{find}
 use Rattle.std.specs.Option.{option_copied}
 use Rattle.sctp_lists.specs.Lists.{change_where}
-use Rattle.sctp_queues.specs.DataChunks.{has_tsn}
+use Rattle.sctp_serial.specs.DataChunks.{has_tsn}
 use Rattle.sctp_link.specs.Acking.{less_by}
 use Rattle.sctp_link.specs.Linked.{has_number}
 use Rattle.sctp_link.specs.OpenStreams.{slot_with}

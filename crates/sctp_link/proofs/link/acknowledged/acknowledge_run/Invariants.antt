@@ -1,6 +1,6 @@
 use Rattle.std.proofs.Common.{◌≡◌, ◌≤◌, ℕ, Bool, List, length}
 use Rattle.std.specs.Prelude.{max}
-use Rattle.sctp_queues.specs.outbound_queue.OutboundQueue.{Outbound}
+use Rattle.sctp_outbound.specs.outbound_queue.OutboundQueue.{Outbound}
 use Rattle.sctp_model.specs.World.{World}
 use Rattle.sctp_link.specs.declared.open_stream.OpenStream.{OpenStream}
 use Rattle.sctp_link.specs.Acking.{Acks, IsAcking, and_run}

@@ -1,6 +1,6 @@
 use Rattle.std.proofs.Common.{◌+◌, ◌%◌, ◌^◌, ap, arith}
-use Rattle.sctp_queues.specs.outbound_queue.OutboundQueue.{with_inflight}
-use Rattle.sctp_queues.specs.payload_queue.PayloadQueue.{without_front}
+use Rattle.sctp_outbound.specs.outbound_queue.OutboundQueue.{with_inflight}
+use Rattle.sctp_outbound.specs.payload_queue.PayloadQueue.{without_front}
 use Rattle.sctp_link.proofs.acknowledging.AckLoops.{popped-more}
 use Rattle.sctp_link.proofs.link.acknowledged.pop_run.Goals as goal
 

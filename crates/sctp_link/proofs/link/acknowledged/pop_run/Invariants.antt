@@ -1,6 +1,6 @@
 use Rattle.std.proofs.Common.{◌≡◌, ◌<◌, ◌≤◌, ◌-◌, ◌^◌, ℕ, Bool}
 use Rattle.std.specs.Prelude.{max}
-use Rattle.sctp_queues.specs.outbound_queue.OutboundQueue.{with_inflight}
+use Rattle.sctp_outbound.specs.outbound_queue.OutboundQueue.{with_inflight}
 use Rattle.sctp_model.specs.World.{World}
 use Rattle.sctp_ties.specs.Tied.{IsInFlight}
 use Rattle.sctp_link.proofs.link.acknowledged.pop_run.Given as goal

@@ -1,6 +1,6 @@
 use Rattle.std.proofs.Common.{◌≡◌, length, map}
 use Rattle.sctp_lists.specs.Lists.{advanced}
-use Rattle.sctp_queues.specs.payload_queue.PayloadQueue.{with_chunks}
+use Rattle.sctp_outbound.specs.payload_queue.PayloadQueue.{with_chunks}
 use Rattle.sctp_link.proofs.link.receiving.advance.Given as goal
 
 abbrev pub invariant-loop-cumulative : goal.invariant-loop-cumulative

@@ -1,0 +1,6 @@
+-- Lemmas on a payload queue.
+pub mod Ends
+pub mod Gaps
+pub mod Marked
+pub mod Payloads
+pub mod Search

@@ -1,0 +1,14 @@
+-- What a mark leaves as it is.
+use Rattle.std.proofs.Common.{◌≡◌, refl}
+use Rattle.sctp_chunks.specs.declared.chunk.chunk_payload_data.ChunkPayloadData.{ChunkPayloadData}
+use Rattle.sctp_outbound.specs.declared.payload_queue.held.Mark.{Mark}
+use Rattle.sctp_outbound.specs.declared.payload_queue.held.Mark.TheVariants.{Acknowledged, Abandoned, Retransmit, Nsent, Since, MissIndicator}
+use Rattle.sctp_outbound.specs.Marks.{marked}
+
+pub marked-tsn : (mark : Mark) (c : ChunkPayloadData) → (marked mark c).tsn ≡ c.tsn
+marked-tsn Acknowledged c = refl
+marked-tsn Abandoned c = refl
+marked-tsn (Retransmit b) c = refl
+marked-tsn (Nsent n) c = refl
+marked-tsn (Since since) c = refl
+marked-tsn (MissIndicator n) c = refl

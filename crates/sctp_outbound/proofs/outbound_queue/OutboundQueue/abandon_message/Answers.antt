@@ -1,0 +1,30 @@
+use Rattle.std.proofs.Common.{refl, sym, ap, ◌∙◌, arith}
+use Rattle.sctp_outbound.specs.Marks.{is_of, given_up}
+use Rattle.sctp_outbound.specs.outbound_queue.OutboundQueue.{Outbound, abandoned}
+use Rattle.sctp_outbound.proofs.lemmas.outbound_queue.Abandoned.{abandoned_none, abandoned_room}
+use Rattle.sctp_outbound.proofs.lemmas.outbound_queue.Sendable.{sendable-marked}
+use Rattle.sctp_outbound.proofs.lemmas.pending_queue.Whole.{KeepsMessage}
+use Rattle.sctp_outbound.proofs.outbound_queue.OutboundQueue.abandon_message.Goals as goal
+
+pub invariant_of-self : goal.invariant_of-self
+invariant_of-self c =
+    let keeps : KeepsMessage given_up = record { number = λ _. refl; begins = λ _. refl; ends = λ _. refl; kind = λ _. refl } in
+    record {
+      sendable = rw c.abandon_message.ensures.abandoned (sendable-marked _ _ _ (is_of c.args.message_id) given_up keeps c.self.invariant.sendable);
+      fits = omega (arith, c.abandon_message.ensures.left, c.self.invariant.fits);
+    }
+
+pub returns-then-not-contains_message-clause-ok : goal.returns-then-not-contains_message-clause-ok
+returns-then-not-contains_message-clause-ok c =
+    let q = c.self.inside in
+    let old : Outbound = record { pending = q.pending; inflight = q.inflight; next_message_id = q.next_message_id; next_unstarted = q.next_unstarted_message_id } in
+    rw (← c.self.view_is, c.abandon_message.ensures.abandoned) (sym (abandoned_none c.args.message_id c.args.next_tsn.now old c.self.invariant.sendable (sym c.contains_message.ensures ∙ c.if-not-contains_message.true)))
+
+pub returns-clause-ok : goal.returns-clause-ok
+returns-clause-ok c =
+    let q = c.self.inside in
+    let old : Outbound = record { pending = q.pending; inflight = q.inflight; next_message_id = q.next_message_id; next_unstarted = q.next_unstarted_message_id } in
+    c.abandon_with_tail-bytes.ensures.abandoned
+    ∙ ap (λ i. let r : Outbound = record { pending = q.pending; inflight = i; next_message_id = q.next_message_id; next_unstarted = q.next_unstarted_message_id } in abandoned c.args.message_id c.args.next_tsn.now r) c.in_ok-reserve.ensures.ok
+    ∙ abandoned_room c.args.message_id c.args.next_tsn.now old (sym c.contains_message.ensures ∙ c.if-not-contains_message.false)
+    ∙ ap (abandoned c.args.message_id c.args.next_tsn.now) c.self.view_is

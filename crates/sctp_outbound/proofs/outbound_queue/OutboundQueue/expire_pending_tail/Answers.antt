@@ -1,0 +1,18 @@
+use Rattle.std.proofs.Common.{◌≡◌, Bool, true, false, not, ◌&&◌, refl, sym, ◌∙◌}
+use Rattle.std.proofs.lemmas.Bool.{false≢true}
+use Rattle.sctp_outbound.specs.outbound_queue.OutboundQueue.{Outbound}
+use Rattle.sctp_outbound.proofs.lemmas.outbound_queue.Sendable.{half_in_front, kept_or_gone}
+use Rattle.sctp_outbound.proofs.outbound_queue.OutboundQueue.expire_pending_tail.Goals as goal
+
+not_first : (a b : Bool) → (not a && b) ≡ true → a ≡ false
+not_first true b h = absurd (false≢true h)
+not_first false b h = refl
+
+pub returns-clause-half : goal.returns-clause-half
+returns-clause-half c =
+    let q = c.self.inside in
+    let old : Outbound = record { pending = q.pending; inflight = q.inflight; next_message_id = q.next_message_id; next_unstarted = q.next_unstarted_message_id } in
+    let x = c.in-Some.chunk.now in
+    let goes_on = not_first _ _ (sym c.is_expired_tail.ensures ∙ c.if-not-is_expired_tail.false) in
+    let half = half_in_front q.pending q.inflight.chunks q.next_message_id x c.self.invariant.sendable (sym c.in-Some.ensures) goes_on in
+    rw (c.in_ok-bytes.ensures.raised, c.in_ok-bytes.ensures.ok, ← c.self.view_is) (kept_or_gone x.message_id c.args.next_tsn.now old (λ _. half))

@@ -1,0 +1,35 @@
+use Rattle.std.proofs.Common.{◌≡◌, not, is_some, sym, ap, ◌∙◌, ◌-◌, get_or, length, subst, arith}
+use Rattle.sctp_serial.specs.Window.{IsPlaceFor}
+use Rattle.sctp_outbound.proofs.lemmas.payload_queue.Search.{Narrowed, none_has, place_found, narrowed_none, behind_last}
+use Rattle.sctp_serial.proofs.lemmas.Serials.{find_held, not_found}
+use Rattle.sctp_outbound.proofs.payload_queue.free_place.Goals as goal
+
+pub returns-in-Ok-clause-free : goal.returns-in-Ok-clause-free
+returns-in-Ok-clause-free c = ap not (sym (ap is_some (find_held _ c.args.tsn c.requires _ _ c.in-Ok.ensures.found)))
+
+pub returns-clause-free : goal.returns-clause-free
+returns-clause-free c = ap not (sym (ap is_some (not_found _ c.args.tsn c.in-Err.ensures.absent)))
+
+pub returns-then-len-eq0-clause-free : goal.returns-then-len-eq0-clause-free
+returns-then-len-eq0-clause-free c =
+    let xs = c.args.held.now.chunks in
+    let n = subst (λ k. Narrowed xs c.args.tsn 0 k) {x = length xs} {y = 0} (omega arith) (narrowed_none xs c.args.tsn) in
+    ap not (sym (ap is_some (not_found xs c.args.tsn (none_has xs c.args.tsn 0 n))))
+
+pub returns-then-len-eq0-clause-place : goal.returns-then-len-eq0-clause-place
+returns-then-len-eq0-clause-place c =
+    let xs = c.args.held.now.chunks in
+    let n = subst (λ k. Narrowed xs c.args.tsn 0 k) {x = length xs} {y = 0} (omega arith) (narrowed_none xs c.args.tsn) in
+    place_found xs c.args.tsn 0 n
+
+pub returns-then-sna32lt-clause-free : goal.returns-then-sna32lt-clause-free
+returns-then-sna32lt-clause-free c =
+    let xs = c.args.held.now.chunks in
+    let n = behind_last xs c.requires c.args.tsn c.look-last.result.now c.ranges.tsn.fits (omega arith) (subst (λ k. c.look-last.result.now ≡ get_or xs (k - 1) c.look-last.result.now) c.len-len.ensures c.look-last.ensures.value) (sym c.sna32lt.ensures ∙ c.if-sna32lt.true) in
+    ap not (sym (ap is_some (not_found xs c.args.tsn (none_has xs c.args.tsn (length xs) n))))
+
+pub returns-then-sna32lt-clause-place : goal.returns-then-sna32lt-clause-place
+returns-then-sna32lt-clause-place c =
+    let xs = c.args.held.now.chunks in
+    let n = behind_last xs c.requires c.args.tsn c.look-last.result.now c.ranges.tsn.fits (omega arith) (subst (λ k. c.look-last.result.now ≡ get_or xs (k - 1) c.look-last.result.now) c.len-len.ensures c.look-last.ensures.value) (sym c.sna32lt.ensures ∙ c.if-sna32lt.true) in
+    subst (IsPlaceFor xs c.args.tsn) (sym c.len-len.ensures) (place_found xs c.args.tsn (length xs) n)

@@ -1,0 +1,5 @@
+pub mod Stored
+pub mod Marks
+pub mod payload_queue
+pub mod pending_queue
+pub mod outbound_queue

@@ -1,0 +1,42 @@
+-- What marks make of a chunk.
+use Rattle.std.specs.Prelude.{ℕ, Bool, true, false, not, ◌&&◌, ◌==◌, [], Option}
+use Rattle.sctp_chunks.specs.declared.chunk.chunk_payload_data.ChunkPayloadData.{ChunkPayloadData}
+use Rattle.sctp_outbound.specs.declared.payload_queue.held.Mark.{Mark}
+use Rattle.sctp_outbound.specs.declared.payload_queue.held.Mark.TheVariants.{Acknowledged, Abandoned, Retransmit, Nsent, Since, MissIndicator}
+
+-- acknowledged: its bytes are gone
+abbrev pub acknowledged : ChunkPayloadData → ChunkPayloadData
+acknowledged c = record c { acked = true; retransmit = false; user_data = [] }
+
+-- of a message that is given up: its bytes are gone
+abbrev pub given_up : ChunkPayloadData → ChunkPayloadData
+given_up c = record c { abandoned = true; retransmit = false; user_data = [] }
+
+abbrev pub with_retransmit : Bool → ChunkPayloadData → ChunkPayloadData
+with_retransmit b c = record c { retransmit = b }
+
+abbrev pub with_nsent : ℕ → ChunkPayloadData → ChunkPayloadData
+with_nsent n c = record c { nsent = n }
+
+abbrev pub with_since : Option ℕ → ChunkPayloadData → ChunkPayloadData
+with_since since c = record c { since = since }
+
+abbrev pub with_miss_indicator : ℕ → ChunkPayloadData → ChunkPayloadData
+with_miss_indicator n c = record c { miss_indicator = n }
+
+-- what each mark makes
+abbrev pub marked : Mark → ChunkPayloadData → ChunkPayloadData
+marked Acknowledged c = acknowledged c
+marked Abandoned c = given_up c
+marked (Retransmit b) c = with_retransmit b c
+marked (Nsent n) c = with_nsent n c
+marked (Since since) c = with_since since c
+marked (MissIndicator n) c = with_miss_indicator n c
+
+-- neither acknowledged nor abandoned
+abbrev pub is_outstanding : ChunkPayloadData → Bool
+is_outstanding c = not c.acked && not c.abandoned
+
+-- whether the chunk is a fragment of the message
+abbrev pub is_of : ℕ → ChunkPayloadData → Bool
+is_of message c = c.message_id == message

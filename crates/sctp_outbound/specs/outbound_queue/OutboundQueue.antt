@@ -1,0 +1,174 @@
+-- What is pending and what is in flight, as callers see it.
+use Rattle.std.specs.Prelude.{◌≡◌, ℕ, zero, suc, ◌+◌, ◌-◌, ◌%◌, ◌^◌, ◌==◌, ◌++◌, List, [], ◌∷◌, length, map, Bool, true, false, not, ◌&&◌, ◌||◌, nat_le, is_some, Option, Some, None, if◌then◌else◌}
+use Rattle.std.specs.List.{find}
+use Rattle.sctp_chunks.specs.declared.chunk.chunk_payload_data.ChunkPayloadData.{ChunkPayloadData}
+use Rattle.sctp_lists.specs.Lists.{change_where, those}
+use Rattle.sctp_outbound.specs.Marks.{is_of, given_up, is_outstanding}
+use Rattle.sctp_outbound.specs.payload_queue.PayloadQueue as payload
+use Rattle.sctp_outbound.specs.pending_queue.PendingQueue as pending
+use Rattle.sctp_outbound.specs.pending_queue.Whole.{waits}
+use Rattle.sctp_serial.specs.DataChunks.{has_tsn, bytes_of}
+
+-- the queues, the number of the next message, and the number from which on lifetimes were not started
+pub record Outbound : Type 0 where
+  pub pending : pending.Pending
+  pub inflight : payload.Payload
+  pub next_message_id : ℕ
+  pub next_unstarted : ℕ
+
+-- the bytes of all
+abbrev pub total_bytes : Outbound → ℕ
+total_bytes q = pending.total_bytes q.pending + bytes_of q.inflight.chunks
+
+-- the same with these chunks in flight
+abbrev pub with_inflight : Outbound → List ChunkPayloadData → Outbound
+with_inflight q chunks = record q { inflight = payload.with_chunks q.inflight chunks }
+
+-- ## Push
+
+abbrev pub with_message_id : ℕ → ChunkPayloadData → ChunkPayloadData
+with_message_id message c = record c { message_id = message }
+
+-- chunks behind those of a list
+abbrev pub appended : Bool → List ChunkPayloadData → pending.Pending → pending.Pending
+appended true chunks q = record q { unordered = q.unordered ++ chunks; unordered_room = q.unordered_room - length chunks }
+appended false chunks q = record q { ordered = q.ordered ++ chunks; ordered_room = q.ordered_room - length chunks }
+
+-- a message with the next number
+abbrev pub with_message : List ChunkPayloadData → Outbound → Outbound
+with_message [] q = q
+with_message (c ∷ cs) q = record q { pending = appended c.unordered (map (with_message_id q.next_message_id) (c ∷ cs)) q.pending; next_message_id = q.next_message_id + 1 }
+
+-- whether there is room for the chunks
+abbrev pub has_room : List ChunkPayloadData → Outbound → Bool
+has_room [] q = true
+has_room (c ∷ cs) q = nat_le (length (c ∷ cs)) (pending.room_for q.pending c.unordered)
+
+-- ## Lifetimes
+
+-- the lifetimes of the messages pushed since the last time start
+abbrev pub all_started : ℕ → Outbound → Outbound
+all_started now q = if q.next_unstarted == q.next_message_id then q else record q { pending = pending.started q.next_unstarted now q.pending; next_unstarted = q.next_message_id }
+
+-- whether the moment is reached, where there is one
+abbrev pub is_past : ℕ → Option ℕ → Bool
+is_past now None = false
+is_past now (Some deadline) = nat_le deadline now
+
+-- ## Sending
+
+abbrev pub following_tsn : ℕ → ℕ
+following_tsn tsn = (tsn + 1) % 2 ^ 32
+
+-- the chunk with its TSN, sent once
+abbrev pub numbered : ℕ → ℕ → ChunkPayloadData → ChunkPayloadData
+numbered tsn now c = record c { tsn = tsn; since = Some now; nsent = 1 }
+
+-- the chunk leaves its list and is in flight under the TSN
+abbrev pub sent_of : Option ChunkPayloadData → Outbound → ℕ → ℕ → Outbound
+sent_of None q tsn now = q
+sent_of (Some c) q tsn now = record q { pending = pending.rest_after c.beginning_fragment c.unordered q.pending; inflight = payload.pushed q.inflight (numbered tsn now c) }
+
+abbrev pub sent_peeked : Outbound → ℕ → ℕ → Outbound
+sent_peeked q tsn now = sent_of (pending.peeked q.pending) q tsn now
+
+-- lifetimes start, and the peeked chunk is sent
+abbrev pub sent_next : Outbound → ℕ → ℕ → Outbound
+sent_next q tsn now = sent_peeked (all_started now q) tsn now
+
+-- the pending queue after a send, and after so many
+abbrev pub taken_of : Option ChunkPayloadData → pending.Pending → pending.Pending
+taken_of None q = q
+taken_of (Some c) q = pending.rest_after c.beginning_fragment c.unordered q
+
+abbrev pub after_sends : ℕ → pending.Pending → pending.Pending
+after_sends zero q = q
+after_sends (suc n) q = after_sends n (taken_of (pending.peeked q) q)
+
+-- ## Abandonment
+
+-- an empty ending chunk under the TSN, abandoned: it stands for the tail that was never sent
+abbrev pub end_mark : ℕ → ChunkPayloadData → ChunkPayloadData
+end_mark tsn c = record c { tsn = tsn; beginning_fragment = false; ending_fragment = true; abandoned = true; retransmit = false; user_data = [] }
+
+abbrev pub with_end_mark : Option ChunkPayloadData → ℕ → payload.Payload → payload.Payload
+with_end_mark None tsn q = q
+with_end_mark (Some c) tsn q = payload.pushed q (end_mark tsn c)
+
+-- what is in flight of the message is given up, and its tail is gone but for an end mark
+abbrev pub abandoned : ℕ → ℕ → Outbound → Outbound
+abandoned message tsn q = record q { pending = pending.without message q.pending; inflight = with_end_mark (pending.last_removed message q.pending) tsn (payload.with_chunks q.inflight (change_where (is_of message) given_up q.inflight.chunks)) }
+
+-- the TSN is taken where a tail was
+abbrev pub tsn_after : ℕ → ℕ → Outbound → ℕ
+tsn_after message tsn q = if waits message q.pending then following_tsn tsn else tsn
+
+-- the message of a chunk in flight that is to be abandoned
+abbrev pub to_abandon : Option ChunkPayloadData → Option ℕ
+to_abandon None = None
+to_abandon (Some c) = if c.abandoned then None else Some c.message_id
+
+abbrev pub abandoned_of : Option ℕ → ℕ → Outbound → Outbound
+abandoned_of None tsn q = q
+abandoned_of (Some message) tsn q = abandoned message tsn q
+
+abbrev pub tsn_after_of : Option ℕ → ℕ → Outbound → ℕ
+tsn_after_of None tsn q = tsn
+tsn_after_of (Some message) tsn q = tsn_after message tsn q
+
+-- whether the message that is to be abandoned has a tail
+abbrev pub has_tail : Option ℕ → Outbound → Bool
+has_tail None q = false
+has_tail (Some message) q = waits message q.pending
+
+-- ## Expiry
+
+-- a lapsed message, wholly unsent
+abbrev pub is_expired : ℕ → ChunkPayloadData → Bool
+is_expired now c = c.beginning_fragment && (not (length c.user_data == 0) && (not (pending.is_dcep c.payload_type) && is_past now c.deadline))
+
+-- the rest of a lapsed message
+abbrev pub is_expired_tail : ℕ → ChunkPayloadData → Bool
+is_expired_tail now c = not c.beginning_fragment && (not (pending.is_dcep c.payload_type) && is_past now c.deadline)
+
+-- the chunk, if it passes
+abbrev pub passing : (ChunkPayloadData → Bool) → Option ChunkPayloadData → Option ChunkPayloadData
+passing p None = None
+passing p (Some c) = if p c then Some c else None
+
+-- without the message of the chunk, and the later numbers of its stream closed up where it is ordered
+abbrev pub expired_of : Option ChunkPayloadData → Outbound → Outbound
+expired_of None q = q
+expired_of (Some c) q = record q { pending = if c.unordered then pending.without c.message_id q.pending else pending.closed_up c.stream_identifier (pending.without c.message_id q.pending) }
+
+-- the lapsed message in front, wholly unsent
+abbrev pub expiring : ℕ → Outbound → Option ChunkPayloadData
+expiring now q = passing (is_expired now) (pending.peeked q.pending)
+
+-- the rest of a lapsed message in front
+abbrev pub expiring_tail : ℕ → Outbound → Option ChunkPayloadData
+expiring_tail now q = passing (is_expired_tail now) (pending.peeked q.pending)
+
+abbrev pub message_of : Option ChunkPayloadData → Option ℕ
+message_of None = None
+message_of (Some c) = Some c.message_id
+
+-- a lapsed chunk in flight that is not abandoned, and not acknowledged or of a message with a tail
+abbrev pub is_late : ℕ → pending.Pending → ChunkPayloadData → Bool
+is_late now q c = not c.abandoned && (is_past now c.deadline && (not c.acked || waits c.message_id q))
+
+abbrev pub late_tsns : ℕ → Outbound → List ℕ
+late_tsns now q = map (λ c. c.tsn) (those (is_late now q.pending) q.inflight.chunks)
+
+-- the bytes in an answer
+abbrev pub released_of : Option (ℕ × ℕ) → ℕ
+released_of None = 0
+released_of (Some a) = a.1
+
+abbrev pub expired_bytes : Option (ℕ × Bool × ℕ) → ℕ
+expired_bytes None = 0
+expired_bytes (Some a) = a.2
+
+abbrev pub tail_bytes : Option (ℕ × ℕ × ℕ) → ℕ
+tail_bytes None = 0
+tail_bytes (Some a) = a.2

@@ -1,0 +1,681 @@
+//! Chunks by their TSNs, in serial order: what is in flight, or what came beyond the cumulative TSN.
+
+ghost use Rattle.std.specs.Prelude.{◌≡◌, ◌==◌, ◌≢◌, ℕ, ◌+◌, ◌*◌, ◌-◌, ◌^◌, ◌<◌, ◌≤◌, [], length, map, max, OnOk, OnErr, IfOk, IfErr, IfSome, IsOk, IsOkUnless, IsTrue, All, find, not, option_copied, slice_get, slice_index_or, is_some, unwrap_or, true, false, string_bytes, if◌then◌else◌};
+ghost use Rattle.std.specs.Option.{option_map};
+ghost use Rattle.std.specs.List.{list_any};
+ghost use Rattle.sctp_base.specs.declared.error.Error.TheVariants.{ErrOutOfMemory};
+ghost use Rattle.sctp_lists.specs.Kept.{runs_of};
+ghost use Rattle.sctp_lists.specs.Serial.{distance};
+ghost use Rattle.sctp_lists.specs.Lists.{change_where};
+ghost use Rattle.sctp_serial.specs.Turns.{IsWithinDigits};
+ghost use Rattle.sctp_serial.specs.Window.{IsSerial, IsPlaceFor, IsHeldAt, IsWindow, SpansOneWindow, is_held, is_new};
+ghost use Rattle.sctp_serial.specs.DataChunks.{has_tsn, bytes_of};
+ghost use Rattle.sctp_outbound.specs.Marks.{is_outstanding};
+ghost use Rattle.sctp_outbound.specs.payload_queue.Blocks.{IsFirstAfter, IsRunUntil, Reports, gap_offsets, ends_of, is_offset, gap_text};
+
+pub mod held;
+mod window;
+
+use self::held::{Held, Mark};
+use self::window::{are_within_half, span_one_window};
+use sctp_serial::serial::distance;
+use sctp_serial::turns::Turns;
+use sctp_base::error::Result;
+use sctp_base::util::{sna32lt, sna32lte};
+use sctp_chunks::chunk::chunk_payload_data::ChunkPayloadData;
+use sctp_chunks::chunk::chunk_selective_ack::GapAckBlock;
+use std::alloc::Global;
+use std::marker::Model;
+use std::mem;
+
+/// Chunks by their TSNs, each TSN once, in serial order (RFC 4960 1.6): on the sender what is in
+/// flight, on the receiver what came beyond the cumulative TSN. It also notes which TSNs came again.
+#[derive(Drop)]
+pub struct PayloadQueue {
+    held: Held,
+    dup_tsn: Vec<u32>,
+    n_bytes: usize,
+}
+
+impl Model for PayloadQueue {
+    ghost use Rattle.std.specs.Prelude.{◌≡◌};
+    ghost use Rattle.sctp_outbound.specs.payload_queue.PayloadQueue.{Payload};
+    ghost use Rattle.sctp_serial.specs.Window.{IsSerial};
+    ghost use Rattle.sctp_serial.specs.DataChunks.{bytes_of};
+
+    ghost Value = { Payload };
+
+    ghost view = { λ q. record { chunks = q.held.chunks; duplicates = q.dup_tsn.items; room = q.held.room } };
+
+    ghost invariant = { λ q. record { serial : IsSerial q.held.chunks; counted : q.n_bytes ≡ bytes_of q.held.chunks } };
+}
+
+// Where a TSN is held, with its chunk, or where it would go: a binary search.
+fn search<'a>(
+    held: &'a Held,
+    tsn: u32,
+    turns: &mut Turns,
+) -> std::result::Result<(usize, &'a ChunkPayloadData), usize>
+    requires { IsSerial held.now.chunks }
+    ensures found { IfOk result (λ spot. IsHeldAt held.now.chunks tsn spot.0 spot.1.now) }
+    ensures absent { OnErr result (All (λ c. c.tsn ≢ tsn) held.now.chunks) }
+    ensures place { IfErr result (IsPlaceFor held.now.chunks tsn) }
+    ensures fits { tsn < 2 ^ 32 }
+    ensures not_back { turns.old ≤ turns.new }
+    ensures cost { IsWithinDigits (length held.now.chunks) (turns.new - turns.old) }
+{
+    let mut low = 0;
+    let mut high = held.len();
+    while low < high {
+        let middle = low + (high - low) / 2;
+        let chunk = held.look(middle, turns);
+        if chunk.tsn == tsn {
+            return Ok((middle, chunk));
+        }
+        if sna32lt(chunk.tsn, tsn) {
+            low = middle + 1;
+        } else {
+            high = middle;
+        }
+    }
+    Err(low)
+}
+
+// Where a chunk with this TSN goes, unless it is held: mostly behind the last.
+fn free_place(held: &Held, tsn: u32) -> Option<usize>
+    requires { IsSerial held.now.chunks }
+    ensures free { is_some result ≡ not (is_held held.now.chunks tsn) }
+    ensures place { IfSome result (IsPlaceFor held.now.chunks tsn) }
+    ensures fits { tsn < 2 ^ 32 }
+{
+    let mut turns = Turns::new();
+    let len = held.len();
+    if len == 0 {
+        return Some(0);
+    }
+    let last = held.look(len - 1, &mut turns);
+    if sna32lt(last.tsn, tsn) {
+        return Some(len);
+    }
+    match search(held, tsn, &mut turns) {
+        Ok(_) => None,
+        Err(place) => Some(place),
+    }
+}
+
+// The distance from the cumulative TSN to a TSN, where a gap ack block can hold it.
+fn gap_offset(cumulative_tsn: u32, tsn: u32) -> Option<u16>
+    ensures some { IfSome result (λ offset. (offset ≡ distance cumulative_tsn tsn) × (0 < offset) × (offset < 2 ^ 16)) }
+    ensures test { is_some result ≡ is_offset (distance cumulative_tsn tsn) }
+    ensures fits { cumulative_tsn < 2 ^ 32 }
+{
+    let offset = distance(cumulative_tsn, tsn);
+    if offset == 0 || offset > 65535 {
+        return None;
+    }
+    Some(offset as u16)
+}
+
+// The place of the first chunk after the cumulative TSN, from where on each is farther after it.
+fn first_after(held: &Held, cumulative_tsn: u32, turns: &mut Turns) -> usize
+    requires { IsSerial held.now.chunks }
+    ensures first { IsFirstAfter cumulative_tsn held.now.chunks result }
+    ensures not_back { turns.old ≤ turns.new }
+    ensures cost { IsWithinDigits (length held.now.chunks) (turns.new - turns.old) }
+{
+    let Some(front) = held.front_tsn() else {
+        return 0;
+    };
+    if !sna32lte(front, cumulative_tsn) {
+        return 0;
+    }
+    match search(held, cumulative_tsn, turns) {
+        Ok((place, _)) => place + 1,
+        Err(place) => place,
+    }
+}
+
+// The TSN at a place: the one that was seen there, or else a look.
+fn seen_or_look(held: &Held, place: usize, seen: Option<u32>, turns: &mut Turns) -> u32
+    requires in_range { place < length held.now.chunks }
+    requires seen { IfSome seen (λ tsn. (d : _) → (slice_index_or held.now.chunks place d).tsn ≡ tsn) }
+    ensures number { (d : _) → (slice_index_or held.now.chunks place d).tsn ≡ result }
+    ensures not_back { turns.old ≤ turns.new }
+    ensures cost { turns.new ≤ turns.old + 1 }
+{
+    match seen {
+        Some(tsn) => tsn,
+        None => held.look(place, turns).tsn,
+    }
+}
+
+// The last place before `end` up to which TSNs rise by one, from a place that has the TSN, and the TSN behind it where it was seen.
+// It looks at the next one, then as far ahead as the run reaches, then between: fewer turns than twice one more than the run's
+// binary logarithm.
+fn run_end(
+    held: &Held,
+    place: usize,
+    tsn: u32,
+    end: usize,
+    turns: &mut Turns,
+) -> (usize, Option<u32>)
+    requires serial { IsSerial held.now.chunks }
+    requires number { (d : _) → (slice_index_or held.now.chunks place d).tsn ≡ tsn }
+    requires some { place < end }
+    requires in_range { end ≤ length held.now.chunks }
+    ensures run { IsRunUntil held.now.chunks end place result.0 }
+    ensures seen { IfSome result.1 (λ tsn. (d : _) → (slice_index_or held.now.chunks (result.0 + 1) d).tsn ≡ tsn) }
+    ensures not_back { turns.old ≤ turns.new }
+    ensures cost { 2 ^ (turns.new - turns.old) < 4 * ((result.0 + 1 - place) * (result.0 + 1 - place)) }
+{
+    let mut last = place;
+    let mut tsn = tsn;
+    let mut step = 1;
+    while step < end - last {
+        let ahead = held.look(last + step, turns).tsn;
+        if distance(tsn, ahead) as usize != step {
+            return run_end_between(held, last, tsn, last + step, Some(ahead), turns);
+        }
+        last += step;
+        tsn = ahead;
+        step = last - place;
+    }
+    run_end_between(held, last, tsn, end, None, turns)
+}
+
+// The same by halves, where the TSN at the end may have been seen: as many turns as the number of places behind the first has
+// binary digits.
+fn run_end_between(
+    held: &Held,
+    place: usize,
+    tsn: u32,
+    end: usize,
+    seen: Option<u32>,
+    turns: &mut Turns,
+) -> (usize, Option<u32>)
+    requires serial { IsSerial held.now.chunks }
+    requires number { (d : _) → (slice_index_or held.now.chunks place d).tsn ≡ tsn }
+    requires some { place < end }
+    requires in_range { end ≤ length held.now.chunks }
+    requires seen { IfSome seen (λ tsn. (d : _) → (slice_index_or held.now.chunks end d).tsn ≡ tsn) }
+    ensures run { IsRunUntil held.now.chunks end place result.0 }
+    ensures seen { IfSome result.1 (λ tsn. (d : _) → (slice_index_or held.now.chunks (result.0 + 1) d).tsn ≡ tsn) }
+    ensures not_back { turns.old ≤ turns.new }
+    ensures cost { IsWithinDigits (end - place - 1) (turns.new - turns.old) }
+{
+    let mut last = place;
+    let mut tsn = tsn;
+    let mut beyond = end;
+    let mut seen = seen;
+    while last + 1 < beyond {
+        let middle = last + (beyond - last) / 2;
+        let ahead = held.look(middle, turns).tsn;
+        if distance(tsn, ahead) as usize == middle - last {
+            last = middle;
+            tsn = ahead;
+        } else {
+            beyond = middle;
+            seen = Some(ahead);
+        }
+    }
+    (last, seen)
+}
+
+// Whether the chunk is neither acknowledged nor abandoned.
+pub(crate) fn is_outstanding(chunk: &ChunkPayloadData) -> bool
+    ensures { result ≡ is_outstanding chunk.now }
+{
+    !chunk.acked && !chunk.abandoned
+}
+
+impl PayloadQueue {
+    ghost use Rattle.sctp_outbound.specs.payload_queue.PayloadQueue.{Payload, with_chunks, pushed, repeated, front_with, without_front, without, past};
+    ghost use Rattle.sctp_outbound.specs.Marks.{marked, acknowledged, given_up, with_retransmit, with_nsent, with_since, with_miss_indicator, is_of};
+
+    /// A queue of nothing. It takes no memory.
+    pub fn new(alloc: Global) -> Self
+        ensures { result ≡ record { chunks = []; duplicates = []; room = 0 } }
+    {
+        PayloadQueue {
+            held: Held::new(alloc),
+            dup_tsn: Vec::new(alloc),
+            n_bytes: 0,
+        }
+    }
+
+    /// Whether the chunk is neither held nor at or before `cumulative_tsn`. `push` keeps such a one.
+    pub fn can_push(&self, chunk: &ChunkPayloadData, cumulative_tsn: u32) -> bool
+        ensures { result ≡ is_new self.now.chunks chunk.now.tsn cumulative_tsn }
+    {
+        self.can_push_counted(chunk, cumulative_tsn, &mut Turns::new())
+    }
+
+    /// The same, and its turns are added: at most as many as the number of held chunks has binary digits.
+    pub fn can_push_counted(
+        &self,
+        chunk: &ChunkPayloadData,
+        cumulative_tsn: u32,
+        turns: &mut Turns,
+    ) -> bool
+        ensures answer { result ≡ is_new self.now.chunks chunk.now.tsn cumulative_tsn }
+        ensures not_back { turns.old ≤ turns.new }
+        ensures cost { IsWithinDigits (length self.now.chunks) (turns.new - turns.old) }
+    {
+        self.get_counted(chunk.tsn, turns).is_none() && !sna32lte(chunk.tsn, cumulative_tsn)
+    }
+
+    /// Whether TSNs let `push` be called with a chunk of this TSN: it is not new, or it and all that is held lie at distance 1 to 2^31
+    /// after `cumulative_tsn`. Two chunks are looked at, and the TSN is searched for only where one of those lies elsewhere.
+    pub fn fits(&self, cumulative_tsn: u32, tsn: u32) -> bool
+        ensures yes { result ≡ true → IsTrue (is_new self.now.chunks tsn cumulative_tsn) → IsWindow cumulative_tsn self.now.chunks tsn }
+        ensures no { (IsTrue (is_new self.now.chunks tsn cumulative_tsn) → IsWindow cumulative_tsn self.now.chunks tsn) → result ≡ true }
+    {
+        if are_within_half(&self.held, cumulative_tsn) {
+            return true;
+        }
+        self.get(tsn).is_some() || sna32lte(tsn, cumulative_tsn)
+    }
+
+    /// Whether TSNs let `push_no_check` be called with a chunk of this TSN: it is not held, and there is a number after which it and all
+    /// that is held lie at distance 1 to 2^31. The TSN is searched for only where it does not come after the last.
+    pub fn can_push_no_check(&self, tsn: u32) -> bool
+        ensures fresh { result ≡ true → is_held self.now.chunks tsn ≡ false }
+        ensures window { result ≡ true → SpansOneWindow self.now.chunks tsn }
+        ensures exact { is_held self.now.chunks tsn ≡ false → SpansOneWindow self.now.chunks tsn → result ≡ true }
+    {
+        span_one_window(&self.held, tsn) && free_place(&self.held, tsn).is_some()
+    }
+
+    /// Puts a chunk whose TSN is not held, in one window with all that are.
+    /// Precondition: its TSN is not held; it and all that is held lie at distance 1
+    /// to 2^31 after some number (`can_push_no_check` tells); and the bytes of all are fewer than 2^64.
+    /// Refuses only for memory, and never within the room of `reserve`. The queue is as it was then.
+    pub fn push_no_check(&mut self, chunk: ChunkPayloadData) -> Result<()>
+        requires fresh { is_held self.old.chunks chunk.tsn ≡ false }
+        requires window { SpansOneWindow self.old.chunks chunk.tsn }
+        requires bytes { bytes_of self.old.chunks + length chunk.user_data < 2 ^ 64 }
+        ensures ok { OnOk result (self.new ≡ pushed self.old chunk) }
+        ensures err { OnErr result (self.new ≡ self.old) }
+        ensures memory { IsOkUnless result ErrOutOfMemory }
+        ensures succeeds { 0 < self.old.room → IsOk result }
+    {
+        match free_place(&self.held, chunk.tsn) {
+            Some(place) => self.insert(place, chunk),
+            None => unreachable!(),
+        }
+    }
+
+    /// Puts a chunk that came. One that is held, or at or before `cumulative_tsn`, is noted as
+    /// a duplicate, which the next SACK reports (RFC 4960 3.3.4); the answer is false then.
+    /// Precondition: where the chunk is new (`can_push`), it and all that is held lie at
+    /// distance 1 to 2^31 after `cumulative_tsn` (`fits` tells), and the bytes of all are fewer than 2^64.
+    /// Refuses only for memory, and a new chunk never within the room of `reserve`. The queue is as it was then.
+    pub fn push(&mut self, chunk: ChunkPayloadData, cumulative_tsn: u32) -> Result<bool>
+        requires window { IsTrue (is_new self.old.chunks chunk.tsn cumulative_tsn) → IsWindow cumulative_tsn self.old.chunks chunk.tsn }
+        requires bytes { IsTrue (is_new self.old.chunks chunk.tsn cumulative_tsn) → bytes_of self.old.chunks + length chunk.user_data < 2 ^ 64 }
+        ensures answer { IfOk result (λ new. new ≡ is_new self.old.chunks chunk.tsn cumulative_tsn) }
+        ensures ok { IfOk result (λ new. self.new ≡ (if new then pushed self.old chunk else repeated self.old chunk.tsn)) }
+        ensures err { OnErr result (self.new ≡ self.old) }
+        ensures memory { IsOkUnless result ErrOutOfMemory }
+        ensures succeeds { 0 < self.old.room → IsTrue (is_new self.old.chunks chunk.tsn cumulative_tsn) → IsOk result }
+    {
+        if let Some(place) = free_place(&self.held, chunk.tsn) {
+            if !sna32lte(chunk.tsn, cumulative_tsn) {
+                self.insert(place, chunk)?;
+                return Ok(true);
+            }
+        }
+        self.dup_tsn.push(chunk.tsn)?;
+        Ok(false)
+    }
+
+    // Puts a chunk where it goes.
+    fn insert(&mut self, place: usize, chunk: ChunkPayloadData) -> Result<()>
+        requires place { IsPlaceFor self.old.chunks chunk.tsn place }
+        requires window { SpansOneWindow self.old.chunks chunk.tsn }
+        requires fits { chunk.tsn < 2 ^ 32 }
+        requires bytes { bytes_of self.old.chunks + length chunk.user_data < 2 ^ 64 }
+        ensures ok { OnOk result (self.new ≡ pushed self.old chunk) }
+        ensures err { OnErr result (self.new ≡ self.old) }
+        ensures memory { IsOkUnless result ErrOutOfMemory }
+        ensures succeeds { 0 < self.old.room → IsOk result }
+    {
+        let len = chunk.user_data.len();
+        self.held.insert(place, chunk)?;
+        self.n_bytes += len;
+        Ok(())
+    }
+
+    /// The front chunk, taken out, if it has this TSN.
+    pub fn pop(&mut self, tsn: u32) -> Option<ChunkPayloadData>
+        ensures popped { result ≡ front_with tsn self.old.chunks }
+        ensures rest { self.new ≡ with_chunks self.old (without_front tsn self.old.chunks) }
+    {
+        if self.held.front_tsn() != Some(tsn) {
+            return None;
+        }
+        let chunk = self.held.pop_front()?;
+        self.n_bytes -= chunk.user_data.len();
+        Some(chunk)
+    }
+
+    /// Takes out all that is at or before `cumulative_tsn` (RFC 3758 3.6). The number
+    /// comes off the wire in a FORWARD-TSN and may lie almost 2^31 ahead: what a
+    /// hostile jump costs depends on how much is held, not on how far it goes.
+    pub fn pop_up_to(&mut self, cumulative_tsn: u32)
+        ensures { self.new ≡ with_chunks self.old (past cumulative_tsn self.old.chunks) }
+    {
+        self.pop_up_to_counted(cumulative_tsn, &mut Turns::new());
+    }
+
+    /// The same, and its turns are added: at most one for each chunk held.
+    pub fn pop_up_to_counted(&mut self, cumulative_tsn: u32, turns: &mut Turns)
+        ensures kept { self.new ≡ with_chunks self.old (past cumulative_tsn self.old.chunks) }
+        ensures not_back { turns.old ≤ turns.new }
+        ensures cost { turns.new ≤ turns.old + length self.old.chunks }
+    {
+        let mut place = 0;
+        while place < self.held.len() {
+            let chunk = self.held.look(place, turns);
+            if sna32lte(chunk.tsn, cumulative_tsn) {
+                let removed = self.held.remove(place);
+                self.n_bytes -= removed.user_data.len();
+            } else {
+                place += 1;
+            }
+        }
+    }
+
+    /// The chunk with this TSN.
+    pub fn get(&self, tsn: u32) -> Option<&ChunkPayloadData>
+        ensures { option_copied result ≡ find (has_tsn tsn) self.now.chunks }
+    {
+        self.get_counted(tsn, &mut Turns::new())
+    }
+
+    /// The same, and its turns are added: at most as many as the number of held chunks has binary digits.
+    pub fn get_counted<'a>(&'a self, tsn: u32, turns: &mut Turns) -> Option<&'a ChunkPayloadData>
+        ensures value { option_copied result ≡ find (has_tsn tsn) self.now.chunks }
+        ensures variant { is_some result ≡ is_held self.now.chunks tsn }
+        ensures not_back { turns.old ≤ turns.new }
+        ensures cost { IsWithinDigits (length self.now.chunks) (turns.new - turns.old) }
+    {
+        match search(&self.held, tsn, turns) {
+            Ok((_, chunk)) => Some(chunk),
+            Err(_) => None,
+        }
+    }
+
+    /// The TSN of the chunk at a place, counted from 0 in serial order; None past the last.
+    pub fn tsn_at(&self, place: usize) -> Option<u32>
+        ensures { result ≡ option_map (λ c. c.tsn) (slice_get self.now.chunks place) }
+    {
+        if place < self.held.len() {
+            Some(self.held.look(place, &mut Turns::new()).tsn)
+        } else {
+            None
+        }
+    }
+
+    /// Takes out the chunk with this TSN, wherever it is.
+    pub fn take(&mut self, tsn: u32) -> Option<ChunkPayloadData>
+        ensures taken { result ≡ find (has_tsn tsn) self.old.chunks }
+        ensures rest { self.new ≡ with_chunks self.old (without tsn self.old.chunks) }
+    {
+        match search(&self.held, tsn, &mut Turns::new()) {
+            Ok((place, _)) => {
+                let chunk = self.held.remove(place);
+                self.n_bytes -= chunk.user_data.len();
+                Some(chunk)
+            }
+            Err(_) => None,
+        }
+    }
+
+    /// Gives up what is held of a message: its chunks are cleared and flagged, whatever their TSNs,
+    /// and stay in flight until they are taken out (RFC 3758 3.5). Answers the bytes that left.
+    pub fn abandon_message(&mut self, message_id: u64) -> usize
+        ensures abandoned { self.new ≡ with_chunks self.old (change_where (is_of message_id) given_up self.old.chunks) }
+        ensures left { bytes_of self.new.chunks + result ≡ bytes_of self.old.chunks }
+    {
+        let mut turns = Turns::new();
+        let before = self.n_bytes;
+        for place in 0..self.held.len() {
+            if self.held.look(place, &mut turns).message_id != message_id {
+                continue;
+            }
+            self.n_bytes -= self.held.mark(place, Mark::Abandoned, &mut turns);
+        }
+        before - self.n_bytes
+    }
+
+    /// Flags each chunk that is neither acknowledged nor abandoned to be sent
+    /// again, as after the retransmission timer ran out (RFC 4960 6.3.3).
+    pub fn mark_all_to_retransmit(&mut self)
+        ensures { self.new ≡ with_chunks self.old (change_where is_outstanding (with_retransmit true) self.old.chunks) }
+    {
+        let mut turns = Turns::new();
+        for place in 0..self.held.len() {
+            if !is_outstanding(self.held.look(place, &mut turns)) {
+                continue;
+            }
+            self.held.mark(place, Mark::Retransmit(true), &mut turns);
+        }
+    }
+
+    /// The TSNs that came again, noted so far, oldest first (RFC 4960 3.3.4).
+    pub fn duplicates(&self) -> &[u32]
+        ensures { result.now ≡ self.now.duplicates }
+    {
+        &self.dup_tsn
+    }
+
+    /// The same, and forgets them.
+    pub fn pop_duplicates(&mut self, alloc: Global) -> Vec<u32>
+        ensures taken { result.items ≡ self.old.duplicates }
+        ensures rest { self.new ≡ record self.old { duplicates = [] } }
+    {
+        mem::replace(&mut self.dup_tsn, Vec::new(alloc))
+    }
+
+    /// The runs of TSNs held at distance 1 to 65,535 after `cumulative_tsn`: they ascend, and none
+    /// touches the next (RFC 4960 3.3.4). A distance there has two bytes and does not wrap: farther TSNs
+    /// stay held, and are reported once the cumulative TSN has come nearer. Refuses only for memory.
+    pub fn get_gap_ack_blocks(&self, alloc: Global, cumulative_tsn: u32) -> Result<Vec<GapAckBlock>>
+        ensures reported { IfOk result (λ blocks. Reports cumulative_tsn self.now.chunks blocks.items) }
+        ensures runs { IfOk result (λ blocks. map ends_of blocks.items ≡ runs_of (gap_offsets cumulative_tsn self.now.chunks)) }
+        ensures memory { IsOkUnless result ErrOutOfMemory }
+    {
+        self.get_gap_ack_blocks_counted(alloc, cumulative_tsn, &mut Turns::new())
+    }
+
+    /// The same, and its turns are added: at most 34 for each block, and beside these one more
+    /// than the number of held chunks has binary digits; where memory runs out, for each block that there would be else.
+    pub fn get_gap_ack_blocks_counted(
+        &self,
+        alloc: Global,
+        cumulative_tsn: u32,
+        turns: &mut Turns,
+    ) -> Result<Vec<GapAckBlock>>
+        ensures reported { IfOk result (λ blocks. Reports cumulative_tsn self.now.chunks blocks.items) }
+        ensures runs { IfOk result (λ blocks. map ends_of blocks.items ≡ runs_of (gap_offsets cumulative_tsn self.now.chunks)) }
+        ensures memory { IsOkUnless result ErrOutOfMemory }
+        ensures not_back { turns.old ≤ turns.new }
+        ensures cost { IfOk result (λ blocks. IsWithinDigits (length self.now.chunks) (turns.new - turns.old - 34 * length blocks.items - 1)) }
+        ensures cost_of_runs { IsWithinDigits (length self.now.chunks) (turns.new - turns.old - 34 * length (runs_of (gap_offsets cumulative_tsn self.now.chunks)) - 1) }
+    {
+        let mut blocks = Vec::new(alloc);
+        let mut place = first_after(&self.held, cumulative_tsn, turns);
+        let mut seen = None;
+        while place < self.held.len() {
+            let tsn = seen_or_look(&self.held, place, seen, turns);
+            let Some(offset) = gap_offset(cumulative_tsn, tsn) else {
+                return Ok(blocks);
+            };
+            // a block cannot reach past 65,535
+            let reach = (self.held.len() - place).min(65536 - offset as usize);
+            let (last, next) = run_end(&self.held, place, tsn, place + reach, turns);
+            let end = offset + (last - place) as u16;
+            blocks.push(GapAckBlock { start: offset, end })?;
+            place = last + 1;
+            seen = next;
+        }
+        Ok(blocks)
+    }
+
+    /// The blocks as text: `cumTSN=10,2-3,5-5`. Refuses only for memory.
+    pub fn get_gap_ack_blocks_string(&self, alloc: Global, cumulative_tsn: u32) -> Result<String>
+        ensures text { IfOk result (λ s. string_bytes s ≡ gap_text cumulative_tsn (runs_of (gap_offsets cumulative_tsn self.now.chunks))) }
+        ensures memory { IsOkUnless result ErrOutOfMemory }
+    {
+        let blocks = self.get_gap_ack_blocks(alloc, cumulative_tsn)?;
+        let mut text = format!(in alloc; "cumTSN={cumulative_tsn}")?;
+        for block in &blocks {
+            write!(text, ",{}-{}", block.start, block.end)?;
+        }
+        Ok(text)
+    }
+
+    /// An equal queue, which shares its bytes; its room is as great. Refuses only for memory.
+    pub fn try_clone(&self, alloc: Global) -> Result<PayloadQueue>
+        ensures ok { IfOk result (λ q. q ≡ self.now) }
+        ensures memory { IsOkUnless result ErrOutOfMemory }
+    {
+        let mut turns = Turns::new();
+        let mut held = Held::new(alloc);
+        held.reserve(self.held.len())?;
+        for place in 0..self.held.len() {
+            held.insert(place, self.held.look(place, &mut turns).try_clone()?)?;
+        }
+        held.reserve(self.held.room())?;
+        Ok(PayloadQueue {
+            held,
+            dup_tsn: self.dup_tsn.clone()?,
+            n_bytes: self.n_bytes,
+        })
+    }
+
+    /// Marks a chunk as acknowledged: its bytes go, and it is not to be sent again.
+    /// Answers how many bytes left, 0 where the TSN is not held.
+    pub fn mark_as_acked(&mut self, tsn: u32) -> usize
+        ensures acked { self.new ≡ with_chunks self.old (change_where (has_tsn tsn) acknowledged self.old.chunks) }
+        ensures left { bytes_of self.new.chunks + result ≡ bytes_of self.old.chunks }
+    {
+        self.mark(tsn, Mark::Acknowledged).unwrap_or(0)
+    }
+
+    /// Whether the TSN is held; the chunk is to be sent again then, or not, as `retransmit` says.
+    pub fn set_retransmit(&mut self, tsn: u32, retransmit: bool) -> bool
+        ensures changed { self.new ≡ with_chunks self.old (change_where (has_tsn tsn) (with_retransmit retransmit) self.old.chunks) }
+        ensures held { result ≡ is_held self.old.chunks tsn }
+    {
+        self.mark(tsn, Mark::Retransmit(retransmit)).is_some()
+    }
+
+    /// Whether the TSN is held; the chunk counts as sent so often then.
+    pub fn set_nsent(&mut self, tsn: u32, nsent: u32) -> bool
+        ensures changed { self.new ≡ with_chunks self.old (change_where (has_tsn tsn) (with_nsent nsent) self.old.chunks) }
+        ensures held { result ≡ is_held self.old.chunks tsn }
+    {
+        self.mark(tsn, Mark::Nsent(nsent)).is_some()
+    }
+
+    /// Whether the TSN is held; the chunk counts as sent at that moment then, in nanoseconds.
+    pub fn set_since(&mut self, tsn: u32, since: Option<u64>) -> bool
+        ensures changed { self.new ≡ with_chunks self.old (change_where (has_tsn tsn) (with_since since) self.old.chunks) }
+        ensures held { result ≡ is_held self.old.chunks tsn }
+    {
+        self.mark(tsn, Mark::Since(since)).is_some()
+    }
+
+    /// Whether the TSN is held; the chunk then counts as reported missing by so
+    /// many acknowledgements, which fast retransmission looks at (RFC 4960 7.2.4).
+    pub fn set_miss_indicator(&mut self, tsn: u32, miss_indicator: u8) -> bool
+        ensures changed { self.new ≡ with_chunks self.old (change_where (has_tsn tsn) (with_miss_indicator miss_indicator) self.old.chunks) }
+        ensures held { result ≡ is_held self.old.chunks tsn }
+    {
+        self.mark(tsn, Mark::MissIndicator(miss_indicator))
+            .is_some()
+    }
+
+    // Marks the chunk with this TSN, and answers the bytes that left with it.
+    fn mark(&mut self, tsn: u32, mark: Mark) -> Option<usize>
+        ensures changed { self.new ≡ with_chunks self.old (change_where (has_tsn tsn) (marked mark) self.old.chunks) }
+        ensures held { is_some result ≡ is_held self.old.chunks tsn }
+        ensures left { bytes_of self.new.chunks + unwrap_or result 0 ≡ bytes_of self.old.chunks }
+    {
+        let mut turns = Turns::new();
+        match search(&self.held, tsn, &mut turns) {
+            Ok((place, _)) => {
+                let left = self.held.mark(place, mark, &mut turns);
+                self.n_bytes -= left;
+                Some(left)
+            }
+            Err(_) => None,
+        }
+    }
+
+    /// The TSN of the last chunk in serial order; None where nothing is held.
+    pub fn get_last_tsn_received(&self) -> Option<u32>
+        ensures { result ≡ option_map (λ c. c.tsn) (slice_get self.now.chunks (length self.now.chunks - 1)) }
+    {
+        let len = self.held.len();
+        if len == 0 {
+            return None;
+        }
+        self.tsn_at(len - 1)
+    }
+
+    /// The bytes of user data of all that is held.
+    pub fn get_num_bytes(&self) -> usize
+        ensures { result ≡ bytes_of self.now.chunks }
+    {
+        self.n_bytes
+    }
+
+    /// How many chunks are held.
+    pub fn len(&self) -> usize
+        ensures { result ≡ length self.now.chunks }
+    {
+        self.held.len()
+    }
+
+    /// Whether nothing is held.
+    pub fn is_empty(&self) -> bool
+        ensures { result ≡ (length self.now.chunks == 0) }
+    {
+        self.held.is_empty()
+    }
+
+    /// Whether a chunk of the stream is held.
+    pub fn contains_stream(&self, stream_identifier: u16) -> bool
+        ensures { result ≡ list_any (λ c. c.stream_identifier == stream_identifier) self.now.chunks }
+    {
+        let mut turns = Turns::new();
+        for place in 0..self.held.len() {
+            if self.held.look(place, &mut turns).stream_identifier == stream_identifier {
+                return true;
+            }
+        }
+        false
+    }
+
+    /// From here on `additional` pushes of new TSNs take no memory.
+    /// Refuses only for memory, and the queue is as it was then.
+    pub fn reserve(&mut self, additional: usize) -> Result<()>
+        ensures ok { OnOk result (self.new ≡ record self.old { room = max additional self.old.room }) }
+        ensures err { OnErr result (self.new ≡ self.old) }
+        ensures memory { IsOkUnless result ErrOutOfMemory }
+        ensures succeeds { additional ≤ self.old.room → IsOk result }
+    {
+        self.held.reserve(additional)
+    }
+
+    // The chunk at a place.
+    pub(crate) fn at(&self, place: usize) -> &ChunkPayloadData
+        requires { place < length self.now.chunks }
+        ensures { result.now ≡ slice_index_or self.now.chunks place result.now }
+    {
+        self.held.look(place, &mut Turns::new())
+    }
+}

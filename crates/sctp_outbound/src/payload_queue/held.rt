@@ -1,0 +1,207 @@
+//! Held chunks, in one deque. A call that looks at one takes a turn.
+
+ghost use Rattle.std.specs.Prelude.{◌≡◌, ◌==◌, ◌+◌, ◌-◌, ◌<◌, ◌≤◌, [], ◌∷◌, length, max, insert, remove, slice_get, slice_index_or, slice_set, OnOk, OnErr, IfSome, IfNone, IsOk, IsOkUnless};
+ghost use Rattle.std.specs.Option.{option_map};
+ghost use Rattle.sctp_base.specs.declared.error.Error.TheVariants.{ErrOutOfMemory};
+
+use sctp_serial::turns::Turns;
+use sctp_base::error::Result;
+use sctp_chunks::chunk::chunk_payload_data::ChunkPayloadData;
+use std::alloc::Global;
+use std::collections::VecDeque;
+use std::marker::Model;
+
+/// What is noted of a chunk in flight, for its sender alone.
+#[derive(Clone, Copy, PartialEq, Eq)]
+pub(crate) enum Mark {
+    /// The peer has it: its bytes go.
+    Acknowledged,
+    /// Its message is given up: its bytes go.
+    Abandoned,
+    /// Whether it is to be sent again.
+    Retransmit(bool),
+    /// How often it was sent.
+    Nsent(u32),
+    /// When it was sent, in nanoseconds.
+    Since(Option<u64>),
+    /// How many acknowledgements reported it missing.
+    MissIndicator(u8),
+}
+
+/// Chunks by place, from 0. The next `room` insertions take no memory.
+#[derive(Drop)]
+pub struct Held {
+    chunks: VecDeque<ChunkPayloadData>,
+    room: usize,
+}
+
+impl Model for Held {
+    ghost use Rattle.std.specs.Prelude.{◌+◌, ◌≤◌};
+    ghost use Rattle.std.specs.VecDeque.{deque_capacity, deque_len};
+    ghost use Rattle.sctp_outbound.specs.Stored.{Stored};
+
+    ghost Value = { Stored };
+
+    ghost view = { λ h. record { chunks = h.chunks.items; room = h.room } };
+
+    ghost invariant = { λ h. deque_len h.chunks + h.room ≤ deque_capacity h.chunks };
+}
+
+impl Held {
+    ghost use Rattle.sctp_outbound.specs.Stored.{with_chunks};
+    ghost use Rattle.sctp_outbound.specs.Marks.{marked};
+
+    /// No chunks. It takes no memory.
+    pub fn new(alloc: Global) -> Self
+        ensures { result ≡ record { chunks = []; room = 0 } }
+    {
+        Held {
+            chunks: VecDeque::new(alloc),
+            room: 0,
+        }
+    }
+
+    /// How many chunks there are.
+    pub fn len(&self) -> usize
+        ensures { result ≡ length self.now.chunks }
+    {
+        self.chunks.len()
+    }
+
+    /// Whether there are none.
+    pub fn is_empty(&self) -> bool
+        ensures { result ≡ (length self.now.chunks == 0) }
+    {
+        self.chunks.is_empty()
+    }
+
+    /// How many insertions take no memory.
+    pub fn room(&self) -> usize
+        ensures { result ≡ self.now.room }
+    {
+        self.room
+    }
+
+    /// Looks at the chunk at a place, which is a turn.
+    /// Precondition: the place has one.
+    pub fn look<'a>(&'a self, place: usize, turns: &mut Turns) -> &'a ChunkPayloadData
+        requires { place < length self.now.chunks }
+        ensures value { result.now ≡ slice_index_or self.now.chunks place result.now }
+        ensures turn { turns.new ≡ turns.old + 1 }
+    {
+        turns.tick();
+        &self.chunks[place]
+    }
+
+    /// The TSN of the first chunk; None where there are none.
+    pub fn front_tsn(&self) -> Option<u32>
+        ensures { result ≡ option_map (λ c. c.tsn) (slice_get self.now.chunks 0) }
+    {
+        match self.chunks.front() {
+            Some(chunk) => Some(chunk.tsn),
+            None => None,
+        }
+    }
+
+    /// From here on `additional` insertions take no memory.
+    /// Refuses only for memory, and nothing changes then.
+    pub fn reserve(&mut self, additional: usize) -> Result<()>
+        ensures ok { OnOk result (self.new ≡ record self.old { room = max additional self.old.room }) }
+        ensures err { OnErr result (self.new ≡ self.old) }
+        ensures memory { IsOkUnless result ErrOutOfMemory }
+        ensures succeeds { additional ≤ self.old.room → IsOk result }
+    {
+        if additional <= self.room {
+            return Ok(());
+        }
+        self.chunks.reserve(additional)?;
+        self.room = additional;
+        Ok(())
+    }
+
+    /// Puts a chunk at a place, before the one that is there.
+    /// Precondition: the place is at most the number of chunks.
+    /// Refuses only for memory, and never within the room. Nothing changes then.
+    pub fn insert(&mut self, place: usize, chunk: ChunkPayloadData) -> Result<()>
+        requires { place ≤ length self.old.chunks }
+        ensures ok { OnOk result (self.new ≡ record { chunks = insert self.old.chunks place chunk; room = self.old.room - 1 }) }
+        ensures err { OnErr result (self.new ≡ self.old) }
+        ensures memory { IsOkUnless result ErrOutOfMemory }
+        ensures succeeds { 0 < self.old.room → IsOk result }
+    {
+        self.chunks.insert(place, chunk)?;
+        self.room = self.room.saturating_sub(1);
+        Ok(())
+    }
+
+    /// Takes out the chunk at a place. The room stays as it is.
+    /// Precondition: the place has one.
+    pub fn remove(&mut self, place: usize) -> ChunkPayloadData
+        requires { place < length self.old.chunks }
+        ensures removed { self.new ≡ with_chunks self.old (remove self.old.chunks place) }
+        ensures value { result ≡ slice_index_or self.old.chunks place result }
+    {
+        match self.chunks.remove(place) {
+            Some(chunk) => chunk,
+            None => unreachable!(),
+        }
+    }
+
+    /// Takes out the first chunk; None where there are none.
+    pub fn pop_front(&mut self) -> Option<ChunkPayloadData>
+        ensures popped { IfSome result (λ chunk. self.old ≡ with_chunks self.new (chunk ∷ self.new.chunks)) }
+        ensures empty { IfNone result ((self.old.chunks ≡ []) × (self.new ≡ self.old)) }
+    {
+        self.chunks.pop_front()
+    }
+
+    /// Marks the chunk at a place, which is a turn, and answers how many bytes left with it.
+    /// Precondition: the place has one.
+    pub(crate) fn mark(&mut self, place: usize, mark: Mark, turns: &mut Turns) -> usize
+        requires { place < length self.old.chunks }
+        ensures changed { (d : _) → self.new ≡ with_chunks self.old (slice_set self.old.chunks place (marked mark (slice_index_or self.old.chunks place d))) }
+        ensures left { (d : _) → result + length (marked mark (slice_index_or self.old.chunks place d)).user_data ≡ length (slice_index_or self.old.chunks place d).user_data }
+        ensures turn { turns.new ≡ turns.old + 1 }
+    {
+        turns.tick();
+        let chunk = &mut self.chunks[place];
+        match mark {
+            Mark::Acknowledged => {
+                chunk.acked = true;
+                chunk.retransmit = false;
+                clear(chunk)
+            }
+            Mark::Abandoned => {
+                chunk.abandoned = true;
+                chunk.retransmit = false;
+                clear(chunk)
+            }
+            Mark::Retransmit(retransmit) => {
+                chunk.retransmit = retransmit;
+                0
+            }
+            Mark::Nsent(nsent) => {
+                chunk.nsent = nsent;
+                0
+            }
+            Mark::Since(since) => {
+                chunk.since = since;
+                0
+            }
+            Mark::MissIndicator(miss_indicator) => {
+                chunk.miss_indicator = miss_indicator;
+                0
+            }
+        }
+    }
+}
+
+// Takes the bytes out of a chunk, and answers how many they were.
+fn clear(chunk: &mut ChunkPayloadData) -> usize
+    ensures cleared { chunk.new ≡ record chunk.old { user_data = [] } }
+    ensures left { result ≡ length chunk.old.user_data }
+{
+    let len = chunk.user_data.len();
+    chunk.user_data.clear();
+    len
+}

@@ -1,0 +1,357 @@
+//! Chunks that wait in a line: first in, first out.
+
+ghost use Rattle.std.specs.Prelude.{◌≡◌, ◌==◌, ◌+◌, ◌-◌, ◌^◌, ◌<◌, ◌≤◌, ◌++◌, [], ◌∷◌, length, map, max, OnOk, OnErr, IfSome, IfNone, IsOk, IsOkUnless, option_copied, slice_get, take, true, false};
+ghost use Rattle.std.specs.List.{All, list_any};
+ghost use Rattle.std.specs.VecDeque.{deque_capacity, deque_len};
+ghost use Rattle.sctp_base.specs.declared.error.Error.TheVariants.{ErrOutOfMemory};
+ghost use Rattle.sctp_lists.specs.Lists.{change_where, those};
+ghost use Rattle.sctp_outbound.specs.Marks.{is_of};
+ghost use Rattle.sctp_outbound.specs.outbound_queue.OutboundQueue.{with_message_id};
+ghost use Rattle.sctp_outbound.specs.pending_queue.PendingQueue.{removed_bytes, last_of, without_message, is_on, one_lower, is_to_start, with_deadline, is_dcep, is_timed, deadline_at};
+ghost use Rattle.sctp_outbound.specs.pending_queue.Whole.{NumbersAscend, ends, until_end};
+ghost use Rattle.sctp_serial.specs.DataChunks.{bytes_of};
+
+use sctp_base::error::Result;
+use sctp_chunks::chunk::chunk_payload_data::{
+    ChunkPayloadData, PayloadProtocolIdentifier, ReliabilityType,
+};
+use std::alloc::Global;
+use std::collections::VecDeque;
+use std::marker::Model;
+
+/// Chunks in the order in which they came. The next `room` pushes take no memory.
+#[derive(Drop)]
+pub(crate) struct Line {
+    chunks: VecDeque<ChunkPayloadData>,
+    n_bytes: usize,
+    room: usize,
+}
+
+impl Model for Line {
+    ghost use Rattle.std.specs.Prelude.{◌≡◌, ◌+◌, ◌≤◌};
+    ghost use Rattle.std.specs.VecDeque.{deque_capacity, deque_len};
+    ghost use Rattle.sctp_outbound.specs.Stored.{Stored};
+    ghost use Rattle.sctp_serial.specs.DataChunks.{bytes_of};
+
+    ghost Value = { Stored };
+
+    ghost view = { λ l. record { chunks = l.chunks.items; room = l.room } };
+
+    ghost invariant = { λ l. record { counted : l.n_bytes ≡ bytes_of l.chunks.items; fits : deque_len l.chunks + l.room ≤ deque_capacity l.chunks } };
+}
+
+impl Line {
+    ghost use Rattle.sctp_outbound.specs.Stored.{with_chunks};
+
+    /// No chunks. It takes no memory.
+    pub(crate) fn new(alloc: Global) -> Self
+        ensures { result ≡ record { chunks = []; room = 0 } }
+    {
+        Line {
+            chunks: VecDeque::new(alloc),
+            n_bytes: 0,
+            room: 0,
+        }
+    }
+
+    /// How many chunks wait.
+    pub(crate) fn len(&self) -> usize
+        ensures value { result ≡ length self.now.chunks }
+        ensures bound { result < 2 ^ 63 }
+    {
+        self.chunks.len()
+    }
+
+    /// The bytes of user data of all.
+    pub(crate) fn get_num_bytes(&self) -> usize
+        ensures { result ≡ bytes_of self.now.chunks }
+    {
+        self.n_bytes
+    }
+
+    /// The chunk at a place, counted from the front.
+    pub(crate) fn get(&self, place: usize) -> Option<&ChunkPayloadData>
+        ensures { option_copied result ≡ slice_get self.now.chunks place }
+    {
+        self.chunks.get(place)
+    }
+
+    /// How many chunks the rest of the message in front has, where they are at most `most`.
+    /// Precondition: an ending fragment waits.
+    pub(crate) fn until_end(&self, most: usize) -> Option<usize>
+        requires { list_any ends self.now.chunks ≡ true }
+        ensures some { IfSome result (λ n. (n ≡ until_end self.now.chunks) × (n ≤ most)) }
+        ensures none { IfNone result (most < until_end self.now.chunks) }
+    {
+        for place in 0..most {
+            let Some(chunk) = self.chunks.get(place) else {
+                unreachable!()
+            };
+            if chunk.ending_fragment {
+                return Some(place + 1);
+            }
+        }
+        None
+    }
+
+    /// From here on `additional` pushes take no memory.
+    /// Refuses only for memory, and nothing changes then.
+    pub(crate) fn reserve(&mut self, additional: usize) -> Result<()>
+        ensures ok { OnOk result (self.new ≡ record self.old { room = max additional self.old.room }) }
+        ensures err { OnErr result (self.new ≡ self.old) }
+        ensures memory { IsOkUnless result ErrOutOfMemory }
+        ensures succeeds { additional ≤ self.old.room → IsOk result }
+    {
+        if additional <= self.room {
+            return Ok(());
+        }
+        self.chunks.reserve(additional)?;
+        self.room = additional;
+        Ok(())
+    }
+
+    /// How many pushes take no memory.
+    pub(crate) fn room(&self) -> usize
+        ensures { result ≡ self.now.room }
+    {
+        self.room
+    }
+
+    /// Counts on no more room than this.
+    /// Precondition: it is at most the room.
+    pub(crate) fn keep_room(&mut self, room: usize)
+        requires { room ≤ self.old.room }
+        ensures { self.new ≡ record self.old { room = room } }
+    {
+        self.room = room;
+    }
+
+    /// Puts a chunk behind the others.
+    /// Precondition: the bytes of all are fewer than 2^64.
+    /// Refuses only for memory, and never within the room. Nothing changes then.
+    pub(crate) fn push_back(&mut self, chunk: ChunkPayloadData) -> Result<()>
+        requires { bytes_of self.old.chunks + length chunk.user_data < 2 ^ 64 }
+        ensures ok { OnOk result (self.new ≡ record { chunks = self.old.chunks ++ chunk ∷ []; room = self.old.room - 1 }) }
+        ensures err { OnErr result (self.new ≡ self.old) }
+        ensures memory { IsOkUnless result ErrOutOfMemory }
+        ensures succeeds { 0 < self.old.room → IsOk result }
+    {
+        let len = chunk.user_data.len();
+        self.chunks.push_back(chunk)?;
+        self.room = self.room.saturating_sub(1);
+        self.n_bytes += len;
+        Ok(())
+    }
+
+    /// Puts the fragments of a message behind, under its number.
+    /// Precondition: the bytes of all are fewer than 2^64.
+    /// Refuses only for memory, and never within the room. Nothing changes then.
+    pub(crate) fn append(&mut self, chunks: Vec<ChunkPayloadData>, message_id: u64) -> Result<()>
+        requires { bytes_of self.old.chunks + bytes_of chunks.items < 2 ^ 64 }
+        ensures ok { OnOk result (self.new ≡ record { chunks = self.old.chunks ++ map (with_message_id message_id) chunks.items; room = self.old.room - length chunks.items }) }
+        ensures bytes { OnOk result (bytes_of self.new.chunks ≡ bytes_of self.old.chunks + bytes_of chunks.items) }
+        ensures err { OnErr result (self.new ≡ self.old) }
+        ensures memory { IsOkUnless result ErrOutOfMemory }
+        ensures succeeds { length chunks.items ≤ self.old.room → IsOk result }
+    {
+        self.reserve(chunks.len())?;
+        let mut rest = VecDeque::from_vec(chunks);
+        while let Some(mut chunk) = rest.pop_front() {
+            chunk.message_id = message_id;
+            match self.push_back(chunk) {
+                Ok(()) => {}
+                Err(_) => unreachable!(),
+            }
+        }
+        Ok(())
+    }
+
+    /// Takes out the first chunk; None where there are none.
+    pub(crate) fn pop_front(&mut self) -> Option<ChunkPayloadData>
+        ensures popped { IfSome result (λ chunk. self.old ≡ with_chunks self.new (chunk ∷ self.new.chunks)) }
+        ensures empty { IfNone result ((self.old.chunks ≡ []) × (self.new ≡ self.old)) }
+    {
+        let chunk = self.chunks.pop_front()?;
+        self.n_bytes -= chunk.user_data.len();
+        Some(chunk)
+    }
+
+    /// Removes what waits of a message, and answers its bytes and the last of it.
+    pub(crate) fn remove_message(&mut self, message_id: u64) -> (usize, Option<ChunkPayloadData>)
+        ensures bytes { result.0 ≡ removed_bytes message_id self.old.chunks }
+        ensures left { bytes_of self.new.chunks + result.0 ≡ bytes_of self.old.chunks }
+        ensures last { result.1 ≡ last_of (those (is_of message_id) self.old.chunks) }
+        ensures rest { self.new ≡ with_chunks self.old (without_message message_id self.old.chunks) }
+    {
+        let (bytes, last) = remove_from(&mut self.chunks, message_id);
+        self.n_bytes -= bytes;
+        (bytes, last)
+    }
+
+    /// Lowers the stream sequence numbers of a stream by one.
+    pub(crate) fn lower_ssns(&mut self, stream_identifier: u16)
+        ensures lowered { self.new ≡ with_chunks self.old (change_where (is_on stream_identifier) one_lower self.old.chunks) }
+        ensures bytes { bytes_of self.new.chunks ≡ bytes_of self.old.chunks }
+    {
+        lower_ssns_in(&mut self.chunks, stream_identifier);
+    }
+
+    /// Starts the lifetimes of timed messages numbered from `first_message_id` on
+    /// that have no deadline yet. `now` is in nanoseconds.
+    pub(crate) fn start_timed_messages(&mut self, first_message_id: u64, now: u64)
+        ensures started { self.new ≡ with_chunks self.old (change_where (is_to_start first_message_id) (with_deadline now) self.old.chunks) }
+        ensures bytes { bytes_of self.new.chunks ≡ bytes_of self.old.chunks }
+    {
+        start_in(&mut self.chunks, 0, first_message_id, now);
+    }
+
+    /// The same where numbers ascend: it looks at the messages numbered so, and at the last chunk before them.
+    /// Precondition: they do. `now` is in nanoseconds.
+    pub(crate) fn start_latest_messages(&mut self, first_message_id: u64, now: u64)
+        requires { NumbersAscend self.old.chunks }
+        ensures started { self.new ≡ with_chunks self.old (change_where (is_to_start first_message_id) (with_deadline now) self.old.chunks) }
+        ensures bytes { bytes_of self.new.chunks ≡ bytes_of self.old.chunks }
+    {
+        let from = place_of(&self.chunks, first_message_id);
+        start_in(&mut self.chunks, from, first_message_id, now);
+    }
+
+    /// Whether a chunk of the message waits.
+    pub(crate) fn contains_message(&self, message_id: u64) -> bool
+        ensures { result ≡ list_any (is_of message_id) self.now.chunks }
+    {
+        self.chunks
+            .iter()
+            .any(|chunk| chunk.message_id == message_id)
+    }
+
+    /// Whether a chunk of the stream waits.
+    pub(crate) fn contains_stream(&self, stream_identifier: u16) -> bool
+        ensures { result ≡ list_any (is_on stream_identifier) self.now.chunks }
+    {
+        self.chunks
+            .iter()
+            .any(|chunk| chunk.stream_identifier == stream_identifier)
+    }
+}
+
+// Removes what is of the message, in order, and answers its bytes and the last of it.
+fn remove_from(
+    chunks: &mut VecDeque<ChunkPayloadData>,
+    message_id: u64,
+) -> (usize, Option<ChunkPayloadData>)
+    requires { bytes_of chunks.old.items < 2 ^ 64 }
+    ensures bytes { result.0 ≡ removed_bytes message_id chunks.old.items }
+    ensures left { bytes_of chunks.new.items + result.0 ≡ bytes_of chunks.old.items }
+    ensures last { result.1 ≡ last_of (those (is_of message_id) chunks.old.items) }
+    ensures rest { chunks.new.items ≡ without_message message_id chunks.old.items }
+    ensures len { deque_len chunks.new ≤ deque_len chunks.old }
+    ensures capacity { deque_capacity chunks.new ≡ deque_capacity chunks.old }
+{
+    let mut bytes = 0;
+    let mut last = None;
+    let mut place = 0;
+    while place < chunks.len() {
+        if chunks[place].message_id != message_id {
+            place += 1;
+            continue;
+        }
+        match chunks.remove(place) {
+            Some(chunk) => {
+                bytes += chunk.user_data.len();
+                last = Some(chunk);
+            }
+            None => unreachable!(),
+        }
+    }
+    (bytes, last)
+}
+
+// Lowers the stream sequence numbers of a stream by one.
+fn lower_ssns_in(chunks: &mut VecDeque<ChunkPayloadData>, stream_identifier: u16)
+    ensures items { chunks.new.items ≡ change_where (is_on stream_identifier) one_lower chunks.old.items }
+    ensures len { deque_len chunks.new ≡ deque_len chunks.old }
+    ensures capacity { deque_capacity chunks.new ≡ deque_capacity chunks.old }
+{
+    for place in 0..chunks.len() {
+        let chunk = &mut chunks[place];
+        if chunk.stream_identifier != stream_identifier {
+            continue;
+        }
+        chunk.stream_sequence_number = chunk.stream_sequence_number.wrapping_sub(1);
+    }
+}
+
+// Where the chunks of messages numbered from `first_message_id` on begin, sought from the back.
+fn place_of(chunks: &VecDeque<ChunkPayloadData>, first_message_id: u64) -> usize
+    requires { NumbersAscend chunks.now.items }
+    ensures in_range { result ≤ length chunks.now.items }
+    ensures before { All (λ c. is_to_start first_message_id c ≡ false) (take result chunks.now.items) }
+{
+    let mut place = chunks.len();
+    while place > 0 {
+        if chunks[place - 1].message_id < first_message_id {
+            return place;
+        }
+        place -= 1;
+    }
+    0
+}
+
+// Sets the deadlines of timed messages that have none. There are no such messages before `from`.
+fn start_in(chunks: &mut VecDeque<ChunkPayloadData>, from: usize, first_message_id: u64, now: u64)
+    requires in_range { from ≤ length chunks.old.items }
+    requires before { All (λ c. is_to_start first_message_id c ≡ false) (take from chunks.old.items) }
+    ensures items { chunks.new.items ≡ change_where (is_to_start first_message_id) (with_deadline now) chunks.old.items }
+    ensures len { deque_len chunks.new ≡ deque_len chunks.old }
+    ensures capacity { deque_capacity chunks.new ≡ deque_capacity chunks.old }
+{
+    for place in from..chunks.len() {
+        let chunk = &mut chunks[place];
+        if !is_to_start(chunk, first_message_id) {
+            continue;
+        }
+        chunk.deadline = deadline_of(chunk, now);
+    }
+}
+
+// Whether the chunk is of a timed message numbered from `first_message_id` on, and has no deadline yet. DCEP messages never get one.
+fn is_to_start(chunk: &ChunkPayloadData, first_message_id: u64) -> bool
+    ensures { result ≡ is_to_start first_message_id chunk.now }
+{
+    chunk.message_id >= first_message_id
+        && chunk.deadline.is_none()
+        && !is_dcep(chunk.payload_type)
+        && is_timed(chunk.reliability)
+}
+
+// The end of a timed chunk's lifetime, where that is a moment.
+fn deadline_of(chunk: &ChunkPayloadData, now: u64) -> Option<u64>
+    ensures { result ≡ (with_deadline now chunk.now).deadline }
+{
+    let milliseconds = match chunk.reliability {
+        Some((_, lifetime)) => u64::from(lifetime),
+        None => 0,
+    };
+    now.checked_add(milliseconds * 1_000_000)
+}
+
+/// Whether it is a message that establishes a channel (RFC 8832).
+pub(crate) fn is_dcep(payload_type: PayloadProtocolIdentifier) -> bool
+    ensures { result ≡ is_dcep payload_type }
+{
+    match payload_type {
+        PayloadProtocolIdentifier::Dcep => true,
+        _ => false,
+    }
+}
+
+/// Whether there is a lifetime.
+fn is_timed(reliability: Option<(ReliabilityType, u32)>) -> bool
+    ensures { result ≡ is_timed reliability }
+{
+    match reliability {
+        Some((ReliabilityType::Timed, _)) => true,
+        _ => false,
+    }
+}

@@ -1,5 +1,0 @@
--- Lemmas on a payload queue.
-pub mod Ends
-pub mod Gaps
-pub mod Marked
-pub mod Search

@@ -1,6 +1,0 @@
-use Rattle.std.proofs.Common.{◌≡◌, ◌-◌, ◌^◌, take, min}
-use Rattle.sctp_queues.specs.DataChunks.{bytes_of}
-use Rattle.sctp_queues.proofs.reassembly_queue.chunks.bytes_in.Given as goal
-
-abbrev pub invariant-loop-chunk : goal.invariant-loop-chunk
-invariant-loop-chunk l = l.len ≡ min (bytes_of (take l.chunk-index l.chunks)) (2 ^ 64 - 1)

@@ -1,6 +1,0 @@
-use Rattle.std.proofs.Common.{◌≡◌, drop, None}
-use Rattle.sctp_queues.specs.reassembly_queue.Skips.{latest_passable}
-use Rattle.sctp_queues.proofs.reassembly_queue.skips.latest_passable.Given as goal
-
-abbrev pub invariant-loop-place : goal.invariant-loop-place
-invariant-loop-place l = latest_passable l.found l.next_ssn l.last_ssn l.tsn l.peer_last_tsn (drop l.place l.sets.items) ≡ latest_passable None l.next_ssn l.last_ssn l.tsn l.peer_last_tsn l.sets.items

@@ -1,9 +1,0 @@
--- What the contracts of `ReassemblyQueue`, and of the messages and loose fragments in it, cite.
-pub mod Around
-pub mod Chunks
-pub mod Fragments
-pub mod Loose
-pub mod ReassemblyQueue
-pub mod Runs
-pub mod Sizes
-pub mod Skips

@@ -1,0 +1,2 @@
+-- Lemmas on what comes, by what they are for.
+pub mod reassembly_queue

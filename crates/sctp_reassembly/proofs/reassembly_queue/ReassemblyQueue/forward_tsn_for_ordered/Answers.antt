@@ -1,0 +1,20 @@
+use Rattle.std.proofs.Common.{◌-◌, ap₂, ◌∙◌, sym, subst, ap}
+use Rattle.sctp_lists.specs.Lists.{those}
+use Rattle.sctp_reassembly.specs.reassembly_queue.ReassemblyQueue.{is_passed, set_bytes}
+use Rattle.sctp_reassembly.proofs.lemmas.reassembly_queue.SetLemmas.{state_of}
+use Rattle.sctp_reassembly.specs.reassembly_queue.ReassemblyQueue.{ReassemblyState, IsCounted, complete_sets}
+use Rattle.sctp_reassembly.proofs.lemmas.reassembly_queue.CountLemmas.{skip_counted, skip_complete}
+use Rattle.sctp_reassembly.proofs.reassembly_queue.ReassemblyQueue.forward_tsn_for_ordered.Goals as goal
+
+pub returns-clause-value : goal.returns-clause-value
+returns-clause-value c =
+    let q = c.self.inside in
+    let n = set_bytes (those (is_passed c.args.last_ssn) q.ordered) in
+    rw (← c.self.view_is) (c.release.ensures n c.discard-gone.ensures.bytes
+    ∙ ap₂ (λ next sets. state_of q.si next sets q.unordered.items q.unordered_chunks (q.n_bytes - n) q.max_message_size) c.ssn_past-self-inside.ensures c.discard-gone.ensures.rest)
+
+pub returns-clause-counted : goal.returns-clause-counted
+returns-clause-counted c h = subst IsCounted (sym (returns-clause-value c)) (skip_counted c.args.last_ssn c.args.self.now h)
+
+pub returns-clause-complete : goal.returns-clause-complete
+returns-clause-complete c = ap (λ (q : ReassemblyState). complete_sets q.held) (returns-clause-value c) ∙ skip_complete c.args.last_ssn c.args.self.now.held

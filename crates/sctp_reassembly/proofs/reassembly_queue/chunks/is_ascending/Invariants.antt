@@ -1,0 +1,11 @@
+use Rattle.std.proofs.Common.{◌^◌, ◌<◌}
+use Rattle.sctp_chunks.specs.declared.chunk.chunk_payload_data.ChunkPayloadData.{ChunkPayloadData}
+use Rattle.sctp_serial.proofs.lemmas.Ascending.{IsRising}
+use Rattle.sctp_reassembly.proofs.reassembly_queue.chunks.is_ascending.Given as goal
+
+abbrev pub invariant-loop-place : goal.invariant-loop-place
+invariant-loop-place l = record {
+  rising : IsRising (λ (c : ChunkPayloadData). c.tsn) l.chunks l.first l.far l.place;
+  half : l.far < 2 ^ 31;
+  small : l.first < 2 ^ 32;
+}

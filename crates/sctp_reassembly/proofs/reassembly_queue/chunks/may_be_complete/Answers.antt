@@ -1,0 +1,21 @@
+use Rattle.std.proofs.Common.{◌≡◌, ◌+◌, ◌-◌, ◌%◌, ◌^◌, ◌<◌, length, get_or, sym, ap, subst, ◌∙◌, arith}
+use Rattle.std.proofs.lemmas.Bool.Decides.{nat_tests}
+use Rattle.std.proofs.lemmas.List.{get_or_default}
+use Rattle.sctp_chunks.specs.declared.chunk.chunk_payload_data.ChunkPayloadData.{ChunkPayloadData}
+use Rattle.sctp_reassembly.proofs.lemmas.reassembly_queue.CompleteLemmas.{not_ended, not_apart}
+use Rattle.sctp_reassembly.proofs.reassembly_queue.chunks.may_be_complete.Goals as goal
+
+pub returns-then-not-last : goal.returns-then-not-last
+returns-then-not-last c h = not_ended c.index-chunks-len.result c.args.chunks.now (ap (λ (x : ChunkPayloadData). x.ending_fragment) (sym c.index-chunks-len.is) ∙ c.if-not-last.true)
+
+pub returns : goal.returns
+returns c h =
+    let xs = c.args.chunks.now in
+    let first = c.index-chunks-0.result in
+    let last = c.index-chunks-len.result in
+    let some : 0 < length xs = omega (arith, c.if-len-eq0.false) in
+    let begin : first ≡ get_or xs 0 last = c.index-chunks-0.is ∙ get_or_default xs 0 first last some in
+    let small : (get_or xs 0 last).tsn < 2 ^ 32 = subst (λ (x : ChunkPayloadData). x.tsn < 2 ^ 32) begin c.tsn_after.ensures.fits in
+    not_apart last xs small (λ e.
+    let same : last.tsn ≡ c.tsn_after.result = ap (λ (x : ChunkPayloadData). x.tsn) c.index-chunks-len.is ∙ e ∙ ap (λ (x : ChunkPayloadData). (x.tsn + (length xs - 1) % 2 ^ 32) % 2 ^ 32) (sym begin) ∙ sym c.tsn_after.ensures.value in
+    grind (arith, nat_tests))

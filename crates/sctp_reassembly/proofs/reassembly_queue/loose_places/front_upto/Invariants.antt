@@ -1,0 +1,10 @@
+use Rattle.std.proofs.Common.{◌≡◌, ◌+◌, not, drop}
+use Rattle.std.specs.List.{position_or_len}
+use Rattle.sctp_lists.specs.Serial.{at_or_before}
+use Rattle.sctp_reassembly.proofs.reassembly_queue.loose_places.front_upto.Given as goal
+
+abbrev pub invariant-loop-place : goal.invariant-loop-place
+invariant-loop-place l = record {
+  place : position_or_len (λ c. not (at_or_before c.tsn l.tsn)) l.loose ≡ l.place + position_or_len (λ c. not (at_or_before c.tsn l.tsn)) (drop l.place l.loose);
+  cost : l.turns ≡ l.initial.turns + l.place;
+}

@@ -1,0 +1,1 @@
+pub mod reassembly_queue

@@ -1,0 +1,29 @@
+-- Loose fragments, out of which runs are taken.
+use Rattle.std.specs.Prelude.{◌≡◌, ℕ, ◌+◌, ◌++◌, Bool, true, false, List, take, drop}
+use Rattle.std.specs.List.{position_or_len}
+use Rattle.sctp_lists.specs.Serial.{comes_before}
+use Rattle.sctp_chunks.specs.declared.chunk.chunk_payload_data.ChunkPayloadData.{ChunkPayloadData}
+use Rattle.sctp_serial.specs.Runs.{IsEarliestRun, HasNoRun}
+use Rattle.sctp_serial.specs.Window.{IsSerial}
+
+-- where a number goes: before the first that it comes before, or to the end
+abbrev pub place_among : ℕ → List ChunkPayloadData → ℕ
+place_among tsn xs = position_or_len (λ e. comes_before tsn e.tsn) xs
+
+-- while the mark is on there is no run
+abbrev pub IsMark : Bool → List ChunkPayloadData → Type 0
+IsMark true xs = HasNoRun xs
+IsMark false xs = Unit {0}
+
+-- the mark is on where they stand in serial order, and only there
+abbrev pub IsOrderMark : Bool → List ChunkPayloadData → Type 0
+IsOrderMark true xs = IsSerial xs
+IsOrderMark false xs = IsSerial xs → ⊥
+
+-- the run that ends earliest is taken out of the list
+pub record IsRunTaken (xs left taken : List ChunkPayloadData) : Type 0 where
+  pub first : ℕ
+  pub count : ℕ
+  pub run : IsEarliestRun xs first count
+  pub rest : left ≡ take first xs ++ drop (first + count) xs
+  pub fragments : taken ≡ take count (drop first xs)

@@ -1,0 +1,7 @@
+//! The queue in which the fragments of a stream become messages again (RFC 4960 6.9).
+#![tactic(auto)]
+
+pub mod reassembly_queue;
+
+pub use reassembly_queue::chunks::{Chunk, Chunks, Fragments};
+pub use reassembly_queue::{ReassemblyQueue, chunks, loose};

@@ -1,0 +1,463 @@
+//! Fragments that become messages again (RFC 4960 6.5, 6.6).
+
+ghost use Rattle.std.specs.Prelude.{◌≡◌, ℕ, ◌==◌, nat_lt, ◌+◌, ◌-◌, ◌%◌, ◌^◌, ◌<◌, ◌≤◌, [], ◌∷◌, length, min, OnOk, OnErr, true, false, IfOk, IfErr, IfSome, IfNone, IsOk, IsTrue, Ok, Err, MatchOption, not, is_some, option_map, slice_index_or, if◌then◌else◌};
+ghost use Rattle.std.specs.List.{list_any, position_or_len};
+ghost use Rattle.sctp_lists.specs.Serial.{comes_before16, at_or_before, at_or_before16};
+ghost use Rattle.sctp_lists.specs.Lists.{those};
+ghost use Rattle.sctp_reassembly.specs.reassembly_queue.ReassemblyQueue.{is_passed, set_bytes, set_of_run};
+ghost use Rattle.sctp_reassembly.specs.reassembly_queue.Fragments.{has_ssn, chunks_of_ssn, sets_with, answer_with, new_set};
+ghost use Rattle.sctp_serial.specs.DataChunks.{bytes_of};
+ghost use Rattle.sctp_reassembly.specs.reassembly_queue.Loose.{place_among};
+ghost use Rattle.sctp_reassembly.specs.reassembly_queue.Sizes.{projected_size, size_before, size_after};
+ghost use Rattle.sctp_serial.specs.Runs.{HasNoRun};
+ghost use Rattle.sctp_serial.specs.Window.{IsSerial};
+ghost use Rattle.sctp_reassembly.specs.reassembly_queue.Skips.{bounded_forwarded, applicable, is_upto};
+ghost use Rattle.sctp_base.specs.declared.error.Error.TheVariants.{ErrOutOfMemory, ErrInboundPacketTooLarge};
+
+pub mod chunks;
+pub mod loose;
+mod loose_places;
+mod ordered_sets;
+mod pool;
+mod sizes;
+mod skips;
+
+use self::chunks::{Chunks, Fragments};
+use self::loose::{Loose, LooseFragment};
+use self::loose_places::{front_upto, place_for};
+use self::ordered_sets::{OrderedSets, clone_sets};
+use self::pool::Pool;
+use self::sizes::{bytes_of_front, size_after, size_before};
+use self::skips::{earliest_from, goal, has_settled, latest_passable};
+use sctp_serial::turns::Turns;
+use sctp_base::error::{Error, Result};
+use sctp_base::util::{sna16gt, sna16lt, sna16lte, sna32lte};
+use sctp_chunks::chunk::chunk_payload_data::{ChunkPayloadData, PayloadProtocolIdentifier};
+use std::alloc::Global;
+use std::collections::VecDeque;
+use std::marker::Model;
+
+/// What came of the messages of one stream and was not read: sets of ordered fragments by their
+/// stream sequence numbers, whole unordered messages, and loose fragments of unordered ones.
+#[derive(Drop)]
+pub struct ReassemblyQueue {
+    alloc: Global,
+    si: u16,
+    next_ssn: u16,
+    ordered: OrderedSets,
+    unordered: VecDeque<Fragments>,
+    unordered_chunks: Pool,
+    n_bytes: usize,
+    max_message_size: u32,
+}
+
+impl Model for ReassemblyQueue {
+    ghost use Rattle.sctp_reassembly.specs.reassembly_queue.ReassemblyQueue.{ReassemblyState};
+
+    ghost Value = { ReassemblyState };
+
+    ghost view = { λ q. record {
+      si = q.si;
+      held = record { next_ssn = q.next_ssn; ordered = q.ordered; unordered = q.unordered.items; loose = q.unordered_chunks };
+      bytes = q.n_bytes;
+      max_message_size = q.max_message_size;
+    } };
+}
+
+impl ReassemblyQueue {
+    ghost use Rattle.sctp_reassembly.specs.reassembly_queue.ReassemblyQueue.{ReassemblyState, message_read, rest_read, state_read, at_start, ordered_forwarded, unordered_forwarded, is_too_large, ordered_pushed, is_whole_with, PushesUnordered, GivesRun, IsCounted, held_bytes, bytes_read, complete_sets};
+
+    /// An empty queue of the stream `si`, which takes messages of at most `max_message_size`
+    /// bytes and expects the stream sequence number 0 first (RFC 4960 6.5). It takes no memory.
+    pub fn new(alloc: Global, si: u16, max_message_size: u32) -> Self
+        ensures { result ≡ record { si = si; held = record { next_ssn = 0; ordered = []; unordered = []; loose = [] }; bytes = 0; max_message_size = max_message_size } }
+    {
+        ReassemblyQueue {
+            alloc,
+            si,
+            next_ssn: 0,
+            ordered: OrderedSets::new(alloc),
+            unordered: VecDeque::new(alloc),
+            unordered_chunks: Pool::new(alloc),
+            n_bytes: 0,
+            max_message_size,
+        }
+    }
+
+    /// An equal queue, which shares its bytes. Refuses only for memory.
+    pub fn try_clone(&self, alloc: Global) -> Result<Self>
+        ensures ok { IfOk result (λ queue. queue ≡ self.now) }
+        ensures memory { IfErr result (λ e. e ≡ ErrOutOfMemory) }
+    {
+        Ok(ReassemblyQueue {
+            alloc,
+            si: self.si,
+            next_ssn: self.next_ssn,
+            ordered: self.ordered.try_clone(alloc)?,
+            unordered: clone_sets(alloc, &self.unordered)?,
+            unordered_chunks: self.unordered_chunks.try_clone(alloc)?,
+            n_bytes: self.n_bytes,
+            max_message_size: self.max_message_size,
+        })
+    }
+
+    /// The stream.
+    pub fn si(&self) -> u16
+        ensures { result ≡ self.now.si }
+    {
+        self.si
+    }
+
+    /// The stream sequence number expected next.
+    pub fn next_ssn(&self) -> u16
+        ensures { result ≡ self.now.held.next_ssn }
+    {
+        self.next_ssn
+    }
+
+    /// The sets of ordered messages.
+    pub fn ordered(&self) -> &VecDeque<Fragments>
+        ensures { result.now.items ≡ self.now.held.ordered }
+    {
+        self.ordered.as_deque()
+    }
+
+    /// The whole unordered messages.
+    pub fn unordered(&self) -> &VecDeque<Fragments>
+        ensures { result.now.items ≡ self.now.held.unordered }
+    {
+        &self.unordered
+    }
+
+    /// The fragments of unordered messages that are not whole.
+    pub fn unordered_chunks(&self) -> &VecDeque<LooseFragment>
+        ensures { result.now.items ≡ self.now.held.loose }
+    {
+        self.unordered_chunks.loose().as_deque()
+    }
+
+    /// How many bytes a message may have.
+    pub fn max_message_size(&self) -> u32
+        ensures { result ≡ self.now.max_message_size }
+    {
+        self.max_message_size
+    }
+
+    /// The byte count: it rises by what `push` keeps, and falls by what is read or given up.
+    pub fn get_num_bytes(&self) -> usize
+        ensures { result ≡ self.now.bytes }
+    {
+        self.n_bytes
+    }
+
+    /// Lowers the byte count, which stops at 0. Where it was the sum of the bytes held and so many more, it is the sum again.
+    pub fn subtract_num_bytes(&mut self, n_bytes: usize)
+        ensures counted { self.old.bytes ≡ held_bytes self.old.held + n_bytes → IsCounted self.new }
+        ensures value { self.new ≡ record self.old { bytes = self.old.bytes - n_bytes } }
+    {
+        self.n_bytes = self.n_bytes.saturating_sub(n_bytes);
+    }
+
+    /// Takes a chunk, and says whether a message became whole by it.
+    ///
+    /// A chunk of another stream, an ordered one before the next number and one whose
+    /// TSN is in its set are not kept. Repeats of unordered ones are kept: the filter
+    /// of TSNs keeps them away. The byte count grows up to the greatest usize.
+    /// Refuses with `ErrInboundPacketTooLarge`, exactly where its message would be
+    /// longer than `max_message_size`, or for memory. The queue is as it was then.
+    pub fn push(&mut self, chunk: ChunkPayloadData) -> Result<bool>
+        ensures other_stream { (chunk.stream_identifier == self.old.si) ≡ false → (result ≡ Ok false) × (self.new ≡ self.old) }
+        ensures ordered { (chunk.stream_identifier == self.old.si) ≡ true → chunk.unordered ≡ false → IfOk result (λ whole. (self.new ≡ ordered_pushed chunk self.old) × (whole ≡ is_whole_with chunk self.old.held)) }
+        ensures unordered { (chunk.stream_identifier == self.old.si) ≡ true → chunk.unordered ≡ true → IfOk result (λ whole. PushesUnordered chunk self.old self.new whole) }
+        ensures fits { IsOk result → is_too_large chunk self.old ≡ false }
+        ensures refused { IfErr result (λ e. e ≡ (if is_too_large chunk self.old then ErrInboundPacketTooLarge else ErrOutOfMemory)) }
+        ensures err { OnErr result (self.new ≡ self.old) }
+        ensures counted { held_bytes self.old.held + length chunk.user_data < 2 ^ 64 → IsCounted self.old → IsCounted self.new }
+    {
+        if chunk.stream_identifier != self.si {
+            return Ok(false);
+        }
+        let place = self.place_of(&chunk);
+        if self.is_too_large(&chunk, place) {
+            return Err(Error::ErrInboundPacketTooLarge);
+        }
+        if chunk.unordered {
+            self.push_unordered(chunk, place)
+        } else {
+            self.push_ordered(chunk)
+        }
+    }
+
+    // Where an unordered chunk goes among the loose fragments.
+    fn place_of(&self, chunk: &ChunkPayloadData) -> usize
+        ensures { chunk.now.unordered ≡ true → result ≡ place_among chunk.now.tsn self.now.held.loose }
+    {
+        if !chunk.unordered {
+            return 0;
+        }
+        place_for(self.unordered_chunks.loose(), chunk.tsn, &mut Turns::new())
+    }
+
+    // Whether the message of the chunk would be too long with it.
+    fn is_too_large(&self, chunk: &ChunkPayloadData, place: usize) -> bool
+        requires place { chunk.now.unordered ≡ true → place ≡ place_among chunk.now.tsn self.now.held.loose }
+        requires fits { chunk.now.tsn < 2 ^ 32 }
+        ensures { result ≡ nat_lt self.now.max_message_size (projected_size chunk.now self.now.held.ordered self.now.held.loose) }
+    {
+        if chunk.unordered && self.fits_beside_all(chunk) {
+            return false;
+        }
+        let projected = if chunk.unordered {
+            unordered_size(chunk, self.unordered_chunks.loose(), place)
+        } else {
+            self.ordered
+                .bytes_there(chunk.stream_sequence_number)
+                .saturating_add(chunk.user_data.len())
+        };
+        projected > self.max_message_size as usize
+    }
+
+    // Whether all loose fragments and the chunk are no longer than one message may be, in serial order. Then its
+    // message is no longer either, since no fragment stands on both sides of the chunk.
+    fn fits_beside_all(&self, chunk: &ChunkPayloadData) -> bool
+        ensures yes { result ≡ true → IsSerial self.now.held.loose × (bytes_of self.now.held.loose + length chunk.now.user_data ≤ self.now.max_message_size) }
+        ensures no { result ≡ false → IsSerial self.now.held.loose → self.now.max_message_size < bytes_of self.now.held.loose + length chunk.now.user_data }
+    {
+        let loose = self.unordered_chunks.loose();
+        let all = loose.get_num_bytes().saturating_add(chunk.user_data.len());
+        loose.is_serial() && all <= self.max_message_size as usize
+    }
+
+    /// Takes an ordered chunk. Refuses only for memory.
+    fn push_ordered(&mut self, chunk: ChunkPayloadData) -> Result<bool>
+        ensures ok { OnOk result (self.new ≡ ordered_pushed chunk self.old) }
+        ensures answer { IfOk result (λ whole. whole ≡ is_whole_with chunk self.old.held) }
+        ensures err { OnErr result (self.new ≡ self.old) }
+        ensures memory { IfErr result (λ e. e ≡ ErrOutOfMemory) }
+    {
+        if sna16lt(chunk.stream_sequence_number, self.next_ssn) {
+            return Ok(false);
+        }
+        let len = chunk.user_data.len();
+        let Some(whole) = self.ordered.put(self.alloc, chunk)? else {
+            return Ok(false);
+        };
+        self.n_bytes = self.n_bytes.saturating_add(len);
+        Ok(whole)
+    }
+
+    /// Takes an unordered chunk.
+    /// Precondition: `place` is where it goes among the loose fragments.
+    /// Refuses only for memory.
+    fn push_unordered(&mut self, chunk: ChunkPayloadData, place: usize) -> Result<bool>
+        requires { place ≡ place_among chunk.tsn self.old.held.loose }
+        ensures ok { IfOk result (λ whole. PushesUnordered chunk self.old self.new whole) }
+        ensures err { OnErr result (self.new ≡ self.old) }
+        ensures memory { IfErr result (λ e. e ≡ ErrOutOfMemory) }
+    {
+        let len = chunk.user_data.len();
+        self.unordered.reserve(1)?;
+        let run = self.unordered_chunks.put(self.alloc, place, chunk)?;
+        self.n_bytes = self.n_bytes.saturating_add(len);
+        match run {
+            Some(chunks) => {
+                self.unordered.push_back_reserved(set_of_run(chunks));
+                Ok(true)
+            }
+            None => Ok(false),
+        }
+    }
+
+    /// Takes the run that ends earliest out of the loose fragments, if there is one. The byte count stays: where it was the sum of
+    /// the bytes held, it is more by those of the run, until `subtract_num_bytes` takes them off. Refuses only for memory; the queue
+    /// is as it was then.
+    pub fn find_complete_unordered_chunk_set(&mut self, alloc: Global) -> Result<Option<Chunks>>
+        ensures ok { IfOk result (λ set. MatchOption set (HasNoRun self.old.held.loose × (self.new ≡ self.old)) (λ chunks. GivesRun self.old self.new chunks.set × (chunks ≡ at_start chunks.set))) }
+        ensures counted { IfOk result (λ set. IsCounted self.old → self.new.bytes ≡ held_bytes self.new.held + bytes_read (option_map (λ c. c.set) set)) }
+        ensures err { OnErr result (self.new ≡ self.old) }
+        ensures memory { IfErr result (λ e. e ≡ ErrOutOfMemory) }
+    {
+        let Some(chunks) = self.unordered_chunks.take_run(alloc)? else {
+            return Ok(None);
+        };
+        Ok(Some(Chunks::of(set_of_run(chunks))))
+    }
+
+    /// Whether `read` would give a message.
+    pub fn is_readable(&self) -> bool
+        ensures { result ≡ is_some (message_read self.now.held) }
+    {
+        if !self.unordered.is_empty() {
+            return true;
+        }
+        match self.ordered.front() {
+            Some(set) => set.is_complete() && sna16lte(set.ssn(), self.next_ssn),
+            None => false,
+        }
+    }
+
+    /// Takes out the first whole unordered message, else the front ordered one where it is whole and its number is
+    /// not after the next (RFC 4960 6.6). The next number rises only with a message that has it. It takes no memory.
+    pub fn read(&mut self) -> Option<Chunks>
+        ensures message { result ≡ option_map at_start (message_read self.old.held) }
+        ensures rest { self.new ≡ state_read self.old }
+        ensures counted { IsCounted self.old → IsCounted self.new }
+    {
+        let set = self.take_message()?;
+        self.release(set.len());
+        Some(Chunks::of(set))
+    }
+
+    // Lowers the byte count by a number that was counted up to the greatest usize.
+    fn release(&mut self, counted: usize)
+        ensures { (n : ℕ) → counted ≡ min n (2 ^ 64 - 1) → self.new ≡ record self.old { bytes = self.old.bytes - n } }
+    {
+        self.n_bytes = self.n_bytes.saturating_sub(counted);
+    }
+
+    /// The same, without the byte count.
+    fn take_message(&mut self) -> Option<Fragments>
+        ensures message { result ≡ message_read self.old.held }
+        ensures rest { self.new ≡ record self.old { held = rest_read self.old.held } }
+    {
+        if let Some(set) = self.unordered.pop_front() {
+            return Some(set);
+        }
+        let set = self.ordered.front()?;
+        if !set.is_complete() || !sna16lte(set.ssn(), self.next_ssn) {
+            return None;
+        }
+        let set = self.ordered.pop_front()?;
+        if set.ssn() == self.next_ssn {
+            self.next_ssn = self.next_ssn.wrapping_add(1);
+        }
+        Some(set)
+    }
+
+    /// Gives up the incomplete sets at or before the number, and waits for none of
+    /// them (RFC 3758 3.6). Whole ones stay and can be read. It takes no memory.
+    pub fn forward_tsn_for_ordered(&mut self, last_ssn: u16)
+        ensures value { self.new ≡ ordered_forwarded last_ssn self.old }
+        ensures counted { IsCounted self.old → IsCounted self.new }
+        ensures complete { complete_sets self.new.held ≡ complete_sets self.old.held }
+    {
+        self.next_ssn = ssn_past(self.next_ssn, last_ssn);
+        let gone = self.ordered.discard(last_ssn, None);
+        self.release(gone);
+    }
+
+    /// Gives up the incomplete sets at or before the number that miss a TSN at or before the given one, and waits
+    /// for none of them, but stops before the first set that it leaves alone. So a FORWARD-TSN that was kept over
+    /// a reset of the stream does not reach into messages whose TSNs lie behind its own. It takes no memory.
+    pub fn forward_tsn_for_ordered_bounded(&mut self, last_ssn: u16, new_cumulative_tsn: u32)
+        ensures value { self.new ≡ bounded_forwarded last_ssn new_cumulative_tsn self.old }
+        ensures counted { IsCounted self.old → IsCounted self.new }
+        ensures complete { complete_sets self.new.held ≡ complete_sets self.old.held }
+    {
+        let goal = goal(self.ordered.as_deque(), last_ssn, new_cumulative_tsn);
+        self.next_ssn = ssn_upto(self.next_ssn, goal);
+        let gone = self.ordered.discard(last_ssn, Some(new_cumulative_tsn));
+        self.release(gone);
+    }
+
+    /// The greatest number, at most `last_ssn`, up to which a bounded skip may go now, if any:
+    /// as far as the TSNs that came show that it overtakes no message that is still to come.
+    /// `peer_last_tsn` is the TSN up to which all came from the peer. It takes no memory.
+    pub fn applicable_forward_tsn_for_ordered_bounded(
+        &self,
+        last_ssn: u16,
+        new_cumulative_tsn: u32,
+        peer_last_tsn: u32,
+    ) -> Option<u16>
+        ensures { result ≡ applicable last_ssn new_cumulative_tsn peer_last_tsn self.now.held }
+    {
+        if sna16gt(self.next_ssn, last_ssn)
+            || has_settled(
+                self.ordered.as_deque(),
+                self.next_ssn,
+                last_ssn,
+                new_cumulative_tsn,
+            )
+        {
+            return Some(last_ssn);
+        }
+        let first = earliest_from(self.ordered.as_deque(), last_ssn);
+        if is_upto(first, peer_last_tsn) {
+            return Some(last_ssn);
+        }
+        latest_passable(
+            self.ordered.as_deque(),
+            self.next_ssn,
+            last_ssn,
+            new_cumulative_tsn,
+            peer_last_tsn,
+        )
+    }
+
+    /// Drops the loose fragments up to the first that is after the TSN
+    /// (RFC 3758 3.6). Whole unordered messages stay. It takes no memory.
+    pub fn forward_tsn_for_unordered(&mut self, new_cumulative_tsn: u32)
+        ensures value { self.new ≡ unordered_forwarded new_cumulative_tsn self.old }
+        ensures counted { IsCounted self.old → IsCounted self.new }
+    {
+        let mut turns = Turns::new();
+        let loose = self.unordered_chunks.loose();
+        let count = front_upto(loose, new_cumulative_tsn, &mut turns);
+        let gone = bytes_of_front(loose, count, &mut turns);
+        self.unordered_chunks.drop_front(count);
+        self.release(gone);
+    }
+}
+
+// A whole message of these fragments.
+fn set_of_run(chunks: Vec<ChunkPayloadData>) -> Fragments
+    ensures { result ≡ set_of_run chunks.items }
+{
+    let ppi = match chunks.first() {
+        Some(chunk) => chunk.payload_type,
+        None => PayloadProtocolIdentifier::Unknown,
+    };
+    Fragments::new(0, ppi, chunks)
+}
+
+// How long the message of an unordered chunk would be with it, up to the greatest number.
+fn unordered_size(chunk: &ChunkPayloadData, loose: &Loose, place: usize) -> usize
+    requires { place ≡ place_among chunk.now.tsn loose.now }
+    ensures { result ≡ min (size_before chunk.now loose.now + length chunk.now.user_data + size_after chunk.now loose.now) (2 ^ 64 - 1) }
+{
+    size_before(chunk, loose, place)
+        .saturating_add(chunk.user_data.len())
+        .saturating_add(size_after(chunk, loose, place))
+}
+
+// The number expected next, once no message up to the other one is waited for.
+fn ssn_past(next_ssn: u16, last_ssn: u16) -> u16
+    ensures { result ≡ (if at_or_before16 next_ssn last_ssn then (last_ssn + 1) % 2 ^ 16 else next_ssn) }
+{
+    if sna16lte(next_ssn, last_ssn) {
+        last_ssn.wrapping_add(1)
+    } else {
+        next_ssn
+    }
+}
+
+// The number expected next, moved forward to the goal.
+fn ssn_upto(next_ssn: u16, goal: u16) -> u16
+    ensures { result ≡ (if comes_before16 next_ssn goal then goal else next_ssn) }
+{
+    if sna16lt(next_ssn, goal) {
+        goal
+    } else {
+        next_ssn
+    }
+}
+
+// Whether there is a TSN, at or before the other one.
+fn is_upto(tsn: Option<u32>, peer_last_tsn: u32) -> bool
+    ensures { result ≡ is_upto peer_last_tsn tsn }
+{
+    match tsn {
+        Some(tsn) => sna32lte(tsn, peer_last_tsn),
+        None => false,
+    }
+}

@@ -1,0 +1,557 @@
+//! The fragments of one message.
+
+ghost use Rattle.std.specs.Prelude.{◌≡◌, ◌==◌, ◌+◌, ◌*◌, ◌%◌, ◌^◌, ◌-◌, ◌<◌, ◌≤◌, ◌&&◌, [], ◌∷◌, length, map, min, take, drop, ◌++◌, option_map, slice_index_or, true, false, not, OnOk, OnErr, IfOk, IfErr, IfSome, IfNone, if◌then◌else◌};
+ghost use Rattle.std.specs.List.{list_any, position_or_len, insert, concat};
+ghost use Rattle.std.specs.List.Sorted.{IsNonDecreasingBy, IsPartitionPoint};
+ghost use Rattle.sctp_reassembly.specs.reassembly_queue.Chunks.{left_from, left_of, piece_of, left_after, taken_whole, bytes_given};
+ghost use Rattle.sctp_reassembly.specs.declared.reassembly_queue.chunks.Chunk.{Chunk};
+ghost use Rattle.sctp_chunks.specs.declared.chunk.chunk_payload_data.ChunkPayloadData.{ChunkPayloadData};
+ghost use Rattle.sctp_lists.specs.Serial.{comes_before, distance};
+ghost use Rattle.sctp_lists.specs.Lists.{inserted};
+ghost use Rattle.sctp_reassembly.specs.reassembly_queue.Fragments.{payload_of, is_complete, with_chunk, answer_with, is_whole_after};
+ghost use Rattle.sctp_serial.specs.DataChunks.{bytes_of, has_tsn, chunk_before};
+ghost use Rattle.sctp_serial.specs.Ascending.{IsOrder, IsInsertion};
+ghost use Rattle.sctp_base.specs.declared.error.Error.TheVariants.{ErrOutOfMemory, ErrShortBuffer};
+
+use sctp_serial::serial::{Insertion, distance};
+use sctp_serial::turns::Turns;
+use bytes::{Bytes, BytesMut};
+use sctp_base::error::{Error, Result};
+use sctp_base::util::sna32lt;
+use sctp_chunks::chunk::chunk_payload_data::{ChunkPayloadData, PayloadProtocolIdentifier};
+use std::alloc::Global;
+use std::marker::Model;
+
+/// The fragments that share one stream sequence number, or those of one unordered message.
+#[derive(Drop)]
+pub struct Fragments {
+    ssn: u16,
+    ppi: PayloadProtocolIdentifier,
+    chunks: Vec<ChunkPayloadData>,
+    // the length of their user data, up to the greatest usize
+    n_bytes: usize,
+    // whether their TSNs are known to ascend
+    ascending: bool,
+}
+
+impl Model for Fragments {
+    ghost use Rattle.std.specs.Prelude.{◌≡◌, ◌-◌, ◌^◌, min, map};
+    ghost use Rattle.sctp_chunks.specs.ChunkSet.{ChunkSet};
+    ghost use Rattle.sctp_serial.specs.DataChunks.{bytes_of};
+    ghost use Rattle.sctp_serial.specs.Ascending.{IsOrder};
+
+    ghost Value = { ChunkSet };
+
+    ghost view = { λ s. record { ssn = s.ssn; ppi = s.ppi; chunks = s.chunks.items } };
+
+    ghost invariant = { λ s. record { counted : s.n_bytes ≡ min (bytes_of s.chunks.items) (2 ^ 64 - 1); order : IsOrder s.ascending (map (λ c. c.tsn) s.chunks.items) } };
+}
+
+impl Fragments {
+    /// A set of these fragments, in the order in which they are given. It takes no memory.
+    pub fn new(ssn: u16, ppi: PayloadProtocolIdentifier, chunks: Vec<ChunkPayloadData>) -> Self
+        ensures { result ≡ record { ssn = ssn; ppi = ppi; chunks = chunks.items } }
+    {
+        let n_bytes = bytes_in(&chunks);
+        let ascending = is_ascending(&chunks);
+        Fragments {
+            ssn,
+            ppi,
+            chunks,
+            n_bytes,
+            ascending,
+        }
+    }
+
+    /// The stream sequence number, 0 of an unordered message.
+    pub fn ssn(&self) -> u16
+        ensures { result ≡ self.now.ssn }
+    {
+        self.ssn
+    }
+
+    /// What the user data is, as the fragment that made the set says.
+    pub fn ppi(&self) -> PayloadProtocolIdentifier
+        ensures { result ≡ self.now.ppi }
+    {
+        self.ppi
+    }
+
+    /// The fragments.
+    pub fn fragments(&self) -> &[ChunkPayloadData]
+        ensures { result.now ≡ self.now.chunks }
+    {
+        &self.chunks
+    }
+
+    /// An equal set, which shares its bytes. Refuses only for memory.
+    pub fn try_clone(&self, alloc: Global) -> Result<Self>
+        ensures ok { IfOk result (λ set. set ≡ self.now) }
+        ensures memory { IfErr result (λ e. e ≡ ErrOutOfMemory) }
+    {
+        Ok(Fragments::new(self.ssn, self.ppi, clone_chunks(alloc, &self.chunks)?))
+    }
+
+    /// Whether the first fragment begins, the last ends, and TSNs rise by one (RFC 4960 3.3.1).
+    pub fn is_complete(&self) -> bool
+        ensures { result ≡ is_complete self.now.chunks }
+    {
+        may_be_complete(&self.chunks) && follow_on(&self.chunks)
+    }
+
+    /// How many bytes the fragments carry, or the greatest number where they are more.
+    pub fn len(&self) -> usize
+        ensures { result ≡ min (bytes_of self.now.chunks) (2 ^ 64 - 1) }
+    {
+        self.n_bytes
+    }
+
+    /// Puts a fragment before the first that it comes before, and says whether the set is complete then;
+    /// None where its TSN is there already. Refuses only for memory, and the set is as it was then.
+    pub fn put(&mut self, chunk: ChunkPayloadData) -> Result<Option<bool>>
+        ensures ok { OnOk result (self.new ≡ with_chunk chunk self.old) }
+        ensures answer { IfOk result (λ whole. whole ≡ answer_with chunk self.old.chunks) }
+        ensures err { OnErr result (self.new ≡ self.old) }
+        ensures memory { IfErr result (λ e. e ≡ ErrOutOfMemory) }
+    {
+        let Some(at) = insertion(self.ascending, &self.chunks, chunk.tsn) else {
+            return Ok(None);
+        };
+        let len = chunk.user_data.len();
+        self.chunks.insert(at.place, chunk)?;
+        self.n_bytes = self.n_bytes.saturating_add(len);
+        self.ascending = at.ascending;
+        Ok(Some(self.is_complete()))
+    }
+}
+
+/// A piece of a message.
+#[derive(Debug, Drop)]
+pub struct Chunk {
+    pub bytes: Bytes,
+}
+
+/// The fragments of a message, which can be read whole, or taken piece by piece.
+#[derive(Drop)]
+pub struct Chunks {
+    set: Fragments,
+    // the fragment that the next piece begins in, and where in it
+    index: usize,
+    offset: usize,
+}
+
+impl Chunks {
+    /// A message of these fragments, of which nothing was taken. It takes no memory.
+    pub fn new(ssn: u16, ppi: PayloadProtocolIdentifier, chunks: Vec<ChunkPayloadData>) -> Self
+        ensures left { concat (left_of result) ≡ payload_of chunks.items }
+        ensures value { result ≡ record { set = record { ssn = ssn; ppi = ppi; chunks = chunks.items }; index = 0; offset = 0 } }
+    {
+        Chunks::of(Fragments::new(ssn, ppi, chunks))
+    }
+
+    /// The message of a set, of which nothing was taken.
+    pub(crate) fn of(set: Fragments) -> Self
+        ensures { result ≡ record { set = set; index = 0; offset = 0 } }
+    {
+        Chunks {
+            set,
+            index: 0,
+            offset: 0,
+        }
+    }
+
+    /// An equal message, of which as much was taken. Refuses only for memory.
+    pub fn try_clone(&self, alloc: Global) -> Result<Self>
+        ensures ok { IfOk result (λ message. message ≡ self.now) }
+        ensures memory { IfErr result (λ e. e ≡ ErrOutOfMemory) }
+    {
+        Ok(Chunks {
+            set: self.set.try_clone(alloc)?,
+            index: self.index,
+            offset: self.offset,
+        })
+    }
+
+    /// The stream sequence number, 0 of an unordered message.
+    pub fn ssn(&self) -> u16
+        ensures { result ≡ self.now.set.ssn }
+    {
+        self.set.ssn()
+    }
+
+    /// What the user data is.
+    pub fn ppi(&self) -> PayloadProtocolIdentifier
+        ensures { result ≡ self.now.set.ppi }
+    {
+        self.set.ppi()
+    }
+
+    /// All fragments of the message.
+    pub fn fragments(&self) -> &[ChunkPayloadData]
+        ensures { result.now ≡ self.now.set.chunks }
+    {
+        self.set.fragments()
+    }
+
+    /// Whether the first fragment begins, the last ends, and TSNs rise by one (RFC 4960 3.3.1).
+    pub fn is_complete(&self) -> bool
+        ensures { result ≡ is_complete self.now.set.chunks }
+    {
+        self.set.is_complete()
+    }
+
+    /// How many bytes the message has, or the greatest number where they are more.
+    pub fn len(&self) -> usize
+        ensures { result ≡ min (bytes_of self.now.set.chunks) (2 ^ 64 - 1) }
+    {
+        self.set.len()
+    }
+
+    /// Whether the message has no bytes.
+    pub fn is_empty(&self) -> bool
+        ensures { result ≡ (bytes_of self.now.set.chunks == 0) }
+    {
+        self.set.len() == 0
+    }
+
+    /// Puts a fragment before the first that it comes before, unless its TSN is there, and says whether
+    /// the set became complete by it. Refuses only for memory, and the message is as it was then.
+    pub fn push(&mut self, chunk: ChunkPayloadData) -> Result<bool>
+        ensures ok { OnOk result (self.new ≡ record self.old { set = with_chunk chunk self.old.set }) }
+        ensures answer { IfOk result (λ whole. whole ≡ is_whole_after chunk self.old.set.chunks) }
+        ensures err { OnErr result (self.new ≡ self.old) }
+        ensures memory { IfErr result (λ e. e ≡ ErrOutOfMemory) }
+    {
+        Ok(self.set.put(chunk)?.unwrap_or(false))
+    }
+
+    /// Copies the whole message into the buffer and gives its length in bytes. What
+    /// follows in the buffer stays, and nothing is taken.
+    /// Refuses with `ErrShortBuffer`, exactly where the message is longer: the
+    /// buffer is filled with its beginning then.
+    pub fn read(&self, buf: &mut [u8]) -> Result<usize>
+        ensures ok { IfOk result (λ n. (n ≡ length (payload_of self.now.set.chunks)) × (n ≤ length buf.old) × (buf.new ≡ payload_of self.now.set.chunks ++ drop n buf.old)) }
+        ensures short { IfErr result (λ e. (e ≡ ErrShortBuffer) × (length buf.old < length (payload_of self.now.set.chunks)) × (buf.new ≡ take (length buf.old) (payload_of self.now.set.chunks))) }
+    {
+        let mut n_written = 0usize;
+        for chunk in self.set.fragments() {
+            let data = chunk.user_data.as_slice();
+            let n = data.len().min(buf.len() - n_written);
+            put_at(buf, n_written, &data[..n]);
+            n_written += n;
+            if n < data.len() {
+                return Err(Error::ErrShortBuffer);
+            }
+        }
+        Ok(n_written)
+    }
+
+    /// The next `max_length` bytes of the message, or as many as are left; None once
+    /// every fragment was taken. A message of empty fragments gives one empty piece.
+    /// No more room is asked for than the piece takes, however great `max_length` is.
+    /// Refuses only for memory, and nothing is taken then.
+    pub fn next(&mut self, alloc: Global, max_length: usize) -> Result<Option<Chunk>>
+        ensures piece { IfOk result (λ piece. option_map (λ (c : Chunk). c.bytes) piece ≡ piece_of max_length (left_of self.old)) }
+        ensures left { OnOk result (left_of self.new ≡ left_after max_length (left_of self.old)) }
+        ensures joins { IfOk result (λ piece. bytes_given piece ++ concat (left_of self.new) ≡ concat (left_of self.old)) }
+        ensures asked { IfOk result (λ piece. 0 < length (left_of self.new) → length (bytes_given piece) ≡ max_length) }
+        ensures ends { length (concat (left_of self.old)) ≤ max_length → OnOk result (left_of self.new ≡ []) }
+        ensures set { self.new.set ≡ self.old.set }
+        ensures err { OnErr result (self.new ≡ self.old) }
+        ensures memory { IfErr result (λ e. e ≡ ErrOutOfMemory) }
+    {
+        self.next_counted(alloc, max_length, &mut Turns::new())
+    }
+
+    /// The same, and its turns are added: at most two for each fragment that the piece takes to its end, and two more.
+    pub fn next_counted(
+        &mut self,
+        alloc: Global,
+        max_length: usize,
+        turns: &mut Turns,
+    ) -> Result<Option<Chunk>>
+        ensures piece { IfOk result (λ piece. option_map (λ (c : Chunk). c.bytes) piece ≡ piece_of max_length (left_of self.old)) }
+        ensures left { OnOk result (left_of self.new ≡ left_after max_length (left_of self.old)) }
+        ensures joins { IfOk result (λ piece. bytes_given piece ++ concat (left_of self.new) ≡ concat (left_of self.old)) }
+        ensures asked { IfOk result (λ piece. 0 < length (left_of self.new) → length (bytes_given piece) ≡ max_length) }
+        ensures ends { length (concat (left_of self.old)) ≤ max_length → OnOk result (left_of self.new ≡ []) }
+        ensures set { self.new.set ≡ self.old.set }
+        ensures err { OnErr result (self.new ≡ self.old) }
+        ensures memory { IfErr result (λ e. e ≡ ErrOutOfMemory) }
+        ensures not_back { turns.old ≤ turns.new }
+        ensures cost { turns.new ≤ turns.old + 2 * (taken_whole max_length (left_of self.old) + 1) }
+    {
+        let chunks = self.set.fragments();
+        if self.index >= chunks.len() {
+            return Ok(None);
+        }
+        let room = room_of(chunks, self.index, self.offset, max_length, turns);
+        let mut buf = BytesMut::with_capacity(alloc, room)?;
+        let (index, offset) = gather(chunks, self.index, self.offset, max_length, &mut buf, turns)?;
+        let bytes = buf.freeze()?;
+        self.index = index;
+        self.offset = offset;
+        Ok(Some(Chunk { bytes }))
+    }
+}
+
+// Writes bytes into a buffer from a place on.
+fn put_at(buf: &mut [u8], at: usize, bytes: &[u8])
+    requires { at + length bytes.now ≤ length buf.old }
+    ensures { buf.new ≡ take at buf.old ++ bytes.now ++ drop (at + length bytes.now) buf.old }
+{
+    let end = at + bytes.len();
+    buf[at..end].copy_from_slice(bytes);
+}
+
+// Looks at a fragment, which is a turn.
+fn look<'a>(chunks: &'a [ChunkPayloadData], place: usize, turns: &mut Turns) -> &'a ChunkPayloadData
+    requires { place < length chunks.now }
+    ensures value { result.now ≡ slice_index_or chunks.now place result.now }
+    ensures turn { turns.new ≡ turns.old + 1 }
+{
+    turns.tick();
+    &chunks[place]
+}
+
+// How many bytes are left from a place on, or the limit where they are more. It looks no further than the limit.
+fn room_of(
+    chunks: &[ChunkPayloadData],
+    index: usize,
+    offset: usize,
+    limit: usize,
+    turns: &mut Turns,
+) -> usize
+    ensures room { result ≡ min limit (length (concat (left_from chunks.now index offset))) }
+    ensures not_back { turns.old ≤ turns.new }
+    ensures cost { turns.new ≤ turns.old + taken_whole limit (left_from chunks.now index offset) + 1 }
+{
+    let mut index = index;
+    let mut offset = offset;
+    let mut wanted = limit;
+    while index < chunks.len() && wanted > 0 {
+        let len = look(chunks, index, turns).user_data.len();
+        wanted = wanted.saturating_sub(len.saturating_sub(offset));
+        index += 1;
+        offset = 0;
+    }
+    limit - wanted
+}
+
+// Appends the next bytes of the fragments, at most so many, and says where the next piece begins.
+fn gather(
+    chunks: &[ChunkPayloadData],
+    index: usize,
+    offset: usize,
+    max_length: usize,
+    buf: &mut BytesMut,
+    turns: &mut Turns,
+) -> Result<(usize, usize)>
+    requires { buf.old.items ≡ [] }
+    ensures bytes { OnOk result (buf.new.items ≡ take max_length (concat (left_from chunks.now index offset))) }
+    ensures left { IfOk result (λ at. left_from chunks.now at.0 at.1 ≡ left_after max_length (left_from chunks.now index offset)) }
+    ensures memory { IfErr result (λ e. e ≡ ErrOutOfMemory) }
+    ensures not_back { turns.old ≤ turns.new }
+    ensures cost { turns.new ≤ turns.old + taken_whole max_length (left_from chunks.now index offset) + 1 }
+{
+    let mut index = index;
+    let mut offset = offset;
+    let mut room = max_length;
+    while index < chunks.len() {
+        let data = look(chunks, index, turns).user_data.as_slice();
+        let start = offset.min(data.len());
+        let n = room.min(data.len() - start);
+        buf.extend_from_slice(&data[start..start + n])?;
+        if n < data.len() - start {
+            return Ok((index, start + n));
+        }
+        room -= n;
+        index += 1;
+        offset = 0;
+    }
+    Ok((index, offset))
+}
+
+// A test of both ends, which complete fragments pass: it saves the scan of most that are not.
+fn may_be_complete(chunks: &[ChunkPayloadData]) -> bool
+    ensures { result ≡ false → is_complete chunks.now ≡ false }
+{
+    let len = chunks.len();
+    if len == 0 {
+        return false;
+    }
+    let first = &chunks[0];
+    let last = &chunks[len - 1];
+    if !first.beginning_fragment {
+        return false;
+    }
+    if !last.ending_fragment {
+        return false;
+    }
+    last.tsn == tsn_after(first.tsn, len - 1)
+}
+
+// The TSN so many places further.
+fn tsn_after(tsn: u32, places: usize) -> u32
+    ensures value { result ≡ (tsn + places % 2 ^ 32) % 2 ^ 32 }
+    ensures fits { tsn < 2 ^ 32 }
+{
+    tsn.wrapping_add((places % (1 << 32)) as u32)
+}
+
+// Whether the first fragment begins, the last ends, and TSNs rise by one.
+fn follow_on(chunks: &[ChunkPayloadData]) -> bool
+    ensures { result ≡ is_complete chunks.now }
+{
+    let Some((first, rest)) = chunks.split_first() else {
+        return false;
+    };
+    if !first.beginning_fragment {
+        return false;
+    }
+    let mut last = first;
+    for chunk in rest {
+        if chunk.tsn != last.tsn.wrapping_add(1) {
+            return false;
+        }
+        last = chunk;
+    }
+    last.ending_fragment
+}
+
+/// Equal fragments, which share their bytes.
+pub(crate) fn clone_chunks(
+    alloc: Global,
+    chunks: &[ChunkPayloadData],
+) -> Result<Vec<ChunkPayloadData>>
+    ensures ok { IfOk result (λ copies. copies.items ≡ chunks.now) }
+    ensures memory { IfErr result (λ e. e ≡ ErrOutOfMemory) }
+{
+    let mut copies = Vec::with_capacity(alloc, chunks.len())?;
+    for chunk in chunks {
+        copies.push(chunk.try_clone()?)?;
+    }
+    Ok(copies)
+}
+
+/// How many bytes fragments carry, or the greatest number where they are more.
+pub(crate) fn bytes_in(chunks: &[ChunkPayloadData]) -> usize
+    ensures { result ≡ min (bytes_of chunks.now) (2 ^ 64 - 1) }
+{
+    let mut len = 0usize;
+    for chunk in chunks {
+        len = len.saturating_add(chunk.user_data.len());
+    }
+    len
+}
+
+/// Where a fragment of this number is put in: before the first that it comes before, or at the end.
+pub(crate) fn insertion_place(chunks: &[ChunkPayloadData], tsn: u32) -> usize
+    ensures in_range { result ≤ length chunks.now }
+    ensures inserted { (x : ChunkPayloadData) → x.tsn ≡ tsn → insert chunks.now result x ≡ inserted chunk_before x chunks.now }
+{
+    first_after(chunks, tsn)
+}
+
+// The place of the first fragment that the number comes before, or the end.
+fn first_after(chunks: &[ChunkPayloadData], tsn: u32) -> usize
+    ensures place { result ≡ position_or_len (λ e. comes_before tsn e.tsn) chunks.now }
+    ensures in_range { result ≤ length chunks.now }
+{
+    for (place, chunk) in chunks.iter().enumerate() {
+        if sna32lt(tsn, chunk.tsn) {
+            return place;
+        }
+    }
+    chunks.len()
+}
+
+// Where a fragment of this TSN is put in, or nothing where it is there: by halves among TSNs that
+// ascend, unless it lies exactly half a circle from the first.
+fn insertion(ascending: bool, chunks: &[ChunkPayloadData], tsn: u32) -> Option<Insertion>
+    requires { IsOrder ascending (map (λ c. c.tsn) chunks.now) }
+    ensures there { IfNone result (list_any (has_tsn tsn) chunks.now ≡ true) }
+    ensures free { IfSome result (λ at. IsInsertion (has_tsn tsn) (λ c. c.tsn) chunk_before chunks.now at.place at.ascending) }
+{
+    let len = chunks.len();
+    if len == 0 {
+        return Some(Insertion {
+            place: 0,
+            ascending: true,
+        });
+    }
+    let first = chunks[0].tsn;
+    let far = distance(first, tsn);
+    if !ascending || far == 1 << 31 {
+        return insertion_by_walk(chunks, tsn);
+    }
+    if far > 1 << 31 {
+        let ascending = distance(tsn, chunks[len - 1].tsn) < 1 << 31;
+        return Some(Insertion {
+            place: 0,
+            ascending,
+        });
+    }
+    let place = place_within(chunks, first, far);
+    if chunks[place - 1].tsn == tsn {
+        return None;
+    }
+    Some(Insertion {
+        place,
+        ascending: true,
+    })
+}
+
+// The place behind the fragments that lie no farther from the first TSN. The last is looked at first.
+fn place_within(chunks: &[ChunkPayloadData], first: u32, far: u32) -> usize
+    requires { IsNonDecreasingBy (λ c. distance first c.tsn) chunks.now }
+    ensures in_range { result ≤ length chunks.now }
+    ensures split { IsPartitionPoint (λ c. distance first c.tsn ≤ far) (λ c. far < distance first c.tsn) chunks.now result }
+{
+    let len = chunks.len();
+    if len > 0 && distance(first, chunks[len - 1].tsn) <= far {
+        return len;
+    }
+    chunks.partition_point(|c| distance(first, c.tsn) <= far)
+}
+
+// The same by a walk, among any TSNs; they are not known to ascend then.
+fn insertion_by_walk(chunks: &[ChunkPayloadData], tsn: u32) -> Option<Insertion>
+    ensures there { IfNone result (list_any (has_tsn tsn) chunks.now ≡ true) }
+    ensures free { IfSome result (λ at. IsInsertion (has_tsn tsn) (λ c. c.tsn) chunk_before chunks.now at.place at.ascending) }
+{
+    if has_number(chunks, tsn) {
+        return None;
+    }
+    Some(Insertion {
+        place: insertion_place(chunks, tsn),
+        ascending: false,
+    })
+}
+
+// Whether TSNs ascend, seen by how far each lies from the first.
+fn is_ascending(chunks: &[ChunkPayloadData]) -> bool
+    ensures { IsOrder result (map (λ c. c.tsn) chunks.now) }
+{
+    let len = chunks.len();
+    if len == 0 {
+        return true;
+    }
+    let first = chunks[0].tsn;
+    let mut far = 0;
+    for place in 1..len {
+        let next = distance(first, chunks[place].tsn);
+        if next <= far || next >= 1 << 31 {
+            return false;
+        }
+        far = next;
+    }
+    true
+}
+
+// Whether a fragment has the number.
+fn has_number(chunks: &[ChunkPayloadData], tsn: u32) -> bool
+    ensures { result ≡ list_any (has_tsn tsn) chunks.now }
+{
+    chunks.iter().any(|c| c.tsn == tsn)
+}

@@ -1,0 +1,248 @@
+//! The sets of ordered messages, in the order of their numbers where these lie within half a circle.
+
+ghost use Rattle.std.specs.Prelude.{◌≡◌, ◌+◌, ◌-◌, ◌^◌, ◌<◌, ◌≤◌, ◌&&◌, [], ◌∷◌, length, map, min, true, false, not, OnOk, OnErr, IfOk, IfErr, IfSome, IfNone};
+ghost use Rattle.std.specs.List.{list_any, position_or_len};
+ghost use Rattle.std.specs.List.Sorted.{IsNonDecreasingBy, IsPartitionPoint};
+ghost use Rattle.sctp_lists.specs.Serial.{comes_before16, distance};
+ghost use Rattle.sctp_lists.specs.Lists.{those};
+ghost use Rattle.sctp_reassembly.specs.reassembly_queue.ReassemblyQueue.{set_bytes, without_first};
+ghost use Rattle.sctp_reassembly.specs.reassembly_queue.Skips.{is_given_up};
+ghost use Rattle.sctp_reassembly.specs.reassembly_queue.Fragments.{is_complete, has_ssn, chunks_of_ssn, sets_with, answer_with, new_set, set_before};
+ghost use Rattle.sctp_serial.specs.DataChunks.{bytes_of};
+ghost use Rattle.sctp_serial.specs.Ascending.{IsOrder, IsInsertion, upper_half};
+ghost use Rattle.sctp_base.specs.declared.error.Error.TheVariants.{ErrOutOfMemory};
+
+use crate::reassembly_queue::chunks::Fragments;
+use crate::reassembly_queue::skips;
+use sctp_serial::serial::{Insertion, distance, upper_half};
+use sctp_base::error::Result;
+use sctp_base::util::sna16lt;
+use sctp_chunks::chunk::chunk_payload_data::ChunkPayloadData;
+use std::alloc::Global;
+use std::collections::VecDeque;
+use std::marker::Model;
+use std::result;
+
+/// The sets of ordered messages.
+#[derive(Drop)]
+pub(crate) struct OrderedSets {
+    sets: VecDeque<Fragments>,
+    // whether their numbers are known to ascend
+    ascending: bool,
+}
+
+impl Model for OrderedSets {
+    ghost use Rattle.std.specs.Prelude.{List, map};
+    ghost use Rattle.sctp_chunks.specs.ChunkSet.{ChunkSet};
+    ghost use Rattle.sctp_serial.specs.Ascending.{IsOrder, upper_half};
+
+    ghost Value = { List ChunkSet };
+
+    ghost view = { λ s. s.sets.items };
+
+    ghost invariant = { λ s. IsOrder s.ascending (map (λ x. upper_half x.ssn) s.sets.items) };
+}
+
+impl OrderedSets {
+    /// No sets. It takes no memory.
+    pub(crate) fn new(alloc: Global) -> Self
+        ensures { result ≡ [] }
+    {
+        OrderedSets {
+            sets: VecDeque::new(alloc),
+            ascending: true,
+        }
+    }
+
+    /// Equal sets, which share their bytes. Refuses only for memory.
+    pub(crate) fn try_clone(&self, alloc: Global) -> Result<Self>
+        ensures ok { IfOk result (λ sets. sets ≡ self.now) }
+        ensures memory { IfErr result (λ e. e ≡ ErrOutOfMemory) }
+    {
+        let sets = clone_sets(alloc, &self.sets)?;
+        Ok(OrderedSets {
+            sets,
+            ascending: self.ascending,
+        })
+    }
+
+    /// All of them.
+    pub(crate) fn as_deque(&self) -> &VecDeque<Fragments>
+        ensures { result.now.items ≡ self.now }
+    {
+        &self.sets
+    }
+
+    /// The first set.
+    pub(crate) fn front(&self) -> Option<&Fragments>
+        ensures some { IfSome result (λ s. self.now ≡ s.now ∷ without_first self.now) }
+        ensures none { IfNone result (self.now ≡ []) }
+    {
+        self.sets.front()
+    }
+
+    /// Takes out the first set.
+    pub(crate) fn pop_front(&mut self) -> Option<Fragments>
+        ensures some { IfSome result (λ s. self.old ≡ s ∷ self.new) }
+        ensures none { IfNone result ((self.old ≡ []) × (self.new ≡ self.old)) }
+    {
+        self.sets.pop_front()
+    }
+
+    /// The bytes of the first set of a number, up to the greatest number.
+    pub(crate) fn bytes_there(&self, ssn: u16) -> usize
+        ensures { result ≡ min (bytes_of (chunks_of_ssn ssn self.now)) (2 ^ 64 - 1) }
+    {
+        match seek(self.ascending, &self.sets, ssn) {
+            Ok(place) => self.sets[place].len(),
+            Err(_) => 0,
+        }
+    }
+
+    /// Puts a chunk into the first set of its number, or into a new one at its place, and says whether that set
+    /// is complete then; None where its TSN is there already. Refuses only for memory, and nothing changes then.
+    pub(crate) fn put(&mut self, alloc: Global, chunk: ChunkPayloadData) -> Result<Option<bool>>
+        ensures ok { OnOk result (self.new ≡ sets_with chunk self.old) }
+        ensures answer { IfOk result (λ whole. whole ≡ answer_with chunk (chunks_of_ssn chunk.stream_sequence_number self.old)) }
+        ensures err { OnErr result (self.new ≡ self.old) }
+        ensures memory { IfErr result (λ e. e ≡ ErrOutOfMemory) }
+    {
+        match seek(self.ascending, &self.sets, chunk.stream_sequence_number) {
+            Ok(place) => {
+                let set = &mut self.sets[place];
+                let whole = set.put(chunk)?;
+                Ok(whole)
+            }
+            Err(at) => {
+                let set = new_set(alloc, chunk)?;
+                let whole = set.is_complete();
+                self.sets.insert(at.place, set)?;
+                self.ascending = at.ascending;
+                Ok(Some(whole))
+            }
+        }
+    }
+
+    /// Removes the sets that a skip up to the number gives up, those alone that miss a TSN where there
+    /// is a bound, and counts their bytes up to the greatest number.
+    pub(crate) fn discard(&mut self, last_ssn: u16, bound: Option<u32>) -> usize
+        ensures rest { self.new ≡ those (λ s. not (is_given_up last_ssn bound s)) self.old }
+        ensures bytes { result ≡ min (set_bytes (those (is_given_up last_ssn bound) self.old)) (2 ^ 64 - 1) }
+    {
+        skips::discard(&mut self.sets, last_ssn, bound)
+    }
+}
+
+// Equal sets, which share their bytes.
+pub(crate) fn clone_sets(alloc: Global, sets: &VecDeque<Fragments>) -> Result<VecDeque<Fragments>>
+    ensures ok { IfOk result (λ copies. copies.items ≡ sets.now.items) }
+    ensures memory { IfErr result (λ e. e ≡ ErrOutOfMemory) }
+{
+    let mut copies = VecDeque::new(alloc);
+    for place in 0..sets.len() {
+        copies.push_back(sets[place].try_clone(alloc)?)?;
+    }
+    Ok(copies)
+}
+
+// A set that a chunk alone makes.
+fn new_set(alloc: Global, chunk: ChunkPayloadData) -> Result<Fragments>
+    ensures ok { IfOk result (λ set. set ≡ new_set chunk) }
+    ensures memory { IfErr result (λ e. e ≡ ErrOutOfMemory) }
+{
+    let ssn = chunk.stream_sequence_number;
+    let ppi = chunk.payload_type;
+    let mut chunks = Vec::new(alloc);
+    chunks.push(chunk)?;
+    Ok(Fragments::new(ssn, ppi, chunks))
+}
+
+// The place of the first set of a number, or where a set of it is put in: by halves among numbers
+// that ascend, unless it lies exactly half a circle from the first.
+fn seek(ascending: bool, sets: &VecDeque<Fragments>, ssn: u16) -> result::Result<usize, Insertion>
+    requires { IsOrder ascending (map (λ s. upper_half s.ssn) sets.now.items) }
+    ensures there { IfOk result (λ place. (place ≡ position_or_len (has_ssn ssn) sets.now.items) × (place < length sets.now.items)) }
+    ensures free { IfErr result (λ at. IsInsertion (has_ssn ssn) (λ s. upper_half s.ssn) set_before sets.now.items at.place at.ascending) }
+{
+    let len = sets.len();
+    if len == 0 {
+        return Err(Insertion {
+            place: 0,
+            ascending: true,
+        });
+    }
+    let first = upper_half(sets[0].ssn());
+    let number = upper_half(ssn);
+    let far = distance(first, number);
+    if !ascending || far == 1 << 31 {
+        return seek_by_walk(sets, ssn);
+    }
+    if far > 1 << 31 {
+        let ascending = distance(number, upper_half(sets[len - 1].ssn())) < 1 << 31;
+        return Err(Insertion {
+            place: 0,
+            ascending,
+        });
+    }
+    let place = place_within(sets, first, far);
+    if sets[place - 1].ssn() == ssn {
+        return Ok(place - 1);
+    }
+    Err(Insertion {
+        place,
+        ascending: true,
+    })
+}
+
+// The place behind the sets that lie no farther from the first number. The last is looked at first.
+fn place_within(sets: &VecDeque<Fragments>, first: u32, far: u32) -> usize
+    requires { IsNonDecreasingBy (λ s. distance first (upper_half s.ssn)) sets.now.items }
+    ensures in_range { result ≤ length sets.now.items }
+    ensures split { IsPartitionPoint (λ s. distance first (upper_half s.ssn) ≤ far) (λ s. far < distance first (upper_half s.ssn)) sets.now.items result }
+{
+    let len = sets.len();
+    if len > 0 && distance(first, upper_half(sets[len - 1].ssn())) <= far {
+        return len;
+    }
+    sets.partition_point(|s| distance(first, upper_half(s.ssn())) <= far)
+}
+
+// The same by a walk, among any numbers; they are not known to ascend then.
+fn seek_by_walk(sets: &VecDeque<Fragments>, ssn: u16) -> result::Result<usize, Insertion>
+    ensures there { IfOk result (λ place. (place ≡ position_or_len (has_ssn ssn) sets.now.items) × (place < length sets.now.items)) }
+    ensures free { IfErr result (λ at. IsInsertion (has_ssn ssn) (λ s. upper_half s.ssn) set_before sets.now.items at.place at.ascending) }
+{
+    match first_place(sets, ssn) {
+        Some(place) => Ok(place),
+        None => Err(Insertion {
+            place: set_gap(sets, ssn),
+            ascending: false,
+        }),
+    }
+}
+
+// The place of the first set of a number.
+fn first_place(sets: &VecDeque<Fragments>, ssn: u16) -> Option<usize>
+    ensures found { IfSome result (λ place. (place ≡ position_or_len (has_ssn ssn) sets.now.items) × (place < length sets.now.items)) }
+    ensures absent { IfNone result (position_or_len (has_ssn ssn) sets.now.items ≡ length sets.now.items) }
+{
+    for place in 0..sets.len() {
+        if sets[place].ssn() == ssn {
+            return Some(place);
+        }
+    }
+    None
+}
+
+// Where a set of this number is put in: before the first that it comes before, or at the end.
+fn set_gap(sets: &VecDeque<Fragments>, ssn: u16) -> usize
+    ensures place { result ≡ position_or_len (λ s. comes_before16 ssn s.ssn) sets.now.items }
+    ensures in_range { result ≤ length sets.now.items }
+{
+    for place in 0..sets.len() {
+        if sna16lt(ssn, sets[place].ssn()) {
+            return place;
+        }
+    }
+    sets.len()
+}

@@ -1,0 +1,102 @@
+//! How long the message of an unordered chunk would be with it.
+
+ghost use Rattle.std.specs.Prelude.{◌≡◌, ◌+◌, ◌-◌, ◌^◌, ◌<◌, ◌≤◌, [], length, min, take, drop, reverse, IfSome, IfNone};
+ghost use Rattle.sctp_serial.specs.DataChunks.{bytes_of};
+ghost use Rattle.sctp_reassembly.specs.reassembly_queue.Loose.{place_among};
+ghost use Rattle.sctp_reassembly.specs.reassembly_queue.Sizes.{bytes_down, bytes_up, back_from, on_from, size_before, size_after};
+
+use crate::reassembly_queue::loose::Loose;
+use crate::reassembly_queue::loose_places::{place_after, place_before};
+use sctp_serial::turns::Turns;
+use sctp_chunks::chunk::chunk_payload_data::ChunkPayloadData;
+
+/// The bytes of the loose neighbours that come before the chunk in its message, seen from where the chunk goes.
+/// Precondition: `place` is that.
+pub(crate) fn size_before(chunk: &ChunkPayloadData, loose: &Loose, place: usize) -> usize
+    requires { place ≡ place_among chunk.now.tsn loose.now }
+    ensures { result ≡ min (size_before chunk.now loose.now) (2 ^ 64 - 1) }
+{
+    if chunk.beginning_fragment {
+        return 0;
+    }
+    let mut turns = Turns::new();
+    match place_before(loose, place, chunk.tsn, &mut turns) {
+        Some(last) => bytes_down(loose, last + 1, chunk.tsn, &mut turns),
+        None => 0,
+    }
+}
+
+/// The bytes of the loose neighbours that come after the chunk in its message, seen from where the chunk goes.
+/// Precondition: `place` is that.
+pub(crate) fn size_after(chunk: &ChunkPayloadData, loose: &Loose, place: usize) -> usize
+    requires { place ≡ place_among chunk.now.tsn loose.now }
+    ensures { result ≡ min (size_after chunk.now loose.now) (2 ^ 64 - 1) }
+{
+    if chunk.ending_fragment {
+        return 0;
+    }
+    let mut turns = Turns::new();
+    match place_after(loose, place, chunk.tsn, &mut turns) {
+        Some(next) => bytes_up(loose, next, chunk.tsn, &mut turns),
+        None => 0,
+    }
+}
+
+// The bytes of neighbours before a place, from the nearest on, while TSNs go down by one, up to one that begins.
+fn bytes_down(loose: &Loose, end: usize, tsn: u32, turns: &mut Turns) -> usize
+    requires { end ≤ length loose.now }
+    ensures { result ≡ min (bytes_down tsn (reverse (take end loose.now))) (2 ^ 64 - 1) }
+{
+    let mut total = 0usize;
+    let mut next = tsn;
+    let mut end = end;
+    while end > 0 {
+        let place = end - 1;
+        let chunk = loose.look(place, turns);
+        if chunk.tsn != next.wrapping_sub(1) {
+            return total;
+        }
+        total = total.saturating_add(chunk.user_data.len());
+        if chunk.beginning_fragment {
+            return total;
+        }
+        next = chunk.tsn;
+        end = place;
+    }
+    total
+}
+
+// The bytes of neighbours from a place on, while TSNs go up by one, up to one that ends.
+fn bytes_up(loose: &Loose, from: usize, tsn: u32, turns: &mut Turns) -> usize
+    ensures { result ≡ min (bytes_up tsn (drop from loose.now)) (2 ^ 64 - 1) }
+{
+    let mut total = 0usize;
+    let mut last = tsn;
+    let mut place = from;
+    while place < loose.len() {
+        let chunk = loose.look(place, turns);
+        if chunk.tsn != last.wrapping_add(1) {
+            return total;
+        }
+        total = total.saturating_add(chunk.user_data.len());
+        if chunk.ending_fragment {
+            return total;
+        }
+        last = chunk.tsn;
+        place += 1;
+    }
+    total
+}
+
+/// How many bytes the first fragments carry, or the greatest number where they are more.
+/// Precondition: there are so many fragments.
+pub(crate) fn bytes_of_front(loose: &Loose, count: usize, turns: &mut Turns) -> usize
+    requires { count ≤ length loose.now }
+    ensures { result ≡ min (bytes_of (take count loose.now)) (2 ^ 64 - 1) }
+{
+    let mut len = 0usize;
+    for place in 0..count {
+        len = len.saturating_add(loose.look(place, turns).user_data.len());
+    }
+    len
+}

@@ -1,0 +1,5 @@
+pub mod DataChunks
+pub mod Turns
+pub mod Ascending
+pub mod Window
+pub mod Runs

@@ -1,0 +1,4 @@
+pub mod Stats
+pub mod State
+pub mod Stream
+pub mod Lending

@@ -1,0 +1,97 @@
+-- What a stream keeps, its fragments and its counters.
+use Rattle.std.specs.Prelude.{ℕ, ◌+◌, ◌-◌, ◌%◌, ◌^◌, Bool, true, false, ◌&&◌, not, ◌==◌, nat_lt, nat_le, ℤ, pos, negsuc, if◌then◌else◌, List, [], length, map, slice_index_or, None}
+use Rattle.sctp_lists.specs.Kept.{numbers_from}
+use Rattle.sctp_lists.specs.Lists.{pieces}
+use Rattle.sctp_chunks.specs.declared.chunk.chunk_payload_data.PayloadProtocolIdentifier.{PayloadProtocolIdentifier}
+use Rattle.sctp_chunks.specs.declared.chunk.chunk_payload_data.PayloadProtocolIdentifier.TheVariants.{Dcep, String, Binary, StringEmpty, BinaryEmpty, Unknown}
+use Rattle.sctp_chunks.specs.declared.chunk.chunk_payload_data.ChunkPayloadData.{ChunkPayloadData}
+use Rattle.sctp_transfer.specs.declared.stream.StreamState.{StreamState}
+use Rattle.sctp_chunks.specs.declared.chunk.chunk_payload_data.ReliabilityType.TheVariants.{Reliable}
+use Rattle.sctp_transfer.specs.declared.stream.RecvSendState.TheVariants.{ReadWritable}
+use Rattle.sctp_transfer.specs.Stats.{count_up}
+
+-- ## Fragments of a write (RFC 4960 6.9)
+
+-- messages that establish a channel are always ordered
+abbrev pub is_ordered : Bool → PayloadProtocolIdentifier → Bool
+is_ordered unordered Dcep = true
+is_ordered unordered String = not unordered
+is_ordered unordered Binary = not unordered
+is_ordered unordered StringEmpty = not unordered
+is_ordered unordered BinaryEmpty = not unordered
+is_ordered unordered Unknown = not unordered
+
+-- a fragment as a stream makes it: it has no TSN yet
+abbrev pub fragment : StreamState → PayloadProtocolIdentifier → Bool → Bool → List ℕ → ChunkPayloadData
+fragment s ppi begins ends bytes = record {
+  unordered = not (is_ordered s.unordered ppi);
+  beginning_fragment = begins;
+  ending_fragment = ends;
+  immediate_sack = false;
+  tsn = 0;
+  stream_identifier = s.stream_identifier;
+  stream_sequence_number = s.sequence_number;
+  payload_type = ppi;
+  user_data = bytes;
+  acked = false;
+  miss_indicator = 0;
+  message_id = 0;
+  abandoned = false;
+  since = None;
+  reliability = None;
+  deadline = None;
+  nsent = 0;
+  retransmit = false;
+}
+
+-- the bytes of a write in pieces of the fragment size
+abbrev pub cut : StreamState → List ℕ → List (List ℕ)
+cut s bytes = pieces (length bytes) s.max_payload_size bytes
+
+-- fragment i of a write: the first begins, the last ends
+abbrev pub fragment_at : StreamState → PayloadProtocolIdentifier → List ℕ → ℕ → ChunkPayloadData
+fragment_at s ppi bytes i = fragment s ppi (i == 0) (i + 1 == length (cut s bytes)) (slice_index_or (cut s bytes) i [])
+
+abbrev pub fragments_of : StreamState → PayloadProtocolIdentifier → List ℕ → List ChunkPayloadData
+fragments_of s ppi bytes = map (fragment_at s ppi bytes) (numbers_from 0 (length (cut s bytes)))
+
+-- an ordered write of some bytes takes a number, which wraps
+abbrev pub number_after : StreamState → PayloadProtocolIdentifier → List ℕ → ℕ
+number_after s ppi bytes = if is_ordered s.unordered ppi && nat_lt 0 (length bytes) then (s.sequence_number + 1) % 2 ^ 16 else s.sequence_number
+
+abbrev pub after_write : StreamState → PayloadProtocolIdentifier → List ℕ → StreamState
+after_write s ppi bytes = record s { sequence_number = number_after s ppi bytes; buffered_amount = count_up s.buffered_amount (length bytes) }
+
+-- the amount rose from under the high threshold to at least it
+abbrev pub rises_high : StreamState → ℕ → Bool
+rises_high s more = nat_lt s.buffered_amount s.buffered_amount_high && nat_le s.buffered_amount_high (count_up s.buffered_amount more)
+
+-- ## Released bytes
+
+abbrev pub released : ℤ → ℕ
+released (pos n) = n
+released (negsuc n) = 0
+
+-- the amount fell from over the low threshold to at most it
+abbrev pub falls_low : StreamState → ℕ → Bool
+falls_low s less = nat_lt 0 less && (nat_lt s.buffered_amount_low s.buffered_amount && nat_le (s.buffered_amount - less) s.buffered_amount_low)
+
+-- ## A new stream
+
+abbrev pub new_stream : ℕ → ℕ → ℕ → PayloadProtocolIdentifier → StreamState
+new_stream id size max ppi = record {
+  stats = record { stream_identifier = id; generation = 0; messages_sent = 0; bytes_sent = 0; messages_received = 0; bytes_received = 0 };
+  first_message_id = 0;
+  max_payload_size = size;
+  stream_identifier = id;
+  default_payload_type = ppi;
+  reassembly_queue = record { si = id; held = record { next_ssn = 0; ordered = []; unordered = []; loose = [] }; bytes = 0; max_message_size = max };
+  sequence_number = 0;
+  state = ReadWritable;
+  unordered = false;
+  reliability_type = Reliable;
+  reliability_value = 0;
+  buffered_amount = 0;
+  buffered_amount_low = 0;
+  buffered_amount_high = 2 ^ 64 - 1;
+}
