@@ -5,3 +5,4 @@ pub mod link;
 pub mod packets;
 pub mod parameters;
 pub mod queues;
+pub mod receive;
