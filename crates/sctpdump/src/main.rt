@@ -1,18 +1,9 @@
 //! Prints the SCTP packets of a capture, or of lines of hex text.
 #![tactic(auto)]
 
-pub mod checksum;
-pub mod chunk_text;
-pub mod frame;
-pub mod record;
-pub mod run;
-pub mod summary;
-pub mod text;
-pub mod window;
-
-use crate::checksum::Sum;
-use crate::run::run;
 use clap::{Arg, ArgAction, Command};
+use sctp_show::checksum::Sum;
+use sctp_show::run::run;
 use std::io::{self, BufWriter, Read, Write};
 use std::process::ExitCode;
 use std::{env, fs};
