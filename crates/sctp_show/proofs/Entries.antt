@@ -46,6 +46,7 @@ more_entry h held more r is holds =
     let first = number_more h.order held more 0 (omega (arith, long)) in
     let second = number_more h.order held more 4 (omega (arith, long)) in
     record {
+      link_type = is.link_type;
       short = λ less. absurd (omega (arith, less, longer, long));
       time = λ _. rw (first, second) (is.time long);
       too_long = λ _. rw span (is.too_long long);

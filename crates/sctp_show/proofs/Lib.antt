@@ -4,3 +4,5 @@ pub mod Lines
 pub mod Heads
 pub mod Runs
 pub mod Texts
+pub mod BlockPieces
+pub mod Pieces

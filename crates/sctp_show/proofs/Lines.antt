@@ -75,7 +75,7 @@ line_joined (x ∷ xs) more = joined_by (x == 10) x xs more refl (line_joined xs
 cut_is_line : (held more : List ℕ) (r : Record) → IsLine held r → length (line_in held) < length held → IsLine (held ++ more) r
 cut_is_line held more r is lt =
     let same = (line_cut held more lt).0 in
-    record { time = is.time; too_long = rw same is.too_long; text = rw same is.text }
+    record { link_type = is.link_type; time = is.time; too_long = rw same is.too_long; text = rw same is.text }
 
 -- a line that is read of what is held is that of all the bytes
 pub more_line : (held more : List ℕ) (r : Record) → IsLine held r → HoldsLine held → IsLine (held ++ more) r
@@ -85,7 +85,7 @@ more_line held more r is (inr long) = elim (cases_lt (length (line_in held)) (le
   | inr le ↦
       let same : line_in (held ++ more) ≡ held ++ line_in more = (line_joined held more le).0 in
       let far : 524288 < length (line_in (held ++ more)) = rw (same, length-append) (omega (arith, long)) in
-      record { time = is.time; too_long = λ _. is.too_long (omega (arith, long, le)); text = λ short. absurd (omega (arith, far, short)) }
+      record { link_type = is.link_type; time = is.time; too_long = λ _. is.too_long (omega (arith, long, le)); text = λ short. absurd (omega (arith, far, short)) }
 ]
 
 -- ---- of an input

@@ -38,6 +38,7 @@ time_at h bytes = record { seconds = number_at h.order bytes 0; fraction = numbe
 
 -- the entry that the bytes begin with: its frame is refused where it is cut off, or longer than 256 KiB
 pub record IsEntry (h : Head) (bytes : List ℕ) (r : Record) : Type 0 where
+  pub link_type : r.link_type ≡ h.link_type
   pub short : length bytes < 16 → (r.time ≡ None) × (r.frame ≡ Err CutOff)
   pub time : 16 ≤ length bytes → r.time ≡ Some (time_at h bytes)
   pub too_long : 16 ≤ length bytes → 16 + 262144 < entry_span h bytes → r.frame ≡ Err TooLong
@@ -64,6 +65,7 @@ HoldsLine bytes = (length (line_in bytes) < length bytes) ⊎ (524288 < length b
 
 -- the line that the bytes begin with: its frame is what its hex text says, or refused
 pub record IsLine (bytes : List ℕ) (r : Record) : Type 0 where
+  pub link_type : r.link_type ≡ 248
   pub time : r.time ≡ None
   pub too_long : 524288 < length (line_in bytes) → r.frame ≡ Err TooLong
   pub text : length (line_in bytes) ≤ 524288 → MatchResult (decode_of (line_in bytes)) (λ frame. r.frame ≡ Ok frame) (λ _. r.frame ≡ Err NotHex)

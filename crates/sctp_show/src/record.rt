@@ -27,6 +27,9 @@ pub const MAX_RECORD: usize = 262_144;
 /// The most digits of a line.
 pub const MAX_LINE: usize = 524_288;
 
+/// The link type of a line: a datagram alone.
+const LINE_LINK: u32 = 248;
+
 const MICROSECONDS: u32 = 0xa1b2_c3d4;
 
 const NANOSECONDS: u32 = 0xa1b2_3c4d;
@@ -50,8 +53,9 @@ pub struct Head {
 /// When a record was captured.
 #[derive(Clone, Copy, Debug, PartialEq, Eq)]
 pub struct Time {
-    pub seconds: u32,
-    pub fraction: u32,
+    pub seconds: u64,
+    pub fraction: u64,
+    /// Whether the fraction is nanoseconds, and not microseconds.
     pub nanoseconds: bool,
 }
 
@@ -72,6 +76,10 @@ pub enum Fault {
     OtherProtocol,
     /// The link type is not known.
     OtherLink,
+    /// A length in a block of the capture is wrong.
+    BadBlock,
+    /// A block names an interface that was not described.
+    NoInterface,
 }
 
 impl fmt::Display for Fault {
@@ -86,19 +94,22 @@ impl fmt::Display for Fault {
             Fault::Fragment => f.write_str("fragment of an IP packet"),
             Fault::OtherProtocol => f.write_str("no SCTP"),
             Fault::OtherLink => f.write_str("unknown link type"),
+            Fault::BadBlock => f.write_str("wrong length in a block"),
+            Fault::NoInterface => f.write_str("unknown interface"),
         }
     }
 }
 
-/// A record: when it was captured, and its frame, or why there is none.
+/// A record: when it was captured, the link type of its frame, and the frame, or why there is none.
 #[derive(Debug, Drop)]
 pub struct Record {
     pub time: Option<Time>,
+    pub link_type: u32,
     pub frame: Result<Bytes, Fault>,
 }
 
 /// The number in the four bytes from `at` on.
-fn read_number(order: Order, bytes: &[u8], at: usize) -> u32
+pub fn read_number(order: Order, bytes: &[u8], at: usize) -> u32
     requires { at + 4 ≤ length bytes.now }
     ensures { result ≡ number_at order bytes.now at }
 {
@@ -164,30 +175,34 @@ fn read_entry(alloc: Global, head: &Head, held: &[u8]) -> Result<Record, AllocEr
     if held.len() < ENTRY_HEADER {
         return Ok(Record {
             time: None,
+            link_type: head.link_type,
             frame: Err(Fault::CutOff),
         });
     }
     let time = Some(Time {
-        seconds: read_number(head.order, held, 0),
-        fraction: read_number(head.order, held, 4),
+        seconds: read_number(head.order, held, 0) as u64,
+        fraction: read_number(head.order, held, 4) as u64,
         nanoseconds: head.nanoseconds,
     });
     let length = read_number(head.order, held, 8) as usize;
     if length > MAX_RECORD {
         return Ok(Record {
             time,
+            link_type: head.link_type,
             frame: Err(Fault::TooLong),
         });
     }
     if held.len() < ENTRY_HEADER + length {
         return Ok(Record {
             time,
+            link_type: head.link_type,
             frame: Err(Fault::CutOff),
         });
     }
     let frame = Bytes::copy_from_slice(alloc, &held[ENTRY_HEADER..ENTRY_HEADER + length])?;
     Ok(Record {
         time,
+        link_type: head.link_type,
         frame: Ok(frame),
     })
 }
@@ -263,7 +278,11 @@ fn read_line(alloc: Global, held: &[u8]) -> Result<Record, AllocError>
     } else {
         read_hex(alloc, &held[..length])?
     };
-    Ok(Record { time: None, frame })
+    Ok(Record {
+        time: None,
+        link_type: LINE_LINK,
+        frame,
+    })
 }
 
 /// The bytes that hex text says.

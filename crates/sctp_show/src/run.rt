@@ -2,10 +2,10 @@
 
 ghost use Rattle.std.specs.Prelude.{◌≡◌, ℕ, List, Option, Some, length, IfOk, OnOk, IfSome};
 ghost use Rattle.std.specs.Io.KnownBytes.{Appends, prepend_known};
-ghost use Rattle.sctp_show.specs.Run.{IsRecord, after_record, IsOpened, IsInput, PrintsRecord, Prints};
-ghost use Rattle.sctp_show.specs.Record.{IsNext};
+ghost use Rattle.sctp_show.specs.Blocks.{known_of};
+ghost use Rattle.sctp_show.specs.Run.{IsOpened, IsInput, Takes, taken_by, PrintsRecord, Prints};
 
-use crate::checksum::Sum;
+use crate::blocks::{Section, Taken, begins_blocks, next_block};
 use crate::record::{CAPTURE_HEADER, Head, Record, next_entry, next_line, read_head};
 use crate::summary::Summary;
 use crate::text::{Options, record_text};
@@ -37,14 +37,8 @@ pub enum Format {
     Lines,
     /// A classic capture.
     Capture(Head),
-}
-
-/// The link type of a format: a line is a datagram alone.
-fn link_type_of(format: Format) -> u32 {
-    match format {
-        Format::Lines => 248,
-        Format::Capture(head) => head.link_type,
-    }
+    /// A capture in the newer format.
+    Blocks,
 }
 
 /// Finds out what an input is, and drops the header of a capture.
@@ -58,23 +52,40 @@ fn open_input<R: Read + Drop>(window: &mut Window<R>) -> Result<Format, RunFault
             window.advance(CAPTURE_HEADER);
             Ok(Format::Capture(head))
         }
-        None => Ok(Format::Lines),
+        None => {
+            if begins_blocks(window.held()) {
+                return Ok(Format::Blocks);
+            }
+            Ok(Format::Lines)
+        }
     }
 }
 
-/// Takes the next record. There is none at the end of the input.
-fn next_record<R: Read + Drop>(
+/// What was taken, where each piece is a record.
+fn taken_of(next: Option<Record>) -> Taken
+    ensures { result ≡ taken_by next }
+{
+    match next {
+        Some(record) => Taken::Record(record),
+        None => Taken::End,
+    }
+}
+
+/// Takes the next piece of an input.
+fn next_piece<R: Read + Drop>(
     alloc: Global,
     window: &mut Window<R>,
+    section: &mut Section,
     format: Format,
-) -> Result<Option<Record>, RunFault>
-    ensures { IfOk result (λ next. IfSome (prepend_known window.old.held.items (R.remaining window.old.reader)) (λ xs.
-        IsNext (IsRecord format) (after_record format) xs
-        (prepend_known window.new.held.items (R.remaining window.new.reader)) next)) }
+) -> Result<Taken, RunFault>
+    ensures { IfOk result (λ taken. IfSome (prepend_known window.old.held.items (R.remaining window.old.reader)) (λ xs.
+        Takes format (known_of section.old) xs taken (known_of section.new)
+        (prepend_known window.new.held.items (R.remaining window.new.reader)))) }
 {
     match format {
-        Format::Lines => next_line(alloc, window),
-        Format::Capture(head) => next_entry(alloc, window, &head),
+        Format::Lines => Ok(taken_of(next_line(alloc, window)?)),
+        Format::Capture(head) => Ok(taken_of(next_entry(alloc, window, &head)?)),
+        Format::Blocks => next_block(alloc, window, section),
     }
 }
 
@@ -93,43 +104,42 @@ fn print_record<W: Write>(
     alloc: Global,
     options: &Options,
     number: u64,
-    record: &Record,
+    record: Record,
     summary: &mut Summary,
     output: &mut W,
 ) -> Result<(), RunFault>
-    ensures { OnOk result (PrintsRecord number record.now (W.contents output.old) (W.contents output.new)) }
+    ensures { OnOk result (PrintsRecord options.now.form number «record» (W.contents output.old) (W.contents output.new)) }
 {
-    let text = record_text(alloc, options, number, record, summary)?;
+    let text = record_text(alloc, options, number, &record, summary)?;
     write_text(output, &text)
 }
 
 /// Prints each record of an input in order, and a line that sums them up. Answers how many there are.
 pub fn run<R: Read + Drop, W: Write>(
     alloc: Global,
-    sum: Sum,
-    port: u16,
+    options: &Options,
     input: R,
     output: &mut W,
 ) -> Result<u64, RunFault>
     ensures { IfOk result (λ count. (records : List Record) × (count ≡ length records)
         × IfSome (R.remaining input) (λ bytes. IsInput bytes records)
-        × Prints records (W.contents output.old) (W.contents output.new)) }
+        × Prints options.now.form records (W.contents output.old) (W.contents output.new)) }
 {
     let mut window = Window::new(alloc, input)?;
     let format = open_input(&mut window)?;
-    let options = Options {
-        sum,
-        port,
-        link_type: link_type_of(format),
-    };
+    let mut section = Section::new(alloc);
     let mut summary = Summary::new(alloc)?;
-    for count in 0..u64::MAX {
-        match next_record(alloc, &mut window, format)? {
-            Some(record) => {
-                print_record(alloc, &options, count + 1, &record, &mut summary, output)?;
+    let mut count = 0u64;
+    'pieces: for turn in 0..u64::MAX {
+        let _turn = turn;
+        match next_piece(alloc, &mut window, &mut section, format)? {
+            Taken::Record(record) => {
+                count += 1;
+                print_record(alloc, options, count, record, &mut summary, output)?;
             }
-            None => {
-                let text = summary.text(alloc, count)?;
+            Taken::Nothing => {}
+            Taken::End => {
+                let text = summary.text(alloc, options.form, count)?;
                 write_text(output, &text)?;
                 return Ok(count);
             }

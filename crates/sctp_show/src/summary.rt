@@ -2,6 +2,7 @@
 
 use crate::checksum::Sum;
 use crate::chunk_text::{ChunkName, type_of};
+use crate::page::Form;
 use crate::record::Fault;
 use sctp_dissect::dissection::{Dissection, Item, Reading};
 use std::alloc::{AllocError, Global};
@@ -52,20 +53,43 @@ impl Summary {
     }
 
     /// The line at the end of a run of so many records.
-    pub fn text(&self, alloc: Global, records: u64) -> Result<String, AllocError> {
+    pub fn text(&self, alloc: Global, form: Form, records: u64) -> Result<String, AllocError> {
         let (packets, not_shown) = (self.packets, self.not_shown);
         let (refused, wrong) = (self.refused, self.wrong_checksums);
-        let mut text = format!(in alloc;
-            "{records} records: {packets} packets, {not_shown} not shown, {refused} refused, {wrong} wrong checksums;"
-        )?;
+        let mut text = String::new(alloc);
+        match form {
+            Form::Text => write!(
+                text,
+                "{records} records: {packets} packets, {not_shown} not shown, {refused} refused, {wrong} wrong checksums;"
+            )?,
+            Form::Json => write!(
+                text,
+                "{{\"records\":{records},\"packets\":{packets},\"not_shown\":{not_shown},\"refused\":{refused},\"wrong_checksums\":{wrong},\"chunks\":{{"
+            )?,
+        }
+        self.put_kinds(&mut text, form)?;
+        match form {
+            Form::Text => text.push_str("\n")?,
+            Form::Json => text.push_str("}}\n")?,
+        }
+        Ok(text)
+    }
+
+    /// How many chunks of each type there were.
+    fn put_kinds(&self, text: &mut String, form: Form) -> Result<(), AllocError> {
+        let mut comma = "";
         for typ in 0..=255u8 {
             let count = self.chunks.get(typ as usize).copied().unwrap_or(0);
             if count > 0 {
-                write!(text, " {} {count}", ChunkName(typ))?;
+                let name = ChunkName(typ);
+                match form {
+                    Form::Text => write!(text, " {name} {count}")?,
+                    Form::Json => write!(text, "{comma}\"{name}\":{count}")?,
+                }
+                comma = ",";
             }
         }
-        text.push_str("\n")?;
-        Ok(text)
+        Ok(())
     }
 }
 

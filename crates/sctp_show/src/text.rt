@@ -1,12 +1,13 @@
-//! A record as text.
+//! A record as it is printed.
 
-ghost use Rattle.std.specs.Prelude.{◌≡◌, ◌++◌, codes, decimal, IfOk};
+ghost use Rattle.std.specs.Prelude.{◌≡◌, IfOk};
 ghost use Rattle.std.specs.String.{string_bytes};
-ghost use Rattle.sctp_show.specs.Text.{IsText, fault_text};
+ghost use Rattle.sctp_show.specs.Text.{IsText, IsFrameText, numbered_text, refused_text};
 
 use crate::checksum::Sum;
-use crate::chunk_text::{put_block, put_brief, put_bytes};
+use crate::chunk_text::{put_block, put_brief};
 use crate::frame::{Datagram, datagram_in};
+use crate::page::{Form, Page};
 use crate::record::{Fault, Record, Time};
 use crate::summary::Summary;
 use bytes::Bytes;
@@ -20,7 +21,7 @@ pub struct Options {
     pub sum: Sum,
     /// The UDP port of SCTP in UDP (RFC 6951).
     pub port: u16,
-    pub link_type: u32,
+    pub form: Form,
 }
 
 impl fmt::Display for Time {
@@ -33,30 +34,45 @@ impl fmt::Display for Time {
     }
 }
 
-/// The line of a packet as far as its addresses.
+/// When a record was captured, and between which addresses it went.
 fn put_ends(
-    text: &mut String,
+    page: &mut Page,
     time: &Option<Time>,
     datagram: &Datagram<'_>,
 ) -> Result<(), AllocError> {
+    let is_text = page.is_text();
+    let text = &mut page.text;
     match time {
-        Some(time) => write!(text, "{time}")?,
-        None => text.push_str("-")?,
+        Some(time) if is_text => write!(text, "{time}")?,
+        Some(time) => write!(text, ",\"time\":\"{time}\"")?,
+        None if is_text => text.push_str("-")?,
+        None => {}
     }
     match &datagram.ends {
-        Some((source, destination)) => write!(text, " {source} > {destination}"),
-        None => text.push_str(" - > -"),
+        Some((source, destination)) if is_text => write!(text, " {source} > {destination}"),
+        Some((source, destination)) => write!(
+            text,
+            ",\"source\":\"{source}\",\"destination\":\"{destination}\""
+        ),
+        None if is_text => text.push_str(" - > -"),
+        None => Ok(()),
     }
 }
 
-fn put_header(text: &mut String, header: &Header) -> Result<(), AllocError> {
+fn put_header(page: &mut Page, header: &Header) -> Result<(), AllocError> {
     let fields = header.fields;
     let (source, destination) = (fields.source_port, fields.destination_port);
     let tag = fields.verification_tag;
-    write!(text, " SCTP {source} > {destination} tag 0x{tag:08x}")
+    if page.is_text() {
+        return write!(page.text, " SCTP {source} > {destination} tag 0x{tag:08x}");
+    }
+    write!(
+        page.text,
+        ",\"source_port\":{source},\"destination_port\":{destination},\"tag\":{tag}"
+    )
 }
 
-/// The line of a packet's checksum, where it was computed.
+/// The line of a packet's checksum as text.
 fn put_sums(text: &mut String, header: &Header, sum: Sum) -> Result<(), AllocError> {
     let (stands, computed) = (header.checksum, header.computed);
     if sum == Sum::Unchecked {
@@ -71,43 +87,71 @@ fn put_sums(text: &mut String, header: &Header, sum: Sum) -> Result<(), AllocErr
     )
 }
 
+/// A packet's checksum, and what it should be, where that was computed.
+fn put_checksum(page: &mut Page, header: &Header, sum: Sum) -> Result<(), AllocError> {
+    if page.is_text() {
+        return put_sums(&mut page.text, header, sum);
+    }
+    write!(page.text, ",\"checksum\":{}", header.checksum)?;
+    if sum == Sum::Unchecked {
+        return Ok(());
+    }
+    let right = header.has_right_checksum();
+    write!(
+        page.text,
+        ",\"computed\":{},\"right\":{right}",
+        header.computed
+    )
+}
+
 /// The line of a packet behind its addresses.
-fn put_line(text: &mut String, seen: &Dissection) -> Result<(), AllocError> {
+fn put_line(page: &mut Page, seen: &Dissection) -> Result<(), AllocError> {
     if let Some(header) = &seen.header {
-        put_header(text, header)?;
+        put_header(page, header)?;
+    }
+    if !page.is_text() {
+        return Ok(());
     }
     for item in &seen.items {
-        put_brief(text, item)?;
+        put_brief(&mut page.text, item)?;
     }
     match seen.fault {
-        Some(fault) => write!(text, " [{fault:?}]\n"),
-        None => text.push_str("\n"),
+        Some(fault) => write!(page.text, " [{fault:?}]\n"),
+        None => page.text.push_str("\n"),
     }
 }
 
 /// The blocks below the line of a packet.
 fn put_blocks(
     alloc: Global,
-    text: &mut String,
+    page: &mut Page,
     seen: &Dissection,
     sum: Sum,
 ) -> Result<(), AllocError> {
     if let Some(header) = &seen.header {
-        put_sums(text, header, sum)?;
+        put_checksum(page, header, sum)?;
     }
+    page.in_json(",\"chunks\":[")?;
+    let mut is_first = true;
     for item in &seen.items {
-        put_block(alloc, text, item)?;
+        put_block(alloc, page, item, is_first)?;
+        is_first = false;
     }
-    match seen.fault {
-        Some(fault) => {
-            write!(text, "    Left over: {fault:?}\n")?;
-            put_bytes(text, "Bytes", seen.rest.as_slice())
-        }
-        None => Ok(()),
-    }
+    page.in_json("]")
 }
 
-/// The text of a packet behind its number.
+/// The bytes behind the last chunk, and why they are left over.
+fn put_rest(alloc: Global, page: &mut Page, seen: &Dissection) -> Result<(), AllocError> {
+    let Some(fault) = seen.fault else {
+        return Ok(());
+    };
+    let words = format!(in alloc; "{fault:?}")?;
+    page.in_text("    Left over\n")?;
+    page.words("Fault", "fault", &words)?;
+    page.bytes(alloc, "Bytes", "rest", seen.rest.as_slice())
+}
+
+/// What a packet shows.
 fn packet_text(
     alloc: Global,
     options: &Options,
@@ -118,43 +162,56 @@ fn packet_text(
     let bytes = Bytes::copy_from_slice(alloc, datagram.bytes)?;
     let seen = dissect(alloc, &bytes, &options.sum)?;
     summary.count_packet(&seen, options.sum);
-    let mut text = String::new(alloc);
-    put_ends(&mut text, time, datagram)?;
-    put_line(&mut text, &seen)?;
-    put_blocks(alloc, &mut text, &seen, options.sum)?;
-    Ok(text)
+    let mut page = Page::new(alloc, options.form);
+    put_ends(&mut page, time, datagram)?;
+    put_line(&mut page, &seen)?;
+    put_blocks(alloc, &mut page, &seen, options.sum)?;
+    put_rest(alloc, &mut page, &seen)?;
+    page.in_json("}\n")?;
+    Ok(page.text)
 }
 
-/// The text of a record behind its number.
-fn record_rest(
-    alloc: Global,
-    options: &Options,
-    time: &Option<Time>,
-    frame: &Bytes,
-    summary: &mut Summary,
-) -> Result<String, AllocError> {
-    match datagram_in(options.link_type, frame.as_slice(), options.port) {
-        Ok(datagram) => packet_text(alloc, options, time, &datagram, summary),
-        Err(fault) => {
-            summary.count_fault(fault);
-            format!(in alloc; "not shown: {fault}\n")
-        }
+/// A record's number, and what it shows.
+fn numbered(alloc: Global, form: Form, number: u64, shown: &str) -> Result<String, AllocError>
+    ensures { IfOk result (λ text. string_bytes text ≡ numbered_text form number shown.now) }
+{
+    match form {
+        Form::Text => format!(in alloc; "{number} {shown}"),
+        Form::Json => format!(in alloc; "{{\"record\":{number}{shown}"),
     }
 }
 
-/// A number, a space and a text.
-fn numbered(alloc: Global, number: u64, rest: &str) -> Result<String, AllocError>
-    ensures { IfOk result (λ text. string_bytes text ≡ decimal number ++ (codes " " ++ rest.now)) }
+/// The text of a record of which no packet is shown.
+fn refused_text(alloc: Global, form: Form, number: u64, fault: Fault) -> Result<String, AllocError>
+    ensures { IfOk result (λ text. string_bytes text ≡ refused_text form number fault) }
 {
-    format!(in alloc; "{number} {rest}")
+    match form {
+        Form::Text => format!(in alloc; "{number} not shown: {fault}\n"),
+        Form::Json => format!(in alloc; "{{\"record\":{number},\"not_shown\":\"{fault}\"}}\n"),
+    }
 }
 
-/// The text of a record that has no frame.
-fn refused_text(alloc: Global, number: u64, fault: Fault) -> Result<String, AllocError>
-    ensures { IfOk result (λ text. string_bytes text
-        ≡ decimal number ++ (codes " not shown: " ++ (fault_text fault ++ codes "\n"))) }
+/// The text of a record that has a frame.
+fn frame_text(
+    alloc: Global,
+    options: &Options,
+    number: u64,
+    record: &Record,
+    frame: &Bytes,
+    summary: &mut Summary,
+) -> Result<String, AllocError>
+    ensures { IfOk result (λ text. IsFrameText options.now.form number (string_bytes text)) }
 {
-    format!(in alloc; "{number} not shown: {fault}\n")
+    match datagram_in(record.link_type, frame.as_slice(), options.port) {
+        Ok(datagram) => {
+            let shown = packet_text(alloc, options, &record.time, &datagram, summary)?;
+            numbered(alloc, options.form, number, &shown)
+        }
+        Err(fault) => {
+            summary.count_fault(fault);
+            refused_text(alloc, options.form, number, fault)
+        }
+    }
 }
 
 /// The text of a record.
@@ -165,16 +222,13 @@ pub fn record_text(
     record: &Record,
     summary: &mut Summary,
 ) -> Result<String, AllocError>
-    ensures { IfOk result (λ text. IsText number record.now (string_bytes text)) }
+    ensures { IfOk result (λ text. IsText options.now.form number «record».now (string_bytes text)) }
 {
     match &record.frame {
-        Ok(frame) => {
-            let rest = record_rest(alloc, options, &record.time, frame, summary)?;
-            numbered(alloc, number, &rest)
-        }
+        Ok(frame) => frame_text(alloc, options, number, record, frame, summary),
         Err(fault) => {
             summary.count_fault(*fault);
-            refused_text(alloc, number, *fault)
+            refused_text(alloc, options.form, number, *fault)
         }
     }
 }

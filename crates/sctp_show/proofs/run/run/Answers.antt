@@ -1,13 +1,27 @@
-use Rattle.std.specs.Prelude.{None}
-use Rattle.sctp_show.proofs.Runs.{so_far_none, so_far_next, so_far_all, opened_input}
+use Rattle.std.proofs.Common.{◌≤◌, Some, None, arith}
+use Rattle.sctp_show.specs.Blocks.{known_of}
+use Rattle.sctp_show.proofs.Runs.{so_far_none, so_far_record, so_far_nothing, so_far_all, opened_input}
 use Rattle.sctp_show.proofs.run.run.Goals as goal
+use Rattle.sctp_show.proofs.run.run.Goals.{in-Record+in_ok-print_record-in-Record, in-Nothing}
 
-pub loop-count-init : goal.loop-count-init
-loop-count-init g c = so_far_none c.in_ok-format.format _ _
+pub pieces-init : goal.pieces-init
+pieces-init g c = record { counted = omega arith; so_far = so_far_none c.args.options.now.form c.in_ok-format.format _ _ _ }
 
-pub loop-count-preserved : goal.loop-count-preserved
-loop-count-preserved g c = so_far_next c.in_ok-format.format _ _ _ _ _ _ c.loop-count.count c.in-Some.record c.loop-count.invariant (rw c.in-Some.is at c.in_ok-record.ensures) c.in_ok-print_record-in-Some.ensures
+pub pieces-preserved : goal.pieces-preserved
+pieces-preserved g c = elim c.match-branch-5.branch [
+  | in-Record+in_ok-print_record-in-Record w ↦ record {
+    counted = omega (arith, w.count-is, c.pieces.invariant.counted);
+    so_far = rw (w.count-is, w.output-is) (so_far_record c.args.options.now.form c.in_ok-format.format (known_of c.new-section.result) _ _ _ _ _ _ _ _ c.pieces.count w.in-Record.record c.pieces.invariant.so_far
+        (rw w.in-Record.is at c.in_ok-record.ensures) w.in_ok-print_record-in-Record.ensures);
+  }
+  | in-Nothing w ↦ record {
+    counted = omega (arith, w.count-is, c.pieces.invariant.counted);
+    so_far = rw (w.count-is, w.output-is) (so_far_nothing c.args.options.now.form c.in_ok-format.format (known_of c.new-section.result) _ _ _ _ _ _ _ c.pieces.count c.pieces.invariant.so_far
+        (rw w.in-Nothing.is at c.in_ok-record.ensures));
+  }
+]
 
-pub returns-in-None : goal.returns-in-None
-returns-in-None g c = so_far_all c.in_ok-format.format _ _ _ None _ _ _ c.loop-count.count _ (opened_input c.in_ok-format.format _ _ _ c.in_ok-window.ensures c.in_ok-format.ensures) c.loop-count.invariant
-    (rw c.in-None.is at c.in_ok-record.ensures) c.in_ok-write_text-in-None.ensures
+pub returns-in-End : goal.returns-in-End
+returns-in-End g c = so_far_all c.args.options.now.form c.in_ok-format.format (known_of c.new-section.result) (known_of c.pieces.section) _ _ _ _ _ _ c.pieces.count _ c.new-section.ensures
+    (opened_input c.in_ok-format.format _ _ _ c.in_ok-window.ensures c.in_ok-format.ensures) c.pieces.invariant.so_far
+    (rw c.in-End.is at c.in_ok-record.ensures) c.in_ok-write_text-in-End.ensures
