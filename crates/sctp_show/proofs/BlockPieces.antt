@@ -1,5 +1,5 @@
 -- Blocks of which some bytes are held, and what is left behind them.
-use Rattle.std.proofs.Common.{◌≡◌, ℕ, ◌+◌, ◌<◌, ◌≤◌, Bool, true, false, List, [], ◌∷◌, ◌++◌, length, take, drop, Some, None, Err, IfSome, refl, ap, sym, ◌∙◌, inl, inr, arith}
+use Rattle.std.proofs.Common.{◌≡◌, ℕ, ◌+◌, ◌<◌, ◌≤◌, true, false, List, [], ◌++◌, length, take, drop, Some, None, Err, IfSome, refl, ap, sym, ◌∙◌, inl, inr, arith}
 use Rattle.std.specs.Prelude.{Option, ◌⊎◌}
 use Rattle.std.specs.Io.KnownBytes.{Keeps, IsAtEnd, prepend_known}
 use Rattle.std.proofs.lemmas.List.{append-nil, length-append, take-append-le}
@@ -10,7 +10,7 @@ use Rattle.sctp_show.specs.declared.record.Fault.TheVariants.{CutOff, BadBlock}
 use Rattle.sctp_show.specs.declared.record.Record.{Record}
 use Rattle.sctp_show.specs.declared.blocks.BlockHead.{BlockHead}
 use Rattle.sctp_show.specs.declared.run.Format.TheVariants.{Blocks}
-use Rattle.sctp_show.specs.Blocks.{Known, Piece, order_in, IsBlockHead, IsRead, Gives, HoldsBlock}
+use Rattle.sctp_show.specs.Blocks.{Known, Piece, order_in, IsBlockHead, Gives, HoldsBlock}
 use Rattle.sctp_show.specs.Run.{IsTaken}
 use Rattle.sctp_show.proofs.Entries.{number_more}
 

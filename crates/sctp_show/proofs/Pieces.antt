@@ -1,5 +1,5 @@
 -- Lines and entries as pieces of an input.
-use Rattle.std.proofs.Common.{◌≡◌, ℕ, List, Some, None, IfSome, refl, inl}
+use Rattle.std.proofs.Common.{ℕ, List, Some, None, IfSome, refl, inl}
 use Rattle.std.specs.Prelude.{Option}
 use Rattle.sctp_show.specs.declared.record.Head.{Head}
 use Rattle.sctp_show.specs.declared.record.Record.{Record}

@@ -10,8 +10,6 @@ use Rattle.sctp_show.specs.declared.record.Record.{Record}
 use Rattle.sctp_show.specs.declared.blocks.Interface.{Interface}
 use Rattle.sctp_show.specs.declared.blocks.Section.{Section}
 use Rattle.sctp_show.specs.declared.blocks.BlockHead.{BlockHead}
-use Rattle.sctp_show.specs.declared.blocks.Taken.{Taken}
-use Rattle.sctp_show.specs.declared.blocks.Taken.TheVariants as taken
 use Rattle.sctp_show.specs.Record.{number_at}
 
 -- what is known of the section that is read: the order of its numbers, its interfaces, and whether the next block cannot be found

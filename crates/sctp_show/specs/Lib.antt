@@ -5,4 +5,5 @@ pub mod Record
 pub mod Sum
 pub mod Blocks
 pub mod Text
+pub mod Frame
 pub mod Run

@@ -1,6 +1,8 @@
 //! The SCTP datagram inside a frame.
 
-ghost use Rattle.std.specs.Prelude.{◌+◌, ◌≤◌, length};
+ghost use Rattle.std.specs.Prelude.{◌≡◌, ◌≢◌, ◌+◌, ◌≤◌, true, length, slice_range, IfOk};
+ghost use Rattle.sctp_show.specs.Frame.{IsCarried, InIpv4, IsExtension, IsUpper, InIpv6, InIp, IsPlace, InFrame};
+ghost use Rattle.sctp_base.specs.Field;
 
 use crate::record::Fault;
 use sctp_base::field::read_u16;
@@ -22,7 +24,9 @@ pub struct Datagram<'a> {
 }
 
 /// The SCTP datagram in what IP carries: all of it, or what UDP carries to or from the port (RFC 6951).
-fn inside_transport(protocol: u8, payload: &[u8], port: u16) -> Result<&[u8], Fault> {
+fn inside_transport(protocol: u8, payload: &[u8], port: u16) -> Result<&[u8], Fault>
+    ensures { IfOk result (λ bytes. IsCarried port protocol payload.now bytes.now) }
+{
     if protocol == SCTP {
         return Ok(payload);
     }
@@ -39,7 +43,9 @@ fn inside_transport(protocol: u8, payload: &[u8], port: u16) -> Result<&[u8], Fa
     payload.get(8..length).ok_or(Fault::Short)
 }
 
-fn inside_ipv4(packet: &[u8], port: u16) -> Result<Datagram<'_>, Fault> {
+fn inside_ipv4(packet: &[u8], port: u16) -> Result<Datagram<'_>, Fault>
+    ensures { IfOk result (λ d. InIpv4 port packet.now d.bytes.now) }
+{
     if packet.len() < 20 {
         return Err(Fault::Short);
     }
@@ -68,15 +74,24 @@ fn ipv6_at(packet: &[u8], at: usize) -> IpAddr
     IpAddr::from(octets)
 }
 
+/// Whether such a header of IPv6 is followed by another one.
+fn is_extension(protocol: u8) -> bool
+    ensures { result ≡ true → IsExtension protocol }
+{
+    protocol == 0 || protocol == 43 || protocol == 60
+}
+
 /// What the last of the headers that follow the one of IPv6 carries, and its protocol number.
-fn inside_extensions(first: u8, payload: &[u8]) -> Result<(u8, &[u8]), Fault> {
+fn inside_extensions(first: u8, payload: &[u8]) -> Result<(u8, &[u8]), Fault>
+    ensures { IfOk result (λ x. IsUpper first payload.now x.0 x.1.now) }
+{
     let mut protocol = first;
     let mut rest = payload;
     for _ in 0..MAX_HEADERS {
         if protocol == 44 {
             return Err(Fault::Fragment);
         }
-        if protocol != 0 && protocol != 43 && protocol != 60 {
+        if !is_extension(protocol) {
             return Ok((protocol, rest));
         }
         if rest.len() < 2 {
@@ -92,7 +107,9 @@ fn inside_extensions(first: u8, payload: &[u8]) -> Result<(u8, &[u8]), Fault> {
     Err(Fault::OtherProtocol)
 }
 
-fn inside_ipv6(packet: &[u8], port: u16) -> Result<Datagram<'_>, Fault> {
+fn inside_ipv6(packet: &[u8], port: u16) -> Result<Datagram<'_>, Fault>
+    ensures { IfOk result (λ d. InIpv6 port packet.now d.bytes.now) }
+{
     if packet.len() < 40 {
         return Err(Fault::Short);
     }
@@ -108,7 +125,9 @@ fn inside_ipv6(packet: &[u8], port: u16) -> Result<Datagram<'_>, Fault> {
 }
 
 /// The datagram of the IP packet that stands from `at` on.
-fn inside_ip(frame: &[u8], at: usize, port: u16) -> Result<Datagram<'_>, Fault> {
+fn inside_ip(frame: &[u8], at: usize, port: u16) -> Result<Datagram<'_>, Fault>
+    ensures { IfOk result (λ d. InIp port (slice_range frame.now at (length frame.now)) d.bytes.now) }
+{
     if frame.len() <= at {
         return Err(Fault::Short);
     }
@@ -123,7 +142,8 @@ fn inside_ip(frame: &[u8], at: usize, port: u16) -> Result<Datagram<'_>, Fault> 
 /// The number of an Ethernet frame's protocol, behind up to two VLAN tags, and where it stands.
 fn ethertype_in(frame: &[u8]) -> (u16, usize)
     requires { 22 ≤ length frame.now }
-    ensures { result.1 ≤ 20 }
+    ensures within { result.1 ≤ 20 }
+    ensures is { result.0 ≡ Field.u16_at frame.now result.1 }
 {
     let first = read_u16(frame, 12);
     if first != 0x8100 && first != 0x88a8 {
@@ -136,30 +156,46 @@ fn ethertype_in(frame: &[u8]) -> (u16, usize)
     (read_u16(frame, 20), 20)
 }
 
-fn inside_ethernet(frame: &[u8], port: u16) -> Result<Datagram<'_>, Fault> {
+/// Where the IP packet of an Ethernet frame begins.
+fn ethernet_place(frame: &[u8]) -> Result<usize, Fault>
+    ensures { IfOk result (λ at. IsPlace 1 frame.now at) }
+{
     if frame.len() < 22 {
         return Err(Fault::Short);
     }
     let (typ, at) = ethertype_in(frame);
-    if typ != 0x0800 && typ != 0x86dd {
-        return Err(Fault::OtherProtocol);
+    if typ == 0x0800 || typ == 0x86dd {
+        return Ok(at + 2);
     }
-    inside_ip(frame, at + 2, port)
+    Err(Fault::OtherProtocol)
 }
 
-/// The datagram of a frame of this link type: loopback, Ethernet, raw IP, Linux cooked of both
-/// versions, or SCTP alone.
-pub fn datagram_in(link_type: u32, frame: &[u8], port: u16) -> Result<Datagram<'_>, Fault> {
+/// Where the IP packet of a frame of this link type begins: loopback, Ethernet, raw IP, or Linux
+/// cooked of both versions.
+fn place_in(link_type: u32, frame: &[u8]) -> Result<usize, Fault>
+    ensures { IfOk result (λ at. IsPlace link_type frame.now at) }
+{
     match link_type {
-        0 | 108 => inside_ip(frame, 4, port),
-        1 => inside_ethernet(frame, port),
-        12 | 14 | 101 | 228 | 229 => inside_ip(frame, 0, port),
-        113 => inside_ip(frame, 16, port),
-        248 => Ok(Datagram {
-            ends: None,
-            bytes: frame,
-        }),
-        276 => inside_ip(frame, 20, port),
+        0 | 108 => Ok(4),
+        1 => ethernet_place(frame),
+        12 | 14 | 101 | 228 | 229 => Ok(0),
+        113 => Ok(16),
+        276 => Ok(20),
         _ => Err(Fault::OtherLink),
     }
+}
+
+/// The datagram of a frame of this link type: what an IP packet carries, or SCTP alone.
+pub fn datagram_in(link_type: u32, frame: &[u8], port: u16) -> Result<Datagram<'_>, Fault>
+    ensures alone { link_type ≡ 248 → IfOk result (λ d. d.bytes.now ≡ frame.now) }
+    ensures carried { link_type ≢ 248 → IfOk result (λ d. InFrame link_type port frame.now d.bytes.now) }
+{
+    if link_type == 248 {
+        return Ok(Datagram {
+            ends: None,
+            bytes: frame,
+        });
+    }
+    let at = place_in(link_type, frame)?;
+    inside_ip(frame, at, port)
 }

@@ -1,4 +1,4 @@
-use Rattle.std.proofs.Common.{◌≡◌, ◌<◌, ◌≤◌, false, length, arith}
+use Rattle.std.proofs.Common.{◌<◌, ◌≤◌, length, arith}
 use Rattle.std.proofs.lemmas.Grind.{common_steps}
 use Rattle.sctp_show.specs.declared.blocks.BlockHead.{BlockHead}
 use Rattle.sctp_show.specs.Blocks.{known_of, IsBlockHead}

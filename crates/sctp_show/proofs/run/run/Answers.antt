@@ -1,4 +1,4 @@
-use Rattle.std.proofs.Common.{◌≤◌, Some, None, arith}
+use Rattle.std.proofs.Common.{arith}
 use Rattle.sctp_show.specs.Blocks.{known_of}
 use Rattle.sctp_show.proofs.Runs.{so_far_none, so_far_record, so_far_nothing, so_far_all, opened_input}
 use Rattle.sctp_show.proofs.run.run.Goals as goal
