@@ -4,6 +4,8 @@
 #[cfg(test)]
 mod bundle_tests;
 #[cfg(test)]
+mod capture_tests;
+#[cfg(test)]
 mod kind_tests;
 #[cfg(test)]
 mod param_tests;

@@ -1,3 +1,4 @@
 pub mod Walk
 pub mod Packet
 pub mod ParamWalk
+pub mod CauseWalk

@@ -1,2 +1,3 @@
 pub mod Dissection
 pub mod Params
+pub mod Causes

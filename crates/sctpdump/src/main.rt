@@ -1,18 +1,11 @@
 //! Prints the SCTP packets of a capture, or of lines of hex text.
 #![tactic(auto)]
 
-pub mod checksum;
-pub mod chunk_text;
-pub mod frame;
-pub mod record;
-pub mod run;
-pub mod summary;
-pub mod text;
-pub mod window;
-
-use crate::checksum::Sum;
-use crate::run::run;
 use clap::{Arg, ArgAction, Command};
+use sctp_show::checksum::Sum;
+use sctp_show::page::Form;
+use sctp_show::run::run;
+use sctp_show::text::Options;
 use std::io::{self, BufWriter, Read, Write};
 use std::process::ExitCode;
 use std::{env, fs};
@@ -21,23 +14,23 @@ use std::{env, fs};
 const TUNNEL_PORT: u16 = 9899;
 
 /// Runs, and answers the exit status: 1 where the input cannot be read, the output not written, or memory ran out.
-fn run_on<R: Read + Drop>(rt: &HostRuntime, sum: Sum, port: u16, input: R) -> ExitCode {
+fn run_on<R: Read + Drop>(rt: &HostRuntime, options: &Options, input: R) -> ExitCode {
     let Ok(mut output) = BufWriter::new(rt.alloc(), io::writer(rt)) else {
         return ExitCode::FAILURE;
     };
-    let result = run(rt.alloc(), sum, port, input, &mut output);
+    let result = run(rt.alloc(), options, input, &mut output);
     match (result, output.flush()) {
         (Ok(_), Ok(())) => ExitCode::SUCCESS,
         _ => ExitCode::FAILURE,
     }
 }
 
-fn run_file(rt: &HostRuntime, sum: Sum, port: u16, file: &str) -> ExitCode {
+fn run_file(rt: &HostRuntime, options: &Options, file: &str) -> ExitCode {
     if file == "-" {
-        return run_on(rt, sum, port, rt.reader());
+        return run_on(rt, options, rt.reader());
     }
     match fs::open(rt, file) {
-        Ok(input) => run_on(rt, sum, port, input),
+        Ok(input) => run_on(rt, options, input),
         Err(_) => ExitCode::FAILURE,
     }
 }
@@ -50,10 +43,15 @@ fn port_of(word: Option<&str>) -> Option<u16> {
     }
 }
 
-/// The command line is `sctpdump [--no-checksum] [--port N] [FILE | -]`. The exit status is 2 where it is another.
+/// The command line is `sctpdump [--json] [--no-checksum] [--port N] [FILE | -]`. The exit status is 2 where it is another.
 fn main(rt: HostRuntime) -> anyhow::Result<ExitCode> {
     let alloc = rt.alloc();
     let command = Command::new(alloc, "sctpdump")
+        .arg(
+            Arg::new(alloc, "json")
+                .long("json")
+                .action(ArgAction::SetTrue),
+        )?
         .arg(
             Arg::new(alloc, "no-checksum")
                 .long("no-checksum")
@@ -81,5 +79,11 @@ fn main(rt: HostRuntime) -> anyhow::Result<ExitCode> {
         eprintln!(rt; "the port is a number up to 65535")?;
         return Ok(ExitCode::from(2));
     };
-    Ok(run_file(&rt, sum, port, matches.get_str("file").unwrap_or("-")))
+    let form = if matches.get_flag("json") {
+        Form::Json
+    } else {
+        Form::Text
+    };
+    let options = Options { sum, port, form };
+    Ok(run_file(&rt, &options, matches.get_str("file").unwrap_or("-")))
 }

@@ -1,0 +1,23 @@
+-- Lines and entries as pieces of an input.
+use Rattle.std.proofs.Common.{ℕ, List, Some, None, IfSome, refl, inl}
+use Rattle.std.specs.Prelude.{Option}
+use Rattle.sctp_show.specs.declared.record.Head.{Head}
+use Rattle.sctp_show.specs.declared.record.Record.{Record}
+use Rattle.sctp_show.specs.declared.run.Format.TheVariants.{Lines, Capture}
+use Rattle.sctp_show.specs.Record.{IsNext, IsLine, IsEntry, after_line, after_entry}
+use Rattle.sctp_show.specs.Blocks.{Known, Piece}
+use Rattle.sctp_show.specs.Run.{Takes, taken_by}
+
+pub line_taken : (k : Known) (a left : Option (List ℕ)) (next : Option Record) → IfSome a (λ xs. IsNext IsLine after_line xs left next) → IfSome a (λ xs. Takes Lines k xs (taken_by next) k left)
+line_taken k None left next is = tt
+line_taken k (Some xs) left None is = inl is
+line_taken k (Some xs) left (Some r) is =
+    let p : Piece = record { found = Some r; known = k; left = after_line xs } in
+    (p, is.0, (is.1, refl, refl), refl, refl, is.2)
+
+pub entry_taken : (h : Head) (k : Known) (a left : Option (List ℕ)) (next : Option Record) → IfSome a (λ xs. IsNext (IsEntry h) (after_entry h) xs left next) → IfSome a (λ xs. Takes (Capture h) k xs (taken_by next) k left)
+entry_taken h k None left next is = tt
+entry_taken h k (Some xs) left None is = inl is
+entry_taken h k (Some xs) left (Some r) is =
+    let p : Piece = record { found = Some r; known = k; left = after_entry h xs } in
+    (p, is.0, (is.1, refl, refl), refl, refl, is.2)

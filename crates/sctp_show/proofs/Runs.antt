@@ -1,0 +1,155 @@
+-- A run, piece by piece.
+use Rattle.std.proofs.Common.{◌≡◌, ℕ, ◌+◌, ◌<◌, List, [], ◌∷◌, ◌++◌, length, Some, None, IfSome, refl, ap, sym, subst, ◌∙◌, arith}
+use Rattle.std.specs.Prelude.{Option, IsSomeAnd, option_to_list}
+use Rattle.std.specs.List.{concat}
+use Rattle.std.specs.Io.KnownBytes.{Keeps, Appends}
+use Rattle.std.proofs.KnownBytes.{Appends-trans, Appends-nil}
+use Rattle.std.proofs.lemmas.List.{append-nil, length-append}
+use Rattle.std.proofs.lemmas.List.Folds.{concat-append}
+use Rattle.std.proofs.lemmas.Grind.{flat_map-append}
+use Rattle.sctp_show.specs.declared.page.Form.{Form}
+use Rattle.sctp_show.specs.declared.record.Record.{Record}
+use Rattle.sctp_show.specs.declared.run.Format.{Format}
+use Rattle.sctp_show.specs.declared.run.Format.TheVariants.{Lines, Capture, Blocks}
+use Rattle.sctp_show.specs.Blocks.{Known, Piece, IsBegun, IsEnd}
+use Rattle.sctp_show.specs.Text.{IsText, AreTexts}
+use Rattle.sctp_show.specs.Run.{IsOpened, IsPiece, Pieces, records_of, IsInput, IsTaken, PrintsRecord, Prints}
+
+-- the pieces so far, by what was to be read and what is left
+pub record Walked (format : Format) (begun : Known) (bytes : List ℕ) (k : Known) (left : List ℕ) (records : List Record) : Type 0 where
+  pub pieces : List Piece
+  pub walk : Pieces format begun bytes pieces k left
+  pub are : records ≡ records_of pieces
+
+-- the records so far
+abbrev pub HasRead : Format → Known → Option (List ℕ) → Known → Option (List ℕ) → List Record → Type 0
+HasRead format begun first k left records = IfSome first (λ xs. IsSomeAnd left (λ ys. Walked format begun xs k ys records))
+
+-- and their texts
+abbrev pub HasPrinted : Form → Option (List ℕ) → Option (List ℕ) → List Record → Type 0
+HasPrinted form old new records = (texts : List (List ℕ)) × AreTexts form 1 records texts × Appends old new (concat texts)
+
+pub record SoFar (form : Form) (format : Format) (begun : Known) (first : Option (List ℕ)) (k : Known) (left old new : Option (List ℕ)) (count : ℕ) : Type 0 where
+  pub records : List Record
+  pub counted : length records ≡ count
+  pub read : HasRead format begun first k left records
+  pub printed : HasPrinted form old new records
+
+pieces_none : (format : Format) (k : Known) (bytes : List ℕ) → Pieces format k bytes [] k bytes
+unfolding Pieces
+pieces_none format k bytes = (refl, refl)
+
+-- a walk goes one piece further
+pieces_next : (format : Format) (k after : Known) (bytes left : List ℕ) (pieces : List Piece) (p : Piece) → Pieces format k bytes pieces after left
+    → 0 < length left → IsPiece format after left p → Pieces format k bytes (pieces ++ p ∷ []) p.known p.left
+unfolding Pieces
+pieces_next format k after bytes left [] p so_far some is =
+    let P : Known → Type 0 = λ v. IsPiece format v bytes p in
+    let Q : List ℕ → Type 0 = λ l. IsPiece format after l p in
+    let R : List ℕ → Type 0 = λ l. 0 < length l in
+    (subst R (sym so_far.1) some, subst P (sym so_far.0) (subst Q (sym so_far.1) is), (refl, refl))
+pieces_next format k after bytes left (q ∷ qs) p so_far some is = (so_far.0, so_far.1, pieces_next format q.known after q.left left qs p so_far.2 some is)
+
+pub read_none : (format : Format) (k : Known) (a : Option (List ℕ)) → HasRead format k a k a []
+read_none format k None = tt
+read_none format k (Some xs) = record { pieces = []; walk = pieces_none format k xs; are = refl }
+
+pub so_far_none : (form : Form) (format : Format) (k : Known) (a old : Option (List ℕ)) → SoFar form format k a k a old old 0
+so_far_none form format k a old = record { records = []; counted = refl; read = read_none format k a; printed = ([], tt, Appends-nil old) }
+
+records_next : (pieces : List Piece) (p : Piece) → records_of (pieces ++ p ∷ []) ≡ records_of pieces ++ option_to_list p.found
+records_next pieces p =
+    flat_map-append (λ q. option_to_list q.found) pieces (p ∷ []) ∙ ap (λ l. records_of pieces ++ l) (append-nil (option_to_list p.found))
+
+read_next : (format : Format) (begun k after : Known) (a b c : Option (List ℕ)) (records : List Record) (found : Option Record) → HasRead format begun a k b records
+    → IfSome b (λ xs. IsTaken format k xs found after c) → HasRead format begun a after c (records ++ option_to_list found)
+read_next format begun k after None b c records found read next = tt
+read_next format begun k after (Some xs) None c records found read next = absurd read
+read_next format begun k after (Some xs) (Some ys) None records found read next = absurd next.5
+read_next format begun k after (Some xs) (Some ys) (Some zs) records found read next =
+    let p : Piece = next.0 in
+    let walk : Pieces format begun xs (read.pieces ++ p ∷ []) p.known p.left = pieces_next format begun k xs ys read.pieces p read.walk next.1 next.2 in
+    let same_known : p.known ≡ after = next.4 in
+    let same_left : p.left ≡ zs = sym next.5 in
+    let same_found : p.found ≡ found = next.3 in
+    let P : Known → Type 0 = λ v. Pieces format begun xs (read.pieces ++ p ∷ []) v p.left in
+    let Q : List ℕ → Type 0 = λ l. Pieces format begun xs (read.pieces ++ p ∷ []) after l in
+    record {
+      pieces = read.pieces ++ p ∷ [];
+      walk = subst Q same_left (subst P same_known walk);
+      are = ap (λ l. l ++ option_to_list found) read.are ∙ ap (λ o. records_of read.pieces ++ option_to_list o) (sym same_found) ∙ sym (records_next read.pieces p);
+    }
+
+texts_next : (form : Form) (n : ℕ) (records : List Record) (texts : List (List ℕ)) (r : Record) (t : List ℕ) → AreTexts form n records texts → IsText form (n + length records) r t → AreTexts form n (records ++ r ∷ []) (texts ++ t ∷ [])
+texts_next form n [] [] r t all is = let here : n + 0 ≡ n = omega arith in (rw here at is, tt)
+texts_next form n [] (u ∷ us) r t all is = absurd all
+texts_next form n (q ∷ qs) [] r t all is = absurd all
+texts_next form n (q ∷ qs) (u ∷ us) r t all is =
+    let same : n + length {A = Record} (q ∷ qs) ≡ (n + 1) + length qs = omega arith in
+    (all.0, texts_next form (n + 1) qs us r t all.1 (rw same at is))
+
+printed_next : (form : Form) (old mid new : Option (List ℕ)) (records : List Record) (r : Record) (n : ℕ) → n ≡ 1 + length records → HasPrinted form old mid records → PrintsRecord form n r mid new → HasPrinted form old new (records ++ r ∷ [])
+printed_next form old mid new records r n e printed next =
+    let texts : List (List ℕ) = printed.0 in
+    let t : List ℕ = next.0 in
+    let joined : concat (texts ++ t ∷ []) ≡ concat texts ++ t = concat-append texts (t ∷ []) ∙ ap (λ l. concat texts ++ l) (append-nil t) in
+    (texts ++ t ∷ [], texts_next form 1 records texts r t printed.1 (rw e at next.1), rw joined (Appends-trans old mid new (concat texts) t printed.2 next.2))
+
+-- one record more is read and printed
+pub so_far_record : (form : Form) (format : Format) (begun k after : Known) (a b c old mid new : Option (List ℕ)) (count : ℕ) (r : Record) → SoFar form format begun a k b old mid count
+    → IfSome b (λ xs. IsTaken format k xs (Some r) after c) → PrintsRecord form (count + 1) r mid new → SoFar form format begun a after c old new (count + 1)
+so_far_record form format begun k after a b c old mid new count r so next prints =
+    let number : count + 1 ≡ 1 + length so.records = omega (arith, so.counted) in
+    let longer : length (so.records ++ r ∷ []) ≡ count + 1 = length-append so.records (r ∷ []) ∙ omega (arith, so.counted) in
+    record {
+      records = so.records ++ r ∷ [];
+      counted = longer;
+      read = read_next format begun k after a b c so.records (Some r) so.read next;
+      printed = printed_next form old mid new so.records r (count + 1) number so.printed prints;
+    }
+
+-- one piece more is read, which is no record
+pub so_far_nothing : (form : Form) (format : Format) (begun k after : Known) (a b c old new : Option (List ℕ)) (count : ℕ) → SoFar form format begun a k b old new count
+    → IfSome b (λ xs. IsTaken format k xs None after c) → SoFar form format begun a after c old new count
+so_far_nothing form format begun k after a b c old new count so next =
+    let same : so.records ++ [] ≡ so.records = append-nil so.records in
+    let read : HasRead format begun a after c (so.records ++ []) = read_next format begun k after a b c so.records None so.read next in
+    record { records = so.records; counted = so.counted; read = rw same at read; printed = so.printed }
+
+-- what is opened is the input
+pub opened_input : (format : Format) (z a b : Option (List ℕ)) → Keeps z a → IfSome a (λ xs. IsOpened format xs b) → IfSome z (λ bytes. IsOpened format bytes b)
+opened_input format None a b keeps opened = tt
+opened_input format (Some bytes) None b keeps opened = absurd keeps
+opened_input format (Some bytes) (Some xs) b keeps opened = rw keeps at opened
+
+all_read : (format : Format) (begun k : Known) (z a b : Option (List ℕ)) (records : List Record) → IsBegun begun → IfSome z (λ bytes. IsOpened format bytes a) → HasRead format begun a k b records
+    → IfSome b (λ xs. IsEnd k xs) → IfSome z (λ bytes. IsInput bytes records)
+all_read format begun k None a b records is_begun opened read next = tt
+all_read Lines begun k (Some bytes) None b records is_begun opened read next = absurd opened.2
+all_read (Capture h) begun k (Some bytes) None b records is_begun opened read next = absurd opened.1
+all_read Blocks begun k (Some bytes) None b records is_begun opened read next = absurd opened.2
+all_read format begun k (Some bytes) (Some xs) None records is_begun opened read next = absurd read
+all_read format begun k (Some bytes) (Some xs) (Some ys) records is_begun opened read next = record {
+  format = format;
+  body = xs;
+  opened = opened;
+  begun = begun;
+  is_begun = is_begun;
+  pieces = read.pieces;
+  after = k;
+  rest = ys;
+  walk = read.walk;
+  ended = next;
+  are = read.are;
+}
+
+-- where no piece is left, all are read and printed
+pub so_far_all : (form : Form) (format : Format) (begun k : Known) (z a b old mid new : Option (List ℕ)) (count : ℕ) (ending : List ℕ) → IsBegun begun → IfSome z (λ bytes. IsOpened format bytes a)
+    → SoFar form format begun a k b old mid count → IfSome b (λ xs. IsEnd k xs) → Appends mid new ending
+    → (records : List Record) × (count ≡ length records) × IfSome z (λ bytes. IsInput bytes records) × Prints form records old new
+so_far_all form format begun k z a b old mid new count ending is_begun opened so next ends = (
+  so.records,
+  sym so.counted,
+  all_read format begun k z a b so.records is_begun opened so.read next,
+  (so.printed.0, ending, so.printed.1, Appends-trans old mid new (concat so.printed.0) ending so.printed.2 ends),
+)

@@ -1,0 +1,35 @@
+-- What is printed of one fact, as text or as JSON.
+use Rattle.std.specs.Prelude.{ℕ, ◌++◌, List, map, length, codes, decimal, Bool, true, false, ◌==◌, ◌||◌, ltb, if◌then◌else◌}
+use Rattle.hex.specs.Hex.{encode_lower}
+use Rattle.sctp_show.specs.declared.page.Form.{Form}
+use Rattle.sctp_show.specs.declared.page.Form.TheVariants.{Text, Json}
+
+-- a byte as it may stand between the quotes of JSON: printable ASCII but for the quote and the backslash, or a question mark
+abbrev pub plain : ℕ → ℕ
+plain byte = if ltb byte 32 || ltb 126 byte || byte == 34 || byte == 92 then 63 else byte
+
+unfoldable pub number_text : Form → List ℕ → List ℕ → ℕ → List ℕ
+number_text Text label key value = codes "        " ++ (label ++ (codes ": " ++ (decimal value ++ codes "\n")))
+number_text Json label key value = codes ",\"" ++ (key ++ (codes "\":" ++ decimal value))
+
+-- the first fact of a row, which is a number; in JSON the row is an object, and rows stand between commas
+unfoldable pub row_text : Form → Bool → List ℕ → List ℕ → ℕ → List ℕ
+row_text Text is_first label key value = codes "        " ++ (label ++ (codes ": " ++ (decimal value ++ codes "\n")))
+row_text Json true label key value = codes "{\"" ++ (key ++ (codes "\":" ++ decimal value))
+row_text Json false label key value = codes ",{\"" ++ (key ++ (codes "\":" ++ decimal value))
+
+abbrev pub truth_word : Bool → List ℕ
+truth_word true = codes "true"
+truth_word false = codes "false"
+
+unfoldable pub truth_text : Form → List ℕ → List ℕ → Bool → List ℕ
+truth_text Text label key value = codes "        " ++ (label ++ (codes ": " ++ (truth_word value ++ codes "\n")))
+truth_text Json label key value = codes ",\"" ++ (key ++ (codes "\":" ++ truth_word value))
+
+unfoldable pub bytes_text : Form → List ℕ → List ℕ → List ℕ → List ℕ
+bytes_text Text label key bytes = codes "        " ++ (label ++ (codes " (" ++ (decimal (length bytes) ++ (codes " bytes): " ++ (encode_lower bytes ++ codes "\n")))))
+bytes_text Json label key bytes = codes ",\"" ++ (key ++ (codes "\":\"" ++ (encode_lower bytes ++ codes "\"")))
+
+unfoldable pub words_text : Form → List ℕ → List ℕ → List ℕ → List ℕ
+words_text Text label key words = codes "        " ++ (label ++ (codes ": " ++ (words ++ codes "\n")))
+words_text Json label key words = codes ",\"" ++ (key ++ (codes "\":\"" ++ (map plain words ++ codes "\"")))

@@ -1,0 +1,30 @@
+//! The checksum that datagrams are looked at under.
+
+ghost use Rattle.sctp_show.specs.Sum.{sum_of};
+
+use crc32c::Crc;
+use sctp_base::util::Checksum;
+
+/// CRC-32C, the checksum of SCTP packets (RFC 4960 Appendix B), or none: then each sum is 0.
+#[derive(Clone, Copy, PartialEq, Eq)]
+pub enum Sum {
+    Crc32c,
+    Unchecked,
+}
+
+impl Checksum for Sum {
+    ghost sum = { sum_of };
+
+    fn checksum(&self, head: &[u8], tail: &[u8]) -> u32 {
+        match self {
+            Sum::Unchecked => 0,
+            Sum::Crc32c => {
+                let mut crc = Crc::new();
+                crc.update(head);
+                crc.update(&[0; 4]);
+                crc.update(tail);
+                crc.finish()
+            }
+        }
+    }
+}

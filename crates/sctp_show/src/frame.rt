@@ -1,0 +1,201 @@
+//! The SCTP datagram inside a frame.
+
+ghost use Rattle.std.specs.Prelude.{◌≡◌, ◌≢◌, ◌+◌, ◌≤◌, true, length, slice_range, IfOk};
+ghost use Rattle.sctp_show.specs.Frame.{IsCarried, InIpv4, IsExtension, IsUpper, InIpv6, InIp, IsPlace, InFrame};
+ghost use Rattle.sctp_base.specs.Field;
+
+use crate::record::Fault;
+use sctp_base::field::read_u16;
+use std::net::IpAddr;
+
+/// The protocol numbers of UDP and SCTP.
+const UDP: u8 = 17;
+
+const SCTP: u8 = 132;
+
+/// How many headers may follow one another before the datagram.
+const MAX_HEADERS: usize = 16;
+
+/// A datagram, and the addresses between which it went, where the frame names them.
+#[derive(Drop)]
+pub struct Datagram<'a> {
+    pub ends: Option<(IpAddr, IpAddr)>,
+    pub bytes: &'a [u8],
+}
+
+/// The SCTP datagram in what IP carries: all of it, or what UDP carries to or from the port (RFC 6951).
+fn inside_transport(protocol: u8, payload: &[u8], port: u16) -> Result<&[u8], Fault>
+    ensures { IfOk result (λ bytes. IsCarried port protocol payload.now bytes.now) }
+{
+    if protocol == SCTP {
+        return Ok(payload);
+    }
+    if protocol != UDP {
+        return Err(Fault::OtherProtocol);
+    }
+    if payload.len() < 8 {
+        return Err(Fault::Short);
+    }
+    if read_u16(payload, 0) != port && read_u16(payload, 2) != port {
+        return Err(Fault::OtherProtocol);
+    }
+    let length = read_u16(payload, 4) as usize;
+    payload.get(8..length).ok_or(Fault::Short)
+}
+
+fn inside_ipv4(packet: &[u8], port: u16) -> Result<Datagram<'_>, Fault>
+    ensures { IfOk result (λ d. InIpv4 port packet.now d.bytes.now) }
+{
+    if packet.len() < 20 {
+        return Err(Fault::Short);
+    }
+    if read_u16(packet, 6) % 0x4000 != 0 {
+        return Err(Fault::Fragment);
+    }
+    let header = ((packet[0] % 16) as usize) * 4;
+    let total = read_u16(packet, 2) as usize;
+    let source = [packet[12], packet[13], packet[14], packet[15]];
+    let destination = [packet[16], packet[17], packet[18], packet[19]];
+    let Some(payload) = packet.get(header..total) else {
+        return Err(Fault::Short);
+    };
+    Ok(Datagram {
+        ends: Some((IpAddr::from(source), IpAddr::from(destination))),
+        bytes: inside_transport(packet[9], payload, port)?,
+    })
+}
+
+/// The sixteen bytes of an address.
+fn ipv6_at(packet: &[u8], at: usize) -> IpAddr
+    requires { at + 16 ≤ length packet.now }
+{
+    let mut octets = [0u8; 16];
+    octets.copy_from_slice(&packet[at..at + 16]);
+    IpAddr::from(octets)
+}
+
+/// Whether such a header of IPv6 is followed by another one.
+fn is_extension(protocol: u8) -> bool
+    ensures { result ≡ true → IsExtension protocol }
+{
+    protocol == 0 || protocol == 43 || protocol == 60
+}
+
+/// What the last of the headers that follow the one of IPv6 carries, and its protocol number.
+fn inside_extensions(first: u8, payload: &[u8]) -> Result<(u8, &[u8]), Fault>
+    ensures { IfOk result (λ x. IsUpper first payload.now x.0 x.1.now) }
+{
+    let mut protocol = first;
+    let mut rest = payload;
+    for _ in 0..MAX_HEADERS {
+        if protocol == 44 {
+            return Err(Fault::Fragment);
+        }
+        if !is_extension(protocol) {
+            return Ok((protocol, rest));
+        }
+        if rest.len() < 2 {
+            return Err(Fault::Short);
+        }
+        let after = 8 + 8 * (rest[1] as usize);
+        if rest.len() < after {
+            return Err(Fault::Short);
+        }
+        protocol = rest[0];
+        rest = &rest[after..];
+    }
+    Err(Fault::OtherProtocol)
+}
+
+fn inside_ipv6(packet: &[u8], port: u16) -> Result<Datagram<'_>, Fault>
+    ensures { IfOk result (λ d. InIpv6 port packet.now d.bytes.now) }
+{
+    if packet.len() < 40 {
+        return Err(Fault::Short);
+    }
+    let length = read_u16(packet, 4) as usize;
+    if packet.len() < 40 + length {
+        return Err(Fault::Short);
+    }
+    let (protocol, payload) = inside_extensions(packet[6], &packet[40..40 + length])?;
+    Ok(Datagram {
+        ends: Some((ipv6_at(packet, 8), ipv6_at(packet, 24))),
+        bytes: inside_transport(protocol, payload, port)?,
+    })
+}
+
+/// The datagram of the IP packet that stands from `at` on.
+fn inside_ip(frame: &[u8], at: usize, port: u16) -> Result<Datagram<'_>, Fault>
+    ensures { IfOk result (λ d. InIp port (slice_range frame.now at (length frame.now)) d.bytes.now) }
+{
+    if frame.len() <= at {
+        return Err(Fault::Short);
+    }
+    let packet = &frame[at..];
+    match packet[0] / 16 {
+        4 => inside_ipv4(packet, port),
+        6 => inside_ipv6(packet, port),
+        _ => Err(Fault::OtherProtocol),
+    }
+}
+
+/// The number of an Ethernet frame's protocol, behind up to two VLAN tags, and where it stands.
+fn ethertype_in(frame: &[u8]) -> (u16, usize)
+    requires { 22 ≤ length frame.now }
+    ensures within { result.1 ≤ 20 }
+    ensures is { result.0 ≡ Field.u16_at frame.now result.1 }
+{
+    let first = read_u16(frame, 12);
+    if first != 0x8100 && first != 0x88a8 {
+        return (first, 12);
+    }
+    let second = read_u16(frame, 16);
+    if second != 0x8100 && second != 0x88a8 {
+        return (second, 16);
+    }
+    (read_u16(frame, 20), 20)
+}
+
+/// Where the IP packet of an Ethernet frame begins.
+fn ethernet_place(frame: &[u8]) -> Result<usize, Fault>
+    ensures { IfOk result (λ at. IsPlace 1 frame.now at) }
+{
+    if frame.len() < 22 {
+        return Err(Fault::Short);
+    }
+    let (typ, at) = ethertype_in(frame);
+    if typ == 0x0800 || typ == 0x86dd {
+        return Ok(at + 2);
+    }
+    Err(Fault::OtherProtocol)
+}
+
+/// Where the IP packet of a frame of this link type begins: loopback, Ethernet, raw IP, or Linux
+/// cooked of both versions.
+fn place_in(link_type: u32, frame: &[u8]) -> Result<usize, Fault>
+    ensures { IfOk result (λ at. IsPlace link_type frame.now at) }
+{
+    match link_type {
+        0 | 108 => Ok(4),
+        1 => ethernet_place(frame),
+        12 | 14 | 101 | 228 | 229 => Ok(0),
+        113 => Ok(16),
+        276 => Ok(20),
+        _ => Err(Fault::OtherLink),
+    }
+}
+
+/// The datagram of a frame of this link type: what an IP packet carries, or SCTP alone.
+pub fn datagram_in(link_type: u32, frame: &[u8], port: u16) -> Result<Datagram<'_>, Fault>
+    ensures alone { link_type ≡ 248 → IfOk result (λ d. d.bytes.now ≡ frame.now) }
+    ensures carried { link_type ≢ 248 → IfOk result (λ d. InFrame link_type port frame.now d.bytes.now) }
+{
+    if link_type == 248 {
+        return Ok(Datagram {
+            ends: None,
+            bytes: frame,
+        });
+    }
+    let at = place_in(link_type, frame)?;
+    inside_ip(frame, at, port)
+}

@@ -1,0 +1,165 @@
+//! What is printed of a record, fact by fact, as text or as JSON.
+
+ghost use Rattle.std.specs.Prelude.{◌≡◌, ◌<◌, ◌++◌, map, OnOk};
+ghost use Rattle.std.specs.String.{string_bytes};
+ghost use Rattle.sctp_show.specs.Page.{plain, number_text, row_text, truth_text, bytes_text, words_text};
+
+use std::alloc::{AllocError, Global};
+
+/// In what form records are printed.
+#[derive(Clone, Copy, PartialEq, Eq)]
+pub enum Form {
+    /// Lines for people.
+    Text,
+    /// A JSON object a line.
+    Json,
+}
+
+/// What is printed so far.
+#[derive(Drop)]
+pub struct Page {
+    pub form: Form,
+    pub text: String,
+}
+
+/// A byte that may stand between the quotes of JSON as it is: printable ASCII, but no quote and no
+/// backslash. Any other byte stands as a question mark.
+fn plain_byte(byte: u8) -> u8
+    ensures is { result ≡ plain byte }
+    ensures ascii { result < 128 }
+{
+    if byte < 32 || byte > 126 || byte == b'"' || byte == b'\\' {
+        return b'?';
+    }
+    byte
+}
+
+/// Appends a text as it may stand between the quotes of JSON.
+fn push_plain(text: &mut String, words: &str) -> Result<(), AllocError>
+    ensures { OnOk result (string_bytes text.new ≡ string_bytes text.old ++ map plain words.now) }
+{
+    for byte in words.as_bytes() {
+        text.push(char::from(plain_byte(*byte)))?;
+    }
+    Ok(())
+}
+
+impl Page {
+    /// Nothing is printed yet.
+    pub fn new(alloc: Global, form: Form) -> Self {
+        Page {
+            form,
+            text: String::new(alloc),
+        }
+    }
+
+    /// Whether the page is text for people.
+    pub fn is_text(&self) -> bool {
+        self.form == Form::Text
+    }
+
+    /// What stands in text alone.
+    pub fn in_text(&mut self, text: &str) -> Result<(), AllocError>
+        ensures { self.new.form ≡ self.old.form }
+    {
+        match self.form {
+            Form::Text => self.text.push_str(text),
+            Form::Json => Ok(()),
+        }
+    }
+
+    /// What stands in JSON alone.
+    pub fn in_json(&mut self, text: &str) -> Result<(), AllocError>
+        ensures { self.new.form ≡ self.old.form }
+    {
+        match self.form {
+            Form::Text => Ok(()),
+            Form::Json => self.text.push_str(text),
+        }
+    }
+
+    /// A fact that is a number.
+    #[tactic(auto, unfolding(crate::specs::Page::number_text))]
+    pub fn number(&mut self, label: &str, key: &str, value: u32) -> Result<(), AllocError>
+        ensures form { self.new.form ≡ self.old.form }
+        ensures text { OnOk result (string_bytes self.new.text
+            ≡ string_bytes self.old.text ++ number_text self.old.form label.now key.now value) }
+    {
+        match self.form {
+            Form::Text => write!(self.text, "        {label}: {value}\n"),
+            Form::Json => write!(self.text, ",\"{key}\":{value}"),
+        }
+    }
+
+    /// The first fact of a row, a number.
+    #[tactic(auto, unfolding(crate::specs::Page::row_text))]
+    pub fn row(
+        &mut self,
+        is_first: bool,
+        label: &str,
+        key: &str,
+        value: u32,
+    ) -> Result<(), AllocError>
+        ensures form { self.new.form ≡ self.old.form }
+        ensures text { OnOk result (string_bytes self.new.text
+            ≡ string_bytes self.old.text ++ row_text self.old.form is_first label.now key.now value) }
+    {
+        match (self.form, is_first) {
+            (Form::Text, _) => write!(self.text, "        {label}: {value}\n"),
+            (Form::Json, true) => write!(self.text, "{{\"{key}\":{value}"),
+            (Form::Json, false) => write!(self.text, ",{{\"{key}\":{value}"),
+        }
+    }
+
+    /// A fact that is a truth.
+    #[tactic(auto, unfolding(crate::specs::Page::truth_text))]
+    pub fn truth(&mut self, label: &str, key: &str, value: bool) -> Result<(), AllocError>
+        ensures form { self.new.form ≡ self.old.form }
+        ensures text { OnOk result (string_bytes self.new.text
+            ≡ string_bytes self.old.text ++ truth_text self.old.form label.now key.now value) }
+    {
+        match self.form {
+            Form::Text => write!(self.text, "        {label}: {value}\n"),
+            Form::Json => write!(self.text, ",\"{key}\":{value}"),
+        }
+    }
+
+    /// A fact that is bytes, as hex text.
+    #[tactic(auto, unfolding(crate::specs::Page::bytes_text))]
+    pub fn bytes(
+        &mut self,
+        alloc: Global,
+        label: &str,
+        key: &str,
+        bytes: &[u8],
+    ) -> Result<(), AllocError>
+        ensures form { self.new.form ≡ self.old.form }
+        ensures text { OnOk result (string_bytes self.new.text
+            ≡ string_bytes self.old.text ++ bytes_text self.old.form label.now key.now bytes.now) }
+    {
+        let digits = hex::encode(alloc, bytes)?;
+        let digits = digits.as_str();
+        let count = bytes.len();
+        match self.form {
+            Form::Text => write!(self.text, "        {label} ({count} bytes): {digits}\n"),
+            Form::Json => write!(self.text, ",\"{key}\":\"{digits}\""),
+        }
+    }
+
+    /// A fact that is words.
+    #[tactic(auto, unfolding(crate::specs::Page::words_text))]
+    pub fn words(&mut self, label: &str, key: &str, words: &str) -> Result<(), AllocError>
+        ensures form { self.new.form ≡ self.old.form }
+        ensures text { OnOk result (string_bytes self.new.text
+            ≡ string_bytes self.old.text ++ words_text self.old.form label.now key.now words.now) }
+    {
+        match self.form {
+            Form::Text => write!(self.text, "        {label}: {words}\n"),
+            Form::Json => {
+                write!(self.text, ",\"{key}\":\"")?;
+                push_plain(&mut self.text, words)?;
+                self.text.push_str("\"")
+            }
+        }
+    }
+}

@@ -1,6 +1,0 @@
-pub mod Known
-pub mod Entries
-pub mod Lines
-pub mod Heads
-pub mod Runs
-pub mod Texts

@@ -1,9 +1,0 @@
--- The checksum that datagrams are looked at under.
-use Rattle.std.specs.Prelude.{ℕ, List}
-use Rattle.crc32c.specs.Castagnoli.{crc32c_of}
-use Rattle.sctpdump.specs.declared.checksum.Sum.{Sum}
-use Rattle.sctpdump.specs.declared.checksum.Sum.TheVariants.{Crc32c, Unchecked}
-
-abbrev pub sum_of : Sum → List ℕ → ℕ
-sum_of Crc32c bytes = crc32c_of bytes
-sum_of Unchecked bytes = 0
