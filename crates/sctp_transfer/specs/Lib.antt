@@ -2,3 +2,8 @@ pub mod Stats
 pub mod State
 pub mod Stream
 pub mod Lending
+pub mod Numbers
+pub mod TsnFilter
+pub mod Inbound
+pub mod Receiver
+pub mod Refusals
