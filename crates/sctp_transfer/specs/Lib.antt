@@ -7,3 +7,4 @@ pub mod TsnFilter
 pub mod Inbound
 pub mod Receiver
 pub mod Refusals
+pub mod ReceiverRuns
