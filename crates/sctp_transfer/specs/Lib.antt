@@ -8,3 +8,4 @@ pub mod Inbound
 pub mod Receiver
 pub mod Refusals
 pub mod ReceiverRuns
+pub mod Flight
