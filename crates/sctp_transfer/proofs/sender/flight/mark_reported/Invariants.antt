@@ -11,5 +11,5 @@ abbrev pub invariant-loop-place : goal.invariant-loop-place
 invariant-loop-place l = record {
   marked : l.queue ≡ with_inflight l.initial.queue (change_where (reports_anew (sack_of l.sack)) acknowledged (take l.place l.initial.queue.inflight.chunks) ++ drop l.place l.initial.queue.inflight.chunks);
   told : l.released.items ≡ map released_of (those (reports_anew (sack_of l.sack)) (take l.place l.initial.queue.inflight.chunks));
-  room : vec_capacity l.released ≡ vec_capacity l.initial.released;
+  room : vec_capacity l.initial.released ≤ vec_capacity l.released;
 }
