@@ -1,19 +1,21 @@
 -- What is in flight, and what a SACK makes of it (RFC 4960 6.2.1).
-use Rattle.std.specs.Prelude.{◌≡◌, ℕ, zero, suc, ◌+◌, ◌-◌, ◌%◌, ◌^◌, ◌<◌, ◌==◌, Bool, true, false, not, ◌&&◌, ◌||◌, nat_lt, nat_le, if◌then◌else◌, List, [], ◌∷◌, length, map, Option, Some, None}
-use Rattle.std.specs.List.{list_all}
+use Rattle.std.specs.Prelude.{◌≡◌, ℕ, zero, suc, ◌+◌, ◌-◌, ◌%◌, ◌^◌, ◌<◌, ◌==◌, Bool, true, false, not, ◌&&◌, ◌||◌, nat_lt, nat_le, if◌then◌else◌, List, [], ◌∷◌, length, map, min, Option, Some, None, is_some}
+use Rattle.std.specs.List.{list_all, find}
 use Rattle.sctp_lists.specs.Lists.{change_where, those}
 use Rattle.sctp_lists.specs.Serial.{distance, comes_before, at_or_before}
 use Rattle.sctp_chunks.specs.declared.chunk.chunk_payload_data.ChunkPayloadData.{ChunkPayloadData}
 use Rattle.sctp_chunks.specs.declared.chunk.chunk_selective_ack.GapAckBlock.{GapAckBlock}
 use Rattle.sctp_chunks.specs.SelectiveAck.{Sack}
-use Rattle.sctp_outbound.specs.Marks.{acknowledged}
+use Rattle.sctp_outbound.specs.Marks.{acknowledged, is_outstanding, with_nsent}
 use Rattle.sctp_outbound.specs.outbound_queue.OutboundQueue.{Outbound, with_inflight}
 use Rattle.sctp_outbound.specs.payload_queue.Blocks.{covered}
 use Rattle.sctp_outbound.specs.payload_queue.PayloadQueue.{past}
 use Rattle.sctp_transfer.specs.declared.sender.flight.Released.{Released}
 use Rattle.sctp_transfer.specs.declared.sender.refusal.SenderRefusal.{SenderRefusal}
 use Rattle.sctp_transfer.specs.declared.sender.refusal.SenderRefusal.TheVariants.{InflightQueueTsnPop, TsnRequestNotExist}
-use Rattle.sctp_transfer.specs.TsnFilter.{following_tsn, tsns}
+use Rattle.sctp_outbound.specs.pending_queue.PendingQueue.{peeked}
+use Rattle.sctp_serial.specs.DataChunks.{has_tsn}
+use Rattle.sctp_transfer.specs.TsnFilter.{following_tsn, preceding_tsn, tsns}
 
 -- what waits and what is in flight, the next TSN, and the TSN up to which all was acknowledged
 pub record Flight : Type 0 where
@@ -32,6 +34,44 @@ pub record IsContiguous (f : Flight) : Type 0 where
   pub run : tsns f.queue.inflight.chunks ≡ tsns_from (following_tsn f.acked_tsn) (length f.queue.inflight.chunks)
   pub next : f.next_tsn ≡ (f.acked_tsn + 1 + length f.queue.inflight.chunks) % 2 ^ 32
   pub few : length f.queue.inflight.chunks < 2 ^ 31
+
+abbrev pub with_queue : Flight → Outbound → Flight
+with_queue f queue = record f { queue = queue }
+
+-- nothing waits, and the first TSN is the next
+abbrev pub at_first : ℕ → Flight
+at_first tsn = record {
+  queue = record {
+    pending = record { ordered = []; unordered = []; selected = None; ordered_room = 0; unordered_room = 0 };
+    inflight = record { chunks = []; duplicates = []; room = 0 };
+    next_message_id = 0;
+    next_unstarted = 0;
+  };
+  next_tsn = tsn;
+  acked_tsn = preceding_tsn tsn;
+}
+
+-- ## Sending
+
+-- a further TSN may be given out
+abbrev pub may_send : Flight → Bool
+may_send f = nat_lt (length f.queue.inflight.chunks + 1) (2 ^ 31)
+
+-- the next TSN goes up where something waits
+abbrev pub next_after_send : Flight → ℕ
+next_after_send f = if is_some (peeked f.queue.pending) then following_tsn f.next_tsn else f.next_tsn
+
+-- in flight, and neither acknowledged nor given up
+abbrev pub is_outstanding_in : Option ChunkPayloadData → Bool
+is_outstanding_in None = false
+is_outstanding_in (Some c) = is_outstanding c
+
+abbrev pub can_resend : ℕ → Flight → Bool
+can_resend tsn f = is_outstanding_in (find (has_tsn tsn) f.queue.inflight.chunks)
+
+-- a chunk is sent once more, counted up to the greatest number of 32 bits
+abbrev pub resent : ℕ → ChunkPayloadData → Flight → Flight
+resent tsn c f = with_queue f (with_inflight f.queue (change_where (has_tsn tsn) (with_nsent (min (c.nsent + 1) (2 ^ 32 - 1))) f.queue.inflight.chunks))
 
 -- ## A SACK
 

@@ -1,6 +1,6 @@
 //! What is in flight: each TSN from the one behind the acknowledged ones to the one before the next.
 
-ghost use Rattle.std.specs.Prelude.{◌≡◌, ◌+◌, ◌-◌, ◌<◌, ◌≤◌, ◌^◌, ◌%◌, ◌⊎◌, ◌++◌, ◌∷◌, [], ℕ, true, false, Some, None, OnOk, OnErr, IfOk, IfErr, IsOk, IsOkUnless, length, map, drop, vec_len, vec_capacity, option_map};
+ghost use Rattle.std.specs.Prelude.{◌≡◌, ◌+◌, ◌-◌, ◌<◌, ◌≤◌, ◌^◌, ◌%◌, ◌⊎◌, ◌++◌, ◌∷◌, [], ℕ, true, false, Some, None, OnOk, OnErr, IfOk, IfErr, IsOk, IsOkUnless, length, map, drop, vec_len, vec_capacity, option_map, find, Bool, if◌then◌else◌};
 ghost use Rattle.sctp_lists.specs.Lists.{change_where, those};
 ghost use Rattle.sctp_chunks.specs.SelectiveAck.{sack_of};
 ghost use Rattle.sctp_outbound.specs.Marks.{acknowledged};
@@ -10,11 +10,13 @@ ghost use Rattle.sctp_transfer.specs.Flight.{tsns_from, reports_anew, is_within,
 ghost use Rattle.std.specs.List.{list_all};
 ghost use Rattle.sctp_outbound.specs.payload_queue.Blocks.{covered, is_in_block};
 ghost use Rattle.sctp_chunks.specs.declared.chunk.chunk_payload_data.ChunkPayloadData.{ChunkPayloadData};
-ghost use Rattle.sctp_transfer.specs.declared.sender.refusal.SenderRefusal.TheVariants.{OutOfMemory};
+ghost use Rattle.sctp_transfer.specs.declared.sender.refusal.SenderRefusal.TheVariants.{NotInFlight, OutOfMemory};
+ghost use Rattle.sctp_serial.specs.DataChunks.{bytes_of, has_tsn};
 
 use crate::sender::refusal::SenderRefusal;
 use crate::stream_numbers::put;
 use sctp_base::util::{sna32lt, sna32lte};
+use sctp_chunks::chunk::chunk_payload_data::ChunkPayloadData;
 use sctp_chunks::chunk::chunk_selective_ack::{ChunkSelectiveAck, GapAckBlock};
 use sctp_queues::outbound_queue::OutboundQueue;
 use sctp_serial::serial::distance;
@@ -47,7 +49,147 @@ impl Model for InFlight {
 }
 
 impl InFlight {
-    ghost use Rattle.sctp_transfer.specs.Flight.{sack_refusal, after_sack, released_by};
+    ghost use Rattle.sctp_outbound.specs.Marks.{with_nsent};
+    ghost use Rattle.sctp_outbound.specs.outbound_queue.OutboundQueue.{with_message, total_bytes, all_started, sent_next, abandoned_of, tsn_after_of, to_abandon, expired_of, expiring, expiring_tail, message_of, has_tail};
+    ghost use Rattle.sctp_outbound.specs.pending_queue.PendingQueue as pending;
+    ghost use Rattle.sctp_outbound.specs.pending_queue.Whole.{IsMessageOrNone};
+    ghost use Rattle.sctp_transfer.specs.TsnFilter.{preceding_tsn};
+    ghost use Rattle.sctp_transfer.specs.Flight.{with_queue, at_first, may_send, next_after_send, can_resend, resent, sack_refusal, after_sack, released_by};
+
+    /// Nothing waits, and the first TSN is the next. It takes no memory.
+    pub fn new(alloc: Global, first_tsn: u32) -> Self
+        ensures { result ≡ at_first first_tsn }
+    {
+        InFlight {
+            queue: OutboundQueue::new(alloc),
+            next_tsn: first_tsn,
+            acked_tsn: first_tsn.wrapping_sub(1),
+        }
+    }
+
+    /// What waits and what is in flight.
+    pub fn queue(&self) -> &OutboundQueue
+        ensures { result.now ≡ self.now.queue }
+    {
+        &self.queue
+    }
+
+    /// The TSN that is given out next.
+    pub fn next_tsn(&self) -> u32
+        ensures { result ≡ self.now.next_tsn }
+    {
+        self.next_tsn
+    }
+
+    /// The TSN up to which all was acknowledged.
+    pub fn acked_tsn(&self) -> u32
+        ensures { result ≡ self.now.acked_tsn }
+    {
+        self.acked_tsn
+    }
+
+    /// Whether a further TSN may be given out: fewer than 2^31 - 1 are in flight.
+    pub fn may_send(&self) -> bool
+        ensures { result ≡ may_send self.now }
+    {
+        self.queue.inflight_len() + 1 < 1 << 31
+    }
+
+    /// Puts the fragments of a message behind those that wait, as the queue's `push` does.
+    /// Precondition: as there; the queue's `can_push` tells.
+    /// Refuses only for memory, and all is as it was then.
+    pub fn push(&mut self, chunks: Vec<ChunkPayloadData>) -> Result<(), SenderRefusal>
+        requires message { IsMessageOrNone chunks.items }
+        requires number { self.old.queue.next_message_id + 1 < 2 ^ 64 }
+        requires bytes { total_bytes self.old.queue + bytes_of chunks.items < 2 ^ 64 }
+        ensures ok { OnOk result (self.new ≡ with_queue self.old (with_message chunks.items self.old.queue)) }
+        ensures err { OnErr result (self.new ≡ self.old) }
+        ensures memory { IfErr result (λ e. e ≡ OutOfMemory) }
+    {
+        self.queue.push(chunks)?;
+        Ok(())
+    }
+
+    /// Starts the lifetimes of the messages pushed since the last time; `now` is in nanoseconds. It takes no memory.
+    pub fn start(&mut self, now: u64)
+        ensures { self.new ≡ with_queue self.old (all_started now self.old.queue) }
+    {
+        self.queue.start_timed_messages(now);
+    }
+
+    /// Gives the next TSN to the fragment that is next, and puts it in flight; lifetimes start. Answers the TSN, None where
+    /// nothing waits. `now` is in nanoseconds.
+    /// Precondition: a further TSN may be given out; `may_send` tells.
+    /// Refuses only for memory, and not where nothing waits. All is as it was then.
+    pub fn send_next(&mut self, now: u64) -> Result<Option<u32>, SenderRefusal>
+        requires { may_send self.old ≡ true }
+        ensures sent { IfOk result (λ sent. sent ≡ option_map (λ _. self.old.next_tsn) (pending.peeked self.old.queue.pending)) }
+        ensures ok { OnOk result (self.new ≡ record self.old { queue = sent_next self.old.queue self.old.next_tsn now; next_tsn = next_after_send self.old }) }
+        ensures err { OnErr result (self.new ≡ self.old) }
+        ensures memory { IfErr result (λ e. e ≡ OutOfMemory) }
+        ensures idle { pending.peeked self.old.queue.pending ≡ None → IsOk result }
+    {
+        let sent = self.queue.send_next(&mut self.next_tsn, now)?;
+        Ok(sent)
+    }
+
+    /// Gives up the message of a chunk in flight, as the queue's `abandon` does, and answers its stream and the bytes that
+    /// left; None where the TSN is not in flight.
+    /// Precondition: a further TSN may be given out; `may_send` tells.
+    /// Refuses only for memory, and not where the message has no tail. All is as it was then.
+    pub fn abandon(&mut self, tsn: u32) -> Result<Option<(u16, usize)>, SenderRefusal>
+        requires { may_send self.old ≡ true }
+        ensures answer { IfOk result (λ r. option_map (λ a. a.0) r ≡ option_map (λ c. c.stream_identifier) (find (has_tsn tsn) self.old.queue.inflight.chunks)) }
+        ensures ok { OnOk result (self.new ≡ record self.old { queue = abandoned_of (to_abandon (find (has_tsn tsn) self.old.queue.inflight.chunks)) self.old.next_tsn self.old.queue; next_tsn = tsn_after_of (to_abandon (find (has_tsn tsn) self.old.queue.inflight.chunks)) self.old.next_tsn self.old.queue }) }
+        ensures err { OnErr result (self.new ≡ self.old) }
+        ensures memory { IfErr result (λ e. e ≡ OutOfMemory) }
+        ensures no_tail { has_tail (to_abandon (find (has_tsn tsn) self.old.queue.inflight.chunks)) self.old.queue ≡ false → IsOk result }
+    {
+        let given_up = self.queue.abandon(tsn, &mut self.next_tsn)?;
+        Ok(given_up)
+    }
+
+    /// Removes the message in front, where it is lapsed and wholly unsent, as the queue's `expire_pending` does. It takes no memory.
+    pub fn expire(&mut self, now: u64) -> Option<(u16, bool, usize)>
+        ensures answer { option_map {U = ℕ × Bool} (λ a. (a.0, a.1)) result ≡ option_map {U = ℕ × Bool} (λ c. (c.stream_identifier, c.unordered)) (expiring now self.old.queue) }
+        ensures expired { self.new ≡ with_queue self.old (expired_of (expiring now self.old.queue) self.old.queue) }
+    {
+        self.queue.expire_pending(now)
+    }
+
+    /// Gives up the rest of the half-sent message in front, where it is lapsed, as the queue's `expire_pending_tail` does.
+    /// Precondition: a further TSN may be given out; `may_send` tells.
+    /// Refuses only for memory, and not where there is no such message. All is as it was then.
+    pub fn expire_tail(&mut self, now: u64) -> Result<Option<(u16, u64, usize)>, SenderRefusal>
+        requires { may_send self.old ≡ true }
+        ensures ok { OnOk result (self.new ≡ record self.old { queue = abandoned_of (message_of (expiring_tail now self.old.queue)) self.old.next_tsn self.old.queue; next_tsn = tsn_after_of (message_of (expiring_tail now self.old.queue)) self.old.next_tsn self.old.queue }) }
+        ensures err { OnErr result (self.new ≡ self.old) }
+        ensures memory { IfErr result (λ e. e ≡ OutOfMemory) }
+        ensures idle { expiring_tail now self.old.queue ≡ None → IsOk result }
+    {
+        let given_up = self.queue.expire_pending_tail(now, &mut self.next_tsn)?;
+        Ok(given_up)
+    }
+
+    /// The chunk in flight with a TSN, to be sent again, which is counted. Refuses with `NotInFlight`, where none is, or it is
+    /// acknowledged or given up; and for memory. All is as it was then.
+    pub fn resend(&mut self, tsn: u32) -> Result<ChunkPayloadData, SenderRefusal>
+        ensures answer { IfOk result (λ c. find (has_tsn tsn) self.old.queue.inflight.chunks ≡ Some c) }
+        ensures ok { IfOk result (λ c. self.new ≡ resent tsn c self.old) }
+        ensures accepted { IsOk result → can_resend tsn self.old ≡ true }
+        ensures refused { IfErr result (λ e. e ≡ (if can_resend tsn self.old then OutOfMemory else NotInFlight)) }
+        ensures err { OnErr result (self.new ≡ self.old) }
+    {
+        let Some(chunk) = self.queue.get(tsn) else {
+            return Err(SenderRefusal::NotInFlight);
+        };
+        if chunk.acked || chunk.abandoned {
+            return Err(SenderRefusal::NotInFlight);
+        }
+        let again = chunk.try_clone()?;
+        self.queue.set_nsent(tsn, again.nsent.saturating_add(1));
+        Ok(again)
+    }
 
     /// Takes a SACK, whatever a peer claims (RFC 4960 6.2.1): what is acknowledged is what it reports and is in flight.
     /// Answers the chunks that it reports anew. One whose cumulative TSN is before the last one is out of date, and changes
