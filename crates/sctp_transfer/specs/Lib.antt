@@ -9,3 +9,5 @@ pub mod Receiver
 pub mod Refusals
 pub mod ReceiverRuns
 pub mod Flight
+pub mod Outgoing
+pub mod Sender

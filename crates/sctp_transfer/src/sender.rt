@@ -1,4 +1,178 @@
-//! The sending half of a link (RFC 4960 6.1, 6.2.1).
+//! The sending half of a link (RFC 4960 6.1, 6.2.1, 6.9).
+
+ghost use Rattle.std.specs.Prelude.{◌≡◌, ◌==◌, ◌<◌, ◌≤◌, ◌⊎◌, ℕ, Bool, true, false, not, None, Some, OnOk, OnErr, IfOk, IfErr, IsOk, IsOkUnless, option_map, option_copied, is_some, map, find, length, if◌then◌else◌};
+ghost use Rattle.sctp_transfer.specs.Outgoing.{released};
+ghost use Rattle.sctp_transfer.specs.declared.sender.refusal.SenderRefusal.TheVariants.{StreamOpen, StreamUnknown, TsnsUsedUp, NotInFlight, OutOfMemory};
 
 pub mod flight;
+mod outbound_streams;
 pub mod refusal;
+
+use self::flight::{InFlight, Released};
+use self::outbound_streams::OutboundStreams;
+use self::refusal::SenderRefusal;
+use crate::stream::DataChannelStats;
+use bytes::Bytes;
+use sctp_chunks::chunk::chunk_payload_data::{
+    ChunkPayloadData, PayloadProtocolIdentifier, ReliabilityType,
+};
+use sctp_chunks::chunk::chunk_selective_ack::ChunkSelectiveAck;
+use sctp_queues::outbound_queue::OutboundQueue;
+use std::alloc::Global;
+use std::marker::Model;
+
+/// The sending half of a link: what was written and is not yet acknowledged. It takes every SACK that a peer may send.
+///
+/// It keeps the open streams, what waits and what is in flight. Of a message that was acknowledged or given up, and whose
+/// TSNs the cumulative one passed, nothing is kept but the counters.
+#[derive(Drop)]
+pub struct Sender {
+    alloc: Global,
+    fragment_size: u32,
+    max_message_size: u32,
+    streams: OutboundStreams,
+    flight: InFlight,
+}
+
+impl Model for Sender {
+    ghost use Rattle.std.specs.Prelude.{◌<◌, ◌≤◌};
+    ghost use Rattle.sctp_transfer.specs.Sender.{Transmission};
+
+    ghost Value = { Transmission };
+
+    ghost view = { λ s. record { streams = s.streams; flight = s.flight; fragment_size = s.fragment_size; max_message_size = s.max_message_size } };
+
+    ghost invariant = { λ s. (0 < s.fragment_size) × (s.fragment_size ≤ 65519) };
+}
+
+impl Sender {
+    ghost use Rattle.sctp_chunks.specs.SelectiveAck.{sack_of};
+    ghost use Rattle.sctp_outbound.specs.outbound_queue.OutboundQueue.{all_started, sent_next};
+    ghost use Rattle.sctp_outbound.specs.pending_queue.PendingQueue.{peeked};
+    ghost use Rattle.sctp_serial.specs.DataChunks.{has_tsn};
+    ghost use Rattle.sctp_transfer.specs.Flight.{with_queue, may_send, next_after_send, can_resend, resent, sack_refusal, released_by};
+    ghost use Rattle.sctp_transfer.specs.Outgoing.{less_by};
+    ghost use Rattle.sctp_transfer.specs.Sender.{with_nothing, stream_of, is_open, opened, with_mode_on, with_flight, write_refusal, written_to, after_acked};
+
+    /// A sender with no stream, whose first chunk gets the first TSN. It takes no memory.
+    /// Precondition: `fragment_size` is 1 to 65,519.
+    pub fn new(alloc: Global, first_tsn: u32, fragment_size: u32, max_message_size: u32) -> Self
+        requires some { 0 < fragment_size }
+        requires short { fragment_size ≤ 65519 }
+        ensures { result ≡ with_nothing first_tsn fragment_size max_message_size }
+    {
+        Sender {
+            alloc,
+            fragment_size,
+            max_message_size,
+            streams: OutboundStreams::new(alloc),
+            flight: InFlight::new(alloc, first_tsn),
+        }
+    }
+
+    /// Opens a stream, ordered and reliable. Refuses with `StreamOpen`, where it is open, and else only for memory.
+    /// The sender is as it was then.
+    pub fn open(&mut self, stream: u16) -> Result<(), SenderRefusal>
+        ensures ok { OnOk result (self.new ≡ opened stream self.old) }
+        ensures accepted { IsOk result → is_open stream self.old ≡ false }
+        ensures refused { IfErr result (λ e. e ≡ (if is_open stream self.old then StreamOpen else OutOfMemory)) }
+        ensures err { OnErr result (self.new ≡ self.old) }
+    {
+        if self.streams.place_of(stream).is_some() {
+            return Err(SenderRefusal::StreamOpen);
+        }
+        self.streams
+            .open(self.alloc, stream, self.fragment_size, self.max_message_size)
+    }
+
+    /// Sets the mode of later writes to a stream. Refuses with `StreamUnknown`, where it is not open. It takes no memory.
+    pub fn set_mode(
+        &mut self,
+        stream: u16,
+        unordered: bool,
+        reliability: ReliabilityType,
+        value: u32,
+    ) -> Result<(), SenderRefusal>
+        ensures ok { OnOk result (self.new ≡ with_mode_on stream unordered reliability value self.old) }
+        ensures accepted { IsOk result → is_open stream self.old ≡ true }
+        ensures refused { IfErr result (λ e. (e ≡ StreamUnknown) × (is_open stream self.old ≡ false)) }
+        ensures err { OnErr result (self.new ≡ self.old) }
+    {
+        let Some(place) = self.streams.place_of(stream) else {
+            return Err(SenderRefusal::StreamUnknown);
+        };
+        self.streams
+            .set_mode_at(place, stream, (unordered, reliability, value));
+        Ok(())
+    }
+
+    /// Starts the lifetimes of the messages written since the last time; `now` is in nanoseconds. It takes no memory.
+    pub fn start(&mut self, now: u64)
+        ensures { self.new ≡ with_flight (with_queue self.old.flight (all_started now self.old.flight.queue)) self.old }
+    {
+        self.flight.start(now);
+    }
+
+    /// Sends the chunk in flight with a TSN again: answers it, and counts that. Refuses with `NotInFlight`, where none is, or it is
+    /// acknowledged or given up; and for memory. The sender is as it was then.
+    pub fn resend(&mut self, tsn: u32) -> Result<ChunkPayloadData, SenderRefusal>
+        ensures answer { IfOk result (λ c. find (has_tsn tsn) self.old.flight.queue.inflight.chunks ≡ Some c) }
+        ensures ok { IfOk result (λ c. self.new ≡ with_flight (resent tsn c self.old.flight) self.old) }
+        ensures accepted { IsOk result → can_resend tsn self.old.flight ≡ true }
+        ensures refused { IfErr result (λ e. e ≡ (if can_resend tsn self.old.flight then OutOfMemory else NotInFlight)) }
+        ensures err { OnErr result (self.new ≡ self.old) }
+    {
+        self.flight.resend(tsn)
+    }
+
+    /// Takes a SACK, whatever a peer claims (RFC 4960 6.2.1): what is acknowledged is what it reports and is in flight.
+    /// Answers the chunks that it reports anew, each with its stream and its bytes; each stream has so much less. One whose
+    /// cumulative TSN is before the last one is out of date, and changes nothing. The refusals are those of `InFlight::acked`.
+    pub fn acked(&mut self, sack: &ChunkSelectiveAck) -> Result<Vec<Released>, SenderRefusal>
+        ensures answer { IfOk result (λ r. r.items ≡ released_by (sack_of sack.now) self.old.flight) }
+        ensures ok { OnOk result (self.new ≡ after_acked (sack_of sack.now) self.old) }
+        ensures accepted { IsOk result → sack_refusal (sack_of sack.now) self.old.flight ≡ None }
+        ensures refused { IfErr result (λ e. ((e ≡ OutOfMemory) × (sack_refusal (sack_of sack.now) self.old.flight ≡ None)) ⊎ (sack_refusal (sack_of sack.now) self.old.flight ≡ Some e)) }
+        ensures err { OnErr result (self.new ≡ self.old) }
+    {
+        let released = self.flight.acked(self.alloc, sack)?;
+        release_each(&mut self.streams, &released);
+        Ok(released)
+    }
+
+    /// What waits and what is in flight.
+    pub fn outbound(&self) -> &OutboundQueue
+        ensures { result.now ≡ self.now.flight.queue }
+    {
+        self.flight.queue()
+    }
+
+    /// How many bytes of a stream wait or are in flight; None where it is not open.
+    pub fn buffered_amount(&self, stream: u16) -> Option<usize>
+        ensures { result ≡ option_map (λ l. l.buffered_amount) (stream_of stream self.now) }
+    {
+        match self.streams.find(stream) {
+            Some(state) => Some(state.buffered_amount()),
+            None => None,
+        }
+    }
+
+    /// The counters of what was written to a stream; None where it is not open.
+    pub fn stats(&self, stream: u16) -> Option<DataChannelStats>
+        ensures { result ≡ option_map (λ l. l.stats) (stream_of stream self.now) }
+    {
+        match self.streams.find(stream) {
+            Some(state) => Some(state.stats()),
+            None => None,
+        }
+    }
+}
+
+// Takes off each stream what left of it.
+fn release_each(streams: &mut OutboundStreams, gone: &[Released])
+    ensures { streams.new ≡ released gone.now streams.old }
+{
+    for one in gone {
+        streams.release(one.stream, one.bytes);
+    }
+}

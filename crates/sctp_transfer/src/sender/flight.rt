@@ -50,7 +50,7 @@ impl Model for InFlight {
 
 impl InFlight {
     ghost use Rattle.sctp_outbound.specs.Marks.{with_nsent};
-    ghost use Rattle.sctp_outbound.specs.outbound_queue.OutboundQueue.{with_message, total_bytes, all_started, sent_next, abandoned_of, tsn_after_of, to_abandon, expired_of, expiring, expiring_tail, message_of, has_tail};
+    ghost use Rattle.sctp_outbound.specs.outbound_queue.OutboundQueue.{with_message, total_bytes, all_started, sent_next, abandoned_of, tsn_after_of, to_abandon, expired_of, expiring, expiring_tail, message_of, has_tail, released_of as bytes_left, expired_bytes, tail_bytes};
     ghost use Rattle.sctp_outbound.specs.pending_queue.PendingQueue as pending;
     ghost use Rattle.sctp_outbound.specs.pending_queue.Whole.{IsMessageOrNone};
     ghost use Rattle.sctp_transfer.specs.TsnFilter.{preceding_tsn};
@@ -143,6 +143,7 @@ impl InFlight {
         ensures ok { OnOk result (self.new ≡ record self.old { queue = abandoned_of (to_abandon (find (has_tsn tsn) self.old.queue.inflight.chunks)) self.old.next_tsn self.old.queue; next_tsn = tsn_after_of (to_abandon (find (has_tsn tsn) self.old.queue.inflight.chunks)) self.old.next_tsn self.old.queue }) }
         ensures err { OnErr result (self.new ≡ self.old) }
         ensures memory { IfErr result (λ e. e ≡ OutOfMemory) }
+        ensures released { IfOk result (λ r. total_bytes self.new.queue + bytes_left r ≡ total_bytes self.old.queue) }
         ensures no_tail { has_tail (to_abandon (find (has_tsn tsn) self.old.queue.inflight.chunks)) self.old.queue ≡ false → IsOk result }
     {
         let given_up = self.queue.abandon(tsn, &mut self.next_tsn)?;
@@ -152,6 +153,7 @@ impl InFlight {
     /// Removes the message in front, where it is lapsed and wholly unsent, as the queue's `expire_pending` does. It takes no memory.
     pub fn expire(&mut self, now: u64) -> Option<(u16, bool, usize)>
         ensures answer { option_map {U = ℕ × Bool} (λ a. (a.0, a.1)) result ≡ option_map {U = ℕ × Bool} (λ c. (c.stream_identifier, c.unordered)) (expiring now self.old.queue) }
+        ensures released { total_bytes self.new.queue + expired_bytes result ≡ total_bytes self.old.queue }
         ensures expired { self.new ≡ with_queue self.old (expired_of (expiring now self.old.queue) self.old.queue) }
     {
         self.queue.expire_pending(now)
@@ -165,6 +167,8 @@ impl InFlight {
         ensures ok { OnOk result (self.new ≡ record self.old { queue = abandoned_of (message_of (expiring_tail now self.old.queue)) self.old.next_tsn self.old.queue; next_tsn = tsn_after_of (message_of (expiring_tail now self.old.queue)) self.old.next_tsn self.old.queue }) }
         ensures err { OnErr result (self.new ≡ self.old) }
         ensures memory { IfErr result (λ e. e ≡ OutOfMemory) }
+        ensures answer { IfOk result (λ r. option_map {U = ℕ × ℕ} (λ a. (a.0, a.1)) r ≡ option_map {U = ℕ × ℕ} (λ c. (c.stream_identifier, c.message_id)) (expiring_tail now self.old.queue)) }
+        ensures released { IfOk result (λ r. total_bytes self.new.queue + tail_bytes r ≡ total_bytes self.old.queue) }
         ensures idle { expiring_tail now self.old.queue ≡ None → IsOk result }
     {
         let given_up = self.queue.expire_pending_tail(now, &mut self.next_tsn)?;

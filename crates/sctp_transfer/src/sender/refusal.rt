@@ -11,6 +11,8 @@ pub enum SenderRefusal {
     StreamUnknown,
     /// The message is longer than a message may be.
     MessageTooLarge,
+    /// No further message can wait: the numbers of messages are used up, or all bytes would be more than the greatest usize.
+    QueueFull,
     /// No further TSN can be given out before some are acknowledged: 2^31 - 1 are in flight.
     TsnsUsedUp,
     /// The TSN is not in flight.
