@@ -47,12 +47,12 @@ module _ (f : Flight) (inv : IsContiguous f) (s : Sack) (fits : s.cumulative_tsn
     contiguous =
         subst (λ (o : Outbound). IsContiguous (record { queue = o; next_tsn = f.next_tsn; acked_tsn = s.cumulative_tsn_ack })) (sym left)
         (let cum = cum-is f.acked_tsn s.cumulative_tsn_ack inv.in_range fits in
-         record {
-           in_range = fits;
-           run = rest;
-           next = omega (arith, inv.next, remains, within, cum);
-           few = omega (arith, inv.few, remains);
-         })
+        record {
+          in_range = fits;
+          run = rest;
+          next = omega (arith, inv.next, remains, within, cum);
+          few = omega (arith, inv.few, remains);
+        })
 
     pub taken-is : is_outdated s f ≡ false → (let g : Flight = record { queue = then'; next_tsn = f.next_tsn; acked_tsn = s.cumulative_tsn_ack } in g) ≡ after_sack s f
     taken-is fresh =

@@ -99,9 +99,9 @@ is_within left b = nat_lt b.end b.start || (nat_lt 0 b.start && nat_le b.end lef
 abbrev pub sack_refusal : Sack → Flight → Option SenderRefusal
 sack_refusal s f =
     if is_outdated s f then None else (
-      if nat_lt (length f.queue.inflight.chunks) (count_acked s f) then Some InflightQueueTsnPop else (
-        if list_all (is_within (length f.queue.inflight.chunks - count_acked s f)) s.gap_ack_blocks then None else Some TsnRequestNotExist
-      )
+    if nat_lt (length f.queue.inflight.chunks) (count_acked s f) then Some InflightQueueTsnPop else (
+    if list_all (is_within (length f.queue.inflight.chunks - count_acked s f)) s.gap_ack_blocks then None else Some TsnRequestNotExist
+    )
     )
 
 -- what it reports anew is acknowledged, and what it reports cumulatively is in flight no more

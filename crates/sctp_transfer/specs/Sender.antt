@@ -7,12 +7,12 @@ use Rattle.sctp_chunks.specs.declared.chunk.chunk_payload_data.PayloadProtocolId
 use Rattle.sctp_chunks.specs.declared.chunk.chunk_payload_data.PayloadProtocolIdentifier.TheVariants.{Unknown}
 use Rattle.sctp_chunks.specs.declared.chunk.chunk_payload_data.ReliabilityType.{ReliabilityType}
 use Rattle.sctp_chunks.specs.SelectiveAck.{Sack}
-use Rattle.sctp_outbound.specs.outbound_queue.OutboundQueue.{with_message, total_bytes}
+use Rattle.sctp_outbound.specs.outbound_queue.OutboundQueue.{Outbound, with_message, total_bytes, abandoned_of, tsn_after_of, expired_of, expiring}
 use Rattle.sctp_transfer.specs.declared.stream.StreamState.{StreamState}
 use Rattle.sctp_transfer.specs.declared.sender.refusal.SenderRefusal.{SenderRefusal}
 use Rattle.sctp_transfer.specs.declared.sender.refusal.SenderRefusal.TheVariants.{StreamUnknown, MessageTooLarge, QueueFull}
 use Rattle.sctp_transfer.specs.Flight.{Flight, with_queue, at_first, after_sack, released_by}
-use Rattle.sctp_transfer.specs.Outgoing.{has_number, with_mode, fragments_with_mode, wrote, released}
+use Rattle.sctp_transfer.specs.Outgoing.{has_number, with_mode, fragments_with_mode, wrote, released, less_by, expired}
 use Rattle.sctp_transfer.specs.Stream.{new_stream}
 
 -- the open streams in the order in which they were opened; what waits and what is in flight; how long a fragment is, and how
@@ -47,8 +47,11 @@ with_mode_on s unordered reliability value t = with_streams (change_where (has_n
 -- ## Writing
 
 -- numbers of messages or bytes are used up
+abbrev pub is_full_of : ℕ → Outbound → Bool
+is_full_of len q = not (nat_lt (q.next_message_id + 1) (2 ^ 64)) || not (nat_lt (total_bytes q + len) (2 ^ 64))
+
 abbrev pub is_full : ℕ → Transmission → Bool
-is_full len t = not (nat_lt (t.flight.queue.next_message_id + 1) (2 ^ 64)) || not (nat_lt (total_bytes t.flight.queue + len) (2 ^ 64))
+is_full len t = is_full_of len t.flight.queue
 
 abbrev pub write_refusal : ℕ → ℕ → Transmission → Option SenderRefusal
 write_refusal s len t =
@@ -61,7 +64,29 @@ written_to l s ppi bytes t = record t {
   flight = with_queue t.flight (with_message (fragments_with_mode l ppi bytes) t.flight.queue);
 }
 
+-- ## Sending
+
+-- a chunk as it goes out
+abbrev pub with_tsn : ℕ → ChunkPayloadData → ChunkPayloadData
+with_tsn tsn c = record c { tsn = tsn }
+
 -- ## A SACK
 
 abbrev pub after_acked : Sack → Transmission → Transmission
 after_acked s t = record t { streams = released (released_by s t.flight) t.streams; flight = after_sack s t.flight }
+
+-- ## Giving up
+
+-- a message is given up, and its stream has so many bytes less
+abbrev pub after_abandon : Option ℕ → ℕ → ℕ → Transmission → Transmission
+after_abandon message stream bytes t = record t {
+  streams = change_where (has_number stream) (less_by bytes) t.streams;
+  flight = record t.flight { queue = abandoned_of message t.flight.next_tsn t.flight.queue; next_tsn = tsn_after_of message t.flight.next_tsn t.flight.queue };
+}
+
+-- the lapsed message that begins with a chunk is gone, unsent
+abbrev pub after_expire : ChunkPayloadData → ℕ → ℕ → Transmission → Transmission
+after_expire c bytes now t = record t {
+  streams = change_where (has_number c.stream_identifier) (expired c.unordered bytes) t.streams;
+  flight = with_queue t.flight (expired_of (Some c) t.flight.queue);
+}

@@ -4,6 +4,7 @@ ghost use Rattle.std.specs.Prelude.{◌≡◌, ◌<◌, ◌≤◌, ◌^◌, ◌+
 ghost use Rattle.sctp_base.specs.declared.error.Error.TheVariants.{ErrOutOfMemory};
 ghost use Rattle.sctp_chunks.specs.declared.chunk.chunk_payload_data.PayloadProtocolIdentifier.TheVariants.{Unknown};
 ghost use Rattle.sctp_lists.specs.Lists.{change_where};
+ghost use Rattle.sctp_serial.specs.DataChunks.{bytes_of};
 ghost use Rattle.sctp_transfer.specs.declared.sender.refusal.SenderRefusal.TheVariants.{OutOfMemory};
 ghost use Rattle.sctp_transfer.specs.Numbers.{IsOnlyPlace, IsAbsent};
 ghost use Rattle.sctp_transfer.specs.Outgoing.{with_reliability, wrote, expired};
@@ -101,12 +102,7 @@ impl OutboundStreams {
 
     /// Sets the mode of later writes of the stream at a place. It takes no memory.
     /// Precondition: that stream stands there.
-    pub fn set_mode_at(
-        &mut self,
-        place: usize,
-        stream: u16,
-        mode: (bool, ReliabilityType, u32),
-    )
+    pub fn set_mode_at(&mut self, place: usize, stream: u16, mode: (bool, ReliabilityType, u32))
         requires { IsOnlyPlace stream (numbers_of self.old) place }
         ensures { self.new ≡ change_where (has_number stream) (with_mode mode.0 mode.1 mode.2) self.old }
     {
@@ -126,12 +122,17 @@ impl OutboundStreams {
     ) -> Result<Vec<ChunkPayloadData>>
         requires { IsOnlyPlace stream (numbers_of self.now) place }
         ensures ok { IfOk result (λ chunks. (l : StreamState) → find (has_number stream) self.now ≡ Some l → chunks.items ≡ fragments_with_mode l ppi bytes.now) }
+        ensures length { IfOk result (λ chunks. bytes_of chunks.items ≡ length bytes.now) }
         ensures memory { IsOkUnless result ErrOutOfMemory }
     {
         let _stream = stream;
         let state = &self.items[place];
         let mut chunks = state.fragments(alloc, bytes, ppi)?;
-        set_reliability(&mut chunks, state.reliability_type(), state.reliability_value());
+        set_reliability(
+            &mut chunks,
+            state.reliability_type(),
+            state.reliability_value(),
+        );
         Ok(chunks)
     }
 
@@ -195,11 +196,7 @@ fn expire_message(state: &mut StreamState, unordered: bool, bytes: usize)
 }
 
 // Gives each fragment the mode of its stream.
-fn set_reliability(
-    chunks: &mut Vec<ChunkPayloadData>,
-    reliability: ReliabilityType,
-    value: u32,
-)
+fn set_reliability(chunks: &mut Vec<ChunkPayloadData>, reliability: ReliabilityType, value: u32)
     ensures { chunks.new.items ≡ map (with_reliability reliability value) chunks.old.items }
 {
     for place in 0..chunks.len() {

@@ -1,8 +1,10 @@
-use Rattle.std.proofs.Common.{◌≡◌, rules, sym, ap, ◌∙◌, refl, ℕ, Some, None, map}
+use Rattle.std.proofs.Common.{◌≡◌, rules, sym, ap, ◌∙◌, refl, ℕ, Some, None, map, length}
 use Rattle.std.specs.Prelude.{find}
 use Rattle.sctp_transfer.specs.Numbers.{IsOnlyPlace}
 use Rattle.sctp_transfer.specs.declared.stream.StreamState.{StreamState}
 use Rattle.sctp_transfer.specs.Outgoing.{number, numbers_of, has_number, with_reliability, fragments_with_mode}
+use Rattle.sctp_serial.specs.DataChunks.{bytes_of}
+use Rattle.sctp_transfer.proofs.SenderStreams.{bytes-are}
 use Rattle.sctp_transfer.proofs.StreamPlaces.{absent-find, absent-change, inside, found, changed, numbers-stay}
 use Rattle.sctp_transfer.proofs.sender.outbound_streams.OutboundStreams.fragments_at.Goals as goal
 
@@ -19,3 +21,7 @@ returns-clause-ok c = λ l e.
     ∙ ap (λ v. map (with_reliability x.reliability_type v) c.in_ok-chunks.chunks.items) c.reliability_value.ensures
     ∙ ap (map (with_reliability x.reliability_type x.reliability_value)) c.in_ok-chunks.ensures.ok
     ∙ ap (λ (y : StreamState). fragments_with_mode y c.args.ppi c.args.bytes.now) same
+
+pub returns-clause-length : goal.returns-clause-length
+returns-clause-length c =
+    ap bytes_of c.set_reliability.ensures ∙ bytes-are c.reliability_type.result c.reliability_value.result c.in_ok-chunks.chunks.items ∙ ap length c.in_ok-chunks.ensures.joined
