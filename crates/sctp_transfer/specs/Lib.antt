@@ -2,3 +2,12 @@ pub mod Stats
 pub mod State
 pub mod Stream
 pub mod Lending
+pub mod Numbers
+pub mod TsnFilter
+pub mod Inbound
+pub mod Receiver
+pub mod Refusals
+pub mod ReceiverRuns
+pub mod Flight
+pub mod Outgoing
+pub mod Sender

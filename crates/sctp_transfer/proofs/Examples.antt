@@ -1,0 +1,93 @@
+-- Worked examples, by computation.
+use Rattle.std.proofs.Common.{◌≡◌, ℕ, Bool, true, false, List, [], ◌∷◌, map, Some, None, refl}
+use Rattle.std.specs.Prelude.{option_map}
+use Rattle.sctp_chunks.specs.declared.chunk.chunk_payload_data.PayloadProtocolIdentifier.TheVariants as identifiers
+use Rattle.sctp_chunks.specs.declared.chunk.chunk_payload_data.ChunkPayloadData.{ChunkPayloadData}
+use Rattle.sctp_chunks.specs.declared.chunk.chunk_selective_ack.GapAckBlock.{GapAckBlock}
+use Rattle.sctp_lists.specs.Serial.{distance, comes_before, at_or_before, comes_before16, at_or_before16, distance16}
+use Rattle.sctp_reassembly.specs.reassembly_queue.Fragments.{payload_of}
+use Rattle.sctp_reassembly.specs.reassembly_queue.ReassemblyQueue.{ordered_pushed}
+use Rattle.sctp_transfer.specs.declared.receiver.refusal.ReceiverRefusal.TheVariants.{StreamUnknown, TsnOpposite, MessageTooLarge}
+use Rattle.sctp_transfer.specs.Inbound.{with_queue}
+use Rattle.sctp_transfer.specs.Receiver.{Reception, at_first, opened, filter_of, with_filter, data_refusal, message_on, sack}
+use Rattle.sctp_transfer.specs.TsnFilter.{Filter, with_tsn, skipped_to, gap_ack_blocks, has_come, is_opposite}
+
+-- TSNs 15, 14 and 17 came beyond 12: so RFC 4960 3.3.4 shows its blocks
+abbrev twelve : Filter
+twelve = record { cumulative_tsn = 12; beyond = []; duplicates = []; room = 0 }
+
+abbrev to_seventeen : Filter
+to_seventeen = with_tsn 17 (with_tsn 14 (with_tsn 15 twelve))
+
+blocks : gap_ack_blocks to_seventeen ≡ record { start = 2; end = 3 } ∷ record { start = 5; end = 5 } ∷ []
+unfolding distance comes_before
+blocks = refl
+
+-- then 13 comes, and 16
+thirteen : (with_tsn 13 to_seventeen).cumulative_tsn ≡ 15
+unfolding distance comes_before
+thirteen = refl
+
+sixteen : with_tsn 16 (with_tsn 13 to_seventeen) ≡ record { cumulative_tsn = 17; beyond = []; duplicates = []; room = 0 }
+unfolding distance comes_before
+sixteen = refl
+
+-- a skip to 13 goes on to 15
+skip : skipped_to 13 to_seventeen ≡ record { cumulative_tsn = 15; beyond = 17 ∷ []; duplicates = []; room = 0 }
+unfolding distance comes_before at_or_before
+skip = refl
+
+-- TSNs wrap
+abbrev last_tsn : Filter
+last_tsn = record { cumulative_tsn = 4294967294; beyond = []; duplicates = []; room = 0 }
+
+wraps : with_tsn 4294967295 (with_tsn 0 last_tsn) ≡ record { cumulative_tsn = 0; beyond = []; duplicates = []; room = 0 }
+unfolding distance comes_before
+wraps = refl
+
+-- what lies before came, and what lies half the circle away neither came nor can
+before_came : has_come 4294967000 last_tsn ≡ true
+unfolding distance at_or_before
+before_came = refl
+
+opposite : is_opposite 2147483646 last_tsn ≡ true
+unfolding distance
+opposite = refl
+
+-- ## A receiver
+
+abbrev fragment : ℕ → Bool → Bool → List ℕ → ChunkPayloadData
+fragment tsn begins ends bytes = record {
+  unordered = false;
+  beginning_fragment = begins;
+  ending_fragment = ends;
+  immediate_sack = false;
+  tsn = tsn;
+  stream_identifier = 1;
+  stream_sequence_number = 0;
+  payload_type = identifiers.Binary;
+  user_data = bytes;
+  acked = false;
+  miss_indicator = 0;
+  message_id = 0;
+  abandoned = false;
+  since = None;
+  reliability = None;
+  deadline = None;
+  nsent = 0;
+  retransmit = false;
+}
+
+-- no stream is open
+unknown : data_refusal (fragment 7 true true (1 ∷ [])) (at_first 7 2) ≡ Some StreamUnknown
+unfolding distance at_or_before
+unknown = refl
+
+-- a message may have two bytes
+too_large : data_refusal (fragment 7 true true (1 ∷ 2 ∷ 3 ∷ [])) (opened 1 (at_first 7 2)) ≡ Some MessageTooLarge
+unfolding distance at_or_before
+too_large = refl
+
+fits : data_refusal (fragment 7 true true (1 ∷ 2 ∷ [])) (opened 1 (at_first 7 2)) ≡ None
+unfolding distance at_or_before
+fits = refl

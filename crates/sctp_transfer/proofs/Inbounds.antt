@@ -1,0 +1,44 @@
+-- What a fragment and a FORWARD-TSN make of the streams of a receiver.
+use Rattle.std.proofs.Common.{◌≡◌, sym, ap, ◌∙◌, refl, ℕ, List, [], ◌∷◌, map, Bool, true, false, Some, None, inl, inr, Result, Ok, Err}
+use Rattle.std.specs.Prelude.{if◌then◌else◌, find, slice_index_or, slice_set, OnOk, OnErr, IfErr, ◌⊎◌}
+use Rattle.sctp_chunks.specs.declared.chunk.chunk_payload_data.ChunkPayloadData.{ChunkPayloadData}
+use Rattle.sctp_reassembly.specs.reassembly_queue.ReassemblyQueue.{ReassemblyState, is_too_large}
+use Rattle.sctp_transfer.specs.Numbers.{IsOnlyPlace}
+use Rattle.sctp_transfer.specs.declared.receiver.inbound_streams.InboundStream.{InboundStream}
+use Rattle.sctp_transfer.specs.declared.receiver.refusal.ReceiverRefusal.{ReceiverRefusal}
+use Rattle.sctp_transfer.specs.declared.receiver.refusal.ReceiverRefusal.TheVariants.{MessageTooLarge, OutOfMemory}
+use Rattle.sctp_transfer.specs.Inbound.{number, numbers_of, has_number, with_queue, Pushes, PushesAs, PushesOn}
+use Rattle.sctp_transfer.specs.Receiver.{stream_refusal}
+use Rattle.sctp_transfer.proofs.StreamPlaces.{found, changed}
+
+pub pushed-number : (c : ChunkPayloadData) (old new : ReassemblyState) → Pushes c old new → new.si ≡ old.si
+pushed-number c old new p = by c.unordered p
+  where
+    by : (b : Bool) → PushesAs b c old new → new.si ≡ old.si
+    by false e = ap (λ (q : ReassemblyState). q.si) e
+    by true e = ap (λ (q : ReassemblyState). q.si) e.1.1
+
+pub numbers-mapped : (f : InboundStream → InboundStream) → ((l : InboundStream) → number (f l) ≡ number l) → (ls : List InboundStream) → numbers_of (map f ls) ≡ numbers_of ls
+numbers-mapped f same [] = refl
+numbers-mapped f same (l ∷ ls) = ap (λ n. n ∷ numbers_of (map f ls)) (same l) ∙ ap (λ ns. number l ∷ ns) (numbers-mapped f same ls)
+
+-- a push on the stream at a place
+module _ (c : ChunkPayloadData) (ls : List InboundStream) (k : ℕ) (p : IsOnlyPlace c.stream_identifier (numbers_of ls) k) (x y : InboundStream) (at : x ≡ slice_index_or ls k x) (rest : y ≡ record x { queue = y.queue }) where
+  pub number-stays : {T : Type 0} (r : Result T ReceiverRefusal) → OnOk r (Pushes c x.queue y.queue) → OnErr r (y ≡ x) → number y ≡ number x
+  number-stays (Ok t) ok err = pushed-number c x.queue y.queue ok
+  number-stays (Err e) ok err = ap number err
+
+  is-found : find (has_number c.stream_identifier) ls ≡ Some x
+  is-found = found number ls (numbers_of ls) refl c.stream_identifier k p x at
+
+  pub pushes : {T : Type 0} (r : Result T ReceiverRefusal) → OnOk r (Pushes c x.queue y.queue) → OnOk r (PushesOn c ls (slice_set ls k y))
+  pushes (Ok t) ok = record { stream = x; found = is-found; queue = y.queue; pushed = ok; after = changed number ls (numbers_of ls) refl c.stream_identifier k p (with_queue y.queue) x y at rest }
+  pushes (Err e) ok = ok
+
+  pub fits : is_too_large c x.queue ≡ false → stream_refusal c (find (has_number c.stream_identifier) ls) ≡ None
+  fits small = ap (stream_refusal c) is-found ∙ ap (λ b. if b then Some MessageTooLarge else None) small
+
+  pub refused : {T : Type 0} (r : Result T ReceiverRefusal) → IfErr r (λ e. (e ≡ OutOfMemory) ⊎ ((e ≡ MessageTooLarge) × (is_too_large c x.queue ≡ true))) → IfErr r (λ e. (e ≡ OutOfMemory) ⊎ (stream_refusal c (find (has_number c.stream_identifier) ls) ≡ Some e))
+  refused (Ok t) h = h
+  refused (Err e) (inl h) = inl h
+  refused (Err e) (inr h) = inr (ap (stream_refusal c) is-found ∙ ap (λ b. if b then Some MessageTooLarge else None) h.1 ∙ ap Some (sym h.0))

@@ -1,0 +1,97 @@
+-- TSNs as marks in a queue.
+use Rattle.std.proofs.Common.{◌≡◌, ℕ, zero, suc, ◌<◌, ◌^◌, Bool, true, false, List, [], ◌∷◌, length, map, Some, None, refl, ap, sym, ◌∙◌, arith}
+use Rattle.std.specs.Prelude.{if◌then◌else◌, ◌==◌, ◌&&◌, ◌||◌, not, find, is_some}
+use Rattle.std.specs.List.{list_any, All}
+use Rattle.std.proofs.lemmas.List.Sums.{sum_by-cons}
+use Rattle.sctp_lists.specs.Lists.{inserted, those, advanced, Seen}
+use Rattle.sctp_lists.specs.Serial.{distance, comes_before, at_or_before}
+use Rattle.sctp_lists.proofs.Cases.{same-is}
+use Rattle.sctp_chunks.specs.declared.chunk.chunk_payload_data.ChunkPayloadData.{ChunkPayloadData}
+use Rattle.sctp_serial.specs.DataChunks.{has_tsn, chunk_before, bytes_of}
+use Rattle.sctp_serial.specs.Window
+use Rattle.sctp_serial.specs.Window.{IsWithinHalf, IsWindow, is_held}
+use Rattle.sctp_outbound.specs.payload_queue.PayloadQueue.{front_with, without_front, past}
+use Rattle.sctp_transfer.specs.TsnFilter.{mark, tsns, rise_beyond, following_tsn}
+use Rattle.sctp_transfer.proofs.TsnLists.{step-of, IsStep}
+
+pub tsns-mark : (ts : List ℕ) → tsns (map mark ts) ≡ ts
+tsns-mark [] = refl
+tsns-mark (t ∷ ts) = ap (λ us. t ∷ us) (tsns-mark ts)
+
+-- what is made of marks is marks
+pub marked : (cs : List ChunkPayloadData) (ts : List ℕ) → cs ≡ map mark ts → cs ≡ map mark (tsns cs)
+marked cs ts e = e ∙ ap (map mark) (sym (tsns-mark ts) ∙ ap tsns (sym e))
+
+pub marks-inserted : (x : ℕ) (ts : List ℕ) → inserted chunk_before (mark x) (map mark ts) ≡ map mark (inserted comes_before x ts)
+marks-inserted x [] = refl
+marks-inserted x (t ∷ ts) = step (comes_before x t) (marks-inserted x ts)
+  where
+    step : (b : Bool) → inserted chunk_before (mark x) (map mark ts) ≡ map mark (inserted comes_before x ts) → (if b then mark x ∷ mark t ∷ map mark ts else mark t ∷ inserted chunk_before (mark x) (map mark ts)) ≡ map mark (if b then x ∷ t ∷ ts else t ∷ inserted comes_before x ts)
+    step true ih = refl
+    step false ih = ap (λ cs. mark t ∷ cs) ih
+
+pub marks-past : (n : ℕ) (ts : List ℕ) → past n (map mark ts) ≡ map mark (those (λ t. not (at_or_before t n)) ts)
+marks-past n [] = refl
+marks-past n (t ∷ ts) = step (not (at_or_before t n)) (marks-past n ts)
+  where
+    step : (b : Bool) → past n (map mark ts) ≡ map mark (those (λ u. not (at_or_before u n)) ts) → (if b then mark t ∷ past n (map mark ts) else past n (map mark ts)) ≡ map mark (if b then t ∷ those (λ u. not (at_or_before u n)) ts else those (λ u. not (at_or_before u n)) ts)
+    step true ih = ap (λ cs. mark t ∷ cs) ih
+    step false ih = ih
+
+pub marks-rest : (n : ℕ) (cs : List ChunkPayloadData) → cs ≡ map mark (tsns cs) → without_front n cs ≡ map mark (tsns (without_front n cs))
+marks-rest n [] e = refl
+marks-rest n (c ∷ cs) e = step (c.tsn == n) (λ t. e)
+  where
+    step : (b : Bool) → (Unit {0} → (c ∷ cs) ≡ map mark (tsns (c ∷ cs))) → (if b then cs else c ∷ cs) ≡ map mark (tsns (if b then cs else c ∷ cs))
+    step true h = let z : cs ≡ map mark (tsns cs) = cc (h tt) in z
+    step false h = h tt
+
+pub no-bytes : (ts : List ℕ) → bytes_of (map mark ts) ≡ 0
+no-bytes [] = refl
+no-bytes (t ∷ ts) = let more = sum_by-cons (λ (c : ChunkPayloadData). length c.user_data) (mark t) (map mark ts) in let rest = no-bytes ts in omega arith
+
+pub held-any : (t : ℕ) (cs : List ChunkPayloadData) → is_held cs t ≡ list_any (λ u. u == t) (tsns cs)
+held-any t [] = refl
+held-any t (c ∷ cs) = step (c.tsn == t) (held-any t cs)
+  where
+    step : (b : Bool) → is_some (find (has_tsn t) cs) ≡ list_any (λ u. u == t) (tsns cs) → is_some (if b then Some c else find (has_tsn t) cs) ≡ (b || list_any (λ u. u == t) (tsns cs))
+    step true ih = refl
+    step false ih = ih
+
+-- the queue tells new what did not come
+pub new-is : (cs : List ChunkPayloadData) (t c : ℕ) → Window.is_new cs t c ≡ not (at_or_before t c || list_any (λ u. u == t) (tsns cs))
+new-is cs t c = ap (λ b. not b && not (at_or_before t c)) (held-any t cs) ∙ both-not (list_any (λ u. u == t) (tsns cs)) (at_or_before t c)
+  where
+    both-not : (a b : Bool) → (not a && not b) ≡ not (b || a)
+    both-not true true = refl
+    both-not true false = refl
+    both-not false true = refl
+    both-not false false = refl
+
+-- ## The front moves while the next TSN is held
+
+pub front-moves : (c : ℕ) (cs : List ChunkPayloadData) (x : ChunkPayloadData) → front_with (following_tsn c) cs ≡ Some x → advanced c (tsns cs) ≡ advanced (following_tsn c) (tsns (without_front (following_tsn c) cs))
+front-moves c [] x e = cc
+front-moves c (y ∷ cs) x e = step (y.tsn == following_tsn c) refl e
+  where
+    step : (b : Bool) → (y.tsn == following_tsn c) ≡ b → (if b then Some y else None) ≡ Some x → (if b then advanced y.tsn (tsns cs) else (let s : Seen = record { cum = c; held = y.tsn ∷ tsns cs } in s)) ≡ advanced (following_tsn c) (tsns (if b then cs else y ∷ cs))
+    step true h e = ap (λ t. advanced t (tsns cs)) (same-is y.tsn (following_tsn c) h)
+    step false h e = cc
+
+pub front-stays : (c : ℕ) (cs : List ChunkPayloadData) → front_with (following_tsn c) cs ≡ None → advanced c (tsns cs) ≡ record { cum = c; held = tsns cs }
+front-stays c [] e = refl
+front-stays c (y ∷ cs) e = step (y.tsn == following_tsn c) e
+  where
+    step : (b : Bool) → (if b then Some y else None) ≡ None → (if b then advanced y.tsn (tsns cs) else (let s : Seen = record { cum = c; held = y.tsn ∷ tsns cs } in s)) ≡ (let s : Seen = record { cum = c; held = y.tsn ∷ tsns cs } in s)
+    step true e = cc
+    step false e = refl
+
+-- ## Windows
+
+pub within : (c far : ℕ) (cs : List ChunkPayloadData) → rise_beyond c far (tsns cs) ≡ true → All (λ x. IsWithinHalf c x.tsn) cs
+within c far [] h k d lt = absurd (omega arith)
+within c far (x ∷ cs) h zero d lt = let s = step-of c far x.tsn (tsns cs) h in (omega (arith, s.0.farther), omega (arith, s.0.near))
+within c far (x ∷ cs) h (suc k) d lt = let s = step-of c far x.tsn (tsns cs) h in within c (distance c x.tsn) cs s.1 k d (omega arith)
+
+pub window : (c t : ℕ) (cs : List ChunkPayloadData) → c < 2 ^ 32 → IsStep c 1 t → rise_beyond c 1 (tsns cs) ≡ true → IsWindow c cs t
+window c t cs lt s h = record { base_in_range = lt; number = (omega (arith, s.farther), omega (arith, s.near)); held = within c 1 cs h }

@@ -1,0 +1,64 @@
+-- Streams that are found by their numbers: the one at a place, and what its change makes of them all.
+use Rattle.std.proofs.Common.{◌≡◌, ℕ, zero, suc, ◌<◌, Bool, true, false, List, [], ◌∷◌, length, get_or, map, Some, None, refl, ap, sym, ◌∙◌, arith}
+use Rattle.std.specs.Prelude.{◌==◌, find, slice_get, slice_index_or, slice_set}
+use Rattle.std.proofs.lemmas.Bool.{eq-eqb, ne_eqb}
+use Rattle.std.proofs.lemmas.Option.{slice_get_within}
+use Rattle.sctp_lists.specs.Lists.{change_where}
+use Rattle.sctp_lists.proofs.Edits.{OnlyAt, change_where-only, change_where-none, find-none}
+use Rattle.sctp_lists.proofs.Getting.{length-mapped}
+use Rattle.sctp_transfer.specs.Numbers.{IsOnlyPlace, IsAbsent}
+
+one : {A : Type 0} {a b : A} → Some a ≡ Some b → a ≡ b
+one e = cc
+
+module _ {X : Type 0} (p : X → Bool) where
+  pub find-first : (xs : List X) (i : ℕ) (d : X) → i < length xs → ((k : ℕ) (d : X) → k < i → p (get_or xs k d) ≡ false) → p (get_or xs i d) ≡ true → find p xs ≡ Some (get_or xs i d)
+  find-first [] i d lt before here = absurd (omega (arith, lt))
+  find-first (x ∷ xs) zero d lt before here = rw here refl
+  find-first (x ∷ xs) (suc i) d lt before here = rw (before 0 x (omega arith)) (find-first xs i d (omega (arith, lt)) (λ k d lt. before (suc k) d (omega arith)) here)
+
+pub map-set_same : {A B : Type 0} (f : A → B) (xs : List A) (i : ℕ) (y d : A) → f y ≡ f (slice_index_or xs i d) → map f (slice_set xs i y) ≡ map f xs
+map-set_same f [] i y d e = refl
+map-set_same f (x ∷ xs) zero y d e = ap (λ b. b ∷ map f xs) e
+map-set_same f (x ∷ xs) (suc i) y d e = ap (λ bs. f x ∷ bs) (map-set_same f xs i y d e)
+
+module _ {X : Type 0} (num : X → ℕ) where
+  number-at : (ls : List X) (k : ℕ) (d : X) → k < length ls → slice_get (map num ls) k ≡ Some (num (slice_index_or ls k d))
+  number-at [] k d lt = absurd (omega (arith, lt))
+  number-at (l ∷ ls) zero d lt = refl
+  number-at (l ∷ ls) (suc k) d lt = number-at ls k d (omega (arith, lt))
+
+  module _ (ls : List X) (ns : List ℕ) (is : ns ≡ map num ls) (s : ℕ) where
+    -- no stream has the number
+    differs : IsAbsent s ns → (k : ℕ) (d : X) → k < length ls → (num (slice_index_or ls k d) == s) ≡ false
+    differs absent k d lt = ne_eqb _ _ (λ e. absent k (ap (λ ms. slice_get ms k) is ∙ number-at ls k d lt ∙ ap Some e))
+
+    pub absent-find : IsAbsent s ns → find (λ l. num l == s) ls ≡ None
+    absent-find absent = find-none (λ l. num l == s) ls (differs absent)
+
+    pub absent-change : (f : X → X) → IsAbsent s ns → ls ≡ change_where (λ l. num l == s) f ls
+    absent-change f absent = sym (change_where-none (λ l. num l == s) f ls (differs absent))
+
+    module _ (k : ℕ) (p : IsOnlyPlace s ns k) where
+      pub inside : k < length ls
+      inside = omega (arith, slice_get_within ns k s p.here, ap length is, length-mapped num ls)
+
+      only : OnlyAt (λ l. num l == s) ls k
+      only = record {
+        in_range = inside;
+        here = λ d. eq-eqb _ _ (one (sym (number-at ls k d inside) ∙ ap (λ ms. slice_get ms k) (sym is) ∙ p.here));
+        elsewhere = λ j d less ne. ne_eqb _ _ (λ z. ne (p.only j (ap (λ ms. slice_get ms j) is ∙ number-at ls j d less ∙ ap Some z)));
+      }
+
+      pub number-is : (x : X) → x ≡ slice_index_or ls k x → num x ≡ s
+      number-is x e = ap num e ∙ one (sym (number-at ls k x inside) ∙ ap (λ ms. slice_get ms k) (sym is) ∙ p.here)
+
+      pub found : (x : X) → x ≡ slice_index_or ls k x → find (λ l. num l == s) ls ≡ Some x
+      found x e = find-first (λ l. num l == s) ls k x inside (λ j d lt. only.elsewhere j d (omega (arith, lt, inside)) (λ z. omega (arith, lt, z))) (only.here x) ∙ ap Some (sym e)
+
+      -- the one at the place is changed, and no other
+      pub changed : (f : X → X) (x y : X) → x ≡ slice_index_or ls k x → y ≡ f x → slice_set ls k y ≡ change_where (λ l. num l == s) f ls
+      changed f x y e made = ap (slice_set ls k) (made ∙ ap f e) ∙ sym (change_where-only (λ l. num l == s) f ls k x only)
+
+      pub numbers-stay : (x y : X) → x ≡ slice_index_or ls k x → num y ≡ num x → ns ≡ map num (slice_set ls k y)
+      numbers-stay x y e same = is ∙ sym (map-set_same num ls k y x (same ∙ ap num e))

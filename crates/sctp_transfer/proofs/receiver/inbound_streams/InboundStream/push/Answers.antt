@@ -1,0 +1,20 @@
+use Rattle.std.proofs.Common.{◌≡◌, Bool, true, false, refl, ap, ◌∙◌, subst}
+use Rattle.std.specs.Prelude.{◌==◌}
+use Rattle.sctp_chunks.specs.declared.chunk.chunk_payload_data.ChunkPayloadData.{ChunkPayloadData}
+use Rattle.sctp_reassembly.specs.reassembly_queue.ReassemblyQueue.{ReassemblyState, PushesUnordered, ordered_pushed}
+use Rattle.sctp_transfer.specs.Inbound.{Pushes, PushesAs}
+use Rattle.sctp_transfer.proofs.receiver.inbound_streams.InboundStream.push.Goals as goal
+
+either : (c : ChunkPayloadData) (old new : ReassemblyState) (whole : Bool) → (c.unordered ≡ false → new ≡ ordered_pushed c old) → (c.unordered ≡ true → PushesUnordered c old new whole) → Pushes c old new
+either c old new whole ordered unordered = by c.unordered refl
+  where
+    by : (b : Bool) → c.unordered ≡ b → PushesAs b c old new
+    by false e = ordered e
+    by true e = (whole, unordered e)
+
+pub returns-clause-ok : goal.returns-clause-ok
+returns-clause-ok c =
+    let same : c.in_ok-fragment.fragment ≡ c.args.chunk.now = c.in_ok-fragment.ensures.ok in
+    let stream : (c.in_ok-fragment.fragment.stream_identifier == c.args.self.now.queue.si) ≡ true = ap (λ (x : ChunkPayloadData). x.stream_identifier == c.args.self.now.queue.si) same ∙ c.requires in
+    subst (λ (x : ChunkPayloadData). Pushes x c.args.self.now.queue c.push.new.self) same
+    (either c.in_ok-fragment.fragment c.args.self.now.queue c.push.new.self c.in_ok-push.field-0 (λ e. (c.in_ok-push.ensures.ordered stream e).0) (λ e. c.in_ok-push.ensures.unordered stream e))

@@ -1,0 +1,71 @@
+-- The streams of a receiver.
+use Rattle.std.specs.Prelude.{◌≡◌, ℕ, ◌==◌, Bool, true, false, List, [], ◌∷◌, map, Option, Some, None}
+use Rattle.std.specs.List.{find}
+use Rattle.sctp_lists.specs.Lists.{change_where}
+use Rattle.sctp_chunks.specs.declared.chunk.chunk_payload_data.ChunkPayloadData.{ChunkPayloadData}
+use Rattle.sctp_chunks.specs.declared.chunk.chunk_forward_tsn.ChunkForwardTsnStream.{ChunkForwardTsnStream}
+use Rattle.sctp_chunks.specs.ChunkSet.{ChunkSet}
+use Rattle.sctp_serial.specs.DataChunks.{bytes_of}
+use Rattle.sctp_reassembly.specs.reassembly_queue.ReassemblyQueue.{ReassemblyState, PushesUnordered, ordered_pushed, message_read, state_read, ordered_forwarded, unordered_forwarded}
+use Rattle.sctp_transfer.specs.declared.receiver.inbound_streams.InboundStream.{InboundStream}
+use Rattle.sctp_transfer.specs.declared.stream.DataChannelStats.{DataChannelStats}
+use Rattle.sctp_transfer.specs.Stats.{with_received, counted_bytes}
+
+abbrev pub number : InboundStream → ℕ
+number l = l.queue.si
+
+abbrev pub has_number : ℕ → InboundStream → Bool
+has_number s l = l.queue.si == s
+
+abbrev pub numbers_of : List InboundStream → List ℕ
+numbers_of ls = map number ls
+
+-- a stream on which nothing came
+abbrev pub new_stream : ℕ → ℕ → InboundStream
+new_stream s max = record {
+  queue = record { si = s; held = record { next_ssn = 0; ordered = []; unordered = []; loose = [] }; bytes = 0; max_message_size = max };
+  stats = record { stream_identifier = s; generation = 0; messages_sent = 0; bytes_sent = 0; messages_received = 0; bytes_received = 0 };
+}
+
+abbrev pub with_queue : ReassemblyState → InboundStream → InboundStream
+with_queue q l = record l { queue = q }
+
+-- ## A fragment comes
+
+-- what it makes of its stream's queue, where it is unordered and where it is not
+abbrev pub PushesAs : Bool → ChunkPayloadData → ReassemblyState → ReassemblyState → Type 0
+PushesAs false c old new = new ≡ ordered_pushed c old
+PushesAs true c old new = (whole : Bool) × PushesUnordered c old new whole
+
+abbrev pub Pushes : ChunkPayloadData → ReassemblyState → ReassemblyState → Type 0
+Pushes c old new = PushesAs c.unordered c old new
+
+-- and of the streams
+pub record PushesOn (c : ChunkPayloadData) (old new : List InboundStream) : Type 0 where
+  pub stream : InboundStream
+  pub found : find (has_number c.stream_identifier) old ≡ Some stream
+  pub queue : ReassemblyState
+  pub pushed : Pushes c stream.queue queue
+  pub after : new ≡ change_where (has_number c.stream_identifier) (with_queue queue) old
+
+-- ## A message is read
+
+abbrev pub counted : Option ChunkSet → DataChannelStats → DataChannelStats
+counted None stats = stats
+counted (Some set) stats = with_received (counted_bytes set.ppi (bytes_of set.chunks)) stats
+
+abbrev pub stream_read : InboundStream → InboundStream
+stream_read l = record l { queue = state_read l.queue; stats = counted (message_read l.queue.held) l.stats }
+
+-- ## A FORWARD-TSN comes
+
+abbrev pub ssn_forwarded : ℕ → InboundStream → InboundStream
+ssn_forwarded ssn l = record l { queue = ordered_forwarded ssn l.queue }
+
+-- one name after another
+abbrev pub named_forwarded : List ChunkForwardTsnStream → List InboundStream → List InboundStream
+named_forwarded [] ls = ls
+named_forwarded (n ∷ ns) ls = named_forwarded ns (change_where (has_number n.identifier) (ssn_forwarded n.sequence) ls)
+
+abbrev pub loose_forwarded : ℕ → InboundStream → InboundStream
+loose_forwarded tsn l = record l { queue = unordered_forwarded tsn l.queue }

@@ -1,0 +1,17 @@
+-- The numbers of the open streams, in the order in which they were opened.
+use Rattle.std.specs.Prelude.{◌≡◌, ℕ, ◌↔◌, List, slice_get, Some}
+use Rattle.std.specs.Ordering.{nat_cmp}
+use Rattle.std.specs.BTreeMap.{BTreeMap, get}
+
+-- the number stands there, and nowhere else
+pub record IsOnlyPlace (s : ℕ) (ns : List ℕ) (k : ℕ) : Type 0 where
+  pub here : slice_get ns k ≡ Some s
+  pub only : (j : ℕ) → slice_get ns j ≡ Some s → j ≡ k
+
+-- the number stands nowhere
+abbrev pub IsAbsent : ℕ → List ℕ → Type 0
+IsAbsent s ns = (k : ℕ) → slice_get ns k ≡ Some s → ⊥
+
+-- the index has a number at a place exactly where the number stands there
+abbrev pub IsIndexed : BTreeMap ℕ ℕ → List ℕ → Type 0
+IsIndexed places ns = (s k : ℕ) → (get nat_cmp places s ≡ Some k) ↔ (slice_get ns k ≡ Some s)

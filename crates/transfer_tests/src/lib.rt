@@ -1,0 +1,8 @@
+//! Callers of the halves of a link, and tests of them.
+#![tactic(auto)]
+
+#[cfg(test)]
+mod part;
+#[cfg(test)]
+mod receiver_tests;
+pub mod receiving;
