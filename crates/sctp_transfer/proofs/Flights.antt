@@ -1,20 +1,19 @@
 -- TSNs in flight follow one another, whatever is sent, given up or marked.
-use Rattle.std.proofs.Common.{◌≡◌, ℕ, zero, suc, ◌+◌, ◌-◌, ◌<◌, ◌≤◌, ◌%◌, ◌^◌, Bool, true, false, List, [], ◌∷◌, ◌++◌, length, length-append, map, get_or, Option, Some, None, refl, ap, sym, subst, ◌∙◌, arith}
-use Rattle.std.specs.Prelude.{if◌then◌else◌, ◌==◌, find, is_some}
-use Rattle.std.specs.List.{All}
+use Rattle.std.proofs.Common.{◌≡◌, ℕ, zero, suc, ◌+◌, ◌<◌, ◌%◌, ◌^◌, Bool, true, false, List, [], ◌∷◌, ◌++◌, length, length-append, get_or, Option, Some, None, refl, ap, sym, ◌∙◌, arith}
+use Rattle.std.specs.Prelude.{if◌then◌else◌, ◌==◌, is_some}
 use Rattle.std.proofs.lemmas.List.{length-map}
 use Rattle.std.proofs.lemmas.Bool.{ne_eqb}
 use Rattle.std.proofs.lemmas.Bool.Decides.{nat_tests}
 use Rattle.sctp_lists.specs.Lists.{change_where, inserted}
 use Rattle.sctp_lists.specs.Serial.{distance, comes_before}
 use Rattle.sctp_lists.proofs.Edits.{find-none}
-use Rattle.sctp_lists.proofs.More.{fails, not_both}
+use Rattle.sctp_lists.proofs.More.{fails}
 use Rattle.sctp_lists.proofs.SerialLemmas.{not_before_from}
 use Rattle.sctp_chunks.specs.declared.chunk.chunk_payload_data.ChunkPayloadData.{ChunkPayloadData}
 use Rattle.sctp_serial.specs.DataChunks.{has_tsn, chunk_before}
 use Rattle.sctp_serial.specs.Window.{IsWindow, is_held}
 use Rattle.sctp_outbound.specs.Marks.{given_up, is_of}
-use Rattle.sctp_outbound.specs.outbound_queue.OutboundQueue.{Outbound, all_started, sent_of, sent_next, numbered, abandoned, abandoned_of, tsn_after, tsn_after_of, with_end_mark, end_mark}
+use Rattle.sctp_outbound.specs.outbound_queue.OutboundQueue.{Outbound, all_started, sent_of, sent_next, numbered, abandoned_of, tsn_after_of, with_end_mark, end_mark}
 use Rattle.sctp_outbound.specs.payload_queue.PayloadQueue as payload
 use Rattle.sctp_outbound.specs.pending_queue.PendingQueue.{peeked, started, last_removed, without}
 use Rattle.sctp_outbound.specs.pending_queue.Whole.{waits}

@@ -1,5 +1,5 @@
 -- A walk over a run of chunks that changes some of them.
-use Rattle.std.proofs.Common.{◌≡◌, ℕ, ◌+◌, ◌<◌, ◌≤◌, ◌%◌, ◌^◌, Bool, true, false, List, [], ◌∷◌, ◌++◌, length, map, take, drop, ◌-◌, get_or, set, Option, Some, refl, ap, sym, subst, ◌∙◌, arith}
+use Rattle.std.proofs.Common.{◌≡◌, ℕ, ◌+◌, ◌<◌, ◌≤◌, ◌%◌, ◌^◌, Bool, true, false, List, [], ◌∷◌, ◌++◌, length, map, take, drop, ◌-◌, get_or, set, Some, refl, ap, sym, ◌∙◌, arith}
 use Rattle.std.specs.Prelude.{if◌then◌else◌, find}
 use Rattle.std.proofs.lemmas.List.{length-map, length-take-le, take-append-drop, get_or-append_right, get_or-drop}
 use Rattle.sctp_lists.specs.Lists.{change_where, those}

@@ -1,16 +1,15 @@
 -- What a SACK makes of what is in flight.
-use Rattle.std.proofs.Common.{◌≡◌, ℕ, ◌+◌, ◌-◌, ◌<◌, ◌≤◌, ◌%◌, ◌^◌, Bool, true, false, List, length, length-drop, map, drop, refl, ap, sym, subst, ◌∙◌, arith}
+use Rattle.std.proofs.Common.{◌≡◌, ℕ, ◌+◌, ◌-◌, ◌<◌, ◌≤◌, ◌%◌, ◌^◌, false, List, length, length-drop, drop, refl, ap, sym, subst, ◌∙◌, arith}
 use Rattle.std.specs.Prelude.{if◌then◌else◌}
 use Rattle.sctp_lists.specs.Lists.{change_where}
-use Rattle.sctp_lists.specs.Serial.{distance, comes_before}
+use Rattle.sctp_lists.specs.Serial.{distance}
 use Rattle.sctp_lists.proofs.Edits.{length-change_where}
 use Rattle.sctp_chunks.specs.declared.chunk.chunk_payload_data.ChunkPayloadData.{ChunkPayloadData}
 use Rattle.sctp_chunks.specs.SelectiveAck.{Sack}
 use Rattle.sctp_outbound.specs.Marks.{acknowledged}
 use Rattle.sctp_outbound.specs.outbound_queue.OutboundQueue.{Outbound, with_inflight}
-use Rattle.sctp_outbound.specs.payload_queue.PayloadQueue.{past}
 use Rattle.sctp_transfer.specs.Flight.{Flight, IsContiguous, tsns_from, reports_anew, is_outdated, taken, after_sack}
-use Rattle.sctp_transfer.specs.TsnFilter.{following_tsn, tsns}
+use Rattle.sctp_transfer.specs.TsnFilter.{following_tsn}
 use Rattle.sctp_transfer.proofs.Runs.{IsRunFrom, changed-run, dropped, past-is}
 
 cum-is : (acked cum : ℕ) → acked < 2 ^ 32 → cum < 2 ^ 32 → cum ≡ (acked + distance acked cum) % 2 ^ 32

@@ -1,4 +1,4 @@
-use Rattle.std.proofs.Common.{◌≡◌, ap, sym, ◌∙◌, ℕ, Bool, None}
+use Rattle.std.proofs.Common.{◌≡◌, ap, sym, ◌∙◌, ℕ, None}
 use Rattle.std.specs.Prelude.{if◌then◌else◌, is_some}
 use Rattle.sctp_outbound.specs.outbound_queue.OutboundQueue.{Outbound, sent_next}
 use Rattle.sctp_outbound.specs.pending_queue.PendingQueue.{peeked}

@@ -1,4 +1,4 @@
-use Rattle.std.proofs.Common.{◌≡◌, ap, refl}
+use Rattle.std.proofs.Common.{ap, refl}
 use Rattle.std.specs.Prelude.{is_some}
 use Rattle.sctp_transfer.proofs.SenderStreams.{closed, open-at}
 use Rattle.sctp_transfer.proofs.sender.Sender.set_mode.Goals as goal

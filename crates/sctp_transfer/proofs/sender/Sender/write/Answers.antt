@@ -1,8 +1,5 @@
-use Rattle.std.proofs.Common.{◌≡◌, ◌<◌, ◌≤◌, ap, sym, ◌∙◌, true, false, subst, refl, inl, inr, Some, None, rules, arith, length, Result, Ok, Err}
-use Rattle.std.specs.Prelude.{IfErr, ◌⊎◌, find, Option}
+use Rattle.std.proofs.Common.{◌≡◌, ◌<◌, ◌≤◌, ap, sym, ◌∙◌, true, false, subst, inr, None, rules, arith, length}
 use Rattle.sctp_outbound.specs.pending_queue.Whole.{IsMessageOrNone}
-use Rattle.sctp_transfer.specs.declared.sender.refusal.SenderRefusal.{SenderRefusal}
-use Rattle.sctp_transfer.specs.declared.sender.refusal.SenderRefusal.TheVariants.{OutOfMemory}
 use Rattle.sctp_transfer.specs.Sender.{Transmission, is_open, is_full, is_full_of, write_refusal}
 use Rattle.sctp_transfer.proofs.SenderStreams.{closed, open-at, found-at, unknown, too-large, full, fine, one-message}
 use Rattle.sctp_transfer.proofs.sender.Sender.write.Goals as goal

@@ -1,4 +1,4 @@
-use Rattle.std.proofs.Common.{◌≡◌, ◌≤◌, ◌+◌, ◌++◌, take, drop, map, length}
+use Rattle.std.proofs.Common.{◌≡◌, ◌≤◌, ◌++◌, take, drop, map}
 use Rattle.std.specs.Prelude.{vec_capacity}
 use Rattle.sctp_lists.specs.Lists.{change_where, those}
 use Rattle.sctp_chunks.specs.SelectiveAck.{sack_of}

@@ -1,4 +1,4 @@
-use Rattle.std.proofs.Common.{◌≡◌, ◌<◌, length, drop, ap, ◌∙◌, arith, ◌+◌, ◌%◌, ◌^◌}
+use Rattle.std.proofs.Common.{◌<◌, length, ap, ◌∙◌, arith, ◌+◌, ◌%◌, ◌^◌}
 use Rattle.sctp_outbound.specs.outbound_queue.OutboundQueue.{Outbound, with_inflight}
 use Rattle.sctp_outbound.specs.payload_queue.PayloadQueue.{without_front}
 use Rattle.sctp_transfer.proofs.Runs.{front-dropped}

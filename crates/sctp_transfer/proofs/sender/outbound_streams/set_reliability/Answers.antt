@@ -1,5 +1,4 @@
-use Rattle.std.proofs.Common.{◌≡◌, ◌<◌, ap, sym, ◌∙◌, length, length-set, rules, arith, Some}
-use Rattle.std.specs.Prelude.{slice_set}
+use Rattle.std.proofs.Common.{◌<◌, ◌∙◌, length, length-set, rules}
 use Rattle.std.proofs.lemmas.List.Edits.{map_over_more}
 use Rattle.sctp_transfer.specs.Outgoing.{with_reliability}
 use Rattle.sctp_transfer.proofs.sender.outbound_streams.set_reliability.Goals as goal

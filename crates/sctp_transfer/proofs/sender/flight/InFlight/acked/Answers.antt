@@ -1,10 +1,8 @@
-use Rattle.std.proofs.Common.{◌≡◌, ◌<◌, ◌≤◌, ◌^◌, length, ap, sym, subst, ◌∙◌, arith, false}
+use Rattle.std.proofs.Common.{◌≤◌, length, ap, sym, ◌∙◌, arith}
 use Rattle.sctp_chunks.specs.SelectiveAck.{sack_of}
 use Rattle.sctp_lists.specs.Serial.{distance}
-use Rattle.sctp_outbound.specs.outbound_queue.OutboundQueue.{Outbound, with_inflight}
+use Rattle.sctp_outbound.specs.outbound_queue.OutboundQueue.{Outbound}
 use Rattle.sctp_transfer.specs.Flight.{Flight}
-use Rattle.sctp_transfer.specs.TsnFilter.{following_tsn}
-use Rattle.sctp_transfer.proofs.Runs.{IsRunFrom}
 use Rattle.sctp_transfer.proofs.Sacks.{run, count, contiguous, taken-is}
 use Rattle.sctp_transfer.proofs.sender.flight.InFlight.acked.Goals as goal
 

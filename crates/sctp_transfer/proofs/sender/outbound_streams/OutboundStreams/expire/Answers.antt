@@ -1,8 +1,7 @@
-use Rattle.std.proofs.Common.{◌≡◌, Bool, true, false, rules, sym, ap, ◌∙◌, refl, ℕ, Some, None}
-use Rattle.sctp_transfer.specs.Numbers.{IsOnlyPlace}
+use Rattle.std.proofs.Common.{◌≡◌, Bool, true, false, rules, ap, ◌∙◌, refl, ℕ}
 use Rattle.sctp_transfer.specs.declared.stream.StreamState.{StreamState}
 use Rattle.sctp_transfer.specs.Outgoing.{number, expired}
-use Rattle.sctp_transfer.proofs.StreamPlaces.{absent-find, absent-change, inside, found, changed, numbers-stay}
+use Rattle.sctp_transfer.proofs.StreamPlaces.{absent-change, inside, changed, numbers-stay}
 use Rattle.sctp_transfer.proofs.sender.outbound_streams.OutboundStreams.expire.Goals as goal
 
 expired-number : (b : Bool) (n : ℕ) (l : StreamState) → number (expired b n l) ≡ number l

@@ -1,11 +1,11 @@
-use Rattle.std.proofs.Common.{◌≡◌, rules, sym, ap, ◌∙◌, refl, ℕ, Some, None, map, length}
+use Rattle.std.proofs.Common.{◌≡◌, ap, ◌∙◌, refl, Some, map, length}
 use Rattle.std.specs.Prelude.{find}
 use Rattle.sctp_transfer.specs.Numbers.{IsOnlyPlace}
 use Rattle.sctp_transfer.specs.declared.stream.StreamState.{StreamState}
 use Rattle.sctp_transfer.specs.Outgoing.{number, numbers_of, has_number, with_reliability, fragments_with_mode}
 use Rattle.sctp_serial.specs.DataChunks.{bytes_of}
 use Rattle.sctp_transfer.proofs.SenderStreams.{bytes-are}
-use Rattle.sctp_transfer.proofs.StreamPlaces.{absent-find, absent-change, inside, found, changed, numbers-stay}
+use Rattle.sctp_transfer.proofs.StreamPlaces.{found}
 use Rattle.sctp_transfer.proofs.sender.outbound_streams.OutboundStreams.fragments_at.Goals as goal
 
 pub returns-clause-ok : goal.returns-clause-ok

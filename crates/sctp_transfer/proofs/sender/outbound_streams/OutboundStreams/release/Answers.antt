@@ -1,8 +1,6 @@
-use Rattle.std.proofs.Common.{◌≡◌, rules, sym, ap, ◌∙◌, refl, ℕ, Some, None}
-use Rattle.sctp_transfer.specs.Numbers.{IsOnlyPlace}
-use Rattle.sctp_transfer.specs.declared.stream.StreamState.{StreamState}
+use Rattle.std.proofs.Common.{rules, ap}
 use Rattle.sctp_transfer.specs.Outgoing.{number, less_by}
-use Rattle.sctp_transfer.proofs.StreamPlaces.{absent-find, absent-change, inside, found, changed, numbers-stay}
+use Rattle.sctp_transfer.proofs.StreamPlaces.{absent-change, inside, changed, numbers-stay}
 use Rattle.sctp_transfer.proofs.sender.outbound_streams.OutboundStreams.release.Goals as goal
 
 pub returns-in_default : goal.returns-in_default

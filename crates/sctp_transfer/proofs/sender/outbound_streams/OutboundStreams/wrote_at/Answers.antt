@@ -1,8 +1,7 @@
-use Rattle.std.proofs.Common.{◌≡◌, rules, sym, ap, ◌∙◌, refl, ℕ, Some, None}
+use Rattle.std.proofs.Common.{◌∙◌, refl}
 use Rattle.sctp_transfer.specs.Numbers.{IsOnlyPlace}
-use Rattle.sctp_transfer.specs.declared.stream.StreamState.{StreamState}
 use Rattle.sctp_transfer.specs.Outgoing.{number, numbers_of, wrote}
-use Rattle.sctp_transfer.proofs.StreamPlaces.{absent-find, absent-change, inside, found, changed, numbers-stay}
+use Rattle.sctp_transfer.proofs.StreamPlaces.{changed, numbers-stay}
 use Rattle.sctp_transfer.proofs.sender.outbound_streams.OutboundStreams.wrote_at.Goals as goal
 
 pub invariant_of-self : goal.invariant_of-self
