@@ -10,3 +10,4 @@ mod receiver_tests;
 pub mod receiving;
 #[cfg(test)]
 mod sender_tests;
+pub mod sending;

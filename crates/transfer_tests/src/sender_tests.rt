@@ -30,7 +30,13 @@ fn both_directions_with_loss(rt: HostRuntime) -> Result<(), Fail> {
 }
 
 // What a sender makes of a SACK up to a TSN with one block: why it refuses, if it does.
-fn refusal(alloc: Global, host: &mut Host, tsn: u32, start: u16, end: u16) -> Option<SenderRefusal> {
+fn refusal(
+    alloc: Global,
+    host: &mut Host,
+    tsn: u32,
+    start: u16,
+    end: u16,
+) -> Option<SenderRefusal> {
     let mut gap_ack_blocks = Vec::new(alloc);
     if gap_ack_blocks.push(GapAckBlock { start, end }).is_err() {
         return Some(SenderRefusal::OutOfMemory);
@@ -54,10 +60,22 @@ fn forged_sacks(rt: HostRuntime) -> Result<(), Fail> {
     for _ in 0..3 {
         assert!(rt; sends(alloc, &mut a, &mut b, true));
     }
-    assert_eq!(rt; refusal(alloc, &mut a, 3, 1, 0), Some(SenderRefusal::InflightQueueTsnPop));
-    assert_eq!(rt; refusal(alloc, &mut a, (1 << 31) - 1, 1, 0), Some(SenderRefusal::InflightQueueTsnPop));
-    assert_eq!(rt; refusal(alloc, &mut a, 0, 2, 3), Some(SenderRefusal::TsnRequestNotExist));
-    assert_eq!(rt; refusal(alloc, &mut a, 0, 0, 1), Some(SenderRefusal::TsnRequestNotExist));
+    assert_eq!(rt;
+        refusal(alloc, &mut a, 3, 1, 0),
+        Some(SenderRefusal::InflightQueueTsnPop)
+    );
+    assert_eq!(rt;
+        refusal(alloc, &mut a, (1 << 31) - 1, 1, 0),
+        Some(SenderRefusal::InflightQueueTsnPop)
+    );
+    assert_eq!(rt;
+        refusal(alloc, &mut a, 0, 2, 3),
+        Some(SenderRefusal::TsnRequestNotExist)
+    );
+    assert_eq!(rt;
+        refusal(alloc, &mut a, 0, 0, 1),
+        Some(SenderRefusal::TsnRequestNotExist)
+    );
     assert_eq!(rt; a.sender.buffered_amount(1), Some(8));
     assert_eq!(rt; refusal(alloc, &mut a, 0, 2, 2), None);
     assert_eq!(rt; a.sender.buffered_amount(1), Some(3));
