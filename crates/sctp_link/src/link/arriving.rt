@@ -67,7 +67,6 @@ pub(super) fn receive_slots(
         let Some(at) = open_streams.place_of(chunk.stream_identifier) else {
             unreachable!()
         };
-        let place = places[0] as usize;
         let new = receive_slot(
             &mut open_streams.items,
             slots,
@@ -75,7 +74,7 @@ pub(super) fn receive_slots(
             cumulative,
             duplicates,
             at,
-            place,
+            places[0] as usize,
             chunk,
         )?;
         return Ok(new);

@@ -49,7 +49,8 @@ impl<C: Checksum + Drop> Link<C> {
         requires { (k : ℕ) × (slice_get self.now.world.network k ≡ Some (Data places.now)) }
         ensures { result ≡ arrival_fits self.now.world (Some (Data places.now)) }
     {
-        let _held = self.fragments;
+        // What holds of the fields is known once one of them is read.
+        let _fragments = self.fragments;
         for at in 0..places.len() {
             if !self.slot_fits(places[at] as usize, places) {
                 return false;
@@ -82,7 +83,6 @@ impl<C: Checksum + Drop> Link<C> {
         ensures low { result.0 ≡ least ends.0 (added_on self.now.world stream places.now) }
         ensures high { result.1 ≡ greatest ends.1 (added_on self.now.world stream places.now) }
     {
-        let _held = self.fragments;
         let mut ends = ends;
         for at in 0..places.len() {
             ends = wider(ends, self.index_added(stream, places[at] as usize));
