@@ -1,22 +1,22 @@
 //! What comes to the receiver of a link, and what is read there.
 
-ghost use Rattle.std.specs.Prelude.{◌≡◌, ◌<◌, ◌≤◌, ◌+◌, ◌-◌, ◌^◌, ◌∷◌, ◌++◌, ℕ, [], true, false, None, Some, OnOk, OnErr, IfOk, IsOkUnless, MatchOption, length, slice_get, slice_index_or, map};
+ghost use Rattle.std.specs.Prelude.{◌≡◌, ◌<◌, ◌≤◌, ◌+◌, ◌-◌, ◌^◌, ◌∷◌, ℕ, List, [], true, None, Some, OnErr, IfOk, IsOkUnless, length, slice_get, slice_index_or, map, min, max, if◌then◌else◌};
 ghost use Rattle.sctp_base.specs.declared.error.Error.TheVariants.{ErrOutOfMemory};
-ghost use Rattle.sctp_lists.specs.Lists.{advanced, inserted};
+ghost use Rattle.sctp_lists.specs.Lists.{advanced};
 ghost use Rattle.sctp_chunks.specs.declared.chunk.chunk_payload_data.ChunkPayloadData.{ChunkPayloadData};
-ghost use Rattle.sctp_serial.specs.DataChunks.{chunk_before};
 ghost use Rattle.sctp_outbound.specs.payload_queue.PayloadQueue.{with_chunks};
-ghost use Rattle.sctp_serial.specs.Window;
 ghost use Rattle.sctp_model.specs.Steps.{unless};
+ghost use Rattle.sctp_model.specs.Reply as R;
+ghost use Rattle.sctp_link.specs.Replies.{reply_of};
 ghost use Rattle.sctp_model.specs.declared.event.LinkRefusal.TheVariants.{SpanTooWide};
 
-use super::{Link, put};
+use super::Link;
+use super::arriving::receive_slots;
 use crate::datagram::read_data;
 use crate::event::{LinkRefusal, Reply};
 use crate::record::Kind;
 use sctp_base::error::Result;
 use sctp_base::util::{Checksum, sna32lte};
-use sctp_chunks::chunk::chunk_payload_data::ChunkPayloadData;
 use sctp_queues::chunks::{Chunks, Fragments};
 use sctp_queues::payload_queue::PayloadQueue;
 
@@ -24,12 +24,11 @@ impl<C: Checksum + Drop> Link<C> {
     ghost use Rattle.sctp_model.specs.World.{Data};
     ghost use Rattle.sctp_model.specs.Messages.{message_at, message_of, index_of, tsn_of, is_open};
     ghost use Rattle.sctp_model.specs.Receiver.{is_new, is_held, held_on, next_of, least, greatest};
-    ghost use Rattle.sctp_model.specs.Contents.{chunk_at};
     ghost use Rattle.sctp_model.specs.Queues.{set_of};
-    ghost use Rattle.sctp_model.specs.Changes.{slot_received};
     ghost use Rattle.sctp_model.specs.Steps.{IsRight, refusal_of, is_for_receiver, arrival_fits};
     ghost use Rattle.sctp_model.specs.declared.event.Event.TheVariants as E;
     ghost use Rattle.sctp_link.specs.Replies.{reply_of};
+    ghost use Rattle.sctp_link.specs.Receiving.{LiesSomewhere, adds_on, added_on, slot_fits};
 
     /// Why datagram k is not taken by the receiver, if it is not.
     pub(super) fn refusal_arrive(&self, k: u64) -> Option<LinkRefusal>
@@ -39,16 +38,32 @@ impl<C: Checksum + Drop> Link<C> {
             return Some(LinkRefusal::NoSuchDatagram);
         }
         match &self.network[k as usize].kind {
-            Kind::Data { place } => unless_fits(self.span_fits(*place as usize)),
+            Kind::Data { places } => unless_fits(self.span_fits(places)),
             Kind::Forward { upto, messages } => unless_fits(self.skip_fits(*upto, messages)),
             Kind::Sack { .. } => Some(LinkRefusal::NoSuchDatagram),
         }
     }
 
-    // Whether stream sequence numbers can still be told apart once the slot has come (RFC 4960 6.5).
-    fn span_fits(&self, place: usize) -> bool
-        requires { (k : ℕ) × (slice_get self.now.world.network k ≡ Some (Data (place ∷ []))) }
-        ensures { result ≡ arrival_fits self.now.world (Some (Data (place ∷ []))) }
+    // Whether stream sequence numbers can still be told apart once these slots have come (RFC 4960 6.5).
+    fn span_fits(&self, places: &[u64]) -> bool
+        requires { (k : ℕ) × (slice_get self.now.world.network k ≡ Some (Data places.now)) }
+        ensures { result ≡ arrival_fits self.now.world (Some (Data places.now)) }
+    {
+        // What holds of the fields is known once one of them is read.
+        let _fragments = self.fragments;
+        for at in 0..places.len() {
+            if !self.slot_fits(places[at] as usize, places) {
+                return false;
+            }
+        }
+        true
+    }
+
+    // So on the stream of the slot at a place.
+    fn slot_fits(&self, place: usize, places: &[u64]) -> bool
+        requires lies { (k : ℕ) × (slice_get self.now.world.network k ≡ Some (Data places.now)) }
+        requires place { LiesSomewhere self.now.world place }
+        ensures { result ≡ slot_fits self.now.world places.now place }
     {
         let message = &self.messages[self.slots[place].message as usize];
         if !message.ordered {
@@ -57,8 +72,35 @@ impl<C: Checksum + Drop> Link<C> {
         if !self.is_new(place) {
             return true;
         }
-        let (low, high) = self.ends(message.stream);
-        high.max(message.index) < low.min(message.index) + 0x8000
+        let ends = self.ends(message.stream);
+        let (low, high) = self.widened(message.stream, places, ends);
+        high.saturating_sub(low) < 0x8000
+    }
+
+    // Ends, widened by the indexes that the new ones of these slots add on a stream.
+    fn widened(&self, stream: u16, places: &[u64], ends: (u64, u64)) -> (u64, u64)
+        requires { (k : ℕ) × (slice_get self.now.world.network k ≡ Some (Data places.now)) }
+        ensures low { result.0 ≡ least ends.0 (added_on self.now.world stream places.now) }
+        ensures high { result.1 ≡ greatest ends.1 (added_on self.now.world stream places.now) }
+    {
+        let mut ends = ends;
+        for at in 0..places.len() {
+            ends = wider(ends, self.index_added(stream, places[at] as usize));
+        }
+        ends
+    }
+
+    // The index that the slot at a place adds on a stream, where it is new and of an ordered message of it.
+    fn index_added(&self, stream: u16, place: usize) -> Option<u64>
+        requires { LiesSomewhere self.now.world place }
+        ensures { result ≡ (if adds_on self.now.world stream place then Some (index_of self.now.world (message_of self.now.world place)) else None) }
+    {
+        let message = &self.messages[self.slots[place].message as usize];
+        let adds = (message.stream == stream) & message.ordered & self.is_new(place);
+        if !adds {
+            return None;
+        }
+        Some(message.index)
     }
 
     // The least and the greatest of the index expected next and those of the messages held: they stand at the ends of the queue.
@@ -110,76 +152,40 @@ impl<C: Checksum + Drop> Link<C> {
         ensures err { OnErr result (self.new.world ≡ self.old.world) }
         ensures memory { IsOkUnless result ErrOutOfMemory }
     {
-        match self.network[k as usize].kind {
-            Kind::Data { place } => self.arrive_data(k, place as usize),
-            Kind::Forward { upto, .. } => self.arrive_skip(k, upto),
+        match &self.network[k as usize].kind {
+            Kind::Data { .. } => self.arrive_data(k),
+            Kind::Forward { upto, .. } => {
+                let upto = *upto;
+                self.arrive_skip(k, upto)
+            }
             Kind::Sack { .. } => unreachable!(),
         }
     }
 
-    // Takes the DATA chunk of datagram k, that of the slot at a place.
-    fn arrive_data(&mut self, k: u64, place: usize) -> Result<Reply>
+    // Takes the DATA chunks of datagram k, one after another.
+    fn arrive_data(&mut self, k: u64) -> Result<Reply>
         requires none { refusal_of self.old.world (E.Arrive k) ≡ None }
-        requires lies { slice_get self.old.world.network k ≡ Some (Data (place ∷ [])) }
+        requires lies { (places : List ℕ) × (slice_get self.old.world.network k ≡ Some (Data places)) }
         ensures ok { IfOk result (λ reply. IsRight self.old.world (E.Arrive k) (reply_of reply) self.new.world) }
         ensures checksum { self.new.checksum ≡ self.old.checksum }
         ensures err { OnErr result (self.new.world ≡ self.old.world) }
         ensures memory { IsOkUnless result ErrOutOfMemory }
     {
-        let chunk = self.receive(k, place)?;
-        if self.is_new(place) {
-            self.keep(place, chunk)?;
-            return Ok(Reply::New);
-        }
-        self.repeat(place, chunk)?;
-        Ok(Reply::Repeat)
-    }
-
-    // Reads the bytes of datagram k, which has the DATA chunk of the slot at a place.
-    fn receive(&self, k: u64, place: usize) -> Result<ChunkPayloadData>
-        requires { slice_get self.now.world.network k ≡ Some (Data (place ∷ [])) }
-        ensures made { IfOk result (λ c. place < length self.now.world.slots) }
-        ensures chunk { IfOk result (λ c. c ≡ chunk_at self.now.world place) }
-        ensures memory { IsOkUnless result ErrOutOfMemory }
-    {
-        read_data(self.alloc, &self.network[k as usize].bytes, &self.checksum)
-    }
-
-    // Notes a slot that came again.
-    fn repeat(&mut self, place: usize, chunk: ChunkPayloadData) -> Result<()>
-        requires comes { (k : ℕ) × (refusal_of self.old.world (E.Arrive k) ≡ None) × (slice_get self.old.world.network k ≡ Some (Data (place ∷ []))) }
-        requires old { is_new self.old.world place ≡ false }
-        requires chunk { chunk ≡ chunk_at self.old.world place }
-        ensures ok { OnOk result (self.new.world ≡ slot_received self.old.world place) }
-        ensures checksum { self.new.checksum ≡ self.old.checksum }
-        ensures err { OnErr result (self.new.world ≡ self.old.world) }
-        ensures memory { IsOkUnless result ErrOutOfMemory }
-    {
-        self.duplicates.reserve(1)?;
-        self.filter.push(chunk, self.cumulative_tsn)?;
-        put(&mut self.duplicates, place as u64);
-        Ok(())
-    }
-
-    // Keeps the fragment of a slot that came for the first time.
-    fn keep(&mut self, place: usize, chunk: ChunkPayloadData) -> Result<()>
-        requires comes { (k : ℕ) × (refusal_of self.old.world (E.Arrive k) ≡ None) × (slice_get self.old.world.network k ≡ Some (Data (place ∷ []))) }
-        requires fresh { is_new self.old.world place ≡ true }
-        requires chunk { chunk ≡ chunk_at self.old.world place }
-        ensures ok { OnOk result (self.new.world ≡ slot_received self.old.world place) }
-        ensures checksum { self.new.checksum ≡ self.old.checksum }
-        ensures err { OnErr result (self.new.world ≡ self.old.world) }
-        ensures memory { IsOkUnless result ErrOutOfMemory }
-    {
-        let number = self.slots[place].message;
-        let Some(at) = self.open_streams.place_of(chunk.stream_identifier) else {
+        let chunks = read_data(self.alloc, &self.network[k as usize].bytes, &self.checksum)?;
+        let Kind::Data { places } = &self.network[k as usize].kind else {
             unreachable!()
         };
-        self.filter.reserve(1)?;
-        self.open_streams.items[at].keep(&chunk, number)?;
-        self.cumulative_tsn = note(&mut self.filter, chunk, self.cumulative_tsn);
-        self.slots[place].arrived = true;
-        Ok(())
+        let new = receive_slots(
+            self.alloc,
+            &mut self.open_streams,
+            &mut self.slots,
+            &mut self.filter,
+            &mut self.cumulative_tsn,
+            &mut self.duplicates,
+            places,
+            &chunks,
+        )?;
+        Ok(reply_to_data(new))
     }
 
     /// Reads the next message of a stream.
@@ -214,6 +220,17 @@ impl<C: Checksum + Drop> Link<C> {
     }
 }
 
+// Ends, widened by an index where there is one.
+fn wider(ends: (u64, u64), index: Option<u64>) -> (u64, u64)
+    ensures some { (k : ℕ) → index ≡ Some k → result ≡ (min ends.0 k, max ends.1 k) }
+    ensures none { index ≡ None → result ≡ ends }
+{
+    let Some(index) = index else {
+        return ends;
+    };
+    (ends.0.min(index), ends.1.max(index))
+}
+
 // The refusal of what fails the span test.
 fn unless_fits(fits: bool) -> Option<LinkRefusal>
     ensures { result ≡ unless fits SpanTooWide None }
@@ -225,36 +242,19 @@ fn unless_fits(fits: bool) -> Option<LinkRefusal>
     }
 }
 
+// The reply to DATA chunks of which one is new, or none.
+fn reply_to_data(new: bool) -> Reply
+    ensures { reply_of result ≡ (if new then R.New else R.Repeat) }
+{
+    if new { Reply::New } else { Reply::Repeat }
+}
+
 // The TSN of the first fragment of a message.
 fn first_tsn(chunks: &Chunks) -> u32
     requires { 0 < length chunks.now.set.chunks }
     ensures { (d : ChunkPayloadData) → result ≡ (slice_index_or chunks.now.set.chunks 0 d).tsn }
 {
     chunks.fragments()[0].tsn
-}
-
-// Puts the TSN of a new chunk where room was made for it, and answers the cumulative TSN that follows.
-fn note(filter: &mut PayloadQueue, chunk: ChunkPayloadData, cumulative: u32) -> u32
-    requires room { 0 < filter.old.room }
-    requires fresh { Window.is_new filter.old.chunks chunk.tsn cumulative ≡ true }
-    requires window { Window.IsWindow cumulative filter.old.chunks chunk.tsn }
-    ensures moved { advanced cumulative (map (λ c. c.tsn) (inserted chunk_before (record chunk { user_data = [] }) filter.old.chunks)) ≡ record { cum = result; held = map (λ c. c.tsn) filter.new.chunks } }
-    ensures duplicates { filter.new.duplicates ≡ filter.old.duplicates }
-{
-    let mark = without_data(chunk);
-    // The count of bytes, to which the mark adds none, fits.
-    let _held = filter.get_num_bytes();
-    let _ = filter.push(mark, cumulative);
-    advance(filter, cumulative)
-}
-
-// The chunk without its bytes, which a filter of TSNs does not need.
-fn without_data(chunk: ChunkPayloadData) -> ChunkPayloadData
-    ensures { result ≡ record chunk { user_data = [] } }
-{
-    let mut chunk = chunk;
-    chunk.user_data.clear();
-    chunk
 }
 
 // Moves the cumulative TSN over the chunks that stand next to it, which leave the filter (RFC 4960 6.2).

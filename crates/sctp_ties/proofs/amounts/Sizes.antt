@@ -1,6 +1,6 @@
 -- No fragment makes its message larger than the link takes: what the queue counts with it are fragments of its message.
 use Rattle.std.proofs.Common.{◌≡◌, ℕ, zero, suc, ◌+◌, ◌-◌, ◌<◌, ◌≤◌, ◌%◌, ◌^◌, Bool, true, false, List, [], ◌∷◌, ◌++◌, length, map, refl, ap, sym, ◌∙◌, inl, inr, arith}
-use Rattle.std.specs.Prelude.{◌⊎◌, if◌then◌else◌, ◌==◌, ◌&&◌, not, nat_lt, reverse, slice_get, Some, None}
+use Rattle.std.specs.Prelude.{◌⊎◌, if◌then◌else◌, ◌==◌, ◌&&◌, not, nat_lt, reverse}
 use Rattle.std.specs.List.{list_any}
 use Rattle.std.proofs.Math.Path.{subst}
 use Rattle.std.proofs.lemmas.Bool.{cases_lt}
@@ -20,7 +20,7 @@ use Rattle.sctp_reassembly.specs.reassembly_queue.Fragments.{next_tsn, has_ssn, 
 use Rattle.sctp_serial.specs.DataChunks.{bytes_of, has_tsn}
 use Rattle.sctp_reassembly.specs.reassembly_queue.Sizes.{previous_tsn, bytes_down, bytes_up, back_from, on_from, size_before, size_after, projected_size}
 use Rattle.sctp_reassembly.specs.reassembly_queue.ReassemblyQueue.{ReassemblyState, is_too_large}
-use Rattle.sctp_model.specs.World.{Setup, World, Data}
+use Rattle.sctp_model.specs.World.{Setup, World}
 use Rattle.sctp_model.specs.Messages.{message_at, slot_at, message_of, is_ordered_on, index_of, ssn_of, tsn_of, fragment_at, fragment_count, has_fragment, sent_of}
 use Rattle.sctp_model.specs.Receiver.{arrived_at, is_new, is_held}
 use Rattle.sctp_model.specs.Contents.{chunk_at}
@@ -28,20 +28,15 @@ use Rattle.sctp_model.specs.Queues.{set_of, is_loose}
 use Rattle.sctp_model.specs.Amounts
 use Rattle.sctp_model.proofs.sender.Shape.{shape}
 use Rattle.sctp_model.proofs.sender.Sender.{Sender}
-use Rattle.sctp_model.specs.declared.event.Event.TheVariants as E
-use Rattle.sctp_model.specs.Steps.{History, world_of, refusal_of, IsRun}
-use Rattle.sctp_model.specs.Laws.{IsSetup}
-use Rattle.sctp_model.proofs.sender.SenderRun.{Sane, sane-run}
-use Rattle.sctp_model.proofs.receiver.SoundRun.{slots_come_sound}
-use Rattle.sctp_model.proofs.acknowledgement.Bytes.{slots-bytes, fragments-bytes, size-some}
+use Rattle.sctp_model.proofs.sender.SenderRun.{Sane}
+use Rattle.sctp_model.proofs.acknowledgement.Bytes.{slots-bytes, fragments-bytes}
 use Rattle.sctp_ties.specs.Holds.{has_come, reassembly_of}
 use Rattle.sctp_model.specs.Sound.{IsSpan, Sound, SoundLoose}
 use Rattle.sctp_ties.proofs.arriving.Arrival
 use Rattle.sctp_ties.proofs.reading.Line
 use Rattle.sctp_ties.proofs.arriving.Loose
-use Rattle.sctp_ties.proofs.amounts.NoLarger.{no-larger}
-use Rattle.sctp_ties.proofs.sending.SlotsGoOn.{AllGoOn, goes-run}
-use Rattle.sctp_ties.proofs.arriving.Carried.{Carried, enters, carried-run}
+use Rattle.sctp_ties.proofs.sending.SlotsGoOn.{AllGoOn}
+use Rattle.sctp_ties.proofs.arriving.Carried.{Carried, enters}
 use Rattle.sctp_ties.proofs.arriving.SlotArrives
 use Rattle.sctp_ties.proofs.reading.Taken.{held}
 
@@ -306,15 +301,3 @@ module _ (setup : Setup) (w : World) (p : ℕ) (q : ReassemblyState) (g : Sane s
       ap (λ h. ((chunk_at w p).stream_identifier == q.si) && nat_lt q.max_message_size (projected_size (chunk_at w p) h.ordered h.loose)) holds
       ∙ ap (λ m. ((chunk_at w p).stream_identifier == q.si) && nat_lt m (projected_size (chunk_at w p) (reassembly_of w s).ordered (reassembly_of w s).loose)) limit
       ∙ ap (λ b. ((chunk_at w p).stream_identifier == q.si) && b) no ∙ and-none ((chunk_at w p).stream_identifier == q.si)
-
--- in every history, for a datagram of one fragment that the span test lets come
-pub never-too-large-run : (setup : Setup) (h : History) (k p : ℕ) (q : ReassemblyState) → IsSetup setup → IsRun setup h → slice_get (world_of setup h).network k ≡ Some (Data (p ∷ [])) → refusal_of (world_of setup h) (E.Arrive k) ≡ None → is_new (world_of setup h) p ≡ true
-    → q.held ≡ reassembly_of (world_of setup h) (message_at (world_of setup h) (message_of (world_of setup h) p)).stream → q.max_message_size ≡ setup.largest → is_too_large (chunk_at (world_of setup h) p) q ≡ false
-never-too-large-run setup h k p q is run e ok new holds limit =
-    let w = world_of setup h in
-    let g = sane-run setup h run in
-    let a = slots_come_sound setup h is run k [] p [] ok e in
-    let c = carried-run setup h k p run e in
-    let largest : w.setup.largest ≡ setup.largest = ap (λ t. t.largest) g.setup_is in
-    never-too-large setup w p q g a.sound a.loose (goes-run setup h run) (size-some setup w is g) c new (λ o. a.near (message_at w (message_of w p)).stream (SlotArrives.ordered-on w (message_at w (message_of w p)).stream p (enters w p c new) o) new)
-    (omega (arith, largest, no-larger setup h (message_of w p) is run (a.sound.made (message_of w p) p (Arrival.has-fragment w p c.fragment)))) holds (limit ∙ sym largest)

@@ -1,15 +1,13 @@
 -- A slot that a DATA datagram carries, and the forms that the record may have after it.
 use Rattle.std.proofs.Common.{◌≡◌, ℕ, ◌<◌, Bool, true, false, [], ◌∷◌, ◌++◌, length, Option, Some, None, refl, arith}
-use Rattle.std.specs.Prelude.{if◌then◌else◌, is_some, slice_get}
+use Rattle.std.specs.Prelude.{if◌then◌else◌, is_some}
 use Rattle.sctp_lists.proofs.More.{fails, length-kept-positive}
-use Rattle.sctp_model.specs.World.{Setup, World, StreamRecord, Data}
+use Rattle.sctp_model.specs.World.{Setup, World, StreamRecord}
 use Rattle.sctp_model.specs.Messages.{message_at, slot_at, message_of, stream_at, has_fragment}
 use Rattle.sctp_model.specs.Receiver.{is_new}
 use Rattle.sctp_model.specs.Changes.{stream_changed, with_whole, becomes_whole, slot_received}
-use Rattle.sctp_model.specs.Steps.{History, world_of, IsRun}
 use Rattle.sctp_model.proofs.sender.Shape.{shape, sent}
-use Rattle.sctp_model.proofs.sender.SenderRun.{Sane, sane-run}
-use Rattle.sctp_model.proofs.sender.Network.{fit-run, fit-at}
+use Rattle.sctp_model.proofs.sender.SenderRun.{Sane}
 use Rattle.sctp_ties.proofs.arriving.Arrival
 use Rattle.sctp_ties.proofs.arriving.Arrival.{with_arrived}
 use Rattle.sctp_ties.proofs.arriving.SlotArrives.{Enters}
@@ -24,7 +22,7 @@ pub enters : (w : World) (p : ℕ) → Carried w p → is_new w p ≡ true → E
 enters w p c e = record { made = c.made; new = e; fragment = c.fragment; stream = refl; alive = c.alive }
 
 -- each slot that has a fragment is such a one
-carried : (setup : Setup) (w : World) (p : ℕ) → Sane setup w → p < length w.slots → (slot_at w p).is_end_mark ≡ false → Carried w p
+pub carried : (setup : Setup) (w : World) (p : ℕ) → Sane setup w → p < length w.slots → (slot_at w p).is_end_mark ≡ false → Carried w p
 carried setup w p g lt mark = record {
   made = lt;
   fragment = mark;
@@ -38,13 +36,6 @@ carried setup w p g lt mark = record {
     some-of : (o : Option StreamRecord) → stream_at w (message_at w (message_of w p)).stream ≡ o → is_some o ≡ true → (r : StreamRecord) × (stream_at w (message_at w (message_of w p)).stream ≡ Some r)
     some-of None e h = cc
     some-of (Some r) e h = (r, e)
-
--- what a datagram of one fragment carries, in every history
-pub carried-run : (setup : Setup) (h : History) (k p : ℕ) → IsRun setup h → slice_get (world_of setup h).network k ≡ Some (Data (p ∷ [])) → Carried (world_of setup h) p
-carried-run setup h k p run e =
-    let w = world_of setup h in
-    let f = fit-at (shape w) w.network k (Data (p ∷ [])) (fit-run setup h run) e in
-    carried setup w p (sane-run setup h run) f.0 f.1
 
 -- the record after a new one, by whether its message becomes whole
 abbrev pub noted : World → ℕ → Bool → World

@@ -1,29 +1,27 @@
 -- The span test of a datagram of one fragment, from the ends of what a stream holds.
-use Rattle.std.proofs.Common.{◌≡◌, ℕ, zero, suc, ◌+◌, ◌-◌, ◌<◌, ◌≤◌, ◌^◌, Bool, true, false, List, [], ◌∷◌, ◌++◌, length, map, get_or, Some, refl, ap, sym, ◌∙◌, arith}
-use Rattle.std.specs.Prelude.{if◌then◌else◌, ◌==◌, ◌&&◌, ◌||◌, min, max, nat_lt, nat_le, slice_get, slice_index_or, is_some}
+use Rattle.std.proofs.Common.{◌≡◌, ℕ, zero, suc, ◌+◌, ◌-◌, ◌<◌, ◌≤◌, ◌^◌, Bool, true, false, List, [], ◌∷◌, ◌++◌, length, map, get_or, refl, ap, sym, ◌∙◌, arith}
+use Rattle.std.specs.Prelude.{if◌then◌else◌, ◌==◌, ◌||◌, min, max, nat_le, slice_index_or}
 use Rattle.std.specs.List.{list_any, list_all}
 use Rattle.std.proofs.Math.Path.{subst}
 use Rattle.std.proofs.lemmas.Bool.Decides.{nat_tests}
-use Rattle.sctp_lists.specs.Kept.{kept, passing}
+use Rattle.sctp_lists.specs.Kept.{kept}
 use Rattle.sctp_lists.proofs.KeptLemmas.{front-kept, FrontOf}
-use Rattle.sctp_lists.proofs.More.{fails, not_both, both, and, same_test, length-kept-positive}
+use Rattle.sctp_lists.proofs.More.{both, and, length-kept-positive}
 use Rattle.sctp_lists.proofs.Cases.{same-yes, same-is, or-left, or-right}
 use Rattle.sctp_chunks.specs.declared.chunk.chunk_payload_data.ChunkPayloadData.{ChunkPayloadData}
 use Rattle.sctp_chunks.specs.ChunkSet.{ChunkSet}
-use Rattle.sctp_model.specs.World.{Setup, World, StreamRecord, Data}
+use Rattle.sctp_model.specs.World.{Setup, World, StreamRecord}
 use Rattle.sctp_model.specs.Messages.{message_at, slot_at, message_of, stream_of, is_ordered_on, index_of, fragment_count, has_fragment, tsn_of, place_of}
-use Rattle.sctp_model.specs.Receiver.{is_new, arrived_of, has_arrived, is_held, is_whole, held_on, next_of, least, greatest, fits, spans_fit}
+use Rattle.sctp_model.specs.Receiver.{arrived_of, has_arrived, is_held, is_whole, held_on, next_of, least, greatest, fits}
 use Rattle.sctp_model.specs.Changes.{stream_changed, with_whole, slot_received}
 use Rattle.sctp_model.specs.Contents.{chunk_at}
 use Rattle.sctp_model.specs.Queues.{set_of, whole_set_of}
-use Rattle.sctp_model.specs.Steps.{History, world_of, IsRun, arrival_fits}
+use Rattle.sctp_model.specs.Steps.{History, world_of, IsRun}
 use Rattle.sctp_model.specs.Laws.{IsSetup}
 use Rattle.sctp_model.proofs.sender.SenderRun.{sane-run}
 use Rattle.sctp_model.proofs.sender.Shape.{shape}
 use Rattle.sctp_model.proofs.sender.SenderSteps.{of-has}
 use Rattle.sctp_model.proofs.sender.Made.{place-back}
-use Rattle.sctp_model.proofs.receiver.Spans.{spans_fit_always}
-use Rattle.sctp_model.proofs.receiver.SoundRun.{span-fits, span-open}
 use Rattle.sctp_ties.specs.Holds.{has_come, ordered_sets}
 use Rattle.sctp_model.specs.Sound.{IsSpan, Sound, SoundLoose}
 use Rattle.sctp_ties.proofs.arriving.Arrival
@@ -31,9 +29,7 @@ use Rattle.sctp_ties.proofs.arriving.Arrival.{with_arrived}
 use Rattle.sctp_ties.proofs.reading.Keeps
 use Rattle.sctp_ties.proofs.reading.Line
 use Rattle.sctp_ties.proofs.arriving.Loose.{get-map, length-map}
-use Rattle.sctp_ties.proofs.arriving.SlotArrives.{repeated}
-use Rattle.sctp_ties.proofs.arriving.Carried.{Carried, carried-run, noted, by_step}
-use Rattle.sctp_ties.proofs.arriving.Stays.{by_place}
+use Rattle.sctp_ties.proofs.arriving.Carried.{noted, by_step}
 use Rattle.sctp_ties.proofs.reading.Taken.{held, is-held, whole-ordered}
 use Rattle.sctp_ties.proofs.arriving.UnorderedStep
 
@@ -85,12 +81,12 @@ fits-span w s more sp =
 
 -- ## What a slot leaves of a record but for its message
 
-record Only (w v : World) (n : ℕ) : Type 0 where
-  count : length v.messages ≡ length w.messages
-  next : (t : ℕ) → next_of v t ≡ next_of w t
-  index : (k : ℕ) → index_of v k ≡ index_of w k
-  on : (t k : ℕ) → is_ordered_on v t k ≡ is_ordered_on w t k
-  held : (t k : ℕ) → (k ≡ n → ⊥) → is_held v t k ≡ true → is_held w t k ≡ true
+pub record Only (w v : World) (n : ℕ) : Type 0 where
+  pub count : length v.messages ≡ length w.messages
+  pub next : (t : ℕ) → next_of v t ≡ next_of w t
+  pub index : (k : ℕ) → index_of v k ≡ index_of w k
+  pub on : (t k : ℕ) → is_ordered_on v t k ≡ is_ordered_on w t k
+  pub held : (t k : ℕ) → (k ≡ n → ⊥) → is_held v t k ≡ true → is_held w t k ≡ true
 
 held-back : (v : World) (s n t k : ℕ) → is_held (stream_changed v s (with_whole n)) t k ≡ true → is_held v t k ≡ true
 held-back v s n t k h =
@@ -104,7 +100,7 @@ held-back v s n t k h =
       due = ap (λ b. b || nat_le (stream_of v t).named (index_of v k)) whole ∙ ap (λ m. is_whole u k || nat_le m (index_of v k)) (sym (Keeps.named-changed v s (with_whole n) (λ r. refl) (λ r. refl) t)) ∙ x.due;
     })
 
-only-slot : (w : World) (p : ℕ) → Only w (slot_received w p) (message_of w p)
+pub only-slot : (w : World) (p : ℕ) → Only w (slot_received w p) (message_of w p)
 only-slot w p = by_step (λ u. Only w u (message_of w p)) w p (record { count = refl; next = λ t. refl; index = λ k. refl; on = λ t k. refl; held = λ t k ne h. h }) (λ e b h. new b)
   where
     back : (t k : ℕ) → (k ≡ message_of w p → ⊥) → is_held (with_arrived w p) t k ≡ true → is_held w t k ≡ true
@@ -125,7 +121,7 @@ only-slot w p = by_step (λ u. Only w u (message_of w p)) w p (record { count = 
         }
 
 -- of each stream that was open, after a slot too
-all-streams : (w : World) (p : ℕ) (t u : ℕ → Bool) → ((x : ℕ) → t x ≡ true → u x ≡ true) → list_all (λ r. t r.stream) w.streams ≡ true → list_all (λ r. u r.stream) (slot_received w p).streams ≡ true
+pub all-streams : (w : World) (p : ℕ) (t u : ℕ → Bool) → ((x : ℕ) → t x ≡ true → u x ≡ true) → list_all (λ r. t r.stream) w.streams ≡ true → list_all (λ r. u r.stream) (slot_received w p).streams ≡ true
 all-streams w p t u more a = by_step (λ v. list_all (λ r. u r.stream) v.streams ≡ true) w p (same w.streams a) (λ e b h. new b)
   where
     same : (rs : List StreamRecord) → list_all (λ r. t r.stream) rs ≡ true → list_all (λ r. u r.stream) rs ≡ true
@@ -160,112 +156,6 @@ lowest w s = least (next_of w s) (map (index_of w) (held_on w s))
 
 abbrev pub highest : World → ℕ → ℕ
 highest w s = greatest (next_of w s) (map (index_of w) (held_on w s))
-
--- with one index more
-fits-one : (w : World) (s i : ℕ) → fits w (i ∷ []) s ≡ nat_lt (max (highest w s) i) (min (lowest w s) i + 2 ^ 15)
-fits-one w s i =
-    let n = next_of w s in
-    let xs = map (index_of w) (held_on w s) in
-    ap (λ g. nat_lt g (least n (xs ++ i ∷ []) + 2 ^ 15)) (greatest-append n xs (i ∷ []))
-    ∙ ap (λ l. nat_lt (max (highest w s) i) (l + 2 ^ 15)) (least-append n xs (i ∷ []))
-
--- the indexes that a new message n adds on stream t
-abbrev adds : World → ℕ → ℕ → List ℕ
-adds w t n = map (index_of w) (passing (is_ordered_on w t) (n ∷ []))
-
-adds-by : (w : World) (t n : ℕ) (b : Bool) → is_ordered_on w t n ≡ b → adds w t n ≡ map (index_of w) (if b then n ∷ [] else [])
-adds-by w t n b e = ap (λ c. map (index_of w) (if c then n ∷ [] else [])) e
-
-module _ (w : World) (p : ℕ) (all : spans_fit w [] ≡ true) where
-  abbrev n : ℕ
-  n = message_of w p
-
-  abbrev s : ℕ
-  s = (message_at w (message_of w p)).stream
-
-  -- what the slot's message adds on stream t lies within the span of t after the slot too
-  spans-after : (t : ℕ) → IsSpan w t (adds w t n) → IsSpan (slot_received w p) t (adds (slot_received w p) t n)
-  spans-after t sp =
-      let o = only-slot w p in
-      let v = slot_received w p in
-      let same : adds v t n ≡ adds w t n = ap (λ c. map (index_of v) (if c then n ∷ [] else [])) (o.on t n) ∙ by (is_ordered_on w t n) in
-      record {
-        low = sp.low;
-        high = sp.high;
-        short = sp.short;
-        next = (omega (arith, o.next t, sp.next), omega (arith, o.next t, sp.next));
-        held = λ k lt h. by_place {C = (sp.low ≤ index_of v k) × (index_of v k ≤ sp.high)} k n
-            (λ ne. let x = sp.held k (omega (arith, lt, o.count)) (o.held t k ne h) in (omega (arith, x, o.index k), omega (arith, x, o.index k)))
-            (λ z. let y = sp.others (index_of w k) (mine k z h) in (omega (arith, y, o.index k), omega (arith, y, o.index k)));
-        others = λ y e. sp.others y (sym (ap (list_any (λ z. z == y)) same) ∙ e);
-      }
-    where
-      by : (b : Bool) → map (index_of (slot_received w p)) (if b then n ∷ [] else []) ≡ map (index_of w) (if b then n ∷ [] else [])
-      by true = ap (λ i. i ∷ []) ((only-slot w p).index n)
-      by false = refl
-
-      mine : (k : ℕ) → k ≡ n → is_held (slot_received w p) t k ≡ true → list_any (λ z. z == index_of w k) (adds w t n) ≡ true
-      mine k z h =
-          let on : is_ordered_on w t n ≡ true = sym ((only-slot w p).on t n) ∙ ap (is_ordered_on (slot_received w p) t) (sym z) ∙ (held (slot_received w p) t k h).on in
-          ap (list_any (λ y. y == index_of w k)) (adds-by w t n true on) ∙ ap (λ j. (index_of w n == index_of w j) || false) z ∙ ap (λ b. b || false) (same-yes (index_of w n))
-
-  after-fits : ((t : ℕ) → fits w [] t ≡ true → fits w (adds w t n) t ≡ true) → spans_fit (slot_received w p) (n ∷ []) ≡ true
-  after-fits one =
-      all-streams w p (λ t. fits w [] t) (λ t. fits (slot_received w p) (adds (slot_received w p) t n) t)
-      (λ t e. fits-span (slot_received w p) t (adds (slot_received w p) t n) (spans-after t (span-fits w t (adds w t n) (one t e)))) all
-
-  before-fits : ((t : ℕ) → fits w [] t ≡ true → fits w (adds w t n) t ≡ true) → spans_fit w (n ∷ []) ≡ true
-  before-fits one = each w.streams all
-    where
-      each : (rs : List StreamRecord) → list_all (λ r. fits w [] r.stream) rs ≡ true → list_all (λ r. fits w (adds w r.stream n) r.stream) rs ≡ true
-      each [] e = refl
-      each (r ∷ rs) e = let c = both (fits w [] r.stream) (list_all (λ r. fits w [] r.stream) rs) e in and (fits w (adds w r.stream n) r.stream) (list_all (λ r. fits w (adds w r.stream n) r.stream) rs) (one r.stream c.0) (each rs c.1)
-
-  -- an unordered message adds nothing
-  unordered-adds : (message_at w n).ordered ≡ false → (t : ℕ) → fits w [] t ≡ true → fits w (adds w t n) t ≡ true
-  unordered-adds kind t e =
-      let off : is_ordered_on w t n ≡ false = fails (is_ordered_on w t n) (λ h. not_both (sym kind ∙ Line.on-ordered w t n h)) in
-      ap (λ more. fits w more t) (adds-by w t n false off) ∙ e
-
-  -- an ordered one adds its index on its stream alone
-  ordered-adds : fits w (index_of w n ∷ []) s ≡ true → (t : ℕ) → fits w [] t ≡ true → fits w (adds w t n) t ≡ true
-  ordered-adds one t e = by (is_ordered_on w t n) refl
-    where
-      by : (b : Bool) → is_ordered_on w t n ≡ b → fits w (adds w t n) t ≡ true
-      by true on = ap (λ more. fits w more t) (adds-by w t n true on) ∙ ap (fits w (index_of w n ∷ [])) (sym (Line.on-stream w t n on)) ∙ one
-      by false off = ap (λ more. fits w more t) (adds-by w t n false off) ∙ e
-
-  module _ (c : Carried w p) where
-    mine-on : (message_at w n).ordered ≡ true → is_ordered_on w s n ≡ true
-    mine-on kind = rw (kind, c.alive) (rw (same-yes s) refl)
-
-    ordered-before : (message_at w n).ordered ≡ true → spans_fit w (n ∷ []) ≡ fits w (index_of w n ∷ []) s
-    ordered-before kind = same_test (spans_fit w (n ∷ [])) (fits w (index_of w n ∷ []) s)
-        (λ e. sym (ap (λ more. fits w more s) (adds-by w s n true (mine-on kind))) ∙ fits-span w s (adds w s n) (span-open w s (n ∷ []) e (ap is_some c.known.1)))
-        (λ e. before-fits (ordered-adds e))
-
-    test : (b : Bool) → (message_at w n).ordered ≡ b → (spans_fit w (n ∷ []) && spans_fit (slot_received w p) (n ∷ [])) ≡ (if b then nat_lt (max (highest w s) (index_of w n)) (min (lowest w s) (index_of w n) + 2 ^ 15) else true)
-    test true kind = joined (spans_fit w (n ∷ [])) (spans_fit (slot_received w p) (n ∷ [])) (λ e. after-fits (ordered-adds (sym (ordered-before kind) ∙ e))) ∙ ordered-before kind ∙ fits-one w s (index_of w n)
-      where
-        joined : (a b : Bool) → (a ≡ true → b ≡ true) → (a && b) ≡ a
-        joined true b h = h refl
-        joined false b h = refl
-    test false kind = and (spans_fit w (n ∷ [])) (spans_fit (slot_received w p) (n ∷ [])) (before-fits (unordered-adds kind)) (after-fits (unordered-adds kind))
-
-    -- a datagram of one fragment fits where its index is less than 2^15 from both ends, if it is new and ordered
-    pub arrival-fits-one : arrival_fits w (Some (Data (p ∷ []))) ≡ (if is_new w p && (message_at w n).ordered then nat_lt (max (highest w s) (index_of w n)) (min (lowest w s) (index_of w n) + 2 ^ 15) else true)
-    arrival-fits-one = by (is_new w p) refl
-      where
-        adding : Bool → List ℕ
-        adding b = map (message_of w) (if b then p ∷ [] else [])
-
-        by : (b : Bool) → is_new w p ≡ b → (spans_fit w (adding b) && spans_fit (slot_received w p) (adding b)) ≡ (if b && (message_at w n).ordered then nat_lt (max (highest w s) (index_of w n)) (min (lowest w s) (index_of w n) + 2 ^ 15) else true)
-        by true e = test (message_at w n).ordered refl
-        by false e = and (spans_fit w []) (spans_fit (slot_received w p) []) all (ap (λ v. spans_fit v []) (repeated w p e) ∙ all)
-
--- the test in every history
-pub arrival-fits-run : (setup : Setup) (h : History) (k p : ℕ) → IsSetup setup → IsRun setup h → slice_get (world_of setup h).network k ≡ Some (Data (p ∷ [])) → (let w = world_of setup h in let n = message_of w p in let s = (message_at w n).stream in arrival_fits w (Some (Data (p ∷ []))) ≡ (if is_new w p && (message_at w n).ordered then nat_lt (max (highest w s) (index_of w n)) (min (lowest w s) (index_of w n) + 2 ^ 15) else true))
-arrival-fits-run setup h k p is run e = arrival-fits-one (world_of setup h) p (spans_fit_always setup h is run) (carried-run setup h k p run e)
 
 -- ## The ends
 
