@@ -7,3 +7,4 @@ pub mod Fields
 pub mod Replies
 pub mod Skips
 pub mod Acking
+pub mod Sends

@@ -7,6 +7,7 @@ mod abandoning;
 mod acknowledged;
 mod acknowledging;
 mod expiring;
+mod fragments;
 mod late;
 pub mod lending;
 mod naming;

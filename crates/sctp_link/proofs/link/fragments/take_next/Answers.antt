@@ -1,0 +1,10 @@
+use Rattle.std.proofs.Common.{◌≡◌, ◌+◌, ◌-◌, Some, Option, rules, refl, ap, sym, ◌∙◌, arith}
+use Rattle.sctp_chunks.specs.declared.chunk.chunk_payload_data.ChunkPayloadData.{ChunkPayloadData}
+use Rattle.sctp_outbound.specs.outbound_queue.OutboundQueue.{Outbound, sent_next}
+use Rattle.sctp_link.proofs.sender.Ahead.{room-less}
+use Rattle.sctp_link.proofs.link.fragments.take_next.Goals as goal
+
+pub returns-clause-flight : goal.returns-clause-flight
+returns-clause-flight c =
+    let is : c.send_next.new.self ≡ sent_next c.args.outbound.now c.args.next_tsn.now c.args.now = search rules in
+    room-less c.args.outbound.now c.send_next.new.self c.args.next_tsn.now c.args.now c.requires.able.chunk c.requires.able.shown is c.requires.flight
