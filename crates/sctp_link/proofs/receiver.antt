@@ -3,3 +3,4 @@ pub mod HandsOut
 pub mod Keeping
 pub mod Arrives
 pub mod Hears
+pub mod OneEach

@@ -1,5 +1,5 @@
 -- What a link keeps of its messages, slots, datagrams and streams, as the record says it.
-use Rattle.std.specs.Prelude.{ℕ, [], ◌∷◌, map}
+use Rattle.std.specs.Prelude.{ℕ, map}
 use Rattle.sctp_chunks.specs.declared.chunk.chunk_selective_ack.GapAckBlock.{GapAckBlock}
 use Rattle.sctp_link.specs.declared.record.Message.{Message}
 use Rattle.sctp_link.specs.declared.record.Slot.{Slot}
@@ -38,9 +38,9 @@ slot_record x =
 abbrev pub ends_of : GapAckBlock → ℕ × ℕ
 ends_of b = (b.start, b.end)
 
--- a datagram: one slot, a FORWARD-TSN or a SACK
+-- a datagram: slots, a FORWARD-TSN or a SACK
 abbrev pub kind_record : Kind → W.Datagram
-kind_record (K.Data place) = W.Data (place ∷ [])
+kind_record (K.Data places) = W.Data places.items
 kind_record (K.Forward upto messages) = W.Forward upto messages.items
 kind_record (K.Sack cumulative credit blocks duplicates) =
     W.Sack (record { cumulative = cumulative; credit = credit; blocks = map ends_of blocks.items; duplicates = duplicates.items })

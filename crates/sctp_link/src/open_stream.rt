@@ -10,7 +10,6 @@ ghost use Rattle.sctp_link.specs.declared.open_stream.OpenStream.{OpenStream};
 
 use crate::record::Message;
 use crate::skipped::Named;
-use sctp_transfer::stream::StreamState;
 use bytes::Bytes;
 use sctp_base::error::Result;
 use sctp_chunks::chunk::chunk_payload_data::{
@@ -18,6 +17,7 @@ use sctp_chunks::chunk::chunk_payload_data::{
 };
 use sctp_queues::chunks::Chunks;
 use sctp_queues::reassembly_queue::ReassemblyQueue;
+use sctp_transfer::stream::StreamState;
 use std::alloc::Global;
 use std::collections::VecDeque;
 

@@ -45,9 +45,9 @@ pub struct Slot {
 /// What a datagram says, in places of slots.
 #[derive(Drop)]
 pub enum Kind {
-    /// The DATA chunk of a slot.
+    /// The DATA chunks of slots, in their order.
     Data {
-        place: u64,
+        places: Vec<u64>,
     },
     /// A FORWARD-TSN up to a slot that names messages (RFC 3758 3.2).
     Forward {

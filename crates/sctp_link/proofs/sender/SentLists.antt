@@ -25,9 +25,9 @@ use Rattle.sctp_ties.specs.Tied.{TiedOutbound}
 use Rattle.sctp_link.specs.declared.record.Message.{Message}
 use Rattle.sctp_link.specs.declared.record.Slot.{Slot}
 use Rattle.sctp_link.specs.declared.record.Datagram.{Datagram}
-use Rattle.sctp_link.specs.declared.record.Kind.TheVariants as K
+use Rattle.sctp_link.specs.declared.record.Kind.{Kind}
 use Rattle.sctp_link.specs.declared.open_stream.OpenStream.{OpenStream}
-use Rattle.sctp_link.specs.Records.{message_record, progress_of, slot_record, datagram_record, stream_record}
+use Rattle.sctp_link.specs.Records.{message_record, progress_of, slot_record, kind_record, datagram_record, stream_record}
 use Rattle.sctp_link.specs.OpenStreams.{start_from, slot_with, begins, begun_of, begun_by, with_fragment}
 use Rattle.sctp_link.specs.Texts.{packet_with}
 use Rattle.sctp_link.specs.Linked.{State, IsLinked}
@@ -100,7 +100,7 @@ module _ (sum : List ℕ → ℕ) (x : State) (l : IsLinked sum x) (now : ℕ) (
     progress-sent : map progress_of (slice_set run n y) ≡ changed (took (begins old) (begun_of old.stream x.open_streams)) n x.progress
     progress-sent = map-set progress_of (took (begins old) (begun_of old.stream x.open_streams)) run n y old within (ap progress_of took' ∙ ap (λ (m : Message). took (begins old) (begun_of old.stream x.open_streams) (progress_of m)) at) ∙ ap (changed (took (begins old) (begun_of old.stream x.open_streams)) n) progress-same
 
-    module _ (slots slots' : List Slot) (slot : Slot) (ds ds' : List Datagram) (bytes : List ℕ) (ew : x.world.slots ≡ map slot_record slots) (more : slots' ≡ slots ++ slot ∷ []) (taken : slot ≡ slot_with n old.sent) (en : x.world.network ≡ map datagram_record ds) (made : ds' ≡ ds ++ (let d : Datagram = record { kind = K.Data (length slots); bytes = bytes } in d) ∷ []) (open_streams : List OpenStream) (begun : open_streams ≡ begun_by old x.open_streams) where
+    module _ (slots slots' : List Slot) (slot : Slot) (ds ds' : List Datagram) (bytes : List ℕ) (ew : x.world.slots ≡ map slot_record slots) (more : slots' ≡ slots ++ slot ∷ []) (taken : slot ≡ slot_with n old.sent) (en : x.world.network ≡ map datagram_record ds) (kind : Kind) (carries : kind_record kind ≡ W.Data (length slots ∷ [])) (made : ds' ≡ ds ++ (let d : Datagram = record { kind = kind; bytes = bytes } in d) ∷ []) (open_streams : List OpenStream) (begun : open_streams ≡ begun_by old x.open_streams) where
       slots-sent : map slot_record slots' ≡ x.world.slots ++ (let y : W.Slot = record { message = n; fragment = M.sent_of x.world n; is_end_mark = false; arrived = false; acknowledged = false } in y) ∷ []
       slots-sent =
           ap (map slot_record) more ∙ map-append slot_record slots (slot ∷ [])
@@ -110,7 +110,8 @@ module _ (sum : List ℕ → ℕ) (x : State) (l : IsLinked sum x) (now : ℕ) (
 
       network-sent : map datagram_record ds' ≡ x.world.network ++ W.Data (length x.world.slots ∷ []) ∷ []
       network-sent =
-          network-more ds ds' (K.Data (length slots)) bytes made
+          network-more ds ds' kind bytes made
+          ∙ ap (λ g. map datagram_record ds ++ g ∷ []) carries
           ∙ ap (λ a. a ++ W.Data (length slots ∷ []) ∷ []) (sym en)
           ∙ ap (λ k. x.world.network ++ W.Data (k ∷ []) ∷ []) (sym (ap length ew ∙ length-mapped slot_record slots))
 
@@ -140,7 +141,7 @@ module _ (sum : List ℕ → ℕ) (x : State) (l : IsLinked sum x) (now : ℕ) (
           (subst (λ a. IsLinked sum (record x { world = v; open_streams = a; progress = map progress_of (slice_set run n y); unstarted = unstarted; datagrams = map (λ g. g.bytes) ds'; outbound = r; next_tsn = tsn })) (sym begun)
           (subst (λ a. IsLinked sum (record x { world = v; open_streams = begun_by old x.open_streams; progress = a; unstarted = unstarted; datagrams = map (λ g. g.bytes) ds'; outbound = r; next_tsn = tsn })) (sym progress-sent)
           (subst (λ a. IsLinked sum (record x { world = v; open_streams = begun_by old x.open_streams; progress = changed (took (begins old) (begun_of old.stream x.open_streams)) n x.progress; unstarted = a; datagrams = map (λ g. g.bytes) ds'; outbound = r; next_tsn = tsn })) (sym (eu ∙ sym (ap length em ∙ length-mapped message_record ms)))
-          (subst (λ a. IsLinked sum (record x { world = v; open_streams = begun_by old x.open_streams; progress = changed (took (begins old) (begun_of old.stream x.open_streams)) n x.progress; unstarted = length x.world.messages; datagrams = a; outbound = r; next_tsn = tsn })) (sym (bytes-more ds ds' (K.Data (length slots)) bytes made ∙ ap (λ a. a ++ bytes ∷ []) (sym eb)))
+          (subst (λ a. IsLinked sum (record x { world = v; open_streams = begun_by old x.open_streams; progress = changed (took (begins old) (begun_of old.stream x.open_streams)) n x.progress; unstarted = length x.world.messages; datagrams = a; outbound = r; next_tsn = tsn })) (sym (bytes-more ds ds' kind bytes made ∙ ap (λ a. a ++ bytes ∷ []) (sym eb)))
           (subst (λ a. IsLinked sum (record x { world = v; open_streams = begun_by old x.open_streams; progress = changed (took (begins old) (begun_of old.stream x.open_streams)) n x.progress; unstarted = length x.world.messages; datagrams = x.datagrams ++ bytes ∷ []; outbound = a; next_tsn = tsn })) (sym er)
           (subst (λ a. IsLinked sum (record x { world = v; open_streams = begun_by old x.open_streams; progress = changed (took (begins old) (begun_of old.stream x.open_streams)) n x.progress; unstarted = length x.world.messages; datagrams = x.datagrams ++ bytes ∷ []; outbound = sent_next q x.next_tsn now; next_tsn = a })) (sym et) whole))))))
 

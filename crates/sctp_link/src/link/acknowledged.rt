@@ -32,7 +32,7 @@ impl<C: Checksum + Drop> Link<C> {
             return Some(LinkRefusal::NoSuchDatagram);
         }
         match self.network[k as usize].kind {
-            Kind::Data { place: _place } => Some(LinkRefusal::NoSuchDatagram),
+            Kind::Data { .. } => Some(LinkRefusal::NoSuchDatagram),
             Kind::Forward { .. } => Some(LinkRefusal::NoSuchDatagram),
             Kind::Sack { .. } => None,
         }

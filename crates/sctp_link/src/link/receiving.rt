@@ -39,7 +39,7 @@ impl<C: Checksum + Drop> Link<C> {
             return Some(LinkRefusal::NoSuchDatagram);
         }
         match &self.network[k as usize].kind {
-            Kind::Data { place } => unless_fits(self.span_fits(*place as usize)),
+            Kind::Data { places } => unless_fits(self.span_fits(places[0] as usize)),
             Kind::Forward { upto, messages } => unless_fits(self.skip_fits(*upto, messages)),
             Kind::Sack { .. } => Some(LinkRefusal::NoSuchDatagram),
         }
@@ -110,9 +110,15 @@ impl<C: Checksum + Drop> Link<C> {
         ensures err { OnErr result (self.new.world ≡ self.old.world) }
         ensures memory { IsOkUnless result ErrOutOfMemory }
     {
-        match self.network[k as usize].kind {
-            Kind::Data { place } => self.arrive_data(k, place as usize),
-            Kind::Forward { upto, .. } => self.arrive_skip(k, upto),
+        match &self.network[k as usize].kind {
+            Kind::Data { places } => {
+                let place = places[0] as usize;
+                self.arrive_data(k, place)
+            }
+            Kind::Forward { upto, .. } => {
+                let upto = *upto;
+                self.arrive_skip(k, upto)
+            }
             Kind::Sack { .. } => unreachable!(),
         }
     }

@@ -20,6 +20,7 @@ use sctp_base::error::Result;
 use sctp_base::util::Checksum;
 use sctp_chunks::chunk::chunk_kind::ChunkKind;
 use sctp_queues::outbound_queue::OutboundQueue;
+use std::alloc::Global;
 
 impl<C: Checksum + Drop> Link<C> {
     ghost use Rattle.sctp_model.specs.Queues.{is_cleared};
@@ -42,6 +43,7 @@ impl<C: Checksum + Drop> Link<C> {
         let number = chunk.message_id;
         let ssn = chunk.stream_sequence_number;
         let tsn = self.next_tsn;
+        let places = one_place(self.alloc, self.slots.len() as u64)?;
         let mut chunk = chunk.try_clone()?;
         chunk.tsn = tsn;
         let bytes = write_datagram(self.alloc, ChunkKind::PayloadData(chunk), &self.checksum)?;
@@ -56,10 +58,9 @@ impl<C: Checksum + Drop> Link<C> {
             &mut self.open_streams,
             number,
         );
-        let place = self.slots.len() as u64;
         let datagram = self.network.len() as u64;
         put(&mut self.slots, slot);
-        let kind = Kind::Data { place };
+        let kind = Kind::Data { places };
         put(&mut self.network, Datagram { kind, bytes });
         Ok(Reply::Sent {
             datagram,
@@ -102,15 +103,25 @@ impl<C: Checksum + Drop> Link<C> {
             unreachable!()
         };
         let chunk = chunk.try_clone()?;
+        let places = one_place(self.alloc, tsn.wrapping_sub(self.first_tsn) as u64)?;
         let bytes = write_datagram(self.alloc, ChunkKind::PayloadData(chunk), &self.checksum)?;
         self.network.reserve(1)?;
         count_resend(&mut self.outbound, tsn);
-        let place = tsn.wrapping_sub(self.first_tsn) as u64;
         let datagram = self.network.len() as u64;
-        let kind = Kind::Data { place };
+        let kind = Kind::Data { places };
         put(&mut self.network, Datagram { kind, bytes });
         Ok(Reply::Resent { datagram })
     }
+}
+
+/// A list of one place. Refuses only for memory.
+fn one_place(alloc: Global, place: u64) -> Result<Vec<u64>>
+    ensures place { IfOk result (λ places. places.items ≡ place ∷ []) }
+    ensures memory { IsOkUnless result ErrOutOfMemory }
+{
+    let mut places = Vec::new(alloc);
+    places.push(place)?;
+    Ok(places)
 }
 
 /// The slot of the next fragment of a message, which it takes. The first one of an ordered message takes an index.

@@ -1,4 +1,4 @@
-use Rattle.std.proofs.Common.{◌≡◌, length, rules, refl, ap, None, Some, ◌∙◌, sym, arith, subst}
+use Rattle.std.proofs.Common.{◌≡◌, [], ◌∷◌, length, rules, refl, ap, None, Some, ◌∙◌, sym, arith, subst}
 use Rattle.std.specs.Prelude.{is_some}
 use Rattle.std.specs.Vec.{with_items, vec_len}
 use Rattle.std.proofs.lemmas.List.{with_items_is}
@@ -8,6 +8,8 @@ use Rattle.sctp_outbound.specs.pending_queue.PendingQueue.{peeked}
 use Rattle.sctp_outbound.specs.outbound_queue.OutboundQueue.{Outbound}
 use Rattle.sctp_serial.specs.Window.{SpansOneWindow, is_held}
 use Rattle.sctp_model.specs.Changes.{started}
+use Rattle.sctp_model.specs.World.{Data}
+use Rattle.sctp_link.specs.declared.record.Kind.TheVariants as K
 use Rattle.sctp_link.specs.Records.{message_record}
 use Rattle.sctp_link.specs.OpenStreams.{start_from}
 use Rattle.sctp_link.specs.Fields.{state_in, world_in}
@@ -63,30 +65,32 @@ take_fragment-slot-requires-clause-few g c =
 
 pub invariant_of-self-2 : goal.invariant_of-self-2
 invariant_of-self-2 g c =
+    let here : c.len.result ≡ length c.self.inside.slots.items = search rules in
     let ms = c.self.inside.messages in
     let e : peeked c.self.inside.outbound.pending ≡ Some c.in-Some.chunk.now = search rules in
     let same : length c.start_from.new.messages ≡ vec_len ms = search rules in
     let is : (with_items ms c.start_from.new.messages).items ≡ start_from c.self.inside.unstarted c.args.now ms.items = with_items_is ms c.start_from.new.messages same ∙ c.start_from.ensures ∙ ap (start_from c.self.inside.unstarted c.args.now) c.deref_mut.ensures.value in
     linked-sent (g.C.Checksum.sum c.self.inside.checksum) (state_in c.self.inside) c.self.invariant c.args.now c.in-Some.chunk.now e ms.items (with_items ms c.start_from.new.messages).items refl refl refl is c.index_mut.result.now c.index_mut.ensures.value
-    c.take_fragment-slot.new.message (search rules) c.self.inside.slots.items c.put.new.items.items c.take_fragment-slot.result c.self.inside.network.items c.put-2.new.items.items c.in_ok-bytes.bytes refl (search rules) (search rules) refl (search rules) c.take_fragment-slot.new.open_streams.items.items (search rules)
+    c.take_fragment-slot.new.message (search rules) c.self.inside.slots.items c.put.new.items.items c.take_fragment-slot.result c.self.inside.network.items c.put-2.new.items.items c.in_ok-bytes.bytes refl (search rules) (search rules) refl (K.Data c.in_ok-places.places) (ap Data (c.in_ok-places.ensures.place ∙ ap (λ k. k ∷ []) here)) (search rules) c.take_fragment-slot.new.open_streams.items.items (search rules)
     c.take_fragment-slot.new.open_streams.places c.take_fragment-slot.ensures.places
     (data_of (record c.in_ok-chunk.chunk { tsn = c.self.inside.next_tsn })) c.reserve_inflight.new.self c.send_next.new.self _ c.len-self-inside.result c.send_next.new.next_tsn (search rules) (search rules) (search rules) refl c.in_ok-reserve_inflight.ensures.ok (search rules) (search rules) (search rules)
 
 pub returns-clause-ok : goal.returns-clause-ok
 returns-clause-ok g c =
+    let here : c.len.result ≡ length c.self.inside.slots.items = search rules in
     let ms = c.self.inside.messages in
     let e : peeked c.self.inside.outbound.pending ≡ Some c.in-Some.chunk.now = search rules in
     let same : length c.start_from.new.messages ≡ vec_len ms = search rules in
     let is : (with_items ms c.start_from.new.messages).items ≡ start_from c.self.inside.unstarted c.args.now ms.items = with_items_is ms c.start_from.new.messages same ∙ c.start_from.ensures ∙ ap (start_from c.self.inside.unstarted c.args.now) c.deref_mut.ensures.value in
     rw (← c.self.view_is)
     (send-is-right (g.C.Checksum.sum c.self.inside.checksum) (state_in c.self.inside) c.self.invariant c.args.now c.in-Some.chunk.now e ms.items (with_items ms c.start_from.new.messages).items refl refl refl is c.index_mut.result.now c.index_mut.ensures.value
-    c.take_fragment-slot.new.message (search rules) c.self.inside.slots.items c.put.new.items.items c.take_fragment-slot.result c.self.inside.network.items c.put-2.new.items.items c.in_ok-bytes.bytes refl (search rules) (search rules) refl (search rules) c.take_fragment-slot.new.open_streams.items.items (search rules) c.in-Some.chunk.now.stream_sequence_number c.len-datagram.result refl (search rules))
+    c.take_fragment-slot.new.message (search rules) c.self.inside.slots.items c.put.new.items.items c.take_fragment-slot.result c.self.inside.network.items c.put-2.new.items.items c.in_ok-bytes.bytes refl (search rules) (search rules) refl (K.Data c.in_ok-places.places) (ap Data (c.in_ok-places.ensures.place ∙ ap (λ k. k ∷ []) here)) (search rules) c.take_fragment-slot.new.open_streams.items.items (search rules) c.in-Some.chunk.now.stream_sequence_number c.len-datagram.result refl (search rules))
 
 pub returns-in_err-chunk-clause-wants : goal.returns-in_err-chunk-clause-wants
 returns-in_err-chunk-clause-wants g c =
     let e : peeked c.self.inside.outbound.pending ≡ Some c.in-Some.chunk.now = search rules in
     let f = (next-is (g.C.Checksum.sum c.self.inside.checksum) (state_in c.self.inside) c.self.invariant c.in-Some.chunk.now e).front in
-    rw (← c.self.view_is) (on-err c.from_residual.result _ (ap is_some f))
+    rw (← c.self.view_is) (on-err c.from_residual-in_err-chunk.result _ (ap is_some f))
 
 pub returns-in_err-bytes-clause-wants : goal.returns-in_err-bytes-clause-wants
 returns-in_err-bytes-clause-wants g c =
@@ -111,3 +115,9 @@ returns-in_err-reserve_inflight-clause-wants g c =
     let e : peeked c.self.inside.outbound.pending ≡ Some c.in-Some.chunk.now = search rules in
     let f = (next-is (g.C.Checksum.sum c.self.inside.checksum) (state_in c.self.inside) c.self.invariant c.in-Some.chunk.now e).front in
     rw (← c.self.view_is) (on-err c.from_residual-in_err-reserve_inflight.result _ (ap is_some f))
+
+pub returns-in_err-places-clause-wants : goal.returns-in_err-places-clause-wants
+returns-in_err-places-clause-wants g c =
+    let e : peeked c.self.inside.outbound.pending ≡ Some c.in-Some.chunk.now = search rules in
+    let f = (next-is (g.C.Checksum.sum c.self.inside.checksum) (state_in c.self.inside) c.self.invariant c.in-Some.chunk.now e).front in
+    rw (← c.self.view_is) (on-err c.from_residual.result _ (ap is_some f))
