@@ -4,6 +4,7 @@ pub mod Opening
 pub mod Starting
 pub mod Modes
 pub mod Outgoing
+pub mod Between
 pub mod Ahead
 pub mod Sending
 pub mod SentLists

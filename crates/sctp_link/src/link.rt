@@ -36,6 +36,8 @@ pub struct Link<C: Checksum + Drop> {
     first_tsn: u32,
     fragment_size: u32,
     max_message_size: u32,
+    // the greatest length of a datagram of several chunks
+    limit: u32,
     open_streams: OpenStreams,
     messages: Vec<Message>,
     // the number of the first message whose lifetime has not started
@@ -93,9 +95,9 @@ impl<C: Checksum + Drop> Link<C> {
     ) -> Self
         requires some { 1 ≤ fragment_size }
         requires short { fragment_size ≤ 65519 }
-        ensures empty { result.world ≡ start (setup_of first_tsn fragment_size max_message_size) }
+        ensures empty { result.world ≡ start (setup_of first_tsn fragment_size max_message_size 0) }
         ensures checksum { result.checksum ≡ checksum }
-        ensures stands { StandsFor (setup_of first_tsn fragment_size max_message_size) result.world [] }
+        ensures stands { StandsFor (setup_of first_tsn fragment_size max_message_size 0) result.world [] }
     {
         Link {
             alloc,
@@ -103,6 +105,7 @@ impl<C: Checksum + Drop> Link<C> {
             first_tsn,
             fragment_size,
             max_message_size,
+            limit: 0,
             open_streams: OpenStreams::new(alloc),
             messages: Vec::new(alloc),
             unstarted: 0,

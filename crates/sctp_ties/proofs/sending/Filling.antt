@@ -1,6 +1,6 @@
 -- The chunks that fill a datagram are those of the slots that it takes.
 use Rattle.std.proofs.Common.{◌≡◌, ℕ, zero, suc, ◌+◌, ◌-◌, ◌<◌, ◌≤◌, Bool, true, false, List, [], ◌∷◌, ◌++◌, length, map, get_or, Option, Some, None, refl, ap, sym, ◌∙◌, arith, length-append, ◌*◌, inl, inr}
-use Rattle.std.specs.Prelude.{if◌then◌else◌, nat_le, is_some, not, ◌==◌, ◌%◌, ◌^◌}
+use Rattle.std.specs.Prelude.{if◌then◌else◌, nat_le, is_some, IfSome, not, ◌==◌, ◌%◌, ◌^◌}
 use Rattle.std.proofs.Math.Path.{subst}
 use Rattle.std.proofs.lemmas.Bool.Decides.{nat_tests}
 use Rattle.sctp_lists.specs.Kept.{always, numbers_from}
@@ -9,7 +9,7 @@ use Rattle.sctp_lists.proofs.Getting.{get-snoc_old, get-snoc_new}
 use Rattle.sctp_chunks.specs.declared.chunk.chunk_payload_data.ChunkPayloadData.{ChunkPayloadData}
 use Rattle.sctp_chunks.specs.PayloadData.{Data, data_of}
 use Rattle.sctp_outbound.specs.pending_queue.PendingQueue.{Pending, peeked}
-use Rattle.sctp_outbound.specs.outbound_queue.OutboundQueue.{following_tsn, taken_of}
+use Rattle.sctp_outbound.specs.outbound_queue.OutboundQueue.{following_tsn, taken_of, after_sends}
 use Rattle.sctp_model.specs.World.{Setup, World, Slot}
 use Rattle.sctp_model.specs.Messages.{front, sent_of, slot_at, tsn_of, no_slot}
 use Rattle.sctp_model.specs.Contents.{chunk_at, data_with}
@@ -119,7 +119,8 @@ fills-more w z n c cs fr is f = record {
     rest : map data_of cs ≡ map (λ p. data_of (chunk_at z p)) (numbers_from (length w.slots + 1) (length cs))
     rest = f.says ∙ ap (λ k. map (λ p. data_of (chunk_at z p)) (numbers_from k (length cs))) longer
 
-next-tsn : (w : World) (n : ℕ) → following_tsn (tsn_of w (length w.slots)) ≡ tsn_of (with_slot w n false) (length (with_slot w n false).slots)
+-- the TSN after it
+pub next-tsn : (w : World) (n : ℕ) → following_tsn (tsn_of w (length w.slots)) ≡ tsn_of (with_slot w n false) (length (with_slot w n false).slots)
 next-tsn w n = let new : Slot = record { message = n; fragment = sent_of w n; is_end_mark = false; arrived = false; acknowledged = false } in omega (arith, length-append w.slots (new ∷ []))
 
 -- a queue that shows what the record says fills a datagram with it
@@ -157,6 +158,31 @@ fill-from setup (suc most) used tsn w q g t e = by (λ used' tsn' v r g' t' e'. 
             (ap (λ k. data_with w n (sent_of w n) k) e)
             (rest (used + more) (following_tsn tsn) (with_slot w n false) (taken_of (Some c) q) going shows.1 (ap following_tsn e ∙ next-tsn w n))
         test false = fills-none w
+
+-- after so many sends it holds what the record says after so many fragments
+pub pending-after : (setup : Setup) (i : ℕ) (w : World) (q : Pending) → Going setup w → TiedPending w q → TiedPending (after_fragments i w) (after_sends i q)
+pending-after setup zero w q g t = t
+pending-after setup (suc i) w q g t = pending-after setup i (fragment_sent w) (taken_of (peeked q) q) (going-takes setup w g) (by (front w) refl)
+  where
+    by : (o : Option ℕ) → front w ≡ o → TiedPending (fragment_of_sent w o) (taken_of (peeked q) q)
+    by None fr = subst (λ p. TiedPending w (taken_of p q)) (sym (pending-idle w q t (λ k lt. front-none (shape w) fr k lt))) t
+    by (Some n) fr =
+        let shows : (peeked q ≡ Some (waiting_at w n (sent_of w n))) × TiedPending (with_slot w n false) (taken_of (Some (waiting_at w n (sent_of w n))) q) = pending-sent w n (front_is w g.sane.sender g.turns n fr) q t in
+        subst (λ p. TiedPending (with_slot w n false) (taken_of p q)) (sym shows.0) shows.1
+
+-- what it shows then is a fragment of the record
+pub shown-after : (setup : Setup) (i : ℕ) (w : World) (q : Pending) (P : ChunkPayloadData → Type 0) → Going setup w → TiedPending w q → ((n : ℕ) → P (waiting_at (after_fragments i w) n (sent_of (after_fragments i w) n))) → IfSome (peeked (after_sends i q)) P
+shown-after setup i w q P g t each = by (front (after_fragments i w)) refl
+  where
+    r : TiedPending (after_fragments i w) (after_sends i q)
+    r = pending-after setup i w q g t
+
+    z : Going setup (after_fragments i w)
+    z = going-after setup i w g
+
+    by : (o : Option ℕ) → front (after_fragments i w) ≡ o → IfSome (peeked (after_sends i q)) P
+    by None fr = subst (λ p. IfSome p P) (sym (pending-idle (after_fragments i w) (after_sends i q) r (λ k lt. front-none (shape (after_fragments i w)) fr k lt))) tt
+    by (Some n) fr = subst (λ p. IfSome p P) (sym (pending-sent (after_fragments i w) n (front_is (after_fragments i w) z.sane.sender z.turns n fr) (after_sends i q) r).0) (each n)
 
 -- a Send takes what the queue shows
 pub fill-sent : (setup : Setup) (tsn n : ℕ) (w : World) (q : Pending) → Going setup w → TiedPending w q → front w ≡ Some n → tsn ≡ tsn_of w (length w.slots) → Fills w (fragments_sent w) (chunks_taken w.setup.limit tsn q)

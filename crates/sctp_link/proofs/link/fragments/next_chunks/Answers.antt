@@ -1,4 +1,4 @@
-use Rattle.std.proofs.Common.{◌≡◌, ◌<◌, ◌≤◌, ◌+◌, ◌-◌, ◌/◌, ◌^◌, map, ◌∷◌, ◌++◌, [], Some, None, length, rules, refl, ap, sym, ◌∙◌, arith}
+use Rattle.std.proofs.Common.{◌≡◌, ◌≤◌, ◌+◌, ◌-◌, ◌/◌, map, ◌∷◌, ◌++◌, [], Some, None, length, rules, sym, arith}
 use Rattle.std.specs.Prelude.{IfSome}
 use Rattle.std.proofs.Math.Path.{subst}
 use Rattle.sctp_chunks.specs.declared.chunk.chunk_payload_data.ChunkPayloadData.{ChunkPayloadData}
@@ -41,6 +41,9 @@ loop-sent-preserved c =
     let below = c.loop-sent-test.true in
     let fits = c.if-used-limit.false in
     let len : c.chunk_length-used-in-loop-sent.result ≡ chunk_length (length c.in-Some.chunk.now.user_data) = search rules in
-    record { chunks =
+    record {
+      chunks =
           subst (λ k. c.push_under-in-loop-sent.new.chunks.items ++ map C.PayloadData (further (c.args.limit / 16 - (c.loop-sent.sent + 1)) c.args.limit (c.loop-sent.used + k) (following_tsn (following_tsn c.loop-sent.tsn)) (after_sends (c.loop-sent.sent + 1 + 1) c.args.outbound.now.pending)) ≡ map C.PayloadData (chunks_taken c.args.limit c.args.tsn c.args.outbound.now.pending)) (sym len)
-          (goes-on (c.args.limit / 16) c.args.limit c.loop-sent.used (following_tsn c.loop-sent.tsn) c.loop-sent.sent c.args.outbound.now.pending c.in-Some.chunk.now c.loop-sent.chunks.items c.push_under-in-loop-sent.new.chunks.items (map C.PayloadData (chunks_taken c.args.limit c.args.tsn c.args.outbound.now.pending)) below some (omega (arith, fits, len)) more c.loop-sent.invariant.chunks); used = omega (arith, fits, c.ranges.limit.fits) }
+          (goes-on (c.args.limit / 16) c.args.limit c.loop-sent.used (following_tsn c.loop-sent.tsn) c.loop-sent.sent c.args.outbound.now.pending c.in-Some.chunk.now c.loop-sent.chunks.items c.push_under-in-loop-sent.new.chunks.items (map C.PayloadData (chunks_taken c.args.limit c.args.tsn c.args.outbound.now.pending)) below some (omega (arith, fits, len)) more c.loop-sent.invariant.chunks);
+      used = omega (arith, fits, c.ranges.limit.fits);
+    }

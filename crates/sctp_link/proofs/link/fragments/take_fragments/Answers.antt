@@ -1,6 +1,4 @@
-use Rattle.std.proofs.Common.{◌≡◌, ◌+◌, ◌≤◌, rules, refl, ap, sym, ◌∙◌, arith, add-one}
-use Rattle.std.proofs.Math.Path.{subst}
-use Rattle.sctp_link.specs.Sends.{Leave, sender_of}
+use Rattle.std.proofs.Common.{arith}
 use Rattle.sctp_link.proofs.link.fragments.take_fragments.Goals as goal
 
 pub take_next-requires-clause-able : goal.take_next-requires-clause-able

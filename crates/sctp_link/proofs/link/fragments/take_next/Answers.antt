@@ -1,6 +1,5 @@
-use Rattle.std.proofs.Common.{◌≡◌, ◌+◌, ◌-◌, Some, Option, rules, refl, ap, sym, ◌∙◌, arith}
-use Rattle.sctp_chunks.specs.declared.chunk.chunk_payload_data.ChunkPayloadData.{ChunkPayloadData}
-use Rattle.sctp_outbound.specs.outbound_queue.OutboundQueue.{Outbound, sent_next}
+use Rattle.std.proofs.Common.{◌≡◌, rules}
+use Rattle.sctp_outbound.specs.outbound_queue.OutboundQueue.{sent_next}
 use Rattle.sctp_link.proofs.sender.Ahead.{room-less}
 use Rattle.sctp_link.proofs.link.fragments.take_next.Goals as goal
 
