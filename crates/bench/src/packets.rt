@@ -1,16 +1,13 @@
-//! Measures how long a packet of one DATA chunk with 1,200 bytes takes to be read and to be written, under a
-//! checksum that is always 0. It prints whether both gave the right thing and, with the argument `times`, how
-//! many nanoseconds they took, and how many the packet's CRC-32C took.
-#![tactic(auto)]
+//! A packet of one DATA chunk with 1,200 bytes, read and written under a checksum that is always 0.
 
 use benchlib::packet::{
     Zero, datagram, is_expected, time_of_reading, time_of_summing, time_of_writing,
 };
 use bytes::BytesMut;
 use sctp_packets::packet::Packet;
-use std::env;
 
-fn main(rt: HostRuntime) -> anyhow::Result<()> {
+/// Prints whether it was read and written right and, with `times`, how many nanoseconds each took, and how many its CRC-32C took.
+pub fn run(rt: &HostRuntime, times: bool) -> anyhow::Result<()> {
     let alloc = rt.alloc();
     let raw = datagram(alloc)?;
     let packet = Packet::unmarshal(alloc, &raw, &Zero)?;
@@ -28,12 +25,12 @@ fn main(rt: HostRuntime) -> anyhow::Result<()> {
         "other bytes"
     };
     println!(rt; "marshal_to: {written}")?;
-    if env::args(&rt)?.any(|word| word.as_str() == "times") {
-        let reading = time_of_reading(&rt, alloc, &raw)?;
+    if times {
+        let reading = time_of_reading(rt, alloc, &raw)?;
         println!(rt; "unmarshal: {reading} ns")?;
-        let writing = time_of_writing(&rt, &mut buf, &packet)?;
+        let writing = time_of_writing(rt, &mut buf, &packet)?;
         println!(rt; "marshal_to: {writing} ns")?;
-        let (summing, sum) = time_of_summing(&rt, &raw)?;
+        let (summing, sum) = time_of_summing(rt, &raw)?;
         println!(rt; "crc32c of its 1228 bytes: {summing} ns ({sum:08x} after all)")?;
     }
     Ok(())

@@ -1,10 +1,7 @@
-//! Measures how long the queues take. It prints what came out of each run and, with the argument `times`, how long
-//! the fastest of many runs took.
-#![tactic(auto)]
+//! The queues.
 
 use benchlib::scenario::{Scenario, fastest, is_slow, measure, unit_of, what_of};
 use benchlib::subject::{Delivery, Order};
-use std::env;
 
 static SCENARIOS: [Scenario; 14] = [
     Scenario::PushAndPop(1000, Order::InOrder),
@@ -23,15 +20,16 @@ static SCENARIOS: [Scenario; 14] = [
     Scenario::Interleaved,
 ];
 
-fn main(rt: HostRuntime) -> anyhow::Result<()> {
+/// Prints what came out of each run and, with `times`, how long the fastest of many runs took.
+pub fn run(rt: &HostRuntime, times: bool) -> anyhow::Result<()> {
     let alloc = rt.alloc();
     for scenario in SCENARIOS.iter().filter(|scenario| !is_slow(**scenario)) {
-        let given = measure(&rt, alloc, *scenario)?.given;
+        let given = measure(rt, alloc, *scenario)?.given;
         println!(rt; "{scenario}: {given} {}", what_of(*scenario))?;
     }
-    if env::args(&rt)?.any(|word| word.as_str() == "times") {
+    if times {
         for scenario in &SCENARIOS {
-            let nanos = fastest(&rt, alloc, *scenario)?;
+            let nanos = fastest(rt, alloc, *scenario)?;
             println!(rt; "{scenario}: {nanos} ns a {}", unit_of(*scenario).name)?;
         }
     }

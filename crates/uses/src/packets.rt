@@ -1,0 +1,64 @@
+//! Callers of `sctp_packets`: one reads a datagram, one writes the answer to it.
+
+ghost use Rattle.std.specs.Prelude.{◌≡◌, ◌∷◌, [], length, IfOk, IsOkUnless};
+ghost use Rattle.sctp_base.specs.declared.error.Error.TheVariants.{ErrOutOfMemory};
+ghost use Rattle.sctp_chunks.specs.Wire.{sack_chunk};
+ghost use Rattle.sctp_packets.specs.Packet.{Parts, ReadsPacket};
+
+use bytes::Bytes;
+use sctp_base::error::Result;
+use sctp_base::util::Checksum;
+use sctp_chunks::chunk::chunk_kind::ChunkKind;
+use sctp_chunks::chunk::chunk_selective_ack::ChunkSelectiveAck;
+use sctp_packets::packet::{CommonHeader, Packet};
+use std::alloc::Global;
+
+/// How many chunks a datagram has.
+pub fn count_chunks<C: Checksum>(alloc: Global, raw: &Bytes, checksum: &C) -> Result<usize>
+    ensures { IfOk result (λ count. (p : Parts) × ReadsPacket (C.sum checksum.now) raw.now p × (count ≡ length p.chunks)) }
+{
+    let packet = Packet::unmarshal(alloc, raw, checksum)?;
+    Ok(packet.chunks.len())
+}
+
+/// The datagram of a SACK of everything up to a TSN, to where a header came from. Whoever reads it
+/// reads that SACK. It is refused for memory alone.
+pub fn acknowledge<C: Checksum>(
+    alloc: Global,
+    header: CommonHeader,
+    peer_tag: u32,
+    cumulative_tsn_ack: u32,
+    credit: u32,
+    checksum: &C,
+) -> Result<Bytes>
+    ensures reads { IfOk result (λ b. ReadsPacket (C.sum checksum.now) b (record {
+      source_port = header.destination_port;
+      destination_port = header.source_port;
+      verification_tag = peer_tag;
+      chunks = sack_chunk (record {
+        cumulative_tsn_ack = cumulative_tsn_ack;
+        advertised_receiver_window_credit = credit;
+        gap_ack_blocks = [];
+        duplicate_tsn = [];
+      }) ∷ [];
+    })) }
+    ensures memory { IsOkUnless result ErrOutOfMemory }
+{
+    let sack = ChunkSelectiveAck {
+        cumulative_tsn_ack,
+        advertised_receiver_window_credit: credit,
+        gap_ack_blocks: Vec::new(alloc),
+        duplicate_tsn: Vec::new(alloc),
+    };
+    let mut chunks = Vec::new(alloc);
+    chunks.push(ChunkKind::SelectiveAck(sack))?;
+    let packet = Packet {
+        common_header: CommonHeader {
+            source_port: header.destination_port,
+            destination_port: header.source_port,
+            verification_tag: peer_tag,
+        },
+        chunks,
+    };
+    packet.marshal(alloc, checksum)
+}
