@@ -37,8 +37,10 @@ pub(super) fn next_chunks(
     limit: u32,
 ) -> Result<Vec<ChunkKind>>
     requires shown { peeked outbound.now.pending ≡ Some first.now }
-    requires short { (i : ℕ) → IfSome (peeked (after_sends i outbound.now.pending)) (λ c. length c.user_data ≤ 65519) }
-    ensures chunks { IfOk result (λ ks. ks.items ≡ map C.PayloadData (chunks_taken limit tsn outbound.now.pending)) }
+    requires short { (i : ℕ) → IfSome (peeked (after_sends i outbound.now.pending))
+        (λ c. length c.user_data ≤ 65519) }
+    ensures chunks { IfOk result
+        (λ ks. ks.items ≡ map C.PayloadData (chunks_taken limit tsn outbound.now.pending)) }
     ensures memory { IsOkUnless result ErrOutOfMemory }
 {
     let mut chunks = Vec::new(alloc);
@@ -62,7 +64,8 @@ pub(super) fn next_chunks(
 
 /// Puts a chunk under a TSN behind the others. Refuses only for memory.
 fn push_under(chunks: &mut Vec<ChunkKind>, chunk: &ChunkPayloadData, tsn: u32) -> Result<()>
-    ensures ok { IfOk result (λ _. chunks.new.items ≡ chunks.old.items ++ C.PayloadData (under tsn chunk.now) ∷ []) }
+    ensures ok { IfOk result
+        (λ _. chunks.new.items ≡ chunks.old.items ++ C.PayloadData (under tsn chunk.now) ∷ []) }
     ensures memory { IsOkUnless result ErrOutOfMemory }
 {
     let mut chunk = chunk.try_clone()?;
