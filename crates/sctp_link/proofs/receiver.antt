@@ -1,6 +1,9 @@
 pub mod Comes
 pub mod HandsOut
 pub mod Keeping
-pub mod Arrives
 pub mod Hears
 pub mod OneEach
+pub mod Slots
+pub mod Touched
+pub mod SlotLists
+pub mod Received

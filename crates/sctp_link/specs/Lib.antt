@@ -5,6 +5,7 @@ pub mod Texts
 pub mod Linked
 pub mod Fields
 pub mod Replies
+pub mod Receiving
 pub mod Skips
 pub mod Acking
 pub mod Sends

@@ -1,6 +1,6 @@
-//! Datagrams of one chunk: written, and read again.
+//! Datagrams: written, and read again.
 
-ghost use Rattle.std.specs.Prelude.{◌≡◌, ◌≤◌, ◌+◌, ◌∷◌, [], length, map, IfOk, IsOkUnless};
+ghost use Rattle.std.specs.Prelude.{◌≡◌, ◌≤◌, ◌+◌, ◌∷◌, [], List, length, map, IfOk, IsOkUnless};
 ghost use Rattle.std.specs.List.{AllByRecursion};
 ghost use Rattle.sctp_base.specs.declared.error.Error.TheVariants.{ErrOutOfMemory};
 ghost use Rattle.sctp_chunks.specs.PayloadData.{Data, data_of};
@@ -80,17 +80,38 @@ fn read_datagram<C: Checksum>(alloc: Global, raw: &Bytes, checksum: &C) -> Resul
     Ok(kind)
 }
 
-/// Reads a datagram of one DATA chunk. Refuses only for memory.
+/// Reads a datagram of DATA chunks, in their order. Refuses only for memory.
 /// Precondition: the bytes are one, under the checksum.
-pub fn read_data<C: Checksum>(alloc: Global, raw: &Bytes, checksum: &C) -> Result<ChunkPayloadData>
-    requires { (d : Data) × ReadsPacket (C.sum checksum.now) raw.now (packet_with (data_chunk d ∷ [])) }
-    ensures chunk { (d : Data) → ReadsPacket (C.sum checksum.now) raw.now (packet_with (data_chunk d ∷ [])) → IfOk result (λ c. c ≡ fresh d) }
+pub fn read_data<C: Checksum>(
+    alloc: Global,
+    raw: &Bytes,
+    checksum: &C,
+) -> Result<Vec<ChunkPayloadData>>
+    requires { (ds : List Data) × ReadsPacket (C.sum checksum.now) raw.now (packet_with (map data_chunk ds)) }
+    ensures chunks { (ds : List Data) → ReadsPacket (C.sum checksum.now) raw.now (packet_with (map data_chunk ds)) → IfOk result (λ cs. cs.items ≡ map fresh ds) }
     ensures memory { IsOkUnless result ErrOutOfMemory }
 {
-    match read_datagram(alloc, raw, checksum)? {
-        ChunkKind::PayloadData(chunk) => Ok(chunk),
-        _ => unreachable!(),
+    let packet = Packet::unmarshal(alloc, raw, checksum)?;
+    data_chunks(alloc, packet.chunks)
+}
+
+// The chunks, all of them DATA. Refuses only for memory.
+fn data_chunks(alloc: Global, kinds: Vec<ChunkKind>) -> Result<Vec<ChunkPayloadData>>
+    requires data { (ds : List Data) × (map wire_of kinds.items ≡ map data_chunk ds) }
+    requires fresh { AllByRecursion IsFreshKind kinds.items }
+    ensures chunks { (ds : List Data) → map wire_of kinds.items ≡ map data_chunk ds → IfOk result (λ cs. cs.items ≡ map fresh ds) }
+    ensures memory { IsOkUnless result ErrOutOfMemory }
+{
+    let mut kinds = kinds;
+    let mut chunks = Vec::new(alloc);
+    while let Some(kind) = kinds.pop() {
+        let ChunkKind::PayloadData(chunk) = kind else {
+            unreachable!()
+        };
+        chunks.push(chunk)?;
     }
+    chunks.reverse();
+    Ok(chunks)
 }
 
 /// Reads a datagram of one SACK. Refuses only for memory.

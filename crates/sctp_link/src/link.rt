@@ -6,6 +6,7 @@ ghost use Rattle.sctp_base.specs.declared.error.Error.TheVariants.{ErrOutOfMemor
 mod abandoning;
 mod acknowledged;
 mod acknowledging;
+mod arriving;
 mod expiring;
 mod fragments;
 mod late;

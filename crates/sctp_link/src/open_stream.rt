@@ -1,6 +1,6 @@
 //! A stream of a link.
 
-ghost use Rattle.std.specs.Prelude.{◌≡◌, ◌+◌, ◌<◌, ◌≤◌, ◌^◌, ◌==◌, ℕ, [], length, map, slice_index_or, find, drop, ◌&&◌, if◌then◌else◌, true, false, option_map, Some, None, OnOk, OnErr, IfOk, IsOkUnless, MatchOption};
+ghost use Rattle.std.specs.Prelude.{◌≡◌, ◌+◌, ◌<◌, ◌≤◌, ◌^◌, ◌==◌, ℕ, [], length, map, slice_index_or, find, drop, take, ◌&&◌, if◌then◌else◌, true, false, option_map, Some, None, OnOk, OnErr, IfOk, IsOkUnless, MatchOption};
 ghost use Rattle.sctp_base.specs.declared.error.Error.TheVariants.{ErrOutOfMemory};
 ghost use Rattle.sctp_chunks.specs.declared.chunk.chunk_payload_data.PayloadProtocolIdentifier.TheVariants.{Unknown};
 ghost use Rattle.sctp_model.specs.Messages.{is_dcep};
@@ -161,6 +161,19 @@ impl OpenStream {
             self.whole.push_back_reserved(number);
         }
         Ok(())
+    }
+
+    /// Puts back an earlier queue, and leaves of the messages noted as whole the first ones, this many.
+    pub fn put_back(&mut self, queue: ReassemblyQueue, whole: usize)
+        ensures state { self.new.state ≡ record self.old.state { reassembly_queue = queue } }
+        ensures whole { self.new.whole.items ≡ take whole self.old.whole.items }
+        ensures ordered { self.new.ordered ≡ self.old.ordered }
+        ensures begun { self.new.begun ≡ self.old.begun }
+        ensures next { self.new.next ≡ self.old.next }
+        ensures named { self.new.named ≡ self.old.named }
+    {
+        *self.state.reassembly_queue_mut() = queue;
+        self.whole.truncate(whole);
     }
 
     /// The next message of the queue; None where there is none to read.

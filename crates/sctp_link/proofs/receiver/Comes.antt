@@ -1,16 +1,20 @@
 -- What the bytes of a datagram that comes read as.
-use Rattle.std.proofs.Common.{◌≡◌, ℕ, zero, suc, ◌<◌, List, [], ◌∷◌, length, map, Some, ap, sym, ◌∙◌, arith}
+use Rattle.std.proofs.Common.{Vec, Global, ◌≡◌, ℕ, zero, suc, ◌<◌, List, [], ◌∷◌, length, map, Some, refl, ap, sym, ◌∙◌, arith}
 use Rattle.std.specs.Prelude.{slice_get, slice_index_or}
 use Rattle.std.proofs.Math.Path.{subst}
-use Rattle.sctp_chunks.specs.PayloadData.{data_of}
+use Rattle.sctp_chunks.specs.PayloadData.{Data as DataParts, data_of}
+use Rattle.sctp_chunks.specs.ChunkSet.{fresh}
 use Rattle.sctp_chunks.specs.Wire.{data_chunk}
 use Rattle.sctp_packets.specs.Packet.{ReadsPacket}
-use Rattle.sctp_model.specs.World.{Data}
+use Rattle.sctp_model.specs.World.{World, Data}
+use Rattle.sctp_model.specs.World as W
 use Rattle.sctp_model.specs.Contents.{chunk_at}
+use Rattle.sctp_link.specs.declared.record.Kind.{Kind}
+use Rattle.sctp_link.specs.declared.record.Kind.TheVariants as K
 use Rattle.sctp_link.specs.declared.record.Datagram.{Datagram}
 use Rattle.sctp_link.specs.Linked.{State, IsLinked}
-use Rattle.sctp_link.specs.Records.{datagram_record}
-use Rattle.sctp_link.specs.Texts.{packet_with}
+use Rattle.sctp_link.specs.Records.{kind_record, datagram_record}
+use Rattle.sctp_link.specs.Texts.{packet_with, wire_data}
 use Rattle.sctp_link.proofs.receiver.Hears.{raw-at, raw-length}
 
 pub made-at : {A : Type 0} (ds : List A) (k : ℕ) (g : A) → slice_get ds k ≡ Some g → k < length ds
@@ -18,10 +22,49 @@ made-at [] k g e = cc
 made-at (d ∷ ds) zero g e = omega arith
 made-at (d ∷ ds) (suc k) g e = omega (arith, made-at ds k g e)
 
--- the bytes of a datagram of one fragment read back
-pub says-data : (sum : List ℕ → ℕ) (x : State) (k p : ℕ) (ds : List Datagram) (y : Datagram) → IsLinked sum x → x.world.network ≡ map datagram_record ds → x.datagrams ≡ map (λ d. d.bytes) ds → slice_get x.world.network k ≡ Some (Data (p ∷ [])) → y ≡ slice_index_or ds k y → ReadsPacket sum y.bytes (packet_with (data_chunk (data_of (chunk_at x.world p)) ∷ []))
-says-data sum x k p ds y l network same e is =
-    let lt : k < length ds = omega (arith, made-at x.world.network k (Data (p ∷ [])) e, ap length network, raw-length datagram_record ds) in
-    let t = l.texts k y.bytes (Data (p ∷ [])) e in
+-- what the chunks of slots say
+abbrev pub said : World → List ℕ → List DataParts
+said w ps = map (λ p. data_of (chunk_at w p)) ps
+
+said-wire : (w : World) (ps : List ℕ) → map wire_data (map (chunk_at w) ps) ≡ map data_chunk (said w ps)
+said-wire w [] = refl
+said-wire w (p ∷ ps) = ap (λ ws. data_chunk (data_of (chunk_at w p)) ∷ ws) (said-wire w ps)
+
+pub said-fresh : (w : World) (ps : List ℕ) → map fresh (said w ps) ≡ map (chunk_at w) ps
+said-fresh w [] = refl
+said-fresh w (p ∷ ps) = ap (λ cs. chunk_at w p ∷ cs) (said-fresh w ps)
+
+-- the bytes of a datagram of slots read back
+pub says-data : (sum : List ℕ → ℕ) (x : State) (k : ℕ) (ps : List ℕ) (ds : List Datagram) (y : Datagram) → IsLinked sum x → x.world.network ≡ map datagram_record ds → x.datagrams ≡ map (λ d. d.bytes) ds → slice_get x.world.network k ≡ Some (Data ps) → y ≡ slice_index_or ds k y → ReadsPacket sum y.bytes (packet_with (map data_chunk (said x.world ps)))
+says-data sum x k ps ds y l network same e is =
+    let lt : k < length ds = omega (arith, made-at x.world.network k (Data ps) e, ap length network, raw-length datagram_record ds) in
+    let t = l.texts k y.bytes (Data ps) e in
     let bytes : slice_index_or x.datagrams k y.bytes ≡ y.bytes = ap (λ bs. slice_index_or bs k y.bytes) same ∙ raw-at (λ d. d.bytes) ds k y.bytes y lt ∙ ap (λ (d : Datagram). d.bytes) (sym is) in
-    subst (λ b. ReadsPacket sum b (packet_with (data_chunk (data_of (chunk_at x.world p)) ∷ []))) bytes t.reads
+    subst (λ b. ReadsPacket sum b (packet_with (map data_chunk (said x.world ps)))) bytes (subst (λ ws. ReadsPacket sum (slice_index_or x.datagrams k y.bytes) (packet_with ws)) (said-wire x.world ps) t.reads)
+
+-- the places that a link keeps of a datagram
+pub places-kept : (ds : List Datagram) (k : ℕ) (y : Datagram) (told places : List ℕ) → slice_get (map datagram_record ds) k ≡ Some (W.Data places) → y ≡ slice_index_or ds k y → kind_record y.kind ≡ W.Data told → told ≡ places
+places-kept [] k y told places e is kind = cc
+places-kept (d ∷ ds) zero y told places e is kind = inner (sym kind ∙ ap datagram_record is ∙ found (datagram_record d) e)
+  where
+    found : (g : W.Datagram) → Some g ≡ Some (W.Data places) → g ≡ W.Data places
+    found g h = cc
+
+    inner : W.Data told ≡ W.Data places → told ≡ places
+    inner h = cc
+places-kept (d ∷ ds) (suc k) y told places e is kind = places-kept ds k y told places e is kind
+
+-- a kind whose record is of slots is of slots
+pub kind-data : (ds : List Datagram) (k : ℕ) (y : Datagram) (places : List ℕ) → slice_get (map datagram_record ds) k ≡ Some (W.Data places) → y ≡ slice_index_or ds k y → kind_record y.kind ≡ W.Data places
+kind-data [] k y places e is = cc
+kind-data (d ∷ ds) zero y places e is = ap datagram_record is ∙ found (datagram_record d) e
+  where
+    found : (g : W.Datagram) → Some g ≡ Some (W.Data places) → g ≡ W.Data places
+    found g h = cc
+kind-data (d ∷ ds) (suc k) y places e is = kind-data ds k y places e is
+
+-- no other kind has a record of slots
+pub never-other : (kind : Kind) (places : List ℕ) → ((told : Vec ℕ Global) → kind ≡ K.Data told → ⊥) → kind_record kind ≡ W.Data places → ⊥
+never-other (K.Data told) places other e = other told refl
+never-other (K.Forward upto messages) places other e = cc
+never-other (K.Sack cumulative credit blocks duplicates) places other e = cc

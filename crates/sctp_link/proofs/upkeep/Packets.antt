@@ -92,3 +92,35 @@ same_forward_tsn c f e = cc
 -- a DATA chunk as reading gives it, from its wire part
 pub fresh_data : (c : ChunkPayloadData) (d : Data) → IsFreshData c → data_chunk (data_of c) ≡ data_chunk d → c ≡ fresh d
 fresh_data c d new e = new ∙ ap fresh (same_data (data_of c) d e)
+
+-- the last of some chunks that are DATA
+pub record LastData (ks : List ChunkKind) (kind : ChunkKind) (front : List Data) : Type 0 where
+  pub less : List Data
+  pub final : Data
+  pub all : front ≡ less ++ final ∷ []
+  pub rest : map wire_of ks ≡ map data_chunk less
+  pub last : wire_of kind ≡ data_chunk final
+
+pub last_data : (ks : List ChunkKind) (kind : ChunkKind) (front : List Data) → map wire_of (ks ++ kind ∷ []) ≡ map data_chunk front → LastData ks kind front
+last_data [] kind [] e = cc
+last_data [] kind (d ∷ []) e = record { less = []; final = d; all = refl; rest = refl; last = let h : wire_of kind ≡ data_chunk d = cc in h }
+last_data [] kind (d ∷ c ∷ ds) e = cc
+last_data (k ∷ ks) kind [] e = cc
+last_data (k ∷ ks) kind (d ∷ ds) e =
+    let tail : map wire_of (ks ++ kind ∷ []) ≡ map data_chunk ds = cc in
+    let head : wire_of k ≡ data_chunk d = cc in
+    let r = last_data ks kind ds tail in
+    record { less = d ∷ r.less; final = r.final; all = ap (λ xs. d ∷ xs) r.all; rest = ap (λ w. w ∷ map wire_of ks) head ∙ ap (λ ws. data_chunk d ∷ ws) r.rest; last = r.last }
+
+pub front_all : {X : Type 0} (P : X → Type 0) (xs : List X) (x : X) → AllByRecursion P (xs ++ x ∷ []) → AllByRecursion P xs
+front_all P [] x all = tt
+front_all P (y ∷ ys) x all = (all.0, front_all P ys x all.1)
+
+-- no chunks
+pub none_data : (front : List Data) → [] ≡ map data_chunk front → front ≡ []
+none_data [] e = refl
+none_data (d ∷ ds) e = cc
+
+pub append_more : (xs : List Data) (y : Data) (ys : List Data) → (xs ++ y ∷ []) ++ ys ≡ xs ++ y ∷ ys
+append_more [] y ys = refl
+append_more (x ∷ xs) y ys = ap (λ zs. x ∷ zs) (append_more xs y ys)

@@ -1,22 +1,22 @@
 //! What comes to the receiver of a link, and what is read there.
 
-ghost use Rattle.std.specs.Prelude.{◌≡◌, ◌<◌, ◌≤◌, ◌+◌, ◌-◌, ◌^◌, ◌∷◌, ◌++◌, ℕ, [], true, false, None, Some, OnOk, OnErr, IfOk, IsOkUnless, MatchOption, length, slice_get, slice_index_or, map};
+ghost use Rattle.std.specs.Prelude.{◌≡◌, ◌<◌, ◌≤◌, ◌+◌, ◌-◌, ◌^◌, ◌∷◌, ℕ, List, [], true, None, Some, OnErr, IfOk, IsOkUnless, length, slice_get, slice_index_or, map, if◌then◌else◌};
 ghost use Rattle.sctp_base.specs.declared.error.Error.TheVariants.{ErrOutOfMemory};
-ghost use Rattle.sctp_lists.specs.Lists.{advanced, inserted};
+ghost use Rattle.sctp_lists.specs.Lists.{advanced};
 ghost use Rattle.sctp_chunks.specs.declared.chunk.chunk_payload_data.ChunkPayloadData.{ChunkPayloadData};
-ghost use Rattle.sctp_serial.specs.DataChunks.{chunk_before};
 ghost use Rattle.sctp_outbound.specs.payload_queue.PayloadQueue.{with_chunks};
-ghost use Rattle.sctp_serial.specs.Window;
 ghost use Rattle.sctp_model.specs.Steps.{unless};
+ghost use Rattle.sctp_model.specs.Reply as R;
+ghost use Rattle.sctp_link.specs.Replies.{reply_of};
 ghost use Rattle.sctp_model.specs.declared.event.LinkRefusal.TheVariants.{SpanTooWide};
 
-use super::{Link, put};
+use super::Link;
+use super::arriving::receive_slots;
 use crate::datagram::read_data;
 use crate::event::{LinkRefusal, Reply};
 use crate::record::Kind;
 use sctp_base::error::Result;
 use sctp_base::util::{Checksum, sna32lte};
-use sctp_chunks::chunk::chunk_payload_data::ChunkPayloadData;
 use sctp_queues::chunks::{Chunks, Fragments};
 use sctp_queues::payload_queue::PayloadQueue;
 
@@ -24,9 +24,7 @@ impl<C: Checksum + Drop> Link<C> {
     ghost use Rattle.sctp_model.specs.World.{Data};
     ghost use Rattle.sctp_model.specs.Messages.{message_at, message_of, index_of, tsn_of, is_open};
     ghost use Rattle.sctp_model.specs.Receiver.{is_new, is_held, held_on, next_of, least, greatest};
-    ghost use Rattle.sctp_model.specs.Contents.{chunk_at};
     ghost use Rattle.sctp_model.specs.Queues.{set_of};
-    ghost use Rattle.sctp_model.specs.Changes.{slot_received};
     ghost use Rattle.sctp_model.specs.Steps.{IsRight, refusal_of, is_for_receiver, arrival_fits};
     ghost use Rattle.sctp_model.specs.declared.event.Event.TheVariants as E;
     ghost use Rattle.sctp_link.specs.Replies.{reply_of};
@@ -111,10 +109,7 @@ impl<C: Checksum + Drop> Link<C> {
         ensures memory { IsOkUnless result ErrOutOfMemory }
     {
         match &self.network[k as usize].kind {
-            Kind::Data { places } => {
-                let place = places[0] as usize;
-                self.arrive_data(k, place)
-            }
+            Kind::Data { .. } => self.arrive_data(k),
             Kind::Forward { upto, .. } => {
                 let upto = *upto;
                 self.arrive_skip(k, upto)
@@ -123,69 +118,30 @@ impl<C: Checksum + Drop> Link<C> {
         }
     }
 
-    // Takes the DATA chunk of datagram k, that of the slot at a place.
-    fn arrive_data(&mut self, k: u64, place: usize) -> Result<Reply>
+    // Takes the DATA chunks of datagram k, one after another.
+    fn arrive_data(&mut self, k: u64) -> Result<Reply>
         requires none { refusal_of self.old.world (E.Arrive k) ≡ None }
-        requires lies { slice_get self.old.world.network k ≡ Some (Data (place ∷ [])) }
+        requires lies { (places : List ℕ) × (slice_get self.old.world.network k ≡ Some (Data places)) }
         ensures ok { IfOk result (λ reply. IsRight self.old.world (E.Arrive k) (reply_of reply) self.new.world) }
         ensures checksum { self.new.checksum ≡ self.old.checksum }
         ensures err { OnErr result (self.new.world ≡ self.old.world) }
         ensures memory { IsOkUnless result ErrOutOfMemory }
     {
-        let chunk = self.receive(k, place)?;
-        if self.is_new(place) {
-            self.keep(place, chunk)?;
-            return Ok(Reply::New);
-        }
-        self.repeat(place, chunk)?;
-        Ok(Reply::Repeat)
-    }
-
-    // Reads the bytes of datagram k, which has the DATA chunk of the slot at a place.
-    fn receive(&self, k: u64, place: usize) -> Result<ChunkPayloadData>
-        requires { slice_get self.now.world.network k ≡ Some (Data (place ∷ [])) }
-        ensures made { IfOk result (λ c. place < length self.now.world.slots) }
-        ensures chunk { IfOk result (λ c. c ≡ chunk_at self.now.world place) }
-        ensures memory { IsOkUnless result ErrOutOfMemory }
-    {
-        read_data(self.alloc, &self.network[k as usize].bytes, &self.checksum)
-    }
-
-    // Notes a slot that came again.
-    fn repeat(&mut self, place: usize, chunk: ChunkPayloadData) -> Result<()>
-        requires comes { (k : ℕ) × (refusal_of self.old.world (E.Arrive k) ≡ None) × (slice_get self.old.world.network k ≡ Some (Data (place ∷ []))) }
-        requires old { is_new self.old.world place ≡ false }
-        requires chunk { chunk ≡ chunk_at self.old.world place }
-        ensures ok { OnOk result (self.new.world ≡ slot_received self.old.world place) }
-        ensures checksum { self.new.checksum ≡ self.old.checksum }
-        ensures err { OnErr result (self.new.world ≡ self.old.world) }
-        ensures memory { IsOkUnless result ErrOutOfMemory }
-    {
-        self.duplicates.reserve(1)?;
-        self.filter.push(chunk, self.cumulative_tsn)?;
-        put(&mut self.duplicates, place as u64);
-        Ok(())
-    }
-
-    // Keeps the fragment of a slot that came for the first time.
-    fn keep(&mut self, place: usize, chunk: ChunkPayloadData) -> Result<()>
-        requires comes { (k : ℕ) × (refusal_of self.old.world (E.Arrive k) ≡ None) × (slice_get self.old.world.network k ≡ Some (Data (place ∷ []))) }
-        requires fresh { is_new self.old.world place ≡ true }
-        requires chunk { chunk ≡ chunk_at self.old.world place }
-        ensures ok { OnOk result (self.new.world ≡ slot_received self.old.world place) }
-        ensures checksum { self.new.checksum ≡ self.old.checksum }
-        ensures err { OnErr result (self.new.world ≡ self.old.world) }
-        ensures memory { IsOkUnless result ErrOutOfMemory }
-    {
-        let number = self.slots[place].message;
-        let Some(at) = self.open_streams.place_of(chunk.stream_identifier) else {
+        let chunks = read_data(self.alloc, &self.network[k as usize].bytes, &self.checksum)?;
+        let Kind::Data { places } = &self.network[k as usize].kind else {
             unreachable!()
         };
-        self.filter.reserve(1)?;
-        self.open_streams.items[at].keep(&chunk, number)?;
-        self.cumulative_tsn = note(&mut self.filter, chunk, self.cumulative_tsn);
-        self.slots[place].arrived = true;
-        Ok(())
+        let new = receive_slots(
+            self.alloc,
+            &mut self.open_streams,
+            &mut self.slots,
+            &mut self.filter,
+            &mut self.cumulative_tsn,
+            &mut self.duplicates,
+            places,
+            &chunks,
+        )?;
+        Ok(reply_to_data(new))
     }
 
     /// Reads the next message of a stream.
@@ -231,36 +187,19 @@ fn unless_fits(fits: bool) -> Option<LinkRefusal>
     }
 }
 
+// The reply to DATA chunks of which one is new, or none.
+fn reply_to_data(new: bool) -> Reply
+    ensures { reply_of result ≡ (if new then R.New else R.Repeat) }
+{
+    if new { Reply::New } else { Reply::Repeat }
+}
+
 // The TSN of the first fragment of a message.
 fn first_tsn(chunks: &Chunks) -> u32
     requires { 0 < length chunks.now.set.chunks }
     ensures { (d : ChunkPayloadData) → result ≡ (slice_index_or chunks.now.set.chunks 0 d).tsn }
 {
     chunks.fragments()[0].tsn
-}
-
-// Puts the TSN of a new chunk where room was made for it, and answers the cumulative TSN that follows.
-fn note(filter: &mut PayloadQueue, chunk: ChunkPayloadData, cumulative: u32) -> u32
-    requires room { 0 < filter.old.room }
-    requires fresh { Window.is_new filter.old.chunks chunk.tsn cumulative ≡ true }
-    requires window { Window.IsWindow cumulative filter.old.chunks chunk.tsn }
-    ensures moved { advanced cumulative (map (λ c. c.tsn) (inserted chunk_before (record chunk { user_data = [] }) filter.old.chunks)) ≡ record { cum = result; held = map (λ c. c.tsn) filter.new.chunks } }
-    ensures duplicates { filter.new.duplicates ≡ filter.old.duplicates }
-{
-    let mark = without_data(chunk);
-    // The count of bytes, to which the mark adds none, fits.
-    let _held = filter.get_num_bytes();
-    let _ = filter.push(mark, cumulative);
-    advance(filter, cumulative)
-}
-
-// The chunk without its bytes, which a filter of TSNs does not need.
-fn without_data(chunk: ChunkPayloadData) -> ChunkPayloadData
-    ensures { result ≡ record chunk { user_data = [] } }
-{
-    let mut chunk = chunk;
-    chunk.user_data.clear();
-    chunk
 }
 
 // Moves the cumulative TSN over the chunks that stand next to it, which leave the filter (RFC 4960 6.2).

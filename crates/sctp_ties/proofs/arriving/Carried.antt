@@ -24,7 +24,7 @@ pub enters : (w : World) (p : ℕ) → Carried w p → is_new w p ≡ true → E
 enters w p c e = record { made = c.made; new = e; fragment = c.fragment; stream = refl; alive = c.alive }
 
 -- each slot that has a fragment is such a one
-carried : (setup : Setup) (w : World) (p : ℕ) → Sane setup w → p < length w.slots → (slot_at w p).is_end_mark ≡ false → Carried w p
+pub carried : (setup : Setup) (w : World) (p : ℕ) → Sane setup w → p < length w.slots → (slot_at w p).is_end_mark ≡ false → Carried w p
 carried setup w p g lt mark = record {
   made = lt;
   fragment = mark;

@@ -85,12 +85,12 @@ fits-span w s more sp =
 
 -- ## What a slot leaves of a record but for its message
 
-record Only (w v : World) (n : ℕ) : Type 0 where
-  count : length v.messages ≡ length w.messages
-  next : (t : ℕ) → next_of v t ≡ next_of w t
-  index : (k : ℕ) → index_of v k ≡ index_of w k
-  on : (t k : ℕ) → is_ordered_on v t k ≡ is_ordered_on w t k
-  held : (t k : ℕ) → (k ≡ n → ⊥) → is_held v t k ≡ true → is_held w t k ≡ true
+pub record Only (w v : World) (n : ℕ) : Type 0 where
+  pub count : length v.messages ≡ length w.messages
+  pub next : (t : ℕ) → next_of v t ≡ next_of w t
+  pub index : (k : ℕ) → index_of v k ≡ index_of w k
+  pub on : (t k : ℕ) → is_ordered_on v t k ≡ is_ordered_on w t k
+  pub held : (t k : ℕ) → (k ≡ n → ⊥) → is_held v t k ≡ true → is_held w t k ≡ true
 
 held-back : (v : World) (s n t k : ℕ) → is_held (stream_changed v s (with_whole n)) t k ≡ true → is_held v t k ≡ true
 held-back v s n t k h =
@@ -104,7 +104,7 @@ held-back v s n t k h =
       due = ap (λ b. b || nat_le (stream_of v t).named (index_of v k)) whole ∙ ap (λ m. is_whole u k || nat_le m (index_of v k)) (sym (Keeps.named-changed v s (with_whole n) (λ r. refl) (λ r. refl) t)) ∙ x.due;
     })
 
-only-slot : (w : World) (p : ℕ) → Only w (slot_received w p) (message_of w p)
+pub only-slot : (w : World) (p : ℕ) → Only w (slot_received w p) (message_of w p)
 only-slot w p = by_step (λ u. Only w u (message_of w p)) w p (record { count = refl; next = λ t. refl; index = λ k. refl; on = λ t k. refl; held = λ t k ne h. h }) (λ e b h. new b)
   where
     back : (t k : ℕ) → (k ≡ message_of w p → ⊥) → is_held (with_arrived w p) t k ≡ true → is_held w t k ≡ true
@@ -125,7 +125,7 @@ only-slot w p = by_step (λ u. Only w u (message_of w p)) w p (record { count = 
         }
 
 -- of each stream that was open, after a slot too
-all-streams : (w : World) (p : ℕ) (t u : ℕ → Bool) → ((x : ℕ) → t x ≡ true → u x ≡ true) → list_all (λ r. t r.stream) w.streams ≡ true → list_all (λ r. u r.stream) (slot_received w p).streams ≡ true
+pub all-streams : (w : World) (p : ℕ) (t u : ℕ → Bool) → ((x : ℕ) → t x ≡ true → u x ≡ true) → list_all (λ r. t r.stream) w.streams ≡ true → list_all (λ r. u r.stream) (slot_received w p).streams ≡ true
 all-streams w p t u more a = by_step (λ v. list_all (λ r. u r.stream) v.streams ≡ true) w p (same w.streams a) (λ e b h. new b)
   where
     same : (rs : List StreamRecord) → list_all (λ r. t r.stream) rs ≡ true → list_all (λ r. u r.stream) rs ≡ true

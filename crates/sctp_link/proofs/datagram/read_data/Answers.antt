@@ -1,11 +1,18 @@
-use Rattle.std.proofs.Common.{ap, sym, subst, ◌∙◌}
-use Rattle.sctp_chunks.specs.Kind.{wire_of, IsFreshKind}
+use Rattle.sctp_link.specs.Texts.{packet_with}
+use Rattle.std.proofs.Common.{ap, map}
+use Rattle.std.proofs.lemmas.Result.{err_from_is_err_and}
 use Rattle.sctp_chunks.specs.Wire.{data_chunk}
-use Rattle.sctp_link.proofs.upkeep.Packets.{data_kind, fresh_data}
 use Rattle.sctp_link.proofs.datagram.read_data.Goals as goal
 
-pub unreachable-requires : goal.unreachable-requires
-unreachable-requires g c = data_kind c.in_ok-chunk.field-0 c.requires.0 c.in_default.not-PayloadData (c.in_ok-chunk.ensures.chunk (data_chunk c.requires.0) c.requires.1)
+pub returns-in_err-packet-clause-memory : goal.returns-in_err-packet-clause-memory
+returns-in_err-packet-clause-memory g c =
+    let only = c.in_err-packet.ensures.only (packet_with (map data_chunk c.requires.0)) c.requires.1 in
+    let p = err_from_is_err_and c.from_residual.result c.from_residual.ensures.1 in
+    rw (p.1, p.2) only
 
-pub returns-clause-chunk : goal.returns-clause-chunk
-returns-clause-chunk g c = λ d reads. fresh_data c.in-PayloadData.chunk d (subst IsFreshKind c.in-PayloadData.is c.in_ok-chunk.ensures.fresh) (ap wire_of (sym c.in-PayloadData.is) ∙ c.in_ok-chunk.ensures.chunk (data_chunk d) reads)
+pub data_chunks-requires-clause-data : goal.data_chunks-requires-clause-data
+data_chunks-requires-clause-data g c =
+    (c.requires.0, ap (λ p. p.chunks) (c.in_ok-packet.ensures.only (packet_with (map data_chunk c.requires.0)) c.requires.1))
+
+pub returns-clause-chunks : goal.returns-clause-chunks
+returns-clause-chunks g c = λ ds reads. c.data_chunks.ensures.chunks ds (ap (λ p. p.chunks) (c.in_ok-packet.ensures.only (packet_with (map data_chunk ds)) reads))

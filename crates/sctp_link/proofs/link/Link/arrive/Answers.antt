@@ -5,7 +5,7 @@ use Rattle.sctp_model.specs.Steps.{refusal_of}
 use Rattle.sctp_model.specs.declared.event.Event.TheVariants as E
 use Rattle.sctp_link.specs.Fields.{world_in, state_in}
 use Rattle.sctp_link.specs.Records.{kind_record}
-use Rattle.sctp_link.proofs.receiver.OneEach.{one-place, lies-first, never-sack, there-is}
+use Rattle.sctp_link.proofs.receiver.OneEach.{never-sack, there-is}
 use Rattle.sctp_link.proofs.skipping.SkipComes.{kept-kind}
 use Rattle.sctp_link.proofs.link.Link.arrive.Goals as goal
 
@@ -14,20 +14,12 @@ index-requires g c =
     let none : refusal_of (world_in c.self.inside) (E.Arrive c.args.k) ≡ None = rw (← c.self.view_is) at c.requires in
     omega (arith, there-is (world_in c.self.inside) c.args.k c.self.inside.network.items refl none)
 
-pub index-requires-in-Data : goal.index-requires-in-Data
-index-requires-in-Data g c =
-    let none : refusal_of (world_in c.self.inside) (E.Arrive c.args.k) ≡ None = rw (← c.self.view_is) at c.requires in
-    let lt = there-is (world_in c.self.inside) c.args.k c.self.inside.network.items refl none in
-    let e = kept-kind c.self.inside.network.items c.args.k c.index.result.now lt c.index.ensures in
-    let one = one-place (g.C.Checksum.sum c.self.inside.checksum) (state_in c.self.inside) c.self.invariant c.args.k c.in-Data.places.items (e ∙ ap (λ k. Some (kind_record k)) c.in-Data.is) in
-    omega (arith, ap length one.1)
-
 pub arrive_data-requires-clause-lies : goal.arrive_data-requires-clause-lies
 arrive_data-requires-clause-lies g c =
     let none : refusal_of (world_in c.self.inside) (E.Arrive c.args.k) ≡ None = rw (← c.self.view_is) at c.requires in
     let lt = there-is (world_in c.self.inside) c.args.k c.self.inside.network.items refl none in
     let e = kept-kind c.self.inside.network.items c.args.k c.index.result.now lt c.index.ensures ∙ ap (λ k. Some (kind_record k)) c.in-Data.is in
-    rw (← c.self.view_is) (lies-first (g.C.Checksum.sum c.self.inside.checksum) (state_in c.self.inside) c.self.invariant c.args.k c.in-Data.places.items e c.index-in-Data.result.now c.index-in-Data.ensures)
+    rw (← c.self.view_is) (c.in-Data.places.items, e)
 
 pub arrive_skip-requires-clause-lies : goal.arrive_skip-requires-clause-lies
 arrive_skip-requires-clause-lies g c =

@@ -1,0 +1,259 @@
+-- The slots of a datagram of a link come to a sound record, and what the link is after them.
+use Rattle.std.proofs.Common.{◌≡◌, ℕ, zero, suc, ◌+◌, ◌<◌, ◌≤◌, ◌%◌, ◌^◌, Bool, true, false, List, [], ◌∷◌, ◌++◌, length, map, Some, None, refl, ap, sym, ◌∙◌, arith}
+use Rattle.std.specs.Prelude.{◌==◌, not, is_some, if◌then◌else◌, find, fold, slice_get, slice_index_or}
+use Rattle.std.specs.List.{list_any}
+use Rattle.std.specs.BTreeMap.{BTreeMap}
+use Rattle.std.proofs.Math.Path.{subst}
+use Rattle.std.proofs.lemmas.List.{ext_get_or}
+use Rattle.std.proofs.lemmas.List.Sums.{fold-append}
+use Rattle.sctp_lists.specs.Lists.{pieces}
+use Rattle.sctp_chunks.specs.ChunkSet.{fresh}
+use Rattle.sctp_chunks.specs.declared.chunk.chunk_payload_data.ChunkPayloadData.{ChunkPayloadData}
+use Rattle.sctp_outbound.specs.payload_queue.PayloadQueue.{Payload}
+use Rattle.sctp_reassembly.specs.reassembly_queue.ReassemblyQueue.{ReassemblyState, is_too_large}
+use Rattle.sctp_model.specs.declared.event.Event.TheVariants as E
+use Rattle.sctp_model.specs.Reply as R
+use Rattle.sctp_model.specs.World.{Setup, World, Data}
+use Rattle.sctp_model.specs.Messages.{message_at, slot_at, message_of, ordered_before}
+use Rattle.sctp_model.specs.Receiver.{is_new, next_of}
+use Rattle.sctp_model.specs.Changes.{slot_received, datagram_received, whole_noted, becomes_whole}
+use Rattle.sctp_model.specs.Contents.{chunk_at}
+use Rattle.sctp_model.specs.Queues.{filter_of}
+use Rattle.sctp_model.specs.Steps.{History, IsRun, world_of, refusal_of, after, IsRight, arrive_reply}
+use Rattle.sctp_model.specs.Laws.{IsSetup}
+use Rattle.sctp_model.specs.Sound.{ComesSound, AllFragments}
+use Rattle.sctp_model.proofs.sender.Shape.{Shape, shape, index, parts}
+use Rattle.sctp_model.proofs.sender.SenderRun.{Sane, sane-run, sane-received}
+use Rattle.sctp_model.proofs.sender.Network
+use Rattle.sctp_model.proofs.receiver.SoundRun.{slots_come_sound}
+use Rattle.sctp_model.proofs.acknowledgement.Bytes.{size-some}
+use Rattle.sctp_lists.proofs.More.{not_both}
+use Rattle.sctp_ties.specs.Amount.{amount}
+use Rattle.sctp_ties.specs.Indexes.{begun_on}
+use Rattle.sctp_ties.specs.Holds.{reassembly_of}
+use Rattle.sctp_ties.specs.Counts.{counters_on}
+use Rattle.sctp_ties.specs.Tied.{filter_held}
+use Rattle.sctp_ties.proofs.sending.SlotsGoOn.{AllGoOn, goes-run}
+use Rattle.sctp_ties.proofs.amounts.NoLarger.{no-larger}
+use Rattle.sctp_ties.proofs.amounts.Sizes.{never-too-large}
+use Rattle.sctp_ties.proofs.amounts.StreamCounters.{counters-same}
+use Rattle.sctp_ties.proofs.acknowledging.QuietSender
+use Rattle.sctp_ties.proofs.acknowledging.QuietSender.{SameToSender}
+use Rattle.sctp_ties.proofs.arriving.Arrival
+use Rattle.sctp_ties.proofs.arriving.Arrival.{with_arrived}
+use Rattle.sctp_ties.proofs.arriving.Carried.{Carried, carried, enters}
+use Rattle.sctp_ties.proofs.arriving.SlotArrives
+use Rattle.sctp_ties.proofs.reading.ReadOne.{next-arrive}
+use Rattle.sctp_transfer.specs.declared.stream.StreamState.{StreamState}
+use Rattle.sctp_link.specs.declared.open_stream.OpenStream.{OpenStream}
+use Rattle.sctp_link.specs.declared.record.Slot.{Slot}
+use Rattle.sctp_link.specs.Linked.{State, IsLinked, IsOpenStream, has_number, stats_of}
+use Rattle.sctp_link.specs.Places.{IsIndexed, stream_numbers}
+use Rattle.sctp_link.specs.Records.{slot_record, stream_record}
+use Rattle.sctp_link.specs.Receiving.{IsReceiver, Comes, AllCome, IsUnchanged, TouchesOnly}
+use Rattle.sctp_link.proofs.upkeep.Facts.{facts, over}
+use Rattle.sctp_link.proofs.upkeep.StreamsAfter.{stream-then, linked-then}
+use Rattle.sctp_link.proofs.upkeep.Lookups.{none-open}
+use Rattle.sctp_link.proofs.receiver.Hears.{raw-at, raw-length}
+use Rattle.sctp_link.proofs.receiver.Touched.{numbers-same}
+
+-- ## They come to a sound record
+
+-- the chunk of a slot, by what the sender knows
+abbrev chunk_by : Shape → ℕ → ℕ → ChunkPayloadData
+chunk_by y first p =
+    fresh (record {
+      unordered = not (y.message (y.slot p).message).ordered;
+      beginning_fragment = (y.slot p).fragment == 0;
+      ending_fragment = (y.slot p).fragment + 1 == parts y (y.slot p).message;
+      immediate_sack = false;
+      tsn = (first + p) % 2 ^ 32;
+      stream_identifier = (y.message (y.slot p).message).stream;
+      stream_sequence_number = (if (y.message (y.slot p).message).ordered then index y (y.slot p).message else (y.message (y.slot p).message).before) % 2 ^ 16;
+      payload_type = (y.message (y.slot p).message).ppi;
+      user_data = slice_index_or (pieces (length (y.message (y.slot p).message).bytes) y.size (y.message (y.slot p).message).bytes) (y.slot p).fragment [];
+    })
+
+chunk-same : (w v : World) (p : ℕ) → Network.Same w v → chunk_at w p ≡ chunk_at v p
+chunk-same w v p s = ap (λ y. chunk_by y w.setup.first p) (sym s.shape_is) ∙ ap (λ t. chunk_by (shape v) t.first p) (sym s.setup)
+
+module _ (setup : Setup) (h : History) (is : IsSetup setup) (run : IsRun setup h) (k : ℕ) (none : refusal_of (world_of setup h) (E.Arrive k) ≡ None) where
+  abbrev w : World
+  w = world_of setup h
+
+  comes-one : (v : World) (front : List ℕ) (p : ℕ) (qs : List ℕ) → v ≡ fold slot_received w front → Sane setup v → slice_get w.network k ≡ Some (Data (front ++ p ∷ qs)) → Comes v p (chunk_at w p)
+  comes-one v front p qs eq g e =
+      let sound : ComesSound v p = subst (λ u. ComesSound u p) (sym eq) (slots_come_sound setup h is run k front p qs none e) in
+      let same : Network.Same w v = subst (Network.Same w) (sym eq) (Network.same-slots w front) in
+      let c = carried setup v p g sound.made sound.fragment in
+      let chunk = chunk-same w v p same in
+      let n = message_of v p in
+      let made : n < length w.messages = omega (arith, sound.sound.made n p (Arrival.has-fragment v p sound.fragment), ap (λ y. y.count) same.shape_is) in
+      let short : length (message_at v n).bytes ≤ v.setup.largest = omega (arith, no-larger setup h n is run made, ap (λ y. length (y.message n).bytes) same.shape_is, ap (λ s. s.largest) g.setup_is) in
+      record {
+        sound = sound;
+        alive = c.alive;
+        known = c.known;
+        chunk = chunk;
+        small = λ new q held limit. ap (λ x. is_too_large x q) chunk
+            ∙ never-too-large setup v p q g sound.sound sound.loose (subst AllGoOn (sym same.shape_is) (goes-run setup h run)) (size-some setup v is g) c new
+            (λ o. sound.near (message_at v n).stream (SlotArrives.ordered-on v (message_at v n).stream p (enters v p c new) o) new) short held limit;
+      }
+
+  comes-from : (v : World) (front rest : List ℕ) → v ≡ fold slot_received w front → Sane setup v → slice_get w.network k ≡ Some (Data (front ++ rest)) → AllCome v rest (map (chunk_at w) rest)
+  comes-from v front [] eq g e = tt
+  comes-from v front (p ∷ qs) eq g e = (
+    comes-one v front p qs eq g e,
+    comes-from (slot_received v p) (front ++ p ∷ []) qs (ap (λ u. slot_received u p) eq ∙ sym (fold-append slot_received w front (p ∷ []))) (sane-received setup v p g) (e ∙ ap (λ ps. Some (Data ps)) (sym (assoc front p qs))),
+  )
+    where
+      assoc : (xs : List ℕ) (y : ℕ) (ys : List ℕ) → (xs ++ y ∷ []) ++ ys ≡ xs ++ y ∷ ys
+      assoc [] y ys = refl
+      assoc (x ∷ xs) y ys = ap (λ zs. x ∷ zs) (assoc xs y ys)
+
+  comes-run : (ps : List ℕ) → slice_get w.network k ≡ Some (Data ps) → AllCome w ps (map (chunk_at w) ps)
+  comes-run ps e = comes-from w [] ps refl (sane-run setup h run) e
+
+-- so do those of a datagram of a link
+pub all-come : (sum : List ℕ → ℕ) (x : State) (l : IsLinked sum x) (k : ℕ) (ps : List ℕ) → refusal_of x.world (E.Arrive k) ≡ None → slice_get x.world.network k ≡ Some (Data ps) → AllCome x.world ps (map (chunk_at x.world) ps)
+all-come sum x l k ps none e =
+    over sum x (λ (u : World). refusal_of u (E.Arrive k) ≡ None → slice_get u.network k ≡ Some (Data ps) → AllCome u ps (map (chunk_at u) ps)) l
+    (λ n i. comes-run x.world.setup l.history l.setup l.stands.run k n ps i) none e
+
+-- what a link keeps for its receiver
+pub receiver-of : (sum : List ℕ → ℕ) (x : State) (l : IsLinked sum x) (slots : List Slot) (dups : List ℕ) → x.world.streams ≡ map stream_record x.open_streams → x.world.slots ≡ map slot_record slots → x.world.duplicates ≡ dups → IsReceiver x.world x.open_streams slots x.filter x.cumulative_tsn dups
+receiver-of sum x l slots dups a b c = record {
+  streams_are = a;
+  slots_are = b;
+  duplicates_are = c;
+  filter_is = l.filter;
+  queues = λ k d lt. let i = l.open_streams k d lt in record { held = i.held; si = i.si; largest = i.largest };
+  places = x.places;
+  indexed = l.indexed;
+}
+
+-- ## The record after them
+
+-- slots change streams, slots and duplicates alone
+rest-one : (w : World) (p : ℕ) → slot_received w p ≡ record w { streams = (slot_received w p).streams; slots = (slot_received w p).slots; duplicates = (slot_received w p).duplicates }
+rest-one w p = by (is_new w p) refl
+  where
+    noted : (b : Bool) → becomes_whole (with_arrived w p) (message_of w p) ≡ b → whole_noted (with_arrived w p) (message_of w p) ≡ record w { streams = (whole_noted (with_arrived w p) (message_of w p)).streams; slots = (whole_noted (with_arrived w p) (message_of w p)).slots; duplicates = (whole_noted (with_arrived w p) (message_of w p)).duplicates }
+    noted true e = rw e refl
+    noted false e = rw e refl
+
+    by : (b : Bool) → is_new w p ≡ b → slot_received w p ≡ record w { streams = (slot_received w p).streams; slots = (slot_received w p).slots; duplicates = (slot_received w p).duplicates }
+    by true e =
+        let is : slot_received w p ≡ whole_noted (with_arrived w p) (message_of w p) = ap (λ b. if b then whole_noted (with_arrived w p) (message_of w p) else record w { duplicates = w.duplicates ++ p ∷ [] }) e in
+        subst (λ (v : World). v ≡ record w { streams = v.streams; slots = v.slots; duplicates = v.duplicates }) (sym is) (noted (becomes_whole (with_arrived w p) (message_of w p)) refl)
+    by false e = subst (λ (v : World). v ≡ record w { streams = v.streams; slots = v.slots; duplicates = v.duplicates }) (sym (SlotArrives.repeated w p e)) refl
+
+rest-all : (w v : World) (ps : List ℕ) → v ≡ record w { streams = v.streams; slots = v.slots; duplicates = v.duplicates } → (let u = fold slot_received v ps in u ≡ record w { streams = u.streams; slots = u.slots; duplicates = u.duplicates })
+rest-all w v [] e = e
+rest-all w v (p ∷ ps) e =
+    let u = slot_received v p in
+    rest-all w u ps (rest-one v p ∙ ap {B = World} (λ (z : World). record z { streams = u.streams; slots = u.slots; duplicates = u.duplicates }) e)
+
+sender-then : (w v u : World) → SameToSender w v → SameToSender v u → SameToSender w u
+sender-then w v u f g = record {
+  setup = g.setup ∙ f.setup;
+  count = g.count ∙ f.count;
+  message = λ n. g.message n ∙ f.message n;
+  slots = g.slots ∙ f.slots;
+  slot = λ p. g.slot p ∙ f.slot p;
+  taken = g.taken ∙ f.taken;
+}
+
+quiet-slots : (w v : World) (ps : List ℕ) → SameToSender w v → SameToSender w (fold slot_received v ps)
+quiet-slots w v [] f = f
+quiet-slots w v (p ∷ ps) f = quiet-slots w (slot_received v p) ps (sender-then w v (slot_received v p) f (QuietSender.same-slot v p))
+
+-- ## The link after them
+
+module _ (sum : List ℕ → ℕ) (x : State) (l : IsLinked sum x) (k : ℕ) (ps : List ℕ) (none : refusal_of x.world (E.Arrive k) ≡ None) (e : slice_get x.world.network k ≡ Some (Data ps)) where
+  abbrev here : World
+  here = x.world
+
+  abbrev then' : World
+  then' = after x.world (E.Arrive k)
+
+  after-is : then' ≡ fold slot_received here ps
+  after-is = ap (datagram_received here) e
+
+  frame : Network.Same here then'
+  frame = Network.same-received here (slice_get here.network k)
+
+  quiet : SameToSender here then'
+  quiet = subst (SameToSender here) (sym after-is) (quiet-slots here here ps (record { setup = refl; count = refl; message = λ n. refl; slots = refl; slot = λ p. refl; taken = refl }))
+
+  next-stays : (t : ℕ) → next_of then' t ≡ next_of here t
+  next-stays t =
+      over sum x (λ (u : World). slice_get u.network k ≡ Some (Data ps) → next_of (after u (E.Arrive k)) t ≡ next_of u t) l
+      (λ i. next-arrive x.world.setup l.history k t ps i) e
+
+  counters-stay : (t : ℕ) → counters_on then' t ≡ counters_on here t
+  counters-stay t = let f = facts sum x l in counters-same here.setup here (E.Arrive k) t f.sane refl refl
+
+  module _ (js : List ℕ) (ls : List OpenStream) (slots : List Slot) (filter : Payload) (cumulative : ℕ) (dups : List ℕ) (r : IsReceiver (fold slot_received x.world ps) ls slots filter cumulative dups) (t : TouchesOnly js x.open_streams ls) where
+    pub world-received : record x.world { streams = map stream_record ls; slots = map slot_record slots; duplicates = dups } ≡ fold slot_received x.world ps
+    world-received =
+        let v = fold slot_received x.world ps in
+        ap {B = World} (λ a. record x.world { streams = a; slots = map slot_record slots; duplicates = dups }) (sym r.streams_are)
+        ∙ ap {B = World} (λ a. record x.world { streams = v.streams; slots = a; duplicates = dups }) (sym r.slots_are)
+        ∙ ap {B = World} (λ a. record x.world { streams = v.streams; slots = v.slots; duplicates = a }) (sym r.duplicates_are)
+        ∙ sym (rest-all x.world x.world ps refl)
+
+    stream-received : (j : ℕ) (d : OpenStream) → j < length ls → IsOpenStream then' (slice_index_or ls j d)
+    stream-received j d lt =
+        let less : j < length x.open_streams = omega (arith, lt, t.count) in
+        let y = slice_index_or x.open_streams j d in
+        let z = slice_index_or ls j d in
+        let i = l.open_streams j d less in
+        let touched = t.each j d less in
+        let q = r.queues j d lt in
+        let state = touched.state in
+        let id = ap (λ (s : StreamState). s.stream_identifier) state in
+        stream-then sum x l (E.Arrive k) none frame refl y z i id
+        (q.held ∙ ap (reassembly_of (fold slot_received here ps)) id ∙ ap (λ u. reassembly_of u y.state.stream_identifier) (sym after-is))
+        (q.si ∙ id ∙ sym i.si)
+        (q.largest ∙ ap (λ s. s.largest) (Network.same-slots here ps).setup ∙ sym i.largest)
+        (ap (λ (s : StreamState). s.max_payload_size) state) touched.ordered (ap (λ (s : StreamState). s.sequence_number) state) touched.begun (touched.next ∙ i.next ∙ sym (next-stays y.state.stream_identifier))
+        (ap (λ (s : StreamState). s.buffered_amount) state) (ap (λ (s : StreamState). s.stats) state ∙ i.stats ∙ ap stats_of (sym (counters-stay y.state.stream_identifier)))
+
+    pub linked-received : IsLinked sum (record x { world = record x.world { streams = map stream_record ls; slots = map slot_record slots; duplicates = dups }; open_streams = ls; cumulative_tsn = cumulative; filter = filter })
+    linked-received =
+        linked-then sum x l (E.Arrive k) none frame x.progress ls cumulative filter (record x.world { streams = map stream_record ls; slots = map slot_record slots; duplicates = dups }) refl
+        (r.filter_is ∙ ap filter_of (sym after-is)) stream-received (subst (λ ns. IsIndexed x.places ns) (sym (numbers-same js x.open_streams ls t)) l.indexed) quiet (world-received ∙ sym after-is)
+
+    pub linked-then-at : (places : BTreeMap ℕ ℕ) → places ≡ x.places → IsLinked sum (record x { world = record x.world { streams = map stream_record ls; slots = map slot_record slots; duplicates = dups }; open_streams = ls; places = places; cumulative_tsn = cumulative; filter = filter })
+    linked-then-at places same = subst (λ m. IsLinked sum (record x { world = record x.world { streams = map stream_record ls; slots = map slot_record slots; duplicates = dups }; open_streams = ls; places = m; cumulative_tsn = cumulative; filter = filter })) (sym same) linked-received
+
+    pub right-received : (new : Bool) (reply : R.Reply) → new ≡ list_any (is_new x.world) ps → reply ≡ (if new then R.New else R.Repeat) → IsRight x.world (E.Arrive k) reply (record x.world { streams = map stream_record ls; slots = map slot_record slots; duplicates = dups })
+    right-received new reply a b = record {
+      right = b ∙ ap (λ c. if c then R.New else R.Repeat) a ∙ sym (ap (arrive_reply here) e);
+      moves = world-received ∙ sym after-is;
+    }
+
+-- ## What is known of them before
+
+module _ (sum : List ℕ → ℕ) (x : State) (l : IsLinked sum x) (k : ℕ) (ps : List ℕ) (e : slice_get x.world.network k ≡ Some (Data ps)) where
+  fragment-at : (qs : List ℕ) (i : ℕ) → AllFragments x.world qs → i < length qs → (slice_index_or qs i 0 < length x.world.slots) × ((slot_at x.world (slice_index_or qs i 0)).is_end_mark ≡ false)
+  fragment-at [] i a lt = absurd (omega arith)
+  fragment-at (q ∷ qs) zero a lt = (a.0, a.1)
+  fragment-at (q ∷ qs) (suc i) a lt = fragment-at qs i a.2 (omega arith)
+
+  all-fragments : AllFragments x.world ps
+  all-fragments = (facts sum x l).sound.network.carried k ps e
+
+  pub all-inside : (i : ℕ) → i < length ps → slice_index_or ps i 0 < length x.world.slots
+  all-inside i lt = (fragment-at ps i all-fragments lt).0
+
+  pub all-carried : (i : ℕ) → i < length ps → Carried x.world (slice_index_or ps i 0)
+  all-carried i lt = let f = fragment-at ps i all-fragments lt in carried x.world.setup x.world (slice_index_or ps i 0) (facts sum x l).sane f.0 f.1
+
+  pub all-found : x.world.streams ≡ map stream_record x.open_streams → (i : ℕ) (c : ChunkPayloadData) → i < length ps → find (has_number (slice_index_or (map (chunk_at x.world) ps) i c).stream_identifier) x.open_streams ≡ None → ⊥
+  all-found streams i c lt none =
+      let p = slice_index_or ps i 0 in
+      let s = (message_at x.world (message_of x.world p)).stream in
+      let same : (slice_index_or (map (chunk_at x.world) ps) i c).stream_identifier ≡ s = ap (λ (y : ChunkPayloadData). y.stream_identifier) (raw-at (chunk_at x.world) ps i c 0 lt) in
+      not_both (sym (none-open x.world s x.open_streams streams (ap (λ t. find (has_number t) x.open_streams) (sym same) ∙ none)) ∙ ap is_some (all-carried i lt).known.1)
