@@ -2,8 +2,8 @@ pub mod Comes
 pub mod HandsOut
 pub mod Keeping
 pub mod Hears
-pub mod OneEach
 pub mod Slots
 pub mod Touched
 pub mod SlotLists
 pub mod Received
+pub mod Spans

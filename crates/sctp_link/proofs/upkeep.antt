@@ -4,7 +4,6 @@ pub mod Frames
 pub mod StreamsAfter
 pub mod Apart
 pub mod Facts
-pub mod DataLists
 pub mod Lookups
 pub mod Lending
 pub mod Walks

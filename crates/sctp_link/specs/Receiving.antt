@@ -1,13 +1,14 @@
 -- The receiver of a link while the slots of a datagram come, one after another.
-use Rattle.std.specs.Prelude.{◌≡◌, ℕ, ◌<◌, ◌==◌, true, false, List, [], ◌∷◌, length, map, take, slice_index_or, Some}
+use Rattle.std.specs.Prelude.{◌≡◌, ℕ, ◌<◌, ◌==◌, ◌&&◌, if◌then◌else◌, Bool, slice_get, true, false, List, [], ◌∷◌, length, map, take, slice_index_or, Some}
 use Rattle.std.specs.List.{list_any}
 use Rattle.std.specs.BTreeMap.{BTreeMap}
+use Rattle.sctp_lists.specs.Kept.{passing}
 use Rattle.sctp_chunks.specs.declared.chunk.chunk_payload_data.ChunkPayloadData.{ChunkPayloadData}
 use Rattle.sctp_outbound.specs.payload_queue.PayloadQueue.{Payload}
 use Rattle.sctp_reassembly.specs.reassembly_queue.ReassemblyQueue.{ReassemblyState, is_too_large}
-use Rattle.sctp_model.specs.World.{World, StreamRecord}
-use Rattle.sctp_model.specs.Messages.{message_at, message_of, stream_at}
-use Rattle.sctp_model.specs.Receiver.{is_new}
+use Rattle.sctp_model.specs.World.{World, StreamRecord, Data}
+use Rattle.sctp_model.specs.Messages.{message_at, message_of, stream_at, index_of, is_ordered_on}
+use Rattle.sctp_model.specs.Receiver.{is_new, fits}
 use Rattle.sctp_model.specs.Changes.{slot_received}
 use Rattle.sctp_model.specs.Contents.{chunk_at}
 use Rattle.sctp_model.specs.Queues.{filter_of}
@@ -95,3 +96,22 @@ pub record IsSaved (ls : List OpenStream) (ss : List Slot) (p : ℕ) (c : ChunkP
 pub record AllSaved (ls : List OpenStream) (ss : List Slot) (places : List ℕ) (chunks : List ChunkPayloadData) (saved : List Saved) : Type 0 where
   pub count : length saved ≡ length places
   pub each : (i : ℕ) (c : ChunkPayloadData) (x : Saved) → i < length saved → IsSaved ls ss (slice_index_or places i 0) (slice_index_or chunks i c) (slice_index_or saved i x)
+
+-- the slot at this place lies in some datagram
+abbrev pub LiesSomewhere : World → ℕ → Type 0
+LiesSomewhere w p = (k : ℕ) × (ps : List ℕ) × (i : ℕ) × (slice_get w.network k ≡ Some (Data ps)) × (i < length ps) × (slice_index_or ps i 0 ≡ p)
+
+-- the slot is new and of an ordered message of stream s
+abbrev pub adds_on : World → ℕ → ℕ → Bool
+adds_on w s p = is_new w p && is_ordered_on w s (message_of w p)
+
+-- the indexes that these slots add on stream s
+abbrev pub added_on : World → ℕ → List ℕ → List ℕ
+added_on w s ps = map (index_of w) (passing (is_ordered_on w s) (map (message_of w) (passing (is_new w) ps)))
+
+-- the span test on the stream of the slot at a place, where it is new and of an ordered message
+abbrev pub slot_fits : World → List ℕ → ℕ → Bool
+slot_fits w ps p =
+    if is_new w p && (message_at w (message_of w p)).ordered
+    then fits w (added_on w (message_at w (message_of w p)).stream ps) (message_at w (message_of w p)).stream
+    else true

@@ -1,12 +1,16 @@
 -- What the bytes of a datagram that comes read as.
-use Rattle.std.proofs.Common.{Vec, Global, ◌≡◌, ℕ, zero, suc, ◌<◌, List, [], ◌∷◌, length, map, Some, refl, ap, sym, ◌∙◌, arith}
+use Rattle.std.proofs.Common.{Vec, Global, ◌≡◌, ℕ, zero, suc, ◌<◌, List, [], ◌∷◌, length, map, Option, Some, None, refl, ap, sym, ◌∙◌, arith}
 use Rattle.std.specs.Prelude.{slice_get, slice_index_or}
 use Rattle.std.proofs.Math.Path.{subst}
+use Rattle.std.proofs.lemmas.Option.{slice_get_within}
+use Rattle.sctp_model.specs.declared.event.Event.TheVariants as E
+use Rattle.sctp_model.specs.declared.event.LinkRefusal.TheVariants.{NoSuchDatagram, SpanTooWide}
+use Rattle.sctp_model.specs.Steps.{refusal_of, unless, is_for_receiver, arrival_fits}
 use Rattle.sctp_chunks.specs.PayloadData.{Data as DataParts, data_of}
 use Rattle.sctp_chunks.specs.ChunkSet.{fresh}
 use Rattle.sctp_chunks.specs.Wire.{data_chunk}
 use Rattle.sctp_packets.specs.Packet.{ReadsPacket}
-use Rattle.sctp_model.specs.World.{World, Data}
+use Rattle.sctp_model.specs.World.{Report, World, Data, Sack}
 use Rattle.sctp_model.specs.World as W
 use Rattle.sctp_model.specs.Contents.{chunk_at}
 use Rattle.sctp_link.specs.declared.record.Kind.{Kind}
@@ -68,3 +72,16 @@ pub never-other : (kind : Kind) (places : List ℕ) → ((told : Vec ℕ Global)
 never-other (K.Data told) places other e = other told refl
 never-other (K.Forward upto messages) places other e = cc
 never-other (K.Sack cumulative credit blocks duplicates) places other e = cc
+
+-- what is not refused is there, and no SACK
+pub never-sack : (w : World) (k : ℕ) (r : Report) → slice_get w.network k ≡ Some (Sack r) → refusal_of w (E.Arrive k) ≡ None → ⊥
+never-sack w k r e none =
+    let is : unless (is_for_receiver (Some (Sack r))) NoSuchDatagram (unless (arrival_fits w (Some (Sack r))) SpanTooWide None) ≡ None = ap (λ o. unless (is_for_receiver o) NoSuchDatagram (unless (arrival_fits w o) SpanTooWide None)) (sym e) ∙ none in
+    cc
+
+pub there-is : (w : World) (k : ℕ) (ds : List Datagram) → w.network ≡ map datagram_record ds → refusal_of w (E.Arrive k) ≡ None → k < length ds
+there-is w k ds same none = step (slice_get w.network k) refl none
+  where
+    step : (o : Option W.Datagram) → slice_get w.network k ≡ o → unless (is_for_receiver o) NoSuchDatagram (unless (arrival_fits w o) SpanTooWide None) ≡ None → k < length ds
+    step None e h = cc
+    step (Some g) e h = omega (arith, slice_get_within w.network k g e, ap length same, raw-length datagram_record ds)

@@ -1,29 +1,28 @@
 -- What a link's queues tell of what comes to its receiver.
-use Rattle.std.proofs.Common.{◌≡◌, ℕ, zero, suc, ◌+◌, ◌-◌, ◌<◌, ◌≤◌, ◌^◌, ◌%◌, Bool, true, false, List, [], ◌∷◌, length, map, Option, Some, None, refl, ap, sym, ◌∙◌, arith}
-use Rattle.std.specs.Prelude.{◌&&◌, not, is_some, find, if◌then◌else◌, min, max, nat_lt, slice_get, slice_index_or}
+use Rattle.std.proofs.Common.{◌≡◌, ℕ, zero, suc, ◌+◌, ◌-◌, ◌<◌, ◌^◌, ◌%◌, Bool, true, false, List, [], ◌∷◌, length, map, Option, Some, None, refl, ap, sym, ◌∙◌, arith}
+use Rattle.std.specs.Prelude.{◌&&◌, not, is_some, find, min, max, slice_index_or}
 use Rattle.std.specs.Option.{option_copied}
 use Rattle.std.specs.Borrow.{Bor}
 use Rattle.std.proofs.Math.Path.{subst}
-use Rattle.sctp_lists.specs.Kept.{numbers_from, total_over}
 use Rattle.sctp_lists.specs.Serial.{at_or_before}
 use Rattle.sctp_lists.proofs.More.{not_both}
 use Rattle.sctp_chunks.specs.declared.chunk.chunk_payload_data.ChunkPayloadData.{ChunkPayloadData}
 use Rattle.sctp_chunks.specs.ChunkSet.{ChunkSet}
 use Rattle.sctp_serial.specs.DataChunks.{has_tsn}
 use Rattle.sctp_serial.specs.Window
-use Rattle.sctp_model.specs.World.{World, StreamRecord, Data}
-use Rattle.sctp_model.specs.Messages.{message_at, slot_at, message_of, stream_at, index_of, sent_of, tsn_of, place_of, no_message, no_slot}
+use Rattle.sctp_model.specs.World.{World}
+use Rattle.sctp_model.specs.Messages.{message_at, slot_at, message_of, index_of, sent_of, tsn_of, place_of, no_message, no_slot}
 use Rattle.sctp_model.specs.Receiver.{is_new, is_held, held_on, next_of, least, greatest}
 use Rattle.sctp_model.specs.Queues.{set_of}
-use Rattle.sctp_model.specs.Steps.{arrival_fits}
-use Rattle.sctp_model.proofs.sender.Shape.{shape, parts}
+use Rattle.sctp_model.proofs.sender.Shape.{shape}
 use Rattle.sctp_model.proofs.sender.Fronts.{slot-sent}
 use Rattle.sctp_ties.specs.Holds.{ordered_sets}
 use Rattle.sctp_ties.proofs.arriving.Arrival
+use Rattle.sctp_ties.proofs.arriving.Carried.{Carried}
 use Rattle.sctp_ties.proofs.reading.Line
 use Rattle.sctp_ties.proofs.reading.Taken
 use Rattle.sctp_ties.proofs.arriving.FilterQueue.{new-is}
-use Rattle.sctp_ties.proofs.arriving.SpanEnds.{Begins, set-begins, set-at, sets-held, ends-none, lowest-front, highest-back, arrival-fits-one}
+use Rattle.sctp_ties.proofs.arriving.SpanEnds.{Begins, set-begins, set-at, sets-held, ends-none, lowest-front, highest-back}
 use Rattle.sctp_link.specs.declared.open_stream.OpenStream.{OpenStream}
 use Rattle.sctp_link.specs.declared.record.Message.{Message}
 use Rattle.sctp_link.specs.declared.record.Slot.{Slot}
@@ -174,65 +173,17 @@ module _ (sum : List ℕ → ℕ) (x : State) (l : IsLinked sum x) (at s : ℕ) 
       ∙ ap (λ k. max (next_of x.world s) (index_of x.world (slice_index_or (held_on x.world s) (k - 1) 0))) same
       ∙ sym (highest-back x.world s 0 (omega (arith, some, same)))
 
--- ## The span test
+-- ## The message of a slot that comes
 
--- each message has a fragment
-under-total : (f : ℕ → ℕ) (from count : ℕ) → ((k : ℕ) → from ≤ k → k < from + count → 0 < f k) → count ≤ total_over f (numbers_from from count)
-under-total f from zero h = omega arith
-under-total f from (suc count) h = omega (arith, h from (omega arith) (omega arith), under-total f (from + 1) count (λ k a b. h k (omega arith) (omega arith)))
-
-few-messages : (sum : List ℕ → ℕ) (x : State) → IsLinked sum x → length x.world.messages < 2 ^ 31
-few-messages sum x l =
-    let f = facts sum x l in
-    omega (arith, under-total (parts (shape x.world)) 0 (length x.world.messages) (λ k a b. f.sound.sound.some k (omega (arith, b))), f.sane.accepted)
-
-module _ (sum : List ℕ → ℕ) (x : State) (l : IsLinked sum x) (k p : ℕ) (e : slice_get x.world.network k ≡ Some (Data (p ∷ []))) where
+module _ (sum : List ℕ → ℕ) (x : State) (l : IsLinked sum x) (p : ℕ) (c : Carried x.world p) where
   abbrev n : ℕ
   n = message_of x.world p
 
-  abbrev s : ℕ
-  s = (message_at x.world (message_of x.world p)).stream
-
-  pub come-made : p < length x.world.slots
-  come-made = ((facts sum x l).carried k p e).made
-
   pub come-message : n < length x.world.messages
-  come-message = let f = facts sum x l in f.sound.sound.made n p (Arrival.has-fragment x.world p (f.carried k p e).fragment)
-
-  pub come-open : (r : StreamRecord) × (stream_at x.world s ≡ Some r)
-  come-open = ((facts sum x l).carried k p e).known
+  come-message = (facts sum x l).sound.sound.made n p (Arrival.has-fragment x.world p c.fragment)
 
   pub come-index : (message_at x.world n).ordered ≡ true → index_kept x.progress n ≡ index_of x.world n
-  come-index o = l.indexes n (slot-sent (shape x.world) p (facts sum x l).sane.sender come-made) o
-
-  -- there are fewer messages than fragments may be accepted
-  pub few-index : index_kept x.progress n < 2 ^ 31
-  few-index = omega (arith, l.low n, come-message, few-messages sum x l)
-
-  fits-is : arrival_fits x.world (Some (Data (p ∷ []))) ≡ (if is_new x.world p && (message_at x.world n).ordered then nat_lt (max (greatest (next_of x.world s) (map (index_of x.world) (held_on x.world s))) (index_of x.world n)) (min (least (next_of x.world s) (map (index_of x.world) (held_on x.world s))) (index_of x.world n) + 2 ^ 15) else true)
-  fits-is = let f = facts sum x l in arrival-fits-one x.world p f.spans (f.carried k p e)
-
-  neither : (a b : Bool) (c : Bool) → b ≡ false → (if a && b then c else true) ≡ true
-  neither true false c h = refl
-  neither true true c h = cc
-  neither false b c h = refl
-
-  pub fits-unordered : (message_at x.world n).ordered ≡ false → true ≡ arrival_fits x.world (Some (Data (p ∷ [])))
-  fits-unordered h = sym (fits-is ∙ neither (is_new x.world p) (message_at x.world n).ordered _ h)
-
-  pub fits-old : is_new x.world p ≡ false → true ≡ arrival_fits x.world (Some (Data (p ∷ [])))
-  fits-old h = sym (fits-is ∙ ap (λ a. if a && (message_at x.world n).ordered then nat_lt (max (greatest (next_of x.world s) (map (index_of x.world) (held_on x.world s))) (index_of x.world n)) (min (least (next_of x.world s) (map (index_of x.world) (held_on x.world s))) (index_of x.world n) + 2 ^ 15) else true) h)
-
-  pub fits-span : (low high place : ℕ) → is_new x.world p ≡ true → (message_at x.world n).ordered ≡ true → low ≡ least (next_of x.world s) (map (index_of x.world) (held_on x.world s)) → high ≡ greatest (next_of x.world s) (map (index_of x.world) (held_on x.world s)) → place ≡ index_kept x.progress n → nat_lt (max high place) (min low place + 32768) ≡ arrival_fits x.world (Some (Data (p ∷ [])))
-  fits-span low high place new ordered a b c =
-      let i : place ≡ index_of x.world n = c ∙ come-index ordered in
-      ap (λ y. nat_lt (max high y) (min low y + 32768)) i
-      ∙ ap (λ y. nat_lt (max y (index_of x.world n)) (min low (index_of x.world n) + 32768)) b
-      ∙ ap (λ y. nat_lt (max (greatest (next_of x.world s) (map (index_of x.world) (held_on x.world s))) (index_of x.world n)) (min y (index_of x.world n) + 32768)) a
-      ∙ sym (fits-is ∙ ap (λ t. if t then nat_lt (max (greatest (next_of x.world s) (map (index_of x.world) (held_on x.world s))) (index_of x.world n)) (min (least (next_of x.world s) (map (index_of x.world) (held_on x.world s))) (index_of x.world n) + 2 ^ 15) else true) (both new ordered))
-    where
-      both : is_new x.world p ≡ true → (message_at x.world n).ordered ≡ true → (is_new x.world p && (message_at x.world n).ordered) ≡ true
-      both a b = rw (a, b) refl
+  come-index o = l.indexes n (slot-sent (shape x.world) p (facts sum x l).sane.sender c.made) o
 
 pub none-there : (n : ℕ) → (0 < n → false ≡ true) → n ≡ 0
 none-there zero h = refl

@@ -4,17 +4,16 @@ use Rattle.std.specs.Prelude.{◌==◌, not, is_some, if◌then◌else◌, find,
 use Rattle.std.specs.List.{list_any}
 use Rattle.std.specs.BTreeMap.{BTreeMap}
 use Rattle.std.proofs.Math.Path.{subst}
-use Rattle.std.proofs.lemmas.List.{ext_get_or}
 use Rattle.std.proofs.lemmas.List.Sums.{fold-append}
 use Rattle.sctp_lists.specs.Lists.{pieces}
 use Rattle.sctp_chunks.specs.ChunkSet.{fresh}
 use Rattle.sctp_chunks.specs.declared.chunk.chunk_payload_data.ChunkPayloadData.{ChunkPayloadData}
 use Rattle.sctp_outbound.specs.payload_queue.PayloadQueue.{Payload}
-use Rattle.sctp_reassembly.specs.reassembly_queue.ReassemblyQueue.{ReassemblyState, is_too_large}
+use Rattle.sctp_reassembly.specs.reassembly_queue.ReassemblyQueue.{is_too_large}
 use Rattle.sctp_model.specs.declared.event.Event.TheVariants as E
 use Rattle.sctp_model.specs.Reply as R
 use Rattle.sctp_model.specs.World.{Setup, World, Data}
-use Rattle.sctp_model.specs.Messages.{message_at, slot_at, message_of, ordered_before}
+use Rattle.sctp_model.specs.Messages.{message_at, slot_at, message_of}
 use Rattle.sctp_model.specs.Receiver.{is_new, next_of}
 use Rattle.sctp_model.specs.Changes.{slot_received, datagram_received, whole_noted, becomes_whole}
 use Rattle.sctp_model.specs.Contents.{chunk_at}
@@ -28,11 +27,8 @@ use Rattle.sctp_model.proofs.sender.Network
 use Rattle.sctp_model.proofs.receiver.SoundRun.{slots_come_sound}
 use Rattle.sctp_model.proofs.acknowledgement.Bytes.{size-some}
 use Rattle.sctp_lists.proofs.More.{not_both}
-use Rattle.sctp_ties.specs.Amount.{amount}
-use Rattle.sctp_ties.specs.Indexes.{begun_on}
 use Rattle.sctp_ties.specs.Holds.{reassembly_of}
 use Rattle.sctp_ties.specs.Counts.{counters_on}
-use Rattle.sctp_ties.specs.Tied.{filter_held}
 use Rattle.sctp_ties.proofs.sending.SlotsGoOn.{AllGoOn, goes-run}
 use Rattle.sctp_ties.proofs.amounts.NoLarger.{no-larger}
 use Rattle.sctp_ties.proofs.amounts.Sizes.{never-too-large}
@@ -48,13 +44,13 @@ use Rattle.sctp_transfer.specs.declared.stream.StreamState.{StreamState}
 use Rattle.sctp_link.specs.declared.open_stream.OpenStream.{OpenStream}
 use Rattle.sctp_link.specs.declared.record.Slot.{Slot}
 use Rattle.sctp_link.specs.Linked.{State, IsLinked, IsOpenStream, has_number, stats_of}
-use Rattle.sctp_link.specs.Places.{IsIndexed, stream_numbers}
+use Rattle.sctp_link.specs.Places.{IsIndexed}
 use Rattle.sctp_link.specs.Records.{slot_record, stream_record}
-use Rattle.sctp_link.specs.Receiving.{IsReceiver, Comes, AllCome, IsUnchanged, TouchesOnly}
+use Rattle.sctp_link.specs.Receiving.{IsReceiver, Comes, AllCome, TouchesOnly}
 use Rattle.sctp_link.proofs.upkeep.Facts.{facts, over}
 use Rattle.sctp_link.proofs.upkeep.StreamsAfter.{stream-then, linked-then}
 use Rattle.sctp_link.proofs.upkeep.Lookups.{none-open}
-use Rattle.sctp_link.proofs.receiver.Hears.{raw-at, raw-length}
+use Rattle.sctp_link.proofs.receiver.Hears.{raw-at}
 use Rattle.sctp_link.proofs.receiver.Touched.{numbers-same}
 
 -- ## They come to a sound record

@@ -1,7 +1,7 @@
 -- A slot of a datagram comes: what a link keeps for its receiver then.
-use Rattle.std.proofs.Common.{◌≡◌, ℕ, ◌<◌, Bool, true, false, List, [], ◌∷◌, ◌++◌, length, map, take, Some, None, refl, ap, sym, ◌∙◌, arith}
-use Rattle.std.specs.Prelude.{IsTrue, ◌==◌, ◌&&◌, not, nat_le, if◌then◌else◌, find, slice_get, slice_index_or, slice_set}
-use Rattle.std.specs.List.{list_all, list_any}
+use Rattle.std.proofs.Common.{◌≡◌, ℕ, ◌<◌, Bool, true, false, List, [], ◌∷◌, ◌++◌, length, map, refl, ap, sym, ◌∙◌, arith}
+use Rattle.std.specs.Prelude.{IsTrue, ◌==◌, ◌&&◌, not, nat_le, if◌then◌else◌, slice_index_or, slice_set}
+use Rattle.std.specs.List.{list_all}
 use Rattle.std.proofs.Math.Path.{subst}
 use Rattle.std.proofs.lemmas.List.{length-set}
 use Rattle.sctp_lists.specs.Lists.{changed, inserted, advanced, Seen}
@@ -36,7 +36,7 @@ use Rattle.sctp_link.specs.declared.record.Slot.{Slot}
 use Rattle.sctp_link.specs.OpenStreams.{Keeps}
 use Rattle.sctp_link.specs.Places.{stream_numbers}
 use Rattle.sctp_link.specs.Records.{slot_record, stream_record}
-use Rattle.sctp_link.specs.Receiving.{HoldsQueue, IsReceiver, Comes, IsTouched, IsUnchanged, TouchesOnly, MarksOnly}
+use Rattle.sctp_link.specs.Receiving.{HoldsQueue, IsReceiver, Comes}
 use Rattle.sctp_link.proofs.upkeep.Apart.{IsApart, apart, differ, each-set, map-set, map-set_same, streams-set}
 use Rattle.sctp_link.proofs.upkeep.Places.{indexed-set}
 use Rattle.sctp_link.proofs.receiver.Hears.{raw-at, raw-length}

@@ -3,7 +3,7 @@ use Rattle.std.proofs.Common.{◌≡◌, ℕ, zero, suc, ◌<◌, ◌≤◌, Boo
 use Rattle.std.specs.Prelude.{◌==◌, ◌||◌, ◌&&◌, if◌then◌else◌, slice_index_or, slice_set}
 use Rattle.std.specs.List.{list_any}
 use Rattle.std.proofs.Math.Path.{subst}
-use Rattle.std.proofs.lemmas.List.{length-set, take_all, take-append-le, get_or-set_same, get_or-set_other}
+use Rattle.std.proofs.lemmas.List.{length-set, take_all, get_or-set_same, get_or-set_other}
 use Rattle.std.proofs.Math.Seq.{take-append_seam}
 use Rattle.sctp_lists.proofs.Cases.{same-yes}
 use Rattle.sctp_lists.proofs.More.{not_both}

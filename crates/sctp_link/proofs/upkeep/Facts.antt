@@ -4,22 +4,20 @@ use Rattle.std.specs.Prelude.{slice_get}
 use Rattle.std.proofs.Math.Path.{subst}
 use Rattle.std.proofs.lemmas.Option.{slice_get_within}
 use Rattle.sctp_model.specs.declared.event.Event.{Event}
-use Rattle.sctp_model.specs.declared.event.Event.TheVariants as E
-use Rattle.sctp_model.specs.World.{Setup, World, Data}
+use Rattle.sctp_model.specs.World.{Setup, World}
 use Rattle.sctp_model.specs.World as W
 use Rattle.sctp_model.specs.Messages.{message_at}
 use Rattle.sctp_model.specs.Receiver.{spans_fit}
 use Rattle.sctp_model.specs.Contents.{contents_of, contents_in, datagram}
 use Rattle.sctp_model.specs.Steps.{History, StandsFor, IsRun, world_of, refusal_of, reply_to, after}
 use Rattle.sctp_model.specs.Laws.{IsSetup}
-use Rattle.sctp_model.specs.Sound.{IsSound, ComesSound}
+use Rattle.sctp_model.specs.Sound.{IsSound}
 use Rattle.sctp_model.proofs.sender.Shape.{shape}
 use Rattle.sctp_model.proofs.sender.SenderRun.{Sane, sane-run}
 use Rattle.sctp_model.proofs.sender.Few
 use Rattle.sctp_model.proofs.sender.Network.{AllFit, fit-run, datagrams_stay}
 use Rattle.sctp_model.proofs.receiver.Spans.{spans_fit_always}
-use Rattle.sctp_model.proofs.receiver.SoundRun.{record_is_sound, slots_come_sound}
-use Rattle.sctp_ties.proofs.arriving.Carried.{Carried, carried-run}
+use Rattle.sctp_model.proofs.receiver.SoundRun.{record_is_sound}
 use Rattle.sctp_ties.proofs.sending.KindsRun.{Going, taken-run}
 use Rattle.sctp_ties.proofs.sending.Fragments.{going-run}
 use Rattle.sctp_ties.proofs.amounts.NoLarger.{no-larger}
@@ -35,8 +33,6 @@ pub record Facts (w : World) : Type 0 where
   pub few : length w.slots < 2 ^ 31
   pub taken : w.taken ≤ length w.slots
   pub fit : AllFit (shape w) w.network
-  pub carried : (k p : ℕ) → slice_get w.network k ≡ Some (Data (p ∷ [])) → Carried w p
-  pub comes : (k p : ℕ) → refusal_of w (E.Arrive k) ≡ None → slice_get w.network k ≡ Some (Data (p ∷ [])) → ComesSound w p
   pub largest : (n : ℕ) → n < length w.messages → length (message_at w n).bytes ≤ w.setup.largest
   -- what a datagram says never changes
   pub stays : (e : Event) (k : ℕ) → refusal_of w e ≡ None → k < length w.network → datagram (after w e) k ≡ datagram w k
@@ -55,8 +51,6 @@ of-run setup h is run same =
       few = Few.few w.setup w sane;
       taken = taken-run setup h is run;
       fit = fit-run setup h run;
-      carried = λ k p e. carried-run setup h k p run e;
-      comes = λ k p none e. slots_come_sound setup h is run k [] p [] none e;
       largest = λ n lt. let le = no-larger setup h n is run lt in subst (λ s. length (message_at w n).bytes ≤ s.largest) (sym same) le;
       stays = λ e k none lt. datagrams_stay setup h is run e k none lt;
     }

@@ -1,6 +1,6 @@
 //! What comes to the receiver of a link, and what is read there.
 
-ghost use Rattle.std.specs.Prelude.{◌≡◌, ◌<◌, ◌≤◌, ◌+◌, ◌-◌, ◌^◌, ◌∷◌, ℕ, List, [], true, None, Some, OnErr, IfOk, IsOkUnless, length, slice_get, slice_index_or, map, if◌then◌else◌};
+ghost use Rattle.std.specs.Prelude.{◌≡◌, ◌<◌, ◌≤◌, ◌+◌, ◌-◌, ◌^◌, ◌∷◌, ℕ, List, [], true, None, Some, OnErr, IfOk, IsOkUnless, length, slice_get, slice_index_or, map, min, max, if◌then◌else◌};
 ghost use Rattle.sctp_base.specs.declared.error.Error.TheVariants.{ErrOutOfMemory};
 ghost use Rattle.sctp_lists.specs.Lists.{advanced};
 ghost use Rattle.sctp_chunks.specs.declared.chunk.chunk_payload_data.ChunkPayloadData.{ChunkPayloadData};
@@ -28,6 +28,7 @@ impl<C: Checksum + Drop> Link<C> {
     ghost use Rattle.sctp_model.specs.Steps.{IsRight, refusal_of, is_for_receiver, arrival_fits};
     ghost use Rattle.sctp_model.specs.declared.event.Event.TheVariants as E;
     ghost use Rattle.sctp_link.specs.Replies.{reply_of};
+    ghost use Rattle.sctp_link.specs.Receiving.{LiesSomewhere, adds_on, added_on, slot_fits};
 
     /// Why datagram k is not taken by the receiver, if it is not.
     pub(super) fn refusal_arrive(&self, k: u64) -> Option<LinkRefusal>
@@ -37,16 +38,31 @@ impl<C: Checksum + Drop> Link<C> {
             return Some(LinkRefusal::NoSuchDatagram);
         }
         match &self.network[k as usize].kind {
-            Kind::Data { places } => unless_fits(self.span_fits(places[0] as usize)),
+            Kind::Data { places } => unless_fits(self.span_fits(places)),
             Kind::Forward { upto, messages } => unless_fits(self.skip_fits(*upto, messages)),
             Kind::Sack { .. } => Some(LinkRefusal::NoSuchDatagram),
         }
     }
 
-    // Whether stream sequence numbers can still be told apart once the slot has come (RFC 4960 6.5).
-    fn span_fits(&self, place: usize) -> bool
-        requires { (k : ℕ) × (slice_get self.now.world.network k ≡ Some (Data (place ∷ []))) }
-        ensures { result ≡ arrival_fits self.now.world (Some (Data (place ∷ []))) }
+    // Whether stream sequence numbers can still be told apart once these slots have come (RFC 4960 6.5).
+    fn span_fits(&self, places: &[u64]) -> bool
+        requires { (k : ℕ) × (slice_get self.now.world.network k ≡ Some (Data places.now)) }
+        ensures { result ≡ arrival_fits self.now.world (Some (Data places.now)) }
+    {
+        let _held = self.fragments;
+        for at in 0..places.len() {
+            if !self.slot_fits(places[at] as usize, places) {
+                return false;
+            }
+        }
+        true
+    }
+
+    // So on the stream of the slot at a place.
+    fn slot_fits(&self, place: usize, places: &[u64]) -> bool
+        requires lies { (k : ℕ) × (slice_get self.now.world.network k ≡ Some (Data places.now)) }
+        requires place { LiesSomewhere self.now.world place }
+        ensures { result ≡ slot_fits self.now.world places.now place }
     {
         let message = &self.messages[self.slots[place].message as usize];
         if !message.ordered {
@@ -55,8 +71,36 @@ impl<C: Checksum + Drop> Link<C> {
         if !self.is_new(place) {
             return true;
         }
-        let (low, high) = self.ends(message.stream);
-        high.max(message.index) < low.min(message.index) + 0x8000
+        let ends = self.ends(message.stream);
+        let (low, high) = self.widened(message.stream, places, ends);
+        high.saturating_sub(low) < 0x8000
+    }
+
+    // Ends, widened by the indexes that the new ones of these slots add on a stream.
+    fn widened(&self, stream: u16, places: &[u64], ends: (u64, u64)) -> (u64, u64)
+        requires { (k : ℕ) × (slice_get self.now.world.network k ≡ Some (Data places.now)) }
+        ensures low { result.0 ≡ least ends.0 (added_on self.now.world stream places.now) }
+        ensures high { result.1 ≡ greatest ends.1 (added_on self.now.world stream places.now) }
+    {
+        let _held = self.fragments;
+        let mut ends = ends;
+        for at in 0..places.len() {
+            ends = wider(ends, self.index_added(stream, places[at] as usize));
+        }
+        ends
+    }
+
+    // The index that the slot at a place adds on a stream, where it is new and of an ordered message of it.
+    fn index_added(&self, stream: u16, place: usize) -> Option<u64>
+        requires { LiesSomewhere self.now.world place }
+        ensures { result ≡ (if adds_on self.now.world stream place then Some (index_of self.now.world (message_of self.now.world place)) else None) }
+    {
+        let message = &self.messages[self.slots[place].message as usize];
+        let adds = (message.stream == stream) & message.ordered & self.is_new(place);
+        if !adds {
+            return None;
+        }
+        Some(message.index)
     }
 
     // The least and the greatest of the index expected next and those of the messages held: they stand at the ends of the queue.
@@ -174,6 +218,17 @@ impl<C: Checksum + Drop> Link<C> {
             chunks,
         }
     }
+}
+
+// Ends, widened by an index where there is one.
+fn wider(ends: (u64, u64), index: Option<u64>) -> (u64, u64)
+    ensures some { (k : ℕ) → index ≡ Some k → result ≡ (min ends.0 k, max ends.1 k) }
+    ensures none { index ≡ None → result ≡ ends }
+{
+    let Some(index) = index else {
+        return ends;
+    };
+    (ends.0.min(index), ends.1.max(index))
 }
 
 // The refusal of what fails the span test.

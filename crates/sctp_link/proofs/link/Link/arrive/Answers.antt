@@ -1,11 +1,9 @@
-use Rattle.std.proofs.Common.{◌≡◌, ℕ, ◌<◌, List, [], ◌∷◌, Some, None, ap, sym, ◌∙◌, arith, rules, refl, length}
-use Rattle.std.specs.Prelude.{Option, slice_get}
-use Rattle.sctp_model.specs.World.{Datagram, Data, Forward, Sack}
+use Rattle.std.proofs.Common.{◌≡◌, Some, None, ap, ◌∙◌, arith, refl}
 use Rattle.sctp_model.specs.Steps.{refusal_of}
 use Rattle.sctp_model.specs.declared.event.Event.TheVariants as E
-use Rattle.sctp_link.specs.Fields.{world_in, state_in}
+use Rattle.sctp_link.specs.Fields.{world_in}
 use Rattle.sctp_link.specs.Records.{kind_record}
-use Rattle.sctp_link.proofs.receiver.OneEach.{never-sack, there-is}
+use Rattle.sctp_link.proofs.receiver.Comes.{never-sack, there-is}
 use Rattle.sctp_link.proofs.skipping.SkipComes.{kept-kind}
 use Rattle.sctp_link.proofs.link.Link.arrive.Goals as goal
 

@@ -1,7 +1,5 @@
-use Rattle.std.proofs.Common.{◌≡◌, ℕ, ◌<◌, List, [], ◌∷◌, None, Some, length, map, refl, ap, sym, ◌∙◌, arith, subst}
-use Rattle.std.specs.Prelude.{slice_get, slice_index_or, find, fold}
-use Rattle.sctp_chunks.specs.ChunkSet.{fresh}
-use Rattle.sctp_chunks.specs.declared.chunk.chunk_payload_data.ChunkPayloadData.{ChunkPayloadData}
+use Rattle.std.proofs.Common.{◌≡◌, ℕ, List, None, Some, map, refl, ap, ◌∙◌, arith, subst}
+use Rattle.std.specs.Prelude.{slice_get, fold}
 use Rattle.std.specs.List.{list_any}
 use Rattle.sctp_model.specs.Receiver.{is_new}
 use Rattle.sctp_model.specs.World.{World, Data}
@@ -11,14 +9,12 @@ use Rattle.sctp_model.specs.Steps.{refusal_of}
 use Rattle.sctp_model.specs.declared.event.Event.TheVariants as E
 use Rattle.sctp_link.specs.declared.record.Slot.{Slot}
 use Rattle.sctp_link.specs.Fields.{world_in, state_in}
-use Rattle.sctp_link.specs.Linked.{has_number}
 use Rattle.sctp_link.specs.Records.{kind_record, stream_record, slot_record}
 use Rattle.sctp_link.specs.Receiving.{IsReceiver, AllCome}
 use Rattle.sctp_link.proofs.receiver.Keeping.{on-err, streams-stay, refused-still}
-use Rattle.sctp_link.proofs.receiver.Comes.{said, said-fresh, says-data, places-kept, kind-data, never-other}
+use Rattle.sctp_link.proofs.receiver.Comes.{said, said-fresh, says-data, places-kept, kind-data, never-other, there-is}
 use Rattle.sctp_link.proofs.receiver.Received.{all-come, receiver-of, all-inside, all-found, linked-then-at, right-received}
 use Rattle.sctp_link.proofs.receiver.Hears.{raw-length}
-use Rattle.sctp_link.proofs.receiver.OneEach.{there-is}
 use Rattle.sctp_link.proofs.link.Link.arrive_data.Goals as goal
 
 pub read_data-requires : goal.read_data-requires

@@ -1,42 +1,34 @@
-use Rattle.std.proofs.Common.{◌≡◌, ◌<◌, [], ◌∷◌, Some, None, ap, sym, ◌∙◌, rules, arith, length}
+use Rattle.std.proofs.Common.{◌≡◌, ◌<◌, Some, None, ap, sym, ◌∙◌, rules, length}
 use Rattle.std.specs.Prelude.{Option, slice_get}
 use Rattle.sctp_model.specs.World.{Datagram, Data, Forward}
 use Rattle.sctp_model.specs.Steps.{unless, is_for_receiver, arrival_fits}
 use Rattle.sctp_model.specs.declared.event.LinkRefusal.TheVariants.{NoSuchDatagram, SpanTooWide}
-use Rattle.sctp_link.specs.Fields.{world_in, state_in}
+use Rattle.sctp_link.specs.Fields.{world_in}
 use Rattle.sctp_link.specs.Records.{kind_record}
 use Rattle.sctp_link.proofs.skipping.SkipComes.{kept-kind}
-use Rattle.sctp_link.proofs.receiver.OneEach.{one-place, lies-first}
 use Rattle.sctp_link.proofs.link.Link.refusal_arrive.Goals as goal
-
-pub index-requires-in-Data : goal.index-requires-in-Data
-index-requires-in-Data g c =
-    let lt : c.args.k < length c.self.inside.network.items = search rules in
-    let e = kept-kind c.self.inside.network.items c.args.k c.index.result.now lt c.index.ensures in
-    let one = one-place (g.C.Checksum.sum c.self.inside.checksum) (state_in c.self.inside) c.self.invariant c.args.k c.in-Data.places.items (e ∙ ap (λ k. Some (kind_record k)) c.in-Data.is) in
-    omega (arith, ap length one.1)
 
 pub span_fits-requires : goal.span_fits-requires
 span_fits-requires g c =
     let w = world_in c.self.inside in
     let lt : c.args.k < length c.self.inside.network.items = search rules in
-    let e = kept-kind c.self.inside.network.items c.args.k c.index.result.now lt c.index.ensures ∙ ap (λ k. Some (kind_record k)) c.in-Data.is in
-    rw (← c.self.view_is) (c.args.k, lies-first (g.C.Checksum.sum c.self.inside.checksum) (state_in c.self.inside) c.self.invariant c.args.k c.in-Data.places.items e c.index-in-Data.result.now c.index-in-Data.ensures)
+    let e = kept-kind c.self.inside.network.items c.args.k c.index.result.now lt c.index.ensures in
+    rw (← c.self.view_is) (c.args.k, e ∙ ap (λ k. Some (kind_record k)) c.in-Data.is ∙ ap (λ ps. Some (Data ps)) (sym c.deref.ensures.value))
 
 pub skip_fits-requires : goal.skip_fits-requires
 skip_fits-requires g c =
     let w = world_in c.self.inside in
     let lt : c.args.k < length c.self.inside.network.items = search rules in
     let e = kept-kind c.self.inside.network.items c.args.k c.index.result.now lt c.index.ensures in
-    rw (← c.self.view_is) (c.args.k, e ∙ ap (λ k. Some (kind_record k)) c.in-Forward.is ∙ ap (λ ns. Some (Forward c.in-Forward.upto ns)) (sym c.deref.ensures.value))
+    rw (← c.self.view_is) (c.args.k, e ∙ ap (λ k. Some (kind_record k)) c.in-Forward.is ∙ ap (λ ns. Some (Forward c.in-Forward.upto ns)) (sym c.deref-in-Forward.ensures.value))
 
 pub returns-in-Data : goal.returns-in-Data
 returns-in-Data g c =
     let w = world_in c.self.inside in
     let lt : c.args.k < length c.self.inside.network.items = search rules in
     let e = kept-kind c.self.inside.network.items c.args.k c.index.result.now lt c.index.ensures in
-    let there = lies-first (g.C.Checksum.sum c.self.inside.checksum) (state_in c.self.inside) c.self.invariant c.args.k c.in-Data.places.items (e ∙ ap (λ k. Some (kind_record k)) c.in-Data.is) c.index-in-Data.result.now c.index-in-Data.ensures in
-    let fits : c.span_fits.result ≡ arrival_fits w (Some (Data (c.index-in-Data.result.now ∷ []))) = rw (← c.self.view_is) at c.span_fits.ensures in
+    let there : slice_get w.network c.args.k ≡ Some (Data c.deref.result.now) = e ∙ ap (λ k. Some (kind_record k)) c.in-Data.is ∙ ap (λ ps. Some (Data ps)) (sym c.deref.ensures.value) in
+    let fits : c.span_fits.result ≡ arrival_fits w (Some (Data c.deref.result.now)) = rw (← c.self.view_is) at c.span_fits.ensures in
     rw (← c.self.view_is) (c.unless_fits.ensures ∙ ap (λ b. unless b SpanTooWide None) fits ∙ sym (ap (λ (o : Option Datagram). unless (is_for_receiver o) NoSuchDatagram (unless (arrival_fits w o) SpanTooWide None)) there))
 
 pub returns-in-Forward : goal.returns-in-Forward
@@ -44,8 +36,8 @@ returns-in-Forward g c =
     let w = world_in c.self.inside in
     let lt : c.args.k < length c.self.inside.network.items = search rules in
     let e = kept-kind c.self.inside.network.items c.args.k c.index.result.now lt c.index.ensures in
-    let there : slice_get w.network c.args.k ≡ Some (Forward c.in-Forward.upto c.deref.result.now) = e ∙ ap (λ k. Some (kind_record k)) c.in-Forward.is ∙ ap (λ ns. Some (Forward c.in-Forward.upto ns)) (sym c.deref.ensures.value) in
-    let fits : c.skip_fits.result ≡ arrival_fits w (Some (Forward c.in-Forward.upto c.deref.result.now)) = rw (← c.self.view_is) at c.skip_fits.ensures in
+    let there : slice_get w.network c.args.k ≡ Some (Forward c.in-Forward.upto c.deref-in-Forward.result.now) = e ∙ ap (λ k. Some (kind_record k)) c.in-Forward.is ∙ ap (λ ns. Some (Forward c.in-Forward.upto ns)) (sym c.deref-in-Forward.ensures.value) in
+    let fits : c.skip_fits.result ≡ arrival_fits w (Some (Forward c.in-Forward.upto c.deref-in-Forward.result.now)) = rw (← c.self.view_is) at c.skip_fits.ensures in
     rw (← c.self.view_is) (c.unless_fits-in-Forward.ensures ∙ ap (λ b. unless b SpanTooWide None) fits ∙ sym (ap (λ (o : Option Datagram). unless (is_for_receiver o) NoSuchDatagram (unless (arrival_fits w o) SpanTooWide None)) there))
 
 pub returns-in-Sack : goal.returns-in-Sack

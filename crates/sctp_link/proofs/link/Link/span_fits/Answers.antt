@@ -1,149 +1,34 @@
-use Rattle.std.proofs.Common.{◌≡◌, ℕ, ap, sym, ◌∙◌, ◌<◌, ◌+◌, [], ◌∷◌, true, false, Some, refl, rules, arith, length, map}
-use Rattle.std.specs.Prelude.{slice_get, slice_index_or, is_some, max, nat_lt}
+use Rattle.std.proofs.Common.{◌≡◌, ℕ, ap, sym, ◌∙◌, ◌+◌, Some, refl, arith}
+use Rattle.std.specs.Prelude.{slice_get}
+use Rattle.std.specs.List.{list_all}
+use Rattle.std.proofs.lemmas.List.{take_all}
 use Rattle.sctp_model.specs.World.{Data}
-use Rattle.sctp_model.specs.Messages.{message_at, message_of, is_open, index_of}
-use Rattle.sctp_model.specs.Receiver.{is_new, held_on, next_of, least, greatest}
-use Rattle.sctp_link.specs.declared.record.Message.{Message}
-use Rattle.sctp_link.specs.declared.record.Slot.{Slot}
-use Rattle.sctp_link.proofs.sender.Beginning.{index_kept}
 use Rattle.sctp_link.specs.Fields.{world_in, state_in}
-use Rattle.sctp_link.specs.Records.{message_record}
-use Rattle.sctp_link.proofs.receiver.Hears.{come-made, come-message, come-open, slots-made, messages-made, slot-raw, message-raw, fits-unordered, fits-old, fits-span, kept-raw, few-index}
+use Rattle.sctp_link.specs.Receiving.{slot_fits}
+use Rattle.sctp_link.proofs.receiver.Spans.{data-fits, at-place}
+use Rattle.sctp_link.proofs.skipping.SkipComes.{all-more, all-no}
 use Rattle.sctp_link.proofs.link.Link.span_fits.Goals as goal
 
-pub index-requires : goal.index-requires
-index-requires g c =
-    let w = world_in c.self.inside in
-    let sum = g.C.Checksum.sum c.self.inside.checksum in
-    let x = state_in c.self.inside in
-    let p = c.args.place in
-    let slots = c.self.inside.slots.items in
-    let messages = c.self.inside.messages.items in
-    let r : (k : ℕ) × (slice_get w.network k ≡ Some (Data (p ∷ []))) = rw (← c.self.view_is) at c.requires in
-    let inside : p < length slots = omega (arith, come-made sum x c.self.invariant r.0 p r.1, slots-made sum x c.self.invariant slots messages refl refl) in
-    omega (arith, inside)
+pub slot_fits-requires-clause-place : goal.slot_fits-requires-clause-place
+slot_fits-requires-clause-place g c =
+    let k = c.requires in
+    (k.0, c.args.places.now, c.loop-at.at, k.1, c.loop-at-test.true, refl)
 
-pub index-message-requires : goal.index-message-requires
-index-message-requires g c =
-    let w = world_in c.self.inside in
-    let sum = g.C.Checksum.sum c.self.inside.checksum in
-    let x = state_in c.self.inside in
-    let p = c.args.place in
-    let slots = c.self.inside.slots.items in
-    let messages = c.self.inside.messages.items in
-    let r : (k : ℕ) × (slice_get w.network k ≡ Some (Data (p ∷ []))) = rw (← c.self.view_is) at c.requires in
-    let inside : p < length slots = omega (arith, come-made sum x c.self.invariant r.0 p r.1, slots-made sum x c.self.invariant slots messages refl refl) in
-    let made : message_of w p < length messages = omega (arith, come-message sum x c.self.invariant r.0 p r.1, messages-made sum x c.self.invariant slots messages refl refl) in
-    let number : c.index.result.now.message ≡ message_of w p = ap (λ (t : Slot). t.message) c.index.ensures ∙ sym (ap (λ t. t.message) (slot-raw sum x c.self.invariant slots messages refl refl p c.index.result.now inside)) in
-    omega (arith, number, made)
+pub returns-then-not-slot_fits : goal.returns-then-not-slot_fits
+returns-then-not-slot_fits g c =
+    let f = slot_fits c.args.self.now.world c.args.places.now in
+    let lies : (k : ℕ) × (slice_get (world_in c.self.inside).network k ≡ Some (Data c.args.places.now)) = rw (← c.self.view_is) at c.requires in
+    let all = all-no f c.args.places.now (c.loop-at.at + 1) (all-more f c.args.places.now c.loop-at.at c.slot_fits.result c.loop-at-test.true (λ q e. c.slot_fits.ensures ∙ ap f (at-place c.args.places.now c.loop-at.at q e)) c.loop-at.invariant ∙ c.if-not-slot_fits.true) in
+    sym ((rw (← c.self.view_is) (data-fits (g.C.Checksum.sum c.self.inside.checksum) (state_in c.self.inside) c.self.invariant lies.0 c.args.places.now lies.1)) ∙ all)
 
-pub is_new-requires : goal.is_new-requires
-is_new-requires g c =
-    let w = world_in c.self.inside in
-    let sum = g.C.Checksum.sum c.self.inside.checksum in
-    let x = state_in c.self.inside in
-    let p = c.args.place in
-    let slots = c.self.inside.slots.items in
-    let messages = c.self.inside.messages.items in
-    let r : (k : ℕ) × (slice_get w.network k ≡ Some (Data (p ∷ []))) = rw (← c.self.view_is) at c.requires in
-    let inside : p < length slots = omega (arith, come-made sum x c.self.invariant r.0 p r.1, slots-made sum x c.self.invariant slots messages refl refl) in
-    rw (← c.self.view_is) (come-made sum x c.self.invariant r.0 p r.1)
-
-pub returns-then-not-message : goal.returns-then-not-message
-returns-then-not-message g c =
-    let w = world_in c.self.inside in
-    let sum = g.C.Checksum.sum c.self.inside.checksum in
-    let x = state_in c.self.inside in
-    let p = c.args.place in
-    let slots = c.self.inside.slots.items in
-    let messages = c.self.inside.messages.items in
-    let r : (k : ℕ) × (slice_get w.network k ≡ Some (Data (p ∷ []))) = rw (← c.self.view_is) at c.requires in
-    let inside : p < length slots = omega (arith, come-made sum x c.self.invariant r.0 p r.1, slots-made sum x c.self.invariant slots messages refl refl) in
-    let made : message_of w p < length messages = omega (arith, come-message sum x c.self.invariant r.0 p r.1, messages-made sum x c.self.invariant slots messages refl refl) in
-    let number : c.index.result.now.message ≡ message_of w p = ap (λ (t : Slot). t.message) c.index.ensures ∙ sym (ap (λ t. t.message) (slot-raw sum x c.self.invariant slots messages refl refl p c.index.result.now inside)) in
-    let m = c.index-message.result.now in
-    let m_is : message_at w (message_of w p) ≡ message_record m = message-raw sum x c.self.invariant slots messages refl refl (message_of w p) m made ∙ ap message_record (sym (c.index-message.ensures ∙ ap (λ k. slice_index_or messages k m) number)) in
-    let kind : m.ordered ≡ false = search rules in
-    rw (← c.self.view_is) (fits-unordered sum x c.self.invariant r.0 p r.1 (ap (λ t. t.ordered) m_is ∙ kind))
-
-pub returns-then-not-is_new : goal.returns-then-not-is_new
-returns-then-not-is_new g c =
-    let w = world_in c.self.inside in
-    let sum = g.C.Checksum.sum c.self.inside.checksum in
-    let x = state_in c.self.inside in
-    let p = c.args.place in
-    let slots = c.self.inside.slots.items in
-    let messages = c.self.inside.messages.items in
-    let r : (k : ℕ) × (slice_get w.network k ≡ Some (Data (p ∷ []))) = rw (← c.self.view_is) at c.requires in
-    let inside : p < length slots = omega (arith, come-made sum x c.self.invariant r.0 p r.1, slots-made sum x c.self.invariant slots messages refl refl) in
-    let made : message_of w p < length messages = omega (arith, come-message sum x c.self.invariant r.0 p r.1, messages-made sum x c.self.invariant slots messages refl refl) in
-    let number : c.index.result.now.message ≡ message_of w p = ap (λ (t : Slot). t.message) c.index.ensures ∙ sym (ap (λ t. t.message) (slot-raw sum x c.self.invariant slots messages refl refl p c.index.result.now inside)) in
-    let m = c.index-message.result.now in
-    let m_is : message_at w (message_of w p) ≡ message_record m = message-raw sum x c.self.invariant slots messages refl refl (message_of w p) m made ∙ ap message_record (sym (c.index-message.ensures ∙ ap (λ k. slice_index_or messages k m) number)) in
-    let told : c.is_new.result ≡ is_new w p = rw (← c.self.view_is) at c.is_new.ensures in
-    let answer : c.is_new.result ≡ false = search rules in
-    let old = sym told ∙ answer in
-    rw (← c.self.view_is) (fits-old sum x c.self.invariant r.0 p r.1 old)
-
-pub ends-low-requires : goal.ends-low-requires
-ends-low-requires g c =
-    let w = world_in c.self.inside in
-    let sum = g.C.Checksum.sum c.self.inside.checksum in
-    let x = state_in c.self.inside in
-    let p = c.args.place in
-    let slots = c.self.inside.slots.items in
-    let messages = c.self.inside.messages.items in
-    let r : (k : ℕ) × (slice_get w.network k ≡ Some (Data (p ∷ []))) = rw (← c.self.view_is) at c.requires in
-    let inside : p < length slots = omega (arith, come-made sum x c.self.invariant r.0 p r.1, slots-made sum x c.self.invariant slots messages refl refl) in
-    let made : message_of w p < length messages = omega (arith, come-message sum x c.self.invariant r.0 p r.1, messages-made sum x c.self.invariant slots messages refl refl) in
-    let number : c.index.result.now.message ≡ message_of w p = ap (λ (t : Slot). t.message) c.index.ensures ∙ sym (ap (λ t. t.message) (slot-raw sum x c.self.invariant slots messages refl refl p c.index.result.now inside)) in
-    let m = c.index-message.result.now in
-    let m_is : message_at w (message_of w p) ≡ message_record m = message-raw sum x c.self.invariant slots messages refl refl (message_of w p) m made ∙ ap message_record (sym (c.index-message.ensures ∙ ap (λ k. slice_index_or messages k m) number)) in
-    let o = come-open sum x c.self.invariant r.0 p r.1 in
-    let open' : is_open w m.stream ≡ true = ap (λ t. is_open w t.stream) (sym m_is) ∙ ap is_some o.1 in
-    rw (← c.self.view_is) open'
-
-pub overflow_add-result : goal.overflow_add-result
-overflow_add-result g c =
-    let w = world_in c.self.inside in
-    let sum = g.C.Checksum.sum c.self.inside.checksum in
-    let x = state_in c.self.inside in
-    let p = c.args.place in
-    let slots = c.self.inside.slots.items in
-    let messages = c.self.inside.messages.items in
-    let r : (k : ℕ) × (slice_get w.network k ≡ Some (Data (p ∷ []))) = rw (← c.self.view_is) at c.requires in
-    let inside : p < length slots = omega (arith, come-made sum x c.self.invariant r.0 p r.1, slots-made sum x c.self.invariant slots messages refl refl) in
-    let made : message_of w p < length messages = omega (arith, come-message sum x c.self.invariant r.0 p r.1, messages-made sum x c.self.invariant slots messages refl refl) in
-    let number : c.index.result.now.message ≡ message_of w p = ap (λ (t : Slot). t.message) c.index.ensures ∙ sym (ap (λ t. t.message) (slot-raw sum x c.self.invariant slots messages refl refl p c.index.result.now inside)) in
-    let m = c.index-message.result.now in
-    let m_is : message_at w (message_of w p) ≡ message_record m = message-raw sum x c.self.invariant slots messages refl refl (message_of w p) m made ∙ ap message_record (sym (c.index-message.ensures ∙ ap (λ k. slice_index_or messages k m) number)) in
-    let i : index_kept x.progress (message_of w p) ≡ m.index = kept-raw sum x c.self.invariant slots messages refl refl refl (message_of w p) m made ∙ ap (λ (t : Message). t.index) (sym (c.index-message.ensures ∙ ap (λ k. slice_index_or messages k m) number)) in
-    omega (arith, c.min.ensures, i, few-index sum x c.self.invariant r.0 p r.1)
+pub loop-at-preserved : goal.loop-at-preserved
+loop-at-preserved g c =
+    let f = slot_fits c.args.self.now.world c.args.places.now in
+    all-more f c.args.places.now c.loop-at.at c.slot_fits.result c.loop-at-test.true (λ q e. c.slot_fits.ensures ∙ ap f (at-place c.args.places.now c.loop-at.at q e)) c.loop-at.invariant ∙ c.if-not-slot_fits.false
 
 pub returns : goal.returns
 returns g c =
-    let w = world_in c.self.inside in
-    let sum = g.C.Checksum.sum c.self.inside.checksum in
-    let x = state_in c.self.inside in
-    let p = c.args.place in
-    let slots = c.self.inside.slots.items in
-    let messages = c.self.inside.messages.items in
-    let r : (k : ℕ) × (slice_get w.network k ≡ Some (Data (p ∷ []))) = rw (← c.self.view_is) at c.requires in
-    let inside : p < length slots = omega (arith, come-made sum x c.self.invariant r.0 p r.1, slots-made sum x c.self.invariant slots messages refl refl) in
-    let made : message_of w p < length messages = omega (arith, come-message sum x c.self.invariant r.0 p r.1, messages-made sum x c.self.invariant slots messages refl refl) in
-    let number : c.index.result.now.message ≡ message_of w p = ap (λ (t : Slot). t.message) c.index.ensures ∙ sym (ap (λ t. t.message) (slot-raw sum x c.self.invariant slots messages refl refl p c.index.result.now inside)) in
-    let m = c.index-message.result.now in
-    let m_is : message_at w (message_of w p) ≡ message_record m = message-raw sum x c.self.invariant slots messages refl refl (message_of w p) m made ∙ ap message_record (sym (c.index-message.ensures ∙ ap (λ k. slice_index_or messages k m) number)) in
-    let told : c.is_new.result ≡ is_new w p = rw (← c.self.view_is) at c.is_new.ensures in
-    let answer : c.is_new.result ≡ true = search rules in
-    let kind : m.ordered ≡ true = search rules in
-    let low : c.ends-low.result.0 ≡ least (next_of w m.stream) (map (index_of w) (held_on w m.stream)) = rw (← c.self.view_is) at c.ends-low.ensures.low in
-    let high : c.ends-low.result.1 ≡ greatest (next_of w m.stream) (map (index_of w) (held_on w m.stream)) = rw (← c.self.view_is) at c.ends-low.ensures.high in
-    let i : index_kept x.progress (message_of w p) ≡ m.index = kept-raw sum x c.self.invariant slots messages refl refl refl (message_of w p) m made ∙ ap (λ (t : Message). t.index) (sym (c.index-message.ensures ∙ ap (λ k. slice_index_or messages k m) number)) in
-    rw (← c.self.view_is) (
-    ap (λ a. nat_lt a (c.min.result + 32768)) c.max.ensures ∙ ap (λ b. nat_lt (max c.ends-low.result.1 m.index) (b + 32768)) c.min.ensures
-    ∙ fits-span sum x c.self.invariant r.0 p r.1 c.ends-low.result.0 c.ends-low.result.1 m.index (sym told ∙ answer) (ap (λ t. t.ordered) m_is ∙ kind)
-    (low ∙ ap (λ t. least (next_of w t.stream) (map (index_of w) (held_on w t.stream))) (sym m_is))
-    (high ∙ ap (λ t. greatest (next_of w t.stream) (map (index_of w) (held_on w t.stream))) (sym m_is))
-    (sym i)
-    )
+    let f = slot_fits c.args.self.now.world c.args.places.now in
+    let lies : (k : ℕ) × (slice_get (world_in c.self.inside).network k ≡ Some (Data c.args.places.now)) = rw (← c.self.view_is) at c.requires in
+    let all = ap (list_all f) (sym (take_all c.loop-at.at c.args.places.now (omega (arith, c.loop-at-test.false)))) ∙ c.loop-at.invariant in
+    sym ((rw (← c.self.view_is) (data-fits (g.C.Checksum.sum c.self.inside.checksum) (state_in c.self.inside) c.self.invariant lies.0 c.args.places.now lies.1)) ∙ all)

@@ -1,13 +1,11 @@
-use Rattle.std.proofs.Common.{◌≡◌, ◌<◌, ◌+◌, ◌++◌, ◌∷◌, ℕ, [], List, length, take, map, refl, ap, sym, ◌∙◌, arith, rules, subst, length-append}
+use Rattle.std.proofs.Common.{◌≡◌, ◌<◌, ◌+◌, ◌++◌, ◌∷◌, [], List, length, take, map, refl, ap, sym, ◌∙◌, arith, rules, subst, length-append}
 use Rattle.std.specs.Prelude.{slice_index_or, slice_set}
 use Rattle.std.proofs.lemmas.List.{map-append, nil_from_length}
 use Rattle.std.proofs.lemmas.Grind.{take_at_read}
-use Rattle.sctp_chunks.specs.declared.chunk.chunk_payload_data.ChunkPayloadData.{ChunkPayloadData}
-use Rattle.sctp_transfer.specs.declared.stream.StreamState.{StreamState}
 use Rattle.sctp_link.specs.declared.open_stream.OpenStream.{OpenStream}
 use Rattle.sctp_link.specs.declared.record.Slot.{Slot}
 use Rattle.sctp_link.specs.declared.link.arriving.Saved.{Saved}
-use Rattle.sctp_link.specs.Receiving.{AllSaved, IsSaved, TouchesOnly, MarksOnly}
+use Rattle.sctp_link.specs.Receiving.{TouchesOnly, MarksOnly}
 use Rattle.sctp_link.proofs.receiver.SlotLists.{put-back-stream, put-back-slot, last-saved, all-marked, chunk-none, slot-none}
 use Rattle.sctp_link.proofs.link.arriving.put_back.Goals as goal
 

@@ -1,14 +1,13 @@
-use Rattle.std.proofs.Common.{◌≡◌, ◌<◌, ◌+◌, ◌∷◌, ℕ, [], List, length, take, map, refl, ap, sym, ◌∙◌, arith, rules, subst}
+use Rattle.std.proofs.Common.{◌≡◌, ◌+◌, take, map, ap, sym, ◌∙◌, arith, subst}
 use Rattle.std.specs.Prelude.{fold, slice_index_or}
 use Rattle.std.specs.List.{list_any}
 use Rattle.std.proofs.lemmas.List.{take_all}
 use Rattle.sctp_chunks.specs.declared.chunk.chunk_payload_data.ChunkPayloadData.{ChunkPayloadData}
-use Rattle.sctp_model.specs.World.{World}
 use Rattle.sctp_model.specs.Receiver.{is_new}
 use Rattle.sctp_model.specs.Changes.{slot_received}
 use Rattle.sctp_link.specs.declared.link.arriving.Saved.{Saved}
-use Rattle.sctp_link.specs.Receiving.{IsReceiver, Comes, TouchesOnly, MarksOnly}
-use Rattle.sctp_link.proofs.receiver.Touched.{take-then, one-at}
+use Rattle.sctp_link.specs.Receiving.{IsReceiver, Comes}
+use Rattle.sctp_link.proofs.receiver.Touched.{take-then}
 use Rattle.sctp_link.proofs.receiver.SlotLists.{come-at, come-count, new-next, received-next, touches-up, touches-all, marks-up, marks-all, saved-at}
 use Rattle.sctp_link.proofs.link.arriving.receive_each.Goals as goal
 

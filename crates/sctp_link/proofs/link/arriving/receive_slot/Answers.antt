@@ -1,4 +1,4 @@
-use Rattle.std.proofs.Common.{◌≡◌, ℕ, true, false, List, [], ◌∷◌, ◌++◌, length, refl, ap, sym, ◌∙◌, rules, subst}
+use Rattle.std.proofs.Common.{◌≡◌, true, false, [], refl, ap, sym, ◌∙◌, rules, subst}
 use Rattle.std.specs.Prelude.{if◌then◌else◌, slice_index_or, slice_set}
 use Rattle.sctp_lists.specs.Lists.{advanced, inserted}
 use Rattle.sctp_chunks.specs.declared.chunk.chunk_payload_data.ChunkPayloadData.{ChunkPayloadData}
@@ -7,13 +7,12 @@ use Rattle.sctp_serial.specs.Window
 use Rattle.sctp_outbound.specs.payload_queue.PayloadQueue as Payload
 use Rattle.sctp_outbound.specs.payload_queue.PayloadQueue.{Payload}
 use Rattle.sctp_ties.proofs.arriving.FilterQueue.{tsns}
-use Rattle.sctp_model.specs.World.{World}
 use Rattle.sctp_model.specs.Messages.{message_of}
 use Rattle.sctp_model.specs.Receiver.{is_new}
 use Rattle.sctp_link.specs.declared.open_stream.OpenStream.{OpenStream}
 use Rattle.sctp_link.specs.declared.record.Slot.{Slot}
 use Rattle.sctp_link.specs.OpenStreams.{Keeps}
-use Rattle.sctp_link.specs.Receiving.{IsReceiver, Comes, IsUnchanged}
+use Rattle.sctp_link.specs.Receiving.{IsUnchanged}
 use Rattle.sctp_link.proofs.receiver.Keeping.{on-err}
 use Rattle.sctp_link.proofs.receiver.Slots
 use Rattle.sctp_link.proofs.receiver.Touched.{touches-none, set-touches, set-unchanged, keeps-touched, unchanged-touched}

@@ -1,9 +1,8 @@
-use Rattle.std.proofs.Common.{rules, ◌≡◌, ◌<◌, ℕ, [], ◌∷◌, length, take, map, refl, ap, sym, ◌∙◌, arith, subst}
-use Rattle.std.specs.Prelude.{fold, slice_index_or, find, None, ◌||◌, false}
+use Rattle.std.proofs.Common.{rules, ◌≡◌, [], length, take, refl, ap, sym, ◌∙◌, arith, subst}
+use Rattle.std.specs.Prelude.{fold, slice_index_or, find}
 use Rattle.std.specs.List.{list_any}
 use Rattle.sctp_chunks.specs.declared.chunk.chunk_payload_data.ChunkPayloadData.{ChunkPayloadData}
 use Rattle.sctp_outbound.specs.payload_queue.PayloadQueue.{Payload}
-use Rattle.sctp_model.specs.World.{World}
 use Rattle.sctp_model.specs.Receiver.{is_new}
 use Rattle.sctp_model.specs.Changes.{slot_received}
 use Rattle.sctp_link.specs.Linked.{has_number}

@@ -1,9 +1,8 @@
-use Rattle.std.proofs.Common.{◌≡◌, ◌+◌, ◌∷◌, ◌++◌, [], length, refl, ap, sym, ◌∙◌, arith, rules, length-append}
+use Rattle.std.proofs.Common.{◌≡◌, ◌+◌, ◌∷◌, [], length, ap, ◌∙◌, arith, rules, length-append}
 use Rattle.std.specs.Prelude.{slice_index_or}
 use Rattle.sctp_chunks.specs.declared.chunk.chunk_payload_data.ChunkPayloadData.{ChunkPayloadData}
 use Rattle.sctp_link.specs.declared.open_stream.OpenStream.{OpenStream}
 use Rattle.sctp_link.specs.declared.record.Slot.{Slot}
-use Rattle.sctp_link.specs.declared.link.arriving.Saved.{Saved}
 use Rattle.sctp_link.proofs.upkeep.Apart.{number-found}
 use Rattle.sctp_link.proofs.receiver.Touched.{one-at}
 use Rattle.sctp_link.proofs.receiver.SlotLists.{saved-more}

@@ -1,0 +1,157 @@
+use Rattle.std.proofs.Common.{◌≡◌, ap, sym, ◌∙◌, ◌<◌, ◌-◌, true, false, refl, arith, length}
+use Rattle.std.specs.Prelude.{slice_index_or, is_some, if◌then◌else◌, nat_lt, ◌&&◌}
+use Rattle.sctp_model.specs.Messages.{message_at, message_of, is_open}
+use Rattle.sctp_model.specs.Receiver.{is_new, least, greatest, fits}
+use Rattle.sctp_link.specs.declared.record.Slot.{Slot}
+use Rattle.sctp_link.specs.Fields.{world_in, state_in}
+use Rattle.sctp_link.specs.Records.{message_record}
+use Rattle.sctp_link.specs.Receiving.{LiesSomewhere, added_on}
+use Rattle.sctp_link.proofs.receiver.Hears.{come-message, slots-made, messages-made, slot-raw, message-raw}
+use Rattle.sctp_link.proofs.receiver.Spans.{lying, fits-ends}
+use Rattle.sctp_lists.proofs.Cases.{and-none}
+use Rattle.sctp_ties.proofs.arriving.SpanEnds.{lowest, highest}
+use Rattle.sctp_link.proofs.link.Link.slot_fits.Goals as goal
+
+pub index-requires : goal.index-requires
+index-requires g c =
+    let w = world_in c.self.inside in
+    let sum = g.C.Checksum.sum c.self.inside.checksum in
+    let x = state_in c.self.inside in
+    let l = c.self.invariant in
+    let p = c.args.place in
+    let slots = c.self.inside.slots.items in
+    let messages = c.self.inside.messages.items in
+    let lies : LiesSomewhere w p = rw (← c.self.view_is) at c.requires.place in
+    let car = lying sum x l p lies in
+    let inside : p < length slots = omega (arith, car.made, slots-made sum x l slots messages refl refl) in
+    omega (arith, inside)
+
+pub index-message-requires : goal.index-message-requires
+index-message-requires g c =
+    let w = world_in c.self.inside in
+    let sum = g.C.Checksum.sum c.self.inside.checksum in
+    let x = state_in c.self.inside in
+    let l = c.self.invariant in
+    let p = c.args.place in
+    let slots = c.self.inside.slots.items in
+    let messages = c.self.inside.messages.items in
+    let lies : LiesSomewhere w p = rw (← c.self.view_is) at c.requires.place in
+    let car = lying sum x l p lies in
+    let inside : p < length slots = omega (arith, car.made, slots-made sum x l slots messages refl refl) in
+    let made : message_of w p < length messages = omega (arith, come-message sum x l p car, messages-made sum x l slots messages refl refl) in
+    let number : c.index.result.now.message ≡ message_of w p = ap (λ (t : Slot). t.message) c.index.ensures ∙ sym (ap (λ t. t.message) (slot-raw sum x l slots messages refl refl p c.index.result.now inside)) in
+    omega (arith, number, made)
+
+pub is_new-requires : goal.is_new-requires
+is_new-requires g c =
+    let w = world_in c.self.inside in
+    let sum = g.C.Checksum.sum c.self.inside.checksum in
+    let x = state_in c.self.inside in
+    let l = c.self.invariant in
+    let p = c.args.place in
+    let slots = c.self.inside.slots.items in
+    let messages = c.self.inside.messages.items in
+    let lies : LiesSomewhere w p = rw (← c.self.view_is) at c.requires.place in
+    let car = lying sum x l p lies in
+    let inside : p < length slots = omega (arith, car.made, slots-made sum x l slots messages refl refl) in
+    rw (← c.self.view_is) car.made
+
+pub returns-then-not-message : goal.returns-then-not-message
+returns-then-not-message g c =
+    let w = world_in c.self.inside in
+    let sum = g.C.Checksum.sum c.self.inside.checksum in
+    let x = state_in c.self.inside in
+    let l = c.self.invariant in
+    let p = c.args.place in
+    let slots = c.self.inside.slots.items in
+    let messages = c.self.inside.messages.items in
+    let lies : LiesSomewhere w p = rw (← c.self.view_is) at c.requires.place in
+    let car = lying sum x l p lies in
+    let inside : p < length slots = omega (arith, car.made, slots-made sum x l slots messages refl refl) in
+    let made : message_of w p < length messages = omega (arith, come-message sum x l p car, messages-made sum x l slots messages refl refl) in
+    let number : c.index.result.now.message ≡ message_of w p = ap (λ (t : Slot). t.message) c.index.ensures ∙ sym (ap (λ t. t.message) (slot-raw sum x l slots messages refl refl p c.index.result.now inside)) in
+    let m = c.index-message.result.now in
+    let m_is : message_at w (message_of w p) ≡ message_record m = message-raw sum x l slots messages refl refl (message_of w p) m made ∙ ap message_record (sym (c.index-message.ensures ∙ ap (λ k. slice_index_or messages k m) number)) in
+    let ps = c.args.places.now in
+    let n = message_of w p in
+    let test = fits w (added_on w (message_at w n).stream ps) (message_at w n).stream in
+    let kind : (message_at w n).ordered ≡ false = ap (λ t. t.ordered) m_is ∙ c.if-not-message.true in
+    rw (← c.self.view_is) (sym (ap (λ b. if is_new w p && b then test else true) kind ∙ ap (λ b. if b then test else true) (and-none (is_new w p))))
+
+pub returns-then-not-is_new : goal.returns-then-not-is_new
+returns-then-not-is_new g c =
+    let w = world_in c.self.inside in
+    let sum = g.C.Checksum.sum c.self.inside.checksum in
+    let x = state_in c.self.inside in
+    let l = c.self.invariant in
+    let p = c.args.place in
+    let slots = c.self.inside.slots.items in
+    let messages = c.self.inside.messages.items in
+    let lies : LiesSomewhere w p = rw (← c.self.view_is) at c.requires.place in
+    let car = lying sum x l p lies in
+    let inside : p < length slots = omega (arith, car.made, slots-made sum x l slots messages refl refl) in
+    let made : message_of w p < length messages = omega (arith, come-message sum x l p car, messages-made sum x l slots messages refl refl) in
+    let number : c.index.result.now.message ≡ message_of w p = ap (λ (t : Slot). t.message) c.index.ensures ∙ sym (ap (λ t. t.message) (slot-raw sum x l slots messages refl refl p c.index.result.now inside)) in
+    let m = c.index-message.result.now in
+    let m_is : message_at w (message_of w p) ≡ message_record m = message-raw sum x l slots messages refl refl (message_of w p) m made ∙ ap message_record (sym (c.index-message.ensures ∙ ap (λ k. slice_index_or messages k m) number)) in
+    let ps = c.args.places.now in
+    let n = message_of w p in
+    let test = fits w (added_on w (message_at w n).stream ps) (message_at w n).stream in
+    let told : c.is_new.result ≡ is_new w p = rw (← c.self.view_is) at c.is_new.ensures in
+    let old : is_new w p ≡ false = sym told ∙ c.if-not-is_new.true in
+    rw (← c.self.view_is) (sym (ap (λ b. if b && (message_at w n).ordered then test else true) old))
+
+pub ends-ends-requires : goal.ends-ends-requires
+ends-ends-requires g c =
+    let w = world_in c.self.inside in
+    let sum = g.C.Checksum.sum c.self.inside.checksum in
+    let x = state_in c.self.inside in
+    let l = c.self.invariant in
+    let p = c.args.place in
+    let slots = c.self.inside.slots.items in
+    let messages = c.self.inside.messages.items in
+    let lies : LiesSomewhere w p = rw (← c.self.view_is) at c.requires.place in
+    let car = lying sum x l p lies in
+    let inside : p < length slots = omega (arith, car.made, slots-made sum x l slots messages refl refl) in
+    let made : message_of w p < length messages = omega (arith, come-message sum x l p car, messages-made sum x l slots messages refl refl) in
+    let number : c.index.result.now.message ≡ message_of w p = ap (λ (t : Slot). t.message) c.index.ensures ∙ sym (ap (λ t. t.message) (slot-raw sum x l slots messages refl refl p c.index.result.now inside)) in
+    let m = c.index-message.result.now in
+    let m_is : message_at w (message_of w p) ≡ message_record m = message-raw sum x l slots messages refl refl (message_of w p) m made ∙ ap message_record (sym (c.index-message.ensures ∙ ap (λ k. slice_index_or messages k m) number)) in
+    let open' : is_open w m.stream ≡ true = ap (λ t. is_open w t.stream) (sym m_is) ∙ ap is_some car.known.1 in
+    rw (← c.self.view_is) open'
+
+pub returns : goal.returns
+returns g c =
+    let w = world_in c.self.inside in
+    let sum = g.C.Checksum.sum c.self.inside.checksum in
+    let x = state_in c.self.inside in
+    let l = c.self.invariant in
+    let p = c.args.place in
+    let slots = c.self.inside.slots.items in
+    let messages = c.self.inside.messages.items in
+    let lies : LiesSomewhere w p = rw (← c.self.view_is) at c.requires.place in
+    let car = lying sum x l p lies in
+    let inside : p < length slots = omega (arith, car.made, slots-made sum x l slots messages refl refl) in
+    let made : message_of w p < length messages = omega (arith, come-message sum x l p car, messages-made sum x l slots messages refl refl) in
+    let number : c.index.result.now.message ≡ message_of w p = ap (λ (t : Slot). t.message) c.index.ensures ∙ sym (ap (λ t. t.message) (slot-raw sum x l slots messages refl refl p c.index.result.now inside)) in
+    let m = c.index-message.result.now in
+    let m_is : message_at w (message_of w p) ≡ message_record m = message-raw sum x l slots messages refl refl (message_of w p) m made ∙ ap message_record (sym (c.index-message.ensures ∙ ap (λ k. slice_index_or messages k m) number)) in
+    let ps = c.args.places.now in
+    let n = message_of w p in
+    let test = fits w (added_on w (message_at w n).stream ps) (message_at w n).stream in
+    let told : c.is_new.result ≡ is_new w p = rw (← c.self.view_is) at c.is_new.ensures in
+    let new : is_new w p ≡ true = sym told ∙ c.if-not-is_new.false in
+    let kind : (message_at w n).ordered ≡ true = ap (λ t. t.ordered) m_is ∙ c.if-not-message.false in
+    let more = added_on w m.stream ps in
+    let low : c.ends-ends.result.0 ≡ lowest w m.stream = rw (← c.self.view_is) at c.ends-ends.ensures.low in
+    let high : c.ends-ends.result.1 ≡ highest w m.stream = rw (← c.self.view_is) at c.ends-ends.ensures.high in
+    let below : c.widened-low.result.0 ≡ least c.ends-ends.result.0 more = rw (← c.self.view_is) at c.widened-low.ensures.low in
+    let above : c.widened-low.result.1 ≡ greatest c.ends-ends.result.1 more = rw (← c.self.view_is) at c.widened-low.ensures.high in
+    rw (← c.self.view_is) (
+    ap (λ k. nat_lt k 32768) c.saturating_sub.ensures
+    ∙ ap (λ a. nat_lt (a - c.widened-low.result.0) 32768) (above ∙ ap (λ h. greatest h more) high)
+    ∙ ap (λ b. nat_lt (greatest (highest w m.stream) more - b) 32768) (below ∙ ap (λ h. least h more) low)
+    ∙ fits-ends w m.stream more
+    ∙ ap (λ s. fits w (added_on w s ps) s) (sym (ap (λ t. t.stream) m_is))
+    ∙ sym (ap (λ b. if b && (message_at w n).ordered then test else true) new ∙ ap (λ b. if b then test else true) kind)
+    )

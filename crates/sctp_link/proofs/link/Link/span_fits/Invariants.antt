@@ -1,0 +1,7 @@
+use Rattle.std.proofs.Common.{◌≡◌, true, take}
+use Rattle.std.specs.List.{list_all}
+use Rattle.sctp_link.specs.Receiving.{slot_fits}
+use Rattle.sctp_link.proofs.link.Link.span_fits.Given as goal
+
+abbrev pub invariant-loop-at : goal.invariant-loop-at
+invariant-loop-at g l = list_all (slot_fits l.self.world l.places) (take l.at l.places) ≡ true
