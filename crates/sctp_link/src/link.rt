@@ -83,7 +83,7 @@ impl<C: Checksum + Drop> Link<C> {
     ghost use Rattle.sctp_link.specs.Replies.{reply_of, answer_of};
     ghost use Rattle.sctp_link.specs.Texts.{datagram_text};
 
-    /// A link with nothing opened yet. It takes no memory.
+    /// A link with nothing opened yet, of which each datagram has one DATA chunk. It takes no memory.
     /// It cuts messages into fragments of `fragment_size` bytes, and takes messages
     /// of at most `max_message_size` bytes.
     /// Precondition: `fragment_size` is 1 to 65,519.
@@ -100,13 +100,40 @@ impl<C: Checksum + Drop> Link<C> {
         ensures checksum { result.checksum ≡ checksum }
         ensures stands { StandsFor (setup_of first_tsn fragment_size max_message_size 0) result.world [] }
     {
+        Link::with_limit(
+            alloc,
+            first_tsn,
+            fragment_size,
+            max_message_size,
+            0,
+            checksum,
+        )
+    }
+
+    /// The same with as many DATA chunks in each datagram as wait and leave it within `limit` bytes, and with one
+    /// where the first alone is longer. It takes no memory.
+    /// Precondition: `fragment_size` is 1 to 65,519.
+    pub fn with_limit(
+        alloc: Global,
+        first_tsn: u32,
+        fragment_size: u32,
+        max_message_size: u32,
+        limit: u32,
+        checksum: C,
+    ) -> Self
+        requires some { 1 ≤ fragment_size }
+        requires short { fragment_size ≤ 65519 }
+        ensures empty { result.world ≡ start (setup_of first_tsn fragment_size max_message_size limit) }
+        ensures checksum { result.checksum ≡ checksum }
+        ensures stands { StandsFor (setup_of first_tsn fragment_size max_message_size limit) result.world [] }
+    {
         Link {
             alloc,
             checksum,
             first_tsn,
             fragment_size,
             max_message_size,
-            limit: 0,
+            limit,
             open_streams: OpenStreams::new(alloc),
             messages: Vec::new(alloc),
             unstarted: 0,

@@ -52,10 +52,9 @@ start_state first size largest limit open_streams places messages slots network 
       written = 0;
     }
 
-linked-start : (sum : List ℕ → ℕ) (first size largest limit : ℕ) (places : BTreeMap ℕ ℕ) → limit ≡ 0 → first < 2 ^ 32 → 0 < size → size ≤ 65519 → IsIndexed places [] → IsLinked sum (start_state first size largest limit [] places [] [] [] [] no_outbound no_payload)
-linked-start sum first size largest limit places none fits some short indexed = record {
+linked-start : (sum : List ℕ → ℕ) (first size largest limit : ℕ) (places : BTreeMap ℕ ℕ) → first < 2 ^ 32 → 0 < size → size ≤ 65519 → IsIndexed places [] → IsLinked sum (start_state first size largest limit [] places [] [] [] [] no_outbound no_payload)
+linked-start sum first size largest limit places fits some short indexed = record {
   setup = record { first = fits; some = some; size = short };
-  one_each = none;
   history = [];
   stands = record { is = refl; run = tt };
   outbound = record {
@@ -80,7 +79,7 @@ linked-start sum first size largest limit places none fits some short indexed = 
 }
 
 pub linked-new : (sum : List ℕ → ℕ) (first size largest limit : ℕ) (open_streams : List OpenStream) (places : BTreeMap ℕ ℕ) (messages : List Message) (slots : List Slot) (network : List Datagram) (duplicates : List ℕ) (outbound : Outbound) (filter : Payload)
-    → limit ≡ 0 → first < 2 ^ 32 → 0 < size → size ≤ 65519
+    → first < 2 ^ 32 → 0 < size → size ≤ 65519
     → open_streams ≡ [] → IsIndexed places [] → messages ≡ [] → slots ≡ [] → network ≡ [] → duplicates ≡ [] → outbound ≡ no_outbound → filter ≡ no_payload
     → IsLinked sum (start_state first size largest limit open_streams places messages slots network duplicates outbound filter)
-linked-new sum first size largest limit open_streams places messages slots network duplicates outbound filter none fits some short a indexed b c d e q f = rw (a, b, c, d, e, q, f) (linked-start sum first size largest limit places none fits some short indexed)
+linked-new sum first size largest limit open_streams places messages slots network duplicates outbound filter fits some short a indexed b c d e q f = rw (a, b, c, d, e, q, f) (linked-start sum first size largest limit places fits some short indexed)

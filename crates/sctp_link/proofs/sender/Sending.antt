@@ -237,7 +237,6 @@ module _ (sum : List ℕ → ℕ) (x : State) (l : IsLinked sum x) (now n : ℕ)
     pub linked-send : IsLinked sum (record x { world = v; open_streams = s.streams; places = s.places; progress = map progress_of s.messages; unstarted = length x.world.messages; datagrams = x.datagrams ++ bytes ∷ []; outbound = s.outbound; next_tsn = s.next_tsn })
     linked-send = record {
       setup = l.setup;
-      one_each = l.one_each;
       history = (E.Send now, reply_to w (E.Send now)) ∷ l.history;
       stands = subst (λ y. StandsFor w.setup y ((E.Send now, reply_to w (E.Send now)) ∷ l.history)) sent-moves (stands-then w.setup w l.history (E.Send now) refl l.stands);
       outbound = outbound-sent;

@@ -14,7 +14,7 @@ use Rattle.sctp_link.specs.Fields.{state_in, world_in}
 use Rattle.sctp_link.specs.Sends.{sender_of}
 use Rattle.sctp_link.proofs.receiver.Keeping.{on-err}
 use Rattle.sctp_link.proofs.sender.Sending.{next-is, idle-right, looks-short}
-use Rattle.sctp_link.proofs.sender.SentLists.{count-is, texts-each, can-leave, linked-sent, send-is-right}
+use Rattle.sctp_link.proofs.sender.SentLists.{count-is, texts-each, canonical-each, can-leave, linked-sent, send-is-right}
 use Rattle.sctp_link.proofs.link.Link.send.Goals as goal
 
 pub returns-in_default-clause-ok : goal.returns-in_default-clause-ok
@@ -30,6 +30,11 @@ pub write_chunks-requires-clause-text : goal.write_chunks-requires-clause-text
 write_chunks-requires-clause-text g c =
     let e : peeked c.self.inside.outbound.pending ≡ Some c.in-Some.first.now = search rules in
     texts-each (g.C.Checksum.sum c.self.inside.checksum) (state_in c.self.inside) c.self.invariant c.args.now c.in-Some.first.now e c.in_ok-chunks.chunks.items c.in_ok-chunks.ensures.chunks
+
+pub write_chunks-requires-clause-canonical : goal.write_chunks-requires-clause-canonical
+write_chunks-requires-clause-canonical g c =
+    let e : peeked c.self.inside.outbound.pending ≡ Some c.in-Some.first.now = search rules in
+    canonical-each (g.C.Checksum.sum c.self.inside.checksum) (state_in c.self.inside) c.self.invariant c.args.now c.in-Some.first.now e c.in_ok-chunks.chunks.items c.in_ok-chunks.ensures.chunks
 
 pub take_fragments-requires-clause-able : goal.take_fragments-requires-clause-able
 take_fragments-requires-clause-able g c =
