@@ -116,6 +116,15 @@ fn scripts_of_skips(rt: HostRuntime) -> Result<(), Fail> {
             "link 10 3 3\nwrite 1 53 61\nopen 1\nopen 1\nwrite 1 53 61616161\narrive 0\nresend 10\nskip 10 -\nwrite 1 53 616161\nwrite 1 53 626262\nsend 0\nskip 10 1\nskip 10 0\nskip 10 0,0\nskip 11 0\nabandon 11\n",
             "refused L1\nopened\nrefused L2\nrefused L3\nrefused L5\nrefused L6\nrefused L7\nwrote 0 1\nwrote 1 1\nsent 0 10 0\nrefused L8\nskip 1\nskip 2\nrefused L7\nrefused L6\n",
         ),
+        // A skip that says more makes an earlier one stale, and counts after it.
+        (
+            "link 10 3 100\nopen 1\nwrite 1 53 616161\nwrite 1 53 626262\nwrite 1 53 636363\nsend 0\nsend 0\nsend 0\nabandon 10\nabandon 11\nskip 10 0\nskip 11 0,1\narrive 4\narrive 3\narrive 2\nread 1\n",
+            "opened\nwrote 0 1\nwrote 1 1\nwrote 2 1\nsent 0 10 0\nsent 1 11 1\nsent 2 12 2\nreleased 1 3\nreleased 1 3\nskip 3\nskip 4\nskipped\nstale\nnew\nmessage 1 53 636363\n",
+        ),
+        (
+            "link 10 3 100\nopen 1\nwrite 1 53 616161\nwrite 1 53 626262\nwrite 1 53 636363\nsend 0\nsend 0\nsend 0\nabandon 10\nabandon 11\nskip 10 0\nskip 11 0,1\narrive 3\narrive 4\narrive 2\nread 1\n",
+            "opened\nwrote 0 1\nwrote 1 1\nwrote 2 1\nsent 0 10 0\nsent 1 11 1\nsent 2 12 2\nreleased 1 3\nreleased 1 3\nskip 3\nskip 4\nskipped\nskipped\nnew\nmessage 1 53 636363\n",
+        ),
         // After an abandoned message the receiver goes on behind its end mark.
         (
             "link 10 3 100\nopen 1\nwrite 1 53 61626364656667\nsend 0\narrive 0\nabandon 10\nwrite 1 53 78\nsend 0\nskip 11 0\narrive 1\narrive 2\nack 0\nread 1\nread 1\nacked 3\n",

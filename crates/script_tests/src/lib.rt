@@ -9,3 +9,5 @@ mod events;
 mod packets;
 #[cfg(test)]
 mod scripts;
+#[cfg(test)]
+mod spans;

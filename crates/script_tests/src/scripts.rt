@@ -1,6 +1,7 @@
 //! Scripts, and the fields of their lines.
 
 use crate::checksum::Crc32c;
+use crate::spans::sent_many;
 use linkscript::field::{FieldFault, field_bytes, field_text};
 use linkscript::run::{RunFault, run_under};
 use std::alloc::Global;
@@ -96,10 +97,7 @@ fn scripts_of_fragments(rt: HostRuntime) -> Result<(), Fail> {
 #[test]
 fn the_span_of_indexes(rt: HostRuntime) -> Result<(), Fail> {
     let alloc = rt.alloc();
-    let mut script = String::from_str(alloc, "link 0 1 100\nopen 1\n")?;
-    for _ in 0..32_769 {
-        script.push_str("write 1 53 61\nsend 0\n")?;
-    }
+    let mut script = sent_many(alloc, "link 0 1 100\nopen 1\n", 32_769)?;
     script.push_str("arrive 32767\narrive 32768\narrive 32768\n")?;
     let result = ran(alloc, script.as_bytes())?;
     assert!(rt;
@@ -119,7 +117,12 @@ fn first_lines_that_cannot_be_read(rt: HostRuntime) -> Result<(), Fail> {
         "\n",
         "open 1\n",
         "link 10 3\n",
-        "link 10 3 100 0\n",
+        "link 10 3 100 \n",
+        "link 10 3 100 0 \n",
+        "link 10 3 100 0 0\n",
+        "link 10 3 100 -\n",
+        "link 10 3 100 4294967296\n",
+        "link 10 0 100 60\n",
         "link 10 0 100\n",
         "link 10 65520 100\n",
         "link 4294967296 3 100\n",

@@ -4,6 +4,8 @@ pub mod Opening
 pub mod Starting
 pub mod Modes
 pub mod Outgoing
+pub mod Between
+pub mod Ahead
 pub mod Sending
 pub mod SentLists
 pub mod Fragmented

@@ -5,14 +5,14 @@ use Rattle.sctp_link.specs.declared.link.Link.TheInside.{Inside}
 use Rattle.sctp_link.specs.Linked.{State}
 use Rattle.sctp_link.specs.Records.{message_record, progress_of, slot_record, datagram_record, stream_record}
 
--- a link has datagrams of one chunk each: their limit is 0
-abbrev pub setup_of : ℕ → ℕ → ℕ → Setup
-setup_of first size largest = record { first = first; size = size; largest = largest; limit = 0 }
+-- what a link was made with
+abbrev pub setup_of : ℕ → ℕ → ℕ → ℕ → Setup
+setup_of first size largest limit = record { first = first; size = size; largest = largest; limit = limit }
 
 abbrev pub world_in : {C : Type 0} → Inside C → World
 world_in a =
     record {
-      setup = setup_of a.first_tsn a.fragment_size a.max_message_size;
+      setup = setup_of a.first_tsn a.fragment_size a.max_message_size a.limit;
       streams = map stream_record a.open_streams.items.items;
       messages = map message_record a.messages.items;
       slots = map slot_record a.slots.items;

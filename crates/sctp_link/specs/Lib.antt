@@ -8,3 +8,4 @@ pub mod Replies
 pub mod Receiving
 pub mod Skips
 pub mod Acking
+pub mod Sends

@@ -84,7 +84,6 @@ pub record IsOpenStream (w : World) (l : OpenStream) : Type 0 where
 
 pub record IsLinked (sum : List ℕ → ℕ) (x : State) : Type 0 where
   pub setup : IsSetup x.world.setup
-  pub one_each : x.world.setup.limit ≡ 0
   pub history : History
   pub stands : StandsFor x.world.setup x.world history
   pub outbound : TiedOutbound x.world x.outbound

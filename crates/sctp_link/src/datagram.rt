@@ -1,4 +1,4 @@
-//! Datagrams: of one chunk written, and read again.
+//! Datagrams: written, and read again.
 
 ghost use Rattle.std.specs.Prelude.{◌≡◌, ◌≤◌, ◌+◌, ◌∷◌, [], List, length, map, IfOk, IsOkUnless};
 ghost use Rattle.std.specs.List.{AllByRecursion};
@@ -38,6 +38,22 @@ pub fn write_datagram<C: Checksum>(alloc: Global, chunk: ChunkKind, checksum: &C
 {
     let mut chunks = Vec::new(alloc);
     chunks.push(chunk)?;
+    write_chunks(alloc, chunks, checksum)
+}
+
+/// Writes the datagram of some chunks. Its bytes read back. Refuses only for memory.
+/// Precondition: each chunk has a text, which reads back.
+pub fn write_chunks<C: Checksum>(
+    alloc: Global,
+    chunks: Vec<ChunkKind>,
+    checksum: &C,
+) -> Result<Bytes>
+    requires text { AllByRecursion HasText (map wire_of chunks.items) }
+    requires canonical { AllByRecursion Canonical (map wire_of chunks.items) }
+    ensures text { IfOk result (λ b. b ≡ packet_text (C.sum checksum.now) (packet_with (map wire_of chunks.items))) }
+    ensures reads { IfOk result (λ b. ReadsPacket (C.sum checksum.now) b (packet_with (map wire_of chunks.items))) }
+    ensures memory { IsOkUnless result ErrOutOfMemory }
+{
     let packet = Packet {
         common_header: CommonHeader {
             source_port: PORT,

@@ -8,6 +8,7 @@ mod acknowledged;
 mod acknowledging;
 mod arriving;
 mod expiring;
+mod fragments;
 mod late;
 pub mod lending;
 mod naming;
@@ -36,6 +37,8 @@ pub struct Link<C: Checksum + Drop> {
     first_tsn: u32,
     fragment_size: u32,
     max_message_size: u32,
+    // the greatest length of a datagram of several chunks
+    limit: u32,
     open_streams: OpenStreams,
     messages: Vec<Message>,
     // the number of the first message whose lifetime has not started
@@ -80,7 +83,7 @@ impl<C: Checksum + Drop> Link<C> {
     ghost use Rattle.sctp_link.specs.Replies.{reply_of, answer_of};
     ghost use Rattle.sctp_link.specs.Texts.{datagram_text};
 
-    /// A link with nothing opened yet. It takes no memory.
+    /// A link with nothing opened yet, of which each datagram has one DATA chunk. It takes no memory.
     /// It cuts messages into fragments of `fragment_size` bytes, and takes messages
     /// of at most `max_message_size` bytes.
     /// Precondition: `fragment_size` is 1 to 65,519.
@@ -93,9 +96,36 @@ impl<C: Checksum + Drop> Link<C> {
     ) -> Self
         requires some { 1 ≤ fragment_size }
         requires short { fragment_size ≤ 65519 }
-        ensures empty { result.world ≡ start (setup_of first_tsn fragment_size max_message_size) }
+        ensures empty { result.world ≡ start (setup_of first_tsn fragment_size max_message_size 0) }
         ensures checksum { result.checksum ≡ checksum }
-        ensures stands { StandsFor (setup_of first_tsn fragment_size max_message_size) result.world [] }
+        ensures stands { StandsFor (setup_of first_tsn fragment_size max_message_size 0) result.world [] }
+    {
+        Link::with_limit(
+            alloc,
+            first_tsn,
+            fragment_size,
+            max_message_size,
+            0,
+            checksum,
+        )
+    }
+
+    /// The same with as many DATA chunks in each datagram as wait and leave it within `limit` bytes, and with one
+    /// where the first alone is longer. It takes no memory.
+    /// Precondition: `fragment_size` is 1 to 65,519.
+    pub fn with_limit(
+        alloc: Global,
+        first_tsn: u32,
+        fragment_size: u32,
+        max_message_size: u32,
+        limit: u32,
+        checksum: C,
+    ) -> Self
+        requires some { 1 ≤ fragment_size }
+        requires short { fragment_size ≤ 65519 }
+        ensures empty { result.world ≡ start (setup_of first_tsn fragment_size max_message_size limit) }
+        ensures checksum { result.checksum ≡ checksum }
+        ensures stands { StandsFor (setup_of first_tsn fragment_size max_message_size limit) result.world [] }
     {
         Link {
             alloc,
@@ -103,6 +133,7 @@ impl<C: Checksum + Drop> Link<C> {
             first_tsn,
             fragment_size,
             max_message_size,
+            limit,
             open_streams: OpenStreams::new(alloc),
             messages: Vec::new(alloc),
             unstarted: 0,

@@ -7,6 +7,7 @@ pub mod KindsRun
 pub mod QuietReceiver
 pub mod InFlight
 pub mod Fragments
+pub mod Filling
 pub mod Lent
 pub mod InLine
 pub mod SlotsGoOn

@@ -5,3 +5,4 @@ pub mod Amount
 pub mod Counts
 pub mod Indexes
 pub mod InTurn
+pub mod Filling

@@ -118,7 +118,6 @@ module _ (sum : List ℕ → ℕ) (x : State) (l : IsLinked sum x) (credit : ℕ
       pub linked-ack : (s : Sack) (bytes : List ℕ) (filter : Payload) → s.cumulative_tsn_ack ≡ x.cumulative_tsn → s.advertised_receiver_window_credit ≡ credit → s.gap_ack_blocks ≡ bs → s.duplicate_tsn ≡ take count x.filter.duplicates → bytes ≡ packet_text sum (packet_with (sack_chunk s ∷ [])) → ReadsPacket sum bytes (packet_with (sack_chunk s ∷ [])) → length x.datagrams ≡ length w.network → filter ≡ record x.filter { duplicates = [] } → IsLinked sum (record x { world = v; datagrams = x.datagrams ++ bytes ∷ []; filter = filter })
       linked-ack s bytes filter ea eb ec ed text reads len ef = subst (λ f. IsLinked sum (record x { world = v; datagrams = x.datagrams ++ bytes ∷ []; filter = f })) (sym ef) (record {
         setup = l.setup;
-        one_each = l.one_each;
         history = (E.Ack credit, reply_to w (E.Ack credit)) ∷ l.history;
         stands = stands-then w.setup w l.history (E.Ack credit) refl l.stands;
         outbound = reported-outbound w credit x.outbound l.outbound;

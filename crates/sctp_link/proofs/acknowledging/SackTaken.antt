@@ -249,7 +249,6 @@ linked-taken sum x k r places cs l indexed none there e =
     let f = facts sum x l in
     record {
       setup = l.setup;
-      one_each = l.one_each;
       history = (E.Acked k, reply_to x.world (E.Acked k)) ∷ l.history;
       stands = subst (λ o. StandsFor x.world.setup (sack_taken x.world o) ((E.Acked k, reply_to x.world (E.Acked k)) ∷ l.history)) there (stands-then x.world.setup x.world l.history (E.Acked k) none l.stands);
       outbound = tied-taken x.world r x.outbound cs l.outbound e;

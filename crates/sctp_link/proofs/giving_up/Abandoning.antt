@@ -112,7 +112,6 @@ module _ (sum : List ℕ → ℕ) (x : State) (l : IsLinked sum x) (e : Event) (
     linked-after : IsLinked sum (record x { world = v; open_streams = ls; outbound = q; next_tsn = next })
     linked-after = record {
       setup = subst IsSetup (sym setup-same) l.setup;
-      one_each = ap (λ t. t.limit) setup-same ∙ l.one_each;
       history = (e, reply_to w e) ∷ l.history;
       stands = subst (λ t. StandsFor t v ((e, reply_to w e) ∷ l.history)) (sym setup-same) (subst (λ u. StandsFor w.setup u ((e, reply_to w e) ∷ l.history)) is (stands-then w.setup w l.history e ok l.stands));
       outbound = tied;

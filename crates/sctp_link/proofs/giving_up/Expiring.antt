@@ -76,7 +76,6 @@ module _ (sum : List ℕ → ℕ) (x : State) (l : IsLinked sum x) (now : ℕ) w
     pub linked-idle : expiring x.world now ≡ None → IsLinked sum (record x { outbound = q })
     linked-idle none = record {
       setup = l.setup;
-      one_each = l.one_each;
       history = l.history;
       stands = l.stands;
       outbound = subst (λ u. TiedOutbound u q) (ap (expired x.world) none) outbound-expired;
@@ -177,7 +176,6 @@ module _ (sum : List ℕ → ℕ) (x : State) (l : IsLinked sum x) (now : ℕ) w
       linked-after : IsLinked sum (record x { world = message_changed x.world n mark_expired; open_streams = ls; outbound = q })
       linked-after = subst (λ u. IsLinked sum (record x { world = u; open_streams = ls; outbound = q })) is (record {
         setup = subst (λ t. IsSetup t) (sym (limit-same (expiring x.world now))) l.setup;
-        one_each = ap (λ t. t.limit) (limit-same (expiring x.world now)) ∙ l.one_each;
         history = (E.Expire now, reply_to x.world (E.Expire now)) ∷ l.history;
         stands = subst (λ t. StandsFor t v ((E.Expire now, reply_to x.world (E.Expire now)) ∷ l.history)) (sym (limit-same (expiring x.world now))) (stands-then x.world.setup x.world l.history (E.Expire now) refl l.stands);
         outbound = outbound-expired q moves;

@@ -53,7 +53,6 @@ module _ (sum : List ℕ → ℕ) (x : State) (l : IsLinked sum x) (ls : List Op
     at-still : IsLinked sum (record x { open_streams = ls; filter = filter })
     at-still = record {
       setup = l.setup;
-      one_each = l.one_each;
       history = l.history;
       stands = l.stands;
       outbound = l.outbound;

@@ -79,7 +79,7 @@ begun-at true s (l ∷ ls) (suc k) d lt = begun-at true s ls k d (omega arith)
 -- ## The count of a stream
 
 -- what holds of each holds of the one that is found
-found-one : (P : OpenStream → Type 0) (s : ℕ) (ls : List OpenStream) → ((k : ℕ) (d : OpenStream) → k < length ls → P (slice_index_or ls k d)) → (l : OpenStream) → find (has_number s) ls ≡ Some l → P l
+pub found-one : (P : OpenStream → Type 0) (s : ℕ) (ls : List OpenStream) → ((k : ℕ) (d : OpenStream) → k < length ls → P (slice_index_or ls k d)) → (l : OpenStream) → find (has_number s) ls ≡ Some l → P l
 found-one P s [] h l e = cc
 found-one P s (x ∷ ls) h l e = step (x.state.stream_identifier == s) e (λ z. found-one P s ls (λ k d lt. h (suc k) d (omega (arith, lt))) l z)
   where

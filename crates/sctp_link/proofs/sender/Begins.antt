@@ -26,11 +26,11 @@ no_outbound =
 abbrev pub no_payload : Payload
 no_payload = record { chunks = []; duplicates = []; room = 0 }
 
-abbrev pub start_state : ℕ → ℕ → ℕ → List OpenStream → BTreeMap ℕ ℕ → List Message → List Slot → List Datagram → List ℕ → Outbound → Payload → State
-start_state first size largest open_streams places messages slots network duplicates outbound filter =
+abbrev pub start_state : ℕ → ℕ → ℕ → ℕ → List OpenStream → BTreeMap ℕ ℕ → List Message → List Slot → List Datagram → List ℕ → Outbound → Payload → State
+start_state first size largest limit open_streams places messages slots network duplicates outbound filter =
     record {
       world = record {
-        setup = setup_of first size largest;
+        setup = setup_of first size largest limit;
         streams = map stream_record open_streams;
         messages = map message_record messages;
         slots = map slot_record slots;
@@ -52,10 +52,9 @@ start_state first size largest open_streams places messages slots network duplic
       written = 0;
     }
 
-linked-start : (sum : List ℕ → ℕ) (first size largest : ℕ) (places : BTreeMap ℕ ℕ) → first < 2 ^ 32 → 0 < size → size ≤ 65519 → IsIndexed places [] → IsLinked sum (start_state first size largest [] places [] [] [] [] no_outbound no_payload)
-linked-start sum first size largest places fits some short indexed = record {
+linked-start : (sum : List ℕ → ℕ) (first size largest limit : ℕ) (places : BTreeMap ℕ ℕ) → first < 2 ^ 32 → 0 < size → size ≤ 65519 → IsIndexed places [] → IsLinked sum (start_state first size largest limit [] places [] [] [] [] no_outbound no_payload)
+linked-start sum first size largest limit places fits some short indexed = record {
   setup = record { first = fits; some = some; size = short };
-  one_each = refl;
   history = [];
   stands = record { is = refl; run = tt };
   outbound = record {
@@ -79,8 +78,8 @@ linked-start sum first size largest places fits some short indexed = record {
   texts = λ k d g e. cc;
 }
 
-pub linked-new : (sum : List ℕ → ℕ) (first size largest : ℕ) (open_streams : List OpenStream) (places : BTreeMap ℕ ℕ) (messages : List Message) (slots : List Slot) (network : List Datagram) (duplicates : List ℕ) (outbound : Outbound) (filter : Payload)
+pub linked-new : (sum : List ℕ → ℕ) (first size largest limit : ℕ) (open_streams : List OpenStream) (places : BTreeMap ℕ ℕ) (messages : List Message) (slots : List Slot) (network : List Datagram) (duplicates : List ℕ) (outbound : Outbound) (filter : Payload)
     → first < 2 ^ 32 → 0 < size → size ≤ 65519
     → open_streams ≡ [] → IsIndexed places [] → messages ≡ [] → slots ≡ [] → network ≡ [] → duplicates ≡ [] → outbound ≡ no_outbound → filter ≡ no_payload
-    → IsLinked sum (start_state first size largest open_streams places messages slots network duplicates outbound filter)
-linked-new sum first size largest open_streams places messages slots network duplicates outbound filter fits some short a indexed b c d e q f = rw (a, b, c, d, e, q, f) (linked-start sum first size largest places fits some short indexed)
+    → IsLinked sum (start_state first size largest limit open_streams places messages slots network duplicates outbound filter)
+linked-new sum first size largest limit open_streams places messages slots network duplicates outbound filter fits some short a indexed b c d e q f = rw (a, b, c, d, e, q, f) (linked-start sum first size largest limit places fits some short indexed)

@@ -61,7 +61,6 @@ module _ (sum : List ℕ → ℕ) (x : State) (l : IsLinked sum x) (s : ℕ) (un
     pub linked-mode : IsLinked sum (record x { world = v; open_streams = slice_set x.open_streams at y })
     linked-mode = record {
       setup = l.setup;
-      one_each = l.one_each;
       history = (E.Mode s unordered reliability value, reply_to x.world (E.Mode s unordered reliability value)) ∷ l.history;
       stands = stands-then x.world.setup x.world l.history (E.Mode s unordered reliability value) ok l.stands;
       outbound = outbound-same x.world v (same-self x.world v refl refl refl refl) x.outbound l.outbound;

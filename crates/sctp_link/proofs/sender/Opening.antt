@@ -101,7 +101,6 @@ module _ (sum : List ℕ → ℕ) (x : State) (l : IsLinked sum x) (s : ℕ) (ok
   pub linked-open : (m : OpenStream) (open_streams : List OpenStream) (places : BTreeMap ℕ ℕ) → open_streams ≡ x.open_streams ++ m ∷ [] → IsIndexed places (stream_numbers open_streams) → m.state ≡ new_stream s x.world.setup.size x.world.setup.largest Unknown → m.ordered ≡ 0 → m.begun ≡ 0 → m.next ≡ 0 → IsLinked sum (record x { world = opened x.world s; open_streams = open_streams; places = places })
   linked-open m open_streams places e found is none no-begun first = subst (λ ls. IsLinked sum (record x { world = opened x.world s; open_streams = ls; places = places })) (sym e) (record {
     setup = l.setup;
-    one_each = l.one_each;
     history = (E.Open s, reply_to x.world (E.Open s)) ∷ l.history;
     stands = stands-then x.world.setup x.world l.history (E.Open s) ok l.stands;
     outbound = outbound-same x.world (opened x.world s) (same-self x.world (opened x.world s) refl refl refl refl) x.outbound l.outbound;

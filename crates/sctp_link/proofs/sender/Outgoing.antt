@@ -131,7 +131,6 @@ module _ (sum : List ℕ → ℕ) (x : State) (l : IsLinked sum x) (tsn : ℕ) (
   pub linked-resend : (c : ChunkPayloadData) (bytes : List ℕ) (nsent : ℕ) (q : Outbound) → find (has_tsn tsn) cs ≡ Some c → bytes ≡ packet_text sum (packet_with (data_chunk (data_of c) ∷ [])) → ReadsPacket sum bytes (packet_with (data_chunk (data_of c) ∷ [])) → length x.datagrams ≡ length x.world.network → q ≡ with_inflight x.outbound (change_where (has_tsn tsn) (with_nsent nsent) cs) → IsLinked sum (record x { world = resent x.world tsn; datagrams = x.datagrams ++ bytes ∷ []; outbound = q })
   linked-resend c bytes nsent q e text reads count eq = record {
     setup = l.setup;
-    one_each = l.one_each;
     history = (E.Resend tsn, reply_to x.world (E.Resend tsn)) ∷ l.history;
     stands = stands-then x.world.setup x.world l.history (E.Resend tsn) ok l.stands;
     outbound = subst (TiedOutbound v) (sym eq) (outbound-same x.world v (same-self x.world v refl refl refl refl) _ (tied-marked x.world x.outbound (has_tsn tsn) (with_nsent nsent) (nsent-quiet nsent) l.outbound));

@@ -76,7 +76,6 @@ module _ (sum : List ℕ → ℕ) (x : State) (l : IsLinked sum x) (now : ℕ) w
   pub linked-start : IsLinked sum (record x { world = started x.world now; unstarted = length x.world.messages; outbound = all_started now x.outbound })
   linked-start = record {
     setup = l.setup;
-    one_each = l.one_each;
     history = (E.Start now, reply_to x.world (E.Start now)) ∷ l.history;
     stands = stands-then x.world.setup x.world l.history (E.Start now) refl l.stands;
     outbound = tied-started x.world now x.outbound l.outbound;

@@ -225,7 +225,6 @@ module _ (sum : List ℕ → ℕ) (x : State) (l : IsLinked sum x) (s : ℕ) (pp
         → IsLinked sum (record x { world = v; open_streams = slice_set x.open_streams at y; progress = progress; outbound = r; fragments = fragments; written = written })
     linked-write y progress q r fragments written count ey each es tied same er ef ec ew = record {
       setup = l.setup;
-      one_each = l.one_each;
       history = (E.Write s ppi bytes, reply_to w (E.Write s ppi bytes)) ∷ l.history;
       stands = stands-then w.setup w l.history (E.Write s ppi bytes) ok l.stands;
       outbound = subst (TiedOutbound v) (sym er) (outbound-wrote q tied);

@@ -176,7 +176,6 @@ module _ (sum : List ℕ → ℕ) (x : State) (l : IsLinked sum x) (s : ℕ) (pp
         (subst (λ rs. IsLinked sum (record x { progress = rs; outbound = q })) (es ∙ ap (map progress_of) (sym e))
         (record {
           setup = l.setup;
-          one_each = l.one_each;
           history = l.history;
           stands = l.stands;
           outbound = tied-reserved x.world x.outbound q a b eq l.outbound;

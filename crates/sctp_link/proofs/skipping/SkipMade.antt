@@ -113,7 +113,6 @@ module _ (sum : List ℕ → ℕ) (x : State) (l : IsLinked sum x) (upto : ℕ) 
   pub linked-made : (f : ForwardTsn) → f ≡ wire_skip x.world upto names → (bytes : List ℕ) (e : Event) → refusal_of w e ≡ None → after w e ≡ v → bytes ≡ packet_text sum (packet_with (forward_tsn_chunk f ∷ [])) → ReadsPacket sum bytes (packet_with (forward_tsn_chunk f ∷ [])) → length x.datagrams ≡ length w.network → IsLinked sum (record x { world = v; datagrams = x.datagrams ++ bytes ∷ [] })
   linked-made f says bytes e none is text reads count = record {
     setup = l.setup;
-    one_each = l.one_each;
     history = (e, reply_to w e) ∷ l.history;
     stands = subst (λ u. StandsFor w.setup u ((e, reply_to w e) ∷ l.history)) is (stands-then w.setup w l.history e none l.stands);
     outbound = outbound-same w v (same-self w v refl refl refl refl) x.outbound l.outbound;

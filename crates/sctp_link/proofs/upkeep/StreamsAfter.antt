@@ -80,7 +80,6 @@ module _ (sum : List ℕ → ℕ) (x : State) (l : IsLinked sum x) (e : Event) (
     at-after : IsLinked sum (record x { world = v; progress = progress; open_streams = open_streams; cumulative_tsn = cumulative; filter = filter })
     at-after = record {
       setup = subst IsSetup (sym s.setup) l.setup;
-      one_each = ap (λ t. t.limit) s.setup ∙ l.one_each;
       history = (e, reply_to w e) ∷ l.history;
       stands = stands-same;
       outbound = outbound-same w v q x.outbound l.outbound;

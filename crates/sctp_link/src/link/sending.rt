@@ -7,20 +7,17 @@ ghost use Rattle.sctp_chunks.specs.declared.chunk.chunk_payload_data.ChunkPayloa
 ghost use Rattle.sctp_serial.specs.DataChunks.{has_tsn};
 ghost use Rattle.sctp_outbound.specs.Marks.{with_nsent};
 ghost use Rattle.sctp_outbound.specs.outbound_queue.OutboundQueue.{with_inflight};
-ghost use Rattle.sctp_link.specs.OpenStreams.{slot_with, with_fragment, begun_of, begun_by};
-ghost use Rattle.sctp_link.specs.Places.{IsIndexed, stream_numbers};
 
-use super::open_streams::OpenStreams;
+use super::fragments::{next_chunks, places_from, take_fragments};
 use super::streams::start_from;
 use super::{Link, put};
-use crate::datagram::write_datagram;
+use crate::datagram::{write_chunks, write_datagram};
 use crate::event::{LinkRefusal, Reply};
-use crate::record::{Datagram, Kind, Message, Slot};
+use crate::record::{Datagram, Kind};
 use sctp_base::error::Result;
 use sctp_base::util::Checksum;
 use sctp_chunks::chunk::chunk_kind::ChunkKind;
 use sctp_queues::outbound_queue::OutboundQueue;
-use std::alloc::Global;
 
 impl<C: Checksum + Drop> Link<C> {
     ghost use Rattle.sctp_model.specs.Queues.{is_cleared};
@@ -28,7 +25,8 @@ impl<C: Checksum + Drop> Link<C> {
     ghost use Rattle.sctp_model.specs.declared.event.Event.TheVariants as E;
     ghost use Rattle.sctp_link.specs.Replies.{reply_of};
 
-    /// Sends one pending fragment; `now` is in nanoseconds. Refuses only for memory, and nothing changes then.
+    /// Sends the next pending fragment, and further ones for as long as the datagram is no longer than the limit;
+    /// `now` is in nanoseconds. Refuses only for memory, and nothing changes then.
     pub(super) fn send(&mut self, now: u64) -> Result<Reply>
         ensures ok { IfOk result (λ reply. IsRight self.old.world (E.Send now) (reply_of reply) self.new.world) }
         ensures checksum { self.new.checksum ≡ self.old.checksum }
@@ -36,37 +34,39 @@ impl<C: Checksum + Drop> Link<C> {
         ensures memory { IsOkUnless result ErrOutOfMemory }
         ensures wants { OnErr result (takes_memory self.old.world (E.Send now) ≡ true) }
     {
-        let Some(chunk) = self.outbound.peek_pending() else {
+        let Some(first) = self.outbound.peek_pending() else {
             self.start(now);
             return Ok(Reply::Idle);
         };
-        let number = chunk.message_id;
-        let ssn = chunk.stream_sequence_number;
+        let ssn = first.stream_sequence_number;
         let tsn = self.next_tsn;
-        let places = one_place(self.alloc, self.slots.len() as u64)?;
-        let mut chunk = chunk.try_clone()?;
-        chunk.tsn = tsn;
-        let bytes = write_datagram(self.alloc, ChunkKind::PayloadData(chunk), &self.checksum)?;
-        self.slots.reserve(1)?;
+        let chunks = next_chunks(self.alloc, &self.outbound, first, tsn, self.limit)?;
+        let count = chunks.len();
+        let bytes = write_chunks(self.alloc, chunks, &self.checksum)?;
+        let places = places_from(self.alloc, self.slots.len(), count)?;
+        self.slots.reserve(count)?;
         self.network.reserve(1)?;
-        self.outbound.reserve_inflight(1)?;
-        let _ = self.outbound.send_next(&mut self.next_tsn, now);
+        self.outbound.reserve_inflight(count)?;
+        self.outbound.start_timed_messages(now);
         start_from(&mut self.messages, self.unstarted, now);
         self.unstarted = self.messages.len();
-        let slot = take_fragment(
-            &mut self.messages[number as usize],
+        take_fragments(
+            &mut self.outbound,
+            &mut self.messages,
             &mut self.open_streams,
-            number,
+            &mut self.slots,
+            &mut self.next_tsn,
+            now,
+            count,
         );
         let datagram = self.network.len() as u64;
-        put(&mut self.slots, slot);
         let kind = Kind::Data { places };
         put(&mut self.network, Datagram { kind, bytes });
         Ok(Reply::Sent {
             datagram,
             tsn,
             ssn,
-            count: 1,
+            count: count as u64,
         })
     }
 
@@ -103,7 +103,7 @@ impl<C: Checksum + Drop> Link<C> {
             unreachable!()
         };
         let chunk = chunk.try_clone()?;
-        let places = one_place(self.alloc, tsn.wrapping_sub(self.first_tsn) as u64)?;
+        let places = places_from(self.alloc, tsn.wrapping_sub(self.first_tsn) as usize, 1)?;
         let bytes = write_datagram(self.alloc, ChunkKind::PayloadData(chunk), &self.checksum)?;
         self.network.reserve(1)?;
         count_resend(&mut self.outbound, tsn);
@@ -111,40 +111,6 @@ impl<C: Checksum + Drop> Link<C> {
         let kind = Kind::Data { places };
         put(&mut self.network, Datagram { kind, bytes });
         Ok(Reply::Resent { datagram })
-    }
-}
-
-/// A list of one place. Refuses only for memory.
-fn one_place(alloc: Global, place: u64) -> Result<Vec<u64>>
-    ensures place { IfOk result (λ places. places.items ≡ place ∷ []) }
-    ensures memory { IsOkUnless result ErrOutOfMemory }
-{
-    let mut places = Vec::new(alloc);
-    places.push(place)?;
-    Ok(places)
-}
-
-/// The slot of the next fragment of a message, which it takes. The first one of an ordered message takes an index.
-fn take_fragment(message: &mut Message, open_streams: &mut OpenStreams, number: u64) -> Slot
-    requires fits { message.old.sent + 1 < 2 ^ 64 }
-    requires indexed { IsIndexed open_streams.old.places (stream_numbers open_streams.old.items.items) }
-    requires few { begun_of message.old.stream open_streams.old.items.items + 1 < 2 ^ 64 }
-    ensures slot { result ≡ slot_with number message.old.sent }
-    ensures taken { message.new ≡ with_fragment open_streams.old.items.items message.old }
-    ensures items { open_streams.new.items.items ≡ begun_by message.old open_streams.old.items.items }
-    ensures places { open_streams.new.places ≡ open_streams.old.places }
-{
-    if message.ordered && message.sent == 0 {
-        message.index = open_streams.begin(message.stream);
-    }
-    let fragment = message.sent;
-    message.sent += 1;
-    Slot {
-        message: number,
-        fragment,
-        is_end_mark: false,
-        arrived: false,
-        acknowledged: false,
     }
 }
 

@@ -1,22 +1,20 @@
-use Rattle.std.proofs.Common.{◌≡◌, [], ◌∷◌, length, rules, refl, ap, None, Some, ◌∙◌, sym, arith, subst}
+use Rattle.std.proofs.Common.{◌≡◌, List, map, length, rules, refl, ap, None, Some, ◌∙◌}
 use Rattle.std.specs.Prelude.{is_some}
 use Rattle.std.specs.Vec.{with_items, vec_len}
 use Rattle.std.proofs.lemmas.List.{with_items_is}
-use Rattle.sctp_lists.proofs.Getting.{length-mapped}
-use Rattle.sctp_chunks.specs.PayloadData.{data_of}
+use Rattle.sctp_lists.specs.Kept.{numbers_from}
 use Rattle.sctp_outbound.specs.pending_queue.PendingQueue.{peeked}
-use Rattle.sctp_outbound.specs.outbound_queue.OutboundQueue.{Outbound}
-use Rattle.sctp_serial.specs.Window.{SpansOneWindow, is_held}
 use Rattle.sctp_model.specs.Changes.{started}
-use Rattle.sctp_model.specs.World.{Data}
+use Rattle.sctp_link.specs.declared.record.Slot.{Slot}
+use Rattle.sctp_link.specs.declared.record.Datagram.{Datagram}
 use Rattle.sctp_link.specs.declared.record.Kind.TheVariants as K
-use Rattle.sctp_link.specs.Records.{message_record}
+use Rattle.sctp_link.specs.Records.{slot_record, datagram_record}
 use Rattle.sctp_link.specs.OpenStreams.{start_from}
 use Rattle.sctp_link.specs.Fields.{state_in, world_in}
+use Rattle.sctp_link.specs.Sends.{sender_of}
 use Rattle.sctp_link.proofs.receiver.Keeping.{on-err}
-use Rattle.sctp_link.proofs.sender.Outgoing.{chunk-short}
-use Rattle.sctp_link.proofs.sender.Sending.{next-is, next-fits, idle-right, tsn-fresh, tsn-window}
-use Rattle.sctp_link.proofs.sender.SentLists.{old-few, old-begun, linked-sent, send-is-right}
+use Rattle.sctp_link.proofs.sender.Sending.{next-is, idle-right, looks-short}
+use Rattle.sctp_link.proofs.sender.SentLists.{count-is, texts-each, canonical-each, can-leave, linked-sent, send-is-right}
 use Rattle.sctp_link.proofs.link.Link.send.Goals as goal
 
 pub returns-in_default-clause-ok : goal.returns-in_default-clause-ok
@@ -25,99 +23,116 @@ returns-in_default-clause-ok g c =
     let moves : c.start.new.self.world ≡ started (world_in c.self.inside) c.args.now = rw (← c.self.view_is) at c.start.ensures.right.moves in
     rw (← c.self.view_is) (idle-right (g.C.Checksum.sum c.self.inside.checksum) (state_in c.self.inside) c.self.invariant c.args.now c.start.new.self.world none moves)
 
-pub write_datagram-requires-clause-text : goal.write_datagram-requires-clause-text
-write_datagram-requires-clause-text g c =
-    let e : peeked c.self.inside.outbound.pending ≡ Some c.in_ok-chunk.chunk = search rules in
-    (tt, chunk-short _ (next-fits (g.C.Checksum.sum c.self.inside.checksum) (state_in c.self.inside) c.self.invariant c.in_ok-chunk.chunk e))
+pub next_chunks-requires-clause-short : goal.next_chunks-requires-clause-short
+next_chunks-requires-clause-short g c = looks-short (g.C.Checksum.sum c.self.inside.checksum) (state_in c.self.inside) c.self.invariant c.args.now
 
-pub send_next-requires-clause-fresh : goal.send_next-requires-clause-fresh
-send_next-requires-clause-fresh g c =
-    ap (λ (q : Outbound). is_held q.inflight.chunks c.self.inside.next_tsn) c.in_ok-reserve_inflight.ensures.ok ∙ tsn-fresh (g.C.Checksum.sum c.self.inside.checksum) (state_in c.self.inside) c.self.invariant
+pub write_chunks-requires-clause-text : goal.write_chunks-requires-clause-text
+write_chunks-requires-clause-text g c =
+    let e : peeked c.self.inside.outbound.pending ≡ Some c.in-Some.first.now = search rules in
+    texts-each (g.C.Checksum.sum c.self.inside.checksum) (state_in c.self.inside) c.self.invariant c.args.now c.in-Some.first.now e c.in_ok-chunks.chunks.items c.in_ok-chunks.ensures.chunks
 
-pub send_next-requires-clause-window : goal.send_next-requires-clause-window
-send_next-requires-clause-window g c =
-    subst (λ (q : Outbound). SpansOneWindow q.inflight.chunks c.self.inside.next_tsn) (sym c.in_ok-reserve_inflight.ensures.ok) (tsn-window (g.C.Checksum.sum c.self.inside.checksum) (state_in c.self.inside) c.self.invariant)
+pub write_chunks-requires-clause-canonical : goal.write_chunks-requires-clause-canonical
+write_chunks-requires-clause-canonical g c =
+    let e : peeked c.self.inside.outbound.pending ≡ Some c.in-Some.first.now = search rules in
+    canonical-each (g.C.Checksum.sum c.self.inside.checksum) (state_in c.self.inside) c.self.invariant c.args.now c.in-Some.first.now e c.in_ok-chunks.chunks.items c.in_ok-chunks.ensures.chunks
 
-pub index_mut-requires : goal.index_mut-requires
-index_mut-requires g c =
-    let e : peeked c.self.inside.outbound.pending ≡ Some c.in-Some.chunk.now = search rules in
-    let made = (next-is (g.C.Checksum.sum c.self.inside.checksum) (state_in c.self.inside) c.self.invariant c.in-Some.chunk.now e).made in
-    omega (arith, made, length-mapped message_record c.self.inside.messages.items, c.self.inside.messages.ok.0)
-
-pub take_fragment-slot-requires-clause-fits : goal.take_fragment-slot-requires-clause-fits
-take_fragment-slot-requires-clause-fits g c =
+pub take_fragments-requires-clause-able : goal.take_fragments-requires-clause-able
+take_fragments-requires-clause-able g c =
     let ms = c.self.inside.messages in
-    let e : peeked c.self.inside.outbound.pending ≡ Some c.in-Some.chunk.now = search rules in
+    let e : peeked c.self.inside.outbound.pending ≡ Some c.in-Some.first.now = search rules in
     let same : length c.start_from.new.messages ≡ vec_len ms = search rules in
-    let is : (with_items ms c.start_from.new.messages).items ≡ start_from c.self.inside.unstarted c.args.now ms.items = with_items_is ms c.start_from.new.messages same ∙ c.start_from.ensures ∙ ap (start_from c.self.inside.unstarted c.args.now) c.deref_mut.ensures.value in
-    old-few (g.C.Checksum.sum c.self.inside.checksum) (state_in c.self.inside) c.self.invariant c.args.now c.in-Some.chunk.now e ms.items (with_items ms c.start_from.new.messages).items refl refl refl is c.index_mut.result.now c.index_mut.ensures.value
-
-pub take_fragment-slot-requires-clause-indexed : goal.take_fragment-slot-requires-clause-indexed
-take_fragment-slot-requires-clause-indexed g c = c.self.invariant.indexed
-
-pub take_fragment-slot-requires-clause-few : goal.take_fragment-slot-requires-clause-few
-take_fragment-slot-requires-clause-few g c =
-    let ms = c.self.inside.messages in
-    let e : peeked c.self.inside.outbound.pending ≡ Some c.in-Some.chunk.now = search rules in
-    let same : length c.start_from.new.messages ≡ vec_len ms = search rules in
-    let is : (with_items ms c.start_from.new.messages).items ≡ start_from c.self.inside.unstarted c.args.now ms.items = with_items_is ms c.start_from.new.messages same ∙ c.start_from.ensures ∙ ap (start_from c.self.inside.unstarted c.args.now) c.deref_mut.ensures.value in
-    old-begun (g.C.Checksum.sum c.self.inside.checksum) (state_in c.self.inside) c.self.invariant c.args.now c.in-Some.chunk.now e ms.items (with_items ms c.start_from.new.messages).items refl refl refl is c.index_mut.result.now c.index_mut.ensures.value
+    let is : c.deref_mut-2.result.now ≡ start_from c.self.inside.unstarted c.args.now ms.items = c.deref_mut-2.ensures.value ∙ with_items_is ms c.start_from.new.messages same ∙ c.start_from.ensures ∙ ap (start_from c.self.inside.unstarted c.args.now) c.deref_mut.ensures.value in
+    let len : c.len-count.result ≡ length c.in_ok-chunks.chunks.items = search rules in
+    can-leave (g.C.Checksum.sum c.self.inside.checksum) (state_in c.self.inside) c.self.invariant c.args.now c.in-Some.first.now e ms.items c.self.inside.slots.items refl refl refl refl
+    (sender_of c.start_timed_messages.new.self c.deref_mut-2.result.now c.self.inside.open_streams c.reserve.new.self.items c.self.inside.next_tsn)
+    c.reserve_inflight.new.self _ c.in_ok-reserve_inflight.ensures.ok c.start_timed_messages.ensures is refl refl c.reserve.ensures.items refl c.len-count.result
+    (len ∙ count-is (g.C.Checksum.sum c.self.inside.checksum) (state_in c.self.inside) c.self.invariant c.args.now c.in-Some.first.now e c.in_ok-chunks.chunks.items c.in_ok-chunks.ensures.chunks)
 
 pub invariant_of-self-2 : goal.invariant_of-self-2
 invariant_of-self-2 g c =
-    let here : c.len.result ≡ length c.self.inside.slots.items = search rules in
     let ms = c.self.inside.messages in
-    let e : peeked c.self.inside.outbound.pending ≡ Some c.in-Some.chunk.now = search rules in
+    let e : peeked c.self.inside.outbound.pending ≡ Some c.in-Some.first.now = search rules in
     let same : length c.start_from.new.messages ≡ vec_len ms = search rules in
-    let is : (with_items ms c.start_from.new.messages).items ≡ start_from c.self.inside.unstarted c.args.now ms.items = with_items_is ms c.start_from.new.messages same ∙ c.start_from.ensures ∙ ap (start_from c.self.inside.unstarted c.args.now) c.deref_mut.ensures.value in
-    linked-sent (g.C.Checksum.sum c.self.inside.checksum) (state_in c.self.inside) c.self.invariant c.args.now c.in-Some.chunk.now e ms.items (with_items ms c.start_from.new.messages).items refl refl refl is c.index_mut.result.now c.index_mut.ensures.value
-    c.take_fragment-slot.new.message (search rules) c.self.inside.slots.items c.put.new.items.items c.take_fragment-slot.result c.self.inside.network.items c.put-2.new.items.items c.in_ok-bytes.bytes refl (search rules) (search rules) refl (K.Data c.in_ok-places.places) (ap Data (c.in_ok-places.ensures.place ∙ ap (λ k. k ∷ []) here)) (search rules) c.take_fragment-slot.new.open_streams.items.items (search rules)
-    c.take_fragment-slot.new.open_streams.places c.take_fragment-slot.ensures.places
-    (data_of (record c.in_ok-chunk.chunk { tsn = c.self.inside.next_tsn })) c.reserve_inflight.new.self c.send_next.new.self _ c.len-self-inside.result c.send_next.new.next_tsn (search rules) (search rules) (search rules) refl c.in_ok-reserve_inflight.ensures.ok (search rules) (search rules) (search rules)
+    let is : c.deref_mut-2.result.now ≡ start_from c.self.inside.unstarted c.args.now ms.items = c.deref_mut-2.ensures.value ∙ with_items_is ms c.start_from.new.messages same ∙ c.start_from.ensures ∙ ap (start_from c.self.inside.unstarted c.args.now) c.deref_mut.ensures.value in
+    let len : c.len-count.result ≡ length c.in_ok-chunks.chunks.items = search rules in
+    let kept : length c.take_fragments.new.messages ≡ vec_len (with_items ms c.start_from.new.messages) = search rules in
+    let places : c.in_ok-places.places.items ≡ numbers_from (length c.self.inside.slots.items) c.len-count.result = search rules in
+    linked-sent (g.C.Checksum.sum c.self.inside.checksum) (state_in c.self.inside) c.self.invariant c.args.now c.in-Some.first.now e ms.items c.self.inside.slots.items refl refl refl refl
+    (sender_of c.start_timed_messages.new.self c.deref_mut-2.result.now c.self.inside.open_streams c.reserve.new.self.items c.self.inside.next_tsn)
+    c.reserve_inflight.new.self _ c.in_ok-reserve_inflight.ensures.ok c.start_timed_messages.ensures is refl refl c.reserve.ensures.items refl c.len-count.result
+    (len ∙ count-is (g.C.Checksum.sum c.self.inside.checksum) (state_in c.self.inside) c.self.invariant c.args.now c.in-Some.first.now e c.in_ok-chunks.chunks.items c.in_ok-chunks.ensures.chunks)
+    (sender_of c.take_fragments.new.outbound c.take_fragments.new.messages c.take_fragments.new.open_streams c.take_fragments.new.slots.items c.take_fragments.new.next_tsn) c.take_fragments.ensures
+    (with_items (with_items ms c.start_from.new.messages) c.take_fragments.new.messages).items (with_items_is (with_items ms c.start_from.new.messages) c.take_fragments.new.messages kept)
+    c.self.inside.network.items c.put.new.items.items c.in_ok-places.places.items (K.Data c.in_ok-places.places) c.in_ok-bytes.bytes places refl refl (search rules)
+    c.in_ok-chunks.chunks.items c.in_ok-chunks.ensures.chunks c.in_ok-bytes.ensures.text c.in_ok-bytes.ensures.reads refl c.len-self-inside.result (search rules)
 
 pub returns-clause-ok : goal.returns-clause-ok
 returns-clause-ok g c =
-    let here : c.len.result ≡ length c.self.inside.slots.items = search rules in
     let ms = c.self.inside.messages in
-    let e : peeked c.self.inside.outbound.pending ≡ Some c.in-Some.chunk.now = search rules in
+    let e : peeked c.self.inside.outbound.pending ≡ Some c.in-Some.first.now = search rules in
     let same : length c.start_from.new.messages ≡ vec_len ms = search rules in
-    let is : (with_items ms c.start_from.new.messages).items ≡ start_from c.self.inside.unstarted c.args.now ms.items = with_items_is ms c.start_from.new.messages same ∙ c.start_from.ensures ∙ ap (start_from c.self.inside.unstarted c.args.now) c.deref_mut.ensures.value in
+    let is : c.deref_mut-2.result.now ≡ start_from c.self.inside.unstarted c.args.now ms.items = c.deref_mut-2.ensures.value ∙ with_items_is ms c.start_from.new.messages same ∙ c.start_from.ensures ∙ ap (start_from c.self.inside.unstarted c.args.now) c.deref_mut.ensures.value in
+    let len : c.len-count.result ≡ length c.in_ok-chunks.chunks.items = search rules in
+    let kept : length c.take_fragments.new.messages ≡ vec_len (with_items ms c.start_from.new.messages) = search rules in
+    let places : c.in_ok-places.places.items ≡ numbers_from (length c.self.inside.slots.items) c.len-count.result = search rules in
     rw (← c.self.view_is)
-    (send-is-right (g.C.Checksum.sum c.self.inside.checksum) (state_in c.self.inside) c.self.invariant c.args.now c.in-Some.chunk.now e ms.items (with_items ms c.start_from.new.messages).items refl refl refl is c.index_mut.result.now c.index_mut.ensures.value
-    c.take_fragment-slot.new.message (search rules) c.self.inside.slots.items c.put.new.items.items c.take_fragment-slot.result c.self.inside.network.items c.put-2.new.items.items c.in_ok-bytes.bytes refl (search rules) (search rules) refl (K.Data c.in_ok-places.places) (ap Data (c.in_ok-places.ensures.place ∙ ap (λ k. k ∷ []) here)) (search rules) c.take_fragment-slot.new.open_streams.items.items (search rules) c.in-Some.chunk.now.stream_sequence_number c.len-datagram.result refl (search rules))
+    (send-is-right (g.C.Checksum.sum c.self.inside.checksum) (state_in c.self.inside) c.self.invariant c.args.now c.in-Some.first.now e ms.items c.self.inside.slots.items refl refl refl refl
+    (sender_of c.start_timed_messages.new.self c.deref_mut-2.result.now c.self.inside.open_streams c.reserve.new.self.items c.self.inside.next_tsn)
+    c.reserve_inflight.new.self _ c.in_ok-reserve_inflight.ensures.ok c.start_timed_messages.ensures is refl refl c.reserve.ensures.items refl c.len-count.result
+    (len ∙ count-is (g.C.Checksum.sum c.self.inside.checksum) (state_in c.self.inside) c.self.invariant c.args.now c.in-Some.first.now e c.in_ok-chunks.chunks.items c.in_ok-chunks.ensures.chunks)
+    (sender_of c.take_fragments.new.outbound c.take_fragments.new.messages c.take_fragments.new.open_streams c.take_fragments.new.slots.items c.take_fragments.new.next_tsn) c.take_fragments.ensures
+    (with_items (with_items ms c.start_from.new.messages) c.take_fragments.new.messages).items (with_items_is (with_items ms c.start_from.new.messages) c.take_fragments.new.messages kept)
+    c.self.inside.network.items c.put.new.items.items c.in_ok-places.places.items (K.Data c.in_ok-places.places) c.in_ok-bytes.bytes places refl refl (search rules)
+    c.in-Some.first.now.stream_sequence_number c.len-datagram.result refl (search rules))
 
-pub returns-in_err-chunk-clause-wants : goal.returns-in_err-chunk-clause-wants
-returns-in_err-chunk-clause-wants g c =
-    let e : peeked c.self.inside.outbound.pending ≡ Some c.in-Some.chunk.now = search rules in
-    let f = (next-is (g.C.Checksum.sum c.self.inside.checksum) (state_in c.self.inside) c.self.invariant c.in-Some.chunk.now e).front in
-    rw (← c.self.view_is) (on-err c.from_residual-in_err-chunk.result _ (ap is_some f))
+pub returns-in_err-chunks-clause-wants : goal.returns-in_err-chunks-clause-wants
+returns-in_err-chunks-clause-wants g c =
+    let e : peeked c.self.inside.outbound.pending ≡ Some c.in-Some.first.now = search rules in
+    let f = (next-is (g.C.Checksum.sum c.self.inside.checksum) (state_in c.self.inside) c.self.invariant c.in-Some.first.now e).front in
+    rw (← c.self.view_is) (on-err c.from_residual.result _ (ap is_some f))
 
 pub returns-in_err-bytes-clause-wants : goal.returns-in_err-bytes-clause-wants
 returns-in_err-bytes-clause-wants g c =
-    let e : peeked c.self.inside.outbound.pending ≡ Some c.in-Some.chunk.now = search rules in
-    let f = (next-is (g.C.Checksum.sum c.self.inside.checksum) (state_in c.self.inside) c.self.invariant c.in-Some.chunk.now e).front in
+    let e : peeked c.self.inside.outbound.pending ≡ Some c.in-Some.first.now = search rules in
+    let f = (next-is (g.C.Checksum.sum c.self.inside.checksum) (state_in c.self.inside) c.self.invariant c.in-Some.first.now e).front in
     rw (← c.self.view_is) (on-err c.from_residual-in_err-bytes.result _ (ap is_some f))
+
+pub returns-in_err-places-clause-wants : goal.returns-in_err-places-clause-wants
+returns-in_err-places-clause-wants g c =
+    let e : peeked c.self.inside.outbound.pending ≡ Some c.in-Some.first.now = search rules in
+    let f = (next-is (g.C.Checksum.sum c.self.inside.checksum) (state_in c.self.inside) c.self.invariant c.in-Some.first.now e).front in
+    rw (← c.self.view_is) (on-err c.from_residual-in_err-places.result _ (ap is_some f))
 
 pub returns-in_err-reserve-clause-wants : goal.returns-in_err-reserve-clause-wants
 returns-in_err-reserve-clause-wants g c =
-    let e : peeked c.self.inside.outbound.pending ≡ Some c.in-Some.chunk.now = search rules in
-    let f = (next-is (g.C.Checksum.sum c.self.inside.checksum) (state_in c.self.inside) c.self.invariant c.in-Some.chunk.now e).front in
+    let e : peeked c.self.inside.outbound.pending ≡ Some c.in-Some.first.now = search rules in
+    let f = (next-is (g.C.Checksum.sum c.self.inside.checksum) (state_in c.self.inside) c.self.invariant c.in-Some.first.now e).front in
     rw (← c.self.view_is) (on-err c.from_residual-in_err-reserve.result _ (ap is_some f))
 
 pub returns-in_err-reserve-2-clause-wants : goal.returns-in_err-reserve-2-clause-wants
 returns-in_err-reserve-2-clause-wants g c =
-    let e : peeked c.self.inside.outbound.pending ≡ Some c.in-Some.chunk.now = search rules in
-    let f = (next-is (g.C.Checksum.sum c.self.inside.checksum) (state_in c.self.inside) c.self.invariant c.in-Some.chunk.now e).front in
+    let e : peeked c.self.inside.outbound.pending ≡ Some c.in-Some.first.now = search rules in
+    let f = (next-is (g.C.Checksum.sum c.self.inside.checksum) (state_in c.self.inside) c.self.invariant c.in-Some.first.now e).front in
     rw (← c.self.view_is) (on-err c.from_residual-in_err-reserve-2.result _ (ap is_some f))
 
 pub returns-in_err-reserve_inflight-clause-wants : goal.returns-in_err-reserve_inflight-clause-wants
 returns-in_err-reserve_inflight-clause-wants g c =
-    let e : peeked c.self.inside.outbound.pending ≡ Some c.in-Some.chunk.now = search rules in
-    let f = (next-is (g.C.Checksum.sum c.self.inside.checksum) (state_in c.self.inside) c.self.invariant c.in-Some.chunk.now e).front in
+    let e : peeked c.self.inside.outbound.pending ≡ Some c.in-Some.first.now = search rules in
+    let f = (next-is (g.C.Checksum.sum c.self.inside.checksum) (state_in c.self.inside) c.self.invariant c.in-Some.first.now e).front in
     rw (← c.self.view_is) (on-err c.from_residual-in_err-reserve_inflight.result _ (ap is_some f))
 
-pub returns-in_err-places-clause-wants : goal.returns-in_err-places-clause-wants
-returns-in_err-places-clause-wants g c =
-    let e : peeked c.self.inside.outbound.pending ≡ Some c.in-Some.chunk.now = search rules in
-    let f = (next-is (g.C.Checksum.sum c.self.inside.checksum) (state_in c.self.inside) c.self.invariant c.in-Some.chunk.now e).front in
-    rw (← c.self.view_is) (on-err c.from_residual.result _ (ap is_some f))
+pub returns-in_err-reserve-clause-err : goal.returns-in_err-reserve-clause-err
+returns-in_err-reserve-clause-err g c =
+    rw (← c.self.view_is) (on-err c.from_residual-in_err-reserve.result _ (ap (λ (ss : List Slot). record (world_in c.self.inside) { slots = map slot_record ss }) c.reserve.ensures.items))
+
+pub returns-in_err-reserve-2-clause-err : goal.returns-in_err-reserve-2-clause-err
+returns-in_err-reserve-2-clause-err g c =
+    rw (← c.self.view_is) (on-err c.from_residual-in_err-reserve-2.result _
+    (ap (λ (ss : List Slot). record (world_in c.self.inside) { slots = map slot_record ss; network = map datagram_record c.reserve-2.new.self.items }) c.reserve.ensures.items
+    ∙ ap (λ (ns : List Datagram). record (world_in c.self.inside) { network = map datagram_record ns }) c.reserve-2.ensures.items))
+
+pub returns-in_err-reserve_inflight-clause-err : goal.returns-in_err-reserve_inflight-clause-err
+returns-in_err-reserve_inflight-clause-err g c =
+    rw (← c.self.view_is) (on-err c.from_residual-in_err-reserve_inflight.result _
+    (ap (λ (ss : List Slot). record (world_in c.self.inside) { slots = map slot_record ss; network = map datagram_record c.reserve-2.new.self.items }) c.reserve.ensures.items
+    ∙ ap (λ (ns : List Datagram). record (world_in c.self.inside) { network = map datagram_record ns }) c.reserve-2.ensures.items))

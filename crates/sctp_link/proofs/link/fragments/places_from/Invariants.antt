@@ -1,0 +1,6 @@
+use Rattle.std.proofs.Common.{◌≡◌}
+use Rattle.sctp_lists.specs.Kept.{numbers_from}
+use Rattle.sctp_link.proofs.link.fragments.places_from.Given as goal
+
+abbrev pub invariant-loop-at : goal.invariant-loop-at
+invariant-loop-at l = l.places.items ≡ numbers_from l.first l.at

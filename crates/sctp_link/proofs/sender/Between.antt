@@ -1,0 +1,347 @@
+-- Between two fragments of a Send: what the sender's side of a link holds is what the record says then.
+use Rattle.std.proofs.Common.{◌≡◌, ℕ, zero, suc, ◌+◌, ◌<◌, ◌≤◌, ◌^◌, Bool, true, false, List, [], ◌∷◌, ◌++◌, length, map, get_or, Option, Some, None, refl, ap, sym, ◌∙◌, arith, length-append}
+use Rattle.std.specs.Prelude.{◌==◌, ◌&&◌, if◌then◌else◌, find, is_some, slice_index_or, slice_set}
+use Rattle.std.proofs.Math.Path.{subst}
+use Rattle.std.proofs.lemmas.List.{map-append}
+use Rattle.sctp_lists.specs.Lists.{changed}
+use Rattle.sctp_lists.proofs.Getting.{length-mapped}
+use Rattle.sctp_lists.proofs.KeptLemmas.{length-kept-le}
+use Rattle.sctp_lists.proofs.More.{changed-same, changed-other, not_both}
+use Rattle.sctp_lists.proofs.Cases.{by_same, same-yes}
+use Rattle.sctp_chunks.specs.declared.chunk.chunk_payload_data.ChunkPayloadData.{ChunkPayloadData}
+use Rattle.sctp_serial.specs.Window.{SpansOneWindow, is_held}
+use Rattle.sctp_outbound.specs.pending_queue.PendingQueue.{peeked, started as pending_started}
+use Rattle.sctp_outbound.specs.outbound_queue.OutboundQueue.{Outbound, all_started, sent_of, sent_peeked, sent_next, following_tsn}
+use Rattle.sctp_model.specs.World.{World}
+use Rattle.sctp_model.specs.World as W
+use Rattle.sctp_model.specs.Messages as M
+use Rattle.sctp_model.specs.Messages.{front, message_at, no_message, tsn_of}
+use Rattle.sctp_model.specs.Changes.{started, start_at, with_slot, fragment_sent, fragment_of_sent}
+use Rattle.sctp_model.proofs.sender.Shape.{shape, slotted, sent as sent_by}
+use Rattle.sctp_model.proofs.sender.Shapes
+use Rattle.sctp_model.proofs.sender.Few
+use Rattle.sctp_model.proofs.sender.Fronts.{front-takes}
+use Rattle.sctp_model.proofs.sender.Sender.{sent-slotted}
+use Rattle.sctp_model.proofs.sender.SenderSteps.{Takes}
+use Rattle.sctp_ties.specs.Tied.{waiting_at, TiedOutbound}
+use Rattle.sctp_ties.specs.Indexes.{begun_on, is_begun_on}
+use Rattle.sctp_ties.proofs.sending.Begun
+use Rattle.sctp_ties.proofs.sending.Begun.{Indexed, indexed-taken}
+use Rattle.sctp_ties.proofs.sending.Filling.{after_fragments, after-next, next-tsn}
+use Rattle.sctp_ties.proofs.sending.Fragments.{shown, all-begun, tied-fragment, going-started}
+use Rattle.sctp_ties.proofs.sending.InFlight.{next-fresh, next-window}
+use Rattle.sctp_ties.proofs.sending.KindsRun.{Going, going-takes}
+use Rattle.sctp_ties.proofs.sending.LifetimesStart.{tied-started}
+use Rattle.sctp_link.specs.declared.open_stream.OpenStream.{OpenStream}
+use Rattle.sctp_link.specs.declared.record.Message.{Message}
+use Rattle.sctp_link.specs.Linked.{State, IsLinked, has_number}
+use Rattle.sctp_link.specs.OpenStreams.{start_from, slot_with, begins, begun_in, begun_of, with_fragment}
+use Rattle.sctp_link.specs.Places.{IsIndexed, stream_numbers}
+use Rattle.sctp_link.specs.Records.{message_record, progress_of, slot_record, stream_record}
+use Rattle.sctp_link.specs.Sends.{Sender, CanSend, Leaves, Leave}
+use Rattle.sctp_link.proofs.upkeep.Apart.{map-set, map-set_same, number-found}
+use Rattle.sctp_link.proofs.upkeep.Bounds.{messages-few}
+use Rattle.sctp_link.proofs.upkeep.Facts.{facts}
+use Rattle.sctp_link.proofs.upkeep.Lookups.{none-open}
+use Rattle.sctp_link.proofs.sender.Beginning.{index_kept, indexed-of, plus_begun, numbers-begun, records-begun, length-begun, begun-at, found-one}
+use Rattle.sctp_link.proofs.sender.Starting.{starts-records, start-progress}
+
+-- a message with one fragment more sent, which takes this index where it is begun
+abbrev pub took : Bool → ℕ → ℕ × ℕ → ℕ × ℕ
+took go i p = (p.0 + 1, if go then i else p.1)
+
+-- a stream that has begun so many messages
+abbrev pub counted : ℕ → OpenStream → OpenStream
+counted n l = record l { begun = n }
+
+-- the sender's side of a link x, once lifetimes have started and the slots of v are given out
+pub record Between (x : State) (now : ℕ) (v : World) (s : Sender) : Type 0 where
+  pub going : Going x.world.setup v
+  pub only : v ≡ record (started x.world now) { slots = v.slots }
+  pub taken : v.taken ≤ length v.slots
+  pub outbound : TiedOutbound v s.outbound
+  pub begun : s.outbound.next_unstarted ≡ length x.world.messages
+  pub messages : map message_record s.messages ≡ (started x.world now).messages
+  pub sents : (k : ℕ) → k < length x.world.messages → (slice_index_or (map progress_of s.messages) k (0, 0)).0 ≡ M.sent_of v k
+  pub indexed : Indexed (shape v) (index_kept (map progress_of s.messages))
+  pub places : s.places ≡ x.places
+  pub records : map stream_record s.streams ≡ x.world.streams
+  pub numbers : stream_numbers s.streams ≡ stream_numbers x.open_streams
+  pub streams : (k : ℕ) (d : OpenStream) → k < length s.streams → slice_index_or s.streams k d ≡ counted (begun_on v (slice_index_or x.open_streams k d).state.stream_identifier) (slice_index_or x.open_streams k d)
+  pub slots : map slot_record s.slots ≡ v.slots
+  pub next : s.next_tsn ≡ tsn_of v (length v.slots)
+
+-- ## Before the first one
+
+-- more room in flight is nothing that the record knows
+pub tied-room : (w : World) (q r : Outbound) (room : ℕ) → r ≡ record q { inflight = record q.inflight { room = room } } → TiedOutbound w q → TiedOutbound w r
+tied-room w q r room e t = subst (TiedOutbound w) (sym e) (record { pending = t.pending; in_flight = t.in_flight; next = t.next; unstarted = t.unstarted; started = t.started; begun = t.begun })
+
+module _ (sum : List ℕ → ℕ) (x : State) (l : IsLinked sum x) (now : ℕ) (ms : List Message) (em : x.world.messages ≡ map message_record ms) (es : x.progress ≡ map progress_of ms) where
+  pub between-none : (s : Sender) (q : Outbound) → TiedOutbound x.world q → s.outbound ≡ all_started now q → s.messages ≡ start_from x.unstarted now ms → s.streams ≡ x.open_streams → x.world.streams ≡ map stream_record x.open_streams → s.places ≡ x.places → x.world.slots ≡ map slot_record s.slots → s.next_tsn ≡ x.next_tsn → Between x now (started x.world now) s
+  between-none s q t out is streams rs places ew next = record {
+    going = going-started x.world.setup x.world now (facts sum x l).going;
+    only = refl;
+    taken = (facts sum x l).taken;
+    outbound = subst (TiedOutbound (started x.world now)) (sym out) (tied-started x.world now q t);
+    begun = ap (λ (r : Outbound). r.next_unstarted) out ∙ all-begun x.world now q t;
+    messages = ap (map message_record) is ∙ starts-records sum x l now ms em;
+    sents = λ k lt. ap (λ (ps : List (ℕ × ℕ)). (slice_index_or ps k (0, 0)).0) progress ∙ l.sents k lt;
+    indexed = subst (λ ps. Indexed (shape (started x.world now)) (index_kept ps)) (sym progress) (subst (λ y. Indexed y (index_kept x.progress)) (sym (Shapes.shape-started x.world now)) (indexed-of sum x l));
+    places = places;
+    records = ap (map stream_record) streams ∙ sym rs;
+    numbers = ap stream_numbers streams;
+    streams = λ k d lt. ap (λ ls. slice_index_or ls k d) streams ∙ ap (λ n. counted n (slice_index_or x.open_streams k d)) ((l.open_streams k d (omega (arith, lt, ap length streams))).begun ∙ sym (ap (λ y. Begun.begun y (slice_index_or x.open_streams k d).state.stream_identifier) (Shapes.shape-started x.world now)));
+    slots = sym ew;
+    next = next ∙ l.next;
+  }
+    where
+      progress : map progress_of s.messages ≡ x.progress
+      progress = ap (map progress_of) is ∙ start-progress now x.unstarted ms ∙ sym es
+
+-- ## One more
+
+inner : {A : Type 0} {a b : A} → Some a ≡ Some b → a ≡ b
+inner e = cc
+
+-- a field of an element
+get-mapped : {A B : Type 0} (f : A → B) (k : ℕ) (xs : List A) (d : A) (e : B) → k < length xs → get_or (map f xs) k e ≡ f (get_or xs k d)
+get-mapped f k [] d e lt = absurd (omega arith)
+get-mapped f zero (x ∷ xs) d e lt = refl
+get-mapped f (suc k) (x ∷ xs) d e lt = get-mapped f k xs d e (omega arith)
+
+-- lifetimes that have all started start no more
+none-start : (q : Outbound) (now : ℕ) → q.next_unstarted ≡ q.next_message_id → all_started now q ≡ q
+none-start q now e = ap (λ b. if b then q else record q { pending = pending_started q.next_unstarted now q.pending; next_unstarted = q.next_message_id }) (ap (λ k. k == q.next_message_id) e ∙ same-yes q.next_message_id)
+
+next-unstarted : (q : Outbound) (tsn now : ℕ) (o : Option ChunkPayloadData) → (sent_of o q tsn now).next_unstarted ≡ q.next_unstarted
+next-unstarted q tsn now None = refl
+next-unstarted q tsn now (Some c) = refl
+
+module _ (x : State) (now : ℕ) (v : World) (s : Sender) (b : Between x now v s) where
+  few : length v.slots < 2 ^ 31
+  few = Few.few x.world.setup v b.going.sane
+
+  count-same : length v.messages ≡ length x.world.messages
+  count-same = ap (λ (z : World). length z.messages) b.only ∙ length-mapped (start_at now) x.world.messages
+
+  count-kept : length s.messages ≡ length x.world.messages
+  count-kept = sym (length-mapped message_record s.messages) ∙ ap length b.messages ∙ length-mapped (start_at now) x.world.messages
+
+  sent-few : (n : ℕ) → M.sent_of v n < 2 ^ 31
+  sent-few n = omega (arith, few, length-kept-le (M.has_fragment v n) 0 (length v.slots))
+
+  -- what a message keeps of the record
+  module _ (n : ℕ) (made : n < length x.world.messages) (m : Message) (at : m ≡ get_or s.messages n m) where
+    within : n < length s.messages
+    within = omega (arith, made, count-kept)
+
+    pub sent-is : m.sent ≡ M.sent_of v n
+    sent-is = ap (λ (m : Message). m.sent) at ∙ sym (ap (λ (p : ℕ × ℕ). p.0) (get-mapped progress_of n s.messages m (0, 0) within)) ∙ b.sents n made
+
+    record-is : message_record m ≡ message_at v n
+    record-is = ap message_record at ∙ sym (get-mapped message_record n s.messages m no_message within) ∙ ap (λ l. get_or l n no_message) (b.messages ∙ sym (ap (λ (z : World). z.messages) b.only))
+
+    kind-is : m.ordered ≡ (message_at v n).ordered
+    kind-is = ap (λ m. m.ordered) record-is
+
+    stream-is : m.stream ≡ (message_at v n).stream
+    stream-is = ap (λ m. m.stream) record-is
+
+    begins-is : begins m ≡ ((message_at v n).ordered && (M.sent_of v n == 0))
+    begins-is = ap (λ b. b && (m.sent == 0)) kind-is ∙ ap (λ k. (message_at v n).ordered && (k == 0)) sent-is
+
+  -- the count of a stream that is found
+  found-begun : (t : ℕ) (y : OpenStream) → find (has_number t) s.streams ≡ Some y → y.begun ≡ begun_on v y.state.stream_identifier
+  found-begun t y e = found-one (λ y. y.begun ≡ begun_on v y.state.stream_identifier) t s.streams each y e
+    where
+      each : (k : ℕ) (d : OpenStream) → k < length s.streams → (slice_index_or s.streams k d).begun ≡ begun_on v (slice_index_or s.streams k d).state.stream_identifier
+      each k d lt = let is = b.streams k d lt in ap (λ (y : OpenStream). y.begun) is ∙ ap (λ (y : OpenStream). begun_on v y.state.stream_identifier) (sym is)
+
+  begun-low : (t : ℕ) → begun_of t s.streams + 1 < 2 ^ 64
+  begun-low t = by (find (has_number t) s.streams) refl
+    where
+      by : (o : Option OpenStream) → find (has_number t) s.streams ≡ o → begun_in o + 1 < 2 ^ 64
+      by None e = omega arith
+      by (Some y) e = omega (arith, found-begun t y e, length-kept-le (is_begun_on v y.state.stream_identifier) 0 (length v.messages), messages-few x.world.setup v b.going.sane)
+
+  -- ## It can leave
+
+  module _ (n : ℕ) (fr : front v ≡ Some n) where
+    takes : Takes (shape v) n
+    takes = front-takes (shape v) n b.going.sane.sender fr
+
+    made-of : n < length x.world.messages
+    made-of = let t = takes.made in omega (arith, t, count-same)
+
+    next-shown : peeked s.outbound.pending ≡ Some (waiting_at v n (M.sent_of v n))
+    next-shown = shown x.world.setup v n s.outbound b.going fr b.outbound
+
+    pub can-send : IsIndexed x.places (stream_numbers x.open_streams) → CanSend s
+    can-send indexed = record {
+      chunk = waiting_at v n (M.sent_of v n);
+      shown = next-shown;
+      made = omega (arith, made-of, count-kept);
+      fits = λ m at. omega (arith, sent-is n made-of m at, sent-few n);
+      few = λ m at. begun-low m.stream;
+      indexed = subst (λ p. IsIndexed p (stream_numbers s.streams)) (sym b.places) (subst (IsIndexed x.places) (sym b.numbers) indexed);
+      fresh = ap (is_held s.outbound.inflight.chunks) b.next ∙ next-fresh v s.outbound.inflight.chunks few b.outbound.in_flight;
+      window = subst (SpansOneWindow s.outbound.inflight.chunks) (sym b.next) (next-window v s.outbound.inflight.chunks few b.taken b.outbound.in_flight);
+    }
+
+    -- ## It leaves
+
+    module _ (t : Sender) (f : Leaves now s t) where
+      abbrev c : ChunkPayloadData
+      c = f.chunk
+
+      abbrev m : Message
+      m = f.message
+
+      own : f.chunk.message_id ≡ n
+      own = ap (λ (d : ChunkPayloadData). d.message_id) (inner (sym f.shown ∙ next-shown))
+
+      at : f.message ≡ get_or s.messages n f.message
+      at = f.is ∙ ap (λ k. get_or s.messages k f.message) own
+
+      abbrev z : World
+      z = with_slot v n false
+
+      abbrev go : Bool
+      go = begins f.message
+
+      abbrev i : ℕ
+      i = begun_of f.message.stream s.streams
+
+      abbrev new : W.Slot
+      new = record { message = n; fragment = M.sent_of v n; is_end_mark = false; arrived = false; acknowledged = false }
+
+      progress : map progress_of t.messages ≡ changed (took (begins f.message) (begun_of f.message.stream s.streams)) n (map progress_of s.messages)
+      progress =
+          ap (map progress_of) (f.messages ∙ ap (λ k. slice_set s.messages k (with_fragment s.streams f.message)) own)
+          ∙ map-set progress_of (took (begins f.message) (begun_of f.message.stream s.streams)) s.messages n (with_fragment s.streams f.message) f.message (within n made-of f.message at) (ap (λ (m' : Message). took (begins f.message) (begun_of f.message.stream s.streams) (progress_of m')) at)
+
+      long : length (map progress_of s.messages) ≡ length x.world.messages
+      long = length-mapped progress_of s.messages ∙ count-kept
+
+      shape-then : shape (with_slot v n false) ≡ slotted (shape v) n false
+      shape-then = Shapes.shape-slot v n false
+
+      sent-more : (k : ℕ) → M.sent_of (with_slot v n false) k ≡ M.sent_of v k + (if (n == k) && true then 1 else 0)
+      sent-more k = ap (λ y. sent_by y k) shape-then ∙ sent-slotted (shape v) n k false
+
+      sents-then : (k : ℕ) → k < length x.world.messages → (slice_index_or (changed (took (begins f.message) (begun_of f.message.stream s.streams)) n (map progress_of s.messages)) k (0, 0)).0 ≡ M.sent_of (with_slot v n false) k
+      sents-then k lt =
+          let g = took (begins f.message) (begun_of f.message.stream s.streams) in
+          let ps = map progress_of s.messages in
+          by_same {P = (slice_index_or (changed g n ps) k (0, 0)).0 ≡ M.sent_of (with_slot v n false) k} n k
+          (λ e. ap (λ j. (slice_index_or (changed g n ps) j (0, 0)).0) (sym e) ∙ ap (λ p. p.0) (changed-same g n ps (0, 0) (omega (arith, made-of, long))) ∙ ap (λ c. c + 1) (b.sents n made-of)
+          ∙ sym (ap (M.sent_of (with_slot v n false)) (sym e) ∙ sent-more n ∙ ap (λ b. M.sent_of v n + (if b && true then 1 else 0)) (same-yes n)))
+          (λ ne no'. ap (λ p. p.0) (changed-other g n k ps (0, 0) (λ z. ne (sym z))) ∙ b.sents k lt ∙ plus-none (M.sent_of v k) ∙ sym (sent-more k ∙ ap (λ b. M.sent_of v k + (if b && true then 1 else 0)) no'))
+        where
+          plus-none : (a : ℕ) → a ≡ a + 0
+          plus-none a = omega arith
+
+      -- the stream of the message is open, and its count is the record's
+      opened : M.is_open v f.message.stream ≡ true
+      opened = ap (M.is_open v) (stream-is n made-of f.message at) ∙ b.going.sane.known n takes.made
+
+      begun-is : begun_of f.message.stream s.streams ≡ begun_on v f.message.stream
+      begun-is = by (find (has_number f.message.stream) s.streams) refl
+        where
+          by : (o : Option OpenStream) → find (has_number f.message.stream) s.streams ≡ o → begun_in o ≡ begun_on v f.message.stream
+          by None e = absurd (not_both (sym (none-open v f.message.stream s.streams (ap (λ (z : World). z.streams) b.only ∙ sym b.records) e) ∙ opened))
+          by (Some y) e = found-begun f.message.stream y e ∙ ap (begun_on v) (number-found f.message.stream s.streams y e)
+
+      indexed-then : Indexed (shape (with_slot v n false)) (index_kept (changed (took (begins f.message) (begun_of f.message.stream s.streams)) n (map progress_of s.messages)))
+      indexed-then =
+          let g = took (begins f.message) (begun_of f.message.stream s.streams) in
+          let ps = map progress_of s.messages in
+          subst (λ y. Indexed y (index_kept (changed g n ps))) (sym shape-then)
+          (indexed-taken (shape v) n (index_kept ps) (index_kept (changed g n ps)) b.going.sane.sender takes
+          (λ k ne. ap (λ p. p.1) (changed-other g n k ps (0, 0) ne))
+          (ap (λ p. p.1) (changed-same g n ps (0, 0) (omega (arith, made-of, long)))
+          ∙ ap (λ b. if b then begun_of f.message.stream s.streams else index_kept ps n) (begins-is n made-of f.message at)
+          ∙ ap (λ j. if (message_at v n).ordered && (M.sent_of v n == 0) then j else index_kept ps n) (begun-is ∙ ap (begun_on v) (stream-is n made-of f.message at)))
+          b.indexed)
+
+      begun-then : (t' : ℕ) → begun_on (with_slot v n false) t' ≡ begun_on v t' + (if (f.message.stream == t') && begins f.message then 1 else 0)
+      begun-then t' =
+          ap (λ y. Begun.begun y t') shape-then ∙ Begun.begun-taken (shape v) n t' takes.made
+          ∙ ap (λ b. begun_on v t' + (if ((message_at v n).stream == t') && b then 1 else 0)) (sym (begins-is n made-of f.message at))
+          ∙ ap (λ j. begun_on v t' + (if (j == t') && begins f.message then 1 else 0)) (sym (stream-is n made-of f.message at))
+
+      streams-then : (k : ℕ) (d : OpenStream) → k < length t.streams → slice_index_or t.streams k d ≡ counted (begun_on (with_slot v n false) (slice_index_or x.open_streams k d).state.stream_identifier) (slice_index_or x.open_streams k d)
+      streams-then k d lt =
+          let go = begins f.message in
+          let from = f.message.stream in
+          let y = slice_index_or x.open_streams k d in
+          let inside : k < length s.streams = omega (arith, lt, ap length f.streams ∙ length-begun go from s.streams) in
+          ap (λ ls. slice_index_or ls k d) f.streams ∙ begun-at go from s.streams k d inside
+          ∙ ap (λ l. plus_begun (if (from == l.state.stream_identifier) && go then 1 else 0) l) (b.streams k d inside)
+          ∙ ap (λ n. counted n y) (sym (begun-then y.state.stream_identifier))
+
+      outbound-then : TiedOutbound (with_slot v n false) t.outbound
+      outbound-then =
+          let all : s.outbound.next_unstarted ≡ length v.messages = b.begun ∙ sym count-same in
+          let a : TiedOutbound (fragment_sent v) (sent_peeked s.outbound (tsn_of v (length v.slots)) now) = tied-fragment x.world.setup v n now s.outbound b.going fr b.taken all b.outbound in
+          let q : sent_peeked s.outbound (tsn_of v (length v.slots)) now ≡ t.outbound = ap (λ r. sent_peeked r (tsn_of v (length v.slots)) now) (sym (none-start s.outbound now (all ∙ sym b.outbound.next))) ∙ ap (λ k. sent_next s.outbound k now) (sym b.next) ∙ sym f.outbound in
+          subst (TiedOutbound (with_slot v n false)) q (subst (λ o. TiedOutbound (fragment_of_sent v o) (sent_peeked s.outbound (tsn_of v (length v.slots)) now)) fr a)
+
+      started-then : t.outbound.next_unstarted ≡ length x.world.messages
+      started-then =
+          ap (λ (r : Outbound). r.next_unstarted) f.outbound ∙ next-unstarted (all_started now s.outbound) s.next_tsn now (peeked (all_started now s.outbound).pending)
+          ∙ ap (λ (r : Outbound). r.next_unstarted) (none-start s.outbound now (b.begun ∙ sym count-same ∙ sym b.outbound.next)) ∙ b.begun
+
+      slots-then : map slot_record t.slots ≡ (with_slot v n false).slots
+      slots-then =
+          ap (map slot_record) f.slots ∙ map-append slot_record s.slots (slot_with f.chunk.message_id f.message.sent ∷ [])
+          ∙ ap (λ a. a ++ slot_record (slot_with f.chunk.message_id f.message.sent) ∷ []) b.slots
+          ∙ ap (λ k. v.slots ++ slot_record (slot_with k f.message.sent) ∷ []) own
+          ∙ ap (λ k. v.slots ++ slot_record (slot_with n k) ∷ []) (sent-is n made-of f.message at)
+
+      pub between-one : Between x now (with_slot v n false) t
+      between-one = record {
+        going = subst (λ o. Going x.world.setup (fragment_of_sent v o)) fr (going-takes x.world.setup v b.going);
+        only = ap (λ (u : World). record u { slots = (with_slot v n false).slots }) b.only;
+        taken = let le : (with_slot v n false).taken ≤ length v.slots = b.taken in omega (arith, le, length-append v.slots (new ∷ []));
+        outbound = outbound-then;
+        begun = started-then;
+        messages =
+            ap (map message_record) (f.messages ∙ ap (λ k. slice_set s.messages k (with_fragment s.streams f.message)) own)
+            ∙ map-set_same message_record s.messages n (with_fragment s.streams f.message) f.message (ap message_record at) ∙ b.messages;
+        sents = λ k lt. ap (λ (ps : List (ℕ × ℕ)). (slice_index_or ps k (0, 0)).0) progress ∙ sents-then k lt;
+        indexed = subst (λ ps. Indexed (shape (with_slot v n false)) (index_kept ps)) (sym progress) indexed-then;
+        places = f.places ∙ b.places;
+        records = ap (map stream_record) f.streams ∙ records-begun (begins f.message) f.message.stream s.streams ∙ b.records;
+        numbers = ap stream_numbers f.streams ∙ numbers-begun (begins f.message) f.message.stream s.streams ∙ b.numbers;
+        streams = streams-then;
+        slots = slots-then;
+        next = f.next_tsn ∙ ap following_tsn b.next ∙ next-tsn v n;
+      }
+
+-- where there is a next fragment, and it leaves
+pub between-more : (x : State) (now : ℕ) (v : World) (s t : Sender) → Between x now v s → is_some (front v) ≡ true → Leaves now s t → Between x now (fragment_sent v) t
+between-more x now v s t b some f = by (front v) refl some
+  where
+    by : (o : Option ℕ) → front v ≡ o → is_some o ≡ true → Between x now (fragment_of_sent v o) t
+    by None e h = cc
+    by (Some n) e h = between-one x now v s b n e t f
+
+pub between-can : (x : State) (now : ℕ) (v : World) (s : Sender) → Between x now v s → IsIndexed x.places (stream_numbers x.open_streams) → is_some (front v) ≡ true → CanSend s
+between-can x now v s b indexed some = by (front v) refl some
+  where
+    by : (o : Option ℕ) → front v ≡ o → is_some o ≡ true → CanSend s
+    by None e h = cc
+    by (Some n) e h = can-send x now v s b n e indexed
+
+-- ## So many
+
+pub between-after : (x : State) (now : ℕ) (u : World) (s : Sender) → Between x now u s → (count : ℕ) → ((i : ℕ) → i < count → is_some (front (after_fragments i u)) ≡ true) → (i : ℕ) → i ≤ count → (t : Sender) → Leave now i s t → Between x now (after_fragments i u) t
+between-after x now u s b count some zero le t f = subst (Between x now u) (sym f) b
+between-after x now u s b count some (suc i) le t f =
+    subst (λ z. Between x now z t) (sym (after-next i u))
+    (between-more x now (after_fragments i u) f.0 t (between-after x now u s b count some i (omega (arith, le)) f.0 f.1.0) (some i (omega (arith, le))) f.1.1)
+
+pub each-can : (x : State) (now : ℕ) (u : World) (s : Sender) → Between x now u s → IsIndexed x.places (stream_numbers x.open_streams) → (count : ℕ) → ((i : ℕ) → i < count → is_some (front (after_fragments i u)) ≡ true) → (i : ℕ) (t : Sender) → i < count → Leave now i s t → CanSend t
+each-can x now u s b indexed count some i t lt f = between-can x now (after_fragments i u) t (between-after x now u s b count some i (omega (arith, lt)) t f) indexed (some i lt)

@@ -1,0 +1,173 @@
+//! The fragments of a datagram: looked at before they leave, then taken one after another.
+
+ghost use Rattle.std.specs.Prelude.{◌≡◌, ◌<◌, ◌≤◌, ◌+◌, ◌^◌, ◌∷◌, ◌++◌, ℕ, [], Some, IfOk, IfSome, IsOkUnless, length, map, vec_len, vec_capacity};
+ghost use Rattle.sctp_base.specs.declared.error.Error.TheVariants.{ErrOutOfMemory};
+ghost use Rattle.sctp_lists.specs.Kept.{numbers_from};
+ghost use Rattle.sctp_chunks.specs.declared.chunk.chunk_kind.ChunkKind.TheVariants as C;
+ghost use Rattle.sctp_outbound.specs.pending_queue.PendingQueue.{peeked};
+ghost use Rattle.sctp_outbound.specs.outbound_queue.OutboundQueue.{after_sends};
+ghost use Rattle.sctp_model.specs.Changes.{chunk_length};
+ghost use Rattle.sctp_ties.specs.Filling.{under, chunks_taken};
+ghost use Rattle.sctp_link.specs.OpenStreams.{slot_with, with_fragment, begun_of, begun_by};
+ghost use Rattle.sctp_link.specs.Places.{IsIndexed, stream_numbers};
+ghost use Rattle.sctp_link.specs.Sends.{Sender, sender_of, CanSend, Leaves, Leave};
+
+use super::open_streams::OpenStreams;
+use crate::record::{Message, Slot};
+use sctp_base::error::Result;
+use sctp_chunks::chunk::chunk_kind::ChunkKind;
+use sctp_chunks::chunk::chunk_payload_data::ChunkPayloadData;
+use sctp_queues::outbound_queue::OutboundQueue;
+use std::alloc::Global;
+
+/// The length of a packet's common header (RFC 4960 3.1).
+const COMMON_HEADER: usize = 12;
+
+/// The length of a DATA chunk without its user data (RFC 4960 3.3.1).
+const DATA_HEADER: usize = 16;
+
+/// The chunks of the next datagram, of which the first has this TSN: the next fragment, and further ones, each the
+/// next then, for as long as the datagram is no longer than the limit. Refuses only for memory.
+/// Precondition: `first` is the next fragment, and none has more than 65,519 bytes.
+pub(super) fn next_chunks(
+    alloc: Global,
+    outbound: &OutboundQueue,
+    first: &ChunkPayloadData,
+    tsn: u32,
+    limit: u32,
+) -> Result<Vec<ChunkKind>>
+    requires shown { peeked outbound.now.pending ≡ Some first.now }
+    requires short { (i : ℕ) → IfSome (peeked (after_sends i outbound.now.pending))
+        (λ c. length c.user_data ≤ 65519) }
+    ensures chunks { IfOk result
+        (λ ks. ks.items ≡ map C.PayloadData (chunks_taken limit tsn outbound.now.pending)) }
+    ensures memory { IsOkUnless result ErrOutOfMemory }
+{
+    let mut chunks = Vec::new(alloc);
+    push_under(&mut chunks, first, tsn)?;
+    let mut tsn = tsn;
+    let mut used = COMMON_HEADER + chunk_length(first.user_data.len());
+    // Each further chunk has a header at least.
+    for sent in 0..limit as usize / DATA_HEADER {
+        let Some(chunk) = outbound.peek_pending_at(sent + 1) else {
+            return Ok(chunks);
+        };
+        used += chunk_length(chunk.user_data.len());
+        if used > limit as usize {
+            return Ok(chunks);
+        }
+        tsn = tsn.wrapping_add(1);
+        push_under(&mut chunks, chunk, tsn)?;
+    }
+    Ok(chunks)
+}
+
+/// Puts a chunk under a TSN behind the others. Refuses only for memory.
+fn push_under(chunks: &mut Vec<ChunkKind>, chunk: &ChunkPayloadData, tsn: u32) -> Result<()>
+    ensures ok { IfOk result
+        (λ _. chunks.new.items ≡ chunks.old.items ++ C.PayloadData (under tsn chunk.now) ∷ []) }
+    ensures memory { IsOkUnless result ErrOutOfMemory }
+{
+    let mut chunk = chunk.try_clone()?;
+    chunk.tsn = tsn;
+    chunks.push(ChunkKind::PayloadData(chunk))?;
+    Ok(())
+}
+
+/// The length of a DATA chunk with so many bytes, its padding included.
+/// Precondition: they are at most 65,519.
+fn chunk_length(bytes: usize) -> usize
+    requires { bytes ≤ 65519 }
+    ensures { result ≡ chunk_length bytes }
+{
+    DATA_HEADER + bytes + (4 - bytes % 4) % 4
+}
+
+/// So many places, from the first on. Refuses only for memory.
+/// Precondition: each fits.
+pub(super) fn places_from(alloc: Global, first: usize, count: usize) -> Result<Vec<u64>>
+    requires { first + count < 2 ^ 64 }
+    ensures places { IfOk result (λ places. places.items ≡ numbers_from first count) }
+    ensures memory { IsOkUnless result ErrOutOfMemory }
+{
+    let mut places = Vec::new(alloc);
+    for at in 0..count {
+        places.push((first + at) as u64)?;
+    }
+    Ok(places)
+}
+
+/// Takes the next fragments, one after another: each gets a slot and the next TSN; `now` is in nanoseconds.
+/// Precondition: each can leave in its turn, and there is room for all of them.
+pub(super) fn take_fragments(
+    outbound: &mut OutboundQueue,
+    messages: &mut [Message],
+    open_streams: &mut OpenStreams,
+    slots: &mut Vec<Slot>,
+    next_tsn: &mut u32,
+    now: u64,
+    count: usize,
+)
+    requires able { (i : ℕ) (s : Sender) → i < count
+        → Leave now i (sender_of outbound.old messages.old open_streams.old slots.old.items next_tsn.old) s → CanSend s }
+    requires flight { count ≤ outbound.old.inflight.room }
+    requires room { vec_len slots.old + count ≤ vec_capacity slots.old }
+    ensures { Leave now count (sender_of outbound.old messages.old open_streams.old slots.old.items next_tsn.old)
+        (sender_of outbound.new messages.new open_streams.new slots.new.items next_tsn.new) }
+{
+    for _at in 0..count {
+        take_next(outbound, messages, open_streams, slots, next_tsn, now);
+    }
+}
+
+/// Takes the next fragment: it gets a slot and the next TSN; `now` is in nanoseconds.
+/// Precondition: it can leave, and there is room for it.
+fn take_next(
+    outbound: &mut OutboundQueue,
+    messages: &mut [Message],
+    open_streams: &mut OpenStreams,
+    slots: &mut Vec<Slot>,
+    next_tsn: &mut u32,
+    now: u64,
+)
+    requires able { CanSend (sender_of outbound.old messages.old open_streams.old slots.old.items next_tsn.old) }
+    requires flight { 0 < outbound.old.inflight.room }
+    requires room { vec_len slots.old < vec_capacity slots.old }
+    ensures leaves { Leaves now (sender_of outbound.old messages.old open_streams.old slots.old.items next_tsn.old)
+        (sender_of outbound.new messages.new open_streams.new slots.new.items next_tsn.new) }
+    ensures flight { outbound.old.inflight.room ≡ outbound.new.inflight.room + 1 }
+    ensures len { vec_len slots.new ≡ vec_len slots.old + 1 }
+    ensures capacity { vec_capacity slots.old ≤ vec_capacity slots.new }
+{
+    let Some(chunk) = outbound.peek_pending() else {
+        unreachable!()
+    };
+    let number = chunk.message_id;
+    let _ = outbound.send_next(next_tsn, now);
+    let slot = take_fragment(&mut messages[number as usize], open_streams, number);
+    slots.push_reserved(slot);
+}
+
+/// The slot of the next fragment of a message, which it takes. The first one of an ordered message takes an index.
+fn take_fragment(message: &mut Message, open_streams: &mut OpenStreams, number: u64) -> Slot
+    requires fits { message.old.sent + 1 < 2 ^ 64 }
+    requires indexed { IsIndexed open_streams.old.places (stream_numbers open_streams.old.items.items) }
+    requires few { begun_of message.old.stream open_streams.old.items.items + 1 < 2 ^ 64 }
+    ensures slot { result ≡ slot_with number message.old.sent }
+    ensures taken { message.new ≡ with_fragment open_streams.old.items.items message.old }
+    ensures items { open_streams.new.items.items ≡ begun_by message.old open_streams.old.items.items }
+    ensures places { open_streams.new.places ≡ open_streams.old.places }
+{
+    if message.ordered && message.sent == 0 {
+        message.index = open_streams.begin(message.stream);
+    }
+    let fragment = message.sent;
+    message.sent += 1;
+    Slot {
+        message: number,
+        fragment,
+        is_end_mark: false,
+        arrived: false,
+        acknowledged: false,
+    }
+}
