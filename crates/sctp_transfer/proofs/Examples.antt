@@ -1,15 +1,10 @@
 -- Worked examples, by computation.
-use Rattle.std.proofs.Common.{◌≡◌, ℕ, Bool, true, false, List, [], ◌∷◌, map, Some, None, refl}
-use Rattle.std.specs.Prelude.{option_map}
+use Rattle.std.proofs.Common.{◌≡◌, ℕ, Bool, true, false, List, [], ◌∷◌, Some, None, refl}
 use Rattle.sctp_chunks.specs.declared.chunk.chunk_payload_data.PayloadProtocolIdentifier.TheVariants as identifiers
 use Rattle.sctp_chunks.specs.declared.chunk.chunk_payload_data.ChunkPayloadData.{ChunkPayloadData}
-use Rattle.sctp_chunks.specs.declared.chunk.chunk_selective_ack.GapAckBlock.{GapAckBlock}
-use Rattle.sctp_lists.specs.Serial.{distance, comes_before, at_or_before, comes_before16, at_or_before16, distance16}
-use Rattle.sctp_reassembly.specs.reassembly_queue.Fragments.{payload_of}
-use Rattle.sctp_reassembly.specs.reassembly_queue.ReassemblyQueue.{ordered_pushed}
-use Rattle.sctp_transfer.specs.declared.receiver.refusal.ReceiverRefusal.TheVariants.{StreamUnknown, TsnOpposite, MessageTooLarge}
-use Rattle.sctp_transfer.specs.Inbound.{with_queue}
-use Rattle.sctp_transfer.specs.Receiver.{Reception, at_first, opened, filter_of, with_filter, data_refusal, message_on, sack}
+use Rattle.sctp_lists.specs.Serial.{distance, comes_before, at_or_before}
+use Rattle.sctp_transfer.specs.declared.receiver.refusal.ReceiverRefusal.TheVariants.{StreamUnknown, MessageTooLarge}
+use Rattle.sctp_transfer.specs.Receiver.{at_first, opened, data_refusal}
 use Rattle.sctp_transfer.specs.TsnFilter.{Filter, with_tsn, skipped_to, gap_ack_blocks, has_come, is_opposite}
 
 -- TSNs 15, 14 and 17 came beyond 12: so RFC 4960 3.3.4 shows its blocks

@@ -1,25 +1,25 @@
 -- What a receiver hands out, in every run of calls.
-use Rattle.std.proofs.Common.{◌≡◌, ℕ, zero, suc, ◌+◌, ◌-◌, ◌<◌, ◌≤◌, Bool, true, false, List, [], ◌∷◌, ◌++◌, map, Option, Some, None, refl, ap, sym, ◌∙◌, arith, subst}
-use Rattle.std.specs.Prelude.{◌==◌, ◌&&◌, if◌then◌else◌, find, option_map}
+use Rattle.std.proofs.Common.{◌≡◌, ℕ, ◌+◌, ◌≤◌, Bool, true, false, List, [], ◌∷◌, ◌++◌, map, Option, Some, None, refl, ap, sym, ◌∙◌, arith, subst}
+use Rattle.std.specs.Prelude.{◌==◌, if◌then◌else◌, find, option_map}
 use Rattle.std.specs.Option.{option_or}
 use Rattle.std.specs.List.{list_all, sum_by}
 use Rattle.std.proofs.lemmas.Bool.{eq-eqb}
 use Rattle.std.proofs.lemmas.List.Folds.{find-append}
 use Rattle.std.proofs.lemmas.List.Sums.{sum_by-cons, sum_by-append}
 use Rattle.sctp_lists.specs.Lists.{change_where, those}
-use Rattle.sctp_lists.proofs.Cases.{same-yes, same-is}
-use Rattle.sctp_lists.proofs.More.{and, both, fails, not_both}
+use Rattle.sctp_lists.proofs.Cases.{same-is}
+use Rattle.sctp_lists.proofs.More.{and, fails, not_both}
 use Rattle.sctp_chunks.specs.declared.chunk.chunk_payload_data.ChunkPayloadData.{ChunkPayloadData}
 use Rattle.sctp_chunks.specs.declared.chunk.chunk_forward_tsn.ChunkForwardTsnStream.{ChunkForwardTsnStream}
 use Rattle.sctp_chunks.specs.ChunkSet.{ChunkSet}
 use Rattle.sctp_chunks.specs.ForwardTsn.{ForwardTsn}
 use Rattle.sctp_reassembly.specs.reassembly_queue.Fragments.{is_complete}
-use Rattle.sctp_reassembly.specs.reassembly_queue.ReassemblyQueue.{ReassemblyState, message_read, rest_read}
+use Rattle.sctp_reassembly.specs.reassembly_queue.ReassemblyQueue.{message_read}
 use Rattle.sctp_transfer.specs.declared.receiver.arrival.Arrival.TheVariants.{New, Repeat}
 use Rattle.sctp_transfer.specs.declared.receiver.inbound_streams.InboundStream.{InboundStream}
 use Rattle.sctp_transfer.specs.Inbound.{number, has_number, new_stream, with_queue, stream_read, ssn_forwarded, named_forwarded, loose_forwarded}
-use Rattle.sctp_transfer.specs.Receiver.{Reception, stream_of, opened, Accepts, message_of, message_on, after_read, is_stale, followed, after_forward}
-use Rattle.sctp_transfer.specs.ReceiverRuns.{Call, opens, takes, reports, reads, forwards, Makes, Message, Stand, accepted_after, read_after, with_message, Follows, RunsTo, at_start, AfterEachRun, AreWhole, WereAccepted, fragments_read, is_on}
+use Rattle.sctp_transfer.specs.Receiver.{Reception, stream_of, Accepts, message_of, message_on, after_read, is_stale, followed, after_forward}
+use Rattle.sctp_transfer.specs.ReceiverRuns.{Call, opens, takes, reports, reads, forwards, Message, Stand, with_message, Follows, RunsTo, at_start, AfterEachRun, AreWhole, WereAccepted, fragments_read, is_on}
 use Rattle.sctp_transfer.proofs.Inbounds.{pushed-number}
 use Rattle.sctp_transfer.proofs.Weights as weights
 use Rattle.sctp_transfer.proofs.Weights.{weight, message_weight}

@@ -12,7 +12,7 @@ one : {A : Type 0} {a b : A} → Some a ≡ Some b → a ≡ b
 one e = cc
 
 module _ {X : Type 0} (p : X → Bool) where
-  find-first : (xs : List X) (i : ℕ) (d : X) → i < length xs → ((k : ℕ) (d : X) → k < i → p (get_or xs k d) ≡ false) → p (get_or xs i d) ≡ true → find p xs ≡ Some (get_or xs i d)
+  pub find-first : (xs : List X) (i : ℕ) (d : X) → i < length xs → ((k : ℕ) (d : X) → k < i → p (get_or xs k d) ≡ false) → p (get_or xs i d) ≡ true → find p xs ≡ Some (get_or xs i d)
   find-first [] i d lt before here = absurd (omega (arith, lt))
   find-first (x ∷ xs) zero d lt before here = rw here refl
   find-first (x ∷ xs) (suc i) d lt before here = rw (before 0 x (omega arith)) (find-first xs i d (omega (arith, lt)) (λ k d lt. before (suc k) d (omega arith)) here)

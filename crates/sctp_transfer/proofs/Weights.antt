@@ -1,20 +1,17 @@
 -- What the fragments of a reassembly queue weigh, and what its calls make of that.
-use Rattle.std.proofs.Common.{◌≡◌, ℕ, zero, suc, ◌+◌, ◌-◌, ◌<◌, ◌≤◌, ◌%◌, ◌^◌, Bool, true, false, List, [], ◌∷◌, ◌++◌, length, take, drop, Option, Some, None, refl, ap, sym, ◌∙◌, arith, subst, get_or}
-use Rattle.std.specs.Prelude.{◌==◌, ◌&&◌, not, if◌then◌else◌, slice_index_or}
-use Rattle.std.specs.List.{list_all, list_any, sum_by}
+use Rattle.std.proofs.Common.{◌≡◌, ℕ, zero, suc, ◌+◌, ◌≤◌, Bool, true, false, List, [], ◌∷◌, take, drop, Option, Some, None, refl, ap, sym, ◌∙◌, arith}
+use Rattle.std.specs.Prelude.{not, if◌then◌else◌}
+use Rattle.std.specs.List.{list_any, sum_by}
 use Rattle.std.proofs.lemmas.List.Sums.{sum_by-cons, sum_by-append}
 use Rattle.std.proofs.lemmas.List.{take-append-drop}
 use Rattle.sctp_lists.specs.Lists.{inserted, those, change_first, after_leading}
 use Rattle.sctp_lists.specs.Serial.{at_or_before, comes_before16}
-use Rattle.sctp_lists.proofs.Edits.{sum_by-inserted, sum_by-those_both, list_any-append}
-use Rattle.sctp_lists.proofs.More.{and, both}
-use Rattle.sctp_lists.proofs.Cases.{same-yes}
+use Rattle.sctp_lists.proofs.Edits.{sum_by-inserted}
 use Rattle.sctp_chunks.specs.declared.chunk.chunk_payload_data.ChunkPayloadData.{ChunkPayloadData}
 use Rattle.sctp_chunks.specs.ChunkSet.{ChunkSet}
 use Rattle.sctp_serial.specs.DataChunks.{has_tsn, chunk_before}
-use Rattle.sctp_serial.specs.Runs.{IsRun, IsEarliestRun, HasNoRun}
-use Rattle.sctp_reassembly.specs.reassembly_queue.Fragments.{is_complete, completes, has_ssn, with_chunk, new_set, sets_with, set_before, next_tsn}
-use Rattle.sctp_reassembly.specs.reassembly_queue.ReassemblyQueue.{Reassembly, ReassemblyState, pushed_ordered, ordered_pushed, set_of_run, TakesRun, BecomesWhole, PushesUnordered, is_readable, front_readable, without_first, after_read, message_among, message_read, rest_among, rest_read, state_read, is_passed, forwarded_ordered, ordered_forwarded, forwarded_unordered, unordered_forwarded}
+use Rattle.sctp_reassembly.specs.reassembly_queue.Fragments.{has_ssn, with_chunk, new_set, sets_with, set_before}
+use Rattle.sctp_reassembly.specs.reassembly_queue.ReassemblyQueue.{Reassembly, ReassemblyState, pushed_ordered, set_of_run, TakesRun, BecomesWhole, is_readable, front_readable, without_first, after_read, message_among, message_read, rest_among, rest_read, is_passed, ordered_forwarded, unordered_forwarded}
 use Rattle.sctp_transfer.specs.Inbound.{Pushes, PushesAs}
 
 module _ (w : ChunkPayloadData → ℕ) where

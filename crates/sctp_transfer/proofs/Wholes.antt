@@ -1,6 +1,6 @@
 -- Unordered messages that are whole, and messages that are read.
-use Rattle.std.proofs.Common.{◌≡◌, ℕ, zero, suc, ◌+◌, ◌-◌, ◌<◌, ◌≤◌, ◌%◌, ◌^◌, Bool, true, false, List, [], ◌∷◌, ◌++◌, length, take, drop, Option, Some, None, refl, ap, sym, ◌∙◌, arith, subst, get_or}
-use Rattle.std.specs.Prelude.{◌==◌, ◌&&◌, if◌then◌else◌}
+use Rattle.std.proofs.Common.{◌≡◌, ℕ, zero, suc, ◌+◌, ◌-◌, ◌<◌, ◌≤◌, Bool, true, false, List, [], ◌∷◌, length, take, drop, Option, Some, None, refl, ap, sym, ◌∙◌, arith, get_or}
+use Rattle.std.specs.Prelude.{if◌then◌else◌}
 use Rattle.std.specs.List.{list_all}
 use Rattle.std.proofs.lemmas.Bool.{eq-eqb}
 use Rattle.std.proofs.lemmas.List.{get_or-drop, length-drop}
@@ -13,7 +13,7 @@ use Rattle.sctp_chunks.specs.ChunkSet.{ChunkSet}
 use Rattle.sctp_serial.specs.DataChunks.{chunk_before}
 use Rattle.sctp_serial.specs.Runs.{IsRun}
 use Rattle.sctp_reassembly.specs.reassembly_queue.Fragments.{is_complete, completes, next_tsn, sets_with}
-use Rattle.sctp_reassembly.specs.reassembly_queue.ReassemblyQueue.{Reassembly, ReassemblyState, pushed_ordered, set_of_run, TakesRun, BecomesWhole, is_readable, front_readable, after_read, message_among, message_read, rest_among, rest_read}
+use Rattle.sctp_reassembly.specs.reassembly_queue.ReassemblyQueue.{Reassembly, ReassemblyState, set_of_run, TakesRun, BecomesWhole, is_readable, front_readable, after_read, message_among, message_read, rest_among, rest_read}
 use Rattle.sctp_transfer.specs.TsnFilter.{mark}
 use Rattle.sctp_transfer.specs.Inbound.{Pushes, PushesAs}
 

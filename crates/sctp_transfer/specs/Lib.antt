@@ -8,3 +8,6 @@ pub mod Inbound
 pub mod Receiver
 pub mod Refusals
 pub mod ReceiverRuns
+pub mod Flight
+pub mod Outgoing
+pub mod Sender

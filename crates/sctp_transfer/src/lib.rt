@@ -3,6 +3,7 @@
 
 pub mod laws;
 pub mod receiver;
+pub mod sender;
 pub mod stream;
 pub mod stream_numbers;
 

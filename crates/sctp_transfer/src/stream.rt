@@ -236,11 +236,21 @@ impl StreamState {
         ensures memory { IfErr result (λ e. e ≡ ErrOutOfMemory) }
     {
         let chunks = self.fragments(alloc, raw, ppi)?;
-        if !raw.is_empty() && self.is_ordered(ppi) {
+        let high = self.note_write(ppi, raw.len());
+        Ok((high, chunks))
+    }
+
+    // Notes a write of so many bytes: an ordered one of some takes the sequence number. Says whether the buffered amount
+    // reaches the high threshold now.
+    pub(crate) fn note_write(&mut self, ppi: PayloadProtocolIdentifier, len: usize) -> bool
+        ensures high { result ≡ rises_high self.old len }
+        ensures rest { (bytes : List ℕ) → len ≡ length bytes → self.new ≡ after_write self.old ppi bytes }
+        ensures number { self.new.stream_identifier ≡ self.old.stream_identifier }
+    {
+        if len > 0 && self.is_ordered(ppi) {
             self.sequence_number = self.sequence_number.wrapping_add(1);
         }
-        let high = self.raise_buffered(raw.len());
-        Ok((high, chunks))
+        self.raise_buffered(len)
     }
 
     // Counts bytes that wait, and says whether they reach the high threshold now.
@@ -261,7 +271,7 @@ impl StreamState {
     }
 
     // The fragments of a write.
-    fn fragments(
+    pub(crate) fn fragments(
         &self,
         alloc: Global,
         raw: &Bytes,
@@ -328,6 +338,13 @@ impl StreamState {
         let from_amount = self.buffered_amount;
         self.buffered_amount = from_amount.saturating_sub(n_bytes_released as usize);
         from_amount > self.buffered_amount_low && self.buffered_amount <= self.buffered_amount_low
+    }
+
+    // Takes bytes off the buffered amount, which stops at 0.
+    pub(crate) fn lower_buffered(&mut self, bytes: usize)
+        ensures { self.new ≡ record self.old { buffered_amount = self.old.buffered_amount - bytes } }
+    {
+        self.buffered_amount = self.buffered_amount.saturating_sub(bytes);
     }
 
     /// Closes the direction of writes. The direction of reads stays as it is.

@@ -1,6 +1,6 @@
 //! The numbers of the open streams, and where each stands.
 
-ghost use Rattle.std.specs.Prelude.{◌≡◌, ◌++◌, ◌∷◌, [], OnOk, OnErr, IsOkUnless, MatchOption, length, vec_len, vec_capacity, ◌<◌};
+ghost use Rattle.std.specs.Prelude.{◌≡◌, ◌++◌, ◌∷◌, [], OnOk, OnErr, IsOkUnless, MatchOption, length, vec_len, vec_capacity, ◌<◌, ◌≤◌};
 ghost use Rattle.sctp_base.specs.declared.error.Error.TheVariants.{ErrOutOfMemory};
 ghost use Rattle.sctp_transfer.specs.Numbers.{IsOnlyPlace, IsAbsent};
 
@@ -65,7 +65,8 @@ impl StreamNumbers {
 /// Precondition: there is room.
 pub(crate) fn put<T: Drop>(items: &mut Vec<T>, item: T)
     requires { vec_len items.old < vec_capacity items.old }
-    ensures { items.new.items ≡ items.old.items ++ item ∷ [] }
+    ensures items { items.new.items ≡ items.old.items ++ item ∷ [] }
+    ensures capacity { vec_capacity items.old ≤ vec_capacity items.new }
 {
     let _ = items.push(item);
 }

@@ -2,7 +2,12 @@
 #![tactic(auto)]
 
 #[cfg(test)]
+mod host;
+#[cfg(test)]
 mod part;
 #[cfg(test)]
 mod receiver_tests;
 pub mod receiving;
+#[cfg(test)]
+mod sender_tests;
+pub mod sending;

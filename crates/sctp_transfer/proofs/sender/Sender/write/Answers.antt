@@ -1,0 +1,66 @@
+use Rattle.std.proofs.Common.{◌≡◌, ◌<◌, ◌≤◌, ap, sym, ◌∙◌, true, false, subst, inr, None, rules, arith, length}
+use Rattle.sctp_outbound.specs.pending_queue.Whole.{IsMessageOrNone}
+use Rattle.sctp_transfer.specs.Sender.{Transmission, is_open, is_full, is_full_of, write_refusal}
+use Rattle.sctp_transfer.proofs.SenderStreams.{closed, open-at, found-at, unknown, too-large, full, fine, one-message}
+use Rattle.sctp_transfer.proofs.sender.Sender.write.Goals as goal
+
+pub returns-in_default-clause-refused : goal.returns-in_default-clause-refused
+returns-in_default-clause-refused c =
+    let t : Transmission = record { streams = c.self.inside.streams; flight = c.self.inside.flight; fragment_size = c.self.inside.fragment_size; max_message_size = c.self.inside.max_message_size } in
+    inr (rw (← c.self.view_is) (unknown c.args.stream (length c.args.bytes.now) t (closed c.self.inside.streams c.args.stream c.in_default.ensures)))
+
+pub returns-then-len-self-clause-refused : goal.returns-then-len-self-clause-refused
+returns-then-len-self-clause-refused c =
+    let t : Transmission = record { streams = c.self.inside.streams; flight = c.self.inside.flight; fragment_size = c.self.inside.fragment_size; max_message_size = c.self.inside.max_message_size } in
+    let open' : is_open c.args.stream t ≡ true = open-at c.self.inside.streams c.args.stream c.in-Some.place c.in-Some.ensures in
+    inr (rw (← c.self.view_is) (too-large c.args.stream (length c.args.bytes.now) t open' (omega (arith, c.if-len-self.true, c.len-len.ensures.value))))
+
+pub returns-then-is_full-clause-refused : goal.returns-then-is_full-clause-refused
+returns-then-is_full-clause-refused c =
+    let t : Transmission = record { streams = c.self.inside.streams; flight = c.self.inside.flight; fragment_size = c.self.inside.fragment_size; max_message_size = c.self.inside.max_message_size } in
+    let open' : is_open c.args.stream t ≡ true = open-at c.self.inside.streams c.args.stream c.in-Some.place c.in-Some.ensures in
+    let le : length c.args.bytes.now ≤ t.max_message_size = omega (arith, c.if-len-self.false, c.len-len.ensures.value) in
+    let room : is_full (length c.args.bytes.now) t ≡ true = ap (λ n. is_full_of n t.flight.queue) (sym c.len-len.ensures.value) ∙ ap (is_full_of c.len-len.result) (sym c.queue.ensures) ∙ sym c.is_full.ensures ∙ c.if-is_full.true in
+    inr (rw (← c.self.view_is) (full c.args.stream (length c.args.bytes.now) t open' le room))
+
+pub returns-then-len-eq0-clause-accepted : goal.returns-then-len-eq0-clause-accepted
+returns-then-len-eq0-clause-accepted c =
+    let t : Transmission = record { streams = c.self.inside.streams; flight = c.self.inside.flight; fragment_size = c.self.inside.fragment_size; max_message_size = c.self.inside.max_message_size } in
+    let open' : is_open c.args.stream t ≡ true = open-at c.self.inside.streams c.args.stream c.in-Some.place c.in-Some.ensures in
+    let le : length c.args.bytes.now ≤ t.max_message_size = omega (arith, c.if-len-self.false, c.len-len.ensures.value) in
+    let room : is_full (length c.args.bytes.now) t ≡ false = ap (λ n. is_full_of n t.flight.queue) (sym c.len-len.ensures.value) ∙ ap (is_full_of c.len-len.result) (sym c.queue.ensures) ∙ sym c.is_full.ensures ∙ c.if-is_full.false in
+    let none : write_refusal c.args.stream (length c.args.bytes.now) c.args.self.now ≡ None = rw (← c.self.view_is) (fine c.args.stream (length c.args.bytes.now) t open' le room) in
+    λ _. none
+
+pub returns-in_err-chunks-clause-refused : goal.returns-in_err-chunks-clause-refused
+returns-in_err-chunks-clause-refused c =
+    let t : Transmission = record { streams = c.self.inside.streams; flight = c.self.inside.flight; fragment_size = c.self.inside.fragment_size; max_message_size = c.self.inside.max_message_size } in
+    let open' : is_open c.args.stream t ≡ true = open-at c.self.inside.streams c.args.stream c.in-Some.place c.in-Some.ensures in
+    let le : length c.args.bytes.now ≤ t.max_message_size = omega (arith, c.if-len-self.false, c.len-len.ensures.value) in
+    let room : is_full (length c.args.bytes.now) t ≡ false = ap (λ n. is_full_of n t.flight.queue) (sym c.len-len.ensures.value) ∙ ap (is_full_of c.len-len.result) (sym c.queue.ensures) ∙ sym c.is_full.ensures ∙ c.if-is_full.false in
+    let none : write_refusal c.args.stream (length c.args.bytes.now) c.args.self.now ≡ None = rw (← c.self.view_is) (fine c.args.stream (length c.args.bytes.now) t open' le room) in
+    search rules
+
+pub push-requires-clause-message : goal.push-requires-clause-message
+push-requires-clause-message c =
+    let l = found-at c.self.inside.streams c.args.stream c.in-Some.place c.in-Some.ensures in
+    let some : 0 < length c.args.bytes.now = omega (arith, c.if-len-eq0.false, c.len-len.ensures.value) in
+    subst IsMessageOrNone (sym (c.in_ok-chunks.ensures.ok l.0 l.1)) (one-message l.0 c.args.ppi c.args.bytes.now some)
+
+pub returns-in_err-push-clause-refused : goal.returns-in_err-push-clause-refused
+returns-in_err-push-clause-refused c =
+    let t : Transmission = record { streams = c.self.inside.streams; flight = c.self.inside.flight; fragment_size = c.self.inside.fragment_size; max_message_size = c.self.inside.max_message_size } in
+    let open' : is_open c.args.stream t ≡ true = open-at c.self.inside.streams c.args.stream c.in-Some.place c.in-Some.ensures in
+    let le : length c.args.bytes.now ≤ t.max_message_size = omega (arith, c.if-len-self.false, c.len-len.ensures.value) in
+    let room : is_full (length c.args.bytes.now) t ≡ false = ap (λ n. is_full_of n t.flight.queue) (sym c.len-len.ensures.value) ∙ ap (is_full_of c.len-len.result) (sym c.queue.ensures) ∙ sym c.is_full.ensures ∙ c.if-is_full.false in
+    let none : write_refusal c.args.stream (length c.args.bytes.now) c.args.self.now ≡ None = rw (← c.self.view_is) (fine c.args.stream (length c.args.bytes.now) t open' le room) in
+    search rules
+
+pub returns-clause-accepted : goal.returns-clause-accepted
+returns-clause-accepted c =
+    let t : Transmission = record { streams = c.self.inside.streams; flight = c.self.inside.flight; fragment_size = c.self.inside.fragment_size; max_message_size = c.self.inside.max_message_size } in
+    let open' : is_open c.args.stream t ≡ true = open-at c.self.inside.streams c.args.stream c.in-Some.place c.in-Some.ensures in
+    let le : length c.args.bytes.now ≤ t.max_message_size = omega (arith, c.if-len-self.false, c.len-len.ensures.value) in
+    let room : is_full (length c.args.bytes.now) t ≡ false = ap (λ n. is_full_of n t.flight.queue) (sym c.len-len.ensures.value) ∙ ap (is_full_of c.len-len.result) (sym c.queue.ensures) ∙ sym c.is_full.ensures ∙ c.if-is_full.false in
+    let none : write_refusal c.args.stream (length c.args.bytes.now) c.args.self.now ≡ None = rw (← c.self.view_is) (fine c.args.stream (length c.args.bytes.now) t open' le room) in
+    λ _. none

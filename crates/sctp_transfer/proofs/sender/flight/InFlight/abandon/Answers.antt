@@ -1,0 +1,20 @@
+use Rattle.std.proofs.Common.{◌≡◌, true}
+use Rattle.sctp_transfer.specs.Flight.{Flight, may_send}
+use Rattle.sctp_transfer.proofs.Flights.{fresh, window, gave-up}
+use Rattle.sctp_transfer.proofs.sender.flight.InFlight.abandon.Goals as goal
+
+pub abandon-requires-clause-fresh : goal.abandon-requires-clause-fresh
+abandon-requires-clause-fresh c =
+    let f : Flight = record { queue = c.self.inside.queue; next_tsn = c.self.inside.next_tsn; acked_tsn = c.self.inside.acked_tsn } in
+    fresh f c.self.invariant
+
+pub abandon-requires-clause-window : goal.abandon-requires-clause-window
+abandon-requires-clause-window c =
+    let f : Flight = record { queue = c.self.inside.queue; next_tsn = c.self.inside.next_tsn; acked_tsn = c.self.inside.acked_tsn } in
+    window f c.self.invariant
+
+pub invariant_of-self-2 : goal.invariant_of-self-2
+invariant_of-self-2 c =
+    let f : Flight = record { queue = c.self.inside.queue; next_tsn = c.self.inside.next_tsn; acked_tsn = c.self.inside.acked_tsn } in
+    let room : may_send f ≡ true = rw (← c.self.view_is) at c.requires in
+    gave-up f _ c.abandon.new.self c.abandon.new.next_tsn c.self.invariant room c.in_ok-given_up.ensures.ok c.in_ok-given_up.ensures.raised

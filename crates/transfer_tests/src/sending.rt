@@ -1,0 +1,26 @@
+//! A caller of a sender.
+
+ghost use Rattle.std.specs.Prelude.{◌≡◌, None, Some, OnErr, OnOk, IfErr};
+ghost use Rattle.sctp_chunks.specs.SelectiveAck.{sack_of};
+ghost use Rattle.sctp_transfer.specs.declared.sender.refusal.SenderRefusal.{SenderRefusal};
+ghost use Rattle.sctp_transfer.specs.declared.sender.refusal.SenderRefusal.TheVariants.{OutOfMemory};
+ghost use Rattle.sctp_transfer.specs.Flight.{sack_refusal};
+ghost use Rattle.sctp_transfer.specs.Sender.{after_acked};
+
+use sctp_chunks::chunk::chunk_selective_ack::ChunkSelectiveAck;
+use sctp_transfer::sender::Sender;
+use sctp_transfer::sender::refusal::SenderRefusal;
+
+/// Gives a SACK to a sender. One that claims what can't be is dropped, and nothing changes. Fails only where memory ran out.
+pub fn take_sack(sender: &mut Sender, sack: &ChunkSelectiveAck) -> Result<(), SenderRefusal>
+    ensures taken { sack_refusal (sack_of sack.now) sender.old.flight ≡ None → OnOk result (sender.new ≡ after_acked (sack_of sack.now) sender.old) }
+    ensures forged { (e : SenderRefusal) → sack_refusal (sack_of sack.now) sender.old.flight ≡ Some e → sender.new ≡ sender.old }
+    ensures err { OnErr result (sender.new ≡ sender.old) }
+    ensures memory { IfErr result (λ e. e ≡ OutOfMemory) }
+{
+    match sender.acked(sack) {
+        Ok(_) => Ok(()),
+        Err(SenderRefusal::OutOfMemory) => Err(SenderRefusal::OutOfMemory),
+        Err(_) => Ok(()),
+    }
+}
