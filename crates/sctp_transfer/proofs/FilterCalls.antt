@@ -52,9 +52,6 @@ module _ (c t : ℕ) (q : Payload) (lt : c < 2 ^ 32) (small : t < 2 ^ 32) (marks
   pub no-window : has_come t (filter_in c q) ≡ true → IsTrue (Window.is_new q.chunks t c) → IsWindow c q.chunks t
   no-window come new = absurd (not_both (sym (ap not come) ∙ sym (new-is q.chunks t c) ∙ new))
 
-  pub repeated-is : has_come t (filter_in c q) ≡ true → Window.is_new q.chunks t c ≡ false
-  repeated-is come = new-is q.chunks t c ∙ ap not come
-
   module _ (fresh : has_come t (filter_in c q) ≡ false) (near : is_opposite t (filter_in c q) ≡ false) where
     pub is-new : Window.is_new q.chunks t c ≡ true
     is-new = new-is q.chunks t c ∙ ap not fresh

@@ -1,17 +1,16 @@
 -- TSNs as marks in a queue.
-use Rattle.std.proofs.Common.{◌≡◌, ℕ, zero, suc, ◌<◌, ◌^◌, Bool, true, false, List, [], ◌∷◌, length, map, Some, None, refl, ap, sym, ◌∙◌, arith}
+use Rattle.std.proofs.Common.{◌≡◌, ℕ, zero, suc, ◌<◌, ◌^◌, Bool, true, false, List, [], ◌∷◌, length, map, Some, refl, ap, sym, ◌∙◌, arith}
 use Rattle.std.specs.Prelude.{if◌then◌else◌, ◌==◌, ◌&&◌, ◌||◌, not, find, is_some}
 use Rattle.std.specs.List.{list_any, All}
 use Rattle.std.proofs.lemmas.List.Sums.{sum_by-cons}
-use Rattle.sctp_lists.specs.Lists.{inserted, those, advanced, Seen}
+use Rattle.sctp_lists.specs.Lists.{inserted, those}
 use Rattle.sctp_lists.specs.Serial.{distance, comes_before, at_or_before}
-use Rattle.sctp_lists.proofs.Cases.{same-is}
 use Rattle.sctp_chunks.specs.declared.chunk.chunk_payload_data.ChunkPayloadData.{ChunkPayloadData}
 use Rattle.sctp_serial.specs.DataChunks.{has_tsn, chunk_before, bytes_of}
 use Rattle.sctp_serial.specs.Window
 use Rattle.sctp_serial.specs.Window.{IsWithinHalf, IsWindow, is_held}
-use Rattle.sctp_outbound.specs.payload_queue.PayloadQueue.{front_with, without_front, past}
-use Rattle.sctp_transfer.specs.TsnFilter.{mark, tsns, rise_beyond, following_tsn}
+use Rattle.sctp_outbound.specs.payload_queue.PayloadQueue.{past}
+use Rattle.sctp_transfer.specs.TsnFilter.{mark, tsns, rise_beyond}
 use Rattle.sctp_transfer.proofs.TsnLists.{step-of, IsStep}
 
 pub tsns-mark : (ts : List ℕ) → tsns (map mark ts) ≡ ts
@@ -38,14 +37,6 @@ marks-past n (t ∷ ts) = step (not (at_or_before t n)) (marks-past n ts)
     step true ih = ap (λ cs. mark t ∷ cs) ih
     step false ih = ih
 
-pub marks-rest : (n : ℕ) (cs : List ChunkPayloadData) → cs ≡ map mark (tsns cs) → without_front n cs ≡ map mark (tsns (without_front n cs))
-marks-rest n [] e = refl
-marks-rest n (c ∷ cs) e = step (c.tsn == n) (λ t. e)
-  where
-    step : (b : Bool) → (Unit {0} → (c ∷ cs) ≡ map mark (tsns (c ∷ cs))) → (if b then cs else c ∷ cs) ≡ map mark (tsns (if b then cs else c ∷ cs))
-    step true h = let z : cs ≡ map mark (tsns cs) = cc (h tt) in z
-    step false h = h tt
-
 pub no-bytes : (ts : List ℕ) → bytes_of (map mark ts) ≡ 0
 no-bytes [] = refl
 no-bytes (t ∷ ts) = let more = sum_by-cons (λ (c : ChunkPayloadData). length c.user_data) (mark t) (map mark ts) in let rest = no-bytes ts in omega arith
@@ -67,24 +58,6 @@ new-is cs t c = ap (λ b. not b && not (at_or_before t c)) (held-any t cs) ∙ b
     both-not true false = refl
     both-not false true = refl
     both-not false false = refl
-
--- ## The front moves while the next TSN is held
-
-pub front-moves : (c : ℕ) (cs : List ChunkPayloadData) (x : ChunkPayloadData) → front_with (following_tsn c) cs ≡ Some x → advanced c (tsns cs) ≡ advanced (following_tsn c) (tsns (without_front (following_tsn c) cs))
-front-moves c [] x e = cc
-front-moves c (y ∷ cs) x e = step (y.tsn == following_tsn c) refl e
-  where
-    step : (b : Bool) → (y.tsn == following_tsn c) ≡ b → (if b then Some y else None) ≡ Some x → (if b then advanced y.tsn (tsns cs) else (let s : Seen = record { cum = c; held = y.tsn ∷ tsns cs } in s)) ≡ advanced (following_tsn c) (tsns (if b then cs else y ∷ cs))
-    step true h e = ap (λ t. advanced t (tsns cs)) (same-is y.tsn (following_tsn c) h)
-    step false h e = cc
-
-pub front-stays : (c : ℕ) (cs : List ChunkPayloadData) → front_with (following_tsn c) cs ≡ None → advanced c (tsns cs) ≡ record { cum = c; held = tsns cs }
-front-stays c [] e = refl
-front-stays c (y ∷ cs) e = step (y.tsn == following_tsn c) e
-  where
-    step : (b : Bool) → (if b then Some y else None) ≡ None → (if b then advanced y.tsn (tsns cs) else (let s : Seen = record { cum = c; held = y.tsn ∷ tsns cs } in s)) ≡ (let s : Seen = record { cum = c; held = y.tsn ∷ tsns cs } in s)
-    step true e = cc
-    step false e = refl
 
 -- ## Windows
 

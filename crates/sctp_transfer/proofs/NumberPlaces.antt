@@ -1,7 +1,6 @@
 -- An index that has the place of each number.
 use Rattle.std.proofs.Common.{◌≡◌, ℕ, ◌+◌, ◌<◌, Bool, true, false, List, [], ◌∷◌, ◌++◌, length, length-append, Option, Some, None, refl, ap, sym, ◌∙◌, arith, inl, inr, cond, is_eq}
-use Rattle.std.specs.BTreeMap.{BTreeMap, get, is_at, Updates}
-use Rattle.std.specs.Map.{lookup}
+use Rattle.std.specs.BTreeMap.{BTreeMap, get, Updates}
 use Rattle.std.specs.Ordering.{nat_cmp}
 use Rattle.std.specs.declared.cmp.Ordering.TheVariants.{Less, Equal, Greater}
 use Rattle.std.specs.Prelude.{MatchOption, ◌==◌, ◌↔◌, nat_lt, slice_get}
@@ -24,13 +23,6 @@ place-of places ns indexed s (Some k) e = record {
   here = (indexed s k).0 (sym e);
   only = λ j here. one (sym ((indexed s j).1 here) ∙ sym e);
 }
-
-pub indexed-none : (places : BTreeMap ℕ ℕ) → places.entries ≡ [] → IsIndexed places []
-indexed-none places e = λ s k. subst (λ es. (lookup (is_at (nat_cmp s)) es ≡ Some k) ↔ (slice_get [] k ≡ Some s)) (sym e) (λ h. cc, λ h. cc)
-
--- the entries decide
-pub indexed-same : (places then' : BTreeMap ℕ ℕ) (ns : List ℕ) → then'.entries ≡ places.entries → IsIndexed places ns → IsIndexed then' ns
-indexed-same places then' ns e i = λ s k. subst (λ es. (lookup (is_at (nat_cmp s)) es ≡ Some k) ↔ (slice_get ns k ≡ Some s)) (sym e) (i s k)
 
 apart : (k q : ℕ) → (k ≡ q → ⊥) → is_eq (nat_cmp k q) ≡ false
 apart k q ne = by (nat_lt k q) (k == q) (ne_eqb k q ne)
