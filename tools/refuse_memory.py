@@ -19,7 +19,7 @@ import subprocess
 import sys
 import tempfile
 
-FIRST_TRY = 384
+FIRST_TRY = 768
 REFUSED = re.compile(r"same, (?:event (\d+) refused|refused beside the link)\Z")
 
 

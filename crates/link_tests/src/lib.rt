@@ -4,6 +4,8 @@
 #[cfg(test)]
 mod event_tests;
 #[cfg(test)]
+mod limit_tests;
+#[cfg(test)]
 mod sack_tests;
 #[cfg(test)]
 mod stream_tests;

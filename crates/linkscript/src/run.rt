@@ -51,14 +51,14 @@ fn run_text<C: Checksum + Drop, W: Write>(
     let text = text.strip_suffix('\n').unwrap_or(text);
     let mut lines = text.split('\n');
     let first = lines.next().unwrap_or("");
-    let Some(mut link) = read_link(alloc, checksum, first) else {
+    let Some(mut play) = read_link(alloc, checksum, first) else {
         return bad_line(output, 1);
     };
     let mut number = 1u64;
     for line in lines {
         number = number.saturating_add(1);
         match read_event(alloc, line) {
-            Ok(event) => print_reply(alloc, output, &link.step(event))?,
+            Ok(event) => print_reply(alloc, output, &play.link.step(event), play.counts)?,
             Err(LineFault::Unreadable) => return bad_line(output, number),
             Err(LineFault::Memory) => return Err(RunFault::Memory),
         }

@@ -21,8 +21,16 @@ pub enum LineFault {
 
 const MAX_FRAGMENT_SIZE: u32 = 65_519;
 
-/// Reads `link FIRST SIZE MAX`.
-pub fn read_link<C: Checksum + Drop>(alloc: Global, checksum: C, line: &str) -> Option<Link<C>> {
+/// A link, and whether the reply to a send tells how many chunks its datagram has.
+#[derive(Drop)]
+pub struct Play<C: Checksum + Drop> {
+    pub link: Link<C>,
+    pub counts: bool,
+}
+
+/// Reads `link FIRST SIZE MAX` or `link FIRST SIZE MAX LIMIT`; with a limit, also of 0, the replies to sends tell
+/// how many chunks their datagrams have.
+pub fn read_link<C: Checksum + Drop>(alloc: Global, checksum: C, line: &str) -> Option<Play<C>> {
     let mut rest = Some(line);
     if take_word(&mut rest)? != "link" {
         return None;
@@ -30,10 +38,20 @@ pub fn read_link<C: Checksum + Drop>(alloc: Global, checksum: C, line: &str) -> 
     let first_tsn = take_u32(&mut rest)?;
     let fragment_size = take_u32(&mut rest)?;
     let max_message_size = take_u32(&mut rest)?;
+    let counts = rest.is_some();
+    let limit = if counts { take_u32(&mut rest)? } else { 0 };
     if rest.is_some() || fragment_size < 1 || fragment_size > MAX_FRAGMENT_SIZE {
         return None;
     }
-    Some(Link::new(alloc, first_tsn, fragment_size, max_message_size, checksum))
+    let link = Link::with_limit(
+        alloc,
+        first_tsn,
+        fragment_size,
+        max_message_size,
+        limit,
+        checksum,
+    );
+    Some(Play { link, counts })
 }
 
 /// Reads an event.
@@ -200,11 +218,12 @@ fn take_u64(rest: &mut Option<&str>) -> Option<u64> {
     take_number(rest, u64::MAX)
 }
 
-/// Prints the line of a reply.
+/// Prints the line of a reply; of a send with its count of chunks, where `counts` says so.
 pub fn print_reply<W: Write>(
     alloc: Global,
     output: &mut W,
     reply: &Result<Reply, LinkRefusal>,
+    counts: bool,
 ) -> Result<(), RunFault> {
     let written = match reply {
         Ok(
@@ -214,6 +233,14 @@ pub fn print_reply<W: Write>(
                 chunks,
             },
         ) => return print_message(alloc, output, *stream, *ppi, chunks),
+        Ok(
+            Reply::Sent {
+                datagram,
+                tsn,
+                ssn,
+                count,
+            },
+        ) if counts => write!(output, "sent {datagram} {tsn} {ssn} {count}\n"),
         Ok(reply) => print_numbers(output, reply),
         Err(refusal) => write!(output, "refused L{}\n", refusal_number(*refusal)),
     };

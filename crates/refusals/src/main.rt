@@ -12,24 +12,48 @@ mod script;
 mod told;
 mod turn;
 
-use crate::script::EVENTS;
+use crate::script::{ALL_EVENTS, EVENTS};
 use crate::turn::{Fault, Refused, Zero, play};
 use sctp_link::link::Link;
 use std::alloc::Global;
 use std::io::{self, Read, Write};
 use std::process::ExitCode;
 
-/// Plays the whole script. Tells where memory was refused; else what differed, and in which event.
+/// Plays the whole script, its second part with links of several chunks a datagram. Tells where memory was refused;
+/// else what differed, and in which event.
 fn play_all(alloc: Global) -> Result<Refused, (usize, Fault)> {
+    let mut refused = Refused::Nowhere;
     let mut link = Link::new(alloc, 4_294_967_290, 3, 100, Zero);
     let mut twin = Link::new(alloc, 4_294_967_290, 3, 100, Zero);
-    let mut refused = Refused::Nowhere;
-    for turn in 0..EVENTS {
-        if let Err(what) = play(alloc, &mut link, &mut twin, turn, &mut refused) {
+    play_from(alloc, &mut link, &mut twin, 0, EVENTS, &mut refused)?;
+    let mut link = Link::with_limit(alloc, 4_294_967_290, 3, 100, 60, Zero);
+    let mut twin = Link::with_limit(alloc, 4_294_967_290, 3, 100, 60, Zero);
+    play_from(
+        alloc,
+        &mut link,
+        &mut twin,
+        EVENTS,
+        ALL_EVENTS,
+        &mut refused,
+    )?;
+    Ok(refused)
+}
+
+/// Plays the events from one on to another, and tells what differed, and in which.
+fn play_from(
+    alloc: Global,
+    link: &mut Link<Zero>,
+    twin: &mut Link<Zero>,
+    first: usize,
+    end: usize,
+    refused: &mut Refused,
+) -> Result<(), (usize, Fault)> {
+    for turn in first..end {
+        if let Err(what) = play(alloc, link, twin, turn, refused) {
             return Err((turn, what));
         }
     }
-    Ok(refused)
+    Ok(())
 }
 
 /// The number on standard input, 0 where there is none.

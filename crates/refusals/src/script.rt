@@ -5,8 +5,11 @@ use sctp_chunks::chunk::chunk_payload_data::{PayloadProtocolIdentifier, Reliabil
 use sctp_link::event::Event;
 use std::alloc::{AllocError, Global};
 
-/// How many events there are.
+/// How many events there are for links of one chunk a datagram.
 pub const EVENTS: usize = 63;
+
+/// How many there are with those behind them, for links of several chunks a datagram.
+pub const ALL_EVENTS: usize = 110;
 
 /// An event of the script.
 pub fn event(alloc: Global, turn: usize) -> Result<Event, AllocError> {
@@ -14,8 +17,11 @@ pub fn event(alloc: Global, turn: usize) -> Result<Event, AllocError> {
         24 => skip(alloc, 4_294_967_294, &[0, 3]),
         37 => skip(alloc, 0, &[4]),
         57 => skip(alloc, 10, &[5, 6]),
+        92 => skip(alloc, 2, &[2]),
         0..32 => Ok(on_one_stream(turn)),
-        _ => Ok(on_another_stream(turn)),
+        32..63 => Ok(on_another_stream(turn)),
+        63..81 => Ok(two_chunks_at_once(turn)),
+        _ => Ok(chunks_given_up(turn)),
     }
 }
 
@@ -108,5 +114,60 @@ fn on_another_stream(turn: usize) -> Event {
         60 => Event::Read { stream: 2 },
         61 => Event::Ack { credit: 0 },
         _ => Event::Acked { k: 21 },
+    }
+}
+
+/// Two messages of two fragments leave in a datagram each; one chunk leaves again and comes before the two, which come
+/// twice.
+fn two_chunks_at_once(turn: usize) -> Event {
+    match turn {
+        63 => Event::Open { stream: 1 },
+        64 => mode(1, false, Some(5)),
+        65 => write(1, b"abcdef"),
+        66 => mode(1, true, None),
+        67 => write(1, b"xxxyy"),
+        68 => Event::Start { now: 0 },
+        69..72 => Event::Send { now: 0 },
+        72 => Event::Arrive { k: 1 },
+        73 => Event::Resend { tsn: 4_294_967_290 },
+        74 => Event::Arrive { k: 2 },
+        75..77 => Event::Arrive { k: 0 },
+        77 => Event::Ack { credit: 0 },
+        78 => Event::Acked { k: 3 },
+        _ => Event::Read { stream: 1 },
+    }
+}
+
+/// Of a message two chunks are missing and two come behind the gap; it is given up and skipped. Others expire, end
+/// half-sent or are late.
+fn chunks_given_up(turn: usize) -> Event {
+    match turn {
+        81 => mode(1, false, None),
+        82 => write(1, b"abcdefghijklmnopqrstuvwxyz"),
+        83..85 => Event::Send { now: 1_000_000 },
+        85 => Event::Arrive { k: 5 },
+        86 => Event::Abandon { tsn: 4_294_967_294 },
+        87 => write(1, b"yz"),
+        88 => Event::Send { now: 1_000_000 },
+        89 => Event::Arrive { k: 6 },
+        90 => Event::Ack { credit: 0 },
+        91 => Event::Acked { k: 7 },
+        93 => Event::Arrive { k: 8 },
+        94 => Event::Read { stream: 1 },
+        95 => Event::Ack { credit: 0 },
+        96 => Event::Acked { k: 9 },
+        97 => mode(1, false, Some(1)),
+        98 => write(1, b"ab"),
+        99 => write(1, b"cdefghijkl"),
+        100 => Event::Start { now: 10_000_000 },
+        101 => Event::Expire { now: 11_000_000 },
+        102 => Event::Send { now: 11_000_000 },
+        103 => Event::Tail { now: 11_000_000 },
+        104 => write(1, b"mnopqrstu"),
+        105 => Event::Send { now: 12_000_000 },
+        106 => Event::Late { now: 13_000_000 },
+        107 => Event::Ack { credit: 0 },
+        108 => Event::Acked { k: 12 },
+        _ => Event::Read { stream: 1 },
     }
 }

@@ -6,6 +6,8 @@ mod checksum;
 #[cfg(test)]
 mod events;
 #[cfg(test)]
+mod limits;
+#[cfg(test)]
 mod packets;
 #[cfg(test)]
 mod scripts;
