@@ -7,25 +7,46 @@ use sctp_transfer::sender::refusal::SenderRefusal;
 use std::alloc::Global;
 use std::test::Fail;
 
+// Both hosts write and send three times in turn; the second fragment of each is lost.
+fn exchange(alloc: Global, a: &mut Host, b: &mut Host) -> bool {
+    let mut well = a.writes(alloc, b"abcdefgh") && b.writes(alloc, b"12345678");
+    for turn in 0..3 {
+        well = well && sends(alloc, a, b, turn == 1) && sends(alloc, b, a, turn == 1);
+    }
+    well && acknowledges(alloc, b, a) && acknowledges(alloc, a, b)
+}
+
+// What was lost is sent again, and both messages are read.
+fn make_good(alloc: Global, a: &mut Host, b: &mut Host) -> bool {
+    sends_again(alloc, a, b)
+        && sends_again(alloc, b, a)
+        && acknowledges(alloc, b, a)
+        && acknowledges(alloc, a, b)
+        && reads(&mut b.receiver, b"abcdefgh")
+        && reads(&mut a.receiver, b"12345678")
+}
+
+fn is_lost(a: &Host, b: &Host) -> bool {
+    a.sender.buffered_amount(1) == Some(3)
+        && !a.receiver.is_readable(1)
+        && !b.receiver.is_readable(1)
+}
+
+fn is_done(a: &Host) -> bool {
+    a.sender.buffered_amount(1) == Some(0) && a.sender.outbound().inflight_len() == 0
+}
+
+fn both_are_read(alloc: Global, a: &mut Host, b: &mut Host) -> bool {
+    exchange(alloc, a, b) && is_lost(a, b) && make_good(alloc, a, b) && is_done(a)
+}
+
 /// Both hosts write, and send in turn; of each message the second fragment is lost, then sent again.
 #[test]
 fn both_directions_with_loss(rt: HostRuntime) -> Result<(), Fail> {
     let alloc = rt.alloc();
     let mut a = Host::new(alloc, u32::MAX, 7).ok_or("refused")?;
     let mut b = Host::new(alloc, 7, u32::MAX).ok_or("refused")?;
-    assert!(rt; a.writes(alloc, b"abcdefgh") && b.writes(alloc, b"12345678"));
-    for turn in 0..3 {
-        assert!(rt; sends(alloc, &mut a, &mut b, turn == 1));
-        assert!(rt; sends(alloc, &mut b, &mut a, turn == 1));
-    }
-    assert!(rt; acknowledges(alloc, &mut b, &mut a) && acknowledges(alloc, &mut a, &mut b));
-    assert_eq!(rt; a.sender.buffered_amount(1), Some(3));
-    assert!(rt; !a.receiver.is_readable(1) && !b.receiver.is_readable(1));
-    assert!(rt; sends_again(alloc, &mut a, &mut b) && sends_again(alloc, &mut b, &mut a));
-    assert!(rt; acknowledges(alloc, &mut b, &mut a) && acknowledges(alloc, &mut a, &mut b));
-    assert!(rt; reads(&mut b.receiver, b"abcdefgh") && reads(&mut a.receiver, b"12345678"));
-    assert_eq!(rt; a.sender.buffered_amount(1), Some(0));
-    assert_eq!(rt; a.sender.outbound().inflight_len(), 0);
+    assert!(rt; both_are_read(alloc, &mut a, &mut b));
     Ok(())
 }
 
@@ -50,36 +71,47 @@ fn refusal(
     host.sender.acked(&sack).err()
 }
 
-/// TSNs 0, 1 and 2 are in flight. What a peer may claim beside is refused by its name, and nothing changes.
+// What a peer claims while TSNs 0, 1 and 2 are in flight: a cumulative TSN and a block; the refusal that is due, and the
+// bytes that the stream still has then.
+const CLAIMS: [(u32, u16, u16, Option<SenderRefusal>, usize); 6] = [
+    (3, 1, 0, Some(SenderRefusal::InflightQueueTsnPop), 8),
+    (
+        (1 << 31) - 1,
+        1,
+        0,
+        Some(SenderRefusal::InflightQueueTsnPop),
+        8,
+    ),
+    (0, 2, 3, Some(SenderRefusal::TsnRequestNotExist), 8),
+    (0, 0, 1, Some(SenderRefusal::TsnRequestNotExist), 8),
+    (0, 2, 2, None, 3),
+    (u32::MAX, 1, 3, None, 3),
+];
+
+fn claims_are_judged(alloc: Global, host: &mut Host) -> bool {
+    let mut well = true;
+    for (tsn, start, end, due, left) in CLAIMS {
+        well = well && refusal(alloc, host, tsn, start, end) == due;
+        well = well && host.sender.buffered_amount(1) == Some(left);
+    }
+    well
+}
+
+fn three_in_flight(alloc: Global, a: &mut Host, b: &mut Host) -> bool {
+    let mut well = a.writes(alloc, b"abcdefgh");
+    for _ in 0..3 {
+        well = well && sends(alloc, a, b, true);
+    }
+    well
+}
+
+/// What a peer may claim beside what is in flight is refused by its name, and nothing changes.
 #[test]
 fn forged_sacks(rt: HostRuntime) -> Result<(), Fail> {
     let alloc = rt.alloc();
     let mut a = Host::new(alloc, 0, 0).ok_or("refused")?;
     let mut b = Host::new(alloc, 0, 0).ok_or("refused")?;
-    assert!(rt; a.writes(alloc, b"abcdefgh"));
-    for _ in 0..3 {
-        assert!(rt; sends(alloc, &mut a, &mut b, true));
-    }
-    assert_eq!(rt;
-        refusal(alloc, &mut a, 3, 1, 0),
-        Some(SenderRefusal::InflightQueueTsnPop)
-    );
-    assert_eq!(rt;
-        refusal(alloc, &mut a, (1 << 31) - 1, 1, 0),
-        Some(SenderRefusal::InflightQueueTsnPop)
-    );
-    assert_eq!(rt;
-        refusal(alloc, &mut a, 0, 2, 3),
-        Some(SenderRefusal::TsnRequestNotExist)
-    );
-    assert_eq!(rt;
-        refusal(alloc, &mut a, 0, 0, 1),
-        Some(SenderRefusal::TsnRequestNotExist)
-    );
-    assert_eq!(rt; a.sender.buffered_amount(1), Some(8));
-    assert_eq!(rt; refusal(alloc, &mut a, 0, 2, 2), None);
-    assert_eq!(rt; a.sender.buffered_amount(1), Some(3));
-    assert_eq!(rt; refusal(alloc, &mut a, u32::MAX, 1, 3), None);
-    assert_eq!(rt; a.sender.buffered_amount(1), Some(3));
+    assert!(rt; three_in_flight(alloc, &mut a, &mut b));
+    assert!(rt; claims_are_judged(alloc, &mut a));
     Ok(())
 }
