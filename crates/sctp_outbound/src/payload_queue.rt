@@ -18,12 +18,12 @@ mod window;
 
 use self::held::{Held, Mark};
 use self::window::{are_within_half, span_one_window};
-use sctp_serial::serial::distance;
-use sctp_serial::turns::Turns;
 use sctp_base::error::Result;
 use sctp_base::util::{sna32lt, sna32lte};
 use sctp_chunks::chunk::chunk_payload_data::ChunkPayloadData;
 use sctp_chunks::chunk::chunk_selective_ack::GapAckBlock;
+use sctp_serial::serial::distance;
+use sctp_serial::turns::Turns;
 use std::alloc::Global;
 use std::marker::Model;
 use std::mem;

@@ -1,8 +1,11 @@
 //! The queues of an association: what waits, what is in flight, what came.
 #![tactic(auto)]
 
-pub use sctp_outbound::{OutboundQueue, PayloadQueue, PendingQueue};
-pub use sctp_outbound::{held, laws, outbound_queue, payload_queue, pending_queue};
-pub use sctp_reassembly::reassembly_queue;
-pub use sctp_reassembly::{Chunk, Chunks, Fragments, ReassemblyQueue, chunks, loose};
+pub use sctp_outbound::{
+    OutboundQueue, PayloadQueue, PendingQueue, held, laws, outbound_queue, payload_queue,
+    pending_queue,
+};
+pub use sctp_reassembly::{
+    Chunk, Chunks, Fragments, ReassemblyQueue, chunks, loose, reassembly_queue,
+};
 pub use sctp_serial::{Turns, turns};

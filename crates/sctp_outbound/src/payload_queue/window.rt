@@ -4,9 +4,9 @@ ghost use Rattle.std.specs.Prelude.{◌≡◌, ◌^◌, ◌<◌, All, true};
 ghost use Rattle.sctp_serial.specs.Window.{IsSerial, IsWithinHalf, SpansOneWindow, first_among};
 
 use crate::payload_queue::held::Held;
+use sctp_base::util::sna32lt;
 use sctp_serial::serial::distance;
 use sctp_serial::turns::Turns;
-use sctp_base::util::sna32lt;
 
 // Whether a TSN lies at distance 1 to 2^31 after the base.
 fn is_within_half(base: u32, tsn: u32) -> bool

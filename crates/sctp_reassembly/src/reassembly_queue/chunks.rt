@@ -13,12 +13,12 @@ ghost use Rattle.sctp_serial.specs.DataChunks.{bytes_of, has_tsn, chunk_before};
 ghost use Rattle.sctp_serial.specs.Ascending.{IsOrder, IsInsertion};
 ghost use Rattle.sctp_base.specs.declared.error.Error.TheVariants.{ErrOutOfMemory, ErrShortBuffer};
 
-use sctp_serial::serial::{Insertion, distance};
-use sctp_serial::turns::Turns;
 use bytes::{Bytes, BytesMut};
 use sctp_base::error::{Error, Result};
 use sctp_base::util::sna32lt;
 use sctp_chunks::chunk::chunk_payload_data::{ChunkPayloadData, PayloadProtocolIdentifier};
+use sctp_serial::serial::{Insertion, distance};
+use sctp_serial::turns::Turns;
 use std::alloc::Global;
 use std::marker::Model;
 

@@ -11,10 +11,10 @@ ghost use Rattle.sctp_reassembly.specs.reassembly_queue.Loose.{IsOrderMark};
 ghost use Rattle.sctp_reassembly.specs.reassembly_queue.Fragments.{next_tsn};
 ghost use Rattle.sctp_serial.specs.Window.{IsSerial};
 
-use sctp_serial::turns::Turns;
 use sctp_base::error::Error;
 use sctp_base::util::sna32lt;
 use sctp_chunks::chunk::chunk_payload_data::ChunkPayloadData;
+use sctp_serial::turns::Turns;
 use std::alloc::{AllocError, Global};
 use std::collections::VecDeque;
 use std::marker::Model;

@@ -11,8 +11,8 @@ ghost use Rattle.sctp_serial.specs.Turns.{IsWithinDigits};
 ghost use Rattle.sctp_serial.specs.Window.{IsSerial};
 
 use crate::reassembly_queue::loose::Loose;
-use sctp_serial::turns::Turns;
 use sctp_base::util::{sna32lt, sna32lte};
+use sctp_serial::turns::Turns;
 
 /// Where a fragment of this number is put in: before the first that it comes before, or at the end.
 ///

@@ -14,10 +14,10 @@ ghost use Rattle.sctp_base.specs.declared.error.Error.TheVariants.{ErrOutOfMemor
 
 use crate::reassembly_queue::chunks::Fragments;
 use crate::reassembly_queue::skips;
-use sctp_serial::serial::{Insertion, distance, upper_half};
 use sctp_base::error::Result;
 use sctp_base::util::sna16lt;
 use sctp_chunks::chunk::chunk_payload_data::ChunkPayloadData;
+use sctp_serial::serial::{Insertion, distance, upper_half};
 use std::alloc::Global;
 use std::collections::VecDeque;
 use std::marker::Model;

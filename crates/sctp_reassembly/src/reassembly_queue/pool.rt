@@ -8,9 +8,9 @@ ghost use Rattle.sctp_base.specs.declared.error.Error.TheVariants.{ErrOutOfMemor
 ghost use Rattle.sctp_reassembly.specs.reassembly_queue.Loose.{IsRunTaken, IsMark, place_among};
 
 use crate::reassembly_queue::loose::{Loose, find_run, run_around};
-use sctp_serial::turns::Turns;
 use sctp_base::error::Error;
 use sctp_chunks::chunk::chunk_payload_data::ChunkPayloadData;
+use sctp_serial::turns::Turns;
 use std::alloc::{AllocError, Global};
 use std::marker::Model;
 

@@ -7,8 +7,8 @@ ghost use Rattle.sctp_reassembly.specs.reassembly_queue.Sizes.{bytes_down, bytes
 
 use crate::reassembly_queue::loose::Loose;
 use crate::reassembly_queue::loose_places::{place_after, place_before};
-use sctp_serial::turns::Turns;
 use sctp_chunks::chunk::chunk_payload_data::ChunkPayloadData;
+use sctp_serial::turns::Turns;
 
 /// The bytes of the loose neighbours that come before the chunk in its message, seen from where the chunk goes.
 /// Precondition: `place` is that.
