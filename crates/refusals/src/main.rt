@@ -23,20 +23,23 @@ use std::process::ExitCode;
 /// else what differed, and in which event.
 fn play_all(alloc: Global) -> Result<Refused, (usize, Fault)> {
     let mut refused = Refused::Nowhere;
+    play_single(alloc, &mut refused)?;
+    play_several(alloc, &mut refused)?;
+    Ok(refused)
+}
+
+/// Plays the part with one chunk a datagram.
+fn play_single(alloc: Global, refused: &mut Refused) -> Result<(), (usize, Fault)> {
     let mut link = Link::new(alloc, 4_294_967_290, 3, 100, Zero);
     let mut twin = Link::new(alloc, 4_294_967_290, 3, 100, Zero);
-    play_from(alloc, &mut link, &mut twin, 0, EVENTS, &mut refused)?;
+    play_from(alloc, &mut link, &mut twin, 0, EVENTS, refused)
+}
+
+/// Plays the part with several.
+fn play_several(alloc: Global, refused: &mut Refused) -> Result<(), (usize, Fault)> {
     let mut link = Link::with_limit(alloc, 4_294_967_290, 3, 100, 60, Zero);
     let mut twin = Link::with_limit(alloc, 4_294_967_290, 3, 100, 60, Zero);
-    play_from(
-        alloc,
-        &mut link,
-        &mut twin,
-        EVENTS,
-        ALL_EVENTS,
-        &mut refused,
-    )?;
-    Ok(refused)
+    play_from(alloc, &mut link, &mut twin, EVENTS, ALL_EVENTS, refused)
 }
 
 /// Plays the events from one on to another, and tells what differed, and in which.
