@@ -4,7 +4,6 @@ use Rattle.std.specs.List.{list_any}
 use Rattle.std.specs.BTreeMap.{BTreeMap}
 use Rattle.sctp_lists.specs.Kept.{passing}
 use Rattle.sctp_chunks.specs.declared.chunk.chunk_payload_data.ChunkPayloadData.{ChunkPayloadData}
-use Rattle.sctp_outbound.specs.payload_queue.PayloadQueue.{Payload}
 use Rattle.sctp_reassembly.specs.reassembly_queue.ReassemblyQueue.{ReassemblyState, is_too_large}
 use Rattle.sctp_model.specs.World.{World, StreamRecord, Data}
 use Rattle.sctp_model.specs.Messages.{message_at, message_of, stream_at, index_of, is_ordered_on}
@@ -14,10 +13,11 @@ use Rattle.sctp_model.specs.Contents.{chunk_at}
 use Rattle.sctp_model.specs.Queues.{filter_of}
 use Rattle.sctp_model.specs.Sound.{ComesSound}
 use Rattle.sctp_ties.specs.Holds.{reassembly_of}
-use Rattle.sctp_ties.specs.Tied.{filter_held}
+use Rattle.sctp_transfer.specs.TsnFilter.{Filter}
 use Rattle.sctp_link.specs.declared.open_stream.OpenStream.{OpenStream}
 use Rattle.sctp_link.specs.declared.record.Slot.{Slot}
 use Rattle.sctp_link.specs.declared.link.arriving.Saved.{Saved}
+use Rattle.sctp_link.specs.Linked.{filter_shown}
 use Rattle.sctp_link.specs.Records.{slot_record, stream_record}
 use Rattle.sctp_link.specs.Places.{IsIndexed, stream_numbers}
 
@@ -28,11 +28,11 @@ pub record HoldsQueue (w : World) (l : OpenStream) : Type 0 where
   pub largest : l.state.reassembly_queue.max_message_size ≡ w.setup.largest
 
 -- what a link keeps for its receiver, against the record
-pub record IsReceiver (w : World) (open_streams : List OpenStream) (slots : List Slot) (filter : Payload) (cumulative : ℕ) (duplicates : List ℕ) : Type 0 where
+pub record IsReceiver (w : World) (open_streams : List OpenStream) (slots : List Slot) (filter : Filter) (duplicates : List ℕ) : Type 0 where
   pub streams_are : w.streams ≡ map stream_record open_streams
   pub slots_are : w.slots ≡ map slot_record slots
   pub duplicates_are : w.duplicates ≡ duplicates
-  pub filter_is : filter_held cumulative filter ≡ filter_of w
+  pub filter_is : filter_shown filter ≡ filter_of w
   pub queues : (k : ℕ) (d : OpenStream) → k < length open_streams → HoldsQueue w (slice_index_or open_streams k d)
   -- no two streams have one number
   pub places : BTreeMap ℕ ℕ

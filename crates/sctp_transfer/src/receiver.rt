@@ -8,7 +8,7 @@ pub mod arrival;
 mod inbound_streams;
 pub mod refusal;
 pub mod sack_out;
-mod tsn_filter;
+pub mod tsn_filter;
 
 use self::arrival::{Arrival, Forwarded};
 use self::inbound_streams::InboundStreams;

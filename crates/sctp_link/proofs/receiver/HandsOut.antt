@@ -73,6 +73,14 @@ front-held : (w : World) (s : ℕ) (l : List ℕ) (k : ℕ) (rest : List ℕ) �
 front-held w s [] k rest f e = cc
 front-held w s (j ∷ r) k rest f e = let z : j ≡ k = cc in ap (is_held w s) (sym z) ∙ f.passes
 
+-- what is handed out has the payload type of its message
+pub ppi-handed : (w : World) (n : ℕ) → (handed_out w n).ppi ≡ (message_at w n).ppi
+ppi-handed w n = by (message_at w n).ordered
+  where
+    by : (b : Bool) → (if b then set_of w n else whole_set_of w n).ppi ≡ (message_at w n).ppi
+    by true = refl
+    by false = refl
+
 -- what is read, by its kind
 pub record HandsOut (w : World) (s n : ℕ) : Type 0 where
   pub begins : Begins w n (handed_out w n).chunks
@@ -169,7 +177,7 @@ module _ (sum : List ℕ → ℕ) (x : State) (l : IsLinked sum x) (s at : ℕ) 
     linked-same : IsLinked sum (record x { world = record w { streams = map stream_record (slice_set x.open_streams at z) }; open_streams = slice_set x.open_streams at z })
     linked-same =
         let i = l.open_streams at d lt in
-        linked-then sum x l (E.Read s) none frame x.progress (slice_set x.open_streams at z) x.cumulative_tsn x.filter (record w { streams = map stream_record (slice_set x.open_streams at z) }) refl (l.filter ∙ sym filter-stays)
+        linked-then sum x l (E.Read s) none frame x.progress (slice_set x.open_streams at z) x.filter (record w { streams = map stream_record (slice_set x.open_streams at z) }) refl (l.filter ∙ sym filter-stays)
         (each-read z (stream-read z refl refl refl refl refl refl refl (i.next ∙ ap (next_of w) (id-at d) ∙ ap (λ u. next_of u s) (sym still)) (i.stats ∙ ap (λ t. stats_of (counters_on w t)) (id-at d) ∙ ap stats_of (sym (counters-nothing w s s nothing))))
         (λ t ne. ap (λ u. next_of u t) still) (λ t ne. counters-nothing w s t nothing))
         (indexed-set x.places x.open_streams at z d l.indexed refl)
@@ -314,7 +322,7 @@ module _ (sum : List ℕ → ℕ) (x : State) (l : IsLinked sum x) (s at : ℕ) 
 
       pub linked-read : (progress : List (ℕ × ℕ)) → progress ≡ x.progress → IsLinked sum (record x { world = record w { streams = map stream_record (slice_set x.open_streams at z); messages = messages }; progress = progress; open_streams = slice_set x.open_streams at z })
       linked-read progress same =
-          linked-then sum x l (E.Read s) none frame progress (slice_set x.open_streams at z) x.cumulative_tsn x.filter (record w { streams = map stream_record (slice_set x.open_streams at z); messages = messages }) same (l.filter ∙ sym filter-stays)
+          linked-then sum x l (E.Read s) none frame progress (slice_set x.open_streams at z) x.filter (record w { streams = map stream_record (slice_set x.open_streams at z); messages = messages }) same (l.filter ∙ sym filter-stays)
           (each-read z open_stream-is hands.other counters-other)
           (indexed-set x.places x.open_streams at z d l.indexed same-id)
           quiet world-read

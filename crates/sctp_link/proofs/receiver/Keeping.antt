@@ -3,18 +3,17 @@ use Rattle.std.proofs.Common.{◌≡◌, ℕ, ◌<◌, ◌%◌, ◌^◌, List, [
 use Rattle.std.specs.Prelude.{Result, Ok, Err, OnErr, slice_index_or}
 use Rattle.std.specs.BTreeMap.{BTreeMap}
 use Rattle.std.proofs.Math.Path.{subst}
-use Rattle.sctp_outbound.specs.payload_queue.PayloadQueue.{Payload}
 use Rattle.sctp_model.specs.World.{World}
 use Rattle.sctp_model.specs.Messages.{ordered_before}
 use Rattle.sctp_model.specs.Receiver.{next_of}
 use Rattle.sctp_ties.specs.Holds.{reassembly_of}
-use Rattle.sctp_ties.specs.Tied.{filter_held}
 use Rattle.sctp_ties.specs.Amount.{amount}
 use Rattle.sctp_ties.specs.Counts.{counters_on}
 use Rattle.sctp_ties.specs.Indexes.{begun_on}
 use Rattle.sctp_transfer.specs.declared.stream.StreamState.{StreamState}
+use Rattle.sctp_transfer.specs.TsnFilter.{Filter}
 use Rattle.sctp_link.specs.declared.open_stream.OpenStream.{OpenStream}
-use Rattle.sctp_link.specs.Linked.{State, IsLinked, IsOpenStream, stats_of}
+use Rattle.sctp_link.specs.Linked.{State, IsLinked, IsOpenStream, stats_of, filter_shown}
 use Rattle.sctp_link.specs.Places.{IsIndexed}
 use Rattle.sctp_link.specs.Records.{stream_record}
 use Rattle.sctp_link.specs.Receiving.{IsUnchanged, TouchesOnly}
@@ -49,7 +48,7 @@ module _ (sum : List ℕ → ℕ) (x : State) (l : IsLinked sum x) (ls : List Op
     stats = subst (λ (t : StreamState). t.stats ≡ stats_of (counters_on x.world t.stream_identifier)) (sym u.state) i.stats;
   }
 
-  module _ (filter : Payload) (filter_same : filter ≡ record x.filter { room = filter.room }) where
+  module _ (filter : Filter) (filter_same : filter ≡ record x.filter { room = filter.room }) where
     at-still : IsLinked sum (record x { open_streams = ls; filter = filter })
     at-still = record {
       setup = l.setup;
@@ -57,7 +56,7 @@ module _ (sum : List ℕ → ℕ) (x : State) (l : IsLinked sum x) (ls : List Op
       stands = l.stands;
       outbound = l.outbound;
       unstarted = l.unstarted;
-      filter = ap (filter_held x.cumulative_tsn) filter_same ∙ l.filter;
+      filter = ap filter_shown filter_same ∙ l.filter;
       next = l.next;
       fragments = l.fragments;
       written = l.written;
@@ -74,7 +73,5 @@ module _ (sum : List ℕ → ℕ) (x : State) (l : IsLinked sum x) (ls : List Op
     pub linked-still : (u : World) → u ≡ x.world → IsLinked sum (record x { world = u; open_streams = ls; filter = filter })
     linked-still u same = subst (λ (v : World). IsLinked sum (record x { world = v; open_streams = ls; filter = filter })) (sym same) at-still
 
-    pub refused-still : (places : BTreeMap ℕ ℕ) (cumulative : ℕ) (u : World) → places ≡ x.places → cumulative ≡ x.cumulative_tsn → u ≡ x.world → IsLinked sum (record x { world = u; open_streams = ls; places = places; cumulative_tsn = cumulative; filter = filter })
-    refused-still places cumulative u a b c =
-        subst (λ ps. IsLinked sum (record x { world = u; open_streams = ls; places = ps; cumulative_tsn = cumulative; filter = filter })) (sym a)
-        (subst (λ n. IsLinked sum (record x { world = u; open_streams = ls; cumulative_tsn = n; filter = filter })) (sym b) (linked-still u c))
+    pub refused-still : (places : BTreeMap ℕ ℕ) (u : World) → places ≡ x.places → u ≡ x.world → IsLinked sum (record x { world = u; open_streams = ls; places = places; filter = filter })
+    refused-still places u a b = subst (λ ps. IsLinked sum (record x { world = u; open_streams = ls; places = ps; filter = filter })) (sym a) (linked-still u b)

@@ -13,7 +13,7 @@ use Rattle.sctp_lists.proofs.Cases.{by_last}
 use Rattle.sctp_chunks.specs.declared.chunk.chunk_payload_data.ChunkPayloadData.{ChunkPayloadData}
 use Rattle.sctp_chunks.specs.declared.chunk.chunk_payload_data.PayloadProtocolIdentifier.TheVariants.{Unknown}
 use Rattle.sctp_chunks.specs.ChunkSet.{fresh}
-use Rattle.sctp_outbound.specs.payload_queue.PayloadQueue.{Payload}
+use Rattle.sctp_transfer.specs.TsnFilter.{Filter}
 use Rattle.sctp_model.specs.World.{World}
 use Rattle.sctp_model.specs.Receiver.{is_new}
 use Rattle.sctp_model.specs.Changes.{slot_received}
@@ -217,8 +217,8 @@ pub saved-at : (ls ms : List OpenStream) (ss : List Slot) (js : List ℕ) (p : �
 saved-at ls ms ss js p c x s t = (omega (arith, s.inside, t.count), λ d. ap (λ (q : StreamState). q.stream_identifier) (t.each x.at d s.inside).state ∙ s.number d)
 
 -- the slots come one after another to what a link keeps
-pub received-next : (w : World) (ps : List ℕ) (i : ℕ) (ls : List OpenStream) (ss : List Slot) (f : Payload) (cum : ℕ) (dups : List ℕ) → i < length ps → IsReceiver (slot_received (fold slot_received w (take i ps)) (slice_index_or ps i 0)) ls ss f cum dups → IsReceiver (fold slot_received w (take (i + 1) ps)) ls ss f cum dups
-received-next w ps i ls ss f cum dups lt r = subst (λ v. IsReceiver v ls ss f cum dups) (sym (fold-next w ps i 0 lt)) r
+pub received-next : (w : World) (ps : List ℕ) (i : ℕ) (ls : List OpenStream) (ss : List Slot) (f : Filter) (dups : List ℕ) → i < length ps → IsReceiver (slot_received (fold slot_received w (take i ps)) (slice_index_or ps i 0)) ls ss f dups → IsReceiver (fold slot_received w (take (i + 1) ps)) ls ss f dups
+received-next w ps i ls ss f dups lt r = subst (λ v. IsReceiver v ls ss f dups) (sym (fold-next w ps i 0 lt)) r
 
 -- a list of one element
 pub one-list : (ps : List ℕ) → length ps ≡ 1 → ps ≡ slice_index_or ps 0 0 ∷ []

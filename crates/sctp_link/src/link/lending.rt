@@ -86,7 +86,7 @@ impl<C: Checksum + Drop> Link<C> {
     pub fn filter(&self) -> &PayloadQueue
         ensures { filter_held (cumulative_tsn self.now.world (cumulative self.now.world)) result.now ≡ filter_of self.now.world }
     {
-        &self.filter
+        self.filter.queue()
     }
 
     /// What came on an open stream and was not read; None where it is not open.

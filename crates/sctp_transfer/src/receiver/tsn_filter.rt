@@ -18,7 +18,9 @@ use sctp_serial::turns::Turns;
 use std::alloc::Global;
 use std::marker::Model;
 
-/// Which TSNs came: all up to the cumulative one, and those that the queue holds beyond it.
+/// Which TSNs came: all up to the cumulative one, and those that the queue holds beyond it (RFC 4960 6.2); and which
+/// of them came again since the last SACK. It keeps of a chunk its TSN alone, and of those that the cumulative TSN
+/// passed nothing.
 #[derive(Drop)]
 pub struct TsnFilter {
     queue: PayloadQueue,
@@ -47,6 +49,18 @@ impl TsnFilter {
             queue: PayloadQueue::new(alloc),
             cumulative_tsn: first_tsn.wrapping_sub(1),
         }
+    }
+
+    /// An equal filter; its room is as great. Refuses only for memory.
+    pub fn try_clone(&self, alloc: Global) -> Result<TsnFilter>
+        ensures ok { IfOk result (λ filter. filter ≡ self.now) }
+        ensures memory { IsOkUnless result ErrOutOfMemory }
+    {
+        let queue = self.queue.try_clone(alloc)?;
+        Ok(TsnFilter {
+            queue,
+            cumulative_tsn: self.cumulative_tsn,
+        })
     }
 
     /// The TSN up to which all came.

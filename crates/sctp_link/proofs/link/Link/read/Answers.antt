@@ -2,6 +2,7 @@ use Rattle.std.proofs.Common.{◌≡◌, ap, sym, ◌∙◌, ◌<◌, ◌+◌, �
 use Rattle.std.specs.Prelude.{find, slice_index_or, slice_set, if◌then◌else◌, ◌&&◌, ◌==◌}
 use Rattle.std.proofs.lemmas.List.{get_or-set_same}
 use Rattle.sctp_lists.specs.Lists.{changed}
+use Rattle.sctp_chunks.specs.ChunkSet.{ChunkSet}
 use Rattle.sctp_reassembly.specs.reassembly_queue.ReassemblyQueue.{message_read, state_read}
 use Rattle.sctp_model.specs.Messages.{message_at}
 use Rattle.sctp_model.specs.Changes.{mark_read}
@@ -17,7 +18,7 @@ use Rattle.sctp_link.specs.Linked.{has_number}
 use Rattle.sctp_link.specs.Records.{message_record, progress_of}
 use Rattle.sctp_link.proofs.upkeep.Apart.{map-set, map-set_same}
 use Rattle.sctp_link.proofs.receiver.Hears.{lead-slot, lead-number, messages-made, message-raw, kept-raw}
-use Rattle.sctp_link.proofs.receiver.HandsOut.{none-mapped, some-mapped, world-nothing, linked-nothing, reply-nothing, read-is, hands, hands-begins, low, reply-read, world-twice, linked-twice, never-shut}
+use Rattle.sctp_link.proofs.receiver.HandsOut.{none-mapped, some-mapped, world-nothing, linked-nothing, reply-nothing, read-is, hands, hands-begins, ppi-handed, low, reply-read, world-twice, linked-twice, never-shut}
 use Rattle.sctp_link.proofs.link.Link.read.Goals as goal
 
 pub unreachable-requires : goal.unreachable-requires
@@ -204,7 +205,8 @@ invariant_of-self-2 g c =
     ap (λ i. map message_record (slice_set messages i m')) number ∙ map-set message_record mark_read messages n m' m inside (ap (λ (t : Message). message_record (record t { read = true })) here) in
     let was : c.index_mut-2.result.now ≡ record (slice_index_or open_streams at d) { state = record (slice_index_or open_streams at d).state { reassembly_queue = state_read (slice_index_or open_streams at d).state.reassembly_queue } } =
     c.index_mut-2.ensures.value ∙ get_or-set_same open_streams at c.read.new.self c.index_mut-2.result.now lt ∙ rest in
-    let state = c.finish_read.ensures.state ∙ ap (λ len. with_read_stats m.ppi len c.index_mut-2.result.now.state) c.len.ensures.value ∙ ap (λ (l : OpenStream). with_read_stats m.ppi (length m.bytes) l.state) was in
+    let kind : c.ppi-ppi.result ≡ m.ppi = c.ppi-ppi.ensures ∙ ap (λ (t : ChunkSet). t.ppi) read.2 ∙ ppi-handed w n ∙ ap (λ t. t.ppi) m_is in
+    let state = c.finish_read.ensures.state ∙ ap (λ p. with_read_stats p c.len.result c.index_mut-2.result.now.state) kind ∙ ap (λ len. with_read_stats m.ppi len c.index_mut-2.result.now.state) c.len.ensures.value ∙ ap (λ (l : OpenStream). with_read_stats m.ppi (length m.bytes) l.state) was in
     let whole = c.finish_read.ensures.whole ∙ ap (λ (l : OpenStream). if m.ordered then l.whole.items else drop 1 l.whole.items) was in
     let ordered = c.finish_read.ensures.ordered ∙ ap (λ (l : OpenStream). l.ordered) was in
     let begun = c.finish_read.ensures.begun ∙ ap (λ (l : OpenStream). l.begun) was in
@@ -249,7 +251,8 @@ returns-clause-right g c =
     ap (λ i. map message_record (slice_set messages i m')) number ∙ map-set message_record mark_read messages n m' m inside (ap (λ (t : Message). message_record (record t { read = true })) here) in
     let was : c.index_mut-2.result.now ≡ record (slice_index_or open_streams at d) { state = record (slice_index_or open_streams at d).state { reassembly_queue = state_read (slice_index_or open_streams at d).state.reassembly_queue } } =
     c.index_mut-2.ensures.value ∙ get_or-set_same open_streams at c.read.new.self c.index_mut-2.result.now lt ∙ rest in
-    let state = c.finish_read.ensures.state ∙ ap (λ len. with_read_stats m.ppi len c.index_mut-2.result.now.state) c.len.ensures.value ∙ ap (λ (l : OpenStream). with_read_stats m.ppi (length m.bytes) l.state) was in
+    let kind : c.ppi-ppi.result ≡ m.ppi = c.ppi-ppi.ensures ∙ ap (λ (t : ChunkSet). t.ppi) read.2 ∙ ppi-handed w n ∙ ap (λ t. t.ppi) m_is in
+    let state = c.finish_read.ensures.state ∙ ap (λ p. with_read_stats p c.len.result c.index_mut-2.result.now.state) kind ∙ ap (λ len. with_read_stats m.ppi len c.index_mut-2.result.now.state) c.len.ensures.value ∙ ap (λ (l : OpenStream). with_read_stats m.ppi (length m.bytes) l.state) was in
     let whole = c.finish_read.ensures.whole ∙ ap (λ (l : OpenStream). if m.ordered then l.whole.items else drop 1 l.whole.items) was in
     let ordered = c.finish_read.ensures.ordered ∙ ap (λ (l : OpenStream). l.ordered) was in
     let begun = c.finish_read.ensures.begun ∙ ap (λ (l : OpenStream). l.begun) was in
@@ -257,6 +260,6 @@ returns-clause-right g c =
     let index = ap (λ (t : Message). t.index) here ∙ sym (kept-raw sum x c.self.invariant slots messages refl refl refl n m inside) in
     let next = c.finish_read.ensures.next ∙ ap (λ (l : OpenStream). if m.ordered && (m.index == l.next) then m.index + 1 else l.next) was in
     rw (← c.self.view_is) (record {
-      right = ap (λ p. R.Message s p set) (sym (ap (λ t. t.ppi) m_is)) ∙ reply-read sum x c.self.invariant s at d refl lt found set e;
+      right = ap (λ p. R.Message s p set) (kind ∙ sym (ap (λ t. t.ppi) m_is)) ∙ reply-read sum x c.self.invariant s at d refl lt found set e;
       moves = world-twice sum x c.self.invariant s at d refl lt found set e m (map message_record (slice_set messages c.index.result.now.message m')) c.finish_read.new.self m_is messages_are state whole index ordered begun named next c.read.new.self;
     })
