@@ -72,18 +72,33 @@ stats_of c =
 abbrev pub ledger_of : M.Ledger → Ledger
 ledger_of l = record { written = l.written; pending = l.pending; in_flight = l.in_flight; released = l.released }
 
+-- the counters of a stream: what was sent of the one, what was read of the other
+abbrev pub both_ways : DataChannelStats → DataChannelStats → DataChannelStats
+both_ways sent read =
+    record {
+      stream_identifier = sent.stream_identifier;
+      generation = sent.generation;
+      messages_sent = sent.messages_sent;
+      bytes_sent = sent.bytes_sent;
+      messages_received = read.messages_received;
+      bytes_received = read.bytes_received;
+    }
+
+abbrev pub stats_in : OpenStream → DataChannelStats
+stats_in l = both_ways l.state.stats l.inbound.stats
+
 -- what a stream keeps, against the record
 pub record IsOpenStream (w : World) (l : OpenStream) : Type 0 where
-  pub held : l.state.reassembly_queue.held ≡ reassembly_of w l.state.stream_identifier
-  pub si : l.state.reassembly_queue.si ≡ l.state.stream_identifier
-  pub largest : l.state.reassembly_queue.max_message_size ≡ w.setup.largest
+  pub held : l.inbound.queue.held ≡ reassembly_of w l.state.stream_identifier
+  pub si : l.inbound.queue.si ≡ l.state.stream_identifier
+  pub largest : l.inbound.queue.max_message_size ≡ w.setup.largest
   pub size : l.state.max_payload_size ≡ w.setup.size
   pub ordered : l.ordered ≡ ordered_before w l.state.stream_identifier (length w.messages)
   pub number : l.state.sequence_number ≡ l.ordered % 2 ^ 16
   pub begun : l.begun ≡ begun_on w l.state.stream_identifier
   pub next : l.next ≡ next_of w l.state.stream_identifier
   pub amount : l.state.buffered_amount ≡ amount w l.state.stream_identifier
-  pub stats : l.state.stats ≡ stats_of (counters_on w l.state.stream_identifier)
+  pub stats : stats_in l ≡ stats_of (counters_on w l.state.stream_identifier)
 
 pub record IsLinked (sum : List ℕ → ℕ) (x : State) : Type 0 where
   pub setup : IsSetup x.world.setup

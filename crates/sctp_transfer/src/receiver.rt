@@ -5,7 +5,7 @@ ghost use Rattle.sctp_transfer.specs.Inbound.{named_forwarded};
 ghost use Rattle.sctp_transfer.specs.declared.receiver.refusal.ReceiverRefusal.TheVariants.{StreamOpen, StreamUnknown, OutOfMemory};
 
 pub mod arrival;
-mod inbound_streams;
+pub mod inbound_streams;
 pub mod refusal;
 pub mod sack_out;
 pub mod tsn_filter;

@@ -112,7 +112,7 @@ module _ (sum : List ℕ → ℕ) (x : State) (l : IsLinked sum x) (at s : ℕ) 
   pub stream-number : (slice_index_or x.open_streams at d).state.stream_identifier ≡ s
   stream-number = number-found s x.open_streams (slice_index_or x.open_streams at d) found
 
-  pub stream-ordered : (slice_index_or x.open_streams at d).state.reassembly_queue.held.ordered ≡ ordered_sets x.world s
+  pub stream-ordered : (slice_index_or x.open_streams at d).inbound.queue.held.ordered ≡ ordered_sets x.world s
   stream-ordered = ap (λ q. q.ordered) ((l.open_streams at d lt).held) ∙ ap (ordered_sets x.world) stream-number
 
   pub stream-next : (slice_index_or x.open_streams at d).next ≡ next_of x.world s
@@ -123,26 +123,26 @@ module _ (sum : List ℕ → ℕ) (x : State) (l : IsLinked sum x) (at s : ℕ) 
   empty (y ∷ ys) e = absurd (omega arith)
 
   -- nothing is held
-  pub ends-empty : length (slice_index_or x.open_streams at d).state.reassembly_queue.held.ordered ≡ 0 → ((slice_index_or x.open_streams at d).next ≡ least (next_of x.world s) (map (index_of x.world) (held_on x.world s))) × ((slice_index_or x.open_streams at d).next ≡ greatest (next_of x.world s) (map (index_of x.world) (held_on x.world s)))
+  pub ends-empty : length (slice_index_or x.open_streams at d).inbound.queue.held.ordered ≡ 0 → ((slice_index_or x.open_streams at d).next ≡ least (next_of x.world s) (map (index_of x.world) (held_on x.world s))) × ((slice_index_or x.open_streams at d).next ≡ greatest (next_of x.world s) (map (index_of x.world) (held_on x.world s)))
   ends-empty e =
       let none : held_on x.world s ≡ [] = empty (held_on x.world s) (sym (sets-held x.world s) ∙ sym (ap length stream-ordered) ∙ e) in
       let ends = ends-none x.world s none in (stream-next ∙ sym ends.0, stream-next ∙ sym ends.1)
 
   -- a set of the queue is of a message that is held
-  pub set-held : (i : ℕ) (e : ChunkSet) → i < length (slice_index_or x.open_streams at d).state.reassembly_queue.held.ordered → (is_held x.world s (slice_index_or (held_on x.world s) i 0) ≡ true) × (slice_index_or (slice_index_or x.open_streams at d).state.reassembly_queue.held.ordered i e ≡ set_of x.world (slice_index_or (held_on x.world s) i 0))
+  pub set-held : (i : ℕ) (e : ChunkSet) → i < length (slice_index_or x.open_streams at d).inbound.queue.held.ordered → (is_held x.world s (slice_index_or (held_on x.world s) i 0) ≡ true) × (slice_index_or (slice_index_or x.open_streams at d).inbound.queue.held.ordered i e ≡ set_of x.world (slice_index_or (held_on x.world s) i 0))
   set-held i e less =
       let f = facts sum x l in
       let o = set-at x.world s i 0 e f.sound.sound f.setup.first (omega (arith, less, ap length stream-ordered)) in
       (o.held, ap (λ ss. slice_index_or ss i e) stream-ordered ∙ o.is)
 
-  pub low-front : (i : ℕ) → 0 < length (slice_index_or x.open_streams at d).state.reassembly_queue.held.ordered → i ≡ index_of x.world (slice_index_or (held_on x.world s) 0 0) → min (slice_index_or x.open_streams at d).next i ≡ least (next_of x.world s) (map (index_of x.world) (held_on x.world s))
+  pub low-front : (i : ℕ) → 0 < length (slice_index_or x.open_streams at d).inbound.queue.held.ordered → i ≡ index_of x.world (slice_index_or (held_on x.world s) 0 0) → min (slice_index_or x.open_streams at d).next i ≡ least (next_of x.world s) (map (index_of x.world) (held_on x.world s))
   low-front i some e = ap (min (slice_index_or x.open_streams at d).next) e ∙ ap (λ n. min n (index_of x.world (slice_index_or (held_on x.world s) 0 0))) stream-next ∙ sym (lowest-front x.world s 0 (omega (arith, some, ap length stream-ordered, sets-held x.world s)))
 
-  pub high-back : (i : ℕ) → 0 < length (slice_index_or x.open_streams at d).state.reassembly_queue.held.ordered → i ≡ index_of x.world (slice_index_or (held_on x.world s) (length (slice_index_or x.open_streams at d).state.reassembly_queue.held.ordered - 1) 0) → max (slice_index_or x.open_streams at d).next i ≡ greatest (next_of x.world s) (map (index_of x.world) (held_on x.world s))
+  pub high-back : (i : ℕ) → 0 < length (slice_index_or x.open_streams at d).inbound.queue.held.ordered → i ≡ index_of x.world (slice_index_or (held_on x.world s) (length (slice_index_or x.open_streams at d).inbound.queue.held.ordered - 1) 0) → max (slice_index_or x.open_streams at d).next i ≡ greatest (next_of x.world s) (map (index_of x.world) (held_on x.world s))
   high-back i some e =
-      let same : length (slice_index_or x.open_streams at d).state.reassembly_queue.held.ordered ≡ length (held_on x.world s) = ap length stream-ordered ∙ sets-held x.world s in
+      let same : length (slice_index_or x.open_streams at d).inbound.queue.held.ordered ≡ length (held_on x.world s) = ap length stream-ordered ∙ sets-held x.world s in
       ap (max (slice_index_or x.open_streams at d).next) e
-      ∙ ap (λ n. max n (index_of x.world (slice_index_or (held_on x.world s) (length (slice_index_or x.open_streams at d).state.reassembly_queue.held.ordered - 1) 0))) stream-next
+      ∙ ap (λ n. max n (index_of x.world (slice_index_or (held_on x.world s) (length (slice_index_or x.open_streams at d).inbound.queue.held.ordered - 1) 0))) stream-next
       ∙ ap (λ k. max (next_of x.world s) (index_of x.world (slice_index_or (held_on x.world s) (k - 1) 0))) same
       ∙ sym (highest-back x.world s 0 (omega (arith, some, same)))
 

@@ -10,6 +10,7 @@ use Rattle.sctp_ties.specs.Holds.{reassembly_of}
 use Rattle.sctp_ties.specs.Amount.{amount}
 use Rattle.sctp_ties.specs.Counts.{counters_on}
 use Rattle.sctp_ties.specs.Indexes.{begun_on}
+use Rattle.sctp_transfer.specs.declared.receiver.inbound_streams.InboundStream.{InboundStream}
 use Rattle.sctp_transfer.specs.declared.stream.StreamState.{StreamState}
 use Rattle.sctp_transfer.specs.TsnFilter.{Filter}
 use Rattle.sctp_link.specs.declared.open_stream.OpenStream.{OpenStream}
@@ -18,7 +19,7 @@ use Rattle.sctp_link.specs.Places.{IsIndexed}
 use Rattle.sctp_link.specs.Records.{stream_record}
 use Rattle.sctp_link.specs.Receiving.{IsUnchanged, TouchesOnly}
 use Rattle.sctp_link.proofs.receiver.Slots.{shown}
-use Rattle.sctp_link.proofs.receiver.Touched.{numbers-same, map-each}
+use Rattle.sctp_link.proofs.receiver.Touched.{numbers-same, map-each, stats-same, unchanged-touched}
 
 pub on-err : {T E : Type 0} (r : Result T E) (P : Type 0) → P → OnErr r P
 on-err (Ok v) P p = tt
@@ -36,16 +37,16 @@ module _ (sum : List ℕ → ℕ) (x : State) (l : IsLinked sum x) (ls : List Op
 
   stream-stays : (y z : OpenStream) → IsUnchanged y z → IsOpenStream x.world y → IsOpenStream x.world z
   stream-stays y z u i = record {
-    held = subst (λ (t : StreamState). t.reassembly_queue.held ≡ reassembly_of x.world t.stream_identifier) (sym u.state) i.held;
-    si = subst (λ (t : StreamState). t.reassembly_queue.si ≡ t.stream_identifier) (sym u.state) i.si;
-    largest = subst (λ (t : StreamState). t.reassembly_queue.max_message_size ≡ x.world.setup.largest) (sym u.state) i.largest;
+    held = ap (λ (b : InboundStream). b.queue.held) u.inbound ∙ i.held ∙ ap (λ (t : StreamState). reassembly_of x.world t.stream_identifier) (sym u.state);
+    si = ap (λ (b : InboundStream). b.queue.si) u.inbound ∙ i.si ∙ ap (λ (t : StreamState). t.stream_identifier) (sym u.state);
+    largest = ap (λ (b : InboundStream). b.queue.max_message_size) u.inbound ∙ i.largest;
     size = subst (λ (t : StreamState). t.max_payload_size ≡ x.world.setup.size) (sym u.state) i.size;
     ordered = u.ordered ∙ subst (λ (t : StreamState). y.ordered ≡ ordered_before x.world t.stream_identifier (length x.world.messages)) (sym u.state) i.ordered;
     number = ap (λ (t : StreamState). t.sequence_number) u.state ∙ i.number ∙ ap (λ m. m % 2 ^ 16) (sym u.ordered);
     begun = u.begun ∙ subst (λ (t : StreamState). y.begun ≡ begun_on x.world t.stream_identifier) (sym u.state) i.begun;
     next = u.next ∙ subst (λ (t : StreamState). y.next ≡ next_of x.world t.stream_identifier) (sym u.state) i.next;
     amount = subst (λ (t : StreamState). t.buffered_amount ≡ amount x.world t.stream_identifier) (sym u.state) i.amount;
-    stats = subst (λ (t : StreamState). t.stats ≡ stats_of (counters_on x.world t.stream_identifier)) (sym u.state) i.stats;
+    stats = stats-same y z (unchanged-touched y z u) ∙ i.stats ∙ ap (λ (t : StreamState). stats_of (counters_on x.world t.stream_identifier)) (sym u.state);
   }
 
   module _ (filter : Filter) (filter_same : filter ≡ record x.filter { room = filter.room }) where

@@ -51,7 +51,7 @@ use Rattle.sctp_link.proofs.upkeep.Facts.{facts, over}
 use Rattle.sctp_link.proofs.upkeep.StreamsAfter.{stream-then, linked-then}
 use Rattle.sctp_link.proofs.upkeep.Lookups.{none-open}
 use Rattle.sctp_link.proofs.receiver.Hears.{raw-at}
-use Rattle.sctp_link.proofs.receiver.Touched.{numbers-same}
+use Rattle.sctp_link.proofs.receiver.Touched.{numbers-same, stats-same}
 
 -- ## They come to a sound record
 
@@ -214,7 +214,7 @@ module _ (sum : List ℕ → ℕ) (x : State) (l : IsLinked sum x) (k : ℕ) (ps
         (q.si ∙ id ∙ sym i.si)
         (q.largest ∙ ap (λ s. s.largest) (Network.same-slots here ps).setup ∙ sym i.largest)
         (ap (λ (s : StreamState). s.max_payload_size) state) touched.ordered (ap (λ (s : StreamState). s.sequence_number) state) touched.begun (touched.next ∙ i.next ∙ sym (next-stays y.state.stream_identifier))
-        (ap (λ (s : StreamState). s.buffered_amount) state) (ap (λ (s : StreamState). s.stats) state ∙ i.stats ∙ ap stats_of (sym (counters-stay y.state.stream_identifier)))
+        (ap (λ (s : StreamState). s.buffered_amount) state) (stats-same y z touched ∙ i.stats ∙ ap stats_of (sym (counters-stay y.state.stream_identifier)))
 
     pub linked-received : IsLinked sum (record x { world = record x.world { streams = map stream_record ls; slots = map slot_record slots; duplicates = dups }; open_streams = ls; filter = filter })
     linked-received =

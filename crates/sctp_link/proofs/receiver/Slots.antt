@@ -118,14 +118,14 @@ module _ (w : World) (ls : List OpenStream) (slots : List Slot) (filter : Filter
       id-at : (d : OpenStream) → (slice_index_or ls at d).state.stream_identifier ≡ s
       id-at d = number-is d ∙ ap (λ (x : ChunkPayloadData). x.stream_identifier) m.chunk
 
-      here : y.state.reassembly_queue.held ≡ reassembly_of w s
+      here : y.inbound.queue.held ≡ reassembly_of w s
       here = (r.queues at d lt).held ∙ ap (reassembly_of w) (id-at d)
 
       -- what the stream's queue asks of the chunk
-      pub small : is_too_large c y.state.reassembly_queue ≡ false
-      small = m.small new y.state.reassembly_queue here (r.queues at d lt).largest
+      pub small : is_too_large c y.inbound.queue ≡ false
+      small = m.small new y.inbound.queue here (r.queues at d lt).largest
 
-      pub its-stream : (c.stream_identifier == y.state.reassembly_queue.si) ≡ true
+      pub its-stream : (c.stream_identifier == y.inbound.queue.si) ≡ true
       its-stream = ap (λ t. c.stream_identifier == t) ((r.queues at d lt).si ∙ number-is d) ∙ same-yes c.stream_identifier
 
       module _ (z : OpenStream) (number : ℕ) (number_is : number ≡ message_of w p) (keeps' : Keeps c number (slice_index_or ls at d) z) where
@@ -133,10 +133,10 @@ module _ (w : World) (ls : List OpenStream) (slots : List Slot) (filter : Filter
         keeps = subst (λ x. Keeps x number (slice_index_or ls at d) z) m.chunk keeps'
 
         record Holds : Type 0 where
-          queue : z.state.reassembly_queue.held ≡ reassembly_of (slot_received w p) s
+          queue : z.inbound.queue.held ≡ reassembly_of (slot_received w p) s
           noted : (keeps.whole && (chunk_at w p).unordered) ≡ becomes_whole (with_arrived w p) n
-          si : z.state.reassembly_queue.si ≡ y.state.reassembly_queue.si
-          largest : z.state.reassembly_queue.max_message_size ≡ y.state.reassembly_queue.max_message_size
+          si : z.inbound.queue.si ≡ y.inbound.queue.si
+          largest : z.inbound.queue.max_message_size ≡ y.inbound.queue.max_message_size
 
         holds-by : (b : Bool) → (message_at w n).ordered ≡ b → Holds
         holds-by true o =
@@ -149,8 +149,8 @@ module _ (w : World) (ls : List OpenStream) (slots : List Slot) (filter : Filter
             }
         holds-by false o =
             let q = keeps.unordered_queue (ap not o) in
-            let pushed = subst (λ (h : Reassembly). BecomesWhole (inserted chunk_before (chunk_at w p) h.loose) h z.state.reassembly_queue.held keeps.whole) here q.0 in
-            let same = becomes-same (inserted chunk_before (chunk_at w p) (reassembly_of w s).loose) (reassembly_of w s) z.state.reassembly_queue.held (reassembly_of (slot_received w p) s) keeps.whole (becomes_whole (with_arrived w p) n) pushed (unordered-slot w s p m.known.0 m.sound.sound m.sound.loose enter o m.known.1) in
+            let pushed = subst (λ (h : Reassembly). BecomesWhole (inserted chunk_before (chunk_at w p) h.loose) h z.inbound.queue.held keeps.whole) here q.0 in
+            let same = becomes-same (inserted chunk_before (chunk_at w p) (reassembly_of w s).loose) (reassembly_of w s) z.inbound.queue.held (reassembly_of (slot_received w p) s) keeps.whole (becomes_whole (with_arrived w p) n) pushed (unordered-slot w s p m.known.0 m.sound.sound m.sound.loose enter o m.known.1) in
             record {
               queue = same.0;
               noted = ap (λ b. keeps.whole && not b) o ∙ and-yes keeps.whole ∙ same.1;

@@ -124,13 +124,13 @@ whole-set sum x l s n set h e =
 
 -- a stream found at a place
 module _ (sum : List ℕ → ℕ) (x : State) (l : IsLinked sum x) (at s : ℕ) (d : OpenStream) (lt : at < length x.open_streams) (found : find (has_number s) x.open_streams ≡ Some (slice_index_or x.open_streams at d)) where
-  held-count : length (slice_index_or x.open_streams at d).state.reassembly_queue.held.ordered ≡ length (held_on x.world s)
+  held-count : length (slice_index_or x.open_streams at d).inbound.queue.held.ordered ≡ length (held_on x.world s)
   held-count = ap length (stream-ordered sum x l at s d lt found) ∙ sets-held x.world s
 
-  pub stream-some : 0 < length (slice_index_or x.open_streams at d).state.reassembly_queue.held.ordered → 0 < length (held_on x.world s)
+  pub stream-some : 0 < length (slice_index_or x.open_streams at d).inbound.queue.held.ordered → 0 < length (held_on x.world s)
   stream-some some = omega (arith, some, held-count)
 
-  pub first-none : length (slice_index_or x.open_streams at d).state.reassembly_queue.held.ordered ≡ 0 → (low : ℕ) → low ≡ min_with (whole_first x.world (held_on x.world s)) low
+  pub first-none : length (slice_index_or x.open_streams at d).inbound.queue.held.ordered ≡ 0 → (low : ℕ) → low ≡ min_with (whole_first x.world (held_on x.world s)) low
   first-none e low = by (held_on x.world s) (sym held-count ∙ e)
     where
       by : (ns : List ℕ) → length ns ≡ 0 → low ≡ min_with (whole_first x.world ns) low
@@ -360,9 +360,9 @@ module _ (sum : List ℕ → ℕ) (x : State) (l : IsLinked sum x) (k upto : ℕ
         let end-is : end ≡ end_named w s names = ap (λ (n : Named). n.end) (named-is s) in
         let sp = spans s (ap is_some o) in
         let queue = queue-skip w s upto names r f.sound.sound skips.made counts o sp.0 sp.1 in
-        let rest = gone-rest end tsn y.state.reassembly_queue in
+        let rest = gone-rest end tsn y.inbound.queue in
         stream-then sum x l (E.Arrive k) none frame refl y (turned y) i refl
-        (gone-held end tsn y.state.reassembly_queue ∙ ap (λ n. forwarded_unordered tsn (gone_forward n y.state.reassembly_queue.held)) end-is ∙ ap (λ h. forwarded_unordered tsn (gone_forward (end_named w s names) h)) i.held
+        (gone-held end tsn y.inbound.queue ∙ ap (λ n. forwarded_unordered tsn (gone_forward n y.inbound.queue.held)) end-is ∙ ap (λ h. forwarded_unordered tsn (gone_forward (end_named w s names) h)) i.held
         ∙ sym queue ∙ ap (λ u. reassembly_of u s) (sym after-is))
         rest.0 rest.1 refl refl refl refl
         (ap (λ n. max y.next n) end-is ∙ ap (λ n. max n (end_named w s names)) i.next ∙ sym (next-skip w s upto names r f.sound.sound o) ∙ ap (λ u. next_of u s) (sym after-is))

@@ -24,7 +24,7 @@ use Rattle.sctp_ties.proofs.sending.Begun.{Indexed}
 use Rattle.sctp_ties.proofs.acknowledging.QuietSender.{SameToSender, outbound-same}
 use Rattle.sctp_ties.proofs.amounts.StreamAmounts.{amount-same}
 use Rattle.sctp_link.specs.declared.open_stream.OpenStream.{OpenStream}
-use Rattle.sctp_link.specs.Linked.{State, IsLinked, IsOpenStream, stats_of, filter_shown}
+use Rattle.sctp_link.specs.Linked.{State, IsLinked, IsOpenStream, stats_of, stats_in, filter_shown}
 use Rattle.sctp_link.specs.Places.{IsIndexed, stream_numbers}
 use Rattle.sctp_link.specs.Texts.{IsDatagram}
 use Rattle.sctp_link.proofs.upkeep.Facts.{facts, stands-then, says-still}
@@ -53,7 +53,7 @@ module _ (sum : List ℕ → ℕ) (x : State) (l : IsLinked sum x) (e : Event) (
       subst (λ c. IsDatagram sum c (slice_index_or x.datagrams k d)) (sym says) (l.texts k d g old)
 
   -- what such an event leaves of an open stream
-  pub stream-then : keeps_amounts e ≡ true → (y z : OpenStream) → IsOpenStream w y → z.state.stream_identifier ≡ y.state.stream_identifier → z.state.reassembly_queue.held ≡ reassembly_of v y.state.stream_identifier → z.state.reassembly_queue.si ≡ y.state.reassembly_queue.si → z.state.reassembly_queue.max_message_size ≡ y.state.reassembly_queue.max_message_size → z.state.max_payload_size ≡ y.state.max_payload_size → z.ordered ≡ y.ordered → z.state.sequence_number ≡ y.state.sequence_number → z.begun ≡ y.begun → z.next ≡ next_of v y.state.stream_identifier → z.state.buffered_amount ≡ y.state.buffered_amount → z.state.stats ≡ stats_of (counters_on v y.state.stream_identifier) → IsOpenStream v z
+  pub stream-then : keeps_amounts e ≡ true → (y z : OpenStream) → IsOpenStream w y → z.state.stream_identifier ≡ y.state.stream_identifier → z.inbound.queue.held ≡ reassembly_of v y.state.stream_identifier → z.inbound.queue.si ≡ y.inbound.queue.si → z.inbound.queue.max_message_size ≡ y.inbound.queue.max_message_size → z.state.max_payload_size ≡ y.state.max_payload_size → z.ordered ≡ y.ordered → z.state.sequence_number ≡ y.state.sequence_number → z.begun ≡ y.begun → z.next ≡ next_of v y.state.stream_identifier → z.state.buffered_amount ≡ y.state.buffered_amount → stats_in z ≡ stats_of (counters_on v y.state.stream_identifier) → IsOpenStream v z
   stream-then keeps y z i id held si largest size ordered number begun next bytes stats =
       let t = y.state.stream_identifier in
       let f = facts sum x l in

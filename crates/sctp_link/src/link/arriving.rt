@@ -116,7 +116,7 @@ fn save_each(
         let open_stream = &open_streams.items[at];
         saved.push(Saved {
             at,
-            queue: open_stream.state.reassembly_queue().try_clone(alloc)?,
+            queue: open_stream.inbound.queue.try_clone(alloc)?,
             whole: open_stream.whole.len(),
             arrived: slots[places[i] as usize].arrived,
         })?;

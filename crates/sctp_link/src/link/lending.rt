@@ -68,7 +68,7 @@ impl<C: Checksum + Drop> Link<C> {
         let Some(open_stream) = self.find_stream(stream) else {
             return None;
         };
-        Some(open_stream.state.stats())
+        Some(open_stream.stats())
     }
 
     /// What waits to be sent and what is in flight.
@@ -96,7 +96,7 @@ impl<C: Checksum + Drop> Link<C> {
         let Some(open_stream) = self.find_stream(stream) else {
             return None;
         };
-        Some(open_stream.state.reassembly_queue())
+        Some(&open_stream.inbound.queue)
     }
 
     // What is kept of an open stream.

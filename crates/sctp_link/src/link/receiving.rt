@@ -110,7 +110,7 @@ impl<C: Checksum + Drop> Link<C> {
             unreachable!()
         };
         let open_stream = &self.open_streams.items[at];
-        let held = open_stream.state.reassembly_queue().ordered();
+        let held = open_stream.inbound.queue.ordered();
         let Some(first) = held.front() else {
             return (open_stream.next, open_stream.next);
         };
@@ -202,12 +202,7 @@ impl<C: Checksum + Drop> Link<C> {
         let ppi = chunks.ppi();
         let message = &mut self.messages[number];
         message.read = true;
-        self.open_streams.items[at].finish_read(
-            message.ordered,
-            message.index,
-            ppi,
-            message.bytes.len(),
-        );
+        self.open_streams.items[at].finish_read(message.ordered, message.index);
         Reply::Message {
             stream,
             ppi,

@@ -72,7 +72,7 @@ impl<C: Checksum + Drop> Link<C> {
             unreachable!()
         };
         let open_stream = &self.open_streams.items[at];
-        let held = open_stream.state.reassembly_queue().ordered();
+        let held = open_stream.inbound.queue.ordered();
         let Some(first) = held.front() else {
             return low;
         };

@@ -112,7 +112,8 @@ impl TsnFilter {
 
     /// A new TSN comes. The one that is expected next is put nowhere: the cumulative TSN moves over it, and over
     /// all that stand next to it. It takes no memory.
-    /// Precondition: it did not come, is not opposite to the cumulative one, and there is room for it.
+    /// Precondition: it did not come (`has_come`), is not opposite to the cumulative one (`is_opposite`), and there is
+    /// room for it (`reserve_for`).
     pub fn accept(&mut self, tsn: u32)
         requires new { has_come tsn self.old ≡ false }
         requires near { is_opposite tsn self.old ≡ false }
@@ -127,7 +128,7 @@ impl TsnFilter {
     }
 
     /// A TSN comes again. Refuses only for memory, and the filter is as it was then.
-    /// Precondition: it came.
+    /// Precondition: it came (`has_come`).
     pub fn note_duplicate(&mut self, tsn: u32) -> Result<()>
         requires { has_come tsn self.old ≡ true }
         ensures ok { OnOk result (self.new ≡ with_duplicate tsn self.old) }

@@ -40,7 +40,7 @@ returns-in_err-keep-clause-streams c =
     let kept = c.in_err-keep.ensures.err in
     let was = c.index_mut.ensures.value in
     set-touches c.args.open_streams.now.items c.args.at c.keep.new.self c.index_mut.result.now c.requires.at.0
-    (unchanged-touched _ c.keep.new.self (subst (λ (l : OpenStream). IsUnchanged l c.keep.new.self) was (record { state = kept.0; whole = kept.1; ordered = kept.2; begun = kept.3; next = kept.4; named = kept.5 })))
+    (unchanged-touched _ c.keep.new.self (subst (λ (l : OpenStream). IsUnchanged l c.keep.new.self) was (record { state = kept.0; inbound = kept.1; whole = kept.2; ordered = kept.3; begun = kept.4; next = kept.5; named = kept.6 })))
 
 pub returns-in_err-keep-clause-err : goal.returns-in_err-keep-clause-err
 returns-in_err-keep-clause-err c =
@@ -48,7 +48,7 @@ returns-in_err-keep-clause-err c =
     let was = c.index_mut.ensures.value in
     on-err c.from_residual-in_err-keep.result _ (
       set-unchanged c.args.open_streams.now.items c.args.at c.keep.new.self c.index_mut.result.now c.requires.at.0
-          (subst (λ (l : OpenStream). IsUnchanged l c.keep.new.self) was (record { state = kept.0; whole = kept.1; ordered = kept.2; begun = kept.3; next = kept.4; named = kept.5 })),
+          (subst (λ (l : OpenStream). IsUnchanged l c.keep.new.self) was (record { state = kept.0; inbound = kept.1; whole = kept.2; ordered = kept.3; begun = kept.4; next = kept.5; named = kept.6 })),
       refl,
       c.reserve_for.ensures.rest,
       refl,
