@@ -1,6 +1,7 @@
 pub mod Comes
 pub mod HandsOut
 pub mod Keeping
+pub mod Came
 pub mod Hears
 pub mod Slots
 pub mod Touched

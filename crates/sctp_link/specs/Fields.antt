@@ -33,7 +33,6 @@ state_in a =
       datagrams = map (λ d. d.bytes) a.network.items;
       outbound = a.outbound;
       next_tsn = a.next_tsn;
-      cumulative_tsn = a.cumulative_tsn;
       filter = a.filter;
       fragments = a.fragments;
       written = a.written;

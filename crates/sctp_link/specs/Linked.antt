@@ -1,18 +1,17 @@
 -- What a link keeps beside its record, and how all of it is tied to the record.
 use Rattle.std.specs.Prelude.{◌≡◌, ◌==◌, ℕ, ◌<◌, ◌≤◌, true, ◌%◌, ◌^◌, List, length, slice_index_or, slice_get, Bool, Some}
 use Rattle.std.specs.BTreeMap.{BTreeMap}
-use Rattle.sctp_outbound.specs.payload_queue.PayloadQueue.{Payload}
 use Rattle.sctp_outbound.specs.outbound_queue.OutboundQueue.{Outbound}
 use Rattle.sctp_model.specs.World as W
 use Rattle.sctp_model.specs.World.{World}
 use Rattle.sctp_model.specs.Messages.{message_at, ordered_before, index_of, sent_of, tsn_of}
 use Rattle.sctp_model.specs.Receiver.{next_of}
 use Rattle.sctp_model.specs.Contents.{contents_of}
-use Rattle.sctp_model.specs.Queues.{filter_of}
+use Rattle.sctp_model.specs.Queues.{FilterRecord, filter_of}
 use Rattle.sctp_model.specs.Steps.{History, StandsFor, fragments_accepted}
 use Rattle.sctp_model.specs.Laws.{IsSetup}
 use Rattle.sctp_ties.specs.Holds.{reassembly_of}
-use Rattle.sctp_ties.specs.Tied.{TiedOutbound, filter_held}
+use Rattle.sctp_ties.specs.Tied.{TiedOutbound}
 use Rattle.sctp_ties.specs.Amount.{amount}
 use Rattle.sctp_ties.specs.Counts.{counters_on}
 use Rattle.sctp_ties.specs.Indexes.{begun_on}
@@ -21,6 +20,7 @@ use Rattle.sctp_model.specs.Amounts as M
 use Rattle.sctp_link.specs.declared.link.lending.Ledger.{Ledger}
 use Rattle.sctp_link.specs.declared.open_stream.OpenStream.{OpenStream}
 use Rattle.sctp_transfer.specs.declared.stream.DataChannelStats.{DataChannelStats}
+use Rattle.sctp_transfer.specs.TsnFilter.{Filter}
 use Rattle.sctp_link.specs.Places.{IsIndexed, stream_numbers}
 use Rattle.sctp_link.specs.Texts.{IsDatagram}
 
@@ -43,8 +43,7 @@ pub record State : Type 0 where
   pub datagrams : List (List ℕ)
   pub outbound : Outbound
   pub next_tsn : ℕ
-  pub cumulative_tsn : ℕ
-  pub filter : Payload
+  pub filter : Filter
   -- how many fragments were accepted
   pub fragments : ℕ
   -- how many bytes were written
@@ -52,6 +51,10 @@ pub record State : Type 0 where
 
 abbrev pub has_number : ℕ → OpenStream → Bool
 has_number s l = l.state.stream_identifier == s
+
+-- the TSNs that came, in the words of the record
+abbrev pub filter_shown : Filter → FilterRecord
+filter_shown f = record { cumulative = f.cumulative_tsn; held = f.beyond; duplicates = f.duplicates }
 
 -- counters as a stream keeps them
 abbrev pub stats_of : Counters → DataChannelStats
@@ -69,18 +72,33 @@ stats_of c =
 abbrev pub ledger_of : M.Ledger → Ledger
 ledger_of l = record { written = l.written; pending = l.pending; in_flight = l.in_flight; released = l.released }
 
+-- the counters of a stream: what was sent of the one, what was read of the other
+abbrev pub both_ways : DataChannelStats → DataChannelStats → DataChannelStats
+both_ways sent read =
+    record {
+      stream_identifier = sent.stream_identifier;
+      generation = sent.generation;
+      messages_sent = sent.messages_sent;
+      bytes_sent = sent.bytes_sent;
+      messages_received = read.messages_received;
+      bytes_received = read.bytes_received;
+    }
+
+abbrev pub stats_in : OpenStream → DataChannelStats
+stats_in l = both_ways l.state.stats l.inbound.stats
+
 -- what a stream keeps, against the record
 pub record IsOpenStream (w : World) (l : OpenStream) : Type 0 where
-  pub held : l.state.reassembly_queue.held ≡ reassembly_of w l.state.stream_identifier
-  pub si : l.state.reassembly_queue.si ≡ l.state.stream_identifier
-  pub largest : l.state.reassembly_queue.max_message_size ≡ w.setup.largest
+  pub held : l.inbound.queue.held ≡ reassembly_of w l.state.stream_identifier
+  pub si : l.inbound.queue.si ≡ l.state.stream_identifier
+  pub largest : l.inbound.queue.max_message_size ≡ w.setup.largest
   pub size : l.state.max_payload_size ≡ w.setup.size
   pub ordered : l.ordered ≡ ordered_before w l.state.stream_identifier (length w.messages)
   pub number : l.state.sequence_number ≡ l.ordered % 2 ^ 16
   pub begun : l.begun ≡ begun_on w l.state.stream_identifier
   pub next : l.next ≡ next_of w l.state.stream_identifier
   pub amount : l.state.buffered_amount ≡ amount w l.state.stream_identifier
-  pub stats : l.state.stats ≡ stats_of (counters_on w l.state.stream_identifier)
+  pub stats : stats_in l ≡ stats_of (counters_on w l.state.stream_identifier)
 
 pub record IsLinked (sum : List ℕ → ℕ) (x : State) : Type 0 where
   pub setup : IsSetup x.world.setup
@@ -88,7 +106,7 @@ pub record IsLinked (sum : List ℕ → ℕ) (x : State) : Type 0 where
   pub stands : StandsFor x.world.setup x.world history
   pub outbound : TiedOutbound x.world x.outbound
   pub unstarted : x.unstarted ≡ x.outbound.next_unstarted
-  pub filter : filter_held x.cumulative_tsn x.filter ≡ filter_of x.world
+  pub filter : filter_shown x.filter ≡ filter_of x.world
   pub next : x.next_tsn ≡ tsn_of x.world (length x.world.slots)
   pub fragments : x.fragments ≡ fragments_accepted x.world
   pub written : x.written ≡ in_all x.world (written_bytes x.world)

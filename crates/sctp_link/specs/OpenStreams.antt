@@ -11,7 +11,7 @@ use Rattle.sctp_link.specs.declared.record.Slot.{Slot}
 use Rattle.sctp_lists.specs.Lists.{change_where}
 use Rattle.sctp_link.specs.Linked.{has_number}
 use Rattle.sctp_transfer.specs.declared.stream.StreamState.{StreamState}
-use Rattle.sctp_transfer.specs.Stats.{with_sent, with_received, counted_bytes}
+use Rattle.sctp_transfer.specs.Stats.{with_sent, counted_bytes}
 use Rattle.sctp_transfer.specs.Stream.{after_write, fragments_of}
 
 -- a fragment with the mode of its message
@@ -48,10 +48,6 @@ message_with l ppi bytes =
 -- with one message more sent
 abbrev pub with_sent_stats : PayloadProtocolIdentifier → ℕ → StreamState → StreamState
 with_sent_stats ppi len s = record s { stats = with_sent (counted_bytes ppi len) s.stats }
-
--- with one message more read
-abbrev pub with_read_stats : PayloadProtocolIdentifier → ℕ → StreamState → StreamState
-with_read_stats ppi len s = record s { stats = with_received (counted_bytes ppi len) s.stats }
 
 -- the stream after a write
 abbrev pub after_write_on : OpenStream → PayloadProtocolIdentifier → List ℕ → OpenStream
@@ -111,10 +107,11 @@ begun_by m ls = if begins m then change_where (has_number m.stream) with_begun l
 -- a chunk is kept: the queue changes as by a push, and an unordered message that becomes whole is noted
 pub record Keeps (x : ChunkPayloadData) (number : ℕ) (old new : OpenStream) : Type 0 where
   pub whole : Bool
-  pub ordered_queue : x.unordered ≡ false → new.state.reassembly_queue ≡ ordered_pushed x old.state.reassembly_queue
-  pub unordered_queue : x.unordered ≡ true → PushesUnordered x old.state.reassembly_queue new.state.reassembly_queue whole
+  pub ordered_queue : x.unordered ≡ false → new.inbound.queue ≡ ordered_pushed x old.inbound.queue
+  pub unordered_queue : x.unordered ≡ true → PushesUnordered x old.inbound.queue new.inbound.queue whole
   pub noted : new.whole.items ≡ (if whole && x.unordered then old.whole.items ++ number ∷ [] else old.whole.items)
-  pub state : new.state ≡ record old.state { reassembly_queue = new.state.reassembly_queue }
+  pub state : new.state ≡ old.state
+  pub inbound : new.inbound ≡ record old.inbound { queue = new.inbound.queue }
   pub ordered : new.ordered ≡ old.ordered
   pub begun : new.begun ≡ old.begun
   pub next : new.next ≡ old.next

@@ -4,7 +4,6 @@ use Rattle.std.specs.List.{list_any}
 use Rattle.std.specs.BTreeMap.{BTreeMap}
 use Rattle.sctp_lists.specs.Kept.{passing}
 use Rattle.sctp_chunks.specs.declared.chunk.chunk_payload_data.ChunkPayloadData.{ChunkPayloadData}
-use Rattle.sctp_outbound.specs.payload_queue.PayloadQueue.{Payload}
 use Rattle.sctp_reassembly.specs.reassembly_queue.ReassemblyQueue.{ReassemblyState, is_too_large}
 use Rattle.sctp_model.specs.World.{World, StreamRecord, Data}
 use Rattle.sctp_model.specs.Messages.{message_at, message_of, stream_at, index_of, is_ordered_on}
@@ -14,25 +13,26 @@ use Rattle.sctp_model.specs.Contents.{chunk_at}
 use Rattle.sctp_model.specs.Queues.{filter_of}
 use Rattle.sctp_model.specs.Sound.{ComesSound}
 use Rattle.sctp_ties.specs.Holds.{reassembly_of}
-use Rattle.sctp_ties.specs.Tied.{filter_held}
+use Rattle.sctp_transfer.specs.TsnFilter.{Filter}
 use Rattle.sctp_link.specs.declared.open_stream.OpenStream.{OpenStream}
 use Rattle.sctp_link.specs.declared.record.Slot.{Slot}
 use Rattle.sctp_link.specs.declared.link.arriving.Saved.{Saved}
+use Rattle.sctp_link.specs.Linked.{filter_shown}
 use Rattle.sctp_link.specs.Records.{slot_record, stream_record}
 use Rattle.sctp_link.specs.Places.{IsIndexed, stream_numbers}
 
 -- the queue of an open stream, against the record
 pub record HoldsQueue (w : World) (l : OpenStream) : Type 0 where
-  pub held : l.state.reassembly_queue.held ≡ reassembly_of w l.state.stream_identifier
-  pub si : l.state.reassembly_queue.si ≡ l.state.stream_identifier
-  pub largest : l.state.reassembly_queue.max_message_size ≡ w.setup.largest
+  pub held : l.inbound.queue.held ≡ reassembly_of w l.state.stream_identifier
+  pub si : l.inbound.queue.si ≡ l.state.stream_identifier
+  pub largest : l.inbound.queue.max_message_size ≡ w.setup.largest
 
 -- what a link keeps for its receiver, against the record
-pub record IsReceiver (w : World) (open_streams : List OpenStream) (slots : List Slot) (filter : Payload) (cumulative : ℕ) (duplicates : List ℕ) : Type 0 where
+pub record IsReceiver (w : World) (open_streams : List OpenStream) (slots : List Slot) (filter : Filter) (duplicates : List ℕ) : Type 0 where
   pub streams_are : w.streams ≡ map stream_record open_streams
   pub slots_are : w.slots ≡ map slot_record slots
   pub duplicates_are : w.duplicates ≡ duplicates
-  pub filter_is : filter_held cumulative filter ≡ filter_of w
+  pub filter_is : filter_shown filter ≡ filter_of w
   pub queues : (k : ℕ) (d : OpenStream) → k < length open_streams → HoldsQueue w (slice_index_or open_streams k d)
   -- no two streams have one number
   pub places : BTreeMap ℕ ℕ
@@ -55,7 +55,8 @@ AllCome w (p ∷ ps) [] = ⊥
 
 -- of an open stream at most the queue has changed, and more messages are noted as whole
 pub record IsTouched (old new : OpenStream) : Type 0 where
-  pub state : new.state ≡ record old.state { reassembly_queue = new.state.reassembly_queue }
+  pub state : new.state ≡ old.state
+  pub inbound : new.inbound ≡ record old.inbound { queue = new.inbound.queue }
   pub whole : take (length old.whole.items) new.whole.items ≡ old.whole.items
   pub ordered : new.ordered ≡ old.ordered
   pub begun : new.begun ≡ old.begun
@@ -65,6 +66,7 @@ pub record IsTouched (old new : OpenStream) : Type 0 where
 -- nothing of it has
 pub record IsUnchanged (old new : OpenStream) : Type 0 where
   pub state : new.state ≡ old.state
+  pub inbound : new.inbound ≡ old.inbound
   pub whole : new.whole.items ≡ old.whole.items
   pub ordered : new.ordered ≡ old.ordered
   pub begun : new.begun ≡ old.begun
@@ -87,7 +89,7 @@ pub record MarksOnly (places : List ℕ) (old new : List Slot) : Type 0 where
 pub record IsSaved (ls : List OpenStream) (ss : List Slot) (p : ℕ) (c : ChunkPayloadData) (x : Saved) : Type 0 where
   pub inside : x.at < length ls
   pub number : (d : OpenStream) → (slice_index_or ls x.at d).state.stream_identifier ≡ c.stream_identifier
-  pub queue : (d : OpenStream) → x.queue ≡ (slice_index_or ls x.at d).state.reassembly_queue
+  pub queue : (d : OpenStream) → x.queue ≡ (slice_index_or ls x.at d).inbound.queue
   pub whole : (d : OpenStream) → x.whole ≡ length (slice_index_or ls x.at d).whole.items
   pub made : p < length ss
   pub arrived : (d : Slot) → x.arrived ≡ (slice_index_or ss p d).arrived

@@ -53,7 +53,7 @@ gone_to end q = if end == 0 then q else ordered_forwarded ((end - 1) % 2 ^ 16) q
 abbrev pub skipped_stream : Named → ℕ → OpenStream → OpenStream
 skipped_stream named tsn l =
     record l {
-      state = record l.state { reassembly_queue = unordered_forwarded tsn (gone_to named.end l.state.reassembly_queue) };
+      inbound = record l.inbound { queue = unordered_forwarded tsn (gone_to named.end l.inbound.queue) };
       next = max l.next named.end;
       named = max l.named named.end;
     }

@@ -25,7 +25,7 @@ use bytes::Bytes;
 use sctp_base::error::Error;
 use sctp_base::util::Checksum;
 use sctp_queues::outbound_queue::OutboundQueue;
-use sctp_queues::payload_queue::PayloadQueue;
+use sctp_transfer::receiver::tsn_filter::TsnFilter;
 use std::alloc::Global;
 use std::marker::Model;
 
@@ -53,8 +53,7 @@ pub struct Link<C: Checksum + Drop> {
     duplicates: Vec<u64>,
     outbound: OutboundQueue,
     next_tsn: u32,
-    filter: PayloadQueue,
-    cumulative_tsn: u32,
+    filter: TsnFilter,
     // how many fragments were accepted
     fragments: usize,
     // how many bytes were written
@@ -144,8 +143,7 @@ impl<C: Checksum + Drop> Link<C> {
             duplicates: Vec::new(alloc),
             outbound: OutboundQueue::new(alloc),
             next_tsn: first_tsn,
-            filter: PayloadQueue::new(alloc),
-            cumulative_tsn: first_tsn.wrapping_sub(1),
+            filter: TsnFilter::new(alloc, first_tsn),
             fragments: 0,
             written: 0,
         }

@@ -11,21 +11,24 @@ ghost use Rattle.sctp_link.specs.declared.open_stream.OpenStream.{OpenStream};
 use crate::record::Message;
 use crate::skipped::Named;
 use bytes::Bytes;
-use sctp_base::error::Result;
+use sctp_base::error::{Error, Result};
 use sctp_chunks::chunk::chunk_payload_data::{
     ChunkPayloadData, PayloadProtocolIdentifier, ReliabilityType,
 };
 use sctp_queues::chunks::Chunks;
 use sctp_queues::reassembly_queue::ReassemblyQueue;
-use sctp_transfer::stream::StreamState;
+use sctp_transfer::receiver::inbound_streams::InboundStream;
+use sctp_transfer::stream::{DataChannelStats, StreamState};
 use std::alloc::Global;
 use std::collections::VecDeque;
 
 /// An open stream: its state, and what a link knows of its messages.
 #[derive(Drop)]
 pub struct OpenStream {
-    /// How its writes are cut, and what came on it.
+    /// How its writes are cut, and what was sent.
     pub state: StreamState,
+    /// What came on it and was not read, and what was read.
+    pub inbound: InboundStream,
     /// The unordered messages that are whole and not read, in the order in which they became whole.
     pub whole: VecDeque<u64>,
     /// How many ordered messages were written and did not expire.
@@ -40,14 +43,17 @@ pub struct OpenStream {
 
 impl OpenStream {
     ghost use Rattle.sctp_transfer.specs.Stream.{new_stream};
-    ghost use Rattle.sctp_link.specs.OpenStreams.{is_ordered, message_with, fragments_with_mode, after_write_on, expired_on, with_sent_stats, with_read_stats, Keeps};
-    ghost use Rattle.sctp_reassembly.specs.reassembly_queue.ReassemblyQueue.{is_too_large, message_read, state_read, at_start};
+    ghost use Rattle.sctp_link.specs.OpenStreams.{is_ordered, message_with, fragments_with_mode, after_write_on, expired_on, with_sent_stats, Keeps};
+    ghost use Rattle.sctp_link.specs.Linked.{stats_in};
+    ghost use Rattle.sctp_transfer.specs.Inbound as Inbound;
+    ghost use Rattle.sctp_reassembly.specs.reassembly_queue.ReassemblyQueue.{is_too_large, message_read, at_start};
 
     /// A stream that nothing was written to. It takes no memory.
     /// Precondition: `max_payload_size` is 1 to 65,519.
     pub fn new(alloc: Global, stream: u16, max_payload_size: u32, max_message_size: u32) -> Self
         requires { (0 < max_payload_size) × (max_payload_size ≤ 65519) }
         ensures state { result.state ≡ new_stream stream max_payload_size max_message_size Unknown }
+        ensures inbound { result.inbound ≡ Inbound.new_stream stream max_message_size }
         ensures whole { result.whole.items ≡ [] }
         ensures ordered { result.ordered ≡ 0 }
         ensures begun { result.begun ≡ 0 }
@@ -62,6 +68,7 @@ impl OpenStream {
                 max_message_size,
                 PayloadProtocolIdentifier::Unknown,
             ),
+            inbound: InboundStream::new(alloc, stream, max_message_size),
             whole: VecDeque::new(alloc),
             ordered: 0,
             begun: 0,
@@ -150,14 +157,17 @@ impl OpenStream {
     /// Precondition: the chunk is of this stream, and its message not too long with it.
     /// Refuses only for memory, and what the stream has is as it was then.
     pub fn keep(&mut self, chunk: &ChunkPayloadData, number: u64) -> Result<()>
-        requires size { is_too_large chunk.now self.old.state.reassembly_queue ≡ false }
-        requires stream { (chunk.now.stream_identifier == self.old.state.reassembly_queue.si) ≡ true }
+        requires size { is_too_large chunk.now self.old.inbound.queue ≡ false }
+        requires stream { (chunk.now.stream_identifier == self.old.inbound.queue.si) ≡ true }
         ensures ok { OnOk result (Keeps chunk.now number self.old self.new) }
-        ensures err { OnErr result ((self.new.state ≡ self.old.state) × (self.new.whole.items ≡ self.old.whole.items) × (self.new.ordered ≡ self.old.ordered) × (self.new.begun ≡ self.old.begun) × (self.new.next ≡ self.old.next) × (self.new.named ≡ self.old.named)) }
+        ensures err { OnErr result ((self.new.state ≡ self.old.state) × (self.new.inbound ≡ self.old.inbound) × (self.new.whole.items ≡ self.old.whole.items) × (self.new.ordered ≡ self.old.ordered) × (self.new.begun ≡ self.old.begun) × (self.new.next ≡ self.old.next) × (self.new.named ≡ self.old.named)) }
         ensures memory { IsOkUnless result ErrOutOfMemory }
     {
         self.whole.reserve(1)?;
-        if self.state.handle_data(chunk)? && chunk.unordered {
+        let Ok(whole) = self.inbound.push_told(chunk) else {
+            return Err(Error::ErrOutOfMemory);
+        };
+        if whole && chunk.unordered {
             self.whole.push_back_reserved(number);
         }
         Ok(())
@@ -165,36 +175,32 @@ impl OpenStream {
 
     /// Puts back an earlier queue, and leaves of the messages noted as whole the first ones, this many.
     pub fn put_back(&mut self, queue: ReassemblyQueue, whole: usize)
-        ensures state { self.new.state ≡ record self.old.state { reassembly_queue = queue } }
+        ensures state { self.new.state ≡ self.old.state }
+        ensures inbound { self.new.inbound ≡ record self.old.inbound { queue = queue } }
         ensures whole { self.new.whole.items ≡ take whole self.old.whole.items }
         ensures ordered { self.new.ordered ≡ self.old.ordered }
         ensures begun { self.new.begun ≡ self.old.begun }
         ensures next { self.new.next ≡ self.old.next }
         ensures named { self.new.named ≡ self.old.named }
     {
-        *self.state.reassembly_queue_mut() = queue;
+        self.inbound.queue = queue;
         self.whole.truncate(whole);
     }
 
-    /// The next message of the queue; None where there is none to read.
+    /// The next message, which is counted; None where there is none to read.
     pub fn read(&mut self) -> Option<Chunks>
-        ensures message { result ≡ option_map at_start (message_read self.old.state.reassembly_queue.held) }
-        ensures rest { self.new ≡ record self.old { state = record self.old.state { reassembly_queue = state_read self.old.state.reassembly_queue } } }
+        ensures message { result ≡ option_map at_start (message_read self.old.inbound.queue.held) }
+        ensures rest { self.new ≡ record self.old { inbound = Inbound.stream_read self.old.inbound } }
     {
-        self.state.reassembly_queue_mut().read()
+        self.inbound.read()
     }
 
-    /// Notes that a message of `len` bytes was read: with an ordered one that was expected next the next one is.
+    /// Notes that a message was read: with an ordered one that was expected next the next one is.
     /// Precondition: `index` is below the greatest u64.
-    pub fn finish_read(
-        &mut self,
-        ordered: bool,
-        index: u64,
-        ppi: PayloadProtocolIdentifier,
-        len: usize,
-    )
+    pub fn finish_read(&mut self, ordered: bool, index: u64)
         requires { index + 1 < 2 ^ 64 }
-        ensures state { self.new.state ≡ with_read_stats ppi len self.old.state }
+        ensures state { self.new.state ≡ self.old.state }
+        ensures inbound { self.new.inbound ≡ self.old.inbound }
         ensures whole { self.new.whole.items ≡ (if ordered then self.old.whole.items else drop 1 self.old.whole.items) }
         ensures ordered { self.new.ordered ≡ self.old.ordered }
         ensures begun { self.new.begun ≡ self.old.begun }
@@ -206,27 +212,32 @@ impl OpenStream {
         } else if index == self.next {
             self.next = index + 1;
         }
-        self.count_read(ppi, len);
     }
 
     /// A skip up to a TSN comes, which names so much of the stream (RFC 3758 3.6). It takes no memory.
     pub fn skip(&mut self, named: Named, tsn: u32)
         ensures { self.new ≡ skipped_stream named tsn self.old }
     {
-        let queue = self.state.reassembly_queue_mut();
-        go_to(queue, named.end);
-        queue.forward_tsn_for_unordered(tsn);
+        go_to(&mut self.inbound.queue, named.end);
+        self.inbound.queue.forward_tsn_for_unordered(tsn);
         self.next = self.next.max(named.end);
         self.named = self.named.max(named.end);
     }
 
-    /// Counts a message of `len` bytes that was read.
-    pub fn count_read(&mut self, ppi: PayloadProtocolIdentifier, len: usize)
-        ensures { self.new ≡ record self.old { state = with_read_stats ppi len self.old.state } }
+    /// Its counters: what was sent, and what was read.
+    pub fn stats(&self) -> DataChannelStats
+        ensures { result ≡ stats_in self.now }
     {
-        let mut stats = self.state.stats();
-        stats.received(ppi, len);
-        self.state.set_stats(stats);
+        let sent = self.state.stats();
+        let read = self.inbound.stats;
+        DataChannelStats {
+            stream_identifier: sent.stream_identifier,
+            generation: sent.generation,
+            messages_sent: sent.messages_sent,
+            bytes_sent: sent.bytes_sent,
+            messages_received: read.messages_received,
+            bytes_received: read.bytes_received,
+        }
     }
 }
 

@@ -5,10 +5,10 @@ ghost use Rattle.sctp_transfer.specs.Inbound.{named_forwarded};
 ghost use Rattle.sctp_transfer.specs.declared.receiver.refusal.ReceiverRefusal.TheVariants.{StreamOpen, StreamUnknown, OutOfMemory};
 
 pub mod arrival;
-mod inbound_streams;
+pub mod inbound_streams;
 pub mod refusal;
 pub mod sack_out;
-mod tsn_filter;
+pub mod tsn_filter;
 
 use self::arrival::{Arrival, Forwarded};
 use self::inbound_streams::InboundStreams;

@@ -11,7 +11,6 @@ use Rattle.sctp_chunks.specs.Wire.{sack_chunk}
 use Rattle.sctp_chunks.proofs.Lengths.{length_sack_value}
 use Rattle.sctp_packets.specs.Packet.{ReadsPacket, packet_text}
 use Rattle.sctp_outbound.specs.payload_queue.Blocks.{gap_offsets}
-use Rattle.sctp_outbound.specs.payload_queue.PayloadQueue.{Payload}
 use Rattle.sctp_model.specs.declared.event.Event.TheVariants as E
 use Rattle.sctp_model.specs.World.{World}
 use Rattle.sctp_model.specs.World as W
@@ -24,9 +23,11 @@ use Rattle.sctp_model.specs.Changes.{reported}
 use Rattle.sctp_model.specs.Steps.{reply_to}
 use Rattle.sctp_ties.proofs.arriving.Filter.{cumulative-le}
 use Rattle.sctp_ties.proofs.acknowledging.SackMade.{blocks-are, reported-outbound}
+use Rattle.sctp_transfer.specs.TsnFilter.{Filter, gap_ack_blocks, mark}
 use Rattle.sctp_link.specs.Records.{ends_of}
 use Rattle.sctp_link.specs.Texts.{IsDatagram, packet_with, block_of}
 use Rattle.sctp_link.specs.Linked.{State, IsLinked}
+use Rattle.sctp_link.proofs.receiver.Came.{blocks-ends, tsns-beyond}
 use Rattle.sctp_link.proofs.upkeep.Facts.{facts, stands-then}
 use Rattle.sctp_link.proofs.upkeep.Frames.{stream-same, texts-more}
 
@@ -65,7 +66,7 @@ module _ (sum : List ℕ → ℕ) (x : State) (l : IsLinked sum x) (credit : ℕ
   abbrev v : World
   v = reported x.world credit
 
-  cumulative-is : x.cumulative_tsn ≡ cumulative_tsn w (cumulative w)
+  cumulative-is : x.filter.cumulative_tsn ≡ cumulative_tsn w (cumulative w)
   cumulative-is = ap (λ (f : FilterRecord). f.cumulative) l.filter
 
   repeats-are : x.filter.duplicates ≡ map (tsn_of w) w.duplicates
@@ -75,7 +76,7 @@ module _ (sum : List ℕ → ℕ) (x : State) (l : IsLinked sum x) (credit : ℕ
   pub repeats-count : length x.filter.duplicates ≡ length w.duplicates
   repeats-count = ap length repeats-are ∙ length-mapped (tsn_of w) w.duplicates
 
-  pub cumulative-place : ((x.cumulative_tsn + (2 ^ 32 - w.setup.first)) % 2 ^ 32 + 1) % 2 ^ 32 ≡ cumulative w
+  pub cumulative-place : ((x.filter.cumulative_tsn + (2 ^ 32 - w.setup.first)) % 2 ^ 32 + 1) % 2 ^ 32 ≡ cumulative w
   cumulative-place =
       let f = facts sum x l in
       let top = cumulative-le w f.sound.sound.skipped_made in
@@ -83,13 +84,13 @@ module _ (sum : List ℕ → ℕ) (x : State) (l : IsLinked sum x) (credit : ℕ
       let few = f.few in
       omega (arith, cumulative-is, top, first, few)
 
-  module _ (all bs : List GapAckBlock) (runs : map ends_of all ≡ runs_of (gap_offsets x.cumulative_tsn x.filter.chunks)) (cut : bs ≡ take 16379 all) where
+  module _ (all bs : List GapAckBlock) (runs : all ≡ gap_ack_blocks x.filter) (cut : bs ≡ take 16379 all) where
     pub blocks-made : map ends_of bs ≡ gap_blocks w
     blocks-made =
         let f = facts sum x l in
-        ap (map ends_of) cut ∙ sym (take-map ends_of 16379 all) ∙ ap (take 16379) runs
-        ∙ ap (λ t. take 16379 (runs_of (gap_offsets t x.filter.chunks))) cumulative-is
-        ∙ sym (blocks-are w credit x.filter.chunks f.sound.sound.skipped_made f.few (ap (λ (f : FilterRecord). f.held) l.filter))
+        ap (map ends_of) cut ∙ sym (take-map ends_of 16379 all) ∙ ap (take 16379) (ap (map ends_of) runs ∙ blocks-ends x.filter)
+        ∙ ap (λ t. take 16379 (runs_of (gap_offsets t (map mark x.filter.beyond)))) cumulative-is
+        ∙ sym (blocks-are w credit (map mark x.filter.beyond) f.sound.sound.skipped_made f.few (tsns-beyond w x.filter l.filter))
 
     blocks-count : length bs ≡ length (gap_blocks w)
     blocks-count = sym (length-mapped ends_of bs) ∙ ap length blocks-made
@@ -107,7 +108,7 @@ module _ (sum : List ℕ → ℕ) (x : State) (l : IsLinked sum x) (credit : ℕ
           ∙ ap (λ k. let r : W.Report = record { cumulative = cumulative w; credit = credit; blocks = k; duplicates = repeats } in r) (b ∙ blocks-made)
           ∙ ap (λ k. let r : W.Report = record { cumulative = cumulative w; credit = credit; blocks = gap_blocks w; duplicates = k } in r) (c ∙ repeats-told)
 
-      says : (s : Sack) → s.cumulative_tsn_ack ≡ x.cumulative_tsn → s.advertised_receiver_window_credit ≡ credit → s.gap_ack_blocks ≡ bs → s.duplicate_tsn ≡ take count x.filter.duplicates
+      says : (s : Sack) → s.cumulative_tsn_ack ≡ x.filter.cumulative_tsn → s.advertised_receiver_window_credit ≡ credit → s.gap_ack_blocks ≡ bs → s.duplicate_tsn ≡ take count x.filter.duplicates
           → s ≡ (let t : Sack = record { cumulative_tsn_ack = cumulative_tsn w (cumulative w); advertised_receiver_window_credit = credit; gap_ack_blocks = map block_of (gap_blocks w); duplicate_tsn = map (tsn_of w) (report_of w credit).duplicates } in t)
       says s a b c d =
           ap (λ k. let t : Sack = record { cumulative_tsn_ack = k; advertised_receiver_window_credit = s.advertised_receiver_window_credit; gap_ack_blocks = s.gap_ack_blocks; duplicate_tsn = s.duplicate_tsn } in t) (a ∙ cumulative-is)
@@ -115,7 +116,7 @@ module _ (sum : List ℕ → ℕ) (x : State) (l : IsLinked sum x) (credit : ℕ
           ∙ ap (λ k. let t : Sack = record { cumulative_tsn_ack = cumulative_tsn w (cumulative w); advertised_receiver_window_credit = credit; gap_ack_blocks = k; duplicate_tsn = s.duplicate_tsn } in t) (c ∙ sym (blocks-again bs) ∙ ap (map block_of) blocks-made)
           ∙ ap (λ k. let t : Sack = record { cumulative_tsn_ack = cumulative_tsn w (cumulative w); advertised_receiver_window_credit = credit; gap_ack_blocks = map block_of (gap_blocks w); duplicate_tsn = k } in t) (d ∙ tsns-told)
 
-      pub linked-ack : (s : Sack) (bytes : List ℕ) (filter : Payload) → s.cumulative_tsn_ack ≡ x.cumulative_tsn → s.advertised_receiver_window_credit ≡ credit → s.gap_ack_blocks ≡ bs → s.duplicate_tsn ≡ take count x.filter.duplicates → bytes ≡ packet_text sum (packet_with (sack_chunk s ∷ [])) → ReadsPacket sum bytes (packet_with (sack_chunk s ∷ [])) → length x.datagrams ≡ length w.network → filter ≡ record x.filter { duplicates = [] } → IsLinked sum (record x { world = v; datagrams = x.datagrams ++ bytes ∷ []; filter = filter })
+      pub linked-ack : (s : Sack) (bytes : List ℕ) (filter : Filter) → s.cumulative_tsn_ack ≡ x.filter.cumulative_tsn → s.advertised_receiver_window_credit ≡ credit → s.gap_ack_blocks ≡ bs → s.duplicate_tsn ≡ take count x.filter.duplicates → bytes ≡ packet_text sum (packet_with (sack_chunk s ∷ [])) → ReadsPacket sum bytes (packet_with (sack_chunk s ∷ [])) → length x.datagrams ≡ length w.network → filter ≡ record x.filter { duplicates = [] } → IsLinked sum (record x { world = v; datagrams = x.datagrams ++ bytes ∷ []; filter = filter })
       linked-ack s bytes filter ea eb ec ed text reads len ef = subst (λ f. IsLinked sum (record x { world = v; datagrams = x.datagrams ++ bytes ∷ []; filter = f })) (sym ef) (record {
         setup = l.setup;
         history = (E.Ack credit, reply_to w (E.Ack credit)) ∷ l.history;

@@ -36,7 +36,7 @@ use Rattle.sctp_ties.proofs.giving_up.ExpiredReply.{count-expire, number-lower, 
 use Rattle.sctp_link.specs.declared.open_stream.OpenStream.{OpenStream}
 use Rattle.sctp_link.specs.declared.record.Message.{Message}
 use Rattle.sctp_link.specs.OpenStreams.{expired_on}
-use Rattle.sctp_link.specs.Linked.{State, IsOpenStream, IsLinked, has_number, stats_of}
+use Rattle.sctp_link.specs.Linked.{State, IsOpenStream, IsLinked, has_number, stats_of, stats_in}
 use Rattle.sctp_link.specs.Places.{IsIndexed, stream_numbers}
 use Rattle.sctp_link.specs.Records.{message_record, progress_of, stream_record}
 use Rattle.sctp_link.proofs.upkeep.Apart.{map-set, map-set_same}
@@ -99,7 +99,7 @@ module _ (sum : List ℕ → ℕ) (x : State) (l : IsLinked sum x) (now : ℕ) w
 
   module _ (n : ℕ) (e : expiring x.world now ≡ Some n) where
     -- a stream, by its amount and its count
-    stream-by : (y z : OpenStream) → IsOpenStream x.world y → (s : ℕ) → y.state.stream_identifier ≡ s → z.state.reassembly_queue ≡ y.state.reassembly_queue → z.state.stream_identifier ≡ s → z.state.max_payload_size ≡ y.state.max_payload_size → z.state.stats ≡ y.state.stats → z.begun ≡ y.begun → z.next ≡ y.next → z.ordered ≡ ordered_before v s (length v.messages) → z.state.sequence_number ≡ z.ordered % 2 ^ 16 → z.state.buffered_amount ≡ amount v s → IsOpenStream v z
+    stream-by : (y z : OpenStream) → IsOpenStream x.world y → (s : ℕ) → y.state.stream_identifier ≡ s → z.inbound.queue ≡ y.inbound.queue → z.state.stream_identifier ≡ s → z.state.max_payload_size ≡ y.state.max_payload_size → stats_in z ≡ stats_in y → z.begun ≡ y.begun → z.next ≡ y.next → z.ordered ≡ ordered_before v s (length v.messages) → z.state.sequence_number ≡ z.ordered % 2 ^ 16 → z.state.buffered_amount ≡ amount v s → IsOpenStream v z
     stream-by y z i s id queue id' payload stats begun next ordered number bytes =
         let f = facts sum x l in
         record {

@@ -1,13 +1,16 @@
 -- What a read makes of a link.
-use Rattle.std.proofs.Common.{◌≡◌, ℕ, zero, suc, ◌+◌, ◌<◌, Bool, true, false, List, [], ◌∷◌, length, map, drop, Some, None, refl, ap, sym, ◌∙◌, inl, inr, arith}
+use Rattle.std.proofs.Common.{◌≡◌, ℕ, zero, suc, ◌+◌, ◌<◌, Bool, true, false, List, [], ◌∷◌, length, map, drop, Some, None, refl, ap, sym, ◌∙◌, inl, inr, arith, length-append}
 use Rattle.std.specs.Prelude.{◌⊎◌, ◌==◌, ◌&&◌, is_some, if◌then◌else◌, find, unwrap_or, slice_index_or, slice_set, Option, option_map}
 use Rattle.std.specs.List.{list_any}
 use Rattle.std.proofs.Math.Path.{subst}
 use Rattle.std.proofs.lemmas.List.{length-set}
+use Rattle.std.proofs.lemmas.List.Sums.{sum_by-cons}
 use Rattle.sctp_lists.specs.Lists.{changed}
 use Rattle.sctp_lists.proofs.Cases.{same-yes, same-is, or-left}
 use Rattle.sctp_lists.proofs.KeptLemmas.{front-kept, FrontOf}
 use Rattle.sctp_chunks.specs.ChunkSet.{ChunkSet}
+use Rattle.sctp_chunks.specs.declared.chunk.chunk_payload_data.ChunkPayloadData.{ChunkPayloadData}
+use Rattle.sctp_serial.specs.DataChunks.{bytes_of}
 use Rattle.sctp_chunks.specs.declared.chunk.chunk_payload_data.PayloadProtocolIdentifier.{PayloadProtocolIdentifier}
 use Rattle.sctp_chunks.specs.declared.chunk.chunk_payload_data.PayloadProtocolIdentifier.TheVariants.{Dcep, String, Binary, StringEmpty, BinaryEmpty, Unknown}
 use Rattle.sctp_reassembly.specs.reassembly_queue.ReassemblyQueue.{message_read, rest_read, state_read, at_start}
@@ -16,6 +19,7 @@ use Rattle.sctp_model.specs.declared.event.Event.TheVariants as E
 use Rattle.sctp_model.specs.declared.event.LinkRefusal.TheVariants.{StreamUnknown}
 use Rattle.sctp_model.specs.World.{World, StreamRecord}
 use Rattle.sctp_model.specs.World as W
+use Rattle.sctp_model.specs.Log.{joined_bytes}
 use Rattle.sctp_model.specs.Messages.{message_at, stream_at, stream_of, index_of, sent_of, no_stream}
 use Rattle.sctp_model.specs.Receiver.{is_held, held_on, next_of, next_read}
 use Rattle.sctp_model.specs.Changes.{read_of, read_from, mark_read, without_first}
@@ -26,6 +30,7 @@ use Rattle.sctp_model.specs.Steps.{refusal_of, reply_to, after, read_reply, unle
 use Rattle.sctp_model.proofs.sender.Network
 use Rattle.sctp_model.proofs.sender.Shape.{shape}
 use Rattle.sctp_model.proofs.sender.Fronts.{slot-sent}
+use Rattle.sctp_model.proofs.receiver.Shown.{read-joined}
 use Rattle.sctp_ties.specs.Holds.{reassembly_of}
 use Rattle.sctp_ties.specs.Counts.{counters_on, received_more, counted_as}
 use Rattle.sctp_ties.proofs.reading.Line
@@ -37,9 +42,11 @@ use Rattle.sctp_ties.proofs.arriving.SpanEnds.{Begins, set-begins, whole-begins}
 use Rattle.sctp_ties.proofs.amounts.StreamCounters.{counters-read, counters-nothing}
 use Rattle.sctp_link.specs.declared.open_stream.OpenStream.{OpenStream}
 use Rattle.sctp_link.specs.declared.record.Message.{Message}
+use Rattle.sctp_transfer.specs.Inbound.{counted, stream_read}
+use Rattle.sctp_transfer.specs.declared.receiver.inbound_streams.InboundStream.{InboundStream}
+use Rattle.sctp_transfer.specs.declared.stream.DataChannelStats.{DataChannelStats}
 use Rattle.sctp_transfer.specs.declared.stream.StreamState.{StreamState}
-use Rattle.sctp_link.specs.OpenStreams.{with_read_stats}
-use Rattle.sctp_link.specs.Linked.{State, IsLinked, IsOpenStream, has_number, stats_of}
+use Rattle.sctp_link.specs.Linked.{State, IsLinked, IsOpenStream, has_number, stats_of, stats_in, both_ways}
 use Rattle.sctp_link.specs.Places.{stream_numbers}
 use Rattle.sctp_link.specs.Records.{message_record, stream_record}
 use Rattle.sctp_transfer.specs.Stats.{counted_bytes, with_received}
@@ -72,6 +79,22 @@ filter-read w s (Some n) = refl
 front-held : (w : World) (s : ℕ) (l : List ℕ) (k : ℕ) (rest : List ℕ) → FrontOf (is_held w s) 0 (length w.messages) l → l ≡ k ∷ rest → is_held w s k ≡ true
 front-held w s [] k rest f e = cc
 front-held w s (j ∷ r) k rest f e = let z : j ≡ k = cc in ap (is_held w s) (sym z) ∙ f.passes
+
+read-both : (o : Option ℕ) (a b : DataChannelStats) → both_ways a (with_received o b) ≡ with_received o (both_ways a b)
+read-both None a b = refl
+read-both (Some n) a b = refl
+
+joined-length : (cs : List ChunkPayloadData) → length (joined_bytes cs) ≡ bytes_of cs
+joined-length [] = refl
+joined-length (c ∷ cs) = let more = sum_by-cons (λ (x : ChunkPayloadData). length x.user_data) c cs in omega (arith, length-append c.user_data (joined_bytes cs), joined-length cs, more)
+
+-- what is handed out has the payload type of its message
+pub ppi-handed : (w : World) (n : ℕ) → (handed_out w n).ppi ≡ (message_at w n).ppi
+ppi-handed w n = by (message_at w n).ordered
+  where
+    by : (b : Bool) → (if b then set_of w n else whole_set_of w n).ppi ≡ (message_at w n).ppi
+    by true = refl
+    by false = refl
 
 -- what is read, by its kind
 pub record HandsOut (w : World) (s n : ℕ) : Type 0 where
@@ -110,7 +133,7 @@ module _ (sum : List ℕ → ℕ) (x : State) (l : IsLinked sum x) (s at : ℕ) 
   id-at : (c : OpenStream) → (slice_index_or x.open_streams at c).state.stream_identifier ≡ s
   id-at c = number-found s x.open_streams (slice_index_or x.open_streams at c) (found c)
 
-  here : y.state.reassembly_queue.held ≡ reassembly_of w s
+  here : y.inbound.queue.held ≡ reassembly_of w s
   here = (l.open_streams at d lt).held ∙ ap (reassembly_of w) (id-at d)
 
   span : IsSpan w s []
@@ -119,7 +142,7 @@ module _ (sum : List ℕ → ℕ) (x : State) (l : IsLinked sum x) (s at : ℕ) 
   whole-are : (stream_of w s).whole ≡ y.whole.items
   whole-are = ap (λ o. (unwrap_or o (no_stream s)).whole) open'
 
-  rest : rest_read y.state.reassembly_queue.held ≡ reassembly_of v s
+  rest : rest_read y.inbound.queue.held ≡ reassembly_of v s
   rest = let f = facts sum x l in ap rest_read here ∙ NextRead.rest-is w s r f.sound.sound f.sound.loose span open'
 
   streams-apart : IsApart (stream_numbers x.open_streams)
@@ -129,7 +152,7 @@ module _ (sum : List ℕ → ℕ) (x : State) (l : IsLinked sum x) (s at : ℕ) 
   filter-stays = filter-read w s (next_read w s)
 
   -- the stream that is read, and the others
-  stream-read : (z : OpenStream) → z.state.stream_identifier ≡ y.state.stream_identifier → z.state.reassembly_queue ≡ state_read y.state.reassembly_queue → z.state.max_payload_size ≡ y.state.max_payload_size → z.state.sequence_number ≡ y.state.sequence_number → z.state.buffered_amount ≡ y.state.buffered_amount → z.ordered ≡ y.ordered → z.begun ≡ y.begun → z.next ≡ next_of v s → z.state.stats ≡ stats_of (counters_on v s) → IsOpenStream v z
+  stream-read : (z : OpenStream) → z.state.stream_identifier ≡ y.state.stream_identifier → z.inbound.queue ≡ state_read y.inbound.queue → z.state.max_payload_size ≡ y.state.max_payload_size → z.state.sequence_number ≡ y.state.sequence_number → z.state.buffered_amount ≡ y.state.buffered_amount → z.ordered ≡ y.ordered → z.begun ≡ y.begun → z.next ≡ next_of v s → stats_in z ≡ stats_of (counters_on v s) → IsOpenStream v z
   stream-read z id queue size number bytes ordered begun next stats =
       stream-then sum x l (E.Read s) none frame refl y z (l.open_streams at d lt) id (ap (λ q. q.held) queue ∙ rest ∙ ap (reassembly_of v) (sym (id-at d))) (ap (λ q. q.si) queue) (ap (λ q. q.max_message_size) queue) size ordered number begun
       (next ∙ ap (next_of v) (sym (id-at d))) bytes (stats ∙ ap (λ t. stats_of (counters_on v t)) (sym (id-at d)))
@@ -150,7 +173,7 @@ module _ (sum : List ℕ → ℕ) (x : State) (l : IsLinked sum x) (s at : ℕ) 
 
   -- ## Nothing to read
 
-  module _ (e : message_read (slice_index_or x.open_streams at d).state.reassembly_queue.held ≡ None) where
+  module _ (e : message_read (slice_index_or x.open_streams at d).inbound.queue.held ≡ None) where
     nothing : next_read w s ≡ None
     nothing = let f = facts sum x l in ReadOne.none-due w s r f.sound.sound f.sound.loose span open' (ap message_read (sym here) ∙ e)
 
@@ -161,7 +184,7 @@ module _ (sum : List ℕ → ℕ) (x : State) (l : IsLinked sum x) (s at : ℕ) 
     reply-nothing = sym (ap (read_reply w) nothing)
 
     abbrev z : OpenStream
-    z = record (slice_index_or x.open_streams at d) { state = record (slice_index_or x.open_streams at d).state { reassembly_queue = state_read (slice_index_or x.open_streams at d).state.reassembly_queue } }
+    z = record (slice_index_or x.open_streams at d) { inbound = stream_read (slice_index_or x.open_streams at d).inbound }
 
     world-same : record w { streams = map stream_record (slice_set x.open_streams at z) } ≡ v
     world-same = ap {B = World} (λ rs. record w { streams = rs }) (map-set_same stream_record x.open_streams at z d refl ∙ sym streams_are) ∙ sym still
@@ -169,13 +192,13 @@ module _ (sum : List ℕ → ℕ) (x : State) (l : IsLinked sum x) (s at : ℕ) 
     linked-same : IsLinked sum (record x { world = record w { streams = map stream_record (slice_set x.open_streams at z) }; open_streams = slice_set x.open_streams at z })
     linked-same =
         let i = l.open_streams at d lt in
-        linked-then sum x l (E.Read s) none frame x.progress (slice_set x.open_streams at z) x.cumulative_tsn x.filter (record w { streams = map stream_record (slice_set x.open_streams at z) }) refl (l.filter ∙ sym filter-stays)
-        (each-read z (stream-read z refl refl refl refl refl refl refl (i.next ∙ ap (next_of w) (id-at d) ∙ ap (λ u. next_of u s) (sym still)) (i.stats ∙ ap (λ t. stats_of (counters_on w t)) (id-at d) ∙ ap stats_of (sym (counters-nothing w s s nothing))))
+        linked-then sum x l (E.Read s) none frame x.progress (slice_set x.open_streams at z) x.filter (record w { streams = map stream_record (slice_set x.open_streams at z) }) refl (l.filter ∙ sym filter-stays)
+        (each-read z (stream-read z refl refl refl refl refl refl refl (i.next ∙ ap (next_of w) (id-at d) ∙ ap (λ u. next_of u s) (sym still)) (ap (λ o. both_ways y.state.stats (counted o y.inbound.stats)) e ∙ i.stats ∙ ap (λ t. stats_of (counters_on w t)) (id-at d) ∙ ap stats_of (sym (counters-nothing w s s nothing))))
         (λ t ne. ap (λ u. next_of u t) still) (λ t ne. counters-nothing w s t nothing))
         (indexed-set x.places x.open_streams at z d l.indexed refl)
         quiet world-same
 
-    module _ (u : OpenStream) (is : u ≡ record (slice_index_or x.open_streams at d) { state = record (slice_index_or x.open_streams at d).state { reassembly_queue = state_read (slice_index_or x.open_streams at d).state.reassembly_queue } }) where
+    module _ (u : OpenStream) (is : u ≡ record (slice_index_or x.open_streams at d) { inbound = stream_read (slice_index_or x.open_streams at d).inbound }) where
       pub world-nothing : record w { streams = map stream_record (slice_set x.open_streams at u) } ≡ v
       world-nothing = ap {B = World} (λ (t : OpenStream). record w { streams = map stream_record (slice_set x.open_streams at t) }) is ∙ world-same
 
@@ -217,7 +240,7 @@ module _ (sum : List ℕ → ℕ) (x : State) (l : IsLinked sum x) (s at : ℕ) 
       step true h = ap (λ k. k + 1) (sym (same-is (index_of w n) (next_of w s) h))
       step false h = refl
 
-  module _ (set : ChunkSet) (e : message_read (slice_index_or x.open_streams at d).state.reassembly_queue.held ≡ Some set) where
+  module _ (set : ChunkSet) (e : message_read (slice_index_or x.open_streams at d).inbound.queue.held ≡ Some set) where
     pub read-is : (n : ℕ) × (next_read w s ≡ Some n) × (set ≡ handed_out w n)
     read-is = let f = facts sum x l in ReadOne.some-read w s r f.sound.sound f.sound.loose span open' set (ap message_read (sym here) ∙ e)
 
@@ -234,6 +257,13 @@ module _ (sum : List ℕ → ℕ) (x : State) (l : IsLinked sum x) (s at : ℕ) 
     pub hands-begins : Begins w read-is.0 set.chunks
     hands-begins = subst (λ (c : ChunkSet). Begins w read-is.0 c.chunks) (sym read-is.2) hands.begins
 
+    -- it has the bytes of its message
+    bytes-read : bytes_of set.chunks ≡ length (message_at w read-is.0).bytes
+    bytes-read =
+        ap (λ (c : ChunkSet). bytes_of c.chunks) read-is.2
+        ∙ sym (joined-length (handed_out w read-is.0).chunks)
+        ∙ ap length (over sum x (λ (u : World). next_read u s ≡ Some read-is.0 → joined_bytes (handed_out u read-is.0).chunks ≡ (message_at u read-is.0).bytes) l (λ h. read-joined w.setup l.history l.setup l.stands.run s read-is.0 h) read-is.1)
+
     pub low : index_kept x.progress read-is.0 < length w.messages
     low = omega (arith, l.low read-is.0, hands.made)
 
@@ -246,7 +276,8 @@ module _ (sum : List ℕ → ℕ) (x : State) (l : IsLinked sum x) (s at : ℕ) 
 
     -- with the message m, whose number is n
     module _ (m : Message) (messages : List W.Message) (z : OpenStream) (m_is : message_at x.world read-is.0 ≡ message_record m) (messages_are : messages ≡ changed mark_read read-is.0 x.world.messages)
-        (state : z.state ≡ with_read_stats m.ppi (length m.bytes) (record (slice_index_or x.open_streams at d).state { reassembly_queue = state_read (slice_index_or x.open_streams at d).state.reassembly_queue }))
+        (state : z.state ≡ (slice_index_or x.open_streams at d).state)
+        (inbound : z.inbound ≡ stream_read (slice_index_or x.open_streams at d).inbound)
         (whole : z.whole.items ≡ (if m.ordered then (slice_index_or x.open_streams at d).whole.items else drop 1 (slice_index_or x.open_streams at d).whole.items))
         (index : m.index ≡ index_kept x.progress read-is.0)
         (ordered : z.ordered ≡ (slice_index_or x.open_streams at d).ordered)
@@ -281,16 +312,24 @@ module _ (sum : List ℕ → ℕ) (x : State) (l : IsLinked sum x) (s at : ℕ) 
           by true h = absurd (ne (same-is t s h))
           by false h = refl
 
-      stats-are : z.state.stats ≡ stats_of (counters_on v s)
+      stats-are : stats_in z ≡ stats_of (counters_on v s)
       stats-are =
-          ap (λ (t : StreamState). t.stats) state
-          ∙ ap (with_received (counted_bytes m.ppi (length m.bytes))) ((l.open_streams at d lt).stats ∙ ap (λ t. stats_of (counters_on w t)) (id-at d))
-          ∙ counted-read m.ppi (length m.bytes) w s
-          ∙ ap (λ (t : W.Message). stats_of (received_more (counted_as t.ppi (length t.bytes)) (counters_on w s))) (sym m_is)
+          let ppi = (message_at w read-is.0).ppi in
+          let len = length (message_at w read-is.0).bytes in
+          let sent = y.state.stats in
+          let read = y.inbound.stats in
+          ap (λ (t : StreamState). both_ways t.stats z.inbound.stats) state
+          ∙ ap (λ (b : InboundStream). both_ways sent b.stats) inbound
+          ∙ ap (λ o. both_ways sent (counted o read)) e
+          ∙ ap (λ p. both_ways sent (with_received (counted_bytes p (bytes_of set.chunks)) read)) (ap (λ (c : ChunkSet). c.ppi) read-is.2 ∙ ppi-handed w read-is.0)
+          ∙ ap (λ k. both_ways sent (with_received (counted_bytes ppi k) read)) bytes-read
+          ∙ read-both (counted_bytes ppi len) sent read
+          ∙ ap (with_received (counted_bytes ppi len)) ((l.open_streams at d lt).stats ∙ ap (λ t. stats_of (counters_on w t)) (id-at d))
+          ∙ counted-read ppi len w s
           ∙ ap stats_of (sym (counters-at s ∙ ap (λ b. if b then received_more (counted_as (message_at w read-is.0).ppi (length (message_at w read-is.0).bytes)) (counters_on w s) else counters_on w s) (same-yes s)))
 
       open_stream-is : IsOpenStream v z
-      open_stream-is = stream-read z same-id (ap (λ (t : StreamState). t.reassembly_queue) state) (ap (λ (t : StreamState). t.max_payload_size) state) (ap (λ (t : StreamState). t.sequence_number) state) (ap (λ (t : StreamState). t.buffered_amount) state) ordered begun next-is stats-are
+      open_stream-is = stream-read z same-id (ap (λ (b : InboundStream). b.queue) inbound) (ap (λ (t : StreamState). t.max_payload_size) state) (ap (λ (t : StreamState). t.sequence_number) state) (ap (λ (t : StreamState). t.buffered_amount) state) ordered begun next-is stats-are
 
       abbrev shown : ℕ → StreamState → List ℕ → StreamRecord
       shown named t whole = record { stream = t.stream_identifier; unordered = t.unordered; reliability = t.reliability_type; value = t.reliability_value; named = named; whole = whole }
@@ -314,7 +353,7 @@ module _ (sum : List ℕ → ℕ) (x : State) (l : IsLinked sum x) (s at : ℕ) 
 
       pub linked-read : (progress : List (ℕ × ℕ)) → progress ≡ x.progress → IsLinked sum (record x { world = record w { streams = map stream_record (slice_set x.open_streams at z); messages = messages }; progress = progress; open_streams = slice_set x.open_streams at z })
       linked-read progress same =
-          linked-then sum x l (E.Read s) none frame progress (slice_set x.open_streams at z) x.cumulative_tsn x.filter (record w { streams = map stream_record (slice_set x.open_streams at z); messages = messages }) same (l.filter ∙ sym filter-stays)
+          linked-then sum x l (E.Read s) none frame progress (slice_set x.open_streams at z) x.filter (record w { streams = map stream_record (slice_set x.open_streams at z); messages = messages }) same (l.filter ∙ sym filter-stays)
           (each-read z open_stream-is hands.other counters-other)
           (indexed-set x.places x.open_streams at z d l.indexed same-id)
           quiet world-read

@@ -1,15 +1,10 @@
 -- What a link's queues tell of what comes to its receiver.
-use Rattle.std.proofs.Common.{◌≡◌, ℕ, zero, suc, ◌+◌, ◌-◌, ◌<◌, ◌^◌, ◌%◌, Bool, true, false, List, [], ◌∷◌, length, map, Option, Some, None, refl, ap, sym, ◌∙◌, arith}
-use Rattle.std.specs.Prelude.{◌&&◌, not, is_some, find, min, max, slice_index_or}
-use Rattle.std.specs.Option.{option_copied}
-use Rattle.std.specs.Borrow.{Bor}
+use Rattle.std.proofs.Common.{◌≡◌, ℕ, zero, suc, ◌+◌, ◌-◌, ◌<◌, ◌^◌, ◌%◌, Bool, true, false, List, [], ◌∷◌, length, map, Some, refl, ap, sym, ◌∙◌, arith}
+use Rattle.std.specs.Prelude.{not, find, min, max, slice_index_or}
 use Rattle.std.proofs.Math.Path.{subst}
-use Rattle.sctp_lists.specs.Serial.{at_or_before}
 use Rattle.sctp_lists.proofs.More.{not_both}
 use Rattle.sctp_chunks.specs.declared.chunk.chunk_payload_data.ChunkPayloadData.{ChunkPayloadData}
 use Rattle.sctp_chunks.specs.ChunkSet.{ChunkSet}
-use Rattle.sctp_serial.specs.DataChunks.{has_tsn}
-use Rattle.sctp_serial.specs.Window
 use Rattle.sctp_model.specs.World.{World}
 use Rattle.sctp_model.specs.Messages.{message_at, slot_at, message_of, index_of, sent_of, tsn_of, place_of, no_message, no_slot}
 use Rattle.sctp_model.specs.Receiver.{is_new, is_held, held_on, next_of, least, greatest}
@@ -21,13 +16,14 @@ use Rattle.sctp_ties.proofs.arriving.Arrival
 use Rattle.sctp_ties.proofs.arriving.Carried.{Carried}
 use Rattle.sctp_ties.proofs.reading.Line
 use Rattle.sctp_ties.proofs.reading.Taken
-use Rattle.sctp_ties.proofs.arriving.FilterQueue.{new-is}
 use Rattle.sctp_ties.proofs.arriving.SpanEnds.{Begins, set-begins, set-at, sets-held, ends-none, lowest-front, highest-back}
+use Rattle.sctp_transfer.specs.TsnFilter.{has_come}
 use Rattle.sctp_link.specs.declared.open_stream.OpenStream.{OpenStream}
 use Rattle.sctp_link.specs.declared.record.Message.{Message}
 use Rattle.sctp_link.specs.declared.record.Slot.{Slot}
 use Rattle.sctp_link.specs.Linked.{State, IsLinked, has_number}
 use Rattle.sctp_link.specs.Records.{message_record, slot_record, progress_of}
+use Rattle.sctp_link.proofs.receiver.Came.{new-tells}
 use Rattle.sctp_link.proofs.sender.Beginning.{index_kept}
 use Rattle.sctp_link.proofs.upkeep.Facts.{facts}
 use Rattle.sctp_link.proofs.upkeep.Apart.{number-found}
@@ -46,31 +42,8 @@ raw-length f (x ∷ xs) = ap suc (raw-length f xs)
 -- ## Whether a slot is new
 
 module _ (sum : List ℕ → ℕ) (x : State) (p : ℕ) (l : IsLinked sum x) (made : p < length x.world.slots) where
-  pub new-tells : Window.is_new x.filter.chunks ((x.world.setup.first + p) % 2 ^ 32) x.cumulative_tsn ≡ is_new x.world p
-  new-tells =
-      let f = facts sum x l in
-      ap (Window.is_new x.filter.chunks (tsn_of x.world p)) (ap (λ r. r.cumulative) l.filter)
-      ∙ new-is x.world x.filter.chunks f.sound.sound.skipped_made f.few (ap (λ r. r.held) l.filter) p made
-
-  copied-some : (o : Option (Bor ChunkPayloadData)) → is_some (option_copied o) ≡ is_some o
-  copied-some None = refl
-  copied-some (Some c) = refl
-
-  held-is : (b : Bool) (found : Option (Bor ChunkPayloadData)) → option_copied found ≡ find (has_tsn ((x.world.setup.first + p) % 2 ^ 32)) x.filter.chunks → is_some found ≡ b → Window.is_held x.filter.chunks ((x.world.setup.first + p) % 2 ^ 32) ≡ b
-  held-is b found f e = sym (ap is_some f) ∙ copied-some found ∙ e
-
-  -- its TSN is not held
-  pub new-unheld : (found : Option (Bor ChunkPayloadData)) (before : Bool) → option_copied found ≡ find (has_tsn ((x.world.setup.first + p) % 2 ^ 32)) x.filter.chunks → is_some found ≡ false → before ≡ at_or_before ((x.world.setup.first + p) % 2 ^ 32) x.cumulative_tsn → not before ≡ is_new x.world p
-  new-unheld found before f none e =
-      ap not e
-      ∙ sym (ap (λ h. not h && not (at_or_before ((x.world.setup.first + p) % 2 ^ 32) x.cumulative_tsn)) (held-is false found f none))
-      ∙ new-tells
-
-  -- its TSN is held
-  pub new-held : (found : Option (Bor ChunkPayloadData)) → option_copied found ≡ find (has_tsn ((x.world.setup.first + p) % 2 ^ 32)) x.filter.chunks → is_some found ≡ true → false ≡ is_new x.world p
-  new-held found f some =
-      sym (ap (λ h. not h && not (at_or_before ((x.world.setup.first + p) % 2 ^ 32) x.cumulative_tsn)) (held-is true found f some))
-      ∙ new-tells
+  pub unheard : (b : Bool) → b ≡ has_come ((x.world.setup.first + p) % 2 ^ 32) x.filter → not b ≡ is_new x.world p
+  unheard b e = let f = facts sum x l in ap not e ∙ new-tells x.world x.filter f.sound.sound.skipped_made f.few l.filter p made
 
 -- ## Which message a set is of
 
@@ -139,7 +112,7 @@ module _ (sum : List ℕ → ℕ) (x : State) (l : IsLinked sum x) (at s : ℕ) 
   pub stream-number : (slice_index_or x.open_streams at d).state.stream_identifier ≡ s
   stream-number = number-found s x.open_streams (slice_index_or x.open_streams at d) found
 
-  pub stream-ordered : (slice_index_or x.open_streams at d).state.reassembly_queue.held.ordered ≡ ordered_sets x.world s
+  pub stream-ordered : (slice_index_or x.open_streams at d).inbound.queue.held.ordered ≡ ordered_sets x.world s
   stream-ordered = ap (λ q. q.ordered) ((l.open_streams at d lt).held) ∙ ap (ordered_sets x.world) stream-number
 
   pub stream-next : (slice_index_or x.open_streams at d).next ≡ next_of x.world s
@@ -150,26 +123,26 @@ module _ (sum : List ℕ → ℕ) (x : State) (l : IsLinked sum x) (at s : ℕ) 
   empty (y ∷ ys) e = absurd (omega arith)
 
   -- nothing is held
-  pub ends-empty : length (slice_index_or x.open_streams at d).state.reassembly_queue.held.ordered ≡ 0 → ((slice_index_or x.open_streams at d).next ≡ least (next_of x.world s) (map (index_of x.world) (held_on x.world s))) × ((slice_index_or x.open_streams at d).next ≡ greatest (next_of x.world s) (map (index_of x.world) (held_on x.world s)))
+  pub ends-empty : length (slice_index_or x.open_streams at d).inbound.queue.held.ordered ≡ 0 → ((slice_index_or x.open_streams at d).next ≡ least (next_of x.world s) (map (index_of x.world) (held_on x.world s))) × ((slice_index_or x.open_streams at d).next ≡ greatest (next_of x.world s) (map (index_of x.world) (held_on x.world s)))
   ends-empty e =
       let none : held_on x.world s ≡ [] = empty (held_on x.world s) (sym (sets-held x.world s) ∙ sym (ap length stream-ordered) ∙ e) in
       let ends = ends-none x.world s none in (stream-next ∙ sym ends.0, stream-next ∙ sym ends.1)
 
   -- a set of the queue is of a message that is held
-  pub set-held : (i : ℕ) (e : ChunkSet) → i < length (slice_index_or x.open_streams at d).state.reassembly_queue.held.ordered → (is_held x.world s (slice_index_or (held_on x.world s) i 0) ≡ true) × (slice_index_or (slice_index_or x.open_streams at d).state.reassembly_queue.held.ordered i e ≡ set_of x.world (slice_index_or (held_on x.world s) i 0))
+  pub set-held : (i : ℕ) (e : ChunkSet) → i < length (slice_index_or x.open_streams at d).inbound.queue.held.ordered → (is_held x.world s (slice_index_or (held_on x.world s) i 0) ≡ true) × (slice_index_or (slice_index_or x.open_streams at d).inbound.queue.held.ordered i e ≡ set_of x.world (slice_index_or (held_on x.world s) i 0))
   set-held i e less =
       let f = facts sum x l in
       let o = set-at x.world s i 0 e f.sound.sound f.setup.first (omega (arith, less, ap length stream-ordered)) in
       (o.held, ap (λ ss. slice_index_or ss i e) stream-ordered ∙ o.is)
 
-  pub low-front : (i : ℕ) → 0 < length (slice_index_or x.open_streams at d).state.reassembly_queue.held.ordered → i ≡ index_of x.world (slice_index_or (held_on x.world s) 0 0) → min (slice_index_or x.open_streams at d).next i ≡ least (next_of x.world s) (map (index_of x.world) (held_on x.world s))
+  pub low-front : (i : ℕ) → 0 < length (slice_index_or x.open_streams at d).inbound.queue.held.ordered → i ≡ index_of x.world (slice_index_or (held_on x.world s) 0 0) → min (slice_index_or x.open_streams at d).next i ≡ least (next_of x.world s) (map (index_of x.world) (held_on x.world s))
   low-front i some e = ap (min (slice_index_or x.open_streams at d).next) e ∙ ap (λ n. min n (index_of x.world (slice_index_or (held_on x.world s) 0 0))) stream-next ∙ sym (lowest-front x.world s 0 (omega (arith, some, ap length stream-ordered, sets-held x.world s)))
 
-  pub high-back : (i : ℕ) → 0 < length (slice_index_or x.open_streams at d).state.reassembly_queue.held.ordered → i ≡ index_of x.world (slice_index_or (held_on x.world s) (length (slice_index_or x.open_streams at d).state.reassembly_queue.held.ordered - 1) 0) → max (slice_index_or x.open_streams at d).next i ≡ greatest (next_of x.world s) (map (index_of x.world) (held_on x.world s))
+  pub high-back : (i : ℕ) → 0 < length (slice_index_or x.open_streams at d).inbound.queue.held.ordered → i ≡ index_of x.world (slice_index_or (held_on x.world s) (length (slice_index_or x.open_streams at d).inbound.queue.held.ordered - 1) 0) → max (slice_index_or x.open_streams at d).next i ≡ greatest (next_of x.world s) (map (index_of x.world) (held_on x.world s))
   high-back i some e =
-      let same : length (slice_index_or x.open_streams at d).state.reassembly_queue.held.ordered ≡ length (held_on x.world s) = ap length stream-ordered ∙ sets-held x.world s in
+      let same : length (slice_index_or x.open_streams at d).inbound.queue.held.ordered ≡ length (held_on x.world s) = ap length stream-ordered ∙ sets-held x.world s in
       ap (max (slice_index_or x.open_streams at d).next) e
-      ∙ ap (λ n. max n (index_of x.world (slice_index_or (held_on x.world s) (length (slice_index_or x.open_streams at d).state.reassembly_queue.held.ordered - 1) 0))) stream-next
+      ∙ ap (λ n. max n (index_of x.world (slice_index_or (held_on x.world s) (length (slice_index_or x.open_streams at d).inbound.queue.held.ordered - 1) 0))) stream-next
       ∙ ap (λ k. max (next_of x.world s) (index_of x.world (slice_index_or (held_on x.world s) (k - 1) 0))) same
       ∙ sym (highest-back x.world s 0 (omega (arith, some, same)))
 

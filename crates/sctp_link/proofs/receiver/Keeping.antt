@@ -3,23 +3,23 @@ use Rattle.std.proofs.Common.{◌≡◌, ℕ, ◌<◌, ◌%◌, ◌^◌, List, [
 use Rattle.std.specs.Prelude.{Result, Ok, Err, OnErr, slice_index_or}
 use Rattle.std.specs.BTreeMap.{BTreeMap}
 use Rattle.std.proofs.Math.Path.{subst}
-use Rattle.sctp_outbound.specs.payload_queue.PayloadQueue.{Payload}
 use Rattle.sctp_model.specs.World.{World}
 use Rattle.sctp_model.specs.Messages.{ordered_before}
 use Rattle.sctp_model.specs.Receiver.{next_of}
 use Rattle.sctp_ties.specs.Holds.{reassembly_of}
-use Rattle.sctp_ties.specs.Tied.{filter_held}
 use Rattle.sctp_ties.specs.Amount.{amount}
 use Rattle.sctp_ties.specs.Counts.{counters_on}
 use Rattle.sctp_ties.specs.Indexes.{begun_on}
+use Rattle.sctp_transfer.specs.declared.receiver.inbound_streams.InboundStream.{InboundStream}
 use Rattle.sctp_transfer.specs.declared.stream.StreamState.{StreamState}
+use Rattle.sctp_transfer.specs.TsnFilter.{Filter}
 use Rattle.sctp_link.specs.declared.open_stream.OpenStream.{OpenStream}
-use Rattle.sctp_link.specs.Linked.{State, IsLinked, IsOpenStream, stats_of}
+use Rattle.sctp_link.specs.Linked.{State, IsLinked, IsOpenStream, stats_of, filter_shown}
 use Rattle.sctp_link.specs.Places.{IsIndexed}
 use Rattle.sctp_link.specs.Records.{stream_record}
 use Rattle.sctp_link.specs.Receiving.{IsUnchanged, TouchesOnly}
 use Rattle.sctp_link.proofs.receiver.Slots.{shown}
-use Rattle.sctp_link.proofs.receiver.Touched.{numbers-same, map-each}
+use Rattle.sctp_link.proofs.receiver.Touched.{numbers-same, map-each, stats-same, unchanged-touched}
 
 pub on-err : {T E : Type 0} (r : Result T E) (P : Type 0) → P → OnErr r P
 on-err (Ok v) P p = tt
@@ -37,19 +37,19 @@ module _ (sum : List ℕ → ℕ) (x : State) (l : IsLinked sum x) (ls : List Op
 
   stream-stays : (y z : OpenStream) → IsUnchanged y z → IsOpenStream x.world y → IsOpenStream x.world z
   stream-stays y z u i = record {
-    held = subst (λ (t : StreamState). t.reassembly_queue.held ≡ reassembly_of x.world t.stream_identifier) (sym u.state) i.held;
-    si = subst (λ (t : StreamState). t.reassembly_queue.si ≡ t.stream_identifier) (sym u.state) i.si;
-    largest = subst (λ (t : StreamState). t.reassembly_queue.max_message_size ≡ x.world.setup.largest) (sym u.state) i.largest;
+    held = ap (λ (b : InboundStream). b.queue.held) u.inbound ∙ i.held ∙ ap (λ (t : StreamState). reassembly_of x.world t.stream_identifier) (sym u.state);
+    si = ap (λ (b : InboundStream). b.queue.si) u.inbound ∙ i.si ∙ ap (λ (t : StreamState). t.stream_identifier) (sym u.state);
+    largest = ap (λ (b : InboundStream). b.queue.max_message_size) u.inbound ∙ i.largest;
     size = subst (λ (t : StreamState). t.max_payload_size ≡ x.world.setup.size) (sym u.state) i.size;
     ordered = u.ordered ∙ subst (λ (t : StreamState). y.ordered ≡ ordered_before x.world t.stream_identifier (length x.world.messages)) (sym u.state) i.ordered;
     number = ap (λ (t : StreamState). t.sequence_number) u.state ∙ i.number ∙ ap (λ m. m % 2 ^ 16) (sym u.ordered);
     begun = u.begun ∙ subst (λ (t : StreamState). y.begun ≡ begun_on x.world t.stream_identifier) (sym u.state) i.begun;
     next = u.next ∙ subst (λ (t : StreamState). y.next ≡ next_of x.world t.stream_identifier) (sym u.state) i.next;
     amount = subst (λ (t : StreamState). t.buffered_amount ≡ amount x.world t.stream_identifier) (sym u.state) i.amount;
-    stats = subst (λ (t : StreamState). t.stats ≡ stats_of (counters_on x.world t.stream_identifier)) (sym u.state) i.stats;
+    stats = stats-same y z (unchanged-touched y z u) ∙ i.stats ∙ ap (λ (t : StreamState). stats_of (counters_on x.world t.stream_identifier)) (sym u.state);
   }
 
-  module _ (filter : Payload) (filter_same : filter ≡ record x.filter { room = filter.room }) where
+  module _ (filter : Filter) (filter_same : filter ≡ record x.filter { room = filter.room }) where
     at-still : IsLinked sum (record x { open_streams = ls; filter = filter })
     at-still = record {
       setup = l.setup;
@@ -57,7 +57,7 @@ module _ (sum : List ℕ → ℕ) (x : State) (l : IsLinked sum x) (ls : List Op
       stands = l.stands;
       outbound = l.outbound;
       unstarted = l.unstarted;
-      filter = ap (filter_held x.cumulative_tsn) filter_same ∙ l.filter;
+      filter = ap filter_shown filter_same ∙ l.filter;
       next = l.next;
       fragments = l.fragments;
       written = l.written;
@@ -74,7 +74,5 @@ module _ (sum : List ℕ → ℕ) (x : State) (l : IsLinked sum x) (ls : List Op
     pub linked-still : (u : World) → u ≡ x.world → IsLinked sum (record x { world = u; open_streams = ls; filter = filter })
     linked-still u same = subst (λ (v : World). IsLinked sum (record x { world = v; open_streams = ls; filter = filter })) (sym same) at-still
 
-    pub refused-still : (places : BTreeMap ℕ ℕ) (cumulative : ℕ) (u : World) → places ≡ x.places → cumulative ≡ x.cumulative_tsn → u ≡ x.world → IsLinked sum (record x { world = u; open_streams = ls; places = places; cumulative_tsn = cumulative; filter = filter })
-    refused-still places cumulative u a b c =
-        subst (λ ps. IsLinked sum (record x { world = u; open_streams = ls; places = ps; cumulative_tsn = cumulative; filter = filter })) (sym a)
-        (subst (λ n. IsLinked sum (record x { world = u; open_streams = ls; cumulative_tsn = n; filter = filter })) (sym b) (linked-still u c))
+    pub refused-still : (places : BTreeMap ℕ ℕ) (u : World) → places ≡ x.places → u ≡ x.world → IsLinked sum (record x { world = u; open_streams = ls; places = places; filter = filter })
+    refused-still places u a b = subst (λ ps. IsLinked sum (record x { world = u; open_streams = ls; places = ps; filter = filter })) (sym a) (linked-still u b)

@@ -8,7 +8,6 @@ use Rattle.std.proofs.lemmas.List.Sums.{fold-append}
 use Rattle.sctp_lists.specs.Lists.{pieces}
 use Rattle.sctp_chunks.specs.ChunkSet.{fresh}
 use Rattle.sctp_chunks.specs.declared.chunk.chunk_payload_data.ChunkPayloadData.{ChunkPayloadData}
-use Rattle.sctp_outbound.specs.payload_queue.PayloadQueue.{Payload}
 use Rattle.sctp_reassembly.specs.reassembly_queue.ReassemblyQueue.{is_too_large}
 use Rattle.sctp_model.specs.declared.event.Event.TheVariants as E
 use Rattle.sctp_model.specs.Reply as R
@@ -41,6 +40,7 @@ use Rattle.sctp_ties.proofs.arriving.Carried.{Carried, carried, enters}
 use Rattle.sctp_ties.proofs.arriving.SlotArrives
 use Rattle.sctp_ties.proofs.reading.ReadOne.{next-arrive}
 use Rattle.sctp_transfer.specs.declared.stream.StreamState.{StreamState}
+use Rattle.sctp_transfer.specs.TsnFilter.{Filter}
 use Rattle.sctp_link.specs.declared.open_stream.OpenStream.{OpenStream}
 use Rattle.sctp_link.specs.declared.record.Slot.{Slot}
 use Rattle.sctp_link.specs.Linked.{State, IsLinked, IsOpenStream, has_number, stats_of}
@@ -51,7 +51,7 @@ use Rattle.sctp_link.proofs.upkeep.Facts.{facts, over}
 use Rattle.sctp_link.proofs.upkeep.StreamsAfter.{stream-then, linked-then}
 use Rattle.sctp_link.proofs.upkeep.Lookups.{none-open}
 use Rattle.sctp_link.proofs.receiver.Hears.{raw-at}
-use Rattle.sctp_link.proofs.receiver.Touched.{numbers-same}
+use Rattle.sctp_link.proofs.receiver.Touched.{numbers-same, stats-same}
 
 -- ## They come to a sound record
 
@@ -117,7 +117,7 @@ all-come sum x l k ps none e =
     (λ n i. comes-run x.world.setup l.history l.setup l.stands.run k n ps i) none e
 
 -- what a link keeps for its receiver
-pub receiver-of : (sum : List ℕ → ℕ) (x : State) (l : IsLinked sum x) (slots : List Slot) (dups : List ℕ) → x.world.streams ≡ map stream_record x.open_streams → x.world.slots ≡ map slot_record slots → x.world.duplicates ≡ dups → IsReceiver x.world x.open_streams slots x.filter x.cumulative_tsn dups
+pub receiver-of : (sum : List ℕ → ℕ) (x : State) (l : IsLinked sum x) (slots : List Slot) (dups : List ℕ) → x.world.streams ≡ map stream_record x.open_streams → x.world.slots ≡ map slot_record slots → x.world.duplicates ≡ dups → IsReceiver x.world x.open_streams slots x.filter dups
 receiver-of sum x l slots dups a b c = record {
   streams_are = a;
   slots_are = b;
@@ -190,7 +190,7 @@ module _ (sum : List ℕ → ℕ) (x : State) (l : IsLinked sum x) (k : ℕ) (ps
   counters-stay : (t : ℕ) → counters_on then' t ≡ counters_on here t
   counters-stay t = let f = facts sum x l in counters-same here.setup here (E.Arrive k) t f.sane refl refl
 
-  module _ (js : List ℕ) (ls : List OpenStream) (slots : List Slot) (filter : Payload) (cumulative : ℕ) (dups : List ℕ) (r : IsReceiver (fold slot_received x.world ps) ls slots filter cumulative dups) (t : TouchesOnly js x.open_streams ls) where
+  module _ (js : List ℕ) (ls : List OpenStream) (slots : List Slot) (filter : Filter) (dups : List ℕ) (r : IsReceiver (fold slot_received x.world ps) ls slots filter dups) (t : TouchesOnly js x.open_streams ls) where
     pub world-received : record x.world { streams = map stream_record ls; slots = map slot_record slots; duplicates = dups } ≡ fold slot_received x.world ps
     world-received =
         let v = fold slot_received x.world ps in
@@ -214,15 +214,15 @@ module _ (sum : List ℕ → ℕ) (x : State) (l : IsLinked sum x) (k : ℕ) (ps
         (q.si ∙ id ∙ sym i.si)
         (q.largest ∙ ap (λ s. s.largest) (Network.same-slots here ps).setup ∙ sym i.largest)
         (ap (λ (s : StreamState). s.max_payload_size) state) touched.ordered (ap (λ (s : StreamState). s.sequence_number) state) touched.begun (touched.next ∙ i.next ∙ sym (next-stays y.state.stream_identifier))
-        (ap (λ (s : StreamState). s.buffered_amount) state) (ap (λ (s : StreamState). s.stats) state ∙ i.stats ∙ ap stats_of (sym (counters-stay y.state.stream_identifier)))
+        (ap (λ (s : StreamState). s.buffered_amount) state) (stats-same y z touched ∙ i.stats ∙ ap stats_of (sym (counters-stay y.state.stream_identifier)))
 
-    pub linked-received : IsLinked sum (record x { world = record x.world { streams = map stream_record ls; slots = map slot_record slots; duplicates = dups }; open_streams = ls; cumulative_tsn = cumulative; filter = filter })
+    pub linked-received : IsLinked sum (record x { world = record x.world { streams = map stream_record ls; slots = map slot_record slots; duplicates = dups }; open_streams = ls; filter = filter })
     linked-received =
-        linked-then sum x l (E.Arrive k) none frame x.progress ls cumulative filter (record x.world { streams = map stream_record ls; slots = map slot_record slots; duplicates = dups }) refl
+        linked-then sum x l (E.Arrive k) none frame x.progress ls filter (record x.world { streams = map stream_record ls; slots = map slot_record slots; duplicates = dups }) refl
         (r.filter_is ∙ ap filter_of (sym after-is)) stream-received (subst (λ ns. IsIndexed x.places ns) (sym (numbers-same js x.open_streams ls t)) l.indexed) quiet (world-received ∙ sym after-is)
 
-    pub linked-then-at : (places : BTreeMap ℕ ℕ) → places ≡ x.places → IsLinked sum (record x { world = record x.world { streams = map stream_record ls; slots = map slot_record slots; duplicates = dups }; open_streams = ls; places = places; cumulative_tsn = cumulative; filter = filter })
-    linked-then-at places same = subst (λ m. IsLinked sum (record x { world = record x.world { streams = map stream_record ls; slots = map slot_record slots; duplicates = dups }; open_streams = ls; places = m; cumulative_tsn = cumulative; filter = filter })) (sym same) linked-received
+    pub linked-then-at : (places : BTreeMap ℕ ℕ) → places ≡ x.places → IsLinked sum (record x { world = record x.world { streams = map stream_record ls; slots = map slot_record slots; duplicates = dups }; open_streams = ls; places = places; filter = filter })
+    linked-then-at places same = subst (λ m. IsLinked sum (record x { world = record x.world { streams = map stream_record ls; slots = map slot_record slots; duplicates = dups }; open_streams = ls; places = m; filter = filter })) (sym same) linked-received
 
     pub right-received : (new : Bool) (reply : R.Reply) → new ≡ list_any (is_new x.world) ps → reply ≡ (if new then R.New else R.Repeat) → IsRight x.world (E.Arrive k) reply (record x.world { streams = map stream_record ls; slots = map slot_record slots; duplicates = dups })
     right-received new reply a b = record {

@@ -13,7 +13,8 @@ use Rattle.sctp_lists.proofs.Cases.{by_last}
 use Rattle.sctp_chunks.specs.declared.chunk.chunk_payload_data.ChunkPayloadData.{ChunkPayloadData}
 use Rattle.sctp_chunks.specs.declared.chunk.chunk_payload_data.PayloadProtocolIdentifier.TheVariants.{Unknown}
 use Rattle.sctp_chunks.specs.ChunkSet.{fresh}
-use Rattle.sctp_outbound.specs.payload_queue.PayloadQueue.{Payload}
+use Rattle.sctp_transfer.specs.TsnFilter.{Filter}
+use Rattle.sctp_transfer.specs.declared.receiver.inbound_streams.InboundStream.{InboundStream}
 use Rattle.sctp_model.specs.World.{World}
 use Rattle.sctp_model.specs.Receiver.{is_new}
 use Rattle.sctp_model.specs.Changes.{slot_received}
@@ -102,9 +103,10 @@ front-and (x ∷ xs) (suc i) = let r = front-and xs i in (r.0, ap (λ ys. x ∷ 
 
 module _ (ls : List OpenStream) (ss : List Slot) (p : ℕ) (c : ChunkPayloadData) (x : Saved) (saved : IsSaved ls ss p c x) where
   -- the stream is as it was
-  back-unchanged : (d y z : OpenStream) → IsTouched (slice_index_or ls x.at d) y → z.state ≡ record y.state { reassembly_queue = x.queue } → z.whole.items ≡ take x.whole y.whole.items → z.ordered ≡ y.ordered → z.begun ≡ y.begun → z.next ≡ y.next → z.named ≡ y.named → IsUnchanged (slice_index_or ls x.at d) z
-  back-unchanged d y z t state whole ordered begun next named = record {
-    state = state ∙ ap (λ (q : StreamState). record q { reassembly_queue = x.queue }) t.state ∙ ap (λ q. record (slice_index_or ls x.at d).state { reassembly_queue = q }) (saved.queue d);
+  back-unchanged : (d y z : OpenStream) → IsTouched (slice_index_or ls x.at d) y → z.state ≡ y.state → z.inbound ≡ record y.inbound { queue = x.queue } → z.whole.items ≡ take x.whole y.whole.items → z.ordered ≡ y.ordered → z.begun ≡ y.begun → z.next ≡ y.next → z.named ≡ y.named → IsUnchanged (slice_index_or ls x.at d) z
+  back-unchanged d y z t state inbound whole ordered begun next named = record {
+    state = state ∙ t.state;
+    inbound = inbound ∙ ap (λ (b : InboundStream). record b { queue = x.queue }) t.inbound ∙ ap (λ q. record (slice_index_or ls x.at d).inbound { queue = q }) (saved.queue d);
     whole = whole ∙ ap (λ k. take k y.whole.items) (saved.whole d) ∙ t.whole;
     ordered = ordered ∙ t.ordered;
     begun = begun ∙ t.begun;
@@ -112,8 +114,8 @@ module _ (ls : List OpenStream) (ss : List Slot) (p : ℕ) (c : ChunkPayloadData
     named = named ∙ t.named;
   }
 
-  pub put-back-stream : (ks : List ℕ) (cur : List OpenStream) (d z : OpenStream) → TouchesOnly (ks ++ x.at ∷ []) ls cur → z.state ≡ record (slice_index_or cur x.at d).state { reassembly_queue = x.queue } → z.whole.items ≡ take x.whole (slice_index_or cur x.at d).whole.items → z.ordered ≡ (slice_index_or cur x.at d).ordered → z.begun ≡ (slice_index_or cur x.at d).begun → z.next ≡ (slice_index_or cur x.at d).next → z.named ≡ (slice_index_or cur x.at d).named → TouchesOnly ks ls (slice_set cur x.at z)
-  put-back-stream ks cur d z t state whole ordered begun next named = record {
+  pub put-back-stream : (ks : List ℕ) (cur : List OpenStream) (d z : OpenStream) → TouchesOnly (ks ++ x.at ∷ []) ls cur → z.state ≡ (slice_index_or cur x.at d).state → z.inbound ≡ record (slice_index_or cur x.at d).inbound { queue = x.queue } → z.whole.items ≡ take x.whole (slice_index_or cur x.at d).whole.items → z.ordered ≡ (slice_index_or cur x.at d).ordered → z.begun ≡ (slice_index_or cur x.at d).begun → z.next ≡ (slice_index_or cur x.at d).next → z.named ≡ (slice_index_or cur x.at d).named → TouchesOnly ks ls (slice_set cur x.at z)
+  put-back-stream ks cur d z t state inbound whole ordered begun next named = record {
     count = length-set cur x.at z ∙ t.count;
     each = λ k e lt. by_place {C = IsTouched (slice_index_or ls k e) (slice_index_or (slice_set cur x.at z) k e)} k x.at
         (λ ne. subst (IsTouched (slice_index_or ls k e)) (sym (get_or-set_other cur x.at k z e ne)) (t.each k e lt))
@@ -130,7 +132,7 @@ module _ (ls : List OpenStream) (ss : List Slot) (p : ℕ) (c : ChunkPayloadData
       here k e h =
           subst (λ i. IsUnchanged (slice_index_or ls i e) (slice_index_or (slice_set cur x.at z) i e)) (sym h)
           (subst (IsUnchanged (slice_index_or ls x.at e)) (sym (get_or-set_same cur x.at z e inside))
-          (subst (λ l. IsUnchanged l z) (one-at ls x.at saved.inside d e) (back-unchanged d (slice_index_or cur x.at d) z (t.each x.at d saved.inside) state whole ordered begun next named)))
+          (subst (λ l. IsUnchanged l z) (one-at ls x.at saved.inside d e) (back-unchanged d (slice_index_or cur x.at d) z (t.each x.at d saved.inside) state inbound whole ordered begun next named)))
 
       none-of : (k : ℕ) → (k ≡ x.at → ⊥) → list_any (λ j. j == k) ks ≡ false → list_any (λ j. j == k) (ks ++ x.at ∷ []) ≡ false
       none-of k ne off = list_any-append (λ j. j == k) ks (x.at ∷ []) ∙ ap (λ b. b || ((x.at == k) || false)) off ∙ ap (λ b. b || false) (other (x.at == k) refl)
@@ -217,8 +219,8 @@ pub saved-at : (ls ms : List OpenStream) (ss : List Slot) (js : List ℕ) (p : �
 saved-at ls ms ss js p c x s t = (omega (arith, s.inside, t.count), λ d. ap (λ (q : StreamState). q.stream_identifier) (t.each x.at d s.inside).state ∙ s.number d)
 
 -- the slots come one after another to what a link keeps
-pub received-next : (w : World) (ps : List ℕ) (i : ℕ) (ls : List OpenStream) (ss : List Slot) (f : Payload) (cum : ℕ) (dups : List ℕ) → i < length ps → IsReceiver (slot_received (fold slot_received w (take i ps)) (slice_index_or ps i 0)) ls ss f cum dups → IsReceiver (fold slot_received w (take (i + 1) ps)) ls ss f cum dups
-received-next w ps i ls ss f cum dups lt r = subst (λ v. IsReceiver v ls ss f cum dups) (sym (fold-next w ps i 0 lt)) r
+pub received-next : (w : World) (ps : List ℕ) (i : ℕ) (ls : List OpenStream) (ss : List Slot) (f : Filter) (dups : List ℕ) → i < length ps → IsReceiver (slot_received (fold slot_received w (take i ps)) (slice_index_or ps i 0)) ls ss f dups → IsReceiver (fold slot_received w (take (i + 1) ps)) ls ss f dups
+received-next w ps i ls ss f dups lt r = subst (λ v. IsReceiver v ls ss f dups) (sym (fold-next w ps i 0 lt)) r
 
 -- a list of one element
 pub one-list : (ps : List ℕ) → length ps ≡ 1 → ps ≡ slice_index_or ps 0 0 ∷ []

@@ -1,36 +1,29 @@
 -- A slot of a datagram comes: what a link keeps for its receiver then.
 use Rattle.std.proofs.Common.{◌≡◌, ℕ, ◌<◌, Bool, true, false, List, [], ◌∷◌, ◌++◌, length, map, refl, ap, sym, ◌∙◌, arith}
-use Rattle.std.specs.Prelude.{IsTrue, ◌==◌, ◌&&◌, not, nat_le, if◌then◌else◌, slice_index_or, slice_set}
+use Rattle.std.specs.Prelude.{◌==◌, ◌&&◌, not, nat_le, if◌then◌else◌, slice_index_or, slice_set}
 use Rattle.std.specs.List.{list_all}
 use Rattle.std.proofs.Math.Path.{subst}
 use Rattle.std.proofs.lemmas.List.{length-set}
-use Rattle.sctp_lists.specs.Lists.{changed, inserted, advanced, Seen}
-use Rattle.sctp_lists.specs.Serial.{comes_before}
+use Rattle.sctp_lists.specs.Lists.{changed, inserted}
 use Rattle.sctp_lists.proofs.Cases.{same-yes, and-none}
-use Rattle.sctp_lists.proofs.More.{not_both}
 use Rattle.sctp_chunks.specs.declared.chunk.chunk_payload_data.ChunkPayloadData.{ChunkPayloadData}
 use Rattle.sctp_serial.specs.DataChunks.{chunk_before}
-use Rattle.sctp_serial.specs.Window
-use Rattle.sctp_outbound.specs.payload_queue.PayloadQueue as Payload
-use Rattle.sctp_outbound.specs.payload_queue.PayloadQueue.{Payload}
 use Rattle.sctp_reassembly.specs.reassembly_queue.ReassemblyQueue.{Reassembly, ReassemblyState, is_too_large, pushed_ordered, BecomesWhole}
 use Rattle.sctp_model.specs.World.{World, StreamRecord}
 use Rattle.sctp_model.specs.Messages.{message_at, message_of, slots_of, index_of, tsn_of, no_slot}
 use Rattle.sctp_model.specs.Receiver.{is_new, has_arrived}
 use Rattle.sctp_model.specs.Changes.{slot_received, becomes_whole, with_whole, whole_noted, stream_changed, mark_arrived}
 use Rattle.sctp_model.specs.Contents.{chunk_at}
-use Rattle.sctp_model.specs.Queues.{FilterRecord, filter_of}
 use Rattle.sctp_model.specs.Sound.{IsSpan}
 use Rattle.sctp_model.proofs.sender.Network
-use Rattle.sctp_ties.specs.Holds.{reassembly_of, seen_of}
-use Rattle.sctp_ties.specs.Tied.{filter_held}
+use Rattle.sctp_ties.specs.Holds.{reassembly_of}
 use Rattle.sctp_ties.proofs.arriving.Arrival.{with_arrived}
-use Rattle.sctp_ties.proofs.arriving.FilterQueue.{tsns, tsns-inserted, window-is, new-is}
 use Rattle.sctp_ties.proofs.arriving.RunsOnce.{becomes-same}
 use Rattle.sctp_ties.proofs.arriving.SlotArrives
 use Rattle.sctp_ties.proofs.arriving.SlotArrives.{Enters, ordered-slot, unordered-slot}
 use Rattle.sctp_ties.proofs.reading.Keeps
 use Rattle.sctp_transfer.specs.declared.stream.StreamState.{StreamState}
+use Rattle.sctp_transfer.specs.TsnFilter.{Filter, has_come, is_opposite, with_tsn, with_duplicate}
 use Rattle.sctp_link.specs.declared.open_stream.OpenStream.{OpenStream}
 use Rattle.sctp_link.specs.declared.record.Slot.{Slot}
 use Rattle.sctp_link.specs.OpenStreams.{Keeps}
@@ -39,6 +32,7 @@ use Rattle.sctp_link.specs.Records.{slot_record, stream_record}
 use Rattle.sctp_link.specs.Receiving.{HoldsQueue, IsReceiver, Comes}
 use Rattle.sctp_link.proofs.upkeep.Apart.{IsApart, apart, differ, each-set, map-set, map-set_same, streams-set}
 use Rattle.sctp_link.proofs.upkeep.Places.{indexed-set}
+use Rattle.sctp_link.proofs.receiver.Came.{come-is, near-is, filter-new, filter-again}
 use Rattle.sctp_link.proofs.receiver.Hears.{raw-at, raw-length}
 
 and-yes : (b : Bool) → (b && true) ≡ b
@@ -49,7 +43,7 @@ and-yes false = refl
 abbrev pub shown : ℕ → StreamState → List ℕ → StreamRecord
 shown named s whole = record { stream = s.stream_identifier; unordered = s.unordered; reliability = s.reliability_type; value = s.reliability_value; named = named; whole = whole }
 
-module _ (w : World) (ls : List OpenStream) (slots : List Slot) (filter : Payload) (cum : ℕ) (dups : List ℕ) (r : IsReceiver w ls slots filter cum dups) (p : ℕ) (c : ChunkPayloadData) (m : Comes w p c) where
+module _ (w : World) (ls : List OpenStream) (slots : List Slot) (filter : Filter) (dups : List ℕ) (r : IsReceiver w ls slots filter dups) (p : ℕ) (c : ChunkPayloadData) (m : Comes w p c) where
   abbrev n : ℕ
   n = message_of w p
 
@@ -67,32 +61,21 @@ module _ (w : World) (ls : List OpenStream) (slots : List Slot) (filter : Payloa
   number-is o e =
       ap (λ (t : Slot). t.message) e ∙ sym (ap (λ t. t.message) (ap (λ xs. slice_index_or xs p no_slot) r.slots_are ∙ raw-at slot_record slots p no_slot o slot-inside))
 
-  pub told : Window.is_new filter.chunks c.tsn cum ≡ is_new w p
-  told =
-      ap (λ t. Window.is_new filter.chunks t cum) tsn-is
-      ∙ ap (Window.is_new filter.chunks (tsn_of w p)) (ap (λ f. f.cumulative) r.filter_is)
-      ∙ new-is w filter.chunks m.sound.sound.skipped_made m.sound.sound.few (ap (λ f. f.held) r.filter_is) p m.sound.made
+  -- whether its TSN came, as the record says
+  pub told : has_come c.tsn filter ≡ not (is_new w p)
+  told = ap (λ t. has_come t filter) tsn-is ∙ come-is w filter m.sound.sound.skipped_made m.sound.sound.few r.filter_is p m.sound.made
 
   -- ## It came before
 
   module _ (old : is_new w p ≡ false) where
-    pub never : IsTrue (Window.is_new filter.chunks c.tsn cum) → ⊥
-    never t = not_both (sym (told ∙ old) ∙ t)
-
-    again-filter : filter_held cum (Payload.repeated filter c.tsn) ≡ filter_of (slot_received w p)
-    again-filter =
-        ap {B = FilterRecord} (λ (f : FilterRecord). record f { duplicates = f.duplicates ++ c.tsn ∷ [] }) r.filter_is
-        ∙ ap {B = FilterRecord} (λ t. record (filter_of w) { duplicates = (filter_of w).duplicates ++ t ∷ [] }) tsn-is
-        ∙ sym (SlotArrives.repeated-filter w p old)
-
-    pub again : (filter' : Payload) (dups' : List ℕ) → filter' ≡ Payload.repeated filter c.tsn → dups' ≡ dups ++ p ∷ [] → IsReceiver (slot_received w p) ls slots filter' cum dups'
+    pub again : (filter' : Filter) (dups' : List ℕ) → filter' ≡ with_duplicate c.tsn filter → dups' ≡ dups ++ p ∷ [] → IsReceiver (slot_received w p) ls slots filter' dups'
     again filter' dups' f e =
         let is = SlotArrives.repeated w p old in
         record {
           streams_are = ap (λ v. v.streams) is ∙ r.streams_are;
           slots_are = ap (λ v. v.slots) is ∙ r.slots_are;
           duplicates_are = ap (λ v. v.duplicates) is ∙ ap (λ d. d ++ p ∷ []) r.duplicates_are ∙ sym e;
-          filter_is = ap (filter_held cum) f ∙ again-filter;
+          filter_is = filter-again w p filter filter' old r.filter_is (f ∙ ap (λ t. with_duplicate t filter) tsn-is);
           queues = λ k d lt. let q = r.queues k d lt in record {
             held = q.held ∙ sym (SlotArrives.repeated-reassembly w p (slice_index_or ls k d).state.stream_identifier old);
             si = q.si;
@@ -121,23 +104,12 @@ module _ (w : World) (ls : List OpenStream) (slots : List Slot) (filter : Payloa
     noted-is : slot_received w p ≡ whole_noted (with_arrived w p) n
     noted-is = ap (λ b. if b then whole_noted (with_arrived w p) n else record w { duplicates = w.duplicates ++ p ∷ [] }) new
 
-    pub is-new : Window.is_new filter.chunks c.tsn cum ≡ true
-    is-new = told ∙ new
+    -- what the filter asks of its TSN
+    pub fresh : has_come c.tsn filter ≡ false
+    fresh = told ∙ ap not new
 
-    pub window : Window.IsWindow cum filter.chunks c.tsn
-    window =
-        let i = window-is w filter.chunks m.sound.sound.skipped_made m.sound.sound.few (ap (λ f. f.held) r.filter_is) p m.sound.made new in
-        subst (λ b. Window.IsWindow b filter.chunks c.tsn) (sym (ap (λ f. f.cumulative) r.filter_is)) (subst (Window.IsWindow (seen_of w).cum filter.chunks) (sym tsn-is) i)
-
-    moved-filter : (mark : ChunkPayloadData) (cum' : ℕ) (filter' : Payload) → mark.tsn ≡ c.tsn → filter'.duplicates ≡ filter.duplicates → advanced cum (tsns (inserted chunk_before mark filter.chunks)) ≡ record { cum = cum'; held = tsns filter'.chunks } → filter_held cum' filter' ≡ filter_of (slot_received w p)
-    moved-filter mark cum' filter' is dup moved =
-        let seen : seen_of (slot_received w p) ≡ record { cum = cum'; held = tsns filter'.chunks } =
-        SlotArrives.filter-slot w p m.sound.sound m.sound.made new
-        ∙ sym (ap (λ a. advanced a (tsns (inserted chunk_before mark filter.chunks))) (ap (λ f. f.cumulative) r.filter_is) ∙ ap (advanced (seen_of w).cum) (tsns-inserted mark filter.chunks ∙ ap (λ t. inserted comes_before t (tsns filter.chunks)) (is ∙ tsn-is) ∙ ap (inserted comes_before (tsn_of w p)) (ap (λ f. f.held) r.filter_is)))
-        ∙ moved in
-        let dups' : filter'.duplicates ≡ (filter_of (slot_received w p)).duplicates = dup ∙ ap (λ f. f.duplicates) r.filter_is ∙ sym (SlotArrives.duplicates-slot w p new) in
-        ap {B = FilterRecord} (λ d. record { cumulative = cum'; held = tsns filter'.chunks; duplicates = d }) dups'
-        ∙ ap {B = FilterRecord} (λ (a : Seen). record { cumulative = a.cum; held = a.held; duplicates = (filter_of (slot_received w p)).duplicates }) (sym seen)
+    pub near : is_opposite c.tsn filter ≡ false
+    near = ap (λ t. is_opposite t filter) tsn-is ∙ near-is w filter m.sound.sound.skipped_made m.sound.sound.few r.filter_is p m.sound.made new
 
     module _ (at : ℕ) (lt : at < length ls) (number-is : (d : OpenStream) → (slice_index_or ls at d).state.stream_identifier ≡ c.stream_identifier) (d : OpenStream) where
       abbrev y : OpenStream
@@ -146,14 +118,14 @@ module _ (w : World) (ls : List OpenStream) (slots : List Slot) (filter : Payloa
       id-at : (d : OpenStream) → (slice_index_or ls at d).state.stream_identifier ≡ s
       id-at d = number-is d ∙ ap (λ (x : ChunkPayloadData). x.stream_identifier) m.chunk
 
-      here : y.state.reassembly_queue.held ≡ reassembly_of w s
+      here : y.inbound.queue.held ≡ reassembly_of w s
       here = (r.queues at d lt).held ∙ ap (reassembly_of w) (id-at d)
 
       -- what the stream's queue asks of the chunk
-      pub small : is_too_large c y.state.reassembly_queue ≡ false
-      small = m.small new y.state.reassembly_queue here (r.queues at d lt).largest
+      pub small : is_too_large c y.inbound.queue ≡ false
+      small = m.small new y.inbound.queue here (r.queues at d lt).largest
 
-      pub its-stream : (c.stream_identifier == y.state.reassembly_queue.si) ≡ true
+      pub its-stream : (c.stream_identifier == y.inbound.queue.si) ≡ true
       its-stream = ap (λ t. c.stream_identifier == t) ((r.queues at d lt).si ∙ number-is d) ∙ same-yes c.stream_identifier
 
       module _ (z : OpenStream) (number : ℕ) (number_is : number ≡ message_of w p) (keeps' : Keeps c number (slice_index_or ls at d) z) where
@@ -161,10 +133,10 @@ module _ (w : World) (ls : List OpenStream) (slots : List Slot) (filter : Payloa
         keeps = subst (λ x. Keeps x number (slice_index_or ls at d) z) m.chunk keeps'
 
         record Holds : Type 0 where
-          queue : z.state.reassembly_queue.held ≡ reassembly_of (slot_received w p) s
+          queue : z.inbound.queue.held ≡ reassembly_of (slot_received w p) s
           noted : (keeps.whole && (chunk_at w p).unordered) ≡ becomes_whole (with_arrived w p) n
-          si : z.state.reassembly_queue.si ≡ y.state.reassembly_queue.si
-          largest : z.state.reassembly_queue.max_message_size ≡ y.state.reassembly_queue.max_message_size
+          si : z.inbound.queue.si ≡ y.inbound.queue.si
+          largest : z.inbound.queue.max_message_size ≡ y.inbound.queue.max_message_size
 
         holds-by : (b : Bool) → (message_at w n).ordered ≡ b → Holds
         holds-by true o =
@@ -177,8 +149,8 @@ module _ (w : World) (ls : List OpenStream) (slots : List Slot) (filter : Payloa
             }
         holds-by false o =
             let q = keeps.unordered_queue (ap not o) in
-            let pushed = subst (λ (h : Reassembly). BecomesWhole (inserted chunk_before (chunk_at w p) h.loose) h z.state.reassembly_queue.held keeps.whole) here q.0 in
-            let same = becomes-same (inserted chunk_before (chunk_at w p) (reassembly_of w s).loose) (reassembly_of w s) z.state.reassembly_queue.held (reassembly_of (slot_received w p) s) keeps.whole (becomes_whole (with_arrived w p) n) pushed (unordered-slot w s p m.known.0 m.sound.sound m.sound.loose enter o m.known.1) in
+            let pushed = subst (λ (h : Reassembly). BecomesWhole (inserted chunk_before (chunk_at w p) h.loose) h z.inbound.queue.held keeps.whole) here q.0 in
+            let same = becomes-same (inserted chunk_before (chunk_at w p) (reassembly_of w s).loose) (reassembly_of w s) z.inbound.queue.held (reassembly_of (slot_received w p) s) keeps.whole (becomes_whole (with_arrived w p) n) pushed (unordered-slot w s p m.known.0 m.sound.sound m.sound.loose enter o m.known.1) in
             record {
               queue = same.0;
               noted = ap (λ b. keeps.whole && not b) o ∙ and-yes keeps.whole ∙ same.1;
@@ -233,12 +205,12 @@ module _ (w : World) (ls : List OpenStream) (slots : List Slot) (filter : Payloa
               largest = q.largest ∙ sym same;
             })
 
-        pub kept : (mark : ChunkPayloadData) (cum' : ℕ) (filter' : Payload) (slots' : List Slot) (o : Slot) → mark.tsn ≡ c.tsn → filter'.duplicates ≡ filter.duplicates → advanced cum (tsns (inserted chunk_before mark filter.chunks)) ≡ record { cum = cum'; held = tsns filter'.chunks } → slots' ≡ slice_set slots p (record (slice_index_or slots p o) { arrived = true }) → IsReceiver (slot_received w p) (slice_set ls at z) slots' filter' cum' dups
-        kept mark cum' filter' slots' o is dup moved marked = record {
+        pub kept : (mid filter' : Filter) (slots' : List Slot) (o : Slot) → mid ≡ record filter { room = mid.room } → filter' ≡ record (with_tsn c.tsn mid) { room = filter'.room } → slots' ≡ slice_set slots p (record (slice_index_or slots p o) { arrived = true }) → IsReceiver (slot_received w p) (slice_set ls at z) slots' filter' dups
+        kept mid filter' slots' o reserved put marked = record {
           streams_are = ap (λ v. v.streams) all-is;
           slots_are = ap (λ v. v.slots) all-is ∙ ap (changed mark_arrived p) r.slots_are ∙ sym (ap (map slot_record) marked ∙ map-set slot_record mark_arrived slots p (record (slice_index_or slots p o) { arrived = true }) o slot-inside refl);
           duplicates_are = ap (λ v. v.duplicates) all-is ∙ r.duplicates_are;
-          filter_is = moved-filter mark cum' filter' is dup moved;
+          filter_is = filter-new w p filter mid filter' m.sound.sound m.sound.made new r.filter_is reserved (put ∙ ap (λ t. let f : Filter = record (with_tsn t mid) { room = filter'.room } in f) tsn-is);
           queues = queue-then;
           places = r.places;
           indexed = indexed-set r.places ls at z d r.indexed same-id;

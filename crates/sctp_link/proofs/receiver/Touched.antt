@@ -9,9 +9,11 @@ use Rattle.sctp_lists.proofs.Cases.{same-yes}
 use Rattle.sctp_lists.proofs.More.{not_both}
 use Rattle.sctp_chunks.specs.declared.chunk.chunk_payload_data.ChunkPayloadData.{ChunkPayloadData}
 use Rattle.sctp_ties.proofs.arriving.Stays.{by_place}
+use Rattle.sctp_transfer.specs.declared.receiver.inbound_streams.InboundStream.{InboundStream}
 use Rattle.sctp_transfer.specs.declared.stream.StreamState.{StreamState}
 use Rattle.sctp_link.specs.declared.open_stream.OpenStream.{OpenStream}
 use Rattle.sctp_link.specs.declared.record.Slot.{Slot}
+use Rattle.sctp_link.specs.Linked.{both_ways, stats_in}
 use Rattle.sctp_link.specs.OpenStreams.{Keeps}
 use Rattle.sctp_link.specs.Places.{stream_numbers}
 use Rattle.sctp_link.specs.Receiving.{IsTouched, IsUnchanged, TouchesOnly, MarksOnly}
@@ -25,11 +27,12 @@ one-at (x ∷ xs) (suc k) lt d e = one-at xs k (omega arith) d e
 -- ## One stream
 
 pub same-unchanged : (l : OpenStream) → IsUnchanged l l
-same-unchanged l = record { state = refl; whole = refl; ordered = refl; begun = refl; next = refl; named = refl }
+same-unchanged l = record { state = refl; inbound = refl; whole = refl; ordered = refl; begun = refl; next = refl; named = refl }
 
 pub unchanged-touched : (y z : OpenStream) → IsUnchanged y z → IsTouched y z
 unchanged-touched y z u = record {
-  state = subst (λ (t : StreamState). t ≡ record y.state { reassembly_queue = t.reassembly_queue }) (sym u.state) refl;
+  state = u.state;
+  inbound = subst (λ (t : InboundStream). t ≡ record y.inbound { queue = t.queue }) (sym u.inbound) refl;
   whole = ap (take (length y.whole.items)) u.whole ∙ take_all (length y.whole.items) y.whole.items (omega arith);
   ordered = u.ordered;
   begun = u.begun;
@@ -40,6 +43,7 @@ unchanged-touched y z u = record {
 pub keeps-touched : (c : ChunkPayloadData) (n : ℕ) (y z : OpenStream) → Keeps c n y z → IsTouched y z
 keeps-touched c n y z k = record {
   state = k.state;
+  inbound = k.inbound;
   whole = ap (take (length y.whole.items)) k.noted ∙ first (k.whole && c.unordered);
   ordered = k.ordered;
   begun = k.begun;
@@ -68,7 +72,8 @@ take-then (x ∷ xs) (y ∷ ys) (z ∷ zs) e f =
 
 pub touched-then : (x y z : OpenStream) → IsTouched x y → IsTouched y z → IsTouched x z
 touched-then x y z a b = record {
-  state = b.state ∙ ap (λ (t : StreamState). record t { reassembly_queue = z.state.reassembly_queue }) a.state;
+  state = b.state ∙ a.state;
+  inbound = b.inbound ∙ ap (λ (t : InboundStream). record t { queue = z.inbound.queue }) a.inbound;
   whole = take-then x.whole.items y.whole.items z.whole.items a.whole b.whole;
   ordered = b.ordered ∙ a.ordered;
   begun = b.begun ∙ a.begun;
@@ -77,7 +82,11 @@ touched-then x y z a b = record {
 }
 
 unchanged-then : (x y z : OpenStream) → IsUnchanged x y → IsUnchanged y z → IsUnchanged x z
-unchanged-then x y z a b = record { state = b.state ∙ a.state; whole = b.whole ∙ a.whole; ordered = b.ordered ∙ a.ordered; begun = b.begun ∙ a.begun; next = b.next ∙ a.next; named = b.named ∙ a.named }
+unchanged-then x y z a b = record { state = b.state ∙ a.state; inbound = b.inbound ∙ a.inbound; whole = b.whole ∙ a.whole; ordered = b.ordered ∙ a.ordered; begun = b.begun ∙ a.begun; next = b.next ∙ a.next; named = b.named ∙ a.named }
+
+-- a stream that is touched has its counters
+pub stats-same : (y z : OpenStream) → IsTouched y z → stats_in z ≡ stats_in y
+stats-same y z t = ap (λ (s : StreamState). both_ways s.stats z.inbound.stats) t.state ∙ ap (λ (i : InboundStream). both_ways y.state.stats i.stats) t.inbound
 
 -- ## All of them
 

@@ -2,8 +2,8 @@
 use Rattle.std.specs.BTreeMap.{BTreeMap}
 use Rattle.std.proofs.Common.{◌≡◌, ℕ, ◌+◌, ◌-◌, ◌<◌, ◌≤◌, ◌%◌, ◌^◌, List, [], map, None, refl, ap, arith}
 use Rattle.sctp_outbound.specs.outbound_queue.OutboundQueue.{Outbound}
-use Rattle.sctp_outbound.specs.payload_queue.PayloadQueue.{Payload}
-use Rattle.sctp_ties.specs.Tied.{filter_held}
+use Rattle.sctp_transfer.specs.TsnFilter.{Filter, preceding_tsn}
+use Rattle.sctp_model.specs.Queues.{FilterRecord}
 use Rattle.sctp_link.specs.declared.open_stream.OpenStream.{OpenStream}
 use Rattle.sctp_link.specs.declared.record.Message.{Message}
 use Rattle.sctp_link.specs.declared.record.Slot.{Slot}
@@ -23,10 +23,10 @@ no_outbound =
       next_unstarted = 0;
     }
 
-abbrev pub no_payload : Payload
-no_payload = record { chunks = []; duplicates = []; room = 0 }
+abbrev pub no_filter : ℕ → Filter
+no_filter first = record { cumulative_tsn = preceding_tsn first; beyond = []; duplicates = []; room = 0 }
 
-abbrev pub start_state : ℕ → ℕ → ℕ → ℕ → List OpenStream → BTreeMap ℕ ℕ → List Message → List Slot → List Datagram → List ℕ → Outbound → Payload → State
+abbrev pub start_state : ℕ → ℕ → ℕ → ℕ → List OpenStream → BTreeMap ℕ ℕ → List Message → List Slot → List Datagram → List ℕ → Outbound → Filter → State
 start_state first size largest limit open_streams places messages slots network duplicates outbound filter =
     record {
       world = record {
@@ -46,13 +46,12 @@ start_state first size largest limit open_streams places messages slots network 
       datagrams = map (λ d. d.bytes) network;
       outbound = outbound;
       next_tsn = first;
-      cumulative_tsn = (first + (2 ^ 32 - 1)) % 2 ^ 32;
       filter = filter;
       fragments = 0;
       written = 0;
     }
 
-linked-start : (sum : List ℕ → ℕ) (first size largest limit : ℕ) (places : BTreeMap ℕ ℕ) → first < 2 ^ 32 → 0 < size → size ≤ 65519 → IsIndexed places [] → IsLinked sum (start_state first size largest limit [] places [] [] [] [] no_outbound no_payload)
+linked-start : (sum : List ℕ → ℕ) (first size largest limit : ℕ) (places : BTreeMap ℕ ℕ) → first < 2 ^ 32 → 0 < size → size ≤ 65519 → IsIndexed places [] → IsLinked sum (start_state first size largest limit [] places [] [] [] [] no_outbound (no_filter first))
 linked-start sum first size largest limit places fits some short indexed = record {
   setup = record { first = fits; some = some; size = short };
   history = [];
@@ -66,7 +65,7 @@ linked-start sum first size largest limit places fits some short indexed = recor
     begun = λ p lt. absurd (omega (arith, lt));
   };
   unstarted = refl;
-  filter = let same : first + (2 ^ 32 - 1) ≡ first + (2 ^ 32 - 1) + 0 = omega arith in ap (λ t. filter_held (t % 2 ^ 32) no_payload) same;
+  filter = let same : first + (2 ^ 32 - 1) ≡ first + (2 ^ 32 - 1) + 0 = omega arith in ap (λ t. let r : FilterRecord = record { cumulative = t % 2 ^ 32; held = []; duplicates = [] } in r) same;
   next = omega (arith, fits);
   fragments = refl;
   written = refl;
@@ -78,8 +77,8 @@ linked-start sum first size largest limit places fits some short indexed = recor
   texts = λ k d g e. cc;
 }
 
-pub linked-new : (sum : List ℕ → ℕ) (first size largest limit : ℕ) (open_streams : List OpenStream) (places : BTreeMap ℕ ℕ) (messages : List Message) (slots : List Slot) (network : List Datagram) (duplicates : List ℕ) (outbound : Outbound) (filter : Payload)
+pub linked-new : (sum : List ℕ → ℕ) (first size largest limit : ℕ) (open_streams : List OpenStream) (places : BTreeMap ℕ ℕ) (messages : List Message) (slots : List Slot) (network : List Datagram) (duplicates : List ℕ) (outbound : Outbound) (filter : Filter)
     → first < 2 ^ 32 → 0 < size → size ≤ 65519
-    → open_streams ≡ [] → IsIndexed places [] → messages ≡ [] → slots ≡ [] → network ≡ [] → duplicates ≡ [] → outbound ≡ no_outbound → filter ≡ no_payload
+    → open_streams ≡ [] → IsIndexed places [] → messages ≡ [] → slots ≡ [] → network ≡ [] → duplicates ≡ [] → outbound ≡ no_outbound → filter ≡ no_filter first
     → IsLinked sum (start_state first size largest limit open_streams places messages slots network duplicates outbound filter)
 linked-new sum first size largest limit open_streams places messages slots network duplicates outbound filter fits some short a indexed b c d e q f = rw (a, b, c, d, e, q, f) (linked-start sum first size largest limit places fits some short indexed)

@@ -27,6 +27,7 @@ use Rattle.sctp_ties.specs.Holds.{reassembly_of}
 use Rattle.sctp_link.specs.declared.open_stream.OpenStream.{OpenStream}
 use Rattle.sctp_link.specs.Places.{IsIndexed, stream_numbers}
 use Rattle.sctp_link.specs.Records.{stream_record}
+use Rattle.sctp_transfer.specs.Inbound as Inbound
 use Rattle.sctp_transfer.specs.Stream.{new_stream}
 use Rattle.sctp_link.specs.Linked.{State, IsOpenStream, IsLinked, has_number, stats_of}
 use Rattle.sctp_link.proofs.upkeep.Facts.{Facts, facts, stands-then}
@@ -72,11 +73,12 @@ module _ (sum : List ℕ → ℕ) (x : State) (l : IsLinked sum x) (s : ℕ) (ok
       (record { setup = refl; held = Opened.opened-same x.world s t.state.stream_identifier closed; ordered = refl; next = subst (λ u. next_of (opened u s) t.state.stream_identifier ≡ next_of u t.state.stream_identifier) (sym l.stands.is) (next-same x.world.setup l.history (E.Open s) t.state.stream_identifier l.setup l.stands.run (ap (λ u. refusal_of u (E.Open s)) (sym l.stands.is) ∙ ok) tt); amount = refl; counters = refl })
       refl i
 
-  stream-new : (m : OpenStream) → m.state ≡ new_stream s x.world.setup.size x.world.setup.largest Unknown → m.ordered ≡ 0 → m.begun ≡ 0 → m.next ≡ 0 → IsOpenStream (opened x.world s) m
-  stream-new m is none no-begun first =
+  stream-new : (m : OpenStream) → m.state ≡ new_stream s x.world.setup.size x.world.setup.largest Unknown → m.inbound ≡ Inbound.new_stream s x.world.setup.largest → m.ordered ≡ 0 → m.begun ≡ 0 → m.next ≡ 0 → IsOpenStream (opened x.world s) m
+  stream-new m is nothing none no-begun first =
       let a : reassembly_of (opened x.world s) s ≡ (let q : Reassembly = record { next_ssn = 0; ordered = []; unordered = []; loose = [] } in q) = Opened.opened-same x.world s s closed ∙ Opened.closed-empty x.world.setup x.world s f.sane closed in
       let n : next_of (opened x.world s) s ≡ 0 = subst (λ u. next_of (opened u s) s ≡ next_of u s) (sym l.stands.is) (next-same x.world.setup l.history (E.Open s) s l.setup l.stands.run (ap (λ u. refusal_of u (E.Open s)) (sym l.stands.is) ∙ ok) tt) ∙ Opened.next x.world.setup x.world s f.sane closed in
       subst (λ st. IsOpenStream (opened x.world s) (record m { state = st })) (sym is)
+      (subst (λ b. IsOpenStream (opened x.world s) (record m { state = new_stream s x.world.setup.size x.world.setup.largest Unknown; inbound = b })) (sym nothing)
       (record {
         held = sym a;
         si = refl;
@@ -88,7 +90,7 @@ module _ (sum : List ℕ → ℕ) (x : State) (l : IsLinked sum x) (s : ℕ) (ok
         next = first ∙ sym n;
         amount = sym (amount-none x.world.setup x.world s f.sane closed);
         stats = sym (ap stats_of (counters-none x.world.setup x.world s f.sane closed));
-      })
+      }))
 
   -- and no open stream has its number
   pub new-number : find (has_number s) x.open_streams ≡ None
@@ -98,8 +100,8 @@ module _ (sum : List ℕ → ℕ) (x : State) (l : IsLinked sum x) (s : ℕ) (ok
       none None e = refl
       none (Some t) e = cc
 
-  pub linked-open : (m : OpenStream) (open_streams : List OpenStream) (places : BTreeMap ℕ ℕ) → open_streams ≡ x.open_streams ++ m ∷ [] → IsIndexed places (stream_numbers open_streams) → m.state ≡ new_stream s x.world.setup.size x.world.setup.largest Unknown → m.ordered ≡ 0 → m.begun ≡ 0 → m.next ≡ 0 → IsLinked sum (record x { world = opened x.world s; open_streams = open_streams; places = places })
-  linked-open m open_streams places e found is none no-begun first = subst (λ ls. IsLinked sum (record x { world = opened x.world s; open_streams = ls; places = places })) (sym e) (record {
+  pub linked-open : (m : OpenStream) (open_streams : List OpenStream) (places : BTreeMap ℕ ℕ) → open_streams ≡ x.open_streams ++ m ∷ [] → IsIndexed places (stream_numbers open_streams) → m.state ≡ new_stream s x.world.setup.size x.world.setup.largest Unknown → m.inbound ≡ Inbound.new_stream s x.world.setup.largest → m.ordered ≡ 0 → m.begun ≡ 0 → m.next ≡ 0 → IsLinked sum (record x { world = opened x.world s; open_streams = open_streams; places = places })
+  linked-open m open_streams places e found is nothing none no-begun first = subst (λ ls. IsLinked sum (record x { world = opened x.world s; open_streams = ls; places = places })) (sym e) (record {
     setup = l.setup;
     history = (E.Open s, reply_to x.world (E.Open s)) ∷ l.history;
     stands = stands-then x.world.setup x.world l.history (E.Open s) ok l.stands;
@@ -114,7 +116,7 @@ module _ (sum : List ℕ → ℕ) (x : State) (l : IsLinked sum x) (s : ℕ) (ok
     low = l.low;
     open_streams = λ k d lt. by_last {P = IsOpenStream (opened x.world s) (slice_index_or (x.open_streams ++ m ∷ []) k d)} k (length x.open_streams) (omega (arith, lt, length-append x.open_streams (m ∷ [])))
         (λ below. subst (IsOpenStream (opened x.world s)) (sym (get-snoc_old x.open_streams m k d (λ z. absurd (omega (arith, below, z))))) (stream-old (slice_index_or x.open_streams k d) (l.open_streams k d below)))
-        (λ z. subst (IsOpenStream (opened x.world s)) (sym (ap (λ j. slice_index_or (x.open_streams ++ m ∷ []) j d) z ∙ get-snoc_new x.open_streams m d)) (stream-new m is none no-begun first));
+        (λ z. subst (IsOpenStream (opened x.world s)) (sym (ap (λ j. slice_index_or (x.open_streams ++ m ∷ []) j d) z ∙ get-snoc_new x.open_streams m d)) (stream-new m is nothing none no-begun first));
     indexed = subst (λ ls. IsIndexed places (stream_numbers ls)) e found;
     texts = texts-same sum x l (E.Open s) ok refl;
   })

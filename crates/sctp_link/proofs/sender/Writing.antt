@@ -1,5 +1,5 @@
 -- A write is taken.
-use Rattle.std.proofs.Common.{◌≡◌, ℕ, zero, suc, ◌+◌, ◌<◌, ◌%◌, ◌^◌, Bool, true, false, List, [], ◌∷◌, ◌++◌, length, map, drop, Some, None, refl, ap, sym, ◌∙◌, arith, length-append}
+use Rattle.std.proofs.Common.{◌≡◌, ℕ, zero, suc, ◌+◌, ◌<◌, ◌%◌, ◌^◌, Bool, true, false, List, [], ◌∷◌, ◌++◌, length, map, drop, Option, Some, None, refl, ap, sym, ◌∙◌, arith, length-append}
 use Rattle.std.specs.Prelude.{◌==◌, ◌&&◌, ◌||◌, not, if◌then◌else◌, nat_lt, slice_index_or, slice_set, find, unwrap_or}
 use Rattle.std.specs.Option.{option_map}
 use Rattle.std.proofs.Math.Path.{subst}
@@ -40,7 +40,8 @@ use Rattle.sctp_link.specs.Records.{stream_record, message_record}
 use Rattle.sctp_transfer.specs.Stats.{with_sent, counted_bytes}
 use Rattle.sctp_transfer.specs.Stream as stream
 use Rattle.sctp_link.specs.OpenStreams.{is_ordered, message_with, with_mode, fragments_with_mode, after_write_on}
-use Rattle.sctp_link.specs.Linked.{State, IsOpenStream, IsLinked, has_number, stats_of}
+use Rattle.sctp_link.specs.Linked.{State, IsOpenStream, IsLinked, has_number, stats_of, both_ways}
+use Rattle.sctp_transfer.specs.declared.stream.DataChannelStats.{DataChannelStats}
 use Rattle.sctp_link.proofs.upkeep.Facts.{Facts, facts, stands-then}
 use Rattle.sctp_link.proofs.upkeep.Frames.{stream-same, begun-kept, indexed-kept, held-quiet, next-kept, texts-same}
 use Rattle.sctp_link.proofs.sender.Beginning.{index_kept, progress-more}
@@ -56,6 +57,10 @@ number-next true b bs seq ordered e =
     let some : nat_lt 0 (length (b ∷ bs)) ≡ true = grind (arith, nat_tests) in
     ap (λ t. if t then (seq + 1) % 2 ^ 16 else seq) some ∙ omega (arith, e)
 number-next false b bs seq ordered e = e
+
+sent-both : (o : Option ℕ) (a b : DataChannelStats) → both_ways (with_sent o a) b ≡ with_sent o (both_ways a b)
+sent-both None a b = refl
+sent-both (Some n) a b = refl
 
 stats-next : (ppi : PayloadProtocolIdentifier) (len : ℕ) (w : World) (t : ℕ) → with_sent (counted_bytes ppi len) (stats_of (counters_on w t)) ≡ stats_of (sent_more (counted_as ppi len) (counters_on w t))
 stats-next Dcep len w t = refl
@@ -171,7 +176,7 @@ module _ (sum : List ℕ → ℕ) (x : State) (l : IsLinked sum x) (s : ℕ) (pp
           begun = i.begun ∙ sym (begun-kept sum x l (E.Write s ppi bytes) ok tt n);
           next = i.next ∙ sym (next-same n);
           amount = omega (arith, i.amount, grown, short, few);
-          stats = ap (with_sent (counted_bytes ppi (length bytes))) i.stats ∙ stats-next ppi (length bytes) w n
+          stats = sent-both (counted_bytes ppi (length bytes)) m.state.stats m.inbound.stats ∙ ap (with_sent (counted_bytes ppi (length bytes))) i.stats ∙ stats-next ppi (length bytes) w n
               ∙ sym (ap stats_of (counters-wrote w s n ppi bytes ok ∙ ap (λ c. if c && not (length bytes == 0) then sent_more (counted_as ppi (length bytes)) (counters_on w n) else counters_on w n) on' ∙ ap (λ c. if c then sent_more (counted_as ppi (length bytes)) (counters_on w n) else counters_on w n) some));
         }
       where

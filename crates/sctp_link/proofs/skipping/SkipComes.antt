@@ -1,12 +1,10 @@
 -- The arrival of a FORWARD-TSN: what it names, its span test, and what it makes of a link.
-use Rattle.std.proofs.Common.{◌≡◌, ℕ, zero, suc, ◌+◌, ◌-◌, ◌<◌, ◌≤◌, ◌^◌, ◌%◌, Bool, true, false, List, [], ◌∷◌, length, map, Some, None, refl, ap, sym, ◌∙◌, arith, not, add-one}
+use Rattle.std.proofs.Common.{◌≡◌, ℕ, zero, suc, ◌+◌, ◌-◌, ◌<◌, ◌≤◌, ◌^◌, ◌%◌, Bool, true, false, List, [], ◌∷◌, length, map, Some, None, refl, ap, sym, ◌∙◌, arith, add-one}
 use Rattle.std.specs.Prelude.{if◌then◌else◌, ◌==◌, ◌&&◌, min, max, nat_lt, find, take, slice_get, slice_index_or, is_some, Result, Ok, Err, IfOk}
 use Rattle.std.specs.List.{list_all}
 use Rattle.std.proofs.Math.Path.{subst}
 use Rattle.std.proofs.lemmas.Bool.Decides.{nat_tests}
 use Rattle.sctp_lists.specs.Kept.{passing}
-use Rattle.sctp_lists.specs.Lists.{advanced, those, Seen}
-use Rattle.sctp_lists.specs.Serial.{at_or_before}
 use Rattle.sctp_lists.proofs.Cases.{same-yes}
 use Rattle.sctp_lists.proofs.More.{and, both, same_test}
 use Rattle.sctp_chunks.specs.ChunkSet.{ChunkSet}
@@ -14,7 +12,6 @@ use Rattle.sctp_chunks.specs.ForwardTsn.{ForwardTsn}
 use Rattle.sctp_chunks.specs.Wire.{forward_tsn_chunk}
 use Rattle.sctp_packets.specs.Packet.{ReadsPacket}
 use Rattle.sctp_reassembly.specs.reassembly_queue.Fragments.{is_complete}
-use Rattle.sctp_outbound.specs.payload_queue.PayloadQueue.{Payload, past, with_chunks}
 use Rattle.sctp_reassembly.specs.reassembly_queue.ReassemblyQueue.{ReassemblyState, ordered_forwarded, unordered_forwarded, forwarded_ordered, forwarded_unordered}
 use Rattle.sctp_model.specs.declared.event.Event.TheVariants as E
 use Rattle.sctp_model.specs.World.{World, StreamRecord, Forward}
@@ -23,7 +20,7 @@ use Rattle.sctp_model.specs.Messages.{stream_at, is_open, is_ordered_on, index_o
 use Rattle.sctp_model.specs.Receiver.{cumulative, next_of, is_held, is_whole, held_on, fits, greatest, least}
 use Rattle.sctp_model.specs.Changes.{named_by, skip_received, datagram_received}
 use Rattle.sctp_model.specs.Contents.{name_of}
-use Rattle.sctp_model.specs.Queues.{FilterRecord, filter_of, set_of}
+use Rattle.sctp_model.specs.Queues.{filter_of, set_of}
 use Rattle.sctp_model.specs.Steps.{refusal_of, after, arrival_fits}
 use Rattle.sctp_model.specs.Sound.{IsSpan}
 use Rattle.sctp_model.proofs.sender.Shape.{shape}
@@ -32,11 +29,9 @@ use Rattle.sctp_model.proofs.sender.Network.{IsNamable, NamesFit, fit-at}
 use Rattle.sctp_model.proofs.receiver.SoundRun.{skips_come_sound}
 use Rattle.sctp_ties.specs.Holds.{reassembly_of, seen_of}
 use Rattle.sctp_ties.specs.Naming.{on_stream, low_named, end_named, lowest_held, highest_held, whole_first, min_with, names_fit}
-use Rattle.sctp_ties.specs.Tied.{filter_held}
 use Rattle.sctp_ties.specs.Counts.{counters_on}
 use Rattle.sctp_ties.proofs.arriving.Arrival
 use Rattle.sctp_ties.proofs.arriving.Filter.{filter-skipped}
-use Rattle.sctp_ties.proofs.arriving.FilterQueue.{tsns, tsns-past}
 use Rattle.sctp_ties.proofs.reading.Line
 use Rattle.sctp_ties.proofs.acknowledging.QuietSender
 use Rattle.sctp_ties.proofs.reading.Taken
@@ -44,16 +39,18 @@ use Rattle.sctp_ties.proofs.skipping.SkipStep.{with_skip, skip-step}
 use Rattle.sctp_ties.proofs.skipping.SkipSpans.{gone_forward, queue-skip, next-skip, named-from, fits-both, skip-fits, next-short, least-start}
 use Rattle.sctp_ties.proofs.arriving.SpanEnds.{sets-held}
 use Rattle.sctp_ties.proofs.amounts.StreamCounters.{counters-same}
+use Rattle.sctp_transfer.specs.TsnFilter.{Filter, skipped_to}
 use Rattle.sctp_link.specs.declared.open_stream.OpenStream.{OpenStream}
 use Rattle.sctp_link.specs.declared.skipped.Named.{Named}
 use Rattle.sctp_link.specs.declared.record.Message.{Message}
 use Rattle.sctp_link.specs.declared.record.Datagram.{Datagram}
-use Rattle.sctp_link.specs.Linked.{State, IsLinked, IsOpenStream, has_number, stats_of}
+use Rattle.sctp_link.specs.Linked.{State, IsLinked, IsOpenStream, has_number, stats_of, filter_shown}
 use Rattle.sctp_link.specs.Records.{message_record, progress_of, stream_record, datagram_record, kind_record}
 use Rattle.sctp_link.specs.Skips.{index_in, is_on, named_from, none_named, gone_to, skipped_by}
 use Rattle.sctp_link.specs.Texts.{packet_with, name_with}
 use Rattle.sctp_link.specs.Places.{IsIndexed, stream_numbers}
 use Rattle.sctp_link.proofs.upkeep.Bounds.{messages-few}
+use Rattle.sctp_link.proofs.receiver.Came.{filter-gone}
 use Rattle.sctp_link.proofs.receiver.Comes.{made-at}
 use Rattle.sctp_link.proofs.upkeep.Facts.{facts, over}
 use Rattle.sctp_link.proofs.receiver.Hears.{raw-at, raw-length, stream-ordered}
@@ -127,13 +124,13 @@ whole-set sum x l s n set h e =
 
 -- a stream found at a place
 module _ (sum : List ℕ → ℕ) (x : State) (l : IsLinked sum x) (at s : ℕ) (d : OpenStream) (lt : at < length x.open_streams) (found : find (has_number s) x.open_streams ≡ Some (slice_index_or x.open_streams at d)) where
-  held-count : length (slice_index_or x.open_streams at d).state.reassembly_queue.held.ordered ≡ length (held_on x.world s)
+  held-count : length (slice_index_or x.open_streams at d).inbound.queue.held.ordered ≡ length (held_on x.world s)
   held-count = ap length (stream-ordered sum x l at s d lt found) ∙ sets-held x.world s
 
-  pub stream-some : 0 < length (slice_index_or x.open_streams at d).state.reassembly_queue.held.ordered → 0 < length (held_on x.world s)
+  pub stream-some : 0 < length (slice_index_or x.open_streams at d).inbound.queue.held.ordered → 0 < length (held_on x.world s)
   stream-some some = omega (arith, some, held-count)
 
-  pub first-none : length (slice_index_or x.open_streams at d).state.reassembly_queue.held.ordered ≡ 0 → (low : ℕ) → low ≡ min_with (whole_first x.world (held_on x.world s)) low
+  pub first-none : length (slice_index_or x.open_streams at d).inbound.queue.held.ordered ≡ 0 → (low : ℕ) → low ≡ min_with (whole_first x.world (held_on x.world s)) low
   first-none e low = by (held_on x.world s) (sym held-count ∙ e)
     where
       by : (ns : List ℕ) → length ns ≡ 0 → low ≡ min_with (whole_first x.world ns) low
@@ -363,9 +360,9 @@ module _ (sum : List ℕ → ℕ) (x : State) (l : IsLinked sum x) (k upto : ℕ
         let end-is : end ≡ end_named w s names = ap (λ (n : Named). n.end) (named-is s) in
         let sp = spans s (ap is_some o) in
         let queue = queue-skip w s upto names r f.sound.sound skips.made counts o sp.0 sp.1 in
-        let rest = gone-rest end tsn y.state.reassembly_queue in
+        let rest = gone-rest end tsn y.inbound.queue in
         stream-then sum x l (E.Arrive k) none frame refl y (turned y) i refl
-        (gone-held end tsn y.state.reassembly_queue ∙ ap (λ n. forwarded_unordered tsn (gone_forward n y.state.reassembly_queue.held)) end-is ∙ ap (λ h. forwarded_unordered tsn (gone_forward (end_named w s names) h)) i.held
+        (gone-held end tsn y.inbound.queue ∙ ap (λ n. forwarded_unordered tsn (gone_forward n y.inbound.queue.held)) end-is ∙ ap (λ h. forwarded_unordered tsn (gone_forward (end_named w s names) h)) i.held
         ∙ sym queue ∙ ap (λ u. reassembly_of u s) (sym after-is))
         rest.0 rest.1 refl refl refl refl
         (ap (λ n. max y.next n) end-is ∙ ap (λ n. max n (end_named w s names)) i.next ∙ sym (next-skip w s upto names r f.sound.sound o) ∙ ap (λ u. next_of u s) (sym after-is))
@@ -384,20 +381,15 @@ module _ (sum : List ℕ → ℕ) (x : State) (l : IsLinked sum x) (k upto : ℕ
 
     -- ## The filter
 
-    pub filter-gone : (first filter : Payload) (cumulative' : ℕ) → first ≡ with_chunks x.filter (past (tsn_of w upto) x.filter.chunks) → advanced (tsn_of w upto) (tsns first.chunks) ≡ record { cum = cumulative'; held = tsns filter.chunks } → filter ≡ with_chunks first filter.chunks → filter_held cumulative' filter ≡ filter_of v
-    filter-gone first filter cum' gone moved rest =
-        let f = facts sum x l in
-        let tsn = tsn_of w upto in
-        let held : tsns first.chunks ≡ those (λ t. not (at_or_before t tsn)) (seen_of w).held =
-        ap (λ (q : Payload). tsns q.chunks) gone ∙ tsns-past tsn x.filter.chunks ∙ ap (those (λ t. not (at_or_before t tsn))) (ap (λ (r : FilterRecord). r.held) l.filter) in
-        let seen : seen_of v ≡ record { cum = cum'; held = tsns filter.chunks } = ap seen_of after-is ∙ filter-skipped w upto f.few skips.made counts ∙ ap (advanced tsn) (sym held) ∙ moved in
-        let dups : filter.duplicates ≡ (filter_of v).duplicates = ap (λ (q : Payload). q.duplicates) rest ∙ ap (λ (q : Payload). q.duplicates) gone ∙ ap (λ (r : FilterRecord). r.duplicates) l.filter ∙ ap (λ u. (filter_of u).duplicates) (sym after-is) in
-        ap {B = FilterRecord} (λ d. record { cumulative = cum'; held = tsns filter.chunks; duplicates = d }) dups
-        ∙ ap {B = FilterRecord} (λ (a : Seen). record { cumulative = a.cum; held = a.held; duplicates = (filter_of v).duplicates }) (sym seen)
+    pub filter-then : (filter : Filter) → filter ≡ skipped_to (tsn_of w upto) x.filter → filter_shown filter ≡ filter_of v
+    filter-then filter is =
+        filter-gone w v (tsn_of w upto) x.filter filter l.filter is
+        (ap seen_of after-is ∙ filter-skipped w upto (facts sum x l).few skips.made counts)
+        (ap (λ u. (filter_of u).duplicates) after-is)
 
-    pub linked-skip : (filter : Payload) (cumulative' : ℕ) (u : World) → filter_held cumulative' filter ≡ filter_of v → u ≡ v → IsLinked sum (record x { world = u; open_streams = map turned x.open_streams; cumulative_tsn = cumulative'; filter = filter })
-    linked-skip filter cum' u held same =
-        linked-then sum x l (E.Arrive k) none frame x.progress (map turned x.open_streams) cum' filter u refl held each-skipped
+    pub linked-skip : (filter : Filter) (u : World) → filter_shown filter ≡ filter_of v → u ≡ v → IsLinked sum (record x { world = u; open_streams = map turned x.open_streams; filter = filter })
+    linked-skip filter u held same =
+        linked-then sum x l (E.Arrive k) none frame x.progress (map turned x.open_streams) filter u refl held each-skipped
         (subst (IsIndexed x.places) (sym (numbers-same x.open_streams)) l.indexed) quiet same
 
     -- the same for the streams that the code left
@@ -411,8 +403,8 @@ module _ (sum : List ℕ → ℕ) (x : State) (l : IsLinked sum x) (k upto : ℕ
       pub received-follow : record w { streams = map stream_record ls; skipped = skipped } ≡ skip_received w upto names
       received-follow = world-follow ∙ ap (datagram_received w) e
 
-      pub linked-follow : (first filter : Payload) (cumulative' : ℕ) → first ≡ with_chunks x.filter (past tsn x.filter.chunks) → advanced tsn (tsns first.chunks) ≡ record { cum = cumulative'; held = tsns filter.chunks } → filter ≡ with_chunks first filter.chunks → IsLinked sum (record x { world = record w { streams = map stream_record ls; skipped = skipped }; open_streams = ls; cumulative_tsn = cumulative'; filter = filter })
-      linked-follow first filter cum' gone moved rest =
-          let held = filter-gone first filter cum' (gone ∙ ap (λ t. with_chunks x.filter (past t x.filter.chunks)) tsn_is) (ap (λ t. advanced t (tsns first.chunks)) (sym tsn_is) ∙ moved) rest in
-          subst (λ ys. IsLinked sum (record x { world = record w { streams = map stream_record ls; skipped = skipped }; open_streams = ys; cumulative_tsn = cum'; filter = filter })) (sym turned-are)
-          (linked-skip filter cum' (record w { streams = map stream_record ls; skipped = skipped }) held world-follow)
+      pub linked-follow : (filter : Filter) → filter ≡ skipped_to tsn x.filter → IsLinked sum (record x { world = record w { streams = map stream_record ls; skipped = skipped }; open_streams = ls; filter = filter })
+      linked-follow filter is =
+          let held = filter-then filter (is ∙ ap (λ t. skipped_to t x.filter) tsn_is) in
+          subst (λ ys. IsLinked sum (record x { world = record w { streams = map stream_record ls; skipped = skipped }; open_streams = ys; filter = filter })) (sym turned-are)
+          (linked-skip filter (record w { streams = map stream_record ls; skipped = skipped }) held world-follow)

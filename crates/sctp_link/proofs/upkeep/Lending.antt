@@ -13,7 +13,7 @@ use Rattle.sctp_ties.specs.Amount.{amount}
 use Rattle.sctp_ties.specs.Counts.{counters_on}
 use Rattle.sctp_link.specs.declared.link.lending.Ledger.{Ledger}
 use Rattle.sctp_link.specs.declared.open_stream.OpenStream.{OpenStream}
-use Rattle.sctp_link.specs.Linked.{State, IsLinked, IsOpenStream, ledger_of, stats_of}
+use Rattle.sctp_link.specs.Linked.{State, IsLinked, IsOpenStream, ledger_of, stats_of, stats_in}
 use Rattle.sctp_link.proofs.upkeep.Facts.{over}
 
 -- the ledger, by what the queues hold
@@ -29,7 +29,7 @@ same-ledger a p f r = rw (r, a, p, f) refl
 pub amount-open : (w : World) (s : ℕ) (l : OpenStream) → l.state.stream_identifier ≡ s → is_open w s ≡ true → IsOpenStream w l → Some l.state.buffered_amount ≡ buffered_amount w s
 amount-open w s l e open' i = ap (λ n. Some n) (i.amount ∙ ap (amount w) e) ∙ sym (ap (λ b. if b then Some (amount w s) else None) open')
 
-pub stats-open : (w : World) (s : ℕ) (l : OpenStream) → l.state.stream_identifier ≡ s → is_open w s ≡ true → IsOpenStream w l → Some l.state.stats ≡ option_map stats_of (counters_of w s)
+pub stats-open : (w : World) (s : ℕ) (l : OpenStream) → l.state.stream_identifier ≡ s → is_open w s ≡ true → IsOpenStream w l → Some (stats_in l) ≡ option_map stats_of (counters_of w s)
 stats-open w s l e open' i = ap (λ n. Some n) (i.stats ∙ ap (λ t. stats_of (counters_on w t)) e) ∙ sym (ap (λ b. option_map stats_of (if b then Some (counters_on w s) else None)) open')
 
 -- of a stream that is not

@@ -3,7 +3,6 @@ use Rattle.std.proofs.Common.{◌≡◌, ℕ, ◌+◌, ◌<◌, ◌%◌, ◌^◌
 use Rattle.std.specs.Prelude.{slice_get, slice_index_or}
 use Rattle.std.proofs.Math.Path.{subst}
 use Rattle.sctp_lists.specs.Kept.{kept, numbers_from, total_over}
-use Rattle.sctp_outbound.specs.payload_queue.PayloadQueue.{Payload}
 use Rattle.sctp_model.specs.declared.event.Event.{Event}
 use Rattle.sctp_model.specs.World.{Setup, World}
 use Rattle.sctp_model.specs.World as W
@@ -16,7 +15,7 @@ use Rattle.sctp_model.specs.Laws.{IsSetup}
 use Rattle.sctp_model.proofs.sender.Shape.{Shape, shape, sent, parts, on}
 use Rattle.sctp_model.proofs.sender.Network.{Same}
 use Rattle.sctp_ties.specs.Holds.{reassembly_of}
-use Rattle.sctp_ties.specs.Tied.{filter_held}
+use Rattle.sctp_transfer.specs.TsnFilter.{Filter}
 use Rattle.sctp_ties.specs.Amount.{amount, keeps_amounts}
 use Rattle.sctp_ties.specs.Counts.{counters_on}
 use Rattle.sctp_ties.specs.Indexes.{begun_on}
@@ -25,7 +24,7 @@ use Rattle.sctp_ties.proofs.sending.Begun.{Indexed}
 use Rattle.sctp_ties.proofs.acknowledging.QuietSender.{SameToSender, outbound-same}
 use Rattle.sctp_ties.proofs.amounts.StreamAmounts.{amount-same}
 use Rattle.sctp_link.specs.declared.open_stream.OpenStream.{OpenStream}
-use Rattle.sctp_link.specs.Linked.{State, IsLinked, IsOpenStream, stats_of}
+use Rattle.sctp_link.specs.Linked.{State, IsLinked, IsOpenStream, stats_of, stats_in, filter_shown}
 use Rattle.sctp_link.specs.Places.{IsIndexed, stream_numbers}
 use Rattle.sctp_link.specs.Texts.{IsDatagram}
 use Rattle.sctp_link.proofs.upkeep.Facts.{facts, stands-then, says-still}
@@ -54,7 +53,7 @@ module _ (sum : List ℕ → ℕ) (x : State) (l : IsLinked sum x) (e : Event) (
       subst (λ c. IsDatagram sum c (slice_index_or x.datagrams k d)) (sym says) (l.texts k d g old)
 
   -- what such an event leaves of an open stream
-  pub stream-then : keeps_amounts e ≡ true → (y z : OpenStream) → IsOpenStream w y → z.state.stream_identifier ≡ y.state.stream_identifier → z.state.reassembly_queue.held ≡ reassembly_of v y.state.stream_identifier → z.state.reassembly_queue.si ≡ y.state.reassembly_queue.si → z.state.reassembly_queue.max_message_size ≡ y.state.reassembly_queue.max_message_size → z.state.max_payload_size ≡ y.state.max_payload_size → z.ordered ≡ y.ordered → z.state.sequence_number ≡ y.state.sequence_number → z.begun ≡ y.begun → z.next ≡ next_of v y.state.stream_identifier → z.state.buffered_amount ≡ y.state.buffered_amount → z.state.stats ≡ stats_of (counters_on v y.state.stream_identifier) → IsOpenStream v z
+  pub stream-then : keeps_amounts e ≡ true → (y z : OpenStream) → IsOpenStream w y → z.state.stream_identifier ≡ y.state.stream_identifier → z.inbound.queue.held ≡ reassembly_of v y.state.stream_identifier → z.inbound.queue.si ≡ y.inbound.queue.si → z.inbound.queue.max_message_size ≡ y.inbound.queue.max_message_size → z.state.max_payload_size ≡ y.state.max_payload_size → z.ordered ≡ y.ordered → z.state.sequence_number ≡ y.state.sequence_number → z.begun ≡ y.begun → z.next ≡ next_of v y.state.stream_identifier → z.state.buffered_amount ≡ y.state.buffered_amount → stats_in z ≡ stats_of (counters_on v y.state.stream_identifier) → IsOpenStream v z
   stream-then keeps y z i id held si largest size ordered number begun next bytes stats =
       let t = y.state.stream_identifier in
       let f = facts sum x l in
@@ -73,11 +72,11 @@ module _ (sum : List ℕ → ℕ) (x : State) (l : IsLinked sum x) (e : Event) (
         stats = stats ∙ ap (λ a. stats_of (counters_on v a)) (sym id);
       }
 
-  module _ (progress : List (ℕ × ℕ)) (open_streams : List OpenStream) (cumulative : ℕ) (filter : Payload) (u : World) (progress_same : progress ≡ x.progress) (filter_is : filter_held cumulative filter ≡ filter_of v) (each : (k : ℕ) (d : OpenStream) → k < length open_streams → IsOpenStream v (slice_index_or open_streams k d)) (found : IsIndexed x.places (stream_numbers open_streams)) (q : SameToSender w v) (is : u ≡ v) where
+  module _ (progress : List (ℕ × ℕ)) (open_streams : List OpenStream) (filter : Filter) (u : World) (progress_same : progress ≡ x.progress) (filter_is : filter_shown filter ≡ filter_of v) (each : (k : ℕ) (d : OpenStream) → k < length open_streams → IsOpenStream v (slice_index_or open_streams k d)) (found : IsIndexed x.places (stream_numbers open_streams)) (q : SameToSender w v) (is : u ≡ v) where
     indexed-then : Indexed (shape v) (index_kept progress)
     indexed-then = subst (λ ps. Indexed (shape v) (index_kept ps)) (sym progress_same) (on-shape (λ b. Indexed b (index_kept x.progress)) (indexed-of sum x l))
 
-    at-after : IsLinked sum (record x { world = v; progress = progress; open_streams = open_streams; cumulative_tsn = cumulative; filter = filter })
+    at-after : IsLinked sum (record x { world = v; progress = progress; open_streams = open_streams; filter = filter })
     at-after = record {
       setup = subst IsSetup (sym s.setup) l.setup;
       history = (e, reply_to w e) ∷ l.history;
@@ -97,5 +96,5 @@ module _ (sum : List ℕ → ℕ) (x : State) (l : IsLinked sum x) (e : Event) (
     }
 
     -- the link after it
-    pub linked-then : IsLinked sum (record x { world = u; progress = progress; open_streams = open_streams; cumulative_tsn = cumulative; filter = filter })
-    linked-then = subst (λ (t : World). IsLinked sum (record x { world = t; progress = progress; open_streams = open_streams; cumulative_tsn = cumulative; filter = filter })) (sym is) at-after
+    pub linked-then : IsLinked sum (record x { world = u; progress = progress; open_streams = open_streams; filter = filter })
+    linked-then = subst (λ (t : World). IsLinked sum (record x { world = t; progress = progress; open_streams = open_streams; filter = filter })) (sym is) at-after

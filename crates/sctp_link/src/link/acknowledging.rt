@@ -27,32 +27,27 @@ impl<C: Checksum + Drop> Link<C> {
         ensures err { OnErr result (self.new.world ≡ self.old.world) }
         ensures memory { IsOkUnless result ErrOutOfMemory }
     {
-        let mut blocks = self
-            .filter
-            .get_gap_ack_blocks(self.alloc, self.cumulative_tsn)?;
+        let cumulative_tsn = self.filter.cumulative_tsn();
+        let mut blocks = self.filter.gap_ack_blocks(self.alloc)?;
         blocks.truncate(MAX_SACK_ENTRIES);
         let count = (MAX_SACK_ENTRIES - blocks.len()).min(self.duplicates.len());
         let sack = ChunkSelectiveAck {
-            cumulative_tsn_ack: self.cumulative_tsn,
+            cumulative_tsn_ack: cumulative_tsn,
             advertised_receiver_window_credit: credit,
             gap_ack_blocks: Vec::from_slice(self.alloc, &blocks)?,
-            duplicate_tsn: Vec::from_slice(self.alloc, &self.filter.duplicates()[..count])?,
+            duplicate_tsn: Vec::from_slice(self.alloc, &self.filter.queue().duplicates()[..count])?,
         };
         let duplicates = Vec::from_slice(self.alloc, &self.duplicates[..count])?;
         let bytes = write_datagram(self.alloc, ChunkKind::SelectiveAck(sack), &self.checksum)?;
         self.network.reserve(1)?;
         let kind = Kind::Sack {
-            cumulative: u64::from(
-                self.cumulative_tsn
-                    .wrapping_sub(self.first_tsn)
-                    .wrapping_add(1),
-            ),
+            cumulative: u64::from(cumulative_tsn.wrapping_sub(self.first_tsn).wrapping_add(1)),
             credit,
             blocks,
             duplicates,
         };
         let datagram = self.network.len() as u64;
-        self.filter.pop_duplicates(self.alloc);
+        self.filter.take_duplicates(self.alloc);
         self.duplicates.clear();
         put(&mut self.network, Datagram { kind, bytes });
         Ok(Reply::Ack { datagram })

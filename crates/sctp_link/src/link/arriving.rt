@@ -3,9 +3,6 @@
 ghost use Rattle.std.specs.Prelude.{◌≡◌, ◌≢◌, ◌<◌, ◌≤◌, ◌+◌, ◌∷◌, ℕ, [], true, None, List, OnErr, IfOk, IsOkUnless, length, take, map, fold, find, slice_index_or};
 ghost use Rattle.std.specs.List.{list_any};
 ghost use Rattle.sctp_base.specs.declared.error.Error.TheVariants.{ErrOutOfMemory};
-ghost use Rattle.sctp_lists.specs.Lists.{advanced, inserted};
-ghost use Rattle.sctp_serial.specs.DataChunks.{chunk_before};
-ghost use Rattle.sctp_serial.specs.Window;
 ghost use Rattle.sctp_model.specs.World.{World};
 ghost use Rattle.sctp_model.specs.Receiver.{is_new};
 ghost use Rattle.sctp_model.specs.Changes.{slot_received};
@@ -16,14 +13,12 @@ ghost use Rattle.sctp_link.specs.Receiving.{IsReceiver, Comes, AllCome, IsSaved,
 
 use super::open_streams::OpenStreams;
 use super::put;
-use super::receiving::advance;
 use crate::open_stream::OpenStream;
 use crate::record::Slot;
-use bytes::Bytes;
 use sctp_base::error::Result;
 use sctp_chunks::chunk::chunk_payload_data::ChunkPayloadData;
-use sctp_queues::payload_queue::PayloadQueue;
 use sctp_queues::reassembly_queue::ReassemblyQueue;
+use sctp_transfer::receiver::tsn_filter::TsnFilter;
 use std::alloc::Global;
 
 /// What the arrival of a slot may change of its stream and of the slot, as it was before.
@@ -45,8 +40,7 @@ pub(super) fn receive_slots(
     alloc: Global,
     open_streams: &mut OpenStreams,
     slots: &mut Vec<Slot>,
-    filter: &mut PayloadQueue,
-    cumulative: &mut u32,
+    filter: &mut TsnFilter,
     duplicates: &mut Vec<u64>,
     places: &[u64],
     chunks: &[ChunkPayloadData],
@@ -54,12 +48,12 @@ pub(super) fn receive_slots(
     requires indexed { IsIndexed open_streams.old.places (stream_numbers open_streams.old.items.items) }
     requires inside { (i : ℕ) → i < length places.now → slice_index_or places.now i 0 < length slots.old.items }
     requires found { (i : ℕ) (c : ChunkPayloadData) → i < length places.now → find (has_number (slice_index_or chunks.now i c).stream_identifier) open_streams.old.items.items ≢ None }
-    requires known { (w : World) × IsReceiver w open_streams.old.items.items slots.old.items filter.old cumulative.old duplicates.old.items × AllCome w places.now chunks.now }
-    ensures ok { (w : World) → IsReceiver w open_streams.old.items.items slots.old.items filter.old cumulative.old duplicates.old.items → AllCome w places.now chunks.now
-        → IfOk result (λ new. (new ≡ list_any (is_new w) places.now) × IsReceiver (fold slot_received w places.now) open_streams.new.items.items slots.new.items filter.new cumulative.new duplicates.new.items) }
+    requires known { (w : World) × IsReceiver w open_streams.old.items.items slots.old.items filter.old duplicates.old.items × AllCome w places.now chunks.now }
+    ensures ok { (w : World) → IsReceiver w open_streams.old.items.items slots.old.items filter.old duplicates.old.items → AllCome w places.now chunks.now
+        → IfOk result (λ new. (new ≡ list_any (is_new w) places.now) × IsReceiver (fold slot_received w places.now) open_streams.new.items.items slots.new.items filter.new duplicates.new.items) }
     ensures streams { (ks : List ℕ) × TouchesOnly ks open_streams.old.items.items open_streams.new.items.items }
     ensures places { open_streams.new.places ≡ open_streams.old.places }
-    ensures err { OnErr result (TouchesOnly [] open_streams.old.items.items open_streams.new.items.items × (slots.new.items ≡ slots.old.items) × (filter.new ≡ record filter.old { room = filter.new.room }) × (cumulative.new ≡ cumulative.old) × (duplicates.new.items ≡ duplicates.old.items)) }
+    ensures err { OnErr result (TouchesOnly [] open_streams.old.items.items open_streams.new.items.items × (slots.new.items ≡ slots.old.items) × (filter.new ≡ record filter.old { room = filter.new.room }) × (duplicates.new.items ≡ duplicates.old.items)) }
     ensures memory { IsOkUnless result ErrOutOfMemory }
 {
     if places.len() == 1 {
@@ -71,7 +65,6 @@ pub(super) fn receive_slots(
             &mut open_streams.items,
             slots,
             filter,
-            cumulative,
             duplicates,
             at,
             places[0] as usize,
@@ -81,13 +74,11 @@ pub(super) fn receive_slots(
     }
     let saved = save_each(alloc, open_streams, slots, places, chunks)?;
     let filter_then = filter.try_clone(alloc)?;
-    let cumulative_then = *cumulative;
     let count = duplicates.len();
     let received = receive_each(
         &mut open_streams.items,
         slots,
         filter,
-        cumulative,
         duplicates,
         &saved,
         places,
@@ -98,7 +89,6 @@ pub(super) fn receive_slots(
     }
     put_back(&mut open_streams.items, slots, places, saved);
     *filter = filter_then;
-    *cumulative = cumulative_then;
     duplicates.truncate(count);
     received
 }
@@ -126,7 +116,7 @@ fn save_each(
         let open_stream = &open_streams.items[at];
         saved.push(Saved {
             at,
-            queue: open_stream.state.reassembly_queue().try_clone(alloc)?,
+            queue: open_stream.inbound.queue.try_clone(alloc)?,
             whole: open_stream.whole.len(),
             arrived: slots[places[i] as usize].arrived,
         })?;
@@ -138,17 +128,16 @@ fn save_each(
 fn receive_each(
     open_streams: &mut Vec<OpenStream>,
     slots: &mut Vec<Slot>,
-    filter: &mut PayloadQueue,
-    cumulative: &mut u32,
+    filter: &mut TsnFilter,
     duplicates: &mut Vec<u64>,
     saved: &[Saved],
     places: &[u64],
     chunks: &[ChunkPayloadData],
 ) -> Result<bool>
-    requires known { (w : World) × IsReceiver w open_streams.old.items slots.old.items filter.old cumulative.old duplicates.old.items × AllCome w places.now chunks.now }
+    requires known { (w : World) × IsReceiver w open_streams.old.items slots.old.items filter.old duplicates.old.items × AllCome w places.now chunks.now }
     requires saved { AllSaved open_streams.old.items slots.old.items places.now chunks.now saved.now }
-    ensures ok { (w : World) → IsReceiver w open_streams.old.items slots.old.items filter.old cumulative.old duplicates.old.items → AllCome w places.now chunks.now
-        → IfOk result (λ new. (new ≡ list_any (is_new w) places.now) × IsReceiver (fold slot_received w places.now) open_streams.new.items slots.new.items filter.new cumulative.new duplicates.new.items) }
+    ensures ok { (w : World) → IsReceiver w open_streams.old.items slots.old.items filter.old duplicates.old.items → AllCome w places.now chunks.now
+        → IfOk result (λ new. (new ≡ list_any (is_new w) places.now) × IsReceiver (fold slot_received w places.now) open_streams.new.items slots.new.items filter.new duplicates.new.items) }
     ensures streams { TouchesOnly (map (λ s. s.at) saved.now) open_streams.old.items open_streams.new.items }
     ensures slots { MarksOnly places.now slots.old.items slots.new.items }
     ensures duplicates { take (length duplicates.old.items) duplicates.new.items ≡ duplicates.old.items }
@@ -162,7 +151,6 @@ fn receive_each(
             open_streams,
             slots,
             filter,
-            cumulative,
             duplicates,
             at,
             place,
@@ -197,74 +185,32 @@ fn put_back(
 fn receive_slot(
     open_streams: &mut Vec<OpenStream>,
     slots: &mut Vec<Slot>,
-    filter: &mut PayloadQueue,
-    cumulative: &mut u32,
+    filter: &mut TsnFilter,
     duplicates: &mut Vec<u64>,
     at: usize,
     place: usize,
     chunk: &ChunkPayloadData,
 ) -> Result<bool>
-    requires known { (w : World) × IsReceiver w open_streams.old.items slots.old.items filter.old cumulative.old duplicates.old.items × Comes w place chunk.now }
+    requires known { (w : World) × IsReceiver w open_streams.old.items slots.old.items filter.old duplicates.old.items × Comes w place chunk.now }
     requires at { (at < length open_streams.old.items) × ((d : OpenStream) → (slice_index_or open_streams.old.items at d).state.stream_identifier ≡ chunk.now.stream_identifier) }
-    ensures ok { (w : World) → IsReceiver w open_streams.old.items slots.old.items filter.old cumulative.old duplicates.old.items → Comes w place chunk.now
-        → IfOk result (λ new. (new ≡ is_new w place) × IsReceiver (slot_received w place) open_streams.new.items slots.new.items filter.new cumulative.new duplicates.new.items) }
+    ensures ok { (w : World) → IsReceiver w open_streams.old.items slots.old.items filter.old duplicates.old.items → Comes w place chunk.now
+        → IfOk result (λ new. (new ≡ is_new w place) × IsReceiver (slot_received w place) open_streams.new.items slots.new.items filter.new duplicates.new.items) }
     ensures streams { TouchesOnly (at ∷ []) open_streams.old.items open_streams.new.items }
     ensures slots { MarksOnly (place ∷ []) slots.old.items slots.new.items }
     ensures duplicates { take (length duplicates.old.items) duplicates.new.items ≡ duplicates.old.items }
-    ensures err { OnErr result (TouchesOnly [] open_streams.old.items open_streams.new.items × (slots.new.items ≡ slots.old.items) × (filter.new ≡ record filter.old { room = filter.new.room }) × (cumulative.new ≡ cumulative.old) × (duplicates.new.items ≡ duplicates.old.items)) }
+    ensures err { OnErr result (TouchesOnly [] open_streams.old.items open_streams.new.items × (slots.new.items ≡ slots.old.items) × (filter.new ≡ record filter.old { room = filter.new.room }) × (duplicates.new.items ≡ duplicates.old.items)) }
     ensures memory { IsOkUnless result ErrOutOfMemory }
 {
-    if !filter.can_push(chunk, *cumulative) {
+    if filter.has_come(chunk.tsn) {
         duplicates.reserve(1)?;
-        filter.push(without_data(chunk), *cumulative)?;
+        filter.note_duplicate(chunk.tsn)?;
         put(duplicates, place as u64);
         return Ok(false);
     }
-    filter.reserve(1)?;
+    filter.reserve_for(chunk.tsn)?;
     let number = slots[place].message;
     open_streams[at].keep(chunk, number)?;
-    *cumulative = note(filter, chunk, *cumulative);
+    filter.accept(chunk.tsn);
     slots[place].arrived = true;
     Ok(true)
-}
-
-// Puts the TSN of a new chunk where room was made for it, and answers the cumulative TSN that follows.
-fn note(filter: &mut PayloadQueue, chunk: &ChunkPayloadData, cumulative: u32) -> u32
-    requires room { 0 < filter.old.room }
-    requires fresh { Window.is_new filter.old.chunks chunk.now.tsn cumulative ≡ true }
-    requires window { Window.IsWindow cumulative filter.old.chunks chunk.now.tsn }
-    ensures moved { advanced cumulative (map (λ c. c.tsn) (inserted chunk_before (record chunk.now { user_data = [] }) filter.old.chunks)) ≡ record { cum = result; held = map (λ c. c.tsn) filter.new.chunks } }
-    ensures duplicates { filter.new.duplicates ≡ filter.old.duplicates }
-{
-    let mark = without_data(chunk);
-    // The count of bytes, to which the mark adds none, fits.
-    let _held = filter.get_num_bytes();
-    let _ = filter.push(mark, cumulative);
-    advance(filter, cumulative)
-}
-
-// The chunk without its bytes, which a filter of TSNs does not need.
-fn without_data(chunk: &ChunkPayloadData) -> ChunkPayloadData
-    ensures { result ≡ record chunk.now { user_data = [] } }
-{
-    ChunkPayloadData {
-        unordered: chunk.unordered,
-        beginning_fragment: chunk.beginning_fragment,
-        ending_fragment: chunk.ending_fragment,
-        immediate_sack: chunk.immediate_sack,
-        tsn: chunk.tsn,
-        stream_identifier: chunk.stream_identifier,
-        stream_sequence_number: chunk.stream_sequence_number,
-        payload_type: chunk.payload_type,
-        user_data: Bytes::new(),
-        acked: chunk.acked,
-        miss_indicator: chunk.miss_indicator,
-        message_id: chunk.message_id,
-        abandoned: chunk.abandoned,
-        since: chunk.since,
-        reliability: chunk.reliability,
-        deadline: chunk.deadline,
-        nsent: chunk.nsent,
-        retransmit: chunk.retransmit,
-    }
 }

@@ -68,7 +68,7 @@ impl<C: Checksum + Drop> Link<C> {
         let Some(open_stream) = self.find_stream(stream) else {
             return None;
         };
-        Some(open_stream.state.stats())
+        Some(open_stream.stats())
     }
 
     /// What waits to be sent and what is in flight.
@@ -86,7 +86,7 @@ impl<C: Checksum + Drop> Link<C> {
     pub fn filter(&self) -> &PayloadQueue
         ensures { filter_held (cumulative_tsn self.now.world (cumulative self.now.world)) result.now ≡ filter_of self.now.world }
     {
-        &self.filter
+        self.filter.queue()
     }
 
     /// What came on an open stream and was not read; None where it is not open.
@@ -96,7 +96,7 @@ impl<C: Checksum + Drop> Link<C> {
         let Some(open_stream) = self.find_stream(stream) else {
             return None;
         };
-        Some(open_stream.state.reassembly_queue())
+        Some(&open_stream.inbound.queue)
     }
 
     // What is kept of an open stream.

@@ -2,9 +2,7 @@
 
 ghost use Rattle.std.specs.Prelude.{◌≡◌, ◌<◌, ◌≤◌, ◌+◌, ◌-◌, ◌^◌, ◌∷◌, ℕ, List, [], true, None, Some, OnErr, IfOk, IsOkUnless, length, slice_get, slice_index_or, map, min, max, if◌then◌else◌};
 ghost use Rattle.sctp_base.specs.declared.error.Error.TheVariants.{ErrOutOfMemory};
-ghost use Rattle.sctp_lists.specs.Lists.{advanced};
 ghost use Rattle.sctp_chunks.specs.declared.chunk.chunk_payload_data.ChunkPayloadData.{ChunkPayloadData};
-ghost use Rattle.sctp_outbound.specs.payload_queue.PayloadQueue.{with_chunks};
 ghost use Rattle.sctp_model.specs.Steps.{unless};
 ghost use Rattle.sctp_model.specs.Reply as R;
 ghost use Rattle.sctp_link.specs.Replies.{reply_of};
@@ -16,9 +14,8 @@ use crate::datagram::read_data;
 use crate::event::{LinkRefusal, Reply};
 use crate::record::Kind;
 use sctp_base::error::Result;
-use sctp_base::util::{Checksum, sna32lte};
+use sctp_base::util::Checksum;
 use sctp_queues::chunks::{Chunks, Fragments};
-use sctp_queues::payload_queue::PayloadQueue;
 
 impl<C: Checksum + Drop> Link<C> {
     ghost use Rattle.sctp_model.specs.World.{Data};
@@ -113,7 +110,7 @@ impl<C: Checksum + Drop> Link<C> {
             unreachable!()
         };
         let open_stream = &self.open_streams.items[at];
-        let held = open_stream.state.reassembly_queue().ordered();
+        let held = open_stream.inbound.queue.ordered();
         let Some(first) = held.front() else {
             return (open_stream.next, open_stream.next);
         };
@@ -140,7 +137,7 @@ impl<C: Checksum + Drop> Link<C> {
         ensures { result ≡ is_new self.now.world place }
     {
         let tsn = self.first_tsn.wrapping_add(place as u32);
-        self.filter.get(tsn).is_none() && !sna32lte(tsn, self.cumulative_tsn)
+        !self.filter.has_come(tsn)
     }
 
     /// Takes datagram k to the receiver. Refuses only for memory, and nothing changes then.
@@ -180,7 +177,6 @@ impl<C: Checksum + Drop> Link<C> {
             &mut self.open_streams,
             &mut self.slots,
             &mut self.filter,
-            &mut self.cumulative_tsn,
             &mut self.duplicates,
             places,
             &chunks,
@@ -203,15 +199,10 @@ impl<C: Checksum + Drop> Link<C> {
         };
         let place = first_tsn(&chunks).wrapping_sub(self.first_tsn) as usize;
         let number = self.slots[place].message as usize;
+        let ppi = chunks.ppi();
         let message = &mut self.messages[number];
         message.read = true;
-        let ppi = message.ppi;
-        self.open_streams.items[at].finish_read(
-            message.ordered,
-            message.index,
-            ppi,
-            message.bytes.len(),
-        );
+        self.open_streams.items[at].finish_read(message.ordered, message.index);
         Reply::Message {
             stream,
             ppi,
@@ -255,16 +246,4 @@ fn first_tsn(chunks: &Chunks) -> u32
     ensures { (d : ChunkPayloadData) → result ≡ (slice_index_or chunks.now.set.chunks 0 d).tsn }
 {
     chunks.fragments()[0].tsn
-}
-
-// Moves the cumulative TSN over the chunks that stand next to it, which leave the filter (RFC 4960 6.2).
-pub(super) fn advance(filter: &mut PayloadQueue, cumulative: u32) -> u32
-    ensures moved { advanced cumulative (map (λ c. c.tsn) filter.old.chunks) ≡ record { cum = result; held = map (λ c. c.tsn) filter.new.chunks } }
-    ensures rest { filter.new ≡ with_chunks filter.old filter.new.chunks }
-{
-    let mut cumulative = cumulative;
-    while let Some(_) = filter.pop(cumulative.wrapping_add(1)) {
-        cumulative = cumulative.wrapping_add(1);
-    }
-    cumulative
 }

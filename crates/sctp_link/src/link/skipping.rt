@@ -5,7 +5,6 @@ ghost use Rattle.std.specs.List.{list_all};
 ghost use Rattle.sctp_base.specs.declared.error.Error.TheVariants.{ErrOutOfMemory};
 
 use super::Link;
-use super::receiving::advance;
 use crate::datagram::read_forward_tsn;
 use crate::event::Reply;
 use crate::record::Kind;
@@ -28,7 +27,7 @@ impl<C: Checksum + Drop> Link<C> {
         requires { (k : ℕ) × (slice_get self.now.world.network k ≡ Some (Forward upto names.now)) }
         ensures { result ≡ arrival_fits self.now.world (Some (Forward upto names.now)) }
     {
-        let cumulative = count_of(self.cumulative_tsn, self.first_tsn);
+        let cumulative = count_of(self.filter.cumulative_tsn(), self.first_tsn);
         if cumulative > upto {
             return true;
         }
@@ -73,7 +72,7 @@ impl<C: Checksum + Drop> Link<C> {
             unreachable!()
         };
         let open_stream = &self.open_streams.items[at];
-        let held = open_stream.state.reassembly_queue().ordered();
+        let held = open_stream.inbound.queue.ordered();
         let Some(first) = held.front() else {
             return low;
         };
@@ -93,7 +92,7 @@ impl<C: Checksum + Drop> Link<C> {
         ensures memory { IsOkUnless result ErrOutOfMemory }
     {
         let chunk = read_forward_tsn(self.alloc, &self.network[k as usize].bytes, &self.checksum)?;
-        let cumulative = count_of(self.cumulative_tsn, self.first_tsn);
+        let cumulative = count_of(self.filter.cumulative_tsn(), self.first_tsn);
         if cumulative > upto {
             return Ok(Reply::Stale);
         }
@@ -115,8 +114,7 @@ impl<C: Checksum + Drop> Link<C> {
         };
         skip_streams(&mut self.open_streams.items, &self.messages, messages, tsn);
         self.skipped = upto as usize + 1;
-        self.filter.pop_up_to(tsn);
-        self.cumulative_tsn = advance(&mut self.filter, tsn);
+        self.filter.skip_to(tsn);
     }
 }
 

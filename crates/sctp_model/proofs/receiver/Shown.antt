@@ -123,7 +123,7 @@ has-read setup h is run s n e = step (reads (view (world_of setup h)) s n e)
         let i = run-is (view (world_of setup h)) s n a in
         record { made = i.made; stream = same-is (Messages.message_at (world_of setup h) n).stream s (both ((Messages.message_at (world_of setup h) n).stream == s) ((Messages.message_at (world_of setup h) n).ordered && not (Messages.message_at (world_of setup h) n).expired) i.on_it).0; unread = i.unread; whole_now = i.whole_now }
 
-read-joined : (setup : Setup) (h : History) → IsSetup setup → IsRun setup h → (s n : ℕ) → next_read (world_of setup h) s ≡ Some n → joined_bytes (handed_out (world_of setup h) n).chunks ≡ (Messages.message_at (world_of setup h) n).bytes
+pub read-joined : (setup : Setup) (h : History) → IsSetup setup → IsRun setup h → (s n : ℕ) → next_read (world_of setup h) s ≡ Some n → joined_bytes (handed_out (world_of setup h) n).chunks ≡ (Messages.message_at (world_of setup h) n).bytes
 read-joined setup h is run s n e =
     let w = world_of setup h in
     let g = sane-run setup h run in

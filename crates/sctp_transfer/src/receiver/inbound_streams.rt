@@ -1,6 +1,6 @@
 //! The streams of a receiver.
 
-ghost use Rattle.std.specs.Prelude.{◌≡◌, ◌==◌, ◌<◌, ◌++◌, ◌∷◌, ◌⊎◌, [], true, false, Some, None, OnOk, OnErr, IfErr, IsOk, IsOkUnless, MatchOption, length, map, find, option_map, option_copied, slice_get};
+ghost use Rattle.std.specs.Prelude.{◌≡◌, ◌==◌, ◌<◌, ◌++◌, ◌∷◌, ◌⊎◌, [], true, false, Some, None, OnOk, OnErr, IfOk, IfErr, IsOk, IsOkUnless, MatchOption, length, map, find, option_map, option_copied, slice_get};
 ghost use Rattle.sctp_base.specs.declared.error.Error.TheVariants.{ErrOutOfMemory};
 ghost use Rattle.sctp_lists.specs.Lists.{change_where};
 ghost use Rattle.sctp_transfer.specs.declared.receiver.refusal.ReceiverRefusal.TheVariants.{MessageTooLarge, OutOfMemory};
@@ -26,7 +26,7 @@ pub struct InboundStream {
 }
 
 impl InboundStream {
-    ghost use Rattle.sctp_reassembly.specs.reassembly_queue.ReassemblyQueue.{is_too_large, message_read, at_start};
+    ghost use Rattle.sctp_reassembly.specs.reassembly_queue.ReassemblyQueue.{is_too_large, is_whole_with, PushesUnordered, message_read, at_start};
     ghost use Rattle.sctp_transfer.specs.Inbound.{new_stream, Pushes, stream_read};
 
     /// A stream on which nothing came. It takes no memory.
@@ -56,9 +56,24 @@ impl InboundStream {
         ensures refused { IfErr result (λ e. (e ≡ OutOfMemory) ⊎ ((e ≡ MessageTooLarge) × (is_too_large chunk.now self.old.queue ≡ true))) }
         ensures err { OnErr result (self.new ≡ self.old) }
     {
-        let fragment = chunk.try_clone()?;
-        self.queue.push(fragment)?;
+        self.push_told(chunk)?;
         Ok(())
+    }
+
+    /// The same, and says whether a message became whole by it.
+    /// Precondition: the fragment is of this stream.
+    pub fn push_told(&mut self, chunk: &ChunkPayloadData) -> Result<bool, ReceiverRefusal>
+        requires { (chunk.now.stream_identifier == self.old.queue.si) ≡ true }
+        ensures ok { OnOk result (Pushes chunk.now self.old.queue self.new.queue) }
+        ensures ordered { chunk.now.unordered ≡ false → IfOk result (λ whole. whole ≡ is_whole_with chunk.now self.old.queue.held) }
+        ensures unordered { chunk.now.unordered ≡ true → IfOk result (λ whole. PushesUnordered chunk.now self.old.queue self.new.queue whole) }
+        ensures rest { self.new ≡ record self.old { queue = self.new.queue } }
+        ensures fits { IsOk result → is_too_large chunk.now self.old.queue ≡ false }
+        ensures refused { IfErr result (λ e. (e ≡ OutOfMemory) ⊎ ((e ≡ MessageTooLarge) × (is_too_large chunk.now self.old.queue ≡ true))) }
+        ensures err { OnErr result (self.new ≡ self.old) }
+    {
+        let fragment = chunk.try_clone()?;
+        Ok(self.queue.push(fragment)?)
     }
 
     /// Takes the next message out, where there is one, and counts it. It takes no memory.

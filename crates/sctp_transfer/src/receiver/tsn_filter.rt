@@ -18,7 +18,9 @@ use sctp_serial::turns::Turns;
 use std::alloc::Global;
 use std::marker::Model;
 
-/// Which TSNs came: all up to the cumulative one, and those that the queue holds beyond it.
+/// Which TSNs came: all up to the cumulative one, and those that the queue holds beyond it (RFC 4960 6.2); and which
+/// of them came again since the last SACK. It keeps of a chunk its TSN alone, and of those that the cumulative TSN
+/// passed nothing.
 #[derive(Drop)]
 pub struct TsnFilter {
     queue: PayloadQueue,
@@ -47,6 +49,18 @@ impl TsnFilter {
             queue: PayloadQueue::new(alloc),
             cumulative_tsn: first_tsn.wrapping_sub(1),
         }
+    }
+
+    /// An equal filter; its room is as great. Refuses only for memory.
+    pub fn try_clone(&self, alloc: Global) -> Result<TsnFilter>
+        ensures ok { IfOk result (λ filter. filter ≡ self.now) }
+        ensures memory { IsOkUnless result ErrOutOfMemory }
+    {
+        let queue = self.queue.try_clone(alloc)?;
+        Ok(TsnFilter {
+            queue,
+            cumulative_tsn: self.cumulative_tsn,
+        })
     }
 
     /// The TSN up to which all came.
@@ -98,7 +112,8 @@ impl TsnFilter {
 
     /// A new TSN comes. The one that is expected next is put nowhere: the cumulative TSN moves over it, and over
     /// all that stand next to it. It takes no memory.
-    /// Precondition: it did not come, is not opposite to the cumulative one, and there is room for it.
+    /// Precondition: it did not come (`has_come`), is not opposite to the cumulative one (`is_opposite`), and there is
+    /// room for it (`reserve_for`).
     pub fn accept(&mut self, tsn: u32)
         requires new { has_come tsn self.old ≡ false }
         requires near { is_opposite tsn self.old ≡ false }
@@ -113,7 +128,7 @@ impl TsnFilter {
     }
 
     /// A TSN comes again. Refuses only for memory, and the filter is as it was then.
-    /// Precondition: it came.
+    /// Precondition: it came (`has_come`).
     pub fn note_duplicate(&mut self, tsn: u32) -> Result<()>
         requires { has_come tsn self.old ≡ true }
         ensures ok { OnOk result (self.new ≡ with_duplicate tsn self.old) }

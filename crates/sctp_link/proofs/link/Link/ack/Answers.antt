@@ -37,13 +37,13 @@ invariant_of-self-2 g c =
     let more : c.put.new.items.items ≡ c.self.inside.network.items ++ (let d : Datagram = record { kind = kind; bytes = c.in_ok-bytes.bytes } in d) ∷ [] = search rules in
     let bytes = bytes-more c.self.inside.network.items c.put.new.items.items kind c.in_ok-bytes.bytes more in
     let network = network-more c.self.inside.network.items c.put.new.items.items kind c.in_ok-bytes.bytes more in
-    let place : c.from.result ≡ ((c.self.inside.cumulative_tsn + (2 ^ 32 - c.self.inside.first_tsn)) % 2 ^ 32 + 1) % 2 ^ 32 = search rules in
-    let is = report-is sum x c.self.invariant c.args.credit all bs c.in_ok-blocks.ensures.runs cut c.min-count.result counted c.from.result _ c.in_ok-duplicates.duplicates.items (place ∙ cumulative-place sum x c.self.invariant c.args.credit) refl noted in
+    let place : c.from.result ≡ ((c.self.inside.filter.cumulative_tsn + (2 ^ 32 - c.self.inside.first_tsn)) % 2 ^ 32 + 1) % 2 ^ 32 = search rules in
+    let is = report-is sum x c.self.invariant c.args.credit all bs c.in_ok-blocks.ensures.blocks cut c.min-count.result counted c.from.result _ c.in_ok-duplicates.duplicates.items (place ∙ cumulative-place sum x c.self.invariant c.args.credit) refl noted in
     let moves = world-acked (world_in c.self.inside) c.args.credit _ c.clear.new.self.items _ network is (search rules) in
-    let s : Sack = record { cumulative_tsn_ack = c.self.inside.cumulative_tsn; advertised_receiver_window_credit = c.args.credit; gap_ack_blocks = c.in_ok-from_slice.field-0.items; duplicate_tsn = c.in_ok-from_slice-2.field-0.items } in
+    let s : Sack = record { cumulative_tsn_ack = c.self.inside.filter.cumulative_tsn; advertised_receiver_window_credit = c.args.credit; gap_ack_blocks = c.in_ok-from_slice.field-0.items; duplicate_tsn = c.in_ok-from_slice-2.field-0.items } in
     let len = length-mapped (λ (d : Datagram). d.bytes) c.self.inside.network.items ∙ sym (length-mapped datagram_record c.self.inside.network.items) in
     moved _ _ (reported (world_in c.self.inside) c.args.credit) moves
-    (rw bytes (linked-ack sum x c.self.invariant c.args.credit all bs c.in_ok-blocks.ensures.runs cut c.min-count.result counted s c.in_ok-bytes.bytes c.pop_duplicates.new.self refl refl blocks told (search rules) (search rules) len (search rules)))
+    (rw bytes (linked-ack sum x c.self.invariant c.args.credit all bs c.in_ok-blocks.ensures.blocks cut c.min-count.result counted s c.in_ok-bytes.bytes c.take_duplicates.new.self refl refl blocks told (search rules) (search rules) len (search rules)))
 
 pub returns-clause-ok : goal.returns-clause-ok
 returns-clause-ok g c =
@@ -57,8 +57,8 @@ returns-clause-ok g c =
     let kind : Kind = K.Sack c.from.result c.args.credit c.truncate.new.self c.in_ok-duplicates.duplicates in
     let more : c.put.new.items.items ≡ c.self.inside.network.items ++ (let d : Datagram = record { kind = kind; bytes = c.in_ok-bytes.bytes } in d) ∷ [] = search rules in
     let network = network-more c.self.inside.network.items c.put.new.items.items kind c.in_ok-bytes.bytes more in
-    let place : c.from.result ≡ ((c.self.inside.cumulative_tsn + (2 ^ 32 - c.self.inside.first_tsn)) % 2 ^ 32 + 1) % 2 ^ 32 = search rules in
-    let is = report-is sum x c.self.invariant c.args.credit all bs c.in_ok-blocks.ensures.runs cut c.min-count.result counted c.from.result _ c.in_ok-duplicates.duplicates.items (place ∙ cumulative-place sum x c.self.invariant c.args.credit) refl noted in
+    let place : c.from.result ≡ ((c.self.inside.filter.cumulative_tsn + (2 ^ 32 - c.self.inside.first_tsn)) % 2 ^ 32 + 1) % 2 ^ 32 = search rules in
+    let is = report-is sum x c.self.invariant c.args.credit all bs c.in_ok-blocks.ensures.blocks cut c.min-count.result counted c.from.result _ c.in_ok-duplicates.duplicates.items (place ∙ cumulative-place sum x c.self.invariant c.args.credit) refl noted in
     let moves = world-acked (world_in c.self.inside) c.args.credit _ c.clear.new.self.items _ network is (search rules) in
     let len : c.len-datagram.result ≡ length c.self.inside.network.items = search rules in
     rw (← c.self.view_is) (record { right = ap R.Ack (len ∙ sym (length-mapped datagram_record c.self.inside.network.items)); moves = moves })

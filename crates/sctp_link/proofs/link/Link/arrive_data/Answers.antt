@@ -122,8 +122,8 @@ invariant_of-self g c =
     let same : record w { streams = map stream_record c.receive_slots.new.open_streams.items.items; slots = map slot_record c.receive_slots.new.slots.items; duplicates = c.receive_slots.new.duplicates.items } ≡ w =
     ap {B = World} (λ a. record w { streams = a; slots = map slot_record c.receive_slots.new.slots.items; duplicates = c.receive_slots.new.duplicates.items }) stays
     ∙ ap {B = World} (λ (a : List Slot). record w { slots = map slot_record a; duplicates = c.receive_slots.new.duplicates.items }) err.1
-    ∙ ap {B = World} (λ a. record w { duplicates = a }) err.4 in
-    refused-still sum x l c.receive_slots.new.open_streams.items.items err.0 refl c.receive_slots.new.filter err.2 c.receive_slots.new.open_streams.places c.receive_slots.new.cumulative _ c.receive_slots.ensures.places err.3 same
+    ∙ ap {B = World} (λ a. record w { duplicates = a }) err.3 in
+    refused-still sum x l c.receive_slots.new.open_streams.items.items err.0 refl c.receive_slots.new.filter err.2 c.receive_slots.new.open_streams.places _ c.receive_slots.ensures.places same
 
 pub returns-in_err-new-clause-err : goal.returns-in_err-new-clause-err
 returns-in_err-new-clause-err g c =
@@ -141,7 +141,7 @@ returns-in_err-new-clause-err g c =
     let same : record w { streams = map stream_record c.receive_slots.new.open_streams.items.items; slots = map slot_record c.receive_slots.new.slots.items; duplicates = c.receive_slots.new.duplicates.items } ≡ w =
     ap {B = World} (λ a. record w { streams = a; slots = map slot_record c.receive_slots.new.slots.items; duplicates = c.receive_slots.new.duplicates.items }) stays
     ∙ ap {B = World} (λ (a : List Slot). record w { slots = map slot_record a; duplicates = c.receive_slots.new.duplicates.items }) err.1
-    ∙ ap {B = World} (λ a. record w { duplicates = a }) err.4 in
+    ∙ ap {B = World} (λ a. record w { duplicates = a }) err.3 in
     rw (← c.self.view_is) (on-err c.from_residual-in_err-new.result _ same)
 
 pub invariant_of-self-2 : goal.invariant_of-self-2
@@ -161,8 +161,8 @@ invariant_of-self-2 g c =
     let receiver = receiver-of sum x l c.self.inside.slots.items c.self.inside.duplicates.items refl refl refl in
     let come : AllCome w c.deref.result.now c.deref-2.result.now = rw (told, chunks) (all-come sum x l k ps none lies.1) in
     let done = c.in_ok-new.ensures.ok w receiver come in
-    let r = subst (λ qs. IsReceiver (fold slot_received w qs) c.receive_slots.new.open_streams.items.items c.receive_slots.new.slots.items c.receive_slots.new.filter c.receive_slots.new.cumulative c.receive_slots.new.duplicates.items) told done.1 in
-    linked-then-at sum x l k ps none lies.1 c.receive_slots.ensures.streams.0 c.receive_slots.new.open_streams.items.items c.receive_slots.new.slots.items c.receive_slots.new.filter c.receive_slots.new.cumulative c.receive_slots.new.duplicates.items r c.receive_slots.ensures.streams.1
+    let r = subst (λ qs. IsReceiver (fold slot_received w qs) c.receive_slots.new.open_streams.items.items c.receive_slots.new.slots.items c.receive_slots.new.filter c.receive_slots.new.duplicates.items) told done.1 in
+    linked-then-at sum x l k ps none lies.1 c.receive_slots.ensures.streams.0 c.receive_slots.new.open_streams.items.items c.receive_slots.new.slots.items c.receive_slots.new.filter c.receive_slots.new.duplicates.items r c.receive_slots.ensures.streams.1
     c.receive_slots.new.open_streams.places c.receive_slots.ensures.places
 
 pub returns-clause-ok : goal.returns-clause-ok
@@ -182,6 +182,6 @@ returns-clause-ok g c =
     let receiver = receiver-of sum x l c.self.inside.slots.items c.self.inside.duplicates.items refl refl refl in
     let come : AllCome w c.deref.result.now c.deref-2.result.now = rw (told, chunks) (all-come sum x l k ps none lies.1) in
     let done = c.in_ok-new.ensures.ok w receiver come in
-    let r = subst (λ qs. IsReceiver (fold slot_received w qs) c.receive_slots.new.open_streams.items.items c.receive_slots.new.slots.items c.receive_slots.new.filter c.receive_slots.new.cumulative c.receive_slots.new.duplicates.items) told done.1 in
-    rw (← c.self.view_is) (right-received sum x l k ps none lies.1 c.receive_slots.ensures.streams.0 c.receive_slots.new.open_streams.items.items c.receive_slots.new.slots.items c.receive_slots.new.filter c.receive_slots.new.cumulative c.receive_slots.new.duplicates.items r c.receive_slots.ensures.streams.1
+    let r = subst (λ qs. IsReceiver (fold slot_received w qs) c.receive_slots.new.open_streams.items.items c.receive_slots.new.slots.items c.receive_slots.new.filter c.receive_slots.new.duplicates.items) told done.1 in
+    rw (← c.self.view_is) (right-received sum x l k ps none lies.1 c.receive_slots.ensures.streams.0 c.receive_slots.new.open_streams.items.items c.receive_slots.new.slots.items c.receive_slots.new.filter c.receive_slots.new.duplicates.items r c.receive_slots.ensures.streams.1
     c.in_ok-new.new _ (done.0 ∙ ap (list_any (is_new w)) told) c.reply_to_data.ensures)

@@ -34,7 +34,7 @@ follow-requires-clause-counts g c =
     let w = world_in c.self.inside in
     let sum = g.C.Checksum.sum c.self.inside.checksum in
     let x = state_in c.self.inside in
-    let past : cumulative w ≤ c.args.upto = omega (arith, c.if-cumulative-upto.false, c.count_of-cumulative.ensures ∙ cumulative-place sum x c.self.invariant 0) in
+    let past : cumulative w ≤ c.args.upto = omega (arith, c.if-cumulative-upto.false, c.count_of-cumulative.ensures, c.cumulative_tsn.ensures, cumulative-place sum x c.self.invariant 0) in
     let counted : skip_counts w c.args.upto ≡ true = grind (arith, nat_tests) in
     rw (← c.self.view_is) counted
 
@@ -43,7 +43,7 @@ returns-clause-ok g c =
     let w = world_in c.self.inside in
     let sum = g.C.Checksum.sum c.self.inside.checksum in
     let x = state_in c.self.inside in
-    let past : cumulative w ≤ c.args.upto = omega (arith, c.if-cumulative-upto.false, c.count_of-cumulative.ensures ∙ cumulative-place sum x c.self.invariant 0) in
+    let past : cumulative w ≤ c.args.upto = omega (arith, c.if-cumulative-upto.false, c.count_of-cumulative.ensures, c.cumulative_tsn.ensures, cumulative-place sum x c.self.invariant 0) in
     let counted : skip_counts w c.args.upto ≡ true = grind (arith, nat_tests) in
     let v = c.args.self.now.world in
     let counts : skip_counts v c.args.upto ≡ true = rw (← c.self.view_is) counted in

@@ -34,8 +34,8 @@ returns-in_default-front-clause-low g c =
     let lt : at < length open_streams = c.in-Some.ensures.0 in
     let found : find (has_number s) open_streams ≡ Some (slice_index_or open_streams at d) = c.in-Some.ensures.1 d in
     let was = c.index-open_stream.ensures in
-    let held = c.ordered-held.ensures ∙ ap (λ q. q.held.ordered) c.reassembly_queue.ensures ∙ ap (λ (l : OpenStream). l.state.reassembly_queue.held.ordered) was in
-    let empty : length (slice_index_or open_streams at d).state.reassembly_queue.held.ordered ≡ 0 = omega (arith, ap length held, none-there (deque_len c.ordered-held.result.now) c.in_default-front.ensures.variant.1) in
+    let held = c.ordered-held.ensures ∙ ap (λ (l : OpenStream). l.inbound.queue.held.ordered) was in
+    let empty : length (slice_index_or open_streams at d).inbound.queue.held.ordered ≡ 0 = omega (arith, ap length held, none-there (deque_len c.ordered-held.result.now) c.in_default-front.ensures.variant.1) in
     rw (← c.self.view_is) (ap (λ (l : OpenStream). l.next) was ∙ (ends-empty sum x c.self.invariant at s d lt found empty).0)
 
 pub returns-in_default-front-clause-high : goal.returns-in_default-front-clause-high
@@ -50,8 +50,8 @@ returns-in_default-front-clause-high g c =
     let lt : at < length open_streams = c.in-Some.ensures.0 in
     let found : find (has_number s) open_streams ≡ Some (slice_index_or open_streams at d) = c.in-Some.ensures.1 d in
     let was = c.index-open_stream.ensures in
-    let held = c.ordered-held.ensures ∙ ap (λ q. q.held.ordered) c.reassembly_queue.ensures ∙ ap (λ (l : OpenStream). l.state.reassembly_queue.held.ordered) was in
-    let empty : length (slice_index_or open_streams at d).state.reassembly_queue.held.ordered ≡ 0 = omega (arith, ap length held, none-there (deque_len c.ordered-held.result.now) c.in_default-front.ensures.variant.1) in
+    let held = c.ordered-held.ensures ∙ ap (λ (l : OpenStream). l.inbound.queue.held.ordered) was in
+    let empty : length (slice_index_or open_streams at d).inbound.queue.held.ordered ≡ 0 = omega (arith, ap length held, none-there (deque_len c.ordered-held.result.now) c.in_default-front.ensures.variant.1) in
     rw (← c.self.view_is) (ap (λ (l : OpenStream). l.next) was ∙ (ends-empty sum x c.self.invariant at s d lt found empty).1)
 
 pub index_of-requires : goal.index_of-requires
@@ -66,9 +66,9 @@ index_of-requires g c =
     let lt : at < length open_streams = c.in-Some.ensures.0 in
     let found : find (has_number s) open_streams ≡ Some (slice_index_or open_streams at d) = c.in-Some.ensures.1 d in
     let was = c.index-open_stream.ensures in
-    let held = c.ordered-held.ensures ∙ ap (λ q. q.held.ordered) c.reassembly_queue.ensures ∙ ap (λ (l : OpenStream). l.state.reassembly_queue.held.ordered) was in
+    let held = c.ordered-held.ensures ∙ ap (λ (l : OpenStream). l.inbound.queue.held.ordered) was in
     let first = c.in-Some-front.first.now in
-    let some : 0 < length (slice_index_or open_streams at d).state.reassembly_queue.held.ordered = omega (arith, ap length held, c.in-Some-front.ensures.variant.0 refl) in
+    let some : 0 < length (slice_index_or open_streams at d).inbound.queue.held.ordered = omega (arith, ap length held, c.in-Some-front.ensures.variant.0 refl) in
     let h = set-held sum x c.self.invariant at s d lt found 0 first some in
     let is = c.in-Some-front.ensures.lookup ∙ ap (λ is. slice_index_or is 0 first) held ∙ h.1 in
     rw (← c.self.view_is) (s, slice_index_or (held_on w s) 0 0, h.0, is)
@@ -85,14 +85,14 @@ index_of-requires-2 g c =
     let lt : at < length open_streams = c.in-Some.ensures.0 in
     let found : find (has_number s) open_streams ≡ Some (slice_index_or open_streams at d) = c.in-Some.ensures.1 d in
     let was = c.index-open_stream.ensures in
-    let held = c.ordered-held.ensures ∙ ap (λ q. q.held.ordered) c.reassembly_queue.ensures ∙ ap (λ (l : OpenStream). l.state.reassembly_queue.held.ordered) was in
+    let held = c.ordered-held.ensures ∙ ap (λ (l : OpenStream). l.inbound.queue.held.ordered) was in
     let last = c.in-Some-back.last.now in
-    let count = length (slice_index_or open_streams at d).state.reassembly_queue.held.ordered in
+    let count = length (slice_index_or open_streams at d).inbound.queue.held.ordered in
     let some : 0 < count = omega (arith, ap length held, c.in-Some-front.ensures.variant.0 refl) in
     let less : count - 1 < count = omega (arith, some) in
     let many : deque_len c.ordered-held.result.now ≡ count = omega (arith, ap length held) in
     let h = set-held sum x c.self.invariant at s d lt found (count - 1) last less in
-    let is = c.in-Some-back.ensures.lookup ∙ ap (λ is. slice_index_or is (deque_len c.ordered-held.result.now - 1) last) held ∙ ap (λ k. slice_index_or (slice_index_or open_streams at d).state.reassembly_queue.held.ordered (k - 1) last) many ∙ h.1 in
+    let is = c.in-Some-back.ensures.lookup ∙ ap (λ is. slice_index_or is (deque_len c.ordered-held.result.now - 1) last) held ∙ ap (λ k. slice_index_or (slice_index_or open_streams at d).inbound.queue.held.ordered (k - 1) last) many ∙ h.1 in
     rw (← c.self.view_is) (s, slice_index_or (held_on w s) (count - 1) 0, h.0, is)
 
 pub returns-clause-low : goal.returns-clause-low
@@ -107,9 +107,9 @@ returns-clause-low g c =
     let lt : at < length open_streams = c.in-Some.ensures.0 in
     let found : find (has_number s) open_streams ≡ Some (slice_index_or open_streams at d) = c.in-Some.ensures.1 d in
     let was = c.index-open_stream.ensures in
-    let held = c.ordered-held.ensures ∙ ap (λ q. q.held.ordered) c.reassembly_queue.ensures ∙ ap (λ (l : OpenStream). l.state.reassembly_queue.held.ordered) was in
+    let held = c.ordered-held.ensures ∙ ap (λ (l : OpenStream). l.inbound.queue.held.ordered) was in
     let first = c.in-Some-front.first.now in
-    let some : 0 < length (slice_index_or open_streams at d).state.reassembly_queue.held.ordered = omega (arith, ap length held, c.in-Some-front.ensures.variant.0 refl) in
+    let some : 0 < length (slice_index_or open_streams at d).inbound.queue.held.ordered = omega (arith, ap length held, c.in-Some-front.ensures.variant.0 refl) in
     let h = set-held sum x c.self.invariant at s d lt found 0 first some in
     let is = c.in-Some-front.ensures.lookup ∙ ap (λ is. slice_index_or is 0 first) held ∙ h.1 in
     let told : (s n : ℕ) → is_held w s n ≡ true → first ≡ set_of w n → c.index_of.result ≡ index_of w n = rw (← c.self.view_is) at c.index_of.ensures in
@@ -127,13 +127,13 @@ returns-clause-high g c =
     let lt : at < length open_streams = c.in-Some.ensures.0 in
     let found : find (has_number s) open_streams ≡ Some (slice_index_or open_streams at d) = c.in-Some.ensures.1 d in
     let was = c.index-open_stream.ensures in
-    let held = c.ordered-held.ensures ∙ ap (λ q. q.held.ordered) c.reassembly_queue.ensures ∙ ap (λ (l : OpenStream). l.state.reassembly_queue.held.ordered) was in
+    let held = c.ordered-held.ensures ∙ ap (λ (l : OpenStream). l.inbound.queue.held.ordered) was in
     let last = c.in-Some-back.last.now in
-    let count = length (slice_index_or open_streams at d).state.reassembly_queue.held.ordered in
+    let count = length (slice_index_or open_streams at d).inbound.queue.held.ordered in
     let some : 0 < count = omega (arith, ap length held, c.in-Some-front.ensures.variant.0 refl) in
     let less : count - 1 < count = omega (arith, some) in
     let many : deque_len c.ordered-held.result.now ≡ count = omega (arith, ap length held) in
     let h = set-held sum x c.self.invariant at s d lt found (count - 1) last less in
-    let is = c.in-Some-back.ensures.lookup ∙ ap (λ is. slice_index_or is (deque_len c.ordered-held.result.now - 1) last) held ∙ ap (λ k. slice_index_or (slice_index_or open_streams at d).state.reassembly_queue.held.ordered (k - 1) last) many ∙ h.1 in
+    let is = c.in-Some-back.ensures.lookup ∙ ap (λ is. slice_index_or is (deque_len c.ordered-held.result.now - 1) last) held ∙ ap (λ k. slice_index_or (slice_index_or open_streams at d).inbound.queue.held.ordered (k - 1) last) many ∙ h.1 in
     let told : (s n : ℕ) → is_held w s n ≡ true → last ≡ set_of w n → c.index_of-2.result ≡ index_of w n = rw (← c.self.view_is) at c.index_of-2.ensures in
     rw (← c.self.view_is) (c.max-high.ensures ∙ ap (λ (l : OpenStream). max l.next c.index_of-2.result) was ∙ high-back sum x c.self.invariant at s d lt found c.index_of-2.result some (told s (slice_index_or (held_on w s) (count - 1) 0) h.0 is))

@@ -1,8 +1,20 @@
-use Rattle.std.proofs.Common.{ap, sym, ◌∙◌}
-use Rattle.sctp_ties.specs.Tied.{filter_held}
+use Rattle.std.proofs.Common.{◌≡◌, ap, sym, ◌∙◌}
+use Rattle.sctp_model.specs.Queues.{FilterRecord}
+use Rattle.sctp_model.specs.Receiver.{cumulative}
+use Rattle.sctp_model.specs.Contents.{cumulative_tsn}
+use Rattle.sctp_transfer.specs.TsnFilter.{tsns}
+use Rattle.sctp_transfer.proofs.Marks.{tsns-mark}
+use Rattle.sctp_link.specs.Fields.{world_in}
 use Rattle.sctp_link.proofs.link.Link.filter.Goals as goal
 
 pub returns : goal.returns
 returns g c =
+    let w = world_in c.self.inside in
     let f = c.self.invariant.filter in
-    rw (← c.self.view_is) (ap (λ t. filter_held t c.self.inside.filter) (sym (ap (λ r. r.cumulative) f)) ∙ f)
+    let held : tsns c.queue.result.now.chunks ≡ c.self.inside.filter.beyond = ap tsns c.queue.ensures.beyond ∙ tsns-mark c.self.inside.filter.beyond in
+    let base : cumulative_tsn w (cumulative w) ≡ c.self.inside.filter.cumulative_tsn = sym (ap (λ (r : FilterRecord). r.cumulative) f) in
+    rw (← c.self.view_is)
+    (ap (λ t. let r : FilterRecord = record { cumulative = t; held = tsns c.queue.result.now.chunks; duplicates = c.queue.result.now.duplicates } in r) base
+    ∙ ap (λ ts. let r : FilterRecord = record { cumulative = c.self.inside.filter.cumulative_tsn; held = ts; duplicates = c.queue.result.now.duplicates } in r) held
+    ∙ ap (λ ds. let r : FilterRecord = record { cumulative = c.self.inside.filter.cumulative_tsn; held = c.self.inside.filter.beyond; duplicates = ds } in r) c.queue.ensures.duplicates
+    ∙ f)

@@ -34,8 +34,8 @@ returns-in_default-front g c =
     let lt : at < length open_streams = c.in-Some.ensures.0 in
     let found : find (has_number s) open_streams ≡ Some (slice_index_or open_streams at d) = c.in-Some.ensures.1 d in
     let was = c.index-open_stream.ensures in
-    let held = c.ordered-held.ensures ∙ ap (λ q. q.held.ordered) c.reassembly_queue.ensures ∙ ap (λ (l : OpenStream). l.state.reassembly_queue.held.ordered) was in
-    let empty : length (slice_index_or open_streams at d).state.reassembly_queue.held.ordered ≡ 0 = omega (arith, ap length held, none-there (deque_len c.ordered-held.result.now) c.in_default-front.ensures.variant.1) in
+    let held = c.ordered-held.ensures ∙ ap (λ (l : OpenStream). l.inbound.queue.held.ordered) was in
+    let empty : length (slice_index_or open_streams at d).inbound.queue.held.ordered ≡ 0 = omega (arith, ap length held, none-there (deque_len c.ordered-held.result.now) c.in_default-front.ensures.variant.1) in
     rw (← c.self.view_is) (first-none sum x c.self.invariant at s d lt found empty c.args.low)
 
 pub returns-then-not-is_complete : goal.returns-then-not-is_complete
@@ -50,9 +50,9 @@ returns-then-not-is_complete g c =
     let lt : at < length open_streams = c.in-Some.ensures.0 in
     let found : find (has_number s) open_streams ≡ Some (slice_index_or open_streams at d) = c.in-Some.ensures.1 d in
     let was = c.index-open_stream.ensures in
-    let held = c.ordered-held.ensures ∙ ap (λ q. q.held.ordered) c.reassembly_queue.ensures ∙ ap (λ (l : OpenStream). l.state.reassembly_queue.held.ordered) was in
+    let held = c.ordered-held.ensures ∙ ap (λ (l : OpenStream). l.inbound.queue.held.ordered) was in
     let first = c.in-Some-front.first.now in
-    let some : 0 < length (slice_index_or open_streams at d).state.reassembly_queue.held.ordered = omega (arith, ap length held, c.in-Some-front.ensures.variant.0 refl) in
+    let some : 0 < length (slice_index_or open_streams at d).inbound.queue.held.ordered = omega (arith, ap length held, c.in-Some-front.ensures.variant.0 refl) in
     let h = set-held sum x c.self.invariant at s d lt found 0 first some in
     let is = c.in-Some-front.ensures.lookup ∙ ap (λ is. slice_index_or is 0 first) held ∙ h.1 in
     let count = stream-some sum x c.self.invariant at s d lt found some in
@@ -72,9 +72,9 @@ index_of-requires g c =
     let lt : at < length open_streams = c.in-Some.ensures.0 in
     let found : find (has_number s) open_streams ≡ Some (slice_index_or open_streams at d) = c.in-Some.ensures.1 d in
     let was = c.index-open_stream.ensures in
-    let held = c.ordered-held.ensures ∙ ap (λ q. q.held.ordered) c.reassembly_queue.ensures ∙ ap (λ (l : OpenStream). l.state.reassembly_queue.held.ordered) was in
+    let held = c.ordered-held.ensures ∙ ap (λ (l : OpenStream). l.inbound.queue.held.ordered) was in
     let first = c.in-Some-front.first.now in
-    let some : 0 < length (slice_index_or open_streams at d).state.reassembly_queue.held.ordered = omega (arith, ap length held, c.in-Some-front.ensures.variant.0 refl) in
+    let some : 0 < length (slice_index_or open_streams at d).inbound.queue.held.ordered = omega (arith, ap length held, c.in-Some-front.ensures.variant.0 refl) in
     let h = set-held sum x c.self.invariant at s d lt found 0 first some in
     let is = c.in-Some-front.ensures.lookup ∙ ap (λ is. slice_index_or is 0 first) held ∙ h.1 in
     rw (← c.self.view_is) (s, slice_index_or (held_on w s) 0 0, h.0, is)
@@ -91,9 +91,9 @@ returns g c =
     let lt : at < length open_streams = c.in-Some.ensures.0 in
     let found : find (has_number s) open_streams ≡ Some (slice_index_or open_streams at d) = c.in-Some.ensures.1 d in
     let was = c.index-open_stream.ensures in
-    let held = c.ordered-held.ensures ∙ ap (λ q. q.held.ordered) c.reassembly_queue.ensures ∙ ap (λ (l : OpenStream). l.state.reassembly_queue.held.ordered) was in
+    let held = c.ordered-held.ensures ∙ ap (λ (l : OpenStream). l.inbound.queue.held.ordered) was in
     let first = c.in-Some-front.first.now in
-    let some : 0 < length (slice_index_or open_streams at d).state.reassembly_queue.held.ordered = omega (arith, ap length held, c.in-Some-front.ensures.variant.0 refl) in
+    let some : 0 < length (slice_index_or open_streams at d).inbound.queue.held.ordered = omega (arith, ap length held, c.in-Some-front.ensures.variant.0 refl) in
     let h = set-held sum x c.self.invariant at s d lt found 0 first some in
     let is = c.in-Some-front.ensures.lookup ∙ ap (λ is. slice_index_or is 0 first) held ∙ h.1 in
     let count = stream-some sum x c.self.invariant at s d lt found some in

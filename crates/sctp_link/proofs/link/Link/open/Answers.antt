@@ -18,4 +18,4 @@ push-requires-clause-new g c =
 pub invariant_of-self-2 : goal.invariant_of-self-2
 invariant_of-self-2 g c =
     moved _ _ (opened (world_in c.self.inside) c.args.stream) (ap (λ rs. record (world_in c.self.inside) { streams = rs }) (streams-more c.args.stream c.self.inside.fragment_size c.self.inside.max_message_size c.self.inside.open_streams.items.items c.push.new.self.items.items c.new-opened.result (search rules) (search rules) (search rules) (search rules)))
-    (linked-open (g.C.Checksum.sum c.self.inside.checksum) (state_in c.self.inside) c.self.invariant c.args.stream (search rules) refl c.new-opened.result c.push.new.self.items.items c.push.new.self.places (search rules) c.push.ensures.indexed (search rules) (search rules) (search rules) (search rules))
+    (linked-open (g.C.Checksum.sum c.self.inside.checksum) (state_in c.self.inside) c.self.invariant c.args.stream (search rules) refl c.new-opened.result c.push.new.self.items.items c.push.new.self.places (search rules) c.push.ensures.indexed (search rules) (search rules) (search rules) (search rules) (search rules))

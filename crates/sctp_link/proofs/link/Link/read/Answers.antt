@@ -2,7 +2,9 @@ use Rattle.std.proofs.Common.{◌≡◌, ap, sym, ◌∙◌, ◌<◌, ◌+◌, �
 use Rattle.std.specs.Prelude.{find, slice_index_or, slice_set, if◌then◌else◌, ◌&&◌, ◌==◌}
 use Rattle.std.proofs.lemmas.List.{get_or-set_same}
 use Rattle.sctp_lists.specs.Lists.{changed}
-use Rattle.sctp_reassembly.specs.reassembly_queue.ReassemblyQueue.{message_read, state_read}
+use Rattle.sctp_chunks.specs.ChunkSet.{ChunkSet}
+use Rattle.sctp_reassembly.specs.reassembly_queue.ReassemblyQueue.{message_read}
+use Rattle.sctp_transfer.specs.Inbound.{stream_read}
 use Rattle.sctp_model.specs.Messages.{message_at}
 use Rattle.sctp_model.specs.Changes.{mark_read}
 use Rattle.sctp_model.specs.Contents.{chunk_at}
@@ -12,12 +14,11 @@ use Rattle.sctp_model.specs.declared.event.Event.TheVariants as E
 use Rattle.sctp_link.specs.declared.open_stream.OpenStream.{OpenStream}
 use Rattle.sctp_link.specs.declared.record.Message.{Message}
 use Rattle.sctp_link.specs.Fields.{world_in, state_in}
-use Rattle.sctp_link.specs.OpenStreams.{with_read_stats}
 use Rattle.sctp_link.specs.Linked.{has_number}
 use Rattle.sctp_link.specs.Records.{message_record, progress_of}
 use Rattle.sctp_link.proofs.upkeep.Apart.{map-set, map-set_same}
 use Rattle.sctp_link.proofs.receiver.Hears.{lead-slot, lead-number, messages-made, message-raw, kept-raw}
-use Rattle.sctp_link.proofs.receiver.HandsOut.{none-mapped, some-mapped, world-nothing, linked-nothing, reply-nothing, read-is, hands, hands-begins, low, reply-read, world-twice, linked-twice, never-shut}
+use Rattle.sctp_link.proofs.receiver.HandsOut.{none-mapped, some-mapped, world-nothing, linked-nothing, reply-nothing, read-is, hands, hands-begins, ppi-handed, low, reply-read, world-twice, linked-twice, never-shut}
 use Rattle.sctp_link.proofs.link.Link.read.Goals as goal
 
 pub unreachable-requires : goal.unreachable-requires
@@ -41,10 +42,10 @@ invariant_of-self g c =
     let d = c.index_mut.result.now in
     let lt : at < length open_streams = c.in-Some.ensures.0 in
     let found : (d : OpenStream) → find (has_number s) open_streams ≡ Some (slice_index_or open_streams at d) = λ d. c.in-Some.ensures.1 d in
-    let rest : c.read.new.self ≡ record (slice_index_or open_streams at d) { state = record (slice_index_or open_streams at d).state { reassembly_queue = state_read (slice_index_or open_streams at d).state.reassembly_queue } } =
-    c.read.ensures.rest ∙ ap (λ (l : OpenStream). record l { state = record l.state { reassembly_queue = state_read l.state.reassembly_queue } }) c.index_mut.ensures.value in
-    let e : message_read (slice_index_or open_streams at d).state.reassembly_queue.held ≡ None =
-    ap (λ (l : OpenStream). message_read l.state.reassembly_queue.held) (sym c.index_mut.ensures.value) ∙ none-mapped (message_read d.state.reassembly_queue.held) c.in_default-read.ensures.message in
+    let rest : c.read.new.self ≡ record (slice_index_or open_streams at d) { inbound = stream_read (slice_index_or open_streams at d).inbound } =
+    c.read.ensures.rest ∙ ap (λ (l : OpenStream). record l { inbound = stream_read l.inbound }) c.index_mut.ensures.value in
+    let e : message_read (slice_index_or open_streams at d).inbound.queue.held ≡ None =
+    ap (λ (l : OpenStream). message_read l.inbound.queue.held) (sym c.index_mut.ensures.value) ∙ none-mapped (message_read d.inbound.queue.held) c.in_default-read.ensures.message in
     linked-nothing sum x c.self.invariant s at d refl lt found e c.read.new.self rest
 
 pub returns-in_default-read-clause-right : goal.returns-in_default-read-clause-right
@@ -58,10 +59,10 @@ returns-in_default-read-clause-right g c =
     let d = c.index_mut.result.now in
     let lt : at < length open_streams = c.in-Some.ensures.0 in
     let found : (d : OpenStream) → find (has_number s) open_streams ≡ Some (slice_index_or open_streams at d) = λ d. c.in-Some.ensures.1 d in
-    let rest : c.read.new.self ≡ record (slice_index_or open_streams at d) { state = record (slice_index_or open_streams at d).state { reassembly_queue = state_read (slice_index_or open_streams at d).state.reassembly_queue } } =
-    c.read.ensures.rest ∙ ap (λ (l : OpenStream). record l { state = record l.state { reassembly_queue = state_read l.state.reassembly_queue } }) c.index_mut.ensures.value in
-    let e : message_read (slice_index_or open_streams at d).state.reassembly_queue.held ≡ None =
-    ap (λ (l : OpenStream). message_read l.state.reassembly_queue.held) (sym c.index_mut.ensures.value) ∙ none-mapped (message_read d.state.reassembly_queue.held) c.in_default-read.ensures.message in
+    let rest : c.read.new.self ≡ record (slice_index_or open_streams at d) { inbound = stream_read (slice_index_or open_streams at d).inbound } =
+    c.read.ensures.rest ∙ ap (λ (l : OpenStream). record l { inbound = stream_read l.inbound }) c.index_mut.ensures.value in
+    let e : message_read (slice_index_or open_streams at d).inbound.queue.held ≡ None =
+    ap (λ (l : OpenStream). message_read l.inbound.queue.held) (sym c.index_mut.ensures.value) ∙ none-mapped (message_read d.inbound.queue.held) c.in_default-read.ensures.message in
     rw (← c.self.view_is) (record { right = reply-nothing sum x c.self.invariant s at d refl lt found e; moves = world-nothing sum x c.self.invariant s at d refl lt found e c.read.new.self rest })
 
 pub first_tsn-requires : goal.first_tsn-requires
@@ -75,11 +76,11 @@ first_tsn-requires g c =
     let d = c.index_mut.result.now in
     let lt : at < length open_streams = c.in-Some.ensures.0 in
     let found : (d : OpenStream) → find (has_number s) open_streams ≡ Some (slice_index_or open_streams at d) = λ d. c.in-Some.ensures.1 d in
-    let rest : c.read.new.self ≡ record (slice_index_or open_streams at d) { state = record (slice_index_or open_streams at d).state { reassembly_queue = state_read (slice_index_or open_streams at d).state.reassembly_queue } } =
-    c.read.ensures.rest ∙ ap (λ (l : OpenStream). record l { state = record l.state { reassembly_queue = state_read l.state.reassembly_queue } }) c.index_mut.ensures.value in
+    let rest : c.read.new.self ≡ record (slice_index_or open_streams at d) { inbound = stream_read (slice_index_or open_streams at d).inbound } =
+    c.read.ensures.rest ∙ ap (λ (l : OpenStream). record l { inbound = stream_read l.inbound }) c.index_mut.ensures.value in
     let set = c.in-Some-read.chunks.set in
-    let e : message_read (slice_index_or open_streams at d).state.reassembly_queue.held ≡ Some set =
-    ap (λ (l : OpenStream). message_read l.state.reassembly_queue.held) (sym c.index_mut.ensures.value) ∙ some-mapped (message_read d.state.reassembly_queue.held) c.in-Some-read.chunks c.in-Some-read.ensures.message in
+    let e : message_read (slice_index_or open_streams at d).inbound.queue.held ≡ Some set =
+    ap (λ (l : OpenStream). message_read l.inbound.queue.held) (sym c.index_mut.ensures.value) ∙ some-mapped (message_read d.inbound.queue.held) c.in-Some-read.chunks c.in-Some-read.ensures.message in
     omega (arith, ap length (hands-begins sum x c.self.invariant s at d refl lt found set e).is)
 
 pub index-requires : goal.index-requires
@@ -93,11 +94,11 @@ index-requires g c =
     let d = c.index_mut.result.now in
     let lt : at < length open_streams = c.in-Some.ensures.0 in
     let found : (d : OpenStream) → find (has_number s) open_streams ≡ Some (slice_index_or open_streams at d) = λ d. c.in-Some.ensures.1 d in
-    let rest : c.read.new.self ≡ record (slice_index_or open_streams at d) { state = record (slice_index_or open_streams at d).state { reassembly_queue = state_read (slice_index_or open_streams at d).state.reassembly_queue } } =
-    c.read.ensures.rest ∙ ap (λ (l : OpenStream). record l { state = record l.state { reassembly_queue = state_read l.state.reassembly_queue } }) c.index_mut.ensures.value in
+    let rest : c.read.new.self ≡ record (slice_index_or open_streams at d) { inbound = stream_read (slice_index_or open_streams at d).inbound } =
+    c.read.ensures.rest ∙ ap (λ (l : OpenStream). record l { inbound = stream_read l.inbound }) c.index_mut.ensures.value in
     let set = c.in-Some-read.chunks.set in
-    let e : message_read (slice_index_or open_streams at d).state.reassembly_queue.held ≡ Some set =
-    ap (λ (l : OpenStream). message_read l.state.reassembly_queue.held) (sym c.index_mut.ensures.value) ∙ some-mapped (message_read d.state.reassembly_queue.held) c.in-Some-read.chunks c.in-Some-read.ensures.message in
+    let e : message_read (slice_index_or open_streams at d).inbound.queue.held ≡ Some set =
+    ap (λ (l : OpenStream). message_read l.inbound.queue.held) (sym c.index_mut.ensures.value) ∙ some-mapped (message_read d.inbound.queue.held) c.in-Some-read.chunks c.in-Some-read.ensures.message in
     let slots = c.self.inside.slots.items in
     let messages = c.self.inside.messages.items in
     let read = read-is sum x c.self.invariant s at d refl lt found set e in
@@ -119,11 +120,11 @@ index_mut-message-requires g c =
     let d = c.index_mut.result.now in
     let lt : at < length open_streams = c.in-Some.ensures.0 in
     let found : (d : OpenStream) → find (has_number s) open_streams ≡ Some (slice_index_or open_streams at d) = λ d. c.in-Some.ensures.1 d in
-    let rest : c.read.new.self ≡ record (slice_index_or open_streams at d) { state = record (slice_index_or open_streams at d).state { reassembly_queue = state_read (slice_index_or open_streams at d).state.reassembly_queue } } =
-    c.read.ensures.rest ∙ ap (λ (l : OpenStream). record l { state = record l.state { reassembly_queue = state_read l.state.reassembly_queue } }) c.index_mut.ensures.value in
+    let rest : c.read.new.self ≡ record (slice_index_or open_streams at d) { inbound = stream_read (slice_index_or open_streams at d).inbound } =
+    c.read.ensures.rest ∙ ap (λ (l : OpenStream). record l { inbound = stream_read l.inbound }) c.index_mut.ensures.value in
     let set = c.in-Some-read.chunks.set in
-    let e : message_read (slice_index_or open_streams at d).state.reassembly_queue.held ≡ Some set =
-    ap (λ (l : OpenStream). message_read l.state.reassembly_queue.held) (sym c.index_mut.ensures.value) ∙ some-mapped (message_read d.state.reassembly_queue.held) c.in-Some-read.chunks c.in-Some-read.ensures.message in
+    let e : message_read (slice_index_or open_streams at d).inbound.queue.held ≡ Some set =
+    ap (λ (l : OpenStream). message_read l.inbound.queue.held) (sym c.index_mut.ensures.value) ∙ some-mapped (message_read d.inbound.queue.held) c.in-Some-read.chunks c.in-Some-read.ensures.message in
     let slots = c.self.inside.slots.items in
     let messages = c.self.inside.messages.items in
     let read = read-is sum x c.self.invariant s at d refl lt found set e in
@@ -148,11 +149,11 @@ finish_read-requires g c =
     let d = c.index_mut.result.now in
     let lt : at < length open_streams = c.in-Some.ensures.0 in
     let found : (d : OpenStream) → find (has_number s) open_streams ≡ Some (slice_index_or open_streams at d) = λ d. c.in-Some.ensures.1 d in
-    let rest : c.read.new.self ≡ record (slice_index_or open_streams at d) { state = record (slice_index_or open_streams at d).state { reassembly_queue = state_read (slice_index_or open_streams at d).state.reassembly_queue } } =
-    c.read.ensures.rest ∙ ap (λ (l : OpenStream). record l { state = record l.state { reassembly_queue = state_read l.state.reassembly_queue } }) c.index_mut.ensures.value in
+    let rest : c.read.new.self ≡ record (slice_index_or open_streams at d) { inbound = stream_read (slice_index_or open_streams at d).inbound } =
+    c.read.ensures.rest ∙ ap (λ (l : OpenStream). record l { inbound = stream_read l.inbound }) c.index_mut.ensures.value in
     let set = c.in-Some-read.chunks.set in
-    let e : message_read (slice_index_or open_streams at d).state.reassembly_queue.held ≡ Some set =
-    ap (λ (l : OpenStream). message_read l.state.reassembly_queue.held) (sym c.index_mut.ensures.value) ∙ some-mapped (message_read d.state.reassembly_queue.held) c.in-Some-read.chunks c.in-Some-read.ensures.message in
+    let e : message_read (slice_index_or open_streams at d).inbound.queue.held ≡ Some set =
+    ap (λ (l : OpenStream). message_read l.inbound.queue.held) (sym c.index_mut.ensures.value) ∙ some-mapped (message_read d.inbound.queue.held) c.in-Some-read.chunks c.in-Some-read.ensures.message in
     let slots = c.self.inside.slots.items in
     let messages = c.self.inside.messages.items in
     let read = read-is sum x c.self.invariant s at d refl lt found set e in
@@ -180,11 +181,11 @@ invariant_of-self-2 g c =
     let d = c.index_mut.result.now in
     let lt : at < length open_streams = c.in-Some.ensures.0 in
     let found : (d : OpenStream) → find (has_number s) open_streams ≡ Some (slice_index_or open_streams at d) = λ d. c.in-Some.ensures.1 d in
-    let rest : c.read.new.self ≡ record (slice_index_or open_streams at d) { state = record (slice_index_or open_streams at d).state { reassembly_queue = state_read (slice_index_or open_streams at d).state.reassembly_queue } } =
-    c.read.ensures.rest ∙ ap (λ (l : OpenStream). record l { state = record l.state { reassembly_queue = state_read l.state.reassembly_queue } }) c.index_mut.ensures.value in
+    let rest : c.read.new.self ≡ record (slice_index_or open_streams at d) { inbound = stream_read (slice_index_or open_streams at d).inbound } =
+    c.read.ensures.rest ∙ ap (λ (l : OpenStream). record l { inbound = stream_read l.inbound }) c.index_mut.ensures.value in
     let set = c.in-Some-read.chunks.set in
-    let e : message_read (slice_index_or open_streams at d).state.reassembly_queue.held ≡ Some set =
-    ap (λ (l : OpenStream). message_read l.state.reassembly_queue.held) (sym c.index_mut.ensures.value) ∙ some-mapped (message_read d.state.reassembly_queue.held) c.in-Some-read.chunks c.in-Some-read.ensures.message in
+    let e : message_read (slice_index_or open_streams at d).inbound.queue.held ≡ Some set =
+    ap (λ (l : OpenStream). message_read l.inbound.queue.held) (sym c.index_mut.ensures.value) ∙ some-mapped (message_read d.inbound.queue.held) c.in-Some-read.chunks c.in-Some-read.ensures.message in
     let slots = c.self.inside.slots.items in
     let messages = c.self.inside.messages.items in
     let read = read-is sum x c.self.invariant s at d refl lt found set e in
@@ -202,16 +203,18 @@ invariant_of-self-2 g c =
     let m' : Message = record m { read = true } in
     let messages_are : map message_record (slice_set messages c.index.result.now.message m') ≡ changed mark_read n w.messages =
     ap (λ i. map message_record (slice_set messages i m')) number ∙ map-set message_record mark_read messages n m' m inside (ap (λ (t : Message). message_record (record t { read = true })) here) in
-    let was : c.index_mut-2.result.now ≡ record (slice_index_or open_streams at d) { state = record (slice_index_or open_streams at d).state { reassembly_queue = state_read (slice_index_or open_streams at d).state.reassembly_queue } } =
+    let was : c.index_mut-2.result.now ≡ record (slice_index_or open_streams at d) { inbound = stream_read (slice_index_or open_streams at d).inbound } =
     c.index_mut-2.ensures.value ∙ get_or-set_same open_streams at c.read.new.self c.index_mut-2.result.now lt ∙ rest in
-    let state = c.finish_read.ensures.state ∙ ap (λ len. with_read_stats m.ppi len c.index_mut-2.result.now.state) c.len.ensures.value ∙ ap (λ (l : OpenStream). with_read_stats m.ppi (length m.bytes) l.state) was in
+    let kind : c.ppi-ppi.result ≡ m.ppi = c.ppi-ppi.ensures ∙ ap (λ (t : ChunkSet). t.ppi) read.2 ∙ ppi-handed w n ∙ ap (λ t. t.ppi) m_is in
+    let state = c.finish_read.ensures.state ∙ ap (λ (l : OpenStream). l.state) was in
+    let inbound = c.finish_read.ensures.inbound ∙ ap (λ (l : OpenStream). l.inbound) was in
     let whole = c.finish_read.ensures.whole ∙ ap (λ (l : OpenStream). if m.ordered then l.whole.items else drop 1 l.whole.items) was in
     let ordered = c.finish_read.ensures.ordered ∙ ap (λ (l : OpenStream). l.ordered) was in
     let begun = c.finish_read.ensures.begun ∙ ap (λ (l : OpenStream). l.begun) was in
     let named = c.finish_read.ensures.named ∙ ap (λ (l : OpenStream). l.named) was in
     let index = ap (λ (t : Message). t.index) here ∙ sym (kept-raw sum x c.self.invariant slots messages refl refl refl n m inside) in
     let next = c.finish_read.ensures.next ∙ ap (λ (l : OpenStream). if m.ordered && (m.index == l.next) then m.index + 1 else l.next) was in
-    linked-twice sum x c.self.invariant s at d refl lt found set e m (map message_record (slice_set messages c.index.result.now.message m')) c.finish_read.new.self m_is messages_are state whole index ordered begun named next c.read.new.self
+    linked-twice sum x c.self.invariant s at d refl lt found set e m (map message_record (slice_set messages c.index.result.now.message m')) c.finish_read.new.self m_is messages_are state inbound whole index ordered begun named next c.read.new.self
     (map progress_of (slice_set messages c.index.result.now.message m')) (map-set_same progress_of messages c.index.result.now.message m' m (ap progress_of c.index_mut-message.ensures.value))
 
 pub returns-clause-right : goal.returns-clause-right
@@ -225,11 +228,11 @@ returns-clause-right g c =
     let d = c.index_mut.result.now in
     let lt : at < length open_streams = c.in-Some.ensures.0 in
     let found : (d : OpenStream) → find (has_number s) open_streams ≡ Some (slice_index_or open_streams at d) = λ d. c.in-Some.ensures.1 d in
-    let rest : c.read.new.self ≡ record (slice_index_or open_streams at d) { state = record (slice_index_or open_streams at d).state { reassembly_queue = state_read (slice_index_or open_streams at d).state.reassembly_queue } } =
-    c.read.ensures.rest ∙ ap (λ (l : OpenStream). record l { state = record l.state { reassembly_queue = state_read l.state.reassembly_queue } }) c.index_mut.ensures.value in
+    let rest : c.read.new.self ≡ record (slice_index_or open_streams at d) { inbound = stream_read (slice_index_or open_streams at d).inbound } =
+    c.read.ensures.rest ∙ ap (λ (l : OpenStream). record l { inbound = stream_read l.inbound }) c.index_mut.ensures.value in
     let set = c.in-Some-read.chunks.set in
-    let e : message_read (slice_index_or open_streams at d).state.reassembly_queue.held ≡ Some set =
-    ap (λ (l : OpenStream). message_read l.state.reassembly_queue.held) (sym c.index_mut.ensures.value) ∙ some-mapped (message_read d.state.reassembly_queue.held) c.in-Some-read.chunks c.in-Some-read.ensures.message in
+    let e : message_read (slice_index_or open_streams at d).inbound.queue.held ≡ Some set =
+    ap (λ (l : OpenStream). message_read l.inbound.queue.held) (sym c.index_mut.ensures.value) ∙ some-mapped (message_read d.inbound.queue.held) c.in-Some-read.chunks c.in-Some-read.ensures.message in
     let slots = c.self.inside.slots.items in
     let messages = c.self.inside.messages.items in
     let read = read-is sum x c.self.invariant s at d refl lt found set e in
@@ -247,9 +250,11 @@ returns-clause-right g c =
     let m' : Message = record m { read = true } in
     let messages_are : map message_record (slice_set messages c.index.result.now.message m') ≡ changed mark_read n w.messages =
     ap (λ i. map message_record (slice_set messages i m')) number ∙ map-set message_record mark_read messages n m' m inside (ap (λ (t : Message). message_record (record t { read = true })) here) in
-    let was : c.index_mut-2.result.now ≡ record (slice_index_or open_streams at d) { state = record (slice_index_or open_streams at d).state { reassembly_queue = state_read (slice_index_or open_streams at d).state.reassembly_queue } } =
+    let was : c.index_mut-2.result.now ≡ record (slice_index_or open_streams at d) { inbound = stream_read (slice_index_or open_streams at d).inbound } =
     c.index_mut-2.ensures.value ∙ get_or-set_same open_streams at c.read.new.self c.index_mut-2.result.now lt ∙ rest in
-    let state = c.finish_read.ensures.state ∙ ap (λ len. with_read_stats m.ppi len c.index_mut-2.result.now.state) c.len.ensures.value ∙ ap (λ (l : OpenStream). with_read_stats m.ppi (length m.bytes) l.state) was in
+    let kind : c.ppi-ppi.result ≡ m.ppi = c.ppi-ppi.ensures ∙ ap (λ (t : ChunkSet). t.ppi) read.2 ∙ ppi-handed w n ∙ ap (λ t. t.ppi) m_is in
+    let state = c.finish_read.ensures.state ∙ ap (λ (l : OpenStream). l.state) was in
+    let inbound = c.finish_read.ensures.inbound ∙ ap (λ (l : OpenStream). l.inbound) was in
     let whole = c.finish_read.ensures.whole ∙ ap (λ (l : OpenStream). if m.ordered then l.whole.items else drop 1 l.whole.items) was in
     let ordered = c.finish_read.ensures.ordered ∙ ap (λ (l : OpenStream). l.ordered) was in
     let begun = c.finish_read.ensures.begun ∙ ap (λ (l : OpenStream). l.begun) was in
@@ -257,6 +262,6 @@ returns-clause-right g c =
     let index = ap (λ (t : Message). t.index) here ∙ sym (kept-raw sum x c.self.invariant slots messages refl refl refl n m inside) in
     let next = c.finish_read.ensures.next ∙ ap (λ (l : OpenStream). if m.ordered && (m.index == l.next) then m.index + 1 else l.next) was in
     rw (← c.self.view_is) (record {
-      right = ap (λ p. R.Message s p set) (sym (ap (λ t. t.ppi) m_is)) ∙ reply-read sum x c.self.invariant s at d refl lt found set e;
-      moves = world-twice sum x c.self.invariant s at d refl lt found set e m (map message_record (slice_set messages c.index.result.now.message m')) c.finish_read.new.self m_is messages_are state whole index ordered begun named next c.read.new.self;
+      right = ap (λ p. R.Message s p set) (kind ∙ sym (ap (λ t. t.ppi) m_is)) ∙ reply-read sum x c.self.invariant s at d refl lt found set e;
+      moves = world-twice sum x c.self.invariant s at d refl lt found set e m (map message_record (slice_set messages c.index.result.now.message m')) c.finish_read.new.self m_is messages_are state inbound whole index ordered begun named next c.read.new.self;
     })

@@ -45,7 +45,7 @@ loop-was-preserved c =
       streams = λ ls ss cs a t.
           put-back-stream ls ss (slice_index_or ps (length xs) 0) (slice_index_or cs (length xs) chunk-none) c.in-Some.was (last-saved ls ss ps cs c.args.saved.items xs i.first.0 c.in-Some.was chunk-none a all) (map (λ (s : Saved). s.at) xs) c.loop-was.open_streams.items c.index_mut.result.now c.put_back.new.self
           (subst (λ js. TouchesOnly js ls c.loop-was.open_streams.items) (ap (map (λ (s : Saved). s.at)) is ∙ map-append (λ (s : Saved). s.at) xs (c.in-Some.was ∷ [])) (i.streams ls ss cs a t))
-          (c.put_back.ensures.state ∙ ap (λ (l : OpenStream). record l.state { reassembly_queue = c.in-Some.was.queue }) y) (c.put_back.ensures.whole ∙ ap (λ (l : OpenStream). take c.in-Some.was.whole l.whole.items) y) (c.put_back.ensures.ordered ∙ ap (λ (l : OpenStream). l.ordered) y) (c.put_back.ensures.begun ∙ ap (λ (l : OpenStream). l.begun) y) (c.put_back.ensures.next ∙ ap (λ (l : OpenStream). l.next) y) (c.put_back.ensures.named ∙ ap (λ (l : OpenStream). l.named) y);
+          (c.put_back.ensures.state ∙ ap (λ (l : OpenStream). l.state) y) (c.put_back.ensures.inbound ∙ ap (λ (l : OpenStream). record l.inbound { queue = c.in-Some.was.queue }) y) (c.put_back.ensures.whole ∙ ap (λ (l : OpenStream). take c.in-Some.was.whole l.whole.items) y) (c.put_back.ensures.ordered ∙ ap (λ (l : OpenStream). l.ordered) y) (c.put_back.ensures.begun ∙ ap (λ (l : OpenStream). l.begun) y) (c.put_back.ensures.next ∙ ap (λ (l : OpenStream). l.next) y) (c.put_back.ensures.named ∙ ap (λ (l : OpenStream). l.named) y);
       slots = λ ls ss cs a m.
           let p = slice_index_or ps (length xs) 0 in
           let short : length xs < length ps = omega (arith, a.count, ap length all, length-append (xs ++ c.in-Some.was ∷ []) i.first.0, length-append xs (c.in-Some.was ∷ [])) in

@@ -52,7 +52,7 @@ loop-i-preserved c =
           let comes = subst (Comes v (slice_index_or ps i 0)) (sym c.index-chunks-i.is) (come-at w ps c.args.chunks.now i 0 c.index-chunks-i.result a c.loop-i-test.true) in
           let done = c.in_ok-new.ensures.ok v before.1 comes in (
             new-next w ps i 0 c.loop-i.new c.in_ok-new.field-0 c.loop-i-test.true before.0 done.0,
-            received-next w ps i c.receive_slot.new.open_streams.items c.receive_slot.new.slots.items c.receive_slot.new.filter c.receive_slot.new.cumulative c.receive_slot.new.duplicates.items c.loop-i-test.true done.1,
+            received-next w ps i c.receive_slot.new.open_streams.items c.receive_slot.new.slots.items c.receive_slot.new.filter c.receive_slot.new.duplicates.items c.loop-i-test.true done.1,
           );
       streams = touches-up c.args.saved.now i c.index-saved-i.result c.args.open_streams.now.items c.loop-i.open_streams.items c.receive_slot.new.open_streams.items (omega (arith, c.loop-i-test.true, c.requires.saved.count)) c.loop-i.invariant.streams c.receive_slot.ensures.streams;
       slots = marks-up ps i 0 c.args.slots.now.items c.loop-i.slots.items c.receive_slot.new.slots.items c.loop-i-test.true c.loop-i.invariant.slots c.receive_slot.ensures.slots;
@@ -64,7 +64,7 @@ returns-clause-ok c = λ w r a.
     let ps = c.args.places.now in
     let all : take c.loop-i.i ps ≡ ps = take_all c.loop-i.i ps (omega (arith, c.loop-i-test.false)) in
     let k = c.loop-i.invariant.known w r a in
-    (k.0 ∙ ap (list_any (is_new w)) all, subst (λ qs. IsReceiver (fold slot_received w qs) c.loop-i.open_streams.items c.loop-i.slots.items c.loop-i.filter c.loop-i.cumulative c.loop-i.duplicates.items) all k.1)
+    (k.0 ∙ ap (list_any (is_new w)) all, subst (λ qs. IsReceiver (fold slot_received w qs) c.loop-i.open_streams.items c.loop-i.slots.items c.loop-i.filter c.loop-i.duplicates.items) all k.1)
 
 pub returns-clause-streams : goal.returns-clause-streams
 returns-clause-streams c =

@@ -2,7 +2,7 @@ use Rattle.std.proofs.Common.{rules, ◌≡◌, [], length, take, refl, ap, sym,
 use Rattle.std.specs.Prelude.{fold, slice_index_or, find}
 use Rattle.std.specs.List.{list_any}
 use Rattle.sctp_chunks.specs.declared.chunk.chunk_payload_data.ChunkPayloadData.{ChunkPayloadData}
-use Rattle.sctp_outbound.specs.payload_queue.PayloadQueue.{Payload}
+use Rattle.sctp_transfer.specs.TsnFilter.{Filter}
 use Rattle.sctp_model.specs.Receiver.{is_new}
 use Rattle.sctp_model.specs.Changes.{slot_received}
 use Rattle.sctp_link.specs.Linked.{has_number}
@@ -38,7 +38,7 @@ returns-then-places-eq1-clause-ok c = λ w r a.
     let one = one-list ps c.if-places-eq1.true in
     let done = c.in_ok-new.ensures.ok w r (subst (Comes w p) (sym c.index-chunks-0.is) (come-at w ps c.args.chunks.now 0 0 c.index-chunks-0.result a (omega (arith, c.if-places-eq1.true)))) in (
       done.0 ∙ or-none (is_new w p) ∙ ap (list_any (is_new w)) (sym one),
-      subst (λ qs. IsReceiver (fold slot_received w qs) c.receive_slot.new.open_streams.items c.receive_slot.new.slots.items c.receive_slot.new.filter c.receive_slot.new.cumulative c.receive_slot.new.duplicates.items) (sym one) done.1,
+      subst (λ qs. IsReceiver (fold slot_received w qs) c.receive_slot.new.open_streams.items c.receive_slot.new.slots.items c.receive_slot.new.filter c.receive_slot.new.duplicates.items) (sym one) done.1,
     )
 
 pub save_each-requires-clause-count : goal.save_each-requires-clause-count
@@ -58,7 +58,6 @@ returns-clause-err c =
     on-err c.receive_each-received.result _ (
       c.put_back.ensures.streams a.open_streams.now.items.items a.slots.now.items a.chunks.now saved (rw (← c.deref-2.ensures.value) c.receive_each-received.ensures.streams),
       c.put_back.ensures.slots a.open_streams.now.items.items a.slots.now.items a.chunks.now saved c.receive_each-received.ensures.slots,
-      subst (λ (f : Payload). f ≡ record a.filter.now { room = f.room }) (sym c.in_ok-filter_then.ensures.ok) refl,
-      refl,
+      subst (λ (f : Filter). f ≡ record a.filter.now { room = f.room }) (sym c.in_ok-filter_then.ensures.ok) refl,
       c.truncate.ensures.items ∙ ap (λ n. take n c.receive_each-received.new.duplicates.items) count ∙ c.receive_each-received.ensures.duplicates,
     )

@@ -17,7 +17,7 @@ loop-i-preserved c =
     let chunk = slice_index_or a.chunks.now i c.index-chunks-i.result in
     let number : (d : OpenStream) → (slice_index_or items at d).state.stream_identifier ≡ chunk.stream_identifier = λ d. number-found chunk.stream_identifier items (slice_index_or items at d) (c.in-Some.ensures.1 d) in
     let more = c.in_ok-push.ensures.items in
-    let queue : c.in_ok-try_clone.field-0 ≡ c.index-open_stream.result.now.state.reassembly_queue = c.in_ok-try_clone.ensures.ok ∙ c.reassembly_queue.ensures in
+    let queue : c.in_ok-try_clone.field-0 ≡ c.index-open_stream.result.now.inbound.queue = c.in_ok-try_clone.ensures.ok in
     let whole : c.len.result ≡ length c.index-open_stream.result.now.whole.items = search rules in
     let here : (d : OpenStream) → c.index-open_stream.result.now ≡ slice_index_or items at d = λ d. c.index-open_stream.ensures ∙ one-at items at c.in-Some.ensures.0 c.index-open_stream.result.now d in
     record {
@@ -26,7 +26,7 @@ loop-i-preserved c =
           (λ e. record {
             inside = c.in-Some.ensures.0;
             number = λ d. number d ∙ ap (λ (x : ChunkPayloadData). x.stream_identifier) (one-at a.chunks.now i (omega (arith, c.loop-i-test.true, c.requires.count)) c.index-chunks-i.result e);
-            queue = λ d. queue ∙ ap (λ (l : OpenStream). l.state.reassembly_queue) (here d);
+            queue = λ d. queue ∙ ap (λ (l : OpenStream). l.inbound.queue) (here d);
             whole = λ d. whole ∙ ap (λ (l : OpenStream). length l.whole.items) (here d);
             made = c.requires.inside i c.loop-i-test.true;
             arrived = λ d. ap (λ (s : Slot). s.arrived) (one-at a.slots.now (slice_index_or a.places.now i 0) (c.requires.inside i c.loop-i-test.true) _ d);

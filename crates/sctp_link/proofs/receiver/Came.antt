@@ -1,0 +1,139 @@
+-- What the filter of TSNs tells of slots, and what calls make of it, against the record.
+use Rattle.std.proofs.Common.{◌≡◌, ℕ, ◌+◌, ◌-◌, ◌<◌, ◌≤◌, ◌%◌, ◌^◌, Bool, true, false, List, [], ◌∷◌, ◌++◌, length, map, refl, ap, sym, ◌∙◌, arith}
+use Rattle.std.specs.Prelude.{◌==◌, ◌&&◌, ◌||◌, not, nat_le}
+use Rattle.std.specs.List.{list_any}
+use Rattle.std.proofs.lemmas.Bool.Decides.{nat_tests}
+use Rattle.sctp_lists.specs.Kept.{runs_of}
+use Rattle.sctp_lists.specs.Lists.{advanced, inserted, those, Seen}
+use Rattle.sctp_lists.specs.Serial.{distance, comes_before, at_or_before}
+use Rattle.sctp_lists.proofs.More.{fails}
+use Rattle.sctp_lists.proofs.SerialLemmas.{comes_before_from}
+use Rattle.sctp_serial.specs.Window
+use Rattle.sctp_outbound.specs.payload_queue.Blocks.{gap_offsets, is_offset}
+use Rattle.sctp_model.specs.World.{World}
+use Rattle.sctp_model.specs.Messages.{tsn_of}
+use Rattle.sctp_model.specs.Receiver.{arrived_at, cumulative, is_new}
+use Rattle.sctp_model.specs.Changes.{slot_received}
+use Rattle.sctp_model.specs.Queues.{FilterRecord, filter_of}
+use Rattle.sctp_model.specs.Sound.{Sound}
+use Rattle.sctp_ties.specs.Holds.{seen_of}
+use Rattle.sctp_ties.proofs.arriving.Filter.{tsn_before}
+use Rattle.sctp_ties.proofs.arriving.FilterQueue.{tsns, new-is}
+use Rattle.sctp_ties.proofs.arriving.SlotArrives
+use Rattle.sctp_transfer.specs.TsnFilter.{Filter, has_come, is_opposite, with_tsn, with_duplicate, skipped_to, offsets, gap_ack_blocks, block_of, mark}
+use Rattle.sctp_transfer.proofs.Marks as Marks
+use Rattle.sctp_transfer.proofs.Marks.{tsns-mark}
+use Rattle.sctp_link.specs.Linked.{filter_shown}
+use Rattle.sctp_link.specs.Records.{ends_of}
+
+-- ## Which slots came
+
+turned : (a b : Bool) → not a ≡ b → a ≡ not b
+turned true b e = ap not e
+turned false b e = ap not e
+
+unturned : (a b : Bool) → a ≡ not b → not a ≡ b
+unturned a true e = ap not e
+unturned a false e = ap not e
+
+ahead : (first c k : ℕ) → c ≤ k → k < 2 ^ 31 → distance (tsn_before first c) ((first + k) % 2 ^ 32) ≡ k + 1 - c
+unfolding distance
+ahead first c k le lt = omega arith
+
+past-front : (w : World) (p : ℕ) → is_new w p ≡ true → cumulative w ≤ p
+past-front w p e = step (nat_le (cumulative w) p) (arrived_at w p) refl e
+  where
+    step : (a b : Bool) → nat_le (cumulative w) p ≡ a → (a && not b) ≡ true → cumulative w ≤ p
+    step true b h e = grind (arith, nat_tests)
+    step false b h e = cc
+
+-- the TSNs beyond, as the marks that a queue keeps
+pub tsns-beyond : (w : World) (f : Filter) → filter_shown f ≡ filter_of w → tsns (map mark f.beyond) ≡ (seen_of w).held
+tsns-beyond w f is = tsns-mark f.beyond ∙ ap (λ (r : FilterRecord). r.held) is
+
+module _ (w : World) (f : Filter) (made : w.skipped ≤ length w.slots) (few : length w.slots < 2 ^ 31) (is : filter_shown f ≡ filter_of w) where
+  cumulative-is : f.cumulative_tsn ≡ tsn_before w.setup.first (cumulative w)
+  cumulative-is = ap (λ (r : FilterRecord). r.cumulative) is
+
+  -- it came where the record says that it is not new
+  pub come-is : (p : ℕ) → p < length w.slots → has_come (tsn_of w p) f ≡ not (is_new w p)
+  come-is p lt =
+      let t = tsn_of w p in
+      let queue : Window.is_new (map mark f.beyond) t f.cumulative_tsn ≡ not (has_come t f) =
+      Marks.new-is (map mark f.beyond) t f.cumulative_tsn ∙ ap (λ ts. not (at_or_before t f.cumulative_tsn || list_any (λ u. u == t) ts)) (tsns-mark f.beyond) in
+      turned (has_come t f) (is_new w p)
+      (sym queue ∙ ap (Window.is_new (map mark f.beyond) t) cumulative-is ∙ new-is w (map mark f.beyond) made few (tsns-beyond w f is) p lt)
+
+  pub new-tells : (p : ℕ) → p < length w.slots → not (has_come (tsn_of w p) f) ≡ is_new w p
+  new-tells p lt = unturned (has_come (tsn_of w p) f) (is_new w p) (come-is p lt)
+
+  far : (p : ℕ) → p < length w.slots → cumulative w ≤ p → distance f.cumulative_tsn (tsn_of w p) ≡ p + 1 - cumulative w
+  far p lt le = ap (λ c. distance c (tsn_of w p)) cumulative-is ∙ ahead w.setup.first (cumulative w) p le (omega (arith, lt, few))
+
+  -- no slot lies half the circle from the cumulative TSN
+  pub near-is : (p : ℕ) → p < length w.slots → is_new w p ≡ true → is_opposite (tsn_of w p) f ≡ false
+  near-is p lt new =
+      let d = far p lt (past-front w p new) in
+      fails (distance f.cumulative_tsn (tsn_of w p) == 2 ^ 31) (λ h. let e : distance f.cumulative_tsn (tsn_of w p) ≡ 2 ^ 31 = grind (arith, nat_tests) in omega (arith, d, e, lt, few))
+
+  -- one that is not passed comes after it
+  pub later-is : (p : ℕ) → p < length w.slots → cumulative w ≤ p → comes_before f.cumulative_tsn (tsn_of w p) ≡ true
+  later-is p lt le =
+      let d = far p lt le in
+      comes_before_from f.cumulative_tsn (tsn_of w p) (omega (arith, d, le)) (omega (arith, d, lt, few))
+
+-- ## What calls make of it
+
+-- with a new TSN, in the words of the record
+abbrev came : ℕ → FilterRecord → FilterRecord
+came t r =
+    let s : Seen = advanced r.cumulative (inserted comes_before t r.held) in
+    record { cumulative = s.cum; held = s.held; duplicates = r.duplicates }
+
+-- all up to a TSN counts as come, in these words
+abbrev gone : ℕ → FilterRecord → FilterRecord
+gone t r =
+    let s : Seen = advanced t (those (λ u. not (at_or_before u t)) r.held) in
+    record { cumulative = s.cum; held = s.held; duplicates = r.duplicates }
+
+abbrev seen-with : List ℕ → Seen → FilterRecord
+seen-with dups s = record { cumulative = s.cum; held = s.held; duplicates = dups }
+
+-- a slot comes for the first time: room was made before
+pub filter-new : (w : World) (p : ℕ) (f mid then' : Filter) → Sound w → p < length w.slots → is_new w p ≡ true → filter_shown f ≡ filter_of w
+    → mid ≡ record f { room = mid.room } → then' ≡ record (with_tsn (tsn_of w p) mid) { room = then'.room } → filter_shown then' ≡ filter_of (slot_received w p)
+filter-new w p f mid then' sound made new is reserved e =
+    ap filter_shown e
+    ∙ ap (came (tsn_of w p)) (ap filter_shown reserved ∙ is)
+    ∙ ap (seen-with (filter_of w).duplicates) (sym (SlotArrives.filter-slot w p sound made new))
+    ∙ ap (λ d. seen-with d (seen_of (slot_received w p))) (sym (SlotArrives.duplicates-slot w p new))
+
+-- it comes again
+pub filter-again : (w : World) (p : ℕ) (f then' : Filter) → is_new w p ≡ false → filter_shown f ≡ filter_of w → then' ≡ with_duplicate (tsn_of w p) f → filter_shown then' ≡ filter_of (slot_received w p)
+filter-again w p f then' old is e =
+    ap filter_shown e
+    ∙ ap {B = FilterRecord} (λ (r : FilterRecord). record r { duplicates = r.duplicates ++ tsn_of w p ∷ [] }) is
+    ∙ sym (SlotArrives.repeated-filter w p old)
+
+-- all up to a TSN counts as come
+pub filter-gone : (w v : World) (tsn : ℕ) (f then' : Filter) → filter_shown f ≡ filter_of w → then' ≡ skipped_to tsn f
+    → seen_of v ≡ advanced tsn (those (λ t. not (at_or_before t tsn)) (seen_of w).held) → (filter_of v).duplicates ≡ (filter_of w).duplicates → filter_shown then' ≡ filter_of v
+filter-gone w v tsn f then' is e seen same =
+    ap filter_shown e
+    ∙ ap (gone tsn) is
+    ∙ ap (seen-with (filter_of w).duplicates) (sym seen)
+    ∙ ap (λ d. seen-with d (seen_of v)) (sym same)
+
+-- ## What a SACK says of it
+
+distances-marks : (c : ℕ) (ts : List ℕ) → map (λ x. distance c x.tsn) (map mark ts) ≡ map (distance c) ts
+distances-marks c [] = refl
+distances-marks c (t ∷ ts) = ap (λ ds. distance c t ∷ ds) (distances-marks c ts)
+
+ends-of-blocks : (rs : List (ℕ × ℕ)) → map ends_of (map block_of rs) ≡ rs
+ends-of-blocks [] = refl
+ends-of-blocks (r ∷ rs) = ap (λ l. r ∷ l) (ends-of-blocks rs)
+
+-- its blocks are those of the queue of marks
+pub blocks-ends : (f : Filter) → map ends_of (gap_ack_blocks f) ≡ runs_of (gap_offsets f.cumulative_tsn (map mark f.beyond))
+blocks-ends f = ends-of-blocks (runs_of (offsets f)) ∙ ap (λ ds. runs_of (those is_offset ds)) (sym (distances-marks f.cumulative_tsn f.beyond))
