@@ -1,4 +1,4 @@
-//! Messages that are given up once some of them was sent (RFC 3758 3.5, RFC 7496 4.1).
+//! Messages that are given up once some of them was sent (RFC 3758 3.5, 4.1).
 
 ghost use Rattle.std.specs.Prelude.{◌≡◌, ◌<◌, ◌+◌, ◌++◌, ◌^◌, Bool, true, false, is_some, None, Some, OnOk, OnErr, IfOk, IsOk, IsOkUnless, find, length, vec_len, vec_capacity};
 ghost use Rattle.sctp_base.specs.declared.error.Error.TheVariants.{ErrOutOfMemory};

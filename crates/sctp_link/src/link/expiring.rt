@@ -1,4 +1,4 @@
-//! Messages whose lifetime ends before any of them is sent (RFC 3758 3.5, RFC 7496 4.1).
+//! Messages whose lifetime ends before any of them is sent (RFC 3758 3.5, 4.1).
 
 ghost use Rattle.std.specs.Prelude.{◌≡◌};
 

@@ -1,4 +1,4 @@
-//! Messages that are in flight when their lifetime ends (RFC 3758 3.5, RFC 7496 4.1).
+//! Messages that are in flight when their lifetime ends (RFC 3758 3.5, 4.1).
 
 ghost use Rattle.std.specs.Prelude.{◌≡◌, ◌<◌, true, false, None, OnOk, OnErr, IfOk, IsOkUnless, find, length};
 ghost use Rattle.std.specs.List.{list_all};
