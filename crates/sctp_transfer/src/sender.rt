@@ -132,6 +132,9 @@ impl Sender {
         ensures ok { 0 < length bytes.now → OnOk result ((l : StreamState) → stream_of stream self.old ≡ Some l → self.new ≡ written_to l stream ppi bytes.now self.old) }
         ensures number { IfOk result (λ r. r.0 ≡ (if length bytes.now == 0 then None else Some self.old.flight.queue.next_message_id)) }
         ensures count { IfOk result (λ r. (l : StreamState) → stream_of stream self.old ≡ Some l → 0 < length bytes.now → r.1 ≡ length (fragments_with_mode l ppi bytes.now)) }
+        ensures none { length bytes.now ≡ 0 → IfOk result (λ r. r.1 ≡ 0) }
+        ensures bytes { OnOk result (total_bytes self.new.flight.queue ≡ total_bytes self.old.flight.queue + length bytes.now) }
+        ensures idle { length bytes.now ≡ 0 → write_refusal stream 0 self.old ≡ None → IsOk result }
         ensures accepted { IsOk result → write_refusal stream (length bytes.now) self.old ≡ None }
         ensures refused { IfErr result (λ e. ((e ≡ OutOfMemory) × (write_refusal stream (length bytes.now) self.old ≡ None)) ⊎ (write_refusal stream (length bytes.now) self.old ≡ Some e)) }
         ensures err { OnErr result (self.new ≡ self.old) }
@@ -165,6 +168,7 @@ impl Sender {
     pub fn send_next(&mut self, now: u64) -> Result<Option<ChunkPayloadData>, SenderRefusal>
         ensures answer { IfOk result (λ sent. sent ≡ option_map (with_tsn self.old.flight.next_tsn) (peeked self.old.flight.queue.pending)) }
         ensures ok { OnOk result (self.new ≡ with_flight (record self.old.flight { queue = sent_next self.old.flight.queue self.old.flight.next_tsn now; next_tsn = next_after_send self.old.flight }) self.old) }
+        ensures accepted { IsOk result → (peeked self.old.flight.queue.pending ≡ None) ⊎ (may_send self.old.flight ≡ true) }
         ensures refused { IfErr result (λ e. e ≡ (if may_send self.old.flight then OutOfMemory else TsnsUsedUp)) }
         ensures idle { peeked self.old.flight.queue.pending ≡ None → IsOk result }
         ensures err { OnErr result (self.new ≡ self.old) }
