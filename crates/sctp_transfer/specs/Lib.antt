@@ -11,3 +11,4 @@ pub mod ReceiverRuns
 pub mod Flight
 pub mod Outgoing
 pub mod Sender
+pub mod GivingUp
