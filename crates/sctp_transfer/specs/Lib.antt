@@ -12,3 +12,4 @@ pub mod Flight
 pub mod Outgoing
 pub mod Sender
 pub mod GivingUp
+pub mod Late

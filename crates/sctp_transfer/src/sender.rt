@@ -218,7 +218,8 @@ impl Sender {
         if !self.flight.may_send() {
             return Err(SenderRefusal::TsnsUsedUp);
         }
-        self.flight.send_next(now)
+        let sent = self.flight.send_next(now)?;
+        Ok(sent)
     }
 
     /// The fragment that is next after so many sends, as the queue's `peek_pending_at` lends it: a datagram of several chunks
