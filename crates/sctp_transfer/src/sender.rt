@@ -172,11 +172,13 @@ impl Sender {
     pub fn send_next(&mut self, now: u64) -> Result<Option<ChunkPayloadData>, SenderRefusal>
         ensures answer { IfOk result (λ sent. sent ≡ option_map (with_tsn self.old.flight.next_tsn) (peeked self.old.flight.queue.pending)) }
         ensures ok { OnOk result (self.new ≡ with_flight (record self.old.flight { queue = sent_next self.old.flight.queue self.old.flight.next_tsn now; next_tsn = next_after_send self.old.flight }) self.old) }
+        ensures bytes { OnOk result (total_bytes self.new.flight.queue ≡ total_bytes self.old.flight.queue) }
         ensures accepted { IsOk result → (peeked self.old.flight.queue.pending ≡ None) ⊎ (may_send self.old.flight ≡ true) }
         ensures refused { IfErr result (λ e. e ≡ (if may_send self.old.flight then OutOfMemory else TsnsUsedUp)) }
         ensures idle { peeked self.old.flight.queue.pending ≡ None → IsOk result }
         ensures err { OnErr result (self.new ≡ self.old) }
     {
+        self.flight.queue().are_whole();
         let Some(waiting) = self.flight.queue().peek_pending() else {
             self.flight.start(now);
             return Ok(None);
@@ -205,12 +207,14 @@ impl Sender {
     pub fn send_next_tsn(&mut self, now: u64) -> Result<Option<u32>, SenderRefusal>
         ensures answer { IfOk result (λ sent. sent ≡ option_map (λ _. self.old.flight.next_tsn) (peeked self.old.flight.queue.pending)) }
         ensures ok { OnOk result (self.new ≡ with_flight (record self.old.flight { queue = sent_next self.old.flight.queue self.old.flight.next_tsn now; next_tsn = next_after_send self.old.flight }) self.old) }
+        ensures bytes { OnOk result (total_bytes self.new.flight.queue ≡ total_bytes self.old.flight.queue) }
         ensures accepted { IsOk result → (peeked self.old.flight.queue.pending ≡ None) ⊎ (may_send self.old.flight ≡ true) }
         ensures refused { IfErr result (λ e. e ≡ (if may_send self.old.flight then OutOfMemory else TsnsUsedUp)) }
         ensures succeeds { 0 < self.old.flight.queue.inflight.room → may_send self.old.flight ≡ true → IsOk result }
         ensures idle { peeked self.old.flight.queue.pending ≡ None → IsOk result }
         ensures err { OnErr result (self.new ≡ self.old) }
     {
+        self.flight.queue().are_whole();
         let Some(_) = self.flight.queue().peek_pending() else {
             self.flight.start(now);
             return Ok(None);
