@@ -104,8 +104,8 @@ given_up_at tsn = given_up (fragment tsn true true (1 ∷ []))
 point : advanced_ack_point (in_flight (given_up_at 103 ∷ given_up_at 104 ∷ fragment 105 true true (1 ∷ []) ∷ acknowledged (fragment 106 true true (1 ∷ [])) ∷ [])) ≡ 104
 point = refl
 
--- where 105 is given up too, the point passes what the peer has
-far_point : advanced_ack_point (in_flight (given_up_at 103 ∷ given_up_at 104 ∷ given_up_at 105 ∷ acknowledged (fragment 106 true true (1 ∷ [])) ∷ [])) ≡ 106
+-- where 105 is given up too, the point stops before what was only reported
+far_point : advanced_ack_point (in_flight (given_up_at 103 ∷ given_up_at 104 ∷ given_up_at 105 ∷ acknowledged (fragment 106 true true (1 ∷ [])) ∷ [])) ≡ 105
 far_point = refl
 
 -- a lapsed chunk is given up with its message, whose two bytes leave

@@ -1,6 +1,6 @@
 -- Messages that are given up one after another.
 use Rattle.std.proofs.Common.{◌≡◌, ℕ, zero, suc, ◌+◌, ◌<◌, ◌≤◌, Bool, true, false, List, [], ◌∷◌, length, drop, get_or, Option, Some, None, refl, ap, sym, subst, ◌∙◌, inl, inr, arith}
-use Rattle.std.specs.Prelude.{if◌then◌else◌, ◌||◌, ◌==◌, find, not, option_map}
+use Rattle.std.specs.Prelude.{if◌then◌else◌, ◌==◌, find, not, option_map}
 use Rattle.std.specs.List.{list_all, list_any}
 use Rattle.std.proofs.lemmas.Option.{none-some}
 use Rattle.sctp_lists.specs.Lists.{change_where}
@@ -12,7 +12,7 @@ use Rattle.sctp_outbound.specs.declared.pending_queue.Selected.{Selected}
 use Rattle.sctp_outbound.specs.Marks.{given_up, is_of}
 use Rattle.sctp_outbound.specs.outbound_queue.OutboundQueue.{Outbound, abandoned_of, has_tail, to_abandon, with_end_mark}
 use Rattle.sctp_outbound.specs.payload_queue.PayloadQueue as payload
-use Rattle.sctp_outbound.specs.pending_queue.PendingQueue.{Pending, last_removed, selected_without, without}
+use Rattle.sctp_outbound.specs.pending_queue.PendingQueue.{Pending, selected_without, without}
 use Rattle.sctp_outbound.specs.pending_queue.Whole.{IsSendable, half_of, half_sent, waits}
 use Rattle.sctp_outbound.proofs.lemmas.outbound_queue.Abandoned.{last_removed_none}
 use Rattle.sctp_serial.specs.DataChunks.{has_tsn}

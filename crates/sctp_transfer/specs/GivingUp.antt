@@ -1,14 +1,12 @@
 -- Messages that are given up, and the FORWARD-TSN that says so (RFC 3758 3.5).
 use Rattle.std.specs.Prelude.{◌≡◌, ℕ, ◌<◌, Bool, true, false, length, get_or, ◌==◌, ◌&&◌, not, nat_lt, nat_le, take, if◌then◌else◌, List, [], ◌∷◌, Option, Some, None, option_map, unwrap_or}
-use Rattle.std.specs.List.{find, list_any}
-use Rattle.sctp_lists.specs.Lists.{change_where, those}
+use Rattle.std.specs.List.{find}
+use Rattle.sctp_lists.specs.Lists.{those}
 use Rattle.sctp_lists.specs.Serial.{distance}
 use Rattle.sctp_chunks.specs.declared.chunk.chunk_payload_data.ChunkPayloadData.{ChunkPayloadData}
 use Rattle.sctp_chunks.specs.declared.chunk.chunk_forward_tsn.ChunkForwardTsnStream.{ChunkForwardTsnStream}
-use Rattle.sctp_outbound.specs.Marks.{given_up, is_of, is_outstanding}
-use Rattle.sctp_outbound.specs.outbound_queue.OutboundQueue.{Outbound, abandoned_of, has_tail, is_late, to_abandon, tsn_after_of, with_inflight}
+use Rattle.sctp_outbound.specs.outbound_queue.OutboundQueue.{has_tail, to_abandon}
 use Rattle.sctp_outbound.specs.pending_queue.PendingQueue.{is_on, last_of}
-use Rattle.sctp_outbound.specs.pending_queue.Whole.{half_sent}
 use Rattle.sctp_serial.specs.DataChunks.{has_tsn}
 use Rattle.sctp_serial.specs.Window.{is_held}
 use Rattle.sctp_transfer.specs.declared.sender.refusal.SenderRefusal.{SenderRefusal}
@@ -25,9 +23,13 @@ abandon_refusal tsn f =
 
 -- ## FORWARD-TSN
 
--- the TSN before the first that is outstanding; where none is, the last that was given out
+-- its message is not given up
+abbrev pub is_kept : ChunkPayloadData → Bool
+is_kept c = not c.abandoned
+
+-- the TSN before the first in flight whose message is not given up; where there is none, the last that was given out
 abbrev pub advanced_ack_point : Flight → ℕ
-advanced_ack_point f = preceding_tsn (unwrap_or (option_map (λ c. c.tsn) (find is_outstanding f.queue.inflight.chunks)) f.next_tsn)
+advanced_ack_point f = preceding_tsn (unwrap_or (option_map (λ c. c.tsn) (find is_kept f.queue.inflight.chunks)) f.next_tsn)
 
 -- how far a TSN is past the acknowledged one
 abbrev pub ahead : Flight → ℕ → ℕ

@@ -38,10 +38,10 @@ impl Sender {
         Ok(given_up)
     }
 
-    /// The greatest TSN such that it and each in flight before it is acknowledged or given up: RFC 3758 3.5 calls it the
-    /// Advanced.Peer.Ack.Point, and its C2 passes chunks that are given up. Those that a gap ack block reported are passed
-    /// too: the peer has them, so that one FORWARD-TSN goes over what is given up before and behind them. The Rust crate
-    /// stops at the first that is acknowledged.
+    /// The greatest TSN such that the message of it and of each in flight before it is given up: RFC 3758 3.5 C2 calls it the
+    /// Advanced.Peer.Ack.Point. It stops at a chunk that a gap ack block reported and whose message is not given up: the peer
+    /// may take back such a report (RFC 4960 6.2.1), and at a skip drops the fragments up to there of an unordered message
+    /// whose other ones are still missing (RFC 3758 3.6).
     pub fn advanced_ack_point(&self) -> u32
         ensures { result ≡ advanced_ack_point self.now.flight }
     {

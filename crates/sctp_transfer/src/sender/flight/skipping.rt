@@ -1,11 +1,11 @@
 //! The TSNs that need not be sent again, and the FORWARD-TSN that says so (RFC 3758 3.5).
 
-ghost use Rattle.std.specs.Prelude.{◌≡◌, ◌<◌, ◌≤◌, ◌^◌, ◌++◌, ◌∷◌, [], List, true, false, None, OnOk, IfOk, IfErr, IfSome, IsOk, is_some, length, take};
+ghost use Rattle.std.specs.Prelude.{◌≡◌, ◌<◌, ◌≤◌, ◌^◌, ◌++◌, ◌∷◌, [], List, true, false, None, OnOk, IfOk, IfErr, IfSome, IsOk, is_some, find, option_map, length, take};
 ghost use Rattle.sctp_chunks.specs.declared.chunk.chunk_payload_data.ChunkPayloadData.{ChunkPayloadData};
 ghost use Rattle.sctp_lists.specs.Lists.{those};
 ghost use Rattle.sctp_transfer.specs.declared.sender.refusal.SenderRefusal.TheVariants.{OutOfMemory};
 ghost use Rattle.sctp_transfer.specs.Flight.{tsns_from};
-ghost use Rattle.sctp_transfer.specs.GivingUp.{IsFirstPair, IsNoPair, Name, is_named};
+ghost use Rattle.sctp_transfer.specs.GivingUp.{IsFirstPair, IsNoPair, Name, is_kept, is_named};
 ghost use Rattle.sctp_transfer.specs.TsnFilter.{tsns};
 
 use super::InFlight;
@@ -20,12 +20,13 @@ use std::alloc::Global;
 impl InFlight {
     ghost use Rattle.sctp_transfer.specs.GivingUp.{advanced_ack_point, can_skip_to, named_up_to};
 
-    /// The greatest TSN such that it and each in flight before it is acknowledged or given up: RFC 3758 3.5 calls it the
-    /// Advanced.Peer.Ack.Point.
+    /// The greatest TSN such that the message of it and of each in flight before it is given up: RFC 3758 3.5 calls it the
+    /// Advanced.Peer.Ack.Point. The TSN up to which all was acknowledged, where none in flight is passed.
     pub fn advanced_ack_point(&self) -> u32
         ensures { result ≡ advanced_ack_point self.now }
     {
-        match self.queue.earliest_outstanding_tsn() {
+        let first = self.acked_tsn.wrapping_add(1);
+        match first_kept(&self.queue, first) {
             Some(tsn) => tsn.wrapping_sub(1),
             None => self.next_tsn.wrapping_sub(1),
         }
@@ -56,6 +57,24 @@ impl InFlight {
             streams,
         }))
     }
+}
+
+// The first TSN in flight, from this one on, whose message is not given up.
+fn first_kept(queue: &OutboundQueue, first: u32) -> Option<u32>
+    requires run { tsns queue.now.inflight.chunks ≡ tsns_from first (length queue.now.inflight.chunks) }
+    requires few { length queue.now.inflight.chunks < 2 ^ 31 }
+    ensures { result ≡ option_map (λ c. c.tsn) (find is_kept queue.now.inflight.chunks) }
+{
+    for place in 0..queue.inflight_len() {
+        let tsn = first.wrapping_add(place as u32);
+        let Some(chunk) = queue.get(tsn) else {
+            unreachable!()
+        };
+        if !chunk.abandoned {
+            return Some(tsn);
+        }
+    }
+    None
 }
 
 // The pairs of the first chunks in flight, so many, whose TSNs follow one another.

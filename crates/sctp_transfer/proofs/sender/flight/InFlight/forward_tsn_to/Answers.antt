@@ -1,4 +1,4 @@
-use Rattle.std.proofs.Common.{◌≡◌, ◌≤◌, length, ap, sym, ◌∙◌, arith}
+use Rattle.std.proofs.Common.{◌≡◌, ap, ◌∙◌, arith}
 use Rattle.sctp_lists.specs.Serial.{distance}
 use Rattle.sctp_transfer.specs.Flight.{Flight}
 use Rattle.sctp_transfer.specs.GivingUp.{ahead, advanced_ack_point}

@@ -1,4 +1,4 @@
-use Rattle.std.proofs.Common.{◌≡◌, sym, subst}
+use Rattle.std.proofs.Common.{sym, subst}
 use Rattle.sctp_outbound.specs.pending_queue.Whole.{IsSendable}
 use Rattle.sctp_transfer.specs.Flight.{Flight}
 use Rattle.sctp_transfer.specs.Late.{has_tail_at}

@@ -1,9 +1,7 @@
-use Rattle.std.proofs.Common.{◌≡◌, ℕ, ◌+◌, ◌<◌, ◌%◌, ◌^◌, true, false, List, [], ◌∷◌, ◌++◌, length, take, Some, None, Option, refl, ap, sym, subst, ◌∙◌, arith}
-use Rattle.std.specs.Prelude.{find, not, if◌then◌else◌}
+use Rattle.std.proofs.Common.{◌≡◌, ◌<◌, true, false, List, length, take, sym, subst, ◌∙◌, arith}
 use Rattle.std.proofs.lemmas.List.{append-nil}
 use Rattle.sctp_chunks.specs.declared.chunk.chunk_payload_data.ChunkPayloadData.{ChunkPayloadData}
 use Rattle.sctp_lists.specs.Lists.{those}
-use Rattle.sctp_serial.specs.DataChunks.{has_tsn}
 use Rattle.sctp_transfer.specs.GivingUp.{Name, is_named}
 use Rattle.sctp_transfer.specs.TsnFilter.{mark}
 use Rattle.sctp_transfer.proofs.Points.{more-named}

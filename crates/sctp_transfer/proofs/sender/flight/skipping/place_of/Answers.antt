@@ -1,6 +1,6 @@
-use Rattle.std.proofs.Common.{◌≡◌, true, ap, ◌∙◌}
+use Rattle.std.proofs.Common.{ap, ◌∙◌}
 use Rattle.sctp_lists.proofs.Cases.{same-yes}
-use Rattle.std.specs.Prelude.{◌==◌, get_or}
+use Rattle.std.specs.Prelude.{◌==◌}
 use Rattle.sctp_chunks.specs.declared.chunk.chunk_forward_tsn.ChunkForwardTsnStream.{ChunkForwardTsnStream}
 use Rattle.sctp_transfer.specs.GivingUp.{is_pair_of}
 use Rattle.sctp_transfer.proofs.Names.{any-default}
