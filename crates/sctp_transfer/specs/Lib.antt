@@ -13,3 +13,4 @@ pub mod Outgoing
 pub mod Sender
 pub mod GivingUp
 pub mod Late
+pub mod Totals

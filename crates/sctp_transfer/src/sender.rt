@@ -10,6 +10,7 @@ pub mod flight;
 mod giving_up;
 mod outbound_streams;
 pub mod refusal;
+pub mod total;
 
 use self::flight::{InFlight, Released};
 use self::outbound_streams::OutboundStreams;
@@ -137,7 +138,8 @@ impl Sender {
         ensures number { IfOk result (λ r. r.0 ≡ (if length bytes.now == 0 then None else Some self.old.flight.queue.next_message_id)) }
         ensures count { IfOk result (λ r. (l : StreamState) → stream_of stream self.old ≡ Some l → 0 < length bytes.now → r.1 ≡ length (fragments_with_mode l ppi bytes.now)) }
         ensures none { length bytes.now ≡ 0 → IfOk result (λ r. r.1 ≡ 0) }
-        ensures bytes { OnOk result (total_bytes self.new.flight.queue ≡ total_bytes self.old.flight.queue + length bytes.now) }
+        ensures bytes { OnOk result (total_bytes self.new.flight.queue
+            ≡ total_bytes self.old.flight.queue + length bytes.now) }
         ensures idle { length bytes.now ≡ 0 → write_refusal stream 0 self.old ≡ None → IsOk result }
         ensures accepted { IsOk result → write_refusal stream (length bytes.now) self.old ≡ None }
         ensures refused { IfErr result (λ e. ((e ≡ OutOfMemory) × (write_refusal stream (length bytes.now) self.old ≡ None)) ⊎ (write_refusal stream (length bytes.now) self.old ≡ Some e)) }
@@ -172,8 +174,10 @@ impl Sender {
     pub fn send_next(&mut self, now: u64) -> Result<Option<ChunkPayloadData>, SenderRefusal>
         ensures answer { IfOk result (λ sent. sent ≡ option_map (with_tsn self.old.flight.next_tsn) (peeked self.old.flight.queue.pending)) }
         ensures ok { OnOk result (self.new ≡ with_flight (record self.old.flight { queue = sent_next self.old.flight.queue self.old.flight.next_tsn now; next_tsn = next_after_send self.old.flight }) self.old) }
-        ensures bytes { OnOk result (total_bytes self.new.flight.queue ≡ total_bytes self.old.flight.queue) }
-        ensures accepted { IsOk result → (peeked self.old.flight.queue.pending ≡ None) ⊎ (may_send self.old.flight ≡ true) }
+        ensures bytes { OnOk result (total_bytes self.new.flight.queue
+            ≡ total_bytes self.old.flight.queue) }
+        ensures accepted { IsOk result → (peeked self.old.flight.queue.pending ≡ None)
+            ⊎ (may_send self.old.flight ≡ true) }
         ensures refused { IfErr result (λ e. e ≡ (if may_send self.old.flight then OutOfMemory else TsnsUsedUp)) }
         ensures idle { peeked self.old.flight.queue.pending ≡ None → IsOk result }
         ensures err { OnErr result (self.new ≡ self.old) }
@@ -194,7 +198,9 @@ impl Sender {
 
     /// From here on so many calls of `send_next_tsn` take no memory. Refuses only for memory, and the sender is as it was then.
     pub fn reserve(&mut self, sends: usize) -> Result<(), SenderRefusal>
-        ensures ok { OnOk result (self.new ≡ with_flight (with_queue self.old.flight (with_room sends self.old.flight.queue)) self.old) }
+        ensures ok { OnOk result (self.new
+            ≡ with_flight (with_queue self.old.flight
+            (with_room sends self.old.flight.queue)) self.old) }
         ensures memory { IfErr result (λ e. e ≡ OutOfMemory) }
         ensures succeeds { sends ≤ self.old.flight.queue.inflight.room → IsOk result }
         ensures err { OnErr result (self.new ≡ self.old) }
@@ -205,12 +211,16 @@ impl Sender {
     /// As `send_next`, but answers the TSN alone: `outbound().get` lends the chunk. So within the room of `reserve` it takes
     /// no memory; `send_next` takes what a copy of the chunk wants.
     pub fn send_next_tsn(&mut self, now: u64) -> Result<Option<u32>, SenderRefusal>
-        ensures answer { IfOk result (λ sent. sent ≡ option_map (λ _. self.old.flight.next_tsn) (peeked self.old.flight.queue.pending)) }
+        ensures answer { IfOk result (λ sent. sent
+            ≡ option_map (λ _. self.old.flight.next_tsn) (peeked self.old.flight.queue.pending)) }
         ensures ok { OnOk result (self.new ≡ with_flight (record self.old.flight { queue = sent_next self.old.flight.queue self.old.flight.next_tsn now; next_tsn = next_after_send self.old.flight }) self.old) }
-        ensures bytes { OnOk result (total_bytes self.new.flight.queue ≡ total_bytes self.old.flight.queue) }
-        ensures accepted { IsOk result → (peeked self.old.flight.queue.pending ≡ None) ⊎ (may_send self.old.flight ≡ true) }
+        ensures bytes { OnOk result (total_bytes self.new.flight.queue
+            ≡ total_bytes self.old.flight.queue) }
+        ensures accepted { IsOk result → (peeked self.old.flight.queue.pending ≡ None)
+            ⊎ (may_send self.old.flight ≡ true) }
         ensures refused { IfErr result (λ e. e ≡ (if may_send self.old.flight then OutOfMemory else TsnsUsedUp)) }
-        ensures succeeds { 0 < self.old.flight.queue.inflight.room → may_send self.old.flight ≡ true → IsOk result }
+        ensures succeeds { 0 < self.old.flight.queue.inflight.room
+            → may_send self.old.flight ≡ true → IsOk result }
         ensures idle { peeked self.old.flight.queue.pending ≡ None → IsOk result }
         ensures err { OnErr result (self.new ≡ self.old) }
     {
@@ -242,7 +252,9 @@ impl Sender {
         ensures stream { IfOk result (λ r. Some r.0 ≡ option_map (λ c. c.stream_identifier) (find (has_tsn tsn) self.old.flight.queue.inflight.chunks)) }
         ensures released { IfOk result (λ r. total_bytes self.new.flight.queue + r.1 ≡ total_bytes self.old.flight.queue) }
         ensures accepted { IsOk result → abandon_refusal tsn self.old.flight ≡ None }
-        ensures refused { IfErr result (λ e. ((e ≡ OutOfMemory) × (abandon_refusal tsn self.old.flight ≡ None)) ⊎ (abandon_refusal tsn self.old.flight ≡ Some e)) }
+        ensures refused { IfErr result (λ e.
+            ((e ≡ OutOfMemory) × (abandon_refusal tsn self.old.flight ≡ None))
+            ⊎ (abandon_refusal tsn self.old.flight ≡ Some e)) }
         ensures no_tail { is_held self.old.flight.queue.inflight.chunks tsn ≡ true
             → has_tail (to_abandon (find (has_tsn tsn) self.old.flight.queue.inflight.chunks)) self.old.flight.queue ≡ false
             → IsOk result }
@@ -281,8 +293,10 @@ impl Sender {
         ensures some { IfOk result (λ r. IfSome r (λ a. self.new ≡ after_abandon (message_of (expiring_tail now self.old.flight.queue)) a.0 a.2 self.old)) }
         ensures answer { IfOk result (λ r. option_map {U = ℕ × ℕ} (λ a. (a.0, a.1)) r ≡ option_map {U = ℕ × ℕ} (λ c. (c.stream_identifier, c.message_id)) (expiring_tail now self.old.flight.queue)) }
         ensures none { IfOk result (λ r. r ≡ None → self.new ≡ self.old) }
-        ensures released { IfOk result (λ r. total_bytes self.new.flight.queue + tail_bytes r ≡ total_bytes self.old.flight.queue) }
-        ensures accepted { IsOk result → (expiring_tail now self.old.flight.queue ≡ None) ⊎ (may_send self.old.flight ≡ true) }
+        ensures released { IfOk result (λ r. total_bytes self.new.flight.queue + tail_bytes r
+            ≡ total_bytes self.old.flight.queue) }
+        ensures accepted { IsOk result → (expiring_tail now self.old.flight.queue ≡ None)
+            ⊎ (may_send self.old.flight ≡ true) }
         ensures refused { IfErr result (λ e. e ≡ (if may_send self.old.flight then OutOfMemory else TsnsUsedUp)) }
         ensures idle { expiring_tail now self.old.flight.queue ≡ None → IsOk result }
         ensures err { OnErr result (self.new ≡ self.old) }

@@ -31,7 +31,8 @@ pub fn take_sack(sender: &mut Sender, sack: &ChunkSelectiveAck) -> Result<(), Se
 /// Gives up what is late, and answers the FORWARD-TSN that the peer is to be sent then, if there is one.
 pub fn give_up_late(sender: &mut Sender, now: u64) -> Result<Option<ChunkForwardTsn>, SenderRefusal>
     ensures late { OnOk result (sender.new ≡ after_late now sender.old) }
-    ensures tsn { IfOk result (λ r. IfSome r (λ c. c.new_cumulative_tsn ≡ advanced_ack_point sender.new.flight)) }
+    ensures tsn { IfOk result (λ r. IfSome r
+        (λ c. c.new_cumulative_tsn ≡ advanced_ack_point sender.new.flight)) }
 {
     sender.expire_late(now)?;
     sender.forward_tsn()

@@ -26,10 +26,16 @@ impl Sender {
     /// flight; and for memory, but not where no message is late. The sender is as it was then.
     pub fn expire_late(&mut self, now: u64) -> Result<Vec<GivenUp>, SenderRefusal>
         ensures ok { OnOk result (self.new ≡ after_late now self.old) }
-        ensures answer { IfOk result (λ given_up. given_up.items ≡ leaving_each (late_order now self.old.flight) self.old.flight) }
-        ensures released { IfOk result (λ given_up. total_bytes self.new.flight.queue + sum_by (λ g. g.bytes) given_up.items ≡ total_bytes self.old.flight.queue) }
-        ensures accepted { IsOk result → (with_tail (late_tsns now self.old.flight.queue) self.old.flight ≡ None) ⊎ (may_send self.old.flight ≡ true) }
-        ensures refused { IfErr result (λ e. (e ≡ OutOfMemory) ⊎ ((e ≡ TsnsUsedUp) × (may_send self.old.flight ≡ false) × (is_some (with_tail (late_tsns now self.old.flight.queue) self.old.flight) ≡ true))) }
+        ensures answer { IfOk result (λ given_up. given_up.items
+            ≡ leaving_each (late_order now self.old.flight) self.old.flight) }
+        ensures released { IfOk result (λ given_up. total_bytes self.new.flight.queue
+            + sum_by (λ g. g.bytes) given_up.items ≡ total_bytes self.old.flight.queue) }
+        ensures accepted { IsOk result →
+            (with_tail (late_tsns now self.old.flight.queue) self.old.flight ≡ None)
+            ⊎ (may_send self.old.flight ≡ true) }
+        ensures refused { IfErr result (λ e. (e ≡ OutOfMemory)
+            ⊎ ((e ≡ TsnsUsedUp) × (may_send self.old.flight ≡ false)
+            × (is_some (with_tail (late_tsns now self.old.flight.queue) self.old.flight) ≡ true))) }
         ensures idle { late_tsns now self.old.flight.queue ≡ [] → IsOk result }
         ensures err { OnErr result (self.new ≡ self.old) }
     {
@@ -51,10 +57,15 @@ impl Sender {
     /// The FORWARD-TSN that is to be sent (RFC 3758 3.5 C3, C4), as `forward_tsn_to` the `advanced_ack_point`; None where
     /// that is not past what is acknowledged. Refuses only for memory, and takes none where it answers None.
     pub fn forward_tsn(&self) -> Result<Option<ChunkForwardTsn>, SenderRefusal>
-        ensures some { IfOk result (λ r. is_some r ≡ nat_lt 0 (ahead self.now.flight (advanced_ack_point self.now.flight))) }
-        ensures tsn { IfOk result (λ r. IfSome r (λ c. c.new_cumulative_tsn ≡ advanced_ack_point self.now.flight)) }
-        ensures names { IfOk result (λ r. IfSome r (λ c. Name c.streams.items (named_up_to (advanced_ack_point self.now.flight) self.now.flight))) }
-        ensures idle { nat_lt 0 (ahead self.now.flight (advanced_ack_point self.now.flight)) ≡ false → IsOk result }
+        ensures some { IfOk result (λ r. is_some r
+            ≡ nat_lt 0 (ahead self.now.flight (advanced_ack_point self.now.flight))) }
+        ensures tsn { IfOk result (λ r. IfSome r
+            (λ c. c.new_cumulative_tsn ≡ advanced_ack_point self.now.flight)) }
+        ensures names { IfOk result (λ r. IfSome r
+            (λ c. Name c.streams.items (named_up_to
+            (advanced_ack_point self.now.flight) self.now.flight))) }
+        ensures idle { nat_lt 0 (ahead self.now.flight (advanced_ack_point self.now.flight))
+            ≡ false → IsOk result }
         ensures memory { IfErr result (λ e. e ≡ OutOfMemory) }
     {
         self.forward_tsn_to(self.advanced_ack_point())
@@ -68,7 +79,8 @@ impl Sender {
     pub fn forward_tsn_to(&self, tsn: u32) -> Result<Option<ChunkForwardTsn>, SenderRefusal>
         ensures some { IfOk result (λ r. is_some r ≡ can_skip_to tsn self.now.flight) }
         ensures tsn { IfOk result (λ r. IfSome r (λ c. c.new_cumulative_tsn ≡ tsn)) }
-        ensures names { IfOk result (λ r. IfSome r (λ c. Name c.streams.items (named_up_to tsn self.now.flight))) }
+        ensures names { IfOk result (λ r. IfSome r
+            (λ c. Name c.streams.items (named_up_to tsn self.now.flight))) }
         ensures idle { can_skip_to tsn self.now.flight ≡ false → IsOk result }
         ensures memory { IfErr result (λ e. e ≡ OutOfMemory) }
     {

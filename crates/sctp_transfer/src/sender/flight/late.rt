@@ -30,10 +30,16 @@ impl InFlight {
     /// was then.
     pub fn expire_late(&mut self, alloc: Global, now: u64) -> Result<Vec<GivenUp>, SenderRefusal>
         ensures ok { OnOk result (self.new ≡ abandoned_each (late_order now self.old) self.old) }
-        ensures answer { IfOk result (λ given_up. given_up.items ≡ leaving_each (late_order now self.old) self.old) }
-        ensures released { IfOk result (λ given_up. total_bytes self.new.queue + sum_by (λ g. g.bytes) given_up.items ≡ total_bytes self.old.queue) }
-        ensures accepted { IsOk result → (with_tail (late_tsns now self.old.queue) self.old ≡ None) ⊎ (may_send self.old ≡ true) }
-        ensures refused { IfErr result (λ e. (e ≡ OutOfMemory) ⊎ ((e ≡ TsnsUsedUp) × (may_send self.old ≡ false) × (is_some (with_tail (late_tsns now self.old.queue) self.old) ≡ true))) }
+        ensures answer { IfOk result (λ given_up. given_up.items
+            ≡ leaving_each (late_order now self.old) self.old) }
+        ensures released { IfOk result (λ given_up. total_bytes self.new.queue
+            + sum_by (λ g. g.bytes) given_up.items ≡ total_bytes self.old.queue) }
+        ensures accepted { IsOk result →
+            (with_tail (late_tsns now self.old.queue) self.old ≡ None)
+            ⊎ (may_send self.old ≡ true) }
+        ensures refused { IfErr result (λ e. (e ≡ OutOfMemory)
+            ⊎ ((e ≡ TsnsUsedUp) × (may_send self.old ≡ false)
+            × (is_some (with_tail (late_tsns now self.old.queue) self.old) ≡ true))) }
         ensures idle { late_tsns now self.old.queue ≡ [] → IsOk result }
         ensures err { OnErr result (self.new ≡ self.old) }
     {
@@ -57,13 +63,22 @@ impl InFlight {
         given_up: &mut Vec<GivenUp>,
     ) -> Result<(), SenderRefusal>
         requires room { vec_len given_up.old < vec_capacity given_up.old }
-        ensures ok { OnOk result (self.new ≡ abandoned_each (listed (with_tail tsns.now self.old)) self.old) }
-        ensures answer { OnOk result (given_up.new.items ≡ given_up.old.items ++ leaving_each (listed (with_tail tsns.now self.old)) self.old) }
-        ensures released { OnOk result (total_bytes self.new.queue + sum_by (λ g. g.bytes) given_up.new.items ≡ total_bytes self.old.queue + sum_by (λ g. g.bytes) given_up.old.items) }
-        ensures no_tail { OnOk result (list_all (λ t. not (has_tail_at self.new t)) tsns.now ≡ true) }
-        ensures room { OnOk result ((length given_up.new.items ≤ length given_up.old.items + 1) × (vec_capacity given_up.old ≤ vec_capacity given_up.new)) }
-        ensures accepted { IsOk result → (with_tail tsns.now self.old ≡ None) ⊎ (may_send self.old ≡ true) }
-        ensures refused { IfErr result (λ e. (e ≡ OutOfMemory) ⊎ ((e ≡ TsnsUsedUp) × (may_send self.old ≡ false) × (is_some (with_tail tsns.now self.old) ≡ true))) }
+        ensures ok { OnOk result (self.new
+            ≡ abandoned_each (listed (with_tail tsns.now self.old)) self.old) }
+        ensures answer { OnOk result (given_up.new.items
+            ≡ given_up.old.items ++ leaving_each (listed (with_tail tsns.now self.old)) self.old) }
+        ensures released { OnOk result (total_bytes self.new.queue
+            + sum_by (λ g. g.bytes) given_up.new.items
+            ≡ total_bytes self.old.queue + sum_by (λ g. g.bytes) given_up.old.items) }
+        ensures no_tail { OnOk result (list_all (λ t. not (has_tail_at self.new t)) tsns.now
+            ≡ true) }
+        ensures room { OnOk result ((length given_up.new.items ≤ length given_up.old.items + 1)
+            × (vec_capacity given_up.old ≤ vec_capacity given_up.new)) }
+        ensures accepted { IsOk result → (with_tail tsns.now self.old ≡ None)
+            ⊎ (may_send self.old ≡ true) }
+        ensures refused { IfErr result (λ e. (e ≡ OutOfMemory)
+            ⊎ ((e ≡ TsnsUsedUp) × (may_send self.old ≡ false)
+            × (is_some (with_tail tsns.now self.old) ≡ true))) }
         ensures err { OnErr result (self.new ≡ self.old) }
     {
         let Some(tsn) = self.first_with_tail(tsns) else {
@@ -107,7 +122,8 @@ impl InFlight {
         requires room { length given_up.old.items + length tsns.now ≤ vec_capacity given_up.old }
         ensures ok { self.new ≡ abandoned_each tsns.now self.old }
         ensures answer { given_up.new.items ≡ given_up.old.items ++ leaving_each tsns.now self.old }
-        ensures released { total_bytes self.new.queue + sum_by (λ g. g.bytes) given_up.new.items ≡ total_bytes self.old.queue + sum_by (λ g. g.bytes) given_up.old.items }
+        ensures released { total_bytes self.new.queue + sum_by (λ g. g.bytes) given_up.new.items
+            ≡ total_bytes self.old.queue + sum_by (λ g. g.bytes) given_up.old.items }
     {
         for tsn in tsns {
             let Ok(one) = self.give_up(*tsn) else {
@@ -122,7 +138,8 @@ impl InFlight {
         requires { has_tail_at self.old tsn ≡ true → may_send self.old ≡ true }
         ensures ok { OnOk result (self.new ≡ abandoned_at tsn self.old) }
         ensures answer { IfOk result (λ one. listed one ≡ leaving_at tsn self.old) }
-        ensures released { IfOk result (λ one. total_bytes self.new.queue + sum_by (λ g. g.bytes) (listed one) ≡ total_bytes self.old.queue) }
+        ensures released { IfOk result (λ one. total_bytes self.new.queue
+            + sum_by (λ g. g.bytes) (listed one) ≡ total_bytes self.old.queue) }
         ensures no_tail { has_tail_at self.old tsn ≡ false → IsOk result }
         ensures memory { IfErr result (λ e. e ≡ OutOfMemory) }
         ensures err { OnErr result (self.new ≡ self.old) }

@@ -42,7 +42,8 @@ impl InFlight {
     ) -> Result<Option<ChunkForwardTsn>, SenderRefusal>
         ensures some { IfOk result (λ r. is_some r ≡ can_skip_to tsn self.now) }
         ensures tsn { IfOk result (λ r. IfSome r (λ c. c.new_cumulative_tsn ≡ tsn)) }
-        ensures names { IfOk result (λ r. IfSome r (λ c. Name c.streams.items (named_up_to tsn self.now))) }
+        ensures names { IfOk result (λ r. IfSome r
+            (λ c. Name c.streams.items (named_up_to tsn self.now))) }
         ensures idle { can_skip_to tsn self.now ≡ false → IsOk result }
         ensures memory { IfErr result (λ e. e ≡ OutOfMemory) }
     {
@@ -61,7 +62,8 @@ impl InFlight {
 
 // The first TSN in flight, from this one on, whose message is not given up.
 fn first_kept(queue: &OutboundQueue, first: u32) -> Option<u32>
-    requires run { tsns queue.now.inflight.chunks ≡ tsns_from first (length queue.now.inflight.chunks) }
+    requires run { tsns queue.now.inflight.chunks
+        ≡ tsns_from first (length queue.now.inflight.chunks) }
     requires few { length queue.now.inflight.chunks < 2 ^ 31 }
     ensures { result ≡ option_map (λ c. c.tsn) (find is_kept queue.now.inflight.chunks) }
 {
@@ -84,10 +86,12 @@ fn pairs_of(
     first: u32,
     count: usize,
 ) -> Result<Vec<ChunkForwardTsnStream>, SenderRefusal>
-    requires run { tsns queue.now.inflight.chunks ≡ tsns_from first (length queue.now.inflight.chunks) }
+    requires run { tsns queue.now.inflight.chunks
+        ≡ tsns_from first (length queue.now.inflight.chunks) }
     requires few { length queue.now.inflight.chunks < 2 ^ 31 }
     requires within { count ≤ length queue.now.inflight.chunks }
-    ensures ok { IfOk result (λ pairs. Name pairs.items (those is_named (take count queue.now.inflight.chunks))) }
+    ensures ok { IfOk result (λ pairs. Name pairs.items
+        (those is_named (take count queue.now.inflight.chunks))) }
     ensures memory { IfErr result (λ e. e ≡ OutOfMemory) }
 {
     let mut pairs = Vec::new(alloc);
@@ -115,7 +119,8 @@ fn name(
     pairs: &mut Vec<ChunkForwardTsnStream>,
     chunk: &ChunkPayloadData,
 ) -> Result<(), SenderRefusal>
-    ensures ok { OnOk result ((cs : List ChunkPayloadData) → Name pairs.old.items cs → Name pairs.new.items (cs ++ chunk.now ∷ [])) }
+    ensures ok { OnOk result ((cs : List ChunkPayloadData) → Name pairs.old.items cs
+        → Name pairs.new.items (cs ++ chunk.now ∷ [])) }
     ensures memory { IfErr result (λ e. e ≡ OutOfMemory) }
 {
     let pair = ChunkForwardTsnStream {
