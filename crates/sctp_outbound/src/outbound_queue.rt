@@ -13,6 +13,7 @@ ghost use Rattle.sctp_serial.specs.DataChunks.{has_tsn, bytes_of};
 ghost use Rattle.sctp_outbound.specs.outbound_queue.OutboundQueue.{is_past, is_expired, is_expired_tail, is_late, released_of, expired_bytes, tail_bytes};
 
 mod message;
+mod waiting;
 
 use self::message::{is_message_or_none, is_room_for};
 use crate::payload_queue::{PayloadQueue, is_outstanding};

@@ -5,6 +5,11 @@ use Rattle.sctp_chunks.specs.declared.chunk.chunk_payload_data.ChunkPayloadData.
 use Rattle.sctp_lists.specs.Serial.{distance, comes_before, at_or_before}
 use Rattle.sctp_transfer.specs.declared.receiver.refusal.ReceiverRefusal.TheVariants.{StreamUnknown, MessageTooLarge}
 use Rattle.sctp_transfer.specs.Receiver.{at_first, opened, data_refusal}
+use Rattle.sctp_outbound.specs.Marks.{acknowledged, given_up}
+use Rattle.sctp_transfer.specs.Flight as flight
+use Rattle.sctp_transfer.specs.Flight.{Flight}
+use Rattle.sctp_transfer.specs.GivingUp.{advanced_ack_point}
+use Rattle.sctp_transfer.specs.Late.{late_order, leaving_each}
 use Rattle.sctp_transfer.specs.TsnFilter.{Filter, with_tsn, skipped_to, gap_ack_blocks, has_come, is_opposite}
 
 -- TSNs 15, 14 and 17 came beyond 12: so RFC 4960 3.3.4 shows its blocks
@@ -86,3 +91,32 @@ too_large = refl
 fits : data_refusal (fragment 7 true true (1 ∷ 2 ∷ [])) (opened 1 (at_first 7 2)) ≡ None
 unfolding distance at_or_before
 fits = refl
+
+-- ## A sender
+
+-- 103 and 104 are given up, 105 is outstanding, and 106 was reported: RFC 3758 3.5 C2 goes to 104
+abbrev in_flight : List ChunkPayloadData → Flight
+in_flight chunks = record (flight.at_first 103) { queue = record (flight.at_first 103).queue { inflight = record { chunks = chunks; duplicates = []; room = 0 } }; next_tsn = 107 }
+
+abbrev given_up_at : ℕ → ChunkPayloadData
+given_up_at tsn = given_up (fragment tsn true true (1 ∷ []))
+
+point : advanced_ack_point (in_flight (given_up_at 103 ∷ given_up_at 104 ∷ fragment 105 true true (1 ∷ []) ∷ acknowledged (fragment 106 true true (1 ∷ [])) ∷ [])) ≡ 104
+point = refl
+
+-- where 105 is given up too, the point stops before what was only reported
+far_point : advanced_ack_point (in_flight (given_up_at 103 ∷ given_up_at 104 ∷ given_up_at 105 ∷ acknowledged (fragment 106 true true (1 ∷ [])) ∷ [])) ≡ 105
+far_point = refl
+
+-- a lapsed chunk is given up with its message, whose two bytes leave
+abbrev lapsed : Flight
+lapsed = in_flight (record (fragment 103 true false (1 ∷ [])) { deadline = Some 5 } ∷ record (fragment 104 false true (2 ∷ [])) { deadline = Some 5 } ∷ [])
+
+order : late_order 5 lapsed ≡ 103 ∷ 104 ∷ []
+order = refl
+
+leaves : leaving_each (late_order 5 lapsed) lapsed ≡ record { stream = 1; number = 0; bytes = 2 } ∷ []
+leaves = refl
+
+early : late_order 4 lapsed ≡ []
+early = refl

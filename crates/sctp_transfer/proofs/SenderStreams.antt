@@ -15,6 +15,7 @@ use Rattle.sctp_outbound.specs.pending_queue.Whole.{IsMessage, IsMessageOrNone}
 use Rattle.sctp_reassembly.specs.reassembly_queue.Fragments.{payload_of}
 use Rattle.sctp_serial.specs.DataChunks.{bytes_of}
 use Rattle.sctp_transfer.specs.declared.stream.StreamState.{StreamState}
+use Rattle.sctp_transfer.specs.declared.sender.refusal.SenderRefusal.{SenderRefusal}
 use Rattle.sctp_transfer.specs.declared.sender.refusal.SenderRefusal.TheVariants.{StreamUnknown, MessageTooLarge, QueueFull}
 use Rattle.sctp_transfer.specs.Sender.{Transmission, is_open, is_full, write_refusal}
 use Rattle.sctp_transfer.specs.Numbers.{IsOnlyPlace, IsAbsent}
@@ -113,3 +114,7 @@ bytes-are reliability value (c ∷ cs) =
     let b = bytes-are reliability value cs in
     let d = length-append c.user_data (payload_of cs) in
     omega arith
+
+-- what is refused is not accepted
+pub refused-not : (s len : ℕ) (t : Transmission) (e : SenderRefusal) → write_refusal s len t ≡ Some e → len ≡ 0 → write_refusal s 0 t ≡ None → false ≡ true
+refused-not s len t e is zero' none = let same : write_refusal s len t ≡ write_refusal s 0 t = ap (λ n. write_refusal s n t) zero' in absurd (cc)

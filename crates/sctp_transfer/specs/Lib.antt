@@ -11,3 +11,6 @@ pub mod ReceiverRuns
 pub mod Flight
 pub mod Outgoing
 pub mod Sender
+pub mod GivingUp
+pub mod Late
+pub mod Totals

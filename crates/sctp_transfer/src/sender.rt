@@ -3,11 +3,14 @@
 ghost use Rattle.std.specs.Prelude.{◌≡◌, ◌==◌, ◌<◌, ◌≤◌, ◌⊎◌, ℕ, Bool, true, false, not, None, Some, OnOk, OnErr, IfOk, IfErr, IfSome, IsOk, IsOkUnless, ◌+◌, option_map, option_copied, is_some, map, find, length, if◌then◌else◌};
 ghost use Rattle.sctp_transfer.specs.Outgoing.{released};
 ghost use Rattle.sctp_transfer.specs.Sender.{is_full_of};
+ghost use Rattle.sctp_outbound.specs.outbound_queue.OutboundQueue.{has_tail, to_abandon};
 ghost use Rattle.sctp_transfer.specs.declared.sender.refusal.SenderRefusal.TheVariants.{StreamOpen, StreamUnknown, TsnsUsedUp, NotInFlight, OutOfMemory};
 
 pub mod flight;
+mod giving_up;
 mod outbound_streams;
 pub mod refusal;
+pub mod total;
 
 use self::flight::{InFlight, Released};
 use self::outbound_streams::OutboundStreams;
@@ -48,11 +51,13 @@ impl Model for Sender {
 
 impl Sender {
     ghost use Rattle.sctp_chunks.specs.SelectiveAck.{sack_of};
-    ghost use Rattle.sctp_outbound.specs.outbound_queue.OutboundQueue.{all_started, sent_next, to_abandon, expiring, expiring_tail, message_of, total_bytes};
+    ghost use Rattle.sctp_outbound.specs.outbound_queue.OutboundQueue.{all_started, sent_next, expiring, expiring_tail, message_of, tail_bytes, total_bytes, after_sends};
     ghost use Rattle.sctp_transfer.specs.declared.stream.StreamState.{StreamState};
     ghost use Rattle.sctp_outbound.specs.pending_queue.PendingQueue.{peeked};
     ghost use Rattle.sctp_serial.specs.DataChunks.{has_tsn};
-    ghost use Rattle.sctp_transfer.specs.Flight.{with_queue, may_send, next_after_send, can_resend, resent, sack_refusal, released_by};
+    ghost use Rattle.sctp_serial.specs.Window.{is_held};
+    ghost use Rattle.sctp_transfer.specs.Flight.{with_queue, with_room, may_send, next_after_send, can_resend, resent, is_outdated, sack_refusal, released_by};
+    ghost use Rattle.sctp_transfer.specs.GivingUp.{abandon_refusal};
     ghost use Rattle.sctp_transfer.specs.Outgoing.{fragments_with_mode};
     ghost use Rattle.sctp_transfer.specs.Sender.{with_nothing, with_tsn, stream_of, is_open, opened, with_mode_on, with_flight, write_refusal, written_to, after_acked, after_abandon, after_expire};
 
@@ -132,6 +137,10 @@ impl Sender {
         ensures ok { 0 < length bytes.now → OnOk result ((l : StreamState) → stream_of stream self.old ≡ Some l → self.new ≡ written_to l stream ppi bytes.now self.old) }
         ensures number { IfOk result (λ r. r.0 ≡ (if length bytes.now == 0 then None else Some self.old.flight.queue.next_message_id)) }
         ensures count { IfOk result (λ r. (l : StreamState) → stream_of stream self.old ≡ Some l → 0 < length bytes.now → r.1 ≡ length (fragments_with_mode l ppi bytes.now)) }
+        ensures none { length bytes.now ≡ 0 → IfOk result (λ r. r.1 ≡ 0) }
+        ensures bytes { OnOk result (total_bytes self.new.flight.queue
+            ≡ total_bytes self.old.flight.queue + length bytes.now) }
+        ensures idle { length bytes.now ≡ 0 → write_refusal stream 0 self.old ≡ None → IsOk result }
         ensures accepted { IsOk result → write_refusal stream (length bytes.now) self.old ≡ None }
         ensures refused { IfErr result (λ e. ((e ≡ OutOfMemory) × (write_refusal stream (length bytes.now) self.old ≡ None)) ⊎ (write_refusal stream (length bytes.now) self.old ≡ Some e)) }
         ensures err { OnErr result (self.new ≡ self.old) }
@@ -165,10 +174,15 @@ impl Sender {
     pub fn send_next(&mut self, now: u64) -> Result<Option<ChunkPayloadData>, SenderRefusal>
         ensures answer { IfOk result (λ sent. sent ≡ option_map (with_tsn self.old.flight.next_tsn) (peeked self.old.flight.queue.pending)) }
         ensures ok { OnOk result (self.new ≡ with_flight (record self.old.flight { queue = sent_next self.old.flight.queue self.old.flight.next_tsn now; next_tsn = next_after_send self.old.flight }) self.old) }
+        ensures bytes { OnOk result (total_bytes self.new.flight.queue
+            ≡ total_bytes self.old.flight.queue) }
+        ensures accepted { IsOk result → (peeked self.old.flight.queue.pending ≡ None)
+            ⊎ (may_send self.old.flight ≡ true) }
         ensures refused { IfErr result (λ e. e ≡ (if may_send self.old.flight then OutOfMemory else TsnsUsedUp)) }
         ensures idle { peeked self.old.flight.queue.pending ≡ None → IsOk result }
         ensures err { OnErr result (self.new ≡ self.old) }
     {
+        self.flight.queue().are_whole();
         let Some(waiting) = self.flight.queue().peek_pending() else {
             self.flight.start(now);
             return Ok(None);
@@ -182,20 +196,74 @@ impl Sender {
         Ok(Some(chunk))
     }
 
+    /// From here on so many calls of `send_next_tsn` take no memory. Refuses only for memory, and the sender is as it was then.
+    pub fn reserve(&mut self, sends: usize) -> Result<(), SenderRefusal>
+        ensures ok { OnOk result (self.new
+            ≡ with_flight (with_queue self.old.flight
+            (with_room sends self.old.flight.queue)) self.old) }
+        ensures memory { IfErr result (λ e. e ≡ OutOfMemory) }
+        ensures succeeds { sends ≤ self.old.flight.queue.inflight.room → IsOk result }
+        ensures err { OnErr result (self.new ≡ self.old) }
+    {
+        self.flight.reserve_inflight(sends)
+    }
+
+    /// As `send_next`, but answers the TSN alone: `outbound().get` lends the chunk. So within the room of `reserve` it takes
+    /// no memory; `send_next` takes what a copy of the chunk wants.
+    pub fn send_next_tsn(&mut self, now: u64) -> Result<Option<u32>, SenderRefusal>
+        ensures answer { IfOk result (λ sent. sent
+            ≡ option_map (λ _. self.old.flight.next_tsn) (peeked self.old.flight.queue.pending)) }
+        ensures ok { OnOk result (self.new ≡ with_flight (record self.old.flight { queue = sent_next self.old.flight.queue self.old.flight.next_tsn now; next_tsn = next_after_send self.old.flight }) self.old) }
+        ensures bytes { OnOk result (total_bytes self.new.flight.queue
+            ≡ total_bytes self.old.flight.queue) }
+        ensures accepted { IsOk result → (peeked self.old.flight.queue.pending ≡ None)
+            ⊎ (may_send self.old.flight ≡ true) }
+        ensures refused { IfErr result (λ e. e ≡ (if may_send self.old.flight then OutOfMemory else TsnsUsedUp)) }
+        ensures succeeds { 0 < self.old.flight.queue.inflight.room
+            → may_send self.old.flight ≡ true → IsOk result }
+        ensures idle { peeked self.old.flight.queue.pending ≡ None → IsOk result }
+        ensures err { OnErr result (self.new ≡ self.old) }
+    {
+        self.flight.queue().are_whole();
+        let Some(_) = self.flight.queue().peek_pending() else {
+            self.flight.start(now);
+            return Ok(None);
+        };
+        if !self.flight.may_send() {
+            return Err(SenderRefusal::TsnsUsedUp);
+        }
+        let sent = self.flight.send_next(now)?;
+        Ok(sent)
+    }
+
+    /// The fragment that is next after so many sends, as the queue's `peek_pending_at` lends it: a datagram of several chunks
+    /// is filled by what these are long.
+    pub fn peek_pending_at(&self, sends: usize) -> Option<&ChunkPayloadData>
+        ensures { option_copied result ≡ peeked (after_sends sends self.now.flight.queue.pending) }
+    {
+        self.flight.queue().peek_pending_at(sends)
+    }
+
     /// Gives up the message of a chunk in flight (RFC 3758 3.5), and answers its stream and the bytes that left. Refuses with
-    /// `TsnsUsedUp`, where 2^31 - 1 chunks are in flight, with `NotInFlight`, where the TSN is not; and for memory.
-    /// The sender is as it was then.
+    /// `NotInFlight`, where the TSN is not in flight; and, only where some of the message still waits, so that an end mark has
+    /// to go in flight, with `TsnsUsedUp`, where 2^31 - 1 chunks are in flight, and for memory. The sender is as it was then.
     pub fn abandon(&mut self, tsn: u32) -> Result<(u16, usize), SenderRefusal>
         ensures ok { IfOk result (λ r. self.new ≡ after_abandon (to_abandon (find (has_tsn tsn) self.old.flight.queue.inflight.chunks)) r.0 r.1 self.old) }
         ensures stream { IfOk result (λ r. Some r.0 ≡ option_map (λ c. c.stream_identifier) (find (has_tsn tsn) self.old.flight.queue.inflight.chunks)) }
         ensures released { IfOk result (λ r. total_bytes self.new.flight.queue + r.1 ≡ total_bytes self.old.flight.queue) }
-        ensures refused { IfErr result (λ e. (e ≡ OutOfMemory) ⊎ ((e ≡ TsnsUsedUp) × (may_send self.old.flight ≡ false)) ⊎ ((e ≡ NotInFlight) × (find (has_tsn tsn) self.old.flight.queue.inflight.chunks ≡ None))) }
+        ensures accepted { IsOk result → abandon_refusal tsn self.old.flight ≡ None }
+        ensures refused { IfErr result (λ e.
+            ((e ≡ OutOfMemory) × (abandon_refusal tsn self.old.flight ≡ None))
+            ⊎ (abandon_refusal tsn self.old.flight ≡ Some e)) }
+        ensures no_tail { is_held self.old.flight.queue.inflight.chunks tsn ≡ true
+            → has_tail (to_abandon (find (has_tsn tsn) self.old.flight.queue.inflight.chunks)) self.old.flight.queue ≡ false
+            → IsOk result }
         ensures err { OnErr result (self.new ≡ self.old) }
     {
-        if self.flight.queue().get(tsn).is_none() {
+        let Some(chunk) = self.flight.queue().get(tsn) else {
             return Err(SenderRefusal::NotInFlight);
-        }
-        if !self.flight.may_send() {
+        };
+        if has_tail(self.flight.queue(), chunk) && !self.flight.may_send() {
             return Err(SenderRefusal::TsnsUsedUp);
         }
         let Some((stream, bytes)) = self.flight.abandon(tsn)? else {
@@ -219,15 +287,21 @@ impl Sender {
     }
 
     /// Gives up the rest of the half-sent message in front, where it is lapsed, and answers its stream, its number and the bytes
-    /// that left. `now` is in nanoseconds. Refuses with `TsnsUsedUp`, where 2^31 - 1 chunks are in flight, and for memory.
-    /// The sender is as it was then.
+    /// that left. `now` is in nanoseconds. Refuses, only where there is such a message, with `TsnsUsedUp`, where 2^31 - 1 chunks
+    /// are in flight, and for memory. The sender is as it was then.
     pub fn expire_tail(&mut self, now: u64) -> Result<Option<(u16, u64, usize)>, SenderRefusal>
         ensures some { IfOk result (λ r. IfSome r (λ a. self.new ≡ after_abandon (message_of (expiring_tail now self.old.flight.queue)) a.0 a.2 self.old)) }
         ensures answer { IfOk result (λ r. option_map {U = ℕ × ℕ} (λ a. (a.0, a.1)) r ≡ option_map {U = ℕ × ℕ} (λ c. (c.stream_identifier, c.message_id)) (expiring_tail now self.old.flight.queue)) }
+        ensures none { IfOk result (λ r. r ≡ None → self.new ≡ self.old) }
+        ensures released { IfOk result (λ r. total_bytes self.new.flight.queue + tail_bytes r
+            ≡ total_bytes self.old.flight.queue) }
+        ensures accepted { IsOk result → (expiring_tail now self.old.flight.queue ≡ None)
+            ⊎ (may_send self.old.flight ≡ true) }
         ensures refused { IfErr result (λ e. e ≡ (if may_send self.old.flight then OutOfMemory else TsnsUsedUp)) }
+        ensures idle { expiring_tail now self.old.flight.queue ≡ None → IsOk result }
         ensures err { OnErr result (self.new ≡ self.old) }
     {
-        if !self.flight.may_send() {
+        if self.flight.queue().is_tail_expired(now) && !self.flight.may_send() {
             return Err(SenderRefusal::TsnsUsedUp);
         }
         let given_up = self.flight.expire_tail(now)?;
@@ -257,6 +331,7 @@ impl Sender {
         ensures ok { OnOk result (self.new ≡ after_acked (sack_of sack.now) self.old) }
         ensures accepted { IsOk result → sack_refusal (sack_of sack.now) self.old.flight ≡ None }
         ensures refused { IfErr result (λ e. ((e ≡ OutOfMemory) × (sack_refusal (sack_of sack.now) self.old.flight ≡ None)) ⊎ (sack_refusal (sack_of sack.now) self.old.flight ≡ Some e)) }
+        ensures outdated { is_outdated (sack_of sack.now) self.old.flight ≡ true → IsOk result }
         ensures err { OnErr result (self.new ≡ self.old) }
     {
         let released = self.flight.acked(self.alloc, sack)?;
@@ -290,6 +365,13 @@ impl Sender {
             None => None,
         }
     }
+}
+
+// Whether some of the message of a chunk in flight, which is not given up, still waits.
+fn has_tail(queue: &OutboundQueue, chunk: &ChunkPayloadData) -> bool
+    ensures { result ≡ has_tail (to_abandon (Some chunk.now)) queue.now }
+{
+    !chunk.abandoned && queue.waits(chunk.message_id)
 }
 
 // Whether a message of so many bytes can't wait.

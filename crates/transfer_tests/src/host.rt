@@ -58,6 +58,7 @@ impl Host {
         match packet.chunks.pop() {
             Some(ChunkKind::PayloadData(chunk)) => self.receiver.data(&chunk).is_ok(),
             Some(ChunkKind::SelectiveAck(chunk)) => self.sender.acked(&chunk).is_ok(),
+            Some(ChunkKind::ForwardTsn(chunk)) => self.receiver.forward_tsn(&chunk).is_ok(),
             _ => false,
         }
     }
@@ -107,5 +108,13 @@ pub(crate) fn acknowledges(alloc: Global, from: &mut Host, to: &mut Host) -> boo
     match from.receiver.sack(1000) {
         Ok(sack) => arrives(alloc, to, ChunkKind::SelectiveAck(sack)),
         Err(_) => false,
+    }
+}
+
+/// Tells what was given up; whether the FORWARD-TSN is taken.
+pub(crate) fn skips(alloc: Global, from: &mut Host, to: &mut Host) -> bool {
+    match from.sender.forward_tsn() {
+        Ok(Some(chunk)) => arrives(alloc, to, ChunkKind::ForwardTsn(chunk)),
+        _ => false,
     }
 }

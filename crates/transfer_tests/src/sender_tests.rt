@@ -1,8 +1,10 @@
 //! A sender: two hosts against one another, and SACKs that a peer may forge.
 
-use crate::host::{Host, acknowledges, sends, sends_again};
+use crate::host::{Host, acknowledges, sends, sends_again, skips};
 use crate::part::reads;
+use sctp_chunks::chunk::chunk_payload_data::ReliabilityType;
 use sctp_chunks::chunk::chunk_selective_ack::{ChunkSelectiveAck, GapAckBlock};
+use sctp_transfer::sender::flight::late::GivenUp;
 use sctp_transfer::sender::refusal::SenderRefusal;
 use std::alloc::Global;
 use std::test::Fail;
@@ -113,5 +115,52 @@ fn forged_sacks(rt: HostRuntime) -> Result<(), Fail> {
     let mut b = Host::new(alloc, 0, 0).ok_or("refused")?;
     assert!(rt; three_in_flight(alloc, &mut a, &mut b));
     assert!(rt; claims_are_judged(alloc, &mut a));
+    Ok(())
+}
+
+// A message with a lifetime of a millisecond is half sent, and its first fragment lost; one with no lifetime waits behind it.
+fn one_is_half_sent(alloc: Global, a: &mut Host, b: &mut Host) -> bool {
+    let timed = a.sender.set_mode(1, false, ReliabilityType::Timed, 1);
+    let mut well = timed.is_ok() && a.writes(alloc, b"abcdefgh") && sends(alloc, a, b, true);
+    let reliable = a.sender.set_mode(1, false, ReliabilityType::Reliable, 0);
+    well = well && reliable.is_ok() && a.writes(alloc, b"later");
+    well
+}
+
+fn is_given_up(a: &mut Host, now: u64, due: &[GivenUp]) -> bool {
+    match a.sender.expire_late(now) {
+        Ok(given_up) => given_up.as_slice() == due,
+        Err(_) => false,
+    }
+}
+
+// The FORWARD-TSN comes, then what waited, and that is read.
+fn the_other_is_read(alloc: Global, a: &mut Host, b: &mut Host) -> bool {
+    skips(alloc, a, b)
+        && sends(alloc, a, b, false)
+        && sends(alloc, a, b, false)
+        && reads(&mut b.receiver, b"later")
+        && acknowledges(alloc, b, a)
+}
+
+/// The lifetime of a half-sent message ends: it is given up with its tail, the peer is told, and the message behind it is read.
+#[test]
+fn lifetime_ends_in_flight(rt: HostRuntime) -> Result<(), Fail> {
+    let alloc = rt.alloc();
+    let mut a = Host::new(alloc, u32::MAX, 7).ok_or("refused")?;
+    let mut b = Host::new(alloc, 7, u32::MAX).ok_or("refused")?;
+    let due = [GivenUp {
+        stream: 1,
+        number: 0,
+        bytes: 8,
+    }];
+    assert!(rt; one_is_half_sent(alloc, &mut a, &mut b));
+    assert!(rt; is_given_up(&mut a, 999_999, &[]));
+    assert!(rt; is_given_up(&mut a, 1_000_000, &due));
+    assert_eq!(rt; a.sender.buffered_amount(1), Some(5));
+    assert_eq!(rt; a.sender.advanced_ack_point(), 0);
+    assert!(rt; the_other_is_read(alloc, &mut a, &mut b));
+    assert!(rt; is_done(&a));
+    assert!(rt; !skips(alloc, &mut a, &mut b));
     Ok(())
 }

@@ -13,6 +13,9 @@ ghost use Rattle.sctp_chunks.specs.declared.chunk.chunk_payload_data.ChunkPayloa
 ghost use Rattle.sctp_transfer.specs.declared.sender.refusal.SenderRefusal.TheVariants.{NotInFlight, OutOfMemory};
 ghost use Rattle.sctp_serial.specs.DataChunks.{bytes_of, has_tsn};
 
+pub mod late;
+mod skipping;
+
 use crate::sender::refusal::SenderRefusal;
 use crate::stream_numbers::put;
 use sctp_base::util::{sna32lt, sna32lte};

@@ -1,7 +1,10 @@
-use Rattle.std.proofs.Common.{◌≡◌, ◌<◌, ◌≤◌, ap, sym, ◌∙◌, true, false, subst, inr, None, rules, arith, length}
+use Rattle.std.proofs.Common.{◌≡◌, ◌+◌, ◌<◌, ◌≤◌, ap, sym, ◌∙◌, true, false, subst, inr, None, rules, arith, length}
 use Rattle.sctp_outbound.specs.pending_queue.Whole.{IsMessageOrNone}
+use Rattle.sctp_outbound.specs.outbound_queue.OutboundQueue.{total_bytes}
+use Rattle.sctp_transfer.specs.Flight.{Flight}
+use Rattle.sctp_transfer.proofs.Amounts.{message-bytes}
 use Rattle.sctp_transfer.specs.Sender.{Transmission, is_open, is_full, is_full_of, write_refusal}
-use Rattle.sctp_transfer.proofs.SenderStreams.{closed, open-at, found-at, unknown, too-large, full, fine, one-message}
+use Rattle.sctp_transfer.proofs.SenderStreams.{closed, open-at, found-at, unknown, too-large, full, fine, one-message, refused-not}
 use Rattle.sctp_transfer.proofs.sender.Sender.write.Goals as goal
 
 pub returns-in_default-clause-refused : goal.returns-in_default-clause-refused
@@ -64,3 +67,33 @@ returns-clause-accepted c =
     let room : is_full (length c.args.bytes.now) t ≡ false = ap (λ n. is_full_of n t.flight.queue) (sym c.len-len.ensures.value) ∙ ap (is_full_of c.len-len.result) (sym c.queue.ensures) ∙ sym c.is_full.ensures ∙ c.if-is_full.false in
     let none : write_refusal c.args.stream (length c.args.bytes.now) c.args.self.now ≡ None = rw (← c.self.view_is) (fine c.args.stream (length c.args.bytes.now) t open' le room) in
     λ _. none
+
+pub returns-in_default-clause-idle : goal.returns-in_default-clause-idle
+returns-in_default-clause-idle c = λ len none.
+    let t : Transmission = record { streams = c.self.inside.streams; flight = c.self.inside.flight; fragment_size = c.self.inside.fragment_size; max_message_size = c.self.inside.max_message_size } in
+    let here : write_refusal c.args.stream 0 t ≡ None = rw (← c.self.view_is) at none in
+    refused-not c.args.stream (length c.args.bytes.now) t _ (unknown c.args.stream (length c.args.bytes.now) t (closed c.self.inside.streams c.args.stream c.in_default.ensures)) len here
+
+pub returns-then-len-self-clause-idle : goal.returns-then-len-self-clause-idle
+returns-then-len-self-clause-idle c = λ len none. absurd (omega (arith, c.if-len-self.true, c.len-len.ensures.value, len))
+
+pub returns-then-is_full-clause-idle : goal.returns-then-is_full-clause-idle
+returns-then-is_full-clause-idle c = λ len none.
+    let t : Transmission = record { streams = c.self.inside.streams; flight = c.self.inside.flight; fragment_size = c.self.inside.fragment_size; max_message_size = c.self.inside.max_message_size } in
+    let open' : is_open c.args.stream t ≡ true = open-at c.self.inside.streams c.args.stream c.in-Some.place c.in-Some.ensures in
+    let le : length c.args.bytes.now ≤ t.max_message_size = omega (arith, c.if-len-self.false, c.len-len.ensures.value) in
+    let room : is_full (length c.args.bytes.now) t ≡ true = ap (λ n. is_full_of n t.flight.queue) (sym c.len-len.ensures.value) ∙ ap (is_full_of c.len-len.result) (sym c.queue.ensures) ∙ sym c.is_full.ensures ∙ c.if-is_full.true in
+    let here : write_refusal c.args.stream 0 t ≡ None = rw (← c.self.view_is) at none in
+    refused-not c.args.stream (length c.args.bytes.now) t _ (full c.args.stream (length c.args.bytes.now) t open' le room) len here
+
+pub returns-in_err-chunks-clause-idle : goal.returns-in_err-chunks-clause-idle
+returns-in_err-chunks-clause-idle c = λ len none. absurd (omega (arith, c.if-len-eq0.false, c.len-len.ensures.value, len))
+
+pub returns-in_err-push-clause-idle : goal.returns-in_err-push-clause-idle
+returns-in_err-push-clause-idle c = λ len none. absurd (omega (arith, c.if-len-eq0.false, c.len-len.ensures.value, len))
+
+pub returns-clause-bytes : goal.returns-clause-bytes
+returns-clause-bytes c =
+    let f = c.self.inside.flight in
+    rw (← c.self.view_is)
+    (ap (λ (g : Flight). total_bytes g.queue) c.in_ok-push.ensures.ok ∙ message-bytes c.in_ok-chunks.chunks.items f.queue ∙ ap (λ n. total_bytes f.queue + n) c.in_ok-chunks.ensures.length)

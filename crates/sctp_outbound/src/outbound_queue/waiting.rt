@@ -1,0 +1,34 @@
+//! Which messages wait.
+
+ghost use Rattle.std.specs.Prelude.{◌≡◌, is_some};
+ghost use Rattle.sctp_outbound.specs.outbound_queue.OutboundQueue.{expiring_tail};
+ghost use Rattle.sctp_outbound.specs.pending_queue.Whole.{IsSendable, waits};
+
+use super::{OutboundQueue, is_expired_tail};
+
+impl OutboundQueue {
+    /// Whether a fragment of the message with this number waits.
+    pub fn waits(&self, message_id: u64) -> bool
+        ensures { result ≡ waits message_id self.now.pending }
+    {
+        self.pending.contains_message(message_id)
+    }
+
+    /// Whether the message in front is half sent and lapsed, so that `expire_pending_tail` gives up its rest. `now` is in nanoseconds.
+    pub fn is_tail_expired(&self, now: u64) -> bool
+        ensures { result ≡ is_some (expiring_tail now self.now) }
+    {
+        match self.pending.peek() {
+            Some(chunk) => is_expired_tail(chunk, now),
+            None => false,
+        }
+    }
+
+    /// Does nothing: its clause holds of every queue. Each message waits whole, but for the half-sent one, which is in front;
+    /// and of what is in flight only that one waits too.
+    pub fn are_whole(&self)
+        ensures { IsSendable self.now.pending self.now.inflight.chunks self.now.next_message_id }
+    {
+        let _pending = &self.pending;
+    }
+}

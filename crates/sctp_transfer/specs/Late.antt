@@ -1,0 +1,67 @@
+-- Messages in flight whose lifetime is over (RFC 3758 3.5, RFC 7496 4.1).
+use Rattle.std.specs.Prelude.{ℕ, ◌-◌, Bool, if◌then◌else◌, List, [], ◌∷◌, ◌++◌, map, Option, Some, None}
+use Rattle.std.specs.List.{find}
+use Rattle.sctp_chunks.specs.declared.chunk.chunk_payload_data.ChunkPayloadData.{ChunkPayloadData}
+use Rattle.sctp_outbound.specs.outbound_queue.OutboundQueue.{abandoned_of, has_tail, late_tsns, to_abandon, total_bytes, tsn_after_of}
+use Rattle.sctp_serial.specs.DataChunks.{has_tsn}
+use Rattle.sctp_transfer.specs.declared.sender.flight.late.GivenUp.{GivenUp}
+use Rattle.sctp_transfer.specs.declared.sender.flight.Released.{Released}
+use Rattle.sctp_transfer.specs.Flight.{Flight}
+use Rattle.sctp_transfer.specs.Outgoing.{released}
+use Rattle.sctp_transfer.specs.Sender.{Transmission}
+
+-- the message of a TSN in flight that is to be given up: none where it was before
+abbrev pub message_at : ℕ → Flight → Option ℕ
+message_at tsn f = to_abandon (find (has_tsn tsn) f.queue.inflight.chunks)
+
+-- it is given up, as `abandon` does
+abbrev pub abandoned_at : ℕ → Flight → Flight
+abandoned_at tsn f = record f { queue = abandoned_of (message_at tsn f) f.next_tsn f.queue; next_tsn = tsn_after_of (message_at tsn f) f.next_tsn f.queue }
+
+-- and those of these TSNs, one after another
+abbrev pub abandoned_each : List ℕ → Flight → Flight
+abandoned_each [] f = f
+abandoned_each (tsn ∷ tsns) f = abandoned_each tsns (abandoned_at tsn f)
+
+-- what is told of a message that is given up with its chunk, and of none that was given up before
+abbrev pub given_up_with : Option ChunkPayloadData → ℕ → List GivenUp
+given_up_with None bytes = []
+given_up_with (Some c) bytes = if c.abandoned then [] else record { stream = c.stream_identifier; number = c.message_id; bytes = bytes } ∷ []
+
+-- the message of a TSN, with the bytes that leave with it
+abbrev pub leaving_at : ℕ → Flight → List GivenUp
+leaving_at tsn f = given_up_with (find (has_tsn tsn) f.queue.inflight.chunks) (total_bytes f.queue - total_bytes (abandoned_at tsn f).queue)
+
+abbrev pub leaving_each : List ℕ → Flight → List GivenUp
+leaving_each [] f = []
+leaving_each (tsn ∷ tsns) f = leaving_at tsn f ++ leaving_each tsns (abandoned_at tsn f)
+
+-- ## The order
+
+-- some of the message still waits: it needs an end mark
+abbrev pub has_tail_at : Flight → ℕ → Bool
+has_tail_at f tsn = has_tail (message_at tsn f) f.queue
+
+abbrev pub listed : {A : Type 0} → Option A → List A
+listed None = []
+listed (Some x) = x ∷ []
+
+-- the first of these TSNs whose message has a tail
+abbrev pub with_tail : List ℕ → Flight → Option ℕ
+with_tail tsns f = find (has_tail_at f) tsns
+
+-- the TSNs of what is late, and before them that of the message with a tail, whose end mark alone may be refused
+abbrev pub late_order : ℕ → Flight → List ℕ
+late_order now f = listed (with_tail (late_tsns now f.queue) f) ++ late_tsns now f.queue
+
+-- ## The streams
+
+abbrev pub part_of : GivenUp → Released
+part_of g = record { stream = g.stream; bytes = g.bytes }
+
+-- what is late is given up, and each stream has so much less
+abbrev pub after_late : ℕ → Transmission → Transmission
+after_late now t = record t {
+  streams = released (map part_of (leaving_each (late_order now t.flight) t.flight)) t.streams;
+  flight = abandoned_each (late_order now t.flight) t.flight;
+}
