@@ -37,5 +37,5 @@ pub table_at : (k b : ℕ) → k < 8 → b < 256
     → get_or (get_or TABLES k []) b 0 ≡ zero_bytes (suc k) b
 table_at k b hk hb =
     ap (λ rows. get_or (get_or rows k []) b 0) tables_are
-    ∙ ap (λ it. get_or it b 0) (get_or-map-range_with_len row 0 8 k k [] hk (omega arith))
+    ∙ ap (λ it. get_or it b 0) (get_or-map-range_with_len row zero 8 k k [] hk (omega arith))
     ∙ row_at k b hb

@@ -17,6 +17,17 @@ pub fn ran(alloc: Global, script: &[u8]) -> Result<(String, Result<u8, RunFault>
     Ok((String::from_str(alloc, printed)?, status))
 }
 
+/// The place of the first of the scripts that does not print what stands beside it, or does not end with status 0.
+pub fn first_unlike(alloc: Global, cases: &[(&str, &str)]) -> Result<Option<usize>, Fail> {
+    for (i, (script, printed)) in cases.iter().enumerate() {
+        let result = ran(alloc, script.as_bytes())?;
+        if result.0.as_str() != *printed || result.1 != Ok(0) {
+            return Ok(Some(i));
+        }
+    }
+    Ok(None)
+}
+
 #[test]
 fn scripts(rt: HostRuntime) -> Result<(), Fail> {
     let alloc = rt.alloc();
@@ -61,7 +72,6 @@ fn scripts(rt: HostRuntime) -> Result<(), Fail> {
 /// Fragments, streams, modes, acknowledgement.
 #[test]
 fn scripts_of_fragments(rt: HostRuntime) -> Result<(), Fail> {
-    let alloc = rt.alloc();
     let cases = [
         (
             "link 4294967294 3 100\nopen 1\nwrite 1 53 61626364656667\nsend 0\nsend 0\nsend 0\nsend 0\narrive 2\narrive 0\nread 1\narrive 1\nread 1\nread 1\n",
@@ -85,11 +95,7 @@ fn scripts_of_fragments(rt: HostRuntime) -> Result<(), Fail> {
             "opened\nset\nset\nstarted\nwrote 0 1\nsent 0 10 0\nack 1\nrefused L5\nrefused L5\n",
         ),
     ];
-    for (script, printed) in cases {
-        let result = ran(alloc, script.as_bytes())?;
-        assert_eq!(rt; result.0.as_str(), printed);
-        assert_eq!(rt; result.1, Ok(0));
-    }
+    assert_eq!(rt; first_unlike(rt.alloc(), &cases)?, None);
     Ok(())
 }
 
@@ -147,9 +153,18 @@ fn ends_a_script(alloc: Global, line: &str) -> Result<bool, Fail> {
     Ok(printed.as_str() == "opened\nbad line 3\n" && status == Ok(2))
 }
 
+/// The first of the lines at which a script does not end.
+fn first_that_is_read<'a>(alloc: Global, lines: &[&'a str]) -> Result<Option<&'a str>, Fail> {
+    for line in lines {
+        if !ends_a_script(alloc, line)? {
+            return Ok(Some(line));
+        }
+    }
+    Ok(None)
+}
+
 #[test]
 fn numbers_that_cannot_be_read(rt: HostRuntime) -> Result<(), Fail> {
-    let alloc = rt.alloc();
     let lines = [
         "",
         " ",
@@ -169,15 +184,12 @@ fn numbers_that_cannot_be_read(rt: HostRuntime) -> Result<(), Fail> {
         "open 99999999999999999999",
         "open \u{663}",
     ];
-    for line in lines {
-        assert!(rt; ends_a_script(alloc, line)?, "at {line:?}");
-    }
+    assert_eq!(rt; first_that_is_read(rt.alloc(), &lines)?, None);
     Ok(())
 }
 
 #[test]
 fn lines_that_cannot_be_read(rt: HostRuntime) -> Result<(), Fail> {
-    let alloc = rt.alloc();
     let lines = [
         "Open 1",
         "opened",
@@ -213,9 +225,7 @@ fn lines_that_cannot_be_read(rt: HostRuntime) -> Result<(), Fail> {
         "skip 11 0,-",
         "skip 11 0 1",
     ];
-    for line in lines {
-        assert!(rt; ends_a_script(alloc, line)?, "at {line:?}");
-    }
+    assert_eq!(rt; first_that_is_read(rt.alloc(), &lines)?, None);
     Ok(())
 }
 

@@ -43,11 +43,18 @@ i_data_text form old value =
 
 -- ---- a block
 
--- a chunk's name, type, flags (in text by their hex digits) and length, and what it shows
-abbrev pub block_text : Form → Bool → List ℕ → List ℕ → Head → List ℕ → List ℕ
-block_text Text is_first name digits h shown =
+-- a chunk's name, type, flags (by their hex digits) and length, and what it shows, as text
+abbrev pub block_lines : List ℕ → List ℕ → Head → List ℕ → List ℕ
+block_lines name digits h shown =
     codes "    " ++ (name ++ (codes " chunk: type " ++ (decimal h.typ ++ (codes ", flags 0x" ++ (digits ++ (codes ", length " ++ (decimal h.length ++ (codes "\n" ++ shown))))))))
-block_text Json true name digits h shown =
-    codes "{\"type\":" ++ (decimal h.typ ++ (codes ",\"name\":\"" ++ (name ++ (codes "\",\"flags\":" ++ (decimal h.flags ++ (codes ",\"length\":" ++ (decimal h.length ++ (shown ++ codes "}"))))))))
-block_text Json false name digits h shown =
-    codes ",{\"type\":" ++ (decimal h.typ ++ (codes ",\"name\":\"" ++ (name ++ (codes "\",\"flags\":" ++ (decimal h.flags ++ (codes ",\"length\":" ++ (decimal h.length ++ (shown ++ codes "}"))))))))
+
+-- the same as JSON, behind what it begins with
+abbrev pub block_object : List ℕ → List ℕ → Head → List ℕ → List ℕ
+block_object lead name h shown =
+    lead ++ (codes "\"type\":" ++ (decimal h.typ ++ (codes ",\"name\":\"" ++ (name ++ (codes "\",\"flags\":" ++ (decimal h.flags ++ (codes ",\"length\":" ++ (decimal h.length ++ (shown ++ codes "}")))))))))
+
+-- a block; objects stand between commas
+abbrev pub block_text : Form → Bool → List ℕ → List ℕ → Head → List ℕ → List ℕ
+block_text Text is_first name digits h shown = block_lines name digits h shown
+block_text Json true name digits h shown = block_object (codes "{") name h shown
+block_text Json false name digits h shown = block_object (codes ",{") name h shown

@@ -8,23 +8,24 @@ use Rattle.sctp_show.specs.declared.page.Form.TheVariants.{Text, Json}
 abbrev pub plain : ℕ → ℕ
 plain byte = if ltb byte 32 || ltb 126 byte || byte == 34 || byte == 92 then 63 else byte
 
+-- a fact whose value stands as it is, behind what JSON begins it with
+unfoldable pub led_text : Form → List ℕ → List ℕ → List ℕ → List ℕ → List ℕ
+led_text Text lead label key value = codes "        " ++ (label ++ (codes ": " ++ (value ++ codes "\n")))
+led_text Json lead label key value = lead ++ (key ++ (codes "\":" ++ value))
+
 unfoldable pub number_text : Form → List ℕ → List ℕ → ℕ → List ℕ
-number_text Text label key value = codes "        " ++ (label ++ (codes ": " ++ (decimal value ++ codes "\n")))
-number_text Json label key value = codes ",\"" ++ (key ++ (codes "\":" ++ decimal value))
+number_text form label key value = led_text form (codes ",\"") label key (decimal value)
 
 -- the first fact of a row, which is a number; in JSON the row is an object, and rows stand between commas
 unfoldable pub row_text : Form → Bool → List ℕ → List ℕ → ℕ → List ℕ
-row_text Text is_first label key value = codes "        " ++ (label ++ (codes ": " ++ (decimal value ++ codes "\n")))
-row_text Json true label key value = codes "{\"" ++ (key ++ (codes "\":" ++ decimal value))
-row_text Json false label key value = codes ",{\"" ++ (key ++ (codes "\":" ++ decimal value))
+row_text form is_first label key value = led_text form (if is_first then codes "{\"" else codes ",{\"") label key (decimal value)
 
 abbrev pub truth_word : Bool → List ℕ
 truth_word true = codes "true"
 truth_word false = codes "false"
 
 unfoldable pub truth_text : Form → List ℕ → List ℕ → Bool → List ℕ
-truth_text Text label key value = codes "        " ++ (label ++ (codes ": " ++ (truth_word value ++ codes "\n")))
-truth_text Json label key value = codes ",\"" ++ (key ++ (codes "\":" ++ truth_word value))
+truth_text form label key value = led_text form (codes ",\"") label key (truth_word value)
 
 unfoldable pub bytes_text : Form → List ℕ → List ℕ → List ℕ → List ℕ
 bytes_text Text label key bytes = codes "        " ++ (label ++ (codes " (" ++ (decimal (length bytes) ++ (codes " bytes): " ++ (encode_lower bytes ++ codes "\n")))))

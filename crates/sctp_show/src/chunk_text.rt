@@ -3,22 +3,23 @@
 ghost use Rattle.std.specs.Prelude.{◌≡◌, ◌≤◌, ◌+◌, ◌++◌, length, slice_index, OnOk};
 ghost use Rattle.std.specs.String.{string_bytes};
 ghost use Rattle.sctp_base.specs.Field;
-ghost use Rattle.sctp_show.specs.ChunkText.{data_text, init_text, i_data_text, block_text};
+ghost use Rattle.sctp_show.specs.ChunkText.{data_text, init_text, i_data_text, block_lines, block_object, block_text};
 
-use crate::page::{Form, Page};
+use crate::page::{Form, Page, put_all};
 use bytes::Bytes;
+use itoa::Buffer;
+use sctp_base::error::Error;
 use sctp_base::field::{read_u16, read_u32};
 use sctp_chunks::chunk::chunk_forward_tsn::ChunkForwardTsn;
 use sctp_chunks::chunk::chunk_i_forward_tsn::ChunkIForwardTsn;
 use sctp_chunks::chunk::chunk_kind::ChunkKind;
 use sctp_chunks::chunk::chunk_payload_data::ChunkPayloadData;
-use sctp_chunks::chunk::chunk_selective_ack::ChunkSelectiveAck;
-use sctp_chunks::chunk::error_cause::ErrorCause;
-use sctp_dissect::causes::dissect_causes;
+use sctp_chunks::chunk::chunk_selective_ack::{ChunkSelectiveAck, GapAckBlock};
+use sctp_chunks::chunk::error_cause::{ErrorCause, ErrorCauseCode};
+use sctp_dissect::causes::{CauseItem, dissect_causes};
 use sctp_dissect::dissection::{Item, RawChunk, Reading};
 use sctp_dissect::params::{ParamItem, ParamReading, dissect_params};
 use std::alloc::{AllocError, Global};
-use std::fmt;
 
 /// The type of I-DATA (RFC 8260 2.1).
 const I_DATA: u8 = 64;
@@ -27,33 +28,43 @@ const I_DATA: u8 = 64;
 #[derive(Clone, Copy)]
 pub struct ChunkName(pub u8);
 
-impl fmt::Display for ChunkName {
-    fn fmt<W: fmt::Write>(&self, f: &mut fmt::Formatter<W>) -> fmt::Result {
-        match self.0 {
-            0 => f.write_str("DATA"),
-            1 => f.write_str("INIT"),
-            2 => f.write_str("INIT-ACK"),
-            3 => f.write_str("SACK"),
-            4 => f.write_str("HEARTBEAT"),
-            5 => f.write_str("HEARTBEAT-ACK"),
-            6 => f.write_str("ABORT"),
-            7 => f.write_str("SHUTDOWN"),
-            8 => f.write_str("SHUTDOWN-ACK"),
-            9 => f.write_str("ERROR"),
-            10 => f.write_str("COOKIE-ECHO"),
-            11 => f.write_str("COOKIE-ACK"),
-            12 => f.write_str("ECNE"),
-            13 => f.write_str("CWR"),
-            14 => f.write_str("SHUTDOWN-COMPLETE"),
-            15 => f.write_str("AUTH"),
-            64 => f.write_str("I-DATA"),
-            128 => f.write_str("ASCONF-ACK"),
-            130 => f.write_str("RE-CONFIG"),
-            132 => f.write_str("PAD"),
-            192 => f.write_str("FORWARD-TSN"),
-            193 => f.write_str("ASCONF"),
-            194 => f.write_str("I-FORWARD-TSN"),
-            other => write!(f, "type-{other}"),
+impl ChunkName {
+    /// The name, where the type has one.
+    fn known(self) -> Option<&'static str> {
+        let name = match self.0 {
+            0 => "DATA",
+            1 => "INIT",
+            2 => "INIT-ACK",
+            3 => "SACK",
+            4 => "HEARTBEAT",
+            5 => "HEARTBEAT-ACK",
+            6 => "ABORT",
+            7 => "SHUTDOWN",
+            8 => "SHUTDOWN-ACK",
+            9 => "ERROR",
+            10 => "COOKIE-ECHO",
+            11 => "COOKIE-ACK",
+            12 => "ECNE",
+            13 => "CWR",
+            14 => "SHUTDOWN-COMPLETE",
+            15 => "AUTH",
+            64 => "I-DATA",
+            128 => "ASCONF-ACK",
+            130 => "RE-CONFIG",
+            132 => "PAD",
+            192 => "FORWARD-TSN",
+            193 => "ASCONF",
+            194 => "I-FORWARD-TSN",
+            _ => return None,
+        };
+        Some(name)
+    }
+
+    /// Appends the name, or `type-` and the number.
+    pub fn put(self, text: &mut String) -> Result<(), AllocError> {
+        match self.known() {
+            Some(name) => text.push_str(name),
+            None => put_all(text, &["type-", Buffer::new().format(self.0)]),
         }
     }
 }
@@ -83,23 +94,45 @@ fn u32_at(bytes: &[u8], at: usize) -> u32 {
     read_u32(bytes, at)
 }
 
+/// What the line of a packet says of DATA.
+fn put_brief_data(text: &mut String, c: &ChunkPayloadData, ppid: u32) -> Result<(), AllocError> {
+    let (mut tsn, mut stream) = (Buffer::new(), Buffer::new());
+    put_all(
+        text,
+        &[
+            "(tsn ",
+            tsn.format(c.tsn),
+            " stream ",
+            stream.format(c.stream_identifier),
+        ],
+    )?;
+    let (mut ssn, mut number) = (Buffer::new(), Buffer::new());
+    put_all(
+        text,
+        &[
+            " ssn ",
+            ssn.format(c.stream_sequence_number),
+            " ppid ",
+            number.format(ppid),
+            ")",
+        ],
+    )
+}
+
 /// What the line of a packet says of a chunk.
 pub fn put_brief(text: &mut String, item: &Item) -> Result<(), AllocError> {
-    let name = ChunkName(type_of(item));
+    text.push_str(" ")?;
+    ChunkName(type_of(item)).put(text)?;
     match &item.reading {
         Reading::Strict(ChunkKind::PayloadData(c)) => {
-            let ppid = u32_at(item.bytes.as_slice(), 12);
-            let (tsn, stream, ssn) = (c.tsn, c.stream_identifier, c.stream_sequence_number);
-            write!(
-                text,
-                " {name}(tsn {tsn} stream {stream} ssn {ssn} ppid {ppid})"
-            )
+            put_brief_data(text, c, u32_at(item.bytes.as_slice(), 12))
         }
         Reading::Strict(ChunkKind::SelectiveAck(c)) => {
-            write!(text, " {name}(tsn {})", c.cumulative_tsn_ack)
+            let mut tsn = Buffer::new();
+            put_all(text, &["(tsn ", tsn.format(c.cumulative_tsn_ack), ")"])
         }
-        Reading::Strict(_) => write!(text, " {name}"),
-        Reading::Raw(raw) => write!(text, " {name}[{}]", raw.refusal),
+        Reading::Strict(_) => Ok(()),
+        Reading::Raw(raw) => write!(text, "[{}]", raw.refusal),
     }
 }
 
@@ -175,29 +208,50 @@ fn put_i_data(alloc: Global, page: &mut Page, value: &[u8]) -> Result<(), AllocE
     Ok(())
 }
 
-fn put_sack(page: &mut Page, c: &ChunkSelectiveAck) -> Result<(), AllocError> {
-    page.number("Cumulative TSN ack", "cumulative", c.cumulative_tsn_ack)?;
-    page.number(
-        "Advertised receiver window credit",
-        "credit",
-        c.advertised_receiver_window_credit,
-    )?;
-    page.in_json(",\"gaps\":[")?;
+fn put_gaps(page: &mut Page, blocks: &[GapAckBlock]) -> Result<(), AllocError> {
     let mut is_first = true;
-    for block in &c.gap_ack_blocks {
+    for block in blocks {
         page.row(is_first, "Gap ack block start", "start", block.start as u32)?;
         page.number("Gap ack block end", "end", block.end as u32)?;
         page.in_json("}")?;
         is_first = false;
     }
-    page.in_json("],\"duplicates\":[")?;
+    Ok(())
+}
+
+fn put_duplicates(page: &mut Page, duplicates: &[u32]) -> Result<(), AllocError> {
     let mut is_first = true;
-    for tsn in &c.duplicate_tsn {
+    for tsn in duplicates {
         page.row(is_first, "Duplicate TSN", "tsn", *tsn)?;
         page.in_json("}")?;
         is_first = false;
     }
+    Ok(())
+}
+
+fn put_sack(page: &mut Page, c: &ChunkSelectiveAck) -> Result<(), AllocError> {
+    let credit = c.advertised_receiver_window_credit;
+    page.number("Cumulative TSN ack", "cumulative", c.cumulative_tsn_ack)?;
+    page.number("Advertised receiver window credit", "credit", credit)?;
+    page.in_json(",\"gaps\":[")?;
+    put_gaps(page, &c.gap_ack_blocks)?;
+    page.in_json("],\"duplicates\":[")?;
+    put_duplicates(page, &c.duplicate_tsn)?;
     page.in_json("]")
+}
+
+/// What a parameter is read as, or why it is refused.
+fn put_reading(alloc: Global, page: &mut Page, reading: &ParamReading) -> Result<(), AllocError> {
+    match reading {
+        ParamReading::Strict(param) => {
+            let words = param.to_string(alloc)?;
+            page.words("Parameter", "is", &words)
+        }
+        ParamReading::Raw(param) => {
+            let words = param.refusal.to_string(alloc)?;
+            page.words("Parameter refused", "refused", &words)
+        }
+    }
 }
 
 /// A parameter: its type, what it is read as or why it is refused, and its value.
@@ -209,36 +263,43 @@ fn put_param(
 ) -> Result<(), AllocError> {
     let typ = u16_at(item.bytes.as_slice(), 0) as u32;
     page.row(is_first, "Parameter type", "type", typ)?;
-    match &item.reading {
-        ParamReading::Strict(param) => {
-            let words = format!(in alloc; "{param}")?;
-            page.words("Parameter", "is", &words)?;
-        }
-        ParamReading::Raw(param) => {
-            let words = format!(in alloc; "{}", param.refusal)?;
-            page.words("Parameter refused", "refused", &words)?;
-        }
-    }
+    put_reading(alloc, page, &item.reading)?;
     let length = u16_at(item.bytes.as_slice(), 2) as usize;
     let value = item.bytes.as_slice().get(4..length).unwrap_or(b"");
     page.bytes(alloc, "Parameter value", "value", value)?;
     page.in_json("}")
 }
 
-/// Parameters, read or raw, one behind the other.
-fn put_params(alloc: Global, page: &mut Page, raw: Bytes) -> Result<(), AllocError> {
-    let params = dissect_params(alloc, raw)?;
-    page.in_json(",\"parameters\":[")?;
+fn put_each_param(alloc: Global, page: &mut Page, items: &[ParamItem]) -> Result<(), AllocError> {
     let mut is_first = true;
-    for item in &params.items {
+    for item in items {
         put_param(alloc, page, item, is_first)?;
         is_first = false;
     }
+    Ok(())
+}
+
+/// The end of a list, and the bytes behind it that begin no other item of it.
+fn put_list_end(alloc: Global, page: &mut Page, rest: &[u8]) -> Result<(), AllocError> {
     page.in_json("]")?;
-    if params.rest.is_empty() {
+    if rest.is_empty() {
         return Ok(());
     }
-    page.bytes(alloc, "Left over", "left_over", params.rest.as_slice())
+    page.bytes(alloc, "Left over", "left_over", rest)
+}
+
+/// Parameters, read or raw, one behind the other.
+fn put_params(alloc: Global, page: &mut Page, raw: Bytes) -> Result<(), AllocError> {
+    page.in_json(",\"parameters\":[")?;
+    let params = dissect_params(alloc, raw)?;
+    put_each_param(alloc, page, &params.items)?;
+    put_list_end(alloc, page, params.rest.as_slice())
+}
+
+/// The name of a cause.
+fn put_name(alloc: Global, page: &mut Page, code: &ErrorCauseCode) -> Result<(), AllocError> {
+    let words = code.to_string(alloc)?;
+    page.words("Cause", "is", &words)
 }
 
 /// A cause: its code, its name and its value.
@@ -249,8 +310,7 @@ fn put_cause(
     is_first: bool,
 ) -> Result<(), AllocError> {
     page.row(is_first, "Cause code", "code", cause.code.0 as u32)?;
-    let words = format!(in alloc; "{}", cause.code)?;
-    page.words("Cause", "is", &words)?;
+    put_name(alloc, page, &cause.code)?;
     page.bytes(alloc, "Cause value", "value", cause.raw.as_slice())?;
     page.in_json("}")
 }
@@ -266,20 +326,21 @@ fn put_causes(alloc: Global, page: &mut Page, causes: &[ErrorCause]) -> Result<(
     page.in_json("]")
 }
 
-/// The causes of an ABORT or ERROR that is refused, by their declared lengths.
-fn put_raw_causes(alloc: Global, page: &mut Page, raw: Bytes) -> Result<(), AllocError> {
-    let causes = dissect_causes(alloc, raw)?;
-    page.in_json(",\"causes\":[")?;
+fn put_each_cause(alloc: Global, page: &mut Page, items: &[CauseItem]) -> Result<(), AllocError> {
     let mut is_first = true;
-    for item in &causes.items {
+    for item in items {
         put_cause(alloc, page, &item.cause, is_first)?;
         is_first = false;
     }
-    page.in_json("]")?;
-    if causes.rest.is_empty() {
-        return Ok(());
-    }
-    page.bytes(alloc, "Left over", "left_over", causes.rest.as_slice())
+    Ok(())
+}
+
+/// The causes of an ABORT or ERROR that is refused, by their declared lengths.
+fn put_raw_causes(alloc: Global, page: &mut Page, raw: Bytes) -> Result<(), AllocError> {
+    page.in_json(",\"causes\":[")?;
+    let causes = dissect_causes(alloc, raw)?;
+    put_each_cause(alloc, page, &causes.items)?;
+    put_list_end(alloc, page, causes.rest.as_slice())
 }
 
 fn put_forward_tsn(page: &mut Page, c: &ChunkForwardTsn) -> Result<(), AllocError> {
@@ -329,8 +390,9 @@ fn put_whole_init(alloc: Global, page: &mut Page, value: Bytes) -> Result<(), Al
     if value.len() < 16 {
         return page.bytes(alloc, "Value", "value", value.as_slice());
     }
+    let params = value.slice(16..value.len())?;
     put_init(page, value.as_slice())?;
-    put_params(alloc, page, value.slice(16..value.len())?)
+    put_params(alloc, page, params)
 }
 
 /// What a chunk says that is read.
@@ -360,10 +422,15 @@ fn put_strict(
     }
 }
 
+/// Why a chunk is refused.
+fn put_refusal(alloc: Global, page: &mut Page, refusal: &Error) -> Result<(), AllocError> {
+    let words = refusal.to_string(alloc)?;
+    page.words("Refused", "refused", &words)
+}
+
 /// What a chunk shows that is refused.
 fn put_raw(alloc: Global, page: &mut Page, raw: &RawChunk) -> Result<(), AllocError> {
-    let words = format!(in alloc; "{}", raw.refusal)?;
-    page.words("Refused", "refused", &words)?;
+    put_refusal(alloc, page, &raw.refusal)?;
     let value = raw.value.as_slice();
     match raw.typ.0 {
         I_DATA if value.len() >= 16 => put_i_data(alloc, page, value),
@@ -392,6 +459,42 @@ pub struct Head {
     pub length: u16,
 }
 
+/// A block as text.
+fn put_lines(
+    text: &mut String,
+    name: &str,
+    digits: &str,
+    head: Head,
+    shown: &str,
+) -> Result<(), AllocError>
+    ensures { OnOk result (string_bytes text.new
+        ≡ string_bytes text.old ++ block_lines name.now digits.now head shown.now) }
+{
+    let (typ, length) = (head.typ, head.length);
+    write!(
+        text,
+        "    {name} chunk: type {typ}, flags 0x{digits}, length {length}\n{shown}"
+    )
+}
+
+/// A block as JSON, behind what it begins with.
+fn put_object(
+    text: &mut String,
+    lead: &str,
+    name: &str,
+    head: Head,
+    shown: &str,
+) -> Result<(), AllocError>
+    ensures { OnOk result (string_bytes text.new
+        ≡ string_bytes text.old ++ block_object lead.now name.now head shown.now) }
+{
+    let (typ, flags, length) = (head.typ, head.flags, head.length);
+    write!(
+        text,
+        "{lead}\"type\":{typ},\"name\":\"{name}\",\"flags\":{flags},\"length\":{length}{shown}}}"
+    )
+}
+
 /// A chunk's name and header, its flags as hex digits in text, and what it shows.
 fn put_framed(
     page: &mut Page,
@@ -404,20 +507,10 @@ fn put_framed(
     ensures { OnOk result (string_bytes page.new.text ≡ string_bytes page.old.text
         ++ block_text page.old.form is_first name.now digits.now head shown.now) }
 {
-    let (typ, flags, length) = (head.typ, head.flags, head.length);
     match (page.form, is_first) {
-        (Form::Text, _) => write!(
-            page.text,
-            "    {name} chunk: type {typ}, flags 0x{digits}, length {length}\n{shown}"
-        ),
-        (Form::Json, true) => write!(
-            page.text,
-            "{{\"type\":{typ},\"name\":\"{name}\",\"flags\":{flags},\"length\":{length}{shown}}}"
-        ),
-        (Form::Json, false) => write!(
-            page.text,
-            ",{{\"type\":{typ},\"name\":\"{name}\",\"flags\":{flags},\"length\":{length}{shown}}}"
-        ),
+        (Form::Text, _) => put_lines(&mut page.text, name, digits, head, shown),
+        (Form::Json, true) => put_object(&mut page.text, "{", name, head, shown),
+        (Form::Json, false) => put_object(&mut page.text, ",{", name, head, shown),
     }
 }
 
@@ -428,7 +521,8 @@ pub fn put_block(
     item: &Item,
     is_first: bool,
 ) -> Result<(), AllocError> {
-    let name = format!(in alloc; "{}", ChunkName(type_of(item)))?;
+    let mut name = String::new(alloc);
+    ChunkName(type_of(item)).put(&mut name)?;
     let head = Head {
         typ: type_of(item),
         flags: item.bytes.as_slice().get(1).copied().unwrap_or(0),

@@ -1,9 +1,10 @@
 //! What is printed of a record, fact by fact, as text or as JSON.
 
-ghost use Rattle.std.specs.Prelude.{◌≡◌, ◌<◌, ◌++◌, map, OnOk};
+ghost use Rattle.std.specs.Prelude.{◌≡◌, ◌<◌, ◌++◌, map, flat_map, OnOk};
 ghost use Rattle.std.specs.String.{string_bytes};
-ghost use Rattle.sctp_show.specs.Page.{plain, number_text, row_text, truth_text, bytes_text, words_text};
+ghost use Rattle.sctp_show.specs.Page.{plain, led_text, number_text, row_text, truth_text, bytes_text, words_text};
 
+use itoa::Buffer;
 use std::alloc::{AllocError, Global};
 
 /// In what form records are printed.
@@ -44,6 +45,17 @@ fn push_plain(text: &mut String, words: &str) -> Result<(), AllocError>
     Ok(())
 }
 
+/// Appends texts, one behind the other.
+pub fn put_all(text: &mut String, parts: &[&str]) -> Result<(), AllocError>
+    ensures { OnOk result (string_bytes text.new
+        ≡ string_bytes text.old ++ flat_map (λ part. part.now) parts.now) }
+{
+    for part in parts {
+        text.push_str(part)?;
+    }
+    Ok(())
+}
+
 impl Page {
     /// Nothing is printed yet.
     pub fn new(alloc: Global, form: Form) -> Self {
@@ -78,6 +90,19 @@ impl Page {
         }
     }
 
+    /// A fact whose value stands as it is, behind what JSON begins it with.
+    #[tactic(auto, unfolding(crate::specs::Page::led_text))]
+    fn led(&mut self, lead: &str, label: &str, key: &str, value: &str) -> Result<(), AllocError>
+        ensures form { self.new.form ≡ self.old.form }
+        ensures text { OnOk result (string_bytes self.new.text
+            ≡ string_bytes self.old.text ++ led_text self.old.form lead.now label.now key.now value.now) }
+    {
+        match self.form {
+            Form::Text => put_all(&mut self.text, &["        ", label, ": ", value, "\n"]),
+            Form::Json => put_all(&mut self.text, &[lead, key, "\":", value]),
+        }
+    }
+
     /// A fact that is a number.
     #[tactic(auto, unfolding(crate::specs::Page::number_text))]
     pub fn number(&mut self, label: &str, key: &str, value: u32) -> Result<(), AllocError>
@@ -85,10 +110,8 @@ impl Page {
         ensures text { OnOk result (string_bytes self.new.text
             ≡ string_bytes self.old.text ++ number_text self.old.form label.now key.now value) }
     {
-        match self.form {
-            Form::Text => write!(self.text, "        {label}: {value}\n"),
-            Form::Json => write!(self.text, ",\"{key}\":{value}"),
-        }
+        let mut buffer = Buffer::new();
+        self.led(",\"", label, key, buffer.format(value))
     }
 
     /// The first fact of a row, a number.
@@ -104,11 +127,9 @@ impl Page {
         ensures text { OnOk result (string_bytes self.new.text
             ≡ string_bytes self.old.text ++ row_text self.old.form is_first label.now key.now value) }
     {
-        match (self.form, is_first) {
-            (Form::Text, _) => write!(self.text, "        {label}: {value}\n"),
-            (Form::Json, true) => write!(self.text, "{{\"{key}\":{value}"),
-            (Form::Json, false) => write!(self.text, ",{{\"{key}\":{value}"),
-        }
+        let mut buffer = Buffer::new();
+        let lead = if is_first { "{\"" } else { ",{\"" };
+        self.led(lead, label, key, buffer.format(value))
     }
 
     /// A fact that is a truth.
@@ -118,10 +139,7 @@ impl Page {
         ensures text { OnOk result (string_bytes self.new.text
             ≡ string_bytes self.old.text ++ truth_text self.old.form label.now key.now value) }
     {
-        match self.form {
-            Form::Text => write!(self.text, "        {label}: {value}\n"),
-            Form::Json => write!(self.text, ",\"{key}\":{value}"),
-        }
+        self.led(",\"", label, key, if value { "true" } else { "false" })
     }
 
     /// A fact that is bytes, as hex text.
@@ -139,10 +157,14 @@ impl Page {
     {
         let digits = hex::encode(alloc, bytes)?;
         let digits = digits.as_str();
-        let count = bytes.len();
+        let mut buffer = Buffer::new();
+        let count = buffer.format(bytes.len());
         match self.form {
-            Form::Text => write!(self.text, "        {label} ({count} bytes): {digits}\n"),
-            Form::Json => write!(self.text, ",\"{key}\":\"{digits}\""),
+            Form::Text => put_all(
+                &mut self.text,
+                &["        ", label, " (", count, " bytes): ", digits, "\n"],
+            ),
+            Form::Json => put_all(&mut self.text, &[",\"", key, "\":\"", digits, "\""]),
         }
     }
 
@@ -154,9 +176,9 @@ impl Page {
             ≡ string_bytes self.old.text ++ words_text self.old.form label.now key.now words.now) }
     {
         match self.form {
-            Form::Text => write!(self.text, "        {label}: {words}\n"),
+            Form::Text => put_all(&mut self.text, &["        ", label, ": ", words, "\n"]),
             Form::Json => {
-                write!(self.text, ",\"{key}\":\"")?;
+                put_all(&mut self.text, &[",\"", key, "\":\""])?;
                 push_plain(&mut self.text, words)?;
                 self.text.push_str("\"")
             }

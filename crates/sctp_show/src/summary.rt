@@ -2,8 +2,9 @@
 
 use crate::checksum::Sum;
 use crate::chunk_text::{ChunkName, type_of};
-use crate::page::Form;
+use crate::page::{Form, put_all};
 use crate::record::Fault;
+use itoa::Buffer;
 use sctp_dissect::dissection::{Dissection, Item, Reading};
 use std::alloc::{AllocError, Global};
 
@@ -54,43 +55,81 @@ impl Summary {
 
     /// The line at the end of a run of so many records.
     pub fn text(&self, alloc: Global, form: Form, records: u64) -> Result<String, AllocError> {
-        let (packets, not_shown) = (self.packets, self.not_shown);
-        let (refused, wrong) = (self.refused, self.wrong_checksums);
         let mut text = String::new(alloc);
         match form {
-            Form::Text => write!(
-                text,
-                "{records} records: {packets} packets, {not_shown} not shown, {refused} refused, {wrong} wrong checksums;"
-            )?,
-            Form::Json => write!(
-                text,
-                "{{\"records\":{records},\"packets\":{packets},\"not_shown\":{not_shown},\"refused\":{refused},\"wrong_checksums\":{wrong},\"chunks\":{{"
-            )?,
-        }
-        self.put_kinds(&mut text, form)?;
-        match form {
-            Form::Text => text.push_str("\n")?,
-            Form::Json => text.push_str("}}\n")?,
+            Form::Text => {
+                self.put_counts(&mut text, records)?;
+                self.put_kinds(&mut text)?;
+            }
+            Form::Json => {
+                self.put_members(&mut text, records)?;
+                self.put_kind_members(&mut text)?;
+            }
         }
         Ok(text)
     }
 
+    /// How many records there were of each kind.
+    fn put_counts(&self, text: &mut String, records: u64) -> Result<(), AllocError> {
+        put_count(text, "", records, " records: ")?;
+        put_count(text, "", self.packets, " packets, ")?;
+        put_count(text, "", self.not_shown, " not shown, ")?;
+        put_count(text, "", self.refused, " refused, ")?;
+        put_count(text, "", self.wrong_checksums, " wrong checksums;")
+    }
+
+    /// The same in JSON.
+    fn put_members(&self, text: &mut String, records: u64) -> Result<(), AllocError> {
+        put_count(text, "{\"records\":", records, "")?;
+        put_count(text, ",\"packets\":", self.packets, "")?;
+        put_count(text, ",\"not_shown\":", self.not_shown, "")?;
+        put_count(text, ",\"refused\":", self.refused, "")?;
+        put_count(
+            text,
+            ",\"wrong_checksums\":",
+            self.wrong_checksums,
+            ",\"chunks\":{",
+        )
+    }
+
+    /// How many chunks of a type there were.
+    fn count_of(&self, typ: u8) -> u64 {
+        self.chunks.get(typ as usize).copied().unwrap_or(0)
+    }
+
     /// How many chunks of each type there were.
-    fn put_kinds(&self, text: &mut String, form: Form) -> Result<(), AllocError> {
-        let mut comma = "";
+    fn put_kinds(&self, text: &mut String) -> Result<(), AllocError> {
         for typ in 0..=255u8 {
-            let count = self.chunks.get(typ as usize).copied().unwrap_or(0);
+            let count = self.count_of(typ);
             if count > 0 {
-                let name = ChunkName(typ);
-                match form {
-                    Form::Text => write!(text, " {name} {count}")?,
-                    Form::Json => write!(text, "{comma}\"{name}\":{count}")?,
-                }
-                comma = ",";
+                text.push_str(" ")?;
+                ChunkName(typ).put(text)?;
+                put_count(text, " ", count, "")?;
             }
         }
-        Ok(())
+        text.push_str("\n")
     }
+
+    /// The same in JSON.
+    fn put_kind_members(&self, text: &mut String) -> Result<(), AllocError> {
+        let mut lead = "\"";
+        for typ in 0..=255u8 {
+            let count = self.count_of(typ);
+            if count > 0 {
+                text.push_str(lead)?;
+                ChunkName(typ).put(text)?;
+                put_count(text, "\":", count, "")?;
+                lead = ",\"";
+            }
+        }
+        text.push_str("}}\n")
+    }
+}
+
+/// Appends a number between two texts.
+fn put_count(text: &mut String, before: &str, count: u64, behind: &str) -> Result<(), AllocError> {
+    let mut buffer = Buffer::new();
+    put_all(text, &[before, buffer.format(count), behind])
 }
 
 fn is_raw(item: &Item) -> bool {

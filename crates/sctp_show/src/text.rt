@@ -7,11 +7,12 @@ ghost use Rattle.sctp_show.specs.Text.{IsText, IsFrameText, numbered_text, refus
 use crate::checksum::Sum;
 use crate::chunk_text::{put_block, put_brief};
 use crate::frame::{Datagram, datagram_in};
-use crate::page::{Form, Page};
+use crate::page::{Form, Page, put_all};
 use crate::record::{Fault, Record, Time};
 use crate::summary::Summary;
 use bytes::Bytes;
-use sctp_dissect::dissection::{Dissection, Header, dissect};
+use itoa::Buffer;
+use sctp_dissect::dissection::{Dissection, Fault as WalkFault, Header, Item, dissect};
 use std::alloc::{AllocError, Global};
 use std::fmt;
 
@@ -34,57 +35,73 @@ impl fmt::Display for Time {
     }
 }
 
-/// When a record was captured, and between which addresses it went.
-fn put_ends(
-    page: &mut Page,
-    time: &Option<Time>,
-    datagram: &Datagram<'_>,
-) -> Result<(), AllocError> {
-    let is_text = page.is_text();
-    let text = &mut page.text;
-    match time {
-        Some(time) if is_text => write!(text, "{time}")?,
-        Some(time) => write!(text, ",\"time\":\"{time}\"")?,
-        None if is_text => text.push_str("-")?,
-        None => {}
-    }
-    match &datagram.ends {
-        Some((source, destination)) if is_text => write!(text, " {source} > {destination}"),
-        Some((source, destination)) => write!(
-            text,
-            ",\"source\":\"{source}\",\"destination\":\"{destination}\""
-        ),
-        None if is_text => text.push_str(" - > -"),
-        None => Ok(()),
-    }
+/// When a record was captured.
+fn put_time(page: &mut Page, time: &Option<Time>) -> Result<(), AllocError> {
+    let Some(time) = time else {
+        return page.in_text("-");
+    };
+    page.in_json(",\"time\":\"")?;
+    write!(page.text, "{time}")?;
+    page.in_json("\"")
 }
 
-fn put_header(page: &mut Page, header: &Header) -> Result<(), AllocError> {
-    let fields = header.fields;
-    let (source, destination) = (fields.source_port, fields.destination_port);
-    let tag = fields.verification_tag;
+/// Between which addresses a datagram went.
+fn put_ends(page: &mut Page, datagram: &Datagram<'_>) -> Result<(), AllocError> {
+    let Some((source, destination)) = &datagram.ends else {
+        return page.in_text(" - > -");
+    };
     if page.is_text() {
-        return write!(page.text, " SCTP {source} > {destination} tag 0x{tag:08x}");
+        return write!(page.text, " {source} > {destination}");
     }
     write!(
         page.text,
-        ",\"source_port\":{source},\"destination_port\":{destination},\"tag\":{tag}"
+        ",\"source\":\"{source}\",\"destination\":\"{destination}\""
     )
+}
+
+/// A number as eight hex digits.
+fn put_hex(text: &mut String, number: u32) -> Result<(), AllocError> {
+    write!(text, "{number:08x}")
+}
+
+/// The ports and the tag of a packet.
+fn put_header(page: &mut Page, header: &Header) -> Result<(), AllocError> {
+    let fields = header.fields;
+    let (mut source, mut destination) = (Buffer::new(), Buffer::new());
+    let source = source.format(fields.source_port);
+    let destination = destination.format(fields.destination_port);
+    if page.is_text() {
+        put_all(
+            &mut page.text,
+            &[" SCTP ", source, " > ", destination, " tag 0x"],
+        )?;
+        return put_hex(&mut page.text, fields.verification_tag);
+    }
+    put_all(
+        &mut page.text,
+        &[
+            ",\"source_port\":",
+            source,
+            ",\"destination_port\":",
+            destination,
+        ],
+    )?;
+    page.number("Tag", "tag", fields.verification_tag)
 }
 
 /// The line of a packet's checksum as text.
 fn put_sums(text: &mut String, header: &Header, sum: Sum) -> Result<(), AllocError> {
-    let (stands, computed) = (header.checksum, header.computed);
+    text.push_str("    Checksum: 0x")?;
+    put_hex(text, header.checksum)?;
     if sum == Sum::Unchecked {
-        return write!(text, "    Checksum: 0x{stands:08x}, not tested\n");
+        return text.push_str(", not tested\n");
     }
     if header.has_right_checksum() {
-        return write!(text, "    Checksum: 0x{stands:08x}, right\n");
+        return text.push_str(", right\n");
     }
-    write!(
-        text,
-        "    Checksum: 0x{stands:08x}, wrong, should be 0x{computed:08x}\n"
-    )
+    text.push_str(", wrong, should be 0x")?;
+    put_hex(text, header.computed)?;
+    text.push_str("\n")
 }
 
 /// A packet's checksum, and what it should be, where that was computed.
@@ -92,16 +109,28 @@ fn put_checksum(page: &mut Page, header: &Header, sum: Sum) -> Result<(), AllocE
     if page.is_text() {
         return put_sums(&mut page.text, header, sum);
     }
-    write!(page.text, ",\"checksum\":{}", header.checksum)?;
+    page.number("Checksum", "checksum", header.checksum)?;
     if sum == Sum::Unchecked {
         return Ok(());
     }
-    let right = header.has_right_checksum();
-    write!(
-        page.text,
-        ",\"computed\":{},\"right\":{right}",
-        header.computed
-    )
+    page.number("Computed", "computed", header.computed)?;
+    page.truth("Right", "right", header.has_right_checksum())
+}
+
+/// The chunks of a packet, a word or a few of each.
+fn put_briefs(text: &mut String, items: &[Item]) -> Result<(), AllocError> {
+    for item in items {
+        put_brief(text, item)?;
+    }
+    Ok(())
+}
+
+/// Why bytes are left over, if any are, and the end of the line.
+fn put_stop(text: &mut String, fault: Option<WalkFault>) -> Result<(), AllocError> {
+    match fault {
+        Some(fault) => write!(text, " [{fault:?}]\n"),
+        None => text.push_str("\n"),
+    }
 }
 
 /// The line of a packet behind its addresses.
@@ -112,13 +141,8 @@ fn put_line(page: &mut Page, seen: &Dissection) -> Result<(), AllocError> {
     if !page.is_text() {
         return Ok(());
     }
-    for item in &seen.items {
-        put_brief(&mut page.text, item)?;
-    }
-    match seen.fault {
-        Some(fault) => write!(page.text, " [{fault:?}]\n"),
-        None => page.text.push_str("\n"),
-    }
+    put_briefs(&mut page.text, &seen.items)?;
+    put_stop(&mut page.text, seen.fault)
 }
 
 /// The blocks below the line of a packet.
@@ -140,14 +164,19 @@ fn put_blocks(
     page.in_json("]")
 }
 
+/// Why bytes are left over.
+fn put_fault(alloc: Global, page: &mut Page, fault: WalkFault) -> Result<(), AllocError> {
+    let words = format!(in alloc; "{fault:?}")?;
+    page.words("Fault", "fault", &words)
+}
+
 /// The bytes behind the last chunk, and why they are left over.
 fn put_rest(alloc: Global, page: &mut Page, seen: &Dissection) -> Result<(), AllocError> {
     let Some(fault) = seen.fault else {
         return Ok(());
     };
-    let words = format!(in alloc; "{fault:?}")?;
     page.in_text("    Left over\n")?;
-    page.words("Fault", "fault", &words)?;
+    put_fault(alloc, page, fault)?;
     page.bytes(alloc, "Bytes", "rest", seen.rest.as_slice())
 }
 
@@ -163,7 +192,8 @@ fn packet_text(
     let seen = dissect(alloc, &bytes, &options.sum)?;
     summary.count_packet(&seen, options.sum);
     let mut page = Page::new(alloc, options.form);
-    put_ends(&mut page, time, datagram)?;
+    put_time(&mut page, time)?;
+    put_ends(&mut page, datagram)?;
     put_line(&mut page, &seen)?;
     put_blocks(alloc, &mut page, &seen, options.sum)?;
     put_rest(alloc, &mut page, &seen)?;
