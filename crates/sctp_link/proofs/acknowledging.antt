@@ -1,4 +1,7 @@
 pub mod AckLoops
+pub mod FlightAcked
+pub mod StreamsLess
+pub mod Rebased
 pub mod Reporting
 pub mod SackFrames
 pub mod SackTaken

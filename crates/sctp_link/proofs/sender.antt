@@ -6,6 +6,7 @@ pub mod Modes
 pub mod Outgoing
 pub mod Between
 pub mod Ahead
+pub mod Flying
 pub mod Sending
 pub mod SentLists
 pub mod Fragmented

@@ -1,18 +1,19 @@
 -- How far a SACK has been taken, while what it reports is gone through.
-use Rattle.std.specs.Prelude.{◌≡◌, ◌==◌, ℕ, ◌+◌, ◌-◌, ◌<◌, ◌≤◌, ◌^◌, Bool, ◌&&◌, ◌||◌, nat_le, nat_lt, if◌then◌else◌, List, length, slice_index_or, true}
+use Rattle.std.specs.Prelude.{◌≡◌, ◌==◌, ℕ, ◌+◌, ◌-◌, ◌<◌, ◌≤◌, ◌^◌, Bool, ◌&&◌, ◌||◌, nat_le, nat_lt, if◌then◌else◌, List, [], ◌∷◌, length, slice_index_or}
 use Rattle.std.specs.List.{list_any}
+use Rattle.sctp_lists.specs.Lists.{change_where}
 use Rattle.sctp_chunks.specs.declared.chunk.chunk_payload_data.ChunkPayloadData.{ChunkPayloadData}
 use Rattle.sctp_chunks.specs.declared.chunk.chunk_selective_ack.GapAckBlock.{GapAckBlock}
-use Rattle.sctp_outbound.specs.outbound_queue.OutboundQueue.{Outbound, with_inflight}
+use Rattle.sctp_transfer.specs.declared.sender.flight.Released.{Released}
+use Rattle.sctp_outbound.specs.payload_queue.Blocks.{is_in_block}
 use Rattle.sctp_model.specs.World.{World}
 use Rattle.sctp_model.specs.Messages.{slot_at}
 use Rattle.sctp_model.specs.Amounts.{on_stream, pending_bytes}
 use Rattle.sctp_ties.specs.Amount.{unacked_on, stream_of_slot, bytes_at}
-use Rattle.sctp_ties.specs.Tied.{sending_of, sending_by, IsInFlight}
+use Rattle.sctp_ties.specs.Tied.{sending_of, sending_by}
 use Rattle.sctp_link.specs.declared.open_stream.OpenStream.{OpenStream}
-use Rattle.sctp_link.specs.declared.link.open_streams.OpenStreams.{OpenStreams}
 use Rattle.sctp_link.specs.declared.record.Slot.{Slot}
-use Rattle.sctp_link.specs.Places.{IsIndexed, stream_numbers}
+use Rattle.sctp_link.specs.Linked.{has_number}
 use Rattle.sctp_link.specs.Records.{slot_record}
 
 -- a stream with another buffered amount
@@ -38,16 +39,15 @@ pub record Acks (first : ℕ) (w : World) : Type 0 where
   pub shares : (p t : ℕ) (b : Bool) (c : ChunkPayloadData) → p < length w.slots → sending_of c ≡ sending_by w b p →
       (if c.stream_identifier == t then length c.user_data else 0) ≡ (if stream_of_slot w p == t then (if b then 0 else bytes_at w p) else 0)
 
--- slots, queue and streams once these slots are acknowledged
-pub record IsAcking (w : World) (first : List OpenStream) (queue : Outbound) (acked : ℕ → Bool) (marked : List Slot) (now : OpenStreams) (left : Outbound) : Type 0 where
-  pub below : (k : ℕ) → k < w.taken → acked k ≡ true
+-- the slots once these are acknowledged
+pub record IsMarking (w : World) (acked : ℕ → Bool) (marked : List Slot) : Type 0 where
   pub count : length marked ≡ length w.slots
   pub slots : (k : ℕ) (d : Slot) → k < length marked → slot_record (slice_index_or marked k d) ≡ record (slot_at w k) { acknowledged = acked k }
-  pub in_flight : IsInFlight w acked w.taken (length w.slots - w.taken) left.inflight.chunks
-  pub rest : left ≡ with_inflight queue left.inflight.chunks
-  pub indexed : IsIndexed now.places (stream_numbers now.items.items)
-  pub stream_count : length now.items.items ≡ length first
-  pub open_streams : (k : ℕ) (d : OpenStream) → k < length now.items.items → slice_index_or now.items.items k d ≡ with_amount (amount_with w acked (slice_index_or first k d).state.stream_identifier) (slice_index_or first k d)
+
+-- each stream has less by what left of it, one chunk after another
+abbrev pub released : List Released → List OpenStream → List OpenStream
+released [] ls = ls
+released (r ∷ rs) ls = released rs (change_where (has_number r.stream) (less_by r.bytes) ls)
 
 -- and one slot more
 abbrev pub and_one : (ℕ → Bool) → ℕ → ℕ → Bool
@@ -64,3 +64,8 @@ in_block cumulative k b = nat_le (cumulative + b.start) (k + 1) && nat_le (k + 1
 -- and those that gap blocks report
 abbrev pub and_blocks : (ℕ → Bool) → ℕ → List GapAckBlock → ℕ → Bool
 and_blocks acked cumulative blocks k = acked k || list_any (in_block cumulative k) blocks
+
+-- a block that begins beyond the cumulative TSN, and reports from there what another reports from so many TSNs before it
+pub record IsNearer (behind : ℕ) (b c : GapAckBlock) : Type 0 where
+  pub begin : 0 < c.start
+  pub covers : (n : ℕ) → 0 < n → is_in_block n c ≡ is_in_block (n + behind) b

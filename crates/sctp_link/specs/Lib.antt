@@ -9,3 +9,4 @@ pub mod Receiving
 pub mod Skips
 pub mod Acking
 pub mod Sends
+pub mod GivenUp

@@ -6,7 +6,7 @@ use Rattle.sctp_model.specs.World as W
 use Rattle.sctp_model.specs.World.{World}
 use Rattle.sctp_model.specs.Messages.{message_at, ordered_before, index_of, sent_of, tsn_of}
 use Rattle.sctp_model.specs.Receiver.{next_of}
-use Rattle.sctp_model.specs.Contents.{contents_of}
+use Rattle.sctp_model.specs.Contents.{contents_of, cumulative_tsn}
 use Rattle.sctp_model.specs.Queues.{FilterRecord, filter_of}
 use Rattle.sctp_model.specs.Steps.{History, StandsFor, fragments_accepted}
 use Rattle.sctp_model.specs.Laws.{IsSetup}
@@ -43,6 +43,8 @@ pub record State : Type 0 where
   pub datagrams : List (List ℕ)
   pub outbound : Outbound
   pub next_tsn : ℕ
+  -- the TSN up to which all was acknowledged
+  pub acked_tsn : ℕ
   pub filter : Filter
   -- how many fragments were accepted
   pub fragments : ℕ
@@ -108,6 +110,8 @@ pub record IsLinked (sum : List ℕ → ℕ) (x : State) : Type 0 where
   pub unstarted : x.unstarted ≡ x.outbound.next_unstarted
   pub filter : filter_shown x.filter ≡ filter_of x.world
   pub next : x.next_tsn ≡ tsn_of x.world (length x.world.slots)
+  -- all up to the slots taken was acknowledged
+  pub acked : x.acked_tsn ≡ cumulative_tsn x.world x.world.taken
   pub fragments : x.fragments ≡ fragments_accepted x.world
   pub written : x.written ≡ in_all x.world (written_bytes x.world)
   pub sents : (n : ℕ) → n < length x.world.messages → (slice_index_or x.progress n (0, 0)).0 ≡ sent_of x.world n

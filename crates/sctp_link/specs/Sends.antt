@@ -1,10 +1,10 @@
 -- What fragments that leave one after another make of the sender's side of a link.
-use Rattle.std.specs.Prelude.{◌≡◌, ℕ, zero, suc, ◌+◌, ◌<◌, ◌^◌, false, List, [], ◌∷◌, ◌++◌, length, Some, slice_index_or, slice_set}
+use Rattle.std.specs.Prelude.{◌≡◌, ℕ, zero, suc, ◌+◌, ◌<◌, ◌^◌, List, [], ◌∷◌, ◌++◌, length, Some, slice_index_or, slice_set}
 use Rattle.std.specs.BTreeMap.{BTreeMap}
 use Rattle.sctp_chunks.specs.declared.chunk.chunk_payload_data.ChunkPayloadData.{ChunkPayloadData}
-use Rattle.sctp_serial.specs.Window.{SpansOneWindow, is_held}
 use Rattle.sctp_outbound.specs.pending_queue.PendingQueue.{peeked}
 use Rattle.sctp_outbound.specs.outbound_queue.OutboundQueue.{Outbound, sent_next, following_tsn}
+use Rattle.sctp_transfer.specs.Flight.{Flight}
 use Rattle.sctp_link.specs.declared.open_stream.OpenStream.{OpenStream}
 use Rattle.sctp_link.specs.declared.link.open_streams.OpenStreams.{OpenStreams}
 use Rattle.sctp_link.specs.declared.record.Message.{Message}
@@ -21,9 +21,9 @@ pub record Sender : Type 0 where
   pub slots : List Slot
   pub next_tsn : ℕ
 
-abbrev pub sender_of : Outbound → List Message → OpenStreams → List Slot → ℕ → Sender
-sender_of outbound messages streams slots next_tsn =
-    record { outbound = outbound; messages = messages; streams = streams.items.items; places = streams.places; slots = slots; next_tsn = next_tsn }
+abbrev pub sender_of : Flight → List Message → OpenStreams → List Slot → Sender
+sender_of flight messages streams slots =
+    record { outbound = flight.queue; messages = messages; streams = streams.items.items; places = streams.places; slots = slots; next_tsn = flight.next_tsn }
 
 -- the next fragment can leave
 pub record CanSend (s : Sender) : Type 0 where
@@ -33,8 +33,7 @@ pub record CanSend (s : Sender) : Type 0 where
   pub fits : (m : Message) → m ≡ slice_index_or s.messages chunk.message_id m → m.sent + 1 < 2 ^ 64
   pub few : (m : Message) → m ≡ slice_index_or s.messages chunk.message_id m → begun_of m.stream s.streams + 1 < 2 ^ 64
   pub indexed : IsIndexed s.places (stream_numbers s.streams)
-  pub fresh : is_held s.outbound.inflight.chunks s.next_tsn ≡ false
-  pub window : SpansOneWindow s.outbound.inflight.chunks s.next_tsn
+  pub room : length s.outbound.inflight.chunks + 1 < 2 ^ 31
 
 -- it leaves: its message takes it, it gets a slot and the next TSN
 pub record Leaves (now : ℕ) (s t : Sender) : Type 0 where

@@ -24,8 +24,8 @@ use crate::record::{Datagram, Kind, Message, Slot};
 use bytes::Bytes;
 use sctp_base::error::Error;
 use sctp_base::util::Checksum;
-use sctp_queues::outbound_queue::OutboundQueue;
 use sctp_transfer::receiver::tsn_filter::TsnFilter;
+use sctp_transfer::sender::flight::InFlight;
 use std::alloc::Global;
 use std::marker::Model;
 
@@ -51,8 +51,8 @@ pub struct Link<C: Checksum + Drop> {
     taken: usize,
     // the places that came again since the last SACK was made
     duplicates: Vec<u64>,
-    outbound: OutboundQueue,
-    next_tsn: u32,
+    // what waits and what is in flight
+    flight: InFlight,
     filter: TsnFilter,
     // how many fragments were accepted
     fragments: usize,
@@ -141,8 +141,7 @@ impl<C: Checksum + Drop> Link<C> {
             skipped: 0,
             taken: 0,
             duplicates: Vec::new(alloc),
-            outbound: OutboundQueue::new(alloc),
-            next_tsn: first_tsn,
+            flight: InFlight::new(alloc, first_tsn),
             filter: TsnFilter::new(alloc, first_tsn),
             fragments: 0,
             written: 0,

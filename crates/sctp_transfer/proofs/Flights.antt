@@ -13,7 +13,7 @@ use Rattle.sctp_chunks.specs.declared.chunk.chunk_payload_data.ChunkPayloadData.
 use Rattle.sctp_serial.specs.DataChunks.{has_tsn, chunk_before}
 use Rattle.sctp_serial.specs.Window.{IsWindow, is_held}
 use Rattle.sctp_outbound.specs.Marks.{given_up, is_of}
-use Rattle.sctp_outbound.specs.outbound_queue.OutboundQueue.{Outbound, all_started, sent_of, sent_next, numbered, abandoned_of, tsn_after_of, with_end_mark, end_mark}
+use Rattle.sctp_outbound.specs.outbound_queue.OutboundQueue.{Outbound, all_started, sent_of, sent_next, numbered, abandoned_of, tsn_after_of, has_tail, message_of, with_end_mark, end_mark}
 use Rattle.sctp_outbound.specs.payload_queue.PayloadQueue as payload
 use Rattle.sctp_outbound.specs.pending_queue.PendingQueue.{peeked, started, last_removed, without}
 use Rattle.sctp_outbound.specs.pending_queue.Whole.{waits}
@@ -131,7 +131,12 @@ sent f now then' next inv room is raised = by (peeked (all_started now f.queue).
 
 -- ## Giving up
 
-pub gave-up : (f : Flight) (o : Option ℕ) (then' : Outbound) (next : ℕ) → IsContiguous f → may_send f ≡ true → then' ≡ abandoned_of o f.next_tsn f.queue → next ≡ tsn_after_of o f.next_tsn f.queue → IsContiguous (record { queue = then'; next_tsn = next; acked_tsn = f.acked_tsn })
+-- what is to be given up has a tail only where it is there
+pub tail-there : (o : Option ChunkPayloadData) (q : Outbound) → has_tail (message_of o) q ≡ true → is_some o ≡ true
+tail-there None q e = e
+tail-there (Some c) q e = refl
+
+pub gave-up : (f : Flight) (o : Option ℕ) (then' : Outbound) (next : ℕ) → IsContiguous f → (has_tail o f.queue ≡ true → may_send f ≡ true) → then' ≡ abandoned_of o f.next_tsn f.queue → next ≡ tsn_after_of o f.next_tsn f.queue → IsContiguous (record { queue = then'; next_tsn = next; acked_tsn = f.acked_tsn })
 gave-up f None then' next inv room is raised = kept f (record { queue = then'; next_tsn = next; acked_tsn = f.acked_tsn }) (ap (λ (o : Outbound). tsns o.inflight.chunks) is) raised refl inv
 gave-up f (Some m) then' next inv room is raised = by (last_removed m f.queue.pending) refl is
   where
@@ -146,4 +151,4 @@ gave-up f (Some m) then' next inv room is raised = by (last_removed m f.queue.pe
         tail true w =
             grown f (record { queue = then'; next_tsn = next; acked_tsn = f.acked_tsn })
             (ap (λ (o : Outbound). tsns o.inflight.chunks) e ∙ put-in f (end_mark f.next_tsn c) (change_where (is_of m) given_up f.queue.inflight.chunks) inv (changed-run (is_of m) given_up (λ d. refl) f.queue.inflight.chunks) refl)
-            (raised ∙ ap (λ b. if b then following_tsn f.next_tsn else f.next_tsn) w) refl room inv
+            (raised ∙ ap (λ b. if b then following_tsn f.next_tsn else f.next_tsn) w) refl (room w) inv

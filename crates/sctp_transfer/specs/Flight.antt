@@ -1,5 +1,5 @@
 -- What is in flight, and what a SACK makes of it (RFC 4960 6.2.1).
-use Rattle.std.specs.Prelude.{◌≡◌, ℕ, zero, suc, ◌+◌, ◌-◌, ◌%◌, ◌^◌, ◌<◌, Bool, false, not, ◌&&◌, ◌||◌, nat_lt, nat_le, if◌then◌else◌, List, [], ◌∷◌, length, map, min, Option, Some, None, is_some}
+use Rattle.std.specs.Prelude.{◌≡◌, ℕ, zero, suc, ◌+◌, ◌-◌, ◌%◌, ◌^◌, ◌<◌, Bool, false, not, ◌&&◌, ◌||◌, nat_lt, nat_le, if◌then◌else◌, List, [], ◌∷◌, length, map, min, max, Option, Some, None, is_some}
 use Rattle.std.specs.List.{list_all, find}
 use Rattle.sctp_lists.specs.Lists.{change_where, those}
 use Rattle.sctp_lists.specs.Serial.{distance, comes_before, at_or_before}
@@ -52,6 +52,10 @@ at_first tsn = record {
 }
 
 -- ## Sending
+
+-- with room for so many more in flight
+abbrev pub with_room : ℕ → Outbound → Outbound
+with_room sends q = record q { inflight = record q.inflight { room = max sends q.inflight.room } }
 
 -- a further TSN may be given out
 abbrev pub may_send : Flight → Bool

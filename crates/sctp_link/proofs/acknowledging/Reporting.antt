@@ -125,6 +125,7 @@ module _ (sum : List ℕ → ℕ) (x : State) (l : IsLinked sum x) (credit : ℕ
         unstarted = l.unstarted;
         filter = ap (λ (f : FilterRecord). let r : FilterRecord = record { cumulative = f.cumulative; held = f.held; duplicates = [] } in r) l.filter;
         next = l.next;
+        acked = l.acked;
         fragments = l.fragments;
         written = l.written;
         sents = l.sents;

@@ -2,25 +2,32 @@
 use Rattle.std.proofs.Common.{◌≡◌, ℕ, zero, suc, ◌+◌, ◌-◌, ◌<◌, ◌≤◌, ◌%◌, ◌^◌, Bool, true, false, List, [], ◌∷◌, length, get_or, map, Option, Some, None, refl, ap, sym, ◌∙◌, inl, inr, arith}
 use Rattle.std.specs.Prelude.{if◌then◌else◌, ◌&&◌, ◌||◌, nat_le, nat_lt, max, slice_get, slice_index_or}
 use Rattle.std.specs.BTreeMap.{BTreeMap}
-use Rattle.std.specs.List.{list_any}
+use Rattle.std.specs.List.{list_any, list_all}
 use Rattle.std.proofs.Math.Path.{subst}
-use Rattle.std.proofs.lemmas.Bool.{cases_lt, lt-ltb, le-leb}
+use Rattle.std.proofs.lemmas.Bool.{cases_lt, lt-ltb, le-ltb, le-leb}
 use Rattle.std.proofs.lemmas.List.{get_or-map, get_or_default, length-take}
-use Rattle.sctp_lists.specs.Lists.{pieces}
+use Rattle.sctp_lists.specs.Lists.{pieces, change_where, those}
+use Rattle.sctp_lists.specs.Serial.{distance, comes_before}
 use Rattle.sctp_lists.proofs.Getting.{length-mapped, length-numbered, numbered-at, map-at}
 use Rattle.sctp_chunks.specs.declared.chunk.chunk_selective_ack.GapAckBlock.{GapAckBlock}
 use Rattle.sctp_chunks.specs.declared.chunk.chunk_payload_data.ChunkPayloadData.{ChunkPayloadData}
 use Rattle.sctp_chunks.specs.SelectiveAck
 use Rattle.sctp_chunks.specs.Wire.{sack_chunk}
 use Rattle.sctp_packets.specs.Packet.{ReadsPacket}
+use Rattle.sctp_outbound.specs.Marks.{acknowledged}
+use Rattle.sctp_outbound.specs.payload_queue.Blocks.{covered}
+use Rattle.sctp_outbound.specs.payload_queue.PayloadQueue.{past}
 use Rattle.sctp_outbound.specs.outbound_queue.OutboundQueue.{Outbound, with_inflight}
+use Rattle.sctp_transfer.specs.declared.sender.flight.Released.{Released}
+use Rattle.sctp_transfer.specs.declared.sender.refusal.SenderRefusal.TheVariants.{InflightQueueTsnPop, TsnRequestNotExist}
+use Rattle.sctp_transfer.specs.Flight.{Flight, reports_anew, is_within, sack_refusal, taken, after_sack, released_of, released_by}
 use Rattle.sctp_serial.specs.DataChunks.{bytes_of}
 use Rattle.sctp_model.specs.declared.event.Event.TheVariants as E
 use Rattle.sctp_model.specs.declared.event.LinkRefusal.TheVariants.{NoSuchDatagram}
 use Rattle.sctp_model.specs.World.{Setup, World, Report, Sack, Forward}
 use Rattle.sctp_model.specs.World as W
 use Rattle.sctp_model.specs.Messages.{slot_at, no_slot, message_at, message_of, tsn_of}
-use Rattle.sctp_model.specs.Amounts.{growth, is_given_up, slot_bytes}
+use Rattle.sctp_model.specs.Amounts.{growth, is_given_up, slot_bytes, on_stream, pending_bytes}
 use Rattle.sctp_model.specs.Reports.{reports}
 use Rattle.sctp_model.specs.Contents.{contents_of, cumulative_tsn}
 use Rattle.sctp_model.specs.Changes.{sack_taken, acknowledged_by}
@@ -32,9 +39,9 @@ use Rattle.sctp_model.proofs.sender.Sender.{Sender}
 use Rattle.sctp_model.proofs.sender.Shapes
 use Rattle.sctp_model.proofs.acknowledgement.Acknowledged
 use Rattle.sctp_model.proofs.receiver.Received.{received-run}
-use Rattle.sctp_ties.specs.Amount.{unacked, bytes_at, acknowledged_at, acknowledged_then}
+use Rattle.sctp_ties.specs.Amount.{unacked, unacked_on, bytes_at, acknowledged_at, acknowledged_then}
 use Rattle.sctp_ties.specs.Tied.{IsInFlight}
-use Rattle.sctp_ties.proofs.acknowledging.Acked.{in-flight-first, tied-taken}
+use Rattle.sctp_ties.proofs.acknowledging.Acked.{in-flight-first, in-flight-same, tied-taken}
 use Rattle.sctp_ties.proofs.acknowledging.Unacked.{amount-is, amount-acked, growth-acked}
 use Rattle.sctp_ties.proofs.sending.Begun
 use Rattle.sctp_ties.proofs.sending.Begun.{Indexed}
@@ -47,9 +54,12 @@ use Rattle.sctp_link.specs.declared.record.Datagram.{Datagram}
 use Rattle.sctp_link.specs.Records.{slot_record, datagram_record, stream_record}
 use Rattle.sctp_link.specs.Linked.{State, IsLinked, IsOpenStream}
 use Rattle.sctp_link.specs.Texts.{IsDatagram, block_of, packet_with}
-use Rattle.sctp_link.specs.Acking.{Acks, IsAcking, amount_with, with_amount, and_run, and_blocks, in_block}
+use Rattle.sctp_link.specs.Acking.{Acks, IsMarking, amount_with, with_amount, released, and_run, and_blocks, in_block}
 use Rattle.sctp_link.proofs.upkeep.Facts.{facts, over, stands-then, says-still}
-use Rattle.sctp_link.proofs.acknowledging.AckLoops.{acking-same}
+use Rattle.sctp_link.proofs.acknowledging.AckLoops.{marking-same, any-at}
+use Rattle.sctp_link.proofs.acknowledging.FlightAcked.{told, covered-at, between, up-to-date, marked-all, front-leaves}
+use Rattle.sctp_link.proofs.acknowledging.StreamsLess.{released_on, chunks_on, length-released, released-at, told-on, on-unacked, told-short}
+use Rattle.sctp_link.proofs.sender.Flying.{flying}
 use Rattle.sctp_link.proofs.sender.Beginning.{index_kept, indexed-of}
 use Rattle.sctp_link.specs.OpenStreams.{slot_with}
 use Rattle.sctp_link.proofs.acknowledging.SackFrames.{reassembly-taken, filter-taken}
@@ -146,48 +156,13 @@ acks sum x l =
       shares = λ p t b c lt says. chunk-on x.world b p t c f.sane.sender lt says;
     }
 
-pub acking-first : (sum : List ℕ → ℕ) (x : State) (xs : List Slot) (now : OpenStreams) (l : IsLinked sum x) → x.world.slots ≡ map slot_record xs → x.open_streams ≡ now.items.items → x.places ≡ now.places → IsAcking x.world x.open_streams x.outbound (acknowledged_at x.world) xs now x.outbound
-acking-first sum x xs now l slots items places =
-    let f = facts sum x l in
-    record {
-      below = over sum x (λ w. (p : ℕ) → p < w.taken → acknowledged_at w p ≡ true) l (taken-acknowledged x.world.setup l.history l.setup l.stands.run);
-      count = sym (ap length slots ∙ length-mapped slot_record xs);
-      slots = λ k d lt. sym (ap (λ ys. slice_index_or ys k no_slot) slots ∙ get_or-map slot_record xs k d no_slot lt);
-      in_flight = in-flight-first x.world x.outbound l.outbound;
-      rest = refl;
-      indexed = subst (λ ls. IsIndexed now.places (stream_numbers ls)) items (subst (λ t. IsIndexed t (stream_numbers x.open_streams)) places l.indexed);
-      stream_count = ap length (sym items);
-      open_streams = λ k d lt. let lt : k < length x.open_streams = omega (arith, lt, ap length items) in ap (λ ls. slice_index_or ls k d) (sym items) ∙ ap (λ n. with_amount n (slice_index_or x.open_streams k d)) ((l.open_streams k d lt).amount ∙ amount-is x.world (slice_index_or x.open_streams k d).state.stream_identifier f.sane.sender);
-    }
+pub marking-first : (sum : List ℕ → ℕ) (x : State) (xs : List Slot) → IsLinked sum x → x.world.slots ≡ map slot_record xs → IsMarking x.world (acknowledged_at x.world) xs
+marking-first sum x xs l slots = record {
+  count = sym (ap length slots ∙ length-mapped slot_record xs);
+  slots = λ k d lt. sym (ap (λ ys. slice_index_or ys k no_slot) slots ∙ get_or-map slot_record xs k d no_slot lt);
+}
 
 -- ## After the last
-
--- the slots that the loops acknowledge are those that the SACK reports
-pub test-is : (w : World) (r : Report) → ((k : ℕ) → k < w.taken → acknowledged_at w k ≡ true) → (k : ℕ) → and_blocks (and_run (acknowledged_at w) w.taken r.cumulative) r.cumulative (map block_of r.blocks) k ≡ acknowledged_then w r k
-test-is w r below k =
-    ap (λ t. and_run (acknowledged_at w) w.taken r.cumulative k || t) (any-mapped r.cumulative k r.blocks)
-    ∙ elim (cases_lt k w.taken) [
-      | inl low ↦ old (acknowledged_at w k) (nat_le w.taken k) (nat_lt k r.cumulative) _ (below k low)
-      | inr high ↦ new (acknowledged_at w k) (nat_le w.taken k) (nat_lt k r.cumulative) _ (le-leb w.taken k high)
-    ]
-  where
-    old : (a b c d : Bool) → a ≡ true → ((a || (b && c)) || d) ≡ (a || (c || d))
-    old true b c d e = refl
-    old false b c d e = cc
-
-    new : (a b c d : Bool) → b ≡ true → ((a || (b && c)) || d) ≡ (a || (c || d))
-    new true b c d e = refl
-    new false true c d e = refl
-    new false false c d e = cc
-
--- the front has left up to the cumulative count
-front-left : (w : World) (acked : ℕ → Bool) (to : ℕ) (cs ds : List ChunkPayloadData)
-    → (w.taken ≤ to → IsInFlight w acked to (length w.slots - to) ds) → (to ≤ w.taken → ds ≡ cs) → IsInFlight w acked w.taken (length w.slots - w.taken) cs
-    → IsInFlight w acked (max w.taken to) (length w.slots - max w.taken to) ds
-front-left w acked to cs ds popped none e = elim (cases_lt w.taken to) [
-  | inl more ↦ let same : to ≡ max w.taken to = omega (arith, more) in subst (λ m. IsInFlight w acked m (length w.slots - m) ds) same (popped (omega (arith, more)))
-  | inr all ↦ let same : w.taken ≡ max w.taken to = omega (arith, all) in subst (λ m. IsInFlight w acked m (length w.slots - m) ds) same (subst (λ c. IsInFlight w acked w.taken (length w.slots - w.taken) c) (sym (none all)) e)
-]
 
 same-lists : {A : Type 0} (xs ys : List A) → length xs ≡ length ys → ((k : ℕ) (d : A) → k < length xs → get_or xs k d ≡ get_or ys k d) → xs ≡ ys
 same-lists [] [] e h = refl
@@ -196,8 +171,8 @@ same-lists (x ∷ xs) [] e h = absurd (omega (arith, e))
 same-lists (x ∷ xs) (y ∷ ys) e h = ap (λ z. z ∷ xs) (h 0 x (omega arith)) ∙ ap (λ zs. y ∷ zs) (same-lists xs ys (omega (arith, e)) (λ k d lt. h (suc k) d (omega (arith, lt))))
 
 -- the slots are those of the record
-pub slots-then : (w : World) (r : Report) (first : List OpenStream) (now : OpenStreams) (q left : Outbound) (xs : List Slot) → IsAcking w first q (acknowledged_then w r) xs now left → map slot_record xs ≡ (sack_taken w (Some (Sack r))).slots
-slots-then w r first now q left xs i =
+pub slots-then : (w : World) (r : Report) (xs : List Slot) → IsMarking w (acknowledged_then w r) xs → map slot_record xs ≡ (sack_taken w (Some (Sack r))).slots
+slots-then w r xs i =
     same-lists (map slot_record xs) (sack_taken w (Some (Sack r))).slots (length-mapped slot_record xs ∙ i.count ∙ sym (length-numbered (acknowledged_by r) 0 w.slots))
     (λ k d lt.
     let here : k < length xs = omega (arith, lt, length-mapped slot_record xs) in
@@ -215,8 +190,8 @@ slots-then w r first now q left xs i =
 abbrev as_left : World → Report → OpenStream → OpenStream
 as_left w r l = with_amount (amount_with w (acknowledged_then w r) l.state.stream_identifier) l
 
-streams-then : (w : World) (r : Report) (first : List OpenStream) (now : OpenStreams) (q left : Outbound) (xs : List Slot) → IsAcking w first q (acknowledged_then w r) xs now left → now.items.items ≡ map (as_left w r) first
-streams-then w r first now q left xs i = same-lists now.items.items (map (as_left w r) first) (i.stream_count ∙ sym (length-mapped (as_left w r) first)) (λ k d lt. i.open_streams k d lt ∙ sym (map-at (as_left w r) k first d (omega (arith, lt, i.stream_count))))
+streams-then : (w : World) (r : Report) (first now : List OpenStream) → length now ≡ length first → ((k : ℕ) (d : OpenStream) → k < length first → slice_index_or now k d ≡ as_left w r (slice_index_or first k d)) → now ≡ map (as_left w r) first
+streams-then w r first now count each = same-lists now (map (as_left w r) first) (count ∙ sym (length-mapped (as_left w r) first)) (λ k d lt. each k d (omega (arith, lt, count)) ∙ sym (map-at (as_left w r) k first d (omega (arith, lt, count))))
 
 numbers-left : (w : World) (r : Report) (ls : List OpenStream) → stream_numbers (map (as_left w r) ls) ≡ stream_numbers ls
 numbers-left w r [] = refl
@@ -238,13 +213,13 @@ stream-left w r l sender i = record {
   stats = i.stats;
 }
 
-abbrev taken_state : State → Report → List OpenStream → BTreeMap ℕ ℕ → Outbound → State
-taken_state x r open_streams places outbound = record x { world = sack_taken x.world (Some (Sack r)); open_streams = open_streams; places = places; outbound = outbound }
+abbrev taken_state : State → Report → List OpenStream → BTreeMap ℕ ℕ → Outbound → ℕ → State
+taken_state x r open_streams places outbound acked = record x { world = sack_taken x.world (Some (Sack r)); open_streams = open_streams; places = places; outbound = outbound; acked_tsn = acked }
 
-linked-taken : (sum : List ℕ → ℕ) (x : State) (k : ℕ) (r : Report) (places : BTreeMap ℕ ℕ) (cs : List ChunkPayloadData) (l : IsLinked sum x) → IsIndexed places (stream_numbers (map (as_left x.world r) x.open_streams)) → refusal_of x.world (E.Acked k) ≡ None → slice_get x.world.network k ≡ Some (Sack r)
+linked-taken : (sum : List ℕ → ℕ) (x : State) (k : ℕ) (r : Report) (places : BTreeMap ℕ ℕ) (cs : List ChunkPayloadData) (acked : ℕ) (l : IsLinked sum x) → acked ≡ cumulative_tsn x.world (max x.world.taken r.cumulative) → IsIndexed places (stream_numbers (map (as_left x.world r) x.open_streams)) → refusal_of x.world (E.Acked k) ≡ None → slice_get x.world.network k ≡ Some (Sack r)
     → IsInFlight x.world (acknowledged_then x.world r) (max x.world.taken r.cumulative) (length x.world.slots - max x.world.taken r.cumulative) cs
-    → IsLinked sum (taken_state x r (map (as_left x.world r) x.open_streams) places (with_inflight x.outbound cs))
-linked-taken sum x k r places cs l indexed none there e =
+    → IsLinked sum (taken_state x r (map (as_left x.world r) x.open_streams) places (with_inflight x.outbound cs) acked)
+linked-taken sum x k r places cs acked l acked_is indexed none there e =
     let w = x.world in
     let f = facts sum x l in
     record {
@@ -255,6 +230,7 @@ linked-taken sum x k r places cs l indexed none there e =
       unstarted = l.unstarted;
       filter = l.filter ∙ sym (filter-taken x.world r);
       next = l.next ∙ sym (ap (tsn_of x.world) (length-numbered (acknowledged_by r) 0 x.world.slots));
+      acked = acked_is;
       fragments = l.fragments;
       written = l.written;
       sents = λ n lt. l.sents n lt ∙ sym (ap (λ y. sent y n) (Shapes.shape-acknowledged x.world r (max x.world.taken r.cumulative)));
@@ -277,69 +253,232 @@ abbrev pub world_taken : World → List OpenStream → List Slot → ℕ → Wor
 world_taken w open_streams slots taken = record w { streams = map stream_record open_streams; slots = map slot_record slots; taken = taken }
 
 -- a SACK was taken: what is kept then, and the bytes that left
-pub record Taken (sum : List ℕ → ℕ) (x : State) (k : ℕ) (now : OpenStreams) (xs : List Slot) (left : Outbound) (top : ℕ) : Type 0 where
-  pub linked : IsLinked sum (record x { world = world_taken x.world now.items.items xs top; open_streams = now.items.items; places = now.places; outbound = left })
+pub record Taken (sum : List ℕ → ℕ) (x : State) (k : ℕ) (now : OpenStreams) (xs : List Slot) (g : Flight) (top : ℕ) : Type 0 where
+  pub linked : IsLinked sum (record x { world = world_taken x.world now.items.items xs top; open_streams = now.items.items; places = now.places; outbound = g.queue; next_tsn = g.next_tsn; acked_tsn = g.acked_tsn })
   pub moves : world_taken x.world now.items.items xs top ≡ after x.world (E.Acked k)
-  pub bytes : bytes_of x.outbound.inflight.chunks - bytes_of left.inflight.chunks ≡ growth x.world (after x.world (E.Acked k))
+  pub bytes : bytes_of x.outbound.inflight.chunks - bytes_of g.queue.inflight.chunks ≡ growth x.world (after x.world (E.Acked k))
+
+-- what is in flight, and up to where
+abbrev pub flight_in : State → Flight
+flight_in x = record { queue = x.outbound; next_tsn = x.next_tsn; acked_tsn = x.acked_tsn }
+
+-- each element passes
+all-from : {X : Type 0} (p : X → Bool) (xs : List X) → ((i : ℕ) (d : X) → i < length xs → p (get_or xs i d) ≡ true) → list_all p xs ≡ true
+all-from p [] h = refl
+all-from p (x ∷ xs) h = both (p x) (list_all p xs) (h 0 x (omega arith)) (all-from p xs (λ i d lt. h (suc i) d (omega (arith, lt))))
+  where
+    both : (a b : Bool) → a ≡ true → b ≡ true → (a && b) ≡ true
+    both a b e f = rw (e, f) refl
 
 module _ (sum : List ℕ → ℕ) (x : State) (k : ℕ) (r : Report) (l : IsLinked sum x) (none : refusal_of x.world (E.Acked k) ≡ None) (there : slice_get x.world.network k ≡ Some (Sack r)) where
   below-first : (p : ℕ) → p < x.world.taken → acknowledged_at x.world p ≡ true
   below-first = over sum x (λ w. (p : ℕ) → p < w.taken → acknowledged_at w p ≡ true) l (taken-acknowledged x.world.setup l.history l.setup l.stands.run)
 
-  pub enough : r.cumulative ≤ length x.world.slots
+  enough : r.cumulative ≤ length x.world.slots
   enough = count-made x.world k r (reported sum x l) there
 
-  -- both loops
-  loops : (to : ℕ) (bs : List GapAckBlock) (now : OpenStreams) (xs : List Slot) (left : Outbound) → to ≡ r.cumulative → bs ≡ map block_of r.blocks
-      → IsAcking x.world x.open_streams x.outbound (and_blocks (and_run (acknowledged_at x.world) x.world.taken to) to bs) xs now left → IsAcking x.world x.open_streams x.outbound (acknowledged_then x.world r) xs now left
-  loops to bs now xs left e f i =
-      acking-same x.world x.open_streams x.outbound (and_blocks (and_run (acknowledged_at x.world) x.world.taken to) to bs) (acknowledged_then x.world r) xs now left
-      (λ j. ap (λ t. and_blocks (and_run (acknowledged_at x.world) x.world.taken t) t bs j) e ∙ ap (λ b. and_blocks (and_run (acknowledged_at x.world) x.world.taken r.cumulative) r.cumulative b j) f ∙ test-is x.world r below-first j) i
+  -- ## The SACK, told from the last cumulative TSN
 
-  moved : (now : OpenStreams) (xs : List Slot) (left : Outbound) (top : ℕ) → x.world.streams ≡ map stream_record x.open_streams → top ≡ max x.world.taken r.cumulative
-      → IsAcking x.world x.open_streams x.outbound (acknowledged_then x.world r) xs now left → world_taken x.world now.items.items xs top ≡ sack_taken x.world (Some (Sack r))
-  moved now xs left top streams e i =
-      ap (λ ls. world_taken x.world ls xs top) (streams-then x.world r x.open_streams now x.outbound left xs i)
-      ∙ ap (λ rs. let v : World = record x.world { streams = rs; slots = map slot_record xs; taken = top } in v) (streams-left x.world r x.open_streams ∙ sym streams)
-      ∙ ap (λ ys. let v : World = record x.world { slots = ys; taken = top } in v) (slots-then x.world r x.open_streams now x.outbound left xs i)
-      ∙ ap (λ t. let v : World = record (sack_taken x.world (Some (Sack r))) { taken = t } in v) e
+  module _ (s : SelectiveAck.Sack) (top : ℕ) (top_is : top ≡ max x.world.taken r.cumulative) (cum : s.cumulative_tsn_ack ≡ cumulative_tsn x.world top) (covers : (n : ℕ) → 0 < n → covered s.gap_ack_blocks n ≡ covered (map block_of r.blocks) (n + (top - r.cumulative))) (begin : (i : ℕ) (d : GapAckBlock) → i < length s.gap_ack_blocks → 0 < (slice_index_or s.gap_ack_blocks i d).start) where
+    top-made : top ≤ length x.world.slots
+    top-made = let t = (facts sum x l).taken in omega (arith, top_is, t, enough)
 
-  then-is : sack_taken x.world (Some (Sack r)) ≡ after x.world (E.Acked k)
-  then-is = ap (sack_taken x.world) (sym there)
+    top-short : top < 2 ^ 31
+    top-short = let f = (facts sum x l).few in omega (arith, f, top-made)
 
-  released : (cs : List ChunkPayloadData) → IsInFlight x.world (acknowledged_then x.world r) (max x.world.taken r.cumulative) (length x.world.slots - max x.world.taken r.cumulative) cs
-      → bytes_of x.outbound.inflight.chunks - bytes_of cs ≡ growth x.world (sack_taken x.world (Some (Sack r)))
-  released cs e =
-      let f = facts sum x l in
-      let sender = f.sane.sender in
-      let first = bytes-unacked x.world (acknowledged_at x.world) x.outbound.inflight.chunks x.world.taken sender f.taken below-first (in-flight-first x.world x.outbound l.outbound) in
-      let last = bytes-unacked x.world (acknowledged_then x.world r) cs (max x.world.taken r.cumulative) sender (omega (arith, f.taken, enough)) (λ p lt. then-below x.world r p below-first lt) e in
-      ap (λ n. n - bytes_of cs) first ∙ ap (λ n. unacked x.world (acknowledged_at x.world) - n) last ∙ sym (growth-acked x.world r sender)
+    first-fits : x.world.setup.first < 2 ^ 32
+    first-fits = l.setup.first
 
-  pub taken-all : (to : ℕ) (bs : List GapAckBlock) (now : OpenStreams) (xs : List Slot) (left gone : Outbound) (top : ℕ)
-      → x.world.streams ≡ map stream_record x.open_streams → to ≡ r.cumulative → bs ≡ map block_of r.blocks → top ≡ max x.world.taken to
-      → IsAcking x.world x.open_streams x.outbound (and_blocks (and_run (acknowledged_at x.world) x.world.taken to) to bs) xs now left
-      → ((w : World) (acked : ℕ → Bool) (last : ℕ) → x.world.setup.first ≡ w.setup.first → to ≤ last → last < 2 ^ 31 → IsInFlight w acked x.world.taken (last - x.world.taken) left.inflight.chunks → x.world.taken ≤ to → IsInFlight w acked to (last - to) gone.inflight.chunks)
-      → (to ≤ x.world.taken → gone ≡ left) → gone ≡ with_inflight left gone.inflight.chunks
-      → Taken sum x k now xs gone top
-  taken-all to bs now xs left gone top streams to-is bs-is top-is acking popped same rest =
-      let f = facts sum x l in
-      let few = f.few in
-      let i = loops to bs now xs left to-is bs-is acking in
-      let top' : top ≡ max x.world.taken r.cumulative = top-is ∙ ap (max x.world.taken) to-is in
-      let flight : IsInFlight x.world (acknowledged_then x.world r) (max x.world.taken r.cumulative) (length x.world.slots - max x.world.taken r.cumulative) gone.inflight.chunks =
-      subst (λ t. IsInFlight x.world (acknowledged_then x.world r) (max x.world.taken t) (length x.world.slots - max x.world.taken t) gone.inflight.chunks) to-is
-      (front-left x.world (acknowledged_then x.world r) to left.inflight.chunks gone.inflight.chunks
-      (λ le. popped x.world (acknowledged_then x.world r) (length x.world.slots) refl (omega (arith, to-is, enough)) few i.in_flight le)
-      (λ le. ap (λ (q : Outbound). q.inflight.chunks) (same le)) i.in_flight) in
-      let world = moved now xs left top streams top' i in
-      let kept : gone ≡ with_inflight x.outbound gone.inflight.chunks = rest ∙ ap (λ q. with_inflight q gone.inflight.chunks) i.rest in
-      record {
-        linked =
-            subst (λ u. IsLinked sum (record x { world = u; open_streams = now.items.items; places = now.places; outbound = gone })) (sym world)
-            (subst (λ q. IsLinked sum (taken_state x r now.items.items now.places q)) (sym kept)
-            (subst (λ ls. IsLinked sum (taken_state x r ls now.places (with_inflight x.outbound gone.inflight.chunks))) (sym (streams-then x.world r x.open_streams now x.outbound left xs i))
-            (linked-taken sum x k r now.places gone.inflight.chunks l (subst (λ ls. IsIndexed now.places (stream_numbers ls)) (streams-then x.world r x.open_streams now x.outbound left xs i) i.indexed) none there flight)));
-        moves = world ∙ then-is;
-        bytes = released gone.inflight.chunks flight ∙ ap (growth x.world) then-is;
-      }
+    -- beyond it both report the same
+    beyond : (j : ℕ) → top ≤ j → list_any (in_block top j) s.gap_ack_blocks ≡ list_any (in_block r.cumulative j) (map block_of r.blocks)
+    beyond j le =
+        sym (covered-at top j s.gap_ack_blocks le)
+        ∙ covers (j + 1 - top) (omega (arith, le))
+        ∙ ap (covered (map block_of r.blocks)) (let z : j + 1 - top + (top - r.cumulative) ≡ j + 1 - r.cumulative = omega (arith, le, top_is) in z)
+        ∙ covered-at r.cumulative j (map block_of r.blocks) (omega (arith, le, top_is))
+
+    told-is : (j : ℕ) → (acknowledged_at x.world j || told top s.gap_ack_blocks j) ≡ acknowledged_then x.world r j
+    told-is j = elim (cases_lt j x.world.taken) [
+      | inl old ↦ known (acknowledged_at x.world j) _ _ (below-first j old)
+      | inr new ↦ elim (cases_lt j top) [
+        | inl low ↦
+            let same : nat_lt j r.cumulative ≡ true = lt-ltb j r.cumulative (omega (arith, low, new, top_is)) in
+            front (acknowledged_at x.world j) (nat_lt j top) (nat_lt j r.cumulative) _ _ (lt-ltb j top low) same
+        | inr high ↦
+            let same : nat_lt j r.cumulative ≡ false = le-ltb j r.cumulative (omega (arith, high, top_is)) in
+            ap (λ b. acknowledged_at x.world j || (b || list_any (in_block top j) s.gap_ack_blocks)) (le-ltb j top high ∙ sym same)
+            ∙ ap (λ b. acknowledged_at x.world j || (nat_lt j r.cumulative || b)) (beyond j high ∙ any-mapped r.cumulative j r.blocks)
+      ]
+    ]
+      where
+        known : (a b c : Bool) → a ≡ true → (a || b) ≡ (a || c)
+        known a b c e = rw e refl
+
+        front : (a b c d e : Bool) → b ≡ true → c ≡ true → (a || (b || d)) ≡ (a || (c || e))
+        front a b c d e f g = rw (f, g) refl
+
+    -- what both loops acknowledge
+    loops-told : (j : ℕ) → and_blocks (and_run (acknowledged_at x.world) x.world.taken top) top s.gap_ack_blocks j ≡ acknowledged_then x.world r j
+    loops-told j = by ∙ told-is j
+      where
+        old : (a b c d : Bool) → a ≡ true → ((a || (b && c)) || d) ≡ (a || (c || d))
+        old a b c d e = rw e refl
+
+        new : (a b c d : Bool) → b ≡ true → ((a || (b && c)) || d) ≡ (a || (c || d))
+        new true b c d e = refl
+        new false true c d e = refl
+        new false false c d e = cc
+
+        by : and_blocks (and_run (acknowledged_at x.world) x.world.taken top) top s.gap_ack_blocks j ≡ (acknowledged_at x.world j || told top s.gap_ack_blocks j)
+        by = elim (cases_lt j x.world.taken) [
+          | inl low ↦ old (acknowledged_at x.world j) (nat_le x.world.taken j) (nat_lt j top) _ (below-first j low)
+          | inr high ↦ new (acknowledged_at x.world j) (nat_le x.world.taken j) (nat_lt j top) _ (le-leb x.world.taken j high)
+        ]
+
+    -- ## It reports only what was given out
+
+    pub within-run : x.world.taken < top → top ≤ length x.world.slots
+    within-run lt = top-made
+
+    pub within-blocks : (j : ℕ) → list_any (in_block top j) s.gap_ack_blocks ≡ true → j < length x.world.slots
+    within-blocks j any = elim (cases_lt j top) [
+      | inl low ↦ omega (arith, low, top-made)
+      | inr high ↦ blocks-made x.world k r (reported sum x l) there j (sym (beyond j high) ∙ any)
+    ]
+
+    flying-count : length x.outbound.inflight.chunks ≡ length x.world.slots - x.world.taken
+    flying-count = flying x.world x.outbound l.outbound
+
+    count-acked : distance x.acked_tsn s.cumulative_tsn_ack ≡ top - x.world.taken
+    count-acked = ap (λ a. distance a s.cumulative_tsn_ack) l.acked ∙ ap (distance (cumulative_tsn x.world x.world.taken)) cum ∙ between x.world x.world.taken top first-fits (omega (arith, top_is)) top-short
+
+    current : comes_before s.cumulative_tsn_ack x.acked_tsn ≡ false
+    current = ap (comes_before s.cumulative_tsn_ack) l.acked ∙ ap (λ a. comes_before a (cumulative_tsn x.world x.world.taken)) cum ∙ up-to-date x.world x.world.taken top first-fits (omega (arith, top_is)) top-short
+
+    -- each block reports what is in flight beyond the cumulative TSN
+    block-within : (i : ℕ) (d : GapAckBlock) → i < length s.gap_ack_blocks → is_within (length x.outbound.inflight.chunks - (top - x.world.taken)) (get_or s.gap_ack_blocks i d) ≡ true
+    block-within i d lt = by (get_or s.gap_ack_blocks i d) refl (begin i d lt)
+      where
+        by : (b : GapAckBlock) → get_or s.gap_ack_blocks i d ≡ b → 0 < b.start → is_within (length x.outbound.inflight.chunks - (top - x.world.taken)) b ≡ true
+        by b is pos = elim (cases_lt b.end b.start) [
+          | inl none ↦ ap (λ t. t || (nat_lt 0 b.start && nat_le b.end (length x.outbound.inflight.chunks - (top - x.world.taken)))) (lt-ltb b.end b.start none)
+          | inr some ↦
+              let last : list_any (in_block top (top + b.end - 1)) s.gap_ack_blocks ≡ true = any-at (in_block top (top + b.end - 1)) s.gap_ack_blocks i d lt (ap (in_block top (top + b.end - 1)) is ∙ holds b pos some) in
+              let made = within-blocks (top + b.end - 1) last in
+              second (nat_lt b.end b.start) (nat_lt 0 b.start) (nat_le b.end (length x.outbound.inflight.chunks - (top - x.world.taken))) (lt-ltb 0 b.start pos)
+              (le-leb b.end (length x.outbound.inflight.chunks - (top - x.world.taken)) (omega (arith, made, pos, some, flying-count, top_is)))
+        ]
+          where
+            holds : (b : GapAckBlock) → 0 < b.start → b.start ≤ b.end → in_block top (top + b.end - 1) b ≡ true
+            holds b pos some = both (nat_le (top + b.start) (top + b.end - 1 + 1)) (nat_le (top + b.end - 1 + 1) (top + b.end)) (le-leb _ _ (omega (arith, pos, some))) (le-leb _ _ (omega (arith, pos, some)))
+              where
+                both : (p q : Bool) → p ≡ true → q ≡ true → (p && q) ≡ true
+                both p q e f = rw (e, f) refl
+
+            second : (p q t : Bool) → q ≡ true → t ≡ true → (p || (q && t)) ≡ true
+            second true q t e f = refl
+            second false q t e f = rw (e, f) refl
+
+    -- so it is not refused
+    pub not-refused : sack_refusal s (flight_in x) ≡ None
+    not-refused =
+        let n : ℕ = length x.outbound.inflight.chunks in
+        let enough' : nat_lt (length x.outbound.inflight.chunks) (distance x.acked_tsn s.cumulative_tsn_ack) ≡ false = le-ltb _ _ (omega (arith, count-acked, flying-count, top-made)) in
+        let each : list_all (is_within (length x.outbound.inflight.chunks - distance x.acked_tsn s.cumulative_tsn_ack)) s.gap_ack_blocks ≡ true =
+        ap (λ c. list_all (is_within (length x.outbound.inflight.chunks - c)) s.gap_ack_blocks) count-acked ∙ all-from (is_within (length x.outbound.inflight.chunks - (top - x.world.taken))) s.gap_ack_blocks block-within in
+        decide (comes_before s.cumulative_tsn_ack x.acked_tsn) (nat_lt (length x.outbound.inflight.chunks) (distance x.acked_tsn s.cumulative_tsn_ack)) _ current enough' each
+      where
+        decide : (a b c : Bool) → a ≡ false → b ≡ false → c ≡ true → (if a then None else (if b then Some InflightQueueTsnPop else (if c then None else Some TsnRequestNotExist))) ≡ None
+        decide a b c e f g = rw (e, f, g) refl
+
+    -- ## What it makes of all
+
+    abbrev left-chunks : List ChunkPayloadData
+    left-chunks = past s.cumulative_tsn_ack (change_where (reports_anew s) acknowledged x.outbound.inflight.chunks)
+
+    after-is : after_sack s (flight_in x) ≡ taken s (flight_in x)
+    after-is = ap (λ b. if b then flight_in x else taken s (flight_in x)) current
+
+    told-those : released_by s (flight_in x) ≡ map released_of (those (reports_anew s) x.outbound.inflight.chunks)
+    told-those = ap (λ b. if b then [] else map released_of (those (reports_anew s) x.outbound.inflight.chunks)) current
+
+    marked : IsInFlight x.world (acknowledged_then x.world r) x.world.taken (length x.world.slots - x.world.taken) (change_where (reports_anew s) acknowledged x.outbound.inflight.chunks)
+    marked =
+        let f = facts sum x l in
+        let few = f.few in
+        in-flight-same x.world (λ j. acknowledged_at x.world j || told top s.gap_ack_blocks j) (acknowledged_then x.world r) x.world.taken (length x.world.slots - x.world.taken) (change_where (reports_anew s) acknowledged x.outbound.inflight.chunks) (λ j a b. told-is j)
+        (marked-all x.world s top first-fits top-short cum (acknowledged_at x.world) x.outbound.inflight.chunks x.world.taken (length x.world.slots - x.world.taken) (let t = f.taken in omega (arith, few, t)) (in-flight-first x.world x.outbound l.outbound))
+
+    left : IsInFlight x.world (acknowledged_then x.world r) (max x.world.taken r.cumulative) (length x.world.slots - max x.world.taken r.cumulative) left-chunks
+    left =
+        let f = facts sum x l in
+        let few = f.few in
+        let t = f.taken in
+        let all : x.world.taken + (length x.world.slots - x.world.taken) ≡ length x.world.slots = omega (arith, t) in
+        let same : max x.world.taken top ≡ max x.world.taken r.cumulative = omega (arith, top_is) in
+        subst (λ c. IsInFlight x.world (acknowledged_then x.world r) (max x.world.taken r.cumulative) (length x.world.slots - max x.world.taken r.cumulative) (past c (change_where (reports_anew s) acknowledged x.outbound.inflight.chunks))) (sym cum)
+        (subst (λ m. IsInFlight x.world (acknowledged_then x.world r) m (length x.world.slots - m) (past (cumulative_tsn x.world top) (change_where (reports_anew s) acknowledged x.outbound.inflight.chunks))) same
+        (subst (λ n. IsInFlight x.world (acknowledged_then x.world r) (max x.world.taken top) (n - max x.world.taken top) (past (cumulative_tsn x.world top) (change_where (reports_anew s) acknowledged x.outbound.inflight.chunks))) all
+        (front-leaves x.world s top first-fits top-short cum (acknowledged_then x.world r) (change_where (reports_anew s) acknowledged x.outbound.inflight.chunks) x.world.taken (length x.world.slots - x.world.taken) (omega (arith, few, t)) marked)))
+
+    -- each chunk that left is short
+    pub each-short : (rs : List Released) → rs ≡ released_by s (flight_in x) → (i : ℕ) (d : Released) → i < length rs → (slice_index_or rs i d).bytes < 2 ^ 63
+    each-short rs is i d lt =
+        let t = (facts sum x l).taken in
+        let same = is ∙ told-those in
+        let short = told-short x.world.setup.first x.world (acks sum x l) (acknowledged_at x.world) (reports_anew s) x.outbound.inflight.chunks x.world.taken (length x.world.slots - x.world.taken) (omega (arith, t)) (in-flight-first x.world x.outbound l.outbound) i d (omega (arith, lt, ap length same)) in
+        omega (arith, short, ap (λ ys. (slice_index_or ys i d).bytes) same)
+
+    amounts : (j : ℕ) (d : OpenStream) → j < length x.open_streams → slice_index_or (released (map released_of (those (reports_anew s) x.outbound.inflight.chunks)) x.open_streams) j d ≡ as_left x.world r (slice_index_or x.open_streams j d)
+    amounts j d lt =
+        let f = facts sum x l in
+        let le = f.taken in
+        let t : ℕ = (slice_index_or x.open_streams j d).state.stream_identifier in
+        let a = acks sum x l in
+        let old = on-unacked x.world.setup.first x.world a (acknowledged_at x.world) t x.outbound.inflight.chunks x.world.taken le below-first (in-flight-first x.world x.outbound l.outbound) in
+        let new = on-unacked x.world.setup.first x.world a (acknowledged_then x.world r) t (change_where (reports_anew s) acknowledged x.outbound.inflight.chunks) x.world.taken le (λ p lt. then-below x.world r p below-first (omega (arith, lt))) marked in
+        let less = told-on (reports_anew s) t x.outbound.inflight.chunks in
+        let had = (l.open_streams j d lt).amount ∙ amount-is x.world t f.sane.sender in
+        released-at (map released_of (those (reports_anew s) x.outbound.inflight.chunks)) x.open_streams j d lt
+        ∙ ap (λ m. with_amount m (slice_index_or x.open_streams j d)) (fewer (slice_index_or x.open_streams j d).state.buffered_amount (released_on t (map released_of (those (reports_anew s) x.outbound.inflight.chunks))) (on_stream x.world t (pending_bytes x.world)) (unacked_on x.world (acknowledged_at x.world) t) (unacked_on x.world (acknowledged_then x.world r) t) (chunks_on t x.outbound.inflight.chunks) (chunks_on t (change_where (reports_anew s) acknowledged x.outbound.inflight.chunks)) had less old new)
+      where
+        fewer : (a rel pend u v c d : ℕ) → a ≡ pend + u → rel + d ≡ c → c ≡ u → d ≡ v → a - rel ≡ pend + v
+        fewer a rel pend u v c d e f g h = omega (arith, e, f, g, h)
+
+    bytes-left : bytes_of x.outbound.inflight.chunks - bytes_of left-chunks ≡ growth x.world (sack_taken x.world (Some (Sack r)))
+    bytes-left =
+        let f = facts sum x l in
+        let sender = f.sane.sender in
+        let first = bytes-unacked x.world (acknowledged_at x.world) x.outbound.inflight.chunks x.world.taken sender f.taken below-first (in-flight-first x.world x.outbound l.outbound) in
+        let last = bytes-unacked x.world (acknowledged_then x.world r) left-chunks (max x.world.taken r.cumulative) sender (omega (arith, f.taken, enough)) (λ p lt. then-below x.world r p below-first lt) left in
+        ap (λ n. n - bytes_of left-chunks) first ∙ ap (λ n. unacked x.world (acknowledged_at x.world) - n) last ∙ sym (growth-acked x.world r sender)
+
+    then-is : sack_taken x.world (Some (Sack r)) ≡ after x.world (E.Acked k)
+    then-is = ap (sack_taken x.world) (sym there)
+
+    pub taken-all : (rs : List Released) (now : OpenStreams) (xs : List Slot) (g : Flight)
+        → x.world.streams ≡ map stream_record x.open_streams → rs ≡ released_by s (flight_in x) → now.items.items ≡ released rs x.open_streams → now.places ≡ x.places → g ≡ after_sack s (flight_in x)
+        → IsMarking x.world (and_blocks (and_run (acknowledged_at x.world) x.world.taken top) top s.gap_ack_blocks) xs
+        → Taken sum x k now xs g top
+    taken-all rs now xs g streams told' items places moved marks =
+        let items' : now.items.items ≡ released (map released_of (those (reports_anew s) x.outbound.inflight.chunks)) x.open_streams = items ∙ ap (λ t. released t x.open_streams) (told' ∙ told-those) in
+        let ls : now.items.items ≡ map (as_left x.world r) x.open_streams =
+        items' ∙ streams-then x.world r x.open_streams (released (map released_of (those (reports_anew s) x.outbound.inflight.chunks)) x.open_streams) (length-released (map released_of (those (reports_anew s) x.outbound.inflight.chunks)) x.open_streams) amounts in
+        let slots = slots-then x.world r xs (marking-same x.world (and_blocks (and_run (acknowledged_at x.world) x.world.taken top) top s.gap_ack_blocks) (acknowledged_then x.world r) xs loops-told marks) in
+        let world : world_taken x.world now.items.items xs top ≡ sack_taken x.world (Some (Sack r)) =
+        ap (λ ys. world_taken x.world ys xs top) ls
+        ∙ ap (λ rs. let v : World = record x.world { streams = rs; slots = map slot_record xs; taken = top } in v) (streams-left x.world r x.open_streams ∙ sym streams)
+        ∙ ap (λ ys. let v : World = record x.world { slots = ys; taken = top } in v) slots
+        ∙ ap (λ t. let v : World = record (sack_taken x.world (Some (Sack r))) { taken = t } in v) top_is in
+        let whole : g ≡ taken s (flight_in x) = moved ∙ after-is in
+        let indexed : IsIndexed now.places (stream_numbers (map (as_left x.world r) x.open_streams)) =
+        subst (λ p. IsIndexed p (stream_numbers (map (as_left x.world r) x.open_streams))) (sym places) (subst (IsIndexed x.places) (sym (numbers-left x.world r x.open_streams)) l.indexed) in
+        record {
+          linked =
+              subst (λ u. IsLinked sum (record x { world = u; open_streams = now.items.items; places = now.places; outbound = g.queue; next_tsn = g.next_tsn; acked_tsn = g.acked_tsn })) (sym world)
+              (subst (λ (h : Flight). IsLinked sum (record x { world = sack_taken x.world (Some (Sack r)); open_streams = now.items.items; places = now.places; outbound = h.queue; next_tsn = h.next_tsn; acked_tsn = h.acked_tsn })) (sym whole)
+              (subst (λ ys. IsLinked sum (taken_state x r ys now.places (with_inflight x.outbound left-chunks) s.cumulative_tsn_ack)) (sym ls)
+              (linked-taken sum x k r now.places left-chunks s.cumulative_tsn_ack l (cum ∙ ap (cumulative_tsn x.world) top_is) indexed none there left)));
+          moves = world ∙ then-is;
+          bytes = ap (λ (h : Flight). bytes_of x.outbound.inflight.chunks - bytes_of h.queue.inflight.chunks) whole ∙ bytes-left ∙ ap (growth x.world) then-is;
+        }

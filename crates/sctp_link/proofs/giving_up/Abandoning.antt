@@ -12,7 +12,7 @@ use Rattle.sctp_model.specs.World as W
 use Rattle.sctp_model.specs.World.{World}
 use Rattle.sctp_model.specs.Messages.{message_at, ordered_before, sent_of, tsn_of, is_half_sent}
 use Rattle.sctp_model.specs.Receiver.{next_of}
-use Rattle.sctp_model.specs.Contents.{contents_of}
+use Rattle.sctp_model.specs.Contents.{contents_of, cumulative_tsn}
 use Rattle.sctp_model.specs.Queues.{filter_of}
 use Rattle.sctp_model.specs.Amounts.{in_all, written_bytes}
 use Rattle.sctp_model.specs.Changes.{abandoned, mark_abandoned}
@@ -118,6 +118,7 @@ module _ (sum : List ℕ → ℕ) (x : State) (l : IsLinked sum x) (e : Event) (
       unstarted = l.unstarted ∙ sym unstarted;
       filter = l.filter ∙ sym (ap filter_of (sym is) ∙ filter-kept sum x l e ok quiet);
       next = next_is;
+      acked = l.acked ∙ ap (λ u. cumulative_tsn u u.taken) (sym (abandoned-is w n));
       fragments = l.fragments ∙ sym (ap fragments_accepted (sym is) ∙ fragments-same sum x l e ok no-write);
       written = l.written ∙ sym (ap (λ u. in_all u (written_bytes u)) (sym is) ∙ written-kept sum x l e ok no-write);
       sents = λ k lt. l.sents k (omega (arith, lt, count-then w n)) ∙ sym (sent-then w n k);
@@ -156,5 +157,7 @@ module _ (sum : List ℕ → ℕ) (x : State) (l : IsLinked sum x) (e : Event) (
           subst (λ p. IsLinked sum (record x { world = record x.world { streams = map stream_record ls; messages = map message_record (slice_set ms n m'); slots = map slot_record ss' }; open_streams = ls; progress = p; outbound = q; next_tsn = next })) (sym (map-set_same progress_of ms n m' d (ap progress_of took) ∙ sym ep))
           (moved sum (record x { world = record x.world { streams = map stream_record ls; messages = map message_record (slice_set ms n m'); slots = map slot_record ss' }; open_streams = ls; outbound = q; next_tsn = next }) v world-given linked-after)
 
-      pub linked-given : (places : BTreeMap ℕ ℕ) → places ≡ x.places → IsLinked sum (record x { world = record x.world { streams = map stream_record ls; messages = map message_record (slice_set ms n m'); slots = map slot_record ss' }; open_streams = ls; places = places; progress = map progress_of (slice_set ms n m'); outbound = q; next_tsn = next })
-      linked-given places e = subst (λ p. IsLinked sum (record x { world = record x.world { streams = map stream_record ls; messages = map message_record (slice_set ms n m'); slots = map slot_record ss' }; open_streams = ls; places = p; progress = map progress_of (slice_set ms n m'); outbound = q; next_tsn = next })) (sym e) at-places
+      pub linked-given : (places : BTreeMap ℕ ℕ) (acked : ℕ) → places ≡ x.places → acked ≡ x.acked_tsn → IsLinked sum (record x { world = record x.world { streams = map stream_record ls; messages = map message_record (slice_set ms n m'); slots = map slot_record ss' }; open_streams = ls; places = places; progress = map progress_of (slice_set ms n m'); outbound = q; next_tsn = next; acked_tsn = acked })
+      linked-given places acked e f =
+          subst (λ a. IsLinked sum (record x { world = record x.world { streams = map stream_record ls; messages = map message_record (slice_set ms n m'); slots = map slot_record ss' }; open_streams = ls; places = places; progress = map progress_of (slice_set ms n m'); outbound = q; next_tsn = next; acked_tsn = a })) (sym f)
+          (subst (λ p. IsLinked sum (record x { world = record x.world { streams = map stream_record ls; messages = map message_record (slice_set ms n m'); slots = map slot_record ss' }; open_streams = ls; places = p; progress = map progress_of (slice_set ms n m'); outbound = q; next_tsn = next })) (sym e) at-places)

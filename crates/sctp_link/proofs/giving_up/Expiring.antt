@@ -14,6 +14,7 @@ use Rattle.sctp_outbound.specs.outbound_queue.OutboundQueue.{Outbound, expired_o
 use Rattle.sctp_model.specs.declared.event.Event.TheVariants as E
 use Rattle.sctp_model.specs.Reply as R
 use Rattle.sctp_model.specs.World.{World}
+use Rattle.sctp_model.specs.Contents.{cumulative_tsn}
 use Rattle.sctp_model.specs.Messages.{message_at, ordered_before, sent_of, tsn_of, front}
 use Rattle.sctp_model.specs.Receiver.{next_of}
 use Rattle.sctp_model.specs.Changes.{expired, expiring, mark_expired, message_changed}
@@ -82,6 +83,7 @@ module _ (sum : List ℕ → ℕ) (x : State) (l : IsLinked sum x) (now : ℕ) w
       unstarted = unstarted-expired;
       filter = l.filter;
       next = l.next;
+      acked = l.acked;
       fragments = l.fragments;
       written = l.written;
       sents = l.sents;
@@ -182,6 +184,7 @@ module _ (sum : List ℕ → ℕ) (x : State) (l : IsLinked sum x) (now : ℕ) w
         unstarted = unstarted-expired q moves;
         filter = l.filter ∙ sym (filter-kept sum x l (E.Expire now) refl quiet);
         next = l.next ∙ next-same (expiring x.world now);
+        acked = l.acked ∙ ap (λ u. cumulative_tsn u u.taken) (sym is);
         fragments = l.fragments ∙ sym (fragments-same sum x l (E.Expire now) refl refl);
         written = l.written ∙ sym (written-kept sum x l (E.Expire now) refl refl);
         sents = λ k lt. l.sents k (omega (arith, lt, count-same (expiring x.world now))) ∙ sym (sents-same (expiring x.world now) k);

@@ -1,8 +1,8 @@
 -- A message is given up: what the outbound queue answers.
-use Rattle.std.proofs.Common.{◌≡◌, ℕ, ◌+◌, ◌-◌, ◌<◌, ◌≤◌, ◌^◌, Bool, true, false, List, length, Option, Some, None, refl, ap, sym, ◌∙◌, arith}
-use Rattle.std.specs.Prelude.{if◌then◌else◌, ◌==◌, ◌&&◌, not, nat_le, nat_lt, find}
-use Rattle.std.specs.Option.{option_map}
+use Rattle.std.proofs.Common.{◌≡◌, ℕ, ◌+◌, ◌-◌, ◌<◌, ◌≤◌, ◌^◌, Bool, true, false, List, [], ◌∷◌, length, length-append, Option, Some, None, refl, ap, sym, ◌∙◌, arith}
+use Rattle.std.specs.Prelude.{if◌then◌else◌, ◌==◌, ◌&&◌, not, nat_le, nat_lt, find, is_some}
 use Rattle.std.proofs.Math.Path.{subst}
+use Rattle.std.proofs.lemmas.Bool.{lt-ltb}
 use Rattle.std.proofs.lemmas.Bool.Decides.{nat_tests}
 use Rattle.sctp_lists.proofs.More.{both}
 use Rattle.sctp_chunks.specs.declared.chunk.chunk_payload_data.ChunkPayloadData.{ChunkPayloadData}
@@ -13,25 +13,28 @@ use Rattle.sctp_outbound.specs.outbound_queue.OutboundQueue.{Outbound, to_abando
 use Rattle.sctp_model.specs.declared.event.Event.{Event}
 use Rattle.sctp_model.specs.declared.event.Event.TheVariants as E
 use Rattle.sctp_model.specs.declared.event.LinkRefusal.TheVariants.{NotInFlight}
-use Rattle.sctp_model.specs.World.{World}
+use Rattle.sctp_model.specs.World.{World, Slot}
 use Rattle.sctp_model.specs.Messages.{message_at, message_of, tsn_of, place_of, sent_of, fragment_count, deadline_of, is_reached, is_lapsed, is_half_sent, is_in_flight}
 use Rattle.sctp_model.specs.Amounts.{growth}
 use Rattle.sctp_model.specs.Changes.{abandoned, tailing, tail_abandoned, front_if}
 use Rattle.sctp_model.specs.Reply as R
-use Rattle.sctp_model.specs.Steps.{IsRight, refusal_of, reply_to, tail_reply, after}
-use Rattle.sctp_model.proofs.sender.SenderRun.{unless-holds}
+use Rattle.sctp_model.specs.Steps.{IsRight, refusal_of, reply_to, tail_reply, after, world_of}
+use Rattle.sctp_model.proofs.sender.SenderRun.{unless-holds, sane-run}
+use Rattle.sctp_model.proofs.sender.Few
 use Rattle.sctp_model.proofs.sender.SenderSteps.{is-half}
 use Rattle.sctp_model.proofs.sender.Fronts.{front-takes}
 use Rattle.sctp_model.proofs.sender.Shape.{shape}
 use Rattle.sctp_ties.specs.Amount.{held_bytes}
 use Rattle.sctp_ties.specs.Tied.{TiedOutbound}
+use Rattle.sctp_ties.proofs.giving_up.AbandonedLink.{mark_of, abandoned-is}
 use Rattle.sctp_ties.proofs.giving_up.AbandonedBytes.{bytes-abandon, bytes-tail}
 use Rattle.sctp_ties.proofs.giving_up.AbandonedEvents.{tied-abandon, next-abandon, tied-tail, next-tail, tail-is, tail-tsn}
 use Rattle.sctp_ties.proofs.sending.InFlight.{Found, found-in}
 use Rattle.sctp_ties.proofs.giving_up.Released.{growth-abandon, growth-tail}
 use Rattle.sctp_link.specs.Linked.{State, IsLinked}
 use Rattle.sctp_link.proofs.upkeep.Bounds.{queued-few, written-few}
-use Rattle.sctp_link.proofs.upkeep.Facts.{facts, over}
+use Rattle.sctp_link.proofs.upkeep.Facts.{facts, over, stands-then}
+use Rattle.sctp_link.proofs.sender.Flying.{flying}
 use Rattle.sctp_link.proofs.sender.Sending.{Next, next-is, none-next}
 
 -- the event gives up the message: the bytes that left, the queue and the next TSN then
@@ -51,6 +54,16 @@ unstarted-same (Some n) tsn q = refl
 
 inner : {A : Type 0} {a b : A} → Some a ≡ Some b → a ≡ b
 inner e = cc
+
+-- where the message is half-sent its end mark takes a slot, so a further TSN may be given out
+half-fits : (sum : List ℕ → ℕ) (x : State) (l : IsLinked sum x) (e : Event) (n : ℕ) → refusal_of x.world e ≡ None → after x.world e ≡ abandoned x.world n → is_half_sent x.world n ≡ true → nat_lt (length x.outbound.inflight.chunks + 1) (2 ^ 31) ≡ true
+half-fits sum x l e n ok is half =
+    let s = stands-then x.world.setup x.world l.history e ok l.stands in
+    let few = Few.few x.world.setup (world_of x.world.setup ((e, reply_to x.world e) ∷ l.history)) (sane-run x.world.setup ((e, reply_to x.world e) ∷ l.history) s.run) in
+    let count : length (world_of x.world.setup ((e, reply_to x.world e) ∷ l.history)).slots ≡ length x.world.slots + 1 =
+    ap (λ u. length u.slots) (sym s.is ∙ is ∙ abandoned-is x.world n) ∙ length-append x.world.slots (mark_of x.world n)
+    ∙ ap (λ b. length x.world.slots + length {A = Slot} (if b then record { message = n; fragment = sent_of x.world n; is_end_mark = true; arrived = false; acknowledged = false } ∷ [] else [])) half in
+    lt-ltb _ _ (omega (arith, few, count, flying x.world x.outbound l.outbound))
 
 -- ## The message of a TSN in flight
 
@@ -90,11 +103,11 @@ module _ (sum : List ℕ → ℕ) (x : State) (l : IsLinked sum x) (tsn : ℕ) (
       found-in w p (omega (arith, high, f.few)) x.outbound.inflight.chunks w.taken (length w.slots - w.taken) (omega (arith, f.few, f.taken)) low (omega (arith, high, f.taken)) l.outbound.in_flight
 
   -- the queue answers
-  pub never-none : option_map {T = ℕ × ℕ} {U = ℕ} (λ a. a.0) None ≡ option_map (λ c. c.stream_identifier) (find (has_tsn tsn) x.outbound.inflight.chunks) → ⊥
-  never-none e = differ (e ∙ ap (λ t. option_map (λ c. c.stream_identifier) (find (has_tsn t) x.outbound.inflight.chunks)) (sym back) ∙ ap (option_map (λ c. c.stream_identifier)) found.is)
-    where
-      differ : {A : Type 0} {a : A} → None ≡ Some a → ⊥
-      differ e = cc
+  pub held : is_some (find (has_tsn tsn) x.outbound.inflight.chunks) ≡ true
+  held = ap is_some (ap (λ t. find (has_tsn t) x.outbound.inflight.chunks) (sym back) ∙ found.is)
+
+  pub tail-fits : has_tail (to_abandon (find (has_tsn tsn) x.outbound.inflight.chunks)) x.outbound ≡ true → nat_lt (length x.outbound.inflight.chunks + 1) (2 ^ 31) ≡ true
+  tail-fits tail = half-fits sum x l (E.Abandon tsn) n ok refl (sym half-tail ∙ tail)
 
   pub gives : (bytes : ℕ) (q : Outbound) (next : ℕ) → q ≡ abandoned_of (to_abandon (find (has_tsn tsn) x.outbound.inflight.chunks)) x.next_tsn x.outbound → next ≡ tsn_after_of (to_abandon (find (has_tsn tsn) x.outbound.inflight.chunks)) x.next_tsn x.outbound → total_bytes q + bytes ≡ total_bytes x.outbound → Gives x (E.Abandon tsn) n bytes q next
   gives bytes q next eq en eb =
@@ -179,19 +192,18 @@ module _ (sum : List ℕ → ℕ) (x : State) (l : IsLinked sum x) (now : ℕ) w
     told : queue.message_of (expiring_tail now x.outbound) ≡ Some n
     told = tail-is x.world.setup x.world now x.outbound (facts sum x l).going l.outbound ∙ e
 
-    pub answer-is : (a : ℕ × ℕ × ℕ) → option_map {U = ℕ × ℕ} (λ a. (a.0, a.1)) (Some a) ≡ option_map {U = ℕ × ℕ} (λ c. (c.stream_identifier, c.message_id)) (expiring_tail now x.outbound) → a.1 ≡ n
-    answer-is a h = by (expiring_tail now x.outbound) told h
+    pub lapsed : is_some (expiring_tail now x.outbound) ≡ true
+    lapsed = by (expiring_tail now x.outbound) told
       where
-        by : (o : Option ChunkPayloadData) → queue.message_of o ≡ Some n → option_map {U = ℕ × ℕ} (λ a. (a.0, a.1)) (Some a) ≡ option_map {U = ℕ × ℕ} (λ c. (c.stream_identifier, c.message_id)) o → a.1 ≡ n
-        by None t z = cc
-        by (Some c) t z = ap (λ (y : ℕ × ℕ). y.1) (inner z) ∙ inner t
+        by : (o : Option ChunkPayloadData) → queue.message_of o ≡ Some n → is_some o ≡ true
+        by None t = cc
+        by (Some c) t = refl
 
-    pub never-idle : option_map {T = ℕ × ℕ × ℕ} {U = ℕ × ℕ} (λ a. (a.0, a.1)) None ≡ option_map {U = ℕ × ℕ} (λ c. (c.stream_identifier, c.message_id)) (expiring_tail now x.outbound) → ⊥
-    never-idle h = by (expiring_tail now x.outbound) told h
-      where
-        by : (o : Option ChunkPayloadData) → queue.message_of o ≡ Some n → option_map {T = ℕ × ℕ × ℕ} {U = ℕ × ℕ} (λ a. (a.0, a.1)) None ≡ option_map {U = ℕ × ℕ} (λ c. (c.stream_identifier, c.message_id)) o → ⊥
-        by None t z = cc
-        by (Some c) t z = cc
+    pub number-is : (a : ℕ) → queue.message_of (expiring_tail now x.outbound) ≡ Some a → a ≡ n
+    number-is a h = inner (sym h ∙ told)
+
+    pub rest-fits : is_half_sent x.world n ≡ true → nat_lt (length x.outbound.inflight.chunks + 1) (2 ^ 31) ≡ true
+    rest-fits half = half-fits sum x l (E.Tail now) n refl (ap (tail_abandoned x.world) e) half
 
     pub gives-tail : (bytes : ℕ) (q : Outbound) (next : ℕ) → n < length x.world.messages → q ≡ abandoned_of (queue.message_of (expiring_tail now x.outbound)) x.next_tsn x.outbound → next ≡ tsn_after_of (queue.message_of (expiring_tail now x.outbound)) x.next_tsn x.outbound → total_bytes q + bytes ≡ total_bytes x.outbound → Gives x (E.Tail now) n bytes q next
     gives-tail bytes q next made eq en eb =

@@ -59,6 +59,7 @@ module _ (sum : List ℕ → ℕ) (x : State) (l : IsLinked sum x) (ls : List Op
       unstarted = l.unstarted;
       filter = ap filter_shown filter_same ∙ l.filter;
       next = l.next;
+      acked = l.acked;
       fragments = l.fragments;
       written = l.written;
       sents = l.sents;

@@ -1,7 +1,7 @@
 -- A link with nothing opened yet.
 use Rattle.std.specs.BTreeMap.{BTreeMap}
 use Rattle.std.proofs.Common.{◌≡◌, ℕ, ◌+◌, ◌-◌, ◌<◌, ◌≤◌, ◌%◌, ◌^◌, List, [], map, None, refl, ap, arith}
-use Rattle.sctp_outbound.specs.outbound_queue.OutboundQueue.{Outbound}
+use Rattle.sctp_transfer.specs.Flight.{Flight, at_first}
 use Rattle.sctp_transfer.specs.TsnFilter.{Filter, preceding_tsn}
 use Rattle.sctp_model.specs.Queues.{FilterRecord}
 use Rattle.sctp_link.specs.declared.open_stream.OpenStream.{OpenStream}
@@ -13,21 +13,12 @@ use Rattle.sctp_link.specs.Linked.{State, IsLinked}
 use Rattle.sctp_link.specs.Places.{IsIndexed}
 use Rattle.sctp_link.specs.Records.{stream_record, message_record, slot_record, datagram_record, progress_of}
 
--- queues that nothing was pushed to
-abbrev pub no_outbound : Outbound
-no_outbound =
-    record {
-      pending = record { ordered = []; unordered = []; selected = None; ordered_room = 0; unordered_room = 0 };
-      inflight = record { chunks = []; duplicates = []; room = 0 };
-      next_message_id = 0;
-      next_unstarted = 0;
-    }
-
+-- a filter to which nothing came
 abbrev pub no_filter : ℕ → Filter
 no_filter first = record { cumulative_tsn = preceding_tsn first; beyond = []; duplicates = []; room = 0 }
 
-abbrev pub start_state : ℕ → ℕ → ℕ → ℕ → List OpenStream → BTreeMap ℕ ℕ → List Message → List Slot → List Datagram → List ℕ → Outbound → Filter → State
-start_state first size largest limit open_streams places messages slots network duplicates outbound filter =
+abbrev pub start_state : ℕ → ℕ → ℕ → ℕ → List OpenStream → BTreeMap ℕ ℕ → List Message → List Slot → List Datagram → List ℕ → Flight → Filter → State
+start_state first size largest limit open_streams places messages slots network duplicates flight filter =
     record {
       world = record {
         setup = setup_of first size largest limit;
@@ -44,14 +35,15 @@ start_state first size largest limit open_streams places messages slots network 
       progress = map progress_of messages;
       unstarted = 0;
       datagrams = map (λ d. d.bytes) network;
-      outbound = outbound;
-      next_tsn = first;
+      outbound = flight.queue;
+      next_tsn = flight.next_tsn;
+      acked_tsn = flight.acked_tsn;
       filter = filter;
       fragments = 0;
       written = 0;
     }
 
-linked-start : (sum : List ℕ → ℕ) (first size largest limit : ℕ) (places : BTreeMap ℕ ℕ) → first < 2 ^ 32 → 0 < size → size ≤ 65519 → IsIndexed places [] → IsLinked sum (start_state first size largest limit [] places [] [] [] [] no_outbound (no_filter first))
+linked-start : (sum : List ℕ → ℕ) (first size largest limit : ℕ) (places : BTreeMap ℕ ℕ) → first < 2 ^ 32 → 0 < size → size ≤ 65519 → IsIndexed places [] → IsLinked sum (start_state first size largest limit [] places [] [] [] [] (at_first first) (no_filter first))
 linked-start sum first size largest limit places fits some short indexed = record {
   setup = record { first = fits; some = some; size = short };
   history = [];
@@ -67,6 +59,7 @@ linked-start sum first size largest limit places fits some short indexed = recor
   unstarted = refl;
   filter = let same : first + (2 ^ 32 - 1) ≡ first + (2 ^ 32 - 1) + 0 = omega arith in ap (λ t. let r : FilterRecord = record { cumulative = t % 2 ^ 32; held = []; duplicates = [] } in r) same;
   next = omega (arith, fits);
+  acked = let same : first + (2 ^ 32 - 1) ≡ first + (2 ^ 32 - 1) + 0 = omega arith in ap (λ t. t % 2 ^ 32) same;
   fragments = refl;
   written = refl;
   sents = λ n lt. absurd (omega (arith, lt));
@@ -77,8 +70,8 @@ linked-start sum first size largest limit places fits some short indexed = recor
   texts = λ k d g e. cc;
 }
 
-pub linked-new : (sum : List ℕ → ℕ) (first size largest limit : ℕ) (open_streams : List OpenStream) (places : BTreeMap ℕ ℕ) (messages : List Message) (slots : List Slot) (network : List Datagram) (duplicates : List ℕ) (outbound : Outbound) (filter : Filter)
+pub linked-new : (sum : List ℕ → ℕ) (first size largest limit : ℕ) (open_streams : List OpenStream) (places : BTreeMap ℕ ℕ) (messages : List Message) (slots : List Slot) (network : List Datagram) (duplicates : List ℕ) (flight : Flight) (filter : Filter)
     → first < 2 ^ 32 → 0 < size → size ≤ 65519
-    → open_streams ≡ [] → IsIndexed places [] → messages ≡ [] → slots ≡ [] → network ≡ [] → duplicates ≡ [] → outbound ≡ no_outbound → filter ≡ no_filter first
-    → IsLinked sum (start_state first size largest limit open_streams places messages slots network duplicates outbound filter)
-linked-new sum first size largest limit open_streams places messages slots network duplicates outbound filter fits some short a indexed b c d e q f = rw (a, b, c, d, e, q, f) (linked-start sum first size largest limit places fits some short indexed)
+    → open_streams ≡ [] → IsIndexed places [] → messages ≡ [] → slots ≡ [] → network ≡ [] → duplicates ≡ [] → flight ≡ at_first first → filter ≡ no_filter first
+    → IsLinked sum (start_state first size largest limit open_streams places messages slots network duplicates flight filter)
+linked-new sum first size largest limit open_streams places messages slots network duplicates flight filter fits some short a indexed b c d e q f = rw (a, b, c, d, e, q, f) (linked-start sum first size largest limit places fits some short indexed)

@@ -9,7 +9,6 @@ use Rattle.sctp_lists.proofs.KeptLemmas.{length-kept-le}
 use Rattle.sctp_lists.proofs.More.{changed-same, changed-other, not_both}
 use Rattle.sctp_lists.proofs.Cases.{by_same, same-yes}
 use Rattle.sctp_chunks.specs.declared.chunk.chunk_payload_data.ChunkPayloadData.{ChunkPayloadData}
-use Rattle.sctp_serial.specs.Window.{SpansOneWindow, is_held}
 use Rattle.sctp_outbound.specs.pending_queue.PendingQueue.{peeked, started as pending_started}
 use Rattle.sctp_outbound.specs.outbound_queue.OutboundQueue.{Outbound, all_started, sent_of, sent_peeked, sent_next, following_tsn}
 use Rattle.sctp_model.specs.World.{World}
@@ -29,7 +28,6 @@ use Rattle.sctp_ties.proofs.sending.Begun
 use Rattle.sctp_ties.proofs.sending.Begun.{Indexed, indexed-taken}
 use Rattle.sctp_ties.proofs.sending.Filling.{after_fragments, after-next, next-tsn}
 use Rattle.sctp_ties.proofs.sending.Fragments.{shown, all-begun, tied-fragment, going-started}
-use Rattle.sctp_ties.proofs.sending.InFlight.{next-fresh, next-window}
 use Rattle.sctp_ties.proofs.sending.KindsRun.{Going, going-takes}
 use Rattle.sctp_ties.proofs.sending.LifetimesStart.{tied-started}
 use Rattle.sctp_link.specs.declared.open_stream.OpenStream.{OpenStream}
@@ -43,6 +41,7 @@ use Rattle.sctp_link.proofs.upkeep.Apart.{map-set, map-set_same, number-found}
 use Rattle.sctp_link.proofs.upkeep.Bounds.{messages-few}
 use Rattle.sctp_link.proofs.upkeep.Facts.{facts}
 use Rattle.sctp_link.proofs.upkeep.Lookups.{none-open}
+use Rattle.sctp_link.proofs.sender.Flying.{one-more-fits}
 use Rattle.sctp_link.proofs.sender.Beginning.{index_kept, indexed-of, plus_begun, numbers-begun, records-begun, length-begun, begun-at, found-one}
 use Rattle.sctp_link.proofs.sender.Starting.{starts-records, start-progress}
 
@@ -185,8 +184,9 @@ module _ (x : State) (now : ℕ) (v : World) (s : Sender) (b : Between x now v s
       fits = λ m at. omega (arith, sent-is n made-of m at, sent-few n);
       few = λ m at. begun-low m.stream;
       indexed = subst (λ p. IsIndexed p (stream_numbers s.streams)) (sym b.places) (subst (IsIndexed x.places) (sym b.numbers) indexed);
-      fresh = ap (is_held s.outbound.inflight.chunks) b.next ∙ next-fresh v s.outbound.inflight.chunks few b.outbound.in_flight;
-      window = subst (SpansOneWindow s.outbound.inflight.chunks) (sym b.next) (next-window v s.outbound.inflight.chunks few b.taken b.outbound.in_flight);
+      room =
+          let then' : Going x.world.setup (with_slot v n false) = subst (λ o. Going x.world.setup (fragment_of_sent v o)) fr (going-takes x.world.setup v b.going) in
+          one-more-fits x.world.setup v (with_slot v n false) s.outbound then' (length-append v.slots _) b.outbound;
     }
 
     -- ## It leaves

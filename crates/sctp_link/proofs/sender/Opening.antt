@@ -109,6 +109,7 @@ module _ (sum : List ℕ → ℕ) (x : State) (l : IsLinked sum x) (s : ℕ) (ok
     unstarted = l.unstarted;
     filter = l.filter;
     next = l.next;
+    acked = l.acked;
     fragments = l.fragments;
     written = l.written;
     sents = l.sents;

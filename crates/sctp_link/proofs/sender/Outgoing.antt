@@ -137,6 +137,7 @@ module _ (sum : List ℕ → ℕ) (x : State) (l : IsLinked sum x) (tsn : ℕ) (
     unstarted = l.unstarted ∙ sym (ap (λ (r : Outbound). r.next_unstarted) eq);
     filter = l.filter;
     next = l.next;
+    acked = l.acked;
     fragments = l.fragments;
     written = l.written;
     sents = l.sents;

@@ -13,7 +13,6 @@ use Rattle.sctp_chunks.specs.PayloadData.{data_of}
 use Rattle.sctp_chunks.specs.Wire.{data_chunk, HasText}
 use Rattle.sctp_chunks.specs.Fits.{Canonical}
 use Rattle.sctp_packets.specs.Packet.{ReadsPacket, packet_text}
-use Rattle.sctp_serial.specs.Window.{SpansOneWindow, is_held}
 use Rattle.sctp_outbound.specs.pending_queue.PendingQueue.{peeked}
 use Rattle.sctp_outbound.specs.outbound_queue.OutboundQueue.{after_sends}
 use Rattle.sctp_model.specs.declared.event.Event.TheVariants as E
@@ -38,7 +37,6 @@ use Rattle.sctp_ties.proofs.sending.Begun
 use Rattle.sctp_ties.proofs.sending.Begun.{Indexed}
 use Rattle.sctp_ties.proofs.sending.Filling.{Fills, fill-sent, fill-started, sent-started, after_fragments, only-slots, shown-after}
 use Rattle.sctp_ties.proofs.sending.Fragments.{shown, idle}
-use Rattle.sctp_ties.proofs.sending.InFlight.{next-fresh, next-window}
 use Rattle.sctp_ties.proofs.sending.InLine.{before-started}
 use Rattle.sctp_ties.proofs.acknowledging.QuietSender.{outbound-same, same-self}
 use Rattle.sctp_link.specs.Texts.{IsDatagram, packet_with, wire_data}
@@ -95,12 +93,6 @@ module _ (sum : List ℕ → ℕ) (x : State) (l : IsLinked sum x) where
   idle-right now new e is =
       let fr = none-next e in
       record { right = sym (ap (sent_reply x.world (sent x.world now)) fr); moves = is ∙ sym (ap (sent_from (started x.world now)) fr) }
-
-  pub tsn-fresh : is_held x.outbound.inflight.chunks x.next_tsn ≡ false
-  tsn-fresh = ap (is_held x.outbound.inflight.chunks) l.next ∙ next-fresh x.world x.outbound.inflight.chunks (facts sum x l).few l.outbound.in_flight
-
-  pub tsn-window : SpansOneWindow x.outbound.inflight.chunks x.next_tsn
-  tsn-window = subst (SpansOneWindow x.outbound.inflight.chunks) (sym l.next) (next-window x.world x.outbound.inflight.chunks (facts sum x l).few (facts sum x l).taken l.outbound.in_flight)
 
 -- ## What the chunks say
 
@@ -243,6 +235,7 @@ module _ (sum : List ℕ → ℕ) (x : State) (l : IsLinked sum x) (now n : ℕ)
       unstarted = sym b.begun;
       filter = l.filter ∙ sym (ap filter_of (sym sent-moves) ∙ filter-kept sum x l (E.Send now) refl quiet);
       next = b.next ∙ ap (λ y. tsn_of y (length z.slots)) only;
+      acked = l.acked;
       fragments = l.fragments ∙ sym (ap fragments_accepted (sym sent-moves) ∙ fragments-same sum x l (E.Send now) refl refl);
       written = l.written ∙ sym (ap (λ y. in_all y (written_bytes y)) (sym sent-moves) ∙ written-kept sum x l (E.Send now) refl refl);
       sents = λ k lt. b.sents k (omega (arith, lt, length-mapped (start_at now) w.messages));

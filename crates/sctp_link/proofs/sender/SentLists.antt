@@ -92,13 +92,14 @@ module _ (sum : List ℕ → ℕ) (x : State) (l : IsLinked sum x) (now : ℕ) (
             (subst (λ k. IsRight x.world (E.Send now) (R.Sent (length x.world.network) x.next_tsn ssn k) (Sending.v sum x l now c.message_id next.front)) (sym ec)
             (Sending.send-right sum x l now c.message_id next.front ssn (ess ∙ ap (λ (d : ChunkPayloadData). d.stream_sequence_number) next.is))))
 
-        pub linked-sent : (ks : List ChunkKind) → ks ≡ map C.PayloadData (chunks_taken x.world.setup.limit x.next_tsn x.outbound.pending) → bytes ≡ packet_text sum (packet_with (map wire_of ks)) → ReadsPacket sum bytes (packet_with (map wire_of ks)) → x.datagrams ≡ map (λ g. g.bytes) ds → (unstarted : ℕ) → unstarted ≡ length ms
-            → IsLinked sum (record x { world = record x.world { streams = map stream_record t.streams; messages = map message_record ms'; slots = map slot_record t.slots; network = map datagram_record ds' }; open_streams = t.streams; places = t.places; progress = map progress_of ms'; unstarted = unstarted; datagrams = map (λ g. g.bytes) ds'; outbound = t.outbound; next_tsn = t.next_tsn })
-        linked-sent ks eks text reads eb unstarted eu =
+        pub linked-sent : (ks : List ChunkKind) → ks ≡ map C.PayloadData (chunks_taken x.world.setup.limit x.next_tsn x.outbound.pending) → bytes ≡ packet_text sum (packet_with (map wire_of ks)) → ReadsPacket sum bytes (packet_with (map wire_of ks)) → x.datagrams ≡ map (λ g. g.bytes) ds → (unstarted : ℕ) → unstarted ≡ length ms → (acked : ℕ) → acked ≡ x.acked_tsn
+            → IsLinked sum (record x { world = record x.world { streams = map stream_record t.streams; messages = map message_record ms'; slots = map slot_record t.slots; network = map datagram_record ds' }; open_streams = t.streams; places = t.places; progress = map progress_of ms'; unstarted = unstarted; datagrams = map (λ g. g.bytes) ds'; outbound = t.outbound; next_tsn = t.next_tsn; acked_tsn = acked })
+        linked-sent ks eks text reads eb unstarted eu acked ea =
             let v = Sending.v sum x l now c.message_id next.front in
             let len : length x.datagrams ≡ length x.world.network = ap length eb ∙ length-mapped (λ (g : Datagram). g.bytes) ds ∙ sym (ap length en ∙ length-mapped datagram_record ds) in
             let whole = Sending.linked-send sum x l now c.message_id next.front t gone bytes (Sending.says sum x l now c.message_id next.front ks bytes eks text reads) len in
-            moved sum (record x { world = record x.world { streams = map stream_record t.streams; messages = map message_record ms'; slots = map slot_record t.slots; network = map datagram_record ds' }; open_streams = t.streams; places = t.places; progress = map progress_of ms'; unstarted = unstarted; datagrams = map (λ g. g.bytes) ds'; outbound = t.outbound; next_tsn = t.next_tsn }) v world-sent
+            subst (λ a. IsLinked sum (record x { world = record x.world { streams = map stream_record t.streams; messages = map message_record ms'; slots = map slot_record t.slots; network = map datagram_record ds' }; open_streams = t.streams; places = t.places; progress = map progress_of ms'; unstarted = unstarted; datagrams = map (λ g. g.bytes) ds'; outbound = t.outbound; next_tsn = t.next_tsn; acked_tsn = a })) (sym ea)
+            (moved sum (record x { world = record x.world { streams = map stream_record t.streams; messages = map message_record ms'; slots = map slot_record t.slots; network = map datagram_record ds' }; open_streams = t.streams; places = t.places; progress = map progress_of ms'; unstarted = unstarted; datagrams = map (λ g. g.bytes) ds'; outbound = t.outbound; next_tsn = t.next_tsn }) v world-sent
             (subst (λ a. IsLinked sum (record x { world = v; open_streams = t.streams; places = t.places; progress = map progress_of a; unstarted = unstarted; datagrams = map (λ g. g.bytes) ds'; outbound = t.outbound; next_tsn = t.next_tsn })) (sym em')
             (subst (λ a. IsLinked sum (record x { world = v; open_streams = t.streams; places = t.places; progress = map progress_of t.messages; unstarted = a; datagrams = map (λ g. g.bytes) ds'; outbound = t.outbound; next_tsn = t.next_tsn })) (sym (eu ∙ sym (ap length em ∙ length-mapped message_record ms)))
-            (subst (λ a. IsLinked sum (record x { world = v; open_streams = t.streams; places = t.places; progress = map progress_of t.messages; unstarted = length x.world.messages; datagrams = a; outbound = t.outbound; next_tsn = t.next_tsn })) (sym (bytes-more ds ds' kind bytes made ∙ ap (λ a. a ++ bytes ∷ []) (sym eb))) whole)))
+            (subst (λ a. IsLinked sum (record x { world = v; open_streams = t.streams; places = t.places; progress = map progress_of t.messages; unstarted = length x.world.messages; datagrams = a; outbound = t.outbound; next_tsn = t.next_tsn })) (sym (bytes-more ds ds' kind bytes made ∙ ap (λ a. a ++ bytes ∷ []) (sym eb))) whole))))

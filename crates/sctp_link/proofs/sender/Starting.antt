@@ -82,6 +82,7 @@ module _ (sum : List ℕ → ℕ) (x : State) (l : IsLinked sum x) (now : ℕ) w
     unstarted = sym (all-begun x.world now x.outbound l.outbound);
     filter = l.filter;
     next = l.next;
+    acked = l.acked;
     fragments = l.fragments ∙ sym (fragments-same sum x l (E.Start now) refl refl);
     written = l.written ∙ sym (written-kept sum x l (E.Start now) refl refl);
     sents = λ n lt. l.sents n (omega (arith, lt, length-mapped (start_at now) x.world.messages));

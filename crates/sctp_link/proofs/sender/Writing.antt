@@ -236,6 +236,7 @@ module _ (sum : List ℕ → ℕ) (x : State) (l : IsLinked sum x) (s : ℕ) (pp
       unstarted = l.unstarted ∙ sym (ap (λ (o : Outbound). o.next_unstarted) er ∙ same);
       filter = l.filter;
       next = l.next;
+      acked = l.acked;
       fragments = omega (arith, ef, ec, l.fragments, fragments-wrote);
       written = omega (arith, ew, l.written, written-wrote w s ppi bytes);
       sents = sents-wrote progress each es;

@@ -182,6 +182,7 @@ module _ (sum : List ℕ → ℕ) (x : State) (l : IsLinked sum x) (s : ℕ) (pp
           unstarted = l.unstarted ∙ sym (ap (λ (o : Outbound). o.next_unstarted) eq);
           filter = l.filter;
           next = l.next;
+          acked = l.acked;
           fragments = l.fragments;
           written = l.written;
           sents = l.sents;

@@ -119,6 +119,7 @@ module _ (sum : List ℕ → ℕ) (x : State) (l : IsLinked sum x) (upto : ℕ) 
     unstarted = l.unstarted;
     filter = l.filter;
     next = l.next;
+    acked = l.acked;
     fragments = l.fragments;
     written = l.written;
     sents = l.sents;

@@ -1,5 +1,5 @@
 -- What an event that leaves the sender's side as it was makes of a link.
-use Rattle.std.proofs.Common.{◌≡◌, ℕ, ◌+◌, ◌<◌, ◌%◌, ◌^◌, true, List, ◌∷◌, length, Some, None, ap, sym, ◌∙◌}
+use Rattle.std.proofs.Common.{◌≡◌, ℕ, ◌+◌, ◌-◌, ◌<◌, ◌%◌, ◌^◌, true, List, ◌∷◌, length, Some, None, ap, sym, ◌∙◌}
 use Rattle.std.specs.Prelude.{slice_get, slice_index_or}
 use Rattle.std.proofs.Math.Path.{subst}
 use Rattle.sctp_lists.specs.Kept.{kept, numbers_from, total_over}
@@ -85,6 +85,7 @@ module _ (sum : List ℕ → ℕ) (x : State) (l : IsLinked sum x) (e : Event) (
       unstarted = l.unstarted;
       filter = filter_is;
       next = l.next ∙ ap (tsn_of w) (sym (ap (λ b. b.slots) s.shape_is)) ∙ ap (λ a. (a + length v.slots) % 2 ^ 32) (sym first-same);
+      acked = l.acked ∙ ap (λ a. (a + (2 ^ 32 - 1) + w.taken) % 2 ^ 32) (sym first-same) ∙ ap (λ k. (v.setup.first + (2 ^ 32 - 1) + k) % 2 ^ 32) (sym q.taken);
       fragments = l.fragments ∙ sym (ap (λ b. total_over (parts b) (numbers_from 0 b.count)) s.shape_is);
       written = l.written ∙ sym (ap (λ b. total_over (λ n. length (b.message n).bytes) (numbers_from 0 b.count)) s.shape_is);
       sents = λ n lt. ap (λ (c : List (ℕ × ℕ)). (slice_index_or c n (0, 0)).0) progress_same ∙ on-shape (λ b. (n : ℕ) → n < b.count → (slice_index_or x.progress n (0, 0)).0 ≡ sent b n) l.sents n lt;

@@ -1,10 +1,14 @@
 //! Messages that are given up once some of them was sent (RFC 3758 3.5, RFC 7496 4.1).
 
-ghost use Rattle.std.specs.Prelude.{◌≡◌, ◌<◌, ◌++◌, ◌^◌, Bool, true, false, None, OnOk, OnErr, IfOk, IsOk, IsOkUnless, length, vec_len, vec_capacity};
+ghost use Rattle.std.specs.Prelude.{◌≡◌, ◌<◌, ◌+◌, ◌++◌, ◌^◌, Bool, true, false, is_some, None, Some, OnOk, OnErr, IfOk, IsOk, IsOkUnless, find, length, vec_len, vec_capacity};
 ghost use Rattle.sctp_base.specs.declared.error.Error.TheVariants.{ErrOutOfMemory};
 ghost use Rattle.sctp_model.specs.Messages.{is_reached};
 ghost use Rattle.sctp_lists.specs.Lists.{change_where};
+ghost use Rattle.sctp_serial.specs.DataChunks.{has_tsn};
+ghost use Rattle.sctp_outbound.specs.outbound_queue.OutboundQueue.{total_bytes, has_tail, to_abandon, expiring_tail, message_of as message_of_chunk};
+ghost use Rattle.sctp_transfer.specs.Flight.{may_send};
 ghost use Rattle.sctp_link.specs.Acking.{less_by};
+ghost use Rattle.sctp_link.specs.GivenUp.{given_up};
 ghost use Rattle.sctp_link.specs.Linked.{has_number};
 ghost use Rattle.sctp_link.specs.OpenStreams.{marks};
 ghost use Rattle.sctp_link.specs.Places.{IsIndexed, stream_numbers};
@@ -14,8 +18,10 @@ use super::streams::fragments_in;
 use super::{Link, put};
 use crate::event::{LinkRefusal, Reply};
 use crate::record::{Message, Slot};
-use sctp_base::error::Result;
+use sctp_base::error::{Error, Result};
 use sctp_base::util::Checksum;
+use sctp_transfer::sender::flight::InFlight;
+use sctp_transfer::sender::refusal::SenderRefusal;
 
 impl<C: Checksum + Drop> Link<C> {
     ghost use Rattle.sctp_model.specs.Messages.{message_at, message_of, place_of, is_half_sent};
@@ -74,9 +80,7 @@ impl<C: Checksum + Drop> Link<C> {
         let number = self.slots[place].message;
         let half = self.is_half_sent(number as usize);
         make_room(&mut self.slots, half)?;
-        let Some((_, bytes)) = self.outbound.abandon(tsn, &mut self.next_tsn)? else {
-            unreachable!()
-        };
+        let bytes = abandon(&mut self.flight, tsn)?;
         let message = &mut self.messages[number as usize];
         let stream = message.stream;
         settle(
@@ -99,7 +103,7 @@ impl<C: Checksum + Drop> Link<C> {
         ensures memory { IsOkUnless result ErrOutOfMemory }
         ensures wants { OnErr result (takes_memory self.old.world (E.Tail now) ≡ true) }
     {
-        let Some(chunk) = self.outbound.peek_pending() else {
+        let Some(chunk) = self.flight.queue().peek_pending() else {
             return Ok(Reply::Idle);
         };
         if chunk.beginning_fragment {
@@ -109,10 +113,7 @@ impl<C: Checksum + Drop> Link<C> {
             return Ok(Reply::Idle);
         }
         make_room(&mut self.slots, true)?;
-        let answer = self.outbound.expire_pending_tail(now, &mut self.next_tsn)?;
-        let Some((_, number, bytes)) = answer else {
-            unreachable!()
-        };
+        let (number, bytes) = expire_tail(&mut self.flight, now)?;
         let message = &mut self.messages[number as usize];
         let stream = message.stream;
         settle(
@@ -127,6 +128,46 @@ impl<C: Checksum + Drop> Link<C> {
             stream,
             bytes: bytes as u64,
         })
+    }
+}
+
+/// Gives up the message of a chunk in flight, and answers the bytes that left. Refuses only for memory, and nothing changes then.
+/// Precondition: the TSN is in flight, and where some of the message still waits a further TSN may be given out.
+fn abandon(flight: &mut InFlight, tsn: u32) -> Result<usize>
+    requires held { is_some (find (has_tsn tsn) flight.old.queue.inflight.chunks) ≡ true }
+    requires tail { has_tail (to_abandon (find (has_tsn tsn) flight.old.queue.inflight.chunks)) flight.old.queue ≡ true
+        → may_send flight.old ≡ true }
+    ensures ok { OnOk result (flight.new ≡
+        given_up (to_abandon (find (has_tsn tsn) flight.old.queue.inflight.chunks)) flight.old) }
+    ensures released { IfOk result (λ bytes. total_bytes flight.new.queue + bytes ≡ total_bytes flight.old.queue) }
+    ensures err { OnErr result (flight.new ≡ flight.old) }
+    ensures memory { IsOkUnless result ErrOutOfMemory }
+    ensures no_tail { has_tail (to_abandon (find (has_tsn tsn) flight.old.queue.inflight.chunks)) flight.old.queue ≡ false
+        → IsOk result }
+{
+    match flight.abandon(tsn) {
+        Ok(Some((_, bytes))) => Ok(bytes),
+        Err(SenderRefusal::OutOfMemory) => Err(Error::ErrOutOfMemory),
+        _ => unreachable!(),
+    }
+}
+
+/// Gives up the rest of the half-sent message in front, which is lapsed, and answers its number and the bytes that left; `now` is
+/// in nanoseconds. Refuses only for memory, and nothing changes then.
+/// Precondition: there is such a message, and a further TSN may be given out.
+fn expire_tail(flight: &mut InFlight, now: u64) -> Result<(u64, usize)>
+    requires lapsed { is_some (expiring_tail now flight.old.queue) ≡ true }
+    requires next { may_send flight.old ≡ true }
+    ensures ok { OnOk result (flight.new ≡ given_up (message_of_chunk (expiring_tail now flight.old.queue)) flight.old) }
+    ensures number { IfOk result (λ r. message_of_chunk (expiring_tail now flight.old.queue) ≡ Some r.0) }
+    ensures released { IfOk result (λ r. total_bytes flight.new.queue + r.1 ≡ total_bytes flight.old.queue) }
+    ensures err { OnErr result (flight.new ≡ flight.old) }
+    ensures memory { IsOkUnless result ErrOutOfMemory }
+{
+    match flight.expire_tail(now) {
+        Ok(Some((_, number, bytes))) => Ok((number, bytes)),
+        Err(SenderRefusal::OutOfMemory) => Err(Error::ErrOutOfMemory),
+        _ => unreachable!(),
     }
 }
 

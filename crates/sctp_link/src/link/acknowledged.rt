@@ -1,23 +1,27 @@
 //! What is acknowledged to a link (RFC 4960 3.3.4, 6.2.1).
 
-ghost use Rattle.std.specs.Prelude.{◌≡◌, ◌<◌, ◌≤◌, ◌+◌, ◌-◌, ◌^◌, ℕ, Bool, true, None, Some, List, OnErr, IfOk, IsOkUnless, length};
+ghost use Rattle.std.specs.Prelude.{◌≡◌, ◌<◌, ◌≤◌, ◌+◌, ◌-◌, ◌^◌, ℕ, Bool, true, None, OnOk, OnErr, IfOk, IsOkUnless, length, slice_index_or};
 ghost use Rattle.std.specs.List.{list_any};
 ghost use Rattle.sctp_base.specs.declared.error.Error.TheVariants.{ErrOutOfMemory};
-ghost use Rattle.sctp_outbound.specs.outbound_queue.OutboundQueue.{Outbound, with_inflight};
+ghost use Rattle.sctp_chunks.specs.SelectiveAck.{sack_of};
+ghost use Rattle.sctp_outbound.specs.payload_queue.Blocks.{covered};
+ghost use Rattle.sctp_transfer.specs.Flight.{sack_refusal, after_sack, released_by};
+ghost use Rattle.sctp_transfer.specs.declared.sender.flight.Released.{Released};
 ghost use Rattle.sctp_model.specs.World.{World};
-ghost use Rattle.sctp_ties.specs.Tied.{IsInFlight};
-ghost use Rattle.sctp_link.specs.declared.open_stream.OpenStream.{OpenStream};
-ghost use Rattle.sctp_link.specs.Acking.{Acks, IsAcking, and_one, and_run, and_blocks, in_block};
+ghost use Rattle.sctp_link.specs.Acking.{IsMarking, IsNearer, and_run, and_blocks, in_block, released};
+ghost use Rattle.sctp_link.specs.Places.{IsIndexed, stream_numbers};
 
 use super::Link;
 use super::open_streams::OpenStreams;
 use crate::datagram::read_sack;
 use crate::event::{LinkRefusal, Reply};
 use crate::record::{Kind, Slot};
-use sctp_base::error::Result;
+use sctp_base::error::{Error, Result};
 use sctp_base::util::Checksum;
-use sctp_chunks::chunk::chunk_selective_ack::GapAckBlock;
-use sctp_queues::outbound_queue::OutboundQueue;
+use sctp_chunks::chunk::chunk_selective_ack::{ChunkSelectiveAck, GapAckBlock};
+use sctp_transfer::sender::flight::{InFlight, Released};
+use sctp_transfer::sender::refusal::SenderRefusal;
+use std::alloc::Global;
 
 impl<C: Checksum + Drop> Link<C> {
     ghost use Rattle.sctp_model.specs.Steps.{IsRight, refusal_of};
@@ -47,107 +51,112 @@ impl<C: Checksum + Drop> Link<C> {
         ensures err { OnErr result (self.new.world ≡ self.old.world) }
         ensures memory { IsOkUnless result ErrOutOfMemory }
     {
-        let sack = read_sack(self.alloc, &self.network[k as usize].bytes, &self.checksum)?;
+        let mut sack = read_sack(self.alloc, &self.network[k as usize].bytes, &self.checksum)?;
         let cumulative = sack
             .cumulative_tsn_ack
             .wrapping_sub(self.first_tsn)
             .wrapping_add(1) as usize;
-        let before = self.outbound.inflight_bytes();
-        acknowledge_run(
-            &mut self.slots,
-            &mut self.open_streams,
-            &mut self.outbound,
-            self.first_tsn,
-            self.taken,
-            cumulative,
-        );
-        acknowledge_blocks(
-            &mut self.slots,
-            &mut self.open_streams,
-            &mut self.outbound,
-            self.first_tsn,
-            cumulative,
-            &sack.gap_ack_blocks,
-        );
-        pop_run(&mut self.outbound, self.first_tsn, self.taken, cumulative);
-        self.taken = self.taken.max(cumulative);
-        let bytes = before.saturating_sub(self.outbound.inflight_bytes()) as u64;
+        let taken = self.taken.max(cumulative);
+        // One that a later SACK overtook is told from the cumulative TSN of the later one.
+        let upto = self.first_tsn.wrapping_sub(1).wrapping_add(taken as u32);
+        rebase(&mut sack, upto, taken - cumulative);
+        let before = self.flight.queue().inflight_bytes();
+        let released = take_sack(&mut self.flight, self.alloc, &sack)?;
+        release_each(&mut self.open_streams, &released);
+        acknowledge_run(&mut self.slots, self.taken, taken);
+        acknowledge_blocks(&mut self.slots, taken, &sack.gap_ack_blocks);
+        self.taken = taken;
+        let bytes = before.saturating_sub(self.flight.queue().inflight_bytes()) as u64;
         Ok(Reply::Acked { bytes })
     }
 }
 
-/// Acknowledges the slot at a place: what it has in flight leaves, and its stream has so much less.
-fn acknowledge(
-    slots: &mut [Slot],
-    open_streams: &mut OpenStreams,
-    outbound: &mut OutboundQueue,
-    first_tsn: u32,
-    place: usize,
-)
-    requires place { place < length slots.old }
-    requires known { (w : World) × (first : List OpenStream) × (queue : Outbound) × (acked : ℕ → Bool) × Acks first_tsn w × IsAcking w first queue acked slots.old open_streams.old outbound.old }
-    ensures { (w : World) (first : List OpenStream) (queue : Outbound) (acked : ℕ → Bool) → Acks first_tsn w → IsAcking w first queue acked slots.old open_streams.old outbound.old → IsAcking w first queue (and_one acked place) slots.new open_streams.new outbound.new }
+/// Tells a SACK from a cumulative TSN that lies so many TSNs behind its own: beyond it, it reports what it reported.
+fn rebase(sack: &mut ChunkSelectiveAck, upto: u32, behind: usize)
+    ensures cumulative { sack.new.cumulative_tsn_ack ≡ upto }
+    ensures covers { (n : ℕ) → 0 < n
+        → covered sack.new.gap_ack_blocks.items n ≡ covered sack.old.gap_ack_blocks.items (n + behind) }
+    ensures begin { (i : ℕ) (d : GapAckBlock) → i < length sack.new.gap_ack_blocks.items
+        → 0 < (slice_index_or sack.new.gap_ack_blocks.items i d).start }
 {
-    slots[place].acknowledged = true;
-    let tsn = first_tsn.wrapping_add(place as u32);
-    let Some(chunk) = outbound.get(tsn) else {
-        return;
-    };
-    let stream = chunk.stream_identifier;
-    let bytes = chunk.user_data.len();
-    outbound.mark_as_acked(tsn);
-    open_streams.release(stream, bytes);
+    sack.cumulative_tsn_ack = upto;
+    for place in 0..sack.gap_ack_blocks.len() {
+        sack.gap_ack_blocks[place] = nearer(sack.gap_ack_blocks[place], behind);
+    }
+}
+
+/// A block told from a cumulative TSN that lies so many TSNs behind its own.
+fn nearer(block: GapAckBlock, behind: usize) -> GapAckBlock
+    ensures { IsNearer behind block result }
+{
+    GapAckBlock {
+        start: less(block.start, behind).max(1),
+        end: less(block.end, behind),
+    }
+}
+
+/// A distance without so many, 0 where they are more.
+fn less(distance: u16, behind: usize) -> u16
+    ensures { result ≡ distance - behind }
+{
+    distance.saturating_sub(behind.min(u16::MAX as usize) as u16)
+}
+
+/// Takes a SACK to what is in flight, and answers the chunks that it reports anew. Refuses only for memory, and nothing
+/// changes then.
+/// Precondition: it reports only what was given out.
+fn take_sack(
+    flight: &mut InFlight,
+    alloc: Global,
+    sack: &ChunkSelectiveAck,
+) -> Result<Vec<Released>>
+    requires { sack_refusal (sack_of sack.now) flight.old ≡ None }
+    ensures answer { IfOk result (λ released. released.items ≡ released_by (sack_of sack.now) flight.old) }
+    ensures ok { OnOk result (flight.new ≡ after_sack (sack_of sack.now) flight.old) }
+    ensures err { OnErr result (flight.new ≡ flight.old) }
+    ensures memory { IsOkUnless result ErrOutOfMemory }
+{
+    match flight.acked(alloc, sack) {
+        Ok(released) => Ok(released),
+        Err(SenderRefusal::OutOfMemory) => Err(Error::ErrOutOfMemory),
+        Err(_) => unreachable!(),
+    }
+}
+
+/// Takes off each stream what left of it.
+/// Precondition: each chunk has fewer than 2^63 bytes.
+fn release_each(open_streams: &mut OpenStreams, gone: &[Released])
+    requires indexed { IsIndexed open_streams.old.places (stream_numbers open_streams.old.items.items) }
+    requires short { (i : ℕ) (d : Released) → i < length gone.now → (slice_index_or gone.now i d).bytes < 2 ^ 63 }
+    ensures items { open_streams.new.items.items ≡ released gone.now open_streams.old.items.items }
+    ensures places { open_streams.new.places ≡ open_streams.old.places }
+{
+    for one in gone {
+        open_streams.release(one.stream, one.bytes);
+    }
 }
 
 /// Acknowledges the slots from one place to another, if there are any.
-fn acknowledge_run(
-    slots: &mut [Slot],
-    open_streams: &mut OpenStreams,
-    outbound: &mut OutboundQueue,
-    first_tsn: u32,
-    from: usize,
-    to: usize,
-)
-    requires within { from < to → to ≤ length slots.old }
-    requires known { (w : World) × (first : List OpenStream) × (queue : Outbound) × (acked : ℕ → Bool) × Acks first_tsn w × IsAcking w first queue acked slots.old open_streams.old outbound.old }
-    ensures acked { (w : World) (first : List OpenStream) (queue : Outbound) (acked : ℕ → Bool) → Acks first_tsn w → IsAcking w first queue acked slots.old open_streams.old outbound.old → IsAcking w first queue (and_run acked from to) slots.new open_streams.new outbound.new }
-    ensures count { length slots.new ≡ length slots.old }
+fn acknowledge_run(slots: &mut [Slot], from: usize, to: usize)
+    requires { from < to → to ≤ length slots.old }
+    ensures { (w : World) (acked : ℕ → Bool)
+        → IsMarking w acked slots.old → IsMarking w (and_run acked from to) slots.new }
 {
     for place in from..to {
-        acknowledge(slots, open_streams, outbound, first_tsn, place);
+        slots[place].acknowledged = true;
     }
 }
 
 /// Acknowledges the slots that gap blocks report, by their distances from the cumulative count.
-fn acknowledge_blocks(
-    slots: &mut [Slot],
-    open_streams: &mut OpenStreams,
-    outbound: &mut OutboundQueue,
-    first_tsn: u32,
-    cumulative: usize,
-    blocks: &[GapAckBlock],
-)
+fn acknowledge_blocks(slots: &mut [Slot], cumulative: usize, blocks: &[GapAckBlock])
     requires short { cumulative < 2 ^ 32 }
     requires within { (k : ℕ) → list_any (in_block cumulative k) blocks.now ≡ true → k < length slots.old }
-    requires known { (w : World) × (first : List OpenStream) × (queue : Outbound) × (acked : ℕ → Bool) × Acks first_tsn w × IsAcking w first queue acked slots.old open_streams.old outbound.old }
-    ensures { (w : World) (first : List OpenStream) (queue : Outbound) (acked : ℕ → Bool) → Acks first_tsn w → IsAcking w first queue acked slots.old open_streams.old outbound.old → IsAcking w first queue (and_blocks acked cumulative blocks.now) slots.new open_streams.new outbound.new }
+    ensures { (w : World) (acked : ℕ → Bool)
+        → IsMarking w acked slots.old → IsMarking w (and_blocks acked cumulative blocks.now) slots.new }
 {
     for block in blocks {
         let from = (cumulative + block.start as usize).saturating_sub(1);
         let to = cumulative + block.end as usize;
-        acknowledge_run(slots, open_streams, outbound, first_tsn, from, to);
-    }
-}
-
-/// Takes the chunks from one place to another out of what is in flight: they are its front.
-fn pop_run(outbound: &mut OutboundQueue, first_tsn: u32, from: usize, to: usize)
-    requires { to < 2 ^ 31 }
-    ensures popped { (w : World) (acked : ℕ → Bool) (last : ℕ) → first_tsn ≡ w.setup.first → to ≤ last → last < 2 ^ 31 → IsInFlight w acked from (last - from) outbound.old.inflight.chunks → from ≤ to → IsInFlight w acked to (last - to) outbound.new.inflight.chunks }
-    ensures none { to ≤ from → outbound.new ≡ outbound.old }
-    ensures rest { outbound.new ≡ with_inflight outbound.old outbound.new.inflight.chunks }
-{
-    for place in from..to {
-        let tsn = first_tsn.wrapping_add(place as u32);
-        outbound.pop(tsn);
+        acknowledge_run(slots, from, to);
     }
 }

@@ -17,11 +17,11 @@ impl<C: Checksum + Drop> Link<C> {
         ensures right { IsRight self.old.world (E.Expire now) (reply_of result) self.new.world }
         ensures checksum { self.new.checksum ≡ self.old.checksum }
     {
-        let Some(chunk) = self.outbound.peek_pending() else {
+        let Some(chunk) = self.flight.queue().peek_pending() else {
             return Reply::Idle;
         };
         let number = chunk.message_id as usize;
-        let Some((stream, unordered, bytes)) = self.outbound.expire_pending(now) else {
+        let Some((stream, unordered, bytes)) = self.flight.expire(now) else {
             return Reply::Idle;
         };
         self.messages[number].expired = true;

@@ -18,6 +18,7 @@ use sctp_base::error::Result;
 use sctp_chunks::chunk::chunk_kind::ChunkKind;
 use sctp_chunks::chunk::chunk_payload_data::ChunkPayloadData;
 use sctp_queues::outbound_queue::OutboundQueue;
+use sctp_transfer::sender::flight::InFlight;
 use std::alloc::Global;
 
 /// The length of a packet's common header (RFC 4960 3.1).
@@ -100,50 +101,50 @@ pub(super) fn places_from(alloc: Global, first: usize, count: usize) -> Result<V
 /// Takes the next fragments, one after another: each gets a slot and the next TSN; `now` is in nanoseconds.
 /// Precondition: each can leave in its turn, and there is room for all of them.
 pub(super) fn take_fragments(
-    outbound: &mut OutboundQueue,
+    flight: &mut InFlight,
     messages: &mut [Message],
     open_streams: &mut OpenStreams,
     slots: &mut Vec<Slot>,
-    next_tsn: &mut u32,
     now: u64,
     count: usize,
 )
     requires able { (i : ℕ) (s : Sender) → i < count
-        → Leave now i (sender_of outbound.old messages.old open_streams.old slots.old.items next_tsn.old) s → CanSend s }
-    requires flight { count ≤ outbound.old.inflight.room }
+        → Leave now i (sender_of flight.old messages.old open_streams.old slots.old.items) s → CanSend s }
+    requires flight { count ≤ flight.old.queue.inflight.room }
     requires room { vec_len slots.old + count ≤ vec_capacity slots.old }
-    ensures { Leave now count (sender_of outbound.old messages.old open_streams.old slots.old.items next_tsn.old)
-        (sender_of outbound.new messages.new open_streams.new slots.new.items next_tsn.new) }
+    ensures leave { Leave now count (sender_of flight.old messages.old open_streams.old slots.old.items)
+        (sender_of flight.new messages.new open_streams.new slots.new.items) }
+    ensures acked { flight.new.acked_tsn ≡ flight.old.acked_tsn }
 {
     for _at in 0..count {
-        take_next(outbound, messages, open_streams, slots, next_tsn, now);
+        take_next(flight, messages, open_streams, slots, now);
     }
 }
 
 /// Takes the next fragment: it gets a slot and the next TSN; `now` is in nanoseconds.
 /// Precondition: it can leave, and there is room for it.
 fn take_next(
-    outbound: &mut OutboundQueue,
+    flight: &mut InFlight,
     messages: &mut [Message],
     open_streams: &mut OpenStreams,
     slots: &mut Vec<Slot>,
-    next_tsn: &mut u32,
     now: u64,
 )
-    requires able { CanSend (sender_of outbound.old messages.old open_streams.old slots.old.items next_tsn.old) }
-    requires flight { 0 < outbound.old.inflight.room }
+    requires able { CanSend (sender_of flight.old messages.old open_streams.old slots.old.items) }
+    requires flight { 0 < flight.old.queue.inflight.room }
     requires room { vec_len slots.old < vec_capacity slots.old }
-    ensures leaves { Leaves now (sender_of outbound.old messages.old open_streams.old slots.old.items next_tsn.old)
-        (sender_of outbound.new messages.new open_streams.new slots.new.items next_tsn.new) }
-    ensures flight { outbound.old.inflight.room ≡ outbound.new.inflight.room + 1 }
+    ensures leaves { Leaves now (sender_of flight.old messages.old open_streams.old slots.old.items)
+        (sender_of flight.new messages.new open_streams.new slots.new.items) }
+    ensures acked { flight.new.acked_tsn ≡ flight.old.acked_tsn }
+    ensures flight { flight.old.queue.inflight.room ≡ flight.new.queue.inflight.room + 1 }
     ensures len { vec_len slots.new ≡ vec_len slots.old + 1 }
     ensures capacity { vec_capacity slots.old ≤ vec_capacity slots.new }
 {
-    let Some(chunk) = outbound.peek_pending() else {
+    let Some(chunk) = flight.queue().peek_pending() else {
         unreachable!()
     };
     let number = chunk.message_id;
-    let _ = outbound.send_next(next_tsn, now);
+    let _ = flight.send_next(now);
     let slot = take_fragment(&mut messages[number as usize], open_streams, number);
     slots.push_reserved(slot);
 }

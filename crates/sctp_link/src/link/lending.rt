@@ -38,8 +38,8 @@ impl<C: Checksum + Drop> Link<C> {
     pub fn ledger(&self) -> Ledger
         ensures { result ≡ ledger_of (ledger self.now.world) }
     {
-        let pending = self.outbound.pending_bytes() as u64;
-        let in_flight = self.outbound.inflight_bytes() as u64;
+        let pending = self.flight.queue().pending_bytes() as u64;
+        let in_flight = self.flight.queue().inflight_bytes() as u64;
         Ledger {
             written: self.written,
             pending,
@@ -78,7 +78,7 @@ impl<C: Checksum + Drop> Link<C> {
         // what a further sending of each says, with its stream, stream sequence number and flags, while it has its bytes
         ensures says { map sending_of result.now.inflight.chunks ≡ sendings_of self.now.world }
     {
-        &self.outbound
+        self.flight.queue()
     }
 
     /// The TSNs that came beyond the cumulative one, and those that came again

@@ -1,12 +1,8 @@
 //! What a link sends, and sends again.
 
-ghost use Rattle.std.specs.Prelude.{◌≡◌, ◌<◌, ◌≤◌, ◌+◌, ◌-◌, ◌^◌, ◌∷◌, ◌++◌, ℕ, [], None, Some, OnOk, OnErr, IfOk, IsOkUnless, length, min, find, true};
+ghost use Rattle.std.specs.Prelude.{◌≡◌, ◌<◌, ◌≤◌, ◌+◌, ◌-◌, ◌^◌, ◌∷◌, ◌++◌, ℕ, [], None, Some, OnOk, OnErr, IfOk, IsOkUnless, length, true};
 ghost use Rattle.sctp_base.specs.declared.error.Error.TheVariants.{ErrOutOfMemory};
-ghost use Rattle.sctp_lists.specs.Lists.{change_where};
-ghost use Rattle.sctp_chunks.specs.declared.chunk.chunk_payload_data.ChunkPayloadData.{ChunkPayloadData};
-ghost use Rattle.sctp_serial.specs.DataChunks.{has_tsn};
-ghost use Rattle.sctp_outbound.specs.Marks.{with_nsent};
-ghost use Rattle.sctp_outbound.specs.outbound_queue.OutboundQueue.{with_inflight};
+ghost use Rattle.sctp_transfer.specs.Flight.{with_queue, with_room};
 
 use super::fragments::{next_chunks, places_from, take_fragments};
 use super::streams::start_from;
@@ -14,10 +10,11 @@ use super::{Link, put};
 use crate::datagram::{write_chunks, write_datagram};
 use crate::event::{LinkRefusal, Reply};
 use crate::record::{Datagram, Kind};
-use sctp_base::error::Result;
+use sctp_base::error::{Error, Result};
 use sctp_base::util::Checksum;
 use sctp_chunks::chunk::chunk_kind::ChunkKind;
-use sctp_queues::outbound_queue::OutboundQueue;
+use sctp_transfer::sender::flight::InFlight;
+use sctp_transfer::sender::refusal::SenderRefusal;
 
 impl<C: Checksum + Drop> Link<C> {
     ghost use Rattle.sctp_model.specs.Queues.{is_cleared};
@@ -34,28 +31,27 @@ impl<C: Checksum + Drop> Link<C> {
         ensures memory { IsOkUnless result ErrOutOfMemory }
         ensures wants { OnErr result (takes_memory self.old.world (E.Send now) ≡ true) }
     {
-        let Some(first) = self.outbound.peek_pending() else {
+        let Some(first) = self.flight.queue().peek_pending() else {
             self.start(now);
             return Ok(Reply::Idle);
         };
         let ssn = first.stream_sequence_number;
-        let tsn = self.next_tsn;
-        let chunks = next_chunks(self.alloc, &self.outbound, first, tsn, self.limit)?;
+        let tsn = self.flight.next_tsn();
+        let chunks = next_chunks(self.alloc, self.flight.queue(), first, tsn, self.limit)?;
         let count = chunks.len();
         let bytes = write_chunks(self.alloc, chunks, &self.checksum)?;
         let places = places_from(self.alloc, self.slots.len(), count)?;
         self.slots.reserve(count)?;
         self.network.reserve(1)?;
-        self.outbound.reserve_inflight(count)?;
-        self.outbound.start_timed_messages(now);
+        reserve_inflight(&mut self.flight, count)?;
+        self.flight.start(now);
         start_from(&mut self.messages, self.unstarted, now);
         self.unstarted = self.messages.len();
         take_fragments(
-            &mut self.outbound,
+            &mut self.flight,
             &mut self.messages,
             &mut self.open_streams,
             &mut self.slots,
-            &mut self.next_tsn,
             now,
             count,
         );
@@ -99,14 +95,14 @@ impl<C: Checksum + Drop> Link<C> {
         ensures err { OnErr result (self.new.world ≡ self.old.world) }
         ensures memory { IsOkUnless result ErrOutOfMemory }
     {
-        let Some(chunk) = self.outbound.get(tsn) else {
+        let Some(chunk) = self.flight.queue().get(tsn) else {
             unreachable!()
         };
         let chunk = chunk.try_clone()?;
         let places = places_from(self.alloc, tsn.wrapping_sub(self.first_tsn) as usize, 1)?;
         let bytes = write_datagram(self.alloc, ChunkKind::PayloadData(chunk), &self.checksum)?;
         self.network.reserve(1)?;
-        count_resend(&mut self.outbound, tsn);
+        self.flight.count_resend(tsn);
         let datagram = self.network.len() as u64;
         let kind = Kind::Data { places };
         put(&mut self.network, Datagram { kind, bytes });
@@ -114,16 +110,15 @@ impl<C: Checksum + Drop> Link<C> {
     }
 }
 
-/// Counts one more sending of the chunk in flight with this TSN; the count stays at the greatest u32.
-fn count_resend(outbound: &mut OutboundQueue, tsn: u32)
-    ensures counted { (c : ChunkPayloadData) → find (has_tsn tsn) outbound.old.inflight.chunks ≡ Some c
-        → outbound.new ≡ with_inflight outbound.old
-        (change_where (has_tsn tsn) (with_nsent (min (c.nsent + 1) (2 ^ 32 - 1))) outbound.old.inflight.chunks) }
-    ensures none { find (has_tsn tsn) outbound.old.inflight.chunks ≡ None → outbound.new ≡ outbound.old }
+/// Makes room for so many sends. Refuses only for memory, and nothing changes then.
+fn reserve_inflight(flight: &mut InFlight, sends: usize) -> Result<()>
+    ensures ok { OnOk result (flight.new ≡ with_queue flight.old (with_room sends flight.old.queue)) }
+    ensures err { OnErr result (flight.new ≡ flight.old) }
+    ensures memory { IsOkUnless result ErrOutOfMemory }
 {
-    let Some(chunk) = outbound.get(tsn) else {
-        return;
-    };
-    let nsent = chunk.nsent.saturating_add(1);
-    outbound.set_nsent(tsn, nsent);
+    match flight.reserve_inflight(sends) {
+        Ok(()) => Ok(()),
+        Err(SenderRefusal::OutOfMemory) => Err(Error::ErrOutOfMemory),
+        Err(_) => unreachable!(),
+    }
 }

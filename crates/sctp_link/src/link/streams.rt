@@ -4,6 +4,7 @@ ghost use Rattle.std.specs.Prelude.{◌≡◌, ◌<◌, ◌≤◌, ◌+◌, ◌-
 ghost use Rattle.sctp_base.specs.declared.error.Error.TheVariants.{ErrOutOfMemory};
 ghost use Rattle.sctp_lists.specs.Lists.{pieces};
 ghost use Rattle.sctp_outbound.specs.pending_queue.PendingQueue.{reserved};
+ghost use Rattle.sctp_transfer.specs.Flight.{with_queue};
 ghost use Rattle.sctp_link.specs.OpenStreams.{start_from};
 ghost use Rattle.sctp_link.specs.declared.record.Message.{Message};
 
@@ -12,10 +13,11 @@ use crate::event::{LinkRefusal, Reply};
 use crate::open_stream::OpenStream;
 use crate::record::Message;
 use bytes::Bytes;
-use sctp_base::error::Result;
+use sctp_base::error::{Error, Result};
 use sctp_base::util::Checksum;
 use sctp_chunks::chunk::chunk_payload_data::{PayloadProtocolIdentifier, ReliabilityType};
-use sctp_queues::outbound_queue::OutboundQueue;
+use sctp_transfer::sender::flight::InFlight;
+use sctp_transfer::sender::refusal::SenderRefusal;
 
 impl<C: Checksum + Drop> Link<C> {
     ghost use Rattle.sctp_model.specs.Steps.{IsRight, refusal_of, takes_memory};
@@ -108,9 +110,9 @@ impl<C: Checksum + Drop> Link<C> {
         let count = fragments_in(len, self.fragment_size as usize);
         self.messages.reserve(1)?;
         let ordered = self.open_streams.items[at].is_ordered(ppi);
-        make_room(&mut self.outbound, ordered, count)?;
+        make_room(&mut self.flight, ordered, count)?;
         let (message, chunks) = self.open_streams.items[at].write(self.alloc, ppi, bytes)?;
-        let _ = self.outbound.push(chunks);
+        let _ = self.flight.push(chunks);
         let number = self.messages.len() as u64;
         put(&mut self.messages, message);
         self.fragments += count;
@@ -126,7 +128,7 @@ impl<C: Checksum + Drop> Link<C> {
         ensures right { IsRight self.old.world (E.Start now) (reply_of result) self.new.world }
         ensures checksum { self.new.checksum ≡ self.old.checksum }
     {
-        self.outbound.start_timed_messages(now);
+        self.flight.start(now);
         start_from(&mut self.messages, self.unstarted, now);
         self.unstarted = self.messages.len();
         Reply::Started
@@ -134,15 +136,23 @@ impl<C: Checksum + Drop> Link<C> {
 }
 
 /// Makes room for the fragments of a message. Refuses only for memory, and nothing changes then.
-fn make_room(outbound: &mut OutboundQueue, ordered: bool, count: usize) -> Result<()>
-    ensures ok { OnOk result (outbound.new ≡ record outbound.old { pending = reserved outbound.old.pending (if ordered then count else 0) (if ordered then 0 else count) }) }
-    ensures err { OnErr result (outbound.new ≡ outbound.old) }
+fn make_room(flight: &mut InFlight, ordered: bool, count: usize) -> Result<()>
+    ensures ok { OnOk result (flight.new ≡ with_queue flight.old (record flight.old.queue {
+      pending = reserved flight.old.queue.pending (if ordered then count else 0) (if ordered then 0 else count);
+    })) }
+    ensures err { OnErr result (flight.new ≡ flight.old) }
     ensures memory { IsOkUnless result ErrOutOfMemory }
 {
-    if ordered {
-        return outbound.reserve(count, 0);
+    let answer = if ordered {
+        flight.reserve(count, 0)
+    } else {
+        flight.reserve(0, count)
+    };
+    match answer {
+        Ok(()) => Ok(()),
+        Err(SenderRefusal::OutOfMemory) => Err(Error::ErrOutOfMemory),
+        Err(_) => unreachable!(),
     }
-    outbound.reserve(0, count)
 }
 
 /// How many fragments of a size so many bytes take.

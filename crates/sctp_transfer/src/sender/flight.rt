@@ -1,6 +1,6 @@
 //! What is in flight: each TSN from the one behind the acknowledged ones to the one before the next.
 
-ghost use Rattle.std.specs.Prelude.{◌≡◌, ◌+◌, ◌-◌, ◌<◌, ◌≤◌, ◌^◌, ◌%◌, ◌⊎◌, ◌++◌, ◌∷◌, [], ℕ, true, false, Some, None, OnOk, OnErr, IfOk, IfErr, IsOk, IsOkUnless, length, map, drop, vec_len, vec_capacity, option_map, find, Bool, if◌then◌else◌};
+ghost use Rattle.std.specs.Prelude.{◌≡◌, ◌+◌, ◌-◌, ◌<◌, ◌≤◌, ◌^◌, ◌%◌, ◌⊎◌, ◌++◌, ◌∷◌, [], ℕ, true, false, is_some, Some, None, OnOk, OnErr, IfOk, IfErr, IsOk, IsOkUnless, length, map, drop, vec_len, vec_capacity, option_map, find, Bool, if◌then◌else◌};
 ghost use Rattle.sctp_lists.specs.Lists.{change_where, those};
 ghost use Rattle.sctp_chunks.specs.SelectiveAck.{sack_of};
 ghost use Rattle.sctp_outbound.specs.Marks.{acknowledged};
@@ -50,11 +50,11 @@ impl Model for InFlight {
 
 impl InFlight {
     ghost use Rattle.sctp_outbound.specs.Marks.{with_nsent};
-    ghost use Rattle.sctp_outbound.specs.outbound_queue.OutboundQueue.{with_message, total_bytes, all_started, sent_next, abandoned_of, tsn_after_of, to_abandon, expired_of, expiring, expiring_tail, message_of, has_tail, released_of as bytes_left, expired_bytes, tail_bytes};
+    ghost use Rattle.sctp_outbound.specs.outbound_queue.OutboundQueue.{with_message, has_room, total_bytes, all_started, sent_next, abandoned_of, tsn_after_of, to_abandon, expired_of, expiring, expiring_tail, message_of, has_tail, released_of as bytes_left, expired_bytes, tail_bytes};
     ghost use Rattle.sctp_outbound.specs.pending_queue.PendingQueue as pending;
     ghost use Rattle.sctp_outbound.specs.pending_queue.Whole.{IsMessageOrNone};
     ghost use Rattle.sctp_transfer.specs.TsnFilter.{preceding_tsn};
-    ghost use Rattle.sctp_transfer.specs.Flight.{with_queue, at_first, may_send, next_after_send, can_resend, resent, sack_refusal, after_sack, released_by};
+    ghost use Rattle.sctp_transfer.specs.Flight.{with_queue, with_room, at_first, may_send, next_after_send, can_resend, resent, is_outdated, sack_refusal, after_sack, released_by};
 
     /// Nothing waits, and the first TSN is the next. It takes no memory.
     pub fn new(alloc: Global, first_tsn: u32) -> Self
@@ -97,7 +97,7 @@ impl InFlight {
 
     /// Puts the fragments of a message behind those that wait, as the queue's `push` does.
     /// Precondition: as there; the queue's `can_push` tells.
-    /// Refuses only for memory, and all is as it was then.
+    /// Refuses only for memory, and never within the room of `reserve`. All is as it was then.
     pub fn push(&mut self, chunks: Vec<ChunkPayloadData>) -> Result<(), SenderRefusal>
         requires message { IsMessageOrNone chunks.items }
         requires number { self.old.queue.next_message_id + 1 < 2 ^ 64 }
@@ -105,8 +105,35 @@ impl InFlight {
         ensures ok { OnOk result (self.new ≡ with_queue self.old (with_message chunks.items self.old.queue)) }
         ensures err { OnErr result (self.new ≡ self.old) }
         ensures memory { IfErr result (λ e. e ≡ OutOfMemory) }
+        ensures succeeds { has_room chunks.items self.old.queue ≡ true → IsOk result }
     {
         self.queue.push(chunks)?;
+        Ok(())
+    }
+
+    /// From here on so many pushes of ordered and of unordered fragments take no memory.
+    /// Refuses only for memory, and all is as it was then.
+    pub fn reserve(&mut self, ordered: usize, unordered: usize) -> Result<(), SenderRefusal>
+        ensures ok { OnOk result (self.new ≡ with_queue self.old
+            (record self.old.queue { pending = pending.reserved self.old.queue.pending ordered unordered })) }
+        ensures err { OnErr result (self.new ≡ self.old) }
+        ensures memory { IfErr result (λ e. e ≡ OutOfMemory) }
+        ensures succeeds { ordered ≤ self.old.queue.pending.ordered_room
+            → unordered ≤ self.old.queue.pending.unordered_room → IsOk result }
+    {
+        self.queue.reserve(ordered, unordered)?;
+        Ok(())
+    }
+
+    /// From here on so many sends and end marks take no memory.
+    /// Refuses only for memory, and all is as it was then.
+    pub fn reserve_inflight(&mut self, sends: usize) -> Result<(), SenderRefusal>
+        ensures ok { OnOk result (self.new ≡ with_queue self.old (with_room sends self.old.queue)) }
+        ensures err { OnErr result (self.new ≡ self.old) }
+        ensures memory { IfErr result (λ e. e ≡ OutOfMemory) }
+        ensures succeeds { sends ≤ self.old.queue.inflight.room → IsOk result }
+    {
+        self.queue.reserve_inflight(sends)?;
         Ok(())
     }
 
@@ -120,13 +147,14 @@ impl InFlight {
     /// Gives the next TSN to the fragment that is next, and puts it in flight; lifetimes start. Answers the TSN, None where
     /// nothing waits. `now` is in nanoseconds.
     /// Precondition: a further TSN may be given out; `may_send` tells.
-    /// Refuses only for memory, and not where nothing waits. All is as it was then.
+    /// Refuses only for memory, and not where nothing waits nor within the room of `reserve_inflight`. All is as it was then.
     pub fn send_next(&mut self, now: u64) -> Result<Option<u32>, SenderRefusal>
         requires { may_send self.old ≡ true }
         ensures sent { IfOk result (λ sent. sent ≡ option_map (λ _. self.old.next_tsn) (pending.peeked self.old.queue.pending)) }
         ensures ok { OnOk result (self.new ≡ record self.old { queue = sent_next self.old.queue self.old.next_tsn now; next_tsn = next_after_send self.old }) }
         ensures err { OnErr result (self.new ≡ self.old) }
         ensures memory { IfErr result (λ e. e ≡ OutOfMemory) }
+        ensures succeeds { 0 < self.old.queue.inflight.room → IsOk result }
         ensures idle { pending.peeked self.old.queue.pending ≡ None → IsOk result }
     {
         let sent = self.queue.send_next(&mut self.next_tsn, now)?;
@@ -135,15 +163,18 @@ impl InFlight {
 
     /// Gives up the message of a chunk in flight, as the queue's `abandon` does, and answers its stream and the bytes that
     /// left; None where the TSN is not in flight.
-    /// Precondition: a further TSN may be given out; `may_send` tells.
-    /// Refuses only for memory, and not where the message has no tail. All is as it was then.
+    /// Precondition: where some of the message still waits, a further TSN may be given out; `may_send` tells.
+    /// Refuses only for memory, and not where the message has no tail nor within the room of `reserve_inflight`. All is as it
+    /// was then.
     pub fn abandon(&mut self, tsn: u32) -> Result<Option<(u16, usize)>, SenderRefusal>
-        requires { may_send self.old ≡ true }
+        requires { has_tail (to_abandon (find (has_tsn tsn) self.old.queue.inflight.chunks)) self.old.queue ≡ true
+            → may_send self.old ≡ true }
         ensures answer { IfOk result (λ r. option_map (λ a. a.0) r ≡ option_map (λ c. c.stream_identifier) (find (has_tsn tsn) self.old.queue.inflight.chunks)) }
         ensures ok { OnOk result (self.new ≡ record self.old { queue = abandoned_of (to_abandon (find (has_tsn tsn) self.old.queue.inflight.chunks)) self.old.next_tsn self.old.queue; next_tsn = tsn_after_of (to_abandon (find (has_tsn tsn) self.old.queue.inflight.chunks)) self.old.next_tsn self.old.queue }) }
         ensures err { OnErr result (self.new ≡ self.old) }
         ensures memory { IfErr result (λ e. e ≡ OutOfMemory) }
         ensures released { IfOk result (λ r. total_bytes self.new.queue + bytes_left r ≡ total_bytes self.old.queue) }
+        ensures succeeds { 0 < self.old.queue.inflight.room → IsOk result }
         ensures no_tail { has_tail (to_abandon (find (has_tsn tsn) self.old.queue.inflight.chunks)) self.old.queue ≡ false → IsOk result }
     {
         let given_up = self.queue.abandon(tsn, &mut self.next_tsn)?;
@@ -160,15 +191,17 @@ impl InFlight {
     }
 
     /// Gives up the rest of the half-sent message in front, where it is lapsed, as the queue's `expire_pending_tail` does.
-    /// Precondition: a further TSN may be given out; `may_send` tells.
-    /// Refuses only for memory, and not where there is no such message. All is as it was then.
+    /// Precondition: where there is such a message, a further TSN may be given out; `may_send` tells.
+    /// Refuses only for memory, and not where there is no such message nor within the room of `reserve_inflight`. All is as it
+    /// was then.
     pub fn expire_tail(&mut self, now: u64) -> Result<Option<(u16, u64, usize)>, SenderRefusal>
-        requires { may_send self.old ≡ true }
+        requires { is_some (expiring_tail now self.old.queue) ≡ true → may_send self.old ≡ true }
         ensures ok { OnOk result (self.new ≡ record self.old { queue = abandoned_of (message_of (expiring_tail now self.old.queue)) self.old.next_tsn self.old.queue; next_tsn = tsn_after_of (message_of (expiring_tail now self.old.queue)) self.old.next_tsn self.old.queue }) }
         ensures err { OnErr result (self.new ≡ self.old) }
         ensures memory { IfErr result (λ e. e ≡ OutOfMemory) }
         ensures answer { IfOk result (λ r. option_map {U = ℕ × ℕ} (λ a. (a.0, a.1)) r ≡ option_map {U = ℕ × ℕ} (λ c. (c.stream_identifier, c.message_id)) (expiring_tail now self.old.queue)) }
         ensures released { IfOk result (λ r. total_bytes self.new.queue + tail_bytes r ≡ total_bytes self.old.queue) }
+        ensures succeeds { 0 < self.old.queue.inflight.room → IsOk result }
         ensures idle { expiring_tail now self.old.queue ≡ None → IsOk result }
     {
         let given_up = self.queue.expire_pending_tail(now, &mut self.next_tsn)?;
@@ -191,8 +224,22 @@ impl InFlight {
             return Err(SenderRefusal::NotInFlight);
         }
         let again = chunk.try_clone()?;
-        self.queue.set_nsent(tsn, again.nsent.saturating_add(1));
+        self.count_resend(tsn);
         Ok(again)
+    }
+
+    /// Counts one more sending of the chunk in flight with a TSN, up to the greatest u32; none is counted where the TSN is not in
+    /// flight. It takes no memory.
+    pub fn count_resend(&mut self, tsn: u32)
+        ensures counted { (c : ChunkPayloadData) → find (has_tsn tsn) self.old.queue.inflight.chunks ≡ Some c
+            → self.new ≡ resent tsn c self.old }
+        ensures none { find (has_tsn tsn) self.old.queue.inflight.chunks ≡ None → self.new ≡ self.old }
+    {
+        let Some(chunk) = self.queue.get(tsn) else {
+            return;
+        };
+        let nsent = chunk.nsent.saturating_add(1);
+        self.queue.set_nsent(tsn, nsent);
     }
 
     /// Takes a SACK, whatever a peer claims (RFC 4960 6.2.1): what is acknowledged is what it reports and is in flight.
@@ -201,7 +248,7 @@ impl InFlight {
     ///
     /// - `InflightQueueTsnPop`, where its cumulative TSN was not given out;
     /// - `TsnRequestNotExist`, where a gap ack block reports a TSN that is not in flight;
-    /// - `OutOfMemory`.
+    /// - `OutOfMemory`, and not where it is out of date.
     ///
     /// All is as it was then.
     pub fn acked(
@@ -214,6 +261,7 @@ impl InFlight {
         ensures accepted { IsOk result → sack_refusal (sack_of sack.now) self.old ≡ None }
         ensures refused { IfErr result (λ e. ((e ≡ OutOfMemory) × (sack_refusal (sack_of sack.now) self.old ≡ None)) ⊎ (sack_refusal (sack_of sack.now) self.old ≡ Some e)) }
         ensures err { OnErr result (self.new ≡ self.old) }
+        ensures outdated { is_outdated (sack_of sack.now) self.old ≡ true → IsOk result }
     {
         let mut released = Vec::new(alloc);
         if sna32lt(sack.cumulative_tsn_ack, self.acked_tsn) {

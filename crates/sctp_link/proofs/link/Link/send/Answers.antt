@@ -3,8 +3,12 @@ use Rattle.std.specs.Prelude.{is_some}
 use Rattle.std.specs.Vec.{with_items, vec_len}
 use Rattle.std.proofs.lemmas.List.{with_items_is}
 use Rattle.sctp_lists.specs.Kept.{numbers_from}
+use Rattle.sctp_chunks.specs.declared.chunk.chunk_kind.ChunkKind.TheVariants as C
 use Rattle.sctp_outbound.specs.pending_queue.PendingQueue.{peeked}
+use Rattle.sctp_outbound.specs.outbound_queue.OutboundQueue.{Outbound}
+use Rattle.sctp_transfer.specs.Flight.{Flight}
 use Rattle.sctp_model.specs.Changes.{started}
+use Rattle.sctp_ties.specs.Filling.{chunks_taken}
 use Rattle.sctp_link.specs.declared.record.Slot.{Slot}
 use Rattle.sctp_link.specs.declared.record.Datagram.{Datagram}
 use Rattle.sctp_link.specs.declared.record.Kind.TheVariants as K
@@ -19,105 +23,116 @@ use Rattle.sctp_link.proofs.link.Link.send.Goals as goal
 
 pub returns-in_default-clause-ok : goal.returns-in_default-clause-ok
 returns-in_default-clause-ok g c =
-    let none : peeked c.self.inside.outbound.pending ≡ None = search rules in
+    let none : peeked c.self.inside.flight.queue.pending ≡ None = search rules in
     let moves : c.start.new.self.world ≡ started (world_in c.self.inside) c.args.now = rw (← c.self.view_is) at c.start.ensures.right.moves in
     rw (← c.self.view_is) (idle-right (g.C.Checksum.sum c.self.inside.checksum) (state_in c.self.inside) c.self.invariant c.args.now c.start.new.self.world none moves)
 
 pub next_chunks-requires-clause-short : goal.next_chunks-requires-clause-short
-next_chunks-requires-clause-short g c = looks-short (g.C.Checksum.sum c.self.inside.checksum) (state_in c.self.inside) c.self.invariant c.args.now
+next_chunks-requires-clause-short g c = rw c.queue-2.ensures (looks-short (g.C.Checksum.sum c.self.inside.checksum) (state_in c.self.inside) c.self.invariant c.args.now)
 
 pub write_chunks-requires-clause-text : goal.write_chunks-requires-clause-text
 write_chunks-requires-clause-text g c =
-    let e : peeked c.self.inside.outbound.pending ≡ Some c.in-Some.first.now = search rules in
-    texts-each (g.C.Checksum.sum c.self.inside.checksum) (state_in c.self.inside) c.self.invariant c.args.now c.in-Some.first.now e c.in_ok-chunks.chunks.items c.in_ok-chunks.ensures.chunks
+    let e : peeked c.self.inside.flight.queue.pending ≡ Some c.in-Some.first.now = search rules in
+    let chunks : c.in_ok-chunks.chunks.items ≡ map C.PayloadData (chunks_taken c.self.inside.limit c.self.inside.flight.next_tsn c.self.inside.flight.queue.pending) =
+    c.in_ok-chunks.ensures.chunks ∙ ap (λ t. map C.PayloadData (chunks_taken c.self.inside.limit t c.queue-2.result.now.pending)) c.next_tsn-tsn.ensures ∙ ap (λ (q : Outbound). map C.PayloadData (chunks_taken c.self.inside.limit c.self.inside.flight.next_tsn q.pending)) c.queue-2.ensures in
+    texts-each (g.C.Checksum.sum c.self.inside.checksum) (state_in c.self.inside) c.self.invariant c.args.now c.in-Some.first.now e c.in_ok-chunks.chunks.items chunks
 
 pub write_chunks-requires-clause-canonical : goal.write_chunks-requires-clause-canonical
 write_chunks-requires-clause-canonical g c =
-    let e : peeked c.self.inside.outbound.pending ≡ Some c.in-Some.first.now = search rules in
-    canonical-each (g.C.Checksum.sum c.self.inside.checksum) (state_in c.self.inside) c.self.invariant c.args.now c.in-Some.first.now e c.in_ok-chunks.chunks.items c.in_ok-chunks.ensures.chunks
+    let e : peeked c.self.inside.flight.queue.pending ≡ Some c.in-Some.first.now = search rules in
+    let chunks : c.in_ok-chunks.chunks.items ≡ map C.PayloadData (chunks_taken c.self.inside.limit c.self.inside.flight.next_tsn c.self.inside.flight.queue.pending) =
+    c.in_ok-chunks.ensures.chunks ∙ ap (λ t. map C.PayloadData (chunks_taken c.self.inside.limit t c.queue-2.result.now.pending)) c.next_tsn-tsn.ensures ∙ ap (λ (q : Outbound). map C.PayloadData (chunks_taken c.self.inside.limit c.self.inside.flight.next_tsn q.pending)) c.queue-2.ensures in
+    canonical-each (g.C.Checksum.sum c.self.inside.checksum) (state_in c.self.inside) c.self.invariant c.args.now c.in-Some.first.now e c.in_ok-chunks.chunks.items chunks
 
 pub take_fragments-requires-clause-able : goal.take_fragments-requires-clause-able
 take_fragments-requires-clause-able g c =
     let ms = c.self.inside.messages in
-    let e : peeked c.self.inside.outbound.pending ≡ Some c.in-Some.first.now = search rules in
+    let e : peeked c.self.inside.flight.queue.pending ≡ Some c.in-Some.first.now = search rules in
+    let chunks : c.in_ok-chunks.chunks.items ≡ map C.PayloadData (chunks_taken c.self.inside.limit c.self.inside.flight.next_tsn c.self.inside.flight.queue.pending) =
+    c.in_ok-chunks.ensures.chunks ∙ ap (λ t. map C.PayloadData (chunks_taken c.self.inside.limit t c.queue-2.result.now.pending)) c.next_tsn-tsn.ensures ∙ ap (λ (q : Outbound). map C.PayloadData (chunks_taken c.self.inside.limit c.self.inside.flight.next_tsn q.pending)) c.queue-2.ensures in
     let same : length c.start_from.new.messages ≡ vec_len ms = search rules in
     let is : c.deref_mut-2.result.now ≡ start_from c.self.inside.unstarted c.args.now ms.items = c.deref_mut-2.ensures.value ∙ with_items_is ms c.start_from.new.messages same ∙ c.start_from.ensures ∙ ap (start_from c.self.inside.unstarted c.args.now) c.deref_mut.ensures.value in
     let len : c.len-count.result ≡ length c.in_ok-chunks.chunks.items = search rules in
     can-leave (g.C.Checksum.sum c.self.inside.checksum) (state_in c.self.inside) c.self.invariant c.args.now c.in-Some.first.now e ms.items c.self.inside.slots.items refl refl refl refl
-    (sender_of c.start_timed_messages.new.self c.deref_mut-2.result.now c.self.inside.open_streams c.reserve.new.self.items c.self.inside.next_tsn)
-    c.reserve_inflight.new.self _ c.in_ok-reserve_inflight.ensures.ok c.start_timed_messages.ensures is refl refl c.reserve.ensures.items refl c.len-count.result
-    (len ∙ count-is (g.C.Checksum.sum c.self.inside.checksum) (state_in c.self.inside) c.self.invariant c.args.now c.in-Some.first.now e c.in_ok-chunks.chunks.items c.in_ok-chunks.ensures.chunks)
+    (sender_of c.start-2.new.self c.deref_mut-2.result.now c.self.inside.open_streams c.reserve.new.self.items)
+    c.reserve_inflight.new.flight.queue _ (ap (λ (f : Flight). f.queue) c.in_ok-reserve_inflight.ensures.ok) (ap (λ (f : Flight). f.queue) c.start-2.ensures) is refl refl c.reserve.ensures.items (ap (λ (f : Flight). f.next_tsn) c.start-2.ensures ∙ ap (λ (f : Flight). f.next_tsn) c.in_ok-reserve_inflight.ensures.ok) c.len-count.result
+    (len ∙ count-is (g.C.Checksum.sum c.self.inside.checksum) (state_in c.self.inside) c.self.invariant c.args.now c.in-Some.first.now e c.in_ok-chunks.chunks.items chunks)
 
 pub invariant_of-self-2 : goal.invariant_of-self-2
 invariant_of-self-2 g c =
     let ms = c.self.inside.messages in
-    let e : peeked c.self.inside.outbound.pending ≡ Some c.in-Some.first.now = search rules in
+    let e : peeked c.self.inside.flight.queue.pending ≡ Some c.in-Some.first.now = search rules in
+    let chunks : c.in_ok-chunks.chunks.items ≡ map C.PayloadData (chunks_taken c.self.inside.limit c.self.inside.flight.next_tsn c.self.inside.flight.queue.pending) =
+    c.in_ok-chunks.ensures.chunks ∙ ap (λ t. map C.PayloadData (chunks_taken c.self.inside.limit t c.queue-2.result.now.pending)) c.next_tsn-tsn.ensures ∙ ap (λ (q : Outbound). map C.PayloadData (chunks_taken c.self.inside.limit c.self.inside.flight.next_tsn q.pending)) c.queue-2.ensures in
     let same : length c.start_from.new.messages ≡ vec_len ms = search rules in
     let is : c.deref_mut-2.result.now ≡ start_from c.self.inside.unstarted c.args.now ms.items = c.deref_mut-2.ensures.value ∙ with_items_is ms c.start_from.new.messages same ∙ c.start_from.ensures ∙ ap (start_from c.self.inside.unstarted c.args.now) c.deref_mut.ensures.value in
     let len : c.len-count.result ≡ length c.in_ok-chunks.chunks.items = search rules in
     let kept : length c.take_fragments.new.messages ≡ vec_len (with_items ms c.start_from.new.messages) = search rules in
     let places : c.in_ok-places.places.items ≡ numbers_from (length c.self.inside.slots.items) c.len-count.result = search rules in
     linked-sent (g.C.Checksum.sum c.self.inside.checksum) (state_in c.self.inside) c.self.invariant c.args.now c.in-Some.first.now e ms.items c.self.inside.slots.items refl refl refl refl
-    (sender_of c.start_timed_messages.new.self c.deref_mut-2.result.now c.self.inside.open_streams c.reserve.new.self.items c.self.inside.next_tsn)
-    c.reserve_inflight.new.self _ c.in_ok-reserve_inflight.ensures.ok c.start_timed_messages.ensures is refl refl c.reserve.ensures.items refl c.len-count.result
-    (len ∙ count-is (g.C.Checksum.sum c.self.inside.checksum) (state_in c.self.inside) c.self.invariant c.args.now c.in-Some.first.now e c.in_ok-chunks.chunks.items c.in_ok-chunks.ensures.chunks)
-    (sender_of c.take_fragments.new.outbound c.take_fragments.new.messages c.take_fragments.new.open_streams c.take_fragments.new.slots.items c.take_fragments.new.next_tsn) c.take_fragments.ensures
+    (sender_of c.start-2.new.self c.deref_mut-2.result.now c.self.inside.open_streams c.reserve.new.self.items)
+    c.reserve_inflight.new.flight.queue _ (ap (λ (f : Flight). f.queue) c.in_ok-reserve_inflight.ensures.ok) (ap (λ (f : Flight). f.queue) c.start-2.ensures) is refl refl c.reserve.ensures.items (ap (λ (f : Flight). f.next_tsn) c.start-2.ensures ∙ ap (λ (f : Flight). f.next_tsn) c.in_ok-reserve_inflight.ensures.ok) c.len-count.result
+    (len ∙ count-is (g.C.Checksum.sum c.self.inside.checksum) (state_in c.self.inside) c.self.invariant c.args.now c.in-Some.first.now e c.in_ok-chunks.chunks.items chunks)
+    (sender_of c.take_fragments.new.flight c.take_fragments.new.messages c.take_fragments.new.open_streams c.take_fragments.new.slots.items) c.take_fragments.ensures.leave
     (with_items (with_items ms c.start_from.new.messages) c.take_fragments.new.messages).items (with_items_is (with_items ms c.start_from.new.messages) c.take_fragments.new.messages kept)
     c.self.inside.network.items c.put.new.items.items c.in_ok-places.places.items (K.Data c.in_ok-places.places) c.in_ok-bytes.bytes places refl refl (search rules)
-    c.in_ok-chunks.chunks.items c.in_ok-chunks.ensures.chunks c.in_ok-bytes.ensures.text c.in_ok-bytes.ensures.reads refl c.len-self-inside.result (search rules)
+    c.in_ok-chunks.chunks.items chunks c.in_ok-bytes.ensures.text c.in_ok-bytes.ensures.reads refl c.len-self-inside.result (search rules)
+    c.take_fragments.new.flight.acked_tsn (c.take_fragments.ensures.acked ∙ ap (λ (f : Flight). f.acked_tsn) c.start-2.ensures ∙ ap (λ (f : Flight). f.acked_tsn) c.in_ok-reserve_inflight.ensures.ok)
 
 pub returns-clause-ok : goal.returns-clause-ok
 returns-clause-ok g c =
     let ms = c.self.inside.messages in
-    let e : peeked c.self.inside.outbound.pending ≡ Some c.in-Some.first.now = search rules in
+    let e : peeked c.self.inside.flight.queue.pending ≡ Some c.in-Some.first.now = search rules in
+    let chunks : c.in_ok-chunks.chunks.items ≡ map C.PayloadData (chunks_taken c.self.inside.limit c.self.inside.flight.next_tsn c.self.inside.flight.queue.pending) =
+    c.in_ok-chunks.ensures.chunks ∙ ap (λ t. map C.PayloadData (chunks_taken c.self.inside.limit t c.queue-2.result.now.pending)) c.next_tsn-tsn.ensures ∙ ap (λ (q : Outbound). map C.PayloadData (chunks_taken c.self.inside.limit c.self.inside.flight.next_tsn q.pending)) c.queue-2.ensures in
     let same : length c.start_from.new.messages ≡ vec_len ms = search rules in
     let is : c.deref_mut-2.result.now ≡ start_from c.self.inside.unstarted c.args.now ms.items = c.deref_mut-2.ensures.value ∙ with_items_is ms c.start_from.new.messages same ∙ c.start_from.ensures ∙ ap (start_from c.self.inside.unstarted c.args.now) c.deref_mut.ensures.value in
     let len : c.len-count.result ≡ length c.in_ok-chunks.chunks.items = search rules in
     let kept : length c.take_fragments.new.messages ≡ vec_len (with_items ms c.start_from.new.messages) = search rules in
     let places : c.in_ok-places.places.items ≡ numbers_from (length c.self.inside.slots.items) c.len-count.result = search rules in
-    rw (← c.self.view_is)
+    rw (c.next_tsn-tsn.ensures, ← c.self.view_is)
     (send-is-right (g.C.Checksum.sum c.self.inside.checksum) (state_in c.self.inside) c.self.invariant c.args.now c.in-Some.first.now e ms.items c.self.inside.slots.items refl refl refl refl
-    (sender_of c.start_timed_messages.new.self c.deref_mut-2.result.now c.self.inside.open_streams c.reserve.new.self.items c.self.inside.next_tsn)
-    c.reserve_inflight.new.self _ c.in_ok-reserve_inflight.ensures.ok c.start_timed_messages.ensures is refl refl c.reserve.ensures.items refl c.len-count.result
-    (len ∙ count-is (g.C.Checksum.sum c.self.inside.checksum) (state_in c.self.inside) c.self.invariant c.args.now c.in-Some.first.now e c.in_ok-chunks.chunks.items c.in_ok-chunks.ensures.chunks)
-    (sender_of c.take_fragments.new.outbound c.take_fragments.new.messages c.take_fragments.new.open_streams c.take_fragments.new.slots.items c.take_fragments.new.next_tsn) c.take_fragments.ensures
+    (sender_of c.start-2.new.self c.deref_mut-2.result.now c.self.inside.open_streams c.reserve.new.self.items)
+    c.reserve_inflight.new.flight.queue _ (ap (λ (f : Flight). f.queue) c.in_ok-reserve_inflight.ensures.ok) (ap (λ (f : Flight). f.queue) c.start-2.ensures) is refl refl c.reserve.ensures.items (ap (λ (f : Flight). f.next_tsn) c.start-2.ensures ∙ ap (λ (f : Flight). f.next_tsn) c.in_ok-reserve_inflight.ensures.ok) c.len-count.result
+    (len ∙ count-is (g.C.Checksum.sum c.self.inside.checksum) (state_in c.self.inside) c.self.invariant c.args.now c.in-Some.first.now e c.in_ok-chunks.chunks.items chunks)
+    (sender_of c.take_fragments.new.flight c.take_fragments.new.messages c.take_fragments.new.open_streams c.take_fragments.new.slots.items) c.take_fragments.ensures.leave
     (with_items (with_items ms c.start_from.new.messages) c.take_fragments.new.messages).items (with_items_is (with_items ms c.start_from.new.messages) c.take_fragments.new.messages kept)
     c.self.inside.network.items c.put.new.items.items c.in_ok-places.places.items (K.Data c.in_ok-places.places) c.in_ok-bytes.bytes places refl refl (search rules)
     c.in-Some.first.now.stream_sequence_number c.len-datagram.result refl (search rules))
 
 pub returns-in_err-chunks-clause-wants : goal.returns-in_err-chunks-clause-wants
 returns-in_err-chunks-clause-wants g c =
-    let e : peeked c.self.inside.outbound.pending ≡ Some c.in-Some.first.now = search rules in
+    let e : peeked c.self.inside.flight.queue.pending ≡ Some c.in-Some.first.now = search rules in
     let f = (next-is (g.C.Checksum.sum c.self.inside.checksum) (state_in c.self.inside) c.self.invariant c.in-Some.first.now e).front in
     rw (← c.self.view_is) (on-err c.from_residual.result _ (ap is_some f))
 
 pub returns-in_err-bytes-clause-wants : goal.returns-in_err-bytes-clause-wants
 returns-in_err-bytes-clause-wants g c =
-    let e : peeked c.self.inside.outbound.pending ≡ Some c.in-Some.first.now = search rules in
+    let e : peeked c.self.inside.flight.queue.pending ≡ Some c.in-Some.first.now = search rules in
     let f = (next-is (g.C.Checksum.sum c.self.inside.checksum) (state_in c.self.inside) c.self.invariant c.in-Some.first.now e).front in
     rw (← c.self.view_is) (on-err c.from_residual-in_err-bytes.result _ (ap is_some f))
 
 pub returns-in_err-places-clause-wants : goal.returns-in_err-places-clause-wants
 returns-in_err-places-clause-wants g c =
-    let e : peeked c.self.inside.outbound.pending ≡ Some c.in-Some.first.now = search rules in
+    let e : peeked c.self.inside.flight.queue.pending ≡ Some c.in-Some.first.now = search rules in
     let f = (next-is (g.C.Checksum.sum c.self.inside.checksum) (state_in c.self.inside) c.self.invariant c.in-Some.first.now e).front in
     rw (← c.self.view_is) (on-err c.from_residual-in_err-places.result _ (ap is_some f))
 
 pub returns-in_err-reserve-clause-wants : goal.returns-in_err-reserve-clause-wants
 returns-in_err-reserve-clause-wants g c =
-    let e : peeked c.self.inside.outbound.pending ≡ Some c.in-Some.first.now = search rules in
+    let e : peeked c.self.inside.flight.queue.pending ≡ Some c.in-Some.first.now = search rules in
     let f = (next-is (g.C.Checksum.sum c.self.inside.checksum) (state_in c.self.inside) c.self.invariant c.in-Some.first.now e).front in
     rw (← c.self.view_is) (on-err c.from_residual-in_err-reserve.result _ (ap is_some f))
 
 pub returns-in_err-reserve-2-clause-wants : goal.returns-in_err-reserve-2-clause-wants
 returns-in_err-reserve-2-clause-wants g c =
-    let e : peeked c.self.inside.outbound.pending ≡ Some c.in-Some.first.now = search rules in
+    let e : peeked c.self.inside.flight.queue.pending ≡ Some c.in-Some.first.now = search rules in
     let f = (next-is (g.C.Checksum.sum c.self.inside.checksum) (state_in c.self.inside) c.self.invariant c.in-Some.first.now e).front in
     rw (← c.self.view_is) (on-err c.from_residual-in_err-reserve-2.result _ (ap is_some f))
 
 pub returns-in_err-reserve_inflight-clause-wants : goal.returns-in_err-reserve_inflight-clause-wants
 returns-in_err-reserve_inflight-clause-wants g c =
-    let e : peeked c.self.inside.outbound.pending ≡ Some c.in-Some.first.now = search rules in
+    let e : peeked c.self.inside.flight.queue.pending ≡ Some c.in-Some.first.now = search rules in
     let f = (next-is (g.C.Checksum.sum c.self.inside.checksum) (state_in c.self.inside) c.self.invariant c.in-Some.first.now e).front in
     rw (← c.self.view_is) (on-err c.from_residual-in_err-reserve_inflight.result _ (ap is_some f))
 

@@ -1,6 +1,7 @@
 use Rattle.std.proofs.Common.{◌≡◌, rules, refl, ap, ◌∙◌, length}
 use Rattle.std.specs.Vec.{with_items, vec_len}
 use Rattle.std.proofs.lemmas.List.{with_items_is}
+use Rattle.sctp_outbound.specs.outbound_queue.OutboundQueue.{all_started}
 use Rattle.sctp_link.specs.Fields.{state_in}
 use Rattle.sctp_link.specs.OpenStreams.{start_from}
 use Rattle.sctp_link.proofs.sender.Starting.{linked-starts, start-moves}
@@ -11,7 +12,7 @@ invariant_of-self g c =
     let ms = c.self.inside.messages in
     let same : length c.start_from.new.messages ≡ vec_len ms = search rules in
     let is : (with_items ms c.start_from.new.messages).items ≡ start_from c.self.inside.unstarted c.args.now ms.items = with_items_is ms c.start_from.new.messages same ∙ c.start_from.ensures ∙ ap (start_from c.self.inside.unstarted c.args.now) c.deref_mut.ensures.value in
-    linked-starts (g.C.Checksum.sum c.self.inside.checksum) (state_in c.self.inside) c.args.now ms.items (with_items ms c.start_from.new.messages).items c.len-self-inside.result c.start_timed_messages.new.self c.self.invariant refl refl is (search rules) (search rules)
+    rw c.start.ensures (linked-starts (g.C.Checksum.sum c.self.inside.checksum) (state_in c.self.inside) c.args.now ms.items (with_items ms c.start_from.new.messages).items c.len-self-inside.result (all_started c.args.now c.self.inside.flight.queue) c.self.invariant refl refl is (search rules) refl)
 
 pub returns-clause-right : goal.returns-clause-right
 returns-clause-right g c =

@@ -1,7 +1,9 @@
 use Rattle.std.proofs.Common.{◌≡◌, ◌<◌, ◌++◌, ◌∷◌, ◌+◌, [], length, map, rules, refl, ap, None, Some, ◌∙◌, sym, arith, subst}
-use Rattle.std.specs.Prelude.{slice_index_or, slice_set, find}
+use Rattle.std.specs.Prelude.{slice_index_or, slice_set, find, if◌then◌else◌}
 use Rattle.sctp_outbound.specs.pending_queue.Whole.{IsMessageOrNone}
-use Rattle.sctp_outbound.specs.outbound_queue.OutboundQueue.{with_message}
+use Rattle.sctp_outbound.specs.pending_queue.PendingQueue.{reserved}
+use Rattle.sctp_outbound.specs.outbound_queue.OutboundQueue.{Outbound, with_message}
+use Rattle.sctp_transfer.specs.Flight.{Flight, with_queue}
 use Rattle.sctp_model.specs.declared.event.Event.TheVariants as E
 use Rattle.sctp_model.specs.Steps.{refusal_of, fragments_in}
 use Rattle.sctp_link.specs.declared.open_stream.OpenStream.{OpenStream}
@@ -37,8 +39,9 @@ invariant_of-self-in_err-message g c =
     let ok : refusal_of (world_in c.self.inside) (E.Write c.args.stream c.args.ppi c.args.bytes) ≡ None = rw (← c.self.view_is) at c.requires in
     let lt : c.in-Some.at < length c.self.inside.open_streams.items.items = search rules in
     let here : find (has_number c.args.stream) c.self.inside.open_streams.items.items ≡ Some (slice_index_or c.self.inside.open_streams.items.items c.in-Some.at c.index_mut.result.now) = search rules in
-    linked-unwritten (g.C.Checksum.sum c.self.inside.checksum) (state_in c.self.inside) c.self.invariant c.args.stream c.args.ppi c.args.bytes some ok refl c.in-Some.at c.index_mut.result.now lt here
-    c.write.new.self c.make_room.new.outbound _ _ c.self.inside.messages.items c.reserve.new.self.items (c.in_err-message.ensures.err ∙ c.index_mut.ensures.value) c.in_ok-make_room.ensures.ok refl refl (search rules)
+    rw c.in_ok-make_room.ensures.ok (linked-unwritten (g.C.Checksum.sum c.self.inside.checksum) (state_in c.self.inside) c.self.invariant c.args.stream c.args.ppi c.args.bytes some ok refl c.in-Some.at c.index_mut.result.now lt here
+    c.write.new.self (record c.self.inside.flight.queue { pending = reserved c.self.inside.flight.queue.pending (if c.is_ordered-ordered.result then c.fragments_in-count.result else 0) (if c.is_ordered-ordered.result then 0 else c.fragments_in-count.result) })
+    (if c.is_ordered-ordered.result then c.fragments_in-count.result else 0) (if c.is_ordered-ordered.result then 0 else c.fragments_in-count.result) c.self.inside.messages.items c.reserve.new.self.items (c.in_err-message.ensures.err ∙ c.index_mut.ensures.value) refl refl refl (search rules))
 
 pub push-requires-clause-message : goal.push-requires-clause-message
 push-requires-clause-message g c =
@@ -53,7 +56,7 @@ push-requires-clause-bytes g c =
     let here : find (has_number c.args.stream) c.self.inside.open_streams.items.items ≡ Some (slice_index_or c.self.inside.open_streams.items.items c.in-Some.at c.index_mut.result.now) = search rules in
     let short = write-short (g.C.Checksum.sum c.self.inside.checksum) (state_in c.self.inside) c.self.invariant c.args.stream c.args.ppi c.args.bytes some ok refl in
     pushed-few (g.C.Checksum.sum c.self.inside.checksum) (state_in c.self.inside) c.self.invariant c.args.stream c.args.ppi c.args.bytes some ok refl c.in-Some.at c.index_mut.result.now lt here
-    c.make_room.new.outbound _ _ c.in_ok-message.chunks.items c.in_ok-make_room.ensures.ok (c.in_ok-message.ensures.chunks ∙ ap (λ (t : OpenStream). fragments_with_mode t.state c.args.ppi c.args.bytes) c.index_mut.ensures.value) short
+    c.make_room.new.flight.queue _ _ c.in_ok-message.chunks.items (ap (λ (f : Flight). f.queue) c.in_ok-make_room.ensures.ok) (c.in_ok-message.ensures.chunks ∙ ap (λ (t : OpenStream). fragments_with_mode t.state c.args.ppi c.args.bytes) c.index_mut.ensures.value) short
 
 pub overflow_add-self-2 : goal.overflow_add-self-2
 overflow_add-self-2 g c =
@@ -78,10 +81,11 @@ invariant_of-self-2 g c =
     let more : c.put.new.items.items ≡ c.self.inside.messages.items ++ message_with (slice_index_or open_streams c.in-Some.at c.index_mut.result.now) c.args.ppi c.args.bytes ∷ [] = c.put.ensures ∙ ap (λ ms. ms ++ c.in_ok-message.message ∷ []) kept ∙ ap (λ m. c.self.inside.messages.items ++ m ∷ []) message in
     let count : c.fragments_in-count.result ≡ fragments_in (world_in c.self.inside) c.args.bytes = c.fragments_in-count.ensures.value c.args.bytes c.len-len.ensures.value in
     let ordered : c.is_ordered-ordered.result ≡ is_ordered (slice_index_or open_streams c.in-Some.at c.index_mut.result.now) c.args.ppi = c.is_ordered-ordered.ensures ∙ ap (λ (t : OpenStream). is_ordered t c.args.ppi) (c.index.ensures ∙ same-default open_streams c.in-Some.at c.index.result.now c.index_mut.result.now lt) in
-    let room = push-room sum x c.self.invariant c.args.stream c.args.ppi c.args.bytes some ok refl c.in-Some.at c.index_mut.result.now lt here c.in_ok-message.chunks.items c.make_room.new.outbound c.is_ordered-ordered.result c.fragments_in-count.result frags ordered count c.in_ok-make_room.ensures.ok in
-    let pushed : c.push.new.self ≡ with_message c.in_ok-message.chunks.items c.make_room.new.outbound = of-ok c.push.result _ c.push.ensures.ok (c.push.ensures.succeeds room) in
-    linked-wrote sum x c.self.invariant c.args.stream c.args.ppi c.args.bytes some ok refl c.in-Some.at c.index_mut.result.now lt here c.write.new.self open_stream c.self.inside.messages.items c.put.new.items.items refl refl more
-    c.make_room.new.outbound c.push.new.self _ _ _ _ c.fragments_in-count.result c.in_ok-make_room.ensures.ok (pushed ∙ ap (λ cs. with_message cs c.make_room.new.outbound) frags) refl count (ap (λ n. c.self.inside.written + n) c.len-len.ensures.value)
+    let room = push-room sum x c.self.invariant c.args.stream c.args.ppi c.args.bytes some ok refl c.in-Some.at c.index_mut.result.now lt here c.in_ok-message.chunks.items c.make_room.new.flight.queue c.is_ordered-ordered.result c.fragments_in-count.result frags ordered count (ap (λ (f : Flight). f.queue) c.in_ok-make_room.ensures.ok) in
+    let reserved-queue : Outbound = record c.self.inside.flight.queue { pending = reserved c.self.inside.flight.queue.pending (if c.is_ordered-ordered.result then c.fragments_in-count.result else 0) (if c.is_ordered-ordered.result then 0 else c.fragments_in-count.result) } in
+    let pushed : c.push.new.self ≡ with_queue c.make_room.new.flight (with_message c.in_ok-message.chunks.items c.make_room.new.flight.queue) = of-ok c.push.result _ c.push.ensures.ok (c.push.ensures.succeeds room) in
+    rw (pushed, c.in_ok-make_room.ensures.ok) (linked-wrote sum x c.self.invariant c.args.stream c.args.ppi c.args.bytes some ok refl c.in-Some.at c.index_mut.result.now lt here c.write.new.self open_stream c.self.inside.messages.items c.put.new.items.items refl refl more
+    reserved-queue (with_message c.in_ok-message.chunks.items reserved-queue) (if c.is_ordered-ordered.result then c.fragments_in-count.result else 0) (if c.is_ordered-ordered.result then 0 else c.fragments_in-count.result) _ _ c.fragments_in-count.result refl (ap (λ cs. with_message cs reserved-queue) frags) refl count (ap (λ n. c.self.inside.written + n) c.len-len.ensures.value))
 
 pub returns-clause-ok : goal.returns-clause-ok
 returns-clause-ok g c =

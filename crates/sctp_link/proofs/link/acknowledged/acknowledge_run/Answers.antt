@@ -1,28 +1,26 @@
-use Rattle.std.proofs.Common.{◌+◌, sym, ◌∙◌, arith}
+use Rattle.std.proofs.Common.{◌+◌, ◌<◌, ◌∙◌, arith, length, length-set}
 use Rattle.sctp_link.specs.Acking.{and_one, and_run}
-use Rattle.sctp_link.proofs.acknowledging.AckLoops.{acking-same, run-more, run-all}
+use Rattle.sctp_link.specs.OpenStreams.{slot_with}
+use Rattle.sctp_link.proofs.acknowledging.AckLoops.{marking-same, marking-one, run-more, run-all}
 use Rattle.sctp_link.proofs.link.acknowledged.acknowledge_run.Goals as goal
-
-pub acknowledge-requires-clause-known : goal.acknowledge-requires-clause-known
-acknowledge-requires-clause-known c =
-    let k = c.requires.known in
-    (k.0, k.1, k.2, and_run k.3 c.args.from c.loop-place.place, k.4, c.loop-place.invariant.acked k.0 k.1 k.2 k.3 k.4 k.5)
 
 pub loop-place-preserved : goal.loop-place-preserved
 loop-place-preserved c =
-    let k = c.requires.known in
-    let now = c.acknowledge.ensures k.0 k.1 k.2 (and_run k.3 c.args.from c.loop-place.place) k.4 (c.loop-place.invariant.acked k.0 k.1 k.2 k.3 k.4 k.5) in
+    let test = c.loop-place-test.true in
+    let low = c.loop-place.auto.place in
+    let all = c.requires (omega (arith, test, low)) in
+    let lt : c.loop-place.place < length c.loop-place.slots = omega (arith, all, test, c.loop-place.invariant.count) in
     record {
-      acked = λ w first queue acked a i.
-          acking-same w first queue (and_one (and_run acked c.args.from c.loop-place.place) c.loop-place.place) (and_run acked c.args.from (c.loop-place.place + 1)) c.acknowledge.new.slots c.acknowledge.new.open_streams c.acknowledge.new.outbound
+      acked = λ w acked i.
+          marking-same w (and_one (and_run acked c.args.from c.loop-place.place) c.loop-place.place) (and_run acked c.args.from (c.loop-place.place + 1)) _
           (run-more acked c.args.from c.loop-place.place c.loop-place.auto.place)
-          (c.acknowledge.ensures w first queue (and_run acked c.args.from c.loop-place.place) a (c.loop-place.invariant.acked w first queue acked a i));
-      count = now.count ∙ sym k.5.count;
+          (marking-one w (and_run acked c.args.from c.loop-place.place) c.loop-place.slots c.loop-place.place (slot_with 0 0) lt (c.loop-place.invariant.acked w acked i));
+      count = length-set c.loop-place.slots c.loop-place.place _ ∙ c.loop-place.invariant.count;
       reach = omega (arith, c.loop-place-test.true);
     }
 
-pub returns-clause-acked : goal.returns-clause-acked
-returns-clause-acked c = λ w first queue acked a i.
-    acking-same w first queue (and_run acked c.args.from c.loop-place.place) (and_run acked c.args.from c.args.to) c.loop-place.slots c.loop-place.open_streams c.loop-place.outbound
+pub returns : goal.returns
+returns c = λ w acked i.
+    marking-same w (and_run acked c.args.from c.loop-place.place) (and_run acked c.args.from c.args.to) c.loop-place.slots
     (run-all acked c.args.from c.loop-place.place c.args.to c.loop-place-test.false c.loop-place.invariant.reach)
-    (c.loop-place.invariant.acked w first queue acked a i)
+    (c.loop-place.invariant.acked w acked i)

@@ -1,14 +1,12 @@
-use Rattle.std.proofs.Common.{◌≡◌, ◌≤◌, ℕ, Bool, List, length}
+use Rattle.std.proofs.Common.{◌≡◌, ◌≤◌, ℕ, Bool, length}
 use Rattle.std.specs.Prelude.{max}
-use Rattle.sctp_outbound.specs.outbound_queue.OutboundQueue.{Outbound}
 use Rattle.sctp_model.specs.World.{World}
-use Rattle.sctp_link.specs.declared.open_stream.OpenStream.{OpenStream}
-use Rattle.sctp_link.specs.Acking.{Acks, IsAcking, and_run}
+use Rattle.sctp_link.specs.Acking.{IsMarking, and_run}
 use Rattle.sctp_link.proofs.link.acknowledged.acknowledge_run.Given as goal
 
 abbrev pub invariant-loop-place : goal.invariant-loop-place
 invariant-loop-place l = record {
-  acked : (w : World) (first : List OpenStream) (queue : Outbound) (acked : ℕ → Bool) → Acks l.first_tsn w → IsAcking w first queue acked l.initial.slots l.initial.open_streams l.initial.outbound → IsAcking w first queue (and_run acked l.from l.place) l.slots l.open_streams l.outbound;
+  acked : (w : World) (acked : ℕ → Bool) → IsMarking w acked l.initial.slots → IsMarking w (and_run acked l.from l.place) l.slots;
   count : length l.slots ≡ length l.initial.slots;
   reach : l.place ≤ max l.from l.to;
 }

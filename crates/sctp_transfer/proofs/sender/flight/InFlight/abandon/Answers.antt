@@ -1,4 +1,7 @@
 use Rattle.std.proofs.Common.{◌≡◌, true}
+use Rattle.std.specs.Prelude.{find}
+use Rattle.sctp_serial.specs.DataChunks.{has_tsn}
+use Rattle.sctp_outbound.specs.outbound_queue.OutboundQueue.{has_tail, to_abandon}
 use Rattle.sctp_transfer.specs.Flight.{Flight, may_send}
 use Rattle.sctp_transfer.proofs.Flights.{fresh, window, gave-up}
 use Rattle.sctp_transfer.proofs.sender.flight.InFlight.abandon.Goals as goal
@@ -16,5 +19,5 @@ abandon-requires-clause-window c =
 pub invariant_of-self-2 : goal.invariant_of-self-2
 invariant_of-self-2 c =
     let f : Flight = record { queue = c.self.inside.queue; next_tsn = c.self.inside.next_tsn; acked_tsn = c.self.inside.acked_tsn } in
-    let room : may_send f ≡ true = rw (← c.self.view_is) at c.requires in
+    let room : has_tail (to_abandon (find (has_tsn c.args.tsn) f.queue.inflight.chunks)) f.queue ≡ true → may_send f ≡ true = rw (← c.self.view_is) at c.requires in
     gave-up f _ c.abandon.new.self c.abandon.new.next_tsn c.self.invariant room c.in_ok-given_up.ensures.ok c.in_ok-given_up.ensures.raised

@@ -1,0 +1,148 @@
+-- Each stream has less by what left of it.
+use Rattle.std.proofs.Common.{◌≡◌, ℕ, zero, suc, ◌+◌, ◌-◌, ◌<◌, ◌≤◌, ◌^◌, Bool, true, false, List, [], ◌∷◌, length, map, refl, ap, sym, ◌∙◌, arith}
+use Rattle.std.specs.Prelude.{if◌then◌else◌, ◌==◌, ◌&&◌, not, slice_index_or}
+use Rattle.std.proofs.lemmas.Bool.{eq-eqb}
+use Rattle.sctp_lists.specs.Lists.{change_where, those}
+use Rattle.sctp_lists.specs.Kept.{kept, always, total_over}
+use Rattle.sctp_lists.proofs.Edits.{change_where-map, length-change_where}
+use Rattle.sctp_lists.proofs.Getting.{map-at}
+use Rattle.sctp_lists.proofs.Totals.{total-none, total-append, total-where, total-kept_same, numbers-append}
+use Rattle.sctp_chunks.specs.declared.chunk.chunk_payload_data.ChunkPayloadData.{ChunkPayloadData}
+use Rattle.sctp_outbound.specs.Marks.{acknowledged}
+use Rattle.sctp_transfer.specs.declared.sender.flight.Released.{Released}
+use Rattle.sctp_transfer.specs.Flight.{released_of}
+use Rattle.sctp_model.specs.World.{World}
+use Rattle.sctp_ties.specs.Amount.{unacked_on, stream_of_slot, bytes_at}
+use Rattle.sctp_ties.specs.Tied.{sending_of, sending_by, IsInFlight}
+use Rattle.sctp_ties.proofs.acknowledging.Acked.{first_of', rest_of'}
+use Rattle.sctp_ties.proofs.amounts.StreamAmounts.{same-turned}
+use Rattle.sctp_link.specs.declared.open_stream.OpenStream.{OpenStream}
+use Rattle.sctp_link.specs.Places.{stream_numbers}
+use Rattle.sctp_link.specs.Linked.{has_number}
+use Rattle.sctp_link.specs.Acking.{Acks, with_amount, less_by, released}
+
+-- no number changes
+pub numbers-less : (ls : List OpenStream) (s n : ℕ) → stream_numbers (change_where (has_number s) (less_by n) ls) ≡ stream_numbers ls
+numbers-less [] s n = refl
+numbers-less (l ∷ ls) s n = ap (λ k. k ∷ stream_numbers (change_where (has_number s) (less_by n) ls)) (one (has_number s l)) ∙ ap (λ ks. l.state.stream_identifier ∷ ks) (numbers-less ls s n)
+  where
+    one : (b : Bool) → (if b then less_by n l else l).state.stream_identifier ≡ l.state.stream_identifier
+    one true = refl
+    one false = refl
+
+-- bytes go off the amount of the streams of a number
+streams-less : (ls : List OpenStream) (s n k : ℕ) (d : OpenStream) → k < length ls → slice_index_or (change_where (has_number s) (less_by n) ls) k d ≡ with_amount ((slice_index_or ls k d).state.buffered_amount - (if s == (slice_index_or ls k d).state.stream_identifier then n else 0)) (slice_index_or ls k d)
+streams-less ls s n k d lt =
+    ap (λ ys. slice_index_or ys k d) (change_where-map (has_number s) (less_by n) ls)
+    ∙ map-at (λ x. if has_number s x then less_by n x else x) k ls d lt
+    ∙ one (slice_index_or ls k d)
+  where
+    by : (x : OpenStream) (b : Bool) → (if b then less_by n x else x) ≡ with_amount (x.state.buffered_amount - (if b then n else 0)) x
+    by x true = refl
+    by x false = let none : x.state.buffered_amount ≡ x.state.buffered_amount - 0 = omega arith in ap (λ m. with_amount m x) none
+
+    one : (x : OpenStream) → (if has_number s x then less_by n x else x) ≡ with_amount (x.state.buffered_amount - (if s == x.state.stream_identifier then n else 0)) x
+    one x = by x (has_number s x) ∙ ap (λ b. with_amount (x.state.buffered_amount - (if b then n else 0)) x) (same-turned x.state.stream_identifier s)
+
+-- ## What was told
+
+-- of that, the bytes of a stream
+abbrev pub released_on : ℕ → List Released → ℕ
+released_on t [] = 0
+released_on t (r ∷ rs) = (if r.stream == t then r.bytes else 0) + released_on t rs
+
+pub length-released : (rs : List Released) (ls : List OpenStream) → length (released rs ls) ≡ length ls
+length-released [] ls = refl
+length-released (r ∷ rs) ls = length-released rs (change_where (has_number r.stream) (less_by r.bytes) ls) ∙ length-change_where (has_number r.stream) (less_by r.bytes) ls
+
+pub numbers-released : (rs : List Released) (ls : List OpenStream) → stream_numbers (released rs ls) ≡ stream_numbers ls
+numbers-released [] ls = refl
+numbers-released (r ∷ rs) ls = numbers-released rs (change_where (has_number r.stream) (less_by r.bytes) ls) ∙ numbers-less ls r.stream r.bytes
+
+pub released-at : (rs : List Released) (ls : List OpenStream) (k : ℕ) (d : OpenStream) → k < length ls → slice_index_or (released rs ls) k d ≡ with_amount ((slice_index_or ls k d).state.buffered_amount - released_on (slice_index_or ls k d).state.stream_identifier rs) (slice_index_or ls k d)
+released-at [] ls k d lt = let none : (slice_index_or ls k d).state.buffered_amount ≡ (slice_index_or ls k d).state.buffered_amount - 0 = omega arith in ap (λ m. with_amount m (slice_index_or ls k d)) none
+released-at (r ∷ rs) ls k d lt =
+    let next = change_where (has_number r.stream) (less_by r.bytes) ls in
+    let l : OpenStream = slice_index_or ls k d in
+    released-at rs next k d (omega (arith, lt, length-change_where (has_number r.stream) (less_by r.bytes) ls))
+    ∙ ap (less-too rs) (streams-less ls r.stream r.bytes k d lt)
+    ∙ ap (λ m. with_amount m (slice_index_or ls k d)) (both (slice_index_or ls k d).state.buffered_amount (if r.stream == (slice_index_or ls k d).state.stream_identifier then r.bytes else 0) (released_on (slice_index_or ls k d).state.stream_identifier rs))
+  where
+    less-too : List Released → OpenStream → OpenStream
+    less-too rs y = with_amount (y.state.buffered_amount - released_on y.state.stream_identifier rs) y
+
+    both : (a x y : ℕ) → a - x - y ≡ a - (x + y)
+    both a x y = omega arith
+
+-- ## What is in flight on a stream
+
+abbrev pub chunks_on : ℕ → List ChunkPayloadData → ℕ
+chunks_on t [] = 0
+chunks_on t (c ∷ cs) = (if c.stream_identifier == t then length c.user_data else 0) + chunks_on t cs
+
+none-on : (b : Bool) → ◌≡◌ {A = ℕ} (if b then 0 else 0) 0
+none-on true = refl
+none-on false = refl
+
+-- what is acknowledged leaves
+pub told-on : (p : ChunkPayloadData → Bool) (t : ℕ) (cs : List ChunkPayloadData) → released_on t (map released_of (those p cs)) + chunks_on t (change_where p acknowledged cs) ≡ chunks_on t cs
+told-on p t [] = refl
+told-on p t (c ∷ cs) = step (p c) (told-on p t cs)
+  where
+    step : (b : Bool) → released_on t (map released_of (those p cs)) + chunks_on t (change_where p acknowledged cs) ≡ chunks_on t cs
+        → released_on t (map released_of (if b then c ∷ those p cs else those p cs)) + chunks_on t ((if b then acknowledged c else c) ∷ change_where p acknowledged cs) ≡ chunks_on t (c ∷ cs)
+    step true ih = let z = none-on (c.stream_identifier == t) in omega (arith, ih, z)
+    step false ih = omega (arith, ih)
+
+module _ (first : ℕ) (w : World) (a : Acks first w) where
+  flying-on : (acked : ℕ → Bool) (t : ℕ) (cs : List ChunkPayloadData) (from count : ℕ) → from + count ≤ length w.slots → IsInFlight w acked from count cs → chunks_on t cs ≡ total_over (λ p. if stream_of_slot w p == t then (if acked p then 0 else bytes_at w p) else 0) (kept always from count)
+  flying-on acked t [] from zero le e = refl
+  flying-on acked t [] from (suc count) le e = cc
+  flying-on acked t (c ∷ cs) from zero le e = cc
+  flying-on acked t (c ∷ cs) from (suc count) le e =
+      ap (λ n. n + chunks_on t cs) (a.shares from t (acked from) c (omega (arith, le)) (ap (λ l. first_of' l (sending_of c)) e))
+      ∙ ap (λ n. (if stream_of_slot w from == t then (if acked from then 0 else bytes_at w from) else 0) + n) (flying-on acked t cs (from + 1) count (omega (arith, le)) (ap rest_of' e))
+
+  -- what is in flight on a stream is what its slots hold that are not acknowledged, where each slot before the first in flight is
+  pub on-unacked : (acked : ℕ → Bool) (t : ℕ) (cs : List ChunkPayloadData) (from : ℕ) → from ≤ length w.slots → ((p : ℕ) → p < from → acked p ≡ true) → IsInFlight w acked from (length w.slots - from) cs → chunks_on t cs ≡ unacked_on w acked t
+  on-unacked acked t cs from le before e =
+      let f : ℕ → ℕ = λ p. if stream_of_slot w p == t then (if acked p then 0 else bytes_at w p) else 0 in
+      let queue = flying-on acked t cs from (length w.slots - from) (omega (arith, le)) e in
+      let none = total-none f 0 from (λ k i j. ap (λ b. if stream_of_slot w k == t then (if b then 0 else bytes_at w k) else 0) (before k (omega arith)) ∙ none-on (stream_of_slot w k == t)) in
+      let two = total-append f (kept always 0 from) (kept always from (length w.slots - from)) in
+      let all : from + (length w.slots - from) ≡ length w.slots = omega (arith, le) in
+      let whole = ap (total_over f) (numbers-append from (length w.slots - from) ∙ ap (kept always 0) all) in
+      let held = total-where (bytes_at w) (λ p. not (acked p) && (stream_of_slot w p == t)) 0 (length w.slots) in
+      let same = total-kept_same (λ p. if not (acked p) && (stream_of_slot w p == t) then bytes_at w p else 0) f always 0 (length w.slots) (λ k i j. turned (acked k) (stream_of_slot w k == t) (bytes_at w k)) in
+      omega (arith, queue, none, two, whole, held, same)
+    where
+      turned : (b c : Bool) (k : ℕ) → (if not b && c then k else 0) ≡ (if c then (if b then 0 else k) else 0)
+      turned true true k = refl
+      turned true false k = refl
+      turned false true k = refl
+      turned false false k = refl
+
+  -- ## Each is short
+
+  chunk-small : (b : Bool) (p : ℕ) (c : ChunkPayloadData) → p < length w.slots → sending_of c ≡ sending_by w b p → length c.user_data < 2 ^ 31
+  chunk-small b p c lt says = by c.stream_identifier (stream_of_slot w p) (length c.user_data) (bytes_at w p) b (a.shares p c.stream_identifier b c lt says) (a.short p lt)
+    where
+      part : (d e : Bool) (n : ℕ) → (if d then (if e then 0 else n) else 0) ≤ n
+      part true true n = omega arith
+      part true false n = omega arith
+      part false e n = omega arith
+
+      by : (s t m n : ℕ) (d : Bool) → (if s == s then m else 0) ≡ (if t == s then (if d then 0 else n) else 0) → n < 2 ^ 31 → m < 2 ^ 31
+      by s t m n d e lt = let same : (if s == s then m else 0) ≡ m = ap (λ x. if x then m else 0) (eq-eqb s s refl) in let le = part (t == s) d n in omega (arith, e, same, le, lt)
+
+  pub told-short : (acked : ℕ → Bool) (p : ChunkPayloadData → Bool) (cs : List ChunkPayloadData) (from count : ℕ) → from + count ≤ length w.slots → IsInFlight w acked from count cs → (i : ℕ) (d : Released) → i < length (map released_of (those p cs)) → (slice_index_or (map released_of (those p cs)) i d).bytes < 2 ^ 31
+  told-short acked p [] from count le e i d lt = absurd (omega (arith, lt))
+  told-short acked p (c ∷ cs) from zero le e i d lt = cc
+  told-short acked p (c ∷ cs) from (suc count) le e i d lt =
+      step (p c) (chunk-small (acked from) from c (omega (arith, le)) (ap (λ l. first_of' l (sending_of c)) e)) (told-short acked p cs (from + 1) count (omega (arith, le)) (ap rest_of' e)) i d lt
+    where
+      step : (b : Bool) → length c.user_data < 2 ^ 31 → ((i : ℕ) (d : Released) → i < length (map released_of (those p cs)) → (slice_index_or (map released_of (those p cs)) i d).bytes < 2 ^ 31)
+          → (i : ℕ) (d : Released) → i < length (map released_of (if b then c ∷ those p cs else those p cs)) → (slice_index_or (map released_of (if b then c ∷ those p cs else those p cs)) i d).bytes < 2 ^ 31
+      step true h ih zero d lt = h
+      step true h ih (suc i) d lt = ih i d (omega (arith, lt))
+      step false h ih i d lt = ih i d lt
