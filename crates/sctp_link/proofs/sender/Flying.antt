@@ -1,5 +1,5 @@
 -- What is in flight, against the record.
-use Rattle.std.proofs.Common.{◌≡◌, ℕ, ◌+◌, ◌-◌, ◌<◌, ◌≤◌, ◌^◌, length, ap, sym, ◌∙◌, arith}
+use Rattle.std.proofs.Common.{◌≡◌, ◌+◌, ◌-◌, ◌<◌, ◌^◌, length, ap, sym, ◌∙◌, arith}
 use Rattle.sctp_lists.specs.Kept.{numbers_from}
 use Rattle.sctp_lists.proofs.Getting.{length-mapped}
 use Rattle.sctp_lists.proofs.Totals.{length-numbers}

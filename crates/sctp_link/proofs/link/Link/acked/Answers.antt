@@ -1,4 +1,4 @@
-use Rattle.std.proofs.Common.{◌≡◌, ◌+◌, ◌-◌, ◌<◌, ◌%◌, ◌^◌, ℕ, ap, sym, ◌∙◌, refl, length, map, max, arith}
+use Rattle.std.proofs.Common.{◌≡◌, ◌+◌, ◌-◌, ◌<◌, ◌%◌, ◌^◌, ℕ, ap, sym, ◌∙◌, refl, length, max, arith}
 use Rattle.std.specs.List.{list_any}
 use Rattle.sctp_chunks.specs.SelectiveAck.{sack_of}
 use Rattle.sctp_serial.specs.DataChunks.{bytes_of}
@@ -13,7 +13,6 @@ use Rattle.sctp_model.specs.Steps.{refusal_of}
 use Rattle.sctp_ties.specs.Amount.{acknowledged_at}
 use Rattle.sctp_link.specs.Acking.{IsMarking, and_run, and_blocks, in_block}
 use Rattle.sctp_link.specs.Fields.{world_in, state_in}
-use Rattle.sctp_link.specs.Texts.{block_of}
 use Rattle.sctp_link.proofs.upkeep.Facts.{facts}
 use Rattle.sctp_link.proofs.acknowledging.SackTaken.{sack-there, wire_sack, reads-sack, count-is, count-made, reported, marking-first, not-refused, each-short, within-run, within-blocks, taken-all}
 use Rattle.sctp_link.proofs.link.Link.acked.Goals as goal
@@ -52,8 +51,8 @@ take_sack-requires g c =
     let count = count-is c.self.inside.first_tsn there.0.cumulative c.in_ok-sack.sack.cumulative_tsn_ack l.setup.first (omega (arith, made, few)) (ap (λ s. s.cumulative_tsn_ack) says) in
     let top : c.max-taken.result ≡ max c.self.inside.taken there.0.cumulative = c.max-taken.ensures ∙ ap (max c.self.inside.taken) count in
     let cum : (sack_of c.rebase.new.sack).cumulative_tsn_ack ≡ cumulative_tsn (world_in c.self.inside) c.max-taken.result = omega (arith, c.rebase.ensures.cumulative, l.setup.first, top, made, few, before) in
-    let covers : (n : ℕ) → 0 < n → covered (sack_of c.rebase.new.sack).gap_ack_blocks n ≡ covered (map block_of there.0.blocks) (n + (c.max-taken.result - there.0.cumulative)) =
-    λ n pos. c.rebase.ensures.covers n pos ∙ ap (λ bs. covered bs (n + (c.max-taken.result - (((c.in_ok-sack.sack.cumulative_tsn_ack + (2 ^ 32 - c.self.inside.first_tsn)) % 2 ^ 32 + 1) % 2 ^ 32)))) (ap (λ s. s.gap_ack_blocks) says) ∙ ap (λ m. covered (map block_of there.0.blocks) (n + (c.max-taken.result - m))) count in
+    let covers : (n : ℕ) → 0 < n → covered (sack_of c.rebase.new.sack).gap_ack_blocks n ≡ covered (wire_sack (world_in c.self.inside) there.0).gap_ack_blocks (n + (c.max-taken.result - there.0.cumulative)) =
+    λ n pos. c.rebase.ensures.covers n pos ∙ ap (λ bs. covered bs (n + (c.max-taken.result - (((c.in_ok-sack.sack.cumulative_tsn_ack + (2 ^ 32 - c.self.inside.first_tsn)) % 2 ^ 32 + 1) % 2 ^ 32)))) (ap (λ s. s.gap_ack_blocks) says) ∙ ap (λ m. covered (wire_sack (world_in c.self.inside) there.0).gap_ack_blocks (n + (c.max-taken.result - m))) count in
     not-refused sum (state_in c.self.inside) c.args.k there.0 l none there.1 (sack_of c.rebase.new.sack) c.max-taken.result top cum covers c.rebase.ensures.begin
 
 pub release_each-requires-clause-short : goal.release_each-requires-clause-short
@@ -70,8 +69,8 @@ release_each-requires-clause-short g c =
     let count = count-is c.self.inside.first_tsn there.0.cumulative c.in_ok-sack.sack.cumulative_tsn_ack l.setup.first (omega (arith, made, few)) (ap (λ s. s.cumulative_tsn_ack) says) in
     let top : c.max-taken.result ≡ max c.self.inside.taken there.0.cumulative = c.max-taken.ensures ∙ ap (max c.self.inside.taken) count in
     let cum : (sack_of c.rebase.new.sack).cumulative_tsn_ack ≡ cumulative_tsn (world_in c.self.inside) c.max-taken.result = omega (arith, c.rebase.ensures.cumulative, l.setup.first, top, made, few, before) in
-    let covers : (n : ℕ) → 0 < n → covered (sack_of c.rebase.new.sack).gap_ack_blocks n ≡ covered (map block_of there.0.blocks) (n + (c.max-taken.result - there.0.cumulative)) =
-    λ n pos. c.rebase.ensures.covers n pos ∙ ap (λ bs. covered bs (n + (c.max-taken.result - (((c.in_ok-sack.sack.cumulative_tsn_ack + (2 ^ 32 - c.self.inside.first_tsn)) % 2 ^ 32 + 1) % 2 ^ 32)))) (ap (λ s. s.gap_ack_blocks) says) ∙ ap (λ m. covered (map block_of there.0.blocks) (n + (c.max-taken.result - m))) count in
+    let covers : (n : ℕ) → 0 < n → covered (sack_of c.rebase.new.sack).gap_ack_blocks n ≡ covered (wire_sack (world_in c.self.inside) there.0).gap_ack_blocks (n + (c.max-taken.result - there.0.cumulative)) =
+    λ n pos. c.rebase.ensures.covers n pos ∙ ap (λ bs. covered bs (n + (c.max-taken.result - (((c.in_ok-sack.sack.cumulative_tsn_ack + (2 ^ 32 - c.self.inside.first_tsn)) % 2 ^ 32 + 1) % 2 ^ 32)))) (ap (λ s. s.gap_ack_blocks) says) ∙ ap (λ m. covered (wire_sack (world_in c.self.inside) there.0).gap_ack_blocks (n + (c.max-taken.result - m))) count in
     each-short sum (state_in c.self.inside) c.args.k there.0 l none there.1 (sack_of c.rebase.new.sack) c.max-taken.result top cum covers c.rebase.ensures.begin c.deref.result.now (c.deref.ensures.value ∙ c.in_ok-released.ensures.answer)
 
 pub acknowledge_run-requires : goal.acknowledge_run-requires
@@ -88,8 +87,8 @@ acknowledge_run-requires g c = λ some.
     let count = count-is c.self.inside.first_tsn there.0.cumulative c.in_ok-sack.sack.cumulative_tsn_ack l.setup.first (omega (arith, made, few)) (ap (λ s. s.cumulative_tsn_ack) says) in
     let top : c.max-taken.result ≡ max c.self.inside.taken there.0.cumulative = c.max-taken.ensures ∙ ap (max c.self.inside.taken) count in
     let cum : (sack_of c.rebase.new.sack).cumulative_tsn_ack ≡ cumulative_tsn (world_in c.self.inside) c.max-taken.result = omega (arith, c.rebase.ensures.cumulative, l.setup.first, top, made, few, before) in
-    let covers : (n : ℕ) → 0 < n → covered (sack_of c.rebase.new.sack).gap_ack_blocks n ≡ covered (map block_of there.0.blocks) (n + (c.max-taken.result - there.0.cumulative)) =
-    λ n pos. c.rebase.ensures.covers n pos ∙ ap (λ bs. covered bs (n + (c.max-taken.result - (((c.in_ok-sack.sack.cumulative_tsn_ack + (2 ^ 32 - c.self.inside.first_tsn)) % 2 ^ 32 + 1) % 2 ^ 32)))) (ap (λ s. s.gap_ack_blocks) says) ∙ ap (λ m. covered (map block_of there.0.blocks) (n + (c.max-taken.result - m))) count in
+    let covers : (n : ℕ) → 0 < n → covered (sack_of c.rebase.new.sack).gap_ack_blocks n ≡ covered (wire_sack (world_in c.self.inside) there.0).gap_ack_blocks (n + (c.max-taken.result - there.0.cumulative)) =
+    λ n pos. c.rebase.ensures.covers n pos ∙ ap (λ bs. covered bs (n + (c.max-taken.result - (((c.in_ok-sack.sack.cumulative_tsn_ack + (2 ^ 32 - c.self.inside.first_tsn)) % 2 ^ 32 + 1) % 2 ^ 32)))) (ap (λ s. s.gap_ack_blocks) says) ∙ ap (λ m. covered (wire_sack (world_in c.self.inside) there.0).gap_ack_blocks (n + (c.max-taken.result - m))) count in
     let first = marking-first sum (state_in c.self.inside) c.self.inside.slots.items l refl in
     omega (arith, within-run sum (state_in c.self.inside) c.args.k there.0 l none there.1 (sack_of c.rebase.new.sack) c.max-taken.result top cum covers c.rebase.ensures.begin some, first.count, ap length c.deref_mut.ensures.value)
 
@@ -122,8 +121,8 @@ acknowledge_blocks-requires-clause-within g c = λ p any.
     let count = count-is c.self.inside.first_tsn there.0.cumulative c.in_ok-sack.sack.cumulative_tsn_ack l.setup.first (omega (arith, made, few)) (ap (λ s. s.cumulative_tsn_ack) says) in
     let top : c.max-taken.result ≡ max c.self.inside.taken there.0.cumulative = c.max-taken.ensures ∙ ap (max c.self.inside.taken) count in
     let cum : (sack_of c.rebase.new.sack).cumulative_tsn_ack ≡ cumulative_tsn (world_in c.self.inside) c.max-taken.result = omega (arith, c.rebase.ensures.cumulative, l.setup.first, top, made, few, before) in
-    let covers : (n : ℕ) → 0 < n → covered (sack_of c.rebase.new.sack).gap_ack_blocks n ≡ covered (map block_of there.0.blocks) (n + (c.max-taken.result - there.0.cumulative)) =
-    λ n pos. c.rebase.ensures.covers n pos ∙ ap (λ bs. covered bs (n + (c.max-taken.result - (((c.in_ok-sack.sack.cumulative_tsn_ack + (2 ^ 32 - c.self.inside.first_tsn)) % 2 ^ 32 + 1) % 2 ^ 32)))) (ap (λ s. s.gap_ack_blocks) says) ∙ ap (λ m. covered (map block_of there.0.blocks) (n + (c.max-taken.result - m))) count in
+    let covers : (n : ℕ) → 0 < n → covered (sack_of c.rebase.new.sack).gap_ack_blocks n ≡ covered (wire_sack (world_in c.self.inside) there.0).gap_ack_blocks (n + (c.max-taken.result - there.0.cumulative)) =
+    λ n pos. c.rebase.ensures.covers n pos ∙ ap (λ bs. covered bs (n + (c.max-taken.result - (((c.in_ok-sack.sack.cumulative_tsn_ack + (2 ^ 32 - c.self.inside.first_tsn)) % 2 ^ 32 + 1) % 2 ^ 32)))) (ap (λ s. s.gap_ack_blocks) says) ∙ ap (λ m. covered (wire_sack (world_in c.self.inside) there.0).gap_ack_blocks (n + (c.max-taken.result - m))) count in
     let first = marking-first sum (state_in c.self.inside) c.self.inside.slots.items l refl in
     let last = within-blocks sum (state_in c.self.inside) c.args.k there.0 l none there.1 (sack_of c.rebase.new.sack) c.max-taken.result top cum covers c.rebase.ensures.begin p (ap (list_any (in_block c.max-taken.result p)) (sym c.deref-2.ensures.value) ∙ any) in
     let slots1 = with_items_is c.self.inside.slots c.acknowledge_run.new.slots (omega (arith, c.acknowledge_run.auto.slots, c.deref_mut.ensures.len)) in
@@ -143,8 +142,8 @@ invariant_of-self-2 g c =
     let count = count-is c.self.inside.first_tsn there.0.cumulative c.in_ok-sack.sack.cumulative_tsn_ack l.setup.first (omega (arith, made, few)) (ap (λ s. s.cumulative_tsn_ack) says) in
     let top : c.max-taken.result ≡ max c.self.inside.taken there.0.cumulative = c.max-taken.ensures ∙ ap (max c.self.inside.taken) count in
     let cum : (sack_of c.rebase.new.sack).cumulative_tsn_ack ≡ cumulative_tsn (world_in c.self.inside) c.max-taken.result = omega (arith, c.rebase.ensures.cumulative, l.setup.first, top, made, few, before) in
-    let covers : (n : ℕ) → 0 < n → covered (sack_of c.rebase.new.sack).gap_ack_blocks n ≡ covered (map block_of there.0.blocks) (n + (c.max-taken.result - there.0.cumulative)) =
-    λ n pos. c.rebase.ensures.covers n pos ∙ ap (λ bs. covered bs (n + (c.max-taken.result - (((c.in_ok-sack.sack.cumulative_tsn_ack + (2 ^ 32 - c.self.inside.first_tsn)) % 2 ^ 32 + 1) % 2 ^ 32)))) (ap (λ s. s.gap_ack_blocks) says) ∙ ap (λ m. covered (map block_of there.0.blocks) (n + (c.max-taken.result - m))) count in
+    let covers : (n : ℕ) → 0 < n → covered (sack_of c.rebase.new.sack).gap_ack_blocks n ≡ covered (wire_sack (world_in c.self.inside) there.0).gap_ack_blocks (n + (c.max-taken.result - there.0.cumulative)) =
+    λ n pos. c.rebase.ensures.covers n pos ∙ ap (λ bs. covered bs (n + (c.max-taken.result - (((c.in_ok-sack.sack.cumulative_tsn_ack + (2 ^ 32 - c.self.inside.first_tsn)) % 2 ^ 32 + 1) % 2 ^ 32)))) (ap (λ s. s.gap_ack_blocks) says) ∙ ap (λ m. covered (wire_sack (world_in c.self.inside) there.0).gap_ack_blocks (n + (c.max-taken.result - m))) count in
     let first = marking-first sum (state_in c.self.inside) c.self.inside.slots.items l refl in
     let next = c.acknowledge_run.ensures (world_in c.self.inside) (acknowledged_at (world_in c.self.inside)) (rw c.deref_mut.ensures.value first) in
     let slots1 = with_items_is c.self.inside.slots c.acknowledge_run.new.slots (omega (arith, c.acknowledge_run.auto.slots, c.deref_mut.ensures.len)) in
@@ -169,8 +168,8 @@ returns-clause-ok g c =
     let count = count-is c.self.inside.first_tsn there.0.cumulative c.in_ok-sack.sack.cumulative_tsn_ack l.setup.first (omega (arith, made, few)) (ap (λ s. s.cumulative_tsn_ack) says) in
     let top : c.max-taken.result ≡ max c.self.inside.taken there.0.cumulative = c.max-taken.ensures ∙ ap (max c.self.inside.taken) count in
     let cum : (sack_of c.rebase.new.sack).cumulative_tsn_ack ≡ cumulative_tsn (world_in c.self.inside) c.max-taken.result = omega (arith, c.rebase.ensures.cumulative, l.setup.first, top, made, few, before) in
-    let covers : (n : ℕ) → 0 < n → covered (sack_of c.rebase.new.sack).gap_ack_blocks n ≡ covered (map block_of there.0.blocks) (n + (c.max-taken.result - there.0.cumulative)) =
-    λ n pos. c.rebase.ensures.covers n pos ∙ ap (λ bs. covered bs (n + (c.max-taken.result - (((c.in_ok-sack.sack.cumulative_tsn_ack + (2 ^ 32 - c.self.inside.first_tsn)) % 2 ^ 32 + 1) % 2 ^ 32)))) (ap (λ s. s.gap_ack_blocks) says) ∙ ap (λ m. covered (map block_of there.0.blocks) (n + (c.max-taken.result - m))) count in
+    let covers : (n : ℕ) → 0 < n → covered (sack_of c.rebase.new.sack).gap_ack_blocks n ≡ covered (wire_sack (world_in c.self.inside) there.0).gap_ack_blocks (n + (c.max-taken.result - there.0.cumulative)) =
+    λ n pos. c.rebase.ensures.covers n pos ∙ ap (λ bs. covered bs (n + (c.max-taken.result - (((c.in_ok-sack.sack.cumulative_tsn_ack + (2 ^ 32 - c.self.inside.first_tsn)) % 2 ^ 32 + 1) % 2 ^ 32)))) (ap (λ s. s.gap_ack_blocks) says) ∙ ap (λ m. covered (wire_sack (world_in c.self.inside) there.0).gap_ack_blocks (n + (c.max-taken.result - m))) count in
     let first = marking-first sum (state_in c.self.inside) c.self.inside.slots.items l refl in
     let next = c.acknowledge_run.ensures (world_in c.self.inside) (acknowledged_at (world_in c.self.inside)) (rw c.deref_mut.ensures.value first) in
     let slots1 = with_items_is c.self.inside.slots c.acknowledge_run.new.slots (omega (arith, c.acknowledge_run.auto.slots, c.deref_mut.ensures.len)) in
