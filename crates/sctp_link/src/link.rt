@@ -53,7 +53,6 @@ pub struct Link<C: Checksum + Drop> {
     duplicates: Vec<u64>,
     // what waits and what is in flight
     flight: InFlight,
-    // the TSNs that came
     filter: TsnFilter,
     // how many fragments were accepted
     fragments: usize,

@@ -1,6 +1,6 @@
 -- A link with nothing opened yet.
 use Rattle.std.specs.BTreeMap.{BTreeMap}
-use Rattle.std.proofs.Common.{◌≡◌, ℕ, ◌+◌, ◌-◌, ◌<◌, ◌≤◌, ◌%◌, ◌^◌, List, [], map, None, refl, ap, arith}
+use Rattle.std.proofs.Common.{◌≡◌, ℕ, ◌+◌, ◌-◌, ◌<◌, ◌≤◌, ◌%◌, ◌^◌, List, [], map, refl, ap, arith}
 use Rattle.sctp_transfer.specs.Flight.{Flight, at_first}
 use Rattle.sctp_transfer.specs.TsnFilter.{Filter, preceding_tsn}
 use Rattle.sctp_model.specs.Queues.{FilterRecord}

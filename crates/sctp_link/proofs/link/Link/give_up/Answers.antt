@@ -1,4 +1,4 @@
-use Rattle.std.proofs.Common.{◌≡◌, ◌<◌, ◌+◌, ◌^◌, ◌++◌, Bool, true, false, ap, sym, ◌∙◌, None, refl, rules, arith, length, subst}
+use Rattle.std.proofs.Common.{◌≡◌, ◌<◌, ◌^◌, ◌++◌, Bool, true, false, ap, sym, ◌∙◌, None, refl, rules, arith, length, subst}
 use Rattle.std.specs.Prelude.{slice_index_or}
 use Rattle.sctp_lists.proofs.Getting.{length-mapped}
 use Rattle.sctp_transfer.specs.Flight.{Flight}

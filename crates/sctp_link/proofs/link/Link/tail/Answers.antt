@@ -1,4 +1,4 @@
-use Rattle.std.proofs.Common.{◌≡◌, ◌<◌, ◌+◌, ◌++◌, true, ap, sym, ◌∙◌, Some, None, refl, rules, arith, length}
+use Rattle.std.proofs.Common.{◌≡◌, ◌<◌, ◌++◌, true, ap, sym, ◌∙◌, Some, None, refl, rules, arith, length}
 use Rattle.std.specs.Prelude.{slice_index_or, is_some}
 use Rattle.sctp_lists.proofs.Getting.{length-mapped}
 use Rattle.sctp_outbound.specs.pending_queue.PendingQueue.{peeked}
