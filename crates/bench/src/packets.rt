@@ -1,12 +1,13 @@
 //! A packet of one DATA chunk with 1,200 bytes, read and written under a checksum that is always 0.
 
 use benchlib::packet::{
-    Zero, datagram, is_expected, time_of_reading, time_of_summing, time_of_writing,
+    Zero, datagram, is_expected, time_of_dissecting, time_of_reading, time_of_summing,
+    time_of_writing,
 };
-use bytes::BytesMut;
+use bytes::{Bytes, BytesMut};
 use sctp_packets::packet::Packet;
 
-/// Prints whether it was read and written right and, with `times`, how many nanoseconds each took, and how many its CRC-32C took.
+/// Prints whether it was read and written right and, with `times`, what each took.
 pub fn run(rt: &HostRuntime, times: bool) -> anyhow::Result<()> {
     let alloc = rt.alloc();
     let raw = datagram(alloc)?;
@@ -26,12 +27,25 @@ pub fn run(rt: &HostRuntime, times: bool) -> anyhow::Result<()> {
     };
     println!(rt; "marshal_to: {written}")?;
     if times {
-        let reading = time_of_reading(rt, alloc, &raw)?;
-        println!(rt; "unmarshal: {reading} ns")?;
-        let writing = time_of_writing(rt, &mut buf, &packet)?;
-        println!(rt; "marshal_to: {writing} ns")?;
-        let (summing, sum) = time_of_summing(rt, &raw)?;
-        println!(rt; "crc32c of its 1228 bytes: {summing} ns ({sum:08x} after all)")?;
+        print_times(rt, &raw, &packet, &mut buf)?;
     }
+    Ok(())
+}
+
+/// Prints how many nanoseconds a reading, a dissection, a writing and a CRC-32C of the packet took.
+fn print_times(
+    rt: &HostRuntime,
+    raw: &Bytes,
+    packet: &Packet,
+    buf: &mut BytesMut,
+) -> anyhow::Result<()> {
+    let reading = time_of_reading(rt, rt.alloc(), raw)?;
+    println!(rt; "unmarshal: {reading} ns")?;
+    let dissecting = time_of_dissecting(rt, rt.alloc(), raw)?;
+    println!(rt; "dissect: {dissecting} ns")?;
+    let writing = time_of_writing(rt, buf, packet)?;
+    println!(rt; "marshal_to: {writing} ns")?;
+    let (summing, sum) = time_of_summing(rt, raw)?;
+    println!(rt; "crc32c of its 1228 bytes: {summing} ns ({sum:08x} after all)")?;
     Ok(())
 }
