@@ -459,8 +459,8 @@ impl OutboundQueue {
         }
     }
 
-    /// The first TSN in flight that is neither acknowledged nor abandoned: a
-    /// FORWARD-TSN can go up to before it (RFC 3758 3.5).
+    /// The first TSN in flight that is neither acknowledged nor abandoned: the first that may have to be sent again
+    /// (RFC 4960 6.3.3).
     pub fn earliest_outstanding_tsn(&self) -> Option<u32>
         ensures { result ≡ option_map (λ c. c.tsn) (find is_outstanding self.now.inflight.chunks) }
     {
