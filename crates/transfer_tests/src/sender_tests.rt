@@ -4,6 +4,7 @@ use crate::host::{Host, acknowledges, sends, sends_again, skips};
 use crate::part::reads;
 use sctp_chunks::chunk::chunk_payload_data::ReliabilityType;
 use sctp_chunks::chunk::chunk_selective_ack::{ChunkSelectiveAck, GapAckBlock};
+use sctp_transfer::sender::flight::InFlight;
 use sctp_transfer::sender::flight::late::GivenUp;
 use sctp_transfer::sender::refusal::SenderRefusal;
 use std::alloc::Global;
@@ -162,5 +163,12 @@ fn lifetime_ends_in_flight(rt: HostRuntime) -> Result<(), Fail> {
     assert!(rt; the_other_is_read(alloc, &mut a, &mut b));
     assert!(rt; is_done(&a));
     assert!(rt; !skips(alloc, &mut a, &mut b));
+    Ok(())
+}
+
+#[test]
+fn the_tsn_before_the_first_counts_as_acknowledged(rt: HostRuntime) -> Result<(), Fail> {
+    let flight = InFlight::new(rt.alloc(), 5);
+    assert_eq!(rt; (flight.acked_tsn(), flight.next_tsn()), (4, 5));
     Ok(())
 }
