@@ -1,13 +1,15 @@
 //! Expiry, abandonment and FORWARD-TSN: the bytes of datagrams, the ledger, and what the lent queues hold.
 
-use crate::tests::{Counted, Zero, binary, carries, is_new, is_nothing, sent, shows};
+use crate::tests::{
+    Counted, Zero, acked, acks, arrivals_ask, arrives, buffers, carries, does, hands_out,
+    has_nothing, sends, sent, sums, takes,
+};
+use sctp_base::util::Checksum;
 use sctp_chunks::chunk::chunk_payload_data::ReliabilityType;
 use sctp_link::event::{Event, Reply};
 use sctp_link::link::Link;
-use sctp_link::link::lending::Ledger;
 use std::alloc::Global;
 use std::cell::Cell;
-use std::test::Fail;
 
 /// Sets stream 1 to ordered messages with a lifetime of a millisecond, or with none.
 fn mode(timed: bool) -> Event {
@@ -24,217 +26,200 @@ fn mode(timed: bool) -> Event {
     }
 }
 
-/// A FORWARD-TSN up to this TSN that names these messages.
-fn skip(alloc: Global, upto: u32, names: &[u64]) -> Result<Event, Fail> {
-    Ok(Event::Skip {
-        upto,
-        messages: Vec::from_slice(alloc, names)?,
-    })
+/// Whether a FORWARD-TSN up to this TSN that names these messages is made, as this datagram.
+fn skips<C: Checksum + Drop>(
+    alloc: Global,
+    link: &mut Link<C>,
+    upto: u32,
+    names: &[u64],
+    want: u64,
+) -> bool {
+    let Ok(messages) = Vec::from_slice(alloc, names) else {
+        return false;
+    };
+    match link.step(Event::Skip { upto, messages }) {
+        Ok(Reply::Skip { datagram }) => datagram == want,
+        _ => false,
+    }
 }
 
-/// Whether the ledger has these sums: written, pending, in flight, released.
-fn sums(link: &Link<Zero>, written: u64, pending: u64, in_flight: u64, released: u64) -> bool {
-    link.ledger()
-        == Ledger {
-            written,
-            pending,
-            in_flight,
-            released,
-        }
+/// Whether this releases so many bytes of a message of stream 1.
+fn releases(link: &mut Link<Zero>, event: Event, want: u64) -> bool {
+    match link.step(event) {
+        Ok(Reply::Released { stream, bytes }) => stream == 1 && bytes == want,
+        _ => false,
+    }
+}
+
+/// Whether the FORWARD-TSN that is datagram k is followed.
+fn is_followed(link: &mut Link<Zero>, k: u64) -> bool {
+    matches!(link.step(Event::Arrive { k }), Ok(Reply::Skipped))
 }
 
 /// Opens stream 1, and writes a message with a lifetime of a millisecond and one with none.
-fn timed_and_reliable(alloc: Global, link: &mut Link<Zero>) -> Result<bool, Fail> {
-    let mut well = link.step(Event::Open { stream: 1 }).is_ok() && link.step(mode(true)).is_ok();
-    well = well && link.step(binary(alloc, b"a")?).is_ok() && link.step(mode(false)).is_ok();
-    Ok(well && link.step(binary(alloc, b"b")?).is_ok())
+fn timed_and_reliable(alloc: Global, link: &mut Link<Zero>) -> bool {
+    does(link, Event::Open { stream: 1 })
+        && does(link, mode(true))
+        && takes(alloc, link, b"a")
+        && does(link, mode(false))
+        && takes(alloc, link, b"b")
 }
 
-/// A message that expired leaves the ledger and the buffered amount.
-#[test]
-fn expired_bytes_are_released(rt: HostRuntime) -> Result<(), Fail> {
-    let alloc = rt.alloc();
-    let mut link = Link::new(alloc, 10, 3, 100, Zero);
-    assert!(rt; timed_and_reliable(alloc, &mut link)?);
-    assert!(rt; link.step(Event::Start { now: 0 }).is_ok());
-    let expired = link.step(Event::Expire { now: 1_000_000 });
-    assert!(rt;
-        matches!(
-            expired,
+/// Whether the message whose lifetime is over expires, with its byte.
+fn first_expires(link: &mut Link<Zero>) -> bool {
+    does(link, Event::Start { now: 0 })
+        && matches!(
+            link.step(Event::Expire { now: 1_000_000 }),
             Ok(Reply::Expired {
                 stream: 1,
                 bytes: 1
             })
         )
-    );
-    assert!(rt; link.step(Event::Send { now: 0 }).is_ok());
-    assert!(rt; sums(&link, 2, 0, 1, 1));
-    assert!(rt; link.buffered_amount(1) == Some(1));
+}
+
+fn second_took_its_place(link: &mut Link<Zero>) -> bool {
     // Message 1 took the place of the one that expired: its stream sequence number is 0.
     let second = [
         0u8, 3, 0, 0x11, 0, 0, 0, 10, 0, 1, 0, 0, 0, 0, 0, 0x35, 0x62, 0, 0, 0,
     ];
-    assert!(rt; carries(&link, 0, &second));
-    Ok(())
+    sends(link) && sums(link, 2, 0, 1, 1) && buffers(link, 1, 1) && carries(link, 0, &second)
+}
+
+/// A message that expired leaves the ledger and the buffered amount.
+#[test]
+fn expired_bytes_are_released(rt: HostRuntime) {
+    let alloc = rt.alloc();
+    let mut link = Link::new(alloc, 10, 3, 100, Zero);
+    let well = timed_and_reliable(alloc, &mut link) && first_expires(&mut link);
+    assert!(rt; well && second_took_its_place(&mut link));
+}
+
+/// Whether this is the earliest TSN that is neither acknowledged nor abandoned.
+fn earliest(link: &Link<Zero>, want: Option<u32>) -> bool {
+    link.outbound().earliest_outstanding_tsn() == want
+}
+
+fn second_is_acknowledged(link: &mut Link<Zero>) -> bool {
+    arrives(link, 1) && acks(link) && acked(link, 2, 3) && earliest(link, Some(10))
+}
+
+fn both_are_abandoned(link: &mut Link<Zero>) -> bool {
+    releases(link, Event::Abandon { tsn: 11 }, 3) && earliest(link, None) && sums(link, 6, 0, 0, 6)
 }
 
 /// An abandoned message leaves the ledger, its acknowledged bytes once, and nothing of it is outstanding.
 #[test]
-fn abandoned_bytes_are_released(rt: HostRuntime) -> Result<(), Fail> {
+fn abandoned_bytes_are_released(rt: HostRuntime) {
     let alloc = rt.alloc();
     let mut link = Link::new(alloc, 10, 3, 100, Zero);
-    assert!(rt; sent(alloc, &mut link, &[b"abcdef"], 2)?);
-    assert!(rt; is_new(&link.step(Event::Arrive { k: 1 })));
-    assert!(rt; link.step(Event::Ack { credit: 0 }).is_ok());
-    assert!(rt;
-        matches!(
-            link.step(Event::Acked { k: 2 }),
-            Ok(Reply::Acked { bytes: 3 })
-        )
-    );
-    assert!(rt; link.outbound().earliest_outstanding_tsn() == Some(10));
-    let released = link.step(Event::Abandon { tsn: 11 });
-    assert!(rt;
-        matches!(
-            released,
-            Ok(Reply::Released {
-                stream: 1,
-                bytes: 3
-            })
-        )
-    );
-    assert!(rt; link.outbound().earliest_outstanding_tsn().is_none());
-    assert!(rt; sums(&link, 6, 0, 0, 6));
-    Ok(())
+    let well = sent(alloc, &mut link, &[b"abcdef"], 2) && second_is_acknowledged(&mut link);
+    assert!(rt; well && both_are_abandoned(&mut link));
+}
+
+fn timed_is_half_sent(alloc: Global, link: &mut Link<Zero>) -> bool {
+    does(link, Event::Open { stream: 1 })
+        && does(link, mode(true))
+        && takes(alloc, link, b"abcdefg")
+        && sends(link)
+}
+
+fn tail_goes(link: &mut Link<Zero>) -> bool {
+    arrives(link, 0)
+        && acks(link)
+        && acked(link, 1, 3)
+        && releases(link, Event::Tail { now: 1_000_000 }, 4)
+        && sums(link, 7, 0, 0, 7)
 }
 
 /// Of a half-sent message whose lifetime is over only what is neither acknowledged nor released yet is released.
 #[test]
-fn the_tail_is_released(rt: HostRuntime) -> Result<(), Fail> {
+fn the_tail_is_released(rt: HostRuntime) {
     let alloc = rt.alloc();
     let mut link = Link::new(alloc, 10, 3, 100, Zero);
-    assert!(rt; link.step(Event::Open { stream: 1 }).is_ok());
-    assert!(rt; link.step(mode(true)).is_ok());
-    assert!(rt; link.step(binary(alloc, b"abcdefg")?).is_ok());
-    assert!(rt; link.step(Event::Send { now: 0 }).is_ok());
-    assert!(rt; is_new(&link.step(Event::Arrive { k: 0 })));
-    assert!(rt; link.step(Event::Ack { credit: 0 }).is_ok());
-    assert!(rt;
-        matches!(
-            link.step(Event::Acked { k: 1 }),
-            Ok(Reply::Acked { bytes: 3 })
-        )
-    );
-    let tail = link.step(Event::Tail { now: 1_000_000 });
-    assert!(rt;
-        matches!(
-            tail,
-            Ok(Reply::Released {
-                stream: 1,
-                bytes: 4
-            })
-        )
-    );
-    assert!(rt; sums(&link, 7, 0, 0, 7));
-    Ok(())
+    assert!(rt; timed_is_half_sent(alloc, &mut link) && tail_goes(&mut link));
+}
+
+/// Sends three messages of a fragment each.
+fn three_messages(alloc: Global, link: &mut Link<Zero>) -> bool {
+    sent(alloc, link, &[b"aaa", b"bbb", b"ccc"], 3)
+}
+
+fn writes_skips(alloc: Global, link: &mut Link<Zero>) -> bool {
+    skips(alloc, link, 11, &[1], 3)
+        && carries(link, 3, &[0xc0, 0, 0, 12, 0, 0, 0, 11, 0, 1, 0, 1])
+        && skips(alloc, link, 11, &[], 4)
+        && carries(link, 4, &[0xc0, 0, 0, 8, 0, 0, 0, 11])
 }
 
 /// A FORWARD-TSN (RFC 3758 3.2) has its cumulative TSN, and a stream and its sequence number for each name.
 #[test]
-fn skips_are_written(rt: HostRuntime) -> Result<(), Fail> {
+fn skips_are_written(rt: HostRuntime) {
     let alloc = rt.alloc();
     let mut link = Link::new(alloc, 10, 3, 100, Zero);
-    assert!(rt; sent(alloc, &mut link, &[b"aaa", b"bbb", b"ccc"], 3)?);
-    assert!(rt;
-        matches!(
-            link.step(skip(alloc, 11, &[1])?),
-            Ok(Reply::Skip { datagram: 3 })
-        )
-    );
-    assert!(rt; carries(&link, 3, &[0xc0, 0, 0, 12, 0, 0, 0, 11, 0, 1, 0, 1]));
-    assert!(rt;
-        matches!(
-            link.step(skip(alloc, 11, &[])?),
-            Ok(Reply::Skip { datagram: 4 })
-        )
-    );
-    assert!(rt; carries(&link, 4, &[0xc0, 0, 0, 8, 0, 0, 0, 11]));
-    Ok(())
+    assert!(rt; three_messages(alloc, &mut link) && writes_skips(alloc, &mut link));
+}
+
+fn first_is_abandoned(alloc: Global, link: &mut Link<Zero>) -> bool {
+    arrives(link, 1)
+        && does(link, Event::Abandon { tsn: 10 })
+        && skips(alloc, link, 10, &[0], 3)
+        && carries(link, 3, &[0xc0, 0, 0, 12, 0, 0, 0, 10, 0, 1, 0, 0])
+}
+
+fn skip_moves(link: &mut Link<Zero>) -> bool {
+    let sack = [3, 0, 0, 16, 0, 0, 0, 11, 0, 0, 0, 0, 0, 0, 0, 0];
+    is_followed(link, 3) && acks(link) && carries(link, 4, &sack)
 }
 
 /// A skip that counts moves the cumulative TSN past it, and on over what had come.
 #[test]
-fn skips_move_the_cumulative_tsn(rt: HostRuntime) -> Result<(), Fail> {
+fn skips_move_the_cumulative_tsn(rt: HostRuntime) {
     let alloc = rt.alloc();
     let mut link = Link::new(alloc, 10, 3, 100, Zero);
-    assert!(rt; sent(alloc, &mut link, &[b"aaa", b"bbb", b"ccc"], 3)?);
-    assert!(rt; is_new(&link.step(Event::Arrive { k: 1 })));
-    assert!(rt; link.step(Event::Abandon { tsn: 10 }).is_ok());
-    assert!(rt;
-        matches!(
-            link.step(skip(alloc, 10, &[0])?),
-            Ok(Reply::Skip { datagram: 3 })
-        )
-    );
-    assert!(rt; carries(&link, 3, &[0xc0, 0, 0, 12, 0, 0, 0, 10, 0, 1, 0, 0]));
-    assert!(rt; matches!(link.step(Event::Arrive { k: 3 }), Ok(Reply::Skipped)));
-    assert!(rt; link.step(Event::Ack { credit: 0 }).is_ok());
-    assert!(rt;
-        carries(
-            &link,
-            4,
-            &[3, 0, 0, 16, 0, 0, 0, 11, 0, 0, 0, 0, 0, 0, 0, 0]
-        )
-    );
-    Ok(())
+    let well = three_messages(alloc, &mut link) && first_is_abandoned(alloc, &mut link);
+    assert!(rt; well && skip_moves(&mut link));
+}
+
+fn half_sent_is_abandoned(alloc: Global, link: &mut Link<Zero>) -> bool {
+    sent(alloc, link, &[b"abcdefg"], 1)
+        && arrives(link, 0)
+        && does(link, Event::Abandon { tsn: 10 })
+        && takes(alloc, link, b"x")
+        && sends(link)
+}
+
+fn end_mark_is_skipped(alloc: Global, link: &mut Link<Zero>) -> bool {
+    skips(alloc, link, 11, &[0], 2)
+        && carries(link, 2, &[0xc0, 0, 0, 12, 0, 0, 0, 11, 0, 1, 0, 0])
+        && arrives(link, 1)
+        && is_followed(link, 2)
+        && acks(link)
+}
+
+fn rest_is_released(link: &mut Link<Zero>) -> bool {
+    let sack = [3, 0, 0, 16, 0, 0, 0, 12, 0, 0, 0, 0, 0, 0, 0, 0];
+    carries(link, 3, &sack)
+        && hands_out(link, 1, b"x")
+        && has_nothing(link, 1)
+        && acked(link, 3, 1)
+        && sums(link, 8, 0, 0, 8)
 }
 
 /// A receiver goes on behind the end mark of an abandoned message, and its SACK releases the rest.
 #[test]
-fn a_skip_is_acknowledged(rt: HostRuntime) -> Result<(), Fail> {
+fn a_skip_is_acknowledged(rt: HostRuntime) {
     let alloc = rt.alloc();
     let mut link = Link::new(alloc, 10, 3, 100, Zero);
-    assert!(rt; sent(alloc, &mut link, &[b"abcdefg"], 1)?);
-    assert!(rt; is_new(&link.step(Event::Arrive { k: 0 })));
-    assert!(rt; link.step(Event::Abandon { tsn: 10 }).is_ok());
-    assert!(rt; link.step(binary(alloc, b"x")?).is_ok());
-    assert!(rt; link.step(Event::Send { now: 0 }).is_ok());
-    assert!(rt; link.step(skip(alloc, 11, &[0])?).is_ok());
-    assert!(rt; carries(&link, 2, &[0xc0, 0, 0, 12, 0, 0, 0, 11, 0, 1, 0, 0]));
-    assert!(rt; is_new(&link.step(Event::Arrive { k: 1 })));
-    assert!(rt; matches!(link.step(Event::Arrive { k: 2 }), Ok(Reply::Skipped)));
-    assert!(rt; link.step(Event::Ack { credit: 0 }).is_ok());
-    assert!(rt;
-        carries(
-            &link,
-            3,
-            &[3, 0, 0, 16, 0, 0, 0, 12, 0, 0, 0, 0, 0, 0, 0, 0]
-        )
-    );
-    assert!(rt; shows(&link.step(Event::Read { stream: 1 }), b"x"));
-    assert!(rt; is_nothing(&link.step(Event::Read { stream: 1 })));
-    assert!(rt;
-        matches!(
-            link.step(Event::Acked { k: 3 }),
-            Ok(Reply::Acked { bytes: 1 })
-        )
-    );
-    assert!(rt; sums(&link, 8, 0, 0, 8));
-    Ok(())
+    let well = half_sent_is_abandoned(alloc, &mut link) && end_mark_is_skipped(alloc, &mut link);
+    assert!(rt; well && rest_is_released(&mut link));
 }
 
 /// Each arrival of a FORWARD-TSN reads its bytes, so it asks the checksum.
 #[test]
-fn skips_read_the_bytes(rt: HostRuntime) -> Result<(), Fail> {
+fn skips_read_the_bytes(rt: HostRuntime) {
     let alloc = rt.alloc();
     let calls = Cell::new(0);
     let mut link = Link::new(alloc, 10, 3, 100, Counted { calls: &calls });
-    assert!(rt; sent(alloc, &mut link, &[b"abc"], 1)?);
-    assert!(rt; link.step(skip(alloc, 10, &[0])?).is_ok());
-    for _ in 0..2 {
-        let before = calls.get();
-        assert!(rt; link.step(Event::Arrive { k: 1 }).is_ok());
-        assert!(rt; before < calls.get());
-    }
-    Ok(())
+    let well = sent(alloc, &mut link, &[b"abc"], 1) && skips(alloc, &mut link, 10, &[0], 1);
+    assert!(rt; well && arrivals_ask(&mut link, &calls, 1, 2));
 }
