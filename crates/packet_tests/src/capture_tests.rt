@@ -6,7 +6,6 @@ use sctp_base::error::Error;
 use sctp_base::field::read_u32_le;
 use sctp_packets::packet::Packet;
 use std::alloc::Global;
-use std::test::Fail;
 
 /// What becomes of a datagram.
 #[derive(Clone, Copy)]

@@ -1,4 +1,4 @@
-use crate::tests::{packet_of, read_chunks, refusal, rewritten, written_behind};
+use crate::tests::{is_rewritten, packet_of, read_chunks, refusal, written_behind};
 use bytes::{Bytes, BytesMut};
 use sctp_base::error::Error;
 use sctp_base::param::param_forward_tsn_supported::ParamForwardTsnSupported;
@@ -18,10 +18,9 @@ use sctp_chunks::chunk::error_cause::{ErrorCause, USER_INITIATED_ABORT};
 use sctp_chunks::chunk::{Chunk, ChunkType};
 use sctp_packets::Packet;
 use std::alloc::Global;
-use std::test::Fail;
 
 // The packet's chunks as they print.
-fn joined(alloc: Global, packet: &Packet) -> Result<String, Fail> {
+fn joined(alloc: Global, packet: &Packet) -> Result<String, Error> {
     let mut text = String::new(alloc);
     for chunk in &packet.chunks {
         text.push_str(&format!(in alloc; "{chunk};")?)?;
@@ -29,11 +28,19 @@ fn joined(alloc: Global, packet: &Packet) -> Result<String, Fail> {
     Ok(text)
 }
 
+fn is_printed(alloc: Global, packet: &Packet, expected: &str) -> bool {
+    match joined(alloc, packet) {
+        Ok(text) => text.as_str() == expected,
+        Err(_) => false,
+    }
+}
+
 // Whether a packet of these chunks prints so.
-fn prints_so(alloc: Global, chunks: &[u8], expected: &str) -> Result<bool, Fail> {
-    let packet = read_chunks(alloc, chunks)?;
-    let text = joined(alloc, &packet)?;
-    Ok(text.as_str() == expected)
+fn prints_so(alloc: Global, chunks: &[u8], expected: &str) -> bool {
+    match read_chunks(alloc, chunks) {
+        Ok(packet) => is_printed(alloc, &packet, expected),
+        Err(_) => false,
+    }
 }
 
 // Each row: chunks, how they print, and how they are written where that differs.
@@ -153,33 +160,26 @@ const RECORDED: [(&[u8], &str); 3] = [
 ];
 
 #[test]
-fn recorded_inits(rt: HostRuntime) -> Result<(), Fail> {
+fn recorded_inits(rt: HostRuntime) {
     for (chunks, text) in RECORDED {
-        assert!(rt; prints_so(rt.alloc(), chunks, text)?, "at {chunks:?}");
-        let again = rewritten(rt.alloc(), chunks)?;
-        assert!(rt; again.as_slice() == chunks, "at {chunks:?}");
+        let well = prints_so(rt.alloc(), chunks, text) && is_rewritten(rt.alloc(), chunks, chunks);
+        assert!(rt; well, "at {chunks:?}");
     }
-    Ok(())
 }
 
 #[test]
-fn kinds_print(rt: HostRuntime) -> Result<(), Fail> {
+fn kinds_print(rt: HostRuntime) {
     for (chunks, text, _) in ROWS {
-        assert!(rt; prints_so(rt.alloc(), chunks, text)?, "at {chunks:?}");
+        assert!(rt; prints_so(rt.alloc(), chunks, text), "at {chunks:?}");
     }
-    Ok(())
 }
 
 #[test]
-fn kinds_are_written(rt: HostRuntime) -> Result<(), Fail> {
+fn kinds_are_written(rt: HostRuntime) {
     for (chunks, _, written) in ROWS {
-        let again = rewritten(rt.alloc(), chunks)?;
-        assert!(rt;
-            again.as_slice() == written.unwrap_or(chunks),
-            "at {chunks:?}"
-        );
+        let well = is_rewritten(rt.alloc(), chunks, written.unwrap_or(chunks));
+        assert!(rt; well, "at {chunks:?}");
     }
-    Ok(())
 }
 
 const REFUSED: [(&[u8], Error); 20] = [
@@ -233,27 +233,32 @@ const REFUSED: [(&[u8], Error); 20] = [
 ];
 
 #[test]
-fn kinds_refuse(rt: HostRuntime) -> Result<(), Fail> {
+fn kinds_refuse(rt: HostRuntime) {
     let alloc = rt.alloc();
     for (chunks, expected) in REFUSED {
         assert!(rt;
-            refusal(alloc, chunks)? == Some(expected),
+            refusal(alloc, chunks) == Ok(Some(expected)),
             "no {expected:?}"
         );
     }
-    Ok(())
+}
+
+// Whether this number has no kind.
+fn is_unknown(alloc: Global, number: u8) -> Result<bool, Error> {
+    let refused = refusal(alloc, &[number, 0, 0, 4])?;
+    Ok(refused == Some(Error::ErrUnmarshalUnknownChunkType))
 }
 
 // Each other number has no kind.
 #[test]
-fn numbers_of_kinds(rt: HostRuntime) -> Result<(), Fail> {
+fn numbers_of_kinds(rt: HostRuntime) {
     for number in 0..=255 {
-        let refused = refusal(rt.alloc(), &[number, 0, 0, 4])?;
         let has_kind = matches!(number, 0..=11 | 14 | 130 | 192 | 194);
-        let is_unknown = refused == Some(Error::ErrUnmarshalUnknownChunkType);
-        assert!(rt; has_kind != is_unknown, "at {number}");
+        assert!(rt;
+            is_unknown(rt.alloc(), number) == Ok(!has_kind),
+            "at {number}"
+        );
     }
-    Ok(())
 }
 
 // Whether the packet of this chunk is written; nothing where it is neither written nor refused for its length.
@@ -351,19 +356,18 @@ const LONGEST: [(ChunkType, usize); 4] = [
 ];
 
 #[test]
-fn longest_lists(rt: HostRuntime) -> Result<(), Fail> {
+fn longest_lists(rt: HostRuntime) {
     let alloc = rt.alloc();
     for (typ, count) in LONGEST {
         assert!(rt;
-            is_filled_written(alloc, typ, count)? == Some(true),
+            is_filled_written(alloc, typ, count) == Ok(Some(true)),
             "at {count}"
         );
         assert!(rt;
-            is_filled_written(alloc, typ, count + 1)? == Some(false),
+            is_filled_written(alloc, typ, count + 1) == Ok(Some(false)),
             "after {count}"
         );
     }
-    Ok(())
 }
 
 // The length of the text of a cause with so many bytes.
@@ -372,40 +376,61 @@ fn length_of(alloc: Global, length: usize) -> Result<Result<usize, Error>, Error
 }
 
 #[test]
-fn longest_cause(rt: HostRuntime) -> Result<(), Fail> {
-    assert!(rt; length_of(rt.alloc(), 65_531)? == Ok(65_535));
-    assert!(rt; length_of(rt.alloc(), 65_532)? == Err(Error::ErrLengthTooLarge));
-    Ok(())
+fn longest_cause(rt: HostRuntime) {
+    assert!(rt; length_of(rt.alloc(), 65_531) == Ok(Ok(65_535)));
+    assert!(rt; length_of(rt.alloc(), 65_532) == Ok(Err(Error::ErrLengthTooLarge)));
+}
+
+// Whether these bytes are written.
+fn is_text(written: Result<Bytes, Error>, want: &[u8]) -> bool {
+    match written {
+        Ok(written) => written.as_slice() == want,
+        Err(_) => false,
+    }
+}
+
+fn is_cause(alloc: Global, raw: &Bytes) -> bool {
+    match ErrorCause::unmarshal(raw) {
+        Ok(small) => {
+            small.length() == 5
+                && small.error_cause_code() == USER_INITIATED_ABORT
+                && small.raw.as_slice() == [7].as_slice()
+                && is_text(small.marshal(alloc), raw.as_slice())
+        }
+        Err(_) => false,
+    }
 }
 
 #[test]
-fn cause_alone(rt: HostRuntime) -> Result<(), Fail> {
+fn cause_alone(rt: HostRuntime) {
     let alloc = rt.alloc();
-    let raw = Bytes::copy_from_slice(alloc, b"\0\x0c\0\x05\x07")?;
-    let small = ErrorCause::unmarshal(&raw)?;
-    assert!(rt; small.length() == 5 && small.error_cause_code() == USER_INITIATED_ABORT);
-    assert!(rt; small.raw.as_slice() == [7].as_slice());
-    let written = small.marshal(alloc)?;
-    assert!(rt; written.as_slice() == raw.as_slice());
-    Ok(())
+    let raw = Bytes::copy_from_slice(alloc, b"\0\x0c\0\x05\x07");
+    assert!(rt; raw.is_ok_and(|raw| is_cause(alloc, &raw)));
+}
+
+fn is_pair(alloc: Global, raw: &Bytes) -> bool {
+    match ChunkForwardTsnStream::unmarshal(raw) {
+        Ok(pair) => pair.value_length() == 4 && is_text(pair.marshal(alloc), b"\0\x01\0\x02"),
+        Err(_) => false,
+    }
+}
+
+// How a pair of these bytes is refused.
+fn refusal_of_pair(alloc: Global, raw: &[u8]) -> Result<Option<Error>, Error> {
+    Ok(ChunkForwardTsnStream::unmarshal(&Bytes::copy_from_slice(alloc, raw)?).err())
 }
 
 #[test]
-fn pairs_alone(rt: HostRuntime) -> Result<(), Fail> {
+fn pairs_alone(rt: HostRuntime) {
     let alloc = rt.alloc();
-    let raw = Bytes::copy_from_slice(alloc, b"\0\x01\0\x02\x03")?;
-    let pair = ChunkForwardTsnStream::unmarshal(&raw)?;
-    assert!(rt; pair.value_length() == 4);
-    let written = pair.marshal(alloc)?;
-    assert!(rt; written.as_slice() == b"\0\x01\0\x02".as_slice());
-    let short = ChunkForwardTsnStream::unmarshal(&raw.slice(..3)?).err();
-    assert!(rt; short == Some(Error::ErrChunkTooShort));
-    Ok(())
+    let raw = Bytes::copy_from_slice(alloc, b"\0\x01\0\x02\x03");
+    assert!(rt; raw.is_ok_and(|raw| is_pair(alloc, &raw)));
+    assert!(rt; refusal_of_pair(alloc, b"\0\x01\0") == Ok(Some(Error::ErrChunkTooShort)));
 }
 
 // A header prints the name of its type, a pair its two numbers, a refusal its name.
 #[test]
-fn parts_print(rt: HostRuntime) -> Result<(), Fail> {
+fn parts_print(rt: HostRuntime) {
     let header = ChunkHeader {
         typ: CT_SACK,
         flags: 0,
@@ -416,9 +441,8 @@ fn parts_print(rt: HostRuntime) -> Result<(), Fail> {
         sequence: 2,
     };
     let refusal = Error::ErrShortBuffer;
-    let text = format!(in rt.alloc(); "{header}: {pair}: {refusal}")?;
-    assert!(rt; text.as_str() == "SACK: 1, 2: ErrShortBuffer");
-    Ok(())
+    let text = format!(in rt.alloc(); "{header}: {pair}: {refusal}");
+    assert!(rt; text.is_ok_and(|text| text.as_str() == "SACK: 1, 2: ErrShortBuffer"));
 }
 
 // How a HEARTBEAT-ACK of these is refused; nothing also where the buffer was not left as it was.
@@ -448,7 +472,7 @@ fn refusal_of_infos(alloc: Global, count: usize, length: usize) -> Result<Option
 }
 
 #[test]
-fn heartbeat_acks_of_one_info(rt: HostRuntime) -> Result<(), Fail> {
+fn heartbeat_acks_of_one_info(rt: HostRuntime) {
     let rows = [
         (0, 1, Some(Error::ErrHeartbeatAckParams)),
         (2, 1, Some(Error::ErrHeartbeatAckParams)),
@@ -457,19 +481,22 @@ fn heartbeat_acks_of_one_info(rt: HostRuntime) -> Result<(), Fail> {
         (1, 65_528, Some(Error::ErrLengthTooLarge)),
     ];
     for (count, length, expected) in rows {
-        let refused = refusal_of_infos(rt.alloc(), count, length)?;
-        assert!(rt; refused == expected, "{count} of {length}");
+        let refused = refusal_of_infos(rt.alloc(), count, length);
+        assert!(rt; refused == Ok(expected), "{count} of {length}");
     }
-    Ok(())
+}
+
+// How a HEARTBEAT-ACK of another parameter is refused.
+fn refusal_of_other(alloc: Global) -> Result<Option<Error>, Error> {
+    let mut other = Vec::new(alloc);
+    other.push(ParamKind::ForwardTsnSupported(ParamForwardTsnSupported))?;
+    heartbeat_ack(alloc, other)
 }
 
 #[test]
-fn heartbeat_acks_of_no_info(rt: HostRuntime) -> Result<(), Fail> {
-    let mut other = Vec::new(rt.alloc());
-    other.push(ParamKind::ForwardTsnSupported(ParamForwardTsnSupported))?;
-    let refused = heartbeat_ack(rt.alloc(), other)?;
-    assert!(rt; refused == Some(Error::ErrHeartbeatAckNotHeartbeatInfo));
-    Ok(())
+fn heartbeat_acks_of_no_info(rt: HostRuntime) {
+    let refused = refusal_of_other(rt.alloc());
+    assert!(rt; refused == Ok(Some(Error::ErrHeartbeatAckNotHeartbeatInfo)));
 }
 
 fn init(alloc: Global) -> ChunkInit {
@@ -484,27 +511,45 @@ fn init(alloc: Global) -> ChunkInit {
     }
 }
 
-#[test]
-fn inits_checked(rt: HostRuntime) -> Result<(), Fail> {
-    let alloc = rt.alloc();
-    let mut chunk = init(alloc);
-    assert!(rt; chunk.check().is_ok());
-    chunk.set_supported_extensions(alloc)?;
+fn prints_extensions(alloc: Global, chunk: &ChunkInit) -> Result<bool, Error> {
     let printed = format!(in alloc; "{chunk}")?;
-    assert!(rt;
-        printed.as_str().ends_with(
-            "initial_tsn: 0Param 0:\n Supported Extensions RECONFIG FORWARD-TSN"
-        )
-    );
+    let end = "initial_tsn: 0Param 0:\n Supported Extensions RECONFIG FORWARD-TSN";
+    Ok(printed.as_str().ends_with(end))
+}
+
+fn has_extensions(alloc: Global, chunk: &mut ChunkInit) -> bool {
+    chunk.check().is_ok()
+        && chunk.set_supported_extensions(alloc).is_ok()
+        && prints_extensions(alloc, chunk) == Ok(true)
+}
+
+// How the INIT is refused with too small a credit, then also with no stream out, no stream in, and no tag.
+fn refusals_of_init(chunk: &mut ChunkInit) -> [Option<Error>; 4] {
     chunk.advertised_receiver_window_credit = 1499;
-    assert!(rt; chunk.check().err() == Some(Error::ErrInitAdvertisedReceiver1500));
+    let credit = chunk.check().err();
     chunk.num_outbound_streams = 0;
-    assert!(rt; chunk.check().err() == Some(Error::ErrInitOutboundStreamRequestZero));
+    let outbound = chunk.check().err();
     chunk.num_inbound_streams = 0;
-    assert!(rt; chunk.check().err() == Some(Error::ErrInitInboundStreamRequestZero));
+    let inbound = chunk.check().err();
     chunk.initiate_tag = 0;
-    assert!(rt; chunk.check().err() == Some(Error::ErrChunkTypeInitInitiateTagZero));
-    Ok(())
+    [credit, outbound, inbound, chunk.check().err()]
+}
+
+const INIT_REFUSED: [Option<Error>; 4] = [
+    Some(Error::ErrInitAdvertisedReceiver1500),
+    Some(Error::ErrInitOutboundStreamRequestZero),
+    Some(Error::ErrInitInboundStreamRequestZero),
+    Some(Error::ErrChunkTypeInitInitiateTagZero),
+];
+
+fn is_checked(chunk: &mut ChunkInit) -> bool {
+    refusals_of_init(chunk) == INIT_REFUSED
+}
+
+#[test]
+fn inits_checked(rt: HostRuntime) {
+    let mut chunk = init(rt.alloc());
+    assert!(rt; has_extensions(rt.alloc(), &mut chunk) && is_checked(&mut chunk));
 }
 
 // How the chunk is checked, and how it is refused to be written.
@@ -513,14 +558,13 @@ fn refusals_of(alloc: Global, chunk: &ChunkReconfig) -> (Option<Error>, Option<E
 }
 
 #[test]
-fn reconfig_without_first(rt: HostRuntime) -> Result<(), Fail> {
+fn reconfig_without_first(rt: HostRuntime) {
     let chunk = ChunkReconfig {
         param_a: None,
         param_b: None,
     };
     let expected = Some(Error::ErrChunkReconfigInvalidParamA);
     assert!(rt; refusals_of(rt.alloc(), &chunk) == (expected, expected));
-    Ok(())
 }
 
 fn of_two_infos(alloc: Global) -> Result<ChunkReconfig, Error> {
@@ -537,13 +581,14 @@ fn clone_written(alloc: Global, chunk: &ChunkReconfig) -> Result<Bytes, Error> {
 }
 
 // The first parameter is padded where a second one follows.
-#[test]
-fn reconfig_with_second(rt: HostRuntime) -> Result<(), Fail> {
-    let chunk = of_two_infos(rt.alloc())?;
+fn is_padded(alloc: Global, chunk: &ChunkReconfig) -> bool {
     let expected = Some(Error::ErrChunkReconfigInvalidParamCombination);
-    assert!(rt; refusals_of(rt.alloc(), &chunk) == (expected, None));
-    let written = clone_written(rt.alloc(), &chunk)?;
     let text = b"\x82\0\0\x12\0\x01\0\x05\x07\0\0\0\0\x01\0\x06\x07\x07";
-    assert!(rt; written.as_slice() == text.as_slice());
-    Ok(())
+    refusals_of(alloc, chunk) == (expected, None) && is_text(clone_written(alloc, chunk), text)
+}
+
+#[test]
+fn reconfig_with_second(rt: HostRuntime) {
+    let chunk = of_two_infos(rt.alloc());
+    assert!(rt; chunk.is_ok_and(|chunk| is_padded(rt.alloc(), &chunk)));
 }

@@ -20,7 +20,6 @@ use sctp_base::param::param_unknown::ParamUnknown;
 use sctp_base::util::{CT_FORWARD_TSN, CT_RECONFIG};
 use std::alloc::Global;
 use std::fmt::Display;
-use std::test::Fail;
 
 const HEARTBEAT_INFO: &[u8] = &[0, 1, 0, 6, 0x61, 0x62];
 
@@ -78,56 +77,92 @@ fn printed<T: Display>(alloc: Global, item: &T) -> Result<String, Error> {
     Ok(format!(in alloc; "{item}")?)
 }
 
-// Whether a parameter of this kind is read from these bytes, also with bytes behind it, and written the same.
-fn goes_both_ways<P: Param + PartialEq + Drop>(alloc: Global, raw: &[u8]) -> Result<bool, Error> {
+// These bytes and three more.
+fn longer(alloc: Global, raw: &[u8]) -> Result<Bytes, Error> {
     let mut longer = BytesMut::copy_from_slice(alloc, raw)?;
     longer.extend_from_slice(&[1, 2, 3])?;
-    let param = P::unmarshal(alloc, &longer.freeze()?)?;
-    Ok(is_written_so(alloc, &param, raw)? && param.try_clone(alloc)? == param)
+    Ok(longer.freeze()?)
+}
+
+// Whether these bytes are written.
+fn is_text(written: Result<Bytes, Error>, want: &[u8]) -> bool {
+    match written {
+        Ok(written) => written.as_slice() == want,
+        Err(_) => false,
+    }
+}
+
+// Whether the parameter has a header of its type and length.
+fn has_its_header<P: Param>(param: &P) -> bool {
+    match param.header() {
+        Ok(header) => {
+            header.typ == param.param_type() && header.value_length() == param.value_length()
+        }
+        Err(_) => false,
+    }
+}
+
+fn is_cloned<P: Param + PartialEq + Drop>(alloc: Global, param: &P) -> bool {
+    match param.try_clone(alloc) {
+        Ok(copy) => copy == *param,
+        Err(_) => false,
+    }
+}
+
+// Whether a parameter of this kind is read from the bytes that these begin, and written as these.
+fn is_read<P: Param + PartialEq + Drop>(alloc: Global, longer: &Bytes, raw: &[u8]) -> bool {
+    match P::unmarshal(alloc, longer) {
+        Ok(param) => {
+            is_text(param.marshal(alloc), raw) && has_its_header(&param) && is_cloned(alloc, &param)
+        }
+        Err(_) => false,
+    }
+}
+
+// Whether a parameter of this kind is read from these bytes, also with bytes behind it, and written the same.
+fn goes_both_ways<P: Param + PartialEq + Drop>(alloc: Global, raw: &[u8]) -> bool {
+    match longer(alloc, raw) {
+        Ok(longer) => is_read::<P>(alloc, &longer, raw),
+        Err(_) => false,
+    }
+}
+
+// Whether these bytes are refused as too short for a parameter of this kind.
+fn is_too_short<P: Param + Drop>(alloc: Global, raw: &[u8]) -> bool {
+    match bytes(alloc, raw) {
+        Ok(front) => P::unmarshal(alloc, &front).err() == Some(Error::ErrParamHeaderTooShort),
+        Err(_) => false,
+    }
 }
 
 // Whether no front of these bytes is read as a parameter of this kind.
-fn refuses_fronts<P: Param + Drop>(alloc: Global, raw: &[u8]) -> Result<bool, Error> {
+fn refuses_fronts<P: Param + Drop>(alloc: Global, raw: &[u8]) -> bool {
+    let mut well = true;
     for end in 0..raw.len() {
-        let front = bytes(alloc, &raw[..end])?;
-        if P::unmarshal(alloc, &front).err() != Some(Error::ErrParamHeaderTooShort) {
-            return Ok(false);
-        }
+        well = well && is_too_short::<P>(alloc, &raw[..end]);
     }
-    Ok(true)
+    well
 }
 
 // Both.
-fn is_kept<P: Param + PartialEq + Drop>(alloc: Global, raw: &[u8]) -> Result<bool, Error> {
-    Ok(goes_both_ways::<P>(alloc, raw)? && refuses_fronts::<P>(alloc, raw)?)
-}
-
-// Whether the parameter is written as these bytes, under a header that says so.
-fn is_written_so<P: Param>(alloc: Global, param: &P, raw: &[u8]) -> Result<bool, Error> {
-    let header = param.header()?;
-    let written = param.marshal(alloc)?;
-    Ok(
-        written.as_slice() == raw
-            && header.typ == param.param_type()
-            && header.value_length() == param.value_length(),
-    )
+fn is_kept<P: Param + PartialEq + Drop>(alloc: Global, raw: &[u8]) -> bool {
+    goes_both_ways::<P>(alloc, raw) && refuses_fronts::<P>(alloc, raw)
 }
 
 #[test]
-fn each_kind(rt: HostRuntime) -> Result<(), Fail> {
+fn each_kind(rt: HostRuntime) {
     let alloc = rt.alloc();
-    assert!(rt; is_kept::<ParamHeartbeatInfo>(alloc, HEARTBEAT_INFO)?);
-    assert!(rt; is_kept::<ParamStateCookie>(alloc, STATE_COOKIE)?);
-    assert!(rt; is_kept::<ParamSupportedAddressTypes>(alloc, ADDRESS_TYPES)?);
-    assert!(rt; is_kept::<ParamOutgoingResetRequest>(alloc, RESET_REQUEST)?);
-    assert!(rt; is_kept::<ParamReconfigResponse>(alloc, RESPONSE)?);
-    assert!(rt; is_kept::<ParamRandom>(alloc, RANDOM)?);
-    assert!(rt; is_kept::<ParamChunkList>(alloc, CHUNK_LIST)?);
-    assert!(rt; is_kept::<ParamRequestedHmacAlgorithm>(alloc, ALGORITHMS)?);
-    assert!(rt; is_kept::<ParamSupportedExtensions>(alloc, EXTENSIONS)?);
-    assert!(rt; is_kept::<ParamForwardTsnSupported>(alloc, FORWARD_TSN)?);
-    assert!(rt; is_kept::<ParamUnknown>(alloc, UNKNOWN)?);
-    Ok(())
+    assert!(rt; is_kept::<ParamHeartbeatInfo>(alloc, HEARTBEAT_INFO));
+    assert!(rt; is_kept::<ParamStateCookie>(alloc, STATE_COOKIE));
+    assert!(rt; is_kept::<ParamSupportedAddressTypes>(alloc, ADDRESS_TYPES));
+    assert!(rt; is_kept::<ParamOutgoingResetRequest>(alloc, RESET_REQUEST));
+    assert!(rt; is_kept::<ParamReconfigResponse>(alloc, RESPONSE));
+    assert!(rt; is_kept::<ParamRandom>(alloc, RANDOM));
+    assert!(rt; is_kept::<ParamChunkList>(alloc, CHUNK_LIST));
+    assert!(rt; is_kept::<ParamRequestedHmacAlgorithm>(alloc, ALGORITHMS));
+    assert!(rt; is_kept::<ParamSupportedExtensions>(alloc, EXTENSIONS));
+    assert!(rt; is_kept::<ParamForwardTsnSupported>(alloc, FORWARD_TSN));
+    assert!(rt; is_kept::<ParamUnknown>(alloc, UNKNOWN));
 }
 
 const KINDS: [&[u8]; 11] = [
@@ -150,68 +185,109 @@ fn refusal(alloc: Global, raw: &[u8]) -> Result<Option<Error>, Error> {
 }
 
 #[test]
-fn each_type(rt: HostRuntime) -> Result<(), Fail> {
+fn each_type(rt: HostRuntime) {
     let alloc = rt.alloc();
     for raw in KINDS {
-        assert!(rt; is_kept::<ParamKind>(alloc, raw)?, "at {raw:?}");
+        assert!(rt; is_kept::<ParamKind>(alloc, raw), "at {raw:?}");
     }
-    Ok(())
+}
+
+fn is_request(alloc: Global, raw: &Bytes) -> bool {
+    match ParamOutgoingResetRequest::unmarshal(alloc, raw) {
+        Ok(request) => {
+            request.reconfig_request_sequence_number == 1
+                && request.reconfig_response_sequence_number == 2
+                && request.sender_last_tsn == 3
+                && request.stream_identifiers.as_slice() == [4, 5, 6].as_slice()
+        }
+        Err(_) => false,
+    }
 }
 
 #[test]
-fn requests(rt: HostRuntime) -> Result<(), Fail> {
-    let alloc = rt.alloc();
-    let request = ParamOutgoingResetRequest::unmarshal(alloc, &bytes(alloc, RESET_REQUEST)?)?;
-    assert!(rt; request.reconfig_request_sequence_number == 1);
-    assert!(rt; request.reconfig_response_sequence_number == 2);
-    assert!(rt; request.sender_last_tsn == 3);
-    assert!(rt; request.stream_identifiers.as_slice() == [4, 5, 6].as_slice());
-    Ok(())
+fn requests(rt: HostRuntime) {
+    let raw = bytes(rt.alloc(), RESET_REQUEST);
+    assert!(rt; raw.is_ok_and(|raw| is_request(rt.alloc(), &raw)));
 }
 
 fn response(alloc: Global, raw: &[u8]) -> Result<ParamReconfigResponse, Error> {
     ParamReconfigResponse::unmarshal(alloc, &bytes(alloc, raw)?)
 }
 
-#[test]
-fn responses(rt: HostRuntime) -> Result<(), Fail> {
-    let alloc = rt.alloc();
-    let whole = response(alloc, RESPONSE)?;
-    assert!(rt; whole.reconfig_response_sequence_number == 1);
-    assert!(rt; whole.result == ReconfigResult::SuccessPerformed);
-    assert!(rt; whole.next_tsns == Some((7, 8)));
-    let half = response(alloc, b"\x00\x10\x00\x10\0\0\0\x01\0\0\0\x01\0\0\0\x07")?;
-    assert!(rt; half.next_tsns.is_none());
-    let written = half.marshal(alloc)?;
+fn is_whole(response: &ParamReconfigResponse) -> bool {
+    response.reconfig_response_sequence_number == 1
+        && response.result == ReconfigResult::SuccessPerformed
+        && response.next_tsns == Some((7, 8))
+}
+
+// Of a response with one of the two TSNs neither is kept.
+fn is_half(alloc: Global, response: &ParamReconfigResponse) -> bool {
     let expected = b"\x00\x10\x00\x0c\0\0\0\x01\0\0\0\x01".as_slice();
-    assert!(rt; written.as_slice() == expected);
-    Ok(())
+    response.next_tsns.is_none() && is_text(response.marshal(alloc), expected)
 }
 
 #[test]
-fn lists(rt: HostRuntime) -> Result<(), Fail> {
+fn responses(rt: HostRuntime) {
     let alloc = rt.alloc();
-    let odd = bytes(alloc, b"\x80\x04\x00\x07\x00\x03\xff")?;
-    let algorithms = ParamRequestedHmacAlgorithm::unmarshal(alloc, &odd)?.available_algorithms;
-    assert!(rt; algorithms.as_slice() == [HmacAlgorithm::HmacSha256].as_slice());
-    let raw = bytes(alloc, b"\x00\x0c\x00\x08\x00\x05\x00\x0a")?;
-    let types = ParamSupportedAddressTypes::unmarshal(alloc, &raw)?.address_types;
+    assert!(rt; response(alloc, RESPONSE).is_ok_and(|whole| is_whole(&whole)));
+    let half = response(alloc, b"\x00\x10\x00\x10\0\0\0\x01\0\0\0\x01\0\0\0\x07");
+    assert!(rt; half.is_ok_and(|half| is_half(alloc, &half)));
+}
+
+fn algorithms(alloc: Global, raw: &[u8]) -> Result<Vec<HmacAlgorithm>, Error> {
+    let param = ParamRequestedHmacAlgorithm::unmarshal(alloc, &bytes(alloc, raw)?)?;
+    Ok(param.available_algorithms)
+}
+
+fn address_types(alloc: Global, raw: &[u8]) -> Result<Vec<ParamType>, Error> {
+    Ok(ParamSupportedAddressTypes::unmarshal(alloc, &bytes(alloc, raw)?)?.address_types)
+}
+
+fn odd_algorithms_are_read(alloc: Global) -> bool {
+    match algorithms(alloc, b"\x80\x04\x00\x07\x00\x03\xff") {
+        Ok(algorithms) => algorithms.as_slice() == [HmacAlgorithm::HmacSha256].as_slice(),
+        Err(_) => false,
+    }
+}
+
+fn address_types_are_read(alloc: Global) -> bool {
     let expected = [ParamType::Ipv4Addr, ParamType::Unknown { param_type: 10 }];
-    assert!(rt; types.as_slice() == expected.as_slice());
-    Ok(())
+    match address_types(alloc, b"\x00\x0c\x00\x08\x00\x05\x00\x0a") {
+        Ok(types) => types.as_slice() == expected.as_slice(),
+        Err(_) => false,
+    }
 }
 
 #[test]
-fn other_values(rt: HostRuntime) -> Result<(), Fail> {
+fn lists(rt: HostRuntime) {
+    assert!(rt; odd_algorithms_are_read(rt.alloc()));
+    assert!(rt; address_types_are_read(rt.alloc()));
+}
+
+// The parameter that the bytes begin with, as it is written.
+fn rewritten(alloc: Global, raw: &[u8]) -> Result<Bytes, Error> {
+    read(alloc, raw)?.marshal(alloc)
+}
+
+fn is_cookie(cookie: Result<ParamStateCookie, Error>, want: &[u8]) -> bool {
+    match cookie {
+        Ok(param) => param.cookie.as_slice() == want,
+        Err(_) => false,
+    }
+}
+
+fn cookie(alloc: Global, raw: &[u8]) -> Result<ParamStateCookie, Error> {
+    ParamStateCookie::unmarshal(alloc, &bytes(alloc, raw)?)
+}
+
+#[test]
+fn other_values(rt: HostRuntime) {
     let alloc = rt.alloc();
-    let ignored = read(alloc, b"\xc0\x00\x00\x06\x01\x02")?.marshal(alloc)?;
-    assert!(rt; ignored.as_slice() == b"\xc0\x00\x00\x04".as_slice());
+    let ignored = rewritten(alloc, b"\xc0\x00\x00\x06\x01\x02");
+    assert!(rt; is_text(ignored, b"\xc0\x00\x00\x04"));
     // a single kind is read under any type number
-    let other = ParamStateCookie::unmarshal(alloc, &bytes(alloc, b"\x00\x01\x00\x06ab")?)?;
-    assert!(rt; other.cookie.as_slice() == b"ab".as_slice());
-    let drawn = ParamStateCookie::new(alloc, [9; 32])?;
-    assert!(rt; drawn.cookie.as_slice() == [9; 32].as_slice());
-    Ok(())
+    assert!(rt; is_cookie(cookie(alloc, b"\x00\x01\x00\x06ab"), b"ab"));
+    assert!(rt; is_cookie(ParamStateCookie::new(alloc, [9; 32]), &[9; 32]));
 }
 
 const REFUSED: [(&[u8], Error); 8] = [
@@ -240,44 +316,54 @@ const REFUSED: [(&[u8], Error); 8] = [
     ),
 ];
 
+// How these bytes are refused as a chunk list.
+fn refusal_of_list(alloc: Global, raw: &[u8]) -> Result<Option<Error>, Error> {
+    Ok(ParamChunkList::unmarshal(alloc, &bytes(alloc, raw)?).err())
+}
+
 #[test]
-fn refusals(rt: HostRuntime) -> Result<(), Fail> {
+fn refusals(rt: HostRuntime) {
     let alloc = rt.alloc();
     for (raw, expected) in REFUSED {
-        assert!(rt; refusal(alloc, raw)? == Some(expected), "at {raw:?}");
+        assert!(rt; refusal(alloc, raw) == Ok(Some(expected)), "at {raw:?}");
     }
-    let list = ParamChunkList::unmarshal(alloc, &bytes(alloc, b"\x80\x08\x00\x05\x01")?).err();
-    assert!(rt; list == Some(Error::ErrParamTypeUnexpected));
-    Ok(())
+    let list = refusal_of_list(alloc, b"\x80\x08\x00\x05\x01");
+    assert!(rt; list == Ok(Some(Error::ErrParamTypeUnexpected)));
 }
 
 const NO_KIND: [u16; 15] = [0, 2, 3, 4, 5, 6, 8, 9, 10, 11, 14, 15, 17, 18, 0x7fff];
 
 #[test]
-fn types_of_no_kind(rt: HostRuntime) -> Result<(), Fail> {
+fn types_of_no_kind(rt: HostRuntime) {
     let alloc = rt.alloc();
     for typ in NO_KIND {
         let [high, low] = u16::to_be_bytes(typ);
-        let expected = Some(Error::ErrParamTypeUnhandled { typ });
-        assert!(rt; refusal(alloc, &[high, low, 0, 4])? == expected, "at {typ}");
+        let expected = Ok(Some(Error::ErrParamTypeUnhandled { typ }));
+        assert!(rt; refusal(alloc, &[high, low, 0, 4]) == expected, "at {typ}");
         // the type is looked at before the length
-        assert!(rt; refusal(alloc, &[high, low, 0, 3])? == expected, "at {typ}");
+        assert!(rt; refusal(alloc, &[high, low, 0, 3]) == expected, "at {typ}");
     }
-    Ok(())
 }
 
 const KEPT: [u16; 10] = [
     0x8000, 32773, 32774, 49153, 49154, 49155, 49156, 49157, 49158, 0xffff,
 ];
 
+// The type of the parameter that the bytes begin with.
+fn type_of(alloc: Global, raw: &[u8]) -> Result<ParamType, Error> {
+    Ok(read(alloc, raw)?.param_type())
+}
+
 #[test]
-fn types_kept(rt: HostRuntime) -> Result<(), Fail> {
+fn types_kept(rt: HostRuntime) {
     for typ in KEPT {
         let [high, low] = u16::to_be_bytes(typ);
-        let kept = read(rt.alloc(), &[high, low, 0, 5, 9])?.param_type();
-        assert!(rt; kept == ParamType::Unknown { param_type: typ }, "at {typ}");
+        let kept = type_of(rt.alloc(), &[high, low, 0, 5, 9]);
+        assert!(rt;
+            kept == Ok(ParamType::Unknown { param_type: typ }),
+            "at {typ}"
+        );
     }
-    Ok(())
 }
 
 // A parameter of this type whose value is this long, or is a list of so many elements.
@@ -344,69 +430,106 @@ const LONGEST: [(ParamType, usize, u16); 9] = [
     (ParamType::Unknown { param_type: 0x8000 }, 65_531, 65_535),
 ];
 
+// Whether the parameter is written behind "abc" with this length.
+fn is_written(alloc: Global, param: &ParamKind, length: u16) -> bool {
+    let [high, low] = u16::to_be_bytes(length);
+    match written_behind(alloc, param) {
+        Ok((answer, buf)) => {
+            answer == Ok(3 + length as usize)
+                && buf.as_slice().get(5..7) == Some([high, low].as_slice())
+                && buf.as_slice().starts_with(b"abc")
+        }
+        Err(_) => false,
+    }
+}
+
+// Whether the parameter is refused as too long, and the buffer stays as it was.
+fn is_too_long(alloc: Global, param: &ParamKind) -> bool {
+    match written_behind(alloc, param) {
+        Ok((answer, buf)) => {
+            answer == Err(Error::ErrLengthTooLarge)
+                && buf.as_slice() == b"abc".as_slice()
+                && param.header().err() == Some(Error::ErrLengthTooLarge)
+        }
+        Err(_) => false,
+    }
+}
+
+fn is_longest(alloc: Global, typ: ParamType, count: usize, length: u16) -> bool {
+    match param_of(alloc, typ, count) {
+        Ok(param) => is_written(alloc, &param, length),
+        Err(_) => false,
+    }
+}
+
 #[test]
-fn longest_values(rt: HostRuntime) -> Result<(), Fail> {
-    let alloc = rt.alloc();
+fn longest_values(rt: HostRuntime) {
     for (typ, count, length) in LONGEST {
-        let param = param_of(alloc, typ, count)?;
-        let (answer, buf) = written_behind(alloc, &param)?;
-        assert!(rt; answer == Ok(3 + length as usize), "of {count}");
-        let [high, low] = u16::to_be_bytes(length);
-        assert!(rt;
-            buf.as_slice().get(5..7) == Some([high, low].as_slice()),
-            "of {count}"
-        );
-        assert!(rt; buf.as_slice().starts_with(b"abc"), "of {count}");
+        assert!(rt; is_longest(rt.alloc(), typ, count, length), "of {count}");
     }
-    Ok(())
 }
 
-// The buffer stays as it was.
+fn has_too_many(alloc: Global, typ: ParamType, count: usize) -> bool {
+    match param_of(alloc, typ, count) {
+        Ok(param) => is_too_long(alloc, &param),
+        Err(_) => false,
+    }
+}
+
 #[test]
-fn too_long_values(rt: HostRuntime) -> Result<(), Fail> {
-    let alloc = rt.alloc();
+fn too_long_values(rt: HostRuntime) {
     for (typ, count, _) in LONGEST {
-        let param = param_of(alloc, typ, count + 1)?;
-        let (answer, buf) = written_behind(alloc, &param)?;
-        assert!(rt; answer == Err(Error::ErrLengthTooLarge), "of {count}");
-        assert!(rt; buf.as_slice() == b"abc".as_slice(), "of {count}");
-        assert!(rt;
-            param.header().err() == Some(Error::ErrLengthTooLarge),
-            "of {count}"
-        );
+        assert!(rt; has_too_many(rt.alloc(), typ, count + 1), "of {count}");
     }
-    Ok(())
+}
+
+const ADAPTATION: ParamHeader = ParamHeader {
+    typ: ParamType::AdaptLayerInd,
+    value_length: 2,
+};
+
+fn header(alloc: Global, raw: &[u8]) -> Result<ParamHeader, Error> {
+    ParamHeader::unmarshal(&bytes(alloc, raw)?)
+}
+
+// Whether the item prints so.
+fn prints<T: Display>(alloc: Global, item: &T, want: &str) -> bool {
+    match printed(alloc, item) {
+        Ok(text) => text.as_str() == want,
+        Err(_) => false,
+    }
 }
 
 #[test]
-fn headers(rt: HostRuntime) -> Result<(), Fail> {
+fn headers(rt: HostRuntime) {
     let alloc = rt.alloc();
-    let header = ParamHeader::unmarshal(&bytes(alloc, &[0xc0, 6, 0, 6, 1, 2, 3])?)?;
-    let expected = ParamHeader {
-        typ: ParamType::AdaptLayerInd,
-        value_length: 2,
-    };
-    assert!(rt; header == expected && header.value_length() == 2);
-    assert!(rt; ParamHeader::of(ParamType::AdaptLayerInd, 2) == Ok(expected));
-    let written = header.marshal(alloc)?;
-    assert!(rt; written.as_slice() == [0xc0, 6, 0, 6].as_slice());
-    let text = printed(alloc, &header)?;
-    assert!(rt; text.as_str() == "Adaptation Layer Indication");
-    Ok(())
+    assert!(rt; header(alloc, &[0xc0, 6, 0, 6, 1, 2, 3]) == Ok(ADAPTATION));
+    assert!(rt; ADAPTATION.value_length() == 2);
+    assert!(rt; ParamHeader::of(ParamType::AdaptLayerInd, 2) == Ok(ADAPTATION));
+    assert!(rt; is_text(ADAPTATION.marshal(alloc), &[0xc0, 6, 0, 6]));
+    assert!(rt; prints(alloc, &ADAPTATION, "Adaptation Layer Indication"));
 }
 
-#[test]
-fn headers_behind_bytes(rt: HostRuntime) -> Result<(), Fail> {
-    let mut buf = BytesMut::copy_from_slice(rt.alloc(), b"a")?;
-    let header = ParamHeader::of(ParamType::AdaptLayerInd, 2)?;
-    assert!(rt; header.marshal_to(&mut buf)? == 5);
+fn one_header_fits(buf: &mut BytesMut) -> bool {
     let long = ParamHeader {
         typ: ParamType::Random,
         value_length: 65_532,
     };
-    assert!(rt; long.marshal_to(&mut buf) == Err(Error::ErrLengthTooLarge));
-    assert!(rt; buf.as_slice() == b"a\xc0\x06\x00\x06".as_slice());
-    Ok(())
+    ADAPTATION.marshal_to(buf) == Ok(5)
+        && long.marshal_to(buf) == Err(Error::ErrLengthTooLarge)
+        && buf.as_slice() == b"a\xc0\x06\x00\x06".as_slice()
+}
+
+fn header_behind_a_byte(alloc: Global) -> bool {
+    match BytesMut::copy_from_slice(alloc, b"a") {
+        Ok(mut buf) => one_header_fits(&mut buf),
+        Err(_) => false,
+    }
+}
+
+#[test]
+fn headers_behind_bytes(rt: HostRuntime) {
+    assert!(rt; header_behind_a_byte(rt.alloc()));
 }
 
 #[test]
@@ -460,25 +583,23 @@ const PRINTED: [(&[u8], &str); 11] = [
 ];
 
 // Whether the parameter that the bytes begin with prints so.
-fn prints_so(alloc: Global, raw: &[u8], expected: &str) -> Result<bool, Error> {
-    let param = read(alloc, raw)?;
-    let text = printed(alloc, &param)?;
-    Ok(text.as_str() == expected)
-}
-
-#[test]
-fn kinds_print(rt: HostRuntime) -> Result<(), Fail> {
-    for (raw, text) in PRINTED {
-        assert!(rt; prints_so(rt.alloc(), raw, text)?, "at {raw:?}");
+fn prints_so(alloc: Global, raw: &[u8], expected: &str) -> bool {
+    match read(alloc, raw) {
+        Ok(param) => prints(alloc, &param, expected),
+        Err(_) => false,
     }
-    Ok(())
 }
 
 #[test]
-fn numbers_print(rt: HostRuntime) -> Result<(), Fail> {
-    let result = printed(rt.alloc(), &ReconfigResult::from(9))?;
-    assert!(rt; result.as_str() == "Unknown ReconfigResult");
-    let algorithm = printed(rt.alloc(), &HmacAlgorithm::from(0))?;
-    assert!(rt; algorithm.as_str() == "HMAC Reserved (0x00)");
-    Ok(())
+fn kinds_print(rt: HostRuntime) {
+    for (raw, text) in PRINTED {
+        assert!(rt; prints_so(rt.alloc(), raw, text), "at {raw:?}");
+    }
+}
+
+#[test]
+fn numbers_print(rt: HostRuntime) {
+    let alloc = rt.alloc();
+    assert!(rt; prints(alloc, &ReconfigResult::from(9), "Unknown ReconfigResult"));
+    assert!(rt; prints(alloc, &HmacAlgorithm::from(0), "HMAC Reserved (0x00)"));
 }

@@ -1,8 +1,8 @@
 use bytes::{Bytes, BytesMut};
 use sctp_base::error::Error;
 use sctp_base::util::{
-    CT_PAYLOAD_DATA, Checksum, get_padding_size, sna16gt, sna16lt, sna32gt, sna32gte, sna32lt,
-    sna32lte,
+    CT_PAYLOAD_DATA, Checksum, get_padding_size, sna16eq, sna16gt, sna16lt, sna32eq, sna32gt,
+    sna32gte, sna32lt, sna32lte,
 };
 use sctp_chunks::chunk::Chunk;
 use sctp_chunks::chunk::chunk_header::ChunkHeader;
@@ -11,7 +11,6 @@ use sctp_chunks::chunk::chunk_payload_data::{ChunkPayloadData, PayloadProtocolId
 use sctp_packets::packet::{CommonHeader, Packet};
 use std::alloc::Global;
 use std::cell::Cell;
-use std::test::Fail;
 
 /// Answers the same number for any bytes: 0, or the field of a recorded packet.
 #[derive(Clone, Copy)]
@@ -63,10 +62,18 @@ pub fn refusal(alloc: Global, chunks: &[u8]) -> Result<Option<Error>, Error> {
 }
 
 /// Reads a packet of these chunks, and gives the chunks as they are written.
-pub fn rewritten(alloc: Global, chunks: &[u8]) -> Result<Bytes, Error> {
+fn rewritten(alloc: Global, chunks: &[u8]) -> Result<Bytes, Error> {
     let mut written = read_chunks(alloc, chunks)?.marshal(alloc, &ZERO)?;
     written.advance(HEAD.len().min(written.len()));
     Ok(written)
+}
+
+/// Whether a packet of these chunks is read, and written with those.
+pub fn is_rewritten(alloc: Global, chunks: &[u8], want: &[u8]) -> bool {
+    match rewritten(alloc, chunks) {
+        Ok(written) => written.as_slice() == want,
+        Err(_) => false,
+    }
 }
 
 /// Writes the packet behind "abc". Gives the answer, and the buffer after it.
@@ -122,18 +129,19 @@ const WHOLE: [u8; 20] = [
 ];
 
 #[test]
-fn serial_numbers(rt: HostRuntime) -> Result<(), Fail> {
+fn serial_numbers(rt: HostRuntime) {
     assert!(rt; !sna32lt(0, 2147483648));
     assert!(rt; sna32gt(0, 2147483648));
     assert!(rt; sna32gt(2147483648, 0));
     assert!(rt; sna32lt(4294967295, 0));
     assert!(rt; sna32lte(5, 5));
     assert!(rt; sna32gte(6, 5));
+    assert!(rt; sna32eq(2147483648, 2147483648) && !sna32eq(0, 2147483648));
     assert!(rt; sna16lt(65535, 0));
     assert!(rt; sna16gt(0, 32768));
+    assert!(rt; sna16eq(32768, 32768) && !sna16eq(0, 32768));
     assert_eq!(rt; get_padding_size(5), 3);
     assert_eq!(rt; get_padding_size(8), 0);
-    Ok(())
 }
 
 // How these bytes are refused as a packet.
@@ -141,29 +149,41 @@ fn refusal_of(alloc: Global, raw: &[u8], checksum: Answer) -> Result<Option<Erro
     Ok(Packet::unmarshal(alloc, &Bytes::copy_from_slice(alloc, raw)?, &checksum).err())
 }
 
-#[test]
-fn bare_header(rt: HostRuntime) -> Result<(), Fail> {
-    let alloc = rt.alloc();
-    let header = [0x13, 0x88, 0x13, 0x88, 0, 0, 0, 0, 0x06, 0xa9, 0, 0xe1];
-    let field = Answer(0xe100a906);
-    assert_eq!(rt;
-        refusal_of(alloc, b"", ZERO)?,
-        Some(Error::ErrPacketRawTooSmall)
-    );
-    assert_eq!(rt;
-        refusal_of(alloc, &header, ZERO)?,
-        Some(Error::ErrChecksumMismatch)
-    );
-    let packet = Packet::unmarshal(alloc, &Bytes::copy_from_slice(alloc, &header)?, &field)?;
+const BARE: [u8; 12] = [0x13, 0x88, 0x13, 0x88, 0, 0, 0, 0, 0x06, 0xa9, 0, 0xe1];
+
+const BARE_FIELD: Answer = Answer(0xe100a906);
+
+fn bare(alloc: Global) -> Result<Packet, Error> {
+    Packet::unmarshal(alloc, &Bytes::copy_from_slice(alloc, &BARE)?, &BARE_FIELD)
+}
+
+// Whether the packet is the one of `BARE`, and is written so.
+fn is_bare(alloc: Global, packet: &Packet) -> bool {
     let expected = CommonHeader {
         source_port: 5000,
         destination_port: 5000,
         verification_tag: 0,
     };
-    assert!(rt; packet.common_header == expected && packet.chunks.is_empty());
-    let written = packet.marshal(alloc, &field)?;
-    assert!(rt; written.as_slice() == header.as_slice());
-    Ok(())
+    let read = packet.common_header == expected && packet.chunks.is_empty();
+    match packet.marshal(alloc, &BARE_FIELD) {
+        Ok(written) => read && written.as_slice() == BARE.as_slice(),
+        Err(_) => false,
+    }
+}
+
+fn bare_is_kept(alloc: Global) -> bool {
+    match bare(alloc) {
+        Ok(packet) => is_bare(alloc, &packet),
+        Err(_) => false,
+    }
+}
+
+#[test]
+fn bare_header(rt: HostRuntime) {
+    let alloc = rt.alloc();
+    assert!(rt; refusal_of(alloc, b"", ZERO) == Ok(Some(Error::ErrPacketRawTooSmall)));
+    assert!(rt; refusal_of(alloc, &BARE, ZERO) == Ok(Some(Error::ErrChecksumMismatch)));
+    assert!(rt; bare_is_kept(alloc));
 }
 
 // The packet's chunk, where it is one of user data.
@@ -187,13 +207,17 @@ fn is_whole(c: &ChunkPayloadData) -> bool {
         && c.user_data.as_slice() == b"abc".as_slice()
 }
 
+fn whole_is_read(alloc: Global) -> bool {
+    match read_chunks(alloc, &WHOLE) {
+        Ok(packet) => only_data(&packet).is_some_and(|c| is_whole(c)),
+        Err(_) => false,
+    }
+}
+
 #[test]
-fn whole_message(rt: HostRuntime) -> Result<(), Fail> {
+fn whole_message(rt: HostRuntime) {
     let alloc = rt.alloc();
-    let packet = read_chunks(alloc, &WHOLE)?;
-    assert!(rt; only_data(&packet).is_some_and(|c| is_whole(c)));
-    assert!(rt; rewritten(alloc, &WHOLE)?.as_slice() == WHOLE.as_slice());
-    Ok(())
+    assert!(rt; whole_is_read(alloc) && is_rewritten(alloc, &WHOLE, &WHOLE));
 }
 
 // A fragment with these flags, and a TSN that is about to wrap.
@@ -211,43 +235,73 @@ fn ends(alloc: Global, chunk: &[u8]) -> Result<Option<(u32, bool, bool)>, Error>
 }
 
 #[test]
-fn fragments(rt: HostRuntime) -> Result<(), Fail> {
+fn fragments(rt: HostRuntime) {
     let alloc = rt.alloc();
     for (flags, first, last) in [(2, true, false), (0, false, false), (1, false, true)] {
         let chunk = fragment(flags);
-        assert!(rt; ends(alloc, &chunk)? == Some((4294967294, first, last)));
-        assert!(rt; rewritten(alloc, &chunk)?.as_slice() == chunk.as_slice());
+        assert!(rt; ends(alloc, &chunk) == Ok(Some((4294967294, first, last))));
+        assert!(rt; is_rewritten(alloc, &chunk, &chunk));
     }
-    Ok(())
 }
 
 fn long(alloc: Global, length: usize) -> Result<Packet, Error> {
     packet_of(alloc, ChunkKind::PayloadData(data(alloc, length)?))
 }
 
+fn too_long_is_refused(alloc: Global, packet: &Packet) -> bool {
+    match written_behind(alloc, packet) {
+        Ok((answer, buf)) => {
+            answer == Err(Error::ErrLengthTooLarge) && buf.as_slice() == b"abc".as_slice()
+        }
+        Err(_) => false,
+    }
+}
+
+fn one_byte_too_long(alloc: Global) -> bool {
+    match long(alloc, 65_520) {
+        Ok(packet) => too_long_is_refused(alloc, &packet),
+        Err(_) => false,
+    }
+}
+
 #[test]
-fn too_long_a_chunk(rt: HostRuntime) -> Result<(), Fail> {
-    let alloc = rt.alloc();
-    let (answer, buf) = written_behind(alloc, &long(alloc, 65_520)?)?;
-    assert!(rt; answer == Err(Error::ErrLengthTooLarge));
-    assert!(rt; buf.as_slice() == b"abc".as_slice());
-    Ok(())
+fn too_long_a_chunk(rt: HostRuntime) {
+    assert!(rt; one_byte_too_long(rt.alloc()));
+}
+
+// The longest chunk behind "abc", and a COOKIE-ACK behind it; nothing where it is not written so.
+fn longest_and_another(alloc: Global) -> Result<Option<Bytes>, Error> {
+    let (answer, mut buf) = written_behind(alloc, &long(alloc, 65_519)?)?;
+    let front = b"abc\x13\x88\x13\x88\0\0\0\x01\0\0\0\0\0\x03\xff\xff";
+    let well = answer == Ok(3 + 12 + 65_536)
+        && buf.len() == 3 + 12 + 65_536
+        && buf.as_slice().starts_with(front);
+    if !well {
+        return Ok(None);
+    }
+    buf.extend_from_slice(b"\x0b\0\0\x04")?;
+    buf.advance(3);
+    Ok(Some(buf.freeze()?))
+}
+
+fn both_are_read(alloc: Global, bytes: &Bytes) -> bool {
+    match Packet::unmarshal(alloc, bytes, &ZERO) {
+        Ok(packet) => lengths(&packet) == Some((65_519, true)),
+        Err(_) => false,
+    }
+}
+
+fn longest_is_kept(alloc: Global) -> bool {
+    match longest_and_another(alloc) {
+        Ok(Some(bytes)) => both_are_read(alloc, &bytes),
+        _ => false,
+    }
 }
 
 // It is read also where another chunk follows it.
 #[test]
-fn longest_chunk(rt: HostRuntime) -> Result<(), Fail> {
-    let alloc = rt.alloc();
-    let (answer, mut buf) = written_behind(alloc, &long(alloc, 65_519)?)?;
-    assert!(rt; answer == Ok(3 + 12 + 65_536));
-    assert!(rt; buf.len() == 3 + 12 + 65_536);
-    let front = b"abc\x13\x88\x13\x88\0\0\0\x01\0\0\0\0\0\x03\xff\xff";
-    assert!(rt; buf.as_slice().starts_with(front));
-    buf.extend_from_slice(b"\x0b\0\0\x04")?;
-    buf.advance(3);
-    let packet = Packet::unmarshal(alloc, &buf.freeze()?, &ZERO)?;
-    assert!(rt; lengths(&packet) == Some((65_519, true)));
-    Ok(())
+fn longest_chunk(rt: HostRuntime) {
+    assert!(rt; longest_is_kept(rt.alloc()));
 }
 
 // The length of the first chunk's user data, and whether a COOKIE-ACK follows.
@@ -263,17 +317,25 @@ fn counted_bytes(alloc: Global, counted: Counted) -> Result<Bytes, Error> {
     long(alloc, 1)?.marshal(alloc, &counted)
 }
 
-#[test]
-fn checksum_is_asked(rt: HostRuntime) -> Result<(), Fail> {
-    let calls = Cell::new(0);
-    let counted = Counted { calls: &calls };
-    let raw = counted_bytes(rt.alloc(), counted)?;
-    assert!(rt; calls.get() == 1);
+// Whether writing a packet asks the checksum once, and reading it once more.
+fn is_asked_twice(alloc: Global, calls: &Cell<u32>) -> bool {
+    let counted = Counted { calls };
     let front = b"\x13\x88\x13\x88\0\0\0\x01\x04\x03\x02\x01";
-    assert!(rt; raw.as_slice().starts_with(front));
-    assert!(rt; Packet::unmarshal(rt.alloc(), &raw, &counted).is_ok());
-    assert!(rt; calls.get() == 2);
-    Ok(())
+    match counted_bytes(alloc, counted) {
+        Ok(raw) => {
+            calls.get() == 1
+                && raw.as_slice().starts_with(front)
+                && Packet::unmarshal(alloc, &raw, &counted).is_ok()
+                && calls.get() == 2
+        }
+        Err(_) => false,
+    }
+}
+
+#[test]
+fn checksum_is_asked(rt: HostRuntime) {
+    let calls = Cell::new(0);
+    assert!(rt; is_asked_twice(rt.alloc(), &calls));
 }
 
 const WHOLE_HEADER: ChunkHeader = ChunkHeader {
@@ -282,14 +344,39 @@ const WHOLE_HEADER: ChunkHeader = ChunkHeader {
     value_length: 15,
 };
 
+fn is_written_alone(alloc: Global, chunk: &ChunkPayloadData) -> bool {
+    match chunk.marshal(alloc) {
+        Ok(written) => written.as_slice() == &WHOLE[..19],
+        Err(_) => false,
+    }
+}
+
+fn clone_is_whole(chunk: &ChunkPayloadData) -> bool {
+    match chunk.try_clone() {
+        Ok(copy) => is_whole(&copy),
+        Err(_) => false,
+    }
+}
+
+fn is_read_alone(alloc: Global, raw: &Bytes) -> bool {
+    match ChunkPayloadData::unmarshal(alloc, raw) {
+        Ok(chunk) => {
+            chunk.header() == Ok(WHOLE_HEADER)
+                && is_written_alone(alloc, &chunk)
+                && clone_is_whole(&chunk)
+        }
+        Err(_) => false,
+    }
+}
+
+fn whole_alone(alloc: Global) -> bool {
+    match Bytes::copy_from_slice(alloc, &WHOLE) {
+        Ok(raw) => ChunkHeader::unmarshal(&raw) == Ok(WHOLE_HEADER) && is_read_alone(alloc, &raw),
+        Err(_) => false,
+    }
+}
+
 #[test]
-fn chunk_alone(rt: HostRuntime) -> Result<(), Fail> {
-    let alloc = rt.alloc();
-    let raw = Bytes::copy_from_slice(alloc, &WHOLE)?;
-    assert!(rt; ChunkHeader::unmarshal(&raw) == Ok(WHOLE_HEADER));
-    let chunk = ChunkPayloadData::unmarshal(alloc, &raw)?;
-    assert!(rt; chunk.header() == Ok(WHOLE_HEADER));
-    assert!(rt; chunk.marshal(alloc)?.as_slice() == &WHOLE[..19]);
-    assert!(rt; is_whole(&chunk.try_clone()?));
-    Ok(())
+fn chunk_alone(rt: HostRuntime) {
+    assert!(rt; whole_alone(rt.alloc()));
 }

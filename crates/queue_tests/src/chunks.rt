@@ -3,147 +3,203 @@
 
 use crate::part::{FIRST, LAST, MIDDLE, WHOLE, ordered};
 use sctp_base::error::Error;
-use sctp_chunks::chunk::chunk_payload_data::PayloadProtocolIdentifier;
+use sctp_chunks::chunk::chunk_payload_data::{ChunkPayloadData, PayloadProtocolIdentifier};
 use sctp_queues::chunks::{Chunks, Fragments};
 use std::alloc::Global;
-use std::process::Abort;
-use std::test::Fail;
 
-// A message of two fragments, `ab` and `cd`; whether each push made it whole, the third one a repeat.
-fn letters(alloc: Global) -> Result<(Chunks, [bool; 3]), Error> {
-    let mut message = Chunks::new(0, PayloadProtocolIdentifier::String, Vec::new(alloc));
-    let first = message.push(ordered(alloc, 10, 0, FIRST, b"ab")?)?;
-    let second = message.push(ordered(alloc, 11, 0, LAST, b"cd")?)?;
-    let third = message.push(ordered(alloc, 11, 0, LAST, b"xx")?)?;
-    Ok((message, [first, second, third]))
-}
-
-#[test]
-fn a_message_is_whole_at_its_last_fragment(rt: HostRuntime) -> Result<(), Fail> {
-    let (message, whole) = letters(rt.alloc())?;
-    assert_eq!(rt; whole, [false, true, false]);
-    assert_eq!(rt;
-        (message.len(), message.is_empty(), message.is_complete()),
-        (4, false, true)
-    );
-    let mut short = [0; 3];
-    assert_eq!(rt; message.read(&mut short), Err(Error::ErrShortBuffer));
-    assert_eq!(rt; short.as_slice(), b"abc".as_slice());
-    let mut long = [9; 5];
-    assert_eq!(rt; message.read(&mut long), Ok(4));
-    assert_eq!(rt; long.as_slice(), [97, 98, 99, 100, 9].as_slice());
-    Ok(())
-}
-
-#[test]
-fn a_message_is_taken_in_pieces(rt: HostRuntime) -> Result<(), Fail> {
-    let alloc = rt.alloc();
-    let (mut message, _whole) = letters(alloc)?;
-    piece_is(&rt, &mut message, alloc, 3, Some(b"abc"))?;
-    let mut rest = message.try_clone(alloc)?;
-    for (len, want) in [(0, b"".as_slice()), (9, b"d".as_slice())] {
-        piece_is(&rt, &mut rest, alloc, len, Some(want))?;
-    }
-    piece_is(&rt, &mut message, alloc, 3, Some(b"d"))?;
-    piece_is(&rt, &mut message, alloc, 3, None)
-}
-
-#[test]
-fn an_empty_fragment_is_one_piece(rt: HostRuntime) -> Result<(), Fail> {
-    let alloc = rt.alloc();
-    let mut message = Chunks::new(0, PayloadProtocolIdentifier::String, Vec::new(alloc));
-    piece_is(&rt, &mut message, alloc, 3, None)?;
-    assert!(rt; message.push(ordered(alloc, 10, 0, WHOLE, b"")?)?);
-    assert!(rt; message.is_empty());
-    piece_is(&rt, &mut message, alloc, 3, Some(b""))?;
-    piece_is(&rt, &mut message, alloc, 3, None)
-}
-
-// The next piece has these bytes, or there is none.
-fn piece_is(
-    rt: &impl Abort,
-    message: &mut Chunks,
+// Whether this fragment makes the message whole, or does not.
+fn pushes(
     alloc: Global,
-    len: usize,
-    bytes: Option<&[u8]>,
-) -> Result<(), Fail> {
-    let piece = message.next(alloc, len)?;
-    assert_eq!(rt; piece.as_ref().map(|p| p.bytes.as_slice()), bytes);
-    Ok(())
+    message: &mut Chunks,
+    tsn: u32,
+    arrival: ((bool, bool), &[u8], bool),
+) -> bool {
+    let (flags, bytes, whole) = arrival;
+    match ordered(alloc, tsn, 0, flags, bytes) {
+        Ok(fragment) => message.push(fragment) == Ok(whole),
+        Err(_) => false,
+    }
 }
 
-// Fragments of these TSNs, put in one after another behind those that are given at once.
-fn put(alloc: Global, given: &[u32], tsns: &[u32]) -> Result<Fragments, Fail> {
+// A message of two fragments, `ab` and `cd`, whole with the second push; the third one is a repeat.
+fn letters(alloc: Global, message: &mut Chunks) -> bool {
+    pushes(alloc, message, 10, (FIRST, b"ab", false))
+        && pushes(alloc, message, 11, (LAST, b"cd", true))
+        && pushes(alloc, message, 11, (LAST, b"xx", false))
+}
+
+fn is_whole(message: &Chunks) -> bool {
+    message.len() == 4 && !message.is_empty() && message.is_complete()
+}
+
+fn is_read_in_part(message: &Chunks) -> bool {
+    let mut short = [0; 3];
+    message.read(&mut short) == Err(Error::ErrShortBuffer) && short.as_slice() == b"abc".as_slice()
+}
+
+fn is_read(message: &Chunks) -> bool {
+    let mut long = [9; 5];
+    message.read(&mut long) == Ok(4) && long.as_slice() == [97, 98, 99, 100, 9].as_slice()
+}
+
+#[test]
+fn a_message_is_whole_at_its_last_fragment(rt: HostRuntime) {
+    let alloc = rt.alloc();
+    let mut message = Chunks::new(0, PayloadProtocolIdentifier::String, Vec::new(alloc));
+    let well = letters(alloc, &mut message) && is_whole(&message);
+    assert!(rt; well && is_read_in_part(&message) && is_read(&message));
+}
+
+// Whether the next piece of so many bytes has these bytes, or there is none.
+fn piece_is(alloc: Global, message: &mut Chunks, len: usize, bytes: Option<&[u8]>) -> bool {
+    match message.next(alloc, len) {
+        Ok(Some(piece)) => bytes == Some(piece.bytes.as_slice()),
+        Ok(None) => bytes.is_none(),
+        Err(_) => false,
+    }
+}
+
+fn copy_gives_the_rest(alloc: Global, message: &Chunks) -> bool {
+    match message.try_clone(alloc) {
+        Ok(mut rest) => {
+            piece_is(alloc, &mut rest, 0, Some(b"")) && piece_is(alloc, &mut rest, 9, Some(b"d"))
+        }
+        Err(_) => false,
+    }
+}
+
+fn is_taken(alloc: Global, message: &mut Chunks) -> bool {
+    piece_is(alloc, message, 3, Some(b"abc"))
+        && copy_gives_the_rest(alloc, message)
+        && piece_is(alloc, message, 3, Some(b"d"))
+        && piece_is(alloc, message, 3, None)
+}
+
+#[test]
+fn a_message_is_taken_in_pieces(rt: HostRuntime) {
+    let alloc = rt.alloc();
+    let mut message = Chunks::new(0, PayloadProtocolIdentifier::String, Vec::new(alloc));
+    assert!(rt; letters(alloc, &mut message) && is_taken(alloc, &mut message));
+}
+
+fn empty_is_a_piece(alloc: Global, message: &mut Chunks) -> bool {
+    piece_is(alloc, message, 3, None)
+        && pushes(alloc, message, 10, (WHOLE, b"", true))
+        && message.is_empty()
+        && piece_is(alloc, message, 3, Some(b""))
+        && piece_is(alloc, message, 3, None)
+}
+
+#[test]
+fn an_empty_fragment_is_one_piece(rt: HostRuntime) {
+    let alloc = rt.alloc();
+    let mut message = Chunks::new(0, PayloadProtocolIdentifier::String, Vec::new(alloc));
+    assert!(rt; empty_is_a_piece(alloc, &mut message));
+}
+
+// Fragments of these TSNs.
+fn given(alloc: Global, tsns: &[u32]) -> Result<Vec<ChunkPayloadData>, Error> {
     let mut chunks = Vec::new(alloc);
-    for tsn in given {
+    for tsn in tsns {
         chunks.push(ordered(alloc, *tsn, 0, MIDDLE, b"x")?)?;
     }
-    let mut set = Fragments::new(0, PayloadProtocolIdentifier::Binary, chunks);
-    for tsn in tsns {
-        let _whole = set.put(ordered(alloc, *tsn, 0, MIDDLE, b"x")?)?;
-    }
-    Ok(set)
+    Ok(chunks)
 }
 
-// The fragments have these TSNs.
-fn tsns_are(rt: &impl Abort, set: &Fragments, want: &[u32]) {
-    assert_eq!(rt; set.fragments().len(), want.len());
-    for (chunk, tsn) in set.fragments().iter().zip(want.iter()) {
-        assert_eq!(rt; chunk.tsn, *tsn);
+// Whether a fragment of this TSN is put in.
+fn puts(alloc: Global, set: &mut Fragments, tsn: u32) -> bool {
+    match ordered(alloc, tsn, 0, MIDDLE, b"x") {
+        Ok(fragment) => set.put(fragment).is_ok(),
+        Err(_) => false,
     }
+}
+
+fn puts_all(alloc: Global, set: &mut Fragments, tsns: &[u32]) -> bool {
+    let mut well = true;
+    for tsn in tsns {
+        well = well && puts(alloc, set, *tsn);
+    }
+    well
+}
+
+// Whether the fragments have these TSNs.
+fn tsns_are(set: &Fragments, want: &[u32]) -> bool {
+    let mut well = set.fragments().len() == want.len();
+    for (chunk, tsn) in set.fragments().iter().zip(want.iter()) {
+        well = well && chunk.tsn == *tsn;
+    }
+    well
+}
+
+fn copy_stands_so(alloc: Global, set: &Fragments, want: &[u32]) -> bool {
+    match set.try_clone(alloc) {
+        Ok(copy) => tsns_are(&copy, want),
+        Err(_) => false,
+    }
+}
+
+// Whether fragments of these TSNs, put in one after another behind those that are given at once, stand in this order,
+// and so do their copies.
+fn stand(alloc: Global, first: &[u32], tsns: &[u32], want: &[u32]) -> bool {
+    let Ok(chunks) = given(alloc, first) else {
+        return false;
+    };
+    let mut set = Fragments::new(0, PayloadProtocolIdentifier::Binary, chunks);
+    puts_all(alloc, &mut set, tsns) && tsns_are(&set, want) && copy_stands_so(alloc, &set, want)
 }
 
 #[test]
-fn fragments_that_come_in_any_order_stand_in_order(rt: HostRuntime) -> Result<(), Fail> {
-    let want = [10, 11, 12, 13, 14];
+fn fragments_that_come_in_any_order_stand_in_order(rt: HostRuntime) {
     for tsns in [
         [14, 13, 12, 11, 10, 14, 10],
         [12, 10, 14, 11, 13, 12, 10],
         [10, 11, 12, 13, 14, 12, 13],
     ] {
-        let set = put(rt.alloc(), &[], &tsns)?;
-        tsns_are(&rt, &set, &want);
-        tsns_are(&rt, &set.try_clone(rt.alloc())?, &want);
+        assert!(rt; stand(rt.alloc(), &[], &tsns, &[10, 11, 12, 13, 14]));
     }
-    Ok(())
 }
 
 #[test]
-fn fragments_stand_in_order_where_numbers_wrap(rt: HostRuntime) -> Result<(), Fail> {
-    let want = [4294967294, 4294967295, 0, 1, 2];
+fn fragments_stand_in_order_where_numbers_wrap(rt: HostRuntime) {
     for tsns in [
         [1, 4294967294, 0, 4294967295, 2],
         [2, 1, 0, 4294967295, 4294967294],
     ] {
-        let set = put(rt.alloc(), &[], &tsns)?;
-        tsns_are(&rt, &set, &want);
+        assert!(rt; stand(rt.alloc(), &[], &tsns, &[4294967294, 4294967295, 0, 1, 2]));
     }
-    Ok(())
 }
 
 // 2147483658 lies half a circle from 10 and does not come before it; 11 comes before it.
 #[test]
-fn a_fragment_half_a_circle_away_goes_behind(rt: HostRuntime) -> Result<(), Fail> {
+fn a_fragment_half_a_circle_away_goes_behind(rt: HostRuntime) {
     let tsns = [10, 2147483658, 11, 9, 2147483657, 11];
-    let set = put(rt.alloc(), &[], &tsns)?;
-    tsns_are(&rt, &set, &[9, 10, 11, 2147483657, 2147483658]);
-    Ok(())
+    assert!(rt; stand(rt.alloc(), &[], &tsns, &[9, 10, 11, 2147483657, 2147483658]));
 }
 
 // 0 comes before 10, but not before 2147483650; 2147483649 comes before 4294967290.
 #[test]
-fn fragments_may_span_more_than_half_a_circle(rt: HostRuntime) -> Result<(), Fail> {
+fn fragments_may_span_more_than_half_a_circle(rt: HostRuntime) {
     let tsns = [10, 2147483650, 0, 4294967290, 2147483649, 10];
-    let set = put(rt.alloc(), &[], &tsns)?;
-    tsns_are(&rt, &set, &[2147483649, 4294967290, 0, 10, 2147483650]);
-    Ok(())
+    assert!(rt;
+        stand(
+            rt.alloc(),
+            &[],
+            &tsns,
+            &[2147483649, 4294967290, 0, 10, 2147483650]
+        )
+    );
 }
 
 #[test]
-fn fragments_may_be_given_in_any_order(rt: HostRuntime) -> Result<(), Fail> {
-    let set = put(rt.alloc(), &[10, 12, 14], &[13, 12, 9])?;
-    tsns_are(&rt, &set, &[9, 10, 12, 13, 14]);
-    let set = put(rt.alloc(), &[10, 2147483658, 9], &[11, 9])?;
-    tsns_are(&rt, &set, &[10, 11, 2147483658, 9]);
-    Ok(())
+fn fragments_may_be_given_in_any_order(rt: HostRuntime) {
+    let alloc = rt.alloc();
+    assert!(rt; stand(alloc, &[10, 12, 14], &[13, 12, 9], &[9, 10, 12, 13, 14]));
+    assert!(rt;
+        stand(
+            alloc,
+            &[10, 2147483658, 9],
+            &[11, 9],
+            &[10, 11, 2147483658, 9]
+        )
+    );
 }

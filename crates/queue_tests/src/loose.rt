@@ -5,18 +5,31 @@ use sctp_chunks::chunk::chunk_payload_data::PayloadProtocolIdentifier;
 use sctp_queues::chunks::Fragments;
 use sctp_queues::loose::{Loose, run_around};
 use sctp_queues::turns::Turns;
-use std::test::Fail;
+use std::alloc::Global;
+
+fn is_not_begun(alloc: Global, loose: &mut Loose) -> bool {
+    let Ok(last) = unordered(alloc, 1, LAST, b"x") else {
+        return false;
+    };
+    loose.insert(alloc, 0, last).is_ok()
+        && loose.len() == 1
+        && run_around(loose, 0, &mut Turns::new()).is_none()
+}
+
+// Whether a whole message of number 3 makes the set whole, or is a repeat.
+fn puts(alloc: Global, set: &mut Fragments, want: Option<bool>) -> bool {
+    match ordered(alloc, 1, 3, WHOLE, b"x") {
+        Ok(message) => set.put(message) == Ok(want),
+        Err(_) => false,
+    }
+}
 
 #[test]
-fn a_run_is_found_round_its_place(rt: HostRuntime) -> Result<(), Fail> {
+fn a_run_is_found_round_its_place(rt: HostRuntime) {
     let alloc = rt.alloc();
     let mut loose = Loose::new(alloc);
-    loose.insert(alloc, 0, unordered(alloc, 1, LAST, b"x")?)?;
-    assert_eq!(rt; loose.len(), 1);
-    assert_eq!(rt; run_around(&loose, 0, &mut Turns::new()), None);
+    assert!(rt; is_not_begun(alloc, &mut loose));
     let mut set = Fragments::new(3, PayloadProtocolIdentifier::Binary, Vec::new(alloc));
-    assert_eq!(rt; set.put(ordered(alloc, 1, 3, WHOLE, b"x")?)?, Some(true));
-    assert_eq!(rt; set.put(ordered(alloc, 1, 3, WHOLE, b"x")?)?, None);
+    assert!(rt; puts(alloc, &mut set, Some(true)) && puts(alloc, &mut set, None));
     assert_eq!(rt; set.ssn(), 3);
-    Ok(())
 }

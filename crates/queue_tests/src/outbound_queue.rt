@@ -6,7 +6,6 @@ use sctp_base::error::Error;
 use sctp_chunks::chunk::chunk_payload_data::{ChunkPayloadData, ReliabilityType};
 use sctp_queues::outbound_queue::OutboundQueue;
 use std::alloc::Global;
-use std::test::Fail;
 
 const MILLISECOND: u64 = 1_000_000;
 
@@ -97,92 +96,123 @@ fn expire_tail(
     Ok(None)
 }
 
+// Whether the chunks were made, and are pushed where that is allowed.
+fn pushes(queue: &mut OutboundQueue, chunks: Result<Vec<ChunkPayloadData>, Error>) -> bool {
+    match chunks {
+        Ok(chunks) => push(queue, chunks).is_ok(),
+        Err(_) => false,
+    }
+}
+
+// Whether what is sent next is this, or nothing.
+fn sends(queue: &mut OutboundQueue, next_tsn: &mut u32, want: Option<u32>) -> bool {
+    send(queue, next_tsn, 0) == Ok(want)
+}
+
 // `abcdefg`, its first fragment sent under TSN 10.
-fn half_sent(alloc: Global) -> Result<OutboundQueue, Error> {
-    let mut queue = OutboundQueue::new(alloc);
-    push(&mut queue, letters(alloc, false)?)?;
-    send(&mut queue, &mut 10, 0)?;
-    Ok(queue)
+fn half_sent(alloc: Global, queue: &mut OutboundQueue, timed: bool) -> bool {
+    let mut tsn = 10;
+    pushes(queue, letters(alloc, timed)) && sends(queue, &mut tsn, Some(10))
+}
+
+fn is_end_mark(chunk: Option<&ChunkPayloadData>) -> bool {
+    match chunk {
+        Some(c) => {
+            c.ending_fragment && !c.beginning_fragment && c.abandoned && c.user_data.is_empty()
+        }
+        None => false,
+    }
+}
+
+// How many chunks are in flight, their bytes, and how many chunks wait.
+fn sizes(queue: &OutboundQueue) -> (usize, usize, usize) {
+    (
+        queue.inflight_len(),
+        queue.inflight_bytes(),
+        queue.pending_len(),
+    )
+}
+
+fn end_mark_is_left(queue: &mut OutboundQueue) -> bool {
+    let mut tsn = 11;
+    abandon(queue, 10, &mut tsn) == Ok(Some((1, 7)))
+        && tsn == 12
+        && sizes(queue) == (2, 0, 0)
+        && is_end_mark(queue.get(11))
+        && queue.earliest_outstanding_tsn().is_none()
 }
 
 #[test]
-fn leaves_an_end_mark(rt: HostRuntime) -> Result<(), Fail> {
-    let mut queue = half_sent(rt.alloc())?;
+fn leaves_an_end_mark(rt: HostRuntime) {
+    let mut queue = OutboundQueue::new(rt.alloc());
+    assert!(rt; half_sent(rt.alloc(), &mut queue, false) && end_mark_is_left(&mut queue));
+}
+
+fn is_abandoned_once(queue: &mut OutboundQueue) -> bool {
     let mut tsn = 11;
-    assert_eq!(rt; abandon(&mut queue, 10, &mut tsn)?, Some((1, 7)));
-    assert_eq!(rt;
-        (
-            tsn,
-            queue.inflight_len(),
-            queue.inflight_bytes(),
-            queue.pending_len()
-        ),
-        (12, 2, 0, 0)
-    );
-    assert!(rt;
-        queue.get(11).is_some_and(|c| c.ending_fragment
-            && !c.beginning_fragment
-            && c.abandoned
-            && c.user_data.is_empty())
-    );
-    assert_eq!(rt; queue.earliest_outstanding_tsn(), None);
-    Ok(())
+    abandon(queue, 99, &mut tsn) == Ok(None)
+        && abandon(queue, 10, &mut tsn) == Ok(Some((1, 7)))
+        && abandon(queue, 10, &mut tsn) == Ok(Some((1, 0)))
+        && tsn == 12
+        && queue.is_abandoned(10)
+        && queue.is_abandoned(11)
+        && !queue.is_abandoned(12)
 }
 
 #[test]
-fn abandons_once(rt: HostRuntime) -> Result<(), Fail> {
-    let mut queue = half_sent(rt.alloc())?;
-    let mut tsn = 11;
-    assert_eq!(rt; abandon(&mut queue, 99, &mut tsn)?, None);
-    assert_eq!(rt; abandon(&mut queue, 10, &mut tsn)?, Some((1, 7)));
-    assert_eq!(rt; abandon(&mut queue, 10, &mut tsn)?, Some((1, 0)));
-    assert_eq!(rt;
-        (
-            tsn,
-            queue.is_abandoned(10),
-            queue.is_abandoned(11),
-            queue.is_abandoned(12)
-        ),
-        (12, true, true, false)
-    );
-    Ok(())
+fn abandons_once(rt: HostRuntime) {
+    let mut queue = OutboundQueue::new(rt.alloc());
+    assert!(rt; half_sent(rt.alloc(), &mut queue, false) && is_abandoned_once(&mut queue));
 }
 
 // `abcdefg` with a lifetime, its first fragment sent under TSN 10 and acknowledged.
-fn acknowledged_in_part(alloc: Global) -> Result<OutboundQueue, Error> {
-    let mut queue = OutboundQueue::new(alloc);
-    push(&mut queue, letters(alloc, true)?)?;
-    send(&mut queue, &mut 10, 0)?;
+fn acknowledged_in_part(alloc: Global, queue: &mut OutboundQueue) -> bool {
+    let well = half_sent(alloc, queue, true);
     queue.mark_as_acked(10);
-    Ok(queue)
+    well
 }
 
-#[test]
-fn lists_what_is_late(rt: HostRuntime) -> Result<(), Fail> {
-    let queue = acknowledged_in_part(rt.alloc())?;
-    assert_eq!(rt; (queue.inflight_len(), queue.inflight_bytes()), (1, 0));
-    for (now, want) in [(MILLISECOND - 1, 0), (MILLISECOND, 1)] {
-        let late = queue.expired_inflight(rt.alloc(), now)?;
-        assert_eq!(rt; late.len(), want);
-        assert!(rt; late.iter().all(|tsn| *tsn == 10));
+// Whether so many TSNs are late at this moment, each of them 10.
+fn are_late(alloc: Global, queue: &OutboundQueue, now: u64, want: usize) -> bool {
+    match queue.expired_inflight(alloc, now) {
+        Ok(late) => late.len() == want && late.iter().all(|tsn| *tsn == 10),
+        Err(_) => false,
     }
-    Ok(())
+}
+
+fn one_is_late(alloc: Global, queue: &OutboundQueue) -> bool {
+    sizes(queue).0 == 1
+        && sizes(queue).1 == 0
+        && are_late(alloc, queue, MILLISECOND - 1, 0)
+        && are_late(alloc, queue, MILLISECOND, 1)
 }
 
 #[test]
-fn gives_up_a_tail(rt: HostRuntime) -> Result<(), Fail> {
-    let mut queue = acknowledged_in_part(rt.alloc())?;
-    let popped = [queue.pop(11).is_some(), queue.pop(10).is_some()];
-    assert_eq!(rt; popped, [false, true]);
+fn lists_what_is_late(rt: HostRuntime) {
+    let alloc = rt.alloc();
+    let mut queue = OutboundQueue::new(alloc);
+    assert!(rt; acknowledged_in_part(alloc, &mut queue) && one_is_late(alloc, &queue));
+}
+
+fn is_popped(queue: &mut OutboundQueue, tsn: u32) -> bool {
+    queue.pop(tsn).is_some()
+}
+
+fn tail_is_given_up(queue: &mut OutboundQueue) -> bool {
     let mut tsn = 11;
-    for (now, want) in [(MILLISECOND - 1, None), (MILLISECOND, Some((1, 0, 4)))] {
-        assert_eq!(rt; expire_tail(&mut queue, now, &mut tsn)?, want);
-    }
-    assert_eq!(rt;
-        (tsn, queue.pending_bytes(), queue.is_abandoned(11)),
-        (12, 0, true)
-    );
-    Ok(())
+    !is_popped(queue, 11)
+        && is_popped(queue, 10)
+        && expire_tail(queue, MILLISECOND - 1, &mut tsn) == Ok(None)
+        && expire_tail(queue, MILLISECOND, &mut tsn) == Ok(Some((1, 0, 4)))
+        && tsn == 12
+        && queue.pending_bytes() == 0
+        && queue.is_abandoned(11)
+}
+
+#[test]
+fn gives_up_a_tail(rt: HostRuntime) {
+    let mut queue = OutboundQueue::new(rt.alloc());
+    assert!(rt; acknowledged_in_part(rt.alloc(), &mut queue) && tail_is_given_up(&mut queue));
 }
 
 // The number of a message that waits, and the one that its stream gives it.
@@ -192,127 +222,150 @@ fn numbers(chunk: Option<&ChunkPayloadData>) -> Option<(u64, u16)> {
 }
 
 // Two messages on stream 1, the first with a lifetime, and one with a lifetime on stream 2. The lifetimes begin at 0.
-fn lapsing(alloc: Global) -> Result<OutboundQueue, Error> {
-    let mut queue = OutboundQueue::new(alloc);
-    for (stream_identifier, number, timed) in [(1, 0, true), (1, 1, false), (2, 0, true)] {
-        push(
-            &mut queue,
-            letter(alloc, stream_identifier, number, false, timed)?,
-        )?;
-    }
+fn lapsing(alloc: Global, queue: &mut OutboundQueue) -> bool {
+    let well = pushes(queue, letter(alloc, 1, 0, false, true))
+        && pushes(queue, letter(alloc, 1, 1, false, false))
+        && pushes(queue, letter(alloc, 2, 0, false, true));
     queue.start_timed_messages(0);
-    Ok(queue)
+    well
+}
+
+fn numbers_close_up(queue: &mut OutboundQueue) -> bool {
+    queue.expire_pending(MILLISECOND - 1) == None
+        && queue.expire_pending(MILLISECOND) == Some((1, false, 1))
+        && queue.expire_pending(MILLISECOND) == None
+        && numbers(queue.peek_pending()) == Some((1, 0))
+        && numbers(queue.peek_pending_at(1)) == Some((2, 0))
+        && queue.pending_contains_stream(2)
+        && queue.contains_stream(1)
+        && !queue.contains_stream(3)
 }
 
 #[test]
-fn closes_up_later_numbers(rt: HostRuntime) -> Result<(), Fail> {
-    let mut queue = lapsing(rt.alloc())?;
-    for (now, want) in [
-        (MILLISECOND - 1, None),
-        (MILLISECOND, Some((1, false, 1))),
-        (MILLISECOND, None),
-    ] {
-        assert_eq!(rt; queue.expire_pending(now), want);
-    }
-    assert_eq!(rt; numbers(queue.peek_pending()), Some((1, 0)));
-    assert_eq!(rt; numbers(queue.peek_pending_at(1)), Some((2, 0)));
-    let streams = [
-        queue.pending_contains_stream(2),
-        queue.contains_stream(1),
-        queue.contains_stream(3),
-    ];
-    assert_eq!(rt; streams, [true, true, false]);
-    Ok(())
+fn closes_up_later_numbers(rt: HostRuntime) {
+    let mut queue = OutboundQueue::new(rt.alloc());
+    assert!(rt; lapsing(rt.alloc(), &mut queue) && numbers_close_up(&mut queue));
 }
 
-#[test]
-fn starts_no_lifetime_twice(rt: HostRuntime) -> Result<(), Fail> {
-    let mut queue = lapsing(rt.alloc())?;
+fn no_lifetime_starts_twice(queue: &mut OutboundQueue) -> bool {
     queue.expire_pending(MILLISECOND);
     queue.start_timed_messages(7 * MILLISECOND);
     let mut tsn = 10;
-    assert_eq!(rt; send(&mut queue, &mut tsn, 0)?, Some(10));
-    assert_eq!(rt; queue.expire_pending(MILLISECOND), Some((2, false, 1)));
-    assert_eq!(rt; send(&mut queue, &mut tsn, 0)?, None);
-    Ok(())
+    sends(queue, &mut tsn, Some(10))
+        && queue.expire_pending(MILLISECOND) == Some((2, false, 1))
+        && sends(queue, &mut tsn, None)
 }
 
 #[test]
-fn starts_at_the_end_of_time(rt: HostRuntime) -> Result<(), Fail> {
-    for (start, want) in [
-        (u64::MAX - MILLISECOND, Some((1, false, 1))),
-        (u64::MAX, None),
-    ] {
-        let mut queue = OutboundQueue::new(rt.alloc());
-        push(&mut queue, letter(rt.alloc(), 1, 0, false, true)?)?;
-        queue.start_timed_messages(start);
-        assert_eq!(rt; queue.expire_pending(u64::MAX - 1), None);
-        assert_eq!(rt; queue.expire_pending(u64::MAX), want);
-    }
-    Ok(())
-}
-
-#[test]
-fn peeks_in_order(rt: HostRuntime) -> Result<(), Fail> {
-    let mut queue = half_sent(rt.alloc())?;
-    queue.reserve(1, 1)?;
-    push(&mut queue, letter(rt.alloc(), 1, 1, false, false)?)?;
-    push(&mut queue, letter(rt.alloc(), 2, 0, true, false)?)?;
-    for (place, want) in [(0, 0), (1, 0), (2, 2), (3, 1)] {
-        assert!(rt;
-            queue
-                .peek_pending_at(place)
-                .is_some_and(|c| c.message_id == want)
-        );
-    }
-    assert!(rt; queue.peek_pending_at(4).is_none());
-    Ok(())
-}
-
-#[test]
-fn sends_around_the_end(rt: HostRuntime) -> Result<(), Fail> {
+fn starts_no_lifetime_twice(rt: HostRuntime) {
     let mut queue = OutboundQueue::new(rt.alloc());
+    assert!(rt; lapsing(rt.alloc(), &mut queue) && no_lifetime_starts_twice(&mut queue));
+}
+
+// Whether a message whose lifetime begins at this moment expires so at the end of time, and not before.
+fn ends(queue: &mut OutboundQueue, start: u64, want: Option<(u16, bool, usize)>) -> bool {
+    queue.start_timed_messages(start);
+    queue.expire_pending(u64::MAX - 1) == None && queue.expire_pending(u64::MAX) == want
+}
+
+#[test]
+fn starts_at_the_end_of_time(rt: HostRuntime) {
+    let mut queue = OutboundQueue::new(rt.alloc());
+    let well = pushes(&mut queue, letter(rt.alloc(), 1, 0, false, true));
+    assert!(rt; well && ends(&mut queue, u64::MAX - MILLISECOND, Some((1, false, 1))));
+    let mut queue = OutboundQueue::new(rt.alloc());
+    let well = pushes(&mut queue, letter(rt.alloc(), 1, 0, false, true));
+    assert!(rt; well && ends(&mut queue, u64::MAX, None));
+}
+
+// Whether the message that waits at this place has this number.
+fn waits_at(queue: &OutboundQueue, place: usize, want: u64) -> bool {
+    match queue.peek_pending_at(place) {
+        Some(chunk) => chunk.message_id == want,
+        None => false,
+    }
+}
+
+fn peeks(alloc: Global, queue: &mut OutboundQueue) -> bool {
+    queue.reserve(1, 1).is_ok()
+        && pushes(queue, letter(alloc, 1, 1, false, false))
+        && pushes(queue, letter(alloc, 2, 0, true, false))
+        && waits_at(queue, 0, 0)
+        && waits_at(queue, 1, 0)
+        && waits_at(queue, 2, 2)
+        && waits_at(queue, 3, 1)
+        && queue.peek_pending_at(4).is_none()
+}
+
+#[test]
+fn peeks_in_order(rt: HostRuntime) {
+    let alloc = rt.alloc();
+    let mut queue = OutboundQueue::new(alloc);
+    assert!(rt; half_sent(alloc, &mut queue, false) && peeks(alloc, &mut queue));
+}
+
+fn sent_around_the_end(alloc: Global, queue: &mut OutboundQueue) -> bool {
     let mut tsn = 4294967295;
-    queue.reserve_inflight(3)?;
-    push(&mut queue, letters(rt.alloc(), false)?)?;
-    for want in [Some(4294967295), Some(0), Some(1), None] {
-        assert_eq!(rt; send(&mut queue, &mut tsn, 0)?, want);
-    }
-    assert_eq!(rt; (tsn, queue.inflight_len(), queue.pending_len()), (2, 3, 0));
-    Ok(())
+    queue.reserve_inflight(3).is_ok()
+        && pushes(queue, letters(alloc, false))
+        && sends(queue, &mut tsn, Some(4294967295))
+        && sends(queue, &mut tsn, Some(0))
+        && sends(queue, &mut tsn, Some(1))
+        && sends(queue, &mut tsn, None)
+        && tsn == 2
+        && queue.inflight_len() == 3
+        && queue.pending_len() == 0
 }
 
 #[test]
-fn marks_what_is_in_flight(rt: HostRuntime) -> Result<(), Fail> {
-    let mut queue = half_sent(rt.alloc())?;
-    queue.mark_all_to_retransmit();
-    assert!(rt;
-        queue
-            .get(10)
-            .is_some_and(|c| c.nsent == 1 && c.since == Some(0) && c.retransmit)
-    );
-    assert!(rt;
-        queue.set_nsent(10, 2)
-            && queue.set_since(10, None)
-            && queue.set_miss_indicator(10, 1)
-            && queue.set_retransmit(10, false)
-    );
-    assert!(rt;
-        queue.get(10).is_some_and(|c| c.nsent == 2
-            && c.since.is_none()
-            && c.miss_indicator == 1
-            && !c.retransmit)
-    );
-    Ok(())
-}
-
-#[test]
-fn pushes_nothing(rt: HostRuntime) -> Result<(), Fail> {
+fn sends_around_the_end(rt: HostRuntime) {
     let mut queue = OutboundQueue::new(rt.alloc());
-    let none: Vec<ChunkPayloadData> = Vec::new(rt.alloc());
-    push(&mut queue, none)?;
-    assert_eq!(rt; (queue.next_message_id(), queue.pending_len()), (0, 0));
-    Ok(())
+    assert!(rt; sent_around_the_end(rt.alloc(), &mut queue));
+}
+
+// Whether the chunk was sent so often, first at this moment, was reported missing so often, and is to be sent again.
+fn is_marked(
+    chunk: Option<&ChunkPayloadData>,
+    nsent: u32,
+    since: Option<u64>,
+    missing: u8,
+    again: bool,
+) -> bool {
+    match chunk {
+        Some(c) => {
+            c.nsent == nsent
+                && c.since == since
+                && c.miss_indicator == missing
+                && c.retransmit == again
+        }
+        None => false,
+    }
+}
+
+fn marks(queue: &mut OutboundQueue) -> bool {
+    queue.mark_all_to_retransmit();
+    is_marked(queue.get(10), 1, Some(0), 0, true)
+        && queue.set_nsent(10, 2)
+        && queue.set_since(10, None)
+        && queue.set_miss_indicator(10, 1)
+        && queue.set_retransmit(10, false)
+        && is_marked(queue.get(10), 2, None, 1, false)
+}
+
+#[test]
+fn marks_what_is_in_flight(rt: HostRuntime) {
+    let mut queue = OutboundQueue::new(rt.alloc());
+    assert!(rt; half_sent(rt.alloc(), &mut queue, false) && marks(&mut queue));
+}
+
+fn nothing_is_pushed(queue: &mut OutboundQueue, none: Vec<ChunkPayloadData>) -> bool {
+    push(queue, none).is_ok() && queue.next_message_id() == 0 && queue.pending_len() == 0
+}
+
+#[test]
+fn pushes_nothing(rt: HostRuntime) {
+    let mut queue = OutboundQueue::new(rt.alloc());
+    assert!(rt; nothing_is_pushed(&mut queue, Vec::new(rt.alloc())));
 }
 
 // Two ordered fragments with these flags, or an ordered and an unordered one.
@@ -337,9 +390,23 @@ fn two(
     Ok(chunks)
 }
 
-#[test]
-fn takes_one_message_of_one_kind(rt: HostRuntime) -> Result<(), Fail> {
-    let queue = OutboundQueue::new(rt.alloc());
+// Whether two such fragments may be pushed, or may not.
+fn answers(
+    alloc: Global,
+    queue: &OutboundQueue,
+    begin: [bool; 2],
+    end: [bool; 2],
+    mixed: bool,
+    want: bool,
+) -> bool {
+    match two(alloc, begin, end, mixed) {
+        Ok(chunks) => queue.can_push(&chunks) == want,
+        Err(_) => false,
+    }
+}
+
+fn takes_one_message(alloc: Global, queue: &OutboundQueue) -> bool {
+    let mut well = true;
     for (begin, end, mixed, want) in [
         ([true, false], [false, true], false, true),
         ([true, false], [false, true], true, false),
@@ -348,16 +415,19 @@ fn takes_one_message_of_one_kind(rt: HostRuntime) -> Result<(), Fail> {
         ([true, false], [false, false], false, false),
         ([false, false], [false, true], false, false),
     ] {
-        let chunks = two(rt.alloc(), begin, end, mixed)?;
-        assert_eq!(rt; queue.can_push(&chunks), want);
+        well = well && answers(alloc, queue, begin, end, mixed, want);
     }
-    Ok(())
+    well
 }
 
-// 2147483657 lies less than half a circle after 10, and 2147483659 less than half a circle before it.
 #[test]
-fn tells_what_may_be_sent(rt: HostRuntime) -> Result<(), Fail> {
-    let queue = half_sent(rt.alloc())?;
+fn takes_one_message_of_one_kind(rt: HostRuntime) {
+    let queue = OutboundQueue::new(rt.alloc());
+    assert!(rt; takes_one_message(rt.alloc(), &queue));
+}
+
+fn sendable_are_told(queue: &OutboundQueue) -> bool {
+    let mut well = true;
     for (tsn, want) in [
         (9, true),
         (10, false),
@@ -366,7 +436,14 @@ fn tells_what_may_be_sent(rt: HostRuntime) -> Result<(), Fail> {
         (2147483658, false),
         (2147483659, true),
     ] {
-        assert_eq!(rt; queue.can_send(tsn), want);
+        well = well && queue.can_send(tsn) == want;
     }
-    Ok(())
+    well
+}
+
+// 2147483657 lies less than half a circle after 10, and 2147483659 less than half a circle before it.
+#[test]
+fn tells_what_may_be_sent(rt: HostRuntime) {
+    let mut queue = OutboundQueue::new(rt.alloc());
+    assert!(rt; half_sent(rt.alloc(), &mut queue, false) && sendable_are_told(&queue));
 }

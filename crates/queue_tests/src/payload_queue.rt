@@ -5,21 +5,34 @@ use sctp_base::error::Error;
 use sctp_queues::payload_queue::PayloadQueue;
 use sctp_queues::turns::Turns;
 use std::alloc::Global;
-use std::test::Fail;
 
-// The answers of the pushes are left out: a queue in which they came.
-fn filled(alloc: Global, cumulative_tsn: u32, tsns: &[u32]) -> Result<PayloadQueue, Error> {
-    let mut queue = PayloadQueue::new(alloc);
+// Whether these are pushed, where that is allowed; what the pushes answer is left out.
+fn fills(queue: &mut PayloadQueue, cumulative_tsn: u32, tsns: &[u32]) -> bool {
+    let mut well = true;
     for tsn in tsns {
         if queue.fits(cumulative_tsn, *tsn) && queue.get_num_bytes() < 1000 {
-            queue.push(chunk(*tsn), cumulative_tsn)?;
+            well = queue.push(chunk(*tsn), cumulative_tsn).is_ok() && well;
         }
     }
-    Ok(queue)
+    well
 }
 
-#[test]
-fn reports_blocks(rt: HostRuntime) -> Result<(), Fail> {
+// Whether the gap blocks print so.
+fn reports(alloc: Global, queue: &PayloadQueue, cumulative_tsn: u32, want: &str) -> bool {
+    match queue.get_gap_ack_blocks_string(alloc, cumulative_tsn) {
+        Ok(text) => text.as_str() == want,
+        Err(_) => false,
+    }
+}
+
+// Whether a queue of these reports so.
+fn filled_reports(alloc: Global, cumulative_tsn: u32, tsns: [u32; 3], want: &str) -> bool {
+    let mut queue = PayloadQueue::new(alloc);
+    fills(&mut queue, cumulative_tsn, &tsns) && reports(alloc, &queue, cumulative_tsn, want)
+}
+
+fn each_reports(alloc: Global) -> bool {
+    let mut well = true;
     for (cumulative_tsn, tsns, want) in [
         (10, [12, 13, 15], "cumTSN=10,2-3,5-5"),
         (10, [15, 12, 13], "cumTSN=10,2-3,5-5"),
@@ -29,23 +42,29 @@ fn reports_blocks(rt: HostRuntime) -> Result<(), Fail> {
         (4294967293, [4294967295, 0, 1], "cumTSN=4294967293,2-4"),
         (10, [11, 13, 15], "cumTSN=10,1-1,3-3,5-5"),
     ] {
-        let queue = filled(rt.alloc(), cumulative_tsn, &tsns)?;
-        let text = queue.get_gap_ack_blocks_string(rt.alloc(), cumulative_tsn)?;
-        assert_eq!(rt; text.as_str(), want);
+        well = well && filled_reports(alloc, cumulative_tsn, tsns, want);
     }
-    let blocks = filled(rt.alloc(), 10, &[12, 13, 15])?.get_gap_ack_blocks(rt.alloc(), 10)?;
-    assert_eq!(rt; blocks.len(), 2);
-    assert!(rt; blocks.first().is_some_and(|b| b.start == 2 && b.end == 3));
-    Ok(())
+    well
+}
+
+fn has_two_blocks(alloc: Global, queue: &PayloadQueue) -> bool {
+    match queue.get_gap_ack_blocks(alloc, 10) {
+        Ok(blocks) => {
+            blocks.len() == 2 && blocks.first().is_some_and(|b| b.start == 2 && b.end == 3)
+        }
+        Err(_) => false,
+    }
 }
 
 #[test]
-fn reports_runs_from_any_tsn(rt: HostRuntime) -> Result<(), Fail> {
-    let queue = filled(
-        rt.alloc(),
-        10,
-        &[12, 13, 14, 15, 16, 17, 18, 19, 20, 22, 23, 24, 25, 26, 28],
-    )?;
+fn reports_blocks(rt: HostRuntime) {
+    assert!(rt; each_reports(rt.alloc()));
+    let mut queue = PayloadQueue::new(rt.alloc());
+    assert!(rt; fills(&mut queue, 10, &[12, 13, 15]) && has_two_blocks(rt.alloc(), &queue));
+}
+
+fn reports_runs(alloc: Global, queue: &PayloadQueue) -> bool {
+    let mut well = true;
     for (cumulative_tsn, want) in [
         (10, "cumTSN=10,2-10,12-16,18-18"),
         (15, "cumTSN=15,1-5,7-11,13-13"),
@@ -55,46 +74,72 @@ fn reports_runs_from_any_tsn(rt: HostRuntime) -> Result<(), Fail> {
         (2147483670, "cumTSN=2147483670"),
         (4294901778, "cumTSN=4294901778,65530-65535"),
     ] {
-        let text = queue.get_gap_ack_blocks_string(rt.alloc(), cumulative_tsn)?;
-        assert_eq!(rt; text.as_str(), want);
+        well = well && reports(alloc, queue, cumulative_tsn, want);
     }
-    Ok(())
+    well
+}
+
+fn fills_runs(queue: &mut PayloadQueue) -> bool {
+    let tsns = [12, 13, 14, 15, 16, 17, 18, 19, 20, 22, 23, 24, 25, 26, 28];
+    fills(queue, 10, &tsns)
 }
 
 #[test]
-fn pops_half_a_circle(rt: HostRuntime) -> Result<(), Fail> {
-    let mut queue = filled(rt.alloc(), 10, &[12, 13, 2147483658])?;
+fn reports_runs_from_any_tsn(rt: HostRuntime) {
+    let mut queue = PayloadQueue::new(rt.alloc());
+    assert!(rt; fills_runs(&mut queue) && reports_runs(rt.alloc(), &queue));
+}
+
+// Whether this TSN alone is held.
+fn holds_alone(queue: &PayloadQueue, tsn: u32) -> bool {
+    queue.len() == 1 && queue.tsn_at(0) == Some(tsn)
+}
+
+fn pops_up_to(queue: &mut PayloadQueue) -> bool {
+    let well = fills(queue, 10, &[12, 13, 2147483658]);
     queue.pop_up_to(2147483657);
-    assert_eq!(rt; (queue.len(), queue.tsn_at(0)), (1, Some(2147483658)));
-    let mut queue = filled(rt.alloc(), 0, &[1, 2147483648])?;
+    well && holds_alone(queue, 2147483658)
+}
+
+fn pops_counted(queue: &mut PayloadQueue) -> bool {
+    let well = fills(queue, 0, &[1, 2147483648]);
     queue.pop_up_to_counted(2147483649, &mut Turns::new());
-    assert_eq!(rt; (queue.len(), queue.tsn_at(0)), (1, Some(1)));
-    Ok(())
+    well && holds_alone(queue, 1)
 }
 
 #[test]
-fn notes_duplicates(rt: HostRuntime) -> Result<(), Fail> {
-    let mut queue = filled(rt.alloc(), 10, &[12, 13])?;
-    let mut answers = [(true, true); 3];
-    for (place, tsn) in [12, 10, 14].iter().enumerate() {
-        let may = queue.can_push(&chunk(*tsn), 10);
-        answers[place] = (may, push_any(&mut queue, *tsn)?);
-    }
-    assert_eq!(rt; answers, [(false, false), (false, false), (true, true)]);
-    assert_eq!(rt; queue.duplicates(), [12, 10].as_slice());
-    assert_eq!(rt;
-        queue.pop_duplicates(rt.alloc()).as_slice(),
-        [12, 10].as_slice()
-    );
-    assert_eq!(rt;
-        (
-            queue.duplicates().len(),
-            queue.get_last_tsn_received(),
-            queue.get_num_bytes()
-        ),
-        (0, Some(14), 3)
-    );
-    Ok(())
+fn pops_half_a_circle(rt: HostRuntime) {
+    let mut queue = PayloadQueue::new(rt.alloc());
+    assert!(rt; pops_up_to(&mut queue));
+    let mut queue = PayloadQueue::new(rt.alloc());
+    assert!(rt; pops_counted(&mut queue));
+}
+
+// Whether this TSN may be pushed, and is, or neither.
+fn is_pushed(queue: &mut PayloadQueue, tsn: u32, want: bool) -> bool {
+    queue.can_push(&chunk(tsn), 10) == want && push_any(queue, tsn) == Ok(want)
+}
+
+fn duplicates_are_given(alloc: Global, queue: &mut PayloadQueue) -> bool {
+    queue.duplicates() == [12, 10].as_slice()
+        && queue.pop_duplicates(alloc).as_slice() == [12, 10].as_slice()
+        && queue.duplicates().len() == 0
+}
+
+fn duplicates_are_noted(alloc: Global, queue: &mut PayloadQueue) -> bool {
+    fills(queue, 10, &[12, 13])
+        && is_pushed(queue, 12, false)
+        && is_pushed(queue, 10, false)
+        && is_pushed(queue, 14, true)
+        && duplicates_are_given(alloc, queue)
+        && queue.get_last_tsn_received() == Some(14)
+        && queue.get_num_bytes() == 3
+}
+
+#[test]
+fn notes_duplicates(rt: HostRuntime) {
+    let mut queue = PayloadQueue::new(rt.alloc());
+    assert!(rt; duplicates_are_noted(rt.alloc(), &mut queue));
 }
 
 // Pushes where that is allowed; a TSN at or before the cumulative one is.
@@ -116,78 +161,100 @@ fn marks(queue: &PayloadQueue, tsn: u32) -> Option<(bool, u32, Option<u64>, u8)>
     ))
 }
 
-#[test]
-fn marks_a_chunk(rt: HostRuntime) -> Result<(), Fail> {
-    let mut queue = filled(rt.alloc(), 10, &[11])?;
-    let set = [
-        queue.set_retransmit(11, true),
-        queue.set_nsent(11, 3),
-        queue.set_since(11, Some(9)),
-        queue.set_miss_indicator(11, 2),
-        queue.set_retransmit(14, true),
-    ];
-    assert_eq!(rt; set, [true, true, true, true, false]);
-    assert_eq!(rt; marks(&queue, 11), Some((true, 3, Some(9), 2)));
-    assert_eq!(rt; marks(&queue, 14), None);
-    Ok(())
+fn is_marked(queue: &mut PayloadQueue) -> bool {
+    fills(queue, 10, &[11])
+        && queue.set_retransmit(11, true)
+        && queue.set_nsent(11, 3)
+        && queue.set_since(11, Some(9))
+        && queue.set_miss_indicator(11, 2)
+        && !queue.set_retransmit(14, true)
+        && marks(queue, 11) == Some((true, 3, Some(9), 2))
+        && marks(queue, 14).is_none()
 }
 
 #[test]
-fn acknowledges_once(rt: HostRuntime) -> Result<(), Fail> {
-    let mut queue = filled(rt.alloc(), 10, &[13, 11, 12])?;
-    let given = [
-        queue.mark_as_acked(12),
-        queue.mark_as_acked(12),
-        queue.get_num_bytes(),
-    ];
-    assert_eq!(rt; given, [1, 0, 2]);
-    queue.mark_all_to_retransmit();
-    assert_eq!(rt;
-        (marks(&queue, 13), marks(&queue, 12)),
-        (Some((true, 0, None, 0)), Some((false, 0, None, 0)))
-    );
-    assert_eq!(rt; (queue.abandon_message(0), queue.get_num_bytes()), (2, 0));
-    Ok(())
-}
-
-#[test]
-fn takes_out(rt: HostRuntime) -> Result<(), Fail> {
-    let mut queue = filled(rt.alloc(), 10, &[13, 11, 12])?;
-    let copy = queue.try_clone(rt.alloc())?;
-    let taken = [
-        queue.take(13).is_some(),
-        queue.take(13).is_some(),
-        queue.pop(12).is_some(),
-        queue.pop(11).is_some(),
-    ];
-    assert_eq!(rt; taken, [true, false, false, true]);
-    let left = [
-        queue.contains_stream(1),
-        queue.contains_stream(2),
-        queue.is_empty(),
-    ];
-    assert_eq!(rt; left, [true, false, false]);
-    assert_eq!(rt; (queue.len(), copy.len(), copy.get_num_bytes()), (1, 3, 3));
-    Ok(())
-}
-
-#[test]
-fn pushes_within_room(rt: HostRuntime) -> Result<(), Fail> {
+fn marks_a_chunk(rt: HostRuntime) {
     let mut queue = PayloadQueue::new(rt.alloc());
-    queue.reserve(2)?;
-    for tsn in [11, 12] {
-        if queue.can_push_no_check(tsn) && queue.get_num_bytes() < 1000 {
-            queue.push_no_check(chunk(tsn))?;
-        }
+    assert!(rt; is_marked(&mut queue));
+}
+
+fn is_acknowledged(queue: &mut PayloadQueue) -> bool {
+    fills(queue, 10, &[13, 11, 12])
+        && queue.mark_as_acked(12) == 1
+        && queue.mark_as_acked(12) == 0
+        && queue.get_num_bytes() == 2
+}
+
+fn others_are_marked(queue: &mut PayloadQueue) -> bool {
+    queue.mark_all_to_retransmit();
+    marks(queue, 13) == Some((true, 0, None, 0))
+        && marks(queue, 12) == Some((false, 0, None, 0))
+        && queue.abandon_message(0) == 2
+        && queue.get_num_bytes() == 0
+}
+
+#[test]
+fn acknowledges_once(rt: HostRuntime) {
+    let mut queue = PayloadQueue::new(rt.alloc());
+    assert!(rt; is_acknowledged(&mut queue) && others_are_marked(&mut queue));
+}
+
+fn takes(queue: &mut PayloadQueue, tsn: u32) -> bool {
+    queue.take(tsn).is_some()
+}
+
+fn pops(queue: &mut PayloadQueue, tsn: u32) -> bool {
+    queue.pop(tsn).is_some()
+}
+
+fn two_are_taken(queue: &mut PayloadQueue) -> bool {
+    takes(queue, 13)
+        && !takes(queue, 13)
+        && !pops(queue, 12)
+        && pops(queue, 11)
+        && queue.contains_stream(1)
+        && !queue.contains_stream(2)
+        && !queue.is_empty()
+        && queue.len() == 1
+}
+
+fn copy_stays(alloc: Global, queue: &mut PayloadQueue) -> bool {
+    match queue.try_clone(alloc) {
+        Ok(copy) => two_are_taken(queue) && copy.len() == 3 && copy.get_num_bytes() == 3,
+        Err(_) => false,
     }
-    assert_eq!(rt; (queue.len(), queue.tsn_at(1)), (2, Some(12)));
-    Ok(())
+}
+
+#[test]
+fn takes_out(rt: HostRuntime) {
+    let mut queue = PayloadQueue::new(rt.alloc());
+    assert!(rt; fills(&mut queue, 10, &[13, 11, 12]) && copy_stays(rt.alloc(), &mut queue));
+}
+
+fn push_no_check(queue: &mut PayloadQueue, tsn: u32) -> bool {
+    if queue.can_push_no_check(tsn) && queue.get_num_bytes() < 1000 {
+        return queue.push_no_check(chunk(tsn)).is_ok();
+    }
+    true
+}
+
+fn two_have_room(queue: &mut PayloadQueue) -> bool {
+    queue.reserve(2).is_ok()
+        && push_no_check(queue, 11)
+        && push_no_check(queue, 12)
+        && queue.len() == 2
+        && queue.tsn_at(1) == Some(12)
+}
+
+#[test]
+fn pushes_within_room(rt: HostRuntime) {
+    let mut queue = PayloadQueue::new(rt.alloc());
+    assert!(rt; two_have_room(&mut queue));
 }
 
 // 2147483658 lies half a circle after 10. What is held, and what is at or before the cumulative TSN, is noted whatever else is held.
-#[test]
-fn tells_what_fits(rt: HostRuntime) -> Result<(), Fail> {
-    let queue = filled(rt.alloc(), 10, &[12, 13])?;
+fn fitting_are_told(queue: &PayloadQueue) -> bool {
+    let mut well = true;
     for (cumulative_tsn, tsn, want) in [
         (10, 14, true),
         (10, 12, true),
@@ -199,15 +266,20 @@ fn tells_what_fits(rt: HostRuntime) -> Result<(), Fail> {
         (2147483660, 2147483662, false),
         (2147483661, 2147483662, true),
     ] {
-        assert_eq!(rt; queue.fits(cumulative_tsn, tsn), want);
+        well = well && queue.fits(cumulative_tsn, tsn) == want;
     }
-    Ok(())
+    well
+}
+
+#[test]
+fn tells_what_fits(rt: HostRuntime) {
+    let mut queue = PayloadQueue::new(rt.alloc());
+    assert!(rt; fills(&mut queue, 10, &[12, 13]) && fitting_are_told(&queue));
 }
 
 // The numbers from 12 on that are less than half a circle away end at 2147483659; those before 13 begin at 2147483662.
-#[test]
-fn tells_what_may_stand_beside_the_rest(rt: HostRuntime) -> Result<(), Fail> {
-    let queue = filled(rt.alloc(), 10, &[12, 13])?;
+fn standing_are_told(queue: &PayloadQueue) -> bool {
+    let mut well = true;
     for (tsn, want) in [
         (11, true),
         (12, false),
@@ -218,7 +290,13 @@ fn tells_what_may_stand_beside_the_rest(rt: HostRuntime) -> Result<(), Fail> {
         (2147483661, false),
         (2147483662, true),
     ] {
-        assert_eq!(rt; queue.can_push_no_check(tsn), want);
+        well = well && queue.can_push_no_check(tsn) == want;
     }
-    Ok(())
+    well
+}
+
+#[test]
+fn tells_what_may_stand_beside_the_rest(rt: HostRuntime) {
+    let mut queue = PayloadQueue::new(rt.alloc());
+    assert!(rt; fills(&mut queue, 10, &[12, 13]) && standing_are_told(&queue));
 }

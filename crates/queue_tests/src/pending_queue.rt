@@ -6,7 +6,6 @@ use crate::chunk::chunk;
 use sctp_base::error::Error;
 use sctp_chunks::chunk::chunk_payload_data::ChunkPayloadData;
 use sctp_queues::pending_queue::PendingQueue;
-use std::test::Fail;
 
 // A chunk of one byte that begins a message.
 fn beginning(message_id: u64, unordered: bool, ending_fragment: bool) -> ChunkPayloadData
@@ -28,44 +27,79 @@ fn push(queue: &mut PendingQueue, chunk: ChunkPayloadData) -> Result<(), Error>
     Ok(())
 }
 
-#[test]
-fn unordered_goes_first(rt: HostRuntime) -> Result<(), Fail> {
-    let mut queue = PendingQueue::new(rt.alloc());
-    queue.reserve(1, 1)?;
-    push(&mut queue, beginning(0, false, true))?;
-    push(&mut queue, beginning(1, true, true))?;
-    assert!(rt; queue.peek().is_some_and(|c| c.message_id == 1));
-    assert!(rt; queue.pop(false, true).is_none());
-    assert!(rt; queue.pop(true, false).is_some_and(|c| c.message_id == 0));
-    assert!(rt;
-        queue.contains_message(1) && !queue.contains_message(0) && queue.contains_stream(1)
-    );
-    assert_eq!(rt;
-        (queue.len(), queue.get_num_bytes(), queue.is_empty()),
-        (1, 1, false)
-    );
-    Ok(())
+// Whether the chunk is of this message.
+fn is_of(chunk: Option<&ChunkPayloadData>, want: u64) -> bool {
+    match chunk {
+        Some(chunk) => chunk.message_id == want,
+        None => false,
+    }
+}
+
+// Whether the chunk that is popped is of this message, or there is none.
+fn pops(queue: &mut PendingQueue, begins: bool, unordered: bool, want: Option<u64>) -> bool {
+    match queue.pop(begins, unordered) {
+        Some(chunk) => want == Some(chunk.message_id),
+        None => want.is_none(),
+    }
+}
+
+fn unordered_is_first(queue: &mut PendingQueue) -> bool {
+    queue.reserve(1, 1).is_ok()
+        && push(queue, beginning(0, false, true)).is_ok()
+        && push(queue, beginning(1, true, true)).is_ok()
+        && is_of(queue.peek(), 1)
+}
+
+fn ordered_is_popped(queue: &mut PendingQueue) -> bool {
+    pops(queue, false, true, None)
+        && pops(queue, true, false, Some(0))
+        && queue.contains_message(1)
+        && !queue.contains_message(0)
+        && queue.contains_stream(1)
+        && queue.len() == 1
+        && queue.get_num_bytes() == 1
+        && !queue.is_empty()
 }
 
 #[test]
-fn a_message_with_no_end_stays_half_sent(rt: HostRuntime) -> Result<(), Fail> {
+fn unordered_goes_first(rt: HostRuntime) {
     let mut queue = PendingQueue::new(rt.alloc());
-    push(&mut queue, beginning(0, false, false))?;
-    assert!(rt; queue.pop(true, false).is_some());
-    push(&mut queue, beginning(1, false, true))?;
-    push(&mut queue, beginning(2, true, true))?;
-    let (bytes, last) = queue.remove_message(1);
-    assert!(rt; bytes == 1 && last.is_some_and(|c| c.message_id == 1));
-    assert!(rt; queue.peek().is_none());
-    let (bytes, last) = queue.remove_message(0);
-    assert!(rt; bytes == 0 && last.is_none());
-    assert!(rt; queue.peek().is_some_and(|c| c.message_id == 2));
+    assert!(rt; unordered_is_first(&mut queue) && ordered_is_popped(&mut queue));
+}
+
+// Whether so many bytes of this message are removed, and the last chunk of them is of this one.
+fn removes(queue: &mut PendingQueue, message: u64, bytes: usize, last: Option<u64>) -> bool {
+    let (removed, chunk) = queue.remove_message(message);
+    match chunk {
+        Some(chunk) => removed == bytes && last == Some(chunk.message_id),
+        None => removed == bytes && last.is_none(),
+    }
+}
+
+fn half_is_sent(queue: &mut PendingQueue) -> bool {
+    push(queue, beginning(0, false, false)).is_ok()
+        && pops(queue, true, false, Some(0))
+        && push(queue, beginning(1, false, true)).is_ok()
+        && push(queue, beginning(2, true, true)).is_ok()
+        && removes(queue, 1, 1, Some(1))
+        && queue.peek().is_none()
+        && removes(queue, 0, 0, None)
+        && is_of(queue.peek(), 2)
+}
+
+// Whether the next chunk has no moment at which it expires, and the stream sequence number 0.
+fn next_is_unchanged(queue: &PendingQueue) -> bool {
+    match queue.peek() {
+        Some(chunk) => chunk.deadline.is_none() && chunk.stream_sequence_number == 0,
+        None => false,
+    }
+}
+
+#[test]
+fn a_message_with_no_end_stays_half_sent(rt: HostRuntime) {
+    let mut queue = PendingQueue::new(rt.alloc());
+    let well = half_is_sent(&mut queue);
     queue.start_timed_messages(0, 5);
     queue.compact_ordered_ssns(1);
-    assert!(rt;
-        queue
-            .peek()
-            .is_some_and(|c| c.deadline.is_none() && c.stream_sequence_number == 0)
-    );
-    Ok(())
+    assert!(rt; well && next_is_unchanged(&queue));
 }

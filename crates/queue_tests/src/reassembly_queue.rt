@@ -2,62 +2,108 @@
 
 use crate::part::{FIRST, LAST, MIDDLE, Part, WHOLE, chunk, ordered, unordered};
 use sctp_base::error::Error;
+use sctp_queues::chunks::Chunks;
 use sctp_queues::reassembly_queue::ReassemblyQueue;
 use std::alloc::Global;
-use std::process::Abort;
-use std::test::Fail;
 
-// The next message has these bytes.
-fn reads(rt: &impl Abort, queue: &mut ReassemblyQueue, bytes: &[u8]) {
+// Whether the message has these bytes.
+fn has_bytes(message: &Chunks, bytes: &[u8]) -> bool {
     let mut buffer = [0; 8];
+    message.read(&mut buffer) == Ok(bytes.len()) && buffer.get(..bytes.len()) == Some(bytes)
+}
+
+// Whether the next message has these bytes.
+fn reads(queue: &mut ReassemblyQueue, bytes: &[u8]) -> bool {
     match queue.read() {
-        Some(message) => {
-            assert_eq!(rt; message.read(&mut buffer), Ok(bytes.len()));
-            assert_eq!(rt; buffer.get(..bytes.len()), Some(bytes));
-        }
-        None => assert!(rt; false),
+        Some(message) => has_bytes(&message, bytes),
+        None => false,
     }
 }
 
-// The loose fragments have these TSNs.
-fn loose_are(rt: &impl Abort, queue: &ReassemblyQueue, tsns: &[u32]) {
+// Whether the loose fragments have these TSNs.
+fn loose_are(queue: &ReassemblyQueue, tsns: &[u32]) -> bool {
     let loose = queue.unordered_chunks();
-    assert_eq!(rt; loose.len(), tsns.len());
+    let mut well = loose.len() == tsns.len();
     for (fragment, tsn) in loose.iter().zip(tsns.iter()) {
-        assert_eq!(rt; fragment.chunk().tsn, *tsn);
+        well = well && fragment.chunk().tsn == *tsn;
+    }
+    well
+}
+
+// What comes, and whether a message is whole with it.
+type Arrival = (u32, (bool, bool), bool);
+
+// Whether an unordered fragment makes a message whole, or does not.
+fn comes(alloc: Global, queue: &mut ReassemblyQueue, arrival: Arrival) -> bool {
+    let (tsn, flags, whole) = arrival;
+    match unordered(alloc, tsn, flags, b"x") {
+        Ok(fragment) => queue.push(fragment) == Ok(whole),
+        Err(_) => false,
+    }
+}
+
+fn come(alloc: Global, queue: &mut ReassemblyQueue, arrivals: &[Arrival]) -> bool {
+    let mut well = true;
+    for arrival in arrivals {
+        well = well && comes(alloc, queue, *arrival);
+    }
+    well
+}
+
+fn five_middles(alloc: Global, queue: &mut ReassemblyQueue) -> bool {
+    let arrivals = [
+        (5, MIDDLE, false),
+        (2147483653, MIDDLE, false),
+        (6, MIDDLE, false),
+        (4, MIDDLE, false),
+        (2147483654, MIDDLE, false),
+    ];
+    come(alloc, queue, &arrivals) && loose_are(queue, &[2147483654, 4, 5, 6, 2147483653])
+}
+
+fn skips_by_half_a_circle(queue: &mut ReassemblyQueue) -> bool {
+    queue.forward_tsn_for_unordered(6);
+    let five = queue.get_num_bytes() == 5;
+    queue.forward_tsn_for_unordered(5);
+    five && loose_are(queue, &[6, 2147483653]) && queue.get_num_bytes() == 2
+}
+
+fn copy_stays(alloc: Global, queue: &mut ReassemblyQueue) -> bool {
+    match queue.try_clone(alloc) {
+        Ok(copy) => {
+            skips_by_half_a_circle(queue) && loose_are(&copy, &[2147483654, 4, 5, 6, 2147483653])
+        }
+        Err(_) => false,
     }
 }
 
 #[test]
-fn half_a_circle_away_is_not_before(rt: HostRuntime) -> Result<(), Fail> {
+fn half_a_circle_away_is_not_before(rt: HostRuntime) {
     let alloc = rt.alloc();
     let mut queue = ReassemblyQueue::new(alloc, 1, 100);
-    for tsn in [5, 2147483653, 6, 4, 2147483654] {
-        assert!(rt; !queue.push(unordered(alloc, tsn, MIDDLE, b"x")?)?);
-    }
-    loose_are(&rt, &queue, &[2147483654, 4, 5, 6, 2147483653]);
-    let copy = queue.try_clone(alloc)?;
-    queue.forward_tsn_for_unordered(6);
-    assert_eq!(rt; queue.get_num_bytes(), 5);
-    queue.forward_tsn_for_unordered(5);
-    loose_are(&rt, &queue, &[6, 2147483653]);
-    assert_eq!(rt; queue.get_num_bytes(), 2);
-    loose_are(&rt, &copy, &[2147483654, 4, 5, 6, 2147483653]);
-    Ok(())
+    assert!(rt; five_middles(alloc, &mut queue) && copy_stays(alloc, &mut queue));
 }
 
-// A queue with these parts, and whether each was refused as too long.
-fn filled(alloc: Global, max: u32, parts: &[Part]) -> Result<(ReassemblyQueue, bool), Error> {
-    let mut queue = ReassemblyQueue::new(alloc, 1, max);
+// Whether the part is refused as too long.
+fn is_refused(alloc: Global, queue: &mut ReassemblyQueue, part: &Part) -> Result<bool, Error> {
+    match queue.push(chunk(alloc, part)?) {
+        Ok(_) => Ok(false),
+        Err(Error::ErrInboundPacketTooLarge) => Ok(true),
+        Err(e) => Err(e),
+    }
+}
+
+// Whether one of these parts is refused as too long, or none is.
+fn fills(alloc: Global, queue: &mut ReassemblyQueue, parts: &[Part], want: bool) -> bool {
+    let mut well = true;
     let mut refused = false;
     for part in parts {
-        match queue.push(chunk(alloc, part)?) {
-            Ok(_) => {}
-            Err(Error::ErrInboundPacketTooLarge) => refused = true,
-            Err(e) => return Err(e),
+        match is_refused(alloc, queue, part) {
+            Ok(more) => refused = refused || more,
+            Err(_) => well = false,
         }
     }
-    Ok((queue, refused))
+    well && refused == want
 }
 
 fn fragment(tsn: u32, unordered: bool, flags: (bool, bool), bytes: &[u8]) -> Part {
@@ -71,135 +117,162 @@ fn fragment(tsn: u32, unordered: bool, flags: (bool, bool), bytes: &[u8]) -> Par
     }
 }
 
-#[test]
-fn repeats_are_counted_where_they_are_kept(rt: HostRuntime) -> Result<(), Fail> {
-    for (unordered, want) in [(false, 3), (true, 6)] {
-        let parts = [
-            fragment(10, unordered, FIRST, b"aaa"),
-            fragment(10, unordered, FIRST, b"aaa"),
-        ];
-        let (mut queue, _refused) = filled(rt.alloc(), 100, &parts)?;
-        assert_eq!(rt; queue.get_num_bytes(), want);
-        queue.subtract_num_bytes(7);
-        assert_eq!(rt; queue.get_num_bytes(), 0);
-    }
-    Ok(())
+fn repeats_count(alloc: Global, queue: &mut ReassemblyQueue, unordered: bool, want: usize) -> bool {
+    let parts = [
+        fragment(10, unordered, FIRST, b"aaa"),
+        fragment(10, unordered, FIRST, b"aaa"),
+    ];
+    let well = fills(alloc, queue, &parts, false) && queue.get_num_bytes() == want;
+    queue.subtract_num_bytes(7);
+    well && queue.get_num_bytes() == 0
 }
 
 #[test]
-fn a_message_past_the_maximum_is_refused(rt: HostRuntime) -> Result<(), Fail> {
+fn repeats_are_counted_where_they_are_kept(rt: HostRuntime) {
+    let alloc = rt.alloc();
+    let mut queue = ReassemblyQueue::new(alloc, 1, 100);
+    assert!(rt; repeats_count(alloc, &mut queue, false, 3));
+    let mut queue = ReassemblyQueue::new(alloc, 1, 100);
+    assert!(rt; repeats_count(alloc, &mut queue, true, 6));
+}
+
+fn ordered_is_refused(alloc: Global, queue: &mut ReassemblyQueue) -> bool {
     let parts = [
         fragment(10, false, FIRST, b"aaa"),
         fragment(11, false, MIDDLE, b"bbb"),
     ];
-    let (queue, refused) = filled(rt.alloc(), 5, &parts)?;
-    assert_eq!(rt;
-        (refused, queue.get_num_bytes(), queue.max_message_size()),
-        (true, 3, 5)
-    );
+    fills(alloc, queue, &parts, true) && queue.get_num_bytes() == 3 && queue.max_message_size() == 5
+}
+
+fn unordered_is_refused(alloc: Global, queue: &mut ReassemblyQueue) -> bool {
     let parts = [
         fragment(10, true, FIRST, b"aaa"),
         fragment(12, true, LAST, b"bb"),
         fragment(11, true, MIDDLE, b"c"),
     ];
-    let (queue, refused) = filled(rt.alloc(), 5, &parts)?;
-    assert_eq!(rt; (refused, queue.get_num_bytes()), (true, 5));
-    Ok(())
+    fills(alloc, queue, &parts, true) && queue.get_num_bytes() == 5
 }
 
 #[test]
-fn a_set_half_a_circle_ahead_waits(rt: HostRuntime) -> Result<(), Fail> {
+fn a_message_past_the_maximum_is_refused(rt: HostRuntime) {
+    let alloc = rt.alloc();
+    let mut queue = ReassemblyQueue::new(alloc, 1, 5);
+    assert!(rt; ordered_is_refused(alloc, &mut queue));
+    let mut queue = ReassemblyQueue::new(alloc, 1, 5);
+    assert!(rt; unordered_is_refused(alloc, &mut queue));
+}
+
+// Whether an ordered fragment makes a message whole, or does not.
+fn takes(
+    alloc: Global,
+    queue: &mut ReassemblyQueue,
+    numbers: (u32, u16),
+    arrival: ((bool, bool), &[u8], bool),
+) -> bool {
+    let (flags, bytes, whole) = arrival;
+    match ordered(alloc, numbers.0, numbers.1, flags, bytes) {
+        Ok(fragment) => queue.push(fragment) == Ok(whole),
+        Err(_) => false,
+    }
+}
+
+fn waits(alloc: Global, queue: &mut ReassemblyQueue) -> bool {
+    takes(alloc, queue, (10, 32768), (WHOLE, b"a", true))
+        && !queue.is_readable()
+        && queue.read().is_none()
+}
+
+// Whether the next number after a skip up to this one is that one.
+fn goes_on_at(queue: &mut ReassemblyQueue, skipped: u16, want: u16) -> bool {
+    queue.forward_tsn_for_ordered(skipped);
+    queue.next_ssn() == want
+}
+
+fn is_skipped_to(queue: &mut ReassemblyQueue) -> bool {
+    goes_on_at(queue, 32768, 0)
+        && goes_on_at(queue, 32767, 32768)
+        && queue.is_readable()
+        && reads(queue, b"a")
+        && queue.next_ssn() == 32769
+        && queue.get_num_bytes() == 0
+}
+
+#[test]
+fn a_set_half_a_circle_ahead_waits(rt: HostRuntime) {
     let alloc = rt.alloc();
     let mut queue = ReassemblyQueue::new(alloc, 1, 100);
-    assert!(rt; queue.push(ordered(alloc, 10, 32768, WHOLE, b"a")?)?);
-    assert!(rt; !queue.is_readable());
-    assert!(rt; queue.read().is_none());
-    queue.forward_tsn_for_ordered(32768);
-    assert_eq!(rt; queue.next_ssn(), 0);
-    queue.forward_tsn_for_ordered(32767);
-    assert_eq!(rt; queue.next_ssn(), 32768);
-    assert!(rt; queue.is_readable());
-    reads(&rt, &mut queue, b"a");
-    assert_eq!(rt; queue.next_ssn(), 32769);
-    assert_eq!(rt; queue.get_num_bytes(), 0);
-    Ok(())
+    assert!(rt; waits(alloc, &mut queue) && is_skipped_to(&mut queue));
 }
 
 // SSN 0 begun with TSN 10, SSN 1 whole with TSN 12.
-fn gapped(alloc: Global) -> Result<ReassemblyQueue, Error> {
-    let mut queue = ReassemblyQueue::new(alloc, 1, 100);
-    let _begun = queue.push(ordered(alloc, 10, 0, FIRST, b"a")?)?;
-    let _whole = queue.push(ordered(alloc, 12, 1, WHOLE, b"bc")?)?;
-    Ok(queue)
+fn gapped(alloc: Global, queue: &mut ReassemblyQueue) -> bool {
+    takes(alloc, queue, (10, 0), (FIRST, b"a", false))
+        && takes(alloc, queue, (12, 1), (WHOLE, b"bc", true))
 }
 
-#[test]
-fn a_bounded_skip_may_go_so_far(rt: HostRuntime) -> Result<(), Fail> {
-    let queue = gapped(rt.alloc())?;
+fn skips_so_far(queue: &ReassemblyQueue) -> bool {
+    let mut well = true;
     for (tsn, peer, want) in [(11, 12, Some(1)), (11, 11, Some(0)), (10, 9, None)] {
-        assert_eq!(rt;
-            queue.applicable_forward_tsn_for_ordered_bounded(1, tsn, peer),
-            want
-        );
+        well = well && queue.applicable_forward_tsn_for_ordered_bounded(1, tsn, peer) == want;
     }
-    Ok(())
+    well
 }
 
 #[test]
-fn a_bounded_skip_stops_before_later_messages(rt: HostRuntime) -> Result<(), Fail> {
-    for (tsn, want) in [(10, (2, 0, 3)), (11, (1, 1, 2)), (12, (1, 2, 2))] {
-        let mut queue = gapped(rt.alloc())?;
-        queue.forward_tsn_for_ordered_bounded(1, tsn);
-        assert_eq!(rt;
-            (
-                queue.ordered().len(),
-                queue.next_ssn(),
-                queue.get_num_bytes()
-            ),
-            want
-        );
-        if tsn == 12 {
-            reads(&rt, &mut queue, b"bc");
-        }
-    }
-    Ok(())
-}
-
-#[test]
-fn unordered_messages_are_read_first(rt: HostRuntime) -> Result<(), Fail> {
+fn a_bounded_skip_may_go_so_far(rt: HostRuntime) {
     let alloc = rt.alloc();
+    let mut queue = ReassemblyQueue::new(alloc, 1, 100);
+    assert!(rt; gapped(alloc, &mut queue) && skips_so_far(&queue));
+}
+
+// Whether a skip to this TSN leaves so many sets, this next number and so many bytes.
+fn leaves(alloc: Global, queue: &mut ReassemblyQueue, tsn: u32, want: (usize, u16, usize)) -> bool {
+    let well = gapped(alloc, queue);
+    queue.forward_tsn_for_ordered_bounded(1, tsn);
+    well && queue.ordered().len() == want.0
+        && queue.next_ssn() == want.1
+        && queue.get_num_bytes() == want.2
+}
+
+#[test]
+fn a_bounded_skip_stops_before_later_messages(rt: HostRuntime) {
+    let alloc = rt.alloc();
+    let mut queue = ReassemblyQueue::new(alloc, 1, 100);
+    assert!(rt; leaves(alloc, &mut queue, 10, (2, 0, 3)));
+    let mut queue = ReassemblyQueue::new(alloc, 1, 100);
+    assert!(rt; leaves(alloc, &mut queue, 11, (1, 1, 2)));
+    let mut queue = ReassemblyQueue::new(alloc, 1, 100);
+    assert!(rt; leaves(alloc, &mut queue, 12, (1, 2, 2)) && reads(&mut queue, b"bc"));
+}
+
+fn ordered_comes_first(alloc: Global, queue: &mut ReassemblyQueue) -> bool {
     let parts = [
         fragment(10, false, WHOLE, b"aaa"),
         fragment(12, true, LAST, b"ccc"),
         fragment(11, true, FIRST, b"bbb"),
     ];
-    let (mut queue, _refused) = filled(alloc, 100, &parts)?;
-    assert_eq!(rt; (queue.si(), queue.unordered().len()), (1, 1));
-    reads(&rt, &mut queue, b"bbbccc");
-    reads(&rt, &mut queue, b"aaa");
-    assert!(rt; queue.find_complete_unordered_chunk_set(alloc)?.is_none());
-    Ok(())
+    fills(alloc, queue, &parts, false) && queue.si() == 1 && queue.unordered().len() == 1
 }
 
-// What comes, and whether a message is whole with it.
-type Arrival = (u32, (bool, bool), bool);
-
-fn come(
-    rt: &impl Abort,
-    queue: &mut ReassemblyQueue,
-    alloc: Global,
-    arrivals: &[Arrival],
-) -> Result<(), Fail> {
-    for (tsn, flags, whole) in arrivals {
-        assert_eq!(rt; queue.push(unordered(alloc, *tsn, *flags, b"x")?)?, *whole);
+fn has_no_more(alloc: Global, queue: &mut ReassemblyQueue) -> bool {
+    match queue.find_complete_unordered_chunk_set(alloc) {
+        Ok(found) => found.is_none(),
+        Err(_) => false,
     }
-    Ok(())
+}
+
+fn unordered_is_first(alloc: Global, queue: &mut ReassemblyQueue) -> bool {
+    reads(queue, b"bbbccc") && reads(queue, b"aaa") && has_no_more(alloc, queue)
 }
 
 #[test]
-fn interleaved_messages_come_whole_over_the_wrap(rt: HostRuntime) -> Result<(), Fail> {
+fn unordered_messages_are_read_first(rt: HostRuntime) {
     let alloc = rt.alloc();
-    let mut queue = ReassemblyQueue::new(alloc, 1, 2);
+    let mut queue = ReassemblyQueue::new(alloc, 1, 100);
+    assert!(rt; ordered_comes_first(alloc, &mut queue) && unordered_is_first(alloc, &mut queue));
+}
+
+fn interleaved(alloc: Global, queue: &mut ReassemblyQueue) -> bool {
     let arrivals = [
         (2, FIRST, false),
         (4294967294, FIRST, false),
@@ -209,93 +282,141 @@ fn interleaved_messages_come_whole_over_the_wrap(rt: HostRuntime) -> Result<(), 
         (5, LAST, false),
         (4294967295, LAST, true),
     ];
-    come(&rt, &mut queue, alloc, &arrivals)?;
-    loose_are(&rt, &queue, &[5]);
-    Ok(())
+    come(alloc, queue, &arrivals) && loose_are(queue, &[5])
 }
 
 #[test]
-fn repeats_stand_side_by_side_and_order_comes_back(rt: HostRuntime) -> Result<(), Fail> {
-    let alloc = rt.alloc();
-    let mut queue = ReassemblyQueue::new(alloc, 1, 4);
+fn interleaved_messages_come_whole_over_the_wrap(rt: HostRuntime) {
+    let mut queue = ReassemblyQueue::new(rt.alloc(), 1, 2);
+    assert!(rt; interleaved(rt.alloc(), &mut queue));
+}
+
+fn repeats_stand(alloc: Global, queue: &mut ReassemblyQueue) -> bool {
     let arrivals = [
         (10, FIRST, false),
         (10, FIRST, false),
         (12, MIDDLE, false),
         (11, LAST, true),
     ];
-    come(&rt, &mut queue, alloc, &arrivals)?;
-    loose_are(&rt, &queue, &[10, 12]);
-    come(
-        &rt,
-        &mut queue,
-        alloc,
-        &[(13, LAST, false), (11, MIDDLE, true)],
-    )?;
-    loose_are(&rt, &queue, &[]);
-    Ok(())
+    come(alloc, queue, &arrivals) && loose_are(queue, &[10, 12])
 }
 
-// A queue that skipped up to these numbers, and that whole messages of these came to.
-fn came(alloc: Global, skipped: &[u16], ssns: &[u16]) -> Result<ReassemblyQueue, Fail> {
-    let mut queue = ReassemblyQueue::new(alloc, 1, 100);
-    for ssn in skipped {
-        queue.forward_tsn_for_ordered(*ssn);
-    }
+fn order_comes_back(alloc: Global, queue: &mut ReassemblyQueue) -> bool {
+    comes(alloc, queue, (13, LAST, false))
+        && comes(alloc, queue, (11, MIDDLE, true))
+        && loose_are(queue, &[])
+}
+
+#[test]
+fn repeats_stand_side_by_side_and_order_comes_back(rt: HostRuntime) {
+    let alloc = rt.alloc();
+    let mut queue = ReassemblyQueue::new(alloc, 1, 4);
+    assert!(rt; repeats_stand(alloc, &mut queue) && order_comes_back(alloc, &mut queue));
+}
+
+// Whether whole messages of these numbers come.
+fn came(alloc: Global, queue: &mut ReassemblyQueue, ssns: &[u16]) -> bool {
+    let mut well = true;
     for ssn in ssns {
-        let _whole = queue.push(ordered(alloc, u32::from(*ssn), *ssn, WHOLE, b"x")?)?;
+        well = well && is_taken(alloc, queue, *ssn);
     }
-    Ok(queue)
+    well
 }
 
-// The sets have these numbers.
-fn ssns_are(rt: &impl Abort, queue: &ReassemblyQueue, want: &[u16]) {
-    assert_eq!(rt; queue.ordered().len(), want.len());
+fn is_taken(alloc: Global, queue: &mut ReassemblyQueue, ssn: u16) -> bool {
+    match ordered(alloc, u32::from(ssn), ssn, WHOLE, b"x") {
+        Ok(message) => queue.push(message).is_ok(),
+        Err(_) => false,
+    }
+}
+
+// Whether the sets have these numbers.
+fn ssns_are(queue: &ReassemblyQueue, want: &[u16]) -> bool {
+    let mut well = queue.ordered().len() == want.len();
     for (set, ssn) in queue.ordered().iter().zip(want.iter()) {
-        assert_eq!(rt; set.ssn(), *ssn);
+        well = well && set.ssn() == *ssn;
     }
+    well
 }
 
-#[test]
-fn messages_that_come_in_reverse_are_read_in_order(rt: HostRuntime) -> Result<(), Fail> {
-    let mut queue = came(rt.alloc(), &[], &[4, 3, 2, 1, 0])?;
-    ssns_are(&rt, &queue, &[0, 1, 2, 3, 4]);
+// Whether whole messages of these numbers come and stand in this order.
+fn stand(alloc: Global, queue: &mut ReassemblyQueue, ssns: &[u16], want: &[u16]) -> bool {
+    came(alloc, queue, ssns) && ssns_are(queue, want)
+}
+
+fn five_are_read(queue: &mut ReassemblyQueue) -> bool {
+    let mut well = true;
     for _ in 0..5 {
-        reads(&rt, &mut queue, b"x");
+        well = well && reads(queue, b"x");
     }
-    assert!(rt; !queue.is_readable());
-    Ok(())
+    well && !queue.is_readable()
 }
 
 #[test]
-fn messages_stand_in_order_where_numbers_wrap(rt: HostRuntime) -> Result<(), Fail> {
-    for ssns in [[1, 65534, 0, 65535, 2], [65535, 2, 65534, 1, 0]] {
-        let queue = came(rt.alloc(), &[32767, 65533], &ssns)?;
-        ssns_are(&rt, &queue, &[65534, 65535, 0, 1, 2]);
-    }
-    Ok(())
+fn messages_that_come_in_reverse_are_read_in_order(rt: HostRuntime) {
+    let mut queue = ReassemblyQueue::new(rt.alloc(), 1, 100);
+    let well = stand(rt.alloc(), &mut queue, &[4, 3, 2, 1, 0], &[0, 1, 2, 3, 4]);
+    assert!(rt; well && five_are_read(&mut queue));
+}
+
+fn stand_over_the_wrap(alloc: Global, queue: &mut ReassemblyQueue, ssns: &[u16]) -> bool {
+    queue.forward_tsn_for_ordered(32767);
+    queue.forward_tsn_for_ordered(65533);
+    stand(alloc, queue, ssns, &[65534, 65535, 0, 1, 2])
+}
+
+#[test]
+fn messages_stand_in_order_where_numbers_wrap(rt: HostRuntime) {
+    let alloc = rt.alloc();
+    let mut queue = ReassemblyQueue::new(alloc, 1, 100);
+    assert!(rt; stand_over_the_wrap(alloc, &mut queue, &[1, 65534, 0, 65535, 2]));
+    let mut queue = ReassemblyQueue::new(alloc, 1, 100);
+    assert!(rt; stand_over_the_wrap(alloc, &mut queue, &[65535, 2, 65534, 1, 0]));
 }
 
 // 0 and 32768 lie half a circle apart, so neither comes before the other; 1 comes before 32768.
 #[test]
-fn a_message_half_a_circle_away_goes_behind(rt: HostRuntime) -> Result<(), Fail> {
-    let queue = came(rt.alloc(), &[], &[0, 32768, 1, 32767, 1])?;
-    ssns_are(&rt, &queue, &[0, 1, 32767, 32768]);
-    let queue = came(rt.alloc(), &[], &[32768, 0, 1, 32767, 0])?;
-    ssns_are(&rt, &queue, &[1, 32767, 32768, 0]);
-    Ok(())
+fn a_message_half_a_circle_away_goes_behind(rt: HostRuntime) {
+    let alloc = rt.alloc();
+    let mut queue = ReassemblyQueue::new(alloc, 1, 100);
+    assert!(rt;
+        stand(
+            alloc,
+            &mut queue,
+            &[0, 32768, 1, 32767, 1],
+            &[0, 1, 32767, 32768]
+        )
+    );
+    let mut queue = ReassemblyQueue::new(alloc, 1, 100);
+    assert!(rt;
+        stand(
+            alloc,
+            &mut queue,
+            &[32768, 0, 1, 32767, 0],
+            &[1, 32767, 32768, 0]
+        )
+    );
+}
+
+fn ends_come(alloc: Global, queue: &mut ReassemblyQueue) -> bool {
+    let mut well = true;
+    for numbers in [(11, 5), (5, 2), (9, 4), (7, 3)] {
+        well = well && takes(alloc, queue, numbers, (LAST, b"b", false));
+    }
+    well
+}
+
+fn beginnings_come(alloc: Global, queue: &mut ReassemblyQueue) -> bool {
+    let mut well = true;
+    for numbers in [(8, 4), (4, 2), (10, 5), (6, 3)] {
+        well = well && takes(alloc, queue, numbers, (FIRST, b"a", true));
+    }
+    well && ssns_are(queue, &[2, 3, 4, 5])
 }
 
 #[test]
-fn a_fragment_finds_its_message_among_many(rt: HostRuntime) -> Result<(), Fail> {
+fn a_fragment_finds_its_message_among_many(rt: HostRuntime) {
     let alloc = rt.alloc();
     let mut queue = ReassemblyQueue::new(alloc, 1, 100);
-    for (tsn, ssn) in [(11, 5), (5, 2), (9, 4), (7, 3)] {
-        assert!(rt; !queue.push(ordered(alloc, tsn, ssn, LAST, b"b")?)?);
-    }
-    for (tsn, ssn) in [(8, 4), (4, 2), (10, 5), (6, 3)] {
-        assert!(rt; queue.push(ordered(alloc, tsn, ssn, FIRST, b"a")?)?);
-    }
-    ssns_are(&rt, &queue, &[2, 3, 4, 5]);
-    Ok(())
+    assert!(rt; ends_come(alloc, &mut queue) && beginnings_come(alloc, &mut queue));
 }
