@@ -11,8 +11,8 @@ pub fn messages_are_of_accepted_chunks()
     ensures accepted { AfterEachRun WereAccepted }
 {}
 
-/// Whatever is written, sent, given up and acknowledged: the bytes of the writes that a sender accepted are those that wait
-/// or are in flight, and those that its calls answered as gone. None is lost, and none leaves twice.
+/// After every run of calls of a sender, the bytes of the writes that it accepted are as many as those that wait, those in
+/// flight, and those that its calls answered as gone, together.
 pub fn each_written_byte_is_accounted_for()
     ensures { AfterEachRunOfSender IsAccounted }
 {}
