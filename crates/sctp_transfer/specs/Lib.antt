@@ -14,3 +14,4 @@ pub mod Sender
 pub mod GivingUp
 pub mod Late
 pub mod Totals
+pub mod SenderRuns

@@ -1,6 +1,7 @@
 //! What holds after every run of calls: laws, each the contract of a function that does nothing.
 
 ghost use Rattle.sctp_transfer.specs.ReceiverRuns.{AfterEachRun, AreWhole, WereAccepted};
+ghost use Rattle.sctp_transfer.specs.SenderRuns.{AfterEachRun as AfterEachRunOfSender, IsAccounted};
 
 /// Whatever chunks come to a receiver, each message that it hands out is whole: its fragments have consecutive TSNs, the
 /// first begins and the last ends. They are chunks of its stream that the receiver took as new, and none of those serves
@@ -8,4 +9,10 @@ ghost use Rattle.sctp_transfer.specs.ReceiverRuns.{AfterEachRun, AreWhole, WereA
 pub fn messages_are_of_accepted_chunks()
     ensures whole { AfterEachRun AreWhole }
     ensures accepted { AfterEachRun WereAccepted }
+{}
+
+/// After every run of calls of a sender, the bytes of the writes that it accepted are as many as those that wait, those in
+/// flight, and those that its calls answered as gone, together.
+pub fn each_written_byte_is_accounted_for()
+    ensures { AfterEachRunOfSender IsAccounted }
 {}

@@ -41,12 +41,13 @@ pub struct Sender {
 impl Model for Sender {
     ghost use Rattle.std.specs.Prelude.{◌<◌, ◌≤◌};
     ghost use Rattle.sctp_transfer.specs.Sender.{Transmission};
+    ghost use Rattle.sctp_transfer.specs.Totals.{IsAllSettled};
 
     ghost Value = { Transmission };
 
     ghost view = { λ s. record { streams = s.streams; flight = s.flight; fragment_size = s.fragment_size; max_message_size = s.max_message_size } };
 
-    ghost invariant = { λ s. (0 < s.fragment_size) × (s.fragment_size ≤ 65519) };
+    ghost invariant = { λ s. (0 < s.fragment_size) × (s.fragment_size ≤ 65519) × IsAllSettled s.flight.queue };
 }
 
 impl Sender {
@@ -59,6 +60,7 @@ impl Sender {
     ghost use Rattle.sctp_transfer.specs.Flight.{with_queue, with_room, may_send, next_after_send, can_resend, resent, is_outdated, sack_refusal, released_by};
     ghost use Rattle.sctp_transfer.specs.GivingUp.{abandon_refusal};
     ghost use Rattle.sctp_transfer.specs.Outgoing.{fragments_with_mode};
+    ghost use Rattle.sctp_transfer.specs.Totals.{bytes_in};
     ghost use Rattle.sctp_transfer.specs.Sender.{with_nothing, with_tsn, stream_of, is_open, opened, with_mode_on, with_flight, write_refusal, written_to, after_acked, after_abandon, after_expire};
 
     /// A sender with no stream, whose first chunk gets the first TSN. It takes no memory.
@@ -324,11 +326,14 @@ impl Sender {
     }
 
     /// Takes a SACK, whatever a peer claims (RFC 4960 6.2.1): what is acknowledged is what it reports and is in flight.
-    /// Answers the chunks that it reports anew, each with its stream and its bytes; each stream has so much less. One whose
-    /// cumulative TSN is before the last one is out of date, and changes nothing. The refusals are those of `InFlight::acked`.
+    /// Answers the chunks that it reports anew, each with its stream and its bytes, which are all that leave; each stream has so
+    /// much less. One whose cumulative TSN is before the last one is out of date, and changes nothing. The refusals are those of
+    /// `InFlight::acked`.
     pub fn acked(&mut self, sack: &ChunkSelectiveAck) -> Result<Vec<Released>, SenderRefusal>
         ensures answer { IfOk result (λ r. r.items ≡ released_by (sack_of sack.now) self.old.flight) }
         ensures ok { OnOk result (self.new ≡ after_acked (sack_of sack.now) self.old) }
+        ensures released { IfOk result (λ r. total_bytes self.new.flight.queue + bytes_in r.items
+            ≡ total_bytes self.old.flight.queue) }
         ensures accepted { IsOk result → sack_refusal (sack_of sack.now) self.old.flight ≡ None }
         ensures refused { IfErr result (λ e. ((e ≡ OutOfMemory) × (sack_refusal (sack_of sack.now) self.old.flight ≡ None)) ⊎ (sack_refusal (sack_of sack.now) self.old.flight ≡ Some e)) }
         ensures outdated { is_outdated (sack_of sack.now) self.old.flight ≡ true → IsOk result }

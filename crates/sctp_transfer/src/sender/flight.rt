@@ -57,6 +57,7 @@ impl InFlight {
     ghost use Rattle.sctp_outbound.specs.pending_queue.PendingQueue as pending;
     ghost use Rattle.sctp_outbound.specs.pending_queue.Whole.{IsMessageOrNone};
     ghost use Rattle.sctp_transfer.specs.TsnFilter.{preceding_tsn};
+    ghost use Rattle.sctp_transfer.specs.Totals.{AreSettled, bytes_in};
     ghost use Rattle.sctp_transfer.specs.Flight.{with_queue, with_room, at_first, may_send, next_after_send, can_resend, resent, is_outdated, sack_refusal, after_sack, released_by};
 
     /// Nothing waits, and the first TSN is the next. It takes no memory.
@@ -246,8 +247,9 @@ impl InFlight {
     }
 
     /// Takes a SACK, whatever a peer claims (RFC 4960 6.2.1): what is acknowledged is what it reports and is in flight.
-    /// Answers the chunks that it reports anew. One whose cumulative TSN is before the last one is out of date, and changes
-    /// nothing. The refusals, in the order in which they are looked for:
+    /// Answers the chunks that it reports anew. Theirs are all the bytes that leave, where no acknowledged chunk in flight has
+    /// bytes, as in a `Sender`. One whose cumulative TSN is before the last one is out of date, and changes nothing. The
+    /// refusals, in the order in which they are looked for:
     ///
     /// - `InflightQueueTsnPop`, where its cumulative TSN was not given out;
     /// - `TsnRequestNotExist`, where a gap ack block reports a TSN that is not in flight;
@@ -261,6 +263,8 @@ impl InFlight {
     ) -> Result<Vec<Released>, SenderRefusal>
         ensures answer { IfOk result (λ released. released.items ≡ released_by (sack_of sack.now) self.old) }
         ensures ok { OnOk result (self.new ≡ after_sack (sack_of sack.now) self.old) }
+        ensures released { AreSettled self.old.queue.inflight.chunks → IfOk result
+            (λ r. total_bytes self.new.queue + bytes_in r.items ≡ total_bytes self.old.queue) }
         ensures accepted { IsOk result → sack_refusal (sack_of sack.now) self.old ≡ None }
         ensures refused { IfErr result (λ e. ((e ≡ OutOfMemory) × (sack_refusal (sack_of sack.now) self.old ≡ None)) ⊎ (sack_refusal (sack_of sack.now) self.old ≡ Some e)) }
         ensures err { OnErr result (self.new ≡ self.old) }

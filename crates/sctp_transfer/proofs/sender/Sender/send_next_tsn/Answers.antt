@@ -8,6 +8,8 @@ use Rattle.sctp_transfer.specs.Flight.{Flight, next_after_send, with_queue}
 use Rattle.sctp_transfer.specs.TsnFilter.{following_tsn}
 use Rattle.sctp_transfer.specs.Sender.{Transmission, with_flight}
 use Rattle.sctp_transfer.proofs.Amounts.{sent-bytes, started-bytes}
+use Rattle.sctp_transfer.specs.Totals.{IsAllSettled}
+use Rattle.sctp_transfer.proofs.Settled.{started-settled, sent-settled}
 use Rattle.sctp_transfer.proofs.sender.Sender.send_next_tsn.Goals as goal
 
 pub returns-in_default-clause-ok : goal.returns-in_default-clause-ok
@@ -33,3 +35,13 @@ returns-clause-bytes c =
 
 pub returns-in_default-clause-bytes : goal.returns-in_default-clause-bytes
 returns-in_default-clause-bytes c = rw (← c.self.view_is) (ap (λ (g : Flight). total_bytes g.queue) c.start.ensures ∙ started-bytes c.args.now c.self.inside.flight.queue)
+
+pub invariant_of-self : goal.invariant_of-self
+invariant_of-self c =
+    let f : Flight = c.self.inside.flight in
+    (c.self.invariant.0, c.self.invariant.1, subst (λ (g : Flight). IsAllSettled g.queue) (sym c.start.ensures) (started-settled c.args.now f.queue c.self.invariant.2))
+
+pub invariant_of-self-2 : goal.invariant_of-self-2
+invariant_of-self-2 c =
+    let f : Flight = c.self.inside.flight in
+    (c.self.invariant.0, c.self.invariant.1, subst (λ (g : Flight). IsAllSettled g.queue) (sym c.in_ok-sent.ensures.ok) (sent-settled f.queue f.next_tsn c.args.now c.self.invariant.2))

@@ -5,6 +5,8 @@ use Rattle.sctp_transfer.specs.Flight.{Flight}
 use Rattle.sctp_transfer.proofs.Amounts.{message-bytes}
 use Rattle.sctp_transfer.specs.Sender.{Transmission, is_open, is_full, is_full_of, write_refusal}
 use Rattle.sctp_transfer.proofs.SenderStreams.{closed, open-at, found-at, unknown, too-large, full, fine, one-message, refused-not}
+use Rattle.sctp_transfer.specs.Totals.{AreSettled, IsAllSettled}
+use Rattle.sctp_transfer.proofs.Settled.{fragments-settled, message-settled}
 use Rattle.sctp_transfer.proofs.sender.Sender.write.Goals as goal
 
 pub returns-in_default-clause-refused : goal.returns-in_default-clause-refused
@@ -97,3 +99,10 @@ returns-clause-bytes c =
     let f = c.self.inside.flight in
     rw (← c.self.view_is)
     (ap (λ (g : Flight). total_bytes g.queue) c.in_ok-push.ensures.ok ∙ message-bytes c.in_ok-chunks.chunks.items f.queue ∙ ap (λ n. total_bytes f.queue + n) c.in_ok-chunks.ensures.length)
+
+pub invariant_of-self-2 : goal.invariant_of-self-2
+invariant_of-self-2 c =
+    let f : Flight = c.self.inside.flight in
+    let l = found-at c.self.inside.streams c.args.stream c.in-Some.place c.in-Some.ensures in
+    let new = subst AreSettled (sym (c.in_ok-chunks.ensures.ok l.0 l.1)) (fragments-settled l.0 c.args.ppi c.args.bytes.now) in
+    (c.self.invariant.0, c.self.invariant.1, subst (λ (g : Flight). IsAllSettled g.queue) (sym c.in_ok-push.ensures.ok) (message-settled c.in_ok-chunks.chunks.items f.queue new c.self.invariant.2))

@@ -4,6 +4,7 @@ use Rattle.sctp_lists.specs.Serial.{distance}
 use Rattle.sctp_outbound.specs.outbound_queue.OutboundQueue.{Outbound}
 use Rattle.sctp_transfer.specs.Flight.{Flight}
 use Rattle.sctp_transfer.proofs.Sacks.{run, count, contiguous, taken-is}
+use Rattle.sctp_transfer.proofs.Settled.{after-bytes}
 use Rattle.sctp_transfer.proofs.sender.flight.InFlight.acked.Goals as goal
 
 pub pop_run-requires-clause-run : goal.pop_run-requires-clause-run
@@ -29,3 +30,12 @@ returns-clause-ok c =
     let f : Flight = record { queue = c.self.inside.queue; next_tsn = c.self.inside.next_tsn; acked_tsn = c.self.inside.acked_tsn } in
     let within : distance f.acked_tsn c.args.sack.now.cumulative_tsn_ack ≤ length f.queue.inflight.chunks = omega (arith, c.if-in_flight-count.false, c.inflight_len-in_flight.ensures, c.distance-count.ensures.value) in
     rw (← c.self.view_is) (taken-is f c.self.invariant (sack_of c.args.sack.now) c.distance-count.ensures.to_fits within c.mark_reported.new.queue c.pop_run.new.queue c.mark_reported.ensures.marked (rw (c.distance-count.ensures.value) at c.pop_run.ensures) (sym c.sna32lt.ensures ∙ c.if-sna32lt.false))
+
+pub returns-clause-released : goal.returns-clause-released
+returns-clause-released c =
+    let f : Flight = record { queue = c.self.inside.queue; next_tsn = c.self.inside.next_tsn; acked_tsn = c.self.inside.acked_tsn } in
+    let g : Flight = record { queue = c.pop_run.new.queue; next_tsn = c.self.inside.next_tsn; acked_tsn = c.args.sack.now.cumulative_tsn_ack } in
+    let within : distance f.acked_tsn c.args.sack.now.cumulative_tsn_ack ≤ length f.queue.inflight.chunks = omega (arith, c.if-in_flight-count.false, c.inflight_len-in_flight.ensures, c.distance-count.ensures.value) in
+    let current = sym c.sna32lt.ensures ∙ c.if-sna32lt.false in
+    let is = taken-is f c.self.invariant (sack_of c.args.sack.now) c.distance-count.ensures.to_fits within c.mark_reported.new.queue c.pop_run.new.queue c.mark_reported.ensures.marked (rw (c.distance-count.ensures.value) at c.pop_run.ensures) current in
+    rw (← c.self.view_is) (after-bytes (sack_of c.args.sack.now) f g c.mark_reported.new.released.items current is c.mark_reported.ensures.told)
