@@ -142,7 +142,7 @@ front w =
 abbrev pub is_in_flight : World → ℕ → Bool
 is_in_flight w place = nat_le w.taken place && nat_lt place (length w.slots)
 
--- ## Lifetimes (RFC 3758 4.1, RFC 7496 4.1)
+-- ## Lifetimes (RFC 3758 4.1)
 
 -- the mode with a lifetime
 abbrev pub is_timed : ReliabilityType → Bool

@@ -1,4 +1,4 @@
--- Messages in flight whose lifetime is over (RFC 3758 3.5, RFC 7496 4.1).
+-- Messages in flight whose lifetime is over (RFC 3758 3.5, 4.1).
 use Rattle.std.specs.Prelude.{ℕ, ◌-◌, Bool, if◌then◌else◌, List, [], ◌∷◌, ◌++◌, map, Option, Some, None}
 use Rattle.std.specs.List.{find}
 use Rattle.sctp_chunks.specs.declared.chunk.chunk_payload_data.ChunkPayloadData.{ChunkPayloadData}

@@ -60,7 +60,8 @@ impl InboundStream {
         Ok(())
     }
 
-    /// The same, and says whether a message became whole by it.
+    /// Takes a fragment, as `push`, and answers whether a message became whole by it. Refuses with `MessageTooLarge`, or for
+    /// memory, and the stream is as it was then.
     /// Precondition: the fragment is of this stream.
     pub fn push_told(&mut self, chunk: &ChunkPayloadData) -> Result<bool, ReceiverRefusal>
         requires { (chunk.now.stream_identifier == self.old.queue.si) ≡ true }

@@ -18,7 +18,7 @@ impl Sender {
     ghost use Rattle.sctp_transfer.specs.GivingUp.{Name, advanced_ack_point, ahead, can_skip_to, named_up_to};
     ghost use Rattle.sctp_transfer.specs.Late.{after_late, late_order, leaving_each, with_tail};
 
-    /// Gives up each message in flight that is late (RFC 3758 3.5, RFC 7496 4.1): a chunk of it has reached its deadline, it is
+    /// Gives up each message in flight that is late (RFC 3758 3.5, 4.1): a chunk of it has reached its deadline, it is
     /// not given up yet, and of it some chunk is not acknowledged or some fragment waits. `now` is in nanoseconds. Answers
     /// them, each with its stream, its number and the bytes that left, by which its stream has less; `forward_tsn` gives what
     /// the peer is to be sent then. They stand in the order of the first late chunk of each, but for the message of which some

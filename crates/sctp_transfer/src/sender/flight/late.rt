@@ -1,4 +1,4 @@
-//! Messages that are in flight when their lifetime ends (RFC 3758 3.5, RFC 7496 4.1).
+//! Messages that are in flight when their lifetime ends (RFC 3758 3.5, 4.1).
 
 ghost use Rattle.std.specs.Prelude.{◌≡◌, ◌+◌, ◌≤◌, ◌<◌, ◌⊎◌, ◌++◌, ℕ, [], true, false, not, None, OnOk, OnErr, IfOk, IfErr, IsOk, is_some, length, map, vec_len, vec_capacity};
 ghost use Rattle.std.specs.List.{list_all, sum_by};
