@@ -48,7 +48,8 @@ pub trait Param {
     where
         Self: Sized,
         ensures found { IfOk result (λ p. Reads IsKind raw.now (wire p)) }
-        ensures only { (p : Parameter) → Reads IsKind raw.now p → GivesUnlessMemory result (λ q. wire q ≡ p) }
+        ensures only { (p : Parameter)
+            → Reads IsKind raw.now p → GivesUnlessMemory result (λ q. wire q ≡ p) }
         ensures fault { IfErr result (λ e. OrMemory e (fault e raw.now)) }
         ensures again { IfOk result (λ p. ReadsBack HasOwnType (wire p)) };
 
@@ -78,9 +79,11 @@ pub trait Param {
     /// The header that the parameter is written with. Refuses with `ErrLengthTooLarge`,
     /// exactly where four bytes and the value are more than 65,535.
     fn header(&self) -> Result<ParamHeader>
-        ensures ok { IfOk result (λ h. HasParamText (wire self.now) × (h.typ ≡ param_type_of (wire self.now))
+        ensures ok { IfOk result (λ h. HasParamText (wire self.now)
+            × (h.typ ≡ param_type_of (wire self.now))
             × (h.value_length ≡ length (param_value_of (wire self.now)))) }
-        ensures err { IfErr result (λ e. (e ≡ ErrLengthTooLarge) × (HasParamText (wire self.now) → ⊥)) }
+        ensures err { IfErr result (λ e. (e ≡ ErrLengthTooLarge)
+            × (HasParamText (wire self.now) → ⊥)) }
     {
         ParamHeader::of(self.param_type(), self.value_length())
     }
@@ -92,7 +95,8 @@ pub trait Param {
         requires text { HasParamText (wire self.now) }
         requires room { 4 + length (param_value_of (wire self.now)) ≤ buf.old.spare }
         ensures items { buf.new.items ≡ buf.old.items ++ param_text (wire self.now) }
-        ensures spare { buf.new.spare + (4 + length (param_value_of (wire self.now))) ≡ buf.old.spare }
+        ensures spare { buf.new.spare + (4 + length (param_value_of (wire self.now)))
+            ≡ buf.old.spare }
     {
         put_header(buf, self.param_type(), self.value_length());
         self.put_value(buf);
@@ -105,7 +109,8 @@ pub trait Param {
         ensures ok { IfOk result (λ n. HasParamText (wire self.now)
             × (buf.new.items ≡ buf.old.items ++ param_text (wire self.now)) × (n ≡ length buf.new.items)) }
         ensures err { OnErr result (buf.new.items ≡ buf.old.items) }
-        ensures refused { IfErr result (λ e. ((e ≡ ErrLengthTooLarge) × (HasParamText (wire self.now) → ⊥))
+        ensures refused { IfErr result
+            (λ e. ((e ≡ ErrLengthTooLarge) × (HasParamText (wire self.now) → ⊥))
             ⊎ ((e ≡ ErrOutOfMemory) × HasParamText (wire self.now) × (buf.old.spare < 4 + length (param_value_of (wire self.now))))) }
     {
         let header = self.header()?;
@@ -116,8 +121,10 @@ pub trait Param {
 
     /// The parameter as bytes, with no padding. Refuses with `ErrLengthTooLarge` as `header` does, or for memory.
     fn marshal(&self, alloc: Global) -> Result<Bytes>
-        ensures ok { IfOk result (λ b. HasParamText (wire self.now) × (b ≡ param_text (wire self.now))) }
-        ensures refused { IfErr result (λ e. ((e ≡ ErrLengthTooLarge) × (HasParamText (wire self.now) → ⊥))
+        ensures ok { IfOk result (λ b. HasParamText (wire self.now)
+            × (b ≡ param_text (wire self.now))) }
+        ensures refused { IfErr result
+            (λ e. ((e ≡ ErrLengthTooLarge) × (HasParamText (wire self.now) → ⊥))
             ⊎ ((e ≡ ErrOutOfMemory) × HasParamText (wire self.now))) }
     {
         let mut buf = BytesMut::new(alloc);

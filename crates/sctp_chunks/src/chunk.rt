@@ -101,9 +101,11 @@ pub trait Chunk {
     /// The header that the chunk is written with. Refuses with `ErrLengthTooLarge`,
     /// exactly where four bytes and the value are more than 65,535.
     fn header(&self) -> Result<ChunkHeader>
-        ensures ok { IfOk result (λ h. HasLength (wire self.now) × (h.typ.0 ≡ type_of (wire self.now))
+        ensures ok { IfOk result (λ h. HasLength (wire self.now)
+            × (h.typ.0 ≡ type_of (wire self.now))
             × (h.flags ≡ flags_of (wire self.now)) × (h.value_length ≡ length (value_of (wire self.now)))) }
-        ensures err { IfErr result (λ e. (e ≡ ErrLengthTooLarge) × (HasLength (wire self.now) → ⊥)) }
+        ensures err { IfErr result (λ e. (e ≡ ErrLengthTooLarge)
+            × (HasLength (wire self.now) → ⊥)) }
     {
         ChunkHeader::of(self.chunk_type(), self.flags(), self.value_length())
     }
@@ -115,10 +117,12 @@ pub trait Chunk {
     fn marshal_to(&self, buf: &mut BytesMut) -> Result<usize>
         ensures ok { IfOk result (λ n. HasText (wire self.now)
             × (buf.new.items ≡ buf.old.items ++ text_of (wire self.now)) × (n ≡ length buf.new.items)) }
-        ensures spare { OnOk result (buf.old.spare ≤ buf.new.spare + (4 + length (value_of (wire self.now)))) }
+        ensures spare { OnOk result
+            (buf.old.spare ≤ buf.new.spare + (4 + length (value_of (wire self.now)))) }
         ensures fits { OnOk result (Fits (wire self.now)) }
         // What is written of a chunk that was read reads back, as does every text of DATA, SACK and FORWARD-TSN.
-        ensures reads_back { Canonical (wire self.now) → OnOk result (ReadsChunk (text_of (wire self.now)) (wire self.now)) }
+        ensures reads_back { Canonical (wire self.now)
+            → OnOk result (ReadsChunk (text_of (wire self.now)) (wire self.now)) }
         ensures err { OnErr result (buf.new.items ≡ buf.old.items) }
         ensures refused { IfErr result (λ e. TextFault e (wire self.now)
             ⊎ ((e ≡ ErrOutOfMemory) × HasText (wire self.now) × (buf.old.spare < 4 + length (value_of (wire self.now))))) }
@@ -132,7 +136,8 @@ pub trait Chunk {
     /// The chunk as bytes, with no padding. Refuses as `check_form` and then `header` do, or for memory.
     fn marshal(&self, alloc: Global) -> Result<Bytes>
         ensures ok { IfOk result (λ b. HasText (wire self.now) × (b ≡ text_of (wire self.now))) }
-        ensures refused { IfErr result (λ e. TextFault e (wire self.now) ⊎ ((e ≡ ErrOutOfMemory) × HasText (wire self.now))) }
+        ensures refused { IfErr result (λ e. TextFault e (wire self.now)
+            ⊎ ((e ≡ ErrOutOfMemory) × HasText (wire self.now))) }
     {
         let mut buf = BytesMut::new(alloc);
         self.marshal_to(&mut buf)?;

@@ -52,7 +52,8 @@ fn read_cause_item(rest: &Bytes) -> Result<Option<CauseItem>, AllocError>
 pub fn dissect_causes(alloc: Global, raw: Bytes) -> Result<Causes, AllocError>
     // Nothing is lost, and nothing shown twice.
     ensures joins { IfOk result (λ c. flat_map cause_bytes c.items.items ++ c.rest ≡ raw) }
-    ensures items { IfOk result (λ c. Walks ShowsCause after_padded_cause raw c.items.items c.rest) }
+    ensures items { IfOk result
+        (λ c. Walks ShowsCause after_padded_cause raw c.items.items c.rest) }
     ensures ended { IfOk result (λ c. IsCause c.rest → ⊥) }
 {
     let mut items = Vec::new(alloc);

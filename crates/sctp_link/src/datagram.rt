@@ -32,8 +32,10 @@ const VERIFICATION_TAG: u32 = 1;
 pub fn write_datagram<C: Checksum>(alloc: Global, chunk: ChunkKind, checksum: &C) -> Result<Bytes>
     requires text { HasText (wire_of chunk) }
     requires canonical { Canonical (wire_of chunk) }
-    ensures text { IfOk result (λ b. b ≡ packet_text (C.sum checksum.now) (packet_with (wire_of chunk ∷ []))) }
-    ensures reads { IfOk result (λ b. ReadsPacket (C.sum checksum.now) b (packet_with (wire_of chunk ∷ []))) }
+    ensures text { IfOk result (λ b. b
+        ≡ packet_text (C.sum checksum.now) (packet_with (wire_of chunk ∷ []))) }
+    ensures reads { IfOk result
+        (λ b. ReadsPacket (C.sum checksum.now) b (packet_with (wire_of chunk ∷ []))) }
     ensures memory { IsOkUnless result ErrOutOfMemory }
 {
     let mut chunks = Vec::new(alloc);
@@ -50,8 +52,10 @@ pub fn write_chunks<C: Checksum>(
 ) -> Result<Bytes>
     requires text { AllByRecursion HasText (map wire_of chunks.items) }
     requires canonical { AllByRecursion Canonical (map wire_of chunks.items) }
-    ensures text { IfOk result (λ b. b ≡ packet_text (C.sum checksum.now) (packet_with (map wire_of chunks.items))) }
-    ensures reads { IfOk result (λ b. ReadsPacket (C.sum checksum.now) b (packet_with (map wire_of chunks.items))) }
+    ensures text { IfOk result (λ b. b
+        ≡ packet_text (C.sum checksum.now) (packet_with (map wire_of chunks.items))) }
+    ensures reads { IfOk result
+        (λ b. ReadsPacket (C.sum checksum.now) b (packet_with (map wire_of chunks.items))) }
     ensures memory { IsOkUnless result ErrOutOfMemory }
 {
     let packet = Packet {
@@ -69,7 +73,8 @@ pub fn write_chunks<C: Checksum>(
 /// Precondition: the bytes are one, under the checksum.
 fn read_datagram<C: Checksum>(alloc: Global, raw: &Bytes, checksum: &C) -> Result<ChunkKind>
     requires { (w : Wire) × ReadsPacket (C.sum checksum.now) raw.now (packet_with (w ∷ [])) }
-    ensures chunk { (w : Wire) → ReadsPacket (C.sum checksum.now) raw.now (packet_with (w ∷ [])) → IfOk result (λ k. wire_of k ≡ w) }
+    ensures chunk { (w : Wire) → ReadsPacket (C.sum checksum.now) raw.now (packet_with (w ∷ []))
+        → IfOk result (λ k. wire_of k ≡ w) }
     ensures fresh { IfOk result (λ k. IsFreshKind k) }
     ensures memory { IsOkUnless result ErrOutOfMemory }
 {
@@ -87,8 +92,10 @@ pub fn read_data<C: Checksum>(
     raw: &Bytes,
     checksum: &C,
 ) -> Result<Vec<ChunkPayloadData>>
-    requires { (ds : List Data) × ReadsPacket (C.sum checksum.now) raw.now (packet_with (map data_chunk ds)) }
-    ensures chunks { (ds : List Data) → ReadsPacket (C.sum checksum.now) raw.now (packet_with (map data_chunk ds)) → IfOk result (λ cs. cs.items ≡ map fresh ds) }
+    requires { (ds : List Data)
+        × ReadsPacket (C.sum checksum.now) raw.now (packet_with (map data_chunk ds)) }
+    ensures chunks { (ds : List Data) → ReadsPacket (C.sum checksum.now) raw.now
+        (packet_with (map data_chunk ds)) → IfOk result (λ cs. cs.items ≡ map fresh ds) }
     ensures memory { IsOkUnless result ErrOutOfMemory }
 {
     let packet = Packet::unmarshal(alloc, raw, checksum)?;
@@ -99,7 +106,8 @@ pub fn read_data<C: Checksum>(
 fn data_chunks(alloc: Global, kinds: Vec<ChunkKind>) -> Result<Vec<ChunkPayloadData>>
     requires data { (ds : List Data) × (map wire_of kinds.items ≡ map data_chunk ds) }
     requires fresh { AllByRecursion IsFreshKind kinds.items }
-    ensures chunks { (ds : List Data) → map wire_of kinds.items ≡ map data_chunk ds → IfOk result (λ cs. cs.items ≡ map fresh ds) }
+    ensures chunks { (ds : List Data) → map wire_of kinds.items ≡ map data_chunk ds
+        → IfOk result (λ cs. cs.items ≡ map fresh ds) }
     ensures memory { IsOkUnless result ErrOutOfMemory }
 {
     let mut kinds = kinds;
@@ -117,8 +125,10 @@ fn data_chunks(alloc: Global, kinds: Vec<ChunkKind>) -> Result<Vec<ChunkPayloadD
 /// Reads a datagram of one SACK. Refuses only for memory.
 /// Precondition: the bytes are one, under the checksum.
 pub fn read_sack<C: Checksum>(alloc: Global, raw: &Bytes, checksum: &C) -> Result<ChunkSelectiveAck>
-    requires { (s : Sack) × ReadsPacket (C.sum checksum.now) raw.now (packet_with (sack_chunk s ∷ [])) }
-    ensures chunk { (s : Sack) → ReadsPacket (C.sum checksum.now) raw.now (packet_with (sack_chunk s ∷ [])) → IfOk result (λ c. sack_of c ≡ s) }
+    requires { (s : Sack)
+        × ReadsPacket (C.sum checksum.now) raw.now (packet_with (sack_chunk s ∷ [])) }
+    ensures chunk { (s : Sack) → ReadsPacket (C.sum checksum.now) raw.now
+        (packet_with (sack_chunk s ∷ [])) → IfOk result (λ c. sack_of c ≡ s) }
     ensures memory { IsOkUnless result ErrOutOfMemory }
 {
     match read_datagram(alloc, raw, checksum)? {
@@ -134,8 +144,10 @@ pub fn read_forward_tsn<C: Checksum>(
     raw: &Bytes,
     checksum: &C,
 ) -> Result<ChunkForwardTsn>
-    requires { (f : ForwardTsn) × ReadsPacket (C.sum checksum.now) raw.now (packet_with (forward_tsn_chunk f ∷ [])) }
-    ensures chunk { (f : ForwardTsn) → ReadsPacket (C.sum checksum.now) raw.now (packet_with (forward_tsn_chunk f ∷ [])) → IfOk result (λ c. forward_tsn_of c ≡ f) }
+    requires { (f : ForwardTsn)
+        × ReadsPacket (C.sum checksum.now) raw.now (packet_with (forward_tsn_chunk f ∷ [])) }
+    ensures chunk { (f : ForwardTsn) → ReadsPacket (C.sum checksum.now) raw.now
+        (packet_with (forward_tsn_chunk f ∷ [])) → IfOk result (λ c. forward_tsn_of c ≡ f) }
     ensures memory { IsOkUnless result ErrOutOfMemory }
 {
     match read_datagram(alloc, raw, checksum)? {

@@ -97,7 +97,8 @@ impl<C: Checksum + Drop> Link<C> {
         requires short { fragment_size ≤ 65519 }
         ensures empty { result.world ≡ start (setup_of first_tsn fragment_size max_message_size 0) }
         ensures checksum { result.checksum ≡ checksum }
-        ensures stands { StandsFor (setup_of first_tsn fragment_size max_message_size 0) result.world [] }
+        ensures stands { StandsFor
+            (setup_of first_tsn fragment_size max_message_size 0) result.world [] }
     {
         Link::with_limit(
             alloc,
@@ -122,9 +123,11 @@ impl<C: Checksum + Drop> Link<C> {
     ) -> Self
         requires some { 1 ≤ fragment_size }
         requires short { fragment_size ≤ 65519 }
-        ensures empty { result.world ≡ start (setup_of first_tsn fragment_size max_message_size limit) }
+        ensures empty { result.world
+            ≡ start (setup_of first_tsn fragment_size max_message_size limit) }
         ensures checksum { result.checksum ≡ checksum }
-        ensures stands { StandsFor (setup_of first_tsn fragment_size max_message_size limit) result.world [] }
+        ensures stands { StandsFor
+            (setup_of first_tsn fragment_size max_message_size limit) result.world [] }
     {
         Link {
             alloc,
@@ -181,7 +184,8 @@ impl<C: Checksum + Drop> Link<C> {
     // Takes an event that is not refused.
     fn take(&mut self, event: Event) -> Result<Reply, Error>
         requires accepted { refusal_of self.old.world event ≡ None }
-        ensures ok { IfOk result (λ reply. IsRight self.old.world event (reply_of reply) self.new.world) }
+        ensures ok { IfOk result
+            (λ reply. IsRight self.old.world event (reply_of reply) self.new.world) }
         ensures checksum { self.new.checksum ≡ self.old.checksum }
         ensures err { OnErr result (self.new.world ≡ self.old.world) }
         ensures memory { IsOkUnless result ErrOutOfMemory }

@@ -96,8 +96,10 @@ impl OpenStream {
     ) -> Result<(Message, Vec<ChunkPayloadData>)>
         requires { self.old.ordered + 1 < 2 ^ 64 }
         ensures message { IfOk result (λ r. r.0 ≡ message_with self.old ppi bytes) }
-        ensures chunks { IfOk result (λ r. r.1.items ≡ fragments_with_mode self.old.state ppi bytes) }
-        ensures rest { 0 < length bytes → OnOk result (self.new ≡ after_write_on self.old ppi bytes) }
+        ensures chunks { IfOk result (λ r. r.1.items
+            ≡ fragments_with_mode self.old.state ppi bytes) }
+        ensures rest { 0 < length bytes
+            → OnOk result (self.new ≡ after_write_on self.old ppi bytes) }
         ensures err { OnErr result (self.new ≡ self.old) }
         ensures memory { IsOkUnless result ErrOutOfMemory }
     {
@@ -160,7 +162,10 @@ impl OpenStream {
         requires size { is_too_large chunk.now self.old.inbound.queue ≡ false }
         requires stream { (chunk.now.stream_identifier == self.old.inbound.queue.si) ≡ true }
         ensures ok { OnOk result (Keeps chunk.now number self.old self.new) }
-        ensures err { OnErr result ((self.new.state ≡ self.old.state) × (self.new.inbound ≡ self.old.inbound) × (self.new.whole.items ≡ self.old.whole.items) × (self.new.ordered ≡ self.old.ordered) × (self.new.begun ≡ self.old.begun) × (self.new.next ≡ self.old.next) × (self.new.named ≡ self.old.named)) }
+        ensures err { OnErr result ((self.new.state ≡ self.old.state)
+            × (self.new.inbound ≡ self.old.inbound) × (self.new.whole.items ≡ self.old.whole.items)
+            × (self.new.ordered ≡ self.old.ordered) × (self.new.begun ≡ self.old.begun)
+            × (self.new.next ≡ self.old.next) × (self.new.named ≡ self.old.named)) }
         ensures memory { IsOkUnless result ErrOutOfMemory }
     {
         self.whole.reserve(1)?;
@@ -190,7 +195,8 @@ impl OpenStream {
     /// The next message, which is counted; None where there is none to read.
     pub fn read(&mut self) -> Option<Chunks>
         ensures message { result ≡ option_map at_start (message_read self.old.inbound.queue.held) }
-        ensures rest { self.new ≡ record self.old { inbound = Inbound.stream_read self.old.inbound } }
+        ensures rest { self.new
+            ≡ record self.old { inbound = Inbound.stream_read self.old.inbound } }
     {
         self.inbound.read()
     }
@@ -201,11 +207,13 @@ impl OpenStream {
         requires { index + 1 < 2 ^ 64 }
         ensures state { self.new.state ≡ self.old.state }
         ensures inbound { self.new.inbound ≡ self.old.inbound }
-        ensures whole { self.new.whole.items ≡ (if ordered then self.old.whole.items else drop 1 self.old.whole.items) }
+        ensures whole { self.new.whole.items
+            ≡ (if ordered then self.old.whole.items else drop 1 self.old.whole.items) }
         ensures ordered { self.new.ordered ≡ self.old.ordered }
         ensures begun { self.new.begun ≡ self.old.begun }
         ensures named { self.new.named ≡ self.old.named }
-        ensures next { self.new.next ≡ (if ordered && (index == self.old.next) then index + 1 else self.old.next) }
+        ensures next { self.new.next
+            ≡ (if ordered && (index == self.old.next) then index + 1 else self.old.next) }
     {
         if !ordered {
             self.whole.pop_front();

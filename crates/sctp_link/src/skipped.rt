@@ -57,7 +57,8 @@ pub fn pairs_of(
     messages: &[Message],
     names: &[u64],
 ) -> Result<Vec<ChunkForwardTsnStream>>
-    requires { (i d : ℕ) → i < length names.now → slice_index_or names.now i d < length messages.now }
+    requires { (i d : ℕ)
+        → i < length names.now → slice_index_or names.now i d < length messages.now }
     ensures pairs { IfOk result (λ ps. ps.items ≡ map (pair_in messages.now) names.now) }
     ensures memory { IsOkUnless result ErrOutOfMemory }
 {

@@ -55,7 +55,10 @@ impl OutboundQueue {
 
     /// A queue of nothing, whose first message gets the number 0. It takes no memory.
     pub fn new(alloc: Global) -> Self
-        ensures { result ≡ record { pending = record { ordered = []; unordered = []; selected = None; ordered_room = 0; unordered_room = 0 }; inflight = record { chunks = []; duplicates = []; room = 0 }; next_message_id = 0; next_unstarted = 0 } }
+        ensures { result
+            ≡ record { pending = record { ordered = []; unordered = []; selected = None;
+            ordered_room = 0; unordered_room = 0 }; inflight = record { chunks = [];
+            duplicates = []; room = 0 }; next_message_id = 0; next_unstarted = 0 } }
     {
         OutboundQueue {
             pending: PendingQueue::new(alloc),
@@ -78,7 +81,8 @@ impl OutboundQueue {
         ensures message { result ≡ true → IsMessageOrNone chunks.now }
         ensures number { result ≡ true → self.now.next_message_id + 1 < 2 ^ 64 }
         ensures bytes { result ≡ true → total_bytes self.now + bytes_of chunks.now < 2 ^ 64 }
-        ensures exact { IsMessageOrNone chunks.now → self.now.next_message_id + 1 < 2 ^ 64 → total_bytes self.now + bytes_of chunks.now < 2 ^ 64 → result ≡ true }
+        ensures exact { IsMessageOrNone chunks.now → self.now.next_message_id + 1 < 2 ^ 64
+            → total_bytes self.now + bytes_of chunks.now < 2 ^ 64 → result ≡ true }
     {
         let n_bytes = self.pending.get_num_bytes() + self.inflight.get_num_bytes();
         self.next_message_id < u64::MAX
@@ -128,7 +132,8 @@ impl OutboundQueue {
     /// The chunk that would be sent next: while a message is half sent, its next fragment.
     pub fn peek_pending(&self) -> Option<&ChunkPayloadData>
         ensures value { option_copied result ≡ pending.peeked self.now.pending }
-        ensures goes_on { (m : ℕ) → half_sent self.now.pending ≡ Some m → GoesOn m (pending.peeked self.now.pending) }
+        ensures goes_on { (m : ℕ)
+            → half_sent self.now.pending ≡ Some m → GoesOn m (pending.peeked self.now.pending) }
     {
         self.pending.peek()
     }
@@ -145,7 +150,8 @@ impl OutboundQueue {
     pub fn can_send(&self, next_tsn: u32) -> bool
         ensures fresh { result ≡ true → is_held self.now.inflight.chunks next_tsn ≡ false }
         ensures window { result ≡ true → SpansOneWindow self.now.inflight.chunks next_tsn }
-        ensures exact { is_held self.now.inflight.chunks next_tsn ≡ false → SpansOneWindow self.now.inflight.chunks next_tsn → result ≡ true }
+        ensures exact { is_held self.now.inflight.chunks next_tsn ≡ false
+            → SpansOneWindow self.now.inflight.chunks next_tsn → result ≡ true }
     {
         self.inflight.can_push_no_check(next_tsn)
     }
@@ -159,10 +165,13 @@ impl OutboundQueue {
     pub fn send_next(&mut self, next_tsn: &mut u32, now: u64) -> Result<Option<u32>>
         requires fresh { is_held self.old.inflight.chunks next_tsn.old ≡ false }
         requires window { SpansOneWindow self.old.inflight.chunks next_tsn.old }
-        ensures goes_on { (m : ℕ) → half_sent self.old.pending ≡ Some m → GoesOn m (pending.peeked self.old.pending) }
-        ensures sent { IfOk result (λ sent. sent ≡ option_map (λ _. next_tsn.old) (pending.peeked self.old.pending)) }
+        ensures goes_on { (m : ℕ)
+            → half_sent self.old.pending ≡ Some m → GoesOn m (pending.peeked self.old.pending) }
+        ensures sent { IfOk result (λ sent. sent
+            ≡ option_map (λ _. next_tsn.old) (pending.peeked self.old.pending)) }
         ensures ok { OnOk result (self.new ≡ sent_next self.old next_tsn.old now) }
-        ensures raised { OnOk result (next_tsn.new ≡ (if is_some (pending.peeked self.old.pending) then following_tsn next_tsn.old else next_tsn.old)) }
+        ensures raised { OnOk result (next_tsn.new ≡ (if is_some (pending.peeked self.old.pending)
+            then following_tsn next_tsn.old else next_tsn.old)) }
         ensures err { OnErr result ((self.new ≡ self.old) × (next_tsn.new ≡ next_tsn.old)) }
         ensures memory { IsOkUnless result ErrOutOfMemory }
         ensures succeeds { 0 < self.old.inflight.room → IsOk result }
@@ -217,16 +226,22 @@ impl OutboundQueue {
     pub fn abandon(&mut self, tsn: u32, next_tsn: &mut u32) -> Result<Option<(u16, usize)>>
         requires fresh { is_held self.old.inflight.chunks next_tsn.old ≡ false }
         requires window { SpansOneWindow self.old.inflight.chunks next_tsn.old }
-        ensures answer { IfOk result (λ r. option_map (λ a. a.0) r ≡ option_map (λ c. c.stream_identifier) (find (has_tsn tsn) self.old.inflight.chunks)) }
-        ensures released { IfOk result (λ r. total_bytes self.new + released_of r ≡ total_bytes self.old) }
-        ensures ok { OnOk result (self.new ≡ abandoned_of (to_abandon (find (has_tsn tsn) self.old.inflight.chunks)) next_tsn.old self.old) }
-        ensures raised { OnOk result (next_tsn.new ≡ tsn_after_of (to_abandon (find (has_tsn tsn) self.old.inflight.chunks)) next_tsn.old self.old) }
+        ensures answer { IfOk result (λ r. option_map (λ a. a.0) r
+            ≡ option_map (λ c. c.stream_identifier) (find (has_tsn tsn) self.old.inflight.chunks)) }
+        ensures released { IfOk result (λ r. total_bytes self.new + released_of r
+            ≡ total_bytes self.old) }
+        ensures ok { OnOk result (self.new ≡ abandoned_of
+            (to_abandon (find (has_tsn tsn) self.old.inflight.chunks)) next_tsn.old self.old) }
+        ensures raised { OnOk result (next_tsn.new ≡ tsn_after_of
+            (to_abandon (find (has_tsn tsn) self.old.inflight.chunks)) next_tsn.old self.old) }
         // the next TSN is the same while a message stays half sent
-        ensures half { OnOk result ((next_tsn.new ≡ next_tsn.old) ⊎ (half_sent self.new.pending ≡ None)) }
+        ensures half { OnOk result ((next_tsn.new ≡ next_tsn.old)
+            ⊎ (half_sent self.new.pending ≡ None)) }
         ensures err { OnErr result ((self.new ≡ self.old) × (next_tsn.new ≡ next_tsn.old)) }
         ensures memory { IsOkUnless result ErrOutOfMemory }
         ensures succeeds { 0 < self.old.inflight.room → IsOk result }
-        ensures no_tail { has_tail (to_abandon (find (has_tsn tsn) self.old.inflight.chunks)) self.old ≡ false → IsOk result }
+        ensures no_tail { has_tail (to_abandon
+            (find (has_tsn tsn) self.old.inflight.chunks)) self.old ≡ false → IsOk result }
     {
         let Some(chunk) = self.inflight.get(tsn) else {
             return Ok(None);
@@ -244,7 +259,8 @@ impl OutboundQueue {
     fn abandon_message(&mut self, message_id: u64, next_tsn: &mut u32) -> Result<usize>
         requires fresh { is_held self.old.inflight.chunks next_tsn.old ≡ false }
         requires window { SpansOneWindow self.old.inflight.chunks next_tsn.old }
-        ensures released { IfOk result (λ bytes. total_bytes self.new + bytes ≡ total_bytes self.old) }
+        ensures released { IfOk result (λ bytes. total_bytes self.new + bytes
+            ≡ total_bytes self.old) }
         ensures ok { OnOk result (self.new ≡ abandoned message_id next_tsn.old self.old) }
         ensures raised { OnOk result (next_tsn.new ≡ tsn_after message_id next_tsn.old self.old) }
         ensures err { OnErr result ((self.new ≡ self.old) × (next_tsn.new ≡ next_tsn.old)) }
@@ -293,7 +309,8 @@ impl OutboundQueue {
     /// unordered, and its bytes. `now` is in nanoseconds; a message is lapsed from its deadline
     /// on, and an empty fragment and one that establishes a channel never are. It takes no memory.
     pub fn expire_pending(&mut self, now: u64) -> Option<(u16, bool, usize)>
-        ensures answer { option_map {U = ℕ × Bool} (λ a. (a.0, a.1)) result ≡ option_map {U = ℕ × Bool} (λ c. (c.stream_identifier, c.unordered)) (expiring now self.old) }
+        ensures answer { option_map {U = ℕ × Bool} (λ a. (a.0, a.1)) result ≡ option_map {U = ℕ
+            × Bool} (λ c. (c.stream_identifier, c.unordered)) (expiring now self.old) }
         ensures released { total_bytes self.new + expired_bytes result ≡ total_bytes self.old }
         ensures expired { self.new ≡ expired_of (expiring now self.old) self.old }
     {
@@ -314,7 +331,8 @@ impl OutboundQueue {
     // Removes what waits of a message, and answers its bytes.
     fn remove_pending(&mut self, message_id: u64) -> usize
         ensures released { total_bytes self.new + result ≡ total_bytes self.old }
-        ensures removed { self.new ≡ record self.old { pending = pending.without message_id self.old.pending } }
+        ensures removed { self.new
+            ≡ record self.old { pending = pending.without message_id self.old.pending } }
     {
         let (bytes, _) = self.pending.remove_message(message_id);
         bytes
@@ -323,7 +341,8 @@ impl OutboundQueue {
     // Lowers the numbers of a stream's ordered messages that wait by one.
     fn compact_ordered_ssns(&mut self, stream_identifier: u16)
         ensures bytes { total_bytes self.new ≡ total_bytes self.old }
-        ensures closed_up { self.new ≡ record self.old { pending = pending.closed_up stream_identifier self.old.pending } }
+        ensures closed_up { self.new
+            ≡ record self.old { pending = pending.closed_up stream_identifier self.old.pending } }
     {
         self.pending.compact_ordered_ssns(stream_identifier);
     }
@@ -341,12 +360,17 @@ impl OutboundQueue {
     ) -> Result<Option<(u16, u64, usize)>>
         requires fresh { is_held self.old.inflight.chunks next_tsn.old ≡ false }
         requires window { SpansOneWindow self.old.inflight.chunks next_tsn.old }
-        ensures answer { IfOk result (λ r. option_map {U = ℕ × ℕ} (λ a. (a.0, a.1)) r ≡ option_map {U = ℕ × ℕ} (λ c. (c.stream_identifier, c.message_id)) (expiring_tail now self.old)) }
-        ensures released { IfOk result (λ r. total_bytes self.new + tail_bytes r ≡ total_bytes self.old) }
-        ensures ok { OnOk result (self.new ≡ abandoned_of (message_of (expiring_tail now self.old)) next_tsn.old self.old) }
-        ensures raised { OnOk result (next_tsn.new ≡ tsn_after_of (message_of (expiring_tail now self.old)) next_tsn.old self.old) }
+        ensures answer { IfOk result (λ r. option_map {U = ℕ × ℕ} (λ a. (a.0, a.1)) r ≡ option_map
+            {U = ℕ × ℕ} (λ c. (c.stream_identifier, c.message_id)) (expiring_tail now self.old)) }
+        ensures released { IfOk result (λ r. total_bytes self.new + tail_bytes r
+            ≡ total_bytes self.old) }
+        ensures ok { OnOk result (self.new
+            ≡ abandoned_of (message_of (expiring_tail now self.old)) next_tsn.old self.old) }
+        ensures raised { OnOk result (next_tsn.new
+            ≡ tsn_after_of (message_of (expiring_tail now self.old)) next_tsn.old self.old) }
         // the next TSN is the same while a message stays half sent
-        ensures half { OnOk result ((next_tsn.new ≡ next_tsn.old) ⊎ (half_sent self.new.pending ≡ None)) }
+        ensures half { OnOk result ((next_tsn.new ≡ next_tsn.old)
+            ⊎ (half_sent self.new.pending ≡ None)) }
         ensures err { OnErr result ((self.new ≡ self.old) × (next_tsn.new ≡ next_tsn.old)) }
         ensures memory { IsOkUnless result ErrOutOfMemory }
         ensures succeeds { 0 < self.old.inflight.room → IsOk result }
@@ -394,7 +418,8 @@ impl OutboundQueue {
     /// Takes the first chunk in flight, if it has this TSN.
     pub fn pop(&mut self, tsn: u32) -> Option<ChunkPayloadData>
         ensures popped { result ≡ front_with tsn self.old.inflight.chunks }
-        ensures rest { self.new ≡ with_inflight self.old (without_front tsn self.old.inflight.chunks) }
+        ensures rest { self.new
+            ≡ with_inflight self.old (without_front tsn self.old.inflight.chunks) }
     {
         self.inflight.pop(tsn)
     }
@@ -402,7 +427,8 @@ impl OutboundQueue {
     /// Marks a chunk in flight as acknowledged: its bytes go, and it is not to be
     /// sent again. Answers how many bytes left, 0 where the TSN is not in flight.
     pub fn mark_as_acked(&mut self, tsn: u32) -> usize
-        ensures acked { self.new ≡ with_inflight self.old (change_where (has_tsn tsn) acknowledged self.old.inflight.chunks) }
+        ensures acked { self.new ≡ with_inflight self.old
+            (change_where (has_tsn tsn) acknowledged self.old.inflight.chunks) }
         ensures left { total_bytes self.new + result ≡ total_bytes self.old }
     {
         self.inflight.mark_as_acked(tsn)
@@ -411,14 +437,16 @@ impl OutboundQueue {
     /// Flags each chunk in flight that is neither acknowledged nor abandoned to be
     /// sent again, as after the retransmission timer ran out (RFC 4960 6.3.3).
     pub fn mark_all_to_retransmit(&mut self)
-        ensures { self.new ≡ with_inflight self.old (change_where is_outstanding (with_retransmit true) self.old.inflight.chunks) }
+        ensures { self.new ≡ with_inflight self.old
+            (change_where is_outstanding (with_retransmit true) self.old.inflight.chunks) }
     {
         self.inflight.mark_all_to_retransmit();
     }
 
     /// Whether the TSN is in flight; the chunk is to be sent again then, or not, as `retransmit` says.
     pub fn set_retransmit(&mut self, tsn: u32, retransmit: bool) -> bool
-        ensures changed { self.new ≡ with_inflight self.old (change_where (has_tsn tsn) (with_retransmit retransmit) self.old.inflight.chunks) }
+        ensures changed { self.new ≡ with_inflight self.old
+            (change_where (has_tsn tsn) (with_retransmit retransmit) self.old.inflight.chunks) }
         ensures held { result ≡ is_held self.old.inflight.chunks tsn }
     {
         self.inflight.set_retransmit(tsn, retransmit)
@@ -426,7 +454,8 @@ impl OutboundQueue {
 
     /// Whether the TSN is in flight; the chunk counts as sent so often then.
     pub fn set_nsent(&mut self, tsn: u32, nsent: u32) -> bool
-        ensures changed { self.new ≡ with_inflight self.old (change_where (has_tsn tsn) (with_nsent nsent) self.old.inflight.chunks) }
+        ensures changed { self.new ≡ with_inflight self.old
+            (change_where (has_tsn tsn) (with_nsent nsent) self.old.inflight.chunks) }
         ensures held { result ≡ is_held self.old.inflight.chunks tsn }
     {
         self.inflight.set_nsent(tsn, nsent)
@@ -434,7 +463,8 @@ impl OutboundQueue {
 
     /// Whether the TSN is in flight; the chunk counts as sent at that moment then, in nanoseconds.
     pub fn set_since(&mut self, tsn: u32, since: Option<u64>) -> bool
-        ensures changed { self.new ≡ with_inflight self.old (change_where (has_tsn tsn) (with_since since) self.old.inflight.chunks) }
+        ensures changed { self.new ≡ with_inflight self.old
+            (change_where (has_tsn tsn) (with_since since) self.old.inflight.chunks) }
         ensures held { result ≡ is_held self.old.inflight.chunks tsn }
     {
         self.inflight.set_since(tsn, since)
@@ -443,7 +473,8 @@ impl OutboundQueue {
     /// Whether the TSN is in flight; the chunk then counts as reported missing by so
     /// many acknowledgements, which fast retransmission looks at (RFC 4960 7.2.4).
     pub fn set_miss_indicator(&mut self, tsn: u32, miss_indicator: u8) -> bool
-        ensures changed { self.new ≡ with_inflight self.old (change_where (has_tsn tsn) (with_miss_indicator miss_indicator) self.old.inflight.chunks) }
+        ensures changed { self.new ≡ with_inflight self.old (change_where
+            (has_tsn tsn) (with_miss_indicator miss_indicator) self.old.inflight.chunks) }
         ensures held { result ≡ is_held self.old.inflight.chunks tsn }
     {
         self.inflight.set_miss_indicator(tsn, miss_indicator)
@@ -451,7 +482,8 @@ impl OutboundQueue {
 
     /// Whether the chunk in flight with this TSN is abandoned; false where there is none.
     pub fn is_abandoned(&self, tsn: u32) -> bool
-        ensures { result ≡ unwrap_or (option_map (λ c. c.abandoned) (find (has_tsn tsn) self.now.inflight.chunks)) false }
+        ensures { result ≡ unwrap_or
+            (option_map (λ c. c.abandoned) (find (has_tsn tsn) self.now.inflight.chunks)) false }
     {
         match self.inflight.get(tsn) {
             Some(chunk) => chunk.abandoned,
@@ -475,14 +507,17 @@ impl OutboundQueue {
 
     /// Whether a chunk of the stream waits.
     pub fn pending_contains_stream(&self, stream_identifier: u16) -> bool
-        ensures { result ≡ list_any (pending.is_on stream_identifier) self.now.pending.unordered || list_any (pending.is_on stream_identifier) self.now.pending.ordered }
+        ensures { result ≡ list_any (pending.is_on stream_identifier) self.now.pending.unordered
+            || list_any (pending.is_on stream_identifier) self.now.pending.ordered }
     {
         self.pending.contains_stream(stream_identifier)
     }
 
     /// Whether a chunk of the stream waits or is in flight.
     pub fn contains_stream(&self, stream_identifier: u16) -> bool
-        ensures { result ≡ (list_any (pending.is_on stream_identifier) self.now.pending.unordered || list_any (pending.is_on stream_identifier) self.now.pending.ordered) || list_any (pending.is_on stream_identifier) self.now.inflight.chunks }
+        ensures { result ≡ (list_any (pending.is_on stream_identifier) self.now.pending.unordered
+            || list_any (pending.is_on stream_identifier) self.now.pending.ordered)
+            || list_any (pending.is_on stream_identifier) self.now.inflight.chunks }
     {
         self.pending.contains_stream(stream_identifier)
             || self.inflight.contains_stream(stream_identifier)
@@ -519,10 +554,12 @@ impl OutboundQueue {
     /// From here on so many pushes of ordered and of unordered fragments take no memory.
     /// Refuses only for memory, and the queue is as it was then.
     pub fn reserve(&mut self, ordered: usize, unordered: usize) -> Result<()>
-        ensures ok { OnOk result (self.new ≡ record self.old { pending = pending.reserved self.old.pending ordered unordered }) }
+        ensures ok { OnOk result (self.new
+            ≡ record self.old { pending = pending.reserved self.old.pending ordered unordered }) }
         ensures err { OnErr result (self.new ≡ self.old) }
         ensures memory { IsOkUnless result ErrOutOfMemory }
-        ensures succeeds { ordered ≤ self.old.pending.ordered_room → unordered ≤ self.old.pending.unordered_room → IsOk result }
+        ensures succeeds { ordered ≤ self.old.pending.ordered_room
+            → unordered ≤ self.old.pending.unordered_room → IsOk result }
     {
         self.pending.reserve(ordered, unordered)
     }
@@ -530,7 +567,9 @@ impl OutboundQueue {
     /// From here on so many sends and end marks take no memory.
     /// Refuses only for memory, and the queue is as it was then.
     pub fn reserve_inflight(&mut self, sends: usize) -> Result<()>
-        ensures ok { OnOk result (self.new ≡ record self.old { inflight = record self.old.inflight { room = max sends self.old.inflight.room } }) }
+        ensures ok { OnOk result (self.new
+            ≡ record self.old { inflight = record self.old.inflight { room = max
+            sends self.old.inflight.room } }) }
         ensures err { OnErr result (self.new ≡ self.old) }
         ensures memory { IsOkUnless result ErrOutOfMemory }
         ensures succeeds { sends ≤ self.old.inflight.room → IsOk result }

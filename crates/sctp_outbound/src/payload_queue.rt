@@ -105,7 +105,8 @@ fn free_place(held: &Held, tsn: u32) -> Option<usize>
 
 // The distance from the cumulative TSN to a TSN, where a gap ack block can hold it.
 fn gap_offset(cumulative_tsn: u32, tsn: u32) -> Option<u16>
-    ensures some { IfSome result (λ offset. (offset ≡ distance cumulative_tsn tsn) × (0 < offset) × (offset < 2 ^ 16)) }
+    ensures some { IfSome result (λ offset. (offset ≡ distance cumulative_tsn tsn)
+        × (0 < offset) × (offset < 2 ^ 16)) }
     ensures test { is_some result ≡ is_offset (distance cumulative_tsn tsn) }
     ensures fits { cumulative_tsn < 2 ^ 32 }
 {
@@ -138,7 +139,8 @@ fn first_after(held: &Held, cumulative_tsn: u32, turns: &mut Turns) -> usize
 // The TSN at a place: the one that was seen there, or else a look.
 fn seen_or_look(held: &Held, place: usize, seen: Option<u32>, turns: &mut Turns) -> u32
     requires in_range { place < length held.now.chunks }
-    requires seen { IfSome seen (λ tsn. (d : _) → (slice_index_or held.now.chunks place d).tsn ≡ tsn) }
+    requires seen { IfSome seen (λ tsn. (d : _)
+        → (slice_index_or held.now.chunks place d).tsn ≡ tsn) }
     ensures number { (d : _) → (slice_index_or held.now.chunks place d).tsn ≡ result }
     ensures not_back { turns.old ≤ turns.new }
     ensures cost { turns.new ≤ turns.old + 1 }
@@ -164,9 +166,11 @@ fn run_end(
     requires some { place < end }
     requires in_range { end ≤ length held.now.chunks }
     ensures run { IsRunUntil held.now.chunks end place result.0 }
-    ensures seen { IfSome result.1 (λ tsn. (d : _) → (slice_index_or held.now.chunks (result.0 + 1) d).tsn ≡ tsn) }
+    ensures seen { IfSome result.1 (λ tsn. (d : _)
+        → (slice_index_or held.now.chunks (result.0 + 1) d).tsn ≡ tsn) }
     ensures not_back { turns.old ≤ turns.new }
-    ensures cost { 2 ^ (turns.new - turns.old) < 4 * ((result.0 + 1 - place) * (result.0 + 1 - place)) }
+    ensures cost { 2 ^ (turns.new - turns.old)
+        < 4 * ((result.0 + 1 - place) * (result.0 + 1 - place)) }
 {
     let mut last = place;
     let mut tsn = tsn;
@@ -197,9 +201,11 @@ fn run_end_between(
     requires number { (d : _) → (slice_index_or held.now.chunks place d).tsn ≡ tsn }
     requires some { place < end }
     requires in_range { end ≤ length held.now.chunks }
-    requires seen { IfSome seen (λ tsn. (d : _) → (slice_index_or held.now.chunks end d).tsn ≡ tsn) }
+    requires seen { IfSome seen (λ tsn. (d : _)
+        → (slice_index_or held.now.chunks end d).tsn ≡ tsn) }
     ensures run { IsRunUntil held.now.chunks end place result.0 }
-    ensures seen { IfSome result.1 (λ tsn. (d : _) → (slice_index_or held.now.chunks (result.0 + 1) d).tsn ≡ tsn) }
+    ensures seen { IfSome result.1 (λ tsn. (d : _)
+        → (slice_index_or held.now.chunks (result.0 + 1) d).tsn ≡ tsn) }
     ensures not_back { turns.old ≤ turns.new }
     ensures cost { IsWithinDigits (end - place - 1) (turns.new - turns.old) }
 {
@@ -267,8 +273,10 @@ impl PayloadQueue {
     /// Whether TSNs let `push` be called with a chunk of this TSN: it is not new, or it and all that is held lie at distance 1 to 2^31
     /// after `cumulative_tsn`. Two chunks are looked at, and the TSN is searched for only where one of those lies elsewhere.
     pub fn fits(&self, cumulative_tsn: u32, tsn: u32) -> bool
-        ensures yes { result ≡ true → IsTrue (is_new self.now.chunks tsn cumulative_tsn) → IsWindow cumulative_tsn self.now.chunks tsn }
-        ensures no { (IsTrue (is_new self.now.chunks tsn cumulative_tsn) → IsWindow cumulative_tsn self.now.chunks tsn) → result ≡ true }
+        ensures yes { result ≡ true → IsTrue (is_new self.now.chunks tsn cumulative_tsn)
+            → IsWindow cumulative_tsn self.now.chunks tsn }
+        ensures no { (IsTrue (is_new self.now.chunks tsn cumulative_tsn)
+            → IsWindow cumulative_tsn self.now.chunks tsn) → result ≡ true }
     {
         if are_within_half(&self.held, cumulative_tsn) {
             return true;
@@ -281,7 +289,8 @@ impl PayloadQueue {
     pub fn can_push_no_check(&self, tsn: u32) -> bool
         ensures fresh { result ≡ true → is_held self.now.chunks tsn ≡ false }
         ensures window { result ≡ true → SpansOneWindow self.now.chunks tsn }
-        ensures exact { is_held self.now.chunks tsn ≡ false → SpansOneWindow self.now.chunks tsn → result ≡ true }
+        ensures exact { is_held self.now.chunks tsn ≡ false
+            → SpansOneWindow self.now.chunks tsn → result ≡ true }
     {
         span_one_window(&self.held, tsn) && free_place(&self.held, tsn).is_some()
     }
@@ -311,13 +320,18 @@ impl PayloadQueue {
     /// distance 1 to 2^31 after `cumulative_tsn` (`fits` tells), and the bytes of all are fewer than 2^64.
     /// Refuses only for memory, and a new chunk never within the room of `reserve`. The queue is as it was then.
     pub fn push(&mut self, chunk: ChunkPayloadData, cumulative_tsn: u32) -> Result<bool>
-        requires window { IsTrue (is_new self.old.chunks chunk.tsn cumulative_tsn) → IsWindow cumulative_tsn self.old.chunks chunk.tsn }
-        requires bytes { IsTrue (is_new self.old.chunks chunk.tsn cumulative_tsn) → bytes_of self.old.chunks + length chunk.user_data < 2 ^ 64 }
-        ensures answer { IfOk result (λ new. new ≡ is_new self.old.chunks chunk.tsn cumulative_tsn) }
-        ensures ok { IfOk result (λ new. self.new ≡ (if new then pushed self.old chunk else repeated self.old chunk.tsn)) }
+        requires window { IsTrue (is_new self.old.chunks chunk.tsn cumulative_tsn)
+            → IsWindow cumulative_tsn self.old.chunks chunk.tsn }
+        requires bytes { IsTrue (is_new self.old.chunks chunk.tsn cumulative_tsn)
+            → bytes_of self.old.chunks + length chunk.user_data < 2 ^ 64 }
+        ensures answer { IfOk result (λ new. new
+            ≡ is_new self.old.chunks chunk.tsn cumulative_tsn) }
+        ensures ok { IfOk result (λ new. self.new
+            ≡ (if new then pushed self.old chunk else repeated self.old chunk.tsn)) }
         ensures err { OnErr result (self.new ≡ self.old) }
         ensures memory { IsOkUnless result ErrOutOfMemory }
-        ensures succeeds { 0 < self.old.room → IsTrue (is_new self.old.chunks chunk.tsn cumulative_tsn) → IsOk result }
+        ensures succeeds { 0 < self.old.room
+            → IsTrue (is_new self.old.chunks chunk.tsn cumulative_tsn) → IsOk result }
     {
         if let Some(place) = free_place(&self.held, chunk.tsn) {
             if !sna32lte(chunk.tsn, cumulative_tsn) {
@@ -435,7 +449,8 @@ impl PayloadQueue {
     /// Gives up what is held of a message: its chunks are cleared and flagged, whatever their TSNs,
     /// and stay in flight until they are taken out (RFC 3758 3.5). Answers the bytes that left.
     pub fn abandon_message(&mut self, message_id: u64) -> usize
-        ensures abandoned { self.new ≡ with_chunks self.old (change_where (is_of message_id) given_up self.old.chunks) }
+        ensures abandoned { self.new
+            ≡ with_chunks self.old (change_where (is_of message_id) given_up self.old.chunks) }
         ensures left { bytes_of self.new.chunks + result ≡ bytes_of self.old.chunks }
     {
         let mut turns = Turns::new();
@@ -452,7 +467,8 @@ impl PayloadQueue {
     /// Flags each chunk that is neither acknowledged nor abandoned to be sent
     /// again, as after the retransmission timer ran out (RFC 4960 6.3.3).
     pub fn mark_all_to_retransmit(&mut self)
-        ensures { self.new ≡ with_chunks self.old (change_where is_outstanding (with_retransmit true) self.old.chunks) }
+        ensures { self.new ≡ with_chunks self.old
+            (change_where is_outstanding (with_retransmit true) self.old.chunks) }
     {
         let mut turns = Turns::new();
         for place in 0..self.held.len() {
@@ -482,8 +498,10 @@ impl PayloadQueue {
     /// touches the next (RFC 4960 3.3.4). A distance there has two bytes and does not wrap: farther TSNs
     /// stay held, and are reported once the cumulative TSN has come nearer. Refuses only for memory.
     pub fn get_gap_ack_blocks(&self, alloc: Global, cumulative_tsn: u32) -> Result<Vec<GapAckBlock>>
-        ensures reported { IfOk result (λ blocks. Reports cumulative_tsn self.now.chunks blocks.items) }
-        ensures runs { IfOk result (λ blocks. map ends_of blocks.items ≡ runs_of (gap_offsets cumulative_tsn self.now.chunks)) }
+        ensures reported { IfOk result
+            (λ blocks. Reports cumulative_tsn self.now.chunks blocks.items) }
+        ensures runs { IfOk result (λ blocks. map ends_of blocks.items
+            ≡ runs_of (gap_offsets cumulative_tsn self.now.chunks)) }
         ensures memory { IsOkUnless result ErrOutOfMemory }
     {
         self.get_gap_ack_blocks_counted(alloc, cumulative_tsn, &mut Turns::new())
@@ -497,12 +515,16 @@ impl PayloadQueue {
         cumulative_tsn: u32,
         turns: &mut Turns,
     ) -> Result<Vec<GapAckBlock>>
-        ensures reported { IfOk result (λ blocks. Reports cumulative_tsn self.now.chunks blocks.items) }
-        ensures runs { IfOk result (λ blocks. map ends_of blocks.items ≡ runs_of (gap_offsets cumulative_tsn self.now.chunks)) }
+        ensures reported { IfOk result
+            (λ blocks. Reports cumulative_tsn self.now.chunks blocks.items) }
+        ensures runs { IfOk result (λ blocks. map ends_of blocks.items
+            ≡ runs_of (gap_offsets cumulative_tsn self.now.chunks)) }
         ensures memory { IsOkUnless result ErrOutOfMemory }
         ensures not_back { turns.old ≤ turns.new }
-        ensures cost { IfOk result (λ blocks. IsWithinDigits (length self.now.chunks) (turns.new - turns.old - 34 * length blocks.items - 1)) }
-        ensures cost_of_runs { IsWithinDigits (length self.now.chunks) (turns.new - turns.old - 34 * length (runs_of (gap_offsets cumulative_tsn self.now.chunks)) - 1) }
+        ensures cost { IfOk result (λ blocks. IsWithinDigits
+            (length self.now.chunks) (turns.new - turns.old - 34 * length blocks.items - 1)) }
+        ensures cost_of_runs { IsWithinDigits (length self.now.chunks) (turns.new
+            - turns.old - 34 * length (runs_of (gap_offsets cumulative_tsn self.now.chunks)) - 1) }
     {
         let mut blocks = Vec::new(alloc);
         let mut place = first_after(&self.held, cumulative_tsn, turns);
@@ -525,7 +547,8 @@ impl PayloadQueue {
 
     /// The blocks as text: `cumTSN=10,2-3,5-5`. Refuses only for memory.
     pub fn get_gap_ack_blocks_string(&self, alloc: Global, cumulative_tsn: u32) -> Result<String>
-        ensures text { IfOk result (λ s. string_bytes s ≡ gap_text cumulative_tsn (runs_of (gap_offsets cumulative_tsn self.now.chunks))) }
+        ensures text { IfOk result (λ s. string_bytes s
+            ≡ gap_text cumulative_tsn (runs_of (gap_offsets cumulative_tsn self.now.chunks))) }
         ensures memory { IsOkUnless result ErrOutOfMemory }
     {
         let blocks = self.get_gap_ack_blocks(alloc, cumulative_tsn)?;
@@ -558,7 +581,8 @@ impl PayloadQueue {
     /// Marks a chunk as acknowledged: its bytes go, and it is not to be sent again.
     /// Answers how many bytes left, 0 where the TSN is not held.
     pub fn mark_as_acked(&mut self, tsn: u32) -> usize
-        ensures acked { self.new ≡ with_chunks self.old (change_where (has_tsn tsn) acknowledged self.old.chunks) }
+        ensures acked { self.new
+            ≡ with_chunks self.old (change_where (has_tsn tsn) acknowledged self.old.chunks) }
         ensures left { bytes_of self.new.chunks + result ≡ bytes_of self.old.chunks }
     {
         self.mark(tsn, Mark::Acknowledged).unwrap_or(0)
@@ -566,7 +590,8 @@ impl PayloadQueue {
 
     /// Whether the TSN is held; the chunk is to be sent again then, or not, as `retransmit` says.
     pub fn set_retransmit(&mut self, tsn: u32, retransmit: bool) -> bool
-        ensures changed { self.new ≡ with_chunks self.old (change_where (has_tsn tsn) (with_retransmit retransmit) self.old.chunks) }
+        ensures changed { self.new ≡ with_chunks self.old
+            (change_where (has_tsn tsn) (with_retransmit retransmit) self.old.chunks) }
         ensures held { result ≡ is_held self.old.chunks tsn }
     {
         self.mark(tsn, Mark::Retransmit(retransmit)).is_some()
@@ -574,7 +599,8 @@ impl PayloadQueue {
 
     /// Whether the TSN is held; the chunk counts as sent so often then.
     pub fn set_nsent(&mut self, tsn: u32, nsent: u32) -> bool
-        ensures changed { self.new ≡ with_chunks self.old (change_where (has_tsn tsn) (with_nsent nsent) self.old.chunks) }
+        ensures changed { self.new
+            ≡ with_chunks self.old (change_where (has_tsn tsn) (with_nsent nsent) self.old.chunks) }
         ensures held { result ≡ is_held self.old.chunks tsn }
     {
         self.mark(tsn, Mark::Nsent(nsent)).is_some()
@@ -582,7 +608,8 @@ impl PayloadQueue {
 
     /// Whether the TSN is held; the chunk counts as sent at that moment then, in nanoseconds.
     pub fn set_since(&mut self, tsn: u32, since: Option<u64>) -> bool
-        ensures changed { self.new ≡ with_chunks self.old (change_where (has_tsn tsn) (with_since since) self.old.chunks) }
+        ensures changed { self.new
+            ≡ with_chunks self.old (change_where (has_tsn tsn) (with_since since) self.old.chunks) }
         ensures held { result ≡ is_held self.old.chunks tsn }
     {
         self.mark(tsn, Mark::Since(since)).is_some()
@@ -591,7 +618,8 @@ impl PayloadQueue {
     /// Whether the TSN is held; the chunk then counts as reported missing by so
     /// many acknowledgements, which fast retransmission looks at (RFC 4960 7.2.4).
     pub fn set_miss_indicator(&mut self, tsn: u32, miss_indicator: u8) -> bool
-        ensures changed { self.new ≡ with_chunks self.old (change_where (has_tsn tsn) (with_miss_indicator miss_indicator) self.old.chunks) }
+        ensures changed { self.new ≡ with_chunks self.old
+            (change_where (has_tsn tsn) (with_miss_indicator miss_indicator) self.old.chunks) }
         ensures held { result ≡ is_held self.old.chunks tsn }
     {
         self.mark(tsn, Mark::MissIndicator(miss_indicator))
@@ -600,7 +628,8 @@ impl PayloadQueue {
 
     // Marks the chunk with this TSN, and answers the bytes that left with it.
     fn mark(&mut self, tsn: u32, mark: Mark) -> Option<usize>
-        ensures changed { self.new ≡ with_chunks self.old (change_where (has_tsn tsn) (marked mark) self.old.chunks) }
+        ensures changed { self.new
+            ≡ with_chunks self.old (change_where (has_tsn tsn) (marked mark) self.old.chunks) }
         ensures held { is_some result ≡ is_held self.old.chunks tsn }
         ensures left { bytes_of self.new.chunks + unwrap_or result 0 ≡ bytes_of self.old.chunks }
     {
@@ -617,7 +646,8 @@ impl PayloadQueue {
 
     /// The TSN of the last chunk in serial order; None where nothing is held.
     pub fn get_last_tsn_received(&self) -> Option<u32>
-        ensures { result ≡ option_map (λ c. c.tsn) (slice_get self.now.chunks (length self.now.chunks - 1)) }
+        ensures { result
+            ≡ option_map (λ c. c.tsn) (slice_get self.now.chunks (length self.now.chunks - 1)) }
     {
         let len = self.held.len();
         if len == 0 {
@@ -649,7 +679,8 @@ impl PayloadQueue {
 
     /// Whether a chunk of the stream is held.
     pub fn contains_stream(&self, stream_identifier: u16) -> bool
-        ensures { result ≡ list_any (λ c. c.stream_identifier == stream_identifier) self.now.chunks }
+        ensures { result
+            ≡ list_any (λ c. c.stream_identifier == stream_identifier) self.now.chunks }
     {
         let mut turns = Turns::new();
         for place in 0..self.held.len() {
@@ -663,7 +694,8 @@ impl PayloadQueue {
     /// From here on `additional` pushes of new TSNs take no memory.
     /// Refuses only for memory, and the queue is as it was then.
     pub fn reserve(&mut self, additional: usize) -> Result<()>
-        ensures ok { OnOk result (self.new ≡ record self.old { room = max additional self.old.room }) }
+        ensures ok { OnOk result (self.new
+            ≡ record self.old { room = max additional self.old.room }) }
         ensures err { OnErr result (self.new ≡ self.old) }
         ensures memory { IsOkUnless result ErrOutOfMemory }
         ensures succeeds { additional ≤ self.old.room → IsOk result }

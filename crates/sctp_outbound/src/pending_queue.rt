@@ -52,7 +52,8 @@ impl PendingQueue {
 
     /// A queue of nothing. It takes no memory.
     pub fn new(alloc: Global) -> Self
-        ensures { result ≡ record { ordered = []; unordered = []; selected = None; ordered_room = 0; unordered_room = 0 } }
+        ensures { result ≡ record { ordered = [];
+            unordered = []; selected = None; ordered_room = 0; unordered_room = 0 } }
     {
         PendingQueue {
             ordered: Line::new(alloc),
@@ -88,8 +89,10 @@ impl PendingQueue {
         message_id: u64,
     ) -> Result<()>
         requires { total_bytes self.old + bytes_of chunks.items < 2 ^ 64 }
-        ensures ok { OnOk result (self.new ≡ appended unordered (map (with_message_id message_id) chunks.items) self.old) }
-        ensures bytes { OnOk result (total_bytes self.new ≡ total_bytes self.old + bytes_of chunks.items) }
+        ensures ok { OnOk result (self.new
+            ≡ appended unordered (map (with_message_id message_id) chunks.items) self.old) }
+        ensures bytes { OnOk result (total_bytes self.new
+            ≡ total_bytes self.old + bytes_of chunks.items) }
         ensures err { OnErr result (self.new ≡ self.old) }
         ensures memory { IsOkUnless result ErrOutOfMemory }
         ensures succeeds { length chunks.items ≤ room_for self.old unordered → IsOk result }
@@ -155,7 +158,8 @@ impl PendingQueue {
     // How many ordered chunks go before the unordered ones, where they are at most `most`.
     fn ordered_first(&self, most: usize) -> Option<usize>
         requires { has_end self.now.selected self.now.ordered ≡ true }
-        ensures some { IfSome result (λ n. (n ≡ ordered_first self.now.selected self.now.ordered) × (n ≤ most)) }
+        ensures some { IfSome result (λ n. (n ≡ ordered_first self.now.selected self.now.ordered)
+            × (n ≤ most)) }
         ensures none { IfNone result (most < ordered_first self.now.selected self.now.ordered) }
     {
         match self.selected {
@@ -216,7 +220,8 @@ impl PendingQueue {
     /// Removes what waits of a message, the ordered chunks first, and answers its bytes and the chunk
     /// removed last. A message that is half sent stays so, unless it is this one. It takes no memory.
     pub fn remove_message(&mut self, message_id: u64) -> (usize, Option<ChunkPayloadData>)
-        ensures bytes { result.0 ≡ removed_bytes message_id self.old.ordered + removed_bytes message_id self.old.unordered }
+        ensures bytes { result.0 ≡ removed_bytes message_id self.old.ordered
+            + removed_bytes message_id self.old.unordered }
         ensures left { total_bytes self.new + result.0 ≡ total_bytes self.old }
         ensures last { result.1 ≡ last_removed message_id self.old }
         ensures rest { self.new ≡ without message_id self.old }
@@ -253,14 +258,16 @@ impl PendingQueue {
 
     /// Whether a chunk of the message waits.
     pub fn contains_message(&self, message_id: u64) -> bool
-        ensures { result ≡ list_any (is_of message_id) self.now.unordered || list_any (is_of message_id) self.now.ordered }
+        ensures { result ≡ list_any (is_of message_id) self.now.unordered
+            || list_any (is_of message_id) self.now.ordered }
     {
         self.unordered.contains_message(message_id) || self.ordered.contains_message(message_id)
     }
 
     /// Whether a chunk of the stream waits.
     pub fn contains_stream(&self, stream_identifier: u16) -> bool
-        ensures { result ≡ list_any (is_on stream_identifier) self.now.unordered || list_any (is_on stream_identifier) self.now.ordered }
+        ensures { result ≡ list_any (is_on stream_identifier) self.now.unordered
+            || list_any (is_on stream_identifier) self.now.ordered }
     {
         self.unordered.contains_stream(stream_identifier)
             || self.ordered.contains_stream(stream_identifier)
@@ -272,7 +279,8 @@ impl PendingQueue {
         ensures ok { OnOk result (self.new ≡ reserved self.old ordered unordered) }
         ensures err { OnErr result (self.new ≡ self.old) }
         ensures memory { IsOkUnless result ErrOutOfMemory }
-        ensures succeeds { ordered ≤ self.old.ordered_room → unordered ≤ self.old.unordered_room → IsOk result }
+        ensures succeeds { ordered ≤ self.old.ordered_room
+            → unordered ≤ self.old.unordered_room → IsOk result }
     {
         let before = self.ordered.room();
         self.ordered.reserve(ordered)?;

@@ -147,7 +147,8 @@ fn open_packet<C: Checksum>(raw: &Bytes, checksum: &C) -> Result<(CommonHeader, 
 fn put_chunk(buf: &mut BytesMut, chunk: &ChunkKind) -> Result<()>
     ensures ok { OnOk result (HasText (wire_of chunk.now)
         × (buf.new.items ≡ buf.old.items ++ padded_text (wire_of chunk.now))) }
-    ensures spare { OnOk result (buf.old.spare ≤ buf.new.spare + length (padded_text (wire_of chunk.now))) }
+    ensures spare { OnOk result
+        (buf.old.spare ≤ buf.new.spare + length (padded_text (wire_of chunk.now))) }
     ensures fits { OnOk result (Fits (wire_of chunk.now)) }
     ensures err { OnErr result (buf.new.items ≡ buf.old.items) }
     ensures refused { IfErr result (λ e. TextFault e (wire_of chunk.now)
@@ -172,7 +173,8 @@ fn put_chunks(buf: &mut BytesMut, chunks: &[ChunkKind]) -> Result<()>
         × (buf.new.items ≡ buf.old.items ++ body_of (map wire_of chunks.now))) }
     ensures fits { OnOk result (AllByRecursion Fits (map wire_of chunks.now)) }
     ensures kept { take (length buf.old.items) buf.new.items ≡ buf.old.items }
-    ensures spare { OnOk result (buf.old.spare ≤ buf.new.spare + length (body_of (map wire_of chunks.now))) }
+    ensures spare { OnOk result
+        (buf.old.spare ≤ buf.new.spare + length (body_of (map wire_of chunks.now))) }
     ensures refused { IfErr result (λ e. FirstTextFault e (map wire_of chunks.now)
         ⊎ ((e ≡ ErrOutOfMemory) × LacksRoom buf.old.spare 0 (map wire_of chunks.now))) }
 {
@@ -228,7 +230,8 @@ impl Packet {
         ensures found { IfOk result (λ p. ReadsPacket (C.sum checksum.now) raw.now (parts_of p)) }
         ensures only { (p : Parts) → ReadsPacket (C.sum checksum.now) raw.now p
             → GivesUnlessMemory result (λ q. parts_of q ≡ p) }
-        ensures fault { IfErr result (λ e. OrMemory e (PacketFault (C.sum checksum.now) e raw.now)) }
+        ensures fault { IfErr result
+            (λ e. OrMemory e (PacketFault (C.sum checksum.now) e raw.now)) }
         // What was read has a text, which reads back.
         ensures rewritable { IfOk result (λ p. HavePacketText (parts_of p)) }
         ensures canonical { IfOk result (λ p. IsCanonical (parts_of p)) }
@@ -253,7 +256,8 @@ impl Packet {
             × (buf.new.items ≡ buf.old.items ++ packet_text (C.sum checksum.now) (parts_of self.now))
             × (n ≡ length buf.new.items)) }
         // What is written reads back.
-        ensures reads_back { IsCanonical (parts_of self.now) → OnOk result (ReadsPacket (C.sum checksum.now)
+        ensures reads_back { IsCanonical (parts_of self.now)
+            → OnOk result (ReadsPacket (C.sum checksum.now)
             (packet_text (C.sum checksum.now) (parts_of self.now)) (parts_of self.now)) }
         ensures err { OnErr result (buf.new.items ≡ buf.old.items) }
         ensures refused { IfErr result (λ e.

@@ -70,7 +70,8 @@ impl ReassemblyQueue {
     /// An empty queue of the stream `si`, which takes messages of at most `max_message_size`
     /// bytes and expects the stream sequence number 0 first (RFC 4960 6.5). It takes no memory.
     pub fn new(alloc: Global, si: u16, max_message_size: u32) -> Self
-        ensures { result ≡ record { si = si; held = record { next_ssn = 0; ordered = []; unordered = []; loose = [] }; bytes = 0; max_message_size = max_message_size } }
+        ensures { result ≡ record { si = si; held = record { next_ssn = 0; ordered = [];
+            unordered = []; loose = [] }; bytes = 0; max_message_size = max_message_size } }
     {
         ReassemblyQueue {
             alloc,
@@ -166,13 +167,19 @@ impl ReassemblyQueue {
     /// Refuses with `ErrInboundPacketTooLarge`, exactly where its message would be
     /// longer than `max_message_size`, or for memory. The queue is as it was then.
     pub fn push(&mut self, chunk: ChunkPayloadData) -> Result<bool>
-        ensures other_stream { (chunk.stream_identifier == self.old.si) ≡ false → (result ≡ Ok false) × (self.new ≡ self.old) }
-        ensures ordered { (chunk.stream_identifier == self.old.si) ≡ true → chunk.unordered ≡ false → IfOk result (λ whole. (self.new ≡ ordered_pushed chunk self.old) × (whole ≡ is_whole_with chunk self.old.held)) }
-        ensures unordered { (chunk.stream_identifier == self.old.si) ≡ true → chunk.unordered ≡ true → IfOk result (λ whole. PushesUnordered chunk self.old self.new whole) }
+        ensures other_stream { (chunk.stream_identifier == self.old.si) ≡ false
+            → (result ≡ Ok false) × (self.new ≡ self.old) }
+        ensures ordered { (chunk.stream_identifier == self.old.si) ≡ true → chunk.unordered ≡ false
+            → IfOk result (λ whole. (self.new ≡ ordered_pushed chunk self.old)
+            × (whole ≡ is_whole_with chunk self.old.held)) }
+        ensures unordered { (chunk.stream_identifier == self.old.si) ≡ true → chunk.unordered ≡ true
+            → IfOk result (λ whole. PushesUnordered chunk self.old self.new whole) }
         ensures fits { IsOk result → is_too_large chunk self.old ≡ false }
-        ensures refused { IfErr result (λ e. e ≡ (if is_too_large chunk self.old then ErrInboundPacketTooLarge else ErrOutOfMemory)) }
+        ensures refused { IfErr result (λ e. e
+            ≡ (if is_too_large chunk self.old then ErrInboundPacketTooLarge else ErrOutOfMemory)) }
         ensures err { OnErr result (self.new ≡ self.old) }
-        ensures counted { held_bytes self.old.held + length chunk.user_data < 2 ^ 64 → IsCounted self.old → IsCounted self.new }
+        ensures counted { held_bytes self.old.held + length chunk.user_data < 2 ^ 64
+            → IsCounted self.old → IsCounted self.new }
     {
         if chunk.stream_identifier != self.si {
             return Ok(false);
@@ -190,7 +197,8 @@ impl ReassemblyQueue {
 
     // Where an unordered chunk goes among the loose fragments.
     fn place_of(&self, chunk: &ChunkPayloadData) -> usize
-        ensures { chunk.now.unordered ≡ true → result ≡ place_among chunk.now.tsn self.now.held.loose }
+        ensures { chunk.now.unordered ≡ true
+            → result ≡ place_among chunk.now.tsn self.now.held.loose }
     {
         if !chunk.unordered {
             return 0;
@@ -200,9 +208,11 @@ impl ReassemblyQueue {
 
     // Whether the message of the chunk would be too long with it.
     fn is_too_large(&self, chunk: &ChunkPayloadData, place: usize) -> bool
-        requires place { chunk.now.unordered ≡ true → place ≡ place_among chunk.now.tsn self.now.held.loose }
+        requires place { chunk.now.unordered ≡ true
+            → place ≡ place_among chunk.now.tsn self.now.held.loose }
         requires fits { chunk.now.tsn < 2 ^ 32 }
-        ensures { result ≡ nat_lt self.now.max_message_size (projected_size chunk.now self.now.held.ordered self.now.held.loose) }
+        ensures { result ≡ nat_lt self.now.max_message_size
+            (projected_size chunk.now self.now.held.ordered self.now.held.loose) }
     {
         if chunk.unordered && self.fits_beside_all(chunk) {
             return false;
@@ -220,8 +230,10 @@ impl ReassemblyQueue {
     // Whether all loose fragments and the chunk are no longer than one message may be, in serial order. Then its
     // message is no longer either, since no fragment stands on both sides of the chunk.
     fn fits_beside_all(&self, chunk: &ChunkPayloadData) -> bool
-        ensures yes { result ≡ true → IsSerial self.now.held.loose × (bytes_of self.now.held.loose + length chunk.now.user_data ≤ self.now.max_message_size) }
-        ensures no { result ≡ false → IsSerial self.now.held.loose → self.now.max_message_size < bytes_of self.now.held.loose + length chunk.now.user_data }
+        ensures yes { result ≡ true → IsSerial self.now.held.loose × (bytes_of self.now.held.loose
+            + length chunk.now.user_data ≤ self.now.max_message_size) }
+        ensures no { result ≡ false → IsSerial self.now.held.loose → self.now.max_message_size
+            < bytes_of self.now.held.loose + length chunk.now.user_data }
     {
         let loose = self.unordered_chunks.loose();
         let all = loose.get_num_bytes().saturating_add(chunk.user_data.len());
@@ -272,8 +284,11 @@ impl ReassemblyQueue {
     /// the bytes held, it is more by those of the run, until `subtract_num_bytes` takes them off. Refuses only for memory; the queue
     /// is as it was then.
     pub fn find_complete_unordered_chunk_set(&mut self, alloc: Global) -> Result<Option<Chunks>>
-        ensures ok { IfOk result (λ set. MatchOption set (HasNoRun self.old.held.loose × (self.new ≡ self.old)) (λ chunks. GivesRun self.old self.new chunks.set × (chunks ≡ at_start chunks.set))) }
-        ensures counted { IfOk result (λ set. IsCounted self.old → self.new.bytes ≡ held_bytes self.new.held + bytes_read (option_map (λ c. c.set) set)) }
+        ensures ok { IfOk result
+            (λ set. MatchOption set (HasNoRun self.old.held.loose × (self.new ≡ self.old))
+            (λ chunks. GivesRun self.old self.new chunks.set × (chunks ≡ at_start chunks.set))) }
+        ensures counted { IfOk result (λ set. IsCounted self.old → self.new.bytes
+            ≡ held_bytes self.new.held + bytes_read (option_map (λ c. c.set) set)) }
         ensures err { OnErr result (self.new ≡ self.old) }
         ensures memory { IfErr result (λ e. e ≡ ErrOutOfMemory) }
     {
@@ -310,7 +325,8 @@ impl ReassemblyQueue {
 
     // Lowers the byte count by a number that was counted up to the greatest usize.
     fn release(&mut self, counted: usize)
-        ensures { (n : ℕ) → counted ≡ min n (2 ^ 64 - 1) → self.new ≡ record self.old { bytes = self.old.bytes - n } }
+        ensures { (n : ℕ) → counted ≡ min n (2 ^ 64 - 1)
+            → self.new ≡ record self.old { bytes = self.old.bytes - n } }
     {
         self.n_bytes = self.n_bytes.saturating_sub(counted);
     }
@@ -423,7 +439,8 @@ fn set_of_run(chunks: Vec<ChunkPayloadData>) -> Fragments
 // How long the message of an unordered chunk would be with it, up to the greatest number.
 fn unordered_size(chunk: &ChunkPayloadData, loose: &Loose, place: usize) -> usize
     requires { place ≡ place_among chunk.now.tsn loose.now }
-    ensures { result ≡ min (size_before chunk.now loose.now + length chunk.now.user_data + size_after chunk.now loose.now) (2 ^ 64 - 1) }
+    ensures { result ≡ min (size_before chunk.now loose.now
+        + length chunk.now.user_data + size_after chunk.now loose.now) (2 ^ 64 - 1) }
 {
     size_before(chunk, loose, place)
         .saturating_add(chunk.user_data.len())
@@ -432,7 +449,8 @@ fn unordered_size(chunk: &ChunkPayloadData, loose: &Loose, place: usize) -> usiz
 
 // The number expected next, once no message up to the other one is waited for.
 fn ssn_past(next_ssn: u16, last_ssn: u16) -> u16
-    ensures { result ≡ (if at_or_before16 next_ssn last_ssn then (last_ssn + 1) % 2 ^ 16 else next_ssn) }
+    ensures { result
+        ≡ (if at_or_before16 next_ssn last_ssn then (last_ssn + 1) % 2 ^ 16 else next_ssn) }
 {
     if sna16lte(next_ssn, last_ssn) {
         last_ssn.wrapping_add(1)

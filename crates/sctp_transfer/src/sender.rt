@@ -84,7 +84,8 @@ impl Sender {
     pub fn open(&mut self, stream: u16) -> Result<(), SenderRefusal>
         ensures ok { OnOk result (self.new ≡ opened stream self.old) }
         ensures accepted { IsOk result → is_open stream self.old ≡ false }
-        ensures refused { IfErr result (λ e. e ≡ (if is_open stream self.old then StreamOpen else OutOfMemory)) }
+        ensures refused { IfErr result (λ e. e
+            ≡ (if is_open stream self.old then StreamOpen else OutOfMemory)) }
         ensures err { OnErr result (self.new ≡ self.old) }
     {
         if self.streams.place_of(stream).is_some() {
@@ -106,9 +107,11 @@ impl Sender {
         reliability: ReliabilityType,
         value: u32,
     ) -> Result<(), SenderRefusal>
-        ensures ok { OnOk result (self.new ≡ with_mode_on stream unordered reliability value self.old) }
+        ensures ok { OnOk result (self.new
+            ≡ with_mode_on stream unordered reliability value self.old) }
         ensures accepted { IsOk result → is_open stream self.old ≡ true }
-        ensures refused { IfErr result (λ e. (e ≡ StreamUnknown) × (is_open stream self.old ≡ false)) }
+        ensures refused { IfErr result (λ e. (e ≡ StreamUnknown)
+            × (is_open stream self.old ≡ false)) }
         ensures err { OnErr result (self.new ≡ self.old) }
     {
         let Some(place) = self.streams.place_of(stream) else {
@@ -121,7 +124,8 @@ impl Sender {
 
     /// Starts the lifetimes of the messages written since the last time; `now` is in nanoseconds. It takes no memory.
     pub fn start(&mut self, now: u64)
-        ensures { self.new ≡ with_flight (with_queue self.old.flight (all_started now self.old.flight.queue)) self.old }
+        ensures { self.new ≡ with_flight
+            (with_queue self.old.flight (all_started now self.old.flight.queue)) self.old }
     {
         self.flight.start(now);
     }
@@ -136,15 +140,21 @@ impl Sender {
         bytes: &Bytes,
     ) -> Result<(Option<u64>, usize), SenderRefusal>
         ensures empty { length bytes.now ≡ 0 → OnOk result (self.new ≡ self.old) }
-        ensures ok { 0 < length bytes.now → OnOk result ((l : StreamState) → stream_of stream self.old ≡ Some l → self.new ≡ written_to l stream ppi bytes.now self.old) }
-        ensures number { IfOk result (λ r. r.0 ≡ (if length bytes.now == 0 then None else Some self.old.flight.queue.next_message_id)) }
-        ensures count { IfOk result (λ r. (l : StreamState) → stream_of stream self.old ≡ Some l → 0 < length bytes.now → r.1 ≡ length (fragments_with_mode l ppi bytes.now)) }
+        ensures ok { 0 < length bytes.now
+            → OnOk result ((l : StreamState) → stream_of stream self.old ≡ Some l
+            → self.new ≡ written_to l stream ppi bytes.now self.old) }
+        ensures number { IfOk result (λ r. r.0 ≡ (if length bytes.now == 0 then None
+            else Some self.old.flight.queue.next_message_id)) }
+        ensures count { IfOk result (λ r. (l : StreamState) → stream_of stream self.old ≡ Some l
+            → 0 < length bytes.now → r.1 ≡ length (fragments_with_mode l ppi bytes.now)) }
         ensures none { length bytes.now ≡ 0 → IfOk result (λ r. r.1 ≡ 0) }
         ensures bytes { OnOk result (total_bytes self.new.flight.queue
             ≡ total_bytes self.old.flight.queue + length bytes.now) }
         ensures idle { length bytes.now ≡ 0 → write_refusal stream 0 self.old ≡ None → IsOk result }
         ensures accepted { IsOk result → write_refusal stream (length bytes.now) self.old ≡ None }
-        ensures refused { IfErr result (λ e. ((e ≡ OutOfMemory) × (write_refusal stream (length bytes.now) self.old ≡ None)) ⊎ (write_refusal stream (length bytes.now) self.old ≡ Some e)) }
+        ensures refused { IfErr result
+            (λ e. ((e ≡ OutOfMemory) × (write_refusal stream (length bytes.now) self.old ≡ None))
+            ⊎ (write_refusal stream (length bytes.now) self.old ≡ Some e)) }
         ensures err { OnErr result (self.new ≡ self.old) }
     {
         let Some(place) = self.streams.place_of(stream) else {
@@ -174,13 +184,17 @@ impl Sender {
     /// waits. Lifetimes start; `now` is in nanoseconds. Refuses with `TsnsUsedUp`, where something waits and 2^31 - 1 chunks are
     /// in flight, and for memory. The sender is as it was then.
     pub fn send_next(&mut self, now: u64) -> Result<Option<ChunkPayloadData>, SenderRefusal>
-        ensures answer { IfOk result (λ sent. sent ≡ option_map (with_tsn self.old.flight.next_tsn) (peeked self.old.flight.queue.pending)) }
-        ensures ok { OnOk result (self.new ≡ with_flight (record self.old.flight { queue = sent_next self.old.flight.queue self.old.flight.next_tsn now; next_tsn = next_after_send self.old.flight }) self.old) }
+        ensures answer { IfOk result (λ sent. sent ≡ option_map
+            (with_tsn self.old.flight.next_tsn) (peeked self.old.flight.queue.pending)) }
+        ensures ok { OnOk result (self.new
+            ≡ with_flight (record self.old.flight { queue = sent_next self.old.flight.queue
+            self.old.flight.next_tsn now; next_tsn = next_after_send self.old.flight }) self.old) }
         ensures bytes { OnOk result (total_bytes self.new.flight.queue
             ≡ total_bytes self.old.flight.queue) }
         ensures accepted { IsOk result → (peeked self.old.flight.queue.pending ≡ None)
             ⊎ (may_send self.old.flight ≡ true) }
-        ensures refused { IfErr result (λ e. e ≡ (if may_send self.old.flight then OutOfMemory else TsnsUsedUp)) }
+        ensures refused { IfErr result (λ e. e
+            ≡ (if may_send self.old.flight then OutOfMemory else TsnsUsedUp)) }
         ensures idle { peeked self.old.flight.queue.pending ≡ None → IsOk result }
         ensures err { OnErr result (self.new ≡ self.old) }
     {
@@ -215,12 +229,15 @@ impl Sender {
     pub fn send_next_tsn(&mut self, now: u64) -> Result<Option<u32>, SenderRefusal>
         ensures answer { IfOk result (λ sent. sent
             ≡ option_map (λ _. self.old.flight.next_tsn) (peeked self.old.flight.queue.pending)) }
-        ensures ok { OnOk result (self.new ≡ with_flight (record self.old.flight { queue = sent_next self.old.flight.queue self.old.flight.next_tsn now; next_tsn = next_after_send self.old.flight }) self.old) }
+        ensures ok { OnOk result (self.new
+            ≡ with_flight (record self.old.flight { queue = sent_next self.old.flight.queue
+            self.old.flight.next_tsn now; next_tsn = next_after_send self.old.flight }) self.old) }
         ensures bytes { OnOk result (total_bytes self.new.flight.queue
             ≡ total_bytes self.old.flight.queue) }
         ensures accepted { IsOk result → (peeked self.old.flight.queue.pending ≡ None)
             ⊎ (may_send self.old.flight ≡ true) }
-        ensures refused { IfErr result (λ e. e ≡ (if may_send self.old.flight then OutOfMemory else TsnsUsedUp)) }
+        ensures refused { IfErr result (λ e. e
+            ≡ (if may_send self.old.flight then OutOfMemory else TsnsUsedUp)) }
         ensures succeeds { 0 < self.old.flight.queue.inflight.room
             → may_send self.old.flight ≡ true → IsOk result }
         ensures idle { peeked self.old.flight.queue.pending ≡ None → IsOk result }
@@ -250,9 +267,12 @@ impl Sender {
     /// `NotInFlight`, where the TSN is not in flight; and, only where some of the message still waits, so that an end mark has
     /// to go in flight, with `TsnsUsedUp`, where 2^31 - 1 chunks are in flight, and for memory. The sender is as it was then.
     pub fn abandon(&mut self, tsn: u32) -> Result<(u16, usize), SenderRefusal>
-        ensures ok { IfOk result (λ r. self.new ≡ after_abandon (to_abandon (find (has_tsn tsn) self.old.flight.queue.inflight.chunks)) r.0 r.1 self.old) }
-        ensures stream { IfOk result (λ r. Some r.0 ≡ option_map (λ c. c.stream_identifier) (find (has_tsn tsn) self.old.flight.queue.inflight.chunks)) }
-        ensures released { IfOk result (λ r. total_bytes self.new.flight.queue + r.1 ≡ total_bytes self.old.flight.queue) }
+        ensures ok { IfOk result (λ r. self.new ≡ after_abandon (to_abandon
+            (find (has_tsn tsn) self.old.flight.queue.inflight.chunks)) r.0 r.1 self.old) }
+        ensures stream { IfOk result (λ r. Some r.0 ≡ option_map
+            (λ c. c.stream_identifier) (find (has_tsn tsn) self.old.flight.queue.inflight.chunks)) }
+        ensures released { IfOk result (λ r. total_bytes self.new.flight.queue + r.1
+            ≡ total_bytes self.old.flight.queue) }
         ensures accepted { IsOk result → abandon_refusal tsn self.old.flight ≡ None }
         ensures refused { IfErr result (λ e.
             ((e ≡ OutOfMemory) × (abandon_refusal tsn self.old.flight ≡ None))
@@ -278,10 +298,12 @@ impl Sender {
     /// Removes the message in front, where it is lapsed and wholly unsent, and answers its stream and its bytes. `now` is in
     /// nanoseconds. It takes no memory.
     pub fn expire(&mut self, now: u64) -> Option<(u16, usize)>
-        ensures some { IfSome result (λ r. IfSome (expiring now self.old.flight.queue) (λ c. (r.0 ≡ c.stream_identifier) × (self.new ≡ after_expire c r.1 now self.old))) }
+        ensures some { IfSome result (λ r. IfSome (expiring now self.old.flight.queue)
+            (λ c. (r.0 ≡ c.stream_identifier) × (self.new ≡ after_expire c r.1 now self.old))) }
         ensures none { is_some result ≡ is_some (expiring now self.old.flight.queue) }
         ensures idle { result ≡ None → self.new ≡ self.old }
-        ensures released { IfSome result (λ r. total_bytes self.new.flight.queue + r.1 ≡ total_bytes self.old.flight.queue) }
+        ensures released { IfSome result (λ r. total_bytes self.new.flight.queue + r.1
+            ≡ total_bytes self.old.flight.queue) }
     {
         let (stream, unordered, bytes) = self.flight.expire(now)?;
         self.streams.expire(stream, unordered, bytes);
@@ -292,14 +314,18 @@ impl Sender {
     /// that left. `now` is in nanoseconds. Refuses, only where there is such a message, with `TsnsUsedUp`, where 2^31 - 1 chunks
     /// are in flight, and for memory. The sender is as it was then.
     pub fn expire_tail(&mut self, now: u64) -> Result<Option<(u16, u64, usize)>, SenderRefusal>
-        ensures some { IfOk result (λ r. IfSome r (λ a. self.new ≡ after_abandon (message_of (expiring_tail now self.old.flight.queue)) a.0 a.2 self.old)) }
-        ensures answer { IfOk result (λ r. option_map {U = ℕ × ℕ} (λ a. (a.0, a.1)) r ≡ option_map {U = ℕ × ℕ} (λ c. (c.stream_identifier, c.message_id)) (expiring_tail now self.old.flight.queue)) }
+        ensures some { IfOk result (λ r. IfSome r (λ a. self.new ≡ after_abandon
+            (message_of (expiring_tail now self.old.flight.queue)) a.0 a.2 self.old)) }
+        ensures answer { IfOk result (λ r. option_map {U = ℕ × ℕ} (λ a. (a.0, a.1)) r
+            ≡ option_map {U = ℕ × ℕ}
+            (λ c. (c.stream_identifier, c.message_id)) (expiring_tail now self.old.flight.queue)) }
         ensures none { IfOk result (λ r. r ≡ None → self.new ≡ self.old) }
         ensures released { IfOk result (λ r. total_bytes self.new.flight.queue + tail_bytes r
             ≡ total_bytes self.old.flight.queue) }
         ensures accepted { IsOk result → (expiring_tail now self.old.flight.queue ≡ None)
             ⊎ (may_send self.old.flight ≡ true) }
-        ensures refused { IfErr result (λ e. e ≡ (if may_send self.old.flight then OutOfMemory else TsnsUsedUp)) }
+        ensures refused { IfErr result (λ e. e
+            ≡ (if may_send self.old.flight then OutOfMemory else TsnsUsedUp)) }
         ensures idle { expiring_tail now self.old.flight.queue ≡ None → IsOk result }
         ensures err { OnErr result (self.new ≡ self.old) }
     {
@@ -316,10 +342,13 @@ impl Sender {
     /// Sends the chunk in flight with a TSN again: answers it, and counts that. Refuses with `NotInFlight`, where none is, or it is
     /// acknowledged or given up; and for memory. The sender is as it was then.
     pub fn resend(&mut self, tsn: u32) -> Result<ChunkPayloadData, SenderRefusal>
-        ensures answer { IfOk result (λ c. find (has_tsn tsn) self.old.flight.queue.inflight.chunks ≡ Some c) }
-        ensures ok { IfOk result (λ c. self.new ≡ with_flight (resent tsn c self.old.flight) self.old) }
+        ensures answer { IfOk result (λ c. find (has_tsn tsn) self.old.flight.queue.inflight.chunks
+            ≡ Some c) }
+        ensures ok { IfOk result (λ c. self.new
+            ≡ with_flight (resent tsn c self.old.flight) self.old) }
         ensures accepted { IsOk result → can_resend tsn self.old.flight ≡ true }
-        ensures refused { IfErr result (λ e. e ≡ (if can_resend tsn self.old.flight then OutOfMemory else NotInFlight)) }
+        ensures refused { IfErr result (λ e. e
+            ≡ (if can_resend tsn self.old.flight then OutOfMemory else NotInFlight)) }
         ensures err { OnErr result (self.new ≡ self.old) }
     {
         self.flight.resend(tsn)
@@ -330,12 +359,15 @@ impl Sender {
     /// much less. One whose cumulative TSN is before the last one is out of date, and changes nothing. The refusals are those of
     /// `InFlight::acked`.
     pub fn acked(&mut self, sack: &ChunkSelectiveAck) -> Result<Vec<Released>, SenderRefusal>
-        ensures answer { IfOk result (λ r. r.items ≡ released_by (sack_of sack.now) self.old.flight) }
+        ensures answer { IfOk result (λ r. r.items
+            ≡ released_by (sack_of sack.now) self.old.flight) }
         ensures ok { OnOk result (self.new ≡ after_acked (sack_of sack.now) self.old) }
         ensures released { IfOk result (λ r. total_bytes self.new.flight.queue + bytes_in r.items
             ≡ total_bytes self.old.flight.queue) }
         ensures accepted { IsOk result → sack_refusal (sack_of sack.now) self.old.flight ≡ None }
-        ensures refused { IfErr result (λ e. ((e ≡ OutOfMemory) × (sack_refusal (sack_of sack.now) self.old.flight ≡ None)) ⊎ (sack_refusal (sack_of sack.now) self.old.flight ≡ Some e)) }
+        ensures refused { IfErr result
+            (λ e. ((e ≡ OutOfMemory) × (sack_refusal (sack_of sack.now) self.old.flight ≡ None))
+            ⊎ (sack_refusal (sack_of sack.now) self.old.flight ≡ Some e)) }
         ensures outdated { is_outdated (sack_of sack.now) self.old.flight ≡ true → IsOk result }
         ensures err { OnErr result (self.new ≡ self.old) }
     {

@@ -183,7 +183,8 @@ impl StreamState {
         default_payload_type: PayloadProtocolIdentifier,
     ) -> Self
         requires { (0 < max_payload_size) × (max_payload_size ≤ 65519) }
-        ensures { result ≡ new_stream stream_identifier max_payload_size max_receive_message_size default_payload_type }
+        ensures { result ≡ new_stream
+            stream_identifier max_payload_size max_receive_message_size default_payload_type }
     {
         StreamState {
             stats: DataChannelStats {
@@ -244,7 +245,8 @@ impl StreamState {
     // reaches the high threshold now.
     pub(crate) fn note_write(&mut self, ppi: PayloadProtocolIdentifier, len: usize) -> bool
         ensures high { result ≡ rises_high self.old len }
-        ensures rest { (bytes : List ℕ) → len ≡ length bytes → self.new ≡ after_write self.old ppi bytes }
+        ensures rest { (bytes : List ℕ)
+            → len ≡ length bytes → self.new ≡ after_write self.old ppi bytes }
         ensures number { self.new.stream_identifier ≡ self.old.stream_identifier }
     {
         if len > 0 && self.is_ordered(ppi) {
@@ -256,7 +258,8 @@ impl StreamState {
     // Counts bytes that wait, and says whether they reach the high threshold now.
     fn raise_buffered(&mut self, len: usize) -> bool
         ensures high { result ≡ rises_high self.old len }
-        ensures rest { self.new ≡ record self.old { buffered_amount = count_up self.old.buffered_amount len } }
+        ensures rest { self.new
+            ≡ record self.old { buffered_amount = count_up self.old.buffered_amount len } }
     {
         let old_amount = self.buffered_amount;
         self.buffered_amount = old_amount.saturating_add(len);
@@ -330,7 +333,8 @@ impl StreamState {
     /// low threshold. At most 0 bytes change nothing. For bytes that the peer acknowledged, or that were given up.
     pub fn on_buffer_released(&mut self, n_bytes_released: i64) -> bool
         ensures low { result ≡ falls_low self.old (released n_bytes_released) }
-        ensures rest { self.new ≡ record self.old { buffered_amount = self.old.buffered_amount - released n_bytes_released } }
+        ensures rest { self.new ≡ record self.old { buffered_amount = self.old.buffered_amount
+            - released n_bytes_released } }
     {
         if n_bytes_released <= 0 {
             return false;
@@ -342,7 +346,8 @@ impl StreamState {
 
     // Takes bytes off the buffered amount, which stops at 0.
     pub(crate) fn lower_buffered(&mut self, bytes: usize)
-        ensures { self.new ≡ record self.old { buffered_amount = self.old.buffered_amount - bytes } }
+        ensures { self.new
+            ≡ record self.old { buffered_amount = self.old.buffered_amount - bytes } }
     {
         self.buffered_amount = self.buffered_amount.saturating_sub(bytes);
     }
@@ -422,7 +427,8 @@ impl StreamState {
         rel_type: ReliabilityType,
         rel_val: u32,
     )
-        ensures { self.new ≡ record self.old { unordered = unordered; reliability_type = rel_type; reliability_value = rel_val } }
+        ensures { self.new ≡ record self.old { unordered = unordered;
+            reliability_type = rel_type; reliability_value = rel_val } }
     {
         self.unordered = unordered;
         self.reliability_type = rel_type;
@@ -551,12 +557,19 @@ impl StreamState {
     /// Refuses with `ErrInboundPacketTooLarge`, where the message would be longer
     /// than the queue takes, or for memory. The stream is as it was then.
     pub fn handle_data(&mut self, pd: &ChunkPayloadData) -> Result<bool>
-        ensures other_stream { (pd.now.stream_identifier == self.old.reassembly_queue.si) ≡ false → IfOk result (λ whole. (whole ≡ false) × (self.new ≡ self.old)) }
-        ensures ordered { (pd.now.stream_identifier == self.old.reassembly_queue.si) ≡ true → pd.now.unordered ≡ false → IfOk result (λ whole. (self.new.reassembly_queue ≡ ordered_pushed pd.now self.old.reassembly_queue) × (whole ≡ is_whole_with pd.now self.old.reassembly_queue.held)) }
-        ensures unordered { (pd.now.stream_identifier == self.old.reassembly_queue.si) ≡ true → pd.now.unordered ≡ true → IfOk result (λ whole. PushesUnordered pd.now self.old.reassembly_queue self.new.reassembly_queue whole) }
+        ensures other_stream { (pd.now.stream_identifier == self.old.reassembly_queue.si) ≡ false
+            → IfOk result (λ whole. (whole ≡ false) × (self.new ≡ self.old)) }
+        ensures ordered { (pd.now.stream_identifier == self.old.reassembly_queue.si) ≡ true
+            → pd.now.unordered ≡ false → IfOk result
+            (λ whole. (self.new.reassembly_queue ≡ ordered_pushed pd.now self.old.reassembly_queue)
+            × (whole ≡ is_whole_with pd.now self.old.reassembly_queue.held)) }
+        ensures unordered { (pd.now.stream_identifier == self.old.reassembly_queue.si) ≡ true
+            → pd.now.unordered ≡ true → IfOk result (λ whole.
+            PushesUnordered pd.now self.old.reassembly_queue self.new.reassembly_queue whole) }
         ensures rest { self.new ≡ record self.old { reassembly_queue = self.new.reassembly_queue } }
         ensures fits { IsOk result → is_too_large pd.now self.old.reassembly_queue ≡ false }
-        ensures refused { IfErr result (λ e. (e ≡ ErrOutOfMemory) ⊎ ((e ≡ ErrInboundPacketTooLarge) × (is_too_large pd.now self.old.reassembly_queue ≡ true))) }
+        ensures refused { IfErr result (λ e. (e ≡ ErrOutOfMemory) ⊎ ((e ≡ ErrInboundPacketTooLarge)
+            × (is_too_large pd.now self.old.reassembly_queue ≡ true))) }
         ensures err { OnErr result (self.new ≡ self.old) }
     {
         let chunk = pd.try_clone()?;

@@ -38,7 +38,8 @@ impl ParamHeader {
     /// The header of a parameter with a value of so many bytes. Refuses with
     /// `ErrLengthTooLarge`, exactly where four bytes and the value are more than 65,535.
     pub fn of(typ: ParamType, value_length: usize) -> Result<Self>
-        ensures ok { IfOk result (λ h. (4 + value_length < 2 ^ 16) × (h.typ ≡ typ) × (h.value_length ≡ value_length)) }
+        ensures ok { IfOk result (λ h. (4 + value_length < 2 ^ 16)
+            × (h.typ ≡ typ) × (h.value_length ≡ value_length)) }
         ensures err { IfErr result (λ e. (e ≡ ErrLengthTooLarge) × (2 ^ 16 ≤ 4 + value_length)) }
     {
         if value_length > u16::MAX as usize - PARAM_HEADER_LENGTH {
@@ -54,7 +55,8 @@ impl ParamHeader {
     /// where there are under four bytes, the length is under four, or it passes the bytes.
     pub fn unmarshal(raw: &Bytes) -> Result<Self>
         ensures is_param { IfOk result (λ h. IsParam raw.now) }
-        ensures fields { IfOk result (λ h. (h.typ ≡ type_from (param_type_at raw.now)) × (4 + h.value_length ≡ param_declared raw.now)) }
+        ensures fields { IfOk result (λ h. (h.typ ≡ type_from (param_type_at raw.now))
+            × (4 + h.value_length ≡ param_declared raw.now)) }
         ensures short { IfOk result (λ h. 4 + h.value_length < 2 ^ 16) }
         ensures fault { IfErr result (λ e. ParamHeaderFault e raw.now) }
     {
@@ -87,7 +89,8 @@ impl ParamHeader {
             × (buf.new.items ≡ buf.old.items ++ (be16 (type_number self.now.typ) ++ be16 (4 + self.now.value_length)))
             × (n ≡ length buf.new.items)) }
         ensures err { OnErr result (buf.new.items ≡ buf.old.items) }
-        ensures refused { IfErr result (λ e. ((e ≡ ErrLengthTooLarge) × (2 ^ 16 ≤ 4 + self.now.value_length))
+        ensures refused { IfErr result
+            (λ e. ((e ≡ ErrLengthTooLarge) × (2 ^ 16 ≤ 4 + self.now.value_length))
             ⊎ ((e ≡ ErrOutOfMemory) × (4 + self.now.value_length < 2 ^ 16) × (buf.old.spare < 4))) }
     {
         let value_length = self.value_length();
@@ -103,7 +106,8 @@ impl ParamHeader {
     pub fn marshal(&self, alloc: Global) -> Result<Bytes>
         ensures ok { IfOk result (λ b. (4 + self.now.value_length < 2 ^ 16)
             × (b ≡ be16 (type_number self.now.typ) ++ be16 (4 + self.now.value_length))) }
-        ensures refused { IfErr result (λ e. ((e ≡ ErrLengthTooLarge) × (2 ^ 16 ≤ 4 + self.now.value_length))
+        ensures refused { IfErr result
+            (λ e. ((e ≡ ErrLengthTooLarge) × (2 ^ 16 ≤ 4 + self.now.value_length))
             ⊎ ((e ≡ ErrOutOfMemory) × (4 + self.now.value_length < 2 ^ 16))) }
     {
         let mut buf = BytesMut::new(alloc);
@@ -117,7 +121,8 @@ impl ParamHeader {
 pub fn put_header(buf: &mut BytesMut, typ: ParamType, value_length: usize)
     requires text { 4 + value_length < 2 ^ 16 }
     requires room { 4 ≤ buf.old.spare }
-    ensures items { buf.new.items ≡ buf.old.items ++ (be16 (type_number typ) ++ be16 (4 + value_length)) }
+    ensures items { buf.new.items
+        ≡ buf.old.items ++ (be16 (type_number typ) ++ be16 (4 + value_length)) }
     ensures spare { buf.new.spare + 4 ≡ buf.old.spare }
 {
     put_u16(buf, typ.into());
@@ -128,7 +133,8 @@ pub fn put_header(buf: &mut BytesMut, typ: ParamType, value_length: usize)
 /// Precondition: it lies within the bytes.
 fn lend_value(raw: &[u8], value_length: usize) -> &[u8]
     requires { PARAM_HEADER_LENGTH + value_length ≤ length raw.now }
-    ensures value { result.now ≡ slice_range raw.now PARAM_HEADER_LENGTH (PARAM_HEADER_LENGTH + value_length) }
+    ensures value { result.now
+        ≡ slice_range raw.now PARAM_HEADER_LENGTH (PARAM_HEADER_LENGTH + value_length) }
     ensures bytes { AreBytes result.now }
 {
     &raw[PARAM_HEADER_LENGTH..PARAM_HEADER_LENGTH + value_length]

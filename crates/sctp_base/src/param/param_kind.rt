@@ -67,7 +67,8 @@ impl fmt::Display for ParamKind {
 #[tactic(auto, using(crate::proofs::ParamAgain::own_again), unfolding(crate::specs::ParamKind::ParamFault))]
 pub fn build_param(alloc: Global, raw: &Bytes) -> Result<ParamKind>
     ensures found { IfOk result (λ p. ReadsParam raw.now (parameter_of p)) }
-    ensures only { (p : Parameter) → ReadsParam raw.now p → GivesUnlessMemory result (λ q. parameter_of q ≡ p) }
+    ensures only { (p : Parameter)
+        → ReadsParam raw.now p → GivesUnlessMemory result (λ q. parameter_of q ≡ p) }
     ensures fault { IfErr result (λ e. OrMemory e (ParamFault e raw.now)) }
     ensures again { IfOk result (λ p. ReadsBack IsReadAs (parameter_of p)) }
 {

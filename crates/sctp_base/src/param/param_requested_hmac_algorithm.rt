@@ -93,7 +93,8 @@ impl fmt::Display for ParamRequestedHmacAlgorithm {
 #[tactic(auto, using(crate::proofs::Each::each_none, crate::proofs::Each::each_next))]
 fn read_algorithms(alloc: Global, value: &[u8]) -> Result<Vec<HmacAlgorithm>>
     ensures found { IfOk result (λ v. ReadsAlgorithms value.now v.items) }
-    ensures fault { IfErr result (λ e. OrMemory e ((e ≡ ErrInvalidAlgorithmType) × HasOtherAlgorithm value.now)) }
+    ensures fault { IfErr result
+        (λ e. OrMemory e ((e ≡ ErrInvalidAlgorithmType) × HasOtherAlgorithm value.now)) }
 {
     let mut algorithms = Vec::new(alloc);
     for i in 0..value.len() / 2 {

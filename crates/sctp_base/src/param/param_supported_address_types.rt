@@ -43,7 +43,8 @@ impl fmt::Display for ParamSupportedAddressTypes {
 #[tactic(auto, using(crate::proofs::Each::each_none, crate::proofs::Each::each_next))]
 fn read_types(alloc: Global, value: &[u8], count: usize) -> Result<Vec<ParamType>>
     requires { 2 * count ≤ length value.now }
-    ensures ok { IfOk result (λ v. v.items ≡ each count (λ i. type_from (u16_at value.now (2 * i)))) }
+    ensures ok { IfOk result (λ v. v.items
+        ≡ each count (λ i. type_from (u16_at value.now (2 * i)))) }
     ensures memory { IsOkUnless result ErrOutOfMemory }
 {
     let mut types = Vec::new(alloc);

@@ -84,8 +84,10 @@ impl<'a> BytesSource for ByteSlice<'a> {
     fn pop_chunk(&mut self, alloc: Global, limit: usize) -> Result<(Bytes, usize)>
         ensures joins { IfOk result (λ p. p.0 ++ self.new.data.now ≡ self.old.data.now) }
         ensures limited { IfOk result (λ p. length p.0 ≤ limit) }
-        ensures some { IfOk result (λ p. 0 < limit → 0 < length self.old.data.now → 0 < length p.0) }
-        ensures used { IfOk result (λ p. p.1 ≡ (if nat_lt 0 (length p.0) && (length self.new.data.now == 0) then 1 else 0)) }
+        ensures some { IfOk result (λ p. 0 < limit
+            → 0 < length self.old.data.now → 0 < length p.0) }
+        ensures used { IfOk result (λ p. p.1
+            ≡ (if nat_lt 0 (length p.0) && (length self.new.data.now == 0) then 1 else 0)) }
         ensures err { OnErr result (self.new.data.now ≡ self.old.data.now) }
         ensures memory { IfErr result (λ e. e ≡ ErrOutOfMemory) }
     {
@@ -142,7 +144,8 @@ fn first_filled(chunks: &[Bytes], from: usize) -> usize
     ensures onwards { from ≤ result }
     ensures filled { result < length chunks.now → 0 < length (slice_index_or chunks.now result []) }
     ensures skipped { concat (drop result chunks.now) ≡ concat (drop from chunks.now) }
-    ensures used { (limit : ℕ) → used_up limit (drop from chunks.now) ≡ (result - from) + used_up limit (drop result chunks.now) }
+    ensures used { (limit : ℕ) → used_up limit (drop from chunks.now)
+        ≡ (result - from) + used_up limit (drop result chunks.now) }
 {
     let mut place = from;
     while place < chunks.len() {
@@ -157,11 +160,14 @@ fn first_filled(chunks: &[Bytes], from: usize) -> usize
 // The next piece of the buffers from this one on, and the first that is left.
 fn pop_from(chunks: &mut [Bytes], from: usize, limit: usize) -> Result<(Bytes, usize)>
     requires { from ≤ length chunks.old }
-    ensures joins { IfOk result (λ p. p.0 ++ concat (drop p.1 chunks.new) ≡ concat (drop from chunks.old)) }
+    ensures joins { IfOk result (λ p. p.0 ++ concat (drop p.1 chunks.new)
+        ≡ concat (drop from chunks.old)) }
     ensures left { IfOk result (λ p. concat (drop from chunks.new) ≡ concat (drop p.1 chunks.new)) }
     ensures limited { IfOk result (λ p. length p.0 ≤ limit) }
-    ensures some { IfOk result (λ p. 0 < limit → 0 < length (concat (drop from chunks.old)) → 0 < length p.0) }
-    ensures used { IfOk result (λ p. (from ≤ p.1) × (p.1 ≤ length chunks.old) × (p.1 - from ≡ used_up limit (drop from chunks.old))) }
+    ensures some { IfOk result (λ p. 0 < limit
+        → 0 < length (concat (drop from chunks.old)) → 0 < length p.0) }
+    ensures used { IfOk result (λ p. (from ≤ p.1)
+        × (p.1 ≤ length chunks.old) × (p.1 - from ≡ used_up limit (drop from chunks.old))) }
     ensures err { OnErr result (chunks.new ≡ chunks.old) }
     ensures memory { IfErr result (λ e. e ≡ ErrOutOfMemory) }
 {
@@ -181,12 +187,16 @@ impl<'a> BytesSource for BytesArray<'a> {
     ghost left = { λ a. concat (drop a.consumed a.chunks.now) };
 
     fn pop_chunk(&mut self, _alloc: Global, limit: usize) -> Result<(Bytes, usize)>
-        ensures joins { IfOk result (λ p. p.0 ++ concat (drop self.new.consumed self.new.chunks.now) ≡ concat (drop self.old.consumed self.old.chunks.now)) }
+        ensures joins { IfOk result (λ p. p.0 ++ concat (drop self.new.consumed self.new.chunks.now)
+            ≡ concat (drop self.old.consumed self.old.chunks.now)) }
         ensures limited { IfOk result (λ p. length p.0 ≤ limit) }
-        ensures some { IfOk result (λ p. 0 < limit → 0 < length (concat (drop self.old.consumed self.old.chunks.now)) → 0 < length p.0) }
-        ensures used { IfOk result (λ p. p.1 ≡ used_up limit (drop self.old.consumed self.old.chunks.now)) }
+        ensures some { IfOk result (λ p. 0 < limit
+            → 0 < length (concat (drop self.old.consumed self.old.chunks.now)) → 0 < length p.0) }
+        ensures used { IfOk result (λ p. p.1
+            ≡ used_up limit (drop self.old.consumed self.old.chunks.now)) }
         ensures same_reference { self.new.chunks.ghost_name ≡ self.old.chunks.ghost_name }
-        ensures err { OnErr result (concat (drop self.new.consumed self.new.chunks.now) ≡ concat (drop self.old.consumed self.old.chunks.now)) }
+        ensures err { OnErr result (concat (drop self.new.consumed self.new.chunks.now)
+            ≡ concat (drop self.old.consumed self.old.chunks.now)) }
         ensures memory { IfErr result (λ e. e ≡ ErrOutOfMemory) }
     {
         let (piece, consumed) = pop_from(self.chunks, self.consumed, limit)?;

@@ -42,7 +42,8 @@ impl fmt::Display for ChunkHeartbeat {
 pub fn read_info(alloc: Global, value: &Bytes) -> Result<Vec<ParamKind>>
     ensures found { IfOk result (λ v. ReadsHeartbeat value.now (map parameter_of v.items)) }
     ensures again { IfOk result (λ v. IsReadHeartbeat (map parameter_of v.items)) }
-    ensures only { (ps : List Parameter) → ReadsHeartbeat value.now ps → GivesUnlessMemory result (λ v. map parameter_of v.items ≡ ps) }
+    ensures only { (ps : List Parameter) → ReadsHeartbeat value.now ps
+        → GivesUnlessMemory result (λ v. map parameter_of v.items ≡ ps) }
     ensures fault { IfErr result (λ e. OrMemory e (InfoFault e value.now)) }
 {
     if value.len() < PARAM_HEADER_LENGTH {

@@ -86,8 +86,10 @@ fn may_stand_together(a: ParamType, b: ParamType) -> bool
 
 /// Reads a parameter, and a second where bytes remain after the first and its padding.
 fn read_pair(alloc: Global, value: Bytes) -> Result<ChunkReconfig>
-    ensures found { IfOk result (λ c. ReadsPair value (reconfig_of c).param_a (reconfig_of c).param_b) }
-    ensures again { IfOk result (λ c. PairReadsBack (reconfig_of c).param_a (reconfig_of c).param_b) }
+    ensures found { IfOk result
+        (λ c. ReadsPair value (reconfig_of c).param_a (reconfig_of c).param_b) }
+    ensures again { IfOk result
+        (λ c. PairReadsBack (reconfig_of c).param_a (reconfig_of c).param_b) }
     ensures only { (a : Option Parameter) → (b : Option Parameter) → ReadsPair value a b
         → GivesUnlessMemory result (λ c. reconfig_of c ≡ record { param_a = a; param_b = b }) }
     ensures fault { IfErr result (λ e. OrMemory e (PairValueFault e value)) }

@@ -124,8 +124,10 @@ impl ErrorCause {
     #[tactic(auto, unfolding(crate::specs::ErrorCause::cause_value_at))]
     pub fn unmarshal(raw: &Bytes) -> Result<Self>
         ensures found { IfOk result (λ c. ReadsCause raw.now c) }
-        ensures only { (c : ErrorCause) → ReadsCause raw.now c → GivesUnlessMemory result (λ d. d ≡ c) }
-        ensures fault { IfErr result (λ e. OrMemory e ((e ≡ ErrErrorCauseTooSmall) × (IsCause raw.now → ⊥))) }
+        ensures only { (c : ErrorCause)
+            → ReadsCause raw.now c → GivesUnlessMemory result (λ d. d ≡ c) }
+        ensures fault { IfErr result
+            (λ e. OrMemory e ((e ≡ ErrErrorCauseTooSmall) × (IsCause raw.now → ⊥))) }
     {
         let bytes = raw.as_slice();
         if bytes.len() < ERROR_CAUSE_HEADER_LENGTH {
@@ -207,8 +209,10 @@ fn read_cause(rest: &Bytes) -> Result<(ErrorCause, usize)>
     ensures found { IfOk result (λ x. ReadsCause rest.now x.0) }
     ensures within { IfOk result (λ x. (4 ≤ x.1) × (x.1 ≤ length rest.now)) }
     ensures after { IfOk result (λ x. drop x.1 rest.now ≡ after_cause rest.now) }
-    ensures only { (c : ErrorCause) → ReadsCause rest.now c → GivesUnlessMemory result (λ x. x.0 ≡ c) }
-    ensures fault { IfErr result (λ e. OrMemory e ((e ≡ ErrErrorCauseTooSmall) × (IsCause rest.now → ⊥))) }
+    ensures only { (c : ErrorCause)
+        → ReadsCause rest.now c → GivesUnlessMemory result (λ x. x.0 ≡ c) }
+    ensures fault { IfErr result
+        (λ e. OrMemory e ((e ≡ ErrErrorCauseTooSmall) × (IsCause rest.now → ⊥))) }
 {
     let cause = ErrorCause::unmarshal(rest)?;
     let length = read_u16(rest.as_slice(), 2) as usize;
@@ -219,7 +223,8 @@ fn read_cause(rest: &Bytes) -> Result<(ErrorCause, usize)>
 /// fewer than four bytes are left. Refuses as `ErrorCause::unmarshal` does.
 pub fn read_causes(alloc: Global, raw: Bytes) -> Result<Vec<ErrorCause>>
     ensures found { IfOk result (λ v. ReadsCauses raw v.items) }
-    ensures only { (cs : List ErrorCause) → ReadsCauses raw cs → GivesUnlessMemory result (λ v. v.items ≡ cs) }
+    ensures only { (cs : List ErrorCause)
+        → ReadsCauses raw cs → GivesUnlessMemory result (λ v. v.items ≡ cs) }
     ensures fault { IfErr result (λ e. OrMemory e (CausesFault e raw)) }
 {
     let mut causes = Vec::new(alloc);

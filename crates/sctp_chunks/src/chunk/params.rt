@@ -24,7 +24,8 @@ pub fn read_param(alloc: Global, rest: &Bytes) -> Result<(ParamKind, usize)>
     ensures again { IfOk result (λ x. ReadsBack IsReadAs (parameter_of x.0)) }
     ensures within { IfOk result (λ x. (4 ≤ x.1) × (x.1 ≤ length rest.now)) }
     ensures after { IfOk result (λ x. drop x.1 rest.now ≡ after_param rest.now) }
-    ensures only { (p : Parameter) → ReadsParam rest.now p → GivesUnlessMemory result (λ x. parameter_of x.0 ≡ p) }
+    ensures only { (p : Parameter)
+        → ReadsParam rest.now p → GivesUnlessMemory result (λ x. parameter_of x.0 ≡ p) }
     ensures fault { IfErr result (λ e. OrMemory e (ParamFault e rest.now)) }
 {
     let param = build_param(alloc, rest)?;
@@ -37,7 +38,8 @@ pub fn read_param(alloc: Global, rest: &Bytes) -> Result<(ParamKind, usize)>
 pub fn read_params(alloc: Global, raw: Bytes) -> Result<Vec<ParamKind>>
     ensures found { IfOk result (λ v. ReadsParams raw (map parameter_of v.items)) }
     ensures again { IfOk result (λ v. ReadBack (map parameter_of v.items)) }
-    ensures only { (ps : List Parameter) → ReadsParams raw ps → GivesUnlessMemory result (λ v. map parameter_of v.items ≡ ps) }
+    ensures only { (ps : List Parameter)
+        → ReadsParams raw ps → GivesUnlessMemory result (λ v. map parameter_of v.items ≡ ps) }
     ensures fault { IfErr result (λ e. OrMemory e (ParamsFault e raw)) }
 {
     let mut params = Vec::new(alloc);
@@ -69,7 +71,8 @@ pub fn put_param(buf: &mut BytesMut, param: &ParamKind, bare: bool)
     requires text { length (padded_param bare (parameter_of param.now)) < 2 ^ 16 }
     requires room { length (padded_param bare (parameter_of param.now)) ≤ buf.old.spare }
     ensures items { buf.new.items ≡ buf.old.items ++ padded_param bare (parameter_of param.now) }
-    ensures spare { buf.new.spare + length (padded_param bare (parameter_of param.now)) ≡ buf.old.spare }
+    ensures spare { buf.new.spare + length (padded_param bare (parameter_of param.now))
+        ≡ buf.old.spare }
 {
     param.put(buf);
     let padding = gap_after(param, bare);
@@ -91,8 +94,10 @@ fn stands_bare(bare: bool, i: usize, count: usize) -> bool
 pub fn put_params(buf: &mut BytesMut, params: &[ParamKind], bare: bool)
     requires text { length (params_text bare (map parameter_of params.now)) < 2 ^ 16 }
     requires room { length (params_text bare (map parameter_of params.now)) ≤ buf.old.spare }
-    ensures items { buf.new.items ≡ buf.old.items ++ params_text bare (map parameter_of params.now) }
-    ensures spare { buf.new.spare + length (params_text bare (map parameter_of params.now)) ≡ buf.old.spare }
+    ensures items { buf.new.items
+        ≡ buf.old.items ++ params_text bare (map parameter_of params.now) }
+    ensures spare { buf.new.spare + length (params_text bare (map parameter_of params.now))
+        ≡ buf.old.spare }
 {
     for i in 0..params.len() {
         put_param(buf, &params[i], stands_bare(bare, i, params.len()));

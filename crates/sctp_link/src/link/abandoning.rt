@@ -55,7 +55,8 @@ impl<C: Checksum + Drop> Link<C> {
     /// Precondition: the event is not to be refused.
     pub(super) fn abandon(&mut self, tsn: u32) -> Result<Reply>
         requires { refusal_of self.old.world (E.Abandon tsn) ≡ None }
-        ensures ok { IfOk result (λ reply. IsRight self.old.world (E.Abandon tsn) (reply_of reply) self.new.world) }
+        ensures ok { IfOk result
+            (λ reply. IsRight self.old.world (E.Abandon tsn) (reply_of reply) self.new.world) }
         ensures checksum { self.new.checksum ≡ self.old.checksum }
         ensures err { OnErr result (self.new.world ≡ self.old.world) }
         ensures memory { IsOkUnless result ErrOutOfMemory }
@@ -69,7 +70,8 @@ impl<C: Checksum + Drop> Link<C> {
     pub(super) fn give_up(&mut self, tsn: u32) -> Result<(u16, u64)>
         requires { refusal_of self.old.world (E.Abandon tsn) ≡ None }
         ensures moves { OnOk result (self.new.world ≡ after self.old.world (E.Abandon tsn)) }
-        ensures stream { IfOk result (λ r. r.0 ≡ (message_at self.old.world (message_of self.old.world (place_of self.old.world tsn))).stream) }
+        ensures stream { IfOk result (λ r. r.0 ≡ (message_at self.old.world
+            (message_of self.old.world (place_of self.old.world tsn))).stream) }
         ensures bytes { IfOk result (λ r. r.1 ≡ growth self.old.world self.new.world) }
         ensures checksum { self.new.checksum ≡ self.old.checksum }
         ensures err { OnErr result (self.new.world ≡ self.old.world) }
@@ -97,7 +99,8 @@ impl<C: Checksum + Drop> Link<C> {
     /// Gives up the front message where it is half-sent and its lifetime is over;
     /// `now` is in nanoseconds. Refuses only for memory, and nothing changes then.
     pub(super) fn tail(&mut self, now: u64) -> Result<Reply>
-        ensures ok { IfOk result (λ reply. IsRight self.old.world (E.Tail now) (reply_of reply) self.new.world) }
+        ensures ok { IfOk result
+            (λ reply. IsRight self.old.world (E.Tail now) (reply_of reply) self.new.world) }
         ensures checksum { self.new.checksum ≡ self.old.checksum }
         ensures err { OnErr result (self.new.world ≡ self.old.world) }
         ensures memory { IsOkUnless result ErrOutOfMemory }
@@ -135,14 +138,17 @@ impl<C: Checksum + Drop> Link<C> {
 /// Precondition: the TSN is in flight, and where some of the message still waits a further TSN may be given out.
 fn abandon(flight: &mut InFlight, tsn: u32) -> Result<usize>
     requires held { is_some (find (has_tsn tsn) flight.old.queue.inflight.chunks) ≡ true }
-    requires tail { has_tail (to_abandon (find (has_tsn tsn) flight.old.queue.inflight.chunks)) flight.old.queue ≡ true
+    requires tail { has_tail
+        (to_abandon (find (has_tsn tsn) flight.old.queue.inflight.chunks)) flight.old.queue ≡ true
         → may_send flight.old ≡ true }
     ensures ok { OnOk result (flight.new ≡
         given_up (to_abandon (find (has_tsn tsn) flight.old.queue.inflight.chunks)) flight.old) }
-    ensures released { IfOk result (λ bytes. total_bytes flight.new.queue + bytes ≡ total_bytes flight.old.queue) }
+    ensures released { IfOk result (λ bytes. total_bytes flight.new.queue + bytes
+        ≡ total_bytes flight.old.queue) }
     ensures err { OnErr result (flight.new ≡ flight.old) }
     ensures memory { IsOkUnless result ErrOutOfMemory }
-    ensures no_tail { has_tail (to_abandon (find (has_tsn tsn) flight.old.queue.inflight.chunks)) flight.old.queue ≡ false
+    ensures no_tail { has_tail
+        (to_abandon (find (has_tsn tsn) flight.old.queue.inflight.chunks)) flight.old.queue ≡ false
         → IsOk result }
 {
     match flight.abandon(tsn) {
@@ -158,9 +164,12 @@ fn abandon(flight: &mut InFlight, tsn: u32) -> Result<usize>
 fn expire_tail(flight: &mut InFlight, now: u64) -> Result<(u64, usize)>
     requires lapsed { is_some (expiring_tail now flight.old.queue) ≡ true }
     requires next { may_send flight.old ≡ true }
-    ensures ok { OnOk result (flight.new ≡ given_up (message_of_chunk (expiring_tail now flight.old.queue)) flight.old) }
-    ensures number { IfOk result (λ r. message_of_chunk (expiring_tail now flight.old.queue) ≡ Some r.0) }
-    ensures released { IfOk result (λ r. total_bytes flight.new.queue + r.1 ≡ total_bytes flight.old.queue) }
+    ensures ok { OnOk result (flight.new
+        ≡ given_up (message_of_chunk (expiring_tail now flight.old.queue)) flight.old) }
+    ensures number { IfOk result (λ r. message_of_chunk (expiring_tail now flight.old.queue)
+        ≡ Some r.0) }
+    ensures released { IfOk result (λ r. total_bytes flight.new.queue + r.1
+        ≡ total_bytes flight.old.queue) }
     ensures err { OnErr result (flight.new ≡ flight.old) }
     ensures memory { IsOkUnless result ErrOutOfMemory }
 {
@@ -204,11 +213,13 @@ fn settle(
     bytes: usize,
 )
     requires room { half ≡ true → vec_len slots.old < vec_capacity slots.old }
-    requires indexed { IsIndexed open_streams.old.places (stream_numbers open_streams.old.items.items) }
+    requires indexed { IsIndexed open_streams.old.places
+        (stream_numbers open_streams.old.items.items) }
     requires short { bytes < 2 ^ 63 }
     ensures message { message.new ≡ record message.old { abandoned = true } }
     ensures slots { slots.new.items ≡ slots.old.items ++ marks half number message.old.sent }
-    ensures items { open_streams.new.items.items ≡ change_where (has_number message.old.stream) (less_by bytes) open_streams.old.items.items }
+    ensures items { open_streams.new.items.items ≡ change_where
+        (has_number message.old.stream) (less_by bytes) open_streams.old.items.items }
     ensures places { open_streams.new.places ≡ open_streams.old.places }
 {
     message.abandoned = true;

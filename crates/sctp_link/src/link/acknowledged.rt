@@ -46,7 +46,8 @@ impl<C: Checksum + Drop> Link<C> {
     /// Precondition: the event is not to be refused.
     pub(super) fn acked(&mut self, k: u64) -> Result<Reply>
         requires { refusal_of self.old.world (E.Acked k) ≡ None }
-        ensures ok { IfOk result (λ reply. IsRight self.old.world (E.Acked k) (reply_of reply) self.new.world) }
+        ensures ok { IfOk result
+            (λ reply. IsRight self.old.world (E.Acked k) (reply_of reply) self.new.world) }
         ensures checksum { self.new.checksum ≡ self.old.checksum }
         ensures err { OnErr result (self.new.world ≡ self.old.world) }
         ensures memory { IsOkUnless result ErrOutOfMemory }
@@ -111,7 +112,8 @@ fn take_sack(
     sack: &ChunkSelectiveAck,
 ) -> Result<Vec<Released>>
     requires { sack_refusal (sack_of sack.now) flight.old ≡ None }
-    ensures answer { IfOk result (λ released. released.items ≡ released_by (sack_of sack.now) flight.old) }
+    ensures answer { IfOk result (λ released. released.items
+        ≡ released_by (sack_of sack.now) flight.old) }
     ensures ok { OnOk result (flight.new ≡ after_sack (sack_of sack.now) flight.old) }
     ensures err { OnErr result (flight.new ≡ flight.old) }
     ensures memory { IsOkUnless result ErrOutOfMemory }
@@ -126,8 +128,10 @@ fn take_sack(
 /// Takes off each stream what left of it.
 /// Precondition: each chunk has fewer than 2^63 bytes.
 fn release_each(open_streams: &mut OpenStreams, gone: &[Released])
-    requires indexed { IsIndexed open_streams.old.places (stream_numbers open_streams.old.items.items) }
-    requires short { (i : ℕ) (d : Released) → i < length gone.now → (slice_index_or gone.now i d).bytes < 2 ^ 63 }
+    requires indexed { IsIndexed open_streams.old.places
+        (stream_numbers open_streams.old.items.items) }
+    requires short { (i : ℕ) (d : Released)
+        → i < length gone.now → (slice_index_or gone.now i d).bytes < 2 ^ 63 }
     ensures items { open_streams.new.items.items ≡ released gone.now open_streams.old.items.items }
     ensures places { open_streams.new.places ≡ open_streams.old.places }
 {
@@ -150,7 +154,8 @@ fn acknowledge_run(slots: &mut [Slot], from: usize, to: usize)
 /// Acknowledges the slots that gap blocks report, by their distances from the cumulative count.
 fn acknowledge_blocks(slots: &mut [Slot], cumulative: usize, blocks: &[GapAckBlock])
     requires short { cumulative < 2 ^ 32 }
-    requires within { (k : ℕ) → list_any (in_block cumulative k) blocks.now ≡ true → k < length slots.old }
+    requires within { (k : ℕ)
+        → list_any (in_block cumulative k) blocks.now ≡ true → k < length slots.old }
     ensures { (w : World) (acked : ℕ → Bool)
         → IsMarking w acked slots.old → IsMarking w (and_blocks acked cumulative blocks.now) slots.new }
 {

@@ -45,15 +45,25 @@ pub(super) fn receive_slots(
     places: &[u64],
     chunks: &[ChunkPayloadData],
 ) -> Result<bool>
-    requires indexed { IsIndexed open_streams.old.places (stream_numbers open_streams.old.items.items) }
-    requires inside { (i : ℕ) → i < length places.now → slice_index_or places.now i 0 < length slots.old.items }
-    requires found { (i : ℕ) (c : ChunkPayloadData) → i < length places.now → find (has_number (slice_index_or chunks.now i c).stream_identifier) open_streams.old.items.items ≢ None }
-    requires known { (w : World) × IsReceiver w open_streams.old.items.items slots.old.items filter.old duplicates.old.items × AllCome w places.now chunks.now }
-    ensures ok { (w : World) → IsReceiver w open_streams.old.items.items slots.old.items filter.old duplicates.old.items → AllCome w places.now chunks.now
+    requires indexed { IsIndexed open_streams.old.places
+        (stream_numbers open_streams.old.items.items) }
+    requires inside { (i : ℕ)
+        → i < length places.now → slice_index_or places.now i 0 < length slots.old.items }
+    requires found { (i : ℕ) (c : ChunkPayloadData) → i < length places.now → find (has_number
+        (slice_index_or chunks.now i c).stream_identifier) open_streams.old.items.items ≢ None }
+    requires known { (w : World) × IsReceiver w open_streams.old.items.items
+        slots.old.items filter.old duplicates.old.items × AllCome w places.now chunks.now }
+    ensures ok { (w : World)
+        → IsReceiver w open_streams.old.items.items slots.old.items filter.old duplicates.old.items
+        → AllCome w places.now chunks.now
         → IfOk result (λ new. (new ≡ list_any (is_new w) places.now) × IsReceiver (fold slot_received w places.now) open_streams.new.items.items slots.new.items filter.new duplicates.new.items) }
-    ensures streams { (ks : List ℕ) × TouchesOnly ks open_streams.old.items.items open_streams.new.items.items }
+    ensures streams { (ks : List ℕ)
+        × TouchesOnly ks open_streams.old.items.items open_streams.new.items.items }
     ensures places { open_streams.new.places ≡ open_streams.old.places }
-    ensures err { OnErr result (TouchesOnly [] open_streams.old.items.items open_streams.new.items.items × (slots.new.items ≡ slots.old.items) × (filter.new ≡ record filter.old { room = filter.new.room }) × (duplicates.new.items ≡ duplicates.old.items)) }
+    ensures err { OnErr result
+        (TouchesOnly [] open_streams.old.items.items open_streams.new.items.items × (slots.new.items
+        ≡ slots.old.items) × (filter.new ≡ record filter.old { room = filter.new.room })
+        × (duplicates.new.items ≡ duplicates.old.items)) }
     ensures memory { IsOkUnless result ErrOutOfMemory }
 {
     if places.len() == 1 {
@@ -101,11 +111,15 @@ fn save_each(
     places: &[u64],
     chunks: &[ChunkPayloadData],
 ) -> Result<Vec<Saved>>
-    requires indexed { IsIndexed open_streams.now.places (stream_numbers open_streams.now.items.items) }
-    requires inside { (i : ℕ) → i < length places.now → slice_index_or places.now i 0 < length slots.now }
-    requires found { (i : ℕ) (c : ChunkPayloadData) → i < length places.now → find (has_number (slice_index_or chunks.now i c).stream_identifier) open_streams.now.items.items ≢ None }
+    requires indexed { IsIndexed open_streams.now.places
+        (stream_numbers open_streams.now.items.items) }
+    requires inside { (i : ℕ)
+        → i < length places.now → slice_index_or places.now i 0 < length slots.now }
+    requires found { (i : ℕ) (c : ChunkPayloadData) → i < length places.now → find (has_number
+        (slice_index_or chunks.now i c).stream_identifier) open_streams.now.items.items ≢ None }
     requires count { length chunks.now ≡ length places.now }
-    ensures saved { IfOk result (λ saved. AllSaved open_streams.now.items.items slots.now places.now chunks.now saved.items) }
+    ensures saved { IfOk result (λ saved.
+        AllSaved open_streams.now.items.items slots.now places.now chunks.now saved.items) }
     ensures memory { IsOkUnless result ErrOutOfMemory }
 {
     let mut saved = Vec::new(alloc);
@@ -134,13 +148,19 @@ fn receive_each(
     places: &[u64],
     chunks: &[ChunkPayloadData],
 ) -> Result<bool>
-    requires known { (w : World) × IsReceiver w open_streams.old.items slots.old.items filter.old duplicates.old.items × AllCome w places.now chunks.now }
-    requires saved { AllSaved open_streams.old.items slots.old.items places.now chunks.now saved.now }
-    ensures ok { (w : World) → IsReceiver w open_streams.old.items slots.old.items filter.old duplicates.old.items → AllCome w places.now chunks.now
+    requires known { (w : World) × IsReceiver w open_streams.old.items
+        slots.old.items filter.old duplicates.old.items × AllCome w places.now chunks.now }
+    requires saved { AllSaved
+        open_streams.old.items slots.old.items places.now chunks.now saved.now }
+    ensures ok { (w : World)
+        → IsReceiver w open_streams.old.items slots.old.items filter.old duplicates.old.items
+        → AllCome w places.now chunks.now
         → IfOk result (λ new. (new ≡ list_any (is_new w) places.now) × IsReceiver (fold slot_received w places.now) open_streams.new.items slots.new.items filter.new duplicates.new.items) }
-    ensures streams { TouchesOnly (map (λ s. s.at) saved.now) open_streams.old.items open_streams.new.items }
+    ensures streams { TouchesOnly
+        (map (λ s. s.at) saved.now) open_streams.old.items open_streams.new.items }
     ensures slots { MarksOnly places.now slots.old.items slots.new.items }
-    ensures duplicates { take (length duplicates.old.items) duplicates.new.items ≡ duplicates.old.items }
+    ensures duplicates { take (length duplicates.old.items) duplicates.new.items
+        ≡ duplicates.old.items }
     ensures memory { IsOkUnless result ErrOutOfMemory }
 {
     let mut new = false;
@@ -167,9 +187,16 @@ fn put_back(
     places: &[u64],
     saved: Vec<Saved>,
 )
-    requires known { (ls : List OpenStream) × (ss : List Slot) × (cs : List ChunkPayloadData) × AllSaved ls ss places.now cs saved.items × TouchesOnly (map (λ s. s.at) saved.items) ls open_streams.old.items × MarksOnly places.now ss slots.old.items }
-    ensures streams { (ls : List OpenStream) (ss : List Slot) (cs : List ChunkPayloadData) → AllSaved ls ss places.now cs saved.items → TouchesOnly (map (λ s. s.at) saved.items) ls open_streams.old.items → TouchesOnly [] ls open_streams.new.items }
-    ensures slots { (ls : List OpenStream) (ss : List Slot) (cs : List ChunkPayloadData) → AllSaved ls ss places.now cs saved.items → MarksOnly places.now ss slots.old.items → slots.new.items ≡ ss }
+    requires known { (ls : List OpenStream) × (ss : List Slot) × (cs : List ChunkPayloadData)
+        × AllSaved ls ss places.now cs saved.items × TouchesOnly (map (λ s.
+        s.at) saved.items) ls open_streams.old.items × MarksOnly places.now ss slots.old.items }
+    ensures streams { (ls : List OpenStream) (ss : List Slot) (cs : List ChunkPayloadData)
+        → AllSaved ls ss places.now cs saved.items
+        → TouchesOnly (map (λ s. s.at) saved.items) ls open_streams.old.items
+        → TouchesOnly [] ls open_streams.new.items }
+    ensures slots { (ls : List OpenStream) (ss : List Slot) (cs : List ChunkPayloadData)
+        → AllSaved ls ss places.now cs saved.items
+        → MarksOnly places.now ss slots.old.items → slots.new.items ≡ ss }
 {
     let mut saved = saved;
     while let Some(was) = saved.pop() {
@@ -191,14 +218,23 @@ fn receive_slot(
     place: usize,
     chunk: &ChunkPayloadData,
 ) -> Result<bool>
-    requires known { (w : World) × IsReceiver w open_streams.old.items slots.old.items filter.old duplicates.old.items × Comes w place chunk.now }
-    requires at { (at < length open_streams.old.items) × ((d : OpenStream) → (slice_index_or open_streams.old.items at d).state.stream_identifier ≡ chunk.now.stream_identifier) }
-    ensures ok { (w : World) → IsReceiver w open_streams.old.items slots.old.items filter.old duplicates.old.items → Comes w place chunk.now
+    requires known { (w : World) × IsReceiver w open_streams.old.items
+        slots.old.items filter.old duplicates.old.items × Comes w place chunk.now }
+    requires at { (at < length open_streams.old.items)
+        × ((d : OpenStream) → (slice_index_or open_streams.old.items at d).state.stream_identifier
+        ≡ chunk.now.stream_identifier) }
+    ensures ok { (w : World)
+        → IsReceiver w open_streams.old.items slots.old.items filter.old duplicates.old.items
+        → Comes w place chunk.now
         → IfOk result (λ new. (new ≡ is_new w place) × IsReceiver (slot_received w place) open_streams.new.items slots.new.items filter.new duplicates.new.items) }
     ensures streams { TouchesOnly (at ∷ []) open_streams.old.items open_streams.new.items }
     ensures slots { MarksOnly (place ∷ []) slots.old.items slots.new.items }
-    ensures duplicates { take (length duplicates.old.items) duplicates.new.items ≡ duplicates.old.items }
-    ensures err { OnErr result (TouchesOnly [] open_streams.old.items open_streams.new.items × (slots.new.items ≡ slots.old.items) × (filter.new ≡ record filter.old { room = filter.new.room }) × (duplicates.new.items ≡ duplicates.old.items)) }
+    ensures duplicates { take (length duplicates.old.items) duplicates.new.items
+        ≡ duplicates.old.items }
+    ensures err { OnErr result (TouchesOnly [] open_streams.old.items open_streams.new.items
+        × (slots.new.items ≡ slots.old.items)
+        × (filter.new ≡ record filter.old { room = filter.new.room })
+        × (duplicates.new.items ≡ duplicates.old.items)) }
     ensures memory { IsOkUnless result ErrOutOfMemory }
 {
     if filter.has_come(chunk.tsn) {

@@ -112,7 +112,8 @@ pub(super) fn take_fragments(
         → Leave now i (sender_of flight.old messages.old open_streams.old slots.old.items) s → CanSend s }
     requires flight { count ≤ flight.old.queue.inflight.room }
     requires room { vec_len slots.old + count ≤ vec_capacity slots.old }
-    ensures leave { Leave now count (sender_of flight.old messages.old open_streams.old slots.old.items)
+    ensures leave { Leave now count
+        (sender_of flight.old messages.old open_streams.old slots.old.items)
         (sender_of flight.new messages.new open_streams.new slots.new.items) }
     ensures acked { flight.new.acked_tsn ≡ flight.old.acked_tsn }
 {
@@ -152,11 +153,13 @@ fn take_next(
 /// The slot of the next fragment of a message, which it takes. The first one of an ordered message takes an index.
 fn take_fragment(message: &mut Message, open_streams: &mut OpenStreams, number: u64) -> Slot
     requires fits { message.old.sent + 1 < 2 ^ 64 }
-    requires indexed { IsIndexed open_streams.old.places (stream_numbers open_streams.old.items.items) }
+    requires indexed { IsIndexed open_streams.old.places
+        (stream_numbers open_streams.old.items.items) }
     requires few { begun_of message.old.stream open_streams.old.items.items + 1 < 2 ^ 64 }
     ensures slot { result ≡ slot_with number message.old.sent }
     ensures taken { message.new ≡ with_fragment open_streams.old.items.items message.old }
-    ensures items { open_streams.new.items.items ≡ begun_by message.old open_streams.old.items.items }
+    ensures items { open_streams.new.items.items
+        ≡ begun_by message.old open_streams.old.items.items }
     ensures places { open_streams.new.places ≡ open_streams.old.places }
 {
     if message.ordered && message.sent == 0 {

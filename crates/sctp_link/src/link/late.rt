@@ -20,7 +20,8 @@ impl<C: Checksum + Drop> Link<C> {
     /// Gives up the messages in flight whose lifetime is over; `now` is in
     /// nanoseconds. Refuses only for memory, and nothing changes then.
     pub(super) fn late(&mut self, now: u64) -> Result<Reply>
-        ensures ok { IfOk result (λ reply. IsRight self.old.world (E.Late now) (reply_of reply) self.new.world) }
+        ensures ok { IfOk result
+            (λ reply. IsRight self.old.world (E.Late now) (reply_of reply) self.new.world) }
         ensures checksum { self.new.checksum ≡ self.old.checksum }
         ensures err { OnErr result (self.new.world ≡ self.old.world) }
         ensures memory { IsOkUnless result ErrOutOfMemory }
@@ -40,8 +41,10 @@ impl<C: Checksum + Drop> Link<C> {
 
     // Gives up the half-sent message of these TSNs, where there is one, and answers how many bytes left.
     fn give_up_half_sent(&mut self, tsns: &[u32]) -> Result<u64>
-        requires { list_all (λ t. is_in_flight self.old.world (place_of self.old.world t)) tsns.now ≡ true }
-        ensures moves { OnOk result (self.new.world ≡ given_up self.old.world (find (λ t. is_half_sent self.old.world (message_of_tsn self.old.world t)) tsns.now)) }
+        requires { list_all (λ t. is_in_flight self.old.world (place_of self.old.world t)) tsns.now
+            ≡ true }
+        ensures moves { OnOk result (self.new.world ≡ given_up self.old.world
+            (find (λ t. is_half_sent self.old.world (message_of_tsn self.old.world t)) tsns.now)) }
         ensures bytes { IfOk result (λ b. b ≡ growth self.old.world self.new.world) }
         ensures checksum { self.new.checksum ≡ self.old.checksum }
         ensures err { OnErr result (self.new.world ≡ self.old.world) }
@@ -57,8 +60,10 @@ impl<C: Checksum + Drop> Link<C> {
 
     // The first of these TSNs whose message is half-sent.
     fn first_half_sent(&self, tsns: &[u32]) -> Option<u32>
-        requires { list_all (λ t. is_in_flight self.now.world (place_of self.now.world t)) tsns.now ≡ true }
-        ensures { result ≡ find (λ t. is_half_sent self.now.world (message_of_tsn self.now.world t)) tsns.now }
+        requires { list_all (λ t. is_in_flight self.now.world (place_of self.now.world t)) tsns.now
+            ≡ true }
+        ensures { result
+            ≡ find (λ t. is_half_sent self.now.world (message_of_tsn self.now.world t)) tsns.now }
     {
         for at in 0..tsns.len() {
             let place = tsns[at].wrapping_sub(self.first_tsn) as usize;

@@ -74,7 +74,8 @@ impl<C: Checksum + Drop> Link<C> {
     /// What waits to be sent and what is in flight.
     pub fn outbound(&self) -> &OutboundQueue
         ensures pending { shown result.now.pending ≡ pending_of self.now.world }
-        ensures in_flight { map in_flight_shown result.now.inflight.chunks ≡ in_flight_of self.now.world }
+        ensures in_flight { map in_flight_shown result.now.inflight.chunks
+            ≡ in_flight_of self.now.world }
         // what a further sending of each says, with its stream, stream sequence number and flags, while it has its bytes
         ensures says { map sending_of result.now.inflight.chunks ≡ sendings_of self.now.world }
     {
@@ -84,14 +85,17 @@ impl<C: Checksum + Drop> Link<C> {
     /// The TSNs that came beyond the cumulative one, and those that came again
     /// since the last SACK was made. Its chunks have no bytes.
     pub fn filter(&self) -> &PayloadQueue
-        ensures { filter_held (cumulative_tsn self.now.world (cumulative self.now.world)) result.now ≡ filter_of self.now.world }
+        ensures { filter_held (cumulative_tsn self.now.world (cumulative self.now.world)) result.now
+            ≡ filter_of self.now.world }
     {
         self.filter.queue()
     }
 
     /// What came on an open stream and was not read; None where it is not open.
     pub fn reassembly(&self, stream: u16) -> Option<&ReassemblyQueue>
-        ensures { MatchOption result (is_open self.now.world stream ≡ false) (λ q. (q.now.held ≡ reassembly_of self.now.world stream) × (q.now.si ≡ stream) × (q.now.max_message_size ≡ self.now.world.setup.largest)) }
+        ensures { MatchOption result (is_open self.now.world stream
+            ≡ false) (λ q. (q.now.held ≡ reassembly_of self.now.world stream)
+            × (q.now.si ≡ stream) × (q.now.max_message_size ≡ self.now.world.setup.largest)) }
     {
         let Some(open_stream) = self.find_stream(stream) else {
             return None;
@@ -101,7 +105,9 @@ impl<C: Checksum + Drop> Link<C> {
 
     // What is kept of an open stream.
     fn find_stream(&self, stream: u16) -> Option<&OpenStream>
-        ensures { MatchOption result (is_open self.now.world stream ≡ false) (λ l. (is_open self.now.world stream ≡ true) × (l.now.state.stream_identifier ≡ stream) × IsOpenStream self.now.world l.now) }
+        ensures { MatchOption result (is_open self.now.world stream
+            ≡ false) (λ l. (is_open self.now.world stream ≡ true)
+            × (l.now.state.stream_identifier ≡ stream) × IsOpenStream self.now.world l.now) }
     {
         let Some(at) = self.open_streams.place_of(stream) else {
             return None;

@@ -88,7 +88,8 @@ impl<C: Checksum + Drop> Link<C> {
     // Whether a message has a slot past this one.
     fn goes_past(&self, place: usize, number: u64) -> bool
         requires { place < length self.now.world.slots }
-        ensures { result ≡ not (list_all (λ p. nat_le p place) (slots_where self.now.world (belongs_to self.now.world number))) }
+        ensures { result ≡ not (list_all
+            (λ p. nat_le p place) (slots_where self.now.world (belongs_to self.now.world number))) }
     {
         let count = self.slots.len();
         for later in place + 1..count {
@@ -102,8 +103,10 @@ impl<C: Checksum + Drop> Link<C> {
     /// Makes a FORWARD-TSN. Refuses only for memory, and nothing changes then.
     /// Precondition: the event is not to be refused.
     pub(super) fn skip(&mut self, upto: u32, messages: Vec<u64>) -> Result<Reply>
-        requires { skip_refusal self.old.world (place_of self.old.world upto) messages.items ≡ None }
-        ensures ok { IfOk result (λ reply. IsRight self.old.world (E.Skip upto messages) (reply_of reply) self.new.world) }
+        requires { skip_refusal self.old.world (place_of self.old.world upto) messages.items
+            ≡ None }
+        ensures ok { IfOk result (λ reply.
+            IsRight self.old.world (E.Skip upto messages) (reply_of reply) self.new.world) }
         ensures checksum { self.new.checksum ≡ self.old.checksum }
         ensures err { OnErr result (self.new.world ≡ self.old.world) }
         ensures memory { IsOkUnless result ErrOutOfMemory }

@@ -39,7 +39,9 @@ impl OpenStreams {
     /// The place of the stream with this number, None where it is not open.
     pub fn place_of(&self, stream: u16) -> Option<usize>
         requires { IsIndexed self.now.places (stream_numbers self.now.items.items) }
-        ensures { MatchOption result (find (has_number stream) self.now.items.items ≡ None) (λ k. (k < length self.now.items.items) × ((d : OpenStream) → find (has_number stream) self.now.items.items ≡ Some (slice_index_or self.now.items.items k d))) }
+        ensures { MatchOption result (find (has_number stream) self.now.items.items ≡ None)
+            (λ k. (k < length self.now.items.items) × ((d : OpenStream) → find (has_number stream)
+            self.now.items.items ≡ Some (slice_index_or self.now.items.items k d))) }
     {
         self.places.get(&stream).copied()
     }
@@ -48,7 +50,8 @@ impl OpenStreams {
     /// Precondition: its number is not open.
     pub fn push(&mut self, stream: OpenStream) -> Result<()>
         requires indexed { IsIndexed self.old.places (stream_numbers self.old.items.items) }
-        requires new { find (has_number stream.state.stream_identifier) self.old.items.items ≡ None }
+        requires new { find (has_number stream.state.stream_identifier) self.old.items.items
+            ≡ None }
         ensures indexed { IsIndexed self.new.places (stream_numbers self.new.items.items) }
         ensures ok { OnOk result (self.new.items.items ≡ self.old.items.items ++ stream ∷ []) }
         ensures err { OnErr result (self.new.items.items ≡ self.old.items.items) }
@@ -69,7 +72,8 @@ impl OpenStreams {
         requires indexed { IsIndexed self.old.places (stream_numbers self.old.items.items) }
         requires few { begun_of stream self.old.items.items + 1 < 2 ^ 64 }
         ensures index { result ≡ begun_of stream self.old.items.items }
-        ensures items { self.new.items.items ≡ change_where (has_number stream) with_begun self.old.items.items }
+        ensures items { self.new.items.items
+            ≡ change_where (has_number stream) with_begun self.old.items.items }
         ensures places { self.new.places ≡ self.old.places }
     {
         let Some(at) = self.place_of(stream) else {
@@ -86,7 +90,8 @@ impl OpenStreams {
     pub fn expire(&mut self, stream: u16, ordered: bool, bytes: usize)
         requires indexed { IsIndexed self.old.places (stream_numbers self.old.items.items) }
         requires short { bytes < 2 ^ 63 }
-        ensures items { self.new.items.items ≡ change_where (has_number stream) (expired_on ordered bytes) self.old.items.items }
+        ensures items { self.new.items.items
+            ≡ change_where (has_number stream) (expired_on ordered bytes) self.old.items.items }
         ensures places { self.new.places ≡ self.old.places }
     {
         let Some(at) = self.place_of(stream) else {
@@ -100,7 +105,8 @@ impl OpenStreams {
     pub fn release(&mut self, stream: u16, bytes: usize)
         requires indexed { IsIndexed self.old.places (stream_numbers self.old.items.items) }
         requires short { bytes < 2 ^ 63 }
-        ensures items { self.new.items.items ≡ change_where (has_number stream) (less_by bytes) self.old.items.items }
+        ensures items { self.new.items.items
+            ≡ change_where (has_number stream) (less_by bytes) self.old.items.items }
         ensures places { self.new.places ≡ self.old.places }
     {
         let Some(at) = self.place_of(stream) else {

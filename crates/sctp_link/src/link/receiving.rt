@@ -90,7 +90,8 @@ impl<C: Checksum + Drop> Link<C> {
     // The index that the slot at a place adds on a stream, where it is new and of an ordered message of it.
     fn index_added(&self, stream: u16, place: usize) -> Option<u64>
         requires { LiesSomewhere self.now.world place }
-        ensures { result ≡ (if adds_on self.now.world stream place then Some (index_of self.now.world (message_of self.now.world place)) else None) }
+        ensures { result ≡ (if adds_on self.now.world stream place
+            then Some (index_of self.now.world (message_of self.now.world place)) else None) }
     {
         let message = &self.messages[self.slots[place].message as usize];
         let adds = (message.stream == stream) & message.ordered & self.is_new(place);
@@ -103,8 +104,10 @@ impl<C: Checksum + Drop> Link<C> {
     // The least and the greatest of the index expected next and those of the messages held: they stand at the ends of the queue.
     pub(super) fn ends(&self, stream: u16) -> (u64, u64)
         requires { is_open self.now.world stream ≡ true }
-        ensures low { result.0 ≡ least (next_of self.now.world stream) (map (index_of self.now.world) (held_on self.now.world stream)) }
-        ensures high { result.1 ≡ greatest (next_of self.now.world stream) (map (index_of self.now.world) (held_on self.now.world stream)) }
+        ensures low { result.0 ≡ least (next_of self.now.world stream)
+            (map (index_of self.now.world) (held_on self.now.world stream)) }
+        ensures high { result.1 ≡ greatest (next_of self.now.world stream)
+            (map (index_of self.now.world) (held_on self.now.world stream)) }
     {
         let Some(at) = self.open_streams.place_of(stream) else {
             unreachable!()
@@ -124,8 +127,10 @@ impl<C: Checksum + Drop> Link<C> {
 
     // The index of the message whose fragments these are.
     pub(super) fn index_of(&self, set: &Fragments) -> u64
-        requires { (s n : ℕ) × (is_held self.now.world s n ≡ true) × (set.now ≡ set_of self.now.world n) }
-        ensures { (s n : ℕ) → is_held self.now.world s n ≡ true → set.now ≡ set_of self.now.world n → result ≡ index_of self.now.world n }
+        requires { (s n : ℕ)
+            × (is_held self.now.world s n ≡ true) × (set.now ≡ set_of self.now.world n) }
+        ensures { (s n : ℕ) → is_held self.now.world s n ≡ true
+            → set.now ≡ set_of self.now.world n → result ≡ index_of self.now.world n }
     {
         let tsn = set.fragments()[0].tsn;
         let place = tsn.wrapping_sub(self.first_tsn) as usize;
@@ -144,7 +149,8 @@ impl<C: Checksum + Drop> Link<C> {
     /// Precondition: the event is not to be refused.
     pub(super) fn arrive(&mut self, k: u64) -> Result<Reply>
         requires { refusal_of self.old.world (E.Arrive k) ≡ None }
-        ensures ok { IfOk result (λ reply. IsRight self.old.world (E.Arrive k) (reply_of reply) self.new.world) }
+        ensures ok { IfOk result
+            (λ reply. IsRight self.old.world (E.Arrive k) (reply_of reply) self.new.world) }
         ensures checksum { self.new.checksum ≡ self.old.checksum }
         ensures err { OnErr result (self.new.world ≡ self.old.world) }
         ensures memory { IsOkUnless result ErrOutOfMemory }
@@ -162,8 +168,10 @@ impl<C: Checksum + Drop> Link<C> {
     // Takes the DATA chunks of datagram k, one after another.
     fn arrive_data(&mut self, k: u64) -> Result<Reply>
         requires none { refusal_of self.old.world (E.Arrive k) ≡ None }
-        requires lies { (places : List ℕ) × (slice_get self.old.world.network k ≡ Some (Data places)) }
-        ensures ok { IfOk result (λ reply. IsRight self.old.world (E.Arrive k) (reply_of reply) self.new.world) }
+        requires lies { (places : List ℕ)
+            × (slice_get self.old.world.network k ≡ Some (Data places)) }
+        ensures ok { IfOk result
+            (λ reply. IsRight self.old.world (E.Arrive k) (reply_of reply) self.new.world) }
         ensures checksum { self.new.checksum ≡ self.old.checksum }
         ensures err { OnErr result (self.new.world ≡ self.old.world) }
         ensures memory { IsOkUnless result ErrOutOfMemory }

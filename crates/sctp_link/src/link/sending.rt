@@ -25,7 +25,8 @@ impl<C: Checksum + Drop> Link<C> {
     /// Sends the next pending fragment, and further ones for as long as the datagram is no longer than the limit;
     /// `now` is in nanoseconds. Refuses only for memory, and nothing changes then.
     pub(super) fn send(&mut self, now: u64) -> Result<Reply>
-        ensures ok { IfOk result (λ reply. IsRight self.old.world (E.Send now) (reply_of reply) self.new.world) }
+        ensures ok { IfOk result
+            (λ reply. IsRight self.old.world (E.Send now) (reply_of reply) self.new.world) }
         ensures checksum { self.new.checksum ≡ self.old.checksum }
         ensures err { OnErr result (self.new.world ≡ self.old.world) }
         ensures memory { IsOkUnless result ErrOutOfMemory }
@@ -90,7 +91,8 @@ impl<C: Checksum + Drop> Link<C> {
     /// Precondition: the event is not to be refused.
     pub(super) fn resend(&mut self, tsn: u32) -> Result<Reply>
         requires { refusal_of self.old.world (E.Resend tsn) ≡ None }
-        ensures ok { IfOk result (λ reply. IsRight self.old.world (E.Resend tsn) (reply_of reply) self.new.world) }
+        ensures ok { IfOk result
+            (λ reply. IsRight self.old.world (E.Resend tsn) (reply_of reply) self.new.world) }
         ensures checksum { self.new.checksum ≡ self.old.checksum }
         ensures err { OnErr result (self.new.world ≡ self.old.world) }
         ensures memory { IsOkUnless result ErrOutOfMemory }
@@ -112,7 +114,8 @@ impl<C: Checksum + Drop> Link<C> {
 
 /// Makes room for so many sends. Refuses only for memory, and nothing changes then.
 fn reserve_inflight(flight: &mut InFlight, sends: usize) -> Result<()>
-    ensures ok { OnOk result (flight.new ≡ with_queue flight.old (with_room sends flight.old.queue)) }
+    ensures ok { OnOk result (flight.new
+        ≡ with_queue flight.old (with_room sends flight.old.queue)) }
     ensures err { OnErr result (flight.new ≡ flight.old) }
     ensures memory { IsOkUnless result ErrOutOfMemory }
 {

@@ -37,7 +37,8 @@ impl<C: Checksum + Drop> Link<C> {
     // So on each open stream.
     fn names_fit(&self, upto: u64, names: &[u64]) -> bool
         requires { (k : ℕ) × (slice_get self.now.world.network k ≡ Some (Forward upto names.now)) }
-        ensures { result ≡ list_all (λ r. names_fit self.now.world r.stream names.now) self.now.world.streams }
+        ensures { result
+            ≡ list_all (λ r. names_fit self.now.world r.stream names.now) self.now.world.streams }
     {
         for at in 0..self.open_streams.items.len() {
             if !self.stream_fits(at, upto, names) {
@@ -50,8 +51,10 @@ impl<C: Checksum + Drop> Link<C> {
     // On the stream at a place, from the ends of what is held and of what is named.
     fn stream_fits(&self, at: usize, upto: u64, names: &[u64]) -> bool
         requires inside { at < length self.now.world.streams }
-        requires lies { (k : ℕ) × (slice_get self.now.world.network k ≡ Some (Forward upto names.now)) }
-        ensures { (r : StreamRecord) → slice_get self.now.world.streams at ≡ Some r → result ≡ names_fit self.now.world r.stream names.now }
+        requires lies { (k : ℕ)
+            × (slice_get self.now.world.network k ≡ Some (Forward upto names.now)) }
+        ensures { (r : StreamRecord) → slice_get self.now.world.streams at ≡ Some r
+            → result ≡ names_fit self.now.world r.stream names.now }
     {
         let stream = self.open_streams.items[at].state.stream_identifier();
         let named = named_on(&self.messages, stream, names);
@@ -66,7 +69,8 @@ impl<C: Checksum + Drop> Link<C> {
     // The lesser of an index and that of the first message held, where it is whole: no skip gives that up.
     fn least_left(&self, stream: u16, low: u64) -> u64
         requires { is_open self.now.world stream ≡ true }
-        ensures { result ≡ min_with (whole_first self.now.world (held_on self.now.world stream)) low }
+        ensures { result
+            ≡ min_with (whole_first self.now.world (held_on self.now.world stream)) low }
     {
         let Some(at) = self.open_streams.place_of(stream) else {
             unreachable!()
@@ -85,8 +89,10 @@ impl<C: Checksum + Drop> Link<C> {
     // Takes the FORWARD-TSN of datagram k, which goes up to this slot.
     pub(super) fn arrive_skip(&mut self, k: u64, upto: u64) -> Result<Reply>
         requires none { refusal_of self.old.world (E.Arrive k) ≡ None }
-        requires lies { (names : List ℕ) × (slice_get self.old.world.network k ≡ Some (Forward upto names)) }
-        ensures ok { IfOk result (λ reply. IsRight self.old.world (E.Arrive k) (reply_of reply) self.new.world) }
+        requires lies { (names : List ℕ)
+            × (slice_get self.old.world.network k ≡ Some (Forward upto names)) }
+        ensures ok { IfOk result
+            (λ reply. IsRight self.old.world (E.Arrive k) (reply_of reply) self.new.world) }
         ensures checksum { self.new.checksum ≡ self.old.checksum }
         ensures err { OnErr result (self.new.world ≡ self.old.world) }
         ensures memory { IsOkUnless result ErrOutOfMemory }
@@ -103,10 +109,12 @@ impl<C: Checksum + Drop> Link<C> {
     // Follows a skip that counts: gives up what it skips on each stream. It takes no memory.
     fn follow(&mut self, k: u64, upto: u64, tsn: u32)
         requires none { refusal_of self.old.world (E.Arrive k) ≡ None }
-        requires lies { (names : List ℕ) × (slice_get self.old.world.network k ≡ Some (Forward upto names)) }
+        requires lies { (names : List ℕ)
+            × (slice_get self.old.world.network k ≡ Some (Forward upto names)) }
         requires counts { skip_counts self.old.world upto ≡ true }
         requires tsn { tsn ≡ tsn_of self.old.world upto }
-        ensures followed { (names : List ℕ) → slice_get self.old.world.network k ≡ Some (Forward upto names) → self.new.world ≡ skip_received self.old.world upto names }
+        ensures followed { (names : List ℕ) → slice_get self.old.world.network k
+            ≡ Some (Forward upto names) → self.new.world ≡ skip_received self.old.world upto names }
         ensures checksum { self.new.checksum ≡ self.old.checksum }
     {
         let Kind::Forward { messages, .. } = &self.network[k as usize].kind else {

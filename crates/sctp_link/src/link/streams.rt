@@ -28,7 +28,8 @@ impl<C: Checksum + Drop> Link<C> {
     /// Precondition: the event is not to be refused.
     pub(super) fn open(&mut self, stream: u16) -> Result<Reply>
         requires { refusal_of self.old.world (E.Open stream) ≡ None }
-        ensures ok { IfOk result (λ reply. IsRight self.old.world (E.Open stream) (reply_of reply) self.new.world) }
+        ensures ok { IfOk result
+            (λ reply. IsRight self.old.world (E.Open stream) (reply_of reply) self.new.world) }
         ensures checksum { self.new.checksum ≡ self.old.checksum }
         ensures err { OnErr result (self.new.world ≡ self.old.world) }
         ensures memory { IsOkUnless result ErrOutOfMemory }
@@ -53,7 +54,8 @@ impl<C: Checksum + Drop> Link<C> {
         value: u32,
     ) -> Reply
         requires { refusal_of self.old.world (E.Mode stream unordered reliability value) ≡ None }
-        ensures right { IsRight self.old.world (E.Mode stream unordered reliability value) (reply_of result) self.new.world }
+        ensures right { IsRight self.old.world
+            (E.Mode stream unordered reliability value) (reply_of result) self.new.world }
         ensures checksum { self.new.checksum ≡ self.old.checksum }
     {
         let Some(at) = self.open_streams.place_of(stream) else {
@@ -67,7 +69,8 @@ impl<C: Checksum + Drop> Link<C> {
 
     /// Why a write of `len` bytes is refused, if it is.
     pub(super) fn refusal_write(&self, stream: u16, len: usize) -> Option<LinkRefusal>
-        ensures { (ppi : PayloadProtocolIdentifier) (bytes : List ℕ) → len ≡ length bytes → result ≡ refusal_of self.now.world (E.Write stream ppi bytes) }
+        ensures { (ppi : PayloadProtocolIdentifier) (bytes : List ℕ)
+            → len ≡ length bytes → result ≡ refusal_of self.now.world (E.Write stream ppi bytes) }
     {
         if !self.is_open(stream) {
             return Some(LinkRefusal::StreamUnknown);
@@ -91,11 +94,13 @@ impl<C: Checksum + Drop> Link<C> {
         bytes: Bytes,
     ) -> Result<Reply>
         requires { refusal_of self.old.world (E.Write stream ppi bytes) ≡ None }
-        ensures ok { IfOk result (λ reply. IsRight self.old.world (E.Write stream ppi bytes) (reply_of reply) self.new.world) }
+        ensures ok { IfOk result (λ reply.
+            IsRight self.old.world (E.Write stream ppi bytes) (reply_of reply) self.new.world) }
         ensures checksum { self.new.checksum ≡ self.old.checksum }
         ensures err { OnErr result (self.new.world ≡ self.old.world) }
         ensures memory { IsOkUnless result ErrOutOfMemory }
-        ensures wants { OnErr result (takes_memory self.old.world (E.Write stream ppi bytes) ≡ true) }
+        ensures wants { OnErr result (takes_memory self.old.world (E.Write stream ppi bytes)
+            ≡ true) }
     {
         if bytes.is_empty() {
             return Ok(Reply::Wrote {
@@ -159,7 +164,8 @@ fn make_room(flight: &mut InFlight, ordered: bool, count: usize) -> Result<()>
 /// Precondition: the size is not 0.
 pub(super) fn fragments_in(len: usize, size: usize) -> usize
     requires { 0 < size }
-    ensures value { (bytes : List ℕ) → len ≡ length bytes → result ≡ length (pieces (length bytes) size bytes) }
+    ensures value { (bytes : List ℕ)
+        → len ≡ length bytes → result ≡ length (pieces (length bytes) size bytes) }
     ensures short { result ≤ len }
 {
     let whole = len / size;

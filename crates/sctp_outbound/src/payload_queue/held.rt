@@ -106,7 +106,8 @@ impl Held {
     /// From here on `additional` insertions take no memory.
     /// Refuses only for memory, and nothing changes then.
     pub fn reserve(&mut self, additional: usize) -> Result<()>
-        ensures ok { OnOk result (self.new ≡ record self.old { room = max additional self.old.room }) }
+        ensures ok { OnOk result (self.new
+            ≡ record self.old { room = max additional self.old.room }) }
         ensures err { OnErr result (self.new ≡ self.old) }
         ensures memory { IsOkUnless result ErrOutOfMemory }
         ensures succeeds { additional ≤ self.old.room → IsOk result }
@@ -124,7 +125,8 @@ impl Held {
     /// Refuses only for memory, and never within the room. Nothing changes then.
     pub fn insert(&mut self, place: usize, chunk: ChunkPayloadData) -> Result<()>
         requires { place ≤ length self.old.chunks }
-        ensures ok { OnOk result (self.new ≡ record { chunks = insert self.old.chunks place chunk; room = self.old.room - 1 }) }
+        ensures ok { OnOk result (self.new
+            ≡ record { chunks = insert self.old.chunks place chunk; room = self.old.room - 1 }) }
         ensures err { OnErr result (self.new ≡ self.old) }
         ensures memory { IsOkUnless result ErrOutOfMemory }
         ensures succeeds { 0 < self.old.room → IsOk result }
@@ -149,7 +151,8 @@ impl Held {
 
     /// Takes out the first chunk; None where there are none.
     pub fn pop_front(&mut self) -> Option<ChunkPayloadData>
-        ensures popped { IfSome result (λ chunk. self.old ≡ with_chunks self.new (chunk ∷ self.new.chunks)) }
+        ensures popped { IfSome result (λ chunk. self.old
+            ≡ with_chunks self.new (chunk ∷ self.new.chunks)) }
         ensures empty { IfNone result ((self.old.chunks ≡ []) × (self.new ≡ self.old)) }
     {
         self.chunks.pop_front()
@@ -159,8 +162,11 @@ impl Held {
     /// Precondition: the place has one.
     pub(crate) fn mark(&mut self, place: usize, mark: Mark, turns: &mut Turns) -> usize
         requires { place < length self.old.chunks }
-        ensures changed { (d : _) → self.new ≡ with_chunks self.old (slice_set self.old.chunks place (marked mark (slice_index_or self.old.chunks place d))) }
-        ensures left { (d : _) → result + length (marked mark (slice_index_or self.old.chunks place d)).user_data ≡ length (slice_index_or self.old.chunks place d).user_data }
+        ensures changed { (d : _) → self.new ≡ with_chunks self.old (slice_set self.old.chunks place
+            (marked mark (slice_index_or self.old.chunks place d))) }
+        ensures left { (d : _)
+            → result + length (marked mark (slice_index_or self.old.chunks place d)).user_data
+            ≡ length (slice_index_or self.old.chunks place d).user_data }
         ensures turn { turns.new ≡ turns.old + 1 }
     {
         turns.tick();

@@ -97,7 +97,8 @@ impl Line {
     /// From here on `additional` pushes take no memory.
     /// Refuses only for memory, and nothing changes then.
     pub(crate) fn reserve(&mut self, additional: usize) -> Result<()>
-        ensures ok { OnOk result (self.new ≡ record self.old { room = max additional self.old.room }) }
+        ensures ok { OnOk result (self.new
+            ≡ record self.old { room = max additional self.old.room }) }
         ensures err { OnErr result (self.new ≡ self.old) }
         ensures memory { IsOkUnless result ErrOutOfMemory }
         ensures succeeds { additional ≤ self.old.room → IsOk result }
@@ -131,7 +132,8 @@ impl Line {
     /// Refuses only for memory, and never within the room. Nothing changes then.
     pub(crate) fn push_back(&mut self, chunk: ChunkPayloadData) -> Result<()>
         requires { bytes_of self.old.chunks + length chunk.user_data < 2 ^ 64 }
-        ensures ok { OnOk result (self.new ≡ record { chunks = self.old.chunks ++ chunk ∷ []; room = self.old.room - 1 }) }
+        ensures ok { OnOk result (self.new
+            ≡ record { chunks = self.old.chunks ++ chunk ∷ []; room = self.old.room - 1 }) }
         ensures err { OnErr result (self.new ≡ self.old) }
         ensures memory { IsOkUnless result ErrOutOfMemory }
         ensures succeeds { 0 < self.old.room → IsOk result }
@@ -148,8 +150,11 @@ impl Line {
     /// Refuses only for memory, and never within the room. Nothing changes then.
     pub(crate) fn append(&mut self, chunks: Vec<ChunkPayloadData>, message_id: u64) -> Result<()>
         requires { bytes_of self.old.chunks + bytes_of chunks.items < 2 ^ 64 }
-        ensures ok { OnOk result (self.new ≡ record { chunks = self.old.chunks ++ map (with_message_id message_id) chunks.items; room = self.old.room - length chunks.items }) }
-        ensures bytes { OnOk result (bytes_of self.new.chunks ≡ bytes_of self.old.chunks + bytes_of chunks.items) }
+        ensures ok { OnOk result (self.new
+            ≡ record { chunks = self.old.chunks ++ map (with_message_id message_id) chunks.items;
+            room = self.old.room - length chunks.items }) }
+        ensures bytes { OnOk result (bytes_of self.new.chunks
+            ≡ bytes_of self.old.chunks + bytes_of chunks.items) }
         ensures err { OnErr result (self.new ≡ self.old) }
         ensures memory { IsOkUnless result ErrOutOfMemory }
         ensures succeeds { length chunks.items ≤ self.old.room → IsOk result }
@@ -168,7 +173,8 @@ impl Line {
 
     /// Takes out the first chunk; None where there are none.
     pub(crate) fn pop_front(&mut self) -> Option<ChunkPayloadData>
-        ensures popped { IfSome result (λ chunk. self.old ≡ with_chunks self.new (chunk ∷ self.new.chunks)) }
+        ensures popped { IfSome result (λ chunk. self.old
+            ≡ with_chunks self.new (chunk ∷ self.new.chunks)) }
         ensures empty { IfNone result ((self.old.chunks ≡ []) × (self.new ≡ self.old)) }
     {
         let chunk = self.chunks.pop_front()?;
@@ -181,7 +187,8 @@ impl Line {
         ensures bytes { result.0 ≡ removed_bytes message_id self.old.chunks }
         ensures left { bytes_of self.new.chunks + result.0 ≡ bytes_of self.old.chunks }
         ensures last { result.1 ≡ last_of (those (is_of message_id) self.old.chunks) }
-        ensures rest { self.new ≡ with_chunks self.old (without_message message_id self.old.chunks) }
+        ensures rest { self.new
+            ≡ with_chunks self.old (without_message message_id self.old.chunks) }
     {
         let (bytes, last) = remove_from(&mut self.chunks, message_id);
         self.n_bytes -= bytes;
@@ -190,7 +197,8 @@ impl Line {
 
     /// Lowers the stream sequence numbers of a stream by one.
     pub(crate) fn lower_ssns(&mut self, stream_identifier: u16)
-        ensures lowered { self.new ≡ with_chunks self.old (change_where (is_on stream_identifier) one_lower self.old.chunks) }
+        ensures lowered { self.new ≡ with_chunks self.old
+            (change_where (is_on stream_identifier) one_lower self.old.chunks) }
         ensures bytes { bytes_of self.new.chunks ≡ bytes_of self.old.chunks }
     {
         lower_ssns_in(&mut self.chunks, stream_identifier);
@@ -199,7 +207,8 @@ impl Line {
     /// Starts the lifetimes of timed messages numbered from `first_message_id` on
     /// that have no deadline yet. `now` is in nanoseconds.
     pub(crate) fn start_timed_messages(&mut self, first_message_id: u64, now: u64)
-        ensures started { self.new ≡ with_chunks self.old (change_where (is_to_start first_message_id) (with_deadline now) self.old.chunks) }
+        ensures started { self.new ≡ with_chunks self.old
+            (change_where (is_to_start first_message_id) (with_deadline now) self.old.chunks) }
         ensures bytes { bytes_of self.new.chunks ≡ bytes_of self.old.chunks }
     {
         start_in(&mut self.chunks, 0, first_message_id, now);
@@ -209,7 +218,8 @@ impl Line {
     /// Precondition: they do. `now` is in nanoseconds.
     pub(crate) fn start_latest_messages(&mut self, first_message_id: u64, now: u64)
         requires { NumbersAscend self.old.chunks }
-        ensures started { self.new ≡ with_chunks self.old (change_where (is_to_start first_message_id) (with_deadline now) self.old.chunks) }
+        ensures started { self.new ≡ with_chunks self.old
+            (change_where (is_to_start first_message_id) (with_deadline now) self.old.chunks) }
         ensures bytes { bytes_of self.new.chunks ≡ bytes_of self.old.chunks }
     {
         let from = place_of(&self.chunks, first_message_id);
@@ -269,7 +279,8 @@ fn remove_from(
 
 // Lowers the stream sequence numbers of a stream by one.
 fn lower_ssns_in(chunks: &mut VecDeque<ChunkPayloadData>, stream_identifier: u16)
-    ensures items { chunks.new.items ≡ change_where (is_on stream_identifier) one_lower chunks.old.items }
+    ensures items { chunks.new.items
+        ≡ change_where (is_on stream_identifier) one_lower chunks.old.items }
     ensures len { deque_len chunks.new ≡ deque_len chunks.old }
     ensures capacity { deque_capacity chunks.new ≡ deque_capacity chunks.old }
 {
@@ -286,7 +297,8 @@ fn lower_ssns_in(chunks: &mut VecDeque<ChunkPayloadData>, stream_identifier: u16
 fn place_of(chunks: &VecDeque<ChunkPayloadData>, first_message_id: u64) -> usize
     requires { NumbersAscend chunks.now.items }
     ensures in_range { result ≤ length chunks.now.items }
-    ensures before { All (λ c. is_to_start first_message_id c ≡ false) (take result chunks.now.items) }
+    ensures before { All (λ c. is_to_start first_message_id c
+        ≡ false) (take result chunks.now.items) }
 {
     let mut place = chunks.len();
     while place > 0 {
@@ -301,8 +313,10 @@ fn place_of(chunks: &VecDeque<ChunkPayloadData>, first_message_id: u64) -> usize
 // Sets the deadlines of timed messages that have none. There are no such messages before `from`.
 fn start_in(chunks: &mut VecDeque<ChunkPayloadData>, from: usize, first_message_id: u64, now: u64)
     requires in_range { from ≤ length chunks.old.items }
-    requires before { All (λ c. is_to_start first_message_id c ≡ false) (take from chunks.old.items) }
-    ensures items { chunks.new.items ≡ change_where (is_to_start first_message_id) (with_deadline now) chunks.old.items }
+    requires before { All (λ c. is_to_start first_message_id c
+        ≡ false) (take from chunks.old.items) }
+    ensures items { chunks.new.items
+        ≡ change_where (is_to_start first_message_id) (with_deadline now) chunks.old.items }
     ensures len { deque_len chunks.new ≡ deque_len chunks.old }
     ensures capacity { deque_capacity chunks.new ≡ deque_capacity chunks.old }
 {

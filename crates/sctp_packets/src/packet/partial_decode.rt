@@ -41,7 +41,8 @@ pub struct PartialDecode {
 /// Refuses such a value of under four bytes with `ErrChunkValueNotLongEnough`.
 fn initiate_tag_in(typ: ChunkType, value: &[u8]) -> Result<Option<u32>>
     ensures long { OnOk result (IsInitType typ.0 → 4 ≤ length value.now) }
-    ensures tag { IfOk result (λ t. t ≡ (if typ.0 == 1 || typ.0 == 2 then Some (u32_at value.now 0) else None)) }
+    ensures tag { IfOk result (λ t. t
+        ≡ (if typ.0 == 1 || typ.0 == 2 then Some (u32_at value.now 0) else None)) }
     ensures fault { IfErr result (λ e. (e ≡ ErrChunkValueNotLongEnough) × IsInitType typ.0
         × (length value.now < 4)) }
 {
@@ -68,7 +69,8 @@ impl PartialDecode {
         ensures found { IfOk result (λ d. ReadsPartial (C.sum checksum.now) raw.now d) }
         ensures only { (d : PartialDecode) → ReadsPartial (C.sum checksum.now) raw.now d
             → GivesUnlessMemory result (λ e. e ≡ d) }
-        ensures fault { IfErr result (λ e. OrMemory e (PartialFault (C.sum checksum.now) e raw.now)) }
+        ensures fault { IfErr result
+            (λ e. OrMemory e (PartialFault (C.sum checksum.now) e raw.now)) }
         // What is finished from here is the packet, and each packet with a chunk is finished from here.
         ensures finished { IfOk result (λ d. (p : Parts) → Finishes d p
             → ReadsPacket (C.sum checksum.now) raw.now p × HasChunks p) }
@@ -100,7 +102,8 @@ impl PartialDecode {
     /// Refuses as `Packet::unmarshal` does for its chunks, and what was decoded is not handed back.
     pub fn finish(self, alloc: Global) -> Result<Packet>
         ensures found { IfOk result (λ p. Finishes self (parts_of p)) }
-        ensures only { (p : Parts) → Finishes self p → GivesUnlessMemory result (λ q. parts_of q ≡ p) }
+        ensures only { (p : Parts)
+            → Finishes self p → GivesUnlessMemory result (λ q. parts_of q ≡ p) }
         ensures fault { IfErr result (λ e. OrMemory e (WalkFault e self.remaining)) }
         ensures rewritable { IfOk result (λ p. HavePacketText (parts_of p)) }
         ensures canonical { IfOk result (λ p. IsCanonical (parts_of p)) }

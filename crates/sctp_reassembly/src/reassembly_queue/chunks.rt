@@ -144,7 +144,8 @@ impl Chunks {
     /// A message of these fragments, of which nothing was taken. It takes no memory.
     pub fn new(ssn: u16, ppi: PayloadProtocolIdentifier, chunks: Vec<ChunkPayloadData>) -> Self
         ensures left { concat (left_of result) ≡ payload_of chunks.items }
-        ensures value { result ≡ record { set = record { ssn = ssn; ppi = ppi; chunks = chunks.items }; index = 0; offset = 0 } }
+        ensures value { result ≡ record { set = record { ssn = ssn;
+            ppi = ppi; chunks = chunks.items }; index = 0; offset = 0 } }
     {
         Chunks::of(Fragments::new(ssn, ppi, chunks))
     }
@@ -217,7 +218,8 @@ impl Chunks {
     /// Puts a fragment before the first that it comes before, unless its TSN is there, and says whether
     /// the set became complete by it. Refuses only for memory, and the message is as it was then.
     pub fn push(&mut self, chunk: ChunkPayloadData) -> Result<bool>
-        ensures ok { OnOk result (self.new ≡ record self.old { set = with_chunk chunk self.old.set }) }
+        ensures ok { OnOk result (self.new
+            ≡ record self.old { set = with_chunk chunk self.old.set }) }
         ensures answer { IfOk result (λ whole. whole ≡ is_whole_after chunk self.old.set.chunks) }
         ensures err { OnErr result (self.new ≡ self.old) }
         ensures memory { IfErr result (λ e. e ≡ ErrOutOfMemory) }
@@ -230,8 +232,11 @@ impl Chunks {
     /// Refuses with `ErrShortBuffer`, exactly where the message is longer: the
     /// buffer is filled with its beginning then.
     pub fn read(&self, buf: &mut [u8]) -> Result<usize>
-        ensures ok { IfOk result (λ n. (n ≡ length (payload_of self.now.set.chunks)) × (n ≤ length buf.old) × (buf.new ≡ payload_of self.now.set.chunks ++ drop n buf.old)) }
-        ensures short { IfErr result (λ e. (e ≡ ErrShortBuffer) × (length buf.old < length (payload_of self.now.set.chunks)) × (buf.new ≡ take (length buf.old) (payload_of self.now.set.chunks))) }
+        ensures ok { IfOk result (λ n. (n ≡ length (payload_of self.now.set.chunks))
+            × (n ≤ length buf.old) × (buf.new ≡ payload_of self.now.set.chunks ++ drop n buf.old)) }
+        ensures short { IfErr result (λ e. (e ≡ ErrShortBuffer)
+            × (length buf.old < length (payload_of self.now.set.chunks))
+            × (buf.new ≡ take (length buf.old) (payload_of self.now.set.chunks))) }
     {
         let mut n_written = 0usize;
         for chunk in self.set.fragments() {
@@ -251,11 +256,15 @@ impl Chunks {
     /// No more room is asked for than the piece takes, however great `max_length` is.
     /// Refuses only for memory, and nothing is taken then.
     pub fn next(&mut self, alloc: Global, max_length: usize) -> Result<Option<Chunk>>
-        ensures piece { IfOk result (λ piece. option_map (λ (c : Chunk). c.bytes) piece ≡ piece_of max_length (left_of self.old)) }
+        ensures piece { IfOk result (λ piece. option_map (λ (c : Chunk). c.bytes) piece
+            ≡ piece_of max_length (left_of self.old)) }
         ensures left { OnOk result (left_of self.new ≡ left_after max_length (left_of self.old)) }
-        ensures joins { IfOk result (λ piece. bytes_given piece ++ concat (left_of self.new) ≡ concat (left_of self.old)) }
-        ensures asked { IfOk result (λ piece. 0 < length (left_of self.new) → length (bytes_given piece) ≡ max_length) }
-        ensures ends { length (concat (left_of self.old)) ≤ max_length → OnOk result (left_of self.new ≡ []) }
+        ensures joins { IfOk result (λ piece. bytes_given piece ++ concat (left_of self.new)
+            ≡ concat (left_of self.old)) }
+        ensures asked { IfOk result (λ piece. 0 < length (left_of self.new)
+            → length (bytes_given piece) ≡ max_length) }
+        ensures ends { length (concat (left_of self.old)) ≤ max_length
+            → OnOk result (left_of self.new ≡ []) }
         ensures set { self.new.set ≡ self.old.set }
         ensures err { OnErr result (self.new ≡ self.old) }
         ensures memory { IfErr result (λ e. e ≡ ErrOutOfMemory) }
@@ -270,11 +279,15 @@ impl Chunks {
         max_length: usize,
         turns: &mut Turns,
     ) -> Result<Option<Chunk>>
-        ensures piece { IfOk result (λ piece. option_map (λ (c : Chunk). c.bytes) piece ≡ piece_of max_length (left_of self.old)) }
+        ensures piece { IfOk result (λ piece. option_map (λ (c : Chunk). c.bytes) piece
+            ≡ piece_of max_length (left_of self.old)) }
         ensures left { OnOk result (left_of self.new ≡ left_after max_length (left_of self.old)) }
-        ensures joins { IfOk result (λ piece. bytes_given piece ++ concat (left_of self.new) ≡ concat (left_of self.old)) }
-        ensures asked { IfOk result (λ piece. 0 < length (left_of self.new) → length (bytes_given piece) ≡ max_length) }
-        ensures ends { length (concat (left_of self.old)) ≤ max_length → OnOk result (left_of self.new ≡ []) }
+        ensures joins { IfOk result (λ piece. bytes_given piece ++ concat (left_of self.new)
+            ≡ concat (left_of self.old)) }
+        ensures asked { IfOk result (λ piece. 0 < length (left_of self.new)
+            → length (bytes_given piece) ≡ max_length) }
+        ensures ends { length (concat (left_of self.old)) ≤ max_length
+            → OnOk result (left_of self.new ≡ []) }
         ensures set { self.new.set ≡ self.old.set }
         ensures err { OnErr result (self.new ≡ self.old) }
         ensures memory { IfErr result (λ e. e ≡ ErrOutOfMemory) }
@@ -324,7 +337,8 @@ fn room_of(
 ) -> usize
     ensures room { result ≡ min limit (length (concat (left_from chunks.now index offset))) }
     ensures not_back { turns.old ≤ turns.new }
-    ensures cost { turns.new ≤ turns.old + taken_whole limit (left_from chunks.now index offset) + 1 }
+    ensures cost { turns.new
+        ≤ turns.old + taken_whole limit (left_from chunks.now index offset) + 1 }
 {
     let mut index = index;
     let mut offset = offset;
@@ -348,11 +362,14 @@ fn gather(
     turns: &mut Turns,
 ) -> Result<(usize, usize)>
     requires { buf.old.items ≡ [] }
-    ensures bytes { OnOk result (buf.new.items ≡ take max_length (concat (left_from chunks.now index offset))) }
-    ensures left { IfOk result (λ at. left_from chunks.now at.0 at.1 ≡ left_after max_length (left_from chunks.now index offset)) }
+    ensures bytes { OnOk result (buf.new.items
+        ≡ take max_length (concat (left_from chunks.now index offset))) }
+    ensures left { IfOk result (λ at. left_from chunks.now at.0 at.1
+        ≡ left_after max_length (left_from chunks.now index offset)) }
     ensures memory { IfErr result (λ e. e ≡ ErrOutOfMemory) }
     ensures not_back { turns.old ≤ turns.new }
-    ensures cost { turns.new ≤ turns.old + taken_whole max_length (left_from chunks.now index offset) + 1 }
+    ensures cost { turns.new
+        ≤ turns.old + taken_whole max_length (left_from chunks.now index offset) + 1 }
 {
     let mut index = index;
     let mut offset = offset;
@@ -448,7 +465,8 @@ pub(crate) fn bytes_in(chunks: &[ChunkPayloadData]) -> usize
 /// Where a fragment of this number is put in: before the first that it comes before, or at the end.
 pub(crate) fn insertion_place(chunks: &[ChunkPayloadData], tsn: u32) -> usize
     ensures in_range { result ≤ length chunks.now }
-    ensures inserted { (x : ChunkPayloadData) → x.tsn ≡ tsn → insert chunks.now result x ≡ inserted chunk_before x chunks.now }
+    ensures inserted { (x : ChunkPayloadData)
+        → x.tsn ≡ tsn → insert chunks.now result x ≡ inserted chunk_before x chunks.now }
 {
     first_after(chunks, tsn)
 }
@@ -471,7 +489,8 @@ fn first_after(chunks: &[ChunkPayloadData], tsn: u32) -> usize
 fn insertion(ascending: bool, chunks: &[ChunkPayloadData], tsn: u32) -> Option<Insertion>
     requires { IsOrder ascending (map (λ c. c.tsn) chunks.now) }
     ensures there { IfNone result (list_any (has_tsn tsn) chunks.now ≡ true) }
-    ensures free { IfSome result (λ at. IsInsertion (has_tsn tsn) (λ c. c.tsn) chunk_before chunks.now at.place at.ascending) }
+    ensures free { IfSome result (λ at.
+        IsInsertion (has_tsn tsn) (λ c. c.tsn) chunk_before chunks.now at.place at.ascending) }
 {
     let len = chunks.len();
     if len == 0 {
@@ -506,7 +525,8 @@ fn insertion(ascending: bool, chunks: &[ChunkPayloadData], tsn: u32) -> Option<I
 fn place_within(chunks: &[ChunkPayloadData], first: u32, far: u32) -> usize
     requires { IsNonDecreasingBy (λ c. distance first c.tsn) chunks.now }
     ensures in_range { result ≤ length chunks.now }
-    ensures split { IsPartitionPoint (λ c. distance first c.tsn ≤ far) (λ c. far < distance first c.tsn) chunks.now result }
+    ensures split { IsPartitionPoint
+        (λ c. distance first c.tsn ≤ far) (λ c. far < distance first c.tsn) chunks.now result }
 {
     let len = chunks.len();
     if len > 0 && distance(first, chunks[len - 1].tsn) <= far {
@@ -518,7 +538,8 @@ fn place_within(chunks: &[ChunkPayloadData], first: u32, far: u32) -> usize
 // The same by a walk, among any TSNs; they are not known to ascend then.
 fn insertion_by_walk(chunks: &[ChunkPayloadData], tsn: u32) -> Option<Insertion>
     ensures there { IfNone result (list_any (has_tsn tsn) chunks.now ≡ true) }
-    ensures free { IfSome result (λ at. IsInsertion (has_tsn tsn) (λ c. c.tsn) chunk_before chunks.now at.place at.ascending) }
+    ensures free { IfSome result (λ at.
+        IsInsertion (has_tsn tsn) (λ c. c.tsn) chunk_before chunks.now at.place at.ascending) }
 {
     if has_number(chunks, tsn) {
         return None;

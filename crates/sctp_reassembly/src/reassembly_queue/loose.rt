@@ -149,7 +149,8 @@ impl Loose {
     // Whether they stand in serial order with the number at the place.
     fn stays_serial(&self, place: usize, tsn: u32) -> bool
         requires { place ≤ length self.now }
-        ensures { (x : ChunkPayloadData) → x.tsn ≡ tsn → IsOrderMark result (insert self.now place x) }
+        ensures { (x : ChunkPayloadData)
+            → x.tsn ≡ tsn → IsOrderMark result (insert self.now place x) }
     {
         if !self.serial {
             return false;
@@ -184,7 +185,8 @@ impl Loose {
     ) -> Result<Vec<ChunkPayloadData>, AllocError>
         requires { first + count ≤ length self.old }
         ensures taken { IfOk result (λ chunks. chunks.items ≡ take count (drop first self.old)) }
-        ensures rest { OnOk result (self.new ≡ take first self.old ++ drop (first + count) self.old) }
+        ensures rest { OnOk result (self.new
+            ≡ take first self.old ++ drop (first + count) self.old) }
         ensures err { OnErr result (self.new ≡ self.old) }
     {
         let mut taken = Vec::with_capacity(alloc, count)?;
@@ -247,8 +249,10 @@ fn is_before(first: u32, second: u32) -> bool
 // Whether the number comes after what stands before the place: after the nearest and the first.
 fn is_behind(chunks: &VecDeque<LooseFragment>, place: usize, tsn: u32) -> bool
     requires { place ≤ length chunks.now.items }
-    ensures yes { result ≡ true → IsSerial chunks.now.items → (k : ℕ) (d : ChunkPayloadData) → k < place → IsTrue (comes_before (slice_index_or chunks.now.items k d).tsn tsn) }
-    ensures no { result ≡ false → ((k : ℕ) (d : ChunkPayloadData) → k < place → IsTrue (comes_before (slice_index_or chunks.now.items k d).tsn tsn)) → ⊥ }
+    ensures yes { result ≡ true → IsSerial chunks.now.items → (k : ℕ) (d : ChunkPayloadData)
+        → k < place → IsTrue (comes_before (slice_index_or chunks.now.items k d).tsn tsn) }
+    ensures no { result ≡ false → ((k : ℕ) (d : ChunkPayloadData)
+        → k < place → IsTrue (comes_before (slice_index_or chunks.now.items k d).tsn tsn)) → ⊥ }
 {
     if place == 0 {
         return true;
@@ -262,8 +266,12 @@ fn is_behind(chunks: &VecDeque<LooseFragment>, place: usize, tsn: u32) -> bool
 // Whether the number comes before what stands from the place on: before the nearest and the last.
 fn is_ahead(chunks: &VecDeque<LooseFragment>, place: usize, tsn: u32) -> bool
     requires { place ≤ length chunks.now.items }
-    ensures yes { result ≡ true → IsSerial chunks.now.items → (k : ℕ) (d : ChunkPayloadData) → place ≤ k → k < length chunks.now.items → IsTrue (comes_before tsn (slice_index_or chunks.now.items k d).tsn) }
-    ensures no { result ≡ false → ((k : ℕ) (d : ChunkPayloadData) → place ≤ k → k < length chunks.now.items → IsTrue (comes_before tsn (slice_index_or chunks.now.items k d).tsn)) → ⊥ }
+    ensures yes { result ≡ true → IsSerial chunks.now.items
+        → (k : ℕ) (d : ChunkPayloadData) → place ≤ k → k < length chunks.now.items
+        → IsTrue (comes_before tsn (slice_index_or chunks.now.items k d).tsn) }
+    ensures no { result ≡ false
+        → ((k : ℕ) (d : ChunkPayloadData) → place ≤ k → k < length chunks.now.items
+        → IsTrue (comes_before tsn (slice_index_or chunks.now.items k d).tsn)) → ⊥ }
 {
     let len = chunks.len();
     if place == len {
@@ -323,7 +331,8 @@ fn bytes_from(chunks: &VecDeque<LooseFragment>, first: usize, count: usize) -> u
 
 // The bytes of what is left, where so many were taken of so many: past the greatest number the rest is counted anew.
 fn bytes_without(n_bytes: usize, gone: usize, chunks: &VecDeque<LooseFragment>) -> usize
-    ensures { (n : ℕ) → n_bytes ≡ min (n + bytes_of chunks.now.items) (2 ^ 64 - 1) → gone ≡ min n (2 ^ 64 - 1) → result ≡ min (bytes_of chunks.now.items) (2 ^ 64 - 1) }
+    ensures { (n : ℕ) → n_bytes ≡ min (n + bytes_of chunks.now.items) (2 ^ 64 - 1)
+        → gone ≡ min n (2 ^ 64 - 1) → result ≡ min (bytes_of chunks.now.items) (2 ^ 64 - 1) }
 {
     if n_bytes < usize::MAX {
         return n_bytes.saturating_sub(gone);
@@ -372,7 +381,8 @@ fn run_start(
     ensures found { IfSome result (IsStart loose.now place) }
     ensures none { IfNone result (HasNoStart loose.now place) }
     ensures not_back { turns.old ≤ turns.new }
-    ensures cost { (first last : ℕ) → IsStretch loose.now place first last → turns.new ≤ turns.old + (place - first) + 1 }
+    ensures cost { (first last : ℕ)
+        → IsStretch loose.now place first last → turns.new ≤ turns.old + (place - first) + 1 }
 {
     let mut first = place;
     let mut next = here;
@@ -394,12 +404,14 @@ fn run_start(
 fn run_end(loose: &Loose, place: usize, here: &ChunkPayloadData, turns: &mut Turns) -> Option<usize>
     requires in_range { place < length loose.now }
     requires value { here.now ≡ slice_index_or loose.now place here.now }
-    ensures found { IfSome result (λ last. IsEnd loose.now place last × IsFirstEnding loose.now place last) }
+    ensures found { IfSome result (λ last. IsEnd loose.now place last
+        × IsFirstEnding loose.now place last) }
     ensures fits { IfSome result (λ last. last + 1 < 2 ^ 64) }
     ensures spent { IfSome result (λ last. turns.new + place ≡ turns.old + last) }
     ensures none { IfNone result (HasNoEnd loose.now place) }
     ensures not_back { turns.old ≤ turns.new }
-    ensures cost { (first last : ℕ) → IsStretch loose.now place first last → turns.new ≤ turns.old + (last - place) + 1 }
+    ensures cost { (first last : ℕ)
+        → IsStretch loose.now place first last → turns.new ≤ turns.old + (last - place) + 1 }
 {
     let len = loose.len();
     let mut last = place;
@@ -426,7 +438,9 @@ fn is_cut_off(loose: &Loose, place: usize, here: &ChunkPayloadData, turns: &mut 
     requires in_range { place < length loose.now }
     requires value { here.now ≡ slice_index_or loose.now place here.now }
     ensures yes { result ≡ true → HasNoStart loose.now place }
-    ensures no { result ≡ false → here.now.beginning_fragment ≡ false → (0 < place) × ((d : ChunkPayloadData) → here.now.tsn ≡ next_tsn (slice_index_or loose.now (place - 1) d).tsn) }
+    ensures no { result ≡ false
+        → here.now.beginning_fragment ≡ false → (0 < place) × ((d : ChunkPayloadData)
+        → here.now.tsn ≡ next_tsn (slice_index_or loose.now (place - 1) d).tsn) }
     ensures not_back { turns.old ≤ turns.new }
     ensures cost { turns.new ≤ turns.old + 1 }
 {
@@ -451,8 +465,10 @@ fn run_through(
     ensures found { IfSome result (λ run. IsEarliestRunAround loose.now place run.0 run.1) }
     ensures none { IfNone result (HasNoRunAround loose.now place) }
     ensures not_back { turns.old ≤ turns.new }
-    ensures cost { (first last : ℕ) → IsStretch loose.now place first last → turns.new ≤ turns.old + (last + 1 - first) }
-    ensures at_back { (first : ℕ) → IsStretch loose.now place first place → here.now.ending_fragment ≡ false → turns.new ≤ turns.old + 1 }
+    ensures cost { (first last : ℕ)
+        → IsStretch loose.now place first last → turns.new ≤ turns.old + (last + 1 - first) }
+    ensures at_back { (first : ℕ) → IsStretch loose.now place first place
+        → here.now.ending_fragment ≡ false → turns.new ≤ turns.old + 1 }
 {
     let last = run_end(loose, place, here, turns)?;
     let first = run_start(loose, place, here, turns)?;
@@ -470,9 +486,13 @@ pub fn run_around(loose: &Loose, place: usize, turns: &mut Turns) -> Option<(usi
     ensures found { IfSome result (λ run. IsEarliestRunAround loose.now place run.0 run.1) }
     ensures none { IfNone result (HasNoRunAround loose.now place) }
     ensures not_back { turns.old ≤ turns.new }
-    ensures cost { (first last : ℕ) → IsStretch loose.now place first last → turns.new ≤ turns.old + (last + 1 - first) + 2 }
-    ensures at_front { (last : ℕ) → IsStretch loose.now place place last → ((d : ChunkPayloadData) → (slice_index_or loose.now place d).beginning_fragment ≡ false) → turns.new ≤ turns.old + 2 }
-    ensures at_back { (first : ℕ) → IsStretch loose.now place first place → ((d : ChunkPayloadData) → (slice_index_or loose.now place d).ending_fragment ≡ false) → turns.new ≤ turns.old + 3 }
+    ensures cost { (first last : ℕ)
+        → IsStretch loose.now place first last → turns.new ≤ turns.old + (last + 1 - first) + 2 }
+    ensures at_front { (last : ℕ) → IsStretch loose.now place place last
+        → ((d : ChunkPayloadData) → (slice_index_or loose.now place d).beginning_fragment ≡ false)
+        → turns.new ≤ turns.old + 2 }
+    ensures at_back { (first : ℕ) → IsStretch loose.now place first place → ((d : ChunkPayloadData)
+        → (slice_index_or loose.now place d).ending_fragment ≡ false) → turns.new ≤ turns.old + 3 }
 {
     let here = loose.look(place, turns);
     if is_cut_off(loose, place, here, turns) {

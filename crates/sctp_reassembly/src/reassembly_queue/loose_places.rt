@@ -21,7 +21,8 @@ pub(crate) fn place_for(loose: &Loose, tsn: u32, turns: &mut Turns) -> usize
     ensures place { result ≡ place_among tsn loose.now }
     ensures in_range { result ≤ length loose.now }
     ensures not_back { turns.old ≤ turns.new }
-    ensures cost { IsSerial loose.now → IsWithinDigits (length loose.now) (turns.new - turns.old - 2) }
+    ensures cost { IsSerial loose.now
+        → IsWithinDigits (length loose.now) (turns.new - turns.old - 2) }
 {
     let len = loose.len();
     if len == 0 {
@@ -57,7 +58,8 @@ fn first_after(loose: &Loose, tsn: u32, turns: &mut Turns) -> usize
 fn by_halves(loose: &Loose, tsn: u32, turns: &mut Turns) -> usize
     requires some { 0 < length loose.now }
     requires order { IsSerial loose.now }
-    requires first { (d : ChunkPayloadData) → comes_before tsn (slice_index_or loose.now 0 d).tsn ≡ false }
+    requires first { (d : ChunkPayloadData)
+        → comes_before tsn (slice_index_or loose.now 0 d).tsn ≡ false }
     ensures place { result ≡ place_among tsn loose.now }
     ensures in_range { result ≤ length loose.now }
     ensures not_back { turns.old ≤ turns.new }
@@ -88,7 +90,8 @@ pub(crate) fn place_before(
     requires { place ≡ place_among tsn loose.now }
     ensures in_range { IfSome result (λ at. at < length loose.now) }
     ensures fits { IfSome result (λ at. at + 1 < 2 ^ 64) }
-    ensures back { IfSome result (λ at. back_from (previous_tsn tsn) loose.now ≡ reverse (take (at + 1) loose.now)) }
+    ensures back { IfSome result (λ at. back_from (previous_tsn tsn) loose.now
+        ≡ reverse (take (at + 1) loose.now)) }
     ensures none { IfNone result (back_from (previous_tsn tsn) loose.now ≡ []) }
     ensures cost { IsSerial loose.now → turns.new ≤ turns.old + 2 }
 {
@@ -139,7 +142,8 @@ pub(crate) fn place_after(loose: &Loose, place: usize, tsn: u32, turns: &mut Tur
 fn last_among(loose: &Loose, tsn: u32, turns: &mut Turns) -> Option<usize>
     ensures in_range { IfSome result (λ place. place < length loose.now) }
     ensures fits { IfSome result (λ place. place + 1 < 2 ^ 64) }
-    ensures back { IfSome result (λ place. back_from tsn loose.now ≡ reverse (take (place + 1) loose.now)) }
+    ensures back { IfSome result (λ place. back_from tsn loose.now
+        ≡ reverse (take (place + 1) loose.now)) }
     ensures on { IfSome result (λ place. on_from tsn loose.now ≡ drop place loose.now) }
     ensures none_back { IfNone result (back_from tsn loose.now ≡ []) }
     ensures none_on { IfNone result (on_from tsn loose.now ≡ []) }

@@ -103,7 +103,8 @@ impl OrderedSets {
     /// is complete then; None where its TSN is there already. Refuses only for memory, and nothing changes then.
     pub(crate) fn put(&mut self, alloc: Global, chunk: ChunkPayloadData) -> Result<Option<bool>>
         ensures ok { OnOk result (self.new ≡ sets_with chunk self.old) }
-        ensures answer { IfOk result (λ whole. whole ≡ answer_with chunk (chunks_of_ssn chunk.stream_sequence_number self.old)) }
+        ensures answer { IfOk result (λ whole. whole
+            ≡ answer_with chunk (chunks_of_ssn chunk.stream_sequence_number self.old)) }
         ensures err { OnErr result (self.new ≡ self.old) }
         ensures memory { IfErr result (λ e. e ≡ ErrOutOfMemory) }
     {
@@ -127,7 +128,8 @@ impl OrderedSets {
     /// is a bound, and counts their bytes up to the greatest number.
     pub(crate) fn discard(&mut self, last_ssn: u16, bound: Option<u32>) -> usize
         ensures rest { self.new ≡ those (λ s. not (is_given_up last_ssn bound s)) self.old }
-        ensures bytes { result ≡ min (set_bytes (those (is_given_up last_ssn bound) self.old)) (2 ^ 64 - 1) }
+        ensures bytes { result
+            ≡ min (set_bytes (those (is_given_up last_ssn bound) self.old)) (2 ^ 64 - 1) }
     {
         skips::discard(&mut self.sets, last_ssn, bound)
     }
@@ -161,8 +163,10 @@ fn new_set(alloc: Global, chunk: ChunkPayloadData) -> Result<Fragments>
 // that ascend, unless it lies exactly half a circle from the first.
 fn seek(ascending: bool, sets: &VecDeque<Fragments>, ssn: u16) -> result::Result<usize, Insertion>
     requires { IsOrder ascending (map (λ s. upper_half s.ssn) sets.now.items) }
-    ensures there { IfOk result (λ place. (place ≡ position_or_len (has_ssn ssn) sets.now.items) × (place < length sets.now.items)) }
-    ensures free { IfErr result (λ at. IsInsertion (has_ssn ssn) (λ s. upper_half s.ssn) set_before sets.now.items at.place at.ascending) }
+    ensures there { IfOk result (λ place. (place ≡ position_or_len (has_ssn ssn) sets.now.items)
+        × (place < length sets.now.items)) }
+    ensures free { IfErr result (λ at. IsInsertion
+        (has_ssn ssn) (λ s. upper_half s.ssn) set_before sets.now.items at.place at.ascending) }
 {
     let len = sets.len();
     if len == 0 {
@@ -198,7 +202,8 @@ fn seek(ascending: bool, sets: &VecDeque<Fragments>, ssn: u16) -> result::Result
 fn place_within(sets: &VecDeque<Fragments>, first: u32, far: u32) -> usize
     requires { IsNonDecreasingBy (λ s. distance first (upper_half s.ssn)) sets.now.items }
     ensures in_range { result ≤ length sets.now.items }
-    ensures split { IsPartitionPoint (λ s. distance first (upper_half s.ssn) ≤ far) (λ s. far < distance first (upper_half s.ssn)) sets.now.items result }
+    ensures split { IsPartitionPoint (λ s. distance first (upper_half s.ssn) ≤ far)
+        (λ s. far < distance first (upper_half s.ssn)) sets.now.items result }
 {
     let len = sets.len();
     if len > 0 && distance(first, upper_half(sets[len - 1].ssn())) <= far {
@@ -209,8 +214,10 @@ fn place_within(sets: &VecDeque<Fragments>, first: u32, far: u32) -> usize
 
 // The same by a walk, among any numbers; they are not known to ascend then.
 fn seek_by_walk(sets: &VecDeque<Fragments>, ssn: u16) -> result::Result<usize, Insertion>
-    ensures there { IfOk result (λ place. (place ≡ position_or_len (has_ssn ssn) sets.now.items) × (place < length sets.now.items)) }
-    ensures free { IfErr result (λ at. IsInsertion (has_ssn ssn) (λ s. upper_half s.ssn) set_before sets.now.items at.place at.ascending) }
+    ensures there { IfOk result (λ place. (place ≡ position_or_len (has_ssn ssn) sets.now.items)
+        × (place < length sets.now.items)) }
+    ensures free { IfErr result (λ at. IsInsertion
+        (has_ssn ssn) (λ s. upper_half s.ssn) set_before sets.now.items at.place at.ascending) }
 {
     match first_place(sets, ssn) {
         Some(place) => Ok(place),
@@ -223,8 +230,10 @@ fn seek_by_walk(sets: &VecDeque<Fragments>, ssn: u16) -> result::Result<usize, I
 
 // The place of the first set of a number.
 fn first_place(sets: &VecDeque<Fragments>, ssn: u16) -> Option<usize>
-    ensures found { IfSome result (λ place. (place ≡ position_or_len (has_ssn ssn) sets.now.items) × (place < length sets.now.items)) }
-    ensures absent { IfNone result (position_or_len (has_ssn ssn) sets.now.items ≡ length sets.now.items) }
+    ensures found { IfSome result (λ place. (place ≡ position_or_len (has_ssn ssn) sets.now.items)
+        × (place < length sets.now.items)) }
+    ensures absent { IfNone result (position_or_len (has_ssn ssn) sets.now.items
+        ≡ length sets.now.items) }
 {
     for place in 0..sets.len() {
         if sets[place].ssn() == ssn {

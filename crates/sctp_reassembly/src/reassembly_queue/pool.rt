@@ -83,7 +83,9 @@ impl Pool {
         chunk: ChunkPayloadData,
     ) -> Result<Option<Vec<ChunkPayloadData>>, AllocError>
         requires { place ≡ place_among chunk.tsn self.old }
-        ensures ok { IfOk result (λ run. MatchOption run (HasNoRun self.new × (self.new ≡ inserted chunk_before chunk self.old)) (λ chunks. IsRunTaken (inserted chunk_before chunk self.old) self.new chunks.items)) }
+        ensures ok { IfOk result (λ run.
+            MatchOption run (HasNoRun self.new × (self.new ≡ inserted chunk_before chunk self.old))
+            (λ chunks. IsRunTaken (inserted chunk_before chunk self.old) self.new chunks.items)) }
         ensures err { OnErr result (self.new ≡ self.old) }
     {
         self.loose.insert(alloc, place, chunk)?;
@@ -109,7 +111,8 @@ impl Pool {
         &mut self,
         alloc: Global,
     ) -> Result<Option<Vec<ChunkPayloadData>>, AllocError>
-        ensures ok { IfOk result (λ run. MatchOption run (HasNoRun self.new × (self.new ≡ self.old)) (λ chunks. IsRunTaken self.old self.new chunks.items)) }
+        ensures ok { IfOk result (λ run. MatchOption run (HasNoRun self.new
+            × (self.new ≡ self.old)) (λ chunks. IsRunTaken self.old self.new chunks.items)) }
         ensures err { OnErr result (self.new ≡ self.old) }
     {
         let Some((first, count)) = find_run(&self.loose, &mut Turns::new()) else {

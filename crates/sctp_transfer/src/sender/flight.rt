@@ -106,7 +106,8 @@ impl InFlight {
         requires message { IsMessageOrNone chunks.items }
         requires number { self.old.queue.next_message_id + 1 < 2 ^ 64 }
         requires bytes { total_bytes self.old.queue + bytes_of chunks.items < 2 ^ 64 }
-        ensures ok { OnOk result (self.new ≡ with_queue self.old (with_message chunks.items self.old.queue)) }
+        ensures ok { OnOk result (self.new
+            ≡ with_queue self.old (with_message chunks.items self.old.queue)) }
         ensures err { OnErr result (self.new ≡ self.old) }
         ensures memory { IfErr result (λ e. e ≡ OutOfMemory) }
         ensures succeeds { has_room chunks.items self.old.queue ≡ true → IsOk result }
@@ -154,8 +155,10 @@ impl InFlight {
     /// Refuses only for memory, and not where nothing waits nor within the room of `reserve_inflight`. All is as it was then.
     pub fn send_next(&mut self, now: u64) -> Result<Option<u32>, SenderRefusal>
         requires { may_send self.old ≡ true }
-        ensures sent { IfOk result (λ sent. sent ≡ option_map (λ _. self.old.next_tsn) (pending.peeked self.old.queue.pending)) }
-        ensures ok { OnOk result (self.new ≡ record self.old { queue = sent_next self.old.queue self.old.next_tsn now; next_tsn = next_after_send self.old }) }
+        ensures sent { IfOk result (λ sent. sent
+            ≡ option_map (λ _. self.old.next_tsn) (pending.peeked self.old.queue.pending)) }
+        ensures ok { OnOk result (self.new ≡ record self.old { queue = sent_next
+            self.old.queue self.old.next_tsn now; next_tsn = next_after_send self.old }) }
         ensures err { OnErr result (self.new ≡ self.old) }
         ensures memory { IfErr result (λ e. e ≡ OutOfMemory) }
         ensures succeeds { 0 < self.old.queue.inflight.room → IsOk result }
@@ -171,15 +174,22 @@ impl InFlight {
     /// Refuses only for memory, and not where the message has no tail nor within the room of `reserve_inflight`. All is as it
     /// was then.
     pub fn abandon(&mut self, tsn: u32) -> Result<Option<(u16, usize)>, SenderRefusal>
-        requires { has_tail (to_abandon (find (has_tsn tsn) self.old.queue.inflight.chunks)) self.old.queue ≡ true
+        requires { has_tail
+            (to_abandon (find (has_tsn tsn) self.old.queue.inflight.chunks)) self.old.queue ≡ true
             → may_send self.old ≡ true }
-        ensures answer { IfOk result (λ r. option_map (λ a. a.0) r ≡ option_map (λ c. c.stream_identifier) (find (has_tsn tsn) self.old.queue.inflight.chunks)) }
-        ensures ok { OnOk result (self.new ≡ record self.old { queue = abandoned_of (to_abandon (find (has_tsn tsn) self.old.queue.inflight.chunks)) self.old.next_tsn self.old.queue; next_tsn = tsn_after_of (to_abandon (find (has_tsn tsn) self.old.queue.inflight.chunks)) self.old.next_tsn self.old.queue }) }
+        ensures answer { IfOk result (λ r. option_map (λ a. a.0) r ≡ option_map
+            (λ c. c.stream_identifier) (find (has_tsn tsn) self.old.queue.inflight.chunks)) }
+        ensures ok { OnOk result (self.new ≡ record self.old { queue = abandoned_of (to_abandon
+            (find (has_tsn tsn) self.old.queue.inflight.chunks)) self.old.next_tsn self.old.queue;
+            next_tsn = tsn_after_of (to_abandon (find (has_tsn tsn) self.old.queue.inflight.chunks))
+            self.old.next_tsn self.old.queue }) }
         ensures err { OnErr result (self.new ≡ self.old) }
         ensures memory { IfErr result (λ e. e ≡ OutOfMemory) }
-        ensures released { IfOk result (λ r. total_bytes self.new.queue + bytes_left r ≡ total_bytes self.old.queue) }
+        ensures released { IfOk result (λ r. total_bytes self.new.queue + bytes_left r
+            ≡ total_bytes self.old.queue) }
         ensures succeeds { 0 < self.old.queue.inflight.room → IsOk result }
-        ensures no_tail { has_tail (to_abandon (find (has_tsn tsn) self.old.queue.inflight.chunks)) self.old.queue ≡ false → IsOk result }
+        ensures no_tail { has_tail (to_abandon (find (has_tsn tsn) self.old.queue.inflight.chunks))
+            self.old.queue ≡ false → IsOk result }
     {
         let given_up = self.queue.abandon(tsn, &mut self.next_tsn)?;
         Ok(given_up)
@@ -187,9 +197,12 @@ impl InFlight {
 
     /// Removes the message in front, where it is lapsed and wholly unsent, as the queue's `expire_pending` does. It takes no memory.
     pub fn expire(&mut self, now: u64) -> Option<(u16, bool, usize)>
-        ensures answer { option_map {U = ℕ × Bool} (λ a. (a.0, a.1)) result ≡ option_map {U = ℕ × Bool} (λ c. (c.stream_identifier, c.unordered)) (expiring now self.old.queue) }
-        ensures released { total_bytes self.new.queue + expired_bytes result ≡ total_bytes self.old.queue }
-        ensures expired { self.new ≡ with_queue self.old (expired_of (expiring now self.old.queue) self.old.queue) }
+        ensures answer { option_map {U = ℕ × Bool} (λ a. (a.0, a.1)) result ≡ option_map {U = ℕ
+            × Bool} (λ c. (c.stream_identifier, c.unordered)) (expiring now self.old.queue) }
+        ensures released { total_bytes self.new.queue + expired_bytes result
+            ≡ total_bytes self.old.queue }
+        ensures expired { self.new
+            ≡ with_queue self.old (expired_of (expiring now self.old.queue) self.old.queue) }
     {
         self.queue.expire_pending(now)
     }
@@ -200,11 +213,17 @@ impl InFlight {
     /// was then.
     pub fn expire_tail(&mut self, now: u64) -> Result<Option<(u16, u64, usize)>, SenderRefusal>
         requires { is_some (expiring_tail now self.old.queue) ≡ true → may_send self.old ≡ true }
-        ensures ok { OnOk result (self.new ≡ record self.old { queue = abandoned_of (message_of (expiring_tail now self.old.queue)) self.old.next_tsn self.old.queue; next_tsn = tsn_after_of (message_of (expiring_tail now self.old.queue)) self.old.next_tsn self.old.queue }) }
+        ensures ok { OnOk result (self.new ≡ record self.old { queue = abandoned_of
+            (message_of (expiring_tail now self.old.queue)) self.old.next_tsn self.old.queue;
+            next_tsn = tsn_after_of
+            (message_of (expiring_tail now self.old.queue)) self.old.next_tsn self.old.queue }) }
         ensures err { OnErr result (self.new ≡ self.old) }
         ensures memory { IfErr result (λ e. e ≡ OutOfMemory) }
-        ensures answer { IfOk result (λ r. option_map {U = ℕ × ℕ} (λ a. (a.0, a.1)) r ≡ option_map {U = ℕ × ℕ} (λ c. (c.stream_identifier, c.message_id)) (expiring_tail now self.old.queue)) }
-        ensures released { IfOk result (λ r. total_bytes self.new.queue + tail_bytes r ≡ total_bytes self.old.queue) }
+        ensures answer { IfOk result (λ r. option_map {U = ℕ × ℕ} (λ a. (a.0, a.1)) r
+            ≡ option_map {U = ℕ
+            × ℕ} (λ c. (c.stream_identifier, c.message_id)) (expiring_tail now self.old.queue)) }
+        ensures released { IfOk result (λ r. total_bytes self.new.queue + tail_bytes r
+            ≡ total_bytes self.old.queue) }
         ensures succeeds { 0 < self.old.queue.inflight.room → IsOk result }
         ensures idle { expiring_tail now self.old.queue ≡ None → IsOk result }
     {
@@ -215,10 +234,12 @@ impl InFlight {
     /// The chunk in flight with a TSN, to be sent again, which is counted. Refuses with `NotInFlight`, where none is, or it is
     /// acknowledged or given up; and for memory. All is as it was then.
     pub fn resend(&mut self, tsn: u32) -> Result<ChunkPayloadData, SenderRefusal>
-        ensures answer { IfOk result (λ c. find (has_tsn tsn) self.old.queue.inflight.chunks ≡ Some c) }
+        ensures answer { IfOk result (λ c. find (has_tsn tsn) self.old.queue.inflight.chunks
+            ≡ Some c) }
         ensures ok { IfOk result (λ c. self.new ≡ resent tsn c self.old) }
         ensures accepted { IsOk result → can_resend tsn self.old ≡ true }
-        ensures refused { IfErr result (λ e. e ≡ (if can_resend tsn self.old then OutOfMemory else NotInFlight)) }
+        ensures refused { IfErr result (λ e. e
+            ≡ (if can_resend tsn self.old then OutOfMemory else NotInFlight)) }
         ensures err { OnErr result (self.new ≡ self.old) }
     {
         let Some(chunk) = self.queue.get(tsn) else {
@@ -235,9 +256,11 @@ impl InFlight {
     /// Counts one more sending of the chunk in flight with a TSN, up to the greatest u32; none is counted where the TSN is not in
     /// flight. It takes no memory.
     pub fn count_resend(&mut self, tsn: u32)
-        ensures counted { (c : ChunkPayloadData) → find (has_tsn tsn) self.old.queue.inflight.chunks ≡ Some c
+        ensures counted { (c : ChunkPayloadData)
+            → find (has_tsn tsn) self.old.queue.inflight.chunks ≡ Some c
             → self.new ≡ resent tsn c self.old }
-        ensures none { find (has_tsn tsn) self.old.queue.inflight.chunks ≡ None → self.new ≡ self.old }
+        ensures none { find (has_tsn tsn) self.old.queue.inflight.chunks ≡ None
+            → self.new ≡ self.old }
     {
         let Some(chunk) = self.queue.get(tsn) else {
             return;
@@ -261,12 +284,15 @@ impl InFlight {
         alloc: Global,
         sack: &ChunkSelectiveAck,
     ) -> Result<Vec<Released>, SenderRefusal>
-        ensures answer { IfOk result (λ released. released.items ≡ released_by (sack_of sack.now) self.old) }
+        ensures answer { IfOk result (λ released. released.items
+            ≡ released_by (sack_of sack.now) self.old) }
         ensures ok { OnOk result (self.new ≡ after_sack (sack_of sack.now) self.old) }
         ensures released { AreSettled self.old.queue.inflight.chunks → IfOk result
             (λ r. total_bytes self.new.queue + bytes_in r.items ≡ total_bytes self.old.queue) }
         ensures accepted { IsOk result → sack_refusal (sack_of sack.now) self.old ≡ None }
-        ensures refused { IfErr result (λ e. ((e ≡ OutOfMemory) × (sack_refusal (sack_of sack.now) self.old ≡ None)) ⊎ (sack_refusal (sack_of sack.now) self.old ≡ Some e)) }
+        ensures refused { IfErr result
+            (λ e. ((e ≡ OutOfMemory) × (sack_refusal (sack_of sack.now) self.old ≡ None))
+            ⊎ (sack_refusal (sack_of sack.now) self.old ≡ Some e)) }
         ensures err { OnErr result (self.new ≡ self.old) }
         ensures outdated { is_outdated (sack_of sack.now) self.old ≡ true → IsOk result }
     {
@@ -314,7 +340,8 @@ fn is_within(block: &GapAckBlock, left: usize) -> bool
 
 // Whether a SACK reports the TSN.
 fn is_reported(sack: &ChunkSelectiveAck, tsn: u32) -> bool
-    ensures { (c : ChunkPayloadData) → c.tsn ≡ tsn → c.acked ≡ false → result ≡ reports_anew (sack_of sack.now) c }
+    ensures { (c : ChunkPayloadData)
+        → c.tsn ≡ tsn → c.acked ≡ false → result ≡ reports_anew (sack_of sack.now) c }
 {
     if sna32lte(tsn, sack.cumulative_tsn_ack) {
         return true;
@@ -349,12 +376,15 @@ fn mark_reported(
     sack: &ChunkSelectiveAck,
     released: &mut Vec<Released>,
 )
-    requires run { tsns queue.old.inflight.chunks ≡ tsns_from first (length queue.old.inflight.chunks) }
+    requires run { tsns queue.old.inflight.chunks
+        ≡ tsns_from first (length queue.old.inflight.chunks) }
     requires few { length queue.old.inflight.chunks < 2 ^ 31 }
     requires empty { released.old.items ≡ [] }
     requires room { length queue.old.inflight.chunks ≤ vec_capacity released.old }
-    ensures marked { queue.new ≡ with_inflight queue.old (change_where (reports_anew (sack_of sack.now)) acknowledged queue.old.inflight.chunks) }
-    ensures told { released.new.items ≡ map released_of (those (reports_anew (sack_of sack.now)) queue.old.inflight.chunks) }
+    ensures marked { queue.new ≡ with_inflight queue.old
+        (change_where (reports_anew (sack_of sack.now)) acknowledged queue.old.inflight.chunks) }
+    ensures told { released.new.items
+        ≡ map released_of (those (reports_anew (sack_of sack.now)) queue.old.inflight.chunks) }
 {
     for place in 0..queue.inflight_len() {
         let tsn = first.wrapping_add(place as u32);
@@ -375,7 +405,8 @@ fn mark_reported(
 
 // Takes so many chunks from the front, which have TSNs one after another.
 fn pop_run(queue: &mut OutboundQueue, first: u32, count: usize)
-    requires run { tsns queue.old.inflight.chunks ≡ tsns_from first (length queue.old.inflight.chunks) }
+    requires run { tsns queue.old.inflight.chunks
+        ≡ tsns_from first (length queue.old.inflight.chunks) }
     requires within { count ≤ length queue.old.inflight.chunks }
     requires few { count < 2 ^ 31 }
     ensures { queue.new ≡ with_inflight queue.old (drop count queue.old.inflight.chunks) }

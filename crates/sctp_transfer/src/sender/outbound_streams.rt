@@ -55,7 +55,8 @@ impl OutboundStreams {
 
     /// The place of the stream with a number, None where it is not open.
     pub fn place_of(&self, stream: u16) -> Option<usize>
-        ensures { MatchOption result (IsAbsent stream (numbers_of self.now)) (IsOnlyPlace stream (numbers_of self.now)) }
+        ensures { MatchOption result
+            (IsAbsent stream (numbers_of self.now)) (IsOnlyPlace stream (numbers_of self.now)) }
     {
         self.numbers.place_of(stream)
     }
@@ -81,7 +82,8 @@ impl OutboundStreams {
     ) -> std::result::Result<(), SenderRefusal>
         requires closed { IsAbsent stream (numbers_of self.old) }
         requires size { (0 < fragment_size) × (fragment_size ≤ 65519) }
-        ensures ok { OnOk result (self.new ≡ self.old ++ new_stream stream fragment_size max_message_size Unknown ∷ []) }
+        ensures ok { OnOk result (self.new
+            ≡ self.old ++ new_stream stream fragment_size max_message_size Unknown ∷ []) }
         ensures err { OnErr result (self.new ≡ self.old) }
         ensures memory { IfErr result (λ e. e ≡ OutOfMemory) }
     {
@@ -104,7 +106,8 @@ impl OutboundStreams {
     /// Precondition: that stream stands there.
     pub fn set_mode_at(&mut self, place: usize, stream: u16, mode: (bool, ReliabilityType, u32))
         requires { IsOnlyPlace stream (numbers_of self.old) place }
-        ensures { self.new ≡ change_where (has_number stream) (with_mode mode.0 mode.1 mode.2) self.old }
+        ensures { self.new
+            ≡ change_where (has_number stream) (with_mode mode.0 mode.1 mode.2) self.old }
     {
         let _stream = stream;
         self.items[place].set_reliability_params(mode.0, mode.1, mode.2);
@@ -121,7 +124,8 @@ impl OutboundStreams {
         bytes: &Bytes,
     ) -> Result<Vec<ChunkPayloadData>>
         requires { IsOnlyPlace stream (numbers_of self.now) place }
-        ensures ok { IfOk result (λ chunks. (l : StreamState) → find (has_number stream) self.now ≡ Some l → chunks.items ≡ fragments_with_mode l ppi bytes.now) }
+        ensures ok { IfOk result (λ chunks. (l : StreamState) → find (has_number stream) self.now
+            ≡ Some l → chunks.items ≡ fragments_with_mode l ppi bytes.now) }
         ensures length { IfOk result (λ chunks. bytes_of chunks.items ≡ length bytes.now) }
         ensures memory { IsOkUnless result ErrOutOfMemory }
     {
@@ -146,7 +150,8 @@ impl OutboundStreams {
         len: usize,
     )
         requires { IsOnlyPlace stream (numbers_of self.old) place }
-        ensures { (bytes : List ℕ) → len ≡ length bytes → self.new ≡ change_where (has_number stream) (wrote ppi bytes) self.old }
+        ensures { (bytes : List ℕ) → len ≡ length bytes
+            → self.new ≡ change_where (has_number stream) (wrote ppi bytes) self.old }
     {
         let _stream = stream;
         count_write(&mut self.items[place], ppi, len);
