@@ -19,7 +19,7 @@ use Rattle.sctp_model.specs.Amounts.{Counters, in_all, written_bytes}
 use Rattle.sctp_model.specs.Amounts as M
 use Rattle.sctp_link.specs.declared.link.lending.Ledger.{Ledger}
 use Rattle.sctp_link.specs.declared.open_stream.OpenStream.{OpenStream}
-use Rattle.sctp_transfer.specs.declared.stream.DataChannelStats.{DataChannelStats}
+use Rattle.sctp_stream.specs.declared.stream.DataChannelStats.{DataChannelStats}
 use Rattle.sctp_transfer.specs.TsnFilter.{Filter}
 use Rattle.sctp_link.specs.Places.{IsIndexed, stream_numbers}
 use Rattle.sctp_link.specs.Texts.{IsDatagram}

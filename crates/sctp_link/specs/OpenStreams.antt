@@ -10,9 +10,9 @@ use Rattle.sctp_link.specs.declared.record.Message.{Message}
 use Rattle.sctp_link.specs.declared.record.Slot.{Slot}
 use Rattle.sctp_lists.specs.Lists.{change_where}
 use Rattle.sctp_link.specs.Linked.{has_number}
-use Rattle.sctp_transfer.specs.declared.stream.StreamState.{StreamState}
-use Rattle.sctp_transfer.specs.Stats.{with_sent, counted_bytes}
-use Rattle.sctp_transfer.specs.Stream.{after_write, fragments_of}
+use Rattle.sctp_stream.specs.declared.stream.StreamState.{StreamState}
+use Rattle.sctp_stream.specs.Stats.{with_sent, counted_bytes}
+use Rattle.sctp_stream.specs.Stream.{after_write, fragments_of}
 
 -- a fragment with the mode of its message
 abbrev pub with_mode : ReliabilityType → ℕ → ChunkPayloadData → ChunkPayloadData

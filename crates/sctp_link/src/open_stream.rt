@@ -42,7 +42,7 @@ pub struct OpenStream {
 }
 
 impl OpenStream {
-    ghost use Rattle.sctp_transfer.specs.Stream.{new_stream};
+    ghost use Rattle.sctp_stream.specs.Stream.{new_stream};
     ghost use Rattle.sctp_link.specs.OpenStreams.{is_ordered, message_with, fragments_with_mode, after_write_on, expired_on, with_sent_stats, Keeps};
     ghost use Rattle.sctp_link.specs.Linked.{stats_in};
     ghost use Rattle.sctp_transfer.specs.Inbound as Inbound;

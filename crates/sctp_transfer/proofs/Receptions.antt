@@ -9,7 +9,7 @@ use Rattle.sctp_lists.proofs.SerialLemmas.{comes_before_from, distance_cases}
 use Rattle.sctp_chunks.specs.declared.chunk.chunk_payload_data.ChunkPayloadData.{ChunkPayloadData}
 use Rattle.sctp_transfer.specs.declared.receiver.inbound_streams.InboundStream.{InboundStream}
 use Rattle.sctp_transfer.specs.declared.receiver.refusal.ReceiverRefusal.TheVariants.{StreamUnknown, TsnOpposite}
-use Rattle.sctp_transfer.specs.Numbers.{IsOnlyPlace, IsAbsent}
+use Rattle.sctp_stream.specs.Numbers.{IsOnlyPlace, IsAbsent}
 use Rattle.sctp_transfer.specs.Inbound.{number, numbers_of, new_stream}
 use Rattle.sctp_transfer.specs.TsnFilter.{Filter, has_come, is_opposite}
 use Rattle.sctp_transfer.specs.Receiver.{Reception, stream_of, is_open, filter_of, data_refusal, stream_refusal, takes_memory}

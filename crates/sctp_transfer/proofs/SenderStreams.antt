@@ -14,14 +14,14 @@ use Rattle.sctp_chunks.specs.declared.chunk.chunk_payload_data.ReliabilityType.{
 use Rattle.sctp_outbound.specs.pending_queue.Whole.{IsMessage, IsMessageOrNone}
 use Rattle.sctp_reassembly.specs.reassembly_queue.Fragments.{payload_of}
 use Rattle.sctp_serial.specs.DataChunks.{bytes_of}
-use Rattle.sctp_transfer.specs.declared.stream.StreamState.{StreamState}
+use Rattle.sctp_stream.specs.declared.stream.StreamState.{StreamState}
 use Rattle.sctp_transfer.specs.declared.sender.refusal.SenderRefusal.{SenderRefusal}
 use Rattle.sctp_transfer.specs.declared.sender.refusal.SenderRefusal.TheVariants.{StreamUnknown, MessageTooLarge, QueueFull}
 use Rattle.sctp_transfer.specs.Sender.{Transmission, is_open, is_full, write_refusal}
-use Rattle.sctp_transfer.specs.Numbers.{IsOnlyPlace, IsAbsent}
+use Rattle.sctp_stream.specs.Numbers.{IsOnlyPlace, IsAbsent}
 use Rattle.sctp_transfer.specs.Outgoing.{number, numbers_of, has_number, with_reliability, fragments_with_mode}
-use Rattle.sctp_transfer.specs.Stream as stream
-use Rattle.sctp_transfer.specs.Stream.{fragment_at, cut, new_stream}
+use Rattle.sctp_stream.specs.Stream as stream
+use Rattle.sctp_stream.specs.Stream.{fragment_at, cut, new_stream}
 use Rattle.sctp_transfer.proofs.StreamPlaces.{absent-find, inside, found}
 
 module _ (ls : List StreamState) (s : ℕ) where

@@ -18,11 +18,11 @@ use Rattle.sctp_outbound.specs.pending_queue.PendingQueue.{Pending, closed_up, f
 use Rattle.sctp_serial.specs.DataChunks.{bytes_of, chunk_before, has_tsn}
 use Rattle.sctp_transfer.specs.declared.sender.flight.Released.{Released}
 use Rattle.sctp_transfer.specs.declared.sender.refusal.SenderRefusal.{SenderRefusal}
-use Rattle.sctp_transfer.specs.declared.stream.StreamState.{StreamState}
+use Rattle.sctp_stream.specs.declared.stream.StreamState.{StreamState}
 use Rattle.sctp_transfer.specs.Flight.{Flight, after_sack, is_outdated, released_by, released_of, reports_anew, resent, taken}
 use Rattle.sctp_transfer.specs.Late.{abandoned_at, abandoned_each, message_at}
 use Rattle.sctp_transfer.specs.Outgoing.{fragments_with_mode, with_reliability}
-use Rattle.sctp_transfer.specs.Stream.{fragment_at, fragments_of}
+use Rattle.sctp_stream.specs.Stream.{fragment_at, fragments_of}
 use Rattle.sctp_transfer.specs.Totals.{AreSettled, IsAllSettled, IsSettled, bytes_in}
 
 -- ## Lists

@@ -6,7 +6,7 @@ use Rattle.std.proofs.lemmas.Option.{slice_get_within}
 use Rattle.sctp_lists.specs.Lists.{change_where}
 use Rattle.sctp_lists.proofs.Edits.{OnlyAt, change_where-only, change_where-none, find-none}
 use Rattle.sctp_lists.proofs.Getting.{length-mapped}
-use Rattle.sctp_transfer.specs.Numbers.{IsOnlyPlace, IsAbsent}
+use Rattle.sctp_stream.specs.Numbers.{IsOnlyPlace, IsAbsent}
 
 one : {A : Type 0} {a b : A} → Some a ≡ Some b → a ≡ b
 one e = cc

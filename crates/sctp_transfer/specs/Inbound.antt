@@ -8,8 +8,8 @@ use Rattle.sctp_chunks.specs.ChunkSet.{ChunkSet}
 use Rattle.sctp_serial.specs.DataChunks.{bytes_of}
 use Rattle.sctp_reassembly.specs.reassembly_queue.ReassemblyQueue.{ReassemblyState, PushesUnordered, ordered_pushed, message_read, state_read, ordered_forwarded, unordered_forwarded}
 use Rattle.sctp_transfer.specs.declared.receiver.inbound_streams.InboundStream.{InboundStream}
-use Rattle.sctp_transfer.specs.declared.stream.DataChannelStats.{DataChannelStats}
-use Rattle.sctp_transfer.specs.Stats.{with_received, counted_bytes}
+use Rattle.sctp_stream.specs.declared.stream.DataChannelStats.{DataChannelStats}
+use Rattle.sctp_stream.specs.Stats.{with_received, counted_bytes}
 
 abbrev pub number : InboundStream → ℕ
 number l = l.queue.si

@@ -1,8 +1,3 @@
-pub mod Stats
-pub mod State
-pub mod Stream
-pub mod Lending
-pub mod Numbers
 pub mod TsnFilter
 pub mod Inbound
 pub mod Receiver

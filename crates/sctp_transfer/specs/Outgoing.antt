@@ -4,10 +4,10 @@ use Rattle.sctp_lists.specs.Lists.{change_where}
 use Rattle.sctp_chunks.specs.declared.chunk.chunk_payload_data.ChunkPayloadData.{ChunkPayloadData}
 use Rattle.sctp_chunks.specs.declared.chunk.chunk_payload_data.PayloadProtocolIdentifier.{PayloadProtocolIdentifier}
 use Rattle.sctp_chunks.specs.declared.chunk.chunk_payload_data.ReliabilityType.{ReliabilityType}
-use Rattle.sctp_transfer.specs.declared.stream.StreamState.{StreamState}
+use Rattle.sctp_stream.specs.declared.stream.StreamState.{StreamState}
 use Rattle.sctp_transfer.specs.declared.sender.flight.Released.{Released}
-use Rattle.sctp_transfer.specs.Stats.{with_sent, counted_bytes}
-use Rattle.sctp_transfer.specs.Stream.{after_write, fragments_of}
+use Rattle.sctp_stream.specs.Stats.{with_sent, counted_bytes}
+use Rattle.sctp_stream.specs.Stream.{after_write, fragments_of}
 
 abbrev pub number : StreamState → ℕ
 number l = l.stream_identifier

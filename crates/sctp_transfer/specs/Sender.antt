@@ -8,12 +8,12 @@ use Rattle.sctp_chunks.specs.declared.chunk.chunk_payload_data.PayloadProtocolId
 use Rattle.sctp_chunks.specs.declared.chunk.chunk_payload_data.ReliabilityType.{ReliabilityType}
 use Rattle.sctp_chunks.specs.SelectiveAck.{Sack}
 use Rattle.sctp_outbound.specs.outbound_queue.OutboundQueue.{Outbound, with_message, total_bytes, abandoned_of, tsn_after_of, expired_of}
-use Rattle.sctp_transfer.specs.declared.stream.StreamState.{StreamState}
+use Rattle.sctp_stream.specs.declared.stream.StreamState.{StreamState}
 use Rattle.sctp_transfer.specs.declared.sender.refusal.SenderRefusal.{SenderRefusal}
 use Rattle.sctp_transfer.specs.declared.sender.refusal.SenderRefusal.TheVariants.{StreamUnknown, MessageTooLarge, QueueFull}
 use Rattle.sctp_transfer.specs.Flight.{Flight, with_queue, at_first, after_sack, released_by}
 use Rattle.sctp_transfer.specs.Outgoing.{has_number, with_mode, fragments_with_mode, wrote, released, less_by, expired}
-use Rattle.sctp_transfer.specs.Stream.{new_stream}
+use Rattle.sctp_stream.specs.Stream.{new_stream}
 
 -- the open streams in the order in which they were opened; what waits and what is in flight; how long a fragment is, and how
 -- long a message may be

@@ -4,9 +4,8 @@
 pub mod laws;
 pub mod receiver;
 pub mod sender;
-pub mod stream;
-pub mod stream_numbers;
 
-pub use stream::{
+pub use sctp_stream::stream;
+pub use sctp_stream::stream::{
     DataChannelStats, RecvSendState, StreamEvent, StreamId, StreamResetError, StreamState,
 };

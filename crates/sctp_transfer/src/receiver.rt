@@ -14,7 +14,7 @@ use self::arrival::{Arrival, Forwarded};
 use self::inbound_streams::InboundStreams;
 use self::refusal::ReceiverRefusal;
 use self::tsn_filter::TsnFilter;
-use crate::stream::DataChannelStats;
+use sctp_stream::stream::DataChannelStats;
 use sctp_base::util::sna32lte;
 use sctp_chunks::chunk::chunk_forward_tsn::{ChunkForwardTsn, ChunkForwardTsnStream};
 use sctp_chunks::chunk::chunk_payload_data::ChunkPayloadData;

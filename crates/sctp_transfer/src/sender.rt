@@ -15,7 +15,7 @@ pub mod total;
 use self::flight::{InFlight, Released};
 use self::outbound_streams::OutboundStreams;
 use self::refusal::SenderRefusal;
-use crate::stream::DataChannelStats;
+use sctp_stream::stream::DataChannelStats;
 use bytes::Bytes;
 use sctp_chunks::chunk::chunk_payload_data::{
     ChunkPayloadData, PayloadProtocolIdentifier, ReliabilityType,
@@ -53,7 +53,7 @@ impl Model for Sender {
 impl Sender {
     ghost use Rattle.sctp_chunks.specs.SelectiveAck.{sack_of};
     ghost use Rattle.sctp_outbound.specs.outbound_queue.OutboundQueue.{all_started, sent_next, expiring, expiring_tail, message_of, tail_bytes, total_bytes, after_sends};
-    ghost use Rattle.sctp_transfer.specs.declared.stream.StreamState.{StreamState};
+    ghost use Rattle.sctp_stream.specs.declared.stream.StreamState.{StreamState};
     ghost use Rattle.sctp_outbound.specs.pending_queue.PendingQueue.{peeked};
     ghost use Rattle.sctp_serial.specs.DataChunks.{has_tsn};
     ghost use Rattle.sctp_serial.specs.Window.{is_held};

@@ -44,12 +44,12 @@ use Rattle.sctp_link.specs.declared.open_stream.OpenStream.{OpenStream}
 use Rattle.sctp_link.specs.declared.record.Message.{Message}
 use Rattle.sctp_transfer.specs.Inbound.{counted, stream_read}
 use Rattle.sctp_transfer.specs.declared.receiver.inbound_streams.InboundStream.{InboundStream}
-use Rattle.sctp_transfer.specs.declared.stream.DataChannelStats.{DataChannelStats}
-use Rattle.sctp_transfer.specs.declared.stream.StreamState.{StreamState}
+use Rattle.sctp_stream.specs.declared.stream.DataChannelStats.{DataChannelStats}
+use Rattle.sctp_stream.specs.declared.stream.StreamState.{StreamState}
 use Rattle.sctp_link.specs.Linked.{State, IsLinked, IsOpenStream, has_number, stats_of, stats_in, both_ways}
 use Rattle.sctp_link.specs.Places.{stream_numbers}
 use Rattle.sctp_link.specs.Records.{message_record, stream_record}
-use Rattle.sctp_transfer.specs.Stats.{counted_bytes, with_received}
+use Rattle.sctp_stream.specs.Stats.{counted_bytes, with_received}
 use Rattle.sctp_link.proofs.sender.Beginning.{index_kept}
 use Rattle.sctp_link.proofs.upkeep.Apart.{IsApart, apart, differ, each-set, map-set_same, number-found, streams-set}
 use Rattle.sctp_link.proofs.upkeep.Places.{indexed-set}

@@ -39,7 +39,7 @@ use Rattle.sctp_ties.proofs.arriving.Arrival.{with_arrived}
 use Rattle.sctp_ties.proofs.arriving.Carried.{Carried, carried, enters}
 use Rattle.sctp_ties.proofs.arriving.SlotArrives
 use Rattle.sctp_ties.proofs.reading.ReadOne.{next-arrive}
-use Rattle.sctp_transfer.specs.declared.stream.StreamState.{StreamState}
+use Rattle.sctp_stream.specs.declared.stream.StreamState.{StreamState}
 use Rattle.sctp_transfer.specs.TsnFilter.{Filter}
 use Rattle.sctp_link.specs.declared.open_stream.OpenStream.{OpenStream}
 use Rattle.sctp_link.specs.declared.record.Slot.{Slot}

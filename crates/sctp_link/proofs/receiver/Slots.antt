@@ -22,7 +22,7 @@ use Rattle.sctp_ties.proofs.arriving.RunsOnce.{becomes-same}
 use Rattle.sctp_ties.proofs.arriving.SlotArrives
 use Rattle.sctp_ties.proofs.arriving.SlotArrives.{Enters, ordered-slot, unordered-slot}
 use Rattle.sctp_ties.proofs.reading.Keeps
-use Rattle.sctp_transfer.specs.declared.stream.StreamState.{StreamState}
+use Rattle.sctp_stream.specs.declared.stream.StreamState.{StreamState}
 use Rattle.sctp_transfer.specs.TsnFilter.{Filter, has_come, is_opposite, with_tsn, with_duplicate}
 use Rattle.sctp_link.specs.declared.open_stream.OpenStream.{OpenStream}
 use Rattle.sctp_link.specs.declared.record.Slot.{Slot}

@@ -18,9 +18,9 @@ use Rattle.sctp_model.specs.Changes.{message_on}
 use Rattle.sctp_ties.specs.Tied.{waiting_at, waiting_of}
 use Rattle.sctp_ties.proofs.sending.Waiting
 use Rattle.sctp_ties.proofs.sending.Written
-use Rattle.sctp_transfer.specs.declared.stream.StreamState.{StreamState}
-use Rattle.sctp_transfer.specs.Stream as stream
-use Rattle.sctp_transfer.specs.Stream.{fragment_at, fragments_of, cut}
+use Rattle.sctp_stream.specs.declared.stream.StreamState.{StreamState}
+use Rattle.sctp_stream.specs.Stream as stream
+use Rattle.sctp_stream.specs.Stream.{fragment_at, fragments_of, cut}
 use Rattle.sctp_link.specs.OpenStreams.{with_mode, fragments_with_mode}
 use Rattle.sctp_link.proofs.sender.Outgoing.{piece-short}
 use Rattle.sctp_link.proofs.upkeep.Bounds.{bytes-few}

@@ -28,7 +28,7 @@ use Rattle.sctp_link.specs.declared.open_stream.OpenStream.{OpenStream}
 use Rattle.sctp_link.specs.Places.{IsIndexed, stream_numbers}
 use Rattle.sctp_link.specs.Records.{stream_record}
 use Rattle.sctp_transfer.specs.Inbound as Inbound
-use Rattle.sctp_transfer.specs.Stream.{new_stream}
+use Rattle.sctp_stream.specs.Stream.{new_stream}
 use Rattle.sctp_link.specs.Linked.{State, IsOpenStream, IsLinked, has_number, stats_of}
 use Rattle.sctp_link.proofs.upkeep.Facts.{Facts, facts, stands-then}
 use Rattle.sctp_link.proofs.upkeep.Frames.{stream-same, texts-same}

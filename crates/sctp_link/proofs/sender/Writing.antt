@@ -37,11 +37,11 @@ use Rattle.sctp_link.specs.declared.open_stream.OpenStream.{OpenStream}
 use Rattle.sctp_link.specs.declared.record.Message.{Message}
 use Rattle.sctp_link.specs.Places.{stream_numbers}
 use Rattle.sctp_link.specs.Records.{stream_record, message_record}
-use Rattle.sctp_transfer.specs.Stats.{with_sent, counted_bytes}
-use Rattle.sctp_transfer.specs.Stream as stream
+use Rattle.sctp_stream.specs.Stats.{with_sent, counted_bytes}
+use Rattle.sctp_stream.specs.Stream as stream
 use Rattle.sctp_link.specs.OpenStreams.{is_ordered, message_with, with_mode, fragments_with_mode, after_write_on}
 use Rattle.sctp_link.specs.Linked.{State, IsOpenStream, IsLinked, has_number, stats_of, both_ways}
-use Rattle.sctp_transfer.specs.declared.stream.DataChannelStats.{DataChannelStats}
+use Rattle.sctp_stream.specs.declared.stream.DataChannelStats.{DataChannelStats}
 use Rattle.sctp_link.proofs.upkeep.Facts.{Facts, facts, stands-then}
 use Rattle.sctp_link.proofs.upkeep.Frames.{stream-same, begun-kept, indexed-kept, held-quiet, next-kept, texts-same}
 use Rattle.sctp_link.proofs.sender.Beginning.{index_kept, progress-more}

@@ -29,8 +29,8 @@ use Rattle.sctp_ties.proofs.amounts.StreamAmounts.{write-open}
 use Rattle.sctp_link.specs.declared.open_stream.OpenStream.{OpenStream}
 use Rattle.sctp_link.specs.declared.record.Message.{Message}
 use Rattle.sctp_link.specs.Records.{stream_record, message_record, progress_of}
-use Rattle.sctp_transfer.specs.Stream as stream
-use Rattle.sctp_transfer.specs.Stream.{cut}
+use Rattle.sctp_stream.specs.Stream as stream
+use Rattle.sctp_stream.specs.Stream.{cut}
 use Rattle.sctp_link.specs.OpenStreams.{is_ordered, message_with, fragments_with_mode, after_write_on}
 use Rattle.sctp_link.specs.Linked.{State, IsOpenStream, IsLinked, has_number}
 use Rattle.sctp_link.proofs.upkeep.Facts.{facts}

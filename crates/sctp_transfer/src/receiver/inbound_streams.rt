@@ -4,12 +4,12 @@ ghost use Rattle.std.specs.Prelude.{◌≡◌, ◌==◌, ◌<◌, ◌++◌, ◌�
 ghost use Rattle.sctp_base.specs.declared.error.Error.TheVariants.{ErrOutOfMemory};
 ghost use Rattle.sctp_lists.specs.Lists.{change_where};
 ghost use Rattle.sctp_transfer.specs.declared.receiver.refusal.ReceiverRefusal.TheVariants.{MessageTooLarge, OutOfMemory};
-ghost use Rattle.sctp_transfer.specs.Numbers.{IsOnlyPlace, IsAbsent};
+ghost use Rattle.sctp_stream.specs.Numbers.{IsOnlyPlace, IsAbsent};
 ghost use Rattle.sctp_transfer.specs.Inbound.{loose_forwarded};
 
 use crate::receiver::refusal::ReceiverRefusal;
-use crate::stream::DataChannelStats;
-use crate::stream_numbers::{StreamNumbers, put};
+use sctp_stream::stream::DataChannelStats;
+use sctp_stream::stream_numbers::{StreamNumbers, put};
 use sctp_chunks::chunk::chunk_payload_data::ChunkPayloadData;
 use sctp_queues::chunks::Chunks;
 use sctp_queues::reassembly_queue::ReassemblyQueue;

@@ -17,7 +17,7 @@ pub mod late;
 mod skipping;
 
 use crate::sender::refusal::SenderRefusal;
-use crate::stream_numbers::put;
+use sctp_stream::stream_numbers::put;
 use sctp_base::util::{sna32lt, sna32lte};
 use sctp_chunks::chunk::chunk_payload_data::ChunkPayloadData;
 use sctp_chunks::chunk::chunk_selective_ack::{ChunkSelectiveAck, GapAckBlock};

@@ -6,12 +6,12 @@ ghost use Rattle.sctp_chunks.specs.declared.chunk.chunk_payload_data.PayloadProt
 ghost use Rattle.sctp_lists.specs.Lists.{change_where};
 ghost use Rattle.sctp_serial.specs.DataChunks.{bytes_of};
 ghost use Rattle.sctp_transfer.specs.declared.sender.refusal.SenderRefusal.TheVariants.{OutOfMemory};
-ghost use Rattle.sctp_transfer.specs.Numbers.{IsOnlyPlace, IsAbsent};
+ghost use Rattle.sctp_stream.specs.Numbers.{IsOnlyPlace, IsAbsent};
 ghost use Rattle.sctp_transfer.specs.Outgoing.{with_reliability, wrote, expired};
 
 use crate::sender::refusal::SenderRefusal;
-use crate::stream::StreamState;
-use crate::stream_numbers::{StreamNumbers, put};
+use sctp_stream::stream::StreamState;
+use sctp_stream::stream_numbers::{StreamNumbers, put};
 use bytes::Bytes;
 use sctp_base::error::Result;
 use sctp_chunks::chunk::chunk_payload_data::{
@@ -29,7 +29,7 @@ pub struct OutboundStreams {
 
 impl Model for OutboundStreams {
     ghost use Rattle.std.specs.Prelude.{◌≡◌, List};
-    ghost use Rattle.sctp_transfer.specs.declared.stream.StreamState.{StreamState};
+    ghost use Rattle.sctp_stream.specs.declared.stream.StreamState.{StreamState};
     ghost use Rattle.sctp_transfer.specs.Outgoing.{numbers_of};
 
     ghost Value = { List StreamState };
@@ -40,7 +40,7 @@ impl Model for OutboundStreams {
 }
 
 impl OutboundStreams {
-    ghost use Rattle.sctp_transfer.specs.Stream.{new_stream};
+    ghost use Rattle.sctp_stream.specs.Stream.{new_stream};
     ghost use Rattle.sctp_transfer.specs.Outgoing.{has_number, numbers_of, with_mode, fragments_with_mode, less_by};
 
     /// No streams. It takes no memory.

@@ -7,7 +7,7 @@ ghost use Rattle.sctp_transfer.specs.Late.{listed};
 
 use super::InFlight;
 use crate::sender::refusal::SenderRefusal;
-use crate::stream_numbers::put;
+use sctp_stream::stream_numbers::put;
 use std::alloc::Global;
 
 /// A message that was given up: its stream, its number, and how many of its bytes left.

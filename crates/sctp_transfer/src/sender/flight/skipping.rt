@@ -10,7 +10,7 @@ ghost use Rattle.sctp_transfer.specs.TsnFilter.{tsns};
 
 use super::InFlight;
 use crate::sender::refusal::SenderRefusal;
-use crate::stream_numbers::put;
+use sctp_stream::stream_numbers::put;
 use sctp_chunks::chunk::chunk_forward_tsn::{ChunkForwardTsn, ChunkForwardTsnStream};
 use sctp_chunks::chunk::chunk_payload_data::ChunkPayloadData;
 use sctp_queues::outbound_queue::OutboundQueue;

@@ -1,4 +1,4 @@
-use Rattle.sctp_transfer.proofs.Pieces.{count_whole, count_more}
+use Rattle.sctp_stream.proofs.Pieces.{count_whole, count_more}
 use Rattle.sctp_link.proofs.link.streams.fragments_in.Goals as goal
 
 pub returns-then-len-size-eq0-clause-value : goal.returns-then-len-size-eq0-clause-value

@@ -1,7 +1,7 @@
 use Rattle.std.proofs.Common.{◌≡◌, ap, arith, to_z, w64}
 use Rattle.std.proofs.lemmas.Int.{to_z_pos}
 use Rattle.sctp_link.specs.Acking.{less_by}
-use Rattle.sctp_transfer.specs.Stream.{released}
+use Rattle.sctp_stream.specs.Stream.{released}
 use Rattle.sctp_link.proofs.upkeep.Places.{changed-found, changed-none}
 use Rattle.sctp_link.proofs.link.open_streams.OpenStreams.release.Goals as goal
 

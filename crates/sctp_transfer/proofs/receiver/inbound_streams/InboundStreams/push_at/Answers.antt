@@ -1,5 +1,5 @@
 use Rattle.std.proofs.Common.{◌∙◌, refl}
-use Rattle.sctp_transfer.specs.Numbers.{IsOnlyPlace}
+use Rattle.sctp_stream.specs.Numbers.{IsOnlyPlace}
 use Rattle.sctp_transfer.specs.Inbound.{number, numbers_of}
 use Rattle.sctp_transfer.proofs.StreamPlaces.{numbers-stay}
 use Rattle.sctp_transfer.proofs.Inbounds.{number-stays, pushes, fits, refused}

@@ -1,7 +1,7 @@
 use Rattle.std.proofs.Common.{sym, ap, ◌∙◌, refl}
 use Rattle.std.specs.Prelude.{option_map}
 use Rattle.sctp_reassembly.specs.reassembly_queue.ReassemblyQueue.{at_start}
-use Rattle.sctp_transfer.specs.Numbers.{IsOnlyPlace}
+use Rattle.sctp_stream.specs.Numbers.{IsOnlyPlace}
 use Rattle.sctp_transfer.specs.Inbound.{number, numbers_of, stream_read}
 use Rattle.sctp_transfer.specs.Receiver.{message_of}
 use Rattle.sctp_transfer.proofs.StreamPlaces.{found, changed, numbers-stay}

@@ -1,5 +1,5 @@
 use Rattle.std.proofs.Common.{◌≡◌, Bool, true, false, rules, ap, ◌∙◌, refl, ℕ}
-use Rattle.sctp_transfer.specs.declared.stream.StreamState.{StreamState}
+use Rattle.sctp_stream.specs.declared.stream.StreamState.{StreamState}
 use Rattle.sctp_transfer.specs.Outgoing.{number, expired}
 use Rattle.sctp_transfer.proofs.StreamPlaces.{absent-change, inside, changed, numbers-stay}
 use Rattle.sctp_transfer.proofs.sender.outbound_streams.OutboundStreams.expire.Goals as goal

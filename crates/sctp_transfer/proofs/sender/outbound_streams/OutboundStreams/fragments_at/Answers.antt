@@ -1,7 +1,7 @@
 use Rattle.std.proofs.Common.{◌≡◌, ap, ◌∙◌, refl, Some, map, length}
 use Rattle.std.specs.Prelude.{find}
-use Rattle.sctp_transfer.specs.Numbers.{IsOnlyPlace}
-use Rattle.sctp_transfer.specs.declared.stream.StreamState.{StreamState}
+use Rattle.sctp_stream.specs.Numbers.{IsOnlyPlace}
+use Rattle.sctp_stream.specs.declared.stream.StreamState.{StreamState}
 use Rattle.sctp_transfer.specs.Outgoing.{number, numbers_of, has_number, with_reliability, fragments_with_mode}
 use Rattle.sctp_serial.specs.DataChunks.{bytes_of}
 use Rattle.sctp_transfer.proofs.SenderStreams.{bytes-are}

@@ -1,5 +1,5 @@
 use Rattle.std.proofs.Common.{◌∙◌, refl}
-use Rattle.sctp_transfer.specs.Numbers.{IsOnlyPlace}
+use Rattle.sctp_stream.specs.Numbers.{IsOnlyPlace}
 use Rattle.sctp_transfer.specs.Outgoing.{number, numbers_of, wrote}
 use Rattle.sctp_transfer.proofs.StreamPlaces.{changed, numbers-stay}
 use Rattle.sctp_transfer.proofs.sender.outbound_streams.OutboundStreams.wrote_at.Goals as goal

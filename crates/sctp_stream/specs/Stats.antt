@@ -2,7 +2,7 @@
 use Rattle.std.specs.Prelude.{ℕ, ◌+◌, ◌-◌, ◌^◌, min, Option, Some, None}
 use Rattle.sctp_chunks.specs.declared.chunk.chunk_payload_data.PayloadProtocolIdentifier.{PayloadProtocolIdentifier}
 use Rattle.sctp_chunks.specs.declared.chunk.chunk_payload_data.PayloadProtocolIdentifier.TheVariants.{Dcep, String, Binary, StringEmpty, BinaryEmpty, Unknown}
-use Rattle.sctp_transfer.specs.declared.stream.DataChannelStats.{DataChannelStats}
+use Rattle.sctp_stream.specs.declared.stream.DataChannelStats.{DataChannelStats}
 
 -- a count of so many more, up to the greatest number of 64 bits
 abbrev pub count_up : ℕ → ℕ → ℕ

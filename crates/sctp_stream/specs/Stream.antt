@@ -5,10 +5,10 @@ use Rattle.sctp_lists.specs.Lists.{pieces}
 use Rattle.sctp_chunks.specs.declared.chunk.chunk_payload_data.PayloadProtocolIdentifier.{PayloadProtocolIdentifier}
 use Rattle.sctp_chunks.specs.declared.chunk.chunk_payload_data.PayloadProtocolIdentifier.TheVariants.{Dcep, String, Binary, StringEmpty, BinaryEmpty, Unknown}
 use Rattle.sctp_chunks.specs.declared.chunk.chunk_payload_data.ChunkPayloadData.{ChunkPayloadData}
-use Rattle.sctp_transfer.specs.declared.stream.StreamState.{StreamState}
+use Rattle.sctp_stream.specs.declared.stream.StreamState.{StreamState}
 use Rattle.sctp_chunks.specs.declared.chunk.chunk_payload_data.ReliabilityType.TheVariants.{Reliable}
-use Rattle.sctp_transfer.specs.declared.stream.RecvSendState.TheVariants.{ReadWritable}
-use Rattle.sctp_transfer.specs.Stats.{count_up}
+use Rattle.sctp_stream.specs.declared.stream.RecvSendState.TheVariants.{ReadWritable}
+use Rattle.sctp_stream.specs.Stats.{count_up}
 
 -- ## Fragments of a write (RFC 4960 6.9)
 

@@ -1,9 +1,9 @@
 use Rattle.std.proofs.Common.{◌≡◌, rules, ◌++◌, ◌∷◌, [], ◌∙◌, ap, subst, length, Some}
 use Rattle.std.specs.BTreeMap.{Updates}
 use Rattle.std.specs.Ordering.{nat_cmp}
-use Rattle.sctp_transfer.specs.Numbers.{IsAbsent}
-use Rattle.sctp_transfer.proofs.NumberPlaces.{more}
-use Rattle.sctp_transfer.proofs.stream_numbers.StreamNumbers.push.Goals as goal
+use Rattle.sctp_stream.specs.Numbers.{IsAbsent}
+use Rattle.sctp_stream.proofs.NumberPlaces.{more}
+use Rattle.sctp_stream.proofs.stream_numbers.StreamNumbers.push.Goals as goal
 
 pub invariant_of-self-2 : goal.invariant_of-self-2
 invariant_of-self-2 c =

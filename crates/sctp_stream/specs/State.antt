@@ -1,7 +1,7 @@
 -- Which directions of a stream are open.
 use Rattle.std.specs.Prelude.{ℕ, Bool, true, false, ◌==◌, if◌then◌else◌}
-use Rattle.sctp_transfer.specs.declared.stream.RecvSendState.{RecvSendState}
-use Rattle.sctp_transfer.specs.declared.stream.RecvSendState.TheVariants.{Closed, Readable, Writable, ReadWritable}
+use Rattle.sctp_stream.specs.declared.stream.RecvSendState.{RecvSendState}
+use Rattle.sctp_stream.specs.declared.stream.RecvSendState.TheVariants.{Closed, Readable, Writable, ReadWritable}
 
 abbrev pub can_read : RecvSendState → Bool
 can_read Readable = true

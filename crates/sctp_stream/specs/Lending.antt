@@ -2,8 +2,8 @@
 use Rattle.std.specs.Borrow.{Lends, MutBor, Fml}
 use Rattle.sctp_reassembly.specs.reassembly_queue.ReassemblyQueue.{ReassemblyState}
 use Rattle.sctp_reassembly.specs.contracts.reassembly_queue.ReassemblyQueue as queue
-use Rattle.sctp_transfer.specs.declared.stream.StreamState.{StreamState}
-use Rattle.sctp_transfer.specs.contracts.stream.StreamState as stream
+use Rattle.sctp_stream.specs.declared.stream.StreamState.{StreamState}
+use Rattle.sctp_stream.specs.contracts.stream.StreamState as stream
 
 abbrev pub with_queue : StreamState → ReassemblyState → StreamState
 with_queue s q = record s { reassembly_queue = q }

@@ -8,7 +8,7 @@ use Rattle.std.proofs.Math.Path.{subst}
 use Rattle.std.proofs.lemmas.Bool.{cases_lt, cases_eq, ne_eqb}
 use Rattle.std.proofs.lemmas.Option.{slice_get_within}
 use Rattle.sctp_lists.proofs.Getting.{get-last, slice-front}
-use Rattle.sctp_transfer.specs.Numbers.{IsIndexed, IsOnlyPlace, IsAbsent}
+use Rattle.sctp_stream.specs.Numbers.{IsIndexed, IsOnlyPlace, IsAbsent}
 
 one : {A : Type 0} {a b : A} → Some a ≡ Some b → a ≡ b
 one e = cc

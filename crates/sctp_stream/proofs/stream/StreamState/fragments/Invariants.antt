@@ -1,8 +1,8 @@
 use Rattle.std.proofs.Common.{◌≡◌, ◌*◌, ◌-◌, ◌≤◌, min, map, length, take}
 use Rattle.sctp_lists.specs.Kept.{numbers_from}
 use Rattle.sctp_reassembly.specs.reassembly_queue.Fragments.{payload_of}
-use Rattle.sctp_transfer.specs.Stream.{fragment_at, cut}
-use Rattle.sctp_transfer.proofs.stream.StreamState.fragments.Given as goal
+use Rattle.sctp_stream.specs.Stream.{fragment_at, cut}
+use Rattle.sctp_stream.proofs.stream.StreamState.fragments.Given as goal
 
 abbrev pub invariant-loop-at : goal.invariant-loop-at
 invariant-loop-at l = record {

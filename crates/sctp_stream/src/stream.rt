@@ -3,14 +3,14 @@
 ghost use Rattle.std.specs.Prelude.{◌≡◌, ◌==◌, ◌&&◌, ◌||◌, ◌+◌, ◌-◌, ◌^◌, ◌<◌, ◌≤◌, ◌⊎◌, ℕ, pos, not, false, true, length, map, List, [], OnOk, OnErr, IfOk, IfErr, IsOk, Ok, None};
 ghost use Rattle.sctp_lists.specs.Kept.{numbers_from};
 ghost use Rattle.sctp_base.specs.declared.error.Error.TheVariants.{ErrOutOfMemory, ErrInboundPacketTooLarge};
-ghost use Rattle.sctp_transfer.specs.Stats.{counted_bytes, with_sent, with_received, count_up};
+ghost use Rattle.sctp_stream.specs.Stats.{counted_bytes, with_sent, with_received, count_up};
 
 use bytes::Bytes;
 use sctp_base::error::{Error, Result};
 pub use sctp_chunks::chunk::chunk_payload_data::ReliabilityType;
 use sctp_chunks::chunk::chunk_payload_data::{ChunkPayloadData, PayloadProtocolIdentifier};
 use sctp_chunks::chunk::error_cause::ErrorCauseCode;
-use sctp_queues::reassembly_queue::ReassemblyQueue;
+use sctp_reassembly::reassembly_queue::ReassemblyQueue;
 use std::alloc::Global;
 use std::marker::Model;
 
@@ -87,7 +87,7 @@ pub enum RecvSendState {
 
 /// Closed.
 impl Default for RecvSendState {
-    ghost use Rattle.sctp_transfer.specs.declared.stream.RecvSendState.TheVariants.{Closed};
+    ghost use Rattle.sctp_stream.specs.declared.stream.RecvSendState.TheVariants.{Closed};
 
     ghost is_default = { λ s. s ≡ Closed };
 
@@ -98,7 +98,7 @@ impl Default for RecvSendState {
 
 /// 1 is `Readable`, 2 `Writable`, 3 `ReadWritable`, any other number `Closed`.
 impl From<u8> for RecvSendState {
-    ghost use Rattle.sctp_transfer.specs.State.{state_from};
+    ghost use Rattle.sctp_stream.specs.State.{state_from};
 
     ghost from_gives = { λ n s. s ≡ state_from n };
 
@@ -164,10 +164,10 @@ pub struct StreamState {
 }
 
 impl StreamState {
-    ghost use Rattle.sctp_transfer.specs.State.{can_read, can_write, finished};
-    ghost use Rattle.sctp_transfer.specs.Stream.{is_ordered, fragment, fragments_of, after_write, rises_high, released, falls_low, new_stream};
+    ghost use Rattle.sctp_stream.specs.State.{can_read, can_write, finished};
+    ghost use Rattle.sctp_stream.specs.Stream.{is_ordered, fragment, fragments_of, after_write, rises_high, released, falls_low, new_stream};
     ghost use Rattle.sctp_reassembly.specs.reassembly_queue.Fragments.{payload_of};
-    ghost use Rattle.sctp_transfer.specs.Lending.{LendsQueue};
+    ghost use Rattle.sctp_stream.specs.Lending.{LendsQueue};
     ghost use Rattle.std.specs.Borrow.{sem};
     ghost use Rattle.sctp_reassembly.specs.reassembly_queue.ReassemblyQueue.{is_too_large, ordered_pushed, is_whole_with, PushesUnordered};
 
@@ -241,9 +241,9 @@ impl StreamState {
         Ok((high, chunks))
     }
 
-    // Notes a write of so many bytes: an ordered one of some takes the sequence number. Says whether the buffered amount
-    // reaches the high threshold now.
-    pub(crate) fn note_write(&mut self, ppi: PayloadProtocolIdentifier, len: usize) -> bool
+    /// Notes a write of so many bytes whose fragments were taken apart by `fragments`: an ordered one of some takes the
+    /// sequence number. Answers whether the buffered amount reaches the high threshold now. It takes no memory.
+    pub fn note_write(&mut self, ppi: PayloadProtocolIdentifier, len: usize) -> bool
         ensures high { result ≡ rises_high self.old len }
         ensures rest { (bytes : List ℕ)
             → len ≡ length bytes → self.new ≡ after_write self.old ppi bytes }
@@ -273,8 +273,9 @@ impl StreamState {
         matches!(ppi, PayloadProtocolIdentifier::Dcep) || !self.unordered
     }
 
-    // The fragments of a write.
-    pub(crate) fn fragments(
+    /// The fragments of a write, as `packetize` gives them; the stream stays as it is until `note_write`. Refuses only for
+    /// memory.
+    pub fn fragments(
         &self,
         alloc: Global,
         raw: &Bytes,
@@ -344,8 +345,9 @@ impl StreamState {
         from_amount > self.buffered_amount_low && self.buffered_amount <= self.buffered_amount_low
     }
 
-    // Takes bytes off the buffered amount, which stops at 0.
-    pub(crate) fn lower_buffered(&mut self, bytes: usize)
+    /// Takes bytes off the buffered amount, which stops at 0. It takes no memory. `on_buffer_released` also answers
+    /// whether the low threshold was reached.
+    pub fn lower_buffered(&mut self, bytes: usize)
         ensures { self.new
             ≡ record self.old { buffered_amount = self.old.buffered_amount - bytes } }
     {

@@ -2,7 +2,7 @@
 
 ghost use Rattle.std.specs.Prelude.{◌≡◌, ◌++◌, ◌∷◌, [], OnOk, OnErr, IsOkUnless, MatchOption, length, vec_len, vec_capacity, ◌<◌, ◌≤◌};
 ghost use Rattle.sctp_base.specs.declared.error.Error.TheVariants.{ErrOutOfMemory};
-ghost use Rattle.sctp_transfer.specs.Numbers.{IsOnlyPlace, IsAbsent};
+ghost use Rattle.sctp_stream.specs.Numbers.{IsOnlyPlace, IsAbsent};
 
 use sctp_base::error::Result;
 use std::alloc::Global;
@@ -18,7 +18,7 @@ pub struct StreamNumbers {
 
 impl Model for StreamNumbers {
     ghost use Rattle.std.specs.Prelude.{ℕ, List};
-    ghost use Rattle.sctp_transfer.specs.Numbers.{IsIndexed};
+    ghost use Rattle.sctp_stream.specs.Numbers.{IsIndexed};
 
     ghost Value = { List ℕ };
 
@@ -63,7 +63,7 @@ impl StreamNumbers {
 
 /// Puts an item where room was made for it.
 /// Precondition: there is room.
-pub(crate) fn put<T: Drop>(items: &mut Vec<T>, item: T)
+pub fn put<T: Drop>(items: &mut Vec<T>, item: T)
     requires { vec_len items.old < vec_capacity items.old }
     ensures items { items.new.items ≡ items.old.items ++ item ∷ [] }
     ensures capacity { vec_capacity items.old ≤ vec_capacity items.new }

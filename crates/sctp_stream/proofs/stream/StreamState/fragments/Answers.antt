@@ -7,9 +7,9 @@ use Rattle.sctp_lists.proofs.KeptLemmas.{kept-snoc_in}
 use Rattle.sctp_chunks.specs.declared.chunk.chunk_payload_data.ChunkPayloadData.{ChunkPayloadData}
 use Rattle.sctp_reassembly.specs.reassembly_queue.Fragments.{payload_of}
 use Rattle.sctp_reassembly.proofs.lemmas.reassembly_queue.PieceLemmas.{payload-append}
-use Rattle.sctp_transfer.specs.Stream.{fragment, fragment_at, cut}
-use Rattle.sctp_transfer.proofs.Pieces.{piece_below, piece_none, begins, ends, slice_is}
-use Rattle.sctp_transfer.proofs.stream.StreamState.fragments.Goals as goal
+use Rattle.sctp_stream.specs.Stream.{fragment, fragment_at, cut}
+use Rattle.sctp_stream.proofs.Pieces.{piece_below, piece_none, begins, ends, slice_is}
+use Rattle.sctp_stream.proofs.stream.StreamState.fragments.Goals as goal
 
 pub loop-at-preserved : goal.loop-at-preserved
 loop-at-preserved c =

@@ -1,0 +1,5 @@
+pub mod Stats
+pub mod State
+pub mod Stream
+pub mod Lending
+pub mod Numbers

@@ -1,0 +1,9 @@
+//! What a stream keeps (RFC 4960 6.5, 6.6; RFC 8831), and how it is found by its number.
+#![tactic(auto)]
+
+pub mod stream;
+pub mod stream_numbers;
+
+pub use stream::{
+    DataChannelStats, RecvSendState, StreamEvent, StreamId, StreamResetError, StreamState,
+};
