@@ -9,4 +9,3 @@ pub mod Receiving
 pub mod Skips
 pub mod Acking
 pub mod Sends
-pub mod GivenUp

@@ -16,8 +16,8 @@ use Rattle.sctp_outbound.specs.pending_queue.PendingQueue.{Pending, selected_wit
 use Rattle.sctp_outbound.specs.pending_queue.Whole.{IsSendable, half_of, half_sent, waits}
 use Rattle.sctp_outbound.proofs.lemmas.outbound_queue.Abandoned.{last_removed_none}
 use Rattle.sctp_serial.specs.DataChunks.{has_tsn}
-use Rattle.sctp_transfer.specs.Flight.{Flight}
-use Rattle.sctp_transfer.specs.Late.{abandoned_at, has_tail_at, listed, message_at, with_tail}
+use Rattle.sctp_transfer.specs.Flight.{Flight, has_tail_at, message_to_abandon}
+use Rattle.sctp_transfer.specs.Late.{abandoned_at, listed, with_tail}
 
 -- ## Lists
 
@@ -97,7 +97,7 @@ module _ (f : Flight) (t : ℕ) where
       kept m q refl (find (has_tsn t) cs) (subst (λ xs. has_tail (to_abandon xs) q ≡ true) (ap (find (has_tsn t)) unmarked ∙ find-changed t m cs) h)
 
 pub no-tail-after : (f : Flight) (s t : ℕ) → has_tail_at f s ≡ false → not (has_tail_at f t) ≡ true → not (has_tail_at (abandoned_at s f) t) ≡ true
-no-tail-after f s t w h = ap not (fails (has_tail_at (abandoned_at s f) t) (λ e. let was = after-one f t (message_at s f) w e in not_both (sym (ap not was) ∙ h)))
+no-tail-after f s t w h = ap not (fails (has_tail_at (abandoned_at s f) t) (λ e. let was = after-one f t (message_to_abandon s f) w e in not_both (sym (ap not was) ∙ h)))
 
 -- ## The message that alone has a tail
 

@@ -19,8 +19,8 @@ use Rattle.sctp_serial.specs.DataChunks.{bytes_of, chunk_before, has_tsn}
 use Rattle.sctp_transfer.specs.declared.sender.flight.Released.{Released}
 use Rattle.sctp_transfer.specs.declared.sender.refusal.SenderRefusal.{SenderRefusal}
 use Rattle.sctp_stream.specs.declared.stream.StreamState.{StreamState}
-use Rattle.sctp_transfer.specs.Flight.{Flight, after_sack, is_outdated, released_by, released_of, reports_anew, resent, taken}
-use Rattle.sctp_transfer.specs.Late.{abandoned_at, abandoned_each, message_at}
+use Rattle.sctp_transfer.specs.Flight.{Flight, after_sack, is_outdated, released_by, released_of, reports_anew, resent, taken, message_to_abandon}
+use Rattle.sctp_transfer.specs.Late.{abandoned_at, abandoned_each}
 use Rattle.sctp_transfer.specs.Outgoing.{fragments_with_mode, with_reliability}
 use Rattle.sctp_stream.specs.Stream.{fragment_at, fragments_of}
 use Rattle.sctp_transfer.specs.Totals.{AreSettled, IsAllSettled, IsSettled, bytes_in}
@@ -156,7 +156,7 @@ abandoned-settled (Some m) tsn q a = record {
 
 pub each-settled : (tsns : List ℕ) (f : Flight) → IsAllSettled f.queue → IsAllSettled (abandoned_each tsns f).queue
 each-settled [] f a = a
-each-settled (t ∷ ts) f a = each-settled ts (abandoned_at t f) (abandoned-settled (message_at t f) f.next_tsn f.queue a)
+each-settled (t ∷ ts) f a = each-settled ts (abandoned_at t f) (abandoned-settled (message_to_abandon t f) f.next_tsn f.queue a)
 
 pub expired-settled : (o : Option ChunkPayloadData) (q : Outbound) → IsAllSettled q → IsAllSettled (expired_of o q)
 expired-settled None q a = a

@@ -7,7 +7,7 @@ use Rattle.sctp_chunks.specs.declared.chunk.chunk_payload_data.ChunkPayloadData.
 use Rattle.sctp_chunks.specs.declared.chunk.chunk_selective_ack.GapAckBlock.{GapAckBlock}
 use Rattle.sctp_chunks.specs.SelectiveAck.{Sack}
 use Rattle.sctp_outbound.specs.Marks.{acknowledged, is_outstanding, with_nsent}
-use Rattle.sctp_outbound.specs.outbound_queue.OutboundQueue.{Outbound, with_inflight}
+use Rattle.sctp_outbound.specs.outbound_queue.OutboundQueue.{Outbound, with_inflight, abandoned_of, has_tail, to_abandon, tsn_after_of}
 use Rattle.sctp_outbound.specs.payload_queue.Blocks.{covered}
 use Rattle.sctp_outbound.specs.payload_queue.PayloadQueue.{past}
 use Rattle.sctp_transfer.specs.declared.sender.flight.Released.{Released}
@@ -121,3 +121,20 @@ released_of c = record { stream = c.stream_identifier; bytes = length c.user_dat
 
 abbrev pub released_by : Sack → Flight → List Released
 released_by s f = if is_outdated s f then [] else map released_of (those (reports_anew s) f.queue.inflight.chunks)
+
+-- ## Giving up
+
+-- the message of a TSN in flight that is to be given up: none where it was before
+abbrev pub message_to_abandon : ℕ → Flight → Option ℕ
+message_to_abandon tsn f = to_abandon (find (has_tsn tsn) f.queue.inflight.chunks)
+
+-- some of it still waits: it needs an end mark
+abbrev pub has_tail_at : Flight → ℕ → Bool
+has_tail_at f tsn = has_tail (message_to_abandon tsn f) f.queue
+
+-- a message is given up, where there is one; its end mark takes the next TSN
+abbrev pub after_giving_up : Option ℕ → Flight → Flight
+after_giving_up message f = record f {
+  queue = abandoned_of message f.next_tsn f.queue;
+  next_tsn = tsn_after_of message f.next_tsn f.queue;
+}

@@ -5,20 +5,18 @@ use Rattle.sctp_lists.specs.Lists.{those}
 use Rattle.sctp_lists.specs.Serial.{distance}
 use Rattle.sctp_chunks.specs.declared.chunk.chunk_payload_data.ChunkPayloadData.{ChunkPayloadData}
 use Rattle.sctp_chunks.specs.declared.chunk.chunk_forward_tsn.ChunkForwardTsnStream.{ChunkForwardTsnStream}
-use Rattle.sctp_outbound.specs.outbound_queue.OutboundQueue.{has_tail, to_abandon}
 use Rattle.sctp_outbound.specs.pending_queue.PendingQueue.{is_on, last_of}
-use Rattle.sctp_serial.specs.DataChunks.{has_tsn}
 use Rattle.sctp_serial.specs.Window.{is_held}
 use Rattle.sctp_transfer.specs.declared.sender.refusal.SenderRefusal.{SenderRefusal}
 use Rattle.sctp_transfer.specs.declared.sender.refusal.SenderRefusal.TheVariants.{NotInFlight, TsnsUsedUp}
-use Rattle.sctp_transfer.specs.Flight.{Flight, may_send}
+use Rattle.sctp_transfer.specs.Flight.{Flight, has_tail_at, may_send}
 use Rattle.sctp_transfer.specs.TsnFilter.{preceding_tsn}
 
 -- why the message of a TSN is not given up: the TSN is not in flight, or its end mark would need one TSN too many
 abbrev pub abandon_refusal : ℕ → Flight → Option SenderRefusal
 abandon_refusal tsn f =
     if not (is_held f.queue.inflight.chunks tsn) then Some NotInFlight else (
-    if has_tail (to_abandon (find (has_tsn tsn) f.queue.inflight.chunks)) f.queue && not (may_send f) then Some TsnsUsedUp else None
+    if has_tail_at f tsn && not (may_send f) then Some TsnsUsedUp else None
     )
 
 -- ## FORWARD-TSN

@@ -2,21 +2,17 @@
 use Rattle.std.specs.Prelude.{ℕ, ◌-◌, Bool, if◌then◌else◌, List, [], ◌∷◌, ◌++◌, map, Option, Some, None}
 use Rattle.std.specs.List.{find}
 use Rattle.sctp_chunks.specs.declared.chunk.chunk_payload_data.ChunkPayloadData.{ChunkPayloadData}
-use Rattle.sctp_outbound.specs.outbound_queue.OutboundQueue.{abandoned_of, has_tail, late_tsns, to_abandon, total_bytes, tsn_after_of}
+use Rattle.sctp_outbound.specs.outbound_queue.OutboundQueue.{late_tsns, total_bytes}
 use Rattle.sctp_serial.specs.DataChunks.{has_tsn}
 use Rattle.sctp_transfer.specs.declared.sender.flight.late.GivenUp.{GivenUp}
 use Rattle.sctp_transfer.specs.declared.sender.flight.Released.{Released}
-use Rattle.sctp_transfer.specs.Flight.{Flight}
+use Rattle.sctp_transfer.specs.Flight.{Flight, after_giving_up, has_tail_at, message_to_abandon}
 use Rattle.sctp_transfer.specs.Outgoing.{released}
 use Rattle.sctp_transfer.specs.Sender.{Transmission}
 
--- the message of a TSN in flight that is to be given up: none where it was before
-abbrev pub message_at : ℕ → Flight → Option ℕ
-message_at tsn f = to_abandon (find (has_tsn tsn) f.queue.inflight.chunks)
-
--- it is given up, as `abandon` does
+-- the message of a TSN is given up, as `abandon` does
 abbrev pub abandoned_at : ℕ → Flight → Flight
-abandoned_at tsn f = record f { queue = abandoned_of (message_at tsn f) f.next_tsn f.queue; next_tsn = tsn_after_of (message_at tsn f) f.next_tsn f.queue }
+abandoned_at tsn f = after_giving_up (message_to_abandon tsn f) f
 
 -- and those of these TSNs, one after another
 abbrev pub abandoned_each : List ℕ → Flight → Flight
@@ -37,10 +33,6 @@ leaving_each [] f = []
 leaving_each (tsn ∷ tsns) f = leaving_at tsn f ++ leaving_each tsns (abandoned_at tsn f)
 
 -- ## The order
-
--- some of the message still waits: it needs an end mark
-abbrev pub has_tail_at : Flight → ℕ → Bool
-has_tail_at f tsn = has_tail (message_at tsn f) f.queue
 
 abbrev pub listed : {A : Type 0} → Option A → List A
 listed None = []

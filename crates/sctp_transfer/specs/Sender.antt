@@ -7,11 +7,11 @@ use Rattle.sctp_chunks.specs.declared.chunk.chunk_payload_data.PayloadProtocolId
 use Rattle.sctp_chunks.specs.declared.chunk.chunk_payload_data.PayloadProtocolIdentifier.TheVariants.{Unknown}
 use Rattle.sctp_chunks.specs.declared.chunk.chunk_payload_data.ReliabilityType.{ReliabilityType}
 use Rattle.sctp_chunks.specs.SelectiveAck.{Sack}
-use Rattle.sctp_outbound.specs.outbound_queue.OutboundQueue.{Outbound, with_message, total_bytes, abandoned_of, tsn_after_of, expired_of}
+use Rattle.sctp_outbound.specs.outbound_queue.OutboundQueue.{Outbound, with_message, total_bytes, expired_of}
 use Rattle.sctp_stream.specs.declared.stream.StreamState.{StreamState}
 use Rattle.sctp_transfer.specs.declared.sender.refusal.SenderRefusal.{SenderRefusal}
 use Rattle.sctp_transfer.specs.declared.sender.refusal.SenderRefusal.TheVariants.{StreamUnknown, MessageTooLarge, QueueFull}
-use Rattle.sctp_transfer.specs.Flight.{Flight, with_queue, at_first, after_sack, released_by}
+use Rattle.sctp_transfer.specs.Flight.{Flight, with_queue, at_first, after_sack, released_by, after_giving_up}
 use Rattle.sctp_transfer.specs.Outgoing.{has_number, with_mode, fragments_with_mode, wrote, released, less_by, expired}
 use Rattle.sctp_stream.specs.Stream.{new_stream}
 
@@ -81,7 +81,7 @@ after_acked s t = record t { streams = released (released_by s t.flight) t.strea
 abbrev pub after_abandon : Option ℕ → ℕ → ℕ → Transmission → Transmission
 after_abandon message stream bytes t = record t {
   streams = change_where (has_number stream) (less_by bytes) t.streams;
-  flight = record t.flight { queue = abandoned_of message t.flight.next_tsn t.flight.queue; next_tsn = tsn_after_of message t.flight.next_tsn t.flight.queue };
+  flight = after_giving_up message t.flight;
 }
 
 -- the lapsed message that begins with a chunk is gone, unsent

@@ -3,7 +3,6 @@
 ghost use Rattle.std.specs.Prelude.{◌≡◌, ◌==◌, ◌<◌, ◌≤◌, ◌⊎◌, ℕ, Bool, true, false, not, None, Some, OnOk, OnErr, IfOk, IfErr, IfSome, IsOk, IsOkUnless, ◌+◌, option_map, option_copied, is_some, map, find, length, if◌then◌else◌};
 ghost use Rattle.sctp_transfer.specs.Outgoing.{released};
 ghost use Rattle.sctp_transfer.specs.Sender.{is_full_of};
-ghost use Rattle.sctp_outbound.specs.outbound_queue.OutboundQueue.{has_tail, to_abandon};
 ghost use Rattle.sctp_transfer.specs.declared.sender.refusal.SenderRefusal.TheVariants.{StreamOpen, StreamUnknown, TsnsUsedUp, NotInFlight, OutOfMemory};
 
 pub mod flight;
@@ -57,7 +56,7 @@ impl Sender {
     ghost use Rattle.sctp_outbound.specs.pending_queue.PendingQueue.{peeked};
     ghost use Rattle.sctp_serial.specs.DataChunks.{has_tsn};
     ghost use Rattle.sctp_serial.specs.Window.{is_held};
-    ghost use Rattle.sctp_transfer.specs.Flight.{with_queue, with_room, may_send, next_after_send, can_resend, resent, is_outdated, sack_refusal, released_by};
+    ghost use Rattle.sctp_transfer.specs.Flight.{with_queue, with_room, may_send, next_after_send, can_resend, resent, is_outdated, sack_refusal, released_by, message_to_abandon, has_tail_at};
     ghost use Rattle.sctp_transfer.specs.GivingUp.{abandon_refusal};
     ghost use Rattle.sctp_transfer.specs.Outgoing.{fragments_with_mode};
     ghost use Rattle.sctp_transfer.specs.Totals.{bytes_in};
@@ -267,8 +266,8 @@ impl Sender {
     /// `NotInFlight`, where the TSN is not in flight; and, only where some of the message still waits, so that an end mark has
     /// to go in flight, with `TsnsUsedUp`, where 2^31 - 1 chunks are in flight, and for memory. The sender is as it was then.
     pub fn abandon(&mut self, tsn: u32) -> Result<(u16, usize), SenderRefusal>
-        ensures ok { IfOk result (λ r. self.new ≡ after_abandon (to_abandon
-            (find (has_tsn tsn) self.old.flight.queue.inflight.chunks)) r.0 r.1 self.old) }
+        ensures ok { IfOk result (λ r. self.new ≡ after_abandon (message_to_abandon tsn self.old.flight) r.0 r.1
+            self.old) }
         ensures stream { IfOk result (λ r. Some r.0 ≡ option_map
             (λ c. c.stream_identifier) (find (has_tsn tsn) self.old.flight.queue.inflight.chunks)) }
         ensures released { IfOk result (λ r. total_bytes self.new.flight.queue + r.1
@@ -278,14 +277,14 @@ impl Sender {
             ((e ≡ OutOfMemory) × (abandon_refusal tsn self.old.flight ≡ None))
             ⊎ (abandon_refusal tsn self.old.flight ≡ Some e)) }
         ensures no_tail { is_held self.old.flight.queue.inflight.chunks tsn ≡ true
-            → has_tail (to_abandon (find (has_tsn tsn) self.old.flight.queue.inflight.chunks)) self.old.flight.queue ≡ false
+            → has_tail_at self.old.flight tsn ≡ false
             → IsOk result }
         ensures err { OnErr result (self.new ≡ self.old) }
     {
-        let Some(chunk) = self.flight.queue().get(tsn) else {
+        if self.flight.queue().get(tsn).is_none() {
             return Err(SenderRefusal::NotInFlight);
-        };
-        if has_tail(self.flight.queue(), chunk) && !self.flight.may_send() {
+        }
+        if self.flight.has_tail_at(tsn) && !self.flight.may_send() {
             return Err(SenderRefusal::TsnsUsedUp);
         }
         let Some((stream, bytes)) = self.flight.abandon(tsn)? else {
@@ -402,13 +401,6 @@ impl Sender {
             None => None,
         }
     }
-}
-
-// Whether some of the message of a chunk in flight, which is not given up, still waits.
-fn has_tail(queue: &OutboundQueue, chunk: &ChunkPayloadData) -> bool
-    ensures { result ≡ has_tail (to_abandon (Some chunk.now)) queue.now }
-{
-    !chunk.abandoned && queue.waits(chunk.message_id)
 }
 
 // Whether a message of so many bytes can't wait.

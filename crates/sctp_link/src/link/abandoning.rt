@@ -5,10 +5,9 @@ ghost use Rattle.sctp_base.specs.declared.error.Error.TheVariants.{ErrOutOfMemor
 ghost use Rattle.sctp_model.specs.Messages.{is_reached};
 ghost use Rattle.sctp_lists.specs.Lists.{change_where};
 ghost use Rattle.sctp_serial.specs.DataChunks.{has_tsn};
-ghost use Rattle.sctp_outbound.specs.outbound_queue.OutboundQueue.{total_bytes, has_tail, to_abandon, expiring_tail, message_of as message_of_chunk};
-ghost use Rattle.sctp_transfer.specs.Flight.{may_send};
+ghost use Rattle.sctp_outbound.specs.outbound_queue.OutboundQueue.{total_bytes, expiring_tail, message_of as message_of_chunk};
+ghost use Rattle.sctp_transfer.specs.Flight.{after_giving_up, has_tail_at, may_send, message_to_abandon};
 ghost use Rattle.sctp_link.specs.Acking.{less_by};
-ghost use Rattle.sctp_link.specs.GivenUp.{given_up};
 ghost use Rattle.sctp_link.specs.Linked.{has_number};
 ghost use Rattle.sctp_link.specs.OpenStreams.{marks};
 ghost use Rattle.sctp_link.specs.Places.{IsIndexed, stream_numbers};
@@ -138,18 +137,15 @@ impl<C: Checksum + Drop> Link<C> {
 /// Precondition: the TSN is in flight, and where some of the message still waits a further TSN may be given out.
 fn abandon(flight: &mut InFlight, tsn: u32) -> Result<usize>
     requires held { is_some (find (has_tsn tsn) flight.old.queue.inflight.chunks) ≡ true }
-    requires tail { has_tail
-        (to_abandon (find (has_tsn tsn) flight.old.queue.inflight.chunks)) flight.old.queue ≡ true
+    requires tail { has_tail_at flight.old tsn ≡ true
         → may_send flight.old ≡ true }
     ensures ok { OnOk result (flight.new ≡
-        given_up (to_abandon (find (has_tsn tsn) flight.old.queue.inflight.chunks)) flight.old) }
+        after_giving_up (message_to_abandon tsn flight.old) flight.old) }
     ensures released { IfOk result (λ bytes. total_bytes flight.new.queue + bytes
         ≡ total_bytes flight.old.queue) }
     ensures err { OnErr result (flight.new ≡ flight.old) }
     ensures memory { IsOkUnless result ErrOutOfMemory }
-    ensures no_tail { has_tail
-        (to_abandon (find (has_tsn tsn) flight.old.queue.inflight.chunks)) flight.old.queue ≡ false
-        → IsOk result }
+    ensures no_tail { has_tail_at flight.old tsn ≡ false → IsOk result }
 {
     match flight.abandon(tsn) {
         Ok(Some((_, bytes))) => Ok(bytes),
@@ -165,7 +161,7 @@ fn expire_tail(flight: &mut InFlight, now: u64) -> Result<(u64, usize)>
     requires lapsed { is_some (expiring_tail now flight.old.queue) ≡ true }
     requires next { may_send flight.old ≡ true }
     ensures ok { OnOk result (flight.new
-        ≡ given_up (message_of_chunk (expiring_tail now flight.old.queue)) flight.old) }
+        ≡ after_giving_up (message_of_chunk (expiring_tail now flight.old.queue)) flight.old) }
     ensures number { IfOk result (λ r. message_of_chunk (expiring_tail now flight.old.queue)
         ≡ Some r.0) }
     ensures released { IfOk result (λ r. total_bytes flight.new.queue + r.1

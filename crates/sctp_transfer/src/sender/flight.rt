@@ -53,12 +53,12 @@ impl Model for InFlight {
 
 impl InFlight {
     ghost use Rattle.sctp_outbound.specs.Marks.{with_nsent};
-    ghost use Rattle.sctp_outbound.specs.outbound_queue.OutboundQueue.{with_message, has_room, total_bytes, all_started, sent_next, abandoned_of, tsn_after_of, to_abandon, expired_of, expiring, expiring_tail, message_of, has_tail, released_of as bytes_left, expired_bytes, tail_bytes};
+    ghost use Rattle.sctp_outbound.specs.outbound_queue.OutboundQueue.{with_message, has_room, total_bytes, all_started, sent_next, expired_of, expiring, expiring_tail, message_of, released_of as bytes_left, expired_bytes, tail_bytes};
     ghost use Rattle.sctp_outbound.specs.pending_queue.PendingQueue as pending;
     ghost use Rattle.sctp_outbound.specs.pending_queue.Whole.{IsMessageOrNone};
     ghost use Rattle.sctp_transfer.specs.TsnFilter.{preceding_tsn};
     ghost use Rattle.sctp_transfer.specs.Totals.{AreSettled, bytes_in};
-    ghost use Rattle.sctp_transfer.specs.Flight.{with_queue, with_room, at_first, may_send, next_after_send, can_resend, resent, is_outdated, sack_refusal, after_sack, released_by};
+    ghost use Rattle.sctp_transfer.specs.Flight.{with_queue, with_room, at_first, may_send, next_after_send, can_resend, resent, is_outdated, sack_refusal, after_sack, released_by, message_to_abandon, has_tail_at, after_giving_up};
 
     /// Nothing waits, and the first TSN is the next. It takes no memory.
     pub fn new(alloc: Global, first_tsn: u32) -> Self
@@ -170,26 +170,21 @@ impl InFlight {
 
     /// Gives up the message of a chunk in flight, as the queue's `abandon` does, and answers its stream and the bytes that
     /// left; None where the TSN is not in flight.
-    /// Precondition: where some of the message still waits, a further TSN may be given out; `may_send` tells.
+    /// Precondition: where some of the message still waits, which `has_tail_at` tells, a further TSN may be given out, which
+    /// `may_send` tells.
     /// Refuses only for memory, and not where the message has no tail nor within the room of `reserve_inflight`. All is as it
     /// was then.
     pub fn abandon(&mut self, tsn: u32) -> Result<Option<(u16, usize)>, SenderRefusal>
-        requires { has_tail
-            (to_abandon (find (has_tsn tsn) self.old.queue.inflight.chunks)) self.old.queue ≡ true
-            → may_send self.old ≡ true }
+        requires { has_tail_at self.old tsn ≡ true → may_send self.old ≡ true }
         ensures answer { IfOk result (λ r. option_map (λ a. a.0) r ≡ option_map
             (λ c. c.stream_identifier) (find (has_tsn tsn) self.old.queue.inflight.chunks)) }
-        ensures ok { OnOk result (self.new ≡ record self.old { queue = abandoned_of (to_abandon
-            (find (has_tsn tsn) self.old.queue.inflight.chunks)) self.old.next_tsn self.old.queue;
-            next_tsn = tsn_after_of (to_abandon (find (has_tsn tsn) self.old.queue.inflight.chunks))
-            self.old.next_tsn self.old.queue }) }
+        ensures ok { OnOk result (self.new ≡ after_giving_up (message_to_abandon tsn self.old) self.old) }
         ensures err { OnErr result (self.new ≡ self.old) }
         ensures memory { IfErr result (λ e. e ≡ OutOfMemory) }
         ensures released { IfOk result (λ r. total_bytes self.new.queue + bytes_left r
             ≡ total_bytes self.old.queue) }
         ensures succeeds { 0 < self.old.queue.inflight.room → IsOk result }
-        ensures no_tail { has_tail (to_abandon (find (has_tsn tsn) self.old.queue.inflight.chunks))
-            self.old.queue ≡ false → IsOk result }
+        ensures no_tail { has_tail_at self.old tsn ≡ false → IsOk result }
     {
         let given_up = self.queue.abandon(tsn, &mut self.next_tsn)?;
         Ok(given_up)
@@ -213,10 +208,8 @@ impl InFlight {
     /// was then.
     pub fn expire_tail(&mut self, now: u64) -> Result<Option<(u16, u64, usize)>, SenderRefusal>
         requires { is_some (expiring_tail now self.old.queue) ≡ true → may_send self.old ≡ true }
-        ensures ok { OnOk result (self.new ≡ record self.old { queue = abandoned_of
-            (message_of (expiring_tail now self.old.queue)) self.old.next_tsn self.old.queue;
-            next_tsn = tsn_after_of
-            (message_of (expiring_tail now self.old.queue)) self.old.next_tsn self.old.queue }) }
+        ensures ok { OnOk result (self.new
+            ≡ after_giving_up (message_of (expiring_tail now self.old.queue)) self.old) }
         ensures err { OnErr result (self.new ≡ self.old) }
         ensures memory { IfErr result (λ e. e ≡ OutOfMemory) }
         ensures answer { IfOk result (λ r. option_map {U = ℕ × ℕ} (λ a. (a.0, a.1)) r

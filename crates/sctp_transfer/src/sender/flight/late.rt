@@ -20,8 +20,8 @@ pub struct GivenUp {
 
 impl InFlight {
     ghost use Rattle.sctp_outbound.specs.outbound_queue.OutboundQueue.{late_tsns, total_bytes};
-    ghost use Rattle.sctp_transfer.specs.Flight.{may_send};
-    ghost use Rattle.sctp_transfer.specs.Late.{abandoned_at, abandoned_each, has_tail_at, late_order, leaving_at, leaving_each, with_tail};
+    ghost use Rattle.sctp_transfer.specs.Flight.{has_tail_at, may_send};
+    ghost use Rattle.sctp_transfer.specs.Late.{abandoned_at, abandoned_each, late_order, leaving_at, leaving_each, with_tail};
 
     /// Gives up each message in flight that is late: a chunk of it has reached its deadline, it is not given up yet, and of it
     /// some chunk is not acknowledged or some fragment waits. `now` is in nanoseconds. Answers them, in the order of the first
@@ -106,8 +106,9 @@ impl InFlight {
         None
     }
 
-    // Whether some of the message of a TSN waits, which is not given up.
-    fn has_tail_at(&self, tsn: u32) -> bool
+    /// Whether some of the message of a TSN in flight, which is not given up, still waits, so that giving it up needs an end
+    /// mark under a further TSN; false where the TSN is not in flight.
+    pub fn has_tail_at(&self, tsn: u32) -> bool
         ensures { result ≡ has_tail_at self.now tsn }
     {
         match self.queue.get(tsn) {

@@ -1,9 +1,10 @@
 use Rattle.std.proofs.Common.{◌≡◌, ◌+◌, ◌++◌, ◌∷◌, length, length-append, drop, get_or, ap, sym, subst, ◌∙◌, append_assoc, arith}
+use Rattle.sctp_transfer.specs.Flight.{has_tail_at}
 use Rattle.std.specs.Prelude.{not, true}
 use Rattle.std.specs.List.{list_all, sum_by}
 use Rattle.std.proofs.lemmas.List.Sums.{sum_by-append}
 use Rattle.sctp_transfer.specs.declared.sender.flight.late.GivenUp.{GivenUp}
-use Rattle.sctp_transfer.specs.Late.{abandoned_at, abandoned_each, has_tail_at, leaving_at, leaving_each, listed}
+use Rattle.sctp_transfer.specs.Late.{abandoned_at, abandoned_each, leaving_at, leaving_each, listed}
 use Rattle.sctp_transfer.proofs.Lates.{at-most-one, next-of, rest-with-no-tail}
 use Rattle.sctp_transfer.proofs.sender.flight.InFlight.give_up_each.Goals as goal
 

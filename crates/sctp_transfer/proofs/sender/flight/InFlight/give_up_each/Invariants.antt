@@ -1,9 +1,10 @@
 use Rattle.std.proofs.Common.{◌≡◌, ◌+◌, ◌≤◌, ◌++◌, true, drop, length}
+use Rattle.sctp_transfer.specs.Flight.{has_tail_at}
 use Rattle.std.specs.Prelude.{not, vec_capacity}
 use Rattle.std.specs.List.{list_all, sum_by}
 use Rattle.sctp_outbound.specs.outbound_queue.OutboundQueue.{total_bytes}
 use Rattle.sctp_transfer.specs.declared.sender.flight.late.GivenUp.{GivenUp}
-use Rattle.sctp_transfer.specs.Late.{abandoned_each, has_tail_at, leaving_each}
+use Rattle.sctp_transfer.specs.Late.{abandoned_each, leaving_each}
 use Rattle.sctp_transfer.proofs.sender.flight.InFlight.give_up_each.Given as goal
 
 abbrev pub invariant-loop-tsn : goal.invariant-loop-tsn

@@ -1,7 +1,6 @@
 use Rattle.std.proofs.Common.{sym, subst}
 use Rattle.sctp_outbound.specs.pending_queue.Whole.{IsSendable}
-use Rattle.sctp_transfer.specs.Flight.{Flight}
-use Rattle.sctp_transfer.specs.Late.{has_tail_at}
+use Rattle.sctp_transfer.specs.Flight.{Flight, has_tail_at}
 use Rattle.sctp_transfer.proofs.Lates.{none-left, none-passes}
 use Rattle.sctp_transfer.proofs.sender.flight.InFlight.give_up_with_tail.Goals as goal
 
