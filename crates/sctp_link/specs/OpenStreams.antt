@@ -1,5 +1,5 @@
 -- What a stream of a link makes of a write.
-use Rattle.sctp_reassembly.specs.reassembly_queue.ReassemblyQueue.{ordered_pushed, PushesUnordered}
+use Rattle.sctp_reassembly.specs.reassembly_queue.ReassemblyQueue.{after_ordered_push, PushesUnordered}
 use Rattle.std.specs.Prelude.{◌≡◌, ◌&&◌, ℕ, ◌+◌, ◌-◌, ◌%◌, ◌^◌, Bool, true, false, not, ◌||◌, if◌then◌else◌, List, [], ◌∷◌, length, map, take, drop, ◌++◌, Option, Some, None, find, ◌==◌}
 use Rattle.sctp_chunks.specs.declared.chunk.chunk_payload_data.ChunkPayloadData.{ChunkPayloadData}
 use Rattle.sctp_chunks.specs.declared.chunk.chunk_payload_data.ReliabilityType.{ReliabilityType}
@@ -107,7 +107,7 @@ begun_by m ls = if begins m then change_where (has_number m.stream) with_begun l
 -- a chunk is kept: the queue changes as by a push, and an unordered message that becomes whole is noted
 pub record Keeps (x : ChunkPayloadData) (number : ℕ) (old new : OpenStream) : Type 0 where
   pub whole : Bool
-  pub ordered_queue : x.unordered ≡ false → new.inbound.queue ≡ ordered_pushed x old.inbound.queue
+  pub ordered_queue : x.unordered ≡ false → new.inbound.queue ≡ after_ordered_push x old.inbound.queue
   pub unordered_queue : x.unordered ≡ true → PushesUnordered x old.inbound.queue new.inbound.queue whole
   pub noted : new.whole.items ≡ (if whole && x.unordered then old.whole.items ++ number ∷ [] else old.whole.items)
   pub state : new.state ≡ old.state

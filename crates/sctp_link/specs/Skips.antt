@@ -2,7 +2,7 @@
 use Rattle.std.specs.Prelude.{ℕ, ◌+◌, ◌-◌, ◌%◌, ◌^◌, min, max, Bool, ◌&&◌, not, ◌==◌, if◌then◌else◌, List, map, slice_index_or}
 use Rattle.sctp_lists.specs.Kept.{passing}
 use Rattle.sctp_chunks.specs.declared.chunk.chunk_forward_tsn.ChunkForwardTsnStream.{ChunkForwardTsnStream}
-use Rattle.sctp_reassembly.specs.reassembly_queue.ReassemblyQueue.{ReassemblyState, ordered_forwarded, unordered_forwarded}
+use Rattle.sctp_reassembly.specs.reassembly_queue.ReassemblyQueue.{ReassemblyState, after_ordered_skip, after_unordered_skip}
 use Rattle.sctp_model.specs.World as W
 use Rattle.sctp_model.specs.Messages.{no_message}
 use Rattle.sctp_model.specs.Receiver.{least, greatest}
@@ -47,13 +47,13 @@ pair_in ms n = name_with ((message_in ms n).stream, index_in ms n % 2 ^ 16)
 
 -- a queue gone forward to the last message that was named, where one was
 abbrev pub gone_to : ℕ → ReassemblyState → ReassemblyState
-gone_to end q = if end == 0 then q else ordered_forwarded ((end - 1) % 2 ^ 16) q
+gone_to end q = if end == 0 then q else after_ordered_skip ((end - 1) % 2 ^ 16) q
 
 -- a stream after a skip up to this TSN
 abbrev pub skipped_stream : Named → ℕ → OpenStream → OpenStream
 skipped_stream named tsn l =
     record l {
-      inbound = record l.inbound { queue = unordered_forwarded tsn (gone_to named.end l.inbound.queue) };
+      inbound = record l.inbound { queue = after_unordered_skip tsn (gone_to named.end l.inbound.queue) };
       next = max l.next named.end;
       named = max l.named named.end;
     }

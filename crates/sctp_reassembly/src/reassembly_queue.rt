@@ -11,7 +11,7 @@ ghost use Rattle.sctp_reassembly.specs.reassembly_queue.Loose.{place_among};
 ghost use Rattle.sctp_reassembly.specs.reassembly_queue.Sizes.{projected_size, size_before, size_after};
 ghost use Rattle.sctp_serial.specs.Runs.{HasNoRun};
 ghost use Rattle.sctp_serial.specs.Window.{IsSerial};
-ghost use Rattle.sctp_reassembly.specs.reassembly_queue.Skips.{bounded_forwarded, applicable, is_upto};
+ghost use Rattle.sctp_reassembly.specs.reassembly_queue.Skips.{after_bounded_skip, applicable, is_upto};
 ghost use Rattle.sctp_base.specs.declared.error.Error.TheVariants.{ErrOutOfMemory, ErrInboundPacketTooLarge};
 
 pub mod chunks;
@@ -65,7 +65,7 @@ impl Model for ReassemblyQueue {
 }
 
 impl ReassemblyQueue {
-    ghost use Rattle.sctp_reassembly.specs.reassembly_queue.ReassemblyQueue.{ReassemblyState, message_read, rest_read, state_read, at_start, ordered_forwarded, unordered_forwarded, is_too_large, ordered_pushed, is_whole_with, PushesUnordered, GivesRun, IsCounted, held_bytes, bytes_read, complete_sets};
+    ghost use Rattle.sctp_reassembly.specs.reassembly_queue.ReassemblyQueue.{ReassemblyState, message_read, rest_read, state_read, at_start, after_ordered_skip, after_unordered_skip, is_too_large, after_ordered_push, is_whole_with, PushesUnordered, GivesRun, IsCounted, held_bytes, bytes_read, complete_sets};
 
     /// An empty queue of the stream `si`, which takes messages of at most `max_message_size`
     /// bytes and expects the stream sequence number 0 first (RFC 4960 6.5). It takes no memory.
@@ -170,7 +170,7 @@ impl ReassemblyQueue {
         ensures other_stream { (chunk.stream_identifier == self.old.si) ≡ false
             → (result ≡ Ok false) × (self.new ≡ self.old) }
         ensures ordered { (chunk.stream_identifier == self.old.si) ≡ true → chunk.unordered ≡ false
-            → IfOk result (λ whole. (self.new ≡ ordered_pushed chunk self.old)
+            → IfOk result (λ whole. (self.new ≡ after_ordered_push chunk self.old)
             × (whole ≡ is_whole_with chunk self.old.held)) }
         ensures unordered { (chunk.stream_identifier == self.old.si) ≡ true → chunk.unordered ≡ true
             → IfOk result (λ whole. PushesUnordered chunk self.old self.new whole) }
@@ -185,7 +185,7 @@ impl ReassemblyQueue {
             return Ok(false);
         }
         let place = self.place_of(&chunk);
-        if self.is_too_large(&chunk, place) {
+        if self.is_too_large_at(&chunk, place) {
             return Err(Error::ErrInboundPacketTooLarge);
         }
         if chunk.unordered {
@@ -195,10 +195,23 @@ impl ReassemblyQueue {
         }
     }
 
+    /// Whether `push` refuses a chunk with `ErrInboundPacketTooLarge`: it is of this stream, and its message would be longer
+    /// with it than `max_message_size`. It takes no memory.
+    pub fn is_too_large(&self, chunk: &ChunkPayloadData) -> bool
+        ensures { result ≡ is_too_large chunk.now self.now }
+    {
+        if self.si != chunk.stream_identifier {
+            return false;
+        }
+        let place = self.place_of(chunk);
+        self.is_too_large_at(chunk, place)
+    }
+
     // Where an unordered chunk goes among the loose fragments.
     fn place_of(&self, chunk: &ChunkPayloadData) -> usize
-        ensures { chunk.now.unordered ≡ true
+        ensures place { chunk.now.unordered ≡ true
             → result ≡ place_among chunk.now.tsn self.now.held.loose }
+        ensures fits { chunk.now.unordered ≡ true → chunk.now.tsn < 2 ^ 32 }
     {
         if !chunk.unordered {
             return 0;
@@ -206,11 +219,12 @@ impl ReassemblyQueue {
         place_for(self.unordered_chunks.loose(), chunk.tsn, &mut Turns::new())
     }
 
-    // Whether the message of the chunk would be too long with it.
-    fn is_too_large(&self, chunk: &ChunkPayloadData, place: usize) -> bool
+    // Whether the message of the chunk, which goes to this place among the loose fragments if it is unordered, would be too
+    // long with it.
+    fn is_too_large_at(&self, chunk: &ChunkPayloadData, place: usize) -> bool
         requires place { chunk.now.unordered ≡ true
             → place ≡ place_among chunk.now.tsn self.now.held.loose }
-        requires fits { chunk.now.tsn < 2 ^ 32 }
+        requires fits { chunk.now.unordered ≡ true → chunk.now.tsn < 2 ^ 32 }
         ensures { result ≡ nat_lt self.now.max_message_size
             (projected_size chunk.now self.now.held.ordered self.now.held.loose) }
     {
@@ -242,7 +256,7 @@ impl ReassemblyQueue {
 
     /// Takes an ordered chunk. Refuses only for memory.
     fn push_ordered(&mut self, chunk: ChunkPayloadData) -> Result<bool>
-        ensures ok { OnOk result (self.new ≡ ordered_pushed chunk self.old) }
+        ensures ok { OnOk result (self.new ≡ after_ordered_push chunk self.old) }
         ensures answer { IfOk result (λ whole. whole ≡ is_whole_with chunk self.old.held) }
         ensures err { OnErr result (self.new ≡ self.old) }
         ensures memory { IfErr result (λ e. e ≡ ErrOutOfMemory) }
@@ -353,7 +367,7 @@ impl ReassemblyQueue {
     /// Gives up the incomplete sets at or before the number, and waits for none of
     /// them (RFC 3758 3.6). Whole ones stay and can be read. It takes no memory.
     pub fn forward_tsn_for_ordered(&mut self, last_ssn: u16)
-        ensures value { self.new ≡ ordered_forwarded last_ssn self.old }
+        ensures value { self.new ≡ after_ordered_skip last_ssn self.old }
         ensures counted { IsCounted self.old → IsCounted self.new }
         ensures complete { complete_sets self.new.held ≡ complete_sets self.old.held }
     {
@@ -366,7 +380,7 @@ impl ReassemblyQueue {
     /// for none of them, but stops before the first set that it leaves alone. So a FORWARD-TSN that was kept over
     /// a reset of the stream does not reach into messages whose TSNs lie behind its own. It takes no memory.
     pub fn forward_tsn_for_ordered_bounded(&mut self, last_ssn: u16, new_cumulative_tsn: u32)
-        ensures value { self.new ≡ bounded_forwarded last_ssn new_cumulative_tsn self.old }
+        ensures value { self.new ≡ after_bounded_skip last_ssn new_cumulative_tsn self.old }
         ensures counted { IsCounted self.old → IsCounted self.new }
         ensures complete { complete_sets self.new.held ≡ complete_sets self.old.held }
     {
@@ -413,7 +427,7 @@ impl ReassemblyQueue {
     /// Drops the loose fragments up to the first that is after the TSN
     /// (RFC 3758 3.6). Whole unordered messages stay. It takes no memory.
     pub fn forward_tsn_for_unordered(&mut self, new_cumulative_tsn: u32)
-        ensures value { self.new ≡ unordered_forwarded new_cumulative_tsn self.old }
+        ensures value { self.new ≡ after_unordered_skip new_cumulative_tsn self.old }
         ensures counted { IsCounted self.old → IsCounted self.new }
     {
         let mut turns = Turns::new();

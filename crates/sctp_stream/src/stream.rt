@@ -169,7 +169,7 @@ impl StreamState {
     ghost use Rattle.sctp_reassembly.specs.reassembly_queue.Fragments.{payload_of};
     ghost use Rattle.sctp_stream.specs.Lending.{LendsQueue};
     ghost use Rattle.std.specs.Borrow.{sem};
-    ghost use Rattle.sctp_reassembly.specs.reassembly_queue.ReassemblyQueue.{is_too_large, ordered_pushed, is_whole_with, PushesUnordered};
+    ghost use Rattle.sctp_reassembly.specs.reassembly_queue.ReassemblyQueue.{is_too_large, after_ordered_push, is_whole_with, PushesUnordered};
 
     /// A stream that is open both ways, ordered and reliable, with fragments of at most `max_payload_size`
     /// bytes of user data and messages of at most `max_receive_message_size` bytes. All counts are 0, the
@@ -563,7 +563,7 @@ impl StreamState {
             → IfOk result (λ whole. (whole ≡ false) × (self.new ≡ self.old)) }
         ensures ordered { (pd.now.stream_identifier == self.old.reassembly_queue.si) ≡ true
             → pd.now.unordered ≡ false → IfOk result
-            (λ whole. (self.new.reassembly_queue ≡ ordered_pushed pd.now self.old.reassembly_queue)
+            (λ whole. (self.new.reassembly_queue ≡ after_ordered_push pd.now self.old.reassembly_queue)
             × (whole ≡ is_whole_with pd.now self.old.reassembly_queue.held)) }
         ensures unordered { (pd.now.stream_identifier == self.old.reassembly_queue.si) ≡ true
             → pd.now.unordered ≡ true → IfOk result (λ whole.

@@ -11,7 +11,7 @@ use Rattle.sctp_chunks.specs.declared.chunk.chunk_payload_data.ChunkPayloadData.
 use Rattle.sctp_chunks.specs.ChunkSet.{ChunkSet}
 use Rattle.sctp_serial.specs.DataChunks.{has_tsn, chunk_before}
 use Rattle.sctp_reassembly.specs.reassembly_queue.Fragments.{has_ssn, with_chunk, new_set, sets_with, set_before}
-use Rattle.sctp_reassembly.specs.reassembly_queue.ReassemblyQueue.{Reassembly, ReassemblyState, pushed_ordered, set_of_run, TakesRun, BecomesWhole, is_readable, front_readable, without_first, after_read, message_among, message_read, rest_among, rest_read, is_passed, ordered_forwarded, unordered_forwarded}
+use Rattle.sctp_reassembly.specs.reassembly_queue.ReassemblyQueue.{Reassembly, ReassemblyState, held_after_ordered_push, set_of_run, TakesRun, BecomesWhole, is_readable, front_readable, without_first, after_read, message_among, message_read, rest_among, rest_read, is_passed, after_ordered_skip, after_unordered_skip}
 use Rattle.sctp_transfer.specs.Inbound.{Pushes, PushesAs}
 
 module _ (w : ChunkPayloadData → ℕ) where
@@ -54,7 +54,7 @@ module _ (w : ChunkPayloadData → ℕ) where
       by true = first-changed (has_ssn x.stream_sequence_number) (with_chunk x) (w x) (chunk-put x) sets
       by false = let e = sum_by-inserted set_weight set_before (new_set x) sets in let o = one-chunk x in omega arith
 
-  pushed-in-order : (x : ChunkPayloadData) (q : Reassembly) → weight (pushed_ordered x q) ≤ weight q + w x
+  pushed-in-order : (x : ChunkPayloadData) (q : Reassembly) → weight (held_after_ordered_push x q) ≤ weight q + w x
   pushed-in-order x q = by (comes_before16 x.stream_sequence_number q.next_ssn)
     where
       by : (b : Bool) → weight (if b then q else record q { ordered = sets_with x q.ordered }) ≤ weight q + w x
@@ -138,8 +138,8 @@ module _ (w : ChunkPayloadData → ℕ) where
       by true ih = let b = sum_by-cons f x xs in omega arith
       by false ih = omega arith
 
-  pub named : (ssn : ℕ) (q : ReassemblyState) → weight (ordered_forwarded ssn q).held ≤ weight q.held
+  pub named : (ssn : ℕ) (q : ReassemblyState) → weight (after_ordered_skip ssn q).held ≤ weight q.held
   named ssn q = let h = fewer set_weight (λ set. not (is_passed ssn set)) q.held.ordered in omega arith
 
-  pub loose : (tsn : ℕ) (q : ReassemblyState) → weight (unordered_forwarded tsn q).held ≤ weight q.held
+  pub loose : (tsn : ℕ) (q : ReassemblyState) → weight (after_unordered_skip tsn q).held ≤ weight q.held
   loose tsn q = let h = later w (λ x. at_or_before x.tsn tsn) q.held.loose in omega arith

@@ -6,7 +6,7 @@ use Rattle.sctp_chunks.specs.declared.chunk.chunk_payload_data.ChunkPayloadData.
 use Rattle.sctp_chunks.specs.declared.chunk.chunk_forward_tsn.ChunkForwardTsnStream.{ChunkForwardTsnStream}
 use Rattle.sctp_chunks.specs.ChunkSet.{ChunkSet}
 use Rattle.sctp_serial.specs.DataChunks.{bytes_of}
-use Rattle.sctp_reassembly.specs.reassembly_queue.ReassemblyQueue.{ReassemblyState, PushesUnordered, ordered_pushed, message_read, state_read, ordered_forwarded, unordered_forwarded}
+use Rattle.sctp_reassembly.specs.reassembly_queue.ReassemblyQueue.{ReassemblyState, PushesUnordered, after_ordered_push, message_read, state_read, after_ordered_skip, after_unordered_skip}
 use Rattle.sctp_transfer.specs.declared.receiver.inbound_streams.InboundStream.{InboundStream}
 use Rattle.sctp_stream.specs.declared.stream.DataChannelStats.{DataChannelStats}
 use Rattle.sctp_stream.specs.Stats.{with_received, counted_bytes}
@@ -34,7 +34,7 @@ with_queue q l = record l { queue = q }
 
 -- what it makes of its stream's queue, where it is unordered and where it is not
 abbrev pub PushesAs : Bool → ChunkPayloadData → ReassemblyState → ReassemblyState → Type 0
-PushesAs false c old new = new ≡ ordered_pushed c old
+PushesAs false c old new = new ≡ after_ordered_push c old
 PushesAs true c old new = (whole : Bool) × PushesUnordered c old new whole
 
 abbrev pub Pushes : ChunkPayloadData → ReassemblyState → ReassemblyState → Type 0
@@ -60,7 +60,7 @@ stream_read l = record l { queue = state_read l.queue; stats = counted (message_
 -- ## A FORWARD-TSN comes
 
 abbrev pub ssn_forwarded : ℕ → InboundStream → InboundStream
-ssn_forwarded ssn l = record l { queue = ordered_forwarded ssn l.queue }
+ssn_forwarded ssn l = record l { queue = after_ordered_skip ssn l.queue }
 
 -- one name after another
 abbrev pub named_forwarded : List ChunkForwardTsnStream → List InboundStream → List InboundStream
@@ -68,4 +68,4 @@ named_forwarded [] ls = ls
 named_forwarded (n ∷ ns) ls = named_forwarded ns (change_where (has_number n.identifier) (ssn_forwarded n.sequence) ls)
 
 abbrev pub loose_forwarded : ℕ → InboundStream → InboundStream
-loose_forwarded tsn l = record l { queue = unordered_forwarded tsn l.queue }
+loose_forwarded tsn l = record l { queue = after_unordered_skip tsn l.queue }

@@ -8,7 +8,7 @@ use Rattle.sctp_lists.specs.Lists.{changed, inserted}
 use Rattle.sctp_lists.proofs.Cases.{same-yes, and-none}
 use Rattle.sctp_chunks.specs.declared.chunk.chunk_payload_data.ChunkPayloadData.{ChunkPayloadData}
 use Rattle.sctp_serial.specs.DataChunks.{chunk_before}
-use Rattle.sctp_reassembly.specs.reassembly_queue.ReassemblyQueue.{Reassembly, ReassemblyState, is_too_large, pushed_ordered, BecomesWhole}
+use Rattle.sctp_reassembly.specs.reassembly_queue.ReassemblyQueue.{Reassembly, ReassemblyState, is_too_large, held_after_ordered_push, BecomesWhole}
 use Rattle.sctp_model.specs.World.{World, StreamRecord}
 use Rattle.sctp_model.specs.Messages.{message_at, message_of, slots_of, index_of, tsn_of, no_slot}
 use Rattle.sctp_model.specs.Receiver.{is_new, has_arrived}
@@ -142,7 +142,7 @@ module _ (w : World) (ls : List OpenStream) (slots : List Slot) (filter : Filter
         holds-by true o =
             let q = keeps.ordered_queue (ap not o) in
             record {
-              queue = ap (λ (q : ReassemblyState). q.held) q ∙ ap (pushed_ordered (chunk_at w p)) here ∙ sym (ordered-slot w s p enter m.sound.sound o (span-here o));
+              queue = ap (λ (q : ReassemblyState). q.held) q ∙ ap (held_after_ordered_push (chunk_at w p)) here ∙ sym (ordered-slot w s p enter m.sound.sound o (span-here o));
               noted = ap (λ b. keeps.whole && not b) o ∙ and-none keeps.whole ∙ sym (ap (λ b. not b && (has_arrived (with_arrived w p) n && list_all (λ i. nat_le w.skipped i) (slots_of (with_arrived w p) n))) o);
               si = ap (λ (q : ReassemblyState). q.si) q;
               largest = ap (λ (q : ReassemblyState). q.max_message_size) q;

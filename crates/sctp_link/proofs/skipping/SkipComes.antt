@@ -12,7 +12,7 @@ use Rattle.sctp_chunks.specs.ForwardTsn.{ForwardTsn}
 use Rattle.sctp_chunks.specs.Wire.{forward_tsn_chunk}
 use Rattle.sctp_packets.specs.Packet.{ReadsPacket}
 use Rattle.sctp_reassembly.specs.reassembly_queue.Fragments.{is_complete}
-use Rattle.sctp_reassembly.specs.reassembly_queue.ReassemblyQueue.{ReassemblyState, ordered_forwarded, unordered_forwarded, forwarded_ordered, forwarded_unordered}
+use Rattle.sctp_reassembly.specs.reassembly_queue.ReassemblyQueue.{ReassemblyState, after_ordered_skip, after_unordered_skip, held_after_ordered_skip, held_after_unordered_skip}
 use Rattle.sctp_model.specs.declared.event.Event.TheVariants as E
 use Rattle.sctp_model.specs.World.{World, StreamRecord, Forward}
 use Rattle.sctp_model.specs.World as W
@@ -337,17 +337,17 @@ module _ (sum : List ℕ → ℕ) (x : State) (l : IsLinked sum x) (k upto : ℕ
 
     -- ## The streams
 
-    gone-held : (end tsn : ℕ) (q : ReassemblyState) → (unordered_forwarded tsn (gone_to end q)).held ≡ forwarded_unordered tsn (gone_forward end q.held)
+    gone-held : (end tsn : ℕ) (q : ReassemblyState) → (after_unordered_skip tsn (gone_to end q)).held ≡ held_after_unordered_skip tsn (gone_forward end q.held)
     gone-held end tsn q = step (end == 0)
       where
-        step : (b : Bool) → (unordered_forwarded tsn (if b then q else ordered_forwarded ((end - 1) % 2 ^ 16) q)).held ≡ forwarded_unordered tsn (if b then q.held else forwarded_ordered ((end - 1) % 2 ^ 16) q.held)
+        step : (b : Bool) → (after_unordered_skip tsn (if b then q else after_ordered_skip ((end - 1) % 2 ^ 16) q)).held ≡ held_after_unordered_skip tsn (if b then q.held else held_after_ordered_skip ((end - 1) % 2 ^ 16) q.held)
         step true = refl
         step false = refl
 
-    gone-rest : (end tsn : ℕ) (q : ReassemblyState) → ((unordered_forwarded tsn (gone_to end q)).si ≡ q.si) × ((unordered_forwarded tsn (gone_to end q)).max_message_size ≡ q.max_message_size)
+    gone-rest : (end tsn : ℕ) (q : ReassemblyState) → ((after_unordered_skip tsn (gone_to end q)).si ≡ q.si) × ((after_unordered_skip tsn (gone_to end q)).max_message_size ≡ q.max_message_size)
     gone-rest end tsn q = step (end == 0)
       where
-        step : (b : Bool) → ((unordered_forwarded tsn (if b then q else ordered_forwarded ((end - 1) % 2 ^ 16) q)).si ≡ q.si) × ((unordered_forwarded tsn (if b then q else ordered_forwarded ((end - 1) % 2 ^ 16) q)).max_message_size ≡ q.max_message_size)
+        step : (b : Bool) → ((after_unordered_skip tsn (if b then q else after_ordered_skip ((end - 1) % 2 ^ 16) q)).si ≡ q.si) × ((after_unordered_skip tsn (if b then q else after_ordered_skip ((end - 1) % 2 ^ 16) q)).max_message_size ≡ q.max_message_size)
         step true = (refl, refl)
         step false = (refl, refl)
 
@@ -362,7 +362,7 @@ module _ (sum : List ℕ → ℕ) (x : State) (l : IsLinked sum x) (k upto : ℕ
         let queue = queue-skip w s upto names r f.sound.sound skips.made counts o sp.0 sp.1 in
         let rest = gone-rest end tsn y.inbound.queue in
         stream-then sum x l (E.Arrive k) none frame refl y (turned y) i refl
-        (gone-held end tsn y.inbound.queue ∙ ap (λ n. forwarded_unordered tsn (gone_forward n y.inbound.queue.held)) end-is ∙ ap (λ h. forwarded_unordered tsn (gone_forward (end_named w s names) h)) i.held
+        (gone-held end tsn y.inbound.queue ∙ ap (λ n. held_after_unordered_skip tsn (gone_forward n y.inbound.queue.held)) end-is ∙ ap (λ h. held_after_unordered_skip tsn (gone_forward (end_named w s names) h)) i.held
         ∙ sym queue ∙ ap (λ u. reassembly_of u s) (sym after-is))
         rest.0 rest.1 refl refl refl refl
         (ap (λ n. max y.next n) end-is ∙ ap (λ n. max n (end_named w s names)) i.next ∙ sym (next-skip w s upto names r f.sound.sound o) ∙ ap (λ u. next_of u s) (sym after-is))

@@ -48,8 +48,8 @@ abbrev pub is_too_large : ChunkPayloadData → ReassemblyState → Bool
 is_too_large x q = (x.stream_identifier == q.si) && nat_lt q.max_message_size (projected_size x q.held.ordered q.held.loose)
 
 -- an ordered chunk comes
-abbrev pub pushed_ordered : ChunkPayloadData → Reassembly → Reassembly
-pushed_ordered x q = if comes_before16 x.stream_sequence_number q.next_ssn then q else record q { ordered = sets_with x q.ordered }
+abbrev pub held_after_ordered_push : ChunkPayloadData → Reassembly → Reassembly
+held_after_ordered_push x q = if comes_before16 x.stream_sequence_number q.next_ssn then q else record q { ordered = sets_with x q.ordered }
 
 -- an ordered chunk is kept where its SSN isn't before the next one and its TSN isn't in its set
 abbrev pub is_kept : ChunkPayloadData → Reassembly → Bool
@@ -59,8 +59,8 @@ is_kept x q = not (comes_before16 x.stream_sequence_number q.next_ssn) && not (l
 abbrev pub is_whole_with : ChunkPayloadData → Reassembly → Bool
 is_whole_with x q = not (comes_before16 x.stream_sequence_number q.next_ssn) && is_whole_after x (chunks_of_ssn x.stream_sequence_number q.ordered)
 
-abbrev pub ordered_pushed : ChunkPayloadData → ReassemblyState → ReassemblyState
-ordered_pushed x q = record q { held = pushed_ordered x q.held; bytes = (if is_kept x q.held then count_up q.bytes (length x.user_data) else q.bytes) }
+abbrev pub after_ordered_push : ChunkPayloadData → ReassemblyState → ReassemblyState
+after_ordered_push x q = record q { held = held_after_ordered_push x q.held; bytes = (if is_kept x q.held then count_up q.bytes (length x.user_data) else q.bytes) }
 
 -- a whole unordered message: its SSN is 0, its payload type that of its first fragment
 abbrev pub set_of_run : List ChunkPayloadData → ChunkSet
@@ -140,31 +140,31 @@ at_start set = record { set = set; index = 0; offset = 0 }
 abbrev pub is_passed : ℕ → ChunkSet → Bool
 is_passed last set = at_or_before16 set.ssn last && not (is_complete set.chunks)
 
-abbrev pub forwarded_ordered : ℕ → Reassembly → Reassembly
-forwarded_ordered last q =
+abbrev pub held_after_ordered_skip : ℕ → Reassembly → Reassembly
+held_after_ordered_skip last q =
     record q {
       ordered = those (λ set. not (is_passed last set)) q.ordered;
       next_ssn = (if at_or_before16 q.next_ssn last then (last + 1) % 2 ^ 16 else q.next_ssn);
     }
 
-abbrev pub ordered_forwarded : ℕ → ReassemblyState → ReassemblyState
-ordered_forwarded last q = record q { held = forwarded_ordered last q.held; bytes = q.bytes - set_bytes (those (is_passed last) q.held.ordered) }
+abbrev pub after_ordered_skip : ℕ → ReassemblyState → ReassemblyState
+after_ordered_skip last q = record q { held = held_after_ordered_skip last q.held; bytes = q.bytes - set_bytes (those (is_passed last) q.held.ordered) }
 
-abbrev pub forwarded_unordered : ℕ → Reassembly → Reassembly
-forwarded_unordered tsn q = record q { loose = after_leading (λ x. at_or_before x.tsn tsn) q.loose }
+abbrev pub held_after_unordered_skip : ℕ → Reassembly → Reassembly
+held_after_unordered_skip tsn q = record q { loose = after_leading (λ x. at_or_before x.tsn tsn) q.loose }
 
 -- the loose fragments up to the first that is after the TSN
 abbrev pub leading_upto : ℕ → List ChunkPayloadData → List ChunkPayloadData
 leading_upto tsn [] = []
 leading_upto tsn (x ∷ xs) = if at_or_before x.tsn tsn then x ∷ leading_upto tsn xs else []
 
-abbrev pub unordered_forwarded : ℕ → ReassemblyState → ReassemblyState
-unordered_forwarded tsn q = record q { held = forwarded_unordered tsn q.held; bytes = q.bytes - bytes_of (leading_upto tsn q.held.loose) }
+abbrev pub after_unordered_skip : ℕ → ReassemblyState → ReassemblyState
+after_unordered_skip tsn q = record q { held = held_after_unordered_skip tsn q.held; bytes = q.bytes - bytes_of (leading_upto tsn q.held.loose) }
 
 -- the skips of these numbers, one after another
-abbrev pub forwarded_each : List ℕ → Reassembly → Reassembly
-forwarded_each [] q = q
-forwarded_each (ssn ∷ ssns) q = forwarded_each ssns (forwarded_ordered ssn q)
+abbrev pub held_after_ordered_skips : List ℕ → Reassembly → Reassembly
+held_after_ordered_skips [] q = q
+held_after_ordered_skips (ssn ∷ ssns) q = held_after_ordered_skips ssns (held_after_ordered_skip ssn q)
 
 -- the complete sets, which no skip removes
 abbrev pub complete_sets : Reassembly → List ChunkSet

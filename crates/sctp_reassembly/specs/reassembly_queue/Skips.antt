@@ -48,15 +48,15 @@ earliest_unaffected first last t (set ∷ sets) = earliest_unaffected (if is_una
 abbrev pub goal_of : ℕ → ℕ → List ChunkSet → ℕ
 goal_of last t sets = unwrap_or (earliest_unaffected None last t sets) ((last + 1) % 2 ^ 16)
 
-abbrev pub forwarded_bounded : ℕ → ℕ → Reassembly → Reassembly
-forwarded_bounded last t q =
+abbrev pub held_after_bounded_skip : ℕ → ℕ → Reassembly → Reassembly
+held_after_bounded_skip last t q =
     record q {
       ordered = those (λ set. not (is_abandoned last t set)) q.ordered;
       next_ssn = (if comes_before16 q.next_ssn (goal_of last t q.ordered) then goal_of last t q.ordered else q.next_ssn);
     }
 
-abbrev pub bounded_forwarded : ℕ → ℕ → ReassemblyState → ReassemblyState
-bounded_forwarded last t q = record q { held = forwarded_bounded last t q.held; bytes = q.bytes - set_bytes (those (is_abandoned last t) q.held.ordered) }
+abbrev pub after_bounded_skip : ℕ → ℕ → ReassemblyState → ReassemblyState
+after_bounded_skip last t q = record q { held = held_after_bounded_skip last t q.held; bytes = q.bytes - set_bytes (those (is_abandoned last t) q.held.ordered) }
 
 -- ## How much of a skip is applicable
 

@@ -45,34 +45,6 @@ tsn-same w j k a b = same_test (tsn_of w j == tsn_of w k) (j == k)
 
 -- ## The queue's marks and pops
 
--- a mark acknowledges its slot alone; of a TSN that is not in flight it does nothing
-pub marked-acked : (w : World) (acked : ℕ → Bool) (p : ℕ) → p < 2 ^ 31 → (cs : List ChunkPayloadData) (from count : ℕ) → from + count ≤ 2 ^ 31 → IsInFlight w acked from count cs → IsInFlight w (λ k. acked k || (k == p)) from count (change_where (has_tsn (tsn_of w p)) acknowledged cs)
-marked-acked w acked p short [] from zero le e = refl
-marked-acked w acked p short [] from (suc count) le e = cc
-marked-acked w acked p short (c ∷ cs) from zero le e = cc
-marked-acked w acked p short (c ∷ cs) from (suc count) le e =
-    let head : sending_of c ≡ sending_by w (acked from) from = ap (λ l. first_of' l (sending_of c)) e in
-    let tail = ap rest_of' e in
-    let test : (c.tsn == tsn_of w p) ≡ (from == p) = ap (λ s. s.chunk.tsn == tsn_of w p) head ∙ tsn-same w from p (omega arith) short in
-    ap (λ b. sending_of (if b then acknowledged c else c) ∷ map sending_of (change_where (has_tsn (tsn_of w p)) acknowledged cs)) test
-    ∙ ap (λ s. s ∷ map sending_of (change_where (has_tsn (tsn_of w p)) acknowledged cs)) (one (from == p) (acked from) head)
-    ∙ ap (λ l. sending_by w (acked from || (from == p)) from ∷ l) (marked-acked w acked p short cs (from + 1) count (omega (arith, le)) tail)
-  where
-    one : (b a : Bool) → sending_of c ≡ sending_by w a from → sending_of (if b then acknowledged c else c) ≡ sending_by w (a || b) from
-    one true true h = ap gone h
-    one true false h = ap gone h
-    one false true h = h
-    one false false h = h
-
--- the front leaves when its TSN is asked for
-pub popped-front : (w : World) (acked : ℕ → Bool) (cs : List ChunkPayloadData) (from count : ℕ) → IsInFlight w acked from (suc count) cs → (c : ChunkPayloadData) × (front_with (tsn_of w from) cs ≡ Some c) × (sending_of c ≡ sending_by w (acked from) from) × IsInFlight w acked (from + 1) count (without_front (tsn_of w from) cs)
-popped-front w acked [] from count e = cc
-popped-front w acked (c ∷ cs) from count e =
-    let head : sending_of c ≡ sending_by w (acked from) from = ap (λ l. first_of' l (sending_of c)) e in
-    let same : c.tsn ≡ tsn_of w from = ap (λ s. s.chunk.tsn) head in
-    let test : (c.tsn == tsn_of w from) ≡ true = grind (arith, nat_tests) in
-    (c, ap (λ b. if b then Some c else None) test, head, ap (λ b. map sending_of (if b then cs else c ∷ cs)) test ∙ ap rest_of' e)
-
 -- ## The record
 
 module _ (w : World) (r : Report) where

@@ -119,17 +119,6 @@ unacked-taken w acked p lt = by (acked p) refl
     by true e = let z = ap (total_over (bytes_at w)) (sym (always-too (λ k. acked k || (k == p))) ∙ marked-again w acked always p e ∙ always-too acked) in omega (arith, z)
     by false e = unacked-marked w acked p e lt
 
-pub unacked_on-taken : (w : World) (acked : ℕ → Bool) (p t : ℕ) → p < length w.slots → unacked_on w (λ k. acked k || (k == p)) t + (if stream_of_slot w p == t then (if acked p then 0 else bytes_at w p) else 0) ≡ unacked_on w acked t
-unacked_on-taken w acked p t lt = by (acked p) refl
-  where
-    none : (c : Bool) (k : ℕ) → k + (if c then 0 else 0) ≡ k
-    none true k = omega arith
-    none false k = omega arith
-
-    by : (b : Bool) → acked p ≡ b → unacked_on w (λ k. acked k || (k == p)) t + (if stream_of_slot w p == t then (if b then 0 else bytes_at w p) else 0) ≡ unacked_on w acked t
-    by true e = none (stream_of_slot w p == t) (unacked_on w (λ k. acked k || (k == p)) t) ∙ ap (total_over (bytes_at w)) (marked-again w acked (λ k. stream_of_slot w k == t) p e)
-    by false e = unacked_on-marked w acked p t e lt
-
 -- a fragment's slot holds its bytes, where its message was not given up
 pub bytes_at-alive : (w : World) (p : ℕ) → (slot_at w p).is_end_mark ≡ false → is_given_up w (message_of w p) ≡ false → bytes_at w p ≡ slot_bytes w (message_of w p) p
 bytes_at-alive w p e f = ap (λ b. if b || is_given_up w (message_of w p) then 0 else slot_bytes w (message_of w p) p) e ∙ ap (λ b. if b then 0 else slot_bytes w (message_of w p) p) f

@@ -10,7 +10,7 @@ use Rattle.sctp_lists.specs.Lists.{inserted}
 use Rattle.sctp_chunks.specs.ChunkSet.{ChunkSet}
 use Rattle.sctp_reassembly.specs.reassembly_queue.Fragments.{set_before, has_ssn, with_chunk, new_set, sets_with}
 use Rattle.sctp_serial.specs.DataChunks.{chunk_before, has_tsn}
-use Rattle.sctp_reassembly.specs.reassembly_queue.ReassemblyQueue.{pushed_ordered}
+use Rattle.sctp_reassembly.specs.reassembly_queue.ReassemblyQueue.{held_after_ordered_push}
 use Rattle.sctp_model.specs.Contents.{chunk_at}
 use Rattle.sctp_ties.specs.Holds.{has_come, chunks_come, ordered_sets, reassembly_of}
 use Rattle.sctp_model.specs.Queues.{set_of}
@@ -209,7 +209,7 @@ module _ (w : World) (s p : ℕ) (sound : Sound w) (a : Arrives w s p) where
       ands true = refl
       ands false = refl
 
-  pub ordered-arrived : reassembly_of (with_arrived w p) s ≡ pushed_ordered (chunk_at w p) (reassembly_of w s)
+  pub ordered-arrived : reassembly_of (with_arrived w p) s ≡ held_after_ordered_push (chunk_at w p) (reassembly_of w s)
   ordered-arrived =
       let late : comes_before16 (ssn_of w n) (next_of w s % 2 ^ 16) ≡ false =
       rw (ssn_on w s n a.on, comes_before16-index (index_of w n) (next_of w s) (omega (arith, mine, sp.next, sp.short)) (omega (arith, mine, sp.next, sp.short))) (le-ltb (index_of w n) (next_of w s) not_before) in

@@ -10,7 +10,7 @@ use Rattle.sctp_lists.proofs.More.{fails, not_both, and}
 use Rattle.sctp_chunks.specs.declared.chunk.chunk_payload_data.ChunkPayloadData.{ChunkPayloadData}
 use Rattle.sctp_chunks.specs.ChunkSet.{ChunkSet}
 use Rattle.sctp_serial.specs.DataChunks.{chunk_before}
-use Rattle.sctp_reassembly.specs.reassembly_queue.ReassemblyQueue.{pushed_ordered, set_of_run, BecomesWhole}
+use Rattle.sctp_reassembly.specs.reassembly_queue.ReassemblyQueue.{held_after_ordered_push, set_of_run, BecomesWhole}
 use Rattle.sctp_model.specs.World.{World, StreamRecord}
 use Rattle.sctp_model.specs.Messages.{message_at, slot_at, message_of, stream_at, is_ordered_on, is_unordered_on, index_of, has_fragment, slots_of, tsn_of}
 use Rattle.sctp_model.specs.Receiver.{arrived_at, cumulative, is_new}
@@ -90,7 +90,7 @@ module _ (w : World) (s p : ℕ) (a : Enters w s p) where
   arrives-loose e = record { made = a.made; new = not-arrived w p a.new; fresh = fresh w p a.new; fragment = a.fragment; on = unordered-on e }
 
   -- of an ordered message: the queue of its stream holds it where its push puts it
-  pub ordered-slot : Sound w → (message_at w n).ordered ≡ true → IsSpan w s (index_of w n ∷ []) → reassembly_of (slot_received w p) s ≡ pushed_ordered (chunk_at w p) (reassembly_of w s)
+  pub ordered-slot : Sound w → (message_at w n).ordered ≡ true → IsSpan w s (index_of w n ∷ []) → reassembly_of (slot_received w p) s ≡ held_after_ordered_push (chunk_at w p) (reassembly_of w s)
   ordered-slot sound e sp = ap (λ v. reassembly_of v s) (Ordered.ordered-step w s p sound (arrives e sp)) ∙ Ordered.ordered-arrived w s p sound (arrives e sp)
 
 -- ## A whole unordered message

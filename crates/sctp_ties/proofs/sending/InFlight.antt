@@ -45,22 +45,6 @@ tsns-are w (c ∷ cs) from (suc count) e =
 
 -- ## Room for the next TSN
 
-pub next-fresh : (w : World) (cs : List ChunkPayloadData) → length w.slots < 2 ^ 31 → map sending_of cs ≡ sendings_of w → is_held cs (tsn_of w (length w.slots)) ≡ false
-next-fresh w cs few e =
-    held-any (tsn_of w (length w.slots)) cs ∙ ap (list_any (λ u. u == tsn_of w (length w.slots))) (tsns-are w cs w.taken (length w.slots - w.taken) e)
-    ∙ none w.taken (length w.slots - w.taken) (λ k lt. omega arith)
-  where
-    none : (from count : ℕ) → ((k : ℕ) → k < count → from + k < length w.slots) → list_any (λ u. u == tsn_of w (length w.slots)) (map (tsn w.setup.first) (kept always from count)) ≡ false
-    none from zero le = refl
-    none from (suc count) le =
-        let l = le 0 (omega arith) in
-        let ne : (tsn_of w from == tsn_of w (length w.slots)) ≡ false = tsn-same w from (length w.slots) (omega (arith, l)) few ∙ (grind (arith, nat_tests)) in
-        ap (λ b. b || list_any (λ u. u == tsn_of w (length w.slots)) (map (tsn w.setup.first) (kept always (from + 1) count))) ne
-        ∙ none (from + 1) count (λ k lt. let m = le (suc k) (omega arith) in omega (arith, m))
-
-pub next-window : (w : World) (cs : List ChunkPayloadData) → length w.slots < 2 ^ 31 → w.taken ≤ length w.slots → map sending_of cs ≡ sendings_of w → SpansOneWindow cs (tsn_of w (length w.slots))
-next-window w cs few made e = (tsn_before w.setup.first w.taken, window-kept w.setup.first w.taken (length w.slots - w.taken) always cs (tsns-are w cs w.taken (length w.slots - w.taken) e) (omega (arith, made, few)) (length w.slots) made few)
-
 -- ## A chunk looked up
 
 pub record Found (w : World) (p : ℕ) (cs : List ChunkPayloadData) : Type 0 where

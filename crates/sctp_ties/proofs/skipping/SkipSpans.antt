@@ -16,7 +16,7 @@ use Rattle.sctp_model.specs.Changes.{named_by, skip_counts, skip_received}
 use Rattle.sctp_model.specs.Steps.{arrival_fits}
 use Rattle.sctp_model.specs.Sound.{IsSpan, Sound}
 use Rattle.sctp_model.proofs.receiver.SoundRun.{span-fits}
-use Rattle.sctp_reassembly.specs.reassembly_queue.ReassemblyQueue.{Reassembly, forwarded_ordered, forwarded_unordered}
+use Rattle.sctp_reassembly.specs.reassembly_queue.ReassemblyQueue.{Reassembly, held_after_ordered_skip, held_after_unordered_skip}
 use Rattle.sctp_ties.specs.Holds.{reassembly_of}
 use Rattle.sctp_ties.specs.Naming.{on_stream, low_named, end_named, lowest_held, highest_held, whole_first, min_with, names_fit}
 use Rattle.sctp_ties.proofs.reading.Line
@@ -371,17 +371,17 @@ last-named w s c (n ∷ ns) = step (is_ordered_on w s n) refl (λ d. last-named 
 
 -- the queue, gone forward to the last one named, where one is
 abbrev pub gone_forward : ℕ → Reassembly → Reassembly
-gone_forward end q = if end == 0 then q else forwarded_ordered ((end - 1) % 2 ^ 16) q
+gone_forward end q = if end == 0 then q else held_after_ordered_skip ((end - 1) % 2 ^ 16) q
 
-pub queue-skip : (w : World) (s upto : ℕ) (names : List ℕ) (r : StreamRecord) → Sound w → upto < length w.slots → cumulative w ≤ upto → stream_at w s ≡ Some r → IsSpan w s (map (index_of w) (on_stream w s names)) → IsSpan (with_skip w upto names) s (map (index_of w) (on_stream w s names)) → reassembly_of (with_skip w upto names) s ≡ forwarded_unordered (tsn_of w upto) (gone_forward (end_named w s names) (reassembly_of w s))
+pub queue-skip : (w : World) (s upto : ℕ) (names : List ℕ) (r : StreamRecord) → Sound w → upto < length w.slots → cumulative w ≤ upto → stream_at w s ≡ Some r → IsSpan w s (map (index_of w) (on_stream w s names)) → IsSpan (with_skip w upto names) s (map (index_of w) (on_stream w s names)) → reassembly_of (with_skip w upto names) s ≡ held_after_unordered_skip (tsn_of w upto) (gone_forward (end_named w s names) (reassembly_of w s))
 queue-skip w s upto names r sound lt counts open' before after' = step (last-named w s 0 names)
   where
     none : (ns : List ℕ) → named_with w 0 ns ≡ 0 → ns ≡ []
     none [] e = refl
     none (n ∷ ns) e = absurd (omega (arith, e, named_with-ge w (max 0 (index_of w n + 1)) ns))
 
-    step : (end_named w s names ≡ 0) ⊎ IsLast w s (end_named w s names) (on_stream w s names) → reassembly_of (with_skip w upto names) s ≡ forwarded_unordered (tsn_of w upto) (gone_forward (end_named w s names) (reassembly_of w s))
-    step (inl z) = skipped-none w s upto names r sound lt counts open' before after' (none (on_stream w s names) z) ∙ ap (λ e. forwarded_unordered (tsn_of w upto) (gone_forward e (reassembly_of w s))) (sym z)
+    step : (end_named w s names ≡ 0) ⊎ IsLast w s (end_named w s names) (on_stream w s names) → reassembly_of (with_skip w upto names) s ≡ held_after_unordered_skip (tsn_of w upto) (gone_forward (end_named w s names) (reassembly_of w s))
+    step (inl z) = skipped-none w s upto names r sound lt counts open' before after' (none (on_stream w s names) z) ∙ ap (λ e. held_after_unordered_skip (tsn_of w upto) (gone_forward e (reassembly_of w s))) (sym z)
     step (inr last) =
         let n = last.number in
         let is = last.is in
@@ -389,9 +389,9 @@ queue-skip w s upto names r sound lt counts open' before after' = step (last-nam
         let named = named-from w (stream_of w s).named (on_stream w s names) ∙ ap (max (stream_of w s).named) is in
         let later : (i + 1 == 0) ≡ false = grind (arith, nat_tests) in
         let back : i + 1 - 1 ≡ i = omega arith in
-        let gone : gone_forward (i + 1) (reassembly_of w s) ≡ forwarded_ordered (ssn_of w n) (reassembly_of w s) =
-        ap (λ b. if b then reassembly_of w s else forwarded_ordered ((i + 1 - 1) % 2 ^ 16) (reassembly_of w s)) later
-        ∙ ap (λ j. forwarded_ordered (j % 2 ^ 16) (reassembly_of w s)) back ∙ ap (λ j. forwarded_ordered j (reassembly_of w s)) (sym (Line.ssn_on w s n last.on)) in
+        let gone : gone_forward (i + 1) (reassembly_of w s) ≡ held_after_ordered_skip (ssn_of w n) (reassembly_of w s) =
+        ap (λ b. if b then reassembly_of w s else held_after_ordered_skip ((i + 1 - 1) % 2 ^ 16) (reassembly_of w s)) later
+        ∙ ap (λ j. held_after_ordered_skip (j % 2 ^ 16) (reassembly_of w s)) back ∙ ap (λ j. held_after_ordered_skip j (reassembly_of w s)) (sym (Line.ssn_on w s n last.on)) in
         skipped-once w s upto names r sound lt counts open' before after' n last.on last.among named
-        ∙ ap (forwarded_unordered (tsn_of w upto)) (sym gone)
-        ∙ ap (λ e. forwarded_unordered (tsn_of w upto) (gone_forward e (reassembly_of w s))) (sym is)
+        ∙ ap (held_after_unordered_skip (tsn_of w upto)) (sym gone)
+        ∙ ap (λ e. held_after_unordered_skip (tsn_of w upto) (gone_forward e (reassembly_of w s))) (sym is)

@@ -13,7 +13,7 @@ use Rattle.sctp_lists.specs.Lists.{after_leading}
 use Rattle.sctp_lists.specs.Serial.{at_or_before}
 use Rattle.sctp_chunks.specs.declared.chunk.chunk_payload_data.ChunkPayloadData.{ChunkPayloadData}
 use Rattle.sctp_chunks.specs.ChunkSet.{ChunkSet}
-use Rattle.sctp_reassembly.specs.reassembly_queue.ReassemblyQueue.{Reassembly, forwarded_ordered, forwarded_each, forwarded_unordered}
+use Rattle.sctp_reassembly.specs.reassembly_queue.ReassemblyQueue.{Reassembly, held_after_ordered_skip, held_after_ordered_skips, held_after_unordered_skip}
 use Rattle.sctp_model.specs.Contents.{chunk_at}
 use Rattle.sctp_model.specs.Queues.{set_of, whole_set_of, is_loose}
 use Rattle.sctp_ties.specs.Holds.{ordered_sets, whole_sets, loose_chunks, reassembly_of}
@@ -154,27 +154,27 @@ module _ (w : World) (s upto : ℕ) (names : List ℕ) (r : StreamRecord) (sound
       map-kept-same (set_of (with_skip w upto names)) (set_of w) (is_held (with_skip w upto names) s) (held_past w s named) 0 (length w.messages)
       (λ k a b. rw (whole-skip w upto names k, named-frame w upto names s r open') refl) (λ k a b e. refl)
 
-  pub skipped : reassembly_of (with_skip w upto names) s ≡ forwarded_unordered (tsn_of w upto) (forwarded_each (map (ssn_of w) mine) (reassembly_of w s))
+  pub skipped : reassembly_of (with_skip w upto names) s ≡ held_after_unordered_skip (tsn_of w upto) (held_after_ordered_skips (map (ssn_of w) mine) (reassembly_of w s))
   skipped =
-      let each : forwarded_each (map (ssn_of w) mine) (reassembly_of w s) ≡ queue_past w s named = forwarded-all w s (stream_of w s).named (max (next_of w s) named) mine sound (omega arith) (omega arith) (near-all names (λ y h. h)) in
+      let each : held_after_ordered_skips (map (ssn_of w) mine) (reassembly_of w s) ≡ queue_past w s named = forwarded-all w s (stream_of w s).named (max (next_of w s) named) mine sound (omega arith) (omega arith) (near-all names (λ y h. h)) in
       let next : next_of (with_skip w upto names) s ≡ next_past w s named = ap (λ k. next_past w s k) (named-frame w upto names s r open') in
       let wholes : whole_sets (with_skip w upto names) s ≡ whole_sets w s = ap (map (whole_set_of w)) (whole-frame w upto names s) in
-      parts next sets-skip wholes loose-skip ∙ ap (forwarded_unordered (tsn_of w upto)) (sym each)
+      parts next sets-skip wholes loose-skip ∙ ap (held_after_unordered_skip (tsn_of w upto)) (sym each)
 
   -- ## One name alone: the one with the greatest index
 
-  forward-tells : (q : Reassembly) → forwarded_each (map (ssn_of w) mine) (reassembly_of w s) ≡ q → reassembly_of (with_skip w upto names) s ≡ forwarded_unordered (tsn_of w upto) q
-  forward-tells q e = skipped ∙ ap (forwarded_unordered (tsn_of w upto)) e
+  forward-tells : (q : Reassembly) → held_after_ordered_skips (map (ssn_of w) mine) (reassembly_of w s) ≡ q → reassembly_of (with_skip w upto names) s ≡ held_after_unordered_skip (tsn_of w upto) q
+  forward-tells q e = skipped ∙ ap (held_after_unordered_skip (tsn_of w upto)) e
 
-  each-is : forwarded_each (map (ssn_of w) mine) (reassembly_of w s) ≡ queue_past w s named
+  each-is : held_after_ordered_skips (map (ssn_of w) mine) (reassembly_of w s) ≡ queue_past w s named
   each-is = forwarded-all w s (stream_of w s).named (max (next_of w s) named) mine sound (omega arith) (omega arith) (near-all names (λ y h. h))
 
   -- none is named
-  pub skipped-none : mine ≡ [] → reassembly_of (with_skip w upto names) s ≡ forwarded_unordered (tsn_of w upto) (reassembly_of w s)
-  skipped-none e = forward-tells (reassembly_of w s) (ap (λ ns. forwarded_each (map (ssn_of w) ns) (reassembly_of w s)) e)
+  pub skipped-none : mine ≡ [] → reassembly_of (with_skip w upto names) s ≡ held_after_unordered_skip (tsn_of w upto) (reassembly_of w s)
+  skipped-none e = forward-tells (reassembly_of w s) (ap (λ ns. held_after_ordered_skips (map (ssn_of w) ns) (reassembly_of w s)) e)
 
-  pub skipped-once : (n : ℕ) → is_ordered_on w s n ≡ true → list_any (λ z. z == index_of w n) (map (index_of w) mine) ≡ true → named ≡ max (stream_of w s).named (index_of w n + 1) → reassembly_of (with_skip w upto names) s ≡ forwarded_unordered (tsn_of w upto) (forwarded_ordered (ssn_of w n) (reassembly_of w s))
+  pub skipped-once : (n : ℕ) → is_ordered_on w s n ≡ true → list_any (λ z. z == index_of w n) (map (index_of w) mine) ≡ true → named ≡ max (stream_of w s).named (index_of w n + 1) → reassembly_of (with_skip w upto names) s ≡ held_after_unordered_skip (tsn_of w upto) (held_after_ordered_skip (ssn_of w n) (reassembly_of w s))
   skipped-once n on among last =
-      forward-tells (forwarded_ordered (ssn_of w n) (reassembly_of w s))
+      forward-tells (held_after_ordered_skip (ssn_of w n) (reassembly_of w s))
       (each-is ∙ ap (queue_past w s) last
       ∙ sym (forwarded-one w s (stream_of w s).named (max (next_of w s) named) n sound (omega arith) (omega (arith, named-ge (stream_of w s).named mine)) (near-one n on among)))

@@ -8,7 +8,7 @@ use Rattle.sctp_model.specs.World.{World}
 use Rattle.sctp_model.specs.Messages.{message_at, stream_of, is_ordered_on, index_of, ssn_of, ordered_on}
 use Rattle.sctp_model.specs.Receiver.{arrived_of, is_whole, is_unread, is_held, next_of, greatest}
 use Rattle.sctp_lists.specs.Serial.{at_or_before16}
-use Rattle.sctp_reassembly.specs.reassembly_queue.ReassemblyQueue.{Reassembly, is_passed, forwarded_ordered, forwarded_each}
+use Rattle.sctp_reassembly.specs.reassembly_queue.ReassemblyQueue.{Reassembly, is_passed, held_after_ordered_skip, held_after_ordered_skips}
 use Rattle.sctp_reassembly.specs.reassembly_queue.Fragments.{is_complete}
 use Rattle.sctp_ties.specs.Holds.{chunks_come, whole_sets, loose_chunks}
 use Rattle.sctp_model.specs.Queues.{set_of}
@@ -149,7 +149,7 @@ module _ (w : World) (s named top n : ℕ) (sound : Sound w) (from : (stream_of 
           let same : max (next_of w s) (max named (index_of w n + 1)) ≡ index_of w n + 1 = omega arith in
           rw (on, same) refl
 
-  pub forwarded-one : forwarded_ordered (ssn_of w n) (queue_past w s named) ≡ queue_past w s (max named (index_of w n + 1))
+  pub forwarded-one : held_after_ordered_skip (ssn_of w n) (queue_past w s named) ≡ queue_past w s (max named (index_of w n + 1))
   forwarded-one =
       let sets = those-kept (λ set. not (is_passed (ssn_of w n) set)) (set_of w) (set_of w) (held_past w s named) (held_past w s (max named (index_of w n + 1))) 0 (length w.messages) (λ k a b. stays k) (λ k a b e. refl) in
       rw (next-named, sets) refl
@@ -166,9 +166,9 @@ pub named_with-ge : (w : World) (named : ℕ) (names : List ℕ) → named ≤ n
 named_with-ge w named [] = omega arith
 named_with-ge w named (n ∷ ns) = omega (arith, named_with-ge w (max named (index_of w n + 1)) ns)
 
-pub forwarded-all : (w : World) (s named top : ℕ) (names : List ℕ) → Sound w → (stream_of w s).named ≤ named → max (next_of w s) (named_with w named names) ≤ top → AllNear w s top names → forwarded_each (map (ssn_of w) names) (queue_past w s named) ≡ queue_past w s (named_with w named names)
+pub forwarded-all : (w : World) (s named top : ℕ) (names : List ℕ) → Sound w → (stream_of w s).named ≤ named → max (next_of w s) (named_with w named names) ≤ top → AllNear w s top names → held_after_ordered_skips (map (ssn_of w) names) (queue_past w s named) ≡ queue_past w s (named_with w named names)
 forwarded-all w s named top [] sound from upto near = refl
 forwarded-all w s named top (n ∷ ns) sound from upto near =
     let more = max named (index_of w n + 1) in
-    ap (forwarded_each (map (ssn_of w) ns)) (forwarded-one w s named top n sound from (omega (arith, upto, named_with-ge w more ns)) near.0)
+    ap (held_after_ordered_skips (map (ssn_of w) ns)) (forwarded-one w s named top n sound from (omega (arith, upto, named_with-ge w more ns)) near.0)
     ∙ forwarded-all w s more top ns sound (omega arith) upto near.1

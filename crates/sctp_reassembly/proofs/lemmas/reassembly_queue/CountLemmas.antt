@@ -10,9 +10,9 @@ use Rattle.sctp_chunks.specs.declared.chunk.chunk_payload_data.ChunkPayloadData.
 use Rattle.sctp_chunks.specs.ChunkSet.{ChunkSet}
 use Rattle.sctp_reassembly.specs.reassembly_queue.Fragments.{has_ssn, with_chunk, new_set, sets_with, chunks_of_ssn, set_before, is_complete}
 use Rattle.sctp_serial.specs.DataChunks.{bytes_of, has_tsn, chunk_before}
-use Rattle.sctp_reassembly.specs.reassembly_queue.ReassemblyQueue.{Reassembly, ReassemblyState, set_bytes, held_bytes, IsCounted, count_up, ordered_pushed, set_of_run, BecomesWhole, PushesUnordered, is_readable, state_read, message_read, rest_read, after_read, bytes_read, leading_upto, unordered_forwarded, ordered_forwarded, forwarded_ordered, is_passed, complete_sets}
+use Rattle.sctp_reassembly.specs.reassembly_queue.ReassemblyQueue.{Reassembly, ReassemblyState, set_bytes, held_bytes, IsCounted, count_up, after_ordered_push, set_of_run, BecomesWhole, PushesUnordered, is_readable, state_read, message_read, rest_read, after_read, bytes_read, leading_upto, after_unordered_skip, after_ordered_skip, held_after_ordered_skip, is_passed, complete_sets}
 use Rattle.sctp_reassembly.specs.reassembly_queue.Loose.{IsRunTaken}
-use Rattle.sctp_reassembly.specs.reassembly_queue.Skips.{bounded_forwarded, forwarded_bounded, is_abandoned, misses}
+use Rattle.sctp_reassembly.specs.reassembly_queue.Skips.{after_bounded_skip, held_after_bounded_skip, is_abandoned, misses}
 use Rattle.sctp_reassembly.proofs.lemmas.reassembly_queue.SetLemmas.{chunks_none}
 
 -- a sum over a list with one more element
@@ -84,7 +84,7 @@ bytes_with x sets = at_any (list_any (has_ssn x.stream_sequence_number) sets) re
         rw (chunks_none x.stream_sequence_number sets e) (omega (arith, alone, more))
 
 -- an ordered push counts what it keeps
-pub ordered_counted : (x : ChunkPayloadData) (q : ReassemblyState) → held_bytes q.held + length x.user_data < 2 ^ 64 → IsCounted q → IsCounted (ordered_pushed x q)
+pub ordered_counted : (x : ChunkPayloadData) (q : ReassemblyState) → held_bytes q.held + length x.user_data < 2 ^ 64 → IsCounted q → IsCounted (after_ordered_push x q)
 ordered_counted x q fits h = at_test (comes_before16 x.stream_sequence_number q.held.next_ssn) (list_any (has_tsn x.tsn) (chunks_of_ssn x.stream_sequence_number q.held.ordered)) (bytes_with x q.held.ordered)
   where
     at_test : (late known : Bool) → set_bytes (sets_with x q.held.ordered) ≡ set_bytes q.held.ordered + (if known then 0 else length x.user_data) → (if not late && not known then count_up q.bytes (length x.user_data) else q.bytes) ≡ held_bytes (if late then q.held else record q.held { ordered = sets_with x q.held.ordered })
@@ -136,13 +136,13 @@ those_stay p q h (x ∷ xs) = at_head (p x) (q x) refl refl (those_stay p q h xs
     at_head true false e f rec = absurd (true≢false (sym (h x e) ∙ f))
     at_head false false e f rec = rec
 
-pub skip_counted : (last : ℕ) (q : ReassemblyState) → IsCounted q → IsCounted (ordered_forwarded last q)
+pub skip_counted : (last : ℕ) (q : ReassemblyState) → IsCounted q → IsCounted (after_ordered_skip last q)
 skip_counted last q h = omega (arith, h, skipped (is_passed last) q.held.ordered)
 
-pub bounded_counted : (last t : ℕ) (q : ReassemblyState) → IsCounted q → IsCounted (bounded_forwarded last t q)
+pub bounded_counted : (last t : ℕ) (q : ReassemblyState) → IsCounted q → IsCounted (after_bounded_skip last t q)
 bounded_counted last t q h = omega (arith, h, skipped (is_abandoned last t) q.held.ordered)
 
-pub drop_counted : (t : ℕ) (q : ReassemblyState) → IsCounted q → IsCounted (unordered_forwarded t q)
+pub drop_counted : (t : ℕ) (q : ReassemblyState) → IsCounted q → IsCounted (after_unordered_skip t q)
 drop_counted t q h = omega (arith, h, dropped t q.held.loose)
 
 complete_not_passed : (a b : Bool) → b ≡ true → not (a && not b) ≡ true
@@ -156,10 +156,10 @@ complete_not_abandoned true false c e = absurd (true≢false (sym e))
 complete_not_abandoned false b c e = refl
 
 -- the complete sets stay
-pub skip_complete : (last : ℕ) (q : Reassembly) → complete_sets (forwarded_ordered last q) ≡ complete_sets q
+pub skip_complete : (last : ℕ) (q : Reassembly) → complete_sets (held_after_ordered_skip last q) ≡ complete_sets q
 skip_complete last q = those_stay (λ s. is_complete s.chunks) (λ s. not (is_passed last s)) (λ s e. complete_not_passed (at_or_before16 s.ssn last) (is_complete s.chunks) e) q.ordered
 
-pub bounded_complete : (last t : ℕ) (q : Reassembly) → complete_sets (forwarded_bounded last t q) ≡ complete_sets q
+pub bounded_complete : (last t : ℕ) (q : Reassembly) → complete_sets (held_after_bounded_skip last t q) ≡ complete_sets q
 bounded_complete last t q = those_stay (λ s. is_complete s.chunks) (λ s. not (is_abandoned last t s)) (λ s e. complete_not_abandoned (at_or_before16 s.ssn last) (is_complete s.chunks) (misses t s.chunks) e) q.ordered
 
 -- what follows from either answer

@@ -1,11 +1,11 @@
 use Rattle.std.proofs.Common.{◌≡◌, Bool, true, false, refl, ap, ◌∙◌, subst}
 use Rattle.std.specs.Prelude.{◌==◌}
 use Rattle.sctp_chunks.specs.declared.chunk.chunk_payload_data.ChunkPayloadData.{ChunkPayloadData}
-use Rattle.sctp_reassembly.specs.reassembly_queue.ReassemblyQueue.{ReassemblyState, PushesUnordered, ordered_pushed, is_whole_with}
+use Rattle.sctp_reassembly.specs.reassembly_queue.ReassemblyQueue.{ReassemblyState, PushesUnordered, after_ordered_push, is_whole_with}
 use Rattle.sctp_transfer.specs.Inbound.{Pushes, PushesAs}
 use Rattle.sctp_transfer.proofs.receiver.inbound_streams.InboundStream.push_told.Goals as goal
 
-either : (c : ChunkPayloadData) (old new : ReassemblyState) (whole : Bool) → (c.unordered ≡ false → new ≡ ordered_pushed c old) → (c.unordered ≡ true → PushesUnordered c old new whole) → Pushes c old new
+either : (c : ChunkPayloadData) (old new : ReassemblyState) (whole : Bool) → (c.unordered ≡ false → new ≡ after_ordered_push c old) → (c.unordered ≡ true → PushesUnordered c old new whole) → Pushes c old new
 either c old new whole ordered unordered = by c.unordered refl
   where
     by : (b : Bool) → c.unordered ≡ b → PushesAs b c old new
