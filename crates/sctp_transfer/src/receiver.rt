@@ -8,6 +8,7 @@ pub mod arrival;
 pub mod inbound_streams;
 pub mod refusal;
 pub mod sack_out;
+mod sizes;
 pub mod tsn_filter;
 
 use self::arrival::{Arrival, Forwarded};
@@ -50,7 +51,7 @@ impl Receiver {
     ghost use Rattle.sctp_chunks.specs.ForwardTsn.{forward_tsn_of};
     ghost use Rattle.sctp_reassembly.specs.reassembly_queue.ReassemblyQueue.{at_start};
     ghost use Rattle.sctp_transfer.specs.TsnFilter.{mark};
-    ghost use Rattle.sctp_transfer.specs.Receiver.{at_first, stream_of, is_open, opened, data_refusal, takes_memory, arrival_of, Takes, message_on, after_read, forward_refusal, forwarded_of, after_forward};
+    ghost use Rattle.sctp_transfer.specs.Receiver.{at_first, stream_of, is_open, opened, data_refusal, IsRefusedFor, takes_memory, arrival_of, Takes, message_on, after_read, forward_refusal, forwarded_of, after_forward};
 
     /// A receiver with no stream, to which nothing came. The first TSN is expected next, and a message may have
     /// `max_message_size` bytes. It takes no memory.
@@ -84,14 +85,14 @@ impl Receiver {
     /// - `TsnOpposite`, where the TSN is neither before nor after the cumulative one;
     /// - `StreamUnknown`, where its stream is not open;
     /// - `MessageTooLarge`, where its message would be longer with it than a message may be;
-    /// - `OutOfMemory`, where memory ran out: also in the place of `MessageTooLarge`.
+    /// - `OutOfMemory`, where memory ran out: never in the place of another one.
     ///
     /// The receiver is as it was then. The chunk that is expected next passes no filter.
     pub fn data(&mut self, chunk: &ChunkPayloadData) -> Result<Arrival, ReceiverRefusal>
         ensures answer { IfOk result (λ arrival. arrival ≡ arrival_of chunk.now self.old) }
         ensures ok { IfOk result (λ arrival. Takes chunk.now arrival self.old self.new) }
         ensures accepted { IsOk result → data_refusal chunk.now self.old ≡ None }
-        ensures refused { IfErr result (λ e. (e ≡ OutOfMemory) ⊎ (data_refusal chunk.now self.old ≡ Some e)) }
+        ensures refused { IfErr result (λ e. IsRefusedFor (data_refusal chunk.now self.old) e) }
         ensures wants { IfErr result (λ e. e ≡ OutOfMemory → takes_memory chunk.now self.old ≡ true) }
         ensures err { OnErr result (self.new ≡ self.old) }
     {
@@ -105,7 +106,9 @@ impl Receiver {
         let Some(place) = self.streams.place_of(chunk.stream_identifier) else {
             return Err(ReceiverRefusal::StreamUnknown);
         };
-        self.filter.reserve_for(chunk.tsn)?;
+        if self.filter.reserve_for(chunk.tsn).is_err() {
+            return Err(self.streams.refusal_at(place, chunk));
+        }
         self.streams.push_at(place, chunk)?;
         self.filter.accept(chunk.tsn);
         Ok(Arrival::New)

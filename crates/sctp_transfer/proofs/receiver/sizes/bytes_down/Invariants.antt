@@ -1,0 +1,13 @@
+use Rattle.std.proofs.Common.{◌≡◌, ◌+◌, ◌-◌, ◌^◌, ◌≤◌, length, take, min, reverse}
+use Rattle.sctp_reassembly.specs.reassembly_queue.Sizes.{bytes_down}
+use Rattle.sctp_transfer.proofs.receiver.sizes.bytes_down.Given as goal
+
+abbrev pub invariant-loop-end : goal.invariant-loop-end
+invariant-loop-end l = record {
+  in_range : l.end ≤ length l.loose.items;
+  small : l.total ≤ 2 ^ 64 - 1;
+  counted : min (l.total + bytes_down l.next (reverse (take l.end l.loose.items))) (2 ^ 64 - 1) ≡ min (bytes_down l.tsn (reverse (take l.initial.end l.loose.items))) (2 ^ 64 - 1);
+}
+
+abbrev pub decreases-loop-end : goal.decreases-loop-end
+decreases-loop-end l = l.end

@@ -1,0 +1,12 @@
+use Rattle.std.proofs.Common.{◌≡◌, ◌+◌, ◌-◌, ◌^◌, ◌≤◌, length, drop, min}
+use Rattle.sctp_reassembly.specs.reassembly_queue.Sizes.{bytes_up}
+use Rattle.sctp_transfer.proofs.receiver.sizes.bytes_up.Given as goal
+
+abbrev pub invariant-loop-place : goal.invariant-loop-place
+invariant-loop-place l = record {
+  small : l.total ≤ 2 ^ 64 - 1;
+  counted : min (l.total + bytes_up l.last (drop l.place l.loose.items)) (2 ^ 64 - 1) ≡ min (bytes_up l.tsn (drop l.from l.loose.items)) (2 ^ 64 - 1);
+}
+
+abbrev pub decreases-loop-place : goal.decreases-loop-place
+decreases-loop-place l = length l.loose.items - l.place
