@@ -1,5 +1,5 @@
 -- What a fragment and a FORWARD-TSN make of the streams of a receiver.
-use Rattle.std.proofs.Common.{◌≡◌, sym, ap, ◌∙◌, refl, ℕ, List, [], ◌∷◌, map, Bool, true, false, Some, None, inl, inr, Result, Ok, Err}
+use Rattle.std.proofs.Common.{◌≡◌, sym, ap, ◌∙◌, refl, ℕ, List, [], ◌∷◌, map, Bool, true, false, Some, None, inl, inr, Result, Ok, Err, subst}
 use Rattle.std.specs.Prelude.{if◌then◌else◌, find, slice_index_or, slice_set, OnOk, OnErr, IfErr, ◌⊎◌}
 use Rattle.sctp_chunks.specs.declared.chunk.chunk_payload_data.ChunkPayloadData.{ChunkPayloadData}
 use Rattle.sctp_reassembly.specs.reassembly_queue.ReassemblyQueue.{ReassemblyState, is_too_large}
@@ -8,7 +8,7 @@ use Rattle.sctp_transfer.specs.declared.receiver.inbound_streams.InboundStream.{
 use Rattle.sctp_transfer.specs.declared.receiver.refusal.ReceiverRefusal.{ReceiverRefusal}
 use Rattle.sctp_transfer.specs.declared.receiver.refusal.ReceiverRefusal.TheVariants.{MessageTooLarge, OutOfMemory}
 use Rattle.sctp_transfer.specs.Inbound.{number, numbers_of, has_number, with_queue, Pushes, PushesAs, PushesOn}
-use Rattle.sctp_transfer.specs.Receiver.{stream_refusal}
+use Rattle.sctp_transfer.specs.Receiver.{stream_refusal, IsRefusedFor}
 use Rattle.sctp_transfer.proofs.StreamPlaces.{found, changed}
 
 pub pushed-number : (c : ChunkPayloadData) (old new : ReassemblyState) → Pushes c old new → new.si ≡ old.si
@@ -38,7 +38,13 @@ module _ (c : ChunkPayloadData) (ls : List InboundStream) (k : ℕ) (p : IsOnlyP
   pub fits : is_too_large c x.queue ≡ false → stream_refusal c (find (has_number c.stream_identifier) ls) ≡ None
   fits small = ap (stream_refusal c) is-found ∙ ap (λ b. if b then Some MessageTooLarge else None) small
 
-  pub refused : {T : Type 0} (r : Result T ReceiverRefusal) → IfErr r (λ e. (e ≡ OutOfMemory) ⊎ ((e ≡ MessageTooLarge) × (is_too_large c x.queue ≡ true))) → IfErr r (λ e. (e ≡ OutOfMemory) ⊎ (stream_refusal c (find (has_number c.stream_identifier) ls) ≡ Some e))
+  pub why : (e : ReceiverRefusal) → e ≡ (if is_too_large c x.queue then MessageTooLarge else OutOfMemory) → IsRefusedFor (stream_refusal c (find (has_number c.stream_identifier) ls)) e
+  why e h = subst (λ o. IsRefusedFor o e) (sym (ap (stream_refusal c) is-found)) (by (is_too_large c x.queue) h)
+    where
+      by : (b : Bool) → e ≡ (if b then MessageTooLarge else OutOfMemory) → IsRefusedFor (if b then Some MessageTooLarge else None) e
+      by true h = inr (ap Some (sym h))
+      by false h = inl (h, refl)
+
+  pub refused : {T : Type 0} (r : Result T ReceiverRefusal) → IfErr r (λ e. e ≡ (if is_too_large c x.queue then MessageTooLarge else OutOfMemory)) → IfErr r (λ e. IsRefusedFor (stream_refusal c (find (has_number c.stream_identifier) ls)) e)
   refused (Ok t) h = h
-  refused (Err e) (inl h) = inl h
-  refused (Err e) (inr h) = inr (ap (stream_refusal c) is-found ∙ ap (λ b. if b then Some MessageTooLarge else None) h.1 ∙ ap Some (sym h.0))
+  refused (Err e) h = why e h

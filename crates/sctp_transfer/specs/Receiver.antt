@@ -1,5 +1,5 @@
 -- The receiving half of a link as callers see it (RFC 4960 6; RFC 3758 3.6).
-use Rattle.std.specs.Prelude.{◌≡◌, ℕ, Bool, not, ◌&&◌, ◌||◌, if◌then◌else◌, ◌-◌, List, [], ◌∷◌, ◌++◌, length, map, take, Option, Some, None, is_some}
+use Rattle.std.specs.Prelude.{◌≡◌, ◌⊎◌, ℕ, Bool, not, ◌&&◌, ◌||◌, if◌then◌else◌, ◌-◌, List, [], ◌∷◌, ◌++◌, length, map, take, Option, Some, None, is_some}
 use Rattle.std.specs.List.{find}
 use Rattle.sctp_lists.specs.Lists.{change_where}
 use Rattle.sctp_lists.specs.Serial.{at_or_before}
@@ -10,7 +10,7 @@ use Rattle.sctp_chunks.specs.SelectiveAck.{Sack}
 use Rattle.sctp_reassembly.specs.reassembly_queue.ReassemblyQueue.{ReassemblyState, is_too_large, message_read}
 use Rattle.sctp_transfer.specs.declared.receiver.inbound_streams.InboundStream.{InboundStream}
 use Rattle.sctp_transfer.specs.declared.receiver.refusal.ReceiverRefusal.{ReceiverRefusal}
-use Rattle.sctp_transfer.specs.declared.receiver.refusal.ReceiverRefusal.TheVariants.{StreamUnknown, TsnOpposite, MessageTooLarge}
+use Rattle.sctp_transfer.specs.declared.receiver.refusal.ReceiverRefusal.TheVariants.{StreamUnknown, TsnOpposite, MessageTooLarge, OutOfMemory}
 use Rattle.sctp_transfer.specs.declared.receiver.arrival.Arrival.{Arrival}
 use Rattle.sctp_transfer.specs.declared.receiver.arrival.Arrival.TheVariants.{New, Repeat}
 use Rattle.sctp_transfer.specs.declared.receiver.arrival.Forwarded.{Forwarded}
@@ -59,6 +59,10 @@ stream_refusal c (Some l) = if is_too_large c l.queue then Some MessageTooLarge 
 -- why a chunk is not taken: of one whose TSN came nothing but that is told
 abbrev pub data_refusal : ChunkPayloadData → Reception → Option ReceiverRefusal
 data_refusal c r = if has_come c.tsn (filter_of r) then None else (if is_opposite c.tsn (filter_of r) then Some TsnOpposite else stream_refusal c (stream_of c.stream_identifier r))
+
+-- a refusal by its reason where there is one, and for memory only where there is none
+abbrev pub IsRefusedFor : Option ReceiverRefusal → ReceiverRefusal → Type 0
+IsRefusedFor reason e = ((e ≡ OutOfMemory) × (reason ≡ None)) ⊎ (reason ≡ Some e)
 
 -- the chunk with a new TSN is taken: its stream's queue has it, and its TSN came
 pub record Accepts (c : ChunkPayloadData) (old new : Reception) : Type 0 where

@@ -50,7 +50,7 @@ impl Receiver {
     ghost use Rattle.sctp_chunks.specs.ForwardTsn.{forward_tsn_of};
     ghost use Rattle.sctp_reassembly.specs.reassembly_queue.ReassemblyQueue.{at_start};
     ghost use Rattle.sctp_transfer.specs.TsnFilter.{mark};
-    ghost use Rattle.sctp_transfer.specs.Receiver.{at_first, stream_of, is_open, opened, data_refusal, takes_memory, arrival_of, Takes, message_on, after_read, forward_refusal, forwarded_of, after_forward};
+    ghost use Rattle.sctp_transfer.specs.Receiver.{at_first, stream_of, is_open, opened, data_refusal, IsRefusedFor, takes_memory, arrival_of, Takes, message_on, after_read, forward_refusal, forwarded_of, after_forward};
 
     /// A receiver with no stream, to which nothing came. The first TSN is expected next, and a message may have
     /// `max_message_size` bytes. It takes no memory.
@@ -69,7 +69,8 @@ impl Receiver {
     pub fn open(&mut self, stream: u16) -> Result<(), ReceiverRefusal>
         ensures ok { OnOk result (self.new ≡ opened stream self.old) }
         ensures accepted { IsOk result → is_open stream self.old ≡ false }
-        ensures refused { IfErr result (λ e. e ≡ (if is_open stream self.old then StreamOpen else OutOfMemory)) }
+        ensures refused { IfErr result (λ e. e
+            ≡ (if is_open stream self.old then StreamOpen else OutOfMemory)) }
         ensures err { OnErr result (self.new ≡ self.old) }
     {
         if self.streams.place_of(stream).is_some() {
@@ -84,15 +85,16 @@ impl Receiver {
     /// - `TsnOpposite`, where the TSN is neither before nor after the cumulative one;
     /// - `StreamUnknown`, where its stream is not open;
     /// - `MessageTooLarge`, where its message would be longer with it than a message may be;
-    /// - `OutOfMemory`, where memory ran out: also in the place of `MessageTooLarge`.
+    /// - `OutOfMemory`, where memory ran out: never in the place of another one.
     ///
     /// The receiver is as it was then. The chunk that is expected next passes no filter.
     pub fn data(&mut self, chunk: &ChunkPayloadData) -> Result<Arrival, ReceiverRefusal>
         ensures answer { IfOk result (λ arrival. arrival ≡ arrival_of chunk.now self.old) }
         ensures ok { IfOk result (λ arrival. Takes chunk.now arrival self.old self.new) }
         ensures accepted { IsOk result → data_refusal chunk.now self.old ≡ None }
-        ensures refused { IfErr result (λ e. (e ≡ OutOfMemory) ⊎ (data_refusal chunk.now self.old ≡ Some e)) }
-        ensures wants { IfErr result (λ e. e ≡ OutOfMemory → takes_memory chunk.now self.old ≡ true) }
+        ensures refused { IfErr result (λ e. IsRefusedFor (data_refusal chunk.now self.old) e) }
+        ensures wants { IfErr result (λ e. e ≡ OutOfMemory
+            → takes_memory chunk.now self.old ≡ true) }
         ensures err { OnErr result (self.new ≡ self.old) }
     {
         if self.filter.has_come(chunk.tsn) {
@@ -105,7 +107,9 @@ impl Receiver {
         let Some(place) = self.streams.place_of(chunk.stream_identifier) else {
             return Err(ReceiverRefusal::StreamUnknown);
         };
-        self.filter.reserve_for(chunk.tsn)?;
+        if self.filter.reserve_for(chunk.tsn).is_err() {
+            return Err(self.streams.refusal_at(place, chunk));
+        }
         self.streams.push_at(place, chunk)?;
         self.filter.accept(chunk.tsn);
         Ok(Arrival::New)
@@ -114,10 +118,12 @@ impl Receiver {
     /// Takes the next message of a stream out, where there is one: the first whole unordered one, else the ordered
     /// one that is due (RFC 4960 6.6). Refuses with `StreamUnknown`, where the stream is not open. It takes no memory.
     pub fn read(&mut self, stream: u16) -> Result<Option<Chunks>, ReceiverRefusal>
-        ensures message { IfOk result (λ message. message ≡ option_map at_start (message_on stream self.old)) }
+        ensures message { IfOk result (λ message. message
+            ≡ option_map at_start (message_on stream self.old)) }
         ensures ok { OnOk result (self.new ≡ after_read stream self.old) }
         ensures accepted { IsOk result → is_open stream self.old ≡ true }
-        ensures refused { IfErr result (λ e. (e ≡ StreamUnknown) × (is_open stream self.old ≡ false)) }
+        ensures refused { IfErr result (λ e. (e ≡ StreamUnknown)
+            × (is_open stream self.old ≡ false)) }
         ensures err { OnErr result (self.new ≡ self.old) }
     {
         let Some(place) = self.streams.place_of(stream) else {
@@ -140,10 +146,13 @@ impl Receiver {
     /// it does not; then nothing changes. What it names on a stream that is not open is passed over. Refuses with
     /// `TsnOpposite`, where its TSN is neither before nor after the cumulative one. It takes no memory.
     pub fn forward_tsn(&mut self, chunk: &ChunkForwardTsn) -> Result<Forwarded, ReceiverRefusal>
-        ensures answer { IfOk result (λ forwarded. forwarded ≡ forwarded_of (forward_tsn_of chunk.now) self.old) }
+        ensures answer { IfOk result (λ forwarded. forwarded
+            ≡ forwarded_of (forward_tsn_of chunk.now) self.old) }
         ensures ok { OnOk result (self.new ≡ after_forward (forward_tsn_of chunk.now) self.old) }
-        ensures accepted { IsOk result → forward_refusal (forward_tsn_of chunk.now) self.old ≡ None }
-        ensures refused { IfErr result (λ e. forward_refusal (forward_tsn_of chunk.now) self.old ≡ Some e) }
+        ensures accepted { IsOk result
+            → forward_refusal (forward_tsn_of chunk.now) self.old ≡ None }
+        ensures refused { IfErr result (λ e. forward_refusal (forward_tsn_of chunk.now) self.old
+            ≡ Some e) }
         ensures err { OnErr result (self.new ≡ self.old) }
     {
         let tsn = chunk.new_cumulative_tsn;

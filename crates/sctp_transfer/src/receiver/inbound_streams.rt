@@ -1,10 +1,11 @@
 //! The streams of a receiver.
 
-ghost use Rattle.std.specs.Prelude.{◌≡◌, ◌==◌, ◌<◌, ◌++◌, ◌∷◌, ◌⊎◌, [], true, false, Some, None, OnOk, OnErr, IfOk, IfErr, IsOk, IsOkUnless, MatchOption, length, map, find, option_map, option_copied, slice_get};
+ghost use Rattle.std.specs.Prelude.{◌≡◌, ◌==◌, ◌<◌, ◌++◌, ◌∷◌, ◌⊎◌, [], true, false, Some, None, OnOk, OnErr, IfOk, IfErr, IsOk, IsOkUnless, MatchOption, length, map, find, option_map, option_copied, slice_get, if◌then◌else◌};
 ghost use Rattle.sctp_base.specs.declared.error.Error.TheVariants.{ErrOutOfMemory};
 ghost use Rattle.sctp_lists.specs.Lists.{change_where};
 ghost use Rattle.sctp_transfer.specs.declared.receiver.refusal.ReceiverRefusal.TheVariants.{MessageTooLarge, OutOfMemory};
 ghost use Rattle.sctp_stream.specs.Numbers.{IsOnlyPlace, IsAbsent};
+ghost use Rattle.sctp_reassembly.specs.reassembly_queue.ReassemblyQueue.{is_too_large};
 ghost use Rattle.sctp_transfer.specs.Inbound.{loose_forwarded};
 
 use crate::receiver::refusal::ReceiverRefusal;
@@ -26,7 +27,7 @@ pub struct InboundStream {
 }
 
 impl InboundStream {
-    ghost use Rattle.sctp_reassembly.specs.reassembly_queue.ReassemblyQueue.{is_too_large, is_whole_with, PushesUnordered, message_read, at_start};
+    ghost use Rattle.sctp_reassembly.specs.reassembly_queue.ReassemblyQueue.{is_whole_with, PushesUnordered, message_read, at_start};
     ghost use Rattle.sctp_transfer.specs.Inbound.{new_stream, Pushes, stream_read};
 
     /// A stream on which nothing came. It takes no memory.
@@ -46,34 +47,41 @@ impl InboundStream {
         }
     }
 
-    /// Takes a fragment. Refuses with `MessageTooLarge`, or for memory, and the stream is as it was then.
+    /// Takes a fragment. Refuses with `MessageTooLarge`, exactly where its message would be longer
+    /// with it than a message may be, or for memory. The stream is as it was then.
     /// Precondition: the fragment is of this stream.
     pub fn push(&mut self, chunk: &ChunkPayloadData) -> Result<(), ReceiverRefusal>
         requires { (chunk.now.stream_identifier == self.old.queue.si) ≡ true }
         ensures ok { OnOk result (Pushes chunk.now self.old.queue self.new.queue) }
         ensures rest { self.new ≡ record self.old { queue = self.new.queue } }
         ensures fits { IsOk result → is_too_large chunk.now self.old.queue ≡ false }
-        ensures refused { IfErr result (λ e. (e ≡ OutOfMemory) ⊎ ((e ≡ MessageTooLarge) × (is_too_large chunk.now self.old.queue ≡ true))) }
+        ensures refused { IfErr result (λ e.
+            e ≡ (if is_too_large chunk.now self.old.queue then MessageTooLarge else OutOfMemory)) }
         ensures err { OnErr result (self.new ≡ self.old) }
     {
         self.push_told(chunk)?;
         Ok(())
     }
 
-    /// Takes a fragment, as `push`, and answers whether a message became whole by it. Refuses with `MessageTooLarge`, or for
-    /// memory, and the stream is as it was then.
+    /// Takes a fragment, as `push`, and answers whether a message became whole by it. Refuses as
+    /// `push` does.
     /// Precondition: the fragment is of this stream.
     pub fn push_told(&mut self, chunk: &ChunkPayloadData) -> Result<bool, ReceiverRefusal>
         requires { (chunk.now.stream_identifier == self.old.queue.si) ≡ true }
         ensures ok { OnOk result (Pushes chunk.now self.old.queue self.new.queue) }
-        ensures ordered { chunk.now.unordered ≡ false → IfOk result (λ whole. whole ≡ is_whole_with chunk.now self.old.queue.held) }
-        ensures unordered { chunk.now.unordered ≡ true → IfOk result (λ whole. PushesUnordered chunk.now self.old.queue self.new.queue whole) }
+        ensures ordered { chunk.now.unordered ≡ false
+            → IfOk result (λ whole. whole ≡ is_whole_with chunk.now self.old.queue.held) }
+        ensures unordered { chunk.now.unordered ≡ true
+            → IfOk result (λ whole. PushesUnordered chunk.now self.old.queue self.new.queue whole) }
         ensures rest { self.new ≡ record self.old { queue = self.new.queue } }
         ensures fits { IsOk result → is_too_large chunk.now self.old.queue ≡ false }
-        ensures refused { IfErr result (λ e. (e ≡ OutOfMemory) ⊎ ((e ≡ MessageTooLarge) × (is_too_large chunk.now self.old.queue ≡ true))) }
+        ensures refused { IfErr result (λ e.
+            e ≡ (if is_too_large chunk.now self.old.queue then MessageTooLarge else OutOfMemory)) }
         ensures err { OnErr result (self.new ≡ self.old) }
     {
-        let fragment = chunk.try_clone()?;
+        let Ok(fragment) = chunk.try_clone() else {
+            return Err(refusal_without_memory(&self.queue, chunk));
+        };
         Ok(self.queue.push(fragment)?)
     }
 
@@ -110,7 +118,7 @@ impl Model for InboundStreams {
 impl InboundStreams {
     ghost use Rattle.sctp_reassembly.specs.reassembly_queue.ReassemblyQueue.{at_start};
     ghost use Rattle.sctp_transfer.specs.Inbound.{has_number, numbers_of, new_stream, PushesOn, stream_read, ssn_forwarded};
-    ghost use Rattle.sctp_transfer.specs.Receiver.{message_of, stream_refusal};
+    ghost use Rattle.sctp_transfer.specs.Receiver.{message_of, stream_refusal, IsRefusedFor};
 
     /// No streams. It takes no memory.
     pub fn new(alloc: Global) -> Self
@@ -124,7 +132,8 @@ impl InboundStreams {
 
     /// The place of the stream with a number, None where it is not open.
     pub fn place_of(&self, stream: u16) -> Option<usize>
-        ensures { MatchOption result (IsAbsent stream (numbers_of self.now)) (IsOnlyPlace stream (numbers_of self.now)) }
+        ensures { MatchOption result
+            (IsAbsent stream (numbers_of self.now)) (IsOnlyPlace stream (numbers_of self.now)) }
     {
         self.numbers.place_of(stream)
     }
@@ -161,23 +170,38 @@ impl InboundStreams {
         Ok(())
     }
 
-    /// Takes a fragment on the stream at a place. Refuses with `MessageTooLarge`, or for memory, and the streams are as they were then.
+    /// Takes a fragment on the stream at a place. Refuses with `MessageTooLarge`, exactly where its
+    /// message would be longer with it than a message may be, or for memory. The streams are as
+    /// they were then.
     /// Precondition: the fragment is of that stream.
     pub fn push_at(&mut self, place: usize, chunk: &ChunkPayloadData) -> Result<(), ReceiverRefusal>
         requires { IsOnlyPlace chunk.now.stream_identifier (numbers_of self.old) place }
         ensures ok { OnOk result (PushesOn chunk.now self.old self.new) }
-        ensures fits { IsOk result → stream_refusal chunk.now (find (has_number chunk.now.stream_identifier) self.old) ≡ None }
-        ensures refused { IfErr result (λ e. (e ≡ OutOfMemory) ⊎ (stream_refusal chunk.now (find (has_number chunk.now.stream_identifier) self.old) ≡ Some e)) }
+        ensures fits { IsOk result → stream_refusal chunk.now
+            (find (has_number chunk.now.stream_identifier) self.old) ≡ None }
+        ensures refused { IfErr result (λ e. IsRefusedFor
+            (stream_refusal chunk.now (find (has_number chunk.now.stream_identifier) self.old)) e) }
         ensures err { OnErr result (self.new ≡ self.old) }
     {
         self.items[place].push(chunk)
+    }
+
+    /// Why the stream at a place refuses a fragment, where memory is wanting. It takes no memory.
+    /// Precondition: the fragment is of that stream.
+    pub fn refusal_at(&self, place: usize, chunk: &ChunkPayloadData) -> ReceiverRefusal
+        requires { IsOnlyPlace chunk.now.stream_identifier (numbers_of self.now) place }
+        ensures { IsRefusedFor
+            (stream_refusal chunk.now (find (has_number chunk.now.stream_identifier) self.now)) result }
+    {
+        refusal_without_memory(&self.items[place].queue, chunk)
     }
 
     /// Takes the next message of a stream out, where there is one. It takes no memory.
     /// Precondition: that stream stands at the place.
     pub fn read_at(&mut self, place: usize, stream: u16) -> Option<Chunks>
         requires { IsOnlyPlace stream (numbers_of self.old) place }
-        ensures message { result ≡ option_map at_start (message_of (find (has_number stream) self.old)) }
+        ensures message { result
+            ≡ option_map at_start (message_of (find (has_number stream) self.old)) }
         ensures rest { self.new ≡ change_where (has_number stream) stream_read self.old }
     {
         let _stream = stream;
@@ -208,5 +232,17 @@ fn forward_each(streams: &mut Vec<InboundStream>, tsn: u32)
 {
     for place in 0..streams.len() {
         streams[place].queue.forward_tsn_for_unordered(tsn);
+    }
+}
+
+// Why a chunk for which memory was wanting is refused: for that alone, where its message would not be too long. It takes no
+// memory.
+fn refusal_without_memory(queue: &ReassemblyQueue, chunk: &ChunkPayloadData) -> ReceiverRefusal
+    ensures { result ≡ (if is_too_large chunk.now queue.now then MessageTooLarge else OutOfMemory) }
+{
+    if queue.is_too_large(chunk) {
+        ReceiverRefusal::MessageTooLarge
+    } else {
+        ReceiverRefusal::OutOfMemory
     }
 }

@@ -43,7 +43,8 @@ impl TsnFilter {
 
     /// Nothing came: the first TSN is expected next. It takes no memory.
     pub fn new(alloc: Global, first_tsn: u32) -> Self
-        ensures { result ≡ record { cumulative_tsn = preceding_tsn first_tsn; beyond = []; duplicates = []; room = 0 } }
+        ensures { result ≡ record { cumulative_tsn = preceding_tsn first_tsn;
+            beyond = []; duplicates = []; room = 0 } }
     {
         TsnFilter {
             queue: PayloadQueue::new(alloc),
@@ -195,8 +196,10 @@ fn mark(tsn: u32) -> ChunkPayloadData
 
 // Moves the cumulative TSN over the chunks that stand next to it, which leave the queue (RFC 4960 6.2).
 fn advance(queue: &mut PayloadQueue, cumulative_tsn: u32) -> u32
-    ensures moved { advanced cumulative_tsn (tsns queue.old.chunks) ≡ record { cum = result; held = tsns queue.new.chunks } }
-    ensures marks { queue.old.chunks ≡ map mark (tsns queue.old.chunks) → queue.new.chunks ≡ map mark (tsns queue.new.chunks) }
+    ensures moved { advanced cumulative_tsn (tsns queue.old.chunks)
+        ≡ record { cum = result; held = tsns queue.new.chunks } }
+    ensures marks { queue.old.chunks ≡ map mark (tsns queue.old.chunks)
+        → queue.new.chunks ≡ map mark (tsns queue.new.chunks) }
     ensures rest { queue.new ≡ with_chunks queue.old queue.new.chunks }
 {
     let mut cumulative_tsn = cumulative_tsn;

@@ -15,11 +15,11 @@ on-err : {T : Type 0} {P : Type 0} (r : Result T ReceiverRefusal) → P → IfEr
 on-err (Ok t) p = tt
 on-err (Err e) p = λ _. p
 
-pub returns-in_err-reserve_for-clause-wants : goal.returns-in_err-reserve_for-clause-wants
-returns-in_err-reserve_for-clause-wants c =
+pub returns-then-is_err-clause-wants : goal.returns-then-is_err-clause-wants
+returns-then-is_err-clause-wants c = λ _.
     let near = sym c.is_opposite.ensures.value ∙ c.if-is_opposite.false in
     let fresh = sym c.has_come.ensures ∙ c.if-has_come.false in
-    on-err c.from_residual-in_err-reserve_for.result (rw (← c.self.view_is) (wanted c.args.chunk.now (reception_in c.self.inside.streams c.self.inside.filter c.self.inside.max_message_size) fresh near (open-at (reception_in c.self.inside.streams c.self.inside.filter c.self.inside.max_message_size) c.args.chunk.now.stream_identifier c.in-Some.place c.in-Some.ensures)))
+    rw (← c.self.view_is) (wanted c.args.chunk.now (reception_in c.self.inside.streams c.self.inside.filter c.self.inside.max_message_size) fresh near (open-at (reception_in c.self.inside.streams c.self.inside.filter c.self.inside.max_message_size) c.args.chunk.now.stream_identifier c.in-Some.place c.in-Some.ensures))
 
 pub returns-in_err-push_at-clause-wants : goal.returns-in_err-push_at-clause-wants
 returns-in_err-push_at-clause-wants c =

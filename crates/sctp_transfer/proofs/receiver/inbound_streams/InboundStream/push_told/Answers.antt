@@ -14,19 +14,19 @@ either c old new whole ordered unordered = by c.unordered refl
 
 pub returns-clause-ok : goal.returns-clause-ok
 returns-clause-ok c =
-    let same : c.in_ok-fragment.fragment ≡ c.args.chunk.now = c.in_ok-fragment.ensures.ok in
-    let stream : (c.in_ok-fragment.fragment.stream_identifier == c.args.self.now.queue.si) ≡ true = ap (λ (x : ChunkPayloadData). x.stream_identifier == c.args.self.now.queue.si) same ∙ c.requires in
+    let same : c.in-Ok.fragment ≡ c.args.chunk.now = c.in-Ok.ensures.ok in
+    let stream : (c.in-Ok.fragment.stream_identifier == c.args.self.now.queue.si) ≡ true = ap (λ (x : ChunkPayloadData). x.stream_identifier == c.args.self.now.queue.si) same ∙ c.requires in
     subst (λ (x : ChunkPayloadData). Pushes x c.args.self.now.queue c.push.new.self) same
-    (either c.in_ok-fragment.fragment c.args.self.now.queue c.push.new.self c.in_ok-push.field-0 (λ e. (c.in_ok-push.ensures.ordered stream e).0) (λ e. c.in_ok-push.ensures.unordered stream e))
+    (either c.in-Ok.fragment c.args.self.now.queue c.push.new.self c.in_ok-push.field-0 (λ e. (c.in_ok-push.ensures.ordered stream e).0) (λ e. c.in_ok-push.ensures.unordered stream e))
 
 pub returns-clause-ordered : goal.returns-clause-ordered
 returns-clause-ordered c =
-    let same : c.in_ok-fragment.fragment ≡ c.args.chunk.now = c.in_ok-fragment.ensures.ok in
-    let stream : (c.in_ok-fragment.fragment.stream_identifier == c.args.self.now.queue.si) ≡ true = ap (λ (x : ChunkPayloadData). x.stream_identifier == c.args.self.now.queue.si) same ∙ c.requires in
+    let same : c.in-Ok.fragment ≡ c.args.chunk.now = c.in-Ok.ensures.ok in
+    let stream : (c.in-Ok.fragment.stream_identifier == c.args.self.now.queue.si) ≡ true = ap (λ (x : ChunkPayloadData). x.stream_identifier == c.args.self.now.queue.si) same ∙ c.requires in
     subst (λ (x : ChunkPayloadData). x.unordered ≡ false → c.in_ok-push.field-0 ≡ is_whole_with x c.args.self.now.queue.held) same (λ e. (c.in_ok-push.ensures.ordered stream e).1)
 
 pub returns-clause-unordered : goal.returns-clause-unordered
 returns-clause-unordered c =
-    let same : c.in_ok-fragment.fragment ≡ c.args.chunk.now = c.in_ok-fragment.ensures.ok in
-    let stream : (c.in_ok-fragment.fragment.stream_identifier == c.args.self.now.queue.si) ≡ true = ap (λ (x : ChunkPayloadData). x.stream_identifier == c.args.self.now.queue.si) same ∙ c.requires in
+    let same : c.in-Ok.fragment ≡ c.args.chunk.now = c.in-Ok.ensures.ok in
+    let stream : (c.in-Ok.fragment.stream_identifier == c.args.self.now.queue.si) ≡ true = ap (λ (x : ChunkPayloadData). x.stream_identifier == c.args.self.now.queue.si) same ∙ c.requires in
     subst (λ (x : ChunkPayloadData). x.unordered ≡ true → PushesUnordered x c.args.self.now.queue c.push.new.self c.in_ok-push.field-0) same (λ e. c.in_ok-push.ensures.unordered stream e)
