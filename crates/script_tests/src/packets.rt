@@ -6,7 +6,6 @@ use sctp_base::error::Error;
 use sctp_base::util::Checksum;
 use sctp_packets::packet::{Packet, PartialDecode};
 use std::alloc::Global;
-use std::test::Fail;
 
 /// Four zero bytes are part of each checksum.
 #[test]
@@ -23,19 +22,39 @@ const RECORDED: [&[u8]; 4] = [
     b"\x13\x88\x13\x88\0\0\0\0\x92\x57\x55\xc7\x01\0\0\x20\x12\x34\x56\x78\0\x02\0\0\x04\0\x04\0\0\0\0\x01\x80\x08\0\x08\x82\xc0\x40\xc2\xc0\0\0\x04",
 ];
 
-// What these bytes are read as and written again.
-fn rewritten(alloc: Global, raw: &[u8]) -> Result<Bytes, Error> {
-    let raw = Bytes::copy_from_slice(alloc, raw)?;
-    Packet::unmarshal(alloc, &raw, &Crc32c)?.marshal(alloc, &Crc32c)
+fn is_written(alloc: Global, packet: &Packet, raw: &Bytes) -> bool {
+    match packet.marshal(alloc, &Crc32c) {
+        Ok(written) => written.as_slice() == raw.as_slice(),
+        Err(_) => false,
+    }
+}
+
+fn is_rewritten(alloc: Global, raw: &Bytes) -> bool {
+    match Packet::unmarshal(alloc, raw, &Crc32c) {
+        Ok(packet) => is_written(alloc, &packet, raw),
+        Err(_) => false,
+    }
+}
+
+// Whether what these bytes are read as is written as these bytes again.
+fn comes_back(alloc: Global, raw: &[u8]) -> bool {
+    match Bytes::copy_from_slice(alloc, raw) {
+        Ok(raw) => is_rewritten(alloc, &raw),
+        Err(_) => false,
+    }
+}
+
+fn all_come_back(alloc: Global) -> bool {
+    let mut well = true;
+    for raw in RECORDED {
+        well = well && comes_back(alloc, raw);
+    }
+    well
 }
 
 #[test]
-fn recorded_packets(rt: HostRuntime) -> Result<(), Fail> {
-    for raw in RECORDED {
-        let written = rewritten(rt.alloc(), raw)?;
-        assert!(rt; written.as_slice() == raw);
-    }
-    Ok(())
+fn recorded_packets(rt: HostRuntime) {
+    assert!(rt; all_come_back(rt.alloc()));
 }
 
 // The initiate tag that the first chunk tells, and how many chunks there are.
@@ -46,10 +65,9 @@ fn told(alloc: Global, raw: &[u8]) -> Result<(Option<u32>, usize), Error> {
 }
 
 #[test]
-fn recorded_beginnings(rt: HostRuntime) -> Result<(), Fail> {
+fn recorded_beginnings(rt: HostRuntime) {
     let alloc = rt.alloc();
     let bare = told(alloc, RECORDED[0]);
     assert!(rt; bare == Err(Error::ErrParseSctpChunkNotEnoughData));
-    assert!(rt; told(alloc, RECORDED[3])? == (Some(0x12345678), 1));
-    Ok(())
+    assert!(rt; told(alloc, RECORDED[3]) == Ok((Some(0x12345678), 1)));
 }

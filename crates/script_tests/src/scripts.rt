@@ -1,35 +1,57 @@
 //! Scripts, and the fields of their lines.
 
 use crate::checksum::Crc32c;
-use crate::spans::sent_many;
+use crate::spans::sends_many;
 use linkscript::field::{FieldFault, field_bytes, field_text};
 use linkscript::run::{RunFault, run_under};
 use std::alloc::Global;
 use std::io::{self, ErrorKind, Read, Write};
-use std::test::Fail;
 
-/// What a script prints, and its status.
-pub fn ran(alloc: Global, script: &[u8]) -> Result<(String, Result<u8, RunFault>), Fail> {
+/// Whether a script prints this, and ends so.
+pub fn prints(alloc: Global, script: &[u8], printed: &str, status: Result<u8, RunFault>) -> bool {
     let mut input = script;
     let mut output = Vec::new(alloc);
-    let status = run_under(alloc, Crc32c, &mut input, &mut output);
-    let printed = str::from_utf8(&output)?;
-    Ok((String::from_str(alloc, printed)?, status))
+    run_under(alloc, Crc32c, &mut input, &mut output) == status
+        && output.as_slice() == printed.as_bytes()
+}
+
+/// Whether a script ends with these replies, and with status 0.
+pub fn ends_with(alloc: Global, script: &[u8], replies: &str) -> bool {
+    let mut input = script;
+    let mut output = Vec::new(alloc);
+    run_under(alloc, Crc32c, &mut input, &mut output) == Ok(0)
+        && has_at_its_end(output.as_slice(), replies)
+}
+
+fn has_at_its_end(output: &[u8], replies: &str) -> bool {
+    match str::from_utf8(output) {
+        Ok(printed) => printed.ends_with(replies),
+        Err(_) => false,
+    }
 }
 
 /// The place of the first of the scripts that does not print what stands beside it, or does not end with status 0.
-pub fn first_unlike(alloc: Global, cases: &[(&str, &str)]) -> Result<Option<usize>, Fail> {
+pub fn first_unlike(alloc: Global, cases: &[(&str, &str)]) -> Option<usize> {
     for (i, (script, printed)) in cases.iter().enumerate() {
-        let result = ran(alloc, script.as_bytes())?;
-        if result.0.as_str() != *printed || result.1 != Ok(0) {
-            return Ok(Some(i));
+        if !prints(alloc, script.as_bytes(), printed, Ok(0)) {
+            return Some(i);
         }
     }
-    Ok(None)
+    None
+}
+
+/// The place of the first that does not print what stands beside it, or does not end with the status that stands there.
+fn first_that_ends_otherwise(alloc: Global, cases: &[(&str, &str, u8)]) -> Option<usize> {
+    for (i, (script, printed, status)) in cases.iter().enumerate() {
+        if !prints(alloc, script.as_bytes(), printed, Ok(*status)) {
+            return Some(i);
+        }
+    }
+    None
 }
 
 #[test]
-fn scripts(rt: HostRuntime) -> Result<(), Fail> {
+fn scripts(rt: HostRuntime) {
     let alloc = rt.alloc();
     let cases = [
         (
@@ -61,17 +83,12 @@ fn scripts(rt: HostRuntime) -> Result<(), Fail> {
         ),
         ("link 10 3 3", "", 0),
     ];
-    for (script, printed, status) in cases {
-        let result = ran(alloc, script.as_bytes())?;
-        assert_eq!(rt; result.0.as_str(), printed);
-        assert_eq!(rt; result.1, Ok(status));
-    }
-    Ok(())
+    assert_eq!(rt; first_that_ends_otherwise(alloc, &cases), None);
 }
 
 /// Fragments, streams, modes, acknowledgement.
 #[test]
-fn scripts_of_fragments(rt: HostRuntime) -> Result<(), Fail> {
+fn scripts_of_fragments(rt: HostRuntime) {
     let cases = [
         (
             "link 4294967294 3 100\nopen 1\nwrite 1 53 61626364656667\nsend 0\nsend 0\nsend 0\nsend 0\narrive 2\narrive 0\nread 1\narrive 1\nread 1\nread 1\n",
@@ -95,28 +112,38 @@ fn scripts_of_fragments(rt: HostRuntime) -> Result<(), Fail> {
             "opened\nset\nset\nstarted\nwrote 0 1\nsent 0 10 0\nack 1\nrefused L5\nrefused L5\n",
         ),
     ];
-    assert_eq!(rt; first_unlike(rt.alloc(), &cases)?, None);
-    Ok(())
+    assert_eq!(rt; first_unlike(rt.alloc(), &cases), None);
+}
+
+fn spans_are_judged(alloc: Global, script: &mut String) -> bool {
+    let replies = "sent 32768 32768 32768\nnew\nrefused L9\nrefused L9\n";
+    sends_many(script, "link 0 1 100\nopen 1\n", 32_769)
+        && script
+            .push_str("arrive 32767\narrive 32768\narrive 32768\n")
+            .is_ok()
+        && ends_with(alloc, script.as_bytes(), replies)
 }
 
 /// Messages of which the receiver waits for the first: indexes up to 32,767 can be told apart, the next cannot.
 #[test]
-fn the_span_of_indexes(rt: HostRuntime) -> Result<(), Fail> {
+fn the_span_of_indexes(rt: HostRuntime) {
     let alloc = rt.alloc();
-    let mut script = sent_many(alloc, "link 0 1 100\nopen 1\n", 32_769)?;
-    script.push_str("arrive 32767\narrive 32768\narrive 32768\n")?;
-    let result = ran(alloc, script.as_bytes())?;
-    assert!(rt;
-        result
-            .0
-            .ends_with("sent 32768 32768 32768\nnew\nrefused L9\nrefused L9\n")
-    );
-    assert_eq!(rt; result.1, Ok(0));
-    Ok(())
+    let mut script = String::new(alloc);
+    assert!(rt; spans_are_judged(alloc, &mut script));
+}
+
+/// The first of the lines that a script may begin with.
+fn first_that_begins<'a>(alloc: Global, lines: &[&'a str]) -> Option<&'a str> {
+    for line in lines {
+        if !prints(alloc, line.as_bytes(), "bad line 1\n", Ok(2)) {
+            return Some(line);
+        }
+    }
+    None
 }
 
 #[test]
-fn first_lines_that_cannot_be_read(rt: HostRuntime) -> Result<(), Fail> {
+fn first_lines_that_cannot_be_read(rt: HostRuntime) {
     let alloc = rt.alloc();
     let firsts = [
         "",
@@ -138,33 +165,29 @@ fn first_lines_that_cannot_be_read(rt: HostRuntime) -> Result<(), Fail> {
         "\u{feff}link 10 3 100\n",
         "link\t10 3 100\n",
     ];
-    for first in firsts {
-        let result = ran(alloc, first.as_bytes())?;
-        assert_eq!(rt; result.0.as_str(), "bad line 1\n", "at {first:?}");
-        assert_eq!(rt; result.1, Ok(2));
-    }
-    Ok(())
+    assert_eq!(rt; first_that_begins(alloc, &firsts), None);
 }
 
 /// Whether a script whose third line this is ends there.
-fn ends_a_script(alloc: Global, line: &str) -> Result<bool, Fail> {
-    let script = format!(in alloc; "link 10 3 100\nopen 1\n{line}\nopen 1\n")?;
-    let (printed, status) = ran(alloc, script.as_bytes())?;
-    Ok(printed.as_str() == "opened\nbad line 3\n" && status == Ok(2))
+fn ends_a_script(alloc: Global, line: &str) -> bool {
+    match format!(in alloc; "link 10 3 100\nopen 1\n{line}\nopen 1\n") {
+        Ok(script) => prints(alloc, script.as_bytes(), "opened\nbad line 3\n", Ok(2)),
+        Err(_) => false,
+    }
 }
 
 /// The first of the lines at which a script does not end.
-fn first_that_is_read<'a>(alloc: Global, lines: &[&'a str]) -> Result<Option<&'a str>, Fail> {
+fn first_that_is_read<'a>(alloc: Global, lines: &[&'a str]) -> Option<&'a str> {
     for line in lines {
-        if !ends_a_script(alloc, line)? {
-            return Ok(Some(line));
+        if !ends_a_script(alloc, line) {
+            return Some(line);
         }
     }
-    Ok(None)
+    None
 }
 
 #[test]
-fn numbers_that_cannot_be_read(rt: HostRuntime) -> Result<(), Fail> {
+fn numbers_that_cannot_be_read(rt: HostRuntime) {
     let lines = [
         "",
         " ",
@@ -184,12 +207,11 @@ fn numbers_that_cannot_be_read(rt: HostRuntime) -> Result<(), Fail> {
         "open 99999999999999999999",
         "open \u{663}",
     ];
-    assert_eq!(rt; first_that_is_read(rt.alloc(), &lines)?, None);
-    Ok(())
+    assert_eq!(rt; first_that_is_read(rt.alloc(), &lines), None);
 }
 
 #[test]
-fn lines_that_cannot_be_read(rt: HostRuntime) -> Result<(), Fail> {
+fn lines_that_cannot_be_read(rt: HostRuntime) {
     let lines = [
         "Open 1",
         "opened",
@@ -225,22 +247,18 @@ fn lines_that_cannot_be_read(rt: HostRuntime) -> Result<(), Fail> {
         "skip 11 0,-",
         "skip 11 0 1",
     ];
-    assert_eq!(rt; first_that_is_read(rt.alloc(), &lines)?, None);
-    Ok(())
+    assert_eq!(rt; first_that_is_read(rt.alloc(), &lines), None);
+}
+
+fn is_no_text(alloc: Global, script: &[u8]) -> bool {
+    prints(alloc, script, "", Err(RunFault::Input))
 }
 
 #[test]
-fn input_that_is_no_text(rt: HostRuntime) -> Result<(), Fail> {
+fn input_that_is_no_text(rt: HostRuntime) {
     let alloc = rt.alloc();
-    for script in [
-        b"link 10 3 100\nopen 1\n\xff\n".as_slice(),
-        b"bad\n\x80".as_slice(),
-    ] {
-        let result = ran(alloc, script)?;
-        assert_eq!(rt; result.0.as_str(), "");
-        assert_eq!(rt; result.1, Err(RunFault::Input));
-    }
-    Ok(())
+    let in_a_line = is_no_text(alloc, b"link 10 3 100\nopen 1\n\xff\n");
+    assert!(rt; in_a_line && is_no_text(alloc, b"bad\n\x80"));
 }
 
 /// Gives its bytes, and then fails.
@@ -283,58 +301,79 @@ impl Write for Full {
     }
 }
 
-#[test]
-fn streams_that_fail(rt: HostRuntime) -> Result<(), Fail> {
-    let alloc = rt.alloc();
-    let script = b"link 10 3 100\nopen 1\nopen 1\nreed 1\n";
+/// Whether a script whose input fails behind these bytes ends so; what it prints is put to the output.
+fn input_fails(alloc: Global, bytes: &[u8], output: &mut Vec<u8>) -> bool {
+    let mut input = Broken { bytes };
+    run_under(alloc, Crc32c, &mut input, output) == Err(RunFault::Input)
+}
+
+fn each_input_fails(alloc: Global, script: &[u8]) -> bool {
     let mut output = Vec::new(alloc);
+    let mut well = true;
     for taken in 0..script.len() {
-        let mut input = Broken {
-            bytes: &script[..taken],
-        };
-        assert_eq!(rt;
-            run_under(alloc, Crc32c, &mut input, &mut output),
-            Err(RunFault::Input)
-        );
+        well = well && input_fails(alloc, &script[..taken], &mut output);
     }
-    assert!(rt; output.is_empty());
-    let whole = "opened\nrefused L2\nbad line 4\n".len();
+    well && output.is_empty()
+}
+
+/// Whether a script ends so where the output has this room, and all of it is filled.
+fn fills(alloc: Global, script: &[u8], room: usize, due: Result<u8, RunFault>) -> bool {
+    let mut input = script;
+    let mut output = Full { room, taken: 0 };
+    run_under(alloc, Crc32c, &mut input, &mut output) == due && output.taken == room
+}
+
+fn each_output_fails(alloc: Global, script: &[u8], whole: usize) -> bool {
+    let mut well = true;
     for room in 0..whole {
-        let mut input = script.as_slice();
-        let mut output = Full { room, taken: 0 };
-        assert_eq!(rt;
-            run_under(alloc, Crc32c, &mut input, &mut output),
-            Err(RunFault::Output)
-        );
-        assert_eq!(rt; output.taken, room);
+        well = well && fills(alloc, script, room, Err(RunFault::Output));
     }
-    let mut input = script.as_slice();
-    let mut output = Full {
-        room: whole,
-        taken: 0,
-    };
-    assert_eq!(rt; run_under(alloc, Crc32c, &mut input, &mut output), Ok(2));
-    Ok(())
+    well && fills(alloc, script, whole, Ok(2))
 }
 
 #[test]
-fn fields(rt: HostRuntime) -> Result<(), Fail> {
+fn streams_that_fail(rt: HostRuntime) {
     let alloc = rt.alloc();
-    for (text, bytes) in [
-        ("-", b"".as_slice()),
-        ("00ff", b"\x00\xff".as_slice()),
-        ("616263", b"abc".as_slice()),
-    ] {
-        assert_eq!(rt; field_text(alloc, bytes)?.as_str(), text);
-        assert_eq!(rt; field_bytes(alloc, text)?.as_slice(), bytes);
+    let script = b"link 10 3 100\nopen 1\nopen 1\nreed 1\n".as_slice();
+    let whole = "opened\nrefused L2\nbad line 4\n".len();
+    assert!(rt; each_input_fails(alloc, script) && each_output_fails(alloc, script, whole));
+}
+
+fn is_shown(alloc: Global, bytes: &[u8], text: &str) -> bool {
+    match field_text(alloc, bytes) {
+        Ok(shown) => shown.as_str() == text,
+        Err(_) => false,
     }
-    assert_eq!(rt;
-        field_bytes(alloc, "aFFa")?.as_slice(),
-        b"\xaf\xfa".as_slice()
-    );
-    for text in ["", "--", "6", "6g", "0x61", " 61", "61 "] {
-        let fault = field_bytes(alloc, text).err();
-        assert_eq!(rt; fault, Some(FieldFault::NotHex), "at {text:?}");
+}
+
+fn is_told(alloc: Global, text: &str, bytes: &[u8]) -> bool {
+    match field_bytes(alloc, text) {
+        Ok(told) => told.as_slice() == bytes,
+        Err(_) => false,
     }
-    Ok(())
+}
+
+fn both_ways(alloc: Global, text: &str, bytes: &[u8]) -> bool {
+    is_shown(alloc, bytes, text) && is_told(alloc, text, bytes)
+}
+
+/// The first of the texts that is taken for bytes.
+fn first_that_is_hex<'a>(alloc: Global, texts: &[&'a str]) -> Option<&'a str> {
+    for text in texts {
+        if field_bytes(alloc, text).err() != Some(FieldFault::NotHex) {
+            return Some(text);
+        }
+    }
+    None
+}
+
+#[test]
+fn fields(rt: HostRuntime) {
+    let alloc = rt.alloc();
+    let well = both_ways(alloc, "-", b"")
+        && both_ways(alloc, "00ff", b"\x00\xff")
+        && both_ways(alloc, "616263", b"abc");
+    assert!(rt; well && is_told(alloc, "aFFa", b"\xaf\xfa"));
+    let texts = ["", "--", "6", "6g", "0x61", " 61", "61 "];
+    assert_eq!(rt; first_that_is_hex(alloc, &texts), None);
 }

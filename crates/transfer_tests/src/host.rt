@@ -29,14 +29,17 @@ pub(crate) struct Host {
 }
 
 impl Host {
-    /// A host with stream 1 open, which cuts messages into fragments of three bytes.
-    pub fn new(alloc: Global, first_tsn: u32, peer_tsn: u32) -> Option<Host> {
-        let mut sender = Sender::new(alloc, first_tsn, 3, 100);
-        let mut receiver = Receiver::new(alloc, peer_tsn, 100);
-        if sender.open(1).is_err() || receiver.open(1).is_err() {
-            return None;
+    /// A host that cuts messages into fragments of three bytes.
+    pub fn new(alloc: Global, first_tsn: u32, peer_tsn: u32) -> Host {
+        Host {
+            sender: Sender::new(alloc, first_tsn, 3, 100),
+            receiver: Receiver::new(alloc, peer_tsn, 100),
         }
-        Some(Host { sender, receiver })
+    }
+
+    /// Whether stream 1 is opened on both sides.
+    pub fn opens(&mut self) -> bool {
+        self.sender.open(1).is_ok() && self.receiver.open(1).is_ok()
     }
 
     /// Whether a write to stream 1 is taken.
@@ -50,38 +53,52 @@ impl Host {
         }
     }
 
-    /// Whether a packet is taken.
-    fn takes(&mut self, alloc: Global, raw: &Bytes) -> bool {
-        let Ok(mut packet) = Packet::unmarshal(alloc, raw, &Zero) else {
-            return false;
-        };
-        match packet.chunks.pop() {
-            Some(ChunkKind::PayloadData(chunk)) => self.receiver.data(&chunk).is_ok(),
-            Some(ChunkKind::SelectiveAck(chunk)) => self.sender.acked(&chunk).is_ok(),
-            Some(ChunkKind::ForwardTsn(chunk)) => self.receiver.forward_tsn(&chunk).is_ok(),
+    /// Whether a packet's chunk is taken.
+    fn takes(&mut self, chunk: &ChunkKind) -> bool {
+        match chunk {
+            ChunkKind::PayloadData(chunk) => self.receiver.data(chunk).is_ok(),
+            ChunkKind::SelectiveAck(chunk) => self.sender.acked(chunk).is_ok(),
+            ChunkKind::ForwardTsn(chunk) => self.receiver.forward_tsn(chunk).is_ok(),
             _ => false,
         }
     }
 }
 
+// Whether the last chunk of a packet is taken.
+fn takes_last(to: &mut Host, packet: &Packet) -> bool {
+    match packet.chunks.last() {
+        Some(chunk) => to.takes(chunk),
+        None => false,
+    }
+}
+
+// Whether a packet's bytes are read, and its last chunk is taken.
+fn is_read(alloc: Global, to: &mut Host, raw: &Bytes) -> bool {
+    match Packet::unmarshal(alloc, raw, &Zero) {
+        Ok(packet) => takes_last(to, &packet),
+        Err(_) => false,
+    }
+}
+
+// Whether a packet comes to a host as its bytes.
+fn comes(alloc: Global, to: &mut Host, packet: &Packet) -> bool {
+    match packet.marshal(alloc, &Zero) {
+        Ok(raw) => is_read(alloc, to, &raw),
+        Err(_) => false,
+    }
+}
+
 // Whether a chunk comes to a host as a packet's bytes.
 fn arrives(alloc: Global, to: &mut Host, chunk: ChunkKind) -> bool {
-    let mut chunks = Vec::new(alloc);
-    if chunks.push(chunk).is_err() {
-        return false;
-    }
-    let packet = Packet {
+    let mut packet = Packet {
         common_header: CommonHeader {
             source_port: 5000,
             destination_port: 5000,
             verification_tag: 1,
         },
-        chunks,
+        chunks: Vec::new(alloc),
     };
-    match packet.marshal(alloc, &Zero) {
-        Ok(raw) => to.takes(alloc, &raw),
-        Err(_) => false,
-    }
+    packet.chunks.push(chunk).is_ok() && comes(alloc, to, &packet)
 }
 
 /// Sends the next fragment; whether it came, unless it is lost.

@@ -8,7 +8,6 @@ use sctp_transfer::sender::flight::InFlight;
 use sctp_transfer::sender::flight::late::GivenUp;
 use sctp_transfer::sender::refusal::SenderRefusal;
 use std::alloc::Global;
-use std::test::Fail;
 
 // Both hosts write and send three times in turn; the second fragment of each is lost.
 fn exchange(alloc: Global, a: &mut Host, b: &mut Host) -> bool {
@@ -40,17 +39,21 @@ fn is_done(a: &Host) -> bool {
 }
 
 fn both_are_read(alloc: Global, a: &mut Host, b: &mut Host) -> bool {
-    exchange(alloc, a, b) && is_lost(a, b) && make_good(alloc, a, b) && is_done(a)
+    a.opens()
+        && b.opens()
+        && exchange(alloc, a, b)
+        && is_lost(a, b)
+        && make_good(alloc, a, b)
+        && is_done(a)
 }
 
 /// Both hosts write, and send in turn; of each message the second fragment is lost, then sent again.
 #[test]
-fn both_directions_with_loss(rt: HostRuntime) -> Result<(), Fail> {
+fn both_directions_with_loss(rt: HostRuntime) {
     let alloc = rt.alloc();
-    let mut a = Host::new(alloc, u32::MAX, 7).ok_or("refused")?;
-    let mut b = Host::new(alloc, 7, u32::MAX).ok_or("refused")?;
+    let mut a = Host::new(alloc, u32::MAX, 7);
+    let mut b = Host::new(alloc, 7, u32::MAX);
     assert!(rt; both_are_read(alloc, &mut a, &mut b));
-    Ok(())
 }
 
 // What a sender makes of a SACK up to a TSN with one block: why it refuses, if it does.
@@ -61,17 +64,16 @@ fn refusal(
     start: u16,
     end: u16,
 ) -> Option<SenderRefusal> {
-    let mut gap_ack_blocks = Vec::new(alloc);
-    if gap_ack_blocks.push(GapAckBlock { start, end }).is_err() {
-        return Some(SenderRefusal::OutOfMemory);
-    }
-    let sack = ChunkSelectiveAck {
+    let mut sack = ChunkSelectiveAck {
         cumulative_tsn_ack: tsn,
         advertised_receiver_window_credit: 0,
-        gap_ack_blocks,
+        gap_ack_blocks: Vec::new(alloc),
         duplicate_tsn: Vec::new(alloc),
     };
-    host.sender.acked(&sack).err()
+    match sack.gap_ack_blocks.push(GapAckBlock { start, end }) {
+        Ok(()) => host.sender.acked(&sack).err(),
+        Err(_) => Some(SenderRefusal::OutOfMemory),
+    }
 }
 
 // What a peer claims while TSNs 0, 1 and 2 are in flight: a cumulative TSN and a block; the refusal that is due, and the
@@ -101,7 +103,7 @@ fn claims_are_judged(alloc: Global, host: &mut Host) -> bool {
 }
 
 fn three_in_flight(alloc: Global, a: &mut Host, b: &mut Host) -> bool {
-    let mut well = a.writes(alloc, b"abcdefgh");
+    let mut well = a.opens() && b.opens() && a.writes(alloc, b"abcdefgh");
     for _ in 0..3 {
         well = well && sends(alloc, a, b, true);
     }
@@ -110,19 +112,19 @@ fn three_in_flight(alloc: Global, a: &mut Host, b: &mut Host) -> bool {
 
 /// What a peer may claim beside what is in flight is refused by its name, and nothing changes.
 #[test]
-fn forged_sacks(rt: HostRuntime) -> Result<(), Fail> {
+fn forged_sacks(rt: HostRuntime) {
     let alloc = rt.alloc();
-    let mut a = Host::new(alloc, 0, 0).ok_or("refused")?;
-    let mut b = Host::new(alloc, 0, 0).ok_or("refused")?;
-    assert!(rt; three_in_flight(alloc, &mut a, &mut b));
-    assert!(rt; claims_are_judged(alloc, &mut a));
-    Ok(())
+    let mut a = Host::new(alloc, 0, 0);
+    let mut b = Host::new(alloc, 0, 0);
+    let well = three_in_flight(alloc, &mut a, &mut b);
+    assert!(rt; well && claims_are_judged(alloc, &mut a));
 }
 
 // A message with a lifetime of a millisecond is half sent, and its first fragment lost; one with no lifetime waits behind it.
 fn one_is_half_sent(alloc: Global, a: &mut Host, b: &mut Host) -> bool {
+    let mut well = a.opens() && b.opens();
     let timed = a.sender.set_mode(1, false, ReliabilityType::Timed, 1);
-    let mut well = timed.is_ok() && a.writes(alloc, b"abcdefgh") && sends(alloc, a, b, true);
+    well = well && timed.is_ok() && a.writes(alloc, b"abcdefgh") && sends(alloc, a, b, true);
     let reliable = a.sender.set_mode(1, false, ReliabilityType::Reliable, 0);
     well = well && reliable.is_ok() && a.writes(alloc, b"later");
     well
@@ -144,31 +146,34 @@ fn the_other_is_read(alloc: Global, a: &mut Host, b: &mut Host) -> bool {
         && acknowledges(alloc, b, a)
 }
 
-/// The lifetime of a half-sent message ends: it is given up with its tail, the peer is told, and the message behind it is read.
-#[test]
-fn lifetime_ends_in_flight(rt: HostRuntime) -> Result<(), Fail> {
-    let alloc = rt.alloc();
-    let mut a = Host::new(alloc, u32::MAX, 7).ok_or("refused")?;
-    let mut b = Host::new(alloc, 7, u32::MAX).ok_or("refused")?;
+fn its_lifetime_ends(a: &mut Host) -> bool {
     let due = [GivenUp {
         stream: 1,
         number: 0,
         bytes: 8,
     }];
-    assert!(rt; one_is_half_sent(alloc, &mut a, &mut b));
-    assert!(rt; is_given_up(&mut a, 999_999, &[]));
-    assert!(rt; is_given_up(&mut a, 1_000_000, &due));
-    assert_eq!(rt; a.sender.buffered_amount(1), Some(5));
-    assert_eq!(rt; a.sender.advanced_ack_point(), 0);
-    assert!(rt; the_other_is_read(alloc, &mut a, &mut b));
-    assert!(rt; is_done(&a));
-    assert!(rt; !skips(alloc, &mut a, &mut b));
-    Ok(())
+    is_given_up(a, 999_999, &[])
+        && is_given_up(a, 1_000_000, &due)
+        && a.sender.buffered_amount(1) == Some(5)
+        && a.sender.advanced_ack_point() == 0
+}
+
+fn the_peer_goes_on(alloc: Global, a: &mut Host, b: &mut Host) -> bool {
+    the_other_is_read(alloc, a, b) && is_done(a) && !skips(alloc, a, b)
+}
+
+/// The lifetime of a half-sent message ends: it is given up with its tail, the peer is told, and the message behind it is read.
+#[test]
+fn lifetime_ends_in_flight(rt: HostRuntime) {
+    let alloc = rt.alloc();
+    let mut a = Host::new(alloc, u32::MAX, 7);
+    let mut b = Host::new(alloc, 7, u32::MAX);
+    let well = one_is_half_sent(alloc, &mut a, &mut b) && its_lifetime_ends(&mut a);
+    assert!(rt; well && the_peer_goes_on(alloc, &mut a, &mut b));
 }
 
 #[test]
-fn the_tsn_before_the_first_counts_as_acknowledged(rt: HostRuntime) -> Result<(), Fail> {
+fn the_tsn_before_the_first_counts_as_acknowledged(rt: HostRuntime) {
     let flight = InFlight::new(rt.alloc(), 5);
     assert_eq!(rt; (flight.acked_tsn(), flight.next_tsn()), (4, 5));
-    Ok(())
 }
