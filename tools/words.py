@@ -32,7 +32,7 @@ def retired():
     """Retired words, and the word used in the place of each."""
     table = Path(GLOSSARY).read_text().split("## Retired words", 1)[1]
     rows = re.findall(r"^\| ([^|]+) \| ([^|]+) \|$", table, re.M)
-    return [row for row in rows if row[0] != "retired"]
+    return [(word, other) for words, other in rows[1:] for word in words.split(", ")]
 
 
 def pattern(word):
