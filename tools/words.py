@@ -1,0 +1,113 @@
+#!/usr/bin/env python3
+"""Finds retired words, and names of files that do not exist, in the docs.
+
+    python3 tools/words.py [--all]
+
+run at the top of the repository, by hand: it is no part of the gate. Retired words are those of the last table of docs/GLOSSARY.md.
+The docs are all pages (*.md); what stands in code fences or between backticks is no prose, and is passed over for words. With --all
+the count of each retired word in sources (*.rt, *.antt, *.edit), their code included, is printed too; the exit status does not
+depend on it. Paths that begin with a folder of this repository, and links, must name a file or a folder, from the
+top or beside the page. The exit status is 1 where a page has a retired word or a name of nothing.
+"""
+
+import re
+import subprocess
+import sys
+from pathlib import Path
+
+GLOSSARY = "docs/GLOSSARY.md"
+FENCE = re.compile(r"^```.*?^```", re.M | re.S)
+SPAN = re.compile(r"`[^`\n]*`")
+LINK = re.compile(r"\]\(([^)#\s]+)(#[^)\s]*)?\)")
+PATH = re.compile(r"(?<![\w/.])(?:crates|docs|tools|examples)/[\w./-]*\w")
+
+
+def files(*patterns):
+    """The files under version control that match."""
+    out = subprocess.run(["git", "ls-files", "--", *patterns], capture_output=True, text=True, check=True)
+    return [name for name in out.stdout.splitlines() if Path(name).is_file()]
+
+
+def retired():
+    """Retired words, and the word used in the place of each."""
+    table = Path(GLOSSARY).read_text().split("## Retired words", 1)[1]
+    rows = re.findall(r"^\| ([^|]+) \| ([^|]+) \|$", table, re.M)
+    return [(word, other) for words, other in rows[1:] for word in words.split(", ")]
+
+
+def pattern(word):
+    """The word by itself, in either case, its parts on one line or two."""
+    return re.compile(r"(?<![\w/-])" + r"\s+".join(map(re.escape, word.split())) + r"(?![\w-])", re.I)
+
+
+def blank(match):
+    """The same lines without their words."""
+    return re.sub(r"[^\n]", " ", match.group())
+
+
+def prose(name):
+    """A page without code, and without the table of retired words, line for line."""
+    text = Path(name).read_text()
+    if name == GLOSSARY:
+        text = text.split("## Retired words", 1)[0]
+    return SPAN.sub(blank, FENCE.sub(blank, text))
+
+
+def line_of(text, place):
+    return text.count("\n", 0, place) + 1
+
+
+def words_in_docs(words):
+    """Prints each retired word in a page, and answers how many there are."""
+    found = 0
+    for name in files("*.md"):
+        text = prose(name)
+        for word, other in words:
+            for match in pattern(word).finditer(text):
+                print(f"{name}:{line_of(text, match.start())}: {word} (now: {other})")
+                found += 1
+    return found
+
+
+def count_in_sources(words):
+    """Prints how often each retired word stands in sources, code included."""
+    texts = [Path(name).read_text() for name in files("*.rt", "*.antt", "*.edit")]
+    for word, other in words:
+        counts = [len(pattern(word).findall(text)) for text in texts]
+        print(f"sources: {word} (now: {other}): {sum(counts)} in {sum(map(bool, counts))} files")
+
+
+def exists(page, target):
+    """Whether a file or folder is named; a capital NAME stands for any crate, and .. or * for the rest of a path."""
+    if "NAME" in target.split("/") or ".." in target.replace("../", ""):
+        return True
+    return Path(target).exists() or (Path(page).parent / target).exists()
+
+
+def names_of_nothing():
+    """Prints each path or link in a page that names nothing, and answers how many there are."""
+    found = 0
+    for page in files("*.md"):
+        text = Path(page).read_text()
+        named = [(m.start(), m.group(1)) for m in LINK.finditer(text) if "://" not in m.group(1)]
+        named += [(m.start(), m.group()) for m in PATH.finditer(text)]
+        for place, target in named:
+            if not exists(page, target):
+                print(f"{page}:{line_of(text, place)}: {target} names nothing")
+                found += 1
+    return found
+
+
+def main():
+    if sys.argv[1:] not in ([], ["--all"]):
+        sys.exit(__doc__)
+    words = retired()
+    found = words_in_docs(words) + names_of_nothing()
+    if sys.argv[1:]:
+        count_in_sources(words)
+    print(f"{len(files('*.md'))} pages, {len(words)} retired words, {found} faults")
+    sys.exit(1 if found else 0)
+
+
+if __name__ == "__main__":
+    main()
