@@ -5,13 +5,16 @@
     python3 tools/wrong_bodies.py --pack CRATE
 
 run at the top of the repository. The first finds the kit's command `rt` on the PATH and runs over libraries that `rt check` has proved. The gate
-asks of a file in must-fail/ only that the crate with all its wrong bodies is refused; here they are put into as few copies of the crate as have
-at most one in each function, and each must be refused in its own function. Prints those that are not, and ends with a count; the exit status is
-0 where each was refused. With words it tries those alone whose file's name or title has one of them.
+asks of a file must-fail/*.edit only that the crate with all its wrong bodies is refused, and does not try must-fail/*.md; here the bodies of both
+are put into as few copies of the crate as have at most one in each function, and each must be refused in its own function. Prints those that are
+not, and ends with a count; the exit status is 0 where each was refused. With words it tries those alone whose file's name or title has one of
+them.
 
-With --pack it tries nothing: it writes must-fail/ anew, so that all wrong bodies stand in as few files 0_bodies.edit, 1_bodies.edit, .. as have
-at most one in each function, the largest first. A file whose first line begins with "Alone: " stays as it is. Each body keeps its texts and its
-title; the body of a file without titles takes the file's name as its title, in words. What comes out rests on the bodies and the sources alone.
+With --pack it tries nothing: it writes must-fail/ anew, so that all wrong bodies stand in as few files as have at most one in each function:
+0_bodies.edit, which the gate tries, then 1_bodies.md, 2_bodies.md, .., since for each further file the gate would prove anew all that the one
+before it turned. A file whose first line begins with "Alone: " stays as it is. A body whose file's first line begins with "First: " is packed
+before all others, and what stands in 0_bodies.edit before what stands in later files. Each body keeps its texts and its title; the body of a file
+without titles takes the file's name as its title, in words.
 """
 import importlib.machinery
 import importlib.util
@@ -22,6 +25,8 @@ import sys
 import tempfile
 
 ALONE = "Alone: "
+FIRST = "First: "
+ENDINGS = (".edit", ".md")
 HEAD = """Each title is a wrong body of its own, in a function of its own; each is refused in that function (docs/GATE.md says how they were tried).
 """
 FN = re.compile(r"\s*(?:pub(?:\([a-z]+\))?\s+)?(?:const\s+)?fn\s+(\w+)")
@@ -130,20 +135,30 @@ def text_of(bodies):
     return "\n".join(lines).rstrip("\n") + "\n"
 
 
+def rank_of(room, edit):
+    """Returns when the bodies of a file are packed: those marked as first, then what stands in packed files in their order, then the others."""
+    if source_of(room, edit).startswith(FIRST):
+        return -1
+    packed = re.fullmatch(r"(\d+)_bodies\.(?:edit|md)", edit)
+    return int(packed[1]) if packed else len(os.listdir(room))
+
+
 def pack(folder):
     """Writes the must-fail files of a crate anew: those that stand alone as they are, all other wrong bodies in as few files as serve."""
     room = f"{folder}/must-fail"
-    edits = {it: bodies_of(f"{room}/{it}") for it in sorted(os.listdir(room)) if it.endswith(".edit")}
+    edits = {it: bodies_of(f"{room}/{it}") for it in sorted(os.listdir(room)) if it.endswith(ENDINGS)}
     shared = {it: bodies for it, bodies in edits.items() if not source_of(room, it).startswith(ALONE)}
-    bodies = [(title or it.removesuffix(".edit").replace("_", " "), pairs) for it, found in shared.items() for title, pairs in found]
-    bodies.sort(key=lambda it: (it[1][0][0], it[0]))
+    bodies = [(title or os.path.splitext(it)[0].replace("_", " "), pairs) for it, found in shared.items() for title, pairs in found]
+    rank = {title or os.path.splitext(it)[0].replace("_", " "): rank_of(room, it) for it, found in shared.items() for title, _ in found}
+    bodies.sort(key=lambda it: (rank[it[0]], it[1][0][0], it[0]))
     twice = sorted({title for title, _ in bodies if [it for it, _ in bodies].count(title) > 1})
     if twice:
         sys.exit(f"{folder}: more than one wrong body has the title {', '.join(map(repr, twice))}")
     pairs_of = dict(bodies)
     files = [[(title, pairs_of[title]) for title, _ in held] for _, held, _ in copies_of(folder, bodies)]
-    files.sort(key=len, reverse=True)
-    written = {f"{number}_bodies.edit": text_of(it) for number, it in enumerate(files)}
+    for it in files:
+        it.sort(key=lambda body: (body[1][0][0], body[0]))
+    written = {f"{number}_bodies.{'md' if number else 'edit'}": text_of(it) for number, it in enumerate(files)}
     alone = [it for it in edits if it not in shared]
     if set(alone) & set(written):
         sys.exit(f"{folder}: a file of shared bodies is marked as one that stands alone")
@@ -156,14 +171,12 @@ def pack(folder):
     for it, found in zip(written, files):
         print(f"{room}/{it}: {len(found)} wrong bodies")
     print(f"{folder}: {sum(map(len, files))} wrong bodies in {len(files)} files, {len(alone)} files alone")
-    for it in files[3:]:
-        print(f"a fourth file or more for {', '.join(title for title, _ in it)}")
 
 
 def check_packed(folder, before, written):
     """Stops where a wrong body was lost, made or changed, or where a text of a written file does not stand once as the earlier pairs left it."""
     room = f"{folder}/must-fail"
-    after = {it: bodies_of(f"{room}/{it}") for it in os.listdir(room) if it.endswith(".edit")}
+    after = {it: bodies_of(f"{room}/{it}") for it in os.listdir(room) if it.endswith(ENDINGS)}
     old, new = (sorted(pairs for found in it.values() for _, pairs in found) for it in (before, after))
     if old != new:
         sys.exit(f"{folder}: the wrong bodies are not those that were there; git has them")
@@ -210,7 +223,8 @@ def main():
     sys.argv = ["rt"]
     rt = kit()
     crate = next(it for it in rt.rtlib.crates_below(os.getcwd()) if it.name == crate_name)
-    bodies = [it for edit in rt.edits_of(crate)[0] for it in named(edit)]
+    room = f"{crate.folder}/must-fail"
+    bodies = [it for edit in sorted(os.listdir(room)) if edit.endswith(ENDINGS) for it in named(f"{room}/{edit}")]
     bodies = [it for it in bodies if not words or any(word in it[0] for word in words)]
     survived = 0
     with tempfile.TemporaryDirectory(prefix="wrong-bodies-") as room:
