@@ -2,9 +2,13 @@
 use Rattle.std.proofs.Common.{◌≡◌, ℕ, Bool, true, false, List, [], ◌∷◌, Some, None, refl}
 use Rattle.sctp_chunks.specs.declared.chunk.chunk_payload_data.PayloadProtocolIdentifier.TheVariants as identifiers
 use Rattle.sctp_chunks.specs.declared.chunk.chunk_payload_data.ChunkPayloadData.{ChunkPayloadData}
-use Rattle.sctp_lists.specs.Serial.{distance, comes_before, at_or_before}
+use Rattle.sctp_lists.specs.Serial.{distance, comes_before, at_or_before, comes_before16, at_or_before16, distance16}
 use Rattle.sctp_transfer.specs.declared.receiver.refusal.ReceiverRefusal.TheVariants.{StreamUnknown, MessageTooLarge}
-use Rattle.sctp_transfer.specs.Receiver.{at_first, opened, data_refusal}
+use Rattle.sctp_transfer.specs.declared.receiver.arrival.Arrival.TheVariants.{New, Repeat}
+use Rattle.sctp_transfer.specs.Inbound.{new_stream, has_number, with_queue}
+use Rattle.sctp_transfer.specs.Receiver.{Reception, at_first, opened, data_refusal, filter_of, with_filter, repeated, TakesEach}
+use Rattle.sctp_lists.specs.Lists.{change_where}
+use Rattle.sctp_reassembly.specs.reassembly_queue.ReassemblyQueue.{ReassemblyState, ordered_pushed}
 use Rattle.sctp_outbound.specs.Marks.{acknowledged, given_up}
 use Rattle.sctp_transfer.specs.Flight as flight
 use Rattle.sctp_transfer.specs.Flight.{Flight}
@@ -91,6 +95,53 @@ too_large = refl
 fits : data_refusal (fragment 7 true true (1 ∷ 2 ∷ [])) (opened 1 (at_first 7 2)) ≡ None
 unfolding distance at_or_before
 fits = refl
+
+-- a datagram with a message in two chunks, the first of which stands in it twice
+abbrev front : ChunkPayloadData
+front = fragment 7 true false (1 ∷ [])
+
+abbrev back : ChunkPayloadData
+back = fragment 8 false true (2 ∷ [])
+
+abbrev at_one : ReassemblyState
+at_one = ordered_pushed front (new_stream 1 2).queue
+
+abbrev at_two : ReassemblyState
+at_two = ordered_pushed back at_one
+
+abbrev taken_on : ChunkPayloadData → ReassemblyState → Reception → Reception
+taken_on c q r = with_filter (with_tsn c.tsn (filter_of r)) (record r { streams = change_where (has_number 1) (with_queue q) r.streams })
+
+abbrev one_open : Reception
+one_open = opened 1 (at_first 7 2)
+
+abbrev after_datagram : Reception
+after_datagram = taken_on back at_two (repeated 7 (taken_on front at_one one_open))
+
+datagram : TakesEach (front ∷ front ∷ back ∷ []) (New ∷ Repeat ∷ New ∷ []) one_open after_datagram
+unfolding distance at_or_before comes_before at_or_before16 comes_before16 distance16
+datagram = (
+  taken_on front at_one one_open,
+  (
+    record { accepted = refl; answer = refl; taken = record { stream = new_stream 1 2; found = refl; queue = at_one; pushed = refl; after = refl } },
+    (
+      repeated 7 (taken_on front at_one one_open),
+      (
+        record { accepted = refl; answer = refl; taken = refl },
+        (after_datagram, (record { accepted = refl; answer = refl; taken = record { stream = with_queue at_one (new_stream 1 2); found = refl; queue = at_two; pushed = refl; after = refl } }, refl)),
+      ),
+    ),
+  ),
+)
+
+-- all came, 7 twice
+up_to_eight : after_datagram.cumulative_tsn ≡ 8
+unfolding distance at_or_before comes_before at_or_before16 comes_before16 distance16
+up_to_eight = refl
+
+seven_twice : after_datagram.duplicates ≡ 7 ∷ []
+unfolding distance at_or_before comes_before at_or_before16 comes_before16 distance16
+seven_twice = refl
 
 -- ## A sender
 

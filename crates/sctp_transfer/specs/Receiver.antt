@@ -1,5 +1,5 @@
 -- The receiving half of a link as callers see it (RFC 4960 6; RFC 3758 3.6).
-use Rattle.std.specs.Prelude.{◌≡◌, ◌⊎◌, ℕ, Bool, not, ◌&&◌, ◌||◌, if◌then◌else◌, ◌-◌, List, [], ◌∷◌, ◌++◌, length, map, take, Option, Some, None, is_some}
+use Rattle.std.specs.Prelude.{◌≡◌, ◌⊎◌, ℕ, Bool, not, ◌&&◌, ◌||◌, if◌then◌else◌, ◌-◌, List, [], ◌∷◌, ◌++◌, length, map, take, slice_get, Option, Some, None, is_some}
 use Rattle.std.specs.List.{find}
 use Rattle.sctp_lists.specs.Lists.{change_where}
 use Rattle.sctp_lists.specs.Serial.{at_or_before}
@@ -83,6 +83,28 @@ arrival_of c r = if has_come c.tsn (filter_of r) then Repeat else New
 abbrev pub Takes : ChunkPayloadData → Arrival → Reception → Reception → Type 0
 Takes c New old new = Accepts c old new
 Takes c Repeat old new = new ≡ repeated c.tsn old
+
+-- several, one after another: none is refused, and each has its answer
+pub record TakesFirst (c : ChunkPayloadData) (a : Arrival) (old mid : Reception) : Type 0 where
+  pub accepted : data_refusal c old ≡ None
+  pub answer : a ≡ arrival_of c old
+  pub taken : Takes c a old mid
+
+abbrev pub TakesEach : List ChunkPayloadData → List Arrival → Reception → Reception → Type 0
+TakesEach [] [] old new = new ≡ old
+TakesEach (c ∷ cs) (a ∷ answers) old new = (mid : Reception) × (TakesFirst c a old mid × TakesEach cs answers mid new)
+TakesEach [] (a ∷ answers) old new = ⊥
+TakesEach (c ∷ cs) [] old new = ⊥
+
+-- so many of them are taken, and the next one is refused for this reason
+pub record StopsAt (cs : List ChunkPayloadData) (old : Reception) (e : ReceiverRefusal) : Type 0 where
+  pub count : ℕ
+  pub arrivals : List Arrival
+  pub mid : Reception
+  pub taken : TakesEach (take count cs) arrivals old mid
+  pub chunk : ChunkPayloadData
+  pub next : slice_get cs count ≡ Some chunk
+  pub refused : data_refusal chunk mid ≡ Some e
 
 -- whether memory may be asked for: a duplicate is to be noted, or a fragment to be kept
 abbrev pub takes_memory : ChunkPayloadData → Reception → Bool

@@ -5,6 +5,7 @@ ghost use Rattle.sctp_transfer.specs.Inbound.{named_forwarded};
 ghost use Rattle.sctp_transfer.specs.declared.receiver.refusal.ReceiverRefusal.TheVariants.{StreamOpen, StreamUnknown, OutOfMemory};
 
 pub mod arrival;
+pub mod data_each;
 pub mod inbound_streams;
 pub mod refusal;
 pub mod sack_out;

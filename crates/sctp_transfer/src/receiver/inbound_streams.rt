@@ -47,6 +47,17 @@ impl InboundStream {
         }
     }
 
+    /// An equal stream, which shares its bytes. Refuses only for memory.
+    pub fn try_clone(&self, alloc: Global) -> Result<Self, ReceiverRefusal>
+        ensures ok { IfOk result (λ stream. stream ≡ self.now) }
+        ensures memory { IfErr result (λ e. e ≡ OutOfMemory) }
+    {
+        Ok(InboundStream {
+            queue: self.queue.try_clone(alloc)?,
+            stats: self.stats,
+        })
+    }
+
     /// Takes a fragment. Refuses with `MessageTooLarge`, exactly where its message would be longer
     /// with it than a message may be, or for memory. The stream is as it was then.
     /// Precondition: the fragment is of this stream.
@@ -208,6 +219,23 @@ impl InboundStreams {
         self.items[place].read()
     }
 
+    /// An equal copy of each stream, in their order. Refuses only for memory.
+    pub fn save(&self, alloc: Global) -> Result<Vec<InboundStream>, ReceiverRefusal>
+        ensures ok { IfOk result (λ saved. saved.items ≡ self.now) }
+        ensures memory { IfErr result (λ e. e ≡ OutOfMemory) }
+    {
+        clone_each(alloc, &self.items)
+    }
+
+    /// Puts streams in the place of those that are there. It takes no memory.
+    /// Precondition: they have the same numbers, in the same order.
+    pub fn put_back(&mut self, saved: Vec<InboundStream>)
+        requires { numbers_of saved.items ≡ numbers_of self.old }
+        ensures { self.new ≡ saved.items }
+    {
+        self.items = saved;
+    }
+
     /// Gives up the messages of a stream up to a stream sequence number, where it is open (RFC 3758 3.6). It takes no memory.
     pub fn forward_ordered(&mut self, stream: u16, ssn: u16)
         ensures { self.new ≡ change_where (has_number stream) (ssn_forwarded ssn) self.old }
@@ -224,6 +252,24 @@ impl InboundStreams {
     {
         forward_each(&mut self.items, tsn);
     }
+}
+
+// An equal copy of each stream.
+fn clone_each(
+    alloc: Global,
+    streams: &[InboundStream],
+) -> Result<Vec<InboundStream>, ReceiverRefusal>
+    ensures ok { IfOk result (λ saved. saved.items ≡ streams.now) }
+    ensures memory { IfErr result (λ e. e ≡ OutOfMemory) }
+{
+    let mut saved = Vec::new(alloc);
+    for stream in streams {
+        let copy = stream.try_clone(alloc)?;
+        if saved.push(copy).is_err() {
+            return Err(ReceiverRefusal::OutOfMemory);
+        }
+    }
+    Ok(saved)
 }
 
 // So on each stream.
