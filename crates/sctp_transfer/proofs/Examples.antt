@@ -8,7 +8,7 @@ use Rattle.sctp_transfer.specs.declared.receiver.arrival.Arrival.TheVariants.{Ne
 use Rattle.sctp_transfer.specs.Inbound.{new_stream, has_number, with_queue}
 use Rattle.sctp_transfer.specs.Receiver.{Reception, at_first, opened, data_refusal, filter_of, with_filter, repeated, TakesEach}
 use Rattle.sctp_lists.specs.Lists.{change_where}
-use Rattle.sctp_reassembly.specs.reassembly_queue.ReassemblyQueue.{ReassemblyState, ordered_pushed}
+use Rattle.sctp_reassembly.specs.reassembly_queue.ReassemblyQueue.{ReassemblyState, after_ordered_push}
 use Rattle.sctp_outbound.specs.Marks.{acknowledged, given_up}
 use Rattle.sctp_transfer.specs.Flight as flight
 use Rattle.sctp_transfer.specs.Flight.{Flight}
@@ -104,10 +104,10 @@ abbrev back : ChunkPayloadData
 back = fragment 8 false true (2 ∷ [])
 
 abbrev at_one : ReassemblyState
-at_one = ordered_pushed front (new_stream 1 2).queue
+at_one = after_ordered_push front (new_stream 1 2).queue
 
 abbrev at_two : ReassemblyState
-at_two = ordered_pushed back at_one
+at_two = after_ordered_push back at_one
 
 abbrev taken_on : ChunkPayloadData → ReassemblyState → Reception → Reception
 taken_on c q r = with_filter (with_tsn c.tsn (filter_of r)) (record r { streams = change_where (has_number 1) (with_queue q) r.streams })

@@ -15,13 +15,13 @@ use self::arrival::{Arrival, Forwarded};
 use self::inbound_streams::InboundStreams;
 use self::refusal::ReceiverRefusal;
 use self::tsn_filter::TsnFilter;
-use sctp_stream::stream::DataChannelStats;
 use sctp_base::util::sna32lte;
 use sctp_chunks::chunk::chunk_forward_tsn::{ChunkForwardTsn, ChunkForwardTsnStream};
 use sctp_chunks::chunk::chunk_payload_data::ChunkPayloadData;
 use sctp_queues::chunks::Chunks;
 use sctp_queues::payload_queue::PayloadQueue;
 use sctp_queues::reassembly_queue::ReassemblyQueue;
+use sctp_stream::stream::DataChannelStats;
 use std::alloc::Global;
 use std::marker::Model;
 

@@ -14,13 +14,13 @@ pub mod total;
 use self::flight::{InFlight, Released};
 use self::outbound_streams::OutboundStreams;
 use self::refusal::SenderRefusal;
-use sctp_stream::stream::DataChannelStats;
 use bytes::Bytes;
 use sctp_chunks::chunk::chunk_payload_data::{
     ChunkPayloadData, PayloadProtocolIdentifier, ReliabilityType,
 };
 use sctp_chunks::chunk::chunk_selective_ack::ChunkSelectiveAck;
 use sctp_queues::outbound_queue::OutboundQueue;
+use sctp_stream::stream::DataChannelStats;
 use std::alloc::Global;
 use std::marker::Model;
 
@@ -186,8 +186,11 @@ impl Sender {
         ensures answer { IfOk result (λ sent. sent ≡ option_map
             (with_tsn self.old.flight.next_tsn) (peeked self.old.flight.queue.pending)) }
         ensures ok { OnOk result (self.new
-            ≡ with_flight (record self.old.flight { queue = sent_next self.old.flight.queue
-            self.old.flight.next_tsn now; next_tsn = next_after_send self.old.flight }) self.old) }
+            ≡ with_flight (record self.old.flight {
+              queue = sent_next self.old.flight.queue
+                  self.old.flight.next_tsn now;
+              next_tsn = next_after_send self.old.flight;
+            }) self.old) }
         ensures bytes { OnOk result (total_bytes self.new.flight.queue
             ≡ total_bytes self.old.flight.queue) }
         ensures accepted { IsOk result → (peeked self.old.flight.queue.pending ≡ None)
@@ -229,8 +232,11 @@ impl Sender {
         ensures answer { IfOk result (λ sent. sent
             ≡ option_map (λ _. self.old.flight.next_tsn) (peeked self.old.flight.queue.pending)) }
         ensures ok { OnOk result (self.new
-            ≡ with_flight (record self.old.flight { queue = sent_next self.old.flight.queue
-            self.old.flight.next_tsn now; next_tsn = next_after_send self.old.flight }) self.old) }
+            ≡ with_flight (record self.old.flight {
+              queue = sent_next self.old.flight.queue
+                  self.old.flight.next_tsn now;
+              next_tsn = next_after_send self.old.flight;
+            }) self.old) }
         ensures bytes { OnOk result (total_bytes self.new.flight.queue
             ≡ total_bytes self.old.flight.queue) }
         ensures accepted { IsOk result → (peeked self.old.flight.queue.pending ≡ None)

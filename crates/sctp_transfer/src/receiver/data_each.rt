@@ -8,8 +8,8 @@ ghost use Rattle.sctp_transfer.specs.Receiver.{TakesEach, StopsAt};
 use crate::receiver::Receiver;
 use crate::receiver::arrival::Arrival;
 use crate::receiver::refusal::ReceiverRefusal;
-use crate::stream_numbers::put;
 use sctp_chunks::chunk::chunk_payload_data::ChunkPayloadData;
+use sctp_stream::stream_numbers::put;
 
 impl Receiver {
     /// Takes DATA chunks one after another, each as `data` takes it, and answers what each was. The
@@ -43,7 +43,8 @@ impl Receiver {
     fn take_one(&mut self, chunk: &ChunkPayloadData) -> Result<Vec<Arrival>, ReceiverRefusal>
         ensures ok { IfOk result (λ arrivals.
             TakesEach (chunk.now ∷ []) arrivals.items self.old self.new) }
-        ensures refused { IfErr result (λ e. (e ≡ OutOfMemory) ⊎ StopsAt (chunk.now ∷ []) self.old e) }
+        ensures refused { IfErr result (λ e. (e ≡ OutOfMemory)
+            ⊎ StopsAt (chunk.now ∷ []) self.old e) }
         ensures err { OnErr result (self.new ≡ self.old) }
     {
         let mut arrivals = Vec::new(self.alloc);

@@ -9,11 +9,11 @@ ghost use Rattle.sctp_reassembly.specs.reassembly_queue.ReassemblyQueue.{is_too_
 ghost use Rattle.sctp_transfer.specs.Inbound.{loose_forwarded};
 
 use crate::receiver::refusal::ReceiverRefusal;
-use sctp_stream::stream::DataChannelStats;
-use sctp_stream::stream_numbers::{StreamNumbers, put};
 use sctp_chunks::chunk::chunk_payload_data::ChunkPayloadData;
 use sctp_queues::chunks::Chunks;
 use sctp_queues::reassembly_queue::ReassemblyQueue;
+use sctp_stream::stream::DataChannelStats;
+use sctp_stream::stream_numbers::{StreamNumbers, put};
 use std::alloc::Global;
 use std::marker::Model;
 

@@ -43,8 +43,12 @@ impl TsnFilter {
 
     /// Nothing came: the first TSN is expected next. It takes no memory.
     pub fn new(alloc: Global, first_tsn: u32) -> Self
-        ensures { result ≡ record { cumulative_tsn = preceding_tsn first_tsn;
-            beyond = []; duplicates = []; room = 0 } }
+        ensures { result ≡ record {
+          cumulative_tsn = preceding_tsn first_tsn;
+          beyond = [];
+          duplicates = [];
+          room = 0;
+        } }
     {
         TsnFilter {
             queue: PayloadQueue::new(alloc),

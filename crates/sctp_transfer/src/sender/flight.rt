@@ -17,12 +17,12 @@ pub mod late;
 mod skipping;
 
 use crate::sender::refusal::SenderRefusal;
-use sctp_stream::stream_numbers::put;
 use sctp_base::util::{sna32lt, sna32lte};
 use sctp_chunks::chunk::chunk_payload_data::ChunkPayloadData;
 use sctp_chunks::chunk::chunk_selective_ack::{ChunkSelectiveAck, GapAckBlock};
 use sctp_queues::outbound_queue::OutboundQueue;
 use sctp_serial::serial::distance;
+use sctp_stream::stream_numbers::put;
 use std::alloc::Global;
 use std::marker::Model;
 
@@ -157,8 +157,11 @@ impl InFlight {
         requires { may_send self.old ≡ true }
         ensures sent { IfOk result (λ sent. sent
             ≡ option_map (λ _. self.old.next_tsn) (pending.peeked self.old.queue.pending)) }
-        ensures ok { OnOk result (self.new ≡ record self.old { queue = sent_next
-            self.old.queue self.old.next_tsn now; next_tsn = next_after_send self.old }) }
+        ensures ok { OnOk result (self.new ≡ record self.old {
+          queue = sent_next
+              self.old.queue self.old.next_tsn now;
+          next_tsn = next_after_send self.old;
+        }) }
         ensures err { OnErr result (self.new ≡ self.old) }
         ensures memory { IfErr result (λ e. e ≡ OutOfMemory) }
         ensures succeeds { 0 < self.old.queue.inflight.room → IsOk result }

@@ -10,13 +10,13 @@ ghost use Rattle.sctp_stream.specs.Numbers.{IsOnlyPlace, IsAbsent};
 ghost use Rattle.sctp_transfer.specs.Outgoing.{with_reliability, wrote, expired};
 
 use crate::sender::refusal::SenderRefusal;
-use sctp_stream::stream::StreamState;
-use sctp_stream::stream_numbers::{StreamNumbers, put};
 use bytes::Bytes;
 use sctp_base::error::Result;
 use sctp_chunks::chunk::chunk_payload_data::{
     ChunkPayloadData, PayloadProtocolIdentifier, ReliabilityType,
 };
+use sctp_stream::stream::StreamState;
+use sctp_stream::stream_numbers::{StreamNumbers, put};
 use std::alloc::Global;
 use std::marker::Model;
 

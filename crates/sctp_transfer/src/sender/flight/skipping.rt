@@ -10,11 +10,11 @@ ghost use Rattle.sctp_transfer.specs.TsnFilter.{tsns};
 
 use super::InFlight;
 use crate::sender::refusal::SenderRefusal;
-use sctp_stream::stream_numbers::put;
 use sctp_chunks::chunk::chunk_forward_tsn::{ChunkForwardTsn, ChunkForwardTsnStream};
 use sctp_chunks::chunk::chunk_payload_data::ChunkPayloadData;
 use sctp_queues::outbound_queue::OutboundQueue;
 use sctp_serial::serial::distance;
+use sctp_stream::stream_numbers::put;
 use std::alloc::Global;
 
 impl InFlight {
