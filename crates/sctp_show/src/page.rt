@@ -46,7 +46,7 @@ fn push_plain(text: &mut String, words: &str) -> Result<(), AllocError>
 }
 
 /// Appends texts, one behind the other.
-pub fn put_all(text: &mut String, parts: &[&str]) -> Result<(), AllocError>
+pub(crate) fn put_all(text: &mut String, parts: &[&str]) -> Result<(), AllocError>
     ensures { OnOk result (string_bytes text.new
         ≡ string_bytes text.old ++ flat_map (λ part. part.now) parts.now) }
 {

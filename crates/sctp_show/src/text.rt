@@ -180,6 +180,36 @@ fn put_rest(alloc: Global, page: &mut Page, seen: &Dissection) -> Result<(), All
     page.bytes(alloc, "Bytes", "rest", seen.rest.as_slice())
 }
 
+/// What a packet shows, part by part.
+fn put_packet(
+    alloc: Global,
+    page: &mut Page,
+    time: &Option<Time>,
+    datagram: &Datagram<'_>,
+    seen: &Dissection,
+    sum: Sum,
+) -> Result<(), AllocError> {
+    put_time(page, time)?;
+    put_ends(page, datagram)?;
+    put_line(page, seen)?;
+    put_blocks(alloc, page, seen, sum)?;
+    put_rest(alloc, page, seen)?;
+    page.in_json("}\n")
+}
+
+/// The text of a packet that was dissected.
+fn seen_text(
+    alloc: Global,
+    options: &Options,
+    time: &Option<Time>,
+    datagram: &Datagram<'_>,
+    seen: &Dissection,
+) -> Result<String, AllocError> {
+    let mut page = Page::new(alloc, options.form);
+    put_packet(alloc, &mut page, time, datagram, seen, options.sum)?;
+    Ok(page.text)
+}
+
 /// What a packet shows.
 fn packet_text(
     alloc: Global,
@@ -191,14 +221,7 @@ fn packet_text(
     let bytes = Bytes::copy_from_slice(alloc, datagram.bytes)?;
     let seen = dissect(alloc, &bytes, &options.sum)?;
     summary.count_packet(&seen, options.sum);
-    let mut page = Page::new(alloc, options.form);
-    put_time(&mut page, time)?;
-    put_ends(&mut page, datagram)?;
-    put_line(&mut page, &seen)?;
-    put_blocks(alloc, &mut page, &seen, options.sum)?;
-    put_rest(alloc, &mut page, &seen)?;
-    page.in_json("}\n")?;
-    Ok(page.text)
+    seen_text(alloc, options, time, datagram, &seen)
 }
 
 /// A record's number, and what it shows.
