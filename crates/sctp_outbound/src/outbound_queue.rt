@@ -56,9 +56,22 @@ impl OutboundQueue {
     /// A queue of nothing, whose first message gets the number 0. It takes no memory.
     pub fn new(alloc: Global) -> Self
         ensures { result
-            ≡ record { pending = record { ordered = []; unordered = []; selected = None;
-            ordered_room = 0; unordered_room = 0 }; inflight = record { chunks = [];
-            duplicates = []; room = 0 }; next_message_id = 0; next_unstarted = 0 } }
+            ≡ record {
+              pending = record {
+                ordered = [];
+                unordered = [];
+                selected = None;
+                ordered_room = 0;
+                unordered_room = 0;
+              };
+              inflight = record {
+                chunks = [];
+                duplicates = [];
+                room = 0;
+              };
+              next_message_id = 0;
+              next_unstarted = 0;
+            } }
     {
         OutboundQueue {
             pending: PendingQueue::new(alloc),
@@ -568,8 +581,12 @@ impl OutboundQueue {
     /// Refuses only for memory, and the queue is as it was then.
     pub fn reserve_inflight(&mut self, sends: usize) -> Result<()>
         ensures ok { OnOk result (self.new
-            ≡ record self.old { inflight = record self.old.inflight { room = max
-            sends self.old.inflight.room } }) }
+            ≡ record self.old {
+              inflight = record self.old.inflight {
+                room = max
+                    sends self.old.inflight.room;
+              };
+            }) }
         ensures err { OnErr result (self.new ≡ self.old) }
         ensures memory { IsOkUnless result ErrOutOfMemory }
         ensures succeeds { sends ≤ self.old.inflight.room → IsOk result }

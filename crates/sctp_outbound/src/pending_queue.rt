@@ -52,8 +52,13 @@ impl PendingQueue {
 
     /// A queue of nothing. It takes no memory.
     pub fn new(alloc: Global) -> Self
-        ensures { result ≡ record { ordered = [];
-            unordered = []; selected = None; ordered_room = 0; unordered_room = 0 } }
+        ensures { result ≡ record {
+          ordered = [];
+          unordered = [];
+          selected = None;
+          ordered_room = 0;
+          unordered_room = 0;
+        } }
     {
         PendingQueue {
             ordered: Line::new(alloc),

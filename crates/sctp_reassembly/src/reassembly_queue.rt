@@ -70,8 +70,17 @@ impl ReassemblyQueue {
     /// An empty queue of the stream `si`, which takes messages of at most `max_message_size`
     /// bytes and expects the stream sequence number 0 first (RFC 4960 6.5). It takes no memory.
     pub fn new(alloc: Global, si: u16, max_message_size: u32) -> Self
-        ensures { result ≡ record { si = si; held = record { next_ssn = 0; ordered = [];
-            unordered = []; loose = [] }; bytes = 0; max_message_size = max_message_size } }
+        ensures { result ≡ record {
+          si = si;
+          held = record {
+            next_ssn = 0;
+            ordered = [];
+            unordered = [];
+            loose = [];
+          };
+          bytes = 0;
+          max_message_size = max_message_size;
+        } }
     {
         ReassemblyQueue {
             alloc,

@@ -317,7 +317,8 @@ fn read_packet(
 
 /// Keeps an interface, where there are not too many.
 fn keep_interface(section: &mut Section, interface: Interface) -> Result<(), AllocError>
-    ensures { OnOk result (known_of section.new ≡ blocks.with_interface (known_of section.old) interface) }
+    ensures { OnOk result (known_of section.new
+        ≡ blocks.with_interface (known_of section.old) interface) }
 {
     if section.interfaces.len() >= MAX_INTERFACES {
         return Ok(());
@@ -334,7 +335,8 @@ fn read_whole(
     block: &[u8],
 ) -> Result<Option<Record>, AllocError>
     requires { head.length ≤ length block.now }
-    ensures { IfOk result (λ r. GivesRead (known_of section.old) head block.now r (known_of section.new)) }
+    ensures { IfOk result
+        (λ r. GivesRead (known_of section.old) head block.now r (known_of section.new)) }
 {
     if head.typ != INTERFACE {
         let interfaces = section.interfaces.as_slice();
@@ -352,9 +354,11 @@ fn take_read<R: Read + Drop>(
     head: BlockHead,
 ) -> Result<Option<Record>, RunFault>
     requires { IsRead head.typ }
-    ensures keeps { OnOk result (Keeps (prepend_known window.old.held.items (R.remaining window.old.reader))
+    ensures keeps { OnOk result
+        (Keeps (prepend_known window.old.held.items (R.remaining window.old.reader))
         (prepend_known window.new.held.items (R.remaining window.new.reader))) }
-    ensures full { OnOk result (HoldsBlock head window.new.held.items ⊎ IsAtEnd (R.remaining window.new.reader)) }
+    ensures full { OnOk result (HoldsBlock head window.new.held.items
+        ⊎ IsAtEnd (R.remaining window.new.reader)) }
     ensures gives { IfOk result (λ r. Gives (known_of section.old) head
         (take head.length window.new.held.items) r (known_of section.new)) }
 {
@@ -376,9 +380,11 @@ fn take_block<R: Read + Drop>(
     section: &mut Section,
     head: BlockHead,
 ) -> Result<Option<Record>, RunFault>
-    ensures keeps { OnOk result (Keeps (prepend_known window.old.held.items (R.remaining window.old.reader))
+    ensures keeps { OnOk result
+        (Keeps (prepend_known window.old.held.items (R.remaining window.old.reader))
         (prepend_known window.new.held.items (R.remaining window.new.reader))) }
-    ensures full { OnOk result (HoldsBlock head window.new.held.items ⊎ IsAtEnd (R.remaining window.new.reader)) }
+    ensures full { OnOk result (HoldsBlock head window.new.held.items
+        ⊎ IsAtEnd (R.remaining window.new.reader)) }
     ensures gives { IfOk result (λ r. Gives (known_of section.old) head
         (take head.length window.new.held.items) r (known_of section.new)) }
 {
@@ -399,7 +405,8 @@ pub fn next_block<R: Read + Drop>(
     window: &mut Window<R>,
     section: &mut Section,
 ) -> Result<Taken, RunFault>
-    ensures { IfOk result (λ taken. IfSome (prepend_known window.old.held.items (R.remaining window.old.reader)) (λ xs.
+    ensures { IfOk result (λ taken.
+        IfSome (prepend_known window.old.held.items (R.remaining window.old.reader)) (λ xs.
         Takes Blocks (known_of section.old) xs taken (known_of section.new)
         (prepend_known window.new.held.items (R.remaining window.new.reader)))) }
 {

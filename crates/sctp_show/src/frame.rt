@@ -126,7 +126,8 @@ fn inside_ipv6(packet: &[u8], port: u16) -> Result<Datagram<'_>, Fault>
 
 /// The datagram of the IP packet that stands from `at` on.
 fn inside_ip(frame: &[u8], at: usize, port: u16) -> Result<Datagram<'_>, Fault>
-    ensures { IfOk result (λ d. InIp port (slice_range frame.now at (length frame.now)) d.bytes.now) }
+    ensures { IfOk result
+        (λ d. InIp port (slice_range frame.now at (length frame.now)) d.bytes.now) }
 {
     if frame.len() <= at {
         return Err(Fault::Short);
@@ -188,7 +189,8 @@ fn place_in(link_type: u32, frame: &[u8]) -> Result<usize, Fault>
 /// The datagram of a frame of this link type: what an IP packet carries, or SCTP alone.
 pub fn datagram_in(link_type: u32, frame: &[u8], port: u16) -> Result<Datagram<'_>, Fault>
     ensures alone { link_type ≡ 248 → IfOk result (λ d. d.bytes.now ≡ frame.now) }
-    ensures carried { link_type ≢ 248 → IfOk result (λ d. InFrame link_type port frame.now d.bytes.now) }
+    ensures carried { link_type ≢ 248
+        → IfOk result (λ d. InFrame link_type port frame.now d.bytes.now) }
 {
     if link_type == 248 {
         return Ok(Datagram {

@@ -123,7 +123,8 @@ pub fn read_number(order: Order, bytes: &[u8], at: usize) -> u32
 fn read_magic(bytes: &[u8]) -> Option<(Order, bool)>
     requires { 4 ≤ length bytes.now }
     ensures some { IfSome result (λ x. number_at x.0 bytes.now 0 ≡ magic_of x.1) }
-    ensures none { IfNone result ((order : Order) (nanoseconds : Bool) → number_at order bytes.now 0 ≢ magic_of nanoseconds) }
+    ensures none { IfNone result ((order : Order) (nanoseconds : Bool)
+        → number_at order bytes.now 0 ≢ magic_of nanoseconds) }
 {
     match (read_u32(bytes, 0), read_u32_le(bytes, 0)) {
         (MICROSECONDS, _) => Some((Order::Big, false)),
@@ -224,7 +225,8 @@ pub fn next_entry<R: Read + Drop>(
     window: &mut Window<R>,
     head: &Head,
 ) -> Result<Option<Record>, RunFault>
-    ensures { IfOk result (λ next. IfSome (prepend_known window.old.held.items (R.remaining window.old.reader)) (λ xs.
+    ensures { IfOk result
+        (λ next. IfSome (prepend_known window.old.held.items (R.remaining window.old.reader)) (λ xs.
         IsNext (IsEntry head.now) (after_entry head.now) xs
         (prepend_known window.new.held.items (R.remaining window.new.reader)) next)) }
 {
@@ -255,9 +257,11 @@ fn line_length(bytes: &[u8]) -> usize
 
 /// Holds the line at the front with its line feed, more than a line may have, or all that there is.
 fn fill_line<R: Read + Drop>(window: &mut Window<R>) -> Result<(), RunFault>
-    ensures keeps { OnOk result (Keeps (prepend_known window.old.held.items (R.remaining window.old.reader))
+    ensures keeps { OnOk result
+        (Keeps (prepend_known window.old.held.items (R.remaining window.old.reader))
         (prepend_known window.new.held.items (R.remaining window.new.reader))) }
-    ensures full { OnOk result (HoldsLine window.new.held.items ⊎ IsAtEnd (R.remaining window.new.reader)) }
+    ensures full { OnOk result (HoldsLine window.new.held.items
+        ⊎ IsAtEnd (R.remaining window.new.reader)) }
 {
     'fill: while window.held().len() <= MAX_LINE {
         if line_length(window.held()) < window.held().len() || !window.read_more()? {
@@ -287,7 +291,8 @@ fn read_line(alloc: Global, held: &[u8]) -> Result<Record, AllocError>
 
 /// The bytes that hex text says.
 fn read_hex(alloc: Global, text: &[u8]) -> Result<Result<Bytes, Fault>, AllocError>
-    ensures { IfOk result (λ frame. MatchResult (decode_of text.now) (λ bytes. frame ≡ Ok bytes) (λ _. frame ≡ Err NotHex)) }
+    ensures { IfOk result (λ frame.
+        MatchResult (decode_of text.now) (λ bytes. frame ≡ Ok bytes) (λ _. frame ≡ Err NotHex)) }
 {
     match hex::decode(alloc, text) {
         Ok(bytes) => Ok(Ok(Bytes::from_vec(bytes)?)),
@@ -298,7 +303,8 @@ fn read_hex(alloc: Global, text: &[u8]) -> Result<Result<Bytes, Fault>, AllocErr
 
 /// Drops the line at the front, with its line feed.
 fn skip_line<R: Read + Drop>(window: &mut Window<R>) -> Result<(), RunFault>
-    ensures { OnOk result (IfSome (prepend_known window.old.held.items (R.remaining window.old.reader)) (λ xs.
+    ensures { OnOk result
+        (IfSome (prepend_known window.old.held.items (R.remaining window.old.reader)) (λ xs.
         Keeps (Some (after_line xs)) (prepend_known window.new.held.items (R.remaining window.new.reader)))) }
 {
     for _ in 0..u64::MAX {
@@ -321,7 +327,8 @@ pub fn next_line<R: Read + Drop>(
     alloc: Global,
     window: &mut Window<R>,
 ) -> Result<Option<Record>, RunFault>
-    ensures { IfOk result (λ next. IfSome (prepend_known window.old.held.items (R.remaining window.old.reader)) (λ xs.
+    ensures { IfOk result
+        (λ next. IfSome (prepend_known window.old.held.items (R.remaining window.old.reader)) (λ xs.
         IsNext IsLine after_line xs
         (prepend_known window.new.held.items (R.remaining window.new.reader)) next)) }
 {

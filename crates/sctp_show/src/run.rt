@@ -43,7 +43,8 @@ pub enum Format {
 
 /// Finds out what an input is, and drops the header of a capture.
 fn open_input<R: Read + Drop>(window: &mut Window<R>) -> Result<Format, RunFault>
-    ensures { IfOk result (λ format. IfSome (prepend_known window.old.held.items (R.remaining window.old.reader)) (λ xs.
+    ensures { IfOk result (λ format.
+        IfSome (prepend_known window.old.held.items (R.remaining window.old.reader)) (λ xs.
         IsOpened format xs (prepend_known window.new.held.items (R.remaining window.new.reader)))) }
 {
     window.fill(CAPTURE_HEADER)?;
@@ -78,7 +79,8 @@ fn next_piece<R: Read + Drop>(
     section: &mut Section,
     format: Format,
 ) -> Result<Taken, RunFault>
-    ensures { IfOk result (λ taken. IfSome (prepend_known window.old.held.items (R.remaining window.old.reader)) (λ xs.
+    ensures { IfOk result (λ taken.
+        IfSome (prepend_known window.old.held.items (R.remaining window.old.reader)) (λ xs.
         Takes format (known_of section.old) xs taken (known_of section.new)
         (prepend_known window.new.held.items (R.remaining window.new.reader)))) }
 {
@@ -108,7 +110,8 @@ fn print_record<W: Write>(
     summary: &mut Summary,
     output: &mut W,
 ) -> Result<(), RunFault>
-    ensures { OnOk result (PrintsRecord options.now.form number «record» (W.contents output.old) (W.contents output.new)) }
+    ensures { OnOk result (PrintsRecord options.now.form number «record»
+        (W.contents output.old) (W.contents output.new)) }
 {
     let text = record_text(alloc, options, number, &record, summary)?;
     write_text(output, &text)

@@ -275,7 +275,8 @@ pub fn record_text(
     record: &Record,
     summary: &mut Summary,
 ) -> Result<String, AllocError>
-    ensures { IfOk result (λ text. IsText options.now.form number «record».now (string_bytes text)) }
+    ensures { IfOk result
+        (λ text. IsText options.now.form number «record».now (string_bytes text)) }
 {
     match &record.frame {
         Ok(frame) => frame_text(alloc, options, number, record, frame, summary),

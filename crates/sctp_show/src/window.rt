@@ -25,8 +25,10 @@ pub struct Window<R: Read + Drop> {
 fn read_piece<R: Read>(reader: &mut R, piece: &mut [u8]) -> Result<usize, RunFault>
     ensures within { IfOk result (λ n. n ≤ length piece.new) }
     ensures kept { length piece.new ≡ length piece.old }
-    ensures bytes { IfOk result (λ n. Consumes (R.remaining reader.old) (R.remaining reader.new) (take n piece.new)) }
-    ensures end { IfOk result (λ n. n ≡ 0 → 0 < length piece.old → IsAtEnd (R.remaining reader.new)) }
+    ensures bytes { IfOk result
+        (λ n. Consumes (R.remaining reader.old) (R.remaining reader.new) (take n piece.new)) }
+    ensures end { IfOk result (λ n. n ≡ 0
+        → 0 < length piece.old → IsAtEnd (R.remaining reader.new)) }
 {
     for _ in 0..u64::MAX {
         match reader.read(piece) {
@@ -53,11 +55,14 @@ impl<R: Read + Drop> Window<R> {
 
     /// Reads one piece more. Answers whether there was one.
     pub fn read_more(&mut self) -> Result<bool, RunFault>
-        ensures keeps { OnOk result (Keeps (prepend_known self.old.held.items (R.remaining self.old.reader))
+        ensures keeps { OnOk result
+            (Keeps (prepend_known self.old.held.items (R.remaining self.old.reader))
             (prepend_known self.new.held.items (R.remaining self.new.reader))) }
-        ensures more { IfOk result (λ more. more ≡ true → length self.old.held.items < length self.new.held.items) }
+        ensures more { IfOk result (λ more. more ≡ true
+            → length self.old.held.items < length self.new.held.items) }
         ensures end { IfOk result (λ more. more ≡ false → IsAtEnd (R.remaining self.new.reader)) }
-        ensures none { IfOk result (λ more. more ≡ false → length self.new.held.items ≡ length self.old.held.items) }
+        ensures none { IfOk result (λ more. more ≡ false
+            → length self.new.held.items ≡ length self.old.held.items) }
     {
         let n = read_piece(&mut self.reader, &mut self.piece)?;
         self.held.extend_from_slice(&self.piece[..n])?;
@@ -66,9 +71,11 @@ impl<R: Read + Drop> Window<R> {
 
     /// Holds at least so many bytes, or all that there are.
     pub fn fill(&mut self, count: usize) -> Result<(), RunFault>
-        ensures keeps { OnOk result (Keeps (prepend_known self.old.held.items (R.remaining self.old.reader))
+        ensures keeps { OnOk result
+            (Keeps (prepend_known self.old.held.items (R.remaining self.old.reader))
             (prepend_known self.new.held.items (R.remaining self.new.reader))) }
-        ensures full { OnOk result ((count ≤ length self.new.held.items) ⊎ IsAtEnd (R.remaining self.new.reader)) }
+        ensures full { OnOk result ((count ≤ length self.new.held.items)
+            ⊎ IsAtEnd (R.remaining self.new.reader)) }
     {
         'fill: while self.held.len() < count {
             if !self.read_more()? {
@@ -98,7 +105,8 @@ impl<R: Read + Drop> Window<R> {
 
     /// Drops the first bytes, held or not.
     pub fn skip(&mut self, count: usize) -> Result<(), RunFault>
-        ensures { OnOk result (IfSome (prepend_known self.old.held.items (R.remaining self.old.reader)) (λ xs.
+        ensures { OnOk result
+            (IfSome (prepend_known self.old.held.items (R.remaining self.old.reader)) (λ xs.
             Keeps (Some (drop count xs)) (prepend_known self.new.held.items (R.remaining self.new.reader)))) }
     {
         let mut left = count;

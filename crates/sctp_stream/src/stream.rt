@@ -334,8 +334,10 @@ impl StreamState {
     /// low threshold. At most 0 bytes change nothing. For bytes that the peer acknowledged, or that were given up.
     pub fn on_buffer_released(&mut self, n_bytes_released: i64) -> bool
         ensures low { result ≡ falls_low self.old (released n_bytes_released) }
-        ensures rest { self.new ≡ record self.old { buffered_amount = self.old.buffered_amount
-            - released n_bytes_released } }
+        ensures rest { self.new ≡ record self.old {
+          buffered_amount = self.old.buffered_amount
+              - released n_bytes_released;
+        } }
     {
         if n_bytes_released <= 0 {
             return false;
@@ -429,8 +431,11 @@ impl StreamState {
         rel_type: ReliabilityType,
         rel_val: u32,
     )
-        ensures { self.new ≡ record self.old { unordered = unordered;
-            reliability_type = rel_type; reliability_value = rel_val } }
+        ensures { self.new ≡ record self.old {
+          unordered = unordered;
+          reliability_type = rel_type;
+          reliability_value = rel_val;
+        } }
     {
         self.unordered = unordered;
         self.reliability_type = rel_type;

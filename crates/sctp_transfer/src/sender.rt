@@ -272,7 +272,8 @@ impl Sender {
     /// `NotInFlight`, where the TSN is not in flight; and, only where some of the message still waits, so that an end mark has
     /// to go in flight, with `TsnsUsedUp`, where 2^31 - 1 chunks are in flight, and for memory. The sender is as it was then.
     pub fn abandon(&mut self, tsn: u32) -> Result<(u16, usize), SenderRefusal>
-        ensures ok { IfOk result (λ r. self.new ≡ after_abandon (message_to_abandon tsn self.old.flight) r.0 r.1
+        ensures ok { IfOk result (λ r. self.new
+            ≡ after_abandon (message_to_abandon tsn self.old.flight) r.0 r.1
             self.old) }
         ensures stream { IfOk result (λ r. Some r.0 ≡ option_map
             (λ c. c.stream_identifier) (find (has_tsn tsn) self.old.flight.queue.inflight.chunks)) }

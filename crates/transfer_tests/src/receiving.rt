@@ -16,7 +16,8 @@ pub fn take_chunk(
     receiver: &mut Receiver,
     chunk: &ChunkPayloadData,
 ) -> Result<bool, ReceiverRefusal>
-    ensures taken { data_refusal chunk.now receiver.old ≡ None → IsOk result → Takes chunk.now (arrival_of chunk.now receiver.old) receiver.old receiver.new }
+    ensures taken { data_refusal chunk.now receiver.old ≡ None → IsOk result
+        → Takes chunk.now (arrival_of chunk.now receiver.old) receiver.old receiver.new }
     ensures err { OnErr result (receiver.new ≡ receiver.old) }
     ensures memory { IfErr result (λ e. e ≡ OutOfMemory) }
 {

@@ -16,8 +16,10 @@ use sctp_transfer::sender::refusal::SenderRefusal;
 
 /// Gives a SACK to a sender. One that claims what can't be is dropped, and nothing changes. Fails only where memory ran out.
 pub fn take_sack(sender: &mut Sender, sack: &ChunkSelectiveAck) -> Result<(), SenderRefusal>
-    ensures taken { sack_refusal (sack_of sack.now) sender.old.flight ≡ None → OnOk result (sender.new ≡ after_acked (sack_of sack.now) sender.old) }
-    ensures forged { (e : SenderRefusal) → sack_refusal (sack_of sack.now) sender.old.flight ≡ Some e → sender.new ≡ sender.old }
+    ensures taken { sack_refusal (sack_of sack.now) sender.old.flight ≡ None
+        → OnOk result (sender.new ≡ after_acked (sack_of sack.now) sender.old) }
+    ensures forged { (e : SenderRefusal)
+        → sack_refusal (sack_of sack.now) sender.old.flight ≡ Some e → sender.new ≡ sender.old }
     ensures err { OnErr result (sender.new ≡ sender.old) }
     ensures memory { IfErr result (λ e. e ≡ OutOfMemory) }
 {

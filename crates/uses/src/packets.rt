@@ -15,7 +15,8 @@ use std::alloc::Global;
 
 /// How many chunks a datagram has.
 pub fn count_chunks<C: Checksum>(alloc: Global, raw: &Bytes, checksum: &C) -> Result<usize>
-    ensures { IfOk result (λ count. (p : Parts) × ReadsPacket (C.sum checksum.now) raw.now p × (count ≡ length p.chunks)) }
+    ensures { IfOk result (λ count. (p : Parts)
+        × ReadsPacket (C.sum checksum.now) raw.now p × (count ≡ length p.chunks)) }
 {
     let packet = Packet::unmarshal(alloc, raw, checksum)?;
     Ok(packet.chunks.len())

@@ -11,7 +11,8 @@ use std::alloc::Global;
 
 /// The cookie, where the bytes begin with a State Cookie parameter (RFC 4960 3.3.3.1).
 pub fn cookie_in(alloc: Global, raw: &Bytes) -> Result<Option<Bytes>>
-    ensures { IfOk result (λ found. IfSome found (λ cookie. ReadsParam raw.now (state_cookie cookie))) }
+    ensures { IfOk result
+        (λ found. IfSome found (λ cookie. ReadsParam raw.now (state_cookie cookie))) }
 {
     match build_param(alloc, raw)? {
         ParamKind::StateCookie(param) => Ok(Some(param.cookie)),

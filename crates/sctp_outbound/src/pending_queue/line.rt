@@ -151,8 +151,10 @@ impl Line {
     pub(crate) fn append(&mut self, chunks: Vec<ChunkPayloadData>, message_id: u64) -> Result<()>
         requires { bytes_of self.old.chunks + bytes_of chunks.items < 2 ^ 64 }
         ensures ok { OnOk result (self.new
-            ≡ record { chunks = self.old.chunks ++ map (with_message_id message_id) chunks.items;
-            room = self.old.room - length chunks.items }) }
+            ≡ record {
+              chunks = self.old.chunks ++ map (with_message_id message_id) chunks.items;
+              room = self.old.room - length chunks.items;
+            }) }
         ensures bytes { OnOk result (bytes_of self.new.chunks
             ≡ bytes_of self.old.chunks + bytes_of chunks.items) }
         ensures err { OnErr result (self.new ≡ self.old) }

@@ -144,8 +144,15 @@ impl Chunks {
     /// A message of these fragments, of which nothing was taken. It takes no memory.
     pub fn new(ssn: u16, ppi: PayloadProtocolIdentifier, chunks: Vec<ChunkPayloadData>) -> Self
         ensures left { concat (left_of result) ≡ payload_of chunks.items }
-        ensures value { result ≡ record { set = record { ssn = ssn;
-            ppi = ppi; chunks = chunks.items }; index = 0; offset = 0 } }
+        ensures value { result ≡ record {
+          set = record {
+            ssn = ssn;
+            ppi = ppi;
+            chunks = chunks.items;
+          };
+          index = 0;
+          offset = 0;
+        } }
     {
         Chunks::of(Fragments::new(ssn, ppi, chunks))
     }

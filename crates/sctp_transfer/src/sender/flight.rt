@@ -181,7 +181,8 @@ impl InFlight {
         requires { has_tail_at self.old tsn ≡ true → may_send self.old ≡ true }
         ensures answer { IfOk result (λ r. option_map (λ a. a.0) r ≡ option_map
             (λ c. c.stream_identifier) (find (has_tsn tsn) self.old.queue.inflight.chunks)) }
-        ensures ok { OnOk result (self.new ≡ after_giving_up (message_to_abandon tsn self.old) self.old) }
+        ensures ok { OnOk result (self.new
+            ≡ after_giving_up (message_to_abandon tsn self.old) self.old) }
         ensures err { OnErr result (self.new ≡ self.old) }
         ensures memory { IfErr result (λ e. e ≡ OutOfMemory) }
         ensures released { IfOk result (λ r. total_bytes self.new.queue + bytes_left r
