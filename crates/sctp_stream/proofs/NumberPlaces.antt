@@ -10,10 +10,10 @@ use Rattle.std.proofs.lemmas.Option.{slice_get_within}
 use Rattle.sctp_lists.proofs.Getting.{get-last, slice-front}
 use Rattle.sctp_stream.specs.Numbers.{IsIndexed, IsOnlyPlace, IsAbsent}
 
-one : {A : Type 0} {a b : A} → Some a ≡ Some b → a ≡ b
+pub one : {A : Type 0} {a b : A} → Some a ≡ Some b → a ≡ b
 one e = cc
 
-missing : {a : ℕ} → None ≡ Some a → ⊥
+pub missing : {a : ℕ} → None ≡ Some a → ⊥
 missing e = cc
 
 -- what a look-up answers
@@ -24,7 +24,7 @@ place-of places ns indexed s (Some k) e = record {
   only = λ j here. one (sym ((indexed s j).1 here) ∙ sym e);
 }
 
-apart : (k q : ℕ) → (k ≡ q → ⊥) → is_eq (nat_cmp k q) ≡ false
+pub apart : (k q : ℕ) → (k ≡ q → ⊥) → is_eq (nat_cmp k q) ≡ false
 apart k q ne = by (nat_lt k q) (k == q) (ne_eqb k q ne)
   where
     by : (a b : Bool) → b ≡ false → is_eq (cond a Less (cond b Equal Greater)) ≡ false

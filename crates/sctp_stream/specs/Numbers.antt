@@ -1,5 +1,5 @@
 -- The numbers of the open streams, in the order in which they were opened.
-use Rattle.std.specs.Prelude.{◌≡◌, ℕ, ◌↔◌, List, slice_get, Some}
+use Rattle.std.specs.Prelude.{◌≡◌, ◌==◌, ℕ, Bool, not, ◌↔◌, List, slice_get, Some}
 use Rattle.std.specs.Ordering.{nat_cmp}
 use Rattle.std.specs.BTreeMap.{BTreeMap, get}
 
@@ -15,3 +15,7 @@ IsAbsent s ns = (k : ℕ) → slice_get ns k ≡ Some s → ⊥
 -- the index has a number at a place exactly where the number stands there
 abbrev pub IsIndexed : BTreeMap ℕ ℕ → List ℕ → Type 0
 IsIndexed places ns = (s k : ℕ) → (get nat_cmp places s ≡ Some k) ↔ (slice_get ns k ≡ Some s)
+
+-- a number is another one than s
+abbrev pub is_other : ℕ → ℕ → Bool
+is_other s n = not (n == s)

@@ -2,7 +2,8 @@
 
 ghost use Rattle.std.specs.Prelude.{◌≡◌, ◌++◌, ◌∷◌, [], OnOk, OnErr, IsOkUnless, MatchOption, length, vec_len, vec_capacity, ◌<◌, ◌≤◌};
 ghost use Rattle.sctp_base.specs.declared.error.Error.TheVariants.{ErrOutOfMemory};
-ghost use Rattle.sctp_stream.specs.Numbers.{IsOnlyPlace, IsAbsent};
+ghost use Rattle.sctp_lists.specs.Lists.{those};
+ghost use Rattle.sctp_stream.specs.Numbers.{IsOnlyPlace, IsAbsent, is_other};
 
 use sctp_base::error::Result;
 use std::alloc::Global;
@@ -58,6 +59,19 @@ impl StreamNumbers {
         self.places.insert(stream, place)?;
         put(&mut self.numbers, stream);
         Ok(())
+    }
+
+    /// Takes a number out, where it is among them; the later ones move up by one. It takes no memory.
+    pub fn remove(&mut self, stream: u16)
+        ensures { self.new ≡ those (is_other stream) self.old }
+    {
+        let Some(place) = self.places.remove(&stream) else {
+            return;
+        };
+        self.numbers.remove(place);
+        for later in place..self.numbers.len() {
+            let _ = self.places.insert(self.numbers[later], later);
+        }
     }
 }
 

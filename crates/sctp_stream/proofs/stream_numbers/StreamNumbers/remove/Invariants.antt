@@ -1,0 +1,12 @@
+use Rattle.std.proofs.Common.{◌≡◌, length}
+use Rattle.sctp_lists.specs.Lists.{those}
+use Rattle.sctp_stream.specs.Numbers.{is_other}
+use Rattle.sctp_stream.proofs.Removals.{IsLowered}
+use Rattle.sctp_stream.proofs.stream_numbers.StreamNumbers.remove.Given as goal
+
+abbrev pub invariant-loop-later : goal.invariant-loop-later
+invariant-loop-later l = record {
+  lowered : IsLowered l.self-inside.places l.self-inside.numbers.items l.later;
+  rest : l.self-inside.numbers.items ≡ those (is_other l.fn.stream) l.fn.self;
+  end : length l.self-inside.numbers.items ≡ l.later-end;
+}
