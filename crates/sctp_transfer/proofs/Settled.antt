@@ -1,6 +1,6 @@
 -- What was acknowledged has no bytes, and stays so.
 use Rattle.std.proofs.Common.{◌≡◌, ℕ, ◌+◌, Bool, true, false, List, [], ◌∷◌, ◌++◌, length, map, Option, Some, None, refl, ap, sym, subst, ◌∙◌, arith, Result, Ok, Err}
-use Rattle.std.specs.Prelude.{IfOk, OnErr, if◌then◌else◌, ◌==◌, ◌&&◌, ◌||◌, not, slice_get}
+use Rattle.std.specs.Prelude.{IfOk, OnErr, if◌then◌else◌, ◌==◌, ◌&&◌, ◌||◌, not, find, slice_get}
 use Rattle.std.proofs.lemmas.List.Sums.{sum_by-cons}
 use Rattle.std.proofs.lemmas.Option.{none-some}
 use Rattle.sctp_lists.specs.Lists.{change_where, those, inserted}
@@ -175,6 +175,13 @@ resent-settled tsn c f a = record { ordered = a.ordered; unordered = a.unordered
 pub resend-settled : (tsn : ℕ) (f g : Flight) (r : Result ChunkPayloadData SenderRefusal) → IfOk r (λ c. g ≡ resent tsn c f) → OnErr r (g ≡ f) → IsAllSettled f.queue → IsAllSettled g.queue
 resend-settled tsn f g (Ok c) ok err a = subst (λ (h : Flight). IsAllSettled h.queue) (sym ok) (resent-settled tsn c f a)
 resend-settled tsn f g (Err e) ok err a = subst (λ (h : Flight). IsAllSettled h.queue) (sym err) a
+
+pub count-settled : (tsn : ℕ) (f g : Flight) → ((c : ChunkPayloadData) → find (has_tsn tsn) f.queue.inflight.chunks ≡ Some c → g ≡ resent tsn c f) → (find (has_tsn tsn) f.queue.inflight.chunks ≡ None → g ≡ f) → IsAllSettled f.queue → IsAllSettled g.queue
+count-settled tsn f g some none a = by (find (has_tsn tsn) f.queue.inflight.chunks) refl
+  where
+    by : (o : Option ChunkPayloadData) → find (has_tsn tsn) f.queue.inflight.chunks ≡ o → IsAllSettled g.queue
+    by (Some c) e = subst (λ (h : Flight). IsAllSettled h.queue) (sym (some c e)) (resent-settled tsn c f a)
+    by None e = subst (λ (h : Flight). IsAllSettled h.queue) (sym (none e)) a
 
 pub sack-settled : (s : Sack) (f : Flight) → IsAllSettled f.queue → IsAllSettled (after_sack s f).queue
 sack-settled s f a = by (is_outdated s f)

@@ -1,12 +1,13 @@
 -- Streams that are found by their numbers: the one at a place, and what its change makes of them all.
 use Rattle.std.proofs.Common.{◌≡◌, ℕ, zero, suc, ◌<◌, Bool, true, false, List, [], ◌∷◌, length, get_or, map, Some, None, refl, ap, sym, ◌∙◌, arith}
-use Rattle.std.specs.Prelude.{◌==◌, find, slice_get, slice_index_or, slice_set}
+use Rattle.std.specs.List.{remove}
+use Rattle.std.specs.Prelude.{◌==◌, not, if◌then◌else◌, find, slice_get, slice_index_or, slice_set}
 use Rattle.std.proofs.lemmas.Bool.{eq-eqb, ne_eqb}
 use Rattle.std.proofs.lemmas.Option.{slice_get_within}
-use Rattle.sctp_lists.specs.Lists.{change_where}
-use Rattle.sctp_lists.proofs.Edits.{OnlyAt, change_where-only, change_where-none, find-none}
+use Rattle.sctp_lists.specs.Lists.{change_where, those}
+use Rattle.sctp_lists.proofs.Edits.{OnlyAt, change_where-only, change_where-none, find-none, those-only, those-none}
 use Rattle.sctp_lists.proofs.Getting.{length-mapped}
-use Rattle.sctp_stream.specs.Numbers.{IsOnlyPlace, IsAbsent}
+use Rattle.sctp_stream.specs.Numbers.{IsOnlyPlace, IsAbsent, is_other}
 
 one : {A : Type 0} {a b : A} → Some a ≡ Some b → a ≡ b
 one e = cc
@@ -28,6 +29,15 @@ module _ {X : Type 0} (num : X → ℕ) where
   number-at (l ∷ ls) zero d lt = refl
   number-at (l ∷ ls) (suc k) d lt = number-at ls k d (omega (arith, lt))
 
+  -- the numbers of those with another number
+  others : (s : ℕ) (ls : List X) → those (is_other s) (map num ls) ≡ map num (those (λ l. not (num l == s)) ls)
+  others s [] = refl
+  others s (l ∷ ls) = by (not (num l == s)) (others s ls)
+    where
+      by : {ms : List ℕ} {ks : List X} (b : Bool) → ms ≡ map num ks → (if b then num l ∷ ms else ms) ≡ map num (if b then l ∷ ks else ks)
+      by true e = ap (λ ns. num l ∷ ns) e
+      by false e = e
+
   module _ (ls : List X) (ns : List ℕ) (is : ns ≡ map num ls) (s : ℕ) where
     -- no stream has the number
     differs : IsAbsent s ns → (k : ℕ) (d : X) → k < length ls → (num (slice_index_or ls k d) == s) ≡ false
@@ -38,6 +48,9 @@ module _ {X : Type 0} (num : X → ℕ) where
 
     pub absent-change : (f : X → X) → IsAbsent s ns → ls ≡ change_where (λ l. num l == s) f ls
     absent-change f absent = sym (change_where-none (λ l. num l == s) f ls (differs absent))
+
+    pub absent-those : IsAbsent s ns → ls ≡ those (λ l. not (num l == s)) ls
+    absent-those absent = sym (those-none (λ l. num l == s) ls (differs absent))
 
     module _ (k : ℕ) (p : IsOnlyPlace s ns k) where
       pub inside : k < length ls
@@ -62,3 +75,10 @@ module _ {X : Type 0} (num : X → ℕ) where
 
       pub numbers-stay : (x y : X) → x ≡ slice_index_or ls k x → num y ≡ num x → ns ≡ map num (slice_set ls k y)
       numbers-stay x y e same = is ∙ sym (map-set_same num ls k y x (same ∙ ap num e))
+
+      -- the one at the place is taken out, and no other
+      pub without : remove ls k ≡ those (λ l. not (num l == s)) ls
+      without = sym (those-only (λ l. num l == s) ls k only)
+
+      pub numbers-without : those (is_other s) ns ≡ map num (remove ls k)
+      numbers-without = ap (those (is_other s)) is ∙ others s ls ∙ ap (map num) (sym without)

@@ -1,7 +1,7 @@
 -- The receiving half of a link as callers see it (RFC 4960 6; RFC 3758 3.6).
 use Rattle.std.specs.Prelude.{◌≡◌, ◌⊎◌, ℕ, Bool, not, ◌&&◌, ◌||◌, if◌then◌else◌, ◌-◌, List, [], ◌∷◌, ◌++◌, length, map, take, slice_get, Option, Some, None, is_some}
 use Rattle.std.specs.List.{find}
-use Rattle.sctp_lists.specs.Lists.{change_where}
+use Rattle.sctp_lists.specs.Lists.{change_where, those}
 use Rattle.sctp_lists.specs.Serial.{at_or_before}
 use Rattle.sctp_chunks.specs.declared.chunk.chunk_payload_data.ChunkPayloadData.{ChunkPayloadData}
 use Rattle.sctp_chunks.specs.ChunkSet.{ChunkSet}
@@ -48,6 +48,10 @@ is_open s r = is_some (stream_of s r)
 
 abbrev pub opened : ℕ → Reception → Reception
 opened s r = record r { streams = r.streams ++ new_stream s r.max_message_size ∷ [] }
+
+-- the stream is open no more: what came on it and was not read is dropped
+abbrev pub closed : ℕ → Reception → Reception
+closed s r = record r { streams = those (λ l. not (has_number s l)) r.streams }
 
 -- ## DATA
 

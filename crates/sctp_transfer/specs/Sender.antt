@@ -1,7 +1,7 @@
 -- The sending half of a link as callers see it (RFC 4960 6.1, 6.2.1, 6.9).
 use Rattle.std.specs.Prelude.{ℕ, ◌+◌, ◌^◌, Bool, not, ◌||◌, nat_lt, if◌then◌else◌, List, [], ◌∷◌, ◌++◌, Option, Some, None, is_some}
 use Rattle.std.specs.List.{find}
-use Rattle.sctp_lists.specs.Lists.{change_where}
+use Rattle.sctp_lists.specs.Lists.{change_where, those}
 use Rattle.sctp_chunks.specs.declared.chunk.chunk_payload_data.ChunkPayloadData.{ChunkPayloadData}
 use Rattle.sctp_chunks.specs.declared.chunk.chunk_payload_data.PayloadProtocolIdentifier.{PayloadProtocolIdentifier}
 use Rattle.sctp_chunks.specs.declared.chunk.chunk_payload_data.PayloadProtocolIdentifier.TheVariants.{Unknown}
@@ -40,6 +40,10 @@ with_flight f t = record t { flight = f }
 
 abbrev pub opened : ℕ → Transmission → Transmission
 opened s t = with_streams (t.streams ++ new_stream s t.fragment_size t.max_message_size Unknown ∷ []) t
+
+-- the stream is open no more; what waits and is in flight stays
+abbrev pub closed : ℕ → Transmission → Transmission
+closed s t = with_streams (those (λ l. not (has_number s l)) t.streams) t
 
 abbrev pub with_mode_on : ℕ → Bool → ReliabilityType → ℕ → Transmission → Transmission
 with_mode_on s unordered reliability value t = with_streams (change_where (has_number s) (with_mode unordered reliability value) t.streams) t

@@ -51,7 +51,7 @@ impl Receiver {
     ghost use Rattle.sctp_chunks.specs.ForwardTsn.{forward_tsn_of};
     ghost use Rattle.sctp_reassembly.specs.reassembly_queue.ReassemblyQueue.{at_start};
     ghost use Rattle.sctp_transfer.specs.TsnFilter.{mark};
-    ghost use Rattle.sctp_transfer.specs.Receiver.{at_first, stream_of, is_open, opened, data_refusal, IsRefusedFor, takes_memory, arrival_of, Takes, message_on, after_read, forward_refusal, forwarded_of, after_forward};
+    ghost use Rattle.sctp_transfer.specs.Receiver.{at_first, stream_of, is_open, opened, closed, data_refusal, IsRefusedFor, takes_memory, arrival_of, Takes, message_on, after_read, forward_refusal, forwarded_of, after_forward};
 
     /// A receiver with no stream, to which nothing came. The first TSN is expected next, and a message may have
     /// `max_message_size` bytes. It takes no memory.
@@ -78,6 +78,15 @@ impl Receiver {
             return Err(ReceiverRefusal::StreamOpen);
         }
         self.streams.open(self.alloc, stream, self.max_message_size)
+    }
+
+    /// Closes a stream, where it is open: what came on it and was not read is dropped, and its counters go. What comes on it
+    /// later is refused, until it is opened again; the TSNs stay as they are. Where it is not open nothing changes. It takes no
+    /// memory.
+    pub fn close(&mut self, stream: u16)
+        ensures { self.new ≡ closed stream self.old }
+    {
+        self.streams.close(stream);
     }
 
     /// Takes a DATA chunk (RFC 4960 6.2): `New`, where its TSN came for the first time, and `Repeat`, where it came

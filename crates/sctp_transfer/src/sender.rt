@@ -20,7 +20,7 @@ use sctp_chunks::chunk::chunk_payload_data::{
 };
 use sctp_chunks::chunk::chunk_selective_ack::ChunkSelectiveAck;
 use sctp_queues::outbound_queue::OutboundQueue;
-use sctp_stream::stream::DataChannelStats;
+use sctp_stream::stream::{DataChannelStats, StreamState};
 use std::alloc::Global;
 use std::marker::Model;
 
@@ -60,7 +60,7 @@ impl Sender {
     ghost use Rattle.sctp_transfer.specs.GivingUp.{abandon_refusal};
     ghost use Rattle.sctp_transfer.specs.Outgoing.{fragments_with_mode};
     ghost use Rattle.sctp_transfer.specs.Totals.{bytes_in};
-    ghost use Rattle.sctp_transfer.specs.Sender.{with_nothing, with_tsn, stream_of, is_open, opened, with_mode_on, with_flight, write_refusal, written_to, after_acked, after_abandon, after_expire};
+    ghost use Rattle.sctp_transfer.specs.Sender.{with_nothing, with_tsn, stream_of, is_open, opened, closed, with_mode_on, with_flight, write_refusal, written_to, after_acked, after_abandon, after_expire};
 
     /// A sender with no stream, whose first chunk gets the first TSN. It takes no memory.
     /// Precondition: `fragment_size` is 1 to 65,519.
@@ -96,6 +96,14 @@ impl Sender {
             self.fragment_size,
             self.max_message_size,
         )
+    }
+
+    /// Closes a stream, where it is open: its state, its amount and its counters go. What waits and is in flight of it stays, and
+    /// goes on as before. Where it is not open nothing changes. It takes no memory.
+    pub fn close(&mut self, stream: u16)
+        ensures { self.new ≡ closed stream self.old }
+    {
+        self.streams.close(stream);
     }
 
     /// Sets the mode of later writes to a stream. Refuses with `StreamUnknown`, where it is not open. It takes no memory.
@@ -360,6 +368,18 @@ impl Sender {
         self.flight.resend(tsn)
     }
 
+    /// Counts one more sending of the chunk in flight with a TSN, up to the greatest u32; none is counted where the TSN is not in
+    /// flight. It takes no memory.
+    pub fn count_resend(&mut self, tsn: u32)
+        ensures counted { (c : ChunkPayloadData)
+            → find (has_tsn tsn) self.old.flight.queue.inflight.chunks ≡ Some c
+            → self.new ≡ with_flight (resent tsn c self.old.flight) self.old }
+        ensures none { find (has_tsn tsn) self.old.flight.queue.inflight.chunks ≡ None
+            → self.new ≡ self.old }
+    {
+        self.flight.count_resend(tsn);
+    }
+
     /// Takes a SACK, whatever a peer claims (RFC 4960 6.2.1): what is acknowledged is what it reports and is in flight.
     /// Answers the chunks that it reports anew, each with its stream and its bytes, which are all that leave; each stream has so
     /// much less. One whose cumulative TSN is before the last one is out of date, and changes nothing. The refusals are those of
@@ -382,11 +402,42 @@ impl Sender {
         Ok(released)
     }
 
+    /// The TSN that the next chunk gets (RFC 4960 6.1).
+    pub fn next_tsn(&self) -> u32
+        ensures { result ≡ self.now.flight.next_tsn }
+    {
+        self.flight.next_tsn()
+    }
+
+    /// How many bytes a fragment has at most: 1 to 65,519.
+    pub fn fragment_size(&self) -> u32
+        ensures value { result ≡ self.now.fragment_size }
+        ensures some { 0 < result }
+        ensures short { result ≤ 65519 }
+    {
+        self.fragment_size
+    }
+
+    /// How many bytes a message has at most.
+    pub fn max_message_size(&self) -> u32
+        ensures { result ≡ self.now.max_message_size }
+    {
+        self.max_message_size
+    }
+
     /// What waits and what is in flight.
     pub fn outbound(&self) -> &OutboundQueue
         ensures { result.now ≡ self.now.flight.queue }
     {
         self.flight.queue()
+    }
+
+    /// The state of a stream: its mode, its number for the next ordered message, its amount and its counters; None where it is
+    /// not open.
+    pub fn stream(&self, stream: u16) -> Option<&StreamState>
+        ensures { option_copied result ≡ stream_of stream self.now }
+    {
+        self.streams.find(stream)
     }
 
     /// How many bytes of a stream wait or are in flight; None where it is not open.

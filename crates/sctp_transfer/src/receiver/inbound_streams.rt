@@ -1,8 +1,8 @@
 //! The streams of a receiver.
 
-ghost use Rattle.std.specs.Prelude.{◌≡◌, ◌==◌, ◌<◌, ◌++◌, ◌∷◌, ◌⊎◌, [], true, false, Some, None, OnOk, OnErr, IfOk, IfErr, IsOk, IsOkUnless, MatchOption, length, map, find, option_map, option_copied, slice_get, if◌then◌else◌};
+ghost use Rattle.std.specs.Prelude.{◌≡◌, ◌==◌, ◌<◌, ◌++◌, ◌∷◌, ◌⊎◌, [], not, true, false, Some, None, OnOk, OnErr, IfOk, IfErr, IsOk, IsOkUnless, MatchOption, length, map, find, option_map, option_copied, slice_get, if◌then◌else◌};
 ghost use Rattle.sctp_base.specs.declared.error.Error.TheVariants.{ErrOutOfMemory};
-ghost use Rattle.sctp_lists.specs.Lists.{change_where};
+ghost use Rattle.sctp_lists.specs.Lists.{change_where, those};
 ghost use Rattle.sctp_transfer.specs.declared.receiver.refusal.ReceiverRefusal.TheVariants.{MessageTooLarge, OutOfMemory};
 ghost use Rattle.sctp_stream.specs.Numbers.{IsOnlyPlace, IsAbsent};
 ghost use Rattle.sctp_reassembly.specs.reassembly_queue.ReassemblyQueue.{is_too_large};
@@ -179,6 +179,17 @@ impl InboundStreams {
         self.numbers.push(stream)?;
         put(&mut self.items, opened);
         Ok(())
+    }
+
+    /// Closes a stream, where it is open: what came on it and was not read is dropped. It takes no memory.
+    pub fn close(&mut self, stream: u16)
+        ensures { self.new ≡ those (λ l. not (has_number stream l)) self.old }
+    {
+        let Some(place) = self.numbers.place_of(stream) else {
+            return;
+        };
+        self.items.remove(place);
+        self.numbers.remove(stream);
     }
 
     /// Takes a fragment on the stream at a place. Refuses with `MessageTooLarge`, exactly where its

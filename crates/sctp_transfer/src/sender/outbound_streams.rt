@@ -3,7 +3,7 @@
 ghost use Rattle.std.specs.Prelude.{◌≡◌, ◌<◌, ◌≤◌, ◌^◌, ◌++◌, ◌∷◌, [], ℕ, List, not, true, false, Some, None, OnOk, OnErr, IfOk, IfErr, IsOkUnless, MatchOption, length, map, find, option_copied};
 ghost use Rattle.sctp_base.specs.declared.error.Error.TheVariants.{ErrOutOfMemory};
 ghost use Rattle.sctp_chunks.specs.declared.chunk.chunk_payload_data.PayloadProtocolIdentifier.TheVariants.{Unknown};
-ghost use Rattle.sctp_lists.specs.Lists.{change_where};
+ghost use Rattle.sctp_lists.specs.Lists.{change_where, those};
 ghost use Rattle.sctp_serial.specs.DataChunks.{bytes_of};
 ghost use Rattle.sctp_transfer.specs.declared.sender.refusal.SenderRefusal.TheVariants.{OutOfMemory};
 ghost use Rattle.sctp_stream.specs.Numbers.{IsOnlyPlace, IsAbsent};
@@ -100,6 +100,17 @@ impl OutboundStreams {
         self.numbers.push(stream)?;
         put(&mut self.items, opened);
         Ok(())
+    }
+
+    /// Closes a stream, where it is open. It takes no memory.
+    pub fn close(&mut self, stream: u16)
+        ensures { self.new ≡ those (λ l. not (has_number stream l)) self.old }
+    {
+        let Some(place) = self.numbers.place_of(stream) else {
+            return;
+        };
+        self.items.remove(place);
+        self.numbers.remove(stream);
     }
 
     /// Sets the mode of later writes of the stream at a place. It takes no memory.
