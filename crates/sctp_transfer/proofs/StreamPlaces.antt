@@ -32,11 +32,11 @@ module _ {X : Type 0} (num : X → ℕ) where
   -- the numbers of those with another number
   others : (s : ℕ) (ls : List X) → those (is_other s) (map num ls) ≡ map num (those (λ l. not (num l == s)) ls)
   others s [] = refl
-  others s (l ∷ ls) = by (not (num l == s)) (others s ls)
+  others s (l ∷ ls) = by (not (num l == s)) (those (is_other s) (map num ls)) (those (λ l. not (num l == s)) ls) (others s ls)
     where
-      by : {ms : List ℕ} {ks : List X} (b : Bool) → ms ≡ map num ks → (if b then num l ∷ ms else ms) ≡ map num (if b then l ∷ ks else ks)
-      by true e = ap (λ ns. num l ∷ ns) e
-      by false e = e
+      by : (b : Bool) (ms : List ℕ) (ks : List X) → ms ≡ map num ks → (if b then num l ∷ ms else ms) ≡ map num (if b then l ∷ ks else ks)
+      by true ms ks e = ap (λ ns. num l ∷ ns) e
+      by false ms ks e = e
 
   module _ (ls : List X) (ns : List ℕ) (is : ns ≡ map num ls) (s : ℕ) where
     -- no stream has the number
