@@ -1,7 +1,5 @@
-use Rattle.std.proofs.Common.{rules, ap, ◌∙◌, subst, sym}
-use Rattle.sctp_lists.specs.Lists.{those}
-use Rattle.sctp_stream.specs.Numbers.{is_other}
-use Rattle.sctp_transfer.specs.Outgoing.{number, numbers_of, has_number}
+use Rattle.std.proofs.Common.{rules, ap, ◌∙◌, sym}
+use Rattle.sctp_transfer.specs.Outgoing.{number, numbers_of}
 use Rattle.sctp_transfer.proofs.StreamPlaces.{absent-those, inside, without, numbers-without}
 use Rattle.sctp_transfer.proofs.sender.outbound_streams.OutboundStreams.close.Goals as goal
 
