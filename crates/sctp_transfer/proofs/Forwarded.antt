@@ -7,7 +7,7 @@ use Rattle.sctp_chunks.specs.ForwardTsn.{ForwardTsn}
 use Rattle.sctp_reassembly.specs.reassembly_queue.ReassemblyQueue.{ReassemblyState, after_ordered_skip}
 use Rattle.sctp_stream.specs.declared.stream.DataChannelStats.{DataChannelStats}
 use Rattle.sctp_transfer.specs.declared.receiver.inbound_streams.InboundStream.{InboundStream}
-use Rattle.sctp_transfer.specs.Inbound.{number, numbers_of, has_number, with_queue, ssn_forwarded, named_forwarded, loose_forwarded, ssns_of, skipped_each, names_forwarded}
+use Rattle.sctp_transfer.specs.Inbound.{number, numbers_of, has_number, with_queue, ssn_forwarded, named_forwarded, loose_forwarded, ssns_of, skipped_each, stream_forwarded}
 use Rattle.sctp_transfer.specs.Receiver.{Reception, followed, after_forward, is_stale}
 
 -- ## Skips
@@ -23,26 +23,26 @@ skipped-size (ssn ∷ ssns) q = skipped-size ssns (after_ordered_skip ssn q)
 -- ## Names
 
 -- the first name, and then the others
-first-name : (n : ChunkForwardTsnStream) (ns : List ChunkForwardTsnStream) (l : InboundStream) → names_forwarded ns (if has_number n.identifier l then ssn_forwarded n.sequence l else l) ≡ names_forwarded (n ∷ ns) l
+first-name : (n : ChunkForwardTsnStream) (ns : List ChunkForwardTsnStream) (l : InboundStream) → stream_forwarded ns (if has_number n.identifier l then ssn_forwarded n.sequence l else l) ≡ stream_forwarded (n ∷ ns) l
 first-name n ns l = by (l.queue.si == n.identifier)
   where
     others : List ChunkForwardTsnStream
     others = those (λ m. l.queue.si == m.identifier) ns
 
-    by : (b : Bool) → names_forwarded ns (if b then ssn_forwarded n.sequence l else l) ≡ with_queue (skipped_each (map (λ m. m.sequence) (if b then n ∷ others else others)) l.queue) l
+    by : (b : Bool) → stream_forwarded ns (if b then ssn_forwarded n.sequence l else l) ≡ with_queue (skipped_each (map (λ m. m.sequence) (if b then n ∷ others else others)) l.queue) l
     by true = refl
     by false = refl
 
-first-names : (n : ChunkForwardTsnStream) (ns : List ChunkForwardTsnStream) (ls : List InboundStream) → map (names_forwarded ns) (change_where (has_number n.identifier) (ssn_forwarded n.sequence) ls) ≡ map (names_forwarded (n ∷ ns)) ls
+first-names : (n : ChunkForwardTsnStream) (ns : List ChunkForwardTsnStream) (ls : List InboundStream) → map (stream_forwarded ns) (change_where (has_number n.identifier) (ssn_forwarded n.sequence) ls) ≡ map (stream_forwarded (n ∷ ns)) ls
 first-names n ns [] = refl
-first-names n ns (l ∷ ls) = rw (first-name n ns l) (ap (λ xs. names_forwarded (n ∷ ns) l ∷ xs) (first-names n ns ls))
+first-names n ns (l ∷ ls) = rw (first-name n ns l) (ap (λ xs. stream_forwarded (n ∷ ns) l ∷ xs) (first-names n ns ls))
 
-no-names : (ls : List InboundStream) → ls ≡ map (names_forwarded []) ls
+no-names : (ls : List InboundStream) → ls ≡ map (stream_forwarded []) ls
 no-names [] = refl
 no-names (l ∷ ls) = ap (λ xs. l ∷ xs) (no-names ls)
 
 -- each stream gives up what the names have for it
-pub named-mapped : (ns : List ChunkForwardTsnStream) (ls : List InboundStream) → named_forwarded ns ls ≡ map (names_forwarded ns) ls
+pub named-mapped : (ns : List ChunkForwardTsnStream) (ls : List InboundStream) → named_forwarded ns ls ≡ map (stream_forwarded ns) ls
 named-mapped [] ls = no-names ls
 named-mapped (n ∷ ns) ls = named-mapped ns (change_where (has_number n.identifier) (ssn_forwarded n.sequence) ls) ∙ first-names n ns ls
 
@@ -51,10 +51,10 @@ twice-mapped g f [] = refl
 twice-mapped g f (l ∷ ls) = ap (λ xs. g (f l) ∷ xs) (twice-mapped g f ls)
 
 -- and then the loose fragments
-pub loose-mapped : (tsn : ℕ) (ns : List ChunkForwardTsnStream) (ls : List InboundStream) → map (loose_forwarded tsn) (named_forwarded ns ls) ≡ map (λ l. loose_forwarded tsn (names_forwarded ns l)) ls
-loose-mapped tsn ns ls = ap (map (loose_forwarded tsn)) (named-mapped ns ls) ∙ twice-mapped (loose_forwarded tsn) (names_forwarded ns) ls
+pub loose-mapped : (tsn : ℕ) (ns : List ChunkForwardTsnStream) (ls : List InboundStream) → map (loose_forwarded tsn) (named_forwarded ns ls) ≡ map (λ l. loose_forwarded tsn (stream_forwarded ns l)) ls
+loose-mapped tsn ns ls = ap (map (loose_forwarded tsn)) (named-mapped ns ls) ∙ twice-mapped (loose_forwarded tsn) (stream_forwarded ns) ls
 
-pub followed-mapped : (f : ForwardTsn) (r : Reception) → (followed f r).streams ≡ map (λ l. loose_forwarded f.new_cumulative_tsn (names_forwarded f.streams l)) r.streams
+pub followed-mapped : (f : ForwardTsn) (r : Reception) → (followed f r).streams ≡ map (λ l. loose_forwarded f.new_cumulative_tsn (stream_forwarded f.streams l)) r.streams
 followed-mapped f r = loose-mapped f.new_cumulative_tsn f.streams r.streams
 
 -- ## What stays
@@ -65,8 +65,8 @@ module _ {B : Type 0} (p : InboundStream → B) where
   stays-mapped f same [] = refl
   stays-mapped f same (l ∷ ls) = rw (same l) (ap (λ xs. p l ∷ xs) (stays-mapped f same ls))
 
-  pub stays-named : (ns : List ChunkForwardTsnStream) → ((l : InboundStream) → p (names_forwarded ns l) ≡ p l) → (ls : List InboundStream) → map p (named_forwarded ns ls) ≡ map p ls
-  stays-named ns same ls = ap (map p) (named-mapped ns ls) ∙ stays-mapped (names_forwarded ns) same ls
+  pub stays-named : (ns : List ChunkForwardTsnStream) → ((l : InboundStream) → p (stream_forwarded ns l) ≡ p l) → (ls : List InboundStream) → map p (named_forwarded ns ls) ≡ map p ls
+  stays-named ns same ls = ap (map p) (named-mapped ns ls) ∙ stays-mapped (stream_forwarded ns) same ls
 
 pub named-numbers : (ns : List ChunkForwardTsnStream) (ls : List InboundStream) → numbers_of (named_forwarded ns ls) ≡ numbers_of ls
 named-numbers ns ls = stays-named number ns (λ l. skipped-number (ssns_of l.queue.si ns) l.queue) ls
@@ -78,7 +78,7 @@ pub named-sizes : (ns : List ChunkForwardTsnStream) (ls : List InboundStream) �
 named-sizes ns ls = stays-named (λ l. l.queue.max_message_size) ns (λ l. skipped-size (ssns_of l.queue.si ns) l.queue) ls
 
 pub named-length : (ns : List ChunkForwardTsnStream) (ls : List InboundStream) → length (named_forwarded ns ls) ≡ length ls
-named-length ns ls = ap length (named-mapped ns ls) ∙ mapped (names_forwarded ns) ls
+named-length ns ls = ap length (named-mapped ns ls) ∙ mapped (stream_forwarded ns) ls
   where
     mapped : (f : InboundStream → InboundStream) (xs : List InboundStream) → length (map f xs) ≡ length xs
     mapped f [] = refl

@@ -77,8 +77,8 @@ skipped_each [] q = q
 skipped_each (ssn ∷ ssns) q = skipped_each ssns (after_ordered_skip ssn q)
 
 -- all that the names have for a stream, at once
-abbrev pub names_forwarded : List ChunkForwardTsnStream → InboundStream → InboundStream
-names_forwarded ns l = with_queue (skipped_each (ssns_of l.queue.si ns) l.queue) l
+abbrev pub stream_forwarded : List ChunkForwardTsnStream → InboundStream → InboundStream
+stream_forwarded ns l = with_queue (skipped_each (ssns_of l.queue.si ns) l.queue) l
 
 abbrev pub loose_forwarded : ℕ → InboundStream → InboundStream
 loose_forwarded tsn l = record l { queue = after_unordered_skip tsn l.queue }

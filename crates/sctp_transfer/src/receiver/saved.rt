@@ -23,7 +23,13 @@ impl Model for SavedReceiver {
 
     ghost Value = { Reception };
 
-    ghost view = { λ s. record { streams = s.streams.items; cumulative_tsn = s.filter.cumulative_tsn; beyond = s.filter.beyond; duplicates = s.filter.duplicates; max_message_size = s.max_message_size } };
+    ghost view = { λ s. record {
+      streams = s.streams.items;
+      cumulative_tsn = s.filter.cumulative_tsn;
+      beyond = s.filter.beyond;
+      duplicates = s.filter.duplicates;
+      max_message_size = s.max_message_size;
+    } };
 }
 
 impl Receiver {
