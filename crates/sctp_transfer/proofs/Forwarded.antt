@@ -1,14 +1,13 @@
 -- What a FORWARD-TSN makes of each stream of a receiver: one map over them.
-use Rattle.std.proofs.Common.{◌≡◌, refl, ap, ◌∙◌, ℕ, Bool, true, false, List, [], ◌∷◌, map, length, suc}
-use Rattle.std.specs.Prelude.{◌==◌, if◌then◌else◌}
+use Rattle.std.proofs.Common.{◌≡◌, refl, ap, ◌∙◌, ℕ, Bool, true, false, List, [], ◌∷◌, map, length, suc, Option, Some, None}
+use Rattle.std.specs.Prelude.{◌==◌, if◌then◌else◌, find, option_map}
 use Rattle.sctp_lists.specs.Lists.{change_where, those}
 use Rattle.sctp_chunks.specs.declared.chunk.chunk_forward_tsn.ChunkForwardTsnStream.{ChunkForwardTsnStream}
 use Rattle.sctp_chunks.specs.ForwardTsn.{ForwardTsn}
 use Rattle.sctp_reassembly.specs.reassembly_queue.ReassemblyQueue.{ReassemblyState, after_ordered_skip}
-use Rattle.sctp_stream.specs.declared.stream.DataChannelStats.{DataChannelStats}
 use Rattle.sctp_transfer.specs.declared.receiver.inbound_streams.InboundStream.{InboundStream}
 use Rattle.sctp_transfer.specs.Inbound.{number, numbers_of, has_number, with_queue, ssn_forwarded, named_forwarded, loose_forwarded, ssns_of, skipped_each, stream_forwarded}
-use Rattle.sctp_transfer.specs.Receiver.{Reception, followed, after_forward, is_stale}
+use Rattle.sctp_transfer.specs.Receiver.{Reception, stream_of, followed, after_forward, is_stale}
 
 -- ## Skips
 
@@ -56,6 +55,19 @@ loose-mapped tsn ns ls = ap (map (loose_forwarded tsn)) (named-mapped ns ls) ∙
 
 pub followed-mapped : (f : ForwardTsn) (r : Reception) → (followed f r).streams ≡ map (λ l. loose_forwarded f.new_cumulative_tsn (stream_forwarded f.streams l)) r.streams
 followed-mapped f r = loose-mapped f.new_cumulative_tsn f.streams r.streams
+
+-- ## A stream by its number
+
+pub found-mapped : (s : ℕ) (f : InboundStream → InboundStream) → ((l : InboundStream) → number (f l) ≡ number l) → (ls : List InboundStream) → find (has_number s) (map f ls) ≡ option_map f (find (has_number s) ls)
+found-mapped s f same [] = refl
+found-mapped s f same (l ∷ ls) = ap (λ n. if n == s then Some (f l) else find (has_number s) (map f ls)) (same l) ∙ by (has_number s l) (found-mapped s f same ls)
+  where
+    by : (b : Bool) → find (has_number s) (map f ls) ≡ option_map f (find (has_number s) ls) → (if b then Some (f l) else find (has_number s) (map f ls)) ≡ option_map f (if b then Some l else find (has_number s) ls)
+    by true rest = refl
+    by false rest = rest
+
+pub found-followed : (s : ℕ) (f : ForwardTsn) (r : Reception) → stream_of s (followed f r) ≡ option_map (λ l. loose_forwarded f.new_cumulative_tsn (stream_forwarded f.streams l)) (stream_of s r)
+found-followed s f r = ap (find (has_number s)) (followed-mapped f r) ∙ found-mapped s (λ l. loose_forwarded f.new_cumulative_tsn (stream_forwarded f.streams l)) (λ l. skipped-number (ssns_of l.queue.si f.streams) l.queue) r.streams
 
 -- ## What stays
 
