@@ -8,6 +8,7 @@ use Rattle.sctp_reassembly.specs.reassembly_queue.ReassemblyQueue.{ReassemblySta
 use Rattle.sctp_transfer.specs.declared.receiver.inbound_streams.InboundStream.{InboundStream}
 use Rattle.sctp_transfer.specs.Inbound.{number, numbers_of, has_number, with_queue, ssn_forwarded, named_forwarded, loose_forwarded, ssns_of, skipped_each, stream_forwarded}
 use Rattle.sctp_transfer.specs.Receiver.{Reception, stream_of, followed, after_forward, is_stale}
+use Rattle.sctp_transfer.proofs.Inbounds.{stays-mapped}
 
 -- ## Skips
 
@@ -71,14 +72,8 @@ found-followed s f r = ap (find (has_number s)) (followed-mapped f r) ∙ found-
 
 -- ## What stays
 
--- what each stream keeps under a map, all keep
-module _ {B : Type 0} (p : InboundStream → B) where
-  pub stays-mapped : (f : InboundStream → InboundStream) → ((l : InboundStream) → p (f l) ≡ p l) → (ls : List InboundStream) → map p (map f ls) ≡ map p ls
-  stays-mapped f same [] = refl
-  stays-mapped f same (l ∷ ls) = rw (same l) (ap (λ xs. p l ∷ xs) (stays-mapped f same ls))
-
-  pub stays-named : (ns : List ChunkForwardTsnStream) → ((l : InboundStream) → p (stream_forwarded ns l) ≡ p l) → (ls : List InboundStream) → map p (named_forwarded ns ls) ≡ map p ls
-  stays-named ns same ls = ap (map p) (named-mapped ns ls) ∙ stays-mapped (stream_forwarded ns) same ls
+pub stays-named : {B : Type 0} (p : InboundStream → B) (ns : List ChunkForwardTsnStream) → ((l : InboundStream) → p (stream_forwarded ns l) ≡ p l) → (ls : List InboundStream) → map p (named_forwarded ns ls) ≡ map p ls
+stays-named p ns same ls = ap (map p) (named-mapped ns ls) ∙ stays-mapped p (stream_forwarded ns) same ls
 
 pub named-numbers : (ns : List ChunkForwardTsnStream) (ls : List InboundStream) → numbers_of (named_forwarded ns ls) ≡ numbers_of ls
 named-numbers ns ls = stays-named number ns (λ l. skipped-number (ssns_of l.queue.si ns) l.queue) ls
