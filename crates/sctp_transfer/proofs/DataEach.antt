@@ -45,6 +45,15 @@ takes-keeps c New old new t =
     (ap (λ (r : Reception). numbers_of r.streams) t.after ∙ changed-numbers c.stream_identifier t.queue same old.streams, ap (λ (r : Reception). r.max_message_size) t.after)
 takes-keeps c Repeat old new t = (ap (λ (r : Reception). numbers_of r.streams) t, ap (λ (r : Reception). r.max_message_size) t)
 
+pub each-keeps : (cs : List ChunkPayloadData) (bs : List Arrival) (old new : Reception) → TakesEach cs bs old new → (numbers_of new.streams ≡ numbers_of old.streams) × (new.max_message_size ≡ old.max_message_size)
+each-keeps [] [] old new t = (ap (λ (r : Reception). numbers_of r.streams) t, ap (λ (r : Reception). r.max_message_size) t)
+each-keeps [] (b ∷ bs) old new t = absurd t
+each-keeps (c ∷ cs) [] old new t = absurd t
+each-keeps (c ∷ cs) (b ∷ bs) old new t =
+    let one = takes-keeps c b old t.0 t.1.0.taken in
+    let others = each-keeps cs bs t.0 new t.1.1 in
+    (others.0 ∙ one.0, others.1 ∙ one.1)
+
 -- the next one is refused, or memory ran out
 pub stops : (cs : List ChunkPayloadData) (bs : List Arrival) (i : ℕ) (c : ChunkPayloadData) (old mid : Reception) (e : ReceiverRefusal) → TakesEach (take i cs) bs old mid → slice_get cs i ≡ Some c → IsRefusedFor (data_refusal c mid) e → (e ≡ OutOfMemory) ⊎ StopsAt cs old e
 stops cs bs i c old mid e t at (inl h) = inl h.0

@@ -1,6 +1,7 @@
 -- What a fragment and a FORWARD-TSN make of the streams of a receiver.
 use Rattle.std.proofs.Common.{◌≡◌, sym, ap, ◌∙◌, refl, ℕ, List, [], ◌∷◌, map, Bool, true, false, Some, None, inl, inr, Result, Ok, Err, subst}
 use Rattle.std.specs.Prelude.{if◌then◌else◌, find, slice_index_or, slice_set, OnOk, OnErr, IfErr}
+use Rattle.sctp_lists.specs.Lists.{change_where}
 use Rattle.sctp_chunks.specs.declared.chunk.chunk_payload_data.ChunkPayloadData.{ChunkPayloadData}
 use Rattle.sctp_reassembly.specs.reassembly_queue.ReassemblyQueue.{ReassemblyState, is_too_large}
 use Rattle.sctp_stream.specs.Numbers.{IsOnlyPlace}
@@ -18,9 +19,19 @@ pushed-number c old new p = by c.unordered p
     by false e = ap (λ (q : ReassemblyState). q.si) e
     by true e = ap (λ (q : ReassemblyState). q.si) e.1.1
 
-pub numbers-mapped : (f : InboundStream → InboundStream) → ((l : InboundStream) → number (f l) ≡ number l) → (ls : List InboundStream) → numbers_of (map f ls) ≡ numbers_of ls
-numbers-mapped f same [] = refl
-numbers-mapped f same (l ∷ ls) = ap (λ n. n ∷ numbers_of (map f ls)) (same l) ∙ ap (λ ns. number l ∷ ns) (numbers-mapped f same ls)
+-- what each stream keeps, all keep
+module _ {B : Type 0} (p : InboundStream → B) (f : InboundStream → InboundStream) (same : (l : InboundStream) → p (f l) ≡ p l) where
+  pub stays-mapped : (ls : List InboundStream) → map p (map f ls) ≡ map p ls
+  stays-mapped [] = refl
+  stays-mapped (l ∷ ls) = ap (λ x. x ∷ map p (map f ls)) (same l) ∙ ap (λ xs. p l ∷ xs) (stays-mapped ls)
+
+  pub stays-changed : (q : InboundStream → Bool) (ls : List InboundStream) → map p (change_where q f ls) ≡ map p ls
+  stays-changed q [] = refl
+  stays-changed q (l ∷ ls) = ap (λ x. x ∷ map p (change_where q f ls)) (by (q l)) ∙ ap (λ xs. p l ∷ xs) (stays-changed q ls)
+    where
+      by : (b : Bool) → p (if b then f l else l) ≡ p l
+      by true = same l
+      by false = refl
 
 -- a push on the stream at a place
 module _ (c : ChunkPayloadData) (ls : List InboundStream) (k : ℕ) (p : IsOnlyPlace c.stream_identifier (numbers_of ls) k) (x y : InboundStream) (at : x ≡ slice_index_or ls k x) (rest : y ≡ record x { queue = y.queue }) where

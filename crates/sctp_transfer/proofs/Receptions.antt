@@ -10,9 +10,10 @@ use Rattle.sctp_chunks.specs.declared.chunk.chunk_payload_data.ChunkPayloadData.
 use Rattle.sctp_transfer.specs.declared.receiver.inbound_streams.InboundStream.{InboundStream}
 use Rattle.sctp_transfer.specs.declared.receiver.refusal.ReceiverRefusal.TheVariants.{StreamUnknown, TsnOpposite}
 use Rattle.sctp_stream.specs.Numbers.{IsOnlyPlace, IsAbsent}
-use Rattle.sctp_transfer.specs.Inbound.{number, numbers_of, new_stream}
+use Rattle.sctp_transfer.specs.Inbound.{number, numbers_of, has_number, new_stream, stream_read}
 use Rattle.sctp_transfer.specs.TsnFilter.{Filter, has_come, is_opposite}
-use Rattle.sctp_transfer.specs.Receiver.{Reception, stream_of, is_open, filter_of, data_refusal, stream_refusal, takes_memory}
+use Rattle.sctp_transfer.specs.Receiver.{Reception, stream_of, is_open, filter_of, data_refusal, stream_refusal, takes_memory, after_read}
+use Rattle.sctp_transfer.proofs.Inbounds.{stays-changed}
 use Rattle.sctp_transfer.proofs.StreamPlaces.{absent-find, inside, found}
 
 -- a receiver as its parts say
@@ -32,6 +33,9 @@ module _ (r : Reception) (s : ℕ) where
   pub open-is : (o : Option ℕ) → MatchOption o (IsAbsent s (numbers_of r.streams)) (IsOnlyPlace s (numbers_of r.streams)) → is_open s r ≡ is_some o
   open-is None absent = ap is_some (closed absent)
   open-is (Some k) p = open-at k p
+
+pub read-numbers : (s : ℕ) (r : Reception) → numbers_of (after_read s r).streams ≡ numbers_of r.streams
+read-numbers s r = stays-changed number stream_read (λ l. refl) (has_number s) r.streams
 
 -- a chunk of a stream that is not open
 pub unknown : (c : ChunkPayloadData) (r : Reception) → has_come c.tsn (filter_of r) ≡ false → is_opposite c.tsn (filter_of r) ≡ false → stream_of c.stream_identifier r ≡ None → data_refusal c r ≡ Some StreamUnknown

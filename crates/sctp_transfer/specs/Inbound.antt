@@ -1,7 +1,7 @@
 -- The streams of a receiver.
 use Rattle.std.specs.Prelude.{◌≡◌, ℕ, ◌==◌, Bool, true, false, List, [], ◌∷◌, map, Option, Some, None}
 use Rattle.std.specs.List.{find}
-use Rattle.sctp_lists.specs.Lists.{change_where}
+use Rattle.sctp_lists.specs.Lists.{change_where, those}
 use Rattle.sctp_chunks.specs.declared.chunk.chunk_payload_data.ChunkPayloadData.{ChunkPayloadData}
 use Rattle.sctp_chunks.specs.declared.chunk.chunk_forward_tsn.ChunkForwardTsnStream.{ChunkForwardTsnStream}
 use Rattle.sctp_chunks.specs.ChunkSet.{ChunkSet}
@@ -66,6 +66,19 @@ ssn_forwarded ssn l = record l { queue = after_ordered_skip ssn l.queue }
 abbrev pub named_forwarded : List ChunkForwardTsnStream → List InboundStream → List InboundStream
 named_forwarded [] ls = ls
 named_forwarded (n ∷ ns) ls = named_forwarded ns (change_where (has_number n.identifier) (ssn_forwarded n.sequence) ls)
+
+-- the stream sequence numbers that the names have for a stream, in their order
+abbrev pub ssns_of : ℕ → List ChunkForwardTsnStream → List ℕ
+ssns_of s ns = map (λ n. n.sequence) (those (λ n. s == n.identifier) ns)
+
+-- one ordered skip after another
+abbrev pub skipped_each : List ℕ → ReassemblyState → ReassemblyState
+skipped_each [] q = q
+skipped_each (ssn ∷ ssns) q = skipped_each ssns (after_ordered_skip ssn q)
+
+-- all that the names have for a stream, at once
+abbrev pub stream_forwarded : List ChunkForwardTsnStream → InboundStream → InboundStream
+stream_forwarded ns l = with_queue (skipped_each (ssns_of l.queue.si ns) l.queue) l
 
 abbrev pub loose_forwarded : ℕ → InboundStream → InboundStream
 loose_forwarded tsn l = record l { queue = after_unordered_skip tsn l.queue }

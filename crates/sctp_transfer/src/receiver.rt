@@ -9,6 +9,7 @@ pub mod data_each;
 pub mod inbound_streams;
 pub mod refusal;
 pub mod sack_out;
+pub mod saved;
 pub mod tsn_filter;
 
 use self::arrival::{Arrival, Forwarded};

@@ -15,8 +15,7 @@ impl Receiver {
     /// Takes DATA chunks one after another, each as `data` takes it, and answers what each was. The
     /// first one that is refused refuses them all: the receiver is as it was before the first.
     ///
-    /// Of two or more the streams are copied before, so that all can be put back; one alone copies
-    /// nothing.
+    /// Of two or more the receiver is saved before; for one alone nothing is copied.
     pub fn data_each(
         &mut self,
         chunks: &[ChunkPayloadData],
@@ -29,12 +28,10 @@ impl Receiver {
         if chunks.len() == 1 {
             return self.take_one(&chunks[0]);
         }
-        let streams = self.streams.save(self.alloc)?;
-        let filter = self.filter.try_clone(self.alloc)?;
+        let saved = self.save()?;
         let taken = self.take_each(chunks);
         if taken.is_err() {
-            self.streams.put_back(streams);
-            self.filter = filter;
+            self.restore(saved);
         }
         taken
     }
