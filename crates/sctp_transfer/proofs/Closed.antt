@@ -26,7 +26,7 @@ module _ {X : Type 0} (p : X → Bool) where
 
   -- one more that passes is taken out again
   taken-back : (xs : List X) (y : X) → p y ≡ true → find p xs ≡ None → those (λ x. not (p x)) (xs ++ y ∷ []) ≡ xs
-  taken-back xs y yes none = those-append (λ x. not (p x)) xs (y ∷ []) ∙ ap (λ b. those (λ x. not (p x)) xs ++ (if not b then y ∷ [] else [])) yes ∙ append-nil (those (λ x. not (p x)) xs) ∙ none-found xs none
+  taken-back xs y passes none = those-append (λ x. not (p x)) xs (y ∷ []) ∙ ap (λ b. those (λ x. not (p x)) xs ++ (if not b then y ∷ [] else [])) passes ∙ append-nil (those (λ x. not (p x)) xs) ∙ none-found xs none
 
 -- a stream of a sender that was not open is opened and closed
 pub sender-as-before : (s : ℕ) (t : Transmission) → find (outgoing.has_number s) t.streams ≡ None → sender.closed s (sender.opened s t) ≡ t
