@@ -1,3 +1,4 @@
 pub mod Joined
 pub mod Aligned
 pub mod Taking
+pub mod Growing
