@@ -1,4 +1,5 @@
 pub mod Joined
 pub mod Aligned
-pub mod Taking
 pub mod Growing
+pub mod Taking
+pub mod Taken
