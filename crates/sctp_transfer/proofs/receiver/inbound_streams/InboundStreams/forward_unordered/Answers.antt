@@ -1,5 +1,5 @@
 use Rattle.std.proofs.Common.{sym, ap, ◌∙◌, refl}
-use Rattle.sctp_transfer.specs.Inbound.{numbers_of, loose_forwarded}
+use Rattle.sctp_transfer.specs.Inbound.{number, numbers_of, loose_forwarded}
 use Rattle.sctp_transfer.proofs.Inbounds.{stays-mapped}
 use Rattle.sctp_transfer.proofs.receiver.inbound_streams.InboundStreams.forward_unordered.Goals as goal
 
