@@ -1,6 +1,6 @@
 -- The names of a FORWARD-TSN that arrives, one after another: what they have for a stream, and what becomes of its queue.
-use Rattle.std.proofs.Common.{◌≡◌, ℕ, ◌+◌, ◌-◌, ◌≤◌, ◌^◌, ◌%◌, Bool, true, false, List, [], ◌∷◌, map, Some, None, refl, ap, sym, ◌∙◌, arith}
-use Rattle.std.specs.Prelude.{if◌then◌else◌, ◌==◌, ◌&&◌, not, is_some, slice_get}
+use Rattle.std.proofs.Common.{◌≡◌, ℕ, zero, suc, ◌+◌, ◌-◌, ◌<◌, ◌≤◌, ◌^◌, ◌%◌, Bool, true, false, List, [], ◌∷◌, length, map, Some, None, refl, ap, sym, ◌∙◌, arith}
+use Rattle.std.specs.Prelude.{if◌then◌else◌, ◌==◌, ◌&&◌, not, is_some, slice_get, slice_index_or}
 use Rattle.sctp_lists.specs.Lists.{those}
 use Rattle.sctp_lists.proofs.Cases.{same-yes, same-is}
 use Rattle.sctp_lists.proofs.More.{same_test}
@@ -27,12 +27,12 @@ use Rattle.sctp_link.specs.declared.open_stream.OpenStream.{OpenStream}
 use Rattle.sctp_link.specs.declared.skipped.Named.{Named}
 use Rattle.sctp_link.specs.declared.record.Message.{Message}
 use Rattle.sctp_link.specs.Linked.{State, IsLinked, IsOpenStream}
-use Rattle.sctp_link.specs.Records.{message_record, progress_of}
+use Rattle.sctp_link.specs.Records.{message_record, progress_of, stream_record}
 use Rattle.sctp_link.specs.Skips.{index_in, message_in, pair_in, named_from, none_named, gone_to, skipped_by}
 use Rattle.sctp_link.specs.Texts.{name_with}
 use Rattle.sctp_link.proofs.upkeep.Facts.{facts}
 use Rattle.sctp_link.proofs.skipping.SkipComes
-use Rattle.sctp_link.proofs.skipping.SkipComes.{index-is, names-are, skips-in, Skips}
+use Rattle.sctp_link.proofs.skipping.SkipComes.{index-is, names-are, open-at, skips-in, Skips}
 
 -- the stream sequence numbers that names have for a stream, in their order
 abbrev pub ssns_of : ℕ → List ChunkForwardTsnStream → List ℕ
@@ -56,7 +56,7 @@ pairs_of w names = map name_with (map (name_of w) names)
 -- a message that can be named stands on its stream
 named-on : (w : World) (upto s n : ℕ) → Sender (shape w) → IsNamable (shape w) upto n → (s == (message_at w n).stream) ≡ is_ordered_on w s n
 named-on w upto s n sender i =
-    turn s (message_at w n).stream ∙ ap (λ b. ((message_at w n).stream == s) && b) (sym live) ∙ sym (plain ((message_at w n).stream == s))
+    turn s (message_at w n).stream ∙ plain ((message_at w n).stream == s) ∙ ap (λ b. ((message_at w n).stream == s) && b) (sym live)
   where
     turn : (a b : ℕ) → (a == b) ≡ (b == a)
     turn a b = same_test (a == b) (b == a) (λ e. ap (λ k. k == a) (sym (same-is a b e)) ∙ same-yes a) (λ e. ap (λ k. k == b) (sym (same-is b a e)) ∙ same-yes b)
@@ -83,6 +83,19 @@ names-in-turn w upto s (n ∷ ns) sender fit =
     step : (b : Bool) → map (λ (p : ChunkForwardTsnStream). p.sequence) rest ≡ map (λ n. index_of w n % 2 ^ 16) (on_stream w s ns) → map (λ (p : ChunkForwardTsnStream). p.sequence) (if b then name_with (name_of w n) ∷ rest else rest) ≡ map (λ n. index_of w n % 2 ^ 16) (if b then n ∷ on_stream w s ns else on_stream w s ns)
     step true ih = ap (λ i. i ∷ map (λ (p : ChunkForwardTsnStream). p.sequence) rest) ssn ∙ ap (λ is. index_of w n % 2 ^ 16 ∷ is) ih
     step false ih = ih
+
+-- the pairs that a link makes of its messages are these
+pub pairs-are : (sum : List ℕ → ℕ) (x : State) (l : IsLinked sum x) (ms : List Message) → x.world.messages ≡ map message_record ms → x.progress ≡ map progress_of ms → (upto : ℕ) (names : List ℕ) → NamesFit (shape x.world) upto names → map (pair_in ms) names ≡ pairs_of x.world names
+pairs-are sum x l ms messages_are progress_are upto [] fit = refl
+pairs-are sum x l ms messages_are progress_are upto (n ∷ ns) fit =
+    let w = x.world in
+    let stream : (message_in ms n).stream ≡ (message_at w n).stream = ap (λ rs. (message_at (record w { messages = rs }) n).stream) (sym messages_are) in
+    let index = index-is sum x l ms messages_are progress_are upto n fit.0 in
+    let ssn = ap (λ b. (if b then index_of w n else (message_at w n).before) % 2 ^ 16) fit.0.ordered in
+    ap (λ s. name_with (s, index_in ms n % 2 ^ 16) ∷ map (pair_in ms) ns) stream
+    ∙ ap (λ i. name_with ((message_at w n).stream, i % 2 ^ 16) ∷ map (pair_in ms) ns) index
+    ∙ ap (λ i. name_with ((message_at w n).stream, i) ∷ map (pair_in ms) ns) (sym ssn)
+    ∙ ap (λ ps. name_with (name_of w n) ∷ ps) (pairs-are sum x l ms messages_are progress_are upto ns fit.1)
 
 -- ## What becomes of a queue
 
@@ -120,7 +133,16 @@ gone-is end q = step (end == 0)
 pub each-is-gone : (ssns : List ℕ) (end : ℕ) (q : ReassemblyState) → held_after_ordered_skips ssns q.held ≡ gone_forward end q.held → skipped_each ssns q ≡ gone_to end q
 each-is-gone ssns end q same = each-is ssns q ∙ ap (λ held. with_held held q) same ∙ sym (gone-is end q)
 
--- ## What becomes of a stream
+-- ## What becomes of the streams
+
+-- two functions that agree at each place
+mapped-agree : {A B : Type 0} (f g : A → B) (xs : List A) → ((j : ℕ) (d : A) → j < length xs → f (slice_index_or xs j d) ≡ g (slice_index_or xs j d)) → map f xs ≡ map g xs
+mapped-agree f g [] same = refl
+mapped-agree f g (x ∷ xs) same = ap (λ y. y ∷ map f xs) (same 0 x (omega arith)) ∙ ap (λ ys. g x ∷ ys) (mapped-agree f g xs (λ j d lt. same (suc j) d (omega arith)))
+
+mapped-twice : {A B C : Type 0} (f : A → B) (g : B → C) (xs : List A) → map g (map f xs) ≡ map (λ x. g (f x)) xs
+mapped-twice f g [] = refl
+mapped-twice f g (x ∷ xs) = ap (λ ys. g (f x) ∷ ys) (mapped-twice f g xs)
 
 module _ (sum : List ℕ → ℕ) (x : State) (l : IsLinked sum x) (k upto : ℕ) (names : List ℕ) (none : refusal_of x.world (E.Arrive k) ≡ None) (e : slice_get x.world.network k ≡ Some (Forward upto names)) (counts : cumulative x.world ≤ upto) where
   abbrev w : World
@@ -146,3 +168,11 @@ module _ (sum : List ℕ → ℕ) (x : State) (l : IsLinked sum x) (k upto : ℕ
         ap (λ t. loose_forwarded (tsn_of w upto) (with_queue (skipped_each (ssns_of t (pairs_of w names)) y.inbound.queue) y.inbound)) i.si
         ∙ ap (λ q. loose_forwarded (tsn_of w upto) (with_queue q y.inbound)) (queue-in-turn s r y.inbound.queue o i.held)
         ∙ ap (λ (n : Named). loose_forwarded (tsn_of w upto) (with_queue (gone_to n.end y.inbound.queue) y.inbound)) (sym named)
+
+    -- and all of them
+    pub inbounds-in-turn : x.world.streams ≡ map stream_record x.open_streams → map (λ i. loose_forwarded (tsn_of w upto) (stream_forwarded (pairs_of w names) i)) (map (λ (y : OpenStream). y.inbound) x.open_streams) ≡ map (λ (y : OpenStream). y.inbound) (map (skipped_by ms names (tsn_of w upto)) x.open_streams)
+    inbounds-in-turn streams_are =
+        mapped-twice (λ (y : OpenStream). y.inbound) (λ i. loose_forwarded (tsn_of w upto) (stream_forwarded (pairs_of w names) i)) x.open_streams
+        ∙ mapped-agree (λ (y : OpenStream). loose_forwarded (tsn_of w upto) (stream_forwarded (pairs_of w names) y.inbound)) (λ (y : OpenStream). (skipped_by ms names (tsn_of w upto) y).inbound) x.open_streams
+        (λ j d lt. let o = open-at x streams_are j d lt in inbound-in-turn (slice_index_or x.open_streams j d) o.0 o.1 (l.open_streams j d lt))
+        ∙ sym (mapped-twice (skipped_by ms names (tsn_of w upto)) (λ (y : OpenStream). y.inbound) x.open_streams)
