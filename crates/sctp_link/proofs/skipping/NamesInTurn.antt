@@ -1,15 +1,15 @@
 -- The names of a FORWARD-TSN that arrives, one after another: what they have for a stream, and what becomes of its queue.
-use Rattle.std.proofs.Common.{◌≡◌, ℕ, zero, suc, ◌+◌, ◌-◌, ◌<◌, ◌≤◌, ◌^◌, ◌%◌, Bool, true, false, List, [], ◌∷◌, length, map, Some, None, refl, ap, sym, ◌∙◌, arith}
+use Rattle.std.proofs.Common.{◌≡◌, ℕ, suc, ◌-◌, ◌<◌, ◌≤◌, ◌^◌, ◌%◌, Bool, true, false, List, [], ◌∷◌, length, map, Some, None, refl, ap, sym, ◌∙◌, arith}
 use Rattle.std.specs.Prelude.{if◌then◌else◌, ◌==◌, ◌&&◌, not, is_some, slice_get, slice_index_or}
 use Rattle.sctp_lists.specs.Lists.{those}
 use Rattle.sctp_lists.proofs.Cases.{same-yes, same-is}
 use Rattle.sctp_lists.proofs.More.{same_test}
 use Rattle.sctp_chunks.specs.declared.chunk.chunk_forward_tsn.ChunkForwardTsnStream.{ChunkForwardTsnStream}
-use Rattle.sctp_reassembly.specs.reassembly_queue.ReassemblyQueue.{Reassembly, ReassemblyState, set_bytes, is_passed, after_ordered_skip, after_unordered_skip, held_after_ordered_skip, held_after_ordered_skips}
+use Rattle.sctp_reassembly.specs.reassembly_queue.ReassemblyQueue.{Reassembly, ReassemblyState, set_bytes, is_passed, after_ordered_skip, held_after_ordered_skip, held_after_ordered_skips}
 use Rattle.sctp_reassembly.proofs.lemmas.reassembly_queue.CountLemmas
 use Rattle.sctp_model.specs.declared.event.Event.TheVariants as E
 use Rattle.sctp_model.specs.World.{World, StreamRecord, Forward}
-use Rattle.sctp_model.specs.Messages.{message_at, stream_at, is_open, is_ordered_on, index_of, ssn_of, tsn_of}
+use Rattle.sctp_model.specs.Messages.{message_at, stream_at, is_ordered_on, index_of, ssn_of, tsn_of}
 use Rattle.sctp_model.specs.Receiver.{cumulative}
 use Rattle.sctp_model.specs.Contents.{name_of}
 use Rattle.sctp_model.specs.Steps.{refusal_of}
@@ -28,7 +28,7 @@ use Rattle.sctp_link.specs.declared.skipped.Named.{Named}
 use Rattle.sctp_link.specs.declared.record.Message.{Message}
 use Rattle.sctp_link.specs.Linked.{State, IsLinked, IsOpenStream}
 use Rattle.sctp_link.specs.Records.{message_record, progress_of, stream_record}
-use Rattle.sctp_link.specs.Skips.{index_in, message_in, pair_in, named_from, none_named, gone_to, skipped_by}
+use Rattle.sctp_link.specs.Skips.{index_in, message_in, pair_in, gone_to, skipped_by}
 use Rattle.sctp_link.specs.Texts.{name_with}
 use Rattle.sctp_link.proofs.upkeep.Facts.{facts}
 use Rattle.sctp_link.proofs.skipping.SkipComes

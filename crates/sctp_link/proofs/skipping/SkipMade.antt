@@ -1,6 +1,6 @@
 -- A FORWARD-TSN is made: what it may name, what it says, and the link after it.
-use Rattle.std.proofs.Common.{◌≡◌, ℕ, zero, suc, ◌+◌, ◌<◌, ◌≤◌, ◌^◌, ◌%◌, true, false, List, [], ◌∷◌, ◌++◌, length, map, None, refl, ap, sym, ◌∙◌, inl, inr, arith, not}
-use Rattle.std.specs.Prelude.{◌⊎◌, if◌then◌else◌, ◌&&◌, nat_le, nat_lt, slice_get, slice_index_or, Some}
+use Rattle.std.proofs.Common.{◌≡◌, ℕ, zero, suc, ◌+◌, ◌<◌, ◌≤◌, ◌^◌, true, false, List, [], ◌∷◌, ◌++◌, length, map, None, refl, ap, sym, ◌∙◌, inl, inr, arith, not}
+use Rattle.std.specs.Prelude.{◌⊎◌, ◌&&◌, nat_le, nat_lt, slice_get, slice_index_or, Some}
 use Rattle.std.specs.List.{list_all}
 use Rattle.std.proofs.Math.Path.{subst}
 use Rattle.std.proofs.lemmas.Bool.{cases_lt}
@@ -15,8 +15,8 @@ use Rattle.sctp_model.specs.declared.event.Event.{Event}
 use Rattle.sctp_model.specs.declared.event.LinkRefusal.TheVariants.{SkipUnassigned, SkipNames}
 use Rattle.sctp_model.specs.World.{World, Forward}
 use Rattle.sctp_model.specs.World as W
-use Rattle.sctp_model.specs.Messages.{message_at, message_of, index_of, belongs_to, slots_where, tsn_of}
-use Rattle.sctp_model.specs.Contents.{name_of, contents_of}
+use Rattle.sctp_model.specs.Messages.{message_of, belongs_to, slots_where, tsn_of}
+use Rattle.sctp_model.specs.Contents.{contents_of}
 use Rattle.sctp_model.specs.Changes.{with_datagram}
 use Rattle.sctp_model.specs.Steps.{StandsFor, refusal_of, reply_to, after, can_name, skip_refusal}
 use Rattle.sctp_model.proofs.sender.Network.{NamesFit, names-fit}
@@ -26,8 +26,8 @@ use Rattle.sctp_ties.proofs.acknowledging.QuietSender.{outbound-same, same-self}
 use Rattle.sctp_link.specs.declared.record.Message.{Message}
 use Rattle.sctp_link.specs.declared.record.Slot.{Slot}
 use Rattle.sctp_link.specs.Records.{message_record, slot_record, progress_of}
-use Rattle.sctp_link.specs.Skips.{index_in, message_in, pair_in}
-use Rattle.sctp_link.specs.Texts.{IsDatagram, packet_with, name_with}
+use Rattle.sctp_link.specs.Skips.{pair_in}
+use Rattle.sctp_link.specs.Texts.{IsDatagram, packet_with}
 use Rattle.sctp_link.specs.Linked.{State, IsLinked}
 use Rattle.sctp_link.proofs.upkeep.Facts.{facts, stands-then}
 use Rattle.sctp_link.proofs.upkeep.Frames.{stream-same, texts-more}
