@@ -298,7 +298,7 @@ module _ (sum : List ℕ → ℕ) (x : State) (l : IsLinked sum x) (k upto : ℕ
   quiet : QuietSender.SameToSender w v
   quiet = subst (QuietSender.SameToSender w) (sym (ap (datagram_received w) e)) (QuietSender.same-skip w upto names)
 
-  spans : (s : ℕ) → is_open w s ≡ true → IsSpan w s (map (index_of w) (on_stream w s names)) × IsSpan (with_skip w upto names) s (map (index_of w) (on_stream w s names))
+  pub spans : (s : ℕ) → is_open w s ≡ true → IsSpan w s (map (index_of w) (on_stream w s names)) × IsSpan (with_skip w upto names) s (map (index_of w) (on_stream w s names))
   spans s o =
       let two =
       over sum x (λ (u : World). refusal_of u (E.Arrive k) ≡ None → slice_get u.network k ≡ Some (Forward upto names) → cumulative u ≤ upto → is_open u s ≡ true → IsSpan u s (map (index_of u) (passing (is_ordered_on u s) names)) × IsSpan (datagram_received u (Some (Forward upto names))) s (map (index_of u) (passing (is_ordered_on u s) names))) l
