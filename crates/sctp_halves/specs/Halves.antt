@@ -1,0 +1,169 @@
+-- Both halves of a link as one value.
+use Rattle.std.specs.Prelude.{◌≡◌, ℕ, Bool, if◌then◌else◌, List, [], ◌∷◌, ◌++◌, length, map, take, Option, Some, None, is_some}
+use Rattle.std.specs.List.{find}
+use Rattle.sctp_lists.specs.Lists.{change_where}
+use Rattle.sctp_chunks.specs.declared.chunk.chunk_payload_data.ChunkPayloadData.{ChunkPayloadData}
+use Rattle.sctp_chunks.specs.declared.chunk.chunk_payload_data.PayloadProtocolIdentifier.{PayloadProtocolIdentifier}
+use Rattle.sctp_chunks.specs.declared.chunk.chunk_payload_data.ReliabilityType.{ReliabilityType}
+use Rattle.sctp_chunks.specs.ForwardTsn.{ForwardTsn}
+use Rattle.sctp_chunks.specs.SelectiveAck.{Sack}
+use Rattle.sctp_outbound.specs.outbound_queue.OutboundQueue.{expired_of, sent_next, with_message}
+use Rattle.sctp_transfer.specs.declared.receiver.arrival.Arrival.{Arrival}
+use Rattle.sctp_transfer.specs.declared.receiver.arrival.Arrival.TheVariants.{New, Repeat}
+use Rattle.sctp_transfer.specs.Flight as Flight
+use Rattle.sctp_transfer.specs.Flight.{Flight, with_queue, next_after_send, after_giving_up, after_sack, released_by}
+use Rattle.sctp_transfer.specs.Inbound as Inbound
+use Rattle.sctp_transfer.specs.Outgoing as Outgoing
+use Rattle.sctp_transfer.specs.Outgoing.{fragments_with_mode}
+use Rattle.sctp_transfer.specs.Receiver.{Reception, filter_of, is_stale, arrival_of, data_refusal}
+use Rattle.sctp_transfer.specs.Sender.{Transmission}
+use Rattle.sctp_transfer.specs.TsnFilter.{Filter, preceding_tsn, with_tsn, with_duplicate, skipped_to}
+use Rattle.sctp_halves.specs.declared.halves.progress.StreamProgress.{StreamProgress}
+use Rattle.sctp_halves.specs.declared.halves.receiving.Saved.{Saved}
+use Rattle.sctp_halves.specs.Streams.{OpenStream, Keeps, has_number, new_open_stream, on_state, on_inbound, wrote_to, less_by, released, expired_on, forwarded_on}
+
+-- the open streams in the order in which they were opened; what waits and what is in flight; the TSNs that came; how long a
+-- fragment is, and how long a message may be
+pub record Sides : Type 0 where
+  pub streams : List OpenStream
+  pub flight : Flight
+  pub cumulative_tsn : ℕ
+  pub beyond : List ℕ
+  pub duplicates : List ℕ
+  pub fragment_size : ℕ
+  pub max_message_size : ℕ
+
+-- each part has the same streams, in the same order
+pub record IsAligned (numbers : List ℕ) (sender : Transmission) (receiver : Reception) (progress : List StreamProgress) : Type 0 where
+  pub sends : numbers ≡ Outgoing.numbers_of sender.streams
+  pub receives : numbers ≡ Inbound.numbers_of receiver.streams
+  pub progresses : numbers ≡ map (λ p. p.number) progress
+  pub size : receiver.max_message_size ≡ sender.max_message_size
+
+-- what is the sender's, and what is the receiver's
+abbrev pub transmission_of : Sides → Transmission
+transmission_of x = record { streams = map (λ l. l.state) x.streams; flight = x.flight; fragment_size = x.fragment_size; max_message_size = x.max_message_size }
+
+abbrev pub reception_of : Sides → Reception
+reception_of x = record { streams = map (λ l. l.inbound) x.streams; cumulative_tsn = x.cumulative_tsn; beyond = x.beyond; duplicates = x.duplicates; max_message_size = x.max_message_size }
+
+-- nothing was opened
+abbrev pub fresh : ℕ → ℕ → ℕ → Sides
+fresh tsn size largest = record { streams = []; flight = Flight.at_first tsn; cumulative_tsn = preceding_tsn tsn; beyond = []; duplicates = []; fragment_size = size; max_message_size = largest }
+
+abbrev pub stream_in : ℕ → Sides → Option OpenStream
+stream_in s x = find (has_number s) x.streams
+
+abbrev pub is_open : ℕ → Sides → Bool
+is_open s x = is_some (stream_in s x)
+
+-- the stream with a number changes
+abbrev pub on_stream : ℕ → (OpenStream → OpenStream) → Sides → Sides
+on_stream s f x = record x { streams = change_where (has_number s) f x.streams }
+
+abbrev pub with_flight : Flight → Sides → Sides
+with_flight f x = record x { flight = f }
+
+abbrev pub with_filter_of : Filter → Sides → Sides
+with_filter_of f x = record x { cumulative_tsn = f.cumulative_tsn; beyond = f.beyond; duplicates = f.duplicates }
+
+abbrev pub opened_on : ℕ → Sides → Sides
+opened_on s x = record x { streams = x.streams ++ new_open_stream s x.fragment_size x.max_message_size ∷ [] }
+
+abbrev pub in_mode : ℕ → Bool → ReliabilityType → ℕ → Sides → Sides
+in_mode s unordered reliability value x = on_stream s (on_state (Outgoing.with_mode unordered reliability value)) x
+
+-- ## Sending
+
+-- a write to a stream: its fragments wait
+abbrev pub written_on : OpenStream → ℕ → PayloadProtocolIdentifier → List ℕ → Sides → Sides
+written_on l s ppi bytes x = with_flight (with_queue x.flight (with_message (fragments_with_mode l.state ppi bytes) x.flight.queue)) (on_stream s (wrote_to ppi bytes) x)
+
+-- the next fragment goes in flight
+abbrev pub next_sent : ℕ → Flight → Flight
+next_sent now f = record f { queue = sent_next f.queue f.next_tsn now; next_tsn = next_after_send f }
+
+abbrev pub sack_taken : Sack → Sides → Sides
+sack_taken s x = record x { streams = released (released_by s x.flight) x.streams; flight = after_sack s x.flight }
+
+-- a message is given up, and its stream has so many bytes less
+abbrev pub given_up_on : Option ℕ → ℕ → ℕ → Sides → Sides
+given_up_on message stream bytes x = with_flight (after_giving_up message x.flight) (on_stream stream (less_by bytes) x)
+
+-- the message that begins with a chunk is gone, unsent
+abbrev pub expired_unsent : ChunkPayloadData → ℕ → Sides → Sides
+expired_unsent c bytes x = with_flight (with_queue x.flight (expired_of (Some c) x.flight.queue)) (on_stream c.stream_identifier (expired_on c.unordered bytes) x)
+
+-- ## Receiving
+
+-- a chunk with a new TSN is taken
+pub record Accepts (c : ChunkPayloadData) (number : ℕ) (old new : Sides) : Type 0 where
+  pub stream : OpenStream
+  pub found : stream_in c.stream_identifier old ≡ Some stream
+  pub kept : OpenStream
+  pub keeps : Keeps c number stream kept
+  pub after : new ≡ with_filter_of (with_tsn c.tsn (filter_of (reception_of old))) (on_stream c.stream_identifier (λ _. kept) old)
+
+abbrev pub repeated : ℕ → Sides → Sides
+repeated tsn x = with_filter_of (with_duplicate tsn (filter_of (reception_of x))) x
+
+-- what a DATA chunk makes, where its TSN is new and where it is not
+abbrev pub Takes : ChunkPayloadData → ℕ → Arrival → Sides → Sides → Type 0
+Takes c number New old new = Accepts c number old new
+Takes c number Repeat old new = new ≡ repeated c.tsn old
+
+abbrev pub reported : Sides → Sides
+reported x = record x { duplicates = [] }
+
+-- a FORWARD-TSN that is past what came is followed
+abbrev pub followed : ForwardTsn → Sides → Sides
+followed f x = with_filter_of (skipped_to f.new_cumulative_tsn (filter_of (reception_of x))) (record x { streams = map (on_inbound (forwarded_on f.streams f.new_cumulative_tsn)) x.streams })
+
+abbrev pub after_forward : ForwardTsn → Sides → Sides
+after_forward f x = if is_stale f (reception_of x) then x else followed f x
+
+-- ## Several DATA chunks, one after another
+
+-- none is refused, whatever the ones before it made; each has the number of its message
+abbrev pub CanTake : List ChunkPayloadData → List ℕ → Sides → Type 0
+CanTake [] ns x = Unit {0}
+CanTake (c ∷ cs) [] x = ⊥
+CanTake (c ∷ cs) (n ∷ ns) x =
+    (data_refusal c (reception_of x) ≡ None) × (is_open c.stream_identifier x ≡ true)
+    × ((y : Sides) → Takes c n (arrival_of c (reception_of x)) x y → CanTake cs ns y)
+
+-- one is taken, with its answer
+pub record TakesFirst (c : ChunkPayloadData) (n : ℕ) (a : Arrival) (old mid : Sides) : Type 0 where
+  pub answer : a ≡ arrival_of c (reception_of old)
+  pub taken : Takes c n a old mid
+
+abbrev pub TakesEach : List ChunkPayloadData → List ℕ → List Arrival → Sides → Sides → Type 0
+TakesEach [] ns [] old new = new ≡ old
+TakesEach (c ∷ cs) (n ∷ ns) (a ∷ as) old new = (mid : Sides) × (TakesFirst c n a old mid × TakesEach cs ns as mid new)
+TakesEach [] ns (a ∷ as) old new = ⊥
+TakesEach (c ∷ cs) [] as old new = ⊥
+TakesEach (c ∷ cs) (n ∷ ns) [] old new = ⊥
+
+-- of a stream at most what came has changed, and further messages are recorded as whole
+pub record GrowsOn (old new : OpenStream) : Type 0 where
+  pub rest : new ≡ record old { inbound = new.inbound; whole = new.whole }
+  pub number : new.inbound.queue.si ≡ old.inbound.queue.si
+  pub whole : take (length old.whole) new.whole ≡ old.whole
+
+abbrev pub GrowEach : List OpenStream → List OpenStream → Type 0
+GrowEach [] [] = Unit {0}
+GrowEach (l ∷ ls) (m ∷ ms) = GrowsOn l m × GrowEach ls ms
+GrowEach [] (m ∷ ms) = ⊥
+GrowEach (l ∷ ls) [] = ⊥
+
+-- so of all, and the sender is as it was
+pub record Grows (old new : Sides) : Type 0 where
+  pub streams : GrowEach old.streams new.streams
+  pub flight : new.flight ≡ old.flight
+  pub fragment_size : new.fragment_size ≡ old.fragment_size
+  pub max_message_size : new.max_message_size ≡ old.max_message_size
+
+-- what came, and how many messages were recorded as whole on each stream
+pub record IsSaved (x : Sides) (saved : Saved) : Type 0 where
+  pub receiver : saved.receiver ≡ reception_of x
+  pub whole : saved.whole.items ≡ map (λ l. length l.whole) x.streams

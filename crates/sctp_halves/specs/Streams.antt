@@ -1,0 +1,144 @@
+-- An open stream as both halves of a link have it.
+use Rattle.std.specs.Prelude.{◌≡◌, ℕ, ◌+◌, ◌-◌, max, Bool, ◌&&◌, ◌||◌, not, ◌==◌, if◌then◌else◌, List, [], ◌∷◌, ◌++◌, length, map, drop, Option, Some, None}
+use Rattle.std.specs.List.{find}
+use Rattle.sctp_lists.specs.Lists.{change_where}
+use Rattle.sctp_chunks.specs.declared.chunk.chunk_payload_data.ChunkPayloadData.{ChunkPayloadData}
+use Rattle.sctp_chunks.specs.declared.chunk.chunk_payload_data.PayloadProtocolIdentifier.{PayloadProtocolIdentifier}
+use Rattle.sctp_chunks.specs.declared.chunk.chunk_payload_data.PayloadProtocolIdentifier.TheVariants.{Unknown}
+use Rattle.sctp_chunks.specs.declared.chunk.chunk_forward_tsn.ChunkForwardTsnStream.{ChunkForwardTsnStream}
+use Rattle.sctp_reassembly.specs.reassembly_queue.ReassemblyQueue.{PushesUnordered, after_ordered_push, after_unordered_skip}
+use Rattle.sctp_stream.specs.declared.stream.DataChannelStats.{DataChannelStats}
+use Rattle.sctp_stream.specs.declared.stream.StreamState.{StreamState}
+use Rattle.sctp_stream.specs.Stream as stream
+use Rattle.sctp_stream.specs.Stream.{new_stream}
+use Rattle.sctp_transfer.specs.declared.receiver.inbound_streams.InboundStream.{InboundStream}
+use Rattle.sctp_transfer.specs.declared.sender.flight.Released.{Released}
+use Rattle.sctp_transfer.specs.Inbound as Inbound
+use Rattle.sctp_transfer.specs.Inbound.{ssns_of, skipped_each}
+use Rattle.sctp_transfer.specs.Outgoing as Outgoing
+use Rattle.sctp_halves.specs.declared.halves.progress.StreamProgress.{StreamProgress}
+use Rattle.sctp_halves.specs.declared.halves.progress.Written.{Written}
+
+pub record OpenStream : Type 0 where
+  -- how its writes are cut, and what was sent
+  pub state : StreamState
+  -- what came on it and was not read, and what was read
+  pub inbound : InboundStream
+  -- the unordered messages that are whole and not read, by their numbers, in the order in which they became whole
+  pub whole : List ℕ
+  -- how many ordered messages were written and did not expire
+  pub ordered : ℕ
+  -- how many of them were begun to be sent
+  pub begun : ℕ
+  -- the index of the ordered message that is expected next
+  pub next : ℕ
+  -- one more than the greatest index that a skip named, or 0
+  pub named : ℕ
+
+abbrev pub number : OpenStream → ℕ
+number l = l.state.stream_identifier
+
+abbrev pub has_number : ℕ → OpenStream → Bool
+has_number s l = l.state.stream_identifier == s
+
+abbrev pub stream_numbers : List OpenStream → List ℕ
+stream_numbers ls = map number ls
+
+-- what the sender has of a stream, what the receiver has, and its progress
+abbrev pub join : StreamState → InboundStream → StreamProgress → OpenStream
+join s i p = record { state = s; inbound = i; whole = p.whole.items; ordered = p.ordered; begun = p.begun; next = p.next; named = p.named }
+
+-- so of each stream
+abbrev pub joined : List StreamState → List InboundStream → List StreamProgress → List OpenStream
+joined (s ∷ ss) (i ∷ is) (p ∷ ps) = join s i p ∷ joined ss is ps
+joined [] is ps = []
+joined (s ∷ ss) [] ps = []
+joined (s ∷ ss) (i ∷ is) [] = []
+
+-- a stream that nothing was written to, and to which nothing came
+abbrev pub new_open_stream : ℕ → ℕ → ℕ → OpenStream
+new_open_stream s size largest = record { state = new_stream s size largest Unknown; inbound = Inbound.new_stream s largest; whole = []; ordered = 0; begun = 0; next = 0; named = 0 }
+
+-- ## The sending side
+
+-- its state changes
+abbrev pub on_state : (StreamState → StreamState) → OpenStream → OpenStream
+on_state f l = record l { state = f l.state }
+
+-- whether a write with this payload type is ordered (RFC 8832 6)
+abbrev pub is_ordered : OpenStream → PayloadProtocolIdentifier → Bool
+is_ordered l ppi = stream.is_ordered l.state.unordered ppi
+
+-- what is recorded of a write
+abbrev pub written_of : OpenStream → PayloadProtocolIdentifier → Written
+written_of l ppi = record { ordered = is_ordered l ppi; reliability = l.state.reliability_type; value = l.state.reliability_value; before = l.ordered }
+
+-- the stream after a write
+abbrev pub wrote_to : PayloadProtocolIdentifier → List ℕ → OpenStream → OpenStream
+wrote_to ppi bytes l = record l { state = Outgoing.wrote ppi bytes l.state; ordered = if is_ordered l ppi then l.ordered + 1 else l.ordered }
+
+-- how many ordered messages a stream has begun, where there is one
+abbrev pub begun_in : Option OpenStream → ℕ
+begun_in None = 0
+begun_in (Some l) = l.begun
+
+-- those of the stream with a number
+abbrev pub begun_of : ℕ → List OpenStream → ℕ
+begun_of s ls = begun_in (find (has_number s) ls)
+
+-- and one more
+abbrev pub with_begun : OpenStream → OpenStream
+with_begun l = record l { begun = l.begun + 1 }
+
+-- so many bytes wait and are in flight no more
+abbrev pub less_by : ℕ → OpenStream → OpenStream
+less_by bytes l = on_state (Outgoing.less_by bytes) l
+
+-- each stream has less by what left of it, one chunk after another
+abbrev pub released : List Released → List OpenStream → List OpenStream
+released [] ls = ls
+released (r ∷ rs) ls = released rs (change_where (has_number r.stream) (less_by r.bytes) ls)
+
+-- a message that was not sent is gone: of ordered ones there is one less
+abbrev pub expired_on : Bool → ℕ → OpenStream → OpenStream
+expired_on unordered bytes l = record l { state = Outgoing.expired unordered bytes l.state; ordered = if unordered then l.ordered else l.ordered - 1 }
+
+-- ## The receiving side
+
+-- what came on it changes
+abbrev pub on_inbound : (InboundStream → InboundStream) → OpenStream → OpenStream
+on_inbound f l = record l { inbound = f l.inbound }
+
+-- a chunk is kept: the queue changes as by a push, and the number of an unordered message that becomes whole is recorded
+pub record Keeps (c : ChunkPayloadData) (number : ℕ) (old new : OpenStream) : Type 0 where
+  pub whole : Bool
+  pub ordered_queue : c.unordered ≡ false → new.inbound.queue ≡ after_ordered_push c old.inbound.queue
+  pub unordered_queue : c.unordered ≡ true → PushesUnordered c old.inbound.queue new.inbound.queue whole
+  pub rest : new ≡ record old { inbound = record old.inbound { queue = new.inbound.queue }; whole = if whole && c.unordered then old.whole ++ number ∷ [] else old.whole }
+
+-- a message was read: with an ordered one that was expected next the next one is
+abbrev pub read_recorded : Bool → ℕ → OpenStream → OpenStream
+read_recorded ordered index l = record l { whole = if ordered then l.whole else drop 1 l.whole; next = if ordered && (index == l.next) then index + 1 else l.next }
+
+-- a FORWARD-TSN with these names comes: what it names is gone, one name after another, and then what is loose up to its TSN
+abbrev pub forwarded_on : List ChunkForwardTsnStream → ℕ → InboundStream → InboundStream
+forwarded_on names tsn i = record i { queue = after_unordered_skip tsn (skipped_each (ssns_of i.queue.si names) i.queue) }
+
+-- and it is recorded that so many indexes were named
+abbrev pub with_named : ℕ → OpenStream → OpenStream
+with_named end l = record l { next = max l.next end; named = max l.named end }
+
+-- its counters: what was sent of the one side, what was read of the other
+abbrev pub both_ways : DataChannelStats → DataChannelStats → DataChannelStats
+both_ways sent read =
+    record {
+      stream_identifier = sent.stream_identifier;
+      generation = sent.generation;
+      messages_sent = sent.messages_sent;
+      bytes_sent = sent.bytes_sent;
+      messages_received = read.messages_received;
+      bytes_received = read.bytes_received;
+    }
+
+abbrev pub stats_in : OpenStream → DataChannelStats
+stats_in l = both_ways l.state.stats l.inbound.stats
