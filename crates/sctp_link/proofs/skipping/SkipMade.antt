@@ -118,7 +118,7 @@ module _ (sum : List ℕ → ℕ) (x : State) (l : IsLinked sum x) (upto : ℕ) 
     indexes = l.indexes;
     low = l.low;
     open_streams = λ k d lt. stream-same w v (slice_index_or x.open_streams k d) (record { setup = refl; held = refl; ordered = refl; next = refl; amount = refl; counters = refl }) refl (l.open_streams k d lt);
-    indexed = l.indexed;
+    apart = l.apart;
     texts = subst (λ (u : World). (k : ℕ) (d : List ℕ) (g : W.Datagram) → slice_get u.network k ≡ Some g → IsDatagram sum (contents_of u g) (slice_index_or (x.datagrams ++ bytes ∷ []) k d)) is
         (texts-more sum x l e none (Forward upto names) bytes (ap (λ (u : World). u.network) is) count (subst (λ (u : World). IsDatagram sum (contents_of u (Forward upto names)) bytes) (sym is) (record { text = text ∙ ap (λ t. packet_text sum (packet_with (forward_tsn_chunk t ∷ []))) says; reads = subst (λ t. ReadsPacket sum bytes (packet_with (forward_tsn_chunk t ∷ []))) says reads })));
   }
