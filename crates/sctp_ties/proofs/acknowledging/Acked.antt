@@ -28,7 +28,7 @@ sending-is : (w : World) (p : ℕ) → sending_at w p ≡ sending_by w (slot_at 
 sending-is w p = refl
 
 abbrev gone : Sending → Sending
-gone s = record { chunk = record s.chunk { payload = []; acknowledged = true }; says = None }
+gone s = record { chunk = record s.chunk { payload = []; acknowledged = true }; stream = s.stream; says = None }
 
 abbrev pub first_of' : List Sending → Sending → Sending
 first_of' [] d = d
