@@ -9,7 +9,6 @@ use Rattle.sctp_lists.proofs.Cases.{or-left, or-right}
 use Rattle.sctp_lists.proofs.More.{fails, not_both}
 use Rattle.sctp_lists.proofs.Totals.{total-none, total-append, total-where, total-kept_same, numbers-append}
 use Rattle.sctp_chunks.specs.declared.chunk.chunk_payload_data.ChunkPayloadData.{ChunkPayloadData}
-use Rattle.sctp_chunks.specs.PayloadData.{data_of}
 use Rattle.sctp_serial.specs.DataChunks.{bytes_of}
 use Rattle.sctp_outbound.specs.outbound_queue.OutboundQueue.{Outbound}
 use Rattle.sctp_outbound.specs.pending_queue.PendingQueue.{total_bytes}

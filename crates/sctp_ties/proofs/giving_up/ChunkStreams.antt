@@ -1,6 +1,6 @@
 -- Of which stream a chunk is that a call looks up: in flight, even where its bytes are gone, or in front of what waits.
 use Rattle.std.proofs.Common.{◌≡◌, ℕ, ◌-◌, ◌<◌, ◌≤◌, ◌^◌, Bool, true, false, List, map, length, Option, Some, None, refl, ap, sym, ◌∙◌, arith}
-use Rattle.std.specs.Prelude.{if◌then◌else◌, ◌&&◌, nat_lt, nat_le, find, option_map}
+use Rattle.std.specs.Prelude.{if◌then◌else◌, nat_lt, nat_le, find, option_map}
 use Rattle.std.proofs.lemmas.Bool.Decides.{nat_tests}
 use Rattle.sctp_lists.specs.Kept.{kept, always, numbers_from}
 use Rattle.sctp_lists.proofs.More.{both}
@@ -18,7 +18,7 @@ use Rattle.sctp_model.specs.Steps.{refusal_of}
 use Rattle.sctp_model.proofs.sender.SenderRun.{Sane, unless-holds}
 use Rattle.sctp_model.proofs.sender.Few.{few}
 use Rattle.sctp_ties.specs.Amount.{stream_of_slot}
-use Rattle.sctp_ties.specs.Tied.{waiting_at, Sending, sending_of, sending_at, sending_by, IsInFlight, TiedOutbound}
+use Rattle.sctp_ties.specs.Tied.{waiting_at, sending_of, sending_at, sending_by, IsInFlight, TiedOutbound}
 use Rattle.sctp_ties.proofs.sending.InFlight.{Found, found-in}
 use Rattle.sctp_ties.proofs.sending.Fragments.{idle, shown}
 use Rattle.sctp_ties.proofs.sending.KindsRun.{Going}
