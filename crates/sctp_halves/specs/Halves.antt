@@ -139,9 +139,9 @@ pub record TakesFirst (c : ChunkPayloadData) (n : ℕ) (a : Arrival) (old mid : 
 
 abbrev pub TakesEach : List ChunkPayloadData → List ℕ → List Arrival → Sides → Sides → Type 0
 TakesEach [] ns [] old new = new ≡ old
-TakesEach (c ∷ cs) (n ∷ ns) (a ∷ as) old new = (mid : Sides) × (TakesFirst c n a old mid × TakesEach cs ns as mid new)
-TakesEach [] ns (a ∷ as) old new = ⊥
-TakesEach (c ∷ cs) [] as old new = ⊥
+TakesEach (c ∷ cs) (n ∷ ns) (a ∷ bs) old new = (mid : Sides) × (TakesFirst c n a old mid × TakesEach cs ns bs mid new)
+TakesEach [] ns (a ∷ bs) old new = ⊥
+TakesEach (c ∷ cs) [] bs old new = ⊥
 TakesEach (c ∷ cs) (n ∷ ns) [] old new = ⊥
 
 -- of a stream at most what came has changed, and further messages are recorded as whole
