@@ -1,1 +1,4 @@
 pub mod Joined
+pub mod Aligned
+pub mod Sends
+pub mod Opening
