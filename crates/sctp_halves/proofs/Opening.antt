@@ -1,6 +1,6 @@
 -- A stream is opened at both ends, or the opening is undone.
-use Rattle.std.proofs.Common.{◌≡◌, ℕ, zero, suc, List, [], ◌∷◌, ◌++◌, append-nil, length, map, Bool, true, false, not, Option, Some, None, refl, ap, sym, ◌∙◌, arith}
-use Rattle.std.specs.Prelude.{◌==◌, if◌then◌else◌, find, slice_get}
+use Rattle.std.proofs.Common.{◌≡◌, ℕ, zero, suc, List, [], ◌∷◌, ◌++◌, append-nil, length, map, Bool, true, false, not, Option, Some, None, Result, Ok, Err, refl, ap, sym, ◌∙◌, arith}
+use Rattle.std.specs.Prelude.{◌==◌, if◌then◌else◌, find, slice_get, is_err, OnOk, OnErr}
 use Rattle.std.proofs.lemmas.Bool.{eq-eqb}
 use Rattle.sctp_lists.specs.Lists.{those}
 use Rattle.sctp_lists.proofs.Edits.{those-append}
@@ -64,6 +64,27 @@ pub number-undone : (s : ℕ) (ns ms : List ℕ) → IsAbsent s ns → ms ≡ th
 number-undone s ns ms absent e =
     e ∙ undone (λ n. n) ns s s refl (λ k z. absent k (ap (λ ks. slice_get ks k) (same-numbers ns) ∙ z))
 
+pub on-error : {T E P : Type 0} (r : Result T E) (b : Bool) → b ≡ is_err r → b ≡ true → OnErr r P → P
+on-error (Ok x) b e t p = cc
+on-error (Err e) b is t p = p
+
+pub on-ok : {T E P : Type 0} (r : Result T E) (b : Bool) → b ≡ is_err r → b ≡ false → OnOk r P → P
+on-ok (Ok x) b e t p = p
+on-ok (Err e) b is t p = cc
+
+-- each part is what it was
+module _ (ns : List ℕ) (t : Transmission) (r : Reception) (ps : List StreamProgress) (x : Transmission) (y : Reception) (qs : List StreamProgress) (sent : x ≡ t) (received : y ≡ r) (put : qs ≡ ps) where
+  pub aligned-same : (ms : List ℕ) → ms ≡ ns → IsAligned ns t r ps → IsAligned ms x y qs
+  aligned-same ms is a = record {
+    sends = is ∙ a.sends ∙ ap (λ (z : Transmission). Outgoing.numbers_of z.streams) (sym sent);
+    receives = is ∙ a.receives ∙ ap (λ (z : Reception). Inbound.numbers_of z.streams) (sym received);
+    progresses = is ∙ a.progresses ∙ ap (map (λ p. p.number)) (sym put);
+    size = ap (λ (z : Reception). z.max_message_size) received ∙ a.size ∙ ap (λ (z : Transmission). z.max_message_size) (sym sent);
+  }
+
+  pub sides-same : sides x y qs ≡ sides t r ps
+  sides-same = ap (λ z. sides z y qs) sent ∙ ap (λ z. sides t z qs) received ∙ ap (sides t r) put
+
 module _ (ns : List ℕ) (t : Transmission) (r : Reception) (ps : List StreamProgress) (a : IsAligned ns t r ps) (s : ℕ) (none : stream_in s (sides t r ps) ≡ None) where
   pub is-absent : IsAbsent s ns
   is-absent k e = absent-of s (joined t.streams r.streams ps) none k (ap (λ ms. slice_get ms k) (sym (numbers-are ns t r ps a)) ∙ e)
@@ -84,11 +105,12 @@ module _ (ns : List ℕ) (t : Transmission) (r : Reception) (ps : List StreamPro
       size = ap (λ (z : Reception). z.max_message_size) received ∙ a.size ∙ ap (λ (z : Transmission). z.max_message_size) (sym sent);
     }
 
-    pub opened-sides : (qs : List StreamProgress) → qs ≡ ps ++ p ∷ [] → ((l : StreamState) (i : InboundStream) → join l i p ≡ (let m : OpenStream = record { state = l; inbound = i; whole = []; ordered = 0; begun = 0; next = 0; named = 0 } in m)) → sides x y qs ≡ opened_on s (sides t r ps)
-    opened-sides qs put fresh =
+    pub opened-sides : (qs : List StreamProgress) → qs ≡ ps ++ p ∷ [] → p.whole.items ≡ [] → p.ordered ≡ 0 → p.begun ≡ 0 → p.next ≡ 0 → p.named ≡ 0 → sides x y qs ≡ opened_on s (sides t r ps)
+    opened-sides qs put w o b n m =
+        let fresh : (p.whole.items, (p.ordered, (p.begun, (p.next, p.named)))) ≡ ([], (0, (0, (0, 0)))) = cc in
         ap (λ z. sides z y qs) sent ∙ ap (λ z. sides (S.opened s t) z qs) received ∙ ap (sides (S.opened s t) (R.opened s r)) put
         ∙ ap (λ ls. let z : Sides = record (sides t r ps) { streams = ls } in z)
         (joined-more (new_stream s t.fragment_size t.max_message_size Unknown) (Inbound.new_stream s r.max_message_size) p t.streams r.streams ps (alike ns t r ps a)
         ∙ ap (λ l. joined t.streams r.streams ps ++ l ∷ [])
-        (fresh (new_stream s t.fragment_size t.max_message_size Unknown) (Inbound.new_stream s r.max_message_size)
+        (ap (λ (v : List ℕ × (ℕ × (ℕ × (ℕ × ℕ)))). let z : OpenStream = record { state = new_stream s t.fragment_size t.max_message_size Unknown; inbound = Inbound.new_stream s r.max_message_size; whole = v.0; ordered = v.1.0; begun = v.1.1.0; next = v.1.1.1.0; named = v.1.1.1.1 } in z) fresh
         ∙ ap (λ m. let z : OpenStream = record (new_open_stream s t.fragment_size m) { state = new_stream s t.fragment_size t.max_message_size Unknown } in z) a.size))

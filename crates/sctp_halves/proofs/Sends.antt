@@ -79,6 +79,18 @@ pub of-inbound : {B : Type 0} (g : InboundStream → B) (o : Option OpenStream) 
 of-inbound g None = refl
 of-inbound g (Some l) = refl
 
+-- none is told of none
+pub told-none : {A B C : Type 0} (g : A → B) (h : A → C) (o : Option A) (x : Option B) → x ≡ option_map g o → x ≡ None → None ≡ option_map h o
+told-none g h None x e none = refl
+told-none g h (Some y) x e none = cc
+
+pub both-told : (o : Option OpenStream) (x y : Option DataChannelStats) (sent read : DataChannelStats) → x ≡ option_map (λ l. l.state.stats) o → y ≡ option_map (λ l. l.inbound.stats) o → x ≡ Some sent → y ≡ Some read → Some (both_ways sent read) ≡ option_map stats_in o
+both-told None x y sent read e f sends reads = cc
+both-told (Some l) x y sent read e f sends reads =
+    let s : sent ≡ l.state.stats = cc in
+    let r : read ≡ l.inbound.stats = cc in
+    ap (λ z. Some (both_ways z read)) s ∙ ap (λ z. Some (both_ways l.state.stats z)) r
+
 module _ (ns : List ℕ) (t : Transmission) (r : Reception) (ps : List StreamProgress) (a : IsAligned ns t r ps) where
   -- ## The sender changes
 
