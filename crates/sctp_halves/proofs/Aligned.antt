@@ -1,6 +1,6 @@
 -- The parts of both halves, where they have the same streams.
-use Rattle.std.proofs.Common.{◌≡◌, ℕ, zero, suc, ◌<◌, List, [], ◌∷◌, length, map, Bool, true, false, Option, Some, None, refl, ap, sym, ◌∙◌, arith, subst}
-use Rattle.std.specs.Prelude.{slice_index_or, slice_set, find, if◌then◌else◌, option_map, is_some}
+use Rattle.std.proofs.Common.{◌≡◌, ℕ, zero, suc, ◌+◌, ◌<◌, List, [], ◌∷◌, length, map, drop, Bool, true, false, Option, Some, None, refl, ap, sym, ◌∙◌, arith, subst}
+use Rattle.std.specs.Prelude.{◌==◌, ◌&&◌, slice_index_or, slice_set, find, if◌then◌else◌, option_map, is_some}
 use Rattle.std.proofs.lemmas.List.{get_or_default}
 use Rattle.sctp_lists.specs.Lists.{change_where, changed}
 use Rattle.sctp_lists.proofs.Getting.{length-mapped}
@@ -19,7 +19,7 @@ use Rattle.sctp_transfer.proofs.StreamPlaces as Places
 use Rattle.sctp_transfer.proofs.Inbounds.{stays-changed}
 use Rattle.sctp_transfer.proofs.Forwarded.{followed-mapped, after-numbers, after-size}
 use Rattle.sctp_halves.specs.declared.halves.progress.StreamProgress.{StreamProgress}
-use Rattle.sctp_halves.specs.Streams.{OpenStream, join, joined, number, has_number, stream_numbers, on_inbound, new_open_stream}
+use Rattle.sctp_halves.specs.Streams.{OpenStream, join, joined, number, has_number, stream_numbers, on_inbound, new_open_stream, read_recorded}
 use Rattle.sctp_halves.specs.Halves.{Sides, IsAligned, reception_of, transmission_of, stream_in, is_open, on_stream, followed, after_forward}
 use Rattle.sctp_halves.proofs.Joined.{Alike, states-joined, inbounds-joined, length-joined, numbers-joined, found-inbound, inbound-changed, inbound-mapped, with_progress, progress-set}
 
@@ -36,6 +36,11 @@ same-changed : {A : Type 0} (f g : A → A) (k : ℕ) (xs : List A) → (k < len
 same-changed f g k [] same = refl
 same-changed f g zero (x ∷ xs) same = ap (λ y. y ∷ xs) (same (omega arith) x)
 same-changed f g (suc k) (x ∷ xs) same = ap (λ ys. x ∷ ys) (same-changed f g k xs (λ lt d. same (omega (arith, lt)) d))
+
+changed-none : {A : Type 0} (f : A → A) (k : ℕ) (xs : List A) → (k < length xs → (d : A) → f (slice_index_or xs k d) ≡ slice_index_or xs k d) → changed f k xs ≡ xs
+changed-none f k [] same = refl
+changed-none f zero (x ∷ xs) same = ap (λ y. y ∷ xs) (same (omega arith) x)
+changed-none f (suc k) (x ∷ xs) same = ap (λ ys. x ∷ ys) (changed-none f k xs (λ lt d. same (omega (arith, lt)) d))
 
 -- a stream has its own progress
 pub own-at : (ss : List StreamState) (is : List InboundStream) (ps : List StreamProgress) (k : ℕ) (p : StreamProgress) (d : OpenStream) → k < length (joined ss is ps) → p ≡ slice_index_or ps k p → with_progress p (slice_index_or (joined ss is ps) k d) ≡ slice_index_or (joined ss is ps) k d
@@ -97,6 +102,12 @@ module _ (ns : List ℕ) (t : Transmission) (r : Reception) (ps : List StreamPro
           progress-changed ∙ changed-set f k ls x
           ∙ Places.changed number ls ns numbers-are s k only f x (f (slice_index_or ls k x)) (get_or_default ls k d x (Places.inside number ls ns numbers-are s k only)) (ap f (sym (get_or_default ls k d x (Places.inside number ls ns numbers-are s k only))))
 
+    -- the same progress in other memory
+    pub progress-kept : ((l : OpenStream) → with_progress q l ≡ with_progress p l) → sides t r (slice_set ps k q) ≡ sides t r ps
+    progress-kept same =
+        ap (λ ls. let y : Sides = record (sides t r ps) { streams = ls } in y)
+        (progress-set k q t.streams r.streams ps ∙ changed-none (with_progress q) k (joined t.streams r.streams ps) (λ lt d. same (slice_index_or (joined t.streams r.streams ps) k d) ∙ own-at t.streams r.streams ps k p d lt is))
+
   -- ## A part that changes
 
   pub with-receiver : (x : Reception) → Inbound.numbers_of x.streams ≡ Inbound.numbers_of r.streams → x.max_message_size ≡ r.max_message_size → IsAligned ns t x ps
@@ -147,3 +158,16 @@ module _ (ns : List ℕ) (t : Transmission) (r : Reception) (ps : List StreamPro
 
     pub forward-numbers : (x : Reception) → x ≡ R.after_forward f r → IsAligned ns t x ps
     forward-numbers x e = with-receiver x (ap (λ (y : Reception). Inbound.numbers_of y.streams) e ∙ after-numbers f r) (ap (λ (y : Reception). y.max_message_size) e ∙ after-size f r)
+
+  -- ## What is recorded of a read
+
+  pub absent-on : (s : ℕ) (f : OpenStream → OpenStream) → IsAbsent s ns → sides t r ps ≡ on_stream s f (sides t r ps)
+  absent-on s f absent = ap (λ ls. let y : Sides = record (sides t r ps) { streams = ls } in y) (Places.absent-change number (joined t.streams r.streams ps) ns numbers-are s f absent)
+
+  pub progress-sides : (k : ℕ) (p q : StreamProgress) → p ≡ slice_index_or ps k p → (f : OpenStream → OpenStream) → ((l : OpenStream) → with_progress q l ≡ f (with_progress p l)) → (s : ℕ) → IsOnlyPlace s ns k → sides t r (slice_set ps k q) ≡ on_stream s f (sides t r ps)
+  progress-sides k p q is f made s only = ap (λ ls. let y : Sides = record (sides t r ps) { streams = ls } in y) (progress-on k p q is f made s only)
+
+pub read-made : (ordered : Bool) (index : ℕ) (p : StreamProgress) (whole : List ℕ) (next : ℕ) → whole ≡ (if ordered then p.whole.items else drop 1 p.whole.items) → next ≡ (if ordered && (index == p.next) then index + 1 else p.next) → (l : OpenStream) → record l { whole = whole; ordered = p.ordered; begun = p.begun; next = next; named = p.named } ≡ read_recorded ordered index (with_progress p l)
+read-made ordered index p whole next w n l =
+    ap (λ ws. let x : OpenStream = record (with_progress p l) { whole = ws; next = next } in x) w
+    ∙ ap (λ m. let x : OpenStream = record (with_progress p l) { whole = (if ordered then p.whole.items else drop 1 p.whole.items); next = m } in x) n
