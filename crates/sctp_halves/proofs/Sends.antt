@@ -1,8 +1,10 @@
 -- What changes of the sender make of both halves, and what is told of a stream by its number.
-use Rattle.std.proofs.Common.{◌≡◌, ℕ, zero, suc, ◌+◌, ◌<◌, List, [], ◌∷◌, length, map, Bool, true, false, Option, Some, None, Result, Ok, Err, refl, ap, sym, ◌∙◌, arith}
-use Rattle.std.specs.Prelude.{slice_index_or, slice_set, find, if◌then◌else◌, option_map, is_some, MatchOption, OnOk, OnErr, IfOk, IfErr}
+use Rattle.std.proofs.Common.{◌≡◌, ℕ, zero, suc, ◌+◌, ◌-◌, ◌<◌, List, [], ◌∷◌, length, map, Bool, true, false, Option, Some, None, Result, Ok, Err, refl, ap, sym, ◌∙◌, arith}
+use Rattle.std.specs.Prelude.{slice_index_or, slice_set, find, if◌then◌else◌, option_map, is_some, MatchOption, OnOk, OnErr, IfOk, IfErr, IfSome}
 use Rattle.std.proofs.lemmas.List.{get_or_default}
 use Rattle.sctp_lists.specs.Lists.{change_where}
+use Rattle.sctp_chunks.specs.SelectiveAck.{Sack}
+use Rattle.sctp_chunks.specs.declared.chunk.chunk_payload_data.ChunkPayloadData.{ChunkPayloadData}
 use Rattle.sctp_chunks.specs.declared.chunk.chunk_payload_data.ReliabilityType.{ReliabilityType}
 use Rattle.sctp_stream.specs.Numbers.{IsOnlyPlace, IsAbsent}
 use Rattle.sctp_stream.specs.declared.stream.DataChannelStats.{DataChannelStats}
@@ -11,7 +13,7 @@ use Rattle.sctp_transfer.specs.declared.receiver.inbound_streams.InboundStream.{
 use Rattle.sctp_transfer.specs.declared.sender.flight.Released.{Released}
 use Rattle.sctp_transfer.specs.declared.sender.refusal.SenderRefusal.{SenderRefusal}
 use Rattle.sctp_transfer.specs.declared.sender.refusal.SenderRefusal.TheVariants.{StreamUnknown}
-use Rattle.sctp_transfer.specs.Flight.{Flight}
+use Rattle.sctp_transfer.specs.Flight.{Flight, after_sack, released_by}
 use Rattle.sctp_transfer.specs.Outgoing as Outgoing
 use Rattle.sctp_transfer.specs.Receiver as R
 use Rattle.sctp_transfer.specs.Receiver.{Reception}
@@ -20,7 +22,7 @@ use Rattle.sctp_transfer.specs.Sender.{Transmission}
 use Rattle.sctp_transfer.proofs.StreamPlaces as Places
 use Rattle.sctp_halves.specs.declared.halves.progress.StreamProgress.{StreamProgress}
 use Rattle.sctp_halves.specs.Streams.{OpenStream, joined, number, has_number, on_state, released, stats_in, both_ways, new_open_stream}
-use Rattle.sctp_halves.specs.Halves.{Sides, IsAligned, stream_in, is_open, on_stream, with_flight}
+use Rattle.sctp_halves.specs.Halves.{Sides, IsAligned, stream_in, is_open, on_stream, with_flight, sack_taken}
 use Rattle.sctp_halves.proofs.Joined.{found-state, found-inbound, state-changed, with_progress}
 use Rattle.sctp_halves.proofs.Aligned.{sides, alike, numbers-are, absent-in, own-at, count-is}
 
@@ -30,6 +32,15 @@ use Rattle.sctp_halves.proofs.Aligned.{sides, alike, numbers-are, absent-in, own
 pub either : {T E N P : Type 0} {Q : T → Type 0} (r : Result T E) → IfOk r Q → OnErr r N → ((x : T) → Q x → P) → (N → P) → P
 either (Ok x) q n f g = f x q
 either (Err e) q n f g = g n
+
+pub either-on : {T E N P Q : Type 0} (r : Result T E) → OnOk r Q → OnErr r N → (Q → P) → (N → P) → P
+either-on (Ok x) q n f g = f q
+either-on (Err e) q n f g = g n
+
+pub either-some : {T E N P : Type 0} {Q : T → Type 0} (r : Result (Option T) E) → IfOk r (λ o. IfSome o Q) → IfOk r (λ o. o ≡ None → N) → OnErr r N → ((x : T) → Q x → P) → (N → P) → P
+either-some (Ok (Some x)) q none n f g = f x q
+either-some (Ok None) q none n f g = g (none refl)
+either-some (Err e) q none n f g = g n
 
 -- ## Numbers that stay
 
@@ -70,6 +81,14 @@ same-at f g (x ∷ xs) [] k d e same lt = cc
 same-at f g (x ∷ xs) (y ∷ ys) zero d e same lt = cc
 same-at f g (x ∷ xs) (y ∷ ys) (suc k) d e same lt = let h : map f xs ≡ map g ys = cc in same-at f g xs ys k d e h (omega (arith, lt))
 
+-- one ordered message is gone
+abbrev pub one_less : OpenStream → OpenStream
+one_less l = record l { ordered = l.ordered - 1 }
+
+-- what is read at a place twice is the same
+pub same-place : (ps : List StreamProgress) (k : ℕ) (p q : StreamProgress) → k < length ps → p ≡ slice_index_or ps k p → q ≡ slice_index_or ps k q → p ≡ q
+same-place ps k p q lt e f = e ∙ get_or_default ps k p q lt ∙ sym f
+
 -- what is told of the state in what is found
 pub of-state : {B : Type 0} (g : StreamState → B) (o : Option OpenStream) → option_map g (option_map (λ l. l.state) o) ≡ option_map (λ l. g l.state) o
 of-state g None = refl
@@ -106,6 +125,17 @@ module _ (ns : List ℕ) (t : Transmission) (r : Reception) (ps : List StreamPro
 
     pub on-sides : sides x r ps ≡ with_flight g (on_stream n (on_state f) (sides t r ps))
     on-sides = ap (λ y. sides y r ps) e ∙ ap (λ ls. let y : Sides = record (sides t r ps) { streams = ls; flight = g } in y) (state-changed n f t.streams r.streams ps)
+
+  pub counted-aligned : (x : Transmission) (o : Option ChunkPayloadData) (g : ChunkPayloadData → Flight) → ((c : ChunkPayloadData) → o ≡ Some c → x ≡ S.with_flight (g c) t) → (o ≡ None → x ≡ t) → IsAligned ns x r ps
+  counted-aligned x None g some none = sender-same x (none refl)
+  counted-aligned x (Some c) g some none = with-sender x (ap (λ (y : Transmission). Outgoing.numbers_of y.streams) (some c refl)) (ap (λ (y : Transmission). y.max_message_size) (some c refl))
+
+  module _ (s : Sack) (x : Transmission) (e : x ≡ S.after_acked s t) where
+    pub acked-aligned : IsAligned ns x r ps
+    acked-aligned = with-sender x (ap (λ (y : Transmission). Outgoing.numbers_of y.streams) e ∙ released-stays (released_by s t.flight) t.streams) (ap (λ (y : Transmission). y.max_message_size) e)
+
+    pub acked-sides : sides x r ps ≡ sack_taken s (sides t r ps)
+    acked-sides = ap (λ y. sides y r ps) e ∙ ap (λ ls. let y : Sides = record (sides t r ps) { streams = ls; flight = after_sack s t.flight } in y) (released-joined (released_by s t.flight) t.streams r.streams ps)
 
   -- ## A stream by its number
 
