@@ -75,20 +75,20 @@ module _ (ns : List ℕ) (t : Transmission) (r : Reception) (ps : List StreamPro
       write-aligned = on-aligned ns t r ps a s (Outgoing.wrote ppi bytes) flight x e (λ z. refl)
 
       pub unordered-written : stream.is_ordered l.state.unordered ppi ≡ false → sides x r ps ≡ written_on l s ppi bytes (sides t r ps)
-      unordered-written no =
+      unordered-written not-so =
           on-sides ns t r ps a s (Outgoing.wrote ppi bytes) flight x e
           ∙ ap (λ ls. let y : Sides = record (sides t r ps) { streams = ls; flight = flight } in y)
           (same-on (on_state (Outgoing.wrote ppi bytes)) (wrote_to ppi bytes)
-          (ap (λ b. let z : OpenStream = record l { state = Outgoing.wrote ppi bytes l.state; ordered = if b then l.ordered + 1 else l.ordered } in z) (sym no)))
+          (ap (λ b. let z : OpenStream = record l { state = Outgoing.wrote ppi bytes l.state; ordered = if b then l.ordered + 1 else l.ordered } in z) (sym not-so)))
 
       pub ordered-written : stream.is_ordered l.state.unordered ppi ≡ true → (p q : StreamProgress) → p ≡ slice_index_or ps k p → ((m : OpenStream) → with_progress q m ≡ one_more (with_progress p m)) → sides x r (slice_set ps k q) ≡ written_on l s ppi bytes (sides t r ps)
-      ordered-written yes p q at made =
+      ordered-written is-so p q at made =
           progress-sides ns x r ps write-aligned k p q at one_more made s only
           ∙ ap (on_stream s one_more) (on-sides ns t r ps a s (Outgoing.wrote ppi bytes) flight x e)
           ∙ ap (λ ls. let y : Sides = record (sides t r ps) { streams = ls; flight = flight } in y)
           (twice (has_number s) (on_state (Outgoing.wrote ppi bytes)) one_more (λ m. refl) (joined t.streams r.streams ps)
           ∙ same-on (λ m. one_more (on_state (Outgoing.wrote ppi bytes) m)) (wrote_to ppi bytes)
-          (ap (λ b. let z : OpenStream = record l { state = Outgoing.wrote ppi bytes l.state; ordered = if b then l.ordered + 1 else l.ordered } in z) (sym yes)))
+          (ap (λ b. let z : OpenStream = record l { state = Outgoing.wrote ppi bytes l.state; ordered = if b then l.ordered + 1 else l.ordered } in z) (sym is-so)))
 
   -- ## An expiry
 
@@ -106,22 +106,22 @@ module _ (ns : List ℕ) (t : Transmission) (r : Reception) (ps : List StreamPro
       after = with_queue t.flight (expired_of (Some c) t.flight.queue)
 
       pub unordered-expired : c.unordered ≡ true → sides x r ps ≡ expired_unsent c bytes (sides t r ps)
-      unordered-expired yes =
+      unordered-expired is-so =
           on-sides ns t r ps a c.stream_identifier (Outgoing.expired c.unordered bytes) after x e
-          ∙ ap (λ f. let y : Sides = record (on_stream c.stream_identifier f (sides t r ps)) { flight = after } in y) (by c.unordered yes)
+          ∙ ap (λ f. let y : Sides = record (on_stream c.stream_identifier f (sides t r ps)) { flight = after } in y) (by c.unordered is-so)
         where
           by : (u : Bool) → u ≡ true → on_state (Outgoing.expired u bytes) ≡ expired_on u bytes
-          by true yes = refl
-          by false yes = cc
+          by true is-so = refl
+          by false is-so = cc
 
       pub ordered-expired : c.unordered ≡ false → on_stream c.stream_identifier one_less (sides x r ps) ≡ expired_unsent c bytes (sides t r ps)
-      ordered-expired no =
+      ordered-expired not-so =
           ap (on_stream c.stream_identifier one_less) (on-sides ns t r ps a c.stream_identifier (Outgoing.expired c.unordered bytes) after x e)
-          ∙ ap (λ ls. let y : Sides = record (sides t r ps) { streams = ls; flight = after } in y) (by c.unordered no)
+          ∙ ap (λ ls. let y : Sides = record (sides t r ps) { streams = ls; flight = after } in y) (by c.unordered not-so)
         where
           by : (u : Bool) → u ≡ false → change_where (has_number c.stream_identifier) one_less (change_where (has_number c.stream_identifier) (on_state (Outgoing.expired u bytes)) (joined t.streams r.streams ps)) ≡ change_where (has_number c.stream_identifier) (expired_on u bytes) (joined t.streams r.streams ps)
-          by true no = cc
-          by false no = twice (has_number c.stream_identifier) (on_state (Outgoing.expired false bytes)) one_less (λ m. refl) (joined t.streams r.streams ps)
+          by true not-so = cc
+          by false not-so = twice (has_number c.stream_identifier) (on_state (Outgoing.expired false bytes)) one_less (λ m. refl) (joined t.streams r.streams ps)
 
 -- what expires is what is in front
 pub front-is : (now : ℕ) (q : Outbound) (c d : ChunkPayloadData) → Some c ≡ peeked q.pending → expiring now q ≡ Some d → c ≡ d
