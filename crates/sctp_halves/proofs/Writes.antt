@@ -1,6 +1,6 @@
 -- What a write and an expiry make of both halves.
 use Rattle.std.proofs.Common.{◌≡◌, ℕ, ◌+◌, List, [], ◌∷◌, Bool, true, false, Option, Some, None, refl, ap, sym, ◌∙◌, subst}
-use Rattle.std.specs.Prelude.{slice_index_or, slice_set, if◌then◌else◌, is_some, IfSome}
+use Rattle.std.specs.Prelude.{slice_index_or, slice_set, if◌then◌else◌, is_some, option_map, IfSome}
 use Rattle.std.proofs.lemmas.List.{get_or_default}
 use Rattle.sctp_lists.specs.Lists.{change_where}
 use Rattle.sctp_chunks.specs.declared.chunk.chunk_payload_data.ChunkPayloadData.{ChunkPayloadData}
@@ -24,7 +24,7 @@ use Rattle.sctp_halves.specs.Streams.{OpenStream, joined, number, has_number, on
 use Rattle.sctp_halves.specs.Halves.{Sides, IsAligned, stream_in, on_stream, written_on, expired_unsent}
 use Rattle.sctp_halves.proofs.Joined.{with_progress}
 use Rattle.sctp_halves.proofs.Aligned.{sides, numbers-are, progress-sides}
-use Rattle.sctp_halves.proofs.Sends.{on-aligned, on-sides, one_less}
+use Rattle.sctp_halves.proofs.Sends.{found-with, state-in, on-aligned, on-sides, one_less}
 
 one : {A : Type 0} {a b : A} → Some a ≡ Some b → a ≡ b
 one e = cc
@@ -66,6 +66,17 @@ module _ (ns : List ℕ) (t : Transmission) (r : Reception) (ps : List StreamPro
         sym (Places.changed number ls ns (numbers-are ns t r ps a) s k only f x (f x) here refl)
         ∙ ap (slice_set ls k) (sym (ap f here-l) ∙ same ∙ ap g here-l)
         ∙ Places.changed number ls ns (numbers-are ns t r ps a) s k only g x (g x) here refl
+
+    pub ordered-is : (q : StreamProgress) → q ≡ slice_index_or ps k q → q.ordered ≡ l.ordered
+    ordered-is q at' =
+        let m = found-with ns t r ps a s k only q at' in
+        ap (λ (z : OpenStream). z.ordered) m.1.1 ∙ ap (λ (z : OpenStream). z.ordered) (one (sym m.1.0 ∙ is))
+
+    pub sender-has : S.stream_of s t ≡ Some l.state
+    sender-has = sym (state-in ns t r ps a s) ∙ ap (option_map (λ (z : OpenStream). z.state)) is
+
+    pub state-is : (z : StreamState) → Some z ≡ S.stream_of s t → z ≡ l.state
+    state-is z e = one (e ∙ sender-has)
 
     module _ (ppi : PayloadProtocolIdentifier) (bytes : List ℕ) (x : Transmission) (e : x ≡ S.written_to l.state s ppi bytes t) where
       abbrev flight : Flight

@@ -14,11 +14,8 @@ use Rattle.sctp_halves.specs.Halves.{stream_in, transmission_of}
 use Rattle.sctp_halves.proofs.Joined.{with_progress}
 use Rattle.sctp_halves.proofs.Aligned.{sides, place-inside, progress-number, transmission-is, with-progresses}
 use Rattle.sctp_halves.proofs.Sends.{found-with, same-place, state-in}
-use Rattle.sctp_halves.proofs.Writes.{recorded, write-aligned, unordered-written, ordered-written}
+use Rattle.sctp_halves.proofs.Writes.{recorded, ordered-is, sender-has, state-is, write-aligned, unordered-written, ordered-written}
 use Rattle.sctp_halves.proofs.halves.Halves.write.Goals as goal
-
-some-is : (x y : StreamState) (o : OpenStream) → Some x ≡ Some y → Some o.state ≡ Some x → y ≡ o.state
-some-is x y o e f = cc
 
 pub unreachable-requires : goal.unreachable-requires
 unreachable-requires c =
@@ -76,3 +73,43 @@ invariant_of-self-else-written c =
     let sent = c.in-Ok.ensures.ok c.requires.some l.0.state of in
     write-aligned h.numbers h.sender h.receiver h.progress.items c.self.invariant c.args.stream c.in-Some.place c.in-Some.ensures l.0 l.1.0 c.args.ppi c.args.bytes.now c.write.new.self sent
 
+pub returns-then-written-clause-answer : goal.returns-then-written-clause-answer
+returns-then-written-clause-answer c =
+    let h = c.self.inside in
+    rw (← c.self.view_is) (λ l e.
+    recorded c.written-written.result c.in-Some-stream.state.now c.args.ppi c.index.result.now.ordered l
+    c.written-written.ensures.ordered c.written-written.ensures.reliability c.written-written.ensures.value c.written-written.ensures.before
+    (state-is h.numbers h.sender h.receiver h.progress.items c.self.invariant c.args.stream c.in-Some.place c.in-Some.ensures l e c.in-Some-stream.state.now c.in-Some-stream.ensures)
+    (ordered-is h.numbers h.sender h.receiver h.progress.items c.self.invariant c.args.stream c.in-Some.place c.in-Some.ensures l e c.index.result.now c.index.ensures))
+
+pub returns-then-written-clause-ok : goal.returns-then-written-clause-ok
+returns-then-written-clause-ok c =
+    let h = c.self.inside in
+    let p : StreamProgress = c.index_mut.result.now in
+    let q : StreamProgress = record p { ordered = c.index.result.now.ordered + 1 } in
+    let lt = place-inside h.numbers h.sender h.receiver h.progress.items c.self.invariant c.args.stream c.in-Some.place c.in-Some.ensures in
+    let same = same-place h.progress.items c.in-Some.place c.index.result.now p lt c.index.ensures c.index_mut.ensures.value in
+    rw (← c.self.view_is) (λ l e.
+    let state = state-is h.numbers h.sender h.receiver h.progress.items c.self.invariant c.args.stream c.in-Some.place c.in-Some.ensures l e c.in-Some-stream.state.now c.in-Some-stream.ensures in
+    let kind : stream.is_ordered l.state.unordered c.args.ppi ≡ true = ap (λ (z : StreamState). stream.is_ordered z.unordered c.args.ppi) (sym state) ∙ sym c.written-written.ensures.ordered ∙ c.if-written.true in
+    let sent = c.in-Ok.ensures.ok c.requires.some l.state (sender-has h.numbers h.sender h.receiver h.progress.items c.self.invariant c.args.stream c.in-Some.place c.in-Some.ensures l e) in
+    ordered-written h.numbers h.sender h.receiver h.progress.items c.self.invariant c.args.stream c.in-Some.place c.in-Some.ensures l e c.args.ppi c.args.bytes.now c.write.new.self sent kind p q c.index_mut.ensures.value
+    (λ m. ap (λ (x : StreamProgress). let z : StreamProgress = record p { ordered = x.ordered + 1 } in with_progress z m) same))
+
+pub returns-else-written-clause-answer : goal.returns-else-written-clause-answer
+returns-else-written-clause-answer c =
+    let h = c.self.inside in
+    rw (← c.self.view_is) (λ l e.
+    recorded c.written-written.result c.in-Some-stream.state.now c.args.ppi c.index.result.now.ordered l
+    c.written-written.ensures.ordered c.written-written.ensures.reliability c.written-written.ensures.value c.written-written.ensures.before
+    (state-is h.numbers h.sender h.receiver h.progress.items c.self.invariant c.args.stream c.in-Some.place c.in-Some.ensures l e c.in-Some-stream.state.now c.in-Some-stream.ensures)
+    (ordered-is h.numbers h.sender h.receiver h.progress.items c.self.invariant c.args.stream c.in-Some.place c.in-Some.ensures l e c.index.result.now c.index.ensures))
+
+pub returns-else-written-clause-ok : goal.returns-else-written-clause-ok
+returns-else-written-clause-ok c =
+    let h = c.self.inside in
+    rw (← c.self.view_is) (λ l e.
+    let state = state-is h.numbers h.sender h.receiver h.progress.items c.self.invariant c.args.stream c.in-Some.place c.in-Some.ensures l e c.in-Some-stream.state.now c.in-Some-stream.ensures in
+    let kind : stream.is_ordered l.state.unordered c.args.ppi ≡ false = ap (λ (z : StreamState). stream.is_ordered z.unordered c.args.ppi) (sym state) ∙ sym c.written-written.ensures.ordered ∙ c.if-written.false in
+    let sent = c.in-Ok.ensures.ok c.requires.some l.state (sender-has h.numbers h.sender h.receiver h.progress.items c.self.invariant c.args.stream c.in-Some.place c.in-Some.ensures l e) in
+    unordered-written h.numbers h.sender h.receiver h.progress.items c.self.invariant c.args.stream c.in-Some.place c.in-Some.ensures l e c.args.ppi c.args.bytes.now c.write.new.self sent kind)
