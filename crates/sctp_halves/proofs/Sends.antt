@@ -42,8 +42,8 @@ either-some (Ok (Some x)) q none n f g = f x q
 either-some (Ok None) q none n f g = g (none refl)
 either-some (Err e) q none n f g = g n
 
-pub some-of : {T : Type 0} {Q : T → Type 0} (o : Option T) (x : T) → o ≡ Some x → IfSome o Q → Q x
-some-of {Q = Q} o x e h = subst (λ p. IfSome p Q) e h
+pub some-of : {T : Type 0} (Q : T → Type 0) (o : Option T) (x : T) → o ≡ Some x → IfSome o Q → Q x
+some-of Q o x e h = subst (λ p. IfSome p Q) e h
 
 -- ## Numbers that stay
 
