@@ -4,3 +4,4 @@ pub mod Sends
 pub mod Writes
 pub mod Opening
 pub mod Taking
+pub mod Growing
