@@ -42,7 +42,7 @@ changed-none f zero (x ∷ xs) same = ap (λ y. y ∷ xs) (same (omega arith) x)
 changed-none f (suc k) (x ∷ xs) same = ap (λ ys. x ∷ ys) (changed-none f k xs (λ lt d. same (omega (arith, lt)) d))
 
 -- a stream has its own progress
-own-at : (ss : List StreamState) (is : List InboundStream) (ps : List StreamProgress) (k : ℕ) (p : StreamProgress) (d : OpenStream) → k < length (joined ss is ps) → p ≡ slice_index_or ps k p → with_progress p (slice_index_or (joined ss is ps) k d) ≡ slice_index_or (joined ss is ps) k d
+pub own-at : (ss : List StreamState) (is : List InboundStream) (ps : List StreamProgress) (k : ℕ) (p : StreamProgress) (d : OpenStream) → k < length (joined ss is ps) → p ≡ slice_index_or ps k p → with_progress p (slice_index_or (joined ss is ps) k d) ≡ slice_index_or (joined ss is ps) k d
 own-at [] is ps k p d lt e = absurd (omega (arith, lt))
 own-at (s ∷ ss) [] ps k p d lt e = absurd (omega (arith, lt))
 own-at (s ∷ ss) (i ∷ is) [] k p d lt e = absurd (omega (arith, lt))

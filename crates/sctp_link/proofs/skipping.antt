@@ -1,3 +1,4 @@
 pub mod Skipping
 pub mod SkipComes
+pub mod NamesInTurn
 pub mod SkipMade

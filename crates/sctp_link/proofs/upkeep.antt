@@ -5,7 +5,7 @@ pub mod StreamsAfter
 pub mod Apart
 pub mod Facts
 pub mod Lookups
-pub mod Lending
+pub mod Accessors
 pub mod Walks
 pub mod Wants
 pub mod Packets

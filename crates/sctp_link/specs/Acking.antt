@@ -1,32 +1,20 @@
 -- How far a SACK has been taken, while what it reports is gone through.
 use Rattle.std.specs.Prelude.{◌≡◌, ◌==◌, ℕ, ◌+◌, ◌-◌, ◌<◌, ◌≤◌, ◌^◌, Bool, ◌&&◌, ◌||◌, nat_le, nat_lt, if◌then◌else◌, List, [], ◌∷◌, length, slice_index_or}
 use Rattle.std.specs.List.{list_any}
-use Rattle.sctp_lists.specs.Lists.{change_where}
 use Rattle.sctp_chunks.specs.declared.chunk.chunk_payload_data.ChunkPayloadData.{ChunkPayloadData}
 use Rattle.sctp_chunks.specs.declared.chunk.chunk_selective_ack.GapAckBlock.{GapAckBlock}
-use Rattle.sctp_transfer.specs.declared.sender.flight.Released.{Released}
 use Rattle.sctp_outbound.specs.payload_queue.Blocks.{is_in_block}
 use Rattle.sctp_model.specs.World.{World}
 use Rattle.sctp_model.specs.Messages.{slot_at}
 use Rattle.sctp_model.specs.Amounts.{on_stream, pending_bytes}
 use Rattle.sctp_ties.specs.Amount.{unacked_on, stream_of_slot, bytes_at}
 use Rattle.sctp_ties.specs.Tied.{sending_of, sending_by}
-use Rattle.sctp_link.specs.declared.open_stream.OpenStream.{OpenStream}
 use Rattle.sctp_link.specs.declared.record.Slot.{Slot}
-use Rattle.sctp_link.specs.Linked.{has_number}
 use Rattle.sctp_link.specs.Records.{slot_record}
-
--- a stream with another buffered amount
-abbrev pub with_amount : ℕ → OpenStream → OpenStream
-with_amount n l = record l { state = record l.state { buffered_amount = n } }
 
 -- what a stream still has to send or to see acknowledged, were these slots acknowledged
 abbrev pub amount_with : World → (ℕ → Bool) → ℕ → ℕ
 amount_with w acked s = on_stream w s (pending_bytes w) + unacked_on w acked s
-
--- bytes go off the amount of a stream
-abbrev pub less_by : ℕ → OpenStream → OpenStream
-less_by bytes l = with_amount (l.state.buffered_amount - bytes) l
 
 -- what is known of the record from the beginning
 pub record Acks (first : ℕ) (w : World) : Type 0 where
@@ -43,11 +31,6 @@ pub record Acks (first : ℕ) (w : World) : Type 0 where
 pub record IsMarking (w : World) (acked : ℕ → Bool) (marked : List Slot) : Type 0 where
   pub count : length marked ≡ length w.slots
   pub slots : (k : ℕ) (d : Slot) → k < length marked → slot_record (slice_index_or marked k d) ≡ record (slot_at w k) { acknowledged = acked k }
-
--- each stream has less by what left of it, one chunk after another
-abbrev pub released : List Released → List OpenStream → List OpenStream
-released [] ls = ls
-released (r ∷ rs) ls = released rs (change_where (has_number r.stream) (less_by r.bytes) ls)
 
 -- and one slot more
 abbrev pub and_one : (ℕ → Bool) → ℕ → ℕ → Bool

@@ -1,6 +1,8 @@
 -- The record of a link and what it keeps beside it, from its fields.
 use Rattle.std.specs.Prelude.{ℕ, map}
 use Rattle.sctp_model.specs.World.{World, Setup}
+use Rattle.sctp_transfer.specs.Receiver.{filter_of}
+use Rattle.sctp_halves.specs.Halves.{reception_of}
 use Rattle.sctp_link.specs.declared.link.Link.TheInside.{Inside}
 use Rattle.sctp_link.specs.Linked.{State}
 use Rattle.sctp_link.specs.Records.{message_record, progress_of, slot_record, datagram_record, stream_record}
@@ -12,8 +14,8 @@ setup_of first size largest limit = record { first = first; size = size; largest
 abbrev pub world_in : {C : Type 0} → Inside C → World
 world_in a =
     record {
-      setup = setup_of a.first_tsn a.fragment_size a.max_message_size a.limit;
-      streams = map stream_record a.open_streams.items.items;
+      setup = setup_of a.first_tsn a.halves.fragment_size a.halves.max_message_size a.limit;
+      streams = map stream_record a.halves.streams;
       messages = map message_record a.messages.items;
       slots = map slot_record a.slots.items;
       network = map datagram_record a.network.items;
@@ -26,15 +28,14 @@ abbrev pub state_in : {C : Type 0} → Inside C → State
 state_in a =
     record {
       world = world_in a;
-      open_streams = a.open_streams.items.items;
-      places = a.open_streams.places;
+      open_streams = a.halves.streams;
       progress = map progress_of a.messages.items;
       unstarted = a.unstarted;
       datagrams = map (λ d. d.bytes) a.network.items;
-      outbound = a.flight.queue;
-      next_tsn = a.flight.next_tsn;
-      acked_tsn = a.flight.acked_tsn;
-      filter = a.filter;
+      outbound = a.halves.flight.queue;
+      next_tsn = a.halves.flight.next_tsn;
+      acked_tsn = a.halves.flight.acked_tsn;
+      filter = filter_of (reception_of a.halves);
       fragments = a.fragments;
       written = a.written;
     }

@@ -1,6 +1,5 @@
 -- What a link keeps beside its record, and how all of it is tied to the record.
 use Rattle.std.specs.Prelude.{◌≡◌, ◌==◌, ℕ, ◌<◌, ◌≤◌, true, ◌%◌, ◌^◌, List, length, slice_index_or, slice_get, Bool, Some}
-use Rattle.std.specs.BTreeMap.{BTreeMap}
 use Rattle.sctp_outbound.specs.outbound_queue.OutboundQueue.{Outbound}
 use Rattle.sctp_model.specs.World as W
 use Rattle.sctp_model.specs.World.{World}
@@ -17,11 +16,11 @@ use Rattle.sctp_ties.specs.Counts.{counters_on}
 use Rattle.sctp_ties.specs.Indexes.{begun_on}
 use Rattle.sctp_model.specs.Amounts.{Counters, in_all, written_bytes}
 use Rattle.sctp_model.specs.Amounts as M
-use Rattle.sctp_link.specs.declared.link.lending.Ledger.{Ledger}
-use Rattle.sctp_link.specs.declared.open_stream.OpenStream.{OpenStream}
+use Rattle.sctp_link.specs.declared.link.accessors.Ledger.{Ledger}
+use Rattle.sctp_halves.specs.Streams.{OpenStream, stream_numbers, stats_in}
 use Rattle.sctp_stream.specs.declared.stream.DataChannelStats.{DataChannelStats}
 use Rattle.sctp_transfer.specs.TsnFilter.{Filter}
-use Rattle.sctp_link.specs.Places.{IsIndexed, stream_numbers}
+use Rattle.sctp_link.specs.Places.{IsApart}
 use Rattle.sctp_link.specs.Texts.{IsDatagram}
 
 -- a link: its record, and the checksum that it was handed
@@ -33,8 +32,6 @@ pub record Linked (C : Type 0) : Type 0 where
 pub record State : Type 0 where
   pub world : World
   pub open_streams : List OpenStream
-  -- the place of each, by its number
-  pub places : BTreeMap ℕ ℕ
   -- of each message, how many of its fragments have slots, and its index
   pub progress : List (ℕ × ℕ)
   -- the number of the first message whose lifetime has not started
@@ -50,9 +47,6 @@ pub record State : Type 0 where
   pub fragments : ℕ
   -- how many bytes were written
   pub written : ℕ
-
-abbrev pub has_number : ℕ → OpenStream → Bool
-has_number s l = l.state.stream_identifier == s
 
 -- the TSNs that came, in the words of the record
 abbrev pub filter_shown : Filter → FilterRecord
@@ -73,21 +67,6 @@ stats_of c =
 -- the four sums as a link tells them
 abbrev pub ledger_of : M.Ledger → Ledger
 ledger_of l = record { written = l.written; pending = l.pending; in_flight = l.in_flight; released = l.released }
-
--- the counters of a stream: what was sent of the one, what was read of the other
-abbrev pub both_ways : DataChannelStats → DataChannelStats → DataChannelStats
-both_ways sent read =
-    record {
-      stream_identifier = sent.stream_identifier;
-      generation = sent.generation;
-      messages_sent = sent.messages_sent;
-      bytes_sent = sent.bytes_sent;
-      messages_received = read.messages_received;
-      bytes_received = read.bytes_received;
-    }
-
-abbrev pub stats_in : OpenStream → DataChannelStats
-stats_in l = both_ways l.state.stats l.inbound.stats
 
 -- what a stream keeps, against the record
 pub record IsOpenStream (w : World) (l : OpenStream) : Type 0 where
@@ -119,6 +98,6 @@ pub record IsLinked (sum : List ℕ → ℕ) (x : State) : Type 0 where
   pub indexes : (n : ℕ) → 0 < sent_of x.world n → (message_at x.world n).ordered ≡ true → (slice_index_or x.progress n (0, 0)).1 ≡ index_of x.world n
   pub low : (n : ℕ) → (slice_index_or x.progress n (0, 0)).1 ≤ n
   pub open_streams : (k : ℕ) (d : OpenStream) → k < length x.open_streams → IsOpenStream x.world (slice_index_or x.open_streams k d)
-  -- a stream is found by its number
-  pub indexed : IsIndexed x.places (stream_numbers x.open_streams)
+  -- no two streams have one number
+  pub apart : IsApart (stream_numbers x.open_streams)
   pub texts : (k : ℕ) (d : List ℕ) (g : W.Datagram) → slice_get x.world.network k ≡ Some g → IsDatagram sum (contents_of x.world g) (slice_index_or x.datagrams k d)

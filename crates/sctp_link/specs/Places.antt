@@ -1,13 +1,8 @@
--- Where an open stream is found.
-use Rattle.std.specs.Prelude.{◌≡◌, ℕ, ◌↔◌, List, map, slice_get, Some}
-use Rattle.std.specs.Ordering.{nat_cmp}
-use Rattle.std.specs.BTreeMap.{BTreeMap, get}
-use Rattle.sctp_link.specs.declared.open_stream.OpenStream.{OpenStream}
+-- Streams that are told apart by their numbers.
+use Rattle.std.specs.Prelude.{◌≡◌, ℕ, false, ◌==◌, List, [], ◌∷◌}
+use Rattle.std.specs.List.{list_any}
 
--- the numbers of streams
-abbrev pub stream_numbers : List OpenStream → List ℕ
-stream_numbers ls = map (λ l. l.state.stream_identifier) ls
-
--- the index has a number at a place exactly where the stream with the number has that place
-abbrev pub IsIndexed : BTreeMap ℕ ℕ → List ℕ → Type 0
-IsIndexed places ns = (s k : ℕ) → (get nat_cmp places s ≡ Some k) ↔ (slice_get ns k ≡ Some s)
+-- none stands twice
+abbrev pub IsApart : List ℕ → Type 0
+IsApart [] = Unit {0}
+IsApart (n ∷ ns) = (list_any (λ k. k == n) ns ≡ false) × IsApart ns

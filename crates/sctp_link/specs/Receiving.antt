@@ -1,8 +1,8 @@
 -- The receiver of a link while the slots of a datagram come, one after another.
 use Rattle.std.specs.Prelude.{◌≡◌, ℕ, ◌<◌, ◌==◌, ◌&&◌, if◌then◌else◌, Bool, slice_get, true, false, List, [], ◌∷◌, length, map, take, slice_index_or, Some}
 use Rattle.std.specs.List.{list_any}
-use Rattle.std.specs.BTreeMap.{BTreeMap}
 use Rattle.sctp_lists.specs.Kept.{passing}
+use Rattle.sctp_lists.specs.Lists.{changed}
 use Rattle.sctp_chunks.specs.declared.chunk.chunk_payload_data.ChunkPayloadData.{ChunkPayloadData}
 use Rattle.sctp_reassembly.specs.reassembly_queue.ReassemblyQueue.{ReassemblyState, is_too_large}
 use Rattle.sctp_model.specs.World.{World, StreamRecord, Data}
@@ -13,13 +13,15 @@ use Rattle.sctp_model.specs.Contents.{chunk_at}
 use Rattle.sctp_model.specs.Queues.{filter_of}
 use Rattle.sctp_model.specs.Sound.{ComesSound}
 use Rattle.sctp_ties.specs.Holds.{reassembly_of}
-use Rattle.sctp_transfer.specs.TsnFilter.{Filter}
-use Rattle.sctp_link.specs.declared.open_stream.OpenStream.{OpenStream}
+use Rattle.sctp_transfer.specs.declared.receiver.arrival.Arrival.{Arrival}
+use Rattle.sctp_transfer.specs.declared.receiver.arrival.Arrival.TheVariants.{New, Repeat}
+use Rattle.sctp_transfer.specs.Receiver.{filter_of as held_filter}
+use Rattle.sctp_halves.specs.Streams.{OpenStream, stream_numbers}
+use Rattle.sctp_halves.specs.Halves.{Sides, reception_of}
 use Rattle.sctp_link.specs.declared.record.Slot.{Slot}
-use Rattle.sctp_link.specs.declared.link.arriving.Saved.{Saved}
 use Rattle.sctp_link.specs.Linked.{filter_shown}
 use Rattle.sctp_link.specs.Records.{slot_record, stream_record}
-use Rattle.sctp_link.specs.Places.{IsIndexed, stream_numbers}
+use Rattle.sctp_link.specs.Places.{IsApart}
 
 -- the queue of an open stream, against the record
 pub record HoldsQueue (w : World) (l : OpenStream) : Type 0 where
@@ -27,16 +29,12 @@ pub record HoldsQueue (w : World) (l : OpenStream) : Type 0 where
   pub si : l.inbound.queue.si ≡ l.state.stream_identifier
   pub largest : l.inbound.queue.max_message_size ≡ w.setup.largest
 
--- what a link keeps for its receiver, against the record
-pub record IsReceiver (w : World) (open_streams : List OpenStream) (slots : List Slot) (filter : Filter) (duplicates : List ℕ) : Type 0 where
-  pub streams_are : w.streams ≡ map stream_record open_streams
-  pub slots_are : w.slots ≡ map slot_record slots
-  pub duplicates_are : w.duplicates ≡ duplicates
-  pub filter_is : filter_shown filter ≡ filter_of w
-  pub queues : (k : ℕ) (d : OpenStream) → k < length open_streams → HoldsQueue w (slice_index_or open_streams k d)
-  -- no two streams have one number
-  pub places : BTreeMap ℕ ℕ
-  pub indexed : IsIndexed places (stream_numbers open_streams)
+-- what the receiver of a link has, against the record
+pub record IsReceiver (w : World) (x : Sides) : Type 0 where
+  pub streams_are : w.streams ≡ map stream_record x.streams
+  pub filter_is : filter_shown (held_filter (reception_of x)) ≡ filter_of w
+  pub queues : (k : ℕ) (d : OpenStream) → k < length x.streams → HoldsQueue w (slice_index_or x.streams k d)
+  pub apart : IsApart (stream_numbers x.streams)
 
 -- a chunk comes, that of the slot at a place: the record is sound, the stream is open, and no message becomes too long with it
 pub record Comes (w : World) (p : ℕ) (c : ChunkPayloadData) : Type 0 where
@@ -53,51 +51,30 @@ AllCome w (p ∷ ps) (c ∷ cs) = Comes w p c × AllCome (slot_received w p) ps 
 AllCome w [] (c ∷ cs) = ⊥
 AllCome w (p ∷ ps) [] = ⊥
 
--- of an open stream at most the queue has changed, and more messages are noted as whole
-pub record IsTouched (old new : OpenStream) : Type 0 where
-  pub state : new.state ≡ old.state
-  pub inbound : new.inbound ≡ record old.inbound { queue = new.inbound.queue }
-  pub whole : take (length old.whole.items) new.whole.items ≡ old.whole.items
-  pub ordered : new.ordered ≡ old.ordered
-  pub begun : new.begun ≡ old.begun
-  pub next : new.next ≡ old.next
-  pub named : new.named ≡ old.named
+-- the number of the message of the slot at a place
+abbrev pub number_at : List Slot → ℕ → ℕ
+number_at ss p = (slice_index_or ss p (record { message = 0; fragment = 0; is_end_mark = false; arrived = false; acknowledged = false })).message
 
--- nothing of it has
-pub record IsUnchanged (old new : OpenStream) : Type 0 where
-  pub state : new.state ≡ old.state
-  pub inbound : new.inbound ≡ old.inbound
-  pub whole : new.whole.items ≡ old.whole.items
-  pub ordered : new.ordered ≡ old.ordered
-  pub begun : new.begun ≡ old.begun
-  pub next : new.next ≡ old.next
-  pub named : new.named ≡ old.named
+abbrev pub with_arrival : Slot → Slot
+with_arrival x = record x { arrived = true }
 
--- of the streams at most those at these places are touched
-pub record TouchesOnly (ats : List ℕ) (old new : List OpenStream) : Type 0 where
-  pub count : length new ≡ length old
-  pub each : (k : ℕ) (d : OpenStream) → k < length old → IsTouched (slice_index_or old k d) (slice_index_or new k d)
-  pub others : (k : ℕ) (d : OpenStream) → k < length old → list_any (λ j. j == k) ats ≡ false → IsUnchanged (slice_index_or old k d) (slice_index_or new k d)
+-- the slots after the arrival of some, one after another, each new or not
+abbrev pub arrived_in : List ℕ → List Arrival → List Slot → List Slot
+arrived_in (p ∷ ps) (New ∷ as) ss = arrived_in ps as (changed with_arrival p ss)
+arrived_in (p ∷ ps) (Repeat ∷ as) ss = arrived_in ps as ss
+arrived_in [] as ss = ss
+arrived_in (p ∷ ps) [] ss = ss
 
--- of the slots at most those at these places have another mark
-pub record MarksOnly (places : List ℕ) (old new : List Slot) : Type 0 where
-  pub count : length new ≡ length old
-  pub each : (k : ℕ) (d : Slot) → k < length old → record (slice_index_or new k d) { arrived = (slice_index_or old k d).arrived } ≡ slice_index_or old k d
-  pub others : (k : ℕ) (d : Slot) → k < length old → list_any (λ j. j == k) places ≡ false → slice_index_or new k d ≡ slice_index_or old k d
+-- those that came again
+abbrev pub repeated_of : List ℕ → List Arrival → List ℕ
+repeated_of (p ∷ ps) (New ∷ as) = repeated_of ps as
+repeated_of (p ∷ ps) (Repeat ∷ as) = p ∷ repeated_of ps as
+repeated_of [] as = []
+repeated_of (p ∷ ps) [] = []
 
--- what the arrival of a slot, with its chunk, may change of its stream and of the slot, as it is
-pub record IsSaved (ls : List OpenStream) (ss : List Slot) (p : ℕ) (c : ChunkPayloadData) (x : Saved) : Type 0 where
-  pub inside : x.at < length ls
-  pub number : (d : OpenStream) → (slice_index_or ls x.at d).state.stream_identifier ≡ c.stream_identifier
-  pub queue : (d : OpenStream) → x.queue ≡ (slice_index_or ls x.at d).inbound.queue
-  pub whole : (d : OpenStream) → x.whole ≡ length (slice_index_or ls x.at d).whole.items
-  pub made : p < length ss
-  pub arrived : (d : Slot) → x.arrived ≡ (slice_index_or ss p d).arrived
-
--- so of the first of these slots, one for each that was saved
-pub record AllSaved (ls : List OpenStream) (ss : List Slot) (places : List ℕ) (chunks : List ChunkPayloadData) (saved : List Saved) : Type 0 where
-  pub count : length saved ≡ length places
-  pub each : (i : ℕ) (c : ChunkPayloadData) (x : Saved) → i < length saved → IsSaved ls ss (slice_index_or places i 0) (slice_index_or chunks i c) (slice_index_or saved i x)
+abbrev pub is_first : Arrival → Bool
+is_first New = true
+is_first Repeat = false
 
 -- the slot at this place lies in some datagram
 abbrev pub LiesSomewhere : World → ℕ → Type 0

@@ -6,7 +6,7 @@ use Rattle.sctp_link.specs.declared.record.Slot.{Slot}
 use Rattle.sctp_link.specs.declared.record.Kind.{Kind}
 use Rattle.sctp_link.specs.declared.record.Kind.TheVariants as K
 use Rattle.sctp_link.specs.declared.record.Datagram.{Datagram}
-use Rattle.sctp_link.specs.declared.open_stream.OpenStream.{OpenStream}
+use Rattle.sctp_halves.specs.Streams.{OpenStream}
 use Rattle.sctp_model.specs.World as W
 
 -- a message
@@ -57,5 +57,5 @@ stream_record l =
       reliability = l.state.reliability_type;
       value = l.state.reliability_value;
       named = l.named;
-      whole = l.whole.items;
+      whole = l.whole;
     }

@@ -1,29 +1,25 @@
 -- What fragments that leave one after another make of the sender's side of a link.
 use Rattle.std.specs.Prelude.{◌≡◌, ℕ, zero, suc, ◌+◌, ◌<◌, ◌^◌, List, [], ◌∷◌, ◌++◌, length, Some, slice_index_or, slice_set}
-use Rattle.std.specs.BTreeMap.{BTreeMap}
 use Rattle.sctp_chunks.specs.declared.chunk.chunk_payload_data.ChunkPayloadData.{ChunkPayloadData}
 use Rattle.sctp_outbound.specs.pending_queue.PendingQueue.{peeked}
 use Rattle.sctp_outbound.specs.outbound_queue.OutboundQueue.{Outbound, sent_next, following_tsn}
-use Rattle.sctp_transfer.specs.Flight.{Flight}
-use Rattle.sctp_link.specs.declared.open_stream.OpenStream.{OpenStream}
-use Rattle.sctp_link.specs.declared.link.open_streams.OpenStreams.{OpenStreams}
+use Rattle.sctp_halves.specs.Streams.{OpenStream, begun_of}
+use Rattle.sctp_halves.specs.Halves.{Sides}
 use Rattle.sctp_link.specs.declared.record.Message.{Message}
 use Rattle.sctp_link.specs.declared.record.Slot.{Slot}
-use Rattle.sctp_link.specs.OpenStreams.{slot_with, with_fragment, begun_of, begun_by}
-use Rattle.sctp_link.specs.Places.{IsIndexed, stream_numbers}
+use Rattle.sctp_link.specs.OpenStreams.{slot_with, with_fragment, begun_by}
 
 -- what a fragment changes when it leaves
 pub record Sender : Type 0 where
   pub outbound : Outbound
   pub messages : List Message
   pub streams : List OpenStream
-  pub places : BTreeMap ℕ ℕ
   pub slots : List Slot
   pub next_tsn : ℕ
 
-abbrev pub sender_of : Flight → List Message → OpenStreams → List Slot → Sender
-sender_of flight messages streams slots =
-    record { outbound = flight.queue; messages = messages; streams = streams.items.items; places = streams.places; slots = slots; next_tsn = flight.next_tsn }
+abbrev pub sender_of : Sides → List Message → List Slot → Sender
+sender_of halves messages slots =
+    record { outbound = halves.flight.queue; messages = messages; streams = halves.streams; slots = slots; next_tsn = halves.flight.next_tsn }
 
 -- the next fragment can leave
 pub record CanSend (s : Sender) : Type 0 where
@@ -32,7 +28,6 @@ pub record CanSend (s : Sender) : Type 0 where
   pub made : chunk.message_id < length s.messages
   pub fits : (m : Message) → m ≡ slice_index_or s.messages chunk.message_id m → m.sent + 1 < 2 ^ 64
   pub few : (m : Message) → m ≡ slice_index_or s.messages chunk.message_id m → begun_of m.stream s.streams + 1 < 2 ^ 64
-  pub indexed : IsIndexed s.places (stream_numbers s.streams)
   pub room : length s.outbound.inflight.chunks + 1 < 2 ^ 31
 
 -- it leaves: its message takes it, it gets a slot and the next TSN
@@ -44,7 +39,6 @@ pub record Leaves (now : ℕ) (s t : Sender) : Type 0 where
   pub outbound : t.outbound ≡ sent_next s.outbound s.next_tsn now
   pub messages : t.messages ≡ slice_set s.messages chunk.message_id (with_fragment s.streams message)
   pub streams : t.streams ≡ begun_by message s.streams
-  pub places : t.places ≡ s.places
   pub slots : t.slots ≡ s.slots ++ slot_with chunk.message_id message.sent ∷ []
   pub next_tsn : t.next_tsn ≡ following_tsn s.next_tsn
 
@@ -52,3 +46,8 @@ pub record Leaves (now : ℕ) (s t : Sender) : Type 0 where
 abbrev pub Leave : ℕ → ℕ → Sender → Sender → Type 0
 Leave now zero s t = t ≡ s
 Leave now (suc count) s t = (r : Sender) × (Leave now count s r × Leaves now r t)
+
+-- of both halves at most the streams, what waits and is in flight, and the next TSN have changed
+abbrev pub SendsOnly : Sides → Sides → Type 0
+SendsOnly old new =
+    new ≡ record old { streams = new.streams; flight = record old.flight { queue = new.flight.queue; next_tsn = new.flight.next_tsn } }

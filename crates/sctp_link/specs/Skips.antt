@@ -1,12 +1,14 @@
--- What a skip names on a stream of a link, and what its arrival makes of the stream (RFC 3758 3.6).
+-- What a skip names on a stream of a link (RFC 3758 3.6).
 use Rattle.std.specs.Prelude.{ℕ, ◌+◌, ◌-◌, ◌%◌, ◌^◌, min, max, Bool, ◌&&◌, not, ◌==◌, if◌then◌else◌, List, map, slice_index_or}
 use Rattle.sctp_lists.specs.Kept.{passing}
 use Rattle.sctp_chunks.specs.declared.chunk.chunk_forward_tsn.ChunkForwardTsnStream.{ChunkForwardTsnStream}
-use Rattle.sctp_reassembly.specs.reassembly_queue.ReassemblyQueue.{ReassemblyState, after_ordered_skip, after_unordered_skip}
+use Rattle.sctp_chunks.specs.ForwardTsn.{ForwardTsn}
 use Rattle.sctp_model.specs.World as W
-use Rattle.sctp_model.specs.Messages.{no_message}
+use Rattle.sctp_model.specs.World.{World}
+use Rattle.sctp_model.specs.Contents.{name_of}
+use Rattle.sctp_model.specs.Messages.{no_message, tsn_of}
 use Rattle.sctp_model.specs.Receiver.{least, greatest}
-use Rattle.sctp_link.specs.declared.open_stream.OpenStream.{OpenStream}
+use Rattle.sctp_halves.specs.Streams.{OpenStream, with_named}
 use Rattle.sctp_link.specs.declared.skipped.Named.{Named}
 use Rattle.sctp_link.specs.declared.record.Message.{Message}
 use Rattle.sctp_link.specs.Records.{message_record, progress_of}
@@ -45,19 +47,10 @@ with_name ms s n named =
 abbrev pub pair_in : List Message → ℕ → ChunkForwardTsnStream
 pair_in ms n = name_with ((message_in ms n).stream, index_in ms n % 2 ^ 16)
 
--- a queue gone forward to the last message that was named, where one was
-abbrev pub gone_to : ℕ → ReassemblyState → ReassemblyState
-gone_to end q = if end == 0 then q else after_ordered_skip ((end - 1) % 2 ^ 16) q
+-- a stream on which so far its messages were named
+abbrev pub with_names : List Message → List ℕ → OpenStream → OpenStream
+with_names ms names l = with_named (named_from ms l.state.stream_identifier none_named names).end l
 
--- a stream after a skip up to this TSN
-abbrev pub skipped_stream : Named → ℕ → OpenStream → OpenStream
-skipped_stream named tsn l =
-    record l {
-      inbound = record l.inbound { queue = after_unordered_skip tsn (gone_to named.end l.inbound.queue) };
-      next = max l.next named.end;
-      named = max l.named named.end;
-    }
-
--- and after one that names these
-abbrev pub skipped_by : List Message → List ℕ → ℕ → OpenStream → OpenStream
-skipped_by ms names tsn l = skipped_stream (named_from ms l.state.stream_identifier none_named names) tsn l
+-- a skip as the chunk says it (RFC 3758 3.2)
+abbrev pub wire_skip : World → ℕ → List ℕ → ForwardTsn
+wire_skip w upto names = record { new_cumulative_tsn = tsn_of w upto; streams = map name_with (map (name_of w) names) }

@@ -4,13 +4,12 @@
 mod datagram;
 pub mod event;
 pub mod link;
-mod open_stream;
 mod record;
 mod skipped;
 
 pub use event::{Event, LinkRefusal, Reply};
 pub use link::Link;
-pub use link::lending::Ledger;
+pub use link::accessors::Ledger;
 pub use sctp_transfer::stream;
 pub use sctp_transfer::stream::{
     DataChannelStats, RecvSendState, StreamEvent, StreamId, StreamResetError, StreamState,

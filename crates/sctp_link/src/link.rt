@@ -1,31 +1,28 @@
-//! The link: each event is answered as its record says, over the queues of a sender and a receiver.
+//! The link: each event is answered as its record says, by a sender and a receiver.
 
 ghost use Rattle.std.specs.Prelude.{◌≡◌, ◌==◌, ◌<◌, ◌≤◌, ◌+◌, ◌∷◌, ◌++◌, ℕ, [], None, Some, List, OnOk, OnErr, IfOk, IsOkUnless, MatchOption, length, vec_len, vec_capacity, option_map, find, true};
 ghost use Rattle.sctp_base.specs.declared.error.Error.TheVariants.{ErrOutOfMemory};
 
 mod abandoning;
-mod acknowledged;
-mod acknowledging;
+pub mod accessors;
 mod arriving;
 mod expiring;
 mod fragments;
 mod late;
-pub mod lending;
 mod naming;
-mod open_streams;
 mod receiving;
+mod sack_in;
+mod sack_out;
 mod sending;
 mod skipping;
 mod streams;
 
-use self::open_streams::OpenStreams;
 use crate::event::{Event, LinkRefusal, Reply};
 use crate::record::{Datagram, Kind, Message, Slot};
 use bytes::Bytes;
 use sctp_base::error::Error;
 use sctp_base::util::Checksum;
-use sctp_transfer::receiver::tsn_filter::TsnFilter;
-use sctp_transfer::sender::flight::InFlight;
+use sctp_halves::Halves;
 use std::alloc::Global;
 use std::marker::Model;
 
@@ -35,11 +32,10 @@ pub struct Link<C: Checksum + Drop> {
     alloc: Global,
     checksum: C,
     first_tsn: u32,
-    fragment_size: u32,
-    max_message_size: u32,
     // the greatest length of a datagram of several chunks
     limit: u32,
-    open_streams: OpenStreams,
+    // the sender and the receiver
+    halves: Halves,
     messages: Vec<Message>,
     // the number of the first message whose lifetime has not started
     unstarted: usize,
@@ -51,9 +47,6 @@ pub struct Link<C: Checksum + Drop> {
     taken: usize,
     // the places that came again since the last SACK was made
     duplicates: Vec<u64>,
-    // what waits and what is in flight
-    flight: InFlight,
-    filter: TsnFilter,
     // how many fragments were accepted
     fragments: usize,
     // how many bytes were written
@@ -133,10 +126,8 @@ impl<C: Checksum + Drop> Link<C> {
             alloc,
             checksum,
             first_tsn,
-            fragment_size,
-            max_message_size,
             limit,
-            open_streams: OpenStreams::new(alloc),
+            halves: Halves::new(alloc, first_tsn, fragment_size, max_message_size),
             messages: Vec::new(alloc),
             unstarted: 0,
             slots: Vec::new(alloc),
@@ -144,8 +135,6 @@ impl<C: Checksum + Drop> Link<C> {
             skipped: 0,
             taken: 0,
             duplicates: Vec::new(alloc),
-            flight: InFlight::new(alloc, first_tsn),
-            filter: TsnFilter::new(alloc, first_tsn),
             fragments: 0,
             written: 0,
         }
@@ -247,7 +236,7 @@ impl<C: Checksum + Drop> Link<C> {
     fn is_open(&self, stream: u16) -> bool
         ensures { result ≡ is_open self.now.world stream }
     {
-        self.open_streams.place_of(stream).is_some()
+        self.halves.is_open(stream)
     }
 
     fn refusal_open(&self, stream: u16) -> Option<LinkRefusal>

@@ -1,13 +1,13 @@
-//! What a FORWARD-TSN names on a stream, and what its arrival makes of the streams (RFC 3758 3.2, 3.6).
+//! What a FORWARD-TSN names on a stream (RFC 3758 3.2, 3.6).
 
 ghost use Rattle.std.specs.Prelude.{◌≡◌, ◌+◌, ◌<◌, ◌^◌, ℕ, length, map, slice_index_or, IfOk, IsOkUnless};
 ghost use Rattle.sctp_base.specs.declared.error.Error.TheVariants.{ErrOutOfMemory};
-ghost use Rattle.sctp_link.specs.Skips.{index_in, named_from, none_named, with_name, pair_in, skipped_by};
+ghost use Rattle.sctp_link.specs.Skips.{index_in, named_from, none_named, with_name, pair_in, with_names};
 
-use crate::open_stream::OpenStream;
 use crate::record::Message;
 use sctp_base::error::Result;
 use sctp_chunks::chunk::chunk_forward_tsn::ChunkForwardTsnStream;
+use sctp_halves::Halves;
 use std::alloc::Global;
 
 /// What a skip names on a stream: the least index, and one more than the greatest, or 0 where it names none.
@@ -74,15 +74,16 @@ pub fn pairs_of(
     Ok(pairs)
 }
 
-/// The arrival of a skip up to a TSN, which names these messages, on each open stream. It takes no memory.
+/// Records, on each open stream, how far its ordered messages were named by a skip that names these. It takes no memory.
 /// Precondition: the index of each message is below the greatest u64.
-pub fn skip_streams(open_streams: &mut [OpenStream], messages: &[Message], names: &[u64], tsn: u32)
+pub fn record_names(halves: &mut Halves, messages: &[Message], names: &[u64])
     requires { (n : ℕ) → index_in messages.now n + 1 < 2 ^ 64 }
-    ensures { open_streams.new ≡ map (skipped_by messages.now names.now tsn) open_streams.old }
+    ensures { halves.new ≡ record halves.old {
+      streams = map (with_names messages.now names.now) halves.old.streams;
+    } }
 {
-    for place in 0..open_streams.len() {
-        let open_stream = &mut open_streams[place];
-        let named = named_on(messages, open_stream.state.stream_identifier(), names);
-        open_stream.skip(named, tsn);
+    for place in 0..halves.stream_count() {
+        let named = named_on(messages, halves.stream_at(place), names);
+        halves.record_named(place, named.end);
     }
 }

@@ -10,3 +10,4 @@ pub mod AbandonedEvents
 pub mod AbandonedLink
 pub mod AbandonedInTurn
 pub mod AbandonedBytes
+pub mod ChunkStreams

@@ -1,3 +1,4 @@
 pub mod Skips
 pub mod SkipStep
 pub mod SkipSpans
+pub mod SkipsInTurn

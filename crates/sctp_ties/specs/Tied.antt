@@ -56,9 +56,10 @@ pub record TiedPending (w : World) (q : Pending) : Type 0 where
 
 -- ## What is in flight
 
--- a chunk in flight as the record knows it, and what a further sending of it says
+-- a chunk in flight as the record knows it, its stream, which it keeps when its bytes are gone, and what a further sending of it says
 pub record Sending : Type 0 where
   pub chunk : InFlightChunk
+  pub stream : ℕ
   pub says : Option Data
 
 -- nothing where its bytes are gone
@@ -69,11 +70,17 @@ abbrev pub sending_of : ChunkPayloadData → Sending
 sending_of c =
     record {
       chunk = record { tsn = c.tsn; message = c.message_id; payload = c.user_data; acknowledged = c.acked; abandoned = c.abandoned; deadline = c.deadline };
+      stream = c.stream_identifier;
       says = unless_gone (c.acked || c.abandoned) (data_of c);
     }
 
 abbrev pub sending_at : World → ℕ → Sending
-sending_at w place = record { chunk = in_flight_at w place; says = unless_gone (is_cleared w place) (data_of (chunk_at w place)) }
+sending_at w place =
+    record {
+      chunk = in_flight_at w place;
+      stream = (message_at w (message_of w place)).stream;
+      says = unless_gone (is_cleared w place) (data_of (chunk_at w place));
+    }
 
 abbrev pub sendings_of : World → List Sending
 sendings_of w = map (sending_at w) (numbers_from w.taken (length w.slots - w.taken))
@@ -92,6 +99,7 @@ sending_by w acked place =
         abandoned = (message_at w (message_of w place)).abandoned;
         deadline = deadline_of w (message_of w place);
       };
+      stream = (message_at w (message_of w place)).stream;
       says = unless_gone (acked || (message_at w (message_of w place)).abandoned) (data_of (chunk_at w place));
     }
 

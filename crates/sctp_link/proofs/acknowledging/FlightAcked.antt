@@ -83,7 +83,7 @@ reports-at w s top k x first short near cum tsn =
 -- ## Marks
 
 abbrev gone : Sending → Sending
-gone s = record { chunk = record s.chunk { payload = []; acknowledged = true }; says = None }
+gone s = record { chunk = record s.chunk { payload = []; acknowledged = true }; stream = s.stream; says = None }
 
 module _ (w : World) (s : Sack) (top : ℕ) (first : w.setup.first < 2 ^ 32) (short : top < 2 ^ 31) (cum : s.cumulative_tsn_ack ≡ cumulative_tsn w top) where
   -- what it reports anew is acknowledged then

@@ -132,7 +132,7 @@ module _ (sum : List ℕ → ℕ) (x : State) (l : IsLinked sum x) (credit : ℕ
         indexes = l.indexes;
         low = l.low;
         open_streams = λ k d lt. stream-same w v (slice_index_or x.open_streams k d) (record { setup = refl; held = refl; ordered = refl; next = refl; amount = refl; counters = refl }) refl (l.open_streams k d lt);
-        indexed = l.indexed;
+        apart = l.apart;
         texts = texts-more sum x l (E.Ack credit) refl (W.Sack (report_of w credit)) bytes refl len is;
       })
         where

@@ -46,15 +46,14 @@ use Rattle.sctp_ties.proofs.acknowledging.Unacked.{amount-is, amount-acked, grow
 use Rattle.sctp_ties.proofs.sending.Begun
 use Rattle.sctp_ties.proofs.sending.Begun.{Indexed}
 use Rattle.sctp_ties.proofs.amounts.InFlightBytes.{chunk-on, bytes-unacked, taken-acknowledged, then-below}
-use Rattle.sctp_link.specs.declared.open_stream.OpenStream.{OpenStream}
+use Rattle.sctp_halves.specs.Streams.{OpenStream, released, stream_numbers}
 use Rattle.sctp_link.specs.declared.link.open_streams.OpenStreams.{OpenStreams}
 use Rattle.sctp_link.specs.declared.record.Slot.{Slot}
-use Rattle.sctp_link.specs.Places.{IsIndexed, stream_numbers}
 use Rattle.sctp_link.specs.declared.record.Datagram.{Datagram}
 use Rattle.sctp_link.specs.Records.{slot_record, datagram_record, stream_record}
 use Rattle.sctp_link.specs.Linked.{State, IsLinked, IsOpenStream}
 use Rattle.sctp_link.specs.Texts.{IsDatagram, block_of, packet_with}
-use Rattle.sctp_link.specs.Acking.{Acks, IsMarking, amount_with, with_amount, released, and_run, and_blocks, in_block}
+use Rattle.sctp_link.specs.Acking.{Acks, IsMarking, amount_with, and_run, and_blocks, in_block}
 use Rattle.sctp_link.proofs.upkeep.Facts.{facts, over, stands-then, says-still}
 use Rattle.sctp_link.proofs.acknowledging.AckLoops.{marking-same, any-at}
 use Rattle.sctp_link.proofs.acknowledging.FlightAcked.{told, covered-at, between, up-to-date, marked-all, front-leaves}
@@ -472,7 +471,7 @@ module _ (sum : List ℕ → ℕ) (x : State) (k : ℕ) (r : Report) (l : IsLink
         ∙ ap (λ t. let v : World = record (sack_taken x.world (Some (Sack r))) { taken = t } in v) top_is in
         let whole : g ≡ taken s (flight_in x) = moved ∙ after-is in
         let indexed : IsIndexed now.places (stream_numbers (map (as_left x.world r) x.open_streams)) =
-        subst (λ p. IsIndexed p (stream_numbers (map (as_left x.world r) x.open_streams))) (sym places) (subst (IsIndexed x.places) (sym (numbers-left x.world r x.open_streams)) l.indexed) in
+        subst (λ p. IsIndexed p (stream_numbers (map (as_left x.world r) x.open_streams))) (sym places) (subst IsApart (sym (numbers-left x.world r x.open_streams)) l.apart) in
         record {
           linked =
               subst (λ u. IsLinked sum (record x { world = u; open_streams = now.items.items; places = now.places; outbound = g.queue; next_tsn = g.next_tsn; acked_tsn = g.acked_tsn })) (sym world)

@@ -16,10 +16,8 @@ use Rattle.sctp_ties.specs.Amount.{unacked_on, stream_of_slot, bytes_at}
 use Rattle.sctp_ties.specs.Tied.{sending_of, sending_by, IsInFlight}
 use Rattle.sctp_ties.proofs.acknowledging.Acked.{first_of', rest_of'}
 use Rattle.sctp_ties.proofs.amounts.StreamAmounts.{same-turned}
-use Rattle.sctp_link.specs.declared.open_stream.OpenStream.{OpenStream}
-use Rattle.sctp_link.specs.Places.{stream_numbers}
-use Rattle.sctp_link.specs.Linked.{has_number}
-use Rattle.sctp_link.specs.Acking.{Acks, with_amount, less_by, released}
+use Rattle.sctp_halves.specs.Streams.{OpenStream, has_number, less_by, released, stream_numbers}
+use Rattle.sctp_link.specs.Acking.{Acks}
 
 -- no number changes
 pub numbers-less : (ls : List OpenStream) (s n : ℕ) → stream_numbers (change_where (has_number s) (less_by n) ls) ≡ stream_numbers ls

@@ -33,13 +33,11 @@ use Rattle.sctp_ties.proofs.giving_up.AbandonedLink.{mark_of, abandoned-is, coun
 use Rattle.sctp_ties.proofs.reading.ReadOne.{KeepsNext}
 use Rattle.sctp_ties.proofs.giving_up.GivenUp.{amount-abandoned}
 use Rattle.sctp_ties.proofs.amounts.StreamCounters.{counters-same}
-use Rattle.sctp_link.specs.declared.open_stream.OpenStream.{OpenStream}
+use Rattle.sctp_halves.specs.Streams.{OpenStream, has_number, less_by, stream_numbers}
 use Rattle.sctp_link.specs.declared.record.Message.{Message}
 use Rattle.sctp_link.specs.declared.record.Slot.{Slot}
-use Rattle.sctp_link.specs.Acking.{less_by}
 use Rattle.sctp_link.specs.OpenStreams.{marks}
-use Rattle.sctp_link.specs.Linked.{State, IsOpenStream, IsLinked, has_number, stats_of}
-use Rattle.sctp_link.specs.Places.{IsIndexed, stream_numbers}
+use Rattle.sctp_link.specs.Linked.{State, IsOpenStream, IsLinked, stats_of}
 use Rattle.sctp_link.specs.Records.{message_record, progress_of, slot_record, stream_record}
 use Rattle.sctp_link.proofs.upkeep.Apart.{map-set, map-set_same}
 use Rattle.sctp_link.proofs.sender.Beginning.{index_kept}
@@ -125,7 +123,7 @@ module _ (sum : List ℕ → ℕ) (x : State) (l : IsLinked sum x) (e : Event) (
       indexes = indexed-then.is;
       low = indexed-then.low;
       open_streams = each;
-      indexed = subst (IsIndexed x.places) (sym (ap stream_numbers ls_is ∙ fields-same (λ y. y.state.stream_identifier) (less_by bytes) (λ y. refl) s x.open_streams)) l.indexed;
+      apart = subst IsApart (sym (ap stream_numbers ls_is ∙ fields-same (λ y. y.state.stream_identifier) (less_by bytes) (λ y. refl) s x.open_streams)) l.apart;
       texts = λ k d g t. subst (λ u. slice_get u.network k ≡ Some g → IsDatagram sum (contents_of u g) (slice_index_or x.datagrams k d)) is (λ t'. texts-same sum x l e ok (ap (λ u. u.network) is ∙ network-same w n) k d g t') t;
     }
 

@@ -34,11 +34,9 @@ use Rattle.sctp_ties.proofs.giving_up.Released.{amount-expire}
 use Rattle.sctp_ties.proofs.amounts.StreamCounters.{counters-same}
 use Rattle.sctp_ties.proofs.giving_up.Expired.{tied-expire, expiring-front}
 use Rattle.sctp_ties.proofs.giving_up.ExpiredReply.{count-expire, number-lower, tells, Tells, peeked-is, reply-expire, bytes-expire}
-use Rattle.sctp_link.specs.declared.open_stream.OpenStream.{OpenStream}
+use Rattle.sctp_halves.specs.Streams.{OpenStream, expired_on, has_number, stats_in, stream_numbers}
 use Rattle.sctp_link.specs.declared.record.Message.{Message}
-use Rattle.sctp_link.specs.OpenStreams.{expired_on}
-use Rattle.sctp_link.specs.Linked.{State, IsOpenStream, IsLinked, has_number, stats_of, stats_in}
-use Rattle.sctp_link.specs.Places.{IsIndexed, stream_numbers}
+use Rattle.sctp_link.specs.Linked.{State, IsOpenStream, IsLinked, stats_of}
 use Rattle.sctp_link.specs.Records.{message_record, progress_of, stream_record}
 use Rattle.sctp_link.proofs.upkeep.Apart.{map-set, map-set_same}
 use Rattle.sctp_link.proofs.upkeep.ChangedStreams.{fields-same, changed-at}
@@ -90,7 +88,7 @@ module _ (sum : List ℕ → ℕ) (x : State) (l : IsLinked sum x) (now : ℕ) w
       indexes = l.indexes;
       low = l.low;
       open_streams = l.open_streams;
-      indexed = l.indexed;
+      apart = l.apart;
       texts = l.texts;
     }
 
@@ -191,7 +189,7 @@ module _ (sum : List ℕ → ℕ) (x : State) (l : IsLinked sum x) (now : ℕ) w
         indexes = (indexed-kept sum x l (E.Expire now) refl tt).is;
         low = l.low;
         open_streams = each;
-        indexed = subst (IsIndexed x.places) (sym (ap stream_numbers ls_is ∙ fields-same (λ y. y.state.stream_identifier) (expired_on ordered bytes) (number-kept ordered bytes) s x.open_streams)) l.indexed;
+        apart = subst IsApart (sym (ap stream_numbers ls_is ∙ fields-same (λ y. y.state.stream_identifier) (expired_on ordered bytes) (number-kept ordered bytes) s x.open_streams)) l.apart;
         texts = texts-same sum x l (E.Expire now) refl (ap (λ u. u.network) is);
       })
 

@@ -1,7 +1,8 @@
 -- What the filter of TSNs tells of slots, and what calls make of it, against the record.
-use Rattle.std.proofs.Common.{◌≡◌, ℕ, ◌+◌, ◌-◌, ◌<◌, ◌≤◌, ◌%◌, ◌^◌, Bool, true, false, List, [], ◌∷◌, ◌++◌, length, map, refl, ap, sym, ◌∙◌, arith}
-use Rattle.std.specs.Prelude.{◌==◌, ◌&&◌, ◌||◌, not, nat_le}
+use Rattle.std.proofs.Common.{◌≡◌, ℕ, ◌+◌, ◌-◌, ◌<◌, ◌≤◌, ◌%◌, ◌^◌, Bool, true, false, List, [], ◌∷◌, ◌++◌, length, map, refl, ap, sym, ◌∙◌, inl, inr, arith}
+use Rattle.std.specs.Prelude.{◌⊎◌, ◌==◌, ◌&&◌, ◌||◌, not, nat_le, nat_lt}
 use Rattle.std.specs.List.{list_any}
+use Rattle.std.proofs.lemmas.Bool.{cases_lt}
 use Rattle.std.proofs.lemmas.Bool.Decides.{nat_tests}
 use Rattle.sctp_lists.specs.Kept.{runs_of}
 use Rattle.sctp_lists.specs.Lists.{advanced, inserted, those, Seen}
@@ -17,7 +18,7 @@ use Rattle.sctp_model.specs.Changes.{slot_received}
 use Rattle.sctp_model.specs.Queues.{FilterRecord, filter_of}
 use Rattle.sctp_model.specs.Sound.{Sound}
 use Rattle.sctp_ties.specs.Holds.{seen_of}
-use Rattle.sctp_ties.proofs.arriving.Filter.{tsn_before}
+use Rattle.sctp_ties.proofs.arriving.Filter.{tsn_before, cumulative-le}
 use Rattle.sctp_ties.proofs.arriving.FilterQueue.{tsns, new-is}
 use Rattle.sctp_ties.proofs.arriving.SlotArrives
 use Rattle.sctp_transfer.specs.TsnFilter.{Filter, has_come, is_opposite, with_tsn, with_duplicate, skipped_to, offsets, gap_ack_blocks, block_of, mark}
@@ -39,6 +40,19 @@ unturned a false e = ap not e
 ahead : (first c k : ℕ) → c ≤ k → k < 2 ^ 31 → distance (tsn_before first c) ((first + k) % 2 ^ 32) ≡ k + 1 - c
 unfolding distance
 ahead first c k le lt = omega arith
+
+behind : (first c k : ℕ) → k < c → c < 2 ^ 31 → distance (tsn_before first c) ((first + k) % 2 ^ 32) ≡ (2 ^ 32 + k + 1 - c) % 2 ^ 32
+unfolding distance
+behind first c k lt few = omega arith
+
+-- and back
+back-before : (first c k : ℕ) → k < c → c < 2 ^ 31 → distance ((first + k) % 2 ^ 32) (tsn_before first c) ≡ c - 1 - k
+unfolding distance
+back-before first c k lt few = omega arith
+
+back-past : (first c k : ℕ) → c ≤ k → k < 2 ^ 31 → distance ((first + k) % 2 ^ 32) (tsn_before first c) ≡ 2 ^ 32 + c - 1 - k
+unfolding distance
+back-past first c k le lt = omega arith
 
 past-front : (w : World) (p : ℕ) → is_new w p ≡ true → cumulative w ≤ p
 past-front w p e = step (nat_le (cumulative w) p) (arrived_at w p) refl e
@@ -81,6 +95,36 @@ module _ (w : World) (f : Filter) (made : w.skipped ≤ length w.slots) (few : l
   later-is p lt le =
       let d = far p lt le in
       comes_before_from f.cumulative_tsn (tsn_of w p) (omega (arith, d, le)) (omega (arith, d, lt, few))
+
+  below : cumulative w < 2 ^ 31
+  below = omega (arith, few, cumulative-le w made)
+
+  -- no slot lies half the circle from the cumulative TSN
+  pub never-opposite : (p : ℕ) → p < length w.slots → is_opposite (tsn_of w p) f ≡ false
+  never-opposite p lt = fails (distance f.cumulative_tsn (tsn_of w p) == 2 ^ 31) (λ h. let e : distance f.cumulative_tsn (tsn_of w p) ≡ 2 ^ 31 = grind (arith, nat_tests) in by e (cases_lt p (cumulative w)))
+    where
+      by : distance f.cumulative_tsn (tsn_of w p) ≡ 2 ^ 31 → (p < cumulative w) ⊎ (cumulative w ≤ p) → ⊥
+      by e (inl b) =
+          let d = ap (λ c. distance c (tsn_of w p)) cumulative-is ∙ behind w.setup.first (cumulative w) p b below in
+          omega (arith, d, e, b, below)
+      by e (inr le) = omega (arith, far p lt le, e, lt, few)
+
+  -- a slot is at or before the cumulative TSN where it is passed
+  pub passed-is : (p : ℕ) → p < length w.slots → at_or_before (tsn_of w p) f.cumulative_tsn ≡ not (nat_le (cumulative w) p)
+  unfolding at_or_before
+  passed-is p lt = ap (λ c. nat_lt (distance (tsn_of w p) c) (2 ^ 31)) cumulative-is ∙ by (cases_lt p (cumulative w))
+    where
+      by : (p < cumulative w) ⊎ (cumulative w ≤ p) → nat_lt (distance (tsn_of w p) (tsn_before w.setup.first (cumulative w))) (2 ^ 31) ≡ not (nat_le (cumulative w) p)
+      by (inl b) =
+          let d = back-before w.setup.first (cumulative w) p b below in
+          let on : nat_lt (distance (tsn_of w p) (tsn_before w.setup.first (cumulative w))) (2 ^ 31) ≡ true = (let t : distance (tsn_of w p) (tsn_before w.setup.first (cumulative w)) < 2 ^ 31 = omega (arith, d, below) in grind (arith, nat_tests)) in
+          let off : nat_le (cumulative w) p ≡ false = grind (arith, nat_tests) in
+          on ∙ ap not (sym off)
+      by (inr le) =
+          let d = back-past w.setup.first (cumulative w) p le (omega (arith, lt, few)) in
+          let off : nat_lt (distance (tsn_of w p) (tsn_before w.setup.first (cumulative w))) (2 ^ 31) ≡ false = (let t : 2 ^ 31 ≤ distance (tsn_of w p) (tsn_before w.setup.first (cumulative w)) = omega (arith, d, lt, few) in grind (arith, nat_tests)) in
+          let on : nat_le (cumulative w) p ≡ true = grind (arith, nat_tests) in
+          off ∙ ap not (sym on)
 
 -- ## What calls make of it
 

@@ -40,14 +40,13 @@ use Rattle.sctp_ties.proofs.reading.ReadOne
 use Rattle.sctp_ties.proofs.reading.ReadOne.{ReadsWhole, ReadsOrdered}
 use Rattle.sctp_ties.proofs.arriving.SpanEnds.{Begins, set-begins, whole-begins}
 use Rattle.sctp_ties.proofs.amounts.StreamCounters.{counters-read, counters-nothing}
-use Rattle.sctp_link.specs.declared.open_stream.OpenStream.{OpenStream}
+use Rattle.sctp_halves.specs.Streams.{OpenStream, both_ways, has_number, stats_in, stream_numbers}
 use Rattle.sctp_link.specs.declared.record.Message.{Message}
 use Rattle.sctp_transfer.specs.Inbound.{counted, stream_read}
 use Rattle.sctp_transfer.specs.declared.receiver.inbound_streams.InboundStream.{InboundStream}
 use Rattle.sctp_stream.specs.declared.stream.DataChannelStats.{DataChannelStats}
 use Rattle.sctp_stream.specs.declared.stream.StreamState.{StreamState}
-use Rattle.sctp_link.specs.Linked.{State, IsLinked, IsOpenStream, has_number, stats_of, stats_in, both_ways}
-use Rattle.sctp_link.specs.Places.{stream_numbers}
+use Rattle.sctp_link.specs.Linked.{State, IsLinked, IsOpenStream, stats_of}
 use Rattle.sctp_link.specs.Records.{message_record, stream_record}
 use Rattle.sctp_stream.specs.Stats.{counted_bytes, with_received}
 use Rattle.sctp_link.proofs.sender.Beginning.{index_kept}
@@ -139,14 +138,14 @@ module _ (sum : List ℕ → ℕ) (x : State) (l : IsLinked sum x) (s at : ℕ) 
   span : IsSpan w s []
   span = (facts sum x l).sound.near s
 
-  whole-are : (stream_of w s).whole ≡ y.whole.items
+  whole-are : (stream_of w s).whole ≡ y.whole
   whole-are = ap (λ o. (unwrap_or o (no_stream s)).whole) open'
 
   rest : rest_read y.inbound.queue.held ≡ reassembly_of v s
   rest = let f = facts sum x l in ap rest_read here ∙ NextRead.rest-is w s r f.sound.sound f.sound.loose span open'
 
   streams-apart : IsApart (stream_numbers x.open_streams)
-  streams-apart = apart x.places (stream_numbers x.open_streams) l.indexed
+  streams-apart = l.apart
 
   filter-stays : filter_of v ≡ filter_of w
   filter-stays = filter-read w s (next_read w s)
@@ -195,7 +194,7 @@ module _ (sum : List ℕ → ℕ) (x : State) (l : IsLinked sum x) (s at : ℕ) 
         linked-then sum x l (E.Read s) none frame x.progress (slice_set x.open_streams at z) x.filter (record w { streams = map stream_record (slice_set x.open_streams at z) }) refl (l.filter ∙ sym filter-stays)
         (each-read z (stream-read z refl refl refl refl refl refl refl (i.next ∙ ap (next_of w) (id-at d) ∙ ap (λ u. next_of u s) (sym still)) (ap (λ o. both_ways y.state.stats (counted o y.inbound.stats)) e ∙ i.stats ∙ ap (λ t. stats_of (counters_on w t)) (id-at d) ∙ ap stats_of (sym (counters-nothing w s s nothing))))
         (λ t ne. ap (λ u. next_of u t) still) (λ t ne. counters-nothing w s t nothing))
-        (indexed-set x.places x.open_streams at z d l.indexed refl)
+        (apart-set x.open_streams at z d l.apart refl)
         quiet world-same
 
     module _ (u : OpenStream) (is : u ≡ record (slice_index_or x.open_streams at d) { inbound = stream_read (slice_index_or x.open_streams at d).inbound }) where
@@ -278,7 +277,7 @@ module _ (sum : List ℕ → ℕ) (x : State) (l : IsLinked sum x) (s at : ℕ) 
     module _ (m : Message) (messages : List W.Message) (z : OpenStream) (m_is : message_at x.world read-is.0 ≡ message_record m) (messages_are : messages ≡ changed mark_read read-is.0 x.world.messages)
         (state : z.state ≡ (slice_index_or x.open_streams at d).state)
         (inbound : z.inbound ≡ stream_read (slice_index_or x.open_streams at d).inbound)
-        (whole : z.whole.items ≡ (if m.ordered then (slice_index_or x.open_streams at d).whole.items else drop 1 (slice_index_or x.open_streams at d).whole.items))
+        (whole : z.whole ≡ (if m.ordered then (slice_index_or x.open_streams at d).whole else drop 1 (slice_index_or x.open_streams at d).whole))
         (index : m.index ≡ index_kept x.progress read-is.0)
         (ordered : z.ordered ≡ (slice_index_or x.open_streams at d).ordered)
         (begun : z.begun ≡ (slice_index_or x.open_streams at d).begun)
@@ -334,14 +333,14 @@ module _ (sum : List ℕ → ℕ) (x : State) (l : IsLinked sum x) (s at : ℕ) 
       abbrev shown : ℕ → StreamState → List ℕ → StreamRecord
       shown named t whole = record { stream = t.stream_identifier; unordered = t.unordered; reliability = t.reliability_type; value = t.reliability_value; named = named; whole = whole }
 
-      whole-is : z.whole.items ≡ drop 1 y.whole.items
+      whole-is : z.whole ≡ drop 1 y.whole
       whole-is =
-          whole ∙ ap (λ b. if b then y.whole.items else drop 1 y.whole.items) (ap (λ t. t.ordered) (sym m_is))
+          whole ∙ ap (λ b. if b then y.whole else drop 1 y.whole) (ap (λ t. t.ordered) (sym m_is))
           ∙ ap (λ l. if (message_at w read-is.0).ordered then l else drop 1 l) (sym whole-are) ∙ hands.whole ∙ ap (drop 1) whole-are
 
       streams-are : map stream_record (slice_set x.open_streams at z) ≡ map (λ (t : StreamRecord). if t.stream == s then without_first t else t) w.streams
       streams-are =
-          streams-set x.open_streams at z d without_first streams-apart lt (ap (λ (t : StreamState). shown z.named t z.whole.items) state ∙ ap (λ n. shown n y.state z.whole.items) named ∙ ap (shown y.named y.state) whole-is)
+          streams-set x.open_streams at z d without_first streams-apart lt (ap (λ (t : StreamState). shown z.named t z.whole) state ∙ ap (λ n. shown n y.state z.whole) named ∙ ap (shown y.named y.state) whole-is)
           ∙ ap (λ i. map (λ (t : StreamRecord). if t.stream == i then without_first t else t) (map stream_record x.open_streams)) (id-at d)
           ∙ ap (map (λ (t : StreamRecord). if t.stream == s then without_first t else t)) (sym streams_are)
 
@@ -355,7 +354,7 @@ module _ (sum : List ℕ → ℕ) (x : State) (l : IsLinked sum x) (s at : ℕ) 
       linked-read progress same =
           linked-then sum x l (E.Read s) none frame progress (slice_set x.open_streams at z) x.filter (record w { streams = map stream_record (slice_set x.open_streams at z); messages = messages }) same (l.filter ∙ sym filter-stays)
           (each-read z open_stream-is hands.other counters-other)
-          (indexed-set x.places x.open_streams at z d l.indexed same-id)
+          (apart-set x.open_streams at z d l.apart same-id)
           quiet world-read
 
       -- where the stream was set before

@@ -18,10 +18,10 @@ use Rattle.sctp_ties.proofs.reading.Line
 use Rattle.sctp_ties.proofs.reading.Taken
 use Rattle.sctp_ties.proofs.arriving.SpanEnds.{Begins, set-begins, set-at, sets-held, ends-none, lowest-front, highest-back}
 use Rattle.sctp_transfer.specs.TsnFilter.{has_come}
-use Rattle.sctp_link.specs.declared.open_stream.OpenStream.{OpenStream}
+use Rattle.sctp_halves.specs.Streams.{OpenStream, has_number}
 use Rattle.sctp_link.specs.declared.record.Message.{Message}
 use Rattle.sctp_link.specs.declared.record.Slot.{Slot}
-use Rattle.sctp_link.specs.Linked.{State, IsLinked, has_number}
+use Rattle.sctp_link.specs.Linked.{State, IsLinked}
 use Rattle.sctp_link.specs.Records.{message_record, slot_record, progress_of}
 use Rattle.sctp_link.proofs.receiver.Came.{new-tells}
 use Rattle.sctp_link.proofs.sender.Beginning.{index_kept}

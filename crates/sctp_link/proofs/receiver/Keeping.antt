@@ -13,9 +13,8 @@ use Rattle.sctp_ties.specs.Indexes.{begun_on}
 use Rattle.sctp_transfer.specs.declared.receiver.inbound_streams.InboundStream.{InboundStream}
 use Rattle.sctp_stream.specs.declared.stream.StreamState.{StreamState}
 use Rattle.sctp_transfer.specs.TsnFilter.{Filter}
-use Rattle.sctp_link.specs.declared.open_stream.OpenStream.{OpenStream}
+use Rattle.sctp_halves.specs.Streams.{OpenStream}
 use Rattle.sctp_link.specs.Linked.{State, IsLinked, IsOpenStream, stats_of, filter_shown}
-use Rattle.sctp_link.specs.Places.{IsIndexed}
 use Rattle.sctp_link.specs.Records.{stream_record}
 use Rattle.sctp_link.specs.Receiving.{IsUnchanged, TouchesOnly}
 use Rattle.sctp_link.proofs.receiver.Slots.{shown}
@@ -30,8 +29,8 @@ module _ (sum : List ℕ → ℕ) (x : State) (l : IsLinked sum x) (ls : List Op
   streams-stay =
       map-each stream_record x.open_streams ls t.count
       (λ k d lt. let u = t.others k d lt refl in
-      ap (λ (s : StreamState). shown (slice_index_or ls k d).named s (slice_index_or ls k d).whole.items) u.state
-      ∙ ap (λ n. shown n (slice_index_or x.open_streams k d).state (slice_index_or ls k d).whole.items) u.named
+      ap (λ (s : StreamState). shown (slice_index_or ls k d).named s (slice_index_or ls k d).whole) u.state
+      ∙ ap (λ n. shown n (slice_index_or x.open_streams k d).state (slice_index_or ls k d).whole) u.named
       ∙ ap (shown (slice_index_or x.open_streams k d).named (slice_index_or x.open_streams k d).state) u.whole)
       ∙ sym streams_are
 
@@ -68,7 +67,7 @@ module _ (sum : List ℕ → ℕ) (x : State) (l : IsLinked sum x) (ls : List Op
       open_streams = λ j c less.
           let inside : j < length x.open_streams = omega (arith, less, t.count) in
           stream-stays (slice_index_or x.open_streams j c) (slice_index_or ls j c) (t.others j c inside refl) (l.open_streams j c inside);
-      indexed = subst (λ ns. IsIndexed x.places ns) (sym (numbers-same [] x.open_streams ls t)) l.indexed;
+      indexed = subst (λ ns. IsIndexed x.places ns) (sym (numbers-same [] x.open_streams ls t)) l.apart;
       texts = l.texts;
     }
 

@@ -41,10 +41,9 @@ use Rattle.sctp_ties.proofs.arriving.SlotArrives
 use Rattle.sctp_ties.proofs.reading.ReadOne.{next-arrive}
 use Rattle.sctp_stream.specs.declared.stream.StreamState.{StreamState}
 use Rattle.sctp_transfer.specs.TsnFilter.{Filter}
-use Rattle.sctp_link.specs.declared.open_stream.OpenStream.{OpenStream}
+use Rattle.sctp_halves.specs.Streams.{OpenStream, has_number}
 use Rattle.sctp_link.specs.declared.record.Slot.{Slot}
-use Rattle.sctp_link.specs.Linked.{State, IsLinked, IsOpenStream, has_number, stats_of}
-use Rattle.sctp_link.specs.Places.{IsIndexed}
+use Rattle.sctp_link.specs.Linked.{State, IsLinked, IsOpenStream, stats_of}
 use Rattle.sctp_link.specs.Records.{slot_record, stream_record}
 use Rattle.sctp_link.specs.Receiving.{IsReceiver, Comes, AllCome, TouchesOnly}
 use Rattle.sctp_link.proofs.upkeep.Facts.{facts, over}
@@ -125,7 +124,7 @@ receiver-of sum x l slots dups a b c = record {
   filter_is = l.filter;
   queues = λ k d lt. let i = l.open_streams k d lt in record { held = i.held; si = i.si; largest = i.largest };
   places = x.places;
-  indexed = l.indexed;
+  apart = l.apart;
 }
 
 -- ## The record after them
@@ -219,7 +218,7 @@ module _ (sum : List ℕ → ℕ) (x : State) (l : IsLinked sum x) (k : ℕ) (ps
     pub linked-received : IsLinked sum (record x { world = record x.world { streams = map stream_record ls; slots = map slot_record slots; duplicates = dups }; open_streams = ls; filter = filter })
     linked-received =
         linked-then sum x l (E.Arrive k) none frame x.progress ls filter (record x.world { streams = map stream_record ls; slots = map slot_record slots; duplicates = dups }) refl
-        (r.filter_is ∙ ap filter_of (sym after-is)) stream-received (subst (λ ns. IsIndexed x.places ns) (sym (numbers-same js x.open_streams ls t)) l.indexed) quiet (world-received ∙ sym after-is)
+        (r.filter_is ∙ ap filter_of (sym after-is)) stream-received (subst (λ ns. IsIndexed x.places ns) (sym (numbers-same js x.open_streams ls t)) l.apart) quiet (world-received ∙ sym after-is)
 
     pub linked-then-at : (places : BTreeMap ℕ ℕ) → places ≡ x.places → IsLinked sum (record x { world = record x.world { streams = map stream_record ls; slots = map slot_record slots; duplicates = dups }; open_streams = ls; places = places; filter = filter })
     linked-then-at places same = subst (λ m. IsLinked sum (record x { world = record x.world { streams = map stream_record ls; slots = map slot_record slots; duplicates = dups }; open_streams = ls; places = m; filter = filter })) (sym same) linked-received

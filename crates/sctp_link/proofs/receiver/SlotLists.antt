@@ -21,7 +21,7 @@ use Rattle.sctp_model.specs.Changes.{slot_received}
 use Rattle.sctp_ties.proofs.arriving.SlotArrives
 use Rattle.sctp_ties.proofs.arriving.Stays.{by_place}
 use Rattle.sctp_stream.specs.declared.stream.StreamState.{StreamState}
-use Rattle.sctp_link.specs.declared.open_stream.OpenStream.{OpenStream}
+use Rattle.sctp_halves.specs.Streams.{OpenStream}
 use Rattle.sctp_link.specs.declared.record.Slot.{Slot}
 use Rattle.sctp_link.specs.declared.link.arriving.Saved.{Saved}
 use Rattle.sctp_link.specs.Receiving.{IsReceiver, Comes, AllCome, IsSaved, AllSaved, IsTouched, IsUnchanged, TouchesOnly, MarksOnly}
@@ -103,18 +103,18 @@ front-and (x ∷ xs) (suc i) = let r = front-and xs i in (r.0, ap (λ ys. x ∷ 
 
 module _ (ls : List OpenStream) (ss : List Slot) (p : ℕ) (c : ChunkPayloadData) (x : Saved) (saved : IsSaved ls ss p c x) where
   -- the stream is as it was
-  back-unchanged : (d y z : OpenStream) → IsTouched (slice_index_or ls x.at d) y → z.state ≡ y.state → z.inbound ≡ record y.inbound { queue = x.queue } → z.whole.items ≡ take x.whole y.whole.items → z.ordered ≡ y.ordered → z.begun ≡ y.begun → z.next ≡ y.next → z.named ≡ y.named → IsUnchanged (slice_index_or ls x.at d) z
+  back-unchanged : (d y z : OpenStream) → IsTouched (slice_index_or ls x.at d) y → z.state ≡ y.state → z.inbound ≡ record y.inbound { queue = x.queue } → z.whole ≡ take x.whole y.whole → z.ordered ≡ y.ordered → z.begun ≡ y.begun → z.next ≡ y.next → z.named ≡ y.named → IsUnchanged (slice_index_or ls x.at d) z
   back-unchanged d y z t state inbound whole ordered begun next named = record {
     state = state ∙ t.state;
     inbound = inbound ∙ ap (λ (b : InboundStream). record b { queue = x.queue }) t.inbound ∙ ap (λ q. record (slice_index_or ls x.at d).inbound { queue = q }) (saved.queue d);
-    whole = whole ∙ ap (λ k. take k y.whole.items) (saved.whole d) ∙ t.whole;
+    whole = whole ∙ ap (λ k. take k y.whole) (saved.whole d) ∙ t.whole;
     ordered = ordered ∙ t.ordered;
     begun = begun ∙ t.begun;
     next = next ∙ t.next;
     named = named ∙ t.named;
   }
 
-  pub put-back-stream : (ks : List ℕ) (cur : List OpenStream) (d z : OpenStream) → TouchesOnly (ks ++ x.at ∷ []) ls cur → z.state ≡ (slice_index_or cur x.at d).state → z.inbound ≡ record (slice_index_or cur x.at d).inbound { queue = x.queue } → z.whole.items ≡ take x.whole (slice_index_or cur x.at d).whole.items → z.ordered ≡ (slice_index_or cur x.at d).ordered → z.begun ≡ (slice_index_or cur x.at d).begun → z.next ≡ (slice_index_or cur x.at d).next → z.named ≡ (slice_index_or cur x.at d).named → TouchesOnly ks ls (slice_set cur x.at z)
+  pub put-back-stream : (ks : List ℕ) (cur : List OpenStream) (d z : OpenStream) → TouchesOnly (ks ++ x.at ∷ []) ls cur → z.state ≡ (slice_index_or cur x.at d).state → z.inbound ≡ record (slice_index_or cur x.at d).inbound { queue = x.queue } → z.whole ≡ take x.whole (slice_index_or cur x.at d).whole → z.ordered ≡ (slice_index_or cur x.at d).ordered → z.begun ≡ (slice_index_or cur x.at d).begun → z.next ≡ (slice_index_or cur x.at d).next → z.named ≡ (slice_index_or cur x.at d).named → TouchesOnly ks ls (slice_set cur x.at z)
   put-back-stream ks cur d z t state inbound whole ordered begun next named = record {
     count = length-set cur x.at z ∙ t.count;
     each = λ k e lt. by_place {C = IsTouched (slice_index_or ls k e) (slice_index_or (slice_set cur x.at z) k e)} k x.at

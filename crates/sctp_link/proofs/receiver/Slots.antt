@@ -24,10 +24,8 @@ use Rattle.sctp_ties.proofs.arriving.SlotArrives.{Enters, ordered-slot, unordere
 use Rattle.sctp_ties.proofs.reading.Keeps
 use Rattle.sctp_stream.specs.declared.stream.StreamState.{StreamState}
 use Rattle.sctp_transfer.specs.TsnFilter.{Filter, has_come, is_opposite, with_tsn, with_duplicate}
-use Rattle.sctp_link.specs.declared.open_stream.OpenStream.{OpenStream}
+use Rattle.sctp_halves.specs.Streams.{Keeps, OpenStream, stream_numbers}
 use Rattle.sctp_link.specs.declared.record.Slot.{Slot}
-use Rattle.sctp_link.specs.OpenStreams.{Keeps}
-use Rattle.sctp_link.specs.Places.{stream_numbers}
 use Rattle.sctp_link.specs.Records.{slot_record, stream_record}
 use Rattle.sctp_link.specs.Receiving.{HoldsQueue, IsReceiver, Comes}
 use Rattle.sctp_link.proofs.upkeep.Apart.{IsApart, apart, differ, each-set, map-set, map-set_same, streams-set}
@@ -167,11 +165,11 @@ module _ (w : World) (ls : List OpenStream) (slots : List Slot) (filter : Filter
         streams-apart : IsApart (stream_numbers ls)
         streams-apart = apart r.places (stream_numbers ls) r.indexed
 
-        shown-is : (b : Bool) → becomes_whole (with_arrived w p) n ≡ b → stream_record z ≡ shown y.named y.state (if b then y.whole.items ++ n ∷ [] else y.whole.items)
+        shown-is : (b : Bool) → becomes_whole (with_arrived w p) n ≡ b → stream_record z ≡ shown y.named y.state (if b then y.whole ++ n ∷ [] else y.whole)
         shown-is b h =
-            ap (λ (t : StreamState). shown z.named t z.whole.items) keeps.state
-            ∙ ap (λ n. shown n y.state z.whole.items) keeps.named
-            ∙ ap (shown y.named y.state) (keeps.noted ∙ ap (λ c. if c then y.whole.items ++ number ∷ [] else y.whole.items) (holds.noted ∙ h) ∙ ap (λ i. if b then y.whole.items ++ i ∷ [] else y.whole.items) number_is)
+            ap (λ (t : StreamState). shown z.named t z.whole) keeps.state
+            ∙ ap (λ n. shown n y.state z.whole) keeps.named
+            ∙ ap (shown y.named y.state) (keeps.noted ∙ ap (λ c. if c then y.whole ++ number ∷ [] else y.whole) (holds.noted ∙ h) ∙ ap (λ i. if b then y.whole ++ i ∷ [] else y.whole) number_is)
 
         streams-are : (b : Bool) → becomes_whole (with_arrived w p) n ≡ b → (if b then stream_changed (with_arrived w p) s (with_whole n) else with_arrived w p).streams ≡ map stream_record (slice_set ls at z)
         streams-are true h = sym (

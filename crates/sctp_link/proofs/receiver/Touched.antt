@@ -11,11 +11,8 @@ use Rattle.sctp_chunks.specs.declared.chunk.chunk_payload_data.ChunkPayloadData.
 use Rattle.sctp_ties.proofs.arriving.Stays.{by_place}
 use Rattle.sctp_transfer.specs.declared.receiver.inbound_streams.InboundStream.{InboundStream}
 use Rattle.sctp_stream.specs.declared.stream.StreamState.{StreamState}
-use Rattle.sctp_link.specs.declared.open_stream.OpenStream.{OpenStream}
+use Rattle.sctp_halves.specs.Streams.{Keeps, OpenStream, both_ways, stats_in, stream_numbers}
 use Rattle.sctp_link.specs.declared.record.Slot.{Slot}
-use Rattle.sctp_link.specs.Linked.{both_ways, stats_in}
-use Rattle.sctp_link.specs.OpenStreams.{Keeps}
-use Rattle.sctp_link.specs.Places.{stream_numbers}
 use Rattle.sctp_link.specs.Receiving.{IsTouched, IsUnchanged, TouchesOnly, MarksOnly}
 
 -- an element does not depend on what is given beyond the end
@@ -33,7 +30,7 @@ pub unchanged-touched : (y z : OpenStream) → IsUnchanged y z → IsTouched y z
 unchanged-touched y z u = record {
   state = u.state;
   inbound = subst (λ (t : InboundStream). t ≡ record y.inbound { queue = t.queue }) (sym u.inbound) refl;
-  whole = ap (take (length y.whole.items)) u.whole ∙ take_all (length y.whole.items) y.whole.items (omega arith);
+  whole = ap (take (length y.whole)) u.whole ∙ take_all (length y.whole) y.whole (omega arith);
   ordered = u.ordered;
   begun = u.begun;
   next = u.next;
@@ -44,16 +41,16 @@ pub keeps-touched : (c : ChunkPayloadData) (n : ℕ) (y z : OpenStream) → Keep
 keeps-touched c n y z k = record {
   state = k.state;
   inbound = k.inbound;
-  whole = ap (take (length y.whole.items)) k.noted ∙ first (k.whole && c.unordered);
+  whole = ap (take (length y.whole)) k.noted ∙ first (k.whole && c.unordered);
   ordered = k.ordered;
   begun = k.begun;
   next = k.next;
   named = k.named;
 }
   where
-    first : (b : Bool) → take (length y.whole.items) (if b then y.whole.items ++ n ∷ [] else y.whole.items) ≡ y.whole.items
-    first true = take-append_seam y.whole.items (n ∷ [])
-    first false = take_all (length y.whole.items) y.whole.items (omega arith)
+    first : (b : Bool) → take (length y.whole) (if b then y.whole ++ n ∷ [] else y.whole) ≡ y.whole
+    first true = take-append_seam y.whole (n ∷ [])
+    first false = take_all (length y.whole) y.whole (omega arith)
 
 take-longer : {A : Type 0} (xs ys : List A) → take (length xs) ys ≡ xs → length xs ≤ length ys
 take-longer [] ys e = omega arith
@@ -74,7 +71,7 @@ pub touched-then : (x y z : OpenStream) → IsTouched x y → IsTouched y z → 
 touched-then x y z a b = record {
   state = b.state ∙ a.state;
   inbound = b.inbound ∙ ap (λ (t : InboundStream). record t { queue = z.inbound.queue }) a.inbound;
-  whole = take-then x.whole.items y.whole.items z.whole.items a.whole b.whole;
+  whole = take-then x.whole y.whole z.whole a.whole b.whole;
   ordered = b.ordered ∙ a.ordered;
   begun = b.begun ∙ a.begun;
   next = b.next ∙ a.next;

@@ -10,10 +10,8 @@ use Rattle.sctp_model.proofs.sender.Shape.{shape}
 use Rattle.sctp_ties.specs.Indexes.{is_begun_on, begun_on}
 use Rattle.sctp_ties.proofs.sending.Begun.{Indexed}
 use Rattle.sctp_ties.proofs.amounts.StreamAmounts.{same-turned}
-use Rattle.sctp_link.specs.declared.open_stream.OpenStream.{OpenStream}
-use Rattle.sctp_link.specs.Linked.{State, IsLinked, IsOpenStream, has_number}
-use Rattle.sctp_link.specs.OpenStreams.{begun_in, begun_of, with_begun}
-use Rattle.sctp_link.specs.Places.{stream_numbers}
+use Rattle.sctp_halves.specs.Streams.{OpenStream, begun_in, begun_of, has_number, stream_numbers, with_begun}
+use Rattle.sctp_link.specs.Linked.{State, IsLinked, IsOpenStream}
 use Rattle.sctp_link.specs.Records.{stream_record}
 use Rattle.sctp_link.proofs.upkeep.Apart.{number-found}
 use Rattle.sctp_link.proofs.upkeep.Bounds.{messages-few}

@@ -30,11 +30,10 @@ use Rattle.sctp_ties.proofs.sending.Filling.{after_fragments, after-next, next-t
 use Rattle.sctp_ties.proofs.sending.Fragments.{shown, all-begun, tied-fragment, going-started}
 use Rattle.sctp_ties.proofs.sending.KindsRun.{Going, going-takes}
 use Rattle.sctp_ties.proofs.sending.LifetimesStart.{tied-started}
-use Rattle.sctp_link.specs.declared.open_stream.OpenStream.{OpenStream}
+use Rattle.sctp_halves.specs.Streams.{OpenStream, begun_in, begun_of, has_number, stream_numbers}
 use Rattle.sctp_link.specs.declared.record.Message.{Message}
-use Rattle.sctp_link.specs.Linked.{State, IsLinked, has_number}
-use Rattle.sctp_link.specs.OpenStreams.{start_from, slot_with, begins, begun_in, begun_of, with_fragment}
-use Rattle.sctp_link.specs.Places.{IsIndexed, stream_numbers}
+use Rattle.sctp_link.specs.Linked.{State, IsLinked}
+use Rattle.sctp_link.specs.OpenStreams.{start_from, slot_with, begins, with_fragment}
 use Rattle.sctp_link.specs.Records.{message_record, progress_of, slot_record, stream_record}
 use Rattle.sctp_link.specs.Sends.{Sender, CanSend, Leaves, Leave}
 use Rattle.sctp_link.proofs.upkeep.Apart.{map-set, map-set_same, number-found}
@@ -63,7 +62,6 @@ pub record Between (x : State) (now : ℕ) (v : World) (s : Sender) : Type 0 whe
   pub messages : map message_record s.messages ≡ (started x.world now).messages
   pub sents : (k : ℕ) → k < length x.world.messages → (slice_index_or (map progress_of s.messages) k (0, 0)).0 ≡ M.sent_of v k
   pub indexed : Indexed (shape v) (index_kept (map progress_of s.messages))
-  pub places : s.places ≡ x.places
   pub records : map stream_record s.streams ≡ x.world.streams
   pub numbers : stream_numbers s.streams ≡ stream_numbers x.open_streams
   pub streams : (k : ℕ) (d : OpenStream) → k < length s.streams → slice_index_or s.streams k d ≡ counted (begun_on v (slice_index_or x.open_streams k d).state.stream_identifier) (slice_index_or x.open_streams k d)
@@ -78,7 +76,7 @@ tied-room w q r room e t = subst (TiedOutbound w) (sym e) (record { pending = t.
 
 module _ (sum : List ℕ → ℕ) (x : State) (l : IsLinked sum x) (now : ℕ) (ms : List Message) (em : x.world.messages ≡ map message_record ms) (es : x.progress ≡ map progress_of ms) where
   pub between-none : (s : Sender) (q : Outbound) → TiedOutbound x.world q → s.outbound ≡ all_started now q → s.messages ≡ start_from x.unstarted now ms → s.streams ≡ x.open_streams → x.world.streams ≡ map stream_record x.open_streams → s.places ≡ x.places → x.world.slots ≡ map slot_record s.slots → s.next_tsn ≡ x.next_tsn → Between x now (started x.world now) s
-  between-none s q t out is streams rs places ew next = record {
+  between-none s q t out is streams rs ew next = record {
     going = going-started x.world.setup x.world now (facts sum x l).going;
     only = refl;
     taken = (facts sum x l).taken;
@@ -87,7 +85,6 @@ module _ (sum : List ℕ → ℕ) (x : State) (l : IsLinked sum x) (now : ℕ) (
     messages = ap (map message_record) is ∙ starts-records sum x l now ms em;
     sents = λ k lt. ap (λ (ps : List (ℕ × ℕ)). (slice_index_or ps k (0, 0)).0) progress ∙ l.sents k lt;
     indexed = subst (λ ps. Indexed (shape (started x.world now)) (index_kept ps)) (sym progress) (subst (λ y. Indexed y (index_kept x.progress)) (sym (Shapes.shape-started x.world now)) (indexed-of sum x l));
-    places = places;
     records = ap (map stream_record) streams ∙ sym rs;
     numbers = ap stream_numbers streams;
     streams = λ k d lt. ap (λ ls. slice_index_or ls k d) streams ∙ ap (λ n. counted n (slice_index_or x.open_streams k d)) ((l.open_streams k d (omega (arith, lt, ap length streams))).begun ∙ sym (ap (λ y. Begun.begun y (slice_index_or x.open_streams k d).state.stream_identifier) (Shapes.shape-started x.world now)));
@@ -176,14 +173,13 @@ module _ (x : State) (now : ℕ) (v : World) (s : Sender) (b : Between x now v s
     next-shown : peeked s.outbound.pending ≡ Some (waiting_at v n (M.sent_of v n))
     next-shown = shown x.world.setup v n s.outbound b.going fr b.outbound
 
-    pub can-send : IsIndexed x.places (stream_numbers x.open_streams) → CanSend s
-    can-send indexed = record {
+    pub can-send : CanSend s
+    can-send = record {
       chunk = waiting_at v n (M.sent_of v n);
       shown = next-shown;
       made = omega (arith, made-of, count-kept);
       fits = λ m at. omega (arith, sent-is n made-of m at, sent-few n);
       few = λ m at. begun-low m.stream;
-      indexed = subst (λ p. IsIndexed p (stream_numbers s.streams)) (sym b.places) (subst (IsIndexed x.places) (sym b.numbers) indexed);
       room =
           let then' : Going x.world.setup (with_slot v n false) = subst (λ o. Going x.world.setup (fragment_of_sent v o)) fr (going-takes x.world.setup v b.going) in
           one-more-fits x.world.setup v (with_slot v n false) s.outbound then' (length-append v.slots _) b.outbound;
@@ -312,7 +308,6 @@ module _ (x : State) (now : ℕ) (v : World) (s : Sender) (b : Between x now v s
             ∙ map-set_same message_record s.messages n (with_fragment s.streams f.message) f.message (ap message_record at) ∙ b.messages;
         sents = λ k lt. ap (λ (ps : List (ℕ × ℕ)). (slice_index_or ps k (0, 0)).0) progress ∙ sents-then k lt;
         indexed = subst (λ ps. Indexed (shape (with_slot v n false)) (index_kept ps)) (sym progress) indexed-then;
-        places = f.places ∙ b.places;
         records = ap (map stream_record) f.streams ∙ records-begun (begins f.message) f.message.stream s.streams ∙ b.records;
         numbers = ap stream_numbers f.streams ∙ numbers-begun (begins f.message) f.message.stream s.streams ∙ b.numbers;
         streams = streams-then;
@@ -328,12 +323,12 @@ between-more x now v s t b some f = by (front v) refl some
     by None e h = cc
     by (Some n) e h = between-one x now v s b n e t f
 
-pub between-can : (x : State) (now : ℕ) (v : World) (s : Sender) → Between x now v s → IsIndexed x.places (stream_numbers x.open_streams) → is_some (front v) ≡ true → CanSend s
-between-can x now v s b indexed some = by (front v) refl some
+pub between-can : (x : State) (now : ℕ) (v : World) (s : Sender) → Between x now v s → is_some (front v) ≡ true → CanSend s
+between-can x now v s b some = by (front v) refl some
   where
     by : (o : Option ℕ) → front v ≡ o → is_some o ≡ true → CanSend s
     by None e h = cc
-    by (Some n) e h = can-send x now v s b n e indexed
+    by (Some n) e h = can-send x now v s b n e
 
 -- ## So many
 
@@ -343,5 +338,5 @@ between-after x now u s b count some (suc i) le t f =
     subst (λ z. Between x now z t) (sym (after-next i u))
     (between-more x now (after_fragments i u) f.0 t (between-after x now u s b count some i (omega (arith, le)) f.0 f.1.0) (some i (omega (arith, le))) f.1.1)
 
-pub each-can : (x : State) (now : ℕ) (u : World) (s : Sender) → Between x now u s → IsIndexed x.places (stream_numbers x.open_streams) → (count : ℕ) → ((i : ℕ) → i < count → is_some (front (after_fragments i u)) ≡ true) → (i : ℕ) (t : Sender) → i < count → Leave now i s t → CanSend t
-each-can x now u s b indexed count some i t lt f = between-can x now (after_fragments i u) t (between-after x now u s b count some i (omega (arith, lt)) t f) indexed (some i lt)
+pub each-can : (x : State) (now : ℕ) (u : World) (s : Sender) → Between x now u s → (count : ℕ) → ((i : ℕ) → i < count → is_some (front (after_fragments i u)) ≡ true) → (i : ℕ) (t : Sender) → i < count → Leave now i s t → CanSend t
+each-can x now u s b count some i t lt f = between-can x now (after_fragments i u) t (between-after x now u s b count some i (omega (arith, lt)) t f) (some i lt)

@@ -2,15 +2,13 @@
 use Rattle.std.proofs.Common.{◌≡◌, ℕ, zero, suc, ◌+◌, ◌-◌, ◌*◌, ◌<◌, ◌≤◌, ◌%◌, ◌^◌, Bool, true, false, List, [], ◌∷◌, ◌++◌, length, map, drop, Some, None, refl, ap, sym, ◌∙◌, arith}
 use Rattle.std.specs.Prelude.{◌==◌, ◌||◌, not, slice_index_or}
 use Rattle.std.proofs.Math.Path.{subst}
-use Rattle.std.proofs.lemmas.Bool.Decides.{nat_tests}
 use Rattle.sctp_lists.specs.Kept.{kept, always, numbers_from}
 use Rattle.sctp_lists.specs.Lists.{pieces}
-use Rattle.sctp_lists.proofs.Cases.{same-yes}
 use Rattle.sctp_chunks.specs.declared.chunk.chunk_payload_data.ChunkPayloadData.{ChunkPayloadData}
 use Rattle.sctp_chunks.specs.declared.chunk.chunk_payload_data.PayloadProtocolIdentifier.{PayloadProtocolIdentifier}
 use Rattle.sctp_chunks.specs.declared.chunk.chunk_payload_data.PayloadProtocolIdentifier.TheVariants.{Dcep, String, Binary, StringEmpty, BinaryEmpty, Unknown}
 use Rattle.sctp_outbound.specs.outbound_queue.OutboundQueue.{with_message_id}
-use Rattle.sctp_outbound.specs.pending_queue.Whole.{IsMessage, IsMessageOrNone}
+use Rattle.sctp_transfer.specs.Outgoing.{fragments_with_mode, with_reliability}
 use Rattle.sctp_serial.specs.DataChunks.{bytes_of}
 use Rattle.sctp_model.specs.World.{World, StreamRecord}
 use Rattle.sctp_model.specs.Messages.{message_of, fragment_count, ordered_before, is_dcep}
@@ -21,7 +19,6 @@ use Rattle.sctp_ties.proofs.sending.Written
 use Rattle.sctp_stream.specs.declared.stream.StreamState.{StreamState}
 use Rattle.sctp_stream.specs.Stream as stream
 use Rattle.sctp_stream.specs.Stream.{fragment_at, fragments_of, cut}
-use Rattle.sctp_link.specs.OpenStreams.{with_mode, fragments_with_mode}
 use Rattle.sctp_link.proofs.sender.Outgoing.{piece-short}
 use Rattle.sctp_link.proofs.upkeep.Bounds.{bytes-few}
 
@@ -45,38 +42,10 @@ map-same f g e (x ∷ xs) = ap (λ y. y ∷ map f xs) (e x) ∙ ap (λ l. g x �
 
 -- fragment i with the mode of its stream
 abbrev made : StreamState → PayloadProtocolIdentifier → List ℕ → ℕ → ChunkPayloadData
-made s ppi bytes i = with_mode s.reliability_type s.reliability_value (fragment_at s ppi bytes i)
+made s ppi bytes i = with_reliability s.reliability_type s.reliability_value (fragment_at s ppi bytes i)
 
 pub fragments-made : (s : StreamState) (ppi : PayloadProtocolIdentifier) (bytes : List ℕ) → fragments_with_mode s ppi bytes ≡ map (made s ppi bytes) (numbers_from 0 (length (cut s bytes)))
-fragments-made s ppi bytes = map-twice (with_mode s.reliability_type s.reliability_value) (fragment_at s ppi bytes) (numbers_from 0 (length (cut s bytes)))
-
--- ## One message
-
-message-from : (h : ℕ → ChunkPayloadData) (kind goes : Bool) (i k total : ℕ) → i + suc k ≡ total → (i == 0) ≡ not goes → ((j : ℕ) → (h j).beginning_fragment ≡ (j == 0)) → ((j : ℕ) → (h j).ending_fragment ≡ (j + 1 == total)) → ((j : ℕ) → (h j).unordered ≡ kind) → IsMessage kind goes (map h (kept always i (suc k)))
-message-from h kind goes i zero total e first begins ends same =
-    let last : (i + 1 == total) ≡ true = (let z : i + 1 ≡ total = omega (arith, e) in grind (arith, nat_tests)) in
-    (begins i ∙ first, ends i ∙ last, same i)
-message-from h kind goes i (suc k) total e first begins ends same =
-    let more : (i + 1 == total) ≡ false = (let z : i + 1 < total = omega (arith, e) in grind (arith, nat_tests)) in
-    let later : (i + 1 == 0) ≡ not true = grind (arith, nat_tests) in
-    (begins i ∙ first, ends i ∙ more, same i, message-from h kind true (i + 1) k total (omega (arith, e)) later begins ends same)
-
-count-some : (size : ℕ) (bytes : List ℕ) → 0 < length bytes → (k : ℕ) × (length (pieces (length bytes) size bytes) ≡ suc k)
-count-some size [] some = absurd (omega arith)
-count-some size (b ∷ bs) some = (length (pieces (length bs) size (drop size (b ∷ bs))), refl)
-
-none-or : (kind : Bool) (xs : List ChunkPayloadData) → IsMessage kind false xs → IsMessageOrNone xs
-none-or kind [] m = tt
-none-or kind (c ∷ []) m = (m.0, m.1, refl)
-none-or kind (c ∷ d ∷ ds) m = let same : c.unordered ≡ kind = m.2 in subst (λ k. IsMessage k false (c ∷ d ∷ ds)) (sym same) m
-
-pub one-message : (s : StreamState) (ppi : PayloadProtocolIdentifier) (bytes : List ℕ) → 0 < length bytes → IsMessageOrNone (fragments_with_mode s ppi bytes)
-one-message s ppi bytes some =
-    let k = count-some s.max_payload_size bytes some in
-    let kind = not (stream.is_ordered s.unordered ppi) in
-    subst IsMessageOrNone (sym (fragments-made s ppi bytes ∙ ap (λ n. map (made s ppi bytes) (numbers_from 0 n)) k.1))
-    (none-or kind (map (made s ppi bytes) (numbers_from 0 (suc k.0)))
-    (message-from (made s ppi bytes) kind false 0 k.0 (length (cut s bytes)) (omega (arith, k.1)) (same-yes 0) (λ j. refl) (λ j. refl) (λ j. refl)))
+fragments-made s ppi bytes = map-twice (with_reliability s.reliability_type s.reliability_value) (fragment_at s ppi bytes) (numbers_from 0 (length (cut s bytes)))
 
 pub fragments-few : (s : StreamState) (ppi : PayloadProtocolIdentifier) (bytes : List ℕ) → s.max_payload_size ≤ 65519 → bytes_of (fragments_with_mode s ppi bytes) ≤ 65519 * length (cut s bytes)
 fragments-few s ppi bytes small =

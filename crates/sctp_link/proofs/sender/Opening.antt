@@ -1,5 +1,4 @@
 -- A stream opens.
-use Rattle.std.specs.BTreeMap.{BTreeMap}
 use Rattle.std.proofs.Common.{◌≡◌, ℕ, ◌%◌, ◌^◌, Bool, true, false, List, [], ◌∷◌, ◌++◌, length, map, Option, Some, None, refl, ap, sym, ◌∙◌, arith, length-append}
 use Rattle.std.specs.Prelude.{◌==◌, if◌then◌else◌, slice_index_or, find, is_some}
 use Rattle.std.proofs.Math.Path.{subst}
@@ -24,14 +23,12 @@ use Rattle.sctp_ties.proofs.amounts.StreamAmounts.{amount-none}
 use Rattle.sctp_ties.proofs.amounts.StreamCounters.{counters-none}
 use Rattle.sctp_ties.proofs.acknowledging.QuietSender.{outbound-same, same-self}
 use Rattle.sctp_ties.specs.Holds.{reassembly_of}
-use Rattle.sctp_link.specs.declared.open_stream.OpenStream.{OpenStream}
-use Rattle.sctp_link.specs.Places.{IsIndexed, stream_numbers}
+use Rattle.sctp_halves.specs.Streams.{OpenStream, has_number, new_open_stream}
 use Rattle.sctp_link.specs.Records.{stream_record}
-use Rattle.sctp_transfer.specs.Inbound as Inbound
-use Rattle.sctp_stream.specs.Stream.{new_stream}
-use Rattle.sctp_link.specs.Linked.{State, IsOpenStream, IsLinked, has_number, stats_of}
+use Rattle.sctp_link.specs.Linked.{State, IsOpenStream, IsLinked, stats_of}
 use Rattle.sctp_link.proofs.upkeep.Facts.{Facts, facts, stands-then}
 use Rattle.sctp_link.proofs.upkeep.Frames.{stream-same, texts-same}
+use Rattle.sctp_link.proofs.upkeep.Places.{apart-more}
 
 -- ## Streams among those that are open
 
@@ -45,12 +42,8 @@ open-found s (l ∷ ls) = by (l.state.stream_identifier == s) (open-found s ls)
     by false e = e
 
 -- the record of one more stream
-pub streams-more : (s size largest : ℕ) (ls open_streams : List OpenStream) (m : OpenStream) → open_streams ≡ ls ++ m ∷ [] → m.state ≡ new_stream s size largest Unknown → m.whole.items ≡ [] → m.named ≡ 0 → map stream_record open_streams ≡ map stream_record ls ++ no_stream s ∷ []
-streams-more s size largest ls open_streams m e is none unnamed =
-    ap (map stream_record) e ∙ map-append stream_record ls (m ∷ [])
-    ∙ ap (λ st. map stream_record ls ++ stream_record (record m { state = st }) ∷ []) is
-    ∙ ap (λ ws. let r : StreamRecord = record { stream = s; unordered = false; reliability = Reliable; value = 0; named = m.named; whole = ws } in map stream_record ls ++ r ∷ []) none
-    ∙ ap (λ n. let r : StreamRecord = record { stream = s; unordered = false; reliability = Reliable; value = 0; named = n; whole = [] } in map stream_record ls ++ r ∷ []) unnamed
+pub streams-more : (s size largest : ℕ) (ls : List OpenStream) → map stream_record (ls ++ new_open_stream s size largest ∷ []) ≡ map stream_record ls ++ no_stream s ∷ []
+streams-more s size largest ls = map-append stream_record ls (new_open_stream s size largest ∷ [])
 
 -- ## The event
 
@@ -73,24 +66,22 @@ module _ (sum : List ℕ → ℕ) (x : State) (l : IsLinked sum x) (s : ℕ) (ok
       (record { setup = refl; held = Opened.opened-same x.world s t.state.stream_identifier closed; ordered = refl; next = subst (λ u. next_of (opened u s) t.state.stream_identifier ≡ next_of u t.state.stream_identifier) (sym l.stands.is) (next-same x.world.setup l.history (E.Open s) t.state.stream_identifier l.setup l.stands.run (ap (λ u. refusal_of u (E.Open s)) (sym l.stands.is) ∙ ok) tt); amount = refl; counters = refl })
       refl i
 
-  stream-new : (m : OpenStream) → m.state ≡ new_stream s x.world.setup.size x.world.setup.largest Unknown → m.inbound ≡ Inbound.new_stream s x.world.setup.largest → m.ordered ≡ 0 → m.begun ≡ 0 → m.next ≡ 0 → IsOpenStream (opened x.world s) m
-  stream-new m is nothing none no-begun first =
+  stream-new : IsOpenStream (opened x.world s) (new_open_stream s x.world.setup.size x.world.setup.largest)
+  stream-new =
       let a : reassembly_of (opened x.world s) s ≡ (let q : Reassembly = record { next_ssn = 0; ordered = []; unordered = []; loose = [] } in q) = Opened.opened-same x.world s s closed ∙ Opened.closed-empty x.world.setup x.world s f.sane closed in
       let n : next_of (opened x.world s) s ≡ 0 = subst (λ u. next_of (opened u s) s ≡ next_of u s) (sym l.stands.is) (next-same x.world.setup l.history (E.Open s) s l.setup l.stands.run (ap (λ u. refusal_of u (E.Open s)) (sym l.stands.is) ∙ ok) tt) ∙ Opened.next x.world.setup x.world s f.sane closed in
-      subst (λ st. IsOpenStream (opened x.world s) (record m { state = st })) (sym is)
-      (subst (λ b. IsOpenStream (opened x.world s) (record m { state = new_stream s x.world.setup.size x.world.setup.largest Unknown; inbound = b })) (sym nothing)
-      (record {
+      record {
         held = sym a;
         si = refl;
         largest = refl;
         size = refl;
-        ordered = none ∙ sym (ap length (Opened.line x.world.setup x.world s f.sane closed));
-        number = sym (ap (λ k. k % 2 ^ 16) none);
-        begun = no-begun ∙ sym (begun-closed x.world.setup x.world s f.sane closed);
-        next = first ∙ sym n;
+        ordered = sym (ap length (Opened.line x.world.setup x.world s f.sane closed));
+        number = refl;
+        begun = sym (begun-closed x.world.setup x.world s f.sane closed);
+        next = sym n;
         amount = sym (amount-none x.world.setup x.world s f.sane closed);
         stats = sym (ap stats_of (counters-none x.world.setup x.world s f.sane closed));
-      }))
+      }
 
   -- and no open stream has its number
   pub new-number : find (has_number s) x.open_streams ≡ None
@@ -100,8 +91,12 @@ module _ (sum : List ℕ → ℕ) (x : State) (l : IsLinked sum x) (s : ℕ) (ok
       none None e = refl
       none (Some t) e = cc
 
-  pub linked-open : (m : OpenStream) (open_streams : List OpenStream) (places : BTreeMap ℕ ℕ) → open_streams ≡ x.open_streams ++ m ∷ [] → IsIndexed places (stream_numbers open_streams) → m.state ≡ new_stream s x.world.setup.size x.world.setup.largest Unknown → m.inbound ≡ Inbound.new_stream s x.world.setup.largest → m.ordered ≡ 0 → m.begun ≡ 0 → m.next ≡ 0 → IsLinked sum (record x { world = opened x.world s; open_streams = open_streams; places = places })
-  linked-open m open_streams places e found is nothing none no-begun first = subst (λ ls. IsLinked sum (record x { world = opened x.world s; open_streams = ls; places = places })) (sym e) (record {
+  -- the stream that opens
+  abbrev pub m : OpenStream
+  m = new_open_stream s x.world.setup.size x.world.setup.largest
+
+  pub linked-open : IsLinked sum (record x { world = v; open_streams = x.open_streams ++ m ∷ [] })
+  linked-open = record {
     setup = l.setup;
     history = (E.Open s, reply_to x.world (E.Open s)) ∷ l.history;
     stands = stands-then x.world.setup x.world l.history (E.Open s) ok l.stands;
@@ -117,7 +112,7 @@ module _ (sum : List ℕ → ℕ) (x : State) (l : IsLinked sum x) (s : ℕ) (ok
     low = l.low;
     open_streams = λ k d lt. by_last {P = IsOpenStream (opened x.world s) (slice_index_or (x.open_streams ++ m ∷ []) k d)} k (length x.open_streams) (omega (arith, lt, length-append x.open_streams (m ∷ [])))
         (λ below. subst (IsOpenStream (opened x.world s)) (sym (get-snoc_old x.open_streams m k d (λ z. absurd (omega (arith, below, z))))) (stream-old (slice_index_or x.open_streams k d) (l.open_streams k d below)))
-        (λ z. subst (IsOpenStream (opened x.world s)) (sym (ap (λ j. slice_index_or (x.open_streams ++ m ∷ []) j d) z ∙ get-snoc_new x.open_streams m d)) (stream-new m is nothing none no-begun first));
-    indexed = subst (λ ls. IsIndexed places (stream_numbers ls)) e found;
+        (λ z. subst (IsOpenStream (opened x.world s)) (sym (ap (λ j. slice_index_or (x.open_streams ++ m ∷ []) j d) z ∙ get-snoc_new x.open_streams m d)) stream-new);
+    apart = apart-more x.open_streams m l.apart new-number;
     texts = texts-same sum x l (E.Open s) ok refl;
-  })
+  }

@@ -144,7 +144,7 @@ module _ (sum : List ℕ → ℕ) (x : State) (l : IsLinked sum x) (tsn : ℕ) (
     indexes = l.indexes;
     low = l.low;
     open_streams = λ k d lt. stream-same x.world v (slice_index_or x.open_streams k d) (record { setup = refl; held = refl; ordered = refl; next = refl; amount = refl; counters = refl }) refl (l.open_streams k d lt);
-    indexed = l.indexed;
+    apart = l.apart;
     texts = texts-more sum x l (E.Resend tsn) ok (W.Data (p ∷ [])) bytes refl count (says-data sum v p bytes (data_of c) (resend-says c e) text reads);
   }
     where

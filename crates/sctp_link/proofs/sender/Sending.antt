@@ -39,10 +39,9 @@ use Rattle.sctp_ties.proofs.sending.Filling.{Fills, fill-sent, fill-started, sen
 use Rattle.sctp_ties.proofs.sending.Fragments.{shown, idle}
 use Rattle.sctp_ties.proofs.sending.InLine.{before-started}
 use Rattle.sctp_ties.proofs.acknowledging.QuietSender.{outbound-same, same-self}
+use Rattle.sctp_halves.specs.Streams.{OpenStream, stream_numbers}
 use Rattle.sctp_link.specs.Texts.{IsDatagram, packet_with, wire_data}
-use Rattle.sctp_link.specs.declared.open_stream.OpenStream.{OpenStream}
 use Rattle.sctp_link.specs.Linked.{State, IsLinked, IsOpenStream}
-use Rattle.sctp_link.specs.Places.{IsIndexed, stream_numbers}
 use Rattle.sctp_link.specs.Records.{progress_of}
 use Rattle.sctp_link.specs.Sends.{Sender}
 use Rattle.sctp_link.proofs.upkeep.Facts.{facts, stands-then}
@@ -226,7 +225,7 @@ module _ (sum : List ℕ → ℕ) (x : State) (l : IsLinked sum x) (now n : ℕ)
     outbound-sent : TiedOutbound v s.outbound
     outbound-sent = let r : World = record u { slots = z.slots } in outbound-same r v (same-self r v refl refl refl refl) s.outbound (subst (λ y. TiedOutbound y s.outbound) only b.outbound)
 
-    pub linked-send : IsLinked sum (record x { world = v; open_streams = s.streams; places = s.places; progress = map progress_of s.messages; unstarted = length x.world.messages; datagrams = x.datagrams ++ bytes ∷ []; outbound = s.outbound; next_tsn = s.next_tsn })
+    pub linked-send : IsLinked sum (record x { world = v; open_streams = s.streams; progress = map progress_of s.messages; unstarted = length x.world.messages; datagrams = x.datagrams ++ bytes ∷ []; outbound = s.outbound; next_tsn = s.next_tsn })
     linked-send = record {
       setup = l.setup;
       history = (E.Send now, reply_to w (E.Send now)) ∷ l.history;
@@ -242,6 +241,6 @@ module _ (sum : List ℕ → ℕ) (x : State) (l : IsLinked sum x) (now n : ℕ)
       indexes = indexed-sent.is;
       low = indexed-sent.low;
       open_streams = stream-sent;
-      indexed = subst (λ p. IsIndexed p (stream_numbers s.streams)) (sym b.places) (subst (IsIndexed x.places) (sym b.numbers) l.indexed);
+      apart = subst IsApart (sym b.numbers) l.apart;
       texts = texts-sent;
     }

@@ -57,16 +57,16 @@ module _ (sum : List ℕ → ℕ) (x : State) (l : IsLinked sum x) (now : ℕ) (
 
   -- ## They leave
 
-  module _ (ms : List Message) (slots : List Slot) (streams : x.world.streams ≡ map stream_record x.open_streams) (em : x.world.messages ≡ map message_record ms) (es : x.progress ≡ map progress_of ms) (ew : x.world.slots ≡ map slot_record slots) (s : Sender) (q : Outbound) (room : ℕ) (eq : q ≡ record x.outbound { inflight = record x.outbound.inflight { room = room } }) (out : s.outbound ≡ all_started now q) (is : s.messages ≡ start_from x.unstarted now ms) (opened : s.streams ≡ x.open_streams) (places : s.places ≡ x.places) (given : s.slots ≡ slots) (tsn : s.next_tsn ≡ x.next_tsn) where
+  module _ (ms : List Message) (slots : List Slot) (streams : x.world.streams ≡ map stream_record x.open_streams) (em : x.world.messages ≡ map message_record ms) (es : x.progress ≡ map progress_of ms) (ew : x.world.slots ≡ map slot_record slots) (s : Sender) (q : Outbound) (room : ℕ) (eq : q ≡ record x.outbound { inflight = record x.outbound.inflight { room = room } }) (out : s.outbound ≡ all_started now q) (is : s.messages ≡ start_from x.unstarted now ms) (opened : s.streams ≡ x.open_streams) (given : s.slots ≡ slots) (tsn : s.next_tsn ≡ x.next_tsn) where
     base : Between x now (started x.world now) s
-    base = between-none sum x l now ms em es s q (tied-room x.world x.outbound q room eq l.outbound) out is opened streams places (ew ∙ ap (map slot_record) (sym given)) tsn
+    base = between-none sum x l now ms em es s q (tied-room x.world x.outbound q room eq l.outbound) out is opened streams (ew ∙ ap (map slot_record) (sym given)) tsn
 
     fills : Fills (started x.world now) (fragments_sent (started x.world now)) (chunks_taken x.world.setup.limit x.next_tsn x.outbound.pending)
     fills = Sending.fills sum x l now c.message_id next.front
 
     -- each can, in its turn
     pub can-leave : (count : ℕ) → count ≡ many → (i : ℕ) (t : Sender) → i < count → Leave now i s t → CanSend t
-    can-leave count ec i t lt f = each-can x now (started x.world now) s base l.indexed many fills.fronts i t (omega (arith, lt, ec)) f
+    can-leave count ec i t lt f = each-can x now (started x.world now) s base many fills.fronts i t (omega (arith, lt, ec)) f
 
     module _ (count : ℕ) (ec : count ≡ many) (t : Sender) (f : Leave now count s t) where
       pub gone : Between x now (fragments_sent (started x.world now)) t
@@ -93,13 +93,13 @@ module _ (sum : List ℕ → ℕ) (x : State) (l : IsLinked sum x) (now : ℕ) (
             (Sending.send-right sum x l now c.message_id next.front ssn (ess ∙ ap (λ (d : ChunkPayloadData). d.stream_sequence_number) next.is))))
 
         pub linked-sent : (ks : List ChunkKind) → ks ≡ map C.PayloadData (chunks_taken x.world.setup.limit x.next_tsn x.outbound.pending) → bytes ≡ packet_text sum (packet_with (map wire_of ks)) → ReadsPacket sum bytes (packet_with (map wire_of ks)) → x.datagrams ≡ map (λ g. g.bytes) ds → (unstarted : ℕ) → unstarted ≡ length ms → (acked : ℕ) → acked ≡ x.acked_tsn
-            → IsLinked sum (record x { world = record x.world { streams = map stream_record t.streams; messages = map message_record ms'; slots = map slot_record t.slots; network = map datagram_record ds' }; open_streams = t.streams; places = t.places; progress = map progress_of ms'; unstarted = unstarted; datagrams = map (λ g. g.bytes) ds'; outbound = t.outbound; next_tsn = t.next_tsn; acked_tsn = acked })
+            → IsLinked sum (record x { world = record x.world { streams = map stream_record t.streams; messages = map message_record ms'; slots = map slot_record t.slots; network = map datagram_record ds' }; open_streams = t.streams; progress = map progress_of ms'; unstarted = unstarted; datagrams = map (λ g. g.bytes) ds'; outbound = t.outbound; next_tsn = t.next_tsn; acked_tsn = acked })
         linked-sent ks eks text reads eb unstarted eu acked ea =
             let v = Sending.v sum x l now c.message_id next.front in
             let len : length x.datagrams ≡ length x.world.network = ap length eb ∙ length-mapped (λ (g : Datagram). g.bytes) ds ∙ sym (ap length en ∙ length-mapped datagram_record ds) in
             let whole = Sending.linked-send sum x l now c.message_id next.front t gone bytes (Sending.says sum x l now c.message_id next.front ks bytes eks text reads) len in
-            subst (λ a. IsLinked sum (record x { world = record x.world { streams = map stream_record t.streams; messages = map message_record ms'; slots = map slot_record t.slots; network = map datagram_record ds' }; open_streams = t.streams; places = t.places; progress = map progress_of ms'; unstarted = unstarted; datagrams = map (λ g. g.bytes) ds'; outbound = t.outbound; next_tsn = t.next_tsn; acked_tsn = a })) (sym ea)
-            (moved sum (record x { world = record x.world { streams = map stream_record t.streams; messages = map message_record ms'; slots = map slot_record t.slots; network = map datagram_record ds' }; open_streams = t.streams; places = t.places; progress = map progress_of ms'; unstarted = unstarted; datagrams = map (λ g. g.bytes) ds'; outbound = t.outbound; next_tsn = t.next_tsn }) v world-sent
-            (subst (λ a. IsLinked sum (record x { world = v; open_streams = t.streams; places = t.places; progress = map progress_of a; unstarted = unstarted; datagrams = map (λ g. g.bytes) ds'; outbound = t.outbound; next_tsn = t.next_tsn })) (sym em')
-            (subst (λ a. IsLinked sum (record x { world = v; open_streams = t.streams; places = t.places; progress = map progress_of t.messages; unstarted = a; datagrams = map (λ g. g.bytes) ds'; outbound = t.outbound; next_tsn = t.next_tsn })) (sym (eu ∙ sym (ap length em ∙ length-mapped message_record ms)))
-            (subst (λ a. IsLinked sum (record x { world = v; open_streams = t.streams; places = t.places; progress = map progress_of t.messages; unstarted = length x.world.messages; datagrams = a; outbound = t.outbound; next_tsn = t.next_tsn })) (sym (bytes-more ds ds' kind bytes made ∙ ap (λ a. a ++ bytes ∷ []) (sym eb))) whole))))
+            subst (λ a. IsLinked sum (record x { world = record x.world { streams = map stream_record t.streams; messages = map message_record ms'; slots = map slot_record t.slots; network = map datagram_record ds' }; open_streams = t.streams; progress = map progress_of ms'; unstarted = unstarted; datagrams = map (λ g. g.bytes) ds'; outbound = t.outbound; next_tsn = t.next_tsn; acked_tsn = a })) (sym ea)
+            (moved sum (record x { world = record x.world { streams = map stream_record t.streams; messages = map message_record ms'; slots = map slot_record t.slots; network = map datagram_record ds' }; open_streams = t.streams; progress = map progress_of ms'; unstarted = unstarted; datagrams = map (λ g. g.bytes) ds'; outbound = t.outbound; next_tsn = t.next_tsn }) v world-sent
+            (subst (λ a. IsLinked sum (record x { world = v; open_streams = t.streams; progress = map progress_of a; unstarted = unstarted; datagrams = map (λ g. g.bytes) ds'; outbound = t.outbound; next_tsn = t.next_tsn })) (sym em')
+            (subst (λ a. IsLinked sum (record x { world = v; open_streams = t.streams; progress = map progress_of t.messages; unstarted = a; datagrams = map (λ g. g.bytes) ds'; outbound = t.outbound; next_tsn = t.next_tsn })) (sym (eu ∙ sym (ap length em ∙ length-mapped message_record ms)))
+            (subst (λ a. IsLinked sum (record x { world = v; open_streams = t.streams; progress = map progress_of t.messages; unstarted = length x.world.messages; datagrams = a; outbound = t.outbound; next_tsn = t.next_tsn })) (sym (bytes-more ds ds' kind bytes made ∙ ap (λ a. a ++ bytes ∷ []) (sym eb))) whole))))

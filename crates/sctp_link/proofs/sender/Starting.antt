@@ -92,7 +92,7 @@ module _ (sum : List ℕ → ℕ) (x : State) (l : IsLinked sum x) (now : ℕ) w
         (stream-quiet sum x l (E.Start now) refl (Moves.quiet-started x.world now) tt refl refl refl
         (λ s. ap (ordered_before (started x.world now) s) (length-mapped (start_at now) x.world.messages) ∙ before-started x.world now s (length x.world.messages)) (slice_index_or x.open_streams k d).state.stream_identifier)
         (begun-kept sum x l (E.Start now) refl tt (slice_index_or x.open_streams k d).state.stream_identifier) (l.open_streams k d lt);
-    indexed = l.indexed;
+    apart = l.apart;
     texts = texts-same sum x l (E.Start now) refl refl;
   }
 

@@ -33,22 +33,24 @@ use Rattle.sctp_ties.proofs.sending.InLine
 use Rattle.sctp_ties.proofs.amounts.MessageSums.{sum-written}
 use Rattle.sctp_ties.proofs.amounts.StreamAmounts.{amount-wrote}
 use Rattle.sctp_ties.proofs.amounts.StreamCounters.{written-wrote, counters-wrote}
-use Rattle.sctp_link.specs.declared.open_stream.OpenStream.{OpenStream}
+use Rattle.sctp_lists.specs.Lists.{change_where}
+use Rattle.sctp_transfer.specs.Outgoing.{fragments_with_mode, with_reliability}
+use Rattle.sctp_halves.specs.Streams.{OpenStream, both_ways, has_number, is_ordered, written_of, wrote_to}
 use Rattle.sctp_link.specs.declared.record.Message.{Message}
-use Rattle.sctp_link.specs.Places.{stream_numbers}
 use Rattle.sctp_link.specs.Records.{stream_record, message_record}
 use Rattle.sctp_stream.specs.Stats.{with_sent, counted_bytes}
 use Rattle.sctp_stream.specs.Stream as stream
-use Rattle.sctp_link.specs.OpenStreams.{is_ordered, message_with, with_mode, fragments_with_mode, after_write_on}
-use Rattle.sctp_link.specs.Linked.{State, IsOpenStream, IsLinked, has_number, stats_of, both_ways}
+use Rattle.sctp_link.specs.OpenStreams.{message_with}
+use Rattle.sctp_link.specs.Linked.{State, IsOpenStream, IsLinked, stats_of}
 use Rattle.sctp_stream.specs.declared.stream.DataChannelStats.{DataChannelStats}
 use Rattle.sctp_link.proofs.upkeep.Facts.{Facts, facts, stands-then}
 use Rattle.sctp_link.proofs.upkeep.Frames.{stream-same, begun-kept, indexed-kept, held-quiet, next-kept, texts-same}
 use Rattle.sctp_link.proofs.sender.Beginning.{index_kept, progress-more}
 use Rattle.sctp_link.proofs.upkeep.Bounds.{written-few, amount-few}
 use Rattle.sctp_link.proofs.sender.Fragmented.{ordered-same, all-wait}
-use Rattle.sctp_link.proofs.upkeep.Places.{indexed-set}
-use Rattle.sctp_link.proofs.upkeep.Apart.{apart, each-set, map-set_same, stream-found, number-found, differ}
+use Rattle.sctp_link.proofs.upkeep.ChangedStreams.{fields-same, each-changed}
+use Rattle.sctp_link.proofs.upkeep.Places.{placed, only-found, apart-changed}
+use Rattle.sctp_link.proofs.upkeep.Apart.{stream-found, number-found}
 
 -- ## Numbers
 
@@ -69,12 +71,6 @@ stats-next Binary len w t = refl
 stats-next StringEmpty len w t = refl
 stats-next BinaryEmpty len w t = refl
 stats-next Unknown len w t = refl
-
--- a place of a list has one element, whatever stands past its end
-pub same-default : (ls : List OpenStream) (k : ℕ) (a c : OpenStream) → k < length ls → slice_index_or ls k a ≡ slice_index_or ls k c
-same-default [] k a c lt = absurd (omega arith)
-same-default (t ∷ ls) zero a c lt = refl
-same-default (t ∷ ls) (suc k) a c lt = same-default ls k a c (omega arith)
 
 -- ## The event
 
@@ -97,12 +93,9 @@ module _ (sum : List ℕ → ℕ) (x : State) (l : IsLinked sum x) (s : ℕ) (pp
   pub few : in_all w (written_bytes w) + length bytes < 2 ^ 47
   few = omega (arith, written-few x.world.setup v l.setup sane-new, written-wrote w s ppi bytes)
 
-  module _ (at : ℕ) (d : OpenStream) (lt : at < length x.open_streams) (here : find (has_number s) x.open_streams ≡ Some (slice_index_or x.open_streams at d)) where
-    abbrev m : OpenStream
-    m = slice_index_or x.open_streams at d
-
+  module _ (m : OpenStream) (here : find (has_number s) x.open_streams ≡ Some m) where
     i : IsOpenStream w m
-    i = l.open_streams at d lt
+    i = let p = placed s x.open_streams m here in subst (IsOpenStream w) (p.1.1 m) (l.open_streams p.0 m p.1.0)
 
     own : m.state.stream_identifier ≡ s
     own = number-found s x.open_streams m here
@@ -116,15 +109,21 @@ module _ (sum : List ℕ → ℕ) (x : State) (l : IsLinked sum x) (s : ℕ) (pp
     abbrev msg : W.Message
     msg = message_on w (stream_of w s) ppi bytes
 
-    message-is : message_record (message_with m ppi bytes) ≡ msg
+    -- what is kept of it
+    abbrev pub kept : Message
+    kept = message_with s (written_of m ppi) ppi bytes
+
+    message-is : message_record kept ≡ msg
     message-is =
-        ap (λ k. record (message_on w (stream_record m) ppi bytes) { before = k }) i.ordered
+        ap (λ t. message_record (message_with t (written_of m ppi) ppi bytes)) (sym own)
+        ∙ ap (λ b. record (message_record (message_with m.state.stream_identifier (written_of m ppi) ppi bytes)) { ordered = b }) (ordered-same m.state.unordered ppi)
+        ∙ ap (λ k. record (message_on w (stream_record m) ppi bytes) { before = k }) i.ordered
         ∙ ap (λ r. message_on w r ppi bytes) (sym stream-is)
 
-    pub messages-wrote : (ms more : List Message) → w.messages ≡ map message_record ms → more ≡ ms ++ message_with m ppi bytes ∷ [] → map message_record more ≡ v.messages
+    pub messages-wrote : (ms more : List Message) → w.messages ≡ map message_record ms → more ≡ ms ++ kept ∷ [] → map message_record more ≡ v.messages
     messages-wrote ms more em e =
-        ap (map message_record) e ∙ map-append message_record ms (message_with m ppi bytes ∷ [])
-        ∙ ap (λ a. a ++ message_record (message_with m ppi bytes) ∷ []) (sym em)
+        ap (map message_record) e ∙ map-append message_record ms (kept ∷ [])
+        ∙ ap (λ a. a ++ message_record kept ∷ []) (sym em)
         ∙ ap (λ a. w.messages ++ a ∷ []) message-is
 
     -- ## The streams
@@ -133,6 +132,7 @@ module _ (sum : List ℕ → ℕ) (x : State) (l : IsLinked sum x) (s : ℕ) (pp
     before-wrote t =
         InLine.before-more w msg t refl
         ∙ ap (λ r. ordered_before w t (length w.messages) + (if (r.stream == t) && (is_dcep ppi || not r.unordered) then 1 else 0)) stream-is
+        ∙ ap (λ b. ordered_before w t (length w.messages) + (if (m.state.stream_identifier == t) && b then 1 else 0)) (sym (ordered-same m.state.unordered ppi))
         ∙ ap (λ k. ordered_before w t (length w.messages) + (if (k == t) && is_ordered m ppi then 1 else 0)) own
 
     next-same : (t : ℕ) → next_of v t ≡ next_of w t
@@ -159,7 +159,7 @@ module _ (sum : List ℕ → ℕ) (x : State) (l : IsLinked sum x) (s : ℕ) (pp
     some : not (length bytes == 0) ≡ true
     some = grind (arith, nat_tests)
 
-    written-stream : IsOpenStream v (after_write_on m ppi bytes)
+    written-stream : IsOpenStream v (wrote_to ppi bytes m)
     written-stream =
         let n = m.state.stream_identifier in
         let on : (s == n) ≡ true = ap (λ k. s == k) own ∙ same-yes s in
@@ -172,7 +172,7 @@ module _ (sum : List ℕ → ℕ) (x : State) (l : IsLinked sum x) (s : ℕ) (pp
           largest = i.largest;
           size = i.size;
           ordered = adds (is_ordered m ppi) m.ordered (ordered_before w n (length w.messages)) i.ordered ∙ sym (before-wrote n ∙ ap (λ c. ordered_before w n (length w.messages) + (if c && is_ordered m ppi then 1 else 0)) on);
-          number = ap (λ c. if c && nat_lt 0 (length bytes) then (m.state.sequence_number + 1) % 2 ^ 16 else m.state.sequence_number) (ordered-same m.state.unordered ppi) ∙ number-next (is_ordered m ppi) b bs m.state.sequence_number m.ordered i.number;
+          number = number-next (is_ordered m ppi) b bs m.state.sequence_number m.ordered i.number;
           begun = i.begun ∙ sym (begun-kept sum x l (E.Write s ppi bytes) ok tt n);
           next = i.next ∙ sym (next-same n);
           amount = omega (arith, i.amount, grown, short, few);
@@ -184,8 +184,12 @@ module _ (sum : List ℕ → ℕ) (x : State) (l : IsLinked sum x) (s : ℕ) (pp
         adds true a e z = ap (λ k. k + 1) z
         adds false a e z = omega (arith, z)
 
-    pub streams-wrote : (y : OpenStream) → y ≡ after_write_on m ppi bytes → map stream_record (slice_set x.open_streams at y) ≡ w.streams
-    streams-wrote y e = map-set_same stream_record x.open_streams at y d (ap stream_record e) ∙ sym streams
+    -- the streams then
+    abbrev pub streams_then : List OpenStream
+    streams_then = change_where (has_number s) (wrote_to ppi bytes) x.open_streams
+
+    pub streams-wrote : map stream_record streams_then ≡ w.streams
+    streams-wrote = fields-same stream_record (wrote_to ppi bytes) (λ t. refl) s x.open_streams ∙ sym streams
 
     -- ## The queue
 
@@ -194,7 +198,7 @@ module _ (sum : List ℕ → ℕ) (x : State) (l : IsLinked sum x) (s : ℕ) (pp
 
     outbound-wrote : (q : Outbound) → TiedOutbound w q → TiedOutbound v (with_message frags q)
     outbound-wrote q t =
-        let mode : ChunkPayloadData → ChunkPayloadData = with_mode m.state.reliability_type m.state.reliability_value in
+        let mode : ChunkPayloadData → ChunkPayloadData = with_reliability m.state.reliability_type m.state.reliability_value in
         let known = f.sane.sender.made in
         let r = stream_of w s in
         let waits = all-wait w m.state r ppi bytes (ap (λ (r : StreamRecord). r.stream) stream-is) (ap (λ (r : StreamRecord). r.unordered) stream-is) (ap (λ (r : StreamRecord). r.reliability) stream-is) (ap (λ (r : StreamRecord). r.value) stream-is) i.size
@@ -226,14 +230,14 @@ module _ (sum : List ℕ → ℕ) (x : State) (l : IsLinked sum x) (s : ℕ) (pp
         let same : (k : ℕ) → index_kept progress k ≡ index_kept x.progress k = λ k. ap (λ a. index_kept a k) e ∙ ap (λ (p : ℕ × ℕ). p.1) (progress-more x.progress k) in
         record { is = λ k pos o. same k ∙ i.is k pos o; low = λ k. omega (arith, same k, i.low k) }
 
-    pub linked-write : (y : OpenStream) (progress : List (ℕ × ℕ)) (q r : Outbound) (fragments written count : ℕ) → y ≡ after_write_on m ppi bytes → length x.progress ≡ length w.messages → progress ≡ x.progress ++ (0, 0) ∷ [] → TiedOutbound w q → q.next_unstarted ≡ x.outbound.next_unstarted → r ≡ with_message frags q → fragments ≡ x.fragments + count → count ≡ fragments_in w bytes → written ≡ x.written + length bytes
-        → IsLinked sum (record x { world = v; open_streams = slice_set x.open_streams at y; progress = progress; outbound = r; fragments = fragments; written = written })
-    linked-write y progress q r fragments written count ey each es tied same er ef ec ew = record {
+    pub linked-write : (progress : List (ℕ × ℕ)) (fragments written count : ℕ) → length x.progress ≡ length w.messages → progress ≡ x.progress ++ (0, 0) ∷ [] → fragments ≡ x.fragments + count → count ≡ fragments_in w bytes → written ≡ x.written + length bytes
+        → IsLinked sum (record x { world = v; open_streams = streams_then; progress = progress; outbound = with_message frags x.outbound; fragments = fragments; written = written })
+    linked-write progress fragments written count each es ef ec ew = record {
       setup = l.setup;
       history = (E.Write s ppi bytes, reply_to w (E.Write s ppi bytes)) ∷ l.history;
       stands = stands-then w.setup w l.history (E.Write s ppi bytes) ok l.stands;
-      outbound = subst (TiedOutbound v) (sym er) (outbound-wrote q tied);
-      unstarted = l.unstarted ∙ sym (ap (λ (o : Outbound). o.next_unstarted) er ∙ same);
+      outbound = outbound-wrote x.outbound l.outbound;
+      unstarted = l.unstarted;
       filter = l.filter;
       next = l.next;
       acked = l.acked;
@@ -242,12 +246,12 @@ module _ (sum : List ℕ → ℕ) (x : State) (l : IsLinked sum x) (s : ℕ) (pp
       sents = sents-wrote progress each es;
       indexes = (indexes-wrote progress es).is;
       low = (indexes-wrote progress es).low;
-      open_streams = λ k e less. place k e (omega (arith, less, length-set x.open_streams at y));
-      indexed = indexed-set x.places x.open_streams at y d l.indexed (ap (λ (t : OpenStream). t.state.stream_identifier) ey);
+      open_streams = each-changed (IsOpenStream v) (wrote_to ppi bytes) s x.open_streams
+          (λ k d lt e. subst (λ t. IsOpenStream v (wrote_to ppi bytes t)) (sym (alone k d lt e)) written-stream)
+          (λ k d lt ne. other (slice_index_or x.open_streams k d) ne (l.open_streams k d lt));
+      apart = apart-changed s (wrote_to ppi bytes) x.open_streams (λ t. refl) l.apart;
       texts = texts-same sum x l (E.Write s ppi bytes) ok refl;
     }
       where
-        place : (k : ℕ) (e : OpenStream) → k < length x.open_streams → IsOpenStream v (slice_index_or (slice_set x.open_streams at y) k e)
-        place k e below =
-            each-set (IsOpenStream v) x.open_streams at k y e lt (subst (IsOpenStream v) (sym ey) written-stream)
-            (λ ne. other (slice_index_or x.open_streams k e) (λ z. differ x.open_streams k at e (apart x.places (stream_numbers x.open_streams) l.indexed) below lt ne (z ∙ sym (ap (λ (t : OpenStream). t.state.stream_identifier) (same-default x.open_streams at e d lt) ∙ own))) (l.open_streams k e below))
+        alone : (k : ℕ) (d : OpenStream) → k < length x.open_streams → (slice_index_or x.open_streams k d).state.stream_identifier ≡ s → slice_index_or x.open_streams k d ≡ m
+        alone k d lt e = only-found s x.open_streams m l.apart here k d lt e

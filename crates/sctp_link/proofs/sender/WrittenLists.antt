@@ -26,13 +26,19 @@ use Rattle.sctp_model.proofs.sender.SenderRun.{unless-holds}
 use Rattle.sctp_model.specs.Messages as M
 use Rattle.sctp_ties.specs.Tied.{TiedOutbound}
 use Rattle.sctp_ties.proofs.amounts.StreamAmounts.{write-open}
-use Rattle.sctp_link.specs.declared.open_stream.OpenStream.{OpenStream}
+use Rattle.sctp_lists.specs.Lists.{change_where}
+use Rattle.sctp_transfer.specs.Outgoing as Outgoing
+use Rattle.sctp_transfer.specs.Outgoing.{fragments_with_mode}
+use Rattle.sctp_transfer.specs.Sender.{Transmission, is_full_of, write_refusal}
+use Rattle.sctp_transfer.proofs.SenderStreams
+use Rattle.sctp_halves.specs.Streams.{OpenStream, has_number, written_of, wrote_to}
+use Rattle.sctp_link.proofs.upkeep.Places.{placed}
 use Rattle.sctp_link.specs.declared.record.Message.{Message}
 use Rattle.sctp_link.specs.Records.{stream_record, message_record, progress_of}
 use Rattle.sctp_stream.specs.Stream as stream
 use Rattle.sctp_stream.specs.Stream.{cut}
-use Rattle.sctp_link.specs.OpenStreams.{is_ordered, message_with, fragments_with_mode, after_write_on}
-use Rattle.sctp_link.specs.Linked.{State, IsOpenStream, IsLinked, has_number}
+use Rattle.sctp_link.specs.OpenStreams.{message_with}
+use Rattle.sctp_link.specs.Linked.{State, IsOpenStream, IsLinked}
 use Rattle.sctp_link.proofs.upkeep.Facts.{facts}
 use Rattle.sctp_link.proofs.upkeep.Frames.{moved}
 use Rattle.sctp_link.proofs.sender.Modes.{found-open}
@@ -44,31 +50,14 @@ use Rattle.sctp_link.proofs.sender.Writing
 pub some-bytes : (bytes : List ℕ) (b : Bool) → b ≡ (length bytes == 0) → b ≡ false → 0 < length bytes
 some-bytes bytes b is no' = let e : (length bytes == 0) ≡ false = sym is ∙ no' in grind (arith, nat_tests)
 
--- what an answer that is Ok says
-pub of-ok : {A E : Type 0} (r : Result A E) (P : Type 0) → OnOk r P → IsOk r → P
-of-ok (Ok a) P h k = h
-of-ok (Err e) P h k = cc
-
--- more room for pending fragments is nothing that the record knows
-pub tied-reserved : (w : World) (q r : Outbound) (a b : ℕ) → r ≡ record q { pending = reserved q.pending a b } → TiedOutbound w q → TiedOutbound w r
-tied-reserved w q r a b e t = subst (TiedOutbound w) (sym e) (record { pending = record { ordered = t.pending.ordered; unordered = t.pending.unordered; selected = t.pending.selected }; in_flight = t.in_flight; next = t.next; unstarted = t.unstarted; started = t.started; begun = t.begun })
-
--- there is room for the fragments
-made-room : (m : OpenStream) (ppi : PayloadProtocolIdentifier) (bytes : List ℕ) (q : Outbound) (count : ℕ) → count ≡ length (cut m.state bytes) → has_room (fragments_with_mode m.state ppi bytes) (record q { pending = reserved q.pending (if is_ordered m ppi then count else 0) (if is_ordered m ppi then 0 else count) }) ≡ true
-made-room m ppi [] q count e = refl
-made-room m ppi (b ∷ bs) q count e =
-    let frags = fragments_with_mode m.state ppi (b ∷ bs) in
-    let long : length frags ≡ count = ap length (fragments-made m.state ppi (b ∷ bs)) ∙ length-mapped _ (numbers_from 0 (length (cut m.state (b ∷ bs)))) ∙ length-numbers 0 (length (cut m.state (b ∷ bs))) ∙ sym e in
-    room (stream.is_ordered m.state.unordered ppi) (is_ordered m ppi) (length frags) (ordered-same m.state.unordered ppi) long
+-- the state of a stream is found where the stream is
+pub state-found : (s : ℕ) (ls : List OpenStream) → find (Outgoing.has_number s) (map (λ l. l.state) ls) ≡ option_map (λ l. l.state) (find (has_number s) ls)
+state-found s [] = refl
+state-found s (l ∷ ls) = step (l.state.stream_identifier == s) (state-found s ls)
   where
-    enough : (a b : ℕ) → a ≤ b → nat_le a b ≡ true
-    enough a b le = grind (arith, nat_tests)
-
-    room : (c o : Bool) (n : ℕ) → c ≡ o → n ≡ count → nat_le n (room_for (reserved q.pending (if o then count else 0) (if o then 0 else count)) (not c)) ≡ true
-    room true true n e z = enough n (max count q.pending.ordered_room) (omega (arith, z))
-    room false false n e z = enough n (max count q.pending.unordered_room) (omega (arith, z))
-    room true false n e z = cc
-    room false true n e z = cc
+    step : (b : Bool) → find (Outgoing.has_number s) (map (λ l. l.state) ls) ≡ option_map (λ l. l.state) (find (has_number s) ls) → (if b then Some l.state else find (Outgoing.has_number s) (map (λ l. l.state) ls)) ≡ option_map (λ (l : OpenStream). l.state) (if b then Some l else find (has_number s) ls)
+    step true e = refl
+    step false e = e
 
 module _ (sum : List ℕ → ℕ) (x : State) (l : IsLinked sum x) (s : ℕ) (ppi : PayloadProtocolIdentifier) (bytes : List ℕ) (some : 0 < length bytes) (ok : refusal_of x.world (E.Write s ppi bytes) ≡ None) (streams : x.world.streams ≡ map stream_record x.open_streams) where
   abbrev w : World
@@ -98,49 +87,65 @@ module _ (sum : List ℕ → ℕ) (x : State) (l : IsLinked sum x) (s : ℕ) (pp
   pub fits-64 : (n : ℕ) → n ≡ length bytes → x.written + n < 2 ^ 64
   fits-64 n e = omega (arith, write-few, e)
 
-  module _ (at : ℕ) (d : OpenStream) (lt : at < length x.open_streams) (here : find (has_number s) x.open_streams ≡ Some (slice_index_or x.open_streams at d)) where
-    abbrev m : OpenStream
-    m = slice_index_or x.open_streams at d
+  -- the stream is found
+  pub write-on : (m : OpenStream) × (find (has_number s) x.open_streams ≡ Some m)
+  write-on = by (find (has_number s) x.open_streams) refl
+    where
+      by : (o : Option OpenStream) → find (has_number s) x.open_streams ≡ o → (m : OpenStream) × (find (has_number s) x.open_streams ≡ Some m)
+      by None e = absurd (write-found e)
+      by (Some m) e = (m, e)
 
+  write-small : length bytes ≤ x.world.setup.largest
+  write-small =
+      let large : Option LinkRefusal = unless (nat_lt (fragments_accepted x.world + fragments_in x.world bytes) (2 ^ 31)) TsnsUsedUp None in
+      let a = (unless-holds (is_open x.world s) StreamUnknown (unless (nat_le (length bytes) x.world.setup.largest) MessageTooLarge large) ok).1 in
+      let b = (unless-holds (nat_le (length bytes) x.world.setup.largest) MessageTooLarge large a).0 in
+      grind (arith, nat_tests)
+
+  module _ (m : OpenStream) (here : find (has_number s) x.open_streams ≡ Some m) where
     i : IsOpenStream x.world m
-    i = l.open_streams at d lt
+    i = let p = placed s x.open_streams m here in subst (IsOpenStream x.world) (p.1.1 m) (l.open_streams p.0 m p.1.0)
 
     pub count-is : length (cut m.state bytes) ≡ fragments_in x.world bytes
     count-is = ap (λ k. length (pieces (length bytes) k bytes)) i.size
 
     -- there is one more number for an ordered message
-    pub next-short : (y : OpenStream) → y ≡ m → y.ordered + 1 < 2 ^ 64
-    next-short y e =
-        omega (arith, ap (λ (t : OpenStream). t.ordered) e, i.ordered, length-kept-le (M.is_ordered_on x.world m.state.stream_identifier) 0 (length x.world.messages), messages-few x.world.setup x.world (facts sum x l).sane)
+    pub next-short : m.ordered + 1 < 2 ^ 64
+    next-short =
+        omega (arith, i.ordered, length-kept-le (M.is_ordered_on x.world m.state.stream_identifier) 0 (length x.world.messages), messages-few x.world.setup x.world (facts sum x l).sane)
 
-    pub push-room : (frags : List ChunkPayloadData) (q : Outbound) (ordered : Bool) (count : ℕ) → frags ≡ fragments_with_mode m.state ppi bytes → ordered ≡ is_ordered m ppi → count ≡ fragments_in x.world bytes → q ≡ record x.outbound { pending = reserved x.outbound.pending (if ordered then count else 0) (if ordered then 0 else count) } → has_room frags q ≡ true
-    push-room frags q ordered count ef eo ec eq =
-        ap (λ r. has_room frags r) eq
-        ∙ ap (λ cs. has_room cs (record x.outbound { pending = reserved x.outbound.pending (if ordered then count else 0) (if ordered then 0 else count) })) ef
-        ∙ ap (λ o. has_room (fragments_with_mode m.state ppi bytes) (record x.outbound { pending = reserved x.outbound.pending (if o then count else 0) (if o then 0 else count) })) eo
-        ∙ made-room m ppi bytes x.outbound count (ec ∙ sym count-is)
-
-    -- what a queue with more room takes
-    pub pushed-few : (q : Outbound) (a b : ℕ) (frags : List ChunkPayloadData) → q ≡ record x.outbound { pending = reserved x.outbound.pending a b } → frags ≡ fragments_with_mode m.state ppi bytes → fragments_in x.world bytes < 2 ^ 31 → total_bytes q + bytes_of frags < 2 ^ 64
-    pushed-few q a b frags e ef short =
-        let size : m.state.max_payload_size ≤ 65519 = omega (arith, i.size, l.setup.size) in
+    -- the sender takes it
+    not-full : is_full_of (length bytes) x.outbound ≡ false
+    not-full =
         let queued = queued-few sum x l in
-        let mine = fragments-few m.state ppi bytes size in
-        let total : total_bytes q ≡ total_bytes x.outbound = ap total_bytes e in
-        let own : bytes_of frags ≡ bytes_of (fragments_with_mode m.state ppi bytes) = ap bytes_of ef in
-        omega (arith, queued, mine, total, own, count-is, short, write-few, l.written)
+        let few = messages-few x.world.setup x.world (facts sum x l).sane in
+        let a : nat_lt (x.outbound.next_message_id + 1) (2 ^ 64) ≡ true = (let lt : x.outbound.next_message_id + 1 < 2 ^ 64 = omega (arith, l.outbound.next, few) in grind (arith, nat_tests)) in
+        let b : nat_lt (total_bytes x.outbound + length bytes) (2 ^ 64) ≡ true = (let lt : total_bytes x.outbound + length bytes < 2 ^ 64 = omega (arith, queued, write-few, l.written) in grind (arith, nat_tests)) in
+        ap (λ t. not t || not (nat_lt (total_bytes x.outbound + length bytes) (2 ^ 64))) a ∙ ap not b
 
-    module _ (y : OpenStream) (ey : y ≡ after_write_on m ppi bytes) (ms more : List Message) (em : x.world.messages ≡ map message_record ms) (es : x.progress ≡ map progress_of ms) (e : more ≡ ms ++ message_with m ppi bytes ∷ []) where
-      pub world-wrote : record x.world { streams = map stream_record (slice_set x.open_streams at y); messages = map message_record more } ≡ wrote x.world s ppi bytes
-      world-wrote = by bytes some ok ey e
+    pub sender-takes : (t : Transmission) → t.streams ≡ map (λ l. l.state) x.open_streams → t.flight.queue ≡ x.outbound → t.max_message_size ≡ x.world.setup.largest → write_refusal s (length bytes) t ≡ None
+    sender-takes t es eq em =
+        SenderStreams.fine s (length bytes) t
+        (ap (λ ls. is_some (find (Outgoing.has_number s) ls)) es ∙ ap is_some (state-found s x.open_streams) ∙ ap (λ o. is_some (option_map (λ l. l.state) o)) here)
+        (omega (arith, write-small, em)) (ap (is_full_of (length bytes)) eq ∙ not-full)
+
+    abbrev pub streams_then : List OpenStream
+    streams_then = change_where (has_number s) (wrote_to ppi bytes) x.open_streams
+
+    abbrev pub kept : Message
+    kept = message_with s (written_of m ppi) ppi bytes
+
+    module _ (ms more : List Message) (em : x.world.messages ≡ map message_record ms) (es : x.progress ≡ map progress_of ms) (e : more ≡ ms ++ kept ∷ []) where
+      pub world-wrote : record x.world { streams = map stream_record streams_then; messages = map message_record more } ≡ wrote x.world s ppi bytes
+      world-wrote = by bytes some ok e
         where
-          by : (bytes : List ℕ) → 0 < length bytes → refusal_of x.world (E.Write s ppi bytes) ≡ None → y ≡ after_write_on m ppi bytes → more ≡ ms ++ message_with m ppi bytes ∷ [] → record x.world { streams = map stream_record (slice_set x.open_streams at y); messages = map message_record more } ≡ wrote x.world s ppi bytes
-          by [] some ok ey e = absurd (omega arith)
-          by (b ∷ bs) some ok ey e =
-              ap (λ a. record x.world { streams = a; messages = map message_record more }) (Writing.streams-wrote sum x l s ppi b bs ok streams at d lt here y ey)
-              ∙ ap (λ a. record x.world { messages = a }) (Writing.messages-wrote sum x l s ppi b bs ok streams at d lt here ms more em e)
+          by : (bytes : List ℕ) → 0 < length bytes → refusal_of x.world (E.Write s ppi bytes) ≡ None → more ≡ ms ++ message_with s (written_of m ppi) ppi bytes ∷ [] → record x.world { streams = map stream_record (change_where (has_number s) (wrote_to ppi bytes) x.open_streams); messages = map message_record more } ≡ wrote x.world s ppi bytes
+          by [] some ok e = absurd (omega arith)
+          by (b ∷ bs) some ok e =
+              ap (λ a. record x.world { streams = a; messages = map message_record more }) (Writing.streams-wrote sum x l s ppi b bs ok streams m here)
+              ∙ ap (λ a. record x.world { messages = a }) (Writing.messages-wrote sum x l s ppi b bs ok streams m here ms more em e)
 
-      pub write-right : (number count : ℕ) → number ≡ length ms → count ≡ fragments_in x.world bytes → IsRight x.world (E.Write s ppi bytes) (R.Wrote (Some number) count) (record x.world { streams = map stream_record (slice_set x.open_streams at y); messages = map message_record more })
+      pub write-right : (number count : ℕ) → number ≡ length ms → count ≡ fragments_in x.world bytes → IsRight x.world (E.Write s ppi bytes) (R.Wrote (Some number) count) (record x.world { streams = map stream_record streams_then; messages = map message_record more })
       write-right number count en ec = record {
         right = ap (λ k. R.Wrote (Some k) count) (en ∙ sym (length-mapped message_record ms) ∙ ap length (sym em)) ∙ ap (R.Wrote (Some (length x.world.messages))) ec
             ∙ sym (ap (λ b. R.Wrote (if b then None else Some (length x.world.messages)) (fragments_in x.world bytes)) full);
@@ -150,50 +155,17 @@ module _ (sum : List ℕ → ℕ) (x : State) (l : IsLinked sum x) (s : ℕ) (pp
           full : (length bytes == 0) ≡ false
           full = grind (arith, nat_tests)
 
-      pub linked-wrote : (q r : Outbound) (a b fragments written count : ℕ) → q ≡ record x.outbound { pending = reserved x.outbound.pending a b } → r ≡ with_message (fragments_with_mode m.state ppi bytes) q → fragments ≡ x.fragments + count → count ≡ fragments_in x.world bytes → written ≡ x.written + length bytes
-          → IsLinked sum (record x { world = record x.world { streams = map stream_record (slice_set x.open_streams at y); messages = map message_record more }; open_streams = slice_set x.open_streams at y; progress = map progress_of more; outbound = r; fragments = fragments; written = written })
-      linked-wrote q r a b fragments written count eq er ef ec ew =
-          moved sum (record x { world = record x.world { streams = map stream_record (slice_set x.open_streams at y); messages = map message_record more }; open_streams = slice_set x.open_streams at y; progress = map progress_of more; outbound = r; fragments = fragments; written = written }) (wrote x.world s ppi bytes) world-wrote
-          (by bytes some ok ey e er ec ew)
+      pub linked-wrote : (fragments written count : ℕ) → fragments ≡ x.fragments + count → count ≡ fragments_in x.world bytes → written ≡ x.written + length bytes
+          → IsLinked sum (record x { world = record x.world { streams = map stream_record streams_then; messages = map message_record more }; open_streams = streams_then; progress = map progress_of more; outbound = with_message (fragments_with_mode m.state ppi bytes) x.outbound; fragments = fragments; written = written })
+      linked-wrote fragments written count ef ec ew =
+          moved sum (record x { world = record x.world { streams = map stream_record streams_then; messages = map message_record more }; open_streams = streams_then; progress = map progress_of more; outbound = with_message (fragments_with_mode m.state ppi bytes) x.outbound; fragments = fragments; written = written }) (wrote x.world s ppi bytes) world-wrote
+          (by bytes some ok e ec ew)
         where
-          by : (bytes : List ℕ) → 0 < length bytes → refusal_of x.world (E.Write s ppi bytes) ≡ None → y ≡ after_write_on m ppi bytes → more ≡ ms ++ message_with m ppi bytes ∷ [] → r ≡ with_message (fragments_with_mode m.state ppi bytes) q → count ≡ fragments_in x.world bytes → written ≡ x.written + length bytes
-              → IsLinked sum (record x { world = wrote x.world s ppi bytes; open_streams = slice_set x.open_streams at y; progress = map progress_of more; outbound = r; fragments = fragments; written = written })
-          by [] some ok ey e er ec ew = absurd (omega arith)
-          by (b' ∷ bs) some ok ey e er ec ew =
-              Writing.linked-write sum x l s ppi b' bs ok streams at d lt here y (map progress_of more) q r fragments written count ey
+          by : (bytes : List ℕ) → 0 < length bytes → refusal_of x.world (E.Write s ppi bytes) ≡ None → more ≡ ms ++ message_with s (written_of m ppi) ppi bytes ∷ [] → count ≡ fragments_in x.world bytes → written ≡ x.written + length bytes
+              → IsLinked sum (record x { world = wrote x.world s ppi bytes; open_streams = change_where (has_number s) (wrote_to ppi bytes) x.open_streams; progress = map progress_of more; outbound = with_message (fragments_with_mode m.state ppi bytes) x.outbound; fragments = fragments; written = written })
+          by [] some ok e ec ew = absurd (omega arith)
+          by (b ∷ bs) some ok e ec ew =
+              Writing.linked-write sum x l s ppi b bs ok streams m here (map progress_of more) fragments written count
               (ap length es ∙ length-mapped progress_of ms ∙ sym (ap length em ∙ length-mapped message_record ms))
-              (ap (map progress_of) e ∙ map-append progress_of ms (message_with m ppi (b' ∷ bs) ∷ []) ∙ ap (λ a. a ++ (0, 0) ∷ []) (sym es))
-              (tied-reserved x.world x.outbound q a b eq l.outbound) (ap (λ (o : Outbound). o.next_unstarted) eq) er ef ec ew
-
-    -- want of memory changes nothing that counts
-    pub linked-unwritten : (y : OpenStream) (q : Outbound) (a b : ℕ) (ms same : List Message) → y ≡ m → q ≡ record x.outbound { pending = reserved x.outbound.pending a b } → x.world.messages ≡ map message_record ms → x.progress ≡ map progress_of ms → same ≡ ms
-        → IsLinked sum (record x { world = record x.world { streams = map stream_record (slice_set x.open_streams at y); messages = map message_record same }; open_streams = slice_set x.open_streams at y; progress = map progress_of same; outbound = q })
-    linked-unwritten y q a b ms same ey eq em es e =
-        let own : slice_set x.open_streams at y ≡ x.open_streams = set-own x.open_streams at y d ey in
-        subst (λ ls. IsLinked sum (record x { world = record x.world { streams = map stream_record ls; messages = map message_record same }; open_streams = ls; progress = map progress_of same; outbound = q })) (sym own)
-        (subst (λ rs. IsLinked sum (record x { world = record x.world { streams = rs; messages = map message_record same }; progress = map progress_of same; outbound = q })) streams
-        (subst (λ rs. IsLinked sum (record x { world = record x.world { messages = rs }; progress = map progress_of same; outbound = q })) (em ∙ ap (map message_record) (sym e))
-        (subst (λ rs. IsLinked sum (record x { progress = rs; outbound = q })) (es ∙ ap (map progress_of) (sym e))
-        (record {
-          setup = l.setup;
-          history = l.history;
-          stands = l.stands;
-          outbound = tied-reserved x.world x.outbound q a b eq l.outbound;
-          unstarted = l.unstarted ∙ sym (ap (λ (o : Outbound). o.next_unstarted) eq);
-          filter = l.filter;
-          next = l.next;
-          acked = l.acked;
-          fragments = l.fragments;
-          written = l.written;
-          sents = l.sents;
-          indexes = l.indexes;
-          low = l.low;
-          open_streams = l.open_streams;
-          indexed = l.indexed;
-          texts = l.texts;
-        }))))
-      where
-        set-own : (ls : List OpenStream) (k : ℕ) (y d : OpenStream) → y ≡ slice_index_or ls k d → slice_set ls k y ≡ ls
-        set-own [] k y d e = refl
-        set-own (t ∷ ls) zero y d e = ap (λ a. a ∷ ls) e
-        set-own (t ∷ ls) (suc k) y d e = ap (λ a. t ∷ a) (set-own ls k y d e)
+              (ap (map progress_of) e ∙ map-append progress_of ms (message_with s (written_of m ppi) ppi (b ∷ bs) ∷ []) ∙ ap (λ a. a ++ (0, 0) ∷ []) (sym es))
+              ef ec ew

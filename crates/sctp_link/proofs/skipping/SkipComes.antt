@@ -40,15 +40,14 @@ use Rattle.sctp_ties.proofs.skipping.SkipSpans.{gone_forward, queue-skip, next-s
 use Rattle.sctp_ties.proofs.arriving.SpanEnds.{sets-held}
 use Rattle.sctp_ties.proofs.amounts.StreamCounters.{counters-same}
 use Rattle.sctp_transfer.specs.TsnFilter.{Filter, skipped_to}
-use Rattle.sctp_link.specs.declared.open_stream.OpenStream.{OpenStream}
+use Rattle.sctp_halves.specs.Streams.{OpenStream, has_number, stream_numbers}
 use Rattle.sctp_link.specs.declared.skipped.Named.{Named}
 use Rattle.sctp_link.specs.declared.record.Message.{Message}
 use Rattle.sctp_link.specs.declared.record.Datagram.{Datagram}
-use Rattle.sctp_link.specs.Linked.{State, IsLinked, IsOpenStream, has_number, stats_of, filter_shown}
+use Rattle.sctp_link.specs.Linked.{State, IsLinked, IsOpenStream, stats_of, filter_shown}
 use Rattle.sctp_link.specs.Records.{message_record, progress_of, stream_record, datagram_record, kind_record}
 use Rattle.sctp_link.specs.Skips.{index_in, is_on, named_from, none_named, gone_to, skipped_by}
 use Rattle.sctp_link.specs.Texts.{packet_with, name_with}
-use Rattle.sctp_link.specs.Places.{IsIndexed, stream_numbers}
 use Rattle.sctp_link.proofs.upkeep.Bounds.{messages-few}
 use Rattle.sctp_link.proofs.receiver.Came.{filter-gone}
 use Rattle.sctp_link.proofs.receiver.Comes.{made-at}
@@ -298,7 +297,7 @@ module _ (sum : List ℕ → ℕ) (x : State) (l : IsLinked sum x) (k upto : ℕ
   quiet : QuietSender.SameToSender w v
   quiet = subst (QuietSender.SameToSender w) (sym (ap (datagram_received w) e)) (QuietSender.same-skip w upto names)
 
-  spans : (s : ℕ) → is_open w s ≡ true → IsSpan w s (map (index_of w) (on_stream w s names)) × IsSpan (with_skip w upto names) s (map (index_of w) (on_stream w s names))
+  pub spans : (s : ℕ) → is_open w s ≡ true → IsSpan w s (map (index_of w) (on_stream w s names)) × IsSpan (with_skip w upto names) s (map (index_of w) (on_stream w s names))
   spans s o =
       let two =
       over sum x (λ (u : World). refusal_of u (E.Arrive k) ≡ None → slice_get u.network k ≡ Some (Forward upto names) → cumulative u ≤ upto → is_open u s ≡ true → IsSpan u s (map (index_of u) (passing (is_ordered_on u s) names)) × IsSpan (datagram_received u (Some (Forward upto names))) s (map (index_of u) (passing (is_ordered_on u s) names))) l
@@ -390,7 +389,7 @@ module _ (sum : List ℕ → ℕ) (x : State) (l : IsLinked sum x) (k upto : ℕ
     pub linked-skip : (filter : Filter) (u : World) → filter_shown filter ≡ filter_of v → u ≡ v → IsLinked sum (record x { world = u; open_streams = map turned x.open_streams; filter = filter })
     linked-skip filter u held same =
         linked-then sum x l (E.Arrive k) none frame x.progress (map turned x.open_streams) filter u refl held each-skipped
-        (subst (IsIndexed x.places) (sym (numbers-same x.open_streams)) l.indexed) quiet same
+        (subst IsApart (sym (numbers-same x.open_streams)) l.apart) quiet same
 
     -- the same for the streams that the code left
     module _ (ls : List OpenStream) (tsn skipped : ℕ) (tsn_is : tsn ≡ tsn_of x.world upto) (ls_are : ls ≡ map (skipped_by ms names tsn) x.open_streams) (count : skipped ≡ upto + 1) where

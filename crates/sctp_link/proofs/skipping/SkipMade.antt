@@ -1,6 +1,6 @@
 -- A FORWARD-TSN is made: what it may name, what it says, and the link after it.
-use Rattle.std.proofs.Common.{◌≡◌, ℕ, zero, suc, ◌+◌, ◌<◌, ◌≤◌, ◌^◌, ◌%◌, true, false, List, [], ◌∷◌, ◌++◌, length, map, None, refl, ap, sym, ◌∙◌, inl, inr, arith, not}
-use Rattle.std.specs.Prelude.{◌⊎◌, if◌then◌else◌, ◌&&◌, nat_le, nat_lt, slice_get, slice_index_or, Some}
+use Rattle.std.proofs.Common.{◌≡◌, ℕ, zero, suc, ◌+◌, ◌<◌, ◌≤◌, ◌^◌, true, false, List, [], ◌∷◌, ◌++◌, length, map, None, refl, ap, sym, ◌∙◌, inl, inr, arith, not}
+use Rattle.std.specs.Prelude.{◌⊎◌, ◌&&◌, nat_le, nat_lt, slice_get, slice_index_or, Some}
 use Rattle.std.specs.List.{list_all}
 use Rattle.std.proofs.Math.Path.{subst}
 use Rattle.std.proofs.lemmas.Bool.{cases_lt}
@@ -15,8 +15,8 @@ use Rattle.sctp_model.specs.declared.event.Event.{Event}
 use Rattle.sctp_model.specs.declared.event.LinkRefusal.TheVariants.{SkipUnassigned, SkipNames}
 use Rattle.sctp_model.specs.World.{World, Forward}
 use Rattle.sctp_model.specs.World as W
-use Rattle.sctp_model.specs.Messages.{message_at, message_of, index_of, belongs_to, slots_where, tsn_of}
-use Rattle.sctp_model.specs.Contents.{name_of, contents_of}
+use Rattle.sctp_model.specs.Messages.{message_of, belongs_to, slots_where, tsn_of}
+use Rattle.sctp_model.specs.Contents.{contents_of}
 use Rattle.sctp_model.specs.Changes.{with_datagram}
 use Rattle.sctp_model.specs.Steps.{StandsFor, refusal_of, reply_to, after, can_name, skip_refusal}
 use Rattle.sctp_model.proofs.sender.Network.{NamesFit, names-fit}
@@ -26,13 +26,14 @@ use Rattle.sctp_ties.proofs.acknowledging.QuietSender.{outbound-same, same-self}
 use Rattle.sctp_link.specs.declared.record.Message.{Message}
 use Rattle.sctp_link.specs.declared.record.Slot.{Slot}
 use Rattle.sctp_link.specs.Records.{message_record, slot_record, progress_of}
-use Rattle.sctp_link.specs.Skips.{index_in, message_in, pair_in}
-use Rattle.sctp_link.specs.Texts.{IsDatagram, packet_with, name_with}
+use Rattle.sctp_link.specs.Skips.{pair_in}
+use Rattle.sctp_link.specs.Texts.{IsDatagram, packet_with}
 use Rattle.sctp_link.specs.Linked.{State, IsLinked}
 use Rattle.sctp_link.proofs.upkeep.Facts.{facts, stands-then}
 use Rattle.sctp_link.proofs.upkeep.Frames.{stream-same, texts-more}
 use Rattle.sctp_link.proofs.receiver.Hears.{slot-raw}
-use Rattle.sctp_link.proofs.skipping.SkipComes.{wire_skip, index-is}
+use Rattle.sctp_link.proofs.skipping.SkipComes.{wire_skip}
+use Rattle.sctp_link.proofs.skipping.NamesInTurn.{pairs-are}
 
 -- ## What it may name
 
@@ -93,19 +94,10 @@ module _ (sum : List ℕ → ℕ) (x : State) (l : IsLinked sum x) (upto : ℕ) 
   fit = names-fit w upto names (facts sum x l).sane.sender (accepted w upto names ok).can
 
   module _ (ms : List Message) (messages_are : x.world.messages ≡ map message_record ms) (progress_are : x.progress ≡ map progress_of ms) where
-    pairs-as : (ns : List ℕ) → NamesFit (shape w) upto ns → map (pair_in ms) ns ≡ map name_with (map (name_of w) ns)
-    pairs-as [] f = refl
-    pairs-as (n ∷ ns) f =
-        let stream : (message_in ms n).stream ≡ (message_at w n).stream = ap (λ rs. (message_at (record w { messages = rs }) n).stream) (sym messages_are) in
-        let index = index-is sum x l ms messages_are progress_are upto n f.0 in
-        let ssn = ap (λ b. (if b then index_of w n else (message_at w n).before) % 2 ^ 16) f.0.ordered in
-        ap (λ s. name_with (s, index_in ms n % 2 ^ 16) ∷ map (pair_in ms) ns) stream ∙ ap (λ i. name_with ((message_at w n).stream, i % 2 ^ 16) ∷ map (pair_in ms) ns) index
-        ∙ ap (λ i. name_with ((message_at w n).stream, i) ∷ map (pair_in ms) ns) (sym ssn) ∙ ap (λ ps. name_with (name_of w n) ∷ ps) (pairs-as ns f.1)
-
     pub skip-says : (f : ForwardTsn) → f.new_cumulative_tsn ≡ tsn_of w upto → f.streams ≡ map (pair_in ms) names → f ≡ wire_skip w upto names
     skip-says f a b =
         ap (λ t. let r : ForwardTsn = record { new_cumulative_tsn = t; streams = f.streams } in r) a
-        ∙ ap (λ ps. let r : ForwardTsn = record { new_cumulative_tsn = tsn_of w upto; streams = ps } in r) (b ∙ pairs-as names fit)
+        ∙ ap (λ ps. let r : ForwardTsn = record { new_cumulative_tsn = tsn_of w upto; streams = ps } in r) (b ∙ pairs-are sum x l ms messages_are progress_are upto names fit)
 
     pub pairs-short : (f : ForwardTsn) → f.streams ≡ map (pair_in ms) names → 4 + length (forward_tsn_value f) < 2 ^ 16
     pairs-short f b = skip-short f (omega (arith, ap length b, length-as (pair_in ms) names, (accepted w upto names ok).few))
@@ -126,7 +118,7 @@ module _ (sum : List ℕ → ℕ) (x : State) (l : IsLinked sum x) (upto : ℕ) 
     indexes = l.indexes;
     low = l.low;
     open_streams = λ k d lt. stream-same w v (slice_index_or x.open_streams k d) (record { setup = refl; held = refl; ordered = refl; next = refl; amount = refl; counters = refl }) refl (l.open_streams k d lt);
-    indexed = l.indexed;
+    apart = l.apart;
     texts = subst (λ (u : World). (k : ℕ) (d : List ℕ) (g : W.Datagram) → slice_get u.network k ≡ Some g → IsDatagram sum (contents_of u g) (slice_index_or (x.datagrams ++ bytes ∷ []) k d)) is
         (texts-more sum x l e none (Forward upto names) bytes (ap (λ (u : World). u.network) is) count (subst (λ (u : World). IsDatagram sum (contents_of u (Forward upto names)) bytes) (sym is) (record { text = text ∙ ap (λ t. packet_text sum (packet_with (forward_tsn_chunk t ∷ []))) says; reads = subst (λ t. ReadsPacket sum bytes (packet_with (forward_tsn_chunk t ∷ []))) says reads })));
   }

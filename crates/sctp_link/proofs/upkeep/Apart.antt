@@ -1,11 +1,9 @@
 -- No stream of a link is open twice, and what the change of one of its streams, slots or messages makes of the record.
 use Rattle.std.proofs.Common.{◌≡◌, ℕ, zero, suc, ◌<◌, Bool, true, false, List, [], ◌∷◌, length, map, Some, refl, ap, sym, ◌∙◌, arith}
-use Rattle.std.specs.BTreeMap.{BTreeMap}
 use Rattle.std.specs.Prelude.{◌==◌, ◌||◌, find, if◌then◌else◌, slice_get, slice_index_or, slice_set}
 use Rattle.std.specs.Option.{option_map}
 use Rattle.std.specs.List.{list_any}
 use Rattle.std.proofs.Math.Path.{subst}
-use Rattle.std.proofs.lemmas.Bool.{ne_eqb}
 use Rattle.std.proofs.lemmas.List.{get_or-set_same, get_or-set_other}
 use Rattle.sctp_lists.specs.Lists.{changed}
 use Rattle.sctp_lists.proofs.Cases.{same-yes, same-is}
@@ -13,36 +11,15 @@ use Rattle.sctp_lists.proofs.More.{not_both}
 use Rattle.sctp_model.specs.World.{StreamRecord}
 use Rattle.sctp_ties.proofs.arriving.Stays.{by_place}
 use Rattle.sctp_ties.proofs.amounts.StreamAmounts.{same-turned}
-use Rattle.sctp_link.specs.declared.open_stream.OpenStream.{OpenStream}
-use Rattle.sctp_link.specs.Linked.{has_number}
-use Rattle.sctp_link.specs.Places.{IsIndexed, stream_numbers}
+use Rattle.sctp_link.specs.Places.{IsApart}
+use Rattle.sctp_halves.specs.Streams.{OpenStream, has_number, stream_numbers}
 use Rattle.sctp_link.specs.Records.{stream_record}
 
 -- ## Numbers
 
--- none stands twice
-abbrev pub IsApart : List ℕ → Type 0
-IsApart [] = Unit {0}
-IsApart (n ∷ ns) = (list_any (λ k. k == n) ns ≡ false) × IsApart ns
-
-neither : (a b : Bool) → (a || b) ≡ false → (a ≡ false) × (b ≡ false)
+pub neither : (a b : Bool) → (a || b) ≡ false → (a ≡ false) × (b ≡ false)
 neither true b e = cc
 neither false b e = (refl, e)
-
-none-is : (n : ℕ) (ns : List ℕ) → ((k : ℕ) → slice_get ns k ≡ Some n → ⊥) → list_any (λ k. k == n) ns ≡ false
-none-is n [] h = refl
-none-is n (m ∷ ns) h = ap (λ b. b || list_any (λ k. k == n) ns) (ne_eqb m n (λ e. h 0 (ap (λ k. Some k) e))) ∙ none-is n ns (λ k e. h (suc k) e)
-
-one-place : (ns : List ℕ) → ((j k s : ℕ) → slice_get ns j ≡ Some s → slice_get ns k ≡ Some s → j ≡ k) → IsApart ns
-one-place [] d = tt
-one-place (n ∷ ns) d = (none-is n ns (λ k e. let same = d 0 (suc k) n refl e in omega (arith, same)), one-place ns (λ j k s a b. let same = d (suc j) (suc k) s a b in omega (arith, same)))
-
--- each number has one place in an index
-pub apart : (places : BTreeMap ℕ ℕ) (ns : List ℕ) → IsIndexed places ns → IsApart ns
-apart places ns i = one-place ns (λ j k s a b. same (sym ((i s j).1 a) ∙ (i s k).1 b))
-  where
-    same : {j k : ℕ} → Some j ≡ Some k → j ≡ k
-    same e = cc
 
 -- ## Open streams
 
@@ -63,7 +40,7 @@ number-found s (x ∷ ls) l e = step (x.state.stream_identifier == s) refl e (nu
     step true t h ih = let z : x ≡ l = cc in ap (λ (y : OpenStream). y.state.stream_identifier) (sym z) ∙ same-is x.state.stream_identifier s t
     step false t h ih = ih h
 
-none-at : (n : ℕ) (ls : List OpenStream) (k : ℕ) (d : OpenStream) → list_any (λ j. j == n) (stream_numbers ls) ≡ false → k < length ls → ((slice_index_or ls k d).state.stream_identifier == n) ≡ false
+pub none-at : (n : ℕ) (ls : List OpenStream) (k : ℕ) (d : OpenStream) → list_any (λ j. j == n) (stream_numbers ls) ≡ false → k < length ls → ((slice_index_or ls k d).state.stream_identifier == n) ≡ false
 none-at n [] k d e lt = absurd (omega arith)
 none-at n (l ∷ ls) zero d e lt = (neither (l.state.stream_identifier == n) (list_any (λ j. j == n) (stream_numbers ls)) e).0
 none-at n (l ∷ ls) (suc k) d e lt = none-at n ls k d (neither (l.state.stream_identifier == n) (list_any (λ j. j == n) (stream_numbers ls)) e).1 (omega arith)

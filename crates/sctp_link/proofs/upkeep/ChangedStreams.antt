@@ -1,12 +1,16 @@
 -- Streams of one number are changed: what of a list stays, and what stands at each place.
-use Rattle.std.proofs.Common.{◌≡◌, ℕ, ◌<◌, Bool, true, false, List, [], ◌∷◌, length, map, refl, ap, ◌∙◌}
+use Rattle.sctp_halves.specs.Streams.{OpenStream, has_number}
+use Rattle.std.proofs.Common.{◌≡◌, ℕ, ◌<◌, Bool, true, false, List, [], ◌∷◌, length, map, refl, ap, sym, ◌∙◌, arith}
 use Rattle.std.specs.Prelude.{if◌then◌else◌, ◌==◌, slice_index_or}
 use Rattle.sctp_lists.specs.Lists.{change_where}
-use Rattle.sctp_lists.proofs.Edits.{change_where-map}
+use Rattle.std.proofs.Math.Path.{subst}
+use Rattle.sctp_lists.proofs.Cases.{same-is, same-yes}
+use Rattle.sctp_lists.proofs.More.{not_both}
+use Rattle.sctp_lists.proofs.Edits.{change_where-map, length-change_where}
+use Rattle.sctp_model.specs.World.{StreamRecord}
+use Rattle.sctp_link.specs.Records.{stream_record}
 use Rattle.sctp_lists.proofs.Getting.{map-at}
 use Rattle.sctp_ties.proofs.amounts.StreamAmounts.{same-turned}
-use Rattle.sctp_link.specs.declared.open_stream.OpenStream.{OpenStream}
-use Rattle.sctp_link.specs.Linked.{has_number}
 
 -- what the change leaves of a stream it leaves of the list
 pub fields-same : {A : Type 0} (f : OpenStream → A) (g : OpenStream → OpenStream) → ((l : OpenStream) → f (g l) ≡ f l) → (s : ℕ) (ls : List OpenStream) → map f (change_where (has_number s) g ls) ≡ map f ls
@@ -23,3 +27,23 @@ changed-at g s ls k d lt =
     ap (λ ys. slice_index_or ys k d) (change_where-map (has_number s) g ls)
     ∙ map-at (λ x. if has_number s x then g x else x) k ls d lt
     ∙ ap (λ b. if b then g (slice_index_or ls k d) else slice_index_or ls k d) (same-turned (slice_index_or ls k d).state.stream_identifier s)
+
+-- so their records change
+pub records-changed : (f : StreamRecord → StreamRecord) (g : OpenStream → OpenStream) → ((l : OpenStream) → stream_record (g l) ≡ f (stream_record l)) → (s : ℕ) (ls : List OpenStream) → map stream_record (change_where (has_number s) g ls) ≡ map (λ r. if r.stream == s then f r else r) (map stream_record ls)
+records-changed f g e s [] = refl
+records-changed f g e s (l ∷ ls) = ap (λ x. x ∷ map stream_record (change_where (has_number s) g ls)) (one (l.state.stream_identifier == s)) ∙ ap (λ xs. (if l.state.stream_identifier == s then f (stream_record l) else stream_record l) ∷ xs) (records-changed f g e s ls)
+  where
+    one : (b : Bool) → stream_record (if b then g l else l) ≡ (if b then f (stream_record l) else stream_record l)
+    one true = e l
+    one false = refl
+
+-- what holds of each stream, and after the change of those with the number, holds of each one then
+pub each-changed : (P : OpenStream → Type 0) (g : OpenStream → OpenStream) (s : ℕ) (ls : List OpenStream) → ((k : ℕ) (d : OpenStream) → k < length ls → (slice_index_or ls k d).state.stream_identifier ≡ s → P (g (slice_index_or ls k d))) → ((k : ℕ) (d : OpenStream) → k < length ls → ((slice_index_or ls k d).state.stream_identifier ≡ s → ⊥) → P (slice_index_or ls k d)) → (k : ℕ) (d : OpenStream) → k < length (change_where (has_number s) g ls) → P (slice_index_or (change_where (has_number s) g ls) k d)
+each-changed P g s ls yes no k d lt = subst P (sym (changed-at g s ls k d below)) (by (s == (slice_index_or ls k d).state.stream_identifier) refl)
+  where
+    below : k < length ls
+    below = omega (arith, lt, length-change_where (has_number s) g ls)
+
+    by : (b : Bool) → (s == (slice_index_or ls k d).state.stream_identifier) ≡ b → P (if b then g (slice_index_or ls k d) else slice_index_or ls k d)
+    by true e = yes k d below (sym (same-is s (slice_index_or ls k d).state.stream_identifier e))
+    by false e = no k d below (λ z. not_both (sym e ∙ ap (λ n. s == n) z ∙ same-yes s))

@@ -33,7 +33,7 @@ use Rattle.sctp_ties.proofs.amounts.StreamAmounts.{amount-same}
 use Rattle.sctp_model.proofs.receiver.SoundRun.{record_is_sound}
 use Rattle.sctp_ties.proofs.sending.QuietReceiver.{reassembly-quiet, filter-quiet}
 use Rattle.sctp_ties.proofs.reading.ReadOne.{KeepsNext, next-same}
-use Rattle.sctp_link.specs.declared.open_stream.OpenStream.{OpenStream}
+use Rattle.sctp_halves.specs.Streams.{OpenStream}
 use Rattle.sctp_link.specs.Texts.{IsDatagram}
 use Rattle.sctp_link.specs.Linked.{State, IsOpenStream, IsLinked, stats_of}
 use Rattle.sctp_link.proofs.upkeep.Facts.{facts, says-still}

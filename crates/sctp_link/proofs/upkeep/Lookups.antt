@@ -4,8 +4,8 @@ use Rattle.std.specs.Prelude.{◌==◌, find, is_some, option_map, slice_index_o
 use Rattle.std.proofs.Math.Path.{subst}
 use Rattle.sctp_model.specs.World.{World}
 use Rattle.sctp_model.specs.Messages.{is_open, stream_at}
-use Rattle.sctp_link.specs.declared.open_stream.OpenStream.{OpenStream}
-use Rattle.sctp_link.specs.Linked.{has_number, State, IsLinked, IsOpenStream}
+use Rattle.sctp_halves.specs.Streams.{OpenStream, has_number}
+use Rattle.sctp_link.specs.Linked.{State, IsLinked, IsOpenStream}
 use Rattle.sctp_link.specs.Records.{stream_record}
 use Rattle.sctp_link.proofs.upkeep.Apart.{number-found, stream-found}
 

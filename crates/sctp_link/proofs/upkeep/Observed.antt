@@ -10,11 +10,11 @@ use Rattle.sctp_model.specs.Queues.{is_cleared}
 use Rattle.sctp_model.specs.Messages.{is_open, message_at, message_of, slot_at, no_slot, no_message}
 use Rattle.sctp_model.specs.Contents.{Contents, contents_of, contents_in, datagram}
 use Rattle.sctp_model.specs.Steps.{can_resend}
+use Rattle.sctp_halves.specs.Streams.{OpenStream, has_number}
 use Rattle.sctp_link.specs.declared.record.Datagram.{Datagram}
 use Rattle.sctp_link.specs.declared.record.Message.{Message}
 use Rattle.sctp_link.specs.declared.record.Slot.{Slot}
-use Rattle.sctp_link.specs.declared.open_stream.OpenStream.{OpenStream}
-use Rattle.sctp_link.specs.Linked.{State, IsLinked, has_number}
+use Rattle.sctp_link.specs.Linked.{State, IsLinked}
 use Rattle.sctp_link.specs.Records.{stream_record, datagram_record, slot_record, message_record}
 use Rattle.sctp_link.specs.Texts.{datagram_text}
 use Rattle.sctp_link.proofs.upkeep.Lookups.{none-open, some-open}

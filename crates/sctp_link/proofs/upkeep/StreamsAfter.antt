@@ -23,9 +23,8 @@ use Rattle.sctp_ties.proofs.sending.Begun
 use Rattle.sctp_ties.proofs.sending.Begun.{Indexed}
 use Rattle.sctp_ties.proofs.acknowledging.QuietSender.{SameToSender, outbound-same}
 use Rattle.sctp_ties.proofs.amounts.StreamAmounts.{amount-same}
-use Rattle.sctp_link.specs.declared.open_stream.OpenStream.{OpenStream}
-use Rattle.sctp_link.specs.Linked.{State, IsLinked, IsOpenStream, stats_of, stats_in, filter_shown}
-use Rattle.sctp_link.specs.Places.{IsIndexed, stream_numbers}
+use Rattle.sctp_halves.specs.Streams.{OpenStream, stats_in, stream_numbers}
+use Rattle.sctp_link.specs.Linked.{State, IsLinked, IsOpenStream, stats_of, filter_shown}
 use Rattle.sctp_link.specs.Texts.{IsDatagram}
 use Rattle.sctp_link.proofs.upkeep.Facts.{facts, stands-then, says-still}
 use Rattle.sctp_link.proofs.sender.Beginning.{index_kept, indexed-of}
@@ -72,7 +71,7 @@ module _ (sum : List ℕ → ℕ) (x : State) (l : IsLinked sum x) (e : Event) (
         stats = stats ∙ ap (λ a. stats_of (counters_on v a)) (sym id);
       }
 
-  module _ (progress : List (ℕ × ℕ)) (open_streams : List OpenStream) (filter : Filter) (u : World) (progress_same : progress ≡ x.progress) (filter_is : filter_shown filter ≡ filter_of v) (each : (k : ℕ) (d : OpenStream) → k < length open_streams → IsOpenStream v (slice_index_or open_streams k d)) (found : IsIndexed x.places (stream_numbers open_streams)) (q : SameToSender w v) (is : u ≡ v) where
+  module _ (progress : List (ℕ × ℕ)) (open_streams : List OpenStream) (filter : Filter) (u : World) (progress_same : progress ≡ x.progress) (filter_is : filter_shown filter ≡ filter_of v) (each : (k : ℕ) (d : OpenStream) → k < length open_streams → IsOpenStream v (slice_index_or open_streams k d)) (found : IsApart (stream_numbers open_streams)) (q : SameToSender w v) (is : u ≡ v) where
     indexed-then : Indexed (shape v) (index_kept progress)
     indexed-then = subst (λ ps. Indexed (shape v) (index_kept ps)) (sym progress_same) (on-shape (λ b. Indexed b (index_kept x.progress)) (indexed-of sum x l))
 

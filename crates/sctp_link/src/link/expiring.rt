@@ -17,15 +17,14 @@ impl<C: Checksum + Drop> Link<C> {
         ensures right { IsRight self.old.world (E.Expire now) (reply_of result) self.new.world }
         ensures checksum { self.new.checksum ≡ self.old.checksum }
     {
-        let Some(chunk) = self.flight.queue().peek_pending() else {
+        let Some(chunk) = self.halves.outbound().peek_pending() else {
             return Reply::Idle;
         };
         let number = chunk.message_id as usize;
-        let Some((stream, unordered, bytes)) = self.flight.expire(now) else {
+        let Some((stream, bytes)) = self.halves.expire(now) else {
             return Reply::Idle;
         };
         self.messages[number].expired = true;
-        self.open_streams.expire(stream, !unordered, bytes);
         Reply::Expired {
             stream,
             bytes: bytes as u64,

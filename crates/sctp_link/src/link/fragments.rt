@@ -8,17 +8,16 @@ ghost use Rattle.sctp_outbound.specs.pending_queue.PendingQueue.{peeked};
 ghost use Rattle.sctp_outbound.specs.outbound_queue.OutboundQueue.{after_sends};
 ghost use Rattle.sctp_model.specs.Changes.{chunk_length};
 ghost use Rattle.sctp_ties.specs.Filling.{under, chunks_taken};
-ghost use Rattle.sctp_link.specs.OpenStreams.{slot_with, with_fragment, begun_of, begun_by};
-ghost use Rattle.sctp_link.specs.Places.{IsIndexed, stream_numbers};
-ghost use Rattle.sctp_link.specs.Sends.{Sender, sender_of, CanSend, Leaves, Leave};
+ghost use Rattle.sctp_halves.specs.Streams.{begun_of};
+ghost use Rattle.sctp_link.specs.OpenStreams.{slot_with, with_fragment, begun_by};
+ghost use Rattle.sctp_link.specs.Sends.{Sender, sender_of, CanSend, Leaves, Leave, SendsOnly};
 
-use super::open_streams::OpenStreams;
 use crate::record::{Message, Slot};
 use sctp_base::error::Result;
 use sctp_chunks::chunk::chunk_kind::ChunkKind;
 use sctp_chunks::chunk::chunk_payload_data::ChunkPayloadData;
+use sctp_halves::Halves;
 use sctp_queues::outbound_queue::OutboundQueue;
-use sctp_transfer::sender::flight::InFlight;
 use std::alloc::Global;
 
 /// The length of a packet's common header (RFC 4960 3.1).
@@ -101,69 +100,64 @@ pub(super) fn places_from(alloc: Global, first: usize, count: usize) -> Result<V
 /// Takes the next fragments, one after another: each gets a slot and the next TSN; `now` is in nanoseconds.
 /// Precondition: each can leave in its turn, and there is room for all of them.
 pub(super) fn take_fragments(
-    flight: &mut InFlight,
+    halves: &mut Halves,
     messages: &mut [Message],
-    open_streams: &mut OpenStreams,
     slots: &mut Vec<Slot>,
     now: u64,
     count: usize,
 )
     requires able { (i : ℕ) (s : Sender) → i < count
-        → Leave now i (sender_of flight.old messages.old open_streams.old slots.old.items) s → CanSend s }
-    requires flight { count ≤ flight.old.queue.inflight.room }
+        → Leave now i (sender_of halves.old messages.old slots.old.items) s → CanSend s }
+    requires flight { count ≤ halves.old.flight.queue.inflight.room }
     requires room { vec_len slots.old + count ≤ vec_capacity slots.old }
     ensures leave { Leave now count
-        (sender_of flight.old messages.old open_streams.old slots.old.items)
-        (sender_of flight.new messages.new open_streams.new slots.new.items) }
-    ensures acked { flight.new.acked_tsn ≡ flight.old.acked_tsn }
+        (sender_of halves.old messages.old slots.old.items)
+        (sender_of halves.new messages.new slots.new.items) }
+    ensures rest { SendsOnly halves.old halves.new }
 {
     for _at in 0..count {
-        take_next(flight, messages, open_streams, slots, now);
+        take_next(halves, messages, slots, now);
     }
 }
 
 /// Takes the next fragment: it gets a slot and the next TSN; `now` is in nanoseconds.
 /// Precondition: it can leave, and there is room for it.
 fn take_next(
-    flight: &mut InFlight,
+    halves: &mut Halves,
     messages: &mut [Message],
-    open_streams: &mut OpenStreams,
     slots: &mut Vec<Slot>,
     now: u64,
 )
-    requires able { CanSend (sender_of flight.old messages.old open_streams.old slots.old.items) }
-    requires flight { 0 < flight.old.queue.inflight.room }
+    requires able { CanSend (sender_of halves.old messages.old slots.old.items) }
+    requires flight { 0 < halves.old.flight.queue.inflight.room }
     requires room { vec_len slots.old < vec_capacity slots.old }
-    ensures leaves { Leaves now (sender_of flight.old messages.old open_streams.old slots.old.items)
-        (sender_of flight.new messages.new open_streams.new slots.new.items) }
-    ensures acked { flight.new.acked_tsn ≡ flight.old.acked_tsn }
-    ensures flight { flight.old.queue.inflight.room ≡ flight.new.queue.inflight.room + 1 }
+    ensures leaves { Leaves now (sender_of halves.old messages.old slots.old.items)
+        (sender_of halves.new messages.new slots.new.items) }
+    ensures rest { SendsOnly halves.old halves.new }
+    ensures flight { halves.old.flight.queue.inflight.room
+        ≡ halves.new.flight.queue.inflight.room + 1 }
     ensures len { vec_len slots.new ≡ vec_len slots.old + 1 }
     ensures capacity { vec_capacity slots.old ≤ vec_capacity slots.new }
 {
-    let Some(chunk) = flight.queue().peek_pending() else {
+    let Some(chunk) = halves.outbound().peek_pending() else {
         unreachable!()
     };
     let number = chunk.message_id;
-    let _ = flight.send_next(now);
-    let slot = take_fragment(&mut messages[number as usize], open_streams, number);
+    halves.send_next(now);
+    let slot = take_fragment(&mut messages[number as usize], halves, number);
     slots.push_reserved(slot);
 }
 
 /// The slot of the next fragment of a message, which it takes. The first one of an ordered message takes an index.
-fn take_fragment(message: &mut Message, open_streams: &mut OpenStreams, number: u64) -> Slot
+fn take_fragment(message: &mut Message, halves: &mut Halves, number: u64) -> Slot
     requires fits { message.old.sent + 1 < 2 ^ 64 }
-    requires indexed { IsIndexed open_streams.old.places
-        (stream_numbers open_streams.old.items.items) }
-    requires few { begun_of message.old.stream open_streams.old.items.items + 1 < 2 ^ 64 }
+    requires few { begun_of message.old.stream halves.old.streams + 1 < 2 ^ 64 }
     ensures slot { result ≡ slot_with number message.old.sent }
-    ensures taken { message.new ≡ with_fragment open_streams.old.items.items message.old }
-    ensures items { open_streams.new.items.items
-        ≡ begun_by message.old open_streams.old.items.items }
-    ensures places { open_streams.new.places ≡ open_streams.old.places }
+    ensures taken { message.new ≡ with_fragment halves.old.streams message.old }
+    ensures rest { halves.new ≡ record halves.old { streams = begun_by message.old halves.old.streams } }
 {
     if message.ordered && message.sent == 0 {
-        message.index = open_streams.begin(message.stream);
+        message.index = halves.begin(message.stream);
     }
     let fragment = message.sent;
     message.sent += 1;

@@ -27,7 +27,7 @@ impl<C: Checksum + Drop> Link<C> {
         ensures memory { IsOkUnless result ErrOutOfMemory }
         ensures wants { OnErr result (takes_memory self.old.world (E.Late now) ≡ true) }
     {
-        let tsns = self.flight.queue().expired_inflight(self.alloc, now)?;
+        let tsns = self.halves.outbound().expired_inflight(self.alloc, now)?;
         // The half-sent message comes first: it alone takes memory, for its end mark.
         let mut bytes = self.give_up_half_sent(&tsns)?;
         for at in 0..tsns.len() {

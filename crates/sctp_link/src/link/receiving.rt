@@ -9,7 +9,8 @@ ghost use Rattle.sctp_link.specs.Replies.{reply_of};
 ghost use Rattle.sctp_model.specs.declared.event.LinkRefusal.TheVariants.{SpanTooWide};
 
 use super::Link;
-use super::arriving::receive_slots;
+use super::arriving::{message_numbers, record_arrivals};
+use super::skipping::count_of;
 use crate::datagram::read_data;
 use crate::event::{LinkRefusal, Reply};
 use crate::record::Kind;
@@ -69,8 +70,8 @@ impl<C: Checksum + Drop> Link<C> {
         if !self.is_new(place) {
             return true;
         }
-        let ends = self.ends(message.stream);
-        let (low, high) = self.widened(message.stream, places, ends);
+        let range = self.index_range(message.stream);
+        let (low, high) = self.widened(message.stream, places, range);
         high.saturating_sub(low) < 0x8000
     }
 
@@ -102,26 +103,28 @@ impl<C: Checksum + Drop> Link<C> {
     }
 
     // The least and the greatest of the index expected next and those of the messages held: they stand at the ends of the queue.
-    pub(super) fn ends(&self, stream: u16) -> (u64, u64)
+    pub(super) fn index_range(&self, stream: u16) -> (u64, u64)
         requires { is_open self.now.world stream ≡ true }
         ensures low { result.0 ≡ least (next_of self.now.world stream)
             (map (index_of self.now.world) (held_on self.now.world stream)) }
         ensures high { result.1 ≡ greatest (next_of self.now.world stream)
             (map (index_of self.now.world) (held_on self.now.world stream)) }
     {
-        let Some(at) = self.open_streams.place_of(stream) else {
+        let Some(next) = self.halves.next_index(stream) else {
             unreachable!()
         };
-        let open_stream = &self.open_streams.items[at];
-        let held = open_stream.inbound.queue.ordered();
+        let Some(queue) = self.halves.reassembly(stream) else {
+            unreachable!()
+        };
+        let held = queue.ordered();
         let Some(first) = held.front() else {
-            return (open_stream.next, open_stream.next);
+            return (next, next);
         };
         let Some(last) = held.back() else {
-            return (open_stream.next, open_stream.next);
+            return (next, next);
         };
-        let low = open_stream.next.min(self.index_of(first));
-        let high = open_stream.next.max(self.index_of(last));
+        let low = next.min(self.index_of(first));
+        let high = next.max(self.index_of(last));
         (low, high)
     }
 
@@ -141,8 +144,8 @@ impl<C: Checksum + Drop> Link<C> {
         requires { place < length self.now.world.slots }
         ensures { result ≡ is_new self.now.world place }
     {
-        let tsn = self.first_tsn.wrapping_add(place as u32);
-        !self.filter.has_come(tsn)
+        let cumulative = count_of(self.halves.cumulative_tsn(), self.first_tsn);
+        cumulative <= place as u64 && !self.slots[place].arrived
     }
 
     /// Takes datagram k to the receiver. Refuses only for memory, and nothing changes then.
@@ -180,15 +183,10 @@ impl<C: Checksum + Drop> Link<C> {
         let Kind::Data { places } = &self.network[k as usize].kind else {
             unreachable!()
         };
-        let new = receive_slots(
-            self.alloc,
-            &mut self.open_streams,
-            &mut self.slots,
-            &mut self.filter,
-            &mut self.duplicates,
-            places,
-            &chunks,
-        )?;
+        let numbers = message_numbers(self.alloc, &self.slots, places)?;
+        self.duplicates.reserve(places.len())?;
+        let arrivals = self.halves.data_each(&chunks, &numbers)?;
+        let new = record_arrivals(&mut self.slots, &mut self.duplicates, places, &arrivals);
         Ok(reply_to_data(new))
     }
 
@@ -199,10 +197,7 @@ impl<C: Checksum + Drop> Link<C> {
         ensures right { IsRight self.old.world (E.Read stream) (reply_of result) self.new.world }
         ensures checksum { self.new.checksum ≡ self.old.checksum }
     {
-        let Some(at) = self.open_streams.place_of(stream) else {
-            unreachable!()
-        };
-        let Some(chunks) = self.open_streams.items[at].read() else {
+        let Some(chunks) = self.halves.read(stream) else {
             return Reply::Nothing;
         };
         let place = first_tsn(&chunks).wrapping_sub(self.first_tsn) as usize;
@@ -210,7 +205,8 @@ impl<C: Checksum + Drop> Link<C> {
         let ppi = chunks.ppi();
         let message = &mut self.messages[number];
         message.read = true;
-        self.open_streams.items[at].finish_read(message.ordered, message.index);
+        self.halves
+            .record_read(stream, message.ordered, message.index);
         Reply::Message {
             stream,
             ppi,

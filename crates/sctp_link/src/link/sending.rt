@@ -2,7 +2,6 @@
 
 ghost use Rattle.std.specs.Prelude.{◌≡◌, ◌<◌, ◌≤◌, ◌+◌, ◌-◌, ◌^◌, ◌∷◌, ◌++◌, ℕ, [], None, Some, OnOk, OnErr, IfOk, IsOkUnless, length, true};
 ghost use Rattle.sctp_base.specs.declared.error.Error.TheVariants.{ErrOutOfMemory};
-ghost use Rattle.sctp_transfer.specs.Flight.{with_queue, with_room};
 
 use super::fragments::{next_chunks, places_from, take_fragments};
 use super::streams::start_from;
@@ -10,11 +9,9 @@ use super::{Link, put};
 use crate::datagram::{write_chunks, write_datagram};
 use crate::event::{LinkRefusal, Reply};
 use crate::record::{Datagram, Kind};
-use sctp_base::error::{Error, Result};
+use sctp_base::error::Result;
 use sctp_base::util::Checksum;
 use sctp_chunks::chunk::chunk_kind::ChunkKind;
-use sctp_transfer::sender::flight::InFlight;
-use sctp_transfer::sender::refusal::SenderRefusal;
 
 impl<C: Checksum + Drop> Link<C> {
     ghost use Rattle.sctp_model.specs.Queues.{is_cleared};
@@ -32,26 +29,25 @@ impl<C: Checksum + Drop> Link<C> {
         ensures memory { IsOkUnless result ErrOutOfMemory }
         ensures wants { OnErr result (takes_memory self.old.world (E.Send now) ≡ true) }
     {
-        let Some(first) = self.flight.queue().peek_pending() else {
+        let Some(first) = self.halves.outbound().peek_pending() else {
             self.start(now);
             return Ok(Reply::Idle);
         };
         let ssn = first.stream_sequence_number;
-        let tsn = self.flight.next_tsn();
-        let chunks = next_chunks(self.alloc, self.flight.queue(), first, tsn, self.limit)?;
+        let tsn = self.halves.next_tsn();
+        let chunks = next_chunks(self.alloc, self.halves.outbound(), first, tsn, self.limit)?;
         let count = chunks.len();
         let bytes = write_chunks(self.alloc, chunks, &self.checksum)?;
         let places = places_from(self.alloc, self.slots.len(), count)?;
         self.slots.reserve(count)?;
         self.network.reserve(1)?;
-        reserve_inflight(&mut self.flight, count)?;
-        self.flight.start(now);
+        self.halves.reserve(count)?;
+        self.halves.start(now);
         start_from(&mut self.messages, self.unstarted, now);
         self.unstarted = self.messages.len();
         take_fragments(
-            &mut self.flight,
+            &mut self.halves,
             &mut self.messages,
-            &mut self.open_streams,
             &mut self.slots,
             now,
             count,
@@ -97,31 +93,17 @@ impl<C: Checksum + Drop> Link<C> {
         ensures err { OnErr result (self.new.world ≡ self.old.world) }
         ensures memory { IsOkUnless result ErrOutOfMemory }
     {
-        let Some(chunk) = self.flight.queue().get(tsn) else {
+        let Some(chunk) = self.halves.outbound().get(tsn) else {
             unreachable!()
         };
         let chunk = chunk.try_clone()?;
         let places = places_from(self.alloc, tsn.wrapping_sub(self.first_tsn) as usize, 1)?;
         let bytes = write_datagram(self.alloc, ChunkKind::PayloadData(chunk), &self.checksum)?;
         self.network.reserve(1)?;
-        self.flight.count_resend(tsn);
+        self.halves.count_resend(tsn);
         let datagram = self.network.len() as u64;
         let kind = Kind::Data { places };
         put(&mut self.network, Datagram { kind, bytes });
         Ok(Reply::Resent { datagram })
-    }
-}
-
-/// Makes room for so many sends. Refuses only for memory, and nothing changes then.
-fn reserve_inflight(flight: &mut InFlight, sends: usize) -> Result<()>
-    ensures ok { OnOk result (flight.new
-        ≡ with_queue flight.old (with_room sends flight.old.queue)) }
-    ensures err { OnErr result (flight.new ≡ flight.old) }
-    ensures memory { IsOkUnless result ErrOutOfMemory }
-{
-    match flight.reserve_inflight(sends) {
-        Ok(()) => Ok(()),
-        Err(SenderRefusal::OutOfMemory) => Err(Error::ErrOutOfMemory),
-        Err(_) => unreachable!(),
     }
 }

@@ -8,26 +8,29 @@ use super::Link;
 use crate::datagram::read_forward_tsn;
 use crate::event::Reply;
 use crate::record::Kind;
-use crate::skipped::{named_on, skip_streams};
+use crate::skipped::{named_on, record_names};
 use sctp_base::error::Result;
 use sctp_base::util::Checksum;
+use sctp_chunks::chunk::chunk_forward_tsn::ChunkForwardTsn;
 
 impl<C: Checksum + Drop> Link<C> {
     ghost use Rattle.sctp_model.specs.World.{Forward, StreamRecord};
-    ghost use Rattle.sctp_model.specs.Messages.{is_open, tsn_of};
+    ghost use Rattle.sctp_chunks.specs.ForwardTsn.{forward_tsn_of};
+    ghost use Rattle.sctp_model.specs.Messages.{is_open};
     ghost use Rattle.sctp_model.specs.Receiver.{held_on};
     ghost use Rattle.sctp_model.specs.Changes.{skip_counts, skip_received};
     ghost use Rattle.sctp_model.specs.Steps.{IsRight, refusal_of, arrival_fits};
     ghost use Rattle.sctp_model.specs.declared.event.Event.TheVariants as E;
     ghost use Rattle.sctp_ties.specs.Naming.{names_fit, whole_first, min_with};
     ghost use Rattle.sctp_link.specs.Replies.{reply_of};
+    ghost use Rattle.sctp_link.specs.Skips.{wire_skip};
 
     // Whether stream sequence numbers can be told apart before a skip and after it (RFC 4960 6.5).
     pub(super) fn skip_fits(&self, upto: u64, names: &[u64]) -> bool
         requires { (k : ℕ) × (slice_get self.now.world.network k ≡ Some (Forward upto names.now)) }
         ensures { result ≡ arrival_fits self.now.world (Some (Forward upto names.now)) }
     {
-        let cumulative = count_of(self.filter.cumulative_tsn(), self.first_tsn);
+        let cumulative = count_of(self.halves.cumulative_tsn(), self.first_tsn);
         if cumulative > upto {
             return true;
         }
@@ -40,7 +43,7 @@ impl<C: Checksum + Drop> Link<C> {
         ensures { result
             ≡ list_all (λ r. names_fit self.now.world r.stream names.now) self.now.world.streams }
     {
-        for at in 0..self.open_streams.items.len() {
+        for at in 0..self.halves.stream_count() {
             if !self.stream_fits(at, upto, names) {
                 return false;
             }
@@ -56,9 +59,9 @@ impl<C: Checksum + Drop> Link<C> {
         ensures { (r : StreamRecord) → slice_get self.now.world.streams at ≡ Some r
             → result ≡ names_fit self.now.world r.stream names.now }
     {
-        let stream = self.open_streams.items[at].state.stream_identifier();
+        let stream = self.halves.stream_at(at);
         let named = named_on(&self.messages, stream, names);
-        let (low, high) = self.ends(stream);
+        let (low, high) = self.index_range(stream);
         let span = low.min(named.low) + 0x8000;
         if high.max(named.end.saturating_sub(1)) >= span {
             return false;
@@ -72,11 +75,10 @@ impl<C: Checksum + Drop> Link<C> {
         ensures { result
             ≡ min_with (whole_first self.now.world (held_on self.now.world stream)) low }
     {
-        let Some(at) = self.open_streams.place_of(stream) else {
+        let Some(queue) = self.halves.reassembly(stream) else {
             unreachable!()
         };
-        let open_stream = &self.open_streams.items[at];
-        let held = open_stream.inbound.queue.ordered();
+        let held = queue.ordered();
         let Some(first) = held.front() else {
             return low;
         };
@@ -98,21 +100,23 @@ impl<C: Checksum + Drop> Link<C> {
         ensures memory { IsOkUnless result ErrOutOfMemory }
     {
         let chunk = read_forward_tsn(self.alloc, &self.network[k as usize].bytes, &self.checksum)?;
-        let cumulative = count_of(self.filter.cumulative_tsn(), self.first_tsn);
+        let cumulative = count_of(self.halves.cumulative_tsn(), self.first_tsn);
         if cumulative > upto {
             return Ok(Reply::Stale);
         }
-        self.follow(k, upto, chunk.new_cumulative_tsn);
+        self.follow(k, upto, &chunk);
         Ok(Reply::Skipped)
     }
 
-    // Follows a skip that counts: gives up what it skips on each stream. It takes no memory.
-    fn follow(&mut self, k: u64, upto: u64, tsn: u32)
+    // Follows a skip that counts, which this chunk says. It takes no memory.
+    fn follow(&mut self, k: u64, upto: u64, chunk: &ChunkForwardTsn)
         requires none { refusal_of self.old.world (E.Arrive k) ≡ None }
         requires lies { (names : List ℕ)
             × (slice_get self.old.world.network k ≡ Some (Forward upto names)) }
         requires counts { skip_counts self.old.world upto ≡ true }
-        requires tsn { tsn ≡ tsn_of self.old.world upto }
+        requires says { (names : List ℕ) → slice_get self.old.world.network k
+            ≡ Some (Forward upto names)
+            → forward_tsn_of chunk.now ≡ wire_skip self.old.world upto names }
         ensures followed { (names : List ℕ) → slice_get self.old.world.network k
             ≡ Some (Forward upto names) → self.new.world ≡ skip_received self.old.world upto names }
         ensures checksum { self.new.checksum ≡ self.old.checksum }
@@ -120,14 +124,14 @@ impl<C: Checksum + Drop> Link<C> {
         let Kind::Forward { messages, .. } = &self.network[k as usize].kind else {
             unreachable!()
         };
-        skip_streams(&mut self.open_streams.items, &self.messages, messages, tsn);
+        let _ = self.halves.forward_tsn(chunk);
+        record_names(&mut self.halves, &self.messages, messages);
         self.skipped = upto as usize + 1;
-        self.filter.skip_to(tsn);
     }
 }
 
-// How many slots a cumulative TSN covers.
-fn count_of(cumulative_tsn: u32, first_tsn: u32) -> u64
+/// How many slots a cumulative TSN covers.
+pub(super) fn count_of(cumulative_tsn: u32, first_tsn: u32) -> u64
     ensures { result ≡ ((cumulative_tsn + (2 ^ 32 - first_tsn)) % 2 ^ 32 + 1) % 2 ^ 32 }
 {
     u64::from(cumulative_tsn.wrapping_sub(first_tsn).wrapping_add(1))

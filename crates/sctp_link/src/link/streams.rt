@@ -3,21 +3,17 @@
 ghost use Rattle.std.specs.Prelude.{◌≡◌, ◌<◌, ◌≤◌, ◌+◌, ◌-◌, ◌^◌, ◌∷◌, ◌++◌, ℕ, [], None, Some, List, OnOk, OnErr, IfOk, IsOkUnless, length, nat_le, if◌then◌else◌, true};
 ghost use Rattle.sctp_base.specs.declared.error.Error.TheVariants.{ErrOutOfMemory};
 ghost use Rattle.sctp_lists.specs.Lists.{pieces};
-ghost use Rattle.sctp_outbound.specs.pending_queue.PendingQueue.{reserved};
-ghost use Rattle.sctp_transfer.specs.Flight.{with_queue};
-ghost use Rattle.sctp_link.specs.OpenStreams.{start_from};
+ghost use Rattle.sctp_link.specs.OpenStreams.{start_from, message_with};
 ghost use Rattle.sctp_link.specs.declared.record.Message.{Message};
 
 use super::{Link, put};
 use crate::event::{LinkRefusal, Reply};
-use crate::open_stream::OpenStream;
 use crate::record::Message;
 use bytes::Bytes;
-use sctp_base::error::{Error, Result};
+use sctp_base::error::Result;
 use sctp_base::util::Checksum;
 use sctp_chunks::chunk::chunk_payload_data::{PayloadProtocolIdentifier, ReliabilityType};
-use sctp_transfer::sender::flight::InFlight;
-use sctp_transfer::sender::refusal::SenderRefusal;
+use sctp_halves::halves::progress::Written;
 
 impl<C: Checksum + Drop> Link<C> {
     ghost use Rattle.sctp_model.specs.Steps.{IsRight, refusal_of, takes_memory};
@@ -34,13 +30,7 @@ impl<C: Checksum + Drop> Link<C> {
         ensures err { OnErr result (self.new.world ≡ self.old.world) }
         ensures memory { IsOkUnless result ErrOutOfMemory }
     {
-        let opened = OpenStream::new(
-            self.alloc,
-            stream,
-            self.fragment_size,
-            self.max_message_size,
-        );
-        self.open_streams.push(opened)?;
+        self.halves.open(stream)?;
         Ok(Reply::Opened)
     }
 
@@ -58,12 +48,7 @@ impl<C: Checksum + Drop> Link<C> {
             (E.Mode stream unordered reliability value) (reply_of result) self.new.world }
         ensures checksum { self.new.checksum ≡ self.old.checksum }
     {
-        let Some(at) = self.open_streams.place_of(stream) else {
-            unreachable!()
-        };
-        self.open_streams.items[at]
-            .state
-            .set_reliability_params(unordered, reliability, value);
+        self.halves.set_mode(stream, unordered, reliability, value);
         Reply::Set
     }
 
@@ -75,10 +60,10 @@ impl<C: Checksum + Drop> Link<C> {
         if !self.is_open(stream) {
             return Some(LinkRefusal::StreamUnknown);
         }
-        if len > self.max_message_size as usize {
+        if len > self.halves.max_message_size() as usize {
             return Some(LinkRefusal::MessageTooLarge);
         }
-        let fragments = fragments_in(len, self.fragment_size as usize);
+        let fragments = fragments_in(len, self.halves.fragment_size() as usize);
         if self.fragments + fragments >= 0x8000_0000 {
             return Some(LinkRefusal::TsnsUsedUp);
         }
@@ -108,18 +93,12 @@ impl<C: Checksum + Drop> Link<C> {
                 fragments: 0,
             });
         }
-        let Some(at) = self.open_streams.place_of(stream) else {
-            unreachable!()
-        };
         let len = bytes.len();
-        let count = fragments_in(len, self.fragment_size as usize);
+        let count = fragments_in(len, self.halves.fragment_size() as usize);
         self.messages.reserve(1)?;
-        let ordered = self.open_streams.items[at].is_ordered(ppi);
-        make_room(&mut self.flight, ordered, count)?;
-        let (message, chunks) = self.open_streams.items[at].write(self.alloc, ppi, bytes)?;
-        let _ = self.flight.push(chunks);
+        let written = self.halves.write(stream, ppi, &bytes)?;
         let number = self.messages.len() as u64;
-        put(&mut self.messages, message);
+        put(&mut self.messages, message_with(stream, written, ppi, bytes));
         self.fragments += count;
         self.written += len as u64;
         Ok(Reply::Wrote {
@@ -133,30 +112,36 @@ impl<C: Checksum + Drop> Link<C> {
         ensures right { IsRight self.old.world (E.Start now) (reply_of result) self.new.world }
         ensures checksum { self.new.checksum ≡ self.old.checksum }
     {
-        self.flight.start(now);
+        self.halves.start(now);
         start_from(&mut self.messages, self.unstarted, now);
         self.unstarted = self.messages.len();
         Reply::Started
     }
 }
 
-/// Makes room for the fragments of a message. Refuses only for memory, and nothing changes then.
-fn make_room(flight: &mut InFlight, ordered: bool, count: usize) -> Result<()>
-    ensures ok { OnOk result (flight.new ≡ with_queue flight.old (record flight.old.queue {
-      pending = reserved flight.old.queue.pending (if ordered then count else 0) (if ordered then 0 else count);
-    })) }
-    ensures err { OnErr result (flight.new ≡ flight.old) }
-    ensures memory { IsOkUnless result ErrOutOfMemory }
+/// What is kept of an accepted write.
+fn message_with(
+    stream: u16,
+    written: Written,
+    ppi: PayloadProtocolIdentifier,
+    bytes: Bytes,
+) -> Message
+    ensures { result ≡ message_with stream written ppi bytes }
 {
-    let answer = if ordered {
-        flight.reserve(count, 0)
-    } else {
-        flight.reserve(0, count)
-    };
-    match answer {
-        Ok(()) => Ok(()),
-        Err(SenderRefusal::OutOfMemory) => Err(Error::ErrOutOfMemory),
-        Err(_) => unreachable!(),
+    Message {
+        stream,
+        ordered: written.ordered,
+        ppi,
+        bytes,
+        reliability: written.reliability,
+        value: written.value,
+        before: written.before,
+        index: 0,
+        started: None,
+        expired: false,
+        abandoned: false,
+        read: false,
+        sent: 0,
     }
 }
 

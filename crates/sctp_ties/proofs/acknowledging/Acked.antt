@@ -1,24 +1,18 @@
 -- A SACK is taken: what is in flight then is what the record says.
-use Rattle.std.proofs.Common.{◌≡◌, ℕ, zero, suc, ◌+◌, ◌-◌, ◌<◌, ◌≤◌, ◌^◌, Bool, true, false, List, [], ◌∷◌, length, map, Some, None, refl, ap, sym, ◌∙◌, arith}
-use Rattle.std.specs.Prelude.{if◌then◌else◌, ◌==◌, ◌&&◌, ◌||◌, not, nat_lt, max}
-use Rattle.std.proofs.lemmas.Bool.Decides.{nat_tests}
+use Rattle.std.proofs.Common.{◌≡◌, ℕ, ◌+◌, ◌-◌, ◌<◌, ◌≤◌, Bool, List, [], ◌∷◌, length, map, Some, refl, ap, sym, ◌∙◌, arith}
+use Rattle.std.specs.Prelude.{◌&&◌, ◌||◌, not, nat_lt, max}
 use Rattle.sctp_lists.specs.Kept.{always, numbers_from, first_of}
-use Rattle.sctp_lists.specs.Lists.{change_where}
 use Rattle.sctp_lists.proofs.KeptLemmas.{map-kept-same, kept-same}
-use Rattle.sctp_lists.proofs.More.{same_test}
 use Rattle.sctp_lists.proofs.Getting.{get-numbered, numbered-at, length-numbered}
 use Rattle.sctp_chunks.specs.declared.chunk.chunk_payload_data.ChunkPayloadData.{ChunkPayloadData}
-use Rattle.sctp_outbound.specs.Marks.{acknowledged}
-use Rattle.sctp_serial.specs.DataChunks.{has_tsn}
-use Rattle.sctp_outbound.specs.payload_queue.PayloadQueue.{front_with, without_front}
 use Rattle.sctp_outbound.specs.outbound_queue.OutboundQueue.{Outbound, with_inflight}
 use Rattle.sctp_model.specs.World.{World, Report, Sack}
-use Rattle.sctp_model.specs.Messages.{message_at, slot_at, message_of, messages_where, no_slot, tsn_of, sent_of, fragment_count, is_half_sent}
+use Rattle.sctp_model.specs.Messages.{message_at, slot_at, message_of, messages_where, no_slot, sent_of, fragment_count, is_half_sent}
 use Rattle.sctp_model.specs.Reports.{reports}
 use Rattle.sctp_model.specs.Changes.{sack_taken, acknowledged_by}
 use Rattle.sctp_model.proofs.sender.Shape.{sent}
 use Rattle.sctp_model.proofs.sender.Shapes
-use Rattle.sctp_ties.specs.Tied.{Sending, sending_by, IsInFlight, sending_of, sending_at, sendings_of, selected_of, waiting_of, waiting_where, waits_ordered, waits_unordered, TiedOutbound}
+use Rattle.sctp_ties.specs.Tied.{Sending, sending_by, IsInFlight, sending_at, sendings_of, selected_of, waiting_of, waiting_where, waits_ordered, waits_unordered, TiedOutbound}
 use Rattle.sctp_ties.proofs.sending.Waiting
 use Rattle.sctp_ties.proofs.sending.Waiting.{Alike, gathered-same}
 
@@ -27,9 +21,6 @@ use Rattle.sctp_ties.proofs.sending.Waiting.{Alike, gathered-same}
 sending-is : (w : World) (p : ℕ) → sending_at w p ≡ sending_by w (slot_at w p).acknowledged p
 sending-is w p = refl
 
-abbrev gone : Sending → Sending
-gone s = record { chunk = record s.chunk { payload = []; acknowledged = true }; says = None }
-
 abbrev pub first_of' : List Sending → Sending → Sending
 first_of' [] d = d
 first_of' (s ∷ ss) d = s
@@ -37,13 +28,6 @@ first_of' (s ∷ ss) d = s
 abbrev pub rest_of' : List Sending → List Sending
 rest_of' [] = []
 rest_of' (s ∷ ss) = ss
-
-tsn-same : (w : World) (j k : ℕ) → j < 2 ^ 31 → k < 2 ^ 31 → (tsn_of w j == tsn_of w k) ≡ (j == k)
-tsn-same w j k a b = same_test (tsn_of w j == tsn_of w k) (j == k)
-    (λ e. let h : tsn_of w j ≡ tsn_of w k = grind (arith, nat_tests) in let z : j ≡ k = omega arith in grind (arith, nat_tests))
-    (λ e. let z : j ≡ k = grind (arith, nat_tests) in rw z (grind (arith, nat_tests)))
-
--- ## The queue's marks and pops
 
 -- ## The record
 

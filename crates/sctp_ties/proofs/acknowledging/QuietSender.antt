@@ -63,6 +63,7 @@ sending_by s m ssn x p = record {
     abandoned = m.abandoned;
     deadline = deadline_by m;
   };
+  stream = m.stream;
   says = unless_gone (x.acknowledged || m.abandoned) (data_of (fresh (chunk_by s m ssn x.fragment ((s.first + p) % 2 ^ 32))));
 }
 

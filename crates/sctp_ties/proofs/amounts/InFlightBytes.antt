@@ -9,7 +9,6 @@ use Rattle.sctp_lists.proofs.Cases.{or-left, or-right}
 use Rattle.sctp_lists.proofs.More.{fails, not_both}
 use Rattle.sctp_lists.proofs.Totals.{total-none, total-append, total-where, total-kept_same, numbers-append}
 use Rattle.sctp_chunks.specs.declared.chunk.chunk_payload_data.ChunkPayloadData.{ChunkPayloadData}
-use Rattle.sctp_chunks.specs.PayloadData.{data_of}
 use Rattle.sctp_serial.specs.DataChunks.{bytes_of}
 use Rattle.sctp_outbound.specs.outbound_queue.OutboundQueue.{Outbound}
 use Rattle.sctp_outbound.specs.pending_queue.PendingQueue.{total_bytes}
@@ -29,7 +28,7 @@ use Rattle.sctp_model.proofs.sender.Fronts.{mark-abandoned, slot-sent}
 use Rattle.sctp_model.proofs.acknowledgement.Acknowledged.{acknowledged_is_reported}
 use Rattle.sctp_model.proofs.acknowledgement.Bytes.{balances}
 use Rattle.sctp_ties.specs.Amount.{stream_of_slot, bytes_at, unacked, acknowledged_at, acknowledged_then}
-use Rattle.sctp_ties.specs.Tied.{sending_by, IsInFlight, sending_of, unless_gone, TiedOutbound}
+use Rattle.sctp_ties.specs.Tied.{sending_by, IsInFlight, sending_of, TiedOutbound}
 use Rattle.sctp_ties.proofs.acknowledging.Acked.{first_of', rest_of', in-flight-first}
 use Rattle.sctp_ties.proofs.sending.KindsRun.{taken-run}
 use Rattle.sctp_ties.proofs.amounts.PendingBytes.{pending-bytes}
@@ -57,33 +56,9 @@ chunk-bytes w acked p c s lt e = ap (λ x. length x.chunk.payload) e ∙ payload
 
 -- what a chunk in flight has of stream t, by the chunk and by the record
 pub chunk-on : (w : World) (acked : Bool) (p t : ℕ) (c : ChunkPayloadData) → Sender (shape w) → p < length w.slots → sending_of c ≡ sending_by w acked p → (if c.stream_identifier == t then length c.user_data else 0) ≡ (if stream_of_slot w p == t then (if acked then 0 else bytes_at w p) else 0)
-chunk-on w acked p t c s lt e = by (acked || (message_at w (message_of w p)).abandoned) refl
-  where
-    gone : ℕ
-    gone = if acked then 0 else bytes_at w p
-
-    holds : length c.user_data ≡ gone
-    holds = chunk-bytes w acked p c s lt e
-
-    nothing : (a b : Bool) (m n : ℕ) → m ≡ 0 → n ≡ 0 → (if a then m else 0) ≡ (if b then n else 0)
-    nothing true true m n x y = omega arith
-    nothing true false m n x y = x
-    nothing false true m n x y = sym y
-    nothing false false m n x y = refl
-
-    says : (a b : Bool) → a ≡ b → b ≡ false → unless_gone a (data_of c) ≡ unless_gone b (data_of (chunk_at w p)) → c.stream_identifier ≡ stream_of_slot w p
-    says a true x y z = cc
-    says true false x y z = cc
-    says false false x y z = let d : data_of c ≡ data_of (chunk_at w p) = cc in ap (λ d. d.stream_identifier) d
-
-    by : (b : Bool) → (acked || (message_at w (message_of w p)).abandoned) ≡ b → (if c.stream_identifier == t then length c.user_data else 0) ≡ (if stream_of_slot w p == t then gone else 0)
-    by true f =
-        let z : length c.user_data ≡ 0 = ap (λ x. length x.chunk.payload) e ∙ ap (λ b. length (if b then [] else (chunk_at w p).user_data)) f in
-        nothing (c.stream_identifier == t) (stream_of_slot w p == t) (length c.user_data) gone z (sym holds ∙ z)
-    by false f =
-        let flags : (c.acked || c.abandoned) ≡ (acked || (message_at w (message_of w p)).abandoned) = ap (λ x. x.chunk.acknowledged || x.chunk.abandoned) e in
-        ap (λ k. if k == t then length c.user_data else 0) (says (c.acked || c.abandoned) (acked || (message_at w (message_of w p)).abandoned) flags f (ap (λ x. x.says) e))
-        ∙ ap (λ k. if stream_of_slot w p == t then k else 0) holds
+chunk-on w acked p t c s lt e =
+    ap (λ x. if x.stream == t then length c.user_data else 0) e
+    ∙ ap (λ k. if stream_of_slot w p == t then k else 0) (chunk-bytes w acked p c s lt e)
 
 -- ## The queue
 

@@ -51,6 +51,7 @@ sending_with s m gone ssn x p = record {
     abandoned = gone;
     deadline = deadline_by m;
   };
+  stream = m.stream;
   says = unless_gone (x.acknowledged || gone) (data_of (fresh (chunk_by s m ssn x.fragment ((s.first + p) % 2 ^ 32))));
 }
 
@@ -173,12 +174,12 @@ module _ (w : World) (n : ℕ) where
   -- ## In flight
 
   abbrev gone : Sending → Sending
-  gone s = record { chunk = record s.chunk { payload = []; abandoned = true }; says = None }
+  gone s = record { chunk = record s.chunk { payload = []; abandoned = true }; stream = s.stream; says = None }
 
   gone-queue : (c : ChunkPayloadData) → sending_of (given_up c) ≡ gone (sending_of c)
   gone-queue c = by c.acked
     where
-      by : (b : Bool) → (let s : Sending = record { chunk = record (sending_of c).chunk { payload = []; abandoned = true }; says = unless_gone (b || true) (data_of (given_up c)) } in s) ≡ gone (sending_of c)
+      by : (b : Bool) → (let s : Sending = record { chunk = record (sending_of c).chunk { payload = []; abandoned = true }; stream = c.stream_identifier; says = unless_gone (b || true) (data_of (given_up c)) } in s) ≡ gone (sending_of c)
       by true = refl
       by false = refl
 

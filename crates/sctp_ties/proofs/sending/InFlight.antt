@@ -1,7 +1,6 @@
 -- What is in flight: a chunk looked up, marks that the record does not know, and room for the next TSN.
-use Rattle.std.proofs.Common.{◌≡◌, ℕ, zero, suc, ◌+◌, ◌-◌, ◌<◌, ◌≤◌, ◌^◌, Bool, true, false, List, [], ◌∷◌, length, map, Option, Some, refl, ap, sym, ◌∙◌, arith}
+use Rattle.std.proofs.Common.{◌≡◌, ℕ, zero, suc, ◌+◌, ◌<◌, ◌≤◌, ◌^◌, Bool, true, false, List, [], ◌∷◌, map, Option, Some, refl, ap, sym, ◌∙◌, arith}
 use Rattle.std.specs.Prelude.{if◌then◌else◌, ◌==◌, ◌||◌, find}
-use Rattle.std.specs.List.{list_any}
 use Rattle.std.proofs.lemmas.Bool.Decides.{nat_tests}
 use Rattle.sctp_lists.specs.Kept.{kept, always}
 use Rattle.sctp_lists.specs.Lists.{change_where}
@@ -10,16 +9,14 @@ use Rattle.sctp_lists.proofs.Round.{tsn}
 use Rattle.sctp_chunks.specs.declared.chunk.chunk_payload_data.ChunkPayloadData.{ChunkPayloadData}
 use Rattle.sctp_chunks.specs.PayloadData.{data_of}
 use Rattle.sctp_outbound.specs.Marks.{with_retransmit, with_nsent, with_since, with_miss_indicator}
-use Rattle.sctp_serial.specs.Window.{is_held, SpansOneWindow}
 use Rattle.sctp_serial.specs.DataChunks.{has_tsn}
 use Rattle.sctp_outbound.specs.outbound_queue.OutboundQueue.{Outbound, with_inflight}
 use Rattle.sctp_model.specs.World.{World}
 use Rattle.sctp_model.specs.Messages.{tsn_of}
 use Rattle.sctp_model.specs.Contents.{chunk_at}
 use Rattle.sctp_model.specs.Queues.{is_cleared}
-use Rattle.sctp_ties.specs.Tied.{Sending, sending_of, sending_at, sendings_of, unless_gone, TiedOutbound}
-use Rattle.sctp_ties.proofs.arriving.Filter.{tsn_before}
-use Rattle.sctp_ties.proofs.arriving.FilterQueue.{tsns, held-any, window-kept}
+use Rattle.sctp_ties.specs.Tied.{Sending, sending_of, sending_at, unless_gone, TiedOutbound}
+use Rattle.sctp_ties.proofs.arriving.FilterQueue.{tsns}
 
 tsn-same : (w : World) (j k : ℕ) → j < 2 ^ 31 → k < 2 ^ 31 → (tsn_of w j == tsn_of w k) ≡ (j == k)
 tsn-same w j k a b = same_test (tsn_of w j == tsn_of w k) (j == k)

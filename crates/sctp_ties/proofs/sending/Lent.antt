@@ -9,7 +9,7 @@ use Rattle.sctp_model.specs.Messages.{messages_where, is_half_sent, sent_of, fra
 use Rattle.sctp_model.specs.Queues.{PendingRecord, pending_fragments, pending_of, in_flight_of, kind_of}
 use Rattle.sctp_ties.specs.Tied.{waiting_at, waiting_of, sending_of, TiedPending, TiedOutbound, pending_shown, in_flight_shown, selected_shown, selected_of, shown}
 
-map-twice : {A B C : Type 0} (f : B → C) (g : A → B) (xs : List A) → map f (map g xs) ≡ map (λ x. f (g x)) xs
+pub map-twice : {A B C : Type 0} (f : B → C) (g : A → B) (xs : List A) → map f (map g xs) ≡ map (λ x. f (g x)) xs
 map-twice f g [] = refl
 map-twice f g (x ∷ xs) = ap (λ l. f (g x) ∷ l) (map-twice f g xs)
 

@@ -346,14 +346,14 @@ stale-step w upto names stale = ap (λ b. if b then with_skip w upto names else 
 -- ## What the queue is after it
 
 -- one of these has the greatest index
-record IsLast (w : World) (s end : ℕ) (names : List ℕ) : Type 0 where
-  number : ℕ
-  on : is_ordered_on w s number ≡ true
-  among : list_any (λ z. z == index_of w number) (map (index_of w) names) ≡ true
-  is : end ≡ index_of w number + 1
+pub record IsLast (w : World) (s end : ℕ) (names : List ℕ) : Type 0 where
+  pub number : ℕ
+  pub on : is_ordered_on w s number ≡ true
+  pub among : list_any (λ z. z == index_of w number) (map (index_of w) names) ≡ true
+  pub is : end ≡ index_of w number + 1
 
 -- either the start is the greatest, or one of them has it
-last-named : (w : World) (s c : ℕ) (names : List ℕ) → (named_with w c (on_stream w s names) ≡ c) ⊎ IsLast w s (named_with w c (on_stream w s names)) (on_stream w s names)
+pub last-named : (w : World) (s c : ℕ) (names : List ℕ) → (named_with w c (on_stream w s names) ≡ c) ⊎ IsLast w s (named_with w c (on_stream w s names)) (on_stream w s names)
 last-named w s c [] = inl refl
 last-named w s c (n ∷ ns) = step (is_ordered_on w s n) refl (λ d. last-named w s d ns)
   where
@@ -373,25 +373,31 @@ last-named w s c (n ∷ ns) = step (is_ordered_on w s n) refl (λ d. last-named 
 abbrev pub gone_forward : ℕ → Reassembly → Reassembly
 gone_forward end q = if end == 0 then q else held_after_ordered_skip ((end - 1) % 2 ^ 16) q
 
+-- that is an ordered skip to the SSN of the last one
+pub gone-last : (w : World) (s end : ℕ) (names : List ℕ) (q : Reassembly) (last : IsLast w s end names) → gone_forward end q ≡ held_after_ordered_skip (ssn_of w last.number) q
+gone-last w s end names q last =
+    let n = last.number in
+    let is = last.is in
+    let later : (end == 0) ≡ false = grind (arith, nat_tests) in
+    let back : end - 1 ≡ index_of w n = omega (arith, is) in
+    ap (λ b. if b then q else held_after_ordered_skip ((end - 1) % 2 ^ 16) q) later
+    ∙ ap (λ j. held_after_ordered_skip (j % 2 ^ 16) q) back
+    ∙ ap (λ j. held_after_ordered_skip j q) (sym (Line.ssn_on w s n last.on))
+
+-- where the end is 0, none is named
+pub none-named : (w : World) (ns : List ℕ) → named_with w 0 ns ≡ 0 → ns ≡ []
+none-named w [] e = refl
+none-named w (n ∷ ns) e = absurd (omega (arith, e, named_with-ge w (max 0 (index_of w n + 1)) ns))
+
+-- with those named before, the last one is still the greatest
+pub named-last : (w : World) (s : ℕ) (names : List ℕ) (last : IsLast w s (end_named w s names) (on_stream w s names)) → named_with w (stream_of w s).named (on_stream w s names) ≡ max (stream_of w s).named (index_of w last.number + 1)
+named-last w s names last = named-from w (stream_of w s).named (on_stream w s names) ∙ ap (max (stream_of w s).named) last.is
+
 pub queue-skip : (w : World) (s upto : ℕ) (names : List ℕ) (r : StreamRecord) → Sound w → upto < length w.slots → cumulative w ≤ upto → stream_at w s ≡ Some r → IsSpan w s (map (index_of w) (on_stream w s names)) → IsSpan (with_skip w upto names) s (map (index_of w) (on_stream w s names)) → reassembly_of (with_skip w upto names) s ≡ held_after_unordered_skip (tsn_of w upto) (gone_forward (end_named w s names) (reassembly_of w s))
 queue-skip w s upto names r sound lt counts open' before after' = step (last-named w s 0 names)
   where
-    none : (ns : List ℕ) → named_with w 0 ns ≡ 0 → ns ≡ []
-    none [] e = refl
-    none (n ∷ ns) e = absurd (omega (arith, e, named_with-ge w (max 0 (index_of w n + 1)) ns))
-
     step : (end_named w s names ≡ 0) ⊎ IsLast w s (end_named w s names) (on_stream w s names) → reassembly_of (with_skip w upto names) s ≡ held_after_unordered_skip (tsn_of w upto) (gone_forward (end_named w s names) (reassembly_of w s))
-    step (inl z) = skipped-none w s upto names r sound lt counts open' before after' (none (on_stream w s names) z) ∙ ap (λ e. held_after_unordered_skip (tsn_of w upto) (gone_forward e (reassembly_of w s))) (sym z)
+    step (inl z) = skipped-none w s upto names r sound lt counts open' before after' (none-named w (on_stream w s names) z) ∙ ap (λ e. held_after_unordered_skip (tsn_of w upto) (gone_forward e (reassembly_of w s))) (sym z)
     step (inr last) =
-        let n = last.number in
-        let is = last.is in
-        let i = index_of w n in
-        let named = named-from w (stream_of w s).named (on_stream w s names) ∙ ap (max (stream_of w s).named) is in
-        let later : (i + 1 == 0) ≡ false = grind (arith, nat_tests) in
-        let back : i + 1 - 1 ≡ i = omega arith in
-        let gone : gone_forward (i + 1) (reassembly_of w s) ≡ held_after_ordered_skip (ssn_of w n) (reassembly_of w s) =
-        ap (λ b. if b then reassembly_of w s else held_after_ordered_skip ((i + 1 - 1) % 2 ^ 16) (reassembly_of w s)) later
-        ∙ ap (λ j. held_after_ordered_skip (j % 2 ^ 16) (reassembly_of w s)) back ∙ ap (λ j. held_after_ordered_skip j (reassembly_of w s)) (sym (Line.ssn_on w s n last.on)) in
-        skipped-once w s upto names r sound lt counts open' before after' n last.on last.among named
-        ∙ ap (held_after_unordered_skip (tsn_of w upto)) (sym gone)
-        ∙ ap (λ e. held_after_unordered_skip (tsn_of w upto) (gone_forward e (reassembly_of w s))) (sym is)
+        skipped-once w s upto names r sound lt counts open' before after' last.number last.on last.among (named-last w s names last)
+        ∙ ap (held_after_unordered_skip (tsn_of w upto)) (sym (gone-last w s (end_named w s names) (on_stream w s names) (reassembly_of w s) last))

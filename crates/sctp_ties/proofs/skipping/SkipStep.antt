@@ -173,8 +173,11 @@ module _ (w : World) (s upto : ℕ) (names : List ℕ) (r : StreamRecord) (sound
   pub skipped-none : mine ≡ [] → reassembly_of (with_skip w upto names) s ≡ held_after_unordered_skip (tsn_of w upto) (reassembly_of w s)
   skipped-none e = forward-tells (reassembly_of w s) (ap (λ ns. held_after_ordered_skips (map (ssn_of w) ns) (reassembly_of w s)) e)
 
+  -- one after another, they come to the one with the greatest index
+  pub once-is : (n : ℕ) → is_ordered_on w s n ≡ true → list_any (λ z. z == index_of w n) (map (index_of w) mine) ≡ true → named ≡ max (stream_of w s).named (index_of w n + 1) → held_after_ordered_skips (map (ssn_of w) mine) (reassembly_of w s) ≡ held_after_ordered_skip (ssn_of w n) (reassembly_of w s)
+  once-is n on among last =
+      each-is ∙ ap (queue_past w s) last
+      ∙ sym (forwarded-one w s (stream_of w s).named (max (next_of w s) named) n sound (omega arith) (omega (arith, named-ge (stream_of w s).named mine)) (near-one n on among))
+
   pub skipped-once : (n : ℕ) → is_ordered_on w s n ≡ true → list_any (λ z. z == index_of w n) (map (index_of w) mine) ≡ true → named ≡ max (stream_of w s).named (index_of w n + 1) → reassembly_of (with_skip w upto names) s ≡ held_after_unordered_skip (tsn_of w upto) (held_after_ordered_skip (ssn_of w n) (reassembly_of w s))
-  skipped-once n on among last =
-      forward-tells (held_after_ordered_skip (ssn_of w n) (reassembly_of w s))
-      (each-is ∙ ap (queue_past w s) last
-      ∙ sym (forwarded-one w s (stream_of w s).named (max (next_of w s) named) n sound (omega arith) (omega (arith, named-ge (stream_of w s).named mine)) (near-one n on among)))
+  skipped-once n on among last = forward-tells (held_after_ordered_skip (ssn_of w n) (reassembly_of w s)) (once-is n on among last)

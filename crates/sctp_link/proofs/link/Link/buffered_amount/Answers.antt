@@ -1,5 +1,5 @@
 use Rattle.std.proofs.Common.{ap, ◌∙◌, Some}
-use Rattle.sctp_link.proofs.upkeep.Lending.{amount-open, amount-closed}
+use Rattle.sctp_link.proofs.upkeep.Accessors.{amount-open, amount-closed}
 use Rattle.sctp_link.proofs.link.Link.buffered_amount.Goals as goal
 
 pub returns-in_default : goal.returns-in_default

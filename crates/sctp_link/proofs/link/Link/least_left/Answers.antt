@@ -7,9 +7,8 @@ use Rattle.sctp_model.specs.Messages.{is_open, index_of}
 use Rattle.sctp_model.specs.Receiver.{held_on, is_held}
 use Rattle.sctp_model.specs.Queues.{set_of}
 use Rattle.sctp_ties.specs.Naming.{min_with}
-use Rattle.sctp_link.specs.declared.open_stream.OpenStream.{OpenStream}
+use Rattle.sctp_halves.specs.Streams.{OpenStream, has_number}
 use Rattle.sctp_link.specs.Fields.{world_in, state_in}
-use Rattle.sctp_link.specs.Linked.{has_number}
 use Rattle.sctp_link.proofs.upkeep.Lookups.{none-open}
 use Rattle.sctp_link.proofs.receiver.Hears.{set-held, none-there}
 use Rattle.sctp_link.proofs.skipping.SkipComes.{whole-set, first-at, first-none, stream-some}

@@ -4,7 +4,7 @@ use Rattle.sctp_outbound.specs.pending_queue.PendingQueue.{total_bytes}
 use Rattle.sctp_outbound.specs.outbound_queue.OutboundQueue.{Outbound}
 use Rattle.sctp_link.specs.Fields.{state_in}
 use Rattle.sctp_link.specs.Linked.{ledger_of}
-use Rattle.sctp_link.proofs.upkeep.Lending.{ledger-now, same-ledger}
+use Rattle.sctp_link.proofs.upkeep.Accessors.{ledger-now, same-ledger}
 use Rattle.sctp_link.proofs.link.Link.ledger.Goals as goal
 
 pub returns : goal.returns

@@ -11,10 +11,9 @@ use Rattle.sctp_model.specs.Contents.{chunk_at}
 use Rattle.sctp_model.specs.Reply as R
 use Rattle.sctp_model.specs.Steps.{refusal_of}
 use Rattle.sctp_model.specs.declared.event.Event.TheVariants as E
-use Rattle.sctp_link.specs.declared.open_stream.OpenStream.{OpenStream}
+use Rattle.sctp_halves.specs.Streams.{OpenStream, has_number}
 use Rattle.sctp_link.specs.declared.record.Message.{Message}
 use Rattle.sctp_link.specs.Fields.{world_in, state_in}
-use Rattle.sctp_link.specs.Linked.{has_number}
 use Rattle.sctp_link.specs.Records.{message_record, progress_of}
 use Rattle.sctp_link.proofs.upkeep.Apart.{map-set, map-set_same}
 use Rattle.sctp_link.proofs.receiver.Hears.{lead-slot, lead-number, messages-made, message-raw, kept-raw}
@@ -208,7 +207,7 @@ invariant_of-self-2 g c =
     let kind : c.ppi-ppi.result ≡ m.ppi = c.ppi-ppi.ensures ∙ ap (λ (t : ChunkSet). t.ppi) read.2 ∙ ppi-handed w n ∙ ap (λ t. t.ppi) m_is in
     let state = c.finish_read.ensures.state ∙ ap (λ (l : OpenStream). l.state) was in
     let inbound = c.finish_read.ensures.inbound ∙ ap (λ (l : OpenStream). l.inbound) was in
-    let whole = c.finish_read.ensures.whole ∙ ap (λ (l : OpenStream). if m.ordered then l.whole.items else drop 1 l.whole.items) was in
+    let whole = c.finish_read.ensures.whole ∙ ap (λ (l : OpenStream). if m.ordered then l.whole else drop 1 l.whole) was in
     let ordered = c.finish_read.ensures.ordered ∙ ap (λ (l : OpenStream). l.ordered) was in
     let begun = c.finish_read.ensures.begun ∙ ap (λ (l : OpenStream). l.begun) was in
     let named = c.finish_read.ensures.named ∙ ap (λ (l : OpenStream). l.named) was in
@@ -255,7 +254,7 @@ returns-clause-right g c =
     let kind : c.ppi-ppi.result ≡ m.ppi = c.ppi-ppi.ensures ∙ ap (λ (t : ChunkSet). t.ppi) read.2 ∙ ppi-handed w n ∙ ap (λ t. t.ppi) m_is in
     let state = c.finish_read.ensures.state ∙ ap (λ (l : OpenStream). l.state) was in
     let inbound = c.finish_read.ensures.inbound ∙ ap (λ (l : OpenStream). l.inbound) was in
-    let whole = c.finish_read.ensures.whole ∙ ap (λ (l : OpenStream). if m.ordered then l.whole.items else drop 1 l.whole.items) was in
+    let whole = c.finish_read.ensures.whole ∙ ap (λ (l : OpenStream). if m.ordered then l.whole else drop 1 l.whole) was in
     let ordered = c.finish_read.ensures.ordered ∙ ap (λ (l : OpenStream). l.ordered) was in
     let begun = c.finish_read.ensures.begun ∙ ap (λ (l : OpenStream). l.begun) was in
     let named = c.finish_read.ensures.named ∙ ap (λ (l : OpenStream). l.named) was in

@@ -23,7 +23,7 @@ use Rattle.sctp_link.proofs.link.Link.send.Goals as goal
 
 pub returns-in_default-clause-ok : goal.returns-in_default-clause-ok
 returns-in_default-clause-ok g c =
-    let none : peeked c.self.inside.flight.queue.pending ≡ None = search rules in
+    let none : peeked c.self.inside.halves.flight.queue.pending ≡ None = search rules in
     let moves : c.start.new.self.world ≡ started (world_in c.self.inside) c.args.now = rw (← c.self.view_is) at c.start.ensures.right.moves in
     rw (← c.self.view_is) (idle-right (g.C.Checksum.sum c.self.inside.checksum) (state_in c.self.inside) c.self.invariant c.args.now c.start.new.self.world none moves)
 
@@ -32,24 +32,24 @@ next_chunks-requires-clause-short g c = rw c.queue-2.ensures (looks-short (g.C.C
 
 pub write_chunks-requires-clause-text : goal.write_chunks-requires-clause-text
 write_chunks-requires-clause-text g c =
-    let e : peeked c.self.inside.flight.queue.pending ≡ Some c.in-Some.first.now = search rules in
-    let chunks : c.in_ok-chunks.chunks.items ≡ map C.PayloadData (chunks_taken c.self.inside.limit c.self.inside.flight.next_tsn c.self.inside.flight.queue.pending) =
-    c.in_ok-chunks.ensures.chunks ∙ ap (λ t. map C.PayloadData (chunks_taken c.self.inside.limit t c.queue-2.result.now.pending)) c.next_tsn-tsn.ensures ∙ ap (λ (q : Outbound). map C.PayloadData (chunks_taken c.self.inside.limit c.self.inside.flight.next_tsn q.pending)) c.queue-2.ensures in
+    let e : peeked c.self.inside.halves.flight.queue.pending ≡ Some c.in-Some.first.now = search rules in
+    let chunks : c.in_ok-chunks.chunks.items ≡ map C.PayloadData (chunks_taken c.self.inside.limit c.self.inside.halves.flight.next_tsn c.self.inside.halves.flight.queue.pending) =
+    c.in_ok-chunks.ensures.chunks ∙ ap (λ t. map C.PayloadData (chunks_taken c.self.inside.limit t c.queue-2.result.now.pending)) c.next_tsn-tsn.ensures ∙ ap (λ (q : Outbound). map C.PayloadData (chunks_taken c.self.inside.limit c.self.inside.halves.flight.next_tsn q.pending)) c.queue-2.ensures in
     texts-each (g.C.Checksum.sum c.self.inside.checksum) (state_in c.self.inside) c.self.invariant c.args.now c.in-Some.first.now e c.in_ok-chunks.chunks.items chunks
 
 pub write_chunks-requires-clause-canonical : goal.write_chunks-requires-clause-canonical
 write_chunks-requires-clause-canonical g c =
-    let e : peeked c.self.inside.flight.queue.pending ≡ Some c.in-Some.first.now = search rules in
-    let chunks : c.in_ok-chunks.chunks.items ≡ map C.PayloadData (chunks_taken c.self.inside.limit c.self.inside.flight.next_tsn c.self.inside.flight.queue.pending) =
-    c.in_ok-chunks.ensures.chunks ∙ ap (λ t. map C.PayloadData (chunks_taken c.self.inside.limit t c.queue-2.result.now.pending)) c.next_tsn-tsn.ensures ∙ ap (λ (q : Outbound). map C.PayloadData (chunks_taken c.self.inside.limit c.self.inside.flight.next_tsn q.pending)) c.queue-2.ensures in
+    let e : peeked c.self.inside.halves.flight.queue.pending ≡ Some c.in-Some.first.now = search rules in
+    let chunks : c.in_ok-chunks.chunks.items ≡ map C.PayloadData (chunks_taken c.self.inside.limit c.self.inside.halves.flight.next_tsn c.self.inside.halves.flight.queue.pending) =
+    c.in_ok-chunks.ensures.chunks ∙ ap (λ t. map C.PayloadData (chunks_taken c.self.inside.limit t c.queue-2.result.now.pending)) c.next_tsn-tsn.ensures ∙ ap (λ (q : Outbound). map C.PayloadData (chunks_taken c.self.inside.limit c.self.inside.halves.flight.next_tsn q.pending)) c.queue-2.ensures in
     canonical-each (g.C.Checksum.sum c.self.inside.checksum) (state_in c.self.inside) c.self.invariant c.args.now c.in-Some.first.now e c.in_ok-chunks.chunks.items chunks
 
 pub take_fragments-requires-clause-able : goal.take_fragments-requires-clause-able
 take_fragments-requires-clause-able g c =
     let ms = c.self.inside.messages in
-    let e : peeked c.self.inside.flight.queue.pending ≡ Some c.in-Some.first.now = search rules in
-    let chunks : c.in_ok-chunks.chunks.items ≡ map C.PayloadData (chunks_taken c.self.inside.limit c.self.inside.flight.next_tsn c.self.inside.flight.queue.pending) =
-    c.in_ok-chunks.ensures.chunks ∙ ap (λ t. map C.PayloadData (chunks_taken c.self.inside.limit t c.queue-2.result.now.pending)) c.next_tsn-tsn.ensures ∙ ap (λ (q : Outbound). map C.PayloadData (chunks_taken c.self.inside.limit c.self.inside.flight.next_tsn q.pending)) c.queue-2.ensures in
+    let e : peeked c.self.inside.halves.flight.queue.pending ≡ Some c.in-Some.first.now = search rules in
+    let chunks : c.in_ok-chunks.chunks.items ≡ map C.PayloadData (chunks_taken c.self.inside.limit c.self.inside.halves.flight.next_tsn c.self.inside.halves.flight.queue.pending) =
+    c.in_ok-chunks.ensures.chunks ∙ ap (λ t. map C.PayloadData (chunks_taken c.self.inside.limit t c.queue-2.result.now.pending)) c.next_tsn-tsn.ensures ∙ ap (λ (q : Outbound). map C.PayloadData (chunks_taken c.self.inside.limit c.self.inside.halves.flight.next_tsn q.pending)) c.queue-2.ensures in
     let same : length c.start_from.new.messages ≡ vec_len ms = search rules in
     let is : c.deref_mut-2.result.now ≡ start_from c.self.inside.unstarted c.args.now ms.items = c.deref_mut-2.ensures.value ∙ with_items_is ms c.start_from.new.messages same ∙ c.start_from.ensures ∙ ap (start_from c.self.inside.unstarted c.args.now) c.deref_mut.ensures.value in
     let len : c.len-count.result ≡ length c.in_ok-chunks.chunks.items = search rules in
@@ -61,9 +61,9 @@ take_fragments-requires-clause-able g c =
 pub invariant_of-self-2 : goal.invariant_of-self-2
 invariant_of-self-2 g c =
     let ms = c.self.inside.messages in
-    let e : peeked c.self.inside.flight.queue.pending ≡ Some c.in-Some.first.now = search rules in
-    let chunks : c.in_ok-chunks.chunks.items ≡ map C.PayloadData (chunks_taken c.self.inside.limit c.self.inside.flight.next_tsn c.self.inside.flight.queue.pending) =
-    c.in_ok-chunks.ensures.chunks ∙ ap (λ t. map C.PayloadData (chunks_taken c.self.inside.limit t c.queue-2.result.now.pending)) c.next_tsn-tsn.ensures ∙ ap (λ (q : Outbound). map C.PayloadData (chunks_taken c.self.inside.limit c.self.inside.flight.next_tsn q.pending)) c.queue-2.ensures in
+    let e : peeked c.self.inside.halves.flight.queue.pending ≡ Some c.in-Some.first.now = search rules in
+    let chunks : c.in_ok-chunks.chunks.items ≡ map C.PayloadData (chunks_taken c.self.inside.limit c.self.inside.halves.flight.next_tsn c.self.inside.halves.flight.queue.pending) =
+    c.in_ok-chunks.ensures.chunks ∙ ap (λ t. map C.PayloadData (chunks_taken c.self.inside.limit t c.queue-2.result.now.pending)) c.next_tsn-tsn.ensures ∙ ap (λ (q : Outbound). map C.PayloadData (chunks_taken c.self.inside.limit c.self.inside.halves.flight.next_tsn q.pending)) c.queue-2.ensures in
     let same : length c.start_from.new.messages ≡ vec_len ms = search rules in
     let is : c.deref_mut-2.result.now ≡ start_from c.self.inside.unstarted c.args.now ms.items = c.deref_mut-2.ensures.value ∙ with_items_is ms c.start_from.new.messages same ∙ c.start_from.ensures ∙ ap (start_from c.self.inside.unstarted c.args.now) c.deref_mut.ensures.value in
     let len : c.len-count.result ≡ length c.in_ok-chunks.chunks.items = search rules in
@@ -82,9 +82,9 @@ invariant_of-self-2 g c =
 pub returns-clause-ok : goal.returns-clause-ok
 returns-clause-ok g c =
     let ms = c.self.inside.messages in
-    let e : peeked c.self.inside.flight.queue.pending ≡ Some c.in-Some.first.now = search rules in
-    let chunks : c.in_ok-chunks.chunks.items ≡ map C.PayloadData (chunks_taken c.self.inside.limit c.self.inside.flight.next_tsn c.self.inside.flight.queue.pending) =
-    c.in_ok-chunks.ensures.chunks ∙ ap (λ t. map C.PayloadData (chunks_taken c.self.inside.limit t c.queue-2.result.now.pending)) c.next_tsn-tsn.ensures ∙ ap (λ (q : Outbound). map C.PayloadData (chunks_taken c.self.inside.limit c.self.inside.flight.next_tsn q.pending)) c.queue-2.ensures in
+    let e : peeked c.self.inside.halves.flight.queue.pending ≡ Some c.in-Some.first.now = search rules in
+    let chunks : c.in_ok-chunks.chunks.items ≡ map C.PayloadData (chunks_taken c.self.inside.limit c.self.inside.halves.flight.next_tsn c.self.inside.halves.flight.queue.pending) =
+    c.in_ok-chunks.ensures.chunks ∙ ap (λ t. map C.PayloadData (chunks_taken c.self.inside.limit t c.queue-2.result.now.pending)) c.next_tsn-tsn.ensures ∙ ap (λ (q : Outbound). map C.PayloadData (chunks_taken c.self.inside.limit c.self.inside.halves.flight.next_tsn q.pending)) c.queue-2.ensures in
     let same : length c.start_from.new.messages ≡ vec_len ms = search rules in
     let is : c.deref_mut-2.result.now ≡ start_from c.self.inside.unstarted c.args.now ms.items = c.deref_mut-2.ensures.value ∙ with_items_is ms c.start_from.new.messages same ∙ c.start_from.ensures ∙ ap (start_from c.self.inside.unstarted c.args.now) c.deref_mut.ensures.value in
     let len : c.len-count.result ≡ length c.in_ok-chunks.chunks.items = search rules in
@@ -102,37 +102,37 @@ returns-clause-ok g c =
 
 pub returns-in_err-chunks-clause-wants : goal.returns-in_err-chunks-clause-wants
 returns-in_err-chunks-clause-wants g c =
-    let e : peeked c.self.inside.flight.queue.pending ≡ Some c.in-Some.first.now = search rules in
+    let e : peeked c.self.inside.halves.flight.queue.pending ≡ Some c.in-Some.first.now = search rules in
     let f = (next-is (g.C.Checksum.sum c.self.inside.checksum) (state_in c.self.inside) c.self.invariant c.in-Some.first.now e).front in
     rw (← c.self.view_is) (on-err c.from_residual.result _ (ap is_some f))
 
 pub returns-in_err-bytes-clause-wants : goal.returns-in_err-bytes-clause-wants
 returns-in_err-bytes-clause-wants g c =
-    let e : peeked c.self.inside.flight.queue.pending ≡ Some c.in-Some.first.now = search rules in
+    let e : peeked c.self.inside.halves.flight.queue.pending ≡ Some c.in-Some.first.now = search rules in
     let f = (next-is (g.C.Checksum.sum c.self.inside.checksum) (state_in c.self.inside) c.self.invariant c.in-Some.first.now e).front in
     rw (← c.self.view_is) (on-err c.from_residual-in_err-bytes.result _ (ap is_some f))
 
 pub returns-in_err-places-clause-wants : goal.returns-in_err-places-clause-wants
 returns-in_err-places-clause-wants g c =
-    let e : peeked c.self.inside.flight.queue.pending ≡ Some c.in-Some.first.now = search rules in
+    let e : peeked c.self.inside.halves.flight.queue.pending ≡ Some c.in-Some.first.now = search rules in
     let f = (next-is (g.C.Checksum.sum c.self.inside.checksum) (state_in c.self.inside) c.self.invariant c.in-Some.first.now e).front in
     rw (← c.self.view_is) (on-err c.from_residual-in_err-places.result _ (ap is_some f))
 
 pub returns-in_err-reserve-clause-wants : goal.returns-in_err-reserve-clause-wants
 returns-in_err-reserve-clause-wants g c =
-    let e : peeked c.self.inside.flight.queue.pending ≡ Some c.in-Some.first.now = search rules in
+    let e : peeked c.self.inside.halves.flight.queue.pending ≡ Some c.in-Some.first.now = search rules in
     let f = (next-is (g.C.Checksum.sum c.self.inside.checksum) (state_in c.self.inside) c.self.invariant c.in-Some.first.now e).front in
     rw (← c.self.view_is) (on-err c.from_residual-in_err-reserve.result _ (ap is_some f))
 
 pub returns-in_err-reserve-2-clause-wants : goal.returns-in_err-reserve-2-clause-wants
 returns-in_err-reserve-2-clause-wants g c =
-    let e : peeked c.self.inside.flight.queue.pending ≡ Some c.in-Some.first.now = search rules in
+    let e : peeked c.self.inside.halves.flight.queue.pending ≡ Some c.in-Some.first.now = search rules in
     let f = (next-is (g.C.Checksum.sum c.self.inside.checksum) (state_in c.self.inside) c.self.invariant c.in-Some.first.now e).front in
     rw (← c.self.view_is) (on-err c.from_residual-in_err-reserve-2.result _ (ap is_some f))
 
 pub returns-in_err-reserve_inflight-clause-wants : goal.returns-in_err-reserve_inflight-clause-wants
 returns-in_err-reserve_inflight-clause-wants g c =
-    let e : peeked c.self.inside.flight.queue.pending ≡ Some c.in-Some.first.now = search rules in
+    let e : peeked c.self.inside.halves.flight.queue.pending ≡ Some c.in-Some.first.now = search rules in
     let f = (next-is (g.C.Checksum.sum c.self.inside.checksum) (state_in c.self.inside) c.self.invariant c.in-Some.first.now e).front in
     rw (← c.self.view_is) (on-err c.from_residual-in_err-reserve_inflight.result _ (ap is_some f))
 

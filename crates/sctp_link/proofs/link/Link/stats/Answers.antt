@@ -1,5 +1,5 @@
 use Rattle.std.proofs.Common.{ap, ◌∙◌, Some}
-use Rattle.sctp_link.proofs.upkeep.Lending.{stats-open, stats-closed}
+use Rattle.sctp_link.proofs.upkeep.Accessors.{stats-open, stats-closed}
 use Rattle.sctp_link.proofs.link.Link.stats.Goals as goal
 
 pub returns-in_default : goal.returns-in_default

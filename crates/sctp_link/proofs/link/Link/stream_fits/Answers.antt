@@ -4,7 +4,7 @@ use Rattle.sctp_model.specs.World.{Forward, StreamRecord}
 use Rattle.sctp_model.specs.Messages.{is_open, index_of}
 use Rattle.sctp_model.specs.Receiver.{held_on, next_of, least, greatest}
 use Rattle.sctp_ties.specs.Naming.{names_fit, whole_first, min_with}
-use Rattle.sctp_link.specs.declared.open_stream.OpenStream.{OpenStream}
+use Rattle.sctp_halves.specs.Streams.{OpenStream}
 use Rattle.sctp_link.specs.Fields.{world_in, state_in}
 use Rattle.sctp_link.specs.Records.{stream_record}
 use Rattle.sctp_link.specs.Skips.{named_from, none_named}

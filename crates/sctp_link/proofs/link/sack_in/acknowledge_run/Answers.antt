@@ -1,0 +1,26 @@
+use Rattle.std.proofs.Common.{◌+◌, ◌<◌, ◌∙◌, arith, length, length-set}
+use Rattle.sctp_link.specs.Acking.{and_one, and_run}
+use Rattle.sctp_link.specs.OpenStreams.{slot_with}
+use Rattle.sctp_link.proofs.acknowledging.AckLoops.{marking-same, marking-one, run-more, run-all}
+use Rattle.sctp_link.proofs.link.sack_in.acknowledge_run.Goals as goal
+
+pub loop-place-preserved : goal.loop-place-preserved
+loop-place-preserved c =
+    let test = c.loop-place-test.true in
+    let low = c.loop-place.auto.place in
+    let all = c.requires (omega (arith, test, low)) in
+    let lt : c.loop-place.place < length c.loop-place.slots = omega (arith, all, test, c.loop-place.invariant.count) in
+    record {
+      acked = λ w acked i.
+          marking-same w (and_one (and_run acked c.args.from c.loop-place.place) c.loop-place.place) (and_run acked c.args.from (c.loop-place.place + 1)) _
+          (run-more acked c.args.from c.loop-place.place c.loop-place.auto.place)
+          (marking-one w (and_run acked c.args.from c.loop-place.place) c.loop-place.slots c.loop-place.place (slot_with 0 0) lt (c.loop-place.invariant.acked w acked i));
+      count = length-set c.loop-place.slots c.loop-place.place _ ∙ c.loop-place.invariant.count;
+      reach = omega (arith, c.loop-place-test.true);
+    }
+
+pub returns : goal.returns
+returns c = λ w acked i.
+    marking-same w (and_run acked c.args.from c.loop-place.place) (and_run acked c.args.from c.args.to) c.loop-place.slots
+    (run-all acked c.args.from c.loop-place.place c.args.to c.loop-place-test.false c.loop-place.invariant.reach)
+    (c.loop-place.invariant.acked w acked i)

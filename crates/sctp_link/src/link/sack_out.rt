@@ -1,0 +1,49 @@
+//! What a link acknowledges (RFC 4960 3.3.4, 6.2).
+
+ghost use Rattle.std.specs.Prelude.{◌≡◌, None, OnErr, IfOk, IsOkUnless};
+ghost use Rattle.sctp_base.specs.declared.error.Error.TheVariants.{ErrOutOfMemory};
+
+use super::{Link, put};
+use crate::datagram::write_datagram;
+use crate::event::{LinkRefusal, Reply};
+use crate::record::{Datagram, Kind};
+use sctp_base::error::Result;
+use sctp_base::util::Checksum;
+use sctp_chunks::chunk::chunk_kind::ChunkKind;
+
+impl<C: Checksum + Drop> Link<C> {
+    ghost use Rattle.sctp_model.specs.Steps.{IsRight, refusal_of};
+    ghost use Rattle.sctp_model.specs.declared.event.Event.TheVariants as E;
+    ghost use Rattle.sctp_link.specs.Replies.{reply_of};
+
+    /// Makes a SACK; `credit` is in bytes. Refuses only for memory, and nothing changes then.
+    pub(super) fn ack(&mut self, credit: u32) -> Result<Reply>
+        ensures ok { IfOk result
+            (λ reply. IsRight self.old.world (E.Ack credit) (reply_of reply) self.new.world) }
+        ensures checksum { self.new.checksum ≡ self.old.checksum }
+        ensures err { OnErr result (self.new.world ≡ self.old.world) }
+        ensures memory { IsOkUnless result ErrOutOfMemory }
+    {
+        let sack = self.halves.make_sack(credit)?;
+        let blocks = Vec::from_slice(self.alloc, &sack.gap_ack_blocks)?;
+        let count = sack.duplicate_tsn.len();
+        let duplicates = Vec::from_slice(self.alloc, &self.duplicates[..count])?;
+        let cumulative = sack
+            .cumulative_tsn_ack
+            .wrapping_sub(self.first_tsn)
+            .wrapping_add(1);
+        let bytes = write_datagram(self.alloc, ChunkKind::SelectiveAck(sack), &self.checksum)?;
+        self.network.reserve(1)?;
+        let kind = Kind::Sack {
+            cumulative: u64::from(cumulative),
+            credit,
+            blocks,
+            duplicates,
+        };
+        let datagram = self.network.len() as u64;
+        self.halves.sack_sent();
+        self.duplicates.clear();
+        put(&mut self.network, Datagram { kind, bytes });
+        Ok(Reply::Ack { datagram })
+    }
+}
