@@ -1,5 +1,5 @@
 -- What changes of the sender make of both halves, and what is told of a stream by its number.
-use Rattle.std.proofs.Common.{◌≡◌, ℕ, zero, suc, ◌+◌, ◌-◌, ◌<◌, List, [], ◌∷◌, length, map, Bool, true, false, Option, Some, None, Result, Ok, Err, refl, ap, sym, ◌∙◌, arith}
+use Rattle.std.proofs.Common.{◌≡◌, ℕ, zero, suc, ◌+◌, ◌-◌, ◌<◌, List, [], ◌∷◌, length, map, Bool, true, false, Option, Some, None, Result, Ok, Err, refl, ap, sym, ◌∙◌, arith, subst}
 use Rattle.std.specs.Prelude.{slice_index_or, slice_set, find, if◌then◌else◌, option_map, is_some, MatchOption, OnOk, OnErr, IfOk, IfErr, IfSome}
 use Rattle.std.proofs.lemmas.List.{get_or_default}
 use Rattle.sctp_lists.specs.Lists.{change_where}
@@ -41,6 +41,9 @@ pub either-some : {T E N P : Type 0} {Q : T → Type 0} (r : Result (Option T) E
 either-some (Ok (Some x)) q none n f g = f x q
 either-some (Ok None) q none n f g = g (none refl)
 either-some (Err e) q none n f g = g n
+
+pub some-of : {T : Type 0} (Q : T → Type 0) (o : Option T) (x : T) → o ≡ Some x → IfSome o Q → Q x
+some-of Q o x e h = subst (λ p. IfSome p Q) e h
 
 -- ## Numbers that stay
 
