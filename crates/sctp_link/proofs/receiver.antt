@@ -1,3 +1,4 @@
+pub mod Arrivals
 pub mod Comes
 pub mod HandsOut
 pub mod Keeping
