@@ -15,10 +15,10 @@ pub record Alike (ss : List StreamState) (is : List InboundStream) (ps : List St
   pub numbers : Outgoing.numbers_of ss ≡ Inbound.numbers_of is
   pub count : length ss ≡ length ps
 
-head-same : {a b : ℕ} {as bs : List ℕ} → a ∷ as ≡ b ∷ bs → a ≡ b
+head-same : {a b : ℕ} {xs ys : List ℕ} → a ∷ xs ≡ b ∷ ys → a ≡ b
 head-same e = cc
 
-tail-same : {a b : ℕ} {as bs : List ℕ} → a ∷ as ≡ b ∷ bs → as ≡ bs
+tail-same : {a b : ℕ} {xs ys : List ℕ} → a ∷ xs ≡ b ∷ ys → xs ≡ ys
 tail-same e = cc
 
 rest : (s : StreamState) (i : InboundStream) (p : StreamProgress) (ss : List StreamState) (is : List InboundStream) (ps : List StreamProgress) → Alike (s ∷ ss) (i ∷ is) (p ∷ ps) → Alike ss is ps

@@ -1,1 +1,5 @@
 pub mod Joined
+pub mod Aligned
+pub mod Sends
+pub mod Opening
+pub mod Taking

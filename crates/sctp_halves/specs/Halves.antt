@@ -1,5 +1,5 @@
 -- Both halves of a link as one value.
-use Rattle.std.specs.Prelude.{◌≡◌, ℕ, Bool, if◌then◌else◌, List, [], ◌∷◌, ◌++◌, length, map, take, Option, Some, None, is_some}
+use Rattle.std.specs.Prelude.{◌≡◌, ℕ, Bool, true, if◌then◌else◌, List, [], ◌∷◌, ◌++◌, length, map, take, Option, Some, None, is_some}
 use Rattle.std.specs.List.{find}
 use Rattle.sctp_lists.specs.Lists.{change_where}
 use Rattle.sctp_chunks.specs.declared.chunk.chunk_payload_data.ChunkPayloadData.{ChunkPayloadData}
@@ -139,9 +139,9 @@ pub record TakesFirst (c : ChunkPayloadData) (n : ℕ) (a : Arrival) (old mid : 
 
 abbrev pub TakesEach : List ChunkPayloadData → List ℕ → List Arrival → Sides → Sides → Type 0
 TakesEach [] ns [] old new = new ≡ old
-TakesEach (c ∷ cs) (n ∷ ns) (a ∷ as) old new = (mid : Sides) × (TakesFirst c n a old mid × TakesEach cs ns as mid new)
-TakesEach [] ns (a ∷ as) old new = ⊥
-TakesEach (c ∷ cs) [] as old new = ⊥
+TakesEach (c ∷ cs) (n ∷ ns) (a ∷ bs) old new = (mid : Sides) × (TakesFirst c n a old mid × TakesEach cs ns bs mid new)
+TakesEach [] ns (a ∷ bs) old new = ⊥
+TakesEach (c ∷ cs) [] bs old new = ⊥
 TakesEach (c ∷ cs) (n ∷ ns) [] old new = ⊥
 
 -- of a stream at most what came has changed, and further messages are recorded as whole

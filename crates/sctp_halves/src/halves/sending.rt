@@ -1,7 +1,8 @@
 //! What the sending half is asked for (RFC 4960 6.1, 6.2.1; RFC 3758 3.5).
 
-ghost use Rattle.std.specs.Prelude.{◌≡◌, ◌<◌, ◌+◌, ◌^◌, ℕ, true, false, None, Some, is_some, OnOk, OnErr, IfOk, IfSome, IsOk, IsOkUnless, find, length, option_map, not};
+ghost use Rattle.std.specs.Prelude.{◌≡◌, ◌<◌, ◌+◌, ◌-◌, ◌^◌, ℕ, true, false, None, Some, is_some, OnOk, OnErr, IfOk, IfSome, IsOk, IsOkUnless, find, length, option_map, not};
 ghost use Rattle.sctp_base.specs.declared.error.Error.TheVariants.{ErrOutOfMemory};
+ghost use Rattle.sctp_stream.specs.Stream as stream;
 
 use super::Halves;
 use super::progress::Written;
@@ -18,7 +19,6 @@ impl Halves {
     ghost use Rattle.sctp_outbound.specs.pending_queue.PendingQueue.{peeked};
     ghost use Rattle.sctp_chunks.specs.declared.chunk.chunk_payload_data.ChunkPayloadData.{ChunkPayloadData};
     ghost use Rattle.sctp_serial.specs.DataChunks.{has_tsn};
-    ghost use Rattle.sctp_stream.specs.Stream as stream;
     ghost use Rattle.sctp_transfer.specs.Flight.{with_queue, with_room, may_send, resent, sack_refusal, has_tail_at, message_to_abandon};
     ghost use Rattle.sctp_transfer.specs.Sender.{write_refusal};
     ghost use Rattle.sctp_halves.specs.Streams.{OpenStream, begun_of, with_begun, written_of};

@@ -17,7 +17,7 @@ use Rattle.sctp_link.proofs.upkeep.ChangedStreams.{fields-same}
 -- the place of a stream that is found
 pub placed : (s : ℕ) (ls : List OpenStream) (l : OpenStream) → find (has_number s) ls ≡ Some l → (k : ℕ) × ((k < length ls) × ((d : OpenStream) → slice_index_or ls k d ≡ l))
 placed s [] l e = cc
-placed s (x ∷ ls) l e = step (x.state.stream_identifier == s) e (λ h. placed s ls l h)
+placed s (x ∷ ls) l e = step (x.state.stream_identifier == s) e (placed s ls l)
   where
     step : (b : Bool) → (if b then Some x else find (has_number s) ls) ≡ Some l → (find (has_number s) ls ≡ Some l → (k : ℕ) × ((k < length ls) × ((d : OpenStream) → slice_index_or ls k d ≡ l))) → (k : ℕ) × ((k < length (x ∷ ls)) × ((d : OpenStream) → slice_index_or (x ∷ ls) k d ≡ l))
     step true h ih = (0, (omega arith, λ d. let z : x ≡ l = cc in z))
@@ -68,11 +68,11 @@ apart-changed s f ls same a = subst IsApart (sym (fields-same number f same s ls
 -- one more, which was not there
 pub apart-more : (ls : List OpenStream) (l : OpenStream) → IsApart (stream_numbers ls) → find (has_number l.state.stream_identifier) ls ≡ None → IsApart (stream_numbers (ls ++ l ∷ []))
 apart-more [] l a none = (refl, tt)
-apart-more (x ∷ ls) l a none = step (x.state.stream_identifier == l.state.stream_identifier) refl none (λ h. apart-more ls l a.1 h)
+apart-more (x ∷ ls) l a none = step (x.state.stream_identifier == l.state.stream_identifier) refl none (apart-more ls l a.1)
   where
     more : (n : ℕ) (ls : List OpenStream) → (l.state.stream_identifier == n) ≡ false → list_any (λ k. k == n) (stream_numbers ls) ≡ false → list_any (λ k. k == n) (stream_numbers (ls ++ l ∷ [])) ≡ false
     more n [] e h = ap (λ b. b || false) e
-    more n (y ∷ ls) e h = other (y.state.stream_identifier == n) h (λ g. more n ls e g)
+    more n (y ∷ ls) e h = other (y.state.stream_identifier == n) h (more n ls e)
       where
         other : (b : Bool) → (b || list_any (λ k. k == n) (stream_numbers ls)) ≡ false → (list_any (λ k. k == n) (stream_numbers ls) ≡ false → list_any (λ k. k == n) (stream_numbers (ls ++ l ∷ [])) ≡ false) → (b || list_any (λ k. k == n) (stream_numbers (ls ++ l ∷ []))) ≡ false
         other true g ih = cc

@@ -11,7 +11,7 @@ pub send_next-requires-clause-next : goal.send_next-requires-clause-next
 send_next-requires-clause-next c = let lt : length c.args.halves.now.flight.queue.inflight.chunks + 1 < 2 ^ 31 = c.requires.able.room in grind (arith, nat_tests)
 
 pub returns-clause-rest : goal.returns-clause-rest
-returns-clause-rest c = rw (c.take_fragment-slot.ensures.rest, c.send_next.ensures) refl
+returns-clause-rest c = rw (c.take_fragment-slot.ensures.rest, c.send_next.ensures) (record { acked = refl; cumulative = refl; beyond = refl; duplicates = refl; fragment_size = refl; max_message_size = refl })
 
 pub returns-clause-flight : goal.returns-clause-flight
 returns-clause-flight c =
