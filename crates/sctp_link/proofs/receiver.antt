@@ -5,7 +5,6 @@ pub mod Keeping
 pub mod Came
 pub mod Hears
 pub mod Slots
-pub mod Touched
 pub mod SlotLists
 pub mod Received
 pub mod Spans
