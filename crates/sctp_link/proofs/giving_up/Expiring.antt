@@ -220,7 +220,7 @@ module _ (sum : List ℕ → ℕ) (x : State) (l : IsLinked sum x) (now : ℕ) w
       by (Some c) h z = cc
 
   -- what is shown is what lapsed
-  shown-lapsed : (c : ChunkPayloadData) (o : Option ChunkPayloadData) → o ≡ Some c → is_some (outbound.passing (outbound.is_expired now) o) ≡ true → outbound.passing (outbound.is_expired now) o ≡ Some c
+  pub shown-lapsed : (c : ChunkPayloadData) (o : Option ChunkPayloadData) → o ≡ Some c → is_some (outbound.passing (outbound.is_expired now) o) ≡ true → outbound.passing (outbound.is_expired now) o ≡ Some c
   shown-lapsed c None e some = cc
   shown-lapsed c (Some d) e some = by (outbound.is_expired now d) some
     where
