@@ -1,1 +1,7 @@
 pub mod Joined
+pub mod Aligned
+pub mod Sends
+pub mod Writes
+pub mod Opening
+pub mod Taking
+pub mod Growing
