@@ -9,7 +9,7 @@ use Rattle.sctp_lists.proofs.More.{length-changed}
 use Rattle.sctp_chunks.specs.declared.chunk.chunk_payload_data.ChunkPayloadData.{ChunkPayloadData}
 use Rattle.sctp_outbound.specs.pending_queue.PendingQueue.{peeked}
 use Rattle.sctp_outbound.specs.outbound_queue.OutboundQueue as outbound
-use Rattle.sctp_outbound.specs.outbound_queue.OutboundQueue.{Outbound, expired_of, expired_bytes, total_bytes}
+use Rattle.sctp_outbound.specs.outbound_queue.OutboundQueue.{Outbound, expired_of, total_bytes}
 use Rattle.sctp_model.specs.declared.event.Event.TheVariants as E
 use Rattle.sctp_model.specs.Reply as R
 use Rattle.sctp_model.specs.World.{World}
