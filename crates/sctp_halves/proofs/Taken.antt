@@ -40,7 +40,7 @@ pub record CanNext (i : ℕ) (c : ChunkPayloadData) (cs : List ChunkPayloadData)
 pub can-next : (i : ℕ) (c : ChunkPayloadData) (cs : List ChunkPayloadData) (ns : List ℕ) (x : Sides) → i < length cs → c ≡ slice_index_or cs i c → CanFrom i cs ns x → CanNext i c cs ns x
 can-next i c [] ns x lt e can = absurd (omega (arith, lt))
 can-next zero c (d ∷ cs) [] x lt e can = absurd can
-can-next zero c (d ∷ cs) (n ∷ ns) x lt e can = subst (λ z. CanNext zero z (d ∷ cs) (n ∷ ns) x) (sym e) (record { accepted = can.0.0; open' = can.0.1; later = can.1 })
+can-next zero c (d ∷ cs) (n ∷ ns) x lt e can = subst (λ z. CanNext zero z (d ∷ cs) (n ∷ ns) x) (sym e) (record { accepted = can.0; open' = can.1; later = can.2 })
 can-next (suc i) c (d ∷ cs) [] x lt e can = absurd can
 can-next (suc i) c (d ∷ cs) (n ∷ ns) x lt e can =
     let h = can-next i c cs ns x (omega (arith, lt)) e can in
