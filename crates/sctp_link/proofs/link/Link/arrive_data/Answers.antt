@@ -1,6 +1,7 @@
-use Rattle.std.proofs.Common.{◌≡◌, ℕ, List, None, Some, ◌++◌, length, map, refl, ap, sym, ◌∙◌, arith, subst}
+use Rattle.std.proofs.Common.{◌≡◌, ℕ, List, None, Some, ◌++◌, length, map, refl, ap, sym, ◌∙◌, arith, rules, subst}
 use Rattle.std.specs.Prelude.{slice_get, fold}
-use Rattle.std.specs.Vec.{with_items}
+use Rattle.std.specs.Vec.{with_items, vec_len}
+use Rattle.std.proofs.lemmas.List.{with_items_is}
 use Rattle.std.specs.List.{list_any}
 use Rattle.sctp_model.specs.World.{Data}
 use Rattle.sctp_model.specs.Contents.{chunk_at}
@@ -154,14 +155,16 @@ invariant_of-self-2 g c =
     let taken : TakesEach (map (chunk_at w) ps) (map (number_at slots) ps) bs c.self.inside.halves y = rw (chunks, numbers) at c.in_ok-arrivals.ensures.ok in
     let done = came (number_at slots) ps (map (chunk_at w) ps) bs w c.self.inside.halves y (numbers-are w slots refl) receiver come taken in
     let arrived = c.record_arrivals-new.ensures in
-    let slots_are : (fold slot_received w ps).slots ≡ map slot_record c.record_arrivals-new.new.slots =
-    done.slots slots refl ∙ sym (ap (map slot_record) (arrived.slots ∙ ap (λ qs. arrived_in qs c.deref-6.result.now c.deref_mut.result.now) (c.deref-5.ensures.value ∙ kept)
+    let same : length c.record_arrivals-new.new.slots ≡ vec_len c.self.inside.slots = search rules in
+    let marked = with_items c.self.inside.slots c.record_arrivals-new.new.slots in
+    let slots_are : (fold slot_received w ps).slots ≡ map slot_record marked.items =
+    done.slots slots refl ∙ sym (ap (map slot_record) (with_items_is c.self.inside.slots c.record_arrivals-new.new.slots same ∙ arrived.slots ∙ ap (λ qs. arrived_in qs c.deref-6.result.now c.deref_mut.result.now) (c.deref-5.ensures.value ∙ kept)
     ∙ ap (λ cs. arrived_in ps cs c.deref_mut.result.now) c.deref-6.ensures.value ∙ ap (arrived_in ps bs) c.deref_mut.ensures.value)) in
     let dups_are : (fold slot_received w ps).duplicates ≡ c.record_arrivals-new.new.duplicates.items =
     done.duplicates ∙ sym (arrived.duplicates ∙ ap (λ ds. ds ++ repeated_of c.deref-5.result.now c.deref-6.result.now) c.in_ok-reserve.ensures.items
     ∙ ap (λ qs. c.self.inside.duplicates.items ++ repeated_of qs c.deref-6.result.now) (c.deref-5.ensures.value ∙ kept) ∙ ap (λ cs. c.self.inside.duplicates.items ++ repeated_of ps cs) c.deref-6.ensures.value) in
-    subst (λ (h : Sides). IsLinked sum (state_in (record c.self.inside { halves = h; slots = with_items c.self.inside.slots c.record_arrivals-new.new.slots; duplicates = c.record_arrivals-new.new.duplicates }))) (sym done.rest)
-    (linked-received sum x l k ps none lies.1 y c.record_arrivals-new.new.slots c.record_arrivals-new.new.duplicates.items done.receiver done.cores slots_are dups_are)
+    subst (λ (h : Sides). IsLinked sum (state_in (record c.self.inside { halves = h; slots = marked; duplicates = c.record_arrivals-new.new.duplicates }))) (sym done.rest)
+    (linked-received sum x l k ps none lies.1 y marked.items c.record_arrivals-new.new.duplicates.items done.receiver done.cores slots_are dups_are)
 
 pub returns-clause-ok : goal.returns-clause-ok
 returns-clause-ok g c =
@@ -187,12 +190,14 @@ returns-clause-ok g c =
     let taken : TakesEach (map (chunk_at w) ps) (map (number_at slots) ps) bs c.self.inside.halves y = rw (chunks, numbers) at c.in_ok-arrivals.ensures.ok in
     let done = came (number_at slots) ps (map (chunk_at w) ps) bs w c.self.inside.halves y (numbers-are w slots refl) receiver come taken in
     let arrived = c.record_arrivals-new.ensures in
-    let slots_are : (fold slot_received w ps).slots ≡ map slot_record c.record_arrivals-new.new.slots =
-    done.slots slots refl ∙ sym (ap (map slot_record) (arrived.slots ∙ ap (λ qs. arrived_in qs c.deref-6.result.now c.deref_mut.result.now) (c.deref-5.ensures.value ∙ kept)
+    let same : length c.record_arrivals-new.new.slots ≡ vec_len c.self.inside.slots = search rules in
+    let marked = with_items c.self.inside.slots c.record_arrivals-new.new.slots in
+    let slots_are : (fold slot_received w ps).slots ≡ map slot_record marked.items =
+    done.slots slots refl ∙ sym (ap (map slot_record) (with_items_is c.self.inside.slots c.record_arrivals-new.new.slots same ∙ arrived.slots ∙ ap (λ qs. arrived_in qs c.deref-6.result.now c.deref_mut.result.now) (c.deref-5.ensures.value ∙ kept)
     ∙ ap (λ cs. arrived_in ps cs c.deref_mut.result.now) c.deref-6.ensures.value ∙ ap (arrived_in ps bs) c.deref_mut.ensures.value)) in
     let dups_are : (fold slot_received w ps).duplicates ≡ c.record_arrivals-new.new.duplicates.items =
     done.duplicates ∙ sym (arrived.duplicates ∙ ap (λ ds. ds ++ repeated_of c.deref-5.result.now c.deref-6.result.now) c.in_ok-reserve.ensures.items
     ∙ ap (λ qs. c.self.inside.duplicates.items ++ repeated_of qs c.deref-6.result.now) (c.deref-5.ensures.value ∙ kept) ∙ ap (λ cs. c.self.inside.duplicates.items ++ repeated_of ps cs) c.deref-6.ensures.value) in
-    rw (← c.self.view_is) (subst (λ (h : Sides). IsRight w (E.Arrive k) (reply_of c.reply_to_data.result) (world_in (record c.self.inside { halves = h; slots = with_items c.self.inside.slots c.record_arrivals-new.new.slots; duplicates = c.record_arrivals-new.new.duplicates }))) (sym done.rest)
-    (right-received sum x l k ps none lies.1 y c.record_arrivals-new.new.slots c.record_arrivals-new.new.duplicates.items done.receiver done.cores slots_are dups_are
+    rw (← c.self.view_is) (subst (λ (h : Sides). IsRight w (E.Arrive k) (reply_of c.reply_to_data.result) (world_in (record c.self.inside { halves = h; slots = marked; duplicates = c.record_arrivals-new.new.duplicates }))) (sym done.rest)
+    (right-received sum x l k ps none lies.1 y marked.items c.record_arrivals-new.new.duplicates.items done.receiver done.cores slots_are dups_are
     c.record_arrivals-new.result (reply_of c.reply_to_data.result) (arrived.new ∙ ap (list_any is_first) c.deref-6.ensures.value ∙ done.new) c.reply_to_data.ensures))
