@@ -5,9 +5,18 @@ ghost use Rattle.sctp_transfer.specs.Inbound.{numbers_of};
 
 use crate::part::{chunk, comes_again, is_new, reads, reports};
 use sctp_chunks::chunk::chunk_forward_tsn::ChunkForwardTsn;
+use sctp_chunks::chunk::chunk_payload_data::ChunkPayloadData;
 use sctp_transfer::receiver::Receiver;
 use sctp_transfer::receiver::arrival::{Arrival, Forwarded};
 use std::alloc::Global;
+
+// Whether a chunk is taken as new.
+fn is_taken(receiver: &mut Receiver, chunk: &ChunkPayloadData) -> bool
+    ensures numbers { numbers_of receiver.new.streams ≡ numbers_of receiver.old.streams }
+    ensures size { receiver.new.max_message_size ≡ receiver.old.max_message_size }
+{
+    matches!(receiver.data(chunk), Ok(Arrival::New))
+}
 
 // Whether the second of three fragments is taken as new.
 fn second_comes(alloc: Global, receiver: &mut Receiver) -> bool
@@ -15,7 +24,7 @@ fn second_comes(alloc: Global, receiver: &mut Receiver) -> bool
     ensures size { receiver.new.max_message_size ≡ receiver.old.max_message_size }
 {
     match chunk(alloc, 2, false, false, b"b") {
-        Ok(chunk) => matches!(receiver.data(&chunk), Ok(Arrival::New)),
+        Ok(chunk) => is_taken(receiver, &chunk),
         Err(_) => false,
     }
 }
