@@ -1,10 +1,10 @@
+pub mod Arrivals
 pub mod Comes
 pub mod HandsOut
 pub mod Keeping
 pub mod Came
 pub mod Hears
 pub mod Slots
-pub mod Touched
 pub mod SlotLists
 pub mod Received
 pub mod Spans

@@ -47,7 +47,11 @@ abbrev pub Leave : ℕ → ℕ → Sender → Sender → Type 0
 Leave now zero s t = t ≡ s
 Leave now (suc count) s t = (r : Sender) × (Leave now count s r × Leaves now r t)
 
--- of both halves at most the streams, what waits and is in flight, and the next TSN have changed
-abbrev pub SendsOnly : Sides → Sides → Type 0
-SendsOnly old new =
-    new ≡ record old { streams = new.streams; flight = record old.flight { queue = new.flight.queue; next_tsn = new.flight.next_tsn } }
+-- what came is as it was, and so is what was acknowledged
+pub record SendsOnly (old new : Sides) : Type 0 where
+  pub acked : new.flight.acked_tsn ≡ old.flight.acked_tsn
+  pub cumulative : new.cumulative_tsn ≡ old.cumulative_tsn
+  pub beyond : new.beyond ≡ old.beyond
+  pub duplicates : new.duplicates ≡ old.duplicates
+  pub fragment_size : new.fragment_size ≡ old.fragment_size
+  pub max_message_size : new.max_message_size ≡ old.max_message_size

@@ -23,6 +23,7 @@ use Rattle.sctp_model.specs.Changes.{reported}
 use Rattle.sctp_model.specs.Steps.{reply_to}
 use Rattle.sctp_ties.proofs.arriving.Filter.{cumulative-le}
 use Rattle.sctp_ties.proofs.acknowledging.SackMade.{blocks-are, reported-outbound}
+use Rattle.sctp_transfer.specs.Receiver.{Reception, filter_of, sack}
 use Rattle.sctp_transfer.specs.TsnFilter.{Filter, gap_ack_blocks, mark}
 use Rattle.sctp_link.specs.Records.{ends_of}
 use Rattle.sctp_link.specs.Texts.{IsDatagram, packet_with, block_of}
@@ -40,6 +41,11 @@ take-min zero k (x ∷ xs) e = let z : k ≡ 0 = omega (arith, e) in ap (λ j. t
 take-min (suc n) zero (x ∷ xs) e = absurd (omega (arith, e))
 take-min (suc n) (suc k) (x ∷ xs) e = ap (λ l. x ∷ l) (take-min n k xs (omega (arith, e)))
 
+length-take : {A : Type 0} (n : ℕ) (xs : List A) → length (take n xs) ≡ min n (length xs)
+length-take zero xs = omega arith
+length-take (suc n) [] = omega arith
+length-take (suc n) (x ∷ xs) = omega (arith, length-take n xs)
+
 length-taken : {A : Type 0} (n : ℕ) (xs : List A) → length (take n xs) ≤ n
 length-taken zero xs = omega arith
 length-taken (suc n) [] = omega arith
@@ -50,14 +56,11 @@ blocks-again [] = refl
 blocks-again (b ∷ bs) = ap (λ l. b ∷ l) (blocks-again bs)
 
 -- so many entries fit
-pub sack-short : (s : Sack) → length s.gap_ack_blocks ≤ 16379 → length s.duplicate_tsn ≤ 16379 - length s.gap_ack_blocks → 4 + length (sack_value s) < 2 ^ 16
+sack-short : (s : Sack) → length s.gap_ack_blocks ≤ 16379 → length s.duplicate_tsn ≤ 16379 - length s.gap_ack_blocks → 4 + length (sack_value s) < 2 ^ 16
 sack-short s a b = omega (arith, length_sack_value s, a, b)
 
-pub taken-short : {A : Type 0} (xs ys : List A) → ys ≡ take 16379 xs → length ys ≤ 16379
+taken-short : {A : Type 0} (xs ys : List A) → ys ≡ take 16379 xs → length ys ≤ 16379
 taken-short xs ys e = omega (arith, ap length e, length-taken 16379 xs)
-
-pub min-short : {A : Type 0} (xs ys : List A) (blocks count : ℕ) → ys ≡ take count xs → count ≤ 16379 - blocks → length ys ≤ 16379 - blocks
-min-short xs ys blocks count e le = omega (arith, ap length e, length-taken count xs, le)
 
 module _ (sum : List ℕ → ℕ) (x : State) (l : IsLinked sum x) (credit : ℕ) where
   abbrev w : World
@@ -83,6 +86,31 @@ module _ (sum : List ℕ → ℕ) (x : State) (l : IsLinked sum x) (credit : ℕ
       let first = l.setup.first in
       let few = f.few in
       omega (arith, cumulative-is, top, first, few)
+
+  -- what a receiver with this filter reports
+  module _ (r : Reception) (same : x.filter ≡ filter_of r) (s : Sack) (is : s ≡ sack credit r) where
+    pub cut-is : s.gap_ack_blocks ≡ take 16379 (gap_ack_blocks x.filter)
+    cut-is = ap (λ (t : Sack). t.gap_ack_blocks) is ∙ ap (λ f. take 16379 (gap_ack_blocks f)) (sym same)
+
+    told-most : s.duplicate_tsn ≡ take (16379 - length s.gap_ack_blocks) x.filter.duplicates
+    told-most =
+        ap (λ (t : Sack). t.duplicate_tsn) is ∙ ap (λ f. take (16379 - length (take 16379 (gap_ack_blocks (filter_of r)))) f.duplicates) (sym same)
+        ∙ ap (λ bs. take (16379 - length bs) x.filter.duplicates) (sym (ap (λ (t : Sack). t.gap_ack_blocks) is))
+
+    told-length : length s.duplicate_tsn ≡ min (16379 - length s.gap_ack_blocks) (length x.filter.duplicates)
+    told-length = ap length told-most ∙ length-take (16379 - length s.gap_ack_blocks) x.filter.duplicates
+
+    pub told-count : length s.duplicate_tsn ≡ min (16379 - length s.gap_ack_blocks) (length w.duplicates)
+    told-count = told-length ∙ ap (min (16379 - length s.gap_ack_blocks)) repeats-count
+
+    pub told-some : length s.duplicate_tsn ≤ length w.duplicates
+    told-some = omega (arith, told-count)
+
+    pub told-is : s.duplicate_tsn ≡ take (length s.duplicate_tsn) x.filter.duplicates
+    told-is = told-most ∙ sym (take-min (16379 - length s.gap_ack_blocks) (length s.duplicate_tsn) x.filter.duplicates told-length)
+
+    pub fits-text : 4 + length (sack_value s) < 2 ^ 16
+    fits-text = sack-short s (taken-short (gap_ack_blocks x.filter) s.gap_ack_blocks cut-is) (omega (arith, told-count))
 
   module _ (all bs : List GapAckBlock) (runs : all ≡ gap_ack_blocks x.filter) (cut : bs ≡ take 16379 all) where
     pub blocks-made : map ends_of bs ≡ gap_blocks w

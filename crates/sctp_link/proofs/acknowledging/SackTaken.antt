@@ -1,7 +1,6 @@
 -- A SACK is taken: what a link keeps then is what the record says.
 use Rattle.std.proofs.Common.{◌≡◌, ℕ, zero, suc, ◌+◌, ◌-◌, ◌<◌, ◌≤◌, ◌%◌, ◌^◌, Bool, true, false, List, [], ◌∷◌, length, get_or, map, Option, Some, None, refl, ap, sym, ◌∙◌, inl, inr, arith}
 use Rattle.std.specs.Prelude.{if◌then◌else◌, ◌&&◌, ◌||◌, nat_le, nat_lt, max, slice_get, slice_index_or}
-use Rattle.std.specs.BTreeMap.{BTreeMap}
 use Rattle.std.specs.List.{list_any, list_all}
 use Rattle.std.proofs.Math.Path.{subst}
 use Rattle.std.proofs.lemmas.Bool.{cases_lt, lt-ltb, le-ltb, le-leb}
@@ -47,17 +46,17 @@ use Rattle.sctp_ties.proofs.sending.Begun
 use Rattle.sctp_ties.proofs.sending.Begun.{Indexed}
 use Rattle.sctp_ties.proofs.amounts.InFlightBytes.{chunk-on, bytes-unacked, taken-acknowledged, then-below}
 use Rattle.sctp_halves.specs.Streams.{OpenStream, released, stream_numbers}
-use Rattle.sctp_link.specs.declared.link.open_streams.OpenStreams.{OpenStreams}
 use Rattle.sctp_link.specs.declared.record.Slot.{Slot}
 use Rattle.sctp_link.specs.declared.record.Datagram.{Datagram}
 use Rattle.sctp_link.specs.Records.{slot_record, datagram_record, stream_record}
 use Rattle.sctp_link.specs.Linked.{State, IsLinked, IsOpenStream}
+use Rattle.sctp_link.specs.Places.{IsApart}
 use Rattle.sctp_link.specs.Texts.{IsDatagram, block_of, packet_with}
 use Rattle.sctp_link.specs.Acking.{Acks, IsMarking, amount_with, and_run, and_blocks, in_block}
 use Rattle.sctp_link.proofs.upkeep.Facts.{facts, over, stands-then, says-still}
 use Rattle.sctp_link.proofs.acknowledging.AckLoops.{marking-same, any-at}
 use Rattle.sctp_link.proofs.acknowledging.FlightAcked.{told, covered-at, between, up-to-date, marked-all, front-leaves}
-use Rattle.sctp_link.proofs.acknowledging.StreamsLess.{released_on, chunks_on, length-released, released-at, told-on, on-unacked, told-short}
+use Rattle.sctp_link.proofs.acknowledging.StreamsLess.{with_amount, released_on, chunks_on, length-released, released-at, told-on, on-unacked}
 use Rattle.sctp_link.proofs.sender.Flying.{flying}
 use Rattle.sctp_link.proofs.sender.Beginning.{index_kept, indexed-of}
 use Rattle.sctp_link.specs.OpenStreams.{slot_with}
@@ -212,13 +211,13 @@ stream-left w r l sender i = record {
   stats = i.stats;
 }
 
-abbrev taken_state : State → Report → List OpenStream → BTreeMap ℕ ℕ → Outbound → ℕ → State
-taken_state x r open_streams places outbound acked = record x { world = sack_taken x.world (Some (Sack r)); open_streams = open_streams; places = places; outbound = outbound; acked_tsn = acked }
+abbrev taken_state : State → Report → List OpenStream → Outbound → ℕ → State
+taken_state x r open_streams outbound acked = record x { world = sack_taken x.world (Some (Sack r)); open_streams = open_streams; outbound = outbound; acked_tsn = acked }
 
-linked-taken : (sum : List ℕ → ℕ) (x : State) (k : ℕ) (r : Report) (places : BTreeMap ℕ ℕ) (cs : List ChunkPayloadData) (acked : ℕ) (l : IsLinked sum x) → acked ≡ cumulative_tsn x.world (max x.world.taken r.cumulative) → IsIndexed places (stream_numbers (map (as_left x.world r) x.open_streams)) → refusal_of x.world (E.Acked k) ≡ None → slice_get x.world.network k ≡ Some (Sack r)
+linked-taken : (sum : List ℕ → ℕ) (x : State) (k : ℕ) (r : Report) (cs : List ChunkPayloadData) (acked : ℕ) (l : IsLinked sum x) → acked ≡ cumulative_tsn x.world (max x.world.taken r.cumulative) → refusal_of x.world (E.Acked k) ≡ None → slice_get x.world.network k ≡ Some (Sack r)
     → IsInFlight x.world (acknowledged_then x.world r) (max x.world.taken r.cumulative) (length x.world.slots - max x.world.taken r.cumulative) cs
-    → IsLinked sum (taken_state x r (map (as_left x.world r) x.open_streams) places (with_inflight x.outbound cs) acked)
-linked-taken sum x k r places cs acked l acked_is indexed none there e =
+    → IsLinked sum (taken_state x r (map (as_left x.world r) x.open_streams) (with_inflight x.outbound cs) acked)
+linked-taken sum x k r cs acked l acked_is none there e =
     let w = x.world in
     let f = facts sum x l in
     record {
@@ -237,7 +236,7 @@ linked-taken sum x k r places cs acked l acked_is indexed none there e =
       low = l.low;
       open_streams = λ j d lt. let here : j < length x.open_streams = omega (arith, lt, length-mapped (as_left x.world r) x.open_streams) in
           subst (IsOpenStream (sack_taken x.world (Some (Sack r)))) (sym (map-at (as_left x.world r) j x.open_streams d here)) (stream-left x.world r (slice_index_or x.open_streams j d) f.sane.sender (l.open_streams j d here));
-      indexed = indexed;
+      apart = subst IsApart (sym (numbers-left x.world r x.open_streams)) l.apart;
       texts = λ j d g there'.
           let says = says-still x.world f (E.Acked k) none j g g there' (subst (λ o. slice_get (sack_taken x.world o).network j ≡ Some g) (sym there) there') in
           subst (λ c. IsDatagram sum c (slice_index_or x.datagrams j d)) (sym (subst (λ o. contents_of (sack_taken x.world o) g ≡ contents_of x.world g) there says)) (l.texts j d g there');
@@ -252,9 +251,9 @@ abbrev pub world_taken : World → List OpenStream → List Slot → ℕ → Wor
 world_taken w open_streams slots taken = record w { streams = map stream_record open_streams; slots = map slot_record slots; taken = taken }
 
 -- a SACK was taken: what is kept then, and the bytes that left
-pub record Taken (sum : List ℕ → ℕ) (x : State) (k : ℕ) (now : OpenStreams) (xs : List Slot) (g : Flight) (top : ℕ) : Type 0 where
-  pub linked : IsLinked sum (record x { world = world_taken x.world now.items.items xs top; open_streams = now.items.items; places = now.places; outbound = g.queue; next_tsn = g.next_tsn; acked_tsn = g.acked_tsn })
-  pub moves : world_taken x.world now.items.items xs top ≡ after x.world (E.Acked k)
+pub record Taken (sum : List ℕ → ℕ) (x : State) (k : ℕ) (now : List OpenStream) (xs : List Slot) (g : Flight) (top : ℕ) : Type 0 where
+  pub linked : IsLinked sum (record x { world = world_taken x.world now xs top; open_streams = now; outbound = g.queue; next_tsn = g.next_tsn; acked_tsn = g.acked_tsn })
+  pub moves : world_taken x.world now xs top ≡ after x.world (E.Acked k)
   pub bytes : bytes_of x.outbound.inflight.chunks - bytes_of g.queue.inflight.chunks ≡ growth x.world (after x.world (E.Acked k))
 
 -- what is in flight, and up to where
@@ -420,14 +419,6 @@ module _ (sum : List ℕ → ℕ) (x : State) (k : ℕ) (r : Report) (l : IsLink
         (subst (λ n. IsInFlight x.world (acknowledged_then x.world r) (max x.world.taken top) (n - max x.world.taken top) (past (cumulative_tsn x.world top) (change_where (reports_anew s) acknowledged x.outbound.inflight.chunks))) all
         (front-leaves x.world s top first-fits top-short cum (acknowledged_then x.world r) (change_where (reports_anew s) acknowledged x.outbound.inflight.chunks) x.world.taken (length x.world.slots - x.world.taken) (omega (arith, few, t)) marked)))
 
-    -- each chunk that left is short
-    pub each-short : (rs : List Released) → rs ≡ released_by s (flight_in x) → (i : ℕ) (d : Released) → i < length rs → (slice_index_or rs i d).bytes < 2 ^ 63
-    each-short rs is i d lt =
-        let t = (facts sum x l).taken in
-        let same = is ∙ told-those in
-        let short = told-short x.world.setup.first x.world (acks sum x l) (acknowledged_at x.world) (reports_anew s) x.outbound.inflight.chunks x.world.taken (length x.world.slots - x.world.taken) (omega (arith, t)) (in-flight-first x.world x.outbound l.outbound) i d (omega (arith, lt, ap length same)) in
-        omega (arith, short, ap (λ ys. (slice_index_or ys i d).bytes) same)
-
     amounts : (j : ℕ) (d : OpenStream) → j < length x.open_streams → slice_index_or (released (map released_of (those (reports_anew s) x.outbound.inflight.chunks)) x.open_streams) j d ≡ as_left x.world r (slice_index_or x.open_streams j d)
     amounts j d lt =
         let f = facts sum x l in
@@ -455,29 +446,27 @@ module _ (sum : List ℕ → ℕ) (x : State) (k : ℕ) (r : Report) (l : IsLink
     then-is : sack_taken x.world (Some (Sack r)) ≡ after x.world (E.Acked k)
     then-is = ap (sack_taken x.world) (sym there)
 
-    pub taken-all : (rs : List Released) (now : OpenStreams) (xs : List Slot) (g : Flight)
-        → x.world.streams ≡ map stream_record x.open_streams → rs ≡ released_by s (flight_in x) → now.items.items ≡ released rs x.open_streams → now.places ≡ x.places → g ≡ after_sack s (flight_in x)
+    pub taken-all : (now : List OpenStream) (xs : List Slot) (g : Flight)
+        → x.world.streams ≡ map stream_record x.open_streams → now ≡ released (released_by s (flight_in x)) x.open_streams → g ≡ after_sack s (flight_in x)
         → IsMarking x.world (and_blocks (and_run (acknowledged_at x.world) x.world.taken top) top s.gap_ack_blocks) xs
         → Taken sum x k now xs g top
-    taken-all rs now xs g streams told' items places moved marks =
-        let items' : now.items.items ≡ released (map released_of (those (reports_anew s) x.outbound.inflight.chunks)) x.open_streams = items ∙ ap (λ t. released t x.open_streams) (told' ∙ told-those) in
-        let ls : now.items.items ≡ map (as_left x.world r) x.open_streams =
+    taken-all now xs g streams items moved marks =
+        let items' : now ≡ released (map released_of (those (reports_anew s) x.outbound.inflight.chunks)) x.open_streams = items ∙ ap (λ t. released t x.open_streams) told-those in
+        let ls : now ≡ map (as_left x.world r) x.open_streams =
         items' ∙ streams-then x.world r x.open_streams (released (map released_of (those (reports_anew s) x.outbound.inflight.chunks)) x.open_streams) (length-released (map released_of (those (reports_anew s) x.outbound.inflight.chunks)) x.open_streams) amounts in
         let slots = slots-then x.world r xs (marking-same x.world (and_blocks (and_run (acknowledged_at x.world) x.world.taken top) top s.gap_ack_blocks) (acknowledged_then x.world r) xs loops-told marks) in
-        let world : world_taken x.world now.items.items xs top ≡ sack_taken x.world (Some (Sack r)) =
+        let world : world_taken x.world now xs top ≡ sack_taken x.world (Some (Sack r)) =
         ap (λ ys. world_taken x.world ys xs top) ls
         ∙ ap (λ rs. let v : World = record x.world { streams = rs; slots = map slot_record xs; taken = top } in v) (streams-left x.world r x.open_streams ∙ sym streams)
         ∙ ap (λ ys. let v : World = record x.world { slots = ys; taken = top } in v) slots
         ∙ ap (λ t. let v : World = record (sack_taken x.world (Some (Sack r))) { taken = t } in v) top_is in
         let whole : g ≡ taken s (flight_in x) = moved ∙ after-is in
-        let indexed : IsIndexed now.places (stream_numbers (map (as_left x.world r) x.open_streams)) =
-        subst (λ p. IsIndexed p (stream_numbers (map (as_left x.world r) x.open_streams))) (sym places) (subst IsApart (sym (numbers-left x.world r x.open_streams)) l.apart) in
         record {
           linked =
-              subst (λ u. IsLinked sum (record x { world = u; open_streams = now.items.items; places = now.places; outbound = g.queue; next_tsn = g.next_tsn; acked_tsn = g.acked_tsn })) (sym world)
-              (subst (λ (h : Flight). IsLinked sum (record x { world = sack_taken x.world (Some (Sack r)); open_streams = now.items.items; places = now.places; outbound = h.queue; next_tsn = h.next_tsn; acked_tsn = h.acked_tsn })) (sym whole)
-              (subst (λ ys. IsLinked sum (taken_state x r ys now.places (with_inflight x.outbound left-chunks) s.cumulative_tsn_ack)) (sym ls)
-              (linked-taken sum x k r now.places left-chunks s.cumulative_tsn_ack l (cum ∙ ap (cumulative_tsn x.world) top_is) indexed none there left)));
+              subst (λ u. IsLinked sum (record x { world = u; open_streams = now; outbound = g.queue; next_tsn = g.next_tsn; acked_tsn = g.acked_tsn })) (sym world)
+              (subst (λ (h : Flight). IsLinked sum (record x { world = sack_taken x.world (Some (Sack r)); open_streams = now; outbound = h.queue; next_tsn = h.next_tsn; acked_tsn = h.acked_tsn })) (sym whole)
+              (subst (λ ys. IsLinked sum (taken_state x r ys (with_inflight x.outbound left-chunks) s.cumulative_tsn_ack)) (sym ls)
+              (linked-taken sum x k r left-chunks s.cumulative_tsn_ack l (cum ∙ ap (cumulative_tsn x.world) top_is) none there left)));
           moves = world ∙ then-is;
           bytes = ap (λ (h : Flight). bytes_of x.outbound.inflight.chunks - bytes_of h.queue.inflight.chunks) whole ∙ bytes-left ∙ ap (growth x.world) then-is;
         }

@@ -19,6 +19,10 @@ use Rattle.sctp_ties.proofs.amounts.StreamAmounts.{same-turned}
 use Rattle.sctp_halves.specs.Streams.{OpenStream, has_number, less_by, released, stream_numbers}
 use Rattle.sctp_link.specs.Acking.{Acks}
 
+-- a stream with another buffered amount
+abbrev pub with_amount : ℕ → OpenStream → OpenStream
+with_amount n l = record l { state = record l.state { buffered_amount = n } }
+
 -- no number changes
 pub numbers-less : (ls : List OpenStream) (s n : ℕ) → stream_numbers (change_where (has_number s) (less_by n) ls) ≡ stream_numbers ls
 numbers-less [] s n = refl
@@ -119,28 +123,3 @@ module _ (first : ℕ) (w : World) (a : Acks first w) where
       turned true false k = refl
       turned false true k = refl
       turned false false k = refl
-
-  -- ## Each is short
-
-  chunk-small : (b : Bool) (p : ℕ) (c : ChunkPayloadData) → p < length w.slots → sending_of c ≡ sending_by w b p → length c.user_data < 2 ^ 31
-  chunk-small b p c lt says = by c.stream_identifier (stream_of_slot w p) (length c.user_data) (bytes_at w p) b (a.shares p c.stream_identifier b c lt says) (a.short p lt)
-    where
-      part : (d e : Bool) (n : ℕ) → (if d then (if e then 0 else n) else 0) ≤ n
-      part true true n = omega arith
-      part true false n = omega arith
-      part false e n = omega arith
-
-      by : (s t m n : ℕ) (d : Bool) → (if s == s then m else 0) ≡ (if t == s then (if d then 0 else n) else 0) → n < 2 ^ 31 → m < 2 ^ 31
-      by s t m n d e lt = let same : (if s == s then m else 0) ≡ m = ap (λ x. if x then m else 0) (eq-eqb s s refl) in let le = part (t == s) d n in omega (arith, e, same, le, lt)
-
-  pub told-short : (acked : ℕ → Bool) (p : ChunkPayloadData → Bool) (cs : List ChunkPayloadData) (from count : ℕ) → from + count ≤ length w.slots → IsInFlight w acked from count cs → (i : ℕ) (d : Released) → i < length (map released_of (those p cs)) → (slice_index_or (map released_of (those p cs)) i d).bytes < 2 ^ 31
-  told-short acked p [] from count le e i d lt = absurd (omega (arith, lt))
-  told-short acked p (c ∷ cs) from zero le e i d lt = cc
-  told-short acked p (c ∷ cs) from (suc count) le e i d lt =
-      step (p c) (chunk-small (acked from) from c (omega (arith, le)) (ap (λ l. first_of' l (sending_of c)) e)) (told-short acked p cs (from + 1) count (omega (arith, le)) (ap rest_of' e)) i d lt
-    where
-      step : (b : Bool) → length c.user_data < 2 ^ 31 → ((i : ℕ) (d : Released) → i < length (map released_of (those p cs)) → (slice_index_or (map released_of (those p cs)) i d).bytes < 2 ^ 31)
-          → (i : ℕ) (d : Released) → i < length (map released_of (if b then c ∷ those p cs else those p cs)) → (slice_index_or (map released_of (if b then c ∷ those p cs else those p cs)) i d).bytes < 2 ^ 31
-      step true h ih zero d lt = h
-      step true h ih (suc i) d lt = ih i d (omega (arith, lt))
-      step false h ih i d lt = ih i d lt

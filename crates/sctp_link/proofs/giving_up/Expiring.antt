@@ -1,7 +1,6 @@
 -- A message expires: what a link keeps.
 use Rattle.std.proofs.Common.{◌≡◌, ℕ, ◌+◌, ◌-◌, ◌<◌, ◌%◌, ◌^◌, Bool, true, false, List, ◌∷◌, length, map, Option, Some, None, refl, ap, sym, ◌∙◌, arith}
-use Rattle.std.specs.Prelude.{if◌then◌else◌, ◌==◌, ◌&&◌, not, slice_index_or, slice_set}
-use Rattle.std.specs.BTreeMap.{BTreeMap}
+use Rattle.std.specs.Prelude.{if◌then◌else◌, ◌==◌, ◌&&◌, not, is_some, slice_index_or, slice_set}
 use Rattle.std.specs.Option.{option_map}
 use Rattle.std.proofs.Math.Path.{subst}
 use Rattle.sctp_lists.specs.Lists.{change_where, changed}
@@ -10,7 +9,7 @@ use Rattle.sctp_lists.proofs.More.{length-changed}
 use Rattle.sctp_chunks.specs.declared.chunk.chunk_payload_data.ChunkPayloadData.{ChunkPayloadData}
 use Rattle.sctp_outbound.specs.pending_queue.PendingQueue.{peeked}
 use Rattle.sctp_outbound.specs.outbound_queue.OutboundQueue as outbound
-use Rattle.sctp_outbound.specs.outbound_queue.OutboundQueue.{Outbound, expired_of, expired_bytes, total_bytes}
+use Rattle.sctp_outbound.specs.outbound_queue.OutboundQueue.{Outbound, expired_of, total_bytes}
 use Rattle.sctp_model.specs.declared.event.Event.TheVariants as E
 use Rattle.sctp_model.specs.Reply as R
 use Rattle.sctp_model.specs.World.{World}
@@ -34,15 +33,26 @@ use Rattle.sctp_ties.proofs.giving_up.Released.{amount-expire}
 use Rattle.sctp_ties.proofs.amounts.StreamCounters.{counters-same}
 use Rattle.sctp_ties.proofs.giving_up.Expired.{tied-expire, expiring-front}
 use Rattle.sctp_ties.proofs.giving_up.ExpiredReply.{count-expire, number-lower, tells, Tells, peeked-is, reply-expire, bytes-expire}
+use Rattle.sctp_ties.proofs.giving_up.ChunkStreams.{peeked-stream}
 use Rattle.sctp_halves.specs.Streams.{OpenStream, expired_on, has_number, stats_in, stream_numbers}
 use Rattle.sctp_link.specs.declared.record.Message.{Message}
+use Rattle.sctp_link.specs.Places.{IsApart}
 use Rattle.sctp_link.specs.Linked.{State, IsOpenStream, IsLinked, stats_of}
 use Rattle.sctp_link.specs.Records.{message_record, progress_of, stream_record}
 use Rattle.sctp_link.proofs.upkeep.Apart.{map-set, map-set_same}
 use Rattle.sctp_link.proofs.upkeep.ChangedStreams.{fields-same, changed-at}
-use Rattle.sctp_link.proofs.upkeep.Bounds.{queued-few, written-few}
+use Rattle.sctp_link.proofs.upkeep.Places.{apart-changed}
 use Rattle.sctp_link.proofs.upkeep.Facts.{facts, over, stands-then}
 use Rattle.sctp_link.proofs.upkeep.Frames.{moved, texts-same, next-kept, held-quiet, filter-kept, begun-kept, indexed-kept, fragments-same, written-kept}
+
+-- what is shown is what lapsed, where something did
+pub shown-lapsed : (now : ℕ) (c : ChunkPayloadData) (o : Option ChunkPayloadData) → o ≡ Some c → is_some (outbound.passing (outbound.is_expired now) o) ≡ true → outbound.passing (outbound.is_expired now) o ≡ Some c
+shown-lapsed now c None e some = cc
+shown-lapsed now c (Some d) e some = by (outbound.is_expired now d) some
+  where
+    by : (b : Bool) → is_some (if b then Some d else None) ≡ true → (if b then Some d else None) ≡ Some c
+    by true z = e
+    by false z = cc
 
 module _ (sum : List ℕ → ℕ) (x : State) (l : IsLinked sum x) (now : ℕ) where
   abbrev w : World
@@ -70,27 +80,7 @@ module _ (sum : List ℕ → ℕ) (x : State) (l : IsLinked sum x) (now : ℕ) w
         same None = refl
         same (Some c) = refl
 
-    -- ## No message expires
-
-    pub linked-idle : expiring x.world now ≡ None → IsLinked sum (record x { outbound = q })
-    linked-idle none = record {
-      setup = l.setup;
-      history = l.history;
-      stands = l.stands;
-      outbound = subst (λ u. TiedOutbound u q) (ap (expired x.world) none) outbound-expired;
-      unstarted = unstarted-expired;
-      filter = l.filter;
-      next = l.next;
-      acked = l.acked;
-      fragments = l.fragments;
-      written = l.written;
-      sents = l.sents;
-      indexes = l.indexes;
-      low = l.low;
-      open_streams = l.open_streams;
-      apart = l.apart;
-      texts = l.texts;
-    }
+  -- ## No message expires
 
   pub idle-right : expiring x.world now ≡ None → IsRight x.world (E.Expire now) R.Idle x.world
   idle-right none = record { right = sym (ap (expired_reply x.world (after x.world (E.Expire now))) none); moves = sym (ap (expired x.world) none) }
@@ -115,7 +105,7 @@ module _ (sum : List ℕ → ℕ) (x : State) (l : IsLinked sum x) (now : ℕ) w
           stats = stats ∙ i.stats ∙ ap (λ t. stats_of (counters_on x.world t)) id ∙ ap stats_of (sym (counters-same x.world.setup x.world (E.Expire now) s f.sane refl refl)) ∙ sym (ap (λ t. stats_of (counters_on v t)) id');
         }
 
-    stream-expired : (y : OpenStream) → IsOpenStream x.world y → IsOpenStream v (if (message_at x.world n).stream == y.state.stream_identifier then expired_on (message_at x.world n).ordered (held_bytes x.world n) y else y)
+    stream-expired : (y : OpenStream) → IsOpenStream x.world y → IsOpenStream v (if (message_at x.world n).stream == y.state.stream_identifier then expired_on (not (message_at x.world n).ordered) (held_bytes x.world n) y else y)
     stream-expired y i = by ((message_at x.world n).stream == y.state.stream_identifier) (message_at x.world n).ordered count bytes
       where
         left : ℕ
@@ -127,9 +117,9 @@ module _ (sum : List ℕ → ℕ) (x : State) (l : IsLinked sum x) (now : ℕ) w
         bytes : amount v y.state.stream_identifier + (if (message_at x.world n).stream == y.state.stream_identifier then held_bytes x.world n else 0) ≡ y.state.buffered_amount
         bytes = amount-expire x.world.setup x.world now n (facts sum x l).sane e y.state.stream_identifier ∙ sym i.amount
 
-        by : (a o : Bool) → left + (if a && o then 1 else 0) ≡ y.ordered → amount v y.state.stream_identifier + (if a then held_bytes x.world n else 0) ≡ y.state.buffered_amount → IsOpenStream v (if a then expired_on o (held_bytes x.world n) y else y)
-        by true true c b = stream-by y (expired_on true (held_bytes x.world n) y) i y.state.stream_identifier refl refl refl refl refl refl refl (omega (arith, c)) (number-lower y.state.sequence_number y.ordered (y.ordered - 1) i.number (omega (arith, c))) (omega (arith, b))
-        by true false c b = stream-by y (expired_on false (held_bytes x.world n) y) i y.state.stream_identifier refl refl refl refl refl refl refl (omega (arith, c)) i.number (omega (arith, b))
+        by : (a o : Bool) → left + (if a && o then 1 else 0) ≡ y.ordered → amount v y.state.stream_identifier + (if a then held_bytes x.world n else 0) ≡ y.state.buffered_amount → IsOpenStream v (if a then expired_on (not o) (held_bytes x.world n) y else y)
+        by true true c b = stream-by y (expired_on false (held_bytes x.world n) y) i y.state.stream_identifier refl refl refl refl refl refl refl (omega (arith, c)) (number-lower y.state.sequence_number y.ordered (y.ordered - 1) i.number (omega (arith, c))) (omega (arith, b))
+        by true false c b = stream-by y (expired_on true (held_bytes x.world n) y) i y.state.stream_identifier refl refl refl refl refl refl refl (omega (arith, c)) i.number (omega (arith, b))
         by false o c b = stream-by y y i y.state.stream_identifier refl refl refl refl refl refl refl (omega (arith, c)) i.number (omega (arith, b))
 
     is : v ≡ message_changed x.world n mark_expired
@@ -143,17 +133,17 @@ module _ (sum : List ℕ → ℕ) (x : State) (l : IsLinked sum x) (now : ℕ) w
     record-kept true b y = refl
     record-kept false b y = refl
 
-    module _ (s bytes : ℕ) (ordered : Bool) (ls : List OpenStream) (q : Outbound) (s_is : s ≡ (message_at x.world n).stream) (kind : ordered ≡ (message_at x.world n).ordered) (bytes_is : bytes ≡ held_bytes x.world n) (ls_is : ls ≡ change_where (has_number s) (expired_on ordered bytes) x.open_streams) (moves : q ≡ expired_of (outbound.expiring now x.outbound) x.outbound) where
+    module _ (s bytes : ℕ) (unordered : Bool) (ls : List OpenStream) (q : Outbound) (s_is : s ≡ (message_at x.world n).stream) (kind : unordered ≡ not (message_at x.world n).ordered) (bytes_is : bytes ≡ held_bytes x.world n) (ls_is : ls ≡ change_where (has_number s) (expired_on unordered bytes) x.open_streams) (moves : q ≡ expired_of (outbound.expiring now x.outbound) x.outbound) where
       each : (k : ℕ) (d : OpenStream) → k < length ls → IsOpenStream v (slice_index_or ls k d)
       each k d lt =
           let y = slice_index_or x.open_streams k d in
-          let inside : k < length x.open_streams = omega (arith, lt, ap length ls_is, length-change_where (has_number s) (expired_on ordered bytes) x.open_streams) in
+          let inside : k < length x.open_streams = omega (arith, lt, ap length ls_is, length-change_where (has_number s) (expired_on unordered bytes) x.open_streams) in
           subst (IsOpenStream v)
           (sym (
-          ap (λ a. slice_index_or a k d) ls_is ∙ changed-at (expired_on ordered bytes) s x.open_streams k d inside
-          ∙ ap (λ t. if t == y.state.stream_identifier then expired_on ordered bytes y else y) s_is
+          ap (λ a. slice_index_or a k d) ls_is ∙ changed-at (expired_on unordered bytes) s x.open_streams k d inside
+          ∙ ap (λ t. if t == y.state.stream_identifier then expired_on unordered bytes y else y) s_is
           ∙ ap (λ o. if (message_at x.world n).stream == y.state.stream_identifier then expired_on o bytes y else y) kind
-          ∙ ap (λ b. if (message_at x.world n).stream == y.state.stream_identifier then expired_on (message_at x.world n).ordered b y else y) bytes_is
+          ∙ ap (λ b. if (message_at x.world n).stream == y.state.stream_identifier then expired_on (not (message_at x.world n).ordered) b y else y) bytes_is
           ))
           (stream-expired y (l.open_streams k d inside))
 
@@ -189,38 +179,35 @@ module _ (sum : List ℕ → ℕ) (x : State) (l : IsLinked sum x) (now : ℕ) w
         indexes = (indexed-kept sum x l (E.Expire now) refl tt).is;
         low = l.low;
         open_streams = each;
-        apart = subst IsApart (sym (ap stream_numbers ls_is ∙ fields-same (λ y. y.state.stream_identifier) (expired_on ordered bytes) (number-kept ordered bytes) s x.open_streams)) l.apart;
+        apart = subst (λ ys. IsApart (stream_numbers ys)) (sym ls_is) (apart-changed s (expired_on unordered bytes) x.open_streams (number-kept unordered bytes) l.apart);
         texts = texts-same sum x l (E.Expire now) refl (ap (λ u. u.network) is);
       })
 
       module _ (ms : List Message) (m' d : Message) (streams : x.world.streams ≡ map stream_record x.open_streams) (em : x.world.messages ≡ map message_record ms) (ep : x.progress ≡ map progress_of ms) (lt : n < length ms) (took : m' ≡ record (slice_index_or ms n d) { expired = true }) where
-        pub world-expired : record x.world { streams = map stream_record ls; messages = map message_record (slice_set ms n m') } ≡ message_changed x.world n mark_expired
+        world-expired : record x.world { streams = map stream_record ls; messages = map message_record (slice_set ms n m') } ≡ message_changed x.world n mark_expired
         world-expired =
-            ap (λ r. record x.world { streams = r; messages = map message_record (slice_set ms n m') }) (ap (map stream_record) ls_is ∙ fields-same stream_record (expired_on ordered bytes) (record-kept ordered bytes) s x.open_streams ∙ sym streams)
+            ap (λ r. record x.world { streams = r; messages = map message_record (slice_set ms n m') }) (ap (map stream_record) ls_is ∙ fields-same stream_record (expired_on unordered bytes) (record-kept unordered bytes) s x.open_streams ∙ sym streams)
             ∙ ap (λ r. record x.world { messages = r }) (map-set message_record mark_expired ms n m' d lt (ap message_record took) ∙ ap (changed mark_expired n) (sym em))
 
-        at-places : IsLinked sum (record x { world = record x.world { streams = map stream_record ls; messages = map message_record (slice_set ms n m') }; open_streams = ls; progress = map progress_of (slice_set ms n m'); outbound = q })
-        at-places =
+        pub linked-expired : IsLinked sum (record x { world = record x.world { streams = map stream_record ls; messages = map message_record (slice_set ms n m') }; open_streams = ls; progress = map progress_of (slice_set ms n m'); outbound = q })
+        linked-expired =
             subst (λ p. IsLinked sum (record x { world = record x.world { streams = map stream_record ls; messages = map message_record (slice_set ms n m') }; open_streams = ls; progress = p; outbound = q })) (sym (map-set_same progress_of ms n m' d (ap progress_of took) ∙ sym ep))
             (moved sum (record x { world = record x.world { streams = map stream_record ls; messages = map message_record (slice_set ms n m') }; open_streams = ls; outbound = q }) (message_changed x.world n mark_expired) world-expired linked-after)
-
-        pub linked-expired : (places : BTreeMap ℕ ℕ) → places ≡ x.places → IsLinked sum (record x { world = record x.world { streams = map stream_record ls; messages = map message_record (slice_set ms n m') }; open_streams = ls; places = places; progress = map progress_of (slice_set ms n m'); outbound = q })
-        linked-expired places e = subst (λ p. IsLinked sum (record x { world = record x.world { streams = map stream_record ls; messages = map message_record (slice_set ms n m') }; open_streams = ls; places = p; progress = map progress_of (slice_set ms n m'); outbound = q })) (sym e) at-places
 
         pub moves-expired : record x.world { streams = map stream_record ls; messages = map message_record (slice_set ms n m') } ≡ v
         moves-expired = world-expired ∙ sym is
 
   -- ## What the queue answered
 
-  -- the message that expires, with what is told of it
-  pub record Expires (c : ChunkPayloadData) (a : ℕ × Bool × ℕ) : Type 0 where
+  -- the message that begins with the chunk expires, and so many bytes leave
+  pub record Expires (c : ChunkPayloadData) (bytes : ℕ) : Type 0 where
+    pub shown : outbound.expiring now x.outbound ≡ Some c
     pub is : expiring x.world now ≡ Some c.message_id
     pub made : c.message_id < length x.world.messages
-    pub stream : a.0 ≡ (message_at x.world c.message_id).stream
-    pub kind : not a.1 ≡ (message_at x.world c.message_id).ordered
-    pub bytes : a.2 ≡ held_bytes x.world c.message_id
-    pub short : a.2 < 2 ^ 63
-    pub right : R.Expired a.0 a.2 ≡ reply_to x.world (E.Expire now)
+    pub stream : c.stream_identifier ≡ (message_at x.world c.message_id).stream
+    pub kind : c.unordered ≡ not (message_at x.world c.message_id).ordered
+    pub held : bytes ≡ held_bytes x.world c.message_id
+    pub right : R.Expired c.stream_identifier bytes ≡ reply_to x.world (E.Expire now)
 
   abbrev told : Option (ℕ × Bool × ℕ) → Option (ℕ × Bool)
   told = option_map {U = ℕ × Bool} (λ a. (a.0, a.1))
@@ -228,37 +215,44 @@ module _ (sum : List ℕ → ℕ) (x : State) (l : IsLinked sum x) (now : ℕ) w
   abbrev kinds : Option ChunkPayloadData → Option (ℕ × Bool)
   kinds = option_map {U = ℕ × Bool} (λ c. (c.stream_identifier, c.unordered))
 
+  none-expires : outbound.expiring now x.outbound ≡ None → expiring x.world now ≡ None
+  none-expires e = tells x.world.setup x.world now x.outbound None size (facts sum x l).going l.outbound (sym (ap kinds e))
+
   pub none-waits : peeked x.outbound.pending ≡ None → expiring x.world now ≡ None
-  none-waits e = tells x.world.setup x.world now x.outbound None size (facts sum x l).going l.outbound (sym (ap (λ o. kinds (outbound.passing (outbound.is_expired now) o)) e))
+  none-waits e = none-expires (ap (outbound.passing (outbound.is_expired now)) e)
 
-  pub none-expires : told None ≡ kinds (outbound.expiring now x.outbound) → expiring x.world now ≡ None
-  none-expires e = tells x.world.setup x.world now x.outbound None size (facts sum x l).going l.outbound e
+  pub none-lapsed : is_some (outbound.expiring now x.outbound) ≡ false → expiring x.world now ≡ None
+  none-lapsed e = by (outbound.expiring now x.outbound) refl e
+    where
+      by : (o : Option ChunkPayloadData) → outbound.expiring now x.outbound ≡ o → is_some o ≡ false → expiring x.world now ≡ None
+      by None h z = none-expires h
+      by (Some c) h z = cc
 
-  pub expires : (c : ChunkPayloadData) (a : ℕ × Bool × ℕ) (q : Outbound) → peeked x.outbound.pending ≡ Some c → told (Some a) ≡ kinds (outbound.expiring now x.outbound) → total_bytes q + a.2 ≡ total_bytes x.outbound → q ≡ expired_of (outbound.expiring now x.outbound) x.outbound → Expires c a
-  expires c a q shown e bytes moves =
+  pub expires : (c : ChunkPayloadData) (bytes : ℕ) (q : Outbound) → peeked x.outbound.pending ≡ Some c → is_some (outbound.expiring now x.outbound) ≡ true → total_bytes q + bytes ≡ total_bytes x.outbound → q ≡ expired_of (Some c) x.outbound → Expires c bytes
+  expires c bytes q front some left takes =
       let f = facts sum x l in
-      let t : Tells x.world now a.0 a.1 = tells x.world.setup x.world now x.outbound (Some a) size f.going l.outbound e in
-      let own : t.number ≡ c.message_id = ap (λ (d : ChunkPayloadData). d.message_id) (inner (sym (peeked-is x.world.setup x.world now t.number x.outbound f.going l.outbound t.is) ∙ shown)) in
+      let a : ℕ × Bool × ℕ = (c.stream_identifier, c.unordered, bytes) in
+      let lapsed : outbound.expiring now x.outbound ≡ Some c = shown-lapsed now c (peeked x.outbound.pending) front some in
+      let answer : told (Some a) ≡ kinds (outbound.expiring now x.outbound) = sym (ap kinds lapsed) in
+      let moves : q ≡ expired_of (outbound.expiring now x.outbound) x.outbound = takes ∙ ap (λ o. expired_of o x.outbound) (sym lapsed) in
+      let t : Tells x.world now a.0 a.1 = tells x.world.setup x.world now x.outbound (Some a) size f.going l.outbound answer in
+      let own : t.number ≡ c.message_id = ap (λ (d : ChunkPayloadData). d.message_id) (inner (sym (peeked-is x.world.setup x.world now t.number x.outbound f.going l.outbound t.is) ∙ front)) in
       let is : expiring x.world now ≡ Some c.message_id = t.is ∙ ap Some own in
       record {
+        shown = lapsed;
         is = is;
         made = (front-takes (shape x.world) c.message_id f.sane.sender (expiring-front x.world now c.message_id is).0).made;
-        stream = sym t.stream ∙ ap (λ k. (message_at x.world k).stream) own;
-        kind = sym (ap not t.kind) ∙ twice (message_at x.world t.number).ordered ∙ ap (λ k. (message_at x.world k).ordered) own;
-        bytes =
+        stream = peeked-stream x.world.setup x.world x.outbound c f.going l.outbound front;
+        kind = sym t.kind ∙ ap (λ k. not (message_at x.world k).ordered) own;
+        held =
             over sum x (λ u. (q r : Outbound) → TiedOutbound u q → r ≡ expired_of (outbound.expiring now q) q → total_bytes r + a.2 ≡ total_bytes q → expiring u now ≡ Some c.message_id → a.2 ≡ held_bytes u c.message_id) l
             (λ q r t m b i. bytes-expire x.world.setup l.history l.setup l.stands.run now c.message_id q r (Some a) t m b i)
-            x.outbound q l.outbound moves bytes is;
-        short = omega (arith, bytes, queued-few sum x l, written-few x.world.setup x.world l.setup f.sane);
+            x.outbound q l.outbound moves left is;
         right =
             over sum x (λ u. (q r : Outbound) → TiedOutbound u q → r ≡ expired_of (outbound.expiring now q) q → told (Some a) ≡ kinds (outbound.expiring now q) → total_bytes r + a.2 ≡ total_bytes q → R.Expired a.0 a.2 ≡ reply_to u (E.Expire now)) l
             (λ q r t m b i. reply-expire x.world.setup l.history l.setup l.stands.run now q r (Some a) t m b i)
-            x.outbound q l.outbound moves e bytes;
+            x.outbound q l.outbound moves answer left;
       }
     where
       inner : {A : Type 0} {a b : A} → Some a ≡ Some b → a ≡ b
       inner e = cc
-
-      twice : (b : Bool) → not (not b) ≡ b
-      twice true = refl
-      twice false = refl

@@ -1,6 +1,6 @@
 -- A message is given up: what the outbound queue answers.
 use Rattle.std.proofs.Common.{◌≡◌, ℕ, ◌+◌, ◌-◌, ◌<◌, ◌≤◌, ◌^◌, Bool, true, false, List, [], ◌∷◌, length, length-append, Option, Some, None, refl, ap, sym, ◌∙◌, arith}
-use Rattle.std.specs.Prelude.{if◌then◌else◌, ◌==◌, ◌&&◌, not, nat_le, nat_lt, find, is_some}
+use Rattle.std.specs.Prelude.{if◌then◌else◌, ◌==◌, ◌&&◌, not, nat_le, nat_lt, find, is_some, option_map}
 use Rattle.std.proofs.Math.Path.{subst}
 use Rattle.std.proofs.lemmas.Bool.{lt-ltb}
 use Rattle.std.proofs.lemmas.Bool.Decides.{nat_tests}
@@ -29,21 +29,21 @@ use Rattle.sctp_ties.specs.Tied.{TiedOutbound}
 use Rattle.sctp_ties.proofs.giving_up.AbandonedLink.{mark_of, abandoned-is}
 use Rattle.sctp_ties.proofs.giving_up.AbandonedBytes.{bytes-abandon, bytes-tail}
 use Rattle.sctp_ties.proofs.giving_up.AbandonedEvents.{tied-abandon, next-abandon, tied-tail, next-tail, tail-is, tail-tsn}
+use Rattle.sctp_ties.proofs.giving_up.ChunkStreams.{flying-answer, tail-stream}
 use Rattle.sctp_ties.proofs.sending.InFlight.{Found, found-in}
 use Rattle.sctp_ties.proofs.giving_up.Released.{growth-abandon, growth-tail}
 use Rattle.sctp_link.specs.Linked.{State, IsLinked}
-use Rattle.sctp_link.proofs.upkeep.Bounds.{queued-few, written-few}
 use Rattle.sctp_link.proofs.upkeep.Facts.{facts, over, stands-then}
 use Rattle.sctp_link.proofs.sender.Flying.{flying}
 use Rattle.sctp_link.proofs.sender.Sending.{Next, next-is, none-next}
 
--- the event gives up the message: the bytes that left, the queue and the next TSN then
-pub record Gives (x : State) (e : Event) (n bytes : ℕ) (q : Outbound) (next : ℕ) : Type 0 where
+-- the event gives up the message: its stream, the bytes that left, the queue and the next TSN then
+pub record Gives (x : State) (e : Event) (n s bytes : ℕ) (q : Outbound) (next : ℕ) : Type 0 where
   pub is : after x.world e ≡ abandoned x.world n
   pub made : n < length x.world.messages
+  pub stream : s ≡ (message_at x.world n).stream
   pub held : bytes ≡ held_bytes x.world n
   pub grows : bytes ≡ growth x.world (abandoned x.world n)
-  pub short : bytes < 2 ^ 63
   pub tied : TiedOutbound (abandoned x.world n) q
   pub unstarted : q.next_unstarted ≡ x.outbound.next_unstarted
   pub next_is : next ≡ tsn_of (abandoned x.world n) (length (abandoned x.world n).slots)
@@ -109,8 +109,12 @@ module _ (sum : List ℕ → ℕ) (x : State) (l : IsLinked sum x) (tsn : ℕ) (
   pub tail-fits : has_tail (to_abandon (find (has_tsn tsn) x.outbound.inflight.chunks)) x.outbound ≡ true → nat_lt (length x.outbound.inflight.chunks + 1) (2 ^ 31) ≡ true
   tail-fits tail = half-fits sum x l (E.Abandon tsn) n ok refl (sym half-tail ∙ tail)
 
-  pub gives : (bytes : ℕ) (q : Outbound) (next : ℕ) → q ≡ abandoned_of (to_abandon (find (has_tsn tsn) x.outbound.inflight.chunks)) x.next_tsn x.outbound → next ≡ tsn_after_of (to_abandon (find (has_tsn tsn) x.outbound.inflight.chunks)) x.next_tsn x.outbound → total_bytes q + bytes ≡ total_bytes x.outbound → Gives x (E.Abandon tsn) n bytes q next
-  gives bytes q next eq en eb =
+  -- the stream that the queue answers is the message's
+  pub stream-is : (s : ℕ) → Some s ≡ option_map (λ (c : ChunkPayloadData). c.stream_identifier) (find (has_tsn tsn) x.outbound.inflight.chunks) → s ≡ (message_at x.world (message_of x.world (place_of x.world tsn))).stream
+  stream-is s e = inner (e ∙ flying-answer w.setup w tsn x.outbound (facts sum x l).sane l.setup.first fits flies l.outbound)
+
+  pub gives : (s bytes : ℕ) (q : Outbound) (next : ℕ) → Some s ≡ option_map (λ (c : ChunkPayloadData). c.stream_identifier) (find (has_tsn tsn) x.outbound.inflight.chunks) → q ≡ abandoned_of (to_abandon (find (has_tsn tsn) x.outbound.inflight.chunks)) x.next_tsn x.outbound → next ≡ tsn_after_of (to_abandon (find (has_tsn tsn) x.outbound.inflight.chunks)) x.next_tsn x.outbound → total_bytes q + bytes ≡ total_bytes x.outbound → Gives x (E.Abandon tsn) n s bytes q next
+  gives s bytes q next es eq en eb =
       let f = facts sum x l in
       let g = f.sane in
       let o = to_abandon (find (has_tsn tsn) x.outbound.inflight.chunks) in
@@ -122,9 +126,9 @@ module _ (sum : List ℕ → ℕ) (x : State) (l : IsLinked sum x) (tsn : ℕ) (
       record {
         is = refl;
         made = made;
+        stream = stream-is s es;
         held = omega (arith, left, held, same, eb);
         grows = omega (arith, left, same, eb);
-        short = omega (arith, eb, queued-few sum x l, written-few w.setup w l.setup g);
         tied = subst (TiedOutbound (abandoned w n)) (sym here) (tied-abandon w.setup w tsn x.outbound g l.setup.first fits ok l.outbound);
         unstarted = ap (λ (r : Outbound). r.next_unstarted) eq ∙ unstarted-same o x.next_tsn x.outbound;
         next_is = en ∙ ap (λ t. tsn_after_of o t x.outbound) l.next ∙ next-abandon w.setup w tsn x.outbound g l.setup.first fits ok l.outbound;
@@ -205,8 +209,18 @@ module _ (sum : List ℕ → ℕ) (x : State) (l : IsLinked sum x) (now : ℕ) w
     pub rest-fits : is_half_sent x.world n ≡ true → nat_lt (length x.outbound.inflight.chunks + 1) (2 ^ 31) ≡ true
     rest-fits half = half-fits sum x l (E.Tail now) n refl (ap (tail_abandoned x.world) e) half
 
-    pub gives-tail : (bytes : ℕ) (q : Outbound) (next : ℕ) → n < length x.world.messages → q ≡ abandoned_of (queue.message_of (expiring_tail now x.outbound)) x.next_tsn x.outbound → next ≡ tsn_after_of (queue.message_of (expiring_tail now x.outbound)) x.next_tsn x.outbound → total_bytes q + bytes ≡ total_bytes x.outbound → Gives x (E.Tail now) n bytes q next
-    gives-tail bytes q next made eq en eb =
+    -- the stream that the queue answers is the message's
+    stream-tail : (s : ℕ) → Some s ≡ option_map (λ (c : ChunkPayloadData). c.stream_identifier) (expiring_tail now x.outbound) → s ≡ (message_at x.world n).stream
+    stream-tail s = by (expiring_tail now x.outbound) refl told
+      where
+        by : (o : Option ChunkPayloadData) → expiring_tail now x.outbound ≡ o → queue.message_of o ≡ Some n → Some s ≡ option_map (λ (c : ChunkPayloadData). c.stream_identifier) o → s ≡ (message_at x.world n).stream
+        by None h t e = cc
+        by (Some c) h t e =
+            inner e ∙ tail-stream x.world.setup x.world now x.outbound c (facts sum x l).going l.outbound h
+            ∙ ap (λ k. (message_at x.world k).stream) (inner t)
+
+    pub gives-tail : (s bytes : ℕ) (q : Outbound) (next : ℕ) → n < length x.world.messages → Some s ≡ option_map (λ (c : ChunkPayloadData). c.stream_identifier) (expiring_tail now x.outbound) → q ≡ abandoned_of (queue.message_of (expiring_tail now x.outbound)) x.next_tsn x.outbound → next ≡ tsn_after_of (queue.message_of (expiring_tail now x.outbound)) x.next_tsn x.outbound → total_bytes q + bytes ≡ total_bytes x.outbound → Gives x (E.Tail now) n s bytes q next
+    gives-tail s bytes q next made es eq en eb =
         let f = facts sum x l in
         let g = f.sane in
         let w = x.world in
@@ -220,9 +234,9 @@ module _ (sum : List ℕ → ℕ) (x : State) (l : IsLinked sum x) (now : ℕ) w
         record {
           is = is;
           made = made;
+          stream = stream-tail s es;
           held = omega (arith, left, held, same, eb);
           grows = omega (arith, left, same, eb, ap (growth w) is);
-          short = omega (arith, eb, queued-few sum x l, written-few w.setup w l.setup g);
           tied = subst (λ u. TiedOutbound u q) is (subst (TiedOutbound (after w (E.Tail now))) (sym here) (tied-tail w.setup w now x.outbound f.going f.taken l.outbound));
           unstarted = ap (λ (r : Outbound). r.next_unstarted) eq ∙ unstarted-same o x.next_tsn x.outbound;
           next_is = en ∙ ap (λ t. tsn_after_of o t x.outbound) l.next ∙ next-tail w.setup w now x.outbound f.going f.taken l.outbound ∙ ap (λ u. tsn_of u (length u.slots)) is;

@@ -143,12 +143,11 @@ gone t r =
 abbrev seen-with : List ℕ → Seen → FilterRecord
 seen-with dups s = record { cumulative = s.cum; held = s.held; duplicates = dups }
 
--- a slot comes for the first time: room was made before
-pub filter-new : (w : World) (p : ℕ) (f mid then' : Filter) → Sound w → p < length w.slots → is_new w p ≡ true → filter_shown f ≡ filter_of w
-    → mid ≡ record f { room = mid.room } → then' ≡ record (with_tsn (tsn_of w p) mid) { room = then'.room } → filter_shown then' ≡ filter_of (slot_received w p)
-filter-new w p f mid then' sound made new is reserved e =
+-- a slot comes for the first time
+pub filter-new : (w : World) (p : ℕ) (f then' : Filter) → Sound w → p < length w.slots → is_new w p ≡ true → filter_shown f ≡ filter_of w → then' ≡ with_tsn (tsn_of w p) f → filter_shown then' ≡ filter_of (slot_received w p)
+filter-new w p f then' sound made new is e =
     ap filter_shown e
-    ∙ ap (came (tsn_of w p)) (ap filter_shown reserved ∙ is)
+    ∙ ap (came (tsn_of w p)) is
     ∙ ap (seen-with (filter_of w).duplicates) (sym (SlotArrives.filter-slot w p sound made new))
     ∙ ap (λ d. seen-with d (seen_of (slot_received w p))) (sym (SlotArrives.duplicates-slot w p new))
 

@@ -2,7 +2,6 @@
 use Rattle.std.proofs.Common.{◌≡◌, ℕ, zero, suc, ◌+◌, ◌<◌, ◌≤◌, ◌%◌, ◌^◌, Bool, true, false, List, [], ◌∷◌, ◌++◌, length, map, Some, None, refl, ap, sym, ◌∙◌, arith}
 use Rattle.std.specs.Prelude.{◌==◌, not, is_some, if◌then◌else◌, find, fold, slice_get, slice_index_or}
 use Rattle.std.specs.List.{list_any}
-use Rattle.std.specs.BTreeMap.{BTreeMap}
 use Rattle.std.proofs.Math.Path.{subst}
 use Rattle.std.proofs.lemmas.List.Sums.{fold-append}
 use Rattle.sctp_lists.specs.Lists.{pieces}
@@ -41,16 +40,18 @@ use Rattle.sctp_ties.proofs.arriving.SlotArrives
 use Rattle.sctp_ties.proofs.reading.ReadOne.{next-arrive}
 use Rattle.sctp_stream.specs.declared.stream.StreamState.{StreamState}
 use Rattle.sctp_transfer.specs.TsnFilter.{Filter}
-use Rattle.sctp_halves.specs.Streams.{OpenStream, has_number}
+use Rattle.sctp_transfer.specs.Receiver.{filter_of as held_filter}
+use Rattle.sctp_halves.specs.Streams.{OpenStream, stats_in, stream_numbers}
+use Rattle.sctp_halves.specs.Halves.{Sides, reception_of}
 use Rattle.sctp_link.specs.declared.record.Slot.{Slot}
-use Rattle.sctp_link.specs.Linked.{State, IsLinked, IsOpenStream, stats_of}
+use Rattle.sctp_link.specs.Linked.{State, IsLinked, IsOpenStream, stats_of, filter_shown}
 use Rattle.sctp_link.specs.Records.{slot_record, stream_record}
-use Rattle.sctp_link.specs.Receiving.{IsReceiver, Comes, AllCome, TouchesOnly}
+use Rattle.sctp_link.specs.Receiving.{IsReceiver, Comes, AllCome}
+use Rattle.sctp_link.specs.Places.{IsApart}
 use Rattle.sctp_link.proofs.upkeep.Facts.{facts, over}
 use Rattle.sctp_link.proofs.upkeep.StreamsAfter.{stream-then, linked-then}
-use Rattle.sctp_link.proofs.upkeep.Lookups.{none-open}
-use Rattle.sctp_link.proofs.receiver.Hears.{raw-at}
-use Rattle.sctp_link.proofs.receiver.Touched.{numbers-same, stats-same}
+use Rattle.sctp_link.proofs.receiver.Hears.{raw-at, raw-length}
+use Rattle.sctp_link.proofs.receiver.Slots.{core}
 
 -- ## They come to a sound record
 
@@ -115,16 +116,13 @@ all-come sum x l k ps none e =
     over sum x (λ (u : World). refusal_of u (E.Arrive k) ≡ None → slice_get u.network k ≡ Some (Data ps) → AllCome u ps (map (chunk_at u) ps)) l
     (λ n i. comes-run x.world.setup l.history l.setup l.stands.run k n ps i) none e
 
--- what a link keeps for its receiver
-pub receiver-of : (sum : List ℕ → ℕ) (x : State) (l : IsLinked sum x) (slots : List Slot) (dups : List ℕ) → x.world.streams ≡ map stream_record x.open_streams → x.world.slots ≡ map slot_record slots → x.world.duplicates ≡ dups → IsReceiver x.world x.open_streams slots x.filter dups
-receiver-of sum x l slots dups a b c = record {
+-- what the halves of a link have for it
+pub receiver-of : (sum : List ℕ → ℕ) (x : State) (l : IsLinked sum x) (h : Sides) → x.world.streams ≡ map stream_record h.streams → x.open_streams ≡ h.streams → x.filter ≡ held_filter (reception_of h) → IsReceiver x.world h
+receiver-of sum x l h a b c = record {
   streams_are = a;
-  slots_are = b;
-  duplicates_are = c;
-  filter_is = l.filter;
-  queues = λ k d lt. let i = l.open_streams k d lt in record { held = i.held; si = i.si; largest = i.largest };
-  places = x.places;
-  apart = l.apart;
+  filter_is = ap filter_shown (sym c) ∙ l.filter;
+  queues = λ k d lt. let i = subst (λ ls. IsOpenStream x.world (slice_index_or ls k d)) b (l.open_streams k d (omega (arith, lt, ap length b))) in record { held = i.held; si = i.si; largest = i.largest };
+  apart = subst (λ ls. IsApart (stream_numbers ls)) b l.apart;
 }
 
 -- ## The record after them
@@ -189,41 +187,52 @@ module _ (sum : List ℕ → ℕ) (x : State) (l : IsLinked sum x) (k : ℕ) (ps
   counters-stay : (t : ℕ) → counters_on then' t ≡ counters_on here t
   counters-stay t = let f = facts sum x l in counters-same here.setup here (E.Arrive k) t f.sane refl refl
 
-  module _ (js : List ℕ) (ls : List OpenStream) (slots : List Slot) (filter : Filter) (dups : List ℕ) (r : IsReceiver (fold slot_received x.world ps) ls slots filter dups) (t : TouchesOnly js x.open_streams ls) where
-    pub world-received : record x.world { streams = map stream_record ls; slots = map slot_record slots; duplicates = dups } ≡ fold slot_received x.world ps
+  module _ (y : Sides) (slots : List Slot) (dups : List ℕ) (r : IsReceiver (fold slot_received x.world ps) y) (cores : map core y.streams ≡ map core x.open_streams) (slots_are : (fold slot_received x.world ps).slots ≡ map slot_record slots) (dups_are : (fold slot_received x.world ps).duplicates ≡ dups) where
+    world-received : record x.world { streams = map stream_record y.streams; slots = map slot_record slots; duplicates = dups } ≡ fold slot_received x.world ps
     world-received =
         let v = fold slot_received x.world ps in
         ap {B = World} (λ a. record x.world { streams = a; slots = map slot_record slots; duplicates = dups }) (sym r.streams_are)
-        ∙ ap {B = World} (λ a. record x.world { streams = v.streams; slots = a; duplicates = dups }) (sym r.slots_are)
-        ∙ ap {B = World} (λ a. record x.world { streams = v.streams; slots = v.slots; duplicates = a }) (sym r.duplicates_are)
+        ∙ ap {B = World} (λ a. record x.world { streams = v.streams; slots = a; duplicates = dups }) (sym slots_are)
+        ∙ ap {B = World} (λ a. record x.world { streams = v.streams; slots = v.slots; duplicates = a }) (sym dups_are)
         ∙ sym (rest-all x.world x.world ps refl)
 
-    stream-received : (j : ℕ) (d : OpenStream) → j < length ls → IsOpenStream then' (slice_index_or ls j d)
+    many : length y.streams ≡ length x.open_streams
+    many = sym (raw-length core y.streams) ∙ ap length cores ∙ raw-length core x.open_streams
+
+    core-at : (j : ℕ) (d : OpenStream) → j < length y.streams → core (slice_index_or y.streams j d) ≡ core (slice_index_or x.open_streams j d)
+    core-at j d lt =
+        sym (raw-at core y.streams j (core d) d lt) ∙ ap (λ ls. slice_index_or ls j (core d)) cores
+        ∙ raw-at core x.open_streams j (core d) d (omega (arith, lt, many))
+
+    stream-received : (j : ℕ) (d : OpenStream) → j < length y.streams → IsOpenStream then' (slice_index_or y.streams j d)
     stream-received j d lt =
-        let less : j < length x.open_streams = omega (arith, lt, t.count) in
-        let y = slice_index_or x.open_streams j d in
-        let z = slice_index_or ls j d in
-        let i = l.open_streams j d less in
-        let touched = t.each j d less in
+        let o = slice_index_or x.open_streams j d in
+        let z = slice_index_or y.streams j d in
+        let i = l.open_streams j d (omega (arith, lt, many)) in
+        let c = core-at j d lt in
         let q = r.queues j d lt in
-        let state = touched.state in
-        let id = ap (λ (s : StreamState). s.stream_identifier) state in
-        stream-then sum x l (E.Arrive k) none frame refl y z i id
-        (q.held ∙ ap (reassembly_of (fold slot_received here ps)) id ∙ ap (λ u. reassembly_of u y.state.stream_identifier) (sym after-is))
+        let id = ap (λ (t : OpenStream). t.state.stream_identifier) c in
+        stream-then sum x l (E.Arrive k) none frame refl o z i id
+        (q.held ∙ ap (reassembly_of (fold slot_received here ps)) id ∙ ap (λ u. reassembly_of u o.state.stream_identifier) (sym after-is))
         (q.si ∙ id ∙ sym i.si)
         (q.largest ∙ ap (λ s. s.largest) (Network.same-slots here ps).setup ∙ sym i.largest)
-        (ap (λ (s : StreamState). s.max_payload_size) state) touched.ordered (ap (λ (s : StreamState). s.sequence_number) state) touched.begun (touched.next ∙ i.next ∙ sym (next-stays y.state.stream_identifier))
-        (ap (λ (s : StreamState). s.buffered_amount) state) (stats-same y z touched ∙ i.stats ∙ ap stats_of (sym (counters-stay y.state.stream_identifier)))
+        (ap (λ (t : OpenStream). t.state.max_payload_size) c) (ap (λ (t : OpenStream). t.ordered) c) (ap (λ (t : OpenStream). t.state.sequence_number) c) (ap (λ (t : OpenStream). t.begun) c)
+        (ap (λ (t : OpenStream). t.next) c ∙ i.next ∙ sym (next-stays o.state.stream_identifier))
+        (ap (λ (t : OpenStream). t.state.buffered_amount) c) (ap stats_in c ∙ i.stats ∙ ap stats_of (sym (counters-stay o.state.stream_identifier)))
 
-    pub linked-received : IsLinked sum (record x { world = record x.world { streams = map stream_record ls; slots = map slot_record slots; duplicates = dups }; open_streams = ls; filter = filter })
+    numbers-same : stream_numbers y.streams ≡ stream_numbers x.open_streams
+    numbers-same = numbers-core y.streams ∙ ap (map (λ (t : OpenStream). t.state.stream_identifier)) cores ∙ sym (numbers-core x.open_streams)
+      where
+        numbers-core : (ls : List OpenStream) → stream_numbers ls ≡ map (λ (t : OpenStream). t.state.stream_identifier) (map core ls)
+        numbers-core [] = refl
+        numbers-core (t ∷ ls) = ap (λ ns. t.state.stream_identifier ∷ ns) (numbers-core ls)
+
+    pub linked-received : IsLinked sum (record x { world = record x.world { streams = map stream_record y.streams; slots = map slot_record slots; duplicates = dups }; open_streams = y.streams; filter = held_filter (reception_of y) })
     linked-received =
-        linked-then sum x l (E.Arrive k) none frame x.progress ls filter (record x.world { streams = map stream_record ls; slots = map slot_record slots; duplicates = dups }) refl
-        (r.filter_is ∙ ap filter_of (sym after-is)) stream-received (subst (λ ns. IsIndexed x.places ns) (sym (numbers-same js x.open_streams ls t)) l.apart) quiet (world-received ∙ sym after-is)
+        linked-then sum x l (E.Arrive k) none frame x.progress y.streams (held_filter (reception_of y)) (record x.world { streams = map stream_record y.streams; slots = map slot_record slots; duplicates = dups }) refl
+        (r.filter_is ∙ ap filter_of (sym after-is)) stream-received (subst IsApart (sym numbers-same) l.apart) quiet (world-received ∙ sym after-is)
 
-    pub linked-then-at : (places : BTreeMap ℕ ℕ) → places ≡ x.places → IsLinked sum (record x { world = record x.world { streams = map stream_record ls; slots = map slot_record slots; duplicates = dups }; open_streams = ls; places = places; filter = filter })
-    linked-then-at places same = subst (λ m. IsLinked sum (record x { world = record x.world { streams = map stream_record ls; slots = map slot_record slots; duplicates = dups }; open_streams = ls; places = m; filter = filter })) (sym same) linked-received
-
-    pub right-received : (new : Bool) (reply : R.Reply) → new ≡ list_any (is_new x.world) ps → reply ≡ (if new then R.New else R.Repeat) → IsRight x.world (E.Arrive k) reply (record x.world { streams = map stream_record ls; slots = map slot_record slots; duplicates = dups })
+    pub right-received : (new : Bool) (reply : R.Reply) → new ≡ list_any (is_new x.world) ps → reply ≡ (if new then R.New else R.Repeat) → IsRight x.world (E.Arrive k) reply (record x.world { streams = map stream_record y.streams; slots = map slot_record slots; duplicates = dups })
     right-received new reply a b = record {
       right = b ∙ ap (λ c. if c then R.New else R.Repeat) a ∙ sym (ap (arrive_reply here) e);
       moves = world-received ∙ sym after-is;
@@ -245,10 +254,3 @@ module _ (sum : List ℕ → ℕ) (x : State) (l : IsLinked sum x) (k : ℕ) (ps
 
   pub all-carried : (i : ℕ) → i < length ps → Carried x.world (slice_index_or ps i 0)
   all-carried i lt = let f = fragment-at ps i all-fragments lt in carried x.world.setup x.world (slice_index_or ps i 0) (facts sum x l).sane f.0 f.1
-
-  pub all-found : x.world.streams ≡ map stream_record x.open_streams → (i : ℕ) (c : ChunkPayloadData) → i < length ps → find (has_number (slice_index_or (map (chunk_at x.world) ps) i c).stream_identifier) x.open_streams ≡ None → ⊥
-  all-found streams i c lt none =
-      let p = slice_index_or ps i 0 in
-      let s = (message_at x.world (message_of x.world p)).stream in
-      let same : (slice_index_or (map (chunk_at x.world) ps) i c).stream_identifier ≡ s = ap (λ (y : ChunkPayloadData). y.stream_identifier) (raw-at (chunk_at x.world) ps i c 0 lt) in
-      not_both (sym (none-open x.world s x.open_streams streams (ap (λ t. find (has_number t) x.open_streams) (sym same) ∙ none)) ∙ ap is_some (all-carried i lt).known.1)

@@ -1,16 +1,16 @@
--- A slot of a datagram comes: what a link keeps for its receiver then.
-use Rattle.std.proofs.Common.{◌≡◌, ℕ, ◌<◌, Bool, true, false, List, [], ◌∷◌, ◌++◌, length, map, refl, ap, sym, ◌∙◌, arith}
-use Rattle.std.specs.Prelude.{◌==◌, ◌&&◌, not, nat_le, if◌then◌else◌, slice_index_or, slice_set}
+-- A slot of a datagram comes: what the receiver of a link has then.
+use Rattle.std.proofs.Common.{◌≡◌, ℕ, zero, suc, ◌<◌, Bool, true, false, List, [], ◌∷◌, ◌++◌, length, map, Option, Some, None, refl, ap, sym, ◌∙◌, arith}
+use Rattle.std.specs.Prelude.{◌==◌, ◌&&◌, not, nat_le, if◌then◌else◌, find, option_map, is_some, slice_index_or, slice_set}
 use Rattle.std.specs.List.{list_all}
 use Rattle.std.proofs.Math.Path.{subst}
 use Rattle.std.proofs.lemmas.List.{length-set}
-use Rattle.sctp_lists.specs.Lists.{changed, inserted}
+use Rattle.sctp_lists.specs.Lists.{changed, change_where, inserted}
 use Rattle.sctp_lists.proofs.Cases.{same-yes, and-none}
 use Rattle.sctp_chunks.specs.declared.chunk.chunk_payload_data.ChunkPayloadData.{ChunkPayloadData}
 use Rattle.sctp_serial.specs.DataChunks.{chunk_before}
 use Rattle.sctp_reassembly.specs.reassembly_queue.ReassemblyQueue.{Reassembly, ReassemblyState, is_too_large, held_after_ordered_push, BecomesWhole}
 use Rattle.sctp_model.specs.World.{World, StreamRecord}
-use Rattle.sctp_model.specs.Messages.{message_at, message_of, slots_of, index_of, tsn_of, no_slot}
+use Rattle.sctp_model.specs.Messages.{message_at, message_of, slots_of, index_of, tsn_of}
 use Rattle.sctp_model.specs.Receiver.{is_new, has_arrived}
 use Rattle.sctp_model.specs.Changes.{slot_received, becomes_whole, with_whole, whole_noted, stream_changed, mark_arrived}
 use Rattle.sctp_model.specs.Contents.{chunk_at}
@@ -23,15 +23,22 @@ use Rattle.sctp_ties.proofs.arriving.SlotArrives
 use Rattle.sctp_ties.proofs.arriving.SlotArrives.{Enters, ordered-slot, unordered-slot}
 use Rattle.sctp_ties.proofs.reading.Keeps
 use Rattle.sctp_stream.specs.declared.stream.StreamState.{StreamState}
+use Rattle.sctp_transfer.specs.declared.receiver.arrival.Arrival.{Arrival}
+use Rattle.sctp_transfer.specs.declared.receiver.arrival.Arrival.TheVariants.{New, Repeat}
+use Rattle.sctp_transfer.specs.declared.receiver.inbound_streams.InboundStream.{InboundStream}
+use Rattle.sctp_transfer.specs.declared.receiver.refusal.ReceiverRefusal.{ReceiverRefusal}
+use Rattle.sctp_transfer.specs.declared.receiver.refusal.ReceiverRefusal.TheVariants.{TsnOpposite, MessageTooLarge}
+use Rattle.sctp_transfer.specs.Inbound as Inbound
+use Rattle.sctp_transfer.specs.Receiver.{filter_of as held_filter, stream_of as inbound_of, stream_refusal, data_refusal, arrival_of}
 use Rattle.sctp_transfer.specs.TsnFilter.{Filter, has_come, is_opposite, with_tsn, with_duplicate}
-use Rattle.sctp_halves.specs.Streams.{Keeps, OpenStream, stream_numbers}
-use Rattle.sctp_link.specs.declared.record.Slot.{Slot}
-use Rattle.sctp_link.specs.Records.{slot_record, stream_record}
-use Rattle.sctp_link.specs.Receiving.{HoldsQueue, IsReceiver, Comes}
-use Rattle.sctp_link.proofs.upkeep.Apart.{IsApart, apart, differ, each-set, map-set, map-set_same, streams-set}
-use Rattle.sctp_link.proofs.upkeep.Places.{indexed-set}
+use Rattle.sctp_halves.specs.Streams.{Keeps, OpenStream, has_number, stream_numbers}
+use Rattle.sctp_halves.specs.Halves.{Sides, reception_of, with_filter_of, on_stream, is_open, Accepts, Takes, repeated}
+use Rattle.sctp_link.specs.Records.{stream_record}
+use Rattle.sctp_link.specs.Receiving.{HoldsQueue, IsReceiver, Comes, is_first}
+use Rattle.sctp_link.specs.Places.{IsApart}
+use Rattle.sctp_link.proofs.upkeep.Apart.{differ, each-set, map-set_same, number-found, stream-found, streams-set}
+use Rattle.sctp_link.proofs.upkeep.Places.{placed, changed-found, apart-set}
 use Rattle.sctp_link.proofs.receiver.Came.{come-is, near-is, filter-new, filter-again}
-use Rattle.sctp_link.proofs.receiver.Hears.{raw-at, raw-length}
 
 and-yes : (b : Bool) → (b && true) ≡ b
 and-yes true = refl
@@ -41,47 +48,90 @@ and-yes false = refl
 abbrev pub shown : ℕ → StreamState → List ℕ → StreamRecord
 shown named s whole = record { stream = s.stream_identifier; unordered = s.unordered; reliability = s.reliability_type; value = s.reliability_value; named = named; whole = whole }
 
-module _ (w : World) (ls : List OpenStream) (slots : List Slot) (filter : Filter) (dups : List ℕ) (r : IsReceiver w ls slots filter dups) (p : ℕ) (c : ChunkPayloadData) (m : Comes w p c) where
+-- what no chunk changes of a stream: all but what came on it and which messages are whole
+abbrev pub core : OpenStream → OpenStream
+core l = record l { inbound = record l.inbound { queue = record { si = 0; held = record { next_ssn = 0; ordered = []; unordered = []; loose = [] }; bytes = 0; max_message_size = 0 } }; whole = [] }
+
+-- what came on the stream with a number
+inbound-found : (s : ℕ) (ls : List OpenStream) → ((k : ℕ) (d : OpenStream) → k < length ls → (slice_index_or ls k d).inbound.queue.si ≡ (slice_index_or ls k d).state.stream_identifier) → find (Inbound.has_number s) (map (λ l. l.inbound) ls) ≡ option_map (λ l. l.inbound) (find (has_number s) ls)
+inbound-found s [] all = refl
+inbound-found s (l ∷ ls) all =
+    ap (λ i. if i == s then Some l.inbound else find (Inbound.has_number s) (map (λ l. l.inbound) ls)) (all 0 l (omega arith))
+    ∙ step (l.state.stream_identifier == s) (inbound-found s ls (λ k d lt. all (suc k) d (omega (arith, lt))))
+  where
+    step : (b : Bool) → find (Inbound.has_number s) (map (λ l. l.inbound) ls) ≡ option_map (λ l. l.inbound) (find (has_number s) ls) → (if b then Some l.inbound else find (Inbound.has_number s) (map (λ l. l.inbound) ls)) ≡ option_map (λ (l : OpenStream). l.inbound) (if b then Some l else find (has_number s) ls)
+    step true ih = refl
+    step false ih = ih
+
+mapped-some : (o : Option OpenStream) (r : StreamRecord) → option_map stream_record o ≡ Some r → (l : OpenStream) × (o ≡ Some l)
+mapped-some None r e = cc
+mapped-some (Some l) r e = (l, refl)
+
+-- what one slot makes
+pub record One (w : World) (x : Sides) (p : ℕ) (a : Arrival) (y : Sides) : Type 0 where
+  pub receiver : IsReceiver (slot_received w p) y
+  pub cores : map core y.streams ≡ map core x.streams
+  pub rest : y ≡ record x { streams = y.streams; cumulative_tsn = y.cumulative_tsn; beyond = y.beyond; duplicates = y.duplicates }
+  pub answer : is_first a ≡ is_new w p
+  pub slots : (slot_received w p).slots ≡ (if is_first a then changed mark_arrived p w.slots else w.slots)
+  pub duplicates : (slot_received w p).duplicates ≡ (if is_first a then w.duplicates else w.duplicates ++ p ∷ [])
+
+module _ (w : World) (x : Sides) (r : IsReceiver w x) (p : ℕ) (c : ChunkPayloadData) (m : Comes w p c) where
   abbrev n : ℕ
   n = message_of w p
 
   abbrev s : ℕ
   s = (message_at w (message_of w p)).stream
 
+  abbrev f : Filter
+  f = held_filter (reception_of x)
+
   tsn-is : c.tsn ≡ tsn_of w p
   tsn-is = ap (λ (y : ChunkPayloadData). y.tsn) m.chunk
 
-  pub slot-inside : p < length slots
-  slot-inside = omega (arith, m.sound.made, ap length r.slots_are, raw-length slot_record slots)
-
-  -- the number of its message
-  pub number-is : (o : Slot) → o ≡ slice_index_or slots p o → o.message ≡ message_of w p
-  number-is o e =
-      ap (λ (t : Slot). t.message) e ∙ sym (ap (λ t. t.message) (ap (λ xs. slice_index_or xs p no_slot) r.slots_are ∙ raw-at slot_record slots p no_slot o slot-inside))
+  id-is : c.stream_identifier ≡ s
+  id-is = ap (λ (y : ChunkPayloadData). y.stream_identifier) m.chunk
 
   -- whether its TSN came, as the record says
-  pub told : has_come c.tsn filter ≡ not (is_new w p)
-  told = ap (λ t. has_come t filter) tsn-is ∙ come-is w filter m.sound.sound.skipped_made m.sound.sound.few r.filter_is p m.sound.made
+  told : has_come c.tsn f ≡ not (is_new w p)
+  told = ap (λ t. has_come t f) tsn-is ∙ come-is w f m.sound.sound.skipped_made m.sound.sound.few r.filter_is p m.sound.made
+
+  -- its stream is open
+  there : (l : OpenStream) × (find (has_number c.stream_identifier) x.streams ≡ Some l)
+  there =
+      mapped-some (find (has_number c.stream_identifier) x.streams) m.known.0
+      (sym (stream-found c.stream_identifier x.streams) ∙ ap (find (λ (q : StreamRecord). q.stream == c.stream_identifier)) (sym r.streams_are)
+      ∙ ap (λ t. find (λ (q : StreamRecord). q.stream == t) w.streams) id-is ∙ m.known.1)
+
+  pub opened : is_open c.stream_identifier x ≡ true
+  opened = ap is_some there.1
 
   -- ## It came before
 
   module _ (old : is_new w p ≡ false) where
-    pub again : (filter' : Filter) (dups' : List ℕ) → filter' ≡ with_duplicate c.tsn filter → dups' ≡ dups ++ p ∷ [] → IsReceiver (slot_received w p) ls slots filter' dups'
-    again filter' dups' f e =
+    again : (y : Sides) → y ≡ repeated c.tsn x → IsReceiver (slot_received w p) y
+    again y e =
         let is = SlotArrives.repeated w p old in
-        record {
+        subst (IsReceiver (slot_received w p)) (sym e) (record {
           streams_are = ap (λ v. v.streams) is ∙ r.streams_are;
-          slots_are = ap (λ v. v.slots) is ∙ r.slots_are;
-          duplicates_are = ap (λ v. v.duplicates) is ∙ ap (λ d. d ++ p ∷ []) r.duplicates_are ∙ sym e;
-          filter_is = filter-again w p filter filter' old r.filter_is (f ∙ ap (λ t. with_duplicate t filter) tsn-is);
+          filter_is = filter-again w p f (with_duplicate c.tsn f) old r.filter_is (ap (λ t. with_duplicate t f) tsn-is);
           queues = λ k d lt. let q = r.queues k d lt in record {
-            held = q.held ∙ sym (SlotArrives.repeated-reassembly w p (slice_index_or ls k d).state.stream_identifier old);
+            held = q.held ∙ sym (SlotArrives.repeated-reassembly w p (slice_index_or x.streams k d).state.stream_identifier old);
             si = q.si;
             largest = q.largest ∙ sym (ap (λ t. t.largest) (Network.same-slot w p).setup);
           };
-          places = r.places;
-          indexed = r.indexed;
-        }
+          apart = r.apart;
+        })
+
+    one-again : (y : Sides) → y ≡ repeated c.tsn x → One w x p Repeat y
+    one-again y e = let is = SlotArrives.repeated w p old in record {
+      receiver = again y e;
+      cores = ap (λ (z : Sides). map core z.streams) e;
+      rest = subst (λ (z : Sides). z ≡ record x { streams = z.streams; cumulative_tsn = z.cumulative_tsn; beyond = z.beyond; duplicates = z.duplicates }) (sym e) refl;
+      answer = sym old;
+      slots = ap (λ v. v.slots) is;
+      duplicates = ap (λ v. v.duplicates) is;
+    }
 
   -- ## It is new
 
@@ -102,33 +152,40 @@ module _ (w : World) (ls : List OpenStream) (slots : List Slot) (filter : Filter
     noted-is : slot_received w p ≡ whole_noted (with_arrived w p) n
     noted-is = ap (λ b. if b then whole_noted (with_arrived w p) n else record w { duplicates = w.duplicates ++ p ∷ [] }) new
 
-    -- what the filter asks of its TSN
-    pub fresh : has_come c.tsn filter ≡ false
+    fresh : has_come c.tsn f ≡ false
     fresh = told ∙ ap not new
 
-    pub near : is_opposite c.tsn filter ≡ false
-    near = ap (λ t. is_opposite t filter) tsn-is ∙ near-is w filter m.sound.sound.skipped_made m.sound.sound.few r.filter_is p m.sound.made new
+    near : is_opposite c.tsn f ≡ false
+    near = ap (λ t. is_opposite t f) tsn-is ∙ near-is w f m.sound.sound.skipped_made m.sound.sound.few r.filter_is p m.sound.made new
 
-    module _ (at : ℕ) (lt : at < length ls) (number-is : (d : OpenStream) → (slice_index_or ls at d).state.stream_identifier ≡ c.stream_identifier) (d : OpenStream) where
+    slots-noted : (b : Bool) → (if b then stream_changed (with_arrived w p) s (with_whole n) else with_arrived w p).slots ≡ changed mark_arrived p w.slots
+    slots-noted true = refl
+    slots-noted false = refl
+
+    duplicates-noted : (b : Bool) → (if b then stream_changed (with_arrived w p) s (with_whole n) else with_arrived w p).duplicates ≡ w.duplicates
+    duplicates-noted true = refl
+    duplicates-noted false = refl
+
+    module _ (at : ℕ) (lt : at < length x.streams) (number-is : (d : OpenStream) → (slice_index_or x.streams at d).state.stream_identifier ≡ c.stream_identifier) (d : OpenStream) where
       abbrev y : OpenStream
-      y = slice_index_or ls at d
+      y = slice_index_or x.streams at d
 
-      id-at : (d : OpenStream) → (slice_index_or ls at d).state.stream_identifier ≡ s
-      id-at d = number-is d ∙ ap (λ (x : ChunkPayloadData). x.stream_identifier) m.chunk
+      id-at : (d : OpenStream) → (slice_index_or x.streams at d).state.stream_identifier ≡ s
+      id-at d = number-is d ∙ id-is
 
       here : y.inbound.queue.held ≡ reassembly_of w s
       here = (r.queues at d lt).held ∙ ap (reassembly_of w) (id-at d)
 
       -- what the stream's queue asks of the chunk
-      pub small : is_too_large c y.inbound.queue ≡ false
+      small : is_too_large c y.inbound.queue ≡ false
       small = m.small new y.inbound.queue here (r.queues at d lt).largest
 
-      pub its-stream : (c.stream_identifier == y.inbound.queue.si) ≡ true
-      its-stream = ap (λ t. c.stream_identifier == t) ((r.queues at d lt).si ∙ number-is d) ∙ same-yes c.stream_identifier
+      module _ (z : OpenStream) (number : ℕ) (number_is : number ≡ message_of w p) (keeps' : Keeps c number (slice_index_or x.streams at d) z) where
+        keeps : Keeps (chunk_at w p) number (slice_index_or x.streams at d) z
+        keeps = subst (λ k. Keeps k number (slice_index_or x.streams at d) z) m.chunk keeps'
 
-      module _ (z : OpenStream) (number : ℕ) (number_is : number ≡ message_of w p) (keeps' : Keeps c number (slice_index_or ls at d) z) where
-        keeps : Keeps (chunk_at w p) number (slice_index_or ls at d) z
-        keeps = subst (λ x. Keeps x number (slice_index_or ls at d) z) m.chunk keeps'
+        state-is : z.state ≡ y.state
+        state-is = ap (λ (l : OpenStream). l.state) keeps.rest
 
         record Holds : Type 0 where
           queue : z.inbound.queue.held ≡ reassembly_of (slot_received w p) s
@@ -160,56 +217,115 @@ module _ (w : World) (ls : List OpenStream) (slots : List Slot) (filter : Filter
         holds = holds-by (message_at w n).ordered refl
 
         same-id : z.state.stream_identifier ≡ y.state.stream_identifier
-        same-id = ap (λ (t : StreamState). t.stream_identifier) keeps.state
+        same-id = ap (λ (t : StreamState). t.stream_identifier) state-is
 
-        streams-apart : IsApart (stream_numbers ls)
-        streams-apart = apart r.places (stream_numbers ls) r.indexed
+        streams-apart : IsApart (stream_numbers x.streams)
+        streams-apart = r.apart
 
         shown-is : (b : Bool) → becomes_whole (with_arrived w p) n ≡ b → stream_record z ≡ shown y.named y.state (if b then y.whole ++ n ∷ [] else y.whole)
         shown-is b h =
-            ap (λ (t : StreamState). shown z.named t z.whole) keeps.state
-            ∙ ap (λ n. shown n y.state z.whole) keeps.named
-            ∙ ap (shown y.named y.state) (keeps.noted ∙ ap (λ c. if c then y.whole ++ number ∷ [] else y.whole) (holds.noted ∙ h) ∙ ap (λ i. if b then y.whole ++ i ∷ [] else y.whole) number_is)
+            ap (λ (t : StreamState). shown z.named t z.whole) state-is
+            ∙ ap (λ n. shown n y.state z.whole) (ap (λ (l : OpenStream). l.named) keeps.rest)
+            ∙ ap (shown y.named y.state) (ap (λ (l : OpenStream). l.whole) keeps.rest ∙ ap (λ c. if c then y.whole ++ number ∷ [] else y.whole) (holds.noted ∙ h) ∙ ap (λ i. if b then y.whole ++ i ∷ [] else y.whole) number_is)
 
-        streams-are : (b : Bool) → becomes_whole (with_arrived w p) n ≡ b → (if b then stream_changed (with_arrived w p) s (with_whole n) else with_arrived w p).streams ≡ map stream_record (slice_set ls at z)
+        streams-are : (b : Bool) → becomes_whole (with_arrived w p) n ≡ b → (if b then stream_changed (with_arrived w p) s (with_whole n) else with_arrived w p).streams ≡ map stream_record (slice_set x.streams at z)
         streams-are true h = sym (
-            streams-set ls at z d (with_whole n) streams-apart lt (shown-is true h)
-            ∙ ap (λ t. map (λ (q : StreamRecord). if q.stream == t then with_whole n q else q) (map stream_record ls)) (id-at d)
+            streams-set x.streams at z d (with_whole n) streams-apart lt (shown-is true h)
+            ∙ ap (λ t. map (λ (q : StreamRecord). if q.stream == t then with_whole n q else q) (map stream_record x.streams)) (id-at d)
             ∙ ap (map (λ (q : StreamRecord). if q.stream == s then with_whole n q else q)) (sym r.streams_are))
-        streams-are false h = sym (map-set_same stream_record ls at z d (shown-is false h) ∙ sym r.streams_are)
+        streams-are false h = sym (map-set_same stream_record x.streams at z d (shown-is false h) ∙ sym r.streams_are)
 
         rest-is : (b : Bool) → (if b then stream_changed (with_arrived w p) s (with_whole n) else with_arrived w p) ≡ record (with_arrived w p) { streams = (if b then stream_changed (with_arrived w p) s (with_whole n) else with_arrived w p).streams }
         rest-is true = refl
         rest-is false = refl
 
-        all-is : slot_received w p ≡ record (with_arrived w p) { streams = map stream_record (slice_set ls at z) }
+        all-is : slot_received w p ≡ record (with_arrived w p) { streams = map stream_record (slice_set x.streams at z) }
         all-is =
             let b = becomes_whole (with_arrived w p) n in
             noted-is ∙ rest-is b ∙ ap {B = World} (λ rs. record (with_arrived w p) { streams = rs }) (streams-are b refl)
 
-        queue-then : (k : ℕ) (e : OpenStream) → k < length (slice_set ls at z) → HoldsQueue (slot_received w p) (slice_index_or (slice_set ls at z) k e)
+        queue-then : (k : ℕ) (e : OpenStream) → k < length (slice_set x.streams at z) → HoldsQueue (slot_received w p) (slice_index_or (slice_set x.streams at z) k e)
         queue-then k e less =
-            let inside : k < length ls = omega (arith, less, length-set ls at z) in
+            let inside : k < length x.streams = omega (arith, less, length-set x.streams at z) in
             let same = ap (λ t. t.largest) (Network.same-slot w p).setup in
-            each-set (HoldsQueue (slot_received w p)) ls at k z e lt
+            each-set (HoldsQueue (slot_received w p)) x.streams at k z e lt
             (record {
               held = holds.queue ∙ ap (reassembly_of (slot_received w p)) (sym (same-id ∙ id-at d));
               si = holds.si ∙ (r.queues at d lt).si ∙ sym same-id;
               largest = holds.largest ∙ (r.queues at d lt).largest ∙ sym same;
             })
             (λ ne. let q = r.queues k e inside in record {
-              held = q.held ∙ sym (elsewhere (slice_index_or ls k e).state.stream_identifier (λ h. differ ls k at e streams-apart inside lt ne (h ∙ sym (id-at e))));
+              held = q.held ∙ sym (elsewhere (slice_index_or x.streams k e).state.stream_identifier (λ h. differ x.streams k at e streams-apart inside lt ne (h ∙ sym (id-at e))));
               si = q.si;
               largest = q.largest ∙ sym same;
             })
 
-        pub kept : (mid filter' : Filter) (slots' : List Slot) (o : Slot) → mid ≡ record filter { room = mid.room } → filter' ≡ record (with_tsn c.tsn mid) { room = filter'.room } → slots' ≡ slice_set slots p (record (slice_index_or slots p o) { arrived = true }) → IsReceiver (slot_received w p) (slice_set ls at z) slots' filter' dups
-        kept mid filter' slots' o reserved put marked = record {
+        kept : IsReceiver (slot_received w p) (with_filter_of (with_tsn c.tsn f) (record x { streams = slice_set x.streams at z }))
+        kept = record {
           streams_are = ap (λ v. v.streams) all-is;
-          slots_are = ap (λ v. v.slots) all-is ∙ ap (changed mark_arrived p) r.slots_are ∙ sym (ap (map slot_record) marked ∙ map-set slot_record mark_arrived slots p (record (slice_index_or slots p o) { arrived = true }) o slot-inside refl);
-          duplicates_are = ap (λ v. v.duplicates) all-is ∙ r.duplicates_are;
-          filter_is = filter-new w p filter mid filter' m.sound.sound m.sound.made new r.filter_is reserved (put ∙ ap (λ t. let f : Filter = record (with_tsn t mid) { room = filter'.room } in f) tsn-is);
+          filter_is = filter-new w p f (with_tsn c.tsn f) m.sound.sound m.sound.made new r.filter_is (ap (λ t. with_tsn t f) tsn-is);
           queues = queue-then;
-          places = r.places;
-          indexed = indexed-set r.places ls at z d r.indexed same-id;
+          apart = apart-set x.streams at z d r.apart same-id;
         }
+
+        set-is : slice_set x.streams at z ≡ change_where (has_number c.stream_identifier) (λ _. z) x.streams
+        set-is = changed-found c.stream_identifier x.streams streams-apart (λ _. z) at d lt (number-is d)
+
+        core-is : core z ≡ core y
+        core-is = ap core keeps.rest
+
+        one-kept : (u : Sides) → u ≡ with_filter_of (with_tsn c.tsn f) (on_stream c.stream_identifier (λ _. z) x) → One w x p New u
+        one-kept u e =
+            let b = becomes_whole (with_arrived w p) n in
+            let is : u ≡ with_filter_of (with_tsn c.tsn f) (record x { streams = slice_set x.streams at z }) = e ∙ ap (λ ls. with_filter_of (with_tsn c.tsn f) (record x { streams = ls })) (sym set-is) in
+            record {
+              receiver = subst (IsReceiver (slot_received w p)) (sym is) kept;
+              cores = ap (λ (v : Sides). map core v.streams) is ∙ map-set_same core x.streams at z d core-is;
+              rest = subst (λ (v : Sides). v ≡ record x { streams = v.streams; cumulative_tsn = v.cumulative_tsn; beyond = v.beyond; duplicates = v.duplicates }) (sym is) refl;
+              answer = sym new;
+              slots = ap (λ v. v.slots) noted-is ∙ slots-noted b;
+              duplicates = ap (λ v. v.duplicates) noted-is ∙ duplicates-noted b;
+            }
+
+    number-at : (l : OpenStream) (k : ℕ) → find (has_number c.stream_identifier) x.streams ≡ Some l → ((d : OpenStream) → slice_index_or x.streams k d ≡ l) → (d : OpenStream) → (slice_index_or x.streams k d).state.stream_identifier ≡ c.stream_identifier
+    number-at l k found is d = ap (λ (q : OpenStream). q.state.stream_identifier) (is d) ∙ number-found c.stream_identifier x.streams l found
+
+    one-new : (number : ℕ) (u : Sides) → number ≡ message_of w p → Accepts c number x u → One w x p New u
+    one-new number u number_is a =
+        let k = placed c.stream_identifier x.streams a.stream a.found in
+        one-kept k.0 k.1.0 (number-at a.stream k.0 a.found k.1.1) a.stream a.kept number number_is (subst (λ l. Keeps c number l a.kept) (sym (k.1.1 a.stream)) a.keeps) u a.after
+
+    small-there : is_too_large c there.0.inbound.queue ≡ false
+    small-there =
+        let k = placed c.stream_identifier x.streams there.0 there.1 in
+        subst (λ (l : OpenStream). is_too_large c l.inbound.queue ≡ false) (k.1.1 there.0) (small k.0 k.1.0 (number-at there.0 k.0 there.1 k.1.1) there.0)
+
+  -- ## Whether it is
+
+  -- the receiver refuses no such chunk
+  pub accepted : data_refusal c (reception_of x) ≡ None
+  accepted = by (is_new w p) refl
+    where
+      rest-refusal : Option ReceiverRefusal
+      rest-refusal = stream_refusal c (inbound_of c.stream_identifier (reception_of x))
+
+      by : (b : Bool) → is_new w p ≡ b → data_refusal c (reception_of x) ≡ None
+      by false old = ap (λ b. if b then None else (if is_opposite c.tsn f then Some TsnOpposite else rest-refusal)) (told ∙ ap not old)
+      by true new =
+          ap (λ b. if b then None else (if is_opposite c.tsn f then Some TsnOpposite else rest-refusal)) (fresh new)
+          ∙ ap (λ b. if b then Some TsnOpposite else rest-refusal) (near new)
+          ∙ ap (stream_refusal c) (inbound-found c.stream_identifier x.streams (λ k d lt. (r.queues k d lt).si) ∙ ap (option_map (λ (l : OpenStream). l.inbound)) there.1)
+          ∙ ap (λ b. if b then Some MessageTooLarge else None) (small-there new)
+
+  -- and takes it as the record does
+  pub one : (number : ℕ) (a : Arrival) (u : Sides) → number ≡ message_of w p → a ≡ arrival_of c (reception_of x) → Takes c number a x u → One w x p a u
+  one number a u number_is e t = by a e t (is_new w p) refl
+    where
+      told-is : (b : Bool) → is_new w p ≡ b → arrival_of c (reception_of x) ≡ (if not b then Repeat else New)
+      told-is b h = ap (λ b. if b then Repeat else New) (told ∙ ap not h)
+
+      by : (a : Arrival) → a ≡ arrival_of c (reception_of x) → Takes c number a x u → (b : Bool) → is_new w p ≡ b → One w x p a u
+      by New e t true h = one-new h number u number_is t
+      by New e t false h = let z : New ≡ Repeat = e ∙ told-is false h in cc
+      by Repeat e t true h = let z : Repeat ≡ New = e ∙ told-is true h in cc
+      by Repeat e t false h = one-again h u t

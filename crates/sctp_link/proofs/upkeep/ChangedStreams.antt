@@ -39,11 +39,11 @@ records-changed f g e s (l ∷ ls) = ap (λ x. x ∷ map stream_record (change_w
 
 -- what holds of each stream, and after the change of those with the number, holds of each one then
 pub each-changed : (P : OpenStream → Type 0) (g : OpenStream → OpenStream) (s : ℕ) (ls : List OpenStream) → ((k : ℕ) (d : OpenStream) → k < length ls → (slice_index_or ls k d).state.stream_identifier ≡ s → P (g (slice_index_or ls k d))) → ((k : ℕ) (d : OpenStream) → k < length ls → ((slice_index_or ls k d).state.stream_identifier ≡ s → ⊥) → P (slice_index_or ls k d)) → (k : ℕ) (d : OpenStream) → k < length (change_where (has_number s) g ls) → P (slice_index_or (change_where (has_number s) g ls) k d)
-each-changed P g s ls yes no k d lt = subst P (sym (changed-at g s ls k d below)) (by (s == (slice_index_or ls k d).state.stream_identifier) refl)
+each-changed P g s ls on off k d lt = subst P (sym (changed-at g s ls k d below)) (by (s == (slice_index_or ls k d).state.stream_identifier) refl)
   where
     below : k < length ls
     below = omega (arith, lt, length-change_where (has_number s) g ls)
 
     by : (b : Bool) → (s == (slice_index_or ls k d).state.stream_identifier) ≡ b → P (if b then g (slice_index_or ls k d) else slice_index_or ls k d)
-    by true e = yes k d below (sym (same-is s (slice_index_or ls k d).state.stream_identifier e))
-    by false e = no k d below (λ z. not_both (sym e ∙ ap (λ n. s == n) z ∙ same-yes s))
+    by true e = on k d below (sym (same-is s (slice_index_or ls k d).state.stream_identifier e))
+    by false e = off k d below (λ z. not_both (sym e ∙ ap (λ n. s == n) z ∙ same-yes s))

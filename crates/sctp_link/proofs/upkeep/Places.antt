@@ -17,11 +17,11 @@ use Rattle.sctp_link.proofs.upkeep.ChangedStreams.{fields-same}
 -- the place of a stream that is found
 pub placed : (s : ℕ) (ls : List OpenStream) (l : OpenStream) → find (has_number s) ls ≡ Some l → (k : ℕ) × ((k < length ls) × ((d : OpenStream) → slice_index_or ls k d ≡ l))
 placed s [] l e = cc
-placed s (x ∷ ls) l e = step (x.state.stream_identifier == s) e
+placed s (x ∷ ls) l e = step (x.state.stream_identifier == s) e (placed s ls l)
   where
-    step : (b : Bool) → (if b then Some x else find (has_number s) ls) ≡ Some l → (k : ℕ) × ((k < length (x ∷ ls)) × ((d : OpenStream) → slice_index_or (x ∷ ls) k d ≡ l))
-    step true h = (0, omega arith, λ d. let z : x ≡ l = cc in z)
-    step false h = let r = placed s ls l h in (suc r.0, omega (arith, r.1.0), λ d. r.1.1 d)
+    step : (b : Bool) → (if b then Some x else find (has_number s) ls) ≡ Some l → (find (has_number s) ls ≡ Some l → (k : ℕ) × ((k < length ls) × ((d : OpenStream) → slice_index_or ls k d ≡ l))) → (k : ℕ) × ((k < length (x ∷ ls)) × ((d : OpenStream) → slice_index_or (x ∷ ls) k d ≡ l))
+    step true h ih = (0, (omega arith, λ d. let z : x ≡ l = cc in z))
+    step false h ih = let r = ih h in (suc r.0, (omega (arith, r.1.0), λ d. r.1.1 d))
 
 -- it is the only one of its number
 pub only-found : (s : ℕ) (ls : List OpenStream) (l : OpenStream) → IsApart (stream_numbers ls) → find (has_number s) ls ≡ Some l → (k : ℕ) (d : OpenStream) → k < length ls → (slice_index_or ls k d).state.stream_identifier ≡ s → slice_index_or ls k d ≡ l
@@ -68,19 +68,19 @@ apart-changed s f ls same a = subst IsApart (sym (fields-same number f same s ls
 -- one more, which was not there
 pub apart-more : (ls : List OpenStream) (l : OpenStream) → IsApart (stream_numbers ls) → find (has_number l.state.stream_identifier) ls ≡ None → IsApart (stream_numbers (ls ++ l ∷ []))
 apart-more [] l a none = (refl, tt)
-apart-more (x ∷ ls) l a none = step (x.state.stream_identifier == l.state.stream_identifier) refl none
+apart-more (x ∷ ls) l a none = step (x.state.stream_identifier == l.state.stream_identifier) refl none (apart-more ls l a.1)
   where
     more : (n : ℕ) (ls : List OpenStream) → (l.state.stream_identifier == n) ≡ false → list_any (λ k. k == n) (stream_numbers ls) ≡ false → list_any (λ k. k == n) (stream_numbers (ls ++ l ∷ [])) ≡ false
     more n [] e h = ap (λ b. b || false) e
-    more n (y ∷ ls) e h = other (y.state.stream_identifier == n) h (λ g. more n ls e g)
+    more n (y ∷ ls) e h = other (y.state.stream_identifier == n) h (more n ls e)
       where
         other : (b : Bool) → (b || list_any (λ k. k == n) (stream_numbers ls)) ≡ false → (list_any (λ k. k == n) (stream_numbers ls) ≡ false → list_any (λ k. k == n) (stream_numbers (ls ++ l ∷ [])) ≡ false) → (b || list_any (λ k. k == n) (stream_numbers (ls ++ l ∷ []))) ≡ false
         other true g ih = cc
         other false g ih = ih g
 
-    step : (b : Bool) → (x.state.stream_identifier == l.state.stream_identifier) ≡ b → (if b then Some x else find (has_number l.state.stream_identifier) ls) ≡ None → IsApart (stream_numbers (x ∷ (ls ++ l ∷ [])))
-    step true e h = cc
-    step false e h = (more x.state.stream_identifier ls (ne_eqb _ _ (λ z. differs (sym (eq-eqb _ _ (sym z)) ∙ e))) a.0, apart-more ls l a.1 h)
+    step : (b : Bool) → (x.state.stream_identifier == l.state.stream_identifier) ≡ b → (if b then Some x else find (has_number l.state.stream_identifier) ls) ≡ None → (find (has_number l.state.stream_identifier) ls ≡ None → IsApart (stream_numbers (ls ++ l ∷ []))) → IsApart (stream_numbers (x ∷ (ls ++ l ∷ [])))
+    step true e h ih = cc
+    step false e h ih = (more x.state.stream_identifier ls (ne_eqb _ _ (λ z. differs (sym (eq-eqb _ _ (sym z)) ∙ e))) a.0, ih h)
       where
         differs : true ≡ false → ⊥
         differs z = cc

@@ -26,6 +26,7 @@ use Rattle.sctp_ties.proofs.amounts.StreamAmounts.{amount-same}
 use Rattle.sctp_halves.specs.Streams.{OpenStream, stats_in, stream_numbers}
 use Rattle.sctp_link.specs.Linked.{State, IsLinked, IsOpenStream, stats_of, filter_shown}
 use Rattle.sctp_link.specs.Texts.{IsDatagram}
+use Rattle.sctp_link.specs.Places.{IsApart}
 use Rattle.sctp_link.proofs.upkeep.Facts.{facts, stands-then, says-still}
 use Rattle.sctp_link.proofs.sender.Beginning.{index_kept, indexed-of}
 
@@ -91,7 +92,7 @@ module _ (sum : List ℕ → ℕ) (x : State) (l : IsLinked sum x) (e : Event) (
       indexes = indexed-then.is;
       low = indexed-then.low;
       open_streams = each;
-      indexed = found;
+      apart = found;
       texts = texts-same;
     }
 

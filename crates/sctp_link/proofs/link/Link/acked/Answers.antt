@@ -11,10 +11,13 @@ use Rattle.sctp_model.specs.Contents.{cumulative_tsn}
 use Rattle.sctp_model.specs.Reply as R
 use Rattle.sctp_model.specs.Steps.{refusal_of}
 use Rattle.sctp_ties.specs.Amount.{acknowledged_at}
+use Rattle.sctp_transfer.specs.Flight.{released_by, after_sack}
+use Rattle.sctp_halves.specs.Streams.{released}
+use Rattle.sctp_halves.specs.Halves.{Sides}
 use Rattle.sctp_link.specs.Acking.{IsMarking, and_run, and_blocks, in_block}
 use Rattle.sctp_link.specs.Fields.{world_in, state_in}
 use Rattle.sctp_link.proofs.upkeep.Facts.{facts}
-use Rattle.sctp_link.proofs.acknowledging.SackTaken.{sack-there, wire_sack, reads-sack, count-is, count-made, reported, marking-first, not-refused, each-short, within-run, within-blocks, taken-all}
+use Rattle.sctp_link.proofs.acknowledging.SackTaken.{sack-there, wire_sack, reads-sack, count-is, count-made, reported, marking-first, not-refused, within-run, within-blocks, taken-all}
 use Rattle.sctp_link.proofs.link.Link.acked.Goals as goal
 
 pub read_sack-requires : goal.read_sack-requires
@@ -37,8 +40,8 @@ overflow_cast-upto g c =
     let top : c.max-taken.result ≡ max c.self.inside.taken there.0.cumulative = c.max-taken.ensures ∙ ap (max c.self.inside.taken) count in
     omega (arith, top, made, few, before)
 
-pub take_sack-requires : goal.take_sack-requires
-take_sack-requires g c =
+pub acked-requires : goal.acked-requires
+acked-requires g c =
     let sum = g.C.Checksum.sum c.self.inside.checksum in
     let l = c.self.invariant in
     let none = ap (λ s. refusal_of s.world (E.Acked c.args.k)) c.self.view_is ∙ c.requires in
@@ -54,24 +57,6 @@ take_sack-requires g c =
     let covers : (n : ℕ) → 0 < n → covered (sack_of c.rebase.new.sack).gap_ack_blocks n ≡ covered (wire_sack (world_in c.self.inside) there.0).gap_ack_blocks (n + (c.max-taken.result - there.0.cumulative)) =
     λ n pos. c.rebase.ensures.covers n pos ∙ ap (λ bs. covered bs (n + (c.max-taken.result - (((c.in_ok-sack.sack.cumulative_tsn_ack + (2 ^ 32 - c.self.inside.first_tsn)) % 2 ^ 32 + 1) % 2 ^ 32)))) (ap (λ s. s.gap_ack_blocks) says) ∙ ap (λ m. covered (wire_sack (world_in c.self.inside) there.0).gap_ack_blocks (n + (c.max-taken.result - m))) count in
     not-refused sum (state_in c.self.inside) c.args.k there.0 l none there.1 (sack_of c.rebase.new.sack) c.max-taken.result top cum covers c.rebase.ensures.begin
-
-pub release_each-requires-clause-short : goal.release_each-requires-clause-short
-release_each-requires-clause-short g c =
-    let sum = g.C.Checksum.sum c.self.inside.checksum in
-    let l = c.self.invariant in
-    let none = ap (λ s. refusal_of s.world (E.Acked c.args.k)) c.self.view_is ∙ c.requires in
-    let there = sack-there _ none in
-    let reads = reads-sack sum (state_in c.self.inside) c.self.inside.network.items c.args.k c.index.result.now there.0 l refl refl c.index.ensures there.1 in
-    let says = c.in_ok-sack.ensures.chunk (wire_sack (world_in c.self.inside) there.0) reads in
-    let made = count-made (world_in c.self.inside) c.args.k there.0 (reported sum (state_in c.self.inside) l) there.1 in
-    let few = (facts sum (state_in c.self.inside) l).few in
-    let before = (facts sum (state_in c.self.inside) l).taken in
-    let count = count-is c.self.inside.first_tsn there.0.cumulative c.in_ok-sack.sack.cumulative_tsn_ack l.setup.first (omega (arith, made, few)) (ap (λ s. s.cumulative_tsn_ack) says) in
-    let top : c.max-taken.result ≡ max c.self.inside.taken there.0.cumulative = c.max-taken.ensures ∙ ap (max c.self.inside.taken) count in
-    let cum : (sack_of c.rebase.new.sack).cumulative_tsn_ack ≡ cumulative_tsn (world_in c.self.inside) c.max-taken.result = omega (arith, c.rebase.ensures.cumulative, l.setup.first, top, made, few, before) in
-    let covers : (n : ℕ) → 0 < n → covered (sack_of c.rebase.new.sack).gap_ack_blocks n ≡ covered (wire_sack (world_in c.self.inside) there.0).gap_ack_blocks (n + (c.max-taken.result - there.0.cumulative)) =
-    λ n pos. c.rebase.ensures.covers n pos ∙ ap (λ bs. covered bs (n + (c.max-taken.result - (((c.in_ok-sack.sack.cumulative_tsn_ack + (2 ^ 32 - c.self.inside.first_tsn)) % 2 ^ 32 + 1) % 2 ^ 32)))) (ap (λ s. s.gap_ack_blocks) says) ∙ ap (λ m. covered (wire_sack (world_in c.self.inside) there.0).gap_ack_blocks (n + (c.max-taken.result - m))) count in
-    each-short sum (state_in c.self.inside) c.args.k there.0 l none there.1 (sack_of c.rebase.new.sack) c.max-taken.result top cum covers c.rebase.ensures.begin c.deref.result.now (c.deref.ensures.value ∙ c.in_ok-released.ensures.answer)
 
 pub acknowledge_run-requires : goal.acknowledge_run-requires
 acknowledge_run-requires g c = λ some.
@@ -124,7 +109,7 @@ acknowledge_blocks-requires-clause-within g c = λ p any.
     let covers : (n : ℕ) → 0 < n → covered (sack_of c.rebase.new.sack).gap_ack_blocks n ≡ covered (wire_sack (world_in c.self.inside) there.0).gap_ack_blocks (n + (c.max-taken.result - there.0.cumulative)) =
     λ n pos. c.rebase.ensures.covers n pos ∙ ap (λ bs. covered bs (n + (c.max-taken.result - (((c.in_ok-sack.sack.cumulative_tsn_ack + (2 ^ 32 - c.self.inside.first_tsn)) % 2 ^ 32 + 1) % 2 ^ 32)))) (ap (λ s. s.gap_ack_blocks) says) ∙ ap (λ m. covered (wire_sack (world_in c.self.inside) there.0).gap_ack_blocks (n + (c.max-taken.result - m))) count in
     let first = marking-first sum (state_in c.self.inside) c.self.inside.slots.items l refl in
-    let last = within-blocks sum (state_in c.self.inside) c.args.k there.0 l none there.1 (sack_of c.rebase.new.sack) c.max-taken.result top cum covers c.rebase.ensures.begin p (ap (list_any (in_block c.max-taken.result p)) (sym c.deref-2.ensures.value) ∙ any) in
+    let last = within-blocks sum (state_in c.self.inside) c.args.k there.0 l none there.1 (sack_of c.rebase.new.sack) c.max-taken.result top cum covers c.rebase.ensures.begin p (ap (list_any (in_block c.max-taken.result p)) (sym c.deref.ensures.value) ∙ any) in
     let slots1 = with_items_is c.self.inside.slots c.acknowledge_run.new.slots (omega (arith, c.acknowledge_run.auto.slots, c.deref_mut.ensures.len)) in
     omega (arith, last, first.count, ap length c.deref_mut.ensures.value, c.acknowledge_run.auto.slots, ap length (c.deref_mut-2.ensures.value ∙ slots1))
 
@@ -149,10 +134,10 @@ invariant_of-self-2 g c =
     let slots1 = with_items_is c.self.inside.slots c.acknowledge_run.new.slots (omega (arith, c.acknowledge_run.auto.slots, c.deref_mut.ensures.len)) in
     let slots2 = with_items_is (with_items c.self.inside.slots c.acknowledge_run.new.slots) c.acknowledge_blocks.new.slots (omega (arith, c.acknowledge_blocks.auto.slots, c.deref_mut-2.ensures.len)) in
     let last = c.acknowledge_blocks.ensures (world_in c.self.inside) (and_run (acknowledged_at (world_in c.self.inside)) c.self.inside.taken c.max-taken.result) (rw (c.deref_mut-2.ensures.value ∙ slots1) next) in
-    let marks : IsMarking (world_in c.self.inside) (and_blocks (and_run (acknowledged_at (world_in c.self.inside)) c.self.inside.taken c.max-taken.result) c.max-taken.result c.rebase.new.sack.gap_ack_blocks.items) (with_items (with_items c.self.inside.slots c.acknowledge_run.new.slots) c.acknowledge_blocks.new.slots).items = rw (slots2, ← c.deref-2.ensures.value) last in
-    let taken = taken-all sum (state_in c.self.inside) c.args.k there.0 l none there.1 (sack_of c.rebase.new.sack) c.max-taken.result top cum covers c.rebase.ensures.begin c.deref.result.now c.release_each.new.open_streams (with_items (with_items c.self.inside.slots c.acknowledge_run.new.slots) c.acknowledge_blocks.new.slots).items c.take_sack.new.flight
-    refl (c.deref.ensures.value ∙ c.in_ok-released.ensures.answer) c.release_each.ensures.items c.release_each.ensures.places c.in_ok-released.ensures.ok marks in
-    taken.linked
+    let marks : IsMarking (world_in c.self.inside) (and_blocks (and_run (acknowledged_at (world_in c.self.inside)) c.self.inside.taken c.max-taken.result) c.max-taken.result c.rebase.new.sack.gap_ack_blocks.items) (with_items (with_items c.self.inside.slots c.acknowledge_run.new.slots) c.acknowledge_blocks.new.slots).items = rw (slots2, ← c.deref.ensures.value) last in
+    let taken = taken-all sum (state_in c.self.inside) c.args.k there.0 l none there.1 (sack_of c.rebase.new.sack) c.max-taken.result top cum covers c.rebase.ensures.begin (released (released_by (sack_of c.rebase.new.sack) c.self.inside.halves.flight) c.self.inside.halves.streams) (with_items (with_items c.self.inside.slots c.acknowledge_run.new.slots) c.acknowledge_blocks.new.slots).items (after_sack (sack_of c.rebase.new.sack) c.self.inside.halves.flight)
+    refl refl refl marks in
+    rw c.in_ok-acked.ensures.ok taken.linked
 
 pub returns-clause-ok : goal.returns-clause-ok
 returns-clause-ok g c =
@@ -175,13 +160,13 @@ returns-clause-ok g c =
     let slots1 = with_items_is c.self.inside.slots c.acknowledge_run.new.slots (omega (arith, c.acknowledge_run.auto.slots, c.deref_mut.ensures.len)) in
     let slots2 = with_items_is (with_items c.self.inside.slots c.acknowledge_run.new.slots) c.acknowledge_blocks.new.slots (omega (arith, c.acknowledge_blocks.auto.slots, c.deref_mut-2.ensures.len)) in
     let last = c.acknowledge_blocks.ensures (world_in c.self.inside) (and_run (acknowledged_at (world_in c.self.inside)) c.self.inside.taken c.max-taken.result) (rw (c.deref_mut-2.ensures.value ∙ slots1) next) in
-    let marks : IsMarking (world_in c.self.inside) (and_blocks (and_run (acknowledged_at (world_in c.self.inside)) c.self.inside.taken c.max-taken.result) c.max-taken.result c.rebase.new.sack.gap_ack_blocks.items) (with_items (with_items c.self.inside.slots c.acknowledge_run.new.slots) c.acknowledge_blocks.new.slots).items = rw (slots2, ← c.deref-2.ensures.value) last in
-    let taken = taken-all sum (state_in c.self.inside) c.args.k there.0 l none there.1 (sack_of c.rebase.new.sack) c.max-taken.result top cum covers c.rebase.ensures.begin c.deref.result.now c.release_each.new.open_streams (with_items (with_items c.self.inside.slots c.acknowledge_run.new.slots) c.acknowledge_blocks.new.slots).items c.take_sack.new.flight
-    refl (c.deref.ensures.value ∙ c.in_ok-released.ensures.answer) c.release_each.ensures.items c.release_each.ensures.places c.in_ok-released.ensures.ok marks in
-    rw (← c.self.view_is) (record {
+    let marks : IsMarking (world_in c.self.inside) (and_blocks (and_run (acknowledged_at (world_in c.self.inside)) c.self.inside.taken c.max-taken.result) c.max-taken.result c.rebase.new.sack.gap_ack_blocks.items) (with_items (with_items c.self.inside.slots c.acknowledge_run.new.slots) c.acknowledge_blocks.new.slots).items = rw (slots2, ← c.deref.ensures.value) last in
+    let taken = taken-all sum (state_in c.self.inside) c.args.k there.0 l none there.1 (sack_of c.rebase.new.sack) c.max-taken.result top cum covers c.rebase.ensures.begin (released (released_by (sack_of c.rebase.new.sack) c.self.inside.halves.flight) c.self.inside.halves.streams) (with_items (with_items c.self.inside.slots c.acknowledge_run.new.slots) c.acknowledge_blocks.new.slots).items (after_sack (sack_of c.rebase.new.sack) c.self.inside.halves.flight)
+    refl refl refl marks in
+    rw (← c.self.view_is) (rw c.in_ok-acked.ensures.ok (record {
       right = ap R.Acked (c.saturating_sub-bytes.ensures
-          ∙ ap (λ n. n - c.inflight_bytes.result) (c.inflight_bytes-before.ensures ∙ ap (λ (q : Outbound). bytes_of q.inflight.chunks) c.queue.ensures)
-          ∙ ap (λ n. bytes_of c.self.inside.flight.queue.inflight.chunks - n) (c.inflight_bytes.ensures ∙ ap (λ (q : Outbound). bytes_of q.inflight.chunks) c.queue-2.ensures)
+          ∙ ap (λ n. n - c.inflight_bytes.result) (c.inflight_bytes-before.ensures ∙ ap (λ (q : Outbound). bytes_of q.inflight.chunks) c.outbound.ensures)
+          ∙ ap (λ n. bytes_of c.self.inside.halves.flight.queue.inflight.chunks - n) (c.inflight_bytes.ensures ∙ ap (λ (q : Outbound). bytes_of q.inflight.chunks) c.outbound-2.ensures ∙ ap (λ (h : Sides). bytes_of h.flight.queue.inflight.chunks) c.in_ok-acked.ensures.ok)
           ∙ taken.bytes);
       moves = taken.moves;
-    })
+    }))

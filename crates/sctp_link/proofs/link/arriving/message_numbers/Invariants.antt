@@ -1,0 +1,6 @@
+use Rattle.std.proofs.Common.{◌≡◌, map, take}
+use Rattle.sctp_link.specs.Receiving.{number_at}
+use Rattle.sctp_link.proofs.link.arriving.message_numbers.Given as goal
+
+abbrev pub invariant-loop-place : goal.invariant-loop-place
+invariant-loop-place l = l.numbers.items ≡ map (number_at l.slots) (take l.place-index l.places)
