@@ -174,3 +174,13 @@ module _ (ns : List ℕ) (t : Transmission) (r : Reception) (ps : List StreamPro
       ∙ ap (λ f. let z : Sides = record x { flight = f; fragment_size = t.fragment_size; max_message_size = t.max_message_size } in z) g.flight
       ∙ ap (λ f. let z : Sides = record x { fragment_size = f; max_message_size = t.max_message_size } in z) g.fragment_size
       ∙ ap (λ f. let z : Sides = record x { max_message_size = f } in z) g.max_message_size
+
+lengths-joined : (ss : List StreamState) (is : List InboundStream) (ps : List StreamProgress) → Alike ss is ps → map (λ (l : OpenStream). length l.whole) (joined ss is ps) ≡ map (λ (p : StreamProgress). length p.whole.items) ps
+lengths-joined [] is [] a = refl
+lengths-joined [] is (p ∷ ps) a = absurd (omega (arith, a.count))
+lengths-joined (s ∷ ss) [] ps a = let e = a.numbers in cc
+lengths-joined (s ∷ ss) (i ∷ is) [] a = absurd (omega (arith, a.count))
+lengths-joined (s ∷ ss) (i ∷ is) (p ∷ ps) a = ap (λ ns. length p.whole.items ∷ ns) (lengths-joined ss is ps (record { numbers = (let e = a.numbers in cc); count = omega (arith, a.count) }))
+
+pub wholes-joined : (ns : List ℕ) (t : Transmission) (r : Reception) (ps : List StreamProgress) → IsAligned ns t r ps → map (λ (l : OpenStream). length l.whole) (joined t.streams r.streams ps) ≡ map (λ (p : StreamProgress). length p.whole.items) ps
+wholes-joined ns t r ps a = lengths-joined t.streams r.streams ps (alike ns t r ps a)

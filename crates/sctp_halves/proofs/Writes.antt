@@ -1,5 +1,5 @@
 -- What a write and an expiry make of both halves.
-use Rattle.std.proofs.Common.{◌≡◌, ℕ, ◌+◌, List, [], ◌∷◌, Bool, true, false, Option, Some, None, refl, ap, sym, ◌∙◌, subst}
+use Rattle.std.proofs.Common.{◌≡◌, ℕ, ◌+◌, List, [], ◌∷◌, Bool, true, false, Option, Some, None, refl, ap, sym, ◌∙◌}
 use Rattle.std.specs.Prelude.{slice_index_or, slice_set, if◌then◌else◌, is_some, option_map, IfSome}
 use Rattle.std.proofs.lemmas.List.{get_or_default}
 use Rattle.sctp_lists.specs.Lists.{change_where}

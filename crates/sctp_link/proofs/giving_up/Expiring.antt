@@ -9,7 +9,7 @@ use Rattle.sctp_lists.proofs.More.{length-changed}
 use Rattle.sctp_chunks.specs.declared.chunk.chunk_payload_data.ChunkPayloadData.{ChunkPayloadData}
 use Rattle.sctp_outbound.specs.pending_queue.PendingQueue.{peeked}
 use Rattle.sctp_outbound.specs.outbound_queue.OutboundQueue as outbound
-use Rattle.sctp_outbound.specs.outbound_queue.OutboundQueue.{Outbound, expired_of, expired_bytes, total_bytes}
+use Rattle.sctp_outbound.specs.outbound_queue.OutboundQueue.{Outbound, expired_of, total_bytes}
 use Rattle.sctp_model.specs.declared.event.Event.TheVariants as E
 use Rattle.sctp_model.specs.Reply as R
 use Rattle.sctp_model.specs.World.{World}
@@ -184,7 +184,7 @@ module _ (sum : List ℕ → ℕ) (x : State) (l : IsLinked sum x) (now : ℕ) w
       })
 
       module _ (ms : List Message) (m' d : Message) (streams : x.world.streams ≡ map stream_record x.open_streams) (em : x.world.messages ≡ map message_record ms) (ep : x.progress ≡ map progress_of ms) (lt : n < length ms) (took : m' ≡ record (slice_index_or ms n d) { expired = true }) where
-        pub world-expired : record x.world { streams = map stream_record ls; messages = map message_record (slice_set ms n m') } ≡ message_changed x.world n mark_expired
+        world-expired : record x.world { streams = map stream_record ls; messages = map message_record (slice_set ms n m') } ≡ message_changed x.world n mark_expired
         world-expired =
             ap (λ r. record x.world { streams = r; messages = map message_record (slice_set ms n m') }) (ap (map stream_record) ls_is ∙ fields-same stream_record (expired_on unordered bytes) (record-kept unordered bytes) s x.open_streams ∙ sym streams)
             ∙ ap (λ r. record x.world { messages = r }) (map-set message_record mark_expired ms n m' d lt (ap message_record took) ∙ ap (changed mark_expired n) (sym em))

@@ -1,10 +1,11 @@
 -- What a link tells of itself.
-use Rattle.std.proofs.Common.{◌≡◌, ℕ, ◌-◌, false, List, map, Option, Some, None, refl, ap, sym, ◌∙◌}
-use Rattle.std.specs.Prelude.{option_map, option_copied, find, if◌then◌else◌, Bor, MatchOption}
+use Rattle.std.proofs.Common.{◌≡◌, ℕ, ◌-◌, false, List, map, Bor, Option, Some, None, refl, ap, sym, ◌∙◌}
+use Rattle.std.specs.Prelude.{option_map, option_copied, find, if◌then◌else◌, MatchOption}
 use Rattle.sctp_outbound.specs.pending_queue.PendingQueue.{total_bytes}
 use Rattle.sctp_serial.specs.DataChunks.{bytes_of}
 use Rattle.sctp_reassembly.specs.reassembly_queue.ReassemblyQueue.{ReassemblyState}
 use Rattle.sctp_outbound.specs.outbound_queue.OutboundQueue.{Outbound}
+use Rattle.sctp_model.specs.World.{World}
 use Rattle.sctp_model.specs.Messages.{is_open}
 use Rattle.sctp_model.specs.Amounts.{ledger, in_all, written_bytes, buffered_amount, counters_of}
 use Rattle.sctp_ties.specs.Tied.{TiedOutbound}
@@ -40,6 +41,10 @@ kept-found sum x s l same i e =
     let p = placed s x.open_streams l e in
     kept-at sum x s p.0 l same i p.1.0 (e ∙ ap (λ y. Some y) (sym (p.1.1 l))) (sym (p.1.1 l))
 
+-- what came on a stream and was not read, where it is open
+abbrev pub TellsQueue : World → ℕ → Option (Bor ReassemblyState) → Type 0
+TellsQueue w s r = MatchOption r (is_open w s ≡ false) (λ q. (q.now.held ≡ reassembly_of w s) × (q.now.si ≡ s) × (q.now.max_message_size ≡ w.setup.largest))
+
 module _ (sum : List ℕ → ℕ) (x : State) (i : IsLinked sum x) (s : ℕ) (same : x.world.streams ≡ map stream_record x.open_streams) where
   pub amount-is : option_map (λ (l : OpenStream). l.state.buffered_amount) (find (has_number s) x.open_streams) ≡ buffered_amount x.world s
   amount-is = by (find (has_number s) x.open_streams) refl
@@ -59,14 +64,14 @@ module _ (sum : List ℕ → ℕ) (x : State) (i : IsLinked sum x) (s : ℕ) (sa
           let k = kept-found sum x s l same i e in
           ap (λ n. Some n) (k.open_stream.stats ∙ ap (λ t. stats_of (counters_on x.world t)) k.number) ∙ sym (ap (λ b. option_map stats_of (if b then Some (counters_on x.world s) else None)) k.is_open)
 
-  pub queue-is : (r : Option (Bor ReassemblyState)) → option_copied r ≡ option_map (λ (l : OpenStream). l.inbound.queue) (find (has_number s) x.open_streams) → MatchOption r (is_open x.world s ≡ false) (λ q. (q.now.held ≡ reassembly_of x.world s) × ((q.now.si ≡ s) × (q.now.max_message_size ≡ x.world.setup.largest)))
+  pub queue-is : (r : Option (Bor ReassemblyState)) → option_copied r ≡ option_map (λ (l : OpenStream). l.inbound.queue) (find (has_number s) x.open_streams) → TellsQueue x.world s r
   queue-is r h = by r (find (has_number s) x.open_streams) refl h
     where
-      by : (r : Option (Bor ReassemblyState)) (o : Option OpenStream) → find (has_number s) x.open_streams ≡ o → option_copied r ≡ option_map (λ (l : OpenStream). l.inbound.queue) o → MatchOption r (is_open x.world s ≡ false) (λ q. (q.now.held ≡ reassembly_of x.world s) × ((q.now.si ≡ s) × (q.now.max_message_size ≡ x.world.setup.largest)))
+      by : (r : Option (Bor ReassemblyState)) (o : Option OpenStream) → find (has_number s) x.open_streams ≡ o → option_copied r ≡ option_map (λ (l : OpenStream). l.inbound.queue) o → TellsQueue x.world s r
       by None None e z = none-open x.world s x.open_streams same e
       by None (Some l) e z = cc
       by (Some q) None e z = cc
       by (Some q) (Some l) e z =
           let k = kept-found sum x s l same i e in
           let here : q.now ≡ l.inbound.queue = inner z in
-          (ap (λ (t : ReassemblyState). t.held) here ∙ k.open_stream.held ∙ ap (reassembly_of x.world) k.number, (ap (λ (t : ReassemblyState). t.si) here ∙ k.open_stream.si ∙ k.number, ap (λ (t : ReassemblyState). t.max_message_size) here ∙ k.open_stream.largest))
+          (ap (λ (t : ReassemblyState). t.held) here ∙ k.open_stream.held ∙ ap (reassembly_of x.world) k.number, ap (λ (t : ReassemblyState). t.si) here ∙ k.open_stream.si ∙ k.number, ap (λ (t : ReassemblyState). t.max_message_size) here ∙ k.open_stream.largest)

@@ -1,25 +1,27 @@
-use Rattle.std.proofs.Common.{rules, ◌≡◌, ◌<◌, ◌+◌, ◌^◌, ◌∷◌, ℕ, [], List, true, None, Some, OnOk, OnErr, IfOk, IsOkUnless, length, map, option_map, ◌-◌, ◌*◌, ◌≤◌, ◌/◌, ◌%◌, Bool, false, nat_eq, nat_lt, ◌++◌, slice_index_or, slice_set, bit_and, bit_or, Fits, w8, w32, w64, Bor, MutBor}
-use Rattle.sctp_base.specs.declared.error.Error.TheVariants.{ErrOutOfMemory}
-use Rattle.sctp_transfer.specs.Receiver as R
-use Rattle.sctp_transfer.specs.declared.receiver.inbound_streams.InboundStream.{InboundStream}
-use Rattle.sctp_halves.specs.Halves.{Sides, IsSaved, Grows, reception_of, stream_in, is_open, on_stream, Takes, CanTake, TakesEach, reported, after_forward}
-use Rattle.sctp_chunks.specs.ForwardTsn.{forward_tsn_of}
-use Rattle.sctp_chunks.specs.SelectiveAck.{sack_of}
-use Rattle.sctp_lists.specs.Lists.{changed}
-use Rattle.sctp_reassembly.specs.reassembly_queue.ReassemblyQueue.{at_start, message_read}
-use Rattle.sctp_transfer.specs.Inbound.{stream_read}
-use Rattle.sctp_transfer.specs.Receiver.{data_refusal, arrival_of, forward_refusal, forwarded_of, sack}
-use Rattle.sctp_halves.specs.Streams.{OpenStream, on_inbound, read_recorded, with_named}
+use Rattle.std.proofs.Common.{rules, ◌≡◌, ◌<◌, ◌+◌, ◌++◌, ◌∷◌, [], List, ℕ, ap, sym, ◌∙◌, arith, length, map, take}
+use Rattle.std.proofs.lemmas.List.{take_more, take_all, map-append}
+use Rattle.sctp_halves.specs.declared.halves.progress.StreamProgress.{StreamProgress}
+use Rattle.sctp_halves.specs.Halves.{IsSaved}
+use Rattle.sctp_halves.proofs.Aligned.{sides, reception-is}
+use Rattle.sctp_halves.proofs.Growing.{wholes-joined}
 use Rattle.sctp_halves.proofs.halves.Halves.save.Goals as goal
 
--- src/halves/receiving.rt:128:9
-pub loop-place-init : goal.loop-place-init
-loop-place-init c = ?
-
--- src/halves/receiving.rt:128:9
 pub loop-place-preserved : goal.loop-place-preserved
-loop-place-preserved c = ?
+loop-place-preserved c =
+    let ps = c.self.inside.progress.items in
+    let i = c.loop-place.place in
+    let lt : i < length ps = omega (arith, c.loop-place-test.true, c.len-place-end.ensures) in
+    let count : c.len.result ≡ length c.index.result.now.whole.items = search rules in
+    c.in_ok-push.ensures.items
+    ∙ ap (λ ws. ws ++ c.len.result ∷ []) c.loop-place.invariant
+    ∙ ap (λ n. map (λ (p : StreamProgress). length p.whole.items) (take i ps) ++ n ∷ []) (count ∙ ap (λ (p : StreamProgress). length p.whole.items) c.index.ensures)
+    ∙ sym (ap (map (λ (p : StreamProgress). length p.whole.items)) (take_more ps i c.index.result.now lt) ∙ map-append (λ (p : StreamProgress). length p.whole.items) (take i ps) (_ ∷ []))
 
--- src/halves/receiving.rt:123:5
 pub returns-clause-ok : goal.returns-clause-ok
-returns-clause-ok c = ?
+returns-clause-ok c =
+    let h = c.self.inside in
+    let all : take c.loop-place.place h.progress.items ≡ h.progress.items = take_all c.loop-place.place h.progress.items (omega (arith, c.loop-place-test.false, c.len-place-end.ensures)) in
+    rw (← c.self.view_is) (record {
+      receiver = c.in-Ok.ensures.ok ∙ sym (reception-is h.numbers h.sender h.receiver h.progress.items c.self.invariant);
+      whole = c.loop-place.invariant ∙ ap (map (λ (p : StreamProgress). length p.whole.items)) all ∙ sym (wholes-joined h.numbers h.sender h.receiver h.progress.items c.self.invariant);
+    })

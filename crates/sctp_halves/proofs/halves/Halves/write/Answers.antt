@@ -1,18 +1,17 @@
 use Rattle.std.proofs.Common.{◌≡◌, ◌<◌, ◌+◌, ◌^◌, ap, sym, ◌∙◌, refl, arith, rules, length, None, Some, true, false}
-use Rattle.std.specs.Prelude.{find, option_map}
-use Rattle.sctp_stream.specs.Numbers.{IsAbsent}
+use Rattle.std.specs.Prelude.{option_map}
 use Rattle.sctp_stream.specs.Stream as stream
 use Rattle.sctp_stream.specs.declared.stream.StreamState.{StreamState}
 use Rattle.sctp_transfer.specs.declared.sender.refusal.SenderRefusal.TheVariants.{StreamUnknown}
 use Rattle.sctp_transfer.specs.Outgoing as Outgoing
-use Rattle.sctp_transfer.specs.Sender.{write_refusal, stream_of}
+use Rattle.sctp_transfer.specs.Sender.{write_refusal}
 use Rattle.sctp_transfer.proofs.SenderStreams.{unknown}
 use Rattle.sctp_transfer.proofs.StreamPlaces as Places
 use Rattle.sctp_halves.specs.declared.halves.progress.StreamProgress.{StreamProgress}
-use Rattle.sctp_halves.specs.Streams.{OpenStream, written_of}
+use Rattle.sctp_halves.specs.Streams.{OpenStream}
 use Rattle.sctp_halves.specs.Halves.{stream_in, transmission_of}
 use Rattle.sctp_halves.proofs.Joined.{with_progress}
-use Rattle.sctp_halves.proofs.Aligned.{sides, place-inside, progress-number, transmission-is, with-progresses}
+use Rattle.sctp_halves.proofs.Aligned.{place-inside, progress-number, transmission-is, with-progresses}
 use Rattle.sctp_halves.proofs.Sends.{found-with, same-place, state-in}
 use Rattle.sctp_halves.proofs.Writes.{recorded, ordered-is, sender-has, state-is, write-aligned, unordered-written, ordered-written}
 use Rattle.sctp_halves.proofs.halves.Halves.write.Goals as goal
@@ -21,7 +20,7 @@ pub unreachable-requires : goal.unreachable-requires
 unreachable-requires c =
     let h = c.self.inside in
     let accepted : write_refusal c.args.stream (length c.args.bytes.now) h.sender ≡ None =
-        ap (write_refusal c.args.stream (length c.args.bytes.now)) (sym (transmission-is h.numbers h.sender h.receiver h.progress.items c.self.invariant) ∙ ap transmission_of c.self.view_is) ∙ c.requires.accepted in
+    ap (write_refusal c.args.stream (length c.args.bytes.now)) (sym (transmission-is h.numbers h.sender h.receiver h.progress.items c.self.invariant) ∙ ap transmission_of c.self.view_is) ∙ c.requires.accepted in
     let closed = Places.absent-find Outgoing.number h.sender.streams h.numbers c.self.invariant.sends c.args.stream c.in_default.ensures in
     let refused : write_refusal c.args.stream (length c.args.bytes.now) h.sender ≡ Some StreamUnknown = unknown c.args.stream (length c.args.bytes.now) h.sender closed in
     cc
@@ -30,7 +29,7 @@ pub unreachable-requires-in_default-stream : goal.unreachable-requires-in_defaul
 unreachable-requires-in_default-stream c =
     let h = c.self.inside in
     let accepted : write_refusal c.args.stream (length c.args.bytes.now) h.sender ≡ None =
-        ap (write_refusal c.args.stream (length c.args.bytes.now)) (sym (transmission-is h.numbers h.sender h.receiver h.progress.items c.self.invariant) ∙ ap transmission_of c.self.view_is) ∙ c.requires.accepted in
+    ap (write_refusal c.args.stream (length c.args.bytes.now)) (sym (transmission-is h.numbers h.sender h.receiver h.progress.items c.self.invariant) ∙ ap transmission_of c.self.view_is) ∙ c.requires.accepted in
     let refused : write_refusal c.args.stream (length c.args.bytes.now) h.sender ≡ Some StreamUnknown = unknown c.args.stream (length c.args.bytes.now) h.sender (sym c.in_default-stream.ensures) in
     cc
 

@@ -1,16 +1,19 @@
-use Rattle.std.proofs.Common.{◌≡◌, ℕ, List, None, Some, map, refl, ap, ◌∙◌, arith, subst}
+use Rattle.std.proofs.Common.{◌≡◌, ℕ, List, None, Some, ◌++◌, length, map, refl, ap, sym, ◌∙◌, arith, rules, subst}
 use Rattle.std.specs.Prelude.{slice_get, fold}
+use Rattle.std.specs.Vec.{with_items, vec_len}
+use Rattle.std.proofs.lemmas.List.{with_items_is}
 use Rattle.std.specs.List.{list_any}
-use Rattle.sctp_model.specs.Receiver.{is_new}
-use Rattle.sctp_model.specs.World.{World, Data}
+use Rattle.sctp_model.specs.World.{Data}
 use Rattle.sctp_model.specs.Contents.{chunk_at}
 use Rattle.sctp_model.specs.Changes.{slot_received}
-use Rattle.sctp_model.specs.Steps.{refusal_of}
+use Rattle.sctp_model.specs.Steps.{refusal_of, IsRight}
 use Rattle.sctp_model.specs.declared.event.Event.TheVariants as E
-use Rattle.sctp_link.specs.declared.record.Slot.{Slot}
+use Rattle.sctp_halves.specs.Halves.{Sides, TakesEach}
 use Rattle.sctp_link.specs.Fields.{world_in, state_in}
-use Rattle.sctp_link.specs.Records.{kind_record, stream_record, slot_record}
-use Rattle.sctp_link.specs.Receiving.{IsReceiver, AllCome}
+use Rattle.sctp_link.specs.Linked.{IsLinked}
+use Rattle.sctp_link.specs.Records.{kind_record, slot_record}
+use Rattle.sctp_link.specs.Replies.{reply_of}
+use Rattle.sctp_link.specs.Receiving.{number_at, arrived_in, repeated_of, is_first}
 use Rattle.sctp_link.proofs.receiver.Comes.{said, said-fresh, says-data, places-kept, kind-data, never-other, there-is}
 use Rattle.sctp_link.proofs.receiver.SlotLists.{numbers-are, can, came}
 use Rattle.sctp_link.proofs.receiver.Received.{all-come, receiver-of, all-inside, linked-received, right-received}
@@ -56,3 +59,145 @@ unreachable-requires g c =
     let ps = lies.0 in
     never-other c.index-2.result.now.kind ps c.in_default.not-Data (kind-data ds k c.index-2.result.now ps lies.1 c.index-2.ensures)
 
+pub message_numbers-requires : goal.message_numbers-requires
+message_numbers-requires g c =
+    let w = world_in c.self.inside in
+    let sum = g.C.Checksum.sum c.self.inside.checksum in
+    let x = state_in c.self.inside in
+    let l = c.self.invariant in
+    let k = c.args.k in
+    let ds = c.self.inside.network.items in
+    let lies : (places : List ℕ) × (slice_get w.network k ≡ Some (Data places)) = rw (← c.self.view_is) at c.requires.lies in
+    let ps = lies.0 in
+    let kept : c.in-Data.places.items ≡ ps = places-kept ds k c.index-2.result.now c.in-Data.places.items ps lies.1 c.index-2.ensures (ap kind_record c.in-Data.is) in
+    rw (c.deref-2.ensures.value ∙ kept, c.deref.ensures.value) (λ i lt. omega (arith, all-inside sum x l k ps lies.1 i lt, raw-length slot_record c.self.inside.slots.items))
+
+pub data_each-requires : goal.data_each-requires
+data_each-requires g c =
+    let w = world_in c.self.inside in
+    let sum = g.C.Checksum.sum c.self.inside.checksum in
+    let x = state_in c.self.inside in
+    let l = c.self.invariant in
+    let k = c.args.k in
+    let ds = c.self.inside.network.items in
+    let lies : (places : List ℕ) × (slice_get w.network k ≡ Some (Data places)) = rw (← c.self.view_is) at c.requires.lies in
+    let none : refusal_of w (E.Arrive k) ≡ None = rw (← c.self.view_is) at c.requires.none in
+    let ps = lies.0 in
+    let kept : c.in-Data.places.items ≡ ps = places-kept ds k c.index-2.result.now c.in-Data.places.items ps lies.1 c.index-2.ensures (ap kind_record c.in-Data.is) in
+    let slots = c.self.inside.slots.items in
+    let reads = says-data sum x k ps ds c.index.result.now l refl refl lies.1 c.index.ensures in
+    let chunks : c.deref-3.result.now ≡ map (chunk_at w) ps = c.deref-3.ensures.value ∙ c.in_ok-chunks.ensures.chunks (said w ps) reads ∙ said-fresh w ps in
+    let numbers : c.deref-4.result.now ≡ map (number_at slots) ps =
+    c.deref-4.ensures.value ∙ c.in_ok-numbers.ensures.numbers ∙ ap (λ ss. map (number_at ss) c.deref-2.result.now) c.deref.ensures.value ∙ ap (map (number_at slots)) (c.deref-2.ensures.value ∙ kept) in
+    let receiver = receiver-of sum x l c.self.inside.halves refl refl refl in
+    let come = all-come sum x l k ps none lies.1 in
+    rw (chunks, numbers) (can (number_at slots) ps (map (chunk_at w) ps) w c.self.inside.halves (numbers-are w slots refl) receiver come)
+
+pub record_arrivals-new-requires-clause-inside : goal.record_arrivals-new-requires-clause-inside
+record_arrivals-new-requires-clause-inside g c =
+    let w = world_in c.self.inside in
+    let sum = g.C.Checksum.sum c.self.inside.checksum in
+    let x = state_in c.self.inside in
+    let l = c.self.invariant in
+    let k = c.args.k in
+    let ds = c.self.inside.network.items in
+    let lies : (places : List ℕ) × (slice_get w.network k ≡ Some (Data places)) = rw (← c.self.view_is) at c.requires.lies in
+    let ps = lies.0 in
+    let kept : c.in-Data.places.items ≡ ps = places-kept ds k c.index-2.result.now c.in-Data.places.items ps lies.1 c.index-2.ensures (ap kind_record c.in-Data.is) in
+    rw (c.deref-5.ensures.value ∙ kept, c.deref_mut.ensures.value) (λ i lt. omega (arith, all-inside sum x l k ps lies.1 i lt, raw-length slot_record c.self.inside.slots.items))
+
+pub record_arrivals-new-requires-clause-count : goal.record_arrivals-new-requires-clause-count
+record_arrivals-new-requires-clause-count g c =
+    let w = world_in c.self.inside in
+    let sum = g.C.Checksum.sum c.self.inside.checksum in
+    let x = state_in c.self.inside in
+    let l = c.self.invariant in
+    let k = c.args.k in
+    let ds = c.self.inside.network.items in
+    let lies : (places : List ℕ) × (slice_get w.network k ≡ Some (Data places)) = rw (← c.self.view_is) at c.requires.lies in
+    let none : refusal_of w (E.Arrive k) ≡ None = rw (← c.self.view_is) at c.requires.none in
+    let ps = lies.0 in
+    let kept : c.in-Data.places.items ≡ ps = places-kept ds k c.index-2.result.now c.in-Data.places.items ps lies.1 c.index-2.ensures (ap kind_record c.in-Data.is) in
+    let slots = c.self.inside.slots.items in
+    let reads = says-data sum x k ps ds c.index.result.now l refl refl lies.1 c.index.ensures in
+    let chunks : c.deref-3.result.now ≡ map (chunk_at w) ps = c.deref-3.ensures.value ∙ c.in_ok-chunks.ensures.chunks (said w ps) reads ∙ said-fresh w ps in
+    let numbers : c.deref-4.result.now ≡ map (number_at slots) ps =
+    c.deref-4.ensures.value ∙ c.in_ok-numbers.ensures.numbers ∙ ap (λ ss. map (number_at ss) c.deref-2.result.now) c.deref.ensures.value ∙ ap (map (number_at slots)) (c.deref-2.ensures.value ∙ kept) in
+    let receiver = receiver-of sum x l c.self.inside.halves refl refl refl in
+    let come = all-come sum x l k ps none lies.1 in
+    let y = c.data_each.new.self in
+    let bs = c.in_ok-arrivals.arrivals.items in
+    let taken : TakesEach (map (chunk_at w) ps) (map (number_at slots) ps) bs c.self.inside.halves y = rw (chunks, numbers) at c.in_ok-arrivals.ensures.ok in
+    let done = came (number_at slots) ps (map (chunk_at w) ps) bs w c.self.inside.halves y (numbers-are w slots refl) receiver come taken in
+    ap length c.deref-6.ensures.value ∙ done.count ∙ sym (ap length (c.deref-5.ensures.value ∙ kept))
+
+pub invariant_of-self-2 : goal.invariant_of-self-2
+invariant_of-self-2 g c =
+    let w = world_in c.self.inside in
+    let sum = g.C.Checksum.sum c.self.inside.checksum in
+    let x = state_in c.self.inside in
+    let l = c.self.invariant in
+    let k = c.args.k in
+    let ds = c.self.inside.network.items in
+    let lies : (places : List ℕ) × (slice_get w.network k ≡ Some (Data places)) = rw (← c.self.view_is) at c.requires.lies in
+    let none : refusal_of w (E.Arrive k) ≡ None = rw (← c.self.view_is) at c.requires.none in
+    let ps = lies.0 in
+    let kept : c.in-Data.places.items ≡ ps = places-kept ds k c.index-2.result.now c.in-Data.places.items ps lies.1 c.index-2.ensures (ap kind_record c.in-Data.is) in
+    let slots = c.self.inside.slots.items in
+    let reads = says-data sum x k ps ds c.index.result.now l refl refl lies.1 c.index.ensures in
+    let chunks : c.deref-3.result.now ≡ map (chunk_at w) ps = c.deref-3.ensures.value ∙ c.in_ok-chunks.ensures.chunks (said w ps) reads ∙ said-fresh w ps in
+    let numbers : c.deref-4.result.now ≡ map (number_at slots) ps =
+    c.deref-4.ensures.value ∙ c.in_ok-numbers.ensures.numbers ∙ ap (λ ss. map (number_at ss) c.deref-2.result.now) c.deref.ensures.value ∙ ap (map (number_at slots)) (c.deref-2.ensures.value ∙ kept) in
+    let receiver = receiver-of sum x l c.self.inside.halves refl refl refl in
+    let come = all-come sum x l k ps none lies.1 in
+    let y = c.data_each.new.self in
+    let bs = c.in_ok-arrivals.arrivals.items in
+    let taken : TakesEach (map (chunk_at w) ps) (map (number_at slots) ps) bs c.self.inside.halves y = rw (chunks, numbers) at c.in_ok-arrivals.ensures.ok in
+    let done = came (number_at slots) ps (map (chunk_at w) ps) bs w c.self.inside.halves y (numbers-are w slots refl) receiver come taken in
+    let arrived = c.record_arrivals-new.ensures in
+    let same : length c.record_arrivals-new.new.slots ≡ vec_len c.self.inside.slots = search rules in
+    let marked = with_items c.self.inside.slots c.record_arrivals-new.new.slots in
+    let slots_are : (fold slot_received w ps).slots ≡ map slot_record marked.items =
+    done.slots slots refl ∙ sym (ap (map slot_record) (with_items_is c.self.inside.slots c.record_arrivals-new.new.slots same ∙ arrived.slots ∙ ap (λ qs. arrived_in qs c.deref-6.result.now c.deref_mut.result.now) (c.deref-5.ensures.value ∙ kept)
+    ∙ ap (λ cs. arrived_in ps cs c.deref_mut.result.now) c.deref-6.ensures.value ∙ ap (arrived_in ps bs) c.deref_mut.ensures.value)) in
+    let dups_are : (fold slot_received w ps).duplicates ≡ c.record_arrivals-new.new.duplicates.items =
+    done.duplicates ∙ sym (arrived.duplicates ∙ ap (λ ds. ds ++ repeated_of c.deref-5.result.now c.deref-6.result.now) c.in_ok-reserve.ensures.items
+    ∙ ap (λ qs. c.self.inside.duplicates.items ++ repeated_of qs c.deref-6.result.now) (c.deref-5.ensures.value ∙ kept) ∙ ap (λ cs. c.self.inside.duplicates.items ++ repeated_of ps cs) c.deref-6.ensures.value) in
+    subst (λ (h : Sides). IsLinked sum (state_in (record c.self.inside { halves = h; slots = marked; duplicates = c.record_arrivals-new.new.duplicates }))) (sym done.rest)
+    (linked-received sum x l k ps none lies.1 y marked.items c.record_arrivals-new.new.duplicates.items done.receiver done.cores slots_are dups_are)
+
+pub returns-clause-ok : goal.returns-clause-ok
+returns-clause-ok g c =
+    let w = world_in c.self.inside in
+    let sum = g.C.Checksum.sum c.self.inside.checksum in
+    let x = state_in c.self.inside in
+    let l = c.self.invariant in
+    let k = c.args.k in
+    let ds = c.self.inside.network.items in
+    let lies : (places : List ℕ) × (slice_get w.network k ≡ Some (Data places)) = rw (← c.self.view_is) at c.requires.lies in
+    let none : refusal_of w (E.Arrive k) ≡ None = rw (← c.self.view_is) at c.requires.none in
+    let ps = lies.0 in
+    let kept : c.in-Data.places.items ≡ ps = places-kept ds k c.index-2.result.now c.in-Data.places.items ps lies.1 c.index-2.ensures (ap kind_record c.in-Data.is) in
+    let slots = c.self.inside.slots.items in
+    let reads = says-data sum x k ps ds c.index.result.now l refl refl lies.1 c.index.ensures in
+    let chunks : c.deref-3.result.now ≡ map (chunk_at w) ps = c.deref-3.ensures.value ∙ c.in_ok-chunks.ensures.chunks (said w ps) reads ∙ said-fresh w ps in
+    let numbers : c.deref-4.result.now ≡ map (number_at slots) ps =
+    c.deref-4.ensures.value ∙ c.in_ok-numbers.ensures.numbers ∙ ap (λ ss. map (number_at ss) c.deref-2.result.now) c.deref.ensures.value ∙ ap (map (number_at slots)) (c.deref-2.ensures.value ∙ kept) in
+    let receiver = receiver-of sum x l c.self.inside.halves refl refl refl in
+    let come = all-come sum x l k ps none lies.1 in
+    let y = c.data_each.new.self in
+    let bs = c.in_ok-arrivals.arrivals.items in
+    let taken : TakesEach (map (chunk_at w) ps) (map (number_at slots) ps) bs c.self.inside.halves y = rw (chunks, numbers) at c.in_ok-arrivals.ensures.ok in
+    let done = came (number_at slots) ps (map (chunk_at w) ps) bs w c.self.inside.halves y (numbers-are w slots refl) receiver come taken in
+    let arrived = c.record_arrivals-new.ensures in
+    let same : length c.record_arrivals-new.new.slots ≡ vec_len c.self.inside.slots = search rules in
+    let marked = with_items c.self.inside.slots c.record_arrivals-new.new.slots in
+    let slots_are : (fold slot_received w ps).slots ≡ map slot_record marked.items =
+    done.slots slots refl ∙ sym (ap (map slot_record) (with_items_is c.self.inside.slots c.record_arrivals-new.new.slots same ∙ arrived.slots ∙ ap (λ qs. arrived_in qs c.deref-6.result.now c.deref_mut.result.now) (c.deref-5.ensures.value ∙ kept)
+    ∙ ap (λ cs. arrived_in ps cs c.deref_mut.result.now) c.deref-6.ensures.value ∙ ap (arrived_in ps bs) c.deref_mut.ensures.value)) in
+    let dups_are : (fold slot_received w ps).duplicates ≡ c.record_arrivals-new.new.duplicates.items =
+    done.duplicates ∙ sym (arrived.duplicates ∙ ap (λ ds. ds ++ repeated_of c.deref-5.result.now c.deref-6.result.now) c.in_ok-reserve.ensures.items
+    ∙ ap (λ qs. c.self.inside.duplicates.items ++ repeated_of qs c.deref-6.result.now) (c.deref-5.ensures.value ∙ kept) ∙ ap (λ cs. c.self.inside.duplicates.items ++ repeated_of ps cs) c.deref-6.ensures.value) in
+    rw (← c.self.view_is) (subst (λ (h : Sides). IsRight w (E.Arrive k) (reply_of c.reply_to_data.result) (world_in (record c.self.inside { halves = h; slots = marked; duplicates = c.record_arrivals-new.new.duplicates }))) (sym done.rest)
+    (right-received sum x l k ps none lies.1 y marked.items c.record_arrivals-new.new.duplicates.items done.receiver done.cores slots_are dups_are
+    c.record_arrivals-new.result (reply_of c.reply_to_data.result) (arrived.new ∙ ap (list_any is_first) c.deref-6.ensures.value ∙ done.new) c.reply_to_data.ensures))

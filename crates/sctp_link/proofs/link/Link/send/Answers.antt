@@ -140,6 +140,12 @@ returns-in_err-reserve-2-clause-wants g c =
     let f = (next-is (g.C.Checksum.sum c.self.inside.checksum) (state_in c.self.inside) c.self.invariant c.in-Some.first.now e).front in
     rw (← c.self.view_is) (on-err c.from_residual-in_err-reserve-2.result _ (ap is_some f))
 
+pub returns-in_err-reserve-3-clause-wants : goal.returns-in_err-reserve-3-clause-wants
+returns-in_err-reserve-3-clause-wants g c =
+    let e : peeked c.self.inside.halves.flight.queue.pending ≡ Some c.in-Some.first.now = search rules in
+    let f = (next-is (g.C.Checksum.sum c.self.inside.checksum) (state_in c.self.inside) c.self.invariant c.in-Some.first.now e).front in
+    rw (← c.self.view_is) (on-err c.from_residual-in_err-reserve-3.result _ (ap is_some f))
+
 pub returns-in_err-reserve-clause-err : goal.returns-in_err-reserve-clause-err
 returns-in_err-reserve-clause-err g c =
     rw (← c.self.view_is) (on-err c.from_residual-in_err-reserve.result _ (ap (λ (ss : List Slot). record (world_in c.self.inside) { slots = map slot_record ss }) c.reserve.ensures.items))
