@@ -1,5 +1,5 @@
 -- A stream is opened at both ends, or the opening is undone.
-use Rattle.std.proofs.Common.{◌≡◌, ℕ, zero, suc, List, [], ◌∷◌, ◌++◌, append-nil, length, map, Bool, true, false, not, Option, Some, None, Result, Ok, Err, refl, ap, sym, ◌∙◌, arith}
+use Rattle.std.proofs.Common.{◌≡◌, ℕ, zero, suc, List, [], ◌∷◌, ◌++◌, append-nil, map, Bool, true, false, not, Some, None, Result, Ok, Err, refl, ap, sym, ◌∙◌}
 use Rattle.std.specs.Prelude.{◌==◌, if◌then◌else◌, find, slice_get, is_err, OnOk, OnErr}
 use Rattle.std.proofs.lemmas.Bool.{eq-eqb}
 use Rattle.sctp_lists.specs.Lists.{those}
@@ -7,8 +7,6 @@ use Rattle.sctp_lists.proofs.Edits.{those-append}
 use Rattle.sctp_chunks.specs.declared.chunk.chunk_payload_data.PayloadProtocolIdentifier.TheVariants.{Unknown}
 use Rattle.sctp_stream.specs.Numbers.{IsAbsent, is_other}
 use Rattle.sctp_stream.specs.Stream.{new_stream}
-use Rattle.sctp_stream.specs.declared.stream.StreamState.{StreamState}
-use Rattle.sctp_transfer.specs.declared.receiver.inbound_streams.InboundStream.{InboundStream}
 use Rattle.sctp_transfer.specs.Inbound as Inbound
 use Rattle.sctp_transfer.specs.Outgoing as Outgoing
 use Rattle.sctp_transfer.specs.Receiver as R
@@ -17,7 +15,7 @@ use Rattle.sctp_transfer.specs.Sender as S
 use Rattle.sctp_transfer.specs.Sender.{Transmission}
 use Rattle.sctp_transfer.proofs.StreamPlaces as Places
 use Rattle.sctp_halves.specs.declared.halves.progress.StreamProgress.{StreamProgress}
-use Rattle.sctp_halves.specs.Streams.{OpenStream, join, joined, number, has_number, stream_numbers, new_open_stream}
+use Rattle.sctp_halves.specs.Streams.{OpenStream, joined, has_number, stream_numbers, new_open_stream}
 use Rattle.sctp_halves.specs.Halves.{Sides, IsAligned, stream_in, opened_on}
 use Rattle.sctp_halves.proofs.Joined.{joined-more}
 use Rattle.sctp_halves.proofs.Aligned.{sides, alike, numbers-are}

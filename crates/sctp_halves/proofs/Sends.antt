@@ -1,6 +1,6 @@
 -- What changes of the sender make of both halves, and what is told of a stream by its number.
-use Rattle.std.proofs.Common.{◌≡◌, ℕ, zero, suc, ◌+◌, ◌-◌, ◌<◌, List, [], ◌∷◌, length, map, Bool, true, false, Option, Some, None, Result, Ok, Err, refl, ap, sym, ◌∙◌, arith}
-use Rattle.std.specs.Prelude.{slice_index_or, slice_set, find, if◌then◌else◌, option_map, is_some, MatchOption, OnOk, OnErr, IfOk, IfErr, IfSome}
+use Rattle.std.proofs.Common.{◌≡◌, ℕ, zero, suc, ◌-◌, ◌<◌, List, [], ◌∷◌, length, map, Bool, true, false, Option, Some, None, Result, Ok, Err, refl, ap, sym, ◌∙◌, arith, subst}
+use Rattle.std.specs.Prelude.{slice_index_or, find, if◌then◌else◌, option_map, is_some, MatchOption, OnOk, OnErr, IfOk, IfErr, IfSome}
 use Rattle.std.proofs.lemmas.List.{get_or_default}
 use Rattle.sctp_lists.specs.Lists.{change_where}
 use Rattle.sctp_chunks.specs.SelectiveAck.{Sack}
@@ -21,10 +21,10 @@ use Rattle.sctp_transfer.specs.Sender as S
 use Rattle.sctp_transfer.specs.Sender.{Transmission}
 use Rattle.sctp_transfer.proofs.StreamPlaces as Places
 use Rattle.sctp_halves.specs.declared.halves.progress.StreamProgress.{StreamProgress}
-use Rattle.sctp_halves.specs.Streams.{OpenStream, joined, number, has_number, on_state, released, stats_in, both_ways, new_open_stream}
+use Rattle.sctp_halves.specs.Streams.{OpenStream, joined, number, on_state, released, stats_in, both_ways, new_open_stream}
 use Rattle.sctp_halves.specs.Halves.{Sides, IsAligned, stream_in, is_open, on_stream, with_flight, sack_taken}
 use Rattle.sctp_halves.proofs.Joined.{found-state, found-inbound, state-changed, with_progress}
-use Rattle.sctp_halves.proofs.Aligned.{sides, alike, numbers-are, absent-in, own-at, count-is}
+use Rattle.sctp_halves.proofs.Aligned.{sides, alike, numbers-are, absent-in, own-at}
 
 -- ## Answers
 
@@ -41,6 +41,9 @@ pub either-some : {T E N P : Type 0} {Q : T → Type 0} (r : Result (Option T) E
 either-some (Ok (Some x)) q none n f g = f x q
 either-some (Ok None) q none n f g = g (none refl)
 either-some (Err e) q none n f g = g n
+
+pub some-of : {T : Type 0} (Q : T → Type 0) (o : Option T) (x : T) → o ≡ Some x → IfSome o Q → Q x
+some-of Q o x e h = subst (λ p. IfSome p Q) e h
 
 -- ## Numbers that stay
 

@@ -24,8 +24,9 @@ use Rattle.sctp_transfer.proofs.Inbounds.{pushed-number}
 use Rattle.sctp_transfer.proofs.StreamPlaces as Places
 use Rattle.sctp_halves.specs.declared.halves.progress.StreamProgress.{StreamProgress}
 use Rattle.sctp_halves.specs.Streams.{OpenStream, Keeps, joined, number, has_number, on_inbound, new_open_stream}
-use Rattle.sctp_halves.specs.Halves.{Sides, IsAligned, stream_in, on_stream, with_filter_of, Accepts, Takes, repeated}
+use Rattle.sctp_halves.specs.Halves.{Sides, IsAligned, stream_in, on_stream, with_filter_of, Accepts, Takes, repeated, GrowsOn, GrowEach, Grows}
 use Rattle.sctp_halves.proofs.Joined.{with_progress}
+use Rattle.sctp_halves.proofs.Growing.{put-grows, grows-same, take-front, take-whole}
 use Rattle.sctp_halves.proofs.Aligned.{sides, numbers-are, inbound-in, inbound-on, with-receiver, progress-changed}
 
 -- ## Whether a message became whole
@@ -203,3 +204,25 @@ module _ (ns : List ℕ) (t : Transmission) (r : Reception) (ps : List StreamPro
     pub takes-more : after ≤ before → (b : Arrival) → R.Takes c b r x → Takes c n b (sides t r ps) (sides t x ps)
     takes-more le New h = accepts h ps (y h) (streams-put h) (keeps-none h le)
     takes-more le Repeat h = ap (λ z. sides t z ps) h
+
+    -- only more came
+
+    number-stays : (h : R.Accepts c r x) → h.queue.si ≡ l.inbound.queue.si
+    number-stays h = pushed-number c h.stream.queue h.queue h.pushed ∙ ap (λ (i : InboundStream). i.queue.si) (same-stream h)
+
+    grown : (qs : List StreamProgress) (kept : OpenStream) → joined t.streams x.streams qs ≡ slice_set ls k kept → GrowsOn l kept → Grows (sides t r ps) (sides t x qs)
+    grown qs kept e g = record { streams = subst (GrowEach ls) (sym e) (put-grows ls k l kept at g); flight = refl; fragment_size = refl; max_message_size = refl }
+
+    pub grows-whole : before < after → (b : Arrival) → R.Takes c b r x → (p q : StreamProgress) → p ≡ slice_index_or ps k p → ((m : OpenStream) → with_progress q m ≡ with_whole n (with_progress p m)) → Grows (sides t r ps) (sides t x (slice_set ps k q))
+    grows-whole lt New h p q own made =
+        grown (slice_set ps k q) (with_whole n (y h))
+        (progress-changed ns t x ps (taken-aligned ns t r ps a c New x h) k p q own (with_whole n) made ∙ ap (changed (with_whole n) k) (streams-put h) ∙ changed-put (with_whole n) k ls (y h))
+        (record { rest = refl; number = number-stays h; whole = take-front l.whole (n ∷ []) })
+    grows-whole lt Repeat h p q own made = absurd (omega (arith, lt, same-count-again h))
+
+    pub grows-more : (b : Arrival) → R.Takes c b r x → Grows (sides t r ps) (sides t x ps)
+    grows-more New h = grown ps (y h) (streams-put h) (record { rest = refl; number = number-stays h; whole = take-whole l.whole })
+    grows-more Repeat h = subst (λ z. Grows (sides t r ps) z) (sym (ap (λ z. sides t z ps) h)) (grows-repeated (sides t r ps))
+      where
+        grows-repeated : (z : Sides) → Grows z (repeated c.tsn z)
+        grows-repeated z = let g = grows-same z in record { streams = g.streams; flight = refl; fragment_size = refl; max_message_size = refl }

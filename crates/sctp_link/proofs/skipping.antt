@@ -1,4 +1,5 @@
 pub mod Skipping
 pub mod SkipComes
 pub mod NamesInTurn
+pub mod SkipFollowed
 pub mod SkipMade

@@ -2,12 +2,16 @@
 #![tactic(auto)]
 
 #[cfg(test)]
+mod closing_tests;
+#[cfg(test)]
 mod host;
 #[cfg(test)]
 mod part;
 #[cfg(test)]
 mod receiver_tests;
 pub mod receiving;
+#[cfg(test)]
+mod saving_tests;
 #[cfg(test)]
 mod sender_tests;
 pub mod sending;

@@ -102,6 +102,7 @@ impl Halves {
         requires open { is_open chunk.now.stream_identifier self.old ≡ true }
         ensures answer { IfOk result (λ a. a ≡ arrival_of chunk.now (reception_of self.old)) }
         ensures ok { IfOk result (λ a. Takes chunk.now number a self.old self.new) }
+        ensures grows { Grows self.old self.new }
         ensures err { OnErr result (self.new ≡ self.old) }
         ensures memory { IsOkUnless result ErrOutOfMemory }
     {

@@ -10,7 +10,7 @@ use Rattle.sctp_outbound.specs.outbound_queue.OutboundQueue.{Outbound}
 use Rattle.sctp_model.specs.declared.event.Event.{Event}
 use Rattle.sctp_model.specs.World as W
 use Rattle.sctp_model.specs.World.{World}
-use Rattle.sctp_model.specs.Messages.{message_at, ordered_before, sent_of, tsn_of, is_half_sent}
+use Rattle.sctp_model.specs.Messages.{message_at, ordered_before, sent_of, is_half_sent}
 use Rattle.sctp_model.specs.Receiver.{next_of}
 use Rattle.sctp_model.specs.Contents.{contents_of, cumulative_tsn}
 use Rattle.sctp_model.specs.Queues.{filter_of}
@@ -32,7 +32,7 @@ use Rattle.sctp_ties.proofs.giving_up.AbandonedLink.{mark_of, abandoned-is, coun
 use Rattle.sctp_ties.proofs.reading.ReadOne.{KeepsNext}
 use Rattle.sctp_ties.proofs.giving_up.GivenUp.{amount-abandoned}
 use Rattle.sctp_ties.proofs.amounts.StreamCounters.{counters-same}
-use Rattle.sctp_halves.specs.Streams.{OpenStream, has_number, less_by, stream_numbers}
+use Rattle.sctp_halves.specs.Streams.{OpenStream, has_number, less_by}
 use Rattle.sctp_link.specs.declared.record.Message.{Message}
 use Rattle.sctp_link.specs.declared.record.Slot.{Slot}
 use Rattle.sctp_link.specs.OpenStreams.{marks}

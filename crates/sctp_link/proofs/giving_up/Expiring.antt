@@ -9,7 +9,7 @@ use Rattle.sctp_lists.proofs.More.{length-changed}
 use Rattle.sctp_chunks.specs.declared.chunk.chunk_payload_data.ChunkPayloadData.{ChunkPayloadData}
 use Rattle.sctp_outbound.specs.pending_queue.PendingQueue.{peeked}
 use Rattle.sctp_outbound.specs.outbound_queue.OutboundQueue as outbound
-use Rattle.sctp_outbound.specs.outbound_queue.OutboundQueue.{Outbound, expired_of, expired_bytes, total_bytes}
+use Rattle.sctp_outbound.specs.outbound_queue.OutboundQueue.{Outbound, expired_of, total_bytes}
 use Rattle.sctp_model.specs.declared.event.Event.TheVariants as E
 use Rattle.sctp_model.specs.Reply as R
 use Rattle.sctp_model.specs.World.{World}
@@ -44,6 +44,15 @@ use Rattle.sctp_link.proofs.upkeep.ChangedStreams.{fields-same, changed-at}
 use Rattle.sctp_link.proofs.upkeep.Places.{apart-changed}
 use Rattle.sctp_link.proofs.upkeep.Facts.{facts, over, stands-then}
 use Rattle.sctp_link.proofs.upkeep.Frames.{moved, texts-same, next-kept, held-quiet, filter-kept, begun-kept, indexed-kept, fragments-same, written-kept}
+
+-- what is shown is what lapsed, where something did
+pub shown-lapsed : (now : ℕ) (c : ChunkPayloadData) (o : Option ChunkPayloadData) → o ≡ Some c → is_some (outbound.passing (outbound.is_expired now) o) ≡ true → outbound.passing (outbound.is_expired now) o ≡ Some c
+shown-lapsed now c None e some = cc
+shown-lapsed now c (Some d) e some = by (outbound.is_expired now d) some
+  where
+    by : (b : Bool) → is_some (if b then Some d else None) ≡ true → (if b then Some d else None) ≡ Some c
+    by true z = e
+    by false z = cc
 
 module _ (sum : List ℕ → ℕ) (x : State) (l : IsLinked sum x) (now : ℕ) where
   abbrev w : World
@@ -175,7 +184,7 @@ module _ (sum : List ℕ → ℕ) (x : State) (l : IsLinked sum x) (now : ℕ) w
       })
 
       module _ (ms : List Message) (m' d : Message) (streams : x.world.streams ≡ map stream_record x.open_streams) (em : x.world.messages ≡ map message_record ms) (ep : x.progress ≡ map progress_of ms) (lt : n < length ms) (took : m' ≡ record (slice_index_or ms n d) { expired = true }) where
-        pub world-expired : record x.world { streams = map stream_record ls; messages = map message_record (slice_set ms n m') } ≡ message_changed x.world n mark_expired
+        world-expired : record x.world { streams = map stream_record ls; messages = map message_record (slice_set ms n m') } ≡ message_changed x.world n mark_expired
         world-expired =
             ap (λ r. record x.world { streams = r; messages = map message_record (slice_set ms n m') }) (ap (map stream_record) ls_is ∙ fields-same stream_record (expired_on unordered bytes) (record-kept unordered bytes) s x.open_streams ∙ sym streams)
             ∙ ap (λ r. record x.world { messages = r }) (map-set message_record mark_expired ms n m' d lt (ap message_record took) ∙ ap (changed mark_expired n) (sym em))
@@ -219,20 +228,11 @@ module _ (sum : List ℕ → ℕ) (x : State) (l : IsLinked sum x) (now : ℕ) w
       by None h z = none-expires h
       by (Some c) h z = cc
 
-  -- what is shown is what lapsed
-  shown-lapsed : (c : ChunkPayloadData) (o : Option ChunkPayloadData) → o ≡ Some c → is_some (outbound.passing (outbound.is_expired now) o) ≡ true → outbound.passing (outbound.is_expired now) o ≡ Some c
-  shown-lapsed c None e some = cc
-  shown-lapsed c (Some d) e some = by (outbound.is_expired now d) some
-    where
-      by : (b : Bool) → is_some (if b then Some d else None) ≡ true → (if b then Some d else None) ≡ Some c
-      by true z = e
-      by false z = cc
-
   pub expires : (c : ChunkPayloadData) (bytes : ℕ) (q : Outbound) → peeked x.outbound.pending ≡ Some c → is_some (outbound.expiring now x.outbound) ≡ true → total_bytes q + bytes ≡ total_bytes x.outbound → q ≡ expired_of (Some c) x.outbound → Expires c bytes
   expires c bytes q front some left takes =
       let f = facts sum x l in
       let a : ℕ × Bool × ℕ = (c.stream_identifier, c.unordered, bytes) in
-      let lapsed : outbound.expiring now x.outbound ≡ Some c = shown-lapsed c (peeked x.outbound.pending) front some in
+      let lapsed : outbound.expiring now x.outbound ≡ Some c = shown-lapsed now c (peeked x.outbound.pending) front some in
       let answer : told (Some a) ≡ kinds (outbound.expiring now x.outbound) = sym (ap kinds lapsed) in
       let moves : q ≡ expired_of (outbound.expiring now x.outbound) x.outbound = takes ∙ ap (λ o. expired_of o x.outbound) (sym lapsed) in
       let t : Tells x.world now a.0 a.1 = tells x.world.setup x.world now x.outbound (Some a) size f.going l.outbound answer in

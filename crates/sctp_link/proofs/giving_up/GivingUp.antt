@@ -210,7 +210,7 @@ module _ (sum : List ℕ → ℕ) (x : State) (l : IsLinked sum x) (now : ℕ) w
     rest-fits half = half-fits sum x l (E.Tail now) n refl (ap (tail_abandoned x.world) e) half
 
     -- the stream that the queue answers is the message's
-    pub stream-tail : (s : ℕ) → Some s ≡ option_map (λ (c : ChunkPayloadData). c.stream_identifier) (expiring_tail now x.outbound) → s ≡ (message_at x.world n).stream
+    stream-tail : (s : ℕ) → Some s ≡ option_map (λ (c : ChunkPayloadData). c.stream_identifier) (expiring_tail now x.outbound) → s ≡ (message_at x.world n).stream
     stream-tail s = by (expiring_tail now x.outbound) refl told
       where
         by : (o : Option ChunkPayloadData) → expiring_tail now x.outbound ≡ o → queue.message_of o ≡ Some n → Some s ≡ option_map (λ (c : ChunkPayloadData). c.stream_identifier) o → s ≡ (message_at x.world n).stream

@@ -75,7 +75,7 @@ pub tied-room : (w : World) (q r : Outbound) (room : ℕ) → r ≡ record q { i
 tied-room w q r room e t = subst (TiedOutbound w) (sym e) (record { pending = t.pending; in_flight = t.in_flight; next = t.next; unstarted = t.unstarted; started = t.started; begun = t.begun })
 
 module _ (sum : List ℕ → ℕ) (x : State) (l : IsLinked sum x) (now : ℕ) (ms : List Message) (em : x.world.messages ≡ map message_record ms) (es : x.progress ≡ map progress_of ms) where
-  pub between-none : (s : Sender) (q : Outbound) → TiedOutbound x.world q → s.outbound ≡ all_started now q → s.messages ≡ start_from x.unstarted now ms → s.streams ≡ x.open_streams → x.world.streams ≡ map stream_record x.open_streams → s.places ≡ x.places → x.world.slots ≡ map slot_record s.slots → s.next_tsn ≡ x.next_tsn → Between x now (started x.world now) s
+  pub between-none : (s : Sender) (q : Outbound) → TiedOutbound x.world q → s.outbound ≡ all_started now q → s.messages ≡ start_from x.unstarted now ms → s.streams ≡ x.open_streams → x.world.streams ≡ map stream_record x.open_streams → x.world.slots ≡ map slot_record s.slots → s.next_tsn ≡ x.next_tsn → Between x now (started x.world now) s
   between-none s q t out is streams rs ew next = record {
     going = going-started x.world.setup x.world now (facts sum x l).going;
     only = refl;

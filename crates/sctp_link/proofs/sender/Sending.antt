@@ -40,6 +40,7 @@ use Rattle.sctp_ties.proofs.sending.Fragments.{shown, idle}
 use Rattle.sctp_ties.proofs.sending.InLine.{before-started}
 use Rattle.sctp_ties.proofs.acknowledging.QuietSender.{outbound-same, same-self}
 use Rattle.sctp_halves.specs.Streams.{OpenStream, stream_numbers}
+use Rattle.sctp_link.specs.Places.{IsApart}
 use Rattle.sctp_link.specs.Texts.{IsDatagram, packet_with, wire_data}
 use Rattle.sctp_link.specs.Linked.{State, IsLinked, IsOpenStream}
 use Rattle.sctp_link.specs.Records.{progress_of}

@@ -1,6 +1,6 @@
--- The arrival of a FORWARD-TSN: what it names, its span test, and what it makes of a link.
-use Rattle.std.proofs.Common.{◌≡◌, ℕ, zero, suc, ◌+◌, ◌-◌, ◌<◌, ◌≤◌, ◌^◌, ◌%◌, Bool, true, false, List, [], ◌∷◌, length, map, Some, None, refl, ap, sym, ◌∙◌, arith, add-one}
-use Rattle.std.specs.Prelude.{if◌then◌else◌, ◌==◌, ◌&&◌, min, max, nat_lt, find, take, slice_get, slice_index_or, is_some, Result, Ok, Err, IfOk}
+-- The arrival of a FORWARD-TSN: what it names, and its span test.
+use Rattle.std.proofs.Common.{◌≡◌, ℕ, zero, suc, ◌+◌, ◌-◌, ◌<◌, ◌≤◌, ◌^◌, Bool, true, false, List, [], ◌∷◌, length, map, Some, None, refl, ap, sym, ◌∙◌, arith, add-one}
+use Rattle.std.specs.Prelude.{if◌then◌else◌, ◌==◌, ◌&&◌, min, max, nat_lt, find, take, slice_get, slice_index_or}
 use Rattle.std.specs.List.{list_all}
 use Rattle.std.proofs.Math.Path.{subst}
 use Rattle.std.proofs.lemmas.Bool.Decides.{nat_tests}
@@ -8,52 +8,40 @@ use Rattle.sctp_lists.specs.Kept.{passing}
 use Rattle.sctp_lists.proofs.Cases.{same-yes}
 use Rattle.sctp_lists.proofs.More.{and, both, same_test}
 use Rattle.sctp_chunks.specs.ChunkSet.{ChunkSet}
-use Rattle.sctp_chunks.specs.ForwardTsn.{ForwardTsn}
 use Rattle.sctp_chunks.specs.Wire.{forward_tsn_chunk}
 use Rattle.sctp_packets.specs.Packet.{ReadsPacket}
 use Rattle.sctp_reassembly.specs.reassembly_queue.Fragments.{is_complete}
-use Rattle.sctp_reassembly.specs.reassembly_queue.ReassemblyQueue.{ReassemblyState, after_ordered_skip, after_unordered_skip, held_after_ordered_skip, held_after_unordered_skip}
 use Rattle.sctp_model.specs.declared.event.Event.TheVariants as E
 use Rattle.sctp_model.specs.World.{World, StreamRecord, Forward}
 use Rattle.sctp_model.specs.World as W
-use Rattle.sctp_model.specs.Messages.{stream_at, is_open, is_ordered_on, index_of, tsn_of}
+use Rattle.sctp_model.specs.Messages.{stream_at, is_open, is_ordered_on, index_of}
 use Rattle.sctp_model.specs.Receiver.{cumulative, next_of, is_held, is_whole, held_on, fits, greatest, least}
-use Rattle.sctp_model.specs.Changes.{named_by, skip_received, datagram_received}
-use Rattle.sctp_model.specs.Contents.{name_of}
-use Rattle.sctp_model.specs.Queues.{filter_of, set_of}
-use Rattle.sctp_model.specs.Steps.{refusal_of, after, arrival_fits}
+use Rattle.sctp_model.specs.Changes.{datagram_received}
+use Rattle.sctp_model.specs.Queues.{set_of}
+use Rattle.sctp_model.specs.Steps.{refusal_of, arrival_fits}
 use Rattle.sctp_model.specs.Sound.{IsSpan}
 use Rattle.sctp_model.proofs.sender.Shape.{shape}
-use Rattle.sctp_model.proofs.sender.Network
 use Rattle.sctp_model.proofs.sender.Network.{IsNamable, NamesFit, fit-at}
 use Rattle.sctp_model.proofs.receiver.SoundRun.{skips_come_sound}
-use Rattle.sctp_ties.specs.Holds.{reassembly_of, seen_of}
 use Rattle.sctp_ties.specs.Naming.{on_stream, low_named, end_named, lowest_held, highest_held, whole_first, min_with, names_fit}
-use Rattle.sctp_ties.specs.Counts.{counters_on}
 use Rattle.sctp_ties.proofs.arriving.Arrival
-use Rattle.sctp_ties.proofs.arriving.Filter.{filter-skipped}
 use Rattle.sctp_ties.proofs.reading.Line
-use Rattle.sctp_ties.proofs.acknowledging.QuietSender
 use Rattle.sctp_ties.proofs.reading.Taken
 use Rattle.sctp_ties.proofs.skipping.SkipStep.{with_skip, skip-step}
-use Rattle.sctp_ties.proofs.skipping.SkipSpans.{gone_forward, queue-skip, next-skip, named-from, fits-both, skip-fits, next-short, least-start}
+use Rattle.sctp_ties.proofs.skipping.SkipSpans.{fits-both, skip-fits, next-short, least-start}
 use Rattle.sctp_ties.proofs.arriving.SpanEnds.{sets-held}
-use Rattle.sctp_ties.proofs.amounts.StreamCounters.{counters-same}
-use Rattle.sctp_transfer.specs.TsnFilter.{Filter, skipped_to}
-use Rattle.sctp_halves.specs.Streams.{OpenStream, has_number, stream_numbers}
+use Rattle.sctp_halves.specs.Streams.{OpenStream, has_number}
 use Rattle.sctp_link.specs.declared.skipped.Named.{Named}
 use Rattle.sctp_link.specs.declared.record.Message.{Message}
 use Rattle.sctp_link.specs.declared.record.Datagram.{Datagram}
-use Rattle.sctp_link.specs.Linked.{State, IsLinked, IsOpenStream, stats_of, filter_shown}
+use Rattle.sctp_link.specs.Linked.{State, IsLinked}
 use Rattle.sctp_link.specs.Records.{message_record, progress_of, stream_record, datagram_record, kind_record}
-use Rattle.sctp_link.specs.Skips.{index_in, is_on, named_from, none_named, gone_to, skipped_by}
-use Rattle.sctp_link.specs.Texts.{packet_with, name_with}
+use Rattle.sctp_link.specs.Skips.{index_in, is_on, named_from, none_named, wire_skip}
+use Rattle.sctp_link.specs.Texts.{packet_with}
 use Rattle.sctp_link.proofs.upkeep.Bounds.{messages-few}
-use Rattle.sctp_link.proofs.receiver.Came.{filter-gone}
 use Rattle.sctp_link.proofs.receiver.Comes.{made-at}
 use Rattle.sctp_link.proofs.upkeep.Facts.{facts, over}
 use Rattle.sctp_link.proofs.receiver.Hears.{raw-at, raw-length, stream-ordered}
-use Rattle.sctp_link.proofs.upkeep.StreamsAfter.{stream-then, linked-then}
 
 -- ## What it names
 
@@ -80,10 +68,6 @@ module _ (sum : List ℕ → ℕ) (x : State) (l : IsLinked sum x) (ms : List Me
       let end = mapped-is (λ n. index_in ms n + 1) (λ n. index_of x.world n + 1) upto s ns (λ n i. ap (λ k. k + 1) (index-is upto n i)) fit in
       ap (λ is. let r : Named = record { low = least (2 ^ 64 - 1) is; end = greatest 0 (map (λ n. index_in ms n + 1) (passing (is_on ms s) ns)) } in r) low
       ∙ ap (λ is. let r : Named = record { low = low_named x.world s ns; end = greatest 0 is } in r) end
-
-pub if-ok : {T E : Type 0} {P : Type 0} (r : Result T E) → P → IfOk r (λ v. P)
-if-ok (Ok v) p = p
-if-ok (Err e) p = tt
 
 -- ## A stream at a place
 
@@ -239,9 +223,6 @@ all-fit sum x l upto names counts =
     (λ i d lt. let f = found-at i x.world.streams d lt in stream-fits sum x l (slice_index_or x.world.streams i d).stream upto names f.0 f.1))
 
 -- what its bytes read as
-abbrev pub wire_skip : World → ℕ → List ℕ → ForwardTsn
-wire_skip w upto names = record { new_cumulative_tsn = tsn_of w upto; streams = map name_with (map (name_of w) names) }
-
 pub reads-skip : (sum : List ℕ → ℕ) (x : State) (k upto : ℕ) (names : List ℕ) (ds : List Datagram) (y : Datagram) → IsLinked sum x → x.world.network ≡ map datagram_record ds → x.datagrams ≡ map (λ d. d.bytes) ds → slice_get x.world.network k ≡ Some (Forward upto names) → y ≡ slice_index_or ds k y → ReadsPacket sum y.bytes (packet_with (forward_tsn_chunk (wire_skip x.world upto names) ∷ []))
 reads-skip sum x k upto names ds y l network same e is =
     let lt : k < length ds = omega (arith, made-at x.world.network k (Forward upto names) e, ap length network, raw-length datagram_record ds) in
@@ -279,23 +260,11 @@ same-names w k upto names others e f = inner (sym e ∙ f)
     inner : Some (Forward upto names) ≡ Some (Forward upto others) → names ≡ others
     inner h = cc
 
--- ## What it makes of a link
+-- ## What counts
 
 module _ (sum : List ℕ → ℕ) (x : State) (l : IsLinked sum x) (k upto : ℕ) (names : List ℕ) (none : refusal_of x.world (E.Arrive k) ≡ None) (e : slice_get x.world.network k ≡ Some (Forward upto names)) (counts : cumulative x.world ≤ upto) where
   abbrev w : World
   w = x.world
-
-  abbrev v : World
-  v = after x.world (E.Arrive k)
-
-  pub after-is : v ≡ with_skip w upto names
-  after-is = ap (datagram_received w) e ∙ skip-step w upto names counts
-
-  pub frame : Network.Same w v
-  frame = Network.same-received w (slice_get w.network k)
-
-  quiet : QuietSender.SameToSender w v
-  quiet = subst (QuietSender.SameToSender w) (sym (ap (datagram_received w) e)) (QuietSender.same-skip w upto names)
 
   pub spans : (s : ℕ) → is_open w s ≡ true → IsSpan w s (map (index_of w) (on_stream w s names)) × IsSpan (with_skip w upto names) s (map (index_of w) (on_stream w s names))
   spans s o =
@@ -303,107 +272,3 @@ module _ (sum : List ℕ → ℕ) (x : State) (l : IsLinked sum x) (k upto : ℕ
       over sum x (λ (u : World). refusal_of u (E.Arrive k) ≡ None → slice_get u.network k ≡ Some (Forward upto names) → cumulative u ≤ upto → is_open u s ≡ true → IsSpan u s (map (index_of u) (passing (is_ordered_on u s) names)) × IsSpan (datagram_received u (Some (Forward upto names))) s (map (index_of u) (passing (is_ordered_on u s) names))) l
       (λ a b c d. skips_come_sound w.setup l.history l.setup l.stands.run k upto names a b c s d) none e counts o in
       (two.0, subst (λ (u : World). IsSpan u s (map (index_of w) (on_stream w s names))) (skip-step w upto names counts) two.1)
-
-  counters-stay : (t : ℕ) → counters_on v t ≡ counters_on w t
-  counters-stay t = counters-same w.setup w (E.Arrive k) t (facts sum x l).sane refl refl
-
-  module _ (ms : List Message) (messages_are : x.world.messages ≡ map message_record ms) (progress_are : x.progress ≡ map progress_of ms) (streams_are : x.world.streams ≡ map stream_record x.open_streams) where
-    skips : Skips w upto names
-    skips = skips-in sum x l k upto names e
-
-    named-is : (s : ℕ) → named_from ms s none_named names ≡ (let r : Named = record { low = low_named w s names; end = end_named w s names } in r)
-    named-is s = names-are sum x l ms messages_are progress_are upto s names skips.fit
-
-    abbrev turned : OpenStream → OpenStream
-    turned y = skipped_by ms names (tsn_of x.world upto) y
-
-    -- ## The record
-
-    stream-is : (y : OpenStream) → stream_record (turned y) ≡ named_by w names (stream_record y)
-    stream-is y =
-        ap (λ (n : Named). record (stream_record y) { named = max y.named n.end }) (named-is y.state.stream_identifier)
-        ∙ ap (λ m. record (stream_record y) { named = m }) (sym (named-from w y.named (on_stream w y.state.stream_identifier names)))
-
-    streams-are : (ls : List OpenStream) → map stream_record (map turned ls) ≡ map (named_by w names) (map stream_record ls)
-    streams-are [] = refl
-    streams-are (y ∷ ls) = ap (λ r. r ∷ map stream_record (map turned ls)) (stream-is y) ∙ ap (λ rs. named_by w names (stream_record y) ∷ rs) (streams-are ls)
-
-    pub world-skipped : (skipped : ℕ) → skipped ≡ upto + 1 → record w { streams = map stream_record (map turned x.open_streams); skipped = skipped } ≡ v
-    world-skipped skipped same =
-        ap (λ n. record w { streams = map stream_record (map turned x.open_streams); skipped = n }) same
-        ∙ ap (λ rs. record w { streams = rs; skipped = upto + 1 }) (streams-are x.open_streams ∙ ap (map (named_by w names)) (sym streams_are))
-        ∙ sym after-is
-
-    -- ## The streams
-
-    gone-held : (end tsn : ℕ) (q : ReassemblyState) → (after_unordered_skip tsn (gone_to end q)).held ≡ held_after_unordered_skip tsn (gone_forward end q.held)
-    gone-held end tsn q = step (end == 0)
-      where
-        step : (b : Bool) → (after_unordered_skip tsn (if b then q else after_ordered_skip ((end - 1) % 2 ^ 16) q)).held ≡ held_after_unordered_skip tsn (if b then q.held else held_after_ordered_skip ((end - 1) % 2 ^ 16) q.held)
-        step true = refl
-        step false = refl
-
-    gone-rest : (end tsn : ℕ) (q : ReassemblyState) → ((after_unordered_skip tsn (gone_to end q)).si ≡ q.si) × ((after_unordered_skip tsn (gone_to end q)).max_message_size ≡ q.max_message_size)
-    gone-rest end tsn q = step (end == 0)
-      where
-        step : (b : Bool) → ((after_unordered_skip tsn (if b then q else after_ordered_skip ((end - 1) % 2 ^ 16) q)).si ≡ q.si) × ((after_unordered_skip tsn (if b then q else after_ordered_skip ((end - 1) % 2 ^ 16) q)).max_message_size ≡ q.max_message_size)
-        step true = (refl, refl)
-        step false = (refl, refl)
-
-    stream-skipped : (y : OpenStream) (r : StreamRecord) → stream_at w y.state.stream_identifier ≡ Some r → IsOpenStream w y → IsOpenStream v (turned y)
-    stream-skipped y r o i =
-        let s = y.state.stream_identifier in
-        let f = facts sum x l in
-        let tsn = tsn_of w upto in
-        let end = (named_from ms s none_named names).end in
-        let end-is : end ≡ end_named w s names = ap (λ (n : Named). n.end) (named-is s) in
-        let sp = spans s (ap is_some o) in
-        let queue = queue-skip w s upto names r f.sound.sound skips.made counts o sp.0 sp.1 in
-        let rest = gone-rest end tsn y.inbound.queue in
-        stream-then sum x l (E.Arrive k) none frame refl y (turned y) i refl
-        (gone-held end tsn y.inbound.queue ∙ ap (λ n. held_after_unordered_skip tsn (gone_forward n y.inbound.queue.held)) end-is ∙ ap (λ h. held_after_unordered_skip tsn (gone_forward (end_named w s names) h)) i.held
-        ∙ sym queue ∙ ap (λ u. reassembly_of u s) (sym after-is))
-        rest.0 rest.1 refl refl refl refl
-        (ap (λ n. max y.next n) end-is ∙ ap (λ n. max n (end_named w s names)) i.next ∙ sym (next-skip w s upto names r f.sound.sound o) ∙ ap (λ u. next_of u s) (sym after-is))
-        refl (i.stats ∙ ap stats_of (sym (counters-stay s)))
-
-    each-skipped : (j : ℕ) (d : OpenStream) → j < length (map turned x.open_streams) → IsOpenStream v (slice_index_or (map turned x.open_streams) j d)
-    each-skipped j d lt =
-        let inside : j < length x.open_streams = omega (arith, lt, raw-length turned x.open_streams) in
-        let o = open-at x streams_are j d inside in
-        subst (IsOpenStream v) (sym (raw-at turned x.open_streams j d d inside))
-        (stream-skipped (slice_index_or x.open_streams j d) o.0 o.1 (l.open_streams j d inside))
-
-    numbers-same : (ls : List OpenStream) → stream_numbers (map turned ls) ≡ stream_numbers ls
-    numbers-same [] = refl
-    numbers-same (y ∷ ls) = ap (λ ns. y.state.stream_identifier ∷ ns) (numbers-same ls)
-
-    -- ## The filter
-
-    pub filter-then : (filter : Filter) → filter ≡ skipped_to (tsn_of w upto) x.filter → filter_shown filter ≡ filter_of v
-    filter-then filter is =
-        filter-gone w v (tsn_of w upto) x.filter filter l.filter is
-        (ap seen_of after-is ∙ filter-skipped w upto (facts sum x l).few skips.made counts)
-        (ap (λ u. (filter_of u).duplicates) after-is)
-
-    pub linked-skip : (filter : Filter) (u : World) → filter_shown filter ≡ filter_of v → u ≡ v → IsLinked sum (record x { world = u; open_streams = map turned x.open_streams; filter = filter })
-    linked-skip filter u held same =
-        linked-then sum x l (E.Arrive k) none frame x.progress (map turned x.open_streams) filter u refl held each-skipped
-        (subst IsApart (sym (numbers-same x.open_streams)) l.apart) quiet same
-
-    -- the same for the streams that the code left
-    module _ (ls : List OpenStream) (tsn skipped : ℕ) (tsn_is : tsn ≡ tsn_of x.world upto) (ls_are : ls ≡ map (skipped_by ms names tsn) x.open_streams) (count : skipped ≡ upto + 1) where
-      turned-are : ls ≡ map turned x.open_streams
-      turned-are = ls_are ∙ ap (λ t. map (skipped_by ms names t) x.open_streams) tsn_is
-
-      pub world-follow : record w { streams = map stream_record ls; skipped = skipped } ≡ v
-      world-follow = ap (λ rs. record w { streams = map stream_record rs; skipped = skipped }) turned-are ∙ world-skipped skipped count
-
-      pub received-follow : record w { streams = map stream_record ls; skipped = skipped } ≡ skip_received w upto names
-      received-follow = world-follow ∙ ap (datagram_received w) e
-
-      pub linked-follow : (filter : Filter) → filter ≡ skipped_to tsn x.filter → IsLinked sum (record x { world = record w { streams = map stream_record ls; skipped = skipped }; open_streams = ls; filter = filter })
-      linked-follow filter is =
-          let held = filter-then filter (is ∙ ap (λ t. skipped_to t x.filter) tsn_is) in
-          subst (λ ys. IsLinked sum (record x { world = record w { streams = map stream_record ls; skipped = skipped }; open_streams = ys; filter = filter })) (sym turned-are)
-          (linked-skip filter (record w { streams = map stream_record ls; skipped = skipped }) held world-follow)

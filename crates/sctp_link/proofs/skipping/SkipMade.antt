@@ -26,13 +26,12 @@ use Rattle.sctp_ties.proofs.acknowledging.QuietSender.{outbound-same, same-self}
 use Rattle.sctp_link.specs.declared.record.Message.{Message}
 use Rattle.sctp_link.specs.declared.record.Slot.{Slot}
 use Rattle.sctp_link.specs.Records.{message_record, slot_record, progress_of}
-use Rattle.sctp_link.specs.Skips.{pair_in}
+use Rattle.sctp_link.specs.Skips.{pair_in, wire_skip}
 use Rattle.sctp_link.specs.Texts.{IsDatagram, packet_with}
 use Rattle.sctp_link.specs.Linked.{State, IsLinked}
 use Rattle.sctp_link.proofs.upkeep.Facts.{facts, stands-then}
 use Rattle.sctp_link.proofs.upkeep.Frames.{stream-same, texts-more}
 use Rattle.sctp_link.proofs.receiver.Hears.{slot-raw}
-use Rattle.sctp_link.proofs.skipping.SkipComes.{wire_skip}
 use Rattle.sctp_link.proofs.skipping.NamesInTurn.{pairs-are}
 
 -- ## What it may name

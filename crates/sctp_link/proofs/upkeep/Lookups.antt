@@ -1,13 +1,15 @@
 -- A stream looked up among those that a link keeps.
-use Rattle.std.proofs.Common.{◌≡◌, ℕ, ◌<◌, true, false, List, length, map, Some, None, ap, sym, ◌∙◌}
+use Rattle.std.proofs.Common.{◌≡◌, ℕ, ◌<◌, true, false, List, length, map, Option, Some, None, refl, ap, sym, ◌∙◌}
 use Rattle.std.specs.Prelude.{◌==◌, find, is_some, option_map, slice_index_or}
 use Rattle.std.proofs.Math.Path.{subst}
+use Rattle.sctp_reassembly.specs.reassembly_queue.ReassemblyQueue.{ReassemblyState}
 use Rattle.sctp_model.specs.World.{World}
 use Rattle.sctp_model.specs.Messages.{is_open, stream_at}
 use Rattle.sctp_halves.specs.Streams.{OpenStream, has_number}
 use Rattle.sctp_link.specs.Linked.{State, IsLinked, IsOpenStream}
 use Rattle.sctp_link.specs.Records.{stream_record}
 use Rattle.sctp_link.proofs.upkeep.Apart.{number-found, stream-found}
+use Rattle.sctp_link.proofs.upkeep.Places.{placed}
 
 -- nothing is kept of a stream that is not open
 pub none-open : (w : World) (s : ℕ) (ls : List OpenStream) → w.streams ≡ map stream_record ls → find (has_number s) ls ≡ None → is_open w s ≡ false
@@ -31,3 +33,34 @@ kept-at sum x s k l same i lt found is = record {
   where
     here : find (has_number s) x.open_streams ≡ Some l
     here = found ∙ ap (λ y. Some y) (sym is)
+
+-- ## The queue of a stream
+
+abbrev queue_in : OpenStream → ReassemblyState
+queue_in l = l.inbound.queue
+
+-- there is none
+pub queue-none : (s : ℕ) (ls : List OpenStream) → None ≡ option_map queue_in (find (has_number s) ls) → find (has_number s) ls ≡ None
+queue-none s ls e = by (find (has_number s) ls) e
+  where
+    by : (o : Option OpenStream) → None ≡ option_map queue_in o → o ≡ None
+    by None h = refl
+    by (Some l) h = cc
+
+-- it is that of the stream at a place
+pub record QueueAt (s : ℕ) (ls : List OpenStream) (q : ReassemblyState) : Type 0 where
+  pub stream : OpenStream
+  pub at : ℕ
+  pub inside : at < length ls
+  pub found : find (has_number s) ls ≡ Some (slice_index_or ls at stream)
+  pub queue : q ≡ (slice_index_or ls at stream).inbound.queue
+
+pub queue-at : (s : ℕ) (ls : List OpenStream) (q : ReassemblyState) → Some q ≡ option_map queue_in (find (has_number s) ls) → QueueAt s ls q
+queue-at s ls q e = by (find (has_number s) ls) refl e
+  where
+    by : (o : Option OpenStream) → find (has_number s) ls ≡ o → Some q ≡ option_map queue_in o → QueueAt s ls q
+    by None f h = cc
+    by (Some l) f h =
+        let p = placed s ls l f in
+        let same : q ≡ l.inbound.queue = cc in
+        record { stream = l; at = p.0; inside = p.1.0; found = f ∙ ap (λ y. Some y) (sym (p.1.1 l)); queue = same ∙ ap queue_in (sym (p.1.1 l)) }

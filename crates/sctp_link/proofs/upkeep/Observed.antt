@@ -20,14 +20,6 @@ use Rattle.sctp_link.specs.Texts.{datagram_text}
 use Rattle.sctp_link.proofs.upkeep.Lookups.{none-open, some-open}
 use Rattle.sctp_link.proofs.upkeep.Facts.{facts}
 
--- a stream is open where it is found among those that are kept
-pub open-is : (w : World) (s : ℕ) (ls : List OpenStream) (o : Option ℕ) → w.streams ≡ map stream_record ls
-    → MatchOption o (find (has_number s) ls ≡ None) (λ k. (k < length ls) × ((d : OpenStream) → find (has_number s) ls ≡ Some (slice_index_or ls k d)))
-    → is_some o ≡ is_open w s
-open-is w s ls None same m = sym (none-open w s ls same m)
-open-is w s [] (Some k) same m = absurd (omega (arith, m.0))
-open-is w s (l ∷ ls) (Some k) same m = sym (ap is_some (some-open w s (l ∷ ls) (slice_index_or (l ∷ ls) k l) same (m.1 l)))
-
 -- a datagram that was made, in its place
 get-record : (ds : List Datagram) (k : ℕ) (d : Datagram) → k < length ds → slice_get (map datagram_record ds) k ≡ Some (datagram_record (slice_index_or ds k d))
 get-record [] k d lt = absurd (omega arith)

@@ -14,5 +14,9 @@ invariant_of-self c =
 
 pub returns-clause-ok : goal.returns-clause-ok
 returns-clause-ok c = elim c.match-abandon.branch [
-    | in-Ok w ↦ let z : ℕ = w.in-Ok in rw w.result-is ?
-    | in-Err-OutOfMemory w ↦ rw w.result-is tt ]
+  | in-Ok w ↦
+      let h = c.self.inside in
+      rw (w.result-is, ← c.self.view_is)
+      (on-sides h.numbers h.sender h.receiver h.progress.items c.self.invariant w.in-Ok.gone.0 (less_by w.in-Ok.gone.1) (after_giving_up (message_to_abandon c.args.tsn h.sender.flight) h.sender.flight) c.abandon.new.self w.in-Ok.ensures.ok)
+  | in-Err-OutOfMemory w ↦ rw w.result-is tt
+]

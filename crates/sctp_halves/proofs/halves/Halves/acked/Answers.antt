@@ -12,5 +12,8 @@ invariant_of-self c =
 
 pub returns-clause-ok : goal.returns-clause-ok
 returns-clause-ok c = elim c.match-acked.branch [
-    | in-Ok w ↦ let z : ℕ = w.in-Ok in rw w.result-is ?
-    | in-Err-OutOfMemory w ↦ rw w.result-is tt ]
+  | in-Ok w ↦
+      let h = c.self.inside in
+      rw (w.result-is, ← c.self.view_is) (acked-sides h.numbers h.sender h.receiver h.progress.items c.self.invariant (sack_of c.args.sack.now) c.acked.new.self w.in-Ok.ensures.ok)
+  | in-Err-OutOfMemory w ↦ rw w.result-is tt
+]

@@ -1,4 +1,4 @@
-use Rattle.std.proofs.Common.{◌≡◌, ◌<◌, ◌+◌, ◌^◌, ap, sym, ◌∙◌, refl, arith, rules}
+use Rattle.std.proofs.Common.{◌<◌, ◌+◌, ◌^◌, ap, sym, ◌∙◌, refl, arith, rules}
 use Rattle.sctp_halves.specs.declared.halves.progress.StreamProgress.{StreamProgress}
 use Rattle.sctp_halves.specs.Streams.{OpenStream, begun_in, begun_of, with_begun, joined}
 use Rattle.sctp_halves.proofs.Joined.{with_progress}

@@ -2,7 +2,7 @@ use Rattle.std.proofs.Common.{refl}
 use Rattle.sctp_outbound.specs.outbound_queue.OutboundQueue.{expiring_tail, message_of}
 use Rattle.sctp_transfer.specs.Flight.{after_giving_up}
 use Rattle.sctp_transfer.specs.Outgoing.{less_by}
-use Rattle.sctp_halves.proofs.Sends.{either-some, sender-same, on-aligned, on-sides}
+use Rattle.sctp_halves.proofs.Sends.{either-some, sender-same, some-of, on-aligned, on-sides}
 use Rattle.sctp_halves.proofs.halves.Halves.expire_tail.Goals as goal
 use Rattle.sctp_halves.proofs.halves.Halves.expire_tail.Goals.{in-Ok-Some, in-Err-OutOfMemory}
 
@@ -15,5 +15,9 @@ invariant_of-self c =
 
 pub returns-clause-ok : goal.returns-clause-ok
 returns-clause-ok c = elim c.match-expire_tail.branch [
-    | in-Ok-Some w ↦ let z : ℕ = w.in-Ok-Some in rw w.result-is ?
-    | in-Err-OutOfMemory w ↦ rw w.result-is tt ]
+  | in-Ok-Some w ↦
+      let h = c.self.inside in
+      rw (w.result-is, ← c.self.view_is)
+      (on-sides h.numbers h.sender h.receiver h.progress.items c.self.invariant w.in-Ok-Some.gone.0 (less_by w.in-Ok-Some.gone.2) (after_giving_up (message_of (expiring_tail c.args.now h.sender.flight.queue)) h.sender.flight) c.expire_tail.new.self (some-of _ w.in-Ok-Some.field-0 w.in-Ok-Some.gone w.in-Ok-Some.field-0-is w.in-Ok-Some.ensures.some))
+  | in-Err-OutOfMemory w ↦ rw w.result-is tt
+]

@@ -1,11 +1,10 @@
-use Rattle.std.proofs.Common.{◌≡◌, ap, sym, ◌∙◌, refl, None, List, ℕ, ◌++◌, ◌∷◌, []}
+use Rattle.std.proofs.Common.{ap, ◌∙◌, refl, ◌++◌, ◌∷◌, []}
 use Rattle.sctp_stream.specs.Numbers.{is_other}
 use Rattle.sctp_lists.specs.Lists.{those}
 use Rattle.sctp_transfer.specs.Sender as S
 use Rattle.sctp_halves.specs.declared.halves.progress.StreamProgress.{StreamProgress}
 use Rattle.sctp_halves.specs.Halves.{stream_in}
-use Rattle.sctp_halves.proofs.Aligned.{sides}
-use Rattle.sctp_halves.proofs.Opening.{is-absent, number-undone, sender-undone, on-error, on-ok, aligned-same, sides-same, opened-aligned, opened-sides}
+use Rattle.sctp_halves.proofs.Opening.{is-absent, number-undone, sender-undone, on-error, on-ok, aligned-same, sides-same, opened-sides}
 use Rattle.sctp_halves.proofs.halves.Halves.open.Goals as goal
 
 pub push-requires : goal.push-requires

@@ -1,6 +1,5 @@
-use Rattle.std.proofs.Common.{◌≡◌, ◌<◌, ◌-◌, ap, sym, ◌∙◌, refl, arith, rules}
+use Rattle.std.proofs.Common.{◌≡◌, ◌-◌, ap, ◌∙◌, refl, rules}
 use Rattle.sctp_halves.specs.declared.halves.progress.StreamProgress.{StreamProgress}
-use Rattle.sctp_halves.specs.Streams.{OpenStream}
 use Rattle.sctp_halves.proofs.Joined.{with_progress}
 use Rattle.sctp_halves.proofs.Aligned.{absent-on, place-inside, with-progresses, progress-number, progress-sides}
 use Rattle.sctp_halves.proofs.Sends.{same-place, one_less}

@@ -39,8 +39,8 @@ invariant_of-self-2 g c =
     let report = report-is sum x c.self.invariant c.args.credit _ s.gap_ack_blocks refl cut (length s.duplicate_tsn) counted c.from.result _ c.in_ok-duplicates.duplicates.items (place ∙ ap (λ t. ((t + (2 ^ 32 - c.self.inside.first_tsn)) % 2 ^ 32 + 1) % 2 ^ 32) tsn ∙ cumulative-place sum x c.self.invariant c.args.credit) refl noted in
     let moves = world-acked (world_in c.self.inside) c.args.credit _ c.clear.new.self.items _ network (rw kept report) (search rules) in
     let len = length-mapped (λ (d : Datagram). d.bytes) c.self.inside.network.items ∙ sym (length-mapped datagram_record c.self.inside.network.items) in
-    moved _ _ (reported (world_in c.self.inside) c.args.credit) moves
-    (rw (bytes, c.sack_sent.ensures) (linked-ack sum x c.self.invariant c.args.credit _ s.gap_ack_blocks refl cut (length s.duplicate_tsn) counted s c.in_ok-bytes.bytes (record (filter_of r) { duplicates = [] }) tsn (ap (λ (t : Sack). t.advertised_receiver_window_credit) is) refl (told-is sum x c.self.invariant c.args.credit r refl s is) (search rules) (search rules) len refl))
+    rw c.sack_sent.ensures (moved _ _ (reported (world_in c.self.inside) c.args.credit) moves
+    (rw bytes (linked-ack sum x c.self.invariant c.args.credit _ s.gap_ack_blocks refl cut (length s.duplicate_tsn) counted s c.in_ok-bytes.bytes (record (filter_of r) { duplicates = [] }) tsn (ap (λ (t : Sack). t.advertised_receiver_window_credit) is) refl (told-is sum x c.self.invariant c.args.credit r refl s is) (search rules) (search rules) len refl)))
 
 pub returns-clause-ok : goal.returns-clause-ok
 returns-clause-ok g c =

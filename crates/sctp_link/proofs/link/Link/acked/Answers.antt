@@ -11,7 +11,9 @@ use Rattle.sctp_model.specs.Contents.{cumulative_tsn}
 use Rattle.sctp_model.specs.Reply as R
 use Rattle.sctp_model.specs.Steps.{refusal_of}
 use Rattle.sctp_ties.specs.Amount.{acknowledged_at}
-use Rattle.sctp_halves.specs.Halves.{Sides, sack_taken}
+use Rattle.sctp_transfer.specs.Flight.{released_by, after_sack}
+use Rattle.sctp_halves.specs.Streams.{released}
+use Rattle.sctp_halves.specs.Halves.{Sides}
 use Rattle.sctp_link.specs.Acking.{IsMarking, and_run, and_blocks, in_block}
 use Rattle.sctp_link.specs.Fields.{world_in, state_in}
 use Rattle.sctp_link.proofs.upkeep.Facts.{facts}
@@ -133,10 +135,9 @@ invariant_of-self-2 g c =
     let slots2 = with_items_is (with_items c.self.inside.slots c.acknowledge_run.new.slots) c.acknowledge_blocks.new.slots (omega (arith, c.acknowledge_blocks.auto.slots, c.deref_mut-2.ensures.len)) in
     let last = c.acknowledge_blocks.ensures (world_in c.self.inside) (and_run (acknowledged_at (world_in c.self.inside)) c.self.inside.taken c.max-taken.result) (rw (c.deref_mut-2.ensures.value ∙ slots1) next) in
     let marks : IsMarking (world_in c.self.inside) (and_blocks (and_run (acknowledged_at (world_in c.self.inside)) c.self.inside.taken c.max-taken.result) c.max-taken.result c.rebase.new.sack.gap_ack_blocks.items) (with_items (with_items c.self.inside.slots c.acknowledge_run.new.slots) c.acknowledge_blocks.new.slots).items = rw (slots2, ← c.deref.ensures.value) last in
-    let taken = taken-all sum (state_in c.self.inside) c.args.k there.0 l none there.1 (sack_of c.rebase.new.sack) c.max-taken.result top cum covers c.rebase.ensures.begin c.acked.new.self.streams (with_items (with_items c.self.inside.slots c.acknowledge_run.new.slots) c.acknowledge_blocks.new.slots).items c.acked.new.self.flight
-    refl (ap (λ (h : Sides). h.streams) c.in_ok-acked.ensures.ok) (ap (λ (h : Sides). h.flight) c.in_ok-acked.ensures.ok) marks in
-    let kept : {A : Type 0} (f : Sides → A) → f c.acked.new.self ≡ f (sack_taken (sack_of c.rebase.new.sack) c.self.inside.halves) = λ f. ap f c.in_ok-acked.ensures.ok in
-    rw (kept (λ h. h.fragment_size), kept (λ h. h.max_message_size), kept (λ h. h.cumulative_tsn), kept (λ h. h.beyond), kept (λ h. h.duplicates)) taken.linked
+    let taken = taken-all sum (state_in c.self.inside) c.args.k there.0 l none there.1 (sack_of c.rebase.new.sack) c.max-taken.result top cum covers c.rebase.ensures.begin (released (released_by (sack_of c.rebase.new.sack) c.self.inside.halves.flight) c.self.inside.halves.streams) (with_items (with_items c.self.inside.slots c.acknowledge_run.new.slots) c.acknowledge_blocks.new.slots).items (after_sack (sack_of c.rebase.new.sack) c.self.inside.halves.flight)
+    refl refl refl marks in
+    rw c.in_ok-acked.ensures.ok taken.linked
 
 pub returns-clause-ok : goal.returns-clause-ok
 returns-clause-ok g c =
@@ -160,12 +161,12 @@ returns-clause-ok g c =
     let slots2 = with_items_is (with_items c.self.inside.slots c.acknowledge_run.new.slots) c.acknowledge_blocks.new.slots (omega (arith, c.acknowledge_blocks.auto.slots, c.deref_mut-2.ensures.len)) in
     let last = c.acknowledge_blocks.ensures (world_in c.self.inside) (and_run (acknowledged_at (world_in c.self.inside)) c.self.inside.taken c.max-taken.result) (rw (c.deref_mut-2.ensures.value ∙ slots1) next) in
     let marks : IsMarking (world_in c.self.inside) (and_blocks (and_run (acknowledged_at (world_in c.self.inside)) c.self.inside.taken c.max-taken.result) c.max-taken.result c.rebase.new.sack.gap_ack_blocks.items) (with_items (with_items c.self.inside.slots c.acknowledge_run.new.slots) c.acknowledge_blocks.new.slots).items = rw (slots2, ← c.deref.ensures.value) last in
-    let taken = taken-all sum (state_in c.self.inside) c.args.k there.0 l none there.1 (sack_of c.rebase.new.sack) c.max-taken.result top cum covers c.rebase.ensures.begin c.acked.new.self.streams (with_items (with_items c.self.inside.slots c.acknowledge_run.new.slots) c.acknowledge_blocks.new.slots).items c.acked.new.self.flight
-    refl (ap (λ (h : Sides). h.streams) c.in_ok-acked.ensures.ok) (ap (λ (h : Sides). h.flight) c.in_ok-acked.ensures.ok) marks in
-    rw (← c.self.view_is) (record {
+    let taken = taken-all sum (state_in c.self.inside) c.args.k there.0 l none there.1 (sack_of c.rebase.new.sack) c.max-taken.result top cum covers c.rebase.ensures.begin (released (released_by (sack_of c.rebase.new.sack) c.self.inside.halves.flight) c.self.inside.halves.streams) (with_items (with_items c.self.inside.slots c.acknowledge_run.new.slots) c.acknowledge_blocks.new.slots).items (after_sack (sack_of c.rebase.new.sack) c.self.inside.halves.flight)
+    refl refl refl marks in
+    rw (← c.self.view_is) (rw c.in_ok-acked.ensures.ok (record {
       right = ap R.Acked (c.saturating_sub-bytes.ensures
           ∙ ap (λ n. n - c.inflight_bytes.result) (c.inflight_bytes-before.ensures ∙ ap (λ (q : Outbound). bytes_of q.inflight.chunks) c.outbound.ensures)
-          ∙ ap (λ n. bytes_of c.self.inside.halves.flight.queue.inflight.chunks - n) (c.inflight_bytes.ensures ∙ ap (λ (q : Outbound). bytes_of q.inflight.chunks) c.outbound-2.ensures)
+          ∙ ap (λ n. bytes_of c.self.inside.halves.flight.queue.inflight.chunks - n) (c.inflight_bytes.ensures ∙ ap (λ (q : Outbound). bytes_of q.inflight.chunks) c.outbound-2.ensures ∙ ap (λ (h : Sides). bytes_of h.flight.queue.inflight.chunks) c.in_ok-acked.ensures.ok)
           ∙ taken.bytes);
       moves = taken.moves;
-    })
+    }))

@@ -1,7 +1,6 @@
 use Rattle.std.proofs.Common.{◌≡◌, ℕ, ◌≤◌, true, List, Some, refl, ap, sym, ◌∙◌, arith}
 use Rattle.std.specs.Prelude.{slice_get, if◌then◌else◌}
 use Rattle.std.proofs.lemmas.Bool.Decides.{nat_tests}
-use Rattle.sctp_chunks.specs.ForwardTsn.{ForwardTsn}
 use Rattle.sctp_model.specs.World.{Forward}
 use Rattle.sctp_model.specs.Receiver.{cumulative}
 use Rattle.sctp_model.specs.Changes.{skip_counts, datagram_received}
@@ -9,7 +8,8 @@ use Rattle.sctp_model.specs.Steps.{arrive_reply}
 use Rattle.sctp_model.specs.Reply as R
 use Rattle.sctp_link.specs.Fields.{world_in, state_in}
 use Rattle.sctp_link.proofs.acknowledging.Reporting.{cumulative-place}
-use Rattle.sctp_link.proofs.skipping.SkipComes.{wire_skip, reads-skip}
+use Rattle.sctp_link.specs.Skips.{wire_skip}
+use Rattle.sctp_link.proofs.skipping.SkipComes.{reads-skip}
 use Rattle.sctp_link.proofs.link.Link.arrive_skip.Goals as goal
 
 pub read_forward_tsn-requires : goal.read_forward_tsn-requires
@@ -20,14 +20,12 @@ read_forward_tsn-requires g c =
     let lies : (names : List ℕ) × (slice_get w.network c.args.k ≡ Some (Forward c.args.upto names)) = rw (← c.self.view_is) at c.requires.lies in
     (wire_skip w c.args.upto lies.0, reads-skip sum x c.args.k c.args.upto lies.0 c.self.inside.network.items c.index.result.now c.self.invariant refl refl lies.1 c.index.ensures)
 
-pub follow-requires-clause-tsn : goal.follow-requires-clause-tsn
-follow-requires-clause-tsn g c =
+pub follow-requires-clause-says : goal.follow-requires-clause-says
+follow-requires-clause-says g c =
     let w = world_in c.self.inside in
     let sum = g.C.Checksum.sum c.self.inside.checksum in
     let x = state_in c.self.inside in
-    let lies : (names : List ℕ) × (slice_get w.network c.args.k ≡ Some (Forward c.args.upto names)) = rw (← c.self.view_is) at c.requires.lies in
-    let says = c.in_ok-chunk.ensures.chunk (wire_skip w c.args.upto lies.0) (reads-skip sum x c.args.k c.args.upto lies.0 c.self.inside.network.items c.index.result.now c.self.invariant refl refl lies.1 c.index.ensures) in
-    rw (← c.self.view_is) (ap (λ (f : ForwardTsn). f.new_cumulative_tsn) says)
+    rw (← c.self.view_is) (λ names e. c.in_ok-chunk.ensures.chunk (wire_skip w c.args.upto names) (reads-skip sum x c.args.k c.args.upto names c.self.inside.network.items c.index.result.now c.self.invariant refl refl e c.index.ensures))
 
 pub follow-requires-clause-counts : goal.follow-requires-clause-counts
 follow-requires-clause-counts g c =

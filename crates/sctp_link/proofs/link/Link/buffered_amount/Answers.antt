@@ -1,11 +1,10 @@
-use Rattle.std.proofs.Common.{ap, ◌∙◌, Some}
-use Rattle.sctp_link.proofs.upkeep.Accessors.{amount-open, amount-closed}
+use Rattle.std.proofs.Common.{refl, sym, ◌∙◌}
+use Rattle.sctp_link.specs.Fields.{state_in}
+use Rattle.sctp_link.proofs.upkeep.Accessors.{amount-is}
 use Rattle.sctp_link.proofs.link.Link.buffered_amount.Goals as goal
 
-pub returns-in_default : goal.returns-in_default
-returns-in_default g c = amount-closed c.args.self.now.world c.args.stream c.in_default.ensures
+pub returns-in_err-amount : goal.returns-in_err-amount
+returns-in_err-amount g c = rw (← c.self.view_is) (c.from_residual.ensures ∙ sym c.in_err-amount.was ∙ c.buffered_amount.ensures ∙ amount-is (g.C.Checksum.sum c.self.inside.checksum) (state_in c.self.inside) c.self.invariant c.args.stream refl)
 
 pub returns : goal.returns
-returns g c =
-    let e = c.in-Some.ensures in
-    ap (λ n. Some n) c.buffered_amount.ensures ∙ amount-open c.args.self.now.world c.args.stream c.in-Some.open_stream.now e.1 e.0 e.2
+returns g c = rw (← c.self.view_is) (sym c.in_ok-amount.was ∙ c.buffered_amount.ensures ∙ amount-is (g.C.Checksum.sum c.self.inside.checksum) (state_in c.self.inside) c.self.invariant c.args.stream refl)

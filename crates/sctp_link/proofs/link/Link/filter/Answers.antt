@@ -11,10 +11,10 @@ pub returns : goal.returns
 returns g c =
     let w = world_in c.self.inside in
     let f = c.self.invariant.filter in
-    let held : tsns c.queue.result.now.chunks ≡ c.self.inside.filter.beyond = ap tsns c.queue.ensures.beyond ∙ tsns-mark c.self.inside.filter.beyond in
-    let base : cumulative_tsn w (cumulative w) ≡ c.self.inside.filter.cumulative_tsn = sym (ap (λ (r : FilterRecord). r.cumulative) f) in
+    let held : tsns c.filter.result.now.chunks ≡ c.self.inside.halves.beyond = ap tsns c.filter.ensures.beyond ∙ tsns-mark c.self.inside.halves.beyond in
+    let base : cumulative_tsn w (cumulative w) ≡ c.self.inside.halves.cumulative_tsn = sym (ap (λ (r : FilterRecord). r.cumulative) f) in
     rw (← c.self.view_is)
-    (ap (λ t. let r : FilterRecord = record { cumulative = t; held = tsns c.queue.result.now.chunks; duplicates = c.queue.result.now.duplicates } in r) base
-    ∙ ap (λ ts. let r : FilterRecord = record { cumulative = c.self.inside.filter.cumulative_tsn; held = ts; duplicates = c.queue.result.now.duplicates } in r) held
-    ∙ ap (λ ds. let r : FilterRecord = record { cumulative = c.self.inside.filter.cumulative_tsn; held = c.self.inside.filter.beyond; duplicates = ds } in r) c.queue.ensures.duplicates
+    (ap (λ t. let r : FilterRecord = record { cumulative = t; held = tsns c.filter.result.now.chunks; duplicates = c.filter.result.now.duplicates } in r) base
+    ∙ ap (λ ts. let r : FilterRecord = record { cumulative = c.self.inside.halves.cumulative_tsn; held = ts; duplicates = c.filter.result.now.duplicates } in r) held
+    ∙ ap (λ ds. let r : FilterRecord = record { cumulative = c.self.inside.halves.cumulative_tsn; held = c.self.inside.halves.beyond; duplicates = ds } in r) c.filter.ensures.duplicates
     ∙ f)

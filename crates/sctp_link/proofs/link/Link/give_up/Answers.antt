@@ -1,4 +1,4 @@
-use Rattle.std.proofs.Common.{◌≡◌, ◌<◌, ◌^◌, ◌++◌, Bool, true, false, ap, sym, ◌∙◌, None, refl, rules, arith, length, subst}
+use Rattle.std.proofs.Common.{◌≡◌, ◌<◌, ◌^◌, ◌++◌, Bool, true, false, ap, sym, ◌∙◌, None, refl, rules, arith, subst}
 use Rattle.sctp_lists.proofs.Getting.{length-mapped}
 use Rattle.sctp_transfer.specs.Flight.{message_to_abandon}
 use Rattle.sctp_halves.specs.Halves.{Sides, given_up_on}
@@ -6,7 +6,6 @@ use Rattle.sctp_model.specs.Amounts.{growth}
 use Rattle.sctp_model.specs.Messages.{message_of, place_of, is_half_sent}
 use Rattle.sctp_model.specs.Steps.{refusal_of}
 use Rattle.sctp_model.specs.declared.event.Event.TheVariants as E
-use Rattle.sctp_link.specs.declared.record.Message.{Message}
 use Rattle.sctp_link.specs.Fields.{state_in, world_in}
 use Rattle.sctp_link.specs.OpenStreams.{marks}
 use Rattle.sctp_link.specs.Records.{message_record}

@@ -1,16 +1,23 @@
-use Rattle.std.proofs.Common.{◌<◌, length, arith}
+use Rattle.std.proofs.Common.{◌≡◌, ◌<◌, ◌≤◌, true, length, not, refl, ap, sym, ◌∙◌, arith}
+use Rattle.std.specs.Prelude.{◌&&◌, nat_le}
+use Rattle.std.proofs.lemmas.Bool.Decides.{nat_tests}
+use Rattle.sctp_model.specs.Receiver.{cumulative, arrived_at}
+use Rattle.sctp_link.specs.declared.record.Slot.{Slot}
 use Rattle.sctp_link.specs.Fields.{world_in, state_in}
-use Rattle.sctp_link.proofs.upkeep.Facts.{facts}
-use Rattle.sctp_link.proofs.receiver.Hears.{unheard}
+use Rattle.sctp_link.proofs.acknowledging.Reporting.{cumulative-place}
+use Rattle.sctp_link.proofs.receiver.Hears.{slot-raw, slots-made}
 use Rattle.sctp_link.proofs.link.Link.is_new.Goals as goal
 
-pub overflow_cast-tsn : goal.overflow_cast-tsn
-overflow_cast-tsn g c =
-    let made : c.args.place < length (world_in c.self.inside).slots = rw (← c.self.view_is) at c.requires in
-    let few = (facts (g.C.Checksum.sum c.self.inside.checksum) (state_in c.self.inside) c.self.invariant).few in
-    omega (arith, made, few)
-
-pub returns : goal.returns
-returns g c =
-    let made : c.args.place < length (world_in c.self.inside).slots = rw (← c.self.view_is) at c.requires in
-    rw (← c.self.view_is) (unheard (g.C.Checksum.sum c.self.inside.checksum) (state_in c.self.inside) c.args.place c.self.invariant made c.has_come.result c.has_come.ensures)
+pub returns-then-cumulative-place : goal.returns-then-cumulative-place
+returns-then-cumulative-place g c =
+    let w = world_in c.self.inside in
+    let sum = g.C.Checksum.sum c.self.inside.checksum in
+    let x = state_in c.self.inside in
+    let slots = c.self.inside.slots.items in
+    let messages = c.self.inside.messages.items in
+    let made : c.args.place < length w.slots = rw (← c.self.view_is) at c.requires in
+    let inside : c.args.place < length slots = omega (arith, made, slots-made sum x c.self.invariant slots messages refl refl) in
+    let at-place : arrived_at w c.args.place ≡ c.index.result.now.arrived = ap (λ t. t.arrived) (slot-raw sum x c.self.invariant slots messages refl refl c.args.place c.index.result.now inside) ∙ ap (λ (t : Slot). t.arrived) (sym c.index.ensures) in
+    let at : cumulative w ≤ c.args.place = omega (arith, c.if-cumulative-place.true, c.count_of-cumulative.ensures, c.cumulative_tsn.ensures, cumulative-place sum x c.self.invariant 0) in
+    let past : nat_le (cumulative w) c.args.place ≡ true = grind (arith, nat_tests) in
+    rw (← c.self.view_is) (sym (ap (λ b. b && not (arrived_at w c.args.place)) past ∙ ap not at-place))

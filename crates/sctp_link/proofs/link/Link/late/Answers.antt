@@ -16,14 +16,14 @@ returns-in_err-tsns-clause-wants g c =
     let sum = g.C.Checksum.sum c.self.inside.checksum in
     let x = state_in c.self.inside in
     let l = c.self.invariant in
-    rw (← c.self.view_is) (on-err c.from_residual.result _ (takes-unless sum x l c.args.now _ refl (λ e. c.in_err-tsns.ensures.idle (ap (late_tsns c.args.now) c.queue.ensures ∙ e))))
+    rw (← c.self.view_is) (on-err c.from_residual.result _ (takes-unless sum x l c.args.now _ refl (λ e. c.in_err-tsns.ensures.idle (ap (late_tsns c.args.now) c.outbound.ensures ∙ e))))
 
 pub give_up_half_sent-requires : goal.give_up_half_sent-requires
 give_up_half_sent-requires g c =
     let sum = g.C.Checksum.sum c.self.inside.checksum in
     let x = state_in c.self.inside in
     let l = c.self.invariant in
-    rw (c.deref.ensures.value, ← c.self.view_is) (fly sum x l c.args.now c.in_ok-tsns.tsns.items (c.in_ok-tsns.ensures.ok ∙ ap (late_tsns c.args.now) c.queue.ensures))
+    rw (c.deref.ensures.value, ← c.self.view_is) (fly sum x l c.args.now c.in_ok-tsns.tsns.items (c.in_ok-tsns.ensures.ok ∙ ap (late_tsns c.args.now) c.outbound.ensures))
 
 pub returns-in_err-bytes-clause-wants : goal.returns-in_err-bytes-clause-wants
 returns-in_err-bytes-clause-wants g c =
@@ -31,7 +31,7 @@ returns-in_err-bytes-clause-wants g c =
     let x = state_in c.self.inside in
     let l = c.self.invariant in
     let some : 0 < length c.in_ok-tsns.tsns.items = rw c.deref.ensures.value at c.in_err-bytes.ensures.wants in
-    rw (← c.self.view_is) (on-err c.from_residual-in_err-bytes.result _ (takes sum x l c.args.now c.in_ok-tsns.tsns.items (c.in_ok-tsns.ensures.ok ∙ ap (late_tsns c.args.now) c.queue.ensures) some))
+    rw (← c.self.view_is) (on-err c.from_residual-in_err-bytes.result _ (takes sum x l c.args.now c.in_ok-tsns.tsns.items (c.in_ok-tsns.ensures.ok ∙ ap (late_tsns c.args.now) c.outbound.ensures) some))
 
 pub loop-at-init : goal.loop-at-init
 loop-at-init g c =
@@ -44,7 +44,7 @@ loop-at-init g c =
     let o = find (λ t. is_half_sent w (message_of_tsn w t)) ts in
     let moves : v ≡ given_up w o = rw (c.deref.ensures.value, ← c.self.view_is) at c.in_ok-bytes.ensures.moves in
     let bytes : c.in_ok-bytes.bytes ≡ growth w v = rw (← c.self.view_is) at c.in_ok-bytes.ensures.bytes in
-    let first : GivesInTurn w v o ts 0 c.in_ok-bytes.bytes = subst (λ u. GivesInTurn w u o ts 0 c.in_ok-bytes.bytes) (sym moves) (begun sum x l c.args.now ts (c.in_ok-tsns.ensures.ok ∙ ap (late_tsns c.args.now) c.queue.ensures) o c.in_ok-bytes.bytes refl (bytes ∙ ap (growth w) moves)) in
+    let first : GivesInTurn w v o ts 0 c.in_ok-bytes.bytes = subst (λ u. GivesInTurn w u o ts 0 c.in_ok-bytes.bytes) (sym moves) (begun sum x l c.args.now ts (c.in_ok-tsns.ensures.ok ∙ ap (late_tsns c.args.now) c.outbound.ensures) o c.in_ok-bytes.bytes refl (bytes ∙ ap (growth w) moves)) in
     record { turns = rw (← c.self.view_is) first; checksum = c.in_ok-bytes.ensures.checksum }
 
 pub give_up_whole-bytes-requires-clause-accepted : goal.give_up_whole-bytes-requires-clause-accepted
@@ -52,7 +52,7 @@ give_up_whole-bytes-requires-clause-accepted g c =
     let w = c.args.self.now.world in
     let ts = c.in_ok-tsns.tsns.items in
     let o = find (λ t. is_half_sent w (message_of_tsn w t)) ts in
-    let all : list_all (λ t. is_in_flight w (place_of w t)) ts ≡ true = rw (← c.self.view_is) (fly (g.C.Checksum.sum c.self.inside.checksum) (state_in c.self.inside) c.self.invariant c.args.now ts (c.in_ok-tsns.ensures.ok ∙ ap (late_tsns c.args.now) c.queue.ensures)) in
+    let all : list_all (λ t. is_in_flight w (place_of w t)) ts ≡ true = rw (← c.self.view_is) (fly (g.C.Checksum.sum c.self.inside.checksum) (state_in c.self.inside) c.self.invariant c.args.now ts (c.in_ok-tsns.ensures.ok ∙ ap (late_tsns c.args.now) c.outbound.ensures)) in
     let lt : c.loop-at.at < length ts = omega (arith, c.loop-at-test.true, c.len-at-end.ensures) in
     accepted-now w ts o all c.loop-at.self.world c.loop-at.at c.loop-at.bytes c.index.result.now c.loop-at.invariant.turns lt c.index.ensures
 
@@ -61,7 +61,7 @@ give_up_whole-bytes-requires-clause-whole g c =
     let w = c.args.self.now.world in
     let ts = c.in_ok-tsns.tsns.items in
     let o = find (λ t. is_half_sent w (message_of_tsn w t)) ts in
-    let all : list_all (λ t. is_in_flight w (place_of w t)) ts ≡ true = rw (← c.self.view_is) (fly (g.C.Checksum.sum c.self.inside.checksum) (state_in c.self.inside) c.self.invariant c.args.now ts (c.in_ok-tsns.ensures.ok ∙ ap (late_tsns c.args.now) c.queue.ensures)) in
+    let all : list_all (λ t. is_in_flight w (place_of w t)) ts ≡ true = rw (← c.self.view_is) (fly (g.C.Checksum.sum c.self.inside.checksum) (state_in c.self.inside) c.self.invariant c.args.now ts (c.in_ok-tsns.ensures.ok ∙ ap (late_tsns c.args.now) c.outbound.ensures)) in
     let lt : c.loop-at.at < length ts = omega (arith, c.loop-at-test.true, c.len-at-end.ensures) in
     takes-none w ts o all c.loop-at.self.world c.loop-at.at c.loop-at.bytes c.index.result.now c.loop-at.invariant.turns lt c.index.ensures
 
@@ -70,7 +70,7 @@ overflow_add-bytes g c =
     let w = c.args.self.now.world in
     let ts = c.in_ok-tsns.tsns.items in
     let o = find (λ t. is_half_sent w (message_of_tsn w t)) ts in
-    let all : list_all (λ t. is_in_flight w (place_of w t)) ts ≡ true = rw (← c.self.view_is) (fly (g.C.Checksum.sum c.self.inside.checksum) (state_in c.self.inside) c.self.invariant c.args.now ts (c.in_ok-tsns.ensures.ok ∙ ap (late_tsns c.args.now) c.queue.ensures)) in
+    let all : list_all (λ t. is_in_flight w (place_of w t)) ts ≡ true = rw (← c.self.view_is) (fly (g.C.Checksum.sum c.self.inside.checksum) (state_in c.self.inside) c.self.invariant c.args.now ts (c.in_ok-tsns.ensures.ok ∙ ap (late_tsns c.args.now) c.outbound.ensures)) in
     let lt : c.loop-at.at < length ts = omega (arith, c.loop-at-test.true, c.len-at-end.ensures) in
     let next : GivesInTurn w c.give_up_whole-bytes.new.self.world o ts (c.loop-at.at + 1) (c.loop-at.bytes + c.give_up_whole-bytes.result) = goes-on w ts o all c.loop-at.self.world c.loop-at.at c.loop-at.bytes c.index.result.now c.loop-at.invariant.turns lt c.index.ensures c.give_up_whole-bytes.new.self.world c.give_up_whole-bytes.result c.give_up_whole-bytes.ensures.moves c.give_up_whole-bytes.ensures.bytes in
     omega (arith, next.bytes_are, turn-few w c.give_up_whole-bytes.new.self.world next.turn)
@@ -80,7 +80,7 @@ loop-at-preserved g c =
     let w = c.args.self.now.world in
     let ts = c.in_ok-tsns.tsns.items in
     let o = find (λ t. is_half_sent w (message_of_tsn w t)) ts in
-    let all : list_all (λ t. is_in_flight w (place_of w t)) ts ≡ true = rw (← c.self.view_is) (fly (g.C.Checksum.sum c.self.inside.checksum) (state_in c.self.inside) c.self.invariant c.args.now ts (c.in_ok-tsns.ensures.ok ∙ ap (late_tsns c.args.now) c.queue.ensures)) in
+    let all : list_all (λ t. is_in_flight w (place_of w t)) ts ≡ true = rw (← c.self.view_is) (fly (g.C.Checksum.sum c.self.inside.checksum) (state_in c.self.inside) c.self.invariant c.args.now ts (c.in_ok-tsns.ensures.ok ∙ ap (late_tsns c.args.now) c.outbound.ensures)) in
     let lt : c.loop-at.at < length ts = omega (arith, c.loop-at-test.true, c.len-at-end.ensures) in
     let next : GivesInTurn w c.give_up_whole-bytes.new.self.world o ts (c.loop-at.at + 1) (c.loop-at.bytes + c.give_up_whole-bytes.result) = goes-on w ts o all c.loop-at.self.world c.loop-at.at c.loop-at.bytes c.index.result.now c.loop-at.invariant.turns lt c.index.ensures c.give_up_whole-bytes.new.self.world c.give_up_whole-bytes.result c.give_up_whole-bytes.ensures.moves c.give_up_whole-bytes.ensures.bytes in
     record { turns = next; checksum = c.give_up_whole-bytes.ensures.checksum ∙ c.loop-at.invariant.checksum }
@@ -97,7 +97,7 @@ returns-clause-ok g c =
     let so-far : GivesInTurn w v o ts c.loop-at.at c.loop-at.bytes = rw (← c.self.view_is) at c.loop-at.invariant.turns in
     let end : c.loop-at.at ≡ length ts = omega (arith, c.loop-at-test.false, c.loop-at.auto.at-end, c.len-at-end.ensures) in
     let count : c.len.result ≡ length ts = omega (arith, c.len.ensures, c.in_ok-tsns.tsns.ok.0) in
-    rw (count, ← c.self.view_is) (done sum x l c.args.now ts (c.in_ok-tsns.ensures.ok ∙ ap (late_tsns c.args.now) c.queue.ensures) v o c.loop-at.bytes refl (subst (λ k. GivesInTurn w v o ts k c.loop-at.bytes) end so-far))
+    rw (count, ← c.self.view_is) (done sum x l c.args.now ts (c.in_ok-tsns.ensures.ok ∙ ap (late_tsns c.args.now) c.outbound.ensures) v o c.loop-at.bytes refl (subst (λ k. GivesInTurn w v o ts k c.loop-at.bytes) end so-far))
 
 pub returns-clause-checksum : goal.returns-clause-checksum
 returns-clause-checksum g c = c.loop-at.invariant.checksum

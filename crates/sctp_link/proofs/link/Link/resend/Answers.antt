@@ -36,5 +36,6 @@ invariant_of-self-2 g c =
     let more : c.put.new.items.items ≡ c.self.inside.network.items ++ (let d : Datagram = record { kind = K.Data places; bytes = c.in_ok-bytes.bytes } in d) ∷ [] = search rules in
     let network = network-more c.self.inside.network.items c.put.new.items.items (K.Data places) c.in_ok-bytes.bytes more ∙ ap (λ ps. (world_in c.self.inside).network ++ Data ps ∷ []) c.in_ok-places.ensures.places in
     let bytes = bytes-more c.self.inside.network.items c.put.new.items.items (K.Data places) c.in_ok-bytes.bytes more in
-    moved _ _ (resent (world_in c.self.inside) c.args.tsn) (ap (λ ds. record (world_in c.self.inside) { network = ds }) network)
-    (rw (bytes, c.count_resend.ensures.counted c.in_ok-chunk.chunk e) (linked-resend (g.C.Checksum.sum c.self.inside.checksum) (state_in c.self.inside) c.self.invariant c.args.tsn (search rules) ok c.in_ok-chunk.chunk c.in_ok-bytes.bytes (min (c.in_ok-chunk.chunk.nsent + 1) (2 ^ 32 - 1)) (with_inflight c.self.inside.halves.flight.queue (change_where (has_tsn c.args.tsn) (with_nsent (min (c.in_ok-chunk.chunk.nsent + 1) (2 ^ 32 - 1))) c.self.inside.halves.flight.queue.inflight.chunks)) e (search rules) (search rules) (length-mapped (λ (d : Datagram). d.bytes) c.self.inside.network.items ∙ sym (length-mapped datagram_record c.self.inside.network.items)) refl))
+    rw (c.count_resend.ensures.counted c.in_ok-chunk.chunk e)
+    (moved _ _ (resent (world_in c.self.inside) c.args.tsn) (ap (λ ds. record (world_in c.self.inside) { network = ds }) network)
+    (rw bytes (linked-resend (g.C.Checksum.sum c.self.inside.checksum) (state_in c.self.inside) c.self.invariant c.args.tsn (search rules) ok c.in_ok-chunk.chunk c.in_ok-bytes.bytes (min (c.in_ok-chunk.chunk.nsent + 1) (2 ^ 32 - 1)) (with_inflight c.self.inside.halves.flight.queue (change_where (has_tsn c.args.tsn) (with_nsent (min (c.in_ok-chunk.chunk.nsent + 1) (2 ^ 32 - 1))) c.self.inside.halves.flight.queue.inflight.chunks)) e (search rules) (search rules) (length-mapped (λ (d : Datagram). d.bytes) c.self.inside.network.items ∙ sym (length-mapped datagram_record c.self.inside.network.items)) refl)))

@@ -70,8 +70,12 @@ invariant_of-self-2 g c =
     let kept : length c.take_fragments.new.messages ≡ vec_len (with_items ms c.start_from.new.messages) = search rules in
     let places : c.in_ok-places.places.items ≡ numbers_from (length c.self.inside.slots.items) c.len-count.result = search rules in
     let rest = c.take_fragments.ensures.rest in
-    let before : {A : Type 0} (f : Sides → A) → f c.start-2.new.self ≡ f c.self.inside.halves = λ f. ap f c.start-2.ensures ∙ ap f c.in_ok-reserve-3.ensures.ok in
-    rw (rest.fragment_size ∙ before (λ h. h.fragment_size), rest.max_message_size ∙ before (λ h. h.max_message_size), rest.cumulative ∙ before (λ h. h.cumulative_tsn), rest.beyond ∙ before (λ h. h.beyond), rest.duplicates ∙ before (λ h. h.duplicates))
+    let fs : c.take_fragments.new.halves.fragment_size ≡ c.self.inside.halves.fragment_size = rest.fragment_size ∙ ap (λ (h : Sides). h.fragment_size) c.start-2.ensures ∙ ap (λ (h : Sides). h.fragment_size) c.in_ok-reserve-3.ensures.ok in
+    let mm : c.take_fragments.new.halves.max_message_size ≡ c.self.inside.halves.max_message_size = rest.max_message_size ∙ ap (λ (h : Sides). h.max_message_size) c.start-2.ensures ∙ ap (λ (h : Sides). h.max_message_size) c.in_ok-reserve-3.ensures.ok in
+    let cu : c.take_fragments.new.halves.cumulative_tsn ≡ c.self.inside.halves.cumulative_tsn = rest.cumulative ∙ ap (λ (h : Sides). h.cumulative_tsn) c.start-2.ensures ∙ ap (λ (h : Sides). h.cumulative_tsn) c.in_ok-reserve-3.ensures.ok in
+    let be : c.take_fragments.new.halves.beyond ≡ c.self.inside.halves.beyond = rest.beyond ∙ ap (λ (h : Sides). h.beyond) c.start-2.ensures ∙ ap (λ (h : Sides). h.beyond) c.in_ok-reserve-3.ensures.ok in
+    let du : c.take_fragments.new.halves.duplicates ≡ c.self.inside.halves.duplicates = rest.duplicates ∙ ap (λ (h : Sides). h.duplicates) c.start-2.ensures ∙ ap (λ (h : Sides). h.duplicates) c.in_ok-reserve-3.ensures.ok in
+    rw (fs, mm, cu, be, du)
     (linked-sent (g.C.Checksum.sum c.self.inside.checksum) (state_in c.self.inside) c.self.invariant c.args.now c.in-Some.first.now e ms.items c.self.inside.slots.items refl refl refl refl
     (sender_of c.start-2.new.self c.deref_mut-2.result.now c.reserve.new.self.items)
     c.reserve-3.new.self.flight.queue _ (ap (λ (h : Sides). h.flight.queue) c.in_ok-reserve-3.ensures.ok) (ap (λ (h : Sides). h.flight.queue) c.start-2.ensures) is (ap (λ (h : Sides). h.streams) c.start-2.ensures ∙ ap (λ (h : Sides). h.streams) c.in_ok-reserve-3.ensures.ok) c.reserve.ensures.items (ap (λ (h : Sides). h.flight.next_tsn) c.start-2.ensures ∙ ap (λ (h : Sides). h.flight.next_tsn) c.in_ok-reserve-3.ensures.ok) c.len-count.result
@@ -80,7 +84,7 @@ invariant_of-self-2 g c =
     (with_items (with_items ms c.start_from.new.messages) c.take_fragments.new.messages).items (with_items_is (with_items ms c.start_from.new.messages) c.take_fragments.new.messages kept)
     c.self.inside.network.items c.put.new.items.items c.in_ok-places.places.items (K.Data c.in_ok-places.places) c.in_ok-bytes.bytes places refl refl (search rules)
     c.in_ok-chunks.chunks.items chunks c.in_ok-bytes.ensures.text c.in_ok-bytes.ensures.reads refl c.len-self-inside.result (search rules)
-    c.take_fragments.new.halves.flight.acked_tsn (rest.acked ∙ before (λ h. h.flight.acked_tsn)))
+    c.take_fragments.new.halves.flight.acked_tsn (rest.acked ∙ ap (λ (h : Sides). h.flight.acked_tsn) c.start-2.ensures ∙ ap (λ (h : Sides). h.flight.acked_tsn) c.in_ok-reserve-3.ensures.ok))
 
 pub returns-clause-ok : goal.returns-clause-ok
 returns-clause-ok g c =
@@ -93,7 +97,10 @@ returns-clause-ok g c =
     let len : c.len-count.result ≡ length c.in_ok-chunks.chunks.items = search rules in
     let kept : length c.take_fragments.new.messages ≡ vec_len (with_items ms c.start_from.new.messages) = search rules in
     let places : c.in_ok-places.places.items ≡ numbers_from (length c.self.inside.slots.items) c.len-count.result = search rules in
-    rw (c.next_tsn-tsn.ensures, ← c.self.view_is)
+    let rest = c.take_fragments.ensures.rest in
+    let fs : c.take_fragments.new.halves.fragment_size ≡ c.self.inside.halves.fragment_size = rest.fragment_size ∙ ap (λ (h : Sides). h.fragment_size) c.start-2.ensures ∙ ap (λ (h : Sides). h.fragment_size) c.in_ok-reserve-3.ensures.ok in
+    let mm : c.take_fragments.new.halves.max_message_size ≡ c.self.inside.halves.max_message_size = rest.max_message_size ∙ ap (λ (h : Sides). h.max_message_size) c.start-2.ensures ∙ ap (λ (h : Sides). h.max_message_size) c.in_ok-reserve-3.ensures.ok in
+    rw (c.next_tsn-tsn.ensures, fs, mm, ← c.self.view_is)
     (send-is-right (g.C.Checksum.sum c.self.inside.checksum) (state_in c.self.inside) c.self.invariant c.args.now c.in-Some.first.now e ms.items c.self.inside.slots.items refl refl refl refl
     (sender_of c.start-2.new.self c.deref_mut-2.result.now c.reserve.new.self.items)
     c.reserve-3.new.self.flight.queue _ (ap (λ (h : Sides). h.flight.queue) c.in_ok-reserve-3.ensures.ok) (ap (λ (h : Sides). h.flight.queue) c.start-2.ensures) is (ap (λ (h : Sides). h.streams) c.start-2.ensures ∙ ap (λ (h : Sides). h.streams) c.in_ok-reserve-3.ensures.ok) c.reserve.ensures.items (ap (λ (h : Sides). h.flight.next_tsn) c.start-2.ensures ∙ ap (λ (h : Sides). h.flight.next_tsn) c.in_ok-reserve-3.ensures.ok) c.len-count.result
@@ -133,11 +140,11 @@ returns-in_err-reserve-2-clause-wants g c =
     let f = (next-is (g.C.Checksum.sum c.self.inside.checksum) (state_in c.self.inside) c.self.invariant c.in-Some.first.now e).front in
     rw (← c.self.view_is) (on-err c.from_residual-in_err-reserve-2.result _ (ap is_some f))
 
-pub returns-in_err-reserve_inflight-clause-wants : goal.returns-in_err-reserve_inflight-clause-wants
-returns-in_err-reserve_inflight-clause-wants g c =
+pub returns-in_err-reserve-3-clause-wants : goal.returns-in_err-reserve-3-clause-wants
+returns-in_err-reserve-3-clause-wants g c =
     let e : peeked c.self.inside.halves.flight.queue.pending ≡ Some c.in-Some.first.now = search rules in
     let f = (next-is (g.C.Checksum.sum c.self.inside.checksum) (state_in c.self.inside) c.self.invariant c.in-Some.first.now e).front in
-    rw (← c.self.view_is) (on-err c.from_residual-in_err-reserve_inflight.result _ (ap is_some f))
+    rw (← c.self.view_is) (on-err c.from_residual-in_err-reserve-3.result _ (ap is_some f))
 
 pub returns-in_err-reserve-clause-err : goal.returns-in_err-reserve-clause-err
 returns-in_err-reserve-clause-err g c =
@@ -146,11 +153,5 @@ returns-in_err-reserve-clause-err g c =
 pub returns-in_err-reserve-2-clause-err : goal.returns-in_err-reserve-2-clause-err
 returns-in_err-reserve-2-clause-err g c =
     rw (← c.self.view_is) (on-err c.from_residual-in_err-reserve-2.result _
-    (ap (λ (ss : List Slot). record (world_in c.self.inside) { slots = map slot_record ss; network = map datagram_record c.reserve-2.new.self.items }) c.reserve.ensures.items
-    ∙ ap (λ (ns : List Datagram). record (world_in c.self.inside) { network = map datagram_record ns }) c.reserve-2.ensures.items))
-
-pub returns-in_err-reserve_inflight-clause-err : goal.returns-in_err-reserve_inflight-clause-err
-returns-in_err-reserve_inflight-clause-err g c =
-    rw (← c.self.view_is) (on-err c.from_residual-in_err-reserve_inflight.result _
     (ap (λ (ss : List Slot). record (world_in c.self.inside) { slots = map slot_record ss; network = map datagram_record c.reserve-2.new.self.items }) c.reserve.ensures.items
     ∙ ap (λ (ns : List Datagram). record (world_in c.self.inside) { network = map datagram_record ns }) c.reserve-2.ensures.items))

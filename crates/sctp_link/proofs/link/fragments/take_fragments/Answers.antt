@@ -1,4 +1,4 @@
-use Rattle.std.proofs.Common.{arith, ◌∙◌}
+use Rattle.std.proofs.Common.{arith}
 use Rattle.sctp_link.proofs.link.fragments.take_fragments.Goals as goal
 
 pub take_next-requires-clause-able : goal.take_next-requires-clause-able
@@ -9,9 +9,3 @@ take_next-requires-clause-flight c = let t = c.loop-at-test.true in omega (arith
 
 pub take_next-requires-clause-room : goal.take_next-requires-clause-room
 take_next-requires-clause-room c = let t = c.loop-at-test.true in omega (arith, t, c.loop-at.invariant.room)
-
-pub invariant-step-loop-at-clause-rest : goal.invariant-step-loop-at-clause-rest
-invariant-step-loop-at-clause-rest c =
-    let a = c.take_next.ensures.rest in
-    let b = c.loop-at.invariant.rest in
-    record { acked = a.acked ∙ b.acked; cumulative = a.cumulative ∙ b.cumulative; beyond = a.beyond ∙ b.beyond; duplicates = a.duplicates ∙ b.duplicates; fragment_size = a.fragment_size ∙ b.fragment_size; max_message_size = a.max_message_size ∙ b.max_message_size }

@@ -1,9 +1,9 @@
-use Rattle.std.proofs.Common.{◌≡◌, ◌+◌, ◌<◌, ◌^◌, Some, true, length, ap, ◌∙◌, rules, arith, refl, grind}
+use Rattle.std.proofs.Common.{◌≡◌, ◌+◌, ◌<◌, ◌^◌, Some, true, length, ap, ◌∙◌, rules, arith, refl, sym}
 use Rattle.std.specs.Prelude.{is_some, if◌then◌else◌}
 use Rattle.std.proofs.lemmas.Bool.Decides.{nat_tests}
 use Rattle.sctp_outbound.specs.pending_queue.PendingQueue.{peeked}
-use Rattle.sctp_outbound.specs.outbound_queue.OutboundQueue.{following_tsn}
-use Rattle.sctp_halves.specs.Halves.{Sides}
+use Rattle.sctp_outbound.specs.outbound_queue.OutboundQueue.{sent_next, following_tsn}
+use Rattle.sctp_link.specs.OpenStreams.{begun_by}
 use Rattle.sctp_link.proofs.sender.Ahead.{room-less}
 use Rattle.sctp_link.proofs.link.fragments.take_next.Goals as goal
 
@@ -17,7 +17,7 @@ pub returns-clause-flight : goal.returns-clause-flight
 returns-clause-flight c =
     let f = c.args.halves.now.flight in
     rw (c.take_fragment-slot.ensures.rest, c.send_next.ensures)
-    (room-less f.queue c.send_next.new.self.flight.queue f.next_tsn c.args.now c.requires.able.chunk c.requires.able.shown (ap (λ (h : Sides). h.flight.queue) c.send_next.ensures) c.requires.flight)
+    (room-less f.queue (sent_next f.queue f.next_tsn c.args.now) f.next_tsn c.args.now c.requires.able.chunk c.requires.able.shown refl c.requires.flight)
 
 pub returns-clause-leaves : goal.returns-clause-leaves
 returns-clause-leaves c =
@@ -31,7 +31,7 @@ returns-clause-leaves c =
       is = c.index-messages-number.is;
       outbound = refl;
       messages = search rules;
-      streams = refl;
+      streams = ap (λ m. begun_by m c.args.halves.now.streams) (sym c.index-messages-number.is);
       slots = search rules;
       next_tsn = ap (λ o. if is_some o then following_tsn f.next_tsn else f.next_tsn) shown;
     })

@@ -1,0 +1,7 @@
+use Rattle.std.proofs.Common.{refl}
+use Rattle.sctp_link.specs.Fields.{state_in}
+use Rattle.sctp_link.proofs.upkeep.Accessors.{queue-is}
+use Rattle.sctp_link.proofs.link.Link.reassembly.Goals as goal
+
+pub returns : goal.returns
+returns g c = rw (← c.self.view_is) (queue-is (g.C.Checksum.sum c.self.inside.checksum) (state_in c.self.inside) c.self.invariant c.args.stream refl c.reassembly.result c.reassembly.ensures)

@@ -1,0 +1,175 @@
+-- A FORWARD-TSN that counts is followed: what it makes of a link.
+use Rattle.std.proofs.Common.{◌≡◌, ℕ, ◌+◌, ◌<◌, ◌≤◌, false, List, [], ◌∷◌, length, map, Some, None, refl, ap, sym, ◌∙◌, arith, not, true}
+use Rattle.std.specs.Prelude.{if◌then◌else◌, max, slice_get, slice_index_or, is_some, nat_le}
+use Rattle.std.proofs.Math.Path.{subst}
+use Rattle.std.proofs.lemmas.Bool.Decides.{nat_tests}
+use Rattle.sctp_chunks.specs.ForwardTsn.{ForwardTsn}
+use Rattle.sctp_reassembly.specs.reassembly_queue.ReassemblyQueue.{held_after_unordered_skip}
+use Rattle.sctp_model.specs.declared.event.Event.TheVariants as E
+use Rattle.sctp_model.specs.World.{World, StreamRecord, Forward}
+use Rattle.sctp_model.specs.Messages.{stream_at, tsn_of}
+use Rattle.sctp_model.specs.Receiver.{cumulative, next_of}
+use Rattle.sctp_model.specs.Changes.{named_by, skip_received, datagram_received}
+use Rattle.sctp_model.specs.Queues.{filter_of}
+use Rattle.sctp_model.specs.Steps.{refusal_of, after}
+use Rattle.sctp_model.proofs.sender.Network
+use Rattle.sctp_ties.specs.Holds.{reassembly_of, seen_of}
+use Rattle.sctp_ties.specs.Naming.{on_stream, low_named, end_named}
+use Rattle.sctp_ties.specs.Counts.{counters_on}
+use Rattle.sctp_ties.proofs.arriving.Filter.{filter-skipped}
+use Rattle.sctp_ties.proofs.acknowledging.QuietSender
+use Rattle.sctp_ties.proofs.skipping.SkipStep.{with_skip, skip-step}
+use Rattle.sctp_ties.proofs.skipping.SkipSpans.{queue-skip, next-skip, named-from}
+use Rattle.sctp_ties.proofs.amounts.StreamCounters.{counters-same}
+use Rattle.sctp_transfer.specs.Inbound.{ssns_of, skipped_each}
+use Rattle.sctp_transfer.specs.Receiver.{forward_refusal}
+use Rattle.sctp_transfer.specs.Receiver as R
+use Rattle.sctp_transfer.specs.declared.receiver.refusal.ReceiverRefusal.TheVariants.{TsnOpposite}
+use Rattle.sctp_transfer.specs.TsnFilter.{Filter, skipped_to, is_opposite}
+use Rattle.sctp_lists.specs.Serial.{at_or_before}
+use Rattle.sctp_halves.specs.Streams.{OpenStream, stream_numbers, on_inbound, forwarded_on}
+use Rattle.sctp_halves.specs.Halves.{Sides, reception_of, with_filter_of, followed, after_forward}
+use Rattle.sctp_link.specs.declared.skipped.Named.{Named}
+use Rattle.sctp_link.specs.declared.record.Message.{Message}
+use Rattle.sctp_link.specs.Linked.{State, IsLinked, IsOpenStream, stats_of, filter_shown}
+use Rattle.sctp_link.specs.Places.{IsApart}
+use Rattle.sctp_link.specs.Records.{message_record, progress_of, stream_record}
+use Rattle.sctp_link.specs.Skips.{named_from, none_named, with_names, wire_skip}
+use Rattle.sctp_link.proofs.receiver.Came.{filter-gone, never-opposite, passed-is}
+use Rattle.sctp_link.proofs.receiver.Hears.{raw-at, raw-length}
+use Rattle.sctp_link.proofs.upkeep.Facts.{facts}
+use Rattle.sctp_link.proofs.upkeep.StreamsAfter.{stream-then, linked-then}
+use Rattle.sctp_link.proofs.skipping.SkipComes.{Skips, skips-in, names-are, open-at, spans}
+use Rattle.sctp_link.proofs.skipping.NamesInTurn.{pairs_of, queue-in-turn, number-each, largest-each}
+
+-- a stream after it
+abbrev pub skipped_stream : World → ℕ → List ℕ → List Message → OpenStream → OpenStream
+skipped_stream w upto names ms y = with_names ms names (on_inbound (forwarded_on (wire_skip w upto names).streams (tsn_of w upto)) y)
+
+mapped-twice : {A B C : Type 0} (f : A → B) (g : B → C) (xs : List A) → map g (map f xs) ≡ map (λ x. g (f x)) xs
+mapped-twice f g [] = refl
+mapped-twice f g (x ∷ xs) = ap (λ ys. g (f x) ∷ ys) (mapped-twice f g xs)
+
+module _ (sum : List ℕ → ℕ) (x : State) (l : IsLinked sum x) (k upto : ℕ) (names : List ℕ) (none : refusal_of x.world (E.Arrive k) ≡ None) (e : slice_get x.world.network k ≡ Some (Forward upto names)) (counts : cumulative x.world ≤ upto) where
+  abbrev w : World
+  w = x.world
+
+  abbrev v : World
+  v = after x.world (E.Arrive k)
+
+  pub after-is : v ≡ with_skip w upto names
+  after-is = ap (datagram_received w) e ∙ skip-step w upto names counts
+
+  pub frame : Network.Same w v
+  frame = Network.same-received w (slice_get w.network k)
+
+  quiet : QuietSender.SameToSender w v
+  quiet = subst (QuietSender.SameToSender w) (sym (ap (datagram_received w) e)) (QuietSender.same-skip w upto names)
+
+  counters-stay : (t : ℕ) → counters_on v t ≡ counters_on w t
+  counters-stay t = counters-same w.setup w (E.Arrive k) t (facts sum x l).sane refl refl
+
+  skips : Skips w upto names
+  skips = skips-in sum x l k upto names e
+
+  -- ## Both halves
+
+  module _ (f : ForwardTsn) (y : Sides) (says : f ≡ wire_skip w upto names) (same : x.filter ≡ R.filter_of (reception_of y)) where
+    -- its TSN is past what came
+    pub never-refused : forward_refusal f (reception_of y) ≡ None
+    never-refused =
+        let t = facts sum x l in
+        ap (λ (g : ForwardTsn). forward_refusal g (reception_of y)) says
+        ∙ ap (λ g. if is_opposite (tsn_of w upto) g then Some TsnOpposite else None) (sym same)
+        ∙ ap (λ b. if b then Some TsnOpposite else None) (never-opposite w x.filter t.sound.sound.skipped_made t.few l.filter upto skips.made)
+
+    not-stale : at_or_before (tsn_of w upto) y.cumulative_tsn ≡ false
+    not-stale =
+        let t = facts sum x l in
+        let past : nat_le (cumulative w) upto ≡ true = grind (arith, nat_tests) in
+        ap (λ (g : Filter). at_or_before (tsn_of w upto) g.cumulative_tsn) (sym same)
+        ∙ passed-is w x.filter t.sound.sound.skipped_made t.few l.filter upto skips.made
+        ∙ ap not past
+
+    -- the streams give up what is named, and it is recorded how far they were named
+    pub sides-then : (ms : List Message) (z u : Sides) → z ≡ after_forward f y → u ≡ record z { streams = map (with_names ms names) z.streams } → u ≡ record (with_filter_of (skipped_to (tsn_of w upto) (R.filter_of (reception_of y))) y) { streams = map (skipped_stream w upto names ms) y.streams }
+    sides-then ms z u a b =
+        let one : z ≡ followed (wire_skip w upto names) y = a ∙ ap (λ (g : ForwardTsn). after_forward g y) says ∙ ap (λ c. if c then y else followed (wire_skip w upto names) y) not-stale in
+        b ∙ ap (λ (s : Sides). record s { streams = map (with_names ms names) s.streams }) one
+        ∙ ap (λ ls. record (with_filter_of (skipped_to (tsn_of w upto) (R.filter_of (reception_of y))) y) { streams = ls })
+        (mapped-twice (on_inbound (forwarded_on (wire_skip w upto names).streams (tsn_of w upto))) (with_names ms names) y.streams)
+
+  module _ (ms : List Message) (messages_are : x.world.messages ≡ map message_record ms) (progress_are : x.progress ≡ map progress_of ms) (streams_are : x.world.streams ≡ map stream_record x.open_streams) where
+    named-is : (s : ℕ) → named_from ms s none_named names ≡ (let r : Named = record { low = low_named w s names; end = end_named w s names } in r)
+    named-is s = names-are sum x l ms messages_are progress_are upto s names skips.fit
+
+    abbrev turned : OpenStream → OpenStream
+    turned = skipped_stream x.world upto names ms
+
+    -- ## The record
+
+    stream-is : (y : OpenStream) → stream_record (turned y) ≡ named_by w names (stream_record y)
+    stream-is y =
+        ap (λ (n : Named). record (stream_record y) { named = max y.named n.end }) (named-is y.state.stream_identifier)
+        ∙ ap (λ m. record (stream_record y) { named = m }) (sym (named-from w y.named (on_stream w y.state.stream_identifier names)))
+
+    streams-are : (ls : List OpenStream) → map stream_record (map turned ls) ≡ map (named_by w names) (map stream_record ls)
+    streams-are [] = refl
+    streams-are (y ∷ ls) = ap (λ r. r ∷ map stream_record (map turned ls)) (stream-is y) ∙ ap (λ rs. named_by w names (stream_record y) ∷ rs) (streams-are ls)
+
+    pub world-skipped : (skipped : ℕ) → skipped ≡ upto + 1 → record w { streams = map stream_record (map turned x.open_streams); skipped = skipped } ≡ v
+    world-skipped skipped same =
+        ap (λ n. record w { streams = map stream_record (map turned x.open_streams); skipped = n }) same
+        ∙ ap (λ rs. record w { streams = rs; skipped = upto + 1 }) (streams-are x.open_streams ∙ ap (map (named_by w names)) (sym streams_are))
+        ∙ sym after-is
+
+    -- ## The streams
+
+    stream-skipped : (y : OpenStream) (r : StreamRecord) → stream_at w y.state.stream_identifier ≡ Some r → IsOpenStream w y → IsOpenStream v (turned y)
+    stream-skipped y r o i =
+        let s = y.state.stream_identifier in
+        let f = facts sum x l in
+        let tsn = tsn_of w upto in
+        let end = (named_from ms s none_named names).end in
+        let end-is : end ≡ end_named w s names = ap (λ (n : Named). n.end) (named-is s) in
+        let sp = spans sum x l k upto names none e counts s (ap is_some o) in
+        let queue = queue-skip w s upto names r f.sound.sound skips.made counts o sp.0 sp.1 in
+        let ssns = ssns_of y.inbound.queue.si (pairs_of w names) in
+        stream-then sum x l (E.Arrive k) none frame refl y (turned y) i refl
+        (ap (λ t. held_after_unordered_skip tsn (skipped_each (ssns_of t (pairs_of w names)) y.inbound.queue).held) i.si
+        ∙ ap (held_after_unordered_skip tsn) (queue-in-turn sum x l k upto names none e counts s r y.inbound.queue o i.held)
+        ∙ sym queue ∙ ap (λ u. reassembly_of u s) (sym after-is))
+        (number-each ssns y.inbound.queue) (largest-each ssns y.inbound.queue) refl refl refl refl
+        (ap (λ n. max y.next n) end-is ∙ ap (λ n. max n (end_named w s names)) i.next ∙ sym (next-skip w s upto names r f.sound.sound o) ∙ ap (λ u. next_of u s) (sym after-is))
+        refl (i.stats ∙ ap stats_of (sym (counters-stay s)))
+
+    each-skipped : (j : ℕ) (d : OpenStream) → j < length (map turned x.open_streams) → IsOpenStream v (slice_index_or (map turned x.open_streams) j d)
+    each-skipped j d lt =
+        let inside : j < length x.open_streams = omega (arith, lt, raw-length turned x.open_streams) in
+        let o = open-at x streams_are j d inside in
+        subst (IsOpenStream v) (sym (raw-at turned x.open_streams j d d inside))
+        (stream-skipped (slice_index_or x.open_streams j d) o.0 o.1 (l.open_streams j d inside))
+
+    numbers-same : (ls : List OpenStream) → stream_numbers (map turned ls) ≡ stream_numbers ls
+    numbers-same [] = refl
+    numbers-same (y ∷ ls) = ap (λ ns. y.state.stream_identifier ∷ ns) (numbers-same ls)
+
+    -- ## The filter
+
+    pub filter-then : (filter : Filter) → filter ≡ skipped_to (tsn_of w upto) x.filter → filter_shown filter ≡ filter_of v
+    filter-then filter is =
+        filter-gone w v (tsn_of w upto) x.filter filter l.filter is
+        (ap seen_of after-is ∙ filter-skipped w upto (facts sum x l).few skips.made counts)
+        (ap (λ u. (filter_of u).duplicates) after-is)
+
+    pub linked-skip : (filter : Filter) (u : World) → filter_shown filter ≡ filter_of v → u ≡ v → IsLinked sum (record x { world = u; open_streams = map turned x.open_streams; filter = filter })
+    linked-skip filter u held same =
+        linked-then sum x l (E.Arrive k) none frame x.progress (map turned x.open_streams) filter u refl held each-skipped
+        (subst IsApart (sym (numbers-same x.open_streams)) l.apart) quiet same
+
+    pub received-follow : (skipped : ℕ) → skipped ≡ upto + 1 → record w { streams = map stream_record (map turned x.open_streams); skipped = skipped } ≡ skip_received w upto names
+    received-follow skipped count = world-skipped skipped count ∙ ap (datagram_received w) e
+
+    pub linked-follow : (skipped : ℕ) (filter : Filter) → skipped ≡ upto + 1 → filter ≡ skipped_to (tsn_of w upto) x.filter → IsLinked sum (record x { world = record w { streams = map stream_record (map turned x.open_streams); skipped = skipped }; open_streams = map turned x.open_streams; filter = filter })
+    linked-follow skipped filter count is =
+        linked-skip filter (record w { streams = map stream_record (map turned x.open_streams); skipped = skipped }) (filter-then filter is) (world-skipped skipped count)
