@@ -1,10 +1,11 @@
 -- What a link's queues tell of what comes to its receiver.
-use Rattle.std.proofs.Common.{◌≡◌, ℕ, zero, suc, ◌+◌, ◌-◌, ◌<◌, ◌^◌, ◌%◌, Bool, true, false, List, [], ◌∷◌, length, map, Some, refl, ap, sym, ◌∙◌, arith}
-use Rattle.std.specs.Prelude.{find, min, max, slice_index_or}
+use Rattle.std.proofs.Common.{◌≡◌, ℕ, zero, suc, ◌+◌, ◌-◌, ◌<◌, ◌^◌, ◌%◌, Bool, true, false, List, [], ◌∷◌, length, map, Option, Some, None, refl, ap, sym, ◌∙◌, arith}
+use Rattle.std.specs.Prelude.{find, min, max, option_map, slice_index_or}
 use Rattle.std.proofs.Math.Path.{subst}
 use Rattle.sctp_lists.proofs.More.{not_both}
 use Rattle.sctp_chunks.specs.declared.chunk.chunk_payload_data.ChunkPayloadData.{ChunkPayloadData}
 use Rattle.sctp_chunks.specs.ChunkSet.{ChunkSet}
+use Rattle.sctp_reassembly.specs.reassembly_queue.ReassemblyQueue.{ReassemblyState}
 use Rattle.sctp_model.specs.World.{World}
 use Rattle.sctp_model.specs.Messages.{message_at, slot_at, message_of, index_of, sent_of, tsn_of, place_of, no_message, no_slot}
 use Rattle.sctp_model.specs.Receiver.{is_held, held_on, next_of, least, greatest}
@@ -97,6 +98,29 @@ module _ (sum : List ℕ → ℕ) (x : State) (l : IsLinked sum x) (slots : List
         ap (λ (t : Message). t.index) (t ∙ ap (λ k. slice_index_or messages k m) (lead-number y z))
         ∙ sym (kept-raw kept n m (omega (arith, made, messages-made)))
         ∙ l.indexes n (subst (λ k. 0 < sent_of x.world k) led.of (slot-sent (shape x.world) (place_of x.world (slice_index_or chunks 0 d).tsn) (facts sum x l).sane.sender led.made)) o
+
+-- ## What is told of an open stream
+
+pub none-told : (o : Option OpenStream) → None ≡ option_map (λ l. l.next) o → o ≡ None
+none-told None e = refl
+none-told (Some l) e = cc
+
+pub told-next : (o : Option OpenStream) (n : ℕ) → Some n ≡ option_map (λ l. l.next) o → (l : OpenStream) × ((o ≡ Some l) × (n ≡ l.next))
+told-next None n e = cc
+told-next (Some l) n e = (l, (refl, inner e))
+  where
+    inner : Some n ≡ Some l.next → n ≡ l.next
+    inner h = cc
+
+pub told-queue : (o : Option OpenStream) (l : OpenStream) (q : ReassemblyState) → o ≡ Some l → Some q ≡ option_map (λ l. l.inbound.queue) o → q ≡ l.inbound.queue
+told-queue None l q f e = cc
+told-queue (Some k) l q f e = inner e ∙ ap (λ (t : OpenStream). t.inbound.queue) (same f)
+  where
+    inner : Some q ≡ Some k.inbound.queue → q ≡ k.inbound.queue
+    inner h = cc
+
+    same : Some k ≡ Some l → k ≡ l
+    same h = cc
 
 -- ## The ends of what is held
 
