@@ -3,9 +3,9 @@ use Rattle.std.proofs.Common.{◌≡◌, ℕ, zero, suc, ◌+◌, ◌<◌, Bool,
 use Rattle.std.specs.Prelude.{◌⊎◌, ◌==◌, ◌&&◌, is_some, if◌then◌else◌, find, unwrap_or, slice_index_or, slice_set, Option, option_map}
 use Rattle.std.specs.List.{list_any}
 use Rattle.std.proofs.Math.Path.{subst}
-use Rattle.std.proofs.lemmas.List.{length-set}
+use Rattle.std.proofs.lemmas.List.{length-set, get_or-set_same}
 use Rattle.std.proofs.lemmas.List.Sums.{sum_by-cons}
-use Rattle.sctp_lists.specs.Lists.{changed}
+use Rattle.sctp_lists.specs.Lists.{changed, change_where}
 use Rattle.sctp_lists.proofs.Cases.{same-yes, same-is, or-left}
 use Rattle.sctp_lists.proofs.KeptLemmas.{front-kept, FrontOf}
 use Rattle.sctp_chunks.specs.ChunkSet.{ChunkSet}
@@ -40,7 +40,7 @@ use Rattle.sctp_ties.proofs.reading.ReadOne
 use Rattle.sctp_ties.proofs.reading.ReadOne.{ReadsWhole, ReadsOrdered}
 use Rattle.sctp_ties.proofs.arriving.SpanEnds.{Begins, set-begins, whole-begins}
 use Rattle.sctp_ties.proofs.amounts.StreamCounters.{counters-read, counters-nothing}
-use Rattle.sctp_halves.specs.Streams.{OpenStream, both_ways, has_number, stats_in, stream_numbers}
+use Rattle.sctp_halves.specs.Streams.{OpenStream, both_ways, has_number, on_inbound, read_recorded, stats_in, stream_numbers}
 use Rattle.sctp_link.specs.declared.record.Message.{Message}
 use Rattle.sctp_transfer.specs.Inbound.{counted, stream_read}
 use Rattle.sctp_transfer.specs.declared.receiver.inbound_streams.InboundStream.{InboundStream}
@@ -50,8 +50,9 @@ use Rattle.sctp_link.specs.Linked.{State, IsLinked, IsOpenStream, stats_of}
 use Rattle.sctp_link.specs.Records.{message_record, stream_record}
 use Rattle.sctp_stream.specs.Stats.{counted_bytes, with_received}
 use Rattle.sctp_link.proofs.sender.Beginning.{index_kept}
-use Rattle.sctp_link.proofs.upkeep.Apart.{IsApart, apart, differ, each-set, map-set_same, number-found, streams-set}
-use Rattle.sctp_link.proofs.upkeep.Places.{indexed-set}
+use Rattle.sctp_link.specs.Places.{IsApart}
+use Rattle.sctp_link.proofs.upkeep.Apart.{differ, each-set, map-set_same, number-found, streams-set}
+use Rattle.sctp_link.proofs.upkeep.Places.{apart-set, changed-found}
 use Rattle.sctp_link.proofs.upkeep.Facts.{facts, over}
 use Rattle.sctp_link.proofs.upkeep.StreamsAfter.{stream-then, linked-then}
 use Rattle.sctp_link.proofs.upkeep.Lookups.{some-open, none-open}
@@ -170,6 +171,21 @@ module _ (sum : List ℕ → ℕ) (x : State) (l : IsLinked sum x) (s at : ℕ) 
           stream-then sum x l (E.Read s) none frame refl t t i refl (i.held ∙ sym (NextRead.read-others w s r f.sound.sound f.sound.loose span open' t.state.stream_identifier off)) refl refl refl refl refl refl
           (i.next ∙ sym (next t.state.stream_identifier off)) refl (i.stats ∙ ap stats_of (sym (counters t.state.stream_identifier off)))
 
+  -- the streams once it is read, and once that is recorded
+  abbrev taken : OpenStream
+  taken = on_inbound stream_read (slice_index_or x.open_streams at d)
+
+  read-once : change_where (has_number s) (on_inbound stream_read) x.open_streams ≡ slice_set x.open_streams at taken
+  read-once = sym (changed-found s x.open_streams l.apart (on_inbound stream_read) at d lt (id-at d))
+
+  read-twice : (ordered : Bool) (index : ℕ) → change_where (has_number s) (read_recorded ordered index) (change_where (has_number s) (on_inbound stream_read) x.open_streams) ≡ slice_set (slice_set x.open_streams at taken) at (read_recorded ordered index taken)
+  read-twice ordered index =
+      let same = get_or-set_same x.open_streams at taken d lt in
+      ap (change_where (has_number s) (read_recorded ordered index)) read-once
+      ∙ sym (changed-found s (slice_set x.open_streams at taken) (apart-set x.open_streams at taken d l.apart refl) (read_recorded ordered index) at d (omega (arith, lt, length-set x.open_streams at taken))
+      (ap (λ (t : OpenStream). t.state.stream_identifier) same ∙ id-at d))
+      ∙ ap (λ (t : OpenStream). slice_set (slice_set x.open_streams at taken) at (read_recorded ordered index t)) same
+
   -- ## Nothing to read
 
   module _ (e : message_read (slice_index_or x.open_streams at d).inbound.queue.held ≡ None) where
@@ -197,12 +213,11 @@ module _ (sum : List ℕ → ℕ) (x : State) (l : IsLinked sum x) (s at : ℕ) 
         (apart-set x.open_streams at z d l.apart refl)
         quiet world-same
 
-    module _ (u : OpenStream) (is : u ≡ record (slice_index_or x.open_streams at d) { inbound = stream_read (slice_index_or x.open_streams at d).inbound }) where
-      pub world-nothing : record w { streams = map stream_record (slice_set x.open_streams at u) } ≡ v
-      world-nothing = ap {B = World} (λ (t : OpenStream). record w { streams = map stream_record (slice_set x.open_streams at t) }) is ∙ world-same
+    pub world-nothing : record w { streams = map stream_record (change_where (has_number s) (on_inbound stream_read) x.open_streams) } ≡ v
+    world-nothing = ap {B = World} (λ ls. record w { streams = map stream_record ls }) read-once ∙ world-same
 
-      pub linked-nothing : IsLinked sum (record x { world = record w { streams = map stream_record (slice_set x.open_streams at u) }; open_streams = slice_set x.open_streams at u })
-      linked-nothing = subst (λ (t : OpenStream). IsLinked sum (record x { world = record w { streams = map stream_record (slice_set x.open_streams at t) }; open_streams = slice_set x.open_streams at t })) (sym is) linked-same
+    pub linked-nothing : IsLinked sum (record x { world = record w { streams = map stream_record (change_where (has_number s) (on_inbound stream_read) x.open_streams) }; open_streams = change_where (has_number s) (on_inbound stream_read) x.open_streams })
+    linked-nothing = subst (λ ls. IsLinked sum (record x { world = record w { streams = map stream_record ls }; open_streams = ls })) (sym read-once) linked-same
 
   -- ## A message is read
 
@@ -344,13 +359,13 @@ module _ (sum : List ℕ → ℕ) (x : State) (l : IsLinked sum x) (s at : ℕ) 
           ∙ ap (λ i. map (λ (t : StreamRecord). if t.stream == i then without_first t else t) (map stream_record x.open_streams)) (id-at d)
           ∙ ap (map (λ (t : StreamRecord). if t.stream == s then without_first t else t)) (sym streams_are)
 
-      pub world-read : record w { streams = map stream_record (slice_set x.open_streams at z); messages = messages } ≡ v
+      world-read : record w { streams = map stream_record (slice_set x.open_streams at z); messages = messages } ≡ v
       world-read =
           ap {B = World} (λ rs. record w { streams = rs; messages = messages }) streams-are
           ∙ ap {B = World} (λ ms. record w { streams = map (λ (t : StreamRecord). if t.stream == s then without_first t else t) w.streams; messages = ms }) messages_are
           ∙ sym (ap (read_of w s) read-is.1)
 
-      pub linked-read : (progress : List (ℕ × ℕ)) → progress ≡ x.progress → IsLinked sum (record x { world = record w { streams = map stream_record (slice_set x.open_streams at z); messages = messages }; progress = progress; open_streams = slice_set x.open_streams at z })
+      linked-read : (progress : List (ℕ × ℕ)) → progress ≡ x.progress → IsLinked sum (record x { world = record w { streams = map stream_record (slice_set x.open_streams at z); messages = messages }; progress = progress; open_streams = slice_set x.open_streams at z })
       linked-read progress same =
           linked-then sum x l (E.Read s) none frame progress (slice_set x.open_streams at z) x.filter (record w { streams = map stream_record (slice_set x.open_streams at z); messages = messages }) same (l.filter ∙ sym filter-stays)
           (each-read z open_stream-is hands.other counters-other)
@@ -358,11 +373,26 @@ module _ (sum : List ℕ → ℕ) (x : State) (l : IsLinked sum x) (s at : ℕ) 
           quiet world-read
 
       -- where the stream was set before
-      pub world-twice : (a : OpenStream) → record w { streams = map stream_record (slice_set (slice_set x.open_streams at a) at z); messages = messages } ≡ v
+      world-twice : (a : OpenStream) → record w { streams = map stream_record (slice_set (slice_set x.open_streams at a) at z); messages = messages } ≡ v
       world-twice a = ap {B = World} (λ ls. record w { streams = map stream_record ls; messages = messages }) (set-set x.open_streams at a z) ∙ world-read
 
-      pub linked-twice : (a : OpenStream) (progress : List (ℕ × ℕ)) → progress ≡ x.progress → IsLinked sum (record x { world = record w { streams = map stream_record (slice_set (slice_set x.open_streams at a) at z); messages = messages }; progress = progress; open_streams = slice_set (slice_set x.open_streams at a) at z })
+      linked-twice : (a : OpenStream) (progress : List (ℕ × ℕ)) → progress ≡ x.progress → IsLinked sum (record x { world = record w { streams = map stream_record (slice_set (slice_set x.open_streams at a) at z); messages = messages }; progress = progress; open_streams = slice_set (slice_set x.open_streams at a) at z })
       linked-twice a progress same = subst (λ ls. IsLinked sum (record x { world = record w { streams = map stream_record ls; messages = messages }; progress = progress; open_streams = ls })) (sym (set-set x.open_streams at a z)) (linked-read progress same)
+
+    -- so the halves record it
+    module _ (m : Message) (messages : List W.Message) (m_is : message_at x.world read-is.0 ≡ message_record m) (messages_are : messages ≡ changed mark_read read-is.0 x.world.messages) (index : m.index ≡ index_kept x.progress read-is.0) where
+      abbrev recorded : List OpenStream
+      recorded = change_where (has_number s) (read_recorded m.ordered m.index) (change_where (has_number s) (on_inbound stream_read) x.open_streams)
+
+      pub world-recorded : record w { streams = map stream_record recorded; messages = messages } ≡ v
+      world-recorded =
+          ap {B = World} (λ ls. record w { streams = map stream_record ls; messages = messages }) (read-twice m.ordered m.index)
+          ∙ world-twice m messages (read_recorded m.ordered m.index taken) m_is messages_are refl refl refl index refl refl refl refl taken
+
+      pub linked-recorded : (progress : List (ℕ × ℕ)) → progress ≡ x.progress → IsLinked sum (record x { world = record w { streams = map stream_record recorded; messages = messages }; progress = progress; open_streams = recorded })
+      linked-recorded progress same =
+          subst (λ ls. IsLinked sum (record x { world = record w { streams = map stream_record ls; messages = messages }; progress = progress; open_streams = ls })) (sym (read-twice m.ordered m.index))
+          (linked-twice m messages (read_recorded m.ordered m.index taken) m_is messages_are refl refl refl index refl refl refl refl taken progress same)
 
 -- ## What the queue answered
 
@@ -375,8 +405,15 @@ some-mapped None c e = cc
 some-mapped (Some t) c e = let z : c ≡ at_start t = cc in ap (λ (a : Chunks). Some a.set) (sym z)
 
 -- a stream that is read is open
-pub never-shut : (w : World) (s : ℕ) (open_streams : List OpenStream) → w.streams ≡ map stream_record open_streams → refusal_of w (E.Read s) ≡ None → find (has_number s) open_streams ≡ None → ⊥
+never-shut : (w : World) (s : ℕ) (open_streams : List OpenStream) → w.streams ≡ map stream_record open_streams → refusal_of w (E.Read s) ≡ None → find (has_number s) open_streams ≡ None → ⊥
 never-shut w s open_streams same ok shut =
     let o : unless (is_some (stream_at w s)) StreamUnknown None ≡ Some StreamUnknown = ap (λ b. unless b StreamUnknown None) (none-open w s open_streams same shut) in
     let z : Some StreamUnknown ≡ None = sym o ∙ ok in
     cc
+
+pub open-there : (w : World) (s : ℕ) (open_streams : List OpenStream) → w.streams ≡ map stream_record open_streams → refusal_of w (E.Read s) ≡ None → (t : OpenStream) × (find (has_number s) open_streams ≡ Some t)
+open-there w s open_streams same ok = by (find (has_number s) open_streams) refl
+  where
+    by : (o : Option OpenStream) → find (has_number s) open_streams ≡ o → (t : OpenStream) × (find (has_number s) open_streams ≡ Some t)
+    by None e = absurd (never-shut w s open_streams same ok e)
+    by (Some t) e = (t, e)

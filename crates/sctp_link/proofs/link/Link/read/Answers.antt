@@ -1,10 +1,8 @@
-use Rattle.std.proofs.Common.{◌≡◌, ap, sym, ◌∙◌, ◌<◌, ◌+◌, ◌-◌, ◌^◌, ◌%◌, true, Some, None, refl, arith, map, length, drop}
-use Rattle.std.specs.Prelude.{find, slice_index_or, slice_set, if◌then◌else◌, ◌&&◌, ◌==◌}
-use Rattle.std.proofs.lemmas.List.{get_or-set_same}
+use Rattle.std.proofs.Common.{◌≡◌, ap, sym, ◌∙◌, ◌<◌, ◌+◌, ◌-◌, ◌^◌, ◌%◌, true, Some, None, refl, arith, map, length}
+use Rattle.std.specs.Prelude.{find, is_some, slice_index_or, slice_set}
 use Rattle.sctp_lists.specs.Lists.{changed}
 use Rattle.sctp_chunks.specs.ChunkSet.{ChunkSet}
 use Rattle.sctp_reassembly.specs.reassembly_queue.ReassemblyQueue.{message_read}
-use Rattle.sctp_transfer.specs.Inbound.{stream_read}
 use Rattle.sctp_model.specs.Messages.{message_at}
 use Rattle.sctp_model.specs.Changes.{mark_read}
 use Rattle.sctp_model.specs.Contents.{chunk_at}
@@ -16,19 +14,15 @@ use Rattle.sctp_link.specs.declared.record.Message.{Message}
 use Rattle.sctp_link.specs.Fields.{world_in, state_in}
 use Rattle.sctp_link.specs.Records.{message_record, progress_of}
 use Rattle.sctp_link.proofs.upkeep.Apart.{map-set, map-set_same}
+use Rattle.sctp_link.proofs.upkeep.Places.{placed}
 use Rattle.sctp_link.proofs.receiver.Hears.{lead-slot, lead-number, messages-made, message-raw, kept-raw}
-use Rattle.sctp_link.proofs.receiver.HandsOut.{none-mapped, some-mapped, world-nothing, linked-nothing, reply-nothing, read-is, hands, hands-begins, ppi-handed, low, reply-read, world-twice, linked-twice, never-shut}
+use Rattle.sctp_link.proofs.receiver.HandsOut.{none-mapped, some-mapped, open-there, world-nothing, linked-nothing, reply-nothing, read-is, hands, hands-begins, ppi-handed, low, reply-read, world-recorded, linked-recorded}
 use Rattle.sctp_link.proofs.link.Link.read.Goals as goal
 
-pub unreachable-requires : goal.unreachable-requires
-unreachable-requires g c =
-    let w = world_in c.self.inside in
-    let sum = g.C.Checksum.sum c.self.inside.checksum in
-    let x = state_in c.self.inside in
-    let s = c.args.stream in
-    let open_streams = c.self.inside.open_streams.items.items in
-    let ok : refusal_of w (E.Read s) ≡ None = rw (← c.self.view_is) at c.requires in
-    never-shut w s open_streams refl ok (c.in_default.ensures)
+pub read-requires : goal.read-requires
+read-requires g c =
+    let ok : refusal_of (world_in c.self.inside) (E.Read c.args.stream) ≡ None = rw (← c.self.view_is) at c.requires in
+    ap is_some (open-there (world_in c.self.inside) c.args.stream c.self.inside.halves.streams refl ok).1
 
 pub invariant_of-self : goal.invariant_of-self
 invariant_of-self g c =
@@ -36,33 +30,35 @@ invariant_of-self g c =
     let sum = g.C.Checksum.sum c.self.inside.checksum in
     let x = state_in c.self.inside in
     let s = c.args.stream in
-    let open_streams = c.self.inside.open_streams.items.items in
-    let at = c.in-Some.at in
-    let d = c.index_mut.result.now in
-    let lt : at < length open_streams = c.in-Some.ensures.0 in
-    let found : (d : OpenStream) → find (has_number s) open_streams ≡ Some (slice_index_or open_streams at d) = λ d. c.in-Some.ensures.1 d in
-    let rest : c.read.new.self ≡ record (slice_index_or open_streams at d) { inbound = stream_read (slice_index_or open_streams at d).inbound } =
-    c.read.ensures.rest ∙ ap (λ (l : OpenStream). record l { inbound = stream_read l.inbound }) c.index_mut.ensures.value in
+    let open_streams = c.self.inside.halves.streams in
+    let ok : refusal_of w (E.Read s) ≡ None = rw (← c.self.view_is) at c.requires in
+    let t = open-there w s open_streams refl ok in
+    let place = placed s open_streams t.0 t.1 in
+    let at = place.0 in
+    let d = t.0 in
+    let lt : at < length open_streams = place.1.0 in
+    let found : (d : OpenStream) → find (has_number s) open_streams ≡ Some (slice_index_or open_streams at d) = λ d. t.1 ∙ ap (λ l. Some l) (sym (place.1.1 d)) in
     let e : message_read (slice_index_or open_streams at d).inbound.queue.held ≡ None =
-    ap (λ (l : OpenStream). message_read l.inbound.queue.held) (sym c.index_mut.ensures.value) ∙ none-mapped (message_read d.inbound.queue.held) c.in_default-read.ensures.message in
-    linked-nothing sum x c.self.invariant s at d refl lt found e c.read.new.self rest
+    ap (λ (l : OpenStream). message_read l.inbound.queue.held) (place.1.1 d) ∙ none-mapped (message_read d.inbound.queue.held) (c.in_default.ensures.message d t.1) in
+    rw c.read.ensures.rest (linked-nothing sum x c.self.invariant s at d refl lt found e)
 
-pub returns-in_default-read-clause-right : goal.returns-in_default-read-clause-right
-returns-in_default-read-clause-right g c =
+pub returns-in_default-clause-right : goal.returns-in_default-clause-right
+returns-in_default-clause-right g c =
     let w = world_in c.self.inside in
     let sum = g.C.Checksum.sum c.self.inside.checksum in
     let x = state_in c.self.inside in
     let s = c.args.stream in
-    let open_streams = c.self.inside.open_streams.items.items in
-    let at = c.in-Some.at in
-    let d = c.index_mut.result.now in
-    let lt : at < length open_streams = c.in-Some.ensures.0 in
-    let found : (d : OpenStream) → find (has_number s) open_streams ≡ Some (slice_index_or open_streams at d) = λ d. c.in-Some.ensures.1 d in
-    let rest : c.read.new.self ≡ record (slice_index_or open_streams at d) { inbound = stream_read (slice_index_or open_streams at d).inbound } =
-    c.read.ensures.rest ∙ ap (λ (l : OpenStream). record l { inbound = stream_read l.inbound }) c.index_mut.ensures.value in
+    let open_streams = c.self.inside.halves.streams in
+    let ok : refusal_of w (E.Read s) ≡ None = rw (← c.self.view_is) at c.requires in
+    let t = open-there w s open_streams refl ok in
+    let place = placed s open_streams t.0 t.1 in
+    let at = place.0 in
+    let d = t.0 in
+    let lt : at < length open_streams = place.1.0 in
+    let found : (d : OpenStream) → find (has_number s) open_streams ≡ Some (slice_index_or open_streams at d) = λ d. t.1 ∙ ap (λ l. Some l) (sym (place.1.1 d)) in
     let e : message_read (slice_index_or open_streams at d).inbound.queue.held ≡ None =
-    ap (λ (l : OpenStream). message_read l.inbound.queue.held) (sym c.index_mut.ensures.value) ∙ none-mapped (message_read d.inbound.queue.held) c.in_default-read.ensures.message in
-    rw (← c.self.view_is) (record { right = reply-nothing sum x c.self.invariant s at d refl lt found e; moves = world-nothing sum x c.self.invariant s at d refl lt found e c.read.new.self rest })
+    ap (λ (l : OpenStream). message_read l.inbound.queue.held) (place.1.1 d) ∙ none-mapped (message_read d.inbound.queue.held) (c.in_default.ensures.message d t.1) in
+    rw (← c.self.view_is) (rw c.read.ensures.rest (record { right = reply-nothing sum x c.self.invariant s at d refl lt found e; moves = world-nothing sum x c.self.invariant s at d refl lt found e }))
 
 pub first_tsn-requires : goal.first_tsn-requires
 first_tsn-requires g c =
@@ -70,16 +66,17 @@ first_tsn-requires g c =
     let sum = g.C.Checksum.sum c.self.inside.checksum in
     let x = state_in c.self.inside in
     let s = c.args.stream in
-    let open_streams = c.self.inside.open_streams.items.items in
-    let at = c.in-Some.at in
-    let d = c.index_mut.result.now in
-    let lt : at < length open_streams = c.in-Some.ensures.0 in
-    let found : (d : OpenStream) → find (has_number s) open_streams ≡ Some (slice_index_or open_streams at d) = λ d. c.in-Some.ensures.1 d in
-    let rest : c.read.new.self ≡ record (slice_index_or open_streams at d) { inbound = stream_read (slice_index_or open_streams at d).inbound } =
-    c.read.ensures.rest ∙ ap (λ (l : OpenStream). record l { inbound = stream_read l.inbound }) c.index_mut.ensures.value in
-    let set = c.in-Some-read.chunks.set in
+    let open_streams = c.self.inside.halves.streams in
+    let ok : refusal_of w (E.Read s) ≡ None = rw (← c.self.view_is) at c.requires in
+    let t = open-there w s open_streams refl ok in
+    let place = placed s open_streams t.0 t.1 in
+    let at = place.0 in
+    let d = t.0 in
+    let lt : at < length open_streams = place.1.0 in
+    let found : (d : OpenStream) → find (has_number s) open_streams ≡ Some (slice_index_or open_streams at d) = λ d. t.1 ∙ ap (λ l. Some l) (sym (place.1.1 d)) in
+    let set = c.in-Some.chunks.set in
     let e : message_read (slice_index_or open_streams at d).inbound.queue.held ≡ Some set =
-    ap (λ (l : OpenStream). message_read l.inbound.queue.held) (sym c.index_mut.ensures.value) ∙ some-mapped (message_read d.inbound.queue.held) c.in-Some-read.chunks c.in-Some-read.ensures.message in
+    ap (λ (l : OpenStream). message_read l.inbound.queue.held) (place.1.1 d) ∙ some-mapped (message_read d.inbound.queue.held) c.in-Some.chunks (c.in-Some.ensures.message d t.1) in
     omega (arith, ap length (hands-begins sum x c.self.invariant s at d refl lt found set e).is)
 
 pub index-requires : goal.index-requires
@@ -88,20 +85,20 @@ index-requires g c =
     let sum = g.C.Checksum.sum c.self.inside.checksum in
     let x = state_in c.self.inside in
     let s = c.args.stream in
-    let open_streams = c.self.inside.open_streams.items.items in
-    let at = c.in-Some.at in
-    let d = c.index_mut.result.now in
-    let lt : at < length open_streams = c.in-Some.ensures.0 in
-    let found : (d : OpenStream) → find (has_number s) open_streams ≡ Some (slice_index_or open_streams at d) = λ d. c.in-Some.ensures.1 d in
-    let rest : c.read.new.self ≡ record (slice_index_or open_streams at d) { inbound = stream_read (slice_index_or open_streams at d).inbound } =
-    c.read.ensures.rest ∙ ap (λ (l : OpenStream). record l { inbound = stream_read l.inbound }) c.index_mut.ensures.value in
-    let set = c.in-Some-read.chunks.set in
+    let open_streams = c.self.inside.halves.streams in
+    let ok : refusal_of w (E.Read s) ≡ None = rw (← c.self.view_is) at c.requires in
+    let t = open-there w s open_streams refl ok in
+    let place = placed s open_streams t.0 t.1 in
+    let at = place.0 in
+    let d = t.0 in
+    let lt : at < length open_streams = place.1.0 in
+    let found : (d : OpenStream) → find (has_number s) open_streams ≡ Some (slice_index_or open_streams at d) = λ d. t.1 ∙ ap (λ l. Some l) (sym (place.1.1 d)) in
+    let set = c.in-Some.chunks.set in
     let e : message_read (slice_index_or open_streams at d).inbound.queue.held ≡ Some set =
-    ap (λ (l : OpenStream). message_read l.inbound.queue.held) (sym c.index_mut.ensures.value) ∙ some-mapped (message_read d.inbound.queue.held) c.in-Some-read.chunks c.in-Some-read.ensures.message in
+    ap (λ (l : OpenStream). message_read l.inbound.queue.held) (place.1.1 d) ∙ some-mapped (message_read d.inbound.queue.held) c.in-Some.chunks (c.in-Some.ensures.message d t.1) in
     let slots = c.self.inside.slots.items in
     let messages = c.self.inside.messages.items in
-    let read = read-is sum x c.self.invariant s at d refl lt found set e in
-    let n = read.0 in
+    let n = (read-is sum x c.self.invariant s at d refl lt found set e).0 in
     let begins = hands-begins sum x c.self.invariant s at d refl lt found set e in
     let made = (hands sum x c.self.invariant s at d refl lt found set e).made in
     let k = chunk_at w 0 in
@@ -114,20 +111,20 @@ index_mut-message-requires g c =
     let sum = g.C.Checksum.sum c.self.inside.checksum in
     let x = state_in c.self.inside in
     let s = c.args.stream in
-    let open_streams = c.self.inside.open_streams.items.items in
-    let at = c.in-Some.at in
-    let d = c.index_mut.result.now in
-    let lt : at < length open_streams = c.in-Some.ensures.0 in
-    let found : (d : OpenStream) → find (has_number s) open_streams ≡ Some (slice_index_or open_streams at d) = λ d. c.in-Some.ensures.1 d in
-    let rest : c.read.new.self ≡ record (slice_index_or open_streams at d) { inbound = stream_read (slice_index_or open_streams at d).inbound } =
-    c.read.ensures.rest ∙ ap (λ (l : OpenStream). record l { inbound = stream_read l.inbound }) c.index_mut.ensures.value in
-    let set = c.in-Some-read.chunks.set in
+    let open_streams = c.self.inside.halves.streams in
+    let ok : refusal_of w (E.Read s) ≡ None = rw (← c.self.view_is) at c.requires in
+    let t = open-there w s open_streams refl ok in
+    let place = placed s open_streams t.0 t.1 in
+    let at = place.0 in
+    let d = t.0 in
+    let lt : at < length open_streams = place.1.0 in
+    let found : (d : OpenStream) → find (has_number s) open_streams ≡ Some (slice_index_or open_streams at d) = λ d. t.1 ∙ ap (λ l. Some l) (sym (place.1.1 d)) in
+    let set = c.in-Some.chunks.set in
     let e : message_read (slice_index_or open_streams at d).inbound.queue.held ≡ Some set =
-    ap (λ (l : OpenStream). message_read l.inbound.queue.held) (sym c.index_mut.ensures.value) ∙ some-mapped (message_read d.inbound.queue.held) c.in-Some-read.chunks c.in-Some-read.ensures.message in
+    ap (λ (l : OpenStream). message_read l.inbound.queue.held) (place.1.1 d) ∙ some-mapped (message_read d.inbound.queue.held) c.in-Some.chunks (c.in-Some.ensures.message d t.1) in
     let slots = c.self.inside.slots.items in
     let messages = c.self.inside.messages.items in
-    let read = read-is sum x c.self.invariant s at d refl lt found set e in
-    let n = read.0 in
+    let n = (read-is sum x c.self.invariant s at d refl lt found set e).0 in
     let begins = hands-begins sum x c.self.invariant s at d refl lt found set e in
     let made = (hands sum x c.self.invariant s at d refl lt found set e).made in
     let k = chunk_at w 0 in
@@ -137,26 +134,26 @@ index_mut-message-requires g c =
     let inside : n < length messages = omega (arith, made, messages-made sum x c.self.invariant slots messages refl refl) in
     omega (arith, number, inside)
 
-pub finish_read-requires : goal.finish_read-requires
-finish_read-requires g c =
+pub record_read-requires : goal.record_read-requires
+record_read-requires g c =
     let w = world_in c.self.inside in
     let sum = g.C.Checksum.sum c.self.inside.checksum in
     let x = state_in c.self.inside in
     let s = c.args.stream in
-    let open_streams = c.self.inside.open_streams.items.items in
-    let at = c.in-Some.at in
-    let d = c.index_mut.result.now in
-    let lt : at < length open_streams = c.in-Some.ensures.0 in
-    let found : (d : OpenStream) → find (has_number s) open_streams ≡ Some (slice_index_or open_streams at d) = λ d. c.in-Some.ensures.1 d in
-    let rest : c.read.new.self ≡ record (slice_index_or open_streams at d) { inbound = stream_read (slice_index_or open_streams at d).inbound } =
-    c.read.ensures.rest ∙ ap (λ (l : OpenStream). record l { inbound = stream_read l.inbound }) c.index_mut.ensures.value in
-    let set = c.in-Some-read.chunks.set in
+    let open_streams = c.self.inside.halves.streams in
+    let ok : refusal_of w (E.Read s) ≡ None = rw (← c.self.view_is) at c.requires in
+    let t = open-there w s open_streams refl ok in
+    let place = placed s open_streams t.0 t.1 in
+    let at = place.0 in
+    let d = t.0 in
+    let lt : at < length open_streams = place.1.0 in
+    let found : (d : OpenStream) → find (has_number s) open_streams ≡ Some (slice_index_or open_streams at d) = λ d. t.1 ∙ ap (λ l. Some l) (sym (place.1.1 d)) in
+    let set = c.in-Some.chunks.set in
     let e : message_read (slice_index_or open_streams at d).inbound.queue.held ≡ Some set =
-    ap (λ (l : OpenStream). message_read l.inbound.queue.held) (sym c.index_mut.ensures.value) ∙ some-mapped (message_read d.inbound.queue.held) c.in-Some-read.chunks c.in-Some-read.ensures.message in
+    ap (λ (l : OpenStream). message_read l.inbound.queue.held) (place.1.1 d) ∙ some-mapped (message_read d.inbound.queue.held) c.in-Some.chunks (c.in-Some.ensures.message d t.1) in
     let slots = c.self.inside.slots.items in
     let messages = c.self.inside.messages.items in
-    let read = read-is sum x c.self.invariant s at d refl lt found set e in
-    let n = read.0 in
+    let n = (read-is sum x c.self.invariant s at d refl lt found set e).0 in
     let begins = hands-begins sum x c.self.invariant s at d refl lt found set e in
     let made = (hands sum x c.self.invariant s at d refl lt found set e).made in
     let k = chunk_at w 0 in
@@ -175,20 +172,20 @@ invariant_of-self-2 g c =
     let sum = g.C.Checksum.sum c.self.inside.checksum in
     let x = state_in c.self.inside in
     let s = c.args.stream in
-    let open_streams = c.self.inside.open_streams.items.items in
-    let at = c.in-Some.at in
-    let d = c.index_mut.result.now in
-    let lt : at < length open_streams = c.in-Some.ensures.0 in
-    let found : (d : OpenStream) → find (has_number s) open_streams ≡ Some (slice_index_or open_streams at d) = λ d. c.in-Some.ensures.1 d in
-    let rest : c.read.new.self ≡ record (slice_index_or open_streams at d) { inbound = stream_read (slice_index_or open_streams at d).inbound } =
-    c.read.ensures.rest ∙ ap (λ (l : OpenStream). record l { inbound = stream_read l.inbound }) c.index_mut.ensures.value in
-    let set = c.in-Some-read.chunks.set in
+    let open_streams = c.self.inside.halves.streams in
+    let ok : refusal_of w (E.Read s) ≡ None = rw (← c.self.view_is) at c.requires in
+    let t = open-there w s open_streams refl ok in
+    let place = placed s open_streams t.0 t.1 in
+    let at = place.0 in
+    let d = t.0 in
+    let lt : at < length open_streams = place.1.0 in
+    let found : (d : OpenStream) → find (has_number s) open_streams ≡ Some (slice_index_or open_streams at d) = λ d. t.1 ∙ ap (λ l. Some l) (sym (place.1.1 d)) in
+    let set = c.in-Some.chunks.set in
     let e : message_read (slice_index_or open_streams at d).inbound.queue.held ≡ Some set =
-    ap (λ (l : OpenStream). message_read l.inbound.queue.held) (sym c.index_mut.ensures.value) ∙ some-mapped (message_read d.inbound.queue.held) c.in-Some-read.chunks c.in-Some-read.ensures.message in
+    ap (λ (l : OpenStream). message_read l.inbound.queue.held) (place.1.1 d) ∙ some-mapped (message_read d.inbound.queue.held) c.in-Some.chunks (c.in-Some.ensures.message d t.1) in
     let slots = c.self.inside.slots.items in
     let messages = c.self.inside.messages.items in
-    let read = read-is sum x c.self.invariant s at d refl lt found set e in
-    let n = read.0 in
+    let n = (read-is sum x c.self.invariant s at d refl lt found set e).0 in
     let begins = hands-begins sum x c.self.invariant s at d refl lt found set e in
     let made = (hands sum x c.self.invariant s at d refl lt found set e).made in
     let k = chunk_at w 0 in
@@ -202,19 +199,10 @@ invariant_of-self-2 g c =
     let m' : Message = record m { read = true } in
     let messages_are : map message_record (slice_set messages c.index.result.now.message m') ≡ changed mark_read n w.messages =
     ap (λ i. map message_record (slice_set messages i m')) number ∙ map-set message_record mark_read messages n m' m inside (ap (λ (t : Message). message_record (record t { read = true })) here) in
-    let was : c.index_mut-2.result.now ≡ record (slice_index_or open_streams at d) { inbound = stream_read (slice_index_or open_streams at d).inbound } =
-    c.index_mut-2.ensures.value ∙ get_or-set_same open_streams at c.read.new.self c.index_mut-2.result.now lt ∙ rest in
-    let kind : c.ppi-ppi.result ≡ m.ppi = c.ppi-ppi.ensures ∙ ap (λ (t : ChunkSet). t.ppi) read.2 ∙ ppi-handed w n ∙ ap (λ t. t.ppi) m_is in
-    let state = c.finish_read.ensures.state ∙ ap (λ (l : OpenStream). l.state) was in
-    let inbound = c.finish_read.ensures.inbound ∙ ap (λ (l : OpenStream). l.inbound) was in
-    let whole = c.finish_read.ensures.whole ∙ ap (λ (l : OpenStream). if m.ordered then l.whole else drop 1 l.whole) was in
-    let ordered = c.finish_read.ensures.ordered ∙ ap (λ (l : OpenStream). l.ordered) was in
-    let begun = c.finish_read.ensures.begun ∙ ap (λ (l : OpenStream). l.begun) was in
-    let named = c.finish_read.ensures.named ∙ ap (λ (l : OpenStream). l.named) was in
     let index = ap (λ (t : Message). t.index) here ∙ sym (kept-raw sum x c.self.invariant slots messages refl refl refl n m inside) in
-    let next = c.finish_read.ensures.next ∙ ap (λ (l : OpenStream). if m.ordered && (m.index == l.next) then m.index + 1 else l.next) was in
-    linked-twice sum x c.self.invariant s at d refl lt found set e m (map message_record (slice_set messages c.index.result.now.message m')) c.finish_read.new.self m_is messages_are state inbound whole index ordered begun named next c.read.new.self
-    (map progress_of (slice_set messages c.index.result.now.message m')) (map-set_same progress_of messages c.index.result.now.message m' m (ap progress_of c.index_mut-message.ensures.value))
+    rw (c.record_read.ensures, c.read.ensures.rest)
+    (linked-recorded sum x c.self.invariant s at d refl lt found set e m (map message_record (slice_set messages c.index.result.now.message m')) m_is messages_are index
+    (map progress_of (slice_set messages c.index.result.now.message m')) (map-set_same progress_of messages c.index.result.now.message m' m (ap progress_of c.index_mut-message.ensures.value)))
 
 pub returns-clause-right : goal.returns-clause-right
 returns-clause-right g c =
@@ -222,20 +210,20 @@ returns-clause-right g c =
     let sum = g.C.Checksum.sum c.self.inside.checksum in
     let x = state_in c.self.inside in
     let s = c.args.stream in
-    let open_streams = c.self.inside.open_streams.items.items in
-    let at = c.in-Some.at in
-    let d = c.index_mut.result.now in
-    let lt : at < length open_streams = c.in-Some.ensures.0 in
-    let found : (d : OpenStream) → find (has_number s) open_streams ≡ Some (slice_index_or open_streams at d) = λ d. c.in-Some.ensures.1 d in
-    let rest : c.read.new.self ≡ record (slice_index_or open_streams at d) { inbound = stream_read (slice_index_or open_streams at d).inbound } =
-    c.read.ensures.rest ∙ ap (λ (l : OpenStream). record l { inbound = stream_read l.inbound }) c.index_mut.ensures.value in
-    let set = c.in-Some-read.chunks.set in
+    let open_streams = c.self.inside.halves.streams in
+    let ok : refusal_of w (E.Read s) ≡ None = rw (← c.self.view_is) at c.requires in
+    let t = open-there w s open_streams refl ok in
+    let place = placed s open_streams t.0 t.1 in
+    let at = place.0 in
+    let d = t.0 in
+    let lt : at < length open_streams = place.1.0 in
+    let found : (d : OpenStream) → find (has_number s) open_streams ≡ Some (slice_index_or open_streams at d) = λ d. t.1 ∙ ap (λ l. Some l) (sym (place.1.1 d)) in
+    let set = c.in-Some.chunks.set in
     let e : message_read (slice_index_or open_streams at d).inbound.queue.held ≡ Some set =
-    ap (λ (l : OpenStream). message_read l.inbound.queue.held) (sym c.index_mut.ensures.value) ∙ some-mapped (message_read d.inbound.queue.held) c.in-Some-read.chunks c.in-Some-read.ensures.message in
+    ap (λ (l : OpenStream). message_read l.inbound.queue.held) (place.1.1 d) ∙ some-mapped (message_read d.inbound.queue.held) c.in-Some.chunks (c.in-Some.ensures.message d t.1) in
     let slots = c.self.inside.slots.items in
     let messages = c.self.inside.messages.items in
-    let read = read-is sum x c.self.invariant s at d refl lt found set e in
-    let n = read.0 in
+    let n = (read-is sum x c.self.invariant s at d refl lt found set e).0 in
     let begins = hands-begins sum x c.self.invariant s at d refl lt found set e in
     let made = (hands sum x c.self.invariant s at d refl lt found set e).made in
     let k = chunk_at w 0 in
@@ -249,18 +237,9 @@ returns-clause-right g c =
     let m' : Message = record m { read = true } in
     let messages_are : map message_record (slice_set messages c.index.result.now.message m') ≡ changed mark_read n w.messages =
     ap (λ i. map message_record (slice_set messages i m')) number ∙ map-set message_record mark_read messages n m' m inside (ap (λ (t : Message). message_record (record t { read = true })) here) in
-    let was : c.index_mut-2.result.now ≡ record (slice_index_or open_streams at d) { inbound = stream_read (slice_index_or open_streams at d).inbound } =
-    c.index_mut-2.ensures.value ∙ get_or-set_same open_streams at c.read.new.self c.index_mut-2.result.now lt ∙ rest in
-    let kind : c.ppi-ppi.result ≡ m.ppi = c.ppi-ppi.ensures ∙ ap (λ (t : ChunkSet). t.ppi) read.2 ∙ ppi-handed w n ∙ ap (λ t. t.ppi) m_is in
-    let state = c.finish_read.ensures.state ∙ ap (λ (l : OpenStream). l.state) was in
-    let inbound = c.finish_read.ensures.inbound ∙ ap (λ (l : OpenStream). l.inbound) was in
-    let whole = c.finish_read.ensures.whole ∙ ap (λ (l : OpenStream). if m.ordered then l.whole else drop 1 l.whole) was in
-    let ordered = c.finish_read.ensures.ordered ∙ ap (λ (l : OpenStream). l.ordered) was in
-    let begun = c.finish_read.ensures.begun ∙ ap (λ (l : OpenStream). l.begun) was in
-    let named = c.finish_read.ensures.named ∙ ap (λ (l : OpenStream). l.named) was in
     let index = ap (λ (t : Message). t.index) here ∙ sym (kept-raw sum x c.self.invariant slots messages refl refl refl n m inside) in
-    let next = c.finish_read.ensures.next ∙ ap (λ (l : OpenStream). if m.ordered && (m.index == l.next) then m.index + 1 else l.next) was in
-    rw (← c.self.view_is) (record {
+    let kind : c.ppi-ppi.result ≡ m.ppi = c.ppi-ppi.ensures ∙ ap (λ (t : ChunkSet). t.ppi) (read-is sum x c.self.invariant s at d refl lt found set e).2 ∙ ppi-handed w n ∙ ap (λ t. t.ppi) m_is in
+    rw (← c.self.view_is) (rw (c.record_read.ensures, c.read.ensures.rest) (record {
       right = ap (λ p. R.Message s p set) (kind ∙ sym (ap (λ t. t.ppi) m_is)) ∙ reply-read sum x c.self.invariant s at d refl lt found set e;
-      moves = world-twice sum x c.self.invariant s at d refl lt found set e m (map message_record (slice_set messages c.index.result.now.message m')) c.finish_read.new.self m_is messages_are state inbound whole index ordered begun named next c.read.new.self;
-    })
+      moves = world-recorded sum x c.self.invariant s at d refl lt found set e m (map message_record (slice_set messages c.index.result.now.message m')) m_is messages_are index;
+    }))
