@@ -101,8 +101,8 @@ returns-then-not-is_new g c =
     let old : is_new w p ≡ false = sym told ∙ c.if-not-is_new.true in
     rw (← c.self.view_is) (sym (ap (λ b. if b && (message_at w n).ordered then test else true) old))
 
-pub ends-ends-requires : goal.ends-ends-requires
-ends-ends-requires g c =
+pub index_range-range-requires : goal.index_range-range-requires
+index_range-range-requires g c =
     let w = world_in c.self.inside in
     let sum = g.C.Checksum.sum c.self.inside.checksum in
     let x = state_in c.self.inside in
@@ -143,10 +143,10 @@ returns g c =
     let new : is_new w p ≡ true = sym told ∙ c.if-not-is_new.false in
     let kind : (message_at w n).ordered ≡ true = ap (λ t. t.ordered) m_is ∙ c.if-not-message.false in
     let more = added_on w m.stream ps in
-    let low : c.ends-ends.result.0 ≡ lowest w m.stream = rw (← c.self.view_is) at c.ends-ends.ensures.low in
-    let high : c.ends-ends.result.1 ≡ highest w m.stream = rw (← c.self.view_is) at c.ends-ends.ensures.high in
-    let below : c.widened-low.result.0 ≡ least c.ends-ends.result.0 more = rw (← c.self.view_is) at c.widened-low.ensures.low in
-    let above : c.widened-low.result.1 ≡ greatest c.ends-ends.result.1 more = rw (← c.self.view_is) at c.widened-low.ensures.high in
+    let low : c.index_range-range.result.0 ≡ lowest w m.stream = rw (← c.self.view_is) at c.index_range-range.ensures.low in
+    let high : c.index_range-range.result.1 ≡ highest w m.stream = rw (← c.self.view_is) at c.index_range-range.ensures.high in
+    let below : c.widened-low.result.0 ≡ least c.index_range-range.result.0 more = rw (← c.self.view_is) at c.widened-low.ensures.low in
+    let above : c.widened-low.result.1 ≡ greatest c.index_range-range.result.1 more = rw (← c.self.view_is) at c.widened-low.ensures.high in
     rw (← c.self.view_is) (
     ap (λ k. nat_lt k 32768) c.saturating_sub.ensures
     ∙ ap (λ a. nat_lt (a - c.widened-low.result.0) 32768) (above ∙ ap (λ h. greatest h more) high)
