@@ -8,7 +8,6 @@ use Rattle.sctp_lists.specs.Kept.{runs_of}
 use Rattle.sctp_lists.specs.Lists.{advanced, inserted, those, Seen}
 use Rattle.sctp_lists.specs.Serial.{distance, comes_before, at_or_before}
 use Rattle.sctp_lists.proofs.More.{fails}
-use Rattle.sctp_lists.proofs.SerialLemmas.{comes_before_from}
 use Rattle.sctp_serial.specs.Window
 use Rattle.sctp_outbound.specs.payload_queue.Blocks.{gap_offsets, is_offset}
 use Rattle.sctp_model.specs.World.{World}
@@ -32,10 +31,6 @@ use Rattle.sctp_link.specs.Records.{ends_of}
 turned : (a b : Bool) → not a ≡ b → a ≡ not b
 turned true b e = ap not e
 turned false b e = ap not e
-
-unturned : (a b : Bool) → a ≡ not b → not a ≡ b
-unturned a true e = ap not e
-unturned a false e = ap not e
 
 ahead : (first c k : ℕ) → c ≤ k → k < 2 ^ 31 → distance (tsn_before first c) ((first + k) % 2 ^ 32) ≡ k + 1 - c
 unfolding distance
@@ -78,9 +73,6 @@ module _ (w : World) (f : Filter) (made : w.skipped ≤ length w.slots) (few : l
       turned (has_come t f) (is_new w p)
       (sym queue ∙ ap (Window.is_new (map mark f.beyond) t) cumulative-is ∙ new-is w (map mark f.beyond) made few (tsns-beyond w f is) p lt)
 
-  pub new-tells : (p : ℕ) → p < length w.slots → not (has_come (tsn_of w p) f) ≡ is_new w p
-  new-tells p lt = unturned (has_come (tsn_of w p) f) (is_new w p) (come-is p lt)
-
   far : (p : ℕ) → p < length w.slots → cumulative w ≤ p → distance f.cumulative_tsn (tsn_of w p) ≡ p + 1 - cumulative w
   far p lt le = ap (λ c. distance c (tsn_of w p)) cumulative-is ∙ ahead w.setup.first (cumulative w) p le (omega (arith, lt, few))
 
@@ -89,12 +81,6 @@ module _ (w : World) (f : Filter) (made : w.skipped ≤ length w.slots) (few : l
   near-is p lt new =
       let d = far p lt (past-front w p new) in
       fails (distance f.cumulative_tsn (tsn_of w p) == 2 ^ 31) (λ h. let e : distance f.cumulative_tsn (tsn_of w p) ≡ 2 ^ 31 = grind (arith, nat_tests) in omega (arith, d, e, lt, few))
-
-  -- one that is not passed comes after it
-  pub later-is : (p : ℕ) → p < length w.slots → cumulative w ≤ p → comes_before f.cumulative_tsn (tsn_of w p) ≡ true
-  later-is p lt le =
-      let d = far p lt le in
-      comes_before_from f.cumulative_tsn (tsn_of w p) (omega (arith, d, le)) (omega (arith, d, lt, few))
 
   below : cumulative w < 2 ^ 31
   below = omega (arith, few, cumulative-le w made)

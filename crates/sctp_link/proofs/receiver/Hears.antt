@@ -1,6 +1,6 @@
 -- What a link's queues tell of what comes to its receiver.
-use Rattle.std.proofs.Common.{◌≡◌, ℕ, zero, suc, ◌+◌, ◌-◌, ◌<◌, ◌^◌, ◌%◌, Bool, true, false, List, [], ◌∷◌, length, map, Option, Some, None, refl, ap, sym, ◌∙◌, arith}
-use Rattle.std.specs.Prelude.{not, find, min, max, option_map, slice_index_or}
+use Rattle.std.proofs.Common.{◌≡◌, ℕ, zero, suc, ◌+◌, ◌-◌, ◌<◌, ◌^◌, ◌%◌, true, false, List, [], ◌∷◌, length, map, Option, Some, None, refl, ap, sym, ◌∙◌, arith}
+use Rattle.std.specs.Prelude.{find, min, max, option_map, slice_index_or}
 use Rattle.std.proofs.Math.Path.{subst}
 use Rattle.sctp_lists.proofs.More.{not_both}
 use Rattle.sctp_chunks.specs.declared.chunk.chunk_payload_data.ChunkPayloadData.{ChunkPayloadData}
@@ -8,7 +8,7 @@ use Rattle.sctp_chunks.specs.ChunkSet.{ChunkSet}
 use Rattle.sctp_reassembly.specs.reassembly_queue.ReassemblyQueue.{ReassemblyState}
 use Rattle.sctp_model.specs.World.{World}
 use Rattle.sctp_model.specs.Messages.{message_at, slot_at, message_of, index_of, sent_of, tsn_of, place_of, no_message, no_slot}
-use Rattle.sctp_model.specs.Receiver.{is_new, is_held, held_on, next_of, least, greatest}
+use Rattle.sctp_model.specs.Receiver.{is_held, held_on, next_of, least, greatest}
 use Rattle.sctp_model.specs.Queues.{set_of}
 use Rattle.sctp_model.proofs.sender.Shape.{shape}
 use Rattle.sctp_model.proofs.sender.Fronts.{slot-sent}
@@ -18,13 +18,11 @@ use Rattle.sctp_ties.proofs.arriving.Carried.{Carried}
 use Rattle.sctp_ties.proofs.reading.Line
 use Rattle.sctp_ties.proofs.reading.Taken
 use Rattle.sctp_ties.proofs.arriving.SpanEnds.{Begins, set-begins, set-at, sets-held, ends-none, lowest-front, highest-back}
-use Rattle.sctp_transfer.specs.TsnFilter.{has_come}
 use Rattle.sctp_halves.specs.Streams.{OpenStream, has_number}
 use Rattle.sctp_link.specs.declared.record.Message.{Message}
 use Rattle.sctp_link.specs.declared.record.Slot.{Slot}
 use Rattle.sctp_link.specs.Linked.{State, IsLinked}
 use Rattle.sctp_link.specs.Records.{message_record, slot_record, progress_of}
-use Rattle.sctp_link.proofs.receiver.Came.{new-tells}
 use Rattle.sctp_link.proofs.sender.Beginning.{index_kept}
 use Rattle.sctp_link.proofs.upkeep.Facts.{facts}
 use Rattle.sctp_link.proofs.upkeep.Apart.{number-found}
@@ -39,12 +37,6 @@ raw-at f (x ∷ xs) (suc i) e d lt = raw-at f xs i e d (omega arith)
 pub raw-length : {A B : Type 0} (f : A → B) (xs : List A) → length (map f xs) ≡ length xs
 raw-length f [] = refl
 raw-length f (x ∷ xs) = ap suc (raw-length f xs)
-
--- ## Whether a slot is new
-
-module _ (sum : List ℕ → ℕ) (x : State) (p : ℕ) (l : IsLinked sum x) (made : p < length x.world.slots) where
-  pub unheard : (b : Bool) → b ≡ has_come ((x.world.setup.first + p) % 2 ^ 32) x.filter → not b ≡ is_new x.world p
-  unheard b e = let f = facts sum x l in ap not e ∙ new-tells x.world x.filter f.sound.sound.skipped_made f.few l.filter p made
 
 -- ## Which message a set is of
 
