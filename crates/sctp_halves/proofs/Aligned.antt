@@ -1,10 +1,9 @@
 -- The parts of both halves, where they have the same streams.
-use Rattle.std.proofs.Common.{◌≡◌, ℕ, zero, suc, ◌+◌, ◌<◌, List, [], ◌∷◌, length, map, drop, Bool, true, false, Option, Some, None, refl, ap, sym, ◌∙◌, arith, subst}
-use Rattle.std.specs.Prelude.{◌==◌, ◌&&◌, slice_index_or, slice_set, find, if◌then◌else◌, option_map, is_some}
+use Rattle.std.proofs.Common.{◌≡◌, ℕ, zero, suc, ◌+◌, ◌<◌, List, [], ◌∷◌, length, map, drop, Bool, true, false, Option, Some, None, refl, ap, sym, ◌∙◌, arith}
+use Rattle.std.specs.Prelude.{◌==◌, ◌&&◌, slice_index_or, slice_set, if◌then◌else◌, option_map, is_some}
 use Rattle.std.proofs.lemmas.List.{get_or_default}
 use Rattle.sctp_lists.specs.Lists.{change_where, changed}
 use Rattle.sctp_lists.proofs.Getting.{length-mapped}
-use Rattle.sctp_chunks.specs.declared.chunk.chunk_payload_data.PayloadProtocolIdentifier.TheVariants.{Unknown}
 use Rattle.sctp_stream.specs.Numbers.{IsOnlyPlace, IsAbsent}
 use Rattle.sctp_stream.specs.declared.stream.StreamState.{StreamState}
 use Rattle.sctp_transfer.specs.declared.receiver.inbound_streams.InboundStream.{InboundStream}

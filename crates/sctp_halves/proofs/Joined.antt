@@ -1,6 +1,6 @@
 -- What the sender has of each stream, what the receiver has, and its progress, joined: changes of a part are changes of the whole.
-use Rattle.std.proofs.Common.{◌≡◌, ℕ, zero, suc, ◌+◌, ◌<◌, Bool, true, false, List, [], ◌∷◌, ◌++◌, length, get_or, set, map, Option, Some, None, refl, ap, sym, ◌∙◌, arith}
-use Rattle.std.specs.Prelude.{◌==◌, if◌then◌else◌, option_map, slice_get, slice_index_or, slice_set}
+use Rattle.std.proofs.Common.{◌≡◌, ℕ, zero, suc, Bool, true, false, List, [], ◌∷◌, ◌++◌, length, map, Some, refl, ap, sym, ◌∙◌, arith}
+use Rattle.std.specs.Prelude.{◌==◌, if◌then◌else◌, option_map, slice_set}
 use Rattle.std.specs.List.{find}
 use Rattle.sctp_lists.specs.Lists.{change_where, changed}
 use Rattle.sctp_stream.specs.declared.stream.StreamState.{StreamState}
@@ -8,7 +8,7 @@ use Rattle.sctp_transfer.specs.declared.receiver.inbound_streams.InboundStream.{
 use Rattle.sctp_transfer.specs.Inbound as Inbound
 use Rattle.sctp_transfer.specs.Outgoing as Outgoing
 use Rattle.sctp_halves.specs.declared.halves.progress.StreamProgress.{StreamProgress}
-use Rattle.sctp_halves.specs.Streams.{OpenStream, join, joined, number, has_number, stream_numbers, on_state, on_inbound}
+use Rattle.sctp_halves.specs.Streams.{OpenStream, join, joined, has_number, stream_numbers, on_state, on_inbound}
 
 -- one list for each part, with the same streams in the same order
 pub record Alike (ss : List StreamState) (is : List InboundStream) (ps : List StreamProgress) : Type 0 where

@@ -1,5 +1,5 @@
 -- A DATA chunk that is taken: its stream's queue, and whether a message became whole by it.
-use Rattle.std.proofs.Common.{◌≡◌, ℕ, zero, suc, ◌+◌, ◌<◌, ◌≤◌, List, [], ◌∷◌, ◌++◌, length, length-append, Bool, true, false, Option, Some, None, refl, ap, sym, ◌∙◌, arith, subst}
+use Rattle.std.proofs.Common.{◌≡◌, ℕ, zero, suc, ◌+◌, ◌<◌, ◌≤◌, List, [], ◌∷◌, ◌++◌, length, length-append, Bool, true, false, Some, refl, ap, sym, ◌∙◌, arith, subst}
 use Rattle.std.specs.Prelude.{◌==◌, ◌&&◌, nat_lt, slice_index_or, slice_set, find, if◌then◌else◌, option_map}
 use Rattle.std.proofs.lemmas.Bool.Decides.{nat_tests}
 use Rattle.std.proofs.lemmas.List.{get_or_default}
@@ -18,13 +18,12 @@ use Rattle.sctp_transfer.specs.Inbound.{Pushes, PushesAs, with_queue}
 use Rattle.sctp_transfer.specs.Receiver as R
 use Rattle.sctp_transfer.specs.Receiver.{Reception, filter_of}
 use Rattle.sctp_transfer.specs.Sender.{Transmission}
-use Rattle.sctp_transfer.specs.TsnFilter.{with_tsn}
 use Rattle.sctp_transfer.proofs.DataEach.{takes-keeps}
 use Rattle.sctp_transfer.proofs.Inbounds.{pushed-number}
 use Rattle.sctp_transfer.proofs.StreamPlaces as Places
 use Rattle.sctp_halves.specs.declared.halves.progress.StreamProgress.{StreamProgress}
-use Rattle.sctp_halves.specs.Streams.{OpenStream, Keeps, joined, number, has_number, on_inbound, new_open_stream}
-use Rattle.sctp_halves.specs.Halves.{Sides, IsAligned, stream_in, on_stream, with_filter_of, Accepts, Takes, repeated, GrowsOn, GrowEach, Grows}
+use Rattle.sctp_halves.specs.Streams.{OpenStream, Keeps, joined, number, on_inbound, new_open_stream}
+use Rattle.sctp_halves.specs.Halves.{Sides, IsAligned, stream_in, on_stream, Accepts, Takes, repeated, GrowsOn, GrowEach, Grows}
 use Rattle.sctp_halves.proofs.Joined.{with_progress}
 use Rattle.sctp_halves.proofs.Growing.{put-grows, grows-same, take-front, take-whole}
 use Rattle.sctp_halves.proofs.Aligned.{sides, numbers-are, inbound-in, inbound-on, with-receiver, progress-changed}

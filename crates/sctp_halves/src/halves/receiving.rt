@@ -77,11 +77,7 @@ impl Halves {
     }
 
     // Takes chunks one after another, up to the first one for which memory is wanting.
-    fn take_each(
-        &mut self,
-        chunks: &[ChunkPayloadData],
-        numbers: &[u64],
-    ) -> Result<Vec<Arrival>>
+    fn take_each(&mut self, chunks: &[ChunkPayloadData], numbers: &[u64]) -> Result<Vec<Arrival>>
         requires { CanTake chunks.now numbers.now self.old }
         ensures ok { IfOk result (λ arrivals.
             TakesEach chunks.now numbers.now arrivals.items self.old self.new) }

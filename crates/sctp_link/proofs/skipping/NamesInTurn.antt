@@ -8,7 +8,7 @@ use Rattle.sctp_chunks.specs.declared.chunk.chunk_forward_tsn.ChunkForwardTsnStr
 use Rattle.sctp_reassembly.specs.reassembly_queue.ReassemblyQueue.{ReassemblyState, after_ordered_skip, held_after_ordered_skips}
 use Rattle.sctp_model.specs.declared.event.Event.TheVariants as E
 use Rattle.sctp_model.specs.World.{World, StreamRecord, Forward}
-use Rattle.sctp_model.specs.Messages.{message_at, stream_at, is_ordered_on, index_of, ssn_of, tsn_of}
+use Rattle.sctp_model.specs.Messages.{message_at, stream_at, is_ordered_on, index_of, ssn_of}
 use Rattle.sctp_model.specs.Receiver.{cumulative}
 use Rattle.sctp_model.specs.Contents.{name_of}
 use Rattle.sctp_model.specs.Steps.{refusal_of}

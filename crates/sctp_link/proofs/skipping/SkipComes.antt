@@ -236,12 +236,6 @@ kept-kind [] k y lt is = absurd (omega arith)
 kept-kind (d ∷ ds) zero y lt is = ap (λ (z : Datagram). Some (kind_record z.kind)) (sym is)
 kept-kind (d ∷ ds) (suc k) y lt is = kept-kind ds k y (omega arith) is
 
--- the element at a place
-pub told-at : {X : Type 0} (xs : List X) (i : ℕ) (y r : X) → y ≡ slice_index_or xs i y → slice_get xs i ≡ Some r → y ≡ r
-told-at [] i y r is e = cc
-told-at (x ∷ xs) zero y r is e = is ∙ (let same : x ≡ r = cc in same)
-told-at (x ∷ xs) (suc i) y r is e = told-at xs i y r is e
-
 -- the names that a link keeps of a datagram
 pub names-kept : (ds : List Datagram) (k : ℕ) (y : Datagram) (u upto : ℕ) (told names : List ℕ) → slice_get (map datagram_record ds) k ≡ Some (Forward upto names) → y ≡ slice_index_or ds k y → kind_record y.kind ≡ Forward u told → told ≡ names
 names-kept [] k y u upto told names e is kind = cc

@@ -1,5 +1,5 @@
 use Rattle.std.proofs.Common.{◌≡◌, ap, ◌∙◌}
-use Rattle.std.specs.Prelude.{Option, Result, Ok, Err, OnOk, OnErr}
+use Rattle.std.specs.Prelude.{Result, Ok, Err, OnOk, OnErr}
 use Rattle.sctp_transfer.specs.Inbound.{numbers_of}
 use Rattle.sctp_transfer.specs.Receiver.{Reception, after_read}
 use Rattle.sctp_transfer.proofs.Receptions.{read-numbers}

@@ -1,10 +1,10 @@
-use Rattle.std.proofs.Common.{◌≡◌, ◌<◌, ◌++◌, ◌∷◌, [], List, Bool, true, false, ap, sym, ◌∙◌, refl, subst, arith, length, Result, Ok, Err}
+use Rattle.std.proofs.Common.{◌≡◌, true, false, ap, sym, ◌∙◌, refl, subst, arith, Result, Ok, Err}
 use Rattle.std.specs.Prelude.{is_some, slice_set, OnErr}
 use Rattle.sctp_halves.specs.declared.halves.progress.StreamProgress.{StreamProgress}
 use Rattle.sctp_halves.specs.Streams.{OpenStream}
 use Rattle.sctp_halves.specs.Halves.{Takes, Grows, is_open}
 use Rattle.sctp_halves.proofs.Joined.{with_progress}
-use Rattle.sctp_halves.proofs.Aligned.{sides, absent-in, place-inside, with-progresses, with-receiver, progress-number, progress-kept}
+use Rattle.sctp_halves.proofs.Aligned.{sides, absent-in, place-inside, with-progresses, progress-number, progress-kept}
 use Rattle.sctp_halves.proofs.Taking.{taken-aligned, takes-whole, takes-more, grows-whole, grows-more}
 use Rattle.sctp_halves.proofs.Growing.{grows-same}
 use Rattle.sctp_halves.proofs.halves.Halves.data.Goals as goal

@@ -1,8 +1,7 @@
-use Rattle.std.proofs.Common.{rules, ◌≡◌, ◌<◌, ◌+◌, ◌++◌, ◌∷◌, [], List, ℕ, ap, sym, ◌∙◌, arith, length, map, take}
+use Rattle.std.proofs.Common.{rules, ◌≡◌, ◌<◌, ◌++◌, ◌∷◌, [], ap, sym, ◌∙◌, arith, length, map, take}
 use Rattle.std.proofs.lemmas.List.{take_more, take_all, map-append}
 use Rattle.sctp_halves.specs.declared.halves.progress.StreamProgress.{StreamProgress}
-use Rattle.sctp_halves.specs.Halves.{IsSaved}
-use Rattle.sctp_halves.proofs.Aligned.{sides, reception-is}
+use Rattle.sctp_halves.proofs.Aligned.{reception-is}
 use Rattle.sctp_halves.proofs.Growing.{wholes-joined}
 use Rattle.sctp_halves.proofs.halves.Halves.save.Goals as goal
 
