@@ -1,6 +1,5 @@
 -- The receiver of a link while the slots of a datagram come, one after another.
-use Rattle.std.specs.Prelude.{◌≡◌, ℕ, ◌<◌, ◌==◌, ◌&&◌, if◌then◌else◌, Bool, slice_get, true, false, List, [], ◌∷◌, length, map, take, slice_index_or, Some}
-use Rattle.std.specs.List.{list_any}
+use Rattle.std.specs.Prelude.{◌≡◌, ℕ, ◌<◌, ◌&&◌, if◌then◌else◌, Bool, slice_get, true, false, List, [], ◌∷◌, length, map, slice_index_or, Some}
 use Rattle.sctp_lists.specs.Kept.{passing}
 use Rattle.sctp_lists.specs.Lists.{changed}
 use Rattle.sctp_chunks.specs.declared.chunk.chunk_payload_data.ChunkPayloadData.{ChunkPayloadData}
@@ -20,7 +19,7 @@ use Rattle.sctp_halves.specs.Streams.{OpenStream, stream_numbers}
 use Rattle.sctp_halves.specs.Halves.{Sides, reception_of}
 use Rattle.sctp_link.specs.declared.record.Slot.{Slot}
 use Rattle.sctp_link.specs.Linked.{filter_shown}
-use Rattle.sctp_link.specs.Records.{slot_record, stream_record}
+use Rattle.sctp_link.specs.Records.{stream_record}
 use Rattle.sctp_link.specs.Places.{IsApart}
 
 -- the queue of an open stream, against the record

@@ -15,7 +15,8 @@ set-changed f [] i d lt = absurd (omega arith)
 set-changed f (x ∷ xs) zero d lt = refl
 set-changed f (x ∷ xs) (suc i) d lt = ap (λ ys. x ∷ ys) (set-changed f xs i d (omega arith))
 
-more : (xs : List ℕ) (y : ℕ) (ys : List ℕ) → (xs ++ y ∷ []) ++ ys ≡ xs ++ y ∷ ys
+-- one more at the end, and others
+pub more : (xs : List ℕ) (y : ℕ) (ys : List ℕ) → (xs ++ y ∷ []) ++ ys ≡ xs ++ y ∷ ys
 more [] y ys = refl
 more (x ∷ xs) y ys = ap (λ zs. x ∷ zs) (more xs y ys)
 

@@ -43,7 +43,6 @@ use Rattle.sctp_ties.proofs.amounts.StreamCounters.{counters-read, counters-noth
 use Rattle.sctp_halves.specs.Streams.{OpenStream, both_ways, has_number, on_inbound, read_recorded, stats_in, stream_numbers}
 use Rattle.sctp_link.specs.declared.record.Message.{Message}
 use Rattle.sctp_transfer.specs.Inbound.{counted, stream_read}
-use Rattle.sctp_transfer.specs.declared.receiver.inbound_streams.InboundStream.{InboundStream}
 use Rattle.sctp_stream.specs.declared.stream.DataChannelStats.{DataChannelStats}
 use Rattle.sctp_stream.specs.declared.stream.StreamState.{StreamState}
 use Rattle.sctp_link.specs.Linked.{State, IsLinked, IsOpenStream, stats_of}
@@ -58,7 +57,7 @@ use Rattle.sctp_link.proofs.upkeep.StreamsAfter.{stream-then, linked-then}
 use Rattle.sctp_link.proofs.upkeep.Lookups.{some-open, none-open}
 
 -- set twice
-pub set-set : {A : Type 0} (xs : List A) (i : ℕ) (a b : A) → slice_set (slice_set xs i a) i b ≡ slice_set xs i b
+set-set : {A : Type 0} (xs : List A) (i : ℕ) (a b : A) → slice_set (slice_set xs i a) i b ≡ slice_set xs i b
 set-set [] i a b = refl
 set-set (x ∷ xs) zero a b = refl
 set-set (x ∷ xs) (suc i) a b = ap (λ ys. x ∷ ys) (set-set xs i a b)
@@ -178,13 +177,14 @@ module _ (sum : List ℕ → ℕ) (x : State) (l : IsLinked sum x) (s at : ℕ) 
   read-once : change_where (has_number s) (on_inbound stream_read) x.open_streams ≡ slice_set x.open_streams at taken
   read-once = sym (changed-found s x.open_streams l.apart (on_inbound stream_read) at d lt (id-at d))
 
-  read-twice : (ordered : Bool) (index : ℕ) → change_where (has_number s) (read_recorded ordered index) (change_where (has_number s) (on_inbound stream_read) x.open_streams) ≡ slice_set (slice_set x.open_streams at taken) at (read_recorded ordered index taken)
+  read-twice : (ordered : Bool) (index : ℕ) → change_where (has_number s) (read_recorded ordered index) (change_where (has_number s) (on_inbound stream_read) x.open_streams) ≡ slice_set x.open_streams at (read_recorded ordered index taken)
   read-twice ordered index =
       let same = get_or-set_same x.open_streams at taken d lt in
       ap (change_where (has_number s) (read_recorded ordered index)) read-once
       ∙ sym (changed-found s (slice_set x.open_streams at taken) (apart-set x.open_streams at taken d l.apart refl) (read_recorded ordered index) at d (omega (arith, lt, length-set x.open_streams at taken))
       (ap (λ (t : OpenStream). t.state.stream_identifier) same ∙ id-at d))
       ∙ ap (λ (t : OpenStream). slice_set (slice_set x.open_streams at taken) at (read_recorded ordered index t)) same
+      ∙ set-set x.open_streams at taken (read_recorded ordered index taken)
 
   -- ## Nothing to read
 
@@ -198,19 +198,16 @@ module _ (sum : List ℕ → ℕ) (x : State) (l : IsLinked sum x) (s at : ℕ) 
     pub reply-nothing : R.Nothing ≡ reply_to w (E.Read s)
     reply-nothing = sym (ap (read_reply w) nothing)
 
-    abbrev z : OpenStream
-    z = record (slice_index_or x.open_streams at d) { inbound = stream_read (slice_index_or x.open_streams at d).inbound }
+    world-same : record w { streams = map stream_record (slice_set x.open_streams at taken) } ≡ v
+    world-same = ap {B = World} (λ rs. record w { streams = rs }) (map-set_same stream_record x.open_streams at taken d refl ∙ sym streams_are) ∙ sym still
 
-    world-same : record w { streams = map stream_record (slice_set x.open_streams at z) } ≡ v
-    world-same = ap {B = World} (λ rs. record w { streams = rs }) (map-set_same stream_record x.open_streams at z d refl ∙ sym streams_are) ∙ sym still
-
-    linked-same : IsLinked sum (record x { world = record w { streams = map stream_record (slice_set x.open_streams at z) }; open_streams = slice_set x.open_streams at z })
+    linked-same : IsLinked sum (record x { world = record w { streams = map stream_record (slice_set x.open_streams at taken) }; open_streams = slice_set x.open_streams at taken })
     linked-same =
         let i = l.open_streams at d lt in
-        linked-then sum x l (E.Read s) none frame x.progress (slice_set x.open_streams at z) x.filter (record w { streams = map stream_record (slice_set x.open_streams at z) }) refl (l.filter ∙ sym filter-stays)
-        (each-read z (stream-read z refl refl refl refl refl refl refl (i.next ∙ ap (next_of w) (id-at d) ∙ ap (λ u. next_of u s) (sym still)) (ap (λ o. both_ways y.state.stats (counted o y.inbound.stats)) e ∙ i.stats ∙ ap (λ t. stats_of (counters_on w t)) (id-at d) ∙ ap stats_of (sym (counters-nothing w s s nothing))))
+        linked-then sum x l (E.Read s) none frame x.progress (slice_set x.open_streams at taken) x.filter (record w { streams = map stream_record (slice_set x.open_streams at taken) }) refl (l.filter ∙ sym filter-stays)
+        (each-read taken (stream-read taken refl refl refl refl refl refl refl (i.next ∙ ap (next_of w) (id-at d) ∙ ap (λ u. next_of u s) (sym still)) (ap (λ o. both_ways y.state.stats (counted o y.inbound.stats)) e ∙ i.stats ∙ ap (λ t. stats_of (counters_on w t)) (id-at d) ∙ ap stats_of (sym (counters-nothing w s s nothing))))
         (λ t ne. ap (λ u. next_of u t) still) (λ t ne. counters-nothing w s t nothing))
-        (apart-set x.open_streams at z d l.apart refl)
+        (apart-set x.open_streams at taken d l.apart refl)
         quiet world-same
 
     pub world-nothing : record w { streams = map stream_record (change_where (has_number s) (on_inbound stream_read) x.open_streams) } ≡ v
@@ -289,23 +286,17 @@ module _ (sum : List ℕ → ℕ) (x : State) (l : IsLinked sum x) (s at : ℕ) 
     reply-read = ap (λ c. R.Message s (message_at w read-is.0).ppi c) read-is.2 ∙ ap (λ t. R.Message t (message_at w read-is.0).ppi (handed_out w read-is.0)) (sym hands.stream) ∙ sym (ap (read_reply w) read-is.1)
 
     -- with the message m, whose number is n
-    module _ (m : Message) (messages : List W.Message) (z : OpenStream) (m_is : message_at x.world read-is.0 ≡ message_record m) (messages_are : messages ≡ changed mark_read read-is.0 x.world.messages)
-        (state : z.state ≡ (slice_index_or x.open_streams at d).state)
-        (inbound : z.inbound ≡ stream_read (slice_index_or x.open_streams at d).inbound)
-        (whole : z.whole ≡ (if m.ordered then (slice_index_or x.open_streams at d).whole else drop 1 (slice_index_or x.open_streams at d).whole))
-        (index : m.index ≡ index_kept x.progress read-is.0)
-        (ordered : z.ordered ≡ (slice_index_or x.open_streams at d).ordered)
-        (begun : z.begun ≡ (slice_index_or x.open_streams at d).begun)
-        (named : z.named ≡ (slice_index_or x.open_streams at d).named)
-        (next : z.next ≡ (if m.ordered && (m.index == (slice_index_or x.open_streams at d).next) then m.index + 1 else (slice_index_or x.open_streams at d).next)) where
-      same-id : z.state.stream_identifier ≡ y.state.stream_identifier
-      same-id = ap (λ (t : StreamState). t.stream_identifier) state
+    module _ (m : Message) (messages : List W.Message) (m_is : message_at x.world read-is.0 ≡ message_record m) (messages_are : messages ≡ changed mark_read read-is.0 x.world.messages) (index : m.index ≡ index_kept x.progress read-is.0) where
+      abbrev z : OpenStream
+      z = read_recorded m.ordered m.index taken
+
+      abbrev recorded : List OpenStream
+      recorded = change_where (has_number s) (read_recorded m.ordered m.index) (change_where (has_number s) (on_inbound stream_read) x.open_streams)
 
       next-is : z.next ≡ next_of v s
       next-is =
           let kind : (message_at w read-is.0).ordered ≡ m.ordered = ap (λ t. t.ordered) m_is in
-          next
-          ∙ indexed m.ordered m.index (index_of w read-is.0) (λ o. index ∙ l.indexes read-is.0 sent-some (kind ∙ o))
+          indexed m.ordered m.index (index_of w read-is.0) (λ o. index ∙ l.indexes read-is.0 sent-some (kind ∙ o))
           ∙ ap (λ b. if b && (index_of w read-is.0 == y.next) then index_of w read-is.0 + 1 else y.next) (ap (λ t. t.ordered) (sym m_is))
           ∙ ap (λ t. if (message_at w read-is.0).ordered && (index_of w read-is.0 == t) then index_of w read-is.0 + 1 else t) ((l.open_streams at d lt).next ∙ ap (next_of w) (id-at d))
           ∙ sym hands.next
@@ -332,9 +323,7 @@ module _ (sum : List ℕ → ℕ) (x : State) (l : IsLinked sum x) (s at : ℕ) 
           let len = length (message_at w read-is.0).bytes in
           let sent = y.state.stats in
           let read = y.inbound.stats in
-          ap (λ (t : StreamState). both_ways t.stats z.inbound.stats) state
-          ∙ ap (λ (b : InboundStream). both_ways sent b.stats) inbound
-          ∙ ap (λ o. both_ways sent (counted o read)) e
+          ap (λ o. both_ways sent (counted o read)) e
           ∙ ap (λ p. both_ways sent (with_received (counted_bytes p (bytes_of set.chunks)) read)) (ap (λ (c : ChunkSet). c.ppi) read-is.2 ∙ ppi-handed w read-is.0)
           ∙ ap (λ k. both_ways sent (with_received (counted_bytes ppi k) read)) bytes-read
           ∙ read-both (counted_bytes ppi len) sent read
@@ -343,19 +332,19 @@ module _ (sum : List ℕ → ℕ) (x : State) (l : IsLinked sum x) (s at : ℕ) 
           ∙ ap stats_of (sym (counters-at s ∙ ap (λ b. if b then received_more (counted_as (message_at w read-is.0).ppi (length (message_at w read-is.0).bytes)) (counters_on w s) else counters_on w s) (same-yes s)))
 
       open_stream-is : IsOpenStream v z
-      open_stream-is = stream-read z same-id (ap (λ (b : InboundStream). b.queue) inbound) (ap (λ (t : StreamState). t.max_payload_size) state) (ap (λ (t : StreamState). t.sequence_number) state) (ap (λ (t : StreamState). t.buffered_amount) state) ordered begun next-is stats-are
+      open_stream-is = stream-read z refl refl refl refl refl refl refl next-is stats-are
 
       abbrev shown : ℕ → StreamState → List ℕ → StreamRecord
       shown named t whole = record { stream = t.stream_identifier; unordered = t.unordered; reliability = t.reliability_type; value = t.reliability_value; named = named; whole = whole }
 
       whole-is : z.whole ≡ drop 1 y.whole
       whole-is =
-          whole ∙ ap (λ b. if b then y.whole else drop 1 y.whole) (ap (λ t. t.ordered) (sym m_is))
+          ap (λ b. if b then y.whole else drop 1 y.whole) (ap (λ t. t.ordered) (sym m_is))
           ∙ ap (λ l. if (message_at w read-is.0).ordered then l else drop 1 l) (sym whole-are) ∙ hands.whole ∙ ap (drop 1) whole-are
 
       streams-are : map stream_record (slice_set x.open_streams at z) ≡ map (λ (t : StreamRecord). if t.stream == s then without_first t else t) w.streams
       streams-are =
-          streams-set x.open_streams at z d without_first streams-apart lt (ap (λ (t : StreamState). shown z.named t z.whole) state ∙ ap (λ n. shown n y.state z.whole) named ∙ ap (shown y.named y.state) whole-is)
+          streams-set x.open_streams at z d without_first streams-apart lt (ap (shown y.named y.state) whole-is)
           ∙ ap (λ i. map (λ (t : StreamRecord). if t.stream == i then without_first t else t) (map stream_record x.open_streams)) (id-at d)
           ∙ ap (map (λ (t : StreamRecord). if t.stream == s then without_first t else t)) (sym streams_are)
 
@@ -369,30 +358,17 @@ module _ (sum : List ℕ → ℕ) (x : State) (l : IsLinked sum x) (s at : ℕ) 
       linked-read progress same =
           linked-then sum x l (E.Read s) none frame progress (slice_set x.open_streams at z) x.filter (record w { streams = map stream_record (slice_set x.open_streams at z); messages = messages }) same (l.filter ∙ sym filter-stays)
           (each-read z open_stream-is hands.other counters-other)
-          (apart-set x.open_streams at z d l.apart same-id)
+          (apart-set x.open_streams at z d l.apart refl)
           quiet world-read
 
-      -- where the stream was set before
-      world-twice : (a : OpenStream) → record w { streams = map stream_record (slice_set (slice_set x.open_streams at a) at z); messages = messages } ≡ v
-      world-twice a = ap {B = World} (λ ls. record w { streams = map stream_record ls; messages = messages }) (set-set x.open_streams at a z) ∙ world-read
-
-      linked-twice : (a : OpenStream) (progress : List (ℕ × ℕ)) → progress ≡ x.progress → IsLinked sum (record x { world = record w { streams = map stream_record (slice_set (slice_set x.open_streams at a) at z); messages = messages }; progress = progress; open_streams = slice_set (slice_set x.open_streams at a) at z })
-      linked-twice a progress same = subst (λ ls. IsLinked sum (record x { world = record w { streams = map stream_record ls; messages = messages }; progress = progress; open_streams = ls })) (sym (set-set x.open_streams at a z)) (linked-read progress same)
-
-    -- so the halves record it
-    module _ (m : Message) (messages : List W.Message) (m_is : message_at x.world read-is.0 ≡ message_record m) (messages_are : messages ≡ changed mark_read read-is.0 x.world.messages) (index : m.index ≡ index_kept x.progress read-is.0) where
-      abbrev recorded : List OpenStream
-      recorded = change_where (has_number s) (read_recorded m.ordered m.index) (change_where (has_number s) (on_inbound stream_read) x.open_streams)
-
+      -- so the halves record it
       pub world-recorded : record w { streams = map stream_record recorded; messages = messages } ≡ v
-      world-recorded =
-          ap {B = World} (λ ls. record w { streams = map stream_record ls; messages = messages }) (read-twice m.ordered m.index)
-          ∙ world-twice m messages (read_recorded m.ordered m.index taken) m_is messages_are refl refl refl index refl refl refl refl taken
+      world-recorded = ap {B = World} (λ ls. record w { streams = map stream_record ls; messages = messages }) (read-twice m.ordered m.index) ∙ world-read
 
       pub linked-recorded : (progress : List (ℕ × ℕ)) → progress ≡ x.progress → IsLinked sum (record x { world = record w { streams = map stream_record recorded; messages = messages }; progress = progress; open_streams = recorded })
       linked-recorded progress same =
           subst (λ ls. IsLinked sum (record x { world = record w { streams = map stream_record ls; messages = messages }; progress = progress; open_streams = ls })) (sym (read-twice m.ordered m.index))
-          (linked-twice m messages (read_recorded m.ordered m.index taken) m_is messages_are refl refl refl index refl refl refl refl taken progress same)
+          (linked-read progress same)
 
 -- ## What the queue answered
 

@@ -1,6 +1,6 @@
 -- The slots of a datagram of a link come to a sound record, and what the link is after them.
 use Rattle.std.proofs.Common.{◌≡◌, ℕ, zero, suc, ◌+◌, ◌<◌, ◌≤◌, ◌%◌, ◌^◌, Bool, true, false, List, [], ◌∷◌, ◌++◌, length, map, Some, None, refl, ap, sym, ◌∙◌, arith}
-use Rattle.std.specs.Prelude.{◌==◌, not, is_some, if◌then◌else◌, find, fold, slice_get, slice_index_or}
+use Rattle.std.specs.Prelude.{◌==◌, not, if◌then◌else◌, fold, slice_get, slice_index_or}
 use Rattle.std.specs.List.{list_any}
 use Rattle.std.proofs.Math.Path.{subst}
 use Rattle.std.proofs.lemmas.List.Sums.{fold-append}
@@ -24,7 +24,6 @@ use Rattle.sctp_model.proofs.sender.SenderRun.{Sane, sane-run, sane-received}
 use Rattle.sctp_model.proofs.sender.Network
 use Rattle.sctp_model.proofs.receiver.SoundRun.{slots_come_sound}
 use Rattle.sctp_model.proofs.acknowledgement.Bytes.{size-some}
-use Rattle.sctp_lists.proofs.More.{not_both}
 use Rattle.sctp_ties.specs.Holds.{reassembly_of}
 use Rattle.sctp_ties.specs.Counts.{counters_on}
 use Rattle.sctp_ties.proofs.sending.SlotsGoOn.{AllGoOn, goes-run}
@@ -38,8 +37,6 @@ use Rattle.sctp_ties.proofs.arriving.Arrival.{with_arrived}
 use Rattle.sctp_ties.proofs.arriving.Carried.{Carried, carried, enters}
 use Rattle.sctp_ties.proofs.arriving.SlotArrives
 use Rattle.sctp_ties.proofs.reading.ReadOne.{next-arrive}
-use Rattle.sctp_stream.specs.declared.stream.StreamState.{StreamState}
-use Rattle.sctp_transfer.specs.TsnFilter.{Filter}
 use Rattle.sctp_transfer.specs.Receiver.{filter_of as held_filter}
 use Rattle.sctp_halves.specs.Streams.{OpenStream, stats_in, stream_numbers}
 use Rattle.sctp_halves.specs.Halves.{Sides, reception_of}

@@ -1,12 +1,11 @@
 -- The slots of a datagram come to the receiver of a link, one after another.
-use Rattle.std.proofs.Common.{◌≡◌, ℕ, zero, suc, Bool, true, false, List, [], ◌∷◌, ◌++◌, length, map, None, refl, ap, sym, ◌∙◌, append-nil}
+use Rattle.std.proofs.Common.{◌≡◌, ℕ, zero, suc, Bool, true, false, List, [], ◌∷◌, ◌++◌, length, map, refl, ap, sym, ◌∙◌, append-nil}
 use Rattle.std.specs.Prelude.{◌||◌, if◌then◌else◌, fold, slice_index_or}
 use Rattle.std.specs.List.{list_any}
 use Rattle.std.proofs.Math.Path.{subst}
 use Rattle.sctp_lists.specs.Lists.{changed}
 use Rattle.sctp_chunks.specs.declared.chunk.chunk_payload_data.ChunkPayloadData.{ChunkPayloadData}
 use Rattle.sctp_model.specs.World.{World}
-use Rattle.sctp_model.specs.World as W
 use Rattle.sctp_model.specs.Messages.{message_of, no_slot}
 use Rattle.sctp_model.specs.Receiver.{is_new}
 use Rattle.sctp_model.specs.Changes.{slot_received, mark_arrived}
@@ -15,10 +14,11 @@ use Rattle.sctp_ties.proofs.arriving.SlotArrives
 use Rattle.sctp_transfer.specs.declared.receiver.arrival.Arrival.{Arrival}
 use Rattle.sctp_transfer.specs.declared.receiver.arrival.Arrival.TheVariants.{New, Repeat}
 use Rattle.sctp_transfer.specs.Receiver.{arrival_of}
-use Rattle.sctp_halves.specs.Halves.{Sides, reception_of, Takes, CanTake, TakesEach}
+use Rattle.sctp_halves.specs.Halves.{Sides, reception_of, CanTake, TakesEach}
 use Rattle.sctp_link.specs.declared.record.Slot.{Slot}
 use Rattle.sctp_link.specs.Records.{slot_record}
 use Rattle.sctp_link.specs.Receiving.{IsReceiver, AllCome, number_at, with_arrival, arrived_in, repeated_of, is_first}
+use Rattle.sctp_link.proofs.receiver.Arrivals.{more}
 use Rattle.sctp_link.proofs.receiver.Slots.{One, core, accepted, opened, one}
 
 -- the numbers of the messages of slots, as a link keeps them
@@ -59,10 +59,6 @@ marked : (p : ℕ) (ss : List Slot) → map slot_record (changed with_arrival p 
 marked p [] = refl
 marked zero (t ∷ ss) = refl
 marked (suc p) (t ∷ ss) = ap (λ xs. slot_record t ∷ xs) (marked p ss)
-
-more : (xs : List ℕ) (y : ℕ) (ys : List ℕ) → (xs ++ y ∷ []) ++ ys ≡ xs ++ y ∷ ys
-more [] y ys = refl
-more (x ∷ xs) y ys = ap (λ zs. x ∷ zs) (more xs y ys)
 
 -- whether one of those after a slot is new, where that is not
 others-new : (w : World) (p : ℕ) (ps : List ℕ) → is_new w p ≡ false → list_any (is_new (slot_received w p)) ps ≡ list_any (is_new w) ps

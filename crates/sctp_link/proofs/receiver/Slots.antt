@@ -1,11 +1,11 @@
 -- A slot of a datagram comes: what the receiver of a link has then.
-use Rattle.std.proofs.Common.{◌≡◌, ℕ, zero, suc, ◌<◌, Bool, true, false, List, [], ◌∷◌, ◌++◌, length, map, Option, Some, None, refl, ap, sym, ◌∙◌, arith}
+use Rattle.std.proofs.Common.{◌≡◌, ℕ, suc, ◌<◌, Bool, true, false, List, [], ◌∷◌, ◌++◌, length, map, Option, Some, None, refl, ap, sym, ◌∙◌, arith}
 use Rattle.std.specs.Prelude.{◌==◌, ◌&&◌, not, nat_le, if◌then◌else◌, find, option_map, is_some, slice_index_or, slice_set}
 use Rattle.std.specs.List.{list_all}
 use Rattle.std.proofs.Math.Path.{subst}
 use Rattle.std.proofs.lemmas.List.{length-set}
 use Rattle.sctp_lists.specs.Lists.{changed, change_where, inserted}
-use Rattle.sctp_lists.proofs.Cases.{same-yes, and-none}
+use Rattle.sctp_lists.proofs.Cases.{and-none}
 use Rattle.sctp_chunks.specs.declared.chunk.chunk_payload_data.ChunkPayloadData.{ChunkPayloadData}
 use Rattle.sctp_serial.specs.DataChunks.{chunk_before}
 use Rattle.sctp_reassembly.specs.reassembly_queue.ReassemblyQueue.{Reassembly, ReassemblyState, is_too_large, held_after_ordered_push, BecomesWhole}
@@ -25,7 +25,6 @@ use Rattle.sctp_ties.proofs.reading.Keeps
 use Rattle.sctp_stream.specs.declared.stream.StreamState.{StreamState}
 use Rattle.sctp_transfer.specs.declared.receiver.arrival.Arrival.{Arrival}
 use Rattle.sctp_transfer.specs.declared.receiver.arrival.Arrival.TheVariants.{New, Repeat}
-use Rattle.sctp_transfer.specs.declared.receiver.inbound_streams.InboundStream.{InboundStream}
 use Rattle.sctp_transfer.specs.declared.receiver.refusal.ReceiverRefusal.{ReceiverRefusal}
 use Rattle.sctp_transfer.specs.declared.receiver.refusal.ReceiverRefusal.TheVariants.{TsnOpposite, MessageTooLarge}
 use Rattle.sctp_transfer.specs.Inbound as Inbound

@@ -14,7 +14,7 @@ loop-at-preserved c =
     let lt : i < length ps = c.loop-at-test.true in
     let inv = c.loop-at.invariant in
     elim c.match-arrivals-at.branch [
-      in-New w ↦ record {
+      | in-New w ↦ record {
         slots =
             ap (arrived_in (drop (i + 1) ps) (drop (i + 1) bs)) (w.slots-is ∙ set-changed with_arrival c.loop-at.slots (slice_index_or ps i 0) _ (omega (arith, c.requires.inside i lt, inv.count)))
             ∙ slots-first ps bs i lt c.requires.count w.in-New.is c.loop-at.slots ∙ inv.slots;
@@ -27,7 +27,7 @@ loop-at-preserved c =
         room = omega (arith, ap vec_len w.duplicates-is, ap vec_capacity w.duplicates-is, inv.room);
         count = c.match-arrivals-at.auto.slots ∙ inv.count;
       }
-    | in-Repeat w ↦ record {
+      | in-Repeat w ↦ record {
         slots = ap (arrived_in (drop (i + 1) ps) (drop (i + 1) bs)) w.slots-is ∙ slots-again ps bs i lt c.requires.count w.in-Repeat.is c.loop-at.slots ∙ inv.slots;
         duplicates =
             ap (λ (v : Vec ℕ Global). v.items ++ repeated_of (drop (i + 1) ps) (drop (i + 1) bs)) w.duplicates-is
