@@ -122,12 +122,7 @@ pub(super) fn take_fragments(
 
 /// Takes the next fragment: it gets a slot and the next TSN; `now` is in nanoseconds.
 /// Precondition: it can leave, and there is room for it.
-fn take_next(
-    halves: &mut Halves,
-    messages: &mut [Message],
-    slots: &mut Vec<Slot>,
-    now: u64,
-)
+fn take_next(halves: &mut Halves, messages: &mut [Message], slots: &mut Vec<Slot>, now: u64)
     requires able { CanSend (sender_of halves.old messages.old slots.old.items) }
     requires flight { 0 < halves.old.flight.queue.inflight.room }
     requires room { vec_len slots.old < vec_capacity slots.old }

@@ -98,7 +98,10 @@ impl<C: Checksum + Drop> Link<C> {
         self.messages.reserve(1)?;
         let written = self.halves.write(stream, ppi, &bytes)?;
         let number = self.messages.len() as u64;
-        put(&mut self.messages, message_with(stream, written, ppi, bytes));
+        put(
+            &mut self.messages,
+            message_with(stream, written, ppi, bytes),
+        );
         self.fragments += count;
         self.written += len as u64;
         Ok(Reply::Wrote {
