@@ -237,13 +237,13 @@ impl StreamState {
         ensures memory { IfErr result (λ e. e ≡ ErrOutOfMemory) }
     {
         let chunks = self.fragments(alloc, raw, ppi)?;
-        let high = self.note_write(ppi, raw.len());
+        let high = self.record_write(ppi, raw.len());
         Ok((high, chunks))
     }
 
     /// Notes a write of so many bytes whose fragments were taken apart by `fragments`: an ordered one of some takes the
     /// sequence number. Answers whether the buffered amount reaches the high threshold now. It takes no memory.
-    pub fn note_write(&mut self, ppi: PayloadProtocolIdentifier, len: usize) -> bool
+    pub fn record_write(&mut self, ppi: PayloadProtocolIdentifier, len: usize) -> bool
         ensures high { result ≡ rises_high self.old len }
         ensures rest { (bytes : List ℕ)
             → len ≡ length bytes → self.new ≡ after_write self.old ppi bytes }
@@ -273,7 +273,7 @@ impl StreamState {
         matches!(ppi, PayloadProtocolIdentifier::Dcep) || !self.unordered
     }
 
-    /// The fragments of a write, as `packetize` gives them; the stream stays as it is until `note_write`. Refuses only for
+    /// The fragments of a write, as `packetize` gives them; the stream stays as it is until `record_write`. Refuses only for
     /// memory.
     pub fn fragments(
         &self,

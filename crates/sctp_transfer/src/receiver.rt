@@ -109,7 +109,7 @@ impl Receiver {
         ensures err { OnErr result (self.new ≡ self.old) }
     {
         if self.filter.has_come(chunk.tsn) {
-            self.filter.note_duplicate(chunk.tsn)?;
+            self.filter.record_duplicate(chunk.tsn)?;
             return Ok(Arrival::Repeat);
         }
         if self.filter.is_opposite(chunk.tsn) {

@@ -100,6 +100,7 @@ impl Sender {
 
     /// Closes a stream, where it is open: its state, its amount and its counters go. What waits and is in flight of it stays, and
     /// goes on as before. Where it is not open nothing changes. It takes no memory.
+    /// Open it again only once `outbound().contains_stream` is false: what then leaves would else lower the new amount.
     pub fn close(&mut self, stream: u16)
         ensures { self.new ≡ closed stream self.old }
     {

@@ -134,7 +134,7 @@ impl TsnFilter {
 
     /// A TSN comes again. Refuses only for memory, and the filter is as it was then.
     /// Precondition: it came (`has_come`).
-    pub fn note_duplicate(&mut self, tsn: u32) -> Result<()>
+    pub fn record_duplicate(&mut self, tsn: u32) -> Result<()>
         requires { has_come tsn self.old ≡ true }
         ensures ok { OnOk result (self.new ≡ with_duplicate tsn self.old) }
         ensures err { OnErr result (self.new ≡ self.old) }

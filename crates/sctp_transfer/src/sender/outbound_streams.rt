@@ -194,7 +194,7 @@ fn count_write(state: &mut StreamState, ppi: PayloadProtocolIdentifier, len: usi
     ensures rest { (bytes : List ℕ) → len ≡ length bytes → state.new ≡ wrote ppi bytes state.old }
     ensures number { state.new.stream_identifier ≡ state.old.stream_identifier }
 {
-    state.note_write(ppi, len);
+    state.record_write(ppi, len);
     let mut stats = state.stats();
     stats.sent(ppi, len);
     state.set_stats(stats);
