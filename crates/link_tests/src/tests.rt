@@ -3,7 +3,7 @@ use sctp_base::util::Checksum;
 use sctp_chunks::chunk::chunk_payload_data::{PayloadProtocolIdentifier, ReliabilityType};
 use sctp_link::event::{Event, LinkRefusal, Reply};
 use sctp_link::link::Link;
-use sctp_link::link::lending::Ledger;
+use sctp_link::link::accessors::Ledger;
 use sctp_link::stream::DataChannelStats;
 use sctp_queues::chunks::Chunks;
 use std::alloc::{AllocError, Global};
