@@ -1,1 +1,1 @@
-pub mod NearLemmas
+pub mod NearChunks

@@ -116,7 +116,7 @@ fn abandoned_bytes_are_released(rt: HostRuntime) {
     assert!(rt; well && both_are_abandoned(&mut link));
 }
 
-fn timed_is_half_sent(alloc: Global, link: &mut Link<Zero>) -> bool {
+fn timed_is_partially_sent(alloc: Global, link: &mut Link<Zero>) -> bool {
     does(link, Event::Open { stream: 1 })
         && does(link, mode(true))
         && takes(alloc, link, b"abcdefg")
@@ -131,12 +131,12 @@ fn tail_goes(link: &mut Link<Zero>) -> bool {
         && sums(link, 7, 0, 0, 7)
 }
 
-/// Of a half-sent message whose lifetime is over only what is neither acknowledged nor released yet is released.
+/// Of a partially sent message whose lifetime is over only what is neither acknowledged nor released yet is released.
 #[test]
 fn the_tail_is_released(rt: HostRuntime) {
     let alloc = rt.alloc();
     let mut link = Link::new(alloc, 10, 3, 100, Zero);
-    assert!(rt; timed_is_half_sent(alloc, &mut link) && tail_goes(&mut link));
+    assert!(rt; timed_is_partially_sent(alloc, &mut link) && tail_goes(&mut link));
 }
 
 /// Sends three messages of a fragment each.
@@ -180,7 +180,7 @@ fn skips_move_the_cumulative_tsn(rt: HostRuntime) {
     assert!(rt; well && skip_moves(&mut link));
 }
 
-fn half_sent_is_abandoned(alloc: Global, link: &mut Link<Zero>) -> bool {
+fn partially_sent_is_abandoned(alloc: Global, link: &mut Link<Zero>) -> bool {
     sent(alloc, link, &[b"abcdefg"], 1)
         && arrives(link, 0)
         && does(link, Event::Abandon { tsn: 10 })
@@ -188,7 +188,7 @@ fn half_sent_is_abandoned(alloc: Global, link: &mut Link<Zero>) -> bool {
         && sends(link)
 }
 
-fn end_mark_is_skipped(alloc: Global, link: &mut Link<Zero>) -> bool {
+fn terminal_chunk_is_skipped(alloc: Global, link: &mut Link<Zero>) -> bool {
     skips(alloc, link, 11, &[0], 2)
         && carries(link, 2, &[0xc0, 0, 0, 12, 0, 0, 0, 11, 0, 1, 0, 0])
         && arrives(link, 1)
@@ -205,12 +205,13 @@ fn rest_is_released(link: &mut Link<Zero>) -> bool {
         && sums(link, 8, 0, 0, 8)
 }
 
-/// A receiver goes on behind the end mark of an abandoned message, and its SACK releases the rest.
+/// A receiver goes on behind the terminal chunk of an abandoned message, and its SACK releases the rest.
 #[test]
 fn a_skip_is_acknowledged(rt: HostRuntime) {
     let alloc = rt.alloc();
     let mut link = Link::new(alloc, 10, 3, 100, Zero);
-    let well = half_sent_is_abandoned(alloc, &mut link) && end_mark_is_skipped(alloc, &mut link);
+    let well = partially_sent_is_abandoned(alloc, &mut link)
+        && terminal_chunk_is_skipped(alloc, &mut link);
     assert!(rt; well && rest_is_released(&mut link));
 }
 

@@ -93,12 +93,12 @@ fn read_short(word: &str, rest: &mut Option<&str>) -> Option<Event> {
         "read" => Some(Event::Read {
             stream: take_u16(rest)?,
         }),
-        _ => read_giving_up(word, rest),
+        _ => read_abandonment(word, rest),
     }
 }
 
-/// Reads the field of an event that gives up a message.
-fn read_giving_up(word: &str, rest: &mut Option<&str>) -> Option<Event> {
+/// Reads the field of an event that abandons a message.
+fn read_abandonment(word: &str, rest: &mut Option<&str>) -> Option<Event> {
     match word {
         "expire" => Some(Event::Expire {
             now: take_u64(rest)?,

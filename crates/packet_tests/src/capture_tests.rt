@@ -73,7 +73,7 @@ const DATAGRAMS: [(&str, Want); 38] = [
     ("13891388cde0c89848c03b8d070000085ccfd8bd", Same),
     ("13881389debc104349bc954808000004", Same),
     ("13891388cde0c898a9142a6a0e000004", Same),
-    // usrsctp: messages are interleaved, and given up
+    // usrsctp: messages are interleaved, and abandoned
     (
         "138913880a810935e05fa9104003001e45b80f9800000000000000000000003300070e151c232a31383f0000",
         Refused(Error::ErrUnmarshalUnknownChunkType),
@@ -86,7 +86,7 @@ const DATAGRAMS: [(&str, Want); 38] = [
         "138913880a810935af2051bfc200001845b80fa000050000000000000005000000000000",
         Same,
     ),
-    // usrsctp: messages are given up
+    // usrsctp: messages are abandoned
     ("138913889b9bf949518717dfc000000c0ebe064400010000", Same),
     // aiortc: data channels
     (
@@ -115,7 +115,7 @@ const DATAGRAMS: [(&str, Want); 38] = [
         Same,
     ),
     ("13881388beb79230f645dcb206000004", Same),
-    // aiortc: messages are given up
+    // aiortc: messages are abandoned
     ("138813882591778837b8b670c000000c126c7fda00010003", Same),
     // pion: messages both ways, and the end
     (
@@ -170,8 +170,8 @@ fn is_written_as(alloc: Global, packet: &Packet, bytes: &Bytes) -> bool {
 }
 
 /// Whether that becomes of the datagram which is wanted.
-fn is_as_wanted(alloc: Global, text: &str, want: Want) -> bool {
-    let Ok(bytes) = hex::decode(alloc, text) else {
+fn is_as_wanted(alloc: Global, encoding: &str, want: Want) -> bool {
+    let Ok(bytes) = hex::decode(alloc, encoding) else {
         return false;
     };
     let Ok(bytes) = Bytes::from_vec(bytes) else {
@@ -187,7 +187,7 @@ fn is_as_wanted(alloc: Global, text: &str, want: Want) -> bool {
 
 #[test]
 fn recorded_datagrams_are_written_back(rt: HostRuntime) {
-    for (text, want) in DATAGRAMS {
-        assert!(rt; is_as_wanted(rt.alloc(), text, want), "at {text}");
+    for (encoding, want) in DATAGRAMS {
+        assert!(rt; is_as_wanted(rt.alloc(), encoding, want), "at {text}");
     }
 }

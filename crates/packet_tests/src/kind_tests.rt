@@ -21,16 +21,16 @@ use std::alloc::Global;
 
 // The packet's chunks as they print.
 fn joined(alloc: Global, packet: &Packet) -> Result<String, Error> {
-    let mut text = String::new(alloc);
+    let mut encoding = String::new(alloc);
     for chunk in &packet.chunks {
-        text.push_str(&format!(in alloc; "{chunk};")?)?;
+        encoding.push_str(&format!(in alloc; "{chunk};")?)?;
     }
-    Ok(text)
+    Ok(encoding)
 }
 
 fn is_printed(alloc: Global, packet: &Packet, expected: &str) -> bool {
     match joined(alloc, packet) {
-        Ok(text) => text.as_str() == expected,
+        Ok(encoding) => encoding.as_str() == expected,
         Err(_) => false,
     }
 }
@@ -161,16 +161,17 @@ const RECORDED: [(&[u8], &str); 3] = [
 
 #[test]
 fn recorded_inits(rt: HostRuntime) {
-    for (chunks, text) in RECORDED {
-        let well = prints_so(rt.alloc(), chunks, text) && is_rewritten(rt.alloc(), chunks, chunks);
+    for (chunks, encoding) in RECORDED {
+        let well = prints_so(rt.alloc(), chunks, encoding)
+            && is_rewritten(rt.alloc(), chunks, chunks);
         assert!(rt; well, "at {chunks:?}");
     }
 }
 
 #[test]
 fn kinds_print(rt: HostRuntime) {
-    for (chunks, text, _) in ROWS {
-        assert!(rt; prints_so(rt.alloc(), chunks, text), "at {chunks:?}");
+    for (chunks, encoding, _) in ROWS {
+        assert!(rt; prints_so(rt.alloc(), chunks, encoding), "at {chunks:?}");
     }
 }
 
@@ -382,7 +383,7 @@ fn longest_cause(rt: HostRuntime) {
 }
 
 // Whether these bytes are written.
-fn is_text(written: Result<Bytes, Error>, want: &[u8]) -> bool {
+fn is_encoding(written: Result<Bytes, Error>, want: &[u8]) -> bool {
     match written {
         Ok(written) => written.as_slice() == want,
         Err(_) => false,
@@ -395,7 +396,7 @@ fn is_cause(alloc: Global, raw: &Bytes) -> bool {
             small.length() == 5
                 && small.error_cause_code() == USER_INITIATED_ABORT
                 && small.raw.as_slice() == [7].as_slice()
-                && is_text(small.marshal(alloc), raw.as_slice())
+                && is_encoding(small.marshal(alloc), raw.as_slice())
         }
         Err(_) => false,
     }
@@ -410,7 +411,7 @@ fn cause_alone(rt: HostRuntime) {
 
 fn is_pair(alloc: Global, raw: &Bytes) -> bool {
     match ChunkForwardTsnStream::unmarshal(raw) {
-        Ok(pair) => pair.value_length() == 4 && is_text(pair.marshal(alloc), b"\0\x01\0\x02"),
+        Ok(pair) => pair.value_length() == 4 && is_encoding(pair.marshal(alloc), b"\0\x01\0\x02"),
         Err(_) => false,
     }
 }
@@ -441,8 +442,8 @@ fn parts_print(rt: HostRuntime) {
         sequence: 2,
     };
     let refusal = Error::ErrShortBuffer;
-    let text = format!(in rt.alloc(); "{header}: {pair}: {refusal}");
-    assert!(rt; text.is_ok_and(|text| text.as_str() == "SACK: 1, 2: ErrShortBuffer"));
+    let encoding = format!(in rt.alloc(); "{header}: {pair}: {refusal}");
+    assert!(rt; encoding.is_ok_and(|encoding| encoding.as_str() == "SACK: 1, 2: ErrShortBuffer"));
 }
 
 // How a HEARTBEAT-ACK of these is refused; nothing also where the buffer was not left as it was.
@@ -583,8 +584,9 @@ fn clone_written(alloc: Global, chunk: &ChunkReconfig) -> Result<Bytes, Error> {
 // The first parameter is padded where a second one follows.
 fn is_padded(alloc: Global, chunk: &ChunkReconfig) -> bool {
     let expected = Some(Error::ErrChunkReconfigInvalidParamCombination);
-    let text = b"\x82\0\0\x12\0\x01\0\x05\x07\0\0\0\0\x01\0\x06\x07\x07";
-    refusals_of(alloc, chunk) == (expected, None) && is_text(clone_written(alloc, chunk), text)
+    let encoding = b"\x82\0\0\x12\0\x01\0\x05\x07\0\0\0\0\x01\0\x06\x07\x07";
+    refusals_of(alloc, chunk) == (expected, None)
+        && is_encoding(clone_written(alloc, chunk), encoding)
 }
 
 #[test]

@@ -85,7 +85,7 @@ fn longer(alloc: Global, raw: &[u8]) -> Result<Bytes, Error> {
 }
 
 // Whether these bytes are written.
-fn is_text(written: Result<Bytes, Error>, want: &[u8]) -> bool {
+fn is_encoding(written: Result<Bytes, Error>, want: &[u8]) -> bool {
     match written {
         Ok(written) => written.as_slice() == want,
         Err(_) => false,
@@ -113,7 +113,9 @@ fn is_cloned<P: Param + PartialEq + Drop>(alloc: Global, param: &P) -> bool {
 fn is_read<P: Param + PartialEq + Drop>(alloc: Global, longer: &Bytes, raw: &[u8]) -> bool {
     match P::unmarshal(alloc, longer) {
         Ok(param) => {
-            is_text(param.marshal(alloc), raw) && has_its_header(&param) && is_cloned(alloc, &param)
+            is_encoding(param.marshal(alloc), raw)
+                && has_its_header(&param)
+                && is_cloned(alloc, &param)
         }
         Err(_) => false,
     }
@@ -223,7 +225,7 @@ fn is_whole(response: &ParamReconfigResponse) -> bool {
 // Of a response with one of the two TSNs neither is kept.
 fn is_half(alloc: Global, response: &ParamReconfigResponse) -> bool {
     let expected = b"\x00\x10\x00\x0c\0\0\0\x01\0\0\0\x01".as_slice();
-    response.next_tsns.is_none() && is_text(response.marshal(alloc), expected)
+    response.next_tsns.is_none() && is_encoding(response.marshal(alloc), expected)
 }
 
 #[test]
@@ -284,7 +286,7 @@ fn cookie(alloc: Global, raw: &[u8]) -> Result<ParamStateCookie, Error> {
 fn other_values(rt: HostRuntime) {
     let alloc = rt.alloc();
     let ignored = rewritten(alloc, b"\xc0\x00\x00\x06\x01\x02");
-    assert!(rt; is_text(ignored, b"\xc0\x00\x00\x04"));
+    assert!(rt; is_encoding(ignored, b"\xc0\x00\x00\x04"));
     // a single kind is read under any type number
     assert!(rt; is_cookie(cookie(alloc, b"\x00\x01\x00\x06ab"), b"ab"));
     assert!(rt; is_cookie(ParamStateCookie::new(alloc, [9; 32]), &[9; 32]));
@@ -495,7 +497,7 @@ fn header(alloc: Global, raw: &[u8]) -> Result<ParamHeader, Error> {
 // Whether the item prints so.
 fn prints<T: Display>(alloc: Global, item: &T, want: &str) -> bool {
     match printed(alloc, item) {
-        Ok(text) => text.as_str() == want,
+        Ok(encoding) => encoding.as_str() == want,
         Err(_) => false,
     }
 }
@@ -506,7 +508,7 @@ fn headers(rt: HostRuntime) {
     assert!(rt; header(alloc, &[0xc0, 6, 0, 6, 1, 2, 3]) == Ok(ADAPTATION));
     assert!(rt; ADAPTATION.value_length() == 2);
     assert!(rt; ParamHeader::of(ParamType::AdaptLayerInd, 2) == Ok(ADAPTATION));
-    assert!(rt; is_text(ADAPTATION.marshal(alloc), &[0xc0, 6, 0, 6]));
+    assert!(rt; is_encoding(ADAPTATION.marshal(alloc), &[0xc0, 6, 0, 6]));
     assert!(rt; prints(alloc, &ADAPTATION, "Adaptation Layer Indication"));
 }
 
@@ -592,8 +594,8 @@ fn prints_so(alloc: Global, raw: &[u8], expected: &str) -> bool {
 
 #[test]
 fn kinds_print(rt: HostRuntime) {
-    for (raw, text) in PRINTED {
-        assert!(rt; prints_so(rt.alloc(), raw, text), "at {raw:?}");
+    for (raw, encoding) in PRINTED {
+        assert!(rt; prints_so(rt.alloc(), raw, encoding), "at {raw:?}");
     }
 }
 

@@ -5,7 +5,7 @@ ghost use Rattle.std.specs.Prelude.{◌≡◌, length};
 use bytes::Bytes;
 use sctp_chunks::chunk::chunk_payload_data::{ChunkPayloadData, PayloadProtocolIdentifier};
 
-/// A whole message of one byte.
+/// A complete message of one byte.
 pub(crate) fn chunk(tsn: u32) -> ChunkPayloadData
     ensures tsn { result.tsn ≡ tsn }
     ensures len { length result.user_data ≡ 1 }

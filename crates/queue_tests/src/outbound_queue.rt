@@ -110,12 +110,12 @@ fn sends(queue: &mut OutboundQueue, next_tsn: &mut u32, want: Option<u32>) -> bo
 }
 
 // `abcdefg`, its first fragment sent under TSN 10.
-fn half_sent(alloc: Global, queue: &mut OutboundQueue, timed: bool) -> bool {
+fn partially_sent(alloc: Global, queue: &mut OutboundQueue, timed: bool) -> bool {
     let mut tsn = 10;
     pushes(queue, letters(alloc, timed)) && sends(queue, &mut tsn, Some(10))
 }
 
-fn is_end_mark(chunk: Option<&ChunkPayloadData>) -> bool {
+fn is_terminal_chunk(chunk: Option<&ChunkPayloadData>) -> bool {
     match chunk {
         Some(c) => {
             c.ending_fragment && !c.beginning_fragment && c.abandoned && c.user_data.is_empty()
@@ -133,19 +133,21 @@ fn sizes(queue: &OutboundQueue) -> (usize, usize, usize) {
     )
 }
 
-fn end_mark_is_left(queue: &mut OutboundQueue) -> bool {
+fn terminal_chunk_is_left(queue: &mut OutboundQueue) -> bool {
     let mut tsn = 11;
     abandon(queue, 10, &mut tsn) == Ok(Some((1, 7)))
         && tsn == 12
         && sizes(queue) == (2, 0, 0)
-        && is_end_mark(queue.get(11))
+        && is_terminal_chunk(queue.get(11))
         && queue.earliest_outstanding_tsn().is_none()
 }
 
 #[test]
-fn leaves_an_end_mark(rt: HostRuntime) {
+fn leaves_an_terminal_chunk(rt: HostRuntime) {
     let mut queue = OutboundQueue::new(rt.alloc());
-    assert!(rt; half_sent(rt.alloc(), &mut queue, false) && end_mark_is_left(&mut queue));
+    assert!(rt;
+        partially_sent(rt.alloc(), &mut queue, false) && terminal_chunk_is_left(&mut queue)
+    );
 }
 
 fn is_abandoned_once(queue: &mut OutboundQueue) -> bool {
@@ -162,12 +164,12 @@ fn is_abandoned_once(queue: &mut OutboundQueue) -> bool {
 #[test]
 fn abandons_once(rt: HostRuntime) {
     let mut queue = OutboundQueue::new(rt.alloc());
-    assert!(rt; half_sent(rt.alloc(), &mut queue, false) && is_abandoned_once(&mut queue));
+    assert!(rt; partially_sent(rt.alloc(), &mut queue, false) && is_abandoned_once(&mut queue));
 }
 
 // `abcdefg` with a lifetime, its first fragment sent under TSN 10 and acknowledged.
 fn acknowledged_in_part(alloc: Global, queue: &mut OutboundQueue) -> bool {
-    let well = half_sent(alloc, queue, true);
+    let well = partially_sent(alloc, queue, true);
     queue.mark_as_acked(10);
     well
 }
@@ -198,7 +200,7 @@ fn is_popped(queue: &mut OutboundQueue, tsn: u32) -> bool {
     queue.pop(tsn).is_some()
 }
 
-fn tail_is_given_up(queue: &mut OutboundQueue) -> bool {
+fn tail_is_abandoned(queue: &mut OutboundQueue) -> bool {
     let mut tsn = 11;
     !is_popped(queue, 11)
         && is_popped(queue, 10)
@@ -210,9 +212,9 @@ fn tail_is_given_up(queue: &mut OutboundQueue) -> bool {
 }
 
 #[test]
-fn gives_up_a_tail(rt: HostRuntime) {
+fn abandons_a_tail(rt: HostRuntime) {
     let mut queue = OutboundQueue::new(rt.alloc());
-    assert!(rt; acknowledged_in_part(rt.alloc(), &mut queue) && tail_is_given_up(&mut queue));
+    assert!(rt; acknowledged_in_part(rt.alloc(), &mut queue) && tail_is_abandoned(&mut queue));
 }
 
 // The number of a message that waits, and the one that its stream gives it.
@@ -301,7 +303,7 @@ fn peeks(alloc: Global, queue: &mut OutboundQueue) -> bool {
 fn peeks_in_order(rt: HostRuntime) {
     let alloc = rt.alloc();
     let mut queue = OutboundQueue::new(alloc);
-    assert!(rt; half_sent(alloc, &mut queue, false) && peeks(alloc, &mut queue));
+    assert!(rt; partially_sent(alloc, &mut queue, false) && peeks(alloc, &mut queue));
 }
 
 fn sent_around_the_end(alloc: Global, queue: &mut OutboundQueue) -> bool {
@@ -355,7 +357,7 @@ fn marks(queue: &mut OutboundQueue) -> bool {
 #[test]
 fn marks_what_is_in_flight(rt: HostRuntime) {
     let mut queue = OutboundQueue::new(rt.alloc());
-    assert!(rt; half_sent(rt.alloc(), &mut queue, false) && marks(&mut queue));
+    assert!(rt; partially_sent(rt.alloc(), &mut queue, false) && marks(&mut queue));
 }
 
 fn nothing_is_pushed(queue: &mut OutboundQueue, none: Vec<ChunkPayloadData>) -> bool {
@@ -445,5 +447,5 @@ fn sendable_are_told(queue: &OutboundQueue) -> bool {
 #[test]
 fn tells_what_may_be_sent(rt: HostRuntime) {
     let mut queue = OutboundQueue::new(rt.alloc());
-    assert!(rt; half_sent(rt.alloc(), &mut queue, false) && sendable_are_told(&queue));
+    assert!(rt; partially_sent(rt.alloc(), &mut queue, false) && sendable_are_told(&queue));
 }

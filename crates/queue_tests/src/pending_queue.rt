@@ -96,7 +96,7 @@ fn next_is_unchanged(queue: &PendingQueue) -> bool {
 }
 
 #[test]
-fn a_message_with_no_end_stays_half_sent(rt: HostRuntime) {
+fn a_message_with_no_end_stays_partially_sent(rt: HostRuntime) {
     let mut queue = PendingQueue::new(rt.alloc());
     let well = half_is_sent(&mut queue);
     queue.start_timed_messages(0, 5);

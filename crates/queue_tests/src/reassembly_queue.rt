@@ -20,11 +20,11 @@ fn reads(queue: &mut ReassemblyQueue, bytes: &[u8]) -> bool {
     }
 }
 
-// Whether the loose fragments have these TSNs.
-fn loose_are(queue: &ReassemblyQueue, tsns: &[u32]) -> bool {
-    let loose = queue.unordered_chunks();
-    let mut well = loose.len() == tsns.len();
-    for (fragment, tsn) in loose.iter().zip(tsns.iter()) {
+// Whether the unassembled fragments have these TSNs.
+fn unassembled_are(queue: &ReassemblyQueue, tsns: &[u32]) -> bool {
+    let unassembled = queue.unordered_chunks();
+    let mut well = unassembled.len() == tsns.len();
+    for (fragment, tsn) in unassembled.iter().zip(tsns.iter()) {
         well = well && fragment.chunk().tsn == *tsn;
     }
     well
@@ -58,20 +58,21 @@ fn five_middles(alloc: Global, queue: &mut ReassemblyQueue) -> bool {
         (4, MIDDLE, false),
         (2147483654, MIDDLE, false),
     ];
-    come(alloc, queue, &arrivals) && loose_are(queue, &[2147483654, 4, 5, 6, 2147483653])
+    come(alloc, queue, &arrivals) && unassembled_are(queue, &[2147483654, 4, 5, 6, 2147483653])
 }
 
 fn skips_by_half_a_circle(queue: &mut ReassemblyQueue) -> bool {
     queue.forward_tsn_for_unordered(6);
     let five = queue.get_num_bytes() == 5;
     queue.forward_tsn_for_unordered(5);
-    five && loose_are(queue, &[6, 2147483653]) && queue.get_num_bytes() == 2
+    five && unassembled_are(queue, &[6, 2147483653]) && queue.get_num_bytes() == 2
 }
 
 fn copy_stays(alloc: Global, queue: &mut ReassemblyQueue) -> bool {
     match queue.try_clone(alloc) {
         Ok(copy) => {
-            skips_by_half_a_circle(queue) && loose_are(&copy, &[2147483654, 4, 5, 6, 2147483653])
+            skips_by_half_a_circle(queue)
+                && unassembled_are(&copy, &[2147483654, 4, 5, 6, 2147483653])
         }
         Err(_) => false,
     }
@@ -282,7 +283,7 @@ fn interleaved(alloc: Global, queue: &mut ReassemblyQueue) -> bool {
         (5, LAST, false),
         (4294967295, LAST, true),
     ];
-    come(alloc, queue, &arrivals) && loose_are(queue, &[5])
+    come(alloc, queue, &arrivals) && unassembled_are(queue, &[5])
 }
 
 #[test]
@@ -298,13 +299,13 @@ fn repeats_stand(alloc: Global, queue: &mut ReassemblyQueue) -> bool {
         (12, MIDDLE, false),
         (11, LAST, true),
     ];
-    come(alloc, queue, &arrivals) && loose_are(queue, &[10, 12])
+    come(alloc, queue, &arrivals) && unassembled_are(queue, &[10, 12])
 }
 
 fn order_comes_back(alloc: Global, queue: &mut ReassemblyQueue) -> bool {
     comes(alloc, queue, (13, LAST, false))
         && comes(alloc, queue, (11, MIDDLE, true))
-        && loose_are(queue, &[])
+        && unassembled_are(queue, &[])
 }
 
 #[test]
@@ -314,7 +315,7 @@ fn repeats_stand_side_by_side_and_order_comes_back(rt: HostRuntime) {
     assert!(rt; repeats_stand(alloc, &mut queue) && order_comes_back(alloc, &mut queue));
 }
 
-// Whether whole messages of these numbers come.
+// Whether complete messages of these numbers come.
 fn came(alloc: Global, queue: &mut ReassemblyQueue, ssns: &[u16]) -> bool {
     let mut well = true;
     for ssn in ssns {
@@ -339,7 +340,7 @@ fn ssns_are(queue: &ReassemblyQueue, want: &[u16]) -> bool {
     well
 }
 
-// Whether whole messages of these numbers come and stand in this order.
+// Whether complete messages of these numbers come and stand in this order.
 fn stand(alloc: Global, queue: &mut ReassemblyQueue, ssns: &[u16], want: &[u16]) -> bool {
     came(alloc, queue, ssns) && ssns_are(queue, want)
 }

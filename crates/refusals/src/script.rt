@@ -21,7 +21,7 @@ pub fn event(alloc: Global, turn: usize) -> Result<Event, AllocError> {
         0..32 => Ok(on_one_stream(turn)),
         32..63 => Ok(on_another_stream(turn)),
         63..81 => Ok(two_chunks_at_once(turn)),
-        _ => Ok(chunks_given_up(turn)),
+        _ => Ok(chunks_abandoned(turn)),
     }
 }
 
@@ -54,7 +54,7 @@ fn write(stream: u16, bytes: &'static [u8]) -> Event {
     }
 }
 
-/// An unordered message comes whole, an ordered one is given up half-sent, one expires, and one is late and skipped.
+/// An unordered message comes whole, an ordered one is abandoned partially sent, one expires, and one is late and skipped.
 fn on_one_stream(turn: usize) -> Event {
     match turn {
         0 => Event::Open { stream: 1 },
@@ -88,7 +88,7 @@ fn on_one_stream(turn: usize) -> Event {
     }
 }
 
-/// Three messages end half-sent: one is late, one is given up by Tail, one by Abandon. One behind them comes twice
+/// Three messages end partially sent: one is late, one is abandoned by Tail, one by Abandon. One behind them comes twice
 /// beyond the gap, is reported so, and is read once the gap is skipped.
 fn on_another_stream(turn: usize) -> Event {
     match turn {
@@ -138,9 +138,9 @@ fn two_chunks_at_once(turn: usize) -> Event {
     }
 }
 
-/// Of a message two chunks are missing and two come behind the gap; it is given up and skipped. Others expire, end
-/// half-sent or are late.
-fn chunks_given_up(turn: usize) -> Event {
+/// Of a message two chunks are missing and two come behind the gap; it is abandoned and skipped. Others expire, end
+/// partially sent or are late.
+fn chunks_abandoned(turn: usize) -> Event {
     match turn {
         81 => mode(1, false, None),
         82 => write(1, b"abcdefghijklmnopqrstuvwxyz"),

@@ -34,9 +34,9 @@ fn scripts_of_expiry(rt: HostRuntime) {
     assert_eq!(rt; first_unlike(rt.alloc(), &cases), None);
 }
 
-/// Messages given up after their first fragment was sent.
+/// Messages abandoned after their first fragment was sent.
 const ABANDONMENT: [(&str, &str); 7] = [
-    // Half-sent: an empty ending chunk takes TSN 11, and neither TSN is sent again.
+    // Partially sent: an empty ending chunk takes TSN 11, and neither TSN is sent again.
     (
         "link 10 3 100\nopen 1\nwrite 1 53 61626364656667\nsend 0\nabandon 10\nabandon 10\nresend 10\nresend 11\nabandon 11\nwrite 1 53 78\nsend 0\n",
         "opened\nwrote 0 3\nsent 0 10 0\nreleased 1 7\nreleased 1 0\nrefused L6\nrefused L6\nreleased 1 0\nwrote 1 1\nsent 1 12 1\n",
@@ -60,12 +60,12 @@ const ABANDONMENT: [(&str, &str); 7] = [
         "link 10 3 100\nopen 1\nmode 1 ordered timed 1\nwrite 1 53 616263646566\nsend 0\nsend 0\nlate 1000000\nwrite 1 53 67\nsend 0\n",
         "opened\nset\nwrote 0 2\nsent 0 10 0\nsent 1 11 0\nlate 2 6\nwrote 1 1\nsent 2 12 1\n",
     ),
-    // A half-sent one is late from its deadline on, and once.
+    // A partially sent one is late from its deadline on, and once.
     (
         "link 10 3 100\nopen 1\nmode 1 ordered timed 1\nwrite 1 53 61626364656667\nsend 0\nlate 999999\nlate 1000000\nlate 1000000\ntail 1000000\n",
         "opened\nset\nwrote 0 3\nsent 0 10 0\nlate 0 0\nlate 1 7\nlate 0 0\nidle\n",
     ),
-    // An acknowledged TSN of a half-sent message is late too; its bytes left before.
+    // An acknowledged TSN of a partially sent message is late too; its bytes left before.
     (
         "link 10 3 100\nopen 1\nmode 1 ordered timed 1\nwrite 1 53 616263646566676869\nsend 0\nsend 0\narrive 1\nack 0\nacked 2\nlate 1000000\nsend 0\n",
         "opened\nset\nwrote 0 3\nsent 0 10 0\nsent 1 11 0\nnew\nack 2\nacked 3\nlate 2 6\nidle\n",
@@ -88,7 +88,7 @@ const SKIPS: [(&str, &str); 8] = [
         "link 10 3 100\nopen 1\nwrite 1 53 616161\nwrite 1 53 626262\nwrite 1 53 636363\nsend 0\nsend 0\nsend 0\narrive 1\nskip 11 1\narrive 3\nread 1\narrive 3\n",
         "opened\nwrote 0 1\nwrote 1 1\nwrote 2 1\nsent 0 10 0\nsent 1 11 1\nsent 2 12 2\nnew\nskip 3\nskipped\nmessage 1 53 626262\nstale\n",
     ),
-    // A skip that counts drops the loose fragments of an unordered message, a stale one leaves them.
+    // A skip that counts drops the unassembled fragments of an unordered message, a stale one leaves them.
     (
         "link 10 3 100\nopen 1\nwrite 1 53 616161\nsend 0\nmode 1 unordered reliable 0\nwrite 1 53 626262636363\nsend 0\nsend 0\narrive 1\nskip 11 -\narrive 3\narrive 2\nread 1\n",
         "opened\nwrote 0 1\nsent 0 10 0\nset\nwrote 1 2\nsent 1 11 1\nsent 2 12 1\nnew\nskip 3\nskipped\nnew\nnone\n",
@@ -110,7 +110,7 @@ const SKIPS: [(&str, &str); 8] = [
         "link 10 3 100\nopen 1\nwrite 1 53 616161\nwrite 1 53 626262\nwrite 1 53 636363\nsend 0\nsend 0\nsend 0\nabandon 10\nabandon 11\nskip 10 0\nskip 11 0,1\narrive 3\narrive 4\narrive 2\nread 1\n",
         "opened\nwrote 0 1\nwrote 1 1\nwrote 2 1\nsent 0 10 0\nsent 1 11 1\nsent 2 12 2\nreleased 1 3\nreleased 1 3\nskip 3\nskip 4\nskipped\nskipped\nnew\nmessage 1 53 636363\n",
     ),
-    // After an abandoned message the receiver goes on behind its end mark.
+    // After an abandoned message the receiver goes on behind its terminal chunk.
     (
         "link 10 3 100\nopen 1\nwrite 1 53 61626364656667\nsend 0\narrive 0\nabandon 10\nwrite 1 53 78\nsend 0\nskip 11 0\narrive 1\narrive 2\nack 0\nread 1\nread 1\nacked 3\n",
         "opened\nwrote 0 3\nsent 0 10 0\nnew\nreleased 1 7\nwrote 1 1\nsent 1 12 1\nskip 2\nnew\nskipped\nack 3\nmessage 1 53 78\nnone\nacked 1\n",

@@ -1,10 +1,10 @@
 pub mod Fields
 pub mod Walks
-pub mod Each
+pub mod EachAt
 pub mod Bytes
 pub mod ParamTypes
 pub mod ParamLengths
 pub mod ParamOne
 pub mod ParamAgain
 mod ParamExamples
-pub mod SourceLemmas
+pub mod ListsFrom

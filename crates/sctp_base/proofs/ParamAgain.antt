@@ -8,7 +8,7 @@ use Rattle.sctp_base.specs.Field.{be16, be32, u16_at, u32_at}
 use Rattle.sctp_base.proofs.Fields.{length_be16, length_be32, u16_at_be16, u32_at_be32}
 use Rattle.sctp_base.proofs.Bytes.{be32_u32, u32_fits, u16_at_take, written_each, each_same}
 use Rattle.sctp_base.proofs.ParamTypes.{number_of_type_from}
-use Rattle.sctp_base.proofs.ParamLengths.{length_response_value, value_no_longer, length_param_text}
+use Rattle.sctp_base.proofs.ParamLengths.{length_response_value, value_no_longer, length_param_encoding}
 use Rattle.sctp_base.specs.declared.util.ChunkType.{ChunkType}
 use Rattle.sctp_base.specs.declared.param.param_type.ParamType.{ParamType}
 use Rattle.sctp_base.specs.declared.param.param_reconfig_response.ReconfigResult.{ReconfigResult}
@@ -18,41 +18,41 @@ use Rattle.sctp_base.specs.declared.param.param_requested_hmac_algorithm.HmacAlg
 use Rattle.sctp_base.specs.Each.{each}
 use Rattle.sctp_base.specs.Padding.{padding_of, padded}
 use Rattle.sctp_base.specs.ParamType.{type_from}
-use Rattle.sctp_base.specs.AddressTypes.{ReadsAddressTypes, address_types_value, type_text}
+use Rattle.sctp_base.specs.AddressTypes.{ReadsAddressTypes, address_types_value, type_encoding}
 use Rattle.sctp_base.specs.ResetRequest.{ResetRequest, ReadsResetRequest, reset_request_value}
 use Rattle.sctp_base.specs.ReconfigResponse.{ReadsResponse, response_value, result_from, result_number}
-use Rattle.sctp_base.specs.HmacAlgorithm.{ReadsAlgorithms, algorithms_value, algorithm_text, algorithm_from, algorithm_number, IsRequestable}
+use Rattle.sctp_base.specs.HmacAlgorithm.{ReadsAlgorithms, algorithms_value, algorithm_encoding, algorithm_from, algorithm_number, IsRequestable}
 use Rattle.sctp_base.specs.ParamFraming.{IsParam, IsParamValue, param_type_at, param_declared, param_value_at, param_framed, after_param}
 use Rattle.sctp_base.specs.ParamKind.{IsReadAs, HasReadType}
-use Rattle.sctp_base.specs.Param.{Parameter, heartbeat_info, state_cookie, supported_address_types, outgoing_reset_request, reconfig_response, random, chunk_list, requested_hmac_algorithm, supported_extensions, forward_tsn_supported, unknown_param, ReadsParamValue, ReadsBack, HasOwnType, HasParamText, param_number_of, param_value_of, param_text, chunk_types, chunk_type_numbers}
+use Rattle.sctp_base.specs.Param.{Parameter, heartbeat_info, state_cookie, supported_address_types, outgoing_reset_request, reconfig_response, random, chunk_list, requested_hmac_algorithm, supported_extensions, forward_tsn_supported, unknown_param, ReadsParamValue, ReadsBack, HasOwnType, HasParamEncoding, param_number_of, param_value_of, param_encoding, chunk_types, chunk_type_numbers}
 
 -- ---- framing
 
 module _ (typ : ℕ) (value rest : List ℕ) (fits : typ < 2 ^ 16) (short : 4 + length value < 2 ^ 16) where
-  abbrev text : List ℕ
-  text = param_framed typ value ++ rest
+  abbrev encoding : List ℕ
+  encoding = param_framed typ value ++ rest
 
-  regroup : text ≡ be16 typ ++ (be16 (4 + length value) ++ (value ++ rest))
+  regroup : encoding ≡ be16 typ ++ (be16 (4 + length value) ++ (value ++ rest))
   regroup = simp append_assoc
 
-  pub framed_type : param_type_at text ≡ typ
+  pub framed_type : param_type_at encoding ≡ typ
   framed_type = ap (λ (x : List ℕ). u16_at x 0) regroup ∙ u16_at_be16 [] (be16 (4 + length value) ++ (value ++ rest)) typ 0 refl fits
 
-  pub framed_declared : param_declared text ≡ 4 + length value
+  pub framed_declared : param_declared encoding ≡ 4 + length value
   framed_declared = ap (λ (x : List ℕ). u16_at x 2) regroup ∙ u16_at_be16 (be16 typ) (value ++ rest) (4 + length value) 2 (length_be16 typ) short
 
-  pub framed_value : param_value_at text ≡ value
+  pub framed_value : param_value_at encoding ≡ value
   unfolding param_value_at
   framed_value =
       let front : List ℕ = be16 typ ++ be16 (4 + length value) in
       let four : length front ≡ 4 = omega (arith, length-append (be16 typ) (be16 (4 + length value)), length_be16 typ, length_be16 (4 + length value)) in
-      let e : text ≡ front ++ (value ++ rest) = append_assoc front value rest in
-      let n : param_declared text - 4 ≡ length value = omega (arith, framed_declared) in
+      let e : encoding ≡ front ++ (value ++ rest) = append_assoc front value rest in
+      let n : param_declared encoding - 4 ≡ length value = omega (arith, framed_declared) in
       rw n (ap (λ (x : List ℕ). take (length value) (drop 4 x)) e ∙ ap (take (length value)) (drop_at front (value ++ rest) 4 four) ∙ take_at value rest (length value) refl)
 
-  pub framed_reads : IsParam text
+  pub framed_reads : IsParam encoding
   framed_reads =
-      let n : length text ≡ 4 + length value + length rest = omega (arith, length-append (param_framed typ value) rest, length-append (be16 typ ++ be16 (4 + length value)) value, length-append (be16 typ) (be16 (4 + length value)), length_be16 typ, length_be16 (4 + length value)) in
+      let n : length encoding ≡ 4 + length value + length rest = omega (arith, length-append (param_framed typ value) rest, length-append (be16 typ ++ be16 (4 + length value)) value, length-append (be16 typ) (be16 (4 + length value)), length_be16 typ, length_be16 (4 + length value)) in
       record {
         headed = omega (arith, n);
         least = omega (arith, framed_declared);
@@ -66,7 +66,7 @@ unfolding address_types_value
 address_types_again value ts v r =
     let n = length value / 2 in
     let all : 2 * n ≡ length value = omega (arith, r.even) in
-    let written = written_each type_from type_text value 0 n (λ i. 2 * i) (λ i. omega arith) v.bytes (omega arith) (λ i lt. ap be16 (number_of_type_from (u16_at value (2 * i)))) in
+    let written = written_each type_from type_encoding value 0 n (λ i. 2 * i) (λ i. omega arith) v.bytes (omega arith) (λ i lt. ap be16 (number_of_type_from (u16_at value (2 * i)))) in
     rw r.types (written ∙ rw all (take-length value))
 
 reset_request_again : (value : List ℕ) (r : ResetRequest) → IsParamValue value → ReadsResetRequest value r → reset_request_value r ≡ value
@@ -93,7 +93,7 @@ algorithms_again : (value : List ℕ) (hs : List HmacAlgorithm) → IsParamValue
 unfolding algorithms_value
 algorithms_again value hs v r =
     let n = length value / 2 in
-    let written = written_each algorithm_from algorithm_text value 0 n (λ i. 2 * i) (λ i. omega arith) v.bytes (omega arith) (λ i lt. ap be16 (algorithm_number_again (u16_at value (2 * i)) (r.requestable i lt))) in
+    let written = written_each algorithm_from algorithm_encoding value 0 n (λ i. 2 * i) (λ i. omega arith) v.bytes (omega arith) (λ i lt. ap be16 (algorithm_number_again (u16_at value (2 * i)) (r.requestable i lt))) in
     rw r.algorithms written
 
 algorithms_read : (value : List ℕ) (hs : List HmacAlgorithm) → ReadsAlgorithms value hs → ReadsAlgorithms (take (2 * (length value / 2)) value) hs
@@ -176,11 +176,11 @@ value_again value forward_tsn_supported v r = tt
 value_again value (unknown_param n b) v r = refl
 
 pub reads_back : (value : List ℕ) (p : Parameter) → IsParamValue value → ReadsParamValue value p → param_number_of p < 2 ^ 16 → ReadsBack HasOwnType p
-unfolding param_text
+unfolding param_encoding
 reads_back value p v r fits =
-    let short : HasParamText p = omega (arith, value_no_longer value p r, v.short) in
+    let short : HasParamEncoding p = omega (arith, value_no_longer value p r, v.short) in
     record {
-      has_text = short;
+      has_encoding = short;
       reads = λ rest. record {
         is_param = framed_reads (param_number_of p) (param_value_of p) rest fits short;
         kind = framed_type (param_number_of p) (param_value_of p) rest fits short;
@@ -191,24 +191,24 @@ reads_back value p v r fits =
 -- the same under the numbers that are read
 pub own_again : (p : Parameter) → HasReadType p → ReadsBack HasOwnType p → ReadsBack IsReadAs p
 own_again p has b = record {
-  has_text = b.has_text;
+  has_encoding = b.has_encoding;
   reads = λ rest. let r = b.reads rest in record { is_param = r.is_param; kind = (r.kind, has); value = r.value };
 }
 
 -- ---- for walks over parameters
 
-pub declared_param_text : (p : Parameter) (rest : List ℕ) → HasParamText p → param_declared (param_text p ++ rest) ≡ 4 + length (param_value_of p)
-unfolding param_text
-declared_param_text p rest short =
+pub declared_param_encoding : (p : Parameter) (rest : List ℕ) → HasParamEncoding p → param_declared (param_encoding p ++ rest) ≡ 4 + length (param_value_of p)
+unfolding param_encoding
+declared_param_encoding p rest short =
     let n = length (param_value_of p) in
     let front : List ℕ = be16 (param_number_of p) in
     let e : param_framed (param_number_of p) (param_value_of p) ++ rest ≡ front ++ (be16 (4 + n) ++ (param_value_of p ++ rest)) = simp append_assoc in
     ap (λ (x : List ℕ). u16_at x 2) e ∙ u16_at_be16 front (param_value_of p ++ rest) (4 + n) 2 (length_be16 (param_number_of p)) short
 
--- behind a parameter's text and its padding stands what was put there
-pub after_param_text : (p : Parameter) (padding rest : List ℕ) → HasParamText p → length padding ≡ padding_of (4 + length (param_value_of p)) → after_param (param_text p ++ (padding ++ rest)) ≡ rest
+-- behind a parameter's encoding and its padding stands what was put there
+pub after_param_encoding : (p : Parameter) (padding rest : List ℕ) → HasParamEncoding p → length padding ≡ padding_of (4 + length (param_value_of p)) → after_param (param_encoding p ++ (padding ++ rest)) ≡ rest
 unfolding after_param
-after_param_text p padding rest short e =
+after_param_encoding p padding rest short e =
     let n = length (param_value_of p) in
-    let all : length (param_text p ++ padding) ≡ padded (4 + n) = omega (arith, length-append (param_text p) padding, length_param_text p, e) in
-    rw (declared_param_text p (padding ++ rest) short, ← append_assoc (param_text p) padding rest) (drop_at (param_text p ++ padding) rest (padded (4 + n)) all)
+    let all : length (param_encoding p ++ padding) ≡ padded (4 + n) = omega (arith, length-append (param_encoding p) padding, length_param_encoding p, e) in
+    rw (declared_param_encoding p (padding ++ rest) short, ← append_assoc (param_encoding p) padding rest) (drop_at (param_encoding p ++ padding) rest (padded (4 + n)) all)

@@ -8,18 +8,18 @@ use Rattle.sctp_base.specs.ParamType.{type_from}
 use Rattle.sctp_base.specs.ParamFraming.{param_value_at}
 use Rattle.sctp_base.specs.ResetRequest.{reset_request_value}
 use Rattle.sctp_base.specs.ReconfigResponse.{result_from}
-use Rattle.sctp_base.specs.Param.{outgoing_reset_request, reconfig_response, param_text}
+use Rattle.sctp_base.specs.Param.{outgoing_reset_request, reconfig_response, param_encoding}
 use Rattle.sctp_base.specs.ParamKind.{ReadsParam}
 
 -- request 1, response 2, last TSN 3, streams 4, 5 and 6
-reset_request_text : param_text (outgoing_reset_request (record {
+reset_request_encoding : param_encoding (outgoing_reset_request (record {
   reconfig_request_sequence_number = 1;
   reconfig_response_sequence_number = 2;
   sender_last_tsn = 3;
   stream_identifiers = 4 ∷ 5 ∷ 6 ∷ [];
 })) ≡ 0 ∷ 13 ∷ 0 ∷ 22 ∷ 0 ∷ 0 ∷ 0 ∷ 1 ∷ 0 ∷ 0 ∷ 0 ∷ 2 ∷ 0 ∷ 0 ∷ 0 ∷ 3 ∷ 0 ∷ 4 ∷ 0 ∷ 5 ∷ 0 ∷ 6 ∷ []
-unfolding param_text reset_request_value be16 be32
-reset_request_text = refl
+unfolding param_encoding reset_request_value be16 be32
+reset_request_encoding = refl
 
 -- a response with both TSNs, and a byte behind it
 response_read : ReadsParam (0 ∷ 16 ∷ 0 ∷ 20 ∷ 0 ∷ 0 ∷ 0 ∷ 1 ∷ 0 ∷ 0 ∷ 0 ∷ 1 ∷ 0 ∷ 0 ∷ 0 ∷ 7 ∷ 0 ∷ 0 ∷ 0 ∷ 8 ∷ 9 ∷ []) (reconfig_response (record {

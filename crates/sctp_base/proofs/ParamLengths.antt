@@ -5,20 +5,20 @@ use borrow.Author.Tests.{leb-true}
 use Rattle.std.specs.List.{flat_map}
 use Rattle.std.proofs.lemmas.List.Concat.{flat_map-cons}
 use Rattle.sctp_base.specs.Each.{each}
-use Rattle.sctp_base.proofs.Each.{length_each}
+use Rattle.sctp_base.proofs.EachAt.{length_each}
 use Rattle.sctp_base.specs.Field.{be16, u16_at, u32_at}
 use Rattle.sctp_base.proofs.Fields.{length_be16, length_be32}
 use Rattle.sctp_base.specs.declared.util.ChunkType.{ChunkType}
 use Rattle.sctp_base.specs.ParamType.{type_from}
 use Rattle.sctp_base.specs.ParamFraming.{param_declared, param_value_at}
-use Rattle.sctp_base.specs.Param.{Parameter, heartbeat_info, state_cookie, supported_address_types, outgoing_reset_request, reconfig_response, random, chunk_list, requested_hmac_algorithm, supported_extensions, forward_tsn_supported, unknown_param, ReadsParamValue, Reads, param_value_of, param_text, chunk_types, chunk_type_numbers}
+use Rattle.sctp_base.specs.Param.{Parameter, heartbeat_info, state_cookie, supported_address_types, outgoing_reset_request, reconfig_response, random, chunk_list, requested_hmac_algorithm, supported_extensions, forward_tsn_supported, unknown_param, ReadsParamValue, Reads, param_value_of, param_encoding, chunk_types, chunk_type_numbers}
 use Rattle.sctp_base.specs.declared.param.param_type.ParamType.{ParamType}
 use Rattle.sctp_base.specs.declared.param.param_requested_hmac_algorithm.HmacAlgorithm.{HmacAlgorithm}
 use Rattle.sctp_base.specs.declared.param.param_reconfig_response.ParamReconfigResponse.{ParamReconfigResponse}
-use Rattle.sctp_base.specs.AddressTypes.{address_types_value, type_text}
-use Rattle.sctp_base.specs.HmacAlgorithm.{algorithms_value, algorithm_text, algorithm_from}
+use Rattle.sctp_base.specs.AddressTypes.{address_types_value, type_encoding}
+use Rattle.sctp_base.specs.HmacAlgorithm.{algorithms_value, algorithm_encoding, algorithm_from}
 use Rattle.sctp_base.specs.ResetRequest.{ResetRequest, reset_request_value}
-use Rattle.sctp_base.specs.ReconfigResponse.{response_value, response_in, next_tsns_text}
+use Rattle.sctp_base.specs.ReconfigResponse.{response_value, response_in, next_tsns_encoding}
 
 -- a list whose elements take n bytes each
 pub length_flat_map : {A : Type 0} (f : A → List ℕ) (n : ℕ) → ((x : A) → length (f x) ≡ n) → (xs : List A) → length (flat_map f xs) ≡ n * length xs
@@ -27,11 +27,11 @@ length_flat_map f n each (x ∷ xs) = rw (flat_map-cons, length-append, each x, 
 
 pub length_address_types_value : (types : List ParamType) → length (address_types_value types) ≡ 2 * length types
 unfolding address_types_value
-length_address_types_value types = length_flat_map type_text 2 (λ t. length_be16 _) types
+length_address_types_value types = length_flat_map type_encoding 2 (λ t. length_be16 _) types
 
 pub length_algorithms_value : (algorithms : List HmacAlgorithm) → length (algorithms_value algorithms) ≡ 2 * length algorithms
 unfolding algorithms_value
-length_algorithms_value algorithms = length_flat_map algorithm_text 2 (λ a. length_be16 _) algorithms
+length_algorithms_value algorithms = length_flat_map algorithm_encoding 2 (λ a. length_be16 _) algorithms
 
 pub length_reset_request_value : (r : ResetRequest) → length (reset_request_value r) ≡ 12 + 2 * length r.stream_identifiers
 unfolding reset_request_value
@@ -43,13 +43,13 @@ pub length_chunk_type_numbers : (ts : List ChunkType) → length (chunk_type_num
 length_chunk_type_numbers [] = refl
 length_chunk_type_numbers (t ∷ ts) = ap suc (length_chunk_type_numbers ts)
 
-length_next_tsns_text : (o : Option (ℕ × ℕ)) → length (next_tsns_text o) ≡ (if is_some o then 8 else 0)
-length_next_tsns_text None = omega arith
-length_next_tsns_text (Some x) = simp (length-append, length_be32) (omega arith)
+length_next_tsns_encoding : (o : Option (ℕ × ℕ)) → length (next_tsns_encoding o) ≡ (if is_some o then 8 else 0)
+length_next_tsns_encoding None = omega arith
+length_next_tsns_encoding (Some x) = simp (length-append, length_be32) (omega arith)
 
 pub length_response_value : (r : ParamReconfigResponse) → length (response_value r) ≡ 8 + (if is_some r.next_tsns then 8 else 0)
 unfolding response_value
-length_response_value r = simp (length-append, length_be32, length_next_tsns_text) (omega arith)
+length_response_value r = simp (length-append, length_be32, length_next_tsns_encoding) (omega arith)
 
 -- ---- what was read is written in no more room
 
@@ -78,9 +78,9 @@ value_no_longer value (supported_extensions ts) r = omega (arith, length_chunk_t
 value_no_longer value forward_tsn_supported r = omega arith
 value_no_longer value (unknown_param n b) r = omega (arith, ap length r)
 
-pub length_param_text : (p : Parameter) → length (param_text p) ≡ 4 + length (param_value_of p)
-unfolding param_text
-length_param_text p = simp (length-append, length_be16) (omega arith)
+pub length_param_encoding : (p : Parameter) → length (param_encoding p) ≡ 4 + length (param_value_of p)
+unfolding param_encoding
+length_param_encoding p = simp (length-append, length_be16) (omega arith)
 
 -- a parameter that was read is written in no more than its declared length
 pub param_no_longer : (IsKind : ℕ → Parameter → Type 0) (bytes : List ℕ) (p : Parameter) → Reads IsKind bytes p → 4 + length (param_value_of p) ≤ param_declared bytes

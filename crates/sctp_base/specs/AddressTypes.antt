@@ -11,8 +11,8 @@ pub record ReadsAddressTypes (value : List ℕ) (ts : List ParamType) : Type 0 w
   pub even : length value % 2 ≡ 0
   pub types : ts ≡ each (length value / 2) (λ i. type_from (u16_at value (2 * i)))
 
-abbrev pub type_text : ParamType → List ℕ
-type_text t = be16 (type_number t)
+abbrev pub type_encoding : ParamType → List ℕ
+type_encoding t = be16 (type_number t)
 
 unfoldable pub address_types_value : List ParamType → List ℕ
-address_types_value types = flat_map type_text types
+address_types_value types = flat_map type_encoding types

@@ -33,8 +33,8 @@ pub record ReadsAlgorithms (value : List ℕ) (hs : List HmacAlgorithm) : Type 0
   pub requestable : (i : ℕ) → i < length value / 2 → IsRequestable (u16_at value (2 * i))
   pub algorithms : hs ≡ each (length value / 2) (λ i. algorithm_from (u16_at value (2 * i)))
 
-abbrev pub algorithm_text : HmacAlgorithm → List ℕ
-algorithm_text a = be16 (algorithm_number a)
+abbrev pub algorithm_encoding : HmacAlgorithm → List ℕ
+algorithm_encoding a = be16 (algorithm_number a)
 
 unfoldable pub algorithms_value : List HmacAlgorithm → List ℕ
-algorithms_value algorithms = flat_map algorithm_text algorithms
+algorithms_value algorithms = flat_map algorithm_encoding algorithms

@@ -84,16 +84,16 @@ pub record Reads (IsKind : ℕ → Parameter → Type 0) (bytes : List ℕ) (p :
   pub value : ReadsParamValue (param_value_at bytes) p
 
 -- a parameter whose length can be declared
-abbrev pub HasParamText : Parameter → Type 0
-HasParamText p = 4 + length (param_value_of p) < 2 ^ 16
+abbrev pub HasParamEncoding : Parameter → Type 0
+HasParamEncoding p = 4 + length (param_value_of p) < 2 ^ 16
 
-unfoldable pub param_text : Parameter → List ℕ
-param_text p = param_framed (param_number_of p) (param_value_of p)
+unfoldable pub param_encoding : Parameter → List ℕ
+param_encoding p = param_framed (param_number_of p) (param_value_of p)
 
--- The parameter has a text, and bytes that begin with that text begin with this parameter, whatever follows.
+-- The parameter has an encoding, and bytes that begin with that encoding begin with this parameter, whatever follows.
 pub record ReadsBack (IsKind : ℕ → Parameter → Type 0) (p : Parameter) : Type 0 where
-  pub has_text : HasParamText p
-  pub reads : (rest : List ℕ) → Reads IsKind (param_text p ++ rest) p
+  pub has_encoding : HasParamEncoding p
+  pub reads : (rest : List ℕ) → Reads IsKind (param_encoding p ++ rest) p
 
 -- a parameter under the number that it is written with
 abbrev pub HasOwnType : ℕ → Parameter → Type 0

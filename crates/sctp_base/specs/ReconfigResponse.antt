@@ -47,9 +47,9 @@ pub record ReadsResponse (value : List ℕ) (r : ParamReconfigResponse) : Type 0
   pub long : 8 ≤ length value
   pub fields : r ≡ response_in value
 
-abbrev pub next_tsns_text : Option (ℕ × ℕ) → List ℕ
-next_tsns_text None = []
-next_tsns_text (Some tsns) = be32 tsns.0 ++ be32 tsns.1
+abbrev pub next_tsns_encoding : Option (ℕ × ℕ) → List ℕ
+next_tsns_encoding None = []
+next_tsns_encoding (Some tsns) = be32 tsns.0 ++ be32 tsns.1
 
 unfoldable pub response_value : ParamReconfigResponse → List ℕ
-response_value r = be32 r.reconfig_response_sequence_number ++ be32 (result_number r.result) ++ next_tsns_text r.next_tsns
+response_value r = be32 r.reconfig_response_sequence_number ++ be32 (result_number r.result) ++ next_tsns_encoding r.next_tsns

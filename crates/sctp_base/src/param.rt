@@ -5,7 +5,7 @@ ghost use Rattle.std.specs.Prelude.{◌≡◌, ◌+◌, ◌≤◌, ◌<◌, ◌^
 ghost use Rattle.sctp_base.specs.declared.error.Error.{Error};
 ghost use Rattle.sctp_base.specs.declared.error.Error.TheVariants.{ErrOutOfMemory, ErrLengthTooLarge};
 ghost use Rattle.sctp_base.specs.Outcome.{OrMemory, GivesUnlessMemory};
-ghost use Rattle.sctp_base.specs.Param.{Parameter, Reads, ReadsBack, HasOwnType, HasParamText, chunk_type_numbers, chunk_types, param_text, param_type_of, param_value_of};
+ghost use Rattle.sctp_base.specs.Param.{Parameter, Reads, ReadsBack, HasOwnType, HasParamEncoding, chunk_type_numbers, chunk_types, param_encoding, param_type_of, param_value_of};
 
 pub mod param_chunk_list;
 pub mod param_forward_tsn_supported;
@@ -62,9 +62,9 @@ pub trait Param {
         ensures { result ≡ length (param_value_of (wire self.now)) };
 
     /// Appends the value. It takes no memory.
-    /// Precondition: the parameter has a text (its length can be declared), and the buffer has room for the value.
+    /// Precondition: the parameter has an encoding (its length can be declared), and the buffer has room for the value.
     fn put_value(&self, buf: &mut BytesMut)
-        requires text { HasParamText (wire self.now) }
+        requires encoding { HasParamEncoding (wire self.now) }
         requires room { length (param_value_of (wire self.now)) ≤ buf.old.spare }
         ensures items { buf.new.items ≡ buf.old.items ++ param_value_of (wire self.now) }
         ensures spare { buf.new.spare + length (param_value_of (wire self.now)) ≡ buf.old.spare };
@@ -79,22 +79,22 @@ pub trait Param {
     /// The header that the parameter is written with. Refuses with `ErrLengthTooLarge`,
     /// exactly where four bytes and the value are more than 65,535.
     fn header(&self) -> Result<ParamHeader>
-        ensures ok { IfOk result (λ h. HasParamText (wire self.now)
+        ensures ok { IfOk result (λ h. HasParamEncoding (wire self.now)
             × (h.typ ≡ param_type_of (wire self.now))
             × (h.value_length ≡ length (param_value_of (wire self.now)))) }
         ensures err { IfErr result (λ e. (e ≡ ErrLengthTooLarge)
-            × (HasParamText (wire self.now) → ⊥)) }
+            × (HasParamEncoding (wire self.now) → ⊥)) }
     {
         ParamHeader::of(self.param_type(), self.value_length())
     }
 
     /// Appends the parameter, with no padding. It takes no memory.
-    /// Precondition: the parameter has a text, and the buffer has room for four bytes and the value.
-    #[tactic(auto, unfolding(crate::specs::Param::param_text))]
+    /// Precondition: the parameter has an encoding, and the buffer has room for four bytes and the value.
+    #[tactic(auto, unfolding(crate::specs::Param::param_encoding))]
     fn put(&self, buf: &mut BytesMut)
-        requires text { HasParamText (wire self.now) }
+        requires encoding { HasParamEncoding (wire self.now) }
         requires room { 4 + length (param_value_of (wire self.now)) ≤ buf.old.spare }
-        ensures items { buf.new.items ≡ buf.old.items ++ param_text (wire self.now) }
+        ensures items { buf.new.items ≡ buf.old.items ++ param_encoding (wire self.now) }
         ensures spare { buf.new.spare + (4 + length (param_value_of (wire self.now)))
             ≡ buf.old.spare }
     {
@@ -106,12 +106,12 @@ pub trait Param {
     /// Refuses with `ErrLengthTooLarge` as `header` does, or for memory where the
     /// buffer lacked room. The buffer's bytes are as they were then.
     fn marshal_to(&self, buf: &mut BytesMut) -> Result<usize>
-        ensures ok { IfOk result (λ n. HasParamText (wire self.now)
-            × (buf.new.items ≡ buf.old.items ++ param_text (wire self.now)) × (n ≡ length buf.new.items)) }
+        ensures ok { IfOk result (λ n. HasParamEncoding (wire self.now)
+            × (buf.new.items ≡ buf.old.items ++ param_encoding (wire self.now)) × (n ≡ length buf.new.items)) }
         ensures err { OnErr result (buf.new.items ≡ buf.old.items) }
         ensures refused { IfErr result
-            (λ e. ((e ≡ ErrLengthTooLarge) × (HasParamText (wire self.now) → ⊥))
-            ⊎ ((e ≡ ErrOutOfMemory) × HasParamText (wire self.now) × (buf.old.spare < 4 + length (param_value_of (wire self.now))))) }
+            (λ e. ((e ≡ ErrLengthTooLarge) × (HasParamEncoding (wire self.now) → ⊥))
+            ⊎ ((e ≡ ErrOutOfMemory) × HasParamEncoding (wire self.now) × (buf.old.spare < 4 + length (param_value_of (wire self.now))))) }
     {
         let header = self.header()?;
         buf.reserve(PARAM_HEADER_LENGTH + header.value_length())?;
@@ -121,11 +121,11 @@ pub trait Param {
 
     /// The parameter as bytes, with no padding. Refuses with `ErrLengthTooLarge` as `header` does, or for memory.
     fn marshal(&self, alloc: Global) -> Result<Bytes>
-        ensures ok { IfOk result (λ b. HasParamText (wire self.now)
-            × (b ≡ param_text (wire self.now))) }
+        ensures ok { IfOk result (λ b. HasParamEncoding (wire self.now)
+            × (b ≡ param_encoding (wire self.now))) }
         ensures refused { IfErr result
-            (λ e. ((e ≡ ErrLengthTooLarge) × (HasParamText (wire self.now) → ⊥))
-            ⊎ ((e ≡ ErrOutOfMemory) × HasParamText (wire self.now))) }
+            (λ e. ((e ≡ ErrLengthTooLarge) × (HasParamEncoding (wire self.now) → ⊥))
+            ⊎ ((e ≡ ErrOutOfMemory) × HasParamEncoding (wire self.now))) }
     {
         let mut buf = BytesMut::new(alloc);
         self.marshal_to(&mut buf)?;

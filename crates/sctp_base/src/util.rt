@@ -1,7 +1,7 @@
 //! Serial numbers, padding, the interface of a checksum, and the numbers of chunk types.
 
 ghost use Rattle.std.specs.Prelude.{◌≡◌, ◌+◌, ◌↔◌, ◌⊎◌, ℕ, List, ◌++◌, not, IsTrue};
-ghost use Rattle.sctp_lists.specs.Serial.{comes_before, at_or_before, comes_after, comes_before16, at_or_before16, comes_after16};
+ghost use Rattle.sctp_list_lemmas.specs.Serial.{comes_before, at_or_before, comes_after, comes_before16, at_or_before16, comes_after16};
 ghost use Rattle.sctp_base.specs.Padding.{padding_of, four_zeroes};
 ghost use Rattle.sctp_base.specs.Names.{chunk_type_name};
 
@@ -16,7 +16,7 @@ use std::fmt;
 pub const PADDING_MULTIPLE: usize = 4;
 
 /// Whether `i1` comes before `i2`: `i2` lies 1 to 2^31 - 1 after it (RFC 1982 3.2).
-#[tactic(auto, unfolding(sctp_lists::specs::Serial::distance, sctp_lists::specs::Serial::comes_before))]
+#[tactic(auto, unfolding(sctp_list_lemmas::specs::Serial::distance, sctp_list_lemmas::specs::Serial::comes_before))]
 pub fn sna32lt(i1: u32, i2: u32) -> bool
     ensures { result ≡ comes_before i1 i2 }
 {
@@ -25,7 +25,7 @@ pub fn sna32lt(i1: u32, i2: u32) -> bool
 }
 
 /// Whether `i1` is `i2` or comes before it (RFC 1982 3.2).
-#[tactic(auto, unfolding(sctp_lists::specs::Serial::distance, sctp_lists::specs::Serial::comes_before, sctp_lists::specs::Serial::at_or_before))]
+#[tactic(auto, unfolding(sctp_list_lemmas::specs::Serial::distance, sctp_list_lemmas::specs::Serial::comes_before, sctp_list_lemmas::specs::Serial::at_or_before))]
 pub fn sna32lte(i1: u32, i2: u32) -> bool
     ensures value { result ≡ at_or_before i1 i2 }
     ensures meaning { IsTrue result ↔ ((i1 ≡ i2) ⊎ IsTrue (comes_before i1 i2)) }
@@ -35,7 +35,7 @@ pub fn sna32lte(i1: u32, i2: u32) -> bool
 
 /// Whether `i1` is neither `i2` nor before it: at a distance of exactly 2^31, which
 /// RFC 1982 3.2 leaves undefined, it is so in both directions.
-#[tactic(auto, unfolding(sctp_lists::specs::Serial::distance, sctp_lists::specs::Serial::comes_before, sctp_lists::specs::Serial::comes_after))]
+#[tactic(auto, unfolding(sctp_list_lemmas::specs::Serial::distance, sctp_list_lemmas::specs::Serial::comes_before, sctp_list_lemmas::specs::Serial::comes_after))]
 pub fn sna32gt(i1: u32, i2: u32) -> bool
     ensures { result ≡ comes_after i1 i2 }
 {
@@ -43,7 +43,7 @@ pub fn sna32gt(i1: u32, i2: u32) -> bool
 }
 
 /// Whether `i1` is not before `i2`: it is `i2` or `sna32gt` holds.
-#[tactic(auto, unfolding(sctp_lists::specs::Serial::distance, sctp_lists::specs::Serial::comes_before, sctp_lists::specs::Serial::comes_after))]
+#[tactic(auto, unfolding(sctp_list_lemmas::specs::Serial::distance, sctp_list_lemmas::specs::Serial::comes_before, sctp_list_lemmas::specs::Serial::comes_after))]
 pub fn sna32gte(i1: u32, i2: u32) -> bool
     ensures value { result ≡ not (comes_before i1 i2) }
     ensures meaning { IsTrue result ↔ ((i1 ≡ i2) ⊎ IsTrue (comes_after i1 i2)) }
@@ -60,7 +60,7 @@ pub fn sna32eq(i1: u32, i2: u32) -> bool
 
 /// Whether `i1` comes before `i2`: `i2` lies 1 to 2^15 - 1 after it (RFC 1982 3.2).
 /// Stream sequence numbers are compared so (RFC 4960 1.6).
-#[tactic(auto, unfolding(sctp_lists::specs::Serial::distance16, sctp_lists::specs::Serial::comes_before16))]
+#[tactic(auto, unfolding(sctp_list_lemmas::specs::Serial::distance16, sctp_list_lemmas::specs::Serial::comes_before16))]
 pub fn sna16lt(i1: u16, i2: u16) -> bool
     ensures { result ≡ comes_before16 i1 i2 }
 {
@@ -69,7 +69,7 @@ pub fn sna16lt(i1: u16, i2: u16) -> bool
 }
 
 /// Whether `i1` is `i2` or comes before it (RFC 1982 3.2).
-#[tactic(auto, unfolding(sctp_lists::specs::Serial::distance16, sctp_lists::specs::Serial::comes_before16, sctp_lists::specs::Serial::at_or_before16))]
+#[tactic(auto, unfolding(sctp_list_lemmas::specs::Serial::distance16, sctp_list_lemmas::specs::Serial::comes_before16, sctp_list_lemmas::specs::Serial::at_or_before16))]
 pub fn sna16lte(i1: u16, i2: u16) -> bool
     ensures value { result ≡ at_or_before16 i1 i2 }
     ensures meaning { IsTrue result ↔ ((i1 ≡ i2) ⊎ IsTrue (comes_before16 i1 i2)) }
@@ -79,7 +79,7 @@ pub fn sna16lte(i1: u16, i2: u16) -> bool
 
 /// Whether `i1` is neither `i2` nor before it: at a distance of exactly 2^15, which
 /// RFC 1982 3.2 leaves undefined, it is so in both directions.
-#[tactic(auto, unfolding(sctp_lists::specs::Serial::distance16, sctp_lists::specs::Serial::comes_before16, sctp_lists::specs::Serial::comes_after16))]
+#[tactic(auto, unfolding(sctp_list_lemmas::specs::Serial::distance16, sctp_list_lemmas::specs::Serial::comes_before16, sctp_list_lemmas::specs::Serial::comes_after16))]
 pub fn sna16gt(i1: u16, i2: u16) -> bool
     ensures { result ≡ comes_after16 i1 i2 }
 {
@@ -87,7 +87,7 @@ pub fn sna16gt(i1: u16, i2: u16) -> bool
 }
 
 /// Whether `i1` is not before `i2`: it is `i2` or `sna16gt` holds.
-#[tactic(auto, unfolding(sctp_lists::specs::Serial::distance16, sctp_lists::specs::Serial::comes_before16, sctp_lists::specs::Serial::comes_after16))]
+#[tactic(auto, unfolding(sctp_list_lemmas::specs::Serial::distance16, sctp_list_lemmas::specs::Serial::comes_before16, sctp_list_lemmas::specs::Serial::comes_after16))]
 pub fn sna16gte(i1: u16, i2: u16) -> bool
     ensures value { result ≡ not (comes_before16 i1 i2) }
     ensures meaning { IsTrue result ↔ ((i1 ≡ i2) ⊎ IsTrue (comes_after16 i1 i2)) }

@@ -13,30 +13,30 @@ use Rattle.sctp_chunks.proofs.Lengths.{length_data_value}
 -- ---- framing
 
 module _ (typ flags : ℕ) (value rest : List ℕ) (short : 4 + length value < 2 ^ 16) where
-  abbrev text : List ℕ
-  text = framed typ flags value ++ rest
+  abbrev encoding : List ℕ
+  encoding = framed typ flags value ++ rest
 
-  regroup : text ≡ typ ∷ flags ∷ [] ++ (be16 (4 + length value) ++ (value ++ rest))
+  regroup : encoding ≡ typ ∷ flags ∷ [] ++ (be16 (4 + length value) ++ (value ++ rest))
   regroup = ap (λ (x : List ℕ). typ ∷ flags ∷ x) (append_assoc (be16 (4 + length value)) value rest)
 
-  pub framed_declared : declared text ≡ 4 + length value
+  pub framed_declared : declared encoding ≡ 4 + length value
   framed_declared = ap (λ (x : List ℕ). u16_at x 2) regroup ∙ u16_at_be16 (typ ∷ flags ∷ []) (value ++ rest) (4 + length value) 2 refl short
 
-  pub framed_value : value_at text ≡ value
+  pub framed_value : value_at encoding ≡ value
   unfolding value_at
   framed_value =
       let front : List ℕ = typ ∷ flags ∷ [] ++ be16 (4 + length value) in
       let four : length front ≡ 4 = omega (arith, length_be16 (4 + length value)) in
-      let e : text ≡ front ++ (value ++ rest) = ap (λ (x : List ℕ). typ ∷ flags ∷ x) (append_assoc (be16 (4 + length value)) value rest) in
-      let n : declared text - 4 ≡ length value = omega (arith, framed_declared) in
+      let e : encoding ≡ front ++ (value ++ rest) = ap (λ (x : List ℕ). typ ∷ flags ∷ x) (append_assoc (be16 (4 + length value)) value rest) in
+      let n : declared encoding - 4 ≡ length value = omega (arith, framed_declared) in
       rw n (ap (λ (x : List ℕ). take (length value) (drop 4 x)) e ∙ ap (take (length value)) (drop_at front (value ++ rest) 4 four) ∙ take_at value rest (length value) refl)
 
-  pub framed_rest : drop (4 + length value) text ≡ rest
+  pub framed_rest : drop (4 + length value) encoding ≡ rest
   framed_rest = drop_at (framed typ flags value) rest (4 + length value) (omega (arith, length-append (be16 (4 + length value)) value, length_be16 (4 + length value)))
 
-  pub framed_reads : (length rest < 4 → All (λ x. x ≡ 0) rest) → IsFramed text
+  pub framed_reads : (length rest < 4 → All (λ x. x ≡ 0) rest) → IsFramed encoding
   framed_reads zeros =
-      let len : length text ≡ 4 + length value + length rest = omega (arith, length-append (framed typ flags value) rest, length-append (be16 (4 + length value)) value, length_be16 (4 + length value)) in
+      let len : length encoding ≡ 4 + length value + length rest = omega (arith, length-append (framed typ flags value) rest, length-append (be16 (4 + length value)) value, length_be16 (4 + length value)) in
       record {
         headed = omega (arith, len);
         least = omega (arith, framed_declared);

@@ -12,13 +12,13 @@ use Rattle.sctp_chunks.specs.declared.chunk.chunk_selective_ack.GapAckBlock.{Gap
 use Rattle.sctp_chunks.specs.declared.chunk.chunk_forward_tsn.ChunkForwardTsnStream.{ChunkForwardTsnStream}
 use Rattle.sctp_chunks.specs.declared.chunk.chunk_i_forward_tsn.ChunkIForwardTsnStream.{ChunkIForwardTsnStream}
 use Rattle.sctp_chunks.specs.PayloadData.{has_flag, weight}
-use Rattle.sctp_chunks.specs.Params.{ReadBack, params_text}
+use Rattle.sctp_chunks.specs.Params.{ReadBack, params_encoding}
 use Rattle.sctp_chunks.specs.Init.{Init, ReadsInit, init_value}
-use Rattle.sctp_chunks.specs.SelectiveAck.{Sack, ReadsSack, sack_value, block_at, block_text}
-use Rattle.sctp_chunks.specs.ForwardTsn.{ForwardTsn, ReadsForwardTsn, forward_tsn_value, stream_at, stream_text}
-use Rattle.sctp_chunks.specs.IForwardTsn.{IForwardTsn, ReadsIForwardTsn, i_forward_tsn_value, entry_at, entry_text}
+use Rattle.sctp_chunks.specs.SelectiveAck.{Sack, ReadsSack, sack_value, block_at, block_encoding}
+use Rattle.sctp_chunks.specs.ForwardTsn.{ForwardTsn, ReadsForwardTsn, forward_tsn_value, stream_at, stream_encoding}
+use Rattle.sctp_chunks.specs.IForwardTsn.{IForwardTsn, ReadsIForwardTsn, i_forward_tsn_value, entry_at, entry_encoding}
 use Rattle.sctp_chunks.specs.Fits.{Fits, FitsInit, FitsBlock, FitsSack, FitsStream, FitsForwardTsn, FitsEntry, FitsIForwardTsn, Canonical}
-use Rattle.sctp_chunks.specs.Wire.{Wire, data_chunk, init_chunk, sack_chunk, heartbeat_chunk, heartbeat_ack_chunk, reconfig_chunk, HasLength, abort_chunk, shutdown_chunk, shutdown_ack_chunk, error_chunk, cookie_echo_chunk, cookie_ack_chunk, shutdown_complete_chunk, forward_tsn_chunk, i_forward_tsn_chunk, ReadsValue, ReadsChunk, HasText, type_of, flags_of, value_of, text_of}
+use Rattle.sctp_chunks.specs.Wire.{Wire, data_chunk, init_chunk, sack_chunk, heartbeat_chunk, heartbeat_ack_chunk, reconfig_chunk, HasLength, abort_chunk, shutdown_chunk, shutdown_ack_chunk, error_chunk, cookie_echo_chunk, cookie_ack_chunk, shutdown_complete_chunk, forward_tsn_chunk, i_forward_tsn_chunk, ReadsValue, ReadsChunk, HasEncoding, type_of, flags_of, value_of, encoding_of}
 use Rattle.sctp_base.proofs.ParamLengths.{length_flat_map}
 use Rattle.sctp_chunks.proofs.Lengths.{length_init_value, length_sack_value, length_forward_tsn_value, length_i_forward_tsn_value}
 use Rattle.sctp_chunks.proofs.Again.{data_again, framed_reads, framed_value}
@@ -40,14 +40,14 @@ pair_second a b front rest at e fits =
 
 -- ---- SACK
 
-block_again : (b : GapAckBlock) (front rest : List ℕ) (at : ℕ) → length front ≡ at → FitsBlock b → block_at (front ++ (block_text b ++ rest)) at ≡ b
+block_again : (b : GapAckBlock) (front rest : List ℕ) (at : ℕ) → length front ≡ at → FitsBlock b → block_at (front ++ (block_encoding b ++ rest)) at ≡ b
 block_again b front rest at e fits = rw (pair_first b.start b.end front rest at e fits.start, pair_second b.start b.end front rest at e fits.end) refl
 
 number_again : (n : ℕ) (front rest : List ℕ) (at : ℕ) → length front ≡ at → n < 2 ^ 32 → u32_at (front ++ (be32 n ++ rest)) at ≡ n
 number_again n front rest at e fits = u32_at_be32 front rest n at e fits
 
-length_block_text : (b : GapAckBlock) → length (block_text b) ≡ 4
-length_block_text b = simp (length-append, length_be16) refl
+length_block_encoding : (b : GapAckBlock) → length (block_encoding b) ≡ 4
+length_block_encoding b = simp (length-append, length_be16) refl
 
 sack_again : (s : Sack) → FitsSack s → 4 + length (sack_value s) < 2 ^ 16 → ReadsSack (sack_value s) s
 unfolding sack_value
@@ -56,7 +56,7 @@ sack_again s fits short =
     let n = length s.gap_ack_blocks in
     let x = length s.duplicate_tsn in
     let len = length_sack_value s in
-    let bs : List ℕ = flat_map block_text s.gap_ack_blocks in
+    let bs : List ℕ = flat_map block_encoding s.gap_ack_blocks in
     let ds : List ℕ = flat_map be32 s.duplicate_tsn in
     let all : v ≡ be32 s.cumulative_tsn_ack ++ (be32 s.advertised_receiver_window_credit ++ (be16 n ++ (be16 x ++ (bs ++ ds)))) = simp append_assoc in
     let cum : u32_at v 0 ≡ s.cumulative_tsn_ack = ap (λ (y : List ℕ). u32_at y 0) all ∙ u32_at_be32 [] _ s.cumulative_tsn_ack 0 refl fits.cumulative_tsn_ack in
@@ -72,8 +72,8 @@ sack_again s fits short =
     let head : List ℕ = front ++ be16 n ++ be16 x in
     let twelve : length head ≡ 12 = simp (length-append, length_be16, length_be32) refl in
     let at12 : v ≡ head ++ (bs ++ ds) = simp append_assoc in
-    let blocks : each n (λ i. block_at v (12 + 4 * i)) ≡ s.gap_ack_blocks = rw at12 (items_again block_text block_at 4 FitsBlock length_block_text block_again s.gap_ack_blocks head ds 12 twelve fits.blocks) in
-    let blocks_len = length_flat_map block_text 4 length_block_text s.gap_ack_blocks in
+    let blocks : each n (λ i. block_at v (12 + 4 * i)) ≡ s.gap_ack_blocks = rw at12 (items_again block_encoding block_at 4 FitsBlock length_block_encoding block_again s.gap_ack_blocks head ds 12 twelve fits.blocks) in
+    let blocks_len = length_flat_map block_encoding 4 length_block_encoding s.gap_ack_blocks in
     let middle : length (head ++ bs) ≡ 12 + 4 * n = omega (arith, length-append head bs, twelve, blocks_len) in
     let at_end : v ≡ (head ++ bs) ++ (ds ++ []) = rw append-nil (simp append_assoc) in
     let duplicates : each x (λ i. u32_at v (12 + 4 * n + 4 * i)) ≡ s.duplicate_tsn =
@@ -86,11 +86,11 @@ sack_again s fits short =
 
 -- ---- FORWARD-TSN
 
-stream_again : (s : ChunkForwardTsnStream) (front rest : List ℕ) (at : ℕ) → length front ≡ at → FitsStream s → stream_at (front ++ (stream_text s ++ rest)) at ≡ s
+stream_again : (s : ChunkForwardTsnStream) (front rest : List ℕ) (at : ℕ) → length front ≡ at → FitsStream s → stream_at (front ++ (stream_encoding s ++ rest)) at ≡ s
 stream_again s front rest at e fits = rw (pair_first s.identifier s.sequence front rest at e fits.identifier, pair_second s.identifier s.sequence front rest at e fits.sequence) refl
 
-length_stream_text : (s : ChunkForwardTsnStream) → length (stream_text s) ≡ 4
-length_stream_text s = simp (length-append, length_be16) refl
+length_stream_encoding : (s : ChunkForwardTsnStream) → length (stream_encoding s) ≡ 4
+length_stream_encoding s = simp (length-append, length_be16) refl
 
 forward_tsn_again : (f : ForwardTsn) → FitsForwardTsn f → ReadsForwardTsn (forward_tsn_value f) f
 unfolding forward_tsn_value
@@ -98,12 +98,12 @@ forward_tsn_again f fits =
     let v = forward_tsn_value f in
     let n = length f.streams in
     let len : length v ≡ 4 + 4 * n = length_forward_tsn_value f in
-    let streams_text : List ℕ = flat_map stream_text f.streams in
-    let tsn : u32_at v 0 ≡ f.new_cumulative_tsn = u32_at_be32 [] streams_text f.new_cumulative_tsn 0 refl fits.new_cumulative_tsn in
+    let streams_encoding : List ℕ = flat_map stream_encoding f.streams in
+    let tsn : u32_at v 0 ≡ f.new_cumulative_tsn = u32_at_be32 [] streams_encoding f.new_cumulative_tsn 0 refl fits.new_cumulative_tsn in
     let count : (length v - 4) / 4 ≡ n = omega (arith, len) in
-    let at4 : v ≡ be32 f.new_cumulative_tsn ++ (streams_text ++ []) = rw append-nil refl in
+    let at4 : v ≡ be32 f.new_cumulative_tsn ++ (streams_encoding ++ []) = rw append-nil refl in
     let streams : each n (λ i. stream_at v (4 + 4 * i)) ≡ f.streams =
-    rw at4 (items_again stream_text stream_at 4 FitsStream length_stream_text stream_again f.streams (be32 f.new_cumulative_tsn) [] 4 (length_be32 f.new_cumulative_tsn) fits.streams) in
+    rw at4 (items_again stream_encoding stream_at 4 FitsStream length_stream_encoding stream_again f.streams (be32 f.new_cumulative_tsn) [] 4 (length_be32 f.new_cumulative_tsn) fits.streams) in
     record {
       long = omega (arith, len);
       whole = omega (arith, len);
@@ -116,9 +116,9 @@ flag_again : (b : Bool) → has_flag (weight b 1) 1 ≡ b
 flag_again true = refl
 flag_again false = refl
 
-entry_again : (s : ChunkIForwardTsnStream) (front rest : List ℕ) (at : ℕ) → length front ≡ at → FitsEntry s → entry_at (front ++ (entry_text s ++ rest)) at ≡ s
+entry_again : (s : ChunkIForwardTsnStream) (front rest : List ℕ) (at : ℕ) → length front ≡ at → FitsEntry s → entry_at (front ++ (entry_encoding s ++ rest)) at ≡ s
 entry_again s front rest at e fits =
-    let whole : List ℕ = front ++ (entry_text s ++ rest) in
+    let whole : List ℕ = front ++ (entry_encoding s ++ rest) in
     let flags : List ℕ = weight s.unordered 1 ∷ 0 ∷ [] in
     let at0 : whole ≡ front ++ (be16 s.identifier ++ (flags ++ (be32 s.mid ++ rest))) = simp append_assoc in
     let at2 : whole ≡ (front ++ be16 s.identifier) ++ (flags ++ (be32 s.mid ++ rest)) = simp append_assoc in
@@ -133,8 +133,8 @@ entry_again s front rest at e fits =
     byte_behind : (front : List ℕ) (b : ℕ) (rest : List ℕ) (at : ℕ) → length front ≡ at → slice_index (front ++ b ∷ rest) at ≡ b
     byte_behind front b rest at e = rw (← e) (get_or-append_seam front b rest 0)
 
-length_entry_text : (s : ChunkIForwardTsnStream) → length (entry_text s) ≡ 8
-length_entry_text s = simp (length-append, length_be16, length_be32) refl
+length_entry_encoding : (s : ChunkIForwardTsnStream) → length (entry_encoding s) ≡ 8
+length_entry_encoding s = simp (length-append, length_be16, length_be32) refl
 
 i_forward_tsn_again : (f : IForwardTsn) → FitsIForwardTsn f → ReadsIForwardTsn (i_forward_tsn_value f) f
 unfolding i_forward_tsn_value
@@ -142,12 +142,12 @@ i_forward_tsn_again f fits =
     let v = i_forward_tsn_value f in
     let n = length f.streams in
     let len : length v ≡ 4 + 8 * n = length_i_forward_tsn_value f in
-    let streams_text : List ℕ = flat_map entry_text f.streams in
-    let tsn : u32_at v 0 ≡ f.new_cumulative_tsn = u32_at_be32 [] streams_text f.new_cumulative_tsn 0 refl fits.new_cumulative_tsn in
+    let streams_encoding : List ℕ = flat_map entry_encoding f.streams in
+    let tsn : u32_at v 0 ≡ f.new_cumulative_tsn = u32_at_be32 [] streams_encoding f.new_cumulative_tsn 0 refl fits.new_cumulative_tsn in
     let count : (length v - 4) / 8 ≡ n = omega (arith, len) in
-    let at4 : v ≡ be32 f.new_cumulative_tsn ++ (streams_text ++ []) = rw append-nil refl in
+    let at4 : v ≡ be32 f.new_cumulative_tsn ++ (streams_encoding ++ []) = rw append-nil refl in
     let streams : each n (λ i. entry_at v (4 + 8 * i)) ≡ f.streams =
-    rw at4 (items_again entry_text entry_at 8 FitsEntry length_entry_text entry_again f.streams (be32 f.new_cumulative_tsn) [] 4 (length_be32 f.new_cumulative_tsn) fits.streams) in
+    rw at4 (items_again entry_encoding entry_at 8 FitsEntry length_entry_encoding entry_again f.streams (be32 f.new_cumulative_tsn) [] 4 (length_be32 f.new_cumulative_tsn) fits.streams) in
     record {
       long = omega (arith, len);
       fields = sym (rw (tsn, count, streams) refl);
@@ -159,7 +159,7 @@ init_again : (i : Init) → FitsInit i → ReadBack i.params → ReadsInit 0 (in
 unfolding init_value
 init_again i fits back =
     let v = init_value i in
-    let ps : List ℕ = params_text false i.params in
+    let ps : List ℕ = params_encoding false i.params in
     let tail : List ℕ = be16 i.num_outbound_streams ++ (be16 i.num_inbound_streams ++ (be32 i.initial_tsn ++ ps)) in
     let front : List ℕ = be32 i.initiate_tag ++ be32 i.advertised_receiver_window_credit in
     let eight : length front ≡ 8 = simp (length-append, length_be32) refl in
@@ -207,8 +207,8 @@ value_again shutdown_complete_chunk canonical fits short = tt
 value_again (forward_tsn_chunk f) canonical fits short = forward_tsn_again f fits
 value_again (i_forward_tsn_chunk f) canonical fits short = i_forward_tsn_again f fits
 
--- a chunk's text, with zeros or at least four bytes after it, reads back
-pub chunk_again : (w : Wire) (rest : List ℕ) → Canonical w → Fits w → HasLength w → (length rest < 4 → All (λ x. x ≡ 0) rest) → ReadsChunk (text_of w ++ rest) w
+-- a chunk's encoding, with zeros or at least four bytes after it, reads back
+pub chunk_again : (w : Wire) (rest : List ℕ) → Canonical w → Fits w → HasLength w → (length rest < 4 → All (λ x. x ≡ 0) rest) → ReadsChunk (encoding_of w ++ rest) w
 chunk_again w rest canonical fits short zeros =
     record {
       is_framed = framed_reads (type_of w) (flags_of w) (value_of w) rest short zeros;
@@ -216,8 +216,8 @@ chunk_again w rest canonical fits short zeros =
       value = rw (framed_value (type_of w) (flags_of w) (value_of w) rest short) (value_again w canonical fits short);
     }
 
--- a chunk's text alone reads back
-pub text_again : (w : Wire) → Canonical w → Fits w → HasText w → ReadsChunk (text_of w) w
-text_again w canonical fits text =
+-- a chunk's encoding alone reads back
+pub encoding_again : (w : Wire) → Canonical w → Fits w → HasEncoding w → ReadsChunk (encoding_of w) w
+encoding_again w canonical fits encoding =
     let P : List ℕ → Type 0 = λ b. ReadsChunk b w in
-    subst P (append-nil (text_of w)) (chunk_again w [] canonical fits text.1 (λ short. All-nil (λ (x : ℕ). x ≡ 0)))
+    subst P (append-nil (encoding_of w)) (chunk_again w [] canonical fits encoding.1 (λ short. All-nil (λ (x : ℕ). x ≡ 0)))

@@ -15,21 +15,21 @@ unfolding each
 each_same zero f g h = refl
 each_same (suc n) f g h = rw (each_same n f g h, h n) refl
 
-module _ {A : Type 0} (text : A → List ℕ) (item : List ℕ → ℕ → A) (k : ℕ) (FitsItem : A → Type 0) (long : (x : A) → length (text x) ≡ k)
-    (again : (x : A) (front rest : List ℕ) (at : ℕ) → length front ≡ at → FitsItem x → item (front ++ (text x ++ rest)) at ≡ x) where
+module _ {A : Type 0} (encoding : A → List ℕ) (item : List ℕ → ℕ → A) (k : ℕ) (FitsItem : A → Type 0) (long : (x : A) → length (encoding x) ≡ k)
+    (again : (x : A) (front rest : List ℕ) (at : ℕ) → length front ≡ at → FitsItem x → item (front ++ (encoding x ++ rest)) at ≡ x) where
   pub items_again : (xs : List A) (front rest : List ℕ) (at : ℕ) → length front ≡ at → AllByRecursion FitsItem xs
-      → each (length xs) (λ i. item (front ++ (flat_map text xs ++ rest)) (at + k * i)) ≡ xs
+      → each (length xs) (λ i. item (front ++ (flat_map encoding xs ++ rest)) (at + k * i)) ≡ xs
   unfolding each
   items_again [] front rest at e fits = refl
   items_again (x ∷ xs) front rest at e fits =
-      let whole : List ℕ = front ++ (flat_map text (x ∷ xs) ++ rest) in
-      let more : List ℕ = flat_map text xs ++ rest in
-      let grouped : whole ≡ front ++ (text x ++ more) = rw flat_map-cons (simp append_assoc) in
-      let further : whole ≡ (front ++ text x) ++ more = grouped ∙ sym (append_assoc front (text x) more) in
-      let next : length (front ++ text x) ≡ at + k = omega (arith, length-append front (text x), long x, e) in
-      let others = items_again xs (front ++ text x) rest (at + k) next fits.1 in
-      let shift : each (length xs) (λ i. item whole (at + k * suc i)) ≡ each (length xs) (λ i. item ((front ++ text x) ++ more) (at + k + k * i)) =
-      each_same (length xs) (λ i. item whole (at + k * suc i)) (λ i. item ((front ++ text x) ++ more) (at + k + k * i))
+      let whole : List ℕ = front ++ (flat_map encoding (x ∷ xs) ++ rest) in
+      let more : List ℕ = flat_map encoding xs ++ rest in
+      let grouped : whole ≡ front ++ (encoding x ++ more) = rw flat_map-cons (simp append_assoc) in
+      let further : whole ≡ (front ++ encoding x) ++ more = grouped ∙ sym (append_assoc front (encoding x) more) in
+      let next : length (front ++ encoding x) ≡ at + k = omega (arith, length-append front (encoding x), long x, e) in
+      let others = items_again xs (front ++ encoding x) rest (at + k) next fits.1 in
+      let shift : each (length xs) (λ i. item whole (at + k * suc i)) ≡ each (length xs) (λ i. item ((front ++ encoding x) ++ more) (at + k + k * i)) =
+      each_same (length xs) (λ i. item whole (at + k * suc i)) (λ i. item ((front ++ encoding x) ++ more) (at + k + k * i))
       (λ i. let p : at + k * suc i ≡ at + k + k * i = omega (arith, mul-suc k i) in rw (p, further) refl) in
       let zeroth : at + k * 0 ≡ at = omega arith in
       let first : item whole (at + k * 0) ≡ x = rw zeroth (ap (λ (y : List ℕ). item y at) grouped ∙ again x front more at e fits.0) in

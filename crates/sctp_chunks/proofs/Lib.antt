@@ -1,11 +1,11 @@
 pub mod One
 pub mod Lengths
 pub mod Causes
-pub mod ParamsText
+pub mod ParamsEncoding
 pub mod Again
 pub mod AgainLists
 pub mod AgainCauses
 pub mod AgainParams
 pub mod AgainKinds
-pub mod Texts
+pub mod Encodings
 pub mod Cuts

@@ -1,4 +1,4 @@
--- What is asked of a chunk beside its text: by `check`, and before it is written.
+-- What is asked of a chunk beside its encoding: by `check`, and before it is written.
 use Rattle.std.specs.Prelude.{◌≡◌, ◌≢◌, ◌<◌, ◌≤◌, ◌⊎◌, Option, Some, None}
 use Rattle.sctp_base.specs.declared.error.Error.{Error}
 use Rattle.sctp_base.specs.declared.error.Error.TheVariants as errors
@@ -35,19 +35,19 @@ abbrev pub NoFirstFault : Error → Option Parameter → Type 0
 NoFirstFault e None = e ≡ errors.ErrChunkReconfigInvalidParamA
 NoFirstFault e (Some a) = ⊥
 
--- why a chunk's kind has no text for it
+-- why a chunk's kind has no encoding for it
 abbrev pub FormFault : Error → Wire → Type 0
 FormFault e (heartbeat_ack_chunk ps) = OneInfoFault e ps
 FormFault e (reconfig_chunk r) = NoFirstFault e r.param_a
 FormFault e _ = ⊥
 
--- why a chunk has no text: what its kind asks for comes before its length
-abbrev pub TextFault : Error → Wire → Type 0
-TextFault e w = FormFault e w ⊎ ((e ≡ errors.ErrLengthTooLarge) × HasForm w × (HasLength w → ⊥))
+-- why a chunk has no encoding: what its kind asks for comes before its length
+abbrev pub EncodingFault : Error → Wire → Type 0
+EncodingFault e w = FormFault e w ⊎ ((e ≡ errors.ErrLengthTooLarge) × HasForm w × (HasLength w → ⊥))
 
--- the errors that say that there is no text
-abbrev pub IsTextError : Error → Type 0
-IsTextError e =
+-- the errors that say that there is no encoding
+abbrev pub IsEncodingError : Error → Type 0
+IsEncodingError e =
     (e ≡ errors.ErrLengthTooLarge)
     ⊎ (e ≡ errors.ErrHeartbeatAckParams)
     ⊎ (e ≡ errors.ErrHeartbeatAckNotHeartbeatInfo)

@@ -35,11 +35,11 @@ pub record ReadsCauses (bytes : List ℕ) (cs : List ErrorCause) : Type 0 where
   pub walk : Walks ReadsCause after_cause bytes cs rest
   pub ended : length rest < 4
 
-abbrev pub HasCauseText : ErrorCause → Type 0
-HasCauseText c = 4 + length c.raw < 2 ^ 16
+abbrev pub HasCauseEncoding : ErrorCause → Type 0
+HasCauseEncoding c = 4 + length c.raw < 2 ^ 16
 
-unfoldable pub cause_text : ErrorCause → List ℕ
-cause_text c = be16 c.code.0 ++ be16 (4 + length c.raw) ++ c.raw
+unfoldable pub cause_encoding : ErrorCause → List ℕ
+cause_encoding c = be16 c.code.0 ++ be16 (4 + length c.raw) ++ c.raw
 
-abbrev pub causes_text : List ErrorCause → List ℕ
-causes_text cs = flat_map cause_text cs
+abbrev pub causes_encoding : List ErrorCause → List ℕ
+causes_encoding cs = flat_map cause_encoding cs

@@ -68,7 +68,7 @@ Fits (forward_tsn_chunk f) = FitsForwardTsn f
 Fits (i_forward_tsn_chunk f) = FitsIForwardTsn f
 Fits _ = Unit {0}
 
--- a chunk whose text reads back to it: every chunk that was read is one
+-- a chunk whose encoding reads back to it: every chunk that was read is one
 abbrev pub Canonical : Wire → Type 0
 Canonical (init_chunk i) = ReadBack i.params
 Canonical (heartbeat_chunk ps) = IsReadHeartbeat ps

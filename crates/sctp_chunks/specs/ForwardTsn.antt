@@ -30,8 +30,8 @@ pub record ReadsForwardTsn (value : List ℕ) (f : ForwardTsn) : Type 0 where
   pub whole : (length value - 4) % 4 ≡ 0
   pub fields : f ≡ forward_tsn_in value
 
-abbrev pub stream_text : ChunkForwardTsnStream → List ℕ
-stream_text s = be16 s.identifier ++ be16 s.sequence
+abbrev pub stream_encoding : ChunkForwardTsnStream → List ℕ
+stream_encoding s = be16 s.identifier ++ be16 s.sequence
 
 unfoldable pub forward_tsn_value : ForwardTsn → List ℕ
-forward_tsn_value f = be32 f.new_cumulative_tsn ++ flat_map stream_text f.streams
+forward_tsn_value f = be32 f.new_cumulative_tsn ++ flat_map stream_encoding f.streams

@@ -31,8 +31,8 @@ pub record ReadsIForwardTsn (value : List ℕ) (f : IForwardTsn) : Type 0 where
   pub long : 4 ≤ length value
   pub fields : f ≡ i_forward_tsn_in value
 
-abbrev pub entry_text : ChunkIForwardTsnStream → List ℕ
-entry_text s = be16 s.identifier ++ (weight s.unordered 1 ∷ 0 ∷ []) ++ be32 s.mid
+abbrev pub entry_encoding : ChunkIForwardTsnStream → List ℕ
+entry_encoding s = be16 s.identifier ++ (weight s.unordered 1 ∷ 0 ∷ []) ++ be32 s.mid
 
 unfoldable pub i_forward_tsn_value : IForwardTsn → List ℕ
-i_forward_tsn_value f = be32 f.new_cumulative_tsn ++ flat_map entry_text f.streams
+i_forward_tsn_value f = be32 f.new_cumulative_tsn ++ flat_map entry_encoding f.streams

@@ -3,7 +3,7 @@ use Rattle.std.specs.Prelude.{◌≡◌, ℕ, ◌≤◌, Bool, true, false, List
 use Rattle.sctp_base.specs.Field.{be16, be32, u16_at, u32_at}
 use Rattle.sctp_base.specs.Param.{Parameter}
 use Rattle.sctp_base.specs.ParamKind.{parameter_of}
-use Rattle.sctp_chunks.specs.Params.{ReadsParams, params_text}
+use Rattle.sctp_chunks.specs.Params.{ReadsParams, params_encoding}
 use Rattle.sctp_chunks.specs.declared.chunk.chunk_init.ChunkInit.{ChunkInit}
 
 -- the wire part of an INIT
@@ -52,4 +52,4 @@ ack_type false = 1
 unfoldable pub init_value : Init → List ℕ
 init_value i =
     be32 i.initiate_tag ++ be32 i.advertised_receiver_window_credit ++ be16 i.num_outbound_streams ++ be16 i.num_inbound_streams ++ be32 i.initial_tsn
-    ++ params_text false i.params
+    ++ params_encoding false i.params

@@ -4,7 +4,7 @@ use Rattle.std.specs.List.{AllByRecursion}
 use Rattle.sctp_base.specs.Padding.{padding_of}
 use Rattle.sctp_base.specs.Walk.{Walks}
 use Rattle.sctp_base.specs.ParamFraming.{after_param}
-use Rattle.sctp_base.specs.Param.{Parameter, ReadsBack, param_text}
+use Rattle.sctp_base.specs.Param.{Parameter, ReadsBack, param_encoding}
 use Rattle.sctp_base.specs.ParamKind.{IsReadAs, ReadsParam, ParamFault}
 use Rattle.sctp_base.specs.declared.error.Error.{Error}
 
@@ -22,18 +22,18 @@ ParamsFault e bytes = (ps : List Parameter) × (rest : List ℕ) × Walks ReadsP
 abbrev pub ReadBack : List Parameter → Type 0
 ReadBack ps = AllByRecursion (ReadsBack IsReadAs) ps
 
--- how many zeros follow a text of this length; a bare one has none
+-- how many zeros follow an encoding of this length; a bare one has none
 abbrev pub gap : Bool → ℕ → ℕ
 gap true n = 0
 gap false n = padding_of n
 
 -- a parameter, bare or with its padding
 unfoldable pub padded_param : Bool → Parameter → List ℕ
-padded_param true p = param_text p
-padded_param false p = param_text p ++ replicate (padding_of (length (param_text p))) 0
+padded_param true p = param_encoding p
+padded_param false p = param_encoding p ++ replicate (padding_of (length (param_encoding p))) 0
 
 -- parameters, all bare, or each with its padding before the next; the last one is bare
-unfoldable pub params_text : Bool → List Parameter → List ℕ
-params_text bare [] = []
-params_text bare (p ∷ []) = padded_param true p
-params_text bare (p ∷ q ∷ ps) = padded_param bare p ++ params_text bare (q ∷ ps)
+unfoldable pub params_encoding : Bool → List Parameter → List ℕ
+params_encoding bare [] = []
+params_encoding bare (p ∷ []) = padded_param true p
+params_encoding bare (p ∷ q ∷ ps) = padded_param bare p ++ params_encoding bare (q ∷ ps)

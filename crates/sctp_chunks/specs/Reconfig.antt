@@ -31,13 +31,13 @@ PairReadsBack (Some a) None = ReadsBack IsReadAs a
 PairReadsBack (Some a) (Some b) = ReadsBack IsReadAs a × ReadsBack IsReadAs b
 
 -- the first parameter, padded before a second
-abbrev pub pair_text : Option Parameter → Option Parameter → List ℕ
-pair_text None b = []
-pair_text (Some a) None = padded_param true a
-pair_text (Some a) (Some b) = padded_param false a ++ padded_param true b
+abbrev pub pair_encoding : Option Parameter → Option Parameter → List ℕ
+pair_encoding None b = []
+pair_encoding (Some a) None = padded_param true a
+pair_encoding (Some a) (Some b) = padded_param false a ++ padded_param true b
 
 abbrev pub reconfig_value : Reconfig → List ℕ
-reconfig_value r = pair_text r.param_a r.param_b
+reconfig_value r = pair_encoding r.param_a r.param_b
 
 -- the types that may stand together
 abbrev pub MayStandTogether : ParamType → ParamType → Type 0

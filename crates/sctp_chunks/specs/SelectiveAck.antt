@@ -45,10 +45,10 @@ pub record ReadsSack (value : List ℕ) (s : Sack) : Type 0 where
   pub long : 12 + 4 * blocks_in value + 4 * duplicates_in value ≤ length value
   pub fields : s ≡ sack_in value
 
-abbrev pub block_text : GapAckBlock → List ℕ
-block_text b = be16 b.start ++ be16 b.end
+abbrev pub block_encoding : GapAckBlock → List ℕ
+block_encoding b = be16 b.start ++ be16 b.end
 
 unfoldable pub sack_value : Sack → List ℕ
 sack_value s =
     be32 s.cumulative_tsn_ack ++ be32 s.advertised_receiver_window_credit ++ be16 (length s.gap_ack_blocks) ++ be16 (length s.duplicate_tsn)
-    ++ flat_map block_text s.gap_ack_blocks ++ flat_map be32 s.duplicate_tsn
+    ++ flat_map block_encoding s.gap_ack_blocks ++ flat_map be32 s.duplicate_tsn

@@ -5,11 +5,11 @@ use Rattle.sctp_chunks.specs.declared.chunk.error_cause.ErrorCause.{ErrorCause}
 use Rattle.sctp_chunks.specs.Framing.{type_at, flags_at, value_at, IsFramed, framed}
 use Rattle.sctp_chunks.specs.PayloadData.{Data, ReadsData, data_flags, data_value}
 use Rattle.sctp_chunks.specs.SelectiveAck.{Sack, ReadsSack, sack_value}
-use Rattle.sctp_chunks.specs.Params.{params_text}
+use Rattle.sctp_chunks.specs.Params.{params_encoding}
 use Rattle.sctp_chunks.specs.Init.{Init, ReadsInit, ack_type, init_value}
 use Rattle.sctp_chunks.specs.Heartbeat.{ReadsHeartbeat, IsOneInfo}
 use Rattle.sctp_chunks.specs.Reconfig.{Reconfig, ReadsPair, reconfig_value}
-use Rattle.sctp_chunks.specs.ErrorCause.{ReadsCauses, causes_text}
+use Rattle.sctp_chunks.specs.ErrorCause.{ReadsCauses, causes_encoding}
 use Rattle.sctp_base.specs.Param.{Parameter}
 use Rattle.sctp_chunks.specs.ForwardTsn.{ForwardTsn, ReadsForwardTsn, forward_tsn_value}
 use Rattle.sctp_chunks.specs.IForwardTsn.{IForwardTsn, ReadsIForwardTsn, i_forward_tsn_value}
@@ -58,12 +58,12 @@ abbrev pub value_of : Wire → List ℕ
 value_of (data_chunk d) = data_value d
 value_of (init_chunk i) = init_value i
 value_of (sack_chunk s) = sack_value s
-value_of (heartbeat_chunk ps) = params_text true ps
-value_of (heartbeat_ack_chunk ps) = params_text true ps
-value_of (abort_chunk cs) = causes_text cs
+value_of (heartbeat_chunk ps) = params_encoding true ps
+value_of (heartbeat_ack_chunk ps) = params_encoding true ps
+value_of (abort_chunk cs) = causes_encoding cs
 value_of (shutdown_chunk n) = be32 n
 value_of shutdown_ack_chunk = []
-value_of (error_chunk cs) = causes_text cs
+value_of (error_chunk cs) = causes_encoding cs
 value_of (cookie_echo_chunk b) = b
 value_of cookie_ack_chunk = []
 value_of shutdown_complete_chunk = []
@@ -107,18 +107,18 @@ abbrev pub HasFirst : Option Parameter → Type 0
 HasFirst None = ⊥
 HasFirst (Some p) = Unit {0}
 
--- what a kind asks for before there is a text: a HEARTBEAT-ACK gives one thing back, a RECONFIG asks for something
+-- what a kind asks for before there is an encoding: a HEARTBEAT-ACK gives one thing back, a RECONFIG asks for something
 abbrev pub HasForm : Wire → Type 0
 HasForm (heartbeat_ack_chunk ps) = IsOneInfo ps
 HasForm (reconfig_chunk r) = HasFirst r.param_a
 HasForm _ = Unit {0}
 
 -- a chunk that can be written
-abbrev pub HasText : Wire → Type 0
-HasText w = HasForm w × HasLength w
+abbrev pub HasEncoding : Wire → Type 0
+HasEncoding w = HasForm w × HasLength w
 
-abbrev pub text_of : Wire → List ℕ
-text_of w = framed (type_of w) (flags_of w) (value_of w)
+abbrev pub encoding_of : Wire → List ℕ
+encoding_of w = framed (type_of w) (flags_of w) (value_of w)
 
 -- ---- the chunks of one kind
 

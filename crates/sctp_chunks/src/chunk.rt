@@ -4,9 +4,9 @@
 ghost use Rattle.std.specs.Prelude.{◌≡◌, ◌+◌, ◌^◌, ◌≤◌, ◌<◌, ◌++◌, ◌⊎◌, ℕ, List, length, min, IfOk, IfErr, OnOk, OnErr};
 ghost use Rattle.sctp_base.specs.declared.error.Error.{Error};
 ghost use Rattle.sctp_base.specs.declared.error.Error.TheVariants.{ErrOutOfMemory, ErrLengthTooLarge};
-ghost use Rattle.sctp_chunks.specs.Wire.{Wire, ReadsChunk, HasForm, HasLength, HasText, text_of, type_of, flags_of, value_of};
+ghost use Rattle.sctp_chunks.specs.Wire.{Wire, ReadsChunk, HasForm, HasLength, HasEncoding, encoding_of, type_of, flags_of, value_of};
 ghost use Rattle.sctp_chunks.specs.Fits.{Fits, Canonical};
-ghost use Rattle.sctp_chunks.specs.Check.{IsChecked, CheckFault, FormFault, TextFault};
+ghost use Rattle.sctp_chunks.specs.Check.{IsChecked, CheckFault, FormFault, EncodingFault};
 ghost use Rattle.sctp_base.specs.Outcome.{OrMemory, GivesUnlessMemory};
 
 pub mod chunk_abort;
@@ -60,7 +60,7 @@ pub trait Chunk {
         ensures only { (w : Wire) → IsKind w → ReadsChunk raw.now w
             → GivesUnlessMemory result (λ c. wire c ≡ w) }
         ensures fault { IfErr result (λ e. OrMemory e (fault e raw.now)) }
-        ensures rewritable { IfOk result (λ c. HasText (wire c)) }
+        ensures rewritable { IfOk result (λ c. HasEncoding (wire c)) }
         ensures canonical { IfOk result (λ c. Canonical (wire c)) }
         ensures fresh { IfOk result (λ c. IsFresh c) };
 
@@ -77,10 +77,10 @@ pub trait Chunk {
         ensures { result ≡ flags_of (wire self.now) };
 
     /// Appends the value. It takes no memory.
-    /// Precondition: the chunk has a text (`check_form` and `header` accept it),
+    /// Precondition: the chunk has an encoding (`check_form` and `header` accept it),
     /// and the buffer has room for the value.
     fn put_value(&self, buf: &mut BytesMut)
-        requires text { HasText (wire self.now) }
+        requires encoding { HasEncoding (wire self.now) }
         requires room { length (value_of (wire self.now)) ≤ buf.old.spare }
         ensures items { buf.new.items ≡ buf.old.items ++ value_of (wire self.now) }
         ensures spare { buf.new.spare + length (value_of (wire self.now)) ≡ buf.old.spare }
@@ -92,7 +92,7 @@ pub trait Chunk {
         ensures ok { OnOk result (IsChecked (wire self.now)) }
         ensures err { IfErr result (λ e. CheckFault e (wire self.now)) };
 
-    /// Whether the kind has a text for the chunk, its length apart. Only HEARTBEAT-ACK asks for something
+    /// Whether the kind has an encoding for the chunk, its length apart. Only HEARTBEAT-ACK asks for something
     /// (`ErrHeartbeatAckParams`, `ErrHeartbeatAckNotHeartbeatInfo`), and RECONFIG (`ErrChunkReconfigInvalidParamA`).
     fn check_form(&self) -> Result<()>
         ensures ok { OnOk result (HasForm (wire self.now)) }
@@ -113,19 +113,19 @@ pub trait Chunk {
     /// Appends the chunk, with no padding, and answers the buffer's length.
     /// Refuses as `check_form` and then `header` do, or for memory where the buffer
     /// lacked room. The buffer's bytes are as they were then.
-    #[tactic(auto, using(crate::proofs::AgainKinds::text_again))]
+    #[tactic(auto, using(crate::proofs::AgainKinds::encoding_again))]
     fn marshal_to(&self, buf: &mut BytesMut) -> Result<usize>
-        ensures ok { IfOk result (λ n. HasText (wire self.now)
-            × (buf.new.items ≡ buf.old.items ++ text_of (wire self.now)) × (n ≡ length buf.new.items)) }
+        ensures ok { IfOk result (λ n. HasEncoding (wire self.now)
+            × (buf.new.items ≡ buf.old.items ++ encoding_of (wire self.now)) × (n ≡ length buf.new.items)) }
         ensures spare { OnOk result
             (buf.old.spare ≤ buf.new.spare + (4 + length (value_of (wire self.now)))) }
         ensures fits { OnOk result (Fits (wire self.now)) }
-        // What is written of a chunk that was read reads back, as does every text of DATA, SACK and FORWARD-TSN.
+        // What is written of a chunk that was read reads back, as does every encoding of DATA, SACK and FORWARD-TSN.
         ensures reads_back { Canonical (wire self.now)
-            → OnOk result (ReadsChunk (text_of (wire self.now)) (wire self.now)) }
+            → OnOk result (ReadsChunk (encoding_of (wire self.now)) (wire self.now)) }
         ensures err { OnErr result (buf.new.items ≡ buf.old.items) }
-        ensures refused { IfErr result (λ e. TextFault e (wire self.now)
-            ⊎ ((e ≡ ErrOutOfMemory) × HasText (wire self.now) × (buf.old.spare < 4 + length (value_of (wire self.now))))) }
+        ensures refused { IfErr result (λ e. EncodingFault e (wire self.now)
+            ⊎ ((e ≡ ErrOutOfMemory) × HasEncoding (wire self.now) × (buf.old.spare < 4 + length (value_of (wire self.now))))) }
     {
         self.check_form()?;
         put_header(buf, self.chunk_type(), self.flags(), self.value_length())?;
@@ -135,9 +135,9 @@ pub trait Chunk {
 
     /// The chunk as bytes, with no padding. Refuses as `check_form` and then `header` do, or for memory.
     fn marshal(&self, alloc: Global) -> Result<Bytes>
-        ensures ok { IfOk result (λ b. HasText (wire self.now) × (b ≡ text_of (wire self.now))) }
-        ensures refused { IfErr result (λ e. TextFault e (wire self.now)
-            ⊎ ((e ≡ ErrOutOfMemory) × HasText (wire self.now))) }
+        ensures ok { IfOk result (λ b. HasEncoding (wire self.now) × (b ≡ encoding_of (wire self.now))) }
+        ensures refused { IfErr result (λ e. EncodingFault e (wire self.now)
+            ⊎ ((e ≡ ErrOutOfMemory) × HasEncoding (wire self.now))) }
     {
         let mut buf = BytesMut::new(alloc);
         self.marshal_to(&mut buf)?;

@@ -2,8 +2,8 @@
 use Rattle.std.proofs.Common.{◌≡◌, ℕ, zero, suc, ◌+◌, ◌<◌, List, [], ◌∷◌, length, map, drop, Bool, true, false, Option, Some, None, refl, ap, sym, ◌∙◌, arith}
 use Rattle.std.specs.Prelude.{◌==◌, ◌&&◌, slice_index_or, slice_set, if◌then◌else◌, option_map, is_some}
 use Rattle.std.proofs.lemmas.List.{get_or_default}
-use Rattle.sctp_lists.specs.Lists.{change_where, changed}
-use Rattle.sctp_lists.proofs.Getting.{length-mapped}
+use Rattle.sctp_list_lemmas.specs.Lists.{change_where, changed}
+use Rattle.sctp_list_lemmas.proofs.Getting.{length-mapped}
 use Rattle.sctp_stream.specs.Numbers.{IsOnlyPlace, IsAbsent}
 use Rattle.sctp_stream.specs.declared.stream.StreamState.{StreamState}
 use Rattle.sctp_transfer.specs.declared.receiver.inbound_streams.InboundStream.{InboundStream}
@@ -146,7 +146,7 @@ module _ (ns : List ℕ) (t : Transmission) (r : Reception) (ps : List StreamPro
     followed-sides =
         ap (λ ls. let y : Sides = record (sides t (R.followed f r) ps) { streams = ls } in y)
         (ap (λ is. joined t.streams is ps) (followed-mapped f r)
-        ∙ inbound-mapped (λ l. Inbound.loose_forwarded f.new_cumulative_tsn (Inbound.stream_forwarded f.streams l)) t.streams r.streams ps)
+        ∙ inbound-mapped (λ l. Inbound.unassembled_forwarded f.new_cumulative_tsn (Inbound.stream_forwarded f.streams l)) t.streams r.streams ps)
 
     pub forward-sides : (x : Reception) → x ≡ R.after_forward f r → sides t x ps ≡ after_forward f (sides t r ps)
     forward-sides x e = ap (λ y. sides t y ps) e ∙ by (R.is_stale f r)

@@ -1,7 +1,7 @@
 -- Streams on which more came, and streams put back as they were.
 use Rattle.std.proofs.Common.{◌≡◌, ℕ, zero, suc, ◌+◌, ◌<◌, List, [], ◌∷◌, ◌++◌, length, map, take, refl, ap, sym, ◌∙◌, arith, subst}
 use Rattle.std.specs.Prelude.{slice_index_or, slice_set}
-use Rattle.sctp_lists.proofs.Getting.{length-mapped}
+use Rattle.sctp_list_lemmas.proofs.Getting.{length-mapped}
 use Rattle.sctp_stream.specs.declared.stream.StreamState.{StreamState}
 use Rattle.sctp_transfer.specs.declared.receiver.inbound_streams.InboundStream.{InboundStream}
 use Rattle.sctp_transfer.specs.Inbound as Inbound

@@ -2,8 +2,8 @@
 use Rattle.std.proofs.Common.{◌≡◌, ℕ, zero, suc, List, [], ◌∷◌, ◌++◌, append-nil, map, Bool, true, false, not, Some, None, Result, Ok, Err, refl, ap, sym, ◌∙◌}
 use Rattle.std.specs.Prelude.{◌==◌, if◌then◌else◌, find, slice_get, is_err, OnOk, OnErr}
 use Rattle.std.proofs.lemmas.Bool.{eq-eqb}
-use Rattle.sctp_lists.specs.Lists.{those}
-use Rattle.sctp_lists.proofs.Edits.{those-append}
+use Rattle.sctp_list_lemmas.specs.Lists.{those}
+use Rattle.sctp_list_lemmas.proofs.Edits.{those-append}
 use Rattle.sctp_chunks.specs.declared.chunk.chunk_payload_data.PayloadProtocolIdentifier.TheVariants.{Unknown}
 use Rattle.sctp_stream.specs.Numbers.{IsAbsent, is_other}
 use Rattle.sctp_stream.specs.Stream.{new_stream}

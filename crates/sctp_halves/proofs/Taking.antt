@@ -3,8 +3,8 @@ use Rattle.std.proofs.Common.{◌≡◌, ℕ, zero, suc, ◌+◌, ◌<◌, ◌�
 use Rattle.std.specs.Prelude.{◌==◌, ◌&&◌, nat_lt, slice_index_or, slice_set, find, if◌then◌else◌, option_map}
 use Rattle.std.proofs.lemmas.Bool.Decides.{nat_tests}
 use Rattle.std.proofs.lemmas.List.{get_or_default}
-use Rattle.sctp_lists.specs.Lists.{change_where, changed, inserted}
-use Rattle.sctp_lists.specs.Serial.{comes_before16}
+use Rattle.sctp_list_lemmas.specs.Lists.{change_where, changed, inserted}
+use Rattle.sctp_list_lemmas.specs.Serial.{comes_before16}
 use Rattle.sctp_chunks.specs.declared.chunk.chunk_payload_data.ChunkPayloadData.{ChunkPayloadData}
 use Rattle.sctp_serial.specs.DataChunks.{chunk_before}
 use Rattle.sctp_reassembly.specs.reassembly_queue.Fragments.{sets_with}
@@ -30,7 +30,7 @@ use Rattle.sctp_halves.proofs.Aligned.{sides, numbers-are, inbound-in, inbound-o
 
 -- ## Whether a message became whole
 
--- a push, and whether there is one more whole unordered message after it
+-- a push, and whether there is one more complete unordered message after it
 record Told (c : ChunkPayloadData) (old new : ReassemblyState) (whole : Bool) : Type 0 where
   ordered : c.unordered ≡ false → (new ≡ after_ordered_push c old) × (whole ≡ false)
   unordered : c.unordered ≡ true → PushesUnordered c old new whole
@@ -48,7 +48,7 @@ told c old new p = by c.unordered refl p
     in-order true = refl
     in-order false = refl
 
-    becomes : (b : Bool) → BecomesWhole (inserted chunk_before c old.held.loose) old.held new.held b → more old new ≡ b
+    becomes : (b : Bool) → BecomesWhole (inserted chunk_before c old.held.unassembled) old.held new.held b → more old new ≡ b
     becomes true t =
         let one : length new.held.unordered ≡ length old.held.unordered + 1 = ap (λ q. length q.unordered) t.moved ∙ length-append old.held.unordered _ in
         grind (arith, nat_tests, one)

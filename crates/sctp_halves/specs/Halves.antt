@@ -1,7 +1,7 @@
 -- Both halves of a link as one value.
 use Rattle.std.specs.Prelude.{◌≡◌, ℕ, Bool, true, if◌then◌else◌, List, [], ◌∷◌, ◌++◌, length, map, take, Option, Some, None, is_some}
 use Rattle.std.specs.List.{find}
-use Rattle.sctp_lists.specs.Lists.{change_where}
+use Rattle.sctp_list_lemmas.specs.Lists.{change_where}
 use Rattle.sctp_chunks.specs.declared.chunk.chunk_payload_data.ChunkPayloadData.{ChunkPayloadData}
 use Rattle.sctp_chunks.specs.declared.chunk.chunk_payload_data.PayloadProtocolIdentifier.{PayloadProtocolIdentifier}
 use Rattle.sctp_chunks.specs.declared.chunk.chunk_payload_data.ReliabilityType.{ReliabilityType}
@@ -11,7 +11,7 @@ use Rattle.sctp_outbound.specs.outbound_queue.OutboundQueue.{expired_of, sent_ne
 use Rattle.sctp_transfer.specs.declared.receiver.arrival.Arrival.{Arrival}
 use Rattle.sctp_transfer.specs.declared.receiver.arrival.Arrival.TheVariants.{New, Repeat}
 use Rattle.sctp_transfer.specs.Flight as Flight
-use Rattle.sctp_transfer.specs.Flight.{Flight, with_queue, next_after_send, after_giving_up, after_sack, released_by}
+use Rattle.sctp_transfer.specs.Flight.{Flight, with_queue, next_after_send, after_abandonment, after_sack, released_by}
 use Rattle.sctp_transfer.specs.Inbound as Inbound
 use Rattle.sctp_transfer.specs.Outgoing as Outgoing
 use Rattle.sctp_transfer.specs.Outgoing.{fragments_with_mode}
@@ -86,9 +86,9 @@ next_sent now f = record f { queue = sent_next f.queue f.next_tsn now; next_tsn 
 abbrev pub sack_taken : Sack → Sides → Sides
 sack_taken s x = record x { streams = released (released_by s x.flight) x.streams; flight = after_sack s x.flight }
 
--- a message is given up, and its stream has so many bytes less
-abbrev pub given_up_on : Option ℕ → ℕ → ℕ → Sides → Sides
-given_up_on message stream bytes x = with_flight (after_giving_up message x.flight) (on_stream stream (less_by bytes) x)
+-- a message is abandoned, and its stream has so many bytes less
+abbrev pub abandoned_on : Option ℕ → ℕ → ℕ → Sides → Sides
+abandoned_on message stream bytes x = with_flight (after_abandonment message x.flight) (on_stream stream (less_by bytes) x)
 
 -- the message that begins with a chunk is gone, unsent
 abbrev pub expired_unsent : ChunkPayloadData → ℕ → Sides → Sides

@@ -1,7 +1,7 @@
 -- An open stream as both halves of a link have it.
 use Rattle.std.specs.Prelude.{◌≡◌, ℕ, ◌+◌, ◌-◌, max, Bool, true, false, ◌&&◌, ◌==◌, if◌then◌else◌, List, [], ◌∷◌, ◌++◌, map, drop, Option, Some, None}
 use Rattle.std.specs.List.{find}
-use Rattle.sctp_lists.specs.Lists.{change_where}
+use Rattle.sctp_list_lemmas.specs.Lists.{change_where}
 use Rattle.sctp_chunks.specs.declared.chunk.chunk_payload_data.ChunkPayloadData.{ChunkPayloadData}
 use Rattle.sctp_chunks.specs.declared.chunk.chunk_payload_data.PayloadProtocolIdentifier.{PayloadProtocolIdentifier}
 use Rattle.sctp_chunks.specs.declared.chunk.chunk_payload_data.PayloadProtocolIdentifier.TheVariants.{Unknown}
@@ -120,7 +120,7 @@ pub record Keeps (c : ChunkPayloadData) (number : ℕ) (old new : OpenStream) : 
 abbrev pub read_recorded : Bool → ℕ → OpenStream → OpenStream
 read_recorded ordered index l = record l { whole = if ordered then l.whole else drop 1 l.whole; next = if ordered && (index == l.next) then index + 1 else l.next }
 
--- a FORWARD-TSN with these names comes: what it names is gone, one name after another, and then what is loose up to its TSN
+-- a FORWARD-TSN with these names comes: what it names is gone, one name after another, and then what is unassembled up to its TSN
 abbrev pub forwarded_on : List ChunkForwardTsnStream → ℕ → InboundStream → InboundStream
 forwarded_on names tsn i = record i { queue = after_unordered_skip tsn (skipped_each (ssns_of i.queue.si names) i.queue) }
 

@@ -1,5 +1,5 @@
 pub mod sender
-pub mod giving_up
+pub mod abandonment
 pub mod receiver
 pub mod acknowledging
 pub mod skipping

@@ -1,4 +1,4 @@
-pub mod Places
+pub mod StreamPlaces
 pub mod ChangedStreams
 pub mod Frames
 pub mod StreamsAfter

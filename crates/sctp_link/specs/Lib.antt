@@ -1,7 +1,7 @@
 pub mod Places
 pub mod Records
 pub mod OpenStreams
-pub mod Texts
+pub mod Encodings
 pub mod Linked
 pub mod Fields
 pub mod Replies

@@ -9,11 +9,11 @@ use Rattle.sctp_model.specs.Contents.{contents_of, cumulative_tsn}
 use Rattle.sctp_model.specs.Queues.{FilterRecord, filter_of}
 use Rattle.sctp_model.specs.Steps.{History, StandsFor, fragments_accepted}
 use Rattle.sctp_model.specs.Laws.{IsSetup}
-use Rattle.sctp_ties.specs.Holds.{reassembly_of}
-use Rattle.sctp_ties.specs.Tied.{TiedOutbound}
-use Rattle.sctp_ties.specs.Amount.{amount}
-use Rattle.sctp_ties.specs.Counts.{counters_on}
-use Rattle.sctp_ties.specs.Indexes.{begun_on}
+use Rattle.sctp_refinement.specs.Holds.{reassembly_of}
+use Rattle.sctp_refinement.specs.Refines.{RefinesOutbound}
+use Rattle.sctp_refinement.specs.Amount.{amount}
+use Rattle.sctp_refinement.specs.Counts.{counters_on}
+use Rattle.sctp_refinement.specs.Indexes.{begun_on}
 use Rattle.sctp_model.specs.Amounts.{Counters, in_all, written_bytes}
 use Rattle.sctp_model.specs.Amounts as M
 use Rattle.sctp_link.specs.declared.link.accessors.Ledger.{Ledger}
@@ -21,7 +21,7 @@ use Rattle.sctp_halves.specs.Streams.{OpenStream, stream_numbers, stats_in}
 use Rattle.sctp_stream.specs.declared.stream.DataChannelStats.{DataChannelStats}
 use Rattle.sctp_transfer.specs.TsnFilter.{Filter}
 use Rattle.sctp_link.specs.Places.{IsApart}
-use Rattle.sctp_link.specs.Texts.{IsDatagram}
+use Rattle.sctp_link.specs.Encodings.{IsDatagram}
 
 -- a link: its record, and the checksum that it was handed
 pub record Linked (C : Type 0) : Type 0 where
@@ -85,7 +85,7 @@ pub record IsLinked (sum : List ℕ → ℕ) (x : State) : Type 0 where
   pub setup : IsSetup x.world.setup
   pub history : History
   pub stands : StandsFor x.world.setup x.world history
-  pub outbound : TiedOutbound x.world x.outbound
+  pub outbound : RefinesOutbound x.world x.outbound
   pub unstarted : x.unstarted ≡ x.outbound.next_unstarted
   pub filter : filter_shown x.filter ≡ filter_of x.world
   pub next : x.next_tsn ≡ tsn_of x.world (length x.world.slots)
@@ -100,4 +100,4 @@ pub record IsLinked (sum : List ℕ → ℕ) (x : State) : Type 0 where
   pub open_streams : (k : ℕ) (d : OpenStream) → k < length x.open_streams → IsOpenStream x.world (slice_index_or x.open_streams k d)
   -- no two streams have one number
   pub apart : IsApart (stream_numbers x.open_streams)
-  pub texts : (k : ℕ) (d : List ℕ) (g : W.Datagram) → slice_get x.world.network k ≡ Some g → IsDatagram sum (contents_of x.world g) (slice_index_or x.datagrams k d)
+  pub encodings : (k : ℕ) (d : List ℕ) (g : W.Datagram) → slice_get x.world.network k ≡ Some g → IsDatagram sum (contents_of x.world g) (slice_index_or x.datagrams k d)

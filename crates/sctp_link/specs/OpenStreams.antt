@@ -1,7 +1,7 @@
--- What a link keeps of a write, of a fragment that leaves, and of a message that is given up.
+-- What a link keeps of a write, of a fragment that leaves, and of a message that is abandoned.
 use Rattle.std.specs.Prelude.{ℕ, ◌+◌, Bool, true, false, ◌&&◌, if◌then◌else◌, List, [], ◌∷◌, take, drop, map, ◌++◌, Some, None, ◌==◌}
 use Rattle.sctp_chunks.specs.declared.chunk.chunk_payload_data.PayloadProtocolIdentifier.{PayloadProtocolIdentifier}
-use Rattle.sctp_lists.specs.Lists.{change_where}
+use Rattle.sctp_list_lemmas.specs.Lists.{change_where}
 use Rattle.sctp_halves.specs.declared.halves.progress.Written.{Written}
 use Rattle.sctp_halves.specs.Streams.{OpenStream, has_number, begun_of, with_begun}
 use Rattle.sctp_link.specs.declared.record.Message.{Message}
@@ -34,14 +34,14 @@ with_start now m = record m { started = Some now }
 abbrev pub start_from : ℕ → ℕ → List Message → List Message
 start_from first now ms = take first ms ++ map (with_start now) (drop first ms)
 
--- the slots that giving up a message takes: one for its end mark, where it is half-sent
+-- the slots that abandoning a message takes: one for its terminal chunk, where it is partially sent
 abbrev pub marks : Bool → ℕ → ℕ → List Slot
 marks false number fragment = []
-marks true number fragment = record { message = number; fragment = fragment; is_end_mark = true; arrived = false; acknowledged = false } ∷ []
+marks true number fragment = record { message = number; fragment = fragment; is_terminal_chunk = true; arrived = false; acknowledged = false } ∷ []
 
 -- the slot of a fragment
 abbrev pub slot_with : ℕ → ℕ → Slot
-slot_with number fragment = record { message = number; fragment = fragment; is_end_mark = false; arrived = false; acknowledged = false }
+slot_with number fragment = record { message = number; fragment = fragment; is_terminal_chunk = false; arrived = false; acknowledged = false }
 
 -- the next fragment of a message is its first one, and it is ordered
 abbrev pub begins : Message → Bool

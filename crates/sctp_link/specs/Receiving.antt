@@ -1,7 +1,7 @@
 -- The receiver of a link while the slots of a datagram come, one after another.
 use Rattle.std.specs.Prelude.{◌≡◌, ℕ, ◌<◌, ◌&&◌, if◌then◌else◌, Bool, slice_get, true, false, List, [], ◌∷◌, length, map, slice_index_or, Some}
-use Rattle.sctp_lists.specs.Kept.{passing}
-use Rattle.sctp_lists.specs.Lists.{changed}
+use Rattle.sctp_list_lemmas.specs.Kept.{passing}
+use Rattle.sctp_list_lemmas.specs.Lists.{changed}
 use Rattle.sctp_chunks.specs.declared.chunk.chunk_payload_data.ChunkPayloadData.{ChunkPayloadData}
 use Rattle.sctp_reassembly.specs.reassembly_queue.ReassemblyQueue.{ReassemblyState, is_too_large}
 use Rattle.sctp_model.specs.World.{World, StreamRecord, Data}
@@ -10,8 +10,8 @@ use Rattle.sctp_model.specs.Receiver.{is_new, fits}
 use Rattle.sctp_model.specs.Changes.{slot_received}
 use Rattle.sctp_model.specs.Contents.{chunk_at}
 use Rattle.sctp_model.specs.Queues.{filter_of}
-use Rattle.sctp_model.specs.Sound.{ComesSound}
-use Rattle.sctp_ties.specs.Holds.{reassembly_of}
+use Rattle.sctp_model.specs.Valid.{ComesValid}
+use Rattle.sctp_refinement.specs.Holds.{reassembly_of}
 use Rattle.sctp_transfer.specs.declared.receiver.arrival.Arrival.{Arrival}
 use Rattle.sctp_transfer.specs.declared.receiver.arrival.Arrival.TheVariants.{New, Repeat}
 use Rattle.sctp_transfer.specs.Receiver.{filter_of as held_filter}
@@ -35,9 +35,9 @@ pub record IsReceiver (w : World) (x : Sides) : Type 0 where
   pub queues : (k : ℕ) (d : OpenStream) → k < length x.streams → HoldsQueue w (slice_index_or x.streams k d)
   pub apart : IsApart (stream_numbers x.streams)
 
--- a chunk comes, that of the slot at a place: the record is sound, the stream is open, and no message becomes too long with it
+-- a chunk comes, that of the slot at a place: the record is valid, the stream is open, and no message becomes too long with it
 pub record Comes (w : World) (p : ℕ) (c : ChunkPayloadData) : Type 0 where
-  pub sound : ComesSound w p
+  pub valid : ComesValid w p
   pub alive : (message_at w (message_of w p)).expired ≡ false
   pub known : (r : StreamRecord) × (stream_at w (message_at w (message_of w p)).stream ≡ Some r)
   pub chunk : c ≡ chunk_at w p
@@ -52,7 +52,7 @@ AllCome w (p ∷ ps) [] = ⊥
 
 -- the number of the message of the slot at a place
 abbrev pub number_at : List Slot → ℕ → ℕ
-number_at ss p = (slice_index_or ss p (record { message = 0; fragment = 0; is_end_mark = false; arrived = false; acknowledged = false })).message
+number_at ss p = (slice_index_or ss p (record { message = 0; fragment = 0; is_terminal_chunk = false; arrived = false; acknowledged = false })).message
 
 abbrev pub with_arrival : Slot → Slot
 with_arrival x = record x { arrived = true }

@@ -33,7 +33,7 @@ progress_of m = (m.sent, m.index)
 -- a slot
 abbrev pub slot_record : Slot → W.Slot
 slot_record x =
-    record { message = x.message; fragment = x.fragment; is_end_mark = x.is_end_mark; arrived = x.arrived; acknowledged = x.acknowledged }
+    record { message = x.message; fragment = x.fragment; is_terminal_chunk = x.is_terminal_chunk; arrived = x.arrived; acknowledged = x.acknowledged }
 
 abbrev pub ends_of : GapAckBlock → ℕ × ℕ
 ends_of b = (b.start, b.end)

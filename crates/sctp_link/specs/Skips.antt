@@ -1,6 +1,6 @@
 -- What a skip names on a stream of a link (RFC 3758 3.6).
 use Rattle.std.specs.Prelude.{ℕ, ◌+◌, ◌-◌, ◌%◌, ◌^◌, min, max, Bool, ◌&&◌, not, ◌==◌, if◌then◌else◌, List, map, slice_index_or}
-use Rattle.sctp_lists.specs.Kept.{passing}
+use Rattle.sctp_list_lemmas.specs.Kept.{passing}
 use Rattle.sctp_chunks.specs.declared.chunk.chunk_forward_tsn.ChunkForwardTsnStream.{ChunkForwardTsnStream}
 use Rattle.sctp_chunks.specs.ForwardTsn.{ForwardTsn}
 use Rattle.sctp_model.specs.World as W
@@ -12,7 +12,7 @@ use Rattle.sctp_halves.specs.Streams.{OpenStream, with_named}
 use Rattle.sctp_link.specs.declared.skipped.Named.{Named}
 use Rattle.sctp_link.specs.declared.record.Message.{Message}
 use Rattle.sctp_link.specs.Records.{message_record, progress_of}
-use Rattle.sctp_link.specs.Texts.{name_with}
+use Rattle.sctp_link.specs.Encodings.{name_with}
 
 -- message n
 abbrev pub message_in : List Message → ℕ → W.Message

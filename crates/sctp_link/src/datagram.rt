@@ -7,11 +7,11 @@ ghost use Rattle.sctp_chunks.specs.PayloadData.{Data, data_of};
 ghost use Rattle.sctp_chunks.specs.SelectiveAck.{Sack, sack_of};
 ghost use Rattle.sctp_chunks.specs.ForwardTsn.{ForwardTsn, forward_tsn_of};
 ghost use Rattle.sctp_chunks.specs.ChunkSet.{fresh};
-ghost use Rattle.sctp_chunks.specs.Wire.{Wire, data_chunk, sack_chunk, forward_tsn_chunk, HasText};
+ghost use Rattle.sctp_chunks.specs.Wire.{Wire, data_chunk, sack_chunk, forward_tsn_chunk, HasEncoding};
 ghost use Rattle.sctp_chunks.specs.Fits.{Canonical};
 ghost use Rattle.sctp_chunks.specs.Kind.{wire_of, IsFreshKind};
-ghost use Rattle.sctp_packets.specs.Packet.{ReadsPacket, packet_text};
-ghost use Rattle.sctp_link.specs.Texts.{packet_with};
+ghost use Rattle.sctp_packets.specs.Packet.{ReadsPacket, packet_encoding};
+ghost use Rattle.sctp_link.specs.Encodings.{packet_with};
 
 use bytes::Bytes;
 use sctp_base::error::{Error, Result};
@@ -28,12 +28,12 @@ const PORT: u16 = 5000;
 const VERIFICATION_TAG: u32 = 1;
 
 /// Writes the datagram of a chunk. Its bytes read back. Refuses only for memory.
-/// Precondition: the chunk has a text, which reads back.
+/// Precondition: the chunk has an encoding, which reads back.
 pub fn write_datagram<C: Checksum>(alloc: Global, chunk: ChunkKind, checksum: &C) -> Result<Bytes>
-    requires text { HasText (wire_of chunk) }
+    requires encoding { HasEncoding (wire_of chunk) }
     requires canonical { Canonical (wire_of chunk) }
-    ensures text { IfOk result (λ b. b
-        ≡ packet_text (C.sum checksum.now) (packet_with (wire_of chunk ∷ []))) }
+    ensures encoding { IfOk result (λ b. b
+        ≡ packet_encoding (C.sum checksum.now) (packet_with (wire_of chunk ∷ []))) }
     ensures reads { IfOk result
         (λ b. ReadsPacket (C.sum checksum.now) b (packet_with (wire_of chunk ∷ []))) }
     ensures memory { IsOkUnless result ErrOutOfMemory }
@@ -44,16 +44,16 @@ pub fn write_datagram<C: Checksum>(alloc: Global, chunk: ChunkKind, checksum: &C
 }
 
 /// Writes the datagram of some chunks. Its bytes read back. Refuses only for memory.
-/// Precondition: each chunk has a text, which reads back.
+/// Precondition: each chunk has an encoding, which reads back.
 pub fn write_chunks<C: Checksum>(
     alloc: Global,
     chunks: Vec<ChunkKind>,
     checksum: &C,
 ) -> Result<Bytes>
-    requires text { AllByRecursion HasText (map wire_of chunks.items) }
+    requires encoding { AllByRecursion HasEncoding (map wire_of chunks.items) }
     requires canonical { AllByRecursion Canonical (map wire_of chunks.items) }
-    ensures text { IfOk result (λ b. b
-        ≡ packet_text (C.sum checksum.now) (packet_with (map wire_of chunks.items))) }
+    ensures encoding { IfOk result (λ b. b
+        ≡ packet_encoding (C.sum checksum.now) (packet_with (map wire_of chunks.items))) }
     ensures reads { IfOk result
         (λ b. ReadsPacket (C.sum checksum.now) b (packet_with (map wire_of chunks.items))) }
     ensures memory { IsOkUnless result ErrOutOfMemory }

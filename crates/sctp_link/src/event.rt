@@ -36,7 +36,7 @@ pub enum Reply {
         stream: u16,
         bytes: u64,
     },
-    /// The stream of the message that was given up, and how many bytes left.
+    /// The stream of the message that was abandoned, and how many bytes left.
     Released {
         stream: u16,
         bytes: u64,

@@ -73,7 +73,7 @@ impl<C: Checksum + Drop> Link<C> {
     ghost use Rattle.sctp_model.specs.declared.event.Event.TheVariants as E;
     ghost use Rattle.sctp_link.specs.Fields.{setup_of};
     ghost use Rattle.sctp_link.specs.Replies.{reply_of, answer_of};
-    ghost use Rattle.sctp_link.specs.Texts.{datagram_text};
+    ghost use Rattle.sctp_link.specs.Encodings.{datagram_encoding};
 
     /// A link with nothing opened yet, of which each datagram has one DATA chunk. It takes no memory.
     /// It cuts messages into fragments of `fragment_size` bytes, and takes messages
@@ -207,7 +207,7 @@ impl<C: Checksum + Drop> Link<C> {
     /// The bytes of datagram k, None where it was not made.
     pub fn datagram(&self, k: u64) -> Option<&Bytes>
         ensures { MatchOption result (datagram self.now.world k ≡ None)
-            (λ b. (c : Contents) × (datagram self.now.world k ≡ Some c) × (b.now ≡ datagram_text (C.sum self.now.checksum) c)) }
+            (λ b. (c : Contents) × (datagram self.now.world k ≡ Some c) × (b.now ≡ datagram_encoding (C.sum self.now.checksum) c)) }
     {
         if k >= self.network.len() as u64 {
             return None;

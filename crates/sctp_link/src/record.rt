@@ -28,7 +28,7 @@ pub struct Message {
     pub sent: u64,
 }
 
-/// A TSN that was given out to a fragment of a message, or to the end mark of an abandoned one (RFC 4960 3.3.1).
+/// A TSN that was given out to a fragment of a message, or to the terminal chunk of an abandoned one (RFC 4960 3.3.1).
 /// The first has place 0.
 #[derive(Clone, Copy, Drop)]
 pub struct Slot {
@@ -36,8 +36,8 @@ pub struct Slot {
     pub message: u64,
     /// The number of the fragment in its message, from 0.
     pub fragment: u64,
-    /// Whether it is an end mark, which has no fragment.
-    pub is_end_mark: bool,
+    /// Whether it is a terminal chunk, which has no fragment.
+    pub is_terminal_chunk: bool,
     pub arrived: bool,
     pub acknowledged: bool,
 }

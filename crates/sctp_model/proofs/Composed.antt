@@ -5,10 +5,10 @@ use Rattle.std.specs.List.{list_any, list_all}
 use Rattle.std.proofs.Math.Nat.{eq-or-lt_of_le}
 use Rattle.std.proofs.lemmas.Bool.{cases_lt}
 use Rattle.std.proofs.lemmas.Bool.Decides.{nat_tests}
-use Rattle.sctp_lists.specs.Kept.{kept, always, numbers_from, leading, passing}
-use Rattle.sctp_lists.specs.Lists.{pieces}
-use Rattle.sctp_lists.proofs.KeptLemmas.{kept-same, kept-none, map-kept-same, length-kept-lt}
-use Rattle.sctp_lists.proofs.More.{fails, not_both, both, and, same_test}
+use Rattle.sctp_list_lemmas.specs.Kept.{kept, always, numbers_from, leading, passing}
+use Rattle.sctp_list_lemmas.specs.Lists.{pieces}
+use Rattle.sctp_list_lemmas.proofs.Passing.{kept-same, kept-none, map-kept-same, length-kept-lt}
+use Rattle.sctp_list_lemmas.proofs.More.{fails, not_both, both, and, same_test}
 use Rattle.sctp_model.specs.World.{Setup, World}
 use Rattle.sctp_model.specs.Messages
 use Rattle.sctp_model.specs.Log
@@ -26,13 +26,13 @@ use Rattle.sctp_model.proofs.receiver.ReadLaws.{nothing_where_read, passing-kept
 use Rattle.sctp_model.proofs.sender.Written.{messages_are_writes}
 use Rattle.sctp_model.proofs.sender.Modes.{modes_are_kept}
 use Rattle.sctp_model.proofs.Lossless.{Lossless, alive-run, is_skip, no-skips, none-named, none-skipped}
-use Rattle.sctp_lists.proofs.Cases.{same-yes, same-is, negated, or-left, or-right, or-split, and-none}
-use Rattle.sctp_lists.proofs.Getting.{length-mapped}
-use Rattle.sctp_lists.proofs.Rows.{numbered}
-use Rattle.sctp_lists.proofs.Alls.{all-kept, all-same}
-use Rattle.sctp_lists.proofs.Tests.{any-out, any-in, all-out, all-more, among-kept, any-append}
+use Rattle.sctp_list_lemmas.proofs.Cases.{same-yes, same-is, negated, or-left, or-right, or-split, and-none}
+use Rattle.sctp_list_lemmas.proofs.Getting.{length-mapped}
+use Rattle.sctp_list_lemmas.proofs.Rows.{numbered}
+use Rattle.sctp_list_lemmas.proofs.Alls.{all-kept, all-same}
+use Rattle.sctp_list_lemmas.proofs.Tests.{any-out, any-in, all-out, all-more, among-kept, any-append}
 
--- ## Whole messages
+-- ## Complete messages
 
 arrived-more : (c : LogEntry) (log : List LogEntry) (p : ℕ) → arrived_new log p ≡ true → arrived_new (c ∷ log) p ≡ true
 arrived-more (SlotReceived q) log p e = or-left (arrived_new log p) ((q == p) && not (Log.is_seen log p)) e

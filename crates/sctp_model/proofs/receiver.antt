@@ -14,5 +14,5 @@ pub mod Shown
 pub mod SoFar
 pub mod SoFarSteps
 pub mod ReadLaws
-pub mod SoundRun
+pub mod ValidRun
 pub mod Counted

@@ -16,4 +16,4 @@ pub mod Limits
 pub mod Written
 pub mod Modes
 pub mod Lifetimes
-pub mod Lapses
+pub mod Deadlines

@@ -1,14 +1,14 @@
 -- Bytes: each written one is pending, in flight or released. And the counters of a stream.
 use Rattle.std.specs.Prelude.{ℕ, ◌+◌, ◌-◌, ◌^◌, min, Bool, true, false, ◌&&◌, ◌||◌, not, ◌==◌, if◌then◌else◌, length, Option, Some, None}
-use Rattle.sctp_lists.specs.Kept.{total_over, numbers_from}
+use Rattle.sctp_list_lemmas.specs.Kept.{total_over, numbers_from}
 use Rattle.sctp_chunks.specs.declared.chunk.chunk_payload_data.PayloadProtocolIdentifier.{PayloadProtocolIdentifier}
 use Rattle.sctp_chunks.specs.declared.chunk.chunk_payload_data.PayloadProtocolIdentifier.TheVariants as P
 use Rattle.sctp_model.specs.World.{World}
 use Rattle.sctp_model.specs.Messages.{message_at, slot_at, messages_where, slots_where, has_fragment, sent_of, fragment_count, fragment_at, is_open}
 
 -- message n expired or was abandoned
-abbrev pub is_given_up : World → ℕ → Bool
-is_given_up w n = (message_at w n).expired || (message_at w n).abandoned
+abbrev pub is_expired_or_abandoned : World → ℕ → Bool
+is_expired_or_abandoned w n = (message_at w n).expired || (message_at w n).abandoned
 
 -- how many bytes of message n were written
 abbrev pub written_bytes : World → ℕ → ℕ
@@ -32,15 +32,15 @@ acknowledged_bytes w n = total_over (slot_bytes w n) (slots_where w (λ place. h
 
 -- the bytes of message n that wait for a slot
 abbrev pub pending_bytes : World → ℕ → ℕ
-pending_bytes w n = if is_given_up w n then 0 else unsent_bytes w n
+pending_bytes w n = if is_expired_or_abandoned w n then 0 else unsent_bytes w n
 
 -- the bytes of message n that are in flight
 abbrev pub in_flight_bytes : World → ℕ → ℕ
-in_flight_bytes w n = if is_given_up w n then 0 else unacknowledged_bytes w n
+in_flight_bytes w n = if is_expired_or_abandoned w n then 0 else unacknowledged_bytes w n
 
--- the bytes of message n that were released: all where it was given up, else those acknowledged
+-- the bytes of message n that were released: all where it was abandoned, else those acknowledged
 abbrev pub released_bytes : World → ℕ → ℕ
-released_bytes w n = if is_given_up w n then written_bytes w n else acknowledged_bytes w n
+released_bytes w n = if is_expired_or_abandoned w n then written_bytes w n else acknowledged_bytes w n
 
 -- the sum over all messages
 abbrev pub in_all : World → (ℕ → ℕ) → ℕ

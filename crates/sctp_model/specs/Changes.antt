@@ -1,8 +1,8 @@
 -- What an accepted event adds to the record, one definition for each event.
 use Rattle.std.specs.Prelude.{ℕ, zero, suc, ◌+◌, ◌-◌, ◌%◌, max, Bool, true, false, ◌&&◌, ◌||◌, not, ◌==◌, nat_le, if◌then◌else◌, List, [], ◌∷◌, ◌++◌, length, drop, map, fold, Option, Some, None, is_none}
 use Rattle.std.specs.List.{list_all}
-use Rattle.sctp_lists.specs.Kept.{passing, numbers_from}
-use Rattle.sctp_lists.specs.Lists.{changed, each_numbered}
+use Rattle.sctp_list_lemmas.specs.Kept.{passing, numbers_from}
+use Rattle.sctp_list_lemmas.specs.Lists.{changed, each_numbered}
 use Rattle.sctp_chunks.specs.declared.chunk.chunk_payload_data.ReliabilityType.{ReliabilityType}
 use Rattle.sctp_chunks.specs.declared.chunk.chunk_payload_data.PayloadProtocolIdentifier.{PayloadProtocolIdentifier}
 use Rattle.sctp_model.specs.World.{StreamRecord, Message, Slot, Report, Datagram, Data, Forward, Sack, World}
@@ -68,10 +68,10 @@ started w now = record w { messages = map (start_at now) w.messages }
 
 -- ## Slots and datagrams
 
--- one more slot: for the next fragment of message n, or for its end mark
+-- one more slot: for the next fragment of message n, or for its terminal chunk
 abbrev pub with_slot : World → ℕ → Bool → World
-with_slot w n is_end_mark =
-    record w { slots = w.slots ++ record { message = n; fragment = Messages.sent_of w n; is_end_mark = is_end_mark; arrived = false; acknowledged = false } ∷ [] }
+with_slot w n is_terminal_chunk =
+    record w { slots = w.slots ++ record { message = n; fragment = Messages.sent_of w n; is_terminal_chunk = is_terminal_chunk; arrived = false; acknowledged = false } ∷ [] }
 
 -- the next fragment of message n takes a slot, where there is a message
 abbrev pub fragment_of_sent : World → Option ℕ → World
@@ -152,39 +152,39 @@ front_if w p (Some n) = if p n then Some n else None
 
 -- the message that an Expire removes: the front, where it is unsent and its lifetime is over
 abbrev pub expiring : World → ℕ → Option ℕ
-expiring w now = front_if w (λ n. Messages.is_unsent w n && Messages.is_lapsed w now n) (Messages.front w)
+expiring w now = front_if w (λ n. Messages.is_unsent w n && Messages.is_past_deadline w now n) (Messages.front w)
 
 -- the message that expires is removed
 abbrev pub expired : World → Option ℕ → World
 expired w None = w
 expired w (Some n) = message_changed w n mark_expired
 
--- an abandoned message that is half-sent takes one end mark
+-- an abandoned message that is partially sent takes one terminal chunk
 abbrev pub abandoned : World → ℕ → World
-abandoned w n = message_changed (if Messages.is_half_sent w n then with_slot w n true else w) n mark_abandoned
+abandoned w n = message_changed (if Messages.is_partially_sent w n then with_slot w n true else w) n mark_abandoned
 
--- the message that a Tail abandons: the front, where it is half-sent and its lifetime is over
+-- the message that a Tail abandons: the front, where it is partially sent and its lifetime is over
 abbrev pub tailing : World → ℕ → Option ℕ
-tailing w now = front_if w (λ n. Messages.is_half_sent w n && Messages.is_lapsed w now n) (Messages.front w)
+tailing w now = front_if w (λ n. Messages.is_partially_sent w n && Messages.is_past_deadline w now n) (Messages.front w)
 
 -- the message that a Tail abandons, where there is one
 abbrev pub tail_abandoned : World → Option ℕ → World
 tail_abandoned w None = w
 tail_abandoned w (Some n) = abandoned w n
 
--- a slot in flight is late: its message's lifetime is over, it was not abandoned, and the slot is not acknowledged or the message is half-sent
+-- a slot in flight is late: its message's lifetime is over, it was not abandoned, and the slot is not acknowledged or the message is partially sent
 abbrev pub is_late : World → ℕ → ℕ → Bool
 is_late w now place =
-    Messages.is_in_flight w place && (Messages.is_lapsed w now (Messages.message_of w place) && (not (Messages.message_at w (Messages.message_of w place)).abandoned && (not (Messages.slot_at w place).acknowledged || Messages.is_half_sent w (Messages.message_of w place))))
+    Messages.is_in_flight w place && (Messages.is_past_deadline w now (Messages.message_of w place) && (not (Messages.message_at w (Messages.message_of w place)).abandoned && (not (Messages.slot_at w place).acknowledged || Messages.is_partially_sent w (Messages.message_of w place))))
 
 -- the late slots, in order
 abbrev pub late_slots : World → ℕ → List ℕ
 late_slots w now = Messages.slots_where w (is_late w now)
 
--- the messages of the late slots, the half-sent one first
+-- the messages of the late slots, the partially sent one first
 abbrev pub late_messages : World → ℕ → List ℕ
 late_messages w now =
-    passing (Messages.is_half_sent w) (map (Messages.message_of w) (late_slots w now)) ++ map (Messages.message_of w) (late_slots w now)
+    passing (Messages.is_partially_sent w) (map (Messages.message_of w) (late_slots w now)) ++ map (Messages.message_of w) (late_slots w now)
 
 -- each message of a late slot is abandoned
 abbrev pub late_abandoned : World → ℕ → World
@@ -197,7 +197,7 @@ abbrev pub becomes_whole : World → ℕ → Bool
 becomes_whole w n =
     not (Messages.message_at w n).ordered && (Receiver.has_arrived w n && list_all (λ place. nat_le w.skipped place) (Messages.slots_of w n))
 
--- a stream with one more whole unordered message
+-- a stream with one more complete unordered message
 abbrev pub with_whole : ℕ → StreamRecord → StreamRecord
 with_whole n r = record r { whole = r.whole ++ n ∷ [] }
 
@@ -249,7 +249,7 @@ abbrev pub sack_taken : World → Option Datagram → World
 sack_taken w (Some (Sack r)) = record w { slots = each_numbered (acknowledged_by r) 0 w.slots; taken = max w.taken r.cumulative }
 sack_taken w _ = w
 
--- a stream without its first whole unordered message, where it has one
+-- a stream without its first complete unordered message, where it has one
 abbrev pub without_first : StreamRecord → StreamRecord
 without_first r = record r { whole = drop 1 r.whole }
 

@@ -1,7 +1,7 @@
 -- What holds of every history. Each law is the contract of an empty public function.
 use Rattle.std.specs.Prelude.{◌≡◌, ℕ, ◌+◌, ◌-◌, ◌*◌, ◌/◌, ◌^◌, ◌<◌, ◌≤◌, ◌↔◌, min, Bool, true, false, ◌&&◌, ◌||◌, not, ◌==◌, nat_lt, nat_le, if◌then◌else◌, List, [], ◌∷◌, ◌++◌, length, take, map, slice_get, Option, Some, None, option_to_list, Result, Ok}
 use Rattle.std.specs.List.{list_any, list_all}
-use Rattle.sctp_lists.specs.Kept.{kept, leading, passing, numbers_from, first_of, runs_of}
+use Rattle.sctp_list_lemmas.specs.Kept.{kept, leading, passing, numbers_from, first_of, runs_of}
 use Rattle.sctp_model.specs.declared.event.Event.{Event}
 use Rattle.sctp_model.specs.declared.event.Event.TheVariants as E
 use Rattle.sctp_chunks.specs.declared.chunk.chunk_payload_data.ChunkPayloadData.{ChunkPayloadData}
@@ -16,7 +16,7 @@ use Rattle.sctp_model.specs.Changes.{late_slots}
 use Rattle.sctp_model.specs.Steps.{History, world_of, IsRun, refusal_of, reply_to, after, Answers}
 use Rattle.sctp_model.specs.Contents.{DataContents, SackContents, cumulative_tsn, datagram}
 use Rattle.sctp_model.specs.Queues.{pending_of}
-use Rattle.sctp_model.specs.Sound.{RecordIsSound, SlotsComeSound, SkipsComeSound}
+use Rattle.sctp_model.specs.Valid.{RecordIsValid, SlotsComeValid, SkipsComeValid}
 use Rattle.sctp_model.specs.Log
 
 -- ## Every history
@@ -107,25 +107,25 @@ DatagramsKeepLimit = OnEveryRun WithinLimit × OnEveryRun FilledToLimit
 
 -- ## Slots
 
--- the end marks of message n
-abbrev pub end_marks_of : World → ℕ → List ℕ
-end_marks_of w n = Messages.slots_where w (λ place. Messages.belongs_to w n place && (Messages.slot_at w place).is_end_mark)
+-- the terminal chunks of message n
+abbrev pub terminal_chunks_of : World → ℕ → List ℕ
+terminal_chunks_of w n = Messages.slots_where w (λ place. Messages.belongs_to w n place && (Messages.slot_at w place).is_terminal_chunk)
 
--- the slots of a message have its fragments from the first on, each once; an abandoned one that was not wholly sent has one end mark, and no other has one
+-- the slots of a message have its fragments from the first on, each once; an abandoned one that was not wholly sent has one terminal chunk, and no other has one
 abbrev pub SlotsInOrder : Setup → History → World → List Log.LogEntry → Type 0
 SlotsInOrder setup h w log =
     (n : ℕ) → n < length w.messages →
     (map (λ place. (Messages.slot_at w place).fragment) (Messages.slots_of w n) ≡ numbers_from 0 (Messages.sent_of w n))
-    × ((Messages.sent_of w n ≤ Messages.fragment_count w n) × (length (end_marks_of w n) ≡ (if (Messages.message_at w n).abandoned && nat_lt (Messages.sent_of w n) (Messages.fragment_count w n) then 1 else 0)))
+    × ((Messages.sent_of w n ≤ Messages.fragment_count w n) × (length (terminal_chunks_of w n) ≡ (if (Messages.message_at w n).abandoned && nat_lt (Messages.sent_of w n) (Messages.fragment_count w n) then 1 else 0)))
 
 -- its slots follow one another
 abbrev pub SlotsFollow : Setup → History → World → List Log.LogEntry → Type 0
 SlotsFollow setup h w log =
     (n place : ℕ) → first_of (Messages.slots_of w n) ≡ Some place → Messages.slots_of w n ≡ numbers_from place (Messages.sent_of w n)
 
--- at most one message is half-sent
-abbrev pub OneHalfSent : Setup → History → World → List Log.LogEntry → Type 0
-OneHalfSent setup h w log = length (Messages.messages_where w (Messages.is_half_sent w)) ≤ 1
+-- at most one message is partially sent
+abbrev pub OnePartiallySent : Setup → History → World → List Log.LogEntry → Type 0
+OnePartiallySent setup h w log = length (Messages.messages_where w (Messages.is_partially_sent w)) ≤ 1
 
 -- the ordered messages of a stream are sent in the order of their indexes
 abbrev pub SentInTurn : Setup → History → World → List Log.LogEntry → Type 0
@@ -142,10 +142,10 @@ abbrev pub IndexesLeaveNoGap : Setup → History → World → List Log.LogEntry
 IndexesLeaveNoGap setup h w log =
     (n : ℕ) → (Messages.message_at w n).ordered ≡ true → 0 < Messages.sent_of w n → Messages.index_of w n ≡ length (sent_before w n)
 
--- no end mark is in a datagram
-abbrev pub NoEndMarkIsSent : Setup → History → World → List Log.LogEntry → Type 0
-NoEndMarkIsSent setup h w log =
-    (k : ℕ) (slots : List ℕ) → slice_get w.network k ≡ Some (Data slots) → list_any (λ place. (Messages.slot_at w place).is_end_mark) slots ≡ false
+-- no terminal chunk is in a datagram
+abbrev pub NoTerminalChunkIsSent : Setup → History → World → List Log.LogEntry → Type 0
+NoTerminalChunkIsSent setup h w log =
+    (k : ℕ) (slots : List ℕ) → slice_get w.network k ≡ Some (Data slots) → list_any (λ place. (Messages.slot_at w place).is_terminal_chunk) slots ≡ false
 
 -- what a datagram says never changes
 abbrev pub DatagramsStay : Setup → History → World → List Log.LogEntry → Type 0
@@ -153,9 +153,9 @@ DatagramsStay setup h w log =
     (event : Event) (k : ℕ) → refusal_of w event ≡ None → k < length w.network → datagram (after w event) k ≡ datagram w k
 
 -- what holds of the slots and the datagrams
-abbrev pub SlotsAreSound : Type 0
-SlotsAreSound =
-    OnEveryRun SlotsInOrder × (OnEveryRun SlotsFollow × (OnEveryRun OneHalfSent × (OnEveryRun SentInTurn × (OnEveryRun IndexesLeaveNoGap × (OnEveryRun NoEndMarkIsSent × OnEveryRun DatagramsStay)))))
+abbrev pub SlotsAreValid : Type 0
+SlotsAreValid =
+    OnEveryRun SlotsInOrder × (OnEveryRun SlotsFollow × (OnEveryRun OnePartiallySent × (OnEveryRun SentInTurn × (OnEveryRun IndexesLeaveNoGap × (OnEveryRun NoTerminalChunkIsSent × OnEveryRun DatagramsStay)))))
 
 -- a datagram of the record as events and replies tell of it
 abbrev pub kind_of : Datagram → Log.Made
@@ -253,7 +253,7 @@ loses_nothing (E.Abandon tsn) = false
 loses_nothing (E.Skip upto messages) = false
 loses_nothing event = true
 
--- without expiry, abandonment and skips the run is the longest run of whole messages from the first on
+-- without expiry, abandonment and skips the run is the longest run of complete messages from the first on
 abbrev pub ReadsBeginWholeRun : Setup → History → World → List Log.LogEntry → Type 0
 ReadsBeginWholeRun setup h w log =
     (s : ℕ) → list_all (λ entry. loses_nothing entry.0) h ≡ true → IsPrefixOf (ordered_reads setup h s) (leading (Log.is_whole_by w log) (Messages.ordered_on w s))
@@ -262,7 +262,7 @@ ReadsBeginWholeRun setup h w log =
 abbrev pub OrderedReads : Type 0
 OrderedReads = OnEveryRun MessagesAreWrites × (OnEveryRun ModesAreKept × (OnEveryRun ReadsShowMessages × (OnEveryRun ReadsBeginRun × OnEveryRun ReadsBeginWholeRun)))
 
--- the unordered reads are distinct whole messages, in the order in which they became whole
+-- the unordered reads are distinct complete messages, in the order in which they became whole
 abbrev pub ReadsBeginWhole : Setup → History → World → List Log.LogEntry → Type 0
 ReadsBeginWhole setup h w log = (s : ℕ) → IsPrefixOf (unordered_reads setup h s) (Log.whole_by w log s)
 
@@ -270,7 +270,7 @@ ReadsBeginWhole setup h w log = (s : ℕ) → IsPrefixOf (unordered_reads setup 
 abbrev pub ReadsDiffer : Setup → History → World → List Log.LogEntry → Type 0
 ReadsDiffer setup h w log = (s : ℕ) → AllDifferent (Log.numbers_read setup h s)
 
--- while a whole unordered message is unread, it is read before any ordered one
+-- while a complete unordered message is unread, it is read before any ordered one
 abbrev pub UnorderedFirst : Setup → History → World → List Log.LogEntry → Type 0
 UnorderedFirst setup h w log =
     (s n : ℕ) → slice_get (Log.whole_by w log s) (length (unordered_reads setup h s)) ≡ Some n → Receiver.next_read w s ≡ Some n
@@ -279,7 +279,7 @@ UnorderedFirst setup h w log =
 abbrev pub UnorderedReads : Type 0
 UnorderedReads = OnEveryRun ReadsBeginWhole × (OnEveryRun ReadsDiffer × OnEveryRun UnorderedFirst)
 
--- Nothing exactly where the run is exhausted and each whole unordered message was read
+-- Nothing exactly where the run is exhausted and each complete unordered message was read
 abbrev pub NothingWhereRead : Setup → History → World → List Log.LogEntry → Type 0
 NothingWhereRead setup h w log =
     (s : ℕ) → (reply_to w (E.Read s) ≡ R.Nothing) ↔ ((ordered_reads setup h s ≡ Log.run_by w log s) × (unordered_reads setup h s ≡ Log.whole_by w log s))
@@ -341,9 +341,9 @@ abbrev pub StartsOnce : Setup → History → World → List Log.LogEntry → Ty
 StartsOnce setup h w log = (n : ℕ) → n < length w.messages → (Messages.message_at w n).started ≡ Log.started_in h n
 
 -- a lifetime is over in the record exactly where the write, its mode, its start and now say so
-abbrev pub LapsesByEvents : Setup → History → World → List Log.LogEntry → Type 0
-LapsesByEvents setup h w log =
-    (now n : ℕ) → Messages.is_lapsed w now n ≡ Log.has_lapsed h now n
+abbrev pub DeadlinesByEvents : Setup → History → World → List Log.LogEntry → Type 0
+DeadlinesByEvents setup h w log =
+    (now n : ℕ) → Messages.is_past_deadline w now n ≡ Log.is_past_deadline_by_events h now n
 
 -- what is told of a message, where there is one, and else Idle
 abbrev pub told_of : (ℕ → Reply) → Option ℕ → Reply
@@ -377,50 +377,50 @@ abbrev pub released_with : World → ℕ → ℕ → Reply
 released_with w now n =
     R.Released (Messages.message_at w n).stream (Amounts.growth w (after w (E.Tail now)))
 
--- the front, where it has lapsed and this many of its fragments were sent
-abbrev pub lapsed_front : History → World → ℕ → (ℕ → Bool) → Option ℕ
-lapsed_front h w now sent =
-    first_of (passing (λ n. Log.has_lapsed h now n && sent (Messages.sent_of w n))
+-- the front, where it is past its deadline and this many of its fragments were sent
+abbrev pub front_past_deadline : History → World → ℕ → (ℕ → Bool) → Option ℕ
+front_past_deadline h w now sent =
+    first_of (passing (λ n. Log.is_past_deadline_by_events h now n && sent (Messages.sent_of w n))
     (option_to_list (Messages.front w)))
 
--- the front, where it has lapsed and nothing of it was sent
-abbrev pub lapsed_unsent : History → World → ℕ → Option ℕ
-lapsed_unsent h w now = lapsed_front h w now (λ sent. sent == 0)
+-- the front, where it is past its deadline and nothing of it was sent
+abbrev pub unsent_past_deadline : History → World → ℕ → Option ℕ
+unsent_past_deadline h w now = front_past_deadline h w now (λ sent. sent == 0)
 
--- the front, where it has lapsed and some of it was sent
-abbrev pub lapsed_half_sent : History → World → ℕ → Option ℕ
-lapsed_half_sent h w now = lapsed_front h w now (λ sent. nat_lt 0 sent)
+-- the front, where it is past its deadline and some of it was sent
+abbrev pub partially_sent_past_deadline : History → World → ℕ → Option ℕ
+partially_sent_past_deadline h w now = front_past_deadline h w now (λ sent. nat_lt 0 sent)
 
--- Expire removes the front where it has lapsed and nothing of it was sent, and no other message;
+-- Expire removes the front where it is past its deadline and nothing of it was sent, and no other message;
 -- it answers Expired exactly there, and else Idle
-abbrev pub ExpiresLapsed : Setup → History → World → List Log.LogEntry → Type 0
-ExpiresLapsed setup h w log =
+abbrev pub ExpiresPastDeadline : Setup → History → World → List Log.LogEntry → Type 0
+ExpiresPastDeadline setup h w log =
     (now : ℕ) →
-    (reply_to w (E.Expire now) ≡ told_of (expired_with w now) (lapsed_unsent h w now))
-    × AddsJust w (E.Expire now) has_expired (is_this (lapsed_unsent h w now))
+    (reply_to w (E.Expire now) ≡ told_of (expired_with w now) (unsent_past_deadline h w now))
+    × AddsJust w (E.Expire now) has_expired (is_this (unsent_past_deadline h w now))
 
--- Tail abandons the front where it has lapsed and some of it was sent, and no other message;
+-- Tail abandons the front where it is past its deadline and some of it was sent, and no other message;
 -- it answers Released exactly there, and else Idle
-abbrev pub TailAbandonsLapsed : Setup → History → World → List Log.LogEntry → Type 0
-TailAbandonsLapsed setup h w log =
+abbrev pub TailAbandonsPastDeadline : Setup → History → World → List Log.LogEntry → Type 0
+TailAbandonsPastDeadline setup h w log =
     (now : ℕ) →
-    (reply_to w (E.Tail now) ≡ told_of (released_with w now) (lapsed_half_sent h w now))
-    × AddsJust w (E.Tail now) is_abandoned (is_this (lapsed_half_sent h w now))
+    (reply_to w (E.Tail now) ≡ told_of (released_with w now) (partially_sent_past_deadline h w now))
+    × AddsJust w (E.Tail now) is_abandoned (is_this (partially_sent_past_deadline h w now))
 
 -- the slot at this place, of message n, is late by the events: no taken SACK acknowledged it
--- cumulatively, the message has lapsed and was not abandoned, and either no taken SACK reports
+-- cumulatively, the message is past its deadline and was not abandoned, and either no taken SACK reports
 -- the slot or fragments of the message still wait
 abbrev pub is_late_in : Setup → History → World → ℕ → ℕ → ℕ → Bool
 is_late_in setup h w now n place =
     nat_le (Log.taken_in setup h) place
-    && (Log.has_lapsed h now n
+    && (Log.is_past_deadline_by_events h now n
     && (not (is_abandoned w n)
     && (not (Log.is_acknowledged_in setup h place)
     || nat_lt (Messages.sent_of w n) (Messages.fragment_count w n))))
 
 -- the late slots, by the events
-abbrev pub lapsed_slots : Setup → History → World → ℕ → List ℕ
-lapsed_slots setup h w now =
+abbrev pub late_slots_by_events : Setup → History → World → ℕ → List ℕ
+late_slots_by_events setup h w now =
     Messages.slots_where w (λ place. is_late_in setup h w now (Messages.message_of w place) place)
 
 -- message n has one of these slots
@@ -429,12 +429,12 @@ has_one_of w slots n = list_any (λ place. Messages.message_of w place == n) slo
 
 -- Late answers how many slots are late by the events, and the bytes released; it abandons the
 -- messages of those slots, and no others
-abbrev pub LateListsLapsed : Setup → History → World → List Log.LogEntry → Type 0
-LateListsLapsed setup h w log =
+abbrev pub LateListsPastDeadline : Setup → History → World → List Log.LogEntry → Type 0
+LateListsPastDeadline setup h w log =
     (now : ℕ) →
     (reply_to w (E.Late now) ≡
-    R.Late (length (lapsed_slots setup h w now)) (Amounts.growth w (after w (E.Late now))))
-    × AddsJust w (E.Late now) is_abandoned (has_one_of w (lapsed_slots setup h w now))
+    R.Late (length (late_slots_by_events setup h w now)) (Amounts.growth w (after w (E.Late now))))
+    × AddsJust w (E.Late now) is_abandoned (has_one_of w (late_slots_by_events setup h w now))
 
 -- Late abandons the messages of the slots that it lists, and no others
 abbrev pub LateAbandonsListed : Setup → History → World → List Log.LogEntry → Type 0
@@ -442,14 +442,14 @@ LateAbandonsListed setup h w log =
     (now n : ℕ) → n < length w.messages →
     (Messages.message_at (after w (E.Late now)) n).abandoned ≡ ((Messages.message_at w n).abandoned || list_any (λ place. Messages.message_of w place == n) (late_slots w now))
 
--- lifetimes start once, messages lapse by the events, and Expire, Tail and Late go by that
+-- lifetimes start once, messages pass their deadlines by the events, and Expire, Tail and Late go by that
 abbrev pub LifetimesEnd : Type 0
 LifetimesEnd =
     OnEveryRun StartsOnce
-    × (OnEveryRun LapsesByEvents
-    × (OnEveryRun ExpiresLapsed
-    × (OnEveryRun TailAbandonsLapsed
-    × (OnEveryRun LateListsLapsed
+    × (OnEveryRun DeadlinesByEvents
+    × (OnEveryRun ExpiresPastDeadline
+    × (OnEveryRun TailAbandonsPastDeadline
+    × (OnEveryRun LateListsPastDeadline
     × OnEveryRun LateAbandonsListed))))
 
 -- the counters of a stream are the saturated sums over its writes and its reads
@@ -574,15 +574,15 @@ abbrev pub Headline : Type 0
 Headline =
     EachSendEmits × (OrderedReads × (UnorderedReads × (NothingWhenExhausted × (OnlyArrivedIsAcknowledged × BytesBalance))))
 
--- the record is sound in every history, and while datagrams come
-abbrev pub RecordsAreSound : Type 0
-RecordsAreSound =
-    OnEveryRun RecordIsSound × (OnEveryRun SlotsComeSound × OnEveryRun SkipsComeSound)
+-- the record is valid in every history, and while datagrams come
+abbrev pub RecordsAreValid : Type 0
+RecordsAreValid =
+    OnEveryRun RecordIsValid × (OnEveryRun SlotsComeValid × OnEveryRun SkipsComeValid)
 
--- beside the headline: slots, limits of datagrams, arrivals, lifetimes, counters, reads without loss, sound records
+-- beside the headline: slots, limits of datagrams, arrivals, lifetimes, counters, reads without loss, valid records
 abbrev pub Beside : Type 0
 Beside =
-    SlotsAreSound × (DatagramsKeepLimit × (ArrivalsAgree × (LifetimesEnd × (CountersCount × (Composition × RecordsAreSound)))))
+    SlotsAreValid × (DatagramsKeepLimit × (ArrivalsAgree × (LifetimesEnd × (CountersCount × (Composition × RecordsAreValid)))))
 
 -- where nothing expires, is abandoned or skipped: the ordered reads begin the longest whole run and what arrived settles the reads, with all that holds of every history
 abbrev pub ReliableDelivery : Type 0

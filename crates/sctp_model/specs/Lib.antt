@@ -10,4 +10,4 @@ pub mod Reply
 pub mod Steps
 pub mod Log
 pub mod Laws
-pub mod Sound
+pub mod Valid

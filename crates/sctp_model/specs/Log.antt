@@ -2,7 +2,7 @@
 -- No flag of the record is looked at. The newest entry stands first.
 use Rattle.std.specs.Prelude.{ℕ, ◌%◌, ◌^◌, ◌+◌, ◌-◌, ◌*◌, max, Bool, true, false, ◌&&◌, ◌||◌, not, ◌==◌, nat_lt, nat_le, if◌then◌else◌, List, [], ◌∷◌, ◌++◌, length, take, drop, map, slice_get, Option, Some, None, option_to_list}
 use Rattle.std.specs.List.{list_any, list_all}
-use Rattle.sctp_lists.specs.Kept.{unbroken, leading, passing, numbers_from, or_else}
+use Rattle.sctp_list_lemmas.specs.Kept.{unbroken, leading, passing, numbers_from, or_else}
 use Rattle.sctp_model.specs.declared.event.Event.{Event}
 use Rattle.sctp_model.specs.declared.event.Event.TheVariants as E
 use Rattle.sctp_model.specs.Reply.{Reply}
@@ -102,7 +102,7 @@ duplicates_in (SlotReceived p ∷ log) = duplicates_in log ++ (if is_seen log p 
 duplicates_in (SkipReceived upto messages ∷ log) = duplicates_in log
 duplicates_in (SackMade ∷ log) = []
 
--- ## Whole messages and the run
+-- ## Complete messages and the run
 
 -- at some moment each of these slots had arrived new and no skip that counted had covered one
 abbrev pub were_whole : List ℕ → List LogEntry → Bool
@@ -122,7 +122,7 @@ named_by w s (SkipReceived upto messages ∷ log) =
     if counts log upto then greatest (named_by w s log) (map (λ n. Messages.index_of w n + 1) (passing (Messages.is_ordered_on w s) messages)) else named_by w s log
 named_by w s (coming ∷ log) = named_by w s log
 
--- the whole ordered messages of a stream up to the last one named, then the unbroken whole run
+-- the complete ordered messages of a stream up to the last one named, then the unbroken whole run
 abbrev pub run_by : World → List LogEntry → ℕ → List ℕ
 run_by w log s =
     passing (is_whole_by w log) (take (named_by w s log) (Messages.ordered_on w s)) ++ leading (is_whole_by w log) (drop (named_by w s log) (Messages.ordered_on w s))
@@ -247,12 +247,12 @@ abbrev pub started_in : History → ℕ → Option ℕ
 started_in [] n = None
 started_in (entry ∷ older) n = or_else (started_in older n) (if nat_lt n (length (writes_in older)) then moment_of entry.0 else None)
 
--- a message in this mode with this payload type can lapse: a timed one (RFC 3758 4.1), but no
+-- a message in this mode with this payload type has a lifetime: a timed one (RFC 3758 4.1), but no
 -- DCEP message (RFC 8832 6)
-abbrev pub can_lapse : ReliabilityType → PayloadProtocolIdentifier → Bool
-can_lapse Timed Dcep = false
-can_lapse Timed ppi = true
-can_lapse reliability ppi = false
+abbrev pub has_lifetime : ReliabilityType → PayloadProtocolIdentifier → Bool
+has_lifetime Timed Dcep = false
+has_lifetime Timed ppi = true
+has_lifetime reliability ppi = false
 
 -- a lifetime of so many milliseconds that started then is over now: its end, in nanoseconds, is
 -- a moment that 64 bits hold, and now is not before it
@@ -261,16 +261,16 @@ is_over now value None = false
 is_over now value (Some start) =
     nat_lt (start + value * 1000000) (2 ^ 64) && nat_le (start + value * 1000000) now
 
--- a write in this mode, whose lifetime started then, has lapsed now
-abbrev pub write_lapsed : ℕ → Option ℕ → Option Shown → Option Mode → Bool
-write_lapsed now start (Some x) (Some m) =
-    can_lapse m.reliability x.1 && is_over now m.value start
-write_lapsed now start x m = false
+-- a write in this mode, whose lifetime started then, is past its deadline now
+abbrev pub is_write_past_deadline : ℕ → Option ℕ → Option Shown → Option Mode → Bool
+is_write_past_deadline now start (Some x) (Some m) =
+    has_lifetime m.reliability x.1 && is_over now m.value start
+is_write_past_deadline now start x m = false
 
--- message n has lapsed now, by its write, its mode, and the first Start or Send after it
-abbrev pub has_lapsed : History → ℕ → ℕ → Bool
-has_lapsed h now n =
-    write_lapsed now (started_in h n) (slice_get (writes_in h) n) (slice_get (modes_in h) n)
+-- message n is past its deadline now, by its write, its mode, and the first Start or Send after it
+abbrev pub is_past_deadline_by_events : History → ℕ → ℕ → Bool
+is_past_deadline_by_events h now n =
+    is_write_past_deadline now (started_in h n) (slice_get (writes_in h) n) (slice_get (modes_in h) n)
 
 -- the bytes that a reply tells were released
 abbrev pub released_by : Reply → ℕ

@@ -1,7 +1,7 @@
 -- Streams, messages, fragments and slots.
 use Rattle.std.specs.Prelude.{slice_index_or, ℕ, ◌+◌, ◌-◌, ◌*◌, ◌%◌, ◌^◌, Bool, true, false, ◌&&◌, not, ◌==◌, nat_lt, nat_le, if◌then◌else◌, List, [], length, find, Option, Some, None, is_some, unwrap_or}
-use Rattle.sctp_lists.specs.Kept.{kept, first_of, or_else}
-use Rattle.sctp_lists.specs.Lists.{pieces}
+use Rattle.sctp_list_lemmas.specs.Kept.{kept, first_of, or_else}
+use Rattle.sctp_list_lemmas.specs.Lists.{pieces}
 use Rattle.sctp_chunks.specs.declared.chunk.chunk_payload_data.ReliabilityType.{ReliabilityType}
 use Rattle.sctp_chunks.specs.declared.chunk.chunk_payload_data.ReliabilityType.TheVariants.{Reliable, Timed}
 use Rattle.sctp_chunks.specs.declared.chunk.chunk_payload_data.PayloadProtocolIdentifier.{PayloadProtocolIdentifier}
@@ -20,7 +20,7 @@ no_message = record { stream = 0; ordered = false; ppi = Unknown; bytes = []; re
 
 -- what stands past the last slot
 abbrev pub no_slot : Slot
-no_slot = record { message = 0; fragment = 0; is_end_mark = true; arrived = false; acknowledged = true }
+no_slot = record { message = 0; fragment = 0; is_terminal_chunk = true; arrived = false; acknowledged = true }
 
 -- message n
 abbrev pub message_at : World → ℕ → Message
@@ -107,13 +107,13 @@ tsn_of w place = (w.setup.first + place) % 2 ^ 32
 abbrev pub place_of : World → ℕ → ℕ
 place_of w tsn = (tsn + (2 ^ 32 - w.setup.first)) % 2 ^ 32
 
--- the slot at this place has a fragment of message n, or its end mark
+-- the slot at this place has a fragment of message n, or its terminal chunk
 abbrev pub belongs_to : World → ℕ → ℕ → Bool
 belongs_to w n place = message_of w place == n
 
 -- the slot at this place has a fragment of message n
 abbrev pub has_fragment : World → ℕ → ℕ → Bool
-has_fragment w n place = belongs_to w n place && not (slot_at w place).is_end_mark
+has_fragment w n place = belongs_to w n place && not (slot_at w place).is_terminal_chunk
 
 -- the slots of the fragments of message n
 abbrev pub slots_of : World → ℕ → List ℕ
@@ -124,17 +124,17 @@ abbrev pub sent_of : World → ℕ → ℕ
 sent_of w n = length (slots_of w n)
 
 -- some but not all of its fragments have slots, and it was not abandoned
-abbrev pub is_half_sent : World → ℕ → Bool
-is_half_sent w n = nat_lt 0 (sent_of w n) && (nat_lt (sent_of w n) (fragment_count w n) && not (message_at w n).abandoned)
+abbrev pub is_partially_sent : World → ℕ → Bool
+is_partially_sent w n = nat_lt 0 (sent_of w n) && (nat_lt (sent_of w n) (fragment_count w n) && not (message_at w n).abandoned)
 
 -- none of its fragments has a slot, and it did not expire
 abbrev pub is_unsent : World → ℕ → Bool
 is_unsent w n = (sent_of w n == 0) && not (message_at w n).expired
 
--- the message to send from: the half-sent one; else the first unsent unordered one; else the first unsent ordered one
+-- the message to send from: the partially sent one; else the first unsent unordered one; else the first unsent ordered one
 abbrev pub front : World → Option ℕ
 front w =
-    or_else (first_of (messages_where w (is_half_sent w)))
+    or_else (first_of (messages_where w (is_partially_sent w)))
     (or_else (first_of (messages_where w (λ n. is_unsent w n && not (message_at w n).ordered)))
     (first_of (messages_where w (λ n. is_unsent w n && (message_at w n).ordered))))
 
@@ -167,5 +167,5 @@ is_reached now None = false
 is_reached now (Some t) = nat_le t now
 
 -- the lifetime of message n is over
-abbrev pub is_lapsed : World → ℕ → ℕ → Bool
-is_lapsed w now n = is_reached now (deadline_of w n)
+abbrev pub is_past_deadline : World → ℕ → ℕ → Bool
+is_past_deadline w now n = is_reached now (deadline_of w n)

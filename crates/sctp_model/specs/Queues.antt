@@ -1,6 +1,6 @@
 -- What the queues that a link lends hold.
 use Rattle.std.specs.Prelude.{ℕ, ◌-◌, ◌%◌, ◌^◌, Bool, ◌&&◌, ◌||◌, not, nat_le, if◌then◌else◌, List, [], length, map, Option, Some, None}
-use Rattle.sctp_lists.specs.Kept.{kept, numbers_from, gathered, first_of}
+use Rattle.sctp_list_lemmas.specs.Kept.{kept, numbers_from, gathered, first_of}
 use Rattle.sctp_chunks.specs.declared.chunk.chunk_payload_data.ChunkPayloadData.{ChunkPayloadData}
 use Rattle.sctp_chunks.specs.declared.chunk.chunk_payload_data.ReliabilityType.{ReliabilityType}
 use Rattle.sctp_chunks.specs.PayloadData.{Data}
@@ -8,7 +8,7 @@ use Rattle.sctp_chunks.specs.ChunkSet.{ChunkSet}
 use Rattle.sctp_model.specs.World.{World}
 use Rattle.sctp_model.specs.Messages
 use Rattle.sctp_model.specs.Receiver
-use Rattle.sctp_model.specs.Amounts.{is_given_up}
+use Rattle.sctp_model.specs.Amounts.{is_expired_or_abandoned}
 use Rattle.sctp_model.specs.Contents.{data_with, chunk_at, cumulative_tsn}
 
 -- ## The outbound queue
@@ -37,7 +37,7 @@ abbrev pub pending_fragments : World → ℕ → List PendingFragment
 pending_fragments w n =
     map (pending_at w n) (numbers_from (Messages.sent_of w n) (Messages.fragment_count w n - Messages.sent_of w n))
 
--- the pending queue: ordered and unordered fragments apart, each message's in a row, and the kind that a half-sent message selects
+-- the pending queue: ordered and unordered fragments apart, each message's in a row, and the kind that a partially sent message selects
 pub record PendingRecord : Type 0 where
   pub ordered : List PendingFragment
   pub unordered : List PendingFragment
@@ -52,9 +52,9 @@ kind_of w (Some n) = Some (not (Messages.message_at w n).ordered)
 abbrev pub pending_of : World → PendingRecord
 pending_of w =
     record {
-      ordered = gathered (pending_fragments w) (Messages.messages_where w (λ n. (Messages.message_at w n).ordered && not (is_given_up w n)));
-      unordered = gathered (pending_fragments w) (Messages.messages_where w (λ n. not (Messages.message_at w n).ordered && not (is_given_up w n)));
-      selected = kind_of w (first_of (Messages.messages_where w (Messages.is_half_sent w)));
+      ordered = gathered (pending_fragments w) (Messages.messages_where w (λ n. (Messages.message_at w n).ordered && not (is_expired_or_abandoned w n)));
+      unordered = gathered (pending_fragments w) (Messages.messages_where w (λ n. not (Messages.message_at w n).ordered && not (is_expired_or_abandoned w n)));
+      selected = kind_of w (first_of (Messages.messages_where w (Messages.is_partially_sent w)));
     }
 
 -- a chunk in flight: its payload is empty where it is acknowledged or its message was abandoned
@@ -114,7 +114,7 @@ set_of w n =
       chunks = map (chunk_at w) (Messages.slots_where w (λ place. Messages.has_fragment w n place && Receiver.arrived_at w place));
     }
 
--- a whole unordered message as one set: its SSN is 0, since unordered messages have none of their own (RFC 4960 6.6)
+-- a complete unordered message as one set: its SSN is 0, since unordered messages have none of their own (RFC 4960 6.6)
 abbrev pub whole_set_of : World → ℕ → ChunkSet
 whole_set_of w n = record { ssn = 0; ppi = (Messages.message_at w n).ppi; chunks = map (chunk_at w) (Messages.slots_of w n) }
 
@@ -123,16 +123,16 @@ abbrev pub handed_out : World → ℕ → ChunkSet
 handed_out w n = if (Messages.message_at w n).ordered then set_of w n else whole_set_of w n
 
 -- an arrived slot, not skipped, of an unordered message of this stream that is not whole
-abbrev pub is_loose : World → ℕ → ℕ → Bool
-is_loose w s place =
+abbrev pub is_unassembled : World → ℕ → ℕ → Bool
+is_unassembled w s place =
     Receiver.arrived_at w place && (nat_le w.skipped place && (Messages.is_unordered_on w s (Messages.message_of w place) && not (Receiver.is_whole w (Messages.message_of w place))))
 
--- the SSN expected next, the sets of ordered messages, the whole unordered messages and the loose chunks
+-- the SSN expected next, the sets of ordered messages, the complete unordered messages and the unassembled chunks
 pub record ReassemblyRecord : Type 0 where
   pub next_ssn : ℕ
   pub ordered : List ChunkSet
   pub unordered : List ChunkSet
-  pub loose : List ChunkPayloadData
+  pub unassembled : List ChunkPayloadData
 
 -- what the reassembly queue of stream s holds
 abbrev pub reassembly_of : World → ℕ → ReassemblyRecord
@@ -141,5 +141,5 @@ reassembly_of w s =
       next_ssn = Receiver.next_of w s % 2 ^ 16;
       ordered = map (set_of w) (Receiver.held_on w s);
       unordered = map (whole_set_of w) (Messages.stream_of w s).whole;
-      loose = map (chunk_at w) (Messages.slots_where w (is_loose w s));
+      unassembled = map (chunk_at w) (Messages.slots_where w (is_unassembled w s));
     }

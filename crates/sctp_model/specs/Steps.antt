@@ -1,8 +1,8 @@
 -- Which event is refused with what, which reply is right, and what the record is then.
 use Rattle.std.specs.Prelude.{◌≡◌, ℕ, ◌+◌, ◌-◌, ◌^◌, Bool, true, false, ◌&&◌, ◌||◌, not, ◌==◌, nat_lt, nat_le, if◌then◌else◌, List, [], ◌∷◌, length, map, slice_get, Option, Some, None, is_none, is_some, Result, Ok, Err}
 use Rattle.std.specs.List.{list_all, list_any}
-use Rattle.sctp_lists.specs.Kept.{passing}
-use Rattle.sctp_lists.specs.Lists.{pieces}
+use Rattle.sctp_list_lemmas.specs.Kept.{passing}
+use Rattle.sctp_list_lemmas.specs.Lists.{pieces}
 use Rattle.sctp_model.specs.declared.event.Event.{Event}
 use Rattle.sctp_model.specs.declared.event.Event.TheVariants as E
 use Rattle.sctp_model.specs.Reply.{Reply}
@@ -165,8 +165,8 @@ pub record IsRight (old : World) (event : Event) (reply : Reply) (new : World) :
   pub moves : new ≡ after old event
 
 -- an accepted event can take memory: never Mode, Start, Expire or Read; a Write of some bytes,
--- a Send with a fragment pending, a Tail and a Late of what has lapsed, an Abandon of a half-sent
--- message, which takes an end mark; each other event
+-- a Send with a fragment pending, a Tail and a Late of what is past its deadline, an Abandon of a partially sent
+-- message, which takes a terminal chunk; each other event
 abbrev pub takes_memory : World → Event → Bool
 takes_memory w (E.Mode s unordered reliability value) = false
 takes_memory w (E.Write s ppi bytes) = nat_lt 0 (length bytes)
@@ -175,7 +175,7 @@ takes_memory w (E.Send now) = is_some (Messages.front w)
 takes_memory w (E.Expire now) = false
 takes_memory w (E.Tail now) = is_some (Changes.tailing w now)
 takes_memory w (E.Late now) = nat_lt 0 (length (Changes.late_slots w now))
-takes_memory w (E.Abandon tsn) = Messages.is_half_sent w (Messages.message_of w (Messages.place_of w tsn))
+takes_memory w (E.Abandon tsn) = Messages.is_partially_sent w (Messages.message_of w (Messages.place_of w tsn))
 takes_memory w (E.Read s) = false
 takes_memory w e = true
 

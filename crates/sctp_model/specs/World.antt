@@ -19,7 +19,7 @@ pub record StreamRecord : Type 0 where
   pub value : ℕ
   -- one more than the greatest index that a counting skip named, or 0
   pub named : ℕ
-  -- its whole unordered messages that were not read, by number, in the order in which they became whole
+  -- its complete unordered messages that were not read, by number, in the order in which they became whole
   pub whole : List ℕ
 
 -- a message: an accepted write of at least one byte. Its number is its place in the list
@@ -38,11 +38,11 @@ pub record Message : Type 0 where
   pub abandoned : Bool
   pub read : Bool
 
--- a slot: a TSN that was given out, to a fragment of a message or to the end mark of an abandoned one (RFC 4960 3.3.1)
+-- a slot: a TSN that was given out, to a fragment of a message or to the terminal chunk of an abandoned one (RFC 4960 3.3.1)
 pub record Slot : Type 0 where
   pub message : ℕ
   pub fragment : ℕ
-  pub is_end_mark : Bool
+  pub is_terminal_chunk : Bool
   pub arrived : Bool
   pub acknowledged : Bool
 

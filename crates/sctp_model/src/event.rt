@@ -40,7 +40,7 @@ pub enum Event {
     Expire {
         now: u64,
     },
-    /// Abandons the front message where it is half-sent and its lifetime is over.
+    /// Abandons the front message where it is partially sent and its lifetime is over.
     Tail {
         now: u64,
     },

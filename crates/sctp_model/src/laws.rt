@@ -1,7 +1,7 @@
 //! What holds of every history of a link: laws, each the contract of a function that does nothing.
 
-ghost use Rattle.sctp_model.specs.Laws.{OnEveryRun, EmitsWherePending, TakesPending, IdleIsAnswered, WithinLimit, FilledToLimit, SlotsInOrder, SlotsFollow, OneHalfSent, SentInTurn, IndexesLeaveNoGap, NoEndMarkIsSent, DatagramsStay, Balances, SumsAgree, AcknowledgedArrived, AcknowledgedIsReported, SacksSay, NetworkIsMade, ArrivedIsNew, CumulativeIsSeen, ArrivalsAnswered, WholeIsWhole, NamedIsNamed, SpansFit, MessagesAreWrites, ModesAreKept, ReadsShowMessages, ReadsBeginRun, ReadsBeginWholeRun, ReadsBeginWhole, ReadsDiffer, UnorderedFirst, NothingWhereRead, StartsOnce, LapsesByEvents, ExpiresLapsed, TailAbandonsLapsed, LateListsLapsed, LateAbandonsListed, ReadsAreSettled, ReadsByArrivals, NoneIsLost, CountersAreSums, Headline, Beside, ReliableDelivery, PartialDelivery};
-ghost use Rattle.sctp_model.specs.Sound.{RecordIsSound, SlotsComeSound, SkipsComeSound};
+ghost use Rattle.sctp_model.specs.Laws.{OnEveryRun, EmitsWherePending, TakesPending, IdleIsAnswered, WithinLimit, FilledToLimit, SlotsInOrder, SlotsFollow, OnePartiallySent, SentInTurn, IndexesLeaveNoGap, NoTerminalChunkIsSent, DatagramsStay, Balances, SumsAgree, AcknowledgedArrived, AcknowledgedIsReported, SacksSay, NetworkIsMade, ArrivedIsNew, CumulativeIsSeen, ArrivalsAnswered, WholeIsWhole, NamedIsNamed, SpansFit, MessagesAreWrites, ModesAreKept, ReadsShowMessages, ReadsBeginRun, ReadsBeginWholeRun, ReadsBeginWhole, ReadsDiffer, UnorderedFirst, NothingWhereRead, StartsOnce, DeadlinesByEvents, ExpiresPastDeadline, TailAbandonsPastDeadline, LateListsPastDeadline, LateAbandonsListed, ReadsAreSettled, ReadsByArrivals, NoneIsLost, CountersAreSums, Headline, Beside, ReliableDelivery, PartialDelivery};
+ghost use Rattle.sctp_model.specs.Valid.{RecordIsValid, SlotsComeValid, SkipsComeValid};
 
 /// A Send answers Idle exactly where no fragment is pending, be memory refused or not; else its
 /// new datagram carries the pending fragments that it takes.
@@ -19,14 +19,14 @@ pub fn datagrams_keep_the_limit()
     ensures filled { OnEveryRun FilledToLimit }
 {}
 
-/// The slots of a message have its fragments in order, side by side; the messages of a stream are sent in turn; an abandoned half-sent one takes one end mark, which no datagram carries; what a datagram says never changes.
-pub fn slots_are_sound()
+/// The slots of a message have its fragments in order, side by side; the messages of a stream are sent in turn; an abandoned partially sent one takes one terminal chunk, which no datagram carries; what a datagram says never changes.
+pub fn slots_are_valid()
     ensures in_order { OnEveryRun SlotsInOrder }
     ensures follow { OnEveryRun SlotsFollow }
-    ensures one_half_sent { OnEveryRun OneHalfSent }
+    ensures one_partially_sent { OnEveryRun OnePartiallySent }
     ensures in_turn { OnEveryRun SentInTurn }
     ensures no_gap { OnEveryRun IndexesLeaveNoGap }
-    ensures no_end_mark { OnEveryRun NoEndMarkIsSent }
+    ensures no_terminal_chunk { OnEveryRun NoTerminalChunkIsSent }
     ensures stay { OnEveryRun DatagramsStay }
 {}
 
@@ -70,22 +70,22 @@ pub fn unordered_reads()
     ensures first { OnEveryRun UnorderedFirst }
 {}
 
-/// A Read answers Nothing exactly where the run is exhausted and each whole unordered message was read.
+/// A Read answers Nothing exactly where the run is exhausted and each complete unordered message was read.
 pub fn nothing_when_exhausted()
     ensures nothing { OnEveryRun NothingWhereRead }
 {}
 
-/// A lifetime starts at the first Start or Send after the write. A message has lapsed exactly
+/// A lifetime starts at the first Start or Send after the write. A message is past its deadline exactly
 /// where it was written in timed mode, is not DCEP, and now, in nanoseconds, is at least its start
 /// plus its lifetime in milliseconds, a moment that 64 bits hold (RFC 3758 4.1, RFC 8832 6).
 /// Expire, Tail and Late answer, remove and abandon exactly by that; Late abandons the messages of
 /// the slots that it lists and no others.
 pub fn lifetimes_end()
     ensures once { OnEveryRun StartsOnce }
-    ensures lapse { OnEveryRun LapsesByEvents }
-    ensures expire { OnEveryRun ExpiresLapsed }
-    ensures tail { OnEveryRun TailAbandonsLapsed }
-    ensures listed { OnEveryRun LateListsLapsed }
+    ensures lapse { OnEveryRun DeadlinesByEvents }
+    ensures expire { OnEveryRun ExpiresPastDeadline }
+    ensures tail { OnEveryRun TailAbandonsPastDeadline }
+    ensures listed { OnEveryRun LateListsPastDeadline }
     ensures late { OnEveryRun LateAbandonsListed }
 {}
 
@@ -111,18 +111,18 @@ pub fn counters_count()
 {}
 
 /// The record of every history is what a receiver's queues need: fragments side by side, indexes near one another, nothing new below what was skipped; so is each state between the slots of a datagram.
-pub fn records_are_sound()
-    ensures sound { OnEveryRun RecordIsSound }
-    ensures slots { OnEveryRun SlotsComeSound }
-    ensures skips { OnEveryRun SkipsComeSound }
+pub fn records_are_valid()
+    ensures valid { OnEveryRun RecordIsValid }
+    ensures slots { OnEveryRun SlotsComeValid }
+    ensures skips { OnEveryRun SkipsComeValid }
 {}
 
 /// All laws of this module at once, for every history of a link, every first TSN, fragment size,
 /// greatest message and limit: each Send emits a pending fragment while one exists; reading until
-/// nothing is left gives exactly each whole unordered message once and, per stream in writing order,
-/// the whole ordered messages up to the last named, then the unbroken whole run; only what arrived or
+/// nothing is left gives exactly each complete unordered message once and, per stream in writing order,
+/// the complete ordered messages up to the last named, then the unbroken whole run; only what arrived or
 /// was skipped is acknowledged; written bytes equal pending plus in flight plus released. Beside it:
-/// slots, limits of datagrams, arrivals, lifetimes, counters, reads without loss, and sound records.
+/// slots, limits of datagrams, arrivals, lifetimes, counters, reads without loss, and valid records.
 pub fn every_history()
     ensures headline { Headline }
     ensures beside { Beside }

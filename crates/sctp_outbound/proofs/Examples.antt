@@ -2,8 +2,8 @@
 use Rattle.std.proofs.Common.{◌≡◌, ℕ, Bool, true, false, List, [], ◌∷◌, map, None, lit≤, refl, arith}
 use Rattle.sctp_chunks.specs.declared.chunk.chunk_payload_data.ChunkPayloadData.{ChunkPayloadData}
 use Rattle.sctp_chunks.specs.declared.chunk.chunk_payload_data.PayloadProtocolIdentifier.TheVariants as identifiers
-use Rattle.sctp_lists.specs.Kept.{runs_of}
-use Rattle.sctp_lists.specs.Serial.{comes_before, distance}
+use Rattle.sctp_list_lemmas.specs.Kept.{runs_of}
+use Rattle.sctp_list_lemmas.specs.Serial.{comes_before, distance}
 use Rattle.sctp_outbound.specs.outbound_queue.Numbering.{Call, push, send_next, abandon, mark_as_acked, pop, after_all, at_first}
 use Rattle.sctp_serial.specs.Turns.{IsWithinDigits}
 
@@ -58,11 +58,11 @@ urgent = push (fragment true true true ∷ [])
 abbrev numbers_after : List Call → List (ℕ × ℕ)
 numbers_after calls = map (λ (c : ChunkPayloadData). (c.message_id, c.tsn)) (after_all calls (at_first 4294967295)).put
 
--- an unordered message that comes while another is half sent waits for its end
+-- an unordered message that comes while another is partially sent waits for its end
 waits_for_its_end : numbers_after (three_fragments ∷ send_next 0 ∷ urgent ∷ send_next 0 ∷ send_next 0 ∷ send_next 0 ∷ []) ≡ (1, 2) ∷ (0, 1) ∷ (0, 0) ∷ (0, 4294967295) ∷ []
 waits_for_its_end = refl
 
--- the end mark of a message that is given up has the TSN behind its fragments, also where one is acknowledged and gone
+-- the terminal chunk of a message that is abandoned has the TSN behind its fragments, also where one is acknowledged and gone
 ends_behind : numbers_after (three_fragments ∷ send_next 0 ∷ send_next 0 ∷ mark_as_acked 4294967295 ∷ pop 4294967295 ∷ urgent ∷ abandon 0 ∷ send_next 0 ∷ []) ≡ (1, 2) ∷ (0, 1) ∷ (0, 0) ∷ (0, 4294967295) ∷ []
 unfolding comes_before distance
 ends_behind = refl

@@ -8,9 +8,9 @@ use Rattle.sctp_outbound.specs.declared.payload_queue.held.Mark.TheVariants.{Ack
 abbrev pub acknowledged : ChunkPayloadData → ChunkPayloadData
 acknowledged c = record c { acked = true; retransmit = false; user_data = [] }
 
--- of a message that is given up: its bytes are gone
-abbrev pub given_up : ChunkPayloadData → ChunkPayloadData
-given_up c = record c { abandoned = true; retransmit = false; user_data = [] }
+-- of a message that is abandoned: its bytes are gone
+abbrev pub as_abandoned : ChunkPayloadData → ChunkPayloadData
+as_abandoned c = record c { abandoned = true; retransmit = false; user_data = [] }
 
 abbrev pub with_retransmit : Bool → ChunkPayloadData → ChunkPayloadData
 with_retransmit b c = record c { retransmit = b }
@@ -27,7 +27,7 @@ with_miss_indicator n c = record c { miss_indicator = n }
 -- what each mark makes
 abbrev pub marked : Mark → ChunkPayloadData → ChunkPayloadData
 marked Acknowledged c = acknowledged c
-marked Abandoned c = given_up c
+marked Abandoned c = as_abandoned c
 marked (Retransmit b) c = with_retransmit b c
 marked (Nsent n) c = with_nsent n c
 marked (Since since) c = with_since since c

@@ -4,10 +4,10 @@ ghost use Rattle.std.specs.Prelude.{◌≡◌, ◌==◌, ℕ, Bool, ◌⊎◌, �
 ghost use Rattle.std.specs.Option.{option_map};
 ghost use Rattle.std.specs.List.{list_any};
 ghost use Rattle.sctp_base.specs.declared.error.Error.TheVariants.{ErrOutOfMemory};
-ghost use Rattle.sctp_lists.specs.Lists.{change_where};
+ghost use Rattle.sctp_list_lemmas.specs.Lists.{change_where};
 ghost use Rattle.sctp_outbound.specs.Marks.{is_outstanding};
 ghost use Rattle.sctp_outbound.specs.pending_queue.PendingQueue as pending;
-ghost use Rattle.sctp_outbound.specs.pending_queue.Whole.{GoesOn, IsMessageOrNone, half_sent, waits};
+ghost use Rattle.sctp_outbound.specs.pending_queue.Whole.{GoesOn, IsMessageOrNone, partially_sent, waits};
 ghost use Rattle.sctp_serial.specs.Window.{SpansOneWindow, is_held};
 ghost use Rattle.sctp_serial.specs.DataChunks.{has_tsn, bytes_of};
 ghost use Rattle.sctp_outbound.specs.outbound_queue.OutboundQueue.{is_past, is_expired, is_expired_tail, is_late, released_of, expired_bytes, tail_bytes};
@@ -25,7 +25,7 @@ use std::alloc::Global;
 use std::marker::Model;
 
 /// Messages that wait, and their chunks in flight. A number that all fragments of a message share finds them in
-/// both when the message is given up. Moments are in nanoseconds, from any beginning that the caller keeps to.
+/// both when the message is abandoned. Moments are in nanoseconds, from any beginning that the caller keeps to.
 #[derive(Drop)]
 pub struct OutboundQueue {
     pending: PendingQueue,
@@ -88,7 +88,7 @@ impl OutboundQueue {
         self.next_message_id
     }
 
-    /// Whether `push` may be called with these chunks: they are none or one whole message, all ordered or all unordered; the number
+    /// Whether `push` may be called with these chunks: they are none or one complete message, all ordered or all unordered; the number
     /// of the next message is below the greatest u64; and all bytes, with theirs, are at most the greatest usize.
     pub fn can_push(&self, chunks: &[ChunkPayloadData]) -> bool
         ensures message { result ≡ true → IsMessageOrNone chunks.now }
@@ -106,7 +106,7 @@ impl OutboundQueue {
     /// Puts the fragments of a message behind those that wait, under the next number.
     /// An empty list changes nothing. Numbers are never used twice, so that one
     /// never stands for two messages that wait.
-    /// Precondition: the list is empty, or one whole message, all ordered or all unordered; the number is
+    /// Precondition: the list is empty, or one complete message, all ordered or all unordered; the number is
     /// below the greatest u64; and the bytes that wait and are in flight, with these, are fewer than 2^64. `can_push` tells.
     /// Refuses only for memory, and never within the room of `reserve`. The queue is as it was then.
     pub fn push(&mut self, chunks: Vec<ChunkPayloadData>) -> Result<()>
@@ -142,11 +142,11 @@ impl OutboundQueue {
         self.next_unstarted_message_id = self.next_message_id;
     }
 
-    /// The chunk that would be sent next: while a message is half sent, its next fragment.
+    /// The chunk that would be sent next: while a message is partially sent, its next fragment.
     pub fn peek_pending(&self) -> Option<&ChunkPayloadData>
         ensures value { option_copied result ≡ pending.peeked self.now.pending }
         ensures goes_on { (m : ℕ)
-            → half_sent self.now.pending ≡ Some m → GoesOn m (pending.peeked self.now.pending) }
+            → partially_sent self.now.pending ≡ Some m → GoesOn m (pending.peeked self.now.pending) }
     {
         self.pending.peek()
     }
@@ -179,7 +179,7 @@ impl OutboundQueue {
         requires fresh { is_held self.old.inflight.chunks next_tsn.old ≡ false }
         requires window { SpansOneWindow self.old.inflight.chunks next_tsn.old }
         ensures goes_on { (m : ℕ)
-            → half_sent self.old.pending ≡ Some m → GoesOn m (pending.peeked self.old.pending) }
+            → partially_sent self.old.pending ≡ Some m → GoesOn m (pending.peeked self.old.pending) }
         ensures sent { IfOk result (λ sent. sent
             ≡ option_map (λ _. next_tsn.old) (pending.peeked self.old.pending)) }
         ensures ok { OnOk result (self.new ≡ sent_next self.old next_tsn.old now) }
@@ -227,9 +227,9 @@ impl OutboundQueue {
         }
     }
 
-    /// Gives up the message of a chunk in flight: its chunks in flight are cleared and flagged, its
-    /// unsent tail goes, and one end mark in flight stands for the tail, an empty last fragment
-    /// (RFC 3758 3.5). Answers the stream and the bytes that left, 0 where the message was given up
+    /// Abandons the message of a chunk in flight: its chunks in flight are cleared and flagged, its
+    /// unsent tail goes, and one terminal chunk in flight stands for the tail, an empty last fragment
+    /// (RFC 3758 3.5). Answers the stream and the bytes that left, 0 where the message was abandoned
     /// before; None where the TSN is not in flight. The mark takes `next_tsn`, which goes up by one,
     /// so that a FORWARD-TSN has a TSN to go to even where every fragment that was sent arrived and
     /// only its acknowledgement was lost. One mark is enough: the tail's bytes never had TSNs.
@@ -247,9 +247,9 @@ impl OutboundQueue {
             (to_abandon (find (has_tsn tsn) self.old.inflight.chunks)) next_tsn.old self.old) }
         ensures raised { OnOk result (next_tsn.new ≡ tsn_after_of
             (to_abandon (find (has_tsn tsn) self.old.inflight.chunks)) next_tsn.old self.old) }
-        // the next TSN is the same while a message stays half sent
+        // the next TSN is the same while a message stays partially sent
         ensures half { OnOk result ((next_tsn.new ≡ next_tsn.old)
-            ⊎ (half_sent self.new.pending ≡ None)) }
+            ⊎ (partially_sent self.new.pending ≡ None)) }
         ensures err { OnErr result ((self.new ≡ self.old) × (next_tsn.new ≡ next_tsn.old)) }
         ensures memory { IsOkUnless result ErrOutOfMemory }
         ensures succeeds { 0 < self.old.inflight.room → IsOk result }
@@ -268,7 +268,7 @@ impl OutboundQueue {
         Ok(Some((stream_identifier, bytes)))
     }
 
-    // Gives up a message, and answers the bytes that left. It grows first, and only for a tail.
+    // Abandons a message, and answers the bytes that left. It grows first, and only for a tail.
     fn abandon_message(&mut self, message_id: u64, next_tsn: &mut u32) -> Result<usize>
         requires fresh { is_held self.old.inflight.chunks next_tsn.old ≡ false }
         requires window { SpansOneWindow self.old.inflight.chunks next_tsn.old }
@@ -291,7 +291,7 @@ impl OutboundQueue {
         Ok(bytes)
     }
 
-    // Gives up a message with a tail. There is room for its end mark.
+    // Abandons a message with a tail. There is room for its terminal chunk.
     fn abandon_with_tail(&mut self, message_id: u64, tsn: u32) -> usize
         requires tail { waits message_id self.old.pending ≡ true }
         requires room { 0 < self.old.inflight.room }
@@ -316,10 +316,10 @@ impl OutboundQueue {
         in_flight + pending
     }
 
-    /// Removes the message in front, where it is lapsed and wholly unsent, without a TSN: a
+    /// Removes the message in front, where it is past its deadline and wholly unsent, without a TSN: a
     /// FORWARD-TSN need not pass it. The later numbers of its stream close up where it is ordered;
     /// the caller lowers the stream's next number by one. Answers its stream, whether it is
-    /// unordered, and its bytes. `now` is in nanoseconds; a message is lapsed from its deadline
+    /// unordered, and its bytes. `now` is in nanoseconds; a message is past its deadline from its deadline
     /// on, and an empty fragment and one that establishes a channel never are. It takes no memory.
     pub fn expire_pending(&mut self, now: u64) -> Option<(u16, bool, usize)>
         ensures answer { option_map {U = ℕ × Bool} (λ a. (a.0, a.1)) result ≡ option_map {U = ℕ
@@ -360,7 +360,7 @@ impl OutboundQueue {
         self.pending.compact_ordered_ssns(stream_identifier);
     }
 
-    /// Gives up the rest of the half-sent message in front, where it is lapsed, as `abandon` does;
+    /// Abandons the rest of the partially sent message in front, where it is past its deadline, as `abandon` does;
     /// its fragments in flight may all be acknowledged and gone, so that no TSN is left to abandon
     /// it by. `now` is in nanoseconds. Answers its stream, its number and the bytes that left.
     /// Precondition: as for `send_next`.
@@ -381,9 +381,9 @@ impl OutboundQueue {
             ≡ abandoned_of (message_of (expiring_tail now self.old)) next_tsn.old self.old) }
         ensures raised { OnOk result (next_tsn.new
             ≡ tsn_after_of (message_of (expiring_tail now self.old)) next_tsn.old self.old) }
-        // the next TSN is the same while a message stays half sent
+        // the next TSN is the same while a message stays partially sent
         ensures half { OnOk result ((next_tsn.new ≡ next_tsn.old)
-            ⊎ (half_sent self.new.pending ≡ None)) }
+            ⊎ (partially_sent self.new.pending ≡ None)) }
         ensures err { OnErr result ((self.new ≡ self.old) × (next_tsn.new ≡ next_tsn.old)) }
         ensures memory { IsOkUnless result ErrOutOfMemory }
         ensures succeeds { 0 < self.old.inflight.room → IsOk result }
@@ -401,9 +401,9 @@ impl OutboundQueue {
         Ok(Some((stream_identifier, message_id, bytes)))
     }
 
-    /// The TSNs of lapsed chunks in flight that are not abandoned, and not acknowledged or of a message with an
+    /// The TSNs of chunks in flight past their deadlines that are not abandoned, and not acknowledged or of a message with an
     /// unsent tail, in serial order. A message that was acknowledged whole is not named. They are listed before any
-    /// of them is abandoned, so that what is given up does not hang on how much may be sent. `now` is in nanoseconds.
+    /// of them is abandoned, so that what is abandoned does not hang on how much may be sent. `now` is in nanoseconds.
     /// Refuses only for memory, and not where there are none.
     pub fn expired_inflight(&self, alloc: Global, now: u64) -> Result<Vec<u32>>
         ensures ok { IfOk result (λ tsns. tsns.items ≡ late_tsns now self.now) }
@@ -577,7 +577,7 @@ impl OutboundQueue {
         self.pending.reserve(ordered, unordered)
     }
 
-    /// From here on so many sends and end marks take no memory.
+    /// From here on so many sends and terminal chunks take no memory.
     /// Refuses only for memory, and the queue is as it was then.
     pub fn reserve_inflight(&mut self, sends: usize) -> Result<()>
         ensures ok { OnOk result (self.new
@@ -605,7 +605,7 @@ fn is_past(deadline: Option<u64>, now: u64) -> bool
     }
 }
 
-// Whether the chunk begins a lapsed message. DCEP messages never lapse.
+// Whether the chunk begins a message past its deadline. DCEP messages have no deadline.
 fn is_expired(chunk: &ChunkPayloadData, now: u64) -> bool
     ensures { result ≡ is_expired now chunk.now }
 {
@@ -615,14 +615,14 @@ fn is_expired(chunk: &ChunkPayloadData, now: u64) -> bool
         && is_past(chunk.deadline, now)
 }
 
-// Whether the chunk goes on with a lapsed message.
+// Whether the chunk goes on with a message past its deadline.
 fn is_expired_tail(chunk: &ChunkPayloadData, now: u64) -> bool
     ensures { result ≡ is_expired_tail now chunk.now }
 {
     !chunk.beginning_fragment && !is_dcep(chunk.payload_type) && is_past(chunk.deadline, now)
 }
 
-// Whether the chunk in flight is lapsed, not abandoned, and not acknowledged or of a message with an unsent tail.
+// Whether the chunk in flight is past its deadline, not abandoned, and not acknowledged or of a message with an unsent tail.
 fn is_late(chunk: &ChunkPayloadData, pending: &PendingQueue, now: u64) -> bool
     ensures { result ≡ is_late now pending.now chunk.now }
 {

@@ -4,9 +4,9 @@ ghost use Rattle.std.specs.Prelude.{◌≡◌, ◌==◌, ◌≢◌, ℕ, ◌+◌
 ghost use Rattle.std.specs.Option.{option_map};
 ghost use Rattle.std.specs.List.{list_any};
 ghost use Rattle.sctp_base.specs.declared.error.Error.TheVariants.{ErrOutOfMemory};
-ghost use Rattle.sctp_lists.specs.Kept.{runs_of};
-ghost use Rattle.sctp_lists.specs.Serial.{distance};
-ghost use Rattle.sctp_lists.specs.Lists.{change_where};
+ghost use Rattle.sctp_list_lemmas.specs.Kept.{runs_of};
+ghost use Rattle.sctp_list_lemmas.specs.Serial.{distance};
+ghost use Rattle.sctp_list_lemmas.specs.Lists.{change_where};
 ghost use Rattle.sctp_serial.specs.Turns.{IsWithinDigits};
 ghost use Rattle.sctp_serial.specs.Window.{IsSerial, IsPlaceFor, IsHeldAt, IsWindow, SpansOneWindow, is_held, is_new};
 ghost use Rattle.sctp_serial.specs.DataChunks.{has_tsn, bytes_of};
@@ -236,7 +236,7 @@ pub(crate) fn is_outstanding(chunk: &ChunkPayloadData) -> bool
 
 impl PayloadQueue {
     ghost use Rattle.sctp_outbound.specs.payload_queue.PayloadQueue.{Payload, with_chunks, pushed, repeated, front_with, without_front, without, past};
-    ghost use Rattle.sctp_outbound.specs.Marks.{marked, acknowledged, given_up, with_retransmit, with_nsent, with_since, with_miss_indicator, is_of};
+    ghost use Rattle.sctp_outbound.specs.Marks.{marked, acknowledged, as_abandoned, with_retransmit, with_nsent, with_since, with_miss_indicator, is_of};
 
     /// A queue of nothing. It takes no memory.
     pub fn new(alloc: Global) -> Self
@@ -446,11 +446,11 @@ impl PayloadQueue {
         }
     }
 
-    /// Gives up what is held of a message: its chunks are cleared and flagged, whatever their TSNs,
+    /// Abandons what is held of a message: its chunks are cleared and flagged, whatever their TSNs,
     /// and stay in flight until they are taken out (RFC 3758 3.5). Answers the bytes that left.
     pub fn abandon_message(&mut self, message_id: u64) -> usize
         ensures abandoned { self.new
-            ≡ with_chunks self.old (change_where (is_of message_id) given_up self.old.chunks) }
+            ≡ with_chunks self.old (change_where (is_of message_id) as_abandoned self.old.chunks) }
         ensures left { bytes_of self.new.chunks + result ≡ bytes_of self.old.chunks }
     {
         let mut turns = Turns::new();

@@ -27,7 +27,7 @@ pub struct Selected {
     pub unordered: bool,
 }
 
-/// An ordered and an unordered list, each first in first out, and the half-sent message.
+/// An ordered and an unordered list, each first in first out, and the partially sent message.
 #[derive(Drop)]
 pub struct PendingQueue {
     ordered: Line,
@@ -131,7 +131,7 @@ impl PendingQueue {
         self.unordered.start_latest_messages(first_message_id, now);
     }
 
-    /// The front of the half-sent message's list; with none half sent the unordered front, else the ordered one.
+    /// The front of the partially sent message's list; with none partially sent the unordered front, else the ordered one.
     pub fn peek(&self) -> Option<&ChunkPayloadData>
         ensures { option_copied result ≡ peeked self.now }
     {
@@ -145,7 +145,7 @@ impl PendingQueue {
     }
 
     /// The chunk that goes after so many others.
-    /// Precondition: where the half-sent message is ordered, its ending fragment waits.
+    /// Precondition: where the partially sent message is ordered, its ending fragment waits.
     pub(crate) fn peek_at(&self, index: usize) -> Option<&ChunkPayloadData>
         requires { has_end self.now.selected self.now.ordered ≡ true }
         ensures { option_copied result ≡ slice_get (order_of self.now) index }
@@ -178,9 +178,9 @@ impl PendingQueue {
         }
     }
 
-    /// Takes the front of the half-sent message's list; with none half sent that of the
+    /// Takes the front of the partially sent message's list; with none partially sent that of the
     /// list that `unordered` names, where `beginning_fragment` is true. Handed the flags of
-    /// what a peek shows, it takes that chunk, if a message is half sent or begins there.
+    /// what a peek shows, it takes that chunk, if a message is partially sent or begins there.
     pub fn pop(&mut self, beginning_fragment: bool, unordered: bool) -> Option<ChunkPayloadData>
         ensures popped { result ≡ popped beginning_fragment unordered self.old }
         ensures rest { self.new ≡ rest_after beginning_fragment unordered self.old }
@@ -223,7 +223,7 @@ impl PendingQueue {
     }
 
     /// Removes what waits of a message, the ordered chunks first, and answers its bytes and the chunk
-    /// removed last. A message that is half sent stays so, unless it is this one. It takes no memory.
+    /// removed last. A message that is partially sent stays so, unless it is this one. It takes no memory.
     pub fn remove_message(&mut self, message_id: u64) -> (usize, Option<ChunkPayloadData>)
         ensures bytes { result.0 ≡ removed_bytes message_id self.old.ordered
             + removed_bytes message_id self.old.unordered }
@@ -317,7 +317,7 @@ fn list_to_pop(
     }
 }
 
-// The half-sent message after a chunk of a list left.
+// The partially sent message after a chunk of a list left.
 fn selected_after(
     selected: Option<Selected>,
     unordered: bool,
@@ -344,7 +344,7 @@ fn selected_after(
     }
 }
 
-// The half-sent message after one was removed.
+// The partially sent message after one was removed.
 fn selected_without(selected: Option<Selected>, message_id: u64) -> Option<Selected>
     ensures { result ≡ selected_without message_id selected }
 {

@@ -8,53 +8,53 @@ use Rattle.sctp_base.specs.declared.error.Error.{Error}
 use Rattle.sctp_base.specs.Padding.{padding_of}
 use Rattle.sctp_chunks.specs.declared.chunk.chunk_kind.ChunkKind.{ChunkKind}
 use Rattle.sctp_chunks.specs.Kind.{wire_of}
-use Rattle.sctp_chunks.specs.Wire.{Wire, HasText, text_of, value_of}
-use Rattle.sctp_chunks.specs.Check.{TextFault, IsTextError}
-use Rattle.sctp_chunks.proofs.Texts.{no_text}
+use Rattle.sctp_chunks.specs.Wire.{Wire, HasEncoding, encoding_of, value_of}
+use Rattle.sctp_chunks.specs.Check.{EncodingFault, IsEncodingError}
+use Rattle.sctp_chunks.proofs.Encodings.{no_encoding}
 use Rattle.sctp_base.specs.Field.{be16, le32}
 use Rattle.sctp_base.specs.Padding.{four_zeroes}
 use Rattle.sctp_base.proofs.Fields.{length_be16, length_le32}
-use Rattle.sctp_packets.specs.Packet.{Parts, padded_text, body_of, head_of, packet_text}
-use Rattle.sctp_packets.specs.Fault.{FirstTextFault, LacksRoom}
-use Rattle.sctp_packets.proofs.Sealed.{length_head_text}
+use Rattle.sctp_packets.specs.Packet.{Parts, padded_encoding, body_of, head_of, packet_encoding}
+use Rattle.sctp_packets.specs.Fault.{FirstEncodingFault, LacksRoom}
+use Rattle.sctp_packets.proofs.Sealed.{length_head_encoding}
 
--- chunks that have a text, and then one that has none
-pub first_fault_at : (e : Error) (cs : List ChunkKind) (i : ℕ) (d : ChunkKind) → i < length cs → AllByRecursion HasText (map wire_of (take i cs))
-    → TextFault e (wire_of (get_or cs i d)) → FirstTextFault e (map wire_of cs)
-first_fault_at e [] i d lt texts fault = absurd (omega arith)
-first_fault_at e (c ∷ cs) zero d lt texts fault = inl fault
-first_fault_at e (c ∷ cs) (suc i) d lt texts fault = inr (texts.0, first_fault_at e cs i d (omega arith) texts.1 fault)
+-- chunks that have an encoding, and then one that has none
+pub first_fault_at : (e : Error) (cs : List ChunkKind) (i : ℕ) (d : ChunkKind) → i < length cs → AllByRecursion HasEncoding (map wire_of (take i cs))
+    → EncodingFault e (wire_of (get_or cs i d)) → FirstEncodingFault e (map wire_of cs)
+first_fault_at e [] i d lt encodings fault = absurd (omega arith)
+first_fault_at e (c ∷ cs) zero d lt encodings fault = inl fault
+first_fault_at e (c ∷ cs) (suc i) d lt encodings fault = inr (encodings.0, first_fault_at e cs i d (omega arith) encodings.1 fault)
 
--- chunks that have a text, and one more
-pub texts_next : (cs : List ChunkKind) (i : ℕ) (d : ChunkKind) → i < length cs → AllByRecursion HasText (map wire_of (take i cs)) → HasText (wire_of (get_or cs i d))
-    → AllByRecursion HasText (take (suc i) (map wire_of cs))
-texts_next [] i d lt texts text = absurd (omega arith)
-texts_next (c ∷ cs) zero d lt texts text = (text, tt)
-texts_next (c ∷ cs) (suc i) d lt texts text = (texts.0, texts_next cs i d (omega arith) texts.1 text)
+-- chunks that have an encoding, and one more
+pub encodings_next : (cs : List ChunkKind) (i : ℕ) (d : ChunkKind) → i < length cs → AllByRecursion HasEncoding (map wire_of (take i cs)) → HasEncoding (wire_of (get_or cs i d))
+    → AllByRecursion HasEncoding (take (suc i) (map wire_of cs))
+encodings_next [] i d lt encodings encoding = absurd (omega arith)
+encodings_next (c ∷ cs) zero d lt encodings encoding = (encoding, tt)
+encodings_next (c ∷ cs) (suc i) d lt encodings encoding = (encodings.0, encodings_next cs i d (omega arith) encodings.1 encoding)
 
--- a text and its padding, appended one after the other
-pub padded_after : (old new after : List ℕ) (w : Wire) (padding : ℕ) → new ≡ old ++ text_of w → padding ≡ padding_of (length new - length old)
-    → after ≡ new ++ replicate padding 0 → after ≡ old ++ padded_text w
-unfolding padded_text
+-- an encoding and its padding, appended one after the other
+pub padded_after : (old new after : List ℕ) (w : Wire) (padding : ℕ) → new ≡ old ++ encoding_of w → padding ≡ padding_of (length new - length old)
+    → after ≡ new ++ replicate padding 0 → after ≡ old ++ padded_encoding w
+unfolding padded_encoding
 padded_after old new after w padding written counted filled =
-    let text : List ℕ = text_of w in
-    let len : length new - length old ≡ length text = omega (arith, ap length written, length-append old text) in
+    let encoding : List ℕ = encoding_of w in
+    let len : length new - length old ≡ length encoding = omega (arith, ap length written, length-append old encoding) in
     filled ∙ rw (counted, len, written, append_assoc) refl
 
-pub length_text : (w : Wire) → length (text_of w) ≡ 4 + length (value_of w)
-length_text w = omega (arith, length-append (be16 (4 + length (value_of w))) (value_of w), length_be16 (4 + length (value_of w)))
+pub length_encoding : (w : Wire) → length (encoding_of w) ≡ 4 + length (value_of w)
+length_encoding w = omega (arith, length-append (be16 (4 + length (value_of w))) (value_of w), length_be16 (4 + length (value_of w)))
 
 -- how much a chunk takes with its padding
-pub length_padded_text : (w : Wire) → length (padded_text w) ≡ 4 + length (value_of w) + padding_of (4 + length (value_of w))
-unfolding padded_text
-length_padded_text w = rw (length-append, length-replicate, length_text w) refl
+pub length_padded_encoding : (w : Wire) → length (padded_encoding w) ≡ 4 + length (value_of w) + padding_of (4 + length (value_of w))
+unfolding padded_encoding
+length_padded_encoding w = rw (length-append, length-replicate, length_encoding w) refl
 
-length_body : (w : Wire) (ws : List Wire) → length (body_of (w ∷ ws)) ≡ length (padded_text w) + length (body_of ws)
+length_body : (w : Wire) (ws : List Wire) → length (body_of (w ∷ ws)) ≡ length (padded_encoding w) + length (body_of ws)
 length_body w ws = rw (flat_map-cons, length-append) refl
 
 -- how much the chunks up to a place and the one there take
 pub length_body_next : (cs : List ChunkKind) (i : ℕ) (d : ChunkKind) → i < length cs
-    → length (body_of (take (suc i) (map wire_of cs))) ≡ length (body_of (map wire_of (take i cs))) + length (padded_text (wire_of (get_or cs i d)))
+    → length (body_of (take (suc i) (map wire_of cs))) ≡ length (body_of (map wire_of (take i cs))) + length (padded_encoding (wire_of (get_or cs i d)))
 length_body_next [] i d lt = absurd (omega arith)
 length_body_next (c ∷ cs) zero d lt = omega (arith, length_body (wire_of c) [])
 length_body_next (c ∷ cs) (suc i) d lt =
@@ -69,17 +69,17 @@ length_body_take zero ws = omega arith
 length_body_take (suc n) [] = omega arith
 length_body_take (suc n) (w ∷ ws) = omega (arith, length_body_take n ws, length_body w ws, length_body w (take n ws))
 
-pub length_packet_text : (sum : List ℕ → ℕ) (p : Parts) → length (packet_text sum p) ≡ 12 + length (body_of p.chunks)
-length_packet_text sum p =
+pub length_packet_encoding : (sum : List ℕ → ℕ) (p : Parts) → length (packet_encoding sum p) ≡ 12 + length (body_of p.chunks)
+length_packet_encoding sum p =
     let total = sum (head_of p ++ four_zeroes ++ body_of p.chunks) in
-    omega (arith, length-append (head_of p ++ le32 total) (body_of p.chunks), length-append (head_of p) (le32 total), length_le32 total, length_head_text p.source_port p.destination_port p.verification_tag)
+    omega (arith, length-append (head_of p ++ le32 total) (body_of p.chunks), length-append (head_of p) (le32 total), length_le32 total, length_head_encoding p.source_port p.destination_port p.verification_tag)
 
--- room for the text of a packet is room for its header and its first chunks
-pub lacks_text : (sum : List ℕ → ℕ) (room : ℕ) (p : Parts) → LacksRoom room 12 p.chunks → room < length (packet_text sum p)
-lacks_text sum room p lacks = omega (arith, lacks.2, length_body_take lacks.0 p.chunks, length_packet_text sum p)
+-- room for the encoding of a packet is room for its header and its first chunks
+pub lacks_encoding : (sum : List ℕ → ℕ) (room : ℕ) (p : Parts) → LacksRoom room 12 p.chunks → room < length (packet_encoding sum p)
+lacks_encoding sum room p lacks = omega (arith, lacks.2, length_body_take lacks.0 p.chunks, length_packet_encoding sum p)
 
--- a packet whose writing names a fault has no text
-pub no_packet_text : (e : Error) (ws : List Wire) → FirstTextFault e ws → IsTextError e × (AllByRecursion HasText ws → ⊥)
-no_packet_text e [] fault = absurd fault
-no_packet_text e (w ∷ ws) (inl fault) = let n = no_text e w fault in (n.0, λ all. n.1 all.0)
-no_packet_text e (w ∷ ws) (inr more) = let n = no_packet_text e ws more.1 in (n.0, λ all. n.1 all.1)
+-- a packet whose writing names a fault has no encoding
+pub no_packet_encoding : (e : Error) (ws : List Wire) → FirstEncodingFault e ws → IsEncodingError e × (AllByRecursion HasEncoding ws → ⊥)
+no_packet_encoding e [] fault = absurd fault
+no_packet_encoding e (w ∷ ws) (inl fault) = let n = no_encoding e w fault in (n.0, λ all. n.1 all.0)
+no_packet_encoding e (w ∷ ws) (inr more) = let n = no_packet_encoding e ws more.1 in (n.0, λ all. n.1 all.1)

@@ -6,8 +6,8 @@ use Rattle.sctp_base.specs.declared.error.Error.TheVariants as errors
 use Rattle.sctp_base.specs.Field.{u32_le_at}
 use Rattle.sctp_base.specs.Padding.{padded}
 use Rattle.sctp_chunks.specs.Framing.{declared}
-use Rattle.sctp_chunks.specs.Wire.{Wire, HasText}
-use Rattle.sctp_chunks.specs.Check.{TextFault}
+use Rattle.sctp_chunks.specs.Wire.{Wire, HasEncoding}
+use Rattle.sctp_chunks.specs.Check.{EncodingFault}
 use Rattle.sctp_chunks.specs.Kind.{KindFault}
 use Rattle.sctp_base.specs.Walk.{Walks}
 use Rattle.sctp_packets.specs.Packet.{Parts, Steps, after, summed, body_of}
@@ -34,15 +34,15 @@ PacketFault sum e bytes = HeadFault sum e bytes ⊎ WalkFault e (drop 12 bytes)
 
 -- ---- writing
 
--- the refusal of the first of these chunks that has no text
-abbrev pub FirstTextFault : Error → List Wire → Type 0
-FirstTextFault e [] = ⊥
-FirstTextFault e (w ∷ ws) = TextFault e w ⊎ (HasText w × FirstTextFault e ws)
+-- the refusal of the first of these chunks that has no encoding
+abbrev pub FirstEncodingFault : Error → List Wire → Type 0
+FirstEncodingFault e [] = ⊥
+FirstEncodingFault e (w ∷ ws) = EncodingFault e w ⊎ (HasEncoding w × FirstEncodingFault e ws)
 
--- why a packet has no text
-abbrev pub PacketTextFault : Error → Parts → Type 0
-PacketTextFault e p = FirstTextFault e p.chunks
+-- why a packet has no encoding
+abbrev pub PacketEncodingFault : Error → Parts → Type 0
+PacketEncodingFault e p = FirstEncodingFault e p.chunks
 
--- the room is short of so many bytes and of some first chunks, each of which has a text
+-- the room is short of so many bytes and of some first chunks, each of which has an encoding
 abbrev pub LacksRoom : ℕ → ℕ → List Wire → Type 0
-LacksRoom room head ws = (n : ℕ) × AllByRecursion HasText (take n ws) × (room < head + length (body_of (take n ws)))
+LacksRoom room head ws = (n : ℕ) × AllByRecursion HasEncoding (take n ws) × (room < head + length (body_of (take n ws)))

@@ -5,7 +5,7 @@ use Rattle.sctp_base.specs.Field.{be16, be32, le32, u16_at, u32_at, u32_le_at}
 use Rattle.sctp_base.specs.Padding.{padding_of, padded, four_zeroes}
 use Rattle.sctp_base.specs.Walk.{Walks}
 use Rattle.sctp_chunks.specs.Framing.{declared}
-use Rattle.sctp_chunks.specs.Wire.{Wire, ReadsChunk, HasText, text_of}
+use Rattle.sctp_chunks.specs.Wire.{Wire, ReadsChunk, HasEncoding, encoding_of}
 use Rattle.sctp_chunks.specs.Fits.{Fits, Canonical}
 use Rattle.sctp_chunks.specs.Kind.{wire_of, IsRead}
 use Rattle.sctp_packets.specs.declared.packet.Packet.{Packet}
@@ -55,28 +55,28 @@ pub record ReadsPacket (sum : List ℕ → ℕ) (bytes : List ℕ) (p : Parts) :
 -- ---- writing
 
 -- a chunk with its padding
-unfoldable pub padded_text : Wire → List ℕ
-padded_text w = text_of w ++ replicate (padding_of (length (text_of w))) 0
+unfoldable pub padded_encoding : Wire → List ℕ
+padded_encoding w = encoding_of w ++ replicate (padding_of (length (encoding_of w))) 0
 
 abbrev pub body_of : List Wire → List ℕ
-body_of ws = flat_map padded_text ws
+body_of ws = flat_map padded_encoding ws
 
-unfoldable pub head_text : ℕ → ℕ → ℕ → List ℕ
-head_text source_port destination_port verification_tag = be16 source_port ++ be16 destination_port ++ be32 verification_tag
+unfoldable pub head_encoding : ℕ → ℕ → ℕ → List ℕ
+head_encoding source_port destination_port verification_tag = be16 source_port ++ be16 destination_port ++ be32 verification_tag
 
 abbrev pub head_of : Parts → List ℕ
-head_of p = head_text p.source_port p.destination_port p.verification_tag
+head_of p = head_encoding p.source_port p.destination_port p.verification_tag
 
-abbrev pub HavePacketText : Parts → Type 0
-HavePacketText p = AllByRecursion HasText p.chunks
+abbrev pub HavePacketEncoding : Parts → Type 0
+HavePacketEncoding p = AllByRecursion HasEncoding p.chunks
 
--- a packet of chunks whose texts read back
+-- a packet of chunks whose encodings read back
 abbrev pub IsCanonical : Parts → Type 0
 IsCanonical p = AllByRecursion Canonical p.chunks
 
--- the one text of a packet
-abbrev pub packet_text : (List ℕ → ℕ) → Parts → List ℕ
-packet_text sum p = head_of p ++ le32 (sum (head_of p ++ four_zeroes ++ body_of p.chunks)) ++ body_of p.chunks
+-- the one encoding of a packet
+abbrev pub packet_encoding : (List ℕ → ℕ) → Parts → List ℕ
+packet_encoding sum p = head_of p ++ le32 (sum (head_of p ++ four_zeroes ++ body_of p.chunks)) ++ body_of p.chunks
 
 -- a packet whose numbers fit the widths that they are written in
 pub record FitsParts (p : Parts) : Type 0 where

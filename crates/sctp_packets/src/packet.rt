@@ -8,16 +8,16 @@ ghost use Rattle.std.specs.Prelude.{[]};
 ghost use Rattle.sctp_base.specs.Field.{le32, u16_at, u32_at};
 ghost use Rattle.sctp_base.specs.declared.error.Error.TheVariants.{ErrOutOfMemory};
 ghost use Rattle.sctp_base.specs.Outcome.{OrMemory, GivesUnlessMemory};
-ghost use Rattle.sctp_chunks.specs.Check.{TextFault, IsTextError};
+ghost use Rattle.sctp_chunks.specs.Check.{EncodingFault, IsEncodingError};
 ghost use Rattle.sctp_chunks.specs.Kind.{wire_of, IsFreshKind};
 ghost use Rattle.sctp_chunks.specs.Fits.{Fits, Canonical};
-ghost use Rattle.sctp_chunks.specs.Wire.{Wire, HasText};
+ghost use Rattle.sctp_chunks.specs.Wire.{Wire, HasEncoding};
 ghost use Rattle.sctp_chunks.specs.Framing.{declared};
 ghost use Rattle.sctp_base.specs.Padding.{padded, four_zeroes};
 ghost use Rattle.sctp_base.specs.Walk.{Walks};
-ghost use Rattle.sctp_packets.specs.Packet.{Parts, parts_of, IsCanonical, IsHeaded, ReadsPacket, Steps, after, padded_text, body_of, head_text, head_of, HavePacketText, packet_text, FitsParts};
-ghost use Rattle.sctp_packets.specs.Sound.{is_init, has_init, IsSound, InitFault, SoundFault};
-ghost use Rattle.sctp_packets.specs.Fault.{HeadFault, PacketFault, PlaceFault, WalkFault, FirstTextFault, PacketTextFault, LacksRoom};
+ghost use Rattle.sctp_packets.specs.Packet.{Parts, parts_of, IsCanonical, IsHeaded, ReadsPacket, Steps, after, padded_encoding, body_of, head_encoding, head_of, HavePacketEncoding, packet_encoding, FitsParts};
+ghost use Rattle.sctp_packets.specs.Valid.{is_init, has_init, IsValid, InitFault, ValidFault};
+ghost use Rattle.sctp_packets.specs.Fault.{HeadFault, PacketFault, PlaceFault, WalkFault, FirstEncodingFault, PacketEncodingFault, LacksRoom};
 
 pub mod partial_decode;
 
@@ -75,7 +75,7 @@ fn read_step(alloc: Global, rest: &Bytes) -> Result<(ChunkKind, usize)>
     requires { 0 < length rest.now }
     ensures found { IfOk result (λ x. Steps rest.now (wire_of x.0)) }
     ensures length { IfOk result (λ x. x.1 ≡ padded (declared rest.now)) }
-    ensures rewritable { IfOk result (λ x. HasText (wire_of x.0)) }
+    ensures rewritable { IfOk result (λ x. HasEncoding (wire_of x.0)) }
     ensures canonical { IfOk result (λ x. Canonical (wire_of x.0)) }
     ensures fresh { IfOk result (λ x. IsFreshKind x.0) }
     ensures only { (w : Wire) → Steps rest.now w → GivesUnlessMemory result (λ x. wire_of x.0 ≡ w) }
@@ -99,7 +99,7 @@ fn read_chunks(alloc: Global, raw: Bytes) -> Result<Vec<ChunkKind>>
     ensures only { (ws : List Wire) → Walks Steps after raw ws []
         → GivesUnlessMemory result (λ v. map wire_of v.items ≡ ws) }
     ensures fault { IfErr result (λ e. OrMemory e (WalkFault e raw)) }
-    ensures rewritable { IfOk result (λ v. AllByRecursion HasText (map wire_of v.items)) }
+    ensures rewritable { IfOk result (λ v. AllByRecursion HasEncoding (map wire_of v.items)) }
     ensures canonical { IfOk result (λ v. AllByRecursion Canonical (map wire_of v.items)) }
     ensures fresh { IfOk result (λ v. AllByRecursion IsFreshKind v.items) }
 {
@@ -145,15 +145,15 @@ fn open_packet<C: Checksum>(raw: &Bytes, checksum: &C) -> Result<(CommonHeader, 
 
 /// Appends a chunk and its padding. Refuses as `Chunk::marshal_to` does, and the bytes are as they were then.
 fn put_chunk(buf: &mut BytesMut, chunk: &ChunkKind) -> Result<()>
-    ensures ok { OnOk result (HasText (wire_of chunk.now)
-        × (buf.new.items ≡ buf.old.items ++ padded_text (wire_of chunk.now))) }
+    ensures ok { OnOk result (HasEncoding (wire_of chunk.now)
+        × (buf.new.items ≡ buf.old.items ++ padded_encoding (wire_of chunk.now))) }
     ensures spare { OnOk result
-        (buf.old.spare ≤ buf.new.spare + length (padded_text (wire_of chunk.now))) }
+        (buf.old.spare ≤ buf.new.spare + length (padded_encoding (wire_of chunk.now))) }
     ensures fits { OnOk result (Fits (wire_of chunk.now)) }
     ensures err { OnErr result (buf.new.items ≡ buf.old.items) }
-    ensures refused { IfErr result (λ e. TextFault e (wire_of chunk.now)
-        ⊎ ((e ≡ ErrOutOfMemory) × HasText (wire_of chunk.now)
-        × (buf.old.spare < length (padded_text (wire_of chunk.now))))) }
+    ensures refused { IfErr result (λ e. EncodingFault e (wire_of chunk.now)
+        ⊎ ((e ≡ ErrOutOfMemory) × HasEncoding (wire_of chunk.now)
+        × (buf.old.spare < length (padded_encoding (wire_of chunk.now))))) }
 {
     let start = buf.len();
     let end = chunk.marshal_to(buf)?;
@@ -169,13 +169,13 @@ fn put_chunk(buf: &mut BytesMut, chunk: &ChunkKind) -> Result<()>
 
 /// Appends chunks, each with its padding. After a refusal some may stand there.
 fn put_chunks(buf: &mut BytesMut, chunks: &[ChunkKind]) -> Result<()>
-    ensures ok { OnOk result (AllByRecursion HasText (map wire_of chunks.now)
+    ensures ok { OnOk result (AllByRecursion HasEncoding (map wire_of chunks.now)
         × (buf.new.items ≡ buf.old.items ++ body_of (map wire_of chunks.now))) }
     ensures fits { OnOk result (AllByRecursion Fits (map wire_of chunks.now)) }
     ensures kept { take (length buf.old.items) buf.new.items ≡ buf.old.items }
     ensures spare { OnOk result
         (buf.old.spare ≤ buf.new.spare + length (body_of (map wire_of chunks.now))) }
-    ensures refused { IfErr result (λ e. FirstTextFault e (map wire_of chunks.now)
+    ensures refused { IfErr result (λ e. FirstEncodingFault e (map wire_of chunks.now)
         ⊎ ((e ≡ ErrOutOfMemory) × LacksRoom buf.old.spare 0 (map wire_of chunks.now))) }
 {
     for chunk in chunks {
@@ -185,10 +185,10 @@ fn put_chunks(buf: &mut BytesMut, chunks: &[ChunkKind]) -> Result<()>
 }
 
 /// Appends the header, with zeros where the checksum is to stand.
-#[tactic(auto, unfolding(crate::specs::Packet::head_text))]
+#[tactic(auto, unfolding(crate::specs::Packet::head_encoding))]
 fn put_head(buf: &mut BytesMut, header: CommonHeader) -> Result<()>
     ensures ok { OnOk result (buf.new.items ≡ buf.old.items
-        ++ head_text header.source_port header.destination_port header.verification_tag ++ four_zeroes) }
+        ++ head_encoding header.source_port header.destination_port header.verification_tag ++ four_zeroes) }
     ensures fits { OnOk result ((header.source_port < 2 ^ 16) × (header.destination_port < 2 ^ 16)
         × (header.verification_tag < 2 ^ 32)) }
     ensures err { OnErr result (buf.new.items ≡ buf.old.items) }
@@ -232,8 +232,8 @@ impl Packet {
             → GivesUnlessMemory result (λ q. parts_of q ≡ p) }
         ensures fault { IfErr result
             (λ e. OrMemory e (PacketFault (C.sum checksum.now) e raw.now)) }
-        // What was read has a text, which reads back.
-        ensures rewritable { IfOk result (λ p. HavePacketText (parts_of p)) }
+        // What was read has an encoding, which reads back.
+        ensures rewritable { IfOk result (λ p. HavePacketEncoding (parts_of p)) }
         ensures canonical { IfOk result (λ p. IsCanonical (parts_of p)) }
         // What the sender alone keeps of a chunk is not set.
         ensures fresh { IfOk result (λ p. AllByRecursion IsFreshKind p.chunks.items) }
@@ -248,24 +248,24 @@ impl Packet {
 
     /// Appends the packet, whatever stands before it in the buffer, and answers the
     /// buffer's length. The checksum is of the packet's own bytes.
-    /// Refuses as `Chunk::marshal_to` does for the first chunk that has no text, or for
+    /// Refuses as `Chunk::marshal_to` does for the first chunk that has no encoding, or for
     /// memory where the buffer lacked room. The buffer's bytes are as they were then.
     #[tactic(auto, using(crate::proofs::Again::packet_again))]
     pub fn marshal_to<C: Checksum>(&self, buf: &mut BytesMut, checksum: &C) -> Result<usize>
-        ensures ok { IfOk result (λ n. HavePacketText (parts_of self.now)
-            × (buf.new.items ≡ buf.old.items ++ packet_text (C.sum checksum.now) (parts_of self.now))
+        ensures ok { IfOk result (λ n. HavePacketEncoding (parts_of self.now)
+            × (buf.new.items ≡ buf.old.items ++ packet_encoding (C.sum checksum.now) (parts_of self.now))
             × (n ≡ length buf.new.items)) }
         // What is written reads back.
         ensures reads_back { IsCanonical (parts_of self.now)
             → OnOk result (ReadsPacket (C.sum checksum.now)
-            (packet_text (C.sum checksum.now) (parts_of self.now)) (parts_of self.now)) }
+            (packet_encoding (C.sum checksum.now) (parts_of self.now)) (parts_of self.now)) }
         ensures err { OnErr result (buf.new.items ≡ buf.old.items) }
         ensures refused { IfErr result (λ e.
-            (IsTextError e × (HavePacketText (parts_of self.now) → ⊥))
+            (IsEncodingError e × (HavePacketEncoding (parts_of self.now) → ⊥))
             ⊎ ((e ≡ ErrOutOfMemory)
-            × (buf.old.spare < length (packet_text (C.sum checksum.now) (parts_of self.now))))) }
-        // The fault is that of the first chunk without a text; for memory it is refused only where room was short before it.
-        ensures names { IfErr result (λ e. PacketTextFault e (parts_of self.now)
+            × (buf.old.spare < length (packet_encoding (C.sum checksum.now) (parts_of self.now))))) }
+        // The fault is that of the first chunk without an encoding; for memory it is refused only where room was short before it.
+        ensures names { IfErr result (λ e. PacketEncodingFault e (parts_of self.now)
             ⊎ ((e ≡ ErrOutOfMemory) × LacksRoom buf.old.spare 12 (parts_of self.now).chunks)) }
     {
         let start = buf.len();
@@ -278,15 +278,15 @@ impl Packet {
         }
     }
 
-    /// The packet as bytes. Refuses as `Chunk::marshal` does for the first chunk that has no text, or for memory.
+    /// The packet as bytes. Refuses as `Chunk::marshal` does for the first chunk that has no encoding, or for memory.
     pub fn marshal<C: Checksum>(&self, alloc: Global, checksum: &C) -> Result<Bytes>
-        ensures ok { IfOk result (λ b. HavePacketText (parts_of self.now)
-            × (b ≡ packet_text (C.sum checksum.now) (parts_of self.now))) }
+        ensures ok { IfOk result (λ b. HavePacketEncoding (parts_of self.now)
+            × (b ≡ packet_encoding (C.sum checksum.now) (parts_of self.now))) }
         ensures reads_back { IsCanonical (parts_of self.now)
             → IfOk result (λ b. ReadsPacket (C.sum checksum.now) b (parts_of self.now)) }
         ensures refused { IfErr result (λ e. OrMemory e
-            (IsTextError e × (HavePacketText (parts_of self.now) → ⊥))) }
-        ensures names { IfErr result (λ e. OrMemory e (PacketTextFault e (parts_of self.now))) }
+            (IsEncodingError e × (HavePacketEncoding (parts_of self.now) → ⊥))) }
+        ensures names { IfErr result (λ e. OrMemory e (PacketEncodingFault e (parts_of self.now))) }
     {
         let mut buf = BytesMut::new(alloc);
         self.marshal_to(&mut buf, checksum)?;
@@ -295,13 +295,13 @@ impl Packet {
 
     // After a refusal a part may stand there.
     fn put<C: Checksum>(&self, buf: &mut BytesMut, checksum: &C) -> Result<()>
-        ensures ok { OnOk result (HavePacketText (parts_of self.now)
-            × (buf.new.items ≡ buf.old.items ++ packet_text (C.sum checksum.now) (parts_of self.now))) }
+        ensures ok { OnOk result (HavePacketEncoding (parts_of self.now)
+            × (buf.new.items ≡ buf.old.items ++ packet_encoding (C.sum checksum.now) (parts_of self.now))) }
         ensures fits { OnOk result (FitsParts (parts_of self.now)) }
         ensures sum_fits { OnOk result (C.sum checksum.now
             (head_of (parts_of self.now) ++ four_zeroes ++ body_of (parts_of self.now).chunks) < 2 ^ 32) }
         ensures kept { take (length buf.old.items) buf.new.items ≡ buf.old.items }
-        ensures refused { IfErr result (λ e. PacketTextFault e (parts_of self.now)
+        ensures refused { IfErr result (λ e. PacketEncodingFault e (parts_of self.now)
             ⊎ ((e ≡ ErrOutOfMemory) × LacksRoom buf.old.spare 12 (parts_of self.now).chunks)) }
     {
         let start = buf.len();
@@ -323,7 +323,7 @@ fn is_init(chunk: &ChunkKind) -> bool
 }
 
 /// Whether one of the chunks is an INIT.
-#[tactic(auto, using(crate::proofs::Sound::any_mapped))]
+#[tactic(auto, using(crate::proofs::MappedLists::any_mapped))]
 fn has_init(chunks: &[ChunkKind]) -> bool
     ensures { result ≡ has_init (map wire_of chunks.now) }
 {
@@ -337,8 +337,8 @@ impl Packet {
     /// Refuses with `ErrSctpPacketSourcePortZero`, `ErrSctpPacketDestinationPortZero`,
     /// `ErrInitChunkBundled` or `ErrInitChunkVerifyTagNotZero`.
     pub fn check_packet(&self) -> Result<()>
-        ensures ok { OnOk result (IsSound (parts_of self.now)) }
-        ensures fault { IfErr result (λ e. SoundFault e (parts_of self.now)) }
+        ensures ok { OnOk result (IsValid (parts_of self.now)) }
+        ensures fault { IfErr result (λ e. ValidFault e (parts_of self.now)) }
     {
         if self.common_header.source_port == 0 {
             return Err(Error::ErrSctpPacketSourcePortZero);

@@ -6,6 +6,6 @@ pub use sctp_outbound::{
     pending_queue,
 };
 pub use sctp_reassembly::{
-    Chunk, Chunks, Fragments, ReassemblyQueue, chunks, loose, reassembly_queue,
+    Chunk, Chunks, Fragments, ReassemblyQueue, chunks, reassembly_queue, unassembled,
 };
 pub use sctp_serial::{Turns, turns};

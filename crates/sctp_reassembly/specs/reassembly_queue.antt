@@ -1,4 +1,4 @@
--- What the contracts of `ReassemblyQueue`, and of the messages and loose fragments in it, cite.
+-- What the contracts of `ReassemblyQueue`, and of the messages and unassembled fragments in it, cite.
 pub mod Around
 pub mod Chunks
 pub mod Fragments

@@ -2,8 +2,8 @@
 
 ghost use Rattle.std.specs.Prelude.{◌≡◌, ℕ, ◌==◌, nat_lt, ◌+◌, ◌-◌, ◌%◌, ◌^◌, ◌<◌, ◌≤◌, [], ◌∷◌, length, min, OnOk, OnErr, true, false, IfOk, IfErr, IfSome, IfNone, IsOk, IsTrue, Ok, Err, MatchOption, not, is_some, option_map, slice_index_or, if◌then◌else◌};
 ghost use Rattle.std.specs.List.{list_any, position_or_len};
-ghost use Rattle.sctp_lists.specs.Serial.{comes_before16, at_or_before, at_or_before16};
-ghost use Rattle.sctp_lists.specs.Lists.{those};
+ghost use Rattle.sctp_list_lemmas.specs.Serial.{comes_before16, at_or_before, at_or_before16};
+ghost use Rattle.sctp_list_lemmas.specs.Lists.{those};
 ghost use Rattle.sctp_reassembly.specs.reassembly_queue.ReassemblyQueue.{is_passed, set_bytes, set_of_run};
 ghost use Rattle.sctp_reassembly.specs.reassembly_queue.Fragments.{has_ssn, chunks_of_ssn, sets_with, answer_with, new_set};
 ghost use Rattle.sctp_serial.specs.DataChunks.{bytes_of};
@@ -15,20 +15,20 @@ ghost use Rattle.sctp_reassembly.specs.reassembly_queue.Skips.{after_bounded_ski
 ghost use Rattle.sctp_base.specs.declared.error.Error.TheVariants.{ErrOutOfMemory, ErrInboundPacketTooLarge};
 
 pub mod chunks;
-pub mod loose;
-mod loose_places;
 mod ordered_sets;
 mod pool;
 mod sizes;
 mod skips;
+pub mod unassembled;
+mod unassembled_places;
 
 use self::chunks::{Chunks, Fragments};
-use self::loose::{Loose, LooseFragment};
-use self::loose_places::{front_upto, place_for};
 use self::ordered_sets::{OrderedSets, clone_sets};
 use self::pool::Pool;
 use self::sizes::{bytes_of_front, size_after, size_before};
 use self::skips::{earliest_from, goal, has_settled, latest_passable};
+use self::unassembled::{Loose, UnassembledFragment};
+use self::unassembled_places::{front_upto, place_for};
 use sctp_base::error::{Error, Result};
 use sctp_base::util::{sna16gt, sna16lt, sna16lte, sna32lte};
 use sctp_chunks::chunk::chunk_payload_data::{ChunkPayloadData, PayloadProtocolIdentifier};
@@ -38,7 +38,7 @@ use std::collections::VecDeque;
 use std::marker::Model;
 
 /// What came of the messages of one stream and was not read: sets of ordered fragments by their
-/// stream sequence numbers, whole unordered messages, and loose fragments of unordered ones.
+/// stream sequence numbers, complete unordered messages, and unassembled fragments of unordered ones.
 #[derive(Drop)]
 pub struct ReassemblyQueue {
     alloc: Global,
@@ -58,7 +58,7 @@ impl Model for ReassemblyQueue {
 
     ghost view = { λ q. record {
       si = q.si;
-      held = record { next_ssn = q.next_ssn; ordered = q.ordered; unordered = q.unordered.items; loose = q.unordered_chunks };
+      held = record { next_ssn = q.next_ssn; ordered = q.ordered; unordered = q.unordered.items; unassembled = q.unordered_chunks };
       bytes = q.n_bytes;
       max_message_size = q.max_message_size;
     } };
@@ -76,7 +76,7 @@ impl ReassemblyQueue {
             next_ssn = 0;
             ordered = [];
             unordered = [];
-            loose = [];
+            unassembled = [];
           };
           bytes = 0;
           max_message_size = max_message_size;
@@ -132,7 +132,7 @@ impl ReassemblyQueue {
         self.ordered.as_deque()
     }
 
-    /// The whole unordered messages.
+    /// The complete unordered messages.
     pub fn unordered(&self) -> &VecDeque<Fragments>
         ensures { result.now.items ≡ self.now.held.unordered }
     {
@@ -140,10 +140,10 @@ impl ReassemblyQueue {
     }
 
     /// The fragments of unordered messages that are not whole.
-    pub fn unordered_chunks(&self) -> &VecDeque<LooseFragment>
-        ensures { result.now.items ≡ self.now.held.loose }
+    pub fn unordered_chunks(&self) -> &VecDeque<UnassembledFragment>
+        ensures { result.now.items ≡ self.now.held.unassembled }
     {
-        self.unordered_chunks.loose().as_deque()
+        self.unordered_chunks.unassembled().as_deque()
     }
 
     /// How many bytes a message may have.
@@ -153,7 +153,7 @@ impl ReassemblyQueue {
         self.max_message_size
     }
 
-    /// The byte count: it rises by what `push` keeps, and falls by what is read or given up.
+    /// The byte count: it rises by what `push` keeps, and falls by what is read or discarded.
     pub fn get_num_bytes(&self) -> usize
         ensures { result ≡ self.now.bytes }
     {
@@ -216,32 +216,36 @@ impl ReassemblyQueue {
         self.is_too_large_at(chunk, place)
     }
 
-    // Where an unordered chunk goes among the loose fragments.
+    // Where an unordered chunk goes among the unassembled fragments.
     fn place_of(&self, chunk: &ChunkPayloadData) -> usize
         ensures place { chunk.now.unordered ≡ true
-            → result ≡ place_among chunk.now.tsn self.now.held.loose }
+            → result ≡ place_among chunk.now.tsn self.now.held.unassembled }
         ensures fits { chunk.now.unordered ≡ true → chunk.now.tsn < 2 ^ 32 }
     {
         if !chunk.unordered {
             return 0;
         }
-        place_for(self.unordered_chunks.loose(), chunk.tsn, &mut Turns::new())
+        place_for(
+            self.unordered_chunks.unassembled(),
+            chunk.tsn,
+            &mut Turns::new(),
+        )
     }
 
-    // Whether the message of the chunk, which goes to this place among the loose fragments if it is unordered, would be too
+    // Whether the message of the chunk, which goes to this place among the unassembled fragments if it is unordered, would be too
     // long with it.
     fn is_too_large_at(&self, chunk: &ChunkPayloadData, place: usize) -> bool
         requires place { chunk.now.unordered ≡ true
-            → place ≡ place_among chunk.now.tsn self.now.held.loose }
+            → place ≡ place_among chunk.now.tsn self.now.held.unassembled }
         requires fits { chunk.now.unordered ≡ true → chunk.now.tsn < 2 ^ 32 }
         ensures { result ≡ nat_lt self.now.max_message_size
-            (projected_size chunk.now self.now.held.ordered self.now.held.loose) }
+            (projected_size chunk.now self.now.held.ordered self.now.held.unassembled) }
     {
         if chunk.unordered && self.fits_beside_all(chunk) {
             return false;
         }
         let projected = if chunk.unordered {
-            unordered_size(chunk, self.unordered_chunks.loose(), place)
+            unordered_size(chunk, self.unordered_chunks.unassembled(), place)
         } else {
             self.ordered
                 .bytes_there(chunk.stream_sequence_number)
@@ -250,17 +254,19 @@ impl ReassemblyQueue {
         projected > self.max_message_size as usize
     }
 
-    // Whether all loose fragments and the chunk are no longer than one message may be, in serial order. Then its
+    // Whether all unassembled fragments and the chunk are no longer than one message may be, in serial order. Then its
     // message is no longer either, since no fragment stands on both sides of the chunk.
     fn fits_beside_all(&self, chunk: &ChunkPayloadData) -> bool
-        ensures yes { result ≡ true → IsSerial self.now.held.loose × (bytes_of self.now.held.loose
+        ensures yes { result ≡ true → IsSerial self.now.held.unassembled × (bytes_of self.now.held.unassembled
             + length chunk.now.user_data ≤ self.now.max_message_size) }
-        ensures no { result ≡ false → IsSerial self.now.held.loose → self.now.max_message_size
-            < bytes_of self.now.held.loose + length chunk.now.user_data }
+        ensures no { result ≡ false → IsSerial self.now.held.unassembled → self.now.max_message_size
+            < bytes_of self.now.held.unassembled + length chunk.now.user_data }
     {
-        let loose = self.unordered_chunks.loose();
-        let all = loose.get_num_bytes().saturating_add(chunk.user_data.len());
-        loose.is_serial() && all <= self.max_message_size as usize
+        let unassembled = self.unordered_chunks.unassembled();
+        let all = unassembled
+            .get_num_bytes()
+            .saturating_add(chunk.user_data.len());
+        unassembled.is_serial() && all <= self.max_message_size as usize
     }
 
     /// Takes an ordered chunk. Refuses only for memory.
@@ -282,10 +288,10 @@ impl ReassemblyQueue {
     }
 
     /// Takes an unordered chunk.
-    /// Precondition: `place` is where it goes among the loose fragments.
+    /// Precondition: `place` is where it goes among the unassembled fragments.
     /// Refuses only for memory.
     fn push_unordered(&mut self, chunk: ChunkPayloadData, place: usize) -> Result<bool>
-        requires { place ≡ place_among chunk.tsn self.old.held.loose }
+        requires { place ≡ place_among chunk.tsn self.old.held.unassembled }
         ensures ok { IfOk result (λ whole. PushesUnordered chunk self.old self.new whole) }
         ensures err { OnErr result (self.new ≡ self.old) }
         ensures memory { IfErr result (λ e. e ≡ ErrOutOfMemory) }
@@ -303,12 +309,12 @@ impl ReassemblyQueue {
         }
     }
 
-    /// Takes the run that ends earliest out of the loose fragments, if there is one. The byte count stays: where it was the sum of
+    /// Takes the run that ends earliest out of the unassembled fragments, if there is one. The byte count stays: where it was the sum of
     /// the bytes held, it is more by those of the run, until `subtract_num_bytes` takes them off. Refuses only for memory; the queue
     /// is as it was then.
     pub fn find_complete_unordered_chunk_set(&mut self, alloc: Global) -> Result<Option<Chunks>>
         ensures ok { IfOk result
-            (λ set. MatchOption set (HasNoRun self.old.held.loose × (self.new ≡ self.old))
+            (λ set. MatchOption set (HasNoRun self.old.held.unassembled × (self.new ≡ self.old))
             (λ chunks. GivesRun self.old self.new chunks.set × (chunks ≡ at_start chunks.set))) }
         ensures counted { IfOk result (λ set. IsCounted self.old → self.new.bytes
             ≡ held_bytes self.new.held + bytes_read (option_map (λ c. c.set) set)) }
@@ -334,7 +340,7 @@ impl ReassemblyQueue {
         }
     }
 
-    /// Takes out the first whole unordered message, else the front ordered one where it is whole and its number is
+    /// Takes out the first complete unordered message, else the front ordered one where it is whole and its number is
     /// not after the next (RFC 4960 6.6). The next number rises only with a message that has it. It takes no memory.
     pub fn read(&mut self) -> Option<Chunks>
         ensures message { result ≡ option_map at_start (message_read self.old.held) }
@@ -373,7 +379,7 @@ impl ReassemblyQueue {
         Some(set)
     }
 
-    /// Gives up the incomplete sets at or before the number, and waits for none of
+    /// Discards the incomplete sets at or before the number, and waits for none of
     /// them (RFC 3758 3.6). Whole ones stay and can be read. It takes no memory.
     pub fn forward_tsn_for_ordered(&mut self, last_ssn: u16)
         ensures value { self.new ≡ after_ordered_skip last_ssn self.old }
@@ -385,7 +391,7 @@ impl ReassemblyQueue {
         self.release(gone);
     }
 
-    /// Gives up the incomplete sets at or before the number that miss a TSN at or before the given one, and waits
+    /// Discards the incomplete sets at or before the number that miss a TSN at or before the given one, and waits
     /// for none of them, but stops before the first set that it leaves alone. So a FORWARD-TSN that was kept over
     /// a reset of the stream does not reach into messages whose TSNs lie behind its own. It takes no memory.
     pub fn forward_tsn_for_ordered_bounded(&mut self, last_ssn: u16, new_cumulative_tsn: u32)
@@ -433,22 +439,22 @@ impl ReassemblyQueue {
         )
     }
 
-    /// Drops the loose fragments up to the first that is after the TSN
+    /// Drops the unassembled fragments up to the first that is after the TSN
     /// (RFC 3758 3.6). Whole unordered messages stay. It takes no memory.
     pub fn forward_tsn_for_unordered(&mut self, new_cumulative_tsn: u32)
         ensures value { self.new ≡ after_unordered_skip new_cumulative_tsn self.old }
         ensures counted { IsCounted self.old → IsCounted self.new }
     {
         let mut turns = Turns::new();
-        let loose = self.unordered_chunks.loose();
-        let count = front_upto(loose, new_cumulative_tsn, &mut turns);
-        let gone = bytes_of_front(loose, count, &mut turns);
+        let unassembled = self.unordered_chunks.unassembled();
+        let count = front_upto(unassembled, new_cumulative_tsn, &mut turns);
+        let gone = bytes_of_front(unassembled, count, &mut turns);
         self.unordered_chunks.drop_front(count);
         self.release(gone);
     }
 }
 
-// A whole message of these fragments.
+// A complete message of these fragments.
 fn set_of_run(chunks: Vec<ChunkPayloadData>) -> Fragments
     ensures { result ≡ set_of_run chunks.items }
 {
@@ -460,14 +466,14 @@ fn set_of_run(chunks: Vec<ChunkPayloadData>) -> Fragments
 }
 
 // How long the message of an unordered chunk would be with it, up to the greatest number.
-fn unordered_size(chunk: &ChunkPayloadData, loose: &Loose, place: usize) -> usize
-    requires { place ≡ place_among chunk.now.tsn loose.now }
-    ensures { result ≡ min (size_before chunk.now loose.now
-        + length chunk.now.user_data + size_after chunk.now loose.now) (2 ^ 64 - 1) }
+fn unordered_size(chunk: &ChunkPayloadData, unassembled: &Loose, place: usize) -> usize
+    requires { place ≡ place_among chunk.now.tsn unassembled.now }
+    ensures { result ≡ min (size_before chunk.now unassembled.now
+        + length chunk.now.user_data + size_after chunk.now unassembled.now) (2 ^ 64 - 1) }
 {
-    size_before(chunk, loose, place)
+    size_before(chunk, unassembled, place)
         .saturating_add(chunk.user_data.len())
-        .saturating_add(size_after(chunk, loose, place))
+        .saturating_add(size_after(chunk, unassembled, place))
 }
 
 // The number expected next, once no message up to the other one is waited for.

@@ -1,5 +1,5 @@
 -- Lemmas on chunks in serial order, and on turns.
-pub mod Ascending
+pub mod AscendingEdits
 pub mod Halves
-pub mod ListLemmas
+pub mod ListEdits
 pub mod Serials

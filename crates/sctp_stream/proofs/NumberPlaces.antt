@@ -7,7 +7,7 @@ use Rattle.std.specs.Prelude.{MatchOption, ◌==◌, ◌↔◌, nat_lt, slice_ge
 use Rattle.std.proofs.Math.Path.{subst}
 use Rattle.std.proofs.lemmas.Bool.{cases_lt, cases_eq, ne_eqb}
 use Rattle.std.proofs.lemmas.Option.{slice_get_within}
-use Rattle.sctp_lists.proofs.Getting.{get-last, slice-front}
+use Rattle.sctp_list_lemmas.proofs.Getting.{get-last, slice-front}
 use Rattle.sctp_stream.specs.Numbers.{IsIndexed, IsOnlyPlace, IsAbsent}
 
 pub one : {A : Type 0} {a b : A} → Some a ≡ Some b → a ≡ b

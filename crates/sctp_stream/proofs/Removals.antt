@@ -6,9 +6,9 @@ use Rattle.std.specs.List.{remove}
 use Rattle.std.specs.Prelude.{◌==◌, ◌⊎◌, ◌↔◌, slice_get, Result, Ok, Err, OnOk, OnErr}
 use Rattle.std.proofs.lemmas.Bool.{cases_lt, cases_eq, ne_eqb}
 use Rattle.std.proofs.lemmas.Option.{slice_get_within}
-use Rattle.sctp_lists.specs.Lists.{those}
-use Rattle.sctp_lists.proofs.Edits.{OnlyAt, those-only, those-none}
-use Rattle.sctp_lists.proofs.Cases.{same-yes}
+use Rattle.sctp_list_lemmas.specs.Lists.{those}
+use Rattle.sctp_list_lemmas.proofs.Edits.{OnlyAt, those-only, those-none}
+use Rattle.sctp_list_lemmas.proofs.Cases.{same-yes}
 use Rattle.sctp_stream.specs.Numbers.{IsIndexed, is_other}
 use Rattle.sctp_stream.proofs.NumberPlaces.{one, missing, apart}
 

@@ -1,7 +1,7 @@
 -- What a stream keeps, its fragments and its counters.
 use Rattle.std.specs.Prelude.{ℕ, ◌+◌, ◌-◌, ◌%◌, ◌^◌, Bool, true, false, ◌&&◌, not, ◌==◌, nat_lt, nat_le, ℤ, pos, negsuc, if◌then◌else◌, List, [], length, map, slice_index_or, None}
-use Rattle.sctp_lists.specs.Kept.{numbers_from}
-use Rattle.sctp_lists.specs.Lists.{pieces}
+use Rattle.sctp_list_lemmas.specs.Kept.{numbers_from}
+use Rattle.sctp_list_lemmas.specs.Lists.{pieces}
 use Rattle.sctp_chunks.specs.declared.chunk.chunk_payload_data.PayloadProtocolIdentifier.{PayloadProtocolIdentifier}
 use Rattle.sctp_chunks.specs.declared.chunk.chunk_payload_data.PayloadProtocolIdentifier.TheVariants.{Dcep, String, Binary, StringEmpty, BinaryEmpty, Unknown}
 use Rattle.sctp_chunks.specs.declared.chunk.chunk_payload_data.ChunkPayloadData.{ChunkPayloadData}
@@ -85,7 +85,7 @@ new_stream id size max ppi = record {
   max_payload_size = size;
   stream_identifier = id;
   default_payload_type = ppi;
-  reassembly_queue = record { si = id; held = record { next_ssn = 0; ordered = []; unordered = []; loose = [] }; bytes = 0; max_message_size = max };
+  reassembly_queue = record { si = id; held = record { next_ssn = 0; ordered = []; unordered = []; unassembled = [] }; bytes = 0; max_message_size = max };
   sequence_number = 0;
   state = ReadWritable;
   unordered = false;

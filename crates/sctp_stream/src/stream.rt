@@ -1,7 +1,7 @@
 //! What a stream keeps.
 
 ghost use Rattle.std.specs.Prelude.{◌≡◌, ◌==◌, ◌&&◌, ◌||◌, ◌+◌, ◌-◌, ◌^◌, ◌<◌, ◌≤◌, ◌⊎◌, ℕ, pos, not, false, true, length, map, List, [], OnOk, OnErr, IfOk, IfErr, IsOk, Ok, None};
-ghost use Rattle.sctp_lists.specs.Kept.{numbers_from};
+ghost use Rattle.sctp_list_lemmas.specs.Kept.{numbers_from};
 ghost use Rattle.sctp_base.specs.declared.error.Error.TheVariants.{ErrOutOfMemory, ErrInboundPacketTooLarge};
 ghost use Rattle.sctp_stream.specs.Stats.{counted_bytes, with_sent, with_received, count_up};
 
@@ -19,7 +19,7 @@ pub type StreamId = u16;
 
 /// Messages and bytes at the boundary to the application. All counters stop at the greatest number.
 ///
-/// A write counts once it was accepted, a read once a message was given; what is sent again or given up changes
+/// A write counts once it was accepted, a read once a message was given; what is sent again or abandoned changes
 /// nothing. Text and binary messages count with their bytes, the two empty kinds with none (the byte that is
 /// sent in their place is not counted), others not at all. A write of no bytes queues no message, and is not to
 /// be counted. What a report asks for beside these, as a label and the moment, is for the layer above.
@@ -331,7 +331,7 @@ impl StreamState {
     }
 
     /// Takes bytes off the buffered amount, which stops at 0, and says whether it fell from over to at most the
-    /// low threshold. At most 0 bytes change nothing. For bytes that the peer acknowledged, or that were given up.
+    /// low threshold. At most 0 bytes change nothing. For bytes that the peer acknowledged, or that were abandoned.
     pub fn on_buffer_released(&mut self, n_bytes_released: i64) -> bool
         ensures low { result ≡ falls_low self.old (released n_bytes_released) }
         ensures rest { self.new ≡ record self.old {

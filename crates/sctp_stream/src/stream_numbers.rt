@@ -2,7 +2,7 @@
 
 ghost use Rattle.std.specs.Prelude.{◌≡◌, ◌++◌, ◌∷◌, [], OnOk, OnErr, IsOkUnless, MatchOption, length, vec_len, vec_capacity, ◌<◌, ◌≤◌};
 ghost use Rattle.sctp_base.specs.declared.error.Error.TheVariants.{ErrOutOfMemory};
-ghost use Rattle.sctp_lists.specs.Lists.{those};
+ghost use Rattle.sctp_list_lemmas.specs.Lists.{those};
 ghost use Rattle.sctp_stream.specs.Numbers.{IsOnlyPlace, IsAbsent, is_other};
 
 use sctp_base::error::Result;

@@ -5,7 +5,7 @@ use Rattle.sctp_outbound.specs.Marks.{with_nsent}
 use Rattle.sctp_outbound.proofs.lemmas.pending_queue.Waiting.{bytes_of-change_where}
 use Rattle.sctp_serial.specs.DataChunks.{has_tsn}
 use Rattle.sctp_transfer.specs.Sender.{Transmission}
-use Rattle.sctp_transfer.specs.SenderRuns.{AfterEachRun, Call, Follows, IsAccounted, Ledger, Makes, RunsTo, at_start, bytes_held, gives_up, gives_up_late, opens, released_by, resends, reserves, sends, sets_mode, starts, takes_sack, writes, written_by}
+use Rattle.sctp_transfer.specs.SenderRuns.{AfterEachRun, Call, Follows, IsAccounted, Ledger, Makes, RunsTo, at_start, bytes_held, abandons, abandons_late, opens, released_by, resends, reserves, sends, sets_mode, starts, takes_sack, writes, written_by}
 use Rattle.sctp_transfer.proofs.Amounts.{started-bytes}
 
 -- what a call makes of the bytes that wait and are in flight
@@ -20,8 +20,8 @@ moves (resends tsn c) old new m =
     omega (arith, e, b)
 moves (writes bytes) old new m = omega (arith, m)
 moves sends old new m = omega (arith, m)
-moves (gives_up bytes) old new m = omega (arith, m)
-moves (gives_up_late gone) old new m = omega (arith, m)
+moves (abandons bytes) old new m = omega (arith, m)
+moves (abandons_late gone) old new m = omega (arith, m)
 moves (takes_sack gone) old new m = omega (arith, m)
 
 next : (c : Call) (old new : Ledger) → Follows c old new → IsAccounted old → IsAccounted new

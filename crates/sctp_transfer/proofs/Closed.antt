@@ -2,9 +2,9 @@
 use Rattle.std.proofs.Common.{◌≡◌, ℕ, Bool, true, false, List, [], ◌∷◌, ◌++◌, Option, Some, None, refl, ap, ◌∙◌}
 use Rattle.std.proofs.lemmas.List.{append-nil}
 use Rattle.std.specs.Prelude.{not, if◌then◌else◌, find}
-use Rattle.sctp_lists.specs.Lists.{those}
-use Rattle.sctp_lists.proofs.Edits.{those-append}
-use Rattle.sctp_lists.proofs.Cases.{same-yes}
+use Rattle.sctp_list_lemmas.specs.Lists.{those}
+use Rattle.sctp_list_lemmas.proofs.Edits.{those-append}
+use Rattle.sctp_list_lemmas.proofs.Cases.{same-yes}
 use Rattle.sctp_chunks.specs.declared.chunk.chunk_payload_data.PayloadProtocolIdentifier.TheVariants.{Unknown}
 use Rattle.sctp_stream.specs.Stream as stream
 use Rattle.sctp_transfer.specs.Inbound as inbound

@@ -2,17 +2,17 @@
 use Rattle.std.proofs.Common.{◌≡◌, ℕ, Bool, true, false, List, [], ◌∷◌, Some, None, refl}
 use Rattle.sctp_chunks.specs.declared.chunk.chunk_payload_data.PayloadProtocolIdentifier.TheVariants as identifiers
 use Rattle.sctp_chunks.specs.declared.chunk.chunk_payload_data.ChunkPayloadData.{ChunkPayloadData}
-use Rattle.sctp_lists.specs.Serial.{distance, comes_before, at_or_before, comes_before16, at_or_before16, distance16}
+use Rattle.sctp_list_lemmas.specs.Serial.{distance, comes_before, at_or_before, comes_before16, at_or_before16, distance16}
 use Rattle.sctp_transfer.specs.declared.receiver.refusal.ReceiverRefusal.TheVariants.{StreamUnknown, MessageTooLarge}
 use Rattle.sctp_transfer.specs.declared.receiver.arrival.Arrival.TheVariants.{New, Repeat}
 use Rattle.sctp_transfer.specs.Inbound.{new_stream, has_number, with_queue}
 use Rattle.sctp_transfer.specs.Receiver.{Reception, at_first, opened, data_refusal, filter_of, with_filter, repeated, TakesEach}
-use Rattle.sctp_lists.specs.Lists.{change_where}
+use Rattle.sctp_list_lemmas.specs.Lists.{change_where}
 use Rattle.sctp_reassembly.specs.reassembly_queue.ReassemblyQueue.{ReassemblyState, after_ordered_push}
-use Rattle.sctp_outbound.specs.Marks.{acknowledged, given_up}
+use Rattle.sctp_outbound.specs.Marks.{acknowledged, as_abandoned}
 use Rattle.sctp_transfer.specs.Flight as flight
 use Rattle.sctp_transfer.specs.Flight.{Flight}
-use Rattle.sctp_transfer.specs.GivingUp.{advanced_ack_point}
+use Rattle.sctp_transfer.specs.Abandonment.{advanced_ack_point}
 use Rattle.sctp_transfer.specs.Late.{late_order, leaving_each}
 use Rattle.sctp_transfer.specs.TsnFilter.{Filter, with_tsn, skipped_to, gap_ack_blocks, has_come, is_opposite}
 
@@ -145,29 +145,29 @@ seven_twice = refl
 
 -- ## A sender
 
--- 103 and 104 are given up, 105 is outstanding, and 106 was reported: RFC 3758 3.5 C2 goes to 104
+-- 103 and 104 are abandoned, 105 is outstanding, and 106 was reported: RFC 3758 3.5 C2 goes to 104
 abbrev in_flight : List ChunkPayloadData → Flight
 in_flight chunks = record (flight.at_first 103) { queue = record (flight.at_first 103).queue { inflight = record { chunks = chunks; duplicates = []; room = 0 } }; next_tsn = 107 }
 
-abbrev given_up_at : ℕ → ChunkPayloadData
-given_up_at tsn = given_up (fragment tsn true true (1 ∷ []))
+abbrev chunk_abandoned_at : ℕ → ChunkPayloadData
+chunk_abandoned_at tsn = as_abandoned (fragment tsn true true (1 ∷ []))
 
-point : advanced_ack_point (in_flight (given_up_at 103 ∷ given_up_at 104 ∷ fragment 105 true true (1 ∷ []) ∷ acknowledged (fragment 106 true true (1 ∷ [])) ∷ [])) ≡ 104
+point : advanced_ack_point (in_flight (chunk_abandoned_at 103 ∷ chunk_abandoned_at 104 ∷ fragment 105 true true (1 ∷ []) ∷ acknowledged (fragment 106 true true (1 ∷ [])) ∷ [])) ≡ 104
 point = refl
 
--- where 105 is given up too, the point stops before what was only reported
-far_point : advanced_ack_point (in_flight (given_up_at 103 ∷ given_up_at 104 ∷ given_up_at 105 ∷ acknowledged (fragment 106 true true (1 ∷ [])) ∷ [])) ≡ 105
+-- where 105 is abandoned too, the point stops before what was only reported
+far_point : advanced_ack_point (in_flight (chunk_abandoned_at 103 ∷ chunk_abandoned_at 104 ∷ chunk_abandoned_at 105 ∷ acknowledged (fragment 106 true true (1 ∷ [])) ∷ [])) ≡ 105
 far_point = refl
 
--- a lapsed chunk is given up with its message, whose two bytes leave
-abbrev lapsed : Flight
-lapsed = in_flight (record (fragment 103 true false (1 ∷ [])) { deadline = Some 5 } ∷ record (fragment 104 false true (2 ∷ [])) { deadline = Some 5 } ∷ [])
+-- a chunk past its deadline is abandoned with its message, whose two bytes leave
+abbrev past_deadline : Flight
+past_deadline = in_flight (record (fragment 103 true false (1 ∷ [])) { deadline = Some 5 } ∷ record (fragment 104 false true (2 ∷ [])) { deadline = Some 5 } ∷ [])
 
-order : late_order 5 lapsed ≡ 103 ∷ 104 ∷ []
+order : late_order 5 past_deadline ≡ 103 ∷ 104 ∷ []
 order = refl
 
-leaves : leaving_each (late_order 5 lapsed) lapsed ≡ record { stream = 1; number = 0; bytes = 2 } ∷ []
+leaves : leaving_each (late_order 5 past_deadline) past_deadline ≡ record { stream = 1; number = 0; bytes = 2 } ∷ []
 leaves = refl
 
-early : late_order 4 lapsed ≡ []
+early : late_order 4 past_deadline ≡ []
 early = refl

@@ -2,11 +2,11 @@
 use Rattle.std.proofs.Common.{◌≡◌, ℕ, ◌+◌, ◌-◌, ◌<◌, ◌^◌, Bool, true, false, List, [], ◌∷◌, map, refl, ap, sym, subst, ◌∙◌, arith, IsTrue, Result, Ok, Err}
 use Rattle.std.specs.Prelude.{if◌then◌else◌, ◌==◌, ◌||◌, not, IsOk, IfOk}
 use Rattle.std.specs.List.{list_any}
-use Rattle.sctp_lists.specs.Kept.{runs_of}
-use Rattle.sctp_lists.specs.Lists.{inserted, those, advanced, Seen}
-use Rattle.sctp_lists.specs.Serial.{distance, comes_before, at_or_before}
-use Rattle.sctp_lists.proofs.More.{not_both}
-use Rattle.sctp_lists.proofs.SerialLemmas.{before_is}
+use Rattle.sctp_list_lemmas.specs.Kept.{runs_of}
+use Rattle.sctp_list_lemmas.specs.Lists.{inserted, those, advanced, Seen}
+use Rattle.sctp_list_lemmas.specs.Serial.{distance, comes_before, at_or_before}
+use Rattle.sctp_list_lemmas.proofs.More.{not_both}
+use Rattle.sctp_list_lemmas.proofs.Distances.{before_is}
 use Rattle.sctp_chunks.specs.declared.chunk.chunk_payload_data.ChunkPayloadData.{ChunkPayloadData}
 use Rattle.sctp_chunks.specs.declared.chunk.chunk_selective_ack.GapAckBlock.{GapAckBlock}
 use Rattle.sctp_serial.specs.DataChunks.{chunk_before, bytes_of}

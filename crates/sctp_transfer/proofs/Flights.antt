@@ -1,19 +1,19 @@
--- TSNs in flight follow one another, whatever is sent, given up or marked.
+-- TSNs in flight follow one another, whatever is sent, abandoned or marked.
 use Rattle.std.proofs.Common.{◌≡◌, ℕ, zero, suc, ◌+◌, ◌<◌, ◌%◌, ◌^◌, Bool, true, false, List, [], ◌∷◌, ◌++◌, length, length-append, get_or, Option, Some, None, refl, ap, sym, ◌∙◌, arith}
 use Rattle.std.specs.Prelude.{if◌then◌else◌, ◌==◌, is_some}
 use Rattle.std.proofs.lemmas.List.{length-map}
 use Rattle.std.proofs.lemmas.Bool.{ne_eqb}
 use Rattle.std.proofs.lemmas.Bool.Decides.{nat_tests}
-use Rattle.sctp_lists.specs.Lists.{change_where, inserted}
-use Rattle.sctp_lists.specs.Serial.{distance, comes_before}
-use Rattle.sctp_lists.proofs.Edits.{find-none}
-use Rattle.sctp_lists.proofs.More.{fails}
-use Rattle.sctp_lists.proofs.SerialLemmas.{not_before_from}
+use Rattle.sctp_list_lemmas.specs.Lists.{change_where, inserted}
+use Rattle.sctp_list_lemmas.specs.Serial.{distance, comes_before}
+use Rattle.sctp_list_lemmas.proofs.Edits.{find-none}
+use Rattle.sctp_list_lemmas.proofs.More.{fails}
+use Rattle.sctp_list_lemmas.proofs.Distances.{not_before_from}
 use Rattle.sctp_chunks.specs.declared.chunk.chunk_payload_data.ChunkPayloadData.{ChunkPayloadData}
 use Rattle.sctp_serial.specs.DataChunks.{has_tsn, chunk_before}
 use Rattle.sctp_serial.specs.Window.{IsWindow, is_held}
-use Rattle.sctp_outbound.specs.Marks.{given_up, is_of}
-use Rattle.sctp_outbound.specs.outbound_queue.OutboundQueue.{Outbound, all_started, sent_of, sent_next, numbered, abandoned_of, tsn_after_of, has_tail, message_of, with_end_mark, end_mark}
+use Rattle.sctp_outbound.specs.Marks.{as_abandoned, is_of}
+use Rattle.sctp_outbound.specs.outbound_queue.OutboundQueue.{Outbound, all_started, sent_of, sent_next, numbered, abandoned_of, tsn_after_of, has_tail, message_of, with_terminal_chunk, terminal_chunk}
 use Rattle.sctp_outbound.specs.payload_queue.PayloadQueue as payload
 use Rattle.sctp_outbound.specs.pending_queue.PendingQueue.{peeked, started, last_removed, without}
 use Rattle.sctp_outbound.specs.pending_queue.Whole.{waits}
@@ -129,26 +129,26 @@ sent f now then' next inv room is raised = by (peeked (all_started now f.queue).
         grown f (record { queue = then'; next_tsn = next; acked_tsn = f.acked_tsn }) (ap (λ (o : Outbound). tsns o.inflight.chunks) e ∙ put-in f (numbered f.next_tsn now c) (all_started now f.queue).inflight.chunks inv same refl)
         (raised ∙ ap (λ b. if b then following_tsn f.next_tsn else f.next_tsn) (sym some)) refl room inv
 
--- ## Giving up
+-- ## Abandoning
 
--- what is to be given up has a tail only where it is there
+-- what is to be abandoned has a tail only where it is there
 pub tail-there : (o : Option ChunkPayloadData) (q : Outbound) → has_tail (message_of o) q ≡ true → is_some o ≡ true
 tail-there None q e = e
 tail-there (Some c) q e = refl
 
-pub gave-up : (f : Flight) (o : Option ℕ) (then' : Outbound) (next : ℕ) → IsContiguous f → (has_tail o f.queue ≡ true → may_send f ≡ true) → then' ≡ abandoned_of o f.next_tsn f.queue → next ≡ tsn_after_of o f.next_tsn f.queue → IsContiguous (record { queue = then'; next_tsn = next; acked_tsn = f.acked_tsn })
-gave-up f None then' next inv room is raised = kept f (record { queue = then'; next_tsn = next; acked_tsn = f.acked_tsn }) (ap (λ (o : Outbound). tsns o.inflight.chunks) is) raised refl inv
-gave-up f (Some m) then' next inv room is raised = by (last_removed m f.queue.pending) refl is
+pub after-abandoning : (f : Flight) (o : Option ℕ) (then' : Outbound) (next : ℕ) → IsContiguous f → (has_tail o f.queue ≡ true → may_send f ≡ true) → then' ≡ abandoned_of o f.next_tsn f.queue → next ≡ tsn_after_of o f.next_tsn f.queue → IsContiguous (record { queue = then'; next_tsn = next; acked_tsn = f.acked_tsn })
+after-abandoning f None then' next inv room is raised = kept f (record { queue = then'; next_tsn = next; acked_tsn = f.acked_tsn }) (ap (λ (o : Outbound). tsns o.inflight.chunks) is) raised refl inv
+after-abandoning f (Some m) then' next inv room is raised = by (last_removed m f.queue.pending) refl is
   where
-    by : (o : Option ChunkPayloadData) → last_removed m f.queue.pending ≡ o → then' ≡ record f.queue { pending = without m f.queue.pending; inflight = with_end_mark o f.next_tsn (payload.with_chunks f.queue.inflight (change_where (is_of m) given_up f.queue.inflight.chunks)) } → IsContiguous (record { queue = then'; next_tsn = next; acked_tsn = f.acked_tsn })
+    by : (o : Option ChunkPayloadData) → last_removed m f.queue.pending ≡ o → then' ≡ record f.queue { pending = without m f.queue.pending; inflight = with_terminal_chunk o f.next_tsn (payload.with_chunks f.queue.inflight (change_where (is_of m) as_abandoned f.queue.inflight.chunks)) } → IsContiguous (record { queue = then'; next_tsn = next; acked_tsn = f.acked_tsn })
     by None none e =
         let still : waits m f.queue.pending ≡ false = fails (waits m f.queue.pending) (λ t. no_last m f.queue.pending t none) in
-        kept f (record { queue = then'; next_tsn = next; acked_tsn = f.acked_tsn }) (ap (λ (o : Outbound). tsns o.inflight.chunks) e ∙ changed-run (is_of m) given_up (λ c. refl) f.queue.inflight.chunks) (raised ∙ ap (λ b. if b then following_tsn f.next_tsn else f.next_tsn) still) refl inv
+        kept f (record { queue = then'; next_tsn = next; acked_tsn = f.acked_tsn }) (ap (λ (o : Outbound). tsns o.inflight.chunks) e ∙ changed-run (is_of m) as_abandoned (λ c. refl) f.queue.inflight.chunks) (raised ∙ ap (λ b. if b then following_tsn f.next_tsn else f.next_tsn) still) refl inv
     by (Some c) some e = tail (waits m f.queue.pending) refl
       where
         tail : (b : Bool) → waits m f.queue.pending ≡ b → IsContiguous (record { queue = then'; next_tsn = next; acked_tsn = f.acked_tsn })
         tail false w = let none = last_removed_none m f.queue.pending w in absurd (cc)
         tail true w =
             grown f (record { queue = then'; next_tsn = next; acked_tsn = f.acked_tsn })
-            (ap (λ (o : Outbound). tsns o.inflight.chunks) e ∙ put-in f (end_mark f.next_tsn c) (change_where (is_of m) given_up f.queue.inflight.chunks) inv (changed-run (is_of m) given_up (λ d. refl) f.queue.inflight.chunks) refl)
+            (ap (λ (o : Outbound). tsns o.inflight.chunks) e ∙ put-in f (terminal_chunk f.next_tsn c) (change_where (is_of m) as_abandoned f.queue.inflight.chunks) inv (changed-run (is_of m) as_abandoned (λ d. refl) f.queue.inflight.chunks) refl)
             (raised ∙ ap (λ b. if b then following_tsn f.next_tsn else f.next_tsn) w) refl (room w) inv

@@ -6,9 +6,9 @@ use Rattle.std.specs.List.{list_all, sum_by}
 use Rattle.std.proofs.lemmas.Bool.{eq-eqb}
 use Rattle.std.proofs.lemmas.List.Folds.{find-append}
 use Rattle.std.proofs.lemmas.List.Sums.{sum_by-cons, sum_by-append}
-use Rattle.sctp_lists.specs.Lists.{change_where, those}
-use Rattle.sctp_lists.proofs.Cases.{same-is}
-use Rattle.sctp_lists.proofs.More.{and, fails, not_both}
+use Rattle.sctp_list_lemmas.specs.Lists.{change_where, those}
+use Rattle.sctp_list_lemmas.proofs.Cases.{same-is}
+use Rattle.sctp_list_lemmas.proofs.More.{and, fails, not_both}
 use Rattle.sctp_chunks.specs.declared.chunk.chunk_payload_data.ChunkPayloadData.{ChunkPayloadData}
 use Rattle.sctp_chunks.specs.declared.chunk.chunk_forward_tsn.ChunkForwardTsnStream.{ChunkForwardTsnStream}
 use Rattle.sctp_chunks.specs.ChunkSet.{ChunkSet}
@@ -17,7 +17,7 @@ use Rattle.sctp_reassembly.specs.reassembly_queue.Fragments.{is_complete}
 use Rattle.sctp_reassembly.specs.reassembly_queue.ReassemblyQueue.{message_read}
 use Rattle.sctp_transfer.specs.declared.receiver.arrival.Arrival.TheVariants.{New, Repeat}
 use Rattle.sctp_transfer.specs.declared.receiver.inbound_streams.InboundStream.{InboundStream}
-use Rattle.sctp_transfer.specs.Inbound.{number, has_number, new_stream, with_queue, stream_read, ssn_forwarded, named_forwarded, loose_forwarded}
+use Rattle.sctp_transfer.specs.Inbound.{number, has_number, new_stream, with_queue, stream_read, ssn_forwarded, named_forwarded, unassembled_forwarded}
 use Rattle.sctp_transfer.specs.Receiver.{Reception, stream_of, Accepts, message_of, message_on, after_read, is_stale, followed, after_forward}
 use Rattle.sctp_transfer.specs.ReceiverRuns.{Call, opens, takes, reports, reads, forwards, Message, Stand, with_message, Follows, RunsTo, at_start, AfterEachRun, AreWhole, WereAccepted, fragments_read, is_on}
 use Rattle.sctp_transfer.proofs.Inbounds.{pushed-number}
@@ -89,8 +89,8 @@ record Lightens (f : InboundStream → InboundStream) : Type 0 where
 names-lighten : (ssn : ℕ) → Lightens (ssn_forwarded ssn)
 names-lighten ssn = record { number = λ l. refl; weighs = λ w l. weights.named w ssn l.queue; whole = λ l. refl }
 
-loose-lightens : (tsn : ℕ) → Lightens (loose_forwarded tsn)
-loose-lightens tsn = record { number = λ l. refl; weighs = λ w l. weights.loose w tsn l.queue; whole = λ l. refl }
+unassembled-lightens : (tsn : ℕ) → Lightens (unassembled_forwarded tsn)
+unassembled-lightens tsn = record { number = λ l. refl; weighs = λ w l. weights.unassembled w tsn l.queue; whole = λ l. refl }
 
 lighter : (f : InboundStream → InboundStream) (o : Option InboundStream) → Lightens f → IsNoMore o (option_map f o)
 lighter f None h = same-held None
@@ -115,15 +115,15 @@ named-less st (n ∷ ns) ls =
 followed-less : (st : ℕ) (f : ForwardTsn) (r : Reception) → IsNoMore (stream_of st r) (stream_of st (after_forward f r))
 followed-less st f r = by (is_stale f r)
   where
-    loose : InboundStream → InboundStream
-    loose = loose_forwarded f.new_cumulative_tsn
+    unassembled : InboundStream → InboundStream
+    unassembled = unassembled_forwarded f.new_cumulative_tsn
 
     by : (b : Bool) → IsNoMore (stream_of st r) (stream_of st (if b then r else followed f r))
     by true = same-held (stream_of st r)
     by false =
         let ls = named_forwarded f.streams r.streams in
         then-less _ _ _ (named-less st f.streams r.streams)
-        (subst (IsNoMore (find (has_number st) ls)) (sym (found-mapped st (loose_forwarded f.new_cumulative_tsn) (λ l. refl) ls)) (lighter (loose_forwarded f.new_cumulative_tsn) (find (has_number st) ls) (loose-lightens f.new_cumulative_tsn)))
+        (subst (IsNoMore (find (has_number st) ls)) (sym (found-mapped st (unassembled_forwarded f.new_cumulative_tsn) (λ l. refl) ls)) (lighter (unassembled_forwarded f.new_cumulative_tsn) (find (has_number st) ls) (unassembled-lightens f.new_cumulative_tsn)))
 
 opened-less : (st s max : ℕ) (ls : List InboundStream) → IsNoMore (find (has_number st) ls) (find (has_number st) (ls ++ new_stream s max ∷ []))
 opened-less st s max ls = subst (IsNoMore (find (has_number st) ls)) (sym (find-append (has_number st) ls (new_stream s max ∷ []))) (by (find (has_number st) ls) (s == st))
@@ -139,12 +139,12 @@ record Holds (st : ℕ) (s : Stand) : Type 0 where
   weighs : (w : ChunkPayloadData → ℕ) → sum_by w (fragments_read st s.read) + held_weight w (stream_of st s.receiver) ≤ sum_by w (those (is_on st) s.accepted)
   whole : held_whole (stream_of st s.receiver) ≡ true
 
-record IsSound (s : Stand) : Type 0 where
+record IsValid (s : Stand) : Type 0 where
   holds : (st : ℕ) → Holds st s
   read : AreWhole s
 
 -- a call by which no stream holds more, no chunk is taken and none is read
-quiet : (old new : Stand) → IsSound old → new.accepted ≡ old.accepted → new.read ≡ old.read → ((st : ℕ) → IsNoMore (stream_of st old.receiver) (stream_of st new.receiver)) → IsSound new
+quiet : (old new : Stand) → IsValid old → new.accepted ≡ old.accepted → new.read ≡ old.read → ((st : ℕ) → IsNoMore (stream_of st old.receiver) (stream_of st new.receiver)) → IsValid new
 quiet old new s a r less = record {
   holds = λ st. record {
     weighs = λ w.
@@ -206,8 +206,8 @@ module _ (c : ChunkPayloadData) (old new : Reception) (a : Accepts c old new) (s
   more : IsMoreBy c (is_on st c) (stream_of st old) (stream_of st new)
   more = subst (IsMoreBy c (is_on st c) (stream_of st old)) (sym now) (at (stream_of st old) refl)
 
-taken-sound : (c : ChunkPayloadData) (old new : Stand) → IsSound old → Accepts c old.receiver new.receiver → new.accepted ≡ c ∷ old.accepted → new.read ≡ old.read → IsSound new
-taken-sound c old new s a e r = record {
+taken-valid : (c : ChunkPayloadData) (old new : Stand) → IsValid old → Accepts c old.receiver new.receiver → new.accepted ≡ c ∷ old.accepted → new.read ≡ old.read → IsValid new
+taken-valid c old new s a e r = record {
   holds = λ st. record {
     weighs = λ w.
         let h = (s.holds st).weighs w in
@@ -275,8 +275,8 @@ with-whole : (s : ℕ) (m : Option ChunkSet) (ms : List Message) → message_who
 with-whole s None ms h k = k
 with-whole s (Some set) ms h k = and _ _ h k
 
-read-sound : (stream : ℕ) (old new : Stand) → IsSound old → new.receiver ≡ after_read stream old.receiver → new.accepted ≡ old.accepted → new.read ≡ with_message stream (message_on stream old.receiver) old.read → IsSound new
-read-sound stream old new s is a r = record {
+read-valid : (stream : ℕ) (old new : Stand) → IsValid old → new.receiver ≡ after_read stream old.receiver → new.accepted ≡ old.accepted → new.read ≡ with_message stream (message_on stream old.receiver) old.read → IsValid new
+read-valid stream old new s is a r = record {
   holds = λ st. record {
     weighs = λ w.
         let h = (s.holds st).weighs w in
@@ -293,22 +293,22 @@ read-sound stream old new s is a r = record {
 
 -- ## Every run
 
-repeat-sound : (c : ChunkPayloadData) (old new : Stand) → IsSound old → (streams : new.receiver.streams ≡ old.receiver.streams) → new.accepted ≡ old.accepted → new.read ≡ old.read → IsSound new
-repeat-sound c old new s streams a r = quiet old new s a r (λ st. subst (λ ls. IsNoMore (stream_of st old.receiver) (find (has_number st) ls)) (sym streams) (same-held (stream_of st old.receiver)))
+repeat-valid : (c : ChunkPayloadData) (old new : Stand) → IsValid old → (streams : new.receiver.streams ≡ old.receiver.streams) → new.accepted ≡ old.accepted → new.read ≡ old.read → IsValid new
+repeat-valid c old new s streams a r = quiet old new s a r (λ st. subst (λ ls. IsNoMore (stream_of st old.receiver) (find (has_number st) ls)) (sym streams) (same-held (stream_of st old.receiver)))
 
-step : (c : Call) (old new : Stand) → IsSound old → Follows c old new → IsSound new
+step : (c : Call) (old new : Stand) → IsValid old → Follows c old new → IsValid new
 step (opens stream) old new s f = quiet old new s f.accepted f.read (λ st. subst (λ (r : Reception). IsNoMore (stream_of st old.receiver) (stream_of st r)) (sym f.receiver.1) (opened-less st stream old.receiver.max_message_size old.receiver.streams))
-step (takes c New) old new s f = taken-sound c old new s f.receiver f.accepted f.read
-step (takes c Repeat) old new s f = repeat-sound c old new s (ap (λ (r : Reception). r.streams) f.receiver) f.accepted f.read
+step (takes c New) old new s f = taken-valid c old new s f.receiver f.accepted f.read
+step (takes c Repeat) old new s f = repeat-valid c old new s (ap (λ (r : Reception). r.streams) f.receiver) f.accepted f.read
 step reports old new s f = quiet old new s f.accepted f.read (λ st. subst (λ (r : Reception). IsNoMore (stream_of st old.receiver) (stream_of st r)) (sym f.receiver) (same-held (stream_of st old.receiver)))
-step (reads stream) old new s f = read-sound stream old new s f.receiver f.accepted f.read
+step (reads stream) old new s f = read-valid stream old new s f.receiver f.accepted f.read
 step (forwards g) old new s f = quiet old new s f.accepted f.read (λ st. subst (λ (r : Reception). IsNoMore (stream_of st old.receiver) (stream_of st r)) (sym f.receiver) (followed-less st g old.receiver))
 
-run : (calls : List Call) (old new : Stand) → IsSound old → RunsTo old calls new → IsSound new
-run [] old new s e = subst IsSound (sym e) s
+run : (calls : List Call) (old new : Stand) → IsValid old → RunsTo old calls new → IsValid new
+run [] old new s e = subst IsValid (sym e) s
 run (c ∷ cs) old new s r = run cs r.0 new (step c old r.0 s r.1.0) r.1.1
 
-start : (tsn max : ℕ) → IsSound (at_start tsn max)
+start : (tsn max : ℕ) → IsValid (at_start tsn max)
 start tsn max = record { holds = λ st. record { weighs = λ w. omega arith; whole = refl }; read = refl }
 
 pub whole : AfterEachRun AreWhole

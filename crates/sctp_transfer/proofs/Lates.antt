@@ -1,19 +1,19 @@
--- Messages that are given up one after another.
+-- Messages that are abandoned one after another.
 use Rattle.std.proofs.Common.{◌≡◌, ℕ, zero, suc, ◌+◌, ◌<◌, ◌≤◌, Bool, true, false, List, [], ◌∷◌, length, drop, get_or, Option, Some, None, refl, ap, sym, subst, ◌∙◌, inl, inr, arith}
 use Rattle.std.specs.Prelude.{if◌then◌else◌, ◌==◌, find, not, option_map}
 use Rattle.std.specs.List.{list_all, list_any}
 use Rattle.std.proofs.lemmas.Option.{none-some}
-use Rattle.sctp_lists.specs.Lists.{change_where}
-use Rattle.sctp_lists.proofs.Cases.{negated, or-left, or-right, or-split, same-yes}
-use Rattle.sctp_lists.proofs.Edits.{list_any-those}
-use Rattle.sctp_lists.proofs.More.{and, both, fails, not_both}
+use Rattle.sctp_list_lemmas.specs.Lists.{change_where}
+use Rattle.sctp_list_lemmas.proofs.Cases.{negated, or-left, or-right, or-split, same-yes}
+use Rattle.sctp_list_lemmas.proofs.Edits.{list_any-those}
+use Rattle.sctp_list_lemmas.proofs.More.{and, both, fails, not_both}
 use Rattle.sctp_chunks.specs.declared.chunk.chunk_payload_data.ChunkPayloadData.{ChunkPayloadData}
 use Rattle.sctp_outbound.specs.declared.pending_queue.Selected.{Selected}
-use Rattle.sctp_outbound.specs.Marks.{given_up, is_of}
-use Rattle.sctp_outbound.specs.outbound_queue.OutboundQueue.{Outbound, abandoned_of, has_tail, to_abandon, with_end_mark}
+use Rattle.sctp_outbound.specs.Marks.{as_abandoned, is_of}
+use Rattle.sctp_outbound.specs.outbound_queue.OutboundQueue.{Outbound, abandoned_of, has_tail, to_abandon, with_terminal_chunk}
 use Rattle.sctp_outbound.specs.payload_queue.PayloadQueue as payload
 use Rattle.sctp_outbound.specs.pending_queue.PendingQueue.{Pending, selected_without, without}
-use Rattle.sctp_outbound.specs.pending_queue.Whole.{IsSendable, half_of, half_sent, waits}
+use Rattle.sctp_outbound.specs.pending_queue.Whole.{IsSendable, half_of, partially_sent, waits}
 use Rattle.sctp_outbound.proofs.lemmas.outbound_queue.Abandoned.{last_removed_none}
 use Rattle.sctp_serial.specs.DataChunks.{has_tsn}
 use Rattle.sctp_transfer.specs.Flight.{Flight, has_tail_at, message_to_abandon}
@@ -62,21 +62,21 @@ waits-less m n q h = elim (or-split (list_any (is_of n) (without m q).unordered)
   | inr a ↦ or-right (list_any (is_of n) q.unordered) (list_any (is_of n) q.ordered) (list_any-those (is_of n) (λ c. not (is_of m c)) q.ordered a)
 ]
 
-find-changed : (t m : ℕ) (cs : List ChunkPayloadData) → find (has_tsn t) (change_where (is_of m) given_up cs) ≡ option_map (λ c. if is_of m c then given_up c else c) (find (has_tsn t) cs)
+find-changed : (t m : ℕ) (cs : List ChunkPayloadData) → find (has_tsn t) (change_where (is_of m) as_abandoned cs) ≡ option_map (λ c. if is_of m c then as_abandoned c else c) (find (has_tsn t) cs)
 find-changed t m [] = refl
 find-changed t m (c ∷ cs) = by (is_of m c) refl (find-changed t m cs)
   where
-    here : (b k : Bool) → is_of m c ≡ b → find (has_tsn t) (change_where (is_of m) given_up cs) ≡ option_map (λ d. if is_of m d then given_up d else d) (find (has_tsn t) cs) → (if k then Some (if b then given_up c else c) else find (has_tsn t) (change_where (is_of m) given_up cs)) ≡ option_map (λ d. if is_of m d then given_up d else d) (if k then Some c else find (has_tsn t) cs)
-    here b true e ih = ap (λ a. Some (if a then given_up c else c)) (sym e)
+    here : (b k : Bool) → is_of m c ≡ b → find (has_tsn t) (change_where (is_of m) as_abandoned cs) ≡ option_map (λ d. if is_of m d then as_abandoned d else d) (find (has_tsn t) cs) → (if k then Some (if b then as_abandoned c else c) else find (has_tsn t) (change_where (is_of m) as_abandoned cs)) ≡ option_map (λ d. if is_of m d then as_abandoned d else d) (if k then Some c else find (has_tsn t) cs)
+    here b true e ih = ap (λ a. Some (if a then as_abandoned c else c)) (sym e)
     here b false e ih = ih
 
-    by : (b : Bool) → is_of m c ≡ b → find (has_tsn t) (change_where (is_of m) given_up cs) ≡ option_map (λ d. if is_of m d then given_up d else d) (find (has_tsn t) cs) → find (has_tsn t) ((if b then given_up c else c) ∷ change_where (is_of m) given_up cs) ≡ option_map (λ d. if is_of m d then given_up d else d) (find (has_tsn t) (c ∷ cs))
+    by : (b : Bool) → is_of m c ≡ b → find (has_tsn t) (change_where (is_of m) as_abandoned cs) ≡ option_map (λ d. if is_of m d then as_abandoned d else d) (find (has_tsn t) cs) → find (has_tsn t) ((if b then as_abandoned c else c) ∷ change_where (is_of m) as_abandoned cs) ≡ option_map (λ d. if is_of m d then as_abandoned d else d) (find (has_tsn t) (c ∷ cs))
     by true e ih = here true (has_tsn t c) e ih
     by false e ih = here false (has_tsn t c) e ih
 
--- where a message with no tail is given up, no other gets one
+-- where a message with no tail is abandoned, no other gets one
 module _ (f : Flight) (t : ℕ) where
-  kept : (m : ℕ) (q : Outbound) → q.pending ≡ without m f.queue.pending → (o : Option ChunkPayloadData) → has_tail (to_abandon (option_map (λ c. if is_of m c then given_up c else c) o)) q ≡ true → has_tail (to_abandon o) f.queue ≡ true
+  kept : (m : ℕ) (q : Outbound) → q.pending ≡ without m f.queue.pending → (o : Option ChunkPayloadData) → has_tail (to_abandon (option_map (λ c. if is_of m c then as_abandoned c else c) o)) q ≡ true → has_tail (to_abandon o) f.queue ≡ true
   kept m q is None h = h
   kept m q is (Some c) h = by (is_of m c) h
     where
@@ -84,7 +84,7 @@ module _ (f : Flight) (t : ℕ) where
       open-one true e = e
       open-one false e = waits-less m c.message_id f.queue.pending (subst (λ (p : Pending). waits c.message_id p ≡ true) is e)
 
-      by : (b : Bool) → has_tail (to_abandon (Some (if b then given_up c else c))) q ≡ true → has_tail (to_abandon (Some c)) f.queue ≡ true
+      by : (b : Bool) → has_tail (to_abandon (Some (if b then as_abandoned c else c))) q ≡ true → has_tail (to_abandon (Some c)) f.queue ≡ true
       by true e = absurd (not_both e)
       by false e = open-one c.abandoned e
 
@@ -93,7 +93,7 @@ module _ (f : Flight) (t : ℕ) where
   after-one (Some m) w h =
       let q = abandoned_of (Some m) f.next_tsn f.queue in
       let cs = f.queue.inflight.chunks in
-      let unmarked = ap (λ o. (with_end_mark o f.next_tsn (payload.with_chunks f.queue.inflight (change_where (is_of m) given_up cs))).chunks) (last_removed_none m f.queue.pending w) in
+      let unmarked = ap (λ o. (with_terminal_chunk o f.next_tsn (payload.with_chunks f.queue.inflight (change_where (is_of m) as_abandoned cs))).chunks) (last_removed_none m f.queue.pending w) in
       kept m q refl (find (has_tsn t) cs) (subst (λ xs. has_tail (to_abandon xs) q ≡ true) (ap (find (has_tsn t)) unmarked ∙ find-changed t m cs) h)
 
 pub no-tail-after : (f : Flight) (s t : ℕ) → has_tail_at f s ≡ false → not (has_tail_at f t) ≡ true → not (has_tail_at (abandoned_at s f) t) ≡ true
@@ -108,8 +108,8 @@ gone m (Some s) e =
     let here : (s.message_id == m) ≡ true = ap (λ n. n == m) same ∙ same-yes m in
     ap (λ b. half_of (if b then None else Some s)) here
 
--- with none half sent no message in flight waits
-pub none-waits : (q : Outbound) → IsSendable q.pending q.inflight.chunks q.next_message_id → half_sent q.pending ≡ None → (t : ℕ) → has_tail (to_abandon (find (has_tsn t) q.inflight.chunks)) q ≡ false
+-- with none partially sent no message in flight waits
+pub none-waits : (q : Outbound) → IsSendable q.pending q.inflight.chunks q.next_message_id → partially_sent q.pending ≡ None → (t : ℕ) → has_tail (to_abandon (find (has_tsn t) q.inflight.chunks)) q ≡ false
 none-waits q s none t = by (find (has_tsn t) q.inflight.chunks) refl
   where
     by : (o : Option ChunkPayloadData) → find (has_tsn t) q.inflight.chunks ≡ o → has_tail (to_abandon o) q ≡ false
@@ -120,15 +120,15 @@ none-waits q s none t = by (find (has_tsn t) q.inflight.chunks) refl
         open-one true = refl
         open-one false = fails (waits c.message_id q.pending) (λ w. none-some c.message_id (sym none ∙ s.sent c.message_id (found-any (has_tsn t) (is_of c.message_id) q.inflight.chunks c e (same-yes c.message_id)) w))
 
--- once the message with a tail is given up, none is half sent
-pub none-half : (f : Flight) (t : ℕ) → IsSendable f.queue.pending f.queue.inflight.chunks f.queue.next_message_id → has_tail_at f t ≡ true → half_sent (abandoned_at t f).queue.pending ≡ None
+-- once the message with a tail is abandoned, none is partially sent
+pub none-half : (f : Flight) (t : ℕ) → IsSendable f.queue.pending f.queue.inflight.chunks f.queue.next_message_id → has_tail_at f t ≡ true → partially_sent (abandoned_at t f).queue.pending ≡ None
 none-half f t s h = by (find (has_tsn t) f.queue.inflight.chunks) refl h
   where
-    by : (o : Option ChunkPayloadData) → find (has_tsn t) f.queue.inflight.chunks ≡ o → has_tail (to_abandon o) f.queue ≡ true → half_sent (abandoned_of (to_abandon o) f.next_tsn f.queue).pending ≡ None
+    by : (o : Option ChunkPayloadData) → find (has_tsn t) f.queue.inflight.chunks ≡ o → has_tail (to_abandon o) f.queue ≡ true → partially_sent (abandoned_of (to_abandon o) f.next_tsn f.queue).pending ≡ None
     by None e w = absurd (not_both w)
     by (Some c) e w = open-one c.abandoned w
       where
-        open-one : (b : Bool) → has_tail (if b then None else Some c.message_id) f.queue ≡ true → half_sent (abandoned_of (if b then None else Some c.message_id) f.next_tsn f.queue).pending ≡ None
+        open-one : (b : Bool) → has_tail (if b then None else Some c.message_id) f.queue ≡ true → partially_sent (abandoned_of (if b then None else Some c.message_id) f.next_tsn f.queue).pending ≡ None
         open-one true v = absurd (not_both v)
         open-one false v = gone c.message_id f.queue.pending.selected (s.sent c.message_id (found-any (has_tsn t) (is_of c.message_id) f.queue.inflight.chunks c e (same-yes c.message_id)) v)
 
@@ -153,5 +153,5 @@ rest-with-no-tail f g t ts all is =
 
 pub none-left : (f g : Flight) (t : ℕ) (ts : List ℕ) → IsSendable f.queue.pending f.queue.inflight.chunks f.queue.next_message_id → IsSendable g.queue.pending g.queue.inflight.chunks g.queue.next_message_id → Some t ≡ with_tail ts f → g ≡ abandoned_at t f → list_all (λ x. not (has_tail_at g x)) ts ≡ true
 none-left f g t ts before after first is =
-    let half = ap (λ (h : Flight). half_sent h.queue.pending) is ∙ none-half f t before (found-passes (has_tail_at f) ts t (sym first)) in
+    let half = ap (λ (h : Flight). partially_sent h.queue.pending) is ∙ none-half f t before (found-passes (has_tail_at f) ts t (sym first)) in
     all-each (λ x. not (has_tail_at g x)) ts (λ x. ap not (none-waits g.queue after half x))

@@ -2,13 +2,13 @@
 use Rattle.std.proofs.Common.{◌≡◌, ℕ, zero, suc, ◌<◌, Bool, true, false, List, [], ◌∷◌, ◌++◌, length, set, get_or, Option, Some, None, refl, ap, sym, subst, ◌∙◌, arith}
 use Rattle.std.specs.Prelude.{if◌then◌else◌, ◌==◌}
 use Rattle.std.proofs.lemmas.List.{append-nil}
-use Rattle.sctp_lists.specs.Lists.{those}
-use Rattle.sctp_lists.proofs.Cases.{same-is}
-use Rattle.sctp_lists.proofs.Edits.{those-append}
+use Rattle.sctp_list_lemmas.specs.Lists.{those}
+use Rattle.sctp_list_lemmas.proofs.Cases.{same-is}
+use Rattle.sctp_list_lemmas.proofs.Edits.{those-append}
 use Rattle.sctp_chunks.specs.declared.chunk.chunk_payload_data.ChunkPayloadData.{ChunkPayloadData}
 use Rattle.sctp_chunks.specs.declared.chunk.chunk_forward_tsn.ChunkForwardTsnStream.{ChunkForwardTsnStream}
 use Rattle.sctp_outbound.specs.pending_queue.PendingQueue.{is_on, last_of}
-use Rattle.sctp_transfer.specs.GivingUp.{IsFirstPair, IsNoPair, Name, is_pair_of, pair_of, pairs_of}
+use Rattle.sctp_transfer.specs.Abandonment.{IsFirstPair, IsNoPair, Name, is_pair_of, pair_of, pairs_of}
 
 -- ## A list with one element changed
 

@@ -1,13 +1,13 @@
 -- How far a FORWARD-TSN can go.
 use Rattle.std.proofs.Common.{◌≡◌, ℕ, zero, suc, ◌+◌, ◌<◌, ◌≤◌, ◌%◌, ◌^◌, Bool, true, false, List, [], ◌∷◌, ◌++◌, length, take, drop, get_or, Option, Some, None, refl, ap, sym, ◌∙◌, arith}
 use Rattle.std.specs.Prelude.{if◌then◌else◌, find, option_map, unwrap_or}
-use Rattle.sctp_lists.specs.Lists.{those}
-use Rattle.sctp_lists.specs.Serial.{distance}
-use Rattle.sctp_lists.proofs.Edits.{those-more}
+use Rattle.sctp_list_lemmas.specs.Lists.{those}
+use Rattle.sctp_list_lemmas.specs.Serial.{distance}
+use Rattle.sctp_list_lemmas.proofs.Edits.{those-more}
 use Rattle.sctp_chunks.specs.declared.chunk.chunk_payload_data.ChunkPayloadData.{ChunkPayloadData}
 use Rattle.sctp_serial.specs.DataChunks.{has_tsn}
 use Rattle.sctp_transfer.specs.Flight.{Flight, IsContiguous}
-use Rattle.sctp_transfer.specs.GivingUp.{advanced_ack_point, ahead, is_kept, is_named}
+use Rattle.sctp_transfer.specs.Abandonment.{advanced_ack_point, ahead, is_kept, is_named}
 use Rattle.sctp_transfer.specs.TsnFilter.{following_tsn, preceding_tsn}
 use Rattle.sctp_transfer.proofs.Runs.{IsRunFrom, found-at, tsn-at}
 
@@ -46,7 +46,7 @@ more-named cs first i x b small run few lt is named =
     those-more is_named cs i x lt ∙ ap (λ (y : ChunkPayloadData). those is_named (take i cs) ++ (if is_named y then y ∷ [] else [])) here
     ∙ ap (λ t. those is_named (take i cs) ++ (if t then x ∷ [] else [])) named
 
--- ## The first that is not given up
+-- ## The first that is not abandoned
 
 next-of : (cs : List ChunkPayloadData) (i : ℕ) (d : ChunkPayloadData) → i < length cs → drop i cs ≡ get_or cs i d ∷ drop (i + 1) cs
 next-of [] i d lt = absurd (omega (arith, lt))

@@ -4,9 +4,9 @@ use Rattle.std.specs.Prelude.{◌==◌, if◌then◌else◌, nat_lt, not, find, 
 use Rattle.std.proofs.lemmas.Bool.Decides.{nat_tests}
 use Rattle.std.proofs.lemmas.List.{get_or_default}
 use Rattle.std.proofs.lemmas.List.Sums.{sum_by-cons}
-use Rattle.sctp_lists.specs.Kept.{kept, always, numbers_from}
-use Rattle.sctp_lists.specs.Lists.{pieces}
-use Rattle.sctp_lists.proofs.Cases.{same-yes}
+use Rattle.sctp_list_lemmas.specs.Kept.{kept, always, numbers_from}
+use Rattle.sctp_list_lemmas.specs.Lists.{pieces}
+use Rattle.sctp_list_lemmas.proofs.Cases.{same-yes}
 use Rattle.sctp_chunks.specs.declared.chunk.chunk_payload_data.ChunkPayloadData.{ChunkPayloadData}
 use Rattle.sctp_chunks.specs.declared.chunk.chunk_payload_data.PayloadProtocolIdentifier.{PayloadProtocolIdentifier}
 use Rattle.sctp_chunks.specs.declared.chunk.chunk_payload_data.PayloadProtocolIdentifier.TheVariants.{Unknown}

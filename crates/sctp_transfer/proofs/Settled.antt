@@ -3,14 +3,14 @@ use Rattle.std.proofs.Common.{◌≡◌, ℕ, ◌+◌, Bool, true, false, List, 
 use Rattle.std.specs.Prelude.{IfOk, OnErr, if◌then◌else◌, ◌==◌, ◌&&◌, ◌||◌, not, find, slice_get}
 use Rattle.std.proofs.lemmas.List.Sums.{sum_by-cons}
 use Rattle.std.proofs.lemmas.Option.{none-some}
-use Rattle.sctp_lists.specs.Lists.{change_where, those, inserted}
-use Rattle.sctp_lists.specs.Serial.{at_or_before, distance}
-use Rattle.sctp_lists.proofs.More.{not_both}
+use Rattle.sctp_list_lemmas.specs.Lists.{change_where, those, inserted}
+use Rattle.sctp_list_lemmas.specs.Serial.{at_or_before, distance}
+use Rattle.sctp_list_lemmas.proofs.More.{not_both}
 use Rattle.sctp_chunks.specs.declared.chunk.chunk_payload_data.ChunkPayloadData.{ChunkPayloadData}
 use Rattle.sctp_chunks.specs.declared.chunk.chunk_payload_data.PayloadProtocolIdentifier.{PayloadProtocolIdentifier}
 use Rattle.sctp_chunks.specs.SelectiveAck.{Sack}
-use Rattle.sctp_outbound.specs.Marks.{acknowledged, given_up, is_of}
-use Rattle.sctp_outbound.specs.outbound_queue.OutboundQueue.{Outbound, abandoned_of, all_started, appended, end_mark, expired_of, numbered, sent_next, sent_of, total_bytes, with_end_mark, with_message, with_message_id}
+use Rattle.sctp_outbound.specs.Marks.{acknowledged, as_abandoned, is_of}
+use Rattle.sctp_outbound.specs.outbound_queue.OutboundQueue.{Outbound, abandoned_of, all_started, appended, terminal_chunk, expired_of, numbered, sent_next, sent_of, total_bytes, with_terminal_chunk, with_message, with_message_id}
 use Rattle.sctp_outbound.specs.payload_queue.Blocks.{covered}
 use Rattle.sctp_outbound.specs.payload_queue.PayloadQueue as payload
 use Rattle.sctp_outbound.specs.payload_queue.PayloadQueue.{past}
@@ -147,12 +147,12 @@ abandoned-settled (Some m) tsn q a = record {
   inflight = by (last_removed m q.pending);
 }
   where
-    left : AreSettled (change_where (is_of m) given_up q.inflight.chunks)
-    left = changed-settled (is_of m) given_up (λ c s e. refl) q.inflight.chunks a.inflight
+    left : AreSettled (change_where (is_of m) as_abandoned q.inflight.chunks)
+    left = changed-settled (is_of m) as_abandoned (λ c s e. refl) q.inflight.chunks a.inflight
 
-    by : (o : Option ChunkPayloadData) → AreSettled (with_end_mark o tsn (payload.with_chunks q.inflight (change_where (is_of m) given_up q.inflight.chunks))).chunks
+    by : (o : Option ChunkPayloadData) → AreSettled (with_terminal_chunk o tsn (payload.with_chunks q.inflight (change_where (is_of m) as_abandoned q.inflight.chunks))).chunks
     by None = left
-    by (Some c) = inserted-settled chunk_before (end_mark tsn c) (change_where (is_of m) given_up q.inflight.chunks) (λ e. refl) left
+    by (Some c) = inserted-settled chunk_before (terminal_chunk tsn c) (change_where (is_of m) as_abandoned q.inflight.chunks) (λ e. refl) left
 
 pub each-settled : (tsns : List ℕ) (f : Flight) → IsAllSettled f.queue → IsAllSettled (abandoned_each tsns f).queue
 each-settled [] f a = a

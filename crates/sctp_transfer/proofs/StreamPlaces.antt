@@ -4,9 +4,9 @@ use Rattle.std.specs.List.{remove}
 use Rattle.std.specs.Prelude.{◌==◌, not, if◌then◌else◌, find, slice_get, slice_index_or, slice_set}
 use Rattle.std.proofs.lemmas.Bool.{eq-eqb, ne_eqb}
 use Rattle.std.proofs.lemmas.Option.{slice_get_within}
-use Rattle.sctp_lists.specs.Lists.{change_where, those}
-use Rattle.sctp_lists.proofs.Edits.{OnlyAt, change_where-only, change_where-none, find-none, those-only, those-none}
-use Rattle.sctp_lists.proofs.Getting.{length-mapped}
+use Rattle.sctp_list_lemmas.specs.Lists.{change_where, those}
+use Rattle.sctp_list_lemmas.proofs.Edits.{OnlyAt, change_where-only, change_where-none, find-none, those-only, those-none}
+use Rattle.sctp_list_lemmas.proofs.Getting.{length-mapped}
 use Rattle.sctp_stream.specs.Numbers.{IsOnlyPlace, IsAbsent, is_other}
 
 one : {A : Type 0} {a b : A} → Some a ≡ Some b → a ≡ b

@@ -4,12 +4,12 @@ use Rattle.std.specs.Prelude.{if◌then◌else◌, ◌==◌, ◌&&◌, ◌||◌,
 use Rattle.std.specs.List.{list_any}
 use Rattle.std.proofs.lemmas.Bool.{cases_lt}
 use Rattle.std.proofs.lemmas.Bool.Decides.{nat_tests}
-use Rattle.sctp_lists.specs.Lists.{inserted, those, advanced, Seen}
-use Rattle.sctp_lists.specs.Serial.{distance, comes_before, at_or_before}
-use Rattle.sctp_lists.proofs.Cases.{same-yes, same-is}
-use Rattle.sctp_lists.proofs.More.{fails, not_both, both, and}
-use Rattle.sctp_lists.proofs.SerialLemmas.{distance_cases}
-use Rattle.sctp_serial.proofs.lemmas.Ascending.{distance_rest, distance_back, same_distance, before_farther, not_before_nearer}
+use Rattle.sctp_list_lemmas.specs.Lists.{inserted, those, advanced, Seen}
+use Rattle.sctp_list_lemmas.specs.Serial.{distance, comes_before, at_or_before}
+use Rattle.sctp_list_lemmas.proofs.Cases.{same-yes, same-is}
+use Rattle.sctp_list_lemmas.proofs.More.{fails, not_both, both, and}
+use Rattle.sctp_list_lemmas.proofs.Distances.{distance_cases}
+use Rattle.sctp_serial.proofs.lemmas.AscendingEdits.{distance_rest, distance_back, same_distance, before_farther, not_before_nearer}
 use Rattle.sctp_transfer.specs.TsnFilter.{following_tsn, rise_beyond}
 
 -- ## Distances

@@ -4,9 +4,9 @@ use Rattle.std.specs.Prelude.{not, if◌then◌else◌}
 use Rattle.std.specs.List.{list_any, sum_by}
 use Rattle.std.proofs.lemmas.List.Sums.{sum_by-cons, sum_by-append}
 use Rattle.std.proofs.lemmas.List.{take-append-drop}
-use Rattle.sctp_lists.specs.Lists.{inserted, those, change_first, after_leading}
-use Rattle.sctp_lists.specs.Serial.{at_or_before, comes_before16}
-use Rattle.sctp_lists.proofs.Edits.{sum_by-inserted}
+use Rattle.sctp_list_lemmas.specs.Lists.{inserted, those, change_first, after_leading}
+use Rattle.sctp_list_lemmas.specs.Serial.{at_or_before, comes_before16}
+use Rattle.sctp_list_lemmas.proofs.Edits.{sum_by-inserted}
 use Rattle.sctp_chunks.specs.declared.chunk.chunk_payload_data.ChunkPayloadData.{ChunkPayloadData}
 use Rattle.sctp_chunks.specs.ChunkSet.{ChunkSet}
 use Rattle.sctp_serial.specs.DataChunks.{has_tsn, chunk_before}
@@ -20,7 +20,7 @@ module _ (w : ChunkPayloadData → ℕ) where
 
   -- of all that is held
   abbrev pub weight : Reassembly → ℕ
-  weight q = sum_by set_weight q.ordered + sum_by set_weight q.unordered + sum_by w q.loose
+  weight q = sum_by set_weight q.ordered + sum_by set_weight q.unordered + sum_by w q.unassembled
 
   -- of a message, if there is one
   abbrev pub message_weight : Option ChunkSet → ℕ
@@ -98,7 +98,7 @@ module _ (w : ChunkPayloadData → ℕ) where
     where
       by : (b : Bool) → PushesAs b x old new → weight new.held ≤ weight old.held + w x
       by false e = let h = pushed-in-order x old.held in let is = ap (λ (q : ReassemblyState). weight q.held) e in omega arith
-      by true e = let h = becomes (inserted chunk_before x old.held.loose) old.held new.held e.0 e.1.0 in let more = sum_by-inserted w chunk_before x old.held.loose in omega arith
+      by true e = let h = becomes (inserted chunk_before x old.held.unassembled) old.held new.held e.0 e.1.0 in let more = sum_by-inserted w chunk_before x old.held.unassembled in omega arith
 
   -- ## A message is read
 
@@ -141,5 +141,5 @@ module _ (w : ChunkPayloadData → ℕ) where
   pub named : (ssn : ℕ) (q : ReassemblyState) → weight (after_ordered_skip ssn q).held ≤ weight q.held
   named ssn q = let h = fewer set_weight (λ set. not (is_passed ssn set)) q.held.ordered in omega arith
 
-  pub loose : (tsn : ℕ) (q : ReassemblyState) → weight (after_unordered_skip tsn q).held ≤ weight q.held
-  loose tsn q = let h = later w (λ x. at_or_before x.tsn tsn) q.held.loose in omega arith
+  pub unassembled : (tsn : ℕ) (q : ReassemblyState) → weight (after_unordered_skip tsn q).held ≤ weight q.held
+  unassembled tsn q = let h = later w (λ x. at_or_before x.tsn tsn) q.held.unassembled in omega arith

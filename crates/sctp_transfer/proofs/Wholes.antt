@@ -5,9 +5,9 @@ use Rattle.std.specs.List.{list_all}
 use Rattle.std.proofs.lemmas.Bool.{eq-eqb}
 use Rattle.std.proofs.lemmas.List.{get_or-drop, length-drop}
 use Rattle.std.proofs.lemmas.List.Folds.{list_all-append}
-use Rattle.sctp_lists.specs.Lists.{inserted}
-use Rattle.sctp_lists.specs.Serial.{comes_before16, at_or_before16}
-use Rattle.sctp_lists.proofs.More.{and, both}
+use Rattle.sctp_list_lemmas.specs.Lists.{inserted}
+use Rattle.sctp_list_lemmas.specs.Serial.{comes_before16, at_or_before16}
+use Rattle.sctp_list_lemmas.proofs.More.{and, both}
 use Rattle.sctp_chunks.specs.declared.chunk.chunk_payload_data.ChunkPayloadData.{ChunkPayloadData}
 use Rattle.sctp_chunks.specs.ChunkSet.{ChunkSet}
 use Rattle.sctp_serial.specs.DataChunks.{chunk_before}
@@ -64,8 +64,8 @@ pushed-whole x old new p h = by x.unordered p
     in-order true = refl
     in-order false = refl
 
-    becomes : (b : Bool) → BecomesWhole (inserted chunk_before x old.held.loose) old.held new.held b → all_whole new.held.unordered ≡ true
-    becomes true t = run-whole (inserted chunk_before x old.held.loose) old.held new.held t h
+    becomes : (b : Bool) → BecomesWhole (inserted chunk_before x old.held.unassembled) old.held new.held b → all_whole new.held.unordered ≡ true
+    becomes true t = run-whole (inserted chunk_before x old.held.unassembled) old.held new.held t h
     becomes false t = ap (λ (q : Reassembly). all_whole q.unordered) t.1 ∙ h
 
     by : (b : Bool) → PushesAs b x old new → all_whole new.held.unordered ≡ true

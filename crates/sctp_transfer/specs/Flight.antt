@@ -1,8 +1,8 @@
 -- What is in flight, and what a SACK makes of it (RFC 4960 6.2.1).
 use Rattle.std.specs.Prelude.{◌≡◌, ℕ, zero, suc, ◌+◌, ◌-◌, ◌%◌, ◌^◌, ◌<◌, Bool, false, not, ◌&&◌, ◌||◌, nat_lt, nat_le, if◌then◌else◌, List, [], ◌∷◌, length, map, min, max, Option, Some, None, is_some}
 use Rattle.std.specs.List.{list_all, find}
-use Rattle.sctp_lists.specs.Lists.{change_where, those}
-use Rattle.sctp_lists.specs.Serial.{distance, comes_before, at_or_before}
+use Rattle.sctp_list_lemmas.specs.Lists.{change_where, those}
+use Rattle.sctp_list_lemmas.specs.Serial.{distance, comes_before, at_or_before}
 use Rattle.sctp_chunks.specs.declared.chunk.chunk_payload_data.ChunkPayloadData.{ChunkPayloadData}
 use Rattle.sctp_chunks.specs.declared.chunk.chunk_selective_ack.GapAckBlock.{GapAckBlock}
 use Rattle.sctp_chunks.specs.SelectiveAck.{Sack}
@@ -65,7 +65,7 @@ may_send f = nat_lt (length f.queue.inflight.chunks + 1) (2 ^ 31)
 abbrev pub next_after_send : Flight → ℕ
 next_after_send f = if is_some (peeked f.queue.pending) then following_tsn f.next_tsn else f.next_tsn
 
--- in flight, and neither acknowledged nor given up
+-- in flight, and neither acknowledged nor abandoned
 abbrev pub is_outstanding_in : Option ChunkPayloadData → Bool
 is_outstanding_in None = false
 is_outstanding_in (Some c) = is_outstanding c
@@ -122,19 +122,19 @@ released_of c = record { stream = c.stream_identifier; bytes = length c.user_dat
 abbrev pub released_by : Sack → Flight → List Released
 released_by s f = if is_outdated s f then [] else map released_of (those (reports_anew s) f.queue.inflight.chunks)
 
--- ## Giving up
+-- ## Abandoning
 
--- the message of a TSN in flight that is to be given up: none where it was before
+-- the message of a TSN in flight that is to be abandoned: none where it was before
 abbrev pub message_to_abandon : ℕ → Flight → Option ℕ
 message_to_abandon tsn f = to_abandon (find (has_tsn tsn) f.queue.inflight.chunks)
 
--- some of it still waits: it needs an end mark
+-- some of it still waits: it needs a terminal chunk
 abbrev pub has_tail_at : Flight → ℕ → Bool
 has_tail_at f tsn = has_tail (message_to_abandon tsn f) f.queue
 
--- a message is given up, where there is one; its end mark takes the next TSN
-abbrev pub after_giving_up : Option ℕ → Flight → Flight
-after_giving_up message f = record f {
+-- a message is abandoned, where there is one; its terminal chunk takes the next TSN
+abbrev pub after_abandonment : Option ℕ → Flight → Flight
+after_abandonment message f = record f {
   queue = abandoned_of message f.next_tsn f.queue;
   next_tsn = tsn_after_of message f.next_tsn f.queue;
 }

@@ -1,7 +1,7 @@
 -- The streams of a receiver.
 use Rattle.std.specs.Prelude.{◌≡◌, ℕ, ◌==◌, Bool, true, false, List, [], ◌∷◌, map, Option, Some, None}
 use Rattle.std.specs.List.{find}
-use Rattle.sctp_lists.specs.Lists.{change_where, those}
+use Rattle.sctp_list_lemmas.specs.Lists.{change_where, those}
 use Rattle.sctp_chunks.specs.declared.chunk.chunk_payload_data.ChunkPayloadData.{ChunkPayloadData}
 use Rattle.sctp_chunks.specs.declared.chunk.chunk_forward_tsn.ChunkForwardTsnStream.{ChunkForwardTsnStream}
 use Rattle.sctp_chunks.specs.ChunkSet.{ChunkSet}
@@ -23,7 +23,7 @@ numbers_of ls = map number ls
 -- a stream on which nothing came
 abbrev pub new_stream : ℕ → ℕ → InboundStream
 new_stream s max = record {
-  queue = record { si = s; held = record { next_ssn = 0; ordered = []; unordered = []; loose = [] }; bytes = 0; max_message_size = max };
+  queue = record { si = s; held = record { next_ssn = 0; ordered = []; unordered = []; unassembled = [] }; bytes = 0; max_message_size = max };
   stats = record { stream_identifier = s; generation = 0; messages_sent = 0; bytes_sent = 0; messages_received = 0; bytes_received = 0 };
 }
 
@@ -80,5 +80,5 @@ skipped_each (ssn ∷ ssns) q = skipped_each ssns (after_ordered_skip ssn q)
 abbrev pub stream_forwarded : List ChunkForwardTsnStream → InboundStream → InboundStream
 stream_forwarded ns l = with_queue (skipped_each (ssns_of l.queue.si ns) l.queue) l
 
-abbrev pub loose_forwarded : ℕ → InboundStream → InboundStream
-loose_forwarded tsn l = record l { queue = after_unordered_skip tsn l.queue }
+abbrev pub unassembled_forwarded : ℕ → InboundStream → InboundStream
+unassembled_forwarded tsn l = record l { queue = after_unordered_skip tsn l.queue }

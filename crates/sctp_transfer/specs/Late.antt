@@ -4,31 +4,31 @@ use Rattle.std.specs.List.{find}
 use Rattle.sctp_chunks.specs.declared.chunk.chunk_payload_data.ChunkPayloadData.{ChunkPayloadData}
 use Rattle.sctp_outbound.specs.outbound_queue.OutboundQueue.{late_tsns, total_bytes}
 use Rattle.sctp_serial.specs.DataChunks.{has_tsn}
-use Rattle.sctp_transfer.specs.declared.sender.flight.late.GivenUp.{GivenUp}
+use Rattle.sctp_transfer.specs.declared.sender.flight.late.AbandonedMessage.{AbandonedMessage}
 use Rattle.sctp_transfer.specs.declared.sender.flight.Released.{Released}
-use Rattle.sctp_transfer.specs.Flight.{Flight, after_giving_up, has_tail_at, message_to_abandon}
+use Rattle.sctp_transfer.specs.Flight.{Flight, after_abandonment, has_tail_at, message_to_abandon}
 use Rattle.sctp_transfer.specs.Outgoing.{released}
 use Rattle.sctp_transfer.specs.Sender.{Transmission}
 
--- the message of a TSN is given up, as `abandon` does
+-- the message of a TSN is abandoned, as `abandon` does
 abbrev pub abandoned_at : ℕ → Flight → Flight
-abandoned_at tsn f = after_giving_up (message_to_abandon tsn f) f
+abandoned_at tsn f = after_abandonment (message_to_abandon tsn f) f
 
 -- and those of these TSNs, one after another
 abbrev pub abandoned_each : List ℕ → Flight → Flight
 abandoned_each [] f = f
 abandoned_each (tsn ∷ tsns) f = abandoned_each tsns (abandoned_at tsn f)
 
--- what is told of a message that is given up with its chunk, and of none that was given up before
-abbrev pub given_up_with : Option ChunkPayloadData → ℕ → List GivenUp
-given_up_with None bytes = []
-given_up_with (Some c) bytes = if c.abandoned then [] else record { stream = c.stream_identifier; number = c.message_id; bytes = bytes } ∷ []
+-- what is told of a message that is abandoned with its chunk, and of none that was abandoned before
+abbrev pub abandoned_with : Option ChunkPayloadData → ℕ → List AbandonedMessage
+abandoned_with None bytes = []
+abandoned_with (Some c) bytes = if c.abandoned then [] else record { stream = c.stream_identifier; number = c.message_id; bytes = bytes } ∷ []
 
 -- the message of a TSN, with the bytes that leave with it
-abbrev pub leaving_at : ℕ → Flight → List GivenUp
-leaving_at tsn f = given_up_with (find (has_tsn tsn) f.queue.inflight.chunks) (total_bytes f.queue - total_bytes (abandoned_at tsn f).queue)
+abbrev pub leaving_at : ℕ → Flight → List AbandonedMessage
+leaving_at tsn f = abandoned_with (find (has_tsn tsn) f.queue.inflight.chunks) (total_bytes f.queue - total_bytes (abandoned_at tsn f).queue)
 
-abbrev pub leaving_each : List ℕ → Flight → List GivenUp
+abbrev pub leaving_each : List ℕ → Flight → List AbandonedMessage
 leaving_each [] f = []
 leaving_each (tsn ∷ tsns) f = leaving_at tsn f ++ leaving_each tsns (abandoned_at tsn f)
 
@@ -42,16 +42,16 @@ listed (Some x) = x ∷ []
 abbrev pub with_tail : List ℕ → Flight → Option ℕ
 with_tail tsns f = find (has_tail_at f) tsns
 
--- the TSNs of what is late, and before them that of the message with a tail, whose end mark alone may be refused
+-- the TSNs of what is late, and before them that of the message with a tail, whose terminal chunk alone may be refused
 abbrev pub late_order : ℕ → Flight → List ℕ
 late_order now f = listed (with_tail (late_tsns now f.queue) f) ++ late_tsns now f.queue
 
 -- ## The streams
 
-abbrev pub part_of : GivenUp → Released
+abbrev pub part_of : AbandonedMessage → Released
 part_of g = record { stream = g.stream; bytes = g.bytes }
 
--- what is late is given up, and each stream has so much less
+-- what is late is abandoned, and each stream has so much less
 abbrev pub after_late : ℕ → Transmission → Transmission
 after_late now t = record t {
   streams = released (map part_of (leaving_each (late_order now t.flight) t.flight)) t.streams;

@@ -6,7 +6,7 @@ pub mod ReceiverRuns
 pub mod Flight
 pub mod Outgoing
 pub mod Sender
-pub mod GivingUp
+pub mod Abandonment
 pub mod Late
 pub mod Totals
 pub mod SenderRuns

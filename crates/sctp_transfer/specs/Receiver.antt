@@ -1,8 +1,8 @@
 -- The receiving half of a link as callers see it (RFC 4960 6; RFC 3758 3.6).
 use Rattle.std.specs.Prelude.{◌≡◌, ◌⊎◌, ℕ, Bool, not, ◌&&◌, ◌||◌, if◌then◌else◌, ◌-◌, List, [], ◌∷◌, ◌++◌, length, map, take, slice_get, Option, Some, None, is_some}
 use Rattle.std.specs.List.{find}
-use Rattle.sctp_lists.specs.Lists.{change_where, those}
-use Rattle.sctp_lists.specs.Serial.{at_or_before}
+use Rattle.sctp_list_lemmas.specs.Lists.{change_where, those}
+use Rattle.sctp_list_lemmas.specs.Serial.{at_or_before}
 use Rattle.sctp_chunks.specs.declared.chunk.chunk_payload_data.ChunkPayloadData.{ChunkPayloadData}
 use Rattle.sctp_chunks.specs.ChunkSet.{ChunkSet}
 use Rattle.sctp_chunks.specs.ForwardTsn.{ForwardTsn}
@@ -15,7 +15,7 @@ use Rattle.sctp_transfer.specs.declared.receiver.arrival.Arrival.{Arrival}
 use Rattle.sctp_transfer.specs.declared.receiver.arrival.Arrival.TheVariants.{New, Repeat}
 use Rattle.sctp_transfer.specs.declared.receiver.arrival.Forwarded.{Forwarded}
 use Rattle.sctp_transfer.specs.declared.receiver.arrival.Forwarded.TheVariants.{Skipped, Stale}
-use Rattle.sctp_transfer.specs.Inbound.{has_number, new_stream, with_queue, Pushes, stream_read, named_forwarded, loose_forwarded}
+use Rattle.sctp_transfer.specs.Inbound.{has_number, new_stream, with_queue, Pushes, stream_read, named_forwarded, unassembled_forwarded}
 use Rattle.sctp_transfer.specs.TsnFilter.{Filter, preceding_tsn, has_come, is_opposite, with_tsn, with_duplicate, skipped_to, gap_ack_blocks}
 
 -- the open streams in the order in which they were opened; the cumulative TSN, the TSNs that came beyond it, and those that
@@ -156,10 +156,10 @@ is_stale f r = at_or_before f.new_cumulative_tsn r.cumulative_tsn
 abbrev pub forward_refusal : ForwardTsn → Reception → Option ReceiverRefusal
 forward_refusal f r = if is_opposite f.new_cumulative_tsn (filter_of r) then Some TsnOpposite else None
 
--- all up to its TSN counts as come: each stream that it names gives up what is named, one name after another, and all
--- streams give up the loose fragments
+-- all up to its TSN counts as come: each stream that it names discards what is named, one name after another, and all
+-- streams discard the unassembled fragments
 abbrev pub followed : ForwardTsn → Reception → Reception
-followed f r = with_filter (skipped_to f.new_cumulative_tsn (filter_of r)) (record r { streams = map (loose_forwarded f.new_cumulative_tsn) (named_forwarded f.streams r.streams) })
+followed f r = with_filter (skipped_to f.new_cumulative_tsn (filter_of r)) (record r { streams = map (unassembled_forwarded f.new_cumulative_tsn) (named_forwarded f.streams r.streams) })
 
 abbrev pub forwarded_of : ForwardTsn → Reception → Forwarded
 forwarded_of f r = if is_stale f r then Stale else Skipped

@@ -1,7 +1,7 @@
 -- Runs of calls of a receiver, and what they hand out.
 use Rattle.std.specs.Prelude.{◌≡◌, ℕ, ◌≤◌, ◌==◌, Bool, true, false, if◌then◌else◌, List, [], ◌∷◌, ◌++◌, Option, Some, None}
 use Rattle.std.specs.List.{list_all, sum_by}
-use Rattle.sctp_lists.specs.Lists.{those}
+use Rattle.sctp_list_lemmas.specs.Lists.{those}
 use Rattle.sctp_chunks.specs.declared.chunk.chunk_payload_data.ChunkPayloadData.{ChunkPayloadData}
 use Rattle.sctp_chunks.specs.ChunkSet.{ChunkSet}
 use Rattle.sctp_chunks.specs.ForwardTsn.{ForwardTsn}

@@ -1,7 +1,7 @@
 -- The sending half of a link as callers see it (RFC 4960 6.1, 6.2.1, 6.9).
 use Rattle.std.specs.Prelude.{ℕ, ◌+◌, ◌^◌, Bool, not, ◌||◌, nat_lt, if◌then◌else◌, List, [], ◌∷◌, ◌++◌, Option, Some, None, is_some}
 use Rattle.std.specs.List.{find}
-use Rattle.sctp_lists.specs.Lists.{change_where, those}
+use Rattle.sctp_list_lemmas.specs.Lists.{change_where, those}
 use Rattle.sctp_chunks.specs.declared.chunk.chunk_payload_data.ChunkPayloadData.{ChunkPayloadData}
 use Rattle.sctp_chunks.specs.declared.chunk.chunk_payload_data.PayloadProtocolIdentifier.{PayloadProtocolIdentifier}
 use Rattle.sctp_chunks.specs.declared.chunk.chunk_payload_data.PayloadProtocolIdentifier.TheVariants.{Unknown}
@@ -11,7 +11,7 @@ use Rattle.sctp_outbound.specs.outbound_queue.OutboundQueue.{Outbound, with_mess
 use Rattle.sctp_stream.specs.declared.stream.StreamState.{StreamState}
 use Rattle.sctp_transfer.specs.declared.sender.refusal.SenderRefusal.{SenderRefusal}
 use Rattle.sctp_transfer.specs.declared.sender.refusal.SenderRefusal.TheVariants.{StreamUnknown, MessageTooLarge, QueueFull}
-use Rattle.sctp_transfer.specs.Flight.{Flight, with_queue, at_first, after_sack, released_by, after_giving_up}
+use Rattle.sctp_transfer.specs.Flight.{Flight, with_queue, at_first, after_sack, released_by, after_abandonment}
 use Rattle.sctp_transfer.specs.Outgoing.{has_number, with_mode, fragments_with_mode, wrote, released, less_by, expired}
 use Rattle.sctp_stream.specs.Stream.{new_stream}
 
@@ -79,16 +79,16 @@ with_tsn tsn c = record c { tsn = tsn }
 abbrev pub after_acked : Sack → Transmission → Transmission
 after_acked s t = record t { streams = released (released_by s t.flight) t.streams; flight = after_sack s t.flight }
 
--- ## Giving up
+-- ## Abandoning
 
--- a message is given up, and its stream has so many bytes less
+-- a message is abandoned, and its stream has so many bytes less
 abbrev pub after_abandon : Option ℕ → ℕ → ℕ → Transmission → Transmission
 after_abandon message stream bytes t = record t {
   streams = change_where (has_number stream) (less_by bytes) t.streams;
-  flight = after_giving_up message t.flight;
+  flight = after_abandonment message t.flight;
 }
 
--- the lapsed message that begins with a chunk is gone, unsent
+-- the message past its deadline that begins with a chunk is gone, unsent
 abbrev pub after_expire : ChunkPayloadData → ℕ → ℕ → Transmission → Transmission
 after_expire c bytes now t = record t {
   streams = change_where (has_number c.stream_identifier) (expired c.unordered bytes) t.streams;

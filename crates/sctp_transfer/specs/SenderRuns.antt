@@ -4,7 +4,7 @@ use Rattle.std.specs.List.{sum_by}
 use Rattle.sctp_chunks.specs.declared.chunk.chunk_payload_data.ChunkPayloadData.{ChunkPayloadData}
 use Rattle.sctp_chunks.specs.declared.chunk.chunk_payload_data.ReliabilityType.{ReliabilityType}
 use Rattle.sctp_outbound.specs.outbound_queue.OutboundQueue.{all_started, total_bytes}
-use Rattle.sctp_transfer.specs.declared.sender.flight.late.GivenUp.{GivenUp}
+use Rattle.sctp_transfer.specs.declared.sender.flight.late.AbandonedMessage.{AbandonedMessage}
 use Rattle.sctp_transfer.specs.declared.sender.flight.Released.{Released}
 use Rattle.sctp_transfer.specs.Flight.{resent, with_queue, with_room}
 use Rattle.sctp_transfer.specs.Sender.{Transmission, opened, with_flight, with_mode_on, with_nothing}
@@ -24,16 +24,16 @@ pub data Call : Type 0 where
   -- `send_next`, `send_next_tsn`
   sends : Call
   -- `abandon`, `expire`, `expire_tail`: so many bytes leave, none where the call answers None
-  gives_up : ℕ → Call
+  abandons : ℕ → Call
   -- `expire_late`
-  gives_up_late : List GivenUp → Call
+  abandons_late : List AbandonedMessage → Call
   -- `acked`
   takes_sack : List Released → Call
 
 abbrev pub bytes_held : Transmission → ℕ
 bytes_held t = total_bytes t.flight.queue
 
-abbrev pub bytes_of_all : List GivenUp → ℕ
+abbrev pub bytes_of_all : List AbandonedMessage → ℕ
 bytes_of_all gs = sum_by (λ g. g.bytes) gs
 
 -- of what each call ensures, the part on which bytes depend
@@ -45,8 +45,8 @@ Makes (reserves count) old new = new ≡ with_flight (with_queue old.flight (wit
 Makes (resends tsn c) old new = new ≡ with_flight (resent tsn c old.flight) old
 Makes (writes bytes) old new = bytes_held new ≡ bytes_held old + length bytes
 Makes sends old new = bytes_held new ≡ bytes_held old
-Makes (gives_up bytes) old new = bytes_held new + bytes ≡ bytes_held old
-Makes (gives_up_late gone) old new = bytes_held new + bytes_of_all gone ≡ bytes_held old
+Makes (abandons bytes) old new = bytes_held new + bytes ≡ bytes_held old
+Makes (abandons_late gone) old new = bytes_held new + bytes_of_all gone ≡ bytes_held old
 Makes (takes_sack gone) old new = bytes_held new + bytes_in gone ≡ bytes_held old
 
 abbrev pub written_by : Call → ℕ
@@ -54,8 +54,8 @@ written_by (writes bytes) = length bytes
 written_by _ = 0
 
 abbrev pub released_by : Call → ℕ
-released_by (gives_up bytes) = bytes
-released_by (gives_up_late gone) = bytes_of_all gone
+released_by (abandons bytes) = bytes
+released_by (abandons_late gone) = bytes_of_all gone
 released_by (takes_sack gone) = bytes_in gone
 released_by _ = 0
 

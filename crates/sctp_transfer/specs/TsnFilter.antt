@@ -1,9 +1,9 @@
 -- The TSNs that came: the cumulative one, and those beyond it (RFC 4960 6.2; RFC 3758 3.6).
 use Rattle.std.specs.Prelude.{ℕ, ◌+◌, ◌-◌, ◌%◌, ◌^◌, ◌==◌, Bool, true, false, not, ◌&&◌, ◌||◌, nat_lt, None, List, [], ◌∷◌, ◌++◌, map}
 use Rattle.std.specs.List.{list_any}
-use Rattle.sctp_lists.specs.Kept.{runs_of}
-use Rattle.sctp_lists.specs.Lists.{advanced, inserted, those, Seen}
-use Rattle.sctp_lists.specs.Serial.{distance, comes_before, at_or_before}
+use Rattle.sctp_list_lemmas.specs.Kept.{runs_of}
+use Rattle.sctp_list_lemmas.specs.Lists.{advanced, inserted, those, Seen}
+use Rattle.sctp_list_lemmas.specs.Serial.{distance, comes_before, at_or_before}
 use Rattle.sctp_chunks.specs.declared.chunk.chunk_payload_data.PayloadProtocolIdentifier.TheVariants.{Unknown}
 use Rattle.sctp_chunks.specs.declared.chunk.chunk_payload_data.ChunkPayloadData.{ChunkPayloadData}
 use Rattle.sctp_chunks.specs.declared.chunk.chunk_selective_ack.GapAckBlock.{GapAckBlock}

@@ -216,7 +216,7 @@ impl Receiver {
     }
 }
 
-// Gives up what a FORWARD-TSN names, one name after another.
+// Discards what a FORWARD-TSN names, one name after another.
 fn forward_named(streams: &mut InboundStreams, names: &[ChunkForwardTsnStream])
     ensures { streams.new ≡ named_forwarded names.now streams.old }
 {

@@ -5,8 +5,8 @@ ghost use Rattle.sctp_transfer.specs.Outgoing.{released};
 ghost use Rattle.sctp_transfer.specs.Sender.{is_full_of};
 ghost use Rattle.sctp_transfer.specs.declared.sender.refusal.SenderRefusal.TheVariants.{StreamOpen, StreamUnknown, TsnsUsedUp, NotInFlight, OutOfMemory};
 
+mod abandonment;
 pub mod flight;
-mod giving_up;
 mod outbound_streams;
 pub mod refusal;
 pub mod total;
@@ -26,7 +26,7 @@ use std::marker::Model;
 
 /// The sending half of a link: what was written and is not yet acknowledged. It takes every SACK that a peer may send.
 ///
-/// It keeps the open streams, what waits and what is in flight. Of a message that was acknowledged or given up, and whose
+/// It keeps the open streams, what waits and what is in flight. Of a message that was acknowledged or abandoned, and whose
 /// TSNs the cumulative one passed, nothing is kept but the counters.
 #[derive(Drop)]
 pub struct Sender {
@@ -57,7 +57,7 @@ impl Sender {
     ghost use Rattle.sctp_serial.specs.DataChunks.{has_tsn};
     ghost use Rattle.sctp_serial.specs.Window.{is_held};
     ghost use Rattle.sctp_transfer.specs.Flight.{with_queue, with_room, may_send, next_after_send, can_resend, resent, is_outdated, sack_refusal, released_by, message_to_abandon, has_tail_at};
-    ghost use Rattle.sctp_transfer.specs.GivingUp.{abandon_refusal};
+    ghost use Rattle.sctp_transfer.specs.Abandonment.{abandon_refusal};
     ghost use Rattle.sctp_transfer.specs.Outgoing.{fragments_with_mode};
     ghost use Rattle.sctp_transfer.specs.Totals.{bytes_in};
     ghost use Rattle.sctp_transfer.specs.Sender.{with_nothing, with_tsn, stream_of, is_open, opened, closed, with_mode_on, with_flight, write_refusal, written_to, after_acked, after_abandon, after_expire};
@@ -277,8 +277,8 @@ impl Sender {
         self.flight.queue().peek_pending_at(sends)
     }
 
-    /// Gives up the message of a chunk in flight (RFC 3758 3.5), and answers its stream and the bytes that left. Refuses with
-    /// `NotInFlight`, where the TSN is not in flight; and, only where some of the message still waits, so that an end mark has
+    /// Abandons the message of a chunk in flight (RFC 3758 3.5), and answers its stream and the bytes that left. Refuses with
+    /// `NotInFlight`, where the TSN is not in flight; and, only where some of the message still waits, so that a terminal chunk has
     /// to go in flight, with `TsnsUsedUp`, where 2^31 - 1 chunks are in flight, and for memory. The sender is as it was then.
     pub fn abandon(&mut self, tsn: u32) -> Result<(u16, usize), SenderRefusal>
         ensures ok { IfOk result (λ r. self.new
@@ -310,7 +310,7 @@ impl Sender {
         Ok((stream, bytes))
     }
 
-    /// Removes the message in front, where it is lapsed and wholly unsent, and answers its stream and its bytes. `now` is in
+    /// Removes the message in front, where it is past its deadline and wholly unsent, and answers its stream and its bytes. `now` is in
     /// nanoseconds. It takes no memory.
     pub fn expire(&mut self, now: u64) -> Option<(u16, usize)>
         ensures some { IfSome result (λ r. IfSome (expiring now self.old.flight.queue)
@@ -325,7 +325,7 @@ impl Sender {
         Some((stream, bytes))
     }
 
-    /// Gives up the rest of the half-sent message in front, where it is lapsed, and answers its stream, its number and the bytes
+    /// Abandons the rest of the partially sent message in front, where it is past its deadline, and answers its stream, its number and the bytes
     /// that left. `now` is in nanoseconds. Refuses, only where there is such a message, with `TsnsUsedUp`, where 2^31 - 1 chunks
     /// are in flight, and for memory. The sender is as it was then.
     pub fn expire_tail(&mut self, now: u64) -> Result<Option<(u16, u64, usize)>, SenderRefusal>
@@ -347,15 +347,15 @@ impl Sender {
         if self.flight.queue().is_tail_expired(now) && !self.flight.may_send() {
             return Err(SenderRefusal::TsnsUsedUp);
         }
-        let given_up = self.flight.expire_tail(now)?;
-        if let Some((stream, _, bytes)) = given_up {
+        let abandoned = self.flight.expire_tail(now)?;
+        if let Some((stream, _, bytes)) = abandoned {
             self.streams.release(stream, bytes);
         }
-        Ok(given_up)
+        Ok(abandoned)
     }
 
     /// Sends the chunk in flight with a TSN again: answers it, and counts that. Refuses with `NotInFlight`, where none is, or it is
-    /// acknowledged or given up; and for memory. The sender is as it was then.
+    /// acknowledged or abandoned; and for memory. The sender is as it was then.
     pub fn resend(&mut self, tsn: u32) -> Result<ChunkPayloadData, SenderRefusal>
         ensures answer { IfOk result (λ c. find (has_tsn tsn) self.old.flight.queue.inflight.chunks
             ≡ Some c) }

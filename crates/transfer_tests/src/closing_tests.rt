@@ -124,7 +124,7 @@ fn sender_closes_the_middle(rt: HostRuntime) {
     assert!(rt; well && the_others_write(alloc, &mut sender));
 }
 
-// What a receiver makes of a whole message of a stream, by its first number.
+// What a receiver makes of a complete message of a stream, by its first number.
 fn comes_on(
     alloc: Global,
     receiver: &mut Receiver,

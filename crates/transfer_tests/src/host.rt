@@ -128,7 +128,7 @@ pub(crate) fn acknowledges(alloc: Global, from: &mut Host, to: &mut Host) -> boo
     }
 }
 
-/// Tells what was given up; whether the FORWARD-TSN is taken.
+/// Tells what was abandoned; whether the FORWARD-TSN is taken.
 pub(crate) fn skips(alloc: Global, from: &mut Host, to: &mut Host) -> bool {
     match from.sender.forward_tsn() {
         Ok(Some(chunk)) => arrives(alloc, to, ChunkKind::ForwardTsn(chunk)),

@@ -157,18 +157,18 @@ fn nothing_is_held(receiver: &Receiver) -> bool {
     }
 }
 
-fn the_message_is_given_up(alloc: Global, receiver: &mut Receiver) -> bool {
+fn the_message_is_discarded(alloc: Global, receiver: &mut Receiver) -> bool {
     comes_again(alloc, receiver, 2) && nothing_is_held(receiver)
 }
 
-/// A skip goes over what came beyond it; the message that it names is given up.
+/// A skip goes over what came beyond it; the message that it names is discarded.
 #[test]
 fn skips(rt: HostRuntime) {
     let alloc = rt.alloc();
     let mut receiver = Receiver::new(alloc, 1, 100);
     let well = first_and_fourth_come(alloc, &mut receiver)
         && skips_are_judged(alloc, &mut receiver);
-    assert!(rt; well && the_message_is_given_up(alloc, &mut receiver));
+    assert!(rt; well && the_message_is_discarded(alloc, &mut receiver));
 }
 
 /// Whether the caller answers this to a chunk.

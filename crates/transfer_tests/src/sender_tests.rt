@@ -5,7 +5,7 @@ use crate::part::reads;
 use sctp_chunks::chunk::chunk_payload_data::ReliabilityType;
 use sctp_chunks::chunk::chunk_selective_ack::{ChunkSelectiveAck, GapAckBlock};
 use sctp_transfer::sender::flight::InFlight;
-use sctp_transfer::sender::flight::late::GivenUp;
+use sctp_transfer::sender::flight::late::AbandonedMessage;
 use sctp_transfer::sender::refusal::SenderRefusal;
 use std::alloc::Global;
 
@@ -120,8 +120,8 @@ fn forged_sacks(rt: HostRuntime) {
     assert!(rt; well && claims_are_judged(alloc, &mut a));
 }
 
-// A message with a lifetime of a millisecond is half sent, and its first fragment lost; one with no lifetime waits behind it.
-fn one_is_half_sent(alloc: Global, a: &mut Host, b: &mut Host) -> bool {
+// A message with a lifetime of a millisecond is partially sent, and its first fragment lost; one with no lifetime waits behind it.
+fn one_is_partially_sent(alloc: Global, a: &mut Host, b: &mut Host) -> bool {
     let mut well = a.opens() && b.opens();
     let timed = a.sender.set_mode(1, false, ReliabilityType::Timed, 1);
     well = well && timed.is_ok() && a.writes(alloc, b"abcdefgh") && sends(alloc, a, b, true);
@@ -130,9 +130,9 @@ fn one_is_half_sent(alloc: Global, a: &mut Host, b: &mut Host) -> bool {
     well
 }
 
-fn is_given_up(a: &mut Host, now: u64, due: &[GivenUp]) -> bool {
+fn abandons(a: &mut Host, now: u64, due: &[AbandonedMessage]) -> bool {
     match a.sender.expire_late(now) {
-        Ok(given_up) => given_up.as_slice() == due,
+        Ok(abandoned) => abandoned.as_slice() == due,
         Err(_) => false,
     }
 }
@@ -147,13 +147,13 @@ fn the_other_is_read(alloc: Global, a: &mut Host, b: &mut Host) -> bool {
 }
 
 fn its_lifetime_ends(a: &mut Host) -> bool {
-    let due = [GivenUp {
+    let due = [AbandonedMessage {
         stream: 1,
         number: 0,
         bytes: 8,
     }];
-    is_given_up(a, 999_999, &[])
-        && is_given_up(a, 1_000_000, &due)
+    abandons(a, 999_999, &[])
+        && abandons(a, 1_000_000, &due)
         && a.sender.buffered_amount(1) == Some(5)
         && a.sender.advanced_ack_point() == 0
 }
@@ -162,13 +162,13 @@ fn the_peer_goes_on(alloc: Global, a: &mut Host, b: &mut Host) -> bool {
     the_other_is_read(alloc, a, b) && is_done(a) && !skips(alloc, a, b)
 }
 
-/// The lifetime of a half-sent message ends: it is given up with its tail, the peer is told, and the message behind it is read.
+/// The lifetime of a partially sent message ends: it is abandoned with its tail, the peer is told, and the message behind it is read.
 #[test]
 fn lifetime_ends_in_flight(rt: HostRuntime) {
     let alloc = rt.alloc();
     let mut a = Host::new(alloc, u32::MAX, 7);
     let mut b = Host::new(alloc, 7, u32::MAX);
-    let well = one_is_half_sent(alloc, &mut a, &mut b) && its_lifetime_ends(&mut a);
+    let well = one_is_partially_sent(alloc, &mut a, &mut b) && its_lifetime_ends(&mut a);
     assert!(rt; well && the_peer_goes_on(alloc, &mut a, &mut b));
 }
 

@@ -5,7 +5,7 @@ ghost use Rattle.sctp_chunks.specs.SelectiveAck.{sack_of};
 ghost use Rattle.sctp_transfer.specs.declared.sender.refusal.SenderRefusal.{SenderRefusal};
 ghost use Rattle.sctp_transfer.specs.declared.sender.refusal.SenderRefusal.TheVariants.{OutOfMemory};
 ghost use Rattle.sctp_transfer.specs.Flight.{sack_refusal};
-ghost use Rattle.sctp_transfer.specs.GivingUp.{advanced_ack_point};
+ghost use Rattle.sctp_transfer.specs.Abandonment.{advanced_ack_point};
 ghost use Rattle.sctp_transfer.specs.Late.{after_late};
 ghost use Rattle.sctp_transfer.specs.Sender.{after_acked};
 
@@ -30,8 +30,8 @@ pub fn take_sack(sender: &mut Sender, sack: &ChunkSelectiveAck) -> Result<(), Se
     }
 }
 
-/// Gives up what is late, and answers the FORWARD-TSN that the peer is to be sent then, if there is one.
-pub fn give_up_late(sender: &mut Sender, now: u64) -> Result<Option<ChunkForwardTsn>, SenderRefusal>
+/// Abandons what is late, and answers the FORWARD-TSN that the peer is to be sent then, if there is one.
+pub fn abandon_late(sender: &mut Sender, now: u64) -> Result<Option<ChunkForwardTsn>, SenderRefusal>
     ensures late { OnOk result (sender.new ≡ after_late now sender.old) }
     ensures tsn { IfOk result (λ r. IfSome r
         (λ c. c.new_cumulative_tsn ≡ advanced_ack_point sender.new.flight)) }

@@ -12,7 +12,7 @@ use sctp_queues::outbound_queue::OutboundQueue;
 use sctp_queues::reassembly_queue::ReassemblyQueue;
 
 /// Puts the fragments of a message behind those that wait. The answer is false, and nothing changes, where
-/// they are not one whole message or one more can't be counted.
+/// they are not one complete message or one more can't be counted.
 pub fn queue_message(queue: &mut OutboundQueue, fragments: Vec<ChunkPayloadData>) -> Result<bool>
     ensures ok { IfOk result (λ taken. queue.new
         ≡ (if taken then with_message fragments.items queue.old else queue.old)) }

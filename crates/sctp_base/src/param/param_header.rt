@@ -119,7 +119,7 @@ impl ParamHeader {
 /// Appends the header of a parameter with a value of so many bytes. It takes no memory.
 /// Precondition: four bytes and the value are at most 65,535, and the buffer has room for four bytes.
 pub fn put_header(buf: &mut BytesMut, typ: ParamType, value_length: usize)
-    requires text { 4 + value_length < 2 ^ 16 }
+    requires encoding { 4 + value_length < 2 ^ 16 }
     requires room { 4 ≤ buf.old.spare }
     ensures items { buf.new.items
         ≡ buf.old.items ++ (be16 (type_number typ) ++ be16 (4 + value_length)) }

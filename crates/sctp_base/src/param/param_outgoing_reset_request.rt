@@ -55,7 +55,7 @@ impl fmt::Display for ParamOutgoingResetRequest {
 
 /// Reads so many stream identifiers from `at` on, two bytes each. Refuses only for memory.
 /// Precondition: they are there.
-#[tactic(auto, using(crate::proofs::Each::each_none, crate::proofs::Each::each_next))]
+#[tactic(auto, using(crate::proofs::EachAt::each_none, crate::proofs::EachAt::each_next))]
 fn read_streams(alloc: Global, value: &[u8], at: usize, count: usize) -> Result<Vec<u16>>
     requires { at + 2 * count ≤ length value.now }
     ensures ok { IfOk result (λ v. v.items ≡ each count (λ i. u16_at value.now (at + 2 * i))) }

@@ -4,7 +4,7 @@ ghost use Rattle.std.specs.Prelude.{◌≡◌, ◌+◌, ◌*◌, ◌/◌, ◌≤
 ghost use Rattle.sctp_base.specs.declared.error.Error.TheVariants.{ErrInvalidAlgorithmType};
 ghost use Rattle.sctp_base.specs.Outcome.{OrMemory};
 ghost use Rattle.std.specs.List.{flat_map};
-ghost use Rattle.sctp_base.specs.HmacAlgorithm.{algorithm_from, algorithm_name, algorithm_number, algorithm_text, ReadsAlgorithms};
+ghost use Rattle.sctp_base.specs.HmacAlgorithm.{algorithm_from, algorithm_name, algorithm_number, algorithm_encoding, ReadsAlgorithms};
 ghost use Rattle.sctp_base.specs.Param.{requested_hmac_algorithm};
 ghost use Rattle.sctp_base.specs.ParamKinds.{IsRequestedHmacAlgorithm};
 ghost use Rattle.sctp_base.specs.ParamFault.{AlgorithmsFault, HasOtherAlgorithm};
@@ -90,7 +90,7 @@ impl fmt::Display for ParamRequestedHmacAlgorithm {
 }
 
 /// Reads the algorithms, two bytes each. A last odd byte is ignored.
-#[tactic(auto, using(crate::proofs::Each::each_none, crate::proofs::Each::each_next))]
+#[tactic(auto, using(crate::proofs::EachAt::each_none, crate::proofs::EachAt::each_next))]
 fn read_algorithms(alloc: Global, value: &[u8]) -> Result<Vec<HmacAlgorithm>>
     ensures found { IfOk result (λ v. ReadsAlgorithms value.now v.items) }
     ensures fault { IfErr result
@@ -111,7 +111,7 @@ fn read_algorithms(alloc: Global, value: &[u8]) -> Result<Vec<HmacAlgorithm>>
 /// Precondition: the buffer has room for them.
 fn put_algorithms(buf: &mut BytesMut, algorithms: &[HmacAlgorithm])
     requires { 2 * length algorithms.now ≤ buf.old.spare }
-    ensures items { buf.new.items ≡ buf.old.items ++ flat_map algorithm_text algorithms.now }
+    ensures items { buf.new.items ≡ buf.old.items ++ flat_map algorithm_encoding algorithms.now }
     ensures spare { buf.new.spare + 2 * length algorithms.now ≡ buf.old.spare }
 {
     for algorithm in algorithms {

@@ -6,7 +6,7 @@ ghost use Rattle.sctp_base.specs.declared.error.Error.TheVariants.{ErrOutOfMemor
 ghost use Rattle.sctp_base.specs.Field.{u16_at};
 ghost use Rattle.sctp_base.specs.Each.{each};
 ghost use Rattle.sctp_base.specs.ParamType.{type_from};
-ghost use Rattle.sctp_base.specs.AddressTypes.{type_text};
+ghost use Rattle.sctp_base.specs.AddressTypes.{type_encoding};
 ghost use Rattle.sctp_base.specs.Param.{supported_address_types};
 ghost use Rattle.sctp_base.specs.ParamKinds.{IsSupportedAddressTypes};
 ghost use Rattle.sctp_base.specs.ParamFault.{AddressTypesFault};
@@ -40,7 +40,7 @@ impl fmt::Display for ParamSupportedAddressTypes {
 
 /// Reads so many types, two bytes each. Refuses only for memory.
 /// Precondition: they are there.
-#[tactic(auto, using(crate::proofs::Each::each_none, crate::proofs::Each::each_next))]
+#[tactic(auto, using(crate::proofs::EachAt::each_none, crate::proofs::EachAt::each_next))]
 fn read_types(alloc: Global, value: &[u8], count: usize) -> Result<Vec<ParamType>>
     requires { 2 * count ≤ length value.now }
     ensures ok { IfOk result (λ v. v.items
@@ -58,7 +58,7 @@ fn read_types(alloc: Global, value: &[u8], count: usize) -> Result<Vec<ParamType
 /// Precondition: the buffer has room for them.
 fn put_param_types(buf: &mut BytesMut, types: &[ParamType])
     requires { 2 * length types.now ≤ buf.old.spare }
-    ensures items { buf.new.items ≡ buf.old.items ++ flat_map type_text types.now }
+    ensures items { buf.new.items ≡ buf.old.items ++ flat_map type_encoding types.now }
     ensures spare { buf.new.spare + 2 * length types.now ≡ buf.old.spare }
 {
     for typ in types {

@@ -5,7 +5,7 @@ ghost use Rattle.std.specs.List.{flat_map, AllByRecursion};
 ghost use Rattle.sctp_base.specs.Each.{each};
 ghost use Rattle.sctp_base.specs.declared.error.Error.TheVariants.{ErrOutOfMemory, ErrChunkTooShort};
 ghost use Rattle.sctp_chunks.specs.Fits.{FitsStream};
-ghost use Rattle.sctp_chunks.specs.ForwardTsn.{stream_at, stream_text, forward_tsn_of};
+ghost use Rattle.sctp_chunks.specs.ForwardTsn.{stream_at, stream_encoding, forward_tsn_of};
 ghost use Rattle.sctp_chunks.specs.Wire.{forward_tsn_chunk, IsForwardTsn};
 ghost use Rattle.sctp_chunks.specs.Fault.{ForwardTsnFault};
 
@@ -55,7 +55,7 @@ impl ChunkForwardTsnStream {
 
     /// The length of the pair: four bytes.
     pub fn value_length(&self) -> usize
-        ensures { result ≡ length (stream_text self.now) }
+        ensures { result ≡ length (stream_encoding self.now) }
     {
         FORWARD_TSN_STREAM_LENGTH
     }
@@ -63,7 +63,7 @@ impl ChunkForwardTsnStream {
     /// Appends the pair, and answers the buffer's length.
     /// Refuses only for memory, where the buffer lacked room for four bytes. Its bytes are as they were then.
     pub fn marshal_to(&self, buf: &mut BytesMut) -> Result<usize>
-        ensures ok { IfOk result (λ n. (buf.new.items ≡ buf.old.items ++ stream_text self.now)
+        ensures ok { IfOk result (λ n. (buf.new.items ≡ buf.old.items ++ stream_encoding self.now)
             × (n ≡ length buf.new.items)) }
         ensures err { OnErr result (buf.new.items ≡ buf.old.items) }
         ensures refused { IfErr result (λ e. (e ≡ ErrOutOfMemory) × (buf.old.spare < 4)) }
@@ -75,7 +75,7 @@ impl ChunkForwardTsnStream {
 
     /// The pair as four bytes. Refuses only for memory.
     pub fn marshal(&self, alloc: Global) -> Result<Bytes>
-        ensures ok { IfOk result (λ b. b ≡ stream_text self.now) }
+        ensures ok { IfOk result (λ b. b ≡ stream_encoding self.now) }
         ensures memory { IsOkUnless result ErrOutOfMemory }
     {
         let mut buf = BytesMut::new(alloc);
@@ -87,7 +87,7 @@ impl ChunkForwardTsnStream {
     /// Precondition: the buffer has room for four bytes.
     fn put(&self, buf: &mut BytesMut)
         requires { 4 ≤ buf.old.spare }
-        ensures items { buf.new.items ≡ buf.old.items ++ stream_text self.now }
+        ensures items { buf.new.items ≡ buf.old.items ++ stream_encoding self.now }
         ensures spare { buf.new.spare + 4 ≡ buf.old.spare }
         ensures fits { FitsStream self.now }
     {
@@ -127,7 +127,7 @@ fn read_streams(alloc: Global, value: &[u8], count: usize) -> Result<Vec<ChunkFo
 /// Precondition: the buffer has room for four bytes each.
 fn put_streams(buf: &mut BytesMut, streams: &[ChunkForwardTsnStream])
     requires { 4 * length streams.now ≤ buf.old.spare }
-    ensures items { buf.new.items ≡ buf.old.items ++ flat_map stream_text streams.now }
+    ensures items { buf.new.items ≡ buf.old.items ++ flat_map stream_encoding streams.now }
     ensures spare { buf.new.spare + 4 * length streams.now ≡ buf.old.spare }
     ensures fits { AllByRecursion FitsStream streams.now }
 {

@@ -58,7 +58,7 @@ pub fn read_info(alloc: Global, value: &Bytes) -> Result<Vec<ParamKind>>
     Ok(params)
 }
 
-#[tactic(auto, using(crate::proofs::One::heartbeat_one, crate::proofs::ParamsText::heartbeat_short))]
+#[tactic(auto, using(crate::proofs::One::heartbeat_one, crate::proofs::ParamsEncoding::heartbeat_short))]
 impl Chunk for ChunkHeartbeat {
     ghost wire = { λ c. heartbeat_chunk (map parameter_of c.params.items) };
 

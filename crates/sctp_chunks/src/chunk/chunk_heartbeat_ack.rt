@@ -33,7 +33,7 @@ impl fmt::Display for ChunkHeartbeatAck {
     }
 }
 
-#[tactic(auto, using(crate::proofs::One::heartbeat_ack_one, crate::proofs::ParamsText::heartbeat_short, crate::proofs::ParamsText::one_info))]
+#[tactic(auto, using(crate::proofs::One::heartbeat_ack_one, crate::proofs::ParamsEncoding::heartbeat_short, crate::proofs::ParamsEncoding::one_info))]
 impl Chunk for ChunkHeartbeatAck {
     ghost wire = { λ c. heartbeat_ack_chunk (map parameter_of c.params.items) };
 

@@ -5,7 +5,7 @@ ghost use Rattle.std.specs.List.{flat_map, AllByRecursion};
 ghost use Rattle.sctp_base.specs.Each.{each};
 ghost use Rattle.sctp_base.specs.declared.error.Error.TheVariants.{ErrOutOfMemory};
 ghost use Rattle.sctp_chunks.specs.Fits.{FitsEntry};
-ghost use Rattle.sctp_chunks.specs.IForwardTsn.{entry_at, entry_text, i_forward_tsn_of};
+ghost use Rattle.sctp_chunks.specs.IForwardTsn.{entry_at, entry_encoding, i_forward_tsn_of};
 ghost use Rattle.sctp_chunks.specs.Wire.{i_forward_tsn_chunk, IsIForwardTsn};
 ghost use Rattle.sctp_chunks.specs.Fault.{IForwardTsnFault};
 
@@ -67,7 +67,7 @@ fn read_entries(alloc: Global, value: &[u8], count: usize) -> Result<Vec<ChunkIF
 /// Precondition: the buffer has room for eight bytes.
 fn put_entry(buf: &mut BytesMut, entry: &ChunkIForwardTsnStream)
     requires { 8 ≤ buf.old.spare }
-    ensures items { buf.new.items ≡ buf.old.items ++ entry_text entry.now }
+    ensures items { buf.new.items ≡ buf.old.items ++ entry_encoding entry.now }
     ensures spare { buf.new.spare + 8 ≡ buf.old.spare }
     ensures fits { FitsEntry entry.now }
 {
@@ -80,7 +80,7 @@ fn put_entry(buf: &mut BytesMut, entry: &ChunkIForwardTsnStream)
 /// Precondition: the buffer has room for eight bytes each.
 fn put_entries(buf: &mut BytesMut, entries: &[ChunkIForwardTsnStream])
     requires { 8 * length entries.now ≤ buf.old.spare }
-    ensures items { buf.new.items ≡ buf.old.items ++ flat_map entry_text entries.now }
+    ensures items { buf.new.items ≡ buf.old.items ++ flat_map entry_encoding entries.now }
     ensures spare { buf.new.spare + 8 * length entries.now ≡ buf.old.spare }
     ensures fits { AllByRecursion FitsEntry entries.now }
 {

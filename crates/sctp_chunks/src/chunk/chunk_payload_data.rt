@@ -4,7 +4,7 @@ ghost use Rattle.std.specs.Prelude.{◌≡◌, ◌+◌, ◌^◌, ◌<◌, ◌≤
 ghost use Rattle.sctp_chunks.specs.PayloadData.{payload_type_from, payload_type_number, data_of, data_value, data_flags};
 ghost use Rattle.sctp_chunks.specs.Names.{payload_type_name, reliability_name};
 ghost use Rattle.sctp_chunks.specs.Reliability.{reliability_from};
-ghost use Rattle.sctp_chunks.specs.Wire.{Wire, data_chunk, IsData, ReadsChunk, HasText, text_of};
+ghost use Rattle.sctp_chunks.specs.Wire.{Wire, data_chunk, IsData, ReadsChunk, HasEncoding, encoding_of};
 ghost use Rattle.sctp_chunks.specs.Fault.{DataFault};
 ghost use Rattle.sctp_chunks.specs.ChunkSet.{IsFreshData};
 ghost use Rattle.sctp_base.specs.declared.error.Error.TheVariants.{ErrOutOfMemory};
@@ -42,7 +42,7 @@ pub enum ReliabilityType {
     /// Each chunk is sent again at most so often: the value counts sendings after
     /// the first. The layer above keeps to it.
     Rexmit,
-    /// The message is given up once it is so old: the value is its lifetime in milliseconds (RFC 3758 4.1).
+    /// The message is abandoned once it is so old: the value is its lifetime in milliseconds (RFC 3758 4.1).
     Timed,
 }
 
@@ -50,7 +50,7 @@ pub enum ReliabilityType {
 /// RFC 8832 8.1). Any other number is read as `Unknown`, which is written as 58.
 #[derive(Clone, Copy, Debug, PartialEq, Eq)]
 pub enum PayloadProtocolIdentifier {
-    /// A message that establishes a channel. It is always ordered and never given up for its age (RFC 8832 6).
+    /// A message that establishes a channel. It is always ordered and never abandoned for its age (RFC 8832 6).
     Dcep = 50,
     /// Text in UTF-8.
     String = 51,
@@ -96,7 +96,7 @@ impl From<u32> for PayloadProtocolIdentifier {
 ///
 ///     | B | E | the fragment is          |
 ///     |---|---|--------------------------|
-///     | 1 | 1 | the whole message        |
+///     | 1 | 1 | the complete message        |
 ///     | 1 | 0 | the first of several     |
 ///     | 0 | 0 | neither first nor last   |
 ///     | 0 | 1 | the last of several      |
@@ -124,7 +124,7 @@ pub struct ChunkPayloadData {
     /// What the user data is.
     pub payload_type: PayloadProtocolIdentifier,
     /// The bytes of the message that this fragment carries. A sender clears them
-    /// once they are acknowledged or given up.
+    /// once they are acknowledged or abandoned.
     pub user_data: Bytes,
 
     /// Whether the peer acknowledged this chunk. Here and below is what only the
@@ -134,9 +134,9 @@ pub struct ChunkPayloadData {
     /// layer above sends it again at once, and need not count on (RFC 4960 7.2.4).
     pub miss_indicator: u8,
 
-    /// One number for all fragments of a message, by which they are found when it is given up.
+    /// One number for all fragments of a message, by which they are found when it is abandoned.
     pub message_id: u64,
-    /// Whether the message was given up: the chunk is not sent again, and a FORWARD-TSN is to pass it (RFC 3758 3.5).
+    /// Whether the message was abandoned: the chunk is not sent again, and a FORWARD-TSN is to pass it (RFC 3758 3.5).
     pub abandoned: bool,
 
     /// The moment at which the chunk was sent, in nanoseconds, as it was noted
@@ -150,7 +150,7 @@ pub struct ChunkPayloadData {
     /// How often this chunk was sent.
     pub nsent: u32,
     /// Whether the chunk is to be sent again, as after the retransmission timer ran out while
-    /// it was in flight (RFC 4960 6.3.3). An acknowledgement clears it, and so does giving up.
+    /// it was in flight (RFC 4960 6.3.3). An acknowledgement clears it, and so does abandoning.
     pub retransmit: bool,
 }
 

@@ -111,7 +111,7 @@ fn read_pair(alloc: Global, value: Bytes) -> Result<ChunkReconfig>
     })
 }
 
-#[tactic(auto, using(crate::proofs::One::reconfig_one, crate::proofs::ParamsText::pair_short, crate::proofs::ParamsText::pair_first, crate::proofs::ParamsText::length_both, crate::proofs::ParamsText::both_text, crate::proofs::ParamsText::only_text))]
+#[tactic(auto, using(crate::proofs::One::reconfig_one, crate::proofs::ParamsEncoding::pair_short, crate::proofs::ParamsEncoding::pair_first, crate::proofs::ParamsEncoding::length_both, crate::proofs::ParamsEncoding::both_encoding, crate::proofs::ParamsEncoding::only_encoding))]
 impl Chunk for ChunkReconfig {
     ghost wire = { λ c. reconfig_chunk (reconfig_of c) };
 

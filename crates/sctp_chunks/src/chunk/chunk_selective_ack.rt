@@ -6,7 +6,7 @@ ghost use Rattle.sctp_base.specs.Each.{each};
 ghost use Rattle.sctp_base.specs.Field.{be32, u32_at};
 ghost use Rattle.sctp_base.specs.declared.error.Error.TheVariants.{ErrOutOfMemory};
 ghost use Rattle.sctp_chunks.specs.Fits.{FitsBlock};
-ghost use Rattle.sctp_chunks.specs.SelectiveAck.{block_at, block_text, sack_of};
+ghost use Rattle.sctp_chunks.specs.SelectiveAck.{block_at, block_encoding, sack_of};
 ghost use Rattle.sctp_chunks.specs.Wire.{sack_chunk, IsSack};
 ghost use Rattle.sctp_chunks.specs.Fault.{SackFault};
 
@@ -103,7 +103,7 @@ fn read_numbers(alloc: Global, value: &[u8], at: usize, count: usize) -> Result<
 /// Precondition: the buffer has room for four bytes each.
 fn put_blocks(buf: &mut BytesMut, blocks: &[GapAckBlock])
     requires { 4 * length blocks.now ≤ buf.old.spare }
-    ensures items { buf.new.items ≡ buf.old.items ++ flat_map block_text blocks.now }
+    ensures items { buf.new.items ≡ buf.old.items ++ flat_map block_encoding blocks.now }
     ensures spare { buf.new.spare + 4 * length blocks.now ≡ buf.old.spare }
     ensures fits { AllByRecursion FitsBlock blocks.now }
 {

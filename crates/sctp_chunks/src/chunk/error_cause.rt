@@ -5,7 +5,7 @@ ghost use Rattle.std.specs.List.{AllByRecursion};
 ghost use Rattle.sctp_base.specs.Outcome.{OrMemory, GivesUnlessMemory};
 ghost use Rattle.sctp_base.specs.declared.error.Error.TheVariants.{ErrOutOfMemory, ErrLengthTooLarge, ErrErrorCauseTooSmall};
 ghost use Rattle.sctp_chunks.specs.declared.chunk.error_cause.ErrorCause.{ErrorCause};
-ghost use Rattle.sctp_chunks.specs.ErrorCause.{IsCause, ReadsCause, ReadsCauses, HasCauseText, after_cause, cause_text, causes_text};
+ghost use Rattle.sctp_chunks.specs.ErrorCause.{IsCause, ReadsCause, ReadsCauses, HasCauseEncoding, after_cause, cause_encoding, causes_encoding};
 ghost use Rattle.sctp_chunks.specs.Fault.{CausesFault};
 ghost use Rattle.sctp_chunks.specs.Fits.{FitsCause};
 ghost use Rattle.sctp_chunks.specs.Names.{cause_code_name};
@@ -162,11 +162,11 @@ impl ErrorCause {
     /// Refuses with `ErrLengthTooLarge`, exactly where the cause has more than 65,535
     /// bytes, or for memory where the buffer lacked room. Its bytes are as they were then.
     pub fn marshal_to(&self, buf: &mut BytesMut) -> Result<usize>
-        ensures ok { IfOk result (λ n. HasCauseText self.now
-            × (buf.new.items ≡ buf.old.items ++ cause_text self.now) × (n ≡ length buf.new.items)) }
+        ensures ok { IfOk result (λ n. HasCauseEncoding self.now
+            × (buf.new.items ≡ buf.old.items ++ cause_encoding self.now) × (n ≡ length buf.new.items)) }
         ensures err { OnErr result (buf.new.items ≡ buf.old.items) }
-        ensures refused { IfErr result (λ e. ((e ≡ ErrLengthTooLarge) × (HasCauseText self.now → ⊥))
-            ⊎ ((e ≡ ErrOutOfMemory) × HasCauseText self.now × (buf.old.spare < 4 + length self.now.raw))) }
+        ensures refused { IfErr result (λ e. ((e ≡ ErrLengthTooLarge) × (HasCauseEncoding self.now → ⊥))
+            ⊎ ((e ≡ ErrOutOfMemory) × HasCauseEncoding self.now × (buf.old.spare < 4 + length self.now.raw))) }
     {
         if self.length() > u16::MAX as usize {
             return Err(Error::ErrLengthTooLarge);
@@ -178,9 +178,9 @@ impl ErrorCause {
 
     /// The cause as bytes. Refuses with `ErrLengthTooLarge`, exactly where it has more than 65,535, or for memory.
     pub fn marshal(&self, alloc: Global) -> Result<Bytes>
-        ensures ok { IfOk result (λ b. HasCauseText self.now × (b ≡ cause_text self.now)) }
-        ensures refused { IfErr result (λ e. ((e ≡ ErrLengthTooLarge) × (HasCauseText self.now → ⊥))
-            ⊎ ((e ≡ ErrOutOfMemory) × HasCauseText self.now)) }
+        ensures ok { IfOk result (λ b. HasCauseEncoding self.now × (b ≡ cause_encoding self.now)) }
+        ensures refused { IfErr result (λ e. ((e ≡ ErrLengthTooLarge) × (HasCauseEncoding self.now → ⊥))
+            ⊎ ((e ≡ ErrOutOfMemory) × HasCauseEncoding self.now)) }
     {
         let mut buf = BytesMut::new(alloc);
         self.marshal_to(&mut buf)?;
@@ -189,11 +189,11 @@ impl ErrorCause {
 
     /// Appends the cause.
     /// Precondition: it has at most 65,535 bytes, and the buffer has room for them.
-    #[tactic(auto, unfolding(crate::specs::ErrorCause::cause_text))]
+    #[tactic(auto, unfolding(crate::specs::ErrorCause::cause_encoding))]
     fn put(&self, buf: &mut BytesMut)
-        requires text { HasCauseText self.now }
+        requires encoding { HasCauseEncoding self.now }
         requires room { 4 + length self.now.raw ≤ buf.old.spare }
-        ensures items { buf.new.items ≡ buf.old.items ++ cause_text self.now }
+        ensures items { buf.new.items ≡ buf.old.items ++ cause_encoding self.now }
         ensures spare { buf.new.spare + (4 + length self.now.raw) ≡ buf.old.spare }
         ensures fits { FitsCause self.now }
     {
@@ -239,7 +239,7 @@ pub fn read_causes(alloc: Global, raw: Bytes) -> Result<Vec<ErrorCause>>
 
 /// The length of the causes as they are written, in bytes, up to the greatest `usize`.
 pub fn causes_length(causes: &[ErrorCause]) -> usize
-    ensures { result ≡ min (length (causes_text causes.now)) usize.MAX }
+    ensures { result ≡ min (length (causes_encoding causes.now)) usize.MAX }
 {
     let mut total = 0usize;
     for cause in causes {
@@ -251,10 +251,10 @@ pub fn causes_length(causes: &[ErrorCause]) -> usize
 /// Appends causes. It takes no memory.
 /// Precondition: they have under 65,536 bytes, and the buffer has room for them.
 pub fn put_causes(buf: &mut BytesMut, causes: &[ErrorCause])
-    requires text { length (causes_text causes.now) < 2 ^ 16 }
-    requires room { length (causes_text causes.now) ≤ buf.old.spare }
-    ensures items { buf.new.items ≡ buf.old.items ++ causes_text causes.now }
-    ensures spare { buf.new.spare + length (causes_text causes.now) ≡ buf.old.spare }
+    requires encoding { length (causes_encoding causes.now) < 2 ^ 16 }
+    requires room { length (causes_encoding causes.now) ≤ buf.old.spare }
+    ensures items { buf.new.items ≡ buf.old.items ++ causes_encoding causes.now }
+    ensures spare { buf.new.spare + length (causes_encoding causes.now) ≡ buf.old.spare }
     ensures fits { AllByRecursion FitsCause causes.now }
 {
     for cause in causes {

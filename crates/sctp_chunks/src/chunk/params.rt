@@ -5,7 +5,7 @@ ghost use Rattle.sctp_base.specs.Outcome.{OrMemory, GivesUnlessMemory};
 ghost use Rattle.sctp_base.specs.ParamFraming.{after_param};
 ghost use Rattle.sctp_base.specs.Param.{Parameter, ReadsBack, param_value_of};
 ghost use Rattle.sctp_base.specs.ParamKind.{IsReadAs, ReadsParam, ParamFault, parameter_of};
-ghost use Rattle.sctp_chunks.specs.Params.{ReadsParams, ReadBack, ParamsFault, padded_param, params_text, gap};
+ghost use Rattle.sctp_chunks.specs.Params.{ReadsParams, ReadBack, ParamsFault, padded_param, params_encoding, gap};
 
 use bytes::{Bytes, BytesMut};
 use sctp_base::error::Result;
@@ -66,9 +66,9 @@ pub fn gap_after(param: &ParamKind, bare: bool) -> usize
 
 /// Appends a parameter, with its padding unless it is to stand bare. It takes no memory.
 /// Precondition: that is under 65,536 bytes, and the buffer has room for them.
-#[tactic(auto, using(crate::proofs::ParamsText::length_padded_param, sctp_base::proofs::ParamLengths::length_param_text, crate::proofs::ParamsText::padded_is))]
+#[tactic(auto, using(crate::proofs::ParamsEncoding::length_padded_param, sctp_base::proofs::ParamLengths::length_param_encoding, crate::proofs::ParamsEncoding::padded_is))]
 pub fn put_param(buf: &mut BytesMut, param: &ParamKind, bare: bool)
-    requires text { length (padded_param bare (parameter_of param.now)) < 2 ^ 16 }
+    requires encoding { length (padded_param bare (parameter_of param.now)) < 2 ^ 16 }
     requires room { length (padded_param bare (parameter_of param.now)) ≤ buf.old.spare }
     ensures items { buf.new.items ≡ buf.old.items ++ padded_param bare (parameter_of param.now) }
     ensures spare { buf.new.spare + length (padded_param bare (parameter_of param.now))
@@ -92,11 +92,11 @@ fn stands_bare(bare: bool, i: usize, count: usize) -> bool
 /// padding of the last is none of the chunk's length (RFC 4960 3.2). It takes no memory.
 /// Precondition: that is under 65,536 bytes, and the buffer has room for them.
 pub fn put_params(buf: &mut BytesMut, params: &[ParamKind], bare: bool)
-    requires text { length (params_text bare (map parameter_of params.now)) < 2 ^ 16 }
-    requires room { length (params_text bare (map parameter_of params.now)) ≤ buf.old.spare }
+    requires encoding { length (params_encoding bare (map parameter_of params.now)) < 2 ^ 16 }
+    requires room { length (params_encoding bare (map parameter_of params.now)) ≤ buf.old.spare }
     ensures items { buf.new.items
-        ≡ buf.old.items ++ params_text bare (map parameter_of params.now) }
-    ensures spare { buf.new.spare + length (params_text bare (map parameter_of params.now))
+        ≡ buf.old.items ++ params_encoding bare (map parameter_of params.now) }
+    ensures spare { buf.new.spare + length (params_encoding bare (map parameter_of params.now))
         ≡ buf.old.spare }
 {
     for i in 0..params.len() {
@@ -105,7 +105,7 @@ pub fn put_params(buf: &mut BytesMut, params: &[ParamKind], bare: bool)
 }
 
 /// The length of a parameter as it is written, in bytes, up to the greatest `usize`.
-#[tactic(auto, using(crate::proofs::ParamsText::length_padded_param))]
+#[tactic(auto, using(crate::proofs::ParamsEncoding::length_padded_param))]
 pub fn param_length(param: &ParamKind, bare: bool) -> usize
     ensures { result ≡ min (length (padded_param bare (parameter_of param.now))) usize.MAX }
 {
@@ -115,7 +115,7 @@ pub fn param_length(param: &ParamKind, bare: bool) -> usize
 
 /// The length of the parameters as they are written, in bytes, up to the greatest `usize`.
 pub fn params_length(params: &[ParamKind], bare: bool) -> usize
-    ensures { result ≡ min (length (params_text bare (map parameter_of params.now))) usize.MAX }
+    ensures { result ≡ min (length (params_encoding bare (map parameter_of params.now))) usize.MAX }
 {
     let mut length = 0usize;
     for i in 0..params.len() {

@@ -28,7 +28,7 @@ pub struct Saved {
 impl Halves {
     ghost use Rattle.sctp_chunks.specs.ForwardTsn.{forward_tsn_of};
     ghost use Rattle.sctp_chunks.specs.SelectiveAck.{sack_of};
-    ghost use Rattle.sctp_lists.specs.Lists.{changed};
+    ghost use Rattle.sctp_list_lemmas.specs.Lists.{changed};
     ghost use Rattle.sctp_reassembly.specs.reassembly_queue.ReassemblyQueue.{at_start, message_read};
     ghost use Rattle.sctp_transfer.specs.Inbound.{stream_read};
     ghost use Rattle.sctp_transfer.specs.Receiver.{data_refusal, arrival_of, forward_refusal, forwarded_of, sack};

@@ -22,7 +22,7 @@ impl Halves {
     ghost use Rattle.sctp_transfer.specs.Flight.{with_queue, with_room, may_send, resent, sack_refusal, has_tail_at, message_to_abandon};
     ghost use Rattle.sctp_transfer.specs.Sender.{write_refusal};
     ghost use Rattle.sctp_halves.specs.Streams.{OpenStream, begun_of, with_begun, written_of};
-    ghost use Rattle.sctp_halves.specs.Halves.{transmission_of, stream_in, on_stream, with_flight, written_on, next_sent, sack_taken, given_up_on, expired_unsent};
+    ghost use Rattle.sctp_halves.specs.Halves.{transmission_of, stream_in, on_stream, with_flight, written_on, next_sent, sack_taken, abandoned_on, expired_unsent};
 
     /// Takes a write of at least one byte: its fragments wait. Answers what is recorded of it.
     /// Precondition: the sender does not refuse it, and fewer than the greatest u64 ordered messages were written to its stream.
@@ -182,14 +182,14 @@ impl Halves {
         self.progress[place].ordered = ordered;
     }
 
-    /// Gives up the message of a chunk in flight (RFC 3758 3.5), and answers its stream and the bytes that left. Refuses only for
+    /// Abandons the message of a chunk in flight (RFC 3758 3.5), and answers its stream and the bytes that left. Refuses only for
     /// memory, and not where none of the message waits. All is as it was then.
     /// Precondition: the TSN is in flight, and where some of the message still waits a further TSN may be given out.
     pub fn abandon(&mut self, tsn: u32) -> Result<(u16, usize)>
         requires held { is_some (find (has_tsn tsn) self.old.flight.queue.inflight.chunks) ≡ true }
         requires tail { has_tail_at self.old.flight tsn ≡ true → may_send self.old.flight ≡ true }
         ensures ok { IfOk result (λ r. self.new
-            ≡ given_up_on (message_to_abandon tsn self.old.flight) r.0 r.1 self.old) }
+            ≡ abandoned_on (message_to_abandon tsn self.old.flight) r.0 r.1 self.old) }
         ensures stream { IfOk result (λ r. Some r.0 ≡ option_map
             (λ c. c.stream_identifier) (find (has_tsn tsn) self.old.flight.queue.inflight.chunks)) }
         ensures released { IfOk result (λ r. total_bytes self.new.flight.queue + r.1
@@ -205,13 +205,13 @@ impl Halves {
         }
     }
 
-    /// Gives up the rest of the message in front, which is past its deadline and of which some was sent, and answers its stream,
+    /// Abandons the rest of the message in front, which is past its deadline and of which some was sent, and answers its stream,
     /// its number and the bytes that left. `now` is in nanoseconds. Refuses only for memory, and all is as it was then.
     /// Precondition: there is such a message, and a further TSN may be given out.
     pub fn expire_tail(&mut self, now: u64) -> Result<(u16, u64, usize)>
-        requires lapsed { is_some (expiring_tail now self.old.flight.queue) ≡ true }
+        requires past_deadline { is_some (expiring_tail now self.old.flight.queue) ≡ true }
         requires next { may_send self.old.flight ≡ true }
-        ensures ok { IfOk result (λ r. self.new ≡ given_up_on
+        ensures ok { IfOk result (λ r. self.new ≡ abandoned_on
             (message_of (expiring_tail now self.old.flight.queue)) r.0 r.2 self.old) }
         ensures stream { IfOk result (λ r. Some r.0 ≡ option_map
             (λ c. c.stream_identifier) (expiring_tail now self.old.flight.queue)) }

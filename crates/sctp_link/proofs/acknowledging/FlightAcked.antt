@@ -4,11 +4,11 @@ use Rattle.std.specs.Prelude.{if◌then◌else◌, ◌&&◌, ◌||◌, not, nat_
 use Rattle.std.specs.List.{list_any}
 use Rattle.std.proofs.Math.Path.{subst}
 use Rattle.std.proofs.lemmas.Bool.{cases_lt, lt-ltb, le-ltb, le-leb, leb-true}
-use Rattle.sctp_lists.specs.Lists.{change_where}
-use Rattle.sctp_lists.specs.Kept.{kept, always}
-use Rattle.sctp_lists.specs.Serial.{distance, comes_before, at_or_before}
-use Rattle.sctp_lists.proofs.More.{same_test}
-use Rattle.sctp_lists.proofs.SerialLemmas.{not_before_from, before_irrefl}
+use Rattle.sctp_list_lemmas.specs.Lists.{change_where}
+use Rattle.sctp_list_lemmas.specs.Kept.{kept, always}
+use Rattle.sctp_list_lemmas.specs.Serial.{distance, comes_before, at_or_before}
+use Rattle.sctp_list_lemmas.proofs.More.{same_test}
+use Rattle.sctp_list_lemmas.proofs.Distances.{not_before_from, before_irrefl}
 use Rattle.sctp_chunks.specs.declared.chunk.chunk_payload_data.ChunkPayloadData.{ChunkPayloadData}
 use Rattle.sctp_chunks.specs.declared.chunk.chunk_selective_ack.GapAckBlock.{GapAckBlock}
 use Rattle.sctp_chunks.specs.SelectiveAck.{Sack}
@@ -19,8 +19,8 @@ use Rattle.sctp_transfer.specs.Flight.{reports, reports_anew}
 use Rattle.sctp_model.specs.World.{World}
 use Rattle.sctp_model.specs.Messages.{tsn_of}
 use Rattle.sctp_model.specs.Contents.{cumulative_tsn}
-use Rattle.sctp_ties.specs.Tied.{Sending, sending_of, sending_by, IsInFlight}
-use Rattle.sctp_ties.proofs.acknowledging.Acked.{first_of', rest_of'}
+use Rattle.sctp_refinement.specs.Refines.{Sending, sending_of, sending_by, IsInFlight}
+use Rattle.sctp_refinement.proofs.acknowledging.Acked.{first_of', rest_of'}
 use Rattle.sctp_link.specs.Acking.{in_block}
 
 -- ## Distances

@@ -3,13 +3,13 @@ use Rattle.std.proofs.Common.{◌≡◌, ℕ, zero, suc, ◌+◌, ◌-◌, ◌<�
 use Rattle.std.specs.Prelude.{slice_index_or}
 use Rattle.std.proofs.Math.Path.{subst}
 use Rattle.std.proofs.lemmas.List.{take-map}
-use Rattle.sctp_lists.specs.Kept.{runs_of}
-use Rattle.sctp_lists.proofs.Getting.{length-mapped}
+use Rattle.sctp_list_lemmas.specs.Kept.{runs_of}
+use Rattle.sctp_list_lemmas.proofs.Getting.{length-mapped}
 use Rattle.sctp_chunks.specs.declared.chunk.chunk_selective_ack.GapAckBlock.{GapAckBlock}
 use Rattle.sctp_chunks.specs.SelectiveAck.{Sack, sack_value}
 use Rattle.sctp_chunks.specs.Wire.{sack_chunk}
 use Rattle.sctp_chunks.proofs.Lengths.{length_sack_value}
-use Rattle.sctp_packets.specs.Packet.{ReadsPacket, packet_text}
+use Rattle.sctp_packets.specs.Packet.{ReadsPacket, packet_encoding}
 use Rattle.sctp_outbound.specs.payload_queue.Blocks.{gap_offsets}
 use Rattle.sctp_model.specs.declared.event.Event.TheVariants as E
 use Rattle.sctp_model.specs.World.{World}
@@ -21,16 +21,16 @@ use Rattle.sctp_model.specs.Contents.{contents_of, cumulative_tsn}
 use Rattle.sctp_model.specs.Queues.{FilterRecord}
 use Rattle.sctp_model.specs.Changes.{reported}
 use Rattle.sctp_model.specs.Steps.{reply_to}
-use Rattle.sctp_ties.proofs.arriving.Filter.{cumulative-le}
-use Rattle.sctp_ties.proofs.acknowledging.SackMade.{blocks-are, reported-outbound}
+use Rattle.sctp_refinement.proofs.arriving.Filter.{cumulative-le}
+use Rattle.sctp_refinement.proofs.acknowledging.SackMade.{blocks-are, reported-outbound}
 use Rattle.sctp_transfer.specs.Receiver.{Reception, filter_of, sack}
 use Rattle.sctp_transfer.specs.TsnFilter.{Filter, gap_ack_blocks, mark}
 use Rattle.sctp_link.specs.Records.{ends_of}
-use Rattle.sctp_link.specs.Texts.{IsDatagram, packet_with, block_of}
+use Rattle.sctp_link.specs.Encodings.{IsDatagram, packet_with, block_of}
 use Rattle.sctp_link.specs.Linked.{State, IsLinked}
 use Rattle.sctp_link.proofs.receiver.Came.{blocks-ends, tsns-beyond}
 use Rattle.sctp_link.proofs.upkeep.Facts.{facts, stands-then}
-use Rattle.sctp_link.proofs.upkeep.Frames.{stream-same, texts-more}
+use Rattle.sctp_link.proofs.upkeep.Frames.{stream-same, encodings-more}
 
 -- no more are taken than there are
 take-min : {A : Type 0} (n k : ℕ) (xs : List A) → k ≡ min n (length xs) → take k xs ≡ take n xs
@@ -82,7 +82,7 @@ module _ (sum : List ℕ → ℕ) (x : State) (l : IsLinked sum x) (credit : ℕ
   pub cumulative-place : ((x.filter.cumulative_tsn + (2 ^ 32 - w.setup.first)) % 2 ^ 32 + 1) % 2 ^ 32 ≡ cumulative w
   cumulative-place =
       let f = facts sum x l in
-      let top = cumulative-le w f.sound.sound.skipped_made in
+      let top = cumulative-le w f.valid.valid.skipped_made in
       let first = l.setup.first in
       let few = f.few in
       omega (arith, cumulative-is, top, first, few)
@@ -109,8 +109,8 @@ module _ (sum : List ℕ → ℕ) (x : State) (l : IsLinked sum x) (credit : ℕ
     pub told-is : s.duplicate_tsn ≡ take (length s.duplicate_tsn) x.filter.duplicates
     told-is = told-most ∙ sym (take-min (16379 - length s.gap_ack_blocks) (length s.duplicate_tsn) x.filter.duplicates told-length)
 
-    pub fits-text : 4 + length (sack_value s) < 2 ^ 16
-    fits-text = sack-short s (taken-short (gap_ack_blocks x.filter) s.gap_ack_blocks cut-is) (omega (arith, told-count))
+    pub fits-encoding : 4 + length (sack_value s) < 2 ^ 16
+    fits-encoding = sack-short s (taken-short (gap_ack_blocks x.filter) s.gap_ack_blocks cut-is) (omega (arith, told-count))
 
   module _ (all bs : List GapAckBlock) (runs : all ≡ gap_ack_blocks x.filter) (cut : bs ≡ take 16379 all) where
     pub blocks-made : map ends_of bs ≡ gap_blocks w
@@ -118,7 +118,7 @@ module _ (sum : List ℕ → ℕ) (x : State) (l : IsLinked sum x) (credit : ℕ
         let f = facts sum x l in
         ap (map ends_of) cut ∙ sym (take-map ends_of 16379 all) ∙ ap (take 16379) (ap (map ends_of) runs ∙ blocks-ends x.filter)
         ∙ ap (λ t. take 16379 (runs_of (gap_offsets t (map mark x.filter.beyond)))) cumulative-is
-        ∙ sym (blocks-are w credit (map mark x.filter.beyond) f.sound.sound.skipped_made f.few (tsns-beyond w x.filter l.filter))
+        ∙ sym (blocks-are w credit (map mark x.filter.beyond) f.valid.valid.skipped_made f.few (tsns-beyond w x.filter l.filter))
 
     blocks-count : length bs ≡ length (gap_blocks w)
     blocks-count = sym (length-mapped ends_of bs) ∙ ap length blocks-made
@@ -144,8 +144,8 @@ module _ (sum : List ℕ → ℕ) (x : State) (l : IsLinked sum x) (credit : ℕ
           ∙ ap (λ k. let t : Sack = record { cumulative_tsn_ack = cumulative_tsn w (cumulative w); advertised_receiver_window_credit = credit; gap_ack_blocks = k; duplicate_tsn = s.duplicate_tsn } in t) (c ∙ sym (blocks-again bs) ∙ ap (map block_of) blocks-made)
           ∙ ap (λ k. let t : Sack = record { cumulative_tsn_ack = cumulative_tsn w (cumulative w); advertised_receiver_window_credit = credit; gap_ack_blocks = map block_of (gap_blocks w); duplicate_tsn = k } in t) (d ∙ tsns-told)
 
-      pub linked-ack : (s : Sack) (bytes : List ℕ) (filter : Filter) → s.cumulative_tsn_ack ≡ x.filter.cumulative_tsn → s.advertised_receiver_window_credit ≡ credit → s.gap_ack_blocks ≡ bs → s.duplicate_tsn ≡ take count x.filter.duplicates → bytes ≡ packet_text sum (packet_with (sack_chunk s ∷ [])) → ReadsPacket sum bytes (packet_with (sack_chunk s ∷ [])) → length x.datagrams ≡ length w.network → filter ≡ record x.filter { duplicates = [] } → IsLinked sum (record x { world = v; datagrams = x.datagrams ++ bytes ∷ []; filter = filter })
-      linked-ack s bytes filter ea eb ec ed text reads len ef = subst (λ f. IsLinked sum (record x { world = v; datagrams = x.datagrams ++ bytes ∷ []; filter = f })) (sym ef) (record {
+      pub linked-ack : (s : Sack) (bytes : List ℕ) (filter : Filter) → s.cumulative_tsn_ack ≡ x.filter.cumulative_tsn → s.advertised_receiver_window_credit ≡ credit → s.gap_ack_blocks ≡ bs → s.duplicate_tsn ≡ take count x.filter.duplicates → bytes ≡ packet_encoding sum (packet_with (sack_chunk s ∷ [])) → ReadsPacket sum bytes (packet_with (sack_chunk s ∷ [])) → length x.datagrams ≡ length w.network → filter ≡ record x.filter { duplicates = [] } → IsLinked sum (record x { world = v; datagrams = x.datagrams ++ bytes ∷ []; filter = filter })
+      linked-ack s bytes filter ea eb ec ed encoding reads len ef = subst (λ f. IsLinked sum (record x { world = v; datagrams = x.datagrams ++ bytes ∷ []; filter = f })) (sym ef) (record {
         setup = l.setup;
         history = (E.Ack credit, reply_to w (E.Ack credit)) ∷ l.history;
         stands = stands-then w.setup w l.history (E.Ack credit) refl l.stands;
@@ -161,13 +161,13 @@ module _ (sum : List ℕ → ℕ) (x : State) (l : IsLinked sum x) (credit : ℕ
         low = l.low;
         open_streams = λ k d lt. stream-same w v (slice_index_or x.open_streams k d) (record { setup = refl; held = refl; ordered = refl; next = refl; amount = refl; counters = refl }) refl (l.open_streams k d lt);
         apart = l.apart;
-        texts = texts-more sum x l (E.Ack credit) refl (W.Sack (report_of w credit)) bytes refl len is;
+        encodings = encodings-more sum x l (E.Ack credit) refl (W.Sack (report_of w credit)) bytes refl len is;
       })
         where
           is : IsDatagram sum (contents_of v (W.Sack (report_of w credit))) bytes
           is =
               let e = says s ea eb ec ed in
-              record { text = text ∙ ap (λ t. packet_text sum (packet_with (sack_chunk t ∷ []))) e; reads = subst (λ t. ReadsPacket sum bytes (packet_with (sack_chunk t ∷ []))) e reads }
+              record { encoding = encoding ∙ ap (λ t. packet_encoding sum (packet_with (sack_chunk t ∷ []))) e; reads = subst (λ t. ReadsPacket sum bytes (packet_with (sack_chunk t ∷ []))) e reads }
 
 -- the record with the datagram that says it
 pub world-acked : (w : World) (credit : ℕ) (network : List W.Datagram) (repeats : List ℕ) (r : W.Report) → network ≡ w.network ++ W.Sack r ∷ [] → r ≡ report_of w credit → repeats ≡ [] → record w { network = network; duplicates = repeats } ≡ reported w credit

@@ -2,7 +2,7 @@
 use Rattle.std.proofs.Common.{◌≡◌, ℕ, ◌+◌, ◌-◌, ◌%◌, ◌^◌, Bool, length, map, Some, ap}
 use Rattle.std.specs.Prelude.{if◌then◌else◌, ◌==◌, ◌&&◌, ◌||◌, not, nat_le, nat_lt}
 use Rattle.std.specs.List.{list_any}
-use Rattle.sctp_lists.specs.Kept.{kept, unbroken}
+use Rattle.sctp_list_lemmas.specs.Kept.{kept, unbroken}
 use Rattle.sctp_chunks.specs.declared.chunk.chunk_payload_data.ChunkPayloadData.{ChunkPayloadData}
 use Rattle.sctp_chunks.specs.ChunkSet.{ChunkSet, fresh}
 use Rattle.sctp_reassembly.specs.reassembly_queue.ReassemblyQueue.{Reassembly}
@@ -14,7 +14,7 @@ use Rattle.sctp_model.specs.Queues.{FilterRecord, filter_of}
 use Rattle.sctp_model.specs.Changes.{sack_taken}
 use Rattle.sctp_model.proofs.sender.Shape.{has}
 use Rattle.sctp_model.proofs.receiver.View.{View, view-taken}
-use Rattle.sctp_ties.specs.Holds.{reassembly_of}
+use Rattle.sctp_refinement.specs.Holds.{reassembly_of}
 
 -- ## What came, by what a view tells of the slots
 
@@ -41,8 +41,8 @@ whole_set_in w y n = record { ssn = 0; ppi = (message_at w n).ppi; chunks = map 
 abbrev held_in : World → View → ℕ → ℕ → Bool
 held_in w y s n = is_ordered_on w s n && (is_unread w n && (nat_lt 0 (count_in y n) && (whole_in w y n || nat_le (stream_of w s).named (index_of w n))))
 
-abbrev loose_in : World → View → ℕ → ℕ → Bool
-loose_in w y s p = y.arrived p && (nat_le w.skipped p && (is_unordered_on w s (y.x.slot p).message && not (whole_in w y (y.x.slot p).message)))
+abbrev unassembled_in : World → View → ℕ → ℕ → Bool
+unassembled_in w y s p = y.arrived p && (nat_le w.skipped p && (is_unordered_on w s (y.x.slot p).message && not (whole_in w y (y.x.slot p).message)))
 
 abbrev reassembly_in : World → ℕ → View → Reassembly
 reassembly_in w s y =
@@ -50,7 +50,7 @@ reassembly_in w s y =
       next_ssn = next_of w s % 2 ^ 16;
       ordered = map (set_in w y) (kept (held_in w y s) 0 (length w.messages));
       unordered = map (whole_set_in w y) (stream_of w s).whole;
-      loose = map (chunk_in w y) (kept (loose_in w y s) 0 y.x.slots);
+      unassembled = map (chunk_in w y) (kept (unassembled_in w y s) 0 y.x.slots);
     }
 
 abbrev cumulative_in : World → View → ℕ

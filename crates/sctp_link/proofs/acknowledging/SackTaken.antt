@@ -5,9 +5,9 @@ use Rattle.std.specs.List.{list_any, list_all}
 use Rattle.std.proofs.Math.Path.{subst}
 use Rattle.std.proofs.lemmas.Bool.{cases_lt, lt-ltb, le-ltb, le-leb}
 use Rattle.std.proofs.lemmas.List.{get_or-map, get_or_default, length-take}
-use Rattle.sctp_lists.specs.Lists.{pieces, change_where, those}
-use Rattle.sctp_lists.specs.Serial.{distance, comes_before}
-use Rattle.sctp_lists.proofs.Getting.{length-mapped, length-numbered, numbered-at, map-at}
+use Rattle.sctp_list_lemmas.specs.Lists.{pieces, change_where, those}
+use Rattle.sctp_list_lemmas.specs.Serial.{distance, comes_before}
+use Rattle.sctp_list_lemmas.proofs.Getting.{length-mapped, length-numbered, numbered-at, map-at}
 use Rattle.sctp_chunks.specs.declared.chunk.chunk_selective_ack.GapAckBlock.{GapAckBlock}
 use Rattle.sctp_chunks.specs.declared.chunk.chunk_payload_data.ChunkPayloadData.{ChunkPayloadData}
 use Rattle.sctp_chunks.specs.SelectiveAck
@@ -26,7 +26,7 @@ use Rattle.sctp_model.specs.declared.event.LinkRefusal.TheVariants.{NoSuchDatagr
 use Rattle.sctp_model.specs.World.{Setup, World, Report, Sack, Forward}
 use Rattle.sctp_model.specs.World as W
 use Rattle.sctp_model.specs.Messages.{slot_at, no_slot, message_at, message_of, tsn_of}
-use Rattle.sctp_model.specs.Amounts.{growth, is_given_up, slot_bytes, on_stream, pending_bytes}
+use Rattle.sctp_model.specs.Amounts.{growth, is_expired_or_abandoned, slot_bytes, on_stream, pending_bytes}
 use Rattle.sctp_model.specs.Reports.{reports}
 use Rattle.sctp_model.specs.Contents.{contents_of, cumulative_tsn}
 use Rattle.sctp_model.specs.Changes.{sack_taken, acknowledged_by}
@@ -38,20 +38,20 @@ use Rattle.sctp_model.proofs.sender.Sender.{Sender}
 use Rattle.sctp_model.proofs.sender.Shapes
 use Rattle.sctp_model.proofs.acknowledgement.Acknowledged
 use Rattle.sctp_model.proofs.receiver.Received.{received-run}
-use Rattle.sctp_ties.specs.Amount.{unacked, unacked_on, bytes_at, acknowledged_at, acknowledged_then}
-use Rattle.sctp_ties.specs.Tied.{IsInFlight}
-use Rattle.sctp_ties.proofs.acknowledging.Acked.{in-flight-first, in-flight-same, tied-taken}
-use Rattle.sctp_ties.proofs.acknowledging.Unacked.{amount-is, amount-acked, growth-acked}
-use Rattle.sctp_ties.proofs.sending.Begun
-use Rattle.sctp_ties.proofs.sending.Begun.{Indexed}
-use Rattle.sctp_ties.proofs.amounts.InFlightBytes.{chunk-on, bytes-unacked, taken-acknowledged, then-below}
+use Rattle.sctp_refinement.specs.Amount.{unacked, unacked_on, bytes_at, acknowledged_at, acknowledged_then}
+use Rattle.sctp_refinement.specs.Refines.{IsInFlight}
+use Rattle.sctp_refinement.proofs.acknowledging.Acked.{in-flight-first, in-flight-same, refines-taken}
+use Rattle.sctp_refinement.proofs.acknowledging.Unacked.{amount-is, amount-acked, growth-acked}
+use Rattle.sctp_refinement.proofs.sending.Begun
+use Rattle.sctp_refinement.proofs.sending.Begun.{Indexed}
+use Rattle.sctp_refinement.proofs.amounts.InFlightBytes.{chunk-on, bytes-unacked, taken-acknowledged, then-below}
 use Rattle.sctp_halves.specs.Streams.{OpenStream, released, stream_numbers}
 use Rattle.sctp_link.specs.declared.record.Slot.{Slot}
 use Rattle.sctp_link.specs.declared.record.Datagram.{Datagram}
 use Rattle.sctp_link.specs.Records.{slot_record, datagram_record, stream_record}
 use Rattle.sctp_link.specs.Linked.{State, IsLinked, IsOpenStream}
 use Rattle.sctp_link.specs.Places.{IsApart}
-use Rattle.sctp_link.specs.Texts.{IsDatagram, block_of, packet_with}
+use Rattle.sctp_link.specs.Encodings.{IsDatagram, block_of, packet_with}
 use Rattle.sctp_link.specs.Acking.{Acks, IsMarking, amount_with, and_run, and_blocks, in_block}
 use Rattle.sctp_link.proofs.upkeep.Facts.{facts, over, stands-then, says-still}
 use Rattle.sctp_link.proofs.acknowledging.AckLoops.{marking-same, any-at}
@@ -84,9 +84,9 @@ get-bytes (x ∷ ds) (suc k) d g e = get-bytes ds k d g e
 pub reads-sack : (sum : List ℕ → ℕ) (x : State) (ds : List Datagram) (k : ℕ) (d : Datagram) (r : Report) → IsLinked sum x → x.world.network ≡ map datagram_record ds → x.datagrams ≡ map (λ d. d.bytes) ds → d ≡ slice_index_or ds k d → slice_get x.world.network k ≡ Some (Sack r)
     → ReadsPacket sum d.bytes (packet_with (sack_chunk (wire_sack x.world r) ∷ []))
 reads-sack sum x ds k d r l network bytes is there =
-    let text = l.texts k [] (Sack r) there in
+    let encoding = l.encodings k [] (Sack r) there in
     let here : slice_index_or x.datagrams k [] ≡ d.bytes = ap (λ n. slice_index_or n k []) bytes ∙ get-bytes ds k d (Sack r) (ap (λ n. slice_get n k) (sym network) ∙ there) ∙ ap (λ (y : Datagram). y.bytes) (sym is) in
-    subst (λ b. ReadsPacket sum b (packet_with (sack_chunk (wire_sack x.world r) ∷ []))) here text.reads
+    subst (λ b. ReadsPacket sum b (packet_with (sack_chunk (wire_sack x.world r) ∷ []))) here encoding.reads
 
 -- the count that a cumulative TSN tells
 pub count-is : (first count t : ℕ) → first < 2 ^ 32 → count < 2 ^ 31 → t ≡ (first + (2 ^ 32 - 1) + count) % 2 ^ 32 → ((t + (2 ^ 32 - first)) % 2 ^ 32 + 1) % 2 ^ 32 ≡ count
@@ -135,7 +135,7 @@ piece-short (suc most) size (x ∷ xs) zero = omega (arith, length-take size (x 
 piece-short (suc most) size (x ∷ xs) (suc i) = piece-short most size _ i
 
 bytes-short : (w : World) (p : ℕ) → w.setup.size ≤ 65519 → bytes_at w p < 2 ^ 31
-bytes-short w p le = part (slot_at w p).is_end_mark (is_given_up w (message_of w p)) (piece-short (length (message_at w (message_of w p)).bytes) w.setup.size (message_at w (message_of w p)).bytes (slot_at w p).fragment)
+bytes-short w p le = part (slot_at w p).is_terminal_chunk (is_expired_or_abandoned w (message_of w p)) (piece-short (length (message_at w (message_of w p)).bytes) w.setup.size (message_at w (message_of w p)).bytes (slot_at w p).fragment)
   where
     part : (a b : Bool) → slot_bytes w (message_of w p) p ≤ w.setup.size → (if a || b then 0 else slot_bytes w (message_of w p) p) < 2 ^ 31
     part true b short = omega arith
@@ -224,7 +224,7 @@ linked-taken sum x k r cs acked l acked_is none there e =
       setup = l.setup;
       history = (E.Acked k, reply_to x.world (E.Acked k)) ∷ l.history;
       stands = subst (λ o. StandsFor x.world.setup (sack_taken x.world o) ((E.Acked k, reply_to x.world (E.Acked k)) ∷ l.history)) there (stands-then x.world.setup x.world l.history (E.Acked k) none l.stands);
-      outbound = tied-taken x.world r x.outbound cs l.outbound e;
+      outbound = refines-taken x.world r x.outbound cs l.outbound e;
       unstarted = l.unstarted;
       filter = l.filter ∙ sym (filter-taken x.world r);
       next = l.next ∙ sym (ap (tsn_of x.world) (length-numbered (acknowledged_by r) 0 x.world.slots));
@@ -237,9 +237,9 @@ linked-taken sum x k r cs acked l acked_is none there e =
       open_streams = λ j d lt. let here : j < length x.open_streams = omega (arith, lt, length-mapped (as_left x.world r) x.open_streams) in
           subst (IsOpenStream (sack_taken x.world (Some (Sack r)))) (sym (map-at (as_left x.world r) j x.open_streams d here)) (stream-left x.world r (slice_index_or x.open_streams j d) f.sane.sender (l.open_streams j d here));
       apart = subst IsApart (sym (numbers-left x.world r x.open_streams)) l.apart;
-      texts = λ j d g there'.
+      encodings = λ j d g there'.
           let says = says-still x.world f (E.Acked k) none j g g there' (subst (λ o. slice_get (sack_taken x.world o).network j ≡ Some g) (sym there) there') in
-          subst (λ c. IsDatagram sum c (slice_index_or x.datagrams j d)) (sym (subst (λ o. contents_of (sack_taken x.world o) g ≡ contents_of x.world g) there says)) (l.texts j d g there');
+          subst (λ c. IsDatagram sum c (slice_index_or x.datagrams j d)) (sym (subst (λ o. contents_of (sack_taken x.world o) g ≡ contents_of x.world g) there says)) (l.encodings j d g there');
     }
 
 streams-left : (w : World) (r : Report) (ls : List OpenStream) → map stream_record (map (as_left w r) ls) ≡ map stream_record ls

@@ -2,20 +2,20 @@
 use Rattle.std.proofs.Common.{◌≡◌, ℕ, zero, suc, ◌+◌, ◌-◌, ◌<◌, ◌≤◌, ◌^◌, Bool, true, false, List, [], ◌∷◌, length, map, refl, ap, ◌∙◌, arith}
 use Rattle.std.specs.Prelude.{if◌then◌else◌, ◌==◌, ◌&&◌, not, slice_index_or}
 use Rattle.std.proofs.lemmas.Bool.{eq-eqb}
-use Rattle.sctp_lists.specs.Lists.{change_where, those}
-use Rattle.sctp_lists.specs.Kept.{kept, always, total_over}
-use Rattle.sctp_lists.proofs.Edits.{change_where-map, length-change_where}
-use Rattle.sctp_lists.proofs.Getting.{map-at}
-use Rattle.sctp_lists.proofs.Totals.{total-none, total-append, total-where, total-kept_same, numbers-append}
+use Rattle.sctp_list_lemmas.specs.Lists.{change_where, those}
+use Rattle.sctp_list_lemmas.specs.Kept.{kept, always, total_over}
+use Rattle.sctp_list_lemmas.proofs.Edits.{change_where-map, length-change_where}
+use Rattle.sctp_list_lemmas.proofs.Getting.{map-at}
+use Rattle.sctp_list_lemmas.proofs.Totals.{total-none, total-append, total-where, total-kept_same, numbers-append}
 use Rattle.sctp_chunks.specs.declared.chunk.chunk_payload_data.ChunkPayloadData.{ChunkPayloadData}
 use Rattle.sctp_outbound.specs.Marks.{acknowledged}
 use Rattle.sctp_transfer.specs.declared.sender.flight.Released.{Released}
 use Rattle.sctp_transfer.specs.Flight.{released_of}
 use Rattle.sctp_model.specs.World.{World}
-use Rattle.sctp_ties.specs.Amount.{unacked_on, stream_of_slot, bytes_at}
-use Rattle.sctp_ties.specs.Tied.{sending_of, sending_by, IsInFlight}
-use Rattle.sctp_ties.proofs.acknowledging.Acked.{first_of', rest_of'}
-use Rattle.sctp_ties.proofs.amounts.StreamAmounts.{same-turned}
+use Rattle.sctp_refinement.specs.Amount.{unacked_on, stream_of_slot, bytes_at}
+use Rattle.sctp_refinement.specs.Refines.{sending_of, sending_by, IsInFlight}
+use Rattle.sctp_refinement.proofs.acknowledging.Acked.{first_of', rest_of'}
+use Rattle.sctp_refinement.proofs.amounts.StreamAmounts.{same-turned}
 use Rattle.sctp_halves.specs.Streams.{OpenStream, has_number, less_by, released, stream_numbers}
 use Rattle.sctp_link.specs.Acking.{Acks}
 

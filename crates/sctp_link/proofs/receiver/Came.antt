@@ -4,10 +4,10 @@ use Rattle.std.specs.Prelude.{◌⊎◌, ◌==◌, ◌&&◌, ◌||◌, not, nat_
 use Rattle.std.specs.List.{list_any}
 use Rattle.std.proofs.lemmas.Bool.{cases_lt}
 use Rattle.std.proofs.lemmas.Bool.Decides.{nat_tests}
-use Rattle.sctp_lists.specs.Kept.{runs_of}
-use Rattle.sctp_lists.specs.Lists.{advanced, inserted, those, Seen}
-use Rattle.sctp_lists.specs.Serial.{distance, comes_before, at_or_before}
-use Rattle.sctp_lists.proofs.More.{fails}
+use Rattle.sctp_list_lemmas.specs.Kept.{runs_of}
+use Rattle.sctp_list_lemmas.specs.Lists.{advanced, inserted, those, Seen}
+use Rattle.sctp_list_lemmas.specs.Serial.{distance, comes_before, at_or_before}
+use Rattle.sctp_list_lemmas.proofs.More.{fails}
 use Rattle.sctp_serial.specs.Window
 use Rattle.sctp_outbound.specs.payload_queue.Blocks.{gap_offsets, is_offset}
 use Rattle.sctp_model.specs.World.{World}
@@ -15,11 +15,11 @@ use Rattle.sctp_model.specs.Messages.{tsn_of}
 use Rattle.sctp_model.specs.Receiver.{arrived_at, cumulative, is_new}
 use Rattle.sctp_model.specs.Changes.{slot_received}
 use Rattle.sctp_model.specs.Queues.{FilterRecord, filter_of}
-use Rattle.sctp_model.specs.Sound.{Sound}
-use Rattle.sctp_ties.specs.Holds.{seen_of}
-use Rattle.sctp_ties.proofs.arriving.Filter.{tsn_before, cumulative-le}
-use Rattle.sctp_ties.proofs.arriving.FilterQueue.{tsns, new-is}
-use Rattle.sctp_ties.proofs.arriving.SlotArrives
+use Rattle.sctp_model.specs.Valid.{Valid}
+use Rattle.sctp_refinement.specs.Holds.{seen_of}
+use Rattle.sctp_refinement.proofs.arriving.Filter.{tsn_before, cumulative-le}
+use Rattle.sctp_refinement.proofs.arriving.FilterQueue.{tsns, new-is}
+use Rattle.sctp_refinement.proofs.arriving.SlotArrives
 use Rattle.sctp_transfer.specs.TsnFilter.{Filter, has_come, is_opposite, with_tsn, with_duplicate, skipped_to, offsets, gap_ack_blocks, block_of, mark}
 use Rattle.sctp_transfer.proofs.Marks as Marks
 use Rattle.sctp_transfer.proofs.Marks.{tsns-mark}
@@ -130,11 +130,11 @@ abbrev seen-with : List ℕ → Seen → FilterRecord
 seen-with dups s = record { cumulative = s.cum; held = s.held; duplicates = dups }
 
 -- a slot comes for the first time
-pub filter-new : (w : World) (p : ℕ) (f then' : Filter) → Sound w → p < length w.slots → is_new w p ≡ true → filter_shown f ≡ filter_of w → then' ≡ with_tsn (tsn_of w p) f → filter_shown then' ≡ filter_of (slot_received w p)
-filter-new w p f then' sound made new is e =
+pub filter-new : (w : World) (p : ℕ) (f then' : Filter) → Valid w → p < length w.slots → is_new w p ≡ true → filter_shown f ≡ filter_of w → then' ≡ with_tsn (tsn_of w p) f → filter_shown then' ≡ filter_of (slot_received w p)
+filter-new w p f then' valid made new is e =
     ap filter_shown e
     ∙ ap (came (tsn_of w p)) is
-    ∙ ap (seen-with (filter_of w).duplicates) (sym (SlotArrives.filter-slot w p sound made new))
+    ∙ ap (seen-with (filter_of w).duplicates) (sym (SlotArrives.filter-slot w p valid made new))
     ∙ ap (λ d. seen-with d (seen_of (slot_received w p))) (sym (SlotArrives.duplicates-slot w p new))
 
 -- it comes again

@@ -18,7 +18,7 @@ use Rattle.sctp_link.specs.declared.record.Kind.TheVariants as K
 use Rattle.sctp_link.specs.declared.record.Datagram.{Datagram}
 use Rattle.sctp_link.specs.Linked.{State, IsLinked}
 use Rattle.sctp_link.specs.Records.{kind_record, datagram_record}
-use Rattle.sctp_link.specs.Texts.{packet_with, wire_data}
+use Rattle.sctp_link.specs.Encodings.{packet_with, wire_data}
 use Rattle.sctp_link.proofs.receiver.Hears.{raw-at, raw-length}
 
 pub made-at : {A : Type 0} (ds : List A) (k : ℕ) (g : A) → slice_get ds k ≡ Some g → k < length ds
@@ -42,7 +42,7 @@ said-fresh w (p ∷ ps) = ap (λ cs. chunk_at w p ∷ cs) (said-fresh w ps)
 pub says-data : (sum : List ℕ → ℕ) (x : State) (k : ℕ) (ps : List ℕ) (ds : List Datagram) (y : Datagram) → IsLinked sum x → x.world.network ≡ map datagram_record ds → x.datagrams ≡ map (λ d. d.bytes) ds → slice_get x.world.network k ≡ Some (Data ps) → y ≡ slice_index_or ds k y → ReadsPacket sum y.bytes (packet_with (map data_chunk (said x.world ps)))
 says-data sum x k ps ds y l network same e is =
     let lt : k < length ds = omega (arith, made-at x.world.network k (Data ps) e, ap length network, raw-length datagram_record ds) in
-    let t = l.texts k y.bytes (Data ps) e in
+    let t = l.encodings k y.bytes (Data ps) e in
     let bytes : slice_index_or x.datagrams k y.bytes ≡ y.bytes = ap (λ bs. slice_index_or bs k y.bytes) same ∙ raw-at (λ d. d.bytes) ds k y.bytes y lt ∙ ap (λ (d : Datagram). d.bytes) (sym is) in
     subst (λ b. ReadsPacket sum b (packet_with (map data_chunk (said x.world ps)))) bytes (subst (λ ws. ReadsPacket sum (slice_index_or x.datagrams k y.bytes) (packet_with ws)) (said-wire x.world ps) t.reads)
 

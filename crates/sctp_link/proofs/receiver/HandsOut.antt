@@ -5,9 +5,9 @@ use Rattle.std.specs.List.{list_any}
 use Rattle.std.proofs.Math.Path.{subst}
 use Rattle.std.proofs.lemmas.List.{length-set, get_or-set_same}
 use Rattle.std.proofs.lemmas.List.Sums.{sum_by-cons}
-use Rattle.sctp_lists.specs.Lists.{changed, change_where}
-use Rattle.sctp_lists.proofs.Cases.{same-yes, same-is, or-left}
-use Rattle.sctp_lists.proofs.KeptLemmas.{front-kept, FrontOf}
+use Rattle.sctp_list_lemmas.specs.Lists.{changed, change_where}
+use Rattle.sctp_list_lemmas.proofs.Cases.{same-yes, same-is, or-left}
+use Rattle.sctp_list_lemmas.proofs.Passing.{front-kept, FrontOf}
 use Rattle.sctp_chunks.specs.ChunkSet.{ChunkSet}
 use Rattle.sctp_chunks.specs.declared.chunk.chunk_payload_data.ChunkPayloadData.{ChunkPayloadData}
 use Rattle.sctp_serial.specs.DataChunks.{bytes_of}
@@ -25,21 +25,21 @@ use Rattle.sctp_model.specs.Receiver.{is_held, held_on, next_of, next_read}
 use Rattle.sctp_model.specs.Changes.{read_of, read_from, mark_read, without_first}
 use Rattle.sctp_model.specs.Queues.{filter_of, set_of, whole_set_of, handed_out}
 use Rattle.sctp_model.specs.Reply as R
-use Rattle.sctp_model.specs.Sound.{IsSpan}
+use Rattle.sctp_model.specs.Valid.{IsSpan}
 use Rattle.sctp_model.specs.Steps.{refusal_of, reply_to, after, read_reply, unless}
 use Rattle.sctp_model.proofs.sender.Network
 use Rattle.sctp_model.proofs.sender.Shape.{shape}
 use Rattle.sctp_model.proofs.sender.Fronts.{slot-sent}
 use Rattle.sctp_model.proofs.receiver.Shown.{read-joined}
-use Rattle.sctp_ties.specs.Holds.{reassembly_of}
-use Rattle.sctp_ties.specs.Counts.{counters_on, received_more, counted_as}
-use Rattle.sctp_ties.proofs.reading.Line
-use Rattle.sctp_ties.proofs.reading.NextRead
-use Rattle.sctp_ties.proofs.acknowledging.QuietSender
-use Rattle.sctp_ties.proofs.reading.ReadOne
-use Rattle.sctp_ties.proofs.reading.ReadOne.{ReadsWhole, ReadsOrdered}
-use Rattle.sctp_ties.proofs.arriving.SpanEnds.{Begins, set-begins, whole-begins}
-use Rattle.sctp_ties.proofs.amounts.StreamCounters.{counters-read, counters-nothing}
+use Rattle.sctp_refinement.specs.Holds.{reassembly_of}
+use Rattle.sctp_refinement.specs.Counts.{counters_on, received_more, counted_as}
+use Rattle.sctp_refinement.proofs.reading.Line
+use Rattle.sctp_refinement.proofs.reading.NextRead
+use Rattle.sctp_refinement.proofs.acknowledging.QuietSender
+use Rattle.sctp_refinement.proofs.reading.ReadOne
+use Rattle.sctp_refinement.proofs.reading.ReadOne.{ReadsWhole, ReadsOrdered}
+use Rattle.sctp_refinement.proofs.arriving.SpanEnds.{Begins, set-begins, whole-begins}
+use Rattle.sctp_refinement.proofs.amounts.StreamCounters.{counters-read, counters-nothing}
 use Rattle.sctp_halves.specs.Streams.{OpenStream, both_ways, has_number, on_inbound, read_recorded, stats_in, stream_numbers}
 use Rattle.sctp_link.specs.declared.record.Message.{Message}
 use Rattle.sctp_transfer.specs.Inbound.{counted, stream_read}
@@ -51,7 +51,7 @@ use Rattle.sctp_stream.specs.Stats.{counted_bytes, with_received}
 use Rattle.sctp_link.proofs.sender.Beginning.{index_kept}
 use Rattle.sctp_link.specs.Places.{IsApart}
 use Rattle.sctp_link.proofs.upkeep.Apart.{differ, each-set, map-set_same, number-found, streams-set}
-use Rattle.sctp_link.proofs.upkeep.Places.{apart-set, changed-found}
+use Rattle.sctp_link.proofs.upkeep.StreamPlaces.{apart-set, changed-found}
 use Rattle.sctp_link.proofs.upkeep.Facts.{facts, over}
 use Rattle.sctp_link.proofs.upkeep.StreamsAfter.{stream-then, linked-then}
 use Rattle.sctp_link.proofs.upkeep.Lookups.{some-open, none-open}
@@ -136,13 +136,13 @@ module _ (sum : List ℕ → ℕ) (x : State) (l : IsLinked sum x) (s at : ℕ) 
   here = (l.open_streams at d lt).held ∙ ap (reassembly_of w) (id-at d)
 
   span : IsSpan w s []
-  span = (facts sum x l).sound.near s
+  span = (facts sum x l).valid.near s
 
   whole-are : (stream_of w s).whole ≡ y.whole
   whole-are = ap (λ o. (unwrap_or o (no_stream s)).whole) open'
 
   rest : rest_read y.inbound.queue.held ≡ reassembly_of v s
-  rest = let f = facts sum x l in ap rest_read here ∙ NextRead.rest-is w s r f.sound.sound f.sound.loose span open'
+  rest = let f = facts sum x l in ap rest_read here ∙ NextRead.rest-is w s r f.valid.valid f.valid.unassembled span open'
 
   streams-apart : IsApart (stream_numbers x.open_streams)
   streams-apart = l.apart
@@ -167,7 +167,7 @@ module _ (sum : List ℕ → ℕ) (x : State) (l : IsLinked sum x) (s at : ℕ) 
           let i = l.open_streams j c inside in
           let t = slice_index_or x.open_streams j c in
           let off : t.state.stream_identifier ≡ s → ⊥ = λ h. differ x.open_streams j at c streams-apart inside lt ne (h ∙ sym (id-at c)) in
-          stream-then sum x l (E.Read s) none frame refl t t i refl (i.held ∙ sym (NextRead.read-others w s r f.sound.sound f.sound.loose span open' t.state.stream_identifier off)) refl refl refl refl refl refl
+          stream-then sum x l (E.Read s) none frame refl t t i refl (i.held ∙ sym (NextRead.read-others w s r f.valid.valid f.valid.unassembled span open' t.state.stream_identifier off)) refl refl refl refl refl refl
           (i.next ∙ sym (next t.state.stream_identifier off)) refl (i.stats ∙ ap stats_of (sym (counters t.state.stream_identifier off)))
 
   -- the streams once it is read, and once that is recorded
@@ -190,7 +190,7 @@ module _ (sum : List ℕ → ℕ) (x : State) (l : IsLinked sum x) (s at : ℕ) 
 
   module _ (e : message_read (slice_index_or x.open_streams at d).inbound.queue.held ≡ None) where
     nothing : next_read w s ≡ None
-    nothing = let f = facts sum x l in ReadOne.none-due w s r f.sound.sound f.sound.loose span open' (ap message_read (sym here) ∙ e)
+    nothing = let f = facts sum x l in ReadOne.none-due w s r f.valid.valid f.valid.unassembled span open' (ap message_read (sym here) ∙ e)
 
     still : v ≡ w
     still = ReadOne.nothing-read w s nothing
@@ -223,9 +223,9 @@ module _ (sum : List ℕ → ℕ) (x : State) (l : IsLinked sum x) (s at : ℕ) 
       let f = facts sum x l in
       let kind = o.unordered in
       let any : list_any (λ k. k == n) (stream_of w s).whole ≡ true = ap (list_any (λ k. k == n)) o.whole ∙ or-left (n == n) (list_any (λ k. k == n) o.rest) (same-yes n) in
-      let waits = f.sound.loose.waits s n any in
+      let waits = f.valid.unassembled.waits s n any in
       record {
-        begins = subst (λ (c : ChunkSet). Begins w n c.chunks) (sym (ap (λ b. if b then set_of w n else whole_set_of w n) kind)) (whole-begins w s n f.sound.sound f.sound.loose f.setup.first any);
+        begins = subst (λ (c : ChunkSet). Begins w n c.chunks) (sym (ap (λ b. if b then set_of w n else whole_set_of w n) kind)) (whole-begins w s n f.valid.valid f.valid.unassembled f.setup.first any);
         made = waits.made;
         stream = waits.stream;
         next = o.next s ∙ sym (ap (λ b. if b && (index_of w n == next_of w s) then index_of w n + 1 else next_of w s) kind);
@@ -239,7 +239,7 @@ module _ (sum : List ℕ → ℕ) (x : State) (l : IsLinked sum x) (s at : ℕ) 
       let kind = Line.on-ordered w s n o.due.on in
       let held = front-held w s (held_on w s) n o.rest (front-kept (is_held w s) 0 (length w.messages)) o.front in
       record {
-        begins = subst (λ (c : ChunkSet). Begins w n c.chunks) (sym (ap (λ b. if b then set_of w n else whole_set_of w n) kind)) (set-begins w s n f.sound.sound f.setup.first held);
+        begins = subst (λ (c : ChunkSet). Begins w n c.chunks) (sym (ap (λ b. if b then set_of w n else whole_set_of w n) kind)) (set-begins w s n f.valid.valid f.setup.first held);
         made = Line.on-made w s n o.due.on;
         stream = Line.on-stream w s n o.due.on;
         next = o.here ∙ step (index_of w n == next_of w s) refl ∙ sym (ap (λ b. if b && (index_of w n == next_of w s) then index_of w n + 1 else next_of w s) kind);
@@ -253,13 +253,13 @@ module _ (sum : List ℕ → ℕ) (x : State) (l : IsLinked sum x) (s at : ℕ) 
 
   module _ (set : ChunkSet) (e : message_read (slice_index_or x.open_streams at d).inbound.queue.held ≡ Some set) where
     pub read-is : (n : ℕ) × (next_read w s ≡ Some n) × (set ≡ handed_out w n)
-    read-is = let f = facts sum x l in ReadOne.some-read w s r f.sound.sound f.sound.loose span open' set (ap message_read (sym here) ∙ e)
+    read-is = let f = facts sum x l in ReadOne.some-read w s r f.valid.valid f.valid.unassembled span open' set (ap message_read (sym here) ∙ e)
 
     abbrev n : ℕ
     n = read-is.0
 
     pub hands : HandsOut w s read-is.0
-    hands = let f = facts sum x l in by (ReadOne.reads-one w s r f.sound.sound f.sound.loose span open' read-is.0 read-is.1)
+    hands = let f = facts sum x l in by (ReadOne.reads-one w s r f.valid.valid f.valid.unassembled span open' read-is.0 read-is.1)
       where
         by : ReadsWhole w s read-is.0 ⊎ ReadsOrdered w s read-is.0 → HandsOut w s read-is.0
         by (inl o) = hands-whole read-is.0 o

@@ -2,7 +2,7 @@
 use Rattle.std.proofs.Common.{◌≡◌, ℕ, zero, suc, ◌+◌, ◌-◌, ◌<◌, ◌^◌, ◌%◌, true, false, List, [], ◌∷◌, length, map, Option, Some, None, refl, ap, sym, ◌∙◌, arith}
 use Rattle.std.specs.Prelude.{find, min, max, option_map, slice_index_or}
 use Rattle.std.proofs.Math.Path.{subst}
-use Rattle.sctp_lists.proofs.More.{not_both}
+use Rattle.sctp_list_lemmas.proofs.More.{not_both}
 use Rattle.sctp_chunks.specs.declared.chunk.chunk_payload_data.ChunkPayloadData.{ChunkPayloadData}
 use Rattle.sctp_chunks.specs.ChunkSet.{ChunkSet}
 use Rattle.sctp_reassembly.specs.reassembly_queue.ReassemblyQueue.{ReassemblyState}
@@ -12,12 +12,12 @@ use Rattle.sctp_model.specs.Receiver.{is_held, held_on, next_of, least, greatest
 use Rattle.sctp_model.specs.Queues.{set_of}
 use Rattle.sctp_model.proofs.sender.Shape.{shape}
 use Rattle.sctp_model.proofs.sender.Fronts.{slot-sent}
-use Rattle.sctp_ties.specs.Holds.{ordered_sets}
-use Rattle.sctp_ties.proofs.arriving.Arrival
-use Rattle.sctp_ties.proofs.arriving.Carried.{Carried}
-use Rattle.sctp_ties.proofs.reading.Line
-use Rattle.sctp_ties.proofs.reading.Taken
-use Rattle.sctp_ties.proofs.arriving.SpanEnds.{Begins, set-begins, set-at, sets-held, ends-none, lowest-front, highest-back}
+use Rattle.sctp_refinement.specs.Holds.{ordered_sets}
+use Rattle.sctp_refinement.proofs.arriving.Arrival
+use Rattle.sctp_refinement.proofs.arriving.Carried.{Carried}
+use Rattle.sctp_refinement.proofs.reading.Line
+use Rattle.sctp_refinement.proofs.reading.Taken
+use Rattle.sctp_refinement.proofs.arriving.SpanEnds.{Begins, set-begins, set-at, sets-held, ends-none, lowest-front, highest-back}
 use Rattle.sctp_halves.specs.Streams.{OpenStream, has_number}
 use Rattle.sctp_link.specs.declared.record.Message.{Message}
 use Rattle.sctp_link.specs.declared.record.Slot.{Slot}
@@ -71,7 +71,7 @@ module _ (sum : List ℕ → ℕ) (x : State) (l : IsLinked sum x) (slots : List
   pub held-begins : (s n : ℕ) (set : ChunkSet) (chunks : List ChunkPayloadData) → chunks ≡ set.chunks → is_held x.world s n ≡ true → set ≡ set_of x.world n → Begins x.world n chunks
   held-begins s n set chunks shown h e =
       let f = facts sum x l in
-      subst (Begins x.world n) (sym (shown ∙ ap (λ (y : ChunkSet). y.chunks) e)) (set-begins x.world s n f.sound.sound f.setup.first h)
+      subst (Begins x.world n) (sym (shown ∙ ap (λ (y : ChunkSet). y.chunks) e)) (set-begins x.world s n f.valid.valid f.setup.first h)
 
   pub held-ordered : (s n : ℕ) → is_held x.world s n ≡ true → (message_at x.world n).ordered ≡ true
   held-ordered s n h = Line.on-ordered x.world s n (Taken.held x.world s n h).on
@@ -148,7 +148,7 @@ module _ (sum : List ℕ → ℕ) (x : State) (l : IsLinked sum x) (at s : ℕ) 
   pub set-held : (i : ℕ) (e : ChunkSet) → i < length (slice_index_or x.open_streams at d).inbound.queue.held.ordered → (is_held x.world s (slice_index_or (held_on x.world s) i 0) ≡ true) × (slice_index_or (slice_index_or x.open_streams at d).inbound.queue.held.ordered i e ≡ set_of x.world (slice_index_or (held_on x.world s) i 0))
   set-held i e less =
       let f = facts sum x l in
-      let o = set-at x.world s i 0 e f.sound.sound f.setup.first (omega (arith, less, ap length stream-ordered)) in
+      let o = set-at x.world s i 0 e f.valid.valid f.setup.first (omega (arith, less, ap length stream-ordered)) in
       (o.held, ap (λ ss. slice_index_or ss i e) stream-ordered ∙ o.is)
 
   pub low-front : (i : ℕ) → 0 < length (slice_index_or x.open_streams at d).inbound.queue.held.ordered → i ≡ index_of x.world (slice_index_or (held_on x.world s) 0 0) → min (slice_index_or x.open_streams at d).next i ≡ least (next_of x.world s) (map (index_of x.world) (held_on x.world s))
@@ -169,7 +169,7 @@ module _ (sum : List ℕ → ℕ) (x : State) (l : IsLinked sum x) (p : ℕ) (c 
   n = message_of x.world p
 
   pub come-message : n < length x.world.messages
-  come-message = (facts sum x l).sound.sound.made n p (Arrival.has-fragment x.world p c.fragment)
+  come-message = (facts sum x l).valid.valid.made n p (Arrival.has-fragment x.world p c.fragment)
 
   pub come-index : (message_at x.world n).ordered ≡ true → index_kept x.progress n ≡ index_of x.world n
   come-index o = l.indexes n (slot-sent (shape x.world) p (facts sum x l).sane.sender c.made) o

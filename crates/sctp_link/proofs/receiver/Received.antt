@@ -1,10 +1,10 @@
--- The slots of a datagram of a link come to a sound record, and what the link is after them.
+-- The slots of a datagram of a link come to a valid record, and what the link is after them.
 use Rattle.std.proofs.Common.{◌≡◌, ℕ, zero, suc, ◌+◌, ◌<◌, ◌≤◌, ◌%◌, ◌^◌, Bool, true, false, List, [], ◌∷◌, ◌++◌, length, map, Some, None, refl, ap, sym, ◌∙◌, arith}
 use Rattle.std.specs.Prelude.{◌==◌, not, if◌then◌else◌, fold, slice_get, slice_index_or}
 use Rattle.std.specs.List.{list_any}
 use Rattle.std.proofs.Math.Path.{subst}
 use Rattle.std.proofs.lemmas.List.Sums.{fold-append}
-use Rattle.sctp_lists.specs.Lists.{pieces}
+use Rattle.sctp_list_lemmas.specs.Lists.{pieces}
 use Rattle.sctp_chunks.specs.ChunkSet.{fresh}
 use Rattle.sctp_chunks.specs.declared.chunk.chunk_payload_data.ChunkPayloadData.{ChunkPayloadData}
 use Rattle.sctp_reassembly.specs.reassembly_queue.ReassemblyQueue.{is_too_large}
@@ -18,25 +18,25 @@ use Rattle.sctp_model.specs.Contents.{chunk_at}
 use Rattle.sctp_model.specs.Queues.{filter_of}
 use Rattle.sctp_model.specs.Steps.{History, IsRun, world_of, refusal_of, after, IsRight, arrive_reply}
 use Rattle.sctp_model.specs.Laws.{IsSetup}
-use Rattle.sctp_model.specs.Sound.{ComesSound, AllFragments}
+use Rattle.sctp_model.specs.Valid.{ComesValid, AllFragments}
 use Rattle.sctp_model.proofs.sender.Shape.{Shape, shape, index, parts}
 use Rattle.sctp_model.proofs.sender.SenderRun.{Sane, sane-run, sane-received}
 use Rattle.sctp_model.proofs.sender.Network
-use Rattle.sctp_model.proofs.receiver.SoundRun.{slots_come_sound}
+use Rattle.sctp_model.proofs.receiver.ValidRun.{slots_come_valid}
 use Rattle.sctp_model.proofs.acknowledgement.Bytes.{size-some}
-use Rattle.sctp_ties.specs.Holds.{reassembly_of}
-use Rattle.sctp_ties.specs.Counts.{counters_on}
-use Rattle.sctp_ties.proofs.sending.SlotsGoOn.{AllGoOn, goes-run}
-use Rattle.sctp_ties.proofs.amounts.NoLarger.{no-larger}
-use Rattle.sctp_ties.proofs.amounts.Sizes.{never-too-large}
-use Rattle.sctp_ties.proofs.amounts.StreamCounters.{counters-same}
-use Rattle.sctp_ties.proofs.acknowledging.QuietSender
-use Rattle.sctp_ties.proofs.acknowledging.QuietSender.{SameToSender}
-use Rattle.sctp_ties.proofs.arriving.Arrival
-use Rattle.sctp_ties.proofs.arriving.Arrival.{with_arrived}
-use Rattle.sctp_ties.proofs.arriving.Carried.{Carried, carried, enters}
-use Rattle.sctp_ties.proofs.arriving.SlotArrives
-use Rattle.sctp_ties.proofs.reading.ReadOne.{next-arrive}
+use Rattle.sctp_refinement.specs.Holds.{reassembly_of}
+use Rattle.sctp_refinement.specs.Counts.{counters_on}
+use Rattle.sctp_refinement.proofs.sending.SlotsGoOn.{AllGoOn, goes-run}
+use Rattle.sctp_refinement.proofs.amounts.NoLarger.{no-larger}
+use Rattle.sctp_refinement.proofs.amounts.Sizes.{never-too-large}
+use Rattle.sctp_refinement.proofs.amounts.StreamCounters.{counters-same}
+use Rattle.sctp_refinement.proofs.acknowledging.QuietSender
+use Rattle.sctp_refinement.proofs.acknowledging.QuietSender.{SameToSender}
+use Rattle.sctp_refinement.proofs.arriving.Arrival
+use Rattle.sctp_refinement.proofs.arriving.Arrival.{with_arrived}
+use Rattle.sctp_refinement.proofs.arriving.Carried.{Carried, carried, enters}
+use Rattle.sctp_refinement.proofs.arriving.SlotArrives
+use Rattle.sctp_refinement.proofs.reading.ReadOne.{next-arrive}
 use Rattle.sctp_transfer.specs.Receiver.{filter_of as held_filter}
 use Rattle.sctp_halves.specs.Streams.{OpenStream, stats_in, stream_numbers}
 use Rattle.sctp_halves.specs.Halves.{Sides, reception_of}
@@ -50,7 +50,7 @@ use Rattle.sctp_link.proofs.upkeep.StreamsAfter.{stream-then, linked-then}
 use Rattle.sctp_link.proofs.receiver.Hears.{raw-at, raw-length}
 use Rattle.sctp_link.proofs.receiver.Slots.{core}
 
--- ## They come to a sound record
+-- ## They come to a valid record
 
 -- the chunk of a slot, by what the sender knows
 abbrev chunk_by : Shape → ℕ → ℕ → ChunkPayloadData
@@ -76,21 +76,21 @@ module _ (setup : Setup) (h : History) (is : IsSetup setup) (run : IsRun setup h
 
   comes-one : (v : World) (front : List ℕ) (p : ℕ) (qs : List ℕ) → v ≡ fold slot_received w front → Sane setup v → slice_get w.network k ≡ Some (Data (front ++ p ∷ qs)) → Comes v p (chunk_at w p)
   comes-one v front p qs eq g e =
-      let sound : ComesSound v p = subst (λ u. ComesSound u p) (sym eq) (slots_come_sound setup h is run k front p qs none e) in
+      let valid : ComesValid v p = subst (λ u. ComesValid u p) (sym eq) (slots_come_valid setup h is run k front p qs none e) in
       let same : Network.Same w v = subst (Network.Same w) (sym eq) (Network.same-slots w front) in
-      let c = carried setup v p g sound.made sound.fragment in
+      let c = carried setup v p g valid.made valid.fragment in
       let chunk = chunk-same w v p same in
       let n = message_of v p in
-      let made : n < length w.messages = omega (arith, sound.sound.made n p (Arrival.has-fragment v p sound.fragment), ap (λ y. y.count) same.shape_is) in
+      let made : n < length w.messages = omega (arith, valid.valid.made n p (Arrival.has-fragment v p valid.fragment), ap (λ y. y.count) same.shape_is) in
       let short : length (message_at v n).bytes ≤ v.setup.largest = omega (arith, no-larger setup h n is run made, ap (λ y. length (y.message n).bytes) same.shape_is, ap (λ s. s.largest) g.setup_is) in
       record {
-        sound = sound;
+        valid = valid;
         alive = c.alive;
         known = c.known;
         chunk = chunk;
         small = λ new q held limit. ap (λ x. is_too_large x q) chunk
-            ∙ never-too-large setup v p q g sound.sound sound.loose (subst AllGoOn (sym same.shape_is) (goes-run setup h run)) (size-some setup v is g) c new
-            (λ o. sound.near (message_at v n).stream (SlotArrives.ordered-on v (message_at v n).stream p (enters v p c new) o) new) short held limit;
+            ∙ never-too-large setup v p q g valid.valid valid.unassembled (subst AllGoOn (sym same.shape_is) (goes-run setup h run)) (size-some setup v is g) c new
+            (λ o. valid.near (message_at v n).stream (SlotArrives.ordered-on v (message_at v n).stream p (enters v p c new) o) new) short held limit;
       }
 
   comes-from : (v : World) (front rest : List ℕ) → v ≡ fold slot_received w front → Sane setup v → slice_get w.network k ≡ Some (Data (front ++ rest)) → AllCome v rest (map (chunk_at w) rest)
@@ -238,13 +238,13 @@ module _ (sum : List ℕ → ℕ) (x : State) (l : IsLinked sum x) (k : ℕ) (ps
 -- ## What is known of them before
 
 module _ (sum : List ℕ → ℕ) (x : State) (l : IsLinked sum x) (k : ℕ) (ps : List ℕ) (e : slice_get x.world.network k ≡ Some (Data ps)) where
-  fragment-at : (qs : List ℕ) (i : ℕ) → AllFragments x.world qs → i < length qs → (slice_index_or qs i 0 < length x.world.slots) × ((slot_at x.world (slice_index_or qs i 0)).is_end_mark ≡ false)
+  fragment-at : (qs : List ℕ) (i : ℕ) → AllFragments x.world qs → i < length qs → (slice_index_or qs i 0 < length x.world.slots) × ((slot_at x.world (slice_index_or qs i 0)).is_terminal_chunk ≡ false)
   fragment-at [] i a lt = absurd (omega arith)
   fragment-at (q ∷ qs) zero a lt = (a.0, a.1)
   fragment-at (q ∷ qs) (suc i) a lt = fragment-at qs i a.2 (omega arith)
 
   all-fragments : AllFragments x.world ps
-  all-fragments = (facts sum x l).sound.network.carried k ps e
+  all-fragments = (facts sum x l).valid.network.carried k ps e
 
   pub all-inside : (i : ℕ) → i < length ps → slice_index_or ps i 0 < length x.world.slots
   all-inside i lt = (fragment-at ps i all-fragments lt).0

@@ -4,8 +4,8 @@ use Rattle.std.specs.Prelude.{◌==◌, ◌&&◌, not, nat_le, if◌then◌else�
 use Rattle.std.specs.List.{list_all}
 use Rattle.std.proofs.Math.Path.{subst}
 use Rattle.std.proofs.lemmas.List.{length-set}
-use Rattle.sctp_lists.specs.Lists.{changed, change_where, inserted}
-use Rattle.sctp_lists.proofs.Cases.{and-none}
+use Rattle.sctp_list_lemmas.specs.Lists.{changed, change_where, inserted}
+use Rattle.sctp_list_lemmas.proofs.Cases.{and-none}
 use Rattle.sctp_chunks.specs.declared.chunk.chunk_payload_data.ChunkPayloadData.{ChunkPayloadData}
 use Rattle.sctp_serial.specs.DataChunks.{chunk_before}
 use Rattle.sctp_reassembly.specs.reassembly_queue.ReassemblyQueue.{Reassembly, ReassemblyState, is_too_large, held_after_ordered_push, BecomesWhole}
@@ -14,14 +14,14 @@ use Rattle.sctp_model.specs.Messages.{message_at, message_of, slots_of, index_of
 use Rattle.sctp_model.specs.Receiver.{is_new, has_arrived}
 use Rattle.sctp_model.specs.Changes.{slot_received, becomes_whole, with_whole, whole_noted, stream_changed, mark_arrived}
 use Rattle.sctp_model.specs.Contents.{chunk_at}
-use Rattle.sctp_model.specs.Sound.{IsSpan}
+use Rattle.sctp_model.specs.Valid.{IsSpan}
 use Rattle.sctp_model.proofs.sender.Network
-use Rattle.sctp_ties.specs.Holds.{reassembly_of}
-use Rattle.sctp_ties.proofs.arriving.Arrival.{with_arrived}
-use Rattle.sctp_ties.proofs.arriving.RunsOnce.{becomes-same}
-use Rattle.sctp_ties.proofs.arriving.SlotArrives
-use Rattle.sctp_ties.proofs.arriving.SlotArrives.{Enters, ordered-slot, unordered-slot}
-use Rattle.sctp_ties.proofs.reading.Keeps
+use Rattle.sctp_refinement.specs.Holds.{reassembly_of}
+use Rattle.sctp_refinement.proofs.arriving.Arrival.{with_arrived}
+use Rattle.sctp_refinement.proofs.arriving.RunsOnce.{becomes-same}
+use Rattle.sctp_refinement.proofs.arriving.SlotArrives
+use Rattle.sctp_refinement.proofs.arriving.SlotArrives.{Enters, ordered-slot, unordered-slot}
+use Rattle.sctp_refinement.proofs.reading.Keeps
 use Rattle.sctp_stream.specs.declared.stream.StreamState.{StreamState}
 use Rattle.sctp_transfer.specs.declared.receiver.arrival.Arrival.{Arrival}
 use Rattle.sctp_transfer.specs.declared.receiver.arrival.Arrival.TheVariants.{New, Repeat}
@@ -36,20 +36,20 @@ use Rattle.sctp_link.specs.Records.{stream_record}
 use Rattle.sctp_link.specs.Receiving.{HoldsQueue, IsReceiver, Comes, is_first}
 use Rattle.sctp_link.specs.Places.{IsApart}
 use Rattle.sctp_link.proofs.upkeep.Apart.{differ, each-set, map-set_same, number-found, stream-found, streams-set}
-use Rattle.sctp_link.proofs.upkeep.Places.{placed, changed-found, apart-set}
+use Rattle.sctp_link.proofs.upkeep.StreamPlaces.{placed, changed-found, apart-set}
 use Rattle.sctp_link.proofs.receiver.Came.{come-is, near-is, filter-new, filter-again}
 
 and-yes : (b : Bool) → (b && true) ≡ b
 and-yes true = refl
 and-yes false = refl
 
--- a stream with these whole messages
+-- a stream with these complete messages
 abbrev pub shown : ℕ → StreamState → List ℕ → StreamRecord
 shown named s whole = record { stream = s.stream_identifier; unordered = s.unordered; reliability = s.reliability_type; value = s.reliability_value; named = named; whole = whole }
 
 -- what no chunk changes of a stream: all but what came on it and which messages are whole
 abbrev pub core : OpenStream → OpenStream
-core l = record l { inbound = record l.inbound { queue = record { si = 0; held = record { next_ssn = 0; ordered = []; unordered = []; loose = [] }; bytes = 0; max_message_size = 0 } }; whole = [] }
+core l = record l { inbound = record l.inbound { queue = record { si = 0; held = record { next_ssn = 0; ordered = []; unordered = []; unassembled = [] }; bytes = 0; max_message_size = 0 } }; whole = [] }
 
 -- what came on the stream with a number
 inbound-found : (s : ℕ) (ls : List OpenStream) → ((k : ℕ) (d : OpenStream) → k < length ls → (slice_index_or ls k d).inbound.queue.si ≡ (slice_index_or ls k d).state.stream_identifier) → find (Inbound.has_number s) (map (λ l. l.inbound) ls) ≡ option_map (λ l. l.inbound) (find (has_number s) ls)
@@ -93,7 +93,7 @@ module _ (w : World) (x : Sides) (r : IsReceiver w x) (p : ℕ) (c : ChunkPayloa
 
   -- whether its TSN came, as the record says
   told : has_come c.tsn f ≡ not (is_new w p)
-  told = ap (λ t. has_come t f) tsn-is ∙ come-is w f m.sound.sound.skipped_made m.sound.sound.few r.filter_is p m.sound.made
+  told = ap (λ t. has_come t f) tsn-is ∙ come-is w f m.valid.valid.skipped_made m.valid.valid.few r.filter_is p m.valid.made
 
   -- its stream is open
   there : (l : OpenStream) × (find (has_number c.stream_identifier) x.streams ≡ Some l)
@@ -136,17 +136,17 @@ module _ (w : World) (x : Sides) (r : IsReceiver w x) (p : ℕ) (c : ChunkPayloa
 
   module _ (new : is_new w p ≡ true) where
     enter : Enters w s p
-    enter = record { made = m.sound.made; new = new; fragment = m.sound.fragment; stream = refl; alive = m.alive }
+    enter = record { made = m.valid.made; new = new; fragment = m.valid.fragment; stream = refl; alive = m.alive }
 
     span-here : (message_at w n).ordered ≡ true → IsSpan w s (index_of w n ∷ [])
-    span-here o = m.sound.near s (SlotArrives.ordered-on w s p enter o) new
+    span-here o = m.valid.near s (SlotArrives.ordered-on w s p enter o) new
 
     elsewhere : (t : ℕ) → (t ≡ s → ⊥) → reassembly_of (slot_received w p) t ≡ reassembly_of w t
     elsewhere t ne = by (message_at w n).ordered refl
       where
         by : (b : Bool) → (message_at w n).ordered ≡ b → reassembly_of (slot_received w p) t ≡ reassembly_of w t
-        by true o = SlotArrives.slot-elsewhere w s p t m.sound.sound enter (span-here o) ne
-        by false o = Keeps.unordered-elsewhere w s p t (SlotArrives.arrives-loose w s p enter o) ne
+        by true o = SlotArrives.slot-elsewhere w s p t m.valid.valid enter (span-here o) ne
+        by false o = Keeps.unordered-elsewhere w s p t (SlotArrives.arrives-unassembled w s p enter o) ne
 
     noted-is : slot_received w p ≡ whole_noted (with_arrived w p) n
     noted-is = ap (λ b. if b then whole_noted (with_arrived w p) n else record w { duplicates = w.duplicates ++ p ∷ [] }) new
@@ -155,7 +155,7 @@ module _ (w : World) (x : Sides) (r : IsReceiver w x) (p : ℕ) (c : ChunkPayloa
     fresh = told ∙ ap not new
 
     near : is_opposite c.tsn f ≡ false
-    near = ap (λ t. is_opposite t f) tsn-is ∙ near-is w f m.sound.sound.skipped_made m.sound.sound.few r.filter_is p m.sound.made new
+    near = ap (λ t. is_opposite t f) tsn-is ∙ near-is w f m.valid.valid.skipped_made m.valid.valid.few r.filter_is p m.valid.made new
 
     slots-noted : (b : Bool) → (if b then stream_changed (with_arrived w p) s (with_whole n) else with_arrived w p).slots ≡ changed mark_arrived p w.slots
     slots-noted true = refl
@@ -196,15 +196,15 @@ module _ (w : World) (x : Sides) (r : IsReceiver w x) (p : ℕ) (c : ChunkPayloa
         holds-by true o =
             let q = keeps.ordered_queue (ap not o) in
             record {
-              queue = ap (λ (q : ReassemblyState). q.held) q ∙ ap (held_after_ordered_push (chunk_at w p)) here ∙ sym (ordered-slot w s p enter m.sound.sound o (span-here o));
+              queue = ap (λ (q : ReassemblyState). q.held) q ∙ ap (held_after_ordered_push (chunk_at w p)) here ∙ sym (ordered-slot w s p enter m.valid.valid o (span-here o));
               noted = ap (λ b. keeps.whole && not b) o ∙ and-none keeps.whole ∙ sym (ap (λ b. not b && (has_arrived (with_arrived w p) n && list_all (λ i. nat_le w.skipped i) (slots_of (with_arrived w p) n))) o);
               si = ap (λ (q : ReassemblyState). q.si) q;
               largest = ap (λ (q : ReassemblyState). q.max_message_size) q;
             }
         holds-by false o =
             let q = keeps.unordered_queue (ap not o) in
-            let pushed = subst (λ (h : Reassembly). BecomesWhole (inserted chunk_before (chunk_at w p) h.loose) h z.inbound.queue.held keeps.whole) here q.0 in
-            let same = becomes-same (inserted chunk_before (chunk_at w p) (reassembly_of w s).loose) (reassembly_of w s) z.inbound.queue.held (reassembly_of (slot_received w p) s) keeps.whole (becomes_whole (with_arrived w p) n) pushed (unordered-slot w s p m.known.0 m.sound.sound m.sound.loose enter o m.known.1) in
+            let pushed = subst (λ (h : Reassembly). BecomesWhole (inserted chunk_before (chunk_at w p) h.unassembled) h z.inbound.queue.held keeps.whole) here q.0 in
+            let same = becomes-same (inserted chunk_before (chunk_at w p) (reassembly_of w s).unassembled) (reassembly_of w s) z.inbound.queue.held (reassembly_of (slot_received w p) s) keeps.whole (becomes_whole (with_arrived w p) n) pushed (unordered-slot w s p m.known.0 m.valid.valid m.valid.unassembled enter o m.known.1) in
             record {
               queue = same.0;
               noted = ap (λ b. keeps.whole && not b) o ∙ and-yes keeps.whole ∙ same.1;
@@ -262,7 +262,7 @@ module _ (w : World) (x : Sides) (r : IsReceiver w x) (p : ℕ) (c : ChunkPayloa
         kept : IsReceiver (slot_received w p) (with_filter_of (with_tsn c.tsn f) (record x { streams = slice_set x.streams at z }))
         kept = record {
           streams_are = ap (λ v. v.streams) all-is;
-          filter_is = filter-new w p f (with_tsn c.tsn f) m.sound.sound m.sound.made new r.filter_is (ap (λ t. with_tsn t f) tsn-is);
+          filter_is = filter-new w p f (with_tsn c.tsn f) m.valid.valid m.valid.made new r.filter_is (ap (λ t. with_tsn t f) tsn-is);
           queues = queue-then;
           apart = apart-set x.streams at z d r.apart same-id;
         }

@@ -4,26 +4,26 @@ use Rattle.std.specs.Prelude.{◌⊎◌, ◌==◌, ◌&&◌, ◌||◌, not, is_s
 use Rattle.std.specs.List.{list_any, list_all}
 use Rattle.std.proofs.Math.Path.{subst}
 use Rattle.std.proofs.lemmas.Bool.Decides.{nat_tests}
-use Rattle.sctp_lists.specs.Kept.{passing}
-use Rattle.sctp_lists.proofs.Cases.{same-yes, same-is}
-use Rattle.sctp_lists.proofs.More.{both, and, not_both, same_test}
+use Rattle.sctp_list_lemmas.specs.Kept.{passing}
+use Rattle.sctp_list_lemmas.proofs.Cases.{same-yes, same-is}
+use Rattle.sctp_list_lemmas.proofs.More.{both, and, not_both, same_test}
 use Rattle.sctp_model.specs.World.{World, StreamRecord, Data}
 use Rattle.sctp_model.specs.Messages.{message_at, message_of, index_of, is_ordered_on}
 use Rattle.sctp_model.specs.Receiver.{is_new, arrived_at, held_on, next_of, least, greatest, fits, spans_fit}
 use Rattle.sctp_model.specs.Changes.{slot_received}
 use Rattle.sctp_model.specs.Steps.{arrival_fits}
-use Rattle.sctp_model.specs.Sound.{IsSpan}
+use Rattle.sctp_model.specs.Valid.{IsSpan}
 use Rattle.sctp_model.proofs.sender.Network
 use Rattle.sctp_model.proofs.receiver.Arrivals.{new-unseen}
-use Rattle.sctp_model.proofs.receiver.SoundRun.{span-fits, span-open}
-use Rattle.sctp_ties.proofs.arriving.Arrival
-use Rattle.sctp_ties.proofs.arriving.Arrival.{with_arrived}
-use Rattle.sctp_ties.proofs.arriving.Carried.{Carried, noted, by_step}
-use Rattle.sctp_ties.proofs.arriving.SlotArrives.{repeated}
-use Rattle.sctp_ties.proofs.arriving.SpanEnds.{only-slot, all-streams, fits-span, lowest, highest, greatest-append, least-append}
-use Rattle.sctp_ties.proofs.arriving.Stays.{by_place}
-use Rattle.sctp_ties.proofs.reading.Line
-use Rattle.sctp_ties.proofs.reading.Taken.{held}
+use Rattle.sctp_model.proofs.receiver.ValidRun.{span-fits, span-open}
+use Rattle.sctp_refinement.proofs.arriving.Arrival
+use Rattle.sctp_refinement.proofs.arriving.Arrival.{with_arrived}
+use Rattle.sctp_refinement.proofs.arriving.Carried.{Carried, noted, by_step}
+use Rattle.sctp_refinement.proofs.arriving.SlotArrives.{repeated}
+use Rattle.sctp_refinement.proofs.arriving.SpanEnds.{only-slot, all-streams, fits-span, lowest, highest, greatest-append, least-append}
+use Rattle.sctp_refinement.proofs.arriving.Stays.{by_place}
+use Rattle.sctp_refinement.proofs.reading.Line
+use Rattle.sctp_refinement.proofs.reading.Taken.{held}
 use Rattle.sctp_link.specs.Linked.{State, IsLinked}
 use Rattle.sctp_link.specs.Receiving.{LiesSomewhere, adds_on, added_on, slot_fits}
 use Rattle.sctp_link.proofs.upkeep.Facts.{facts}

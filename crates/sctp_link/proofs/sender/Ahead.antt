@@ -10,8 +10,8 @@ use Rattle.sctp_outbound.specs.pending_queue.PendingQueue.{Pending, peeked, star
 use Rattle.sctp_outbound.specs.outbound_queue.OutboundQueue.{Outbound, sent_of, sent_next, all_started, following_tsn, after_sends, taken_of}
 use Rattle.sctp_outbound.proofs.lemmas.outbound_queue.Outbounds.{peeked_all_started}
 use Rattle.sctp_model.specs.Changes.{chunk_length, plus}
-use Rattle.sctp_ties.specs.Filling.{under, leaving, length_shown, fits_in, further, chunks_taken}
-use Rattle.sctp_ties.proofs.sending.Filling.{turns-enough}
+use Rattle.sctp_refinement.specs.Filling.{under, leaving, length_shown, fits_in, further, chunks_taken}
+use Rattle.sctp_refinement.proofs.sending.FilledDatagrams.{turns-enough}
 
 after-send : (i : ℕ) (q : Pending) → after_sends (suc i) q ≡ taken_of (peeked (after_sends i q)) (after_sends i q)
 after-send zero q = refl

@@ -2,14 +2,14 @@
 use Rattle.std.proofs.Common.{◌≡◌, ℕ, zero, suc, ◌+◌, ◌<◌, ◌^◌, Bool, true, false, List, [], ◌∷◌, ◌++◌, length, map, Option, Some, None, refl, ap, sym, ◌∙◌, arith}
 use Rattle.std.specs.Prelude.{if◌then◌else◌, ◌==◌, ◌&&◌, find, slice_index_or}
 use Rattle.std.proofs.Math.Path.{subst}
-use Rattle.sctp_lists.specs.Lists.{change_where}
-use Rattle.sctp_lists.proofs.KeptLemmas.{length-kept-le}
-use Rattle.sctp_lists.proofs.More.{not_both}
+use Rattle.sctp_list_lemmas.specs.Lists.{change_where}
+use Rattle.sctp_list_lemmas.proofs.Passing.{length-kept-le}
+use Rattle.sctp_list_lemmas.proofs.More.{not_both}
 use Rattle.sctp_model.specs.Messages.{is_open}
 use Rattle.sctp_model.proofs.sender.Shape.{shape}
-use Rattle.sctp_ties.specs.Indexes.{is_begun_on, begun_on}
-use Rattle.sctp_ties.proofs.sending.Begun.{Indexed}
-use Rattle.sctp_ties.proofs.amounts.StreamAmounts.{same-turned}
+use Rattle.sctp_refinement.specs.Indexes.{is_begun_on, begun_on}
+use Rattle.sctp_refinement.proofs.sending.Begun.{Indexed}
+use Rattle.sctp_refinement.proofs.amounts.StreamAmounts.{same-turned}
 use Rattle.sctp_halves.specs.Streams.{OpenStream, begun_in, begun_of, has_number, stream_numbers, with_begun}
 use Rattle.sctp_link.specs.Linked.{State, IsLinked, IsOpenStream}
 use Rattle.sctp_link.specs.Records.{stream_record}

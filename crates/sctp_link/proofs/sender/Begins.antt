@@ -59,7 +59,7 @@ linked-start sum first size largest limit fits some short = record {
   low = λ n. omega arith;
   open_streams = λ k d lt. absurd (omega (arith, lt));
   apart = tt;
-  texts = λ k d g e. cc;
+  encodings = λ k d g e. cc;
 }
 
 pub linked-fresh : (sum : List ℕ → ℕ) (first size largest limit : ℕ) (halves : Sides) (messages : List Message) (slots : List Slot) (network : List Datagram) (duplicates : List ℕ)

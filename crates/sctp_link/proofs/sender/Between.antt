@@ -3,11 +3,11 @@ use Rattle.std.proofs.Common.{◌≡◌, ℕ, zero, suc, ◌+◌, ◌<◌, ◌�
 use Rattle.std.specs.Prelude.{◌==◌, ◌&&◌, if◌then◌else◌, find, is_some, slice_index_or, slice_set}
 use Rattle.std.proofs.Math.Path.{subst}
 use Rattle.std.proofs.lemmas.List.{map-append}
-use Rattle.sctp_lists.specs.Lists.{changed}
-use Rattle.sctp_lists.proofs.Getting.{length-mapped}
-use Rattle.sctp_lists.proofs.KeptLemmas.{length-kept-le}
-use Rattle.sctp_lists.proofs.More.{changed-same, changed-other, not_both}
-use Rattle.sctp_lists.proofs.Cases.{by_same, same-yes}
+use Rattle.sctp_list_lemmas.specs.Lists.{changed}
+use Rattle.sctp_list_lemmas.proofs.Getting.{length-mapped}
+use Rattle.sctp_list_lemmas.proofs.Passing.{length-kept-le}
+use Rattle.sctp_list_lemmas.proofs.More.{changed-same, changed-other, not_both}
+use Rattle.sctp_list_lemmas.proofs.Cases.{by_same, same-yes}
 use Rattle.sctp_chunks.specs.declared.chunk.chunk_payload_data.ChunkPayloadData.{ChunkPayloadData}
 use Rattle.sctp_outbound.specs.pending_queue.PendingQueue.{peeked, started as pending_started}
 use Rattle.sctp_outbound.specs.outbound_queue.OutboundQueue.{Outbound, all_started, sent_of, sent_peeked, sent_next, following_tsn}
@@ -22,14 +22,14 @@ use Rattle.sctp_model.proofs.sender.Few
 use Rattle.sctp_model.proofs.sender.Fronts.{front-takes}
 use Rattle.sctp_model.proofs.sender.Sender.{sent-slotted}
 use Rattle.sctp_model.proofs.sender.SenderSteps.{Takes}
-use Rattle.sctp_ties.specs.Tied.{waiting_at, TiedOutbound}
-use Rattle.sctp_ties.specs.Indexes.{begun_on, is_begun_on}
-use Rattle.sctp_ties.proofs.sending.Begun
-use Rattle.sctp_ties.proofs.sending.Begun.{Indexed, indexed-taken}
-use Rattle.sctp_ties.proofs.sending.Filling.{after_fragments, after-next, next-tsn}
-use Rattle.sctp_ties.proofs.sending.Fragments.{shown, all-begun, tied-fragment, going-started}
-use Rattle.sctp_ties.proofs.sending.KindsRun.{Going, going-takes}
-use Rattle.sctp_ties.proofs.sending.LifetimesStart.{tied-started}
+use Rattle.sctp_refinement.specs.Refines.{waiting_at, RefinesOutbound}
+use Rattle.sctp_refinement.specs.Indexes.{begun_on, is_begun_on}
+use Rattle.sctp_refinement.proofs.sending.Begun
+use Rattle.sctp_refinement.proofs.sending.Begun.{Indexed, indexed-taken}
+use Rattle.sctp_refinement.proofs.sending.FilledDatagrams.{after_fragments, after-next, next-tsn}
+use Rattle.sctp_refinement.proofs.sending.Fragments.{shown, all-begun, refines-fragment, going-started}
+use Rattle.sctp_refinement.proofs.sending.KindsRun.{Going, going-takes}
+use Rattle.sctp_refinement.proofs.sending.LifetimesStart.{refines-started}
 use Rattle.sctp_halves.specs.Streams.{OpenStream, begun_in, begun_of, has_number, stream_numbers}
 use Rattle.sctp_link.specs.declared.record.Message.{Message}
 use Rattle.sctp_link.specs.Linked.{State, IsLinked}
@@ -57,7 +57,7 @@ pub record Between (x : State) (now : ℕ) (v : World) (s : Sender) : Type 0 whe
   pub going : Going x.world.setup v
   pub only : v ≡ record (started x.world now) { slots = v.slots }
   pub taken : v.taken ≤ length v.slots
-  pub outbound : TiedOutbound v s.outbound
+  pub outbound : RefinesOutbound v s.outbound
   pub begun : s.outbound.next_unstarted ≡ length x.world.messages
   pub messages : map message_record s.messages ≡ (started x.world now).messages
   pub sents : (k : ℕ) → k < length x.world.messages → (slice_index_or (map progress_of s.messages) k (0, 0)).0 ≡ M.sent_of v k
@@ -71,16 +71,16 @@ pub record Between (x : State) (now : ℕ) (v : World) (s : Sender) : Type 0 whe
 -- ## Before the first one
 
 -- more room in flight is nothing that the record knows
-pub tied-room : (w : World) (q r : Outbound) (room : ℕ) → r ≡ record q { inflight = record q.inflight { room = room } } → TiedOutbound w q → TiedOutbound w r
-tied-room w q r room e t = subst (TiedOutbound w) (sym e) (record { pending = t.pending; in_flight = t.in_flight; next = t.next; unstarted = t.unstarted; started = t.started; begun = t.begun })
+pub refines-room : (w : World) (q r : Outbound) (room : ℕ) → r ≡ record q { inflight = record q.inflight { room = room } } → RefinesOutbound w q → RefinesOutbound w r
+refines-room w q r room e t = subst (RefinesOutbound w) (sym e) (record { pending = t.pending; in_flight = t.in_flight; next = t.next; unstarted = t.unstarted; started = t.started; begun = t.begun })
 
 module _ (sum : List ℕ → ℕ) (x : State) (l : IsLinked sum x) (now : ℕ) (ms : List Message) (em : x.world.messages ≡ map message_record ms) (es : x.progress ≡ map progress_of ms) where
-  pub between-none : (s : Sender) (q : Outbound) → TiedOutbound x.world q → s.outbound ≡ all_started now q → s.messages ≡ start_from x.unstarted now ms → s.streams ≡ x.open_streams → x.world.streams ≡ map stream_record x.open_streams → x.world.slots ≡ map slot_record s.slots → s.next_tsn ≡ x.next_tsn → Between x now (started x.world now) s
+  pub between-none : (s : Sender) (q : Outbound) → RefinesOutbound x.world q → s.outbound ≡ all_started now q → s.messages ≡ start_from x.unstarted now ms → s.streams ≡ x.open_streams → x.world.streams ≡ map stream_record x.open_streams → x.world.slots ≡ map slot_record s.slots → s.next_tsn ≡ x.next_tsn → Between x now (started x.world now) s
   between-none s q t out is streams rs ew next = record {
     going = going-started x.world.setup x.world now (facts sum x l).going;
     only = refl;
     taken = (facts sum x l).taken;
-    outbound = subst (TiedOutbound (started x.world now)) (sym out) (tied-started x.world now q t);
+    outbound = subst (RefinesOutbound (started x.world now)) (sym out) (refines-started x.world now q t);
     begun = ap (λ (r : Outbound). r.next_unstarted) out ∙ all-begun x.world now q t;
     messages = ap (map message_record) is ∙ starts-records sum x l now ms em;
     sents = λ k lt. ap (λ (ps : List (ℕ × ℕ)). (slice_index_or ps k (0, 0)).0) progress ∙ l.sents k lt;
@@ -210,7 +210,7 @@ module _ (x : State) (now : ℕ) (v : World) (s : Sender) (b : Between x now v s
       i = begun_of f.message.stream s.streams
 
       abbrev new : W.Slot
-      new = record { message = n; fragment = M.sent_of v n; is_end_mark = false; arrived = false; acknowledged = false }
+      new = record { message = n; fragment = M.sent_of v n; is_terminal_chunk = false; arrived = false; acknowledged = false }
 
       progress : map progress_of t.messages ≡ changed (took (begins f.message) (begun_of f.message.stream s.streams)) n (map progress_of s.messages)
       progress =
@@ -277,12 +277,12 @@ module _ (x : State) (now : ℕ) (v : World) (s : Sender) (b : Between x now v s
           ∙ ap (λ l. plus_begun (if (from == l.state.stream_identifier) && go then 1 else 0) l) (b.streams k d inside)
           ∙ ap (λ n. counted n y) (sym (begun-then y.state.stream_identifier))
 
-      outbound-then : TiedOutbound (with_slot v n false) t.outbound
+      outbound-then : RefinesOutbound (with_slot v n false) t.outbound
       outbound-then =
           let all : s.outbound.next_unstarted ≡ length v.messages = b.begun ∙ sym count-same in
-          let a : TiedOutbound (fragment_sent v) (sent_peeked s.outbound (tsn_of v (length v.slots)) now) = tied-fragment x.world.setup v n now s.outbound b.going fr b.taken all b.outbound in
+          let a : RefinesOutbound (fragment_sent v) (sent_peeked s.outbound (tsn_of v (length v.slots)) now) = refines-fragment x.world.setup v n now s.outbound b.going fr b.taken all b.outbound in
           let q : sent_peeked s.outbound (tsn_of v (length v.slots)) now ≡ t.outbound = ap (λ r. sent_peeked r (tsn_of v (length v.slots)) now) (sym (none-start s.outbound now (all ∙ sym b.outbound.next))) ∙ ap (λ k. sent_next s.outbound k now) (sym b.next) ∙ sym f.outbound in
-          subst (TiedOutbound (with_slot v n false)) q (subst (λ o. TiedOutbound (fragment_of_sent v o) (sent_peeked s.outbound (tsn_of v (length v.slots)) now)) fr a)
+          subst (RefinesOutbound (with_slot v n false)) q (subst (λ o. RefinesOutbound (fragment_of_sent v o) (sent_peeked s.outbound (tsn_of v (length v.slots)) now)) fr a)
 
       started-then : t.outbound.next_unstarted ≡ length x.world.messages
       started-then =

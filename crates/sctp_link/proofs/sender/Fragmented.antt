@@ -2,8 +2,8 @@
 use Rattle.std.proofs.Common.{◌≡◌, ℕ, zero, suc, ◌+◌, ◌-◌, ◌*◌, ◌<◌, ◌≤◌, ◌%◌, ◌^◌, Bool, true, false, List, [], ◌∷◌, ◌++◌, length, map, drop, Some, None, refl, ap, sym, ◌∙◌, arith}
 use Rattle.std.specs.Prelude.{◌==◌, ◌||◌, not, slice_index_or}
 use Rattle.std.proofs.Math.Path.{subst}
-use Rattle.sctp_lists.specs.Kept.{kept, always, numbers_from}
-use Rattle.sctp_lists.specs.Lists.{pieces}
+use Rattle.sctp_list_lemmas.specs.Kept.{kept, always, numbers_from}
+use Rattle.sctp_list_lemmas.specs.Lists.{pieces}
 use Rattle.sctp_chunks.specs.declared.chunk.chunk_payload_data.ChunkPayloadData.{ChunkPayloadData}
 use Rattle.sctp_chunks.specs.declared.chunk.chunk_payload_data.PayloadProtocolIdentifier.{PayloadProtocolIdentifier}
 use Rattle.sctp_chunks.specs.declared.chunk.chunk_payload_data.PayloadProtocolIdentifier.TheVariants.{Dcep, String, Binary, StringEmpty, BinaryEmpty, Unknown}
@@ -13,9 +13,9 @@ use Rattle.sctp_serial.specs.DataChunks.{bytes_of}
 use Rattle.sctp_model.specs.World.{World, StreamRecord}
 use Rattle.sctp_model.specs.Messages.{message_of, fragment_count, ordered_before, is_dcep}
 use Rattle.sctp_model.specs.Changes.{message_on}
-use Rattle.sctp_ties.specs.Tied.{waiting_at, waiting_of}
-use Rattle.sctp_ties.proofs.sending.Waiting
-use Rattle.sctp_ties.proofs.sending.Written
+use Rattle.sctp_refinement.specs.Refines.{waiting_at, waiting_of}
+use Rattle.sctp_refinement.proofs.sending.Waiting
+use Rattle.sctp_refinement.proofs.sending.Written
 use Rattle.sctp_stream.specs.declared.stream.StreamState.{StreamState}
 use Rattle.sctp_stream.specs.Stream as stream
 use Rattle.sctp_stream.specs.Stream.{fragment_at, fragments_of, cut}

@@ -1,7 +1,7 @@
 -- A stream takes another mode.
 use Rattle.std.proofs.Common.{◌≡◌, ℕ, ◌<◌, Bool, true, List, ◌∷◌, length, map, Some, None, refl, ap, sym, ◌∙◌, arith}
 use Rattle.std.specs.Prelude.{◌==◌, if◌then◌else◌, slice_index_or, slice_set, find, is_some}
-use Rattle.sctp_lists.proofs.More.{not_both}
+use Rattle.sctp_list_lemmas.proofs.More.{not_both}
 use Rattle.sctp_chunks.specs.declared.chunk.chunk_payload_data.ReliabilityType.{ReliabilityType}
 use Rattle.sctp_model.specs.declared.event.Event.TheVariants as E
 use Rattle.sctp_model.specs.declared.event.LinkRefusal.TheVariants.{StreamUnknown}
@@ -10,18 +10,18 @@ use Rattle.sctp_model.specs.Messages.{is_open}
 use Rattle.sctp_model.specs.Changes.{mode_set, with_mode}
 use Rattle.sctp_model.specs.Steps.{refusal_of, reply_to}
 use Rattle.sctp_model.proofs.sender.SenderRun.{unless-holds}
-use Rattle.sctp_ties.proofs.arriving.Opened
-use Rattle.sctp_ties.proofs.acknowledging.QuietSender.{outbound-same, same-self}
-use Rattle.sctp_lists.specs.Lists.{change_where}
+use Rattle.sctp_refinement.proofs.arriving.Opened
+use Rattle.sctp_refinement.proofs.acknowledging.QuietSender.{outbound-same, same-self}
+use Rattle.sctp_list_lemmas.specs.Lists.{change_where}
 use Rattle.sctp_transfer.specs.Outgoing as Outgoing
 use Rattle.sctp_halves.specs.Streams.{OpenStream, has_number, on_state}
 use Rattle.sctp_link.specs.Records.{stream_record}
 use Rattle.sctp_link.specs.Linked.{State, IsOpenStream, IsLinked}
 use Rattle.sctp_link.proofs.upkeep.Facts.{stands-then}
-use Rattle.sctp_link.proofs.upkeep.Frames.{stream-same, next-kept, texts-same}
+use Rattle.sctp_link.proofs.upkeep.Frames.{stream-same, next-kept, encodings-same}
 use Rattle.sctp_link.proofs.sender.Opening.{open-found}
 use Rattle.sctp_link.proofs.upkeep.ChangedStreams.{records-changed, each-changed}
-use Rattle.sctp_link.proofs.upkeep.Places.{apart-changed}
+use Rattle.sctp_link.proofs.upkeep.StreamPlaces.{apart-changed}
 
 -- an open stream is found
 pub found-open : (x : State) (s : ℕ) → x.world.streams ≡ map stream_record x.open_streams → is_open x.world s ≡ true → find (has_number s) x.open_streams ≡ None → ⊥
@@ -71,5 +71,5 @@ module _ (sum : List ℕ → ℕ) (x : State) (l : IsLinked sum x) (s : ℕ) (un
         (λ k d lt e. changes (slice_index_or x.open_streams k d) (kept (slice_index_or x.open_streams k d) (l.open_streams k d lt)))
         (λ k d lt ne. kept (slice_index_or x.open_streams k d) (l.open_streams k d lt));
     apart = apart-changed s (on_state (Outgoing.with_mode unordered reliability value)) x.open_streams (λ t. refl) l.apart;
-    texts = texts-same sum x l (E.Mode s unordered reliability value) ok refl;
+    encodings = encodings-same sum x l (E.Mode s unordered reliability value) ok refl;
   }

@@ -3,8 +3,8 @@ use Rattle.std.proofs.Common.{◌≡◌, ℕ, ◌%◌, ◌^◌, Bool, true, fals
 use Rattle.std.specs.Prelude.{◌==◌, if◌then◌else◌, slice_index_or, find, is_some}
 use Rattle.std.proofs.Math.Path.{subst}
 use Rattle.std.proofs.lemmas.List.{map-append}
-use Rattle.sctp_lists.proofs.Getting.{get-snoc_old, get-snoc_new}
-use Rattle.sctp_lists.proofs.Cases.{by_last, negated}
+use Rattle.sctp_list_lemmas.proofs.Getting.{get-snoc_old, get-snoc_new}
+use Rattle.sctp_list_lemmas.proofs.Cases.{by_last, negated}
 use Rattle.sctp_chunks.specs.declared.chunk.chunk_payload_data.PayloadProtocolIdentifier.TheVariants.{Unknown}
 use Rattle.sctp_chunks.specs.declared.chunk.chunk_payload_data.ReliabilityType.TheVariants.{Reliable}
 use Rattle.sctp_reassembly.specs.reassembly_queue.ReassemblyQueue.{Reassembly}
@@ -16,19 +16,19 @@ use Rattle.sctp_model.specs.Receiver.{next_of}
 use Rattle.sctp_model.specs.Changes.{opened}
 use Rattle.sctp_model.specs.Steps.{refusal_of, reply_to}
 use Rattle.sctp_model.proofs.sender.SenderRun.{unless-holds}
-use Rattle.sctp_ties.proofs.sending.BegunRun.{begun-closed}
-use Rattle.sctp_ties.proofs.arriving.Opened
-use Rattle.sctp_ties.proofs.reading.ReadOne.{next-same}
-use Rattle.sctp_ties.proofs.amounts.StreamAmounts.{amount-none}
-use Rattle.sctp_ties.proofs.amounts.StreamCounters.{counters-none}
-use Rattle.sctp_ties.proofs.acknowledging.QuietSender.{outbound-same, same-self}
-use Rattle.sctp_ties.specs.Holds.{reassembly_of}
+use Rattle.sctp_refinement.proofs.sending.BegunRun.{begun-closed}
+use Rattle.sctp_refinement.proofs.arriving.Opened
+use Rattle.sctp_refinement.proofs.reading.ReadOne.{next-same}
+use Rattle.sctp_refinement.proofs.amounts.StreamAmounts.{amount-none}
+use Rattle.sctp_refinement.proofs.amounts.StreamCounters.{counters-none}
+use Rattle.sctp_refinement.proofs.acknowledging.QuietSender.{outbound-same, same-self}
+use Rattle.sctp_refinement.specs.Holds.{reassembly_of}
 use Rattle.sctp_halves.specs.Streams.{OpenStream, has_number, new_open_stream}
 use Rattle.sctp_link.specs.Records.{stream_record}
 use Rattle.sctp_link.specs.Linked.{State, IsOpenStream, IsLinked, stats_of}
 use Rattle.sctp_link.proofs.upkeep.Facts.{Facts, facts, stands-then}
-use Rattle.sctp_link.proofs.upkeep.Frames.{stream-same, texts-same}
-use Rattle.sctp_link.proofs.upkeep.Places.{apart-more}
+use Rattle.sctp_link.proofs.upkeep.Frames.{stream-same, encodings-same}
+use Rattle.sctp_link.proofs.upkeep.StreamPlaces.{apart-more}
 
 -- ## Streams among those that are open
 
@@ -68,7 +68,7 @@ module _ (sum : List ℕ → ℕ) (x : State) (l : IsLinked sum x) (s : ℕ) (ok
 
   stream-new : IsOpenStream (opened x.world s) (new_open_stream s x.world.setup.size x.world.setup.largest)
   stream-new =
-      let a : reassembly_of (opened x.world s) s ≡ (let q : Reassembly = record { next_ssn = 0; ordered = []; unordered = []; loose = [] } in q) = Opened.opened-same x.world s s closed ∙ Opened.closed-empty x.world.setup x.world s f.sane closed in
+      let a : reassembly_of (opened x.world s) s ≡ (let q : Reassembly = record { next_ssn = 0; ordered = []; unordered = []; unassembled = [] } in q) = Opened.opened-same x.world s s closed ∙ Opened.closed-empty x.world.setup x.world s f.sane closed in
       let n : next_of (opened x.world s) s ≡ 0 = subst (λ u. next_of (opened u s) s ≡ next_of u s) (sym l.stands.is) (next-same x.world.setup l.history (E.Open s) s l.setup l.stands.run (ap (λ u. refusal_of u (E.Open s)) (sym l.stands.is) ∙ ok) tt) ∙ Opened.next x.world.setup x.world s f.sane closed in
       record {
         held = sym a;
@@ -114,5 +114,5 @@ module _ (sum : List ℕ → ℕ) (x : State) (l : IsLinked sum x) (s : ℕ) (ok
         (λ below. subst (IsOpenStream (opened x.world s)) (sym (get-snoc_old x.open_streams m k d (λ z. absurd (omega (arith, below, z))))) (stream-old (slice_index_or x.open_streams k d) (l.open_streams k d below)))
         (λ z. subst (IsOpenStream (opened x.world s)) (sym (ap (λ j. slice_index_or (x.open_streams ++ m ∷ []) j d) z ∙ get-snoc_new x.open_streams m d)) stream-new);
     apart = apart-more x.open_streams m l.apart new-number;
-    texts = texts-same sum x l (E.Open s) ok refl;
+    encodings = encodings-same sum x l (E.Open s) ok refl;
   }

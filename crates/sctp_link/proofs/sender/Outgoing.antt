@@ -4,14 +4,14 @@ use Rattle.std.specs.Prelude.{◌&&◌, ◌||◌, not, nat_le, nat_lt, slice_ind
 use Rattle.std.proofs.Math.Path.{subst}
 use Rattle.std.proofs.lemmas.List.{map-append}
 use Rattle.std.proofs.lemmas.Bool.Decides.{nat_tests}
-use Rattle.sctp_lists.specs.Lists.{pieces, change_where}
-use Rattle.sctp_lists.proofs.More.{both}
-use Rattle.sctp_lists.proofs.Cases.{negated}
+use Rattle.sctp_list_lemmas.specs.Lists.{pieces, change_where}
+use Rattle.sctp_list_lemmas.proofs.More.{both}
+use Rattle.sctp_list_lemmas.proofs.Cases.{negated}
 use Rattle.sctp_chunks.specs.declared.chunk.chunk_payload_data.ChunkPayloadData.{ChunkPayloadData}
 use Rattle.sctp_chunks.specs.PayloadData.{Data, data_of, data_value}
 use Rattle.sctp_chunks.specs.Wire.{data_chunk}
 use Rattle.sctp_chunks.proofs.Lengths.{length_data_value}
-use Rattle.sctp_packets.specs.Packet.{ReadsPacket, packet_text}
+use Rattle.sctp_packets.specs.Packet.{ReadsPacket, packet_encoding}
 use Rattle.sctp_serial.specs.DataChunks.{has_tsn}
 use Rattle.sctp_outbound.specs.Marks.{with_nsent}
 use Rattle.sctp_outbound.specs.outbound_queue.OutboundQueue.{Outbound, with_inflight}
@@ -25,16 +25,16 @@ use Rattle.sctp_model.specs.Queues.{is_cleared}
 use Rattle.sctp_model.specs.Changes.{resent}
 use Rattle.sctp_model.specs.Steps.{refusal_of, reply_to, can_resend}
 use Rattle.sctp_model.proofs.sender.SenderRun.{unless-holds}
-use Rattle.sctp_ties.specs.Tied.{TiedOutbound}
-use Rattle.sctp_ties.proofs.sending.InFlight.{Found, found-in, says-same, tied-marked, nsent-quiet}
-use Rattle.sctp_ties.proofs.acknowledging.QuietSender.{outbound-same, same-self}
+use Rattle.sctp_refinement.specs.Refines.{RefinesOutbound}
+use Rattle.sctp_refinement.proofs.sending.InFlight.{Found, found-in, says-same, refines-marked, nsent-quiet}
+use Rattle.sctp_refinement.proofs.acknowledging.QuietSender.{outbound-same, same-self}
 use Rattle.sctp_link.specs.declared.record.Kind.{Kind}
 use Rattle.sctp_link.specs.declared.record.Datagram.{Datagram}
 use Rattle.sctp_link.specs.Records.{datagram_record, kind_record}
-use Rattle.sctp_link.specs.Texts.{IsDatagram, packet_with}
+use Rattle.sctp_link.specs.Encodings.{IsDatagram, packet_with}
 use Rattle.sctp_link.specs.Linked.{State, IsLinked}
 use Rattle.sctp_link.proofs.upkeep.Facts.{facts, stands-then}
-use Rattle.sctp_link.proofs.upkeep.Frames.{stream-same, texts-more}
+use Rattle.sctp_link.proofs.upkeep.Frames.{stream-same, encodings-more}
 
 -- ## Lengths
 
@@ -49,7 +49,7 @@ piece-short (suc most) size (x ∷ xs) zero = short size (x ∷ xs)
     short (suc n) (x ∷ xs) = omega (arith, short n xs)
 piece-short (suc most) size (x ∷ xs) (suc i) = piece-short most size (drop size (x ∷ xs)) i
 
--- a chunk with a fragment has a text
+-- a chunk with a fragment has an encoding
 pub chunk-short : (d : Data) → length d.user_data ≤ 65519 → 4 + length (data_value d) < 2 ^ 16
 chunk-short d le = omega (arith, length_data_value d, le)
 
@@ -58,9 +58,9 @@ fragment-short sum x l n i = omega (arith, piece-short (length (message_at x.wor
 
 -- ## Datagrams
 
-pub says-data : (sum : List ℕ → ℕ) (v : World) (p : ℕ) (bytes : List ℕ) (d : Data) → d ≡ data_of (chunk_at v p) → bytes ≡ packet_text sum (packet_with (data_chunk d ∷ [])) → ReadsPacket sum bytes (packet_with (data_chunk d ∷ [])) → IsDatagram sum (contents_of v (W.Data (p ∷ []))) bytes
-says-data sum v p bytes d is text reads = record {
-  text = text ∙ ap (λ e. packet_text sum (packet_with (data_chunk e ∷ []))) is;
+pub says-data : (sum : List ℕ → ℕ) (v : World) (p : ℕ) (bytes : List ℕ) (d : Data) → d ≡ data_of (chunk_at v p) → bytes ≡ packet_encoding sum (packet_with (data_chunk d ∷ [])) → ReadsPacket sum bytes (packet_with (data_chunk d ∷ [])) → IsDatagram sum (contents_of v (W.Data (p ∷ []))) bytes
+says-data sum v p bytes d is encoding reads = record {
+  encoding = encoding ∙ ap (λ e. packet_encoding sum (packet_with (data_chunk e ∷ []))) is;
   reads = subst (λ e. ReadsPacket sum bytes (packet_with (data_chunk e ∷ []))) is reads;
 }
 
@@ -128,12 +128,12 @@ module _ (sum : List ℕ → ℕ) (x : State) (l : IsLinked sum x) (tsn : ℕ) (
       let is : c.user_data ≡ (chunk_at x.world p).user_data = ap (λ (d : Data). d.user_data) (resend-says c e) in
       chunk-short (data_of c) (omega (arith, ap length is, fragment-short sum x l (message_of x.world p) (slot_at x.world p).fragment))
 
-  pub linked-resend : (c : ChunkPayloadData) (bytes : List ℕ) (nsent : ℕ) (q : Outbound) → find (has_tsn tsn) cs ≡ Some c → bytes ≡ packet_text sum (packet_with (data_chunk (data_of c) ∷ [])) → ReadsPacket sum bytes (packet_with (data_chunk (data_of c) ∷ [])) → length x.datagrams ≡ length x.world.network → q ≡ with_inflight x.outbound (change_where (has_tsn tsn) (with_nsent nsent) cs) → IsLinked sum (record x { world = resent x.world tsn; datagrams = x.datagrams ++ bytes ∷ []; outbound = q })
-  linked-resend c bytes nsent q e text reads count eq = record {
+  pub linked-resend : (c : ChunkPayloadData) (bytes : List ℕ) (nsent : ℕ) (q : Outbound) → find (has_tsn tsn) cs ≡ Some c → bytes ≡ packet_encoding sum (packet_with (data_chunk (data_of c) ∷ [])) → ReadsPacket sum bytes (packet_with (data_chunk (data_of c) ∷ [])) → length x.datagrams ≡ length x.world.network → q ≡ with_inflight x.outbound (change_where (has_tsn tsn) (with_nsent nsent) cs) → IsLinked sum (record x { world = resent x.world tsn; datagrams = x.datagrams ++ bytes ∷ []; outbound = q })
+  linked-resend c bytes nsent q e encoding reads count eq = record {
     setup = l.setup;
     history = (E.Resend tsn, reply_to x.world (E.Resend tsn)) ∷ l.history;
     stands = stands-then x.world.setup x.world l.history (E.Resend tsn) ok l.stands;
-    outbound = subst (TiedOutbound v) (sym eq) (outbound-same x.world v (same-self x.world v refl refl refl refl) _ (tied-marked x.world x.outbound (has_tsn tsn) (with_nsent nsent) (nsent-quiet nsent) l.outbound));
+    outbound = subst (RefinesOutbound v) (sym eq) (outbound-same x.world v (same-self x.world v refl refl refl refl) _ (refines-marked x.world x.outbound (has_tsn tsn) (with_nsent nsent) (nsent-quiet nsent) l.outbound));
     unstarted = l.unstarted ∙ sym (ap (λ (r : Outbound). r.next_unstarted) eq);
     filter = l.filter;
     next = l.next;
@@ -145,7 +145,7 @@ module _ (sum : List ℕ → ℕ) (x : State) (l : IsLinked sum x) (tsn : ℕ) (
     low = l.low;
     open_streams = λ k d lt. stream-same x.world v (slice_index_or x.open_streams k d) (record { setup = refl; held = refl; ordered = refl; next = refl; amount = refl; counters = refl }) refl (l.open_streams k d lt);
     apart = l.apart;
-    texts = texts-more sum x l (E.Resend tsn) ok (W.Data (p ∷ [])) bytes refl count (says-data sum v p bytes (data_of c) (resend-says c e) text reads);
+    encodings = encodings-more sum x l (E.Resend tsn) ok (W.Data (p ∷ [])) bytes refl count (says-data sum v p bytes (data_of c) (resend-says c e) encoding reads);
   }
     where
       v : World

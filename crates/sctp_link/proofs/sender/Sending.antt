@@ -3,16 +3,16 @@ use Rattle.std.proofs.Common.{◌≡◌, ℕ, ◌-◌, ◌<◌, ◌≤◌, List,
 use Rattle.std.specs.Prelude.{IfSome, slice_get, slice_index_or}
 use Rattle.std.specs.List.{AllByRecursion}
 use Rattle.std.proofs.Math.Path.{subst}
-use Rattle.sctp_lists.specs.Kept.{numbers_from}
-use Rattle.sctp_lists.proofs.Getting.{length-mapped}
+use Rattle.sctp_list_lemmas.specs.Kept.{numbers_from}
+use Rattle.sctp_list_lemmas.proofs.Getting.{length-mapped}
 use Rattle.sctp_chunks.specs.declared.chunk.chunk_kind.ChunkKind.{ChunkKind}
 use Rattle.sctp_chunks.specs.declared.chunk.chunk_kind.ChunkKind.TheVariants as C
 use Rattle.sctp_chunks.specs.declared.chunk.chunk_payload_data.ChunkPayloadData.{ChunkPayloadData}
 use Rattle.sctp_chunks.specs.Kind.{wire_of}
 use Rattle.sctp_chunks.specs.PayloadData.{data_of}
-use Rattle.sctp_chunks.specs.Wire.{data_chunk, HasText}
+use Rattle.sctp_chunks.specs.Wire.{data_chunk, HasEncoding}
 use Rattle.sctp_chunks.specs.Fits.{Canonical}
-use Rattle.sctp_packets.specs.Packet.{ReadsPacket, packet_text}
+use Rattle.sctp_packets.specs.Packet.{ReadsPacket, packet_encoding}
 use Rattle.sctp_outbound.specs.pending_queue.PendingQueue.{peeked}
 use Rattle.sctp_outbound.specs.outbound_queue.OutboundQueue.{after_sends}
 use Rattle.sctp_model.specs.declared.event.Event.TheVariants as E
@@ -30,23 +30,23 @@ use Rattle.sctp_model.proofs.sender.Shape.{shape}
 use Rattle.sctp_model.proofs.sender.Fronts.{front-takes}
 use Rattle.sctp_model.proofs.sender.Moves
 use Rattle.sctp_model.proofs.sender.Moves.{Quiet}
-use Rattle.sctp_ties.specs.Filling.{chunks_taken}
-use Rattle.sctp_ties.specs.Indexes.{begun_on}
-use Rattle.sctp_ties.specs.Tied.{waiting_at, TiedOutbound}
-use Rattle.sctp_ties.proofs.sending.Begun
-use Rattle.sctp_ties.proofs.sending.Begun.{Indexed}
-use Rattle.sctp_ties.proofs.sending.Filling.{Fills, fill-sent, fill-started, sent-started, after_fragments, only-slots, shown-after}
-use Rattle.sctp_ties.proofs.sending.Fragments.{shown, idle}
-use Rattle.sctp_ties.proofs.sending.InLine.{before-started}
-use Rattle.sctp_ties.proofs.acknowledging.QuietSender.{outbound-same, same-self}
+use Rattle.sctp_refinement.specs.Filling.{chunks_taken}
+use Rattle.sctp_refinement.specs.Indexes.{begun_on}
+use Rattle.sctp_refinement.specs.Refines.{waiting_at, RefinesOutbound}
+use Rattle.sctp_refinement.proofs.sending.Begun
+use Rattle.sctp_refinement.proofs.sending.Begun.{Indexed}
+use Rattle.sctp_refinement.proofs.sending.FilledDatagrams.{Fills, fill-sent, fill-started, sent-started, after_fragments, only-slots, shown-after}
+use Rattle.sctp_refinement.proofs.sending.Fragments.{shown, idle}
+use Rattle.sctp_refinement.proofs.sending.InLine.{before-started}
+use Rattle.sctp_refinement.proofs.acknowledging.QuietSender.{outbound-same, same-self}
 use Rattle.sctp_halves.specs.Streams.{OpenStream, stream_numbers}
 use Rattle.sctp_link.specs.Places.{IsApart}
-use Rattle.sctp_link.specs.Texts.{IsDatagram, packet_with, wire_data}
+use Rattle.sctp_link.specs.Encodings.{IsDatagram, packet_with, wire_data}
 use Rattle.sctp_link.specs.Linked.{State, IsLinked, IsOpenStream}
 use Rattle.sctp_link.specs.Records.{progress_of}
 use Rattle.sctp_link.specs.Sends.{Sender}
 use Rattle.sctp_link.proofs.upkeep.Facts.{facts, stands-then}
-use Rattle.sctp_link.proofs.upkeep.Frames.{SameStream, stream-with, stream-quiet, filter-kept, texts-more, fragments-same, written-kept}
+use Rattle.sctp_link.proofs.upkeep.Frames.{SameStream, stream-with, stream-quiet, filter-kept, encodings-more, fragments-same, written-kept}
 use Rattle.sctp_link.proofs.sender.Beginning.{index_kept}
 use Rattle.sctp_link.proofs.sender.Between.{Between}
 use Rattle.sctp_link.proofs.sender.Outgoing.{piece-short, chunk-short}
@@ -108,9 +108,9 @@ wires-at v (p ∷ ps) = ap (λ l. wire_data (chunk_at v p) ∷ l) (wires-at v ps
 at-short : (v : World) (p : ℕ) → v.setup.size ≤ 65519 → length (chunk_at v p).user_data ≤ 65519
 at-short v p le = omega (arith, le, piece-short (length (message_at v (M.message_of v p)).bytes) v.setup.size (message_at v (M.message_of v p)).bytes (M.slot_at v p).fragment)
 
-texts-at : (v : World) (ps : List ℕ) → v.setup.size ≤ 65519 → AllByRecursion HasText (map wire_data (map (chunk_at v) ps))
-texts-at v [] le = tt
-texts-at v (p ∷ ps) le = ((tt, chunk-short (data_of (chunk_at v p)) (at-short v p le)), texts-at v ps le)
+encodings-at : (v : World) (ps : List ℕ) → v.setup.size ≤ 65519 → AllByRecursion HasEncoding (map wire_data (map (chunk_at v) ps))
+encodings-at v [] le = tt
+encodings-at v (p ∷ ps) le = ((tt, chunk-short (data_of (chunk_at v p)) (at-short v p le)), encodings-at v ps le)
 
 canonical-at : (v : World) (ps : List ℕ) → AllByRecursion Canonical (map wire_data (map (chunk_at v) ps))
 canonical-at v [] = tt
@@ -176,16 +176,16 @@ module _ (sum : List ℕ → ℕ) (x : State) (l : IsLinked sum x) (now n : ℕ)
   says-wires : map wire_of (map C.PayloadData cs) ≡ map wire_data (map (chunk_at v) places)
   says-wires = wires-of cs ∙ ap (map data_chunk) (fills.says ∙ ap (λ y. map (λ p. data_of (chunk_at y p)) places) only) ∙ wires-at v places
 
-  pub fits-each : AllByRecursion HasText (map wire_of (map C.PayloadData (chunks_taken x.world.setup.limit x.next_tsn x.outbound.pending)))
-  fits-each = subst (AllByRecursion HasText) (sym says-wires) (texts-at v places l.setup.size)
+  pub fits-each : AllByRecursion HasEncoding (map wire_of (map C.PayloadData (chunks_taken x.world.setup.limit x.next_tsn x.outbound.pending)))
+  fits-each = subst (AllByRecursion HasEncoding) (sym says-wires) (encodings-at v places l.setup.size)
 
   pub canonical-each : AllByRecursion Canonical (map wire_of (map C.PayloadData (chunks_taken x.world.setup.limit x.next_tsn x.outbound.pending)))
   canonical-each = subst (AllByRecursion Canonical) (sym says-wires) (canonical-at v places)
 
-  pub says : (ks : List ChunkKind) (bytes : List ℕ) → ks ≡ map C.PayloadData cs → bytes ≡ packet_text sum (packet_with (map wire_of ks)) → ReadsPacket sum bytes (packet_with (map wire_of ks)) → IsDatagram sum (contents_of v (W.Data places)) bytes
-  says ks bytes is text reads =
+  pub says : (ks : List ChunkKind) (bytes : List ℕ) → ks ≡ map C.PayloadData cs → bytes ≡ packet_encoding sum (packet_with (map wire_of ks)) → ReadsPacket sum bytes (packet_with (map wire_of ks)) → IsDatagram sum (contents_of v (W.Data places)) bytes
+  says ks bytes is encoding reads =
       let e : map wire_of ks ≡ map wire_data (map (chunk_at v) places) = ap (map wire_of) is ∙ says-wires in
-      record { text = text ∙ ap (λ ws. packet_text sum (packet_with ws)) e; reads = subst (λ ws. ReadsPacket sum bytes (packet_with ws)) e reads }
+      record { encoding = encoding ∙ ap (λ ws. packet_encoding sum (packet_with ws)) e; reads = subst (λ ws. ReadsPacket sum bytes (packet_with ws)) e reads }
 
   quiet : Quiet w (sent w now)
   quiet = Moves.quiet-sent w.setup w now (front w) (facts sum x l).sane
@@ -204,7 +204,7 @@ module _ (sum : List ℕ → ℕ) (x : State) (l : IsLinked sum x) (now n : ℕ)
       ∙ ap (λ m. record u { slots = m; network = ns }) b
       ∙ ap (λ m. record u { slots = z.slots; network = m }) c
 
-  module _ (s : Sender) (b : Between x now (fragments_sent (started x.world now)) s) (bytes : List ℕ) (text : IsDatagram sum (contents_of v (W.Data places)) bytes) (count : length x.datagrams ≡ length x.world.network) where
+  module _ (s : Sender) (b : Between x now (fragments_sent (started x.world now)) s) (bytes : List ℕ) (encoding : IsDatagram sum (contents_of v (W.Data places)) bytes) (count : length x.datagrams ≡ length x.world.network) where
     shape-same : shape (fragments_sent (started x.world now)) ≡ shape v
     shape-same = ap shape only
 
@@ -215,16 +215,16 @@ module _ (sum : List ℕ → ℕ) (x : State) (l : IsLinked sum x) (now n : ℕ)
         subst (IsOpenStream v) (sym (b.streams k d lt))
         (stream-with w v y (begun_on z y.state.stream_identifier) (stream-kept y.state.stream_identifier) (ap (λ h. Begun.begun h y.state.stream_identifier) shape-same) (l.open_streams k d (omega (arith, lt, long))))
 
-    texts-sent : (k : ℕ) (d : List ℕ) (g : W.Datagram) → slice_get v.network k ≡ Some g → IsDatagram sum (contents_of v g) (slice_index_or (x.datagrams ++ bytes ∷ []) k d)
-    texts-sent =
+    encodings-sent : (k : ℕ) (d : List ℕ) (g : W.Datagram) → slice_get v.network k ≡ Some g → IsDatagram sum (contents_of v g) (slice_index_or (x.datagrams ++ bytes ∷ []) k d)
+    encodings-sent =
         subst (λ y. (k : ℕ) (d : List ℕ) (g : W.Datagram) → slice_get y.network k ≡ Some g → IsDatagram sum (contents_of y g) (slice_index_or (x.datagrams ++ bytes ∷ []) k d)) sent-moves
-        (texts-more sum x l (E.Send now) refl (W.Data places) bytes (ap (λ (y : World). y.network) sent-moves) count (subst (λ y. IsDatagram sum (contents_of y (W.Data places)) bytes) (sym sent-moves) text))
+        (encodings-more sum x l (E.Send now) refl (W.Data places) bytes (ap (λ (y : World). y.network) sent-moves) count (subst (λ y. IsDatagram sum (contents_of y (W.Data places)) bytes) (sym sent-moves) encoding))
 
     indexed-sent : Indexed (shape v) (index_kept (map progress_of s.messages))
     indexed-sent = subst (λ h. Indexed h (index_kept (map progress_of s.messages))) shape-same b.indexed
 
-    outbound-sent : TiedOutbound v s.outbound
-    outbound-sent = let r : World = record u { slots = z.slots } in outbound-same r v (same-self r v refl refl refl refl) s.outbound (subst (λ y. TiedOutbound y s.outbound) only b.outbound)
+    outbound-sent : RefinesOutbound v s.outbound
+    outbound-sent = let r : World = record u { slots = z.slots } in outbound-same r v (same-self r v refl refl refl refl) s.outbound (subst (λ y. RefinesOutbound y s.outbound) only b.outbound)
 
     pub linked-send : IsLinked sum (record x { world = v; open_streams = s.streams; progress = map progress_of s.messages; unstarted = length x.world.messages; datagrams = x.datagrams ++ bytes ∷ []; outbound = s.outbound; next_tsn = s.next_tsn })
     linked-send = record {
@@ -243,5 +243,5 @@ module _ (sum : List ℕ → ℕ) (x : State) (l : IsLinked sum x) (now n : ℕ)
       low = indexed-sent.low;
       open_streams = stream-sent;
       apart = subst IsApart (sym b.numbers) l.apart;
-      texts = texts-sent;
+      encodings = encodings-sent;
     }

@@ -2,15 +2,15 @@
 use Rattle.std.proofs.Common.{◌≡◌, ℕ, ◌<◌, List, [], ◌∷◌, ◌++◌, length, map, Some, ap, sym, ◌∙◌, arith}
 use Rattle.std.specs.List.{AllByRecursion}
 use Rattle.std.proofs.Math.Path.{subst}
-use Rattle.sctp_lists.specs.Kept.{numbers_from}
-use Rattle.sctp_lists.proofs.Getting.{length-mapped}
+use Rattle.sctp_list_lemmas.specs.Kept.{numbers_from}
+use Rattle.sctp_list_lemmas.proofs.Getting.{length-mapped}
 use Rattle.sctp_chunks.specs.declared.chunk.chunk_kind.ChunkKind.{ChunkKind}
 use Rattle.sctp_chunks.specs.declared.chunk.chunk_kind.ChunkKind.TheVariants as C
 use Rattle.sctp_chunks.specs.declared.chunk.chunk_payload_data.ChunkPayloadData.{ChunkPayloadData}
 use Rattle.sctp_chunks.specs.Kind.{wire_of}
-use Rattle.sctp_chunks.specs.Wire.{HasText}
+use Rattle.sctp_chunks.specs.Wire.{HasEncoding}
 use Rattle.sctp_chunks.specs.Fits.{Canonical}
-use Rattle.sctp_packets.specs.Packet.{ReadsPacket, packet_text}
+use Rattle.sctp_packets.specs.Packet.{ReadsPacket, packet_encoding}
 use Rattle.sctp_outbound.specs.pending_queue.PendingQueue.{peeked}
 use Rattle.sctp_outbound.specs.outbound_queue.OutboundQueue.{Outbound, all_started}
 use Rattle.sctp_model.specs.declared.event.Event.TheVariants as E
@@ -19,8 +19,8 @@ use Rattle.sctp_model.specs.World.{World}
 use Rattle.sctp_model.specs.World as W
 use Rattle.sctp_model.specs.Changes.{started, fragments_sent}
 use Rattle.sctp_model.specs.Steps.{IsRight}
-use Rattle.sctp_ties.specs.Filling.{chunks_taken}
-use Rattle.sctp_ties.proofs.sending.Filling.{Fills}
+use Rattle.sctp_refinement.specs.Filling.{chunks_taken}
+use Rattle.sctp_refinement.proofs.sending.FilledDatagrams.{Fills}
 use Rattle.sctp_link.specs.declared.record.Message.{Message}
 use Rattle.sctp_link.specs.declared.record.Slot.{Slot}
 use Rattle.sctp_link.specs.declared.record.Datagram.{Datagram}
@@ -28,10 +28,10 @@ use Rattle.sctp_link.specs.declared.record.Kind.{Kind}
 use Rattle.sctp_link.specs.Records.{message_record, progress_of, slot_record, kind_record, datagram_record, stream_record}
 use Rattle.sctp_link.specs.OpenStreams.{start_from}
 use Rattle.sctp_link.specs.Sends.{Sender, CanSend, Leave}
-use Rattle.sctp_link.specs.Texts.{packet_with}
+use Rattle.sctp_link.specs.Encodings.{packet_with}
 use Rattle.sctp_link.specs.Linked.{State, IsLinked}
 use Rattle.sctp_link.proofs.upkeep.Frames.{moved}
-use Rattle.sctp_link.proofs.sender.Between.{Between, tied-room, between-none, between-after, each-can}
+use Rattle.sctp_link.proofs.sender.Between.{Between, refines-room, between-none, between-after, each-can}
 use Rattle.sctp_link.proofs.sender.Outgoing.{network-more, bytes-more}
 use Rattle.sctp_link.proofs.sender.Sending
 use Rattle.sctp_link.proofs.sender.Sending.{Next, next-is}
@@ -49,8 +49,8 @@ module _ (sum : List ℕ → ℕ) (x : State) (l : IsLinked sum x) (now : ℕ) (
   pub count-is : (ks : List ChunkKind) → ks ≡ map C.PayloadData (chunks_taken x.world.setup.limit x.next_tsn x.outbound.pending) → length ks ≡ length (chunks_taken x.world.setup.limit x.next_tsn x.outbound.pending)
   count-is ks is = ap length is ∙ length-mapped C.PayloadData (chunks_taken x.world.setup.limit x.next_tsn x.outbound.pending)
 
-  pub texts-each : (ks : List ChunkKind) → ks ≡ map C.PayloadData (chunks_taken x.world.setup.limit x.next_tsn x.outbound.pending) → AllByRecursion HasText (map wire_of ks)
-  texts-each ks is = subst (λ l. AllByRecursion HasText (map wire_of l)) (sym is) (Sending.fits-each sum x l now c.message_id next.front)
+  pub encodings-each : (ks : List ChunkKind) → ks ≡ map C.PayloadData (chunks_taken x.world.setup.limit x.next_tsn x.outbound.pending) → AllByRecursion HasEncoding (map wire_of ks)
+  encodings-each ks is = subst (λ l. AllByRecursion HasEncoding (map wire_of l)) (sym is) (Sending.fits-each sum x l now c.message_id next.front)
 
   pub canonical-each : (ks : List ChunkKind) → ks ≡ map C.PayloadData (chunks_taken x.world.setup.limit x.next_tsn x.outbound.pending) → AllByRecursion Canonical (map wire_of ks)
   canonical-each ks is = subst (λ l. AllByRecursion Canonical (map wire_of l)) (sym is) (Sending.canonical-each sum x l now c.message_id next.front)
@@ -59,7 +59,7 @@ module _ (sum : List ℕ → ℕ) (x : State) (l : IsLinked sum x) (now : ℕ) (
 
   module _ (ms : List Message) (slots : List Slot) (streams : x.world.streams ≡ map stream_record x.open_streams) (em : x.world.messages ≡ map message_record ms) (es : x.progress ≡ map progress_of ms) (ew : x.world.slots ≡ map slot_record slots) (s : Sender) (q : Outbound) (room : ℕ) (eq : q ≡ record x.outbound { inflight = record x.outbound.inflight { room = room } }) (out : s.outbound ≡ all_started now q) (is : s.messages ≡ start_from x.unstarted now ms) (opened : s.streams ≡ x.open_streams) (given : s.slots ≡ slots) (tsn : s.next_tsn ≡ x.next_tsn) where
     base : Between x now (started x.world now) s
-    base = between-none sum x l now ms em es s q (tied-room x.world x.outbound q room eq l.outbound) out is opened streams (ew ∙ ap (map slot_record) (sym given)) tsn
+    base = between-none sum x l now ms em es s q (refines-room x.world x.outbound q room eq l.outbound) out is opened streams (ew ∙ ap (map slot_record) (sym given)) tsn
 
     fills : Fills (started x.world now) (fragments_sent (started x.world now)) (chunks_taken x.world.setup.limit x.next_tsn x.outbound.pending)
     fills = Sending.fills sum x l now c.message_id next.front
@@ -92,12 +92,12 @@ module _ (sum : List ℕ → ℕ) (x : State) (l : IsLinked sum x) (now : ℕ) (
             (subst (λ k. IsRight x.world (E.Send now) (R.Sent (length x.world.network) x.next_tsn ssn k) (Sending.v sum x l now c.message_id next.front)) (sym ec)
             (Sending.send-right sum x l now c.message_id next.front ssn (ess ∙ ap (λ (d : ChunkPayloadData). d.stream_sequence_number) next.is))))
 
-        pub linked-sent : (ks : List ChunkKind) → ks ≡ map C.PayloadData (chunks_taken x.world.setup.limit x.next_tsn x.outbound.pending) → bytes ≡ packet_text sum (packet_with (map wire_of ks)) → ReadsPacket sum bytes (packet_with (map wire_of ks)) → x.datagrams ≡ map (λ g. g.bytes) ds → (unstarted : ℕ) → unstarted ≡ length ms → (acked : ℕ) → acked ≡ x.acked_tsn
+        pub linked-sent : (ks : List ChunkKind) → ks ≡ map C.PayloadData (chunks_taken x.world.setup.limit x.next_tsn x.outbound.pending) → bytes ≡ packet_encoding sum (packet_with (map wire_of ks)) → ReadsPacket sum bytes (packet_with (map wire_of ks)) → x.datagrams ≡ map (λ g. g.bytes) ds → (unstarted : ℕ) → unstarted ≡ length ms → (acked : ℕ) → acked ≡ x.acked_tsn
             → IsLinked sum (record x { world = record x.world { streams = map stream_record t.streams; messages = map message_record ms'; slots = map slot_record t.slots; network = map datagram_record ds' }; open_streams = t.streams; progress = map progress_of ms'; unstarted = unstarted; datagrams = map (λ g. g.bytes) ds'; outbound = t.outbound; next_tsn = t.next_tsn; acked_tsn = acked })
-        linked-sent ks eks text reads eb unstarted eu acked ea =
+        linked-sent ks eks encoding reads eb unstarted eu acked ea =
             let v = Sending.v sum x l now c.message_id next.front in
             let len : length x.datagrams ≡ length x.world.network = ap length eb ∙ length-mapped (λ (g : Datagram). g.bytes) ds ∙ sym (ap length en ∙ length-mapped datagram_record ds) in
-            let whole = Sending.linked-send sum x l now c.message_id next.front t gone bytes (Sending.says sum x l now c.message_id next.front ks bytes eks text reads) len in
+            let whole = Sending.linked-send sum x l now c.message_id next.front t gone bytes (Sending.says sum x l now c.message_id next.front ks bytes eks encoding reads) len in
             subst (λ a. IsLinked sum (record x { world = record x.world { streams = map stream_record t.streams; messages = map message_record ms'; slots = map slot_record t.slots; network = map datagram_record ds' }; open_streams = t.streams; progress = map progress_of ms'; unstarted = unstarted; datagrams = map (λ g. g.bytes) ds'; outbound = t.outbound; next_tsn = t.next_tsn; acked_tsn = a })) (sym ea)
             (moved sum (record x { world = record x.world { streams = map stream_record t.streams; messages = map message_record ms'; slots = map slot_record t.slots; network = map datagram_record ds' }; open_streams = t.streams; progress = map progress_of ms'; unstarted = unstarted; datagrams = map (λ g. g.bytes) ds'; outbound = t.outbound; next_tsn = t.next_tsn }) v world-sent
             (subst (λ a. IsLinked sum (record x { world = v; open_streams = t.streams; progress = map progress_of a; unstarted = unstarted; datagrams = map (λ g. g.bytes) ds'; outbound = t.outbound; next_tsn = t.next_tsn })) (sym em')

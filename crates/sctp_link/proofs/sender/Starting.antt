@@ -3,22 +3,22 @@ use Rattle.std.proofs.Common.{◌≡◌, ℕ, zero, suc, ◌<◌, ◌≤◌, tru
 use Rattle.std.specs.Prelude.{slice_index_or, is_some, not, nat_le}
 use Rattle.std.proofs.Math.Path.{subst}
 use Rattle.std.proofs.lemmas.Bool.Decides.{nat_tests}
-use Rattle.sctp_lists.proofs.Getting.{length-mapped}
+use Rattle.sctp_list_lemmas.proofs.Getting.{length-mapped}
 use Rattle.sctp_outbound.specs.outbound_queue.OutboundQueue.{Outbound, all_started}
 use Rattle.sctp_model.specs.declared.event.Event.TheVariants as E
 use Rattle.sctp_model.specs.Messages.{no_message, ordered_before}
 use Rattle.sctp_model.specs.Changes.{started, start_at}
 use Rattle.sctp_model.specs.Steps.{reply_to}
 use Rattle.sctp_model.proofs.sender.Moves
-use Rattle.sctp_ties.proofs.sending.LifetimesStart.{tied-started}
-use Rattle.sctp_ties.proofs.sending.Fragments.{all-begun}
-use Rattle.sctp_ties.proofs.sending.InLine.{before-started}
+use Rattle.sctp_refinement.proofs.sending.LifetimesStart.{refines-started}
+use Rattle.sctp_refinement.proofs.sending.Fragments.{all-begun}
+use Rattle.sctp_refinement.proofs.sending.InLine.{before-started}
 use Rattle.sctp_link.specs.declared.record.Message.{Message}
 use Rattle.sctp_link.specs.Records.{message_record, progress_of}
 use Rattle.sctp_link.specs.OpenStreams.{with_start, start_from}
 use Rattle.sctp_link.specs.Linked.{State, IsLinked}
 use Rattle.sctp_link.proofs.upkeep.Facts.{stands-then}
-use Rattle.sctp_link.proofs.upkeep.Frames.{stream-same, stream-quiet, begun-kept, indexed-kept, texts-same, fragments-same, written-kept}
+use Rattle.sctp_link.proofs.upkeep.Frames.{stream-same, stream-quiet, begun-kept, indexed-kept, encodings-same, fragments-same, written-kept}
 
 -- ## The messages
 
@@ -78,7 +78,7 @@ module _ (sum : List ℕ → ℕ) (x : State) (l : IsLinked sum x) (now : ℕ) w
     setup = l.setup;
     history = (E.Start now, reply_to x.world (E.Start now)) ∷ l.history;
     stands = stands-then x.world.setup x.world l.history (E.Start now) refl l.stands;
-    outbound = tied-started x.world now x.outbound l.outbound;
+    outbound = refines-started x.world now x.outbound l.outbound;
     unstarted = sym (all-begun x.world now x.outbound l.outbound);
     filter = l.filter;
     next = l.next;
@@ -93,7 +93,7 @@ module _ (sum : List ℕ → ℕ) (x : State) (l : IsLinked sum x) (now : ℕ) w
         (λ s. ap (ordered_before (started x.world now) s) (length-mapped (start_at now) x.world.messages) ∙ before-started x.world now s (length x.world.messages)) (slice_index_or x.open_streams k d).state.stream_identifier)
         (begun-kept sum x l (E.Start now) refl tt (slice_index_or x.open_streams k d).state.stream_identifier) (l.open_streams k d lt);
     apart = l.apart;
-    texts = texts-same sum x l (E.Start now) refl refl;
+    encodings = encodings-same sum x l (E.Start now) refl refl;
   }
 
 -- the record and what stands beside it, where the messages are those that started

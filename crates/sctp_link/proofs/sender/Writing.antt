@@ -5,10 +5,10 @@ use Rattle.std.specs.Option.{option_map}
 use Rattle.std.proofs.Math.Path.{subst}
 use Rattle.std.proofs.lemmas.List.{map-append, length-set}
 use Rattle.std.proofs.lemmas.Bool.Decides.{nat_tests}
-use Rattle.sctp_lists.specs.Kept.{numbers_from}
-use Rattle.sctp_lists.specs.Lists.{pieces}
-use Rattle.sctp_lists.proofs.Cases.{by_last, same-yes, same-is}
-use Rattle.sctp_lists.proofs.More.{fails}
+use Rattle.sctp_list_lemmas.specs.Kept.{numbers_from}
+use Rattle.sctp_list_lemmas.specs.Lists.{pieces}
+use Rattle.sctp_list_lemmas.proofs.Cases.{by_last, same-yes, same-is}
+use Rattle.sctp_list_lemmas.proofs.More.{fails}
 use Rattle.sctp_chunks.specs.declared.chunk.chunk_payload_data.ChunkPayloadData.{ChunkPayloadData}
 use Rattle.sctp_chunks.specs.declared.chunk.chunk_payload_data.PayloadProtocolIdentifier.{PayloadProtocolIdentifier}
 use Rattle.sctp_chunks.specs.declared.chunk.chunk_payload_data.PayloadProtocolIdentifier.TheVariants.{Dcep, String, Binary, StringEmpty, BinaryEmpty, Unknown}
@@ -23,17 +23,17 @@ use Rattle.sctp_model.specs.Changes.{wrote, message_on}
 use Rattle.sctp_model.specs.Steps.{refusal_of, reply_to, fragments_accepted, fragments_in}
 use Rattle.sctp_model.proofs.sender.Shape.{shape}
 use Rattle.sctp_model.proofs.sender.SenderRun.{Sane, sane-after}
-use Rattle.sctp_ties.proofs.sending.Begun.{Indexed}
+use Rattle.sctp_refinement.proofs.sending.Begun.{Indexed}
 use Rattle.sctp_model.proofs.sender.Moves
-use Rattle.sctp_ties.specs.Tied.{TiedOutbound}
-use Rattle.sctp_ties.specs.Amount.{amount}
-use Rattle.sctp_ties.specs.Counts.{counters_on, counted_as, sent_more}
-use Rattle.sctp_ties.proofs.sending.Written
-use Rattle.sctp_ties.proofs.sending.InLine
-use Rattle.sctp_ties.proofs.amounts.MessageSums.{sum-written}
-use Rattle.sctp_ties.proofs.amounts.StreamAmounts.{amount-wrote}
-use Rattle.sctp_ties.proofs.amounts.StreamCounters.{written-wrote, counters-wrote}
-use Rattle.sctp_lists.specs.Lists.{change_where}
+use Rattle.sctp_refinement.specs.Refines.{RefinesOutbound}
+use Rattle.sctp_refinement.specs.Amount.{amount}
+use Rattle.sctp_refinement.specs.Counts.{counters_on, counted_as, sent_more}
+use Rattle.sctp_refinement.proofs.sending.Written
+use Rattle.sctp_refinement.proofs.sending.InLine
+use Rattle.sctp_refinement.proofs.amounts.MessageSums.{sum-written}
+use Rattle.sctp_refinement.proofs.amounts.StreamAmounts.{amount-wrote}
+use Rattle.sctp_refinement.proofs.amounts.StreamCounters.{written-wrote, counters-wrote}
+use Rattle.sctp_list_lemmas.specs.Lists.{change_where}
 use Rattle.sctp_transfer.specs.Outgoing.{fragments_with_mode, with_reliability}
 use Rattle.sctp_halves.specs.Streams.{OpenStream, both_ways, has_number, is_ordered, written_of, wrote_to}
 use Rattle.sctp_link.specs.declared.record.Message.{Message}
@@ -44,12 +44,12 @@ use Rattle.sctp_link.specs.OpenStreams.{message_with}
 use Rattle.sctp_link.specs.Linked.{State, IsOpenStream, IsLinked, stats_of}
 use Rattle.sctp_stream.specs.declared.stream.DataChannelStats.{DataChannelStats}
 use Rattle.sctp_link.proofs.upkeep.Facts.{Facts, facts, stands-then}
-use Rattle.sctp_link.proofs.upkeep.Frames.{stream-same, begun-kept, indexed-kept, held-quiet, next-kept, texts-same}
+use Rattle.sctp_link.proofs.upkeep.Frames.{stream-same, begun-kept, indexed-kept, held-quiet, next-kept, encodings-same}
 use Rattle.sctp_link.proofs.sender.Beginning.{index_kept, progress-more}
 use Rattle.sctp_link.proofs.upkeep.Bounds.{written-few, amount-few}
 use Rattle.sctp_link.proofs.sender.Fragmented.{ordered-same, all-wait}
 use Rattle.sctp_link.proofs.upkeep.ChangedStreams.{fields-same, each-changed}
-use Rattle.sctp_link.proofs.upkeep.Places.{placed, only-found, apart-changed}
+use Rattle.sctp_link.proofs.upkeep.StreamPlaces.{placed, only-found, apart-changed}
 use Rattle.sctp_link.proofs.upkeep.Apart.{stream-found, number-found}
 
 -- ## Numbers
@@ -196,14 +196,14 @@ module _ (sum : List ℕ → ℕ) (x : State) (l : IsLinked sum x) (s : ℕ) (pp
     abbrev frags : List ChunkPayloadData
     frags = fragments_with_mode m.state ppi bytes
 
-    outbound-wrote : (q : Outbound) → TiedOutbound w q → TiedOutbound v (with_message frags q)
+    outbound-wrote : (q : Outbound) → RefinesOutbound w q → RefinesOutbound v (with_message frags q)
     outbound-wrote q t =
         let mode : ChunkPayloadData → ChunkPayloadData = with_reliability m.state.reliability_type m.state.reliability_value in
         let known = f.sane.sender.made in
         let r = stream_of w s in
         let waits = all-wait w m.state r ppi bytes (ap (λ (r : StreamRecord). r.stream) stream-is) (ap (λ (r : StreamRecord). r.unordered) stream-is) (ap (λ (r : StreamRecord). r.reliability) stream-is) (ap (λ (r : StreamRecord). r.value) stream-is) i.size
         (i.number ∙ ap (λ k. k % 2 ^ 16) (i.ordered ∙ ap (λ (r : StreamRecord). ordered_before w r.stream (length w.messages)) (sym stream-is))) known in
-        Written.tied-written w msg known q (mode (stream.fragment_at m.state ppi bytes 0)) (map mode (map (stream.fragment_at m.state ppi bytes) (numbers_from 1 (length (pieces (length bs) m.state.max_payload_size (drop m.state.max_payload_size bytes)))))) refl refl refl (ap not (ordered-same m.state.unordered ppi ∙ ap (λ (r : StreamRecord). is_dcep ppi || not r.unordered) (sym stream-is))) waits t
+        Written.refines-written w msg known q (mode (stream.fragment_at m.state ppi bytes 0)) (map mode (map (stream.fragment_at m.state ppi bytes) (numbers_from 1 (length (pieces (length bs) m.state.max_payload_size (drop m.state.max_payload_size bytes)))))) refl refl refl (ap not (ordered-same m.state.unordered ppi ∙ ap (λ (r : StreamRecord). is_dcep ppi || not r.unordered) (sym stream-is))) waits t
 
     -- ## The counts
 
@@ -250,7 +250,7 @@ module _ (sum : List ℕ → ℕ) (x : State) (l : IsLinked sum x) (s : ℕ) (pp
           (λ k d lt e. subst (λ t. IsOpenStream v (wrote_to ppi bytes t)) (sym (alone k d lt e)) written-stream)
           (λ k d lt ne. other (slice_index_or x.open_streams k d) ne (l.open_streams k d lt));
       apart = apart-changed s (wrote_to ppi bytes) x.open_streams (λ t. refl) l.apart;
-      texts = texts-same sum x l (E.Write s ppi bytes) ok refl;
+      encodings = encodings-same sum x l (E.Write s ppi bytes) ok refl;
     }
       where
         alone : (k : ℕ) (d : OpenStream) → k < length x.open_streams → (slice_index_or x.open_streams k d).state.stream_identifier ≡ s → slice_index_or x.open_streams k d ≡ m

@@ -4,11 +4,11 @@ use Rattle.std.specs.Prelude.{◌==◌, ◌||◌, not, if◌then◌else◌, nat_
 use Rattle.std.proofs.Math.Path.{subst}
 use Rattle.std.proofs.lemmas.List.{map-append}
 use Rattle.std.proofs.lemmas.Bool.Decides.{nat_tests}
-use Rattle.sctp_lists.specs.Lists.{pieces}
-use Rattle.sctp_lists.specs.Kept.{numbers_from}
-use Rattle.sctp_lists.proofs.Getting.{length-mapped}
-use Rattle.sctp_lists.proofs.Totals.{length-numbers}
-use Rattle.sctp_lists.proofs.KeptLemmas.{length-kept-le}
+use Rattle.sctp_list_lemmas.specs.Lists.{pieces}
+use Rattle.sctp_list_lemmas.specs.Kept.{numbers_from}
+use Rattle.sctp_list_lemmas.proofs.Getting.{length-mapped}
+use Rattle.sctp_list_lemmas.proofs.Totals.{length-numbers}
+use Rattle.sctp_list_lemmas.proofs.Passing.{length-kept-le}
 use Rattle.sctp_chunks.specs.declared.chunk.chunk_payload_data.ChunkPayloadData.{ChunkPayloadData}
 use Rattle.sctp_chunks.specs.declared.chunk.chunk_payload_data.PayloadProtocolIdentifier.{PayloadProtocolIdentifier}
 use Rattle.sctp_outbound.specs.pending_queue.PendingQueue.{reserved, room_for}
@@ -24,15 +24,15 @@ use Rattle.sctp_model.specs.Changes.{wrote}
 use Rattle.sctp_model.specs.Steps.{refusal_of, unless, IsRight, fragments_in, fragments_accepted}
 use Rattle.sctp_model.proofs.sender.SenderRun.{unless-holds}
 use Rattle.sctp_model.specs.Messages as M
-use Rattle.sctp_ties.specs.Tied.{TiedOutbound}
-use Rattle.sctp_ties.proofs.amounts.StreamAmounts.{write-open}
-use Rattle.sctp_lists.specs.Lists.{change_where}
+use Rattle.sctp_refinement.specs.Refines.{RefinesOutbound}
+use Rattle.sctp_refinement.proofs.amounts.StreamAmounts.{write-open}
+use Rattle.sctp_list_lemmas.specs.Lists.{change_where}
 use Rattle.sctp_transfer.specs.Outgoing as Outgoing
 use Rattle.sctp_transfer.specs.Outgoing.{fragments_with_mode}
 use Rattle.sctp_transfer.specs.Sender.{Transmission, is_full_of, write_refusal}
 use Rattle.sctp_transfer.proofs.SenderStreams
 use Rattle.sctp_halves.specs.Streams.{OpenStream, has_number, written_of, wrote_to}
-use Rattle.sctp_link.proofs.upkeep.Places.{placed}
+use Rattle.sctp_link.proofs.upkeep.StreamPlaces.{placed}
 use Rattle.sctp_link.specs.declared.record.Message.{Message}
 use Rattle.sctp_link.specs.Records.{stream_record, message_record, progress_of}
 use Rattle.sctp_stream.specs.Stream as stream

@@ -1,9 +1,9 @@
 -- The names of a FORWARD-TSN that arrives, one after another: what they have for a stream, and what becomes of its queue.
 use Rattle.std.proofs.Common.{◌≡◌, ℕ, ◌≤◌, ◌^◌, ◌%◌, Bool, true, false, List, [], ◌∷◌, map, Some, None, refl, ap, sym, ◌∙◌}
 use Rattle.std.specs.Prelude.{if◌then◌else◌, ◌==◌, ◌&&◌, not, is_some, slice_get}
-use Rattle.sctp_lists.specs.Lists.{those}
-use Rattle.sctp_lists.proofs.Cases.{same-yes, same-is}
-use Rattle.sctp_lists.proofs.More.{same_test}
+use Rattle.sctp_list_lemmas.specs.Lists.{those}
+use Rattle.sctp_list_lemmas.proofs.Cases.{same-yes, same-is}
+use Rattle.sctp_list_lemmas.proofs.More.{same_test}
 use Rattle.sctp_chunks.specs.declared.chunk.chunk_forward_tsn.ChunkForwardTsnStream.{ChunkForwardTsnStream}
 use Rattle.sctp_reassembly.specs.reassembly_queue.ReassemblyQueue.{ReassemblyState, after_ordered_skip, held_after_ordered_skips}
 use Rattle.sctp_model.specs.declared.event.Event.TheVariants as E
@@ -16,16 +16,16 @@ use Rattle.sctp_model.proofs.sender.Shape.{shape}
 use Rattle.sctp_model.proofs.sender.Sender.{Sender}
 use Rattle.sctp_model.proofs.sender.Slots.{sent-alive}
 use Rattle.sctp_model.proofs.sender.Network.{IsNamable, NamesFit}
-use Rattle.sctp_ties.specs.Holds.{reassembly_of}
-use Rattle.sctp_ties.specs.Naming.{on_stream, end_named}
-use Rattle.sctp_ties.proofs.skipping.SkipSpans.{gone_forward}
-use Rattle.sctp_ties.proofs.skipping.SkipsInTurn.{skips-in-turn}
+use Rattle.sctp_refinement.specs.Holds.{reassembly_of}
+use Rattle.sctp_refinement.specs.Naming.{on_stream, end_named}
+use Rattle.sctp_refinement.proofs.skipping.SkipSpans.{gone_forward}
+use Rattle.sctp_refinement.proofs.skipping.SkipsInTurn.{skips-in-turn}
 use Rattle.sctp_transfer.specs.Inbound.{ssns_of, skipped_each}
 use Rattle.sctp_link.specs.declared.record.Message.{Message}
 use Rattle.sctp_link.specs.Linked.{State, IsLinked}
 use Rattle.sctp_link.specs.Records.{message_record, progress_of}
 use Rattle.sctp_link.specs.Skips.{index_in, message_in, pair_in}
-use Rattle.sctp_link.specs.Texts.{name_with}
+use Rattle.sctp_link.specs.Encodings.{name_with}
 use Rattle.sctp_link.proofs.upkeep.Facts.{facts}
 use Rattle.sctp_link.proofs.skipping.SkipComes.{index-is, skips-in, spans}
 
@@ -108,4 +108,4 @@ module _ (sum : List ℕ → ℕ) (x : State) (l : IsLinked sum x) (k upto : ℕ
       held-each (ssns_of s (pairs_of w names)) q
       ∙ ap (λ is. held_after_ordered_skips is q.held) ssns
       ∙ ap (held_after_ordered_skips (map (λ n. index_of w n % 2 ^ 16) (on_stream w s names))) held
-      ∙ skips-in-turn w s upto names r f.sound.sound skips.made counts o sp.0 sp.1
+      ∙ skips-in-turn w s upto names r f.valid.valid skips.made counts o sp.0 sp.1

@@ -4,9 +4,9 @@ use Rattle.std.specs.Prelude.{if◌then◌else◌, ◌==◌, ◌&&◌, min, max,
 use Rattle.std.specs.List.{list_all}
 use Rattle.std.proofs.Math.Path.{subst}
 use Rattle.std.proofs.lemmas.Bool.Decides.{nat_tests}
-use Rattle.sctp_lists.specs.Kept.{passing}
-use Rattle.sctp_lists.proofs.Cases.{same-yes}
-use Rattle.sctp_lists.proofs.More.{and, both, same_test}
+use Rattle.sctp_list_lemmas.specs.Kept.{passing}
+use Rattle.sctp_list_lemmas.proofs.Cases.{same-yes}
+use Rattle.sctp_list_lemmas.proofs.More.{and, both, same_test}
 use Rattle.sctp_chunks.specs.ChunkSet.{ChunkSet}
 use Rattle.sctp_chunks.specs.Wire.{forward_tsn_chunk}
 use Rattle.sctp_packets.specs.Packet.{ReadsPacket}
@@ -19,17 +19,17 @@ use Rattle.sctp_model.specs.Receiver.{cumulative, next_of, is_held, is_whole, he
 use Rattle.sctp_model.specs.Changes.{datagram_received}
 use Rattle.sctp_model.specs.Queues.{set_of}
 use Rattle.sctp_model.specs.Steps.{refusal_of, arrival_fits}
-use Rattle.sctp_model.specs.Sound.{IsSpan}
+use Rattle.sctp_model.specs.Valid.{IsSpan}
 use Rattle.sctp_model.proofs.sender.Shape.{shape}
 use Rattle.sctp_model.proofs.sender.Network.{IsNamable, NamesFit, fit-at}
-use Rattle.sctp_model.proofs.receiver.SoundRun.{skips_come_sound}
-use Rattle.sctp_ties.specs.Naming.{on_stream, low_named, end_named, lowest_held, highest_held, whole_first, min_with, names_fit}
-use Rattle.sctp_ties.proofs.arriving.Arrival
-use Rattle.sctp_ties.proofs.reading.Line
-use Rattle.sctp_ties.proofs.reading.Taken
-use Rattle.sctp_ties.proofs.skipping.SkipStep.{with_skip, skip-step}
-use Rattle.sctp_ties.proofs.skipping.SkipSpans.{fits-both, skip-fits, next-short, least-start}
-use Rattle.sctp_ties.proofs.arriving.SpanEnds.{sets-held}
+use Rattle.sctp_model.proofs.receiver.ValidRun.{skips_come_valid}
+use Rattle.sctp_refinement.specs.Naming.{on_stream, low_named, end_named, lowest_held, highest_held, whole_first, min_with, names_fit}
+use Rattle.sctp_refinement.proofs.arriving.Arrival
+use Rattle.sctp_refinement.proofs.reading.Line
+use Rattle.sctp_refinement.proofs.reading.Taken
+use Rattle.sctp_refinement.proofs.skipping.SkipStep.{with_skip, skip-step}
+use Rattle.sctp_refinement.proofs.skipping.SkipSpans.{fits-both, skip-fits, next-short, least-start}
+use Rattle.sctp_refinement.proofs.arriving.SpanEnds.{sets-held}
 use Rattle.sctp_halves.specs.Streams.{OpenStream, has_number}
 use Rattle.sctp_link.specs.declared.skipped.Named.{Named}
 use Rattle.sctp_link.specs.declared.record.Message.{Message}
@@ -37,7 +37,7 @@ use Rattle.sctp_link.specs.declared.record.Datagram.{Datagram}
 use Rattle.sctp_link.specs.Linked.{State, IsLinked}
 use Rattle.sctp_link.specs.Records.{message_record, progress_of, stream_record, datagram_record, kind_record}
 use Rattle.sctp_link.specs.Skips.{index_in, is_on, named_from, none_named, wire_skip}
-use Rattle.sctp_link.specs.Texts.{packet_with}
+use Rattle.sctp_link.specs.Encodings.{packet_with}
 use Rattle.sctp_link.proofs.upkeep.Bounds.{messages-few}
 use Rattle.sctp_link.proofs.receiver.Comes.{made-at}
 use Rattle.sctp_link.proofs.upkeep.Facts.{facts, over}
@@ -103,7 +103,7 @@ first-at w s some = by (held_on w s) some
 pub whole-set : (sum : List ℕ → ℕ) (x : State) (l : IsLinked sum x) (s n : ℕ) (set : ChunkSet) → is_held x.world s n ≡ true → set ≡ set_of x.world n → is_complete set.chunks ≡ is_whole x.world n
 whole-set sum x l s n set h e =
     let on = (Taken.held x.world s n h).on in
-    ap (λ (q : ChunkSet). is_complete q.chunks) e ∙ Arrival.complete_is_whole x.world n (facts sum x l).sound.sound (Line.on-made x.world s n on) ∙ sym (Taken.whole-ordered x.world s n on)
+    ap (λ (q : ChunkSet). is_complete q.chunks) e ∙ Arrival.complete_is_whole x.world n (facts sum x l).valid.valid (Line.on-made x.world s n on) ∙ sym (Taken.whole-ordered x.world s n on)
 
 -- a stream found at a place
 module _ (sum : List ℕ → ℕ) (x : State) (l : IsLinked sum x) (at s : ℕ) (d : OpenStream) (lt : at < length x.open_streams) (found : find (has_number s) x.open_streams ≡ Some (slice_index_or x.open_streams at d)) where
@@ -141,7 +141,7 @@ first-over w s a = by (held_on w s)
 pub lowest-short : (sum : List ℕ → ℕ) (x : State) → IsLinked sum x → (s : ℕ) → lowest_held x.world s < 2 ^ 31
 lowest-short sum x l s =
     let f = facts sum x l in
-    omega (arith, next-short x.world s f.sound.sound, least-start x.world s, messages-few x.world.setup x.world f.sane)
+    omega (arith, next-short x.world s f.valid.valid, least-start x.world s, messages-few x.world.setup x.world f.sane)
 
 -- the code's test against the one of the record
 pub record Judged (w : World) (s : ℕ) (names : List ℕ) (lo hi : ℕ) (nm : Named) : Type 0 where
@@ -213,7 +213,7 @@ skips-in sum x l k upto names e =
 pub stream-fits : (sum : List ℕ → ℕ) (x : State) (l : IsLinked sum x) (s upto : ℕ) (names : List ℕ) (r : StreamRecord) → stream_at x.world s ≡ Some r → (fits x.world (map (index_of x.world) (on_stream x.world s names)) s && fits (with_skip x.world upto names) (map (index_of x.world) (on_stream x.world s names)) s) ≡ names_fit x.world s names
 stream-fits sum x l s upto names r e =
     let f = facts sum x l in
-    fits-both x.world s upto names r f.sound.sound e (messages-few x.world.setup x.world f.sane)
+    fits-both x.world s upto names r f.valid.valid e (messages-few x.world.setup x.world f.sane)
 
 -- all of them
 pub all-fit : (sum : List ℕ → ℕ) (x : State) (l : IsLinked sum x) (upto : ℕ) (names : List ℕ) → cumulative x.world ≤ upto → list_all (λ r. names_fit x.world r.stream names) x.world.streams ≡ arrival_fits x.world (Some (Forward upto names))
@@ -226,7 +226,7 @@ all-fit sum x l upto names counts =
 pub reads-skip : (sum : List ℕ → ℕ) (x : State) (k upto : ℕ) (names : List ℕ) (ds : List Datagram) (y : Datagram) → IsLinked sum x → x.world.network ≡ map datagram_record ds → x.datagrams ≡ map (λ d. d.bytes) ds → slice_get x.world.network k ≡ Some (Forward upto names) → y ≡ slice_index_or ds k y → ReadsPacket sum y.bytes (packet_with (forward_tsn_chunk (wire_skip x.world upto names) ∷ []))
 reads-skip sum x k upto names ds y l network same e is =
     let lt : k < length ds = omega (arith, made-at x.world.network k (Forward upto names) e, ap length network, raw-length datagram_record ds) in
-    let t = l.texts k y.bytes (Forward upto names) e in
+    let t = l.encodings k y.bytes (Forward upto names) e in
     let bytes : slice_index_or x.datagrams k y.bytes ≡ y.bytes = ap (λ bs. slice_index_or bs k y.bytes) same ∙ raw-at (λ d. d.bytes) ds k y.bytes y lt ∙ ap (λ (d : Datagram). d.bytes) (sym is) in
     subst (λ b. ReadsPacket sum b (packet_with (forward_tsn_chunk (wire_skip x.world upto names) ∷ []))) bytes t.reads
 
@@ -264,5 +264,5 @@ module _ (sum : List ℕ → ℕ) (x : State) (l : IsLinked sum x) (k upto : ℕ
   spans s o =
       let two =
       over sum x (λ (u : World). refusal_of u (E.Arrive k) ≡ None → slice_get u.network k ≡ Some (Forward upto names) → cumulative u ≤ upto → is_open u s ≡ true → IsSpan u s (map (index_of u) (passing (is_ordered_on u s) names)) × IsSpan (datagram_received u (Some (Forward upto names))) s (map (index_of u) (passing (is_ordered_on u s) names))) l
-      (λ a b c d. skips_come_sound w.setup l.history l.setup l.stands.run k upto names a b c s d) none e counts o in
+      (λ a b c d. skips_come_valid w.setup l.history l.setup l.stands.run k upto names a b c s d) none e counts o in
       (two.0, subst (λ (u : World). IsSpan u s (map (index_of w) (on_stream w s names))) (skip-step w upto names counts) two.1)

@@ -13,20 +13,20 @@ use Rattle.sctp_model.specs.Changes.{named_by, skip_received, datagram_received}
 use Rattle.sctp_model.specs.Queues.{filter_of}
 use Rattle.sctp_model.specs.Steps.{refusal_of, after}
 use Rattle.sctp_model.proofs.sender.Network
-use Rattle.sctp_ties.specs.Holds.{reassembly_of, seen_of}
-use Rattle.sctp_ties.specs.Naming.{on_stream, low_named, end_named}
-use Rattle.sctp_ties.specs.Counts.{counters_on}
-use Rattle.sctp_ties.proofs.arriving.Filter.{filter-skipped}
-use Rattle.sctp_ties.proofs.acknowledging.QuietSender
-use Rattle.sctp_ties.proofs.skipping.SkipStep.{with_skip, skip-step}
-use Rattle.sctp_ties.proofs.skipping.SkipSpans.{queue-skip, next-skip, named-from}
-use Rattle.sctp_ties.proofs.amounts.StreamCounters.{counters-same}
+use Rattle.sctp_refinement.specs.Holds.{reassembly_of, seen_of}
+use Rattle.sctp_refinement.specs.Naming.{on_stream, low_named, end_named}
+use Rattle.sctp_refinement.specs.Counts.{counters_on}
+use Rattle.sctp_refinement.proofs.arriving.Filter.{filter-skipped}
+use Rattle.sctp_refinement.proofs.acknowledging.QuietSender
+use Rattle.sctp_refinement.proofs.skipping.SkipStep.{with_skip, skip-step}
+use Rattle.sctp_refinement.proofs.skipping.SkipSpans.{queue-skip, next-skip, named-from}
+use Rattle.sctp_refinement.proofs.amounts.StreamCounters.{counters-same}
 use Rattle.sctp_transfer.specs.Inbound.{ssns_of, skipped_each}
 use Rattle.sctp_transfer.specs.Receiver.{forward_refusal}
 use Rattle.sctp_transfer.specs.Receiver as R
 use Rattle.sctp_transfer.specs.declared.receiver.refusal.ReceiverRefusal.TheVariants.{TsnOpposite}
 use Rattle.sctp_transfer.specs.TsnFilter.{Filter, skipped_to, is_opposite}
-use Rattle.sctp_lists.specs.Serial.{at_or_before}
+use Rattle.sctp_list_lemmas.specs.Serial.{at_or_before}
 use Rattle.sctp_halves.specs.Streams.{OpenStream, stream_numbers, on_inbound, forwarded_on}
 use Rattle.sctp_halves.specs.Halves.{Sides, reception_of, with_filter_of, followed, after_forward}
 use Rattle.sctp_link.specs.declared.skipped.Named.{Named}
@@ -81,17 +81,17 @@ module _ (sum : List ℕ → ℕ) (x : State) (l : IsLinked sum x) (k upto : ℕ
         let t = facts sum x l in
         ap (λ (g : ForwardTsn). forward_refusal g (reception_of y)) says
         ∙ ap (λ g. if is_opposite (tsn_of w upto) g then Some TsnOpposite else None) (sym same)
-        ∙ ap (λ b. if b then Some TsnOpposite else None) (never-opposite w x.filter t.sound.sound.skipped_made t.few l.filter upto skips.made)
+        ∙ ap (λ b. if b then Some TsnOpposite else None) (never-opposite w x.filter t.valid.valid.skipped_made t.few l.filter upto skips.made)
 
     not-stale : at_or_before (tsn_of w upto) y.cumulative_tsn ≡ false
     not-stale =
         let t = facts sum x l in
         let past : nat_le (cumulative w) upto ≡ true = grind (arith, nat_tests) in
         ap (λ (g : Filter). at_or_before (tsn_of w upto) g.cumulative_tsn) (sym same)
-        ∙ passed-is w x.filter t.sound.sound.skipped_made t.few l.filter upto skips.made
+        ∙ passed-is w x.filter t.valid.valid.skipped_made t.few l.filter upto skips.made
         ∙ ap not past
 
-    -- the streams give up what is named, and it is recorded how far they were named
+    -- the streams discard what is named, and it is recorded how far they were named
     pub sides-then : (ms : List Message) (z u : Sides) → z ≡ after_forward f y → u ≡ record z { streams = map (with_names ms names) z.streams } → u ≡ record (with_filter_of (skipped_to (tsn_of w upto) (R.filter_of (reception_of y))) y) { streams = map (skipped_stream w upto names ms) y.streams }
     sides-then ms z u a b =
         let one : z ≡ followed (wire_skip w upto names) y = a ∙ ap (λ (g : ForwardTsn). after_forward g y) says ∙ ap (λ c. if c then y else followed (wire_skip w upto names) y) not-stale in
@@ -133,14 +133,14 @@ module _ (sum : List ℕ → ℕ) (x : State) (l : IsLinked sum x) (k upto : ℕ
         let end = (named_from ms s none_named names).end in
         let end-is : end ≡ end_named w s names = ap (λ (n : Named). n.end) (named-is s) in
         let sp = spans sum x l k upto names none e counts s (ap is_some o) in
-        let queue = queue-skip w s upto names r f.sound.sound skips.made counts o sp.0 sp.1 in
+        let queue = queue-skip w s upto names r f.valid.valid skips.made counts o sp.0 sp.1 in
         let ssns = ssns_of y.inbound.queue.si (pairs_of w names) in
         stream-then sum x l (E.Arrive k) none frame refl y (turned y) i refl
         (ap (λ t. held_after_unordered_skip tsn (skipped_each (ssns_of t (pairs_of w names)) y.inbound.queue).held) i.si
         ∙ ap (held_after_unordered_skip tsn) (queue-in-turn sum x l k upto names none e counts s r y.inbound.queue o i.held)
         ∙ sym queue ∙ ap (λ u. reassembly_of u s) (sym after-is))
         (number-each ssns y.inbound.queue) (largest-each ssns y.inbound.queue) refl refl refl refl
-        (ap (λ n. max y.next n) end-is ∙ ap (λ n. max n (end_named w s names)) i.next ∙ sym (next-skip w s upto names r f.sound.sound o) ∙ ap (λ u. next_of u s) (sym after-is))
+        (ap (λ n. max y.next n) end-is ∙ ap (λ n. max n (end_named w s names)) i.next ∙ sym (next-skip w s upto names r f.valid.valid o) ∙ ap (λ u. next_of u s) (sym after-is))
         refl (i.stats ∙ ap stats_of (sym (counters-stay s)))
 
     each-skipped : (j : ℕ) (d : OpenStream) → j < length (map turned x.open_streams) → IsOpenStream v (slice_index_or (map turned x.open_streams) j d)

@@ -5,12 +5,12 @@ use Rattle.std.specs.List.{list_all}
 use Rattle.std.proofs.Math.Path.{subst}
 use Rattle.std.proofs.lemmas.Bool.{cases_lt}
 use Rattle.std.proofs.lemmas.Bool.Decides.{nat_tests}
-use Rattle.sctp_lists.proofs.Alls.{all-kept, all-at}
-use Rattle.sctp_lists.proofs.More.{both, fails, not_both}
+use Rattle.sctp_list_lemmas.proofs.Alls.{all-kept, all-at}
+use Rattle.sctp_list_lemmas.proofs.More.{both, fails, not_both}
 use Rattle.sctp_chunks.specs.ForwardTsn.{ForwardTsn, forward_tsn_value}
 use Rattle.sctp_chunks.specs.Wire.{forward_tsn_chunk}
 use Rattle.sctp_chunks.proofs.Lengths.{length_forward_tsn_value}
-use Rattle.sctp_packets.specs.Packet.{ReadsPacket, packet_text}
+use Rattle.sctp_packets.specs.Packet.{ReadsPacket, packet_encoding}
 use Rattle.sctp_model.specs.declared.event.Event.{Event}
 use Rattle.sctp_model.specs.declared.event.LinkRefusal.TheVariants.{SkipUnassigned, SkipNames}
 use Rattle.sctp_model.specs.World.{World, Forward}
@@ -22,15 +22,15 @@ use Rattle.sctp_model.specs.Steps.{StandsFor, refusal_of, reply_to, after, can_n
 use Rattle.sctp_model.proofs.sender.Network.{NamesFit, names-fit}
 use Rattle.sctp_model.proofs.sender.SenderRun.{unless-holds}
 use Rattle.sctp_model.proofs.sender.Shape.{shape}
-use Rattle.sctp_ties.proofs.acknowledging.QuietSender.{outbound-same, same-self}
+use Rattle.sctp_refinement.proofs.acknowledging.QuietSender.{outbound-same, same-self}
 use Rattle.sctp_link.specs.declared.record.Message.{Message}
 use Rattle.sctp_link.specs.declared.record.Slot.{Slot}
 use Rattle.sctp_link.specs.Records.{message_record, slot_record, progress_of}
 use Rattle.sctp_link.specs.Skips.{pair_in, wire_skip}
-use Rattle.sctp_link.specs.Texts.{IsDatagram, packet_with}
+use Rattle.sctp_link.specs.Encodings.{IsDatagram, packet_with}
 use Rattle.sctp_link.specs.Linked.{State, IsLinked}
 use Rattle.sctp_link.proofs.upkeep.Facts.{facts, stands-then}
-use Rattle.sctp_link.proofs.upkeep.Frames.{stream-same, texts-more}
+use Rattle.sctp_link.proofs.upkeep.Frames.{stream-same, encodings-more}
 use Rattle.sctp_link.proofs.receiver.Hears.{slot-raw}
 use Rattle.sctp_link.proofs.skipping.NamesInTurn.{pairs-are}
 
@@ -101,8 +101,8 @@ module _ (sum : List ℕ → ℕ) (x : State) (l : IsLinked sum x) (upto : ℕ) 
     pub pairs-short : (f : ForwardTsn) → f.streams ≡ map (pair_in ms) names → 4 + length (forward_tsn_value f) < 2 ^ 16
     pairs-short f b = skip-short f (omega (arith, ap length b, length-as (pair_in ms) names, (accepted w upto names ok).few))
 
-  pub linked-made : (f : ForwardTsn) → f ≡ wire_skip x.world upto names → (bytes : List ℕ) (e : Event) → refusal_of w e ≡ None → after w e ≡ v → bytes ≡ packet_text sum (packet_with (forward_tsn_chunk f ∷ [])) → ReadsPacket sum bytes (packet_with (forward_tsn_chunk f ∷ [])) → length x.datagrams ≡ length w.network → IsLinked sum (record x { world = v; datagrams = x.datagrams ++ bytes ∷ [] })
-  linked-made f says bytes e none is text reads count = record {
+  pub linked-made : (f : ForwardTsn) → f ≡ wire_skip x.world upto names → (bytes : List ℕ) (e : Event) → refusal_of w e ≡ None → after w e ≡ v → bytes ≡ packet_encoding sum (packet_with (forward_tsn_chunk f ∷ [])) → ReadsPacket sum bytes (packet_with (forward_tsn_chunk f ∷ [])) → length x.datagrams ≡ length w.network → IsLinked sum (record x { world = v; datagrams = x.datagrams ++ bytes ∷ [] })
+  linked-made f says bytes e none is encoding reads count = record {
     setup = l.setup;
     history = (e, reply_to w e) ∷ l.history;
     stands = subst (λ u. StandsFor w.setup u ((e, reply_to w e) ∷ l.history)) is (stands-then w.setup w l.history e none l.stands);
@@ -118,6 +118,6 @@ module _ (sum : List ℕ → ℕ) (x : State) (l : IsLinked sum x) (upto : ℕ) 
     low = l.low;
     open_streams = λ k d lt. stream-same w v (slice_index_or x.open_streams k d) (record { setup = refl; held = refl; ordered = refl; next = refl; amount = refl; counters = refl }) refl (l.open_streams k d lt);
     apart = l.apart;
-    texts = subst (λ (u : World). (k : ℕ) (d : List ℕ) (g : W.Datagram) → slice_get u.network k ≡ Some g → IsDatagram sum (contents_of u g) (slice_index_or (x.datagrams ++ bytes ∷ []) k d)) is
-        (texts-more sum x l e none (Forward upto names) bytes (ap (λ (u : World). u.network) is) count (subst (λ (u : World). IsDatagram sum (contents_of u (Forward upto names)) bytes) (sym is) (record { text = text ∙ ap (λ t. packet_text sum (packet_with (forward_tsn_chunk t ∷ []))) says; reads = subst (λ t. ReadsPacket sum bytes (packet_with (forward_tsn_chunk t ∷ []))) says reads })));
+    encodings = subst (λ (u : World). (k : ℕ) (d : List ℕ) (g : W.Datagram) → slice_get u.network k ≡ Some g → IsDatagram sum (contents_of u g) (slice_index_or (x.datagrams ++ bytes ∷ []) k d)) is
+        (encodings-more sum x l e none (Forward upto names) bytes (ap (λ (u : World). u.network) is) count (subst (λ (u : World). IsDatagram sum (contents_of u (Forward upto names)) bytes) (sym is) (record { encoding = encoding ∙ ap (λ t. packet_encoding sum (packet_with (forward_tsn_chunk t ∷ []))) says; reads = subst (λ t. ReadsPacket sum bytes (packet_with (forward_tsn_chunk t ∷ []))) says reads })));
   }

@@ -1,8 +1,8 @@
 -- What a skip names, one message after another.
 use Rattle.std.proofs.Common.{◌≡◌, ℕ, zero, suc, ◌+◌, ◌<◌, Bool, true, false, List, [], ◌∷◌, ◌++◌, length, map, take, drop, refl, ap, sym, ◌∙◌, subst, arith, add-one}
 use Rattle.std.specs.Prelude.{if◌then◌else◌, slice_index_or, min, max}
-use Rattle.sctp_lists.specs.Lists.{changed}
-use Rattle.sctp_lists.specs.Kept.{passing}
+use Rattle.sctp_list_lemmas.specs.Lists.{changed}
+use Rattle.sctp_list_lemmas.specs.Kept.{passing}
 use Rattle.sctp_model.specs.Receiver.{least, greatest}
 use Rattle.sctp_halves.specs.Streams.{OpenStream, with_named}
 use Rattle.sctp_link.specs.declared.skipped.Named.{Named}

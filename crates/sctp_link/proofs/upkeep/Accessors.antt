@@ -8,18 +8,18 @@ use Rattle.sctp_outbound.specs.outbound_queue.OutboundQueue.{Outbound}
 use Rattle.sctp_model.specs.World.{World}
 use Rattle.sctp_model.specs.Messages.{is_open}
 use Rattle.sctp_model.specs.Amounts.{ledger, in_all, written_bytes, buffered_amount, counters_of}
-use Rattle.sctp_ties.specs.Tied.{TiedOutbound}
-use Rattle.sctp_ties.proofs.amounts.InFlightBytes.{ledger-is, ledger_by}
-use Rattle.sctp_ties.specs.Amount.{amount}
-use Rattle.sctp_ties.specs.Counts.{counters_on}
-use Rattle.sctp_ties.specs.Holds.{reassembly_of}
+use Rattle.sctp_refinement.specs.Refines.{RefinesOutbound}
+use Rattle.sctp_refinement.proofs.amounts.InFlightBytes.{ledger-is, ledger_by}
+use Rattle.sctp_refinement.specs.Amount.{amount}
+use Rattle.sctp_refinement.specs.Counts.{counters_on}
+use Rattle.sctp_refinement.specs.Holds.{reassembly_of}
 use Rattle.sctp_halves.specs.Streams.{OpenStream, has_number, stats_in}
 use Rattle.sctp_link.specs.declared.link.accessors.Ledger.{Ledger}
 use Rattle.sctp_link.specs.Linked.{State, IsLinked, ledger_of, stats_of}
 use Rattle.sctp_link.specs.Records.{stream_record}
 use Rattle.sctp_link.proofs.upkeep.Facts.{over}
 use Rattle.sctp_link.proofs.upkeep.Lookups.{IsKept, kept-at, none-open}
-use Rattle.sctp_link.proofs.upkeep.Places.{placed}
+use Rattle.sctp_link.proofs.upkeep.StreamPlaces.{placed}
 
 inner : {A : Type 0} {a b : A} → Some a ≡ Some b → a ≡ b
 inner e = cc
@@ -27,7 +27,7 @@ inner e = cc
 -- the ledger, by what the queues hold
 pub ledger-now : (sum : List ℕ → ℕ) (x : State) → IsLinked sum x → ledger x.world ≡ ledger_by (in_all x.world (written_bytes x.world)) (total_bytes x.outbound.pending) (bytes_of x.outbound.inflight.chunks)
 ledger-now sum x l =
-    over sum x (λ w. (q : Outbound) → TiedOutbound w q → ledger w ≡ ledger_by (in_all w (written_bytes w)) (total_bytes q.pending) (bytes_of q.inflight.chunks)) l
+    over sum x (λ w. (q : Outbound) → RefinesOutbound w q → ledger w ≡ ledger_by (in_all w (written_bytes w)) (total_bytes q.pending) (bytes_of q.inflight.chunks)) l
     (ledger-is x.world.setup l.history l.setup l.stands.run) x.outbound l.outbound
 
 pub same-ledger : {a p f r w q g : ℕ} → a ≡ w → p ≡ q → f ≡ g → r ≡ a - p - f → (let l : Ledger = record { written = a; pending = p; in_flight = f; released = r } in l) ≡ ledger_of (ledger_by w q g)

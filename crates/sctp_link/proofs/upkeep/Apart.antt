@@ -5,12 +5,12 @@ use Rattle.std.specs.Option.{option_map}
 use Rattle.std.specs.List.{list_any}
 use Rattle.std.proofs.Math.Path.{subst}
 use Rattle.std.proofs.lemmas.List.{get_or-set_same, get_or-set_other}
-use Rattle.sctp_lists.specs.Lists.{changed}
-use Rattle.sctp_lists.proofs.Cases.{same-yes, same-is}
-use Rattle.sctp_lists.proofs.More.{not_both}
+use Rattle.sctp_list_lemmas.specs.Lists.{changed}
+use Rattle.sctp_list_lemmas.proofs.Cases.{same-yes, same-is}
+use Rattle.sctp_list_lemmas.proofs.More.{not_both}
 use Rattle.sctp_model.specs.World.{StreamRecord}
-use Rattle.sctp_ties.proofs.arriving.Stays.{by_place}
-use Rattle.sctp_ties.proofs.amounts.StreamAmounts.{same-turned}
+use Rattle.sctp_refinement.proofs.arriving.Stays.{by_place}
+use Rattle.sctp_refinement.proofs.amounts.StreamAmounts.{same-turned}
 use Rattle.sctp_link.specs.Places.{IsApart}
 use Rattle.sctp_halves.specs.Streams.{OpenStream, has_number, stream_numbers}
 use Rattle.sctp_link.specs.Records.{stream_record}

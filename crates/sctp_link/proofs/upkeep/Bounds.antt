@@ -3,9 +3,9 @@ use Rattle.std.proofs.Common.{◌≡◌, ℕ, zero, suc, ◌+◌, ◌*◌, ◌<�
 use Rattle.std.specs.Prelude.{◌==◌}
 use Rattle.std.proofs.lemmas.List.{length-drop}
 use Rattle.std.proofs.lemmas.List.Sums.{sum_by-cons}
-use Rattle.sctp_lists.specs.Kept.{kept, always, total_over, numbers_from}
-use Rattle.sctp_lists.specs.Lists.{pieces}
-use Rattle.sctp_lists.proofs.Totals.{total-wider, total-le}
+use Rattle.sctp_list_lemmas.specs.Kept.{kept, always, total_over, numbers_from}
+use Rattle.sctp_list_lemmas.specs.Lists.{pieces}
+use Rattle.sctp_list_lemmas.proofs.Totals.{total-wider, total-le}
 use Rattle.sctp_chunks.specs.declared.chunk.chunk_payload_data.ChunkPayloadData.{ChunkPayloadData}
 use Rattle.sctp_serial.specs.DataChunks.{bytes_of}
 use Rattle.sctp_outbound.specs.outbound_queue.OutboundQueue.{total_bytes}
@@ -16,10 +16,10 @@ use Rattle.sctp_model.specs.Steps.{fragments_accepted}
 use Rattle.sctp_model.specs.Laws.{IsSetup}
 use Rattle.sctp_model.proofs.sender.SenderRun.{Sane}
 use Rattle.sctp_model.proofs.acknowledgement.Bytes.{balances}
-use Rattle.sctp_ties.specs.Amount.{amount}
-use Rattle.sctp_ties.specs.Tied.{TiedOutbound}
-use Rattle.sctp_ties.proofs.amounts.PendingBytes.{pending-bytes}
-use Rattle.sctp_ties.proofs.amounts.InFlightBytes.{in-flight-bytes}
+use Rattle.sctp_refinement.specs.Amount.{amount}
+use Rattle.sctp_refinement.specs.Refines.{RefinesOutbound}
+use Rattle.sctp_refinement.proofs.amounts.PendingBytes.{pending-bytes}
+use Rattle.sctp_refinement.proofs.amounts.InFlightBytes.{in-flight-bytes}
 use Rattle.sctp_outbound.specs.outbound_queue.OutboundQueue.{Outbound}
 use Rattle.sctp_link.specs.Linked.{State, IsLinked}
 use Rattle.sctp_link.proofs.upkeep.Facts.{over}
@@ -62,7 +62,7 @@ messages-few setup w g =
 pub queued-few : (sum : List ℕ → ℕ) (x : State) → IsLinked sum x → total_bytes x.outbound ≤ in_all x.world (written_bytes x.world)
 queued-few sum x l =
     let p = pending-bytes x.world x.outbound.pending l.outbound.pending in
-    let f = over sum x (λ w. (q : Outbound) → TiedOutbound w q → bytes_of q.inflight.chunks ≡ in_all w (in_flight_bytes w)) l (in-flight-bytes x.world.setup l.history l.setup l.stands.run) x.outbound l.outbound in
+    let f = over sum x (λ w. (q : Outbound) → RefinesOutbound w q → bytes_of q.inflight.chunks ≡ in_all w (in_flight_bytes w)) l (in-flight-bytes x.world.setup l.history l.setup l.stands.run) x.outbound l.outbound in
     let b = over sum x (λ w. in_all w (written_bytes w) ≡ in_all w (pending_bytes w) + in_all w (in_flight_bytes w) + in_all w (released_bytes w)) l (balances x.world.setup l.history l.setup l.stands.run).0 in
     omega (arith, p, f, b)
 

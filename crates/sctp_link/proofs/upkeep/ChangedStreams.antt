@@ -2,15 +2,15 @@
 use Rattle.sctp_halves.specs.Streams.{OpenStream, has_number}
 use Rattle.std.proofs.Common.{◌≡◌, ℕ, ◌<◌, Bool, true, false, List, [], ◌∷◌, length, map, refl, ap, sym, ◌∙◌, arith}
 use Rattle.std.specs.Prelude.{if◌then◌else◌, ◌==◌, slice_index_or}
-use Rattle.sctp_lists.specs.Lists.{change_where}
+use Rattle.sctp_list_lemmas.specs.Lists.{change_where}
 use Rattle.std.proofs.Math.Path.{subst}
-use Rattle.sctp_lists.proofs.Cases.{same-is, same-yes}
-use Rattle.sctp_lists.proofs.More.{not_both}
-use Rattle.sctp_lists.proofs.Edits.{change_where-map, length-change_where}
+use Rattle.sctp_list_lemmas.proofs.Cases.{same-is, same-yes}
+use Rattle.sctp_list_lemmas.proofs.More.{not_both}
+use Rattle.sctp_list_lemmas.proofs.Edits.{change_where-map, length-change_where}
 use Rattle.sctp_model.specs.World.{StreamRecord}
 use Rattle.sctp_link.specs.Records.{stream_record}
-use Rattle.sctp_lists.proofs.Getting.{map-at}
-use Rattle.sctp_ties.proofs.amounts.StreamAmounts.{same-turned}
+use Rattle.sctp_list_lemmas.proofs.Getting.{map-at}
+use Rattle.sctp_refinement.proofs.amounts.StreamAmounts.{same-turned}
 
 -- what the change leaves of a stream it leaves of the list
 pub fields-same : {A : Type 0} (f : OpenStream → A) (g : OpenStream → OpenStream) → ((l : OpenStream) → f (g l) ≡ f l) → (s : ℕ) (ls : List OpenStream) → map f (change_where (has_number s) g ls) ≡ map f ls

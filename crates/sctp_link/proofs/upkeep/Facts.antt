@@ -11,16 +11,16 @@ use Rattle.sctp_model.specs.Receiver.{spans_fit}
 use Rattle.sctp_model.specs.Contents.{contents_of, contents_in, datagram}
 use Rattle.sctp_model.specs.Steps.{History, StandsFor, IsRun, world_of, refusal_of, reply_to, after}
 use Rattle.sctp_model.specs.Laws.{IsSetup}
-use Rattle.sctp_model.specs.Sound.{IsSound}
+use Rattle.sctp_model.specs.Valid.{IsValid}
 use Rattle.sctp_model.proofs.sender.Shape.{shape}
 use Rattle.sctp_model.proofs.sender.SenderRun.{Sane, sane-run}
 use Rattle.sctp_model.proofs.sender.Few
 use Rattle.sctp_model.proofs.sender.Network.{AllFit, fit-run, datagrams_stay}
 use Rattle.sctp_model.proofs.receiver.Spans.{spans_fit_always}
-use Rattle.sctp_model.proofs.receiver.SoundRun.{record_is_sound}
-use Rattle.sctp_ties.proofs.sending.KindsRun.{Going, taken-run}
-use Rattle.sctp_ties.proofs.sending.Fragments.{going-run}
-use Rattle.sctp_ties.proofs.amounts.NoLarger.{no-larger}
+use Rattle.sctp_model.proofs.receiver.ValidRun.{record_is_valid}
+use Rattle.sctp_refinement.proofs.sending.KindsRun.{Going, taken-run}
+use Rattle.sctp_refinement.proofs.sending.Fragments.{going-run}
+use Rattle.sctp_refinement.proofs.amounts.NoLarger.{no-larger}
 use Rattle.sctp_link.specs.Linked.{State, IsLinked}
 
 -- what every record that a history leads to keeps
@@ -28,7 +28,7 @@ pub record Facts (w : World) : Type 0 where
   pub setup : IsSetup w.setup
   pub sane : Sane w.setup w
   pub going : Going w.setup w
-  pub sound : IsSound w
+  pub valid : IsValid w
   pub spans : spans_fit w [] ≡ true
   pub few : length w.slots < 2 ^ 31
   pub taken : w.taken ≤ length w.slots
@@ -46,7 +46,7 @@ of-run setup h is run same =
       setup = subst IsSetup (sym same) is;
       sane = sane;
       going = subst (λ s. Going s w) (sym same) (going-run setup h run);
-      sound = record_is_sound setup h is run;
+      valid = record_is_valid setup h is run;
       spans = spans_fit_always setup h is run;
       few = Few.few w.setup w sane;
       taken = taken-run setup h is run;

@@ -3,9 +3,9 @@ use Rattle.std.proofs.Common.{◌≡◌, ℕ, true, false, List, [], ◌∷◌, 
 use Rattle.std.specs.Prelude.{slice_get, slice_index_or}
 use Rattle.std.proofs.Math.Path.{subst}
 use Rattle.std.proofs.lemmas.Option.{slice_get_within}
-use Rattle.sctp_lists.specs.Lists.{pieces}
-use Rattle.sctp_lists.proofs.Getting.{get-snoc_old, get-snoc_new, get-last, slice-front}
-use Rattle.sctp_lists.proofs.Cases.{by_last}
+use Rattle.sctp_list_lemmas.specs.Lists.{pieces}
+use Rattle.sctp_list_lemmas.proofs.Getting.{get-snoc_old, get-snoc_new, get-last, slice-front}
+use Rattle.sctp_list_lemmas.proofs.Cases.{by_last}
 use Rattle.sctp_model.specs.declared.event.Event.{Event}
 use Rattle.sctp_model.specs.World.{Setup, World}
 use Rattle.sctp_model.specs.World as W
@@ -20,21 +20,21 @@ use Rattle.sctp_model.proofs.sender.SenderRun.{sane-run, sane-after}
 use Rattle.sctp_model.proofs.sender.Moves.{Quiet}
 use Rattle.sctp_model.proofs.sender.Shape.{shape}
 use Rattle.sctp_model.proofs.receiver.Received.{received-run}
-use Rattle.sctp_ties.specs.Holds.{reassembly_of}
-use Rattle.sctp_ties.specs.Amount.{amount, keeps_amounts}
-use Rattle.sctp_ties.specs.Counts.{counters_on, is_write, is_read}
-use Rattle.sctp_ties.specs.Indexes.{begun_on}
-use Rattle.sctp_ties.proofs.sending.Begun.{Indexed}
-use Rattle.sctp_ties.proofs.sending.BegunRun.{SendsNone, none-after, counted-after}
-use Rattle.sctp_ties.proofs.amounts.MessageSums.{sum-same}
-use Rattle.sctp_ties.proofs.amounts.ToldSums.{told-after}
-use Rattle.sctp_ties.proofs.amounts.StreamCounters.{written-same, counters-same}
-use Rattle.sctp_ties.proofs.amounts.StreamAmounts.{amount-same}
-use Rattle.sctp_model.proofs.receiver.SoundRun.{record_is_sound}
-use Rattle.sctp_ties.proofs.sending.QuietReceiver.{reassembly-quiet, filter-quiet}
-use Rattle.sctp_ties.proofs.reading.ReadOne.{KeepsNext, next-same}
+use Rattle.sctp_refinement.specs.Holds.{reassembly_of}
+use Rattle.sctp_refinement.specs.Amount.{amount, keeps_amounts}
+use Rattle.sctp_refinement.specs.Counts.{counters_on, is_write, is_read}
+use Rattle.sctp_refinement.specs.Indexes.{begun_on}
+use Rattle.sctp_refinement.proofs.sending.Begun.{Indexed}
+use Rattle.sctp_refinement.proofs.sending.BegunRun.{SendsNone, none-after, counted-after}
+use Rattle.sctp_refinement.proofs.amounts.MessageSums.{sum-same}
+use Rattle.sctp_refinement.proofs.amounts.ToldSums.{told-after}
+use Rattle.sctp_refinement.proofs.amounts.StreamCounters.{written-same, counters-same}
+use Rattle.sctp_refinement.proofs.amounts.StreamAmounts.{amount-same}
+use Rattle.sctp_model.proofs.receiver.ValidRun.{record_is_valid}
+use Rattle.sctp_refinement.proofs.sending.QuietReceiver.{reassembly-quiet, filter-quiet}
+use Rattle.sctp_refinement.proofs.reading.ReadOne.{KeepsNext, next-same}
 use Rattle.sctp_halves.specs.Streams.{OpenStream}
-use Rattle.sctp_link.specs.Texts.{IsDatagram}
+use Rattle.sctp_link.specs.Encodings.{IsDatagram}
 use Rattle.sctp_link.specs.Linked.{State, IsOpenStream, IsLinked, stats_of}
 use Rattle.sctp_link.proofs.upkeep.Facts.{facts, says-still}
 use Rattle.sctp_link.proofs.sender.Beginning.{index_kept, indexed-of}
@@ -80,18 +80,18 @@ module _ (sum : List ℕ → ℕ) (x : State) (l : IsLinked sum x) (e : Event) (
   setup-same = (sane-after w.setup w e ok (facts sum x l).sane).setup_is
 
   -- a datagram that was there
-  pub text-old : (k : ℕ) (d : List ℕ) (g : W.Datagram) → slice_get w.network k ≡ Some g → slice_get v.network k ≡ Some g → IsDatagram sum (contents_of v g) (slice_index_or x.datagrams k d)
-  text-old k d g old new = subst (λ c. IsDatagram sum c (slice_index_or x.datagrams k d)) (sym (says-still w (facts sum x l) e ok k g g old new)) (l.texts k d g old)
+  pub encoding-old : (k : ℕ) (d : List ℕ) (g : W.Datagram) → slice_get w.network k ≡ Some g → slice_get v.network k ≡ Some g → IsDatagram sum (contents_of v g) (slice_index_or x.datagrams k d)
+  encoding-old k d g old new = subst (λ c. IsDatagram sum c (slice_index_or x.datagrams k d)) (sym (says-still w (facts sum x l) e ok k g g old new)) (l.encodings k d g old)
 
   -- no datagram is made
-  pub texts-same : v.network ≡ w.network → (k : ℕ) (d : List ℕ) (g : W.Datagram) → slice_get v.network k ≡ Some g → IsDatagram sum (contents_of v g) (slice_index_or x.datagrams k d)
-  texts-same same k d g e' = text-old k d g (ap (λ n. slice_get n k) (sym same) ∙ e') e'
+  pub encodings-same : v.network ≡ w.network → (k : ℕ) (d : List ℕ) (g : W.Datagram) → slice_get v.network k ≡ Some g → IsDatagram sum (contents_of v g) (slice_index_or x.datagrams k d)
+  encodings-same same k d g e' = encoding-old k d g (ap (λ n. slice_get n k) (sym same) ∙ e') e'
 
   -- one more datagram
-  pub texts-more : (n : W.Datagram) (bytes : List ℕ) → v.network ≡ w.network ++ n ∷ [] → length x.datagrams ≡ length w.network → IsDatagram sum (contents_of v n) bytes → (k : ℕ) (d : List ℕ) (g : W.Datagram) → slice_get v.network k ≡ Some g → IsDatagram sum (contents_of v g) (slice_index_or (x.datagrams ++ bytes ∷ []) k d)
-  texts-more n bytes more count is k d g e' =
+  pub encodings-more : (n : W.Datagram) (bytes : List ℕ) → v.network ≡ w.network ++ n ∷ [] → length x.datagrams ≡ length w.network → IsDatagram sum (contents_of v n) bytes → (k : ℕ) (d : List ℕ) (g : W.Datagram) → slice_get v.network k ≡ Some g → IsDatagram sum (contents_of v g) (slice_index_or (x.datagrams ++ bytes ∷ []) k d)
+  encodings-more n bytes more count is k d g e' =
       by_last {P = IsDatagram sum (contents_of v g) (slice_index_or (x.datagrams ++ bytes ∷ []) k d)} k (length w.network) (omega (arith, slice_get_within v.network k g e', ap length more, length-append w.network (n ∷ [])))
-      (λ lt. subst (IsDatagram sum (contents_of v g)) (sym (get-snoc_old x.datagrams bytes k d (λ z. absurd (omega (arith, lt, z, count))))) (text-old k d g (sym (slice-front w.network (n ∷ []) k lt) ∙ ap (λ ds. slice_get ds k) (sym more) ∙ e') e'))
+      (λ lt. subst (IsDatagram sum (contents_of v g)) (sym (get-snoc_old x.datagrams bytes k d (λ z. absurd (omega (arith, lt, z, count))))) (encoding-old k d g (sym (slice-front w.network (n ∷ []) k lt) ∙ ap (λ ds. slice_get ds k) (sym more) ∙ e') e'))
       (λ z. subst (λ g. IsDatagram sum (contents_of v g) (slice_index_or (x.datagrams ++ bytes ∷ []) k d)) (inner (sym (get-last w.network n) ∙ ap (λ ds. slice_get ds (length w.network)) (sym more) ∙ ap (slice_get v.network) (sym z) ∙ e'))
       (subst (IsDatagram sum (contents_of v n)) (sym (ap (λ j. slice_index_or (x.datagrams ++ bytes ∷ []) j d) (z ∙ sym count) ∙ get-snoc_new x.datagrams bytes d)) is))
     where
@@ -108,13 +108,13 @@ module _ (sum : List ℕ → ℕ) (x : State) (l : IsLinked sum x) (e : Event) (
   pub held-quiet : Quiet w v → (t : ℕ) → reassembly_of v t ≡ reassembly_of w t
   held-quiet q t =
       subst (λ u. refusal_of u e ≡ None → Quiet u (after u e) → reassembly_of (after u e) t ≡ reassembly_of u t) (sym l.stands.is)
-      (λ ok' q'. let g = sane-run w.setup l.history l.stands.run in reassembly-quiet w.setup (world_of w.setup l.history) (after (world_of w.setup l.history) e) (log_of w.setup l.history) g (sane-after w.setup (world_of w.setup l.history) e ok' g) q' (received-run w.setup l.history l.setup l.stands.run) (record_is_sound w.setup l.history l.setup l.stands.run) t)
+      (λ ok' q'. let g = sane-run w.setup l.history l.stands.run in reassembly-quiet w.setup (world_of w.setup l.history) (after (world_of w.setup l.history) e) (log_of w.setup l.history) g (sane-after w.setup (world_of w.setup l.history) e ok' g) q' (received-run w.setup l.history l.setup l.stands.run) (record_is_valid w.setup l.history l.setup l.stands.run) t)
       ok q
 
   pub filter-kept : Quiet w v → filter_of v ≡ filter_of w
   filter-kept q =
       subst (λ u. refusal_of u e ≡ None → Quiet u (after u e) → filter_of (after u e) ≡ filter_of u) (sym l.stands.is)
-      (λ ok' q'. let g = sane-run w.setup l.history l.stands.run in filter-quiet w.setup (world_of w.setup l.history) (after (world_of w.setup l.history) e) (log_of w.setup l.history) g (sane-after w.setup (world_of w.setup l.history) e ok' g) q' (received-run w.setup l.history l.setup l.stands.run) (record_is_sound w.setup l.history l.setup l.stands.run))
+      (λ ok' q'. let g = sane-run w.setup l.history l.stands.run in filter-quiet w.setup (world_of w.setup l.history) (after (world_of w.setup l.history) e) (log_of w.setup l.history) g (sane-after w.setup (world_of w.setup l.history) e ok' g) q' (received-run w.setup l.history l.setup l.stands.run) (record_is_valid w.setup l.history l.setup l.stands.run))
       ok q
 
   -- indexes, where no fragment is sent

@@ -9,7 +9,7 @@ use Rattle.sctp_halves.specs.Streams.{OpenStream, has_number}
 use Rattle.sctp_link.specs.Linked.{State, IsLinked, IsOpenStream}
 use Rattle.sctp_link.specs.Records.{stream_record}
 use Rattle.sctp_link.proofs.upkeep.Apart.{number-found, stream-found}
-use Rattle.sctp_link.proofs.upkeep.Places.{placed}
+use Rattle.sctp_link.proofs.upkeep.StreamPlaces.{placed}
 
 -- nothing is kept of a stream that is not open
 pub none-open : (w : World) (s : ℕ) (ls : List OpenStream) → w.streams ≡ map stream_record ls → find (has_number s) ls ≡ None → is_open w s ≡ false

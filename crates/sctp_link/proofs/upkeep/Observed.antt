@@ -3,7 +3,7 @@ use Rattle.std.proofs.Common.{◌≡◌, ℕ, zero, suc, ◌<◌, ◌≤◌, ◌
 use Rattle.std.specs.Prelude.{◌&&◌, ◌||◌, not, find, is_some, slice_get, slice_index_or, MatchOption, nat_le, nat_lt}
 use Rattle.std.proofs.lemmas.Bool.{lt-ltb, le-leb}
 use Rattle.std.proofs.lemmas.List.{get_or-map}
-use Rattle.sctp_lists.proofs.Getting.{length-mapped}
+use Rattle.sctp_list_lemmas.proofs.Getting.{length-mapped}
 use Rattle.sctp_model.specs.World.{World}
 use Rattle.sctp_model.specs.World as W
 use Rattle.sctp_model.specs.Queues.{is_cleared}
@@ -16,7 +16,7 @@ use Rattle.sctp_link.specs.declared.record.Message.{Message}
 use Rattle.sctp_link.specs.declared.record.Slot.{Slot}
 use Rattle.sctp_link.specs.Linked.{State, IsLinked}
 use Rattle.sctp_link.specs.Records.{stream_record, datagram_record, slot_record, message_record}
-use Rattle.sctp_link.specs.Texts.{datagram_text}
+use Rattle.sctp_link.specs.Encodings.{datagram_encoding}
 use Rattle.sctp_link.proofs.upkeep.Lookups.{none-open, some-open}
 use Rattle.sctp_link.proofs.upkeep.Facts.{facts}
 
@@ -28,13 +28,13 @@ get-record (x ∷ ds) (suc k) d lt = get-record ds k d (omega (arith, lt))
 
 -- its bytes are what the record says
 pub says-bytes : (sum : List ℕ → ℕ) (x : State) (ds : List Datagram) (k : ℕ) (d : Datagram) → IsLinked sum x → x.world.network ≡ map datagram_record ds → x.datagrams ≡ map (λ d. d.bytes) ds → k < length ds → d ≡ slice_index_or ds k d
-    → (c : Contents) × (datagram x.world k ≡ Some c) × (d.bytes ≡ datagram_text sum c)
+    → (c : Contents) × (datagram x.world k ≡ Some c) × (d.bytes ≡ datagram_encoding sum c)
 says-bytes sum x ds k d l network bytes lt is =
     let g = datagram_record (slice_index_or ds k d) in
     let made : slice_get x.world.network k ≡ Some g = ap (λ n. slice_get n k) network ∙ get-record ds k d lt in
-    let text = l.texts k [] g made in
+    let encoding = l.encodings k [] g made in
     let here : slice_index_or x.datagrams k [] ≡ (slice_index_or ds k d).bytes = ap (λ n. slice_index_or n k []) bytes ∙ get_or-map (λ (d : Datagram). d.bytes) ds k d [] lt in
-    (contents_of x.world g, ap (contents_in x.world) made, ap (λ (y : Datagram). y.bytes) is ∙ sym here ∙ text.text)
+    (contents_of x.world g, ap (contents_in x.world) made, ap (λ (y : Datagram). y.bytes) is ∙ sym here ∙ encoding.encoding)
 
 -- fewer fragments than TSNs were accepted
 pub few-fragments : (sum : List ℕ → ℕ) (x : State) → IsLinked sum x → x.fragments < 2 ^ 31

@@ -2,7 +2,7 @@
 use Rattle.std.proofs.Common.{◌≡◌, ℕ, ◌+◌, ◌-◌, ◌<◌, ◌%◌, ◌^◌, true, List, ◌∷◌, length, Some, None, ap, sym, ◌∙◌}
 use Rattle.std.specs.Prelude.{slice_get, slice_index_or}
 use Rattle.std.proofs.Math.Path.{subst}
-use Rattle.sctp_lists.specs.Kept.{kept, numbers_from, total_over}
+use Rattle.sctp_list_lemmas.specs.Kept.{kept, numbers_from, total_over}
 use Rattle.sctp_model.specs.declared.event.Event.{Event}
 use Rattle.sctp_model.specs.World.{Setup, World}
 use Rattle.sctp_model.specs.World as W
@@ -14,18 +14,18 @@ use Rattle.sctp_model.specs.Steps.{StandsFor, refusal_of, reply_to, after}
 use Rattle.sctp_model.specs.Laws.{IsSetup}
 use Rattle.sctp_model.proofs.sender.Shape.{Shape, shape, sent, parts, on}
 use Rattle.sctp_model.proofs.sender.Network.{Same}
-use Rattle.sctp_ties.specs.Holds.{reassembly_of}
+use Rattle.sctp_refinement.specs.Holds.{reassembly_of}
 use Rattle.sctp_transfer.specs.TsnFilter.{Filter}
-use Rattle.sctp_ties.specs.Amount.{amount, keeps_amounts}
-use Rattle.sctp_ties.specs.Counts.{counters_on}
-use Rattle.sctp_ties.specs.Indexes.{begun_on}
-use Rattle.sctp_ties.proofs.sending.Begun
-use Rattle.sctp_ties.proofs.sending.Begun.{Indexed}
-use Rattle.sctp_ties.proofs.acknowledging.QuietSender.{SameToSender, outbound-same}
-use Rattle.sctp_ties.proofs.amounts.StreamAmounts.{amount-same}
+use Rattle.sctp_refinement.specs.Amount.{amount, keeps_amounts}
+use Rattle.sctp_refinement.specs.Counts.{counters_on}
+use Rattle.sctp_refinement.specs.Indexes.{begun_on}
+use Rattle.sctp_refinement.proofs.sending.Begun
+use Rattle.sctp_refinement.proofs.sending.Begun.{Indexed}
+use Rattle.sctp_refinement.proofs.acknowledging.QuietSender.{SameToSender, outbound-same}
+use Rattle.sctp_refinement.proofs.amounts.StreamAmounts.{amount-same}
 use Rattle.sctp_halves.specs.Streams.{OpenStream, stats_in, stream_numbers}
 use Rattle.sctp_link.specs.Linked.{State, IsLinked, IsOpenStream, stats_of, filter_shown}
-use Rattle.sctp_link.specs.Texts.{IsDatagram}
+use Rattle.sctp_link.specs.Encodings.{IsDatagram}
 use Rattle.sctp_link.specs.Places.{IsApart}
 use Rattle.sctp_link.proofs.upkeep.Facts.{facts, stands-then, says-still}
 use Rattle.sctp_link.proofs.sender.Beginning.{index_kept, indexed-of}
@@ -46,11 +46,11 @@ module _ (sum : List ℕ → ℕ) (x : State) (l : IsLinked sum x) (e : Event) (
   stands-same : StandsFor v.setup v ((e, reply_to w e) ∷ l.history)
   stands-same = subst (λ (t : Setup). StandsFor t v ((e, reply_to w e) ∷ l.history)) (sym s.setup) (stands-then w.setup w l.history e none l.stands)
 
-  texts-same : (k : ℕ) (d : List ℕ) (g : W.Datagram) → slice_get v.network k ≡ Some g → IsDatagram sum (contents_of v g) (slice_index_or x.datagrams k d)
-  texts-same k d g new =
+  encodings-same : (k : ℕ) (d : List ℕ) (g : W.Datagram) → slice_get v.network k ≡ Some g → IsDatagram sum (contents_of v g) (slice_index_or x.datagrams k d)
+  encodings-same k d g new =
       let old : slice_get w.network k ≡ Some g = ap (λ ds. slice_get ds k) (sym s.network) ∙ new in
       let says = says-still w (facts sum x l) e none k g g old new in
-      subst (λ c. IsDatagram sum c (slice_index_or x.datagrams k d)) (sym says) (l.texts k d g old)
+      subst (λ c. IsDatagram sum c (slice_index_or x.datagrams k d)) (sym says) (l.encodings k d g old)
 
   -- what such an event leaves of an open stream
   pub stream-then : keeps_amounts e ≡ true → (y z : OpenStream) → IsOpenStream w y → z.state.stream_identifier ≡ y.state.stream_identifier → z.inbound.queue.held ≡ reassembly_of v y.state.stream_identifier → z.inbound.queue.si ≡ y.inbound.queue.si → z.inbound.queue.max_message_size ≡ y.inbound.queue.max_message_size → z.state.max_payload_size ≡ y.state.max_payload_size → z.ordered ≡ y.ordered → z.state.sequence_number ≡ y.state.sequence_number → z.begun ≡ y.begun → z.next ≡ next_of v y.state.stream_identifier → z.state.buffered_amount ≡ y.state.buffered_amount → stats_in z ≡ stats_of (counters_on v y.state.stream_identifier) → IsOpenStream v z
@@ -93,7 +93,7 @@ module _ (sum : List ℕ → ℕ) (x : State) (l : IsLinked sum x) (e : Event) (
       low = indexed-then.low;
       open_streams = each;
       apart = found;
-      texts = texts-same;
+      encodings = encodings-same;
     }
 
     -- the link after it

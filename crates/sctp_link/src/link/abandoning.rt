@@ -1,4 +1,4 @@
-//! Messages that are given up once some of them was sent (RFC 3758 3.5, 4.1).
+//! Messages that are abandoned once some of them was sent (RFC 3758 3.5, 4.1).
 
 ghost use Rattle.std.specs.Prelude.{◌≡◌, ◌<◌, ◌++◌, Bool, true, None, OnOk, OnErr, IfOk, IsOkUnless, length, vec_len, vec_capacity};
 ghost use Rattle.sctp_base.specs.declared.error.Error.TheVariants.{ErrOutOfMemory};
@@ -13,13 +13,13 @@ use sctp_base::error::Result;
 use sctp_base::util::Checksum;
 
 impl<C: Checksum + Drop> Link<C> {
-    ghost use Rattle.sctp_model.specs.Messages.{message_at, message_of, place_of, is_half_sent};
+    ghost use Rattle.sctp_model.specs.Messages.{message_at, message_of, place_of, is_partially_sent};
     ghost use Rattle.sctp_model.specs.Amounts.{growth};
     ghost use Rattle.sctp_model.specs.Steps.{IsRight, refusal_of, takes_memory, after};
     ghost use Rattle.sctp_model.specs.declared.event.Event.TheVariants as E;
     ghost use Rattle.sctp_link.specs.Replies.{reply_of};
 
-    /// Why the message of a TSN is not given up, if it is not.
+    /// Why the message of a TSN is not abandoned, if it is not.
     pub(super) fn refusal_abandon(&self, tsn: u32) -> Option<LinkRefusal>
         ensures { result ≡ refusal_of self.now.world (E.Abandon tsn) }
     {
@@ -30,17 +30,17 @@ impl<C: Checksum + Drop> Link<C> {
         None
     }
 
-    // Whether some but not all of a message was sent, and it is not given up.
-    pub(super) fn is_half_sent(&self, number: usize) -> bool
+    // Whether some but not all of a message was sent, and it is not abandoned.
+    pub(super) fn is_partially_sent(&self, number: usize) -> bool
         requires { number < length self.now.world.messages }
-        ensures { result ≡ is_half_sent self.now.world number }
+        ensures { result ≡ is_partially_sent self.now.world number }
     {
         let message = &self.messages[number];
         let count = fragments_in(message.bytes.len(), self.halves.fragment_size() as usize);
         0 < message.sent && message.sent < count as u64 && !message.abandoned
     }
 
-    /// Gives up the message of a TSN in flight. Refuses only for memory, and nothing changes then.
+    /// Abandons the message of a TSN in flight. Refuses only for memory, and nothing changes then.
     /// Precondition: the event is not to be refused.
     pub(super) fn abandon(&mut self, tsn: u32) -> Result<Reply>
         requires { refusal_of self.old.world (E.Abandon tsn) ≡ None }
@@ -51,12 +51,12 @@ impl<C: Checksum + Drop> Link<C> {
         ensures memory { IsOkUnless result ErrOutOfMemory }
         ensures wants { OnErr result (takes_memory self.old.world (E.Abandon tsn) ≡ true) }
     {
-        let (stream, bytes) = self.give_up(tsn)?;
+        let (stream, bytes) = self.abandon_message(tsn)?;
         Ok(Reply::Released { stream, bytes })
     }
 
-    // Gives up the message of a TSN in flight: its stream, and how many bytes left. It takes memory only for an end mark.
-    pub(super) fn give_up(&mut self, tsn: u32) -> Result<(u16, u64)>
+    // Abandons the message of a TSN in flight: its stream, and how many bytes left. It takes memory only for a terminal chunk.
+    pub(super) fn abandon_message(&mut self, tsn: u32) -> Result<(u16, u64)>
         requires { refusal_of self.old.world (E.Abandon tsn) ≡ None }
         ensures moves { OnOk result (self.new.world ≡ after self.old.world (E.Abandon tsn)) }
         ensures stream { IfOk result (λ r. r.0 ≡ (message_at self.old.world
@@ -69,7 +69,7 @@ impl<C: Checksum + Drop> Link<C> {
     {
         let place = tsn.wrapping_sub(self.first_tsn) as usize;
         let number = self.slots[place].message;
-        let half = self.is_half_sent(number as usize);
+        let half = self.is_partially_sent(number as usize);
         make_room(&mut self.slots, half)?;
         let (stream, bytes) = self.halves.abandon(tsn)?;
         let message = &mut self.messages[number as usize];
@@ -77,7 +77,7 @@ impl<C: Checksum + Drop> Link<C> {
         Ok((stream, bytes as u64))
     }
 
-    /// Gives up the front message where it is half-sent and its lifetime is over;
+    /// Abandons the front message where it is partially sent and its lifetime is over;
     /// `now` is in nanoseconds. Refuses only for memory, and nothing changes then.
     pub(super) fn tail(&mut self, now: u64) -> Result<Reply>
         ensures ok { IfOk result
@@ -117,7 +117,7 @@ fn is_reached(deadline: Option<u64>, now: u64) -> bool
     }
 }
 
-// Makes room for the slot of an end mark, where there is to be one.
+// Makes room for the slot of a terminal chunk, where there is to be one.
 fn make_room(slots: &mut Vec<Slot>, half: bool) -> Result<()>
     ensures items { slots.new.items ≡ slots.old.items }
     ensures room { OnOk result (half ≡ true → vec_len slots.new < vec_capacity slots.new) }
@@ -130,7 +130,7 @@ fn make_room(slots: &mut Vec<Slot>, half: bool) -> Result<()>
     Ok(())
 }
 
-/// Records that a message was given up: a half-sent one takes a slot for its end mark.
+/// Records that a message was abandoned: a partially sent one takes a slot for its terminal chunk.
 fn settle(message: &mut Message, slots: &mut Vec<Slot>, number: u64, half: bool)
     requires { half ≡ true → vec_len slots.old < vec_capacity slots.old }
     ensures message { message.new ≡ record message.old { abandoned = true } }
@@ -143,7 +143,7 @@ fn settle(message: &mut Message, slots: &mut Vec<Slot>, number: u64, half: bool)
             Slot {
                 message: number,
                 fragment: message.sent,
-                is_end_mark: true,
+                is_terminal_chunk: true,
                 arrived: false,
                 acknowledged: false,
             },

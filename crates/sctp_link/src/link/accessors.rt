@@ -17,9 +17,9 @@ pub struct Ledger {
     pub written: u64,
     /// Those that wait to be sent.
     pub pending: u64,
-    /// Those that were sent, and neither acknowledged nor given up.
+    /// Those that were sent, and neither acknowledged nor abandoned.
     pub in_flight: u64,
-    /// All others: acknowledged, expired or given up.
+    /// All others: acknowledged, expired or abandoned.
     pub released: u64,
 }
 
@@ -29,8 +29,8 @@ impl<C: Checksum + Drop> Link<C> {
     ghost use Rattle.sctp_model.specs.Receiver.{cumulative};
     ghost use Rattle.sctp_model.specs.Contents.{cumulative_tsn};
     ghost use Rattle.sctp_model.specs.Queues.{pending_of, in_flight_of, filter_of};
-    ghost use Rattle.sctp_ties.specs.Holds.{reassembly_of};
-    ghost use Rattle.sctp_ties.specs.Tied.{shown, in_flight_shown, filter_held, sending_of, sendings_of};
+    ghost use Rattle.sctp_refinement.specs.Holds.{reassembly_of};
+    ghost use Rattle.sctp_refinement.specs.Refines.{shown, in_flight_shown, filter_held, sending_of, sendings_of};
     ghost use Rattle.sctp_link.specs.Linked.{stats_of, ledger_of};
 
     /// The bytes written, and what became of them.

@@ -2,12 +2,12 @@
 
 ghost use Rattle.std.specs.Prelude.{◌≡◌, ◌<◌, ◌≤◌, ◌+◌, ◌^◌, ◌∷◌, ◌++◌, ℕ, [], Some, IfOk, IfSome, IsOkUnless, length, map, vec_len, vec_capacity};
 ghost use Rattle.sctp_base.specs.declared.error.Error.TheVariants.{ErrOutOfMemory};
-ghost use Rattle.sctp_lists.specs.Kept.{numbers_from};
+ghost use Rattle.sctp_list_lemmas.specs.Kept.{numbers_from};
 ghost use Rattle.sctp_chunks.specs.declared.chunk.chunk_kind.ChunkKind.TheVariants as C;
 ghost use Rattle.sctp_outbound.specs.pending_queue.PendingQueue.{peeked};
 ghost use Rattle.sctp_outbound.specs.outbound_queue.OutboundQueue.{after_sends};
 ghost use Rattle.sctp_model.specs.Changes.{chunk_length};
-ghost use Rattle.sctp_ties.specs.Filling.{under, chunks_taken};
+ghost use Rattle.sctp_refinement.specs.Filling.{under, chunks_taken};
 ghost use Rattle.sctp_halves.specs.Streams.{begun_of};
 ghost use Rattle.sctp_link.specs.OpenStreams.{slot_with, with_fragment, begun_by};
 ghost use Rattle.sctp_link.specs.Sends.{Sender, sender_of, CanSend, Leaves, Leave, SendsOnly};
@@ -159,7 +159,7 @@ fn take_fragment(message: &mut Message, halves: &mut Halves, number: u64) -> Slo
     Slot {
         message: number,
         fragment,
-        is_end_mark: false,
+        is_terminal_chunk: false,
         arrived: false,
         acknowledged: false,
     }

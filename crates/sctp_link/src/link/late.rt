@@ -3,7 +3,7 @@
 ghost use Rattle.std.specs.Prelude.{◌≡◌, ◌<◌, true, false, None, OnOk, OnErr, IfOk, IsOkUnless, find, length};
 ghost use Rattle.std.specs.List.{list_all};
 ghost use Rattle.sctp_base.specs.declared.error.Error.TheVariants.{ErrOutOfMemory};
-ghost use Rattle.sctp_ties.specs.InTurn.{message_of_tsn, given_up};
+ghost use Rattle.sctp_refinement.specs.InTurn.{message_of_tsn, abandoned_tsn};
 
 use super::Link;
 use crate::event::Reply;
@@ -11,13 +11,13 @@ use sctp_base::error::Result;
 use sctp_base::util::Checksum;
 
 impl<C: Checksum + Drop> Link<C> {
-    ghost use Rattle.sctp_model.specs.Messages.{place_of, is_in_flight, is_half_sent};
+    ghost use Rattle.sctp_model.specs.Messages.{place_of, is_in_flight, is_partially_sent};
     ghost use Rattle.sctp_model.specs.Amounts.{growth};
     ghost use Rattle.sctp_model.specs.Steps.{IsRight, refusal_of, takes_memory, after};
     ghost use Rattle.sctp_model.specs.declared.event.Event.TheVariants as E;
     ghost use Rattle.sctp_link.specs.Replies.{reply_of};
 
-    /// Gives up the messages in flight whose lifetime is over; `now` is in
+    /// Abandons the messages in flight whose lifetime is over; `now` is in
     /// nanoseconds. Refuses only for memory, and nothing changes then.
     pub(super) fn late(&mut self, now: u64) -> Result<Reply>
         ensures ok { IfOk result
@@ -28,10 +28,10 @@ impl<C: Checksum + Drop> Link<C> {
         ensures wants { OnErr result (takes_memory self.old.world (E.Late now) ≡ true) }
     {
         let tsns = self.halves.outbound().expired_inflight(self.alloc, now)?;
-        // The half-sent message comes first: it alone takes memory, for its end mark.
-        let mut bytes = self.give_up_half_sent(&tsns)?;
+        // The partially sent message comes first: it alone takes memory, for its terminal chunk.
+        let mut bytes = self.abandon_partially_sent(&tsns)?;
         for at in 0..tsns.len() {
-            bytes += self.give_up_whole(tsns[at]);
+            bytes += self.abandon_fully_sent(tsns[at]);
         }
         Ok(Reply::Late {
             listed: tsns.len() as u64,
@@ -39,50 +39,50 @@ impl<C: Checksum + Drop> Link<C> {
         })
     }
 
-    // Gives up the half-sent message of these TSNs, where there is one, and answers how many bytes left.
-    fn give_up_half_sent(&mut self, tsns: &[u32]) -> Result<u64>
+    // Abandons the partially sent message of these TSNs, where there is one, and answers how many bytes left.
+    fn abandon_partially_sent(&mut self, tsns: &[u32]) -> Result<u64>
         requires { list_all (λ t. is_in_flight self.old.world (place_of self.old.world t)) tsns.now
             ≡ true }
-        ensures moves { OnOk result (self.new.world ≡ given_up self.old.world
-            (find (λ t. is_half_sent self.old.world (message_of_tsn self.old.world t)) tsns.now)) }
+        ensures moves { OnOk result (self.new.world ≡ abandoned_tsn self.old.world
+            (find (λ t. is_partially_sent self.old.world (message_of_tsn self.old.world t)) tsns.now)) }
         ensures bytes { IfOk result (λ b. b ≡ growth self.old.world self.new.world) }
         ensures checksum { self.new.checksum ≡ self.old.checksum }
         ensures err { OnErr result (self.new.world ≡ self.old.world) }
         ensures memory { IsOkUnless result ErrOutOfMemory }
         ensures wants { OnErr result (0 < length tsns.now) }
     {
-        let Some(tsn) = self.first_half_sent(tsns) else {
+        let Some(tsn) = self.first_partially_sent(tsns) else {
             return Ok(0);
         };
-        let (_, bytes) = self.give_up(tsn)?;
+        let (_, bytes) = self.abandon_message(tsn)?;
         Ok(bytes)
     }
 
-    // The first of these TSNs whose message is half-sent.
-    fn first_half_sent(&self, tsns: &[u32]) -> Option<u32>
+    // The first of these TSNs whose message is partially sent.
+    fn first_partially_sent(&self, tsns: &[u32]) -> Option<u32>
         requires { list_all (λ t. is_in_flight self.now.world (place_of self.now.world t)) tsns.now
             ≡ true }
         ensures { result
-            ≡ find (λ t. is_half_sent self.now.world (message_of_tsn self.now.world t)) tsns.now }
+            ≡ find (λ t. is_partially_sent self.now.world (message_of_tsn self.now.world t)) tsns.now }
     {
         for at in 0..tsns.len() {
             let place = tsns[at].wrapping_sub(self.first_tsn) as usize;
-            if self.is_half_sent(self.slots[place].message as usize) {
+            if self.is_partially_sent(self.slots[place].message as usize) {
                 return Some(tsns[at]);
             }
         }
         None
     }
 
-    // Gives up the message of a TSN in flight, which takes no memory since it is not half-sent, and answers how many bytes left.
-    fn give_up_whole(&mut self, tsn: u32) -> u64
+    // Abandons the message of a TSN in flight, which takes no memory since it is not partially sent, and answers how many bytes left.
+    fn abandon_fully_sent(&mut self, tsn: u32) -> u64
         requires accepted { refusal_of self.old.world (E.Abandon tsn) ≡ None }
         requires whole { takes_memory self.old.world (E.Abandon tsn) ≡ false }
         ensures moves { self.new.world ≡ after self.old.world (E.Abandon tsn) }
         ensures bytes { result ≡ growth self.old.world self.new.world }
         ensures checksum { self.new.checksum ≡ self.old.checksum }
     {
-        match self.give_up(tsn) {
+        match self.abandon_message(tsn) {
             Ok((_, bytes)) => bytes,
             Err(_) => unreachable!(),
         }

@@ -2,7 +2,7 @@
 
 ghost use Rattle.std.specs.Prelude.{◌≡◌, ◌<◌, ◌≤◌, ◌+◌, ◌-◌, ◌^◌, ◌∷◌, ◌++◌, ℕ, [], None, Some, List, OnOk, OnErr, IfOk, IsOkUnless, length, nat_le, if◌then◌else◌, true};
 ghost use Rattle.sctp_base.specs.declared.error.Error.TheVariants.{ErrOutOfMemory};
-ghost use Rattle.sctp_lists.specs.Lists.{pieces};
+ghost use Rattle.sctp_list_lemmas.specs.Lists.{pieces};
 ghost use Rattle.sctp_link.specs.OpenStreams.{start_from, message_with};
 ghost use Rattle.sctp_link.specs.declared.record.Message.{Message};
 

@@ -5,10 +5,10 @@ use Rattle.std.proofs.Math.Path.{subst}
 use Rattle.std.proofs.Math.Nat.{eq-or-lt_of_le}
 use Rattle.std.proofs.lemmas.Bool.{cases_lt}
 use Rattle.std.proofs.lemmas.Bool.Decides.{nat_tests}
-use Rattle.sctp_lists.specs.Kept.{kept, runs_of, joined, numbers_from}
-use Rattle.sctp_lists.specs.Lists.{changed}
-use Rattle.sctp_lists.proofs.KeptLemmas.{kept-same}
-use Rattle.sctp_lists.proofs.More.{fails, not_both, both, and, changed-keeps, length-changed}
+use Rattle.sctp_list_lemmas.specs.Kept.{kept, runs_of, joined, numbers_from}
+use Rattle.sctp_list_lemmas.specs.Lists.{changed}
+use Rattle.sctp_list_lemmas.proofs.Passing.{kept-same}
+use Rattle.sctp_list_lemmas.proofs.More.{fails, not_both, both, and, changed-keeps, length-changed}
 use Rattle.sctp_model.specs.declared.event.Event.{Event}
 use Rattle.sctp_model.specs.declared.event.Event.TheVariants as E
 use Rattle.sctp_model.specs.Reply.{Reply}
@@ -26,9 +26,9 @@ use Rattle.sctp_model.proofs.receiver.Arrivals.{Heard, heard-run, seen_by, seen-
 use Rattle.sctp_model.proofs.sender.SenderRun.{sane-run, fold-keeps}
 use Rattle.sctp_model.proofs.sender.Moves
 use Rattle.sctp_model.proofs.sender.Network
-use Rattle.sctp_lists.proofs.Cases.{or-split}
-use Rattle.sctp_lists.proofs.Getting.{length-numbered, numbered-at, get-last}
-use Rattle.sctp_lists.proofs.Cases.{or-right}
+use Rattle.sctp_list_lemmas.proofs.Cases.{or-split}
+use Rattle.sctp_list_lemmas.proofs.Getting.{length-numbered, numbered-at, get-last}
+use Rattle.sctp_list_lemmas.proofs.Cases.{or-right}
 
 -- Only what arrived or was skipped is acknowledged.
 

@@ -1,6 +1,6 @@
 use Rattle.std.proofs.Common.{◌≡◌, ℕ, ◌+◌, ◌-◌, ◌<◌, Bool, true, false, length, refl, ap, ◌∙◌, arith}
 use Rattle.std.specs.Prelude.{if◌then◌else◌, ◌==◌}
-use Rattle.sctp_lists.specs.Kept.{kept, always, numbers_from, total_over}
+use Rattle.sctp_list_lemmas.specs.Kept.{kept, always, numbers_from, total_over}
 use Rattle.sctp_model.specs.World.{World}
 use Rattle.sctp_model.specs.Messages
 use Rattle.sctp_model.specs.Amounts
@@ -10,9 +10,9 @@ use Rattle.sctp_model.proofs.sender.Shape.{shape, has}
 use Rattle.sctp_model.proofs.sender.Sender.{Sender}
 use Rattle.sctp_model.proofs.sender.SenderSteps.{of-has}
 use Rattle.sctp_model.proofs.sender.SenderRun.{Sane, sane-run}
-use Rattle.sctp_lists.proofs.Pieces.{lengths-pieces, total-lengths}
-use Rattle.sctp_lists.proofs.Rows.{numbered}
-use Rattle.sctp_lists.proofs.Totals.{total-plus, total-append, total-split, total-map, numbers-append}
+use Rattle.sctp_list_lemmas.proofs.Pieces.{lengths-pieces, total-lengths}
+use Rattle.sctp_list_lemmas.proofs.Rows.{numbered}
+use Rattle.sctp_list_lemmas.proofs.Totals.{total-plus, total-append, total-split, total-map, numbers-append}
 
 -- Each written byte is pending, in flight or released.
 
@@ -33,7 +33,7 @@ pub fragments-bytes : (w : World) (n : ℕ) → 0 < w.setup.size → total_over 
 fragments-bytes w n pos = total-lengths (Messages.fragments_of w n) ∙ lengths-pieces (length (Messages.message_at w n).bytes) w.setup.size (Messages.message_at w n).bytes pos (omega arith)
 
 pub balance : (w : World) (n : ℕ) → Sender (shape w) → 0 < w.setup.size → n < length w.messages → Amounts.pending_bytes w n + Amounts.in_flight_bytes w n + Amounts.released_bytes w n ≡ Amounts.written_bytes w n
-balance w n s pos lt = step (Amounts.is_given_up w n)
+balance w n s pos lt = step (Amounts.is_expired_or_abandoned w n)
   where
     alive : Amounts.unsent_bytes w n + Amounts.unacknowledged_bytes w n + Amounts.acknowledged_bytes w n ≡ Amounts.written_bytes w n
     alive =

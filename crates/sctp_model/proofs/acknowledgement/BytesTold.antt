@@ -2,10 +2,10 @@ use Rattle.std.proofs.Common.{◌≡◌, ℕ, ◌+◌, ◌-◌, ◌<◌, ◌≤�
 use Rattle.std.proofs.Math.Path.{fun_ext}
 use Rattle.std.specs.Prelude.{if◌then◌else◌, ◌==◌, ◌&&◌, ◌||◌, not, fold, slice_get, slice_index_or, max}
 use Rattle.std.specs.List.{list_any}
-use Rattle.sctp_lists.specs.Kept.{kept, always, numbers_from, total_over}
-use Rattle.sctp_lists.specs.Lists.{pieces}
-use Rattle.sctp_lists.proofs.KeptLemmas.{kept-same, kept-none, kept-snoc_in}
-use Rattle.sctp_lists.proofs.More.{fails, not_both, both, and, kept-short, length-changed}
+use Rattle.sctp_list_lemmas.specs.Kept.{kept, always, numbers_from, total_over}
+use Rattle.sctp_list_lemmas.specs.Lists.{pieces}
+use Rattle.sctp_list_lemmas.proofs.Passing.{kept-same, kept-none, kept-snoc_in}
+use Rattle.sctp_list_lemmas.proofs.More.{fails, not_both, both, and, kept-short, length-changed}
 use Rattle.sctp_model.proofs.sender.Sender.{Sender}
 use Rattle.sctp_model.specs.declared.event.Event.{Event}
 use Rattle.sctp_model.specs.declared.event.Event.TheVariants as E
@@ -31,8 +31,8 @@ use Rattle.sctp_model.proofs.sender.Network
 use Rattle.sctp_model.proofs.acknowledgement.Bytes.{balance, size-some}
 use Rattle.sctp_model.proofs.acknowledgement.Acknowledged.{as-datagram, as-read}
 use Rattle.sctp_model.proofs.sender.Written.{shown_part, messages_are_writes}
-use Rattle.sctp_lists.proofs.Getting.{length-mapped, numbered-at}
-use Rattle.sctp_lists.proofs.Totals.{total-le, total-append, total-kept_same, total-wider}
+use Rattle.sctp_list_lemmas.proofs.Getting.{length-mapped, numbered-at}
+use Rattle.sctp_list_lemmas.proofs.Totals.{total-le, total-append, total-kept_same, total-wider}
 
 -- What was written and what was released, by the writes and the replies.
 
@@ -69,7 +69,7 @@ acknowledged-quiet w v q n lt =
     let more : length v.slots ≡ length w.slots + (length v.slots - length w.slots) = omega (arith, g.slots) in
     ap (total_over (Amounts.slot_bytes v n)) (kept-short t 0 (length w.slots) (length v.slots - length w.slots) (length v.slots) more (λ k a b. fails (t k) (λ e. not_both (sym (q.fresh k (omega arith) (omega arith)) ∙ (both (has (shape v) n k) (acknowledged_at v k) e).1))))
     ∙ total-kept_same (Amounts.slot_bytes v n) (Amounts.slot_bytes w n) t 0 (length w.slots) (λ k a b. same-bytes k (omega arith))
-    ∙ ap (total_over (Amounts.slot_bytes w n)) (kept-same t (λ p. has (shape w) n p && acknowledged_at w p) 0 (length w.slots) (λ k a b. ap (λ s. ((s.message == n) && not s.is_end_mark) && acknowledged_at v k) (g.slot k (omega arith)) ∙ ap (λ c. has (shape w) n k && c) (q.acknowledged k (omega arith))))
+    ∙ ap (total_over (Amounts.slot_bytes w n)) (kept-same t (λ p. has (shape w) n p && acknowledged_at w p) 0 (length w.slots) (λ k a b. ap (λ s. ((s.message == n) && not s.is_terminal_chunk) && acknowledged_at v k) (g.slot k (omega arith)) ∙ ap (λ c. has (shape w) n k && c) (q.acknowledged k (omega arith))))
   where
     same-bytes : (k : ℕ) → k < length w.slots → Amounts.slot_bytes v n k ≡ Amounts.slot_bytes w n k
     same-bytes k l =
@@ -79,26 +79,26 @@ acknowledged-quiet w v q n lt =
 
 -- it never takes back what was released
 released-grows : (setup : Setup) (w v : World) → IsSetup setup → Sane setup w → Quiet w v → length v.messages ≡ length w.messages → released w ≤ released v
-released-grows setup w v is g q count = omega (arith, total-le (Amounts.released_bytes w) (Amounts.released_bytes v) 0 (length w.messages) (λ n a b. each n (omega arith) (Amounts.is_given_up v n) refl (Amounts.is_given_up w n) refl), ap (λ c. total_over (Amounts.released_bytes v) (numbers_from 0 c)) count)
+released-grows setup w v is g q count = omega (arith, total-le (Amounts.released_bytes w) (Amounts.released_bytes v) 0 (length w.messages) (λ n a b. each n (omega arith) (Amounts.is_expired_or_abandoned v n) refl (Amounts.is_expired_or_abandoned w n) refl), ap (λ c. total_over (Amounts.released_bytes v) (numbers_from 0 c)) count)
   where
     bytes : (n : ℕ) → n < length w.messages → (Messages.message_at v n).bytes ≡ (Messages.message_at w n).bytes
     bytes n lt = ap (λ m. m.bytes) (q.grows.message n lt)
 
-    given : (n : ℕ) → n < length w.messages → Amounts.is_given_up w n ≡ true → Amounts.is_given_up v n ≡ true
+    given : (n : ℕ) → n < length w.messages → Amounts.is_expired_or_abandoned w n ≡ true → Amounts.is_expired_or_abandoned v n ≡ true
     given n lt e = step (Messages.message_at w n).expired refl e
       where
         ors : (a b : Bool) → b ≡ true → (a || b) ≡ true
         ors true b h = refl
         ors false b h = h
 
-        step : (b : Bool) → (Messages.message_at w n).expired ≡ b → (b || (Messages.message_at w n).abandoned) ≡ true → Amounts.is_given_up v n ≡ true
+        step : (b : Bool) → (Messages.message_at w n).expired ≡ b → (b || (Messages.message_at w n).abandoned) ≡ true → Amounts.is_expired_or_abandoned v n ≡ true
         step true h e = ap (λ b. b || (Messages.message_at v n).abandoned) (q.grows.expired n lt h)
         step false h e = ors (Messages.message_at v n).expired (Messages.message_at v n).abandoned (q.grows.abandoned n lt e)
 
     within : (n : ℕ) → n < length w.messages → Amounts.released_bytes w n ≤ Amounts.written_bytes w n
     within n lt = omega (arith, balance w n g.sender (size-some setup w is g) lt)
 
-    each : (n : ℕ) → n < length w.messages → (b : Bool) → Amounts.is_given_up v n ≡ b → (c : Bool) → Amounts.is_given_up w n ≡ c → Amounts.released_bytes w n ≤ Amounts.released_bytes v n
+    each : (n : ℕ) → n < length w.messages → (b : Bool) → Amounts.is_expired_or_abandoned v n ≡ b → (c : Bool) → Amounts.is_expired_or_abandoned w n ≡ c → Amounts.released_bytes w n ≤ Amounts.released_bytes v n
     each n lt true e c f = let z : Amounts.released_bytes v n ≡ Amounts.written_bytes v n = ap (λ b. if b then Amounts.written_bytes v n else Amounts.acknowledged_bytes v n) e in omega (arith, z, within n lt, ap length (bytes n lt))
     each n lt false e true f = absurd (not_both (sym e ∙ given n lt f))
     each n lt false e false f =
@@ -106,8 +106,8 @@ released-grows setup w v is g q count = omega (arith, total-le (Amounts.released
         let z : Amounts.released_bytes w n ≡ Amounts.acknowledged_bytes w n = ap (λ b. if b then Amounts.written_bytes w n else Amounts.acknowledged_bytes w n) f in
         omega (arith, y, z, acknowledged-quiet w v q n lt)
 
--- where no message is given up, nothing is released
-released-kept : (w v : World) → Quiet w v → length v.messages ≡ length w.messages → ((n : ℕ) → Amounts.is_given_up v n ≡ Amounts.is_given_up w n) → released v ≡ released w
+-- where no message is abandoned, nothing is released
+released-kept : (w v : World) → Quiet w v → length v.messages ≡ length w.messages → ((n : ℕ) → Amounts.is_expired_or_abandoned v n ≡ Amounts.is_expired_or_abandoned w n) → released v ≡ released w
 released-kept w v q count given =
     ap (λ c. total_over (Amounts.released_bytes v) (numbers_from 0 c)) count
     ∙ total-kept_same (Amounts.released_bytes v) (Amounts.released_bytes w) always 0 (length w.messages) (λ n a b. each n (omega arith))
@@ -115,8 +115,8 @@ released-kept w v q count given =
     each : (n : ℕ) → n < length w.messages → Amounts.released_bytes v n ≡ Amounts.released_bytes w n
     each n lt =
         ap (λ b. if b then Amounts.written_bytes v n else Amounts.acknowledged_bytes v n) (given n)
-        ∙ ap (λ m. if Amounts.is_given_up w n then length m.bytes else Amounts.acknowledged_bytes v n) (q.grows.message n lt)
-        ∙ ap (λ c. if Amounts.is_given_up w n then Amounts.written_bytes w n else c) (acknowledged-quiet w v q n lt)
+        ∙ ap (λ m. if Amounts.is_expired_or_abandoned w n then length m.bytes else Amounts.acknowledged_bytes v n) (q.grows.message n lt)
+        ∙ ap (λ c. if Amounts.is_expired_or_abandoned w n then Amounts.written_bytes w n else c) (acknowledged-quiet w v q n lt)
 
 -- ## Each event
 
@@ -158,7 +158,7 @@ released-sent setup w now (Some n) g =
     (λ k. ap (λ ms. (slice_index_or ms k Messages.no_message).expired || (slice_index_or ms k Messages.no_message).abandoned) e ∙ ap (λ x. (x.message k).expired || (x.message k).abandoned) (Shapes.shape-started w now))
 
 pub count-abandoned : (w : World) (n : ℕ) → length (Changes.abandoned w n).messages ≡ length w.messages
-count-abandoned w n = step (Messages.is_half_sent w n)
+count-abandoned w n = step (Messages.is_partially_sent w n)
   where
     step : (b : Bool) → length (Changes.message_changed (if b then Changes.with_slot w n true else w) n Changes.mark_abandoned).messages ≡ length w.messages
     step true = length-changed Changes.mark_abandoned n w.messages

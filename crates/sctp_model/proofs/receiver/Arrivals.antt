@@ -4,10 +4,10 @@ use Rattle.std.specs.List.{list_any}
 use Rattle.std.proofs.Math.Nat.{eq-or-lt_of_le}
 use Rattle.std.proofs.lemmas.Bool.{cases_lt}
 use Rattle.std.proofs.lemmas.Bool.Decides.{nat_tests}
-use Rattle.sctp_lists.specs.Kept.{kept, always, numbers_from, unbroken}
-use Rattle.sctp_lists.specs.Lists.{changed}
-use Rattle.sctp_lists.proofs.KeptLemmas.{unbroken-same, unbroken-le, unbroken-passes, unbroken-stops, unbroken-on}
-use Rattle.sctp_lists.proofs.More.{not_both, length-changed, changed-same, changed-other}
+use Rattle.sctp_list_lemmas.specs.Kept.{kept, always, numbers_from, unbroken}
+use Rattle.sctp_list_lemmas.specs.Lists.{changed}
+use Rattle.sctp_list_lemmas.proofs.Passing.{unbroken-same, unbroken-le, unbroken-passes, unbroken-stops, unbroken-on}
+use Rattle.sctp_list_lemmas.proofs.More.{not_both, length-changed, changed-same, changed-other}
 use Rattle.sctp_model.specs.Reply as R
 use Rattle.sctp_model.specs.World.{Setup, Sack, World}
 use Rattle.sctp_model.specs.Messages
@@ -18,9 +18,9 @@ use Rattle.sctp_model.specs.Log
 use Rattle.sctp_model.specs.Log.{LogEntry, SlotReceived, SkipReceived, SackMade}
 use Rattle.sctp_model.specs.Laws.{IsSetup, OnEveryRun, ArrivedIsNew, CumulativeIsSeen, ArrivalsAnswered}
 use Rattle.sctp_model.proofs.receiver.Events.{Keeps, run-keeps}
-use Rattle.sctp_lists.proofs.Cases.{by_same, same-yes}
-use Rattle.sctp_lists.proofs.Getting.{get-beyond, get-numbered, length-numbered}
-use Rattle.sctp_lists.proofs.Cases.{or-right, or-none}
+use Rattle.sctp_list_lemmas.proofs.Cases.{by_same, same-yes}
+use Rattle.sctp_list_lemmas.proofs.Getting.{get-beyond, get-numbered, length-numbered}
+use Rattle.sctp_list_lemmas.proofs.Cases.{or-right, or-none}
 
 -- What arrived in the record is what the order of arrivals says.
 

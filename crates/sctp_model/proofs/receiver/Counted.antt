@@ -7,8 +7,8 @@ use Rattle.sctp_model.proofs.receiver.Known.{HasRead, differ-more}
 use Rattle.sctp_model.proofs.receiver.Shown.{has-read, reads_show_messages}
 use Rattle.std.proofs.lemmas.Bool.{cases_lt}
 use Rattle.std.proofs.lemmas.Bool.Decides.{nat_tests}
-use Rattle.sctp_lists.specs.Kept.{kept, always, total_over}
-use Rattle.sctp_lists.proofs.More.{fails, both, changed-keeps, changed-same, changed-other, length-changed}
+use Rattle.sctp_list_lemmas.specs.Kept.{kept, always, total_over}
+use Rattle.sctp_list_lemmas.proofs.More.{fails, both, changed-keeps, changed-same, changed-other, length-changed}
 use Rattle.sctp_model.specs.declared.event.Event.{Event}
 use Rattle.sctp_model.specs.declared.event.Event.TheVariants as E
 use Rattle.sctp_model.specs.Reply.{Reply}
@@ -26,9 +26,9 @@ use Rattle.sctp_model.proofs.sender.Moves
 use Rattle.sctp_model.proofs.sender.Lifetimes.{messages-received, messages-taken}
 use Rattle.sctp_model.proofs.sender.Written.{messages_are_writes}
 use Rattle.sctp_model.proofs.acknowledgement.BytesTold.{total-told}
-use Rattle.sctp_lists.proofs.Cases.{by_same, same-yes, same-is}
-use Rattle.sctp_lists.proofs.Tests.{any-append}
-use Rattle.sctp_lists.proofs.Totals.{total-none, total-one, total-kept_same, total-where}
+use Rattle.sctp_list_lemmas.proofs.Cases.{by_same, same-yes, same-is}
+use Rattle.sctp_list_lemmas.proofs.Tests.{any-append}
+use Rattle.sctp_list_lemmas.proofs.Totals.{total-none, total-one, total-kept_same, total-where}
 
 -- The counters of a stream are sums over its writes and its reads.
 

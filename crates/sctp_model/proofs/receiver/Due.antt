@@ -2,13 +2,13 @@
 use Rattle.std.proofs.Common.{◌≡◌, ℕ, zero, suc, ◌+◌, ◌-◌, ◌<◌, ◌≤◌, Bool, true, false, List, [], ◌∷◌, ◌++◌, length, take, drop, Some, refl, ap, sym, ◌∙◌, arith}
 use Rattle.std.specs.Prelude.{if◌then◌else◌, ◌&&◌, not, nat_lt, nat_le}
 use Rattle.std.proofs.lemmas.Bool.Decides.{nat_tests}
-use Rattle.sctp_lists.specs.Kept.{kept, leading, passing, first_of}
-use Rattle.sctp_lists.proofs.KeptLemmas.{kept-same, kept-none, front-kept, FrontOf, IsFront}
-use Rattle.sctp_lists.proofs.More.{fails, not_both, both}
+use Rattle.sctp_list_lemmas.specs.Kept.{kept, leading, passing, first_of}
+use Rattle.sctp_list_lemmas.proofs.Passing.{kept-same, kept-none, front-kept, FrontOf, IsFront}
+use Rattle.sctp_list_lemmas.proofs.More.{fails, not_both, both}
 use Rattle.sctp_model.proofs.receiver.View.{View, line, run, next, whole_at}
 use Rattle.sctp_model.proofs.sender.Shape.{on, index}
 use Rattle.sctp_model.proofs.receiver.Indexes.{index_on}
-use Rattle.sctp_lists.proofs.Cases.{negated}
+use Rattle.sctp_list_lemmas.proofs.Cases.{negated}
 
 abbrev wanted : (ℕ → Bool) → (ℕ → Bool) → ℕ → Bool
 wanted wh r x = not (r x) && wh x
@@ -83,7 +83,7 @@ take-kept p q idx from (suc count) i b top t places = step (p from) refl i t
         on true h = ap (λ l. from ∷ l) h
         on false h = h
 
--- an unread whole message of the stream, at most the one expected next
+-- an unread complete message of the stream, at most the one expected next
 abbrev pub is_due : View → ℕ → ℕ → Bool
 is_due v s n = on v.x s n && (not (v.read n) && (whole_at v n && nat_le (index v.x n) (next v s)))
 

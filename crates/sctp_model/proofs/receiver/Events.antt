@@ -20,7 +20,7 @@ use Rattle.sctp_model.proofs.sender.SenderRun.{Sane, sane-run, sane-after, sane-
 use Rattle.sctp_model.proofs.sender.Moves.{Quiet, quiet-none, quiet-datagram, quiet-written, quiet-started, quiet-sent, quiet-expire, quiet-tail, quiet-lates, quiet-abandoned}
 use Rattle.sctp_model.proofs.sender.Network.{SlotsFit, NamesFit, Fits, fit-at, fit-run, same-slot}
 use Rattle.sctp_model.proofs.sender.Made.{made-run}
-use Rattle.sctp_lists.proofs.Cases.{negated}
+use Rattle.sctp_list_lemmas.proofs.Cases.{negated}
 
 -- each change keeps P, which speaks of the record and of what came
 pub record Keeps (setup : Setup) (P : World → List LogEntry → Type 0) : Type 0 where
@@ -28,7 +28,7 @@ pub record Keeps (setup : Setup) (P : World → List LogEntry → Type 0) : Type
   pub quiet : (w v : World) (log : List LogEntry) → Sane setup w → Sane setup v → Quiet w v → P w log → P v log
   pub opened : (w : World) (log : List LogEntry) (s : ℕ) → Sane setup w → Messages.is_open w s ≡ false → P w log → P (Changes.opened w s) log
   pub moded : (w : World) (log : List LogEntry) (s : ℕ) (unordered : Bool) (reliability : ReliabilityType) (value : ℕ) → Sane setup w → P w log → P (Changes.mode_set w s unordered reliability value) log
-  pub slot : (w : World) (log : List LogEntry) (p : ℕ) → Sane setup w → p < length w.slots → (Messages.slot_at w p).is_end_mark ≡ false → P w log → P (Changes.slot_received w p) (SlotReceived p ∷ log)
+  pub slot : (w : World) (log : List LogEntry) (p : ℕ) → Sane setup w → p < length w.slots → (Messages.slot_at w p).is_terminal_chunk ≡ false → P w log → P (Changes.slot_received w p) (SlotReceived p ∷ log)
   pub skip : (w : World) (log : List LogEntry) (upto : ℕ) (names : List ℕ) → Sane setup w → upto < length w.slots → NamesFit (shape w) upto names → P w log → P (Changes.skip_received w upto names) (SkipReceived upto names ∷ log)
   pub reported : (w : World) (log : List LogEntry) (credit : ℕ) → Sane setup w → P w log → P (Changes.reported w credit) (SackMade ∷ log)
   pub taken : (w : World) (log : List LogEntry) (r : Report) → Sane setup w → P w log → P (Changes.sack_taken w (Some (Sack r))) log
@@ -39,7 +39,7 @@ pub record Moving (setup : Setup) (P : World → List LogEntry → Type 0) : Typ
   pub quiet : (w v : World) (log : List LogEntry) → Sane setup w → Sane setup v → Quiet w v → P w log → P v log
   pub opened : (w : World) (log : List LogEntry) (s : ℕ) → Sane setup w → Messages.is_open w s ≡ false → P w log → P (Changes.opened w s) log
   pub moded : (w : World) (log : List LogEntry) (s : ℕ) (unordered : Bool) (reliability : ReliabilityType) (value : ℕ) → Sane setup w → P w log → P (Changes.mode_set w s unordered reliability value) log
-  pub slot : (w : World) (log : List LogEntry) (p : ℕ) → Sane setup w → p < length w.slots → (Messages.slot_at w p).is_end_mark ≡ false → P w log → P (Changes.slot_received w p) (SlotReceived p ∷ log)
+  pub slot : (w : World) (log : List LogEntry) (p : ℕ) → Sane setup w → p < length w.slots → (Messages.slot_at w p).is_terminal_chunk ≡ false → P w log → P (Changes.slot_received w p) (SlotReceived p ∷ log)
   pub skip : (w : World) (log : List LogEntry) (upto : ℕ) (names : List ℕ) → Sane setup w → upto < length w.slots → NamesFit (shape w) upto names → P w log → P (Changes.skip_received w upto names) (SkipReceived upto names ∷ log)
   pub reported : (w : World) (log : List LogEntry) (credit : ℕ) → Sane setup w → P w log → P (Changes.reported w credit) (SackMade ∷ log)
   pub taken : (w : World) (log : List LogEntry) (r : Report) → Sane setup w → P w log → P (Changes.sack_taken w (Some (Sack r))) log

@@ -3,13 +3,13 @@ use Rattle.std.proofs.Common.{◌≡◌, ℕ, ◌+◌, ◌-◌, ◌<◌, ◌≤�
 use Rattle.std.specs.Prelude.{◌⊎◌, ◌==◌, ◌&&◌, not}
 use Rattle.std.proofs.Math.Nat.{eq-or-lt_of_le}
 use Rattle.std.proofs.lemmas.Bool.{cases_lt}
-use Rattle.sctp_lists.specs.Kept.{kept, leading}
-use Rattle.sctp_lists.proofs.KeptLemmas.{length-kept-lt}
-use Rattle.sctp_lists.proofs.More.{both, and}
-use Rattle.sctp_lists.proofs.Places.{leading-passes, leading-stops, leading-le, leading-is, get-drop, length-dropped, kept-get, kept-place}
+use Rattle.sctp_list_lemmas.specs.Kept.{kept, leading}
+use Rattle.sctp_list_lemmas.proofs.Passing.{length-kept-lt}
+use Rattle.sctp_list_lemmas.proofs.More.{both, and}
+use Rattle.sctp_list_lemmas.proofs.Places.{leading-passes, leading-stops, leading-le, leading-is, get-drop, length-dropped, kept-get, kept-place}
 use Rattle.sctp_model.proofs.sender.Shape.{Shape, on, index}
 use Rattle.sctp_model.proofs.receiver.View.{View, line, next}
-use Rattle.sctp_lists.proofs.Cases.{same-yes, same-is, negated}
+use Rattle.sctp_list_lemmas.proofs.Cases.{same-yes, same-is, negated}
 
 -- ## Indexes
 

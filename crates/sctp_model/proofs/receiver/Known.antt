@@ -4,10 +4,10 @@ use Rattle.std.specs.List.{list_any, list_all}
 use Rattle.std.proofs.Math.Path.{subst}
 use Rattle.std.proofs.lemmas.Bool.{cases_lt}
 use Rattle.std.proofs.lemmas.Bool.Decides.{nat_tests}
-use Rattle.sctp_lists.specs.Kept.{kept, passing, leading, first_of, or_else}
-use Rattle.sctp_lists.proofs.KeptLemmas.{kept-same}
-use Rattle.sctp_lists.proofs.More.{fails, not_both, both, and, kept-short}
-use Rattle.sctp_lists.proofs.Alls
+use Rattle.sctp_list_lemmas.specs.Kept.{kept, passing, leading, first_of, or_else}
+use Rattle.sctp_list_lemmas.proofs.Passing.{kept-same}
+use Rattle.sctp_list_lemmas.proofs.More.{fails, not_both, both, and, kept-short}
+use Rattle.sctp_list_lemmas.proofs.Alls
 use Rattle.sctp_model.specs.World.{Setup, World}
 use Rattle.sctp_model.specs.Messages
 use Rattle.sctp_model.specs.Receiver.{is_new}
@@ -26,9 +26,9 @@ use Rattle.sctp_model.proofs.receiver.Arrivals.{Heard, with_arrived, arrived-bey
 use Rattle.sctp_model.proofs.receiver.View
 use Rattle.sctp_model.proofs.receiver.View.{View, view, has_come, come_count, all_come, whole_at, arrived_in, noted_in, skipped_in, read_in, run, line, next_read}
 use Rattle.sctp_model.proofs.receiver.Wholes
-use Rattle.sctp_lists.proofs.Cases.{by_same, same-yes, same-is, negated}
-use Rattle.sctp_lists.proofs.Cases.{or-right, or-split, or-none, and-none}
-use Rattle.sctp_lists.proofs.Tests.{all-more, any-append}
+use Rattle.sctp_list_lemmas.proofs.Cases.{by_same, same-yes, same-is, negated}
+use Rattle.sctp_list_lemmas.proofs.Cases.{or-right, or-split, or-none, and-none}
+use Rattle.sctp_list_lemmas.proofs.Tests.{all-more, any-append}
 
 -- In every history what is whole in the record is what the order of arrivals makes whole.
 
@@ -63,7 +63,7 @@ still-of setup w v g a q = record {
 pub come-still : (u v : View) → Still u v → (n : ℕ) → come_count v n ≡ come_count u n
 come-still u v s n = ap length
     (kept-short (has_come v n) 0 u.x.slots (v.x.slots - u.x.slots) v.x.slots (omega (arith, s.grows.slots)) (λ k a b. ap (λ c. has v.x n k && c) (s.arrived k ∙ s.beyond k (omega arith)) ∙ and-none (has v.x n k))
-    ∙ kept-same (has_come v n) (has_come u n) 0 u.x.slots (λ k a b. ap (λ c. has v.x n k && c) (s.arrived k) ∙ ap (λ y. ((y.message == n) && not y.is_end_mark) && u.arrived k) (s.grows.slot k (omega arith))))
+    ∙ kept-same (has_come v n) (has_come u n) 0 u.x.slots (λ k a b. ap (λ c. has v.x n k && c) (s.arrived k) ∙ ap (λ y. ((y.message == n) && not y.is_terminal_chunk) && u.arrived k) (s.grows.slot k (omega arith))))
 
 pub all-still : (u v : View) → Still u v → (n : ℕ) → n < u.x.count → all_come v n ≡ all_come u n
 all-still u v s n lt = ap (λ c. c == parts v.x n) (come-still u v s n) ∙ ap (λ k. come_count u n == k) (parts-grown u.x v.x s.grows n lt)
@@ -90,7 +90,7 @@ come-sent v n = less 0 v.x.slots
 
 -- ## The invariant
 
--- a whole unordered message that waits to be read
+-- a complete unordered message that waits to be read
 pub record IsReady (v : View) (s n : ℕ) : Type 0 where
   pub made : n < v.x.count
   pub stream : (v.x.message n).stream ≡ s
@@ -186,7 +186,7 @@ come-other v p n ne = ap length (kept-same (has_come (arrived_in v p) n) (has_co
     (λ e. let off : has v.x n k ≡ false = fails (has v.x n k) (λ i. ne (sym (ap (λ q. (v.x.slot q).message) e) ∙ (of-has v.x n k i).0)) in rw off refl)
     (λ nk f. ap (λ b. has v.x n k && (if b then true else v.arrived k)) f)))
 
-module _ (v : View) (log : List LogEntry) (p : ℕ) (s : Sender v.x) (h : Whole v log) (heard : Wholes.Hears v log) (heard' : Wholes.Hears (arrived_in v p) (SlotReceived p ∷ log)) (lt : p < v.x.slots) (mark : (v.x.slot p).is_end_mark ≡ false) (new : v.arrived p ≡ false) where
+module _ (v : View) (log : List LogEntry) (p : ℕ) (s : Sender v.x) (h : Whole v log) (heard : Wholes.Hears v log) (heard' : Wholes.Hears (arrived_in v p) (SlotReceived p ∷ log)) (lt : p < v.x.slots) (mark : (v.x.slot p).is_terminal_chunk ≡ false) (new : v.arrived p ≡ false) where
   abbrev m : ℕ
   m = (v.x.slot p).message
 
@@ -200,7 +200,7 @@ module _ (v : View) (log : List LogEntry) (p : ℕ) (s : Sender v.x) (h : Whole 
   made = s.made p lt
 
   here : has v.x m p ≡ true
-  here = and ((v.x.slot p).message == m) (not (v.x.slot p).is_end_mark) (same-yes m) (ap not mark)
+  here = and ((v.x.slot p).message == m) (not (v.x.slot p).is_terminal_chunk) (same-yes m) (ap not mark)
 
   -- it was not whole before
   pub not-whole : (v.x.message m).ordered ≡ false → whole_at v m ≡ false
@@ -353,7 +353,7 @@ whole-skip v log upto names heard heard' s le h = record {
 
 -- ## A read
 
--- what is read next: a whole unordered message, or the first unread one of the run
+-- what is read next: a complete unordered message, or the first unread one of the run
 pub record ReadsWhole (v : View) (s n : ℕ) : Type 0 where
   pub rest : List ℕ
   pub is : v.whole s ≡ n ∷ rest

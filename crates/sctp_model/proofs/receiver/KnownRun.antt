@@ -46,7 +46,7 @@ hears-as u v log e h = subst (λ y. Wholes.Hears y log) (sym e) h
 pub hears-new : (w : World) (log : List LogEntry) (p : ℕ) → p < length w.slots → is_new w p ≡ true → Heard w log → Wholes.Hears (arrived_in (view w) p) (SlotReceived p ∷ log)
 hears-new w log p lt new h = hears-as (view (with_arrived w p)) (arrived_in (view w) p) (SlotReceived p ∷ log) (sym (View.view-arrived w p lt)) (hears (with_arrived w p) (SlotReceived p ∷ log) (heard-new w log p lt new h))
 
-whole-received : (setup : Setup) (w : World) (log : List LogEntry) (p : ℕ) → Sane setup w → p < length w.slots → (Messages.slot_at w p).is_end_mark ≡ false → Heard w log → Heard (Changes.slot_received w p) (SlotReceived p ∷ log) → Whole (view w) log → Whole (view (Changes.slot_received w p)) (SlotReceived p ∷ log)
+whole-received : (setup : Setup) (w : World) (log : List LogEntry) (p : ℕ) → Sane setup w → p < length w.slots → (Messages.slot_at w p).is_terminal_chunk ≡ false → Heard w log → Heard (Changes.slot_received w p) (SlotReceived p ∷ log) → Whole (view w) log → Whole (view (Changes.slot_received w p)) (SlotReceived p ∷ log)
 whole-received setup w log p g lt mark heard heard' h = by (is_new w p) refl
   where
     by : (b : Bool) → is_new w p ≡ b → Whole (view (Changes.slot_received w p)) (SlotReceived p ∷ log)

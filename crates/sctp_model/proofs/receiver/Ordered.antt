@@ -6,12 +6,12 @@ use Rattle.std.proofs.Math.Path.{subst}
 use Rattle.std.proofs.Math.Nat.{eq-or-lt_of_le}
 use Rattle.std.proofs.lemmas.Bool.{cases_lt}
 use Rattle.std.proofs.lemmas.Bool.Decides.{nat_tests}
-use Rattle.sctp_lists.specs.Kept.{passing}
-use Rattle.sctp_lists.proofs.More.{fails, not_both, and}
+use Rattle.sctp_list_lemmas.specs.Kept.{passing}
+use Rattle.sctp_list_lemmas.proofs.More.{fails, not_both, and}
 use Rattle.sctp_model.specs.Receiver.{greatest}
 use Rattle.sctp_model.proofs.sender.Shape.{has, on, index, sent, parts}
 use Rattle.sctp_model.proofs.sender.Sender.{Sender}
-use Rattle.sctp_lists.proofs.Cases.{by_same, same-yes, same-is}
+use Rattle.sctp_list_lemmas.proofs.Cases.{by_same, same-yes, same-is}
 use Rattle.sctp_model.proofs.sender.Network.{IsNamable, NamesFit, namable-grown}
 use Rattle.sctp_model.proofs.sender.Slots.{sent-made}
 use Rattle.sctp_model.proofs.receiver.View.{View, come_count, all_come, whole_at, arrived_in, noted_in, skipped_in, read_in, line, next, named_more}
@@ -20,7 +20,7 @@ use Rattle.sctp_model.proofs.receiver.Names.{on-grown}
 use Rattle.sctp_model.proofs.receiver.Wholes.{some-kept}
 use Rattle.sctp_model.proofs.receiver.Known.{Still, ReadsRun, all-still, come-sent, come-other, not-all, noting}
 use Rattle.sctp_model.proofs.receiver.Due.{run-due, IsDue, due-first}
-use Rattle.sctp_lists.proofs.Cases.{by_same, same-yes, same-is}
+use Rattle.sctp_list_lemmas.proofs.Cases.{by_same, same-yes, same-is}
 
 -- an ordered message is whole where it has arrived
 pub ordered-at : (v : View) (n : ℕ) → (v.x.message n).ordered ≡ true → whole_at v n ≡ all_come v n
@@ -39,8 +39,8 @@ abbrev pub NamedIs : View → ℕ → ℕ → Type 0
 NamedIs v s k = (k ≡ 0) ⊎ NamedAt v s k
 
 pub record Ordered (v : View) : Type 0 where
-  -- what arrived is no end mark
-  pub marks : (p : ℕ) → v.arrived p ≡ true → (v.x.slot p).is_end_mark ≡ false
+  -- what arrived is no terminal chunk
+  pub marks : (p : ℕ) → v.arrived p ≡ true → (v.x.slot p).is_terminal_chunk ≡ false
   -- an ordered message that was read had arrived, and comes before the next expected one
   pub read_whole : (n : ℕ) → n < v.x.count → (v.x.message n).ordered ≡ true → v.read n ≡ true → all_come v n ≡ true
   pub read_past : (s n : ℕ) → n < v.x.count → on v.x s n ≡ true → v.read n ≡ true → index v.x n < next v s
@@ -156,7 +156,7 @@ module _ (u v : View) (t : Still u v) (o : Ordered u) where
 
   pub ordered-still : ((p : ℕ) → u.arrived p ≡ true → p < u.x.slots) → Ordered v
   ordered-still inside = record {
-    marks = λ p e. let f : u.arrived p ≡ true = sym (t.arrived p) ∙ e in ap (λ y. y.is_end_mark) (t.grows.slot p (inside p f)) ∙ o.marks p f;
+    marks = λ p e. let f : u.arrived p ≡ true = sym (t.arrived p) ∙ e in ap (λ y. y.is_terminal_chunk) (t.grows.slot p (inside p f)) ∙ o.marks p f;
     read_whole = λ n lt h r. let l = was-made n lt r in all-still u v t n l ∙ o.read_whole n l (sym (ap (λ m. m.ordered) (t.grows.message n l)) ∙ h) (was-read n lt r);
     read_past = λ s n lt h r. let d = read-old s n lt h r in omega (arith, d.same, next-still s, o.read_past s n d.made d.on_it (was-read n lt r));
     downward = λ s m n mn lt hm hn r c.
@@ -181,9 +181,9 @@ module _ (u v : View) (t : Still u v) (o : Ordered u) where
 
 -- ## A slot comes
 
-pub ordered-arrived : (v : View) (p : ℕ) → Sender v.x → p < v.x.slots → (v.x.slot p).is_end_mark ≡ false → v.arrived p ≡ false → v.skipped ≤ p → Ordered v → Ordered (arrived_in v p)
+pub ordered-arrived : (v : View) (p : ℕ) → Sender v.x → p < v.x.slots → (v.x.slot p).is_terminal_chunk ≡ false → v.arrived p ≡ false → v.skipped ≤ p → Ordered v → Ordered (arrived_in v p)
 ordered-arrived v p a lt mark new past o = record {
-  marks = λ k e. by_same {P = (v.x.slot k).is_end_mark ≡ false} k p (λ z. ap (λ j. (v.x.slot j).is_end_mark) z ∙ mark) (λ ne f. o.marks k (ap (λ b. if b then true else v.arrived k) (sym f) ∙ e));
+  marks = λ k e. by_same {P = (v.x.slot k).is_terminal_chunk ≡ false} k p (λ z. ap (λ j. (v.x.slot j).is_terminal_chunk) z ∙ mark) (λ ne f. o.marks k (ap (λ b. if b then true else v.arrived k) (sym f) ∙ e));
   read_whole = λ n l h r.
       let all = o.read_whole n l h r in
       ap (λ c. c == parts v.x n) (come-other v p n (λ e. not_both (sym (not-all v n p (a.within n l) lt (slot-of n e) new) ∙ all))) ∙ all;
@@ -195,7 +195,7 @@ ordered-arrived v p a lt mark new past o = record {
 }
   where
     slot-of : (n : ℕ) → (v.x.slot p).message ≡ n → has v.x n p ≡ true
-    slot-of n e = and ((v.x.slot p).message == n) (not (v.x.slot p).is_end_mark) (ap (λ k. k == n) e ∙ same-yes n) (ap not mark)
+    slot-of n e = and ((v.x.slot p).message == n) (not (v.x.slot p).is_terminal_chunk) (ap (λ k. k == n) e ∙ same-yes n) (ap not mark)
 
     above : (s m : ℕ) → on v.x s m ≡ true → (v.x.slot p).message ≡ m → (index v.x m < v.named s) ⊎ (v.named s ≤ index v.x m) → v.named s ≤ index v.x m
     above s m h e (inr g) = g

@@ -4,11 +4,11 @@ use Rattle.std.specs.Prelude.{◌⊎◌, if◌then◌else◌, ◌==◌, ◌&&◌
 use Rattle.std.specs.List.{list_all}
 use Rattle.std.proofs.Math.Path.{subst}
 use Rattle.std.proofs.lemmas.Bool.Decides.{nat_tests}
-use Rattle.sctp_lists.specs.Kept.{kept, passing, leading, first_of, or_else}
-use Rattle.sctp_lists.proofs.KeptLemmas.{kept-same, kept-none}
-use Rattle.sctp_lists.proofs.More.{fails, not_both, both, and}
-use Rattle.sctp_lists.proofs.Cases.{same-is}
-use Rattle.sctp_lists.proofs.Alls
+use Rattle.sctp_list_lemmas.specs.Kept.{kept, passing, leading, first_of, or_else}
+use Rattle.sctp_list_lemmas.proofs.Passing.{kept-same, kept-none}
+use Rattle.sctp_list_lemmas.proofs.More.{fails, not_both, both, and}
+use Rattle.sctp_list_lemmas.proofs.Cases.{same-is}
+use Rattle.sctp_list_lemmas.proofs.Alls
 use Rattle.sctp_model.specs.declared.event.Event.TheVariants as E
 use Rattle.sctp_model.specs.declared.event.LinkRefusal.TheVariants.{StreamUnknown}
 use Rattle.sctp_model.specs.Reply.{Reply}

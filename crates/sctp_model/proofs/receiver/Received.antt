@@ -4,7 +4,7 @@ use Rattle.std.specs.Prelude.{◌⊎◌, if◌then◌else◌}
 use Rattle.std.proofs.Math.Path.{subst}
 use Rattle.std.proofs.lemmas.Bool.{cases_lt}
 use Rattle.std.proofs.lemmas.Bool.Decides.{nat_tests}
-use Rattle.sctp_lists.proofs.More.{not_both}
+use Rattle.sctp_list_lemmas.proofs.More.{not_both}
 use Rattle.sctp_model.specs.World.{Setup, Sack, World}
 use Rattle.sctp_model.specs.Messages
 use Rattle.sctp_model.specs.Receiver.{is_new, cumulative}
@@ -34,7 +34,7 @@ pub record Received (w : World) (log : List LogEntry) : Type 0 where
 pub ordered-as : (u v : View) → v ≡ u → Ordered u → Ordered v
 ordered-as u v e o = subst Ordered (sym e) o
 
-ordered-received : (setup : Setup) (w : World) (p : ℕ) → Sane setup w → p < length w.slots → (Messages.slot_at w p).is_end_mark ≡ false → Ordered (view w) → Ordered (view (Changes.slot_received w p))
+ordered-received : (setup : Setup) (w : World) (p : ℕ) → Sane setup w → p < length w.slots → (Messages.slot_at w p).is_terminal_chunk ≡ false → Ordered (view w) → Ordered (view (Changes.slot_received w p))
 ordered-received setup w p g lt mark o = by (is_new w p) refl
   where
     by : (b : Bool) → is_new w p ≡ b → Ordered (view (Changes.slot_received w p))

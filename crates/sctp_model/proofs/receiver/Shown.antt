@@ -3,14 +3,14 @@ use Rattle.std.specs.Prelude.{◌⊎◌, if◌then◌else◌, ◌==◌, ◌&&◌
 use Rattle.std.specs.List.{list_all}
 use Rattle.std.proofs.lemmas.Bool.Decides.{nat_tests}
 use Rattle.std.proofs.lemmas.List.{map-append}
-use Rattle.sctp_lists.specs.Kept.{kept, always}
-use Rattle.sctp_lists.specs.Lists.{pieces}
-use Rattle.sctp_lists.proofs.KeptLemmas.{kept-same}
-use Rattle.sctp_lists.proofs.Lines.{take-drop}
-use Rattle.sctp_lists.proofs.More.{both, and}
-use Rattle.sctp_lists.proofs.Cases.{same-is, same-yes}
-use Rattle.sctp_lists.proofs.Rows.{numbered}
-use Rattle.sctp_lists.proofs.Tests.{all-out}
+use Rattle.sctp_list_lemmas.specs.Kept.{kept, always}
+use Rattle.sctp_list_lemmas.specs.Lists.{pieces}
+use Rattle.sctp_list_lemmas.proofs.Passing.{kept-same}
+use Rattle.sctp_list_lemmas.proofs.Lines.{take-drop}
+use Rattle.sctp_list_lemmas.proofs.More.{both, and}
+use Rattle.sctp_list_lemmas.proofs.Cases.{same-is, same-yes}
+use Rattle.sctp_list_lemmas.proofs.Rows.{numbered}
+use Rattle.sctp_list_lemmas.proofs.Tests.{all-out}
 use Rattle.sctp_model.specs.declared.event.Event.{Event}
 use Rattle.sctp_model.specs.declared.event.Event.TheVariants as E
 use Rattle.sctp_model.specs.Reply.{Reply}
@@ -34,8 +34,8 @@ use Rattle.sctp_model.proofs.receiver.Arrivals.{heard-run}
 use Rattle.sctp_model.proofs.receiver.View.{view}
 use Rattle.sctp_model.proofs.receiver.Known.{HasRead, ReadsWhole, ReadsRun, reads, run-is, ready-first, ready-whole}
 use Rattle.sctp_model.proofs.receiver.KnownRun.{known-run, whole_is_whole}
-use Rattle.sctp_lists.proofs.Alls.{all-append}
-use Rattle.sctp_lists.proofs.Tests.{all-more}
+use Rattle.sctp_list_lemmas.proofs.Alls.{all-append}
+use Rattle.sctp_list_lemmas.proofs.Tests.{all-more}
 
 -- Each read hands out a message as it was written.
 

@@ -4,11 +4,11 @@ use Rattle.std.specs.Prelude.{if◌then◌else◌, ◌==◌, ◌&&◌, not, nat_
 use Rattle.std.specs.List.{list_all}
 use Rattle.std.proofs.Math.Path.{subst}
 use Rattle.std.proofs.lemmas.Bool.Decides.{nat_tests}
-use Rattle.sctp_lists.specs.Kept.{kept, passing}
-use Rattle.sctp_lists.proofs.KeptLemmas.{kept-same, kept-none, kept-snoc_in}
-use Rattle.sctp_lists.proofs.More.{fails, not_both, both, and, kept-short}
-use Rattle.sctp_lists.proofs.Cases.{same-is}
-use Rattle.sctp_lists.proofs.Alls
+use Rattle.sctp_list_lemmas.specs.Kept.{kept, passing}
+use Rattle.sctp_list_lemmas.proofs.Passing.{kept-same, kept-none, kept-snoc_in}
+use Rattle.sctp_list_lemmas.proofs.More.{fails, not_both, both, and, kept-short}
+use Rattle.sctp_list_lemmas.proofs.Cases.{same-is}
+use Rattle.sctp_list_lemmas.proofs.Alls
 use Rattle.sctp_model.specs.World.{World}
 use Rattle.sctp_model.specs.Log
 use Rattle.sctp_model.specs.Log.{LogEntry, SlotReceived, SkipReceived, SackMade, Shown}
@@ -24,7 +24,7 @@ use Rattle.sctp_model.proofs.receiver.Wholes.{SlotsReceived, whole_in, slots_in,
 use Rattle.sctp_model.proofs.receiver.Known
 use Rattle.sctp_model.proofs.receiver.Known.{Known, Whole, Still, IsReady, ReadsWhole, ReadsRun, still-of, hears, differ-more, noting, whole-still}
 use Rattle.sctp_model.proofs.receiver.Ordered.{Ordered}
-use Rattle.sctp_lists.proofs.Tests.{all-more}
+use Rattle.sctp_list_lemmas.proofs.Tests.{all-more}
 
 -- ## Lists
 

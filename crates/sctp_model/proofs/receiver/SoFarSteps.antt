@@ -3,11 +3,11 @@ use Rattle.std.specs.Prelude.{◌⊎◌, if◌then◌else◌, ◌==◌, ◌&&◌
 use Rattle.std.specs.List.{list_all}
 use Rattle.std.proofs.lemmas.Bool.{cases_lt}
 use Rattle.std.proofs.lemmas.Bool.Decides.{nat_tests}
-use Rattle.sctp_lists.specs.Kept.{passing}
-use Rattle.sctp_lists.proofs.KeptLemmas.{kept-same}
-use Rattle.sctp_lists.proofs.More.{fails, not_both, both, and}
-use Rattle.sctp_lists.proofs.Cases.{by_same, same-yes, same-is}
-use Rattle.sctp_lists.proofs.Alls
+use Rattle.sctp_list_lemmas.specs.Kept.{passing}
+use Rattle.sctp_list_lemmas.proofs.Passing.{kept-same}
+use Rattle.sctp_list_lemmas.proofs.More.{fails, not_both, both, and}
+use Rattle.sctp_list_lemmas.proofs.Cases.{by_same, same-yes, same-is}
+use Rattle.sctp_list_lemmas.proofs.Alls
 use Rattle.sctp_model.specs.World.{Setup, Sack, World}
 use Rattle.sctp_model.specs.Messages
 use Rattle.sctp_model.specs.Receiver.{is_new}
@@ -33,14 +33,14 @@ use Rattle.sctp_model.proofs.receiver.Due.{IsDue}
 use Rattle.sctp_model.proofs.receiver.Received.{Received, received-keeps}
 use Rattle.sctp_model.proofs.receiver.SoFar
 use Rattle.sctp_model.proofs.receiver.SoFar.{SoFar, was_read, read_on, whole_list, became, off, kept-one, kept-last, passing-append, was-made, so_far-as}
-use Rattle.sctp_lists.proofs.Cases.{or-none, and-none}
-use Rattle.sctp_lists.proofs.Tests.{all-more}
+use Rattle.sctp_list_lemmas.proofs.Cases.{or-none, and-none}
+use Rattle.sctp_list_lemmas.proofs.Tests.{all-more}
 
 -- What each change makes of what was read so far.
 
 -- ## A slot comes new
 
-module _ (v : View) (log : List LogEntry) (p : ℕ) (a : Sender v.x) (h : Whole v log) (heard : Hears v log) (heard' : Hears (arrived_in v p) (SlotReceived p ∷ log)) (lt : p < v.x.slots) (mark : (v.x.slot p).is_end_mark ≡ false) (new : v.arrived p ≡ false) where
+module _ (v : View) (log : List LogEntry) (p : ℕ) (a : Sender v.x) (h : Whole v log) (heard : Hears v log) (heard' : Hears (arrived_in v p) (SlotReceived p ∷ log)) (lt : p < v.x.slots) (mark : (v.x.slot p).is_terminal_chunk ≡ false) (new : v.arrived p ≡ false) where
   abbrev m : ℕ
   m = (v.x.slot p).message
 
@@ -144,7 +144,7 @@ pub record Told (s : ℕ) (list : List ℕ) (w : World) (log : List LogEntry) : 
   pub received : Received w log
   pub so_far : SoFar s list (view w) log
 
-so_far-slot : (setup : Setup) (w : World) (log : List LogEntry) (p s : ℕ) (list : List ℕ) → Sane setup w → p < length w.slots → (Messages.slot_at w p).is_end_mark ≡ false → Known w log → Known (Changes.slot_received w p) (SlotReceived p ∷ log) → SoFar s list (view w) log → SoFar s list (view (Changes.slot_received w p)) (SlotReceived p ∷ log)
+so_far-slot : (setup : Setup) (w : World) (log : List LogEntry) (p s : ℕ) (list : List ℕ) → Sane setup w → p < length w.slots → (Messages.slot_at w p).is_terminal_chunk ≡ false → Known w log → Known (Changes.slot_received w p) (SlotReceived p ∷ log) → SoFar s list (view w) log → SoFar s list (view (Changes.slot_received w p)) (SlotReceived p ∷ log)
 so_far-slot setup w log p s list g lt mark k k' f = by (is_new w p) refl
   where
     by : (b : Bool) → is_new w p ≡ b → SoFar s list (view (Changes.slot_received w p)) (SlotReceived p ∷ log)

@@ -6,10 +6,10 @@ use Rattle.std.proofs.Math.Path.{subst}
 use Rattle.std.proofs.Math.Nat.{eq-or-lt_of_le}
 use Rattle.std.proofs.lemmas.Bool.{cases_lt}
 use Rattle.std.proofs.lemmas.Bool.Decides.{nat_tests}
-use Rattle.sctp_lists.specs.Kept.{kept, passing}
-use Rattle.sctp_lists.proofs.KeptLemmas.{kept-none}
-use Rattle.sctp_lists.proofs.More.{fails, not_both, both, and}
-use Rattle.sctp_lists.proofs.Places.{leading-le, length-dropped}
+use Rattle.sctp_list_lemmas.specs.Kept.{kept, passing}
+use Rattle.sctp_list_lemmas.proofs.Passing.{kept-none}
+use Rattle.sctp_list_lemmas.proofs.More.{fails, not_both, both, and}
+use Rattle.sctp_list_lemmas.proofs.Places.{leading-le, length-dropped}
 use Rattle.sctp_model.specs.declared.event.Event.{Event}
 use Rattle.sctp_model.specs.declared.event.Event.TheVariants as E
 use Rattle.sctp_model.specs.declared.event.LinkRefusal.TheVariants.{StreamUnknown, StreamOpen, NoSuchDatagram, SpanTooWide}
@@ -25,7 +25,7 @@ use Rattle.sctp_model.specs.Log.{LogEntry}
 use Rattle.sctp_model.specs.Laws.{IsSetup, OnEveryRun, SpansFit}
 use Rattle.sctp_model.proofs.sender.Shape.{shape, on, index, sent}
 use Rattle.sctp_model.proofs.sender.Sender.{Sender}
-use Rattle.sctp_lists.proofs.Cases.{by_same, negated}
+use Rattle.sctp_list_lemmas.proofs.Cases.{by_same, negated}
 use Rattle.sctp_model.proofs.sender.SenderRun.{Sane, sane-run, sane-after, unless-holds, found}
 use Rattle.sctp_model.proofs.sender.Moves.{Quiet, quiet-written, quiet-started, quiet-sent, quiet-expire, quiet-tail, quiet-lates, quiet-abandoned}
 use Rattle.sctp_model.proofs.receiver.View
@@ -37,7 +37,7 @@ use Rattle.sctp_model.proofs.receiver.Ordered
 use Rattle.sctp_model.proofs.receiver.Ordered.{Ordered, next-still, read-other}
 use Rattle.sctp_model.proofs.receiver.Due.{IsDue}
 use Rattle.sctp_model.proofs.receiver.Received.{Received, received-run}
-use Rattle.sctp_lists.proofs.Cases.{by_same, negated}
+use Rattle.sctp_list_lemmas.proofs.Cases.{by_same, negated}
 
 greatest-append : (x : ℕ) (xs ys : List ℕ) → greatest x (xs ++ ys) ≡ greatest (greatest x xs) ys
 greatest-append x [] ys = refl

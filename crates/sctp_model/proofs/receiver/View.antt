@@ -3,8 +3,8 @@ use Rattle.std.proofs.Common.{◌≡◌, ℕ, ◌+◌, ◌<◌, Bool, true, fals
 use Rattle.std.proofs.Math.Path.{fun_ext}
 use Rattle.std.specs.Prelude.{if◌then◌else◌, ◌==◌, ◌&&◌, ◌||◌, not, nat_lt, nat_le, find, is_some, unwrap_or, max}
 use Rattle.std.specs.List.{list_any}
-use Rattle.sctp_lists.specs.Kept.{kept, leading, passing, first_of, or_else}
-use Rattle.sctp_lists.proofs.More.{not_both, changed-same, changed-other}
+use Rattle.sctp_list_lemmas.specs.Kept.{kept, leading, passing, first_of, or_else}
+use Rattle.sctp_list_lemmas.proofs.More.{not_both, changed-same, changed-other}
 use Rattle.sctp_chunks.specs.declared.chunk.chunk_payload_data.ReliabilityType.{ReliabilityType}
 use Rattle.sctp_model.specs.World.{StreamRecord, Sack, Report, World}
 use Rattle.sctp_model.specs.Messages
@@ -16,8 +16,8 @@ use Rattle.sctp_model.proofs.sender.Shape.{Shape, shape, has, parts, on, index}
 use Rattle.sctp_model.proofs.sender.Shapes
 use Rattle.sctp_model.proofs.sender.SenderRun.{found}
 use Rattle.sctp_model.proofs.receiver.Arrivals.{with_arrived}
-use Rattle.sctp_lists.proofs.Cases.{by_same, same-yes, same-is}
-use Rattle.sctp_lists.proofs.Getting.{get-changed, get-numbered}
+use Rattle.sctp_list_lemmas.proofs.Cases.{by_same, same-yes, same-is}
+use Rattle.sctp_list_lemmas.proofs.Getting.{get-changed, get-numbered}
 
 pub record View : Type 0 where
   pub x : Shape

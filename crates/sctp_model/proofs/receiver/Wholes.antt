@@ -3,10 +3,10 @@ use Rattle.std.specs.Prelude.{◌⊎◌, if◌then◌else◌, ◌==◌, ◌&&◌
 use Rattle.std.specs.List.{list_any, list_all}
 use Rattle.std.proofs.lemmas.Bool.{cases_lt}
 use Rattle.std.proofs.lemmas.Bool.Decides.{nat_tests}
-use Rattle.sctp_lists.specs.Kept.{kept}
-use Rattle.sctp_lists.proofs.KeptLemmas.{kept-same}
-use Rattle.sctp_lists.proofs.More.{fails, both, and}
-use Rattle.sctp_lists.proofs.Alls
+use Rattle.sctp_list_lemmas.specs.Kept.{kept}
+use Rattle.sctp_list_lemmas.proofs.Passing.{kept-same}
+use Rattle.sctp_list_lemmas.proofs.More.{fails, both, and}
+use Rattle.sctp_list_lemmas.proofs.Alls
 use Rattle.sctp_model.specs.World.{World}
 use Rattle.sctp_model.specs.Log
 use Rattle.sctp_model.specs.Log.{LogEntry, SlotReceived, SkipReceived, SackMade}
@@ -14,9 +14,9 @@ use Rattle.sctp_model.proofs.sender.Shape.{Shape, shape, has, sent, parts}
 use Rattle.sctp_model.proofs.sender.Sender.{Sender}
 use Rattle.sctp_model.proofs.sender.Grows.{Grows, parts-grown}
 use Rattle.sctp_model.proofs.receiver.View.{View, come_count, all_come, whole_at}
-use Rattle.sctp_lists.proofs.Cases.{same-yes, same-is}
-use Rattle.sctp_lists.proofs.Cases.{or-left, or-right, or-split}
-use Rattle.sctp_lists.proofs.Tests.{all-more}
+use Rattle.sctp_list_lemmas.proofs.Cases.{same-yes, same-is}
+use Rattle.sctp_list_lemmas.proofs.Cases.{or-left, or-right, or-split}
+use Rattle.sctp_list_lemmas.proofs.Tests.{all-more}
 
 -- A message is whole in the record exactly where the order of arrivals makes it whole.
 
@@ -90,7 +90,7 @@ slots-same : (x y : Shape) → Grows x y → (n : ℕ) → sent y n ≡ sent x n
 slots-same x y g n e =
     let more = y.slots - x.slots in
     let total : y.slots ≡ x.slots + more = omega (arith, g.slots) in
-    let front : kept (has y n) 0 x.slots ≡ slots_in x n = kept-same (has y n) (has x n) 0 x.slots (λ k a b. ap (λ s. (s.message == n) && not s.is_end_mark) (g.slot k (omega arith))) in
+    let front : kept (has y n) 0 x.slots ≡ slots_in x n = kept-same (has y n) (has x n) 0 x.slots (λ k a b. ap (λ s. (s.message == n) && not s.is_terminal_chunk) (g.slot k (omega arith))) in
     let split : slots_in y n ≡ slots_in x n ++ kept (has y n) (0 + x.slots) more = ap (kept (has y n) 0) total ∙ Alls.kept-split (has y n) 0 x.slots more ∙ ap (λ l. l ++ kept (has y n) (0 + x.slots) more) front in
     split ∙ ap (λ l. slots_in x n ++ l) (nothing (kept (has y n) (0 + x.slots) more) (let l = ap length split in omega (arith, e, l, length-append (slots_in x n) (kept (has y n) (0 + x.slots) more)))) ∙ append-nil (slots_in x n)
   where
@@ -112,7 +112,7 @@ slots-new : (x y : Shape) → Grows x y → (n : ℕ) → sent x n < sent y n �
 slots-new x y g n lt =
     let more = y.slots - x.slots in
     let total : y.slots ≡ x.slots + more = omega (arith, g.slots) in
-    let front : kept (has y n) 0 x.slots ≡ slots_in x n = kept-same (has y n) (has x n) 0 x.slots (λ k a b. ap (λ s. (s.message == n) && not s.is_end_mark) (g.slot k (omega arith))) in
+    let front : kept (has y n) 0 x.slots ≡ slots_in x n = kept-same (has y n) (has x n) 0 x.slots (λ k a b. ap (λ s. (s.message == n) && not s.is_terminal_chunk) (g.slot k (omega arith))) in
     let split : slots_in y n ≡ slots_in x n ++ kept (has y n) (0 + x.slots) more = ap (kept (has y n) 0) total ∙ Alls.kept-split (has y n) 0 x.slots more ∙ ap (λ l. l ++ kept (has y n) (0 + x.slots) more) front in
     let r = some-kept (has y n) (0 + x.slots) more (let l = ap length split in omega (arith, lt, l, length-append (slots_in x n) (kept (has y n) (0 + x.slots) more))) in
     (r.0, omega (arith, r.1), omega (arith, r.2, g.slots), r.3)

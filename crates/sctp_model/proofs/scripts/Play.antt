@@ -1,7 +1,7 @@
 -- A script played by the definitions: the answer to each event in the record reached so far, and what is shown of that record.
 use Rattle.std.proofs.Common.{◌≡◌, refl}
 use Rattle.std.specs.Prelude.{ℕ, Bool, true, false, ◌&&◌, List, [], ◌∷◌, length, map, Option, Some, None, is_none, unwrap_or}
-use Rattle.sctp_lists.proofs.More.{both}
+use Rattle.sctp_list_lemmas.proofs.More.{both}
 use Rattle.sctp_model.specs.declared.event.Event.{Event}
 use Rattle.sctp_chunks.specs.declared.chunk.chunk_payload_data.PayloadProtocolIdentifier.{PayloadProtocolIdentifier}
 use Rattle.sctp_chunks.specs.declared.chunk.chunk_payload_data.ChunkPayloadData.{ChunkPayloadData}
@@ -136,7 +136,7 @@ set_shown x = map tsn_shown x.chunks
 
 abbrev pub stream_reassembly : World → StreamRecord → ℕ × List (List ℕ) × List (List ℕ) × List ℕ
 stream_reassembly w r =
-    ((reassembly_of w r.stream).next_ssn, map set_shown (reassembly_of w r.stream).ordered, map set_shown (reassembly_of w r.stream).unordered, map tsn_shown (reassembly_of w r.stream).loose)
+    ((reassembly_of w r.stream).next_ssn, map set_shown (reassembly_of w r.stream).ordered, map set_shown (reassembly_of w r.stream).unordered, map tsn_shown (reassembly_of w r.stream).unassembled)
 
 abbrev pub reassembly_shown : World → List (ℕ × List (List ℕ) × List (List ℕ) × List ℕ)
 reassembly_shown w = map (stream_reassembly w) w.streams

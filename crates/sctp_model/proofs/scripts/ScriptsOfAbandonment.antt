@@ -61,12 +61,12 @@ reassembly_abandonment_after_acknowledgement : reassembly_shown (played start_ab
     []
 reassembly_abandonment_after_acknowledgement = refl
 
--- end mark after abandonment
-abbrev start_end_mark_after_abandonment : World
-start_end_mark_after_abandonment = start (record { first = 10; size = 3; largest = 100; limit = 0 })
+-- terminal chunk after abandonment
+abbrev start_terminal_chunk_after_abandonment : World
+start_terminal_chunk_after_abandonment = start (record { first = 10; size = 3; largest = 100; limit = 0 })
 
-abbrev events_end_mark_after_abandonment : List Asked
-events_end_mark_after_abandonment =
+abbrev events_terminal_chunk_after_abandonment : List Asked
+events_terminal_chunk_after_abandonment =
     Ask (E.Open 1) ∷
     Ask (E.Write 1 P.Binary (97 ∷ 98 ∷ 99 ∷ 100 ∷ 101 ∷ 102 ∷ 103 ∷ [])) ∷
     Ask (E.Send 0) ∷
@@ -77,7 +77,7 @@ events_end_mark_after_abandonment =
     Ask (E.Send 0) ∷
     []
 
-answers_end_mark_after_abandonment : play start_end_mark_after_abandonment events_end_mark_after_abandonment ≡
+answers_terminal_chunk_after_abandonment : play start_terminal_chunk_after_abandonment events_terminal_chunk_after_abandonment ≡
     Replied R.Opened ∷
     Replied (R.Wrote (Some 0) 3) ∷
     Replied (R.Sent 0 10 0 1) ∷
@@ -87,36 +87,36 @@ answers_end_mark_after_abandonment : play start_end_mark_after_abandonment event
     Replied (R.Wrote (Some 1) 1) ∷
     Replied (R.Sent 1 12 1 1) ∷
     []
-answers_end_mark_after_abandonment = refl
+answers_terminal_chunk_after_abandonment = refl
 
-ledger_end_mark_after_abandonment : ledger (played start_end_mark_after_abandonment events_end_mark_after_abandonment) ≡ record { written = 8; pending = 0; in_flight = 1; released = 7 }
-ledger_end_mark_after_abandonment = refl
+ledger_terminal_chunk_after_abandonment : ledger (played start_terminal_chunk_after_abandonment events_terminal_chunk_after_abandonment) ≡ record { written = 8; pending = 0; in_flight = 1; released = 7 }
+ledger_terminal_chunk_after_abandonment = refl
 
-contents_end_mark_after_abandonment : contents (played start_end_mark_after_abandonment events_end_mark_after_abandonment) ≡
+contents_terminal_chunk_after_abandonment : contents (played start_terminal_chunk_after_abandonment events_terminal_chunk_after_abandonment) ≡
     DataContents (chunk 10 1 0 P.Binary (97 ∷ 98 ∷ 99 ∷ []) true false false ∷ []) ∷
     DataContents (chunk 12 1 1 P.Binary (120 ∷ []) true true false ∷ []) ∷
     []
-contents_end_mark_after_abandonment = refl
+contents_terminal_chunk_after_abandonment = refl
 
-streams_end_mark_after_abandonment : streams_shown (played start_end_mark_after_abandonment events_end_mark_after_abandonment) ≡
+streams_terminal_chunk_after_abandonment : streams_shown (played start_terminal_chunk_after_abandonment events_terminal_chunk_after_abandonment) ≡
     (1, 1, (2 ∷ 8 ∷ 0 ∷ 0 ∷ [])) ∷
     []
-streams_end_mark_after_abandonment = refl
+streams_terminal_chunk_after_abandonment = refl
 
-queues_end_mark_after_abandonment : queues_shown (played start_end_mark_after_abandonment events_end_mark_after_abandonment) ≡ (([]), ([]), ((10, ([])) ∷ (11, ([])) ∷ (12, (120 ∷ [])) ∷ []), ([]), ([]))
-queues_end_mark_after_abandonment = refl
+queues_terminal_chunk_after_abandonment : queues_shown (played start_terminal_chunk_after_abandonment events_terminal_chunk_after_abandonment) ≡ (([]), ([]), ((10, ([])) ∷ (11, ([])) ∷ (12, (120 ∷ [])) ∷ []), ([]), ([]))
+queues_terminal_chunk_after_abandonment = refl
 
-reassembly_end_mark_after_abandonment : reassembly_shown (played start_end_mark_after_abandonment events_end_mark_after_abandonment) ≡
+reassembly_terminal_chunk_after_abandonment : reassembly_shown (played start_terminal_chunk_after_abandonment events_terminal_chunk_after_abandonment) ≡
     (0, ([]), ([]), ([])) ∷
     []
-reassembly_end_mark_after_abandonment = refl
+reassembly_terminal_chunk_after_abandonment = refl
 
--- no end mark where all was sent
-abbrev start_no_end_mark_where_all_was_sent : World
-start_no_end_mark_where_all_was_sent = start (record { first = 10; size = 3; largest = 100; limit = 0 })
+-- no terminal chunk where all was sent
+abbrev start_no_terminal_chunk_where_all_was_sent : World
+start_no_terminal_chunk_where_all_was_sent = start (record { first = 10; size = 3; largest = 100; limit = 0 })
 
-abbrev events_no_end_mark_where_all_was_sent : List Asked
-events_no_end_mark_where_all_was_sent =
+abbrev events_no_terminal_chunk_where_all_was_sent : List Asked
+events_no_terminal_chunk_where_all_was_sent =
     Ask (E.Open 1) ∷
     Ask (E.Write 1 P.Binary (97 ∷ 97 ∷ 97 ∷ [])) ∷
     Ask (E.Send 0) ∷
@@ -125,7 +125,7 @@ events_no_end_mark_where_all_was_sent =
     Ask (E.Send 0) ∷
     []
 
-answers_no_end_mark_where_all_was_sent : play start_no_end_mark_where_all_was_sent events_no_end_mark_where_all_was_sent ≡
+answers_no_terminal_chunk_where_all_was_sent : play start_no_terminal_chunk_where_all_was_sent events_no_terminal_chunk_where_all_was_sent ≡
     Replied R.Opened ∷
     Replied (R.Wrote (Some 0) 1) ∷
     Replied (R.Sent 0 10 0 1) ∷
@@ -133,29 +133,29 @@ answers_no_end_mark_where_all_was_sent : play start_no_end_mark_where_all_was_se
     Replied (R.Wrote (Some 1) 1) ∷
     Replied (R.Sent 1 11 1 1) ∷
     []
-answers_no_end_mark_where_all_was_sent = refl
+answers_no_terminal_chunk_where_all_was_sent = refl
 
-ledger_no_end_mark_where_all_was_sent : ledger (played start_no_end_mark_where_all_was_sent events_no_end_mark_where_all_was_sent) ≡ record { written = 4; pending = 0; in_flight = 1; released = 3 }
-ledger_no_end_mark_where_all_was_sent = refl
+ledger_no_terminal_chunk_where_all_was_sent : ledger (played start_no_terminal_chunk_where_all_was_sent events_no_terminal_chunk_where_all_was_sent) ≡ record { written = 4; pending = 0; in_flight = 1; released = 3 }
+ledger_no_terminal_chunk_where_all_was_sent = refl
 
-contents_no_end_mark_where_all_was_sent : contents (played start_no_end_mark_where_all_was_sent events_no_end_mark_where_all_was_sent) ≡
+contents_no_terminal_chunk_where_all_was_sent : contents (played start_no_terminal_chunk_where_all_was_sent events_no_terminal_chunk_where_all_was_sent) ≡
     DataContents (chunk 10 1 0 P.Binary (97 ∷ 97 ∷ 97 ∷ []) true true false ∷ []) ∷
     DataContents (chunk 11 1 1 P.Binary (98 ∷ []) true true false ∷ []) ∷
     []
-contents_no_end_mark_where_all_was_sent = refl
+contents_no_terminal_chunk_where_all_was_sent = refl
 
-streams_no_end_mark_where_all_was_sent : streams_shown (played start_no_end_mark_where_all_was_sent events_no_end_mark_where_all_was_sent) ≡
+streams_no_terminal_chunk_where_all_was_sent : streams_shown (played start_no_terminal_chunk_where_all_was_sent events_no_terminal_chunk_where_all_was_sent) ≡
     (1, 1, (2 ∷ 4 ∷ 0 ∷ 0 ∷ [])) ∷
     []
-streams_no_end_mark_where_all_was_sent = refl
+streams_no_terminal_chunk_where_all_was_sent = refl
 
-queues_no_end_mark_where_all_was_sent : queues_shown (played start_no_end_mark_where_all_was_sent events_no_end_mark_where_all_was_sent) ≡ (([]), ([]), ((10, ([])) ∷ (11, (98 ∷ [])) ∷ []), ([]), ([]))
-queues_no_end_mark_where_all_was_sent = refl
+queues_no_terminal_chunk_where_all_was_sent : queues_shown (played start_no_terminal_chunk_where_all_was_sent events_no_terminal_chunk_where_all_was_sent) ≡ (([]), ([]), ((10, ([])) ∷ (11, (98 ∷ [])) ∷ []), ([]), ([]))
+queues_no_terminal_chunk_where_all_was_sent = refl
 
-reassembly_no_end_mark_where_all_was_sent : reassembly_shown (played start_no_end_mark_where_all_was_sent events_no_end_mark_where_all_was_sent) ≡
+reassembly_no_terminal_chunk_where_all_was_sent : reassembly_shown (played start_no_terminal_chunk_where_all_was_sent events_no_terminal_chunk_where_all_was_sent) ≡
     (0, ([]), ([]), ([])) ∷
     []
-reassembly_no_end_mark_where_all_was_sent = refl
+reassembly_no_terminal_chunk_where_all_was_sent = refl
 
 -- no resend of an abandoned chunk
 abbrev start_no_resend_of_an_abandoned_chunk : World

@@ -382,7 +382,7 @@ reassembly_unordered_before_ordered : reassembly_shown (played start_unordered_b
     []
 reassembly_unordered_before_ordered = refl
 
--- a whole unordered message has no stream sequence number of its own: its set has 0, whatever its chunks carry (RFC 4960 6.6)
+-- a complete unordered message has no stream sequence number of its own: its set has 0, whatever its chunks carry (RFC 4960 6.6)
 abbrev events_set_of_an_unordered_message : List Asked
 events_set_of_an_unordered_message =
     Ask (E.Open 1) ∷

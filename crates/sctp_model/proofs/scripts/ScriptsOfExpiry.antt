@@ -257,12 +257,12 @@ reassembly_late_and_not_yet : reassembly_shown (played start_late_and_not_yet ev
     []
 reassembly_late_and_not_yet = refl
 
--- late lists all of a half sent message
-abbrev start_late_lists_all_of_a_half_sent_message : World
-start_late_lists_all_of_a_half_sent_message = start (record { first = 10; size = 3; largest = 100; limit = 0 })
+-- late lists all of a partially sent message
+abbrev start_late_lists_all_of_a_partially_sent_message : World
+start_late_lists_all_of_a_partially_sent_message = start (record { first = 10; size = 3; largest = 100; limit = 0 })
 
-abbrev events_late_lists_all_of_a_half_sent_message : List Asked
-events_late_lists_all_of_a_half_sent_message =
+abbrev events_late_lists_all_of_a_partially_sent_message : List Asked
+events_late_lists_all_of_a_partially_sent_message =
     Ask (E.Open 1) ∷
     Ask (E.Mode 1 false T.Timed 1) ∷
     Ask (E.Write 1 P.Binary (97 ∷ 98 ∷ 99 ∷ 100 ∷ 101 ∷ 102 ∷ 103 ∷ [])) ∷
@@ -276,7 +276,7 @@ events_late_lists_all_of_a_half_sent_message =
     Ask (E.Send 0) ∷
     []
 
-answers_late_lists_all_of_a_half_sent_message : play start_late_lists_all_of_a_half_sent_message events_late_lists_all_of_a_half_sent_message ≡
+answers_late_lists_all_of_a_partially_sent_message : play start_late_lists_all_of_a_partially_sent_message events_late_lists_all_of_a_partially_sent_message ≡
     Replied R.Opened ∷
     Replied R.«Set» ∷
     Replied (R.Wrote (Some 0) 3) ∷
@@ -289,31 +289,31 @@ answers_late_lists_all_of_a_half_sent_message : play start_late_lists_all_of_a_h
     Replied (R.Wrote (Some 1) 1) ∷
     Replied (R.Sent 3 13 1 1) ∷
     []
-answers_late_lists_all_of_a_half_sent_message = refl
+answers_late_lists_all_of_a_partially_sent_message = refl
 
-ledger_late_lists_all_of_a_half_sent_message : ledger (played start_late_lists_all_of_a_half_sent_message events_late_lists_all_of_a_half_sent_message) ≡ record { written = 8; pending = 0; in_flight = 1; released = 7 }
-ledger_late_lists_all_of_a_half_sent_message = refl
+ledger_late_lists_all_of_a_partially_sent_message : ledger (played start_late_lists_all_of_a_partially_sent_message events_late_lists_all_of_a_partially_sent_message) ≡ record { written = 8; pending = 0; in_flight = 1; released = 7 }
+ledger_late_lists_all_of_a_partially_sent_message = refl
 
-contents_late_lists_all_of_a_half_sent_message : contents (played start_late_lists_all_of_a_half_sent_message events_late_lists_all_of_a_half_sent_message) ≡
+contents_late_lists_all_of_a_partially_sent_message : contents (played start_late_lists_all_of_a_partially_sent_message events_late_lists_all_of_a_partially_sent_message) ≡
     DataContents (chunk 10 1 0 P.Binary (97 ∷ 98 ∷ 99 ∷ []) true false false ∷ []) ∷
     DataContents (chunk 11 1 0 P.Binary (100 ∷ 101 ∷ 102 ∷ []) false false false ∷ []) ∷
     SackContents 9 0 ((2, 2) ∷ []) ([]) ∷
     DataContents (chunk 13 1 1 P.Binary (120 ∷ []) true true false ∷ []) ∷
     []
-contents_late_lists_all_of_a_half_sent_message = refl
+contents_late_lists_all_of_a_partially_sent_message = refl
 
-streams_late_lists_all_of_a_half_sent_message : streams_shown (played start_late_lists_all_of_a_half_sent_message events_late_lists_all_of_a_half_sent_message) ≡
+streams_late_lists_all_of_a_partially_sent_message : streams_shown (played start_late_lists_all_of_a_partially_sent_message events_late_lists_all_of_a_partially_sent_message) ≡
     (1, 1, (2 ∷ 8 ∷ 0 ∷ 0 ∷ [])) ∷
     []
-streams_late_lists_all_of_a_half_sent_message = refl
+streams_late_lists_all_of_a_partially_sent_message = refl
 
-queues_late_lists_all_of_a_half_sent_message : queues_shown (played start_late_lists_all_of_a_half_sent_message events_late_lists_all_of_a_half_sent_message) ≡ (([]), ([]), ((10, ([])) ∷ (11, ([])) ∷ (12, ([])) ∷ (13, (120 ∷ [])) ∷ []), (11 ∷ []), ([]))
-queues_late_lists_all_of_a_half_sent_message = refl
+queues_late_lists_all_of_a_partially_sent_message : queues_shown (played start_late_lists_all_of_a_partially_sent_message events_late_lists_all_of_a_partially_sent_message) ≡ (([]), ([]), ((10, ([])) ∷ (11, ([])) ∷ (12, ([])) ∷ (13, (120 ∷ [])) ∷ []), (11 ∷ []), ([]))
+queues_late_lists_all_of_a_partially_sent_message = refl
 
-reassembly_late_lists_all_of_a_half_sent_message : reassembly_shown (played start_late_lists_all_of_a_half_sent_message events_late_lists_all_of_a_half_sent_message) ≡
+reassembly_late_lists_all_of_a_partially_sent_message : reassembly_shown (played start_late_lists_all_of_a_partially_sent_message events_late_lists_all_of_a_partially_sent_message) ≡
     (0, ((11 ∷ []) ∷ []), ([]), ([])) ∷
     []
-reassembly_late_lists_all_of_a_half_sent_message = refl
+reassembly_late_lists_all_of_a_partially_sent_message = refl
 
 -- late message wholly sent
 abbrev start_late_message_wholly_sent : World

@@ -1,4 +1,4 @@
--- Worked examples for the words of the laws: which messages have lapsed, which slots are late, how long a datagram is.
+-- Worked examples for the words of the laws: which messages are past their deadlines, which slots are late, how long a datagram is.
 use Rattle.std.proofs.Common.{◌≡◌, ℕ, Bool, true, false, List, [], ◌∷◌, map, Some, None, refl}
 use Rattle.std.specs.Prelude.{option_to_list}
 use Rattle.sctp_chunks.specs.declared.chunk.chunk_payload_data.PayloadProtocolIdentifier.TheVariants as P
@@ -7,9 +7,9 @@ use Rattle.sctp_model.specs.declared.event.Event.{Event}
 use Rattle.sctp_model.specs.declared.event.Event.TheVariants as E
 use Rattle.sctp_model.specs.World.{Setup}
 use Rattle.sctp_model.specs.Contents.{Contents, DataContents, datagram}
-use Rattle.sctp_model.specs.Log.{has_lapsed}
+use Rattle.sctp_model.specs.Log.{is_past_deadline_by_events}
 use Rattle.sctp_model.specs.Steps.{History, world_of, may_want_memory}
-use Rattle.sctp_model.specs.Laws.{data_length, packet_length, next_fragment, lapsed_unsent, lapsed_half_sent, lapsed_slots}
+use Rattle.sctp_model.specs.Laws.{data_length, packet_length, next_fragment, unsent_past_deadline, partially_sent_past_deadline, late_slots_by_events}
 use Rattle.sctp_model.proofs.scripts.Play.{told}
 
 abbrev setup_of : ℕ → Setup
@@ -36,29 +36,29 @@ five_messages =
     []
     ) []
 
-abbrev lapsed_at : ℕ → List Bool
-lapsed_at now = map (has_lapsed five_messages now) (0 ∷ 1 ∷ 2 ∷ 3 ∷ 4 ∷ 5 ∷ [])
+abbrev past_deadline_at : ℕ → List Bool
+past_deadline_at now = map (is_past_deadline_by_events five_messages now) (0 ∷ 1 ∷ 2 ∷ 3 ∷ 4 ∷ 5 ∷ [])
 
-not_yet : lapsed_at 1000099 ≡ false ∷ false ∷ false ∷ false ∷ false ∷ false ∷ []
+not_yet : past_deadline_at 1000099 ≡ false ∷ false ∷ false ∷ false ∷ false ∷ false ∷ []
 not_yet = refl
 
-just_now : lapsed_at 1000100 ≡ true ∷ false ∷ false ∷ false ∷ false ∷ false ∷ []
+just_now : past_deadline_at 1000100 ≡ true ∷ false ∷ false ∷ false ∷ false ∷ false ∷ []
 just_now = refl
 
-at_the_end_of_time : lapsed_at 18446744073709551615 ≡ true ∷ false ∷ false ∷ false ∷ false ∷ false ∷ []
+at_the_end_of_time : past_deadline_at 18446744073709551615 ≡ true ∷ false ∷ false ∷ false ∷ false ∷ false ∷ []
 at_the_end_of_time = refl
 
-the_front_expires : lapsed_unsent five_messages (world_of (setup_of 0) five_messages) 1000100 ≡ Some 0
+the_front_expires : unsent_past_deadline five_messages (world_of (setup_of 0) five_messages) 1000100 ≡ Some 0
 the_front_expires = refl
 
-no_tail_is_left : lapsed_half_sent five_messages (world_of (setup_of 0) five_messages) 1000100 ≡ None
+no_tail_is_left : partially_sent_past_deadline five_messages (world_of (setup_of 0) five_messages) 1000100 ≡ None
 no_tail_is_left = refl
 
 -- ## Late slots
 
 -- two of three fragments are sent, and the second is acknowledged by a gap block
-abbrev half_sent : History
-half_sent =
+abbrev partially_sent : History
+partially_sent =
     told (setup_of 0) (
     E.Open 1 ∷
     E.Mode 1 false T.Timed 1 ∷
@@ -71,16 +71,16 @@ half_sent =
     []
     ) []
 
-late_with_all_slots : lapsed_slots (setup_of 0) half_sent (world_of (setup_of 0) half_sent) 1000000 ≡ 0 ∷ 1 ∷ []
+late_with_all_slots : late_slots_by_events (setup_of 0) partially_sent (world_of (setup_of 0) partially_sent) 1000000 ≡ 0 ∷ 1 ∷ []
 late_with_all_slots = refl
 
 abbrev wholly_sent : History
-wholly_sent = told (setup_of 0) (E.Send 0 ∷ []) half_sent
+wholly_sent = told (setup_of 0) (E.Send 0 ∷ []) partially_sent
 
-late_where_not_acknowledged : lapsed_slots (setup_of 0) wholly_sent (world_of (setup_of 0) wholly_sent) 1000000 ≡ 0 ∷ 2 ∷ []
+late_where_not_acknowledged : late_slots_by_events (setup_of 0) wholly_sent (world_of (setup_of 0) wholly_sent) 1000000 ≡ 0 ∷ 2 ∷ []
 late_where_not_acknowledged = refl
 
-the_tail_is_abandoned : lapsed_half_sent half_sent (world_of (setup_of 0) half_sent) 1000000 ≡ Some 0
+the_tail_is_abandoned : partially_sent_past_deadline partially_sent (world_of (setup_of 0) partially_sent) 1000000 ≡ Some 0
 the_tail_is_abandoned = refl
 
 -- ## Lengths
@@ -110,14 +110,14 @@ the_next_would_not_fit = refl
 abbrev wants : List Event → List Event → List Bool
 wants before events = map (may_want_memory (world_of (setup_of 0) (told (setup_of 0) before []))) events
 
--- nothing is pending, nothing has lapsed, and a message wholly sent is abandoned
+-- nothing is pending, nothing is past its deadline, and a message wholly sent is abandoned
 idle_wants_none :
     wants (E.Open 1 ∷ E.Write 1 P.Binary (97 ∷ []) ∷ E.Send 0 ∷ [])
     (E.Send 0 ∷ E.Tail 0 ∷ E.Late 0 ∷ E.Abandon 10 ∷ E.Write 1 P.Binary [] ∷ E.Expire 0 ∷ E.Start 0 ∷ E.Read 1 ∷ [])
     ≡ false ∷ false ∷ false ∷ false ∷ false ∷ false ∷ false ∷ false ∷ []
 idle_wants_none = refl
 
--- a fragment is pending, two slots and the tail have lapsed, and a half-sent message is abandoned
+-- a fragment is pending, two slots and the tail are past their deadlines, and a partially sent message is abandoned
 what_grows_wants :
     wants (E.Open 1 ∷ E.Mode 1 false T.Timed 0 ∷ E.Write 1 P.Binary (97 ∷ 98 ∷ 99 ∷ 100 ∷ []) ∷ E.Send 0 ∷ [])
     (E.Send 0 ∷ E.Tail 0 ∷ E.Late 0 ∷ E.Abandon 10 ∷ E.Write 1 P.Binary (97 ∷ []) ∷ E.Abandon 11 ∷ E.Write 2 P.Binary (97 ∷ []) ∷ [])

@@ -207,12 +207,12 @@ reassembly_skip_into_an_unordered_message : reassembly_shown (played start_skip_
     []
 reassembly_skip_into_an_unordered_message = refl
 
--- skip keeps a whole message
-abbrev start_skip_keeps_a_whole_message : World
-start_skip_keeps_a_whole_message = start (record { first = 10; size = 3; largest = 100; limit = 0 })
+-- skip keeps a complete message
+abbrev start_skip_keeps_a_complete_message : World
+start_skip_keeps_a_complete_message = start (record { first = 10; size = 3; largest = 100; limit = 0 })
 
-abbrev events_skip_keeps_a_whole_message : List Asked
-events_skip_keeps_a_whole_message =
+abbrev events_skip_keeps_a_complete_message : List Asked
+events_skip_keeps_a_complete_message =
     Ask (E.Open 1) ∷
     Ask (E.Write 1 P.Binary (97 ∷ 97 ∷ 97 ∷ [])) ∷
     Ask (E.Write 1 P.Binary (98 ∷ 98 ∷ 98 ∷ [])) ∷
@@ -227,7 +227,7 @@ events_skip_keeps_a_whole_message =
     Ask (E.Arrive 3) ∷
     []
 
-answers_skip_keeps_a_whole_message : play start_skip_keeps_a_whole_message events_skip_keeps_a_whole_message ≡
+answers_skip_keeps_a_complete_message : play start_skip_keeps_a_complete_message events_skip_keeps_a_complete_message ≡
     Replied R.Opened ∷
     Replied (R.Wrote (Some 0) 1) ∷
     Replied (R.Wrote (Some 1) 1) ∷
@@ -241,31 +241,31 @@ answers_skip_keeps_a_whole_message : play start_skip_keeps_a_whole_message event
     Handed 1 P.Binary ((98 ∷ 98 ∷ 98 ∷ []) ∷ []) ∷
     Replied R.Stale ∷
     []
-answers_skip_keeps_a_whole_message = refl
+answers_skip_keeps_a_complete_message = refl
 
-ledger_skip_keeps_a_whole_message : ledger (played start_skip_keeps_a_whole_message events_skip_keeps_a_whole_message) ≡ record { written = 9; pending = 0; in_flight = 9; released = 0 }
-ledger_skip_keeps_a_whole_message = refl
+ledger_skip_keeps_a_complete_message : ledger (played start_skip_keeps_a_complete_message events_skip_keeps_a_complete_message) ≡ record { written = 9; pending = 0; in_flight = 9; released = 0 }
+ledger_skip_keeps_a_complete_message = refl
 
-contents_skip_keeps_a_whole_message : contents (played start_skip_keeps_a_whole_message events_skip_keeps_a_whole_message) ≡
+contents_skip_keeps_a_complete_message : contents (played start_skip_keeps_a_complete_message events_skip_keeps_a_complete_message) ≡
     DataContents (chunk 10 1 0 P.Binary (97 ∷ 97 ∷ 97 ∷ []) true true false ∷ []) ∷
     DataContents (chunk 11 1 1 P.Binary (98 ∷ 98 ∷ 98 ∷ []) true true false ∷ []) ∷
     DataContents (chunk 12 1 2 P.Binary (99 ∷ 99 ∷ 99 ∷ []) true true false ∷ []) ∷
     ForwardContents 11 ((1, 1) ∷ []) ∷
     []
-contents_skip_keeps_a_whole_message = refl
+contents_skip_keeps_a_complete_message = refl
 
-streams_skip_keeps_a_whole_message : streams_shown (played start_skip_keeps_a_whole_message events_skip_keeps_a_whole_message) ≡
+streams_skip_keeps_a_complete_message : streams_shown (played start_skip_keeps_a_complete_message events_skip_keeps_a_complete_message) ≡
     (1, 9, (3 ∷ 9 ∷ 1 ∷ 3 ∷ [])) ∷
     []
-streams_skip_keeps_a_whole_message = refl
+streams_skip_keeps_a_complete_message = refl
 
-queues_skip_keeps_a_whole_message : queues_shown (played start_skip_keeps_a_whole_message events_skip_keeps_a_whole_message) ≡ (([]), ([]), ((10, (97 ∷ 97 ∷ 97 ∷ [])) ∷ (11, (98 ∷ 98 ∷ 98 ∷ [])) ∷ (12, (99 ∷ 99 ∷ 99 ∷ [])) ∷ []), ([]), ([]))
-queues_skip_keeps_a_whole_message = refl
+queues_skip_keeps_a_complete_message : queues_shown (played start_skip_keeps_a_complete_message events_skip_keeps_a_complete_message) ≡ (([]), ([]), ((10, (97 ∷ 97 ∷ 97 ∷ [])) ∷ (11, (98 ∷ 98 ∷ 98 ∷ [])) ∷ (12, (99 ∷ 99 ∷ 99 ∷ [])) ∷ []), ([]), ([]))
+queues_skip_keeps_a_complete_message = refl
 
-reassembly_skip_keeps_a_whole_message : reassembly_shown (played start_skip_keeps_a_whole_message events_skip_keeps_a_whole_message) ≡
+reassembly_skip_keeps_a_complete_message : reassembly_shown (played start_skip_keeps_a_complete_message events_skip_keeps_a_complete_message) ≡
     (2, ([]), ([]), ([])) ∷
     []
-reassembly_skip_keeps_a_whole_message = refl
+reassembly_skip_keeps_a_complete_message = refl
 
 -- skip of a lost message
 abbrev start_skip_of_a_lost_message : World
@@ -333,12 +333,12 @@ reassembly_skip_of_a_lost_message : reassembly_shown (played start_skip_of_a_los
     []
 reassembly_skip_of_a_lost_message = refl
 
--- skip over an end mark
-abbrev start_skip_over_an_end_mark : World
-start_skip_over_an_end_mark = start (record { first = 10; size = 3; largest = 100; limit = 0 })
+-- skip over a terminal chunk
+abbrev start_skip_over_an_terminal_chunk : World
+start_skip_over_an_terminal_chunk = start (record { first = 10; size = 3; largest = 100; limit = 0 })
 
-abbrev events_skip_over_an_end_mark : List Asked
-events_skip_over_an_end_mark =
+abbrev events_skip_over_an_terminal_chunk : List Asked
+events_skip_over_an_terminal_chunk =
     Ask (E.Open 1) ∷
     Ask (E.Write 1 P.Binary (97 ∷ 98 ∷ 99 ∷ 100 ∷ 101 ∷ 102 ∷ 103 ∷ [])) ∷
     Ask (E.Send 0) ∷
@@ -355,7 +355,7 @@ events_skip_over_an_end_mark =
     Ask (E.Acked 3) ∷
     []
 
-answers_skip_over_an_end_mark : play start_skip_over_an_end_mark events_skip_over_an_end_mark ≡
+answers_skip_over_an_terminal_chunk : play start_skip_over_an_terminal_chunk events_skip_over_an_terminal_chunk ≡
     Replied R.Opened ∷
     Replied (R.Wrote (Some 0) 3) ∷
     Replied (R.Sent 0 10 0 1) ∷
@@ -371,31 +371,31 @@ answers_skip_over_an_end_mark : play start_skip_over_an_end_mark events_skip_ove
     Replied R.Nothing ∷
     Replied (R.Acked 1) ∷
     []
-answers_skip_over_an_end_mark = refl
+answers_skip_over_an_terminal_chunk = refl
 
-ledger_skip_over_an_end_mark : ledger (played start_skip_over_an_end_mark events_skip_over_an_end_mark) ≡ record { written = 8; pending = 0; in_flight = 0; released = 8 }
-ledger_skip_over_an_end_mark = refl
+ledger_skip_over_an_terminal_chunk : ledger (played start_skip_over_an_terminal_chunk events_skip_over_an_terminal_chunk) ≡ record { written = 8; pending = 0; in_flight = 0; released = 8 }
+ledger_skip_over_an_terminal_chunk = refl
 
-contents_skip_over_an_end_mark : contents (played start_skip_over_an_end_mark events_skip_over_an_end_mark) ≡
+contents_skip_over_an_terminal_chunk : contents (played start_skip_over_an_terminal_chunk events_skip_over_an_terminal_chunk) ≡
     DataContents (chunk 10 1 0 P.Binary (97 ∷ 98 ∷ 99 ∷ []) true false false ∷ []) ∷
     DataContents (chunk 12 1 1 P.Binary (120 ∷ []) true true false ∷ []) ∷
     ForwardContents 11 ((1, 0) ∷ []) ∷
     SackContents 12 0 ([]) ([]) ∷
     []
-contents_skip_over_an_end_mark = refl
+contents_skip_over_an_terminal_chunk = refl
 
-streams_skip_over_an_end_mark : streams_shown (played start_skip_over_an_end_mark events_skip_over_an_end_mark) ≡
+streams_skip_over_an_terminal_chunk : streams_shown (played start_skip_over_an_terminal_chunk events_skip_over_an_terminal_chunk) ≡
     (1, 0, (2 ∷ 8 ∷ 1 ∷ 1 ∷ [])) ∷
     []
-streams_skip_over_an_end_mark = refl
+streams_skip_over_an_terminal_chunk = refl
 
-queues_skip_over_an_end_mark : queues_shown (played start_skip_over_an_end_mark events_skip_over_an_end_mark) ≡ (([]), ([]), ([]), ([]), ([]))
-queues_skip_over_an_end_mark = refl
+queues_skip_over_an_terminal_chunk : queues_shown (played start_skip_over_an_terminal_chunk events_skip_over_an_terminal_chunk) ≡ (([]), ([]), ([]), ([]), ([]))
+queues_skip_over_an_terminal_chunk = refl
 
-reassembly_skip_over_an_end_mark : reassembly_shown (played start_skip_over_an_end_mark events_skip_over_an_end_mark) ≡
+reassembly_skip_over_an_terminal_chunk : reassembly_shown (played start_skip_over_an_terminal_chunk events_skip_over_an_terminal_chunk) ≡
     (2, ([]), ([]), ([])) ∷
     []
-reassembly_skip_over_an_end_mark = refl
+reassembly_skip_over_an_terminal_chunk = refl
 
 -- skips in order
 abbrev start_skips_in_order : World
@@ -464,12 +464,12 @@ reassembly_skips_in_order : reassembly_shown (played start_skips_in_order events
     []
 reassembly_skips_in_order = refl
 
--- stale skip keeps loose fragments
-abbrev start_stale_skip_keeps_loose_fragments : World
-start_stale_skip_keeps_loose_fragments = start (record { first = 10; size = 3; largest = 100; limit = 0 })
+-- stale skip keeps unassembled fragments
+abbrev start_stale_skip_keeps_unassembled_fragments : World
+start_stale_skip_keeps_unassembled_fragments = start (record { first = 10; size = 3; largest = 100; limit = 0 })
 
-abbrev events_stale_skip_keeps_loose_fragments : List Asked
-events_stale_skip_keeps_loose_fragments =
+abbrev events_stale_skip_keeps_unassembled_fragments : List Asked
+events_stale_skip_keeps_unassembled_fragments =
     Ask (E.Open 1) ∷
     Ask (E.Write 1 P.Binary (97 ∷ 97 ∷ 97 ∷ [])) ∷
     Ask (E.Send 0) ∷
@@ -487,7 +487,7 @@ events_stale_skip_keeps_loose_fragments =
     Ask (E.Read 1) ∷
     []
 
-answers_stale_skip_keeps_loose_fragments : play start_stale_skip_keeps_loose_fragments events_stale_skip_keeps_loose_fragments ≡
+answers_stale_skip_keeps_unassembled_fragments : play start_stale_skip_keeps_unassembled_fragments events_stale_skip_keeps_unassembled_fragments ≡
     Replied R.Opened ∷
     Replied (R.Wrote (Some 0) 1) ∷
     Replied (R.Sent 0 10 0 1) ∷
@@ -504,28 +504,28 @@ answers_stale_skip_keeps_loose_fragments : play start_stale_skip_keeps_loose_fra
     Handed 1 P.Binary ((97 ∷ 97 ∷ 97 ∷ []) ∷ []) ∷
     Replied R.Nothing ∷
     []
-answers_stale_skip_keeps_loose_fragments = refl
+answers_stale_skip_keeps_unassembled_fragments = refl
 
-ledger_stale_skip_keeps_loose_fragments : ledger (played start_stale_skip_keeps_loose_fragments events_stale_skip_keeps_loose_fragments) ≡ record { written = 9; pending = 0; in_flight = 9; released = 0 }
-ledger_stale_skip_keeps_loose_fragments = refl
+ledger_stale_skip_keeps_unassembled_fragments : ledger (played start_stale_skip_keeps_unassembled_fragments events_stale_skip_keeps_unassembled_fragments) ≡ record { written = 9; pending = 0; in_flight = 9; released = 0 }
+ledger_stale_skip_keeps_unassembled_fragments = refl
 
-contents_stale_skip_keeps_loose_fragments : contents (played start_stale_skip_keeps_loose_fragments events_stale_skip_keeps_loose_fragments) ≡
+contents_stale_skip_keeps_unassembled_fragments : contents (played start_stale_skip_keeps_unassembled_fragments events_stale_skip_keeps_unassembled_fragments) ≡
     DataContents (chunk 10 1 0 P.Binary (97 ∷ 97 ∷ 97 ∷ []) true true false ∷ []) ∷
     DataContents (chunk 11 1 1 P.Binary (98 ∷ 98 ∷ 98 ∷ []) true false true ∷ []) ∷
     DataContents (chunk 12 1 1 P.Binary (99 ∷ 99 ∷ 99 ∷ []) false true true ∷ []) ∷
     ForwardContents 11 ([]) ∷
     []
-contents_stale_skip_keeps_loose_fragments = refl
+contents_stale_skip_keeps_unassembled_fragments = refl
 
-streams_stale_skip_keeps_loose_fragments : streams_shown (played start_stale_skip_keeps_loose_fragments events_stale_skip_keeps_loose_fragments) ≡
+streams_stale_skip_keeps_unassembled_fragments : streams_shown (played start_stale_skip_keeps_unassembled_fragments events_stale_skip_keeps_unassembled_fragments) ≡
     (1, 9, (2 ∷ 9 ∷ 2 ∷ 9 ∷ [])) ∷
     []
-streams_stale_skip_keeps_loose_fragments = refl
+streams_stale_skip_keeps_unassembled_fragments = refl
 
-queues_stale_skip_keeps_loose_fragments : queues_shown (played start_stale_skip_keeps_loose_fragments events_stale_skip_keeps_loose_fragments) ≡ (([]), ([]), ((10, (97 ∷ 97 ∷ 97 ∷ [])) ∷ (11, (98 ∷ 98 ∷ 98 ∷ [])) ∷ (12, (99 ∷ 99 ∷ 99 ∷ [])) ∷ []), ([]), ([]))
-queues_stale_skip_keeps_loose_fragments = refl
+queues_stale_skip_keeps_unassembled_fragments : queues_shown (played start_stale_skip_keeps_unassembled_fragments events_stale_skip_keeps_unassembled_fragments) ≡ (([]), ([]), ((10, (97 ∷ 97 ∷ 97 ∷ [])) ∷ (11, (98 ∷ 98 ∷ 98 ∷ [])) ∷ (12, (99 ∷ 99 ∷ 99 ∷ [])) ∷ []), ([]), ([]))
+queues_stale_skip_keeps_unassembled_fragments = refl
 
-reassembly_stale_skip_keeps_loose_fragments : reassembly_shown (played start_stale_skip_keeps_loose_fragments events_stale_skip_keeps_loose_fragments) ≡
+reassembly_stale_skip_keeps_unassembled_fragments : reassembly_shown (played start_stale_skip_keeps_unassembled_fragments events_stale_skip_keeps_unassembled_fragments) ≡
     (1, ([]), ([]), ([])) ∷
     []
-reassembly_stale_skip_keeps_loose_fragments = refl
+reassembly_stale_skip_keeps_unassembled_fragments = refl

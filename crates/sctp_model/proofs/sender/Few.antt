@@ -2,14 +2,14 @@
 use Rattle.std.proofs.Common.{◌≡◌, ℕ, zero, suc, ◌+◌, ◌<◌, ◌≤◌, ◌^◌, Bool, true, false, [], ◌∷◌, ◌++◌, length, refl, ap, sym, ◌∙◌, arith, length-append}
 use Rattle.std.specs.Prelude.{if◌then◌else◌, ◌==◌, ◌&&◌, not, nat_lt}
 use Rattle.std.proofs.lemmas.Bool.Decides.{nat_tests}
-use Rattle.sctp_lists.specs.Kept.{kept, always, total_over}
-use Rattle.sctp_lists.proofs.KeptLemmas.{kept-snoc}
+use Rattle.sctp_list_lemmas.specs.Kept.{kept, always, total_over}
+use Rattle.sctp_list_lemmas.proofs.Passing.{kept-snoc}
 use Rattle.sctp_model.specs.World.{Setup, World}
 use Rattle.sctp_model.proofs.sender.Shape.{Shape, shape, sent, parts}
 use Rattle.sctp_model.proofs.sender.Sender.{Sender}
 use Rattle.sctp_model.proofs.sender.SenderRun.{Sane, accepted_of}
-use Rattle.sctp_lists.proofs.Cases.{by_same, same-yes}
-use Rattle.sctp_lists.proofs.Totals.{total-none, total-one, total-le}
+use Rattle.sctp_list_lemmas.proofs.Cases.{by_same, same-yes}
+use Rattle.sctp_list_lemmas.proofs.Totals.{total-none, total-one, total-le}
 
 -- each of so many things is of one of the messages
 counted : (g : ℕ → ℕ) (most things : ℕ) → ((p : ℕ) → p < things → g p < most) → total_over (λ n. length (kept (λ p. g p == n) 0 things)) (kept always 0 most) ≡ things
@@ -49,7 +49,7 @@ few-slots x s = omega (arith, counted (λ p. (x.slot p).message) x.count x.slots
     one false b m p le e = omega arith
 
     each : (n : ℕ) → n < x.count → length (kept (λ p. (x.slot p).message == n) 0 x.slots) ≤ parts x n
-    each n lt = omega (arith, length-split (λ p. (x.slot p).message == n) (λ p. (x.slot p).is_end_mark) 0 x.slots, s.marks n lt, one (x.message n).abandoned (nat_lt (sent x n) (parts x n)) (sent x n) (parts x n) (s.within n lt) refl)
+    each n lt = omega (arith, length-split (λ p. (x.slot p).message == n) (λ p. (x.slot p).is_terminal_chunk) 0 x.slots, s.marks n lt, one (x.message n).abandoned (nat_lt (sent x n) (parts x n)) (sent x n) (parts x n) (s.within n lt) refl)
 
 pub few : (setup : Setup) (w : World) → Sane setup w → length w.slots < 2 ^ 31
 few setup w g = omega (arith, few-slots (shape w) g.sender, g.accepted)

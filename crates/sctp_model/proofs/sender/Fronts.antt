@@ -1,14 +1,14 @@
 use Rattle.std.proofs.Common.{◌≡◌, ℕ, ◌<◌, ◌≤◌, Bool, true, false, length, Option, Some, None, refl, ap, sym, ◌∙◌, inl, inr, arith}
 use Rattle.std.specs.Prelude.{◌⊎◌, if◌then◌else◌, ◌==◌, ◌&&◌, not, nat_lt}
 use Rattle.std.proofs.lemmas.Bool.{cases_lt}
-use Rattle.sctp_lists.specs.Kept.{kept, first_of, or_else}
-use Rattle.sctp_lists.proofs.More.{fails, not_both, both, and, length-kept-positive}
+use Rattle.sctp_list_lemmas.specs.Kept.{kept, first_of, or_else}
+use Rattle.sctp_list_lemmas.proofs.More.{fails, not_both, both, and, length-kept-positive}
 use Rattle.sctp_model.proofs.sender.Shape.{Shape, sent, parts, half, unsent, front_of}
 use Rattle.sctp_model.proofs.sender.Sender.{Sender, is_mark}
 use Rattle.sctp_model.proofs.sender.SenderSteps.{Takes, sent-some, of-half, half-one}
 use Rattle.sctp_model.proofs.sender.SenderEnds.{sent-none}
-use Rattle.sctp_lists.proofs.Cases.{same-yes, same-is, negated}
-use Rattle.sctp_lists.proofs.Tests.{FirstOf, first-kept}
+use Rattle.sctp_list_lemmas.proofs.Cases.{same-yes, same-is, negated}
+use Rattle.sctp_list_lemmas.proofs.Tests.{FirstOf, first-kept}
 
 -- The message to send from is one whose next fragment can take a slot.
 
@@ -33,7 +33,7 @@ is-unsent x n a b = and (sent x n == 0) (not (x.message n).expired) (ap (λ c. c
 pub alive-unsent : (x : Shape) (n : ℕ) → Sender x → n < x.count → sent x n ≡ 0 → (x.message n).abandoned ≡ false
 alive-unsent x n s lt z = fails (x.message n).abandoned (λ e. absurd (omega (arith, s.abandoned_sent n lt e)))
 
--- a front is half-sent or unsent
+-- a front is partially sent or unsent
 pub front-takes : (x : Shape) (n : ℕ) → Sender x → front_of x ≡ Some n → Takes x n
 front-takes x n s e = first (first_of (kept (half x) 0 x.count)) (first-kept (half x) x.count) e
   where
@@ -91,7 +91,7 @@ front-takes x n s e = first (first_of (kept (half x) 0 x.count)) (first-kept (ha
           turn = λ o z. absurd (omega (arith, i.some));
         }
 
--- with no front nothing is half-sent and nothing is unsent
+-- with no front nothing is partially sent and nothing is unsent
 pub front-none : (x : Shape) → front_of x ≡ None → (n : ℕ) → n < x.count → (half x n ≡ false) × (unsent x n ≡ false)
 front-none x e n lt = first (first_of (kept (half x) 0 x.count)) (first-kept (half x) x.count) e
   where
@@ -112,11 +112,11 @@ front-none x e n lt = first (first_of (kept (half x) 0 x.count)) (first-kept (ha
     first None f e = second (f n lt) (first_of (kept (λ k. unsent x k && not (x.message k).ordered) 0 x.count)) (first-kept (λ k. unsent x k && not (x.message k).ordered) x.count) e
     first (Some k) f e = cc
 
--- an end mark is of an abandoned message
-pub mark-abandoned : (x : Shape) (p : ℕ) → Sender x → p < x.slots → (x.slot p).is_end_mark ≡ true → (x.message (x.slot p).message).abandoned ≡ true
+-- a terminal chunk is of an abandoned message
+pub mark-abandoned : (x : Shape) (p : ℕ) → Sender x → p < x.slots → (x.slot p).is_terminal_chunk ≡ true → (x.message (x.slot p).message).abandoned ≡ true
 mark-abandoned x p s lt e =
     let n = (x.slot p).message in
-    let some : 0 < length (kept (is_mark x n) 0 x.slots) = length-kept-positive (is_mark x n) p 0 x.slots (omega arith) (omega arith) (and ((x.slot p).message == n) (x.slot p).is_end_mark (same-yes n) e) in
+    let some : 0 < length (kept (is_mark x n) 0 x.slots) = length-kept-positive (is_mark x n) p 0 x.slots (omega arith) (omega arith) (and ((x.slot p).message == n) (x.slot p).is_terminal_chunk (same-yes n) e) in
     abandoned (x.message n).abandoned (omega (arith, some, s.marks n (s.made p lt)))
   where
     abandoned : (b : Bool) → ◌<◌ 0 (if b && nat_lt (sent x (x.slot p).message) (parts x (x.slot p).message) then 1 else 0) → b ≡ true
@@ -125,8 +125,8 @@ mark-abandoned x p s lt e =
 
 -- a message with a slot was sent, in part at least
 pub slot-sent : (x : Shape) (p : ℕ) → Sender x → p < x.slots → 0 < sent x (x.slot p).message
-slot-sent x p s lt = step (x.slot p).is_end_mark refl
+slot-sent x p s lt = step (x.slot p).is_terminal_chunk refl
   where
-    step : (b : Bool) → (x.slot p).is_end_mark ≡ b → 0 < sent x (x.slot p).message
-    step false e = sent-some x (x.slot p).message p lt (and ((x.slot p).message == (x.slot p).message) (not (x.slot p).is_end_mark) (same-yes (x.slot p).message) (ap not e))
+    step : (b : Bool) → (x.slot p).is_terminal_chunk ≡ b → 0 < sent x (x.slot p).message
+    step false e = sent-some x (x.slot p).message p lt (and ((x.slot p).message == (x.slot p).message) (not (x.slot p).is_terminal_chunk) (same-yes (x.slot p).message) (ap not e))
     step true e = s.abandoned_sent (x.slot p).message (s.made p lt) (mark-abandoned x p s lt e)

@@ -1,17 +1,17 @@
 use Rattle.std.proofs.Common.{◌≡◌, ℕ, ◌+◌, ◌<◌, ◌≤◌, Bool, true, false, length, refl, ap, sym, ◌∙◌, inl, inr, arith}
 use Rattle.std.specs.Prelude.{◌⊎◌, if◌then◌else◌, ◌==◌, ◌&&◌, ◌||◌, not}
 use Rattle.std.proofs.Math.Path.{subst}
-use Rattle.sctp_lists.specs.Kept.{kept}
-use Rattle.sctp_lists.specs.Lists.{pieces}
-use Rattle.sctp_lists.proofs.KeptLemmas.{kept-same}
-use Rattle.sctp_lists.proofs.More.{not_both, and}
+use Rattle.sctp_list_lemmas.specs.Kept.{kept}
+use Rattle.sctp_list_lemmas.specs.Lists.{pieces}
+use Rattle.sctp_list_lemmas.proofs.Passing.{kept-same}
+use Rattle.sctp_list_lemmas.proofs.More.{not_both, and}
 use Rattle.sctp_model.proofs.sender.Shape.{Shape, MessagePart, sent, parts, on, index, slotted, written, abandoned_at, expired_at}
 use Rattle.sctp_model.proofs.sender.Sender.{Sender, sent-slotted, slot-old}
 use Rattle.sctp_model.proofs.sender.SenderSteps.{Takes, sent-other, sent-grows}
 use Rattle.sctp_model.proofs.sender.SenderEnds.{message-old, on-old}
 use Rattle.sctp_model.proofs.sender.Slots.{sent-made, sent-alive}
-use Rattle.sctp_lists.proofs.Cases.{by_same, same-yes}
-use Rattle.sctp_lists.proofs.Cases.{or-right}
+use Rattle.sctp_list_lemmas.proofs.Cases.{by_same, same-yes}
+use Rattle.sctp_list_lemmas.proofs.Cases.{or-right}
 
 -- What later messages and slots leave as it was.
 
@@ -144,7 +144,7 @@ grows-written x m s = record {
       ∙ ap length (kept-same (on (written x m) (x.message k).stream) (on x (x.message k).stream) 0 k (λ j a b. on-old x m (x.message k).stream j (omega arith)));
 }
 
--- an end mark alone
+-- a terminal chunk alone
 pub grows-marks : (x : Shape) (n : ℕ) → Grows x (slotted x n true)
 grows-marks x n = record {
   size = refl;

@@ -3,9 +3,9 @@ use Rattle.std.specs.Prelude.{◌⊎◌, if◌then◌else◌, ◌==◌, ◌||◌
 use Rattle.std.specs.List.{list_any}
 use Rattle.std.proofs.lemmas.Bool.{cases_lt}
 use Rattle.std.proofs.lemmas.Bool.Decides.{nat_tests}
-use Rattle.sctp_lists.specs.Kept.{kept, always, passing, or_else}
-use Rattle.sctp_lists.specs.Lists.{changed}
-use Rattle.sctp_lists.proofs.More.{changed-keeps, length-changed, same_test}
+use Rattle.sctp_list_lemmas.specs.Kept.{kept, always, passing, or_else}
+use Rattle.sctp_list_lemmas.specs.Lists.{changed}
+use Rattle.sctp_list_lemmas.proofs.More.{changed-keeps, length-changed, same_test}
 use Rattle.sctp_model.specs.declared.event.Event.{Event}
 use Rattle.sctp_model.specs.declared.event.Event.TheVariants as E
 use Rattle.sctp_model.specs.Reply.{Reply}
@@ -21,9 +21,9 @@ use Rattle.sctp_model.proofs.sender.SenderRun.{fold-keeps, sane-run, written_as}
 use Rattle.sctp_model.proofs.sender.Network.{extends-after}
 use Rattle.sctp_model.proofs.sender.Written.{messages_are_writes}
 use Rattle.sctp_model.proofs.acknowledgement.BytesTold.{messages-sent, count-abandoned, count-late}
-use Rattle.sctp_lists.proofs.Getting.{get-snoc_old, get-snoc_new, length-mapped, map-at}
-use Rattle.sctp_lists.proofs.Tests.{any-append}
-use Rattle.sctp_lists.proofs.Totals.{length-numbers}
+use Rattle.sctp_list_lemmas.proofs.Getting.{get-snoc_old, get-snoc_new, length-mapped, map-at}
+use Rattle.sctp_list_lemmas.proofs.Tests.{any-append}
+use Rattle.sctp_list_lemmas.proofs.Totals.{length-numbers}
 
 -- When lifetimes start, and what Late abandons.
 
@@ -41,7 +41,7 @@ started-sent w now n None lt = started-now w now n lt
 started-sent w now n (Some m) lt = ap (λ ms. (slice_index_or ms n Messages.no_message).started) (messages-sent (Changes.started w now)) ∙ started-now w now n lt
 
 started-abandoned : (w : World) (m n : ℕ) → (Messages.message_at (Changes.abandoned w m) n).started ≡ (Messages.message_at w n).started
-started-abandoned w m n = step (Messages.is_half_sent w m)
+started-abandoned w m n = step (Messages.is_partially_sent w m)
   where
     step : (b : Bool) → (Messages.message_at (Changes.message_changed (if b then Changes.with_slot w m true else w) m Changes.mark_abandoned) n).started ≡ (Messages.message_at w n).started
     step true = changed-keeps Changes.mark_abandoned (λ y. y.started) (λ y. refl) m n w.messages Messages.no_message
@@ -191,7 +191,7 @@ pub swap : (m n : ℕ) → (n == m) ≡ (m == n)
 swap m n = same_test (n == m) (m == n) (λ e. grind (arith, nat_tests)) (λ e. grind (arith, nat_tests))
 
 pub abandoned-by : (w : World) (m n : ℕ) → (Messages.message_at (Changes.abandoned w m) n).abandoned ≡ ((n == m) || (Messages.message_at w n).abandoned)
-abandoned-by w m n = step (Messages.is_half_sent w m)
+abandoned-by w m n = step (Messages.is_partially_sent w m)
   where
     step : (b : Bool) → (Messages.message_at (Changes.message_changed (if b then Changes.with_slot w m true else w) m Changes.mark_abandoned) n).abandoned ≡ ((n == m) || (Messages.message_at w n).abandoned)
     step true = ap (λ x. (x.message n).abandoned) (Shapes.shape-abandoned (Changes.with_slot w m true) m)
@@ -238,8 +238,8 @@ late_abandons_listed setup h is run now n lt =
     let all = map (Messages.message_of w) (Changes.late_slots w now) in
     abandoned-all (Changes.late_messages w now) w n
     ∙ ap (λ b. (Messages.message_at w n).abandoned || b)
-    (any-append (λ m. m == n) (passing (Messages.is_half_sent w) all) all
-    ∙ absorbed (list_any (λ m. m == n) (passing (Messages.is_half_sent w) all)) (list_any (λ m. m == n) all) (any-passing (λ m. m == n) (Messages.is_half_sent w) all)
+    (any-append (λ m. m == n) (passing (Messages.is_partially_sent w) all) all
+    ∙ absorbed (list_any (λ m. m == n) (passing (Messages.is_partially_sent w) all)) (list_any (λ m. m == n) all) (any-passing (λ m. m == n) (Messages.is_partially_sent w) all)
     ∙ any-mapped (λ m. m == n) (Messages.message_of w) (Changes.late_slots w now))
   where
     absorbed : (a b : Bool) → (a ≡ true → b ≡ true) → (a || b) ≡ b

@@ -2,9 +2,9 @@ use Rattle.std.proofs.Common.{◌≡◌, ℕ, zero, suc, ◌+◌, Bool, true, fa
 use Rattle.std.specs.Prelude.{if◌then◌else◌, ◌==◌, not, slice_get, find, unwrap_or}
 use Rattle.std.proofs.lemmas.List.{map-append}
 use Rattle.std.proofs.lemmas.Bool.Decides.{nat_tests}
-use Rattle.sctp_lists.specs.Lists.{changed}
-use Rattle.sctp_lists.proofs.More.{same_test}
-use Rattle.sctp_lists.proofs.Cases.{negated}
+use Rattle.sctp_list_lemmas.specs.Lists.{changed}
+use Rattle.sctp_list_lemmas.proofs.More.{same_test}
+use Rattle.sctp_list_lemmas.proofs.Cases.{negated}
 use Rattle.sctp_model.specs.declared.event.Event.{Event}
 use Rattle.sctp_model.specs.declared.event.Event.TheVariants as E
 use Rattle.sctp_model.specs.declared.event.LinkRefusal.TheVariants.{StreamUnknown, StreamOpen}
@@ -89,7 +89,7 @@ abbrev kept_modes : World → List Mode
 kept_modes w = map mode_of w.messages
 
 kept-abandoned : (w : World) (n : ℕ) → kept_modes (Changes.abandoned w n) ≡ kept_modes w
-kept-abandoned w n = step (Messages.is_half_sent w n)
+kept-abandoned w n = step (Messages.is_partially_sent w n)
   where
     step : (b : Bool) → kept_modes (Changes.message_changed (if b then Changes.with_slot w n true else w) n Changes.mark_abandoned) ≡ kept_modes w
     step true = modes-flagged Changes.mark_abandoned (λ m. refl) n w.messages

@@ -2,8 +2,8 @@
 use Rattle.std.proofs.Common.{◌≡◌, ℕ, ◌-◌, ◌<◌, ◌≤◌, Bool, true, false, List, [], ◌∷◌, ◌++◌, length, map, Option, Some, None, refl, ap, sym, ◌∙◌, inl, inr, arith, length-append, append-nil, append_assoc}
 use Rattle.std.specs.Prelude.{◌⊎◌, if◌then◌else◌, ◌==◌, ◌&&◌, fold}
 use Rattle.std.proofs.lemmas.Bool.{cases_lt}
-use Rattle.sctp_lists.proofs.More.{length-changed, changed-keeps}
-use Rattle.sctp_lists.specs.Lists.{changed}
+use Rattle.sctp_list_lemmas.proofs.More.{length-changed, changed-keeps}
+use Rattle.sctp_list_lemmas.specs.Lists.{changed}
 use Rattle.sctp_chunks.specs.declared.chunk.chunk_payload_data.PayloadProtocolIdentifier.{PayloadProtocolIdentifier}
 use Rattle.sctp_model.specs.World.{Setup, Message, Slot, Datagram, Data, World}
 use Rattle.sctp_model.specs.Messages
@@ -13,10 +13,10 @@ use Rattle.sctp_model.proofs.sender.Shape.{shape, message_part, slotted, abandon
 use Rattle.sctp_model.proofs.sender.Shapes
 use Rattle.sctp_model.proofs.sender.Fronts.{front-takes, of-unsent}
 use Rattle.sctp_model.proofs.sender.SenderRun.{Sane, sane-takes, sane-abandoned, sane-started, filled-keeps, written_as, AllSent, sent-all, late-sent}
-use Rattle.sctp_lists.specs.Kept.{numbers_from}
+use Rattle.sctp_list_lemmas.specs.Kept.{numbers_from}
 use Rattle.sctp_model.proofs.sender.Grows.{Grows, grows-same, grows-by, grows-then, grows-takes, grows-abandoned, grows-marked, grows-marks, grows-expired, grows-written}
-use Rattle.sctp_lists.proofs.Cases.{by_same}
-use Rattle.sctp_lists.proofs.Getting.{get-beyond, get-snoc_old, get-snoc_new, get-snoc, get-map, length-mapped}
+use Rattle.sctp_list_lemmas.proofs.Cases.{by_same}
+use Rattle.sctp_list_lemmas.proofs.Getting.{get-beyond, get-snoc_old, get-snoc_new, get-snoc, get-map, length-mapped}
 
 -- what a sender's change leaves
 pub record Quiet (w v : World) : Type 0 where
@@ -116,7 +116,7 @@ quiet-slot w n mark g = record {
 }
   where
     new : Slot
-    new = record { message = n; fragment = Messages.sent_of w n; is_end_mark = mark; arrived = false; acknowledged = false }
+    new = record { message = n; fragment = Messages.sent_of w n; is_terminal_chunk = mark; arrived = false; acknowledged = false }
 
     same : (b c : Bool) → c ≡ false → (if b then false else c) ≡ c
     same true c e = sym e
@@ -130,7 +130,7 @@ quiet-takes setup w g = step (Messages.front w) refl
     step (Some n) e = quiet-slot w n false (grows-by (shape w) (shape (Changes.with_slot w n false)) (slotted (shape w) n false) (Shapes.shape-slot w n false) (grows-takes (shape w) n (front-takes (shape w) n g.sender e)))
 
 pub quiet-abandoned : (setup : Setup) (w : World) (n : ℕ) → Sane setup w → Quiet w (Changes.abandoned w n)
-quiet-abandoned setup w n g = step (Messages.is_half_sent w n) refl
+quiet-abandoned setup w n g = step (Messages.is_partially_sent w n) refl
   where
     joined : (v : World) → Quiet w v → Grows (shape w) (shape (Changes.message_changed v n Changes.mark_abandoned)) → Quiet w (Changes.message_changed v n Changes.mark_abandoned)
     joined v q grown = record {
@@ -151,7 +151,7 @@ quiet-abandoned setup w n g = step (Messages.is_half_sent w n) refl
     slot-grows : Grows (shape w) (shape (Changes.with_slot w n true))
     slot-grows = grows-by (shape w) (shape (Changes.with_slot w n true)) (slotted (shape w) n true) (Shapes.shape-slot w n true) (grows-marks (shape w) n)
 
-    step : (b : Bool) → Messages.is_half_sent w n ≡ b → Quiet w (Changes.message_changed (if b then Changes.with_slot w n true else w) n Changes.mark_abandoned)
+    step : (b : Bool) → Messages.is_partially_sent w n ≡ b → Quiet w (Changes.message_changed (if b then Changes.with_slot w n true else w) n Changes.mark_abandoned)
     step true e = joined (Changes.with_slot w n true) (quiet-slot w n true slot-grows)
         (grows-by (shape w) (shape (Changes.message_changed (Changes.with_slot w n true) n Changes.mark_abandoned)) (abandoned_at (slotted (shape w) n true) n) (Shapes.shape-abandoned (Changes.with_slot w n true) n ∙ ap (λ y. abandoned_at y n) (Shapes.shape-slot w n true)) (grows-marked (shape w) n))
     step false e = joined w (quiet-none w) (grows-by (shape w) (shape (Changes.message_changed w n Changes.mark_abandoned)) (abandoned_at (shape w) n) (Shapes.shape-abandoned w n) (grows-abandoned (shape w) n))
@@ -220,9 +220,9 @@ quiet-late setup (n ∷ ns) w g a =
 
 -- ## The sender's events
 
-pub quiet-expire : (setup : Setup) (w : World) (now : ℕ) (o : Option ℕ) → Sane setup w → Quiet w (Changes.expired w (Changes.front_if w (λ n. Messages.is_unsent w n && Messages.is_lapsed w now n) o))
+pub quiet-expire : (setup : Setup) (w : World) (now : ℕ) (o : Option ℕ) → Sane setup w → Quiet w (Changes.expired w (Changes.front_if w (λ n. Messages.is_unsent w n && Messages.is_past_deadline w now n) o))
 quiet-expire setup w now None g = quiet-none w
-quiet-expire setup w now (Some n) g = step (Messages.is_unsent w n) (Messages.is_lapsed w now n) refl
+quiet-expire setup w now (Some n) g = step (Messages.is_unsent w n) (Messages.is_past_deadline w now n) refl
   where
     step : (b c : Bool) → Messages.is_unsent w n ≡ b → Quiet w (Changes.expired w (if b && c then Some n else None))
     step true true e = quiet-expired setup w n g e

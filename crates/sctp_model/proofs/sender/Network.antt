@@ -4,10 +4,10 @@ use Rattle.std.specs.List.{list_any, list_all}
 use Rattle.std.proofs.Math.Path.{subst}
 use Rattle.std.proofs.lemmas.Bool.{cases_lt}
 use Rattle.std.proofs.lemmas.Bool.Decides.{nat_tests}
-use Rattle.sctp_lists.specs.Kept.{kept, always, numbers_from}
-use Rattle.sctp_lists.specs.Lists.{changed, pieces}
-use Rattle.sctp_lists.proofs.KeptLemmas.{length-kept-lt, length-kept-mono, kept-same}
-use Rattle.sctp_lists.proofs.More.{fails, not_both, both}
+use Rattle.sctp_list_lemmas.specs.Kept.{kept, always, numbers_from}
+use Rattle.sctp_list_lemmas.specs.Lists.{changed, pieces}
+use Rattle.sctp_list_lemmas.proofs.Passing.{length-kept-lt, length-kept-mono, kept-same}
+use Rattle.sctp_list_lemmas.proofs.More.{fails, not_both, both}
 use Rattle.sctp_chunks.specs.PayloadData.{Data}
 use Rattle.sctp_chunks.specs.ChunkSet.{fresh}
 use Rattle.sctp_model.specs.declared.event.Event.{Event}
@@ -21,7 +21,7 @@ use Rattle.sctp_model.specs.Changes
 use Rattle.sctp_model.specs.Reports.{report_of}
 use Rattle.sctp_model.specs.Contents.{chunk_at, name_of, contents_of, contents_in, DataContents, ForwardContents, SackContents}
 use Rattle.sctp_model.specs.Steps.{History, world_of, IsRun, refusal_of, after, unless, can_name, is_ended, can_resend, skip_refusal}
-use Rattle.sctp_model.specs.Laws.{OnEveryRun, NoEndMarkIsSent, DatagramsStay}
+use Rattle.sctp_model.specs.Laws.{OnEveryRun, NoTerminalChunkIsSent, DatagramsStay}
 use Rattle.sctp_model.proofs.sender.Shape.{Shape, MessagePart, shape, has, sent, parts, index, slotted}
 use Rattle.sctp_model.proofs.sender.Sender.{Sender, slot-old, slot-new}
 use Rattle.sctp_model.proofs.sender.Slots.{sent-made}
@@ -31,9 +31,9 @@ use Rattle.sctp_model.proofs.sender.Grows.{Grows, IsEnded, as_written, grows-sam
 use Rattle.sctp_model.proofs.sender.Moves
 use Rattle.sctp_model.proofs.sender.Fronts.{slot-sent, mark-abandoned}
 use Rattle.sctp_chunks.specs.declared.chunk.chunk_payload_data.PayloadProtocolIdentifier.{PayloadProtocolIdentifier}
-use Rattle.sctp_lists.proofs.Cases.{by_last, same-is, negated}
-use Rattle.sctp_lists.proofs.Getting.{slice-front}
-use Rattle.sctp_lists.proofs.Tests.{all-out}
+use Rattle.sctp_list_lemmas.proofs.Cases.{by_last, same-is, negated}
+use Rattle.sctp_list_lemmas.proofs.Getting.{slice-front}
+use Rattle.sctp_list_lemmas.proofs.Tests.{all-out}
 
 -- What lies in the network stays true as the record grows.
 
@@ -122,7 +122,7 @@ extends-after setup w (E.Read s) ok g = extends-same w (Changes.read_from w s) (
 
 abbrev pub SlotsFit : Shape → List ℕ → Type 0
 SlotsFit x [] = Unit {0}
-SlotsFit x (p ∷ ps) = (p < x.slots) × ((x.slot p).is_end_mark ≡ false) × SlotsFit x ps
+SlotsFit x (p ∷ ps) = (p < x.slots) × ((x.slot p).is_terminal_chunk ≡ false) × SlotsFit x ps
 
 -- a message that a skip names
 pub record IsNamable (x : Shape) (upto n : ℕ) : Type 0 where
@@ -146,12 +146,12 @@ AllFit x (d ∷ ds) = Fits x d × AllFit x ds
 
 slots-grown : (x y : Shape) → Grows x y → (ps : List ℕ) → SlotsFit x ps → SlotsFit y ps
 slots-grown x y g [] f = tt
-slots-grown x y g (p ∷ ps) f = (omega (arith, f.0, g.slots), ap (λ s. s.is_end_mark) (g.slot p f.0) ∙ f.1, slots-grown x y g ps f.2)
+slots-grown x y g (p ∷ ps) f = (omega (arith, f.0, g.slots), ap (λ s. s.is_terminal_chunk) (g.slot p f.0) ∙ f.1, slots-grown x y g ps f.2)
 
 -- an ended message has no slot past those it had
 no-later : (x y : Shape) → Grows x y → (n q : ℕ) → 0 < sent x n → IsEnded x n → x.slots ≤ q → q < y.slots → has y n q ≡ true → ⊥
 no-later x y g n q pos e a b h =
-    let old : length (kept (has y n) 0 x.slots) ≡ sent x n = ap length (kept-same (has y n) (has x n) 0 x.slots (λ k i j. ap (λ s. (s.message == n) && not s.is_end_mark) (g.slot k (omega arith)))) in
+    let old : length (kept (has y n) 0 x.slots) ≡ sent x n = ap length (kept-same (has y n) (has x n) 0 x.slots (λ k i j. ap (λ s. (s.message == n) && not s.is_terminal_chunk) (g.slot k (omega arith)))) in
     absurd (omega (arith, g.ended n pos e, old, length-kept-mono (has y n) 0 x.slots q a, length-kept-lt (has y n) 0 q y.slots (ap (has y n) (zero-add q) ∙ h) b))
 
 pub namable-grown : (x y : Shape) → Sender x → Grows x y → (upto n : ℕ) → IsNamable x upto n → IsNamable y upto n
@@ -170,7 +170,7 @@ namable-grown x y s g upto n f = record {
     later (inr e) = inr (g.abandoned n made e)
 
     place : (q : ℕ) → q < y.slots → has y n q ≡ true → (q < x.slots) ⊎ (x.slots ≤ q) → q ≤ upto
-    place q lt h (inl l) = f.within q l (ap (λ s. (s.message == n) && not s.is_end_mark) (sym (g.slot q l)) ∙ h)
+    place q lt h (inl l) = f.within q l (ap (λ s. (s.message == n) && not s.is_terminal_chunk) (sym (g.slot q l)) ∙ h)
     place q lt h (inr o) = absurd (no-later x y g n q f.some f.ended o lt h)
 
 pub names-grown : (x y : Shape) → Sender x → Grows x y → (upto : ℕ) (ns : List ℕ) → NamesFit x upto ns → NamesFit y upto ns
@@ -207,16 +207,16 @@ fit-more w v d s g e f a = subst (AllFit (shape v)) (sym e) (all-fit-append (sha
 -- the slots that a send adds have fragments
 record Adds (setup : Setup) (w v : World) : Type 0 where
   reached : Moves.Reached setup w v
-  fragments : (p : ℕ) → length w.slots ≤ p → p < length v.slots → (Messages.slot_at v p).is_end_mark ≡ false
+  fragments : (p : ℕ) → length w.slots ≤ p → p < length v.slots → (Messages.slot_at v p).is_terminal_chunk ≡ false
 
 adds-more : (setup : Setup) (w : World) → Sane setup w → (v : World) → Adds setup w v → Adds setup w (Changes.fragment_sent v)
 adds-more setup w g v a = record { reached = Moves.reached-more setup w g v a.reached; fragments = step (Messages.front v) }
   where
-    step : (o : Option ℕ) → (p : ℕ) → length w.slots ≤ p → p < length (Changes.fragment_of_sent v o).slots → (Messages.slot_at (Changes.fragment_of_sent v o) p).is_end_mark ≡ false
+    step : (o : Option ℕ) → (p : ℕ) → length w.slots ≤ p → p < length (Changes.fragment_of_sent v o).slots → (Messages.slot_at (Changes.fragment_of_sent v o) p).is_terminal_chunk ≡ false
     step None p low high = a.fragments p low high
-    step (Some n) p low high = by_last {P = ((shape (Changes.with_slot v n false)).slot p).is_end_mark ≡ false} p (length v.slots) (omega (arith, high, ap (λ y. y.slots) (Shapes.shape-slot v n false)))
-        (λ o. ap (λ y. (y.slot p).is_end_mark) (Shapes.shape-slot v n false) ∙ ap (λ y. y.is_end_mark) (slot-old (shape v) n p false o) ∙ a.fragments p low o)
-        (λ e. ap (λ y. (y.slot p).is_end_mark) (Shapes.shape-slot v n false) ∙ ap (λ q. ((slotted (shape v) n false).slot q).is_end_mark) e ∙ ap (λ y. y.is_end_mark) (slot-new (shape v) n false))
+    step (Some n) p low high = by_last {P = ((shape (Changes.with_slot v n false)).slot p).is_terminal_chunk ≡ false} p (length v.slots) (omega (arith, high, ap (λ y. y.slots) (Shapes.shape-slot v n false)))
+        (λ o. ap (λ y. (y.slot p).is_terminal_chunk) (Shapes.shape-slot v n false) ∙ ap (λ y. y.is_terminal_chunk) (slot-old (shape v) n p false o) ∙ a.fragments p low o)
+        (λ e. ap (λ y. (y.slot p).is_terminal_chunk) (Shapes.shape-slot v n false) ∙ ap (λ q. ((slotted (shape v) n false).slot q).is_terminal_chunk) e ∙ ap (λ y. y.is_terminal_chunk) (slot-new (shape v) n false))
 
 adds-sent : (setup : Setup) (w : World) (now : ℕ) → Sane setup w → Adds setup w (Changes.fragments_sent (Changes.started w now))
 adds-sent setup w now g =
@@ -224,7 +224,7 @@ adds-sent setup w now g =
     let base : Adds setup w u = record { reached = record { sane = sane-started setup w now g; quiet = Moves.quiet-started w now }; fragments = λ p a b. absurd (omega arith) } in
     filled-keeps (Adds setup w) (adds-more setup w g) u.setup.limit (Changes.plus 12 (Changes.next_length u)) (Changes.fragment_sent u) (adds-more setup w g u base)
 
-pub slots-fit : (x : Shape) (from count : ℕ) → ((p : ℕ) → from ≤ p → p < from + count → (p < x.slots) × ((x.slot p).is_end_mark ≡ false)) → SlotsFit x (kept always from count)
+pub slots-fit : (x : Shape) (from count : ℕ) → ((p : ℕ) → from ≤ p → p < from + count → (p < x.slots) × ((x.slot p).is_terminal_chunk ≡ false)) → SlotsFit x (kept always from count)
 slots-fit x from zero h = tt
 slots-fit x from (suc count) h = let a = h from (omega arith) (omega arith) in (a.0, a.1, slots-fit x (from + 1) count (λ p i j. h p (omega arith) (omega arith)))
 
@@ -264,7 +264,7 @@ namable w upto n s e =
       ordered = b.0;
       some = some lt (ended (sent (shape w) n == parts (shape w) n) refl c.0);
       ended = ended (sent (shape w) n == parts (shape w) n) refl c.0;
-      within = λ q l h. let t : nat_le q upto ≡ true = all-out (λ place. nat_le place upto) (Messages.belongs_to w n) q 0 (length w.slots) d.1 (omega arith) (omega arith) (both (Messages.belongs_to w n q) (not (Messages.slot_at w q).is_end_mark) h).0 in grind (arith, nat_tests);
+      within = λ q l h. let t : nat_le q upto ≡ true = all-out (λ place. nat_le place upto) (Messages.belongs_to w n) q 0 (length w.slots) d.1 (omega arith) (omega arith) (both (Messages.belongs_to w n q) (not (Messages.slot_at w q).is_terminal_chunk) h).0 in grind (arith, nat_tests);
     }
   where
     ended : (t : Bool) → (sent (shape w) n == parts (shape w) n) ≡ t → (t || (Messages.message_at w n).abandoned) ≡ true → IsEnded (shape w) n
@@ -288,7 +288,7 @@ fit-same : (w v : World) → Sender (shape w) → Same w v → AllFit (shape w) 
 fit-same w v s q a = fit-kept w v s (grows-same (shape w) (shape v) q.shape_is) q.network a
 
 pub network-abandoned : (w : World) (n : ℕ) → (Changes.abandoned w n).network ≡ w.network
-network-abandoned w n = step (Messages.is_half_sent w n)
+network-abandoned w n = step (Messages.is_partially_sent w n)
   where
     step : (b : Bool) → (Changes.message_changed (if b then Changes.with_slot w n true else w) n Changes.mark_abandoned).network ≡ w.network
     step true = refl
@@ -323,7 +323,7 @@ resend-ok w p s e =
     let b = both (not (Messages.slot_at w p).acknowledged) (not (Messages.message_at w (Messages.message_of w p)).abandoned) a.1 in
     let low = (both (nat_le w.taken p) (nat_lt p (length w.slots)) a.0).1 in
     let lt : p < length w.slots = grind (arith, nat_tests) in
-    (lt, fails (Messages.slot_at w p).is_end_mark (λ m. not_both (sym (negated (Messages.message_at w (Messages.message_of w p)).abandoned b.1) ∙ mark-abandoned (shape w) p s lt m)), tt)
+    (lt, fails (Messages.slot_at w p).is_terminal_chunk (λ m. not_both (sym (negated (Messages.message_at w (Messages.message_of w p)).abandoned b.1) ∙ mark-abandoned (shape w) p s lt m)), tt)
 
 pub fit-after : (setup : Setup) (w : World) (e : Event) → refusal_of w e ≡ None → Sane setup w → AllFit (shape w) w.network → AllFit (shape (after w e)) (after w e).network
 fit-after setup w (E.Open s) ok g a = a
@@ -350,12 +350,12 @@ fit-run setup (entry ∷ older) run = fit-after setup (world_of setup older) ent
 
 -- ## The laws
 
-pub no_end_mark_is_sent : OnEveryRun NoEndMarkIsSent
-no_end_mark_is_sent setup h is run k slots e = none slots (fit-at (shape (world_of setup h)) (world_of setup h).network k (W.Data slots) (fit-run setup h run) e)
+pub no_terminal_chunk_is_sent : OnEveryRun NoTerminalChunkIsSent
+no_terminal_chunk_is_sent setup h is run k slots e = none slots (fit-at (shape (world_of setup h)) (world_of setup h).network k (W.Data slots) (fit-run setup h run) e)
   where
-    none : (ps : List ℕ) → SlotsFit (shape (world_of setup h)) ps → list_any (λ p. (Messages.slot_at (world_of setup h) p).is_end_mark) ps ≡ false
+    none : (ps : List ℕ) → SlotsFit (shape (world_of setup h)) ps → list_any (λ p. (Messages.slot_at (world_of setup h) p).is_terminal_chunk) ps ≡ false
     none [] f = refl
-    none (p ∷ ps) f = ap (λ b. b || list_any (λ p. (Messages.slot_at (world_of setup h) p).is_end_mark) ps) f.1 ∙ none ps f.2
+    none (p ∷ ps) f = ap (λ b. b || list_any (λ p. (Messages.slot_at (world_of setup h) p).is_terminal_chunk) ps) f.1 ∙ none ps f.2
 
 -- what a chunk says, by what was written and sent
 abbrev said : MessagePart → ℕ → ℕ → ℕ → ℕ → Data

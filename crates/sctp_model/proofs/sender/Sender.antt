@@ -2,12 +2,12 @@
 use Rattle.std.proofs.Common.{◌≡◌, ℕ, ◌+◌, ◌<◌, ◌≤◌, Bool, true, false, List, [], ◌∷◌, ◌++◌, length, refl, ap, ◌∙◌, arith, add-one, length-append}
 use Rattle.std.specs.Prelude.{if◌then◌else◌, ◌==◌, ◌&&◌, not, nat_lt}
 use Rattle.std.proofs.lemmas.Bool.Decides.{nat_tests}
-use Rattle.sctp_lists.specs.Kept.{kept}
-use Rattle.sctp_lists.proofs.KeptLemmas.{kept-same, kept-snoc}
+use Rattle.sctp_list_lemmas.specs.Kept.{kept}
+use Rattle.sctp_list_lemmas.proofs.Passing.{kept-same, kept-snoc}
 use Rattle.sctp_model.proofs.sender.Shape.{Shape, SlotPart, has, sent, parts, half, on, slotted}
 
 abbrev pub is_mark : Shape → ℕ → ℕ → Bool
-is_mark x n p = ((x.slot p).message == n) && (x.slot p).is_end_mark
+is_mark x n p = ((x.slot p).message == n) && (x.slot p).is_terminal_chunk
 
 pub record Sender (x : Shape) : Type 0 where
   -- each message has a fragment
@@ -17,11 +17,11 @@ pub record Sender (x : Shape) : Type 0 where
   -- a slot's fragment is the next of its message
   pub number : (p : ℕ) → p < x.slots → (x.slot p).fragment ≡ length (kept (has x (x.slot p).message) 0 p)
   -- but for the first, it stands next to the one before it
-  pub beside : (p : ℕ) → p < x.slots → (x.slot p).is_end_mark ≡ false → 0 < (x.slot p).fragment → (q : ℕ) × (p ≡ q + 1) × (has x (x.slot p).message q ≡ true)
-  -- the slots of a half-sent message are the last ones
+  pub beside : (p : ℕ) → p < x.slots → (x.slot p).is_terminal_chunk ≡ false → 0 < (x.slot p).fragment → (q : ℕ) × (p ≡ q + 1) × (has x (x.slot p).message q ≡ true)
+  -- the slots of a partially sent message are the last ones
   pub last : (n : ℕ) → half x n ≡ true → (q : ℕ) × (x.slots ≡ q + 1) × (has x n q ≡ true)
   pub within : (n : ℕ) → n < x.count → sent x n ≤ parts x n
-  -- an abandoned message that was not wholly sent has one end mark
+  -- an abandoned message that was not wholly sent has one terminal chunk
   pub marks : (n : ℕ) → n < x.count → length (kept (is_mark x n) 0 x.slots) ≡ (if (x.message n).abandoned && nat_lt (sent x n) (parts x n) then 1 else 0)
   pub expired_unsent : (n : ℕ) → n < x.count → (x.message n).expired ≡ true → sent x n ≡ 0
   pub abandoned_sent : (n : ℕ) → n < x.count → (x.message n).abandoned ≡ true → 0 < sent x n
@@ -34,11 +34,11 @@ pub record Sender (x : Shape) : Type 0 where
 pub slot-old : (x : Shape) (n p : ℕ) (m : Bool) → p < x.slots → (slotted x n m).slot p ≡ x.slot p
 slot-old x n p m lt = let e : (p == x.slots) ≡ false = grind (arith, nat_tests) in rw e refl
 
-pub slot-new : (x : Shape) (n : ℕ) (m : Bool) → (slotted x n m).slot x.slots ≡ record { message = n; fragment = sent x n; is_end_mark = m }
+pub slot-new : (x : Shape) (n : ℕ) (m : Bool) → (slotted x n m).slot x.slots ≡ record { message = n; fragment = sent x n; is_terminal_chunk = m }
 slot-new x n m = let e : (x.slots == x.slots) ≡ true = grind (arith, nat_tests) in rw e refl
 
 -- a test on slots keeps what it kept, and the new one where it passes
-kept-slots : (x : Shape) (n : ℕ) (m : Bool) (t : SlotPart → Bool) → kept (λ p. t ((slotted x n m).slot p)) 0 (x.slots + 1) ≡ kept (λ p. t (x.slot p)) 0 x.slots ++ (if t (record { message = n; fragment = sent x n; is_end_mark = m }) then x.slots ∷ [] else [])
+kept-slots : (x : Shape) (n : ℕ) (m : Bool) (t : SlotPart → Bool) → kept (λ p. t ((slotted x n m).slot p)) 0 (x.slots + 1) ≡ kept (λ p. t (x.slot p)) 0 x.slots ++ (if t (record { message = n; fragment = sent x n; is_terminal_chunk = m }) then x.slots ∷ [] else [])
 kept-slots x n m t =
     ap (kept (λ p. t ((slotted x n m).slot p)) 0) (add-one x.slots)
     ∙ kept-snoc (λ p. t ((slotted x n m).slot p)) 0 x.slots x.slots (omega arith)
@@ -50,7 +50,7 @@ one-more xs p true = length-append xs (p ∷ [])
 one-more xs p false = length-append xs []
 
 pub sent-slotted : (x : Shape) (n k : ℕ) (m : Bool) → sent (slotted x n m) k ≡ sent x k + (if (n == k) && not m then 1 else 0)
-sent-slotted x n k m = ap length (kept-slots x n m (λ y. (y.message == k) && not y.is_end_mark)) ∙ one-more (kept (has x k) 0 x.slots) x.slots ((n == k) && not m)
+sent-slotted x n k m = ap length (kept-slots x n m (λ y. (y.message == k) && not y.is_terminal_chunk)) ∙ one-more (kept (has x k) 0 x.slots) x.slots ((n == k) && not m)
 
 pub marks-slotted : (x : Shape) (n k : ℕ) (m : Bool) → length (kept (is_mark (slotted x n m) k) 0 (x.slots + 1)) ≡ length (kept (is_mark x k) 0 x.slots) + (if (n == k) && m then 1 else 0)
-marks-slotted x n k m = ap length (kept-slots x n m (λ y. (y.message == k) && y.is_end_mark)) ∙ one-more (kept (is_mark x k) 0 x.slots) x.slots ((n == k) && m)
+marks-slotted x n k m = ap length (kept-slots x n m (λ y. (y.message == k) && y.is_terminal_chunk)) ∙ one-more (kept (is_mark x k) 0 x.slots) x.slots ((n == k) && m)

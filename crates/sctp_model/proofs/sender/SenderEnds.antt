@@ -3,17 +3,17 @@ use Rattle.std.proofs.Common.{◌≡◌, ℕ, ◌+◌, ◌<◌, ◌≤◌, Bool,
 use Rattle.std.specs.Prelude.{◌⊎◌, if◌then◌else◌, ◌==◌, ◌&&◌, ◌||◌, not, nat_lt}
 use Rattle.std.proofs.lemmas.Bool.{cases_lt}
 use Rattle.std.proofs.lemmas.Bool.Decides.{nat_tests}
-use Rattle.sctp_lists.specs.Kept.{kept}
-use Rattle.sctp_lists.proofs.KeptLemmas.{kept-none}
-use Rattle.sctp_lists.proofs.More.{fails, not_both, both, and}
+use Rattle.sctp_list_lemmas.specs.Kept.{kept}
+use Rattle.sctp_list_lemmas.proofs.Passing.{kept-none}
+use Rattle.sctp_list_lemmas.proofs.More.{fails, not_both, both, and}
 use Rattle.sctp_model.proofs.sender.Shape.{Shape, MessagePart, has, sent, parts, half, on, slotted, written, abandoned_at, expired_at}
 use Rattle.sctp_model.proofs.sender.Sender.{Sender, is_mark, sent-slotted, marks-slotted, slot-old, slot-new}
 use Rattle.sctp_model.proofs.sender.SenderSteps.{of-has, sent-some, of-half, is-half, half-one, has-old, has-new, number-slotted, made-slotted, Next, Last, marks_due}
-use Rattle.sctp_lists.proofs.Cases.{by_last, by_same, same-yes, same-is}
+use Rattle.sctp_list_lemmas.proofs.Cases.{by_last, by_same, same-yes, same-is}
 
 -- ## Abandonment
 
--- with an end mark, where the message is half-sent
+-- with a terminal chunk, where the message is partially sent
 module _ (x : Shape) (n : ℕ) (s : Sender x) (h : half x n ≡ true) where
   abbrev y : Shape
   y = abandoned_at (slotted x n true) n
@@ -40,7 +40,7 @@ module _ (x : Shape) (n : ℕ) (s : Sender x) (h : half x n ≡ true) where
     some = s.some;
     made = made-slotted x n true s made-n;
     number = number-slotted x n true s;
-    beside = λ p lt mark pos. by_last {P = Next y p} p x.slots lt (λ o. old p o mark pos) (λ e. absurd (not_both (sym mark ∙ (ap (λ r. (y.slot r).is_end_mark) e ∙ ap (λ z. z.is_end_mark) (slot-new x n true)))));
+    beside = λ p lt mark pos. by_last {P = Next y p} p x.slots lt (λ o. old p o mark pos) (λ e. absurd (not_both (sym mark ∙ (ap (λ r. (y.slot r).is_terminal_chunk) e ∙ ap (λ z. z.is_terminal_chunk) (slot-new x n true)))));
     last = λ k g. by_same {P = Last y k} k n
         (λ e. absurd (not_both (sym (of-half y k g).alive ∙ (let z : (k == n) ≡ true = ap (λ j. k == j) (sym e) ∙ same-yes k in rw z refl))))
         (λ ne f. absurd (ne (half-one x k n s (was k f g) h)));
@@ -58,10 +58,10 @@ module _ (x : Shape) (n : ℕ) (s : Sender x) (h : half x n ≡ true) where
         (λ ep. absurd (not_both (sym (new-none j) ∙ ap (has y j) (sym ep) ∙ hp)));
   }
     where
-      old : (p : ℕ) → p < x.slots → (y.slot p).is_end_mark ≡ false → 0 < (y.slot p).fragment → Next y p
+      old : (p : ℕ) → p < x.slots → (y.slot p).is_terminal_chunk ≡ false → 0 < (y.slot p).fragment → Next y p
       old p o mark pos =
           let z = slot-old x n p true o in
-          let r = s.beside p o (ap (λ v. v.is_end_mark) (sym z) ∙ mark) (rw z at pos) in
+          let r = s.beside p o (ap (λ v. v.is_terminal_chunk) (sym z) ∙ mark) (rw z at pos) in
           (r.0, r.1, ap (λ v. has y v.message r.0) z ∙ has-old x n true (x.slot p).message r.0 (omega (arith, r.1)) ∙ r.2)
 
       off : (k : ℕ) → (n ≡ k → ⊥) → (k == n) ≡ false
@@ -188,7 +188,7 @@ module _ (x : Shape) (m : MessagePart) where
     within = λ k lt. by_last {P = sent x k ≤ parts z k} k x.count lt (λ o. omega (arith, parts-old k o, s.within k o)) (λ e. omega (arith, none k e));
     marks = λ k lt. by_last {P = length (kept (is_mark x k) 0 x.slots) ≡ marks_due z k} k x.count lt
         (λ o. s.marks k o ∙ ap (λ b. if b && nat_lt (sent x k) (parts x k) then 1 else 0) (ap (λ v. v.abandoned) (sym (message-old k o))) ∙ ap (λ c. if (z.message k).abandoned && nat_lt (sent x k) c then 1 else 0) (sym (parts-old k o)))
-        (λ e. ap length (kept-none (is_mark x k) 0 x.slots (λ p a b. fails (is_mark x k p) (λ h. absurd (omega (arith, same-is (x.slot p).message k (both ((x.slot p).message == k) (x.slot p).is_end_mark h).0, s.made p (omega arith))))))
+        (λ e. ap length (kept-none (is_mark x k) 0 x.slots (λ p a b. fails (is_mark x k p) (λ h. absurd (omega (arith, same-is (x.slot p).message k (both ((x.slot p).message == k) (x.slot p).is_terminal_chunk h).0, s.made p (omega arith))))))
         ∙ sym (ap (λ b. if b && nat_lt (sent x k) (parts z k) then 1 else 0) (ap (λ j. (z.message j).abandoned) e ∙ ap (λ v. v.abandoned) message-new ∙ kept')));
     expired_unsent = λ k lt e. by_last {P = sent x k ≡ 0} k x.count lt (λ o. s.expired_unsent k o (ap (λ v. v.expired) (sym (message-old k o)) ∙ e)) (λ i. none k i);
     abandoned_sent = λ k lt e. by_last {P = 0 < sent x k} k x.count lt (λ o. s.abandoned_sent k o (ap (λ v. v.abandoned) (sym (message-old k o)) ∙ e)) (λ i. absurd (not_both (sym kept' ∙ ap (λ v. v.abandoned) (sym message-new) ∙ ap (λ j. (z.message j).abandoned) (sym i) ∙ e)));

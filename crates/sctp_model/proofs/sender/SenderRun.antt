@@ -1,12 +1,12 @@
--- In every history the sender's slots are sound.
+-- In every history the sender's slots are valid.
 use Rattle.std.proofs.Common.{◌≡◌, ℕ, zero, suc, ◌+◌, ◌<◌, ◌^◌, Bool, true, false, List, [], ◌∷◌, ◌++◌, length, map, Option, Some, None, refl, ap, sym, ◌∙◌, arith, add-one}
 use Rattle.std.specs.Prelude.{if◌then◌else◌, ◌==◌, ◌&&◌, nat_lt, find, is_some, slice_get, fold, max, nat_le, unwrap_or}
 use Rattle.std.proofs.Math.Path.{subst}
 use Rattle.std.proofs.lemmas.Bool.Decides.{nat_tests}
-use Rattle.sctp_lists.specs.Kept.{kept, always, numbers_from, total_over, passing}
-use Rattle.sctp_lists.specs.Lists.{changed, pieces}
-use Rattle.sctp_lists.proofs.KeptLemmas.{kept-snoc_in}
-use Rattle.sctp_lists.proofs.More.{both}
+use Rattle.sctp_list_lemmas.specs.Kept.{kept, always, numbers_from, total_over, passing}
+use Rattle.sctp_list_lemmas.specs.Lists.{changed, pieces}
+use Rattle.sctp_list_lemmas.proofs.Passing.{kept-snoc_in}
+use Rattle.sctp_list_lemmas.proofs.More.{both}
 use Rattle.sctp_model.specs.declared.event.Event.{Event}
 use Rattle.sctp_model.specs.declared.event.Event.TheVariants as E
 use Rattle.sctp_model.specs.declared.event.LinkRefusal.{LinkRefusal}
@@ -23,8 +23,8 @@ use Rattle.sctp_model.proofs.sender.SenderSteps.{sender-takes, of-half, sent-gro
 use Rattle.sctp_model.proofs.sender.SenderEnds.{sender-marked, sender-abandoned, sender-expired, sender-written, message-old, message-new, parts-old}
 use Rattle.sctp_model.proofs.sender.Shapes
 use Rattle.sctp_model.proofs.sender.Fronts.{front-takes, slot-sent, of-unsent}
-use Rattle.sctp_lists.proofs.Cases.{by_last}
-use Rattle.sctp_lists.proofs.Totals.{total-append, total-kept_same}
+use Rattle.sctp_list_lemmas.proofs.Cases.{by_last}
+use Rattle.sctp_list_lemmas.proofs.Totals.{total-append, total-kept_same}
 
 -- ## The invariant
 
@@ -111,9 +111,9 @@ sane-takes setup w g = step (Messages.front w) refl
         (record { setup_is = g.setup_is; sender = sender-takes (shape w) n g.sender (front-takes (shape w) n g.sender e); accepted = g.accepted; known = g.known })
 
 pub sane-abandoned : (setup : Setup) (w : World) (n : ℕ) → Sane setup w → 0 < sent (shape w) n → Sane setup (Changes.abandoned w n)
-sane-abandoned setup w n g pos = step (Messages.is_half_sent w n) refl
+sane-abandoned setup w n g pos = step (Messages.is_partially_sent w n) refl
   where
-    step : (b : Bool) → Messages.is_half_sent w n ≡ b → Sane setup (Changes.message_changed (if b then Changes.with_slot w n true else w) n Changes.mark_abandoned)
+    step : (b : Bool) → Messages.is_partially_sent w n ≡ b → Sane setup (Changes.message_changed (if b then Changes.with_slot w n true else w) n Changes.mark_abandoned)
     step true e =
         sane-shape setup w.setup (abandoned_at (slotted (shape w) n true) n) (shape (Changes.message_changed (Changes.with_slot w n true) n Changes.mark_abandoned)) w.streams
         (Shapes.shape-abandoned (Changes.with_slot w n true) n ∙ ap (λ y. abandoned_at y n) (Shapes.shape-slot w n true))
@@ -124,7 +124,7 @@ sane-abandoned setup w n g pos = step (Messages.is_half_sent w n) refl
 
 -- what was sent stays sent
 pub sent-abandoned : (w : World) (n k : ℕ) → 0 < sent (shape w) k → 0 < sent (shape (Changes.abandoned w n)) k
-sent-abandoned w n k pos = step (Messages.is_half_sent w n)
+sent-abandoned w n k pos = step (Messages.is_partially_sent w n)
   where
     step : (b : Bool) → 0 < sent (shape (Changes.message_changed (if b then Changes.with_slot w n true else w) n Changes.mark_abandoned)) k
     step true = omega (arith, pos, ap (λ y. sent y k) (Shapes.shape-slot w n true), sent-grows (shape w) n true k)
@@ -168,7 +168,7 @@ in-flight-sent setup w p g h = let lt = (both _ (nat_lt p (length w.slots)) h).1
 pub late-sent : (setup : Setup) (w : World) (now : ℕ) → Sane setup w → AllSent w (Changes.late_messages w now)
 late-sent setup w now g =
     let all = all-kept w (Changes.is_late w now) 0 (length w.slots) (λ k e. in-flight-sent setup w k g (both (Messages.is_in_flight w k) _ e).0) in
-    all-append w (passing (Messages.is_half_sent w) (map (Messages.message_of w) (Changes.late_slots w now))) (map (Messages.message_of w) (Changes.late_slots w now)) (all-passing w (Messages.is_half_sent w) (map (Messages.message_of w) (Changes.late_slots w now)) all) all
+    all-append w (passing (Messages.is_partially_sent w) (map (Messages.message_of w) (Changes.late_slots w now))) (map (Messages.message_of w) (Changes.late_slots w now)) (all-passing w (Messages.is_partially_sent w) (map (Messages.message_of w) (Changes.late_slots w now)) all) all
 
 -- a slot comes
 sane-noted : (setup : Setup) (v : World) (n : ℕ) → Sane setup v → Sane setup (Changes.whole_noted v n)
@@ -250,9 +250,9 @@ sane-written setup w s ppi (b ∷ bs) open' fits g =
 
 -- ## Each accepted event keeps it
 
-sane-expired : (setup : Setup) (w : World) (now : ℕ) (o : Option ℕ) → Sane setup w → Sane setup (Changes.expired w (Changes.front_if w (λ n. Messages.is_unsent w n && Messages.is_lapsed w now n) o))
+sane-expired : (setup : Setup) (w : World) (now : ℕ) (o : Option ℕ) → Sane setup w → Sane setup (Changes.expired w (Changes.front_if w (λ n. Messages.is_unsent w n && Messages.is_past_deadline w now n) o))
 sane-expired setup w now None g = g
-sane-expired setup w now (Some n) g = step (Messages.is_unsent w n) (Messages.is_lapsed w now n) refl
+sane-expired setup w now (Some n) g = step (Messages.is_unsent w n) (Messages.is_past_deadline w now n) refl
   where
     step : (b c : Bool) → Messages.is_unsent w n ≡ b → Sane setup (Changes.expired w (if b && c then Some n else None))
     step true true e = sane-shape setup w.setup (expired_at (shape w) n) (shape (Changes.message_changed w n Changes.mark_expired)) w.streams (Shapes.shape-expired w n)
@@ -260,11 +260,11 @@ sane-expired setup w now (Some n) g = step (Messages.is_unsent w n) (Messages.is
     step true false e = g
     step false c e = g
 
-sane-tail : (setup : Setup) (w : World) (now : ℕ) (o : Option ℕ) → Sane setup w → Sane setup (Changes.tail_abandoned w (Changes.front_if w (λ n. Messages.is_half_sent w n && Messages.is_lapsed w now n) o))
+sane-tail : (setup : Setup) (w : World) (now : ℕ) (o : Option ℕ) → Sane setup w → Sane setup (Changes.tail_abandoned w (Changes.front_if w (λ n. Messages.is_partially_sent w n && Messages.is_past_deadline w now n) o))
 sane-tail setup w now None g = g
-sane-tail setup w now (Some n) g = step (Messages.is_half_sent w n) (Messages.is_lapsed w now n) refl
+sane-tail setup w now (Some n) g = step (Messages.is_partially_sent w n) (Messages.is_past_deadline w now n) refl
   where
-    step : (b c : Bool) → Messages.is_half_sent w n ≡ b → Sane setup (Changes.tail_abandoned w (if b && c then Some n else None))
+    step : (b c : Bool) → Messages.is_partially_sent w n ≡ b → Sane setup (Changes.tail_abandoned w (if b && c then Some n else None))
     step true true e = sane-abandoned setup w n g (of-half (shape w) n e).some
     step true false e = g
     step false c e = g

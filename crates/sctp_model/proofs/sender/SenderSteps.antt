@@ -2,19 +2,19 @@ use Rattle.std.proofs.Common.{◌≡◌, ℕ, ◌+◌, ◌<◌, ◌≤◌, Bool,
 use Rattle.std.specs.Prelude.{◌⊎◌, if◌then◌else◌, ◌==◌, ◌&&◌, not, nat_lt}
 use Rattle.std.proofs.lemmas.Bool.{cases_lt}
 use Rattle.std.proofs.lemmas.Bool.Decides.{nat_tests}
-use Rattle.sctp_lists.specs.Kept.{kept}
-use Rattle.sctp_lists.proofs.KeptLemmas.{kept-same}
-use Rattle.sctp_lists.proofs.More.{fails, not_both, both, and, length-kept-positive}
+use Rattle.sctp_list_lemmas.specs.Kept.{kept}
+use Rattle.sctp_list_lemmas.proofs.Passing.{kept-same}
+use Rattle.sctp_list_lemmas.proofs.More.{fails, not_both, both, and, length-kept-positive}
 use Rattle.sctp_model.proofs.sender.Shape.{Shape, has, sent, parts, half, on, slotted}
 use Rattle.sctp_model.proofs.sender.Sender.{Sender, is_mark, sent-slotted, marks-slotted, slot-old, slot-new}
-use Rattle.sctp_lists.proofs.Cases.{by_last, by_same, same-yes, same-is, negated}
+use Rattle.sctp_list_lemmas.proofs.Cases.{by_last, by_same, same-yes, same-is, negated}
 
 -- Each change of messages and slots keeps what the sender keeps.
 
 -- ## By cases
 
-pub of-has : (x : Shape) (n p : ℕ) → has x n p ≡ true → ((x.slot p).message ≡ n) × ((x.slot p).is_end_mark ≡ false)
-of-has x n p h = let a = both ((x.slot p).message == n) (not (x.slot p).is_end_mark) h in (same-is (x.slot p).message n a.0, negated (x.slot p).is_end_mark a.1)
+pub of-has : (x : Shape) (n p : ℕ) → has x n p ≡ true → ((x.slot p).message ≡ n) × ((x.slot p).is_terminal_chunk ≡ false)
+of-has x n p h = let a = both ((x.slot p).message == n) (not (x.slot p).is_terminal_chunk) h in (same-is (x.slot p).message n a.0, negated (x.slot p).is_terminal_chunk a.1)
 
 -- a slot with a fragment of a message: some was sent
 pub sent-some : (x : Shape) (n p : ℕ) → p < x.slots → has x n p ≡ true → 0 < sent x n
@@ -36,7 +36,7 @@ of-half x n h =
 pub is-half : (x : Shape) (n : ℕ) → 0 < sent x n → sent x n < parts x n → (x.message n).abandoned ≡ false → half x n ≡ true
 is-half x n a b c = and (nat_lt 0 (sent x n)) (nat_lt (sent x n) (parts x n) && not (x.message n).abandoned) (grind (arith, nat_tests)) (and (nat_lt (sent x n) (parts x n)) (not (x.message n).abandoned) (grind (arith, nat_tests)) (ap not c))
 
--- at most one message is half-sent
+-- at most one message is partially sent
 pub half-one : (x : Shape) (j k : ℕ) → Sender x → half x j ≡ true → half x k ≡ true → j ≡ k
 half-one x j k s a b =
     let p = s.last j a in
@@ -66,10 +66,10 @@ module _ (x : Shape) (n : ℕ) (m : Bool) where
   sent-grows k = omega (arith, sent-slotted x n k m)
 
   pub has-old : (k p : ℕ) → p < x.slots → has y k p ≡ has x k p
-  has-old k p lt = ap (λ s. (s.message == k) && not s.is_end_mark) (slot-old x n p m lt)
+  has-old k p lt = ap (λ s. (s.message == k) && not s.is_terminal_chunk) (slot-old x n p m lt)
 
   pub has-new : (k : ℕ) → has y k x.slots ≡ ((n == k) && not m)
-  has-new k = ap (λ s. (s.message == k) && not s.is_end_mark) (slot-new x n m)
+  has-new k = ap (λ s. (s.message == k) && not s.is_terminal_chunk) (slot-new x n m)
 
   -- a slot has the number of its fragment
   pub number-slotted : Sender x → (p : ℕ) → p < y.slots → (y.slot p).fragment ≡ length (kept (has y (y.slot p).message) 0 p)
@@ -133,15 +133,15 @@ sender-takes x n s t = record {
     none true c = omega arith
     none false c = omega arith
 
-    old : (p : ℕ) → p < x.slots → ((slotted x n false).slot p).is_end_mark ≡ false → 0 < ((slotted x n false).slot p).fragment → Next (slotted x n false) p
+    old : (p : ℕ) → p < x.slots → ((slotted x n false).slot p).is_terminal_chunk ≡ false → 0 < ((slotted x n false).slot p).fragment → Next (slotted x n false) p
     old p o mark pos =
         let z = slot-old x n p false o in
-        let r = s.beside p o (ap (λ v. v.is_end_mark) (sym z) ∙ mark) (rw z at pos) in
+        let r = s.beside p o (ap (λ v. v.is_terminal_chunk) (sym z) ∙ mark) (rw z at pos) in
         (r.0, r.1, ap (λ v. has (slotted x n false) v.message r.0) z ∙ has-old x n false (x.slot p).message r.0 (omega (arith, r.1)) ∙ r.2)
 
     new : (p : ℕ) → p ≡ x.slots → 0 < ((slotted x n false).slot p).fragment → Next (slotted x n false) p
     new p e pos =
-        let z : (slotted x n false).slot p ≡ record { message = n; fragment = sent x n; is_end_mark = false } = ap (slotted x n false).slot e ∙ slot-new x n false in
+        let z : (slotted x n false).slot p ≡ record { message = n; fragment = sent x n; is_terminal_chunk = false } = ap (slotted x n false).slot e ∙ slot-new x n false in
         let some : 0 < sent x n = omega (arith, pos, ap (λ v. v.fragment) z) in
         let r = s.last n (is-half x n some t.more t.alive) in
         (r.0, e ∙ r.1, ap (λ v. has (slotted x n false) v.message r.0) z ∙ has-old x n false n r.0 (omega (arith, r.1)) ∙ r.2)

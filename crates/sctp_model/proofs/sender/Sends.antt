@@ -1,8 +1,8 @@
 use Rattle.std.proofs.Common.{◌≡◌, ℕ, ◌+◌, ◌-◌, ◌<◌, ◌≤◌, Bool, true, false, [], ◌∷◌, ◌++◌, length, Option, Some, None, refl, ap, sym, ◌∙◌, inl, inr, arith, length-append}
 use Rattle.std.specs.Prelude.{◌⊎◌, if◌then◌else◌, ◌&&◌, ◌||◌, not, ◌↔◌, slice_get, is_some, Result, Ok, Err}
 use Rattle.std.proofs.lemmas.Bool.{cases_lt}
-use Rattle.sctp_lists.specs.Kept.{kept, always, numbers_from, total_over, gathered}
-use Rattle.sctp_lists.proofs.More.{not_both}
+use Rattle.sctp_list_lemmas.specs.Kept.{kept, always, numbers_from, total_over, gathered}
+use Rattle.sctp_list_lemmas.proofs.More.{not_both}
 use Rattle.sctp_model.specs.declared.event.Event.TheVariants as E
 use Rattle.sctp_model.specs.declared.event.LinkRefusal.{LinkRefusal}
 use Rattle.sctp_model.specs.declared.event.LinkRefusal.TheVariants.{StreamUnknown, StreamOpen, MessageTooLarge, TsnsUsedUp, NoSuchDatagram, NotInFlight, SkipUnassigned, SkipNames, SpanTooWide, OutOfMemory}
@@ -10,7 +10,7 @@ use Rattle.sctp_model.specs.Reply.{Reply}
 use Rattle.sctp_model.specs.Reply as R
 use Rattle.sctp_model.specs.World.{Setup, Data, World}
 use Rattle.sctp_model.specs.Messages
-use Rattle.sctp_model.specs.Amounts.{is_given_up}
+use Rattle.sctp_model.specs.Amounts.{is_expired_or_abandoned}
 use Rattle.sctp_model.specs.Changes
 use Rattle.sctp_model.specs.Queues.{pending_fragments, pending_at}
 use Rattle.sctp_model.specs.Steps.{world_of, after, refusal_of, reply_to, sent_reply, Answers}
@@ -20,8 +20,8 @@ use Rattle.sctp_model.proofs.sender.SenderSteps.{Takes, is-half, sent-other, sen
 use Rattle.sctp_model.proofs.sender.Fronts.{front-takes, front-none, is-unsent}
 use Rattle.sctp_model.proofs.sender.SenderRun.{Sane, sane-run, sane-takes, sane-started, filled-keeps}
 use Rattle.sctp_model.proofs.sender.Shapes
-use Rattle.sctp_lists.proofs.Getting.{length-mapped, get-last}
-use Rattle.sctp_lists.proofs.Totals.{length-numbers, length-gathered, total-plus, total-none, total-at, total-one}
+use Rattle.sctp_list_lemmas.proofs.Getting.{length-mapped, get-last}
+use Rattle.sctp_list_lemmas.proofs.Totals.{length-numbers, length-gathered, total-plus, total-none, total-at, total-one}
 
 -- Each send takes fragments that wait.
 
@@ -34,13 +34,13 @@ waiting x = total_over (waiting_of x) (numbers_from 0 x.count)
 
 count-pending : (w : World) → pending_count w ≡ waiting (shape w)
 count-pending w =
-    let o : ℕ → Bool = λ n. (Messages.message_at w n).ordered && not (is_given_up w n) in
-    let u : ℕ → Bool = λ n. not (Messages.message_at w n).ordered && not (is_given_up w n) in
+    let o : ℕ → Bool = λ n. (Messages.message_at w n).ordered && not (is_expired_or_abandoned w n) in
+    let u : ℕ → Bool = λ n. not (Messages.message_at w n).ordered && not (is_expired_or_abandoned w n) in
     length-append (gathered (pending_fragments w) (Messages.messages_where w o)) (gathered (pending_fragments w) (Messages.messages_where w u))
     ∙ ap (λ c. c + length (gathered (pending_fragments w) (Messages.messages_where w u))) (length-gathered (pending_fragments w) o 0 (length w.messages))
     ∙ ap (λ c. total_over (λ n. if o n then length (pending_fragments w n) else 0) (kept always 0 (length w.messages)) + c) (length-gathered (pending_fragments w) u 0 (length w.messages))
     ∙ total-plus (λ n. if o n then length (pending_fragments w n) else 0) (λ n. if u n then length (pending_fragments w n) else 0) (waiting_of (shape w)) always 0 (length w.messages)
-    (λ n a b. each (Messages.message_at w n).ordered (is_given_up w n) (length (pending_fragments w n)) (parts (shape w) n - sent (shape w) n) (length-mapped (pending_at w n) (numbers_from (sent (shape w) n) (parts (shape w) n - sent (shape w) n)) ∙ length-numbers (sent (shape w) n) (parts (shape w) n - sent (shape w) n)))
+    (λ n a b. each (Messages.message_at w n).ordered (is_expired_or_abandoned w n) (length (pending_fragments w n)) (parts (shape w) n - sent (shape w) n) (length-mapped (pending_at w n) (numbers_from (sent (shape w) n) (parts (shape w) n - sent (shape w) n)) ∙ length-numbers (sent (shape w) n) (parts (shape w) n - sent (shape w) n)))
   where
     each : (b g : Bool) (l c : ℕ) → l ≡ c → (if b && not g then l else 0) + (if not b && not g then l else 0) ≡ (if g then 0 else c)
     each true true l c e = refl

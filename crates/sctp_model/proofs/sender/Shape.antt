@@ -1,14 +1,14 @@
 -- What the sender's laws speak of: messages and slots without the flags that the receiver and the network set.
 use Rattle.std.proofs.Common.{◌≡◌, ℕ, ◌+◌, Bool, List, length, Option, refl}
 use Rattle.std.specs.Prelude.{if◌then◌else◌, ◌==◌, ◌&&◌, ◌||◌, not, nat_lt}
-use Rattle.sctp_lists.specs.Kept.{kept, first_of, or_else}
-use Rattle.sctp_lists.specs.Lists.{pieces}
+use Rattle.sctp_list_lemmas.specs.Kept.{kept, first_of, or_else}
+use Rattle.sctp_list_lemmas.specs.Lists.{pieces}
 use Rattle.sctp_chunks.specs.declared.chunk.chunk_payload_data.PayloadProtocolIdentifier.{PayloadProtocolIdentifier}
 use Rattle.sctp_model.specs.World.{Message, Slot, World}
 use Rattle.sctp_model.specs.Messages
 use Rattle.sctp_model.specs.Messages.{message_at, slot_at, no_message, no_slot}
 
--- a message as it was written, and whether it was given up
+-- a message as it was written, and whether it was abandoned
 pub record MessagePart : Type 0 where
   pub stream : ℕ
   pub ordered : Bool
@@ -25,10 +25,10 @@ message_part m = record { stream = m.stream; ordered = m.ordered; ppi = m.ppi; b
 pub record SlotPart : Type 0 where
   pub message : ℕ
   pub fragment : ℕ
-  pub is_end_mark : Bool
+  pub is_terminal_chunk : Bool
 
 abbrev pub slot_part : Slot → SlotPart
-slot_part x = record { message = x.message; fragment = x.fragment; is_end_mark = x.is_end_mark }
+slot_part x = record { message = x.message; fragment = x.fragment; is_terminal_chunk = x.is_terminal_chunk }
 
 -- the messages and slots of a record
 pub record Shape : Type 0 where
@@ -44,7 +44,7 @@ shape w = record { size = w.setup.size; count = length w.messages; message = λ 
 -- ## The words of the record, over its shape
 
 abbrev pub has : Shape → ℕ → ℕ → Bool
-has x n p = ((x.slot p).message == n) && not (x.slot p).is_end_mark
+has x n p = ((x.slot p).message == n) && not (x.slot p).is_terminal_chunk
 
 abbrev pub sent : Shape → ℕ → ℕ
 sent x n = length (kept (has x n) 0 x.slots)
@@ -83,8 +83,8 @@ index-is w n = refl
 
 -- one more slot
 abbrev pub slotted : Shape → ℕ → Bool → Shape
-slotted x n is_end_mark =
-    record x { slots = x.slots + 1; slot = λ p. if p == x.slots then record { message = n; fragment = sent x n; is_end_mark = is_end_mark } else x.slot p }
+slotted x n is_terminal_chunk =
+    record x { slots = x.slots + 1; slot = λ p. if p == x.slots then record { message = n; fragment = sent x n; is_terminal_chunk = is_terminal_chunk } else x.slot p }
 
 -- another message n
 abbrev pub flagged : Shape → ℕ → (MessagePart → MessagePart) → Shape

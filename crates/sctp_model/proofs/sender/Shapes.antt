@@ -1,13 +1,13 @@
 use Rattle.std.proofs.Common.{◌≡◌, ℕ, ◌+◌, Bool, true, false, List, [], ◌∷◌, ◌++◌, length, map, get_or, refl, ap, ◌∙◌, length-append}
 use Rattle.std.proofs.Math.Path.{fun_ext}
 use Rattle.std.specs.Prelude.{if◌then◌else◌, ◌==◌, ◌||◌}
-use Rattle.sctp_lists.specs.Lists.{changed, each_numbered}
-use Rattle.sctp_lists.proofs.More.{length-changed, changed-keeps}
+use Rattle.sctp_list_lemmas.specs.Lists.{changed, each_numbered}
+use Rattle.sctp_list_lemmas.proofs.More.{length-changed, changed-keeps}
 use Rattle.sctp_model.specs.World.{Message, Slot, Report, World}
 use Rattle.sctp_model.specs.Messages.{message_at, slot_at, no_message, no_slot, sent_of}
 use Rattle.sctp_model.specs.Changes
 use Rattle.sctp_model.proofs.sender.Shape.{Shape, MessagePart, SlotPart, shape, message_part, slot_part, slotted, written, abandoned_at, expired_at}
-use Rattle.sctp_lists.proofs.Getting.{get-snoc, get-changed, get-map, length-mapped, get-numbered, length-numbered}
+use Rattle.sctp_list_lemmas.proofs.Getting.{get-snoc, get-changed, get-map, length-mapped, get-numbered, length-numbered}
 
 -- The shape of the record after each change.
 
@@ -55,7 +55,7 @@ shape-written w m = shape-messages w (w.messages ++ m ∷ []) (length w.messages
 
 pub shape-slot : (w : World) (n : ℕ) (mark : Bool) → shape (Changes.with_slot w n mark) ≡ slotted (shape w) n mark
 shape-slot w n mark =
-    let y : Slot = record { message = n; fragment = sent_of w n; is_end_mark = mark; arrived = false; acknowledged = false } in
+    let y : Slot = record { message = n; fragment = sent_of w n; is_terminal_chunk = mark; arrived = false; acknowledged = false } in
     shape-slots w (w.slots ++ y ∷ []) (length w.slots + 1) (slotted (shape w) n mark).slot (length-append w.slots (y ∷ [])) (λ p. get-snoc slot_part w.slots y p no_slot)
 
 pub shape-arrived : (w : World) (p : ℕ) → shape (record w { slots = changed Changes.mark_arrived p w.slots }) ≡ shape w

@@ -2,22 +2,22 @@ use Rattle.std.proofs.Common.{◌≡◌, ℕ, zero, suc, ◌<◌, ◌≤◌, Boo
 use Rattle.std.specs.Prelude.{◌⊎◌, ◌==◌, ◌&&◌, not, nat_lt}
 use Rattle.std.proofs.lemmas.Bool.{cases_lt}
 use Rattle.std.proofs.lemmas.Bool.Decides.{nat_tests}
-use Rattle.sctp_lists.specs.Kept.{kept, always, first_of}
-use Rattle.sctp_lists.proofs.KeptLemmas.{kept-same}
-use Rattle.sctp_lists.proofs.More.{fails, not_both, and, same_test}
+use Rattle.sctp_list_lemmas.specs.Kept.{kept, always, first_of}
+use Rattle.sctp_list_lemmas.proofs.Passing.{kept-same}
+use Rattle.sctp_list_lemmas.proofs.More.{fails, not_both, and, same_test}
 use Rattle.sctp_model.specs.World.{World}
 use Rattle.sctp_model.specs.Messages
 use Rattle.sctp_model.specs.Steps.{world_of}
-use Rattle.sctp_model.specs.Laws.{OnEveryRun, SlotsInOrder, SlotsFollow, OneHalfSent, SentInTurn, IndexesLeaveNoGap}
+use Rattle.sctp_model.specs.Laws.{OnEveryRun, SlotsInOrder, SlotsFollow, OnePartiallySent, SentInTurn, IndexesLeaveNoGap}
 use Rattle.sctp_model.proofs.sender.Shape.{Shape, shape, has, sent, half, on}
 use Rattle.sctp_model.proofs.sender.Sender.{Sender}
 use Rattle.sctp_model.proofs.sender.SenderSteps.{of-has, half-one}
 use Rattle.sctp_model.proofs.sender.SenderEnds.{sent-none}
 use Rattle.sctp_model.proofs.sender.SenderRun.{sane-run}
-use Rattle.sctp_lists.proofs.Cases.{same-yes}
-use Rattle.sctp_lists.proofs.Getting.{get-beyond}
-use Rattle.sctp_lists.proofs.Rows.{numbered, IsRow, row, at-most-one}
-use Rattle.sctp_lists.proofs.Totals.{length-numbers}
+use Rattle.sctp_list_lemmas.proofs.Cases.{same-yes}
+use Rattle.sctp_list_lemmas.proofs.Getting.{get-beyond}
+use Rattle.sctp_list_lemmas.proofs.Rows.{numbered, IsRow, row, at-most-one}
+use Rattle.sctp_list_lemmas.proofs.Totals.{length-numbers}
 
 -- The slots of a message, in words of their own.
 
@@ -26,7 +26,7 @@ use Rattle.sctp_lists.proofs.Totals.{length-numbers}
 -- ## Slots
 
 pub beyond-slots : (w : World) (n p : ℕ) → length w.slots ≤ p → has (shape w) n p ≡ false
-beyond-slots w n p le = fails (has (shape w) n p) (λ h. not_both (sym (of-has (shape w) n p h).1 ∙ ap (λ s. s.is_end_mark) (get-beyond w.slots p Messages.no_slot le)))
+beyond-slots w n p le = fails (has (shape w) n p) (λ h. not_both (sym (of-has (shape w) n p h).1 ∙ ap (λ s. s.is_terminal_chunk) (get-beyond w.slots p Messages.no_slot le)))
 
 pub slots-row : (w : World) (n : ℕ) → Sender (shape w) → IsRow (has (shape w) n) (length w.slots)
 slots-row w n s = row (has (shape w) n) (length w.slots) (λ k lt e pos.
@@ -52,8 +52,8 @@ slots_follow setup h is run n place e =
     first from zero e = cc
     first from (suc many) e = cc
 
-pub one_half_sent : OnEveryRun OneHalfSent
-one_half_sent setup h is run = let s = (sane-run setup h run).sender in at-most-one (half (shape (world_of setup h))) 0 (length (world_of setup h).messages) (λ j k a b. half-one (shape (world_of setup h)) j k s a b)
+pub one_partially_sent : OnEveryRun OnePartiallySent
+one_partially_sent setup h is run = let s = (sane-run setup h run).sender in at-most-one (half (shape (world_of setup h))) 0 (length (world_of setup h).messages) (λ j k a b. half-one (shape (world_of setup h)) j k s a b)
 
 pub sent-made : (x : Shape) (n : ℕ) → Sender x → 0 < sent x n → n < x.count
 sent-made x n s pos = step (cases_lt n x.count)

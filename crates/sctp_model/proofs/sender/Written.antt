@@ -2,8 +2,8 @@
 use Rattle.std.proofs.Common.{◌≡◌, ℕ, ◌+◌, ◌^◌, Bool, true, false, List, [], ◌∷◌, ◌++◌, length, map, Option, Some, None, refl, ap, ◌∙◌, arith, add-one}
 use Rattle.std.specs.Prelude.{if◌then◌else◌, ◌==◌, find, is_some, slice_get, unwrap_or, nat_le, nat_lt}
 use Rattle.std.proofs.lemmas.List.{map-append}
-use Rattle.sctp_lists.specs.Kept.{kept, always}
-use Rattle.sctp_lists.proofs.KeptLemmas.{map-kept-same, kept-snoc_in}
+use Rattle.sctp_list_lemmas.specs.Kept.{kept, always}
+use Rattle.sctp_list_lemmas.proofs.Passing.{map-kept-same, kept-snoc_in}
 use Rattle.sctp_chunks.specs.declared.chunk.chunk_payload_data.PayloadProtocolIdentifier.{PayloadProtocolIdentifier}
 use Rattle.sctp_model.specs.declared.event.Event.{Event}
 use Rattle.sctp_model.specs.declared.event.Event.TheVariants as E
@@ -49,7 +49,7 @@ told-sends w now None = ap told (Shapes.shape-started w now)
 told-sends w now (Some n) = sends-keep (λ v. told (shape v) ≡ told (shape w)) (λ v e. told-sent v ∙ e) (Changes.started w now) (ap told (Shapes.shape-started w now))
 
 told-abandoned : (w : World) (n : ℕ) → told (shape (Changes.abandoned w n)) ≡ told (shape w)
-told-abandoned w n = step (Messages.is_half_sent w n)
+told-abandoned w n = step (Messages.is_partially_sent w n)
   where
     step : (b : Bool) → told (shape (Changes.message_changed (if b then Changes.with_slot w n true else w) n Changes.mark_abandoned)) ≡ told (shape w)
     step true = ap told (Shapes.shape-abandoned (Changes.with_slot w n true) n)

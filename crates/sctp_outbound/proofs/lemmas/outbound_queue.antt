@@ -1,6 +1,6 @@
 -- Lemmas on an outbound queue.
 pub mod Abandoned
 pub mod Messages
-pub mod Numbering
+pub mod SideBySide
 pub mod Outbounds
 pub mod Sendable

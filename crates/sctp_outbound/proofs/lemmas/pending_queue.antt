@@ -1,4 +1,4 @@
 -- Lemmas on a pending queue.
 pub mod Order
 pub mod Waiting
-pub mod Whole
+pub mod CompleteMessages

@@ -3,10 +3,10 @@ use Rattle.std.specs.Prelude.{◌≡◌, ℕ, ◌==◌, Bool, true, ◌&&◌, Li
 use Rattle.std.specs.List.{find, list_any}
 use Rattle.std.specs.Option.{option_map}
 use Rattle.sctp_chunks.specs.declared.chunk.chunk_payload_data.ChunkPayloadData.{ChunkPayloadData}
-use Rattle.sctp_lists.specs.Lists.{change_where, those}
+use Rattle.sctp_list_lemmas.specs.Lists.{change_where, those}
 use Rattle.sctp_serial.specs.DataChunks.{has_tsn}
 use Rattle.sctp_outbound.specs.Marks.{acknowledged, is_of, is_outstanding, with_miss_indicator, with_nsent, with_retransmit, with_since}
-use Rattle.sctp_outbound.specs.outbound_queue.OutboundQueue.{Outbound, abandoned_of, all_started, end_mark, expired_of, expiring, expiring_tail, following_tsn, message_of, numbered, sent_next, to_abandon, tsn_after_of, with_inflight, with_message}
+use Rattle.sctp_outbound.specs.outbound_queue.OutboundQueue.{Outbound, abandoned_of, all_started, terminal_chunk, expired_of, expiring, expiring_tail, following_tsn, message_of, numbered, sent_next, to_abandon, tsn_after_of, with_inflight, with_message}
 use Rattle.sctp_outbound.specs.payload_queue.PayloadQueue.{without_front}
 use Rattle.sctp_outbound.specs.pending_queue.PendingQueue as pending
 use Rattle.sctp_outbound.specs.pending_queue.Whole.{IsMessageOrNone}
@@ -65,16 +65,16 @@ next_after (abandon tsn) q next = tsn_after_of (to_abandon (find (has_tsn tsn) q
 next_after (expire_pending_tail now) q next = tsn_after_of (message_of (expiring_tail now q)) next q
 next_after _ q next = next
 
--- the end mark of a message that is given up, where it has a tail
-abbrev pub end_mark_of : Option ℕ → Outbound → ℕ → Option ChunkPayloadData
-end_mark_of None q next = None
-end_mark_of (Some message) q next = option_map (end_mark next) (pending.last_removed message q.pending)
+-- the terminal chunk of a message that is abandoned, where it has a tail
+abbrev pub terminal_chunk_of : Option ℕ → Outbound → ℕ → Option ChunkPayloadData
+terminal_chunk_of None q next = None
+terminal_chunk_of (Some message) q next = option_map (terminal_chunk next) (pending.last_removed message q.pending)
 
 -- the chunk that a call puts in flight
 abbrev pub put_by : Call → Outbound → ℕ → Option ChunkPayloadData
 put_by (send_next now) q next = option_map (numbered next now) (pending.peeked (all_started now q).pending)
-put_by (abandon tsn) q next = end_mark_of (to_abandon (find (has_tsn tsn) q.inflight.chunks)) q next
-put_by (expire_pending_tail now) q next = end_mark_of (message_of (expiring_tail now q)) q next
+put_by (abandon tsn) q next = terminal_chunk_of (to_abandon (find (has_tsn tsn) q.inflight.chunks)) q next
+put_by (expire_pending_tail now) q next = terminal_chunk_of (message_of (expiring_tail now q)) q next
 put_by _ q next = None
 
 -- ## A run of calls
@@ -131,7 +131,7 @@ RiseByOne [] = Unit {0}
 RiseByOne (c ∷ []) = Unit {0}
 RiseByOne (c ∷ d ∷ ds) = (c.tsn ≡ following_tsn d.tsn) × RiseByOne (d ∷ ds)
 
--- the chunks of each message, its end mark included, have consecutive TSNs
+-- the chunks of each message, its terminal chunk included, have consecutive TSNs
 abbrev pub AreConsecutive : List ChunkPayloadData → Type 0
 AreConsecutive put = (message : ℕ) → RiseByOne (those (is_of message) put)
 

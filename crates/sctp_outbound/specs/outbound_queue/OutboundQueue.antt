@@ -2,8 +2,8 @@
 use Rattle.std.specs.Prelude.{◌≡◌, ℕ, zero, suc, ◌+◌, ◌-◌, ◌%◌, ◌^◌, ◌==◌, ◌++◌, List, [], ◌∷◌, length, map, Bool, true, false, not, ◌&&◌, ◌||◌, nat_le, is_some, Option, Some, None, if◌then◌else◌}
 use Rattle.std.specs.List.{find}
 use Rattle.sctp_chunks.specs.declared.chunk.chunk_payload_data.ChunkPayloadData.{ChunkPayloadData}
-use Rattle.sctp_lists.specs.Lists.{change_where, those}
-use Rattle.sctp_outbound.specs.Marks.{is_of, given_up, is_outstanding}
+use Rattle.sctp_list_lemmas.specs.Lists.{change_where, those}
+use Rattle.sctp_outbound.specs.Marks.{is_of, as_abandoned, is_outstanding}
 use Rattle.sctp_outbound.specs.payload_queue.PayloadQueue as payload
 use Rattle.sctp_outbound.specs.pending_queue.PendingQueue as pending
 use Rattle.sctp_outbound.specs.pending_queue.Whole.{waits}
@@ -88,16 +88,16 @@ after_sends (suc n) q = after_sends n (taken_of (pending.peeked q) q)
 -- ## Abandonment
 
 -- an empty ending chunk under the TSN, abandoned: it stands for the tail that was never sent
-abbrev pub end_mark : ℕ → ChunkPayloadData → ChunkPayloadData
-end_mark tsn c = record c { tsn = tsn; beginning_fragment = false; ending_fragment = true; abandoned = true; retransmit = false; user_data = [] }
+abbrev pub terminal_chunk : ℕ → ChunkPayloadData → ChunkPayloadData
+terminal_chunk tsn c = record c { tsn = tsn; beginning_fragment = false; ending_fragment = true; abandoned = true; retransmit = false; user_data = [] }
 
-abbrev pub with_end_mark : Option ChunkPayloadData → ℕ → payload.Payload → payload.Payload
-with_end_mark None tsn q = q
-with_end_mark (Some c) tsn q = payload.pushed q (end_mark tsn c)
+abbrev pub with_terminal_chunk : Option ChunkPayloadData → ℕ → payload.Payload → payload.Payload
+with_terminal_chunk None tsn q = q
+with_terminal_chunk (Some c) tsn q = payload.pushed q (terminal_chunk tsn c)
 
--- what is in flight of the message is given up, and its tail is gone but for an end mark
+-- what is in flight of the message is abandoned, and its tail is gone but for a terminal chunk
 abbrev pub abandoned : ℕ → ℕ → Outbound → Outbound
-abandoned message tsn q = record q { pending = pending.without message q.pending; inflight = with_end_mark (pending.last_removed message q.pending) tsn (payload.with_chunks q.inflight (change_where (is_of message) given_up q.inflight.chunks)) }
+abandoned message tsn q = record q { pending = pending.without message q.pending; inflight = with_terminal_chunk (pending.last_removed message q.pending) tsn (payload.with_chunks q.inflight (change_where (is_of message) as_abandoned q.inflight.chunks)) }
 
 -- the TSN is taken where a tail was
 abbrev pub tsn_after : ℕ → ℕ → Outbound → ℕ
@@ -123,11 +123,11 @@ has_tail (Some message) q = waits message q.pending
 
 -- ## Expiry
 
--- a lapsed message, wholly unsent
+-- a message past its deadline, wholly unsent
 abbrev pub is_expired : ℕ → ChunkPayloadData → Bool
 is_expired now c = c.beginning_fragment && (not (length c.user_data == 0) && (not (pending.is_dcep c.payload_type) && is_past now c.deadline))
 
--- the rest of a lapsed message
+-- the rest of a message past its deadline
 abbrev pub is_expired_tail : ℕ → ChunkPayloadData → Bool
 is_expired_tail now c = not c.beginning_fragment && (not (pending.is_dcep c.payload_type) && is_past now c.deadline)
 
@@ -141,11 +141,11 @@ abbrev pub expired_of : Option ChunkPayloadData → Outbound → Outbound
 expired_of None q = q
 expired_of (Some c) q = record q { pending = if c.unordered then pending.without c.message_id q.pending else pending.closed_up c.stream_identifier (pending.without c.message_id q.pending) }
 
--- the lapsed message in front, wholly unsent
+-- the message in front, past its deadline, wholly unsent
 abbrev pub expiring : ℕ → Outbound → Option ChunkPayloadData
 expiring now q = passing (is_expired now) (pending.peeked q.pending)
 
--- the rest of a lapsed message in front
+-- the rest of a message in front, past its deadline
 abbrev pub expiring_tail : ℕ → Outbound → Option ChunkPayloadData
 expiring_tail now q = passing (is_expired_tail now) (pending.peeked q.pending)
 
@@ -153,7 +153,7 @@ abbrev pub message_of : Option ChunkPayloadData → Option ℕ
 message_of None = None
 message_of (Some c) = Some c.message_id
 
--- a lapsed chunk in flight that is not abandoned, and not acknowledged or of a message with a tail
+-- a chunk in flight past its deadline that is not abandoned, and not acknowledged or of a message with a tail
 abbrev pub is_late : ℕ → pending.Pending → ChunkPayloadData → Bool
 is_late now q c = not c.abandoned && (is_past now c.deadline && (not c.acked || waits c.message_id q))
 

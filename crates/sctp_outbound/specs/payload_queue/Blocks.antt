@@ -4,8 +4,8 @@ use Rattle.std.specs.Fmt.{decimal}
 use Rattle.std.specs.List.{All, AllPairs, list_any}
 use Rattle.sctp_chunks.specs.declared.chunk.chunk_payload_data.ChunkPayloadData.{ChunkPayloadData}
 use Rattle.sctp_chunks.specs.declared.chunk.chunk_selective_ack.GapAckBlock.{GapAckBlock}
-use Rattle.sctp_lists.specs.Lists.{those}
-use Rattle.sctp_lists.specs.Serial.{distance}
+use Rattle.sctp_list_lemmas.specs.Lists.{those}
+use Rattle.sctp_list_lemmas.specs.Serial.{distance}
 use Rattle.sctp_serial.specs.Runs.{IsRising}
 
 -- each block is a run, and ends more than one before each later one begins

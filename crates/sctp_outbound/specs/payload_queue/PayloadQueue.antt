@@ -1,8 +1,8 @@
 -- A payload queue as callers see it.
 use Rattle.std.specs.Prelude.{ℕ, ◌-◌, ◌++◌, ◌∷◌, [], List, Bool, not, Option, Some, None, if◌then◌else◌}
 use Rattle.sctp_chunks.specs.declared.chunk.chunk_payload_data.ChunkPayloadData.{ChunkPayloadData}
-use Rattle.sctp_lists.specs.Lists.{inserted, those}
-use Rattle.sctp_lists.specs.Serial.{comes_before, at_or_before}
+use Rattle.sctp_list_lemmas.specs.Lists.{inserted, those}
+use Rattle.sctp_list_lemmas.specs.Serial.{comes_before, at_or_before}
 use Rattle.sctp_serial.specs.DataChunks.{has_tsn, chunk_before}
 
 -- the chunks in serial order, the duplicates in the order in which they came, and how many pushes take no memory

@@ -5,12 +5,12 @@ use Rattle.sctp_chunks.specs.declared.chunk.chunk_payload_data.PayloadProtocolId
 use Rattle.sctp_chunks.specs.declared.chunk.chunk_payload_data.PayloadProtocolIdentifier.TheVariants as identifiers
 use Rattle.sctp_chunks.specs.declared.chunk.chunk_payload_data.ReliabilityType.{ReliabilityType}
 use Rattle.sctp_chunks.specs.declared.chunk.chunk_payload_data.ReliabilityType.TheVariants.{Reliable, Rexmit, Timed}
-use Rattle.sctp_lists.specs.Lists.{change_where, those}
+use Rattle.sctp_list_lemmas.specs.Lists.{change_where, those}
 use Rattle.sctp_outbound.specs.declared.pending_queue.Selected.{Selected}
 use Rattle.sctp_outbound.specs.Marks.{is_of}
 use Rattle.sctp_serial.specs.DataChunks.{bytes_of}
 
--- an ordered and an unordered list, each first in first out, the half-sent message, and how many pushes to each list take no memory
+-- an ordered and an unordered list, each first in first out, the partially sent message, and how many pushes to each list take no memory
 pub record Pending : Type 0 where
   pub ordered : List ChunkPayloadData
   pub unordered : List ChunkPayloadData
@@ -47,7 +47,7 @@ abbrev pub front_of : List ChunkPayloadData → List ChunkPayloadData → Option
 front_of [] ys = slice_get ys 0
 front_of (x ∷ xs) ys = Some x
 
--- the front of the half-sent message's list; with none half sent the unordered front, else the ordered one
+-- the front of the partially sent message's list; with none partially sent the unordered front, else the ordered one
 abbrev pub peeked_of : Option Selected → Pending → Option ChunkPayloadData
 peeked_of (Some s) q = slice_get (list_of s.unordered q) 0
 peeked_of None q = front_of q.unordered q.ordered
@@ -67,7 +67,7 @@ popped_from (Some unordered) q = slice_get (list_of unordered q) 0
 abbrev pub popped : Bool → Bool → Pending → Option ChunkPayloadData
 popped beginning unordered q = popped_from (list_to_pop q.selected beginning unordered) q
 
--- a message is half sent from its first fragment on until its ending one
+-- a message is partially sent from its first fragment on until its ending one
 abbrev pub selected_after : Option Selected → Bool → ChunkPayloadData → Option Selected
 selected_after None unordered c = if c.ending_fragment then None else Some (record { message_id = c.message_id; unordered = unordered })
 selected_after (Some s) unordered c = if c.ending_fragment && (c.message_id == s.message_id) then None else Some s
@@ -102,7 +102,7 @@ last_of (c ∷ d ∷ ds) = last_of (d ∷ ds)
 abbrev pub last_removed : ℕ → Pending → Option ChunkPayloadData
 last_removed message q = last_of (those (is_of message) q.ordered ++ those (is_of message) q.unordered)
 
--- a message that is removed is half sent no more
+-- a message that is removed is partially sent no more
 abbrev pub selected_without : ℕ → Option Selected → Option Selected
 selected_without message None = None
 selected_without message (Some s) = if s.message_id == message then None else Some s

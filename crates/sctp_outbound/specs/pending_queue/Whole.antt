@@ -1,4 +1,4 @@
--- Whole messages that wait one behind another.
+-- Complete messages that wait one behind another.
 use Rattle.std.specs.Prelude.{◌≡◌, ℕ, ◌+◌, ◌<◌, ◌≤◌, Bool, true, false, not, ◌||◌, List, [], ◌∷◌, ◌++◌, Option, Some, None, if◌then◌else◌}
 use Rattle.std.specs.List.{AllPairs, list_any}
 use Rattle.sctp_chunks.specs.declared.chunk.chunk_payload_data.ChunkPayloadData.{ChunkPayloadData}
@@ -19,13 +19,13 @@ Follows (begun message) c = (c.beginning_fragment ≡ false) × (c.message_id �
 abbrev pub stage_after : ChunkPayloadData → Stage
 stage_after c = if c.ending_fragment then free (c.message_id + 1) else begun c.message_id
 
--- whole messages of one kind, or the rest of one and then whole ones, their numbers ascending and below a bound
+-- complete messages of one kind, or the rest of one and then whole ones, their numbers ascending and below a bound
 abbrev pub IsWhole : Bool → ℕ → Stage → List ChunkPayloadData → Type 0
 IsWhole kind below (free least) [] = Unit {0}
 IsWhole kind below (begun message) [] = ⊥
 IsWhole kind below stage (c ∷ cs) = Follows stage c × (c.unordered ≡ kind) × (c.message_id < below) × IsWhole kind below (stage_after c) cs
 
--- where a list stands by the half-sent message
+-- where a list stands by the partially sent message
 abbrev pub stage_of : Bool → Option Selected → Stage
 stage_of kind None = free 0
 stage_of true (Some s) = if s.unordered then begun s.message_id else free 0
@@ -43,17 +43,17 @@ abbrev pub half_of : Option Selected → Option ℕ
 half_of None = None
 half_of (Some s) = Some s.message_id
 
--- the half-sent message
-abbrev pub half_sent : Pending → Option ℕ
-half_sent q = half_of q.selected
+-- the partially sent message
+abbrev pub partially_sent : Pending → Option ℕ
+partially_sent q = half_of q.selected
 
--- each message waits whole in the list of its kind, but for the half-sent one, which is in front;
+-- each message waits whole in the list of its kind, but for the partially sent one, which is in front;
 -- of what is in flight only that one waits too; and each number is below the next
 pub record IsSendable (q : Pending) (inflight : List ChunkPayloadData) (next : ℕ) : Type 0 where
   pub ordered : IsWhole false next (stage_of false q.selected) q.ordered
   pub unordered : IsWhole true next (stage_of true q.selected) q.unordered
   pub apart : (m : ℕ) → list_any (is_of m) q.ordered ≡ true → list_any (is_of m) q.unordered ≡ false
-  pub sent : (m : ℕ) → list_any (is_of m) inflight ≡ true → waits m q ≡ true → half_sent q ≡ Some m
+  pub sent : (m : ℕ) → list_any (is_of m) inflight ≡ true → waits m q ≡ true → partially_sent q ≡ Some m
   pub below : (m : ℕ) → next ≤ m → list_any (is_of m) inflight ≡ false
 
 -- the chunk goes on with the message
@@ -66,7 +66,7 @@ GoesOn message (Some c) = (c.message_id ≡ message) × (c.beginning_fragment �
 abbrev pub ends : ChunkPayloadData → Bool
 ends c = c.ending_fragment
 
--- the rest of a half-sent ordered message, then the unordered chunks, then the other ordered ones
+-- the rest of a partially sent ordered message, then the unordered chunks, then the other ordered ones
 abbrev pub rest_then : List ChunkPayloadData → List ChunkPayloadData → List ChunkPayloadData
 rest_then [] us = us
 rest_then (c ∷ cs) us = if c.ending_fragment then c ∷ (us ++ cs) else c ∷ rest_then cs us
@@ -89,7 +89,7 @@ abbrev pub ordered_first : Option Selected → List ChunkPayloadData → ℕ
 ordered_first None os = 0
 ordered_first (Some s) os = if s.unordered then 0 else until_end os
 
--- whether a half-sent ordered message has an end
+-- whether a partially sent ordered message has an end
 abbrev pub has_end : Option Selected → List ChunkPayloadData → Bool
 has_end None os = true
 has_end (Some s) os = if s.unordered then true else list_any ends os
@@ -100,7 +100,7 @@ IsMessage kind goes_on [] = ⊥
 IsMessage kind goes_on (c ∷ []) = (c.beginning_fragment ≡ not goes_on) × (c.ending_fragment ≡ true) × (c.unordered ≡ kind)
 IsMessage kind goes_on (c ∷ d ∷ ds) = (c.beginning_fragment ≡ not goes_on) × (c.ending_fragment ≡ false) × (c.unordered ≡ kind) × IsMessage kind true (d ∷ ds)
 
--- no fragment, or one whole message, all ordered or all unordered
+-- no fragment, or one complete message, all ordered or all unordered
 abbrev pub IsMessageOrNone : List ChunkPayloadData → Type 0
 IsMessageOrNone [] = Unit {0}
 IsMessageOrNone (c ∷ cs) = IsMessage c.unordered false (c ∷ cs)

@@ -6,7 +6,7 @@ ghost use Rattle.sctp_outbound.specs.pending_queue.Whole.{IsMessageOrNone};
 
 use sctp_chunks::chunk::chunk_payload_data::ChunkPayloadData;
 
-/// Whether these are no fragments, or those of one whole message: the first begins it and the last ends it, and no other does; all
+/// Whether these are no fragments, or those of one complete message: the first begins it and the last ends it, and no other does; all
 /// are ordered or all unordered.
 pub(crate) fn is_message_or_none(chunks: &[ChunkPayloadData]) -> bool
     ensures yes { result ≡ true → IsMessageOrNone chunks.now }

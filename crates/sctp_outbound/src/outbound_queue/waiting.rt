@@ -14,7 +14,7 @@ impl OutboundQueue {
         self.pending.contains_message(message_id)
     }
 
-    /// Whether the message in front is half sent and lapsed, so that `expire_pending_tail` gives up its rest. `now` is in nanoseconds.
+    /// Whether the message in front is partially sent and lapsed, so that `expire_pending_tail` abandons its rest. `now` is in nanoseconds.
     pub fn is_tail_expired(&self, now: u64) -> bool
         ensures { result ≡ is_some (expiring_tail now self.now) }
     {
@@ -24,7 +24,7 @@ impl OutboundQueue {
         }
     }
 
-    /// Does nothing: its clause holds of every queue. Each message waits whole, but for the half-sent one, which is in front;
+    /// Does nothing: its clause holds of every queue. Each message waits whole, but for the partially sent one, which is in front;
     /// and of what is in flight only that one waits too.
     pub fn are_whole(&self)
         ensures { IsSendable self.now.pending self.now.inflight.chunks self.now.next_message_id }

@@ -16,7 +16,7 @@ use std::marker::Model;
 pub(crate) enum Mark {
     /// The peer has it: its bytes go.
     Acknowledged,
-    /// Its message is given up: its bytes go.
+    /// Its message is abandoned: its bytes go.
     Abandoned,
     /// Whether it is to be sent again.
     Retransmit(bool),

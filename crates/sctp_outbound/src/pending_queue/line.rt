@@ -4,7 +4,7 @@ ghost use Rattle.std.specs.Prelude.{◌≡◌, ◌==◌, ◌+◌, ◌-◌, ◌^�
 ghost use Rattle.std.specs.List.{All, list_any};
 ghost use Rattle.std.specs.VecDeque.{deque_capacity, deque_len};
 ghost use Rattle.sctp_base.specs.declared.error.Error.TheVariants.{ErrOutOfMemory};
-ghost use Rattle.sctp_lists.specs.Lists.{change_where, those};
+ghost use Rattle.sctp_list_lemmas.specs.Lists.{change_where, those};
 ghost use Rattle.sctp_outbound.specs.Marks.{is_of};
 ghost use Rattle.sctp_outbound.specs.outbound_queue.OutboundQueue.{with_message_id};
 ghost use Rattle.sctp_outbound.specs.pending_queue.PendingQueue.{removed_bytes, last_of, without_message, is_on, one_lower, is_to_start, with_deadline, is_dcep, is_timed, deadline_at};

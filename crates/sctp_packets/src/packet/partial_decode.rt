@@ -6,7 +6,7 @@ ghost use Rattle.sctp_base.specs.declared.error.Error.TheVariants.{ErrChunkValue
 ghost use Rattle.sctp_base.specs.Outcome.{OrMemory, GivesUnlessMemory};
 ghost use Rattle.sctp_base.specs.Field.{u32_at};
 ghost use Rattle.sctp_chunks.specs.Kind.{IsFreshKind};
-ghost use Rattle.sctp_packets.specs.Packet.{Parts, parts_of, HavePacketText, IsCanonical, ReadsPacket};
+ghost use Rattle.sctp_packets.specs.Packet.{Parts, parts_of, HavePacketEncoding, IsCanonical, ReadsPacket};
 ghost use Rattle.sctp_packets.specs.Fault.{WalkFault};
 ghost use Rattle.sctp_packets.specs.Partial.{ReadsPartial, Finishes, HasChunks, IsInitType, PartialFault};
 
@@ -105,7 +105,7 @@ impl PartialDecode {
         ensures only { (p : Parts)
             → Finishes self p → GivesUnlessMemory result (λ q. parts_of q ≡ p) }
         ensures fault { IfErr result (λ e. OrMemory e (WalkFault e self.remaining)) }
-        ensures rewritable { IfOk result (λ p. HavePacketText (parts_of p)) }
+        ensures rewritable { IfOk result (λ p. HavePacketEncoding (parts_of p)) }
         ensures canonical { IfOk result (λ p. IsCanonical (parts_of p)) }
         ensures fresh { IfOk result (λ p. AllByRecursion IsFreshKind p.chunks.items) }
     {

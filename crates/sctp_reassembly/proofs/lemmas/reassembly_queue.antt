@@ -1,11 +1,11 @@
--- Lemmas on a reassembly queue, and on the messages and loose fragments in it.
-pub mod CompleteLemmas
-pub mod CountLemmas
-pub mod LooseBytes
-pub mod PieceLemmas
-pub mod RunLemmas
+-- Lemmas on a reassembly queue, and on the messages and unassembled fragments in it.
+pub mod SetEnds
+pub mod ByteCounts
+pub mod UnassembledBytes
+pub mod PiecesTaken
+pub mod UnassembledRuns
 pub mod SerialPlaces
-pub mod SetLemmas
+pub mod ChunkSets
 pub mod SizeBounds
-pub mod SizeLemmas
+pub mod LastFragments
 pub mod TakenRuns

@@ -1,8 +1,8 @@
 -- A reassembly queue as callers see it, and its calls as functions of lists (RFC 4960 6.5, 6.6; RFC 3758 3.6).
 use Rattle.std.specs.Prelude.{◌≡◌, ℕ, ◌+◌, ◌-◌, ◌%◌, ◌^◌, Bool, true, false, ◌&&◌, not, ◌==◌, min, nat_lt, if◌then◌else◌, List, [], ◌∷◌, ◌++◌, length, take, drop, Option, Some, None}
 use Rattle.std.specs.List.{list_any, sum_by}
-use Rattle.sctp_lists.specs.Serial.{comes_before16, at_or_before, at_or_before16}
-use Rattle.sctp_lists.specs.Lists.{inserted, those, after_leading}
+use Rattle.sctp_list_lemmas.specs.Serial.{comes_before16, at_or_before, at_or_before16}
+use Rattle.sctp_list_lemmas.specs.Lists.{inserted, those, after_leading}
 use Rattle.sctp_chunks.specs.declared.chunk.chunk_payload_data.ChunkPayloadData.{ChunkPayloadData}
 use Rattle.sctp_chunks.specs.declared.chunk.chunk_payload_data.PayloadProtocolIdentifier.TheVariants.{Unknown}
 use Rattle.sctp_chunks.specs.ChunkSet.{ChunkSet}
@@ -12,12 +12,12 @@ use Rattle.sctp_serial.specs.DataChunks.{bytes_of, chunk_before, has_tsn}
 use Rattle.sctp_reassembly.specs.reassembly_queue.Sizes.{projected_size}
 use Rattle.sctp_serial.specs.Runs.{IsEarliestRun, HasNoRun}
 
--- the next SSN, the sets of ordered messages, the whole unordered messages, and the loose fragments of unordered ones
+-- the next SSN, the sets of ordered messages, the complete unordered messages, and the unassembled fragments of unordered ones
 pub record Reassembly : Type 0 where
   pub next_ssn : ℕ
   pub ordered : List ChunkSet
   pub unordered : List ChunkSet
-  pub loose : List ChunkPayloadData
+  pub unassembled : List ChunkPayloadData
 
 -- with the stream, the byte count and the length of the longest message taken
 pub record ReassemblyState : Type 0 where
@@ -32,7 +32,7 @@ abbrev pub set_bytes : List ChunkSet → ℕ
 set_bytes sets = sum_by (λ s. bytes_of s.chunks) sets
 
 abbrev pub held_bytes : Reassembly → ℕ
-held_bytes q = set_bytes q.ordered + set_bytes q.unordered + bytes_of q.loose
+held_bytes q = set_bytes q.ordered + set_bytes q.unordered + bytes_of q.unassembled
 
 -- the byte count is the sum of the lengths that are held
 abbrev pub IsCounted : ReassemblyState → Type 0
@@ -45,7 +45,7 @@ count_up bytes more = min (bytes + more) (2 ^ 64 - 1)
 -- ## Push
 
 abbrev pub is_too_large : ChunkPayloadData → ReassemblyState → Bool
-is_too_large x q = (x.stream_identifier == q.si) && nat_lt q.max_message_size (projected_size x q.held.ordered q.held.loose)
+is_too_large x q = (x.stream_identifier == q.si) && nat_lt q.max_message_size (projected_size x q.held.ordered q.held.unassembled)
 
 -- an ordered chunk comes
 abbrev pub held_after_ordered_push : ChunkPayloadData → Reassembly → Reassembly
@@ -62,35 +62,35 @@ is_whole_with x q = not (comes_before16 x.stream_sequence_number q.next_ssn) && 
 abbrev pub after_ordered_push : ChunkPayloadData → ReassemblyState → ReassemblyState
 after_ordered_push x q = record q { held = held_after_ordered_push x q.held; bytes = (if is_kept x q.held then count_up q.bytes (length x.user_data) else q.bytes) }
 
--- a whole unordered message: its SSN is 0, its payload type that of its first fragment
+-- a complete unordered message: its SSN is 0, its payload type that of its first fragment
 abbrev pub set_of_run : List ChunkPayloadData → ChunkSet
 set_of_run [] = record { ssn = 0; ppi = Unknown; chunks = [] }
 set_of_run (x ∷ xs) = record { ssn = 0; ppi = x.payload_type; chunks = x ∷ xs }
 
--- of these loose fragments the run that ends earliest becomes a whole message, behind the others
+-- of these unassembled fragments the run that ends earliest becomes a complete message, behind the others
 pub record TakesRun (xs : List ChunkPayloadData) (old new : Reassembly) : Type 0 where
   pub first : ℕ
   pub count : ℕ
   pub run : IsEarliestRun xs first count
-  pub moved : new ≡ record old { loose = take first xs ++ drop (first + count) xs; unordered = old.unordered ++ set_of_run (take count (drop first xs)) ∷ [] }
+  pub moved : new ≡ record old { unassembled = take first xs ++ drop (first + count) xs; unordered = old.unordered ++ set_of_run (take count (drop first xs)) ∷ [] }
 
--- with these loose fragments a message became whole, or none did
+-- with these unassembled fragments a message became whole, or none did
 abbrev pub BecomesWhole : List ChunkPayloadData → Reassembly → Reassembly → Bool → Type 0
 BecomesWhole xs old new true = TakesRun xs old new
-BecomesWhole xs old new false = HasNoRun xs × (new ≡ record old { loose = xs })
+BecomesWhole xs old new false = HasNoRun xs × (new ≡ record old { unassembled = xs })
 
 -- an unordered chunk comes
 abbrev pub PushesUnordered : ChunkPayloadData → ReassemblyState → ReassemblyState → Bool → Type 0
 PushesUnordered x old new whole =
-    BecomesWhole (inserted chunk_before x old.held.loose) old.held new.held whole × (new ≡ record old { held = new.held; bytes = count_up old.bytes (length x.user_data) })
+    BecomesWhole (inserted chunk_before x old.held.unassembled) old.held new.held whole × (new ≡ record old { held = new.held; bytes = count_up old.bytes (length x.user_data) })
 
 -- the run that ends earliest is taken out
 pub record GivesRun (old new : ReassemblyState) (set : ChunkSet) : Type 0 where
   pub first : ℕ
   pub count : ℕ
-  pub run : IsEarliestRun old.held.loose first count
-  pub rest : new ≡ record old { held = record old.held { loose = take first old.held.loose ++ drop (first + count) old.held.loose } }
-  pub given : set ≡ set_of_run (take count (drop first old.held.loose))
+  pub run : IsEarliestRun old.held.unassembled first count
+  pub rest : new ≡ record old { held = record old.held { unassembled = take first old.held.unassembled ++ drop (first + count) old.held.unassembled } }
+  pub given : set ≡ set_of_run (take count (drop first old.held.unassembled))
 
 -- ## Read
 
@@ -109,7 +109,7 @@ abbrev pub after_read : Option ChunkSet → Reassembly → Reassembly
 after_read None q = q
 after_read (Some set) q = record q { ordered = without_first q.ordered; next_ssn = (if set.ssn == q.next_ssn then (q.next_ssn + 1) % 2 ^ 16 else q.next_ssn) }
 
--- the first whole unordered message, else the front ordered set where it is due
+-- the first complete unordered message, else the front ordered set where it is due
 abbrev pub message_among : List ChunkSet → Reassembly → Option ChunkSet
 message_among [] q = front_readable q.next_ssn q.ordered
 message_among (u ∷ us) q = Some u
@@ -151,15 +151,15 @@ abbrev pub after_ordered_skip : ℕ → ReassemblyState → ReassemblyState
 after_ordered_skip last q = record q { held = held_after_ordered_skip last q.held; bytes = q.bytes - set_bytes (those (is_passed last) q.held.ordered) }
 
 abbrev pub held_after_unordered_skip : ℕ → Reassembly → Reassembly
-held_after_unordered_skip tsn q = record q { loose = after_leading (λ x. at_or_before x.tsn tsn) q.loose }
+held_after_unordered_skip tsn q = record q { unassembled = after_leading (λ x. at_or_before x.tsn tsn) q.unassembled }
 
--- the loose fragments up to the first that is after the TSN
+-- the unassembled fragments up to the first that is after the TSN
 abbrev pub leading_upto : ℕ → List ChunkPayloadData → List ChunkPayloadData
 leading_upto tsn [] = []
 leading_upto tsn (x ∷ xs) = if at_or_before x.tsn tsn then x ∷ leading_upto tsn xs else []
 
 abbrev pub after_unordered_skip : ℕ → ReassemblyState → ReassemblyState
-after_unordered_skip tsn q = record q { held = held_after_unordered_skip tsn q.held; bytes = q.bytes - bytes_of (leading_upto tsn q.held.loose) }
+after_unordered_skip tsn q = record q { held = held_after_unordered_skip tsn q.held; bytes = q.bytes - bytes_of (leading_upto tsn q.held.unassembled) }
 
 -- the skips of these numbers, one after another
 abbrev pub held_after_ordered_skips : List ℕ → Reassembly → Reassembly

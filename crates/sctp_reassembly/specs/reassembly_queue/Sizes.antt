@@ -1,7 +1,7 @@
 -- How long the message of a chunk would be with it.
 use Rattle.std.specs.Prelude.{ℕ, ◌+◌, ◌-◌, ◌%◌, ◌^◌, Bool, not, ◌==◌, if◌then◌else◌, List, [], ◌∷◌, length, reverse}
 use Rattle.std.specs.List.{list_any}
-use Rattle.sctp_lists.specs.Lists.{after_leading}
+use Rattle.sctp_list_lemmas.specs.Lists.{after_leading}
 use Rattle.sctp_chunks.specs.declared.chunk.chunk_payload_data.ChunkPayloadData.{ChunkPayloadData}
 use Rattle.sctp_chunks.specs.ChunkSet.{ChunkSet}
 use Rattle.sctp_reassembly.specs.reassembly_queue.Fragments.{next_tsn, chunks_of_ssn}
@@ -30,12 +30,12 @@ on_from tsn [] = []
 on_from tsn (y ∷ ys) = if list_any (has_tsn tsn) ys then on_from tsn ys else (if has_tsn tsn y then y ∷ ys else [])
 
 abbrev pub size_before : ChunkPayloadData → List ChunkPayloadData → ℕ
-size_before x loose = if x.beginning_fragment then 0 else bytes_down x.tsn (back_from (previous_tsn x.tsn) loose)
+size_before x unassembled = if x.beginning_fragment then 0 else bytes_down x.tsn (back_from (previous_tsn x.tsn) unassembled)
 
 abbrev pub size_after : ChunkPayloadData → List ChunkPayloadData → ℕ
-size_after x loose = if x.ending_fragment then 0 else bytes_up x.tsn (on_from (next_tsn x.tsn) loose)
+size_after x unassembled = if x.ending_fragment then 0 else bytes_up x.tsn (on_from (next_tsn x.tsn) unassembled)
 
--- with the fragments of its set, or with the loose neighbours that belong to its message
+-- with the fragments of its set, or with the unassembled neighbours that belong to its message
 abbrev pub projected_size : ChunkPayloadData → List ChunkSet → List ChunkPayloadData → ℕ
-projected_size x ordered loose =
-    if x.unordered then size_before x loose + length x.user_data + size_after x loose else bytes_of (chunks_of_ssn x.stream_sequence_number ordered) + length x.user_data
+projected_size x ordered unassembled =
+    if x.unordered then size_before x unassembled + length x.user_data + size_after x unassembled else bytes_of (chunks_of_ssn x.stream_sequence_number ordered) + length x.user_data

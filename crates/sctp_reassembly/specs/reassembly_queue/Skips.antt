@@ -1,8 +1,8 @@
 -- Skips that stop before messages whose TSNs lie past a bound.
 use Rattle.std.specs.Prelude.{ℕ, ◌+◌, ◌-◌, ◌%◌, ◌^◌, Bool, false, ◌&&◌, ◌||◌, not, ◌==◌, if◌then◌else◌, List, [], ◌∷◌, ◌++◌, Option, Some, None, unwrap_or}
 use Rattle.std.specs.List.{list_any, list_all}
-use Rattle.sctp_lists.specs.Serial.{comes_before, comes_after, at_or_before, comes_before16, comes_after16, at_or_before16}
-use Rattle.sctp_lists.specs.Lists.{those}
+use Rattle.sctp_list_lemmas.specs.Serial.{comes_before, comes_after, at_or_before, comes_before16, comes_after16, at_or_before16}
+use Rattle.sctp_list_lemmas.specs.Lists.{those}
 use Rattle.sctp_chunks.specs.declared.chunk.chunk_payload_data.ChunkPayloadData.{ChunkPayloadData}
 use Rattle.sctp_chunks.specs.ChunkSet.{ChunkSet}
 use Rattle.sctp_reassembly.specs.reassembly_queue.Fragments.{next_tsn, is_complete, has_ssn}
@@ -25,10 +25,10 @@ misses t (x ∷ xs) = (not x.beginning_fragment && at_or_before (previous_tsn x.
 abbrev pub is_abandoned : ℕ → ℕ → ChunkSet → Bool
 is_abandoned last t set = at_or_before16 set.ssn last && (not (is_complete set.chunks) && misses t set.chunks)
 
--- a set that a skip gives up, with a bound or without
-abbrev pub is_given_up : ℕ → Option ℕ → ChunkSet → Bool
-is_given_up last None set = is_passed last set
-is_given_up last (Some t) set = is_abandoned last t set
+-- a set that a skip discards, with a bound or without
+abbrev pub is_discarded : ℕ → Option ℕ → ChunkSet → Bool
+is_discarded last None set = is_passed last set
+is_discarded last (Some t) set = is_abandoned last t set
 
 -- a set at or before the SSN that the skip leaves alone
 abbrev pub is_unaffected : ℕ → ℕ → ChunkSet → Bool

@@ -6,8 +6,8 @@ ghost use Rattle.std.specs.List.Sorted.{IsNonDecreasingBy, IsPartitionPoint};
 ghost use Rattle.sctp_reassembly.specs.reassembly_queue.Chunks.{left_from, left_of, piece_of, left_after, taken_whole, bytes_given};
 ghost use Rattle.sctp_reassembly.specs.declared.reassembly_queue.chunks.Chunk.{Chunk};
 ghost use Rattle.sctp_chunks.specs.declared.chunk.chunk_payload_data.ChunkPayloadData.{ChunkPayloadData};
-ghost use Rattle.sctp_lists.specs.Serial.{comes_before, distance};
-ghost use Rattle.sctp_lists.specs.Lists.{inserted};
+ghost use Rattle.sctp_list_lemmas.specs.Serial.{comes_before, distance};
+ghost use Rattle.sctp_list_lemmas.specs.Lists.{inserted};
 ghost use Rattle.sctp_reassembly.specs.reassembly_queue.Fragments.{payload_of, is_complete, with_chunk, answer_with, is_whole_after};
 ghost use Rattle.sctp_serial.specs.DataChunks.{bytes_of, has_tsn, chunk_before};
 ghost use Rattle.sctp_serial.specs.Ascending.{IsOrder, IsInsertion};
@@ -234,7 +234,7 @@ impl Chunks {
         Ok(self.set.put(chunk)?.unwrap_or(false))
     }
 
-    /// Copies the whole message into the buffer and gives its length in bytes. What
+    /// Copies the complete message into the buffer and gives its length in bytes. What
     /// follows in the buffer stays, and nothing is taken.
     /// Refuses with `ErrShortBuffer`, exactly where the message is longer: the
     /// buffer is filled with its beginning then.

@@ -1,24 +1,24 @@
-//! The loose fragments of a stream, out of which whole messages are taken.
+//! The unassembled fragments of a stream, out of which complete messages are taken.
 
 ghost use Rattle.std.specs.Prelude.{◌≡◌, ◌<◌, ◌≤◌, ◌&&◌, [], length, remove, insert, IfSome, IfNone, drop, OnErr, IfOk, IfErr, MatchOption};
-ghost use Rattle.sctp_lists.specs.Lists.{inserted};
+ghost use Rattle.sctp_list_lemmas.specs.Lists.{inserted};
 ghost use Rattle.sctp_serial.specs.DataChunks.{chunk_before};
 ghost use Rattle.sctp_serial.specs.Runs.{HasNoRun, IsEarliestRun};
 ghost use Rattle.sctp_base.specs.declared.error.Error.TheVariants.{ErrOutOfMemory};
 ghost use Rattle.sctp_reassembly.specs.reassembly_queue.Loose.{IsRunTaken, IsMark, place_among};
 
-use crate::reassembly_queue::loose::{Loose, find_run, run_around};
+use crate::reassembly_queue::unassembled::{Loose, find_run, run_around};
 use sctp_base::error::Error;
 use sctp_chunks::chunk::chunk_payload_data::ChunkPayloadData;
 use sctp_serial::turns::Turns;
 use std::alloc::{AllocError, Global};
 use std::marker::Model;
 
-/// The loose fragments, and whether they are known to hold no whole message.
+/// The unassembled fragments, and whether they are known to hold no complete message.
 #[derive(Drop)]
 pub(crate) struct Pool {
-    loose: Loose,
-    // no complete run was loose when it was last searched
+    unassembled: Loose,
+    // no complete run was unassembled when it was last searched
     searched: bool,
 }
 
@@ -29,9 +29,9 @@ impl Model for Pool {
 
     ghost Value = { List ChunkPayloadData };
 
-    ghost view = { λ p. p.loose };
+    ghost view = { λ p. p.unassembled };
 
-    ghost invariant = { λ p. IsMark p.searched p.loose };
+    ghost invariant = { λ p. IsMark p.searched p.unassembled };
 }
 
 impl Pool {
@@ -40,7 +40,7 @@ impl Pool {
         ensures { result ≡ [] }
     {
         Pool {
-            loose: Loose::new(alloc),
+            unassembled: Loose::new(alloc),
             searched: true,
         }
     }
@@ -51,16 +51,16 @@ impl Pool {
         ensures memory { IfErr result (λ e. e ≡ ErrOutOfMemory) }
     {
         Ok(Pool {
-            loose: self.loose.try_clone(alloc)?,
+            unassembled: self.unassembled.try_clone(alloc)?,
             searched: self.searched,
         })
     }
 
     /// The fragments.
-    pub(crate) fn loose(&self) -> &Loose
+    pub(crate) fn unassembled(&self) -> &Loose
         ensures { result.now ≡ self.now }
     {
-        &self.loose
+        &self.unassembled
     }
 
     /// Drops the first `count`.
@@ -69,7 +69,7 @@ impl Pool {
         requires { count ≤ length self.old }
         ensures { self.new ≡ drop count self.old }
     {
-        self.loose.drop_front(count);
+        self.unassembled.drop_front(count);
     }
 
     /// Puts a fragment before the first that it comes before, and takes out the run
@@ -88,19 +88,19 @@ impl Pool {
             (λ chunks. IsRunTaken (inserted chunk_before chunk self.old) self.new chunks.items)) }
         ensures err { OnErr result (self.new ≡ self.old) }
     {
-        self.loose.insert(alloc, place, chunk)?;
-        let serial = self.loose.is_serial();
-        let Some((first, count)) = search(&self.loose, self.searched, place) else {
+        self.unassembled.insert(alloc, place, chunk)?;
+        let serial = self.unassembled.is_serial();
+        let Some((first, count)) = search(&self.unassembled, self.searched, place) else {
             self.searched = true;
             return Ok(None);
         };
-        match self.loose.take_range(alloc, first, count) {
+        match self.unassembled.take_range(alloc, first, count) {
             Ok(chunks) => {
                 self.searched = is_searched_after(self.searched, serial);
                 Ok(Some(chunks))
             }
             Err(e) => {
-                self.loose.remove(place);
+                self.unassembled.remove(place);
                 Err(e)
             }
         }
@@ -115,17 +115,17 @@ impl Pool {
             × (self.new ≡ self.old)) (λ chunks. IsRunTaken self.old self.new chunks.items)) }
         ensures err { OnErr result (self.new ≡ self.old) }
     {
-        let Some((first, count)) = find_run(&self.loose, &mut Turns::new()) else {
+        let Some((first, count)) = find_run(&self.unassembled, &mut Turns::new()) else {
             self.searched = true;
             return Ok(None);
         };
-        let chunks = self.loose.take_range(alloc, first, count)?;
+        let chunks = self.unassembled.take_range(alloc, first, count)?;
         self.searched = false;
         Ok(Some(chunks))
     }
 }
 
-// Whether none is loose once the run of a new fragment was taken: in serial order none arises by it.
+// Whether none is unassembled once the run of a new fragment was taken: in serial order none arises by it.
 fn is_searched_after(searched: bool, serial: bool) -> bool
     ensures { result ≡ (searched && serial) }
 {
@@ -133,15 +133,15 @@ fn is_searched_after(searched: bool, serial: bool) -> bool
 }
 
 // The run that ends earliest. Where none was there before the fragment at the place, only the runs that hold it are looked for.
-fn search(loose: &Loose, searched: bool, place: usize) -> Option<(usize, usize)>
-    requires in_range { place < length loose.now }
-    requires mark { IsMark searched (remove loose.now place) }
-    ensures found { IfSome result (λ run. IsEarliestRun loose.now run.0 run.1) }
-    ensures none { IfNone result (HasNoRun loose.now) }
+fn search(unassembled: &Loose, searched: bool, place: usize) -> Option<(usize, usize)>
+    requires in_range { place < length unassembled.now }
+    requires mark { IsMark searched (remove unassembled.now place) }
+    ensures found { IfSome result (λ run. IsEarliestRun unassembled.now run.0 run.1) }
+    ensures none { IfNone result (HasNoRun unassembled.now) }
 {
     if searched {
-        run_around(loose, place, &mut Turns::new())
+        run_around(unassembled, place, &mut Turns::new())
     } else {
-        find_run(loose, &mut Turns::new())
+        find_run(unassembled, &mut Turns::new())
     }
 }

@@ -5,54 +5,54 @@ ghost use Rattle.sctp_serial.specs.DataChunks.{bytes_of};
 ghost use Rattle.sctp_reassembly.specs.reassembly_queue.Loose.{place_among};
 ghost use Rattle.sctp_reassembly.specs.reassembly_queue.Sizes.{bytes_down, bytes_up, back_from, on_from, size_before, size_after};
 
-use crate::reassembly_queue::loose::Loose;
-use crate::reassembly_queue::loose_places::{place_after, place_before};
+use crate::reassembly_queue::unassembled::Loose;
+use crate::reassembly_queue::unassembled_places::{place_after, place_before};
 use sctp_chunks::chunk::chunk_payload_data::ChunkPayloadData;
 use sctp_serial::turns::Turns;
 
-/// The bytes of the loose neighbours that come before the chunk in its message, seen from where the chunk goes.
+/// The bytes of the unassembled neighbours that come before the chunk in its message, seen from where the chunk goes.
 /// Precondition: `place` is that.
-pub(crate) fn size_before(chunk: &ChunkPayloadData, loose: &Loose, place: usize) -> usize
-    requires { place ≡ place_among chunk.now.tsn loose.now }
-    ensures { result ≡ min (size_before chunk.now loose.now) (2 ^ 64 - 1) }
+pub(crate) fn size_before(chunk: &ChunkPayloadData, unassembled: &Loose, place: usize) -> usize
+    requires { place ≡ place_among chunk.now.tsn unassembled.now }
+    ensures { result ≡ min (size_before chunk.now unassembled.now) (2 ^ 64 - 1) }
 {
     if chunk.beginning_fragment {
         return 0;
     }
     let mut turns = Turns::new();
-    match place_before(loose, place, chunk.tsn, &mut turns) {
-        Some(last) => bytes_down(loose, last + 1, chunk.tsn, &mut turns),
+    match place_before(unassembled, place, chunk.tsn, &mut turns) {
+        Some(last) => bytes_down(unassembled, last + 1, chunk.tsn, &mut turns),
         None => 0,
     }
 }
 
-/// The bytes of the loose neighbours that come after the chunk in its message, seen from where the chunk goes.
+/// The bytes of the unassembled neighbours that come after the chunk in its message, seen from where the chunk goes.
 /// Precondition: `place` is that.
-pub(crate) fn size_after(chunk: &ChunkPayloadData, loose: &Loose, place: usize) -> usize
-    requires { place ≡ place_among chunk.now.tsn loose.now }
-    ensures { result ≡ min (size_after chunk.now loose.now) (2 ^ 64 - 1) }
+pub(crate) fn size_after(chunk: &ChunkPayloadData, unassembled: &Loose, place: usize) -> usize
+    requires { place ≡ place_among chunk.now.tsn unassembled.now }
+    ensures { result ≡ min (size_after chunk.now unassembled.now) (2 ^ 64 - 1) }
 {
     if chunk.ending_fragment {
         return 0;
     }
     let mut turns = Turns::new();
-    match place_after(loose, place, chunk.tsn, &mut turns) {
-        Some(next) => bytes_up(loose, next, chunk.tsn, &mut turns),
+    match place_after(unassembled, place, chunk.tsn, &mut turns) {
+        Some(next) => bytes_up(unassembled, next, chunk.tsn, &mut turns),
         None => 0,
     }
 }
 
 // The bytes of neighbours before a place, from the nearest on, while TSNs go down by one, up to one that begins.
-fn bytes_down(loose: &Loose, end: usize, tsn: u32, turns: &mut Turns) -> usize
-    requires { end ≤ length loose.now }
-    ensures { result ≡ min (bytes_down tsn (reverse (take end loose.now))) (2 ^ 64 - 1) }
+fn bytes_down(unassembled: &Loose, end: usize, tsn: u32, turns: &mut Turns) -> usize
+    requires { end ≤ length unassembled.now }
+    ensures { result ≡ min (bytes_down tsn (reverse (take end unassembled.now))) (2 ^ 64 - 1) }
 {
     let mut total = 0usize;
     let mut next = tsn;
     let mut end = end;
     while end > 0 {
         let place = end - 1;
-        let chunk = loose.look(place, turns);
+        let chunk = unassembled.look(place, turns);
         if chunk.tsn != next.wrapping_sub(1) {
             return total;
         }
@@ -67,14 +67,14 @@ fn bytes_down(loose: &Loose, end: usize, tsn: u32, turns: &mut Turns) -> usize
 }
 
 // The bytes of neighbours from a place on, while TSNs go up by one, up to one that ends.
-fn bytes_up(loose: &Loose, from: usize, tsn: u32, turns: &mut Turns) -> usize
-    ensures { result ≡ min (bytes_up tsn (drop from loose.now)) (2 ^ 64 - 1) }
+fn bytes_up(unassembled: &Loose, from: usize, tsn: u32, turns: &mut Turns) -> usize
+    ensures { result ≡ min (bytes_up tsn (drop from unassembled.now)) (2 ^ 64 - 1) }
 {
     let mut total = 0usize;
     let mut last = tsn;
     let mut place = from;
-    while place < loose.len() {
-        let chunk = loose.look(place, turns);
+    while place < unassembled.len() {
+        let chunk = unassembled.look(place, turns);
         if chunk.tsn != last.wrapping_add(1) {
             return total;
         }
@@ -90,13 +90,13 @@ fn bytes_up(loose: &Loose, from: usize, tsn: u32, turns: &mut Turns) -> usize
 
 /// How many bytes the first fragments carry, or the greatest number where they are more.
 /// Precondition: there are so many fragments.
-pub(crate) fn bytes_of_front(loose: &Loose, count: usize, turns: &mut Turns) -> usize
-    requires { count ≤ length loose.now }
-    ensures { result ≡ min (bytes_of (take count loose.now)) (2 ^ 64 - 1) }
+pub(crate) fn bytes_of_front(unassembled: &Loose, count: usize, turns: &mut Turns) -> usize
+    requires { count ≤ length unassembled.now }
+    ensures { result ≡ min (bytes_of (take count unassembled.now)) (2 ^ 64 - 1) }
 {
     let mut len = 0usize;
     for place in 0..count {
-        len = len.saturating_add(loose.look(place, turns).user_data.len());
+        len = len.saturating_add(unassembled.look(place, turns).user_data.len());
     }
     len
 }

@@ -2,11 +2,11 @@
 
 ghost use Rattle.std.specs.Prelude.{◌≡◌, ◌==◌, ◌+◌, ◌-◌, ◌%◌, ◌^◌, ◌&&◌, ◌||◌, min, not, None, if◌then◌else◌};
 ghost use Rattle.std.specs.List.{list_any, list_all};
-ghost use Rattle.sctp_lists.specs.Serial.{comes_before16, at_or_before, comes_after};
-ghost use Rattle.sctp_lists.specs.Lists.{those};
+ghost use Rattle.sctp_list_lemmas.specs.Serial.{comes_before16, at_or_before, comes_after};
+ghost use Rattle.sctp_list_lemmas.specs.Lists.{those};
 ghost use Rattle.sctp_reassembly.specs.reassembly_queue.Fragments.{has_ssn};
 ghost use Rattle.sctp_reassembly.specs.reassembly_queue.ReassemblyQueue.{set_bytes};
-ghost use Rattle.sctp_reassembly.specs.reassembly_queue.Skips.{misses, misses_behind, is_given_up, is_abandoned, is_unaffected, earlier_ssn, goal_of, is_covered, settles, earlier_tsn, earliest_among, earliest_from, is_from, is_upto, begins_upto, is_passable, later_ssn, latest_passable};
+ghost use Rattle.sctp_reassembly.specs.reassembly_queue.Skips.{misses, misses_behind, is_discarded, is_abandoned, is_unaffected, earlier_ssn, goal_of, is_covered, settles, earlier_tsn, earliest_among, earliest_from, is_from, is_upto, begins_upto, is_passable, later_ssn, latest_passable};
 
 use crate::reassembly_queue::chunks::Fragments;
 use sctp_base::util::{sna16gt, sna16lt, sna16lte, sna32gt, sna32lt, sna32lte};
@@ -41,17 +41,17 @@ fn misses_behind(first: &ChunkPayloadData, rest: &[ChunkPayloadData], tsn: u32) 
     !last.ending_fragment && sna32lte(last.tsn.wrapping_add(1), tsn)
 }
 
-/// Removes the sets that a skip up to the number gives up, those alone that miss a TSN where there
+/// Removes the sets that a skip up to the number discards, those alone that miss a TSN where there
 /// is a bound, and counts their bytes up to the greatest number.
 pub(crate) fn discard(sets: &mut VecDeque<Fragments>, last_ssn: u16, bound: Option<u32>) -> usize
-    ensures rest { sets.new.items ≡ those (λ s. not (is_given_up last_ssn bound s)) sets.old.items }
+    ensures rest { sets.new.items ≡ those (λ s. not (is_discarded last_ssn bound s)) sets.old.items }
     ensures bytes { result
-        ≡ min (set_bytes (those (is_given_up last_ssn bound) sets.old.items)) (2 ^ 64 - 1) }
+        ≡ min (set_bytes (those (is_discarded last_ssn bound) sets.old.items)) (2 ^ 64 - 1) }
 {
     let mut gone = 0usize;
     let mut place = 0;
     while place < sets.len() {
-        if !is_given_up(&sets[place], last_ssn, bound) {
+        if !is_discarded(&sets[place], last_ssn, bound) {
             place += 1;
             continue;
         }
@@ -66,8 +66,8 @@ pub(crate) fn discard(sets: &mut VecDeque<Fragments>, last_ssn: u16, bound: Opti
 }
 
 // Whether a skip up to the number gives the set up.
-fn is_given_up(set: &Fragments, last_ssn: u16, bound: Option<u32>) -> bool
-    ensures { result ≡ is_given_up last_ssn bound set.now }
+fn is_discarded(set: &Fragments, last_ssn: u16, bound: Option<u32>) -> bool
+    ensures { result ≡ is_discarded last_ssn bound set.now }
 {
     if !sna16lte(set.ssn(), last_ssn) || set.is_complete() {
         return false;

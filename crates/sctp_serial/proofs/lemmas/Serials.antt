@@ -12,10 +12,10 @@ use Rattle.std.proofs.lemmas.List.Folds.{find_at}
 use Rattle.std.proofs.lemmas.List.Edits.{length-insert, get_or-insert_below, get_or-insert_at, get_or-insert_above, length-remove, get_or-remove_below, get_or-remove_above}
 use Rattle.std.proofs.lemmas.Option.{slice_get-get_or}
 use Rattle.sctp_chunks.specs.declared.chunk.chunk_payload_data.ChunkPayloadData.{ChunkPayloadData}
-use Rattle.sctp_lists.specs.Lists.{inserted}
-use Rattle.sctp_lists.specs.Serial.{comes_before}
-use Rattle.sctp_lists.proofs.Edits.{OnlyAt, find-none, inserted-at, pairs_insert, pairs_tail}
-use Rattle.sctp_lists.proofs.SerialLemmas.{before_asym, before_irrefl}
+use Rattle.sctp_list_lemmas.specs.Lists.{inserted}
+use Rattle.sctp_list_lemmas.specs.Serial.{comes_before}
+use Rattle.sctp_list_lemmas.proofs.Edits.{OnlyAt, find-none, inserted-at, pairs_insert, pairs_tail}
+use Rattle.sctp_list_lemmas.proofs.Distances.{before_asym, before_irrefl}
 use Rattle.sctp_serial.specs.Window.{IsSerial, IsHeldAt, IsPlaceFor, SpansOneWindow}
 use Rattle.sctp_serial.specs.DataChunks.{has_tsn, chunk_before}
 

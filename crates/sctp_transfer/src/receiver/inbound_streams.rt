@@ -2,11 +2,11 @@
 
 ghost use Rattle.std.specs.Prelude.{◌≡◌, ◌==◌, ◌<◌, ◌++◌, ◌∷◌, ◌⊎◌, [], not, true, false, Some, None, OnOk, OnErr, IfOk, IfErr, IsOk, IsOkUnless, MatchOption, length, map, find, option_map, option_copied, slice_get, if◌then◌else◌};
 ghost use Rattle.sctp_base.specs.declared.error.Error.TheVariants.{ErrOutOfMemory};
-ghost use Rattle.sctp_lists.specs.Lists.{change_where, those};
+ghost use Rattle.sctp_list_lemmas.specs.Lists.{change_where, those};
 ghost use Rattle.sctp_transfer.specs.declared.receiver.refusal.ReceiverRefusal.TheVariants.{MessageTooLarge, OutOfMemory};
 ghost use Rattle.sctp_stream.specs.Numbers.{IsOnlyPlace, IsAbsent};
 ghost use Rattle.sctp_reassembly.specs.reassembly_queue.ReassemblyQueue.{is_too_large};
-ghost use Rattle.sctp_transfer.specs.Inbound.{loose_forwarded};
+ghost use Rattle.sctp_transfer.specs.Inbound.{unassembled_forwarded};
 
 use crate::receiver::refusal::ReceiverRefusal;
 use sctp_chunks::chunk::chunk_payload_data::ChunkPayloadData;
@@ -247,7 +247,7 @@ impl InboundStreams {
         self.items = saved;
     }
 
-    /// Gives up the messages of a stream up to a stream sequence number, where it is open (RFC 3758 3.6). It takes no memory.
+    /// Discards the messages of a stream up to a stream sequence number, where it is open (RFC 3758 3.6). It takes no memory.
     pub fn forward_ordered(&mut self, stream: u16, ssn: u16)
         ensures { self.new ≡ change_where (has_number stream) (ssn_forwarded ssn) self.old }
     {
@@ -257,9 +257,9 @@ impl InboundStreams {
         self.items[place].queue.forward_tsn_for_ordered(ssn);
     }
 
-    /// Gives up the loose fragments of all streams up to a TSN (RFC 3758 3.6). It takes no memory.
+    /// Discards the unassembled fragments of all streams up to a TSN (RFC 3758 3.6). It takes no memory.
     pub fn forward_unordered(&mut self, tsn: u32)
-        ensures { self.new ≡ map (loose_forwarded tsn) self.old }
+        ensures { self.new ≡ map (unassembled_forwarded tsn) self.old }
     {
         forward_each(&mut self.items, tsn);
     }
@@ -285,7 +285,7 @@ fn clone_each(
 
 // So on each stream.
 fn forward_each(streams: &mut Vec<InboundStream>, tsn: u32)
-    ensures { streams.new.items ≡ map (loose_forwarded tsn) streams.old.items }
+    ensures { streams.new.items ≡ map (unassembled_forwarded tsn) streams.old.items }
 {
     for place in 0..streams.len() {
         streams[place].queue.forward_tsn_for_unordered(tsn);

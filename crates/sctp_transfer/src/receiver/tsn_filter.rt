@@ -2,8 +2,8 @@
 
 ghost use Rattle.std.specs.Prelude.{◌≡◌, ◌<◌, ◌^◌, ◌∷◌, ◌++◌, [], ℕ, true, false, OnOk, OnErr, IfOk, IsOkUnless, length, map, slice_get, IsTrue};
 ghost use Rattle.sctp_base.specs.declared.error.Error.TheVariants.{ErrOutOfMemory};
-ghost use Rattle.sctp_lists.specs.Lists.{advanced};
-ghost use Rattle.sctp_lists.specs.Serial.{comes_before};
+ghost use Rattle.sctp_list_lemmas.specs.Lists.{advanced};
+ghost use Rattle.sctp_list_lemmas.specs.Serial.{comes_before};
 ghost use Rattle.sctp_outbound.specs.payload_queue.PayloadQueue.{with_chunks};
 ghost use Rattle.sctp_transfer.specs.TsnFilter.{mark, tsns};
 

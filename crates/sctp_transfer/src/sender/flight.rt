@@ -1,7 +1,7 @@
 //! What is in flight: each TSN from the one behind the acknowledged ones to the one before the next.
 
 ghost use Rattle.std.specs.Prelude.{◌≡◌, ◌+◌, ◌-◌, ◌<◌, ◌≤◌, ◌^◌, ◌%◌, ◌⊎◌, ◌++◌, ◌∷◌, [], ℕ, true, false, is_some, Some, None, OnOk, OnErr, IfOk, IfErr, IsOk, IsOkUnless, length, map, drop, vec_len, vec_capacity, option_map, find, Bool, if◌then◌else◌};
-ghost use Rattle.sctp_lists.specs.Lists.{change_where, those};
+ghost use Rattle.sctp_list_lemmas.specs.Lists.{change_where, those};
 ghost use Rattle.sctp_chunks.specs.SelectiveAck.{sack_of};
 ghost use Rattle.sctp_outbound.specs.Marks.{acknowledged};
 ghost use Rattle.sctp_outbound.specs.outbound_queue.OutboundQueue.{with_inflight};
@@ -58,7 +58,7 @@ impl InFlight {
     ghost use Rattle.sctp_outbound.specs.pending_queue.Whole.{IsMessageOrNone};
     ghost use Rattle.sctp_transfer.specs.TsnFilter.{preceding_tsn};
     ghost use Rattle.sctp_transfer.specs.Totals.{AreSettled, bytes_in};
-    ghost use Rattle.sctp_transfer.specs.Flight.{with_queue, with_room, at_first, may_send, next_after_send, can_resend, resent, is_outdated, sack_refusal, after_sack, released_by, message_to_abandon, has_tail_at, after_giving_up};
+    ghost use Rattle.sctp_transfer.specs.Flight.{with_queue, with_room, at_first, may_send, next_after_send, can_resend, resent, is_outdated, sack_refusal, after_sack, released_by, message_to_abandon, has_tail_at, after_abandonment};
 
     /// Nothing waits, and the first TSN is the next. It takes no memory.
     pub fn new(alloc: Global, first_tsn: u32) -> Self
@@ -130,7 +130,7 @@ impl InFlight {
         Ok(())
     }
 
-    /// From here on so many sends and end marks take no memory.
+    /// From here on so many sends and terminal chunks take no memory.
     /// Refuses only for memory, and all is as it was then.
     pub fn reserve_inflight(&mut self, sends: usize) -> Result<(), SenderRefusal>
         ensures ok { OnOk result (self.new ≡ with_queue self.old (with_room sends self.old.queue)) }
@@ -171,7 +171,7 @@ impl InFlight {
         Ok(sent)
     }
 
-    /// Gives up the message of a chunk in flight, as the queue's `abandon` does, and answers its stream and the bytes that
+    /// Abandons the message of a chunk in flight, as the queue's `abandon` does, and answers its stream and the bytes that
     /// left; None where the TSN is not in flight.
     /// Precondition: where some of the message still waits, which `has_tail_at` tells, a further TSN may be given out, which
     /// `may_send` tells.
@@ -182,7 +182,7 @@ impl InFlight {
         ensures answer { IfOk result (λ r. option_map (λ a. a.0) r ≡ option_map
             (λ c. c.stream_identifier) (find (has_tsn tsn) self.old.queue.inflight.chunks)) }
         ensures ok { OnOk result (self.new
-            ≡ after_giving_up (message_to_abandon tsn self.old) self.old) }
+            ≡ after_abandonment (message_to_abandon tsn self.old) self.old) }
         ensures err { OnErr result (self.new ≡ self.old) }
         ensures memory { IfErr result (λ e. e ≡ OutOfMemory) }
         ensures released { IfOk result (λ r. total_bytes self.new.queue + bytes_left r
@@ -190,11 +190,11 @@ impl InFlight {
         ensures succeeds { 0 < self.old.queue.inflight.room → IsOk result }
         ensures no_tail { has_tail_at self.old tsn ≡ false → IsOk result }
     {
-        let given_up = self.queue.abandon(tsn, &mut self.next_tsn)?;
-        Ok(given_up)
+        let abandoned = self.queue.abandon(tsn, &mut self.next_tsn)?;
+        Ok(abandoned)
     }
 
-    /// Removes the message in front, where it is lapsed and wholly unsent, as the queue's `expire_pending` does. It takes no memory.
+    /// Removes the message in front, where it is past its deadline and wholly unsent, as the queue's `expire_pending` does. It takes no memory.
     pub fn expire(&mut self, now: u64) -> Option<(u16, bool, usize)>
         ensures answer { option_map {U = ℕ × Bool} (λ a. (a.0, a.1)) result ≡ option_map {U = ℕ
             × Bool} (λ c. (c.stream_identifier, c.unordered)) (expiring now self.old.queue) }
@@ -206,14 +206,14 @@ impl InFlight {
         self.queue.expire_pending(now)
     }
 
-    /// Gives up the rest of the half-sent message in front, where it is lapsed, as the queue's `expire_pending_tail` does.
+    /// Abandons the rest of the partially sent message in front, where it is past its deadline, as the queue's `expire_pending_tail` does.
     /// Precondition: where there is such a message, a further TSN may be given out; `may_send` tells.
     /// Refuses only for memory, and not where there is no such message nor within the room of `reserve_inflight`. All is as it
     /// was then.
     pub fn expire_tail(&mut self, now: u64) -> Result<Option<(u16, u64, usize)>, SenderRefusal>
         requires { is_some (expiring_tail now self.old.queue) ≡ true → may_send self.old ≡ true }
         ensures ok { OnOk result (self.new
-            ≡ after_giving_up (message_of (expiring_tail now self.old.queue)) self.old) }
+            ≡ after_abandonment (message_of (expiring_tail now self.old.queue)) self.old) }
         ensures err { OnErr result (self.new ≡ self.old) }
         ensures memory { IfErr result (λ e. e ≡ OutOfMemory) }
         ensures answer { IfOk result (λ r. option_map {U = ℕ × ℕ} (λ a. (a.0, a.1)) r
@@ -224,12 +224,12 @@ impl InFlight {
         ensures succeeds { 0 < self.old.queue.inflight.room → IsOk result }
         ensures idle { expiring_tail now self.old.queue ≡ None → IsOk result }
     {
-        let given_up = self.queue.expire_pending_tail(now, &mut self.next_tsn)?;
-        Ok(given_up)
+        let abandoned = self.queue.expire_pending_tail(now, &mut self.next_tsn)?;
+        Ok(abandoned)
     }
 
     /// The chunk in flight with a TSN, to be sent again, which is counted. Refuses with `NotInFlight`, where none is, or it is
-    /// acknowledged or given up; and for memory. All is as it was then.
+    /// acknowledged or abandoned; and for memory. All is as it was then.
     pub fn resend(&mut self, tsn: u32) -> Result<ChunkPayloadData, SenderRefusal>
         ensures answer { IfOk result (λ c. find (has_tsn tsn) self.old.queue.inflight.chunks
             ≡ Some c) }

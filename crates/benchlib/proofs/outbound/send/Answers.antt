@@ -1,5 +1,5 @@
 use Rattle.std.proofs.Common.{arith}
-use Rattle.benchlib.proofs.NearLemmas.{absent-below, below-sent, window-below}
+use Rattle.benchlib.proofs.NearChunks.{absent-below, below-sent, window-below}
 use Rattle.benchlib.proofs.outbound.send.Goals as goal
 
 pub send_next-requires-clause-fresh : goal.send_next-requires-clause-fresh

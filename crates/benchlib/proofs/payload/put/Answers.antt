@@ -1,5 +1,5 @@
 use Rattle.std.proofs.Common.{◌^◌, arith}
-use Rattle.benchlib.proofs.NearLemmas.{window-below, below-pushed}
+use Rattle.benchlib.proofs.NearChunks.{window-below, below-pushed}
 use Rattle.benchlib.proofs.payload.put.Goals as goal
 
 pub push-requires-clause-window : goal.push-requires-clause-window

@@ -1,4 +1,4 @@
-use Rattle.sctp_link.specs.Texts.{packet_with}
+use Rattle.sctp_link.specs.Encodings.{packet_with}
 use Rattle.std.proofs.Common.{ap, map}
 use Rattle.std.proofs.lemmas.Result.{err_from_is_err_and}
 use Rattle.sctp_chunks.specs.Wire.{data_chunk}

@@ -4,7 +4,7 @@ use Rattle.std.specs.List.{AllByRecursion}
 use Rattle.std.proofs.lemmas.Result.{err_from_is_err_and}
 use Rattle.std.proofs.lemmas.List.{nil_from_length}
 use Rattle.sctp_chunks.specs.Kind.{wire_of, IsFreshKind}
-use Rattle.sctp_link.specs.Texts.{packet_with}
+use Rattle.sctp_link.specs.Encodings.{packet_with}
 use Rattle.sctp_link.proofs.upkeep.Packets.{some_kind, last_kind, all_last}
 use Rattle.sctp_link.proofs.datagram.read_datagram.Goals as goal
 

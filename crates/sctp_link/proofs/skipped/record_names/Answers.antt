@@ -1,5 +1,5 @@
 use Rattle.std.proofs.Common.{◌+◌, ◌++◌, ap, ◌∙◌, map, take, drop, length, arith}
-use Rattle.sctp_lists.proofs.More.{length-changed}
+use Rattle.sctp_list_lemmas.proofs.More.{length-changed}
 use Rattle.sctp_halves.specs.Halves.{Sides}
 use Rattle.sctp_halves.specs.Streams.{new_open_stream, with_named}
 use Rattle.sctp_link.specs.declared.skipped.Named.{Named}

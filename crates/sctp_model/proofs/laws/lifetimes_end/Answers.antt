@@ -1,5 +1,5 @@
 use Rattle.sctp_model.proofs.sender.Lifetimes.{starts_once}
-use Rattle.sctp_model.proofs.sender.Lapses.{lapses_by_events, expires_lapsed, tail_abandons_lapsed, late_lists_lapsed}
+use Rattle.sctp_model.proofs.sender.Deadlines.{deadlines_by_events, expires_past_deadline, tail_abandons_past_deadline, late_lists_past_deadline}
 use Rattle.sctp_model.proofs.sender.Lifetimes.{late_abandons_listed}
 use Rattle.sctp_model.proofs.laws.lifetimes_end.Goals as goal
 
@@ -7,16 +7,16 @@ pub returns-clause-once : goal.returns-clause-once
 returns-clause-once c = starts_once
 
 pub returns-clause-lapse : goal.returns-clause-lapse
-returns-clause-lapse c = lapses_by_events
+returns-clause-lapse c = deadlines_by_events
 
 pub returns-clause-expire : goal.returns-clause-expire
-returns-clause-expire c = expires_lapsed
+returns-clause-expire c = expires_past_deadline
 
 pub returns-clause-tail : goal.returns-clause-tail
-returns-clause-tail c = tail_abandons_lapsed
+returns-clause-tail c = tail_abandons_past_deadline
 
 pub returns-clause-listed : goal.returns-clause-listed
-returns-clause-listed c = late_lists_lapsed
+returns-clause-listed c = late_lists_past_deadline
 
 pub returns-clause-late : goal.returns-clause-late
 returns-clause-late c = late_abandons_listed

@@ -1,4 +1,4 @@
-use Rattle.sctp_outbound.proofs.lemmas.outbound_queue.Numbering as numbering
+use Rattle.sctp_outbound.proofs.lemmas.outbound_queue.SideBySide as numbering
 use Rattle.sctp_outbound.proofs.laws.messages_have_consecutive_tsns.Goals as goal
 
 pub returns : goal.returns

@@ -1,22 +1,22 @@
--- Messages that are given up.
+-- Messages that are abandoned.
 use Rattle.std.proofs.Common.{◌≡◌, ◌==◌, ℕ, zero, suc, ◌-◌, ◌<◌, Bool, true, false, ◌||◌, max, if◌then◌else◌, List, [], ◌∷◌, ◌++◌, get_or, Option, Some, None, is_some, refl, sym, ap, ap₂, ◌∙◌, subst, inl, inr, arith}
 use Rattle.std.specs.List.{All, find, list_any}
 use Rattle.std.proofs.lemmas.Bool.{false≢true, cases_lt}
 use Rattle.std.proofs.lemmas.Bool.Decides.{nat_tests}
 use Rattle.std.proofs.lemmas.Option.{none-some}
 use Rattle.sctp_chunks.specs.declared.chunk.chunk_payload_data.ChunkPayloadData.{ChunkPayloadData}
-use Rattle.sctp_lists.specs.Lists.{change_where, those, inserted}
-use Rattle.sctp_lists.proofs.Edits.{length-change_where, list_any-inserted, those-none}
+use Rattle.sctp_list_lemmas.specs.Lists.{change_where, those, inserted}
+use Rattle.sctp_list_lemmas.proofs.Edits.{length-change_where, list_any-inserted, those-none}
 use Rattle.sctp_outbound.specs.declared.pending_queue.Selected.{Selected}
-use Rattle.sctp_outbound.specs.Marks.{is_of, given_up}
-use Rattle.sctp_outbound.specs.outbound_queue.OutboundQueue.{Outbound, abandoned, end_mark, with_end_mark}
+use Rattle.sctp_outbound.specs.Marks.{is_of, as_abandoned}
+use Rattle.sctp_outbound.specs.outbound_queue.OutboundQueue.{Outbound, abandoned, terminal_chunk, with_terminal_chunk}
 use Rattle.sctp_serial.specs.DataChunks.{chunk_before, has_tsn}
 use Rattle.sctp_outbound.specs.payload_queue.PayloadQueue as payload
 use Rattle.sctp_outbound.specs.pending_queue.PendingQueue.{Pending, last_of, last_removed, selected_without, without}
-use Rattle.sctp_outbound.specs.pending_queue.Whole.{free, begun, stage_of, IsWhole, IsSendable, half_of, half_sent, waits}
+use Rattle.sctp_outbound.specs.pending_queue.Whole.{free, begun, stage_of, IsWhole, IsSendable, half_of, partially_sent, waits}
 use Rattle.sctp_serial.specs.Window.{IsWithinHalf, SpansOneWindow, is_held}
 use Rattle.sctp_outbound.proofs.lemmas.outbound_queue.Sendable.{made, or_false, or_left, or_right, not_true, sendable-marked, sendable-without}
-use Rattle.sctp_outbound.proofs.lemmas.pending_queue.Whole.{KeepsMessage, none_past, none_without}
+use Rattle.sctp_outbound.proofs.lemmas.pending_queue.CompleteMessages.{KeepsMessage, none_past, none_without}
 
 -- ## Changes that leave the TSNs
 
@@ -106,7 +106,7 @@ or_none : (a b : Bool) → (a || b) ≡ false → (a ≡ false) × (b ≡ false)
 or_none true b h = absurd (false≢true (sym h))
 or_none false b h = (refl, h)
 
--- the half-sent message waits
+-- the partially sent message waits
 pub half_waits : (os us : List ChunkPayloadData) (sel : Option Selected) (ro ru n m : ℕ) (xs : List ChunkPayloadData) → IsSendable (made os us sel ro ru) xs n → half_of sel ≡ Some m → waits m (made os us sel ro ru) ≡ true
 half_waits os us None ro ru n m xs s h = absurd (none-some m h)
 half_waits os us (Some sel) ro ru n m xs s h = by sel.unordered s.ordered s.unordered
@@ -140,26 +140,26 @@ last_removed_none m q h =
     let none = or_none (list_any (is_of m) q.unordered) (list_any (is_of m) q.ordered) h in
     ap₂ (λ cs ds. last_of (cs ++ ds)) (those_empty (is_of m) q.ordered none.1) (those_empty (is_of m) q.unordered none.0)
 
-pub abandoned_none : (m tsn : ℕ) (q : Outbound) → IsSendable q.pending q.inflight.chunks q.next_message_id → waits m q.pending ≡ false → abandoned m tsn q ≡ record q { inflight = payload.with_chunks q.inflight (change_where (is_of m) given_up q.inflight.chunks) }
+pub abandoned_none : (m tsn : ℕ) (q : Outbound) → IsSendable q.pending q.inflight.chunks q.next_message_id → waits m q.pending ≡ false → abandoned m tsn q ≡ record q { inflight = payload.with_chunks q.inflight (change_where (is_of m) as_abandoned q.inflight.chunks) }
 abandoned_none m tsn q s h =
-    ap (λ o. record q { pending = without m q.pending; inflight = with_end_mark o tsn (payload.with_chunks q.inflight (change_where (is_of m) given_up q.inflight.chunks)) }) (last_removed_none m q.pending h)
-    ∙ ap (λ p. record q { pending = p; inflight = payload.with_chunks q.inflight (change_where (is_of m) given_up q.inflight.chunks) }) (without_none q.pending.ordered q.pending.unordered q.pending.selected q.pending.ordered_room q.pending.unordered_room q.next_message_id m q.inflight.chunks s h)
+    ap (λ o. record q { pending = without m q.pending; inflight = with_terminal_chunk o tsn (payload.with_chunks q.inflight (change_where (is_of m) as_abandoned q.inflight.chunks)) }) (last_removed_none m q.pending h)
+    ∙ ap (λ p. record q { pending = p; inflight = payload.with_chunks q.inflight (change_where (is_of m) as_abandoned q.inflight.chunks) }) (without_none q.pending.ordered q.pending.unordered q.pending.selected q.pending.ordered_room q.pending.unordered_room q.next_message_id m q.inflight.chunks s h)
 
--- room that was made for the end mark is gone after it
+-- room that was made for the terminal chunk is gone after it
 pub abandoned_room : (m tsn : ℕ) (q : Outbound) → waits m q.pending ≡ true → abandoned m tsn (record q { inflight = record q.inflight { room = max 1 q.inflight.room } }) ≡ abandoned m tsn q
 abandoned_room m tsn q h = step (last_removed m q.pending) refl
   where
     one : max 1 q.inflight.room - 1 ≡ q.inflight.room - 1
     one = omega arith
 
-    step : (o : Option ChunkPayloadData) → last_removed m q.pending ≡ o → record q { pending = without m q.pending; inflight = with_end_mark o tsn (payload.with_chunks (record q.inflight { room = max 1 q.inflight.room }) (change_where (is_of m) given_up q.inflight.chunks)) } ≡ record q { pending = without m q.pending; inflight = with_end_mark o tsn (payload.with_chunks q.inflight (change_where (is_of m) given_up q.inflight.chunks)) }
+    step : (o : Option ChunkPayloadData) → last_removed m q.pending ≡ o → record q { pending = without m q.pending; inflight = with_terminal_chunk o tsn (payload.with_chunks (record q.inflight { room = max 1 q.inflight.room }) (change_where (is_of m) as_abandoned q.inflight.chunks)) } ≡ record q { pending = without m q.pending; inflight = with_terminal_chunk o tsn (payload.with_chunks q.inflight (change_where (is_of m) as_abandoned q.inflight.chunks)) }
     step None e = absurd (no_last m q.pending h e)
-    step (Some c) e = ap (λ r. record q { pending = without m q.pending; inflight = record (payload.pushed (payload.with_chunks q.inflight (change_where (is_of m) given_up q.inflight.chunks)) (end_mark tsn c)) { room = r } }) one
+    step (Some c) e = ap (λ r. record q { pending = without m q.pending; inflight = record (payload.pushed (payload.with_chunks q.inflight (change_where (is_of m) as_abandoned q.inflight.chunks)) (terminal_chunk tsn c)) { room = r } }) one
 
 pub waits_known : (m : ℕ) (q : Pending) (b : Bool) → (list_any (is_of m) q.unordered || list_any (is_of m) q.ordered) ≡ b → waits m q ≡ b
 waits_known m q b h = h
 
--- ## The end mark
+-- ## The terminal chunk
 
 those_are : (m : ℕ) (xs : List ChunkPayloadData) → All (λ c. c.message_id ≡ m) (those (is_of m) xs)
 those_are m [] = λ k d lt. absurd (omega arith)
@@ -191,11 +191,11 @@ number_below m n q xs s h = elim (cases_lt m n) [
   | inr le ↦ absurd (false≢true (sym (or_false _ _ (none_past true n m le (stage_of true q.selected) q.unordered s.unordered) (none_past false n m le (stage_of false q.selected) q.ordered s.ordered)) ∙ h))
 ]
 
-pub sendable-abandoned : (q : Pending) (xs : List ChunkPayloadData) (n m : ℕ) (t : ChunkPayloadData) → t.message_id ≡ m → waits m q ≡ true → IsSendable q xs n → IsSendable (without m q) (inserted chunk_before t (change_where (is_of m) given_up xs)) n
+pub sendable-abandoned : (q : Pending) (xs : List ChunkPayloadData) (n m : ℕ) (t : ChunkPayloadData) → t.message_id ≡ m → waits m q ≡ true → IsSendable q xs n → IsSendable (without m q) (inserted chunk_before t (change_where (is_of m) as_abandoned xs)) n
 sendable-abandoned q xs n m t same h s =
-    let keeps : KeepsMessage given_up = record { number = λ _. refl; begins = λ _. refl; ends = λ _. refl; kind = λ _. refl } in
-    let gone = sendable-without q.ordered q.unordered q.selected q.ordered_room q.unordered_room _ n m (sendable-marked q xs n (is_of m) given_up keeps s) in
-    let ys = change_where (is_of m) given_up xs in
+    let keeps : KeepsMessage as_abandoned = record { number = λ _. refl; begins = λ _. refl; ends = λ _. refl; kind = λ _. refl } in
+    let gone = sendable-without q.ordered q.unordered q.selected q.ordered_room q.unordered_room _ n m (sendable-marked q xs n (is_of m) as_abandoned keeps s) in
+    let ys = change_where (is_of m) as_abandoned xs in
     let below = number_below m n q xs s h in
     record {
       ordered = gone.ordered;
@@ -205,6 +205,6 @@ sendable-abandoned q xs n m t same h s =
       below = λ k le. let differs : (m == k) ≡ false = grind (arith, nat_tests) in list_any-inserted (is_of k) chunk_before t ys ∙ ap (λ j. j == k || list_any (is_of k) ys) same ∙ or_false _ _ differs (gone.below k le);
     }
   where
-    other : (k : ℕ) (b : Bool) → (m == k) ≡ b → (m == k || list_any (is_of k) (change_where (is_of m) given_up xs)) ≡ true → waits k (without m q) ≡ true → (list_any (is_of k) (change_where (is_of m) given_up xs) ≡ true → waits k (without m q) ≡ true → half_sent (without m q) ≡ Some k) → half_sent (without m q) ≡ Some k
+    other : (k : ℕ) (b : Bool) → (m == k) ≡ b → (m == k || list_any (is_of k) (change_where (is_of m) as_abandoned xs)) ≡ true → waits k (without m q) ≡ true → (list_any (is_of k) (change_where (is_of m) as_abandoned xs) ≡ true → waits k (without m q) ≡ true → partially_sent (without m q) ≡ Some k) → partially_sent (without m q) ≡ Some k
     other k true e h w f = let it : m ≡ k = grind (arith, nat_tests) in absurd (false≢true (sym (subst (λ j. waits j (without m q) ≡ false) it (or_false _ _ (none_without m q.unordered) (none_without m q.ordered))) ∙ w))
-    other k false e h w f = f (subst (λ b. (b || list_any (is_of k) (change_where (is_of m) given_up xs)) ≡ true) e h) w
+    other k false e h w f = f (subst (λ b. (b || list_any (is_of k) (change_where (is_of m) as_abandoned xs)) ≡ true) e h) w

@@ -6,16 +6,16 @@ use Rattle.std.proofs.lemmas.Bool.Decides.{nat_tests}
 use Rattle.std.proofs.lemmas.List.Sums.{sum_by-cons}
 use Rattle.std.proofs.lemmas.Option.{none-some}
 use Rattle.sctp_chunks.specs.declared.chunk.chunk_payload_data.ChunkPayloadData.{ChunkPayloadData}
-use Rattle.sctp_lists.specs.Lists.{change_where, inserted}
-use Rattle.sctp_lists.proofs.Edits.{list_any-append, list_any-inserted, list_any-those}
+use Rattle.sctp_list_lemmas.specs.Lists.{change_where, inserted}
+use Rattle.sctp_list_lemmas.proofs.Edits.{list_any-append, list_any-inserted, list_any-those}
 use Rattle.sctp_outbound.specs.declared.pending_queue.Selected.{Selected}
 use Rattle.sctp_outbound.specs.Marks.{is_of}
 use Rattle.sctp_outbound.specs.outbound_queue.OutboundQueue.{Outbound, abandoned, with_message_id, appended, after_sends, taken_of, tsn_after, following_tsn}
 use Rattle.sctp_outbound.specs.payload_queue.PayloadQueue.{without_front}
 use Rattle.sctp_serial.specs.DataChunks.{chunk_before, bytes_of, has_tsn}
 use Rattle.sctp_outbound.specs.pending_queue.PendingQueue.{Pending, front_of, list_of, peeked, peeked_of, popped, popped_from, list_to_pop, rest_after, rest_from, selected_after, selected_without, without, without_message, total_bytes}
-use Rattle.sctp_outbound.specs.pending_queue.Whole.{free, begun, GoesOn, stage_after, stage_of, IsWhole, IsMessage, IsMessageOrNone, IsSendable, ends, half_of, half_sent, has_end, in_order, order_of, rest_then, waits}
-use Rattle.sctp_outbound.proofs.lemmas.pending_queue.Whole.{IsWhole-append, IsWhole-message, IsWhole-without, IsWhole-change_where, KeepsMessage, list_any-change_where, list_any-message, none_before, none_past, none_without, stage_below, stage_without, weaken_bound, weaken_start}
+use Rattle.sctp_outbound.specs.pending_queue.Whole.{free, begun, GoesOn, stage_after, stage_of, IsWhole, IsMessage, IsMessageOrNone, IsSendable, ends, half_of, partially_sent, has_end, in_order, order_of, rest_then, waits}
+use Rattle.sctp_outbound.proofs.lemmas.pending_queue.CompleteMessages.{IsWhole-append, IsWhole-message, IsWhole-without, IsWhole-change_where, KeepsMessage, list_any-change_where, list_any-message, none_before, none_past, none_without, stage_below, stage_without, weaken_bound, weaken_start}
 
 abbrev pub made : List ChunkPayloadData → List ChunkPayloadData → Option Selected → ℕ → ℕ → Pending
 made os us sel ro ru = record { ordered = os; unordered = us; selected = sel; ordered_room = ro; unordered_room = ru }
@@ -164,7 +164,7 @@ sendable-pushed false os us sel ro ru xs ms n h s = record {
 
 -- ## A chunk that is sent
 
--- the half-sent message after a chunk of it left
+-- the partially sent message after a chunk of it left
 abbrev selected_by : Bool → ChunkPayloadData → Option Selected
 selected_by kind c = if c.ending_fragment then None else Some (record { message_id = c.message_id; unordered = kind })
 
@@ -418,14 +418,14 @@ order_is (suc i) q xs n s = by (peeked q) refl (order_is i q xs n s) (λ r ys t.
         let on = sendable-sent q xs n c c refl s h in
         ap (λ l. slice_get l (suc i)) on.order ∙ ih (rest_after c.beginning_fragment c.unordered q) (inserted chunk_before c xs) on.sendable
 
--- ## The half-sent message
+-- ## The partially sent message
 
 goes_on_in : (kind : Bool) (n j m : ℕ) (xs : List ChunkPayloadData) → IsWhole kind n (begun j) xs → j ≡ m → GoesOn m (slice_get xs 0)
 goes_on_in kind n j m [] w e = w
 goes_on_in kind n j m (c ∷ cs) w e = (w.0.1 ∙ e, w.0.0)
 
--- while a message is half sent a peek gives its next fragment
-pub goes_on : (q : Pending) (xs : List ChunkPayloadData) (n m : ℕ) → IsSendable q xs n → half_sent q ≡ Some m → GoesOn m (peeked q)
+-- while a message is partially sent a peek gives its next fragment
+pub goes_on : (q : Pending) (xs : List ChunkPayloadData) (n m : ℕ) → IsSendable q xs n → partially_sent q ≡ Some m → GoesOn m (peeked q)
 goes_on q xs n m s h = by q.selected s.ordered s.unordered h
   where
     by : (sel : Option Selected) → IsWhole false n (stage_of false sel) q.ordered → IsWhole true n (stage_of true sel) q.unordered → half_of sel ≡ Some m → GoesOn m (peeked (made q.ordered q.unordered sel q.ordered_room q.unordered_room))
@@ -446,8 +446,8 @@ begins_in kind n (x ∷ xs) c w h = subst (λ (y : ChunkPayloadData). y.beginnin
     some_is : (x c : ChunkPayloadData) → Some x ≡ Some c → x ≡ c
     some_is x c h = cc
 
--- a fragment in front that does not begin is of the half-sent message
-pub half_in_front : (q : Pending) (xs : List ChunkPayloadData) (n : ℕ) (c : ChunkPayloadData) → IsSendable q xs n → peeked q ≡ Some c → c.beginning_fragment ≡ false → half_sent q ≡ Some c.message_id
+-- a fragment in front that does not begin is of the partially sent message
+pub half_in_front : (q : Pending) (xs : List ChunkPayloadData) (n : ℕ) (c : ChunkPayloadData) → IsSendable q xs n → peeked q ≡ Some c → c.beginning_fragment ≡ false → partially_sent q ≡ Some c.message_id
 half_in_front q xs n c s h e = by q.selected refl s.ordered s.unordered
   where
     same_of : (m : ℕ) (o : Option ChunkPayloadData) → o ≡ Some c → GoesOn m o → Some m ≡ Some c.message_id
@@ -466,8 +466,8 @@ pub half_gone : (m : ℕ) (sel : Option Selected) → half_of sel ≡ Some m →
 half_gone m None h = absurd (none-some m h)
 half_gone m (Some t) h = let same : t.message_id ≡ m = cc in let it : (t.message_id == m) ≡ true = grind (arith, nat_tests) in rw it refl
 
--- the next TSN is taken only with the half-sent message
-pub kept_or_gone : (m tsn : ℕ) (q : Outbound) → (waits m q.pending ≡ true → half_sent q.pending ≡ Some m) → (tsn_after m tsn q ≡ tsn) ⊎ (half_sent (abandoned m tsn q).pending ≡ None)
+-- the next TSN is taken only with the partially sent message
+pub kept_or_gone : (m tsn : ℕ) (q : Outbound) → (waits m q.pending ≡ true → partially_sent q.pending ≡ Some m) → (tsn_after m tsn q ≡ tsn) ⊎ (partially_sent (abandoned m tsn q).pending ≡ None)
 kept_or_gone m tsn q f = step (waits m q.pending) refl
   where
     step : (b : Bool) → waits m q.pending ≡ b → ((if b then following_tsn tsn else tsn) ≡ tsn) ⊎ (half_of (selected_without m q.pending.selected) ≡ None)

@@ -10,11 +10,11 @@ use Rattle.std.proofs.lemmas.List.Elements.{All-head, All-tail}
 use Rattle.std.proofs.lemmas.List.Folds.{list_any_more, list_any_none}
 use Rattle.sctp_chunks.specs.declared.chunk.chunk_selective_ack.GapAckBlock.{GapAckBlock}
 use Rattle.sctp_chunks.specs.declared.chunk.chunk_payload_data.ChunkPayloadData.{ChunkPayloadData}
-use Rattle.sctp_lists.specs.Kept.{joined, runs_of}
-use Rattle.sctp_lists.specs.Lists.{those}
-use Rattle.sctp_lists.specs.Serial.{distance, comes_before, at_or_before}
-use Rattle.sctp_lists.proofs.Edits.{those-append, list_any-append}
-use Rattle.sctp_lists.proofs.SerialLemmas.{distance_cases, before_is, distance_by_before}
+use Rattle.sctp_list_lemmas.specs.Kept.{joined, runs_of}
+use Rattle.sctp_list_lemmas.specs.Lists.{those}
+use Rattle.sctp_list_lemmas.specs.Serial.{distance, comes_before, at_or_before}
+use Rattle.sctp_list_lemmas.proofs.Edits.{those-append, list_any-append}
+use Rattle.sctp_list_lemmas.proofs.Distances.{distance_cases, before_is, distance_by_before}
 use Rattle.sctp_serial.specs.Runs.{IsRising}
 use Rattle.sctp_serial.specs.Window.{IsSerial, IsHeldAt, IsPlaceFor, IsWithinHalf, SpansOneWindow}
 use Rattle.sctp_outbound.specs.payload_queue.Blocks.{AscendsFrom, IsFirstAfter, IsRunUntil, is_offset, is_reported, covered, gap_offsets, ends_of}

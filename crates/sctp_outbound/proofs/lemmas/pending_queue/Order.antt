@@ -16,7 +16,7 @@ slice_get-append_right [] ys i j e = ap (slice_get ys) (omega arith)
 slice_get-append_right (x ∷ xs) ys zero j e = absurd (omega arith)
 slice_get-append_right (x ∷ xs) ys (suc i) j e = slice_get-append_right xs ys i j (omega arith)
 
--- the rest of a half-sent message goes first
+-- the rest of a partially sent message goes first
 pub rest_then-first : (os us : List ChunkPayloadData) (i : ℕ) → i < until_end os → slice_get (rest_then os us) i ≡ slice_get os i
 rest_then-first [] us i lt = absurd (omega arith)
 rest_then-first (c ∷ cs) us i lt = step c.ending_fragment i lt (λ j h. rest_then-first cs us j h)

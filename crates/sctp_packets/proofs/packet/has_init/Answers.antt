@@ -2,8 +2,8 @@ use Rattle.std.proofs.Common.{◌∙◌, sym, rules, tests}
 use Rattle.std.proofs.lemmas.Iterator.{YieldsList-from_slice}
 use Rattle.std.proofs.lemmas.Iterator.Search.{any_from_yields_List}
 use Rattle.sctp_chunks.specs.Kind.{wire_of}
-use Rattle.sctp_packets.specs.Sound.{is_init}
-use Rattle.sctp_packets.proofs.Sound.{any_mapped}
+use Rattle.sctp_packets.specs.Valid.{is_init}
+use Rattle.sctp_packets.proofs.MappedLists.{any_mapped}
 use Rattle.sctp_packets.proofs.packet.has_init.Goals as goal
 
 pub returns : goal.returns

@@ -1,8 +1,8 @@
 use Rattle.std.proofs.Common.{◌≡◌, ◌-◌, ◌+◌, length, refl, rules, arith, ap, inl, inr, length-append}
 use Rattle.std.proofs.lemmas.Result.{err_from_is_err_and}
 use Rattle.sctp_chunks.specs.Kind.{wire_of}
-use Rattle.sctp_chunks.specs.Wire.{text_of, value_of}
-use Rattle.sctp_packets.proofs.Written.{padded_after, length_padded_text, length_text}
+use Rattle.sctp_chunks.specs.Wire.{encoding_of, value_of}
+use Rattle.sctp_packets.proofs.Written.{padded_after, length_padded_encoding, length_encoding}
 use Rattle.sctp_packets.proofs.packet.put_chunk.Goals as goal
 
 pub returns-in-Ok-clause-ok : goal.returns-in-Ok-clause-ok
@@ -14,7 +14,7 @@ returns-in-Ok-clause-ok c = (
 pub returns-in_err-end-clause-refused : goal.returns-in_err-end-clause-refused
 returns-in_err-end-clause-refused c =
     let p = err_from_is_err_and c.from_residual.result c.from_residual.ensures.1 in
-    let len = length_padded_text (wire_of c.args.chunk.now) in
+    let len = length_padded_encoding (wire_of c.args.chunk.now) in
     rw (p.1, p.2) (elim c.in_err-end.ensures.refused [
       | inl fault ↦ inl fault
       | inr memory ↦ inr (memory.0, memory.1, omega (arith, len, memory.2))
@@ -24,14 +24,14 @@ pub returns-in-Ok-clause-spare : goal.returns-in-Ok-clause-spare
 returns-in-Ok-clause-spare c =
     let w = wire_of c.args.chunk.now in
     let taken : c.in_ok-end.end - c.len-start.result ≡ 4 + length (value_of w) =
-    omega (arith, length_text w, ap length c.in_ok-end.ensures.ok.1, length-append c.args.buf.now.items (text_of w), c.in_ok-end.ensures.ok.2, c.len-start.ensures.value) in
+    omega (arith, length_encoding w, ap length c.in_ok-end.ensures.ok.1, length-append c.args.buf.now.items (encoding_of w), c.in_ok-end.ensures.ok.2, c.len-start.ensures.value) in
     let padding = rw taken at c.get_padding_size-padding.ensures in
-    omega (arith, length_padded_text w, padding, c.in_ok-end.ensures.spare, c.in-Ok.ensures.spare)
+    omega (arith, length_padded_encoding w, padding, c.in_ok-end.ensures.spare, c.in-Ok.ensures.spare)
 
 pub returns-in-Err-clause-refused : goal.returns-in-Err-clause-refused
 returns-in-Err-clause-refused c =
     let w = wire_of c.args.chunk.now in
     let taken : c.in_ok-end.end - c.len-start.result ≡ 4 + length (value_of w) =
-    omega (arith, length_text w, ap length c.in_ok-end.ensures.ok.1, length-append c.args.buf.now.items (text_of w), c.in_ok-end.ensures.ok.2, c.len-start.ensures.value) in
+    omega (arith, length_encoding w, ap length c.in_ok-end.ensures.ok.1, length-append c.args.buf.now.items (encoding_of w), c.in_ok-end.ensures.ok.2, c.len-start.ensures.value) in
     let padding = rw taken at c.get_padding_size-padding.ensures in
-    inr (refl, c.in_ok-end.ensures.ok.0, omega (arith, length_padded_text w, padding, c.in_ok-end.ensures.spare, c.in-Err.ensures.spare))
+    inr (refl, c.in_ok-end.ensures.ok.0, omega (arith, length_padded_encoding w, padding, c.in_ok-end.ensures.spare, c.in-Err.ensures.spare))

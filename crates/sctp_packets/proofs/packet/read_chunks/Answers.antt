@@ -3,7 +3,7 @@ use Rattle.std.specs.Prelude.{map}
 use Rattle.std.proofs.lemmas.Result.{err_from_is_err_and}
 use Rattle.std.proofs.lemmas.Grind.{common_steps}
 use Rattle.std.proofs.lemmas.List.{map-append, nil_from_length}
-use Rattle.sctp_chunks.specs.Wire.{HasText}
+use Rattle.sctp_chunks.specs.Wire.{HasEncoding}
 use Rattle.sctp_chunks.specs.Kind.{wire_of, IsFreshKind}
 use Rattle.sctp_base.proofs.Walks.{walks_none, walks_next}
 use Rattle.sctp_packets.specs.Packet.{Steps, after}
@@ -19,11 +19,11 @@ pub walk-preserved : goal.walk-preserved
 unfolding after
 walk-preserved c =
     let next = walks_next Steps after c.args.raw (map wire_of c.walk.chunks.items) c.walk.rest (wire_of c.in_ok-chunk.chunk) c.walk.invariant.walk c.in_ok-chunk.ensures.found in
-    let texts = all_next HasText (map wire_of c.walk.chunks.items) (wire_of c.in_ok-chunk.chunk) c.walk.invariant.rewritable c.in_ok-chunk.ensures.rewritable in
+    let encodings = all_next HasEncoding (map wire_of c.walk.chunks.items) (wire_of c.in_ok-chunk.chunk) c.walk.invariant.rewritable c.in_ok-chunk.ensures.rewritable in
     let again = all_next Canonical (map wire_of c.walk.chunks.items) (wire_of c.in_ok-chunk.chunk) c.walk.invariant.canonical c.in_ok-chunk.ensures.canonical in
     record {
       walk = rw (c.in_ok-push.ensures.items, map-append, c.advance.ensures, c.in_ok-chunk.ensures.length) next;
-      rewritable = rw (c.in_ok-push.ensures.items, map-append) texts;
+      rewritable = rw (c.in_ok-push.ensures.items, map-append) encodings;
       canonical = rw (c.in_ok-push.ensures.items, map-append) again;
       fresh = rw c.in_ok-push.ensures.items (all_next IsFreshKind c.walk.chunks.items c.in_ok-chunk.chunk c.walk.invariant.fresh c.in_ok-chunk.ensures.fresh);
     }

@@ -9,17 +9,17 @@ use Rattle.std.proofs.lemmas.List.Edits.{length-insert, get_or-insert_below, get
 use Rattle.std.proofs.lemmas.List.Folds.{list_any_none}
 use Rattle.std.proofs.lemmas.List.Sums.{position_or_len_is, fails_before_first, passes_at_first, prefix_len-le-length}
 use Rattle.sctp_chunks.specs.declared.chunk.chunk_payload_data.ChunkPayloadData.{ChunkPayloadData}
-use Rattle.sctp_lists.specs.Serial.{distance, comes_before}
-use Rattle.sctp_lists.proofs.Edits.{pairs_insert}
-use Rattle.sctp_lists.proofs.More.{fails}
-use Rattle.sctp_lists.proofs.SerialLemmas.{distance_cases, before_is, comes_before_from, before_irrefl}
+use Rattle.sctp_list_lemmas.specs.Serial.{distance, comes_before}
+use Rattle.sctp_list_lemmas.proofs.Edits.{pairs_insert}
+use Rattle.sctp_list_lemmas.proofs.More.{fails}
+use Rattle.sctp_list_lemmas.proofs.Distances.{distance_cases, before_is, comes_before_from, before_irrefl}
 use Rattle.sctp_serial.specs.DataChunks.{has_tsn}
 use Rattle.sctp_reassembly.specs.reassembly_queue.Loose.{IsOrderMark, place_among}
 use Rattle.sctp_reassembly.specs.reassembly_queue.Fragments.{next_tsn}
 use Rattle.sctp_reassembly.specs.reassembly_queue.Sizes.{previous_tsn}
 use Rattle.sctp_serial.specs.Window.{IsSerial}
-use Rattle.sctp_serial.proofs.lemmas.Ascending.{distance_self, distance_sum, distance_rest, distance_back, same_distance}
-use Rattle.sctp_serial.proofs.lemmas.ListLemmas.{an_element, remove-insert, remove_seam}
+use Rattle.sctp_serial.proofs.lemmas.AscendingEdits.{distance_self, distance_sum, distance_rest, distance_back, same_distance}
+use Rattle.sctp_serial.proofs.lemmas.ListEdits.{an_element, remove-insert, remove_seam}
 use Rattle.sctp_serial.proofs.lemmas.Serials.{serial_remove}
 
 -- ## Numbers

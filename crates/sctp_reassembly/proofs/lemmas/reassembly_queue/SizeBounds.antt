@@ -1,4 +1,4 @@
--- In serial order a message is at most as long as all loose fragments and its chunk.
+-- In serial order a message is at most as long as all unassembled fragments and its chunk.
 use Rattle.std.proofs.Common.{◌≡◌, ℕ, ◌+◌, ◌^◌, ◌<◌, ◌≤◌, ◌==◌, Bool, true, false, not, if◌then◌else◌, List, [], ◌∷◌, ◌++◌, length, get_or, take, drop, reverse, get_or-drop, length-drop, length-take-le, refl, sym, ap, subst, ◌∙◌, arith}
 use Rattle.std.specs.List.{list_any}
 use Rattle.std.proofs.Math.ListN.{take-append-drop}
@@ -8,18 +8,18 @@ use Rattle.std.proofs.lemmas.List.{reverse-append, get_or-take}
 use Rattle.std.proofs.lemmas.List.Folds.{list_any_none}
 use Rattle.std.proofs.lemmas.List.Sums.{sum_by-cons, sum_by-append, sum_by-take-drop}
 use Rattle.sctp_chunks.specs.declared.chunk.chunk_payload_data.ChunkPayloadData.{ChunkPayloadData}
-use Rattle.sctp_lists.specs.Lists.{after_leading}
-use Rattle.sctp_lists.specs.Serial.{comes_before}
-use Rattle.sctp_lists.proofs.More.{fails}
-use Rattle.sctp_lists.proofs.SerialLemmas.{comes_before_from}
+use Rattle.sctp_list_lemmas.specs.Lists.{after_leading}
+use Rattle.sctp_list_lemmas.specs.Serial.{comes_before}
+use Rattle.sctp_list_lemmas.proofs.More.{fails}
+use Rattle.sctp_list_lemmas.proofs.Distances.{comes_before_from}
 use Rattle.sctp_serial.specs.DataChunks.{bytes_of, has_tsn}
 use Rattle.sctp_reassembly.specs.reassembly_queue.Loose.{place_among}
 use Rattle.sctp_reassembly.specs.reassembly_queue.Fragments.{next_tsn}
 use Rattle.sctp_reassembly.specs.reassembly_queue.Sizes.{previous_tsn, bytes_down, bytes_up, back_from, on_from, size_before, size_after}
 use Rattle.sctp_serial.specs.Window.{IsSerial}
-use Rattle.sctp_serial.proofs.lemmas.ListLemmas.{neither}
+use Rattle.sctp_serial.proofs.lemmas.ListEdits.{neither}
 use Rattle.sctp_reassembly.proofs.lemmas.reassembly_queue.SerialPlaces.{before_one, after_one, in_front, is_front, place_upto}
-use Rattle.sctp_reassembly.proofs.lemmas.reassembly_queue.SizeLemmas.{back_over, on_none}
+use Rattle.sctp_reassembly.proofs.lemmas.reassembly_queue.LastFragments.{back_over, on_none}
 
 -- ## Parts of a list
 
@@ -87,7 +87,7 @@ back_side t p xs h =
     let same : back_from t xs ≡ after_leading (λ y. not (has_tsn t y)) (reverse (take p xs)) = ap (after_leading (λ y. not (has_tsn t y))) split ∙ back_over t (drop p xs) (reverse (take p xs)) h in
     omega (arith, ap bytes_of same, leading_within (λ y. not (has_tsn t y)) (reverse (take p xs)), bytes_reversed (take p xs))
 
--- ## The whole message
+-- ## The complete message
 
 unless : (b : Bool) (n m : ℕ) → n ≤ m → (if b then 0 else n) ≤ m
 unless true n m le = omega arith

@@ -4,15 +4,15 @@ use Rattle.std.proofs.lemmas.Bool.{cases_lt}
 use Rattle.std.proofs.lemmas.List.{get_or-drop, get_or-take, get_or_append_left}
 use Rattle.std.proofs.Math.Seq.{get_or-append_right}
 use Rattle.sctp_chunks.specs.declared.chunk.chunk_payload_data.ChunkPayloadData.{ChunkPayloadData}
-use Rattle.sctp_lists.specs.Serial.{distance}
-use Rattle.sctp_lists.proofs.SerialLemmas.{before_is}
+use Rattle.sctp_list_lemmas.specs.Serial.{distance}
+use Rattle.sctp_list_lemmas.proofs.Distances.{before_is}
 use Rattle.sctp_reassembly.specs.reassembly_queue.Loose.{IsMark, IsOrderMark}
 use Rattle.sctp_serial.specs.Runs.{IsRun, HasNoRun}
 use Rattle.sctp_reassembly.specs.reassembly_queue.Fragments.{next_tsn}
 use Rattle.sctp_serial.specs.Window.{IsSerial}
-use Rattle.sctp_serial.proofs.lemmas.Ascending.{distance_sum}
-use Rattle.sctp_serial.proofs.lemmas.ListLemmas.{an_element}
-use Rattle.sctp_reassembly.proofs.lemmas.reassembly_queue.RunLemmas.{all_around}
+use Rattle.sctp_serial.proofs.lemmas.AscendingEdits.{distance_sum}
+use Rattle.sctp_serial.proofs.lemmas.ListEdits.{an_element}
+use Rattle.sctp_reassembly.proofs.lemmas.reassembly_queue.UnassembledRuns.{all_around}
 use Rattle.sctp_reassembly.proofs.lemmas.reassembly_queue.SerialPlaces.{after_one}
 
 module _ (xs : List ChunkPayloadData) (first count : ℕ) (within : first + count ≤ length xs) where

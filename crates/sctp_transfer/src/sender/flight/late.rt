@@ -10,9 +10,9 @@ use crate::sender::refusal::SenderRefusal;
 use sctp_stream::stream_numbers::put;
 use std::alloc::Global;
 
-/// A message that was given up: its stream, its number, and how many of its bytes left.
+/// A message that was abandoned: its stream, its number, and how many of its bytes left.
 #[derive(Clone, Copy, Debug, PartialEq, Eq)]
-pub struct GivenUp {
+pub struct AbandonedMessage {
     pub stream: u16,
     pub number: u64,
     pub bytes: usize,
@@ -23,17 +23,21 @@ impl InFlight {
     ghost use Rattle.sctp_transfer.specs.Flight.{has_tail_at, may_send};
     ghost use Rattle.sctp_transfer.specs.Late.{abandoned_at, abandoned_each, late_order, leaving_at, leaving_each, with_tail};
 
-    /// Gives up each message in flight that is late: a chunk of it has reached its deadline, it is not given up yet, and of it
+    /// Abandons each message in flight that is late: a chunk of it has reached its deadline, it is not abandoned yet, and of it
     /// some chunk is not acknowledged or some fragment waits. `now` is in nanoseconds. Answers them, in the order of the first
     /// late chunk of each, but for the message of which some waits, which comes first. Refuses, only where there is such a one,
     /// with `TsnsUsedUp`, where 2^31 - 1 chunks are in flight; and for memory, but not where no message is late. All is as it
     /// was then.
-    pub fn expire_late(&mut self, alloc: Global, now: u64) -> Result<Vec<GivenUp>, SenderRefusal>
+    pub fn expire_late(
+        &mut self,
+        alloc: Global,
+        now: u64,
+    ) -> Result<Vec<AbandonedMessage>, SenderRefusal>
         ensures ok { OnOk result (self.new ≡ abandoned_each (late_order now self.old) self.old) }
-        ensures answer { IfOk result (λ given_up. given_up.items
+        ensures answer { IfOk result (λ abandoned. abandoned.items
             ≡ leaving_each (late_order now self.old) self.old) }
-        ensures released { IfOk result (λ given_up. total_bytes self.new.queue
-            + sum_by (λ g. g.bytes) given_up.items ≡ total_bytes self.old.queue) }
+        ensures released { IfOk result (λ abandoned. total_bytes self.new.queue
+            + sum_by (λ g. g.bytes) abandoned.items ≡ total_bytes self.old.queue) }
         ensures accepted { IsOk result →
             (with_tail (late_tsns now self.old.queue) self.old ≡ None)
             ⊎ (may_send self.old ≡ true) }
@@ -44,36 +48,36 @@ impl InFlight {
         ensures err { OnErr result (self.new ≡ self.old) }
     {
         let tsns = self.queue.expired_inflight(alloc, now)?;
-        let mut given_up = Vec::new(alloc);
+        let mut abandoned = Vec::new(alloc);
         if tsns.is_empty() {
-            return Ok(given_up);
+            return Ok(abandoned);
         }
-        if given_up.reserve(tsns.len() + 1).is_err() {
+        if abandoned.reserve(tsns.len() + 1).is_err() {
             return Err(SenderRefusal::OutOfMemory);
         }
-        self.give_up_with_tail(&tsns, &mut given_up)?;
-        self.give_up_each(&tsns, &mut given_up);
-        Ok(given_up)
+        self.abandon_with_tail(&tsns, &mut abandoned)?;
+        self.abandon_each(&tsns, &mut abandoned);
+        Ok(abandoned)
     }
 
-    // Gives up the first of the messages of these TSNs that has a tail, if there is one, which alone may be refused.
-    fn give_up_with_tail(
+    // Abandons the first of the messages of these TSNs that has a tail, if there is one, which alone may be refused.
+    fn abandon_with_tail(
         &mut self,
         tsns: &[u32],
-        given_up: &mut Vec<GivenUp>,
+        abandoned: &mut Vec<AbandonedMessage>,
     ) -> Result<(), SenderRefusal>
-        requires room { vec_len given_up.old < vec_capacity given_up.old }
+        requires room { vec_len abandoned.old < vec_capacity abandoned.old }
         ensures ok { OnOk result (self.new
             ≡ abandoned_each (listed (with_tail tsns.now self.old)) self.old) }
-        ensures answer { OnOk result (given_up.new.items
-            ≡ given_up.old.items ++ leaving_each (listed (with_tail tsns.now self.old)) self.old) }
+        ensures answer { OnOk result (abandoned.new.items
+            ≡ abandoned.old.items ++ leaving_each (listed (with_tail tsns.now self.old)) self.old) }
         ensures released { OnOk result (total_bytes self.new.queue
-            + sum_by (λ g. g.bytes) given_up.new.items
-            ≡ total_bytes self.old.queue + sum_by (λ g. g.bytes) given_up.old.items) }
+            + sum_by (λ g. g.bytes) abandoned.new.items
+            ≡ total_bytes self.old.queue + sum_by (λ g. g.bytes) abandoned.old.items) }
         ensures no_tail { OnOk result (list_all (λ t. not (has_tail_at self.new t)) tsns.now
             ≡ true) }
-        ensures room { OnOk result ((length given_up.new.items ≤ length given_up.old.items + 1)
-            × (vec_capacity given_up.old ≤ vec_capacity given_up.new)) }
+        ensures room { OnOk result ((length abandoned.new.items ≤ length abandoned.old.items + 1)
+            × (vec_capacity abandoned.old ≤ vec_capacity abandoned.new)) }
         ensures accepted { IsOk result → (with_tail tsns.now self.old ≡ None)
             ⊎ (may_send self.old ≡ true) }
         ensures refused { IfErr result (λ e. (e ≡ OutOfMemory)
@@ -88,9 +92,9 @@ impl InFlight {
             return Err(SenderRefusal::TsnsUsedUp);
         }
         self.queue.are_whole();
-        let one = self.give_up(tsn)?;
+        let one = self.abandon_message(tsn)?;
         self.queue.are_whole();
-        put_any(given_up, one);
+        put_any(abandoned, one);
         Ok(())
     }
 
@@ -106,7 +110,7 @@ impl InFlight {
         None
     }
 
-    /// Whether some of the message of a TSN in flight, which is not given up, still waits, so that giving it up needs an end
+    /// Whether some of the message of a TSN in flight, which is not abandoned, still waits, so that abandoning it needs an end
     /// mark under a further TSN; false where the TSN is not in flight.
     pub fn has_tail_at(&self, tsn: u32) -> bool
         ensures { result ≡ has_tail_at self.now tsn }
@@ -117,25 +121,25 @@ impl InFlight {
         }
     }
 
-    // Gives up the messages of these TSNs, one after another. None has a tail, so that it takes no memory.
-    fn give_up_each(&mut self, tsns: &[u32], given_up: &mut Vec<GivenUp>)
+    // Abandons the messages of these TSNs, one after another. None has a tail, so that it takes no memory.
+    fn abandon_each(&mut self, tsns: &[u32], abandoned: &mut Vec<AbandonedMessage>)
         requires no_tail { list_all (λ t. not (has_tail_at self.old t)) tsns.now ≡ true }
-        requires room { length given_up.old.items + length tsns.now ≤ vec_capacity given_up.old }
+        requires room { length abandoned.old.items + length tsns.now ≤ vec_capacity abandoned.old }
         ensures ok { self.new ≡ abandoned_each tsns.now self.old }
-        ensures answer { given_up.new.items ≡ given_up.old.items ++ leaving_each tsns.now self.old }
-        ensures released { total_bytes self.new.queue + sum_by (λ g. g.bytes) given_up.new.items
-            ≡ total_bytes self.old.queue + sum_by (λ g. g.bytes) given_up.old.items }
+        ensures answer { abandoned.new.items ≡ abandoned.old.items ++ leaving_each tsns.now self.old }
+        ensures released { total_bytes self.new.queue + sum_by (λ g. g.bytes) abandoned.new.items
+            ≡ total_bytes self.old.queue + sum_by (λ g. g.bytes) abandoned.old.items }
     {
         for tsn in tsns {
-            let Ok(one) = self.give_up(*tsn) else {
+            let Ok(one) = self.abandon_message(*tsn) else {
                 unreachable!()
             };
-            put_any(given_up, one);
+            put_any(abandoned, one);
         }
     }
 
-    // Gives up the message of a TSN in flight, where it is not given up yet.
-    fn give_up(&mut self, tsn: u32) -> Result<Option<GivenUp>, SenderRefusal>
+    // Abandons the message of a TSN in flight, where it is not abandoned yet.
+    fn abandon_message(&mut self, tsn: u32) -> Result<Option<AbandonedMessage>, SenderRefusal>
         requires { has_tail_at self.old tsn ≡ true → may_send self.old ≡ true }
         ensures ok { OnOk result (self.new ≡ abandoned_at tsn self.old) }
         ensures answer { IfOk result (λ one. listed one ≡ leaving_at tsn self.old) }
@@ -155,7 +159,7 @@ impl InFlight {
         let Some((stream, bytes)) = self.abandon(tsn)? else {
             unreachable!()
         };
-        Ok(Some(GivenUp {
+        Ok(Some(AbandonedMessage {
             stream,
             number,
             bytes,
@@ -164,12 +168,12 @@ impl InFlight {
 }
 
 // Puts one behind the others, if there is one.
-fn put_any(given_up: &mut Vec<GivenUp>, one: Option<GivenUp>)
-    requires { vec_len given_up.old < vec_capacity given_up.old }
-    ensures items { given_up.new.items ≡ given_up.old.items ++ listed one }
-    ensures capacity { vec_capacity given_up.old ≤ vec_capacity given_up.new }
+fn put_any(abandoned: &mut Vec<AbandonedMessage>, one: Option<AbandonedMessage>)
+    requires { vec_len abandoned.old < vec_capacity abandoned.old }
+    ensures items { abandoned.new.items ≡ abandoned.old.items ++ listed one }
+    ensures capacity { vec_capacity abandoned.old ≤ vec_capacity abandoned.new }
 {
     if let Some(one) = one {
-        put(given_up, one);
+        put(abandoned, one);
     }
 }

@@ -2,10 +2,10 @@
 
 ghost use Rattle.std.specs.Prelude.{◌≡◌, ◌<◌, ◌≤◌, ◌^◌, ◌++◌, ◌∷◌, [], List, true, false, None, OnOk, IfOk, IfErr, IfSome, IsOk, is_some, find, option_map, length, take};
 ghost use Rattle.sctp_chunks.specs.declared.chunk.chunk_payload_data.ChunkPayloadData.{ChunkPayloadData};
-ghost use Rattle.sctp_lists.specs.Lists.{those};
+ghost use Rattle.sctp_list_lemmas.specs.Lists.{those};
 ghost use Rattle.sctp_transfer.specs.declared.sender.refusal.SenderRefusal.TheVariants.{OutOfMemory};
 ghost use Rattle.sctp_transfer.specs.Flight.{tsns_from};
-ghost use Rattle.sctp_transfer.specs.GivingUp.{IsFirstPair, IsNoPair, Name, is_kept, is_named};
+ghost use Rattle.sctp_transfer.specs.Abandonment.{IsFirstPair, IsNoPair, Name, is_kept, is_named};
 ghost use Rattle.sctp_transfer.specs.TsnFilter.{tsns};
 
 use super::InFlight;
@@ -18,9 +18,9 @@ use sctp_stream::stream_numbers::put;
 use std::alloc::Global;
 
 impl InFlight {
-    ghost use Rattle.sctp_transfer.specs.GivingUp.{advanced_ack_point, can_skip_to, named_up_to};
+    ghost use Rattle.sctp_transfer.specs.Abandonment.{advanced_ack_point, can_skip_to, named_up_to};
 
-    /// The greatest TSN such that the message of it and of each in flight before it is given up: RFC 3758 3.5 calls it the
+    /// The greatest TSN such that the message of it and of each in flight before it is abandoned: RFC 3758 3.5 calls it the
     /// Advanced.Peer.Ack.Point. The TSN up to which all was acknowledged, where none in flight is passed.
     pub fn advanced_ack_point(&self) -> u32
         ensures { result ≡ advanced_ack_point self.now }
@@ -32,7 +32,7 @@ impl InFlight {
         }
     }
 
-    /// The FORWARD-TSN up to a TSN (RFC 3758 3.5 C4): of each stream that has an ordered chunk up to there which is given up,
+    /// The FORWARD-TSN up to a TSN (RFC 3758 3.5 C4): of each stream that has an ordered chunk up to there which is abandoned,
     /// it names the number of the last one. None where the TSN is not past what is acknowledged, or lies beyond
     /// `advanced_ack_point`. Refuses only for memory, and takes none where it answers None.
     pub fn forward_tsn_to(
@@ -60,7 +60,7 @@ impl InFlight {
     }
 }
 
-// The first TSN in flight, from this one on, whose message is not given up.
+// The first TSN in flight, from this one on, whose message is not abandoned.
 fn first_kept(queue: &OutboundQueue, first: u32) -> Option<u32>
     requires run { tsns queue.now.inflight.chunks
         ≡ tsns_from first (length queue.now.inflight.chunks) }
@@ -107,7 +107,7 @@ fn pairs_of(
     Ok(pairs)
 }
 
-// Whether it is an ordered chunk of a message that is given up.
+// Whether it is an ordered chunk of a message that is abandoned.
 fn is_named(chunk: &ChunkPayloadData) -> bool
     ensures { result ≡ is_named chunk.now }
 {

@@ -1,5 +1,5 @@
 use Rattle.std.proofs.Common.{◌<◌, length, arith}
-use Rattle.sctp_base.proofs.SourceLemmas.{left_whole, left_part, joins_part}
+use Rattle.sctp_base.proofs.ListsFrom.{left_whole, left_part, joins_part}
 use Rattle.sctp_base.proofs.util.bytes_source.pop_from.Goals as goal
 
 pub returns-then-len-limit-clause-left : goal.returns-then-len-limit-clause-left

@@ -1,5 +1,5 @@
 use Rattle.std.proofs.Common.{length, ap, arith}
-use Rattle.sctp_chunks.proofs.ParamsText.{params_length_from, no_params_left}
+use Rattle.sctp_chunks.proofs.ParamsEncoding.{params_length_from, no_params_left}
 use Rattle.sctp_chunks.proofs.chunk.params.params_length.Goals as goal
 
 pub loop-i-preserved : goal.loop-i-preserved

@@ -1,13 +1,13 @@
 use Rattle.std.proofs.Common.{length, ap, append_assoc, arith}
 use Rattle.std.proofs.lemmas.List.{append-nil}
-use Rattle.sctp_chunks.proofs.ParamsText.{params_text_from, params_length_from, no_params_left}
+use Rattle.sctp_chunks.proofs.ParamsEncoding.{params_encoding_from, params_length_from, no_params_left}
 use Rattle.sctp_chunks.proofs.chunk.params.put_params.Goals as goal
 
-pub put_param-requires-clause-text : goal.put_param-requires-clause-text
-put_param-requires-clause-text c =
+pub put_param-requires-clause-encoding : goal.put_param-requires-clause-encoding
+put_param-requires-clause-encoding c =
     let e = params_length_from c.args.bare c.args.params.now c.loop-i.i c.index-params-i.result c.loop-i-test.true in
     let step = rw (← c.index-params-i.is, ← c.stands_bare.ensures) at e in
-    omega (arith, step, c.loop-i.invariant.text)
+    omega (arith, step, c.loop-i.invariant.encoding)
 
 pub put_param-requires-clause-room : goal.put_param-requires-clause-room
 put_param-requires-clause-room c =
@@ -17,13 +17,13 @@ put_param-requires-clause-room c =
 
 pub loop-i-preserved : goal.loop-i-preserved
 loop-i-preserved c =
-    let e = params_text_from c.args.bare c.args.params.now c.loop-i.i c.index-params-i.result c.loop-i-test.true in
+    let e = params_encoding_from c.args.bare c.args.params.now c.loop-i.i c.index-params-i.result c.loop-i-test.true in
     let n = params_length_from c.args.bare c.args.params.now c.loop-i.i c.index-params-i.result c.loop-i-test.true in
-    let text = rw (← c.index-params-i.is, ← c.stands_bare.ensures) at e in
+    let encoding = rw (← c.index-params-i.is, ← c.stands_bare.ensures) at e in
     let long = rw (← c.index-params-i.is, ← c.stands_bare.ensures) at n in
     record {
-      items = rw (c.put_param.ensures.items, append_assoc, ← text) c.loop-i.invariant.items;
-      text = omega (arith, long, c.loop-i.invariant.text);
+      items = rw (c.put_param.ensures.items, append_assoc, ← encoding) c.loop-i.invariant.items;
+      encoding = omega (arith, long, c.loop-i.invariant.encoding);
       room = omega (arith, long, c.put_param.ensures.spare, c.loop-i.invariant.room);
       spare = omega (arith, long, c.put_param.ensures.spare, c.loop-i.invariant.spare);
     }

@@ -1,5 +1,5 @@
 use Rattle.std.proofs.Common.{◌≡◌, ◌+◌, ◌-◌, ◌%◌, ◌^◌, ◌++◌, ◌∷◌, [], length, take, rules, refl, ap, ◌∙◌, sym}
-use Rattle.sctp_lists.proofs.Getting.{length-mapped}
+use Rattle.sctp_list_lemmas.proofs.Getting.{length-mapped}
 use Rattle.sctp_chunks.specs.SelectiveAck.{Sack, sack_of}
 use Rattle.sctp_model.specs.Reply as R
 use Rattle.sctp_model.specs.Changes.{reported}
@@ -12,12 +12,12 @@ use Rattle.sctp_link.specs.Records.{datagram_record}
 use Rattle.sctp_link.specs.Fields.{state_in, world_in}
 use Rattle.sctp_link.proofs.upkeep.Frames.{moved}
 use Rattle.sctp_link.proofs.sender.Outgoing.{network-more, bytes-more}
-use Rattle.sctp_link.proofs.acknowledging.Reporting.{cut-is, told-count, told-is, told-some, fits-text, cumulative-place, report-is, linked-ack, world-acked}
+use Rattle.sctp_link.proofs.acknowledging.Reporting.{cut-is, told-count, told-is, told-some, fits-encoding, cumulative-place, report-is, linked-ack, world-acked}
 use Rattle.sctp_link.proofs.link.Link.ack.Goals as goal
 
-pub write_datagram-requires-clause-text : goal.write_datagram-requires-clause-text
-write_datagram-requires-clause-text g c =
-    (tt, fits-text (g.C.Checksum.sum c.self.inside.checksum) (state_in c.self.inside) c.self.invariant c.args.credit (reception_of c.self.inside.halves) refl (sack_of c.in_ok-sack.sack) c.in_ok-sack.ensures.sack)
+pub write_datagram-requires-clause-encoding : goal.write_datagram-requires-clause-encoding
+write_datagram-requires-clause-encoding g c =
+    (tt, fits-encoding (g.C.Checksum.sum c.self.inside.checksum) (state_in c.self.inside) c.self.invariant c.args.credit (reception_of c.self.inside.halves) refl (sack_of c.in_ok-sack.sack) c.in_ok-sack.ensures.sack)
 
 pub invariant_of-self-2 : goal.invariant_of-self-2
 invariant_of-self-2 g c =

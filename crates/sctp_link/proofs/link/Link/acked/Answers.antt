@@ -10,7 +10,7 @@ use Rattle.sctp_model.specs.declared.event.Event.TheVariants as E
 use Rattle.sctp_model.specs.Contents.{cumulative_tsn}
 use Rattle.sctp_model.specs.Reply as R
 use Rattle.sctp_model.specs.Steps.{refusal_of}
-use Rattle.sctp_ties.specs.Amount.{acknowledged_at}
+use Rattle.sctp_refinement.specs.Amount.{acknowledged_at}
 use Rattle.sctp_transfer.specs.Flight.{released_by, after_sack}
 use Rattle.sctp_halves.specs.Streams.{released}
 use Rattle.sctp_halves.specs.Halves.{Sides}

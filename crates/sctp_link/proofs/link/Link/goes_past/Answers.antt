@@ -1,7 +1,7 @@
 use Rattle.std.proofs.Common.{◌≡◌, ℕ, ◌<◌, true, false, refl, ap, ◌∙◌, arith, length}
 use Rattle.std.specs.Prelude.{◌==◌}
 use Rattle.std.proofs.lemmas.Bool.Decides.{nat_tests}
-use Rattle.sctp_lists.proofs.Cases.{by_last, same-yes}
+use Rattle.sctp_list_lemmas.proofs.Cases.{by_last, same-yes}
 use Rattle.sctp_model.specs.Messages.{belongs_to, message_of}
 use Rattle.sctp_link.specs.Fields.{world_in, state_in}
 use Rattle.sctp_link.proofs.upkeep.Facts.{facts}

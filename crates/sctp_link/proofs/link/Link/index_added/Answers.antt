@@ -10,8 +10,8 @@ use Rattle.sctp_link.specs.Records.{message_record}
 use Rattle.sctp_link.specs.Receiving.{LiesSomewhere, adds_on}
 use Rattle.sctp_link.proofs.receiver.Hears.{come-message, come-index, slots-made, messages-made, slot-raw, message-raw, kept-raw}
 use Rattle.sctp_link.proofs.receiver.Spans.{lying, adds-is}
-use Rattle.sctp_lists.proofs.More.{both}
-use Rattle.sctp_ties.proofs.reading.Line.{on-ordered}
+use Rattle.sctp_list_lemmas.proofs.More.{both}
+use Rattle.sctp_refinement.proofs.reading.Line.{on-ordered}
 use Rattle.sctp_link.proofs.link.Link.index_added.Goals as goal
 
 pub index-requires : goal.index-requires

@@ -1,7 +1,7 @@
 use Rattle.std.proofs.Common.{◌≡◌, ℕ, ap, sym, ◌∙◌, ◌<◌, ◌-◌, true, Some, refl, arith, length}
 use Rattle.std.specs.Prelude.{find, min, max, slice_index_or}
 use Rattle.std.specs.VecDeque.{deque_len}
-use Rattle.sctp_lists.proofs.More.{not_both}
+use Rattle.sctp_list_lemmas.proofs.More.{not_both}
 use Rattle.sctp_reassembly.specs.reassembly_queue.ReassemblyQueue.{ReassemblyState}
 use Rattle.sctp_model.specs.Messages.{is_open, index_of}
 use Rattle.sctp_model.specs.Receiver.{held_on, is_held}
@@ -9,7 +9,7 @@ use Rattle.sctp_model.specs.Queues.{set_of}
 use Rattle.sctp_halves.specs.Streams.{OpenStream, has_number}
 use Rattle.sctp_link.specs.Fields.{world_in, state_in}
 use Rattle.sctp_link.proofs.upkeep.Lookups.{none-open}
-use Rattle.sctp_link.proofs.upkeep.Places.{placed}
+use Rattle.sctp_link.proofs.upkeep.StreamPlaces.{placed}
 use Rattle.sctp_link.proofs.receiver.Hears.{none-told, told-next, told-queue, ends-empty, set-held, low-front, high-back, none-there}
 use Rattle.sctp_link.proofs.link.Link.index_range.Goals as goal
 

@@ -2,13 +2,13 @@ use Rattle.std.proofs.Common.{◌≡◌, ◌<◌, ◌+◌, true, refl, ap, sym, 
 use Rattle.std.specs.Prelude.{find}
 use Rattle.std.specs.List.{list_all}
 use Rattle.sctp_outbound.specs.outbound_queue.OutboundQueue.{late_tsns}
-use Rattle.sctp_model.specs.Messages.{place_of, is_in_flight, is_half_sent}
+use Rattle.sctp_model.specs.Messages.{place_of, is_in_flight, is_partially_sent}
 use Rattle.sctp_model.specs.Amounts.{growth}
-use Rattle.sctp_ties.specs.InTurn.{message_of_tsn, given_up}
-use Rattle.sctp_ties.proofs.giving_up.AbandonedInTurn.{GivesInTurn, accepted-now, takes-none, goes-on}
+use Rattle.sctp_refinement.specs.InTurn.{message_of_tsn, abandoned_tsn}
+use Rattle.sctp_refinement.proofs.abandonment.AbandonedInTurn.{GivesInTurn, accepted-now, takes-none, goes-on}
 use Rattle.sctp_link.specs.Fields.{state_in, world_in}
 use Rattle.sctp_link.proofs.receiver.Keeping.{on-err}
-use Rattle.sctp_link.proofs.giving_up.LateTsns.{fly, takes, takes-unless, begun, done, turn-few}
+use Rattle.sctp_link.proofs.abandonment.LateTsns.{fly, takes, takes-unless, begun, done, turn-few}
 use Rattle.sctp_link.proofs.link.Link.late.Goals as goal
 
 pub returns-in_err-tsns-clause-wants : goal.returns-in_err-tsns-clause-wants
@@ -18,8 +18,8 @@ returns-in_err-tsns-clause-wants g c =
     let l = c.self.invariant in
     rw (← c.self.view_is) (on-err c.from_residual.result _ (takes-unless sum x l c.args.now _ refl (λ e. c.in_err-tsns.ensures.idle (ap (late_tsns c.args.now) c.outbound.ensures ∙ e))))
 
-pub give_up_half_sent-requires : goal.give_up_half_sent-requires
-give_up_half_sent-requires g c =
+pub abandon_partially_sent-requires : goal.abandon_partially_sent-requires
+abandon_partially_sent-requires g c =
     let sum = g.C.Checksum.sum c.self.inside.checksum in
     let x = state_in c.self.inside in
     let l = c.self.invariant in
@@ -39,28 +39,28 @@ loop-at-init g c =
     let x = state_in c.self.inside in
     let l = c.self.invariant in
     let w = world_in c.self.inside in
-    let v = c.give_up_half_sent.new.self.world in
+    let v = c.abandon_partially_sent.new.self.world in
     let ts = c.in_ok-tsns.tsns.items in
-    let o = find (λ t. is_half_sent w (message_of_tsn w t)) ts in
-    let moves : v ≡ given_up w o = rw (c.deref.ensures.value, ← c.self.view_is) at c.in_ok-bytes.ensures.moves in
+    let o = find (λ t. is_partially_sent w (message_of_tsn w t)) ts in
+    let moves : v ≡ abandoned_tsn w o = rw (c.deref.ensures.value, ← c.self.view_is) at c.in_ok-bytes.ensures.moves in
     let bytes : c.in_ok-bytes.bytes ≡ growth w v = rw (← c.self.view_is) at c.in_ok-bytes.ensures.bytes in
     let first : GivesInTurn w v o ts 0 c.in_ok-bytes.bytes = subst (λ u. GivesInTurn w u o ts 0 c.in_ok-bytes.bytes) (sym moves) (begun sum x l c.args.now ts (c.in_ok-tsns.ensures.ok ∙ ap (late_tsns c.args.now) c.outbound.ensures) o c.in_ok-bytes.bytes refl (bytes ∙ ap (growth w) moves)) in
     record { turns = rw (← c.self.view_is) first; checksum = c.in_ok-bytes.ensures.checksum }
 
-pub give_up_whole-bytes-requires-clause-accepted : goal.give_up_whole-bytes-requires-clause-accepted
-give_up_whole-bytes-requires-clause-accepted g c =
+pub abandon_fully_sent-bytes-requires-clause-accepted : goal.abandon_fully_sent-bytes-requires-clause-accepted
+abandon_fully_sent-bytes-requires-clause-accepted g c =
     let w = c.args.self.now.world in
     let ts = c.in_ok-tsns.tsns.items in
-    let o = find (λ t. is_half_sent w (message_of_tsn w t)) ts in
+    let o = find (λ t. is_partially_sent w (message_of_tsn w t)) ts in
     let all : list_all (λ t. is_in_flight w (place_of w t)) ts ≡ true = rw (← c.self.view_is) (fly (g.C.Checksum.sum c.self.inside.checksum) (state_in c.self.inside) c.self.invariant c.args.now ts (c.in_ok-tsns.ensures.ok ∙ ap (late_tsns c.args.now) c.outbound.ensures)) in
     let lt : c.loop-at.at < length ts = omega (arith, c.loop-at-test.true, c.len-at-end.ensures) in
     accepted-now w ts o all c.loop-at.self.world c.loop-at.at c.loop-at.bytes c.index.result.now c.loop-at.invariant.turns lt c.index.ensures
 
-pub give_up_whole-bytes-requires-clause-whole : goal.give_up_whole-bytes-requires-clause-whole
-give_up_whole-bytes-requires-clause-whole g c =
+pub abandon_fully_sent-bytes-requires-clause-whole : goal.abandon_fully_sent-bytes-requires-clause-whole
+abandon_fully_sent-bytes-requires-clause-whole g c =
     let w = c.args.self.now.world in
     let ts = c.in_ok-tsns.tsns.items in
-    let o = find (λ t. is_half_sent w (message_of_tsn w t)) ts in
+    let o = find (λ t. is_partially_sent w (message_of_tsn w t)) ts in
     let all : list_all (λ t. is_in_flight w (place_of w t)) ts ≡ true = rw (← c.self.view_is) (fly (g.C.Checksum.sum c.self.inside.checksum) (state_in c.self.inside) c.self.invariant c.args.now ts (c.in_ok-tsns.ensures.ok ∙ ap (late_tsns c.args.now) c.outbound.ensures)) in
     let lt : c.loop-at.at < length ts = omega (arith, c.loop-at-test.true, c.len-at-end.ensures) in
     takes-none w ts o all c.loop-at.self.world c.loop-at.at c.loop-at.bytes c.index.result.now c.loop-at.invariant.turns lt c.index.ensures
@@ -69,21 +69,21 @@ pub overflow_add-bytes : goal.overflow_add-bytes
 overflow_add-bytes g c =
     let w = c.args.self.now.world in
     let ts = c.in_ok-tsns.tsns.items in
-    let o = find (λ t. is_half_sent w (message_of_tsn w t)) ts in
+    let o = find (λ t. is_partially_sent w (message_of_tsn w t)) ts in
     let all : list_all (λ t. is_in_flight w (place_of w t)) ts ≡ true = rw (← c.self.view_is) (fly (g.C.Checksum.sum c.self.inside.checksum) (state_in c.self.inside) c.self.invariant c.args.now ts (c.in_ok-tsns.ensures.ok ∙ ap (late_tsns c.args.now) c.outbound.ensures)) in
     let lt : c.loop-at.at < length ts = omega (arith, c.loop-at-test.true, c.len-at-end.ensures) in
-    let next : GivesInTurn w c.give_up_whole-bytes.new.self.world o ts (c.loop-at.at + 1) (c.loop-at.bytes + c.give_up_whole-bytes.result) = goes-on w ts o all c.loop-at.self.world c.loop-at.at c.loop-at.bytes c.index.result.now c.loop-at.invariant.turns lt c.index.ensures c.give_up_whole-bytes.new.self.world c.give_up_whole-bytes.result c.give_up_whole-bytes.ensures.moves c.give_up_whole-bytes.ensures.bytes in
-    omega (arith, next.bytes_are, turn-few w c.give_up_whole-bytes.new.self.world next.turn)
+    let next : GivesInTurn w c.abandon_fully_sent-bytes.new.self.world o ts (c.loop-at.at + 1) (c.loop-at.bytes + c.abandon_fully_sent-bytes.result) = goes-on w ts o all c.loop-at.self.world c.loop-at.at c.loop-at.bytes c.index.result.now c.loop-at.invariant.turns lt c.index.ensures c.abandon_fully_sent-bytes.new.self.world c.abandon_fully_sent-bytes.result c.abandon_fully_sent-bytes.ensures.moves c.abandon_fully_sent-bytes.ensures.bytes in
+    omega (arith, next.bytes_are, turn-few w c.abandon_fully_sent-bytes.new.self.world next.turn)
 
 pub loop-at-preserved : goal.loop-at-preserved
 loop-at-preserved g c =
     let w = c.args.self.now.world in
     let ts = c.in_ok-tsns.tsns.items in
-    let o = find (λ t. is_half_sent w (message_of_tsn w t)) ts in
+    let o = find (λ t. is_partially_sent w (message_of_tsn w t)) ts in
     let all : list_all (λ t. is_in_flight w (place_of w t)) ts ≡ true = rw (← c.self.view_is) (fly (g.C.Checksum.sum c.self.inside.checksum) (state_in c.self.inside) c.self.invariant c.args.now ts (c.in_ok-tsns.ensures.ok ∙ ap (late_tsns c.args.now) c.outbound.ensures)) in
     let lt : c.loop-at.at < length ts = omega (arith, c.loop-at-test.true, c.len-at-end.ensures) in
-    let next : GivesInTurn w c.give_up_whole-bytes.new.self.world o ts (c.loop-at.at + 1) (c.loop-at.bytes + c.give_up_whole-bytes.result) = goes-on w ts o all c.loop-at.self.world c.loop-at.at c.loop-at.bytes c.index.result.now c.loop-at.invariant.turns lt c.index.ensures c.give_up_whole-bytes.new.self.world c.give_up_whole-bytes.result c.give_up_whole-bytes.ensures.moves c.give_up_whole-bytes.ensures.bytes in
-    record { turns = next; checksum = c.give_up_whole-bytes.ensures.checksum ∙ c.loop-at.invariant.checksum }
+    let next : GivesInTurn w c.abandon_fully_sent-bytes.new.self.world o ts (c.loop-at.at + 1) (c.loop-at.bytes + c.abandon_fully_sent-bytes.result) = goes-on w ts o all c.loop-at.self.world c.loop-at.at c.loop-at.bytes c.index.result.now c.loop-at.invariant.turns lt c.index.ensures c.abandon_fully_sent-bytes.new.self.world c.abandon_fully_sent-bytes.result c.abandon_fully_sent-bytes.ensures.moves c.abandon_fully_sent-bytes.ensures.bytes in
+    record { turns = next; checksum = c.abandon_fully_sent-bytes.ensures.checksum ∙ c.loop-at.invariant.checksum }
 
 pub returns-clause-ok : goal.returns-clause-ok
 returns-clause-ok g c =
@@ -93,7 +93,7 @@ returns-clause-ok g c =
     let w = world_in c.self.inside in
     let v = c.loop-at.self.world in
     let ts = c.in_ok-tsns.tsns.items in
-    let o = find (λ t. is_half_sent w (message_of_tsn w t)) ts in
+    let o = find (λ t. is_partially_sent w (message_of_tsn w t)) ts in
     let so-far : GivesInTurn w v o ts c.loop-at.at c.loop-at.bytes = rw (← c.self.view_is) at c.loop-at.invariant.turns in
     let end : c.loop-at.at ≡ length ts = omega (arith, c.loop-at-test.false, c.loop-at.auto.at-end, c.len-at-end.ensures) in
     let count : c.len.result ≡ length ts = omega (arith, c.len.ensures, c.in_ok-tsns.tsns.ok.0) in

@@ -1,12 +1,12 @@
 use Rattle.std.proofs.Common.{◌≡◌}
 use Rattle.std.specs.Prelude.{find}
-use Rattle.sctp_model.specs.Messages.{is_half_sent}
-use Rattle.sctp_ties.specs.InTurn.{message_of_tsn}
-use Rattle.sctp_ties.proofs.giving_up.AbandonedInTurn.{GivesInTurn}
+use Rattle.sctp_model.specs.Messages.{is_partially_sent}
+use Rattle.sctp_refinement.specs.InTurn.{message_of_tsn}
+use Rattle.sctp_refinement.proofs.abandonment.AbandonedInTurn.{GivesInTurn}
 use Rattle.sctp_link.proofs.link.Link.late.Given as goal
 
 abbrev pub invariant-loop-at : goal.invariant-loop-at
 invariant-loop-at g l = record {
-  turns : GivesInTurn l.fn.self.world l.self.world (find (λ t. is_half_sent l.fn.self.world (message_of_tsn l.fn.self.world t)) l.tsns.items) l.tsns.items l.at l.bytes;
+  turns : GivesInTurn l.fn.self.world l.self.world (find (λ t. is_partially_sent l.fn.self.world (message_of_tsn l.fn.self.world t)) l.tsns.items) l.tsns.items l.at l.bytes;
   checksum : l.self.checksum ≡ l.fn.self.checksum;
 }

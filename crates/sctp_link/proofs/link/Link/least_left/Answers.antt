@@ -1,13 +1,13 @@
 use Rattle.std.proofs.Common.{◌≡◌, ℕ, ap, sym, ◌∙◌, ◌<◌, true, false, Some, None, refl, arith, length}
 use Rattle.std.specs.Prelude.{min, option_copied, slice_index_or, if◌then◌else◌}
 use Rattle.std.specs.VecDeque.{deque_len}
-use Rattle.sctp_lists.proofs.More.{not_both}
+use Rattle.sctp_list_lemmas.proofs.More.{not_both}
 use Rattle.sctp_reassembly.specs.reassembly_queue.Fragments.{is_complete}
 use Rattle.sctp_reassembly.specs.reassembly_queue.ReassemblyQueue.{ReassemblyState}
 use Rattle.sctp_model.specs.Messages.{is_open, index_of}
 use Rattle.sctp_model.specs.Receiver.{held_on, is_held}
 use Rattle.sctp_model.specs.Queues.{set_of}
-use Rattle.sctp_ties.specs.Naming.{min_with}
+use Rattle.sctp_refinement.specs.Naming.{min_with}
 use Rattle.sctp_link.specs.Fields.{world_in, state_in}
 use Rattle.sctp_link.proofs.upkeep.Lookups.{none-open, queue-none, queue-at}
 use Rattle.sctp_link.proofs.receiver.Hears.{set-held, none-there}

@@ -1,7 +1,7 @@
 use Rattle.std.proofs.Common.{◌<◌, ◌≤◌, ◌+◌, refl, ap, sym, ◌∙◌, arith, length}
 use Rattle.std.specs.List.{list_all}
 use Rattle.std.proofs.lemmas.List.{take_all}
-use Rattle.sctp_ties.specs.Naming.{names_fit}
+use Rattle.sctp_refinement.specs.Naming.{names_fit}
 use Rattle.sctp_link.specs.Records.{stream_record}
 use Rattle.sctp_link.proofs.receiver.Hears.{raw-length}
 use Rattle.sctp_link.proofs.skipping.SkipComes.{all-more, all-no}

@@ -1,6 +1,6 @@
 use Rattle.std.proofs.Common.{◌≡◌, ap, sym, ◌∙◌, ◌<◌, ◌+◌, ◌-◌, ◌^◌, ◌%◌, true, Some, None, refl, arith, map, length}
 use Rattle.std.specs.Prelude.{find, is_some, slice_index_or, slice_set}
-use Rattle.sctp_lists.specs.Lists.{changed}
+use Rattle.sctp_list_lemmas.specs.Lists.{changed}
 use Rattle.sctp_chunks.specs.ChunkSet.{ChunkSet}
 use Rattle.sctp_reassembly.specs.reassembly_queue.ReassemblyQueue.{message_read}
 use Rattle.sctp_model.specs.Messages.{message_at}
@@ -14,7 +14,7 @@ use Rattle.sctp_link.specs.declared.record.Message.{Message}
 use Rattle.sctp_link.specs.Fields.{world_in, state_in}
 use Rattle.sctp_link.specs.Records.{message_record, progress_of}
 use Rattle.sctp_link.proofs.upkeep.Apart.{map-set, map-set_same}
-use Rattle.sctp_link.proofs.upkeep.Places.{placed}
+use Rattle.sctp_link.proofs.upkeep.StreamPlaces.{placed}
 use Rattle.sctp_link.proofs.receiver.Hears.{lead-slot, lead-number, messages-made, message-raw, kept-raw}
 use Rattle.sctp_link.proofs.receiver.HandsOut.{none-mapped, some-mapped, open-there, world-nothing, linked-nothing, reply-nothing, read-is, hands, hands-begins, ppi-handed, low, reply-read, world-recorded, linked-recorded}
 use Rattle.sctp_link.proofs.link.Link.read.Goals as goal

@@ -1,5 +1,5 @@
 use Rattle.std.proofs.Common.{ap, sym, ◌∙◌, ◌≡◌, ◌%◌, ◌+◌, ◌-◌, ◌<◌, ◌^◌, not, length, None, arith}
-use Rattle.sctp_lists.proofs.Getting.{length-mapped}
+use Rattle.sctp_list_lemmas.proofs.Getting.{length-mapped}
 use Rattle.sctp_model.specs.Queues.{is_cleared}
 use Rattle.sctp_model.specs.Steps.{unless}
 use Rattle.sctp_model.specs.declared.event.LinkRefusal.TheVariants.{NotInFlight}

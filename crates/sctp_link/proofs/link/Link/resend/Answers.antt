@@ -1,7 +1,7 @@
 use Rattle.std.proofs.Common.{◌≡◌, ◌+◌, ◌-◌, ◌^◌, ◌++◌, ◌∷◌, [], length, rules, refl, ap, None, Some, ◌∙◌, sym}
 use Rattle.std.specs.Prelude.{find, min}
-use Rattle.sctp_lists.proofs.Getting.{length-mapped}
-use Rattle.sctp_lists.specs.Lists.{change_where}
+use Rattle.sctp_list_lemmas.proofs.Getting.{length-mapped}
+use Rattle.sctp_list_lemmas.specs.Lists.{change_where}
 use Rattle.sctp_serial.specs.DataChunks.{has_tsn}
 use Rattle.sctp_outbound.specs.Marks.{with_nsent}
 use Rattle.sctp_outbound.specs.outbound_queue.OutboundQueue.{with_inflight}
@@ -23,8 +23,8 @@ unreachable-requires g c =
     let ok : refusal_of (world_in c.self.inside) (E.Resend c.args.tsn) ≡ None = rw (← c.self.view_is) at c.requires in
     never-gone (g.C.Checksum.sum c.self.inside.checksum) (state_in c.self.inside) c.self.invariant c.args.tsn (search rules) ok (search rules)
 
-pub write_datagram-requires-clause-text : goal.write_datagram-requires-clause-text
-write_datagram-requires-clause-text g c =
+pub write_datagram-requires-clause-encoding : goal.write_datagram-requires-clause-encoding
+write_datagram-requires-clause-encoding g c =
     let ok : refusal_of (world_in c.self.inside) (E.Resend c.args.tsn) ≡ None = rw (← c.self.view_is) at c.requires in
     let e : find (has_tsn c.args.tsn) c.self.inside.halves.flight.queue.inflight.chunks ≡ Some c.in_ok-chunk.chunk = search rules in
     (tt, resend-fits (g.C.Checksum.sum c.self.inside.checksum) (state_in c.self.inside) c.self.invariant c.args.tsn (search rules) ok c.in_ok-chunk.chunk e)

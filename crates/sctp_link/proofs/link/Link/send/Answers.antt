@@ -2,13 +2,13 @@ use Rattle.std.proofs.Common.{◌≡◌, List, map, length, rules, refl, ap, Non
 use Rattle.std.specs.Prelude.{is_some}
 use Rattle.std.specs.Vec.{with_items, vec_len}
 use Rattle.std.proofs.lemmas.List.{with_items_is}
-use Rattle.sctp_lists.specs.Kept.{numbers_from}
+use Rattle.sctp_list_lemmas.specs.Kept.{numbers_from}
 use Rattle.sctp_chunks.specs.declared.chunk.chunk_kind.ChunkKind.TheVariants as C
 use Rattle.sctp_outbound.specs.pending_queue.PendingQueue.{peeked}
 use Rattle.sctp_outbound.specs.outbound_queue.OutboundQueue.{Outbound}
 use Rattle.sctp_halves.specs.Halves.{Sides}
 use Rattle.sctp_model.specs.Changes.{started}
-use Rattle.sctp_ties.specs.Filling.{chunks_taken}
+use Rattle.sctp_refinement.specs.Filling.{chunks_taken}
 use Rattle.sctp_link.specs.declared.record.Slot.{Slot}
 use Rattle.sctp_link.specs.declared.record.Datagram.{Datagram}
 use Rattle.sctp_link.specs.declared.record.Kind.TheVariants as K
@@ -18,7 +18,7 @@ use Rattle.sctp_link.specs.Fields.{state_in, world_in}
 use Rattle.sctp_link.specs.Sends.{sender_of}
 use Rattle.sctp_link.proofs.receiver.Keeping.{on-err}
 use Rattle.sctp_link.proofs.sender.Sending.{next-is, idle-right, looks-short}
-use Rattle.sctp_link.proofs.sender.SentLists.{count-is, texts-each, canonical-each, can-leave, linked-sent, send-is-right}
+use Rattle.sctp_link.proofs.sender.SentLists.{count-is, encodings-each, canonical-each, can-leave, linked-sent, send-is-right}
 use Rattle.sctp_link.proofs.link.Link.send.Goals as goal
 
 pub returns-in_default-clause-ok : goal.returns-in_default-clause-ok
@@ -30,12 +30,12 @@ returns-in_default-clause-ok g c =
 pub next_chunks-requires-clause-short : goal.next_chunks-requires-clause-short
 next_chunks-requires-clause-short g c = rw c.outbound-2.ensures (looks-short (g.C.Checksum.sum c.self.inside.checksum) (state_in c.self.inside) c.self.invariant c.args.now)
 
-pub write_chunks-requires-clause-text : goal.write_chunks-requires-clause-text
-write_chunks-requires-clause-text g c =
+pub write_chunks-requires-clause-encoding : goal.write_chunks-requires-clause-encoding
+write_chunks-requires-clause-encoding g c =
     let e : peeked c.self.inside.halves.flight.queue.pending ≡ Some c.in-Some.first.now = search rules in
     let chunks : c.in_ok-chunks.chunks.items ≡ map C.PayloadData (chunks_taken c.self.inside.limit c.self.inside.halves.flight.next_tsn c.self.inside.halves.flight.queue.pending) =
     c.in_ok-chunks.ensures.chunks ∙ ap (λ t. map C.PayloadData (chunks_taken c.self.inside.limit t c.outbound-2.result.now.pending)) c.next_tsn-tsn.ensures ∙ ap (λ (q : Outbound). map C.PayloadData (chunks_taken c.self.inside.limit c.self.inside.halves.flight.next_tsn q.pending)) c.outbound-2.ensures in
-    texts-each (g.C.Checksum.sum c.self.inside.checksum) (state_in c.self.inside) c.self.invariant c.args.now c.in-Some.first.now e c.in_ok-chunks.chunks.items chunks
+    encodings-each (g.C.Checksum.sum c.self.inside.checksum) (state_in c.self.inside) c.self.invariant c.args.now c.in-Some.first.now e c.in_ok-chunks.chunks.items chunks
 
 pub write_chunks-requires-clause-canonical : goal.write_chunks-requires-clause-canonical
 write_chunks-requires-clause-canonical g c =
@@ -83,7 +83,7 @@ invariant_of-self-2 g c =
     (sender_of c.take_fragments.new.halves c.take_fragments.new.messages c.take_fragments.new.slots.items) c.take_fragments.ensures.leave
     (with_items (with_items ms c.start_from.new.messages) c.take_fragments.new.messages).items (with_items_is (with_items ms c.start_from.new.messages) c.take_fragments.new.messages kept)
     c.self.inside.network.items c.put.new.items.items c.in_ok-places.places.items (K.Data c.in_ok-places.places) c.in_ok-bytes.bytes places refl refl (search rules)
-    c.in_ok-chunks.chunks.items chunks c.in_ok-bytes.ensures.text c.in_ok-bytes.ensures.reads refl c.len-self-inside.result (search rules)
+    c.in_ok-chunks.chunks.items chunks c.in_ok-bytes.ensures.encoding c.in_ok-bytes.ensures.reads refl c.len-self-inside.result (search rules)
     c.take_fragments.new.halves.flight.acked_tsn (rest.acked ∙ ap (λ (h : Sides). h.flight.acked_tsn) c.start-2.ensures ∙ ap (λ (h : Sides). h.flight.acked_tsn) c.in_ok-reserve-3.ensures.ok))
 
 pub returns-clause-ok : goal.returns-clause-ok

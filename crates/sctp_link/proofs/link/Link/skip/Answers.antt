@@ -1,5 +1,5 @@
 use Rattle.std.proofs.Common.{◌≡◌, ◌∷◌, ◌++◌, [], rules, None, refl, ap, sym, ◌∙◌, map, arith}
-use Rattle.sctp_lists.proofs.Getting.{length-mapped}
+use Rattle.sctp_list_lemmas.proofs.Getting.{length-mapped}
 use Rattle.sctp_chunks.specs.ForwardTsn.{ForwardTsn}
 use Rattle.sctp_model.specs.declared.event.Event.TheVariants as E
 use Rattle.sctp_model.specs.World.{Forward}
@@ -16,8 +16,8 @@ use Rattle.sctp_link.proofs.sender.Outgoing.{network-more, bytes-more}
 use Rattle.sctp_link.proofs.skipping.SkipMade.{pairs-short, skip-says, linked-made}
 use Rattle.sctp_link.proofs.link.Link.skip.Goals as goal
 
-pub write_datagram-requires-clause-text : goal.write_datagram-requires-clause-text
-write_datagram-requires-clause-text g c =
+pub write_datagram-requires-clause-encoding : goal.write_datagram-requires-clause-encoding
+write_datagram-requires-clause-encoding g c =
     let w = world_in c.self.inside in
     let sum = g.C.Checksum.sum c.self.inside.checksum in
     let x = state_in c.self.inside in
@@ -45,4 +45,4 @@ invariant_of-self-2 g c =
     let network = network-more c.self.inside.network.items c.put.new.items.items (K.Forward place c.args.messages) c.in_ok-bytes.bytes more in
     let bytes = bytes-more c.self.inside.network.items c.put.new.items.items (K.Forward place c.args.messages) c.in_ok-bytes.bytes more in
     moved _ _ (with_datagram w (Forward place names)) (ap (λ ds. record w { network = ds }) network)
-    (rw bytes (linked-made sum x c.self.invariant place names ok f (skip-says sum x c.self.invariant place names ok ms refl refl f own pairs) c.in_ok-bytes.bytes (E.Skip c.args.upto c.args.messages) ok refl c.in_ok-bytes.ensures.text c.in_ok-bytes.ensures.reads (length-mapped (λ (d : Datagram). d.bytes) c.self.inside.network.items ∙ sym (length-mapped datagram_record c.self.inside.network.items))))
+    (rw bytes (linked-made sum x c.self.invariant place names ok f (skip-says sum x c.self.invariant place names ok ms refl refl f own pairs) c.in_ok-bytes.bytes (E.Skip c.args.upto c.args.messages) ok refl c.in_ok-bytes.ensures.encoding c.in_ok-bytes.ensures.reads (length-mapped (λ (d : Datagram). d.bytes) c.self.inside.network.items ∙ sym (length-mapped datagram_record c.self.inside.network.items))))

@@ -3,8 +3,8 @@ use Rattle.std.specs.List.{list_all}
 use Rattle.std.proofs.lemmas.Bool.Decides.{nat_tests}
 use Rattle.sctp_model.specs.Changes.{skip_counts}
 use Rattle.sctp_model.specs.Receiver.{cumulative}
-use Rattle.sctp_ties.specs.Naming.{names_fit}
-use Rattle.sctp_ties.proofs.skipping.SkipSpans.{stale-fits}
+use Rattle.sctp_refinement.specs.Naming.{names_fit}
+use Rattle.sctp_refinement.proofs.skipping.SkipSpans.{stale-fits}
 use Rattle.sctp_link.specs.Fields.{world_in, state_in}
 use Rattle.sctp_link.proofs.upkeep.Facts.{facts}
 use Rattle.sctp_link.proofs.acknowledging.Reporting.{cumulative-place}

@@ -8,8 +8,8 @@ use Rattle.sctp_link.specs.Records.{message_record}
 use Rattle.sctp_link.specs.Receiving.{LiesSomewhere, added_on}
 use Rattle.sctp_link.proofs.receiver.Hears.{come-message, slots-made, messages-made, slot-raw, message-raw}
 use Rattle.sctp_link.proofs.receiver.Spans.{lying, fits-ends}
-use Rattle.sctp_lists.proofs.Cases.{and-none}
-use Rattle.sctp_ties.proofs.arriving.SpanEnds.{lowest, highest}
+use Rattle.sctp_list_lemmas.proofs.Cases.{and-none}
+use Rattle.sctp_refinement.proofs.arriving.SpanEnds.{lowest, highest}
 use Rattle.sctp_link.proofs.link.Link.slot_fits.Goals as goal
 
 pub index-requires : goal.index-requires

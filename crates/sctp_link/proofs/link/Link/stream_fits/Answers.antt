@@ -3,7 +3,7 @@ use Rattle.std.specs.Prelude.{is_some, slice_get, slice_index_or, nat_lt}
 use Rattle.sctp_model.specs.World.{Forward, StreamRecord}
 use Rattle.sctp_model.specs.Messages.{is_open, index_of}
 use Rattle.sctp_model.specs.Receiver.{held_on, next_of, least, greatest}
-use Rattle.sctp_ties.specs.Naming.{names_fit, whole_first, min_with}
+use Rattle.sctp_refinement.specs.Naming.{names_fit, whole_first, min_with}
 use Rattle.sctp_halves.specs.Streams.{new_open_stream}
 use Rattle.sctp_link.specs.Fields.{world_in, state_in}
 use Rattle.sctp_link.specs.Records.{stream_record}

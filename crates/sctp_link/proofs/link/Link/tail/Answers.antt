@@ -1,18 +1,18 @@
 use Rattle.std.proofs.Common.{◌≡◌, ◌<◌, ◌++◌, true, ap, sym, ◌∙◌, Some, None, refl, rules, arith, length}
 use Rattle.std.specs.Prelude.{is_some}
-use Rattle.sctp_lists.proofs.Getting.{length-mapped}
+use Rattle.sctp_list_lemmas.proofs.Getting.{length-mapped}
 use Rattle.sctp_outbound.specs.pending_queue.PendingQueue.{peeked}
 use Rattle.sctp_outbound.specs.outbound_queue.OutboundQueue.{expiring_tail, message_of}
 use Rattle.sctp_model.specs.Amounts.{growth}
 use Rattle.sctp_model.specs.Changes.{tailing}
-use Rattle.sctp_model.specs.Messages.{is_half_sent}
+use Rattle.sctp_model.specs.Messages.{is_partially_sent}
 use Rattle.sctp_model.specs.declared.event.Event.TheVariants as E
-use Rattle.sctp_halves.specs.Halves.{Sides, given_up_on}
+use Rattle.sctp_halves.specs.Halves.{Sides, abandoned_on}
 use Rattle.sctp_link.specs.Fields.{state_in, world_in}
 use Rattle.sctp_link.specs.OpenStreams.{marks}
 use Rattle.sctp_link.specs.Records.{message_record}
-use Rattle.sctp_link.proofs.giving_up.Abandoning.{world-given, linked-given}
-use Rattle.sctp_link.proofs.giving_up.GivingUp.{none-tails, half-front, whole-idle, early-idle, tails, idle-tail, tail-right, lapsed, number-is, rest-fits, gives-tail}
+use Rattle.sctp_link.proofs.abandonment.Abandoning.{world-given, linked-given}
+use Rattle.sctp_link.proofs.abandonment.QueueAnswers.{none-tails, half-front, whole-idle, early-idle, tails, idle-tail, tail-right, past_deadline, number-is, rest-fits, gives-tail}
 use Rattle.sctp_link.proofs.receiver.Keeping.{on-err}
 use Rattle.sctp_link.proofs.sender.Sending.{next-is}
 use Rattle.sctp_link.proofs.link.Link.tail.Goals as goal
@@ -38,11 +38,11 @@ returns-in_err-make_room-clause-wants g c =
     let late : tailing (world_in c.self.inside) c.args.now ≡ Some c.in-Some.chunk.now.message_id = tails (g.C.Checksum.sum c.self.inside.checksum) (state_in c.self.inside) c.self.invariant c.args.now c.in-Some.chunk.now shown c.if-chunk.false (sym c.is_reached.ensures ∙ c.if-not-is_reached.false) in
     rw (← c.self.view_is) (on-err c.from_residual.result _ (ap is_some late))
 
-pub expire_tail-requires-clause-lapsed : goal.expire_tail-requires-clause-lapsed
-expire_tail-requires-clause-lapsed g c =
+pub expire_tail-requires-clause-past_deadline : goal.expire_tail-requires-clause-past_deadline
+expire_tail-requires-clause-past_deadline g c =
     let shown : peeked c.self.inside.halves.flight.queue.pending ≡ Some c.in-Some.chunk.now = search rules in
     let late : tailing (world_in c.self.inside) c.args.now ≡ Some c.in-Some.chunk.now.message_id = tails (g.C.Checksum.sum c.self.inside.checksum) (state_in c.self.inside) c.self.invariant c.args.now c.in-Some.chunk.now shown c.if-chunk.false (sym c.is_reached.ensures ∙ c.if-not-is_reached.false) in
-    lapsed (g.C.Checksum.sum c.self.inside.checksum) (state_in c.self.inside) c.self.invariant c.args.now c.in-Some.chunk.now.message_id late
+    past_deadline (g.C.Checksum.sum c.self.inside.checksum) (state_in c.self.inside) c.self.invariant c.args.now c.in-Some.chunk.now.message_id late
 
 pub expire_tail-requires-clause-next : goal.expire_tail-requires-clause-next
 expire_tail-requires-clause-next g c =
@@ -78,10 +78,10 @@ invariant_of-self-2 g c =
     let number : n ≡ c.in-Some.chunk.now.message_id = number-is sum x l now c.in-Some.chunk.now.message_id late n c.in_ok-stream.ensures.number in
     let made : n < length (world_in c.self.inside).messages = let m = (next-is sum x l c.in-Some.chunk.now shown).made in omega (arith, m, number) in
     let due : tailing (world_in c.self.inside) now ≡ Some n = late ∙ ap Some (sym number) in
-    let then' : Sides = given_up_on (message_of (expiring_tail now c.self.inside.halves.flight.queue)) s bytes c.self.inside.halves in
+    let then' : Sides = abandoned_on (message_of (expiring_tail now c.self.inside.halves.flight.queue)) s bytes c.self.inside.halves in
     let left = rw c.in_ok-stream.ensures.ok at c.in_ok-stream.ensures.released in
     let r = gives-tail sum x l now n due s bytes then'.flight.queue then'.flight.next_tsn made c.in_ok-stream.ensures.stream refl refl left in
-    let half : true ≡ is_half_sent (world_in c.self.inside) n = half-front sum x l now c.in-Some.chunk.now shown c.if-chunk.false ∙ ap (is_half_sent (world_in c.self.inside)) (sym number) in
+    let half : true ≡ is_partially_sent (world_in c.self.inside) n = half-front sum x l now c.in-Some.chunk.now shown c.if-chunk.false ∙ ap (is_partially_sent (world_in c.self.inside)) (sym number) in
     let more : c.settle.new.slots.items ≡ c.self.inside.slots.items ++ marks true n c.index_mut-message.result.now.sent = c.settle.ensures.slots ∙ ap (λ a. a ++ marks true n c.index_mut-message.result.now.sent) c.make_room.ensures.items in
     rw c.in_ok-stream.ensures.ok
     (linked-given sum x l (E.Tail now) refl n s bytes then'.flight.queue then'.flight.next_tsn r tt tt refl refl
@@ -101,10 +101,10 @@ returns-clause-ok g c =
     let number : n ≡ c.in-Some.chunk.now.message_id = number-is sum x l now c.in-Some.chunk.now.message_id late n c.in_ok-stream.ensures.number in
     let made : n < length (world_in c.self.inside).messages = let m = (next-is sum x l c.in-Some.chunk.now shown).made in omega (arith, m, number) in
     let due : tailing (world_in c.self.inside) now ≡ Some n = late ∙ ap Some (sym number) in
-    let then' : Sides = given_up_on (message_of (expiring_tail now c.self.inside.halves.flight.queue)) s bytes c.self.inside.halves in
+    let then' : Sides = abandoned_on (message_of (expiring_tail now c.self.inside.halves.flight.queue)) s bytes c.self.inside.halves in
     let left = rw c.in_ok-stream.ensures.ok at c.in_ok-stream.ensures.released in
     let r = gives-tail sum x l now n due s bytes then'.flight.queue then'.flight.next_tsn made c.in_ok-stream.ensures.stream refl refl left in
-    let half : true ≡ is_half_sent (world_in c.self.inside) n = half-front sum x l now c.in-Some.chunk.now shown c.if-chunk.false ∙ ap (is_half_sent (world_in c.self.inside)) (sym number) in
+    let half : true ≡ is_partially_sent (world_in c.self.inside) n = half-front sum x l now c.in-Some.chunk.now shown c.if-chunk.false ∙ ap (is_partially_sent (world_in c.self.inside)) (sym number) in
     let more : c.settle.new.slots.items ≡ c.self.inside.slots.items ++ marks true n c.index_mut-message.result.now.sent = c.settle.ensures.slots ∙ ap (λ a. a ++ marks true n c.index_mut-message.result.now.sent) c.make_room.ensures.items in
     rw (c.in_ok-stream.ensures.ok, ← c.self.view_is) (record {
       right = tail-right sum x l now n s bytes due r.stream (r.grows ∙ ap (growth (world_in c.self.inside)) (sym r.is));

@@ -1,5 +1,5 @@
 use Rattle.std.proofs.Common.{◌≡◌, ◌<◌, ◌++◌, ◌∷◌, ◌+◌, [], length, map, rules, refl, ap, None, Some, ◌∙◌, sym, arith}
-use Rattle.sctp_lists.specs.Lists.{pieces}
+use Rattle.sctp_list_lemmas.specs.Lists.{pieces}
 use Rattle.sctp_transfer.specs.Sender.{Transmission}
 use Rattle.sctp_model.specs.declared.event.Event.TheVariants as E
 use Rattle.sctp_model.specs.Steps.{refusal_of, fragments_in}

@@ -6,7 +6,7 @@ use Rattle.sctp_chunks.specs.declared.chunk.chunk_kind.ChunkKind.TheVariants as 
 use Rattle.sctp_outbound.specs.pending_queue.PendingQueue.{peeked}
 use Rattle.sctp_outbound.specs.outbound_queue.OutboundQueue.{after_sends, following_tsn}
 use Rattle.sctp_model.specs.Changes.{chunk_length}
-use Rattle.sctp_ties.specs.Filling.{under, further, chunks_taken}
+use Rattle.sctp_refinement.specs.Filling.{under, further, chunks_taken}
 use Rattle.sctp_link.proofs.sender.Ahead.{begins, goes-on, stops-none, stops-full}
 use Rattle.sctp_link.proofs.link.fragments.next_chunks.Goals as goal
 

@@ -1,5 +1,5 @@
 use Rattle.std.proofs.Common.{◌≡◌}
-use Rattle.sctp_lists.specs.Kept.{numbers_from}
+use Rattle.sctp_list_lemmas.specs.Kept.{numbers_from}
 use Rattle.sctp_link.proofs.link.fragments.places_from.Given as goal
 
 abbrev pub invariant-loop-at : goal.invariant-loop-at

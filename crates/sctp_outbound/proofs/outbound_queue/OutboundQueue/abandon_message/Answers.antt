@@ -1,16 +1,16 @@
 use Rattle.std.proofs.Common.{refl, sym, ap, ◌∙◌, arith}
-use Rattle.sctp_outbound.specs.Marks.{is_of, given_up}
+use Rattle.sctp_outbound.specs.Marks.{is_of, as_abandoned}
 use Rattle.sctp_outbound.specs.outbound_queue.OutboundQueue.{Outbound, abandoned}
 use Rattle.sctp_outbound.proofs.lemmas.outbound_queue.Abandoned.{abandoned_none, abandoned_room}
 use Rattle.sctp_outbound.proofs.lemmas.outbound_queue.Sendable.{sendable-marked}
-use Rattle.sctp_outbound.proofs.lemmas.pending_queue.Whole.{KeepsMessage}
+use Rattle.sctp_outbound.proofs.lemmas.pending_queue.CompleteMessages.{KeepsMessage}
 use Rattle.sctp_outbound.proofs.outbound_queue.OutboundQueue.abandon_message.Goals as goal
 
 pub invariant_of-self : goal.invariant_of-self
 invariant_of-self c =
-    let keeps : KeepsMessage given_up = record { number = λ _. refl; begins = λ _. refl; ends = λ _. refl; kind = λ _. refl } in
+    let keeps : KeepsMessage as_abandoned = record { number = λ _. refl; begins = λ _. refl; ends = λ _. refl; kind = λ _. refl } in
     record {
-      sendable = rw c.abandon_message.ensures.abandoned (sendable-marked _ _ _ (is_of c.args.message_id) given_up keeps c.self.invariant.sendable);
+      sendable = rw c.abandon_message.ensures.abandoned (sendable-marked _ _ _ (is_of c.args.message_id) as_abandoned keeps c.self.invariant.sendable);
       fits = omega (arith, c.abandon_message.ensures.left, c.self.invariant.fits);
     }
 

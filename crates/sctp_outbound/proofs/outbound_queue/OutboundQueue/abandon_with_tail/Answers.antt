@@ -1,8 +1,8 @@
 use Rattle.std.proofs.Common.{◌≡◌, true, false, length, refl, sym, ◌∙◌, subst, arith}
 use Rattle.sctp_chunks.specs.declared.chunk.chunk_payload_data.ChunkPayloadData.{ChunkPayloadData}
-use Rattle.sctp_lists.proofs.Edits.{sum_by-inserted}
-use Rattle.sctp_outbound.specs.Marks.{is_of, given_up}
-use Rattle.sctp_outbound.specs.outbound_queue.OutboundQueue.{end_mark}
+use Rattle.sctp_list_lemmas.proofs.Edits.{sum_by-inserted}
+use Rattle.sctp_outbound.specs.Marks.{is_of, as_abandoned}
+use Rattle.sctp_outbound.specs.outbound_queue.OutboundQueue.{terminal_chunk}
 use Rattle.sctp_serial.specs.DataChunks.{chunk_before}
 use Rattle.sctp_outbound.specs.pending_queue.Whole.{waits}
 use Rattle.sctp_serial.specs.Window.{SpansOneWindow, is_held}
@@ -17,18 +17,18 @@ unreachable-requires c =
 pub push_no_check-requires-clause-fresh : goal.push_no_check-requires-clause-fresh
 push_no_check-requires-clause-fresh c =
     let fresh = subst (λ q. is_held q.inflight.chunks c.args.tsn ≡ false) (sym c.self.view_is) c.requires.fresh in
-    rw c.abandon_message-in_flight.ensures.abandoned (is_held-change_where (is_of c.args.message_id) given_up (λ _. refl) c.args.tsn c.self.inside.inflight.chunks ∙ fresh)
+    rw c.abandon_message-in_flight.ensures.abandoned (is_held-change_where (is_of c.args.message_id) as_abandoned (λ _. refl) c.args.tsn c.self.inside.inflight.chunks ∙ fresh)
 
 pub push_no_check-requires-clause-window : goal.push_no_check-requires-clause-window
 push_no_check-requires-clause-window c =
     let window = subst (λ q. SpansOneWindow q.inflight.chunks c.args.tsn) (sym c.self.view_is) c.requires.window in
-    rw c.abandon_message-in_flight.ensures.abandoned (window-change_where (is_of c.args.message_id) given_up (λ _. refl) c.args.tsn c.self.inside.inflight.chunks window)
+    rw c.abandon_message-in_flight.ensures.abandoned (window-change_where (is_of c.args.message_id) as_abandoned (λ _. refl) c.args.tsn c.self.inside.inflight.chunks window)
 
 pub invariant_of-self : goal.invariant_of-self
 invariant_of-self c =
     let q = c.self.inside.pending in
     let tail = subst (λ r. waits c.args.message_id r.pending ≡ true) (sym c.self.view_is) c.requires.tail in
-    let t = end_mark c.args.tsn c.in-Some.mark in
+    let t = terminal_chunk c.args.tsn c.in-Some.mark in
     let same = last_is_of c.args.message_id q c.in-Some.mark (sym c.remove_message-pending.ensures.last ∙ c.in-Some.is) in
     let more = sum_by-inserted (λ (y : ChunkPayloadData). length y.user_data) chunk_before t c.abandon_message-in_flight.new.self.chunks in
     rw (c.in-Ok.ensures.ok, c.clear.ensures) record {
@@ -38,6 +38,6 @@ invariant_of-self c =
 
 pub returns-clause-released : goal.returns-clause-released
 returns-clause-released c =
-    let t = end_mark c.args.tsn c.in-Some.mark in
+    let t = terminal_chunk c.args.tsn c.in-Some.mark in
     let more = sum_by-inserted (λ (y : ChunkPayloadData). length y.user_data) chunk_before t c.abandon_message-in_flight.new.self.chunks in
     rw (← c.self.view_is, c.in-Ok.ensures.ok, c.clear.ensures) (omega (arith, c.remove_message-pending.ensures.left, c.abandon_message-in_flight.ensures.left))

@@ -1,5 +1,5 @@
 use Rattle.std.proofs.Common.{◌≡◌, map, take}
-use Rattle.sctp_lists.specs.Lists.{those}
+use Rattle.sctp_list_lemmas.specs.Lists.{those}
 use Rattle.sctp_outbound.specs.outbound_queue.OutboundQueue.{is_late}
 use Rattle.sctp_outbound.proofs.outbound_queue.OutboundQueue.expired_inflight.Given as goal
 

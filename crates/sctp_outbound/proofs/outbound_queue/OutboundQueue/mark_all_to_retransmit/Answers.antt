@@ -2,7 +2,7 @@ use Rattle.std.proofs.Common.{true, refl, arith}
 use Rattle.sctp_outbound.specs.Marks.{is_outstanding, with_retransmit}
 use Rattle.sctp_outbound.proofs.lemmas.outbound_queue.Sendable.{sendable-marked}
 use Rattle.sctp_outbound.proofs.lemmas.pending_queue.Waiting.{bytes_of-change_where}
-use Rattle.sctp_outbound.proofs.lemmas.pending_queue.Whole.{KeepsMessage}
+use Rattle.sctp_outbound.proofs.lemmas.pending_queue.CompleteMessages.{KeepsMessage}
 use Rattle.sctp_outbound.proofs.outbound_queue.OutboundQueue.mark_all_to_retransmit.Goals as goal
 
 pub invariant_of-self : goal.invariant_of-self

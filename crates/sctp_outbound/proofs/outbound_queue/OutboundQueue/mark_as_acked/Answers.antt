@@ -2,7 +2,7 @@ use Rattle.std.proofs.Common.{refl, arith}
 use Rattle.sctp_outbound.specs.Marks.{acknowledged}
 use Rattle.sctp_serial.specs.DataChunks.{has_tsn}
 use Rattle.sctp_outbound.proofs.lemmas.outbound_queue.Sendable.{sendable-marked}
-use Rattle.sctp_outbound.proofs.lemmas.pending_queue.Whole.{KeepsMessage}
+use Rattle.sctp_outbound.proofs.lemmas.pending_queue.CompleteMessages.{KeepsMessage}
 use Rattle.sctp_outbound.proofs.outbound_queue.OutboundQueue.mark_as_acked.Goals as goal
 
 pub invariant_of-self : goal.invariant_of-self

@@ -3,7 +3,7 @@ use Rattle.sctp_outbound.specs.Marks.{with_retransmit}
 use Rattle.sctp_serial.specs.DataChunks.{has_tsn}
 use Rattle.sctp_outbound.proofs.lemmas.outbound_queue.Sendable.{sendable-marked}
 use Rattle.sctp_outbound.proofs.lemmas.pending_queue.Waiting.{bytes_of-change_where}
-use Rattle.sctp_outbound.proofs.lemmas.pending_queue.Whole.{KeepsMessage}
+use Rattle.sctp_outbound.proofs.lemmas.pending_queue.CompleteMessages.{KeepsMessage}
 use Rattle.sctp_outbound.proofs.outbound_queue.OutboundQueue.set_retransmit.Goals as goal
 
 pub invariant_of-self : goal.invariant_of-self

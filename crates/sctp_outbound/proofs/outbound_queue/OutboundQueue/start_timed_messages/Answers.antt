@@ -3,7 +3,7 @@ use Rattle.sctp_outbound.specs.pending_queue.PendingQueue.{is_to_start, with_dea
 use Rattle.sctp_outbound.specs.pending_queue.Whole.{stage_of}
 use Rattle.sctp_outbound.proofs.lemmas.outbound_queue.Sendable.{sendable-changed}
 use Rattle.sctp_outbound.proofs.lemmas.pending_queue.Waiting.{bytes_of-change_where}
-use Rattle.sctp_outbound.proofs.lemmas.pending_queue.Whole.{KeepsMessage, numbers_ascend}
+use Rattle.sctp_outbound.proofs.lemmas.pending_queue.CompleteMessages.{KeepsMessage, numbers_ascend}
 use Rattle.sctp_outbound.proofs.outbound_queue.OutboundQueue.start_timed_messages.Goals as goal
 
 pub start_latest_messages-requires-clause-ordered : goal.start_latest_messages-requires-clause-ordered

@@ -1,9 +1,9 @@
 use Rattle.std.proofs.Common.{◌≡◌, ◌<◌, length, length-set, get_or, set, refl, sym, ap, ◌∙◌, arith}
 use Rattle.std.proofs.lemmas.Bool.Decides.{nat_tests}
 use Rattle.std.proofs.lemmas.List.Sums.{sum_by-set}
-use Rattle.sctp_outbound.specs.Marks.{is_of, given_up}
+use Rattle.sctp_outbound.specs.Marks.{is_of, as_abandoned}
 use Rattle.sctp_serial.proofs.lemmas.Serials.{serial_set_of}
-use Rattle.sctp_lists.proofs.Edits.{changed_step, unchanged_step}
+use Rattle.sctp_list_lemmas.proofs.Edits.{changed_step, unchanged_step}
 use Rattle.sctp_outbound.proofs.payload_queue.PayloadQueue.abandon_message.Goals as goal
 
 pub loop-place-preserved : goal.loop-place-preserved
@@ -15,12 +15,12 @@ loop-place-preserved c =
     let within : i < length xs = omega arith in
     let short : i < length ys = omega (arith, c.loop-place.invariant.same_length) in
     let read = sym c.look.ensures.value in
-    let bytes = sum_by-set (λ (x : _). length x.user_data) ys i (given_up (get_or ys i x)) x short in
+    let bytes = sum_by-set (λ (x : _). length x.user_data) ys i (as_abandoned (get_or ys i x)) x short in
     let same : (get_or ys i x) ≡ x = read in
     rw (c.mark.ensures.changed x) record {
-      changed = ap (λ u. set ys i (given_up u)) same ∙ changed_step (is_of c.args.message_id) given_up xs ys i x within c.loop-place.invariant.changed c.look.ensures.value (grind (arith, nat_tests, c.if-look-message_id.false));
+      changed = ap (λ u. set ys i (as_abandoned u)) same ∙ changed_step (is_of c.args.message_id) as_abandoned xs ys i x within c.loop-place.invariant.changed c.look.ensures.value (grind (arith, nat_tests, c.if-look-message_id.false));
       same_length = length-set ys i _ ∙ c.loop-place.invariant.same_length;
-      serial = serial_set_of given_up (λ _. refl) ys i x short c.loop-place.invariant.serial;
+      serial = serial_set_of as_abandoned (λ _. refl) ys i x short c.loop-place.invariant.serial;
       counted = omega (arith, c.loop-place.invariant.counted, c.mark.ensures.left x);
       fewer = omega (arith, c.loop-place.invariant.fewer);
       room = c.loop-place.invariant.room;
@@ -33,7 +33,7 @@ loop-place-preserved-then-look-message_id c =
     let ys = c.loop-place.self-inside.held.chunks in
     let within : c.loop-place.place < length xs = omega arith in
     record {
-      changed = unchanged_step (is_of c.args.message_id) given_up xs ys c.loop-place.place c.look.result.now within c.loop-place.invariant.changed c.look.ensures.value (grind (arith, nat_tests, c.if-look-message_id.true));
+      changed = unchanged_step (is_of c.args.message_id) as_abandoned xs ys c.loop-place.place c.look.result.now within c.loop-place.invariant.changed c.look.ensures.value (grind (arith, nat_tests, c.if-look-message_id.true));
       same_length = c.loop-place.invariant.same_length;
       serial = c.loop-place.invariant.serial;
       counted = c.loop-place.invariant.counted;

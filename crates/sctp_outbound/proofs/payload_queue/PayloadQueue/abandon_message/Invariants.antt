@@ -1,13 +1,13 @@
 use Rattle.std.proofs.Common.{◌≡◌, ◌++◌, ◌≤◌, length, take, drop}
-use Rattle.sctp_lists.specs.Lists.{change_where}
-use Rattle.sctp_outbound.specs.Marks.{is_of, given_up}
+use Rattle.sctp_list_lemmas.specs.Lists.{change_where}
+use Rattle.sctp_outbound.specs.Marks.{is_of, as_abandoned}
 use Rattle.sctp_serial.specs.Window.{IsSerial}
 use Rattle.sctp_serial.specs.DataChunks.{bytes_of}
 use Rattle.sctp_outbound.proofs.payload_queue.PayloadQueue.abandon_message.Given as goal
 
 abbrev pub invariant-loop-place : goal.invariant-loop-place
 invariant-loop-place l = record {
-  changed : l.self-inside.held.chunks ≡ change_where (is_of l.message_id) given_up (take l.place l.initial.self-inside.held.chunks) ++ drop l.place l.initial.self-inside.held.chunks;
+  changed : l.self-inside.held.chunks ≡ change_where (is_of l.message_id) as_abandoned (take l.place l.initial.self-inside.held.chunks) ++ drop l.place l.initial.self-inside.held.chunks;
   same_length : length l.self-inside.held.chunks ≡ length l.initial.self-inside.held.chunks;
   serial : IsSerial l.self-inside.held.chunks;
   counted : l.self-inside.n_bytes ≡ bytes_of l.self-inside.held.chunks;

@@ -9,9 +9,9 @@ use Rattle.std.proofs.lemmas.List.Elements.{All-push}
 use Rattle.std.proofs.lemmas.List.Quantifiers.{all_pairs_push}
 use Rattle.sctp_chunks.specs.declared.chunk.chunk_payload_data.ChunkPayloadData.{ChunkPayloadData}
 use Rattle.sctp_chunks.specs.declared.chunk.chunk_selective_ack.GapAckBlock.{GapAckBlock}
-use Rattle.sctp_lists.specs.Kept.{runs_of}
-use Rattle.sctp_lists.specs.Serial.{distance}
-use Rattle.sctp_lists.proofs.Edits.{list_any-append}
+use Rattle.sctp_list_lemmas.specs.Kept.{runs_of}
+use Rattle.sctp_list_lemmas.specs.Serial.{distance}
+use Rattle.sctp_list_lemmas.proofs.Edits.{list_any-append}
 use Rattle.sctp_outbound.specs.payload_queue.Blocks.{BlocksAscend, Reports, is_in_block, is_reported, covered, gap_offsets, ends_of, is_offset}
 use Rattle.sctp_outbound.proofs.lemmas.payload_queue.Gaps.{InReach, or_false, runs_more, covered_more, run_distances, run_apart, front_offsets, front_reported, rest_offsets, rest_reported, out_from, front_runs}
 use Rattle.sctp_outbound.proofs.payload_queue.PayloadQueue.get_gap_ack_blocks_counted.Goals as goal

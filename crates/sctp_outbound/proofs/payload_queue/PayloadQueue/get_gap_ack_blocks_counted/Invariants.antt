@@ -2,8 +2,8 @@ use Rattle.std.proofs.Common.{◌≡◌, ℕ, ◌+◌, ◌-◌, ◌*◌, ◌^◌
 use Rattle.std.specs.Prelude.{IfSome}
 use Rattle.std.specs.List.{All, list_any}
 use Rattle.sctp_chunks.specs.declared.chunk.chunk_payload_data.ChunkPayloadData.{ChunkPayloadData}
-use Rattle.sctp_lists.specs.Kept.{runs_of}
-use Rattle.sctp_lists.specs.Serial.{distance}
+use Rattle.sctp_list_lemmas.specs.Kept.{runs_of}
+use Rattle.sctp_list_lemmas.specs.Serial.{distance}
 use Rattle.sctp_serial.specs.Turns.{IsWithinDigits}
 use Rattle.sctp_outbound.specs.payload_queue.Blocks.{AscendsFrom, BlocksAscend, covered, is_reported, gap_offsets, ends_of}
 use Rattle.sctp_outbound.proofs.payload_queue.PayloadQueue.get_gap_ack_blocks_counted.Given as goal

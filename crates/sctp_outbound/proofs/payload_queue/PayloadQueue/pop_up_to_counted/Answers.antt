@@ -2,7 +2,7 @@ use Rattle.std.proofs.Common.{◌<◌, ◌∙◌, not, length, sym, ap, arith}
 use Rattle.std.proofs.lemmas.List.Edits.{length-remove}
 use Rattle.std.proofs.lemmas.List.Sums.{sum_by-remove}
 use Rattle.sctp_serial.proofs.lemmas.Serials.{serial_remove}
-use Rattle.sctp_lists.proofs.Edits.{removed_step}
+use Rattle.sctp_list_lemmas.proofs.Edits.{removed_step}
 use Rattle.sctp_outbound.proofs.payload_queue.PayloadQueue.pop_up_to_counted.Goals as goal
 
 pub loop-place-preserved-then-sna32lte : goal.loop-place-preserved-then-sna32lte

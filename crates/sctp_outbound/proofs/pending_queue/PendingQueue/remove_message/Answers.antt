@@ -1,6 +1,6 @@
 use Rattle.std.proofs.Common.{ap₂, sym, ◌∙◌}
 use Rattle.std.specs.Option.{option_or}
-use Rattle.sctp_lists.specs.Lists.{those}
+use Rattle.sctp_list_lemmas.specs.Lists.{those}
 use Rattle.sctp_outbound.specs.Marks.{is_of}
 use Rattle.sctp_outbound.proofs.lemmas.pending_queue.Waiting.{last_of-append}
 use Rattle.sctp_outbound.proofs.pending_queue.PendingQueue.remove_message.Goals as goal

@@ -1,7 +1,7 @@
 use Rattle.std.proofs.Common.{◌≡◌, ◌+◌, ◌-◌, ◌<◌, false, length, take, subst, arith}
 use Rattle.std.specs.List.{All}
 use Rattle.sctp_outbound.specs.pending_queue.PendingQueue.{is_to_start}
-use Rattle.sctp_outbound.proofs.lemmas.pending_queue.Whole.{none_to_start}
+use Rattle.sctp_outbound.proofs.lemmas.pending_queue.CompleteMessages.{none_to_start}
 use Rattle.sctp_outbound.proofs.pending_queue.line.place_of.Goals as goal
 
 pub returns-then-index-first_message_id-clause-before : goal.returns-then-index-first_message_id-clause-before

@@ -1,11 +1,11 @@
 use Rattle.std.proofs.Common.{◌≡◌, ◌<◌, ◌++◌, not, true, length, drop, remove, sym, ap, ◌∙◌, arith, option_to_list}
-use Rattle.sctp_lists.specs.Lists.{those}
+use Rattle.sctp_list_lemmas.specs.Lists.{those}
 use Rattle.std.proofs.lemmas.Bool.Decides.{nat_tests}
 use Rattle.std.proofs.lemmas.List.{get_or_default}
 use Rattle.std.proofs.lemmas.List.Edits.{length-remove}
 use Rattle.std.proofs.lemmas.List.Sums.{sum_by-cons, sum_by-remove}
 use Rattle.sctp_chunks.specs.declared.chunk.chunk_payload_data.ChunkPayloadData.{ChunkPayloadData}
-use Rattle.sctp_lists.proofs.Edits.{removed_step, removed_next}
+use Rattle.sctp_list_lemmas.proofs.Edits.{removed_step, removed_next}
 use Rattle.sctp_serial.specs.DataChunks.{bytes_of}
 use Rattle.sctp_outbound.specs.pending_queue.PendingQueue.{last_of}
 use Rattle.sctp_outbound.specs.Marks.{is_of}

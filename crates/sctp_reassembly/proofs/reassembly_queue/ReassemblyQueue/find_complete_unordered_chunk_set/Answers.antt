@@ -3,9 +3,9 @@ use Rattle.sctp_chunks.specs.ChunkSet.{ChunkSet}
 use Rattle.sctp_reassembly.specs.declared.reassembly_queue.chunks.Chunks.{Chunks}
 use Rattle.sctp_serial.specs.DataChunks.{bytes_of}
 use Rattle.sctp_reassembly.specs.reassembly_queue.ReassemblyQueue.{IsCounted}
-use Rattle.sctp_reassembly.proofs.lemmas.reassembly_queue.CountLemmas.{run_bytes, taken_bytes}
+use Rattle.sctp_reassembly.proofs.lemmas.reassembly_queue.ByteCounts.{run_bytes, taken_bytes}
 use Rattle.sctp_serial.specs.Runs.{HasNoRun}
-use Rattle.sctp_reassembly.proofs.lemmas.reassembly_queue.SetLemmas.{state_of}
+use Rattle.sctp_reassembly.proofs.lemmas.reassembly_queue.ChunkSets.{state_of}
 use Rattle.sctp_reassembly.proofs.reassembly_queue.ReassemblyQueue.find_complete_unordered_chunk_set.Goals as goal
 
 pub returns-in_default-clause-ok : goal.returns-in_default-clause-ok

@@ -1,9 +1,9 @@
 use Rattle.std.proofs.Common.{◌-◌, ap₂, ◌∙◌, sym, subst, ap}
-use Rattle.sctp_lists.specs.Lists.{those}
+use Rattle.sctp_list_lemmas.specs.Lists.{those}
 use Rattle.sctp_reassembly.specs.reassembly_queue.ReassemblyQueue.{is_passed, set_bytes}
-use Rattle.sctp_reassembly.proofs.lemmas.reassembly_queue.SetLemmas.{state_of}
+use Rattle.sctp_reassembly.proofs.lemmas.reassembly_queue.ChunkSets.{state_of}
 use Rattle.sctp_reassembly.specs.reassembly_queue.ReassemblyQueue.{ReassemblyState, IsCounted, complete_sets}
-use Rattle.sctp_reassembly.proofs.lemmas.reassembly_queue.CountLemmas.{skip_counted, skip_complete}
+use Rattle.sctp_reassembly.proofs.lemmas.reassembly_queue.ByteCounts.{skip_counted, skip_complete}
 use Rattle.sctp_reassembly.proofs.reassembly_queue.ReassemblyQueue.forward_tsn_for_ordered.Goals as goal
 
 pub returns-clause-value : goal.returns-clause-value

@@ -1,11 +1,11 @@
 use Rattle.std.proofs.Common.{◌-◌, if◌then◌else◌, ap, ap₂, ◌∙◌, sym, subst}
-use Rattle.sctp_lists.specs.Serial.{comes_before16}
-use Rattle.sctp_lists.specs.Lists.{those}
+use Rattle.sctp_list_lemmas.specs.Serial.{comes_before16}
+use Rattle.sctp_list_lemmas.specs.Lists.{those}
 use Rattle.sctp_reassembly.specs.reassembly_queue.ReassemblyQueue.{set_bytes}
 use Rattle.sctp_reassembly.specs.reassembly_queue.Skips.{is_abandoned, goal_of}
-use Rattle.sctp_reassembly.proofs.lemmas.reassembly_queue.SetLemmas.{state_of}
+use Rattle.sctp_reassembly.proofs.lemmas.reassembly_queue.ChunkSets.{state_of}
 use Rattle.sctp_reassembly.specs.reassembly_queue.ReassemblyQueue.{ReassemblyState, IsCounted, complete_sets}
-use Rattle.sctp_reassembly.proofs.lemmas.reassembly_queue.CountLemmas.{bounded_counted, bounded_complete}
+use Rattle.sctp_reassembly.proofs.lemmas.reassembly_queue.ByteCounts.{bounded_counted, bounded_complete}
 use Rattle.sctp_reassembly.proofs.reassembly_queue.ReassemblyQueue.forward_tsn_for_ordered_bounded.Goals as goal
 
 pub returns-clause-value : goal.returns-clause-value

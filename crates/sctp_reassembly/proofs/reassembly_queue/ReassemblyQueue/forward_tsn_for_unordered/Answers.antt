@@ -1,12 +1,12 @@
 use Rattle.std.proofs.Common.{◌≡◌, ◌-◌, not, take, drop, sym, ap, ap₂, ◌∙◌, subst}
 use Rattle.std.specs.List.{position_or_len}
-use Rattle.sctp_lists.specs.Serial.{at_or_before}
-use Rattle.sctp_lists.specs.Lists.{after_leading}
+use Rattle.sctp_list_lemmas.specs.Serial.{at_or_before}
+use Rattle.sctp_list_lemmas.specs.Lists.{after_leading}
 use Rattle.sctp_serial.specs.DataChunks.{bytes_of}
-use Rattle.sctp_serial.proofs.lemmas.ListLemmas.{after_leading-position}
-use Rattle.sctp_reassembly.proofs.lemmas.reassembly_queue.SetLemmas.{state_of, leading_upto-position}
+use Rattle.sctp_serial.proofs.lemmas.ListEdits.{after_leading-position}
+use Rattle.sctp_reassembly.proofs.lemmas.reassembly_queue.ChunkSets.{state_of, leading_upto-position}
 use Rattle.sctp_reassembly.specs.reassembly_queue.ReassemblyQueue.{IsCounted}
-use Rattle.sctp_reassembly.proofs.lemmas.reassembly_queue.CountLemmas.{drop_counted}
+use Rattle.sctp_reassembly.proofs.lemmas.reassembly_queue.ByteCounts.{drop_counted}
 use Rattle.sctp_reassembly.proofs.reassembly_queue.ReassemblyQueue.forward_tsn_for_unordered.Goals as goal
 
 pub returns-clause-value : goal.returns-clause-value
@@ -15,10 +15,10 @@ returns-clause-value c =
     let t = c.args.new_cumulative_tsn in
     let xs = q.unordered_chunks in
     let k = c.front_upto-count.result in
-    let at : k ≡ position_or_len (λ x. not (at_or_before x.tsn t)) xs = c.front_upto-count.ensures.place ∙ ap (position_or_len (λ x. not (at_or_before x.tsn t))) c.loose-loose.ensures in
+    let at : k ≡ position_or_len (λ x. not (at_or_before x.tsn t)) xs = c.front_upto-count.ensures.place ∙ ap (position_or_len (λ x. not (at_or_before x.tsn t))) c.unassembled-unassembled.ensures in
     let left : c.drop_front.new.self ≡ after_leading (λ x. at_or_before x.tsn t) xs = c.drop_front.ensures ∙ ap (λ i. drop i xs) at ∙ sym (after_leading-position (λ x. at_or_before x.tsn t) xs) in
     let gone = ap (λ i. take i xs) at ∙ leading_upto-position t xs in
-    let counted = rw c.loose-loose.ensures at c.bytes_of_front-gone.ensures in
+    let counted = rw c.unassembled-unassembled.ensures at c.bytes_of_front-gone.ensures in
     rw (← c.self.view_is) (c.release.ensures (bytes_of (take k xs)) counted
     ∙ ap₂ (λ ls ds. state_of q.si q.next_ssn q.ordered q.unordered.items ls (q.n_bytes - bytes_of ds) q.max_message_size) left gone)
 

@@ -1,6 +1,6 @@
 use Rattle.std.proofs.Common.{sym, subst}
 use Rattle.sctp_reassembly.specs.reassembly_queue.ReassemblyQueue.{IsCounted}
-use Rattle.sctp_reassembly.proofs.lemmas.reassembly_queue.CountLemmas.{ordered_counted, unordered_counted, either, either_of}
+use Rattle.sctp_reassembly.proofs.lemmas.reassembly_queue.ByteCounts.{ordered_counted, unordered_counted, either, either_of}
 use Rattle.sctp_reassembly.proofs.reassembly_queue.ReassemblyQueue.push.Goals as goal
 
 pub returns-then-chunk-clause-counted : goal.returns-then-chunk-clause-counted

@@ -2,7 +2,7 @@ use Rattle.std.proofs.Common.{◌∷◌, ◌++◌, [], List, ap, ap₂, subst, �
 use Rattle.sctp_chunks.specs.ChunkSet.{ChunkSet}
 use Rattle.sctp_serial.specs.Runs.{HasNoRun}
 use Rattle.sctp_reassembly.specs.reassembly_queue.ReassemblyQueue.{Reassembly, set_of_run, count_up}
-use Rattle.sctp_reassembly.proofs.lemmas.reassembly_queue.SetLemmas.{state_of}
+use Rattle.sctp_reassembly.proofs.lemmas.reassembly_queue.ChunkSets.{state_of}
 use Rattle.sctp_reassembly.proofs.reassembly_queue.ReassemblyQueue.push_unordered.Goals as goal
 
 pub returns-in-None-clause-ok : goal.returns-in-None-clause-ok
@@ -13,7 +13,7 @@ returns-in-None-clause-ok c =
     rw (← c.self.view_is) (
       (
         subst HasNoRun h.1 h.0,
-        ap₂ (λ us ls. let r : Reassembly = record { next_ssn = q.next_ssn; ordered = q.ordered; unordered = us; loose = ls } in r) c.in_ok-reserve.ensures.items h.1,
+        ap₂ (λ us ls. let r : Reassembly = record { next_ssn = q.next_ssn; ordered = q.ordered; unordered = us; unassembled = ls } in r) c.in_ok-reserve.ensures.items h.1,
       ),
       ap (λ b. state_of q.si q.next_ssn q.ordered c.reserve.new.self.items c.put.new.self b q.max_message_size) counted,
     )
@@ -29,7 +29,7 @@ returns-in-Some-clause-ok c =
         first = h.first;
         count = h.count;
         run = h.run;
-        moved = ap₂ (λ us ls. let r : Reassembly = record { next_ssn = q.next_ssn; ordered = q.ordered; unordered = us; loose = ls } in r) more h.rest;
+        moved = ap₂ (λ us ls. let r : Reassembly = record { next_ssn = q.next_ssn; ordered = q.ordered; unordered = us; unassembled = ls } in r) more h.rest;
       },
       ap (λ b. state_of q.si q.next_ssn q.ordered c.push_back_reserved.new.self.items c.put.new.self b q.max_message_size) counted,
     )

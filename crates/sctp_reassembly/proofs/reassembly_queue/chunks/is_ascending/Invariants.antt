@@ -1,6 +1,6 @@
 use Rattle.std.proofs.Common.{◌^◌, ◌<◌}
 use Rattle.sctp_chunks.specs.declared.chunk.chunk_payload_data.ChunkPayloadData.{ChunkPayloadData}
-use Rattle.sctp_serial.proofs.lemmas.Ascending.{IsRising}
+use Rattle.sctp_serial.proofs.lemmas.AscendingEdits.{IsRising}
 use Rattle.sctp_reassembly.proofs.reassembly_queue.chunks.is_ascending.Given as goal
 
 abbrev pub invariant-loop-place : goal.invariant-loop-place

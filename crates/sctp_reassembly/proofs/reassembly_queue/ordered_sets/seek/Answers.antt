@@ -3,10 +3,10 @@ use Rattle.std.specs.List.Sorted.{IsPartitionPoint}
 use Rattle.std.proofs.lemmas.Bool.Decides.{nat_tests}
 use Rattle.std.proofs.lemmas.List.{get_or_default, nil_from_length}
 use Rattle.sctp_chunks.specs.ChunkSet.{ChunkSet}
-use Rattle.sctp_lists.specs.Serial.{distance}
+use Rattle.sctp_list_lemmas.specs.Serial.{distance}
 use Rattle.sctp_reassembly.specs.reassembly_queue.Fragments.{has_ssn, set_before}
 use Rattle.sctp_serial.specs.Ascending.{IsInsertion, upper_half}
-use Rattle.sctp_serial.proofs.lemmas.Ascending.{upper_half_is, upper_half_small, same_upper_half, before_upper_half_of, before_half, number_read, first_small, sorted, place_from_split, place_positive, order_on, insertion_first, insertion_between, insertion_in_front, there}
+use Rattle.sctp_serial.proofs.lemmas.AscendingEdits.{upper_half_is, upper_half_small, same_upper_half, before_upper_half_of, before_half, number_read, first_small, sorted, place_from_split, place_positive, order_on, insertion_first, insertion_between, insertion_in_front, there}
 use Rattle.sctp_reassembly.proofs.reassembly_queue.ordered_sets.seek.Goals as goal
 
 pub returns-then-len-eq0-clause-free : goal.returns-then-len-eq0-clause-free

@@ -3,12 +3,12 @@ use Rattle.std.proofs.lemmas.List.{get_or_default, at_drop_all}
 use Rattle.std.specs.List.{sum_by, remove}
 use Rattle.std.proofs.lemmas.List.Edits.{length-remove}
 use Rattle.std.proofs.lemmas.List.Sums.{sum_by-cons}
-use Rattle.sctp_lists.specs.Lists.{those}
+use Rattle.sctp_list_lemmas.specs.Lists.{those}
 use Rattle.sctp_chunks.specs.ChunkSet.{ChunkSet}
 use Rattle.sctp_serial.specs.DataChunks.{bytes_of}
 use Rattle.sctp_reassembly.specs.reassembly_queue.ReassemblyQueue.{set_bytes}
-use Rattle.sctp_reassembly.specs.reassembly_queue.Skips.{is_given_up}
-use Rattle.sctp_serial.proofs.lemmas.ListLemmas.{removed_step, removed_next}
+use Rattle.sctp_reassembly.specs.reassembly_queue.Skips.{is_discarded}
+use Rattle.sctp_serial.proofs.lemmas.ListEdits.{removed_step, removed_next}
 use Rattle.sctp_reassembly.proofs.reassembly_queue.skips.discard.Goals as goal
 
 pub loop-place-preserved : goal.loop-place-preserved
@@ -18,16 +18,16 @@ loop-place-preserved c =
     let x = c.index.result.now in
     let within : i < length xs = omega arith in
     let n = length-remove xs i within in
-    let passed : is_given_up c.args.last_ssn c.args.bound x ≡ true = sym c.is_given_up.ensures ∙ c.if-not-is_given_up.false in
+    let passed : is_discarded c.args.last_ssn c.args.bound x ≡ true = sym c.is_discarded.ensures ∙ c.if-not-is_discarded.false in
     let taken = ap (λ (s : ChunkSet). bytes_of s.chunks) (c.in-Some.ensures.value ∙ get_or_default xs i c.in-Some.set x within ∙ sym c.index.ensures) in
-    let next = removed_next (is_given_up c.args.last_ssn c.args.bound) xs i x within c.index.ensures passed in
+    let next = removed_next (is_discarded c.args.last_ssn c.args.bound) xs i x within c.index.ensures passed in
     let sums = ap (sum_by (λ (s : ChunkSet). bytes_of s.chunks)) next in
     rw c.in-Some.ensures.items record {
       in_range = omega arith;
-      kept = removed_step (λ s. not (is_given_up c.args.last_ssn c.args.bound s)) xs i x within c.index.ensures (ap not passed) ∙ c.loop-place.invariant.kept;
+      kept = removed_step (λ s. not (is_discarded c.args.last_ssn c.args.bound s)) xs i x within c.index.ensures (ap not passed) ∙ c.loop-place.invariant.kept;
       small = omega (arith, c.saturating_add-gone.ensures);
-      counted = omega (arith, c.loop-place.invariant.counted, sums, taken, sum_by-cons (λ (s : ChunkSet). bytes_of s.chunks) x (those (is_given_up c.args.last_ssn c.args.bound) (drop i (remove xs i))), c.len-in-Some.ensures, c.saturating_add-gone.ensures);
+      counted = omega (arith, c.loop-place.invariant.counted, sums, taken, sum_by-cons (λ (s : ChunkSet). bytes_of s.chunks) x (those (is_discarded c.args.last_ssn c.args.bound) (drop i (remove xs i))), c.len-in-Some.ensures, c.saturating_add-gone.ensures);
     }
 
 pub returns-clause-bytes : goal.returns-clause-bytes
-returns-clause-bytes c = omega (arith, c.loop-place.invariant.counted, at_drop_all (λ xs. set_bytes (those (is_given_up c.args.last_ssn c.args.bound) xs)) c.loop-place.sets.items c.loop-place.place (omega arith))
+returns-clause-bytes c = omega (arith, c.loop-place.invariant.counted, at_drop_all (λ xs. set_bytes (those (is_discarded c.args.last_ssn c.args.bound) xs)) c.loop-place.sets.items c.loop-place.place (omega arith))

@@ -2,11 +2,11 @@ use Rattle.std.proofs.Common.{◌≡◌, ◌+◌, ◌-◌, ◌*◌, ◌<◌, ◌
 use Rattle.std.proofs.Math.Nat.{suc-mul}
 use Rattle.std.proofs.lemmas.List.{map-append, append-nil, take_all}
 use Rattle.std.proofs.Math.Seq.{take-add}
-use Rattle.sctp_lists.specs.Kept.{numbers_from, always}
-use Rattle.sctp_lists.proofs.KeptLemmas.{kept-snoc_in}
+use Rattle.sctp_list_lemmas.specs.Kept.{numbers_from, always}
+use Rattle.sctp_list_lemmas.proofs.Passing.{kept-snoc_in}
 use Rattle.sctp_chunks.specs.declared.chunk.chunk_payload_data.ChunkPayloadData.{ChunkPayloadData}
 use Rattle.sctp_reassembly.specs.reassembly_queue.Fragments.{payload_of}
-use Rattle.sctp_reassembly.proofs.lemmas.reassembly_queue.PieceLemmas.{payload-append}
+use Rattle.sctp_reassembly.proofs.lemmas.reassembly_queue.PiecesTaken.{payload-append}
 use Rattle.sctp_stream.specs.Stream.{fragment, fragment_at, cut}
 use Rattle.sctp_stream.proofs.Pieces.{piece_below, piece_none, begins, ends, slice_is}
 use Rattle.sctp_stream.proofs.stream.StreamState.fragments.Goals as goal

@@ -3,7 +3,7 @@ use Rattle.std.specs.BTreeMap.{get}
 use Rattle.std.specs.Ordering.{nat_cmp}
 use Rattle.std.specs.Prelude.{slice_get}
 use Rattle.std.proofs.lemmas.Option.{slice_get_within}
-use Rattle.sctp_lists.specs.Lists.{those}
+use Rattle.sctp_list_lemmas.specs.Lists.{those}
 use Rattle.sctp_stream.specs.Numbers.{is_other}
 use Rattle.sctp_stream.proofs.Removals.{begun, without, without-none, written, lowered, all-right, stands}
 use Rattle.sctp_stream.proofs.stream_numbers.StreamNumbers.remove.Goals as goal

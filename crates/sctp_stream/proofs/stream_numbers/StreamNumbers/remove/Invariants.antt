@@ -1,5 +1,5 @@
 use Rattle.std.proofs.Common.{◌≡◌, length}
-use Rattle.sctp_lists.specs.Lists.{those}
+use Rattle.sctp_list_lemmas.specs.Lists.{those}
 use Rattle.sctp_stream.specs.Numbers.{is_other}
 use Rattle.sctp_stream.proofs.Removals.{IsLowered}
 use Rattle.sctp_stream.proofs.stream_numbers.StreamNumbers.remove.Given as goal

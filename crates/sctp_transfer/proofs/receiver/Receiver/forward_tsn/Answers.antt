@@ -1,5 +1,5 @@
 use Rattle.std.proofs.Common.{◌≡◌, ap, sym, ◌∙◌, false}
-use Rattle.sctp_lists.specs.Serial.{at_or_before}
+use Rattle.sctp_list_lemmas.specs.Serial.{at_or_before}
 use Rattle.sctp_transfer.proofs.Receptions.{after}
 use Rattle.sctp_transfer.proofs.receiver.Receiver.forward_tsn.Goals as goal
 

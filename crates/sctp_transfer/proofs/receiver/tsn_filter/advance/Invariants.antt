@@ -1,5 +1,5 @@
 use Rattle.std.proofs.Common.{◌≡◌, length, map}
-use Rattle.sctp_lists.specs.Lists.{advanced}
+use Rattle.sctp_list_lemmas.specs.Lists.{advanced}
 use Rattle.sctp_outbound.specs.payload_queue.PayloadQueue.{with_chunks}
 use Rattle.sctp_transfer.specs.TsnFilter.{mark, tsns}
 use Rattle.sctp_transfer.proofs.receiver.tsn_filter.advance.Given as goal

@@ -8,4 +8,4 @@ use Rattle.sctp_transfer.proofs.sender.Sender.expire_late.Goals as goal
 pub invariant_of-self-2 : goal.invariant_of-self-2
 invariant_of-self-2 c =
     let f : Flight = c.self.inside.flight in
-    (c.self.invariant.0, c.self.invariant.1, subst (λ (g : Flight). IsAllSettled g.queue) (sym c.in_ok-given_up.ensures.ok) (each-settled (late_order c.args.now f) f c.self.invariant.2))
+    (c.self.invariant.0, c.self.invariant.1, subst (λ (g : Flight). IsAllSettled g.queue) (sym c.in_ok-abandoned.ensures.ok) (each-settled (late_order c.args.now f) f c.self.invariant.2))

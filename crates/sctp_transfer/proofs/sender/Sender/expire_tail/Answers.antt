@@ -8,4 +8,4 @@ use Rattle.sctp_transfer.proofs.sender.Sender.expire_tail.Goals as goal
 pub invariant_of-self-in-Some : goal.invariant_of-self-in-Some
 invariant_of-self-in-Some c =
     let f : Flight = c.self.inside.flight in
-    (c.self.invariant.0, c.self.invariant.1, subst (λ (g : Flight). IsAllSettled g.queue) (sym c.in_ok-given_up.ensures.ok) (abandoned-settled (message_of (expiring_tail c.args.now f.queue)) f.next_tsn f.queue c.self.invariant.2))
+    (c.self.invariant.0, c.self.invariant.1, subst (λ (g : Flight). IsAllSettled g.queue) (sym c.in_ok-abandoned.ensures.ok) (abandoned-settled (message_of (expiring_tail c.args.now f.queue)) f.next_tsn f.queue c.self.invariant.2))

@@ -1,7 +1,7 @@
 use Rattle.std.proofs.Common.{◌≡◌, ℕ, ◌+◌, ◌<◌, ◌≤◌, ◌%◌, ◌^◌, true, false, List, [], ◌∷◌, ◌++◌, length, map, take, drop, Some, refl, ap, sym, ◌∙◌, arith, rules}
 use Rattle.std.proofs.lemmas.List.{map-append, append-nil}
 use Rattle.std.specs.Prelude.{if◌then◌else◌, ◌&&◌, not, find, vec_capacity}
-use Rattle.sctp_lists.specs.Lists.{change_where, those}
+use Rattle.sctp_list_lemmas.specs.Lists.{change_where, those}
 use Rattle.sctp_chunks.specs.SelectiveAck.{sack_of}
 use Rattle.sctp_serial.specs.DataChunks.{has_tsn}
 use Rattle.sctp_outbound.specs.Marks.{acknowledged}

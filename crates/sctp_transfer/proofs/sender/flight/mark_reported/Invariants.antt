@@ -1,6 +1,6 @@
 use Rattle.std.proofs.Common.{◌≡◌, ◌≤◌, ◌++◌, take, drop, map}
 use Rattle.std.specs.Prelude.{vec_capacity}
-use Rattle.sctp_lists.specs.Lists.{change_where, those}
+use Rattle.sctp_list_lemmas.specs.Lists.{change_where, those}
 use Rattle.sctp_chunks.specs.SelectiveAck.{sack_of}
 use Rattle.sctp_outbound.specs.Marks.{acknowledged}
 use Rattle.sctp_outbound.specs.outbound_queue.OutboundQueue.{with_inflight}

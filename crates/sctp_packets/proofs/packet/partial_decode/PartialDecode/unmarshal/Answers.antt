@@ -1,7 +1,7 @@
 use Rattle.std.proofs.Common.{length, drop, ap, ◌∙◌, arith, rules}
 use Rattle.sctp_chunks.specs.Framing.{IsFramed, type_at}
 use Rattle.sctp_packets.specs.Partial.{IsInitType}
-use Rattle.sctp_packets.proofs.Partial.{first_step, some_chunks, framed_no_fault, init_long}
+use Rattle.sctp_packets.proofs.FirstChunk.{first_step, some_chunks, framed_no_fault, init_long}
 use Rattle.sctp_packets.proofs.packet.partial_decode.PartialDecode.unmarshal.Goals as goal
 
 pub returns-then-len-lt-CHUNK_HEADER_SIZE-clause-packets : goal.returns-then-len-lt-CHUNK_HEADER_SIZE-clause-packets

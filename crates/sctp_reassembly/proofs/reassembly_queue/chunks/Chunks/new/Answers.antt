@@ -3,7 +3,7 @@ use Rattle.std.specs.List.{concat}
 use Rattle.sctp_chunks.specs.ChunkSet.{ChunkSet}
 use Rattle.sctp_reassembly.specs.declared.reassembly_queue.chunks.Chunks.{Chunks}
 use Rattle.sctp_reassembly.specs.reassembly_queue.Chunks.{left_of, left_from}
-use Rattle.sctp_reassembly.proofs.lemmas.reassembly_queue.PieceLemmas.{whole_payload}
+use Rattle.sctp_reassembly.proofs.lemmas.reassembly_queue.PiecesTaken.{whole_payload}
 use Rattle.sctp_reassembly.proofs.reassembly_queue.chunks.Chunks.new.Goals as goal
 
 pub returns-clause-left : goal.returns-clause-left

@@ -1,7 +1,7 @@
 use Rattle.std.proofs.Common.{◌++◌, length, length-take-le, sym, Some, arith, ap, ap₂, subst, ◌∙◌, ◌<◌}
 use Rattle.std.specs.List.{concat}
 use Rattle.sctp_reassembly.specs.reassembly_queue.Chunks.{left_of}
-use Rattle.sctp_reassembly.proofs.lemmas.reassembly_queue.PieceLemmas.{pieces_join, piece_full, pieces_end, piece_some}
+use Rattle.sctp_reassembly.proofs.lemmas.reassembly_queue.PiecesTaken.{pieces_join, piece_full, pieces_end, piece_some}
 use Rattle.sctp_reassembly.proofs.reassembly_queue.chunks.Chunks.next_counted.Goals as goal
 
 pub returns-clause-piece : goal.returns-clause-piece

@@ -3,7 +3,7 @@ use Rattle.std.specs.List.{position_or_len}
 use Rattle.sctp_chunks.specs.ChunkSet.{ChunkSet}
 use Rattle.sctp_reassembly.specs.reassembly_queue.Fragments.{has_ssn}
 use Rattle.sctp_serial.specs.DataChunks.{bytes_of}
-use Rattle.sctp_reassembly.proofs.lemmas.reassembly_queue.SetLemmas.{chunks_at, chunks_none}
+use Rattle.sctp_reassembly.proofs.lemmas.reassembly_queue.ChunkSets.{chunks_at, chunks_none}
 use Rattle.sctp_reassembly.proofs.reassembly_queue.ordered_sets.OrderedSets.bytes_there.Goals as goal
 
 pub returns-in-Ok : goal.returns-in-Ok

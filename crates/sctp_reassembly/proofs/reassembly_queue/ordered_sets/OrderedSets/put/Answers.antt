@@ -2,8 +2,8 @@ use Rattle.std.proofs.Common.{◌<◌, length, get_or, set, sym, ap, subst, ◌�
 use Rattle.std.specs.List.{position_or_len}
 use Rattle.sctp_chunks.specs.ChunkSet.{ChunkSet}
 use Rattle.sctp_reassembly.specs.reassembly_queue.Fragments.{is_complete, has_ssn, with_chunk, answer_with}
-use Rattle.sctp_serial.proofs.lemmas.ListLemmas.{any_at, first_changed}
-use Rattle.sctp_reassembly.proofs.lemmas.reassembly_queue.SetLemmas.{chunks_at, chunks_none}
+use Rattle.sctp_serial.proofs.lemmas.ListEdits.{any_at, first_changed}
+use Rattle.sctp_reassembly.proofs.lemmas.reassembly_queue.ChunkSets.{chunks_at, chunks_none}
 use Rattle.sctp_serial.specs.Ascending.{IsOrder, upper_half}
 use Rattle.std.proofs.Math.Seq.{map-set_same}
 use Rattle.sctp_reassembly.proofs.reassembly_queue.ordered_sets.OrderedSets.put.Goals as goal

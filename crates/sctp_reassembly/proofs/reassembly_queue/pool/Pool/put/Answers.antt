@@ -1,10 +1,10 @@
 use Rattle.std.proofs.Common.{◌≡◌, ℕ, ◌<◌, ◌≤◌, Bool, List, length, insert, remove, sym, ap, ap₂, subst, ◌∙◌, arith}
 use Rattle.std.proofs.lemmas.List.Edits.{length-insert}
 use Rattle.sctp_chunks.specs.declared.chunk.chunk_payload_data.ChunkPayloadData.{ChunkPayloadData}
-use Rattle.sctp_lists.specs.Lists.{inserted}
+use Rattle.sctp_list_lemmas.specs.Lists.{inserted}
 use Rattle.sctp_serial.specs.DataChunks.{chunk_before}
 use Rattle.sctp_reassembly.specs.reassembly_queue.Loose.{IsMark, IsRunTaken, place_among}
-use Rattle.sctp_serial.proofs.lemmas.ListLemmas.{remove-insert, inserted-position}
+use Rattle.sctp_serial.proofs.lemmas.ListEdits.{remove-insert, inserted-position}
 use Rattle.sctp_reassembly.proofs.lemmas.reassembly_queue.SerialPlaces.{place_upto}
 use Rattle.sctp_reassembly.proofs.lemmas.reassembly_queue.TakenRuns.{mark_after_take}
 use Rattle.sctp_reassembly.proofs.reassembly_queue.pool.Pool.put.Goals as goal
@@ -22,26 +22,26 @@ insert-requires c = omega (arith, ap length c.self.view_is, place_upto c.args.ch
 
 pub search-requires-clause-mark : goal.search-requires-clause-mark
 search-requires-clause-mark c =
-    let le : c.args.place ≤ length c.self.inside.loose = omega (arith, ap length c.self.view_is, place_upto c.args.chunk.tsn c.args.self.now c.args.place c.requires) in
-    mark_before c.self.inside.searched c.self.inside.loose _ c.args.place c.args.chunk le c.in_ok-insert.ensures.ok c.self.invariant
+    let le : c.args.place ≤ length c.self.inside.unassembled = omega (arith, ap length c.self.view_is, place_upto c.args.chunk.tsn c.args.self.now c.args.place c.requires) in
+    mark_before c.self.inside.searched c.self.inside.unassembled _ c.args.place c.args.chunk le c.in_ok-insert.ensures.ok c.self.invariant
 
 pub search-requires-clause-in_range : goal.search-requires-clause-in_range
 search-requires-clause-in_range c =
-    let le : c.args.place ≤ length c.self.inside.loose = omega (arith, ap length c.self.view_is, place_upto c.args.chunk.tsn c.args.self.now c.args.place c.requires) in
-    omega (arith, ap length c.in_ok-insert.ensures.ok, length-insert c.self.inside.loose c.args.place c.args.chunk le)
+    let le : c.args.place ≤ length c.self.inside.unassembled = omega (arith, ap length c.self.view_is, place_upto c.args.chunk.tsn c.args.self.now c.args.place c.requires) in
+    omega (arith, ap length c.in_ok-insert.ensures.ok, length-insert c.self.inside.unassembled c.args.place c.args.chunk le)
 
 pub invariant_of-self-in-Ok : goal.invariant_of-self-in-Ok
 invariant_of-self-in-Ok c =
     let ys = c.insert.new.self in
-    let le : c.args.place ≤ length c.self.inside.loose = omega (arith, ap length c.self.view_is, place_upto c.args.chunk.tsn c.args.self.now c.args.place c.requires) in
-    let mark = mark_before c.self.inside.searched c.self.inside.loose ys c.args.place c.args.chunk le c.in_ok-insert.ensures.ok c.self.invariant in
-    let lt : c.args.place < length ys = omega (arith, ap length c.in_ok-insert.ensures.ok, length-insert c.self.inside.loose c.args.place c.args.chunk le) in
+    let le : c.args.place ≤ length c.self.inside.unassembled = omega (arith, ap length c.self.view_is, place_upto c.args.chunk.tsn c.args.self.now c.args.place c.requires) in
+    let mark = mark_before c.self.inside.searched c.self.inside.unassembled ys c.args.place c.args.chunk le c.in_ok-insert.ensures.ok c.self.invariant in
+    let lt : c.args.place < length ys = omega (arith, ap length c.in_ok-insert.ensures.ok, length-insert c.self.inside.unassembled c.args.place c.args.chunk le) in
     rw (c.is_searched_after-self-inside.ensures, c.in-Ok.ensures.rest) (mark_after_take c.self.inside.searched c.is_serial-serial.result ys c.args.place c.in-Some.first c.in-Some.count lt mark c.is_serial-serial.ensures c.in-Some.ensures.found.run)
 
 pub invariant_of-self-in-Err : goal.invariant_of-self-in-Err
 invariant_of-self-in-Err c =
-    let le : c.args.place ≤ length c.self.inside.loose = omega (arith, ap length c.self.view_is, place_upto c.args.chunk.tsn c.args.self.now c.args.place c.requires) in
-    subst (IsMark c.self.inside.searched) (sym (c.remove.ensures.rest ∙ ap (λ xs. remove xs c.args.place) c.in-Err.ensures.err)) (mark_before c.self.inside.searched c.self.inside.loose _ c.args.place c.args.chunk le c.in_ok-insert.ensures.ok c.self.invariant)
+    let le : c.args.place ≤ length c.self.inside.unassembled = omega (arith, ap length c.self.view_is, place_upto c.args.chunk.tsn c.args.self.now c.args.place c.requires) in
+    subst (IsMark c.self.inside.searched) (sym (c.remove.ensures.rest ∙ ap (λ xs. remove xs c.args.place) c.in-Err.ensures.err)) (mark_before c.self.inside.searched c.self.inside.unassembled _ c.args.place c.args.chunk le c.in_ok-insert.ensures.ok c.self.invariant)
 
 pub returns-in_default-clause-ok : goal.returns-in_default-clause-ok
 returns-in_default-clause-ok c = (rw c.in_default.is at c.search.ensures.none, put_in _ _ _ c.args.chunk c.args.place c.self.view_is c.requires c.in_ok-insert.ensures.ok)
@@ -53,5 +53,5 @@ returns-in-Ok-clause-ok c =
 
 pub returns-in-Err-clause-err : goal.returns-in-Err-clause-err
 returns-in-Err-clause-err c =
-    let le : c.args.place ≤ length c.self.inside.loose = omega (arith, ap length c.self.view_is, place_upto c.args.chunk.tsn c.args.self.now c.args.place c.requires) in
-    c.remove.ensures.rest ∙ ap (λ xs. remove xs c.args.place) (c.in-Err.ensures.err ∙ c.in_ok-insert.ensures.ok) ∙ remove-insert c.self.inside.loose c.args.place c.args.chunk le ∙ c.self.view_is
+    let le : c.args.place ≤ length c.self.inside.unassembled = omega (arith, ap length c.self.view_is, place_upto c.args.chunk.tsn c.args.self.now c.args.place c.requires) in
+    c.remove.ensures.rest ∙ ap (λ xs. remove xs c.args.place) (c.in-Err.ensures.err ∙ c.in_ok-insert.ensures.ok) ∙ remove-insert c.self.inside.unassembled c.args.place c.args.chunk le ∙ c.self.view_is

@@ -1,6 +1,6 @@
 use Rattle.std.proofs.Common.{◌≤◌, length, ap, sym, ◌∙◌, arith}
 use Rattle.sctp_chunks.specs.SelectiveAck.{sack_of}
-use Rattle.sctp_lists.specs.Serial.{distance}
+use Rattle.sctp_list_lemmas.specs.Serial.{distance}
 use Rattle.sctp_outbound.specs.outbound_queue.OutboundQueue.{Outbound}
 use Rattle.sctp_transfer.specs.Flight.{Flight}
 use Rattle.sctp_transfer.proofs.Sacks.{run, count, contiguous, taken-is}

@@ -1,7 +1,7 @@
 use Rattle.std.proofs.Common.{◌≡◌, ap, ◌∙◌, arith}
-use Rattle.sctp_lists.specs.Serial.{distance}
+use Rattle.sctp_list_lemmas.specs.Serial.{distance}
 use Rattle.sctp_transfer.specs.Flight.{Flight}
-use Rattle.sctp_transfer.specs.GivingUp.{ahead, advanced_ack_point}
+use Rattle.sctp_transfer.specs.Abandonment.{ahead, advanced_ack_point}
 use Rattle.sctp_transfer.proofs.Points.{point-within}
 use Rattle.sctp_transfer.proofs.sender.flight.InFlight.forward_tsn_to.Goals as goal
 

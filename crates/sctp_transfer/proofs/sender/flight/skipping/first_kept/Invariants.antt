@@ -1,6 +1,6 @@
 use Rattle.std.proofs.Common.{◌≡◌, drop}
 use Rattle.std.specs.Prelude.{find}
-use Rattle.sctp_transfer.specs.GivingUp.{is_kept}
+use Rattle.sctp_transfer.specs.Abandonment.{is_kept}
 use Rattle.sctp_transfer.proofs.sender.flight.skipping.first_kept.Given as goal
 
 abbrev pub invariant-loop-place : goal.invariant-loop-place

@@ -1,6 +1,6 @@
 use Rattle.std.proofs.Common.{◌++◌, ◌∷◌, [], List, length, ap, subst, sym, ◌∙◌, refl}
 use Rattle.sctp_chunks.specs.declared.chunk.chunk_forward_tsn.ChunkForwardTsnStream.{ChunkForwardTsnStream}
-use Rattle.sctp_transfer.specs.GivingUp.{IsFirstPair, IsNoPair, Name, pair_of}
+use Rattle.sctp_transfer.specs.Abandonment.{IsFirstPair, IsNoPair, Name, pair_of}
 use Rattle.sctp_transfer.proofs.Names.{renamed, added}
 use Rattle.sctp_transfer.proofs.sender.flight.skipping.name.Goals as goal
 

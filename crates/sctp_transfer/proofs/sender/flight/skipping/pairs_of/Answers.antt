@@ -1,8 +1,8 @@
 use Rattle.std.proofs.Common.{◌≡◌, ◌<◌, true, false, List, length, take, sym, subst, ◌∙◌, arith}
 use Rattle.std.proofs.lemmas.List.{append-nil}
 use Rattle.sctp_chunks.specs.declared.chunk.chunk_payload_data.ChunkPayloadData.{ChunkPayloadData}
-use Rattle.sctp_lists.specs.Lists.{those}
-use Rattle.sctp_transfer.specs.GivingUp.{Name, is_named}
+use Rattle.sctp_list_lemmas.specs.Lists.{those}
+use Rattle.sctp_transfer.specs.Abandonment.{Name, is_named}
 use Rattle.sctp_transfer.specs.TsnFilter.{mark}
 use Rattle.sctp_transfer.proofs.Points.{more-named}
 use Rattle.sctp_transfer.proofs.Runs.{found-at}

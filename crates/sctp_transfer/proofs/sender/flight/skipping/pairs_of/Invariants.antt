@@ -1,6 +1,6 @@
 use Rattle.std.proofs.Common.{take}
-use Rattle.sctp_lists.specs.Lists.{those}
-use Rattle.sctp_transfer.specs.GivingUp.{Name, is_named}
+use Rattle.sctp_list_lemmas.specs.Lists.{those}
+use Rattle.sctp_transfer.specs.Abandonment.{Name, is_named}
 use Rattle.sctp_transfer.proofs.sender.flight.skipping.pairs_of.Given as goal
 
 abbrev pub invariant-loop-place : goal.invariant-loop-place

@@ -1,8 +1,8 @@
 use Rattle.std.proofs.Common.{ap, ◌∙◌}
-use Rattle.sctp_lists.proofs.Cases.{same-yes}
+use Rattle.sctp_list_lemmas.proofs.Cases.{same-yes}
 use Rattle.std.specs.Prelude.{◌==◌}
 use Rattle.sctp_chunks.specs.declared.chunk.chunk_forward_tsn.ChunkForwardTsnStream.{ChunkForwardTsnStream}
-use Rattle.sctp_transfer.specs.GivingUp.{is_pair_of}
+use Rattle.sctp_transfer.specs.Abandonment.{is_pair_of}
 use Rattle.sctp_transfer.proofs.Names.{any-default}
 use Rattle.sctp_transfer.proofs.sender.flight.skipping.place_of.Goals as goal
 

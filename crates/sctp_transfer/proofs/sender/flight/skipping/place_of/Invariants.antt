@@ -1,4 +1,4 @@
-use Rattle.sctp_transfer.specs.GivingUp.{IsNoPair}
+use Rattle.sctp_transfer.specs.Abandonment.{IsNoPair}
 use Rattle.sctp_transfer.proofs.sender.flight.skipping.place_of.Given as goal
 
 abbrev pub invariant-loop-place : goal.invariant-loop-place

@@ -1,0 +1,4 @@
+pub mod Expiring
+pub mod Abandoning
+pub mod QueueAnswers
+pub mod LateTsns

@@ -1,0 +1,166 @@
+-- A message is abandoned: what a link keeps.
+use Rattle.std.proofs.Common.{◌≡◌, ℕ, ◌+◌, ◌-◌, ◌<◌, Bool, true, false, List, [], ◌∷◌, ◌++◌, length, map, Some, None, refl, ap, sym, ◌∙◌, arith}
+use Rattle.std.specs.Prelude.{if◌then◌else◌, ◌==◌, slice_get, slice_index_or, slice_set}
+use Rattle.std.proofs.Math.Path.{subst}
+use Rattle.std.proofs.lemmas.List.{map-append}
+use Rattle.sctp_list_lemmas.specs.Lists.{change_where, changed}
+use Rattle.sctp_list_lemmas.proofs.Edits.{length-change_where}
+use Rattle.sctp_list_lemmas.proofs.Getting.{length-mapped}
+use Rattle.sctp_outbound.specs.outbound_queue.OutboundQueue.{Outbound}
+use Rattle.sctp_model.specs.declared.event.Event.{Event}
+use Rattle.sctp_model.specs.World as W
+use Rattle.sctp_model.specs.World.{World}
+use Rattle.sctp_model.specs.Messages.{message_at, ordered_before, sent_of, is_partially_sent}
+use Rattle.sctp_model.specs.Receiver.{next_of}
+use Rattle.sctp_model.specs.Contents.{contents_of, cumulative_tsn}
+use Rattle.sctp_model.specs.Queues.{filter_of}
+use Rattle.sctp_model.specs.Amounts.{in_all, written_bytes}
+use Rattle.sctp_model.specs.Changes.{abandoned, mark_abandoned}
+use Rattle.sctp_model.specs.Laws.{IsSetup}
+use Rattle.sctp_model.specs.Steps.{StandsFor, refusal_of, after, reply_to, fragments_accepted}
+use Rattle.sctp_model.proofs.sender.Moves
+use Rattle.sctp_model.proofs.sender.Moves.{Quiet}
+use Rattle.sctp_model.proofs.sender.Shape.{shape}
+use Rattle.sctp_refinement.specs.Amount.{amount, held_bytes}
+use Rattle.sctp_refinement.specs.Holds.{reassembly_of}
+use Rattle.sctp_refinement.specs.Counts.{counters_on, is_write, is_read}
+use Rattle.sctp_refinement.specs.Indexes.{begun_on}
+use Rattle.sctp_refinement.proofs.sending.Begun.{Indexed}
+use Rattle.sctp_refinement.proofs.sending.BegunRun.{SendsNone}
+use Rattle.sctp_refinement.proofs.abandonment.AbandonedLate.{sent-then}
+use Rattle.sctp_refinement.proofs.abandonment.AbandonedLink.{mark_of, abandoned-is, count-then, before-then}
+use Rattle.sctp_refinement.proofs.reading.ReadOne.{KeepsNext}
+use Rattle.sctp_refinement.proofs.abandonment.NothingHeld.{amount-abandoned}
+use Rattle.sctp_refinement.proofs.amounts.StreamCounters.{counters-same}
+use Rattle.sctp_halves.specs.Streams.{OpenStream, has_number, less_by}
+use Rattle.sctp_link.specs.declared.record.Message.{Message}
+use Rattle.sctp_link.specs.declared.record.Slot.{Slot}
+use Rattle.sctp_link.specs.OpenStreams.{marks}
+use Rattle.sctp_link.specs.Linked.{State, IsOpenStream, IsLinked, stats_of}
+use Rattle.sctp_link.specs.Records.{message_record, progress_of, slot_record, stream_record}
+use Rattle.sctp_link.proofs.abandonment.QueueAnswers.{Gives}
+use Rattle.sctp_link.proofs.upkeep.Apart.{map-set, map-set_same}
+use Rattle.sctp_link.proofs.upkeep.StreamPlaces.{apart-changed}
+use Rattle.sctp_link.proofs.sender.Beginning.{index_kept}
+use Rattle.sctp_link.proofs.upkeep.ChangedStreams.{fields-same, changed-at}
+use Rattle.sctp_link.proofs.upkeep.Facts.{facts, stands-then}
+use Rattle.sctp_link.proofs.receiver.Hears.{raw-at}
+use Rattle.sctp_link.specs.Encodings.{IsDatagram}
+use Rattle.sctp_link.proofs.upkeep.Frames.{moved, encodings-same, next-kept, held-quiet, filter-kept, begun-kept, indexed-kept, fragments-same, written-kept}
+
+network-same : (w : World) (n : ℕ) → (abandoned w n).network ≡ w.network
+network-same w n = ap (λ u. u.network) (abandoned-is w n)
+
+-- an event that abandons a message of which some was sent
+module _ (sum : List ℕ → ℕ) (x : State) (l : IsLinked sum x) (e : Event) (ok : refusal_of x.world e ≡ None) (n s bytes : ℕ) (q : Outbound) (next : ℕ) (r : Gives x e n s bytes q next) (keeps : KeepsNext e) (none : SendsNone e) (no-write : is_write e ≡ false) (no-read : is_read e ≡ false) where
+  abbrev w : World
+  w = x.world
+
+  abbrev v : World
+  v = abandoned x.world n
+
+  quiet : Quiet x.world (after x.world e)
+  quiet = subst (Quiet x.world) (sym r.is) (Moves.quiet-abandoned x.world.setup x.world n (facts sum x l).sane)
+
+  setup-same : v.setup ≡ w.setup
+  setup-same = ap (λ u. u.setup) (abandoned-is w n)
+
+  -- the amount falls by what the message held
+  stream-by : (y : OpenStream) (bytes : ℕ) → IsOpenStream w y → amount v y.state.stream_identifier + bytes ≡ amount w y.state.stream_identifier → IsOpenStream v (less_by bytes y)
+  stream-by y bytes i less =
+      let t = y.state.stream_identifier in
+      record {
+        held = i.held ∙ sym (ap (λ u. reassembly_of u t) (sym r.is) ∙ held-quiet sum x l e ok quiet t);
+        si = i.si;
+        largest = i.largest ∙ ap (λ s. s.largest) (sym setup-same);
+        size = i.size ∙ ap (λ s. s.size) (sym setup-same);
+        ordered = i.ordered ∙ sym (ap (ordered_before v t) (count-then w n) ∙ before-then w n t (length w.messages));
+        number = i.number;
+        begun = i.begun ∙ sym (ap (λ u. begun_on u t) (sym r.is) ∙ begun-kept sum x l e ok none t);
+        next = i.next ∙ sym (ap (λ u. next_of u t) (sym r.is) ∙ next-kept sum x l e ok keeps t);
+        amount = omega (arith, i.amount, less);
+        stats = i.stats ∙ ap stats_of (sym (ap (λ u. counters_on u t) (sym r.is) ∙ counters-same w.setup w e t (facts sum x l).sane no-write no-read));
+      }
+
+  stream-given : (y : OpenStream) → IsOpenStream w y → IsOpenStream v (if (message_at w n).stream == y.state.stream_identifier then less_by (held_bytes w n) y else y)
+  stream-given y i = by ((message_at w n).stream == y.state.stream_identifier) (amount-abandoned w n y.state.stream_identifier r.made)
+    where
+      same : (y : OpenStream) → less_by 0 y ≡ y
+      same y = let z : y.state.buffered_amount - 0 ≡ y.state.buffered_amount = omega arith in ap (λ a. record y { state = record y.state { buffered_amount = a } }) z
+
+      by : (b : Bool) → amount v y.state.stream_identifier + (if b then held_bytes w n else 0) ≡ amount w y.state.stream_identifier → IsOpenStream v (if b then less_by (held_bytes w n) y else y)
+      by true e = stream-by y (held_bytes w n) i e
+      by false e = subst (IsOpenStream v) (same y) (stream-by y 0 i e)
+
+  -- the streams then
+  abbrev ls : List OpenStream
+  ls = change_where (has_number s) (less_by bytes) x.open_streams
+
+  each : (k : ℕ) (d : OpenStream) → k < length ls → IsOpenStream v (slice_index_or ls k d)
+  each k d lt =
+      let y = slice_index_or x.open_streams k d in
+      let inside : k < length x.open_streams = omega (arith, lt, length-change_where (has_number s) (less_by bytes) x.open_streams) in
+      subst (IsOpenStream v)
+      (sym (
+      changed-at (less_by bytes) s x.open_streams k d inside
+      ∙ ap (λ t. if t == y.state.stream_identifier then less_by bytes y else y) r.stream
+      ∙ ap (λ b. if (message_at w n).stream == y.state.stream_identifier then less_by b y else y) r.held
+      ))
+      (stream-given y (l.open_streams k d inside))
+
+  indexed-then : Indexed (shape v) (index_kept x.progress)
+  indexed-then = subst (λ u. Indexed (shape u) (index_kept x.progress)) r.is (indexed-kept sum x l e ok none)
+
+  linked-after : IsLinked sum (record x { world = v; open_streams = ls; outbound = q; next_tsn = next })
+  linked-after = record {
+    setup = subst IsSetup (sym setup-same) l.setup;
+    history = (e, reply_to w e) ∷ l.history;
+    stands = subst (λ t. StandsFor t v ((e, reply_to w e) ∷ l.history)) (sym setup-same) (subst (λ u. StandsFor w.setup u ((e, reply_to w e) ∷ l.history)) r.is (stands-then w.setup w l.history e ok l.stands));
+    outbound = r.refines;
+    unstarted = l.unstarted ∙ sym r.unstarted;
+    filter = l.filter ∙ sym (ap filter_of (sym r.is) ∙ filter-kept sum x l e ok quiet);
+    next = r.next_is;
+    acked = l.acked ∙ ap (λ u. cumulative_tsn u u.taken) (sym (abandoned-is w n));
+    fragments = l.fragments ∙ sym (ap fragments_accepted (sym r.is) ∙ fragments-same sum x l e ok no-write);
+    written = l.written ∙ sym (ap (λ u. in_all u (written_bytes u)) (sym r.is) ∙ written-kept sum x l e ok no-write);
+    sents = λ k lt. l.sents k (omega (arith, lt, count-then w n)) ∙ sym (sent-then w n k);
+    indexes = indexed-then.is;
+    low = indexed-then.low;
+    open_streams = each;
+    apart = apart-changed s (less_by bytes) x.open_streams (λ y. refl) l.apart;
+    encodings = λ k d g t. subst (λ u. slice_get u.network k ≡ Some g → IsDatagram sum (contents_of u g) (slice_index_or x.datagrams k d)) r.is (λ t'. encodings-same sum x l e ok (ap (λ u. u.network) r.is ∙ network-same w n) k d g t') t;
+  }
+
+  -- with the lists that a link then has
+  module _ (ms : List Message) (m m' : Message) (ss ss' : List Slot) (half : Bool) (streams : x.world.streams ≡ map stream_record x.open_streams) (em : x.world.messages ≡ map message_record ms) (ep : x.progress ≡ map progress_of ms) (es : x.world.slots ≡ map slot_record ss) (here : m ≡ slice_index_or ms n m) (took : m' ≡ record m { abandoned = true }) (half_is : half ≡ is_partially_sent x.world n) (more : ss' ≡ ss ++ marks half n m.sent) where
+    lt : n < length ms
+    lt = omega (arith, r.made, ap length em, length-mapped message_record ms)
+
+    sent-is : m.sent ≡ sent_of w n
+    sent-is = ap (λ (t : Message). t.sent) here ∙ sym (ap (λ (p : ℕ × ℕ). p.0) (raw-at progress_of ms n (0, 0) m lt)) ∙ ap (λ (ps : List (ℕ × ℕ)). (slice_index_or ps n (0, 0)).0) (sym ep) ∙ l.sents n r.made
+
+    slots-given : map slot_record ss' ≡ w.slots ++ mark_of w n
+    slots-given =
+        ap (map slot_record) more ∙ map-append slot_record ss (marks half n m.sent) ∙ ap (λ a. a ++ map slot_record (marks half n m.sent)) (sym es)
+        ∙ ap (λ k. w.slots ++ map slot_record (marks half n k)) sent-is
+        ∙ ap (λ b. w.slots ++ map slot_record (marks b n (sent_of w n))) half_is
+        ∙ ap (λ a. w.slots ++ a) (by (is_partially_sent w n))
+      where
+        by : (b : Bool) → map slot_record (marks b n (sent_of w n)) ≡ (if b then (let y : W.Slot = record { message = n; fragment = sent_of w n; is_terminal_chunk = true; arrived = false; acknowledged = false } in y) ∷ [] else [])
+        by true = refl
+        by false = refl
+
+    taken : m' ≡ record (slice_index_or ms n m) { abandoned = true }
+    taken = took ∙ ap (λ (t : Message). record t { abandoned = true }) here
+
+    pub world-given : record x.world { streams = map stream_record ls; messages = map message_record (slice_set ms n m'); slots = map slot_record ss' } ≡ abandoned x.world n
+    world-given =
+        ap (λ r. record x.world { streams = r; messages = map message_record (slice_set ms n m'); slots = map slot_record ss' }) (fields-same stream_record (less_by bytes) (λ y. refl) s x.open_streams ∙ sym streams)
+        ∙ ap (λ r. record x.world { messages = r; slots = map slot_record ss' }) (map-set message_record mark_abandoned ms n m' m lt (ap message_record taken) ∙ ap (changed mark_abandoned n) (sym em))
+        ∙ ap (λ r. record x.world { messages = changed mark_abandoned n x.world.messages; slots = r }) slots-given
+        ∙ sym (abandoned-is x.world n)
+
+    pub linked-given : IsLinked sum (record x { world = record x.world { streams = map stream_record ls; messages = map message_record (slice_set ms n m'); slots = map slot_record ss' }; open_streams = ls; progress = map progress_of (slice_set ms n m'); outbound = q; next_tsn = next })
+    linked-given =
+        subst (λ p. IsLinked sum (record x { world = record x.world { streams = map stream_record ls; messages = map message_record (slice_set ms n m'); slots = map slot_record ss' }; open_streams = ls; progress = p; outbound = q; next_tsn = next })) (sym (map-set_same progress_of ms n m' m (ap progress_of taken) ∙ sym ep))
+        (moved sum (record x { world = record x.world { streams = map stream_record ls; messages = map message_record (slice_set ms n m'); slots = map slot_record ss' }; open_streams = ls; outbound = q; next_tsn = next }) v world-given linked-after)

@@ -1,4 +1,0 @@
-pub mod Expiring
-pub mod Abandoning
-pub mod GivingUp
-pub mod LateTsns

@@ -1,8 +1,0 @@
-use Rattle.std.proofs.Common.{◌≡◌, drop}
-use Rattle.std.specs.Prelude.{find}
-use Rattle.sctp_model.specs.Messages.{is_half_sent}
-use Rattle.sctp_ties.specs.InTurn.{message_of_tsn}
-use Rattle.sctp_link.proofs.link.Link.first_half_sent.Given as goal
-
-abbrev pub invariant-loop-at : goal.invariant-loop-at
-invariant-loop-at g l = find (λ t. is_half_sent l.self.world (message_of_tsn l.self.world t)) l.tsns ≡ find (λ t. is_half_sent l.self.world (message_of_tsn l.self.world t)) (drop l.at l.tsns)

@@ -1,0 +1,15 @@
+pub mod Passing
+pub mod Lines
+pub mod Round
+pub mod More
+pub mod Wraps
+pub mod Distances
+pub mod Edits
+pub mod Cases
+pub mod Getting
+pub mod Totals
+pub mod Rows
+pub mod Pieces
+pub mod Tests
+pub mod Places
+pub mod Alls

@@ -1,9 +1,0 @@
-use Rattle.std.proofs.Common.{◌≡◌, drop}
-use Rattle.sctp_reassembly.proofs.reassembly_queue.loose.Loose.drop_front.Given as goal
-
-abbrev pub invariant-loop-gone : goal.invariant-loop-gone
-invariant-loop-gone l = record {
-  rest : l.self-inside.chunks.items ≡ drop l._gone l.initial.self-inside.chunks.items;
-  counted : l.self-inside.n_bytes ≡ l.initial.self-inside.n_bytes;
-  serial : l.self-inside.serial ≡ l.initial.self-inside.serial;
-}

@@ -1,6 +1,0 @@
-use Rattle.std.proofs.Common.{ℕ, ◌<◌}
-use Rattle.sctp_serial.specs.Runs.{IsRun}
-use Rattle.sctp_reassembly.proofs.reassembly_queue.loose.find_run.Given as goal
-
-abbrev pub invariant-loop-place : goal.invariant-loop-place
-invariant-loop-place l = (f n : ℕ) → IsRun l.loose f n → f < l.place → ⊥

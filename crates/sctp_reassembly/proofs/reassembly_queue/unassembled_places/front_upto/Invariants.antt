@@ -1,0 +1,10 @@
+use Rattle.std.proofs.Common.{◌≡◌, ◌+◌, not, drop}
+use Rattle.std.specs.List.{position_or_len}
+use Rattle.sctp_list_lemmas.specs.Serial.{at_or_before}
+use Rattle.sctp_reassembly.proofs.reassembly_queue.unassembled_places.front_upto.Given as goal
+
+abbrev pub invariant-loop-place : goal.invariant-loop-place
+invariant-loop-place l = record {
+  place : position_or_len (λ c. not (at_or_before c.tsn l.tsn)) l.unassembled ≡ l.place + position_or_len (λ c. not (at_or_before c.tsn l.tsn)) (drop l.place l.unassembled);
+  cost : l.turns ≡ l.initial.turns + l.place;
+}

@@ -1,0 +1,524 @@
+//! Unassembled fragments: what came of unordered messages that are not whole. What looks at one takes a turn.
+
+ghost use Rattle.std.specs.Prelude.{◌≡◌, ℕ, ◌==◌, ◌+◌, ◌-◌, ◌^◌, ◌<◌, ◌≤◌, ◌&&◌, [], ◌∷◌, length, min, slice_index_or, insert, remove, take, drop, ◌++◌, OnOk, OnErr, IfOk, IfErr, IfSome, IfNone, true, false, IsTrue, not};
+ghost use Rattle.sctp_serial.specs.Runs.{IsEarliestRunAround, HasNoRunAround, IsStretch, IsEarliestRun, HasNoRun};
+ghost use Rattle.sctp_base.specs.declared.error.Error.TheVariants.{ErrOutOfMemory};
+ghost use Rattle.sctp_chunks.specs.declared.chunk.chunk_payload_data.ChunkPayloadData.{ChunkPayloadData};
+ghost use Rattle.sctp_list_lemmas.specs.Serial.{comes_before};
+ghost use Rattle.sctp_reassembly.specs.reassembly_queue.Around.{IsStart, HasNoStart, IsEnd, IsFirstEnding, HasNoEnd};
+ghost use Rattle.sctp_serial.specs.DataChunks.{bytes_of};
+ghost use Rattle.sctp_reassembly.specs.reassembly_queue.Loose.{IsOrderMark};
+ghost use Rattle.sctp_reassembly.specs.reassembly_queue.Fragments.{next_tsn};
+ghost use Rattle.sctp_serial.specs.Window.{IsSerial};
+
+use sctp_base::error::Error;
+use sctp_base::util::sna32lt;
+use sctp_chunks::chunk::chunk_payload_data::ChunkPayloadData;
+use sctp_serial::turns::Turns;
+use std::alloc::{AllocError, Global};
+use std::collections::VecDeque;
+use std::marker::Model;
+
+/// A fragment on the heap, so that an insertion among many moves no more than a pointer of each.
+#[derive(Drop)]
+pub struct UnassembledFragment {
+    chunk: Box<ChunkPayloadData>,
+}
+
+impl Model for UnassembledFragment {
+    ghost use Rattle.sctp_chunks.specs.declared.chunk.chunk_payload_data.ChunkPayloadData.{ChunkPayloadData};
+
+    ghost Value = { ChunkPayloadData };
+
+    ghost view = { λ f. f.chunk.value };
+}
+
+impl UnassembledFragment {
+    /// Puts a fragment on the heap.
+    fn new(alloc: Global, chunk: ChunkPayloadData) -> Result<Self, AllocError>
+        ensures { IfOk result (λ fragment. fragment ≡ chunk) }
+    {
+        let chunk = Box::new(alloc, chunk)?;
+        Ok(UnassembledFragment { chunk })
+    }
+
+    /// The fragment.
+    pub fn chunk(&self) -> &ChunkPayloadData
+        ensures { result.now ≡ self.now }
+    {
+        &self.chunk
+    }
+
+    /// The fragment, taken from the heap.
+    fn into_chunk(self) -> ChunkPayloadData
+        ensures { result ≡ self }
+    {
+        Box::into_inner(self.chunk)
+    }
+}
+
+/// The unassembled fragments, by place, from 0.
+#[derive(Drop)]
+pub struct Loose {
+    chunks: VecDeque<UnassembledFragment>,
+    // the length of their user data, up to the greatest usize
+    n_bytes: usize,
+    // whether they stand in serial order, as fragments of honest peers do
+    serial: bool,
+}
+
+impl Model for Loose {
+    ghost use Rattle.std.specs.Prelude.{◌≡◌, ◌-◌, ◌^◌, min, List};
+    ghost use Rattle.sctp_chunks.specs.declared.chunk.chunk_payload_data.ChunkPayloadData.{ChunkPayloadData};
+    ghost use Rattle.sctp_serial.specs.DataChunks.{bytes_of};
+    ghost use Rattle.sctp_reassembly.specs.reassembly_queue.Loose.{IsOrderMark};
+
+    ghost Value = { List ChunkPayloadData };
+
+    ghost view = { λ l. l.chunks.items };
+
+    ghost invariant = { λ l. record { counted : l.n_bytes ≡ min (bytes_of l.chunks.items) (2 ^ 64 - 1); order : IsOrderMark l.serial l.chunks.items } };
+}
+
+impl Loose {
+    /// No fragments. It takes no memory.
+    pub fn new(alloc: Global) -> Self
+        ensures { result ≡ [] }
+    {
+        Loose {
+            chunks: VecDeque::new(alloc),
+            n_bytes: 0,
+            serial: true,
+        }
+    }
+
+    /// How many there are.
+    pub fn len(&self) -> usize
+        ensures { result ≡ length self.now }
+    {
+        self.chunks.len()
+    }
+
+    /// How many bytes they carry, or the greatest number where they are more.
+    pub fn get_num_bytes(&self) -> usize
+        ensures { result ≡ min (bytes_of self.now) (2 ^ 64 - 1) }
+    {
+        self.n_bytes
+    }
+
+    /// Whether they stand in serial order: each before all that follow it.
+    pub fn is_serial(&self) -> bool
+        ensures { IsOrderMark result self.now }
+    {
+        self.serial
+    }
+
+    /// Looks at the fragment at a place, which is a turn.
+    /// Precondition: the place has one.
+    pub fn look<'a>(&'a self, place: usize, turns: &mut Turns) -> &'a ChunkPayloadData
+        requires { place < length self.now }
+        ensures value { result.now ≡ slice_index_or self.now place result.now }
+        ensures turn { turns.new ≡ turns.old + 1 }
+    {
+        turns.tick();
+        self.chunks[place].chunk()
+    }
+
+    /// Puts a fragment at a place, before the one that is there.
+    /// Precondition: the place is at most their number.
+    /// Refuses only for memory, and nothing changes then.
+    pub fn insert(
+        &mut self,
+        alloc: Global,
+        place: usize,
+        chunk: ChunkPayloadData,
+    ) -> Result<(), AllocError>
+        requires { place ≤ length self.old }
+        ensures ok { OnOk result (self.new ≡ insert self.old place chunk) }
+        ensures err { OnErr result (self.new ≡ self.old) }
+    {
+        let serial = self.stays_serial(place, chunk.tsn);
+        let len = chunk.user_data.len();
+        let fragment = UnassembledFragment::new(alloc, chunk)?;
+        self.chunks.insert(place, fragment)?;
+        self.n_bytes = self.n_bytes.saturating_add(len);
+        self.serial = serial;
+        Ok(())
+    }
+
+    // Whether they stand in serial order with the number at the place.
+    fn stays_serial(&self, place: usize, tsn: u32) -> bool
+        requires { place ≤ length self.now }
+        ensures { (x : ChunkPayloadData)
+            → x.tsn ≡ tsn → IsOrderMark result (insert self.now place x) }
+    {
+        if !self.serial {
+            return false;
+        }
+        if !is_behind(&self.chunks, place, tsn) {
+            return false;
+        }
+        is_ahead(&self.chunks, place, tsn)
+    }
+
+    /// Takes out the fragment at a place. It takes no memory.
+    /// Precondition: the place has one.
+    pub fn remove(&mut self, place: usize) -> ChunkPayloadData
+        requires { place < length self.old }
+        ensures rest { self.new ≡ remove self.old place }
+        ensures value { result ≡ slice_index_or self.old place result }
+    {
+        let chunk = take_out(&mut self.chunks, place);
+        self.n_bytes = bytes_without(self.n_bytes, chunk.user_data.len(), &self.chunks);
+        self.serial = is_still_serial(self.serial, &self.chunks);
+        chunk
+    }
+
+    /// Takes out `count` neighbours from place `first` on.
+    /// Precondition: they are there.
+    /// Refuses only for memory, and nothing changes then.
+    pub fn take_range(
+        &mut self,
+        alloc: Global,
+        first: usize,
+        count: usize,
+    ) -> Result<Vec<ChunkPayloadData>, AllocError>
+        requires { first + count ≤ length self.old }
+        ensures taken { IfOk result (λ chunks. chunks.items ≡ take count (drop first self.old)) }
+        ensures rest { OnOk result (self.new
+            ≡ take first self.old ++ drop (first + count) self.old) }
+        ensures err { OnErr result (self.new ≡ self.old) }
+    {
+        let mut taken = Vec::with_capacity(alloc, count)?;
+        let gone = bytes_from(&self.chunks, first, count);
+        for _moved in 0..count {
+            let chunk = take_out(&mut self.chunks, first);
+            match taken.push(chunk) {
+                Ok(()) => {}
+                Err(_) => unreachable!(),
+            }
+        }
+        self.n_bytes = bytes_without(self.n_bytes, gone, &self.chunks);
+        self.serial = is_still_serial(self.serial, &self.chunks);
+        Ok(taken)
+    }
+
+    /// Equal fragments, which share their bytes. Refuses only for memory.
+    pub fn try_clone(&self, alloc: Global) -> Result<Self, Error>
+        ensures ok { IfOk result (λ unassembled. unassembled ≡ self.now) }
+        ensures memory { IfErr result (λ e. e ≡ ErrOutOfMemory) }
+    {
+        Ok(Loose {
+            chunks: clone_fragments(alloc, &self.chunks)?,
+            n_bytes: self.n_bytes,
+            serial: self.serial,
+        })
+    }
+
+    /// All of them, which only the queue's accessor lends on.
+    pub fn as_deque(&self) -> &VecDeque<UnassembledFragment>
+        ensures { result.now.items ≡ self.now }
+    {
+        &self.chunks
+    }
+
+    /// Drops the first `count`. It takes no memory.
+    /// Precondition: there are so many.
+    pub fn drop_front(&mut self, count: usize)
+        requires { count ≤ length self.old }
+        ensures { self.new ≡ drop count self.old }
+    {
+        let gone = bytes_from(&self.chunks, 0, count);
+        for _gone in 0..count {
+            self.chunks.pop_front();
+        }
+        self.n_bytes = bytes_without(self.n_bytes, gone, &self.chunks);
+        self.serial = is_still_serial(self.serial, &self.chunks);
+    }
+}
+
+// Whether a number comes before another; both fit.
+fn is_before(first: u32, second: u32) -> bool
+    ensures value { result ≡ comes_before first second }
+    ensures first_fits { first < 2 ^ 32 }
+    ensures second_fits { second < 2 ^ 32 }
+{
+    sna32lt(first, second)
+}
+
+// Whether the number comes after what stands before the place: after the nearest and the first.
+fn is_behind(chunks: &VecDeque<UnassembledFragment>, place: usize, tsn: u32) -> bool
+    requires { place ≤ length chunks.now.items }
+    ensures yes { result ≡ true → IsSerial chunks.now.items → (k : ℕ) (d : ChunkPayloadData)
+        → k < place → IsTrue (comes_before (slice_index_or chunks.now.items k d).tsn tsn) }
+    ensures no { result ≡ false → ((k : ℕ) (d : ChunkPayloadData)
+        → k < place → IsTrue (comes_before (slice_index_or chunks.now.items k d).tsn tsn)) → ⊥ }
+{
+    if place == 0 {
+        return true;
+    }
+    if !is_before(chunks[place - 1].chunk().tsn, tsn) {
+        return false;
+    }
+    is_before(chunks[0].chunk().tsn, tsn)
+}
+
+// Whether the number comes before what stands from the place on: before the nearest and the last.
+fn is_ahead(chunks: &VecDeque<UnassembledFragment>, place: usize, tsn: u32) -> bool
+    requires { place ≤ length chunks.now.items }
+    ensures yes { result ≡ true → IsSerial chunks.now.items
+        → (k : ℕ) (d : ChunkPayloadData) → place ≤ k → k < length chunks.now.items
+        → IsTrue (comes_before tsn (slice_index_or chunks.now.items k d).tsn) }
+    ensures no { result ≡ false
+        → ((k : ℕ) (d : ChunkPayloadData) → place ≤ k → k < length chunks.now.items
+        → IsTrue (comes_before tsn (slice_index_or chunks.now.items k d).tsn)) → ⊥ }
+{
+    let len = chunks.len();
+    if place == len {
+        return true;
+    }
+    if !is_before(tsn, chunks[place].chunk().tsn) {
+        return false;
+    }
+    is_before(tsn, chunks[len - 1].chunk().tsn)
+}
+
+// Whether fragments stand in serial order: each after the one before it, and after the first.
+fn are_serial(chunks: &VecDeque<UnassembledFragment>) -> bool
+    ensures { IsOrderMark result chunks.now.items }
+{
+    let len = chunks.len();
+    if len == 0 {
+        return true;
+    }
+    let first = chunks[0].chunk().tsn;
+    let mut last = first;
+    for place in 1..len {
+        let tsn = chunks[place].chunk().tsn;
+        if !is_before(last, tsn) {
+            return false;
+        }
+        if !is_before(first, tsn) {
+            return false;
+        }
+        last = tsn;
+    }
+    true
+}
+
+// Whether what is left stands in serial order: a list that did not is looked through.
+fn is_still_serial(was_serial: bool, chunks: &VecDeque<UnassembledFragment>) -> bool
+    requires { was_serial ≡ true → IsSerial chunks.now.items }
+    ensures { IsOrderMark result chunks.now.items }
+{
+    if was_serial {
+        return true;
+    }
+    are_serial(chunks)
+}
+
+// How many bytes some neighbours carry, up to the greatest number.
+fn bytes_from(chunks: &VecDeque<UnassembledFragment>, first: usize, count: usize) -> usize
+    requires { first + count ≤ length chunks.now.items }
+    ensures { result ≡ min (bytes_of (take count (drop first chunks.now.items))) (2 ^ 64 - 1) }
+{
+    let mut bytes = 0usize;
+    for step in 0..count {
+        bytes = bytes.saturating_add(chunks[first + step].chunk().user_data.len());
+    }
+    bytes
+}
+
+// The bytes of what is left, where so many were taken of so many: past the greatest number the rest is counted anew.
+fn bytes_without(n_bytes: usize, gone: usize, chunks: &VecDeque<UnassembledFragment>) -> usize
+    ensures { (n : ℕ) → n_bytes ≡ min (n + bytes_of chunks.now.items) (2 ^ 64 - 1)
+        → gone ≡ min n (2 ^ 64 - 1) → result ≡ min (bytes_of chunks.now.items) (2 ^ 64 - 1) }
+{
+    if n_bytes < usize::MAX {
+        return n_bytes.saturating_sub(gone);
+    }
+    bytes_from(chunks, 0, chunks.len())
+}
+
+/// Takes out the fragment at a place.
+/// Precondition: the place has one.
+fn take_out(chunks: &mut VecDeque<UnassembledFragment>, place: usize) -> ChunkPayloadData
+    requires { place < length chunks.old.items }
+    ensures rest { chunks.new.items ≡ remove chunks.old.items place }
+    ensures value { result ≡ slice_index_or chunks.old.items place result }
+{
+    match chunks.remove(place) {
+        Some(fragment) => fragment.into_chunk(),
+        None => unreachable!(),
+    }
+}
+
+// Equal fragments, which share their bytes.
+fn clone_fragments(
+    alloc: Global,
+    chunks: &VecDeque<UnassembledFragment>,
+) -> Result<VecDeque<UnassembledFragment>, Error>
+    ensures ok { IfOk result (λ copies. copies.items ≡ chunks.now.items) }
+    ensures memory { IfErr result (λ e. e ≡ ErrOutOfMemory) }
+{
+    let mut copies = VecDeque::with_capacity(alloc, chunks.len())?;
+    for place in 0..chunks.len() {
+        let copy = chunks[place].chunk().try_clone()?;
+        copies.push_back(UnassembledFragment::new(alloc, copy)?)?;
+    }
+    Ok(copies)
+}
+
+// Where a run that holds the place begins.
+fn run_start(
+    unassembled: &Loose,
+    place: usize,
+    here: &ChunkPayloadData,
+    turns: &mut Turns,
+) -> Option<usize>
+    requires in_range { place < length unassembled.now }
+    requires value { here.now ≡ slice_index_or unassembled.now place here.now }
+    ensures found { IfSome result (IsStart unassembled.now place) }
+    ensures none { IfNone result (HasNoStart unassembled.now place) }
+    ensures not_back { turns.old ≤ turns.new }
+    ensures cost { (first last : ℕ)
+        → IsStretch unassembled.now place first last → turns.new ≤ turns.old + (place - first) + 1 }
+{
+    let mut first = place;
+    let mut next = here;
+    while !next.beginning_fragment {
+        if first == 0 {
+            return None;
+        }
+        let before = unassembled.look(first - 1, turns);
+        if next.tsn != before.tsn.wrapping_add(1) {
+            return None;
+        }
+        first -= 1;
+        next = before;
+    }
+    Some(first)
+}
+
+// Where the shortest run that holds the place ends, if one does.
+fn run_end(
+    unassembled: &Loose,
+    place: usize,
+    here: &ChunkPayloadData,
+    turns: &mut Turns,
+) -> Option<usize>
+    requires in_range { place < length unassembled.now }
+    requires value { here.now ≡ slice_index_or unassembled.now place here.now }
+    ensures found { IfSome result (λ last. IsEnd unassembled.now place last
+        × IsFirstEnding unassembled.now place last) }
+    ensures fits { IfSome result (λ last. last + 1 < 2 ^ 64) }
+    ensures spent { IfSome result (λ last. turns.new + place ≡ turns.old + last) }
+    ensures none { IfNone result (HasNoEnd unassembled.now place) }
+    ensures not_back { turns.old ≤ turns.new }
+    ensures cost { (first last : ℕ)
+        → IsStretch unassembled.now place first last → turns.new ≤ turns.old + (last - place) + 1 }
+{
+    let len = unassembled.len();
+    let mut last = place;
+    let mut previous = here;
+    while !previous.ending_fragment {
+        if last + 1 == len {
+            return None;
+        }
+        let after = unassembled.look(last + 1, turns);
+        if after.beginning_fragment {
+            return None;
+        }
+        if after.tsn != previous.tsn.wrapping_add(1) {
+            return None;
+        }
+        last += 1;
+        previous = after;
+    }
+    Some(last)
+}
+
+// Whether no run that holds the place begins before it, so far as a look at the nearest tells.
+fn is_cut_off(unassembled: &Loose, place: usize, here: &ChunkPayloadData, turns: &mut Turns) -> bool
+    requires in_range { place < length unassembled.now }
+    requires value { here.now ≡ slice_index_or unassembled.now place here.now }
+    ensures yes { result ≡ true → HasNoStart unassembled.now place }
+    ensures no { result ≡ false
+        → here.now.beginning_fragment ≡ false → (0 < place) × ((d : ChunkPayloadData)
+        → here.now.tsn ≡ next_tsn (slice_index_or unassembled.now (place - 1) d).tsn) }
+    ensures not_back { turns.old ≤ turns.new }
+    ensures cost { turns.new ≤ turns.old + 1 }
+{
+    if here.beginning_fragment {
+        return false;
+    }
+    if place == 0 {
+        return true;
+    }
+    here.tsn != unassembled.look(place - 1, turns).tsn.wrapping_add(1)
+}
+
+// The run that holds the place, the one that ends earliest, by walks: to its end, then to its start.
+fn run_through(
+    unassembled: &Loose,
+    place: usize,
+    here: &ChunkPayloadData,
+    turns: &mut Turns,
+) -> Option<(usize, usize)>
+    requires in_range { place < length unassembled.now }
+    requires value { here.now ≡ slice_index_or unassembled.now place here.now }
+    ensures found { IfSome result (λ run. IsEarliestRunAround unassembled.now place run.0 run.1) }
+    ensures none { IfNone result (HasNoRunAround unassembled.now place) }
+    ensures not_back { turns.old ≤ turns.new }
+    ensures cost { (first last : ℕ)
+        → IsStretch unassembled.now place first last → turns.new ≤ turns.old + (last + 1 - first) }
+    ensures at_back { (first : ℕ) → IsStretch unassembled.now place first place
+        → here.now.ending_fragment ≡ false → turns.new ≤ turns.old + 1 }
+{
+    let last = run_end(unassembled, place, here, turns)?;
+    let first = run_start(unassembled, place, here, turns)?;
+    Some((first, last + 1 - first))
+}
+
+/// The place and the length of the run that holds the place, the one that ends earliest; None where there is
+/// none. A run is a complete message: it begins, no other fragment in it does, TSNs rise by one, and its last ends.
+///
+/// At the front of its stretch what does not begin takes two turns at most, at the back what does
+/// not end three: so does each fragment of a message that comes in order or reversed, but the last.
+/// Precondition: the place has a fragment.
+pub fn run_around(unassembled: &Loose, place: usize, turns: &mut Turns) -> Option<(usize, usize)>
+    requires { place < length unassembled.now }
+    ensures found { IfSome result (λ run. IsEarliestRunAround unassembled.now place run.0 run.1) }
+    ensures none { IfNone result (HasNoRunAround unassembled.now place) }
+    ensures not_back { turns.old ≤ turns.new }
+    ensures cost { (first last : ℕ)
+        → IsStretch unassembled.now place first last → turns.new ≤ turns.old + (last + 1 - first) + 2 }
+    ensures at_front { (last : ℕ) → IsStretch unassembled.now place place last
+        → ((d : ChunkPayloadData) → (slice_index_or unassembled.now place d).beginning_fragment ≡ false)
+        → turns.new ≤ turns.old + 2 }
+    ensures at_back { (first : ℕ) → IsStretch unassembled.now place first place → ((d : ChunkPayloadData)
+        → (slice_index_or unassembled.now place d).ending_fragment ≡ false) → turns.new ≤ turns.old + 3 }
+{
+    let here = unassembled.look(place, turns);
+    if is_cut_off(unassembled, place, here, turns) {
+        return None;
+    }
+    run_through(unassembled, place, here, turns)
+}
+
+/// The place and the length of the run that ends earliest, by a scan of all; None where there is none.
+pub fn find_run(unassembled: &Loose, turns: &mut Turns) -> Option<(usize, usize)>
+    ensures found { IfSome result (λ run. IsEarliestRun unassembled.now run.0 run.1) }
+    ensures none { IfNone result (HasNoRun unassembled.now) }
+{
+    for place in 0..unassembled.len() {
+        let here = unassembled.look(place, turns);
+        if !here.beginning_fragment {
+            continue;
+        }
+        if let Some(last) = run_end(unassembled, place, here, turns) {
+            return Some((place, last + 1 - place));
+        }
+    }
+    None
+}

@@ -1,0 +1,13 @@
+pub mod NothingHeld
+pub mod Released
+pub mod ExpiredLists
+pub mod Expired
+pub mod ExpiredReply
+pub mod AbandonedLists
+pub mod Abandoned
+pub mod AbandonedLate
+pub mod AbandonedEvents
+pub mod AbandonedLink
+pub mod AbandonedInTurn
+pub mod AbandonedBytes
+pub mod ChunkStreams

@@ -1,0 +1,142 @@
+-- What is released as messages are abandoned, by the record and by what the queues hold.
+use Rattle.std.proofs.Common.{◌≡◌, ℕ, ◌+◌, ◌-◌, ◌<◌, Bool, true, false, List, [], ◌∷◌, length, Option, Some, None, refl, ap, sym, ◌∙◌, arith}
+use Rattle.std.specs.Prelude.{if◌then◌else◌, ◌==◌, ◌&&◌, fold}
+use Rattle.sctp_list_lemmas.specs.Kept.{always}
+use Rattle.sctp_list_lemmas.proofs.More.{both}
+use Rattle.sctp_list_lemmas.proofs.Totals.{total-plus}
+use Rattle.sctp_outbound.specs.outbound_queue.OutboundQueue.{Outbound, total_bytes}
+use Rattle.sctp_model.specs.declared.event.Event.{Event}
+use Rattle.sctp_model.specs.declared.event.Event.TheVariants as E
+use Rattle.sctp_model.specs.declared.event.LinkRefusal.TheVariants.{NotInFlight}
+use Rattle.sctp_model.specs.World.{Setup, World}
+use Rattle.sctp_model.specs.Messages.{message_at, message_of, place_of, front, is_unsent, is_partially_sent, is_in_flight, is_past_deadline}
+use Rattle.sctp_model.specs.Amounts.{in_all, written_bytes, released_bytes, growth}
+use Rattle.sctp_model.specs.Changes.{late_messages, abandoned, expired, expiring, front_if, tailing, tail_abandoned}
+use Rattle.sctp_model.specs.Steps.{History, world_of, IsRun, refusal_of, reply_to, after}
+use Rattle.sctp_model.specs.Laws.{IsSetup}
+use Rattle.sctp_model.proofs.sender.Shape.{shape, sent}
+use Rattle.sctp_model.proofs.sender.SenderSteps.{of-half}
+use Rattle.sctp_model.proofs.sender.SenderRun.{Sane, AllSent, sent-all, late-sent, sane-run, sane-after, sane-abandoned, in-flight-sent, unless-holds}
+use Rattle.sctp_model.proofs.sender.Slots.{sent-made}
+use Rattle.sctp_model.proofs.sender.Fronts.{front-takes}
+use Rattle.sctp_model.proofs.sender.Moves
+use Rattle.sctp_model.proofs.sender.Moves.{Quiet}
+use Rattle.sctp_model.proofs.acknowledgement.Bytes.{balance, balances, size-some}
+use Rattle.sctp_model.proofs.acknowledgement.BytesTold.{count-abandoned}
+use Rattle.sctp_refinement.specs.Amount.{amount, held_bytes, released_along, released_along_on}
+use Rattle.sctp_refinement.specs.Counts.{is_write}
+use Rattle.sctp_refinement.specs.Refines.{RefinesOutbound}
+use Rattle.sctp_refinement.proofs.abandonment.NothingHeld.{amount-abandoned, amount-expired, held-in-abandoned, held-in-expired}
+use Rattle.sctp_refinement.proofs.amounts.InFlightBytes.{in-flight-bytes}
+use Rattle.sctp_refinement.proofs.amounts.MessageSums.{sum-same}
+use Rattle.sctp_refinement.proofs.amounts.PendingBytes.{pending-bytes}
+use Rattle.sctp_refinement.proofs.amounts.StreamCounters.{written-same}
+use Rattle.sctp_refinement.proofs.amounts.ToldSums.{AsTold, told-after, read-quiet}
+
+-- ## By what the queues hold
+
+-- but for writes, the released bytes grow by what the outbound queue holds less
+pub growth-by_queues : (setup : Setup) (h : History) → IsSetup setup → IsRun setup h → (e : Event) → refusal_of (world_of setup h) e ≡ None → is_write e ≡ false → (q r : Outbound) → RefinesOutbound (world_of setup h) q → RefinesOutbound (after (world_of setup h) e) r → growth (world_of setup h) (after (world_of setup h) e) ≡ total_bytes q - total_bytes r
+growth-by_queues setup h is run e ok a q r t u =
+    let w = world_of setup h in
+    let longer : History = (e, reply_to w e) ∷ h in
+    let more : IsRun setup longer = (ok, (refl, run)) in
+    omega (
+      arith,
+      (balances setup h is run).0,
+      (balances setup longer is more).0,
+      written-same setup w e (sane-run setup h run) a,
+      pending-bytes w q.pending t.pending,
+      in-flight-bytes setup h is run q t,
+      pending-bytes (after w e) r.pending u.pending,
+      in-flight-bytes setup longer is more r u,
+    )
+
+-- ## By the record
+
+pub balance-in : (setup : Setup) (w : World) → IsSetup setup → Sane setup w → in_all w (held_bytes w) + in_all w (released_bytes w) ≡ in_all w (written_bytes w)
+balance-in setup w is g = total-plus (held_bytes w) (released_bytes w) (written_bytes w) always 0 (length w.messages) (λ n a b. balance w n g.sender (size-some setup w is g) (omega arith))
+
+written-as : (w v : World) → AsTold w v → in_all v (written_bytes v) ≡ in_all w (written_bytes w)
+written-as w v t = sum-same w v (λ m. true) (λ m. length m.bytes) t.count (λ n lt. refl) (λ n lt. ap length (t.bytes n lt))
+
+-- abandoning a message releases what it holds
+pub released-abandoned : (setup : Setup) (w : World) (n : ℕ) → IsSetup setup → Sane setup w → 0 < sent (shape w) n → in_all (abandoned w n) (released_bytes (abandoned w n)) ≡ in_all w (released_bytes w) + held_bytes w n
+released-abandoned setup w n is g pos =
+    let v = abandoned w n in
+    let told = (read-quiet w v (count-abandoned w n) (Moves.quiet-abandoned setup w n g)).told in
+    omega (
+      arith,
+      balance-in setup w is g,
+      balance-in setup v is (sane-abandoned setup w n g pos),
+      written-as w v told,
+      held-in-abandoned w n (sent-made (shape w) n g.sender pos),
+    )
+
+-- the front, where a test chose it
+chosen : (w : World) (p : ℕ → Bool) (o : Option ℕ) (n : ℕ) → front_if w p o ≡ Some n → (o ≡ Some n) × (p n ≡ true)
+chosen w p None n e = cc
+chosen w p (Some k) n e = by (p k) refl e
+  where
+    by : (b : Bool) → p k ≡ b → (if b then Some k else None) ≡ Some n → (Some k ≡ Some n) × (p n ≡ true)
+    by true f h = let z : k ≡ n = cc in (h, ap p (sym z) ∙ f)
+    by false f h = cc
+
+-- ## Each event
+
+made-front : (setup : Setup) (w : World) (p : ℕ → Bool) (n : ℕ) → Sane setup w → front_if w p (front w) ≡ Some n → n < length w.messages
+made-front setup w p n g e = (front-takes (shape w) n g.sender (chosen w p (front w) n e).0).made
+
+module _ (setup : Setup) (w : World) (now n : ℕ) (g : Sane setup w) where
+  -- an Expire takes what the front holds from its stream
+  pub amount-expire : expiring w now ≡ Some n → (t : ℕ) → amount (after w (E.Expire now)) t + (if (message_at w n).stream == t then held_bytes w n else 0) ≡ amount w t
+  amount-expire e t = ap (λ o. amount (expired w o) t + (if (message_at w n).stream == t then held_bytes w n else 0)) e ∙ amount-expired w n t (made-front setup w (λ n. is_unsent w n && is_past_deadline w now n) n g e)
+
+  pub growth-expire : IsSetup setup → expiring w now ≡ Some n → growth w (after w (E.Expire now)) ≡ held_bytes w n
+  growth-expire is e =
+      let v = after w (E.Expire now) in
+      let held : in_all v (held_bytes v) + held_bytes w n ≡ in_all w (held_bytes w) = ap (λ o. in_all (expired w o) (held_bytes (expired w o)) + held_bytes w n) e ∙ held-in-expired w n (made-front setup w (λ n. is_unsent w n && is_past_deadline w now n) n g e) in
+      omega (arith, balance-in setup w is g, balance-in setup v is (sane-after setup w (E.Expire now) refl g), written-as w v (told-after setup w (E.Expire now) g refl), held)
+
+  -- a Tail takes what the partially sent front holds
+  pub amount-tail : tailing w now ≡ Some n → (t : ℕ) → amount (after w (E.Tail now)) t + (if (message_at w n).stream == t then held_bytes w n else 0) ≡ amount w t
+  amount-tail e t = ap (λ o. amount (tail_abandoned w o) t + (if (message_at w n).stream == t then held_bytes w n else 0)) e ∙ amount-abandoned w n t (made-front setup w (λ n. is_partially_sent w n && is_past_deadline w now n) n g e)
+
+  pub growth-tail : IsSetup setup → tailing w now ≡ Some n → growth w (after w (E.Tail now)) ≡ held_bytes w n
+  growth-tail is e =
+      let c = (chosen w (λ n. is_partially_sent w n && is_past_deadline w now n) (front w) n e).1 in
+      let half = (both (is_partially_sent w n) (is_past_deadline w now n) c).0 in
+      let r = released-abandoned setup w n is g (of-half (shape w) n half).some in
+      let z : growth w (abandoned w n) ≡ held_bytes w n = omega (arith, r) in
+      ap (λ o. growth w (tail_abandoned w o)) e ∙ z
+
+-- an Abandon takes what the message of the TSN holds
+module _ (setup : Setup) (w : World) (tsn : ℕ) (g : Sane setup w) (ok : refusal_of w (E.Abandon tsn) ≡ None) where
+  abbrev gone : ℕ
+  gone = message_of w (place_of w tsn)
+
+  sent-gone : 0 < sent (shape w) gone
+  sent-gone = in-flight-sent setup w (place_of w tsn) g (unless-holds (is_in_flight w (place_of w tsn)) NotInFlight None ok).0
+
+  pub amount-abandon : (t : ℕ) → amount (after w (E.Abandon tsn)) t + (if (message_at w gone).stream == t then held_bytes w gone else 0) ≡ amount w t
+  amount-abandon t = amount-abandoned w gone t (sent-made (shape w) gone g.sender sent-gone)
+
+  pub growth-abandon : IsSetup setup → growth w (after w (E.Abandon tsn)) ≡ held_bytes w gone
+  growth-abandon is = omega (arith, released-abandoned setup w gone is g sent-gone)
+
+-- ## Late
+
+released-fold : (setup : Setup) (ns : List ℕ) (w : World) → IsSetup setup → Sane setup w → AllSent w ns → in_all (fold abandoned w ns) (released_bytes (fold abandoned w ns)) ≡ in_all w (released_bytes w) + released_along w ns
+released-fold setup [] w is g a = omega arith
+released-fold setup (n ∷ ns) w is g a = omega (arith, released-abandoned setup w n is g a.0, released-fold setup ns (abandoned w n) is (sane-abandoned setup w n g a.0) (sent-all w n ns a.1))
+
+amount-fold : (setup : Setup) (ns : List ℕ) (w : World) (t : ℕ) → Sane setup w → AllSent w ns → amount (fold abandoned w ns) t + released_along_on w t ns ≡ amount w t
+amount-fold setup [] w t g a = omega arith
+amount-fold setup (n ∷ ns) w t g a = omega (arith, amount-abandoned w n t (sent-made (shape w) n g.sender a.0), amount-fold setup ns (abandoned w n) t (sane-abandoned setup w n g a.0) (sent-all w n ns a.1))
+
+-- a Late takes what its messages hold, one after another
+pub growth-late : (setup : Setup) (w : World) (now : ℕ) → IsSetup setup → Sane setup w → growth w (after w (E.Late now)) ≡ released_along w (late_messages w now)
+growth-late setup w now is g = omega (arith, released-fold setup (late_messages w now) w is g (late-sent setup w now g))
+
+pub amount-late : (setup : Setup) (w : World) (now t : ℕ) → Sane setup w → amount (after w (E.Late now)) t + released_along_on w t (late_messages w now) ≡ amount w t
+amount-late setup w now t g = amount-fold setup (late_messages w now) w t g (late-sent setup w now g)

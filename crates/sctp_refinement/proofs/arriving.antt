@@ -1,0 +1,15 @@
+pub mod Complete
+pub mod Arrival
+pub mod Stays
+pub mod Ordered
+pub mod Filter
+pub mod NextOfRun
+pub mod Unassembled
+pub mod Unordered
+pub mod UnorderedStep
+pub mod SlotArrives
+pub mod RunsOnce
+pub mod Carried
+pub mod FilterQueue
+pub mod Opened
+pub mod SpanEnds

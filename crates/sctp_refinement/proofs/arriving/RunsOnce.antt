@@ -1,0 +1,41 @@
+-- What an unordered push leaves is determined.
+use Rattle.std.proofs.Common.{◌≡◌, ℕ, ◌+◌, ◌<◌, ◌≤◌, Bool, true, false, List, [], ◌∷◌, ◌++◌, take, drop, refl, ap, sym, ◌∙◌, inl, inr, arith}
+use Rattle.std.specs.Prelude.{◌⊎◌}
+use Rattle.std.proofs.lemmas.Bool.{cases_lt}
+use Rattle.sctp_list_lemmas.proofs.More.{not_both}
+use Rattle.sctp_chunks.specs.declared.chunk.chunk_payload_data.ChunkPayloadData.{ChunkPayloadData}
+use Rattle.sctp_chunks.specs.declared.chunk.chunk_payload_data.PayloadProtocolIdentifier.TheVariants.{Unknown}
+use Rattle.sctp_chunks.specs.ChunkSet.{fresh}
+use Rattle.sctp_serial.specs.Runs.{IsRun, IsEarliestRun}
+use Rattle.sctp_reassembly.specs.reassembly_queue.ReassemblyQueue.{Reassembly, set_of_run, BecomesWhole}
+
+some_chunk : ChunkPayloadData
+some_chunk = fresh (record { unordered = false; beginning_fragment = false; ending_fragment = false; immediate_sack = false; tsn = 0; stream_identifier = 0; stream_sequence_number = 0; payload_type = Unknown; user_data = [] })
+
+-- two runs that end at the same place begin at the same place
+later-first : (xs : List ChunkPayloadData) (f n g m : ℕ) → IsRun xs f n → IsRun xs g m → f + n ≡ g + m → f < g → ⊥
+later-first xs f n g m a b ends lt = not_both (sym (a.no_other g some_chunk lt (omega (arith, b.some, ends))) ∙ b.begins some_chunk)
+
+pub same-run : (xs : List ChunkPayloadData) (f n g m : ℕ) → IsEarliestRun xs f n → IsEarliestRun xs g m → (f ≡ g) × (n ≡ m)
+same-run xs f n g m a b = step (cases_lt f g) (cases_lt g f)
+  where
+    ends : f + n ≡ g + m
+    ends = omega (arith, a.earliest g m b.run, b.earliest f n a.run)
+
+    step : (f < g) ⊎ (g ≤ f) → (g < f) ⊎ (f ≤ g) → (f ≡ g) × (n ≡ m)
+    step (inl l) t = absurd (later-first xs f n g m a.run b.run ends l)
+    step (inr l) (inl k) = absurd (later-first xs g m f n b.run a.run (sym ends) k)
+    step (inr l) (inr k) = (omega arith, omega (arith, ends))
+
+abbrev without_run : List ChunkPayloadData → Reassembly → ℕ → ℕ → Reassembly
+without_run xs old first count = record old { unassembled = take first xs ++ drop (first + count) xs; unordered = old.unordered ++ set_of_run (take count (drop first xs)) ∷ [] }
+
+same-left : (xs : List ChunkPayloadData) (old : Reassembly) {f n g m : ℕ} → f ≡ g → n ≡ m → without_run xs old f n ≡ without_run xs old g m
+same-left xs old {f} {n} {g} {m} a b = ap (λ k. without_run xs old k n) a ∙ ap (without_run xs old g) b
+
+-- an unordered push leaves one thing, and answers one thing
+pub becomes-same : (xs : List ChunkPayloadData) (old x y : Reassembly) (a b : Bool) → BecomesWhole xs old x a → BecomesWhole xs old y b → (x ≡ y) × (a ≡ b)
+becomes-same xs old x y true true t u = let s = same-run xs t.first t.count u.first u.count t.run u.run in (t.moved ∙ same-left xs old s.0 s.1 ∙ sym u.moved, refl)
+becomes-same xs old x y true false t u = absurd (u.0 t.first t.count t.run.run)
+becomes-same xs old x y false true t u = absurd (t.0 u.first u.count u.run.run)
+becomes-same xs old x y false false t u = (t.1 ∙ sym u.1, refl)

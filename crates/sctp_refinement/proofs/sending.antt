@@ -1,0 +1,16 @@
+pub mod Waiting
+pub mod Written
+pub mod LifetimesStart
+pub mod Sent
+pub mod SentInFlight
+pub mod KindsRun
+pub mod QuietReceiver
+pub mod InFlight
+pub mod Fragments
+pub mod FilledDatagrams
+pub mod Lent
+pub mod InLine
+pub mod SlotsGoOn
+pub mod LastSlot
+pub mod Begun
+pub mod BegunRun

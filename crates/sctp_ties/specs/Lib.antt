@@ -1,8 +1,0 @@
-pub mod Holds
-pub mod Naming
-pub mod Tied
-pub mod Amount
-pub mod Counts
-pub mod Indexes
-pub mod InTurn
-pub mod Filling
