@@ -5,9 +5,9 @@
 
 run at the top of the repository, by hand: it is no part of the gate. Retired words are those of the last table of docs/GLOSSARY.md.
 The docs are all pages (*.md); what stands in code fences or between backticks is no prose, and is passed over for words. With --all
-the count of each retired word in sources (*.rt, *.antt, *.edit), their code included, is printed too; the exit status does not
-depend on it. Paths that begin with a folder of this repository, and links, must name a file or a folder, from the
-top or beside the page. The exit status is 1 where a page has a retired word or a name of nothing.
+sources (*.rt, *.antt, *.edit, lists of wrong bodies) are looked through too, names in their code included: half_sent, HalfSent.
+The type `Loose` is passed over. Paths that begin with a folder of this repository, and links, must name a file or a folder,
+from the top or beside the page. The exit status is 1 where a retired word or a name of nothing is found.
 """
 
 import re
@@ -18,6 +18,7 @@ from pathlib import Path
 GLOSSARY = "docs/GLOSSARY.md"
 FENCE = re.compile(r"^```.*?^```", re.M | re.S)
 SPAN = re.compile(r"`[^`\n]*`")
+FIXED = re.compile(r"\bLoose\b")
 LINK = re.compile(r"\]\(([^)#\s]+)(#[^)\s]*)?\)")
 PATH = re.compile(r"(?<![\w/.])(?:crates|docs|tools|examples)/[\w./-]*\w")
 
@@ -74,12 +75,24 @@ def words_in_docs(words):
     return found
 
 
-def count_in_sources(words):
-    """Prints how often each retired word stands in sources, code included."""
-    texts = [Path(name).read_text() for name in files("*.rt", "*.antt", "*.edit")]
-    for word, other in words:
-        counts = [len(pattern(word).findall(text)) for text in texts]
-        print(f"sources: {word} (now: {other}): {sum(counts)} in {sum(map(bool, counts))} files")
+def name_pattern(word):
+    """The word in prose or in a name: lapsed, is_lapsed, half-sent, HalfSent."""
+    parts = [re.escape(part) for part in re.split(r"[\s-]", word)]
+    snake = r"(?<![A-Za-z])(?i:" + r"[\s_-]+".join(parts) + r")(?![A-Za-z])"
+    camel = "".join(part.capitalize() for part in parts) + r"(?![a-z])"
+    return re.compile(snake + "|" + camel)
+
+
+def words_in_sources(words):
+    """Prints each retired word in sources, code included, and answers how many there are."""
+    found = 0
+    for name in files("*.rt", "*.antt", "*.edit", "*/must-fail/*.md"):
+        text = FIXED.sub(blank, Path(name).read_text())
+        for word, other in words:
+            for match in name_pattern(word).finditer(text):
+                print(f"{name}:{line_of(text, match.start())}: {word} (now: {other})")
+                found += 1
+    return found
 
 
 def exists(page, target):
@@ -109,7 +122,7 @@ def main():
     words = retired()
     found = words_in_docs(words) + names_of_nothing()
     if sys.argv[1:]:
-        count_in_sources(words)
+        found += words_in_sources(words)
     print(f"{len(pages())} pages, {len(words)} retired words, {found} faults")
     sys.exit(1 if found else 0)
 

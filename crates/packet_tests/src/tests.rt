@@ -215,7 +215,7 @@ fn whole_is_read(alloc: Global) -> bool {
 }
 
 #[test]
-fn whole_message(rt: HostRuntime) {
+fn complete_message(rt: HostRuntime) {
     let alloc = rt.alloc();
     assert!(rt; whole_is_read(alloc) && is_rewritten(alloc, &WHOLE, &WHOLE));
 }

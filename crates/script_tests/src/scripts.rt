@@ -250,15 +250,15 @@ fn lines_that_cannot_be_read(rt: HostRuntime) {
     assert_eq!(rt; first_that_is_read(rt.alloc(), &lines), None);
 }
 
-fn is_no_text(alloc: Global, script: &[u8]) -> bool {
+fn is_refused_as_input(alloc: Global, script: &[u8]) -> bool {
     prints(alloc, script, "", Err(RunFault::Input))
 }
 
 #[test]
-fn input_that_is_no_text(rt: HostRuntime) {
+fn input_that_is_not_utf8(rt: HostRuntime) {
     let alloc = rt.alloc();
-    let in_a_line = is_no_text(alloc, b"link 10 3 100\nopen 1\n\xff\n");
-    assert!(rt; in_a_line && is_no_text(alloc, b"bad\n\x80"));
+    let in_a_line = is_refused_as_input(alloc, b"link 10 3 100\nopen 1\n\xff\n");
+    assert!(rt; in_a_line && is_refused_as_input(alloc, b"bad\n\x80"));
 }
 
 /// Gives its bytes, and then fails.

@@ -70,8 +70,8 @@ with_filter_of f x = record x { cumulative_tsn = f.cumulative_tsn; beyond = f.be
 abbrev pub opened_on : ℕ → Sides → Sides
 opened_on s x = record x { streams = x.streams ++ new_open_stream s x.fragment_size x.max_message_size ∷ [] }
 
-abbrev pub in_mode : ℕ → Bool → ReliabilityType → ℕ → Sides → Sides
-in_mode s unordered reliability value x = on_stream s (on_state (Outgoing.with_mode unordered reliability value)) x
+abbrev pub after_mode : ℕ → Bool → ReliabilityType → ℕ → Sides → Sides
+after_mode s unordered reliability value x = on_stream s (on_state (Outgoing.with_mode unordered reliability value)) x
 
 -- ## Sending
 
@@ -80,8 +80,8 @@ abbrev pub written_on : OpenStream → ℕ → PayloadProtocolIdentifier → Lis
 written_on l s ppi bytes x = with_flight (with_queue x.flight (with_message (fragments_with_mode l.state ppi bytes) x.flight.queue)) (on_stream s (wrote_to ppi bytes) x)
 
 -- the next fragment goes in flight
-abbrev pub next_sent : ℕ → Flight → Flight
-next_sent now f = record f { queue = sent_next f.queue f.next_tsn now; next_tsn = next_after_send f }
+abbrev pub flight_after_send : ℕ → Flight → Flight
+flight_after_send now f = record f { queue = sent_next f.queue f.next_tsn now; next_tsn = next_after_send f }
 
 abbrev pub sack_taken : Sack → Sides → Sides
 sack_taken s x = record x { streams = released (released_by s x.flight) x.streams; flight = after_sack s x.flight }

@@ -46,7 +46,7 @@ impl Model for Halves {
 impl Halves {
     ghost use Rattle.sctp_transfer.specs.TsnFilter.{mark};
     ghost use Rattle.sctp_halves.specs.Streams.{OpenStream, has_number, stats_in};
-    ghost use Rattle.sctp_halves.specs.Halves.{fresh, stream_in, is_open, opened_on, in_mode};
+    ghost use Rattle.sctp_halves.specs.Halves.{fresh, stream_in, is_open, opened_on, after_mode};
 
     /// No stream is open, and nothing was sent: the first chunk gets the first TSN, which is expected next. It takes no memory.
     /// Precondition: `fragment_size` is 1 to 65,519.
@@ -119,7 +119,7 @@ impl Halves {
         reliability: ReliabilityType,
         value: u32,
     )
-        ensures { self.new ≡ in_mode stream unordered reliability value self.old }
+        ensures { self.new ≡ after_mode stream unordered reliability value self.old }
     {
         let _ = self.sender.set_mode(stream, unordered, reliability, value);
     }

@@ -17,13 +17,13 @@ wire_data c = data_chunk (data_of c)
 abbrev pub block_of : ℕ × ℕ → GapAckBlock
 block_of b = record { start = b.0; end = b.1 }
 
-abbrev pub name_with : ℕ × ℕ → ChunkForwardTsnStream
-name_with n = record { identifier = n.0; sequence = n.1 }
+abbrev pub named_stream : ℕ × ℕ → ChunkForwardTsnStream
+named_stream n = record { identifier = n.0; sequence = n.1 }
 
 -- what a datagram says, as chunks
 abbrev pub chunks_of : Contents → List Wire
 chunks_of (DataContents chunks) = map wire_data chunks
-chunks_of (ForwardContents cumulative names) = forward_tsn_chunk (record { new_cumulative_tsn = cumulative; streams = map name_with names }) ∷ []
+chunks_of (ForwardContents cumulative names) = forward_tsn_chunk (record { new_cumulative_tsn = cumulative; streams = map named_stream names }) ∷ []
 chunks_of (SackContents cumulative credit blocks duplicates) =
     sack_chunk (record { cumulative_tsn_ack = cumulative; advertised_receiver_window_credit = credit; gap_ack_blocks = map block_of blocks; duplicate_tsn = duplicates }) ∷ []
 

@@ -1,4 +1,4 @@
--- What a link keeps beside its record, and how all of it is tied to the record.
+-- What a link keeps beside its record, and that all of it refines the record.
 use Rattle.std.specs.Prelude.{◌≡◌, ◌==◌, ℕ, ◌<◌, ◌≤◌, true, ◌%◌, ◌^◌, List, length, slice_index_or, slice_get, Bool, Some}
 use Rattle.sctp_outbound.specs.outbound_queue.OutboundQueue.{Outbound}
 use Rattle.sctp_model.specs.World as W

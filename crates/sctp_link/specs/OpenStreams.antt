@@ -8,8 +8,8 @@ use Rattle.sctp_link.specs.declared.record.Message.{Message}
 use Rattle.sctp_link.specs.declared.record.Slot.{Slot}
 
 -- the message of a write to stream s
-abbrev pub message_with : ℕ → Written → PayloadProtocolIdentifier → List ℕ → Message
-message_with s w ppi bytes =
+abbrev pub message_written : ℕ → Written → PayloadProtocolIdentifier → List ℕ → Message
+message_written s w ppi bytes =
     record {
       stream = s;
       ordered = w.ordered;
@@ -40,8 +40,8 @@ marks false number fragment = []
 marks true number fragment = record { message = number; fragment = fragment; is_terminal_chunk = true; arrived = false; acknowledged = false } ∷ []
 
 -- the slot of a fragment
-abbrev pub slot_with : ℕ → ℕ → Slot
-slot_with number fragment = record { message = number; fragment = fragment; is_terminal_chunk = false; arrived = false; acknowledged = false }
+abbrev pub fragment_slot : ℕ → ℕ → Slot
+fragment_slot number fragment = record { message = number; fragment = fragment; is_terminal_chunk = false; arrived = false; acknowledged = false }
 
 -- the next fragment of a message is its first one, and it is ordered
 abbrev pub begins : Message → Bool

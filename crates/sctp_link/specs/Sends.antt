@@ -7,7 +7,7 @@ use Rattle.sctp_halves.specs.Streams.{OpenStream, begun_of}
 use Rattle.sctp_halves.specs.Halves.{Sides}
 use Rattle.sctp_link.specs.declared.record.Message.{Message}
 use Rattle.sctp_link.specs.declared.record.Slot.{Slot}
-use Rattle.sctp_link.specs.OpenStreams.{slot_with, with_fragment, begun_by}
+use Rattle.sctp_link.specs.OpenStreams.{fragment_slot, with_fragment, begun_by}
 
 -- what a fragment changes when it leaves
 pub record Sender : Type 0 where
@@ -39,7 +39,7 @@ pub record Leaves (now : ℕ) (s t : Sender) : Type 0 where
   pub outbound : t.outbound ≡ sent_next s.outbound s.next_tsn now
   pub messages : t.messages ≡ slice_set s.messages chunk.message_id (with_fragment s.streams message)
   pub streams : t.streams ≡ begun_by message s.streams
-  pub slots : t.slots ≡ s.slots ++ slot_with chunk.message_id message.sent ∷ []
+  pub slots : t.slots ≡ s.slots ++ fragment_slot chunk.message_id message.sent ∷ []
   pub next_tsn : t.next_tsn ≡ following_tsn s.next_tsn
 
 -- so many leave, one after another

@@ -12,7 +12,7 @@ use Rattle.sctp_halves.specs.Streams.{OpenStream, with_named}
 use Rattle.sctp_link.specs.declared.skipped.Named.{Named}
 use Rattle.sctp_link.specs.declared.record.Message.{Message}
 use Rattle.sctp_link.specs.Records.{message_record, progress_of}
-use Rattle.sctp_link.specs.Encodings.{name_with}
+use Rattle.sctp_link.specs.Encodings.{named_stream}
 
 -- message n
 abbrev pub message_in : List Message → ℕ → W.Message
@@ -45,7 +45,7 @@ with_name ms s n named =
 
 -- the pair that names message n
 abbrev pub pair_in : List Message → ℕ → ChunkForwardTsnStream
-pair_in ms n = name_with ((message_in ms n).stream, index_in ms n % 2 ^ 16)
+pair_in ms n = named_stream ((message_in ms n).stream, index_in ms n % 2 ^ 16)
 
 -- a stream on which so far its messages were named
 abbrev pub with_names : List Message → List ℕ → OpenStream → OpenStream
@@ -53,4 +53,4 @@ with_names ms names l = with_named (named_from ms l.state.stream_identifier none
 
 -- a skip as the chunk says it (RFC 3758 3.2)
 abbrev pub wire_skip : World → ℕ → List ℕ → ForwardTsn
-wire_skip w upto names = record { new_cumulative_tsn = tsn_of w upto; streams = map name_with (map (name_of w) names) }
+wire_skip w upto names = record { new_cumulative_tsn = tsn_of w upto; streams = map named_stream (map (name_of w) names) }

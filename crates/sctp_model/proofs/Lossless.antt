@@ -24,7 +24,7 @@ use Rattle.sctp_model.proofs.sender.Network
 use Rattle.sctp_model.proofs.acknowledgement.BytesTold.{messages-sent}
 use Rattle.sctp_list_lemmas.proofs.Cases.{by_last}
 
--- ## No message is abandoned
+-- ## No message expires or is abandoned
 
 abbrev pub AllAlive : Shape → Type 0
 AllAlive x = (n : ℕ) → n < x.count → ((x.message n).expired ≡ false) × ((x.message n).abandoned ≡ false)

@@ -38,7 +38,7 @@ pending_bytes w n = if is_expired_or_abandoned w n then 0 else unsent_bytes w n
 abbrev pub in_flight_bytes : World → ℕ → ℕ
 in_flight_bytes w n = if is_expired_or_abandoned w n then 0 else unacknowledged_bytes w n
 
--- the bytes of message n that were released: all where it was abandoned, else those acknowledged
+-- the bytes of message n that were released: all where it expired or was abandoned, else those acknowledged
 abbrev pub released_bytes : World → ℕ → ℕ
 released_bytes w n = if is_expired_or_abandoned w n then written_bytes w n else acknowledged_bytes w n
 

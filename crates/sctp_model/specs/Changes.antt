@@ -59,12 +59,12 @@ wrote w s ppi [] = w
 wrote w s ppi (b ∷ bs) = record w { messages = w.messages ++ message_on w (Messages.stream_of w s) ppi (b ∷ bs) ∷ [] }
 
 -- the lifetime of a message starts once
-abbrev pub start_at : ℕ → Message → Message
-start_at now m = record m { started = if is_none m.started then Some now else m.started }
+abbrev pub start_lifetime : ℕ → Message → Message
+start_lifetime now m = record m { started = if is_none m.started then Some now else m.started }
 
 -- the lifetimes of the messages that have not started start now
 abbrev pub started : World → ℕ → World
-started w now = record w { messages = map (start_at now) w.messages }
+started w now = record w { messages = map (start_lifetime now) w.messages }
 
 -- ## Slots and datagrams
 

@@ -8,8 +8,8 @@ use Rattle.sctp_model.specs.World as W
 use Rattle.sctp_model.specs.Messages.{message_at, slot_at, message_of, ssn_of, fragment_at, fragment_count, tsn_of}
 
 -- fragment i of message n as a DATA chunk with this TSN has it
-abbrev pub data_with : World → ℕ → ℕ → ℕ → Data
-data_with w n i tsn =
+abbrev pub data_fields : World → ℕ → ℕ → ℕ → Data
+data_fields w n i tsn =
     record {
       unordered = not (message_at w n).ordered;
       beginning_fragment = i == 0;
@@ -24,7 +24,7 @@ data_with w n i tsn =
 
 -- the DATA chunk of the slot at this place
 abbrev pub chunk_at : World → ℕ → ChunkPayloadData
-chunk_at w place = fresh (data_with w (message_of w place) (slot_at w place).fragment (tsn_of w place))
+chunk_at w place = fresh (data_fields w (message_of w place) (slot_at w place).fragment (tsn_of w place))
 
 -- the TSN of the last of so many slots; of none, the one before the first TSN
 abbrev pub cumulative_tsn : World → ℕ → ℕ

@@ -190,14 +190,14 @@ mode_in ((E.Mode t unordered reliability value, r) ∷ older) s =
 mode_in (entry ∷ older) s = mode_in older s
 
 -- the mode of a message with this payload type: DCEP is always ordered (RFC 8832 6)
-abbrev pub mode_with : PayloadProtocolIdentifier → Mode → Mode
-mode_with ppi m = record m { unordered = not (Messages.is_dcep ppi || not m.unordered) }
+abbrev pub mode_for : PayloadProtocolIdentifier → Mode → Mode
+mode_for ppi m = record m { unordered = not (Messages.is_dcep ppi || not m.unordered) }
 
 -- the modes of the accepted writes of at least one byte, in order
 abbrev pub modes_in : History → List Mode
 modes_in [] = []
 modes_in ((E.Write s ppi [], r) ∷ older) = modes_in older
-modes_in ((E.Write s ppi (b ∷ bs), r) ∷ older) = modes_in older ++ mode_with ppi (mode_in older s) ∷ []
+modes_in ((E.Write s ppi (b ∷ bs), r) ∷ older) = modes_in older ++ mode_for ppi (mode_in older s) ∷ []
 modes_in (entry ∷ older) = modes_in older
 
 -- those of stream s among writes in these modes: each message, and whether it is unordered

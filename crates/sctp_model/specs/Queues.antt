@@ -9,7 +9,7 @@ use Rattle.sctp_model.specs.World.{World}
 use Rattle.sctp_model.specs.Messages
 use Rattle.sctp_model.specs.Receiver
 use Rattle.sctp_model.specs.Amounts.{is_expired_or_abandoned}
-use Rattle.sctp_model.specs.Contents.{data_with, chunk_at, cumulative_tsn}
+use Rattle.sctp_model.specs.Contents.{data_fields, chunk_at, cumulative_tsn}
 
 -- ## The outbound queue
 
@@ -26,7 +26,7 @@ abbrev pub pending_at : World → ℕ → ℕ → PendingFragment
 pending_at w n i =
     record {
       message = n;
-      fragment = data_with w n i 0;
+      fragment = data_fields w n i 0;
       reliability = (Messages.message_at w n).reliability;
       value = (Messages.message_at w n).value;
       deadline = Messages.deadline_of w n;

@@ -82,7 +82,7 @@ pub fn nothing_when_exhausted()
 /// the slots that it lists and no others.
 pub fn lifetimes_end()
     ensures once { OnEveryRun StartsOnce }
-    ensures lapse { OnEveryRun DeadlinesByEvents }
+    ensures deadlines { OnEveryRun DeadlinesByEvents }
     ensures expire { OnEveryRun ExpiresPastDeadline }
     ensures tail { OnEveryRun TailAbandonsPastDeadline }
     ensures listed { OnEveryRun LateListsPastDeadline }

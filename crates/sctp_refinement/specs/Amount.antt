@@ -41,7 +41,7 @@ keeps_amounts _ = true
 abbrev pub stream_of_slot : World → ℕ → ℕ
 stream_of_slot w place = (message_at w (message_of w place)).stream
 
--- the bytes that the slot at this place holds: none where it is a terminal chunk or its message was abandoned
+-- the bytes that the slot at this place holds: none where it is a terminal chunk or its message expired or was abandoned
 abbrev pub bytes_at : World → ℕ → ℕ
 bytes_at w place = if (slot_at w place).is_terminal_chunk || is_expired_or_abandoned w (message_of w place) then 0 else slot_bytes w (message_of w place) place
 

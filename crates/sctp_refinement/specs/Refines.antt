@@ -14,7 +14,7 @@ use Rattle.sctp_outbound.specs.declared.pending_queue.Selected.{Selected}
 use Rattle.sctp_model.specs.World.{World}
 use Rattle.sctp_model.specs.Messages.{message_at, message_of, tsn_of, stream_at, messages_where, is_partially_sent, sent_of, fragment_count, deadline_of}
 use Rattle.sctp_model.specs.Amounts.{is_expired_or_abandoned}
-use Rattle.sctp_model.specs.Contents.{data_with, chunk_at}
+use Rattle.sctp_model.specs.Contents.{data_fields, chunk_at}
 use Rattle.sctp_model.specs.Queues.{FilterRecord, InFlightChunk, in_flight_at, is_cleared, filter_of, PendingFragment, PendingRecord}
 use Rattle.sctp_refinement.specs.Holds.{reassembly_of}
 
@@ -23,7 +23,7 @@ use Rattle.sctp_refinement.specs.Holds.{reassembly_of}
 -- fragment i of message n as it waits: nothing of it was sent yet
 abbrev pub waiting_at : World → ℕ → ℕ → ChunkPayloadData
 waiting_at w n i =
-    record (fresh (data_with w n i 0)) {
+    record (fresh (data_fields w n i 0)) {
       message_id = n;
       reliability = Some ((message_at w n).reliability, (message_at w n).value);
       deadline = deadline_of w n;

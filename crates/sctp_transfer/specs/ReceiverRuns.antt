@@ -53,18 +53,18 @@ abbrev pub with_message : ℕ → Option ChunkSet → List Message → List Mess
 with_message stream None ms = ms
 with_message stream (Some set) ms = record { stream = stream; fragments = set.chunks } ∷ ms
 
-abbrev pub read_after : Call → Reception → List Message → List Message
-read_after (reads stream) r ms = with_message stream (message_on stream r) ms
-read_after (takes c arrival) r ms = ms
-read_after (opens stream) r ms = ms
-read_after reports r ms = ms
-read_after (forwards f) r ms = ms
+abbrev pub messages_after : Call → Reception → List Message → List Message
+messages_after (reads stream) r ms = with_message stream (message_on stream r) ms
+messages_after (takes c arrival) r ms = ms
+messages_after (opens stream) r ms = ms
+messages_after reports r ms = ms
+messages_after (forwards f) r ms = ms
 
 -- one call, and calls one after another
 pub record Follows (c : Call) (old new : Stand) : Type 0 where
   pub receiver : Makes c old.receiver new.receiver
   pub accepted : new.accepted ≡ accepted_after c old.accepted
-  pub read : new.read ≡ read_after c old.receiver old.read
+  pub read : new.read ≡ messages_after c old.receiver old.read
 
 abbrev pub RunsTo : Stand → List Call → Stand → Type 0
 RunsTo old [] new = new ≡ old

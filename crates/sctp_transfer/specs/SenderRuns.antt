@@ -30,8 +30,8 @@ pub data Call : Type 0 where
   -- `acked`
   takes_sack : List Released → Call
 
-abbrev pub bytes_held : Transmission → ℕ
-bytes_held t = total_bytes t.flight.queue
+abbrev pub held_by_sender : Transmission → ℕ
+held_by_sender t = total_bytes t.flight.queue
 
 abbrev pub bytes_of_all : List AbandonedMessage → ℕ
 bytes_of_all gs = sum_by (λ g. g.bytes) gs
@@ -43,11 +43,11 @@ Makes (sets_mode stream unordered reliability value) old new = new ≡ with_mode
 Makes (starts now) old new = new ≡ with_flight (with_queue old.flight (all_started now old.flight.queue)) old
 Makes (reserves count) old new = new ≡ with_flight (with_queue old.flight (with_room count old.flight.queue)) old
 Makes (resends tsn c) old new = new ≡ with_flight (resent tsn c old.flight) old
-Makes (writes bytes) old new = bytes_held new ≡ bytes_held old + length bytes
-Makes sends old new = bytes_held new ≡ bytes_held old
-Makes (abandons bytes) old new = bytes_held new + bytes ≡ bytes_held old
-Makes (abandons_late gone) old new = bytes_held new + bytes_of_all gone ≡ bytes_held old
-Makes (takes_sack gone) old new = bytes_held new + bytes_in gone ≡ bytes_held old
+Makes (writes bytes) old new = held_by_sender new ≡ held_by_sender old + length bytes
+Makes sends old new = held_by_sender new ≡ held_by_sender old
+Makes (abandons bytes) old new = held_by_sender new + bytes ≡ held_by_sender old
+Makes (abandons_late gone) old new = held_by_sender new + bytes_of_all gone ≡ held_by_sender old
+Makes (takes_sack gone) old new = held_by_sender new + bytes_in gone ≡ held_by_sender old
 
 abbrev pub written_by : Call → ℕ
 written_by (writes bytes) = length bytes
@@ -88,4 +88,4 @@ AfterEachRun P = (tsn size max : ℕ) (calls : List Call) (l : Ledger) → RunsT
 
 -- each byte that was written waits, is in flight, or was answered as one that left
 abbrev pub IsAccounted : Ledger → Type 0
-IsAccounted l = l.written ≡ bytes_held l.sender + l.released
+IsAccounted l = l.written ≡ held_by_sender l.sender + l.released

@@ -22,7 +22,7 @@ impl Halves {
     ghost use Rattle.sctp_transfer.specs.Flight.{with_queue, with_room, may_send, resent, sack_refusal, has_tail_at, message_to_abandon};
     ghost use Rattle.sctp_transfer.specs.Sender.{write_refusal};
     ghost use Rattle.sctp_halves.specs.Streams.{OpenStream, begun_of, with_begun, written_of};
-    ghost use Rattle.sctp_halves.specs.Halves.{transmission_of, stream_in, on_stream, with_flight, written_on, next_sent, sack_taken, abandoned_on, expired_unsent};
+    ghost use Rattle.sctp_halves.specs.Halves.{transmission_of, stream_in, on_stream, with_flight, written_on, flight_after_send, sack_taken, abandoned_on, expired_unsent};
 
     /// Takes a write of at least one byte: its fragments wait. Answers what is recorded of it.
     /// Precondition: the sender does not refuse it, and fewer than the greatest u64 ordered messages were written to its stream.
@@ -98,7 +98,7 @@ impl Halves {
     pub fn send_next(&mut self, now: u64)
         requires next { may_send self.old.flight ≡ true }
         requires room { 0 < self.old.flight.queue.inflight.room }
-        ensures { self.new ≡ with_flight (next_sent now self.old.flight) self.old }
+        ensures { self.new ≡ with_flight (flight_after_send now self.old.flight) self.old }
     {
         match self.sender.send_next_tsn(now) {
             Ok(_) => {}

@@ -39,8 +39,8 @@ place-made w t e = let a = (both (nat_le w.taken (place_of w t)) (nat_lt (place_
 -- the bytes that leave are few
 pub turn-few : (w v : World) → IsTurn w v → growth w v < 2 ^ 47
 turn-few w v t =
-    let is : IsSetup v.setup = subst IsSetup (sym t.giving.first) t.setup in
-    omega (arith, turn-written w v t, written-few w.setup v is t.giving.sane)
+    let is : IsSetup v.setup = subst IsSetup (sym t.abandoning.first) t.setup in
+    omega (arith, turn-written w v t, written-few w.setup v is t.abandoning.sane)
 
 module _ (sum : List ℕ → ℕ) (x : State) (l : IsLinked sum x) (now : ℕ) (ts : List ℕ) (listed : ts ≡ late_tsns now x.outbound) where
   abbrev w : World

@@ -9,7 +9,7 @@ use Rattle.sctp_reassembly.specs.reassembly_queue.ReassemblyQueue.{Reassembly}
 use Rattle.sctp_model.specs.World.{World, Report, Sack}
 use Rattle.sctp_model.specs.Messages.{message_at, stream_of, is_ordered_on, is_unordered_on, index_of, ssn_of, fragment_count, tsn_of}
 use Rattle.sctp_model.specs.Receiver.{is_unread, next_of}
-use Rattle.sctp_model.specs.Contents.{data_with, cumulative_tsn}
+use Rattle.sctp_model.specs.Contents.{data_fields, cumulative_tsn}
 use Rattle.sctp_model.specs.Queues.{FilterRecord, filter_of}
 use Rattle.sctp_model.specs.Changes.{sack_taken}
 use Rattle.sctp_model.proofs.sender.Shape.{has}
@@ -19,7 +19,7 @@ use Rattle.sctp_refinement.specs.Holds.{reassembly_of}
 -- ## What came, by what a view tells of the slots
 
 abbrev chunk_in : World → View → ℕ → ChunkPayloadData
-chunk_in w y p = fresh (data_with w (y.x.slot p).message (y.x.slot p).fragment (tsn_of w p))
+chunk_in w y p = fresh (data_fields w (y.x.slot p).message (y.x.slot p).fragment (tsn_of w p))
 
 abbrev come : View → ℕ → ℕ → Bool
 come y n p = has y.x n p && y.arrived p

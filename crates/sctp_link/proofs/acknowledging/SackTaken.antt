@@ -59,7 +59,7 @@ use Rattle.sctp_link.proofs.acknowledging.FlightAcked.{told, covered-at, between
 use Rattle.sctp_link.proofs.acknowledging.StreamsLess.{with_amount, released_on, chunks_on, length-released, released-at, told-on, on-unacked}
 use Rattle.sctp_link.proofs.sender.Flying.{flying}
 use Rattle.sctp_link.proofs.sender.Beginning.{index_kept, indexed-of}
-use Rattle.sctp_link.specs.OpenStreams.{slot_with}
+use Rattle.sctp_link.specs.OpenStreams.{fragment_slot}
 use Rattle.sctp_link.proofs.acknowledging.SackFrames.{reassembly-taken, filter-taken}
 
 -- ## The SACK that is there
@@ -182,7 +182,7 @@ slots-then w r xs i =
     ∙ sym (numbered-at (acknowledged_by r) 0 k w.slots d made))
   where
     none : Slot
-    none = slot_with 0 0
+    none = fragment_slot 0 0
 
 -- each stream has the amount of its number
 abbrev as_left : World → Report → OpenStream → OpenStream

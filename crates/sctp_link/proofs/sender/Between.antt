@@ -15,7 +15,7 @@ use Rattle.sctp_model.specs.World.{World}
 use Rattle.sctp_model.specs.World as W
 use Rattle.sctp_model.specs.Messages as M
 use Rattle.sctp_model.specs.Messages.{front, message_at, no_message, tsn_of}
-use Rattle.sctp_model.specs.Changes.{started, start_at, with_slot, fragment_sent, fragment_of_sent}
+use Rattle.sctp_model.specs.Changes.{started, start_lifetime, with_slot, fragment_sent, fragment_of_sent}
 use Rattle.sctp_model.proofs.sender.Shape.{shape, slotted, sent as sent_by}
 use Rattle.sctp_model.proofs.sender.Shapes
 use Rattle.sctp_model.proofs.sender.Few
@@ -33,7 +33,7 @@ use Rattle.sctp_refinement.proofs.sending.LifetimesStart.{refines-started}
 use Rattle.sctp_halves.specs.Streams.{OpenStream, begun_in, begun_of, has_number, stream_numbers}
 use Rattle.sctp_link.specs.declared.record.Message.{Message}
 use Rattle.sctp_link.specs.Linked.{State, IsLinked}
-use Rattle.sctp_link.specs.OpenStreams.{start_from, slot_with, begins, with_fragment}
+use Rattle.sctp_link.specs.OpenStreams.{start_from, fragment_slot, begins, with_fragment}
 use Rattle.sctp_link.specs.Records.{message_record, progress_of, slot_record, stream_record}
 use Rattle.sctp_link.specs.Sends.{Sender, CanSend, Leaves, Leave}
 use Rattle.sctp_link.proofs.upkeep.Apart.{map-set, map-set_same, number-found}
@@ -119,10 +119,10 @@ module _ (x : State) (now : ℕ) (v : World) (s : Sender) (b : Between x now v s
   few = Few.few x.world.setup v b.going.sane
 
   count-same : length v.messages ≡ length x.world.messages
-  count-same = ap (λ (z : World). length z.messages) b.only ∙ length-mapped (start_at now) x.world.messages
+  count-same = ap (λ (z : World). length z.messages) b.only ∙ length-mapped (start_lifetime now) x.world.messages
 
   count-kept : length s.messages ≡ length x.world.messages
-  count-kept = sym (length-mapped message_record s.messages) ∙ ap length b.messages ∙ length-mapped (start_at now) x.world.messages
+  count-kept = sym (length-mapped message_record s.messages) ∙ ap length b.messages ∙ length-mapped (start_lifetime now) x.world.messages
 
   sent-few : (n : ℕ) → M.sent_of v n < 2 ^ 31
   sent-few n = omega (arith, few, length-kept-le (M.has_fragment v n) 0 (length v.slots))
@@ -291,10 +291,10 @@ module _ (x : State) (now : ℕ) (v : World) (s : Sender) (b : Between x now v s
 
       slots-then : map slot_record t.slots ≡ (with_slot v n false).slots
       slots-then =
-          ap (map slot_record) f.slots ∙ map-append slot_record s.slots (slot_with f.chunk.message_id f.message.sent ∷ [])
-          ∙ ap (λ a. a ++ slot_record (slot_with f.chunk.message_id f.message.sent) ∷ []) b.slots
-          ∙ ap (λ k. v.slots ++ slot_record (slot_with k f.message.sent) ∷ []) own
-          ∙ ap (λ k. v.slots ++ slot_record (slot_with n k) ∷ []) (sent-is n made-of f.message at)
+          ap (map slot_record) f.slots ∙ map-append slot_record s.slots (fragment_slot f.chunk.message_id f.message.sent ∷ [])
+          ∙ ap (λ a. a ++ slot_record (fragment_slot f.chunk.message_id f.message.sent) ∷ []) b.slots
+          ∙ ap (λ k. v.slots ++ slot_record (fragment_slot k f.message.sent) ∷ []) own
+          ∙ ap (λ k. v.slots ++ slot_record (fragment_slot n k) ∷ []) (sent-is n made-of f.message at)
 
       pub between-one : Between x now (with_slot v n false) t
       between-one = record {

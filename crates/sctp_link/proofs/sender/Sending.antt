@@ -24,7 +24,7 @@ use Rattle.sctp_model.specs.Contents.{chunk_at, contents_of}
 use Rattle.sctp_model.specs.Queues.{filter_of}
 use Rattle.sctp_model.specs.Amounts.{in_all, written_bytes}
 use Rattle.sctp_model.specs.Reply as R
-use Rattle.sctp_model.specs.Changes.{started, start_at, sent, sent_from, with_datagram, fragments_sent}
+use Rattle.sctp_model.specs.Changes.{started, start_lifetime, sent, sent_from, with_datagram, fragments_sent}
 use Rattle.sctp_model.specs.Steps.{IsRight, StandsFor, reply_to, sent_reply, fragments_accepted}
 use Rattle.sctp_model.proofs.sender.Shape.{shape}
 use Rattle.sctp_model.proofs.sender.Fronts.{front-takes}
@@ -191,7 +191,7 @@ module _ (sum : List ℕ → ℕ) (x : State) (l : IsLinked sum x) (now n : ℕ)
   quiet = Moves.quiet-sent w.setup w now (front w) (facts sum x l).sane
 
   before : (t : ℕ) → ordered_before (sent w now) t (length (sent w now).messages) ≡ ordered_before w t (length w.messages)
-  before t = ap (λ y. ordered_before y t (length y.messages)) sent-moves ∙ ap (ordered_before u t) (length-mapped (start_at now) w.messages) ∙ before-started w now t (length w.messages)
+  before t = ap (λ y. ordered_before y t (length y.messages)) sent-moves ∙ ap (ordered_before u t) (length-mapped (start_lifetime now) w.messages) ∙ before-started w now t (length w.messages)
 
   stream-kept : (t : ℕ) → SameStream w v t
   stream-kept t = subst (λ y. SameStream w y t) sent-moves (stream-quiet sum x l (E.Send now) refl quiet tt refl refl refl before t)
@@ -238,7 +238,7 @@ module _ (sum : List ℕ → ℕ) (x : State) (l : IsLinked sum x) (now n : ℕ)
       acked = l.acked;
       fragments = l.fragments ∙ sym (ap fragments_accepted (sym sent-moves) ∙ fragments-same sum x l (E.Send now) refl refl);
       written = l.written ∙ sym (ap (λ y. in_all y (written_bytes y)) (sym sent-moves) ∙ written-kept sum x l (E.Send now) refl refl);
-      sents = λ k lt. b.sents k (omega (arith, lt, length-mapped (start_at now) w.messages));
+      sents = λ k lt. b.sents k (omega (arith, lt, length-mapped (start_lifetime now) w.messages));
       indexes = indexed-sent.is;
       low = indexed-sent.low;
       open_streams = stream-sent;

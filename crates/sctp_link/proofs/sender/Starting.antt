@@ -7,7 +7,7 @@ use Rattle.sctp_list_lemmas.proofs.Getting.{length-mapped}
 use Rattle.sctp_outbound.specs.outbound_queue.OutboundQueue.{Outbound, all_started}
 use Rattle.sctp_model.specs.declared.event.Event.TheVariants as E
 use Rattle.sctp_model.specs.Messages.{no_message, ordered_before}
-use Rattle.sctp_model.specs.Changes.{started, start_at}
+use Rattle.sctp_model.specs.Changes.{started, start_lifetime}
 use Rattle.sctp_model.specs.Steps.{reply_to}
 use Rattle.sctp_model.proofs.sender.Moves
 use Rattle.sctp_refinement.proofs.sending.LifetimesStart.{refines-started}
@@ -23,24 +23,24 @@ use Rattle.sctp_link.proofs.upkeep.Frames.{stream-same, stream-quiet, begun-kept
 -- ## The messages
 
 -- those from a place on start, where just these have not
-start-all : (now : ℕ) (ms : List Message) → ((n : ℕ) → n < length ms → is_some (slice_index_or (map message_record ms) n no_message).started ≡ false) → map message_record (map (with_start now) ms) ≡ map (start_at now) (map message_record ms)
+start-all : (now : ℕ) (ms : List Message) → ((n : ℕ) → n < length ms → is_some (slice_index_or (map message_record ms) n no_message).started ≡ false) → map message_record (map (with_start now) ms) ≡ map (start_lifetime now) (map message_record ms)
 start-all now [] h = refl
 start-all now (m ∷ ms) h =
     ap (λ r. r ∷ map message_record (map (with_start now) ms)) (starts m.started refl (h 0 (omega arith)))
-    ∙ ap (λ l. start_at now (message_record m) ∷ l) (start-all now ms (λ n lt. h (suc n) (omega (arith, lt))))
+    ∙ ap (λ l. start_lifetime now (message_record m) ∷ l) (start-all now ms (λ n lt. h (suc n) (omega (arith, lt))))
   where
-    starts : (o : Option ℕ) → m.started ≡ o → is_some m.started ≡ false → message_record (with_start now m) ≡ start_at now (message_record m)
+    starts : (o : Option ℕ) → m.started ≡ o → is_some m.started ≡ false → message_record (with_start now m) ≡ start_lifetime now (message_record m)
     starts None e h = rw e refl
     starts (Some t) e h = cc
 
-pub start-records : (now first : ℕ) (ms : List Message) → ((n : ℕ) → n < length ms → n < first → is_some (slice_index_or (map message_record ms) n no_message).started ≡ true) → ((n : ℕ) → n < length ms → first ≤ n → is_some (slice_index_or (map message_record ms) n no_message).started ≡ false) → map message_record (start_from first now ms) ≡ map (start_at now) (map message_record ms)
+pub start-records : (now first : ℕ) (ms : List Message) → ((n : ℕ) → n < length ms → n < first → is_some (slice_index_or (map message_record ms) n no_message).started ≡ true) → ((n : ℕ) → n < length ms → first ≤ n → is_some (slice_index_or (map message_record ms) n no_message).started ≡ false) → map message_record (start_from first now ms) ≡ map (start_lifetime now) (map message_record ms)
 start-records now zero ms old new = start-all now ms (λ n lt. new n lt (omega arith))
 start-records now (suc first) [] old new = refl
 start-records now (suc first) (m ∷ ms) old new =
     ap (λ l. message_record m ∷ l) (start-records now first ms (λ n a b. old (suc n) (omega (arith, a)) (omega (arith, b))) (λ n a b. new (suc n) (omega (arith, a)) (omega (arith, b))))
-    ∙ ap (λ r. r ∷ map (start_at now) (map message_record ms)) (stays m.started refl (old 0 (omega arith) (omega arith)))
+    ∙ ap (λ r. r ∷ map (start_lifetime now) (map message_record ms)) (stays m.started refl (old 0 (omega arith) (omega arith)))
   where
-    stays : (o : Option ℕ) → m.started ≡ o → is_some m.started ≡ true → message_record m ≡ start_at now (message_record m)
+    stays : (o : Option ℕ) → m.started ≡ o → is_some m.started ≡ true → message_record m ≡ start_lifetime now (message_record m)
     stays None e h = cc
     stays (Some t) e h = rw e refl
 
@@ -62,7 +62,7 @@ module _ (sum : List ℕ → ℕ) (x : State) (l : IsLinked sum x) (now : ℕ) w
       start-records now x.unstarted ms
       (λ n lt below. ap (λ r. is_some (slice_index_or r n no_message).started) (sym e) ∙ l.outbound.unstarted n (omega (arith, lt, count)) ∙ ap not (above n below))
       (λ n lt from. ap (λ r. is_some (slice_index_or r n no_message).started) (sym e) ∙ l.outbound.unstarted n (omega (arith, lt, count)) ∙ ap not (reached n from))
-      ∙ ap (map (start_at now)) (sym e)
+      ∙ ap (map (start_lifetime now)) (sym e)
     where
       count : length x.world.messages ≡ length ms
       count = ap length e ∙ length-mapped message_record ms
@@ -85,12 +85,12 @@ module _ (sum : List ℕ → ℕ) (x : State) (l : IsLinked sum x) (now : ℕ) w
     acked = l.acked;
     fragments = l.fragments ∙ sym (fragments-same sum x l (E.Start now) refl refl);
     written = l.written ∙ sym (written-kept sum x l (E.Start now) refl refl);
-    sents = λ n lt. l.sents n (omega (arith, lt, length-mapped (start_at now) x.world.messages));
+    sents = λ n lt. l.sents n (omega (arith, lt, length-mapped (start_lifetime now) x.world.messages));
     indexes = (indexed-kept sum x l (E.Start now) refl tt).is;
     low = l.low;
     open_streams = λ k d lt. stream-same x.world (started x.world now) (slice_index_or x.open_streams k d)
         (stream-quiet sum x l (E.Start now) refl (Moves.quiet-started x.world now) tt refl refl refl
-        (λ s. ap (ordered_before (started x.world now) s) (length-mapped (start_at now) x.world.messages) ∙ before-started x.world now s (length x.world.messages)) (slice_index_or x.open_streams k d).state.stream_identifier)
+        (λ s. ap (ordered_before (started x.world now) s) (length-mapped (start_lifetime now) x.world.messages) ∙ before-started x.world now s (length x.world.messages)) (slice_index_or x.open_streams k d).state.stream_identifier)
         (begun-kept sum x l (E.Start now) refl tt (slice_index_or x.open_streams k d).state.stream_identifier) (l.open_streams k d lt);
     apart = l.apart;
     encodings = encodings-same sum x l (E.Start now) refl refl;

@@ -40,7 +40,7 @@ use Rattle.sctp_link.specs.declared.record.Message.{Message}
 use Rattle.sctp_link.specs.Records.{stream_record, message_record}
 use Rattle.sctp_stream.specs.Stats.{with_sent, counted_bytes}
 use Rattle.sctp_stream.specs.Stream as stream
-use Rattle.sctp_link.specs.OpenStreams.{message_with}
+use Rattle.sctp_link.specs.OpenStreams.{message_written}
 use Rattle.sctp_link.specs.Linked.{State, IsOpenStream, IsLinked, stats_of}
 use Rattle.sctp_stream.specs.declared.stream.DataChannelStats.{DataChannelStats}
 use Rattle.sctp_link.proofs.upkeep.Facts.{Facts, facts, stands-then}
@@ -111,12 +111,12 @@ module _ (sum : List ℕ → ℕ) (x : State) (l : IsLinked sum x) (s : ℕ) (pp
 
     -- what is kept of it
     abbrev pub kept : Message
-    kept = message_with s (written_of m ppi) ppi bytes
+    kept = message_written s (written_of m ppi) ppi bytes
 
     message-is : message_record kept ≡ msg
     message-is =
-        ap (λ t. message_record (message_with t (written_of m ppi) ppi bytes)) (sym own)
-        ∙ ap (λ b. record (message_record (message_with m.state.stream_identifier (written_of m ppi) ppi bytes)) { ordered = b }) (ordered-same m.state.unordered ppi)
+        ap (λ t. message_record (message_written t (written_of m ppi) ppi bytes)) (sym own)
+        ∙ ap (λ b. record (message_record (message_written m.state.stream_identifier (written_of m ppi) ppi bytes)) { ordered = b }) (ordered-same m.state.unordered ppi)
         ∙ ap (λ k. record (message_on w (stream_record m) ppi bytes) { before = k }) i.ordered
         ∙ ap (λ r. message_on w r ppi bytes) (sym stream-is)
 

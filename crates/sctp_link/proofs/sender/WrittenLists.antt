@@ -37,7 +37,7 @@ use Rattle.sctp_link.specs.declared.record.Message.{Message}
 use Rattle.sctp_link.specs.Records.{stream_record, message_record, progress_of}
 use Rattle.sctp_stream.specs.Stream as stream
 use Rattle.sctp_stream.specs.Stream.{cut}
-use Rattle.sctp_link.specs.OpenStreams.{message_with}
+use Rattle.sctp_link.specs.OpenStreams.{message_written}
 use Rattle.sctp_link.specs.Linked.{State, IsOpenStream, IsLinked}
 use Rattle.sctp_link.proofs.upkeep.Facts.{facts}
 use Rattle.sctp_link.proofs.upkeep.Frames.{moved}
@@ -133,13 +133,13 @@ module _ (sum : List ℕ → ℕ) (x : State) (l : IsLinked sum x) (s : ℕ) (pp
     streams_then = change_where (has_number s) (wrote_to ppi bytes) x.open_streams
 
     abbrev pub kept : Message
-    kept = message_with s (written_of m ppi) ppi bytes
+    kept = message_written s (written_of m ppi) ppi bytes
 
     module _ (ms more : List Message) (em : x.world.messages ≡ map message_record ms) (es : x.progress ≡ map progress_of ms) (e : more ≡ ms ++ kept ∷ []) where
       pub world-wrote : record x.world { streams = map stream_record streams_then; messages = map message_record more } ≡ wrote x.world s ppi bytes
       world-wrote = by bytes some ok e
         where
-          by : (bytes : List ℕ) → 0 < length bytes → refusal_of x.world (E.Write s ppi bytes) ≡ None → more ≡ ms ++ message_with s (written_of m ppi) ppi bytes ∷ [] → record x.world { streams = map stream_record (change_where (has_number s) (wrote_to ppi bytes) x.open_streams); messages = map message_record more } ≡ wrote x.world s ppi bytes
+          by : (bytes : List ℕ) → 0 < length bytes → refusal_of x.world (E.Write s ppi bytes) ≡ None → more ≡ ms ++ message_written s (written_of m ppi) ppi bytes ∷ [] → record x.world { streams = map stream_record (change_where (has_number s) (wrote_to ppi bytes) x.open_streams); messages = map message_record more } ≡ wrote x.world s ppi bytes
           by [] some ok e = absurd (omega arith)
           by (b ∷ bs) some ok e =
               ap (λ a. record x.world { streams = a; messages = map message_record more }) (Writing.streams-wrote sum x l s ppi b bs ok streams m here)
@@ -161,11 +161,11 @@ module _ (sum : List ℕ → ℕ) (x : State) (l : IsLinked sum x) (s : ℕ) (pp
           moved sum (record x { world = record x.world { streams = map stream_record streams_then; messages = map message_record more }; open_streams = streams_then; progress = map progress_of more; outbound = with_message (fragments_with_mode m.state ppi bytes) x.outbound; fragments = fragments; written = written }) (wrote x.world s ppi bytes) world-wrote
           (by bytes some ok e ec ew)
         where
-          by : (bytes : List ℕ) → 0 < length bytes → refusal_of x.world (E.Write s ppi bytes) ≡ None → more ≡ ms ++ message_with s (written_of m ppi) ppi bytes ∷ [] → count ≡ fragments_in x.world bytes → written ≡ x.written + length bytes
+          by : (bytes : List ℕ) → 0 < length bytes → refusal_of x.world (E.Write s ppi bytes) ≡ None → more ≡ ms ++ message_written s (written_of m ppi) ppi bytes ∷ [] → count ≡ fragments_in x.world bytes → written ≡ x.written + length bytes
               → IsLinked sum (record x { world = wrote x.world s ppi bytes; open_streams = change_where (has_number s) (wrote_to ppi bytes) x.open_streams; progress = map progress_of more; outbound = with_message (fragments_with_mode m.state ppi bytes) x.outbound; fragments = fragments; written = written })
           by [] some ok e ec ew = absurd (omega arith)
           by (b ∷ bs) some ok e ec ew =
               Writing.linked-write sum x l s ppi b bs ok streams m here (map progress_of more) fragments written count
               (ap length es ∙ length-mapped progress_of ms ∙ sym (ap length em ∙ length-mapped message_record ms))
-              (ap (map progress_of) e ∙ map-append progress_of ms (message_with s (written_of m ppi) ppi (b ∷ bs) ∷ []) ∙ ap (λ a. a ++ (0, 0) ∷ []) (sym es))
+              (ap (map progress_of) e ∙ map-append progress_of ms (message_written s (written_of m ppi) ppi (b ∷ bs) ∷ []) ∙ ap (λ a. a ++ (0, 0) ∷ []) (sym es))
               ef ec ew

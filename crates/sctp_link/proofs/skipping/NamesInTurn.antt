@@ -25,7 +25,7 @@ use Rattle.sctp_link.specs.declared.record.Message.{Message}
 use Rattle.sctp_link.specs.Linked.{State, IsLinked}
 use Rattle.sctp_link.specs.Records.{message_record, progress_of}
 use Rattle.sctp_link.specs.Skips.{index_in, message_in, pair_in}
-use Rattle.sctp_link.specs.Encodings.{name_with}
+use Rattle.sctp_link.specs.Encodings.{named_stream}
 use Rattle.sctp_link.proofs.upkeep.Facts.{facts}
 use Rattle.sctp_link.proofs.skipping.SkipComes.{index-is, skips-in, spans}
 
@@ -33,7 +33,7 @@ use Rattle.sctp_link.proofs.skipping.SkipComes.{index-is, skips-in, spans}
 
 -- the pairs that name these messages
 abbrev pub pairs_of : World → List ℕ → List ChunkForwardTsnStream
-pairs_of w names = map name_with (map (name_of w) names)
+pairs_of w names = map named_stream (map (name_of w) names)
 
 -- a message that can be named stands on its stream
 named-on : (w : World) (upto s n : ℕ) → Sender (shape w) → IsNamable (shape w) upto n → (s == (message_at w n).stream) ≡ is_ordered_on w s n
@@ -53,7 +53,7 @@ named-on w upto s n sender i =
 pub names-in-turn : (w : World) (upto s : ℕ) (names : List ℕ) → Sender (shape w) → NamesFit (shape w) upto names → ssns_of s (pairs_of w names) ≡ map (λ n. index_of w n % 2 ^ 16) (on_stream w s names)
 names-in-turn w upto s [] sender fit = refl
 names-in-turn w upto s (n ∷ ns) sender fit =
-    ap (λ b. map (λ (p : ChunkForwardTsnStream). p.sequence) (if b then name_with (name_of w n) ∷ rest else rest)) (named-on w upto s n sender fit.0)
+    ap (λ b. map (λ (p : ChunkForwardTsnStream). p.sequence) (if b then named_stream (name_of w n) ∷ rest else rest)) (named-on w upto s n sender fit.0)
     ∙ step (is_ordered_on w s n) (names-in-turn w upto s ns sender fit.1)
   where
     rest : List ChunkForwardTsnStream
@@ -62,7 +62,7 @@ names-in-turn w upto s (n ∷ ns) sender fit =
     ssn : ssn_of w n ≡ index_of w n % 2 ^ 16
     ssn = ap (λ b. (if b then index_of w n else (message_at w n).before) % 2 ^ 16) fit.0.ordered
 
-    step : (b : Bool) → map (λ (p : ChunkForwardTsnStream). p.sequence) rest ≡ map (λ n. index_of w n % 2 ^ 16) (on_stream w s ns) → map (λ (p : ChunkForwardTsnStream). p.sequence) (if b then name_with (name_of w n) ∷ rest else rest) ≡ map (λ n. index_of w n % 2 ^ 16) (if b then n ∷ on_stream w s ns else on_stream w s ns)
+    step : (b : Bool) → map (λ (p : ChunkForwardTsnStream). p.sequence) rest ≡ map (λ n. index_of w n % 2 ^ 16) (on_stream w s ns) → map (λ (p : ChunkForwardTsnStream). p.sequence) (if b then named_stream (name_of w n) ∷ rest else rest) ≡ map (λ n. index_of w n % 2 ^ 16) (if b then n ∷ on_stream w s ns else on_stream w s ns)
     step true ih = ap (λ i. i ∷ map (λ (p : ChunkForwardTsnStream). p.sequence) rest) ssn ∙ ap (λ is. index_of w n % 2 ^ 16 ∷ is) ih
     step false ih = ih
 
@@ -74,10 +74,10 @@ pairs-are sum x l ms messages_are progress_are upto (n ∷ ns) fit =
     let stream : (message_in ms n).stream ≡ (message_at w n).stream = ap (λ rs. (message_at (record w { messages = rs }) n).stream) (sym messages_are) in
     let index = index-is sum x l ms messages_are progress_are upto n fit.0 in
     let ssn = ap (λ b. (if b then index_of w n else (message_at w n).before) % 2 ^ 16) fit.0.ordered in
-    ap (λ s. name_with (s, index_in ms n % 2 ^ 16) ∷ map (pair_in ms) ns) stream
-    ∙ ap (λ i. name_with ((message_at w n).stream, i % 2 ^ 16) ∷ map (pair_in ms) ns) index
-    ∙ ap (λ i. name_with ((message_at w n).stream, i) ∷ map (pair_in ms) ns) (sym ssn)
-    ∙ ap (λ ps. name_with (name_of w n) ∷ ps) (pairs-are sum x l ms messages_are progress_are upto ns fit.1)
+    ap (λ s. named_stream (s, index_in ms n % 2 ^ 16) ∷ map (pair_in ms) ns) stream
+    ∙ ap (λ i. named_stream ((message_at w n).stream, i % 2 ^ 16) ∷ map (pair_in ms) ns) index
+    ∙ ap (λ i. named_stream ((message_at w n).stream, i) ∷ map (pair_in ms) ns) (sym ssn)
+    ∙ ap (λ ps. named_stream (name_of w n) ∷ ps) (pairs-are sum x l ms messages_are progress_are upto ns fit.1)
 
 -- ## What becomes of a queue
 

@@ -9,7 +9,7 @@ ghost use Rattle.sctp_outbound.specs.outbound_queue.OutboundQueue.{after_sends};
 ghost use Rattle.sctp_model.specs.Changes.{chunk_length};
 ghost use Rattle.sctp_refinement.specs.Filling.{under, chunks_taken};
 ghost use Rattle.sctp_halves.specs.Streams.{begun_of};
-ghost use Rattle.sctp_link.specs.OpenStreams.{slot_with, with_fragment, begun_by};
+ghost use Rattle.sctp_link.specs.OpenStreams.{fragment_slot, with_fragment, begun_by};
 ghost use Rattle.sctp_link.specs.Sends.{Sender, sender_of, CanSend, Leaves, Leave, SendsOnly};
 
 use crate::record::{Message, Slot};
@@ -147,7 +147,7 @@ fn take_next(halves: &mut Halves, messages: &mut [Message], slots: &mut Vec<Slot
 fn take_fragment(message: &mut Message, halves: &mut Halves, number: u64) -> Slot
     requires fits { message.old.sent + 1 < 2 ^ 64 }
     requires few { begun_of message.old.stream halves.old.streams + 1 < 2 ^ 64 }
-    ensures slot { result ≡ slot_with number message.old.sent }
+    ensures slot { result ≡ fragment_slot number message.old.sent }
     ensures taken { message.new ≡ with_fragment halves.old.streams message.old }
     ensures rest { halves.new ≡ record halves.old { streams = begun_by message.old halves.old.streams } }
 {

@@ -3,7 +3,7 @@
 ghost use Rattle.std.specs.Prelude.{◌≡◌, ◌<◌, ◌≤◌, ◌+◌, ◌-◌, ◌^◌, ◌∷◌, ◌++◌, ℕ, [], None, Some, List, OnOk, OnErr, IfOk, IsOkUnless, length, nat_le, if◌then◌else◌, true};
 ghost use Rattle.sctp_base.specs.declared.error.Error.TheVariants.{ErrOutOfMemory};
 ghost use Rattle.sctp_list_lemmas.specs.Lists.{pieces};
-ghost use Rattle.sctp_link.specs.OpenStreams.{start_from, message_with};
+ghost use Rattle.sctp_link.specs.OpenStreams.{start_from, message_written};
 ghost use Rattle.sctp_link.specs.declared.record.Message.{Message};
 
 use super::{Link, put};
@@ -100,7 +100,7 @@ impl<C: Checksum + Drop> Link<C> {
         let number = self.messages.len() as u64;
         put(
             &mut self.messages,
-            message_with(stream, written, ppi, bytes),
+            message_written(stream, written, ppi, bytes),
         );
         self.fragments += count;
         self.written += len as u64;
@@ -123,13 +123,13 @@ impl<C: Checksum + Drop> Link<C> {
 }
 
 /// What is kept of an accepted write.
-fn message_with(
+fn message_written(
     stream: u16,
     written: Written,
     ppi: PayloadProtocolIdentifier,
     bytes: Bytes,
 ) -> Message
-    ensures { result ≡ message_with stream written ppi bytes }
+    ensures { result ≡ message_written stream written ppi bytes }
 {
     Message {
         stream,

@@ -106,7 +106,7 @@ released-grows setup w v is g q count = omega (arith, total-le (Amounts.released
         let z : Amounts.released_bytes w n ≡ Amounts.acknowledged_bytes w n = ap (λ b. if b then Amounts.written_bytes w n else Amounts.acknowledged_bytes w n) f in
         omega (arith, y, z, acknowledged-quiet w v q n lt)
 
--- where no message is abandoned, nothing is released
+-- where no message expires or is abandoned, nothing is released
 released-kept : (w v : World) → Quiet w v → length v.messages ≡ length w.messages → ((n : ℕ) → Amounts.is_expired_or_abandoned v n ≡ Amounts.is_expired_or_abandoned w n) → released v ≡ released w
 released-kept w v q count given =
     ap (λ c. total_over (Amounts.released_bytes v) (numbers_from 0 c)) count
@@ -154,7 +154,7 @@ released-sent setup w now None g = released-same w (Changes.started w now) (Shap
 released-sent setup w now (Some n) g =
     let u = Changes.started w now in
     let e = messages-sent u in
-    released-kept w (Changes.sent_from u (Some n)) (Moves.quiet-sent setup w now (Some n) g) (ap length e ∙ length-mapped (Changes.start_at now) w.messages)
+    released-kept w (Changes.sent_from u (Some n)) (Moves.quiet-sent setup w now (Some n) g) (ap length e ∙ length-mapped (Changes.start_lifetime now) w.messages)
     (λ k. ap (λ ms. (slice_index_or ms k Messages.no_message).expired || (slice_index_or ms k Messages.no_message).abandoned) e ∙ ap (λ x. (x.message k).expired || (x.message k).abandoned) (Shapes.shape-started w now))
 
 pub count-abandoned : (w : World) (n : ℕ) → length (Changes.abandoned w n).messages ≡ length w.messages

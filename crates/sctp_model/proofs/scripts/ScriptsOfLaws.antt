@@ -15,7 +15,7 @@ use Rattle.sctp_model.proofs.scripts.Play.{told}
 abbrev setup_of : ℕ → Setup
 setup_of limit = record { first = 10; size = 3; largest = 100; limit = limit }
 
--- ## Lapsed messages
+-- ## Messages past their deadlines
 
 -- in turn: timed, DCEP, limited by retransmissions, reliable, and timed past the greatest moment
 abbrev five_messages : History

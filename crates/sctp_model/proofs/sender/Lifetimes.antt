@@ -30,7 +30,7 @@ use Rattle.sctp_list_lemmas.proofs.Totals.{length-numbers}
 -- ## Lifetimes
 
 started-now : (w : World) (now n : ℕ) → n < length w.messages → (Messages.message_at (Changes.started w now) n).started ≡ or_else (Messages.message_at w n).started (Some now)
-started-now w now n lt = ap (λ m. m.started) (map-at (Changes.start_at now) n w.messages Messages.no_message lt) ∙ step (Messages.message_at w n).started
+started-now w now n lt = ap (λ m. m.started) (map-at (Changes.start_lifetime now) n w.messages Messages.no_message lt) ∙ step (Messages.message_at w n).started
   where
     step : (o : Option ℕ) → (if is_none o then Some now else o) ≡ or_else o (Some now)
     step None = refl
@@ -125,12 +125,12 @@ started-new w (E.Write s ppi (b ∷ bs)) n le lt =
     ap (λ k. (Messages.message_at (Changes.wrote w s ppi (b ∷ bs)) k).started) e ∙ ap (λ y. y.started) (get-snoc_new w.messages m Messages.no_message)
 started-new w (E.Open s) n le lt = absurd (omega arith)
 started-new w (E.Mode s u v x) n le lt = absurd (omega arith)
-started-new w (E.Start now) n le lt = absurd (omega (arith, length-mapped (Changes.start_at now) w.messages))
+started-new w (E.Start now) n le lt = absurd (omega (arith, length-mapped (Changes.start_lifetime now) w.messages))
 started-new w (E.Send now) n le lt = absurd (few w now n (Messages.front w) le lt)
   where
     few : (w : World) (now n : ℕ) (o : Option ℕ) → length w.messages ≤ n → n < length (Changes.sent_from (Changes.started w now) o).messages → ⊥
-    few w now n None le lt = absurd (omega (arith, length-mapped (Changes.start_at now) w.messages))
-    few w now n (Some m) le lt = absurd (omega (arith, ap length (messages-sent (Changes.started w now)), length-mapped (Changes.start_at now) w.messages))
+    few w now n None le lt = absurd (omega (arith, length-mapped (Changes.start_lifetime now) w.messages))
+    few w now n (Some m) le lt = absurd (omega (arith, ap length (messages-sent (Changes.started w now)), length-mapped (Changes.start_lifetime now) w.messages))
 started-new w (E.Resend x) n le lt = absurd (omega arith)
 started-new w (E.Expire now) n le lt = absurd (few (Changes.expiring w now) lt)
   where

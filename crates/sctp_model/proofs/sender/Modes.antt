@@ -14,7 +14,7 @@ use Rattle.sctp_model.specs.Messages
 use Rattle.sctp_model.specs.Messages.{stream_of}
 use Rattle.sctp_model.specs.Receiver.{next_read, is_new}
 use Rattle.sctp_model.specs.Changes
-use Rattle.sctp_model.specs.Log.{Mode, mode_in, mode_with, modes_in}
+use Rattle.sctp_model.specs.Log.{Mode, mode_in, mode_for, modes_in}
 use Rattle.sctp_model.specs.Steps.{History, world_of, IsRun, refusal_of, after}
 use Rattle.sctp_model.specs.Laws.{OnEveryRun, ModesAreKept, mode_of}
 use Rattle.sctp_model.proofs.sender.SenderRun.{sane-run, fold-keeps, unless-holds, written_as}
@@ -108,8 +108,8 @@ kept-read w s None = refl
 kept-read w s (Some n) = modes-flagged Changes.mark_read (λ m. refl) n w.messages
 
 kept-sent : (w : World) (now : ℕ) (o : Option ℕ) → kept_modes (Changes.sent_from (Changes.started w now) o) ≡ kept_modes w
-kept-sent w now None = modes-mapped (Changes.start_at now) (λ m. refl) w.messages
-kept-sent w now (Some n) = ap (map mode_of) (messages-sent (Changes.started w now)) ∙ modes-mapped (Changes.start_at now) (λ m. refl) w.messages
+kept-sent w now None = modes-mapped (Changes.start_lifetime now) (λ m. refl) w.messages
+kept-sent w now (Some n) = ap (map mode_of) (messages-sent (Changes.started w now)) ∙ modes-mapped (Changes.start_lifetime now) (λ m. refl) w.messages
 
 -- ## Each event
 
@@ -141,7 +141,7 @@ moded-step setup older e r ok run m = by e ok
     by (E.Write s ppi []) ok = record { streams = m.streams; messages = m.messages }
     by (E.Write s ppi (b ∷ bs)) ok = record {
       streams = m.streams;
-      messages = map-append mode_of (world_of setup older).messages (written_as (world_of setup older) s ppi (b ∷ bs) ∷ []) ∙ ap (λ l. l ++ mode_with ppi (mode_now (stream_of (world_of setup older) s)) ∷ []) m.messages ∙ ap (λ y. modes_in older ++ mode_with ppi y ∷ []) (m.streams s);
+      messages = map-append mode_of (world_of setup older).messages (written_as (world_of setup older) s ppi (b ∷ bs) ∷ []) ∙ ap (λ l. l ++ mode_for ppi (mode_now (stream_of (world_of setup older) s)) ∷ []) m.messages ∙ ap (λ y. modes_in older ++ mode_for ppi y ∷ []) (m.streams s);
     }
     by (E.Start now) ok = record { streams = m.streams; messages = kept-sent (world_of setup older) now None ∙ m.messages }
     by (E.Send now) ok = record { streams = quiet (after (world_of setup older) (E.Send now)) (Moves.quiet-sent setup (world_of setup older) now (Messages.front (world_of setup older)) (sane-run setup older run)); messages = kept-sent (world_of setup older) now (Messages.front (world_of setup older)) ∙ m.messages }

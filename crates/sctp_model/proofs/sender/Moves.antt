@@ -92,7 +92,7 @@ quiet-messages w ms l r g = record {
 }
 
 pub quiet-started : (w : World) (now : ℕ) → Quiet w (Changes.started w now)
-quiet-started w now = quiet-messages w (map (Changes.start_at now) w.messages) (length-mapped (Changes.start_at now) w.messages) (λ n. get-map (Changes.start_at now) (λ m. m.read) (λ m. refl) n w.messages Messages.no_message) (grows-same (shape w) (shape (Changes.started w now)) (Shapes.shape-started w now))
+quiet-started w now = quiet-messages w (map (Changes.start_lifetime now) w.messages) (length-mapped (Changes.start_lifetime now) w.messages) (λ n. get-map (Changes.start_lifetime now) (λ m. m.read) (λ m. refl) n w.messages Messages.no_message) (grows-same (shape w) (shape (Changes.started w now)) (Shapes.shape-started w now))
 
 quiet-flagged : (w : World) (n : ℕ) (f : Message → Message) → ((m : Message) → (f m).read ≡ m.read) → Grows (shape w) (shape (Changes.message_changed w n f)) → Quiet w (Changes.message_changed w n f)
 quiet-flagged w n f keeps g = quiet-messages w (changed f n w.messages) (length-changed f n w.messages) (λ k. changed-keeps f (λ m. m.read) keeps n k w.messages Messages.no_message) g

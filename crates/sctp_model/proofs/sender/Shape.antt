@@ -8,7 +8,7 @@ use Rattle.sctp_model.specs.World.{Message, Slot, World}
 use Rattle.sctp_model.specs.Messages
 use Rattle.sctp_model.specs.Messages.{message_at, slot_at, no_message, no_slot}
 
--- a message as it was written, and whether it was abandoned
+-- a message as it was written, and whether it expired or was abandoned
 pub record MessagePart : Type 0 where
   pub stream : ℕ
   pub ordered : Bool

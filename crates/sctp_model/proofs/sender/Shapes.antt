@@ -31,7 +31,7 @@ shape-slots w xs slots slot a b =
     ∙ ap (λ f. shape_by w.setup.size (length w.messages) (λ k. message_part (message_at w k)) slots f) (fun_ext b)
 
 pub shape-started : (w : World) (now : ℕ) → shape (Changes.started w now) ≡ shape w
-shape-started w now = shape-messages w (map (Changes.start_at now) w.messages) (length w.messages) (λ k. message_part (message_at w k)) (length-mapped (Changes.start_at now) w.messages) (λ k. get-map (Changes.start_at now) message_part (λ m. refl) k w.messages no_message)
+shape-started w now = shape-messages w (map (Changes.start_lifetime now) w.messages) (length w.messages) (λ k. message_part (message_at w k)) (length-mapped (Changes.start_lifetime now) w.messages) (λ k. get-map (Changes.start_lifetime now) message_part (λ m. refl) k w.messages no_message)
 
 pub shape-read : (w : World) (n : ℕ) → shape (Changes.message_changed w n Changes.mark_read) ≡ shape w
 shape-read w n = shape-messages w (changed Changes.mark_read n w.messages) (length w.messages) (λ k. message_part (message_at w k)) (length-changed Changes.mark_read n w.messages) (λ k. changed-keeps Changes.mark_read message_part (λ m. refl) n k w.messages no_message)

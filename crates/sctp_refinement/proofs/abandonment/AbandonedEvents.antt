@@ -1,4 +1,4 @@
--- Abandon, Tail and Late leave the outbound queue tied.
+-- Abandon, Tail and Late leave an outbound queue that refines the record.
 use Rattle.std.proofs.Common.{◌≡◌, ℕ, zero, suc, ◌+◌, ◌-◌, ◌<◌, ◌≤◌, ◌%◌, ◌^◌, Bool, true, false, List, [], ◌∷◌, length, map, Option, Some, None, refl, ap, sym, ◌∙◌, inl, inr, arith, length-append}
 use Rattle.std.specs.Prelude.{◌⊎◌, if◌then◌else◌, ◌==◌, ◌&&◌, ◌||◌, not, nat_lt, nat_le, fold, find}
 use Rattle.std.proofs.Math.Path.{subst}
@@ -216,18 +216,18 @@ module _ (setup : Setup) (w : World) (now : ℕ) (q : Outbound) (g : Going setup
 -- ## Late
 
 -- what stays while the messages of late slots are abandoned: the slots that were there, and what is in flight
-pub record IsGiving (setup : Setup) (w v : World) : Type 0 where
+pub record IsAbandoning (setup : Setup) (w v : World) : Type 0 where
   pub sane : Sane setup v
   pub first : v.setup ≡ w.setup
   pub taken : v.taken ≡ w.taken
   pub more : length w.slots ≤ length v.slots
   pub slot : (p : ℕ) → p < length w.slots → slot_at v p ≡ slot_at w p
 
-pub giving-first : (setup : Setup) (w : World) → Sane setup w → IsGiving setup w w
-giving-first setup w g = record { sane = g; first = refl; taken = refl; more = omega arith; slot = λ p lt. refl }
+pub abandoning-first : (setup : Setup) (w : World) → Sane setup w → IsAbandoning setup w w
+abandoning-first setup w g = record { sane = g; first = refl; taken = refl; more = omega arith; slot = λ p lt. refl }
 
-pub giving-next : (setup : Setup) (w v : World) (n : ℕ) → 0 < sent_of v n → IsGiving setup w v → IsGiving setup w (abandoned v n)
-giving-next setup w v n pos g = record {
+pub abandoning-next : (setup : Setup) (w v : World) (n : ℕ) → 0 < sent_of v n → IsAbandoning setup w v → IsAbandoning setup w (abandoned v n)
+abandoning-next setup w v n pos g = record {
   sane = sane-abandoned setup v n g.sane pos;
   first = setup-same (is_partially_sent v n) ∙ g.first;
   taken = taken-same (is_partially_sent v n) ∙ g.taken;
@@ -255,7 +255,7 @@ giving-next setup w v n pos g = record {
     slot-same false p lt = refl
 
 -- one late slot
-module _ (setup : Setup) (w v : World) (p : ℕ) (q : Outbound) (g : IsGiving setup w v) (low : w.taken ≤ p) (high : p < length w.slots) (t : RefinesOutbound v q) where
+module _ (setup : Setup) (w v : World) (p : ℕ) (q : Outbound) (g : IsAbandoning setup w v) (low : w.taken ≤ p) (high : p < length w.slots) (t : RefinesOutbound v q) where
   same-tsn : tsn_of v p ≡ tsn_of w p
   same-tsn = ap (λ s. (s.first + p) % 2 ^ 32) g.first
 
@@ -281,8 +281,8 @@ module _ (setup : Setup) (w v : World) (p : ℕ) (q : Outbound) (g : IsGiving se
       subst (λ n. tsn_after_of late (tsn_of v (length v.slots)) q ≡ tsn_of (abandoned v n) (length (abandoned v n).slots)) same-message
       (subst (λ k. tsn_after_of (to_abandon (find (has_tsn k) q.inflight.chunks)) (tsn_of v (length v.slots)) q ≡ tsn_of (abandoned v (message_of v p)) (length (abandoned v (message_of v p)).slots)) same-tsn (next-tsn setup v p q g.sane low' high' t))
 
-  pub giving-late_slot : IsGiving setup w (abandoned v (message_of w p))
-  giving-late_slot = giving-next setup w v (message_of w p) (subst (λ n. 0 < sent_of v n) same-message (slot-sent (shape v) p g.sane.sender high')) g
+  pub abandoning-late_slot : IsAbandoning setup w (abandoned v (message_of w p))
+  abandoning-late_slot = abandoning-next setup w v (message_of w p) (subst (λ n. 0 < sent_of v n) same-message (slot-sent (shape v) p g.sane.sender high')) g
 
 -- the queue's own loop: each TSN in turn
 abbrev pub given_all : List ℕ → ℕ → Outbound → ℕ × Outbound
@@ -296,12 +296,12 @@ AllInFlight w (p ∷ ps) = (w.taken ≤ p) × (p < length w.slots) × AllInFligh
 abbrev pub RefinesNext : World → ℕ × Outbound → Type 0
 RefinesNext v o = RefinesOutbound v o.1 × (o.0 ≡ tsn_of v (length v.slots))
 
-pub refines-all : (setup : Setup) (w : World) (ps : List ℕ) (v : World) (next : ℕ) (q : Outbound) → AllInFlight w ps → IsGiving setup w v → next ≡ tsn_of v (length v.slots) → RefinesOutbound v q → RefinesNext (fold abandoned v (map (message_of w) ps)) (given_all (map (tsn_of w) ps) next q)
+pub refines-all : (setup : Setup) (w : World) (ps : List ℕ) (v : World) (next : ℕ) (q : Outbound) → AllInFlight w ps → IsAbandoning setup w v → next ≡ tsn_of v (length v.slots) → RefinesOutbound v q → RefinesNext (fold abandoned v (map (message_of w) ps)) (given_all (map (tsn_of w) ps) next q)
 refines-all setup w [] v next q a g e t = (t, e)
 refines-all setup w (p ∷ ps) v next q a g e t =
     let late = to_abandon (find (has_tsn (tsn_of w p)) q.inflight.chunks) in
     refines-all setup w ps (abandoned v (message_of w p)) (tsn_after_of late next q) (abandoned_of late next q) a.2
-    (giving-late_slot setup w v p q g a.0 a.1 t)
+    (abandoning-late_slot setup w v p q g a.0 a.1 t)
     (ap (λ k. tsn_after_of late k q) e ∙ next-late_slot setup w v p q g a.0 a.1 t)
     (subst (λ k. RefinesOutbound (abandoned v (message_of w p)) (abandoned_of late k q)) (sym e) (refines-late_slot setup w v p q g a.0 a.1 t))
 
@@ -382,4 +382,4 @@ pub refines-late : (setup : Setup) (w : World) (now : ℕ) (q : Outbound) → Sa
 refines-late setup w now q g made t =
     subst (λ v. RefinesNext v (given_all (late_tsns now q) (tsn_of w (length w.slots)) q)) (sym (late-order setup w now g))
     (subst (λ l. RefinesNext (fold abandoned w (map (message_of w) (late_slots w now))) (given_all l (tsn_of w (length w.slots)) q)) (sym (late-tsns w now q g.sender made t))
-    (refines-all setup w (late_slots w now) w (tsn_of w (length w.slots)) q (late-in_flight w now) (giving-first setup w g) refl t))
+    (refines-all setup w (late_slots w now) w (tsn_of w (length w.slots)) q (late-in_flight w now) (abandoning-first setup w g) refl t))

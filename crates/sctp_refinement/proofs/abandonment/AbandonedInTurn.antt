@@ -29,7 +29,7 @@ use Rattle.sctp_model.proofs.sender.Fronts.{slot-sent}
 use Rattle.sctp_model.proofs.sender.Few.{few}
 use Rattle.sctp_refinement.specs.InTurn.{message_of_tsn, abandoned_tsn}
 use Rattle.sctp_refinement.specs.Refines.{RefinesOutbound}
-use Rattle.sctp_refinement.proofs.abandonment.AbandonedEvents.{IsGiving, AllInFlight, giving-first, giving-next, late-tsns, late-in_flight}
+use Rattle.sctp_refinement.proofs.abandonment.AbandonedEvents.{IsAbandoning, AllInFlight, abandoning-first, abandoning-next, late-tsns, late-in_flight}
 use Rattle.sctp_refinement.proofs.abandonment.AbandonedLate.{abandoned-again, dead-then, half-still}
 use Rattle.sctp_refinement.proofs.abandonment.AbandonedLink.{place-back}
 use Rattle.sctp_refinement.proofs.abandonment.Released.{balance-in, released-abandoned}
@@ -116,15 +116,15 @@ none-half w ts (Some t) s e j d lt = half-still w n k ∙ by (is_partially_sent 
 -- record v is record w with some messages of TSNs in flight abandoned
 pub record IsTurn (w v : World) : Type 0 where
   pub setup : IsSetup w.setup
-  pub giving : IsGiving w.setup w v
+  pub abandoning : IsAbandoning w.setup w v
   pub more : in_all w (released_bytes w) ≤ in_all v (released_bytes v)
 
 pub turn-first : (w : World) → IsSetup w.setup → Sane w.setup w → IsTurn w w
-turn-first w is g = record { setup = is; giving = giving-first w.setup w g; more = omega arith }
+turn-first w is g = record { setup = is; abandoning = abandoning-first w.setup w g; more = omega arith }
 
 -- no more is released than was written
 pub turn-written : (w v : World) → IsTurn w v → in_all v (released_bytes v) ≤ in_all v (written_bytes v)
-turn-written w v t = omega (arith, balance-in w.setup v t.setup t.giving.sane)
+turn-written w v t = omega (arith, balance-in w.setup v t.setup t.abandoning.sane)
 
 -- one more
 module _ (w v : World) (t : ℕ) (turn : IsTurn w v) (flies : is_in_flight w (place_of w t) ≡ true) where
@@ -141,25 +141,25 @@ module _ (w v : World) (t : ℕ) (turn : IsTurn w v) (flies : is_in_flight w (pl
   high = let a = (both (nat_le w.taken p) (nat_lt p (length w.slots)) flies).1 in grind (arith, nat_tests)
 
   place-same : place_of v t ≡ p
-  place-same = ap (λ s. (t + (2 ^ 32 - s.first)) % 2 ^ 32) turn.giving.first
+  place-same = ap (λ s. (t + (2 ^ 32 - s.first)) % 2 ^ 32) turn.abandoning.first
 
   message-here : message_of v p ≡ n
-  message-here = ap (λ x. x.message) (turn.giving.slot p high)
+  message-here = ap (λ x. x.message) (turn.abandoning.slot p high)
 
   message-same : message_of v (place_of v t) ≡ n
   message-same = ap (message_of v) place-same ∙ message-here
 
   high' : p < length v.slots
-  high' = omega (arith, high, turn.giving.more)
+  high' = omega (arith, high, turn.abandoning.more)
 
   sent : 0 < sent_of v n
-  sent = subst (λ k. 0 < sent_of v k) message-here (slot-sent (shape v) p turn.giving.sane.sender high')
+  sent = subst (λ k. 0 < sent_of v k) message-here (slot-sent (shape v) p turn.abandoning.sane.sender high')
 
   -- it is an Abandon that is accepted
   pub turn-accepted : refusal_of v (E.Abandon t) ≡ None
   turn-accepted =
       ap (λ k. unless (is_in_flight v k) NotInFlight None) place-same
-      ∙ ap (λ b. unless b NotInFlight None) (and (nat_le v.taken p) (nat_lt p (length v.slots)) (let l : v.taken ≤ p = omega (arith, low, turn.giving.taken) in grind (arith, nat_tests)) (let l : p < length v.slots = high' in grind (arith, nat_tests)))
+      ∙ ap (λ b. unless b NotInFlight None) (and (nat_le v.taken p) (nat_lt p (length v.slots)) (let l : v.taken ≤ p = omega (arith, low, turn.abandoning.taken) in grind (arith, nat_tests)) (let l : p < length v.slots = high' in grind (arith, nat_tests)))
 
   pub turn-is : after v (E.Abandon t) ≡ abandoned v n
   turn-is = ap (abandoned v) message-same
@@ -171,13 +171,13 @@ module _ (w v : World) (t : ℕ) (turn : IsTurn w v) (flies : is_in_flight w (pl
   pub turn-next : IsTurn w (abandoned v n)
   turn-next = record {
     setup = turn.setup;
-    giving = giving-next w.setup w v n sent turn.giving;
-    more = omega (arith, turn.more, released-abandoned w.setup v n turn.setup turn.giving.sane sent);
+    abandoning = abandoning-next w.setup w v n sent turn.abandoning;
+    more = omega (arith, turn.more, released-abandoned w.setup v n turn.setup turn.abandoning.sane sent);
   }
 
   -- the bytes add up
   pub turn-sum : growth w v + growth v (abandoned v n) ≡ growth w (abandoned v n)
-  turn-sum = omega (arith, turn.more, released-abandoned w.setup v n turn.setup turn.giving.sane sent)
+  turn-sum = omega (arith, turn.more, released-abandoned w.setup v n turn.setup turn.abandoning.sane sent)
 
 -- after the partially sent one, if any
 pub turn-given : (w : World) (ts : List ℕ) (o : Option ℕ) → IsSetup w.setup → Sane w.setup w → list_all (λ t. is_in_flight w (place_of w t)) ts ≡ true → o ≡ find (λ t. is_partially_sent w (message_of_tsn w t)) ts → IsTurn w (abandoned_tsn w o)

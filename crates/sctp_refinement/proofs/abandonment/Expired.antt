@@ -169,7 +169,7 @@ module _ (setup : Setup) (w : World) (n : ℕ) (g : Going setup w) (is : front w
 
   -- ## What waits
 
-  -- of a message that is not abandoned
+  -- of a message that neither expired nor is abandoned
   waiting-closed : (k : ℕ) → (k ≡ n → ⊥) → (message_at w k).ordered ≡ true → is_expired_or_abandoned w k ≡ false → closed (message_at w n).ordered (message_at w n).stream (waiting_of w k) ≡ waiting_of v k
   waiting-closed k ne o alive = by (message_at w n).ordered refl
     where

@@ -1,4 +1,4 @@
--- What giving a message up releases.
+-- What expiring or abandoning a message releases.
 use Rattle.std.proofs.Common.{◌≡◌, ℕ, ◌+◌, ◌-◌, ◌<◌, Bool, true, false, [], ◌∷◌, length, get_or, refl, ap, sym, ◌∙◌, arith, add-one, length-append}
 use Rattle.std.specs.Prelude.{if◌then◌else◌, ◌==◌, ◌&&◌, ◌||◌, not}
 use Rattle.sctp_list_lemmas.specs.Kept.{kept, numbers_from, total_over}
@@ -69,9 +69,9 @@ module _ (w : World) (n : ℕ) where
   held-marked : (q : Message → Bool) → held_where v q ≡ held_where w q
   held-marked q = total-kept_same (held_bytes v) (held_bytes w) (λ k. q (message_at w k)) 0 (length w.messages) (λ k a b. ap (λ c. c + in_flight_bytes v k) (pending-same k) ∙ ap (λ c. pending_bytes w k + c) (in_flight-same k))
 
--- ## A message abandoned holds nothing
+-- ## A message that expired or was abandoned holds nothing
 
--- the bytes that message k would hold as this one, abandoned or not
+-- the bytes that message k would hold as this one, whether it expired or was abandoned, or not
 abbrev held_if : World → ℕ → Bool → Message → ℕ
 held_if w k gone m =
     (if gone then 0 else total_over (λ i. length (get_or (pieces (length m.bytes) w.setup.size m.bytes) i [])) (numbers_from (sent_of w k) (length (pieces (length m.bytes) w.setup.size m.bytes) - sent_of w k)))

@@ -127,7 +127,7 @@ module _ (w v : World) (s : SameToSender w v) where
   selected-same None = refl
   selected-same (Some n) = ap (λ m. Some (let x : Selected = record { message_id = n; unordered = not m.ordered } in x)) (s.message n)
 
-  -- the outbound queue is tied to the record that it then is
+  -- the outbound queue refines the record that there then is
   pub outbound-same : (q : Outbound) → RefinesOutbound w q → RefinesOutbound v q
   outbound-same q t = record {
     pending = record {

@@ -20,7 +20,7 @@ use Rattle.sctp_model.proofs.sender.Sender.{Sender}
 use Rattle.sctp_refinement.specs.Amount.{amount, stream_of_slot, bytes_at, unacked, unacked_on, acknowledged_at, acknowledged_then}
 use Rattle.sctp_refinement.proofs.amounts.Owned.{total-owned}
 
--- the bytes of message n in the slots that pass, none where it was abandoned
+-- the bytes of message n in the slots that pass, none where it expired or was abandoned
 abbrev pub bytes_where : World → (ℕ → Bool) → ℕ → ℕ
 bytes_where w c n = if is_expired_or_abandoned w n then 0 else total_over (slot_bytes w n) (slots_where w (λ p. has_fragment w n p && c p))
 
@@ -119,7 +119,7 @@ unacked-taken w acked p lt = by (acked p) refl
     by true e = let z = ap (total_over (bytes_at w)) (sym (always-too (λ k. acked k || (k == p))) ∙ marked-again w acked always p e ∙ always-too acked) in omega (arith, z)
     by false e = unacked-marked w acked p e lt
 
--- a fragment's slot holds its bytes, where its message was not abandoned
+-- a fragment's slot holds its bytes, where its message neither expired nor was abandoned
 pub bytes_at-alive : (w : World) (p : ℕ) → (slot_at w p).is_terminal_chunk ≡ false → is_expired_or_abandoned w (message_of w p) ≡ false → bytes_at w p ≡ slot_bytes w (message_of w p) p
 bytes_at-alive w p e f = ap (λ b. if b || is_expired_or_abandoned w (message_of w p) then 0 else slot_bytes w (message_of w p) p) e ∙ ap (λ b. if b then 0 else slot_bytes w (message_of w p) p) f
 
@@ -150,7 +150,7 @@ pending_by x n = if (x.message n).expired || (x.message n).abandoned then 0 else
 abbrev pub pending_on_by : Shape → ℕ → ℕ
 pending_on_by x t = total_over (pending_by x) (kept (λ n. (x.message n).stream == t) 0 x.count)
 
--- all that the slots hold, with what was written of messages abandoned
+-- all that the slots hold, with what was written of messages that expired or were abandoned
 abbrev lost_or_sent_by : Shape → ℕ
 lost_or_sent_by x = total_over (λ n. if (x.message n).expired || (x.message n).abandoned then length (x.message n).bytes else 0) (numbers_from 0 x.count) + total_over (bytes_by x) (numbers_from 0 x.slots)
 

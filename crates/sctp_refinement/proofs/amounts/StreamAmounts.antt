@@ -35,9 +35,9 @@ use Rattle.sctp_refinement.specs.Amount.{amount, keeps_amounts, stream_of_slot, 
 use Rattle.sctp_refinement.proofs.amounts.MessageSums.{is_on, sum_where, message-old, sum-written, sum-same}
 use Rattle.sctp_refinement.proofs.acknowledging.Unacked.{bytes_where, bytes-by_slot, pending_on_by}
 
--- ## What is not abandoned is still to be sent, or acknowledged
+-- ## What neither expired nor was abandoned is still to be sent, or acknowledged
 
--- the bytes of a message that was not abandoned
+-- the bytes of a message that neither expired nor was abandoned
 abbrev alive_bytes : Message → ℕ
 alive_bytes m = if m.expired || m.abandoned then 0 else length m.bytes
 
@@ -157,8 +157,8 @@ gone-sent w now (Some k) n lt =
     ∙ ap (λ x. (x.message n).expired || (x.message n).abandoned) (Shapes.shape-started w now)
 
 pub count-sent : (w : World) (now : ℕ) (o : Option ℕ) → length (Changes.sent_from (Changes.started w now) o).messages ≡ length w.messages
-count-sent w now None = length-mapped (Changes.start_at now) w.messages
-count-sent w now (Some k) = ap length (messages-sent (Changes.started w now)) ∙ length-mapped (Changes.start_at now) w.messages
+count-sent w now None = length-mapped (Changes.start_lifetime now) w.messages
+count-sent w now (Some k) = ap length (messages-sent (Changes.started w now)) ∙ length-mapped (Changes.start_lifetime now) w.messages
 
 pub amount-sent : (setup : Setup) (w : World) (now t : ℕ) → IsSetup setup → Sane setup w → amount (Changes.sent w now) t ≡ amount w t
 amount-sent setup w now t is g = amount-quiet setup w (Changes.sent w now) t is g (sane-after setup w (E.Send now) refl g) (Moves.quiet-sent setup w now (front w) g) (gone-sent w now (front w)) (count-sent w now (front w))

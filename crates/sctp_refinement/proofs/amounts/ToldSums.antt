@@ -76,7 +76,7 @@ pub read-after : (setup : Setup) (w : World) (e : Event) → Sane setup w → is
 read-after setup w (E.Open s) g a b = read-messages w (after w (E.Open s)) refl
 read-after setup w (E.Mode s u x y) g a b = read-messages w (after w (E.Mode s u x y)) refl
 read-after setup w (E.Write s x y) g a b = cc
-read-after setup w (E.Start now) g a b = read-quiet w (after w (E.Start now)) (length-mapped (Changes.start_at now) w.messages) (Moves.quiet-started w now)
+read-after setup w (E.Start now) g a b = read-quiet w (after w (E.Start now)) (length-mapped (Changes.start_lifetime now) w.messages) (Moves.quiet-started w now)
 read-after setup w (E.Send now) g a b = read-quiet w (after w (E.Send now)) (count-sent w now (front w)) (Moves.quiet-sent setup w now (front w) g)
 read-after setup w (E.Resend x) g a b = read-messages w (after w (E.Resend x)) refl
 read-after setup w (E.Expire now) g a b = read-quiet w (after w (E.Expire now)) (count-expired w (Changes.expiring w now)) (Moves.quiet-expire setup w now (front w) g)

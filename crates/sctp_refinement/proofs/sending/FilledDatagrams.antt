@@ -12,7 +12,7 @@ use Rattle.sctp_outbound.specs.pending_queue.PendingQueue.{Pending, peeked}
 use Rattle.sctp_outbound.specs.outbound_queue.OutboundQueue.{following_tsn, taken_of, after_sends}
 use Rattle.sctp_model.specs.World.{Setup, World, Slot}
 use Rattle.sctp_model.specs.Messages.{front, sent_of, slot_at, tsn_of, no_slot}
-use Rattle.sctp_model.specs.Contents.{chunk_at, data_with}
+use Rattle.sctp_model.specs.Contents.{chunk_at, data_fields}
 use Rattle.sctp_model.specs.Changes.{started, with_slot, fragment_sent, fragment_of_sent, fragments_sent, filled, plus, chunk_fits, chunk_length, next_length, next_length_of}
 use Rattle.sctp_model.proofs.sender.Shape.{Shape, shape, sent, parts, index, front_of}
 use Rattle.sctp_model.proofs.sender.Shapes
@@ -79,7 +79,7 @@ fills-none : (w : World) → Fills w w []
 fills-none w = record { all = refl; fronts = λ i lt. absurd (omega arith); count = omega arith; says = refl }
 
 -- one chunk more
-fills-more : (w z : World) (n : ℕ) (c : ChunkPayloadData) (cs : List ChunkPayloadData) → front w ≡ Some n → data_of c ≡ data_with w n (sent_of w n) (tsn_of w (length w.slots)) → Fills (with_slot w n false) z cs → Fills w z (c ∷ cs)
+fills-more : (w z : World) (n : ℕ) (c : ChunkPayloadData) (cs : List ChunkPayloadData) → front w ≡ Some n → data_of c ≡ data_fields w n (sent_of w n) (tsn_of w (length w.slots)) → Fills (with_slot w n false) z cs → Fills w z (c ∷ cs)
 fills-more w z n c cs fr is f = record {
   all = f.all ∙ ap (after_fragments (length cs)) (sym takes);
   fronts = λ i lt. each i lt;
@@ -111,10 +111,10 @@ fills-more w z n c cs fr is f = record {
     same : z ≡ record w { slots = z.slots }
     same = f.all ∙ only-slots (length cs) (with_slot w n false) ∙ ap (λ s. record w { slots = s }) (ap (λ y. y.slots) (sym f.all))
 
-    first : data_of (chunk_at z (length w.slots)) ≡ data_with w n (sent_of w n) (tsn_of w (length w.slots))
+    first : data_of (chunk_at z (length w.slots)) ≡ data_fields w n (sent_of w n) (tsn_of w (length w.slots))
     first =
-        ap (λ (y : Slot). data_with z y.message y.fragment (tsn_of z (length w.slots))) slot
-        ∙ ap (λ y. data_with y n (sent_of w n) (tsn_of y (length w.slots))) same
+        ap (λ (y : Slot). data_fields z y.message y.fragment (tsn_of z (length w.slots))) slot
+        ∙ ap (λ y. data_fields y n (sent_of w n) (tsn_of y (length w.slots))) same
 
     rest : map data_of cs ≡ map (λ p. data_of (chunk_at z p)) (numbers_from (length w.slots + 1) (length cs))
     rest = f.says ∙ ap (λ k. map (λ p. data_of (chunk_at z p)) (numbers_from k (length cs))) longer
@@ -155,7 +155,7 @@ fill-from setup (suc most) used tsn w q g t e = by (λ used' tsn' v r g' t' e'. 
         test : (b : Bool) → Fills w (if b then filled most (used + more) (with_slot w n false) else w) (if b then leaving tsn (Some c) ++ further most w.setup.limit (used + more) (following_tsn tsn) (taken_of (Some c) q) else [])
         test true =
             fills-more w (filled most (used + more) (with_slot w n false)) n (under tsn c) (further most w.setup.limit (used + more) (following_tsn tsn) (taken_of (Some c) q)) fr
-            (ap (λ k. data_with w n (sent_of w n) k) e)
+            (ap (λ k. data_fields w n (sent_of w n) k) e)
             (rest (used + more) (following_tsn tsn) (with_slot w n false) (taken_of (Some c) q) going shows.1 (ap following_tsn e ∙ next-tsn w n))
         test false = fills-none w
 
@@ -205,7 +205,7 @@ fill-sent setup tsn n w q g t fr e = subst (λ o. Takes o (peeked q)) (sym fr) (
     one : Takes (Some n) (Some c)
     one =
         fills-more w (filled w.setup.limit (12 + more) (with_slot w n false)) n (under tsn c) (further w.setup.limit w.setup.limit (12 + more) (following_tsn tsn) (taken_of (Some c) q)) fr
-        (ap (λ k. data_with w n (sent_of w n) k) e)
+        (ap (λ k. data_fields w n (sent_of w n) k) e)
         (fill-from setup w.setup.limit (12 + more) (following_tsn tsn) (with_slot w n false) (taken_of (Some c) q) (subst (λ o. Going setup (fragment_of_sent w o)) fr (going-takes setup w g)) shows.1 (ap following_tsn e ∙ next-tsn w n))
 
 -- ## Lifetimes start first
@@ -273,7 +273,7 @@ data_by y n i tsn =
       user_data = get_or (pieces (length (y.message n).bytes) y.size (y.message n).bytes) i [];
     }
 
-pub data-started : (w : World) (now n i tsn : ℕ) → data_with (started w now) n i tsn ≡ data_with w n i tsn
+pub data-started : (w : World) (now n i tsn : ℕ) → data_fields (started w now) n i tsn ≡ data_fields w n i tsn
 data-started w now n i tsn = ap (λ y. data_by y n i tsn) (Shapes.shape-started w now)
 
 -- so the datagram of a Send says what was taken from the queue

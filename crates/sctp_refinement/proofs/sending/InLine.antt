@@ -9,7 +9,7 @@ use Rattle.sctp_list_lemmas.proofs.Cases.{by_last}
 use Rattle.sctp_chunks.specs.declared.chunk.chunk_payload_data.PayloadProtocolIdentifier.{PayloadProtocolIdentifier}
 use Rattle.sctp_model.specs.World.{Message, World}
 use Rattle.sctp_model.specs.Messages.{message_at, no_message, stream_of, is_ordered_on, ordered_before, index_of, ssn_of}
-use Rattle.sctp_model.specs.Changes.{mark_read, mark_abandoned, message_changed, message_on, started, start_at, wrote}
+use Rattle.sctp_model.specs.Changes.{mark_read, mark_abandoned, message_changed, message_on, started, start_lifetime, wrote}
 
 -- ## One more message
 
@@ -68,7 +68,7 @@ before-else w v t k e = ap (λ ms. ordered_before (record w { messages = ms }) t
 
 -- lifetimes start
 pub before-started : (w : World) (now t k : ℕ) → ordered_before (started w now) t k ≡ ordered_before w t k
-before-started w now t k = before-by w (started w now) t k (λ j lt. get-map (start_at now) (λ m. (m.stream == t) && (m.ordered && not m.expired)) (λ m. refl) j w.messages no_message)
+before-started w now t k = before-by w (started w now) t k (λ j lt. get-map (start_lifetime now) (λ m. (m.stream == t) && (m.ordered && not m.expired)) (λ m. refl) j w.messages no_message)
 
 -- a message is read
 pub before-read : (w : World) (n t k : ℕ) → ordered_before (message_changed w n mark_read) t k ≡ ordered_before w t k
@@ -125,8 +125,8 @@ counted-changed w n f before stream on c = record {
 pub counted-started : (w : World) (now : ℕ) → CountsBefore w → CountsBefore (started w now)
 counted-started w now c = record {
   before = λ k lt.
-      let same : (message_at (started w now) k).stream ≡ (message_at w k).stream = get-map (start_at now) (λ m. m.stream) (λ m. refl) k w.messages no_message in
-      get-map (start_at now) (λ m. m.before) (λ m. refl) k w.messages no_message ∙ c.before k (omega (arith, lt, length-mapped (start_at now) w.messages))
+      let same : (message_at (started w now) k).stream ≡ (message_at w k).stream = get-map (start_lifetime now) (λ m. m.stream) (λ m. refl) k w.messages no_message in
+      get-map (start_lifetime now) (λ m. m.before) (λ m. refl) k w.messages no_message ∙ c.before k (omega (arith, lt, length-mapped (start_lifetime now) w.messages))
       ∙ sym (ap (λ t. ordered_before (started w now) t k) same ∙ before-started w now (message_at w k).stream k);
 }
 

@@ -19,8 +19,8 @@ use Rattle.sctp_outbound.specs.outbound_queue.OutboundQueue.{Outbound, all_start
 use Rattle.sctp_model.specs.World.{World, Message}
 use Rattle.sctp_model.specs.Messages.{message_at, slot_at, message_of, messages_where, is_ordered_on, ordered_before, index_of, ssn_of, fragment_count, sent_of, is_partially_sent, no_message, deadline_of, deadline_from}
 use Rattle.sctp_model.specs.Messages
-use Rattle.sctp_model.specs.Changes.{start_at, started}
-use Rattle.sctp_model.specs.Contents.{data_with}
+use Rattle.sctp_model.specs.Changes.{start_lifetime, started}
+use Rattle.sctp_model.specs.Contents.{data_fields}
 use Rattle.sctp_refinement.specs.Refines.{waiting_at, waiting_of, waiting_where, selected_of, RefinesOutbound}
 use Rattle.sctp_refinement.proofs.sending.Waiting.{Alike, gathered-same}
 use Rattle.sctp_refinement.proofs.sending.Written.{sendings-alike}
@@ -93,10 +93,10 @@ module _ (w : World) (now : ℕ) where
   len = length w.messages
 
   len-same : length v.messages ≡ length w.messages
-  len-same = length-mapped (start_at now) w.messages
+  len-same = length-mapped (start_lifetime now) w.messages
 
-  message-now : (n : ℕ) → n < length w.messages → message_at v n ≡ start_at now (message_at w n)
-  message-now n lt = map-at (start_at now) n w.messages no_message lt
+  message-now : (n : ℕ) → n < length w.messages → message_at v n ≡ start_lifetime now (message_at w n)
+  message-now n lt = map-at (start_lifetime now) n w.messages no_message lt
 
   on-same : (s k : ℕ) → k < length w.messages → is_ordered_on v s k ≡ is_ordered_on w s k
   on-same s k lt = ap (λ x. (x.stream == s) && (x.ordered && not x.expired)) (message-now k lt)
@@ -115,7 +115,7 @@ module _ (w : World) (now : ℕ) where
   -- a fragment that waits
   waiting-now : (first n i : ℕ) → n < length w.messages → is_some (message_at w n).started ≡ not (nat_le first n) → started_by first now (waiting_at w n i) ≡ waiting_at v n i
   waiting-now first n i lt e =
-      start-chunk (data_with w n i 0) n first now (message_at w n).reliability (message_at w n).value (message_at w n).started e
+      start-chunk (data_fields w n i 0) n first now (message_at w n).reliability (message_at w n).value (message_at w n).started e
       ∙ sym (rw (ssn-same n lt, message-now n lt) refl)
 
   waiting_of-now : (first n : ℕ) → n < length w.messages → is_some (message_at w n).started ≡ not (nat_le first n) → change_where (pending.is_to_start first) (pending.with_deadline now) (waiting_of w n) ≡ waiting_of v n
@@ -123,7 +123,7 @@ module _ (w : World) (now : ℕ) where
       change-map (pending.is_to_start first) (pending.with_deadline now) (waiting_at w n) (waiting_at v n) (numbers_from (sent_of w n) (fragment_count w n - sent_of w n)) (λ i. waiting-now first n i lt e)
       ∙ ap (λ c. map (waiting_at v n) (numbers_from (sent_of w n) (c - sent_of w n))) (sym (count-same n lt))
 
-  where-now : (first : ℕ) (t : Message → Bool) → ((m : Message) → t (start_at now m) ≡ t m) → ((n : ℕ) → n < length w.messages → is_some (message_at w n).started ≡ not (nat_le first n)) → change_where (pending.is_to_start first) (pending.with_deadline now) (waiting_where w (λ n. t (message_at w n))) ≡ waiting_where v (λ n. t (message_at v n))
+  where-now : (first : ℕ) (t : Message → Bool) → ((m : Message) → t (start_lifetime now m) ≡ t m) → ((n : ℕ) → n < length w.messages → is_some (message_at w n).started ≡ not (nat_le first n)) → change_where (pending.is_to_start first) (pending.with_deadline now) (waiting_where w (λ n. t (message_at w n))) ≡ waiting_where v (λ n. t (message_at v n))
   where-now first t keeps e =
       change-gathered (pending.is_to_start first) (pending.with_deadline now) (waiting_of w) (kept (λ n. t (message_at w n)) 0 len)
       ∙ gathered-same (λ n. change_where (pending.is_to_start first) (pending.with_deadline now) (waiting_of w n)) (waiting_of v) (λ n. t (message_at w n)) (λ n. t (message_at v n)) 0 len
@@ -141,19 +141,19 @@ module _ (w : World) (now : ℕ) where
   selected-same (n ∷ rest) f = rw (message-now n (omega (arith, f.high))) refl
 
   -- one that has started stays as it was
-  stays : (m : Message) → is_some m.started ≡ true → start_at now m ≡ m
+  stays : (m : Message) → is_some m.started ≡ true → start_lifetime now m ≡ m
   stays m e = by m.started refl e
     where
-      by : (o : Option ℕ) → m.started ≡ o → is_some o ≡ true → start_at now m ≡ m
+      by : (o : Option ℕ) → m.started ≡ o → is_some o ≡ true → start_lifetime now m ≡ m
       by None h f = cc
       by (Some t) h f = rw h refl
 
   pub refines-started : (q : Outbound) → RefinesOutbound w q → RefinesOutbound v (all_started now q)
   refines-started q t = by (q.next_unstarted == q.next_message_id) refl
     where
-      all-stay : (xs : List Message) → ((k : ℕ) → k < length xs → is_some (slice_index_or xs k no_message).started ≡ true) → map (start_at now) xs ≡ xs
+      all-stay : (xs : List Message) → ((k : ℕ) → k < length xs → is_some (slice_index_or xs k no_message).started ≡ true) → map (start_lifetime now) xs ≡ xs
       all-stay [] h = refl
-      all-stay (m ∷ xs) h = ap (λ x. x ∷ map (start_at now) xs) (stays m (h 0 (omega arith))) ∙ ap (λ l. m ∷ l) (all-stay xs (λ k lt. h (suc k) (omega arith)))
+      all-stay (m ∷ xs) h = ap (λ x. x ∷ map (start_lifetime now) xs) (stays m (h 0 (omega arith))) ∙ ap (λ l. m ∷ l) (all-stay xs (λ k lt. h (suc k) (omega arith)))
 
       past : (n : ℕ) → n < q.next_unstarted → is_some (message_at w n).started ≡ true
       past n lt = t.unstarted n (omega (arith, t.started)) ∙ ap not (let e : nat_le q.next_unstarted n ≡ false = grind (arith, nat_tests) in e)

@@ -126,7 +126,7 @@ module _ (w : World) (s : Sender (shape w)) (turns : KindsInTurn w) (n : ℕ) (i
   pub front_is : FrontIs w n
   front_is = first (first_of (messages_where w (is_partially_sent w))) (first-kept (is_partially_sent w) (length w.messages)) is
 
--- a message that is not abandoned, neither partially sent nor unsent, was wholly sent
+-- a message that is not expired or abandoned, neither partially sent nor unsent, was wholly sent
 pub all-sent : (w : World) (k : ℕ) → is_expired_or_abandoned w k ≡ false → is_partially_sent w k ≡ false → is_unsent w k ≡ false → waiting_of w k ≡ []
 all-sent w k given half unsent = by (cases_lt 0 (sent_of w k)) (cases_lt (sent_of w k) (fragment_count w k))
   where

@@ -6,8 +6,8 @@ use Rattle.sctp_model.proofs.laws.lifetimes_end.Goals as goal
 pub returns-clause-once : goal.returns-clause-once
 returns-clause-once c = starts_once
 
-pub returns-clause-lapse : goal.returns-clause-lapse
-returns-clause-lapse c = deadlines_by_events
+pub returns-clause-deadlines : goal.returns-clause-deadlines
+returns-clause-deadlines c = deadlines_by_events
 
 pub returns-clause-expire : goal.returns-clause-expire
 returns-clause-expire c = expires_past_deadline

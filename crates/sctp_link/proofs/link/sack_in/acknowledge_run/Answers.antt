@@ -1,6 +1,6 @@
 use Rattle.std.proofs.Common.{◌+◌, ◌<◌, ◌∙◌, arith, length, length-set}
 use Rattle.sctp_link.specs.Acking.{and_one, and_run}
-use Rattle.sctp_link.specs.OpenStreams.{slot_with}
+use Rattle.sctp_link.specs.OpenStreams.{fragment_slot}
 use Rattle.sctp_link.proofs.acknowledging.AckLoops.{marking-same, marking-one, run-more, run-all}
 use Rattle.sctp_link.proofs.link.sack_in.acknowledge_run.Goals as goal
 
@@ -14,7 +14,7 @@ loop-place-preserved c =
       acked = λ w acked i.
           marking-same w (and_one (and_run acked c.args.from c.loop-place.place) c.loop-place.place) (and_run acked c.args.from (c.loop-place.place + 1)) _
           (run-more acked c.args.from c.loop-place.place c.loop-place.auto.place)
-          (marking-one w (and_run acked c.args.from c.loop-place.place) c.loop-place.slots c.loop-place.place (slot_with 0 0) lt (c.loop-place.invariant.acked w acked i));
+          (marking-one w (and_run acked c.args.from c.loop-place.place) c.loop-place.slots c.loop-place.place (fragment_slot 0 0) lt (c.loop-place.invariant.acked w acked i));
       count = length-set c.loop-place.slots c.loop-place.place _ ∙ c.loop-place.invariant.count;
       reach = omega (arith, c.loop-place-test.true);
     }
