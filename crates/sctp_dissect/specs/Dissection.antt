@@ -62,7 +62,8 @@ Stops None rest = rest ≡ []
 Stops (Some ShortPacket) rest = ⊥
 Stops (Some ShortHeader) rest = (0 < length rest) × (length rest < 4)
 Stops (Some LengthTooSmall) rest = (4 ≤ length rest) × (declared rest < 4)
-Stops (Some LengthPastEnd) rest = (4 ≤ length rest) × (4 ≤ declared rest) × (length rest < declared rest)
+Stops (Some LengthPastEnd) rest =
+    (4 ≤ length rest) × (4 ≤ declared rest) × (length rest < declared rest)
 
 -- what a datagram of fewer than twelve bytes shows
 pub record IsShort (datagram : List ℕ) (d : Dissection) : Type 0 where
@@ -90,7 +91,8 @@ joined d = header_bytes d.header ++ flat_map item_bytes d.items.items ++ d.rest
 abbrev pub IsHeader : Option Header → Parts → Type 0
 IsHeader None p = ⊥
 IsHeader (Some h) p = (h.checksum ≡ h.computed) × (p.source_port ≡ h.fields.source_port)
-    × (p.destination_port ≡ h.fields.destination_port) × (p.verification_tag ≡ h.fields.verification_tag)
+    × (p.destination_port ≡ h.fields.destination_port)
+        × (p.verification_tag ≡ h.fields.verification_tag)
 
 -- the chunk that an item is read as, if it is not raw
 abbrev pub wire_in : Reading → Option Wire

@@ -34,7 +34,8 @@ pub record Sides : Type 0 where
   pub max_message_size : ℕ
 
 -- each part has the same streams, in the same order
-pub record IsAligned (numbers : List ℕ) (sender : Transmission) (receiver : Reception) (progress : List StreamProgress) : Type 0 where
+pub record IsAligned (numbers : List ℕ) (sender : Transmission) (receiver : Reception)
+    (progress : List StreamProgress) : Type 0 where
   pub sends : numbers ≡ Outgoing.numbers_of sender.streams
   pub receives : numbers ≡ Inbound.numbers_of receiver.streams
   pub progresses : numbers ≡ map (λ p. p.number) progress
@@ -42,14 +43,20 @@ pub record IsAligned (numbers : List ℕ) (sender : Transmission) (receiver : Re
 
 -- what is the sender's, and what is the receiver's
 abbrev pub transmission_of : Sides → Transmission
-transmission_of x = record { streams = map (λ l. l.state) x.streams; flight = x.flight; fragment_size = x.fragment_size; max_message_size = x.max_message_size }
+transmission_of x =
+    record { streams = map (λ l. l.state) x.streams; flight = x.flight;
+    fragment_size = x.fragment_size; max_message_size = x.max_message_size }
 
 abbrev pub reception_of : Sides → Reception
-reception_of x = record { streams = map (λ l. l.inbound) x.streams; cumulative_tsn = x.cumulative_tsn; beyond = x.beyond; duplicates = x.duplicates; max_message_size = x.max_message_size }
+reception_of x =
+    record { streams = map (λ l. l.inbound) x.streams; cumulative_tsn = x.cumulative_tsn;
+    beyond = x.beyond; duplicates = x.duplicates; max_message_size = x.max_message_size }
 
 -- nothing was opened
 abbrev pub fresh : ℕ → ℕ → ℕ → Sides
-fresh tsn size largest = record { streams = []; flight = Flight.at_first tsn; cumulative_tsn = preceding_tsn tsn; beyond = []; duplicates = []; fragment_size = size; max_message_size = largest }
+fresh tsn size largest =
+    record { streams = []; flight = Flight.at_first tsn; cumulative_tsn = preceding_tsn tsn;
+    beyond = []; duplicates = []; fragment_size = size; max_message_size = largest }
 
 abbrev pub stream_in : ℕ → Sides → Option OpenStream
 stream_in s x = find (has_number s) x.streams
@@ -65,34 +72,45 @@ abbrev pub with_flight : Flight → Sides → Sides
 with_flight f x = record x { flight = f }
 
 abbrev pub with_filter_of : Filter → Sides → Sides
-with_filter_of f x = record x { cumulative_tsn = f.cumulative_tsn; beyond = f.beyond; duplicates = f.duplicates }
+with_filter_of f x =
+    record x { cumulative_tsn = f.cumulative_tsn; beyond = f.beyond; duplicates = f.duplicates }
 
 abbrev pub opened_on : ℕ → Sides → Sides
-opened_on s x = record x { streams = x.streams ++ new_open_stream s x.fragment_size x.max_message_size ∷ [] }
+opened_on s x =
+    record x { streams = x.streams ++ new_open_stream s x.fragment_size x.max_message_size ∷ [] }
 
 abbrev pub after_mode : ℕ → Bool → ReliabilityType → ℕ → Sides → Sides
-after_mode s unordered reliability value x = on_stream s (on_state (Outgoing.with_mode unordered reliability value)) x
+after_mode s unordered reliability value x =
+    on_stream s (on_state (Outgoing.with_mode unordered reliability value)) x
 
 -- ## Sending
 
 -- a write to a stream: its fragments wait
 abbrev pub written_on : OpenStream → ℕ → PayloadProtocolIdentifier → List ℕ → Sides → Sides
-written_on l s ppi bytes x = with_flight (with_queue x.flight (with_message (fragments_with_mode l.state ppi bytes) x.flight.queue)) (on_stream s (wrote_to ppi bytes) x)
+written_on l s ppi bytes x =
+    with_flight (with_queue x.flight (with_message
+    (fragments_with_mode l.state ppi bytes) x.flight.queue)) (on_stream s (wrote_to ppi bytes) x)
 
 -- the next fragment goes in flight
 abbrev pub flight_after_send : ℕ → Flight → Flight
-flight_after_send now f = record f { queue = sent_next f.queue f.next_tsn now; next_tsn = next_after_send f }
+flight_after_send now f =
+    record f { queue = sent_next f.queue f.next_tsn now; next_tsn = next_after_send f }
 
 abbrev pub sack_taken : Sack → Sides → Sides
-sack_taken s x = record x { streams = released (released_by s x.flight) x.streams; flight = after_sack s x.flight }
+sack_taken s x =
+    record x { streams = released (released_by s x.flight) x.streams;
+    flight = after_sack s x.flight }
 
 -- a message is abandoned, and its stream has so many bytes less
 abbrev pub abandoned_on : Option ℕ → ℕ → ℕ → Sides → Sides
-abandoned_on message stream bytes x = with_flight (after_abandonment message x.flight) (on_stream stream (less_by bytes) x)
+abandoned_on message stream bytes x =
+    with_flight (after_abandonment message x.flight) (on_stream stream (less_by bytes) x)
 
 -- the message that begins with a chunk is gone, unsent
 abbrev pub expired_unsent : ChunkPayloadData → ℕ → Sides → Sides
-expired_unsent c bytes x = with_flight (with_queue x.flight (expired_of (Some c) x.flight.queue)) (on_stream c.stream_identifier (expired_on c.unordered bytes) x)
+expired_unsent c bytes x =
+    with_flight (with_queue x.flight (expired_of (Some c) x.flight.queue))
+    (on_stream c.stream_identifier (expired_on c.unordered bytes) x)
 
 -- ## Receiving
 
@@ -102,7 +120,8 @@ pub record Accepts (c : ChunkPayloadData) (number : ℕ) (old new : Sides) : Typ
   pub found : stream_in c.stream_identifier old ≡ Some stream
   pub kept : OpenStream
   pub keeps : Keeps c number stream kept
-  pub after : new ≡ with_filter_of (with_tsn c.tsn (filter_of (reception_of old))) (on_stream c.stream_identifier (λ _. kept) old)
+  pub after : new ≡ with_filter_of (with_tsn c.tsn (filter_of (reception_of old)))
+      (on_stream c.stream_identifier (λ _. kept) old)
 
 abbrev pub repeated : ℕ → Sides → Sides
 repeated tsn x = with_filter_of (with_duplicate tsn (filter_of (reception_of x))) x
@@ -117,7 +136,10 @@ reported x = record x { duplicates = [] }
 
 -- a FORWARD-TSN that is past what came is followed
 abbrev pub followed : ForwardTsn → Sides → Sides
-followed f x = with_filter_of (skipped_to f.new_cumulative_tsn (filter_of (reception_of x))) (record x { streams = map (on_inbound (forwarded_on f.streams f.new_cumulative_tsn)) x.streams })
+followed f x =
+    with_filter_of (skipped_to f.new_cumulative_tsn (filter_of (reception_of x)))
+    (record x { streams = map (on_inbound
+    (forwarded_on f.streams f.new_cumulative_tsn)) x.streams })
 
 abbrev pub after_forward : ForwardTsn → Sides → Sides
 after_forward f x = if is_stale f (reception_of x) then x else followed f x
@@ -139,7 +161,8 @@ pub record TakesFirst (c : ChunkPayloadData) (n : ℕ) (a : Arrival) (old mid : 
 
 abbrev pub TakesEach : List ChunkPayloadData → List ℕ → List Arrival → Sides → Sides → Type 0
 TakesEach [] ns [] old new = new ≡ old
-TakesEach (c ∷ cs) (n ∷ ns) (a ∷ bs) old new = (mid : Sides) × (TakesFirst c n a old mid × TakesEach cs ns bs mid new)
+TakesEach (c ∷ cs) (n ∷ ns) (a ∷ bs) old new =
+    (mid : Sides) × (TakesFirst c n a old mid × TakesEach cs ns bs mid new)
 TakesEach [] ns (a ∷ bs) old new = ⊥
 TakesEach (c ∷ cs) [] bs old new = ⊥
 TakesEach (c ∷ cs) (n ∷ ns) [] old new = ⊥

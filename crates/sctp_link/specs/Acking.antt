@@ -24,13 +24,16 @@ pub record Acks (first : ℕ) (w : World) : Type 0 where
   pub taken : w.taken ≤ length w.slots
   pub short : (p : ℕ) → p < length w.slots → bytes_at w p < 2 ^ 31
   -- the bytes of a chunk in flight are those of its slot
-  pub shares : (p t : ℕ) (b : Bool) (c : ChunkPayloadData) → p < length w.slots → sending_of c ≡ sending_by w b p →
-      (if c.stream_identifier == t then length c.user_data else 0) ≡ (if stream_of_slot w p == t then (if b then 0 else bytes_at w p) else 0)
+  pub shares : (p t : ℕ) (b : Bool) (c : ChunkPayloadData) → p < length w.slots → sending_of c
+      ≡ sending_by w b p →
+      (if c.stream_identifier == t then length c.user_data else 0)
+          ≡ (if stream_of_slot w p == t then (if b then 0 else bytes_at w p) else 0)
 
 -- the slots once these are acknowledged
 pub record IsMarking (w : World) (acked : ℕ → Bool) (marked : List Slot) : Type 0 where
   pub count : length marked ≡ length w.slots
-  pub slots : (k : ℕ) (d : Slot) → k < length marked → slot_record (slice_index_or marked k d) ≡ record (slot_at w k) { acknowledged = acked k }
+  pub slots : (k : ℕ) (d : Slot) → k < length marked → slot_record (slice_index_or marked k d)
+      ≡ record (slot_at w k) { acknowledged = acked k }
 
 -- and one slot more
 abbrev pub and_one : (ℕ → Bool) → ℕ → ℕ → Bool
@@ -42,7 +45,8 @@ and_run acked from to k = acked k || (nat_le from k && nat_lt k to)
 
 -- a gap block, by its distances from the cumulative count, reports the slot
 abbrev pub in_block : ℕ → ℕ → GapAckBlock → Bool
-in_block cumulative k b = nat_le (cumulative + b.start) (k + 1) && nat_le (k + 1) (cumulative + b.end)
+in_block cumulative k b =
+    nat_le (cumulative + b.start) (k + 1) && nat_le (k + 1) (cumulative + b.end)
 
 -- and those that gap blocks report
 abbrev pub and_blocks : (ℕ → Bool) → ℕ → List GapAckBlock → ℕ → Bool

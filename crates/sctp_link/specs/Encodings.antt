@@ -9,7 +9,8 @@ use Rattle.sctp_packets.specs.Packet.{Parts, ReadsPacket, packet_encoding}
 use Rattle.sctp_model.specs.Contents.{Contents, DataContents, ForwardContents, SackContents}
 
 abbrev pub packet_with : List Wire → Parts
-packet_with chunks = record { source_port = 5000; destination_port = 5000; verification_tag = 1; chunks = chunks }
+packet_with chunks =
+    record { source_port = 5000; destination_port = 5000; verification_tag = 1; chunks = chunks }
 
 abbrev pub wire_data : ChunkPayloadData → Wire
 wire_data c = data_chunk (data_of c)
@@ -23,9 +24,13 @@ named_stream n = record { identifier = n.0; sequence = n.1 }
 -- what a datagram says, as chunks
 abbrev pub chunks_of : Contents → List Wire
 chunks_of (DataContents chunks) = map wire_data chunks
-chunks_of (ForwardContents cumulative names) = forward_tsn_chunk (record { new_cumulative_tsn = cumulative; streams = map named_stream names }) ∷ []
+chunks_of (ForwardContents cumulative names) =
+    forward_tsn_chunk (record { new_cumulative_tsn = cumulative; streams = map named_stream names })
+    ∷ []
 chunks_of (SackContents cumulative credit blocks duplicates) =
-    sack_chunk (record { cumulative_tsn_ack = cumulative; advertised_receiver_window_credit = credit; gap_ack_blocks = map block_of blocks; duplicate_tsn = duplicates }) ∷ []
+    sack_chunk (record { cumulative_tsn_ack = cumulative;
+        advertised_receiver_window_credit = credit; gap_ack_blocks = map block_of blocks;
+        duplicate_tsn = duplicates }) ∷ []
 
 abbrev pub packet_of : Contents → Parts
 packet_of c = packet_with (chunks_of c)

@@ -9,7 +9,8 @@ use Rattle.sctp_link.specs.Records.{message_record, progress_of, slot_record, da
 
 -- what a link was made with
 abbrev pub setup_of : ℕ → ℕ → ℕ → ℕ → Setup
-setup_of first size largest limit = record { first = first; size = size; largest = largest; limit = limit }
+setup_of first size largest limit =
+    record { first = first; size = size; largest = largest; limit = limit }
 
 abbrev pub world_in : {C : Type 0} → Inside C → World
 world_in a =

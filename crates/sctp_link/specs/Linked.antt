@@ -50,7 +50,8 @@ pub record State : Type 0 where
 
 -- the TSNs that came, in the words of the record
 abbrev pub filter_shown : Filter → FilterRecord
-filter_shown f = record { cumulative = f.cumulative_tsn; held = f.beyond; duplicates = f.duplicates }
+filter_shown f =
+    record { cumulative = f.cumulative_tsn; held = f.beyond; duplicates = f.duplicates }
 
 -- counters as a stream keeps them
 abbrev pub stats_of : Counters → DataChannelStats
@@ -66,7 +67,9 @@ stats_of c =
 
 -- the four sums as a link tells them
 abbrev pub ledger_of : M.Ledger → Ledger
-ledger_of l = record { written = l.written; pending = l.pending; in_flight = l.in_flight; released = l.released }
+ledger_of l =
+    record { written = l.written; pending = l.pending; in_flight = l.in_flight;
+    released = l.released }
 
 -- what a stream keeps, against the record
 pub record IsOpenStream (w : World) (l : OpenStream) : Type 0 where
@@ -93,11 +96,15 @@ pub record IsLinked (sum : List ℕ → ℕ) (x : State) : Type 0 where
   pub acked : x.acked_tsn ≡ cumulative_tsn x.world x.world.taken
   pub fragments : x.fragments ≡ fragments_accepted x.world
   pub written : x.written ≡ in_all x.world (written_bytes x.world)
-  pub sents : (n : ℕ) → n < length x.world.messages → (slice_index_or x.progress n (0, 0)).0 ≡ sent_of x.world n
+  pub sents : (n : ℕ) → n < length x.world.messages → (slice_index_or x.progress n (0, 0)).0
+      ≡ sent_of x.world n
   -- an ordered message has its index once some of it was sent
-  pub indexes : (n : ℕ) → 0 < sent_of x.world n → (message_at x.world n).ordered ≡ true → (slice_index_or x.progress n (0, 0)).1 ≡ index_of x.world n
+  pub indexes : (n : ℕ) → 0 < sent_of x.world n → (message_at x.world n).ordered ≡ true
+      → (slice_index_or x.progress n (0, 0)).1 ≡ index_of x.world n
   pub low : (n : ℕ) → (slice_index_or x.progress n (0, 0)).1 ≤ n
-  pub open_streams : (k : ℕ) (d : OpenStream) → k < length x.open_streams → IsOpenStream x.world (slice_index_or x.open_streams k d)
+  pub open_streams : (k : ℕ) (d : OpenStream) → k < length x.open_streams
+      → IsOpenStream x.world (slice_index_or x.open_streams k d)
   -- no two streams have one number
   pub apart : IsApart (stream_numbers x.open_streams)
-  pub encodings : (k : ℕ) (d : List ℕ) (g : W.Datagram) → slice_get x.world.network k ≡ Some g → IsDatagram sum (contents_of x.world g) (slice_index_or x.datagrams k d)
+  pub encodings : (k : ℕ) (d : List ℕ) (g : W.Datagram) → slice_get x.world.network k ≡ Some g
+      → IsDatagram sum (contents_of x.world g) (slice_index_or x.datagrams k d)

@@ -37,11 +37,15 @@ start_from first now ms = take first ms ++ map (with_start now) (drop first ms)
 -- the slots that abandoning a message takes: one for its terminal chunk, where it is partially sent
 abbrev pub marks : Bool → ℕ → ℕ → List Slot
 marks false number fragment = []
-marks true number fragment = record { message = number; fragment = fragment; is_terminal_chunk = true; arrived = false; acknowledged = false } ∷ []
+marks true number fragment =
+    record { message = number; fragment = fragment; is_terminal_chunk = true; arrived = false;
+    acknowledged = false } ∷ []
 
 -- the slot of a fragment
 abbrev pub fragment_slot : ℕ → ℕ → Slot
-fragment_slot number fragment = record { message = number; fragment = fragment; is_terminal_chunk = false; arrived = false; acknowledged = false }
+fragment_slot number fragment =
+    record { message = number; fragment = fragment; is_terminal_chunk = false; arrived = false;
+    acknowledged = false }
 
 -- the next fragment of a message is its first one, and it is ordered
 abbrev pub begins : Message → Bool
@@ -49,7 +53,8 @@ begins m = m.ordered && (m.sent == 0)
 
 -- a message with one fragment more sent: with the first it takes its index
 abbrev pub with_fragment : List OpenStream → Message → Message
-with_fragment ls m = record m { sent = m.sent + 1; index = if begins m then begun_of m.stream ls else m.index }
+with_fragment ls m =
+    record m { sent = m.sent + 1; index = if begins m then begun_of m.stream ls else m.index }
 
 -- the streams then
 abbrev pub begun_by : Message → List OpenStream → List OpenStream

@@ -32,7 +32,8 @@ pub record HoldsQueue (w : World) (l : OpenStream) : Type 0 where
 pub record IsReceiver (w : World) (x : Sides) : Type 0 where
   pub streams_are : w.streams ≡ map stream_record x.streams
   pub filter_is : filter_shown (held_filter (reception_of x)) ≡ filter_of w
-  pub queues : (k : ℕ) (d : OpenStream) → k < length x.streams → HoldsQueue w (slice_index_or x.streams k d)
+  pub queues : (k : ℕ) (d : OpenStream) → k < length x.streams
+      → HoldsQueue w (slice_index_or x.streams k d)
   pub apart : IsApart (stream_numbers x.streams)
 
 -- a chunk comes, that of the slot at a place: the record is valid, the stream is open, and no message becomes too long with it
@@ -41,7 +42,9 @@ pub record Comes (w : World) (p : ℕ) (c : ChunkPayloadData) : Type 0 where
   pub alive : (message_at w (message_of w p)).expired ≡ false
   pub known : (r : StreamRecord) × (stream_at w (message_at w (message_of w p)).stream ≡ Some r)
   pub chunk : c ≡ chunk_at w p
-  pub small : is_new w p ≡ true → (q : ReassemblyState) → q.held ≡ reassembly_of w (message_at w (message_of w p)).stream → q.max_message_size ≡ w.setup.largest → is_too_large c q ≡ false
+  pub small : is_new w p ≡ true → (q : ReassemblyState) → q.held
+      ≡ reassembly_of w (message_at w (message_of w p)).stream → q.max_message_size
+      ≡ w.setup.largest → is_too_large c q ≡ false
 
 -- so do these, one after another
 abbrev pub AllCome : World → List ℕ → List ChunkPayloadData → Type 0
@@ -52,7 +55,9 @@ AllCome w (p ∷ ps) [] = ⊥
 
 -- the number of the message of the slot at a place
 abbrev pub number_at : List Slot → ℕ → ℕ
-number_at ss p = (slice_index_or ss p (record { message = 0; fragment = 0; is_terminal_chunk = false; arrived = false; acknowledged = false })).message
+number_at ss p =
+    (slice_index_or ss p (record { message = 0; fragment = 0; is_terminal_chunk = false;
+    arrived = false; acknowledged = false })).message
 
 abbrev pub with_arrival : Slot → Slot
 with_arrival x = record x { arrived = true }
@@ -77,7 +82,9 @@ is_first Repeat = false
 
 -- the slot at this place lies in some datagram
 abbrev pub LiesSomewhere : World → ℕ → Type 0
-LiesSomewhere w p = (k : ℕ) × (ps : List ℕ) × (i : ℕ) × (slice_get w.network k ≡ Some (Data ps)) × (i < length ps) × (slice_index_or ps i 0 ≡ p)
+LiesSomewhere w p =
+    (k : ℕ) × (ps : List ℕ) × (i : ℕ) × (slice_get w.network k ≡ Some (Data ps)) × (i < length ps)
+    × (slice_index_or ps i 0 ≡ p)
 
 -- the slot is new and of an ordered message of stream s
 abbrev pub adds_on : World → ℕ → ℕ → Bool
@@ -85,11 +92,13 @@ adds_on w s p = is_new w p && is_ordered_on w s (message_of w p)
 
 -- the indexes that these slots add on stream s
 abbrev pub added_on : World → ℕ → List ℕ → List ℕ
-added_on w s ps = map (index_of w) (passing (is_ordered_on w s) (map (message_of w) (passing (is_new w) ps)))
+added_on w s ps =
+    map (index_of w) (passing (is_ordered_on w s) (map (message_of w) (passing (is_new w) ps)))
 
 -- the span test on the stream of the slot at a place, where it is new and of an ordered message
 abbrev pub slot_fits : World → List ℕ → ℕ → Bool
 slot_fits w ps p =
     if is_new w p && (message_at w (message_of w p)).ordered
-    then fits w (added_on w (message_at w (message_of w p)).stream ps) (message_at w (message_of w p)).stream
+    then fits w (added_on w (message_at w (message_of w p)).stream ps)
+        (message_at w (message_of w p)).stream
     else true

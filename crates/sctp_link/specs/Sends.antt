@@ -19,7 +19,8 @@ pub record Sender : Type 0 where
 
 abbrev pub sender_of : Sides → List Message → List Slot → Sender
 sender_of halves messages slots =
-    record { outbound = halves.flight.queue; messages = messages; streams = halves.streams; slots = slots; next_tsn = halves.flight.next_tsn }
+    record { outbound = halves.flight.queue; messages = messages; streams = halves.streams;
+        slots = slots; next_tsn = halves.flight.next_tsn }
 
 -- the next fragment can leave
 pub record CanSend (s : Sender) : Type 0 where
@@ -27,7 +28,8 @@ pub record CanSend (s : Sender) : Type 0 where
   pub shown : peeked s.outbound.pending ≡ Some chunk
   pub made : chunk.message_id < length s.messages
   pub fits : (m : Message) → m ≡ slice_index_or s.messages chunk.message_id m → m.sent + 1 < 2 ^ 64
-  pub few : (m : Message) → m ≡ slice_index_or s.messages chunk.message_id m → begun_of m.stream s.streams + 1 < 2 ^ 64
+  pub few : (m : Message) → m ≡ slice_index_or s.messages chunk.message_id m
+      → begun_of m.stream s.streams + 1 < 2 ^ 64
   pub room : length s.outbound.inflight.chunks + 1 < 2 ^ 31
 
 -- it leaves: its message takes it, it gets a slot and the next TSN
@@ -37,7 +39,8 @@ pub record Leaves (now : ℕ) (s t : Sender) : Type 0 where
   pub message : Message
   pub is : message ≡ slice_index_or s.messages chunk.message_id message
   pub outbound : t.outbound ≡ sent_next s.outbound s.next_tsn now
-  pub messages : t.messages ≡ slice_set s.messages chunk.message_id (with_fragment s.streams message)
+  pub messages : t.messages ≡ slice_set s.messages chunk.message_id
+      (with_fragment s.streams message)
   pub streams : t.streams ≡ begun_by message s.streams
   pub slots : t.slots ≡ s.slots ++ fragment_slot chunk.message_id message.sent ∷ []
   pub next_tsn : t.next_tsn ≡ following_tsn s.next_tsn

@@ -24,7 +24,8 @@ index_in ms n = (slice_index_or (map progress_of ms) n (0, 0)).1
 
 -- it is an ordered one of stream s that did not expire
 abbrev pub is_on : List Message → ℕ → ℕ → Bool
-is_on ms s n = ((message_in ms n).stream == s) && ((message_in ms n).ordered && not (message_in ms n).expired)
+is_on ms s n =
+    ((message_in ms n).stream == s) && ((message_in ms n).ordered && not (message_in ms n).expired)
 
 -- what more messages name on stream s: the least index, and one more than the greatest
 abbrev pub named_from : List Message → ℕ → Named → List ℕ → Named
@@ -41,7 +42,8 @@ none_named = record { low = 2 ^ 64 - 1; end = 0 }
 -- one message more
 abbrev pub with_name : List Message → ℕ → ℕ → Named → Named
 with_name ms s n named =
-    if is_on ms s n then record { low = min named.low (index_in ms n); end = max named.end (index_in ms n + 1) } else named
+    if is_on ms s n then record { low = min named.low (index_in ms n);
+        end = max named.end (index_in ms n + 1) } else named
 
 -- the pair that names message n
 abbrev pub pair_in : List Message → ℕ → ChunkForwardTsnStream
@@ -53,4 +55,6 @@ with_names ms names l = with_named (named_from ms l.state.stream_identifier none
 
 -- a skip as the chunk says it (RFC 3758 3.2)
 abbrev pub wire_skip : World → ℕ → List ℕ → ForwardTsn
-wire_skip w upto names = record { new_cumulative_tsn = tsn_of w upto; streams = map named_stream (map (name_of w) names) }
+wire_skip w upto names =
+    record { new_cumulative_tsn = tsn_of w upto;
+    streams = map named_stream (map (name_of w) names) }

@@ -16,7 +16,9 @@ written_bytes w n = length (message_at w n).bytes
 
 -- how many bytes its fragments without a slot have
 abbrev pub unsent_bytes : World → ℕ → ℕ
-unsent_bytes w n = total_over (λ i. length (fragment_at w n i)) (numbers_from (sent_of w n) (fragment_count w n - sent_of w n))
+unsent_bytes w n =
+    total_over (λ i. length (fragment_at w n i))
+    (numbers_from (sent_of w n) (fragment_count w n - sent_of w n))
 
 -- how many bytes the fragment in a slot of message n has
 abbrev pub slot_bytes : World → ℕ → ℕ → ℕ
@@ -24,11 +26,15 @@ slot_bytes w n place = length (fragment_at w n (slot_at w place).fragment)
 
 -- how many bytes of message n lie in slots that are not acknowledged
 abbrev pub unacknowledged_bytes : World → ℕ → ℕ
-unacknowledged_bytes w n = total_over (slot_bytes w n) (slots_where w (λ place. has_fragment w n place && not (slot_at w place).acknowledged))
+unacknowledged_bytes w n =
+    total_over (slot_bytes w n) (slots_where w
+    (λ place. has_fragment w n place && not (slot_at w place).acknowledged))
 
 -- how many bytes of message n lie in acknowledged slots
 abbrev pub acknowledged_bytes : World → ℕ → ℕ
-acknowledged_bytes w n = total_over (slot_bytes w n) (slots_where w (λ place. has_fragment w n place && (slot_at w place).acknowledged))
+acknowledged_bytes w n =
+    total_over (slot_bytes w n) (slots_where w
+    (λ place. has_fragment w n place && (slot_at w place).acknowledged))
 
 -- the bytes of message n that wait for a slot
 abbrev pub pending_bytes : World → ℕ → ℕ
@@ -40,7 +46,8 @@ in_flight_bytes w n = if is_expired_or_abandoned w n then 0 else unacknowledged_
 
 -- the bytes of message n that were released: all where it expired or was abandoned, else those acknowledged
 abbrev pub released_bytes : World → ℕ → ℕ
-released_bytes w n = if is_expired_or_abandoned w n then written_bytes w n else acknowledged_bytes w n
+released_bytes w n =
+    if is_expired_or_abandoned w n then written_bytes w n else acknowledged_bytes w n
 
 -- the sum over all messages
 abbrev pub in_all : World → (ℕ → ℕ) → ℕ
@@ -60,11 +67,14 @@ pub record Ledger : Type 0 where
 -- the four sums over all messages
 abbrev pub ledger : World → Ledger
 ledger w =
-    record { written = in_all w (written_bytes w); pending = in_all w (pending_bytes w); in_flight = in_all w (in_flight_bytes w); released = in_all w (released_bytes w) }
+    record { written = in_all w (written_bytes w); pending = in_all w (pending_bytes w);
+        in_flight = in_all w (in_flight_bytes w); released = in_all w (released_bytes w) }
 
 -- what a stream still has to send or to see acknowledged, where it is open
 abbrev pub buffered_amount : World → ℕ → Option ℕ
-buffered_amount w s = if is_open w s then Some (on_stream w s (pending_bytes w) + on_stream w s (in_flight_bytes w)) else None
+buffered_amount w s =
+    if is_open w s then Some (on_stream w s (pending_bytes w) + on_stream w s (in_flight_bytes w))
+    else None
 
 -- by how much the released bytes grow from one record to another
 abbrev pub growth : World → World → ℕ

@@ -24,7 +24,8 @@ data_fields w n i tsn =
 
 -- the DATA chunk of the slot at this place
 abbrev pub chunk_at : World → ℕ → ChunkPayloadData
-chunk_at w place = fresh (data_fields w (message_of w place) (slot_at w place).fragment (tsn_of w place))
+chunk_at w place =
+    fresh (data_fields w (message_of w place) (slot_at w place).fragment (tsn_of w place))
 
 -- the TSN of the last of so many slots; of none, the one before the first TSN
 abbrev pub cumulative_tsn : World → ℕ → ℕ
@@ -38,13 +39,15 @@ name_of w n = ((message_at w n).stream, ssn_of w n)
 pub data Contents : Type 0 where
   DataContents : (chunks : List ChunkPayloadData) → Contents
   ForwardContents : (cumulative : ℕ) (names : List (ℕ × ℕ)) → Contents
-  SackContents : (cumulative : ℕ) (credit : ℕ) (blocks : List (ℕ × ℕ)) (duplicates : List ℕ) → Contents
+  SackContents : (cumulative : ℕ) (credit : ℕ) (blocks : List (ℕ × ℕ)) (duplicates : List ℕ)
+      → Contents
 
 -- what a datagram says
 abbrev pub contents_of : World → Datagram → Contents
 contents_of w (W.Data slots) = DataContents (map (chunk_at w) slots)
 contents_of w (Forward upto messages) = ForwardContents (tsn_of w upto) (map (name_of w) messages)
-contents_of w (Sack r) = SackContents (cumulative_tsn w r.cumulative) r.credit r.blocks (map (tsn_of w) r.duplicates)
+contents_of w (Sack r) =
+    SackContents (cumulative_tsn w r.cumulative) r.credit r.blocks (map (tsn_of w) r.duplicates)
 
 -- what a datagram says, where there is one
 abbrev pub contents_in : World → Option Datagram → Option Contents

@@ -29,7 +29,9 @@ pub record IsSetup (setup : Setup) : Type 0 where
 
 -- P of every history that a link can have, with its record and what came in it
 abbrev pub OnEveryRun : (Setup → History → World → List Log.LogEntry → Type 0) → Type 0
-OnEveryRun P = (setup : Setup) (h : History) → IsSetup setup → IsRun setup h → P setup h (world_of setup h) (Log.log_of setup h)
+OnEveryRun P =
+    (setup : Setup) (h : History) → IsSetup setup → IsRun setup h
+    → P setup h (world_of setup h) (Log.log_of setup h)
 
 -- xs is a beginning of ys
 abbrev pub IsPrefixOf : {A : Type 0} → List A → List A → Type 0
@@ -48,13 +50,16 @@ pending_count w = length ((pending_of w).ordered ++ (pending_of w).unordered)
 
 -- Send answers Idle exactly where no fragment is pending
 abbrev pub EmitsWherePending : Setup → History → World → List Log.LogEntry → Type 0
-EmitsWherePending setup h w log = (now : ℕ) → (reply_to w (E.Send now) ≡ R.Idle) ↔ (pending_count w ≡ 0)
+EmitsWherePending setup h w log =
+    (now : ℕ) → (reply_to w (E.Send now) ≡ R.Idle) ↔ (pending_count w ≡ 0)
 
 -- else it takes at least one pending fragment, and its datagram carries just those that it takes
 abbrev pub TakesPending : Setup → History → World → List Log.LogEntry → Type 0
 TakesPending setup h w log =
     (now d tsn ssn count : ℕ) → reply_to w (E.Send now) ≡ R.Sent d tsn ssn count →
-    (0 < count) × ((pending_count (after w (E.Send now)) + count ≡ pending_count w) × (slice_get (after w (E.Send now)).network d ≡ Some (Data (numbers_from (length w.slots) count))))
+    (0 < count) × ((pending_count (after w (E.Send now)) + count ≡ pending_count w)
+        × (slice_get (after w (E.Send now)).network d
+        ≡ Some (Data (numbers_from (length w.slots) count))))
 
 -- a step answers Idle to a Send exactly where no fragment is pending, be memory refused or not
 abbrev pub IdleIsAnswered : Setup → History → World → List Log.LogEntry → Type 0
@@ -109,53 +114,69 @@ DatagramsKeepLimit = OnEveryRun WithinLimit × OnEveryRun FilledToLimit
 
 -- the terminal chunks of message n
 abbrev pub terminal_chunks_of : World → ℕ → List ℕ
-terminal_chunks_of w n = Messages.slots_where w (λ place. Messages.belongs_to w n place && (Messages.slot_at w place).is_terminal_chunk)
+terminal_chunks_of w n =
+    Messages.slots_where w (λ place. Messages.belongs_to w n place
+    && (Messages.slot_at w place).is_terminal_chunk)
 
 -- the slots of a message have its fragments from the first on, each once; an abandoned one that was not wholly sent has one terminal chunk, and no other has one
 abbrev pub SlotsInOrder : Setup → History → World → List Log.LogEntry → Type 0
 SlotsInOrder setup h w log =
     (n : ℕ) → n < length w.messages →
-    (map (λ place. (Messages.slot_at w place).fragment) (Messages.slots_of w n) ≡ numbers_from 0 (Messages.sent_of w n))
-    × ((Messages.sent_of w n ≤ Messages.fragment_count w n) × (length (terminal_chunks_of w n) ≡ (if (Messages.message_at w n).abandoned && nat_lt (Messages.sent_of w n) (Messages.fragment_count w n) then 1 else 0)))
+    (map (λ place. (Messages.slot_at w place).fragment) (Messages.slots_of w n)
+        ≡ numbers_from 0 (Messages.sent_of w n))
+    × ((Messages.sent_of w n ≤ Messages.fragment_count w n)
+        × (length (terminal_chunks_of w n)
+        ≡ (if (Messages.message_at w n).abandoned
+        && nat_lt (Messages.sent_of w n) (Messages.fragment_count w n) then 1 else 0)))
 
 -- its slots follow one another
 abbrev pub SlotsFollow : Setup → History → World → List Log.LogEntry → Type 0
 SlotsFollow setup h w log =
-    (n place : ℕ) → first_of (Messages.slots_of w n) ≡ Some place → Messages.slots_of w n ≡ numbers_from place (Messages.sent_of w n)
+    (n place : ℕ) → first_of (Messages.slots_of w n) ≡ Some place → Messages.slots_of w n
+        ≡ numbers_from place (Messages.sent_of w n)
 
 -- at most one message is partially sent
 abbrev pub OnePartiallySent : Setup → History → World → List Log.LogEntry → Type 0
-OnePartiallySent setup h w log = length (Messages.messages_where w (Messages.is_partially_sent w)) ≤ 1
+OnePartiallySent setup h w log =
+    length (Messages.messages_where w (Messages.is_partially_sent w)) ≤ 1
 
 -- the ordered messages of a stream are sent in the order of their indexes
 abbrev pub SentInTurn : Setup → History → World → List Log.LogEntry → Type 0
 SentInTurn setup h w log =
-    (s m n : ℕ) → m < n → Messages.is_ordered_on w s m ≡ true → Messages.is_ordered_on w s n ≡ true → 0 < Messages.sent_of w n → 0 < Messages.sent_of w m
+    (s m n : ℕ) → m < n → Messages.is_ordered_on w s m ≡ true → Messages.is_ordered_on w s n ≡ true
+        → 0 < Messages.sent_of w n → 0 < Messages.sent_of w m
 
 -- the ordered messages of its stream before message n that were sent
 abbrev pub sent_before : World → ℕ → List ℕ
 sent_before w n =
-    kept (λ m. ((Messages.message_at w m).stream == (Messages.message_at w n).stream) && ((Messages.message_at w m).ordered && nat_lt 0 (Messages.sent_of w m))) 0 n
+    kept (λ m. ((Messages.message_at w m).stream == (Messages.message_at w n).stream)
+        && ((Messages.message_at w m).ordered && nat_lt 0 (Messages.sent_of w m))) 0 n
 
 -- the index of an ordered message that was sent is the count of those sent before it: what expired leaves no gap
 abbrev pub IndexesLeaveNoGap : Setup → History → World → List Log.LogEntry → Type 0
 IndexesLeaveNoGap setup h w log =
-    (n : ℕ) → (Messages.message_at w n).ordered ≡ true → 0 < Messages.sent_of w n → Messages.index_of w n ≡ length (sent_before w n)
+    (n : ℕ) → (Messages.message_at w n).ordered ≡ true → 0 < Messages.sent_of w n
+        → Messages.index_of w n ≡ length (sent_before w n)
 
 -- no terminal chunk is in a datagram
 abbrev pub NoTerminalChunkIsSent : Setup → History → World → List Log.LogEntry → Type 0
 NoTerminalChunkIsSent setup h w log =
-    (k : ℕ) (slots : List ℕ) → slice_get w.network k ≡ Some (Data slots) → list_any (λ place. (Messages.slot_at w place).is_terminal_chunk) slots ≡ false
+    (k : ℕ) (slots : List ℕ) → slice_get w.network k ≡ Some (Data slots)
+        → list_any (λ place. (Messages.slot_at w place).is_terminal_chunk) slots ≡ false
 
 -- what a datagram says never changes
 abbrev pub DatagramsStay : Setup → History → World → List Log.LogEntry → Type 0
 DatagramsStay setup h w log =
-    (event : Event) (k : ℕ) → refusal_of w event ≡ None → k < length w.network → datagram (after w event) k ≡ datagram w k
+    (event : Event) (k : ℕ) → refusal_of w event ≡ None → k < length w.network
+        → datagram (after w event) k ≡ datagram w k
 
 -- what holds of the slots and the datagrams
 abbrev pub SlotsAreValid : Type 0
 SlotsAreValid =
-    OnEveryRun SlotsInOrder × (OnEveryRun SlotsFollow × (OnEveryRun OnePartiallySent × (OnEveryRun SentInTurn × (OnEveryRun IndexesLeaveNoGap × (OnEveryRun NoTerminalChunkIsSent × OnEveryRun DatagramsStay)))))
+    OnEveryRun SlotsInOrder × (OnEveryRun SlotsFollow
+        × (OnEveryRun OnePartiallySent ×
+        (OnEveryRun SentInTurn × (OnEveryRun IndexesLeaveNoGap
+        × (OnEveryRun NoTerminalChunkIsSent × OnEveryRun DatagramsStay)))))
 
 -- a datagram of the record as events and replies tell of it
 abbrev pub kind_of : Datagram → Log.Made
@@ -181,12 +202,15 @@ CumulativeIsSeen setup h w log = Receiver.cumulative w ≡ Log.seen_count log (l
 -- a DATA datagram is New exactly where one of its slots was not seen; a skip is Skipped exactly where it counts
 abbrev pub ArrivalsAnswered : Setup → History → World → List Log.LogEntry → Type 0
 ArrivalsAnswered setup h w log =
-    ((k : ℕ) (slots : List ℕ) → slice_get w.network k ≡ Some (Data slots) → reply_to w (E.Arrive k) ≡ (if list_any (λ place. not (Log.is_seen log place)) slots then R.New else R.Repeat))
-    × ((k upto : ℕ) (messages : List ℕ) → slice_get w.network k ≡ Some (Forward upto messages) → reply_to w (E.Arrive k) ≡ (if Log.counts log upto then R.Skipped else R.Stale))
+    ((k : ℕ) (slots : List ℕ) → slice_get w.network k ≡ Some (Data slots) → reply_to w (E.Arrive k)
+        ≡ (if list_any (λ place. not (Log.is_seen log place)) slots then R.New else R.Repeat))
+    × ((k upto : ℕ) (messages : List ℕ) → slice_get w.network k ≡ Some (Forward upto messages)
+        → reply_to w (E.Arrive k) ≡ (if Log.counts log upto then R.Skipped else R.Stale))
 
 -- a message is whole in the record exactly where the order of arrivals makes it whole
 abbrev pub WholeIsWhole : Setup → History → World → List Log.LogEntry → Type 0
-WholeIsWhole setup h w log = (n : ℕ) → n < length w.messages → Receiver.is_whole w n ≡ Log.is_whole_by w log n
+WholeIsWhole setup h w log =
+    (n : ℕ) → n < length w.messages → Receiver.is_whole w n ≡ Log.is_whole_by w log n
 
 -- the index named last is the greatest that a skip that counted named
 abbrev pub NamedIsNamed : Setup → History → World → List Log.LogEntry → Type 0
@@ -199,7 +223,10 @@ SpansFit setup h w log = Receiver.spans_fit w [] ≡ true
 -- what holds of arrivals
 abbrev pub ArrivalsAgree : Type 0
 ArrivalsAgree =
-    OnEveryRun NetworkIsMade × (OnEveryRun ArrivedIsNew × (OnEveryRun CumulativeIsSeen × (OnEveryRun ArrivalsAnswered × (OnEveryRun WholeIsWhole × (OnEveryRun NamedIsNamed × OnEveryRun SpansFit)))))
+    OnEveryRun NetworkIsMade × (OnEveryRun ArrivedIsNew
+        × (OnEveryRun CumulativeIsSeen ×
+        (OnEveryRun ArrivalsAnswered × (OnEveryRun WholeIsWhole
+        × (OnEveryRun NamedIsNamed × OnEveryRun SpansFit)))))
 
 -- ## Reads
 
@@ -221,11 +248,14 @@ unordered_reads setup h s = passing (is_unordered (world_of setup h)) (Log.numbe
 
 -- message n as it was written
 abbrev pub shown_of : World → ℕ → Log.Shown
-shown_of w n = ((Messages.message_at w n).stream, (Messages.message_at w n).ppi, (Messages.message_at w n).bytes)
+shown_of w n =
+    ((Messages.message_at w n).stream, (Messages.message_at w n).ppi,
+    (Messages.message_at w n).bytes)
 
 -- the messages are the accepted writes of at least one byte
 abbrev pub MessagesAreWrites : Setup → History → World → List Log.LogEntry → Type 0
-MessagesAreWrites setup h w log = map (shown_of w) (numbers_from 0 (length w.messages)) ≡ Log.writes_in h
+MessagesAreWrites setup h w log =
+    map (shown_of w) (numbers_from 0 (length w.messages)) ≡ Log.writes_in h
 
 -- the mode of a message
 abbrev pub mode_of : Message → Log.Mode
@@ -238,7 +268,9 @@ ModesAreKept setup h w log = map mode_of w.messages ≡ Log.modes_in h
 -- each read hands out a message of the stream with its payload type and the bytes that were written
 abbrev pub ReadsShowMessages : Setup → History → World → List Log.LogEntry → Type 0
 ReadsShowMessages setup h w log =
-    (s : ℕ) → (Log.reads_in h s ≡ map (shown_of w) (Log.numbers_read setup h s)) × (list_all (λ n. nat_lt n (length w.messages) && ((Messages.message_at w n).stream == s)) (Log.numbers_read setup h s) ≡ true)
+    (s : ℕ) → (Log.reads_in h s ≡ map (shown_of w) (Log.numbers_read setup h s))
+        × (list_all (λ n. nat_lt n (length w.messages) && ((Messages.message_at w n).stream == s))
+        (Log.numbers_read setup h s) ≡ true)
 
 -- the ordered reads of a stream are a beginning of its run
 abbrev pub ReadsBeginRun : Setup → History → World → List Log.LogEntry → Type 0
@@ -256,15 +288,20 @@ loses_nothing event = true
 -- without expiry, abandonment and skips the run is the longest run of complete messages from the first on
 abbrev pub ReadsBeginWholeRun : Setup → History → World → List Log.LogEntry → Type 0
 ReadsBeginWholeRun setup h w log =
-    (s : ℕ) → list_all (λ entry. loses_nothing entry.0) h ≡ true → IsPrefixOf (ordered_reads setup h s) (leading (Log.is_whole_by w log) (Messages.ordered_on w s))
+    (s : ℕ) → list_all (λ entry. loses_nothing entry.0) h ≡ true
+        → IsPrefixOf (ordered_reads setup h s)
+        (leading (Log.is_whole_by w log) (Messages.ordered_on w s))
 
 -- the ordered messages are read in order, each as it was written
 abbrev pub OrderedReads : Type 0
-OrderedReads = OnEveryRun MessagesAreWrites × (OnEveryRun ModesAreKept × (OnEveryRun ReadsShowMessages × (OnEveryRun ReadsBeginRun × OnEveryRun ReadsBeginWholeRun)))
+OrderedReads =
+    OnEveryRun MessagesAreWrites × (OnEveryRun ModesAreKept
+    × (OnEveryRun ReadsShowMessages × (OnEveryRun ReadsBeginRun × OnEveryRun ReadsBeginWholeRun)))
 
 -- the unordered reads are distinct complete messages, in the order in which they became whole
 abbrev pub ReadsBeginWhole : Setup → History → World → List Log.LogEntry → Type 0
-ReadsBeginWhole setup h w log = (s : ℕ) → IsPrefixOf (unordered_reads setup h s) (Log.whole_by w log s)
+ReadsBeginWhole setup h w log =
+    (s : ℕ) → IsPrefixOf (unordered_reads setup h s) (Log.whole_by w log s)
 
 -- none is read twice
 abbrev pub ReadsDiffer : Setup → History → World → List Log.LogEntry → Type 0
@@ -273,7 +310,8 @@ ReadsDiffer setup h w log = (s : ℕ) → AllDifferent (Log.numbers_read setup h
 -- while a complete unordered message is unread, it is read before any ordered one
 abbrev pub UnorderedFirst : Setup → History → World → List Log.LogEntry → Type 0
 UnorderedFirst setup h w log =
-    (s n : ℕ) → slice_get (Log.whole_by w log s) (length (unordered_reads setup h s)) ≡ Some n → Receiver.next_read w s ≡ Some n
+    (s n : ℕ) → slice_get (Log.whole_by w log s) (length (unordered_reads setup h s)) ≡ Some n
+        → Receiver.next_read w s ≡ Some n
 
 -- the unordered messages are read each once, in the order in which they became whole
 abbrev pub UnorderedReads : Type 0
@@ -282,7 +320,9 @@ UnorderedReads = OnEveryRun ReadsBeginWhole × (OnEveryRun ReadsDiffer × OnEver
 -- Nothing exactly where the run is exhausted and each complete unordered message was read
 abbrev pub NothingWhereRead : Setup → History → World → List Log.LogEntry → Type 0
 NothingWhereRead setup h w log =
-    (s : ℕ) → (reply_to w (E.Read s) ≡ R.Nothing) ↔ ((ordered_reads setup h s ≡ Log.run_by w log s) × (unordered_reads setup h s ≡ Log.whole_by w log s))
+    (s : ℕ) → (reply_to w (E.Read s) ≡ R.Nothing) ↔
+        ((ordered_reads setup h s ≡ Log.run_by w log s)
+        × (unordered_reads setup h s ≡ Log.whole_by w log s))
 
 -- Nothing exactly where all is read
 abbrev pub NothingWhenExhausted : Type 0
@@ -299,36 +339,47 @@ AcknowledgedArrived setup h w log =
 -- the record has just what the SACKs taken report
 abbrev pub AcknowledgedIsReported : Setup → History → World → List Log.LogEntry → Type 0
 AcknowledgedIsReported setup h w log =
-    ((place : ℕ) → place < length w.slots → (Messages.slot_at w place).acknowledged ≡ Log.is_acknowledged_in setup h place)
+    ((place : ℕ) → place < length w.slots → (Messages.slot_at w place).acknowledged
+        ≡ Log.is_acknowledged_in setup h place)
     × (w.taken ≡ Log.taken_in setup h)
 
 -- the gap blocks that the order of arrivals gives
 abbrev pub blocks_by : World → List Log.LogEntry → List (ℕ × ℕ)
 blocks_by w log =
-    take 16379 (runs_of (kept (λ d. Log.arrived_new log (Log.seen_count log (length w.slots) + d - 1)) 1 (min 65535 (length w.slots - Log.seen_count log (length w.slots)))))
+    take 16379 (runs_of (kept (λ d. Log.arrived_new log
+        (Log.seen_count log (length w.slots) + d - 1)) 1
+        (min 65535 (length w.slots - Log.seen_count log (length w.slots)))))
 
 -- a SACK says the cumulative TSN, the credit of its event, the gap blocks, and the duplicates that fit
 abbrev pub SacksSay : Setup → History → World → List Log.LogEntry → Type 0
 SacksSay setup h w log =
     (credit : ℕ) → datagram (after w (E.Ack credit)) (length w.network) ≡
-    Some (SackContents (cumulative_tsn w (Log.seen_count log (length w.slots))) credit (blocks_by w log) (map (Messages.tsn_of w) (take (16379 - length (blocks_by w log)) (Log.duplicates_in log))))
+    Some (SackContents (cumulative_tsn w (Log.seen_count log (length w.slots))) credit
+        (blocks_by w log) (map (Messages.tsn_of w)
+        (take (16379 - length (blocks_by w log)) (Log.duplicates_in log))))
 
 -- only what arrived or was skipped is acknowledged, and just what the SACKs taken report
 abbrev pub OnlyArrivedIsAcknowledged : Type 0
-OnlyArrivedIsAcknowledged = OnEveryRun AcknowledgedArrived × (OnEveryRun AcknowledgedIsReported × OnEveryRun SacksSay)
+OnlyArrivedIsAcknowledged =
+    OnEveryRun AcknowledgedArrived × (OnEveryRun AcknowledgedIsReported × OnEveryRun SacksSay)
 
 -- ## Bytes
 
 -- each written byte is pending, in flight or released: in all, and on each stream
 abbrev pub Balances : Setup → History → World → List Log.LogEntry → Type 0
 Balances setup h w log =
-    ((Amounts.ledger w).written ≡ (Amounts.ledger w).pending + (Amounts.ledger w).in_flight + (Amounts.ledger w).released)
-    × ((s : ℕ) → Amounts.on_stream w s (Amounts.written_bytes w) ≡ Amounts.on_stream w s (Amounts.pending_bytes w) + Amounts.on_stream w s (Amounts.in_flight_bytes w) + Amounts.on_stream w s (Amounts.released_bytes w))
+    ((Amounts.ledger w).written ≡ (Amounts.ledger w).pending + (Amounts.ledger w).in_flight
+        + (Amounts.ledger w).released)
+    × ((s : ℕ) → Amounts.on_stream w s (Amounts.written_bytes w)
+        ≡ Amounts.on_stream w s (Amounts.pending_bytes w)
+        + Amounts.on_stream w s (Amounts.in_flight_bytes w)
+        + Amounts.on_stream w s (Amounts.released_bytes w))
 
 -- written is the sum over the writes, released the sum over the replies that tell of a release
 abbrev pub SumsAgree : Setup → History → World → List Log.LogEntry → Type 0
 SumsAgree setup h w log =
-    ((Amounts.ledger w).written ≡ Log.total_shown Log.length_shown (Log.writes_in h)) × ((Amounts.ledger w).released ≡ Log.released_in h)
+    ((Amounts.ledger w).written ≡ Log.total_shown Log.length_shown (Log.writes_in h))
+        × ((Amounts.ledger w).released ≡ Log.released_in h)
 
 -- each written byte is pending, in flight or released
 abbrev pub BytesBalance : Type 0
@@ -338,7 +389,8 @@ BytesBalance = OnEveryRun Balances × OnEveryRun SumsAgree
 
 -- a lifetime starts at the first Start or Send after the write
 abbrev pub StartsOnce : Setup → History → World → List Log.LogEntry → Type 0
-StartsOnce setup h w log = (n : ℕ) → n < length w.messages → (Messages.message_at w n).started ≡ Log.started_in h n
+StartsOnce setup h w log =
+    (n : ℕ) → n < length w.messages → (Messages.message_at w n).started ≡ Log.started_in h n
 
 -- a lifetime is over in the record exactly where the write, its mode, its start and now say so
 abbrev pub DeadlinesByEvents : Setup → History → World → List Log.LogEntry → Type 0
@@ -440,7 +492,9 @@ LateListsPastDeadline setup h w log =
 abbrev pub LateAbandonsListed : Setup → History → World → List Log.LogEntry → Type 0
 LateAbandonsListed setup h w log =
     (now n : ℕ) → n < length w.messages →
-    (Messages.message_at (after w (E.Late now)) n).abandoned ≡ ((Messages.message_at w n).abandoned || list_any (λ place. Messages.message_of w place == n) (late_slots w now))
+    (Messages.message_at (after w (E.Late now)) n).abandoned
+        ≡ ((Messages.message_at w n).abandoned
+        || list_any (λ place. Messages.message_of w place == n) (late_slots w now))
 
 -- lifetimes start once, messages pass their deadlines by the events, and Expire, Tail and Late go by that
 abbrev pub LifetimesEnd : Type 0
@@ -458,8 +512,10 @@ CountersAreSums setup h w log =
     (s : ℕ) → Messages.is_open w s ≡ true → Amounts.counters_of w s ≡ Some (record {
       stream_identifier = s;
       generation = 0;
-      messages_sent = Amounts.saturated (Log.total_shown Log.counted_shown (Log.shown_on s (Log.writes_in h)));
-      bytes_sent = Amounts.saturated (Log.total_shown Log.counted_length (Log.shown_on s (Log.writes_in h)));
+      messages_sent =
+          Amounts.saturated (Log.total_shown Log.counted_shown (Log.shown_on s (Log.writes_in h)));
+      bytes_sent =
+          Amounts.saturated (Log.total_shown Log.counted_length (Log.shown_on s (Log.writes_in h)));
       messages_received = Amounts.saturated (Log.total_shown Log.counted_shown (Log.reads_in h s));
       bytes_received = Amounts.saturated (Log.total_shown Log.counted_length (Log.reads_in h s));
     })
@@ -481,7 +537,9 @@ SameWrites g h s = Log.writes_on g s ≡ Log.writes_on h s
 -- fragment i of message n arrived: its slot came, and neither it nor a skip over it had come before
 abbrev pub fragment_arrived : World → List Log.LogEntry → ℕ → ℕ → Bool
 fragment_arrived w log n i =
-    list_any (λ place. Messages.has_fragment w n place && (((Messages.slot_at w place).fragment == i) && Log.arrived_new log place)) (numbers_from 0 (length w.slots))
+    list_any (λ place. Messages.has_fragment w n place
+        && (((Messages.slot_at w place).fragment == i) && Log.arrived_new log place))
+        (numbers_from 0 (length w.slots))
 
 -- message n arrived wholly: each of its fragments did
 abbrev pub arrived_wholly : World → List Log.LogEntry → ℕ → Bool
@@ -572,7 +630,8 @@ Composition = ReadsAreSettled × (OnEveryRun ReadsByArrivals × OnEveryRun NoneI
 -- the headline: for every first TSN, fragment size, limit and list of events
 abbrev pub Headline : Type 0
 Headline =
-    EachSendEmits × (OrderedReads × (UnorderedReads × (NothingWhenExhausted × (OnlyArrivedIsAcknowledged × BytesBalance))))
+    EachSendEmits × (OrderedReads × (UnorderedReads
+        × (NothingWhenExhausted × (OnlyArrivedIsAcknowledged × BytesBalance))))
 
 -- the record is valid in every history, and while datagrams come
 abbrev pub RecordsAreValid : Type 0
@@ -582,12 +641,15 @@ RecordsAreValid =
 -- beside the headline: slots, limits of datagrams, arrivals, lifetimes, counters, reads without loss, valid records
 abbrev pub Beside : Type 0
 Beside =
-    SlotsAreValid × (DatagramsKeepLimit × (ArrivalsAgree × (LifetimesEnd × (CountersCount × (Composition × RecordsAreValid)))))
+    SlotsAreValid × (DatagramsKeepLimit ×
+        (ArrivalsAgree × (LifetimesEnd × (CountersCount × (Composition × RecordsAreValid)))))
 
 -- where nothing expires, is abandoned or skipped: the ordered reads begin the longest whole run and what arrived settles the reads, with all that holds of every history
 abbrev pub ReliableDelivery : Type 0
 ReliableDelivery =
-    OnEveryRun ReadsBeginWholeRun × (Composition × (UnorderedReads × (NothingWhenExhausted × (OnlyArrivedIsAcknowledged × (BytesBalance × (ArrivalsAgree × CountersCount))))))
+    OnEveryRun ReadsBeginWholeRun × (Composition
+        × (UnorderedReads × (NothingWhenExhausted
+        × (OnlyArrivedIsAcknowledged × (BytesBalance × (ArrivalsAgree × CountersCount))))))
 
 -- all laws of this crate
 abbrev pub PartialDelivery : Type 0

@@ -33,7 +33,8 @@ pub data Made : Type 0 where
 
 -- the datagram that an accepted event made
 abbrev pub made_by : Setup → Event → Reply → List Made
-made_by setup (E.Send now) (R.Sent d tsn ssn count) = MadeData (numbers_from (place_in setup tsn) count) ∷ []
+made_by setup (E.Send now) (R.Sent d tsn ssn count) =
+    MadeData (numbers_from (place_in setup tsn) count) ∷ []
 made_by setup (E.Resend tsn) reply = MadeData (place_in setup tsn ∷ []) ∷ []
 made_by setup (E.Skip upto messages) reply = MadeForward (place_in setup upto) messages.items ∷ []
 made_by setup (E.Ack credit) reply = MadeSack ∷ []
@@ -64,7 +65,8 @@ datagram_comes _ log = log
 -- what came in a history
 abbrev pub log_of : Setup → History → List LogEntry
 log_of setup [] = []
-log_of setup ((E.Arrive k, r) ∷ older) = datagram_comes (slice_get (made_in setup older) k) (log_of setup older)
+log_of setup ((E.Arrive k, r) ∷ older) =
+    datagram_comes (slice_get (made_in setup older) k) (log_of setup older)
 log_of setup ((E.Ack credit, r) ∷ older) = SackMade ∷ log_of setup older
 log_of setup (entry ∷ older) = log_of setup older
 
@@ -78,7 +80,8 @@ is_seen (SackMade ∷ log) place = is_seen log place
 -- the slot arrived new: it came, and neither it nor a skip over it came before
 abbrev pub arrived_new : List LogEntry → ℕ → Bool
 arrived_new [] place = false
-arrived_new (SlotReceived p ∷ log) place = arrived_new log place || ((p == place) && not (is_seen log place))
+arrived_new (SlotReceived p ∷ log) place =
+    arrived_new log place || ((p == place) && not (is_seen log place))
 arrived_new (coming ∷ log) place = arrived_new log place
 
 -- a skip up to this slot counts: a slot up to it was not seen yet
@@ -88,7 +91,8 @@ counts log upto = list_any (λ place. not (is_seen log place)) (numbers_from 0 (
 -- a skip that counted covered the slot
 abbrev pub is_skipped : List LogEntry → ℕ → Bool
 is_skipped [] place = false
-is_skipped (SkipReceived upto messages ∷ log) place = is_skipped log place || (counts log upto && nat_le place upto)
+is_skipped (SkipReceived upto messages ∷ log) place =
+    is_skipped log place || (counts log upto && nat_le place upto)
 is_skipped (coming ∷ log) place = is_skipped log place
 
 -- the cumulative count: how many of so many slots, from the first on, were seen
@@ -108,30 +112,39 @@ duplicates_in (SackMade ∷ log) = []
 abbrev pub were_whole : List ℕ → List LogEntry → Bool
 were_whole places [] = false
 were_whole places (coming ∷ log) =
-    were_whole places log || list_all (λ p. arrived_new (coming ∷ log) p && not (is_skipped (coming ∷ log) p)) places
+    were_whole places log || list_all (λ p. arrived_new (coming ∷ log) p
+        && not (is_skipped (coming ∷ log) p)) places
 
 -- message n is whole: all of it was sent, and each of its slots arrived new; those of an unordered one before a skip covered one
 abbrev pub is_whole_by : World → List LogEntry → ℕ → Bool
 is_whole_by w log n =
-    (Messages.sent_of w n == Messages.fragment_count w n) && (if (Messages.message_at w n).ordered then list_all (arrived_new log) (Messages.slots_of w n) else were_whole (Messages.slots_of w n) log)
+    (Messages.sent_of w n == Messages.fragment_count w n)
+        && (if (Messages.message_at w n).ordered
+        then list_all (arrived_new log) (Messages.slots_of w n)
+        else were_whole (Messages.slots_of w n) log)
 
 -- one more than the greatest index on stream s that a skip that counted named, or 0
 abbrev pub named_by : World → ℕ → List LogEntry → ℕ
 named_by w s [] = 0
 named_by w s (SkipReceived upto messages ∷ log) =
-    if counts log upto then greatest (named_by w s log) (map (λ n. Messages.index_of w n + 1) (passing (Messages.is_ordered_on w s) messages)) else named_by w s log
+    if counts log upto then greatest (named_by w s log)
+        (map (λ n. Messages.index_of w n + 1) (passing (Messages.is_ordered_on w s) messages))
+        else named_by w s log
 named_by w s (coming ∷ log) = named_by w s log
 
 -- the complete ordered messages of a stream up to the last one named, then the unbroken whole run
 abbrev pub run_by : World → List LogEntry → ℕ → List ℕ
 run_by w log s =
-    passing (is_whole_by w log) (take (named_by w s log) (Messages.ordered_on w s)) ++ leading (is_whole_by w log) (drop (named_by w s log) (Messages.ordered_on w s))
+    passing (is_whole_by w log) (take (named_by w s log) (Messages.ordered_on w s))
+        ++ leading (is_whole_by w log) (drop (named_by w s log) (Messages.ordered_on w s))
 
 -- the unordered messages of stream s, in the order in which they became whole
 abbrev pub whole_by : World → List LogEntry → ℕ → List ℕ
 whole_by w [] s = []
 whole_by w (coming ∷ log) s =
-    whole_by w log s ++ Messages.messages_where w (λ n. Messages.is_unordered_on w s n && (is_whole_by w (coming ∷ log) n && not (is_whole_by w log n)))
+    whole_by w log s ++ Messages.messages_where w
+        (λ n. Messages.is_unordered_on w s n
+        && (is_whole_by w (coming ∷ log) n && not (is_whole_by w log n)))
 
 -- ## Acknowledgement
 
@@ -144,7 +157,8 @@ reported_by _ place = false
 abbrev pub is_acknowledged_in : Setup → History → ℕ → Bool
 is_acknowledged_in setup [] place = false
 is_acknowledged_in setup ((E.Acked k, r) ∷ older) place =
-    is_acknowledged_in setup older place || reported_by (slice_get (world_of setup older).network k) place
+    is_acknowledged_in setup older place
+        || reported_by (slice_get (world_of setup older).network k) place
 is_acknowledged_in setup (entry ∷ older) place = is_acknowledged_in setup older place
 
 -- the cumulative count of a datagram that is a SACK
@@ -155,7 +169,8 @@ cumulative_in _ = 0
 -- the greatest cumulative count of the SACKs taken
 abbrev pub taken_in : Setup → History → ℕ
 taken_in setup [] = 0
-taken_in setup ((E.Acked k, r) ∷ older) = max (taken_in setup older) (cumulative_in (slice_get (world_of setup older).network k))
+taken_in setup ((E.Acked k, r) ∷ older) =
+    max (taken_in setup older) (cumulative_in (slice_get (world_of setup older).network k))
 taken_in setup (entry ∷ older) = taken_in setup older
 
 -- ## Writes and reads
@@ -186,7 +201,8 @@ pub record Mode : Type 0 where
 abbrev pub mode_in : History → ℕ → Mode
 mode_in [] s = record { unordered = false; reliability = Reliable; value = 0 }
 mode_in ((E.Mode t unordered reliability value, r) ∷ older) s =
-    if t == s then record { unordered = unordered; reliability = reliability; value = value } else mode_in older s
+    if t == s then record { unordered = unordered; reliability = reliability; value = value }
+        else mode_in older s
 mode_in (entry ∷ older) s = mode_in older s
 
 -- the mode of a message with this payload type: DCEP is always ordered (RFC 8832 6)
@@ -197,7 +213,8 @@ mode_for ppi m = record m { unordered = not (Messages.is_dcep ppi || not m.unord
 abbrev pub modes_in : History → List Mode
 modes_in [] = []
 modes_in ((E.Write s ppi [], r) ∷ older) = modes_in older
-modes_in ((E.Write s ppi (b ∷ bs), r) ∷ older) = modes_in older ++ mode_for ppi (mode_in older s) ∷ []
+modes_in ((E.Write s ppi (b ∷ bs), r) ∷ older) =
+    modes_in older ++ mode_for ppi (mode_in older s) ∷ []
 modes_in (entry ∷ older) = modes_in older
 
 -- those of stream s among writes in these modes: each message, and whether it is unordered
@@ -245,7 +262,9 @@ moment_of _ = None
 -- the moment of the first Start or Send after the write of message n
 abbrev pub started_in : History → ℕ → Option ℕ
 started_in [] n = None
-started_in (entry ∷ older) n = or_else (started_in older n) (if nat_lt n (length (writes_in older)) then moment_of entry.0 else None)
+started_in (entry ∷ older) n =
+    or_else (started_in older n) (if nat_lt n (length (writes_in older)) then moment_of entry.0
+    else None)
 
 -- a message in this mode with this payload type has a lifetime: a timed one (RFC 3758 4.1), but no
 -- DCEP message (RFC 8832 6)
@@ -270,7 +289,8 @@ is_write_past_deadline now start x m = false
 -- message n is past its deadline now, by its write, its mode, and the first Start or Send after it
 abbrev pub is_past_deadline_by_events : History → ℕ → ℕ → Bool
 is_past_deadline_by_events h now n =
-    is_write_past_deadline now (started_in h n) (slice_get (writes_in h) n) (slice_get (modes_in h) n)
+    is_write_past_deadline now (started_in h n) (slice_get (writes_in h) n)
+        (slice_get (modes_in h) n)
 
 -- the bytes that a reply tells were released
 abbrev pub released_by : Reply → ℕ

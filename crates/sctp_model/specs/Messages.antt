@@ -12,15 +12,21 @@ use Rattle.sctp_model.specs.World.{StreamRecord, Message, Slot, World}
 
 -- a stream as it opens: ordered and reliable, with nothing named
 abbrev pub no_stream : ℕ → StreamRecord
-no_stream s = record { stream = s; unordered = false; reliability = Reliable; value = 0; named = 0; whole = [] }
+no_stream s =
+    record { stream = s; unordered = false; reliability = Reliable; value = 0; named = 0;
+    whole = [] }
 
 -- what stands past the last message
 abbrev pub no_message : Message
-no_message = record { stream = 0; ordered = false; ppi = Unknown; bytes = []; reliability = Reliable; value = 0; before = 0; started = None; expired = true; abandoned = true; read = true }
+no_message =
+    record { stream = 0; ordered = false; ppi = Unknown; bytes = []; reliability = Reliable;
+    value = 0; before = 0; started = None; expired = true; abandoned = true; read = true }
 
 -- what stands past the last slot
 abbrev pub no_slot : Slot
-no_slot = record { message = 0; fragment = 0; is_terminal_chunk = true; arrived = false; acknowledged = true }
+no_slot =
+    record { message = 0; fragment = 0; is_terminal_chunk = true; arrived = false;
+    acknowledged = true }
 
 -- message n
 abbrev pub message_at : World → ℕ → Message
@@ -63,7 +69,8 @@ is_dcep _ = false
 
 -- message n is an ordered one of stream s that did not expire
 abbrev pub is_ordered_on : World → ℕ → ℕ → Bool
-is_ordered_on w s n = ((message_at w n).stream == s) && ((message_at w n).ordered && not (message_at w n).expired)
+is_ordered_on w s n =
+    ((message_at w n).stream == s) && ((message_at w n).ordered && not (message_at w n).expired)
 
 -- message n is an unordered one of stream s
 abbrev pub is_unordered_on : World → ℕ → ℕ → Bool
@@ -125,7 +132,9 @@ sent_of w n = length (slots_of w n)
 
 -- some but not all of its fragments have slots, and it was not abandoned
 abbrev pub is_partially_sent : World → ℕ → Bool
-is_partially_sent w n = nat_lt 0 (sent_of w n) && (nat_lt (sent_of w n) (fragment_count w n) && not (message_at w n).abandoned)
+is_partially_sent w n =
+    nat_lt 0 (sent_of w n) && (nat_lt (sent_of w n) (fragment_count w n)
+    && not (message_at w n).abandoned)
 
 -- none of its fragments has a slot, and it did not expire
 abbrev pub is_unsent : World → ℕ → Bool
@@ -152,7 +161,8 @@ is_timed _ = false
 -- the moment from which a message with this lifetime in milliseconds is late, where it was started; none past the greatest u64
 abbrev pub deadline_from : ℕ → Option ℕ → Option ℕ
 deadline_from value None = None
-deadline_from value (Some t) = if nat_lt (t + value * 1000000) (2 ^ 64) then Some (t + value * 1000000) else None
+deadline_from value (Some t) =
+    if nat_lt (t + value * 1000000) (2 ^ 64) then Some (t + value * 1000000) else None
 
 -- the deadline of message n: only one in timed mode that is not DCEP has one
 abbrev pub deadline_of : World → ℕ → Option ℕ

@@ -35,7 +35,8 @@ pending_at w n i =
 -- the fragments of message n that have no slot
 abbrev pub pending_fragments : World → ℕ → List PendingFragment
 pending_fragments w n =
-    map (pending_at w n) (numbers_from (Messages.sent_of w n) (Messages.fragment_count w n - Messages.sent_of w n))
+    map (pending_at w n) (numbers_from (Messages.sent_of w n)
+        (Messages.fragment_count w n - Messages.sent_of w n))
 
 -- the pending queue: ordered and unordered fragments apart, each message's in a row, and the kind that a partially sent message selects
 pub record PendingRecord : Type 0 where
@@ -52,8 +53,14 @@ kind_of w (Some n) = Some (not (Messages.message_at w n).ordered)
 abbrev pub pending_of : World → PendingRecord
 pending_of w =
     record {
-      ordered = gathered (pending_fragments w) (Messages.messages_where w (λ n. (Messages.message_at w n).ordered && not (is_expired_or_abandoned w n)));
-      unordered = gathered (pending_fragments w) (Messages.messages_where w (λ n. not (Messages.message_at w n).ordered && not (is_expired_or_abandoned w n)));
+      ordered =
+          gathered (pending_fragments w)
+          (Messages.messages_where w (λ n. (Messages.message_at w n).ordered
+          && not (is_expired_or_abandoned w n)));
+      unordered =
+          gathered (pending_fragments w)
+          (Messages.messages_where w (λ n. not (Messages.message_at w n).ordered
+          && not (is_expired_or_abandoned w n)));
       selected = kind_of w (first_of (Messages.messages_where w (Messages.is_partially_sent w)));
     }
 
@@ -68,7 +75,9 @@ pub record InFlightChunk : Type 0 where
 
 -- the payload of this slot was cleared
 abbrev pub is_cleared : World → ℕ → Bool
-is_cleared w place = (Messages.slot_at w place).acknowledged || (Messages.message_at w (Messages.message_of w place)).abandoned
+is_cleared w place =
+    (Messages.slot_at w place).acknowledged
+    || (Messages.message_at w (Messages.message_of w place)).abandoned
 
 -- the slot at this place as the queue in flight has it
 abbrev pub in_flight_at : World → ℕ → InFlightChunk
@@ -99,7 +108,9 @@ abbrev pub filter_of : World → FilterRecord
 filter_of w =
     record {
       cumulative = cumulative_tsn w (Receiver.cumulative w);
-      held = map (Messages.tsn_of w) (kept (Receiver.arrived_at w) (Receiver.cumulative w) (length w.slots - Receiver.cumulative w));
+      held =
+          map (Messages.tsn_of w) (kept (Receiver.arrived_at w) (Receiver.cumulative w)
+          (length w.slots - Receiver.cumulative w));
       duplicates = map (Messages.tsn_of w) w.duplicates;
     }
 
@@ -111,12 +122,16 @@ set_of w n =
     record {
       ssn = Messages.ssn_of w n;
       ppi = (Messages.message_at w n).ppi;
-      chunks = map (chunk_at w) (Messages.slots_where w (λ place. Messages.has_fragment w n place && Receiver.arrived_at w place));
+      chunks =
+          map (chunk_at w) (Messages.slots_where w
+          (λ place. Messages.has_fragment w n place && Receiver.arrived_at w place));
     }
 
 -- a complete unordered message as one set: its SSN is 0, since unordered messages have none of their own (RFC 4960 6.6)
 abbrev pub whole_set_of : World → ℕ → ChunkSet
-whole_set_of w n = record { ssn = 0; ppi = (Messages.message_at w n).ppi; chunks = map (chunk_at w) (Messages.slots_of w n) }
+whole_set_of w n =
+    record { ssn = 0; ppi = (Messages.message_at w n).ppi;
+    chunks = map (chunk_at w) (Messages.slots_of w n) }
 
 -- the set that a read of message n hands out
 abbrev pub handed_out : World → ℕ → ChunkSet
@@ -125,7 +140,9 @@ handed_out w n = if (Messages.message_at w n).ordered then set_of w n else whole
 -- an arrived slot, not skipped, of an unordered message of this stream that is not whole
 abbrev pub is_unassembled : World → ℕ → ℕ → Bool
 is_unassembled w s place =
-    Receiver.arrived_at w place && (nat_le w.skipped place && (Messages.is_unordered_on w s (Messages.message_of w place) && not (Receiver.is_whole w (Messages.message_of w place))))
+    Receiver.arrived_at w place && (nat_le w.skipped place
+        && (Messages.is_unordered_on w s (Messages.message_of w place)
+        && not (Receiver.is_whole w (Messages.message_of w place))))
 
 -- the SSN expected next, the sets of ordered messages, the complete unordered messages and the unassembled chunks
 pub record ReassemblyRecord : Type 0 where

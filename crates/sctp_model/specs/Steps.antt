@@ -44,16 +44,21 @@ is_for_sender _ = false
 -- a slot in flight that is neither acknowledged nor of an abandoned message can be sent again
 abbrev pub can_resend : World → ℕ → Bool
 can_resend w place =
-    Messages.is_in_flight w place && (not (Messages.slot_at w place).acknowledged && not (Messages.message_at w (Messages.message_of w place)).abandoned)
+    Messages.is_in_flight w place && (not (Messages.slot_at w place).acknowledged
+        && not (Messages.message_at w (Messages.message_of w place)).abandoned)
 
 -- all of message n has slots, or it was abandoned
 abbrev pub is_ended : World → ℕ → Bool
-is_ended w n = (Messages.sent_of w n == Messages.fragment_count w n) || (Messages.message_at w n).abandoned
+is_ended w n =
+    (Messages.sent_of w n == Messages.fragment_count w n) || (Messages.message_at w n).abandoned
 
 -- a skip up to this slot can name message n: an ordered one whose last slot is at or before it
 abbrev pub can_name : World → ℕ → ℕ → Bool
 can_name w upto n =
-    nat_lt n (length w.messages) && ((Messages.message_at w n).ordered && (is_ended w n && (not (Messages.message_at w n).expired && list_all (λ place. nat_le place upto) (Messages.slots_where w (Messages.belongs_to w n)))))
+    nat_lt n (length w.messages) && ((Messages.message_at w n).ordered
+        && (is_ended w n && (not (Messages.message_at w n).expired
+        && list_all (λ place. nat_le place upto)
+        (Messages.slots_where w (Messages.belongs_to w n)))))
 
 -- the ordered messages whose indexes an arrival adds to the span: those of the new fragments, those that a counting skip names
 abbrev pub adds_to_span : World → Option Datagram → List ℕ
@@ -63,7 +68,9 @@ adds_to_span w _ = []
 
 -- the span test, in the state before the arrival and in the one after it
 abbrev pub arrival_fits : World → Option Datagram → Bool
-arrival_fits w d = Receiver.spans_fit w (adds_to_span w d) && Receiver.spans_fit (Changes.datagram_received w d) (adds_to_span w d)
+arrival_fits w d =
+    Receiver.spans_fit w (adds_to_span w d)
+    && Receiver.spans_fit (Changes.datagram_received w d) (adds_to_span w d)
 
 -- what a skip up to the slot at this place is refused with, where it is
 abbrev pub skip_refusal : World → ℕ → List ℕ → Option LinkRefusal
@@ -74,13 +81,15 @@ skip_refusal w upto messages =
 -- what an event is refused with, where it is
 abbrev pub refusal_of : World → Event → Option LinkRefusal
 refusal_of w (E.Open s) = unless (not (Messages.is_open w s)) StreamOpen None
-refusal_of w (E.Mode s unordered reliability value) = unless (Messages.is_open w s) StreamUnknown None
+refusal_of w (E.Mode s unordered reliability value) =
+    unless (Messages.is_open w s) StreamUnknown None
 refusal_of w (E.Write s ppi bytes) =
     unless (Messages.is_open w s) StreamUnknown
     (unless (nat_le (length bytes) w.setup.largest) MessageTooLarge
     (unless (nat_lt (fragments_accepted w + fragments_in w bytes) (2 ^ 31)) TsnsUsedUp None))
 refusal_of w (E.Resend tsn) = unless (can_resend w (Messages.place_of w tsn)) NotInFlight None
-refusal_of w (E.Abandon tsn) = unless (Messages.is_in_flight w (Messages.place_of w tsn)) NotInFlight None
+refusal_of w (E.Abandon tsn) =
+    unless (Messages.is_in_flight w (Messages.place_of w tsn)) NotInFlight None
 refusal_of w (E.Skip upto messages) = skip_refusal w (Messages.place_of w upto) messages.items
 refusal_of w (E.Arrive k) =
     unless (is_for_receiver (slice_get w.network k)) NoSuchDatagram
@@ -103,7 +112,8 @@ after w (E.Expire now) = Changes.expired w (Changes.expiring w now)
 after w (E.Tail now) = Changes.tail_abandoned w (Changes.tailing w now)
 after w (E.Late now) = Changes.late_abandoned w now
 after w (E.Abandon tsn) = Changes.abandoned w (Messages.message_of w (Messages.place_of w tsn))
-after w (E.Skip upto messages) = Changes.with_datagram w (Forward (Messages.place_of w upto) messages.items)
+after w (E.Skip upto messages) =
+    Changes.with_datagram w (Forward (Messages.place_of w upto) messages.items)
 after w (E.Ack credit) = Changes.reported w credit
 after w (E.Arrive k) = Changes.datagram_received w (slice_get w.network k)
 after w (E.Acked k) = Changes.sack_taken w (slice_get w.network k)
@@ -115,7 +125,8 @@ after w (E.Read s) = Changes.read_from w s
 abbrev pub sent_reply : World → World → Option ℕ → Reply
 sent_reply old new None = R.Idle
 sent_reply old new (Some n) =
-    R.Sent (length old.network) (Messages.tsn_of old (length old.slots)) (Messages.ssn_of old n) (length new.slots - length old.slots)
+    R.Sent (length old.network) (Messages.tsn_of old (length old.slots)) (Messages.ssn_of old n)
+        (length new.slots - length old.slots)
 
 -- the stream of the message that expired and the bytes released, or Idle
 abbrev pub expired_reply : World → World → Option ℕ → Reply
@@ -130,27 +141,32 @@ tail_reply old new (Some n) = R.Released (Messages.message_at old n).stream (gro
 -- New where a slot arrived new, else Repeat; Skipped where the skip counts, else Stale
 abbrev pub arrive_reply : World → Option Datagram → Reply
 arrive_reply w (Some (Data slots)) = if list_any (Receiver.is_new w) slots then R.New else R.Repeat
-arrive_reply w (Some (Forward upto messages)) = if Changes.skip_counts w upto then R.Skipped else R.Stale
+arrive_reply w (Some (Forward upto messages)) =
+    if Changes.skip_counts w upto then R.Skipped else R.Stale
 arrive_reply w _ = R.Stale
 
 -- a message is handed out with its stream, its payload type and its chunks
 abbrev pub read_reply : World → Option ℕ → Reply
 read_reply w None = R.Nothing
-read_reply w (Some n) = R.Message (Messages.message_at w n).stream (Messages.message_at w n).ppi (handed_out w n)
+read_reply w (Some n) =
+    R.Message (Messages.message_at w n).stream (Messages.message_at w n).ppi (handed_out w n)
 
 -- the reply to an event that is not refused
 abbrev pub reply_to : World → Event → Reply
 reply_to w (E.Open s) = R.Opened
 reply_to w (E.Mode s unordered reliability value) = R.«Set»
-reply_to w (E.Write s ppi bytes) = R.Wrote (if length bytes == 0 then None else Some (length w.messages)) (fragments_in w bytes)
+reply_to w (E.Write s ppi bytes) =
+    R.Wrote (if length bytes == 0 then None else Some (length w.messages)) (fragments_in w bytes)
 reply_to w (E.Start now) = R.Started
 reply_to w (E.Send now) = sent_reply w (after w (E.Send now)) (Messages.front w)
 reply_to w (E.Resend tsn) = R.Resent (length w.network)
 reply_to w (E.Expire now) = expired_reply w (after w (E.Expire now)) (Changes.expiring w now)
 reply_to w (E.Tail now) = tail_reply w (after w (E.Tail now)) (Changes.tailing w now)
-reply_to w (E.Late now) = R.Late (length (Changes.late_slots w now)) (growth w (after w (E.Late now)))
+reply_to w (E.Late now) =
+    R.Late (length (Changes.late_slots w now)) (growth w (after w (E.Late now)))
 reply_to w (E.Abandon tsn) =
-    R.Released (Messages.message_at w (Messages.message_of w (Messages.place_of w tsn))).stream (growth w (after w (E.Abandon tsn)))
+    R.Released (Messages.message_at w (Messages.message_of w (Messages.place_of w tsn))).stream
+        (growth w (after w (E.Abandon tsn)))
 reply_to w (E.Skip upto messages) = R.Skip (length w.network)
 reply_to w (E.Ack credit) = R.Ack (length w.network)
 reply_to w (E.Arrive k) = arrive_reply w (slice_get w.network k)
@@ -175,7 +191,8 @@ takes_memory w (E.Send now) = is_some (Messages.front w)
 takes_memory w (E.Expire now) = false
 takes_memory w (E.Tail now) = is_some (Changes.tailing w now)
 takes_memory w (E.Late now) = nat_lt 0 (length (Changes.late_slots w now))
-takes_memory w (E.Abandon tsn) = Messages.is_partially_sent w (Messages.message_of w (Messages.place_of w tsn))
+takes_memory w (E.Abandon tsn) =
+    Messages.is_partially_sent w (Messages.message_of w (Messages.place_of w tsn))
 takes_memory w (E.Read s) = false
 takes_memory w e = true
 
@@ -191,7 +208,8 @@ Refuses w e OutOfMemory = may_want_memory w e ≡ true
 Refuses w e refusal = refusal_of w e ≡ Some refusal
 
 -- a refused event changes nothing
-pub record IsRefusal (old : World) (event : Event) (refusal : LinkRefusal) (new : World) : Type 0 where
+pub record IsRefusal (old : World) (event : Event) (refusal : LinkRefusal)
+    (new : World) : Type 0 where
   pub because : Refuses old event refusal
   pub same : new ≡ old
 
@@ -215,7 +233,8 @@ world_of setup (entry ∷ older) = after (world_of setup older) entry.0
 abbrev pub IsRun : Setup → History → Type 0
 IsRun setup [] = Unit {0}
 IsRun setup (entry ∷ older) =
-    (refusal_of (world_of setup older) entry.0 ≡ None) × ((entry.1 ≡ reply_to (world_of setup older) entry.0) × IsRun setup older)
+    (refusal_of (world_of setup older) entry.0 ≡ None)
+        × ((entry.1 ≡ reply_to (world_of setup older) entry.0) × IsRun setup older)
 
 -- the record is that of this history
 pub record StandsFor (setup : Setup) (w : World) (h : History) : Type 0 where

@@ -23,7 +23,8 @@ pub record IsSpan (w : World) (s : ℕ) (more : List ℕ) : Type 0 where
   pub high : ℕ
   pub short : high < low + 2 ^ 15
   pub next : (low ≤ next_of w s) × (next_of w s ≤ high)
-  pub held : (k : ℕ) → k < length w.messages → is_held w s k ≡ true → (low ≤ index_of w k) × (index_of w k ≤ high)
+  pub held : (k : ℕ) → k < length w.messages → is_held w s k ≡ true → (low ≤ index_of w k)
+      × (index_of w k ≤ high)
   pub others : (y : ℕ) → list_any (λ z. z == y) more ≡ true → (low ≤ y) × (y ≤ high)
 
 -- what is kept of messages and slots
@@ -36,10 +37,13 @@ pub record Valid (w : World) : Type 0 where
   pub made : (n p : ℕ) → has_fragment w n p ≡ true → n < length w.messages
   -- ## by the receiver
   -- an ordered message that was read had arrived, and comes before the next expected one
-  pub read_whole : (s n : ℕ) → is_ordered_on w s n ≡ true → (message_at w n).read ≡ true → has_arrived w n ≡ true
-  pub read_past : (s n : ℕ) → is_ordered_on w s n ≡ true → (message_at w n).read ≡ true → index_of w n < next_of w s
+  pub read_whole : (s n : ℕ) → is_ordered_on w s n ≡ true → (message_at w n).read ≡ true
+      → has_arrived w n ≡ true
+  pub read_past : (s n : ℕ) → is_ordered_on w s n ≡ true → (message_at w n).read ≡ true
+      → index_of w n < next_of w s
   -- the slots of what comes before the named ones are skipped
-  pub named_skipped : (s n p : ℕ) → is_ordered_on w s n ≡ true → index_of w n < (stream_of w s).named → has_fragment w n p ≡ true → p < w.skipped
+  pub named_skipped : (s n p : ℕ) → is_ordered_on w s n ≡ true → index_of w n
+      < (stream_of w s).named → has_fragment w n p ≡ true → p < w.skipped
   pub named_made : (s : ℕ) → (stream_of w s).named ≤ length (ordered_on w s)
   pub skipped_made : w.skipped ≤ length w.slots
 
@@ -53,26 +57,31 @@ pub record IsWaiting (w : World) (s n : ℕ) : Type 0 where
 -- what is kept of unordered messages besides
 pub record ValidUnassembled (w : World) : Type 0 where
   -- by the sender: the fragments that have slots are the first ones
-  pub prefix : (n p j : ℕ) → has_fragment w n p ≡ true → (slot_at w p).fragment ≡ j + 1 → has_fragment w n (p - 1) ≡ true
+  pub prefix : (n p j : ℕ) → has_fragment w n p ≡ true → (slot_at w p).fragment ≡ j + 1
+      → has_fragment w n (p - 1) ≡ true
   -- no terminal chunk arrives
   pub marks : (p : ℕ) → arrived_at w p ≡ true → (slot_at w p).is_terminal_chunk ≡ false
   -- what is whole arrived, and what arrived before a skip reached it is whole
-  pub whole_arrived : (n : ℕ) → (message_at w n).ordered ≡ false → is_whole w n ≡ true → has_arrived w n ≡ true
+  pub whole_arrived : (n : ℕ) → (message_at w n).ordered ≡ false → is_whole w n ≡ true
+      → has_arrived w n ≡ true
   pub arrived_whole : (n : ℕ) → becomes_whole w n ≡ true → is_whole w n ≡ true
   -- those noted as whole wait to be read
   pub waits : (s n : ℕ) → list_any (λ k. k == n) (stream_of w s).whole ≡ true → IsWaiting w s n
 
 -- the slots of a stream's ordered messages ascend with them, and messages are on open streams
 pub record InOrder (w : World) : Type 0 where
-  pub ascend : (s j k p q : ℕ) → is_ordered_on w s j ≡ true → is_ordered_on w s k ≡ true → j < k → has_fragment w j p ≡ true → has_fragment w k q ≡ true → p < q
-  pub known : (n : ℕ) → n < length w.messages → (r : StreamRecord) × (stream_at w (message_at w n).stream ≡ Some r)
+  pub ascend : (s j k p q : ℕ) → is_ordered_on w s j ≡ true → is_ordered_on w s k ≡ true → j < k
+      → has_fragment w j p ≡ true → has_fragment w k q ≡ true → p < q
+  pub known : (n : ℕ) → n < length w.messages → (r : StreamRecord)
+      × (stream_at w (message_at w n).stream ≡ Some r)
 
 -- ## The network
 
 -- the slots have fragments
 abbrev pub AllFragments : World → List ℕ → Type 0
 AllFragments w [] = Unit {0}
-AllFragments w (p ∷ ps) = (p < length w.slots) × ((slot_at w p).is_terminal_chunk ≡ false) × AllFragments w ps
+AllFragments w (p ∷ ps) =
+    (p < length w.slots) × ((slot_at w p).is_terminal_chunk ≡ false) × AllFragments w ps
 
 -- a message that a skip up to this slot names: ordered, some fragment of it has a slot, and none has one past it
 pub record IsNamable (w : World) (upto n : ℕ) : Type 0 where
@@ -87,8 +96,10 @@ AllNamable w upto (n ∷ ns) = IsNamable w upto n × AllNamable w upto ns
 
 -- what lies in the network
 pub record ValidNetwork (w : World) : Type 0 where
-  pub carried : (k : ℕ) (slots : List ℕ) → slice_get w.network k ≡ Some (Data slots) → AllFragments w slots
-  pub named : (k upto : ℕ) (names : List ℕ) → slice_get w.network k ≡ Some (Forward upto names) → (upto < length w.slots) × AllNamable w upto names
+  pub carried : (k : ℕ) (slots : List ℕ) → slice_get w.network k ≡ Some (Data slots)
+      → AllFragments w slots
+  pub named : (k upto : ℕ) (names : List ℕ) → slice_get w.network k ≡ Some (Forward upto names)
+      → (upto < length w.slots) × AllNamable w upto names
 
 -- ## In every history
 
@@ -111,15 +122,21 @@ pub record ComesValid (w : World) (p : ℕ) : Type 0 where
   pub valid : Valid w
   pub unassembled : ValidUnassembled w
   pub order : InOrder w
-  pub near : (s : ℕ) → is_ordered_on w s (message_of w p) ≡ true → is_new w p ≡ true → IsSpan w s (index_of w (message_of w p) ∷ [])
+  pub near : (s : ℕ) → is_ordered_on w s (message_of w p) ≡ true → is_new w p ≡ true
+      → IsSpan w s (index_of w (message_of w p) ∷ [])
 
 -- the slots of an accepted datagram come to a valid record, one after another
 abbrev pub SlotsComeValid : Setup → History → World → List LogEntry → Type 0
 SlotsComeValid setup h w log =
-    (k : ℕ) (ps : List ℕ) (p : ℕ) (qs : List ℕ) → refusal_of w (E.Arrive k) ≡ None → slice_get w.network k ≡ Some (Data (ps ++ p ∷ qs)) → ComesValid (fold slot_received w ps) p
+    (k : ℕ) (ps : List ℕ) (p : ℕ) (qs : List ℕ) → refusal_of w (E.Arrive k) ≡ None
+        → slice_get w.network k ≡ Some (Data (ps ++ p ∷ qs))
+        → ComesValid (fold slot_received w ps) p
 
 -- the indexes that a counting skip names are near those that matter before it and after it
 abbrev pub SkipsComeValid : Setup → History → World → List LogEntry → Type 0
 SkipsComeValid setup h w log =
-    (k upto : ℕ) (names : List ℕ) → refusal_of w (E.Arrive k) ≡ None → slice_get w.network k ≡ Some (Forward upto names) → cumulative w ≤ upto → (s : ℕ) → is_open w s ≡ true →
-    IsSpan w s (map (index_of w) (passing (is_ordered_on w s) names)) × IsSpan (datagram_received w (Some (Forward upto names))) s (map (index_of w) (passing (is_ordered_on w s) names))
+    (k upto : ℕ) (names : List ℕ) → refusal_of w (E.Arrive k) ≡ None → slice_get w.network k
+        ≡ Some (Forward upto names) → cumulative w ≤ upto → (s : ℕ) → is_open w s ≡ true →
+    IsSpan w s (map (index_of w) (passing (is_ordered_on w s) names))
+        × IsSpan (datagram_received w (Some (Forward upto names))) s
+        (map (index_of w) (passing (is_ordered_on w s) names))

@@ -16,18 +16,21 @@ use Rattle.sctp_packets.specs.Packet.{Parts, Steps, after, summed, body_of}
 abbrev pub PlaceFault : Error → List ℕ → Type 0
 PlaceFault e rest =
     ((e ≡ errors.ErrParseSctpChunkNotEnoughData) × (0 < length rest) × (length rest < 4))
-    ⊎ ((e ≡ errors.ErrParseSctpChunkNotEnoughData) × (4 ≤ length rest) × (length rest < padded (declared rest)))
+    ⊎ ((e ≡ errors.ErrParseSctpChunkNotEnoughData) × (4 ≤ length rest)
+        × (length rest < padded (declared rest)))
     ⊎ KindFault e rest
 
 -- a fault at a place that the walk comes to
 unfoldable pub WalkFault : Error → List ℕ → Type 0
-WalkFault e bytes = (ws : List Wire) × (rest : List ℕ) × Walks Steps after bytes ws rest × PlaceFault e rest
+WalkFault e bytes =
+    (ws : List Wire) × (rest : List ℕ) × Walks Steps after bytes ws rest × PlaceFault e rest
 
 -- the header and its checksum
 abbrev pub HeadFault : (List ℕ → ℕ) → Error → List ℕ → Type 0
 HeadFault sum e bytes =
     ((e ≡ errors.ErrPacketRawTooSmall) × (length bytes < 12))
-    ⊎ ((e ≡ errors.ErrChecksumMismatch) × (12 ≤ length bytes) × (u32_le_at bytes 8 ≢ sum (summed bytes)))
+    ⊎ ((e ≡ errors.ErrChecksumMismatch) × (12 ≤ length bytes)
+        × (u32_le_at bytes 8 ≢ sum (summed bytes)))
 
 abbrev pub PacketFault : (List ℕ → ℕ) → Error → List ℕ → Type 0
 PacketFault sum e bytes = HeadFault sum e bytes ⊎ WalkFault e (drop 12 bytes)
@@ -45,4 +48,5 @@ PacketEncodingFault e p = FirstEncodingFault e p.chunks
 
 -- the room is short of so many bytes and of some first chunks, each of which has an encoding
 abbrev pub LacksRoom : ℕ → ℕ → List Wire → Type 0
-LacksRoom room head ws = (n : ℕ) × AllByRecursion HasEncoding (take n ws) × (room < head + length (body_of (take n ws)))
+LacksRoom room head ws =
+    (n : ℕ) × AllByRecursion HasEncoding (take n ws) × (room < head + length (body_of (take n ws)))

@@ -62,7 +62,8 @@ abbrev pub body_of : List Wire → List ℕ
 body_of ws = flat_map padded_encoding ws
 
 unfoldable pub head_encoding : ℕ → ℕ → ℕ → List ℕ
-head_encoding source_port destination_port verification_tag = be16 source_port ++ be16 destination_port ++ be32 verification_tag
+head_encoding source_port destination_port verification_tag =
+    be16 source_port ++ be16 destination_port ++ be32 verification_tag
 
 abbrev pub head_of : Parts → List ℕ
 head_of p = head_encoding p.source_port p.destination_port p.verification_tag
@@ -76,7 +77,8 @@ IsCanonical p = AllByRecursion Canonical p.chunks
 
 -- the one encoding of a packet
 abbrev pub packet_encoding : (List ℕ → ℕ) → Parts → List ℕ
-packet_encoding sum p = head_of p ++ le32 (sum (head_of p ++ four_zeroes ++ body_of p.chunks)) ++ body_of p.chunks
+packet_encoding sum p =
+    head_of p ++ le32 (sum (head_of p ++ four_zeroes ++ body_of p.chunks)) ++ body_of p.chunks
 
 -- a packet whose numbers fit the widths that they are written in
 pub record FitsParts (p : Parts) : Type 0 where

@@ -16,7 +16,8 @@ IsInitType typ = (typ ≡ 1) ⊎ (typ ≡ 2)
 
 -- the initiate tag of the chunk that the bytes begin with, where it is an INIT or INIT-ACK
 abbrev pub initiate_tag_in : List ℕ → Option ℕ
-initiate_tag_in bytes = if type_at bytes == 1 || type_at bytes == 2 then Some (u32_at (value_at bytes) 0) else None
+initiate_tag_in bytes =
+    if type_at bytes == 1 || type_at bytes == 2 then Some (u32_at (value_at bytes) 0) else None
 
 -- the cookie, where it is a COOKIE-ECHO
 abbrev pub cookie_in : List ℕ → Option (List ℕ)
@@ -51,4 +52,5 @@ PartialFault sum e bytes =
     HeadFault sum e bytes
     ⊎ ((e ≡ errors.ErrParseSctpChunkNotEnoughData) × (12 ≤ length bytes) × (length bytes < 16))
     ⊎ ((16 ≤ length bytes) × HeaderFault e (drop 12 bytes))
-    ⊎ ((e ≡ errors.ErrChunkValueNotLongEnough) × IsInitChunk (drop 12 bytes) × (length (value_at (drop 12 bytes)) < 4))
+    ⊎ ((e ≡ errors.ErrChunkValueNotLongEnough) × IsInitChunk (drop 12 bytes)
+        × (length (value_at (drop 12 bytes)) < 4))

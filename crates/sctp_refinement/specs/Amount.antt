@@ -25,7 +25,9 @@ released_along w (n ∷ ns) = held_bytes w n + released_along (abandoned w n) ns
 -- of that, what is of stream t
 abbrev pub released_along_on : World → ℕ → List ℕ → ℕ
 released_along_on w t [] = 0
-released_along_on w t (n ∷ ns) = (if (message_at w n).stream == t then held_bytes w n else 0) + released_along_on (abandoned w n) t ns
+released_along_on w t (n ∷ ns) =
+    (if (message_at w n).stream == t then held_bytes w n else 0)
+    + released_along_on (abandoned w n) t ns
 
 -- an event that writes nothing, gives nothing up and acknowledges nothing
 abbrev pub keeps_amounts : Event → Bool
@@ -43,7 +45,9 @@ stream_of_slot w place = (message_at w (message_of w place)).stream
 
 -- the bytes that the slot at this place holds: none where it is a terminal chunk or its message expired or was abandoned
 abbrev pub bytes_at : World → ℕ → ℕ
-bytes_at w place = if (slot_at w place).is_terminal_chunk || is_expired_or_abandoned w (message_of w place) then 0 else slot_bytes w (message_of w place) place
+bytes_at w place =
+    if (slot_at w place).is_terminal_chunk || is_expired_or_abandoned w (message_of w place) then 0
+    else slot_bytes w (message_of w place) place
 
 -- the bytes in the slots but for those that pass
 abbrev pub unacked : World → (ℕ → Bool) → ℕ
@@ -51,7 +55,9 @@ unacked w acked = total_over (bytes_at w) (slots_where w (λ place. not (acked p
 
 -- those of stream t
 abbrev pub unacked_on : World → (ℕ → Bool) → ℕ → ℕ
-unacked_on w acked t = total_over (bytes_at w) (slots_where w (λ place. not (acked place) && (stream_of_slot w place == t)))
+unacked_on w acked t =
+    total_over (bytes_at w) (slots_where w
+    (λ place. not (acked place) && (stream_of_slot w place == t)))
 
 -- the slot at this place is acknowledged
 abbrev pub acknowledged_at : World → ℕ → Bool

@@ -5,7 +5,8 @@ use Rattle.sctp_model.specs.Messages.{message_at, messages_where, sent_of}
 
 -- message n is an ordered one of stream s, and some of it was sent
 abbrev pub is_begun_on : World → ℕ → ℕ → Bool
-is_begun_on w s n = ((message_at w n).stream == s) && ((message_at w n).ordered && nat_lt 0 (sent_of w n))
+is_begun_on w s n =
+    ((message_at w n).stream == s) && ((message_at w n).ordered && nat_lt 0 (sent_of w n))
 
 -- how many ordered messages of stream s were begun: the index that the next one takes
 abbrev pub begun_on : World → ℕ → ℕ

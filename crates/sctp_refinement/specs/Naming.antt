@@ -36,5 +36,7 @@ min_with (Some i) a = min a i
 -- the named indexes can be told apart from the others before the skip, and after it
 abbrev pub names_fit : World → ℕ → List ℕ → Bool
 names_fit w s names =
-    nat_lt (max (highest_held w s) (end_named w s names - 1)) (min (lowest_held w s) (low_named w s names) + 2 ^ 15)
-    && nat_lt (end_named w s names) (min_with (whole_first w (held_on w s)) (low_named w s names) + 2 ^ 15)
+    nat_lt (max (highest_held w s) (end_named w s names - 1))
+        (min (lowest_held w s) (low_named w s names) + 2 ^ 15)
+    && nat_lt (end_named w s names) (min_with (whole_first w (held_on w s)) (low_named w s names)
+        + 2 ^ 15)

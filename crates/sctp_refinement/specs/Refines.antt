@@ -31,7 +31,8 @@ waiting_at w n i =
 
 -- the fragments of message n that have no slot
 abbrev pub waiting_of : World → ℕ → List ChunkPayloadData
-waiting_of w n = map (waiting_at w n) (numbers_from (sent_of w n) (fragment_count w n - sent_of w n))
+waiting_of w n =
+    map (waiting_at w n) (numbers_from (sent_of w n) (fragment_count w n - sent_of w n))
 
 -- those of the messages that pass, one message after another
 abbrev pub waiting_where : World → (ℕ → Bool) → List ChunkPayloadData
@@ -69,7 +70,9 @@ unless_gone gone d = if gone then None else Some d
 abbrev pub sending_of : ChunkPayloadData → Sending
 sending_of c =
     record {
-      chunk = record { tsn = c.tsn; message = c.message_id; payload = c.user_data; acknowledged = c.acked; abandoned = c.abandoned; deadline = c.deadline };
+      chunk =
+          record { tsn = c.tsn; message = c.message_id; payload = c.user_data;
+          acknowledged = c.acked; abandoned = c.abandoned; deadline = c.deadline };
       stream = c.stream_identifier;
       says = unless_gone (c.acked || c.abandoned) (data_of c);
     }
@@ -94,25 +97,31 @@ sending_by w acked place =
       chunk = record {
         tsn = tsn_of w place;
         message = message_of w place;
-        payload = if acked || (message_at w (message_of w place)).abandoned then [] else (chunk_at w place).user_data;
+        payload =
+            if acked || (message_at w (message_of w place)).abandoned then []
+            else (chunk_at w place).user_data;
         acknowledged = acked;
         abandoned = (message_at w (message_of w place)).abandoned;
         deadline = deadline_of w (message_of w place);
       };
       stream = (message_at w (message_of w place)).stream;
-      says = unless_gone (acked || (message_at w (message_of w place)).abandoned) (data_of (chunk_at w place));
+      says =
+          unless_gone (acked || (message_at w (message_of w place)).abandoned)
+          (data_of (chunk_at w place));
     }
 
 -- what the queue in flight has, where these are acknowledged
 abbrev pub IsInFlight : World → (ℕ → Bool) → ℕ → ℕ → List ChunkPayloadData → Type 0
-IsInFlight w acked from count cs = map sending_of cs ≡ map (λ k. sending_by w (acked k) k) (kept always from count)
+IsInFlight w acked from count cs =
+    map sending_of cs ≡ map (λ k. sending_by w (acked k) k) (kept always from count)
 
 -- the outbound queue: the number of the next message, and from which on lifetimes have not started
 pub record RefinesOutbound (w : World) (q : Outbound) : Type 0 where
   pub pending : RefinesPending w q.pending
   pub in_flight : map sending_of q.inflight.chunks ≡ sendings_of w
   pub next : q.next_message_id ≡ length w.messages
-  pub unstarted : (n : ℕ) → n < length w.messages → is_some (message_at w n).started ≡ not (nat_le q.next_unstarted n)
+  pub unstarted : (n : ℕ) → n < length w.messages → is_some (message_at w n).started
+      ≡ not (nat_le q.next_unstarted n)
   pub started : q.next_unstarted ≤ length w.messages
   -- the lifetime of what was sent has started
   pub begun : (p : ℕ) → p < length w.slots → message_of w p < q.next_unstarted
@@ -121,12 +130,14 @@ pub record RefinesOutbound (w : World) (q : Outbound) : Type 0 where
 
 -- the filter of TSNs, with the cumulative TSN that the link keeps
 abbrev pub filter_held : ℕ → Payload → FilterRecord
-filter_held cumulative q = record { cumulative = cumulative; held = map (λ c. c.tsn) q.chunks; duplicates = q.duplicates }
+filter_held cumulative q =
+    record { cumulative = cumulative; held = map (λ c. c.tsn) q.chunks; duplicates = q.duplicates }
 
 -- ## The link's queues
 
 -- what the queues hold is what the record says; the reassembly queue of a stream is there where the stream is open
-pub record Refines (w : World) (sending : Outbound) (cumulative : ℕ) (seen : Payload) (queues : ℕ → Option ReassemblyState) : Type 0 where
+pub record Refines (w : World) (sending : Outbound) (cumulative : ℕ) (seen : Payload)
+    (queues : ℕ → Option ReassemblyState) : Type 0 where
   pub outbound : RefinesOutbound w sending
   pub filter : filter_held cumulative seen ≡ filter_of w
   pub reassembly : (s : ℕ) (q : ReassemblyState) → queues s ≡ Some q → q.held ≡ reassembly_of w s
@@ -140,7 +151,9 @@ mode_of (Some r) = r
 
 -- a chunk that waits, in the words of the record
 abbrev pub pending_shown : ChunkPayloadData → PendingFragment
-pending_shown c = record { message = c.message_id; fragment = data_of c; reliability = (mode_of c.reliability).0; value = (mode_of c.reliability).1; deadline = c.deadline }
+pending_shown c =
+    record { message = c.message_id; fragment = data_of c; reliability = (mode_of c.reliability).0;
+    value = (mode_of c.reliability).1; deadline = c.deadline }
 
 -- a chunk in flight, in the words of the record
 abbrev pub in_flight_shown : ChunkPayloadData → InFlightChunk
@@ -151,4 +164,6 @@ selected_shown None = None
 selected_shown (Some s) = Some s.unordered
 
 abbrev pub shown : Pending → PendingRecord
-shown q = record { ordered = map pending_shown q.ordered; unordered = map pending_shown q.unordered; selected = selected_shown q.selected }
+shown q =
+    record { ordered = map pending_shown q.ordered; unordered = map pending_shown q.unordered;
+    selected = selected_shown q.selected }

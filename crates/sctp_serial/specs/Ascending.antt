@@ -19,7 +19,8 @@ unfoldable pub upper_half : ℕ → ℕ
 upper_half n = n * 2 ^ 16
 
 -- no element has the number; one that has it goes to this place, and the numbers are in order with it
-pub record IsInsertion {X : Type 0} (has : X → Bool) (num : X → ℕ) (before : X → X → Bool) (xs : List X) (place : ℕ) (ascending : Bool) : Type 0 where
+pub record IsInsertion {X : Type 0} (has : X → Bool) (num : X → ℕ) (before : X → X → Bool)
+    (xs : List X) (place : ℕ) (ascending : Bool) : Type 0 where
   pub absent : list_any has xs ≡ false
   pub in_range : place ≤ length xs
   pub goes : (x : X) → IsTrue (has x) → insert xs place x ≡ inserted before x xs

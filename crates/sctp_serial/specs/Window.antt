@@ -38,7 +38,8 @@ abbrev pub is_new : List ChunkPayloadData → ℕ → ℕ → Bool
 is_new chunks tsn cumulative = not (is_held chunks tsn) && not (at_or_before tsn cumulative)
 
 -- the chunk is held at this place, and has the TSN
-pub record IsHeldAt (chunks : List ChunkPayloadData) (tsn place : ℕ) (chunk : ChunkPayloadData) : Type 0 where
+pub record IsHeldAt (chunks : List ChunkPayloadData) (tsn place : ℕ)
+    (chunk : ChunkPayloadData) : Type 0 where
   pub in_range : place < length chunks
   pub value : slice_index_or chunks place chunk ≡ chunk
   pub number : chunk.tsn ≡ tsn
@@ -46,5 +47,7 @@ pub record IsHeldAt (chunks : List ChunkPayloadData) (tsn place : ℕ) (chunk : 
 -- a chunk with the TSN would go to this place
 pub record IsPlaceFor (chunks : List ChunkPayloadData) (tsn place : ℕ) : Type 0 where
   pub in_range : place ≤ length chunks
-  pub before : SpansOneWindow chunks tsn → (k : ℕ) (d : ChunkPayloadData) → k < place → IsTrue (comes_before (slice_index_or chunks k d).tsn tsn)
-  pub after : SpansOneWindow chunks tsn → (k : ℕ) (d : ChunkPayloadData) → place ≤ k → k < length chunks → IsTrue (comes_before tsn (slice_index_or chunks k d).tsn)
+  pub before : SpansOneWindow chunks tsn → (k : ℕ) (d : ChunkPayloadData) → k < place
+      → IsTrue (comes_before (slice_index_or chunks k d).tsn tsn)
+  pub after : SpansOneWindow chunks tsn → (k : ℕ) (d : ChunkPayloadData) → place ≤ k → k
+      < length chunks → IsTrue (comes_before tsn (slice_index_or chunks k d).tsn)

@@ -35,7 +35,8 @@ IsBlocks bytes = (4 ≤ length bytes) × (u32_at bytes 0 ≡ 168627466)
 abbrev pub order_in : Order → List ℕ → Option Order
 order_in order bytes =
     if u32_at bytes 0 == 168627466
-    then (if u32_at bytes 8 == 439041101 then Some Big else if u32_le_at bytes 8 == 439041101 then Some Little else None)
+    then (if u32_at bytes 8 == 439041101 then Some Big else if u32_le_at bytes 8 == 439041101
+        then Some Little else None)
     else Some order
 
 -- The bytes begin with the head of a block: its type, and its length, which is twelve bytes at least and a multiple of four.
@@ -71,36 +72,49 @@ fraction_of units ticks =
 abbrev pub time_of : ℕ → ℕ → Option Time
 time_of units ticks =
     if units == 0 then None
-    else Some (record { seconds = ticks / units; fraction = fraction_of units ticks; nanoseconds = not (units == 1000000) })
+    else Some (record { seconds = ticks / units; fraction = fraction_of units ticks;
+        nanoseconds = not (units == 1000000) })
 
 -- the interface of a packet: the older of two blocks has its number in two bytes
 abbrev pub interface_number : BlockHead → List ℕ → ℕ
-interface_number h block = if h.typ == 2 then first_half h.order (number_at h.order block 8) else number_at h.order block 8
+interface_number h block =
+    if h.typ == 2 then first_half h.order (number_at h.order block 8) else number_at h.order block 8
 
 abbrev pub ticks_at : Order → List ℕ → ℕ
 ticks_at order block = number_at order block 12 * 4294967296 + number_at order block 16
 
 -- a packet with an interface, a time and a length of its own
-pub record IsEnhanced (interfaces : List Interface) (h : BlockHead) (block : List ℕ) (r : Record) : Type 0 where
+pub record IsEnhanced (interfaces : List Interface) (h : BlockHead) (block : List ℕ)
+    (r : Record) : Type 0 where
   pub short : length block < 32 → r.frame ≡ Err BadBlock
-  pub unknown : 32 ≤ length block → length interfaces ≤ interface_number h block → r.frame ≡ Err NoInterface
-  pub cut : 32 ≤ length block → interface_number h block < length interfaces → length block < number_at h.order block 20 + 32 → r.frame ≡ Err BadBlock
-  pub whole : (i : Interface) → slice_get interfaces (interface_number h block) ≡ Some i → number_at h.order block 20 + 32 ≤ length block
-      → (r.time ≡ time_of i.units (ticks_at h.order block)) × (r.link_type ≡ i.link_type) × (r.frame ≡ Ok (slice_range block 28 (28 + number_at h.order block 20)))
+  pub unknown : 32 ≤ length block → length interfaces ≤ interface_number h block → r.frame
+      ≡ Err NoInterface
+  pub cut : 32 ≤ length block → interface_number h block < length interfaces → length block
+      < number_at h.order block 20 + 32 → r.frame ≡ Err BadBlock
+  pub whole : (i : Interface) → slice_get interfaces (interface_number h block) ≡ Some i
+      → number_at h.order block 20 + 32 ≤ length block
+      → (r.time ≡ time_of i.units (ticks_at h.order block)) × (r.link_type ≡ i.link_type)
+          × (r.frame ≡ Ok (slice_range block 28 (28 + number_at h.order block 20)))
 
 -- how many bytes there are of the frame in a block that says only how long it was
 abbrev pub simple_length : Order → Interface → List ℕ → ℕ → ℕ
-simple_length order i block room = if i.limit == 0 then min (number_at order block 8) room else min (min (number_at order block 8) room) i.limit
+simple_length order i block room =
+    if i.limit == 0 then min (number_at order block 8) room
+    else min (min (number_at order block 8) room) i.limit
 
 -- a packet of the first interface, with no time
-pub record IsSimple (interfaces : List Interface) (order : Order) (block : List ℕ) (r : Record) : Type 0 where
+pub record IsSimple (interfaces : List Interface) (order : Order) (block : List ℕ)
+    (r : Record) : Type 0 where
   pub short : length block < 16 → r.frame ≡ Err BadBlock
   pub unknown : 16 ≤ length block → interfaces ≡ [] → r.frame ≡ Err NoInterface
-  pub whole : (i : Interface) (room : ℕ) → slice_get interfaces 0 ≡ Some i → room + 16 ≡ length block
-      → (r.link_type ≡ i.link_type) × (r.frame ≡ Ok (slice_range block 12 (12 + simple_length order i block room)))
+  pub whole : (i : Interface) (room : ℕ) → slice_get interfaces 0 ≡ Some i → room + 16
+      ≡ length block
+      → (r.link_type ≡ i.link_type) × (r.frame
+          ≡ Ok (slice_range block 12 (12 + simple_length order i block room)))
 
 -- the record that the block of a packet is
-pub record IsPacket (interfaces : List Interface) (h : BlockHead) (block : List ℕ) (r : Record) : Type 0 where
+pub record IsPacket (interfaces : List Interface) (h : BlockHead) (block : List ℕ)
+    (r : Record) : Type 0 where
   pub simple : h.typ ≡ 3 → IsSimple interfaces h.order block r
   pub enhanced : h.typ ≢ 3 → IsEnhanced interfaces h block r
 
@@ -115,17 +129,24 @@ IsRefused fault r = IsSomeAnd r (λ x. x.frame ≡ Err fault)
 
 -- 4,096 interfaces of a section are kept
 abbrev pub with_interface : Known → Interface → Known
-with_interface k i = if ltb (length k.interfaces) 4096 then record { order = k.order; interfaces = k.interfaces ++ i ∷ []; is_lost = k.is_lost } else k
+with_interface k i =
+    if ltb (length k.interfaces) 4096 then
+    record { order = k.order; interfaces = k.interfaces ++ i ∷ []; is_lost = k.is_lost } else k
 
 -- a block that is read, by what there is of it
-pub record GivesRead (k : Known) (h : BlockHead) (block : List ℕ) (r : Option Record) (after : Known) : Type 0 where
+pub record GivesRead (k : Known) (h : BlockHead) (block : List ℕ) (r : Option Record)
+    (after : Known) : Type 0 where
   pub cut_off : length block < h.length → IsRefused CutOff r × (after ≡ k)
-  pub interface : h.length ≤ length block → h.typ ≡ 1 → (r ≡ None) × ((i : Interface) × IsInterface h.order block i × (after ≡ with_interface k i))
-  pub packet : h.length ≤ length block → h.typ ≢ 1 → IsSomeAnd r (IsPacket k.interfaces h block) × (after ≡ k)
+  pub interface : h.length ≤ length block → h.typ ≡ 1 → (r ≡ None)
+      × ((i : Interface) × IsInterface h.order block i × (after ≡ with_interface k i))
+  pub packet : h.length ≤ length block → h.typ ≢ 1 → IsSomeAnd r (IsPacket k.interfaces h block)
+      × (after ≡ k)
 
 -- the record that a block is, if it is one, and what is known behind it
-pub record Gives (k : Known) (h : BlockHead) (block : List ℕ) (r : Option Record) (after : Known) : Type 0 where
-  pub section : h.typ ≡ 168627466 → (r ≡ None) × (after ≡ record { order = h.order; interfaces = []; is_lost = k.is_lost })
+pub record Gives (k : Known) (h : BlockHead) (block : List ℕ) (r : Option Record)
+    (after : Known) : Type 0 where
+  pub section : h.typ ≡ 168627466 → (r ≡ None)
+      × (after ≡ record { order = h.order; interfaces = []; is_lost = k.is_lost })
   pub other : h.typ ≢ 168627466 → (IsRead h.typ → ⊥) → (r ≡ None) × (after ≡ k)
   pub too_long : IsRead h.typ → 262144 < h.length → IsRefused TooLong r × (after ≡ k)
   pub read : IsRead h.typ → h.length ≤ 262144 → GivesRead k h block r after
@@ -165,7 +186,8 @@ pub record IsHeaded (k : Known) (bytes : List ℕ) (p : Piece) : Type 0 where
 
 -- the block that the bytes begin with
 abbrev pub IsBlock : Known → List ℕ → Piece → Type 0
-IsBlock k bytes p = (k.is_lost ≡ false) × (IsCutHead k bytes p ⊎ (IsBadHead k bytes p ⊎ IsHeaded k bytes p))
+IsBlock k bytes p =
+    (k.is_lost ≡ false) × (IsCutHead k bytes p ⊎ (IsBadHead k bytes p ⊎ IsHeaded k bytes p))
 
 -- no block follows
 abbrev pub IsEnd : Known → List ℕ → Type 0

@@ -10,7 +10,8 @@ plain byte = if ltb byte 32 || ltb 126 byte || byte == 34 || byte == 92 then 63 
 
 -- a fact whose value stands as it is, behind what JSON begins it with
 unfoldable pub led_text : Form → List ℕ → List ℕ → List ℕ → List ℕ → List ℕ
-led_text Text lead label key value = codes "        " ++ (label ++ (codes ": " ++ (value ++ codes "\n")))
+led_text Text lead label key value =
+    codes "        " ++ (label ++ (codes ": " ++ (value ++ codes "\n")))
 led_text Json lead label key value = lead ++ (key ++ (codes "\":" ++ value))
 
 unfoldable pub number_text : Form → List ℕ → List ℕ → ℕ → List ℕ
@@ -18,7 +19,8 @@ number_text form label key value = led_text form (codes ",\"") label key (decima
 
 -- the first fact of a row, which is a number; in JSON the row is an object, and rows stand between commas
 unfoldable pub row_text : Form → Bool → List ℕ → List ℕ → ℕ → List ℕ
-row_text form is_first label key value = led_text form (if is_first then codes "{\"" else codes ",{\"") label key (decimal value)
+row_text form is_first label key value =
+    led_text form (if is_first then codes "{\"" else codes ",{\"") label key (decimal value)
 
 abbrev pub truth_word : Bool → List ℕ
 truth_word true = codes "true"
@@ -28,9 +30,14 @@ unfoldable pub truth_text : Form → List ℕ → List ℕ → Bool → List ℕ
 truth_text form label key value = led_text form (codes ",\"") label key (truth_word value)
 
 unfoldable pub bytes_text : Form → List ℕ → List ℕ → List ℕ → List ℕ
-bytes_text Text label key bytes = codes "        " ++ (label ++ (codes " (" ++ (decimal (length bytes) ++ (codes " bytes): " ++ (encode_lower bytes ++ codes "\n")))))
-bytes_text Json label key bytes = codes ",\"" ++ (key ++ (codes "\":\"" ++ (encode_lower bytes ++ codes "\"")))
+bytes_text Text label key bytes =
+    codes "        " ++ (label ++ (codes "
+    (" ++ (decimal (length bytes) ++ (codes " bytes): " ++ (encode_lower bytes ++ codes "\n")))))
+bytes_text Json label key bytes =
+    codes ",\"" ++ (key ++ (codes "\":\"" ++ (encode_lower bytes ++ codes "\"")))
 
 unfoldable pub words_text : Form → List ℕ → List ℕ → List ℕ → List ℕ
-words_text Text label key words = codes "        " ++ (label ++ (codes ": " ++ (words ++ codes "\n")))
-words_text Json label key words = codes ",\"" ++ (key ++ (codes "\":\"" ++ (map plain words ++ codes "\"")))
+words_text Text label key words =
+    codes "        " ++ (label ++ (codes ": " ++ (words ++ codes "\n")))
+words_text Json label key words =
+    codes ",\"" ++ (key ++ (codes "\":\"" ++ (map plain words ++ codes "\"")))

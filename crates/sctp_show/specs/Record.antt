@@ -34,7 +34,9 @@ abbrev pub entry_span : Head → List ℕ → ℕ
 entry_span h bytes = 16 + number_at h.order bytes 8
 
 abbrev pub time_at : Head → List ℕ → Time
-time_at h bytes = record { seconds = number_at h.order bytes 0; fraction = number_at h.order bytes 4; nanoseconds = h.nanoseconds }
+time_at h bytes =
+    record { seconds = number_at h.order bytes 0; fraction = number_at h.order bytes 4;
+    nanoseconds = h.nanoseconds }
 
 -- the entry that the bytes begin with: its frame is refused where it is cut off, or longer than 256 KiB
 pub record IsEntry (h : Head) (bytes : List ℕ) (r : Record) : Type 0 where
@@ -42,8 +44,10 @@ pub record IsEntry (h : Head) (bytes : List ℕ) (r : Record) : Type 0 where
   pub short : length bytes < 16 → (r.time ≡ None) × (r.frame ≡ Err CutOff)
   pub time : 16 ≤ length bytes → r.time ≡ Some (time_at h bytes)
   pub too_long : 16 ≤ length bytes → 16 + 262144 < entry_span h bytes → r.frame ≡ Err TooLong
-  pub cut_off : 16 ≤ length bytes → entry_span h bytes ≤ 16 + 262144 → length bytes < entry_span h bytes → r.frame ≡ Err CutOff
-  pub whole : entry_span h bytes ≤ 16 + 262144 → entry_span h bytes ≤ length bytes → r.frame ≡ Ok (slice_range bytes 16 (entry_span h bytes))
+  pub cut_off : 16 ≤ length bytes → entry_span h bytes ≤ 16 + 262144 → length bytes
+      < entry_span h bytes → r.frame ≡ Err CutOff
+  pub whole : entry_span h bytes ≤ 16 + 262144 → entry_span h bytes ≤ length bytes → r.frame
+      ≡ Ok (slice_range bytes 16 (entry_span h bytes))
 
 -- what follows an entry; nothing where it is cut off
 abbrev pub after_entry : Head → List ℕ → List ℕ
@@ -68,11 +72,15 @@ pub record IsLine (bytes : List ℕ) (r : Record) : Type 0 where
   pub link_type : r.link_type ≡ 248
   pub time : r.time ≡ None
   pub too_long : 524288 < length (line_in bytes) → r.frame ≡ Err TooLong
-  pub text : length (line_in bytes) ≤ 524288 → MatchResult (decode_of (line_in bytes)) (λ frame. r.frame ≡ Ok frame) (λ _. r.frame ≡ Err NotHex)
+  pub text : length (line_in bytes) ≤ 524288
+      → MatchResult (decode_of (line_in bytes)) (λ frame. r.frame ≡ Ok frame)
+      (λ _. r.frame ≡ Err NotHex)
 
 -- ---- both
 
 -- the next record, and what is left then; none at the end of the bytes
-abbrev pub IsNext : (List ℕ → Record → Type 0) → (List ℕ → List ℕ) → List ℕ → Option (List ℕ) → Option Record → Type 0
+abbrev pub IsNext : (List ℕ → Record → Type 0) → (List ℕ → List ℕ) → List ℕ → Option (List ℕ)
+    → Option Record → Type 0
 IsNext Is after bytes left None = bytes ≡ []
-IsNext Is after bytes left (Some r) = (0 < length bytes) × Is bytes r × Keeps (Some (after bytes)) left
+IsNext Is after bytes left (Some r) =
+    (0 < length bytes) × Is bytes r × Keeps (Some (after bytes)) left

@@ -15,20 +15,25 @@ use Rattle.sctp_show.specs.Text.{IsText, AreTexts}
 
 -- the format of an input, and what is left to read of it then
 abbrev pub IsOpened : Format → List ℕ → Option (List ℕ) → Type 0
-IsOpened Lines bytes left = ((h : Head) → IsHead bytes h → ⊥) × (IsBlocks bytes → ⊥) × Keeps (Some bytes) left
+IsOpened Lines bytes left =
+    ((h : Head) → IsHead bytes h → ⊥) × (IsBlocks bytes → ⊥) × Keeps (Some bytes) left
 IsOpened (Capture h) bytes left = IsHead bytes h × Keeps (Some (drop 24 bytes)) left
-IsOpened Blocks bytes left = ((h : Head) → IsHead bytes h → ⊥) × IsBlocks bytes × Keeps (Some bytes) left
+IsOpened Blocks bytes left =
+    ((h : Head) → IsHead bytes h → ⊥) × IsBlocks bytes × Keeps (Some bytes) left
 
 -- the piece that the bytes begin with: a line, an entry, or a block
 abbrev pub IsPiece : Format → Known → List ℕ → Piece → Type 0
-IsPiece Lines k bytes p = IsSomeAnd p.found (IsLine bytes) × (p.known ≡ k) × (p.left ≡ after_line bytes)
-IsPiece (Capture h) k bytes p = IsSomeAnd p.found (IsEntry h bytes) × (p.known ≡ k) × (p.left ≡ after_entry h bytes)
+IsPiece Lines k bytes p =
+    IsSomeAnd p.found (IsLine bytes) × (p.known ≡ k) × (p.left ≡ after_line bytes)
+IsPiece (Capture h) k bytes p =
+    IsSomeAnd p.found (IsEntry h bytes) × (p.known ≡ k) × (p.left ≡ after_entry h bytes)
 IsPiece Blocks k bytes p = IsBlock k bytes p
 
 -- the bytes are these pieces and then a rest, at which so much is known
 unfoldable pub Pieces : Format → Known → List ℕ → List Piece → Known → List ℕ → Type 0
 Pieces format k bytes [] after rest = (k ≡ after) × (bytes ≡ rest)
-Pieces format k bytes (p ∷ ps) after rest = (0 < length bytes) × IsPiece format k bytes p × Pieces format p.known p.left ps after rest
+Pieces format k bytes (p ∷ ps) after rest =
+    (0 < length bytes) × IsPiece format k bytes p × Pieces format p.known p.left ps after rest
 
 abbrev pub records_of : List Piece → List Record
 records_of pieces = flat_map (λ p. option_to_list p.found) pieces
@@ -50,7 +55,9 @@ pub record IsInput (bytes : List ℕ) (records : List Record) : Type 0 where
 
 -- what was taken is the next piece, behind which so much is known and left; or no piece follows
 abbrev pub IsTaken : Format → Known → List ℕ → Option Record → Known → Option (List ℕ) → Type 0
-IsTaken format k bytes found after left = (p : Piece) × (0 < length bytes) × IsPiece format k bytes p × (p.found ≡ found) × (p.known ≡ after) × Keeps (Some p.left) left
+IsTaken format k bytes found after left =
+    (p : Piece) × (0 < length bytes) × IsPiece format k bytes p × (p.found ≡ found)
+    × (p.known ≡ after) × Keeps (Some p.left) left
 
 abbrev pub Takes : Format → Known → List ℕ → Taken → Known → Option (List ℕ) → Type 0
 Takes format k bytes (taken.Record r) after left = IsTaken format k bytes (Some r) after left
@@ -64,8 +71,11 @@ taken_by None = taken.End
 
 -- the text of the record, and nothing else, was written
 abbrev pub PrintsRecord : Form → ℕ → Record → Option (List ℕ) → Option (List ℕ) → Type 0
-PrintsRecord form number r old new = (text : List ℕ) × IsText form number r text × Appends old new text
+PrintsRecord form number r old new =
+    (text : List ℕ) × IsText form number r text × Appends old new text
 
 -- the text of each record was written, in order, and then one line
 abbrev pub Prints : Form → List Record → Option (List ℕ) → Option (List ℕ) → Type 0
-Prints form records old new = (texts : List (List ℕ)) × (ending : List ℕ) × AreTexts form 1 records texts × Appends old new (concat texts ++ ending)
+Prints form records old new =
+    (texts : List (List ℕ)) × (ending : List ℕ) × AreTexts form 1 records texts
+    × Appends old new (concat texts ++ ending)

@@ -24,16 +24,23 @@ numbered_text Json number shown = codes "{\"record\":" ++ (decimal number ++ sho
 
 -- a record of which no packet is shown, and why
 abbrev pub refused_text : Form → ℕ → Fault → List ℕ
-refused_text Text number fault = decimal number ++ (codes " not shown: " ++ (fault_text fault ++ codes "\n"))
-refused_text Json number fault = codes "{\"record\":" ++ (decimal number ++ (codes ",\"not_shown\":\"" ++ (fault_text fault ++ codes "\"}\n")))
+refused_text Text number fault =
+    decimal number ++ (codes " not shown: " ++ (fault_text fault ++ codes "\n"))
+refused_text Json number fault =
+    codes "{\"record\":" ++ (decimal number
+    ++ (codes ",\"not_shown\":\"" ++ (fault_text fault ++ codes "\"}\n")))
 
 -- The text of a record with a frame: its number, and then what the frame shows, or why nothing of it is shown.
 abbrev pub IsFrameText : Form → ℕ → List ℕ → Type 0
-IsFrameText form number text = ((shown : List ℕ) × (text ≡ numbered_text form number shown)) ⊎ ((fault : Fault) × (text ≡ refused_text form number fault))
+IsFrameText form number text =
+    ((shown : List ℕ) × (text ≡ numbered_text form number shown))
+    ⊎ ((fault : Fault) × (text ≡ refused_text form number fault))
 
 -- the text of a record
 abbrev pub IsText : Form → ℕ → Record → List ℕ → Type 0
-IsText form number r text = MatchResult r.frame (λ frame. IsFrameText form number text) (λ fault. text ≡ refused_text form number fault)
+IsText form number r text =
+    MatchResult r.frame (λ frame. IsFrameText form number text)
+    (λ fault. text ≡ refused_text form number fault)
 
 -- the texts of the records, in order, whose first has this number
 abbrev pub AreTexts : Form → ℕ → List Record → List (List ℕ) → Type 0

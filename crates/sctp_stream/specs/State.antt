@@ -22,4 +22,6 @@ finished Writable = Closed
 finished Closed = Closed
 
 abbrev pub state_from : ℕ → RecvSendState
-state_from n = if n == 1 then Readable else (if n == 2 then Writable else (if n == 3 then ReadWritable else Closed))
+state_from n =
+    if n == 1 then Readable else (if n == 2 then Writable
+    else (if n == 3 then ReadWritable else Closed))

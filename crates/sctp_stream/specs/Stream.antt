@@ -22,7 +22,8 @@ is_ordered unordered BinaryEmpty = not unordered
 is_ordered unordered Unknown = not unordered
 
 -- a fragment as a stream makes it: it has no TSN yet
-abbrev pub fragment : StreamState → PayloadProtocolIdentifier → Bool → Bool → List ℕ → ChunkPayloadData
+abbrev pub fragment : StreamState → PayloadProtocolIdentifier → Bool → Bool → List ℕ
+    → ChunkPayloadData
 fragment s ppi begins ends bytes = record {
   unordered = not (is_ordered s.unordered ppi);
   beginning_fragment = begins;
@@ -50,21 +51,28 @@ cut s bytes = pieces (length bytes) s.max_payload_size bytes
 
 -- fragment i of a write: the first begins, the last ends
 abbrev pub fragment_at : StreamState → PayloadProtocolIdentifier → List ℕ → ℕ → ChunkPayloadData
-fragment_at s ppi bytes i = fragment s ppi (i == 0) (i + 1 == length (cut s bytes)) (slice_index_or (cut s bytes) i [])
+fragment_at s ppi bytes i =
+    fragment s ppi (i == 0) (i + 1 == length (cut s bytes)) (slice_index_or (cut s bytes) i [])
 
 abbrev pub fragments_of : StreamState → PayloadProtocolIdentifier → List ℕ → List ChunkPayloadData
 fragments_of s ppi bytes = map (fragment_at s ppi bytes) (numbers_from 0 (length (cut s bytes)))
 
 -- an ordered write of some bytes takes a number, which wraps
 abbrev pub number_after : StreamState → PayloadProtocolIdentifier → List ℕ → ℕ
-number_after s ppi bytes = if is_ordered s.unordered ppi && nat_lt 0 (length bytes) then (s.sequence_number + 1) % 2 ^ 16 else s.sequence_number
+number_after s ppi bytes =
+    if is_ordered s.unordered ppi && nat_lt 0 (length bytes) then (s.sequence_number + 1) % 2 ^ 16
+    else s.sequence_number
 
 abbrev pub after_write : StreamState → PayloadProtocolIdentifier → List ℕ → StreamState
-after_write s ppi bytes = record s { sequence_number = number_after s ppi bytes; buffered_amount = count_up s.buffered_amount (length bytes) }
+after_write s ppi bytes =
+    record s { sequence_number = number_after s ppi bytes;
+    buffered_amount = count_up s.buffered_amount (length bytes) }
 
 -- the amount rose from under the high threshold to at least it
 abbrev pub rises_high : StreamState → ℕ → Bool
-rises_high s more = nat_lt s.buffered_amount s.buffered_amount_high && nat_le s.buffered_amount_high (count_up s.buffered_amount more)
+rises_high s more =
+    nat_lt s.buffered_amount s.buffered_amount_high
+    && nat_le s.buffered_amount_high (count_up s.buffered_amount more)
 
 -- ## Released bytes
 
@@ -74,18 +82,24 @@ released (negsuc n) = 0
 
 -- the amount fell from over the low threshold to at most it
 abbrev pub falls_low : StreamState → ℕ → Bool
-falls_low s less = nat_lt 0 less && (nat_lt s.buffered_amount_low s.buffered_amount && nat_le (s.buffered_amount - less) s.buffered_amount_low)
+falls_low s less =
+    nat_lt 0 less && (nat_lt s.buffered_amount_low s.buffered_amount
+    && nat_le (s.buffered_amount - less) s.buffered_amount_low)
 
 -- ## A new stream
 
 abbrev pub new_stream : ℕ → ℕ → ℕ → PayloadProtocolIdentifier → StreamState
 new_stream id size max ppi = record {
-  stats = record { stream_identifier = id; generation = 0; messages_sent = 0; bytes_sent = 0; messages_received = 0; bytes_received = 0 };
+  stats =
+      record { stream_identifier = id; generation = 0; messages_sent = 0; bytes_sent = 0;
+      messages_received = 0; bytes_received = 0 };
   first_message_id = 0;
   max_payload_size = size;
   stream_identifier = id;
   default_payload_type = ppi;
-  reassembly_queue = record { si = id; held = record { next_ssn = 0; ordered = []; unordered = []; unassembled = [] }; bytes = 0; max_message_size = max };
+  reassembly_queue =
+      record { si = id; held = record { next_ssn = 0; ordered = []; unordered = [];
+      unassembled = [] }; bytes = 0; max_message_size = max };
   sequence_number = 0;
   state = ReadWritable;
   unordered = false;

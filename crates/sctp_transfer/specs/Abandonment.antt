@@ -27,7 +27,9 @@ is_kept c = not c.abandoned
 
 -- the TSN before the first in flight whose message is not abandoned; where there is none, the last that was given out
 abbrev pub advanced_ack_point : Flight → ℕ
-advanced_ack_point f = preceding_tsn (unwrap_or (option_map (λ c. c.tsn) (find is_kept f.queue.inflight.chunks)) f.next_tsn)
+advanced_ack_point f =
+    preceding_tsn (unwrap_or (option_map (λ c. c.tsn)
+    (find is_kept f.queue.inflight.chunks)) f.next_tsn)
 
 -- how far a TSN is past the acknowledged one
 abbrev pub ahead : Flight → ℕ → ℕ
@@ -61,7 +63,8 @@ Name pairs cs = (s : ℕ) → those (is_pair_of s) pairs ≡ pairs_of (last_of (
 
 -- none of the first so many pairs is of the stream
 abbrev pub IsNoPair : ℕ → List ChunkForwardTsnStream → ℕ → Type 0
-IsNoPair s pairs count = (k : ℕ) (d : ChunkForwardTsnStream) → k < count → is_pair_of s (get_or pairs k d) ≡ false
+IsNoPair s pairs count =
+    (k : ℕ) (d : ChunkForwardTsnStream) → k < count → is_pair_of s (get_or pairs k d) ≡ false
 
 -- the first pair of the stream stands there
 pub record IsFirstPair (s : ℕ) (pairs : List ChunkForwardTsnStream) (k : ℕ) : Type 0 where

@@ -31,7 +31,8 @@ tsns_from tsn (suc count) = tsn ∷ tsns_from (following_tsn tsn) count
 -- each TSN from the one behind the acknowledged ones to the one before the next is in flight: fewer than half the circle
 pub record IsContiguous (f : Flight) : Type 0 where
   pub in_range : f.acked_tsn < 2 ^ 32
-  pub run : tsns f.queue.inflight.chunks ≡ tsns_from (following_tsn f.acked_tsn) (length f.queue.inflight.chunks)
+  pub run : tsns f.queue.inflight.chunks
+      ≡ tsns_from (following_tsn f.acked_tsn) (length f.queue.inflight.chunks)
   pub next : f.next_tsn ≡ (f.acked_tsn + 1 + length f.queue.inflight.chunks) % 2 ^ 32
   pub few : length f.queue.inflight.chunks < 2 ^ 31
 
@@ -42,7 +43,9 @@ with_queue f queue = record f { queue = queue }
 abbrev pub at_first : ℕ → Flight
 at_first tsn = record {
   queue = record {
-    pending = record { ordered = []; unordered = []; selected = None; ordered_room = 0; unordered_room = 0 };
+    pending =
+        record { ordered = []; unordered = []; selected = None; ordered_room = 0;
+        unordered_room = 0 };
     inflight = record { chunks = []; duplicates = []; room = 0 };
     next_message_id = 0;
     next_unstarted = 0;
@@ -63,7 +66,8 @@ may_send f = nat_lt (length f.queue.inflight.chunks + 1) (2 ^ 31)
 
 -- the next TSN goes up where something waits
 abbrev pub next_after_send : Flight → ℕ
-next_after_send f = if is_some (peeked f.queue.pending) then following_tsn f.next_tsn else f.next_tsn
+next_after_send f =
+    if is_some (peeked f.queue.pending) then following_tsn f.next_tsn else f.next_tsn
 
 -- in flight, and neither acknowledged nor abandoned
 abbrev pub is_outstanding_in : Option ChunkPayloadData → Bool
@@ -75,13 +79,17 @@ can_resend tsn f = is_outstanding_in (find (has_tsn tsn) f.queue.inflight.chunks
 
 -- a chunk is sent once more, counted up to the greatest number of 32 bits
 abbrev pub resent : ℕ → ChunkPayloadData → Flight → Flight
-resent tsn c f = with_queue f (with_inflight f.queue (change_where (has_tsn tsn) (with_nsent (min (c.nsent + 1) (2 ^ 32 - 1))) f.queue.inflight.chunks))
+resent tsn c f =
+    with_queue f (with_inflight f.queue (change_where (has_tsn tsn)
+    (with_nsent (min (c.nsent + 1) (2 ^ 32 - 1))) f.queue.inflight.chunks))
 
 -- ## A SACK
 
 -- it reports the chunk: cumulatively, or in a gap ack block
 abbrev pub reports : Sack → ChunkPayloadData → Bool
-reports s c = at_or_before c.tsn s.cumulative_tsn_ack || covered s.gap_ack_blocks (distance s.cumulative_tsn_ack c.tsn)
+reports s c =
+    at_or_before c.tsn s.cumulative_tsn_ack
+    || covered s.gap_ack_blocks (distance s.cumulative_tsn_ack c.tsn)
 
 -- it reports it, and no earlier one did
 abbrev pub reports_anew : Sack → ChunkPayloadData → Bool
@@ -103,14 +111,19 @@ is_within left b = nat_lt b.end b.start || (nat_lt 0 b.start && nat_le b.end lef
 abbrev pub sack_refusal : Sack → Flight → Option SenderRefusal
 sack_refusal s f =
     if is_outdated s f then None else (
-    if nat_lt (length f.queue.inflight.chunks) (count_acked s f) then Some InflightQueueTsnPop else (
-    if list_all (is_within (length f.queue.inflight.chunks - count_acked s f)) s.gap_ack_blocks then None else Some TsnRequestNotExist
+    if nat_lt (length f.queue.inflight.chunks) (count_acked s f) then Some InflightQueueTsnPop
+        else (
+    if list_all (is_within (length f.queue.inflight.chunks - count_acked s f)) s.gap_ack_blocks
+        then None else Some TsnRequestNotExist
     )
     )
 
 -- what it reports anew is acknowledged, and what it reports cumulatively is in flight no more
 abbrev pub taken : Sack → Flight → Flight
-taken s f = record f { queue = with_inflight f.queue (past s.cumulative_tsn_ack (change_where (reports_anew s) acknowledged f.queue.inflight.chunks)); acked_tsn = s.cumulative_tsn_ack }
+taken s f =
+    record f { queue = with_inflight f.queue
+    (past s.cumulative_tsn_ack (change_where
+    (reports_anew s) acknowledged f.queue.inflight.chunks)); acked_tsn = s.cumulative_tsn_ack }
 
 abbrev pub after_sack : Sack → Flight → Flight
 after_sack s f = if is_outdated s f then f else taken s f
@@ -120,7 +133,8 @@ abbrev pub released_of : ChunkPayloadData → Released
 released_of c = record { stream = c.stream_identifier; bytes = length c.user_data }
 
 abbrev pub released_by : Sack → Flight → List Released
-released_by s f = if is_outdated s f then [] else map released_of (those (reports_anew s) f.queue.inflight.chunks)
+released_by s f =
+    if is_outdated s f then [] else map released_of (those (reports_anew s) f.queue.inflight.chunks)
 
 -- ## Abandoning
 

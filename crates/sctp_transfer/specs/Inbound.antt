@@ -23,8 +23,12 @@ numbers_of ls = map number ls
 -- a stream on which nothing came
 abbrev pub new_stream : ℕ → ℕ → InboundStream
 new_stream s max = record {
-  queue = record { si = s; held = record { next_ssn = 0; ordered = []; unordered = []; unassembled = [] }; bytes = 0; max_message_size = max };
-  stats = record { stream_identifier = s; generation = 0; messages_sent = 0; bytes_sent = 0; messages_received = 0; bytes_received = 0 };
+  queue =
+      record { si = s; held = record { next_ssn = 0; ordered = []; unordered = [];
+      unassembled = [] }; bytes = 0; max_message_size = max };
+  stats =
+      record { stream_identifier = s; generation = 0; messages_sent = 0; bytes_sent = 0;
+      messages_received = 0; bytes_received = 0 };
 }
 
 abbrev pub with_queue : ReassemblyState → InboundStream → InboundStream
@@ -55,7 +59,8 @@ counted None stats = stats
 counted (Some set) stats = with_received (counted_bytes set.ppi (bytes_of set.chunks)) stats
 
 abbrev pub stream_read : InboundStream → InboundStream
-stream_read l = record l { queue = state_read l.queue; stats = counted (message_read l.queue.held) l.stats }
+stream_read l =
+    record l { queue = state_read l.queue; stats = counted (message_read l.queue.held) l.stats }
 
 -- ## A FORWARD-TSN comes
 
@@ -65,7 +70,8 @@ ssn_forwarded ssn l = record l { queue = after_ordered_skip ssn l.queue }
 -- one name after another
 abbrev pub named_forwarded : List ChunkForwardTsnStream → List InboundStream → List InboundStream
 named_forwarded [] ls = ls
-named_forwarded (n ∷ ns) ls = named_forwarded ns (change_where (has_number n.identifier) (ssn_forwarded n.sequence) ls)
+named_forwarded (n ∷ ns) ls =
+    named_forwarded ns (change_where (has_number n.identifier) (ssn_forwarded n.sequence) ls)
 
 -- the stream sequence numbers that the names have for a stream, in their order
 abbrev pub ssns_of : ℕ → List ChunkForwardTsnStream → List ℕ

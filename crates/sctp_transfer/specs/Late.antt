@@ -22,11 +22,15 @@ abandoned_each (tsn ∷ tsns) f = abandoned_each tsns (abandoned_at tsn f)
 -- what is told of a message that is abandoned with its chunk, and of none that was abandoned before
 abbrev pub abandoned_with : Option ChunkPayloadData → ℕ → List AbandonedMessage
 abandoned_with None bytes = []
-abandoned_with (Some c) bytes = if c.abandoned then [] else record { stream = c.stream_identifier; number = c.message_id; bytes = bytes } ∷ []
+abandoned_with (Some c) bytes =
+    if c.abandoned then [] else record { stream = c.stream_identifier; number = c.message_id;
+    bytes = bytes } ∷ []
 
 -- the message of a TSN, with the bytes that leave with it
 abbrev pub leaving_at : ℕ → Flight → List AbandonedMessage
-leaving_at tsn f = abandoned_with (find (has_tsn tsn) f.queue.inflight.chunks) (total_bytes f.queue - total_bytes (abandoned_at tsn f).queue)
+leaving_at tsn f =
+    abandoned_with (find (has_tsn tsn) f.queue.inflight.chunks)
+    (total_bytes f.queue - total_bytes (abandoned_at tsn f).queue)
 
 abbrev pub leaving_each : List ℕ → Flight → List AbandonedMessage
 leaving_each [] f = []

@@ -19,19 +19,24 @@ abbrev pub numbers_of : List StreamState → List ℕ
 numbers_of ls = map number ls
 
 abbrev pub with_mode : Bool → ReliabilityType → ℕ → StreamState → StreamState
-with_mode unordered reliability value l = record l { unordered = unordered; reliability_type = reliability; reliability_value = value }
+with_mode unordered reliability value l =
+    record l { unordered = unordered; reliability_type = reliability; reliability_value = value }
 
 -- a fragment with the mode of its stream
 abbrev pub with_reliability : ReliabilityType → ℕ → ChunkPayloadData → ChunkPayloadData
 with_reliability reliability value c = record c { reliability = Some (reliability, value) }
 
 -- the fragments of a write, each with the mode of the stream
-abbrev pub fragments_with_mode : StreamState → PayloadProtocolIdentifier → List ℕ → List ChunkPayloadData
-fragments_with_mode l ppi bytes = map (with_reliability l.reliability_type l.reliability_value) (fragments_of l ppi bytes)
+abbrev pub fragments_with_mode : StreamState → PayloadProtocolIdentifier → List ℕ
+    → List ChunkPayloadData
+fragments_with_mode l ppi bytes =
+    map (with_reliability l.reliability_type l.reliability_value) (fragments_of l ppi bytes)
 
 -- a write was accepted: an ordered one takes the number, its bytes wait, and it is counted
 abbrev pub wrote : PayloadProtocolIdentifier → List ℕ → StreamState → StreamState
-wrote ppi bytes l = record (after_write l ppi bytes) { stats = with_sent (counted_bytes ppi (length bytes)) l.stats }
+wrote ppi bytes l =
+    record (after_write l ppi bytes) { stats = with_sent
+    (counted_bytes ppi (length bytes)) l.stats }
 
 -- so many bytes wait and are in flight no more
 abbrev pub less_by : ℕ → StreamState → StreamState
@@ -45,4 +50,5 @@ released (r ∷ rs) ls = released rs (change_where (has_number r.stream) (less_b
 -- a message that was not sent is gone: the next write takes the number of an ordered one
 abbrev pub expired : Bool → ℕ → StreamState → StreamState
 expired true bytes l = less_by bytes l
-expired false bytes l = record (less_by bytes l) { sequence_number = (l.sequence_number + (2 ^ 16 - 1)) % 2 ^ 16 }
+expired false bytes l =
+    record (less_by bytes l) { sequence_number = (l.sequence_number + (2 ^ 16 - 1)) % 2 ^ 16 }

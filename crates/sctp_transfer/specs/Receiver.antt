@@ -29,14 +29,19 @@ pub record Reception : Type 0 where
 
 -- nothing came: the first TSN is expected next
 abbrev pub at_first : ℕ → ℕ → Reception
-at_first tsn max = record { streams = []; cumulative_tsn = preceding_tsn tsn; beyond = []; duplicates = []; max_message_size = max }
+at_first tsn max =
+    record { streams = []; cumulative_tsn = preceding_tsn tsn; beyond = []; duplicates = [];
+    max_message_size = max }
 
 -- its TSNs
 abbrev pub filter_of : Reception → Filter
-filter_of r = record { cumulative_tsn = r.cumulative_tsn; beyond = r.beyond; duplicates = r.duplicates; room = 0 }
+filter_of r =
+    record { cumulative_tsn = r.cumulative_tsn; beyond = r.beyond; duplicates = r.duplicates;
+    room = 0 }
 
 abbrev pub with_filter : Filter → Reception → Reception
-with_filter f r = record r { cumulative_tsn = f.cumulative_tsn; beyond = f.beyond; duplicates = f.duplicates }
+with_filter f r =
+    record r { cumulative_tsn = f.cumulative_tsn; beyond = f.beyond; duplicates = f.duplicates }
 
 -- ## Streams
 
@@ -62,7 +67,10 @@ stream_refusal c (Some l) = if is_too_large c l.queue then Some MessageTooLarge 
 
 -- why a chunk is not taken: of one whose TSN came nothing but that is told
 abbrev pub data_refusal : ChunkPayloadData → Reception → Option ReceiverRefusal
-data_refusal c r = if has_come c.tsn (filter_of r) then None else (if is_opposite c.tsn (filter_of r) then Some TsnOpposite else stream_refusal c (stream_of c.stream_identifier r))
+data_refusal c r =
+    if has_come c.tsn (filter_of r) then None
+    else (if is_opposite c.tsn (filter_of r) then Some TsnOpposite
+    else stream_refusal c (stream_of c.stream_identifier r))
 
 -- a refusal by its reason where there is one, and for memory only where there is none
 abbrev pub IsRefusedFor : Option ReceiverRefusal → ReceiverRefusal → Type 0
@@ -74,7 +82,9 @@ pub record Accepts (c : ChunkPayloadData) (old new : Reception) : Type 0 where
   pub found : stream_of c.stream_identifier old ≡ Some stream
   pub queue : ReassemblyState
   pub pushed : Pushes c stream.queue queue
-  pub after : new ≡ with_filter (with_tsn c.tsn (filter_of old)) (record old { streams = change_where (has_number c.stream_identifier) (with_queue queue) old.streams })
+  pub after : new ≡ with_filter (with_tsn c.tsn (filter_of old))
+      (record old { streams = change_where (has_number c.stream_identifier)
+      (with_queue queue) old.streams })
 
 -- a TSN that came comes again
 abbrev pub repeated : ℕ → Reception → Reception
@@ -96,12 +106,14 @@ pub record TakesFirst (c : ChunkPayloadData) (a : Arrival) (old mid : Reception)
 
 abbrev pub TakesEach : List ChunkPayloadData → List Arrival → Reception → Reception → Type 0
 TakesEach [] [] old new = new ≡ old
-TakesEach (c ∷ cs) (a ∷ answers) old new = (mid : Reception) × (TakesFirst c a old mid × TakesEach cs answers mid new)
+TakesEach (c ∷ cs) (a ∷ answers) old new =
+    (mid : Reception) × (TakesFirst c a old mid × TakesEach cs answers mid new)
 TakesEach [] (a ∷ answers) old new = ⊥
 TakesEach (c ∷ cs) [] old new = ⊥
 
 -- so many of them are taken, and the next one is refused for this reason
-pub record StopsAt (cs : List ChunkPayloadData) (old : Reception) (e : ReceiverRefusal) : Type 0 where
+pub record StopsAt (cs : List ChunkPayloadData) (old : Reception)
+    (e : ReceiverRefusal) : Type 0 where
   pub count : ℕ
   pub arrivals : List Arrival
   pub mid : Reception
@@ -112,7 +124,9 @@ pub record StopsAt (cs : List ChunkPayloadData) (old : Reception) (e : ReceiverR
 
 -- whether memory may be asked for: a duplicate is to be noted, or a fragment to be kept
 abbrev pub takes_memory : ChunkPayloadData → Reception → Bool
-takes_memory c r = has_come c.tsn (filter_of r) || (not (is_opposite c.tsn (filter_of r)) && is_open c.stream_identifier r)
+takes_memory c r =
+    has_come c.tsn (filter_of r) || (not (is_opposite c.tsn (filter_of r))
+    && is_open c.stream_identifier r)
 
 -- ## SACK
 
@@ -154,12 +168,16 @@ abbrev pub is_stale : ForwardTsn → Reception → Bool
 is_stale f r = at_or_before f.new_cumulative_tsn r.cumulative_tsn
 
 abbrev pub forward_refusal : ForwardTsn → Reception → Option ReceiverRefusal
-forward_refusal f r = if is_opposite f.new_cumulative_tsn (filter_of r) then Some TsnOpposite else None
+forward_refusal f r =
+    if is_opposite f.new_cumulative_tsn (filter_of r) then Some TsnOpposite else None
 
 -- all up to its TSN counts as come: each stream that it names discards what is named, one name after another, and all
 -- streams discard the unassembled fragments
 abbrev pub followed : ForwardTsn → Reception → Reception
-followed f r = with_filter (skipped_to f.new_cumulative_tsn (filter_of r)) (record r { streams = map (unassembled_forwarded f.new_cumulative_tsn) (named_forwarded f.streams r.streams) })
+followed f r =
+    with_filter (skipped_to f.new_cumulative_tsn (filter_of r))
+    (record r { streams = map (unassembled_forwarded f.new_cumulative_tsn)
+    (named_forwarded f.streams r.streams) })
 
 abbrev pub forwarded_of : ForwardTsn → Reception → Forwarded
 forwarded_of f r = if is_stale f r then Stale else Skipped

@@ -75,7 +75,8 @@ at_start tsn max = record { receiver = at_first tsn max; accepted = []; read = [
 
 -- P after each run of calls on a new receiver, whatever the chunks that come
 abbrev pub AfterEachRun : (Stand → Type 0) → Type 0
-AfterEachRun P = (tsn max : ℕ) (calls : List Call) (s : Stand) → RunsTo (at_start tsn max) calls s → P s
+AfterEachRun P =
+    (tsn max : ℕ) (calls : List Call) (s : Stand) → RunsTo (at_start tsn max) calls s → P s
 
 -- ## The law
 
@@ -86,7 +87,8 @@ AreWhole s = list_all (λ m. is_complete m.fragments) s.read ≡ true
 -- the fragments of the messages that were read on a stream
 abbrev pub fragments_read : ℕ → List Message → List ChunkPayloadData
 fragments_read stream [] = []
-fragments_read stream (m ∷ ms) = if m.stream == stream then m.fragments ++ fragments_read stream ms else fragments_read stream ms
+fragments_read stream (m ∷ ms) =
+    if m.stream == stream then m.fragments ++ fragments_read stream ms else fragments_read stream ms
 
 abbrev pub is_on : ℕ → ChunkPayloadData → Bool
 is_on stream c = c.stream_identifier == stream
@@ -94,4 +96,6 @@ is_on stream c = c.stream_identifier == stream
 -- however chunks are weighed, the fragments that were read on a stream weigh no more than the chunks that were taken on it:
 -- so each was taken there, and none of them serves twice
 abbrev pub WereAccepted : Stand → Type 0
-WereAccepted s = (stream : ℕ) (weight : ChunkPayloadData → ℕ) → sum_by weight (fragments_read stream s.read) ≤ sum_by weight (those (is_on stream) s.accepted)
+WereAccepted s =
+    (stream : ℕ) (weight : ChunkPayloadData → ℕ) → sum_by weight (fragments_read stream s.read)
+    ≤ sum_by weight (those (is_on stream) s.accepted)

@@ -24,7 +24,8 @@ pub record Transmission : Type 0 where
   pub max_message_size : ℕ
 
 abbrev pub with_nothing : ℕ → ℕ → ℕ → Transmission
-with_nothing tsn size max = record { streams = []; flight = at_first tsn; fragment_size = size; max_message_size = max }
+with_nothing tsn size max =
+    record { streams = []; flight = at_first tsn; fragment_size = size; max_message_size = max }
 
 abbrev pub stream_of : ℕ → Transmission → Option StreamState
 stream_of s t = find (has_number s) t.streams
@@ -39,30 +40,36 @@ abbrev pub with_flight : Flight → Transmission → Transmission
 with_flight f t = record t { flight = f }
 
 abbrev pub opened : ℕ → Transmission → Transmission
-opened s t = with_streams (t.streams ++ new_stream s t.fragment_size t.max_message_size Unknown ∷ []) t
+opened s t =
+    with_streams (t.streams ++ new_stream s t.fragment_size t.max_message_size Unknown ∷ []) t
 
 -- the stream is open no more; what waits and is in flight stays
 abbrev pub closed : ℕ → Transmission → Transmission
 closed s t = with_streams (those (λ l. not (has_number s l)) t.streams) t
 
 abbrev pub with_mode_on : ℕ → Bool → ReliabilityType → ℕ → Transmission → Transmission
-with_mode_on s unordered reliability value t = with_streams (change_where (has_number s) (with_mode unordered reliability value) t.streams) t
+with_mode_on s unordered reliability value t =
+    with_streams (change_where (has_number s) (with_mode unordered reliability value) t.streams) t
 
 -- ## Writing
 
 -- numbers of messages or bytes are used up
 abbrev pub is_full_of : ℕ → Outbound → Bool
-is_full_of len q = not (nat_lt (q.next_message_id + 1) (2 ^ 64)) || not (nat_lt (total_bytes q + len) (2 ^ 64))
+is_full_of len q =
+    not (nat_lt (q.next_message_id + 1) (2 ^ 64)) || not (nat_lt (total_bytes q + len) (2 ^ 64))
 
 abbrev pub is_full : ℕ → Transmission → Bool
 is_full len t = is_full_of len t.flight.queue
 
 abbrev pub write_refusal : ℕ → ℕ → Transmission → Option SenderRefusal
 write_refusal s len t =
-    if not (is_open s t) then Some StreamUnknown else (if nat_lt t.max_message_size len then Some MessageTooLarge else (if is_full len t then Some QueueFull else None))
+    if not (is_open s t) then Some StreamUnknown
+        else (if nat_lt t.max_message_size len then Some MessageTooLarge
+        else (if is_full len t then Some QueueFull else None))
 
 -- the fragments of a write wait; one of no bytes changes nothing
-abbrev pub written_to : StreamState → ℕ → PayloadProtocolIdentifier → List ℕ → Transmission → Transmission
+abbrev pub written_to : StreamState → ℕ → PayloadProtocolIdentifier → List ℕ → Transmission
+    → Transmission
 written_to l s ppi bytes t = record t {
   streams = change_where (has_number s) (wrote ppi bytes) t.streams;
   flight = with_queue t.flight (with_message (fragments_with_mode l ppi bytes) t.flight.queue);
@@ -77,7 +84,9 @@ with_tsn tsn c = record c { tsn = tsn }
 -- ## A SACK
 
 abbrev pub after_acked : Sack → Transmission → Transmission
-after_acked s t = record t { streams = released (released_by s t.flight) t.streams; flight = after_sack s t.flight }
+after_acked s t =
+    record t { streams = released (released_by s t.flight) t.streams;
+    flight = after_sack s t.flight }
 
 -- ## Abandoning
 

@@ -39,9 +39,12 @@ bytes_of_all gs = sum_by (λ g. g.bytes) gs
 -- of what each call ensures, the part on which bytes depend
 abbrev pub Makes : Call → Transmission → Transmission → Type 0
 Makes (opens stream) old new = new ≡ opened stream old
-Makes (sets_mode stream unordered reliability value) old new = new ≡ with_mode_on stream unordered reliability value old
-Makes (starts now) old new = new ≡ with_flight (with_queue old.flight (all_started now old.flight.queue)) old
-Makes (reserves count) old new = new ≡ with_flight (with_queue old.flight (with_room count old.flight.queue)) old
+Makes (sets_mode stream unordered reliability value) old new =
+    new ≡ with_mode_on stream unordered reliability value old
+Makes (starts now) old new =
+    new ≡ with_flight (with_queue old.flight (all_started now old.flight.queue)) old
+Makes (reserves count) old new =
+    new ≡ with_flight (with_queue old.flight (with_room count old.flight.queue)) old
 Makes (resends tsn c) old new = new ≡ with_flight (resent tsn c old.flight) old
 Makes (writes bytes) old new = held_by_sender new ≡ held_by_sender old + length bytes
 Makes sends old new = held_by_sender new ≡ held_by_sender old
@@ -82,7 +85,9 @@ at_start tsn size max = record { sender = with_nothing tsn size max; written = 0
 
 -- P after each run of calls on a new sender
 abbrev pub AfterEachRun : (Ledger → Type 0) → Type 0
-AfterEachRun P = (tsn size max : ℕ) (calls : List Call) (l : Ledger) → RunsTo (at_start tsn size max) calls l → P l
+AfterEachRun P =
+    (tsn size max : ℕ) (calls : List Call) (l : Ledger) → RunsTo (at_start tsn size max) calls l
+    → P l
 
 -- ## The law
 

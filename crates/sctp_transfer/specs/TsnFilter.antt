@@ -97,4 +97,6 @@ tsns chunks = map (λ c. c.tsn) chunks
 -- each lies farther after the base than the one before it, and nearer than half the circle
 abbrev pub rise_beyond : ℕ → ℕ → List ℕ → Bool
 rise_beyond base far [] = true
-rise_beyond base far (t ∷ ts) = (nat_lt t (2 ^ 32) && (nat_lt far (distance base t) && nat_lt (distance base t) (2 ^ 31))) && rise_beyond base (distance base t) ts
+rise_beyond base far (t ∷ ts) =
+    (nat_lt t (2 ^ 32) && (nat_lt far (distance base t) && nat_lt (distance base t) (2 ^ 31)))
+    && rise_beyond base (distance base t) ts

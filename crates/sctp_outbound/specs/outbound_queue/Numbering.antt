@@ -45,36 +45,52 @@ abbrev pub queue_after : Call → Outbound → ℕ → Outbound
 queue_after (push chunks) q next = with_message chunks q
 queue_after (start_timed_messages now) q next = all_started now q
 queue_after (send_next now) q next = sent_next q next now
-queue_after (abandon tsn) q next = abandoned_of (to_abandon (find (has_tsn tsn) q.inflight.chunks)) next q
+queue_after (abandon tsn) q next =
+    abandoned_of (to_abandon (find (has_tsn tsn) q.inflight.chunks)) next q
 queue_after (expire_pending now) q next = expired_of (expiring now q) q
-queue_after (expire_pending_tail now) q next = abandoned_of (message_of (expiring_tail now q)) next q
+queue_after (expire_pending_tail now) q next =
+    abandoned_of (message_of (expiring_tail now q)) next q
 queue_after (pop tsn) q next = with_inflight q (without_front tsn q.inflight.chunks)
-queue_after (mark_as_acked tsn) q next = with_inflight q (change_where (has_tsn tsn) acknowledged q.inflight.chunks)
-queue_after mark_all_to_retransmit q next = with_inflight q (change_where is_outstanding (with_retransmit true) q.inflight.chunks)
-queue_after (set_retransmit tsn retransmit) q next = with_inflight q (change_where (has_tsn tsn) (with_retransmit retransmit) q.inflight.chunks)
-queue_after (set_nsent tsn nsent) q next = with_inflight q (change_where (has_tsn tsn) (with_nsent nsent) q.inflight.chunks)
-queue_after (set_since tsn since) q next = with_inflight q (change_where (has_tsn tsn) (with_since since) q.inflight.chunks)
-queue_after (set_miss_indicator tsn count) q next = with_inflight q (change_where (has_tsn tsn) (with_miss_indicator count) q.inflight.chunks)
-queue_after (reserve ordered unordered) q next = record q { pending = pending.reserved q.pending ordered unordered }
-queue_after (reserve_inflight sends) q next = record q { inflight = record q.inflight { room = max sends q.inflight.room } }
+queue_after (mark_as_acked tsn) q next =
+    with_inflight q (change_where (has_tsn tsn) acknowledged q.inflight.chunks)
+queue_after mark_all_to_retransmit q next =
+    with_inflight q (change_where is_outstanding (with_retransmit true) q.inflight.chunks)
+queue_after (set_retransmit tsn retransmit) q next =
+    with_inflight q (change_where (has_tsn tsn) (with_retransmit retransmit) q.inflight.chunks)
+queue_after (set_nsent tsn nsent) q next =
+    with_inflight q (change_where (has_tsn tsn) (with_nsent nsent) q.inflight.chunks)
+queue_after (set_since tsn since) q next =
+    with_inflight q (change_where (has_tsn tsn) (with_since since) q.inflight.chunks)
+queue_after (set_miss_indicator tsn count) q next =
+    with_inflight q (change_where (has_tsn tsn) (with_miss_indicator count) q.inflight.chunks)
+queue_after (reserve ordered unordered) q next =
+    record q { pending = pending.reserved q.pending ordered unordered }
+queue_after (reserve_inflight sends) q next =
+    record q { inflight = record q.inflight { room = max sends q.inflight.room } }
 
 -- the next TSN after a call, as the call ensures it; most calls are not handed it
 abbrev pub next_after : Call → Outbound → ℕ → ℕ
-next_after (send_next now) q next = if is_some (pending.peeked q.pending) then following_tsn next else next
-next_after (abandon tsn) q next = tsn_after_of (to_abandon (find (has_tsn tsn) q.inflight.chunks)) next q
+next_after (send_next now) q next =
+    if is_some (pending.peeked q.pending) then following_tsn next else next
+next_after (abandon tsn) q next =
+    tsn_after_of (to_abandon (find (has_tsn tsn) q.inflight.chunks)) next q
 next_after (expire_pending_tail now) q next = tsn_after_of (message_of (expiring_tail now q)) next q
 next_after _ q next = next
 
 -- the terminal chunk of a message that is abandoned, where it has a tail
 abbrev pub terminal_chunk_of : Option ℕ → Outbound → ℕ → Option ChunkPayloadData
 terminal_chunk_of None q next = None
-terminal_chunk_of (Some message) q next = option_map (terminal_chunk next) (pending.last_removed message q.pending)
+terminal_chunk_of (Some message) q next =
+    option_map (terminal_chunk next) (pending.last_removed message q.pending)
 
 -- the chunk that a call puts in flight
 abbrev pub put_by : Call → Outbound → ℕ → Option ChunkPayloadData
-put_by (send_next now) q next = option_map (numbered next now) (pending.peeked (all_started now q).pending)
-put_by (abandon tsn) q next = terminal_chunk_of (to_abandon (find (has_tsn tsn) q.inflight.chunks)) q next
-put_by (expire_pending_tail now) q next = terminal_chunk_of (message_of (expiring_tail now q)) q next
+put_by (send_next now) q next =
+    option_map (numbered next now) (pending.peeked (all_started now q).pending)
+put_by (abandon tsn) q next =
+    terminal_chunk_of (to_abandon (find (has_tsn tsn) q.inflight.chunks)) q next
+put_by (expire_pending_tail now) q next =
+    terminal_chunk_of (message_of (expiring_tail now q)) q next
 put_by _ q next = None
 
 -- ## A run of calls
@@ -90,7 +106,9 @@ put_before None cs = cs
 put_before (Some c) cs = c ∷ cs
 
 abbrev pub after : Call → Stand → Stand
-after c s = record { queue = queue_after c s.queue s.next; next = next_after c s.queue s.next; put = put_before (put_by c s.queue s.next) s.put }
+after c s =
+    record { queue = queue_after c s.queue s.next; next = next_after c s.queue s.next;
+    put = put_before (put_by c s.queue s.next) s.put }
 
 abbrev pub after_all : List Call → Stand → Stand
 after_all [] s = s
@@ -100,7 +118,9 @@ after_all (c ∷ cs) s = after_all cs (after c s)
 abbrev pub at_first : ℕ → Stand
 at_first tsn = record {
   queue = record {
-    pending = record { ordered = []; unordered = []; selected = None; ordered_room = 0; unordered_room = 0 };
+    pending =
+        record { ordered = []; unordered = []; selected = None; ordered_room = 0;
+        unordered_room = 0 };
     inflight = record { chunks = []; duplicates = []; room = 0 };
     next_message_id = 0;
     next_unstarted = 0;
@@ -118,7 +138,9 @@ AfterEachRun P = (tsn : ℕ) (calls : List Call) → AreFit calls → P (after_a
 -- a chunk has the TSN behind that of the one before it, which is of its message where any was
 abbrev pub StandsBehind : ChunkPayloadData → List ChunkPayloadData → Type 0
 StandsBehind c [] = Unit {0}
-StandsBehind c (d ∷ ds) = (c.tsn ≡ following_tsn d.tsn) × (list_any (is_of c.message_id) (d ∷ ds) ≡ true → d.message_id ≡ c.message_id)
+StandsBehind c (d ∷ ds) =
+    (c.tsn ≡ following_tsn d.tsn) × (list_any (is_of c.message_id) (d ∷ ds) ≡ true → d.message_id
+    ≡ c.message_id)
 
 -- each chunk stands behind those that were put in flight before it: so the chunks of one message stand side by side
 abbrev pub StandInLine : List ChunkPayloadData → Type 0
@@ -141,8 +163,12 @@ is_at message tsn c = (c.message_id == message) && (c.tsn == tsn)
 
 -- what is in flight was put there, as a chunk of that message, under that TSN
 abbrev pub WasPut : List ChunkPayloadData → List ChunkPayloadData → Type 0
-WasPut inflight put = (message tsn : ℕ) → list_any (is_at message tsn) inflight ≡ true → list_any (is_at message tsn) put ≡ true
+WasPut inflight put =
+    (message tsn : ℕ) → list_any (is_at message tsn) inflight ≡ true
+    → list_any (is_at message tsn) put ≡ true
 
 -- the chunk that a call puts in flight is there after it
 abbrev pub PutsInFlight : Type 0
-PutsInFlight = (c : Call) (q : Outbound) (next : ℕ) (t : ChunkPayloadData) → put_by c q next ≡ Some t → list_any (is_at t.message_id t.tsn) (queue_after c q next).inflight.chunks ≡ true
+PutsInFlight =
+    (c : Call) (q : Outbound) (next : ℕ) (t : ChunkPayloadData) → put_by c q next ≡ Some t
+    → list_any (is_at t.message_id t.tsn) (queue_after c q next).inflight.chunks ≡ true

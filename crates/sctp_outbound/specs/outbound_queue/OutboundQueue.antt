@@ -31,13 +31,19 @@ with_message_id message c = record c { message_id = message }
 
 -- chunks behind those of a list
 abbrev pub appended : Bool → List ChunkPayloadData → pending.Pending → pending.Pending
-appended true chunks q = record q { unordered = q.unordered ++ chunks; unordered_room = q.unordered_room - length chunks }
-appended false chunks q = record q { ordered = q.ordered ++ chunks; ordered_room = q.ordered_room - length chunks }
+appended true chunks q =
+    record q { unordered = q.unordered ++ chunks; unordered_room = q.unordered_room
+    - length chunks }
+appended false chunks q =
+    record q { ordered = q.ordered ++ chunks; ordered_room = q.ordered_room - length chunks }
 
 -- a message with the next number
 abbrev pub with_message : List ChunkPayloadData → Outbound → Outbound
 with_message [] q = q
-with_message (c ∷ cs) q = record q { pending = appended c.unordered (map (with_message_id q.next_message_id) (c ∷ cs)) q.pending; next_message_id = q.next_message_id + 1 }
+with_message (c ∷ cs) q =
+    record q { pending = appended c.unordered
+    (map (with_message_id q.next_message_id) (c ∷ cs)) q.pending;
+    next_message_id = q.next_message_id + 1 }
 
 -- whether there is room for the chunks
 abbrev pub has_room : List ChunkPayloadData → Outbound → Bool
@@ -48,7 +54,10 @@ has_room (c ∷ cs) q = nat_le (length (c ∷ cs)) (pending.room_for q.pending c
 
 -- the lifetimes of the messages pushed since the last time start
 abbrev pub all_started : ℕ → Outbound → Outbound
-all_started now q = if q.next_unstarted == q.next_message_id then q else record q { pending = pending.started q.next_unstarted now q.pending; next_unstarted = q.next_message_id }
+all_started now q =
+    if q.next_unstarted == q.next_message_id then q
+    else record q { pending = pending.started q.next_unstarted now q.pending;
+    next_unstarted = q.next_message_id }
 
 -- whether the moment is reached, where there is one
 abbrev pub is_past : ℕ → Option ℕ → Bool
@@ -67,7 +76,9 @@ numbered tsn now c = record c { tsn = tsn; since = Some now; nsent = 1 }
 -- the chunk leaves its list and is in flight under the TSN
 abbrev pub sent_of : Option ChunkPayloadData → Outbound → ℕ → ℕ → Outbound
 sent_of None q tsn now = q
-sent_of (Some c) q tsn now = record q { pending = pending.rest_after c.beginning_fragment c.unordered q.pending; inflight = payload.pushed q.inflight (numbered tsn now c) }
+sent_of (Some c) q tsn now =
+    record q { pending = pending.rest_after c.beginning_fragment c.unordered q.pending;
+    inflight = payload.pushed q.inflight (numbered tsn now c) }
 
 abbrev pub sent_peeked : Outbound → ℕ → ℕ → Outbound
 sent_peeked q tsn now = sent_of (pending.peeked q.pending) q tsn now
@@ -89,7 +100,9 @@ after_sends (suc n) q = after_sends n (taken_of (pending.peeked q) q)
 
 -- an empty ending chunk under the TSN, abandoned: it stands for the tail that was never sent
 abbrev pub terminal_chunk : ℕ → ChunkPayloadData → ChunkPayloadData
-terminal_chunk tsn c = record c { tsn = tsn; beginning_fragment = false; ending_fragment = true; abandoned = true; retransmit = false; user_data = [] }
+terminal_chunk tsn c =
+    record c { tsn = tsn; beginning_fragment = false; ending_fragment = true; abandoned = true;
+    retransmit = false; user_data = [] }
 
 abbrev pub with_terminal_chunk : Option ChunkPayloadData → ℕ → payload.Payload → payload.Payload
 with_terminal_chunk None tsn q = q
@@ -97,7 +110,10 @@ with_terminal_chunk (Some c) tsn q = payload.pushed q (terminal_chunk tsn c)
 
 -- what is in flight of the message is abandoned, and its tail is gone but for a terminal chunk
 abbrev pub abandoned : ℕ → ℕ → Outbound → Outbound
-abandoned message tsn q = record q { pending = pending.without message q.pending; inflight = with_terminal_chunk (pending.last_removed message q.pending) tsn (payload.with_chunks q.inflight (change_where (is_of message) as_abandoned q.inflight.chunks)) }
+abandoned message tsn q =
+    record q { pending = pending.without message q.pending;
+    inflight = with_terminal_chunk (pending.last_removed message q.pending) tsn
+    (payload.with_chunks q.inflight (change_where (is_of message) as_abandoned q.inflight.chunks)) }
 
 -- the TSN is taken where a tail was
 abbrev pub tsn_after : ℕ → ℕ → Outbound → ℕ
@@ -125,11 +141,14 @@ has_tail (Some message) q = waits message q.pending
 
 -- a message past its deadline, wholly unsent
 abbrev pub is_expired : ℕ → ChunkPayloadData → Bool
-is_expired now c = c.beginning_fragment && (not (length c.user_data == 0) && (not (pending.is_dcep c.payload_type) && is_past now c.deadline))
+is_expired now c =
+    c.beginning_fragment && (not (length c.user_data == 0)
+    && (not (pending.is_dcep c.payload_type) && is_past now c.deadline))
 
 -- the rest of a message past its deadline
 abbrev pub is_expired_tail : ℕ → ChunkPayloadData → Bool
-is_expired_tail now c = not c.beginning_fragment && (not (pending.is_dcep c.payload_type) && is_past now c.deadline)
+is_expired_tail now c =
+    not c.beginning_fragment && (not (pending.is_dcep c.payload_type) && is_past now c.deadline)
 
 -- the chunk, if it passes
 abbrev pub passing : (ChunkPayloadData → Bool) → Option ChunkPayloadData → Option ChunkPayloadData
@@ -139,7 +158,9 @@ passing p (Some c) = if p c then Some c else None
 -- without the message of the chunk, and the later numbers of its stream closed up where it is ordered
 abbrev pub expired_of : Option ChunkPayloadData → Outbound → Outbound
 expired_of None q = q
-expired_of (Some c) q = record q { pending = if c.unordered then pending.without c.message_id q.pending else pending.closed_up c.stream_identifier (pending.without c.message_id q.pending) }
+expired_of (Some c) q =
+    record q { pending = if c.unordered then pending.without c.message_id q.pending
+    else pending.closed_up c.stream_identifier (pending.without c.message_id q.pending) }
 
 -- the message in front, past its deadline, wholly unsent
 abbrev pub expiring : ℕ → Outbound → Option ChunkPayloadData
@@ -155,7 +176,8 @@ message_of (Some c) = Some c.message_id
 
 -- a chunk in flight past its deadline that is not abandoned, and not acknowledged or of a message with a tail
 abbrev pub is_late : ℕ → pending.Pending → ChunkPayloadData → Bool
-is_late now q c = not c.abandoned && (is_past now c.deadline && (not c.acked || waits c.message_id q))
+is_late now q c =
+    not c.abandoned && (is_past now c.deadline && (not c.acked || waits c.message_id q))
 
 abbrev pub late_tsns : ℕ → Outbound → List ℕ
 late_tsns now q = map (λ c. c.tsn) (those (is_late now q.pending) q.inflight.chunks)

@@ -29,7 +29,8 @@ abbrev pub is_reported : ℕ → ℕ → ChunkPayloadData → Bool
 is_reported cumulative n c = is_offset n && (n == distance cumulative c.tsn)
 
 -- the blocks ascend and never touch, and have exactly the distances from 1 to 65,535 at which a chunk is held
-pub record Reports (cumulative : ℕ) (chunks : List ChunkPayloadData) (blocks : List GapAckBlock) : Type 0 where
+pub record Reports (cumulative : ℕ) (chunks : List ChunkPayloadData)
+    (blocks : List GapAckBlock) : Type 0 where
   pub ascend : BlocksAscend blocks
   pub exact : (n : ℕ) → covered blocks n ≡ list_any (is_reported cumulative n) chunks
 
@@ -43,13 +44,17 @@ ends_of b = (b.start, b.end)
 
 -- from the place on, each chunk lies after the cumulative TSN, and farther than the one before
 pub record AscendsFrom (cumulative : ℕ) (chunks : List ChunkPayloadData) (place : ℕ) : Type 0 where
-  pub after : (k : ℕ) (d : ChunkPayloadData) → place ≤ k → k < length chunks → 0 < distance cumulative (slice_index_or chunks k d).tsn
-  pub farther : (i j : ℕ) (d : ChunkPayloadData) → place ≤ i → i < j → j < length chunks → distance cumulative (slice_index_or chunks i d).tsn < distance cumulative (slice_index_or chunks j d).tsn
+  pub after : (k : ℕ) (d : ChunkPayloadData) → place ≤ k → k < length chunks → 0
+      < distance cumulative (slice_index_or chunks k d).tsn
+  pub farther : (i j : ℕ) (d : ChunkPayloadData) → place ≤ i → i < j → j < length chunks
+      → distance cumulative (slice_index_or chunks i d).tsn
+      < distance cumulative (slice_index_or chunks j d).tsn
 
 -- the chunks after the cumulative TSN begin at the place, and no block can hold one before it
 pub record IsFirstAfter (cumulative : ℕ) (chunks : List ChunkPayloadData) (place : ℕ) : Type 0 where
   pub in_range : place ≤ length chunks
-  pub before : (k : ℕ) (d : ChunkPayloadData) → k < place → is_offset (distance cumulative (slice_index_or chunks k d).tsn) ≡ false
+  pub before : (k : ℕ) (d : ChunkPayloadData) → k < place
+      → is_offset (distance cumulative (slice_index_or chunks k d).tsn) ≡ false
   pub ascends : AscendsFrom cumulative chunks place
 
 -- of the places before the end, TSNs rise by one from the first to the last, and no farther
@@ -57,7 +62,8 @@ pub record IsRunUntil (chunks : List ChunkPayloadData) (end first last : ℕ) : 
   pub from : first ≤ last
   pub to : last < end
   pub rising : IsRising chunks first last
-  pub stops : last + 1 < end → (d : ChunkPayloadData) → (slice_index_or chunks (last + 1) d).tsn ≢ ((slice_index_or chunks last d).tsn + 1) % 2 ^ 32
+  pub stops : last + 1 < end → (d : ChunkPayloadData)
+      → (slice_index_or chunks (last + 1) d).tsn ≢ ((slice_index_or chunks last d).tsn + 1) % 2 ^ 32
 
 -- runs as text, a comma before each: `,2-3,5-5`
 abbrev pub runs_text : List (ℕ × ℕ) → List ℕ

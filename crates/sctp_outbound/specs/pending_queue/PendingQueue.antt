@@ -31,11 +31,16 @@ abbrev pub room_for : Pending → Bool → ℕ
 room_for q unordered = if unordered then q.unordered_room else q.ordered_room
 
 abbrev pub reserved : Pending → ℕ → ℕ → Pending
-reserved q ordered unordered = record q { ordered_room = max ordered q.ordered_room; unordered_room = max unordered q.unordered_room }
+reserved q ordered unordered =
+    record q { ordered_room = max ordered q.ordered_room;
+    unordered_room = max unordered q.unordered_room }
 
 -- the chunk behind those of its list
 abbrev pub pushed : Pending → ChunkPayloadData → Pending
-pushed q c = if c.unordered then record q { unordered = q.unordered ++ c ∷ []; unordered_room = q.unordered_room - 1 } else record q { ordered = q.ordered ++ c ∷ []; ordered_room = q.ordered_room - 1 }
+pushed q c =
+    if c.unordered then record q { unordered = q.unordered ++ c ∷ [];
+    unordered_room = q.unordered_room - 1 }
+    else record q { ordered = q.ordered ++ c ∷ []; ordered_room = q.ordered_room - 1 }
 
 -- ## Peek and pop
 
@@ -69,8 +74,11 @@ popped beginning unordered q = popped_from (list_to_pop q.selected beginning uno
 
 -- a message is partially sent from its first fragment on until its ending one
 abbrev pub selected_after : Option Selected → Bool → ChunkPayloadData → Option Selected
-selected_after None unordered c = if c.ending_fragment then None else Some (record { message_id = c.message_id; unordered = unordered })
-selected_after (Some s) unordered c = if c.ending_fragment && (c.message_id == s.message_id) then None else Some s
+selected_after None unordered c =
+    if c.ending_fragment then None else Some
+    (record { message_id = c.message_id; unordered = unordered })
+selected_after (Some s) unordered c =
+    if c.ending_fragment && (c.message_id == s.message_id) then None else Some s
 
 -- without the front of a list
 abbrev pub rest_of : Bool → Pending → List ChunkPayloadData → Pending
@@ -100,7 +108,8 @@ last_of (c ∷ d ∷ ds) = last_of (d ∷ ds)
 
 -- the ordered ones go first
 abbrev pub last_removed : ℕ → Pending → Option ChunkPayloadData
-last_removed message q = last_of (those (is_of message) q.ordered ++ those (is_of message) q.unordered)
+last_removed message q =
+    last_of (those (is_of message) q.ordered ++ those (is_of message) q.unordered)
 
 -- a message that is removed is partially sent no more
 abbrev pub selected_without : ℕ → Option Selected → Option Selected
@@ -108,7 +117,10 @@ selected_without message None = None
 selected_without message (Some s) = if s.message_id == message then None else Some s
 
 abbrev pub without : ℕ → Pending → Pending
-without message q = record q { ordered = without_message message q.ordered; unordered = without_message message q.unordered; selected = selected_without message q.selected }
+without message q =
+    record q { ordered = without_message message q.ordered;
+    unordered = without_message message q.unordered;
+    selected = selected_without message q.selected }
 
 -- ## Stream sequence numbers
 
@@ -116,7 +128,8 @@ abbrev pub is_on : ℕ → ChunkPayloadData → Bool
 is_on stream c = c.stream_identifier == stream
 
 abbrev pub one_lower : ChunkPayloadData → ChunkPayloadData
-one_lower c = record c { stream_sequence_number = (c.stream_sequence_number + (2 ^ 16 - 1)) % 2 ^ 16 }
+one_lower c =
+    record c { stream_sequence_number = (c.stream_sequence_number + (2 ^ 16 - 1)) % 2 ^ 16 }
 
 -- each ordered chunk of the stream one number lower
 abbrev pub closed_up : ℕ → Pending → Pending
@@ -140,14 +153,20 @@ lifetime_of (Some r) = r.1
 
 -- so many milliseconds after a moment, where that is a moment
 abbrev pub deadline_at : ℕ → ℕ → Option ℕ
-deadline_at now milliseconds = if nat_lt (now + milliseconds * 1000000) (2 ^ 64) then Some (now + milliseconds * 1000000) else None
+deadline_at now milliseconds =
+    if nat_lt (now + milliseconds * 1000000) (2 ^ 64) then Some (now + milliseconds * 1000000)
+    else None
 
 -- timed, not DCEP, without a deadline, and of a message numbered from first on
 abbrev pub is_to_start : ℕ → ChunkPayloadData → Bool
-is_to_start first c = nat_le first c.message_id && (is_none c.deadline && (not (is_dcep c.payload_type) && is_timed c.reliability))
+is_to_start first c =
+    nat_le first c.message_id && (is_none c.deadline
+    && (not (is_dcep c.payload_type) && is_timed c.reliability))
 
 abbrev pub with_deadline : ℕ → ChunkPayloadData → ChunkPayloadData
 with_deadline now c = record c { deadline = deadline_at now (lifetime_of c.reliability) }
 
 abbrev pub started : ℕ → ℕ → Pending → Pending
-started first now q = record q { ordered = change_where (is_to_start first) (with_deadline now) q.ordered; unordered = change_where (is_to_start first) (with_deadline now) q.unordered }
+started first now q =
+    record q { ordered = change_where (is_to_start first) (with_deadline now) q.ordered;
+    unordered = change_where (is_to_start first) (with_deadline now) q.unordered }

@@ -23,7 +23,9 @@ stage_after c = if c.ending_fragment then free (c.message_id + 1) else begun c.m
 abbrev pub IsWhole : Bool → ℕ → Stage → List ChunkPayloadData → Type 0
 IsWhole kind below (free least) [] = Unit {0}
 IsWhole kind below (begun message) [] = ⊥
-IsWhole kind below stage (c ∷ cs) = Follows stage c × (c.unordered ≡ kind) × (c.message_id < below) × IsWhole kind below (stage_after c) cs
+IsWhole kind below stage (c ∷ cs) =
+    Follows stage c × (c.unordered ≡ kind) × (c.message_id < below)
+    × IsWhole kind below (stage_after c) cs
 
 -- where a list stands by the partially sent message
 abbrev pub stage_of : Bool → Option Selected → Stage
@@ -53,7 +55,8 @@ pub record IsSendable (q : Pending) (inflight : List ChunkPayloadData) (next : �
   pub ordered : IsWhole false next (stage_of false q.selected) q.ordered
   pub unordered : IsWhole true next (stage_of true q.selected) q.unordered
   pub apart : (m : ℕ) → list_any (is_of m) q.ordered ≡ true → list_any (is_of m) q.unordered ≡ false
-  pub sent : (m : ℕ) → list_any (is_of m) inflight ≡ true → waits m q ≡ true → partially_sent q ≡ Some m
+  pub sent : (m : ℕ) → list_any (is_of m) inflight ≡ true → waits m q ≡ true → partially_sent q
+      ≡ Some m
   pub below : (m : ℕ) → next ≤ m → list_any (is_of m) inflight ≡ false
 
 -- the chunk goes on with the message
@@ -76,7 +79,8 @@ abbrev pub until_end : List ChunkPayloadData → ℕ
 until_end [] = 0
 until_end (c ∷ cs) = if c.ending_fragment then 1 else until_end cs + 1
 
-abbrev pub in_order : Option Selected → List ChunkPayloadData → List ChunkPayloadData → List ChunkPayloadData
+abbrev pub in_order : Option Selected → List ChunkPayloadData → List ChunkPayloadData
+    → List ChunkPayloadData
 in_order None os us = us ++ os
 in_order (Some s) os us = if s.unordered then us ++ os else rest_then os us
 
@@ -97,8 +101,11 @@ has_end (Some s) os = if s.unordered then true else list_any ends os
 -- the fragments of one message of this kind, or what follows after some of them: the first begins, the last ends
 abbrev pub IsMessage : Bool → Bool → List ChunkPayloadData → Type 0
 IsMessage kind goes_on [] = ⊥
-IsMessage kind goes_on (c ∷ []) = (c.beginning_fragment ≡ not goes_on) × (c.ending_fragment ≡ true) × (c.unordered ≡ kind)
-IsMessage kind goes_on (c ∷ d ∷ ds) = (c.beginning_fragment ≡ not goes_on) × (c.ending_fragment ≡ false) × (c.unordered ≡ kind) × IsMessage kind true (d ∷ ds)
+IsMessage kind goes_on (c ∷ []) =
+    (c.beginning_fragment ≡ not goes_on) × (c.ending_fragment ≡ true) × (c.unordered ≡ kind)
+IsMessage kind goes_on (c ∷ d ∷ ds) =
+    (c.beginning_fragment ≡ not goes_on) × (c.ending_fragment ≡ false) × (c.unordered ≡ kind)
+    × IsMessage kind true (d ∷ ds)
 
 -- no fragment, or one complete message, all ordered or all unordered
 abbrev pub IsMessageOrNone : List ChunkPayloadData → Type 0

@@ -7,7 +7,8 @@ use Rattle.sctp_serial.specs.Runs.{IsRising}
 pub record IsStart (xs : List ChunkPayloadData) (place first : ℕ) : Type 0 where
   pub at_or_before : first ≤ place
   pub begins : (d : ChunkPayloadData) → (slice_index_or xs first d).beginning_fragment ≡ true
-  pub no_other : (k : ℕ) (d : ChunkPayloadData) → first < k → k ≤ place → (slice_index_or xs k d).beginning_fragment ≡ false
+  pub no_other : (k : ℕ) (d : ChunkPayloadData) → first < k → k ≤ place
+      → (slice_index_or xs k d).beginning_fragment ≡ false
   pub rising : IsRising xs first place
 
 abbrev pub HasNoStart : List ChunkPayloadData → ℕ → Type 0
@@ -17,13 +18,16 @@ HasNoStart xs place = (first : ℕ) → IsStart xs place first → ⊥
 pub record IsEnd (xs : List ChunkPayloadData) (place last : ℕ) : Type 0 where
   pub at_or_after : place ≤ last
   pub in_range : last < length xs
-  pub no_other : (k : ℕ) (d : ChunkPayloadData) → place < k → k ≤ last → (slice_index_or xs k d).beginning_fragment ≡ false
+  pub no_other : (k : ℕ) (d : ChunkPayloadData) → place < k → k ≤ last
+      → (slice_index_or xs k d).beginning_fragment ≡ false
   pub rising : IsRising xs place last
   pub ends : (d : ChunkPayloadData) → (slice_index_or xs last d).ending_fragment ≡ true
 
 -- and not before
 abbrev pub IsFirstEnding : List ChunkPayloadData → ℕ → ℕ → Type 0
-IsFirstEnding xs place last = (k : ℕ) (d : ChunkPayloadData) → place ≤ k → k < last → (slice_index_or xs k d).ending_fragment ≡ false
+IsFirstEnding xs place last =
+    (k : ℕ) (d : ChunkPayloadData) → place ≤ k → k < last → (slice_index_or xs k d).ending_fragment
+    ≡ false
 
 abbrev pub HasNoEnd : List ChunkPayloadData → ℕ → Type 0
 HasNoEnd xs place = (last : ℕ) → IsEnd xs place last → ⊥

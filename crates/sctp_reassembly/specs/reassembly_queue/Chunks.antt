@@ -26,7 +26,8 @@ piece_of n (xs ∷ xss) = Some (take n (concat (xs ∷ xss)))
 -- what is left behind the next piece
 abbrev pub left_after : ℕ → List (List ℕ) → List (List ℕ)
 left_after n [] = []
-left_after n (xs ∷ xss) = if nat_le (length xs) n then left_after (n - length xs) xss else drop n xs ∷ xss
+left_after n (xs ∷ xss) =
+    if nat_le (length xs) n then left_after (n - length xs) xss else drop n xs ∷ xss
 
 -- how many fragments the next piece takes to their end
 abbrev pub taken_whole : ℕ → List (List ℕ) → ℕ

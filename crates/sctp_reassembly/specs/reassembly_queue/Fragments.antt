@@ -37,7 +37,9 @@ has_ssn ssn x = x.ssn == ssn
 
 -- x at its place, unless its number is there
 abbrev pub with_chunk : ChunkPayloadData → ChunkSet → ChunkSet
-with_chunk x set = record set { chunks = if list_any (has_tsn x.tsn) set.chunks then set.chunks else inserted chunk_before x set.chunks }
+with_chunk x set =
+    record set { chunks = if list_any (has_tsn x.tsn) set.chunks then set.chunks
+    else inserted chunk_before x set.chunks }
 
 -- a set that x alone makes
 abbrev pub new_set : ChunkPayloadData → ChunkSet
@@ -46,7 +48,9 @@ new_set x = record { ssn = x.stream_sequence_number; ppi = x.payload_type; chunk
 -- x in the first set of its number, or in a new set at its place
 abbrev pub sets_with : ChunkPayloadData → List ChunkSet → List ChunkSet
 sets_with x sets =
-    if list_any (has_ssn x.stream_sequence_number) sets then change_first (has_ssn x.stream_sequence_number) (with_chunk x) sets else inserted set_before (new_set x) sets
+    if list_any (has_ssn x.stream_sequence_number) sets
+        then change_first (has_ssn x.stream_sequence_number) (with_chunk x) sets
+        else inserted set_before (new_set x) sets
 
 -- the chunks of the first set of this number
 abbrev pub chunks_of_ssn : ℕ → List ChunkSet → List ChunkPayloadData
@@ -55,8 +59,11 @@ chunks_of_ssn ssn (set ∷ sets) = if has_ssn ssn set then set.chunks else chunk
 
 -- what putting x in answers: whether the fragments are complete with it, or nothing where its TSN is there
 abbrev pub answer_with : ChunkPayloadData → List ChunkPayloadData → Option Bool
-answer_with x chunks = if list_any (has_tsn x.tsn) chunks then None else Some (is_complete (inserted chunk_before x chunks))
+answer_with x chunks =
+    if list_any (has_tsn x.tsn) chunks then None
+    else Some (is_complete (inserted chunk_before x chunks))
 
 -- whether they became complete by x
 abbrev pub is_whole_after : ChunkPayloadData → List ChunkPayloadData → Bool
-is_whole_after x chunks = not (list_any (has_tsn x.tsn) chunks) && is_complete (inserted chunk_before x chunks)
+is_whole_after x chunks =
+    not (list_any (has_tsn x.tsn) chunks) && is_complete (inserted chunk_before x chunks)

@@ -45,22 +45,32 @@ count_up bytes more = min (bytes + more) (2 ^ 64 - 1)
 -- ## Push
 
 abbrev pub is_too_large : ChunkPayloadData → ReassemblyState → Bool
-is_too_large x q = (x.stream_identifier == q.si) && nat_lt q.max_message_size (projected_size x q.held.ordered q.held.unassembled)
+is_too_large x q =
+    (x.stream_identifier == q.si) && nat_lt q.max_message_size
+    (projected_size x q.held.ordered q.held.unassembled)
 
 -- an ordered chunk comes
 abbrev pub held_after_ordered_push : ChunkPayloadData → Reassembly → Reassembly
-held_after_ordered_push x q = if comes_before16 x.stream_sequence_number q.next_ssn then q else record q { ordered = sets_with x q.ordered }
+held_after_ordered_push x q =
+    if comes_before16 x.stream_sequence_number q.next_ssn then q
+    else record q { ordered = sets_with x q.ordered }
 
 -- an ordered chunk is kept where its SSN isn't before the next one and its TSN isn't in its set
 abbrev pub is_kept : ChunkPayloadData → Reassembly → Bool
-is_kept x q = not (comes_before16 x.stream_sequence_number q.next_ssn) && not (list_any (has_tsn x.tsn) (chunks_of_ssn x.stream_sequence_number q.ordered))
+is_kept x q =
+    not (comes_before16 x.stream_sequence_number q.next_ssn)
+    && not (list_any (has_tsn x.tsn) (chunks_of_ssn x.stream_sequence_number q.ordered))
 
 -- whether its set became complete by it
 abbrev pub is_whole_with : ChunkPayloadData → Reassembly → Bool
-is_whole_with x q = not (comes_before16 x.stream_sequence_number q.next_ssn) && is_whole_after x (chunks_of_ssn x.stream_sequence_number q.ordered)
+is_whole_with x q =
+    not (comes_before16 x.stream_sequence_number q.next_ssn)
+    && is_whole_after x (chunks_of_ssn x.stream_sequence_number q.ordered)
 
 abbrev pub after_ordered_push : ChunkPayloadData → ReassemblyState → ReassemblyState
-after_ordered_push x q = record q { held = held_after_ordered_push x q.held; bytes = (if is_kept x q.held then count_up q.bytes (length x.user_data) else q.bytes) }
+after_ordered_push x q =
+    record q { held = held_after_ordered_push x q.held;
+    bytes = (if is_kept x q.held then count_up q.bytes (length x.user_data) else q.bytes) }
 
 -- a complete unordered message: its SSN is 0, its payload type that of its first fragment
 abbrev pub set_of_run : List ChunkPayloadData → ChunkSet
@@ -72,7 +82,8 @@ pub record TakesRun (xs : List ChunkPayloadData) (old new : Reassembly) : Type 0
   pub first : ℕ
   pub count : ℕ
   pub run : IsEarliestRun xs first count
-  pub moved : new ≡ record old { unassembled = take first xs ++ drop (first + count) xs; unordered = old.unordered ++ set_of_run (take count (drop first xs)) ∷ [] }
+  pub moved : new ≡ record old { unassembled = take first xs ++ drop (first + count) xs;
+      unordered = old.unordered ++ set_of_run (take count (drop first xs)) ∷ [] }
 
 -- with these unassembled fragments a message became whole, or none did
 abbrev pub BecomesWhole : List ChunkPayloadData → Reassembly → Reassembly → Bool → Type 0
@@ -82,14 +93,17 @@ BecomesWhole xs old new false = HasNoRun xs × (new ≡ record old { unassembled
 -- an unordered chunk comes
 abbrev pub PushesUnordered : ChunkPayloadData → ReassemblyState → ReassemblyState → Bool → Type 0
 PushesUnordered x old new whole =
-    BecomesWhole (inserted chunk_before x old.held.unassembled) old.held new.held whole × (new ≡ record old { held = new.held; bytes = count_up old.bytes (length x.user_data) })
+    BecomesWhole (inserted chunk_before x old.held.unassembled) old.held new.held whole
+        × (new ≡ record old { held = new.held; bytes = count_up old.bytes (length x.user_data) })
 
 -- the run that ends earliest is taken out
 pub record GivesRun (old new : ReassemblyState) (set : ChunkSet) : Type 0 where
   pub first : ℕ
   pub count : ℕ
   pub run : IsEarliestRun old.held.unassembled first count
-  pub rest : new ≡ record old { held = record old.held { unassembled = take first old.held.unassembled ++ drop (first + count) old.held.unassembled } }
+  pub rest : new ≡ record old { held =
+      record old.held { unassembled = take first old.held.unassembled
+      ++ drop (first + count) old.held.unassembled } }
   pub given : set ≡ set_of_run (take count (drop first old.held.unassembled))
 
 -- ## Read
@@ -107,7 +121,9 @@ without_first (x ∷ xs) = xs
 
 abbrev pub after_read : Option ChunkSet → Reassembly → Reassembly
 after_read None q = q
-after_read (Some set) q = record q { ordered = without_first q.ordered; next_ssn = (if set.ssn == q.next_ssn then (q.next_ssn + 1) % 2 ^ 16 else q.next_ssn) }
+after_read (Some set) q =
+    record q { ordered = without_first q.ordered;
+    next_ssn = (if set.ssn == q.next_ssn then (q.next_ssn + 1) % 2 ^ 16 else q.next_ssn) }
 
 -- the first complete unordered message, else the front ordered set where it is due
 abbrev pub message_among : List ChunkSet → Reassembly → Option ChunkSet
@@ -129,7 +145,8 @@ bytes_read None = 0
 bytes_read (Some set) = bytes_of set.chunks
 
 abbrev pub state_read : ReassemblyState → ReassemblyState
-state_read q = record q { held = rest_read q.held; bytes = q.bytes - bytes_read (message_read q.held) }
+state_read q =
+    record q { held = rest_read q.held; bytes = q.bytes - bytes_read (message_read q.held) }
 
 -- a message that nothing was taken of
 abbrev pub at_start : ChunkSet → Chunks
@@ -148,10 +165,13 @@ held_after_ordered_skip last q =
     }
 
 abbrev pub after_ordered_skip : ℕ → ReassemblyState → ReassemblyState
-after_ordered_skip last q = record q { held = held_after_ordered_skip last q.held; bytes = q.bytes - set_bytes (those (is_passed last) q.held.ordered) }
+after_ordered_skip last q =
+    record q { held = held_after_ordered_skip last q.held; bytes = q.bytes
+    - set_bytes (those (is_passed last) q.held.ordered) }
 
 abbrev pub held_after_unordered_skip : ℕ → Reassembly → Reassembly
-held_after_unordered_skip tsn q = record q { unassembled = after_leading (λ x. at_or_before x.tsn tsn) q.unassembled }
+held_after_unordered_skip tsn q =
+    record q { unassembled = after_leading (λ x. at_or_before x.tsn tsn) q.unassembled }
 
 -- the unassembled fragments up to the first that is after the TSN
 abbrev pub leading_upto : ℕ → List ChunkPayloadData → List ChunkPayloadData
@@ -159,12 +179,15 @@ leading_upto tsn [] = []
 leading_upto tsn (x ∷ xs) = if at_or_before x.tsn tsn then x ∷ leading_upto tsn xs else []
 
 abbrev pub after_unordered_skip : ℕ → ReassemblyState → ReassemblyState
-after_unordered_skip tsn q = record q { held = held_after_unordered_skip tsn q.held; bytes = q.bytes - bytes_of (leading_upto tsn q.held.unassembled) }
+after_unordered_skip tsn q =
+    record q { held = held_after_unordered_skip tsn q.held; bytes = q.bytes
+    - bytes_of (leading_upto tsn q.held.unassembled) }
 
 -- the skips of these numbers, one after another
 abbrev pub held_after_ordered_skips : List ℕ → Reassembly → Reassembly
 held_after_ordered_skips [] q = q
-held_after_ordered_skips (ssn ∷ ssns) q = held_after_ordered_skips ssns (held_after_ordered_skip ssn q)
+held_after_ordered_skips (ssn ∷ ssns) q =
+    held_after_ordered_skips ssns (held_after_ordered_skip ssn q)
 
 -- the complete sets, which no skip removes
 abbrev pub complete_sets : Reassembly → List ChunkSet

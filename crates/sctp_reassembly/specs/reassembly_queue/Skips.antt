@@ -12,18 +12,21 @@ use Rattle.sctp_reassembly.specs.reassembly_queue.ReassemblyQueue.{Reassembly, R
 -- behind x a TSN at or before t is missing
 abbrev pub misses_behind : ℕ → ChunkPayloadData → List ChunkPayloadData → Bool
 misses_behind t x [] = not x.ending_fragment && at_or_before (next_tsn x.tsn) t
-misses_behind t x (y ∷ ys) = (not (y.tsn == next_tsn x.tsn) && at_or_before (next_tsn x.tsn) t) || misses_behind t y ys
+misses_behind t x (y ∷ ys) =
+    (not (y.tsn == next_tsn x.tsn) && at_or_before (next_tsn x.tsn) t) || misses_behind t y ys
 
 -- in a set a TSN at or before t is missing: before the first, between neighbours, or behind the last
 abbrev pub misses : ℕ → List ChunkPayloadData → Bool
 misses t [] = false
-misses t (x ∷ xs) = (not x.beginning_fragment && at_or_before (previous_tsn x.tsn) t) || misses_behind t x xs
+misses t (x ∷ xs) =
+    (not x.beginning_fragment && at_or_before (previous_tsn x.tsn) t) || misses_behind t x xs
 
 -- ## Skipping
 
 -- an incomplete set at or before the SSN that misses a TSN
 abbrev pub is_abandoned : ℕ → ℕ → ChunkSet → Bool
-is_abandoned last t set = at_or_before16 set.ssn last && (not (is_complete set.chunks) && misses t set.chunks)
+is_abandoned last t set =
+    at_or_before16 set.ssn last && (not (is_complete set.chunks) && misses t set.chunks)
 
 -- a set that a skip discards, with a bound or without
 abbrev pub is_discarded : ℕ → Option ℕ → ChunkSet → Bool
@@ -33,7 +36,8 @@ is_discarded last (Some t) set = is_abandoned last t set
 -- a set at or before the SSN that the skip leaves alone
 abbrev pub is_unaffected : ℕ → ℕ → ChunkSet → Bool
 is_unaffected last t set =
-    at_or_before16 set.ssn last && (if is_complete set.chunks then list_any (λ c. comes_after c.tsn t) set.chunks else not (misses t set.chunks))
+    at_or_before16 set.ssn last && (if is_complete set.chunks
+        then list_any (λ c. comes_after c.tsn t) set.chunks else not (misses t set.chunks))
 
 -- the SSN, walking the sets, replaced by one that comes before it; none without any
 abbrev pub earlier_ssn : Option ℕ → ℕ → ℕ
@@ -42,7 +46,9 @@ earlier_ssn (Some first) ssn = if comes_before16 ssn first then ssn else first
 
 abbrev pub earliest_unaffected : Option ℕ → ℕ → ℕ → List ChunkSet → Option ℕ
 earliest_unaffected first last t [] = first
-earliest_unaffected first last t (set ∷ sets) = earliest_unaffected (if is_unaffected last t set then Some (earlier_ssn first set.ssn) else first) last t sets
+earliest_unaffected first last t (set ∷ sets) =
+    earliest_unaffected (if is_unaffected last t set then Some (earlier_ssn first set.ssn)
+    else first) last t sets
 
 -- how far the next SSN may go: to the first set that is left alone, else past the last
 abbrev pub goal_of : ℕ → ℕ → List ChunkSet → ℕ
@@ -52,17 +58,23 @@ abbrev pub held_after_bounded_skip : ℕ → ℕ → Reassembly → Reassembly
 held_after_bounded_skip last t q =
     record q {
       ordered = those (λ set. not (is_abandoned last t set)) q.ordered;
-      next_ssn = (if comes_before16 q.next_ssn (goal_of last t q.ordered) then goal_of last t q.ordered else q.next_ssn);
+      next_ssn =
+          (if comes_before16 q.next_ssn (goal_of last t q.ordered) then goal_of last t q.ordered
+          else q.next_ssn);
     }
 
 abbrev pub after_bounded_skip : ℕ → ℕ → ReassemblyState → ReassemblyState
-after_bounded_skip last t q = record q { held = held_after_bounded_skip last t q.held; bytes = q.bytes - set_bytes (those (is_abandoned last t) q.held.ordered) }
+after_bounded_skip last t q =
+    record q { held = held_after_bounded_skip last t q.held; bytes = q.bytes
+    - set_bytes (those (is_abandoned last t) q.held.ordered) }
 
 -- ## How much of a skip is applicable
 
 -- the skip covers the set
 abbrev pub is_covered : ℕ → ChunkSet → Bool
-is_covered t set = if is_complete set.chunks then list_all (λ c. at_or_before c.tsn t) set.chunks else misses t set.chunks
+is_covered t set =
+    if is_complete set.chunks then list_all (λ c. at_or_before c.tsn t) set.chunks
+    else misses t set.chunks
 
 -- a set of the last SSN that is covered, or due next
 abbrev pub settles : ℕ → ℕ → ℕ → ChunkSet → Bool
@@ -83,7 +95,8 @@ is_from last set = has_ssn last set || comes_after16 set.ssn last
 
 abbrev pub earliest_from : Option ℕ → ℕ → List ChunkSet → Option ℕ
 earliest_from first last [] = first
-earliest_from first last (set ∷ sets) = earliest_from (if is_from last set then earliest_among first set.chunks else first) last sets
+earliest_from first last (set ∷ sets) =
+    earliest_from (if is_from last set then earliest_among first set.chunks else first) last sets
 
 -- a TSN that exists and is at or before the peer's
 abbrev pub is_upto : ℕ → Option ℕ → Bool
@@ -97,7 +110,8 @@ begins_upto peer (x ∷ xs) = at_or_before x.tsn peer
 -- a set between the next SSN and the last that the skip may pass
 abbrev pub is_passable : ℕ → ℕ → ℕ → ℕ → ChunkSet → Bool
 is_passable next last t peer set =
-    (has_ssn next set || comes_after16 set.ssn next) && (comes_before16 set.ssn last && (is_covered t set || begins_upto peer set.chunks))
+    (has_ssn next set || comes_after16 set.ssn next)
+        && (comes_before16 set.ssn last && (is_covered t set || begins_upto peer set.chunks))
 
 -- the SSN, walking the sets, replaced by one that comes after it; none without any
 abbrev pub later_ssn : Option ℕ → ℕ → ℕ
@@ -106,10 +120,13 @@ later_ssn (Some last) ssn = if comes_after16 ssn last then ssn else last
 
 abbrev pub latest_passable : Option ℕ → ℕ → ℕ → ℕ → ℕ → List ChunkSet → Option ℕ
 latest_passable found next last t peer [] = found
-latest_passable found next last t peer (set ∷ sets) = latest_passable (if is_passable next last t peer set then Some (later_ssn found set.ssn) else found) next last t peer sets
+latest_passable found next last t peer (set ∷ sets) =
+    latest_passable (if is_passable next last t peer set then Some (later_ssn found set.ssn)
+    else found) next last t peer sets
 
 -- the greatest SSN up to the last that may be skipped now
 abbrev pub applicable : ℕ → ℕ → ℕ → Reassembly → Option ℕ
 applicable last t peer q =
-    if comes_after16 q.next_ssn last || (list_any (settles q.next_ssn last t) q.ordered || is_upto peer (earliest_from None last q.ordered)) then Some last
+    if comes_after16 q.next_ssn last || (list_any (settles q.next_ssn last t) q.ordered
+        || is_upto peer (earliest_from None last q.ordered)) then Some last
     else latest_passable None q.next_ssn last t peer q.ordered
