@@ -92,7 +92,7 @@ abbrev pub IsHeader : Option Header → Parts → Type 0
 IsHeader None p = ⊥
 IsHeader (Some h) p = (h.checksum ≡ h.computed) × (p.source_port ≡ h.fields.source_port)
     × (p.destination_port ≡ h.fields.destination_port)
-        × (p.verification_tag ≡ h.fields.verification_tag)
+    × (p.verification_tag ≡ h.fields.verification_tag)
 
 -- the chunk that an item is read as, if it is not raw
 abbrev pub wire_in : Reading → Option Wire

@@ -44,19 +44,35 @@ pub record IsAligned (numbers : List ℕ) (sender : Transmission) (receiver : Re
 -- what is the sender's, and what is the receiver's
 abbrev pub transmission_of : Sides → Transmission
 transmission_of x =
-    record { streams = map (λ l. l.state) x.streams; flight = x.flight;
-    fragment_size = x.fragment_size; max_message_size = x.max_message_size }
+    record {
+      streams = map (λ l. l.state) x.streams;
+      flight = x.flight;
+      fragment_size = x.fragment_size;
+      max_message_size = x.max_message_size;
+    }
 
 abbrev pub reception_of : Sides → Reception
 reception_of x =
-    record { streams = map (λ l. l.inbound) x.streams; cumulative_tsn = x.cumulative_tsn;
-    beyond = x.beyond; duplicates = x.duplicates; max_message_size = x.max_message_size }
+    record {
+      streams = map (λ l. l.inbound) x.streams;
+      cumulative_tsn = x.cumulative_tsn;
+      beyond = x.beyond;
+      duplicates = x.duplicates;
+      max_message_size = x.max_message_size;
+    }
 
 -- nothing was opened
 abbrev pub fresh : ℕ → ℕ → ℕ → Sides
 fresh tsn size largest =
-    record { streams = []; flight = Flight.at_first tsn; cumulative_tsn = preceding_tsn tsn;
-    beyond = []; duplicates = []; fragment_size = size; max_message_size = largest }
+    record {
+      streams = [];
+      flight = Flight.at_first tsn;
+      cumulative_tsn = preceding_tsn tsn;
+      beyond = [];
+      duplicates = [];
+      fragment_size = size;
+      max_message_size = largest;
+    }
 
 abbrev pub stream_in : ℕ → Sides → Option OpenStream
 stream_in s x = find (has_number s) x.streams
@@ -98,8 +114,10 @@ flight_after_send now f =
 
 abbrev pub sack_taken : Sack → Sides → Sides
 sack_taken s x =
-    record x { streams = released (released_by s x.flight) x.streams;
-    flight = after_sack s x.flight }
+    record x {
+      streams = released (released_by s x.flight) x.streams;
+      flight = after_sack s x.flight;
+    }
 
 -- a message is abandoned, and its stream has so many bytes less
 abbrev pub abandoned_on : Option ℕ → ℕ → ℕ → Sides → Sides
@@ -138,8 +156,10 @@ reported x = record x { duplicates = [] }
 abbrev pub followed : ForwardTsn → Sides → Sides
 followed f x =
     with_filter_of (skipped_to f.new_cumulative_tsn (filter_of (reception_of x)))
-    (record x { streams = map (on_inbound
-    (forwarded_on f.streams f.new_cumulative_tsn)) x.streams })
+    (record x {
+      streams = map (on_inbound
+          (forwarded_on f.streams f.new_cumulative_tsn)) x.streams;
+    })
 
 abbrev pub after_forward : ForwardTsn → Sides → Sides
 after_forward f x = if is_stale f (reception_of x) then x else followed f x

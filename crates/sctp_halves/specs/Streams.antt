@@ -47,8 +47,15 @@ stream_numbers ls = map number ls
 -- what the sender has of a stream, what the receiver has, and its progress
 abbrev pub join : StreamState → InboundStream → StreamProgress → OpenStream
 join s i p =
-    record { state = s; inbound = i; whole = p.whole.items; ordered = p.ordered; begun = p.begun;
-    next = p.next; named = p.named }
+    record {
+      state = s;
+      inbound = i;
+      whole = p.whole.items;
+      ordered = p.ordered;
+      begun = p.begun;
+      next = p.next;
+      named = p.named;
+    }
 
 -- so of each stream
 abbrev pub joined : List StreamState → List InboundStream → List StreamProgress → List OpenStream
@@ -60,8 +67,15 @@ joined (s ∷ ss) (i ∷ is) [] = []
 -- a stream that nothing was written to, and to which nothing came
 abbrev pub new_open_stream : ℕ → ℕ → ℕ → OpenStream
 new_open_stream s size largest =
-    record { state = new_stream s size largest Unknown; inbound = Inbound.new_stream s largest;
-    whole = []; ordered = 0; begun = 0; next = 0; named = 0 }
+    record {
+      state = new_stream s size largest Unknown;
+      inbound = Inbound.new_stream s largest;
+      whole = [];
+      ordered = 0;
+      begun = 0;
+      next = 0;
+      named = 0;
+    }
 
 -- ## The sending side
 
@@ -76,14 +90,21 @@ is_ordered l ppi = stream.is_ordered l.state.unordered ppi
 -- what is recorded of a write
 abbrev pub written_of : OpenStream → PayloadProtocolIdentifier → Written
 written_of l ppi =
-    record { ordered = is_ordered l ppi; reliability = l.state.reliability_type;
-    value = l.state.reliability_value; before = l.ordered }
+    record {
+      ordered = is_ordered l ppi;
+      reliability = l.state.reliability_type;
+      value = l.state.reliability_value;
+      before = l.ordered;
+    }
 
 -- the stream after a write
 abbrev pub wrote_to : PayloadProtocolIdentifier → List ℕ → OpenStream → OpenStream
 wrote_to ppi bytes l =
-    record l { state = Outgoing.wrote ppi bytes l.state; ordered = if is_ordered l ppi
-    then l.ordered + 1 else l.ordered }
+    record l {
+      state = Outgoing.wrote ppi bytes l.state;
+      ordered = if is_ordered l ppi
+          then l.ordered + 1 else l.ordered;
+    }
 
 -- how many ordered messages a stream has begun, where there is one
 abbrev pub begun_in : Option OpenStream → ℕ
@@ -110,8 +131,11 @@ released (r ∷ rs) ls = released rs (change_where (has_number r.stream) (less_b
 -- a message that was not sent is gone: of ordered ones there is one less
 abbrev pub expired_on : Bool → ℕ → OpenStream → OpenStream
 expired_on unordered bytes l =
-    record l { state = Outgoing.expired unordered bytes l.state; ordered = if unordered
-    then l.ordered else l.ordered - 1 }
+    record l {
+      state = Outgoing.expired unordered bytes l.state;
+      ordered = if unordered
+          then l.ordered else l.ordered - 1;
+    }
 
 -- ## The receiving side
 
@@ -126,14 +150,19 @@ pub record Keeps (c : ChunkPayloadData) (number : ℕ) (old new : OpenStream) : 
       ≡ after_ordered_push c old.inbound.queue
   pub unordered_queue : c.unordered ≡ true
       → PushesUnordered c old.inbound.queue new.inbound.queue whole
-  pub rest : new ≡ record old { inbound = record old.inbound { queue = new.inbound.queue };
-      whole = if whole && c.unordered then old.whole ++ number ∷ [] else old.whole }
+  pub rest : new ≡ record old {
+    inbound = record old.inbound { queue = new.inbound.queue };
+    whole = if whole && c.unordered then old.whole ++ number ∷ [] else old.whole;
+  }
 
 -- a message was read: with an ordered one that was expected next the next one is
 abbrev pub read_recorded : Bool → ℕ → OpenStream → OpenStream
 read_recorded ordered index l =
-    record l { whole = if ordered then l.whole else drop 1 l.whole; next = if ordered
-    && (index == l.next) then index + 1 else l.next }
+    record l {
+      whole = if ordered then l.whole else drop 1 l.whole;
+      next = if ordered
+          && (index == l.next) then index + 1 else l.next;
+    }
 
 -- a FORWARD-TSN with these names comes: what it names is gone, one name after another, and then what is unassembled up to its TSN
 abbrev pub forwarded_on : List ChunkForwardTsnStream → ℕ → InboundStream → InboundStream

@@ -27,7 +27,7 @@ pub record Acks (first : ℕ) (w : World) : Type 0 where
   pub shares : (p t : ℕ) (b : Bool) (c : ChunkPayloadData) → p < length w.slots → sending_of c
       ≡ sending_by w b p →
       (if c.stream_identifier == t then length c.user_data else 0)
-          ≡ (if stream_of_slot w p == t then (if b then 0 else bytes_at w p) else 0)
+      ≡ (if stream_of_slot w p == t then (if b then 0 else bytes_at w p) else 0)
 
 -- the slots once these are acknowledged
 pub record IsMarking (w : World) (acked : ℕ → Bool) (marked : List Slot) : Type 0 where

@@ -28,9 +28,12 @@ chunks_of (ForwardContents cumulative names) =
     forward_tsn_chunk (record { new_cumulative_tsn = cumulative; streams = map named_stream names })
     ∷ []
 chunks_of (SackContents cumulative credit blocks duplicates) =
-    sack_chunk (record { cumulative_tsn_ack = cumulative;
-        advertised_receiver_window_credit = credit; gap_ack_blocks = map block_of blocks;
-        duplicate_tsn = duplicates }) ∷ []
+    sack_chunk (record {
+      cumulative_tsn_ack = cumulative;
+      advertised_receiver_window_credit = credit;
+      gap_ack_blocks = map block_of blocks;
+      duplicate_tsn = duplicates;
+    }) ∷ []
 
 abbrev pub packet_of : Contents → Parts
 packet_of c = packet_with (chunks_of c)

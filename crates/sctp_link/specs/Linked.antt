@@ -68,8 +68,12 @@ stats_of c =
 -- the four sums as a link tells them
 abbrev pub ledger_of : M.Ledger → Ledger
 ledger_of l =
-    record { written = l.written; pending = l.pending; in_flight = l.in_flight;
-    released = l.released }
+    record {
+      written = l.written;
+      pending = l.pending;
+      in_flight = l.in_flight;
+      released = l.released;
+    }
 
 -- what a stream keeps, against the record
 pub record IsOpenStream (w : World) (l : OpenStream) : Type 0 where

@@ -38,14 +38,24 @@ start_from first now ms = take first ms ++ map (with_start now) (drop first ms)
 abbrev pub marks : Bool → ℕ → ℕ → List Slot
 marks false number fragment = []
 marks true number fragment =
-    record { message = number; fragment = fragment; is_terminal_chunk = true; arrived = false;
-    acknowledged = false } ∷ []
+    record {
+      message = number;
+      fragment = fragment;
+      is_terminal_chunk = true;
+      arrived = false;
+      acknowledged = false;
+    } ∷ []
 
 -- the slot of a fragment
 abbrev pub fragment_slot : ℕ → ℕ → Slot
 fragment_slot number fragment =
-    record { message = number; fragment = fragment; is_terminal_chunk = false; arrived = false;
-    acknowledged = false }
+    record {
+      message = number;
+      fragment = fragment;
+      is_terminal_chunk = false;
+      arrived = false;
+      acknowledged = false;
+    }
 
 -- the next fragment of a message is its first one, and it is ordered
 abbrev pub begins : Message → Bool

@@ -56,8 +56,13 @@ AllCome w (p ∷ ps) [] = ⊥
 -- the number of the message of the slot at a place
 abbrev pub number_at : List Slot → ℕ → ℕ
 number_at ss p =
-    (slice_index_or ss p (record { message = 0; fragment = 0; is_terminal_chunk = false;
-    arrived = false; acknowledged = false })).message
+    (slice_index_or ss p (record {
+      message = 0;
+      fragment = 0;
+      is_terminal_chunk = false;
+      arrived = false;
+      acknowledged = false;
+    })).message
 
 abbrev pub with_arrival : Slot → Slot
 with_arrival x = record x { arrived = true }
@@ -100,5 +105,5 @@ abbrev pub slot_fits : World → List ℕ → ℕ → Bool
 slot_fits w ps p =
     if is_new w p && (message_at w (message_of w p)).ordered
     then fits w (added_on w (message_at w (message_of w p)).stream ps)
-        (message_at w (message_of w p)).stream
+    (message_at w (message_of w p)).stream
     else true

@@ -33,8 +33,13 @@ progress_of m = (m.sent, m.index)
 -- a slot
 abbrev pub slot_record : Slot → W.Slot
 slot_record x =
-    record { message = x.message; fragment = x.fragment; is_terminal_chunk = x.is_terminal_chunk;
-        arrived = x.arrived; acknowledged = x.acknowledged }
+    record {
+      message = x.message;
+      fragment = x.fragment;
+      is_terminal_chunk = x.is_terminal_chunk;
+      arrived = x.arrived;
+      acknowledged = x.acknowledged;
+    }
 
 abbrev pub ends_of : GapAckBlock → ℕ × ℕ
 ends_of b = (b.start, b.end)
@@ -44,8 +49,12 @@ abbrev pub kind_record : Kind → W.Datagram
 kind_record (K.Data places) = W.Data places.items
 kind_record (K.Forward upto messages) = W.Forward upto messages.items
 kind_record (K.Sack cumulative credit blocks duplicates) =
-    W.Sack (record { cumulative = cumulative; credit = credit; blocks = map ends_of blocks.items;
-        duplicates = duplicates.items })
+    W.Sack (record {
+      cumulative = cumulative;
+      credit = credit;
+      blocks = map ends_of blocks.items;
+      duplicates = duplicates.items;
+    })
 
 abbrev pub datagram_record : Datagram → W.Datagram
 datagram_record d = kind_record d.kind

@@ -19,8 +19,13 @@ pub record Sender : Type 0 where
 
 abbrev pub sender_of : Sides → List Message → List Slot → Sender
 sender_of halves messages slots =
-    record { outbound = halves.flight.queue; messages = messages; streams = halves.streams;
-        slots = slots; next_tsn = halves.flight.next_tsn }
+    record {
+      outbound = halves.flight.queue;
+      messages = messages;
+      streams = halves.streams;
+      slots = slots;
+      next_tsn = halves.flight.next_tsn;
+    }
 
 -- the next fragment can leave
 pub record CanSend (s : Sender) : Type 0 where

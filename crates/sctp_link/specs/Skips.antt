@@ -42,8 +42,10 @@ none_named = record { low = 2 ^ 64 - 1; end = 0 }
 -- one message more
 abbrev pub with_name : List Message → ℕ → ℕ → Named → Named
 with_name ms s n named =
-    if is_on ms s n then record { low = min named.low (index_in ms n);
-        end = max named.end (index_in ms n + 1) } else named
+    if is_on ms s n then record {
+      low = min named.low (index_in ms n);
+      end = max named.end (index_in ms n + 1);
+    } else named
 
 -- the pair that names message n
 abbrev pub pair_in : List Message → ℕ → ChunkForwardTsnStream
@@ -56,5 +58,7 @@ with_names ms names l = with_named (named_from ms l.state.stream_identifier none
 -- a skip as the chunk says it (RFC 3758 3.2)
 abbrev pub wire_skip : World → ℕ → List ℕ → ForwardTsn
 wire_skip w upto names =
-    record { new_cumulative_tsn = tsn_of w upto;
-    streams = map named_stream (map (name_of w) names) }
+    record {
+      new_cumulative_tsn = tsn_of w upto;
+      streams = map named_stream (map (name_of w) names);
+    }

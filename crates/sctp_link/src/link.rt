@@ -207,7 +207,8 @@ impl<C: Checksum + Drop> Link<C> {
     /// The bytes of datagram k, None where it was not made.
     pub fn datagram(&self, k: u64) -> Option<&Bytes>
         ensures { MatchOption result (datagram self.now.world k ≡ None)
-            (λ b. (c : Contents) × (datagram self.now.world k ≡ Some c) × (b.now ≡ datagram_encoding (C.sum self.now.checksum) c)) }
+            (λ b. (c : Contents) × (datagram self.now.world k ≡ Some c)
+            × (b.now ≡ datagram_encoding (C.sum self.now.checksum) c)) }
     {
         if k >= self.network.len() as u64 {
             return None;

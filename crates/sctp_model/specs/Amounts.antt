@@ -67,8 +67,12 @@ pub record Ledger : Type 0 where
 -- the four sums over all messages
 abbrev pub ledger : World → Ledger
 ledger w =
-    record { written = in_all w (written_bytes w); pending = in_all w (pending_bytes w);
-        in_flight = in_all w (in_flight_bytes w); released = in_all w (released_bytes w) }
+    record {
+      written = in_all w (written_bytes w);
+      pending = in_all w (pending_bytes w);
+      in_flight = in_all w (in_flight_bytes w);
+      released = in_all w (released_bytes w);
+    }
 
 -- what a stream still has to send or to see acknowledged, where it is open
 abbrev pub buffered_amount : World → ℕ → Option ℕ

@@ -74,8 +74,15 @@ started w now = record w { messages = map (start_lifetime now) w.messages }
 -- one more slot: for the next fragment of message n, or for its terminal chunk
 abbrev pub with_slot : World → ℕ → Bool → World
 with_slot w n is_terminal_chunk =
-    record w { slots = w.slots ++ record { message = n; fragment = Messages.sent_of w n;
-        is_terminal_chunk = is_terminal_chunk; arrived = false; acknowledged = false } ∷ [] }
+    record w {
+      slots = w.slots ++ record {
+        message = n;
+        fragment = Messages.sent_of w n;
+        is_terminal_chunk = is_terminal_chunk;
+        arrived = false;
+        acknowledged = false;
+      } ∷ [];
+    }
 
 -- the next fragment of message n takes a slot, where there is a message
 abbrev pub fragment_of_sent : World → Option ℕ → World
@@ -189,9 +196,9 @@ tail_abandoned w (Some n) = abandoned w n
 abbrev pub is_late : World → ℕ → ℕ → Bool
 is_late w now place =
     Messages.is_in_flight w place && (Messages.is_past_deadline w now (Messages.message_of w place)
-        && (not (Messages.message_at w (Messages.message_of w place)).abandoned
-        && (not (Messages.slot_at w place).acknowledged
-        || Messages.is_partially_sent w (Messages.message_of w place))))
+    && (not (Messages.message_at w (Messages.message_of w place)).abandoned
+    && (not (Messages.slot_at w place).acknowledged
+    || Messages.is_partially_sent w (Messages.message_of w place))))
 
 -- the late slots, in order
 abbrev pub late_slots : World → ℕ → List ℕ
@@ -201,7 +208,7 @@ late_slots w now = Messages.slots_where w (is_late w now)
 abbrev pub late_messages : World → ℕ → List ℕ
 late_messages w now =
     passing (Messages.is_partially_sent w) (map (Messages.message_of w) (late_slots w now))
-        ++ map (Messages.message_of w) (late_slots w now)
+    ++ map (Messages.message_of w) (late_slots w now)
 
 -- each message of a late slot is abandoned
 abbrev pub late_abandoned : World → ℕ → World
@@ -213,8 +220,8 @@ late_abandoned w now = fold abandoned w (late_messages w now)
 abbrev pub becomes_whole : World → ℕ → Bool
 becomes_whole w n =
     not (Messages.message_at w n).ordered
-        && (Receiver.has_arrived w n && list_all (λ place. nat_le w.skipped place)
-        (Messages.slots_of w n))
+    && (Receiver.has_arrived w n && list_all (λ place. nat_le w.skipped place)
+    (Messages.slots_of w n))
 
 -- a stream with one more complete unordered message
 abbrev pub with_whole : ℕ → StreamRecord → StreamRecord
@@ -235,15 +242,17 @@ abbrev pub slot_received : World → ℕ → World
 slot_received w place =
     if Receiver.is_new w place
     then whole_noted (record w { slots = changed mark_arrived place w.slots })
-        (Messages.message_of w place)
+    (Messages.message_of w place)
     else record w { duplicates = w.duplicates ++ place ∷ [] }
 
 -- the greatest index among these messages of a stream, plus one, or the count before
 abbrev pub named_by : World → List ℕ → StreamRecord → StreamRecord
 named_by w messages r =
-    record r { named = Receiver.greatest r.named
-        (map (λ n. Messages.index_of w n + 1)
-        (passing (Messages.is_ordered_on w r.stream) messages)) }
+    record r {
+      named = Receiver.greatest r.named
+          (map (λ n. Messages.index_of w n + 1)
+          (passing (Messages.is_ordered_on w r.stream) messages));
+    }
 
 -- a skip counts where its slot is past the cumulative count (RFC 3758 3.6)
 abbrev pub skip_counts : World → ℕ → Bool
@@ -252,8 +261,10 @@ skip_counts w upto = nat_le (Receiver.cumulative w) upto
 -- a skip comes: where it counts, the slots up to it are skipped and its messages named
 abbrev pub skip_received : World → ℕ → List ℕ → World
 skip_received w upto messages =
-    if skip_counts w upto then record w { skipped = upto + 1;
-        streams = map (named_by w messages) w.streams } else w
+    if skip_counts w upto then record w {
+      skipped = upto + 1;
+      streams = map (named_by w messages) w.streams;
+    } else w
 
 -- a datagram comes to the receiver
 abbrev pub datagram_received : World → Option Datagram → World
@@ -272,8 +283,10 @@ acknowledged_by r place x = record x { acknowledged = x.acknowledged || Reports.
 -- a SACK comes to the sender, which takes it: it acknowledges what it reports
 abbrev pub sack_taken : World → Option Datagram → World
 sack_taken w (Some (Sack r)) =
-    record w { slots = each_numbered (acknowledged_by r) 0 w.slots;
-    taken = max w.taken r.cumulative }
+    record w {
+      slots = each_numbered (acknowledged_by r) 0 w.slots;
+      taken = max w.taken r.cumulative;
+    }
 sack_taken w _ = w
 
 -- a stream without its first complete unordered message, where it has one

@@ -58,8 +58,8 @@ abbrev pub TakesPending : Setup → History → World → List Log.LogEntry → 
 TakesPending setup h w log =
     (now d tsn ssn count : ℕ) → reply_to w (E.Send now) ≡ R.Sent d tsn ssn count →
     (0 < count) × ((pending_count (after w (E.Send now)) + count ≡ pending_count w)
-        × (slice_get (after w (E.Send now)).network d
-        ≡ Some (Data (numbers_from (length w.slots) count))))
+    × (slice_get (after w (E.Send now)).network d
+    ≡ Some (Data (numbers_from (length w.slots) count))))
 
 -- a step answers Idle to a Send exactly where no fragment is pending, be memory refused or not
 abbrev pub IdleIsAnswered : Setup → History → World → List Log.LogEntry → Type 0
@@ -123,17 +123,17 @@ abbrev pub SlotsInOrder : Setup → History → World → List Log.LogEntry → 
 SlotsInOrder setup h w log =
     (n : ℕ) → n < length w.messages →
     (map (λ place. (Messages.slot_at w place).fragment) (Messages.slots_of w n)
-        ≡ numbers_from 0 (Messages.sent_of w n))
+    ≡ numbers_from 0 (Messages.sent_of w n))
     × ((Messages.sent_of w n ≤ Messages.fragment_count w n)
-        × (length (terminal_chunks_of w n)
-        ≡ (if (Messages.message_at w n).abandoned
-        && nat_lt (Messages.sent_of w n) (Messages.fragment_count w n) then 1 else 0)))
+    × (length (terminal_chunks_of w n)
+    ≡ (if (Messages.message_at w n).abandoned
+    && nat_lt (Messages.sent_of w n) (Messages.fragment_count w n) then 1 else 0)))
 
 -- its slots follow one another
 abbrev pub SlotsFollow : Setup → History → World → List Log.LogEntry → Type 0
 SlotsFollow setup h w log =
     (n place : ℕ) → first_of (Messages.slots_of w n) ≡ Some place → Messages.slots_of w n
-        ≡ numbers_from place (Messages.sent_of w n)
+    ≡ numbers_from place (Messages.sent_of w n)
 
 -- at most one message is partially sent
 abbrev pub OnePartiallySent : Setup → History → World → List Log.LogEntry → Type 0
@@ -144,39 +144,39 @@ OnePartiallySent setup h w log =
 abbrev pub SentInTurn : Setup → History → World → List Log.LogEntry → Type 0
 SentInTurn setup h w log =
     (s m n : ℕ) → m < n → Messages.is_ordered_on w s m ≡ true → Messages.is_ordered_on w s n ≡ true
-        → 0 < Messages.sent_of w n → 0 < Messages.sent_of w m
+    → 0 < Messages.sent_of w n → 0 < Messages.sent_of w m
 
 -- the ordered messages of its stream before message n that were sent
 abbrev pub sent_before : World → ℕ → List ℕ
 sent_before w n =
     kept (λ m. ((Messages.message_at w m).stream == (Messages.message_at w n).stream)
-        && ((Messages.message_at w m).ordered && nat_lt 0 (Messages.sent_of w m))) 0 n
+    && ((Messages.message_at w m).ordered && nat_lt 0 (Messages.sent_of w m))) 0 n
 
 -- the index of an ordered message that was sent is the count of those sent before it: what expired leaves no gap
 abbrev pub IndexesLeaveNoGap : Setup → History → World → List Log.LogEntry → Type 0
 IndexesLeaveNoGap setup h w log =
     (n : ℕ) → (Messages.message_at w n).ordered ≡ true → 0 < Messages.sent_of w n
-        → Messages.index_of w n ≡ length (sent_before w n)
+    → Messages.index_of w n ≡ length (sent_before w n)
 
 -- no terminal chunk is in a datagram
 abbrev pub NoTerminalChunkIsSent : Setup → History → World → List Log.LogEntry → Type 0
 NoTerminalChunkIsSent setup h w log =
     (k : ℕ) (slots : List ℕ) → slice_get w.network k ≡ Some (Data slots)
-        → list_any (λ place. (Messages.slot_at w place).is_terminal_chunk) slots ≡ false
+    → list_any (λ place. (Messages.slot_at w place).is_terminal_chunk) slots ≡ false
 
 -- what a datagram says never changes
 abbrev pub DatagramsStay : Setup → History → World → List Log.LogEntry → Type 0
 DatagramsStay setup h w log =
     (event : Event) (k : ℕ) → refusal_of w event ≡ None → k < length w.network
-        → datagram (after w event) k ≡ datagram w k
+    → datagram (after w event) k ≡ datagram w k
 
 -- what holds of the slots and the datagrams
 abbrev pub SlotsAreValid : Type 0
 SlotsAreValid =
     OnEveryRun SlotsInOrder × (OnEveryRun SlotsFollow
-        × (OnEveryRun OnePartiallySent ×
-        (OnEveryRun SentInTurn × (OnEveryRun IndexesLeaveNoGap
-        × (OnEveryRun NoTerminalChunkIsSent × OnEveryRun DatagramsStay)))))
+    × (OnEveryRun OnePartiallySent ×
+    (OnEveryRun SentInTurn × (OnEveryRun IndexesLeaveNoGap
+    × (OnEveryRun NoTerminalChunkIsSent × OnEveryRun DatagramsStay)))))
 
 -- a datagram of the record as events and replies tell of it
 abbrev pub kind_of : Datagram → Log.Made
@@ -203,9 +203,9 @@ CumulativeIsSeen setup h w log = Receiver.cumulative w ≡ Log.seen_count log (l
 abbrev pub ArrivalsAnswered : Setup → History → World → List Log.LogEntry → Type 0
 ArrivalsAnswered setup h w log =
     ((k : ℕ) (slots : List ℕ) → slice_get w.network k ≡ Some (Data slots) → reply_to w (E.Arrive k)
-        ≡ (if list_any (λ place. not (Log.is_seen log place)) slots then R.New else R.Repeat))
+    ≡ (if list_any (λ place. not (Log.is_seen log place)) slots then R.New else R.Repeat))
     × ((k upto : ℕ) (messages : List ℕ) → slice_get w.network k ≡ Some (Forward upto messages)
-        → reply_to w (E.Arrive k) ≡ (if Log.counts log upto then R.Skipped else R.Stale))
+    → reply_to w (E.Arrive k) ≡ (if Log.counts log upto then R.Skipped else R.Stale))
 
 -- a message is whole in the record exactly where the order of arrivals makes it whole
 abbrev pub WholeIsWhole : Setup → History → World → List Log.LogEntry → Type 0
@@ -224,9 +224,9 @@ SpansFit setup h w log = Receiver.spans_fit w [] ≡ true
 abbrev pub ArrivalsAgree : Type 0
 ArrivalsAgree =
     OnEveryRun NetworkIsMade × (OnEveryRun ArrivedIsNew
-        × (OnEveryRun CumulativeIsSeen ×
-        (OnEveryRun ArrivalsAnswered × (OnEveryRun WholeIsWhole
-        × (OnEveryRun NamedIsNamed × OnEveryRun SpansFit)))))
+    × (OnEveryRun CumulativeIsSeen ×
+    (OnEveryRun ArrivalsAnswered × (OnEveryRun WholeIsWhole
+    × (OnEveryRun NamedIsNamed × OnEveryRun SpansFit)))))
 
 -- ## Reads
 
@@ -248,9 +248,11 @@ unordered_reads setup h s = passing (is_unordered (world_of setup h)) (Log.numbe
 
 -- message n as it was written
 abbrev pub shown_of : World → ℕ → Log.Shown
-shown_of w n =
-    ((Messages.message_at w n).stream, (Messages.message_at w n).ppi,
-    (Messages.message_at w n).bytes)
+shown_of w n = (
+  (Messages.message_at w n).stream,
+  (Messages.message_at w n).ppi,
+  (Messages.message_at w n).bytes,
+)
 
 -- the messages are the accepted writes of at least one byte
 abbrev pub MessagesAreWrites : Setup → History → World → List Log.LogEntry → Type 0
@@ -269,8 +271,8 @@ ModesAreKept setup h w log = map mode_of w.messages ≡ Log.modes_in h
 abbrev pub ReadsShowMessages : Setup → History → World → List Log.LogEntry → Type 0
 ReadsShowMessages setup h w log =
     (s : ℕ) → (Log.reads_in h s ≡ map (shown_of w) (Log.numbers_read setup h s))
-        × (list_all (λ n. nat_lt n (length w.messages) && ((Messages.message_at w n).stream == s))
-        (Log.numbers_read setup h s) ≡ true)
+    × (list_all (λ n. nat_lt n (length w.messages) && ((Messages.message_at w n).stream == s))
+    (Log.numbers_read setup h s) ≡ true)
 
 -- the ordered reads of a stream are a beginning of its run
 abbrev pub ReadsBeginRun : Setup → History → World → List Log.LogEntry → Type 0
@@ -289,8 +291,8 @@ loses_nothing event = true
 abbrev pub ReadsBeginWholeRun : Setup → History → World → List Log.LogEntry → Type 0
 ReadsBeginWholeRun setup h w log =
     (s : ℕ) → list_all (λ entry. loses_nothing entry.0) h ≡ true
-        → IsPrefixOf (ordered_reads setup h s)
-        (leading (Log.is_whole_by w log) (Messages.ordered_on w s))
+    → IsPrefixOf (ordered_reads setup h s)
+    (leading (Log.is_whole_by w log) (Messages.ordered_on w s))
 
 -- the ordered messages are read in order, each as it was written
 abbrev pub OrderedReads : Type 0
@@ -311,7 +313,7 @@ ReadsDiffer setup h w log = (s : ℕ) → AllDifferent (Log.numbers_read setup h
 abbrev pub UnorderedFirst : Setup → History → World → List Log.LogEntry → Type 0
 UnorderedFirst setup h w log =
     (s n : ℕ) → slice_get (Log.whole_by w log s) (length (unordered_reads setup h s)) ≡ Some n
-        → Receiver.next_read w s ≡ Some n
+    → Receiver.next_read w s ≡ Some n
 
 -- the unordered messages are read each once, in the order in which they became whole
 abbrev pub UnorderedReads : Type 0
@@ -321,8 +323,8 @@ UnorderedReads = OnEveryRun ReadsBeginWhole × (OnEveryRun ReadsDiffer × OnEver
 abbrev pub NothingWhereRead : Setup → History → World → List Log.LogEntry → Type 0
 NothingWhereRead setup h w log =
     (s : ℕ) → (reply_to w (E.Read s) ≡ R.Nothing) ↔
-        ((ordered_reads setup h s ≡ Log.run_by w log s)
-        × (unordered_reads setup h s ≡ Log.whole_by w log s))
+    ((ordered_reads setup h s ≡ Log.run_by w log s)
+    × (unordered_reads setup h s ≡ Log.whole_by w log s))
 
 -- Nothing exactly where all is read
 abbrev pub NothingWhenExhausted : Type 0
@@ -340,23 +342,23 @@ AcknowledgedArrived setup h w log =
 abbrev pub AcknowledgedIsReported : Setup → History → World → List Log.LogEntry → Type 0
 AcknowledgedIsReported setup h w log =
     ((place : ℕ) → place < length w.slots → (Messages.slot_at w place).acknowledged
-        ≡ Log.is_acknowledged_in setup h place)
+    ≡ Log.is_acknowledged_in setup h place)
     × (w.taken ≡ Log.taken_in setup h)
 
 -- the gap blocks that the order of arrivals gives
 abbrev pub blocks_by : World → List Log.LogEntry → List (ℕ × ℕ)
 blocks_by w log =
     take 16379 (runs_of (kept (λ d. Log.arrived_new log
-        (Log.seen_count log (length w.slots) + d - 1)) 1
-        (min 65535 (length w.slots - Log.seen_count log (length w.slots)))))
+    (Log.seen_count log (length w.slots) + d - 1)) 1
+    (min 65535 (length w.slots - Log.seen_count log (length w.slots)))))
 
 -- a SACK says the cumulative TSN, the credit of its event, the gap blocks, and the duplicates that fit
 abbrev pub SacksSay : Setup → History → World → List Log.LogEntry → Type 0
 SacksSay setup h w log =
     (credit : ℕ) → datagram (after w (E.Ack credit)) (length w.network) ≡
     Some (SackContents (cumulative_tsn w (Log.seen_count log (length w.slots))) credit
-        (blocks_by w log) (map (Messages.tsn_of w)
-        (take (16379 - length (blocks_by w log)) (Log.duplicates_in log))))
+    (blocks_by w log) (map (Messages.tsn_of w)
+    (take (16379 - length (blocks_by w log)) (Log.duplicates_in log))))
 
 -- only what arrived or was skipped is acknowledged, and just what the SACKs taken report
 abbrev pub OnlyArrivedIsAcknowledged : Type 0
@@ -369,17 +371,17 @@ OnlyArrivedIsAcknowledged =
 abbrev pub Balances : Setup → History → World → List Log.LogEntry → Type 0
 Balances setup h w log =
     ((Amounts.ledger w).written ≡ (Amounts.ledger w).pending + (Amounts.ledger w).in_flight
-        + (Amounts.ledger w).released)
+    + (Amounts.ledger w).released)
     × ((s : ℕ) → Amounts.on_stream w s (Amounts.written_bytes w)
-        ≡ Amounts.on_stream w s (Amounts.pending_bytes w)
-        + Amounts.on_stream w s (Amounts.in_flight_bytes w)
-        + Amounts.on_stream w s (Amounts.released_bytes w))
+    ≡ Amounts.on_stream w s (Amounts.pending_bytes w)
+    + Amounts.on_stream w s (Amounts.in_flight_bytes w)
+    + Amounts.on_stream w s (Amounts.released_bytes w))
 
 -- written is the sum over the writes, released the sum over the replies that tell of a release
 abbrev pub SumsAgree : Setup → History → World → List Log.LogEntry → Type 0
 SumsAgree setup h w log =
     ((Amounts.ledger w).written ≡ Log.total_shown Log.length_shown (Log.writes_in h))
-        × ((Amounts.ledger w).released ≡ Log.released_in h)
+    × ((Amounts.ledger w).released ≡ Log.released_in h)
 
 -- each written byte is pending, in flight or released
 abbrev pub BytesBalance : Type 0
@@ -493,8 +495,8 @@ abbrev pub LateAbandonsListed : Setup → History → World → List Log.LogEntr
 LateAbandonsListed setup h w log =
     (now n : ℕ) → n < length w.messages →
     (Messages.message_at (after w (E.Late now)) n).abandoned
-        ≡ ((Messages.message_at w n).abandoned
-        || list_any (λ place. Messages.message_of w place == n) (late_slots w now))
+    ≡ ((Messages.message_at w n).abandoned
+    || list_any (λ place. Messages.message_of w place == n) (late_slots w now))
 
 -- lifetimes start once, messages pass their deadlines by the events, and Expire, Tail and Late go by that
 abbrev pub LifetimesEnd : Type 0
@@ -538,8 +540,8 @@ SameWrites g h s = Log.writes_on g s ≡ Log.writes_on h s
 abbrev pub fragment_arrived : World → List Log.LogEntry → ℕ → ℕ → Bool
 fragment_arrived w log n i =
     list_any (λ place. Messages.has_fragment w n place
-        && (((Messages.slot_at w place).fragment == i) && Log.arrived_new log place))
-        (numbers_from 0 (length w.slots))
+    && (((Messages.slot_at w place).fragment == i) && Log.arrived_new log place))
+    (numbers_from 0 (length w.slots))
 
 -- message n arrived wholly: each of its fragments did
 abbrev pub arrived_wholly : World → List Log.LogEntry → ℕ → Bool
@@ -631,7 +633,7 @@ Composition = ReadsAreSettled × (OnEveryRun ReadsByArrivals × OnEveryRun NoneI
 abbrev pub Headline : Type 0
 Headline =
     EachSendEmits × (OrderedReads × (UnorderedReads
-        × (NothingWhenExhausted × (OnlyArrivedIsAcknowledged × BytesBalance))))
+    × (NothingWhenExhausted × (OnlyArrivedIsAcknowledged × BytesBalance))))
 
 -- the record is valid in every history, and while datagrams come
 abbrev pub RecordsAreValid : Type 0
@@ -642,14 +644,14 @@ RecordsAreValid =
 abbrev pub Beside : Type 0
 Beside =
     SlotsAreValid × (DatagramsKeepLimit ×
-        (ArrivalsAgree × (LifetimesEnd × (CountersCount × (Composition × RecordsAreValid)))))
+    (ArrivalsAgree × (LifetimesEnd × (CountersCount × (Composition × RecordsAreValid)))))
 
 -- where nothing expires, is abandoned or skipped: the ordered reads begin the longest whole run and what arrived settles the reads, with all that holds of every history
 abbrev pub ReliableDelivery : Type 0
 ReliableDelivery =
     OnEveryRun ReadsBeginWholeRun × (Composition
-        × (UnorderedReads × (NothingWhenExhausted
-        × (OnlyArrivedIsAcknowledged × (BytesBalance × (ArrivalsAgree × CountersCount))))))
+    × (UnorderedReads × (NothingWhenExhausted
+    × (OnlyArrivedIsAcknowledged × (BytesBalance × (ArrivalsAgree × CountersCount))))))
 
 -- all laws of this crate
 abbrev pub PartialDelivery : Type 0

@@ -113,38 +113,38 @@ abbrev pub were_whole : List ℕ → List LogEntry → Bool
 were_whole places [] = false
 were_whole places (coming ∷ log) =
     were_whole places log || list_all (λ p. arrived_new (coming ∷ log) p
-        && not (is_skipped (coming ∷ log) p)) places
+    && not (is_skipped (coming ∷ log) p)) places
 
 -- message n is whole: all of it was sent, and each of its slots arrived new; those of an unordered one before a skip covered one
 abbrev pub is_whole_by : World → List LogEntry → ℕ → Bool
 is_whole_by w log n =
     (Messages.sent_of w n == Messages.fragment_count w n)
-        && (if (Messages.message_at w n).ordered
-        then list_all (arrived_new log) (Messages.slots_of w n)
-        else were_whole (Messages.slots_of w n) log)
+    && (if (Messages.message_at w n).ordered
+    then list_all (arrived_new log) (Messages.slots_of w n)
+    else were_whole (Messages.slots_of w n) log)
 
 -- one more than the greatest index on stream s that a skip that counted named, or 0
 abbrev pub named_by : World → ℕ → List LogEntry → ℕ
 named_by w s [] = 0
 named_by w s (SkipReceived upto messages ∷ log) =
     if counts log upto then greatest (named_by w s log)
-        (map (λ n. Messages.index_of w n + 1) (passing (Messages.is_ordered_on w s) messages))
-        else named_by w s log
+    (map (λ n. Messages.index_of w n + 1) (passing (Messages.is_ordered_on w s) messages))
+    else named_by w s log
 named_by w s (coming ∷ log) = named_by w s log
 
 -- the complete ordered messages of a stream up to the last one named, then the unbroken whole run
 abbrev pub run_by : World → List LogEntry → ℕ → List ℕ
 run_by w log s =
     passing (is_whole_by w log) (take (named_by w s log) (Messages.ordered_on w s))
-        ++ leading (is_whole_by w log) (drop (named_by w s log) (Messages.ordered_on w s))
+    ++ leading (is_whole_by w log) (drop (named_by w s log) (Messages.ordered_on w s))
 
 -- the unordered messages of stream s, in the order in which they became whole
 abbrev pub whole_by : World → List LogEntry → ℕ → List ℕ
 whole_by w [] s = []
 whole_by w (coming ∷ log) s =
     whole_by w log s ++ Messages.messages_where w
-        (λ n. Messages.is_unordered_on w s n
-        && (is_whole_by w (coming ∷ log) n && not (is_whole_by w log n)))
+    (λ n. Messages.is_unordered_on w s n
+    && (is_whole_by w (coming ∷ log) n && not (is_whole_by w log n)))
 
 -- ## Acknowledgement
 
@@ -158,7 +158,7 @@ abbrev pub is_acknowledged_in : Setup → History → ℕ → Bool
 is_acknowledged_in setup [] place = false
 is_acknowledged_in setup ((E.Acked k, r) ∷ older) place =
     is_acknowledged_in setup older place
-        || reported_by (slice_get (world_of setup older).network k) place
+    || reported_by (slice_get (world_of setup older).network k) place
 is_acknowledged_in setup (entry ∷ older) place = is_acknowledged_in setup older place
 
 -- the cumulative count of a datagram that is a SACK
@@ -202,7 +202,7 @@ abbrev pub mode_in : History → ℕ → Mode
 mode_in [] s = record { unordered = false; reliability = Reliable; value = 0 }
 mode_in ((E.Mode t unordered reliability value, r) ∷ older) s =
     if t == s then record { unordered = unordered; reliability = reliability; value = value }
-        else mode_in older s
+    else mode_in older s
 mode_in (entry ∷ older) s = mode_in older s
 
 -- the mode of a message with this payload type: DCEP is always ordered (RFC 8832 6)
@@ -290,7 +290,7 @@ is_write_past_deadline now start x m = false
 abbrev pub is_past_deadline_by_events : History → ℕ → ℕ → Bool
 is_past_deadline_by_events h now n =
     is_write_past_deadline now (started_in h n) (slice_get (writes_in h) n)
-        (slice_get (modes_in h) n)
+    (slice_get (modes_in h) n)
 
 -- the bytes that a reply tells were released
 abbrev pub released_by : Reply → ℕ

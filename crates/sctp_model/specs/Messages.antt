@@ -13,20 +13,42 @@ use Rattle.sctp_model.specs.World.{StreamRecord, Message, Slot, World}
 -- a stream as it opens: ordered and reliable, with nothing named
 abbrev pub no_stream : ℕ → StreamRecord
 no_stream s =
-    record { stream = s; unordered = false; reliability = Reliable; value = 0; named = 0;
-    whole = [] }
+    record {
+      stream = s;
+      unordered = false;
+      reliability = Reliable;
+      value = 0;
+      named = 0;
+      whole = [];
+    }
 
 -- what stands past the last message
 abbrev pub no_message : Message
 no_message =
-    record { stream = 0; ordered = false; ppi = Unknown; bytes = []; reliability = Reliable;
-    value = 0; before = 0; started = None; expired = true; abandoned = true; read = true }
+    record {
+      stream = 0;
+      ordered = false;
+      ppi = Unknown;
+      bytes = [];
+      reliability = Reliable;
+      value = 0;
+      before = 0;
+      started = None;
+      expired = true;
+      abandoned = true;
+      read = true;
+    }
 
 -- what stands past the last slot
 abbrev pub no_slot : Slot
 no_slot =
-    record { message = 0; fragment = 0; is_terminal_chunk = true; arrived = false;
-    acknowledged = true }
+    record {
+      message = 0;
+      fragment = 0;
+      is_terminal_chunk = true;
+      arrived = false;
+      acknowledged = true;
+    }
 
 -- message n
 abbrev pub message_at : World → ℕ → Message

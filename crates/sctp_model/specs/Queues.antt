@@ -36,7 +36,7 @@ pending_at w n i =
 abbrev pub pending_fragments : World → ℕ → List PendingFragment
 pending_fragments w n =
     map (pending_at w n) (numbers_from (Messages.sent_of w n)
-        (Messages.fragment_count w n - Messages.sent_of w n))
+    (Messages.fragment_count w n - Messages.sent_of w n))
 
 -- the pending queue: ordered and unordered fragments apart, each message's in a row, and the kind that a partially sent message selects
 pub record PendingRecord : Type 0 where
@@ -130,8 +130,11 @@ set_of w n =
 -- a complete unordered message as one set: its SSN is 0, since unordered messages have none of their own (RFC 4960 6.6)
 abbrev pub whole_set_of : World → ℕ → ChunkSet
 whole_set_of w n =
-    record { ssn = 0; ppi = (Messages.message_at w n).ppi;
-    chunks = map (chunk_at w) (Messages.slots_of w n) }
+    record {
+      ssn = 0;
+      ppi = (Messages.message_at w n).ppi;
+      chunks = map (chunk_at w) (Messages.slots_of w n);
+    }
 
 -- the set that a read of message n hands out
 abbrev pub handed_out : World → ℕ → ChunkSet
@@ -141,8 +144,8 @@ handed_out w n = if (Messages.message_at w n).ordered then set_of w n else whole
 abbrev pub is_unassembled : World → ℕ → ℕ → Bool
 is_unassembled w s place =
     Receiver.arrived_at w place && (nat_le w.skipped place
-        && (Messages.is_unordered_on w s (Messages.message_of w place)
-        && not (Receiver.is_whole w (Messages.message_of w place))))
+    && (Messages.is_unordered_on w s (Messages.message_of w place)
+    && not (Receiver.is_whole w (Messages.message_of w place))))
 
 -- the SSN expected next, the sets of ordered messages, the complete unordered messages and the unassembled chunks
 pub record ReassemblyRecord : Type 0 where

@@ -45,7 +45,7 @@ is_for_sender _ = false
 abbrev pub can_resend : World → ℕ → Bool
 can_resend w place =
     Messages.is_in_flight w place && (not (Messages.slot_at w place).acknowledged
-        && not (Messages.message_at w (Messages.message_of w place)).abandoned)
+    && not (Messages.message_at w (Messages.message_of w place)).abandoned)
 
 -- all of message n has slots, or it was abandoned
 abbrev pub is_ended : World → ℕ → Bool
@@ -56,9 +56,9 @@ is_ended w n =
 abbrev pub can_name : World → ℕ → ℕ → Bool
 can_name w upto n =
     nat_lt n (length w.messages) && ((Messages.message_at w n).ordered
-        && (is_ended w n && (not (Messages.message_at w n).expired
-        && list_all (λ place. nat_le place upto)
-        (Messages.slots_where w (Messages.belongs_to w n)))))
+    && (is_ended w n && (not (Messages.message_at w n).expired
+    && list_all (λ place. nat_le place upto)
+    (Messages.slots_where w (Messages.belongs_to w n)))))
 
 -- the ordered messages whose indexes an arrival adds to the span: those of the new fragments, those that a counting skip names
 abbrev pub adds_to_span : World → Option Datagram → List ℕ
@@ -126,7 +126,7 @@ abbrev pub sent_reply : World → World → Option ℕ → Reply
 sent_reply old new None = R.Idle
 sent_reply old new (Some n) =
     R.Sent (length old.network) (Messages.tsn_of old (length old.slots)) (Messages.ssn_of old n)
-        (length new.slots - length old.slots)
+    (length new.slots - length old.slots)
 
 -- the stream of the message that expired and the bytes released, or Idle
 abbrev pub expired_reply : World → World → Option ℕ → Reply
@@ -166,7 +166,7 @@ reply_to w (E.Late now) =
     R.Late (length (Changes.late_slots w now)) (growth w (after w (E.Late now)))
 reply_to w (E.Abandon tsn) =
     R.Released (Messages.message_at w (Messages.message_of w (Messages.place_of w tsn))).stream
-        (growth w (after w (E.Abandon tsn)))
+    (growth w (after w (E.Abandon tsn)))
 reply_to w (E.Skip upto messages) = R.Skip (length w.network)
 reply_to w (E.Ack credit) = R.Ack (length w.network)
 reply_to w (E.Arrive k) = arrive_reply w (slice_get w.network k)
@@ -234,7 +234,7 @@ abbrev pub IsRun : Setup → History → Type 0
 IsRun setup [] = Unit {0}
 IsRun setup (entry ∷ older) =
     (refusal_of (world_of setup older) entry.0 ≡ None)
-        × ((entry.1 ≡ reply_to (world_of setup older) entry.0) × IsRun setup older)
+    × ((entry.1 ≡ reply_to (world_of setup older) entry.0) × IsRun setup older)
 
 -- the record is that of this history
 pub record StandsFor (setup : Setup) (w : World) (h : History) : Type 0 where

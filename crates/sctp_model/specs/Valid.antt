@@ -129,14 +129,14 @@ pub record ComesValid (w : World) (p : ℕ) : Type 0 where
 abbrev pub SlotsComeValid : Setup → History → World → List LogEntry → Type 0
 SlotsComeValid setup h w log =
     (k : ℕ) (ps : List ℕ) (p : ℕ) (qs : List ℕ) → refusal_of w (E.Arrive k) ≡ None
-        → slice_get w.network k ≡ Some (Data (ps ++ p ∷ qs))
-        → ComesValid (fold slot_received w ps) p
+    → slice_get w.network k ≡ Some (Data (ps ++ p ∷ qs))
+    → ComesValid (fold slot_received w ps) p
 
 -- the indexes that a counting skip names are near those that matter before it and after it
 abbrev pub SkipsComeValid : Setup → History → World → List LogEntry → Type 0
 SkipsComeValid setup h w log =
     (k upto : ℕ) (names : List ℕ) → refusal_of w (E.Arrive k) ≡ None → slice_get w.network k
-        ≡ Some (Forward upto names) → cumulative w ≤ upto → (s : ℕ) → is_open w s ≡ true →
+    ≡ Some (Forward upto names) → cumulative w ≤ upto → (s : ℕ) → is_open w s ≡ true →
     IsSpan w s (map (index_of w) (passing (is_ordered_on w s) names))
-        × IsSpan (datagram_received w (Some (Forward upto names))) s
-        (map (index_of w) (passing (is_ordered_on w s) names))
+    × IsSpan (datagram_received w (Some (Forward upto names))) s
+    (map (index_of w) (passing (is_ordered_on w s) names))

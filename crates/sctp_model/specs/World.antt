@@ -80,5 +80,13 @@ pub record World : Type 0 where
 -- the link as it was made
 abbrev pub start : Setup → World
 start setup =
-    record { setup = setup; streams = []; messages = []; slots = []; network = []; skipped = 0;
-    taken = 0; duplicates = [] }
+    record {
+      setup = setup;
+      streams = [];
+      messages = [];
+      slots = [];
+      network = [];
+      skipped = 0;
+      taken = 0;
+      duplicates = [];
+    }

@@ -43,9 +43,18 @@ impl Model for OutboundQueue {
 
     ghost Value = { Outbound };
 
-    ghost view = { λ q. record { pending = q.pending; inflight = q.inflight; next_message_id = q.next_message_id; next_unstarted = q.next_unstarted_message_id } };
+    ghost view = { λ q. record {
+      pending = q.pending;
+      inflight = q.inflight;
+      next_message_id = q.next_message_id;
+      next_unstarted = q.next_unstarted_message_id;
+    } };
 
-    ghost invariant = { λ q. record { sendable : IsSendable q.pending q.inflight.chunks q.next_message_id; fits : total_bytes q.pending + bytes_of q.inflight.chunks < 2 ^ 64 } };
+    ghost invariant = { λ q.
+        record {
+          sendable : IsSendable q.pending q.inflight.chunks q.next_message_id;
+          fits : total_bytes q.pending + bytes_of q.inflight.chunks < 2 ^ 64;
+        } };
 }
 
 impl OutboundQueue {
@@ -146,7 +155,8 @@ impl OutboundQueue {
     pub fn peek_pending(&self) -> Option<&ChunkPayloadData>
         ensures value { option_copied result ≡ pending.peeked self.now.pending }
         ensures goes_on { (m : ℕ)
-            → partially_sent self.now.pending ≡ Some m → GoesOn m (pending.peeked self.now.pending) }
+            → partially_sent self.now.pending ≡ Some m
+            → GoesOn m (pending.peeked self.now.pending) }
     {
         self.pending.peek()
     }
@@ -179,7 +189,8 @@ impl OutboundQueue {
         requires fresh { is_held self.old.inflight.chunks next_tsn.old ≡ false }
         requires window { SpansOneWindow self.old.inflight.chunks next_tsn.old }
         ensures goes_on { (m : ℕ)
-            → partially_sent self.old.pending ≡ Some m → GoesOn m (pending.peeked self.old.pending) }
+            → partially_sent self.old.pending ≡ Some m
+            → GoesOn m (pending.peeked self.old.pending) }
         ensures sent { IfOk result (λ sent. sent
             ≡ option_map (λ _. next_tsn.old) (pending.peeked self.old.pending)) }
         ensures ok { OnOk result (self.new ≡ sent_next self.old next_tsn.old now) }

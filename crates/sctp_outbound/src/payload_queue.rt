@@ -45,9 +45,17 @@ impl Model for PayloadQueue {
 
     ghost Value = { Payload };
 
-    ghost view = { λ q. record { chunks = q.held.chunks; duplicates = q.dup_tsn.items; room = q.held.room } };
+    ghost view = { λ q. record {
+      chunks = q.held.chunks;
+      duplicates = q.dup_tsn.items;
+      room = q.held.room;
+    } };
 
-    ghost invariant = { λ q. record { serial : IsSerial q.held.chunks; counted : q.n_bytes ≡ bytes_of q.held.chunks } };
+    ghost invariant = { λ q. record {
+      serial : IsSerial q.held.chunks;
+      counted : q.n_bytes
+          ≡ bytes_of q.held.chunks;
+    } };
 }
 
 // Where a TSN is held, with its chunk, or where it would go: a binary search.

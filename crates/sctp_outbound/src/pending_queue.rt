@@ -42,7 +42,13 @@ impl Model for PendingQueue {
 
     ghost Value = { Pending };
 
-    ghost view = { λ q. record { ordered = q.ordered.chunks; unordered = q.unordered.chunks; selected = q.selected; ordered_room = q.ordered.room; unordered_room = q.unordered.room } };
+    ghost view = { λ q. record {
+      ordered = q.ordered.chunks;
+      unordered = q.unordered.chunks;
+      selected = q.selected;
+      ordered_room = q.ordered.room;
+      unordered_room = q.unordered.room;
+    } };
 
     ghost invariant = { λ q. bytes_of q.ordered.chunks + bytes_of q.unordered.chunks < 2 ^ 64 };
 }

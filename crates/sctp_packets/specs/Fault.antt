@@ -17,7 +17,7 @@ abbrev pub PlaceFault : Error → List ℕ → Type 0
 PlaceFault e rest =
     ((e ≡ errors.ErrParseSctpChunkNotEnoughData) × (0 < length rest) × (length rest < 4))
     ⊎ ((e ≡ errors.ErrParseSctpChunkNotEnoughData) × (4 ≤ length rest)
-        × (length rest < padded (declared rest)))
+    × (length rest < padded (declared rest)))
     ⊎ KindFault e rest
 
 -- a fault at a place that the walk comes to
@@ -30,7 +30,7 @@ abbrev pub HeadFault : (List ℕ → ℕ) → Error → List ℕ → Type 0
 HeadFault sum e bytes =
     ((e ≡ errors.ErrPacketRawTooSmall) × (length bytes < 12))
     ⊎ ((e ≡ errors.ErrChecksumMismatch) × (12 ≤ length bytes)
-        × (u32_le_at bytes 8 ≢ sum (summed bytes)))
+    × (u32_le_at bytes 8 ≢ sum (summed bytes)))
 
 abbrev pub PacketFault : (List ℕ → ℕ) → Error → List ℕ → Type 0
 PacketFault sum e bytes = HeadFault sum e bytes ⊎ WalkFault e (drop 12 bytes)

@@ -53,4 +53,4 @@ PartialFault sum e bytes =
     ⊎ ((e ≡ errors.ErrParseSctpChunkNotEnoughData) × (12 ≤ length bytes) × (length bytes < 16))
     ⊎ ((16 ≤ length bytes) × HeaderFault e (drop 12 bytes))
     ⊎ ((e ≡ errors.ErrChunkValueNotLongEnough) × IsInitChunk (drop 12 bytes)
-        × (length (value_at (drop 12 bytes)) < 4))
+    × (length (value_at (drop 12 bytes)) < 4))

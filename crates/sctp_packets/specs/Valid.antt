@@ -27,12 +27,12 @@ abbrev pub InitFault : Error → Parts → Type 0
 InitFault e p =
     ((e ≡ errors.ErrInitChunkBundled) × (has_init p.chunks ≡ true) × (length p.chunks ≢ 1))
     ⊎ ((e ≡ errors.ErrInitChunkVerifyTagNotZero) × (has_init p.chunks ≡ true)
-        × (length p.chunks ≡ 1) × (p.verification_tag ≢ 0))
+    × (length p.chunks ≡ 1) × (p.verification_tag ≢ 0))
 
 -- why a packet is not valid: the first rule that it breaks
 abbrev pub ValidFault : Error → Parts → Type 0
 ValidFault e p =
     ((e ≡ errors.ErrSctpPacketSourcePortZero) × (p.source_port ≡ 0))
     ⊎ ((e ≡ errors.ErrSctpPacketDestinationPortZero) × (p.source_port ≢ 0)
-        × (p.destination_port ≡ 0))
+    × (p.destination_port ≡ 0))
     ⊎ ((p.source_port ≢ 0) × (p.destination_port ≢ 0) × InitFault e p)

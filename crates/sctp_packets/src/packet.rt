@@ -188,7 +188,8 @@ fn put_chunks(buf: &mut BytesMut, chunks: &[ChunkKind]) -> Result<()>
 #[tactic(auto, unfolding(crate::specs::Packet::head_encoding))]
 fn put_head(buf: &mut BytesMut, header: CommonHeader) -> Result<()>
     ensures ok { OnOk result (buf.new.items ≡ buf.old.items
-        ++ head_encoding header.source_port header.destination_port header.verification_tag ++ four_zeroes) }
+        ++ head_encoding header.source_port header.destination_port header.verification_tag
+        ++ four_zeroes) }
     ensures fits { OnOk result ((header.source_port < 2 ^ 16) × (header.destination_port < 2 ^ 16)
         × (header.verification_tag < 2 ^ 32)) }
     ensures err { OnErr result (buf.new.items ≡ buf.old.items) }
@@ -209,7 +210,8 @@ fn store_checksum<C: Checksum>(buf: &mut BytesMut, start: usize, checksum: &C)
     ensures fits { C.sum checksum.now (take 8 (drop start buf.old.items) ++ four_zeroes
         ++ drop (start + 12) buf.old.items) < 2 ^ 32 }
     ensures items { buf.new.items ≡ take (start + 8) buf.old.items
-        ++ le32 (C.sum checksum.now (take 8 (drop start buf.old.items) ++ four_zeroes ++ drop (start + 12) buf.old.items))
+        ++ le32 (C.sum checksum.now (take 8 (drop start buf.old.items) ++ four_zeroes
+        ++ drop (start + 12) buf.old.items))
         ++ drop (start + 12) buf.old.items }
 {
     let bytes = buf.as_slice();
@@ -253,7 +255,8 @@ impl Packet {
     #[tactic(auto, using(crate::proofs::Again::packet_again))]
     pub fn marshal_to<C: Checksum>(&self, buf: &mut BytesMut, checksum: &C) -> Result<usize>
         ensures ok { IfOk result (λ n. HavePacketEncoding (parts_of self.now)
-            × (buf.new.items ≡ buf.old.items ++ packet_encoding (C.sum checksum.now) (parts_of self.now))
+            × (buf.new.items ≡ buf.old.items ++ packet_encoding (C.sum checksum.now)
+            (parts_of self.now))
             × (n ≡ length buf.new.items)) }
         // What is written reads back.
         ensures reads_back { IsCanonical (parts_of self.now)
@@ -263,7 +266,8 @@ impl Packet {
         ensures refused { IfErr result (λ e.
             (IsEncodingError e × (HavePacketEncoding (parts_of self.now) → ⊥))
             ⊎ ((e ≡ ErrOutOfMemory)
-            × (buf.old.spare < length (packet_encoding (C.sum checksum.now) (parts_of self.now))))) }
+            × (buf.old.spare < length (packet_encoding (C.sum checksum.now)
+            (parts_of self.now))))) }
         // The fault is that of the first chunk without an encoding; for memory it is refused only where room was short before it.
         ensures names { IfErr result (λ e. PacketEncodingFault e (parts_of self.now)
             ⊎ ((e ≡ ErrOutOfMemory) × LacksRoom buf.old.spare 12 (parts_of self.now).chunks)) }
@@ -296,10 +300,12 @@ impl Packet {
     // After a refusal a part may stand there.
     fn put<C: Checksum>(&self, buf: &mut BytesMut, checksum: &C) -> Result<()>
         ensures ok { OnOk result (HavePacketEncoding (parts_of self.now)
-            × (buf.new.items ≡ buf.old.items ++ packet_encoding (C.sum checksum.now) (parts_of self.now))) }
+            × (buf.new.items ≡ buf.old.items ++ packet_encoding (C.sum checksum.now)
+            (parts_of self.now))) }
         ensures fits { OnOk result (FitsParts (parts_of self.now)) }
         ensures sum_fits { OnOk result (C.sum checksum.now
-            (head_of (parts_of self.now) ++ four_zeroes ++ body_of (parts_of self.now).chunks) < 2 ^ 32) }
+            (head_of (parts_of self.now) ++ four_zeroes ++ body_of (parts_of self.now).chunks)
+            < 2 ^ 32) }
         ensures kept { take (length buf.old.items) buf.new.items ≡ buf.old.items }
         ensures refused { IfErr result (λ e. PacketEncodingFault e (parts_of self.now)
             ⊎ ((e ≡ ErrOutOfMemory) × LacksRoom buf.old.spare 12 (parts_of self.now).chunks)) }

@@ -58,7 +58,12 @@ impl Model for ReassemblyQueue {
 
     ghost view = { λ q. record {
       si = q.si;
-      held = record { next_ssn = q.next_ssn; ordered = q.ordered; unordered = q.unordered.items; unassembled = q.unordered_chunks };
+      held = record {
+        next_ssn = q.next_ssn;
+        ordered = q.ordered;
+        unordered = q.unordered.items;
+        unassembled = q.unordered_chunks;
+      };
       bytes = q.n_bytes;
       max_message_size = q.max_message_size;
     } };
@@ -257,7 +262,8 @@ impl ReassemblyQueue {
     // Whether all unassembled fragments and the chunk are no longer than one message may be, in serial order. Then its
     // message is no longer either, since no fragment stands on both sides of the chunk.
     fn fits_beside_all(&self, chunk: &ChunkPayloadData) -> bool
-        ensures yes { result ≡ true → IsSerial self.now.held.unassembled × (bytes_of self.now.held.unassembled
+        ensures yes { result ≡ true → IsSerial self.now.held.unassembled
+            × (bytes_of self.now.held.unassembled
             + length chunk.now.user_data ≤ self.now.max_message_size) }
         ensures no { result ≡ false → IsSerial self.now.held.unassembled → self.now.max_message_size
             < bytes_of self.now.held.unassembled + length chunk.now.user_data }

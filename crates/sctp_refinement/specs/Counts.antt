@@ -30,8 +30,14 @@ counters_on w s =
 -- the counters of a stream that has counted nothing
 abbrev pub no_counters : ℕ → Counters
 no_counters s =
-    record { stream_identifier = s; generation = 0; messages_sent = 0; bytes_sent = 0;
-    messages_received = 0; bytes_received = 0 }
+    record {
+      stream_identifier = s;
+      generation = 0;
+      messages_sent = 0;
+      bytes_sent = 0;
+      messages_received = 0;
+      bytes_received = 0;
+    }
 
 -- the bytes that a counted message of so many bytes adds; other messages add nothing at all (RFC 8831)
 abbrev pub counted_as : PayloadProtocolIdentifier → ℕ → Option ℕ
@@ -50,12 +56,16 @@ count_more n more = min (n + more) (2 ^ 64 - 1)
 abbrev pub sent_more : Option ℕ → Counters → Counters
 sent_more None c = c
 sent_more (Some bytes) c =
-    record c { messages_sent = count_more c.messages_sent 1;
-    bytes_sent = count_more c.bytes_sent bytes }
+    record c {
+      messages_sent = count_more c.messages_sent 1;
+      bytes_sent = count_more c.bytes_sent bytes;
+    }
 
 -- one more message received
 abbrev pub received_more : Option ℕ → Counters → Counters
 received_more None c = c
 received_more (Some bytes) c =
-    record c { messages_received = count_more c.messages_received 1;
-    bytes_received = count_more c.bytes_received bytes }
+    record c {
+      messages_received = count_more c.messages_received 1;
+      bytes_received = count_more c.bytes_received bytes;
+    }

@@ -30,11 +30,11 @@ further zero limit used tsn q = []
 further (suc most) limit used tsn q =
     if fits_in limit used (length_shown (peeked q))
     then leaving tsn (peeked q) ++ further most limit (plus used (length_shown (peeked q)))
-        (following_tsn tsn) (taken_of (peeked q) q)
+    (following_tsn tsn) (taken_of (peeked q) q)
     else []
 
 -- the chunks of a datagram, the first under this TSN
 abbrev pub chunks_taken : ℕ → ℕ → Pending → List ChunkPayloadData
 chunks_taken limit tsn q =
     leaving tsn (peeked q) ++ further limit limit (plus 12 (length_shown (peeked q)))
-        (following_tsn tsn) (taken_of (peeked q) q)
+    (following_tsn tsn) (taken_of (peeked q) q)

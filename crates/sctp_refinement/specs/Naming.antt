@@ -37,6 +37,6 @@ min_with (Some i) a = min a i
 abbrev pub names_fit : World → ℕ → List ℕ → Bool
 names_fit w s names =
     nat_lt (max (highest_held w s) (end_named w s names - 1))
-        (min (lowest_held w s) (low_named w s names) + 2 ^ 15)
+    (min (lowest_held w s) (low_named w s names) + 2 ^ 15)
     && nat_lt (end_named w s names) (min_with (whole_first w (held_on w s)) (low_named w s names)
-        + 2 ^ 15)
+    + 2 ^ 15)

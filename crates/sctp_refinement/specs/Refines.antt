@@ -71,8 +71,14 @@ abbrev pub sending_of : ChunkPayloadData → Sending
 sending_of c =
     record {
       chunk =
-          record { tsn = c.tsn; message = c.message_id; payload = c.user_data;
-          acknowledged = c.acked; abandoned = c.abandoned; deadline = c.deadline };
+          record {
+            tsn = c.tsn;
+            message = c.message_id;
+            payload = c.user_data;
+            acknowledged = c.acked;
+            abandoned = c.abandoned;
+            deadline = c.deadline;
+          };
       stream = c.stream_identifier;
       says = unless_gone (c.acked || c.abandoned) (data_of c);
     }
@@ -152,8 +158,13 @@ mode_of (Some r) = r
 -- a chunk that waits, in the words of the record
 abbrev pub pending_shown : ChunkPayloadData → PendingFragment
 pending_shown c =
-    record { message = c.message_id; fragment = data_of c; reliability = (mode_of c.reliability).0;
-    value = (mode_of c.reliability).1; deadline = c.deadline }
+    record {
+      message = c.message_id;
+      fragment = data_of c;
+      reliability = (mode_of c.reliability).0;
+      value = (mode_of c.reliability).1;
+      deadline = c.deadline;
+    }
 
 -- a chunk in flight, in the words of the record
 abbrev pub in_flight_shown : ChunkPayloadData → InFlightChunk
@@ -165,5 +176,8 @@ selected_shown (Some s) = Some s.unordered
 
 abbrev pub shown : Pending → PendingRecord
 shown q =
-    record { ordered = map pending_shown q.ordered; unordered = map pending_shown q.unordered;
-    selected = selected_shown q.selected }
+    record {
+      ordered = map pending_shown q.ordered;
+      unordered = map pending_shown q.unordered;
+      selected = selected_shown q.selected;
+    }

@@ -36,7 +36,7 @@ abbrev pub order_in : Order → List ℕ → Option Order
 order_in order bytes =
     if u32_at bytes 0 == 168627466
     then (if u32_at bytes 8 == 439041101 then Some Big else if u32_le_at bytes 8 == 439041101
-        then Some Little else None)
+    then Some Little else None)
     else Some order
 
 -- The bytes begin with the head of a block: its type, and its length, which is twelve bytes at least and a multiple of four.
@@ -72,8 +72,11 @@ fraction_of units ticks =
 abbrev pub time_of : ℕ → ℕ → Option Time
 time_of units ticks =
     if units == 0 then None
-    else Some (record { seconds = ticks / units; fraction = fraction_of units ticks;
-        nanoseconds = not (units == 1000000) })
+    else Some (record {
+      seconds = ticks / units;
+      fraction = fraction_of units ticks;
+      nanoseconds = not (units == 1000000);
+    })
 
 -- the interface of a packet: the older of two blocks has its number in two bytes
 abbrev pub interface_number : BlockHead → List ℕ → ℕ
@@ -94,7 +97,7 @@ pub record IsEnhanced (interfaces : List Interface) (h : BlockHead) (block : Lis
   pub whole : (i : Interface) → slice_get interfaces (interface_number h block) ≡ Some i
       → number_at h.order block 20 + 32 ≤ length block
       → (r.time ≡ time_of i.units (ticks_at h.order block)) × (r.link_type ≡ i.link_type)
-          × (r.frame ≡ Ok (slice_range block 28 (28 + number_at h.order block 20)))
+      × (r.frame ≡ Ok (slice_range block 28 (28 + number_at h.order block 20)))
 
 -- how many bytes there are of the frame in a block that says only how long it was
 abbrev pub simple_length : Order → Interface → List ℕ → ℕ → ℕ
@@ -110,7 +113,7 @@ pub record IsSimple (interfaces : List Interface) (order : Order) (block : List 
   pub whole : (i : Interface) (room : ℕ) → slice_get interfaces 0 ≡ Some i → room + 16
       ≡ length block
       → (r.link_type ≡ i.link_type) × (r.frame
-          ≡ Ok (slice_range block 12 (12 + simple_length order i block room)))
+      ≡ Ok (slice_range block 12 (12 + simple_length order i block room)))
 
 -- the record that the block of a packet is
 pub record IsPacket (interfaces : List Interface) (h : BlockHead) (block : List ℕ)

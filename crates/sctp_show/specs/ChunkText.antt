@@ -27,7 +27,7 @@ init_text form old value =
     old
     ++ number_text form (codes "Initiate tag") (codes "initiate_tag") (u32_at value 0)
     ++ number_text form (codes "Advertised receiver window credit") (codes "credit")
-        (u32_at value 4)
+    (u32_at value 4)
     ++ number_text form (codes "Outbound streams") (codes "outbound_streams") (u16_at value 8)
     ++ number_text form (codes "Inbound streams") (codes "inbound_streams") (u16_at value 10)
     ++ number_text form (codes "Initial TSN") (codes "initial_tsn") (u32_at value 12)
@@ -40,7 +40,7 @@ i_data_text form old value =
     ++ number_text form (codes "Stream identifier") (codes "stream") (u16_at value 4)
     ++ number_text form (codes "Message identifier") (codes "mid") (u32_at value 8)
     ++ number_text form (codes "Payload protocol identifier or fragment") (codes "ppid_or_fsn")
-        (u32_at value 12)
+    (u32_at value 12)
     ++ bytes_text form (codes "User data") (codes "data") (drop 16 value)
 
 -- ---- a block
@@ -49,16 +49,16 @@ i_data_text form old value =
 abbrev pub block_lines : List ℕ → List ℕ → Head → List ℕ → List ℕ
 block_lines name digits h shown =
     codes "    " ++ (name ++ (codes " chunk: type "
-        ++ (decimal h.typ ++ (codes ", flags 0x"
-        ++ (digits ++ (codes ", length " ++ (decimal h.length ++ (codes "\n" ++ shown))))))))
+    ++ (decimal h.typ ++ (codes ", flags 0x"
+    ++ (digits ++ (codes ", length " ++ (decimal h.length ++ (codes "\n" ++ shown))))))))
 
 -- the same as JSON, behind what it begins with
 abbrev pub block_object : List ℕ → List ℕ → Head → List ℕ → List ℕ
 block_object lead name h shown =
     lead ++ (codes "\"type\":" ++ (decimal h.typ
-        ++ (codes ",\"name\":\"" ++ (name
-        ++ (codes "\",\"flags\":" ++ (decimal h.flags
-        ++ (codes ",\"length\":" ++ (decimal h.length ++ (shown ++ codes "}")))))))))
+    ++ (codes ",\"name\":\"" ++ (name
+    ++ (codes "\",\"flags\":" ++ (decimal h.flags
+    ++ (codes ",\"length\":" ++ (decimal h.length ++ (shown ++ codes "}")))))))))
 
 -- a block; objects stand between commas
 abbrev pub block_encoding : Form → Bool → List ℕ → List ℕ → Head → List ℕ → List ℕ

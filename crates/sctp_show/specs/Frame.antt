@@ -7,7 +7,7 @@ abbrev pub IsCarried : ℕ → ℕ → List ℕ → List ℕ → Type 0
 IsCarried port protocol payload bytes =
     ((protocol ≡ 132) × (bytes ≡ payload))
     ⊎ ((protocol ≡ 17) × ((u16_at payload 0 ≡ port) ⊎ (u16_at payload 2 ≡ port))
-        × (bytes ≡ slice_range payload 8 (u16_at payload 4)))
+    × (bytes ≡ slice_range payload 8 (u16_at payload 4)))
 
 -- in an IPv4 packet that is no fragment: behind its header, to its total length
 pub record InIpv4 (port : ℕ) (packet bytes : List ℕ) : Type 0 where
@@ -24,7 +24,7 @@ pub data IsUpper : ℕ → List ℕ → ℕ → List ℕ → Type 0 where
   here : (protocol : ℕ) (payload : List ℕ) → IsUpper protocol payload protocol payload
   behind : (first : ℕ) (payload : List ℕ) (protocol : ℕ) (upper : List ℕ) → IsExtension first
       → IsUpper (slice_index payload 0) (slice_range payload (8 + 8 * slice_index payload 1)
-          (length payload)) protocol upper → IsUpper first payload protocol upper
+      (length payload)) protocol upper → IsUpper first payload protocol upper
 
 -- in an IPv6 packet: behind its headers
 pub record InIpv6 (port : ℕ) (packet bytes : List ℕ) : Type 0 where

@@ -35,8 +35,11 @@ entry_span h bytes = 16 + number_at h.order bytes 8
 
 abbrev pub time_at : Head → List ℕ → Time
 time_at h bytes =
-    record { seconds = number_at h.order bytes 0; fraction = number_at h.order bytes 4;
-    nanoseconds = h.nanoseconds }
+    record {
+      seconds = number_at h.order bytes 0;
+      fraction = number_at h.order bytes 4;
+      nanoseconds = h.nanoseconds;
+    }
 
 -- the entry that the bytes begin with: its frame is refused where it is cut off, or longer than 256 KiB
 pub record IsEntry (h : Head) (bytes : List ℕ) (r : Record) : Type 0 where

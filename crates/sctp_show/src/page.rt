@@ -95,7 +95,8 @@ impl Page {
     fn led(&mut self, lead: &str, label: &str, key: &str, value: &str) -> Result<(), AllocError>
         ensures form { self.new.form ≡ self.old.form }
         ensures text { OnOk result (string_bytes self.new.text
-            ≡ string_bytes self.old.text ++ led_text self.old.form lead.now label.now key.now value.now) }
+            ≡ string_bytes self.old.text
+            ++ led_text self.old.form lead.now label.now key.now value.now) }
     {
         match self.form {
             Form::Text => put_all(&mut self.text, &["        ", label, ": ", value, "\n"]),
@@ -125,7 +126,8 @@ impl Page {
     ) -> Result<(), AllocError>
         ensures form { self.new.form ≡ self.old.form }
         ensures text { OnOk result (string_bytes self.new.text
-            ≡ string_bytes self.old.text ++ row_text self.old.form is_first label.now key.now value) }
+            ≡ string_bytes self.old.text
+            ++ row_text self.old.form is_first label.now key.now value) }
     {
         let mut buffer = Buffer::new();
         let lead = if is_first { "{\"" } else { ",{\"" };

@@ -305,7 +305,8 @@ fn read_hex(alloc: Global, text: &[u8]) -> Result<Result<Bytes, Fault>, AllocErr
 fn skip_line<R: Read + Drop>(window: &mut Window<R>) -> Result<(), RunFault>
     ensures { OnOk result
         (IfSome (prepend_known window.old.held.items (R.remaining window.old.reader)) (λ xs.
-        Keeps (Some (after_line xs)) (prepend_known window.new.held.items (R.remaining window.new.reader)))) }
+        Keeps (Some (after_line xs)) (prepend_known window.new.held.items
+        (R.remaining window.new.reader)))) }
 {
     for _ in 0..u64::MAX {
         let held = window.held().len();

@@ -107,7 +107,8 @@ impl<R: Read + Drop> Window<R> {
     pub fn skip(&mut self, count: usize) -> Result<(), RunFault>
         ensures { OnOk result
             (IfSome (prepend_known self.old.held.items (R.remaining self.old.reader)) (λ xs.
-            Keeps (Some (drop count xs)) (prepend_known self.new.held.items (R.remaining self.new.reader)))) }
+            Keeps (Some (drop count xs)) (prepend_known self.new.held.items
+            (R.remaining self.new.reader)))) }
     {
         let mut left = count;
         'skip: while left > 0 {

@@ -20,11 +20,15 @@ counted_bytes Unknown len = None
 abbrev pub with_sent : Option ℕ → DataChannelStats → DataChannelStats
 with_sent None s = s
 with_sent (Some bytes) s =
-    record s { messages_sent = count_up s.messages_sent 1;
-    bytes_sent = count_up s.bytes_sent bytes }
+    record s {
+      messages_sent = count_up s.messages_sent 1;
+      bytes_sent = count_up s.bytes_sent bytes;
+    }
 
 abbrev pub with_received : Option ℕ → DataChannelStats → DataChannelStats
 with_received None s = s
 with_received (Some bytes) s =
-    record s { messages_received = count_up s.messages_received 1;
-    bytes_received = count_up s.bytes_received bytes }
+    record s {
+      messages_received = count_up s.messages_received 1;
+      bytes_received = count_up s.bytes_received bytes;
+    }

@@ -65,8 +65,10 @@ number_after s ppi bytes =
 
 abbrev pub after_write : StreamState → PayloadProtocolIdentifier → List ℕ → StreamState
 after_write s ppi bytes =
-    record s { sequence_number = number_after s ppi bytes;
-    buffered_amount = count_up s.buffered_amount (length bytes) }
+    record s {
+      sequence_number = number_after s ppi bytes;
+      buffered_amount = count_up s.buffered_amount (length bytes);
+    }
 
 -- the amount rose from under the high threshold to at least it
 abbrev pub rises_high : StreamState → ℕ → Bool
@@ -91,15 +93,30 @@ falls_low s less =
 abbrev pub new_stream : ℕ → ℕ → ℕ → PayloadProtocolIdentifier → StreamState
 new_stream id size max ppi = record {
   stats =
-      record { stream_identifier = id; generation = 0; messages_sent = 0; bytes_sent = 0;
-      messages_received = 0; bytes_received = 0 };
+      record {
+        stream_identifier = id;
+        generation = 0;
+        messages_sent = 0;
+        bytes_sent = 0;
+        messages_received = 0;
+        bytes_received = 0;
+      };
   first_message_id = 0;
   max_payload_size = size;
   stream_identifier = id;
   default_payload_type = ppi;
   reassembly_queue =
-      record { si = id; held = record { next_ssn = 0; ordered = []; unordered = [];
-      unassembled = [] }; bytes = 0; max_message_size = max };
+      record {
+        si = id;
+        held = record {
+          next_ssn = 0;
+          ordered = [];
+          unordered = [];
+          unassembled = [];
+        };
+        bytes = 0;
+        max_message_size = max;
+      };
   sequence_number = 0;
   state = ReadWritable;
   unordered = false;

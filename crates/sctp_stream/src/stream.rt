@@ -568,7 +568,8 @@ impl StreamState {
             → IfOk result (λ whole. (whole ≡ false) × (self.new ≡ self.old)) }
         ensures ordered { (pd.now.stream_identifier == self.old.reassembly_queue.si) ≡ true
             → pd.now.unordered ≡ false → IfOk result
-            (λ whole. (self.new.reassembly_queue ≡ after_ordered_push pd.now self.old.reassembly_queue)
+            (λ whole. (self.new.reassembly_queue
+            ≡ after_ordered_push pd.now self.old.reassembly_queue)
             × (whole ≡ is_whole_with pd.now self.old.reassembly_queue.held)) }
         ensures unordered { (pd.now.stream_identifier == self.old.reassembly_queue.si) ≡ true
             → pd.now.unordered ≡ true → IfOk result (λ whole.

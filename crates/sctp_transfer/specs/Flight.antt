@@ -44,8 +44,13 @@ abbrev pub at_first : ℕ → Flight
 at_first tsn = record {
   queue = record {
     pending =
-        record { ordered = []; unordered = []; selected = None; ordered_room = 0;
-        unordered_room = 0 };
+        record {
+          ordered = [];
+          unordered = [];
+          selected = None;
+          ordered_room = 0;
+          unordered_room = 0;
+        };
     inflight = record { chunks = []; duplicates = []; room = 0 };
     next_message_id = 0;
     next_unstarted = 0;
@@ -112,18 +117,21 @@ abbrev pub sack_refusal : Sack → Flight → Option SenderRefusal
 sack_refusal s f =
     if is_outdated s f then None else (
     if nat_lt (length f.queue.inflight.chunks) (count_acked s f) then Some InflightQueueTsnPop
-        else (
+    else (
     if list_all (is_within (length f.queue.inflight.chunks - count_acked s f)) s.gap_ack_blocks
-        then None else Some TsnRequestNotExist
+    then None else Some TsnRequestNotExist
     )
     )
 
 -- what it reports anew is acknowledged, and what it reports cumulatively is in flight no more
 abbrev pub taken : Sack → Flight → Flight
 taken s f =
-    record f { queue = with_inflight f.queue
-    (past s.cumulative_tsn_ack (change_where
-    (reports_anew s) acknowledged f.queue.inflight.chunks)); acked_tsn = s.cumulative_tsn_ack }
+    record f {
+      queue = with_inflight f.queue
+          (past s.cumulative_tsn_ack (change_where
+          (reports_anew s) acknowledged f.queue.inflight.chunks));
+      acked_tsn = s.cumulative_tsn_ack;
+    }
 
 abbrev pub after_sack : Sack → Flight → Flight
 after_sack s f = if is_outdated s f then f else taken s f

@@ -24,11 +24,26 @@ numbers_of ls = map number ls
 abbrev pub new_stream : ℕ → ℕ → InboundStream
 new_stream s max = record {
   queue =
-      record { si = s; held = record { next_ssn = 0; ordered = []; unordered = [];
-      unassembled = [] }; bytes = 0; max_message_size = max };
+      record {
+        si = s;
+        held = record {
+          next_ssn = 0;
+          ordered = [];
+          unordered = [];
+          unassembled = [];
+        };
+        bytes = 0;
+        max_message_size = max;
+      };
   stats =
-      record { stream_identifier = s; generation = 0; messages_sent = 0; bytes_sent = 0;
-      messages_received = 0; bytes_received = 0 };
+      record {
+        stream_identifier = s;
+        generation = 0;
+        messages_sent = 0;
+        bytes_sent = 0;
+        messages_received = 0;
+        bytes_received = 0;
+      };
 }
 
 abbrev pub with_queue : ReassemblyState → InboundStream → InboundStream

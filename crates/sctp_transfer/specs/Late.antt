@@ -23,8 +23,11 @@ abandoned_each (tsn ∷ tsns) f = abandoned_each tsns (abandoned_at tsn f)
 abbrev pub abandoned_with : Option ChunkPayloadData → ℕ → List AbandonedMessage
 abandoned_with None bytes = []
 abandoned_with (Some c) bytes =
-    if c.abandoned then [] else record { stream = c.stream_identifier; number = c.message_id;
-    bytes = bytes } ∷ []
+    if c.abandoned then [] else record {
+      stream = c.stream_identifier;
+      number = c.message_id;
+      bytes = bytes;
+    } ∷ []
 
 -- the message of a TSN, with the bytes that leave with it
 abbrev pub leaving_at : ℕ → Flight → List AbandonedMessage

@@ -35,8 +35,10 @@ fragments_with_mode l ppi bytes =
 -- a write was accepted: an ordered one takes the number, its bytes wait, and it is counted
 abbrev pub wrote : PayloadProtocolIdentifier → List ℕ → StreamState → StreamState
 wrote ppi bytes l =
-    record (after_write l ppi bytes) { stats = with_sent
-    (counted_bytes ppi (length bytes)) l.stats }
+    record (after_write l ppi bytes) {
+      stats = with_sent
+          (counted_bytes ppi (length bytes)) l.stats;
+    }
 
 -- so many bytes wait and are in flight no more
 abbrev pub less_by : ℕ → StreamState → StreamState

@@ -30,14 +30,23 @@ pub record Reception : Type 0 where
 -- nothing came: the first TSN is expected next
 abbrev pub at_first : ℕ → ℕ → Reception
 at_first tsn max =
-    record { streams = []; cumulative_tsn = preceding_tsn tsn; beyond = []; duplicates = [];
-    max_message_size = max }
+    record {
+      streams = [];
+      cumulative_tsn = preceding_tsn tsn;
+      beyond = [];
+      duplicates = [];
+      max_message_size = max;
+    }
 
 -- its TSNs
 abbrev pub filter_of : Reception → Filter
 filter_of r =
-    record { cumulative_tsn = r.cumulative_tsn; beyond = r.beyond; duplicates = r.duplicates;
-    room = 0 }
+    record {
+      cumulative_tsn = r.cumulative_tsn;
+      beyond = r.beyond;
+      duplicates = r.duplicates;
+      room = 0;
+    }
 
 abbrev pub with_filter : Filter → Reception → Reception
 with_filter f r =
@@ -83,8 +92,10 @@ pub record Accepts (c : ChunkPayloadData) (old new : Reception) : Type 0 where
   pub queue : ReassemblyState
   pub pushed : Pushes c stream.queue queue
   pub after : new ≡ with_filter (with_tsn c.tsn (filter_of old))
-      (record old { streams = change_where (has_number c.stream_identifier)
-      (with_queue queue) old.streams })
+      (record old {
+        streams = change_where (has_number c.stream_identifier)
+            (with_queue queue) old.streams;
+      })
 
 -- a TSN that came comes again
 abbrev pub repeated : ℕ → Reception → Reception
@@ -176,8 +187,10 @@ forward_refusal f r =
 abbrev pub followed : ForwardTsn → Reception → Reception
 followed f r =
     with_filter (skipped_to f.new_cumulative_tsn (filter_of r))
-    (record r { streams = map (unassembled_forwarded f.new_cumulative_tsn)
-    (named_forwarded f.streams r.streams) })
+    (record r {
+      streams = map (unassembled_forwarded f.new_cumulative_tsn)
+          (named_forwarded f.streams r.streams);
+    })
 
 abbrev pub forwarded_of : ForwardTsn → Reception → Forwarded
 forwarded_of f r = if is_stale f r then Stale else Skipped

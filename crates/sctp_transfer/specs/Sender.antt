@@ -64,8 +64,8 @@ is_full len t = is_full_of len t.flight.queue
 abbrev pub write_refusal : ℕ → ℕ → Transmission → Option SenderRefusal
 write_refusal s len t =
     if not (is_open s t) then Some StreamUnknown
-        else (if nat_lt t.max_message_size len then Some MessageTooLarge
-        else (if is_full len t then Some QueueFull else None))
+    else (if nat_lt t.max_message_size len then Some MessageTooLarge
+    else (if is_full len t then Some QueueFull else None))
 
 -- the fragments of a write wait; one of no bytes changes nothing
 abbrev pub written_to : StreamState → ℕ → PayloadProtocolIdentifier → List ℕ → Transmission
@@ -85,8 +85,10 @@ with_tsn tsn c = record c { tsn = tsn }
 
 abbrev pub after_acked : Sack → Transmission → Transmission
 after_acked s t =
-    record t { streams = released (released_by s t.flight) t.streams;
-    flight = after_sack s t.flight }
+    record t {
+      streams = released (released_by s t.flight) t.streams;
+      flight = after_sack s t.flight;
+    }
 
 -- ## Abandoning
 

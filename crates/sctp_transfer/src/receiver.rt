@@ -45,7 +45,13 @@ impl Model for Receiver {
 
     ghost Value = { Reception };
 
-    ghost view = { λ r. record { streams = r.streams; cumulative_tsn = r.filter.cumulative_tsn; beyond = r.filter.beyond; duplicates = r.filter.duplicates; max_message_size = r.max_message_size } };
+    ghost view = { λ r. record {
+      streams = r.streams;
+      cumulative_tsn = r.filter.cumulative_tsn;
+      beyond = r.filter.beyond;
+      duplicates = r.filter.duplicates;
+      max_message_size = r.max_message_size;
+    } };
 }
 
 impl Receiver {

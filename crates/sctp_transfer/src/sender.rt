@@ -44,9 +44,15 @@ impl Model for Sender {
 
     ghost Value = { Transmission };
 
-    ghost view = { λ s. record { streams = s.streams; flight = s.flight; fragment_size = s.fragment_size; max_message_size = s.max_message_size } };
+    ghost view = { λ s. record {
+      streams = s.streams;
+      flight = s.flight;
+      fragment_size = s.fragment_size;
+      max_message_size = s.max_message_size;
+    } };
 
-    ghost invariant = { λ s. (0 < s.fragment_size) × (s.fragment_size ≤ 65519) × IsAllSettled s.flight.queue };
+    ghost invariant = { λ s. (0 < s.fragment_size) × (s.fragment_size ≤ 65519)
+        × IsAllSettled s.flight.queue };
 }
 
 impl Sender {

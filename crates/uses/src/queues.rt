@@ -40,7 +40,8 @@ pub fn send_one(queue: &mut OutboundQueue, next_tsn: &mut u32, now: u64) -> Resu
 pub fn read_next(queue: &mut ReassemblyQueue, buf: &mut [u8]) -> Option<Result<usize>>
     ensures { MatchOption result (message_read queue.old.held ≡ None)
         (λ read. (set : ChunkSet) × (message_read queue.old.held ≡ Some set)
-        × IfOk read (λ n. (n ≡ length (payload_of set.chunks)) × (buf.new ≡ payload_of set.chunks ++ drop n buf.old))) }
+        × IfOk read (λ n. (n ≡ length (payload_of set.chunks))
+        × (buf.new ≡ payload_of set.chunks ++ drop n buf.old))) }
 {
     let message = queue.read()?;
     Some(message.read(buf))

@@ -110,7 +110,7 @@ fn read_stream(bytes: &[u8], at: usize) -> ChunkForwardTsnStream
 
 /// Reads so many pairs, which stand behind the new cumulative TSN. Refuses only for memory.
 /// Precondition: they are there.
-#[tactic(auto, using(sctp_base::proofs::Each::each_none, sctp_base::proofs::Each::each_next))]
+#[tactic(auto, using(sctp_base::proofs::EachAt::each_none, sctp_base::proofs::EachAt::each_next))]
 fn read_streams(alloc: Global, value: &[u8], count: usize) -> Result<Vec<ChunkForwardTsnStream>>
     requires { 4 + 4 * count ≤ length value.now }
     ensures ok { IfOk result (λ v. v.items ≡ each count (λ i. stream_at value.now (4 + 4 * i))) }
@@ -164,7 +164,7 @@ impl fmt::Display for ChunkForwardTsn {
     }
 }
 
-#[tactic(auto, using(crate::proofs::One::forward_tsn_one, sctp_base::proofs::Each::length_each, crate::proofs::Lengths::length_forward_tsn_value))]
+#[tactic(auto, using(crate::proofs::One::forward_tsn_one, sctp_base::proofs::EachAt::length_each, crate::proofs::Lengths::length_forward_tsn_value))]
 impl Chunk for ChunkForwardTsn {
     ghost wire = { λ c. forward_tsn_chunk (forward_tsn_of c) };
 

@@ -50,7 +50,7 @@ fn read_entry(bytes: &[u8], at: usize) -> ChunkIForwardTsnStream
 
 /// Reads so many entries, which stand behind the new cumulative TSN. Refuses only for memory.
 /// Precondition: they are there.
-#[tactic(auto, using(sctp_base::proofs::Each::each_none, sctp_base::proofs::Each::each_next))]
+#[tactic(auto, using(sctp_base::proofs::EachAt::each_none, sctp_base::proofs::EachAt::each_next))]
 fn read_entries(alloc: Global, value: &[u8], count: usize) -> Result<Vec<ChunkIForwardTsnStream>>
     requires { 4 + 8 * count ≤ length value.now }
     ensures ok { IfOk result (λ v. v.items ≡ each count (λ i. entry_at value.now (4 + 8 * i))) }
@@ -120,7 +120,7 @@ impl fmt::Display for ChunkIForwardTsn {
     }
 }
 
-#[tactic(auto, using(crate::proofs::One::i_forward_tsn_one, sctp_base::proofs::Each::length_each, crate::proofs::Lengths::length_i_forward_tsn_value))]
+#[tactic(auto, using(crate::proofs::One::i_forward_tsn_one, sctp_base::proofs::EachAt::length_each, crate::proofs::Lengths::length_i_forward_tsn_value))]
 impl Chunk for ChunkIForwardTsn {
     ghost wire = { λ c. i_forward_tsn_chunk (i_forward_tsn_of c) };
 

@@ -69,7 +69,7 @@ impl fmt::Display for ChunkSelectiveAck {
 
 /// Reads so many blocks from `at` on. Refuses only for memory.
 /// Precondition: they are there.
-#[tactic(auto, using(sctp_base::proofs::Each::each_none, sctp_base::proofs::Each::each_next))]
+#[tactic(auto, using(sctp_base::proofs::EachAt::each_none, sctp_base::proofs::EachAt::each_next))]
 fn read_blocks(alloc: Global, value: &[u8], at: usize, count: usize) -> Result<Vec<GapAckBlock>>
     requires { at + 4 * count ≤ length value.now }
     ensures ok { IfOk result (λ v. v.items ≡ each count (λ i. block_at value.now (at + 4 * i))) }
@@ -86,7 +86,7 @@ fn read_blocks(alloc: Global, value: &[u8], at: usize, count: usize) -> Result<V
 
 /// Reads so many numbers of four bytes from `at` on. Refuses only for memory.
 /// Precondition: they are there.
-#[tactic(auto, using(sctp_base::proofs::Each::each_none, sctp_base::proofs::Each::each_next))]
+#[tactic(auto, using(sctp_base::proofs::EachAt::each_none, sctp_base::proofs::EachAt::each_next))]
 fn read_numbers(alloc: Global, value: &[u8], at: usize, count: usize) -> Result<Vec<u32>>
     requires { at + 4 * count ≤ length value.now }
     ensures ok { IfOk result (λ v. v.items ≡ each count (λ i. u32_at value.now (at + 4 * i))) }
@@ -141,7 +141,7 @@ impl ChunkSelectiveAck {
     }
 }
 
-#[tactic(auto, using(crate::proofs::One::sack_one, sctp_base::proofs::Each::length_each, crate::proofs::Lengths::length_sack_value))]
+#[tactic(auto, using(crate::proofs::One::sack_one, sctp_base::proofs::EachAt::length_each, crate::proofs::Lengths::length_sack_value))]
 impl Chunk for ChunkSelectiveAck {
     ghost wire = { λ c. sack_chunk (sack_of c) };
 

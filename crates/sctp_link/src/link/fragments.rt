@@ -149,7 +149,8 @@ fn take_fragment(message: &mut Message, halves: &mut Halves, number: u64) -> Slo
     requires few { begun_of message.old.stream halves.old.streams + 1 < 2 ^ 64 }
     ensures slot { result ≡ fragment_slot number message.old.sent }
     ensures taken { message.new ≡ with_fragment halves.old.streams message.old }
-    ensures rest { halves.new ≡ record halves.old { streams = begun_by message.old halves.old.streams } }
+    ensures rest { halves.new ≡
+        record halves.old { streams = begun_by message.old halves.old.streams } }
 {
     if message.ordered && message.sent == 0 {
         message.index = halves.begin(message.stream);

@@ -44,7 +44,8 @@ impl<C: Checksum + Drop> Link<C> {
         requires { list_all (λ t. is_in_flight self.old.world (place_of self.old.world t)) tsns.now
             ≡ true }
         ensures moves { OnOk result (self.new.world ≡ abandoned_tsn self.old.world
-            (find (λ t. is_partially_sent self.old.world (message_of_tsn self.old.world t)) tsns.now)) }
+            (find (λ t. is_partially_sent self.old.world
+            (message_of_tsn self.old.world t)) tsns.now)) }
         ensures bytes { IfOk result (λ b. b ≡ growth self.old.world self.new.world) }
         ensures checksum { self.new.checksum ≡ self.old.checksum }
         ensures err { OnErr result (self.new.world ≡ self.old.world) }
@@ -63,7 +64,8 @@ impl<C: Checksum + Drop> Link<C> {
         requires { list_all (λ t. is_in_flight self.now.world (place_of self.now.world t)) tsns.now
             ≡ true }
         ensures { result
-            ≡ find (λ t. is_partially_sent self.now.world (message_of_tsn self.now.world t)) tsns.now }
+            ≡ find (λ t. is_partially_sent self.now.world
+            (message_of_tsn self.now.world t)) tsns.now }
     {
         for at in 0..tsns.len() {
             let place = tsns[at].wrapping_sub(self.first_tsn) as usize;

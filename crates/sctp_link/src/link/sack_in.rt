@@ -67,7 +67,8 @@ impl<C: Checksum + Drop> Link<C> {
 fn rebase(sack: &mut ChunkSelectiveAck, upto: u32, behind: usize)
     ensures cumulative { sack.new.cumulative_tsn_ack ≡ upto }
     ensures covers { (n : ℕ) → 0 < n
-        → covered sack.new.gap_ack_blocks.items n ≡ covered sack.old.gap_ack_blocks.items (n + behind) }
+        → covered sack.new.gap_ack_blocks.items n
+        ≡ covered sack.old.gap_ack_blocks.items (n + behind) }
     ensures begin { (i : ℕ) (d : GapAckBlock) → i < length sack.new.gap_ack_blocks.items
         → 0 < (slice_index_or sack.new.gap_ack_blocks.items i d).start }
 {
@@ -111,7 +112,8 @@ fn acknowledge_blocks(slots: &mut [Slot], cumulative: usize, blocks: &[GapAckBlo
     requires within { (k : ℕ)
         → list_any (in_block cumulative k) blocks.now ≡ true → k < length slots.old }
     ensures { (w : World) (acked : ℕ → Bool)
-        → IsMarking w acked slots.old → IsMarking w (and_blocks acked cumulative blocks.now) slots.new }
+        → IsMarking w acked slots.old → IsMarking w
+        (and_blocks acked cumulative blocks.now) slots.new }
 {
     for block in blocks {
         let from = (cumulative + block.start as usize).saturating_sub(1);

@@ -107,8 +107,11 @@ put_before (Some c) cs = c ∷ cs
 
 abbrev pub after : Call → Stand → Stand
 after c s =
-    record { queue = queue_after c s.queue s.next; next = next_after c s.queue s.next;
-    put = put_before (put_by c s.queue s.next) s.put }
+    record {
+      queue = queue_after c s.queue s.next;
+      next = next_after c s.queue s.next;
+      put = put_before (put_by c s.queue s.next) s.put;
+    }
 
 abbrev pub after_all : List Call → Stand → Stand
 after_all [] s = s
@@ -119,8 +122,13 @@ abbrev pub at_first : ℕ → Stand
 at_first tsn = record {
   queue = record {
     pending =
-        record { ordered = []; unordered = []; selected = None; ordered_room = 0;
-        unordered_room = 0 };
+        record {
+          ordered = [];
+          unordered = [];
+          selected = None;
+          ordered_room = 0;
+          unordered_room = 0;
+        };
     inflight = record { chunks = []; duplicates = []; room = 0 };
     next_message_id = 0;
     next_unstarted = 0;

@@ -32,8 +32,11 @@ with_message_id message c = record c { message_id = message }
 -- chunks behind those of a list
 abbrev pub appended : Bool → List ChunkPayloadData → pending.Pending → pending.Pending
 appended true chunks q =
-    record q { unordered = q.unordered ++ chunks; unordered_room = q.unordered_room
-    - length chunks }
+    record q {
+      unordered = q.unordered ++ chunks;
+      unordered_room = q.unordered_room
+          - length chunks;
+    }
 appended false chunks q =
     record q { ordered = q.ordered ++ chunks; ordered_room = q.ordered_room - length chunks }
 
@@ -41,9 +44,11 @@ appended false chunks q =
 abbrev pub with_message : List ChunkPayloadData → Outbound → Outbound
 with_message [] q = q
 with_message (c ∷ cs) q =
-    record q { pending = appended c.unordered
-    (map (with_message_id q.next_message_id) (c ∷ cs)) q.pending;
-    next_message_id = q.next_message_id + 1 }
+    record q {
+      pending = appended c.unordered
+          (map (with_message_id q.next_message_id) (c ∷ cs)) q.pending;
+      next_message_id = q.next_message_id + 1;
+    }
 
 -- whether there is room for the chunks
 abbrev pub has_room : List ChunkPayloadData → Outbound → Bool
@@ -56,8 +61,10 @@ has_room (c ∷ cs) q = nat_le (length (c ∷ cs)) (pending.room_for q.pending c
 abbrev pub all_started : ℕ → Outbound → Outbound
 all_started now q =
     if q.next_unstarted == q.next_message_id then q
-    else record q { pending = pending.started q.next_unstarted now q.pending;
-    next_unstarted = q.next_message_id }
+    else record q {
+      pending = pending.started q.next_unstarted now q.pending;
+      next_unstarted = q.next_message_id;
+    }
 
 -- whether the moment is reached, where there is one
 abbrev pub is_past : ℕ → Option ℕ → Bool
@@ -77,8 +84,10 @@ numbered tsn now c = record c { tsn = tsn; since = Some now; nsent = 1 }
 abbrev pub sent_of : Option ChunkPayloadData → Outbound → ℕ → ℕ → Outbound
 sent_of None q tsn now = q
 sent_of (Some c) q tsn now =
-    record q { pending = pending.rest_after c.beginning_fragment c.unordered q.pending;
-    inflight = payload.pushed q.inflight (numbered tsn now c) }
+    record q {
+      pending = pending.rest_after c.beginning_fragment c.unordered q.pending;
+      inflight = payload.pushed q.inflight (numbered tsn now c);
+    }
 
 abbrev pub sent_peeked : Outbound → ℕ → ℕ → Outbound
 sent_peeked q tsn now = sent_of (pending.peeked q.pending) q tsn now
@@ -101,8 +110,14 @@ after_sends (suc n) q = after_sends n (taken_of (pending.peeked q) q)
 -- an empty ending chunk under the TSN, abandoned: it stands for the tail that was never sent
 abbrev pub terminal_chunk : ℕ → ChunkPayloadData → ChunkPayloadData
 terminal_chunk tsn c =
-    record c { tsn = tsn; beginning_fragment = false; ending_fragment = true; abandoned = true;
-    retransmit = false; user_data = [] }
+    record c {
+      tsn = tsn;
+      beginning_fragment = false;
+      ending_fragment = true;
+      abandoned = true;
+      retransmit = false;
+      user_data = [];
+    }
 
 abbrev pub with_terminal_chunk : Option ChunkPayloadData → ℕ → payload.Payload → payload.Payload
 with_terminal_chunk None tsn q = q
@@ -111,9 +126,11 @@ with_terminal_chunk (Some c) tsn q = payload.pushed q (terminal_chunk tsn c)
 -- what is in flight of the message is abandoned, and its tail is gone but for a terminal chunk
 abbrev pub abandoned : ℕ → ℕ → Outbound → Outbound
 abandoned message tsn q =
-    record q { pending = pending.without message q.pending;
-    inflight = with_terminal_chunk (pending.last_removed message q.pending) tsn
-    (payload.with_chunks q.inflight (change_where (is_of message) as_abandoned q.inflight.chunks)) }
+    record q {
+      pending = pending.without message q.pending;
+      inflight = with_terminal_chunk (pending.last_removed message q.pending) tsn
+          (payload.with_chunks q.inflight (change_where (is_of message) as_abandoned q.inflight.chunks));
+    }
 
 -- the TSN is taken where a tail was
 abbrev pub tsn_after : ℕ → ℕ → Outbound → ℕ
@@ -159,8 +176,10 @@ passing p (Some c) = if p c then Some c else None
 abbrev pub expired_of : Option ChunkPayloadData → Outbound → Outbound
 expired_of None q = q
 expired_of (Some c) q =
-    record q { pending = if c.unordered then pending.without c.message_id q.pending
-    else pending.closed_up c.stream_identifier (pending.without c.message_id q.pending) }
+    record q {
+      pending = if c.unordered then pending.without c.message_id q.pending
+          else pending.closed_up c.stream_identifier (pending.without c.message_id q.pending);
+    }
 
 -- the message in front, past its deadline, wholly unsent
 abbrev pub expiring : ℕ → Outbound → Option ChunkPayloadData

@@ -18,8 +18,12 @@ with_chunks q chunks = record q { chunks = chunks }
 -- with a further chunk at its place
 abbrev pub pushed : Payload → ChunkPayloadData → Payload
 pushed q x =
-    record { chunks = inserted chunk_before x q.chunks; duplicates = q.duplicates; room = q.room
-    - 1 }
+    record {
+      chunks = inserted chunk_before x q.chunks;
+      duplicates = q.duplicates;
+      room = q.room
+          - 1;
+    }
 
 -- with a further duplicate
 abbrev pub repeated : Payload → ℕ → Payload

@@ -32,14 +32,18 @@ room_for q unordered = if unordered then q.unordered_room else q.ordered_room
 
 abbrev pub reserved : Pending → ℕ → ℕ → Pending
 reserved q ordered unordered =
-    record q { ordered_room = max ordered q.ordered_room;
-    unordered_room = max unordered q.unordered_room }
+    record q {
+      ordered_room = max ordered q.ordered_room;
+      unordered_room = max unordered q.unordered_room;
+    }
 
 -- the chunk behind those of its list
 abbrev pub pushed : Pending → ChunkPayloadData → Pending
 pushed q c =
-    if c.unordered then record q { unordered = q.unordered ++ c ∷ [];
-    unordered_room = q.unordered_room - 1 }
+    if c.unordered then record q {
+      unordered = q.unordered ++ c ∷ [];
+      unordered_room = q.unordered_room - 1;
+    }
     else record q { ordered = q.ordered ++ c ∷ []; ordered_room = q.ordered_room - 1 }
 
 -- ## Peek and pop
@@ -118,9 +122,11 @@ selected_without message (Some s) = if s.message_id == message then None else So
 
 abbrev pub without : ℕ → Pending → Pending
 without message q =
-    record q { ordered = without_message message q.ordered;
-    unordered = without_message message q.unordered;
-    selected = selected_without message q.selected }
+    record q {
+      ordered = without_message message q.ordered;
+      unordered = without_message message q.unordered;
+      selected = selected_without message q.selected;
+    }
 
 -- ## Stream sequence numbers
 
@@ -168,5 +174,7 @@ with_deadline now c = record c { deadline = deadline_at now (lifetime_of c.relia
 
 abbrev pub started : ℕ → ℕ → Pending → Pending
 started first now q =
-    record q { ordered = change_where (is_to_start first) (with_deadline now) q.ordered;
-    unordered = change_where (is_to_start first) (with_deadline now) q.unordered }
+    record q {
+      ordered = change_where (is_to_start first) (with_deadline now) q.ordered;
+      unordered = change_where (is_to_start first) (with_deadline now) q.unordered;
+    }

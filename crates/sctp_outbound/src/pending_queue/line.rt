@@ -37,7 +37,10 @@ impl Model for Line {
 
     ghost view = { λ l. record { chunks = l.chunks.items; room = l.room } };
 
-    ghost invariant = { λ l. record { counted : l.n_bytes ≡ bytes_of l.chunks.items; fits : deque_len l.chunks + l.room ≤ deque_capacity l.chunks } };
+    ghost invariant = { λ l. record {
+      counted : l.n_bytes ≡ bytes_of l.chunks.items;
+      fits : deque_len l.chunks + l.room ≤ deque_capacity l.chunks;
+    } };
 }
 
 impl Line {

@@ -38,8 +38,10 @@ has_ssn ssn x = x.ssn == ssn
 -- x at its place, unless its number is there
 abbrev pub with_chunk : ChunkPayloadData → ChunkSet → ChunkSet
 with_chunk x set =
-    record set { chunks = if list_any (has_tsn x.tsn) set.chunks then set.chunks
-    else inserted chunk_before x set.chunks }
+    record set {
+      chunks = if list_any (has_tsn x.tsn) set.chunks then set.chunks
+          else inserted chunk_before x set.chunks;
+    }
 
 -- a set that x alone makes
 abbrev pub new_set : ChunkPayloadData → ChunkSet
@@ -49,8 +51,8 @@ new_set x = record { ssn = x.stream_sequence_number; ppi = x.payload_type; chunk
 abbrev pub sets_with : ChunkPayloadData → List ChunkSet → List ChunkSet
 sets_with x sets =
     if list_any (has_ssn x.stream_sequence_number) sets
-        then change_first (has_ssn x.stream_sequence_number) (with_chunk x) sets
-        else inserted set_before (new_set x) sets
+    then change_first (has_ssn x.stream_sequence_number) (with_chunk x) sets
+    else inserted set_before (new_set x) sets
 
 -- the chunks of the first set of this number
 abbrev pub chunks_of_ssn : ℕ → List ChunkSet → List ChunkPayloadData

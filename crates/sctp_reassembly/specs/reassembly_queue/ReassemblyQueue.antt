@@ -69,8 +69,10 @@ is_whole_with x q =
 
 abbrev pub after_ordered_push : ChunkPayloadData → ReassemblyState → ReassemblyState
 after_ordered_push x q =
-    record q { held = held_after_ordered_push x q.held;
-    bytes = (if is_kept x q.held then count_up q.bytes (length x.user_data) else q.bytes) }
+    record q {
+      held = held_after_ordered_push x q.held;
+      bytes = (if is_kept x q.held then count_up q.bytes (length x.user_data) else q.bytes);
+    }
 
 -- a complete unordered message: its SSN is 0, its payload type that of its first fragment
 abbrev pub set_of_run : List ChunkPayloadData → ChunkSet
@@ -82,8 +84,10 @@ pub record TakesRun (xs : List ChunkPayloadData) (old new : Reassembly) : Type 0
   pub first : ℕ
   pub count : ℕ
   pub run : IsEarliestRun xs first count
-  pub moved : new ≡ record old { unassembled = take first xs ++ drop (first + count) xs;
-      unordered = old.unordered ++ set_of_run (take count (drop first xs)) ∷ [] }
+  pub moved : new ≡ record old {
+    unassembled = take first xs ++ drop (first + count) xs;
+    unordered = old.unordered ++ set_of_run (take count (drop first xs)) ∷ [];
+  }
 
 -- with these unassembled fragments a message became whole, or none did
 abbrev pub BecomesWhole : List ChunkPayloadData → Reassembly → Reassembly → Bool → Type 0
@@ -94,16 +98,20 @@ BecomesWhole xs old new false = HasNoRun xs × (new ≡ record old { unassembled
 abbrev pub PushesUnordered : ChunkPayloadData → ReassemblyState → ReassemblyState → Bool → Type 0
 PushesUnordered x old new whole =
     BecomesWhole (inserted chunk_before x old.held.unassembled) old.held new.held whole
-        × (new ≡ record old { held = new.held; bytes = count_up old.bytes (length x.user_data) })
+    × (new ≡ record old { held = new.held; bytes = count_up old.bytes (length x.user_data) })
 
 -- the run that ends earliest is taken out
 pub record GivesRun (old new : ReassemblyState) (set : ChunkSet) : Type 0 where
   pub first : ℕ
   pub count : ℕ
   pub run : IsEarliestRun old.held.unassembled first count
-  pub rest : new ≡ record old { held =
-      record old.held { unassembled = take first old.held.unassembled
-      ++ drop (first + count) old.held.unassembled } }
+  pub rest : new ≡ record old {
+    held =
+        record old.held {
+          unassembled = take first old.held.unassembled
+              ++ drop (first + count) old.held.unassembled;
+        };
+  }
   pub given : set ≡ set_of_run (take count (drop first old.held.unassembled))
 
 -- ## Read
@@ -122,8 +130,10 @@ without_first (x ∷ xs) = xs
 abbrev pub after_read : Option ChunkSet → Reassembly → Reassembly
 after_read None q = q
 after_read (Some set) q =
-    record q { ordered = without_first q.ordered;
-    next_ssn = (if set.ssn == q.next_ssn then (q.next_ssn + 1) % 2 ^ 16 else q.next_ssn) }
+    record q {
+      ordered = without_first q.ordered;
+      next_ssn = (if set.ssn == q.next_ssn then (q.next_ssn + 1) % 2 ^ 16 else q.next_ssn);
+    }
 
 -- the first complete unordered message, else the front ordered set where it is due
 abbrev pub message_among : List ChunkSet → Reassembly → Option ChunkSet
@@ -166,8 +176,11 @@ held_after_ordered_skip last q =
 
 abbrev pub after_ordered_skip : ℕ → ReassemblyState → ReassemblyState
 after_ordered_skip last q =
-    record q { held = held_after_ordered_skip last q.held; bytes = q.bytes
-    - set_bytes (those (is_passed last) q.held.ordered) }
+    record q {
+      held = held_after_ordered_skip last q.held;
+      bytes = q.bytes
+          - set_bytes (those (is_passed last) q.held.ordered);
+    }
 
 abbrev pub held_after_unordered_skip : ℕ → Reassembly → Reassembly
 held_after_unordered_skip tsn q =
@@ -180,8 +193,11 @@ leading_upto tsn (x ∷ xs) = if at_or_before x.tsn tsn then x ∷ leading_upto 
 
 abbrev pub after_unordered_skip : ℕ → ReassemblyState → ReassemblyState
 after_unordered_skip tsn q =
-    record q { held = held_after_unordered_skip tsn q.held; bytes = q.bytes
-    - bytes_of (leading_upto tsn q.held.unassembled) }
+    record q {
+      held = held_after_unordered_skip tsn q.held;
+      bytes = q.bytes
+          - bytes_of (leading_upto tsn q.held.unassembled);
+    }
 
 -- the skips of these numbers, one after another
 abbrev pub held_after_ordered_skips : List ℕ → Reassembly → Reassembly

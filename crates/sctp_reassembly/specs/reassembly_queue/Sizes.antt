@@ -47,4 +47,4 @@ size_after x unassembled =
 abbrev pub projected_size : ChunkPayloadData → List ChunkSet → List ChunkPayloadData → ℕ
 projected_size x ordered unassembled =
     if x.unordered then size_before x unassembled + length x.user_data + size_after x unassembled
-        else bytes_of (chunks_of_ssn x.stream_sequence_number ordered) + length x.user_data
+    else bytes_of (chunks_of_ssn x.stream_sequence_number ordered) + length x.user_data

@@ -37,7 +37,7 @@ is_discarded last (Some t) set = is_abandoned last t set
 abbrev pub is_unaffected : ℕ → ℕ → ChunkSet → Bool
 is_unaffected last t set =
     at_or_before16 set.ssn last && (if is_complete set.chunks
-        then list_any (λ c. comes_after c.tsn t) set.chunks else not (misses t set.chunks))
+    then list_any (λ c. comes_after c.tsn t) set.chunks else not (misses t set.chunks))
 
 -- the SSN, walking the sets, replaced by one that comes before it; none without any
 abbrev pub earlier_ssn : Option ℕ → ℕ → ℕ
@@ -65,8 +65,11 @@ held_after_bounded_skip last t q =
 
 abbrev pub after_bounded_skip : ℕ → ℕ → ReassemblyState → ReassemblyState
 after_bounded_skip last t q =
-    record q { held = held_after_bounded_skip last t q.held; bytes = q.bytes
-    - set_bytes (those (is_abandoned last t) q.held.ordered) }
+    record q {
+      held = held_after_bounded_skip last t q.held;
+      bytes = q.bytes
+          - set_bytes (those (is_abandoned last t) q.held.ordered);
+    }
 
 -- ## How much of a skip is applicable
 
@@ -111,7 +114,7 @@ begins_upto peer (x ∷ xs) = at_or_before x.tsn peer
 abbrev pub is_passable : ℕ → ℕ → ℕ → ℕ → ChunkSet → Bool
 is_passable next last t peer set =
     (has_ssn next set || comes_after16 set.ssn next)
-        && (comes_before16 set.ssn last && (is_covered t set || begins_upto peer set.chunks))
+    && (comes_before16 set.ssn last && (is_covered t set || begins_upto peer set.chunks))
 
 -- the SSN, walking the sets, replaced by one that comes after it; none without any
 abbrev pub later_ssn : Option ℕ → ℕ → ℕ
@@ -128,5 +131,5 @@ latest_passable found next last t peer (set ∷ sets) =
 abbrev pub applicable : ℕ → ℕ → ℕ → Reassembly → Option ℕ
 applicable last t peer q =
     if comes_after16 q.next_ssn last || (list_any (settles q.next_ssn last t) q.ordered
-        || is_upto peer (earliest_from None last q.ordered)) then Some last
+    || is_upto peer (earliest_from None last q.ordered)) then Some last
     else latest_passable None q.next_ssn last t peer q.ordered

@@ -44,7 +44,11 @@ impl Model for Fragments {
 
     ghost view = { λ s. record { ssn = s.ssn; ppi = s.ppi; chunks = s.chunks.items } };
 
-    ghost invariant = { λ s. record { counted : s.n_bytes ≡ min (bytes_of s.chunks.items) (2 ^ 64 - 1); order : IsOrder s.ascending (map (λ c. c.tsn) s.chunks.items) } };
+    ghost invariant = { λ s. record {
+      counted : s.n_bytes
+          ≡ min (bytes_of s.chunks.items) (2 ^ 64 - 1);
+      order : IsOrder s.ascending (map (λ c. c.tsn) s.chunks.items);
+    } };
 }
 
 impl Fragments {

@@ -44,7 +44,8 @@ fn misses_behind(first: &ChunkPayloadData, rest: &[ChunkPayloadData], tsn: u32) 
 /// Removes the sets that a skip up to the number discards, those alone that miss a TSN where there
 /// is a bound, and counts their bytes up to the greatest number.
 pub(crate) fn discard(sets: &mut VecDeque<Fragments>, last_ssn: u16, bound: Option<u32>) -> usize
-    ensures rest { sets.new.items ≡ those (λ s. not (is_discarded last_ssn bound s)) sets.old.items }
+    ensures rest { sets.new.items ≡ those (λ s. not
+        (is_discarded last_ssn bound s)) sets.old.items }
     ensures bytes { result
         ≡ min (set_bytes (those (is_discarded last_ssn bound) sets.old.items)) (2 ^ 64 - 1) }
 {

@@ -77,7 +77,11 @@ impl Model for Loose {
 
     ghost view = { λ l. l.chunks.items };
 
-    ghost invariant = { λ l. record { counted : l.n_bytes ≡ min (bytes_of l.chunks.items) (2 ^ 64 - 1); order : IsOrderMark l.serial l.chunks.items } };
+    ghost invariant = { λ l. record {
+      counted : l.n_bytes
+          ≡ min (bytes_of l.chunks.items) (2 ^ 64 - 1);
+      order : IsOrderMark l.serial l.chunks.items;
+    } };
 }
 
 impl Loose {
@@ -492,12 +496,16 @@ pub fn run_around(unassembled: &Loose, place: usize, turns: &mut Turns) -> Optio
     ensures none { IfNone result (HasNoRunAround unassembled.now place) }
     ensures not_back { turns.old ≤ turns.new }
     ensures cost { (first last : ℕ)
-        → IsStretch unassembled.now place first last → turns.new ≤ turns.old + (last + 1 - first) + 2 }
+        → IsStretch unassembled.now place first last → turns.new ≤ turns.old + (last + 1 - first)
+        + 2 }
     ensures at_front { (last : ℕ) → IsStretch unassembled.now place place last
-        → ((d : ChunkPayloadData) → (slice_index_or unassembled.now place d).beginning_fragment ≡ false)
+        → ((d : ChunkPayloadData) → (slice_index_or unassembled.now place d).beginning_fragment
+        ≡ false)
         → turns.new ≤ turns.old + 2 }
-    ensures at_back { (first : ℕ) → IsStretch unassembled.now place first place → ((d : ChunkPayloadData)
-        → (slice_index_or unassembled.now place d).ending_fragment ≡ false) → turns.new ≤ turns.old + 3 }
+    ensures at_back { (first : ℕ) → IsStretch unassembled.now place first place
+        → ((d : ChunkPayloadData)
+        → (slice_index_or unassembled.now place d).ending_fragment ≡ false) → turns.new ≤ turns.old
+        + 3 }
 {
     let here = unassembled.look(place, turns);
     if is_cut_off(unassembled, place, here, turns) {

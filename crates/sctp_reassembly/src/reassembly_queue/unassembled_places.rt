@@ -126,7 +126,8 @@ pub(crate) fn place_after(
 ) -> Option<usize>
     requires { place ≡ place_among tsn unassembled.now }
     ensures in_range { IfSome result (λ at. at < length unassembled.now) }
-    ensures on { IfSome result (λ at. on_from (next_tsn tsn) unassembled.now ≡ drop at unassembled.now) }
+    ensures on { IfSome result (λ at. on_from (next_tsn tsn) unassembled.now
+        ≡ drop at unassembled.now) }
     ensures none { IfNone result (on_from (next_tsn tsn) unassembled.now ≡ []) }
     ensures cost { IsSerial unassembled.now → turns.new ≤ turns.old + 1 }
 {

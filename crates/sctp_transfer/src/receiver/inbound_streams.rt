@@ -213,7 +213,8 @@ impl InboundStreams {
     pub fn refusal_at(&self, place: usize, chunk: &ChunkPayloadData) -> ReceiverRefusal
         requires { IsOnlyPlace chunk.now.stream_identifier (numbers_of self.now) place }
         ensures { IsRefusedFor
-            (stream_refusal chunk.now (find (has_number chunk.now.stream_identifier) self.now)) result }
+            (stream_refusal chunk.now (find
+            (has_number chunk.now.stream_identifier) self.now)) result }
     {
         refusal_without_memory(&self.items[place].queue, chunk)
     }

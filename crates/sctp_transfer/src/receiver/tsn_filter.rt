@@ -33,9 +33,20 @@ impl Model for TsnFilter {
 
     ghost Value = { Filter };
 
-    ghost view = { λ f. record { cumulative_tsn = f.cumulative_tsn; beyond = tsns f.queue.chunks; duplicates = f.queue.duplicates; room = f.queue.room } };
+    ghost view = { λ f. record {
+      cumulative_tsn = f.cumulative_tsn;
+      beyond = tsns f.queue.chunks;
+      duplicates = f.queue.duplicates;
+      room = f.queue.room;
+    } };
 
-    ghost invariant = { λ f. record { in_range : f.cumulative_tsn < 2 ^ 32; marks : f.queue.chunks ≡ map mark (tsns f.queue.chunks); rise : rise_beyond f.cumulative_tsn 1 (tsns f.queue.chunks) ≡ true } };
+    ghost invariant = { λ f. record {
+      in_range : f.cumulative_tsn < 2 ^ 32;
+      marks : f.queue.chunks
+          ≡ map mark (tsns f.queue.chunks);
+      rise : rise_beyond f.cumulative_tsn 1
+          (tsns f.queue.chunks) ≡ true;
+    } };
 }
 
 impl TsnFilter {

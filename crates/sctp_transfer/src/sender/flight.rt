@@ -46,9 +46,17 @@ impl Model for InFlight {
 
     ghost Value = { Flight };
 
-    ghost view = { λ f. record { queue = f.queue; next_tsn = f.next_tsn; acked_tsn = f.acked_tsn } };
+    ghost view = { λ f. record {
+      queue = f.queue;
+      next_tsn = f.next_tsn;
+      acked_tsn = f.acked_tsn;
+    } };
 
-    ghost invariant = { λ f. IsContiguous (record { queue = f.queue; next_tsn = f.next_tsn; acked_tsn = f.acked_tsn }) };
+    ghost invariant = { λ f. IsContiguous (record {
+      queue = f.queue;
+      next_tsn = f.next_tsn;
+      acked_tsn = f.acked_tsn;
+    }) };
 }
 
 impl InFlight {

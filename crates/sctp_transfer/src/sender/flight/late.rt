@@ -126,7 +126,8 @@ impl InFlight {
         requires no_tail { list_all (λ t. not (has_tail_at self.old t)) tsns.now ≡ true }
         requires room { length abandoned.old.items + length tsns.now ≤ vec_capacity abandoned.old }
         ensures ok { self.new ≡ abandoned_each tsns.now self.old }
-        ensures answer { abandoned.new.items ≡ abandoned.old.items ++ leaving_each tsns.now self.old }
+        ensures answer { abandoned.new.items ≡ abandoned.old.items
+            ++ leaving_each tsns.now self.old }
         ensures released { total_bytes self.new.queue + sum_by (λ g. g.bytes) abandoned.new.items
             ≡ total_bytes self.old.queue + sum_by (λ g. g.bytes) abandoned.old.items }
     {
