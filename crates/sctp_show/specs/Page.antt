@@ -31,8 +31,8 @@ truth_text form label key value = led_text form (codes ",\"") label key (truth_w
 
 unfoldable pub bytes_text : Form → List ℕ → List ℕ → List ℕ → List ℕ
 bytes_text Text label key bytes =
-    codes "        " ++ (label ++ (codes "
-    (" ++ (decimal (length bytes) ++ (codes " bytes): " ++ (encode_lower bytes ++ codes "\n")))))
+    codes "        " ++ (label ++ (codes " (" ++ (decimal (length bytes)
+    ++ (codes " bytes): " ++ (encode_lower bytes ++ codes "\n")))))
 bytes_text Json label key bytes =
     codes ",\"" ++ (key ++ (codes "\":\"" ++ (encode_lower bytes ++ codes "\"")))
 
