@@ -7,7 +7,11 @@ use Rattle.sctp_base.specs.Field.{be16, u16_at}
 use Rattle.sctp_base.specs.Each.{each}
 
 unfoldable pub algorithm_from : ℕ → HmacAlgorithm
-algorithm_from n = if n == 0 then HmacResv1 else (if n == 1 then HmacSha128 else (if n == 2 then HmacResv2 else (if n == 3 then HmacSha256 else Unknown)))
+algorithm_from n =
+    if n == 0 then HmacResv1
+    else (if n == 1 then HmacSha128
+    else (if n == 2 then HmacResv2
+    else (if n == 3 then HmacSha256 else Unknown)))
 
 unfoldable pub algorithm_number : HmacAlgorithm → ℕ
 algorithm_number HmacResv1 = 0

@@ -47,7 +47,8 @@ ReadsParam bytes p = Reads IsReadAs bytes p
 unfoldable pub ParamFault : Error → List ℕ → Type 0
 ParamFault e bytes =
     ParamHeaderFault e bytes
-    ⊎ ((e ≡ errors.ErrParamTypeUnhandled (param_type_at bytes)) × (4 ≤ length bytes) × IsUnhandledType (param_type_at bytes))
+    ⊎ ((e ≡ errors.ErrParamTypeUnhandled (param_type_at bytes)) × (4 ≤ length bytes)
+    × IsUnhandledType (param_type_at bytes))
     ⊎ ((param_type_at bytes ≡ 12) × AddressTypesFault e bytes)
     ⊎ ((param_type_at bytes ≡ 13) × ResetRequestFault e bytes)
     ⊎ ((param_type_at bytes ≡ 16) × ResponseFault e bytes)

@@ -7,8 +7,13 @@ use Rattle.sctp_base.specs.Field.{be32, u32_at}
 
 unfoldable pub result_from : ℕ → ReconfigResult
 result_from n =
-    if n == 0 then SuccessNop else (if n == 1 then SuccessPerformed else (if n == 2 then Denied else (if n == 3 then ErrorWrongSsn else
-    (if n == 4 then ErrorRequestAlreadyInProgress else (if n == 5 then ErrorBadSequenceNumber else (if n == 6 then InProgress else Unknown))))))
+    if n == 0 then SuccessNop
+    else (if n == 1 then SuccessPerformed
+    else (if n == 2 then Denied
+    else (if n == 3 then ErrorWrongSsn
+    else (if n == 4 then ErrorRequestAlreadyInProgress
+    else (if n == 5 then ErrorBadSequenceNumber
+    else (if n == 6 then InProgress else Unknown))))))
 
 unfoldable pub result_number : ReconfigResult → ℕ
 result_number SuccessNop = 0
@@ -33,7 +38,8 @@ result_name Unknown = codes "Unknown ReconfigResult"
 
 -- the sender's and the receiver's next TSN, where the value is long enough for both
 abbrev pub next_tsns_in : List ℕ → Option (ℕ × ℕ)
-next_tsns_in value = if nat_le 16 (length value) then Some (u32_at value 8, u32_at value 12) else None
+next_tsns_in value =
+    if nat_le 16 (length value) then Some (u32_at value 8, u32_at value 12) else None
 
 abbrev pub response_in : List ℕ → ParamReconfigResponse
 response_in value = record {
@@ -52,4 +58,6 @@ next_tsns_encoding None = []
 next_tsns_encoding (Some tsns) = be32 tsns.0 ++ be32 tsns.1
 
 unfoldable pub response_value : ParamReconfigResponse → List ℕ
-response_value r = be32 r.reconfig_response_sequence_number ++ be32 (result_number r.result) ++ next_tsns_encoding r.next_tsns
+response_value r =
+    be32 r.reconfig_response_sequence_number ++ be32 (result_number r.result)
+    ++ next_tsns_encoding r.next_tsns

@@ -34,4 +34,6 @@ pub record ReadsResetRequest (value : List ℕ) (r : ResetRequest) : Type 0 wher
   pub fields : r ≡ reset_request_in value
 
 unfoldable pub reset_request_value : ResetRequest → List ℕ
-reset_request_value r = be32 r.reconfig_request_sequence_number ++ be32 r.reconfig_response_sequence_number ++ be32 r.sender_last_tsn ++ flat_map be16 r.stream_identifiers
+reset_request_value r =
+    be32 r.reconfig_request_sequence_number ++ be32 r.reconfig_response_sequence_number
+    ++ be32 r.sender_last_tsn ++ flat_map be16 r.stream_identifiers

@@ -107,11 +107,13 @@ pub trait Param {
     /// buffer lacked room. The buffer's bytes are as they were then.
     fn marshal_to(&self, buf: &mut BytesMut) -> Result<usize>
         ensures ok { IfOk result (λ n. HasParamEncoding (wire self.now)
-            × (buf.new.items ≡ buf.old.items ++ param_encoding (wire self.now)) × (n ≡ length buf.new.items)) }
+            × (buf.new.items ≡ buf.old.items ++ param_encoding (wire self.now))
+            × (n ≡ length buf.new.items)) }
         ensures err { OnErr result (buf.new.items ≡ buf.old.items) }
         ensures refused { IfErr result
             (λ e. ((e ≡ ErrLengthTooLarge) × (HasParamEncoding (wire self.now) → ⊥))
-            ⊎ ((e ≡ ErrOutOfMemory) × HasParamEncoding (wire self.now) × (buf.old.spare < 4 + length (param_value_of (wire self.now))))) }
+            ⊎ ((e ≡ ErrOutOfMemory) × HasParamEncoding (wire self.now)
+            × (buf.old.spare < 4 + length (param_value_of (wire self.now))))) }
     {
         let header = self.header()?;
         buf.reserve(PARAM_HEADER_LENGTH + header.value_length())?;

@@ -10,14 +10,20 @@ use Rattle.sctp_chunks.specs.Wire.{Wire, init_chunk, heartbeat_ack_chunk, reconf
 
 -- the values that an INIT must not have (RFC 4960 3.3.2), the first one named
 abbrev pub IsCheckedInit : Init → Type 0
-IsCheckedInit i = (i.initiate_tag ≢ 0) × (i.num_inbound_streams ≢ 0) × (i.num_outbound_streams ≢ 0) × (1500 ≤ i.advertised_receiver_window_credit)
+IsCheckedInit i =
+    (i.initiate_tag ≢ 0) × (i.num_inbound_streams ≢ 0) × (i.num_outbound_streams ≢ 0)
+    × (1500 ≤ i.advertised_receiver_window_credit)
 
 abbrev pub InitCheckFault : Error → Init → Type 0
 InitCheckFault e i =
     ((e ≡ errors.ErrChunkTypeInitInitiateTagZero) × (i.initiate_tag ≡ 0))
-    ⊎ ((e ≡ errors.ErrInitInboundStreamRequestZero) × (i.initiate_tag ≢ 0) × (i.num_inbound_streams ≡ 0))
-    ⊎ ((e ≡ errors.ErrInitOutboundStreamRequestZero) × (i.initiate_tag ≢ 0) × (i.num_inbound_streams ≢ 0) × (i.num_outbound_streams ≡ 0))
-    ⊎ ((e ≡ errors.ErrInitAdvertisedReceiver1500) × (i.initiate_tag ≢ 0) × (i.num_inbound_streams ≢ 0) × (i.num_outbound_streams ≢ 0) × (i.advertised_receiver_window_credit < 1500))
+    ⊎ ((e ≡ errors.ErrInitInboundStreamRequestZero) × (i.initiate_tag ≢ 0)
+    × (i.num_inbound_streams ≡ 0))
+    ⊎ ((e ≡ errors.ErrInitOutboundStreamRequestZero) × (i.initiate_tag ≢ 0)
+    × (i.num_inbound_streams ≢ 0) × (i.num_outbound_streams ≡ 0))
+    ⊎ ((e ≡ errors.ErrInitAdvertisedReceiver1500) × (i.initiate_tag ≢ 0)
+    × (i.num_inbound_streams ≢ 0) × (i.num_outbound_streams ≢ 0)
+    × (i.advertised_receiver_window_credit < 1500))
 
 -- what `check` asks for
 abbrev pub IsChecked : Wire → Type 0

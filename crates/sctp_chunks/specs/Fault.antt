@@ -16,13 +16,16 @@ abbrev pub HeaderFault : Error → List ℕ → Type 0
 HeaderFault e bytes =
     ((e ≡ errors.ErrChunkHeaderTooSmall) × (length bytes < 4))
     ⊎ ((e ≡ errors.ErrChunkHeaderInvalidLength) × (4 ≤ length bytes) × (declared bytes < 4))
-    ⊎ ((e ≡ errors.ErrChunkHeaderNotEnoughSpace) × (4 ≤ length bytes) × (length bytes < declared bytes))
-    ⊎ ((e ≡ errors.ErrChunkHeaderPaddingNonZero) × (4 ≤ length bytes) × (declared bytes ≤ length bytes) × (length bytes < declared bytes + 4)
+    ⊎ ((e ≡ errors.ErrChunkHeaderNotEnoughSpace) × (4 ≤ length bytes)
+    × (length bytes < declared bytes))
+    ⊎ ((e ≡ errors.ErrChunkHeaderPaddingNonZero) × (4 ≤ length bytes)
+    × (declared bytes ≤ length bytes) × (length bytes < declared bytes + 4)
     × (All (λ x. x ≡ 0) (drop (declared bytes) bytes) → ⊥))
 
 -- the same, or another type than the one that was to be read
 abbrev pub OpenFault : ℕ → Error → Error → List ℕ → Type 0
-OpenFault typ other e bytes = HeaderFault e bytes ⊎ ((e ≡ other) × (4 ≤ length bytes) × (type_at bytes ≢ typ))
+OpenFault typ other e bytes =
+    HeaderFault e bytes ⊎ ((e ≡ other) × (4 ≤ length bytes) × (type_at bytes ≢ typ))
 
 -- the bytes begin with a chunk of this type
 abbrev pub IsChunk : ℕ → List ℕ → Type 0
@@ -41,15 +44,20 @@ abbrev pub SackFault : Error → List ℕ → Type 0
 SackFault e bytes =
     OpenFault 3 errors.ErrChunkTypeNotSack e bytes
     ⊎ ((e ≡ errors.ErrSackSizeNotLargeEnoughInfo) × IsChunk 3 bytes
-    × ((length (value_at bytes) < 12) ⊎ (length (value_at bytes) < 12 + 4 * blocks_in (value_at bytes) + 4 * duplicates_in (value_at bytes))))
+    × ((length (value_at bytes) < 12)
+    ⊎ (length (value_at bytes)
+    < 12 + 4 * blocks_in (value_at bytes) + 4 * duplicates_in (value_at bytes))))
 
 -- a cause's refusal, at a place that the walk comes to
 unfoldable pub CausesFault : Error → List ℕ → Type 0
 CausesFault e bytes =
-    (cs : List ErrorCause) × (rest : List ℕ) × Walks ReadsCause after_cause bytes cs rest × (4 ≤ length rest) × (e ≡ errors.ErrErrorCauseTooSmall) × (IsCause rest → ⊥)
+    (cs : List ErrorCause) × (rest : List ℕ) × Walks ReadsCause after_cause bytes cs rest
+    × (4 ≤ length rest) × (e ≡ errors.ErrErrorCauseTooSmall) × (IsCause rest → ⊥)
 
 abbrev pub AbortFault : Error → List ℕ → Type 0
-AbortFault e bytes = OpenFault 6 errors.ErrChunkTypeNotAbort e bytes ⊎ (IsChunk 6 bytes × CausesFault e (value_at bytes))
+AbortFault e bytes =
+    OpenFault 6 errors.ErrChunkTypeNotAbort e bytes
+    ⊎ (IsChunk 6 bytes × CausesFault e (value_at bytes))
 
 abbrev pub ShutdownFault : Error → List ℕ → Type 0
 ShutdownFault e bytes =
@@ -57,12 +65,15 @@ ShutdownFault e bytes =
     ⊎ ((e ≡ errors.ErrInvalidChunkSize) × IsChunk 7 bytes × (length (value_at bytes) ≢ 4))
 
 abbrev pub ErrorFault : Error → List ℕ → Type 0
-ErrorFault e bytes = OpenFault 9 errors.ErrChunkTypeNotCt e bytes ⊎ (IsChunk 9 bytes × CausesFault e (value_at bytes))
+ErrorFault e bytes =
+    OpenFault 9 errors.ErrChunkTypeNotCt e bytes
+    ⊎ (IsChunk 9 bytes × CausesFault e (value_at bytes))
 
 abbrev pub ForwardTsnFault : Error → List ℕ → Type 0
 ForwardTsnFault e bytes =
     OpenFault 192 errors.ErrChunkTypeNotForwardTsn e bytes
-    ⊎ ((e ≡ errors.ErrChunkTooShort) × IsChunk 192 bytes × ((length (value_at bytes) < 4) ⊎ ((length (value_at bytes) - 4) % 4 ≢ 0)))
+    ⊎ ((e ≡ errors.ErrChunkTooShort) × IsChunk 192 bytes
+    × ((length (value_at bytes) < 4) ⊎ ((length (value_at bytes) - 4) % 4 ≢ 0)))
 
 abbrev pub IForwardTsnFault : Error → List ℕ → Type 0
 IForwardTsnFault e bytes =
@@ -72,10 +83,12 @@ IForwardTsnFault e bytes =
 abbrev pub InitFault : Error → List ℕ → Type 0
 InitFault e bytes =
     HeaderFault e bytes
-    ⊎ ((e ≡ errors.ErrChunkTypeNotTypeInit) × (4 ≤ length bytes) × (type_at bytes ≢ 1) × (type_at bytes ≢ 2))
+    ⊎ ((e ≡ errors.ErrChunkTypeNotTypeInit) × (4 ≤ length bytes) × (type_at bytes ≢ 1)
+    × (type_at bytes ≢ 2))
     ⊎ ((e ≡ errors.ErrChunkValueNotLongEnough) × IsInitChunk bytes × (length (value_at bytes) < 16))
     ⊎ ((e ≡ errors.ErrChunkTypeInitFlagZero) × IsInitChunk bytes × (flags_at bytes ≢ 0))
-    ⊎ (IsInitChunk bytes × (16 ≤ length (value_at bytes)) × ParamsFault e (drop 16 (value_at bytes)))
+    ⊎ (IsInitChunk bytes × (16 ≤ length (value_at bytes))
+    × ParamsFault e (drop 16 (value_at bytes)))
 
 -- a value that is no Heartbeat Info
 abbrev pub InfoFault : Error → List ℕ → Type 0
@@ -85,10 +98,14 @@ InfoFault e value =
     ⊎ ParamFault e value
 
 abbrev pub HeartbeatFault : Error → List ℕ → Type 0
-HeartbeatFault e bytes = OpenFault 4 errors.ErrChunkTypeNotHeartbeat e bytes ⊎ (IsChunk 4 bytes × InfoFault e (value_at bytes))
+HeartbeatFault e bytes =
+    OpenFault 4 errors.ErrChunkTypeNotHeartbeat e bytes
+    ⊎ (IsChunk 4 bytes × InfoFault e (value_at bytes))
 
 abbrev pub HeartbeatAckFault : Error → List ℕ → Type 0
-HeartbeatAckFault e bytes = OpenFault 5 errors.ErrChunkTypeNotHeartbeatAck e bytes ⊎ (IsChunk 5 bytes × InfoFault e (value_at bytes))
+HeartbeatAckFault e bytes =
+    OpenFault 5 errors.ErrChunkTypeNotHeartbeatAck e bytes
+    ⊎ (IsChunk 5 bytes × InfoFault e (value_at bytes))
 
 -- no first parameter, its refusal, or the second's
 abbrev pub PairValueFault : Error → List ℕ → Type 0
@@ -98,4 +115,6 @@ PairValueFault e value =
     ⊎ (IsParam value × (0 < length (after_param value)) × ParamFault e (after_param value))
 
 abbrev pub ReconfigFault : Error → List ℕ → Type 0
-ReconfigFault e bytes = OpenFault 130 errors.ErrChunkTypeNotReconfig e bytes ⊎ (IsChunk 130 bytes × PairValueFault e (value_at bytes))
+ReconfigFault e bytes =
+    OpenFault 130 errors.ErrChunkTypeNotReconfig e bytes
+    ⊎ (IsChunk 130 bytes × PairValueFault e (value_at bytes))

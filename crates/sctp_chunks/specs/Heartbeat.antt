@@ -27,5 +27,6 @@ IsOneInfo (p ∷ q ∷ ps) = ⊥
 -- no parameter, or several; or one of another type
 abbrev pub OneInfoFault : Error → List Parameter → Type 0
 OneInfoFault e [] = e ≡ errors.ErrHeartbeatAckParams
-OneInfoFault e (p ∷ []) = (e ≡ errors.ErrHeartbeatAckNotHeartbeatInfo) × (param_type_of p ≢ types.HeartbeatInfo)
+OneInfoFault e (p ∷ []) =
+    (e ≡ errors.ErrHeartbeatAckNotHeartbeatInfo) × (param_type_of p ≢ types.HeartbeatInfo)
 OneInfoFault e (p ∷ q ∷ ps) = e ≡ errors.ErrHeartbeatAckParams

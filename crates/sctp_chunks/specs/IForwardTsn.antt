@@ -17,7 +17,12 @@ i_forward_tsn_of c = record { new_cumulative_tsn = c.new_cumulative_tsn; streams
 
 -- stream, flags of which the lowest says unordered, a reserved byte, message identifier
 abbrev pub entry_at : List ℕ → ℕ → ChunkIForwardTsnStream
-entry_at bytes at = record { identifier = u16_at bytes at; unordered = has_flag (slice_index bytes (at + 2)) 1; mid = u32_at bytes (at + 4) }
+entry_at bytes at =
+    record {
+      identifier = u16_at bytes at;
+      unordered = has_flag (slice_index bytes (at + 2)) 1;
+      mid = u32_at bytes (at + 4);
+    }
 
 -- what a value says: after the TSN an entry every eight bytes
 abbrev pub i_forward_tsn_in : List ℕ → IForwardTsn

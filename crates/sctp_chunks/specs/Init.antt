@@ -51,5 +51,6 @@ ack_type false = 1
 
 unfoldable pub init_value : Init → List ℕ
 init_value i =
-    be32 i.initiate_tag ++ be32 i.advertised_receiver_window_credit ++ be16 i.num_outbound_streams ++ be16 i.num_inbound_streams ++ be32 i.initial_tsn
+    be32 i.initiate_tag ++ be32 i.advertised_receiver_window_credit ++ be16 i.num_outbound_streams
+    ++ be16 i.num_inbound_streams ++ be32 i.initial_tsn
     ++ params_encoding false i.params

@@ -16,7 +16,9 @@ pub record ReadsParams (bytes : List ℕ) (ps : List Parameter) : Type 0 where
 
 -- a parameter's refusal, at a place that the walk comes to
 unfoldable pub ParamsFault : Error → List ℕ → Type 0
-ParamsFault e bytes = (ps : List Parameter) × (rest : List ℕ) × Walks ReadsParam after_param bytes ps rest × (4 ≤ length rest) × ParamFault e rest
+ParamsFault e bytes =
+    (ps : List Parameter) × (rest : List ℕ) × Walks ReadsParam after_param bytes ps rest
+    × (4 ≤ length rest) × ParamFault e rest
 
 -- parameters that read back, each whatever follows it
 abbrev pub ReadBack : List Parameter → Type 0

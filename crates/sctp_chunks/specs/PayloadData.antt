@@ -34,7 +34,11 @@ data_of c = record {
 
 unfoldable pub payload_type_from : ℕ → PayloadProtocolIdentifier
 payload_type_from n =
-    if n == 50 then Dcep else (if n == 51 then String else (if n == 53 then Binary else (if n == 56 then StringEmpty else (if n == 57 then BinaryEmpty else Unknown))))
+    if n == 50 then Dcep
+    else (if n == 51 then String
+    else (if n == 53 then Binary
+    else (if n == 56 then StringEmpty
+    else (if n == 57 then BinaryEmpty else Unknown))))
 
 unfoldable pub payload_type_number : PayloadProtocolIdentifier → ℕ
 payload_type_number Dcep = 50
@@ -54,7 +58,9 @@ abbrev pub weight : Bool → ℕ → ℕ
 weight b mask = if b then mask else 0
 
 unfoldable pub data_flags : Data → ℕ
-data_flags d = weight d.ending_fragment 1 + weight d.beginning_fragment 2 + weight d.unordered 4 + weight d.immediate_sack 8
+data_flags d =
+    weight d.ending_fragment 1 + weight d.beginning_fragment 2 + weight d.unordered 4
+    + weight d.immediate_sack 8
 
 -- ---- reading and writing
 
@@ -77,4 +83,6 @@ pub record ReadsData (flags : ℕ) (value : List ℕ) (d : Data) : Type 0 where
   pub fields : d ≡ data_in flags value
 
 unfoldable pub data_value : Data → List ℕ
-data_value d = be32 d.tsn ++ be16 d.stream_identifier ++ be16 d.stream_sequence_number ++ be32 (payload_type_number d.payload_type) ++ d.user_data
+data_value d =
+    be32 d.tsn ++ be16 d.stream_identifier ++ be16 d.stream_sequence_number
+    ++ be32 (payload_type_number d.payload_type) ++ d.user_data

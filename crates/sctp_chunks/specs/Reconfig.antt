@@ -16,7 +16,11 @@ pub record Reconfig : Type 0 where
   pub param_b : Option Parameter
 
 abbrev pub reconfig_of : ChunkReconfig → Reconfig
-reconfig_of c = record { param_a = option_map parameter_of c.param_a; param_b = option_map parameter_of c.param_b }
+reconfig_of c =
+    record {
+      param_a = option_map parameter_of c.param_a;
+      param_b = option_map parameter_of c.param_b;
+    }
 
 -- a parameter, and a second where bytes remain after the first; bytes after the second are ignored
 abbrev pub ReadsPair : List ℕ → Option Parameter → Option Parameter → Type 0
@@ -56,4 +60,6 @@ IsPair (Some a) (Some b) = MayStandTogether (param_type_of a) (param_type_of b)
 abbrev pub PairFault : Error → Option Parameter → Option Parameter → Type 0
 PairFault e None b = e ≡ errors.ErrChunkReconfigInvalidParamA
 PairFault e (Some a) None = ⊥
-PairFault e (Some a) (Some b) = (e ≡ errors.ErrChunkReconfigInvalidParamCombination) × (MayStandTogether (param_type_of a) (param_type_of b) → ⊥)
+PairFault e (Some a) (Some b) =
+    (e ≡ errors.ErrChunkReconfigInvalidParamCombination)
+    × (MayStandTogether (param_type_of a) (param_type_of b) → ⊥)

@@ -50,5 +50,6 @@ block_encoding b = be16 b.start ++ be16 b.end
 
 unfoldable pub sack_value : Sack → List ℕ
 sack_value s =
-    be32 s.cumulative_tsn_ack ++ be32 s.advertised_receiver_window_credit ++ be16 (length s.gap_ack_blocks) ++ be16 (length s.duplicate_tsn)
+    be32 s.cumulative_tsn_ack ++ be32 s.advertised_receiver_window_credit
+    ++ be16 (length s.gap_ack_blocks) ++ be16 (length s.duplicate_tsn)
     ++ flat_map block_encoding s.gap_ack_blocks ++ flat_map be32 s.duplicate_tsn

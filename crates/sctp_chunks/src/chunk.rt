@@ -103,7 +103,8 @@ pub trait Chunk {
     fn header(&self) -> Result<ChunkHeader>
         ensures ok { IfOk result (λ h. HasLength (wire self.now)
             × (h.typ.0 ≡ type_of (wire self.now))
-            × (h.flags ≡ flags_of (wire self.now)) × (h.value_length ≡ length (value_of (wire self.now)))) }
+            × (h.flags ≡ flags_of (wire self.now))
+            × (h.value_length ≡ length (value_of (wire self.now)))) }
         ensures err { IfErr result (λ e. (e ≡ ErrLengthTooLarge)
             × (HasLength (wire self.now) → ⊥)) }
     {
@@ -116,7 +117,8 @@ pub trait Chunk {
     #[tactic(auto, using(crate::proofs::AgainKinds::encoding_again))]
     fn marshal_to(&self, buf: &mut BytesMut) -> Result<usize>
         ensures ok { IfOk result (λ n. HasEncoding (wire self.now)
-            × (buf.new.items ≡ buf.old.items ++ encoding_of (wire self.now)) × (n ≡ length buf.new.items)) }
+            × (buf.new.items ≡ buf.old.items ++ encoding_of (wire self.now))
+            × (n ≡ length buf.new.items)) }
         ensures spare { OnOk result
             (buf.old.spare ≤ buf.new.spare + (4 + length (value_of (wire self.now)))) }
         ensures fits { OnOk result (Fits (wire self.now)) }
@@ -125,7 +127,8 @@ pub trait Chunk {
             → OnOk result (ReadsChunk (encoding_of (wire self.now)) (wire self.now)) }
         ensures err { OnErr result (buf.new.items ≡ buf.old.items) }
         ensures refused { IfErr result (λ e. EncodingFault e (wire self.now)
-            ⊎ ((e ≡ ErrOutOfMemory) × HasEncoding (wire self.now) × (buf.old.spare < 4 + length (value_of (wire self.now))))) }
+            ⊎ ((e ≡ ErrOutOfMemory) × HasEncoding (wire self.now)
+            × (buf.old.spare < 4 + length (value_of (wire self.now))))) }
     {
         self.check_form()?;
         put_header(buf, self.chunk_type(), self.flags(), self.value_length())?;
@@ -135,7 +138,8 @@ pub trait Chunk {
 
     /// The chunk as bytes, with no padding. Refuses as `check_form` and then `header` do, or for memory.
     fn marshal(&self, alloc: Global) -> Result<Bytes>
-        ensures ok { IfOk result (λ b. HasEncoding (wire self.now) × (b ≡ encoding_of (wire self.now))) }
+        ensures ok { IfOk result (λ b. HasEncoding (wire self.now)
+            × (b ≡ encoding_of (wire self.now))) }
         ensures refused { IfErr result (λ e. EncodingFault e (wire self.now)
             ⊎ ((e ≡ ErrOutOfMemory) × HasEncoding (wire self.now))) }
     {

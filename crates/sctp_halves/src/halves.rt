@@ -38,7 +38,15 @@ impl Model for Halves {
 
     ghost Value = { Sides };
 
-    ghost view = { λ h. record { streams = joined h.sender.streams h.receiver.streams h.progress.items; flight = h.sender.flight; cumulative_tsn = h.receiver.cumulative_tsn; beyond = h.receiver.beyond; duplicates = h.receiver.duplicates; fragment_size = h.sender.fragment_size; max_message_size = h.sender.max_message_size } };
+    ghost view = { λ h. record {
+      streams = joined h.sender.streams h.receiver.streams h.progress.items;
+      flight = h.sender.flight;
+      cumulative_tsn = h.receiver.cumulative_tsn;
+      beyond = h.receiver.beyond;
+      duplicates = h.receiver.duplicates;
+      fragment_size = h.sender.fragment_size;
+      max_message_size = h.sender.max_message_size;
+    } };
 
     ghost invariant = { λ h. IsAligned h.numbers h.sender h.receiver h.progress.items };
 }

@@ -31,7 +31,8 @@ pub record Seen : Type 0 where
 -- the cumulative TSN moves over those held next to it
 abbrev pub advanced : ℕ → List ℕ → Seen
 advanced c [] = record { cum = c; held = [] }
-advanced c (t ∷ ts) = if t == (c + 1) % 2 ^ 32 then advanced t ts else record { cum = c; held = t ∷ ts }
+advanced c (t ∷ ts) =
+    if t == (c + 1) % 2 ^ 32 then advanced t ts else record { cum = c; held = t ∷ ts }
 
 -- the first element that passes, changed
 abbrev pub change_first : {A : Type 0} → (A → Bool) → (A → A) → List A → List A

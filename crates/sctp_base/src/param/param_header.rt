@@ -86,7 +86,8 @@ impl ParamHeader {
     /// buffer lacked room for four bytes. The buffer's bytes are as they were then.
     pub fn marshal_to(&self, buf: &mut BytesMut) -> Result<usize>
         ensures ok { IfOk result (λ n. (4 + self.now.value_length < 2 ^ 16)
-            × (buf.new.items ≡ buf.old.items ++ (be16 (type_number self.now.typ) ++ be16 (4 + self.now.value_length)))
+            × (buf.new.items ≡ buf.old.items ++
+            (be16 (type_number self.now.typ) ++ be16 (4 + self.now.value_length)))
             × (n ≡ length buf.new.items)) }
         ensures err { OnErr result (buf.new.items ≡ buf.old.items) }
         ensures refused { IfErr result

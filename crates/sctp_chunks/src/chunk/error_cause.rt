@@ -163,10 +163,13 @@ impl ErrorCause {
     /// bytes, or for memory where the buffer lacked room. Its bytes are as they were then.
     pub fn marshal_to(&self, buf: &mut BytesMut) -> Result<usize>
         ensures ok { IfOk result (λ n. HasCauseEncoding self.now
-            × (buf.new.items ≡ buf.old.items ++ cause_encoding self.now) × (n ≡ length buf.new.items)) }
+            × (buf.new.items ≡ buf.old.items ++ cause_encoding self.now)
+            × (n ≡ length buf.new.items)) }
         ensures err { OnErr result (buf.new.items ≡ buf.old.items) }
-        ensures refused { IfErr result (λ e. ((e ≡ ErrLengthTooLarge) × (HasCauseEncoding self.now → ⊥))
-            ⊎ ((e ≡ ErrOutOfMemory) × HasCauseEncoding self.now × (buf.old.spare < 4 + length self.now.raw))) }
+        ensures refused { IfErr result (λ e. ((e ≡ ErrLengthTooLarge)
+            × (HasCauseEncoding self.now → ⊥))
+            ⊎ ((e ≡ ErrOutOfMemory) × HasCauseEncoding self.now
+            × (buf.old.spare < 4 + length self.now.raw))) }
     {
         if self.length() > u16::MAX as usize {
             return Err(Error::ErrLengthTooLarge);
@@ -179,7 +182,8 @@ impl ErrorCause {
     /// The cause as bytes. Refuses with `ErrLengthTooLarge`, exactly where it has more than 65,535, or for memory.
     pub fn marshal(&self, alloc: Global) -> Result<Bytes>
         ensures ok { IfOk result (λ b. HasCauseEncoding self.now × (b ≡ cause_encoding self.now)) }
-        ensures refused { IfErr result (λ e. ((e ≡ ErrLengthTooLarge) × (HasCauseEncoding self.now → ⊥))
+        ensures refused { IfErr result (λ e. ((e ≡ ErrLengthTooLarge)
+            × (HasCauseEncoding self.now → ⊥))
             ⊎ ((e ≡ ErrOutOfMemory) × HasCauseEncoding self.now)) }
     {
         let mut buf = BytesMut::new(alloc);

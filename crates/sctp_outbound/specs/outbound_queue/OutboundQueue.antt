@@ -129,7 +129,8 @@ abandoned message tsn q =
     record q {
       pending = pending.without message q.pending;
       inflight = with_terminal_chunk (pending.last_removed message q.pending) tsn
-          (payload.with_chunks q.inflight (change_where (is_of message) as_abandoned q.inflight.chunks));
+          (payload.with_chunks q.inflight
+          (change_where (is_of message) as_abandoned q.inflight.chunks));
     }
 
 -- the TSN is taken where a tail was

@@ -128,7 +128,9 @@ impl InFlight {
     /// Refuses only for memory, and all is as it was then.
     pub fn reserve(&mut self, ordered: usize, unordered: usize) -> Result<(), SenderRefusal>
         ensures ok { OnOk result (self.new ≡ with_queue self.old
-            (record self.old.queue { pending = pending.reserved self.old.queue.pending ordered unordered })) }
+            (record self.old.queue {
+              pending = pending.reserved self.old.queue.pending ordered unordered;
+            })) }
         ensures err { OnErr result (self.new ≡ self.old) }
         ensures memory { IfErr result (λ e. e ≡ OutOfMemory) }
         ensures succeeds { ordered ≤ self.old.queue.pending.ordered_room
