@@ -188,6 +188,6 @@ fn is_as_wanted(alloc: Global, encoding: &str, want: Want) -> bool {
 #[test]
 fn recorded_datagrams_are_written_back(rt: HostRuntime) {
     for (encoding, want) in DATAGRAMS {
-        assert!(rt; is_as_wanted(rt.alloc(), encoding, want), "at {text}");
+        assert!(rt; is_as_wanted(rt.alloc(), encoding, want), "at {encoding}");
     }
 }
