@@ -333,6 +333,6 @@ fn printed(alloc: Global, chunks: &[u8]) -> Result<String, Error> {
 
 #[test]
 fn printed_packet(rt: HostRuntime) {
-    let encoding = printed(rt.alloc(), b"\x0b\0\0\x04\x08\0\0\x04");
-    assert!(rt; encoding.is_ok_and(|encoding| encoding.as_str() == PRINTED));
+    let text = printed(rt.alloc(), b"\x0b\0\0\x04\x08\0\0\x04");
+    assert!(rt; text.is_ok_and(|text| text.as_str() == PRINTED));
 }

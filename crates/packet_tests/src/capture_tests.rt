@@ -170,8 +170,8 @@ fn is_written_as(alloc: Global, packet: &Packet, bytes: &Bytes) -> bool {
 }
 
 /// Whether that becomes of the datagram which is wanted.
-fn is_as_wanted(alloc: Global, encoding: &str, want: Want) -> bool {
-    let Ok(bytes) = hex::decode(alloc, encoding) else {
+fn is_as_wanted(alloc: Global, text: &str, want: Want) -> bool {
+    let Ok(bytes) = hex::decode(alloc, text) else {
         return false;
     };
     let Ok(bytes) = Bytes::from_vec(bytes) else {
@@ -187,7 +187,7 @@ fn is_as_wanted(alloc: Global, encoding: &str, want: Want) -> bool {
 
 #[test]
 fn recorded_datagrams_are_written_back(rt: HostRuntime) {
-    for (encoding, want) in DATAGRAMS {
-        assert!(rt; is_as_wanted(rt.alloc(), encoding, want), "at {encoding}");
+    for (text, want) in DATAGRAMS {
+        assert!(rt; is_as_wanted(rt.alloc(), text, want), "at {text}");
     }
 }

@@ -21,16 +21,16 @@ use std::alloc::Global;
 
 // The packet's chunks as they print.
 fn joined(alloc: Global, packet: &Packet) -> Result<String, Error> {
-    let mut encoding = String::new(alloc);
+    let mut text = String::new(alloc);
     for chunk in &packet.chunks {
-        encoding.push_str(&format!(in alloc; "{chunk};")?)?;
+        text.push_str(&format!(in alloc; "{chunk};")?)?;
     }
-    Ok(encoding)
+    Ok(text)
 }
 
 fn is_printed(alloc: Global, packet: &Packet, expected: &str) -> bool {
     match joined(alloc, packet) {
-        Ok(encoding) => encoding.as_str() == expected,
+        Ok(text) => text.as_str() == expected,
         Err(_) => false,
     }
 }
@@ -161,17 +161,16 @@ const RECORDED: [(&[u8], &str); 3] = [
 
 #[test]
 fn recorded_inits(rt: HostRuntime) {
-    for (chunks, encoding) in RECORDED {
-        let well = prints_so(rt.alloc(), chunks, encoding)
-            && is_rewritten(rt.alloc(), chunks, chunks);
+    for (chunks, text) in RECORDED {
+        let well = prints_so(rt.alloc(), chunks, text) && is_rewritten(rt.alloc(), chunks, chunks);
         assert!(rt; well, "at {chunks:?}");
     }
 }
 
 #[test]
 fn kinds_print(rt: HostRuntime) {
-    for (chunks, encoding, _) in ROWS {
-        assert!(rt; prints_so(rt.alloc(), chunks, encoding), "at {chunks:?}");
+    for (chunks, text, _) in ROWS {
+        assert!(rt; prints_so(rt.alloc(), chunks, text), "at {chunks:?}");
     }
 }
 
@@ -442,8 +441,8 @@ fn parts_print(rt: HostRuntime) {
         sequence: 2,
     };
     let refusal = Error::ErrShortBuffer;
-    let encoding = format!(in rt.alloc(); "{header}: {pair}: {refusal}");
-    assert!(rt; encoding.is_ok_and(|encoding| encoding.as_str() == "SACK: 1, 2: ErrShortBuffer"));
+    let text = format!(in rt.alloc(); "{header}: {pair}: {refusal}");
+    assert!(rt; text.is_ok_and(|text| text.as_str() == "SACK: 1, 2: ErrShortBuffer"));
 }
 
 // How a HEARTBEAT-ACK of these is refused; nothing also where the buffer was not left as it was.

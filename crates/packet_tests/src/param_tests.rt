@@ -497,7 +497,7 @@ fn header(alloc: Global, raw: &[u8]) -> Result<ParamHeader, Error> {
 // Whether the item prints so.
 fn prints<T: Display>(alloc: Global, item: &T, want: &str) -> bool {
     match printed(alloc, item) {
-        Ok(encoding) => encoding.as_str() == want,
+        Ok(text) => text.as_str() == want,
         Err(_) => false,
     }
 }
@@ -594,8 +594,8 @@ fn prints_so(alloc: Global, raw: &[u8], expected: &str) -> bool {
 
 #[test]
 fn kinds_print(rt: HostRuntime) {
-    for (raw, encoding) in PRINTED {
-        assert!(rt; prints_so(rt.alloc(), raw, encoding), "at {raw:?}");
+    for (raw, text) in PRINTED {
+        assert!(rt; prints_so(rt.alloc(), raw, text), "at {raw:?}");
     }
 }
 

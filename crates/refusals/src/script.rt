@@ -54,7 +54,7 @@ fn write(stream: u16, bytes: &'static [u8]) -> Event {
     }
 }
 
-/// An unordered message comes whole, an ordered one is abandoned partially sent, one expires, and one is late and skipped.
+/// An unordered message comes whole, an ordered one is abandoned while partially sent, one expires, and one is late and skipped.
 fn on_one_stream(turn: usize) -> Event {
     match turn {
         0 => Event::Open { stream: 1 },

@@ -175,7 +175,7 @@ abbrev pub expired : World → Option ℕ → World
 expired w None = w
 expired w (Some n) = message_changed w n mark_expired
 
--- an abandoned message that is partially sent takes one terminal chunk
+-- a partially sent message that is abandoned takes one terminal chunk
 abbrev pub abandoned : World → ℕ → World
 abandoned w n =
     message_changed (if Messages.is_partially_sent w n then with_slot w n true

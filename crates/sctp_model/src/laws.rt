@@ -19,7 +19,7 @@ pub fn datagrams_keep_the_limit()
     ensures filled { OnEveryRun FilledToLimit }
 {}
 
-/// The slots of a message have its fragments in order, side by side; the messages of a stream are sent in turn; an abandoned partially sent one takes one terminal chunk, which no datagram carries; what a datagram says never changes.
+/// The slots of a message have its fragments in order, side by side; the messages of a stream are sent in turn; one that is abandoned while partially sent takes one terminal chunk, which no datagram carries; what a datagram says never changes.
 pub fn slots_are_valid()
     ensures in_order { OnEveryRun SlotsInOrder }
     ensures follow { OnEveryRun SlotsFollow }

@@ -616,7 +616,7 @@ fn is_past(deadline: Option<u64>, now: u64) -> bool
     }
 }
 
-// Whether the chunk begins a message past its deadline. DCEP messages have no deadline.
+// Whether the chunk begins a message past its deadline. DCEP messages never expire.
 fn is_expired(chunk: &ChunkPayloadData, now: u64) -> bool
     ensures { result ≡ is_expired now chunk.now }
 {

@@ -80,20 +80,20 @@ read_next format begun k after (Some xs) (Some ys) (Some zs) records found read 
       are = ap (λ l. l ++ option_to_list found) read.are ∙ ap (λ o. records_of read.pieces ++ option_to_list o) (sym same_found) ∙ sym (records_next read.pieces p);
     }
 
-encodings_next : (form : Form) (n : ℕ) (records : List Record) (texts : List (List ℕ)) (r : Record) (t : List ℕ) → AreTexts form n records texts → IsText form (n + length records) r t → AreTexts form n (records ++ r ∷ []) (texts ++ t ∷ [])
-encodings_next form n [] [] r t all is = let here : n + 0 ≡ n = omega arith in (rw here at is, tt)
-encodings_next form n [] (u ∷ us) r t all is = absurd all
-encodings_next form n (q ∷ qs) [] r t all is = absurd all
-encodings_next form n (q ∷ qs) (u ∷ us) r t all is =
+texts_next : (form : Form) (n : ℕ) (records : List Record) (texts : List (List ℕ)) (r : Record) (t : List ℕ) → AreTexts form n records texts → IsText form (n + length records) r t → AreTexts form n (records ++ r ∷ []) (texts ++ t ∷ [])
+texts_next form n [] [] r t all is = let here : n + 0 ≡ n = omega arith in (rw here at is, tt)
+texts_next form n [] (u ∷ us) r t all is = absurd all
+texts_next form n (q ∷ qs) [] r t all is = absurd all
+texts_next form n (q ∷ qs) (u ∷ us) r t all is =
     let same : n + length {A = Record} (q ∷ qs) ≡ (n + 1) + length qs = omega arith in
-    (all.0, encodings_next form (n + 1) qs us r t all.1 (rw same at is))
+    (all.0, texts_next form (n + 1) qs us r t all.1 (rw same at is))
 
 printed_next : (form : Form) (old mid new : Option (List ℕ)) (records : List Record) (r : Record) (n : ℕ) → n ≡ 1 + length records → HasPrinted form old mid records → PrintsRecord form n r mid new → HasPrinted form old new (records ++ r ∷ [])
 printed_next form old mid new records r n e printed next =
     let texts : List (List ℕ) = printed.0 in
     let t : List ℕ = next.0 in
     let joined : concat (texts ++ t ∷ []) ≡ concat texts ++ t = concat-append texts (t ∷ []) ∙ ap (λ l. concat texts ++ l) (append-nil t) in
-    (texts ++ t ∷ [], encodings_next form 1 records texts r t printed.1 (rw e at next.1), rw joined (Appends-trans old mid new (concat texts) t printed.2 next.2))
+    (texts ++ t ∷ [], texts_next form 1 records texts r t printed.1 (rw e at next.1), rw joined (Appends-trans old mid new (concat texts) t printed.2 next.2))
 
 -- one record more is read and printed
 pub so_far_record : (form : Form) (format : Format) (begun k after : Known) (a b c old mid new : Option (List ℕ)) (count : ℕ) (r : Record) → SoFar form format begun a k b old mid count

@@ -61,7 +61,7 @@ block_object lead name h shown =
     ++ (codes ",\"length\":" ++ (decimal h.length ++ (shown ++ codes "}")))))))))
 
 -- a block; objects stand between commas
-abbrev pub block_encoding : Form → Bool → List ℕ → List ℕ → Head → List ℕ → List ℕ
-block_encoding Text is_first name digits h shown = block_lines name digits h shown
-block_encoding Json true name digits h shown = block_object (codes "{") name h shown
-block_encoding Json false name digits h shown = block_object (codes ",{") name h shown
+abbrev pub block_text : Form → Bool → List ℕ → List ℕ → Head → List ℕ → List ℕ
+block_text Text is_first name digits h shown = block_lines name digits h shown
+block_text Json true name digits h shown = block_object (codes "{") name h shown
+block_text Json false name digits h shown = block_object (codes ",{") name h shown

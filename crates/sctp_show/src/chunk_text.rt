@@ -3,7 +3,7 @@
 ghost use Rattle.std.specs.Prelude.{◌≡◌, ◌≤◌, ◌+◌, ◌++◌, length, slice_index, OnOk};
 ghost use Rattle.std.specs.String.{string_bytes};
 ghost use Rattle.sctp_base.specs.Field;
-ghost use Rattle.sctp_show.specs.ChunkText.{data_text, init_text, i_data_text, block_lines, block_object, block_encoding};
+ghost use Rattle.sctp_show.specs.ChunkText.{data_text, init_text, i_data_text, block_lines, block_object, block_text};
 
 use crate::page::{Form, Page, put_all};
 use bytes::Bytes;
@@ -505,7 +505,7 @@ fn put_framed(
     shown: &str,
 ) -> Result<(), AllocError>
     ensures { OnOk result (string_bytes page.new.text ≡ string_bytes page.old.text
-        ++ block_encoding page.old.form is_first name.now digits.now head shown.now) }
+        ++ block_text page.old.form is_first name.now digits.now head shown.now) }
 {
     match (page.form, is_first) {
         (Form::Text, _) => put_lines(&mut page.text, name, digits, head, shown),

@@ -211,7 +211,7 @@ fn seen_text(
 }
 
 /// What a packet shows.
-fn packet_encoding(
+fn packet_text(
     alloc: Global,
     options: &Options,
     time: &Option<Time>,
@@ -257,7 +257,7 @@ fn frame_text(
 {
     match datagram_in(record.link_type, frame.as_slice(), options.port) {
         Ok(datagram) => {
-            let shown = packet_encoding(alloc, options, &record.time, &datagram, summary)?;
+            let shown = packet_text(alloc, options, &record.time, &datagram, summary)?;
             numbered(alloc, options.form, number, &shown)
         }
         Err(fault) => {

@@ -18,7 +18,7 @@ use std::marker::Model;
 #[derive(Drop)]
 pub(crate) struct Pool {
     unassembled: Loose,
-    // no complete run was unassembled when it was last searched
+    // no complete run was among them when they were last searched
     searched: bool,
 }
 
@@ -125,7 +125,7 @@ impl Pool {
     }
 }
 
-// Whether none is unassembled once the run of a new fragment was taken: in serial order none arises by it.
+// Whether no complete run is left once that of a new fragment was taken: in serial order none arises by it.
 fn is_searched_after(searched: bool, serial: bool) -> bool
     ensures { result ≡ (searched && serial) }
 {

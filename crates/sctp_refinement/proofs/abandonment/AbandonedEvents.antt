@@ -154,7 +154,7 @@ tail-is setup w now q g t = by (front w) refl
     dcep P.BinaryEmpty = refl
     dcep P.Unknown = refl
 
-    -- DCEP messages have no deadline
+    -- DCEP messages never expire
     past_deadline : (n : ℕ) → (not (pending.is_dcep (message_at w n).ppi) && is_past now (deadline_of w n)) ≡ is_past_deadline w now n
     past_deadline n = ap (λ b. not b && is_past now (deadline_of w n)) (dcep (message_at w n).ppi) ∙ ap (λ b. not (is_dcep (message_at w n).ppi) && b) (past-is now (deadline_of w n)) ∙ turned (is_timed (message_at w n).reliability) (is_dcep (message_at w n).ppi) (deadline_from (message_at w n).value (message_at w n).started)
       where
