@@ -4,34 +4,34 @@ use Rattle.std.specs.Prelude.{map}
 use Rattle.std.specs.List.{range_with_len}
 use Rattle.std.proofs.lemmas.List.{get_or-map, length-map}
 use Rattle.std.proofs.lemmas.List.FromFn.{get_or-map-range_with_len}
-use Rattle.crc32c.specs.Castagnoli.{shift, shifted, zero_bytes}
+use Rattle.crc32c.specs.Castagnoli.{shift, shift_bits, zero_bytes}
 use Rattle.crc32c.specs.declared.tables.TheConstants.{TABLES}
 
 unfoldable row : ℕ → List ℕ
-row zero = map (shifted 8) (range_with_len 0 256)
-row (suc k) = map (shifted 8) (row k)
+row zero = map (shift_bits 8) (range_with_len 0 256)
+row (suc k) = map (shift_bits 8) (row k)
 
 tables_are : TABLES ≡ map row (range_with_len 0 8)
-unfolding shift shifted row
+unfolding shift shift_bits row
 tables_are = refl
 
 row_length : (k : ℕ) → length (row k) ≡ 256
 unfolding row
 row_length zero = refl
-row_length (suc k) = length-map (row k) (shifted 8) ∙ row_length k
+row_length (suc k) = length-map (row k) (shift_bits 8) ∙ row_length k
 
-pub zero_bytes-up : (k r : ℕ) → zero_bytes (suc k) r ≡ shifted 8 (zero_bytes k r)
+pub zero_bytes-up : (k r : ℕ) → zero_bytes (suc k) r ≡ shift_bits 8 (zero_bytes k r)
 unfolding zero_bytes
 zero_bytes-up zero r = refl
-zero_bytes-up (suc k) r = zero_bytes-up k (shifted 8 r)
+zero_bytes-up (suc k) r = zero_bytes-up k (shift_bits 8 r)
 
 row_at : (k b : ℕ) → b < 256 → get_or (row k) b 0 ≡ zero_bytes (suc k) b
 unfolding row zero_bytes
-row_at zero b h = get_or-map-range_with_len (shifted 8) 0 256 b b 0 h (omega arith)
+row_at zero b h = get_or-map-range_with_len (shift_bits 8) 0 256 b b 0 h (omega arith)
 row_at (suc k) b h =
     let short : b < length (row k) = omega (arith, row_length k) in
-    get_or-map (shifted 8) (row k) b 0 0 short
-    ∙ ap (shifted 8) (row_at k b h) ∙ sym (zero_bytes-up (suc k) b)
+    get_or-map (shift_bits 8) (row k) b 0 0 short
+    ∙ ap (shift_bits 8) (row_at k b h) ∙ sym (zero_bytes-up (suc k) b)
 
 pub table_at : (k b : ℕ) → k < 8 → b < 256
     → get_or (get_or TABLES k []) b 0 ≡ zero_bytes (suc k) b

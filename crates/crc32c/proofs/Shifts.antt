@@ -3,7 +3,7 @@ use Rattle.std.proofs.Common.{◌≡◌, ◌∙◌, ℕ, zero, suc, ◌+◌, ◌
 use Rattle.std.specs.Prelude.{bit_xor, fold, if◌then◌else◌, ◌==◌}
 use Rattle.std.specs.Int.{w64, from_le_bytes}
 use Rattle.std.specs.Int.Bits.{xor_assoc, xor_self, xor_zero_r, xor_comm, xor_shr, xor_mod, xor_block}
-use Rattle.crc32c.specs.Castagnoli.{shift, shifted, byte_step, zero_bytes}
+use Rattle.crc32c.specs.Castagnoli.{shift, shift_bits, byte_step, zero_bytes}
 
 -- the polynomial beside, where a bit fell out
 beside : ℕ → ℕ → ℕ
@@ -34,10 +34,10 @@ shift_xor a b =
     ∙ by_parity (a % 2) (b % 2) (a / 2) (b / 2) (omega arith) (omega arith)
 
 shifted_xor : (bits a b : ℕ)
-    → shifted bits (bit_xor a b) ≡ bit_xor (shifted bits a) (shifted bits b)
-unfolding shifted
+    → shift_bits bits (bit_xor a b) ≡ bit_xor (shift_bits bits a) (shift_bits bits b)
+unfolding shift_bits
 shifted_xor zero a b = refl
-shifted_xor (suc bits) a b = ap (shifted bits) (shift_xor a b) ∙ shifted_xor bits (shift a) (shift b)
+shifted_xor (suc bits) a b = ap (shift_bits bits) (shift_xor a b) ∙ shifted_xor bits (shift a) (shift b)
 
 shift_half : (a b : ℕ) → a ≡ b * 2 → shift a ≡ b
 unfolding shift beside
@@ -46,22 +46,22 @@ shift_half a b e =
     let half : a / 2 ≡ b = omega arith in
     λ i. beside (even i) (half i)
 
-shifted_byte : (m : ℕ) → shifted 8 (m * 256) ≡ m
-unfolding shifted
+shifted_byte : (m : ℕ) → shift_bits 8 (m * 256) ≡ m
+unfolding shift_bits
 shifted_byte m =
-    ap (shifted 7) (shift_half (m * 256) (m * 128) (omega arith))
-    ∙ ap (shifted 6) (shift_half (m * 128) (m * 64) (omega arith))
-    ∙ ap (shifted 5) (shift_half (m * 64) (m * 32) (omega arith))
-    ∙ ap (shifted 4) (shift_half (m * 32) (m * 16) (omega arith))
-    ∙ ap (shifted 3) (shift_half (m * 16) (m * 8) (omega arith))
-    ∙ ap (shifted 2) (shift_half (m * 8) (m * 4) (omega arith))
-    ∙ ap (shifted 1) (shift_half (m * 4) (m * 2) (omega arith))
+    ap (shift_bits 7) (shift_half (m * 256) (m * 128) (omega arith))
+    ∙ ap (shift_bits 6) (shift_half (m * 128) (m * 64) (omega arith))
+    ∙ ap (shift_bits 5) (shift_half (m * 64) (m * 32) (omega arith))
+    ∙ ap (shift_bits 4) (shift_half (m * 32) (m * 16) (omega arith))
+    ∙ ap (shift_bits 3) (shift_half (m * 16) (m * 8) (omega arith))
+    ∙ ap (shift_bits 2) (shift_half (m * 8) (m * 4) (omega arith))
+    ∙ ap (shift_bits 1) (shift_half (m * 4) (m * 2) (omega arith))
     ∙ shift_half (m * 2) m refl
 
 zero_bytes_xor : (k a b : ℕ) → zero_bytes k (bit_xor a b) ≡ bit_xor (zero_bytes k a) (zero_bytes k b)
 unfolding zero_bytes
 zero_bytes_xor zero a b = refl
-zero_bytes_xor (suc k) a b = ap (zero_bytes k) (shifted_xor 8 a b) ∙ zero_bytes_xor k (shifted 8 a) (shifted 8 b)
+zero_bytes_xor (suc k) a b = ap (zero_bytes k) (shifted_xor 8 a b) ∙ zero_bytes_xor k (shift_bits 8 a) (shift_bits 8 b)
 
 joined : (high low : ℕ) → low < 256 → bit_xor low (high * 256) ≡ low + high * 256
 joined high low h =
@@ -92,9 +92,9 @@ fold-word_of [] r h = sym (xor_zero_r r)
 fold-word_of (b ∷ bs) r h =
     fold-word_of bs (byte_step r b) (λ i. h (suc i))
     ∙ ap (zero_bytes (length bs))
-    (ap (bit_xor (shifted 8 (bit_xor r b))) (sym (shifted_byte (word_of bs)))
+    (ap (bit_xor (shift_bits 8 (bit_xor r b))) (sym (shifted_byte (word_of bs)))
     ∙ sym (shifted_xor 8 (bit_xor r b) (word_of bs * 256))
-    ∙ ap (shifted 8) (xor_assoc r b (word_of bs * 256) ∙ ap (bit_xor r) (joined (word_of bs) b (h 0))))
+    ∙ ap (shift_bits 8) (xor_assoc r b (word_of bs * 256) ∙ ap (bit_xor r) (joined (word_of bs) b (h 0))))
 
 -- a byte's step by the remainder of one byte
 pub byte_step-by_table : (r b : ℕ) → b < 256

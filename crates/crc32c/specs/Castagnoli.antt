@@ -7,18 +7,18 @@ unfoldable pub shift : ℕ → ℕ
 shift r = if r % 2 == 0 then r / 2 else bit_xor (r / 2) 0x82f63b78
 
 -- the remainder after so many further bits
-unfoldable pub shifted : ℕ → ℕ → ℕ
-shifted zero r = r
-shifted (suc bits) r = shifted bits (shift r)
+unfoldable pub shift_bits : ℕ → ℕ → ℕ
+shift_bits zero r = r
+shift_bits (suc bits) r = shift_bits bits (shift r)
 
 -- the remainder after a further byte, its lowest bit first
 unfoldable pub byte_step : ℕ → ℕ → ℕ
-byte_step r byte = shifted 8 (bit_xor r byte)
+byte_step r byte = shift_bits 8 (bit_xor r byte)
 
 -- the remainder after so many further zero bytes
 unfoldable pub zero_bytes : ℕ → ℕ → ℕ
 zero_bytes zero r = r
-zero_bytes (suc zeros) r = zero_bytes zeros (shifted 8 r)
+zero_bytes (suc zeros) r = zero_bytes zeros (shift_bits 8 r)
 
 -- the remainder of some bytes: it begins with 32 ones
 abbrev pub remainder_of : List ℕ → ℕ

@@ -141,10 +141,10 @@ fn counters_are_full() -> bool {
         messages_received: most,
         bytes_received: most,
     };
-    stats.sent(PayloadProtocolIdentifier::Binary, 2);
-    stats.received(PayloadProtocolIdentifier::Binary, 2);
-    stats.sent(PayloadProtocolIdentifier::String, 2);
-    stats.received(PayloadProtocolIdentifier::String, 2);
+    stats.count_sent(PayloadProtocolIdentifier::Binary, 2);
+    stats.count_received(PayloadProtocolIdentifier::Binary, 2);
+    stats.count_sent(PayloadProtocolIdentifier::String, 2);
+    stats.count_received(PayloadProtocolIdentifier::String, 2);
     stats.messages_sent == u64::MAX
         && stats.bytes_sent == u64::MAX
         && stats.messages_received == u64::MAX
@@ -154,14 +154,14 @@ fn counters_are_full() -> bool {
 /// Messages that establish a channel and those of no known kind don't count.
 fn others_are_not_counted(stream: &StreamState) -> bool {
     let mut stats = stream.stats();
-    stats.sent(PayloadProtocolIdentifier::Dcep, 10);
-    stats.received(PayloadProtocolIdentifier::Unknown, 10);
+    stats.count_sent(PayloadProtocolIdentifier::Dcep, 10);
+    stats.count_received(PayloadProtocolIdentifier::Unknown, 10);
     stats == stream.stats()
 }
 
 fn empty_text_counts(stream: &mut StreamState) -> bool {
     let mut stats = stream.stats();
-    stats.sent(PayloadProtocolIdentifier::StringEmpty, 1);
+    stats.count_sent(PayloadProtocolIdentifier::StringEmpty, 1);
     stream.set_stats(stats);
     stats.messages_sent == 1 && stats.bytes_sent == 0 && stream.stats().messages_sent == 1
 }
@@ -174,13 +174,13 @@ fn counters_stop_at_the_greatest_number(rt: HostRuntime) {
 }
 
 /// Whether the chunk is taken and makes a message whole.
-fn is_whole_with(stream: &mut StreamState, chunk: &ChunkPayloadData) -> bool {
+fn is_complete_with(stream: &mut StreamState, chunk: &ChunkPayloadData) -> bool {
     matches!(stream.handle_data(chunk), Ok(true))
 }
 
 fn two_bytes_come(alloc: Global, stream: &mut StreamState) -> bool {
     match write(alloc, stream, b"ab", PayloadProtocolIdentifier::Binary) {
-        Ok((_, chunks)) => chunks.len() == 1 && is_whole_with(stream, &chunks[0]),
+        Ok((_, chunks)) => chunks.len() == 1 && is_complete_with(stream, &chunks[0]),
         Err(_) => false,
     }
 }

@@ -16,13 +16,13 @@ use Rattle.sctp_base.specs.declared.param.param_reconfig_response.ReconfigResult
 use Rattle.sctp_base.specs.declared.param.param_reconfig_response.ParamReconfigResponse.{ParamReconfigResponse}
 use Rattle.sctp_base.specs.declared.param.param_requested_hmac_algorithm.HmacAlgorithm.{HmacAlgorithm}
 use Rattle.sctp_base.specs.Each.{each}
-use Rattle.sctp_base.specs.Padding.{padding_of, padded}
+use Rattle.sctp_base.specs.Padding.{padding_of, padded_length}
 use Rattle.sctp_base.specs.ParamType.{type_from}
 use Rattle.sctp_base.specs.AddressTypes.{ReadsAddressTypes, address_types_value, type_encoding}
 use Rattle.sctp_base.specs.ResetRequest.{ResetRequest, ReadsResetRequest, reset_request_value}
 use Rattle.sctp_base.specs.ReconfigResponse.{ReadsResponse, response_value, result_from, result_number}
 use Rattle.sctp_base.specs.HmacAlgorithm.{ReadsAlgorithms, algorithms_value, algorithm_encoding, algorithm_from, algorithm_number, IsRequestable}
-use Rattle.sctp_base.specs.ParamFraming.{IsParam, IsParamValue, param_type_at, param_declared, param_value_at, param_framed, after_param}
+use Rattle.sctp_base.specs.ParamFraming.{IsParam, IsParamValue, param_type_at, param_declared_length, param_value_at, param_framed, after_param}
 use Rattle.sctp_base.specs.ParamKind.{IsReadAs, HasReadType}
 use Rattle.sctp_base.specs.Param.{Parameter, heartbeat_info, state_cookie, supported_address_types, outgoing_reset_request, reconfig_response, random, chunk_list, requested_hmac_algorithm, supported_extensions, forward_tsn_supported, unknown_param, ReadsParamValue, ReadsBack, HasOwnType, HasParamEncoding, param_number_of, param_value_of, param_encoding, chunk_types, chunk_type_numbers}
 
@@ -38,7 +38,7 @@ module _ (typ : ℕ) (value rest : List ℕ) (fits : typ < 2 ^ 16) (short : 4 + 
   pub framed_type : param_type_at encoding ≡ typ
   framed_type = ap (λ (x : List ℕ). u16_at x 0) regroup ∙ u16_at_be16 [] (be16 (4 + length value) ++ (value ++ rest)) typ 0 refl fits
 
-  pub framed_declared : param_declared encoding ≡ 4 + length value
+  pub framed_declared : param_declared_length encoding ≡ 4 + length value
   framed_declared = ap (λ (x : List ℕ). u16_at x 2) regroup ∙ u16_at_be16 (be16 typ) (value ++ rest) (4 + length value) 2 (length_be16 typ) short
 
   pub framed_value : param_value_at encoding ≡ value
@@ -47,7 +47,7 @@ module _ (typ : ℕ) (value rest : List ℕ) (fits : typ < 2 ^ 16) (short : 4 + 
       let front : List ℕ = be16 typ ++ be16 (4 + length value) in
       let four : length front ≡ 4 = omega (arith, length-append (be16 typ) (be16 (4 + length value)), length_be16 typ, length_be16 (4 + length value)) in
       let e : encoding ≡ front ++ (value ++ rest) = append_assoc front value rest in
-      let n : param_declared encoding - 4 ≡ length value = omega (arith, framed_declared) in
+      let n : param_declared_length encoding - 4 ≡ length value = omega (arith, framed_declared) in
       rw n (ap (λ (x : List ℕ). take (length value) (drop 4 x)) e ∙ ap (take (length value)) (drop_at front (value ++ rest) 4 four) ∙ take_at value rest (length value) refl)
 
   pub framed_reads : IsParam encoding
@@ -197,7 +197,7 @@ own_again p has b = record {
 
 -- ---- for walks over parameters
 
-pub declared_param_encoding : (p : Parameter) (rest : List ℕ) → HasParamEncoding p → param_declared (param_encoding p ++ rest) ≡ 4 + length (param_value_of p)
+pub declared_param_encoding : (p : Parameter) (rest : List ℕ) → HasParamEncoding p → param_declared_length (param_encoding p ++ rest) ≡ 4 + length (param_value_of p)
 unfolding param_encoding
 declared_param_encoding p rest short =
     let n = length (param_value_of p) in
@@ -210,5 +210,5 @@ pub after_param_encoding : (p : Parameter) (padding rest : List ℕ) → HasPara
 unfolding after_param
 after_param_encoding p padding rest short e =
     let n = length (param_value_of p) in
-    let all : length (param_encoding p ++ padding) ≡ padded (4 + n) = omega (arith, length-append (param_encoding p) padding, length_param_encoding p, e) in
-    rw (declared_param_encoding p (padding ++ rest) short, ← append_assoc (param_encoding p) padding rest) (drop_at (param_encoding p ++ padding) rest (padded (4 + n)) all)
+    let all : length (param_encoding p ++ padding) ≡ padded_length (4 + n) = omega (arith, length-append (param_encoding p) padding, length_param_encoding p, e) in
+    rw (declared_param_encoding p (padding ++ rest) short, ← append_assoc (param_encoding p) padding rest) (drop_at (param_encoding p ++ padding) rest (padded_length (4 + n)) all)

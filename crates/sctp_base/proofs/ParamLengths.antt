@@ -10,7 +10,7 @@ use Rattle.sctp_base.specs.Field.{be16, u16_at, u32_at}
 use Rattle.sctp_base.proofs.Fields.{length_be16, length_be32}
 use Rattle.sctp_base.specs.declared.util.ChunkType.{ChunkType}
 use Rattle.sctp_base.specs.ParamType.{type_from}
-use Rattle.sctp_base.specs.ParamFraming.{param_declared, param_value_at}
+use Rattle.sctp_base.specs.ParamFraming.{param_declared_length, param_value_at}
 use Rattle.sctp_base.specs.Param.{Parameter, heartbeat_info, state_cookie, supported_address_types, outgoing_reset_request, reconfig_response, random, chunk_list, requested_hmac_algorithm, supported_extensions, forward_tsn_supported, unknown_param, ReadsParamValue, Reads, param_value_of, param_encoding, chunk_types, chunk_type_numbers}
 use Rattle.sctp_base.specs.declared.param.param_type.ParamType.{ParamType}
 use Rattle.sctp_base.specs.declared.param.param_requested_hmac_algorithm.HmacAlgorithm.{HmacAlgorithm}
@@ -83,7 +83,7 @@ unfolding param_encoding
 length_param_encoding p = simp (length-append, length_be16) (omega arith)
 
 -- a parameter that was read is written in no more than its declared length
-pub param_no_longer : (IsKind : ℕ → Parameter → Type 0) (bytes : List ℕ) (p : Parameter) → Reads IsKind bytes p → 4 + length (param_value_of p) ≤ param_declared bytes
+pub param_no_longer : (IsKind : ℕ → Parameter → Type 0) (bytes : List ℕ) (p : Parameter) → Reads IsKind bytes p → 4 + length (param_value_of p) ≤ param_declared_length bytes
 unfolding param_value_at
 param_no_longer IsKind bytes p r =
-    omega (arith, value_no_longer (param_value_at bytes) p r.value, length-take (param_declared bytes - 4) (drop 4 bytes), r.is_param.least)
+    omega (arith, value_no_longer (param_value_at bytes) p r.value, length-take (param_declared_length bytes - 4) (drop 4 bytes), r.is_param.least)

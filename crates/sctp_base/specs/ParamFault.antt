@@ -3,14 +3,15 @@ use Rattle.std.specs.Prelude.{◌≡◌, ◌≢◌, ℕ, ◌*◌, ◌/◌, ◌%�
 use Rattle.sctp_base.specs.declared.error.Error.{Error}
 use Rattle.sctp_base.specs.declared.error.Error.TheVariants as errors
 use Rattle.sctp_base.specs.Field.{u16_at}
-use Rattle.sctp_base.specs.ParamFraming.{IsParam, param_type_at, param_declared, param_value_at}
+use Rattle.sctp_base.specs.ParamFraming.{IsParam, param_type_at, param_declared_length, param_value_at}
 use Rattle.sctp_base.specs.HmacAlgorithm.{IsRequestable}
 
 -- under four bytes, a length under four, or one past the bytes
 abbrev pub ParamHeaderFault : Error → List ℕ → Type 0
 ParamHeaderFault e bytes =
     (e ≡ errors.ErrParamHeaderTooShort) ×
-    ((length bytes < 4) ⊎ (param_declared bytes < 4) ⊎ (length bytes < param_declared bytes))
+    ((length bytes < 4) ⊎ (param_declared_length bytes < 4)
+    ⊎ (length bytes < param_declared_length bytes))
 
 abbrev pub AddressTypesFault : Error → List ℕ → Type 0
 AddressTypesFault e bytes =

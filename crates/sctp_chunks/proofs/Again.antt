@@ -5,7 +5,7 @@ use Rattle.sctp_base.specs.Field.{be16, be32, u16_at, u32_at}
 use Rattle.sctp_base.proofs.Fields.{length_be16, length_be32, u16_at_be16, u32_at_be32}
 use Rattle.sctp_chunks.specs.declared.chunk.chunk_payload_data.PayloadProtocolIdentifier.{PayloadProtocolIdentifier}
 use Rattle.sctp_chunks.specs.declared.chunk.chunk_payload_data.PayloadProtocolIdentifier.TheVariants.{Dcep, String, Binary, StringEmpty, BinaryEmpty, Unknown}
-use Rattle.sctp_chunks.specs.Framing.{value_at, declared, IsFramed, framed}
+use Rattle.sctp_chunks.specs.Framing.{value_at, declared_length, IsFramed, chunk_encoding}
 use Rattle.sctp_chunks.specs.PayloadData.{Data, ReadsData, data_flags, data_value, has_flag, weight, payload_type_from, payload_type_number}
 use Rattle.sctp_chunks.specs.Fits.{FitsData}
 use Rattle.sctp_chunks.proofs.Lengths.{length_data_value}
@@ -14,12 +14,12 @@ use Rattle.sctp_chunks.proofs.Lengths.{length_data_value}
 
 module _ (typ flags : ℕ) (value rest : List ℕ) (short : 4 + length value < 2 ^ 16) where
   abbrev encoding : List ℕ
-  encoding = framed typ flags value ++ rest
+  encoding = chunk_encoding typ flags value ++ rest
 
   regroup : encoding ≡ typ ∷ flags ∷ [] ++ (be16 (4 + length value) ++ (value ++ rest))
   regroup = ap (λ (x : List ℕ). typ ∷ flags ∷ x) (append_assoc (be16 (4 + length value)) value rest)
 
-  pub framed_declared : declared encoding ≡ 4 + length value
+  pub framed_declared : declared_length encoding ≡ 4 + length value
   framed_declared = ap (λ (x : List ℕ). u16_at x 2) regroup ∙ u16_at_be16 (typ ∷ flags ∷ []) (value ++ rest) (4 + length value) 2 refl short
 
   pub framed_value : value_at encoding ≡ value
@@ -28,15 +28,15 @@ module _ (typ flags : ℕ) (value rest : List ℕ) (short : 4 + length value < 2
       let front : List ℕ = typ ∷ flags ∷ [] ++ be16 (4 + length value) in
       let four : length front ≡ 4 = omega (arith, length_be16 (4 + length value)) in
       let e : encoding ≡ front ++ (value ++ rest) = ap (λ (x : List ℕ). typ ∷ flags ∷ x) (append_assoc (be16 (4 + length value)) value rest) in
-      let n : declared encoding - 4 ≡ length value = omega (arith, framed_declared) in
+      let n : declared_length encoding - 4 ≡ length value = omega (arith, framed_declared) in
       rw n (ap (λ (x : List ℕ). take (length value) (drop 4 x)) e ∙ ap (take (length value)) (drop_at front (value ++ rest) 4 four) ∙ take_at value rest (length value) refl)
 
   pub framed_rest : drop (4 + length value) encoding ≡ rest
-  framed_rest = drop_at (framed typ flags value) rest (4 + length value) (omega (arith, length-append (be16 (4 + length value)) value, length_be16 (4 + length value)))
+  framed_rest = drop_at (chunk_encoding typ flags value) rest (4 + length value) (omega (arith, length-append (be16 (4 + length value)) value, length_be16 (4 + length value)))
 
   pub framed_reads : (length rest < 4 → All (λ x. x ≡ 0) rest) → IsFramed encoding
   framed_reads zeros =
-      let len : length encoding ≡ 4 + length value + length rest = omega (arith, length-append (framed typ flags value) rest, length-append (be16 (4 + length value)) value, length_be16 (4 + length value)) in
+      let len : length encoding ≡ 4 + length value + length rest = omega (arith, length-append (chunk_encoding typ flags value) rest, length-append (be16 (4 + length value)) value, length_be16 (4 + length value)) in
       record {
         headed = omega (arith, len);
         least = omega (arith, framed_declared);

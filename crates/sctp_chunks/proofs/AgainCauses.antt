@@ -7,7 +7,7 @@ use Rattle.sctp_base.specs.Field.{be16, u16_at}
 use Rattle.sctp_base.specs.Walk.{Walks}
 use Rattle.sctp_base.proofs.Fields.{length_be16, u16_at_be16}
 use Rattle.sctp_chunks.specs.declared.chunk.error_cause.ErrorCause.{ErrorCause}
-use Rattle.sctp_chunks.specs.ErrorCause.{ReadsCause, ReadsCauses, HasCauseEncoding, after_cause, cause_declared, cause_value_at, cause_encoding, causes_encoding}
+use Rattle.sctp_chunks.specs.ErrorCause.{ReadsCause, ReadsCauses, HasCauseEncoding, after_cause, cause_declared_length, cause_value_at, cause_encoding, causes_encoding}
 use Rattle.sctp_chunks.specs.Fits.{FitsCause}
 use Rattle.sctp_chunks.proofs.Causes.{length_cause_encoding}
 
@@ -25,7 +25,7 @@ module _ (c : ErrorCause) (rest : List ℕ) (fits : FitsCause c) (short : HasCau
   cause_code : u16_at encoding 0 ≡ c.code.0
   cause_code = ap (λ (x : List ℕ). u16_at x 0) regroup ∙ u16_at_be16 [] _ c.code.0 0 refl fits
 
-  cause_length : cause_declared encoding ≡ n
+  cause_length : cause_declared_length encoding ≡ n
   cause_length = ap (λ (x : List ℕ). u16_at x 2) regroup ∙ u16_at_be16 (be16 c.code.0) (c.raw ++ rest) n 2 (length_be16 c.code.0) short
 
   cause_value : cause_value_at encoding ≡ c.raw
@@ -34,7 +34,7 @@ module _ (c : ErrorCause) (rest : List ℕ) (fits : FitsCause c) (short : HasCau
       let front : List ℕ = be16 c.code.0 ++ be16 n in
       let four : length front ≡ 4 = omega (arith, length-append (be16 c.code.0) (be16 n), length_be16 c.code.0, length_be16 n) in
       let e : encoding ≡ front ++ (c.raw ++ rest) = regroup ∙ sym (append_assoc (be16 c.code.0) (be16 n) (c.raw ++ rest)) in
-      let m : cause_declared encoding - 4 ≡ length c.raw = omega (arith, cause_length) in
+      let m : cause_declared_length encoding - 4 ≡ length c.raw = omega (arith, cause_length) in
       rw m (ap (λ (x : List ℕ). take (length c.raw) (drop 4 x)) e ∙ ap (take (length c.raw)) (drop_at front (c.raw ++ rest) 4 four) ∙ take_at c.raw rest (length c.raw) refl)
 
   cause_after : after_cause encoding ≡ rest

@@ -5,7 +5,7 @@ use Rattle.std.proofs.lemmas.List.{append-nil, length-replicate}
 use Rattle.std.proofs.Math.ListN.{drop_of_length-le}
 use Rattle.sctp_base.specs.Padding.{padding_of}
 use Rattle.sctp_base.specs.Walk.{Walks}
-use Rattle.sctp_base.specs.ParamFraming.{param_declared, after_param}
+use Rattle.sctp_base.specs.ParamFraming.{param_declared_length, after_param}
 use Rattle.sctp_base.specs.Param.{Parameter, heartbeat_info, ReadsBack, param_encoding, param_value_of}
 use Rattle.sctp_base.specs.ParamKind.{IsReadAs, ReadsParam}
 use Rattle.sctp_base.proofs.ParamLengths.{length_param_encoding}
@@ -22,8 +22,8 @@ alone p back = let P : List ℕ → Type 0 = λ b. ReadsParam b p in subst P (ap
 after_alone : (p : Parameter) → ReadsBack IsReadAs p → after_param (param_encoding p) ≡ []
 unfolding after_param
 after_alone p back =
-    let n : param_declared (param_encoding p) ≡ 4 + length (param_value_of p) =
-    ap param_declared (sym (append-nil (param_encoding p))) ∙ declared_param_encoding p [] back.has_encoding in
+    let n : param_declared_length (param_encoding p) ≡ 4 + length (param_value_of p) =
+    ap param_declared_length (sym (append-nil (param_encoding p))) ∙ declared_param_encoding p [] back.has_encoding in
     drop_of_length-le (param_encoding p) (omega (arith, n, length_param_encoding p))
 
 abbrev zeros : Parameter → List ℕ

@@ -5,7 +5,7 @@ use Rattle.std.proofs.lemmas.List.Concat.{flat_map-cons, flat_map-append}
 use Rattle.sctp_base.proofs.Fields.{length_be16}
 use Rattle.sctp_base.specs.Walk.{Walks}
 use Rattle.sctp_chunks.specs.declared.chunk.error_cause.ErrorCause.{ErrorCause}
-use Rattle.sctp_chunks.specs.ErrorCause.{ReadsCause, ReadsCauses, after_cause, cause_declared, cause_value_at, cause_encoding, causes_encoding}
+use Rattle.sctp_chunks.specs.ErrorCause.{ReadsCause, ReadsCauses, after_cause, cause_declared_length, cause_value_at, cause_encoding, causes_encoding}
 
 pub length_cause_encoding : (c : ErrorCause) → length (cause_encoding c) ≡ 4 + length c.raw
 unfolding cause_encoding
@@ -22,16 +22,16 @@ causes_at (c ∷ cs) (suc i) d lt =
     let all : length (causes_encoding (c ∷ cs)) ≡ length (cause_encoding c) + length (causes_encoding cs) = rw (flat_map-cons, length-append) refl in
     omega (arith, more, here, all)
 
-cause_short : (bytes : List ℕ) (c : ErrorCause) → ReadsCause bytes c → length (cause_encoding c) ≤ cause_declared bytes
+cause_short : (bytes : List ℕ) (c : ErrorCause) → ReadsCause bytes c → length (cause_encoding c) ≤ cause_declared_length bytes
 unfolding cause_value_at
-cause_short bytes c r = omega (arith, length_cause_encoding c, ap (λ (x : ErrorCause). length x.raw) r.fields, length-take (cause_declared bytes - 4) (drop 4 bytes), r.is_cause.least)
+cause_short bytes c r = omega (arith, length_cause_encoding c, ap (λ (x : ErrorCause). length x.raw) r.fields, length-take (cause_declared_length bytes - 4) (drop 4 bytes), r.is_cause.least)
 
 walked_short : (bytes : List ℕ) (cs : List ErrorCause) (rest : List ℕ) → Walks ReadsCause after_cause bytes cs rest → length (causes_encoding cs) ≤ length bytes
 unfolding Walks after_cause
 walked_short bytes [] rest w = omega arith
 walked_short bytes (c ∷ cs) rest w =
     let next = walked_short (after_cause bytes) cs rest w.1 in
-    let cut = length-drop (cause_declared bytes) bytes in
+    let cut = length-drop (cause_declared_length bytes) bytes in
     rw (flat_map-cons, length-append) (omega (arith, next, cut, cause_short bytes c w.0, w.0.is_cause.within))
 
 -- causes that were read are written in no more room

@@ -4,12 +4,12 @@ use Rattle.std.specs.Prelude.{map, ◌||◌, Option, Some, None, option_map}
 use Rattle.std.proofs.lemmas.List.{append-nil, length-replicate}
 use Rattle.std.proofs.lemmas.Bool.{eqb-true}
 use Rattle.std.proofs.Math.ListN.{drop_of_length-le}
-use Rattle.sctp_base.specs.Padding.{padded}
+use Rattle.sctp_base.specs.Padding.{padded_length}
 use Rattle.sctp_base.specs.Walk.{Walks}
 use Rattle.sctp_base.specs.declared.param.param_kind.ParamKind.{ParamKind}
 use Rattle.sctp_base.specs.Param.{Parameter, heartbeat_info, param_value_of, param_encoding}
 use Rattle.sctp_base.specs.ParamKind.{IsReadAs, ReadsParam, parameter_of}
-use Rattle.sctp_base.specs.ParamFraming.{param_declared, after_param}
+use Rattle.sctp_base.specs.ParamFraming.{param_declared_length, after_param}
 use Rattle.sctp_base.proofs.ParamLengths.{length_param_encoding, param_no_longer}
 use Rattle.sctp_chunks.specs.Params.{padded_param, params_encoding, gap}
 use Rattle.sctp_chunks.specs.Heartbeat.{ReadsHeartbeat, IsOneInfo}
@@ -83,12 +83,12 @@ params_encoding_short bare bytes (p ∷ []) rest w = omega (arith, length_padded
 params_encoding_short true bytes (p ∷ q ∷ ps) rest w =
     let next = params_encoding_short true (after_param bytes) (q ∷ ps) rest w.1 in
     let more : 4 ≤ length (after_param bytes) = w.1.0.is_param.headed in
-    let cut = length-drop (padded (param_declared bytes)) bytes in
+    let cut = length-drop (padded_length (param_declared_length bytes)) bytes in
     simp length-append (omega (arith, next, more, cut, length_padded_param true p, param_no_longer IsReadAs bytes p w.0))
 params_encoding_short false bytes (p ∷ q ∷ ps) rest w =
     let next = params_encoding_short false (after_param bytes) (q ∷ ps) rest w.1 in
     let more : 4 ≤ length (after_param bytes) = w.1.0.is_param.headed in
-    let cut = length-drop (padded (param_declared bytes)) bytes in
+    let cut = length-drop (padded_length (param_declared_length bytes)) bytes in
     simp length-append (omega (arith, next, more, cut, length_padded_param false p, param_no_longer IsReadAs bytes p w.0))
 
 one_step : (value : List ℕ) (p : Parameter) → ReadsParam value p → Walks ReadsParam after_param value (p ∷ []) (after_param value)

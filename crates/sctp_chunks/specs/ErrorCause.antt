@@ -5,17 +5,17 @@ use Rattle.sctp_base.specs.Field.{be16, u16_at}
 use Rattle.sctp_base.specs.Walk.{Walks}
 use Rattle.sctp_chunks.specs.declared.chunk.error_cause.ErrorCause.{ErrorCause}
 
-abbrev pub cause_declared : List ℕ → ℕ
-cause_declared bytes = u16_at bytes 2
+abbrev pub cause_declared_length : List ℕ → ℕ
+cause_declared_length bytes = u16_at bytes 2
 
 -- the bytes begin with a cause
 pub record IsCause (bytes : List ℕ) : Type 0 where
   pub headed : 4 ≤ length bytes
-  pub least : 4 ≤ cause_declared bytes
-  pub within : cause_declared bytes ≤ length bytes
+  pub least : 4 ≤ cause_declared_length bytes
+  pub within : cause_declared_length bytes ≤ length bytes
 
 unfoldable pub cause_value_at : List ℕ → List ℕ
-cause_value_at bytes = slice_range bytes 4 (cause_declared bytes)
+cause_value_at bytes = slice_range bytes 4 (cause_declared_length bytes)
 
 abbrev pub cause_in : List ℕ → ErrorCause
 cause_in bytes = record { code = record { 0 = u16_at bytes 0 }; raw = cause_value_at bytes }
@@ -27,7 +27,7 @@ pub record ReadsCause (bytes : List ℕ) (c : ErrorCause) : Type 0 where
 
 -- what follows a cause: there is no padding between causes
 unfoldable pub after_cause : List ℕ → List ℕ
-after_cause bytes = drop (cause_declared bytes) bytes
+after_cause bytes = drop (cause_declared_length bytes) bytes
 
 -- causes by their declared lengths; up to three bytes after the last one are ignored
 pub record ReadsCauses (bytes : List ℕ) (cs : List ErrorCause) : Type 0 where

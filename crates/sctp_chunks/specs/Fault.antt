@@ -1,6 +1,6 @@
 -- What must stand in the bytes for each refusal: one row each. A value is at fault only in a chunk that is framed and of the kind.
 use Rattle.std.specs.Prelude.{◌≡◌, ◌≢◌, ℕ, ◌+◌, ◌-◌, ◌*◌, ◌%◌, ◌<◌, ◌≤◌, ◌⊎◌, List, length, drop, All}
-use Rattle.sctp_chunks.specs.Framing.{type_at, flags_at, value_at, declared, IsFramed}
+use Rattle.sctp_chunks.specs.Framing.{type_at, flags_at, value_at, declared_length, IsFramed}
 use Rattle.sctp_base.specs.Walk.{Walks}
 use Rattle.sctp_chunks.specs.declared.chunk.error_cause.ErrorCause.{ErrorCause}
 use Rattle.sctp_chunks.specs.ErrorCause.{IsCause, ReadsCause, after_cause}
@@ -15,12 +15,12 @@ use Rattle.sctp_base.specs.declared.error.Error.TheVariants as errors
 abbrev pub HeaderFault : Error → List ℕ → Type 0
 HeaderFault e bytes =
     ((e ≡ errors.ErrChunkHeaderTooSmall) × (length bytes < 4))
-    ⊎ ((e ≡ errors.ErrChunkHeaderInvalidLength) × (4 ≤ length bytes) × (declared bytes < 4))
+    ⊎ ((e ≡ errors.ErrChunkHeaderInvalidLength) × (4 ≤ length bytes) × (declared_length bytes < 4))
     ⊎ ((e ≡ errors.ErrChunkHeaderNotEnoughSpace) × (4 ≤ length bytes)
-    × (length bytes < declared bytes))
+    × (length bytes < declared_length bytes))
     ⊎ ((e ≡ errors.ErrChunkHeaderPaddingNonZero) × (4 ≤ length bytes)
-    × (declared bytes ≤ length bytes) × (length bytes < declared bytes + 4)
-    × (All (λ x. x ≡ 0) (drop (declared bytes) bytes) → ⊥))
+    × (declared_length bytes ≤ length bytes) × (length bytes < declared_length bytes + 4)
+    × (All (λ x. x ≡ 0) (drop (declared_length bytes) bytes) → ⊥))
 
 -- the same, or another type than the one that was to be read
 abbrev pub OpenFault : ℕ → Error → Error → List ℕ → Type 0

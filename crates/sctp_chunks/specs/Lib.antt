@@ -15,4 +15,5 @@ pub mod Check
 pub mod Fits
 pub mod ChunkSet
 pub mod Kind
+pub mod PayloadTypes
 pub mod Reliability

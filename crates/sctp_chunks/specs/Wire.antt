@@ -2,7 +2,7 @@
 use Rattle.std.specs.Prelude.{◌≡◌, ℕ, ◌+◌, ◌^◌, ◌<◌, true, Option, Some, None, List, [], length}
 use Rattle.sctp_base.specs.Field.{be32, u32_at}
 use Rattle.sctp_chunks.specs.declared.chunk.error_cause.ErrorCause.{ErrorCause}
-use Rattle.sctp_chunks.specs.Framing.{type_at, flags_at, value_at, IsFramed, framed}
+use Rattle.sctp_chunks.specs.Framing.{type_at, flags_at, value_at, IsFramed, chunk_encoding}
 use Rattle.sctp_chunks.specs.PayloadData.{Data, ReadsData, data_flags, data_value}
 use Rattle.sctp_chunks.specs.SelectiveAck.{Sack, ReadsSack, sack_value}
 use Rattle.sctp_chunks.specs.Params.{params_encoding}
@@ -118,7 +118,7 @@ abbrev pub HasEncoding : Wire → Type 0
 HasEncoding w = HasForm w × HasLength w
 
 abbrev pub encoding_of : Wire → List ℕ
-encoding_of w = framed (type_of w) (flags_of w) (value_of w)
+encoding_of w = chunk_encoding (type_of w) (flags_of w) (value_of w)
 
 -- ---- the chunks of one kind
 

@@ -4,8 +4,8 @@ use Rattle.std.specs.Prelude.{map, min, Option, Some, None}
 use Rattle.std.specs.List.{flat_map}
 use Rattle.std.proofs.lemmas.List.{take-append-drop, length-take}
 use Rattle.sctp_base.specs.Walk.{Walks}
-use Rattle.sctp_base.specs.Padding.{padded}
-use Rattle.sctp_chunks.specs.Framing.{declared}
+use Rattle.sctp_base.specs.Padding.{padded_length}
+use Rattle.sctp_chunks.specs.Framing.{declared_length}
 use Rattle.sctp_chunks.specs.Wire.{Wire}
 use Rattle.sctp_chunks.specs.Kind.{wire_of}
 use Rattle.sctp_chunks.proofs.One.{reads_one}
@@ -28,9 +28,9 @@ pub walk_joins : (bytes : List ℕ) (items : List Item) (rest : List ℕ) → Wa
 unfolding Walks after span
 walk_joins bytes [] rest w = sym w
 walk_joins bytes (i ∷ is) rest w =
-    let others : flat_map item_bytes is ++ rest ≡ drop (padded (declared bytes)) bytes = walk_joins (after bytes) is rest w.1 in
-    let first : i.bytes ≡ take (padded (declared bytes)) bytes = w.0.bytes in
-    let both : take (padded (declared bytes)) bytes ++ drop (padded (declared bytes)) bytes ≡ bytes = take-append-drop (padded (declared bytes)) bytes in
+    let others : flat_map item_bytes is ++ rest ≡ drop (padded_length (declared_length bytes)) bytes = walk_joins (after bytes) is rest w.1 in
+    let first : i.bytes ≡ take (padded_length (declared_length bytes)) bytes = w.0.bytes in
+    let both : take (padded_length (declared_length bytes)) bytes ++ drop (padded_length (declared_length bytes)) bytes ≡ bytes = take-append-drop (padded_length (declared_length bytes)) bytes in
     let regrouped : (i.bytes ++ flat_map item_bytes is) ++ rest ≡ i.bytes ++ (flat_map item_bytes is ++ rest) = append_assoc i.bytes (flat_map item_bytes is) rest in
     cc
 
@@ -38,17 +38,17 @@ walk_joins bytes (i ∷ is) rest w =
 pub left_after : (rest : List ℕ) (item : Item) (k : ℕ) → Shows rest item → k ≡ length item.bytes → drop k rest ≡ after rest
 unfolding after span
 left_after rest item k shows e =
-    let bytes : item.bytes ≡ take (padded (declared rest)) rest = shows.bytes in
-    let same : drop (length (take (padded (declared rest)) rest)) rest ≡ drop (padded (declared rest)) rest = drop_taken (padded (declared rest)) rest in
+    let bytes : item.bytes ≡ take (padded_length (declared_length rest)) rest = shows.bytes in
+    let same : drop (length (take (padded_length (declared_length rest)) rest)) rest ≡ drop (padded_length (declared_length rest)) rest = drop_taken (padded_length (declared_length rest)) rest in
     cc
 
 -- an item has at least four bytes, and no more than there are
 pub taken_some : (rest : List ℕ) (item : Item) (k : ℕ) → Shows rest item → k ≡ length item.bytes → (4 ≤ k) × (k ≤ length rest)
 unfolding span
 taken_some rest item k shows e =
-    let bytes : item.bytes ≡ take (padded (declared rest)) rest = shows.bytes in
-    let counted : length (take (padded (declared rest)) rest) ≡ min (padded (declared rest)) (length rest) = length-take (padded (declared rest)) rest in
-    let same : k ≡ min (padded (declared rest)) (length rest) = cc in
+    let bytes : item.bytes ≡ take (padded_length (declared_length rest)) rest = shows.bytes in
+    let counted : length (take (padded_length (declared_length rest)) rest) ≡ min (padded_length (declared_length rest)) (length rest) = length-take (padded_length (declared_length rest)) rest in
+    let same : k ≡ min (padded_length (declared_length rest)) (length rest) = cc in
     (omega (arith, shows.whole.headed, shows.whole.least), omega arith)
 
 -- an item that is read as this chunk is that step of the reader of packets

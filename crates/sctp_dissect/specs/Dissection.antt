@@ -2,11 +2,11 @@
 use Rattle.std.specs.Prelude.{◌≡◌, ℕ, ◌≤◌, ◌<◌, List, [], ◌++◌, length, take, map, Option, Some, None}
 use Rattle.std.specs.List.{flat_map}
 use Rattle.sctp_base.specs.Field.{u16_at, u32_at, u32_le_at}
-use Rattle.sctp_base.specs.Padding.{padded}
-use Rattle.sctp_chunks.specs.Framing.{type_at, flags_at, declared, value_at}
+use Rattle.sctp_base.specs.Padding.{padded_length}
+use Rattle.sctp_chunks.specs.Framing.{type_at, flags_at, declared_length, value_at}
 use Rattle.sctp_chunks.specs.Wire.{Wire}
 use Rattle.sctp_chunks.specs.Kind.{wire_of, IsFreshKind}
-use Rattle.sctp_packets.specs.Packet.{Parts, Steps, summed}
+use Rattle.sctp_packets.specs.Packet.{Parts, Steps, checksum_input}
 use Rattle.sctp_packets.specs.Fault.{PlaceFault}
 use Rattle.sctp_dissect.specs.declared.dissection.Header.{Header}
 use Rattle.sctp_dissect.specs.declared.dissection.RawChunk.{RawChunk}
@@ -20,12 +20,12 @@ use Rattle.sctp_dissect.specs.declared.dissection.Dissection.{Dissection}
 -- the bytes begin with a chunk, all of it by the length that it declares. Padding may be missing
 pub record IsWhole (bytes : List ℕ) : Type 0 where
   pub headed : 4 ≤ length bytes
-  pub least : 4 ≤ declared bytes
-  pub within : declared bytes ≤ length bytes
+  pub least : 4 ≤ declared_length bytes
+  pub within : declared_length bytes ≤ length bytes
 
 -- that chunk, and what there is of its padding
 unfoldable pub span : List ℕ → List ℕ
-span bytes = take (padded (declared bytes)) bytes
+span bytes = take (padded_length (declared_length bytes)) bytes
 
 -- the header of the datagram, the checksum that stands in it, and that of its bytes
 pub record ReadsHeader (sum : List ℕ → ℕ) (datagram : List ℕ) (h : Header) : Type 0 where
@@ -34,13 +34,13 @@ pub record ReadsHeader (sum : List ℕ → ℕ) (datagram : List ℕ) (h : Heade
   pub destination_port : h.fields.destination_port ≡ u16_at datagram 2
   pub verification_tag : h.fields.verification_tag ≡ u32_at datagram 4
   pub checksum : h.checksum ≡ u32_le_at datagram 8
-  pub computed : h.computed ≡ sum (summed datagram)
+  pub computed : h.computed ≡ sum (checksum_input datagram)
 
 -- The chunk that the bytes begin with is no step of the reader of packets, and this is why.
 pub record IsRaw (bytes : List ℕ) (r : RawChunk) : Type 0 where
   pub typ : r.typ.0 ≡ type_at bytes
   pub flags : r.flags ≡ flags_at bytes
-  pub declares : r.length ≡ declared bytes
+  pub declares : r.length ≡ declared_length bytes
   pub value : r.value ≡ value_at bytes
   pub refusal : PlaceFault r.refusal bytes
   pub refused : (w : Wire) → Steps bytes w → ⊥
@@ -61,9 +61,9 @@ abbrev pub Stops : Option Fault → List ℕ → Type 0
 Stops None rest = rest ≡ []
 Stops (Some ShortPacket) rest = ⊥
 Stops (Some ShortHeader) rest = (0 < length rest) × (length rest < 4)
-Stops (Some LengthTooSmall) rest = (4 ≤ length rest) × (declared rest < 4)
+Stops (Some LengthTooSmall) rest = (4 ≤ length rest) × (declared_length rest < 4)
 Stops (Some LengthPastEnd) rest =
-    (4 ≤ length rest) × (4 ≤ declared rest) × (length rest < declared rest)
+    (4 ≤ length rest) × (4 ≤ declared_length rest) × (length rest < declared_length rest)
 
 -- what a datagram of fewer than twelve bytes shows
 pub record IsShort (datagram : List ℕ) (d : Dissection) : Type 0 where
@@ -82,8 +82,8 @@ abbrev pub item_bytes : Item → List ℕ
 item_bytes item = item.bytes
 
 -- the bytes that are shown, in order
-abbrev pub joined : Dissection → List ℕ
-joined d = header_bytes d.header ++ flat_map item_bytes d.items.items ++ d.rest
+abbrev pub shown_bytes : Dissection → List ℕ
+shown_bytes d = header_bytes d.header ++ flat_map item_bytes d.items.items ++ d.rest
 
 -- ---- a packet
 

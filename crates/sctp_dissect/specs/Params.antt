@@ -1,8 +1,8 @@
 -- What bytes show as parameters, whatever they are: items by their declared lengths, and a rest.
 use Rattle.std.specs.Prelude.{◌≡◌, ℕ, List, take}
-use Rattle.sctp_base.specs.Padding.{padded}
+use Rattle.sctp_base.specs.Padding.{padded_length}
 use Rattle.sctp_base.specs.Param.{Parameter}
-use Rattle.sctp_base.specs.ParamFraming.{IsParam, param_type_at, param_declared, param_value_at}
+use Rattle.sctp_base.specs.ParamFraming.{IsParam, param_type_at, param_declared_length, param_value_at}
 use Rattle.sctp_base.specs.ParamKind.{parameter_of, ReadsParam, ParamFault}
 use Rattle.sctp_dissect.specs.declared.params.RawParam.{RawParam}
 use Rattle.sctp_dissect.specs.declared.params.ParamReading.{ParamReading}
@@ -11,12 +11,12 @@ use Rattle.sctp_dissect.specs.declared.params.ParamItem.{ParamItem}
 
 -- the parameter that the bytes begin with, and what there is of its padding
 unfoldable pub param_span : List ℕ → List ℕ
-param_span bytes = take (padded (param_declared bytes)) bytes
+param_span bytes = take (padded_length (param_declared_length bytes)) bytes
 
 -- The reader of parameters reads none here, and this is why.
 pub record IsRawParam (bytes : List ℕ) (r : RawParam) : Type 0 where
   pub typ : r.typ ≡ param_type_at bytes
-  pub declares : r.length ≡ param_declared bytes
+  pub declares : r.length ≡ param_declared_length bytes
   pub value : r.value ≡ param_value_at bytes
   pub refusal : ParamFault r.refusal bytes
   pub refused : (p : Parameter) → ReadsParam bytes p → ⊥

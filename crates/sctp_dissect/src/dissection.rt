@@ -8,7 +8,7 @@ ghost use Rattle.sctp_chunks.specs.Kind.{wire_of, IsFreshKind};
 ghost use Rattle.sctp_chunks.specs.Wire.{Wire};
 ghost use Rattle.sctp_packets.specs.Packet.{Parts, ReadsPacket, Steps, after};
 ghost use Rattle.sctp_packets.specs.Fault.{PlaceFault};
-ghost use Rattle.sctp_dissect.specs.Dissection.{IsWhole, span, ReadsHeader, IsRaw, Reads, Shows, Stops, IsShort, IsPacket, joined};
+ghost use Rattle.sctp_dissect.specs.Dissection.{IsWhole, span, ReadsHeader, IsRaw, Reads, Shows, Stops, IsShort, IsPacket, shown_bytes};
 
 use bytes::Bytes;
 use sctp_base::error::Error;
@@ -223,7 +223,7 @@ pub fn dissect<C: Checksum>(
     checksum: &C,
 ) -> Result<Dissection, AllocError>
     // Nothing is lost, and nothing shown twice.
-    ensures joins { IfOk result (λ d. joined d ≡ raw.now) }
+    ensures joins { IfOk result (λ d. shown_bytes d ≡ raw.now) }
     ensures short { length raw.now < 12 → IfOk result (IsShort raw.now) }
     ensures header { 12 ≤ length raw.now
         → IfOk result (λ d. IsSomeAnd d.header (ReadsHeader (C.sum checksum.now) raw.now)) }

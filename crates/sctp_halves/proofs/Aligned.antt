@@ -2,7 +2,7 @@
 use Rattle.std.proofs.Common.{◌≡◌, ℕ, zero, suc, ◌+◌, ◌<◌, List, [], ◌∷◌, length, map, drop, Bool, true, false, Option, Some, None, refl, ap, sym, ◌∙◌, arith}
 use Rattle.std.specs.Prelude.{◌==◌, ◌&&◌, slice_index_or, slice_set, if◌then◌else◌, option_map, is_some}
 use Rattle.std.proofs.lemmas.List.{get_or_default}
-use Rattle.sctp_list_lemmas.specs.Lists.{change_where, changed}
+use Rattle.sctp_list_lemmas.specs.Lists.{change_where, change_at}
 use Rattle.sctp_list_lemmas.proofs.Getting.{length-mapped}
 use Rattle.sctp_stream.specs.Numbers.{IsOnlyPlace, IsAbsent}
 use Rattle.sctp_stream.specs.declared.stream.StreamState.{StreamState}
@@ -18,31 +18,31 @@ use Rattle.sctp_transfer.proofs.StreamPlaces as Places
 use Rattle.sctp_transfer.proofs.Inbounds.{stays-changed}
 use Rattle.sctp_transfer.proofs.Forwarded.{followed-mapped, after-numbers, after-size}
 use Rattle.sctp_halves.specs.declared.halves.progress.StreamProgress.{StreamProgress}
-use Rattle.sctp_halves.specs.Streams.{OpenStream, join, joined, number, has_number, stream_numbers, on_inbound, new_open_stream, read_recorded}
-use Rattle.sctp_halves.specs.Halves.{Sides, IsAligned, reception_of, transmission_of, stream_in, is_open, on_stream, followed, after_forward}
+use Rattle.sctp_halves.specs.Streams.{OpenStream, join, join_each, number, has_number, stream_numbers, on_inbound, new_open_stream, read_recorded}
+use Rattle.sctp_halves.specs.Halves.{Sides, IsAligned, reception_of, transmission_of, stream_in, is_open, on_stream, follow_forward_tsn, after_forward}
 use Rattle.sctp_halves.proofs.Joined.{Alike, states-joined, inbounds-joined, length-joined, numbers-joined, found-inbound, inbound-changed, inbound-mapped, with_progress, progress-set}
 
 -- both halves of these parts
 abbrev pub sides : Transmission → Reception → List StreamProgress → Sides
-sides t r ps = record { streams = joined t.streams r.streams ps; flight = t.flight; cumulative_tsn = r.cumulative_tsn; beyond = r.beyond; duplicates = r.duplicates; fragment_size = t.fragment_size; max_message_size = t.max_message_size }
+sides t r ps = record { streams = join_each t.streams r.streams ps; flight = t.flight; cumulative_tsn = r.cumulative_tsn; beyond = r.beyond; duplicates = r.duplicates; fragment_size = t.fragment_size; max_message_size = t.max_message_size }
 
-changed-set : {A : Type 0} (f : A → A) (k : ℕ) (xs : List A) (d : A) → changed f k xs ≡ slice_set xs k (f (slice_index_or xs k d))
+changed-set : {A : Type 0} (f : A → A) (k : ℕ) (xs : List A) (d : A) → change_at f k xs ≡ slice_set xs k (f (slice_index_or xs k d))
 changed-set f k [] d = refl
 changed-set f zero (x ∷ xs) d = refl
 changed-set f (suc k) (x ∷ xs) d = ap (λ ys. x ∷ ys) (changed-set f k xs d)
 
-same-changed : {A : Type 0} (f g : A → A) (k : ℕ) (xs : List A) → (k < length xs → (d : A) → f (slice_index_or xs k d) ≡ g (slice_index_or xs k d)) → changed f k xs ≡ changed g k xs
+same-changed : {A : Type 0} (f g : A → A) (k : ℕ) (xs : List A) → (k < length xs → (d : A) → f (slice_index_or xs k d) ≡ g (slice_index_or xs k d)) → change_at f k xs ≡ change_at g k xs
 same-changed f g k [] same = refl
 same-changed f g zero (x ∷ xs) same = ap (λ y. y ∷ xs) (same (omega arith) x)
 same-changed f g (suc k) (x ∷ xs) same = ap (λ ys. x ∷ ys) (same-changed f g k xs (λ lt d. same (omega (arith, lt)) d))
 
-changed-none : {A : Type 0} (f : A → A) (k : ℕ) (xs : List A) → (k < length xs → (d : A) → f (slice_index_or xs k d) ≡ slice_index_or xs k d) → changed f k xs ≡ xs
+changed-none : {A : Type 0} (f : A → A) (k : ℕ) (xs : List A) → (k < length xs → (d : A) → f (slice_index_or xs k d) ≡ slice_index_or xs k d) → change_at f k xs ≡ xs
 changed-none f k [] same = refl
 changed-none f zero (x ∷ xs) same = ap (λ y. y ∷ xs) (same (omega arith) x)
 changed-none f (suc k) (x ∷ xs) same = ap (λ ys. x ∷ ys) (changed-none f k xs (λ lt d. same (omega (arith, lt)) d))
 
 -- a stream has its own progress
-pub own-at : (ss : List StreamState) (is : List InboundStream) (ps : List StreamProgress) (k : ℕ) (p : StreamProgress) (d : OpenStream) → k < length (joined ss is ps) → p ≡ slice_index_or ps k p → with_progress p (slice_index_or (joined ss is ps) k d) ≡ slice_index_or (joined ss is ps) k d
+pub own-at : (ss : List StreamState) (is : List InboundStream) (ps : List StreamProgress) (k : ℕ) (p : StreamProgress) (d : OpenStream) → k < length (join_each ss is ps) → p ≡ slice_index_or ps k p → with_progress p (slice_index_or (join_each ss is ps) k d) ≡ slice_index_or (join_each ss is ps) k d
 own-at [] is ps k p d lt e = absurd (omega (arith, lt))
 own-at (s ∷ ss) [] ps k p d lt e = absurd (omega (arith, lt))
 own-at (s ∷ ss) (i ∷ is) [] k p d lt e = absurd (omega (arith, lt))
@@ -56,7 +56,7 @@ module _ (ns : List ℕ) (t : Transmission) (r : Reception) (ps : List StreamPro
   pub alike : Alike t.streams r.streams ps
   alike = record { numbers = sym a.sends ∙ a.receives; count = count }
 
-  pub numbers-are : ns ≡ stream_numbers (joined t.streams r.streams ps)
+  pub numbers-are : ns ≡ stream_numbers (join_each t.streams r.streams ps)
   numbers-are = a.sends ∙ sym (numbers-joined t.streams r.streams ps alike)
 
   pub reception-is : reception_of (sides t r ps) ≡ r
@@ -70,14 +70,14 @@ module _ (ns : List ℕ) (t : Transmission) (r : Reception) (ps : List StreamPro
 
   -- ## A stream by its number
 
-  pub count-is : length (joined t.streams r.streams ps) ≡ length ps
+  pub count-is : length (join_each t.streams r.streams ps) ≡ length ps
   count-is = length-joined t.streams r.streams ps alike
 
   pub absent-in : (s : ℕ) → IsAbsent s ns → stream_in s (sides t r ps) ≡ None
-  absent-in s absent = Places.absent-find number (joined t.streams r.streams ps) ns numbers-are s absent
+  absent-in s absent = Places.absent-find number (join_each t.streams r.streams ps) ns numbers-are s absent
 
   pub place-inside : (s k : ℕ) → IsOnlyPlace s ns k → k < length ps
-  place-inside s k p = omega (arith, Places.inside number (joined t.streams r.streams ps) ns numbers-are s k p, count-is)
+  place-inside s k p = omega (arith, Places.inside number (join_each t.streams r.streams ps) ns numbers-are s k p, count-is)
 
   -- ## The progress of a stream
 
@@ -87,15 +87,15 @@ module _ (ns : List ℕ) (t : Transmission) (r : Reception) (ps : List StreamPro
     progress-number same = a.progresses ∙ sym (Places.map-set_same (λ (x : StreamProgress). x.number) ps k q p (same ∙ ap (λ (x : StreamProgress). x.number) is))
 
     module _ (f : OpenStream → OpenStream) (made : (l : OpenStream) → with_progress q l ≡ f (with_progress p l)) where
-      pub progress-changed : joined t.streams r.streams (slice_set ps k q) ≡ changed f k (joined t.streams r.streams ps)
+      pub progress-changed : join_each t.streams r.streams (slice_set ps k q) ≡ change_at f k (join_each t.streams r.streams ps)
       progress-changed =
-          let ls = joined t.streams r.streams ps in
+          let ls = join_each t.streams r.streams ps in
           progress-set k q t.streams r.streams ps
           ∙ same-changed (with_progress q) f k ls (λ lt d. made (slice_index_or ls k d) ∙ ap f (own-at t.streams r.streams ps k p d lt is))
 
-      pub progress-on : (s : ℕ) → IsOnlyPlace s ns k → joined t.streams r.streams (slice_set ps k q) ≡ change_where (has_number s) f (joined t.streams r.streams ps)
+      pub progress-on : (s : ℕ) → IsOnlyPlace s ns k → join_each t.streams r.streams (slice_set ps k q) ≡ change_where (has_number s) f (join_each t.streams r.streams ps)
       progress-on s only =
-          let ls = joined t.streams r.streams ps in
+          let ls = join_each t.streams r.streams ps in
           let d = new_open_stream 0 0 0 in
           let x = slice_index_or ls k d in
           progress-changed ∙ changed-set f k ls x
@@ -105,7 +105,7 @@ module _ (ns : List ℕ) (t : Transmission) (r : Reception) (ps : List StreamPro
     pub progress-kept : ((l : OpenStream) → with_progress q l ≡ with_progress p l) → sides t r (slice_set ps k q) ≡ sides t r ps
     progress-kept same =
         ap (λ ls. let y : Sides = record (sides t r ps) { streams = ls } in y)
-        (progress-set k q t.streams r.streams ps ∙ changed-none (with_progress q) k (joined t.streams r.streams ps) (λ lt d. same (slice_index_or (joined t.streams r.streams ps) k d) ∙ own-at t.streams r.streams ps k p d lt is))
+        (progress-set k q t.streams r.streams ps ∙ changed-none (with_progress q) k (join_each t.streams r.streams ps) (λ lt d. same (slice_index_or (join_each t.streams r.streams ps) k d) ∙ own-at t.streams r.streams ps k p d lt is))
 
   -- ## A part that changes
 
@@ -130,7 +130,7 @@ module _ (ns : List ℕ) (t : Transmission) (r : Reception) (ps : List StreamPro
   pub read-message : (s : ℕ) (l : OpenStream) → stream_in s (sides t r ps) ≡ Some l → R.message_on s r ≡ message_read l.inbound.queue.held
   read-message s l e = ap R.message_of (sym (inbound-in s) ∙ ap (option_map (λ l. l.inbound)) e)
 
-  pub inbound-on : (s : ℕ) (f : InboundStream → InboundStream) → joined t.streams (change_where (Inbound.has_number s) f r.streams) ps ≡ change_where (has_number s) (on_inbound f) (joined t.streams r.streams ps)
+  pub inbound-on : (s : ℕ) (f : InboundStream → InboundStream) → join_each t.streams (change_where (Inbound.has_number s) f r.streams) ps ≡ change_where (has_number s) (on_inbound f) (join_each t.streams r.streams ps)
   inbound-on s f = inbound-changed s f t.streams r.streams ps (sym a.sends ∙ a.receives)
 
   pub read-numbers : (s : ℕ) (x : Reception) → x ≡ R.after_read s r → IsAligned ns t x ps
@@ -142,16 +142,16 @@ module _ (ns : List ℕ) (t : Transmission) (r : Reception) (ps : List StreamPro
   -- ## A FORWARD-TSN
 
   module _ (f : ForwardTsn) where
-    followed-sides : sides t (R.followed f r) ps ≡ followed f (sides t r ps)
+    followed-sides : sides t (R.follow_forward_tsn f r) ps ≡ follow_forward_tsn f (sides t r ps)
     followed-sides =
-        ap (λ ls. let y : Sides = record (sides t (R.followed f r) ps) { streams = ls } in y)
-        (ap (λ is. joined t.streams is ps) (followed-mapped f r)
+        ap (λ ls. let y : Sides = record (sides t (R.follow_forward_tsn f r) ps) { streams = ls } in y)
+        (ap (λ is. join_each t.streams is ps) (followed-mapped f r)
         ∙ inbound-mapped (λ l. Inbound.unassembled_forwarded f.new_cumulative_tsn (Inbound.stream_forwarded f.streams l)) t.streams r.streams ps)
 
     pub forward-sides : (x : Reception) → x ≡ R.after_forward f r → sides t x ps ≡ after_forward f (sides t r ps)
     forward-sides x e = ap (λ y. sides t y ps) e ∙ by (R.is_stale f r)
       where
-        by : (b : Bool) → sides t (if b then r else R.followed f r) ps ≡ (if b then sides t r ps else followed f (sides t r ps))
+        by : (b : Bool) → sides t (if b then r else R.follow_forward_tsn f r) ps ≡ (if b then sides t r ps else follow_forward_tsn f (sides t r ps))
         by true = refl
         by false = followed-sides
 
@@ -161,12 +161,12 @@ module _ (ns : List ℕ) (t : Transmission) (r : Reception) (ps : List StreamPro
   -- ## What is recorded of a read
 
   pub absent-on : (s : ℕ) (f : OpenStream → OpenStream) → IsAbsent s ns → sides t r ps ≡ on_stream s f (sides t r ps)
-  absent-on s f absent = ap (λ ls. let y : Sides = record (sides t r ps) { streams = ls } in y) (Places.absent-change number (joined t.streams r.streams ps) ns numbers-are s f absent)
+  absent-on s f absent = ap (λ ls. let y : Sides = record (sides t r ps) { streams = ls } in y) (Places.absent-change number (join_each t.streams r.streams ps) ns numbers-are s f absent)
 
   pub progress-sides : (k : ℕ) (p q : StreamProgress) → p ≡ slice_index_or ps k p → (f : OpenStream → OpenStream) → ((l : OpenStream) → with_progress q l ≡ f (with_progress p l)) → (s : ℕ) → IsOnlyPlace s ns k → sides t r (slice_set ps k q) ≡ on_stream s f (sides t r ps)
   progress-sides k p q is f made s only = ap (λ ls. let y : Sides = record (sides t r ps) { streams = ls } in y) (progress-on k p q is f made s only)
 
-pub read-made : (ordered : Bool) (index : ℕ) (p : StreamProgress) (whole : List ℕ) (next : ℕ) → whole ≡ (if ordered then p.whole.items else drop 1 p.whole.items) → next ≡ (if ordered && (index == p.next) then index + 1 else p.next) → (l : OpenStream) → record l { whole = whole; ordered = p.ordered; begun = p.begun; next = next; named = p.named } ≡ read_recorded ordered index (with_progress p l)
-read-made ordered index p whole next w n l =
-    ap (λ ws. let x : OpenStream = record (with_progress p l) { whole = ws; next = next } in x) w
-    ∙ ap (λ m. let x : OpenStream = record (with_progress p l) { whole = (if ordered then p.whole.items else drop 1 p.whole.items); next = m } in x) n
+pub read-made : (ordered : Bool) (index : ℕ) (p : StreamProgress) (complete : List ℕ) (next : ℕ) → complete ≡ (if ordered then p.complete.items else drop 1 p.complete.items) → next ≡ (if ordered && (index == p.next) then index + 1 else p.next) → (l : OpenStream) → record l { complete = complete; ordered = p.ordered; begun = p.begun; next = next; named = p.named } ≡ read_recorded ordered index (with_progress p l)
+read-made ordered index p complete next w n l =
+    ap (λ ws. let x : OpenStream = record (with_progress p l) { complete = ws; next = next } in x) w
+    ∙ ap (λ m. let x : OpenStream = record (with_progress p l) { complete = (if ordered then p.complete.items else drop 1 p.complete.items); next = m } in x) n

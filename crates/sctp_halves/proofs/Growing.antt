@@ -9,16 +9,16 @@ use Rattle.sctp_transfer.specs.Receiver.{Reception}
 use Rattle.sctp_transfer.specs.Sender.{Transmission}
 use Rattle.sctp_halves.specs.declared.halves.progress.StreamProgress.{StreamProgress}
 use Rattle.sctp_halves.specs.declared.halves.receiving.Saved.{Saved}
-use Rattle.sctp_halves.specs.Streams.{OpenStream, join, joined}
+use Rattle.sctp_halves.specs.Streams.{OpenStream, join, join_each}
 use Rattle.sctp_halves.specs.Halves.{Sides, GrowsOn, GrowEach, Grows, IsSaved, IsAligned, reception_of}
 use Rattle.sctp_halves.proofs.Joined.{Alike, inbounds-joined}
 use Rattle.sctp_halves.proofs.Aligned.{sides, alike, count-is}
 
 -- ## Lists
 
-pub take-whole : {A : Type 0} (xs : List A) → take (length xs) xs ≡ xs
-take-whole [] = refl
-take-whole (x ∷ xs) = ap (λ ys. x ∷ ys) (take-whole xs)
+pub take-complete : {A : Type 0} (xs : List A) → take (length xs) xs ≡ xs
+take-complete [] = refl
+take-complete (x ∷ xs) = ap (λ ys. x ∷ ys) (take-complete xs)
 
 pub take-front : {A : Type 0} (xs ys : List A) → take (length xs) (xs ++ ys) ≡ xs
 take-front [] ys = refl
@@ -38,7 +38,7 @@ take-then (x ∷ xs) (y ∷ ys) (z ∷ zs) e f =
 -- ## More came
 
 grows-on-same : (l : OpenStream) → GrowsOn l l
-grows-on-same l = record { rest = refl; number = refl; whole = take-whole l.whole }
+grows-on-same l = record { rest = refl; number = refl; complete = take-complete l.complete }
 
 grow-each-same : (ls : List OpenStream) → GrowEach ls ls
 grow-each-same [] = tt
@@ -49,9 +49,9 @@ grows-same x = record { streams = grow-each-same x.streams; flight = refl; fragm
 
 grows-on-then : (old mid new : OpenStream) → GrowsOn old mid → GrowsOn mid new → GrowsOn old new
 grows-on-then old mid new g h = record {
-  rest = h.rest ∙ ap (λ (z : OpenStream). let w : OpenStream = record z { inbound = new.inbound; whole = new.whole } in w) g.rest;
+  rest = h.rest ∙ ap (λ (z : OpenStream). let w : OpenStream = record z { inbound = new.inbound; complete = new.complete } in w) g.rest;
   number = h.number ∙ g.number;
-  whole = take-then old.whole mid.whole new.whole g.whole h.whole;
+  complete = take-then old.complete mid.complete new.complete g.complete h.complete;
 }
 
 grow-each-then : (ls ms ks : List OpenStream) → GrowEach ls ms → GrowEach ms ks → GrowEach ls ks
@@ -85,10 +85,10 @@ grow-numbers (x ∷ xs) (m ∷ ms) g =
 
 -- ## Records that are cut
 
--- of the messages that are recorded as whole the first ones are left
+-- of the messages that are recorded as complete the first ones are left
 pub record IsCut (n : ℕ) (old new : StreamProgress) : Type 0 where
   pub number : new.number ≡ old.number
-  pub whole : new.whole.items ≡ take n old.whole.items
+  pub complete : new.complete.items ≡ take n old.complete.items
   pub ordered : new.ordered ≡ old.ordered
   pub begun : new.begun ≡ old.begun
   pub next : new.next ≡ old.next
@@ -135,16 +135,16 @@ cut-numbers (suc i) (n ∷ ns) (o ∷ os) (x ∷ xs) c =
 
 -- ## Put back
 
-put-back : (s : StreamState) (i : InboundStream) (p q : StreamProgress) (x : OpenStream) → GrowsOn x (join s i p) → IsCut (length x.whole) p q → join s x.inbound q ≡ x
+put-back : (s : StreamState) (i : InboundStream) (p q : StreamProgress) (x : OpenStream) → GrowsOn x (join s i p) → IsCut (length x.complete) p q → join s x.inbound q ≡ x
 put-back s i p q x g c =
-    ap (λ ws. let z : OpenStream = record { state = s; inbound = x.inbound; whole = ws; ordered = q.ordered; begun = q.begun; next = q.next; named = q.named } in z) (c.whole ∙ g.whole)
-    ∙ ap (λ n. let z : OpenStream = record { state = s; inbound = x.inbound; whole = x.whole; ordered = n; begun = q.begun; next = q.next; named = q.named } in z) c.ordered
-    ∙ ap (λ n. let z : OpenStream = record { state = s; inbound = x.inbound; whole = x.whole; ordered = p.ordered; begun = n; next = q.next; named = q.named } in z) c.begun
-    ∙ ap (λ n. let z : OpenStream = record { state = s; inbound = x.inbound; whole = x.whole; ordered = p.ordered; begun = p.begun; next = n; named = q.named } in z) c.next
-    ∙ ap (λ n. let z : OpenStream = record { state = s; inbound = x.inbound; whole = x.whole; ordered = p.ordered; begun = p.begun; next = p.next; named = n } in z) c.named
-    ∙ ap (λ (w : OpenStream). let z : OpenStream = record w { inbound = x.inbound; whole = x.whole } in z) g.rest
+    ap (λ ws. let z : OpenStream = record { state = s; inbound = x.inbound; complete = ws; ordered = q.ordered; begun = q.begun; next = q.next; named = q.named } in z) (c.complete ∙ g.complete)
+    ∙ ap (λ n. let z : OpenStream = record { state = s; inbound = x.inbound; complete = x.complete; ordered = n; begun = q.begun; next = q.next; named = q.named } in z) c.ordered
+    ∙ ap (λ n. let z : OpenStream = record { state = s; inbound = x.inbound; complete = x.complete; ordered = p.ordered; begun = n; next = q.next; named = q.named } in z) c.begun
+    ∙ ap (λ n. let z : OpenStream = record { state = s; inbound = x.inbound; complete = x.complete; ordered = p.ordered; begun = p.begun; next = n; named = q.named } in z) c.next
+    ∙ ap (λ n. let z : OpenStream = record { state = s; inbound = x.inbound; complete = x.complete; ordered = p.ordered; begun = p.begun; next = p.next; named = n } in z) c.named
+    ∙ ap (λ (w : OpenStream). let z : OpenStream = record w { inbound = x.inbound; complete = x.complete } in z) g.rest
 
-all-back : (ss : List StreamState) (is : List InboundStream) (ps qs : List StreamProgress) (xs : List OpenStream) → Alike ss is ps → GrowEach xs (joined ss is ps) → CutTo (length ps) (map (λ (l : OpenStream). length l.whole) xs) ps qs → joined ss (map (λ (l : OpenStream). l.inbound) xs) qs ≡ xs
+all-back : (ss : List StreamState) (is : List InboundStream) (ps qs : List StreamProgress) (xs : List OpenStream) → Alike ss is ps → GrowEach xs (join_each ss is ps) → CutTo (length ps) (map (λ (l : OpenStream). length l.complete) xs) ps qs → join_each ss (map (λ (l : OpenStream). l.inbound) xs) qs ≡ xs
 all-back [] is ps qs [] a g c = refl
 all-back [] is ps qs (x ∷ xs) a g c = absurd g
 all-back (s ∷ ss) [] ps qs xs a g c = let e = a.numbers in cc
@@ -152,35 +152,35 @@ all-back (s ∷ ss) (i ∷ is) [] qs xs a g c = absurd (omega (arith, a.count))
 all-back (s ∷ ss) (i ∷ is) (p ∷ ps) qs [] a g c = absurd g
 all-back (s ∷ ss) (i ∷ is) (p ∷ ps) [] (x ∷ xs) a g c = absurd c
 all-back (s ∷ ss) (i ∷ is) (p ∷ ps) (q ∷ qs) (x ∷ xs) a g c =
-    ap (λ z. z ∷ joined ss (map (λ (l : OpenStream). l.inbound) xs) qs) (put-back s i p q x g.0 c.0)
+    ap (λ z. z ∷ join_each ss (map (λ (l : OpenStream). l.inbound) xs) qs) (put-back s i p q x g.0 c.0)
     ∙ ap (λ zs. x ∷ zs) (all-back ss is ps qs xs (record { numbers = (let e = a.numbers in cc); count = omega (arith, a.count) }) g.1 c.1)
 
 module _ (ns : List ℕ) (t : Transmission) (r : Reception) (ps : List StreamProgress) (a : IsAligned ns t r ps) (x : Sides) (saved : Saved) (is : IsSaved x saved) (g : Grows x (sides t r ps)) where
   pub saved-numbers : Inbound.numbers_of saved.receiver.streams ≡ Inbound.numbers_of r.streams
   saved-numbers =
-      ap (λ (y : Reception). Inbound.numbers_of y.streams) is.receiver ∙ grow-numbers x.streams (joined t.streams r.streams ps) g.streams
+      ap (λ (y : Reception). Inbound.numbers_of y.streams) is.receiver ∙ grow-numbers x.streams (join_each t.streams r.streams ps) g.streams
       ∙ ap Inbound.numbers_of (inbounds-joined t.streams r.streams ps (alike ns t r ps a))
 
   pub saved-size : saved.receiver.max_message_size ≡ r.max_message_size
   saved-size = ap (λ (y : Reception). y.max_message_size) is.receiver ∙ sym g.max_message_size ∙ sym a.size
 
-  pub saved-count : length saved.whole.items ≡ length ps
-  saved-count = ap length is.whole ∙ length-mapped (λ (l : OpenStream). length l.whole) x.streams ∙ grow-count x.streams (joined t.streams r.streams ps) g.streams ∙ count-is ns t r ps a
+  pub saved-count : length saved.complete.items ≡ length ps
+  saved-count = ap length is.complete ∙ length-mapped (λ (l : OpenStream). length l.complete) x.streams ∙ grow-count x.streams (join_each t.streams r.streams ps) g.streams ∙ count-is ns t r ps a
 
-  pub restored : (qs : List StreamProgress) → CutTo (length ps) saved.whole.items ps qs → sides t saved.receiver qs ≡ x
+  pub restored : (qs : List StreamProgress) → CutTo (length ps) saved.complete.items ps qs → sides t saved.receiver qs ≡ x
   restored qs c =
       ap (λ y. sides t y qs) is.receiver
-      ∙ ap (λ ls. let z : Sides = record (sides t (reception_of x) qs) { streams = ls } in z) (all-back t.streams r.streams ps qs x.streams (alike ns t r ps a) g.streams (subst (λ ns. CutTo (length ps) ns ps qs) is.whole c))
+      ∙ ap (λ ls. let z : Sides = record (sides t (reception_of x) qs) { streams = ls } in z) (all-back t.streams r.streams ps qs x.streams (alike ns t r ps a) g.streams (subst (λ ns. CutTo (length ps) ns ps qs) is.complete c))
       ∙ ap (λ f. let z : Sides = record x { flight = f; fragment_size = t.fragment_size; max_message_size = t.max_message_size } in z) g.flight
       ∙ ap (λ f. let z : Sides = record x { fragment_size = f; max_message_size = t.max_message_size } in z) g.fragment_size
       ∙ ap (λ f. let z : Sides = record x { max_message_size = f } in z) g.max_message_size
 
-lengths-joined : (ss : List StreamState) (is : List InboundStream) (ps : List StreamProgress) → Alike ss is ps → map (λ (l : OpenStream). length l.whole) (joined ss is ps) ≡ map (λ (p : StreamProgress). length p.whole.items) ps
+lengths-joined : (ss : List StreamState) (is : List InboundStream) (ps : List StreamProgress) → Alike ss is ps → map (λ (l : OpenStream). length l.complete) (join_each ss is ps) ≡ map (λ (p : StreamProgress). length p.complete.items) ps
 lengths-joined [] is [] a = refl
 lengths-joined [] is (p ∷ ps) a = absurd (omega (arith, a.count))
 lengths-joined (s ∷ ss) [] ps a = let e = a.numbers in cc
 lengths-joined (s ∷ ss) (i ∷ is) [] a = absurd (omega (arith, a.count))
-lengths-joined (s ∷ ss) (i ∷ is) (p ∷ ps) a = ap (λ ns. length p.whole.items ∷ ns) (lengths-joined ss is ps (record { numbers = (let e = a.numbers in cc); count = omega (arith, a.count) }))
+lengths-joined (s ∷ ss) (i ∷ is) (p ∷ ps) a = ap (λ ns. length p.complete.items ∷ ns) (lengths-joined ss is ps (record { numbers = (let e = a.numbers in cc); count = omega (arith, a.count) }))
 
-pub wholes-joined : (ns : List ℕ) (t : Transmission) (r : Reception) (ps : List StreamProgress) → IsAligned ns t r ps → map (λ (l : OpenStream). length l.whole) (joined t.streams r.streams ps) ≡ map (λ (p : StreamProgress). length p.whole.items) ps
-wholes-joined ns t r ps a = lengths-joined t.streams r.streams ps (alike ns t r ps a)
+pub complete_ones-joined : (ns : List ℕ) (t : Transmission) (r : Reception) (ps : List StreamProgress) → IsAligned ns t r ps → map (λ (l : OpenStream). length l.complete) (join_each t.streams r.streams ps) ≡ map (λ (p : StreamProgress). length p.complete.items) ps
+complete_ones-joined ns t r ps a = lengths-joined t.streams r.streams ps (alike ns t r ps a)

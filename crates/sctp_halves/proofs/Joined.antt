@@ -1,14 +1,14 @@
--- What the sender has of each stream, what the receiver has, and its progress, joined: changes of a part are changes of the whole.
+-- What the sender has of each stream, what the receiver has, and its progress, joined: changes of a part are changes of the complete.
 use Rattle.std.proofs.Common.{◌≡◌, ℕ, zero, suc, Bool, true, false, List, [], ◌∷◌, ◌++◌, length, map, Some, refl, ap, sym, ◌∙◌, arith}
 use Rattle.std.specs.Prelude.{◌==◌, if◌then◌else◌, option_map, slice_set}
 use Rattle.std.specs.List.{find}
-use Rattle.sctp_list_lemmas.specs.Lists.{change_where, changed}
+use Rattle.sctp_list_lemmas.specs.Lists.{change_where, change_at}
 use Rattle.sctp_stream.specs.declared.stream.StreamState.{StreamState}
 use Rattle.sctp_transfer.specs.declared.receiver.inbound_streams.InboundStream.{InboundStream}
 use Rattle.sctp_transfer.specs.Inbound as Inbound
 use Rattle.sctp_transfer.specs.Outgoing as Outgoing
 use Rattle.sctp_halves.specs.declared.halves.progress.StreamProgress.{StreamProgress}
-use Rattle.sctp_halves.specs.Streams.{OpenStream, join, joined, has_number, stream_numbers, on_state, on_inbound}
+use Rattle.sctp_halves.specs.Streams.{OpenStream, join, join_each, has_number, stream_numbers, on_state, on_inbound}
 
 -- one list for each part, with the same streams in the same order
 pub record Alike (ss : List StreamState) (is : List InboundStream) (ps : List StreamProgress) : Type 0 where
@@ -26,27 +26,27 @@ rest s i p ss is ps a = record { numbers = tail-same a.numbers; count = omega (a
 
 -- ## The parts again
 
-pub states-joined : (ss : List StreamState) (is : List InboundStream) (ps : List StreamProgress) → Alike ss is ps → map (λ l. l.state) (joined ss is ps) ≡ ss
+pub states-joined : (ss : List StreamState) (is : List InboundStream) (ps : List StreamProgress) → Alike ss is ps → map (λ l. l.state) (join_each ss is ps) ≡ ss
 states-joined [] is ps a = refl
 states-joined (s ∷ ss) [] ps a = let e = a.numbers in cc
 states-joined (s ∷ ss) (i ∷ is) [] a = absurd (omega (arith, a.count))
 states-joined (s ∷ ss) (i ∷ is) (p ∷ ps) a = ap (λ xs. s ∷ xs) (states-joined ss is ps (rest s i p ss is ps a))
 
-pub inbounds-joined : (ss : List StreamState) (is : List InboundStream) (ps : List StreamProgress) → Alike ss is ps → map (λ l. l.inbound) (joined ss is ps) ≡ is
+pub inbounds-joined : (ss : List StreamState) (is : List InboundStream) (ps : List StreamProgress) → Alike ss is ps → map (λ l. l.inbound) (join_each ss is ps) ≡ is
 inbounds-joined [] [] ps a = refl
 inbounds-joined [] (i ∷ is) ps a = let e = a.numbers in cc
 inbounds-joined (s ∷ ss) [] ps a = let e = a.numbers in cc
 inbounds-joined (s ∷ ss) (i ∷ is) [] a = absurd (omega (arith, a.count))
 inbounds-joined (s ∷ ss) (i ∷ is) (p ∷ ps) a = ap (λ xs. i ∷ xs) (inbounds-joined ss is ps (rest s i p ss is ps a))
 
-pub length-joined : (ss : List StreamState) (is : List InboundStream) (ps : List StreamProgress) → Alike ss is ps → length (joined ss is ps) ≡ length ps
+pub length-joined : (ss : List StreamState) (is : List InboundStream) (ps : List StreamProgress) → Alike ss is ps → length (join_each ss is ps) ≡ length ps
 length-joined [] is [] a = refl
 length-joined [] is (p ∷ ps) a = absurd (omega (arith, a.count))
 length-joined (s ∷ ss) [] ps a = let e = a.numbers in cc
 length-joined (s ∷ ss) (i ∷ is) [] a = absurd (omega (arith, a.count))
 length-joined (s ∷ ss) (i ∷ is) (p ∷ ps) a = ap suc (length-joined ss is ps (rest s i p ss is ps a))
 
-pub numbers-joined : (ss : List StreamState) (is : List InboundStream) (ps : List StreamProgress) → Alike ss is ps → stream_numbers (joined ss is ps) ≡ Outgoing.numbers_of ss
+pub numbers-joined : (ss : List StreamState) (is : List InboundStream) (ps : List StreamProgress) → Alike ss is ps → stream_numbers (join_each ss is ps) ≡ Outgoing.numbers_of ss
 numbers-joined [] is ps a = refl
 numbers-joined (s ∷ ss) [] ps a = let e = a.numbers in cc
 numbers-joined (s ∷ ss) (i ∷ is) [] a = absurd (omega (arith, a.count))
@@ -54,54 +54,54 @@ numbers-joined (s ∷ ss) (i ∷ is) (p ∷ ps) a = ap (λ ns. s.stream_identifi
 
 -- ## One that is found
 
-pub found-state : (n : ℕ) (ss : List StreamState) (is : List InboundStream) (ps : List StreamProgress) → Alike ss is ps → option_map (λ l. l.state) (find (has_number n) (joined ss is ps)) ≡ find (Outgoing.has_number n) ss
+pub found-state : (n : ℕ) (ss : List StreamState) (is : List InboundStream) (ps : List StreamProgress) → Alike ss is ps → option_map (λ l. l.state) (find (has_number n) (join_each ss is ps)) ≡ find (Outgoing.has_number n) ss
 found-state n [] is ps a = refl
 found-state n (s ∷ ss) [] ps a = let e = a.numbers in cc
 found-state n (s ∷ ss) (i ∷ is) [] a = absurd (omega (arith, a.count))
 found-state n (s ∷ ss) (i ∷ is) (p ∷ ps) a = step (s.stream_identifier == n) (found-state n ss is ps (rest s i p ss is ps a))
   where
-    step : (b : Bool) → option_map (λ l. l.state) (find (has_number n) (joined ss is ps)) ≡ find (Outgoing.has_number n) ss → option_map (λ (l : OpenStream). l.state) (if b then Some (join s i p) else find (has_number n) (joined ss is ps)) ≡ (if b then Some s else find (Outgoing.has_number n) ss)
+    step : (b : Bool) → option_map (λ l. l.state) (find (has_number n) (join_each ss is ps)) ≡ find (Outgoing.has_number n) ss → option_map (λ (l : OpenStream). l.state) (if b then Some (join s i p) else find (has_number n) (join_each ss is ps)) ≡ (if b then Some s else find (Outgoing.has_number n) ss)
     step true h = refl
     step false h = h
 
-pub found-inbound : (n : ℕ) (ss : List StreamState) (is : List InboundStream) (ps : List StreamProgress) → Alike ss is ps → option_map (λ l. l.inbound) (find (has_number n) (joined ss is ps)) ≡ find (Inbound.has_number n) is
+pub found-inbound : (n : ℕ) (ss : List StreamState) (is : List InboundStream) (ps : List StreamProgress) → Alike ss is ps → option_map (λ l. l.inbound) (find (has_number n) (join_each ss is ps)) ≡ find (Inbound.has_number n) is
 found-inbound n [] [] ps a = refl
 found-inbound n [] (i ∷ is) ps a = let e = a.numbers in cc
 found-inbound n (s ∷ ss) [] ps a = let e = a.numbers in cc
 found-inbound n (s ∷ ss) (i ∷ is) [] a = absurd (omega (arith, a.count))
 found-inbound n (s ∷ ss) (i ∷ is) (p ∷ ps) a =
-    ap (λ m. option_map (λ (l : OpenStream). l.inbound) (if m == n then Some (join s i p) else find (has_number n) (joined ss is ps))) (head-same a.numbers)
+    ap (λ m. option_map (λ (l : OpenStream). l.inbound) (if m == n then Some (join s i p) else find (has_number n) (join_each ss is ps))) (head-same a.numbers)
     ∙ step (i.queue.si == n) (found-inbound n ss is ps (rest s i p ss is ps a))
   where
-    step : (b : Bool) → option_map (λ l. l.inbound) (find (has_number n) (joined ss is ps)) ≡ find (Inbound.has_number n) is → option_map (λ (l : OpenStream). l.inbound) (if b then Some (join s i p) else find (has_number n) (joined ss is ps)) ≡ (if b then Some i else find (Inbound.has_number n) is)
+    step : (b : Bool) → option_map (λ l. l.inbound) (find (has_number n) (join_each ss is ps)) ≡ find (Inbound.has_number n) is → option_map (λ (l : OpenStream). l.inbound) (if b then Some (join s i p) else find (has_number n) (join_each ss is ps)) ≡ (if b then Some i else find (Inbound.has_number n) is)
     step true h = refl
     step false h = h
 
 -- ## A change of a part
 
-pub state-changed : (n : ℕ) (f : StreamState → StreamState) (ss : List StreamState) (is : List InboundStream) (ps : List StreamProgress) → joined (change_where (Outgoing.has_number n) f ss) is ps ≡ change_where (has_number n) (on_state f) (joined ss is ps)
+pub state-changed : (n : ℕ) (f : StreamState → StreamState) (ss : List StreamState) (is : List InboundStream) (ps : List StreamProgress) → join_each (change_where (Outgoing.has_number n) f ss) is ps ≡ change_where (has_number n) (on_state f) (join_each ss is ps)
 state-changed n f [] is ps = refl
 state-changed n f (s ∷ ss) [] ps = refl
 state-changed n f (s ∷ ss) (i ∷ is) [] = refl
-state-changed n f (s ∷ ss) (i ∷ is) (p ∷ ps) = ap (λ xs. join (if s.stream_identifier == n then f s else s) i p ∷ xs) (state-changed n f ss is ps) ∙ ap (λ l. l ∷ change_where (has_number n) (on_state f) (joined ss is ps)) (step (s.stream_identifier == n))
+state-changed n f (s ∷ ss) (i ∷ is) (p ∷ ps) = ap (λ xs. join (if s.stream_identifier == n then f s else s) i p ∷ xs) (state-changed n f ss is ps) ∙ ap (λ l. l ∷ change_where (has_number n) (on_state f) (join_each ss is ps)) (step (s.stream_identifier == n))
   where
     step : (b : Bool) → join (if b then f s else s) i p ≡ (if b then on_state f (join s i p) else join s i p)
     step true = refl
     step false = refl
 
-pub inbound-changed : (n : ℕ) (f : InboundStream → InboundStream) (ss : List StreamState) (is : List InboundStream) (ps : List StreamProgress) → Outgoing.numbers_of ss ≡ Inbound.numbers_of is → joined ss (change_where (Inbound.has_number n) f is) ps ≡ change_where (has_number n) (on_inbound f) (joined ss is ps)
+pub inbound-changed : (n : ℕ) (f : InboundStream → InboundStream) (ss : List StreamState) (is : List InboundStream) (ps : List StreamProgress) → Outgoing.numbers_of ss ≡ Inbound.numbers_of is → join_each ss (change_where (Inbound.has_number n) f is) ps ≡ change_where (has_number n) (on_inbound f) (join_each ss is ps)
 inbound-changed n f [] is ps a = refl
 inbound-changed n f (s ∷ ss) [] ps a = refl
 inbound-changed n f (s ∷ ss) (i ∷ is) [] a = refl
 inbound-changed n f (s ∷ ss) (i ∷ is) (p ∷ ps) a =
     ap (λ xs. join s (if i.queue.si == n then f i else i) p ∷ xs) (inbound-changed n f ss is ps (tail-same a))
-    ∙ ap (λ l. l ∷ change_where (has_number n) (on_inbound f) (joined ss is ps)) (step (i.queue.si == n) ∙ ap (λ m. if m == n then on_inbound f (join s i p) else join s i p) (sym (head-same a)))
+    ∙ ap (λ l. l ∷ change_where (has_number n) (on_inbound f) (join_each ss is ps)) (step (i.queue.si == n) ∙ ap (λ m. if m == n then on_inbound f (join s i p) else join s i p) (sym (head-same a)))
   where
     step : (b : Bool) → join s (if b then f i else i) p ≡ (if b then on_inbound f (join s i p) else join s i p)
     step true = refl
     step false = refl
 
-pub inbound-mapped : (f : InboundStream → InboundStream) (ss : List StreamState) (is : List InboundStream) (ps : List StreamProgress) → joined ss (map f is) ps ≡ map (on_inbound f) (joined ss is ps)
+pub inbound-mapped : (f : InboundStream → InboundStream) (ss : List StreamState) (is : List InboundStream) (ps : List StreamProgress) → join_each ss (map f is) ps ≡ map (on_inbound f) (join_each ss is ps)
 inbound-mapped f [] is ps = refl
 inbound-mapped f (s ∷ ss) [] ps = refl
 inbound-mapped f (s ∷ ss) (i ∷ is) [] = refl
@@ -109,16 +109,16 @@ inbound-mapped f (s ∷ ss) (i ∷ is) (p ∷ ps) = ap (λ xs. on_inbound f (joi
 
 -- a stream with other progress
 abbrev pub with_progress : StreamProgress → OpenStream → OpenStream
-with_progress p l = record l { whole = p.whole.items; ordered = p.ordered; begun = p.begun; next = p.next; named = p.named }
+with_progress p l = record l { complete = p.complete.items; ordered = p.ordered; begun = p.begun; next = p.next; named = p.named }
 
-pub progress-set : (k : ℕ) (q : StreamProgress) (ss : List StreamState) (is : List InboundStream) (ps : List StreamProgress) → joined ss is (slice_set ps k q) ≡ changed (with_progress q) k (joined ss is ps)
+pub progress-set : (k : ℕ) (q : StreamProgress) (ss : List StreamState) (is : List InboundStream) (ps : List StreamProgress) → join_each ss is (slice_set ps k q) ≡ change_at (with_progress q) k (join_each ss is ps)
 progress-set k q [] is ps = refl
 progress-set k q (s ∷ ss) [] ps = refl
 progress-set k q (s ∷ ss) (i ∷ is) [] = refl
 progress-set zero q (s ∷ ss) (i ∷ is) (p ∷ ps) = refl
 progress-set (suc k) q (s ∷ ss) (i ∷ is) (p ∷ ps) = ap (λ xs. join s i p ∷ xs) (progress-set k q ss is ps)
 
-pub joined-more : (s : StreamState) (i : InboundStream) (p : StreamProgress) (ss : List StreamState) (is : List InboundStream) (ps : List StreamProgress) → Alike ss is ps → joined (ss ++ s ∷ []) (is ++ i ∷ []) (ps ++ p ∷ []) ≡ joined ss is ps ++ join s i p ∷ []
+pub joined-more : (s : StreamState) (i : InboundStream) (p : StreamProgress) (ss : List StreamState) (is : List InboundStream) (ps : List StreamProgress) → Alike ss is ps → join_each (ss ++ s ∷ []) (is ++ i ∷ []) (ps ++ p ∷ []) ≡ join_each ss is ps ++ join s i p ∷ []
 joined-more s i p [] [] [] a = refl
 joined-more s i p [] (j ∷ is) ps a = let e = a.numbers in cc
 joined-more s i p [] [] (q ∷ ps) a = absurd (omega (arith, a.count))

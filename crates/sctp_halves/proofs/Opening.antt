@@ -2,7 +2,7 @@
 use Rattle.std.proofs.Common.{◌≡◌, ℕ, zero, suc, List, [], ◌∷◌, ◌++◌, append-nil, map, Bool, true, false, not, Some, None, Result, Ok, Err, refl, ap, sym, ◌∙◌}
 use Rattle.std.specs.Prelude.{◌==◌, if◌then◌else◌, find, slice_get, is_err, OnOk, OnErr}
 use Rattle.std.proofs.lemmas.Bool.{eq-eqb}
-use Rattle.sctp_list_lemmas.specs.Lists.{those}
+use Rattle.std.specs.List.{filter}
 use Rattle.sctp_list_lemmas.proofs.Edits.{those-append}
 use Rattle.sctp_chunks.specs.declared.chunk.chunk_payload_data.PayloadProtocolIdentifier.TheVariants.{Unknown}
 use Rattle.sctp_stream.specs.Numbers.{IsAbsent, is_other}
@@ -15,7 +15,7 @@ use Rattle.sctp_transfer.specs.Sender as S
 use Rattle.sctp_transfer.specs.Sender.{Transmission}
 use Rattle.sctp_transfer.proofs.StreamPlaces as Places
 use Rattle.sctp_halves.specs.declared.halves.progress.StreamProgress.{StreamProgress}
-use Rattle.sctp_halves.specs.Streams.{OpenStream, joined, has_number, stream_numbers, new_open_stream}
+use Rattle.sctp_halves.specs.Streams.{OpenStream, join_each, has_number, stream_numbers, new_open_stream}
 use Rattle.sctp_halves.specs.Halves.{Sides, IsAligned, stream_in, opened_on}
 use Rattle.sctp_halves.proofs.Joined.{joined-more}
 use Rattle.sctp_halves.proofs.Aligned.{sides, alike, numbers-are}
@@ -43,10 +43,10 @@ module _ {X : Type 0} (num : X → ℕ) (xs : List X) (s : ℕ) (y : X) where
   abbrev other : X → Bool
   other l = not (num l == s)
 
-  pub undone : num y ≡ s → IsAbsent s (map num xs) → those (λ l. not (num l == s)) (xs ++ y ∷ []) ≡ xs
+  pub undone : num y ≡ s → IsAbsent s (map num xs) → filter (λ l. not (num l == s)) (xs ++ y ∷ []) ≡ xs
   undone same absent =
       those-append other xs (y ∷ [])
-      ∙ ap (λ zs. zs ++ those other (y ∷ [])) (sym (Places.absent-those num xs (map num xs) refl s absent))
+      ∙ ap (λ zs. zs ++ filter other (y ∷ [])) (sym (Places.absent-those num xs (map num xs) refl s absent))
       ∙ ap (λ b. xs ++ (if not b then y ∷ [] else [])) (eq-eqb (num y) s same)
       ∙ append-nil xs
 
@@ -58,7 +58,7 @@ map-more : {A : Type 0} (f : A → ℕ) (xs : List A) (y : A) → map f (xs ++ y
 map-more f [] y = refl
 map-more f (x ∷ xs) y = ap (λ ns. f x ∷ ns) (map-more f xs y)
 
-pub number-undone : (s : ℕ) (ns ms : List ℕ) → IsAbsent s ns → ms ≡ those (is_other s) (ns ++ s ∷ []) → ms ≡ ns
+pub number-undone : (s : ℕ) (ns ms : List ℕ) → IsAbsent s ns → ms ≡ filter (is_other s) (ns ++ s ∷ []) → ms ≡ ns
 number-undone s ns ms absent e =
     e ∙ undone (λ n. n) ns s s refl (λ k z. absent k (ap (λ ks. slice_get ks k) (same-numbers ns) ∙ z))
 
@@ -85,16 +85,16 @@ module _ (ns : List ℕ) (t : Transmission) (r : Reception) (ps : List StreamPro
 
 module _ (ns : List ℕ) (t : Transmission) (r : Reception) (ps : List StreamProgress) (a : IsAligned ns t r ps) (s : ℕ) (none : stream_in s (sides t r ps) ≡ None) where
   pub is-absent : IsAbsent s ns
-  is-absent k e = absent-of s (joined t.streams r.streams ps) none k (ap (λ ms. slice_get ms k) (sym (numbers-are ns t r ps a)) ∙ e)
+  is-absent k e = absent-of s (join_each t.streams r.streams ps) none k (ap (λ ms. slice_get ms k) (sym (numbers-are ns t r ps a)) ∙ e)
 
-  pub sender-undone : (x : Transmission) → x ≡ S.closed s (S.opened s t) → x ≡ t
+  pub sender-undone : (x : Transmission) → x ≡ S.close_stream s (S.open_stream s t) → x ≡ t
   sender-undone x e =
       e ∙ ap (λ ss. let y : Transmission = record t { streams = ss } in y)
       (undone Outgoing.number t.streams s (new_stream s t.fragment_size t.max_message_size Unknown) refl (λ k z. is-absent k (ap (λ ms. slice_get ms k) a.sends ∙ z)))
 
   -- ## The stream is open
 
-  module _ (x : Transmission) (y : Reception) (p : StreamProgress) (sent : x ≡ S.opened s t) (received : y ≡ R.opened s r) where
+  module _ (x : Transmission) (y : Reception) (p : StreamProgress) (sent : x ≡ S.open_stream s t) (received : y ≡ R.open_stream s r) where
     pub opened-aligned : (ms : List ℕ) (qs : List StreamProgress) → ms ≡ ns ++ s ∷ [] → qs ≡ ps ++ p ∷ [] → p.number ≡ s → IsAligned ms x y qs
     opened-aligned ms qs more put same = record {
       sends = more ∙ ap (λ ks. ks ++ s ∷ []) a.sends ∙ sym (map-more Outgoing.number t.streams (new_stream s t.fragment_size t.max_message_size Unknown)) ∙ ap (λ (z : Transmission). Outgoing.numbers_of z.streams) (sym sent);
@@ -103,12 +103,12 @@ module _ (ns : List ℕ) (t : Transmission) (r : Reception) (ps : List StreamPro
       size = ap (λ (z : Reception). z.max_message_size) received ∙ a.size ∙ ap (λ (z : Transmission). z.max_message_size) (sym sent);
     }
 
-    pub opened-sides : (qs : List StreamProgress) → qs ≡ ps ++ p ∷ [] → p.whole.items ≡ [] → p.ordered ≡ 0 → p.begun ≡ 0 → p.next ≡ 0 → p.named ≡ 0 → sides x y qs ≡ opened_on s (sides t r ps)
+    pub opened-sides : (qs : List StreamProgress) → qs ≡ ps ++ p ∷ [] → p.complete.items ≡ [] → p.ordered ≡ 0 → p.begun ≡ 0 → p.next ≡ 0 → p.named ≡ 0 → sides x y qs ≡ opened_on s (sides t r ps)
     opened-sides qs put w o b n m =
-        let fresh : (p.whole.items, (p.ordered, (p.begun, (p.next, p.named)))) ≡ ([], (0, (0, (0, 0)))) = cc in
-        ap (λ z. sides z y qs) sent ∙ ap (λ z. sides (S.opened s t) z qs) received ∙ ap (sides (S.opened s t) (R.opened s r)) put
+        let fresh : (p.complete.items, (p.ordered, (p.begun, (p.next, p.named)))) ≡ ([], (0, (0, (0, 0)))) = cc in
+        ap (λ z. sides z y qs) sent ∙ ap (λ z. sides (S.open_stream s t) z qs) received ∙ ap (sides (S.open_stream s t) (R.open_stream s r)) put
         ∙ ap (λ ls. let z : Sides = record (sides t r ps) { streams = ls } in z)
         (joined-more (new_stream s t.fragment_size t.max_message_size Unknown) (Inbound.new_stream s r.max_message_size) p t.streams r.streams ps (alike ns t r ps a)
-        ∙ ap (λ l. joined t.streams r.streams ps ++ l ∷ [])
-        (ap (λ (v : List ℕ × (ℕ × (ℕ × (ℕ × ℕ)))). let z : OpenStream = record { state = new_stream s t.fragment_size t.max_message_size Unknown; inbound = Inbound.new_stream s r.max_message_size; whole = v.0; ordered = v.1.0; begun = v.1.1.0; next = v.1.1.1.0; named = v.1.1.1.1 } in z) fresh
+        ∙ ap (λ l. join_each t.streams r.streams ps ++ l ∷ [])
+        (ap (λ (v : List ℕ × (ℕ × (ℕ × (ℕ × ℕ)))). let z : OpenStream = record { state = new_stream s t.fragment_size t.max_message_size Unknown; inbound = Inbound.new_stream s r.max_message_size; complete = v.0; ordered = v.1.0; begun = v.1.1.0; next = v.1.1.1.0; named = v.1.1.1.1 } in z) fresh
         ∙ ap (λ m. let z : OpenStream = record (new_open_stream s t.fragment_size m) { state = new_stream s t.fragment_size t.max_message_size Unknown } in z) a.size))

@@ -21,17 +21,12 @@ use Rattle.sctp_transfer.specs.Sender as S
 use Rattle.sctp_transfer.specs.Sender.{Transmission}
 use Rattle.sctp_transfer.proofs.StreamPlaces as Places
 use Rattle.sctp_halves.specs.declared.halves.progress.StreamProgress.{StreamProgress}
-use Rattle.sctp_halves.specs.Streams.{OpenStream, joined, number, on_state, released, stats_in, both_ways, new_open_stream}
+use Rattle.sctp_halves.specs.Streams.{OpenStream, join_each, number, on_state, after_releases, stats_in, both_ways, new_open_stream}
 use Rattle.sctp_halves.specs.Halves.{Sides, IsAligned, stream_in, is_open, on_stream, with_flight, sack_taken}
 use Rattle.sctp_halves.proofs.Joined.{found-state, found-inbound, state-changed, with_progress}
 use Rattle.sctp_halves.proofs.Aligned.{sides, alike, numbers-are, absent-in, own-at}
 
 -- ## Answers
-
--- what follows where a call is accepted, and what where it is refused
-pub either : {T E N P : Type 0} {Q : T → Type 0} (r : Result T E) → IfOk r Q → OnErr r N → ((x : T) → Q x → P) → (N → P) → P
-either (Ok x) q n f g = f x q
-either (Err e) q n f g = g n
 
 pub either-on : {T E N P Q : Type 0} (r : Result T E) → OnOk r Q → OnErr r N → (Q → P) → (N → P) → P
 either-on (Ok x) q n f g = f q
@@ -56,7 +51,7 @@ module _ (f : StreamState → StreamState) (same : (s : StreamState) → (f s).s
       by true = same s
       by false = refl
 
-pub released-stays : (rs : List Released) (ss : List StreamState) → Outgoing.numbers_of (Outgoing.released rs ss) ≡ Outgoing.numbers_of ss
+pub released-stays : (rs : List Released) (ss : List StreamState) → Outgoing.numbers_of (Outgoing.after_releases rs ss) ≡ Outgoing.numbers_of ss
 released-stays [] ss = refl
 released-stays (r ∷ rs) ss = released-stays rs (change_where (Outgoing.has_number r.stream) (Outgoing.less_by r.bytes) ss) ∙ stays (Outgoing.less_by r.bytes) (λ s. refl) (Outgoing.has_number r.stream) ss
 
@@ -74,9 +69,9 @@ mode-set (Ok x) s unordered reliability value old new ok refused err = ok
 mode-set (Err e) s unordered reliability value old new ok refused err =
     err ∙ ap (λ ss. let x : Transmission = record old { streams = ss } in x) (sym (none-changed (Outgoing.has_number s) (Outgoing.with_mode unordered reliability value) old.streams refused.1))
 
-pub released-joined : (rs : List Released) (ss : List StreamState) (is : List InboundStream) (ps : List StreamProgress) → joined (Outgoing.released rs ss) is ps ≡ released rs (joined ss is ps)
+pub released-joined : (rs : List Released) (ss : List StreamState) (is : List InboundStream) (ps : List StreamProgress) → join_each (Outgoing.after_releases rs ss) is ps ≡ after_releases rs (join_each ss is ps)
 released-joined [] ss is ps = refl
-released-joined (r ∷ rs) ss is ps = released-joined rs (change_where (Outgoing.has_number r.stream) (Outgoing.less_by r.bytes) ss) is ps ∙ ap (released rs) (state-changed r.stream (Outgoing.less_by r.bytes) ss is ps)
+released-joined (r ∷ rs) ss is ps = released-joined rs (change_where (Outgoing.has_number r.stream) (Outgoing.less_by r.bytes) ss) is ps ∙ ap (after_releases rs) (state-changed r.stream (Outgoing.less_by r.bytes) ss is ps)
 
 same-at : {A B : Type 0} (f : A → ℕ) (g : B → ℕ) (xs : List A) (ys : List B) (k : ℕ) (d : A) (e : B) → map f xs ≡ map g ys → k < length xs → f (slice_index_or xs k d) ≡ g (slice_index_or ys k e)
 same-at f g [] ys k d e same lt = absurd (omega (arith, lt))
@@ -153,7 +148,7 @@ module _ (ns : List ℕ) (t : Transmission) (r : Reception) (ps : List StreamPro
 
   module _ (s k : ℕ) (p : IsOnlyPlace s ns k) where
     abbrev ls : List OpenStream
-    ls = joined t.streams r.streams ps
+    ls = join_each t.streams r.streams ps
 
     inside : k < length ls
     inside = Places.inside number ls ns (numbers-are ns t r ps a) s k p
@@ -175,7 +170,7 @@ module _ (ns : List ℕ) (t : Transmission) (r : Reception) (ps : List StreamPro
   opens s None absent = ap is_some (sym (absent-in ns t r ps a s absent))
   opens s (Some k) p = sym (open-at s k p)
 
-  pub number-at : (k : ℕ) (d : OpenStream) (q : StreamProgress) → k < length (joined t.streams r.streams ps) → q ≡ slice_index_or ps k q → q.number ≡ (slice_index_or (joined t.streams r.streams ps) k d).state.stream_identifier
+  pub number-at : (k : ℕ) (d : OpenStream) (q : StreamProgress) → k < length (join_each t.streams r.streams ps) → q ≡ slice_index_or ps k q → q.number ≡ (slice_index_or (join_each t.streams r.streams ps) k d).state.stream_identifier
   number-at k d q lt e =
       ap (λ (x : StreamProgress). x.number) e
-      ∙ sym (same-at number (λ (x : StreamProgress). x.number) (joined t.streams r.streams ps) ps k d q (sym (numbers-are ns t r ps a) ∙ a.progresses) lt)
+      ∙ sym (same-at number (λ (x : StreamProgress). x.number) (join_each t.streams r.streams ps) ps k d q (sym (numbers-are ns t r ps a) ∙ a.progresses) lt)

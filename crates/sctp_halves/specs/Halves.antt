@@ -17,10 +17,11 @@ use Rattle.sctp_transfer.specs.Outgoing as Outgoing
 use Rattle.sctp_transfer.specs.Outgoing.{fragments_with_mode}
 use Rattle.sctp_transfer.specs.Receiver.{Reception, filter_of, is_stale, arrival_of, data_refusal}
 use Rattle.sctp_transfer.specs.Sender.{Transmission}
-use Rattle.sctp_transfer.specs.TsnFilter.{Filter, preceding_tsn, with_tsn, with_duplicate, skipped_to}
+use Rattle.sctp_transfer.specs.TsnFilter.{Filter, with_tsn, with_duplicate, skipped_to}
 use Rattle.sctp_halves.specs.declared.halves.progress.StreamProgress.{StreamProgress}
 use Rattle.sctp_halves.specs.declared.halves.receiving.Saved.{Saved}
-use Rattle.sctp_halves.specs.Streams.{OpenStream, Keeps, has_number, new_open_stream, on_state, on_inbound, wrote_to, less_by, released, expired_on, forwarded_on}
+use Rattle.sctp_halves.specs.Streams.{OpenStream, Keeps, has_number, new_open_stream, on_state, on_inbound, wrote_to, less_by, after_releases, expired_on, forwarded_on}
+use Rattle.sctp_serial.specs.DataChunks.{preceding_tsn}
 
 -- the open streams in the order in which they were opened; what waits and what is in flight; the TSNs that came; how long a
 -- fragment is, and how long a message may be
@@ -115,7 +116,7 @@ flight_after_send now f =
 abbrev pub sack_taken : Sack → Sides → Sides
 sack_taken s x =
     record x {
-      streams = released (released_by s x.flight) x.streams;
+      streams = after_releases (released_by s x.flight) x.streams;
       flight = after_sack s x.flight;
     }
 
@@ -141,20 +142,20 @@ pub record Accepts (c : ChunkPayloadData) (number : ℕ) (old new : Sides) : Typ
   pub after : new ≡ with_filter_of (with_tsn c.tsn (filter_of (reception_of old)))
       (on_stream c.stream_identifier (λ _. kept) old)
 
-abbrev pub repeated : ℕ → Sides → Sides
-repeated tsn x = with_filter_of (with_duplicate tsn (filter_of (reception_of x))) x
+abbrev pub repeat_tsn : ℕ → Sides → Sides
+repeat_tsn tsn x = with_filter_of (with_duplicate tsn (filter_of (reception_of x))) x
 
 -- what a DATA chunk makes, where its TSN is new and where it is not
 abbrev pub Takes : ChunkPayloadData → ℕ → Arrival → Sides → Sides → Type 0
 Takes c number New old new = Accepts c number old new
-Takes c number Repeat old new = new ≡ repeated c.tsn old
+Takes c number Repeat old new = new ≡ repeat_tsn c.tsn old
 
-abbrev pub reported : Sides → Sides
-reported x = record x { duplicates = [] }
+abbrev pub without_duplicates : Sides → Sides
+without_duplicates x = record x { duplicates = [] }
 
 -- a FORWARD-TSN that is past what came is followed
-abbrev pub followed : ForwardTsn → Sides → Sides
-followed f x =
+abbrev pub follow_forward_tsn : ForwardTsn → Sides → Sides
+follow_forward_tsn f x =
     with_filter_of (skipped_to f.new_cumulative_tsn (filter_of (reception_of x)))
     (record x {
       streams = map (on_inbound
@@ -162,7 +163,7 @@ followed f x =
     })
 
 abbrev pub after_forward : ForwardTsn → Sides → Sides
-after_forward f x = if is_stale f (reception_of x) then x else followed f x
+after_forward f x = if is_stale f (reception_of x) then x else follow_forward_tsn f x
 
 -- ## Several DATA chunks, one after another
 
@@ -187,11 +188,11 @@ TakesEach [] ns (a ∷ bs) old new = ⊥
 TakesEach (c ∷ cs) [] bs old new = ⊥
 TakesEach (c ∷ cs) (n ∷ ns) [] old new = ⊥
 
--- of a stream at most what came has changed, and further messages are recorded as whole
+-- of a stream at most what came has changed, and further messages are recorded as complete
 pub record GrowsOn (old new : OpenStream) : Type 0 where
-  pub rest : new ≡ record old { inbound = new.inbound; whole = new.whole }
+  pub rest : new ≡ record old { inbound = new.inbound; complete = new.complete }
   pub number : new.inbound.queue.si ≡ old.inbound.queue.si
-  pub whole : take (length old.whole) new.whole ≡ old.whole
+  pub complete : take (length old.complete) new.complete ≡ old.complete
 
 abbrev pub GrowEach : List OpenStream → List OpenStream → Type 0
 GrowEach [] [] = Unit {0}
@@ -206,7 +207,7 @@ pub record Grows (old new : Sides) : Type 0 where
   pub fragment_size : new.fragment_size ≡ old.fragment_size
   pub max_message_size : new.max_message_size ≡ old.max_message_size
 
--- what came, and how many messages were recorded as whole on each stream
+-- what came, and how many messages were recorded as complete on each stream
 pub record IsSaved (x : Sides) (saved : Saved) : Type 0 where
   pub receiver : saved.receiver ≡ reception_of x
-  pub whole : saved.whole.items ≡ map (λ l. length l.whole) x.streams
+  pub complete : saved.complete.items ≡ map (λ l. length l.complete) x.streams

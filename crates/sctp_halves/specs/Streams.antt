@@ -1,6 +1,7 @@
 -- An open stream as both halves of a link have it.
 use Rattle.std.specs.Prelude.{◌≡◌, ℕ, ◌+◌, ◌-◌, max, Bool, true, false, ◌&&◌, ◌==◌, if◌then◌else◌, List, [], ◌∷◌, ◌++◌, map, drop, Option, Some, None}
 use Rattle.std.specs.List.{find}
+use Rattle.sctp_chunks.specs.PayloadTypes.{is_ordered}
 use Rattle.sctp_list_lemmas.specs.Lists.{change_where}
 use Rattle.sctp_chunks.specs.declared.chunk.chunk_payload_data.ChunkPayloadData.{ChunkPayloadData}
 use Rattle.sctp_chunks.specs.declared.chunk.chunk_payload_data.PayloadProtocolIdentifier.{PayloadProtocolIdentifier}
@@ -9,7 +10,6 @@ use Rattle.sctp_chunks.specs.declared.chunk.chunk_forward_tsn.ChunkForwardTsnStr
 use Rattle.sctp_reassembly.specs.reassembly_queue.ReassemblyQueue.{PushesUnordered, after_ordered_push, after_unordered_skip}
 use Rattle.sctp_stream.specs.declared.stream.DataChannelStats.{DataChannelStats}
 use Rattle.sctp_stream.specs.declared.stream.StreamState.{StreamState}
-use Rattle.sctp_stream.specs.Stream as stream
 use Rattle.sctp_stream.specs.Stream.{new_stream}
 use Rattle.sctp_transfer.specs.declared.receiver.inbound_streams.InboundStream.{InboundStream}
 use Rattle.sctp_transfer.specs.declared.sender.flight.Released.{Released}
@@ -24,8 +24,8 @@ pub record OpenStream : Type 0 where
   pub state : StreamState
   -- what came on it and was not read, and what was read
   pub inbound : InboundStream
-  -- the unordered messages that are whole and not read, by their numbers, in the order in which they became whole
-  pub whole : List ℕ
+  -- the unordered messages that are complete and not read, by their numbers, in the order in which they became complete
+  pub complete : List ℕ
   -- how many ordered messages were written and did not expire
   pub ordered : ℕ
   -- how many of them were begun to be sent
@@ -50,7 +50,7 @@ join s i p =
     record {
       state = s;
       inbound = i;
-      whole = p.whole.items;
+      complete = p.complete.items;
       ordered = p.ordered;
       begun = p.begun;
       next = p.next;
@@ -58,11 +58,11 @@ join s i p =
     }
 
 -- so of each stream
-abbrev pub joined : List StreamState → List InboundStream → List StreamProgress → List OpenStream
-joined (s ∷ ss) (i ∷ is) (p ∷ ps) = join s i p ∷ joined ss is ps
-joined [] is ps = []
-joined (s ∷ ss) [] ps = []
-joined (s ∷ ss) (i ∷ is) [] = []
+abbrev pub join_each : List StreamState → List InboundStream → List StreamProgress → List OpenStream
+join_each (s ∷ ss) (i ∷ is) (p ∷ ps) = join s i p ∷ join_each ss is ps
+join_each [] is ps = []
+join_each (s ∷ ss) [] ps = []
+join_each (s ∷ ss) (i ∷ is) [] = []
 
 -- a stream that nothing was written to, and to which nothing came
 abbrev pub new_open_stream : ℕ → ℕ → ℕ → OpenStream
@@ -70,7 +70,7 @@ new_open_stream s size largest =
     record {
       state = new_stream s size largest Unknown;
       inbound = Inbound.new_stream s largest;
-      whole = [];
+      complete = [];
       ordered = 0;
       begun = 0;
       next = 0;
@@ -83,15 +83,11 @@ new_open_stream s size largest =
 abbrev pub on_state : (StreamState → StreamState) → OpenStream → OpenStream
 on_state f l = record l { state = f l.state }
 
--- whether a write with this payload type is ordered (RFC 8832 6)
-abbrev pub is_ordered : OpenStream → PayloadProtocolIdentifier → Bool
-is_ordered l ppi = stream.is_ordered l.state.unordered ppi
-
 -- what is recorded of a write
 abbrev pub written_of : OpenStream → PayloadProtocolIdentifier → Written
 written_of l ppi =
     record {
-      ordered = is_ordered l ppi;
+      ordered = is_ordered l.state.unordered ppi;
       reliability = l.state.reliability_type;
       value = l.state.reliability_value;
       before = l.ordered;
@@ -102,8 +98,7 @@ abbrev pub wrote_to : PayloadProtocolIdentifier → List ℕ → OpenStream → 
 wrote_to ppi bytes l =
     record l {
       state = Outgoing.wrote ppi bytes l.state;
-      ordered = if is_ordered l ppi
-          then l.ordered + 1 else l.ordered;
+      ordered = if is_ordered l.state.unordered ppi then l.ordered + 1 else l.ordered;
     }
 
 -- how many ordered messages a stream has begun, where there is one
@@ -124,15 +119,16 @@ abbrev pub less_by : ℕ → OpenStream → OpenStream
 less_by bytes l = on_state (Outgoing.less_by bytes) l
 
 -- each stream has less by what left of it, one chunk after another
-abbrev pub released : List Released → List OpenStream → List OpenStream
-released [] ls = ls
-released (r ∷ rs) ls = released rs (change_where (has_number r.stream) (less_by r.bytes) ls)
+abbrev pub after_releases : List Released → List OpenStream → List OpenStream
+after_releases [] ls = ls
+after_releases (r ∷ rs) ls =
+    after_releases rs (change_where (has_number r.stream) (less_by r.bytes) ls)
 
 -- a message that was not sent is gone: of ordered ones there is one less
 abbrev pub expired_on : Bool → ℕ → OpenStream → OpenStream
 expired_on unordered bytes l =
     record l {
-      state = Outgoing.expired unordered bytes l.state;
+      state = Outgoing.after_expiry unordered bytes l.state;
       ordered = if unordered
           then l.ordered else l.ordered - 1;
     }
@@ -143,23 +139,23 @@ expired_on unordered bytes l =
 abbrev pub on_inbound : (InboundStream → InboundStream) → OpenStream → OpenStream
 on_inbound f l = record l { inbound = f l.inbound }
 
--- a chunk is kept: the queue changes as by a push, and the number of an unordered message that becomes whole is recorded
+-- a chunk is kept: the queue changes as by a push, and the number of an unordered message that becomes complete is recorded
 pub record Keeps (c : ChunkPayloadData) (number : ℕ) (old new : OpenStream) : Type 0 where
-  pub whole : Bool
+  pub complete : Bool
   pub ordered_queue : c.unordered ≡ false → new.inbound.queue
       ≡ after_ordered_push c old.inbound.queue
   pub unordered_queue : c.unordered ≡ true
-      → PushesUnordered c old.inbound.queue new.inbound.queue whole
+      → PushesUnordered c old.inbound.queue new.inbound.queue complete
   pub rest : new ≡ record old {
     inbound = record old.inbound { queue = new.inbound.queue };
-    whole = if whole && c.unordered then old.whole ++ number ∷ [] else old.whole;
+    complete = if complete && c.unordered then old.complete ++ number ∷ [] else old.complete;
   }
 
 -- a message was read: with an ordered one that was expected next the next one is
 abbrev pub read_recorded : Bool → ℕ → OpenStream → OpenStream
 read_recorded ordered index l =
     record l {
-      whole = if ordered then l.whole else drop 1 l.whole;
+      complete = if ordered then l.complete else drop 1 l.complete;
       next = if ordered
           && (index == l.next) then index + 1 else l.next;
     }

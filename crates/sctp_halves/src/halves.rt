@@ -34,12 +34,12 @@ pub struct Halves {
 
 impl Model for Halves {
     ghost use Rattle.sctp_halves.specs.Halves.{Sides, IsAligned};
-    ghost use Rattle.sctp_halves.specs.Streams.{joined};
+    ghost use Rattle.sctp_halves.specs.Streams.{join_each};
 
     ghost Value = { Sides };
 
     ghost view = { λ h. record {
-      streams = joined h.sender.streams h.receiver.streams h.progress.items;
+      streams = join_each h.sender.streams h.receiver.streams h.progress.items;
       flight = h.sender.flight;
       cumulative_tsn = h.receiver.cumulative_tsn;
       beyond = h.receiver.beyond;

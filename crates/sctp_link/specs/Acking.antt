@@ -1,10 +1,10 @@
 -- How far a SACK has been taken, while what it reports is gone through.
-use Rattle.std.specs.Prelude.{◌≡◌, ◌==◌, ℕ, ◌+◌, ◌-◌, ◌<◌, ◌≤◌, ◌^◌, Bool, ◌&&◌, ◌||◌, nat_le, nat_lt, if◌then◌else◌, List, [], ◌∷◌, length, slice_index_or}
+use Rattle.std.specs.Prelude.{◌≡◌, ◌==◌, ℕ, ◌+◌, ◌<◌, ◌≤◌, ◌^◌, Bool, ◌&&◌, ◌||◌, nat_le, nat_lt, if◌then◌else◌, List, length, slice_index_or}
 use Rattle.std.specs.List.{list_any}
 use Rattle.sctp_chunks.specs.declared.chunk.chunk_payload_data.ChunkPayloadData.{ChunkPayloadData}
 use Rattle.sctp_chunks.specs.declared.chunk.chunk_selective_ack.GapAckBlock.{GapAckBlock}
 use Rattle.sctp_outbound.specs.payload_queue.Blocks.{is_in_block}
-use Rattle.sctp_model.specs.World.{World}
+use Rattle.sctp_model.specs.LinkRecord.{LinkRecord}
 use Rattle.sctp_model.specs.Messages.{slot_at}
 use Rattle.sctp_model.specs.Amounts.{on_stream, pending_bytes}
 use Rattle.sctp_refinement.specs.Amount.{unacked_on, stream_of_slot, bytes_at}
@@ -13,11 +13,11 @@ use Rattle.sctp_link.specs.declared.record.Slot.{Slot}
 use Rattle.sctp_link.specs.Records.{slot_record}
 
 -- what a stream still has to send or to see acknowledged, were these slots acknowledged
-abbrev pub amount_with : World → (ℕ → Bool) → ℕ → ℕ
+abbrev pub amount_with : LinkRecord → (ℕ → Bool) → ℕ → ℕ
 amount_with w acked s = on_stream w s (pending_bytes w) + unacked_on w acked s
 
 -- what is known of the record from the beginning
-pub record Acks (first : ℕ) (w : World) : Type 0 where
+pub record Acks (first : ℕ) (w : LinkRecord) : Type 0 where
   pub first_is : first ≡ w.setup.first
   pub in_range : w.setup.first < 2 ^ 32
   pub few : length w.slots < 2 ^ 31
@@ -30,7 +30,7 @@ pub record Acks (first : ℕ) (w : World) : Type 0 where
       ≡ (if stream_of_slot w p == t then (if b then 0 else bytes_at w p) else 0)
 
 -- the slots once these are acknowledged
-pub record IsMarking (w : World) (acked : ℕ → Bool) (marked : List Slot) : Type 0 where
+pub record IsMarking (w : LinkRecord) (acked : ℕ → Bool) (marked : List Slot) : Type 0 where
   pub count : length marked ≡ length w.slots
   pub slots : (k : ℕ) (d : Slot) → k < length marked → slot_record (slice_index_or marked k d)
       ≡ record (slot_at w k) { acknowledged = acked k }

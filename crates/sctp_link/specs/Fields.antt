@@ -1,6 +1,6 @@
 -- The record of a link and what it keeps beside it, from its fields.
 use Rattle.std.specs.Prelude.{ℕ, map}
-use Rattle.sctp_model.specs.World.{World, Setup}
+use Rattle.sctp_model.specs.LinkRecord.{LinkRecord, Setup}
 use Rattle.sctp_transfer.specs.Receiver.{filter_of}
 use Rattle.sctp_halves.specs.Halves.{reception_of}
 use Rattle.sctp_link.specs.declared.link.Link.TheInside.{Inside}
@@ -12,8 +12,8 @@ abbrev pub setup_of : ℕ → ℕ → ℕ → ℕ → Setup
 setup_of first size largest limit =
     record { first = first; size = size; largest = largest; limit = limit }
 
-abbrev pub world_in : {C : Type 0} → Inside C → World
-world_in a =
+abbrev pub record_in : {C : Type 0} → Inside C → LinkRecord
+record_in a =
     record {
       setup = setup_of a.first_tsn a.halves.fragment_size a.halves.max_message_size a.limit;
       streams = map stream_record a.halves.streams;
@@ -28,7 +28,7 @@ world_in a =
 abbrev pub state_in : {C : Type 0} → Inside C → State
 state_in a =
     record {
-      world = world_in a;
+      recorded = record_in a;
       open_streams = a.halves.streams;
       progress = map progress_of a.messages.items;
       unstarted = a.unstarted;

@@ -1,8 +1,8 @@
 -- What a link keeps beside its record, and that all of it refines the record.
-use Rattle.std.specs.Prelude.{◌≡◌, ◌==◌, ℕ, ◌<◌, ◌≤◌, true, ◌%◌, ◌^◌, List, length, slice_index_or, slice_get, Bool, Some}
+use Rattle.std.specs.Prelude.{◌≡◌, ℕ, ◌<◌, ◌≤◌, true, ◌%◌, ◌^◌, List, length, slice_index_or, slice_get, Some}
 use Rattle.sctp_outbound.specs.outbound_queue.OutboundQueue.{Outbound}
-use Rattle.sctp_model.specs.World as W
-use Rattle.sctp_model.specs.World.{World}
+use Rattle.sctp_model.specs.LinkRecord as W
+use Rattle.sctp_model.specs.LinkRecord.{LinkRecord}
 use Rattle.sctp_model.specs.Messages.{message_at, ordered_before, index_of, sent_of, tsn_of}
 use Rattle.sctp_model.specs.Receiver.{next_of}
 use Rattle.sctp_model.specs.Contents.{contents_of, cumulative_tsn}
@@ -25,12 +25,12 @@ use Rattle.sctp_link.specs.Encodings.{IsDatagram}
 
 -- a link: its record, and the checksum that it was handed
 pub record Linked (C : Type 0) : Type 0 where
-  pub world : World
+  pub recorded : LinkRecord
   pub checksum : C
 
 -- the record, and what a link keeps beside it
 pub record State : Type 0 where
-  pub world : World
+  pub recorded : LinkRecord
   pub open_streams : List OpenStream
   -- of each message, how many of its fragments have slots, and its index
   pub progress : List (ℕ × ℕ)
@@ -76,7 +76,7 @@ ledger_of l =
     }
 
 -- what a stream keeps, against the record
-pub record IsOpenStream (w : World) (l : OpenStream) : Type 0 where
+pub record IsOpenStream (w : LinkRecord) (l : OpenStream) : Type 0 where
   pub held : l.inbound.queue.held ≡ reassembly_of w l.state.stream_identifier
   pub si : l.inbound.queue.si ≡ l.state.stream_identifier
   pub largest : l.inbound.queue.max_message_size ≡ w.setup.largest
@@ -89,26 +89,26 @@ pub record IsOpenStream (w : World) (l : OpenStream) : Type 0 where
   pub stats : stats_in l ≡ stats_of (counters_on w l.state.stream_identifier)
 
 pub record IsLinked (sum : List ℕ → ℕ) (x : State) : Type 0 where
-  pub setup : IsSetup x.world.setup
+  pub setup : IsSetup x.recorded.setup
   pub history : History
-  pub stands : StandsFor x.world.setup x.world history
-  pub outbound : RefinesOutbound x.world x.outbound
+  pub stands : StandsFor x.recorded.setup x.recorded history
+  pub outbound : RefinesOutbound x.recorded x.outbound
   pub unstarted : x.unstarted ≡ x.outbound.next_unstarted
-  pub filter : filter_shown x.filter ≡ filter_of x.world
-  pub next : x.next_tsn ≡ tsn_of x.world (length x.world.slots)
+  pub filter : filter_shown x.filter ≡ filter_of x.recorded
+  pub next : x.next_tsn ≡ tsn_of x.recorded (length x.recorded.slots)
   -- all up to the slots taken was acknowledged
-  pub acked : x.acked_tsn ≡ cumulative_tsn x.world x.world.taken
-  pub fragments : x.fragments ≡ fragments_accepted x.world
-  pub written : x.written ≡ in_all x.world (written_bytes x.world)
-  pub sents : (n : ℕ) → n < length x.world.messages → (slice_index_or x.progress n (0, 0)).0
-      ≡ sent_of x.world n
+  pub acked : x.acked_tsn ≡ cumulative_tsn x.recorded x.recorded.taken
+  pub fragments : x.fragments ≡ fragments_accepted x.recorded
+  pub written : x.written ≡ in_all x.recorded (written_bytes x.recorded)
+  pub sents : (n : ℕ) → n < length x.recorded.messages → (slice_index_or x.progress n (0, 0)).0
+      ≡ sent_of x.recorded n
   -- an ordered message has its index once some of it was sent
-  pub indexes : (n : ℕ) → 0 < sent_of x.world n → (message_at x.world n).ordered ≡ true
-      → (slice_index_or x.progress n (0, 0)).1 ≡ index_of x.world n
+  pub indexes : (n : ℕ) → 0 < sent_of x.recorded n → (message_at x.recorded n).ordered ≡ true
+      → (slice_index_or x.progress n (0, 0)).1 ≡ index_of x.recorded n
   pub low : (n : ℕ) → (slice_index_or x.progress n (0, 0)).1 ≤ n
   pub open_streams : (k : ℕ) (d : OpenStream) → k < length x.open_streams
-      → IsOpenStream x.world (slice_index_or x.open_streams k d)
+      → IsOpenStream x.recorded (slice_index_or x.open_streams k d)
   -- no two streams have one number
   pub apart : IsApart (stream_numbers x.open_streams)
-  pub encodings : (k : ℕ) (d : List ℕ) (g : W.Datagram) → slice_get x.world.network k ≡ Some g
-      → IsDatagram sum (contents_of x.world g) (slice_index_or x.datagrams k d)
+  pub encodings : (k : ℕ) (d : List ℕ) (g : W.Datagram) → slice_get x.recorded.network k ≡ Some g
+      → IsDatagram sum (contents_of x.recorded g) (slice_index_or x.datagrams k d)

@@ -1,13 +1,13 @@
 -- The receiver of a link while the slots of a datagram come, one after another.
 use Rattle.std.specs.Prelude.{◌≡◌, ℕ, ◌<◌, ◌&&◌, if◌then◌else◌, Bool, slice_get, true, false, List, [], ◌∷◌, length, map, slice_index_or, Some}
-use Rattle.sctp_list_lemmas.specs.Kept.{passing}
-use Rattle.sctp_list_lemmas.specs.Lists.{changed}
+use Rattle.std.specs.List.{filter}
+use Rattle.sctp_list_lemmas.specs.Lists.{change_at}
 use Rattle.sctp_chunks.specs.declared.chunk.chunk_payload_data.ChunkPayloadData.{ChunkPayloadData}
 use Rattle.sctp_reassembly.specs.reassembly_queue.ReassemblyQueue.{ReassemblyState, is_too_large}
-use Rattle.sctp_model.specs.World.{World, StreamRecord, Data}
+use Rattle.sctp_model.specs.LinkRecord.{LinkRecord, StreamRecord, Data}
 use Rattle.sctp_model.specs.Messages.{message_at, message_of, stream_at, index_of, is_ordered_on}
 use Rattle.sctp_model.specs.Receiver.{is_new, fits}
-use Rattle.sctp_model.specs.Changes.{slot_received}
+use Rattle.sctp_model.specs.Changes.{receive_slot}
 use Rattle.sctp_model.specs.Contents.{chunk_at}
 use Rattle.sctp_model.specs.Queues.{filter_of}
 use Rattle.sctp_model.specs.Valid.{ComesValid}
@@ -23,13 +23,13 @@ use Rattle.sctp_link.specs.Records.{stream_record}
 use Rattle.sctp_link.specs.Places.{IsApart}
 
 -- the queue of an open stream, against the record
-pub record HoldsQueue (w : World) (l : OpenStream) : Type 0 where
+pub record HoldsQueue (w : LinkRecord) (l : OpenStream) : Type 0 where
   pub held : l.inbound.queue.held ≡ reassembly_of w l.state.stream_identifier
   pub si : l.inbound.queue.si ≡ l.state.stream_identifier
   pub largest : l.inbound.queue.max_message_size ≡ w.setup.largest
 
 -- what the receiver of a link has, against the record
-pub record IsReceiver (w : World) (x : Sides) : Type 0 where
+pub record IsReceiver (w : LinkRecord) (x : Sides) : Type 0 where
   pub streams_are : w.streams ≡ map stream_record x.streams
   pub filter_is : filter_shown (held_filter (reception_of x)) ≡ filter_of w
   pub queues : (k : ℕ) (d : OpenStream) → k < length x.streams
@@ -37,7 +37,7 @@ pub record IsReceiver (w : World) (x : Sides) : Type 0 where
   pub apart : IsApart (stream_numbers x.streams)
 
 -- a chunk comes, that of the slot at a place: the record is valid, the stream is open, and no message becomes too long with it
-pub record Comes (w : World) (p : ℕ) (c : ChunkPayloadData) : Type 0 where
+pub record Comes (w : LinkRecord) (p : ℕ) (c : ChunkPayloadData) : Type 0 where
   pub valid : ComesValid w p
   pub alive : (message_at w (message_of w p)).expired ≡ false
   pub known : (r : StreamRecord) × (stream_at w (message_at w (message_of w p)).stream ≡ Some r)
@@ -47,9 +47,9 @@ pub record Comes (w : World) (p : ℕ) (c : ChunkPayloadData) : Type 0 where
       ≡ w.setup.largest → is_too_large c q ≡ false
 
 -- so do these, one after another
-abbrev pub AllCome : World → List ℕ → List ChunkPayloadData → Type 0
+abbrev pub AllCome : LinkRecord → List ℕ → List ChunkPayloadData → Type 0
 AllCome w [] [] = Unit {0}
-AllCome w (p ∷ ps) (c ∷ cs) = Comes w p c × AllCome (slot_received w p) ps cs
+AllCome w (p ∷ ps) (c ∷ cs) = Comes w p c × AllCome (receive_slot w p) ps cs
 AllCome w [] (c ∷ cs) = ⊥
 AllCome w (p ∷ ps) [] = ⊥
 
@@ -69,7 +69,7 @@ with_arrival x = record x { arrived = true }
 
 -- the slots after the arrival of some, one after another, each new or not
 abbrev pub arrived_in : List ℕ → List Arrival → List Slot → List Slot
-arrived_in (p ∷ ps) (New ∷ bs) ss = arrived_in ps bs (changed with_arrival p ss)
+arrived_in (p ∷ ps) (New ∷ bs) ss = arrived_in ps bs (change_at with_arrival p ss)
 arrived_in (p ∷ ps) (Repeat ∷ bs) ss = arrived_in ps bs ss
 arrived_in [] bs ss = ss
 arrived_in (p ∷ ps) [] ss = ss
@@ -86,22 +86,22 @@ is_first New = true
 is_first Repeat = false
 
 -- the slot at this place lies in some datagram
-abbrev pub LiesSomewhere : World → ℕ → Type 0
+abbrev pub LiesSomewhere : LinkRecord → ℕ → Type 0
 LiesSomewhere w p =
     (k : ℕ) × (ps : List ℕ) × (i : ℕ) × (slice_get w.network k ≡ Some (Data ps)) × (i < length ps)
     × (slice_index_or ps i 0 ≡ p)
 
 -- the slot is new and of an ordered message of stream s
-abbrev pub adds_on : World → ℕ → ℕ → Bool
+abbrev pub adds_on : LinkRecord → ℕ → ℕ → Bool
 adds_on w s p = is_new w p && is_ordered_on w s (message_of w p)
 
 -- the indexes that these slots add on stream s
-abbrev pub added_on : World → ℕ → List ℕ → List ℕ
+abbrev pub added_on : LinkRecord → ℕ → List ℕ → List ℕ
 added_on w s ps =
-    map (index_of w) (passing (is_ordered_on w s) (map (message_of w) (passing (is_new w) ps)))
+    map (index_of w) (filter (is_ordered_on w s) (map (message_of w) (filter (is_new w) ps)))
 
 -- the span test on the stream of the slot at a place, where it is new and of an ordered message
-abbrev pub slot_fits : World → List ℕ → ℕ → Bool
+abbrev pub slot_fits : LinkRecord → List ℕ → ℕ → Bool
 slot_fits w ps p =
     if is_new w p && (message_at w (message_of w p)).ordered
     then fits w (added_on w (message_at w (message_of w p)).stream ps)

@@ -1,13 +1,13 @@
 -- What a link keeps of its messages, slots, datagrams and streams, as the record says it.
 use Rattle.std.specs.Prelude.{ℕ, map}
-use Rattle.sctp_chunks.specs.declared.chunk.chunk_selective_ack.GapAckBlock.{GapAckBlock}
 use Rattle.sctp_link.specs.declared.record.Message.{Message}
 use Rattle.sctp_link.specs.declared.record.Slot.{Slot}
 use Rattle.sctp_link.specs.declared.record.Kind.{Kind}
 use Rattle.sctp_link.specs.declared.record.Kind.TheVariants as K
 use Rattle.sctp_link.specs.declared.record.Datagram.{Datagram}
 use Rattle.sctp_halves.specs.Streams.{OpenStream}
-use Rattle.sctp_model.specs.World as W
+use Rattle.sctp_model.specs.LinkRecord as W
+use Rattle.sctp_outbound.specs.payload_queue.Blocks.{ends_of}
 
 -- a message
 abbrev pub message_record : Message → W.Message
@@ -41,9 +41,6 @@ slot_record x =
       acknowledged = x.acknowledged;
     }
 
-abbrev pub ends_of : GapAckBlock → ℕ × ℕ
-ends_of b = (b.start, b.end)
-
 -- a datagram: slots, a FORWARD-TSN or a SACK
 abbrev pub kind_record : Kind → W.Datagram
 kind_record (K.Data places) = W.Data places.items
@@ -68,5 +65,5 @@ stream_record l =
       reliability = l.state.reliability_type;
       value = l.state.reliability_value;
       named = l.named;
-      whole = l.whole;
+      complete = l.complete;
     }

@@ -1,13 +1,14 @@
 -- What fragments that leave one after another make of the sender's side of a link.
 use Rattle.std.specs.Prelude.{◌≡◌, ℕ, zero, suc, ◌+◌, ◌<◌, ◌^◌, List, [], ◌∷◌, ◌++◌, length, Some, slice_index_or, slice_set}
 use Rattle.sctp_chunks.specs.declared.chunk.chunk_payload_data.ChunkPayloadData.{ChunkPayloadData}
-use Rattle.sctp_outbound.specs.pending_queue.PendingQueue.{peeked}
-use Rattle.sctp_outbound.specs.outbound_queue.OutboundQueue.{Outbound, sent_next, following_tsn}
+use Rattle.sctp_outbound.specs.pending_queue.PendingQueue.{next_pending}
+use Rattle.sctp_outbound.specs.outbound_queue.OutboundQueue.{Outbound, sent_next}
 use Rattle.sctp_halves.specs.Streams.{OpenStream, begun_of}
 use Rattle.sctp_halves.specs.Halves.{Sides}
 use Rattle.sctp_link.specs.declared.record.Message.{Message}
 use Rattle.sctp_link.specs.declared.record.Slot.{Slot}
 use Rattle.sctp_link.specs.OpenStreams.{fragment_slot, with_fragment, begun_by}
+use Rattle.sctp_serial.specs.DataChunks.{following_tsn}
 
 -- what a fragment changes when it leaves
 pub record Sender : Type 0 where
@@ -30,7 +31,7 @@ sender_of halves messages slots =
 -- the next fragment can leave
 pub record CanSend (s : Sender) : Type 0 where
   pub chunk : ChunkPayloadData
-  pub shown : peeked s.outbound.pending ≡ Some chunk
+  pub shown : next_pending s.outbound.pending ≡ Some chunk
   pub made : chunk.message_id < length s.messages
   pub fits : (m : Message) → m ≡ slice_index_or s.messages chunk.message_id m → m.sent + 1 < 2 ^ 64
   pub few : (m : Message) → m ≡ slice_index_or s.messages chunk.message_id m
@@ -40,7 +41,7 @@ pub record CanSend (s : Sender) : Type 0 where
 -- it leaves: its message takes it, it gets a slot and the next TSN
 pub record Leaves (now : ℕ) (s t : Sender) : Type 0 where
   pub chunk : ChunkPayloadData
-  pub shown : peeked s.outbound.pending ≡ Some chunk
+  pub shown : next_pending s.outbound.pending ≡ Some chunk
   pub message : Message
   pub is : message ≡ slice_index_or s.messages chunk.message_id message
   pub outbound : t.outbound ≡ sent_next s.outbound s.next_tsn now

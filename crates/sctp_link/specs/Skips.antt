@@ -1,10 +1,10 @@
 -- What a skip names on a stream of a link (RFC 3758 3.6).
 use Rattle.std.specs.Prelude.{ℕ, ◌+◌, ◌-◌, ◌%◌, ◌^◌, min, max, Bool, ◌&&◌, not, ◌==◌, if◌then◌else◌, List, map, slice_index_or}
-use Rattle.sctp_list_lemmas.specs.Kept.{passing}
+use Rattle.std.specs.List.{filter}
 use Rattle.sctp_chunks.specs.declared.chunk.chunk_forward_tsn.ChunkForwardTsnStream.{ChunkForwardTsnStream}
 use Rattle.sctp_chunks.specs.ForwardTsn.{ForwardTsn}
-use Rattle.sctp_model.specs.World as W
-use Rattle.sctp_model.specs.World.{World}
+use Rattle.sctp_model.specs.LinkRecord as W
+use Rattle.sctp_model.specs.LinkRecord.{LinkRecord}
 use Rattle.sctp_model.specs.Contents.{name_of}
 use Rattle.sctp_model.specs.Messages.{no_message, tsn_of}
 use Rattle.sctp_model.specs.Receiver.{least, greatest}
@@ -31,8 +31,8 @@ is_on ms s n =
 abbrev pub named_from : List Message → ℕ → Named → List ℕ → Named
 named_from ms s named names =
     record {
-      low = least named.low (map (index_in ms) (passing (is_on ms s) names));
-      end = greatest named.end (map (λ n. index_in ms n + 1) (passing (is_on ms s) names));
+      low = least named.low (map (index_in ms) (filter (is_on ms s) names));
+      end = greatest named.end (map (λ n. index_in ms n + 1) (filter (is_on ms s) names));
     }
 
 -- with none named
@@ -56,7 +56,7 @@ abbrev pub with_names : List Message → List ℕ → OpenStream → OpenStream
 with_names ms names l = with_named (named_from ms l.state.stream_identifier none_named names).end l
 
 -- a skip as the chunk says it (RFC 3758 3.2)
-abbrev pub wire_skip : World → ℕ → List ℕ → ForwardTsn
+abbrev pub wire_skip : LinkRecord → ℕ → List ℕ → ForwardTsn
 wire_skip w upto names =
     record {
       new_cumulative_tsn = tsn_of w upto;

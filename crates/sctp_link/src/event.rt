@@ -66,7 +66,7 @@ pub enum Reply {
     Acked {
         bytes: u64,
     },
-    /// A message, whole.
+    /// A complete message.
     Message {
         stream: u16,
         ppi: PayloadProtocolIdentifier,

@@ -58,15 +58,15 @@ impl<C: Checksum + Drop> Model for Link<C> {
 
     ghost Value = { Linked C };
 
-    ghost use Rattle.sctp_link.specs.Fields.{world_in, state_in};
+    ghost use Rattle.sctp_link.specs.Fields.{record_in, state_in};
 
-    ghost view = { λ a. record { world = world_in a; checksum = a.checksum } };
+    ghost view = { λ a. record { recorded = record_in a; checksum = a.checksum } };
 
     ghost invariant = { λ a. IsLinked (C.sum a.checksum) (state_in a) };
 }
 
 impl<C: Checksum + Drop> Link<C> {
-    ghost use Rattle.sctp_model.specs.World.{Setup, start};
+    ghost use Rattle.sctp_model.specs.LinkRecord.{Setup, start};
     ghost use Rattle.sctp_model.specs.Messages.{is_open};
     ghost use Rattle.sctp_model.specs.Contents.{Contents, datagram};
     ghost use Rattle.sctp_model.specs.Steps.{Answers, History, StandsFor, StandsAfter, IsRight, refusal_of, takes_memory};
@@ -88,10 +88,11 @@ impl<C: Checksum + Drop> Link<C> {
     ) -> Self
         requires some { 1 ≤ fragment_size }
         requires short { fragment_size ≤ 65519 }
-        ensures empty { result.world ≡ start (setup_of first_tsn fragment_size max_message_size 0) }
+        ensures empty { result.recorded
+            ≡ start (setup_of first_tsn fragment_size max_message_size 0) }
         ensures checksum { result.checksum ≡ checksum }
         ensures stands { StandsFor
-            (setup_of first_tsn fragment_size max_message_size 0) result.world [] }
+            (setup_of first_tsn fragment_size max_message_size 0) result.recorded [] }
     {
         Link::with_limit(
             alloc,
@@ -116,11 +117,11 @@ impl<C: Checksum + Drop> Link<C> {
     ) -> Self
         requires some { 1 ≤ fragment_size }
         requires short { fragment_size ≤ 65519 }
-        ensures empty { result.world
+        ensures empty { result.recorded
             ≡ start (setup_of first_tsn fragment_size max_message_size limit) }
         ensures checksum { result.checksum ≡ checksum }
         ensures stands { StandsFor
-            (setup_of first_tsn fragment_size max_message_size limit) result.world [] }
+            (setup_of first_tsn fragment_size max_message_size limit) result.recorded [] }
     {
         Link {
             alloc,
@@ -155,11 +156,11 @@ impl<C: Checksum + Drop> Link<C> {
     /// - Each event that takes memory: `OutOfMemory`, where it was refused.
     pub fn step(&mut self, event: Event) -> Result<Reply, LinkRefusal>
         // What is refused, what is answered, and what is recorded.
-        ensures answers { Answers self.old.world event (answer_of result) self.new.world }
+        ensures answers { Answers self.old.recorded event (answer_of result) self.new.recorded }
         ensures checksum { self.new.checksum ≡ self.old.checksum }
         // So it is for every history that the link stands for: it then stands for the longer one.
-        ensures stands { (setup : Setup) (h : History) → StandsFor setup self.old.world h
-            → StandsAfter setup self.new.world event (answer_of result) h }
+        ensures stands { (setup : Setup) (h : History) → StandsFor setup self.old.recorded h
+            → StandsAfter setup self.new.recorded event (answer_of result) h }
     {
         if let Some(refusal) = self.refusal(&event) {
             return Err(refusal);
@@ -172,13 +173,13 @@ impl<C: Checksum + Drop> Link<C> {
 
     // Takes an event that is not refused.
     fn take(&mut self, event: Event) -> Result<Reply, Error>
-        requires accepted { refusal_of self.old.world event ≡ None }
+        requires accepted { refusal_of self.old.recorded event ≡ None }
         ensures ok { IfOk result
-            (λ reply. IsRight self.old.world event (reply_of reply) self.new.world) }
+            (λ reply. IsRight self.old.recorded event (reply_of reply) self.new.recorded) }
         ensures checksum { self.new.checksum ≡ self.old.checksum }
-        ensures err { OnErr result (self.new.world ≡ self.old.world) }
+        ensures err { OnErr result (self.new.recorded ≡ self.old.recorded) }
         ensures memory { IsOkUnless result ErrOutOfMemory }
-        ensures wants { OnErr result (takes_memory self.old.world event ≡ true) }
+        ensures wants { OnErr result (takes_memory self.old.recorded event ≡ true) }
     {
         match event {
             Event::Open { stream } => self.open(stream),
@@ -206,8 +207,8 @@ impl<C: Checksum + Drop> Link<C> {
 
     /// The bytes of datagram k, None where it was not made.
     pub fn datagram(&self, k: u64) -> Option<&Bytes>
-        ensures { MatchOption result (datagram self.now.world k ≡ None)
-            (λ b. (c : Contents) × (datagram self.now.world k ≡ Some c)
+        ensures { MatchOption result (datagram self.now.recorded k ≡ None)
+            (λ b. (c : Contents) × (datagram self.now.recorded k ≡ Some c)
             × (b.now ≡ datagram_encoding (C.sum self.now.checksum) c)) }
     {
         if k >= self.network.len() as u64 {
@@ -218,7 +219,7 @@ impl<C: Checksum + Drop> Link<C> {
 
     /// The refusal that is due, the first one that holds.
     fn refusal(&self, event: &Event) -> Option<LinkRefusal>
-        ensures { result ≡ refusal_of self.now.world event.now }
+        ensures { result ≡ refusal_of self.now.recorded event.now }
     {
         match event {
             Event::Open { stream } => self.refusal_open(*stream),
@@ -235,13 +236,13 @@ impl<C: Checksum + Drop> Link<C> {
     }
 
     fn is_open(&self, stream: u16) -> bool
-        ensures { result ≡ is_open self.now.world stream }
+        ensures { result ≡ is_open self.now.recorded stream }
     {
         self.halves.is_open(stream)
     }
 
     fn refusal_open(&self, stream: u16) -> Option<LinkRefusal>
-        ensures { result ≡ refusal_of self.now.world (E.Open stream) }
+        ensures { result ≡ refusal_of self.now.recorded (E.Open stream) }
     {
         if self.is_open(stream) {
             return Some(LinkRefusal::StreamOpen);
@@ -250,7 +251,7 @@ impl<C: Checksum + Drop> Link<C> {
     }
 
     fn refusal_unless_open(&self, stream: u16) -> Option<LinkRefusal>
-        ensures { result ≡ refusal_of self.now.world (E.Read stream) }
+        ensures { result ≡ refusal_of self.now.recorded (E.Read stream) }
     {
         if !self.is_open(stream) {
             return Some(LinkRefusal::StreamUnknown);

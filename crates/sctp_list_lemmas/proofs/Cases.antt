@@ -1,5 +1,5 @@
 -- Tests and cases.
-use Rattle.std.proofs.Common.{◌≡◌, ℕ, ◌+◌, ◌<◌, ◌≤◌, Bool, true, false, refl, inl, inr, arith}
+use Rattle.std.proofs.Common.{◌≡◌, ℕ, ◌+◌, ◌<◌, ◌≤◌, Bool, true, false, Some, refl, inl, inr, arith}
 use Rattle.std.specs.Prelude.{◌⊎◌, ◌==◌, ◌&&◌, ◌||◌, not}
 use Rattle.std.proofs.lemmas.Bool.{cases_lt}
 use Rattle.std.proofs.lemmas.Bool.Decides.{nat_tests}
@@ -19,6 +19,9 @@ by_same {P} a b yes' no' = step (a == b) refl
     step : (c : Bool) → (a == b) ≡ c → P
     step true e = yes' (grind (arith, nat_tests))
     step false e = no' (grind (arith, nat_tests)) e
+
+pub some-same : {A : Type 0} {a b : A} → Some a ≡ Some b → a ≡ b
+some-same e = cc
 
 pub same-yes : (a : ℕ) → (a == a) ≡ true
 same-yes a = grind (arith, nat_tests)
@@ -45,6 +48,14 @@ or-split false b e = inr e
 pub or-none : (b : Bool) → (b || false) ≡ b
 or-none true = refl
 or-none false = refl
+
+pub or-true : (b : Bool) → (b || true) ≡ true
+or-true true = refl
+or-true false = refl
+
+pub and-true : (b : Bool) → (b && true) ≡ b
+and-true true = refl
+and-true false = refl
 
 pub and-none : (b : Bool) → (b && false) ≡ false
 and-none true = refl

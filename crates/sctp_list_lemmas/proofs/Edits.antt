@@ -7,11 +7,11 @@ use Rattle.std.proofs.lemmas.List.Edits.{length-insert, get_or-insert_below, get
 use Rattle.std.proofs.lemmas.List.Filters.{sum_by-filter_both}
 use Rattle.std.proofs.lemmas.List.Sums.{sum_by-cons}
 use Rattle.std.proofs.lemmas.List.{set-get_or}
-use Rattle.sctp_list_lemmas.specs.Lists.{inserted, change_where, those}
+use Rattle.sctp_list_lemmas.specs.Lists.{insert_before, change_where}
 
 module _ {X : Type 0} (p : X → Bool) where
   -- in std's words
-  pub those-filter : (xs : List X) → those p xs ≡ filter p xs
+  pub those-filter : (xs : List X) → filter p xs ≡ filter p xs
   those-filter [] = refl
   those-filter (x ∷ xs) = ap (λ ys. cond (p x) (x ∷ ys) ys) (those-filter xs)
 
@@ -23,7 +23,7 @@ module _ {X : Type 0} (p : X → Bool) where
   length-change_where f [] = refl
   length-change_where f (x ∷ xs) = ap suc (length-change_where f xs)
 
-  pub those-append : (xs ys : List X) → those p (xs ++ ys) ≡ those p xs ++ those p ys
+  pub those-append : (xs ys : List X) → filter p (xs ++ ys) ≡ filter p xs ++ filter p ys
   those-append [] ys = refl
   those-append (x ∷ xs) ys = put_before x _ _ _ (p x) (those-append xs ys)
     where
@@ -41,7 +41,7 @@ module _ {X : Type 0} (p : X → Bool) where
   change_where-none f (x ∷ xs) h = rw (All-head (λ y. p y ≡ false) x xs h) (ap (λ ys. x ∷ ys) (change_where-none f xs (All-tail (λ y. p y ≡ false) x xs h)))
 
   -- where none passes, all that fail is all
-  pub those-none : (xs : List X) → All (λ x. p x ≡ false) xs → those (λ x. not (p x)) xs ≡ xs
+  pub those-none : (xs : List X) → All (λ x. p x ≡ false) xs → filter (λ x. not (p x)) xs ≡ xs
   those-none [] h = refl
   those-none (x ∷ xs) h = rw (All-head (λ y. p y ≡ false) x xs h) (ap (λ ys. x ∷ ys) (those-none xs (All-tail (λ y. p y ≡ false) x xs h)))
 
@@ -49,7 +49,7 @@ module _ {X : Type 0} (p : X → Bool) where
   find-none [] h = refl
   find-none (x ∷ xs) h = rw (All-head (λ y. p y ≡ false) x xs h) (find-none xs (All-tail (λ y. p y ≡ false) x xs h))
 
-  pub All-those : (Q : X → Type 0) (xs : List X) → All Q xs → All Q (those p xs)
+  pub All-those : (Q : X → Type 0) (xs : List X) → All Q xs → All Q (filter p xs)
   All-those Q xs h = subst (All Q) (sym (those-filter xs)) (All-filter p Q xs h)
 
   -- the one place that passes
@@ -69,7 +69,7 @@ module _ {X : Type 0} (p : X → Bool) where
   rest_fails x xs o k d lt = o.elsewhere (suc k) d (omega arith) (λ e. omega arith)
 
   -- without it the list is that without the place
-  pub those-only : (xs : List X) (i : ℕ) → OnlyAt xs i → those (λ x. not (p x)) xs ≡ remove xs i
+  pub those-only : (xs : List X) (i : ℕ) → OnlyAt xs i → filter (λ x. not (p x)) xs ≡ remove xs i
   those-only [] i o = absurd (omega (arith, o.in_range))
   those-only (x ∷ xs) zero o = rw (o.here x) (those-none xs (rest_fails x xs o))
   those-only (x ∷ xs) (suc i) o = rw (o.elsewhere 0 x (omega arith) (λ e. omega arith)) (ap (λ ys. x ∷ ys) (those-only xs i (only_tail x xs i o)))
@@ -81,15 +81,15 @@ module _ {X : Type 0} (p : X → Bool) where
   change_where-only f (x ∷ xs) (suc i) d o = rw (o.elsewhere 0 x (omega arith) (λ e. omega arith)) (ap (λ ys. x ∷ ys) (change_where-only f xs i d (only_tail x xs i o)))
 
   -- those that pass and those that do not are all
-  pub sum_by-those_both : (f : X → ℕ) (xs : List X) → sum_by f (those (λ x. not (p x)) xs) + sum_by f (those p xs) ≡ sum_by f xs
+  pub sum_by-those_both : (f : X → ℕ) (xs : List X) → sum_by f (filter (λ x. not (p x)) xs) + sum_by f (filter p xs) ≡ sum_by f xs
   sum_by-those_both f xs = let both = sum_by-filter_both p (λ x. not (p x)) (λ _. refl) f xs in rw (those-filter xs, not_those xs) (omega arith)
     where
-      not_those : (xs : List X) → those (λ x. not (p x)) xs ≡ filter (λ x. not (p x)) xs
+      not_those : (xs : List X) → filter (λ x. not (p x)) xs ≡ filter (λ x. not (p x)) xs
       not_those [] = refl
       not_those (x ∷ xs) = ap (λ ys. cond (not (p x)) (x ∷ ys) ys) (not_those xs)
 
 -- the place before the first element that x comes before
-pub inserted-at : {X : Type 0} (before : X → X → Bool) (x : X) (xs : List X) (i : ℕ) → i ≤ length xs → ((k : ℕ) (d : X) → k < i → before x (get_or xs k d) ≡ false) → ((d : X) → i < length xs → before x (get_or xs i d) ≡ true) → inserted before x xs ≡ insert xs i x
+pub inserted-at : {X : Type 0} (before : X → X → Bool) (x : X) (xs : List X) (i : ℕ) → i ≤ length xs → ((k : ℕ) (d : X) → k < i → before x (get_or xs k d) ≡ false) → ((d : X) → i < length xs → before x (get_or xs i d) ≡ true) → insert_before before x xs ≡ insert xs i x
 inserted-at before x [] zero le low high = refl
 inserted-at before x [] (suc i) le low high = absurd (omega arith)
 inserted-at before x (e ∷ es) zero le low high = rw (high e (omega arith)) refl
@@ -127,15 +127,15 @@ module _ {X : Type 0} (R : X → X → Type 0) where
       ]
 
 -- one place of a loop that removes what does not pass
-pub removed_step : {X : Type 0} (p : X → Bool) (xs : List X) (i : ℕ) (x : X) → i < length xs → x ≡ get_or xs i x → p x ≡ false → take i (remove xs i) ++ those p (drop i (remove xs i)) ≡ take i xs ++ those p (drop i xs)
+pub removed_step : {X : Type 0} (p : X → Bool) (xs : List X) (i : ℕ) (x : X) → i < length xs → x ≡ get_or xs i x → p x ≡ false → take i (remove xs i) ++ filter p (drop i (remove xs i)) ≡ take i xs ++ filter p (drop i xs)
 removed_step p [] i x lt e h = absurd (omega arith)
 removed_step p (y ∷ xs) zero x lt e h = rw (subst (λ u. p u ≡ false) e h) refl
 removed_step p (y ∷ xs) (suc i) x lt e h = ap (λ ys. y ∷ ys) (removed_step p xs i x (omega arith) e h)
 
 -- the one that is removed is the next that passes
-pub removed_next : {X : Type 0} (p : X → Bool) (xs : List X) (i : ℕ) (x : X) → i < length xs → x ≡ get_or xs i x → p x ≡ true → those p (drop i xs) ≡ x ∷ those p (drop i (remove xs i))
+pub removed_next : {X : Type 0} (p : X → Bool) (xs : List X) (i : ℕ) (x : X) → i < length xs → x ≡ get_or xs i x → p x ≡ true → filter p (drop i xs) ≡ x ∷ filter p (drop i (remove xs i))
 removed_next p [] i x lt e h = absurd (omega arith)
-removed_next p (y ∷ xs) zero x lt e h = rw (subst (λ u. p u ≡ true) e h) (ap (λ u. u ∷ those p xs) (sym e))
+removed_next p (y ∷ xs) zero x lt e h = rw (subst (λ u. p u ≡ true) e h) (ap (λ u. u ∷ filter p xs) (sym e))
 removed_next p (y ∷ xs) (suc i) x lt e h = removed_next p xs i x (omega arith) e h
 
 -- a step of a loop that gathers what passes
@@ -144,12 +144,12 @@ module _ {X : Type 0} (p : X → Bool) where
   put_before x u v w true e = ap (λ ys. x ∷ ys) e
   put_before x u v w false e = e
 
-  those-suc : (xs : List X) (i : ℕ) (d : X) → i < length xs → those p (take (suc i) xs) ≡ those p (take i xs) ++ (if p (get_or xs i d) then get_or xs i d ∷ [] else [])
+  those-suc : (xs : List X) (i : ℕ) (d : X) → i < length xs → filter p (take (suc i) xs) ≡ filter p (take i xs) ++ (if p (get_or xs i d) then get_or xs i d ∷ [] else [])
   those-suc [] i d lt = absurd (omega arith)
   those-suc (x ∷ xs) zero d lt = refl
   those-suc (x ∷ xs) (suc i) d lt = put_before x _ _ _ (p x) (those-suc xs i d (omega arith))
 
-  pub those-more : (xs : List X) (i : ℕ) (d : X) → i < length xs → those p (take (i + 1) xs) ≡ those p (take i xs) ++ (if p (get_or xs i d) then get_or xs i d ∷ [] else [])
+  pub those-more : (xs : List X) (i : ℕ) (d : X) → i < length xs → filter p (take (i + 1) xs) ≡ filter p (take i xs) ++ (if p (get_or xs i d) then get_or xs i d ∷ [] else [])
   those-more xs i d lt = rw add-one (those-suc xs i d lt)
 
 or_swap : (a b c : Bool) → (a || (b || c)) ≡ (b || (a || c))
@@ -158,7 +158,7 @@ or_swap true false c = refl
 or_swap false true c = refl
 or_swap false false c = refl
 
-or_assoc : (a b c : Bool) → ((a || b) || c) ≡ (a || (b || c))
+pub or_assoc : (a b c : Bool) → ((a || b) || c) ≡ (a || (b || c))
 or_assoc true b c = refl
 or_assoc false b c = refl
 
@@ -166,28 +166,28 @@ pub list_any-append : {X : Type 0} (p : X → Bool) (xs ys : List X) → list_an
 list_any-append p [] ys = refl
 list_any-append p (x ∷ xs) ys = ap (λ b. p x || b) (list_any-append p xs ys) ∙ sym (or_assoc (p x) (list_any p xs) (list_any p ys))
 
-pub list_any-inserted : {X : Type 0} (p : X → Bool) (before : X → X → Bool) (x : X) (xs : List X) → list_any p (inserted before x xs) ≡ (p x || list_any p xs)
+pub list_any-inserted : {X : Type 0} (p : X → Bool) (before : X → X → Bool) (x : X) (xs : List X) → list_any p (insert_before before x xs) ≡ (p x || list_any p xs)
 list_any-inserted p before x [] = refl
-list_any-inserted p before x (e ∷ es) = elim (before x e) as (λ b. list_any p (if b then x ∷ e ∷ es else e ∷ inserted before x es) ≡ (p x || (p e || list_any p es))) [
+list_any-inserted p before x (e ∷ es) = elim (before x e) as (λ b. list_any p (if b then x ∷ e ∷ es else e ∷ insert_before before x es) ≡ (p x || (p e || list_any p es))) [
   | true ↦ refl
   | false ↦ ap (λ b. p e || b) (list_any-inserted p before x es) ∙ or_swap (p e) (p x) (list_any p es)
 ]
 
 -- what passes a test among those stands among all
-pub list_any-those : {X : Type 0} (p q : X → Bool) (xs : List X) → list_any p (those q xs) ≡ true → list_any p xs ≡ true
+pub list_any-those : {X : Type 0} (p q : X → Bool) (xs : List X) → list_any p (filter q xs) ≡ true → list_any p xs ≡ true
 list_any-those p q [] h = h
 list_any-those p q (x ∷ xs) h = step (p x) (q x) refl h (list_any-those p q xs)
   where
-    step : (c b : Bool) → p x ≡ c → list_any p (if b then x ∷ those q xs else those q xs) ≡ true → (list_any p (those q xs) ≡ true → list_any p xs ≡ true) → (c || list_any p xs) ≡ true
+    step : (c b : Bool) → p x ≡ c → list_any p (if b then x ∷ filter q xs else filter q xs) ≡ true → (list_any p (filter q xs) ≡ true → list_any p xs ≡ true) → (c || list_any p xs) ≡ true
     step true b e h ih = refl
     step false true e h ih = ih (rw e at h)
     step false false e h ih = ih h
 
-pub sum_by-inserted : {X : Type 0} (f : X → ℕ) (before : X → X → Bool) (x : X) (xs : List X) → sum_by f (inserted before x xs) ≡ f x + sum_by f xs
+pub sum_by-inserted : {X : Type 0} (f : X → ℕ) (before : X → X → Bool) (x : X) (xs : List X) → sum_by f (insert_before before x xs) ≡ f x + sum_by f xs
 sum_by-inserted f before x [] = sum_by-cons f x []
-sum_by-inserted f before x (e ∷ es) = elim (before x e) as (λ b. sum_by f (if b then x ∷ e ∷ es else e ∷ inserted before x es) ≡ f x + sum_by f (e ∷ es)) [
+sum_by-inserted f before x (e ∷ es) = elim (before x e) as (λ b. sum_by f (if b then x ∷ e ∷ es else e ∷ insert_before before x es) ≡ f x + sum_by f (e ∷ es)) [
   | true ↦ sum_by-cons f x (e ∷ es)
-  | false ↦ let rest = sum_by-inserted f before x es in let new = sum_by-cons f e (inserted before x es) in let old = sum_by-cons f e es in omega arith
+  | false ↦ let rest = sum_by-inserted f before x es in let new = sum_by-cons f e (insert_before before x es) in let old = sum_by-cons f e es in omega arith
 ]
 
 -- a write that makes the test pass where q holds too

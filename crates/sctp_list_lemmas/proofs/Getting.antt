@@ -2,7 +2,7 @@
 use Rattle.std.proofs.Common.{◌≡◌, ℕ, zero, suc, ◌+◌, ◌<◌, ◌≤◌, List, [], ◌∷◌, ◌++◌, length, map, get_or, Some, refl, ap, sym, ◌∙◌, inl, inr, arith}
 use Rattle.std.specs.Prelude.{◌⊎◌, if◌then◌else◌, ◌==◌, slice_get}
 use Rattle.std.proofs.lemmas.Bool.{cases_lt}
-use Rattle.sctp_list_lemmas.specs.Lists.{changed, each_numbered}
+use Rattle.sctp_list_lemmas.specs.Lists.{change_at, each_numbered}
 use Rattle.sctp_list_lemmas.proofs.More.{length-changed, changed-same, changed-other}
 use Rattle.sctp_list_lemmas.proofs.Cases.{by_same, same-yes}
 
@@ -28,19 +28,23 @@ get-snoc {A} {B} g xs y k d = by_same {P = g (get_or (xs ++ y ∷ []) k d) ≡ (
     (λ ne f. ap g (get-snoc_old xs y k d ne) ∙ sym (ap (λ b. if b then g y else g (get_or xs k d)) f))
 
 -- a changed element, seen by a function, where the change leaves what stands past the end
-pub get-changed : {A B : Type 0} (f : A → A) (g : A → B) (n k : ℕ) (xs : List A) (d : A) → g (f d) ≡ g d → g (get_or (changed f n xs) k d) ≡ (if k == n then g (f (get_or xs k d)) else g (get_or xs k d))
-get-changed {A} {B} f g n k xs d fix = by_same {P = g (get_or (changed f n xs) k d) ≡ (if k == n then g (f (get_or xs k d)) else g (get_or xs k d))} k n
+pub get-changed : {A B : Type 0} (f : A → A) (g : A → B) (n k : ℕ) (xs : List A) (d : A) → g (f d) ≡ g d → g (get_or (change_at f n xs) k d) ≡ (if k == n then g (f (get_or xs k d)) else g (get_or xs k d))
+get-changed {A} {B} f g n k xs d fix = by_same {P = g (get_or (change_at f n xs) k d) ≡ (if k == n then g (f (get_or xs k d)) else g (get_or xs k d))} k n
     (λ e. here e (cases_lt n (length xs)) ∙ sym (ap (λ b. if b then g (f (get_or xs k d)) else g (get_or xs k d)) (ap (λ j. k == j) (sym e) ∙ same-yes k)))
     (λ ne t. ap g (changed-other f n k xs d ne) ∙ sym (ap (λ b. if b then g (f (get_or xs k d)) else g (get_or xs k d)) t))
   where
-    here : k ≡ n → (n < length xs) ⊎ (length xs ≤ n) → g (get_or (changed f n xs) k d) ≡ g (f (get_or xs k d))
-    here e (inl l) = ap (λ j. g (get_or (changed f n xs) j d)) e ∙ ap g (changed-same f n xs d l) ∙ ap (λ j. g (f (get_or xs j d))) (sym e)
-    here e (inr o) = ap g (get-beyond (changed f n xs) k d (omega (arith, length-changed f n xs))) ∙ sym fix ∙ ap (λ y. g (f y)) (sym (get-beyond xs k d (omega arith)))
+    here : k ≡ n → (n < length xs) ⊎ (length xs ≤ n) → g (get_or (change_at f n xs) k d) ≡ g (f (get_or xs k d))
+    here e (inl l) = ap (λ j. g (get_or (change_at f n xs) j d)) e ∙ ap g (changed-same f n xs d l) ∙ ap (λ j. g (f (get_or xs j d))) (sym e)
+    here e (inr o) = ap g (get-beyond (change_at f n xs) k d (omega (arith, length-changed f n xs))) ∙ sym fix ∙ ap (λ y. g (f y)) (sym (get-beyond xs k d (omega arith)))
 
 pub get-map : {A B : Type 0} (f : A → A) (g : A → B) → ((x : A) → g (f x) ≡ g x) → (k : ℕ) (xs : List A) (d : A) → g (get_or (map f xs) k d) ≡ g (get_or xs k d)
 get-map f g keeps k [] d = refl
 get-map f g keeps zero (x ∷ xs) d = keeps x
 get-map f g keeps (suc k) (x ∷ xs) d = get-map f g keeps k xs d
+
+pub map-twice : {A B C : Type 0} (f : B → C) (g : A → B) (xs : List A) → map f (map g xs) ≡ map (λ x. f (g x)) xs
+map-twice f g [] = refl
+map-twice f g (x ∷ xs) = ap (λ l. f (g x) ∷ l) (map-twice f g xs)
 
 pub length-mapped : {A B : Type 0} (f : A → B) (xs : List A) → length (map f xs) ≡ length xs
 length-mapped f [] = refl

@@ -1,7 +1,7 @@
 -- The kept numbers as a line with places.
 use Rattle.std.proofs.Common.{◌≡◌, ℕ, zero, suc, ◌+◌, ◌<◌, ◌≤◌, Bool, true, false, List, [], ◌∷◌, ◌++◌, length, take, drop, refl, ap, sym, arith, add-zero}
 use Rattle.std.specs.Prelude.{if◌then◌else◌}
-use Rattle.sctp_list_lemmas.specs.Kept.{kept, leading}
+use Rattle.sctp_list_lemmas.specs.Kept.{numbers_where, leading}
 
 -- the number n is the one at this place of the kept ones
 pub record IsAt (p : ℕ → Bool) (from count n place : ℕ) : Type 0 where
@@ -9,17 +9,17 @@ pub record IsAt (p : ℕ → Bool) (from count n place : ℕ) : Type 0 where
   pub is : n ≡ from + k
   pub low : k < count
   pub passes : p n ≡ true
-  pub place_is : length (kept p from k) ≡ place
+  pub place_is : length (numbers_where p from k) ≡ place
 
-pub kept-at : (p : ℕ → Bool) (from count : ℕ) (xs : List ℕ) (n : ℕ) (ys : List ℕ) → kept p from count ≡ xs ++ n ∷ ys → IsAt p from count n (length xs)
+pub kept-at : (p : ℕ → Bool) (from count : ℕ) (xs : List ℕ) (n : ℕ) (ys : List ℕ) → numbers_where p from count ≡ xs ++ n ∷ ys → IsAt p from count n (length xs)
 kept-at p from zero [] n ys e = cc
 kept-at p from zero (x ∷ xs) n ys e = cc
 kept-at p from (suc count) xs n ys e = step (p from) refl xs e (λ zs h. kept-at p (from + 1) count zs n ys h)
   where
-    step : (b : Bool) → p from ≡ b → (xs : List ℕ) → (if b then from ∷ kept p (from + 1) count else kept p (from + 1) count) ≡ xs ++ n ∷ ys → ((zs : List ℕ) → kept p (from + 1) count ≡ zs ++ n ∷ ys → IsAt p (from + 1) count n (length zs)) → IsAt p from (suc count) n (length xs)
+    step : (b : Bool) → p from ≡ b → (xs : List ℕ) → (if b then from ∷ numbers_where p (from + 1) count else numbers_where p (from + 1) count) ≡ xs ++ n ∷ ys → ((zs : List ℕ) → numbers_where p (from + 1) count ≡ zs ++ n ∷ ys → IsAt p (from + 1) count n (length zs)) → IsAt p from (suc count) n (length xs)
     step true pf [] e ih = let same : from ≡ n = cc in record { k = 0; is = rw (add-zero) (sym same); low = omega arith; passes = rw (← same) pf; place_is = refl }
     step true pf (x ∷ xs) e ih =
-        let rest : kept p (from + 1) count ≡ xs ++ n ∷ ys = cc in
+        let rest : numbers_where p (from + 1) count ≡ xs ++ n ∷ ys = cc in
         let r = ih xs rest in
         record { k = suc r.k; is = omega (arith, r.is); low = omega (arith, r.low); passes = r.passes; place_is = rw pf (ap suc r.place_is) }
     step false pf xs e ih =

@@ -1,6 +1,6 @@
 -- The lengths of pieces.
 use Rattle.std.proofs.Common.{◌≡◌, ℕ, zero, suc, ◌+◌, ◌<◌, ◌≤◌, List, [], ◌∷◌, length, get_or, take, drop, refl, ap, arith, add-one, length-append}
-use Rattle.sctp_list_lemmas.specs.Kept.{kept, always, total_over}
+use Rattle.sctp_list_lemmas.specs.Kept.{numbers_where, always, total_over}
 use Rattle.sctp_list_lemmas.specs.Lists.{pieces}
 use Rattle.sctp_list_lemmas.proofs.Lines.{take-drop}
 use Rattle.sctp_list_lemmas.proofs.Totals.{total-kept_same}
@@ -28,7 +28,7 @@ lengths-pieces (suc most) (suc size) (x ∷ xs) s le =
     shorter (suc i) [] most le = le
     shorter (suc i) (y ∷ ys) most le = shorter i ys most (omega arith)
 
-pub total-lengths : (xs : List (List ℕ)) → total_over (λ i. length (get_or xs i [])) (kept always 0 (length xs)) ≡ lengths xs
+pub total-lengths : (xs : List (List ℕ)) → total_over (λ i. length (get_or xs i [])) (numbers_where always 0 (length xs)) ≡ lengths xs
 total-lengths [] = refl
 total-lengths (x ∷ xs) =
     let shift = total-shift (λ i. length (get_or (x ∷ xs) i [])) 0 (length xs) in

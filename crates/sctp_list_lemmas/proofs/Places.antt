@@ -2,7 +2,7 @@
 use Rattle.std.proofs.Common.{◌≡◌, ℕ, zero, suc, ◌+◌, ◌-◌, ◌<◌, ◌≤◌, Bool, true, false, List, [], ◌∷◌, length, drop, get_or, refl, ap, sym, ◌∙◌, arith}
 use Rattle.std.specs.Prelude.{if◌then◌else◌}
 use Rattle.std.proofs.lemmas.List.{get_or-drop}
-use Rattle.sctp_list_lemmas.specs.Kept.{kept, leading}
+use Rattle.sctp_list_lemmas.specs.Kept.{numbers_where, leading}
 use Rattle.sctp_list_lemmas.proofs.Lines.{IsAt}
 
 pub leading-passes : (r : ℕ → Bool) (xs : List ℕ) (j d : ℕ) → j < length (leading r xs) → r (get_or xs j d) ≡ true
@@ -48,20 +48,20 @@ length-dropped zero (x ∷ xs) = omega arith
 length-dropped (suc i) [] = omega arith
 length-dropped (suc i) (x ∷ xs) = omega (arith, length-dropped i xs)
 
-pub kept-get : (p : ℕ → Bool) (from count j k d : ℕ) → k ≡ from + j → j < count → p k ≡ true → get_or (kept p from count) (length (kept p from j)) d ≡ k
+pub kept-get : (p : ℕ → Bool) (from count j k d : ℕ) → k ≡ from + j → j < count → p k ≡ true → get_or (numbers_where p from count) (length (numbers_where p from j)) d ≡ k
 kept-get p from zero j k d e lt pass = absurd (omega arith)
 kept-get p from (suc count) zero k d e lt pass = let h : p from ≡ true = (let z : from ≡ k = omega arith in rw z pass) in rw h (omega arith)
 kept-get p from (suc count) (suc j) k d e lt pass = step (p from) (kept-get p (from + 1) count j k d (omega arith) (omega arith) pass)
   where
-    step : (b : Bool) → get_or (kept p (from + 1) count) (length (kept p (from + 1) j)) d ≡ k → get_or (if b then from ∷ kept p (from + 1) count else kept p (from + 1) count) (length (if b then from ∷ kept p (from + 1) j else kept p (from + 1) j)) d ≡ k
+    step : (b : Bool) → get_or (numbers_where p (from + 1) count) (length (numbers_where p (from + 1) j)) d ≡ k → get_or (if b then from ∷ numbers_where p (from + 1) count else numbers_where p (from + 1) count) (length (if b then from ∷ numbers_where p (from + 1) j else numbers_where p (from + 1) j)) d ≡ k
     step true ih = ih
     step false ih = ih
 
-pub kept-place : (p : ℕ → Bool) (from count j d : ℕ) → j < length (kept p from count) → IsAt p from count (get_or (kept p from count) j d) j
+pub kept-place : (p : ℕ → Bool) (from count j d : ℕ) → j < length (numbers_where p from count) → IsAt p from count (get_or (numbers_where p from count) j d) j
 kept-place p from zero j d lt = absurd (omega arith)
 kept-place p from (suc count) j d lt = step (p from) refl j lt (λ i l. kept-place p (from + 1) count i d l)
   where
-    step : (b : Bool) → p from ≡ b → (j : ℕ) → j < length (if b then from ∷ kept p (from + 1) count else kept p (from + 1) count) → ((i : ℕ) → i < length (kept p (from + 1) count) → IsAt p (from + 1) count (get_or (kept p (from + 1) count) i d) i) → IsAt p from (suc count) (get_or (if b then from ∷ kept p (from + 1) count else kept p (from + 1) count) j d) j
+    step : (b : Bool) → p from ≡ b → (j : ℕ) → j < length (if b then from ∷ numbers_where p (from + 1) count else numbers_where p (from + 1) count) → ((i : ℕ) → i < length (numbers_where p (from + 1) count) → IsAt p (from + 1) count (get_or (numbers_where p (from + 1) count) i d) i) → IsAt p from (suc count) (get_or (if b then from ∷ numbers_where p (from + 1) count else numbers_where p (from + 1) count) j d) j
     step true e zero lt ih = record { k = 0; is = omega arith; low = omega arith; passes = e; place_is = refl }
     step true e (suc j) lt ih =
         let r = ih j (omega arith) in

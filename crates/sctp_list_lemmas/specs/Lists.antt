@@ -2,15 +2,15 @@
 use Rattle.std.specs.Prelude.{ℕ, zero, suc, ◌+◌, ◌%◌, ◌^◌, Bool, ◌==◌, if◌then◌else◌, List, [], ◌∷◌, take, drop}
 
 -- x before the first element that it comes before, else at the end
-abbrev pub inserted : {A : Type 0} → (A → A → Bool) → A → List A → List A
-inserted before x [] = x ∷ []
-inserted before x (e ∷ es) = if before x e then x ∷ e ∷ es else e ∷ inserted before x es
+abbrev pub insert_before : {A : Type 0} → (A → A → Bool) → A → List A → List A
+insert_before before x [] = x ∷ []
+insert_before before x (e ∷ es) = if before x e then x ∷ e ∷ es else e ∷ insert_before before x es
 
 -- the list with the element at a place replaced by what f makes of it
-abbrev pub changed : {A : Type 0} → (A → A) → ℕ → List A → List A
-changed f i [] = []
-changed f zero (x ∷ xs) = f x ∷ xs
-changed f (suc i) (x ∷ xs) = x ∷ changed f i xs
+abbrev pub change_at : {A : Type 0} → (A → A) → ℕ → List A → List A
+change_at f i [] = []
+change_at f zero (x ∷ xs) = f x ∷ xs
+change_at f (suc i) (x ∷ xs) = x ∷ change_at f i xs
 
 -- what f makes of each element and its number, counted from here
 abbrev pub each_numbered : {A : Type 0} → (ℕ → A → A) → ℕ → List A → List A
@@ -29,10 +29,10 @@ pub record Seen : Type 0 where
   pub held : List ℕ
 
 -- the cumulative TSN moves over those held next to it
-abbrev pub advanced : ℕ → List ℕ → Seen
-advanced c [] = record { cum = c; held = [] }
-advanced c (t ∷ ts) =
-    if t == (c + 1) % 2 ^ 32 then advanced t ts else record { cum = c; held = t ∷ ts }
+abbrev pub advance_over : ℕ → List ℕ → Seen
+advance_over c [] = record { cum = c; held = [] }
+advance_over c (t ∷ ts) =
+    if t == (c + 1) % 2 ^ 32 then advance_over t ts else record { cum = c; held = t ∷ ts }
 
 -- the first element that passes, changed
 abbrev pub change_first : {A : Type 0} → (A → Bool) → (A → A) → List A → List A
@@ -43,11 +43,6 @@ change_first p f (x ∷ xs) = if p x then f x ∷ xs else x ∷ change_first p f
 abbrev pub change_where : {A : Type 0} → (A → Bool) → (A → A) → List A → List A
 change_where p f [] = []
 change_where p f (x ∷ xs) = (if p x then f x else x) ∷ change_where p f xs
-
--- the elements that pass
-abbrev pub those : {A : Type 0} → (A → Bool) → List A → List A
-those p [] = []
-those p (x ∷ xs) = if p x then x ∷ those p xs else those p xs
 
 -- the list from its first element on that does not pass
 abbrev pub after_leading : {A : Type 0} → (A → Bool) → List A → List A

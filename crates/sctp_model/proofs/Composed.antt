@@ -1,22 +1,22 @@
 -- Without loss what is read in the end is settled by what was written and by what of it arrived.
 use Rattle.std.proofs.Common.{◌≡◌, ℕ, zero, suc, ◌+◌, ◌-◌, ◌<◌, ◌≤◌, Bool, true, false, List, [], ◌∷◌, ◌++◌, length, map, get_or, take, drop, refl, ap, sym, ◌∙◌, inl, inr, arith}
 use Rattle.std.specs.Prelude.{◌⊎◌, if◌then◌else◌, ◌==◌, ◌&&◌, ◌||◌, not, nat_lt}
-use Rattle.std.specs.List.{list_any, list_all}
+use Rattle.std.specs.List.{list_any, list_all, filter}
 use Rattle.std.proofs.Math.Nat.{eq-or-lt_of_le}
 use Rattle.std.proofs.lemmas.Bool.{cases_lt}
 use Rattle.std.proofs.lemmas.Bool.Decides.{nat_tests}
-use Rattle.sctp_list_lemmas.specs.Kept.{kept, always, numbers_from, leading, passing}
+use Rattle.sctp_list_lemmas.specs.Kept.{numbers_where, always, numbers_from, leading}
 use Rattle.sctp_list_lemmas.specs.Lists.{pieces}
 use Rattle.sctp_list_lemmas.proofs.Passing.{kept-same, kept-none, map-kept-same, length-kept-lt}
 use Rattle.sctp_list_lemmas.proofs.More.{fails, not_both, both, and, same_test}
-use Rattle.sctp_model.specs.World.{Setup, World}
+use Rattle.sctp_model.specs.LinkRecord.{Setup, LinkRecord}
 use Rattle.sctp_model.specs.Messages
 use Rattle.sctp_model.specs.Log
-use Rattle.sctp_model.specs.Log.{LogEntry, SlotReceived, SkipReceived, SackMade, arrived_new, is_skipped, were_whole, is_whole_by, run_by, whole_by, named_by, log_of, Shown, Mode, written_on, writes_on, writes_in, modes_in}
-use Rattle.sctp_model.specs.Steps.{History, world_of, reply_to, IsRun}
+use Rattle.sctp_model.specs.Log.{LogEntry, SlotReceived, SkipReceived, SackMade, arrived_new, is_skipped, were_complete, is_complete_by, run_by, complete_by, named_by, log_of, Shown, Mode, written_on, writes_on, writes_in, modes_in}
+use Rattle.sctp_model.specs.Steps.{History, record_of, reply_to, IsRun}
 use Rattle.sctp_model.specs.declared.event.Event.TheVariants as E
 use Rattle.sctp_model.specs.Reply as R
-use Rattle.sctp_model.specs.Laws.{OnEveryRun, IsSetup, IsReadWholly, ReadsAreSettled, ReadsByArrivals, NoneIsLost, messages_on, fragment_arrived, arrived_wholly, arrivals_on, is_passed_over, was_lost, has_loss_on, has_expired, loses_nothing, ordered_run, unordered_wholes, ordered_shown, unordered_shown, ordered_reads, unordered_reads, is_ordered, mode_of, shown_of}
+use Rattle.sctp_model.specs.Laws.{OnEveryRun, IsSetup, IsReadWholly, ReadsAreSettled, ReadsByArrivals, NoneIsLost, messages_on, fragment_arrived, arrived_wholly, arrivals_on, is_passed_over, was_lost, has_loss_on, has_expired, loses_nothing, ordered_run, complete_unordered, ordered_shown, unordered_shown, ordered_reads, unordered_reads, is_ordered, mode_of, shown_of}
 use Rattle.sctp_model.proofs.sender.Shape.{Shape, shape, has, sent}
 use Rattle.sctp_model.proofs.sender.Sender.{Sender}
 use Rattle.sctp_model.proofs.sender.SenderSteps.{of-has}
@@ -39,30 +39,30 @@ arrived-more (SlotReceived q) log p e = or-left (arrived_new log p) ((q == p) &&
 arrived-more (SkipReceived upto names) log p e = e
 arrived-more SackMade log p e = e
 
-were-arrived : (places : List ℕ) (log : List LogEntry) → were_whole places log ≡ true → list_all (arrived_new log) places ≡ true
+were-arrived : (places : List ℕ) (log : List LogEntry) → were_complete places log ≡ true → list_all (arrived_new log) places ≡ true
 were-arrived places [] e = cc
-were-arrived places (c ∷ log) e = side (or-split (were_whole places log) (list_all (λ p. arrived_new (c ∷ log) p && not (is_skipped (c ∷ log) p)) places) e) (λ h. were-arrived places log h)
+were-arrived places (c ∷ log) e = side (or-split (were_complete places log) (list_all (λ p. arrived_new (c ∷ log) p && not (is_skipped (c ∷ log) p)) places) e) (λ h. were-arrived places log h)
   where
-    side : (were_whole places log ≡ true) ⊎ (list_all (λ p. arrived_new (c ∷ log) p && not (is_skipped (c ∷ log) p)) places ≡ true) → (were_whole places log ≡ true → list_all (arrived_new log) places ≡ true) → list_all (arrived_new (c ∷ log)) places ≡ true
+    side : (were_complete places log ≡ true) ⊎ (list_all (λ p. arrived_new (c ∷ log) p && not (is_skipped (c ∷ log) p)) places ≡ true) → (were_complete places log ≡ true → list_all (arrived_new log) places ≡ true) → list_all (arrived_new (c ∷ log)) places ≡ true
     side (inl h) ih = all-more (arrived_new log) (arrived_new (c ∷ log)) places (λ p. arrived-more c log p) (ih h)
     side (inr h) ih = all-more (λ p. arrived_new (c ∷ log) p && not (is_skipped (c ∷ log) p)) (arrived_new (c ∷ log)) places (λ p g. (both (arrived_new (c ∷ log) p) (not (is_skipped (c ∷ log) p)) g).0) h
 
-arrived-were : (places : List ℕ) (log : List LogEntry) → list_any is_skip log ≡ false → 0 < length places → list_all (arrived_new log) places ≡ true → were_whole places log ≡ true
+arrived-were : (places : List ℕ) (log : List LogEntry) → list_any is_skip log ≡ false → 0 < length places → list_all (arrived_new log) places ≡ true → were_complete places log ≡ true
 arrived-were [] log n some e = absurd (omega arith)
 arrived-were (p ∷ ps) [] n some e = cc
 arrived-were (p ∷ ps) (c ∷ log) n some e =
-    or-right (were_whole (p ∷ ps) log) (list_all (λ q. arrived_new (c ∷ log) q && not (is_skipped (c ∷ log) q)) (p ∷ ps))
+    or-right (were_complete (p ∷ ps) log) (list_all (λ q. arrived_new (c ∷ log) q && not (is_skipped (c ∷ log) q)) (p ∷ ps))
     (all-more (arrived_new (c ∷ log)) (λ q. arrived_new (c ∷ log) q && not (is_skipped (c ∷ log) q)) (p ∷ ps) (λ q h. and (arrived_new (c ∷ log) q) (not (is_skipped (c ∷ log) q)) h (ap not (none-skipped (c ∷ log) q n))) e)
 
-module _ (w : World) (log : List LogEntry) (n : ℕ) (s : Sender (shape w)) (lt : n < length w.messages) where
+module _ (w : LinkRecord) (log : List LogEntry) (n : ℕ) (s : Sender (shape w)) (lt : n < length w.messages) where
   abbrev x : Shape
   x = shape w
 
   abbrev arrived_as : ℕ → ℕ → Bool
   arrived_as i p = has (shape w) n p && (((Messages.slot_at w p).fragment == i) && arrived_new log p)
 
-  number : (p : ℕ) → p < length w.slots → has x n p ≡ true → (Messages.slot_at w p).fragment ≡ length (kept (has x n) 0 p)
-  number p l h = s.number p l ∙ ap (λ m. length (kept (has x m) 0 p)) (of-has x n p h).0
+  number : (p : ℕ) → p < length w.slots → has x n p ≡ true → (Messages.slot_at w p).fragment ≡ length (numbers_where (has x n) 0 p)
+  number p l h = s.number p l ∙ ap (λ m. length (numbers_where (has x m) 0 p)) (of-has x n p h).0
 
   -- a fragment has one slot
   one-slot : (p q : ℕ) → p < length w.slots → q < length w.slots → has x n p ≡ true → has x n q ≡ true → (Messages.slot_at w p).fragment ≡ (Messages.slot_at w q).fragment → p ≡ q
@@ -82,18 +82,18 @@ module _ (w : World) (log : List LogEntry) (n : ℕ) (s : Sender (shape w)) (lt 
   slot-for i l =
       let f : ℕ → ℕ = λ p. (Messages.slot_at w p).fragment in
       let rows = numbered f (has x n) (length w.slots) number in
-      let there : list_any (λ k. k == i) (kept always 0 (sent x n)) ≡ true = any-in (λ k. k == i) always i 0 (sent x n) (omega arith) (omega arith) refl (same-yes i) in
-      let r = any-out (λ p. f p == i) (has x n) 0 (length w.slots) (sym (mapped f (kept (has x n) 0 (length w.slots))) ∙ ap (list_any (λ k. k == i)) rows ∙ there) in
+      let there : list_any (λ k. k == i) (numbers_where always 0 (sent x n)) ≡ true = any-in (λ k. k == i) always i 0 (sent x n) (omega arith) (omega arith) refl (same-yes i) in
+      let r = any-out (λ p. f p == i) (has x n) 0 (length w.slots) (sym (mapped f (numbers_where (has x n) 0 (length w.slots))) ∙ ap (list_any (λ k. k == i)) rows ∙ there) in
       (r.0, omega (arith, r.2), r.3, same-is (f r.0) i r.4)
     where
       mapped : (f : ℕ → ℕ) (ps : List ℕ) → list_any (λ k. k == i) (map f ps) ≡ list_any (λ p. f p == i) ps
       mapped f [] = refl
       mapped f (p ∷ ps) = ap (λ b. (f p == i) || b) (mapped f ps)
 
-  all-arrived : is_whole_by w log n ≡ true → list_all (arrived_new log) (Messages.slots_of w n) ≡ true
+  all-arrived : is_complete_by w log n ≡ true → list_all (arrived_new log) (Messages.slots_of w n) ≡ true
   all-arrived e = step (Messages.message_at w n).ordered (both (Messages.sent_of w n == Messages.fragment_count w n) _ e).1
     where
-      step : (b : Bool) → (if b then list_all (arrived_new log) (Messages.slots_of w n) else were_whole (Messages.slots_of w n) log) ≡ true → list_all (arrived_new log) (Messages.slots_of w n) ≡ true
+      step : (b : Bool) → (if b then list_all (arrived_new log) (Messages.slots_of w n) else were_complete (Messages.slots_of w n) log) ≡ true → list_all (arrived_new log) (Messages.slots_of w n) ≡ true
       step true h = h
       step false h = were-arrived (Messages.slots_of w n) log h
 
@@ -122,43 +122,43 @@ module _ (w : World) (log : List LogEntry) (n : ℕ) (s : Sender (shape w)) (lt 
       last zero l = absurd (omega arith)
       last (suc c) l = (c, omega arith)
 
-  whole-arrived : is_whole_by w log n ≡ true → arrived_wholly w log n ≡ true
-  whole-arrived e =
-      let count = same-is (Messages.sent_of w n) (Messages.fragment_count w n) (both (Messages.sent_of w n == Messages.fragment_count w n) (if (Messages.message_at w n).ordered then list_all (arrived_new log) (Messages.slots_of w n) else were_whole (Messages.slots_of w n) log) e).0 in
+  complete-arrived : is_complete_by w log n ≡ true → arrived_wholly w log n ≡ true
+  complete-arrived e =
+      let count = same-is (Messages.sent_of w n) (Messages.fragment_count w n) (both (Messages.sent_of w n == Messages.fragment_count w n) (if (Messages.message_at w n).ordered then list_all (arrived_new log) (Messages.slots_of w n) else were_complete (Messages.slots_of w n) log) e).0 in
       all-kept (fragment_arrived w log n) always 0 (Messages.fragment_count w n) (λ i a b f.
       let r = slot-for i (omega (arith, count)) in
       let came = all-out (arrived_new log) (has x n) r.0 0 (length w.slots) (all-arrived e) (omega arith) (omega (arith, r.1)) r.2 in
       any-in (arrived_as i) always r.0 0 (length w.slots) (omega arith) (omega (arith, r.1)) refl
       (and (has x n r.0) (((Messages.slot_at w r.0).fragment == i) && arrived_new log r.0) r.2 (and ((Messages.slot_at w r.0).fragment == i) (arrived_new log r.0) (ap (λ k. k == i) r.3 ∙ same-yes i) came)))
 
-  -- a message is whole exactly where it arrived wholly, an unordered one before a skip covered a fragment
-  pub whole-settled : ((Messages.message_at w n).ordered ≡ false → arrived_wholly w log n ≡ true → were_whole (Messages.slots_of w n) log ≡ true) → is_whole_by w log n ≡ arrived_wholly w log n
-  whole-settled early = same_test (is_whole_by w log n) (arrived_wholly w log n) whole-arrived (λ e.
+  -- a message is complete exactly where it arrived wholly, an unordered one before a skip covered a fragment
+  pub complete-settled : ((Messages.message_at w n).ordered ≡ false → arrived_wholly w log n ≡ true → were_complete (Messages.slots_of w n) log ≡ true) → is_complete_by w log n ≡ arrived_wholly w log n
+  complete-settled early = same_test (is_complete_by w log n) (arrived_wholly w log n) complete-arrived (λ e.
       let a = wholly-sent e in
-      and (Messages.sent_of w n == Messages.fragment_count w n) (if (Messages.message_at w n).ordered then list_all (arrived_new log) (Messages.slots_of w n) else were_whole (Messages.slots_of w n) log) (ap (λ c. c == Messages.fragment_count w n) a.0 ∙ same-yes (Messages.fragment_count w n))
+      and (Messages.sent_of w n == Messages.fragment_count w n) (if (Messages.message_at w n).ordered then list_all (arrived_new log) (Messages.slots_of w n) else were_complete (Messages.slots_of w n) log) (ap (λ c. c == Messages.fragment_count w n) a.0 ∙ same-yes (Messages.fragment_count w n))
       (kind (Messages.message_at w n).ordered refl a.1 e))
     where
-      kind : (b : Bool) → (Messages.message_at w n).ordered ≡ b → list_all (arrived_new log) (Messages.slots_of w n) ≡ true → arrived_wholly w log n ≡ true → (if b then list_all (arrived_new log) (Messages.slots_of w n) else were_whole (Messages.slots_of w n) log) ≡ true
+      kind : (b : Bool) → (Messages.message_at w n).ordered ≡ b → list_all (arrived_new log) (Messages.slots_of w n) ≡ true → arrived_wholly w log n ≡ true → (if b then list_all (arrived_new log) (Messages.slots_of w n) else were_complete (Messages.slots_of w n) log) ≡ true
       kind true o h e = h
       kind false o h e = early o e
 
-  -- without skips an unordered message is whole where it arrived wholly
-  pub early-enough : list_any is_skip log ≡ false → arrived_wholly w log n ≡ true → were_whole (Messages.slots_of w n) log ≡ true
+  -- without skips an unordered message is complete where it arrived wholly
+  pub early-enough : list_any is_skip log ≡ false → arrived_wholly w log n ≡ true → were_complete (Messages.slots_of w n) log ≡ true
   early-enough none e = let a = wholly-sent e in arrived-were (Messages.slots_of w n) log none (omega (arith, a.0, s.some n lt)) a.1
 
 -- ## What was lost
 
 -- none of a stream's messages was lost
-record Unlost (w : World) (log : List LogEntry) (s n : ℕ) : Type 0 where
+record Unlost (w : LinkRecord) (log : List LogEntry) (s n : ℕ) : Type 0 where
   unexpired : (Messages.message_at w n).ordered ≡ true → (Messages.message_at w n).expired ≡ false
   near : (Messages.message_at w n).ordered ≡ true → nat_lt (Messages.ordered_before w s n) (named_by w s log) ≡ true → arrived_wholly w log n ≡ true
-  early : (Messages.message_at w n).ordered ≡ false → arrived_wholly w log n ≡ true → were_whole (Messages.slots_of w n) log ≡ true
+  early : (Messages.message_at w n).ordered ≡ false → arrived_wholly w log n ≡ true → were_complete (Messages.slots_of w n) log ≡ true
 
-unlost-parts : (w : World) (log : List LogEntry) (s n : ℕ) → (Messages.message_at w n).stream ≡ s → was_lost w log n ≡ false → Unlost w log s n
+unlost-parts : (w : LinkRecord) (log : List LogEntry) (s n : ℕ) → (Messages.message_at w n).stream ≡ s → was_lost w log n ≡ false → Unlost w log s n
 unlost-parts w log s n at e = record {
-  unexpired = λ o. (ordered-parts (Messages.message_at w n).ordered (Messages.message_at w n).expired (is_passed_over w log n) (arrived_wholly w log n) (were_whole (Messages.slots_of w n) log) o e).0;
-  near = λ o l. (ordered-parts (Messages.message_at w n).ordered (Messages.message_at w n).expired (is_passed_over w log n) (arrived_wholly w log n) (were_whole (Messages.slots_of w n) log) o e).1 (ap (λ t. nat_lt (Messages.ordered_before w t n) (named_by w t log)) at ∙ l);
-  early = unordered-parts (Messages.message_at w n).ordered (Messages.message_at w n).expired (is_passed_over w log n) (arrived_wholly w log n) (were_whole (Messages.slots_of w n) log) e;
+  unexpired = λ o. (ordered-parts (Messages.message_at w n).ordered (Messages.message_at w n).expired (is_passed_over w log n) (arrived_wholly w log n) (were_complete (Messages.slots_of w n) log) o e).0;
+  near = λ o l. (ordered-parts (Messages.message_at w n).ordered (Messages.message_at w n).expired (is_passed_over w log n) (arrived_wholly w log n) (were_complete (Messages.slots_of w n) log) o e).1 (ap (λ t. nat_lt (Messages.ordered_before w t n) (named_by w t log)) at ∙ l);
+  early = unordered-parts (Messages.message_at w n).ordered (Messages.message_at w n).expired (is_passed_over w log n) (arrived_wholly w log n) (were_complete (Messages.slots_of w n) log) e;
 }
   where
     ordered-parts : (o x p a u : Bool) → o ≡ true → (if o then x || (p && not a) else a && not u) ≡ false → (x ≡ false) × (p ≡ true → a ≡ true)
@@ -175,22 +175,22 @@ unlost-parts w log s n at e = record {
     unordered-parts true x p a u f e g = cc
 
 -- where none has a property, this one has not
-none-has : (t p : ℕ → Bool) (count : ℕ) → list_any t (kept p 0 count) ≡ false → (n : ℕ) → n < count → p n ≡ true → t n ≡ false
+none-has : (t p : ℕ → Bool) (count : ℕ) → list_any t (numbers_where p 0 count) ≡ false → (n : ℕ) → n < count → p n ≡ true → t n ≡ false
 none-has t p count e n lt h = fails (t n) (λ y. not_both (sym e ∙ any-in t p n 0 count (omega arith) (omega arith) h y))
 
 -- none has it where each has not
-has-none : (t p : ℕ → Bool) (from count : ℕ) → ((n : ℕ) → from ≤ n → n < from + count → p n ≡ true → t n ≡ false) → list_any t (kept p from count) ≡ false
+has-none : (t p : ℕ → Bool) (from count : ℕ) → ((n : ℕ) → from ≤ n → n < from + count → p n ≡ true → t n ≡ false) → list_any t (numbers_where p from count) ≡ false
 has-none t p from zero h = refl
 has-none t p from (suc count) h = step (p from) refl (has-none t p (from + 1) count (λ n a b e. h n (omega arith) (omega arith) e))
   where
-    step : (b : Bool) → p from ≡ b → list_any t (kept p (from + 1) count) ≡ false → list_any t (if b then from ∷ kept p (from + 1) count else kept p (from + 1) count) ≡ false
+    step : (b : Bool) → p from ≡ b → list_any t (numbers_where p (from + 1) count) ≡ false → list_any t (if b then from ∷ numbers_where p (from + 1) count else numbers_where p (from + 1) count) ≡ false
     step true e ih = rw (h from (omega arith) (omega arith) e) ih
     step false e ih = ih
 
 -- without losing events nothing is lost
 module _ (setup : Setup) (h : History) (run : IsRun setup h) (lossless : list_all (λ entry. loses_nothing entry.0) h ≡ true) where
-  abbrev v : World
-  v = world_of setup h
+  abbrev v : LinkRecord
+  v = record_of setup h
 
   abbrev came : List LogEntry
   came = log_of setup h
@@ -198,14 +198,14 @@ module _ (setup : Setup) (h : History) (run : IsRun setup h) (lossless : list_al
   none : list_any is_skip came ≡ false
   none = no-skips setup h lossless
 
-  late : (n : ℕ) → n < length v.messages → (a : Bool) → arrived_wholly v came n ≡ a → (a && not (were_whole (Messages.slots_of v n) came)) ≡ false
+  late : (n : ℕ) → n < length v.messages → (a : Bool) → arrived_wholly v came n ≡ a → (a && not (were_complete (Messages.slots_of v n) came)) ≡ false
   late n lt true e = ap not (early-enough v came n (sane-run setup h run).sender lt none e)
   late n lt false e = refl
 
   never : (i : ℕ) → nat_lt i 0 ≡ false
   never i = grind (arith, nat_tests)
 
-  not-lost : (n : ℕ) → n < length v.messages → (o : Bool) → (if o then has_expired v n || (is_passed_over v came n && not (arrived_wholly v came n)) else arrived_wholly v came n && not (were_whole (Messages.slots_of v n) came)) ≡ false
+  not-lost : (n : ℕ) → n < length v.messages → (o : Bool) → (if o then has_expired v n || (is_passed_over v came n && not (arrived_wholly v came n)) else arrived_wholly v came n && not (were_complete (Messages.slots_of v n) came)) ≡ false
   not-lost n lt true =
       let unnamed : is_passed_over v came n ≡ false = ap (nat_lt (Messages.index_of v n)) (none-named v (Messages.message_at v n).stream came none) ∙ never (Messages.index_of v n) in
       rw ((alive-run setup h lossless n lt).0, unnamed) refl
@@ -219,9 +219,9 @@ none_is_lost setup h is run s lossless = none-lost setup h run lossless s
 
 -- ## What is read
 
--- the unordered messages that became whole are those that are whole
-whole-among : (w : World) (s n : ℕ) (log : List LogEntry) → list_any (λ k. k == n) (whole_by w log s) ≡ (nat_lt n (length w.messages) && (Messages.is_unordered_on w s n && is_whole_by w log n))
-whole-among w s n [] = sym (none (nat_lt n (length w.messages)) ((Messages.message_at w n).stream == s) (Messages.message_at w n).ordered (Messages.sent_of w n == Messages.fragment_count w n))
+-- the unordered messages that became complete are those that are complete
+complete-among : (w : LinkRecord) (s n : ℕ) (log : List LogEntry) → list_any (λ k. k == n) (complete_by w log s) ≡ (nat_lt n (length w.messages) && (Messages.is_unordered_on w s n && is_complete_by w log n))
+complete-among w s n [] = sym (none (nat_lt n (length w.messages)) ((Messages.message_at w n).stream == s) (Messages.message_at w n).ordered (Messages.sent_of w n == Messages.fragment_count w n))
   where
     none : (a b o d : Bool) → (a && ((b && not o) && (d && (if o then list_all (arrived_new []) (Messages.slots_of w n) else false)))) ≡ false
     none true true true d = refl
@@ -229,21 +229,21 @@ whole-among w s n [] = sym (none (nat_lt n (length w.messages)) ((Messages.messa
     none true true false false = refl
     none true false o d = refl
     none false b o d = refl
-whole-among w s n (c ∷ log) =
-    any-append (λ k. k == n) (whole_by w log s) (Messages.messages_where w (λ k. Messages.is_unordered_on w s k && (is_whole_by w (c ∷ log) k && not (is_whole_by w log k))))
-    ∙ ap (λ b. b || list_any (λ k. k == n) (Messages.messages_where w (λ k. Messages.is_unordered_on w s k && (is_whole_by w (c ∷ log) k && not (is_whole_by w log k))))) (whole-among w s n log)
-    ∙ ap (λ b. (nat_lt n (length w.messages) && (Messages.is_unordered_on w s n && is_whole_by w log n)) || b) (among-kept (λ k. Messages.is_unordered_on w s k && (is_whole_by w (c ∷ log) k && not (is_whole_by w log k))) n 0 (length w.messages) (omega arith))
-    ∙ ap (λ k. (nat_lt n (length w.messages) && (Messages.is_unordered_on w s n && is_whole_by w log n)) || (nat_lt n k && (Messages.is_unordered_on w s n && (is_whole_by w (c ∷ log) n && not (is_whole_by w log n))))) (let z : 0 + length w.messages ≡ length w.messages = omega arith in z)
-    ∙ joined (nat_lt n (length w.messages)) ((Messages.message_at w n).stream == s) (Messages.message_at w n).ordered refl (is_whole_by w log n) (is_whole_by w (c ∷ log) n) refl refl
+complete-among w s n (c ∷ log) =
+    any-append (λ k. k == n) (complete_by w log s) (Messages.messages_where w (λ k. Messages.is_unordered_on w s k && (is_complete_by w (c ∷ log) k && not (is_complete_by w log k))))
+    ∙ ap (λ b. b || list_any (λ k. k == n) (Messages.messages_where w (λ k. Messages.is_unordered_on w s k && (is_complete_by w (c ∷ log) k && not (is_complete_by w log k))))) (complete-among w s n log)
+    ∙ ap (λ b. (nat_lt n (length w.messages) && (Messages.is_unordered_on w s n && is_complete_by w log n)) || b) (among-kept (λ k. Messages.is_unordered_on w s k && (is_complete_by w (c ∷ log) k && not (is_complete_by w log k))) n 0 (length w.messages) (omega arith))
+    ∙ ap (λ k. (nat_lt n (length w.messages) && (Messages.is_unordered_on w s n && is_complete_by w log n)) || (nat_lt n k && (Messages.is_unordered_on w s n && (is_complete_by w (c ∷ log) n && not (is_complete_by w log n))))) (let z : 0 + length w.messages ≡ length w.messages = omega arith in z)
+    ∙ joined (nat_lt n (length w.messages)) ((Messages.message_at w n).stream == s) (Messages.message_at w n).ordered refl (is_complete_by w log n) (is_complete_by w (c ∷ log) n) refl refl
   where
-    more : (Messages.message_at w n).ordered ≡ false → is_whole_by w log n ≡ true → is_whole_by w (c ∷ log) n ≡ true
+    more : (Messages.message_at w n).ordered ≡ false → is_complete_by w log n ≡ true → is_complete_by w (c ∷ log) n ≡ true
     more o e =
-        let a = both (Messages.sent_of w n == Messages.fragment_count w n) (if (Messages.message_at w n).ordered then list_all (arrived_new log) (Messages.slots_of w n) else were_whole (Messages.slots_of w n) log) e in
-        let b : were_whole (Messages.slots_of w n) log ≡ true = ap (λ t. if t then list_all (arrived_new log) (Messages.slots_of w n) else were_whole (Messages.slots_of w n) log) (sym o) ∙ a.1 in
-        and (Messages.sent_of w n == Messages.fragment_count w n) (if (Messages.message_at w n).ordered then list_all (arrived_new (c ∷ log)) (Messages.slots_of w n) else were_whole (Messages.slots_of w n) (c ∷ log)) a.0
-        (ap (λ t. if t then list_all (arrived_new (c ∷ log)) (Messages.slots_of w n) else were_whole (Messages.slots_of w n) (c ∷ log)) o ∙ or-left (were_whole (Messages.slots_of w n) log) (list_all (λ p. arrived_new (c ∷ log) p && not (is_skipped (c ∷ log) p)) (Messages.slots_of w n)) b)
+        let a = both (Messages.sent_of w n == Messages.fragment_count w n) (if (Messages.message_at w n).ordered then list_all (arrived_new log) (Messages.slots_of w n) else were_complete (Messages.slots_of w n) log) e in
+        let b : were_complete (Messages.slots_of w n) log ≡ true = ap (λ t. if t then list_all (arrived_new log) (Messages.slots_of w n) else were_complete (Messages.slots_of w n) log) (sym o) ∙ a.1 in
+        and (Messages.sent_of w n == Messages.fragment_count w n) (if (Messages.message_at w n).ordered then list_all (arrived_new (c ∷ log)) (Messages.slots_of w n) else were_complete (Messages.slots_of w n) (c ∷ log)) a.0
+        (ap (λ t. if t then list_all (arrived_new (c ∷ log)) (Messages.slots_of w n) else were_complete (Messages.slots_of w n) (c ∷ log)) o ∙ or-left (were_complete (Messages.slots_of w n) log) (list_all (λ p. arrived_new (c ∷ log) p && not (is_skipped (c ∷ log) p)) (Messages.slots_of w n)) b)
 
-    joined : (a b o : Bool) → (Messages.message_at w n).ordered ≡ o → (old new : Bool) → is_whole_by w log n ≡ old → is_whole_by w (c ∷ log) n ≡ new → ((a && ((b && not o) && old)) || (a && ((b && not o) && (new && not old)))) ≡ (a && ((b && not o) && new))
+    joined : (a b o : Bool) → (Messages.message_at w n).ordered ≡ o → (old new : Bool) → is_complete_by w log n ≡ old → is_complete_by w (c ∷ log) n ≡ new → ((a && ((b && not o) && old)) || (a && ((b && not o) && (new && not old)))) ≡ (a && ((b && not o) && new))
     joined true true false e true true x y = refl
     joined true true false e true false x y = absurd (not_both (sym y ∙ more e x))
     joined true true false e false true x y = refl
@@ -252,49 +252,49 @@ whole-among w s n (c ∷ log) =
     joined true false o e old new x y = refl
     joined false b o e old new x y = refl
 
--- the run, where each of those passed over is whole
-run-passed : (t : ℕ → Bool) (i : ℕ) (xs : List ℕ) → passing (λ n. not (t n)) (take i xs) ≡ [] → passing t (take i xs) ++ leading t (drop i xs) ≡ leading t xs
+-- the run, where each of those passed over is complete
+run-passed : (t : ℕ → Bool) (i : ℕ) (xs : List ℕ) → filter (λ n. not (t n)) (take i xs) ≡ [] → filter t (take i xs) ++ leading t (drop i xs) ≡ leading t xs
 run-passed t zero [] e = refl
 run-passed t zero (x ∷ xs) e = refl
 run-passed t (suc i) [] e = refl
 run-passed t (suc i) (x ∷ xs) e = step (t x) e (run-passed t i xs)
   where
-    step : (b : Bool) → (if not b then x ∷ passing (λ n. not (t n)) (take i xs) else passing (λ n. not (t n)) (take i xs)) ≡ [] → (passing (λ n. not (t n)) (take i xs) ≡ [] → passing t (take i xs) ++ leading t (drop i xs) ≡ leading t xs) → (if b then x ∷ passing t (take i xs) else passing t (take i xs)) ++ leading t (drop i xs) ≡ (if b then x ∷ leading t xs else [])
+    step : (b : Bool) → (if not b then x ∷ filter (λ n. not (t n)) (take i xs) else filter (λ n. not (t n)) (take i xs)) ≡ [] → (filter (λ n. not (t n)) (take i xs) ≡ [] → filter t (take i xs) ++ leading t (drop i xs) ≡ leading t xs) → (if b then x ∷ filter t (take i xs) else filter t (take i xs)) ++ leading t (drop i xs) ≡ (if b then x ∷ leading t xs else [])
     step true e ih = ap (λ l. x ∷ l) (ih e)
     step false e ih = cc
 
 -- the ordered ones in the lead, by what was written and what arrived
-leading-as : (f : ℕ → Shown) (o t : ℕ → Bool) (ns : List ℕ) → map f (leading t (passing o ns)) ≡ ordered_run (map (λ n. (f n, not (o n))) ns) (map t ns)
+leading-as : (f : ℕ → Shown) (o t : ℕ → Bool) (ns : List ℕ) → map f (leading t (filter o ns)) ≡ ordered_run (map (λ n. (f n, not (o n))) ns) (map t ns)
 leading-as f o t [] = refl
 leading-as f o t (n ∷ ns) = step (o n) (t n) refl (leading-as f o t ns)
   where
-    step : (a b : Bool) → t n ≡ b → map f (leading t (passing o ns)) ≡ ordered_run (map (λ n. (f n, not (o n))) ns) (map t ns)
-        → map f (leading t (if a then n ∷ passing o ns else passing o ns)) ≡ (if not a then ordered_run (map (λ n. (f n, not (o n))) ns) (map t ns) else (if b then f n ∷ ordered_run (map (λ n. (f n, not (o n))) ns) (map t ns) else []))
+    step : (a b : Bool) → t n ≡ b → map f (leading t (filter o ns)) ≡ ordered_run (map (λ n. (f n, not (o n))) ns) (map t ns)
+        → map f (leading t (if a then n ∷ filter o ns else filter o ns)) ≡ (if not a then ordered_run (map (λ n. (f n, not (o n))) ns) (map t ns) else (if b then f n ∷ ordered_run (map (λ n. (f n, not (o n))) ns) (map t ns) else []))
     step true true y ih = rw y (ap (λ l. f n ∷ l) ih)
     step true false y ih = rw y refl
     step false b y ih = ih
 
--- the unordered whole ones, by what was written and what arrived
-wholes-as : (f : ℕ → Shown) (o t : ℕ → Bool) (ns : List ℕ) → map (λ n. not (o n) && t n) ns ≡ unordered_wholes (map (λ n. (f n, not (o n))) ns) (map t ns)
-wholes-as f o t [] = refl
-wholes-as f o t (n ∷ ns) = ap (λ l. (not (o n) && t n) ∷ l) (wholes-as f o t ns)
+-- the unordered complete ones, by what was written and what arrived
+complete_ones-as : (f : ℕ → Shown) (o t : ℕ → Bool) (ns : List ℕ) → map (λ n. not (o n) && t n) ns ≡ complete_unordered (map (λ n. (f n, not (o n))) ns) (map t ns)
+complete_ones-as f o t [] = refl
+complete_ones-as f o t (n ∷ ns) = ap (λ l. (not (o n) && t n) ∷ l) (complete_ones-as f o t ns)
 
 -- the writes on a stream, by number
-written-as : (s : ℕ) (f : ℕ → Shown) (g : ℕ → Mode) (from count : ℕ) → written_on s (map f (kept always from count)) (map g (kept always from count)) ≡ map (λ n. (f n, (g n).unordered)) (kept (λ n. (f n).0 == s) from count)
+written-as : (s : ℕ) (f : ℕ → Shown) (g : ℕ → Mode) (from count : ℕ) → written_on s (map f (numbers_where always from count)) (map g (numbers_where always from count)) ≡ map (λ n. (f n, (g n).unordered)) (numbers_where (λ n. (f n).0 == s) from count)
 written-as s f g from zero = refl
 written-as s f g from (suc count) = step ((f from).0 == s) (written-as s f g (from + 1) count)
   where
-    step : (b : Bool) → written_on s (map f (kept always (from + 1) count)) (map g (kept always (from + 1) count)) ≡ map (λ n. (f n, (g n).unordered)) (kept (λ n. (f n).0 == s) (from + 1) count)
-        → (if b then (f from, (g from).unordered) ∷ written_on s (map f (kept always (from + 1) count)) (map g (kept always (from + 1) count)) else written_on s (map f (kept always (from + 1) count)) (map g (kept always (from + 1) count))) ≡ map (λ n. (f n, (g n).unordered)) (if b then from ∷ kept (λ n. (f n).0 == s) (from + 1) count else kept (λ n. (f n).0 == s) (from + 1) count)
+    step : (b : Bool) → written_on s (map f (numbers_where always (from + 1) count)) (map g (numbers_where always (from + 1) count)) ≡ map (λ n. (f n, (g n).unordered)) (numbers_where (λ n. (f n).0 == s) (from + 1) count)
+        → (if b then (f from, (g from).unordered) ∷ written_on s (map f (numbers_where always (from + 1) count)) (map g (numbers_where always (from + 1) count)) else written_on s (map f (numbers_where always (from + 1) count)) (map g (numbers_where always (from + 1) count))) ≡ map (λ n. (f n, (g n).unordered)) (if b then from ∷ numbers_where (λ n. (f n).0 == s) (from + 1) count else numbers_where (λ n. (f n).0 == s) (from + 1) count)
     step true ih = ap (λ l. (f from, (g from).unordered) ∷ l) ih
     step false ih = ih
 
 -- a list by its places
-moved-up : {A : Type 0} (h : ℕ → A) (from count : ℕ) → map h (kept always (from + 1) count) ≡ map (λ n. h (n + 1)) (kept always from count)
+moved-up : {A : Type 0} (h : ℕ → A) (from count : ℕ) → map h (numbers_where always (from + 1) count) ≡ map (λ n. h (n + 1)) (numbers_where always from count)
 moved-up h from zero = refl
 moved-up h from (suc count) = ap (λ l. h (from + 1) ∷ l) (moved-up h (from + 1) count)
 
-by-place : {A B : Type 0} (f : A → B) (d : A) (xs : List A) → map f xs ≡ map (λ n. f (get_or xs n d)) (kept always 0 (length xs))
+by-place : {A B : Type 0} (f : A → B) (d : A) (xs : List A) → map f xs ≡ map (λ n. f (get_or xs n d)) (numbers_where always 0 (length xs))
 by-place f d [] = refl
 by-place f d (x ∷ xs) =
     ap (λ l. f x ∷ l) (by-place f d xs
@@ -304,8 +304,8 @@ by-place f d (x ∷ xs) =
 -- ## One history
 
 module _ (setup : Setup) (h : History) (s : ℕ) (is : IsSetup setup) (run : IsRun setup h) (unlost : has_loss_on setup h s ≡ false) where
-  abbrev w : World
-  w = world_of setup h
+  abbrev w : LinkRecord
+  w = record_of setup h
 
   abbrev log : List LogEntry
   log = log_of setup h
@@ -316,19 +316,19 @@ module _ (setup : Setup) (h : History) (s : ℕ) (is : IsSetup setup) (run : IsR
   parts : (n : ℕ) → n < length w.messages → here n ≡ true → Unlost w log s n
   parts n lt at = unlost-parts w log s n (same-is (Messages.message_at w n).stream s at) (none-has (was_lost w log) here (length w.messages) unlost n lt at)
 
-  whole-here : (n : ℕ) → n < length w.messages → here n ≡ true → is_whole_by w log n ≡ arrived_wholly w log n
-  whole-here n lt at = whole-settled w log n (sane-run setup h run).sender lt (parts n lt at).early
+  complete-here : (n : ℕ) → n < length w.messages → here n ≡ true → is_complete_by w log n ≡ arrived_wholly w log n
+  complete-here n lt at = complete-settled w log n (sane-run setup h run).sender lt (parts n lt at).early
 
-  wholes-are : map (is_whole_by w log) (messages_on w s) ≡ arrivals_on setup h s
-  wholes-are = map-kept-same (is_whole_by w log) (arrived_wholly w log) here here 0 (length w.messages) (λ k a b. refl) (λ k a b e. whole-here k (omega arith) e)
+  complete_ones-are : map (is_complete_by w log) (messages_on w s) ≡ arrivals_on setup h s
+  complete_ones-are = map-kept-same (is_complete_by w log) (arrived_wholly w log) here here 0 (length w.messages) (λ k a b. refl) (λ k a b e. complete-here k (omega arith) e)
 
   writes-are : writes_on h s ≡ map (λ n. (shown_of w n, not (is_ordered w n))) (messages_on w s)
   writes-are =
       ap (λ xs. written_on s xs (modes_in h)) (sym (messages_are_writes setup h is run))
-      ∙ ap (written_on s (map (shown_of w) (kept always 0 (length w.messages)))) (sym (modes_are_kept setup h is run) ∙ by-place mode_of Messages.no_message w.messages)
+      ∙ ap (written_on s (map (shown_of w) (numbers_where always 0 (length w.messages)))) (sym (modes_are_kept setup h is run) ∙ by-place mode_of Messages.no_message w.messages)
       ∙ written-as s (shown_of w) (λ n. mode_of (Messages.message_at w n)) 0 (length w.messages)
 
-  line-is : Messages.ordered_on w s ≡ passing (is_ordered w) (messages_on w s)
+  line-is : Messages.ordered_on w s ≡ filter (is_ordered w) (messages_on w s)
   line-is =
       kept-same (Messages.is_ordered_on w s) (λ n. here n && is_ordered w n) 0 (length w.messages) (λ n a b. step n (omega arith) (here n) refl (is_ordered w n) refl)
       ∙ sym (passing-kept (is_ordered w) here 0 (length w.messages))
@@ -338,41 +338,41 @@ module _ (setup : Setup) (h : History) (s : ℕ) (is : IsSetup setup) (run : IsR
       step n lt true at false o = refl
       step n lt false at t o = refl
 
-  placed : (k : ℕ) → Messages.ordered_before w s k ≡ 0 + length (kept (Messages.is_ordered_on w s) 0 (k - 0))
+  placed : (k : ℕ) → Messages.ordered_before w s k ≡ 0 + length (numbers_where (Messages.is_ordered_on w s) 0 (k - 0))
   placed k =
       let z : k ≡ k - 0 = omega arith in
-      let e : length (kept (Messages.is_ordered_on w s) 0 k) ≡ length (kept (Messages.is_ordered_on w s) 0 (k - 0)) = ap (λ j. length (kept (Messages.is_ordered_on w s) 0 j)) z in
+      let e : length (numbers_where (Messages.is_ordered_on w s) 0 k) ≡ length (numbers_where (Messages.is_ordered_on w s) 0 (k - 0)) = ap (λ j. length (numbers_where (Messages.is_ordered_on w s) 0 j)) z in
       omega (arith, e)
 
-  -- each of those passed over is whole
-  none-passed : passing (λ n. not (is_whole_by w log n)) (take (named_by w s log) (Messages.ordered_on w s)) ≡ []
+  -- each of those passed over is complete
+  none-passed : filter (λ n. not (is_complete_by w log n)) (take (named_by w s log) (Messages.ordered_on w s)) ≡ []
   none-passed =
-      take-kept (Messages.is_ordered_on w s) (λ n. not (is_whole_by w log n)) (Messages.ordered_before w s) 0 (length w.messages) (named_by w s log) 0 (named_by w s log) (omega arith) (λ k a b e. placed k)
-      ∙ kept-none (λ n. Messages.is_ordered_on w s n && (not (is_whole_by w log n) && nat_lt (Messages.ordered_before w s n) (named_by w s log))) 0 (length w.messages) (λ n a b. fails (Messages.is_ordered_on w s n && (not (is_whole_by w log n) && nat_lt (Messages.ordered_before w s n) (named_by w s log))) (λ e.
-      let c = both (Messages.is_ordered_on w s n) (not (is_whole_by w log n) && nat_lt (Messages.ordered_before w s n) (named_by w s log)) e in
+      take-kept (Messages.is_ordered_on w s) (λ n. not (is_complete_by w log n)) (Messages.ordered_before w s) 0 (length w.messages) (named_by w s log) 0 (named_by w s log) (omega arith) (λ k a b e. placed k)
+      ∙ kept-none (λ n. Messages.is_ordered_on w s n && (not (is_complete_by w log n) && nat_lt (Messages.ordered_before w s n) (named_by w s log))) 0 (length w.messages) (λ n a b. fails (Messages.is_ordered_on w s n && (not (is_complete_by w log n) && nat_lt (Messages.ordered_before w s n) (named_by w s log))) (λ e.
+      let c = both (Messages.is_ordered_on w s n) (not (is_complete_by w log n) && nat_lt (Messages.ordered_before w s n) (named_by w s log)) e in
       let d = both (here n) (is_ordered w n && not (Messages.message_at w n).expired) c.0 in
       let o = both (is_ordered w n) (not (Messages.message_at w n).expired) d.1 in
-      let f = both (not (is_whole_by w log n)) (nat_lt (Messages.ordered_before w s n) (named_by w s log)) c.1 in
-      not_both (sym (negated (is_whole_by w log n) f.0) ∙ whole-here n (omega arith) d.0 ∙ (parts n (omega arith) d.0).near o.0 f.1)))
+      let f = both (not (is_complete_by w log n)) (nat_lt (Messages.ordered_before w s n) (named_by w s log)) c.1 in
+      not_both (sym (negated (is_complete_by w log n) f.0) ∙ complete-here n (omega arith) d.0 ∙ (parts n (omega arith) d.0).near o.0 f.1)))
 
-  run-is : run_by w log s ≡ leading (is_whole_by w log) (passing (is_ordered w) (messages_on w s))
-  run-is = run-passed (is_whole_by w log) (named_by w s log) (Messages.ordered_on w s) none-passed ∙ ap (leading (is_whole_by w log)) line-is
+  run-is : run_by w log s ≡ leading (is_complete_by w log) (filter (is_ordered w) (messages_on w s))
+  run-is = run-passed (is_complete_by w log) (named_by w s log) (Messages.ordered_on w s) none-passed ∙ ap (leading (is_complete_by w log)) line-is
 
   pub ordered-settled : ordered_reads setup h s ≡ run_by w log s → ordered_shown setup h s ≡ ordered_run (writes_on h s) (arrivals_on setup h s)
   ordered-settled e =
       ap (map (shown_of w)) (e ∙ run-is)
-      ∙ leading-as (shown_of w) (is_ordered w) (is_whole_by w log) (messages_on w s)
-      ∙ ap (λ xs. ordered_run xs (map (is_whole_by w log) (messages_on w s))) (sym writes-are)
-      ∙ ap (ordered_run (writes_on h s)) wholes-are
+      ∙ leading-as (shown_of w) (is_ordered w) (is_complete_by w log) (messages_on w s)
+      ∙ ap (λ xs. ordered_run xs (map (is_complete_by w log) (messages_on w s))) (sym writes-are)
+      ∙ ap (ordered_run (writes_on h s)) complete_ones-are
 
-  pub unordered-settled : unordered_reads setup h s ≡ whole_by w log s → unordered_shown setup h s ≡ unordered_wholes (writes_on h s) (arrivals_on setup h s)
+  pub unordered-settled : unordered_reads setup h s ≡ complete_by w log s → unordered_shown setup h s ≡ complete_unordered (writes_on h s) (arrivals_on setup h s)
   unordered-settled e =
-      map-kept-same (λ n. list_any (λ m. m == n) (unordered_reads setup h s)) (λ n. not (is_ordered w n) && is_whole_by w log n) here here 0 (length w.messages) (λ k a b. refl) (λ n a b at. ap (list_any (λ m. m == n)) e ∙ whole-among w s n log ∙ step n (nat_lt n (length w.messages)) (let lt : n < length w.messages = omega arith in grind (arith, nat_tests)) (here n) at)
-      ∙ wholes-as (shown_of w) (is_ordered w) (is_whole_by w log) (messages_on w s)
-      ∙ ap (λ xs. unordered_wholes xs (map (is_whole_by w log) (messages_on w s))) (sym writes-are)
-      ∙ ap (unordered_wholes (writes_on h s)) wholes-are
+      map-kept-same (λ n. list_any (λ m. m == n) (unordered_reads setup h s)) (λ n. not (is_ordered w n) && is_complete_by w log n) here here 0 (length w.messages) (λ k a b. refl) (λ n a b at. ap (list_any (λ m. m == n)) e ∙ complete-among w s n log ∙ step n (nat_lt n (length w.messages)) (let lt : n < length w.messages = omega arith in grind (arith, nat_tests)) (here n) at)
+      ∙ complete_ones-as (shown_of w) (is_ordered w) (is_complete_by w log) (messages_on w s)
+      ∙ ap (λ xs. complete_unordered xs (map (is_complete_by w log) (messages_on w s))) (sym writes-are)
+      ∙ ap (complete_unordered (writes_on h s)) complete_ones-are
     where
-      step : (n : ℕ) (l : Bool) → l ≡ true → (b : Bool) → b ≡ true → (l && ((b && not (is_ordered w n)) && is_whole_by w log n)) ≡ (not (is_ordered w n) && is_whole_by w log n)
+      step : (n : ℕ) (l : Bool) → l ≡ true → (b : Bool) → b ≡ true → (l && ((b && not (is_ordered w n)) && is_complete_by w log n)) ≡ (not (is_ordered w n) && is_complete_by w log n)
       step n true e true f = refl
       step n true e false f = cc
       step n false e b f = cc
@@ -389,7 +389,7 @@ reads_are_settled a b g h s x y writes arrivals =
     let p = reads_by_arrivals a g x.is x.run s x.unlost x.exhausted in
     let q = reads_by_arrivals b h y.is y.run s y.unlost y.exhausted in
     let one = ap (λ xs. ordered_run xs (arrivals_on a g s)) writes ∙ ap (ordered_run (writes_on h s)) arrivals in
-    let two = ap (λ xs. unordered_wholes xs (arrivals_on a g s)) writes ∙ ap (unordered_wholes (writes_on h s)) arrivals in
+    let two = ap (λ xs. complete_unordered xs (arrivals_on a g s)) writes ∙ ap (complete_unordered (writes_on h s)) arrivals in
     (p.0 ∙ one ∙ sym q.0, p.1 ∙ two ∙ sym q.1)
 
 -- ## The form that asks more
@@ -398,7 +398,7 @@ reads_are_settled a b g h s x y writes arrivals =
 pub record SameFragments (setup : Setup) (g h : History) (s : ℕ) : Type 0 where
   pub writes : writes_in g ≡ writes_in h
   pub kinds : map (λ m. m.unordered) (modes_in g) ≡ map (λ m. m.unordered) (modes_in h)
-  pub fragments : (n i : ℕ) → (Messages.message_at (world_of setup h) n).stream ≡ s → fragment_arrived (world_of setup g) (log_of setup g) n i ≡ fragment_arrived (world_of setup h) (log_of setup h) n i
+  pub fragments : (n i : ℕ) → (Messages.message_at (record_of setup h) n).stream ≡ s → fragment_arrived (record_of setup g) (log_of setup g) n i ≡ fragment_arrived (record_of setup h) (log_of setup h) n i
 
 written-kinds : (s : ℕ) (xs : List Shown) (ms ns : List Mode) → map (λ m. m.unordered) ms ≡ map (λ m. m.unordered) ns → written_on s xs ms ≡ written_on s xs ns
 written-kinds s [] ms ns e = refl
@@ -415,44 +415,44 @@ written-kinds s (y ∷ ys) (m ∷ ms) (n ∷ ns) e =
     step false k ih = ih
 
 -- values that agree one after another agree at each number
-same-at : {A : Type 0} (f g : ℕ → A) (p : ℕ → Bool) (from count n : ℕ) → map f (kept p from count) ≡ map g (kept p from count) → from ≤ n → n < from + count → p n ≡ true → f n ≡ g n
+same-at : {A : Type 0} (f g : ℕ → A) (p : ℕ → Bool) (from count n : ℕ) → map f (numbers_where p from count) ≡ map g (numbers_where p from count) → from ≤ n → n < from + count → p n ≡ true → f n ≡ g n
 same-at f g p from zero n e a b h = absurd (omega arith)
 same-at {A} f g p from (suc count) n e a b h = step (p from) refl e (eq-or-lt_of_le a) (λ t l. same-at f g p (from + 1) count n t l (omega arith) h)
   where
-    step : (b : Bool) → p from ≡ b → map f (if b then from ∷ kept p (from + 1) count else kept p (from + 1) count) ≡ map g (if b then from ∷ kept p (from + 1) count else kept p (from + 1) count) → (from ≡ n) ⊎ (from < n) → (map f (kept p (from + 1) count) ≡ map g (kept p (from + 1) count) → from + 1 ≤ n → f n ≡ g n) → f n ≡ g n
+    step : (b : Bool) → p from ≡ b → map f (if b then from ∷ numbers_where p (from + 1) count else numbers_where p (from + 1) count) ≡ map g (if b then from ∷ numbers_where p (from + 1) count else numbers_where p (from + 1) count) → (from ≡ n) ⊎ (from < n) → (map f (numbers_where p (from + 1) count) ≡ map g (numbers_where p (from + 1) count) → from + 1 ≤ n → f n ≡ g n) → f n ≡ g n
     step true x t (inl z) ih = let y : f from ≡ g from = cc in ap f (sym z) ∙ y ∙ ap g z
-    step true x t (inr l) ih = let y : map f (kept p (from + 1) count) ≡ map g (kept p (from + 1) count) = cc in ih y (omega arith)
+    step true x t (inr l) ih = let y : map f (numbers_where p (from + 1) count) ≡ map g (numbers_where p (from + 1) count) = cc in ih y (omega arith)
     step false x t (inl z) ih = absurd (not_both (sym x ∙ ap p z ∙ h))
     step false x t (inr l) ih = ih t (omega arith)
 
 module _ (setup : Setup) (g h : History) (s : ℕ) (a : IsReadWholly setup g s) (b : IsReadWholly setup h s) (same : SameFragments setup g h s) where
-  abbrev old : World
-  old = world_of setup g
+  abbrev old : LinkRecord
+  old = record_of setup g
 
-  abbrev new : World
-  new = world_of setup h
+  abbrev new : LinkRecord
+  new = record_of setup h
 
   abbrev there : ℕ → Bool
   there n = (Messages.message_at new n).stream == s
 
   counts : length old.messages ≡ length new.messages
   counts =
-      sym (length-mapped (shown_of old) (kept always 0 (length old.messages)) ∙ length-always 0 (length old.messages))
+      sym (length-mapped (shown_of old) (numbers_where always 0 (length old.messages)) ∙ length-always 0 (length old.messages))
       ∙ ap length (messages_are_writes setup g a.is a.run ∙ same.writes ∙ sym (messages_are_writes setup h b.is b.run))
-      ∙ (length-mapped (shown_of new) (kept always 0 (length new.messages)) ∙ length-always 0 (length new.messages))
+      ∙ (length-mapped (shown_of new) (numbers_where always 0 (length new.messages)) ∙ length-always 0 (length new.messages))
     where
-      length-always : (from count : ℕ) → length (kept always from count) ≡ count
+      length-always : (from count : ℕ) → length (numbers_where always from count) ≡ count
       length-always from zero = refl
       length-always from (suc count) = ap suc (length-always (from + 1) count)
 
   each : (n : ℕ) → n < length new.messages → shown_of old n ≡ shown_of new n
   each n lt =
       same-at (shown_of old) (shown_of new) always 0 (length new.messages) n
-      (ap (λ c. map (shown_of old) (kept always 0 c)) (sym counts) ∙ messages_are_writes setup g a.is a.run ∙ same.writes ∙ sym (messages_are_writes setup h b.is b.run)) (omega arith) (omega arith) refl
+      (ap (λ c. map (shown_of old) (numbers_where always 0 c)) (sym counts) ∙ messages_are_writes setup g a.is a.run ∙ same.writes ∙ sym (messages_are_writes setup h b.is b.run)) (omega arith) (omega arith) refl
 
   line : messages_on old s ≡ messages_on new s
   line =
-      ap (kept (λ n. (Messages.message_at old n).stream == s) 0) counts
+      ap (numbers_where (λ n. (Messages.message_at old n).stream == s) 0) counts
       ∙ kept-same (λ n. (Messages.message_at old n).stream == s) there 0 (length new.messages) (λ n i j. ap (λ y. y.0 == s) (each n (omega arith)))
 
   parts-same : (n : ℕ) → n < length new.messages → Messages.fragment_count old n ≡ Messages.fragment_count new n
@@ -476,8 +476,8 @@ module _ (setup : Setup) (g h : History) (s : ℕ) (a : IsReadWholly setup g s) 
   abbrev was_read : History → ℕ → Bool
   was_read k n = list_any (λ m. m == n) (unordered_reads setup k s)
 
-  among : (k : History) → IsReadWholly setup k s → (n : ℕ) → was_read k n ≡ (nat_lt n (length (world_of setup k).messages) && (Messages.is_unordered_on (world_of setup k) s n && is_whole_by (world_of setup k) (log_of setup k) n))
-  among k c n = ap (list_any (λ m. m == n)) ((nothing_where_read setup k c.is c.run s).0 c.exhausted).1 ∙ whole-among (world_of setup k) s n (log_of setup k)
+  among : (k : History) → IsReadWholly setup k s → (n : ℕ) → was_read k n ≡ (nat_lt n (length (record_of setup k).messages) && (Messages.is_unordered_on (record_of setup k) s n && is_complete_by (record_of setup k) (log_of setup k) n))
+  among k c n = ap (list_any (λ m. m == n)) ((nothing_where_read setup k c.is c.run s).0 c.exhausted).1 ∙ complete-among (record_of setup k) s n (log_of setup k)
 
   each-read : (n : ℕ) → was_read g n ≡ was_read h n
   each-read n = step (nat_lt n (length new.messages)) refl (there n) refl
@@ -489,15 +489,15 @@ module _ (setup : Setup) (g h : History) (s : ℕ) (a : IsReadWholly setup g s) 
       step true l false c =
           let lt : n < length new.messages = grind (arith, nat_tests) in
           among g a n
-          ∙ ap (λ y. nat_lt n (length old.messages) && ((y && not (Messages.message_at old n).ordered) && is_whole_by old (log_of setup g) n)) (ap (λ y. y.0 == s) (each n lt) ∙ c)
+          ∙ ap (λ y. nat_lt n (length old.messages) && ((y && not (Messages.message_at old n).ordered) && is_complete_by old (log_of setup g) n)) (ap (λ y. y.0 == s) (each n lt) ∙ c)
           ∙ and-none (nat_lt n (length old.messages))
           ∙ sym (among h b n
-          ∙ ap (λ y. nat_lt n (length new.messages) && ((y && not (Messages.message_at new n).ordered) && is_whole_by new (log_of setup h) n)) c
+          ∙ ap (λ y. nat_lt n (length new.messages) && ((y && not (Messages.message_at new n).ordered) && is_complete_by new (log_of setup h) n)) c
           ∙ and-none (nat_lt n (length new.messages)))
       step false l c e =
           among g a n
-          ∙ ap (λ y. y && (Messages.is_unordered_on old s n && is_whole_by old (log_of setup g) n)) (ap (nat_lt n) counts ∙ l)
-          ∙ sym (among h b n ∙ ap (λ y. y && (Messages.is_unordered_on new s n && is_whole_by new (log_of setup h) n)) l)
+          ∙ ap (λ y. y && (Messages.is_unordered_on old s n && is_complete_by old (log_of setup g) n)) (ap (nat_lt n) counts ∙ l)
+          ∙ sym (among h b n ∙ ap (λ y. y && (Messages.is_unordered_on new s n && is_complete_by new (log_of setup h) n)) l)
 
 -- the same ordered messages are read, and by number the same unordered ones
 pub settled-by_number : (setup : Setup) (g h : History) (s : ℕ) → IsReadWholly setup g s → IsReadWholly setup h s → SameFragments setup g h s →
@@ -506,9 +506,9 @@ settled-by_number setup g h s a b same = ((both-read setup g h s a b same).0, ea
 
 -- so too where no event can lose, all modes are the same, and the same fragments of all messages arrived
 pub settled-lossless : (setup : Setup) (g h : History) (s : ℕ) → IsSetup setup → IsRun setup g → IsRun setup h → Lossless g → Lossless h →
-    reply_to (world_of setup g) (E.Read s) ≡ R.Nothing → reply_to (world_of setup h) (E.Read s) ≡ R.Nothing →
+    reply_to (record_of setup g) (E.Read s) ≡ R.Nothing → reply_to (record_of setup h) (E.Read s) ≡ R.Nothing →
     writes_in g ≡ writes_in h → modes_in g ≡ modes_in h →
-    ((n i : ℕ) → fragment_arrived (world_of setup g) (log_of setup g) n i ≡ fragment_arrived (world_of setup h) (log_of setup h) n i) →
+    ((n i : ℕ) → fragment_arrived (record_of setup g) (log_of setup g) n i ≡ fragment_arrived (record_of setup h) (log_of setup h) n i) →
     (ordered_shown setup g s ≡ ordered_shown setup h s) × ((n : ℕ) → list_any (λ m. m == n) (unordered_reads setup g s) ≡ list_any (λ m. m == n) (unordered_reads setup h s))
 settled-lossless setup g h s is a b k l x y writes modes fragments =
     settled-by_number setup g h s

@@ -8,13 +8,13 @@ use Rattle.sctp_model.specs.declared.event.Event.{Event}
 use Rattle.sctp_model.specs.declared.event.Event.TheVariants as E
 use Rattle.sctp_model.specs.Reply.{Reply}
 use Rattle.sctp_model.specs.Reply as R
-use Rattle.sctp_model.specs.World.{Setup, World}
+use Rattle.sctp_model.specs.LinkRecord.{Setup, LinkRecord}
 use Rattle.sctp_model.specs.Messages
 use Rattle.sctp_model.specs.Receiver.{next_read}
 use Rattle.sctp_model.specs.Changes
 use Rattle.sctp_model.specs.Log
 use Rattle.sctp_model.specs.Log.{LogEntry, SlotReceived, SkipReceived, SackMade, Made, MadeData, MadeForward, MadeSack, made_in, made_by, log_of, named_by, is_skipped}
-use Rattle.sctp_model.specs.Steps.{History, world_of, after}
+use Rattle.sctp_model.specs.Steps.{History, record_of, after}
 use Rattle.sctp_model.specs.Laws.{loses_nothing}
 use Rattle.sctp_model.proofs.sender.Shape.{Shape, shape, message_part, written}
 use Rattle.sctp_model.proofs.sender.Shapes
@@ -29,14 +29,14 @@ use Rattle.sctp_list_lemmas.proofs.Cases.{by_last}
 abbrev pub AllAlive : Shape → Type 0
 AllAlive x = (n : ℕ) → n < x.count → ((x.message n).expired ≡ false) × ((x.message n).abandoned ≡ false)
 
-alive-sent : (w : World) (now : ℕ) (o : Option ℕ) → AllAlive (shape w) → AllAlive (shape (Changes.sent_from (Changes.started w now) o))
+alive-sent : (w : LinkRecord) (now : ℕ) (o : Option ℕ) → AllAlive (shape w) → AllAlive (shape (Changes.send_from (Changes.after_start w now) o))
 alive-sent w now None a = subst AllAlive (sym (Shapes.shape-started w now)) a
 alive-sent w now (Some m) a = λ n lt.
-    let e = messages-sent (Changes.started w now) in
+    let e = messages-sent (Changes.after_start w now) in
     let b = (subst AllAlive (sym (Shapes.shape-started w now)) a) n (omega (arith, lt, ap length e)) in
     (ap (λ ms. (slice_index_or ms n Messages.no_message).expired) e ∙ b.0, ap (λ ms. (slice_index_or ms n Messages.no_message).abandoned) e ∙ b.1)
 
-alive-after : (w : World) (e : Event) → loses_nothing e ≡ true → AllAlive (shape w) → AllAlive (shape (after w e))
+alive-after : (w : LinkRecord) (e : Event) → loses_nothing e ≡ true → AllAlive (shape w) → AllAlive (shape (after w e))
 alive-after w (E.Open s) k a = a
 alive-after w (E.Mode s u v x) k a = a
 alive-after w (E.Write s ppi []) k a = a
@@ -62,9 +62,9 @@ alive-after w (E.Read s) k a = subst AllAlive (sym (Network.same-read w s (next_
 abbrev pub Lossless : History → Type 0
 Lossless h = list_all (λ entry. loses_nothing entry.0) h ≡ true
 
-pub alive-run : (setup : Setup) (h : History) → Lossless h → AllAlive (shape (world_of setup h))
+pub alive-run : (setup : Setup) (h : History) → Lossless h → AllAlive (shape (record_of setup h))
 alive-run setup [] l = λ n lt. absurd (omega arith)
-alive-run setup (entry ∷ older) l = let a = both (loses_nothing entry.0) (list_all (λ entry. loses_nothing entry.0) older) l in alive-after (world_of setup older) entry.0 a.0 (alive-run setup older a.1)
+alive-run setup (entry ∷ older) l = let a = both (loses_nothing entry.0) (list_all (λ entry. loses_nothing entry.0) older) l in alive-after (record_of setup older) entry.0 a.0 (alive-run setup older a.1)
 
 -- ## No skip comes
 
@@ -170,7 +170,7 @@ no-skips setup ((e, r) ∷ older) l = let a = both (loses_nothing e) (list_all (
     step (E.Acked a) h l = h
     step (E.Read a) h l = h
 
-pub none-named : (w : World) (s : ℕ) (log : List LogEntry) → list_any is_skip log ≡ false → named_by w s log ≡ 0
+pub none-named : (w : LinkRecord) (s : ℕ) (log : List LogEntry) → list_any is_skip log ≡ false → named_by w s log ≡ 0
 none-named w s [] e = refl
 none-named w s (SlotReceived p ∷ log) e = none-named w s log e
 none-named w s (SkipReceived upto names ∷ log) e = cc

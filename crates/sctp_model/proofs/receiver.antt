@@ -3,7 +3,7 @@ pub mod Arrivals
 pub mod View
 pub mod Indexes
 pub mod Names
-pub mod Wholes
+pub mod CompleteMessages
 pub mod Known
 pub mod KnownRun
 pub mod Due

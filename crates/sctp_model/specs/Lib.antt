@@ -1,4 +1,4 @@
-pub mod World
+pub mod LinkRecord
 pub mod Messages
 pub mod Receiver
 pub mod Reports

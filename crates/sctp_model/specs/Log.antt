@@ -1,8 +1,9 @@
 -- What a history says by itself: what came to the receiver in which order, and what follows from that order alone.
 -- No flag of the record is looked at. The newest entry stands first.
 use Rattle.std.specs.Prelude.{ℕ, ◌%◌, ◌^◌, ◌+◌, ◌-◌, ◌*◌, max, Bool, true, false, ◌&&◌, ◌||◌, not, ◌==◌, nat_lt, nat_le, if◌then◌else◌, List, [], ◌∷◌, ◌++◌, length, take, drop, map, slice_get, Option, Some, None, option_to_list}
-use Rattle.std.specs.List.{list_any, list_all}
-use Rattle.sctp_list_lemmas.specs.Kept.{unbroken, leading, passing, numbers_from, or_else}
+use Rattle.std.specs.List.{list_any, list_all, filter}
+use Rattle.sctp_chunks.specs.PayloadTypes.{has_bytes, is_counted, is_ordered}
+use Rattle.sctp_list_lemmas.specs.Kept.{unbroken, leading, numbers_from, or_else}
 use Rattle.sctp_model.specs.declared.event.Event.{Event}
 use Rattle.sctp_model.specs.declared.event.Event.TheVariants as E
 use Rattle.sctp_model.specs.Reply.{Reply}
@@ -12,12 +13,11 @@ use Rattle.sctp_chunks.specs.declared.chunk.chunk_payload_data.PayloadProtocolId
 use Rattle.sctp_chunks.specs.declared.chunk.chunk_payload_data.ReliabilityType.{ReliabilityType}
 use Rattle.sctp_chunks.specs.declared.chunk.chunk_payload_data.ReliabilityType.TheVariants.{Reliable, Timed}
 use Rattle.sctp_chunks.specs.declared.chunk.chunk_payload_data.ChunkPayloadData.{ChunkPayloadData}
-use Rattle.sctp_model.specs.World.{Setup, Datagram, Sack, World}
+use Rattle.sctp_model.specs.LinkRecord.{Setup, Datagram, Sack, LinkRecord}
 use Rattle.sctp_model.specs.Messages
 use Rattle.sctp_model.specs.Receiver.{greatest, next_read}
 use Rattle.sctp_model.specs.Reports.{reports}
-use Rattle.sctp_model.specs.Amounts.{has_bytes, is_counted}
-use Rattle.sctp_model.specs.Steps.{History, world_of}
+use Rattle.sctp_model.specs.Steps.{History, record_of}
 
 -- ## What was made and what came to the receiver
 
@@ -109,42 +109,42 @@ duplicates_in (SackMade ∷ log) = []
 -- ## Complete messages and the run
 
 -- at some moment each of these slots had arrived new and no skip that counted had covered one
-abbrev pub were_whole : List ℕ → List LogEntry → Bool
-were_whole places [] = false
-were_whole places (coming ∷ log) =
-    were_whole places log || list_all (λ p. arrived_new (coming ∷ log) p
+abbrev pub were_complete : List ℕ → List LogEntry → Bool
+were_complete places [] = false
+were_complete places (coming ∷ log) =
+    were_complete places log || list_all (λ p. arrived_new (coming ∷ log) p
     && not (is_skipped (coming ∷ log) p)) places
 
--- message n is whole: all of it was sent, and each of its slots arrived new; those of an unordered one before a skip covered one
-abbrev pub is_whole_by : World → List LogEntry → ℕ → Bool
-is_whole_by w log n =
+-- message n is complete: all of it was sent, and each of its slots arrived new; those of an unordered one before a skip covered one
+abbrev pub is_complete_by : LinkRecord → List LogEntry → ℕ → Bool
+is_complete_by w log n =
     (Messages.sent_of w n == Messages.fragment_count w n)
     && (if (Messages.message_at w n).ordered
     then list_all (arrived_new log) (Messages.slots_of w n)
-    else were_whole (Messages.slots_of w n) log)
+    else were_complete (Messages.slots_of w n) log)
 
 -- one more than the greatest index on stream s that a skip that counted named, or 0
-abbrev pub named_by : World → ℕ → List LogEntry → ℕ
+abbrev pub named_by : LinkRecord → ℕ → List LogEntry → ℕ
 named_by w s [] = 0
 named_by w s (SkipReceived upto messages ∷ log) =
     if counts log upto then greatest (named_by w s log)
-    (map (λ n. Messages.index_of w n + 1) (passing (Messages.is_ordered_on w s) messages))
+    (map (λ n. Messages.index_of w n + 1) (filter (Messages.is_ordered_on w s) messages))
     else named_by w s log
 named_by w s (coming ∷ log) = named_by w s log
 
--- the complete ordered messages of a stream up to the last one named, then the unbroken whole run
-abbrev pub run_by : World → List LogEntry → ℕ → List ℕ
+-- the complete ordered messages of a stream up to the last one named, then the unbroken complete run
+abbrev pub run_by : LinkRecord → List LogEntry → ℕ → List ℕ
 run_by w log s =
-    passing (is_whole_by w log) (take (named_by w s log) (Messages.ordered_on w s))
-    ++ leading (is_whole_by w log) (drop (named_by w s log) (Messages.ordered_on w s))
+    filter (is_complete_by w log) (take (named_by w s log) (Messages.ordered_on w s))
+    ++ leading (is_complete_by w log) (drop (named_by w s log) (Messages.ordered_on w s))
 
--- the unordered messages of stream s, in the order in which they became whole
-abbrev pub whole_by : World → List LogEntry → ℕ → List ℕ
-whole_by w [] s = []
-whole_by w (coming ∷ log) s =
-    whole_by w log s ++ Messages.messages_where w
+-- the unordered messages of stream s, in the order in which they became complete
+abbrev pub complete_by : LinkRecord → List LogEntry → ℕ → List ℕ
+complete_by w [] s = []
+complete_by w (coming ∷ log) s =
+    complete_by w log s ++ Messages.messages_where w
     (λ n. Messages.is_unordered_on w s n
-    && (is_whole_by w (coming ∷ log) n && not (is_whole_by w log n)))
+    && (is_complete_by w (coming ∷ log) n && not (is_complete_by w log n)))
 
 -- ## Acknowledgement
 
@@ -158,7 +158,7 @@ abbrev pub is_acknowledged_in : Setup → History → ℕ → Bool
 is_acknowledged_in setup [] place = false
 is_acknowledged_in setup ((E.Acked k, r) ∷ older) place =
     is_acknowledged_in setup older place
-    || reported_by (slice_get (world_of setup older).network k) place
+    || reported_by (slice_get (record_of setup older).network k) place
 is_acknowledged_in setup (entry ∷ older) place = is_acknowledged_in setup older place
 
 -- the cumulative count of a datagram that is a SACK
@@ -170,7 +170,7 @@ cumulative_in _ = 0
 abbrev pub taken_in : Setup → History → ℕ
 taken_in setup [] = 0
 taken_in setup ((E.Acked k, r) ∷ older) =
-    max (taken_in setup older) (cumulative_in (slice_get (world_of setup older).network k))
+    max (taken_in setup older) (cumulative_in (slice_get (record_of setup older).network k))
 taken_in setup (entry ∷ older) = taken_in setup older
 
 -- ## Writes and reads
@@ -207,7 +207,7 @@ mode_in (entry ∷ older) s = mode_in older s
 
 -- the mode of a message with this payload type: DCEP is always ordered (RFC 8832 6)
 abbrev pub mode_for : PayloadProtocolIdentifier → Mode → Mode
-mode_for ppi m = record m { unordered = not (Messages.is_dcep ppi || not m.unordered) }
+mode_for ppi m = record m { unordered = not (is_ordered m.unordered ppi) }
 
 -- the modes of the accepted writes of at least one byte, in order
 abbrev pub modes_in : History → List Mode
@@ -240,7 +240,7 @@ reads_in ((E.Read t, r) ∷ older) s = reads_in older s ++ (if t == s then shown
 reads_in (entry ∷ older) s = reads_in older s
 
 -- the number of the message that a reply hands out
-abbrev pub number_read : World → ℕ → Reply → List ℕ
+abbrev pub number_read : LinkRecord → ℕ → Reply → List ℕ
 number_read w s (R.Message t ppi chunks) = option_to_list (next_read w s)
 number_read w s _ = []
 
@@ -248,7 +248,7 @@ number_read w s _ = []
 abbrev pub numbers_read : Setup → History → ℕ → List ℕ
 numbers_read setup [] s = []
 numbers_read setup ((E.Read t, r) ∷ older) s =
-    numbers_read setup older s ++ (if t == s then number_read (world_of setup older) s r else [])
+    numbers_read setup older s ++ (if t == s then number_read (record_of setup older) s r else [])
 numbers_read setup (entry ∷ older) s = numbers_read setup older s
 
 -- ## Time and bytes
@@ -267,7 +267,8 @@ started_in (entry ∷ older) n =
     else None)
 
 -- a message in this mode with this payload type has a lifetime: a timed one (RFC 3758 4.1), but no
--- DCEP message (RFC 8832 6)
+-- DCEP message (RFC 8832 6). This and the next are stated without the record's deadlines, to which
+-- laws compare them
 abbrev pub has_lifetime : ReliabilityType → PayloadProtocolIdentifier → Bool
 has_lifetime Timed Dcep = false
 has_lifetime Timed ppi = true

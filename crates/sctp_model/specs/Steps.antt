@@ -1,7 +1,6 @@
 -- Which event is refused with what, which reply is right, and what the record is then.
 use Rattle.std.specs.Prelude.{◌≡◌, ℕ, ◌+◌, ◌-◌, ◌^◌, Bool, true, false, ◌&&◌, ◌||◌, not, ◌==◌, nat_lt, nat_le, if◌then◌else◌, List, [], ◌∷◌, length, map, slice_get, Option, Some, None, is_none, is_some, Result, Ok, Err}
-use Rattle.std.specs.List.{list_all, list_any}
-use Rattle.sctp_list_lemmas.specs.Kept.{passing}
+use Rattle.std.specs.List.{list_all, list_any, filter}
 use Rattle.sctp_list_lemmas.specs.Lists.{pieces}
 use Rattle.sctp_model.specs.declared.event.Event.{Event}
 use Rattle.sctp_model.specs.declared.event.Event.TheVariants as E
@@ -9,7 +8,7 @@ use Rattle.sctp_model.specs.Reply.{Reply}
 use Rattle.sctp_model.specs.Reply as R
 use Rattle.sctp_model.specs.declared.event.LinkRefusal.{LinkRefusal}
 use Rattle.sctp_model.specs.declared.event.LinkRefusal.TheVariants.{StreamUnknown, StreamOpen, MessageTooLarge, TsnsUsedUp, NoSuchDatagram, NotInFlight, SkipUnassigned, SkipNames, SpanTooWide, OutOfMemory}
-use Rattle.sctp_model.specs.World.{Setup, Datagram, Data, Forward, Sack, World, start}
+use Rattle.sctp_model.specs.LinkRecord.{Setup, Datagram, Data, Forward, Sack, LinkRecord, start}
 use Rattle.sctp_model.specs.Messages
 use Rattle.sctp_model.specs.Receiver
 use Rattle.sctp_model.specs.Amounts.{in_all, growth}
@@ -23,11 +22,11 @@ abbrev pub unless : Bool → LinkRefusal → Option LinkRefusal → Option LinkR
 unless holds refusal others = if holds then others else Some refusal
 
 -- how many fragments were accepted in all
-abbrev pub fragments_accepted : World → ℕ
+abbrev pub fragments_accepted : LinkRecord → ℕ
 fragments_accepted w = in_all w (Messages.fragment_count w)
 
 -- how many fragments a write of these bytes has
-abbrev pub fragments_in : World → List ℕ → ℕ
+abbrev pub fragments_in : LinkRecord → List ℕ → ℕ
 fragments_in w bytes = length (pieces (length bytes) w.setup.size bytes)
 
 -- DATA and FORWARD-TSN come to the receiver
@@ -42,18 +41,18 @@ is_for_sender (Some (Sack r)) = true
 is_for_sender _ = false
 
 -- a slot in flight that is neither acknowledged nor of an abandoned message can be sent again
-abbrev pub can_resend : World → ℕ → Bool
+abbrev pub can_resend : LinkRecord → ℕ → Bool
 can_resend w place =
     Messages.is_in_flight w place && (not (Messages.slot_at w place).acknowledged
     && not (Messages.message_at w (Messages.message_of w place)).abandoned)
 
 -- all of message n has slots, or it was abandoned
-abbrev pub is_ended : World → ℕ → Bool
+abbrev pub is_ended : LinkRecord → ℕ → Bool
 is_ended w n =
     (Messages.sent_of w n == Messages.fragment_count w n) || (Messages.message_at w n).abandoned
 
 -- a skip up to this slot can name message n: an ordered one whose last slot is at or before it
-abbrev pub can_name : World → ℕ → ℕ → Bool
+abbrev pub can_name : LinkRecord → ℕ → ℕ → Bool
 can_name w upto n =
     nat_lt n (length w.messages) && ((Messages.message_at w n).ordered
     && (is_ended w n && (not (Messages.message_at w n).expired
@@ -61,25 +60,25 @@ can_name w upto n =
     (Messages.slots_where w (Messages.belongs_to w n)))))
 
 -- the ordered messages whose indexes an arrival adds to the span: those of the new fragments, those that a counting skip names
-abbrev pub adds_to_span : World → Option Datagram → List ℕ
-adds_to_span w (Some (Data slots)) = map (Messages.message_of w) (passing (Receiver.is_new w) slots)
+abbrev pub adds_to_span : LinkRecord → Option Datagram → List ℕ
+adds_to_span w (Some (Data slots)) = map (Messages.message_of w) (filter (Receiver.is_new w) slots)
 adds_to_span w (Some (Forward upto messages)) = if Changes.skip_counts w upto then messages else []
 adds_to_span w _ = []
 
 -- the span test, in the state before the arrival and in the one after it
-abbrev pub arrival_fits : World → Option Datagram → Bool
+abbrev pub arrival_fits : LinkRecord → Option Datagram → Bool
 arrival_fits w d =
     Receiver.spans_fit w (adds_to_span w d)
-    && Receiver.spans_fit (Changes.datagram_received w d) (adds_to_span w d)
+    && Receiver.spans_fit (Changes.after_arrive w d) (adds_to_span w d)
 
 -- what a skip up to the slot at this place is refused with, where it is
-abbrev pub skip_refusal : World → ℕ → List ℕ → Option LinkRefusal
+abbrev pub skip_refusal : LinkRecord → ℕ → List ℕ → Option LinkRefusal
 skip_refusal w upto messages =
     unless (nat_lt upto (length w.slots)) SkipUnassigned
     (unless (list_all (can_name w upto) messages && nat_le (length messages) 16381) SkipNames None)
 
 -- what an event is refused with, where it is
-abbrev pub refusal_of : World → Event → Option LinkRefusal
+abbrev pub refusal_of : LinkRecord → Event → Option LinkRefusal
 refusal_of w (E.Open s) = unless (not (Messages.is_open w s)) StreamOpen None
 refusal_of w (E.Mode s unordered reliability value) =
     unless (Messages.is_open w s) StreamUnknown None
@@ -101,58 +100,58 @@ refusal_of w _ = None
 -- ## The record after an accepted event
 
 -- the record after an accepted event
-abbrev pub after : World → Event → World
-after w (E.Open s) = Changes.opened w s
-after w (E.Mode s unordered reliability value) = Changes.mode_set w s unordered reliability value
-after w (E.Write s ppi bytes) = Changes.wrote w s ppi bytes
-after w (E.Start now) = Changes.started w now
-after w (E.Send now) = Changes.sent w now
-after w (E.Resend tsn) = Changes.resent w tsn
-after w (E.Expire now) = Changes.expired w (Changes.expiring w now)
-after w (E.Tail now) = Changes.tail_abandoned w (Changes.tailing w now)
-after w (E.Late now) = Changes.late_abandoned w now
-after w (E.Abandon tsn) = Changes.abandoned w (Messages.message_of w (Messages.place_of w tsn))
+abbrev pub after : LinkRecord → Event → LinkRecord
+after w (E.Open s) = Changes.after_open w s
+after w (E.Mode s unordered reliability value) = Changes.after_mode w s unordered reliability value
+after w (E.Write s ppi bytes) = Changes.after_write w s ppi bytes
+after w (E.Start now) = Changes.after_start w now
+after w (E.Send now) = Changes.after_send w now
+after w (E.Resend tsn) = Changes.after_resend w tsn
+after w (E.Expire now) = Changes.after_expire w (Changes.expiring w now)
+after w (E.Tail now) = Changes.after_tail w (Changes.tailing w now)
+after w (E.Late now) = Changes.after_late w now
+after w (E.Abandon tsn) = Changes.after_abandon w (Messages.message_of w (Messages.place_of w tsn))
 after w (E.Skip upto messages) =
     Changes.with_datagram w (Forward (Messages.place_of w upto) messages.items)
-after w (E.Ack credit) = Changes.reported w credit
-after w (E.Arrive k) = Changes.datagram_received w (slice_get w.network k)
-after w (E.Acked k) = Changes.sack_taken w (slice_get w.network k)
-after w (E.Read s) = Changes.read_from w s
+after w (E.Ack credit) = Changes.after_ack w credit
+after w (E.Arrive k) = Changes.after_arrive w (slice_get w.network k)
+after w (E.Acked k) = Changes.after_acked w (slice_get w.network k)
+after w (E.Read s) = Changes.after_reading w s
 
 -- ## Replies
 
 -- with nothing pending Idle; else the new datagram with the TSN and SSN of its first chunk, and how many chunks it has
-abbrev pub sent_reply : World → World → Option ℕ → Reply
+abbrev pub sent_reply : LinkRecord → LinkRecord → Option ℕ → Reply
 sent_reply old new None = R.Idle
 sent_reply old new (Some n) =
     R.Sent (length old.network) (Messages.tsn_of old (length old.slots)) (Messages.ssn_of old n)
     (length new.slots - length old.slots)
 
 -- the stream of the message that expired and the bytes released, or Idle
-abbrev pub expired_reply : World → World → Option ℕ → Reply
+abbrev pub expired_reply : LinkRecord → LinkRecord → Option ℕ → Reply
 expired_reply old new None = R.Idle
 expired_reply old new (Some n) = R.Expired (Messages.message_at old n).stream (growth old new)
 
 -- the stream of the message that was abandoned and the bytes released, or Idle
-abbrev pub tail_reply : World → World → Option ℕ → Reply
+abbrev pub tail_reply : LinkRecord → LinkRecord → Option ℕ → Reply
 tail_reply old new None = R.Idle
 tail_reply old new (Some n) = R.Released (Messages.message_at old n).stream (growth old new)
 
 -- New where a slot arrived new, else Repeat; Skipped where the skip counts, else Stale
-abbrev pub arrive_reply : World → Option Datagram → Reply
+abbrev pub arrive_reply : LinkRecord → Option Datagram → Reply
 arrive_reply w (Some (Data slots)) = if list_any (Receiver.is_new w) slots then R.New else R.Repeat
 arrive_reply w (Some (Forward upto messages)) =
     if Changes.skip_counts w upto then R.Skipped else R.Stale
 arrive_reply w _ = R.Stale
 
 -- a message is handed out with its stream, its payload type and its chunks
-abbrev pub read_reply : World → Option ℕ → Reply
+abbrev pub read_reply : LinkRecord → Option ℕ → Reply
 read_reply w None = R.Nothing
 read_reply w (Some n) =
     R.Message (Messages.message_at w n).stream (Messages.message_at w n).ppi (handed_out w n)
 
 -- the reply to an event that is not refused
-abbrev pub reply_to : World → Event → Reply
+abbrev pub reply_to : LinkRecord → Event → Reply
 reply_to w (E.Open s) = R.Opened
 reply_to w (E.Mode s unordered reliability value) = R.«Set»
 reply_to w (E.Write s ppi bytes) =
@@ -176,14 +175,15 @@ reply_to w (E.Read s) = read_reply w (Receiver.next_read w s)
 -- ## Right answers
 
 -- an accepted event: its reply is the right one, and the record is the one after it
-pub record IsRight (old : World) (event : Event) (reply : Reply) (new : World) : Type 0 where
+pub record IsRight (old : LinkRecord) (event : Event) (reply : Reply)
+    (new : LinkRecord) : Type 0 where
   pub right : reply ≡ reply_to old event
   pub moves : new ≡ after old event
 
 -- an accepted event can take memory: never Mode, Start, Expire or Read; a Write of some bytes,
 -- a Send with a fragment pending, a Tail and a Late of what is past its deadline, an Abandon of a partially sent
 -- message, which takes a terminal chunk; each other event
-abbrev pub takes_memory : World → Event → Bool
+abbrev pub takes_memory : LinkRecord → Event → Bool
 takes_memory w (E.Mode s unordered reliability value) = false
 takes_memory w (E.Write s ppi bytes) = nat_lt 0 (length bytes)
 takes_memory w (E.Start now) = false
@@ -198,23 +198,23 @@ takes_memory w e = true
 
 -- want of memory may refuse an event that can take memory, and no other, where no test before it
 -- does; an Arrive reads its datagram before the span test
-abbrev pub may_want_memory : World → Event → Bool
+abbrev pub may_want_memory : LinkRecord → Event → Bool
 may_want_memory w (E.Arrive k) = is_for_receiver (slice_get w.network k)
 may_want_memory w e = takes_memory w e && is_none (refusal_of w e)
 
 -- the event may be refused with this
-abbrev pub Refuses : World → Event → LinkRefusal → Type 0
+abbrev pub Refuses : LinkRecord → Event → LinkRefusal → Type 0
 Refuses w e OutOfMemory = may_want_memory w e ≡ true
 Refuses w e refusal = refusal_of w e ≡ Some refusal
 
 -- a refused event changes nothing
-pub record IsRefusal (old : World) (event : Event) (refusal : LinkRefusal)
-    (new : World) : Type 0 where
+pub record IsRefusal (old : LinkRecord) (event : Event) (refusal : LinkRefusal)
+    (new : LinkRecord) : Type 0 where
   pub because : Refuses old event refusal
   pub same : new ≡ old
 
 -- what a step may answer
-abbrev pub Answers : World → Event → Result Reply LinkRefusal → World → Type 0
+abbrev pub Answers : LinkRecord → Event → Result Reply LinkRefusal → LinkRecord → Type 0
 Answers old event (Ok reply) new = (refusal_of old event ≡ None) × IsRight old event reply new
 Answers old event (Err refusal) new = IsRefusal old event refusal new
 
@@ -225,23 +225,23 @@ abbrev pub History : Type 0
 History = List (Event × Reply)
 
 -- the record that a history leads to
-abbrev pub world_of : Setup → History → World
-world_of setup [] = start setup
-world_of setup (entry ∷ older) = after (world_of setup older) entry.0
+abbrev pub record_of : Setup → History → LinkRecord
+record_of setup [] = start setup
+record_of setup (entry ∷ older) = after (record_of setup older) entry.0
 
 -- each entry was accepted where it came, and answered rightly
 abbrev pub IsRun : Setup → History → Type 0
 IsRun setup [] = Unit {0}
 IsRun setup (entry ∷ older) =
-    (refusal_of (world_of setup older) entry.0 ≡ None)
-    × ((entry.1 ≡ reply_to (world_of setup older) entry.0) × IsRun setup older)
+    (refusal_of (record_of setup older) entry.0 ≡ None)
+    × ((entry.1 ≡ reply_to (record_of setup older) entry.0) × IsRun setup older)
 
 -- the record is that of this history
-pub record StandsFor (setup : Setup) (w : World) (h : History) : Type 0 where
-  pub is : w ≡ world_of setup h
+pub record StandsFor (setup : Setup) (w : LinkRecord) (h : History) : Type 0 where
+  pub is : w ≡ record_of setup h
   pub run : IsRun setup h
 
 -- after a reply it is that of the longer history, after a refusal still that of the same
-abbrev pub StandsAfter : Setup → World → Event → Result Reply LinkRefusal → History → Type 0
+abbrev pub StandsAfter : Setup → LinkRecord → Event → Result Reply LinkRefusal → History → Type 0
 StandsAfter setup new event (Ok reply) h = StandsFor setup new ((event, reply) ∷ h)
 StandsAfter setup new event (Err refusal) h = StandsFor setup new h

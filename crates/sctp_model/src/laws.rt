@@ -1,6 +1,6 @@
 //! What holds of every history of a link: laws, each the contract of a function that does nothing.
 
-ghost use Rattle.sctp_model.specs.Laws.{OnEveryRun, EmitsWherePending, TakesPending, IdleIsAnswered, WithinLimit, FilledToLimit, SlotsInOrder, SlotsFollow, OnePartiallySent, SentInTurn, IndexesLeaveNoGap, NoTerminalChunkIsSent, DatagramsStay, Balances, SumsAgree, AcknowledgedArrived, AcknowledgedIsReported, SacksSay, NetworkIsMade, ArrivedIsNew, CumulativeIsSeen, ArrivalsAnswered, WholeIsWhole, NamedIsNamed, SpansFit, MessagesAreWrites, ModesAreKept, ReadsShowMessages, ReadsBeginRun, ReadsBeginWholeRun, ReadsBeginWhole, ReadsDiffer, UnorderedFirst, NothingWhereRead, StartsOnce, DeadlinesByEvents, ExpiresPastDeadline, TailAbandonsPastDeadline, LateListsPastDeadline, LateAbandonsListed, ReadsAreSettled, ReadsByArrivals, NoneIsLost, CountersAreSums, Headline, Beside, ReliableDelivery, PartialDelivery};
+ghost use Rattle.sctp_model.specs.Laws.{OnEveryRun, EmitsWherePending, TakesPending, IdleIsAnswered, WithinLimit, FilledToLimit, SlotsInOrder, SlotsFollow, OnePartiallySent, SentInTurn, IndexesLeaveNoGap, NoTerminalChunkIsSent, DatagramsStay, Balances, SumsAgree, AcknowledgedArrived, AcknowledgedIsReported, SacksSay, NetworkIsMade, ArrivedIsNew, CumulativeIsSeen, ArrivalsAnswered, CompletenessAgrees, NamedIsNamed, SpansFit, MessagesAreWrites, ModesAreKept, ReadsShowMessages, ReadsBeginRun, ReadsBeginCompleteRun, ReadsBeginComplete, ReadsDiffer, UnorderedFirst, NothingWhereRead, StartsOnce, DeadlinesByEvents, ExpiresPastDeadline, TailAbandonsPastDeadline, LateListsPastDeadline, LateAbandonsListed, ReadsAreSettled, ReadsByArrivals, NoneIsLost, CountersAreSums, Headline, Beside, ReliableDelivery, PartialDelivery};
 ghost use Rattle.sctp_model.specs.Valid.{RecordIsValid, SlotsComeValid, SkipsComeValid};
 
 /// A Send answers Idle exactly where no fragment is pending, be memory refused or not; else its
@@ -49,23 +49,23 @@ pub fn arrivals_agree()
     ensures arrived { OnEveryRun ArrivedIsNew }
     ensures cumulative { OnEveryRun CumulativeIsSeen }
     ensures answered { OnEveryRun ArrivalsAnswered }
-    ensures whole { OnEveryRun WholeIsWhole }
+    ensures complete { OnEveryRun CompletenessAgrees }
     ensures named { OnEveryRun NamedIsNamed }
     ensures spans { OnEveryRun SpansFit }
 {}
 
-/// The ordered messages of a stream are read in order, each as it was written, as far as they are whole.
+/// The ordered messages of a stream are read in order, each as it was written, as far as they are complete.
 pub fn ordered_reads()
     ensures writes { OnEveryRun MessagesAreWrites }
     ensures modes { OnEveryRun ModesAreKept }
     ensures show { OnEveryRun ReadsShowMessages }
     ensures run { OnEveryRun ReadsBeginRun }
-    ensures whole_run { OnEveryRun ReadsBeginWholeRun }
+    ensures complete_run { OnEveryRun ReadsBeginCompleteRun }
 {}
 
-/// The unordered messages of a stream are read each once, in the order in which they became whole, and before any ordered one.
+/// The unordered messages of a stream are read each once, in the order in which they became complete, and before any ordered one.
 pub fn unordered_reads()
-    ensures whole { OnEveryRun ReadsBeginWhole }
+    ensures complete { OnEveryRun ReadsBeginComplete }
     ensures differ { OnEveryRun ReadsDiffer }
     ensures first { OnEveryRun UnorderedFirst }
 {}
@@ -120,7 +120,7 @@ pub fn records_are_valid()
 /// All laws of this module at once, for every history of a link, every first TSN, fragment size,
 /// greatest message and limit: each Send emits a pending fragment while one exists; reading until
 /// nothing is left gives exactly each complete unordered message once and, per stream in writing order,
-/// the complete ordered messages up to the last named, then the unbroken whole run; only what arrived or
+/// the complete ordered messages up to the last named, then the unbroken complete run; only what arrived or
 /// was skipped is acknowledged; written bytes equal pending plus in flight plus released. Beside it:
 /// slots, limits of datagrams, arrivals, lifetimes, counters, reads without loss, and valid records.
 pub fn every_history()

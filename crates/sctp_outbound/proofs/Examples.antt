@@ -1,5 +1,6 @@
 -- Worked examples, by computation.
-use Rattle.std.proofs.Common.{◌≡◌, ℕ, Bool, true, false, List, [], ◌∷◌, map, None, lit≤, refl, arith}
+use Rattle.std.proofs.Common.{◌≡◌, ℕ, Bool, true, false, List, [], ◌∷◌, map, lit≤, refl, arith}
+use Rattle.sctp_chunks.specs.ChunkSet.{fresh}
 use Rattle.sctp_chunks.specs.declared.chunk.chunk_payload_data.ChunkPayloadData.{ChunkPayloadData}
 use Rattle.sctp_chunks.specs.declared.chunk.chunk_payload_data.PayloadProtocolIdentifier.TheVariants as identifiers
 use Rattle.sctp_list_lemmas.specs.Kept.{runs_of}
@@ -27,7 +28,7 @@ three_distances = refl
 -- ## Runs of calls
 
 abbrev fragment : Bool → Bool → Bool → ChunkPayloadData
-fragment unordered beginning ending = record {
+fragment unordered beginning ending = fresh (record {
   unordered = unordered;
   beginning_fragment = beginning;
   ending_fragment = ending;
@@ -37,16 +38,7 @@ fragment unordered beginning ending = record {
   stream_sequence_number = 0;
   payload_type = identifiers.Binary;
   user_data = 7 ∷ [];
-  acked = false;
-  miss_indicator = 0;
-  message_id = 0;
-  abandoned = false;
-  since = None;
-  reliability = None;
-  deadline = None;
-  nsent = 0;
-  retransmit = false;
-}
+})
 
 abbrev three_fragments : Call
 three_fragments = push (fragment false true false ∷ fragment false false false ∷ fragment false false true ∷ [])

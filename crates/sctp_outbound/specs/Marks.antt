@@ -5,8 +5,8 @@ use Rattle.sctp_outbound.specs.declared.payload_queue.held.Mark.{Mark}
 use Rattle.sctp_outbound.specs.declared.payload_queue.held.Mark.TheVariants.{Acknowledged, Abandoned, Retransmit, Nsent, Since, MissIndicator}
 
 -- acknowledged: its bytes are gone
-abbrev pub acknowledged : ChunkPayloadData → ChunkPayloadData
-acknowledged c = record c { acked = true; retransmit = false; user_data = [] }
+abbrev pub as_acknowledged : ChunkPayloadData → ChunkPayloadData
+as_acknowledged c = record c { acked = true; retransmit = false; user_data = [] }
 
 -- of a message that is abandoned: its bytes are gone
 abbrev pub as_abandoned : ChunkPayloadData → ChunkPayloadData
@@ -25,13 +25,13 @@ abbrev pub with_miss_indicator : ℕ → ChunkPayloadData → ChunkPayloadData
 with_miss_indicator n c = record c { miss_indicator = n }
 
 -- what each mark makes
-abbrev pub marked : Mark → ChunkPayloadData → ChunkPayloadData
-marked Acknowledged c = acknowledged c
-marked Abandoned c = as_abandoned c
-marked (Retransmit b) c = with_retransmit b c
-marked (Nsent n) c = with_nsent n c
-marked (Since since) c = with_since since c
-marked (MissIndicator n) c = with_miss_indicator n c
+abbrev pub with_mark : Mark → ChunkPayloadData → ChunkPayloadData
+with_mark Acknowledged c = as_acknowledged c
+with_mark Abandoned c = as_abandoned c
+with_mark (Retransmit b) c = with_retransmit b c
+with_mark (Nsent n) c = with_nsent n c
+with_mark (Since since) c = with_since since c
+with_mark (MissIndicator n) c = with_miss_indicator n c
 
 -- neither acknowledged nor abandoned
 abbrev pub is_outstanding : ChunkPayloadData → Bool

@@ -3,14 +3,15 @@
 ghost use Rattle.std.specs.Prelude.{◌≡◌, ◌==◌, ℕ, Bool, ◌⊎◌, ◌+◌, ◌^◌, ◌<◌, ◌≤◌, ◌||◌, [], length, map, max, false, true, OnOk, OnErr, OnSome, IfOk, IfSome, IsOk, IsOkUnless, IsSome, IsTrue, find, is_some, unwrap_or, option_copied, if◌then◌else◌};
 ghost use Rattle.std.specs.Option.{option_map};
 ghost use Rattle.std.specs.List.{list_any};
+ghost use Rattle.sctp_chunks.specs.Reliability.{is_past};
 ghost use Rattle.sctp_base.specs.declared.error.Error.TheVariants.{ErrOutOfMemory};
 ghost use Rattle.sctp_list_lemmas.specs.Lists.{change_where};
 ghost use Rattle.sctp_outbound.specs.Marks.{is_outstanding};
 ghost use Rattle.sctp_outbound.specs.pending_queue.PendingQueue as pending;
 ghost use Rattle.sctp_outbound.specs.pending_queue.Whole.{GoesOn, IsMessageOrNone, partially_sent, waits};
 ghost use Rattle.sctp_serial.specs.Window.{SpansOneWindow, is_held};
-ghost use Rattle.sctp_serial.specs.DataChunks.{has_tsn, bytes_of};
-ghost use Rattle.sctp_outbound.specs.outbound_queue.OutboundQueue.{is_past, is_expired, is_expired_tail, is_late, released_of, expired_bytes, tail_bytes};
+ghost use Rattle.sctp_serial.specs.DataChunks.{has_tsn, bytes_of, following_tsn, is_on};
+ghost use Rattle.sctp_outbound.specs.outbound_queue.OutboundQueue.{is_expired, is_expired_tail, is_late, released_of, expired_bytes, tail_bytes};
 
 mod message;
 mod waiting;
@@ -18,7 +19,6 @@ mod waiting;
 use self::message::{is_message_or_none, is_room_for};
 use crate::payload_queue::{PayloadQueue, is_outstanding};
 use crate::pending_queue::PendingQueue;
-use crate::pending_queue::line::is_dcep;
 use sctp_base::error::Result;
 use sctp_chunks::chunk::chunk_payload_data::ChunkPayloadData;
 use std::alloc::Global;
@@ -58,29 +58,13 @@ impl Model for OutboundQueue {
 }
 
 impl OutboundQueue {
-    ghost use Rattle.sctp_outbound.specs.Marks.{acknowledged, with_retransmit, with_nsent, with_since, with_miss_indicator};
-    ghost use Rattle.sctp_outbound.specs.outbound_queue.OutboundQueue.{Outbound, total_bytes, with_inflight, with_message, has_room, all_started, following_tsn, sent_peeked, sent_next, abandoned, tsn_after, to_abandon, abandoned_of, tsn_after_of, has_tail, expiring, expired_of, expiring_tail, message_of, late_tsns, after_sends};
+    ghost use Rattle.sctp_outbound.specs.Marks.{as_acknowledged, with_retransmit, with_nsent, with_since, with_miss_indicator};
+    ghost use Rattle.sctp_outbound.specs.outbound_queue.OutboundQueue.{Outbound, new_outbound, total_bytes, with_inflight, with_message, has_room, all_started, sent_peeked, sent_next, abandon_chunks, tsn_after, to_abandon, abandoned_of, tsn_after_of, has_tail, expiring, expired_of, expiring_tail, message_of, late_tsns, after_sends};
     ghost use Rattle.sctp_outbound.specs.payload_queue.PayloadQueue.{front_with, without_front};
 
     /// A queue of nothing, whose first message gets the number 0. It takes no memory.
     pub fn new(alloc: Global) -> Self
-        ensures { result
-            ≡ record {
-              pending = record {
-                ordered = [];
-                unordered = [];
-                selected = None;
-                ordered_room = 0;
-                unordered_room = 0;
-              };
-              inflight = record {
-                chunks = [];
-                duplicates = [];
-                room = 0;
-              };
-              next_message_id = 0;
-              next_unstarted = 0;
-            } }
+        ensures { result ≡ new_outbound }
     {
         OutboundQueue {
             pending: PendingQueue::new(alloc),
@@ -153,17 +137,17 @@ impl OutboundQueue {
 
     /// The chunk that would be sent next: while a message is partially sent, its next fragment.
     pub fn peek_pending(&self) -> Option<&ChunkPayloadData>
-        ensures value { option_copied result ≡ pending.peeked self.now.pending }
+        ensures value { option_copied result ≡ pending.next_pending self.now.pending }
         ensures goes_on { (m : ℕ)
             → partially_sent self.now.pending ≡ Some m
-            → GoesOn m (pending.peeked self.now.pending) }
+            → GoesOn m (pending.next_pending self.now.pending) }
     {
         self.pending.peek()
     }
 
     /// The chunk that a peek would give after so many sends, its deadline not yet started. None where fewer wait.
     pub fn peek_pending_at(&self, sends: usize) -> Option<&ChunkPayloadData>
-        ensures { option_copied result ≡ pending.peeked (after_sends sends self.now.pending) }
+        ensures { option_copied result ≡ pending.next_pending (after_sends sends self.now.pending) }
     {
         self.pending.peek_at(sends)
     }
@@ -190,16 +174,17 @@ impl OutboundQueue {
         requires window { SpansOneWindow self.old.inflight.chunks next_tsn.old }
         ensures goes_on { (m : ℕ)
             → partially_sent self.old.pending ≡ Some m
-            → GoesOn m (pending.peeked self.old.pending) }
+            → GoesOn m (pending.next_pending self.old.pending) }
         ensures sent { IfOk result (λ sent. sent
-            ≡ option_map (λ _. next_tsn.old) (pending.peeked self.old.pending)) }
+            ≡ option_map (λ _. next_tsn.old) (pending.next_pending self.old.pending)) }
         ensures ok { OnOk result (self.new ≡ sent_next self.old next_tsn.old now) }
-        ensures raised { OnOk result (next_tsn.new ≡ (if is_some (pending.peeked self.old.pending)
+        ensures raised { OnOk result (next_tsn.new
+            ≡ (if is_some (pending.next_pending self.old.pending)
             then following_tsn next_tsn.old else next_tsn.old)) }
         ensures err { OnErr result ((self.new ≡ self.old) × (next_tsn.new ≡ next_tsn.old)) }
         ensures memory { IsOkUnless result ErrOutOfMemory }
         ensures succeeds { 0 < self.old.inflight.room → IsOk result }
-        ensures idle { pending.peeked self.old.pending ≡ None → IsOk result }
+        ensures idle { pending.next_pending self.old.pending ≡ None → IsOk result }
     {
         let Some(_) = self.pending.peek() else {
             self.start_timed_messages(now);
@@ -215,7 +200,7 @@ impl OutboundQueue {
 
     // Puts the peeked chunk in flight. There is one, and room for it.
     fn send_peeked(&mut self, tsn: u32, now: u64)
-        requires some { IsSome (pending.peeked self.old.pending) }
+        requires some { IsSome (pending.next_pending self.old.pending) }
         requires room { 0 < self.old.inflight.room }
         requires fresh { is_held self.old.inflight.chunks tsn ≡ false }
         requires window { SpansOneWindow self.old.inflight.chunks tsn }
@@ -285,7 +270,7 @@ impl OutboundQueue {
         requires window { SpansOneWindow self.old.inflight.chunks next_tsn.old }
         ensures released { IfOk result (λ bytes. total_bytes self.new + bytes
             ≡ total_bytes self.old) }
-        ensures ok { OnOk result (self.new ≡ abandoned message_id next_tsn.old self.old) }
+        ensures ok { OnOk result (self.new ≡ abandon_chunks message_id next_tsn.old self.old) }
         ensures raised { OnOk result (next_tsn.new ≡ tsn_after message_id next_tsn.old self.old) }
         ensures err { OnErr result ((self.new ≡ self.old) × (next_tsn.new ≡ next_tsn.old)) }
         ensures memory { IsOkUnless result ErrOutOfMemory }
@@ -309,7 +294,7 @@ impl OutboundQueue {
         requires fresh { is_held self.old.inflight.chunks tsn ≡ false }
         requires window { SpansOneWindow self.old.inflight.chunks tsn }
         ensures released { total_bytes self.new + result ≡ total_bytes self.old }
-        ensures abandoned { self.new ≡ abandoned message_id tsn self.old }
+        ensures abandoned { self.new ≡ abandon_chunks message_id tsn self.old }
     {
         let in_flight = self.inflight.abandon_message(message_id);
         let (pending, last) = self.pending.remove_message(message_id);
@@ -452,7 +437,7 @@ impl OutboundQueue {
     /// sent again. Answers how many bytes left, 0 where the TSN is not in flight.
     pub fn mark_as_acked(&mut self, tsn: u32) -> usize
         ensures acked { self.new ≡ with_inflight self.old
-            (change_where (has_tsn tsn) acknowledged self.old.inflight.chunks) }
+            (change_where (has_tsn tsn) as_acknowledged self.old.inflight.chunks) }
         ensures left { total_bytes self.new + result ≡ total_bytes self.old }
     {
         self.inflight.mark_as_acked(tsn)
@@ -531,17 +516,17 @@ impl OutboundQueue {
 
     /// Whether a chunk of the stream waits.
     pub fn pending_contains_stream(&self, stream_identifier: u16) -> bool
-        ensures { result ≡ list_any (pending.is_on stream_identifier) self.now.pending.unordered
-            || list_any (pending.is_on stream_identifier) self.now.pending.ordered }
+        ensures { result ≡ list_any (is_on stream_identifier) self.now.pending.unordered
+            || list_any (is_on stream_identifier) self.now.pending.ordered }
     {
         self.pending.contains_stream(stream_identifier)
     }
 
     /// Whether a chunk of the stream waits or is in flight.
     pub fn contains_stream(&self, stream_identifier: u16) -> bool
-        ensures { result ≡ (list_any (pending.is_on stream_identifier) self.now.pending.unordered
-            || list_any (pending.is_on stream_identifier) self.now.pending.ordered)
-            || list_any (pending.is_on stream_identifier) self.now.inflight.chunks }
+        ensures { result ≡ (list_any (is_on stream_identifier) self.now.pending.unordered
+            || list_any (is_on stream_identifier) self.now.pending.ordered)
+            || list_any (is_on stream_identifier) self.now.inflight.chunks }
     {
         self.pending.contains_stream(stream_identifier)
             || self.inflight.contains_stream(stream_identifier)
@@ -579,7 +564,7 @@ impl OutboundQueue {
     /// Refuses only for memory, and the queue is as it was then.
     pub fn reserve(&mut self, ordered: usize, unordered: usize) -> Result<()>
         ensures ok { OnOk result (self.new
-            ≡ record self.old { pending = pending.reserved self.old.pending ordered unordered }) }
+            ≡ record self.old { pending = pending.with_room self.old.pending ordered unordered }) }
         ensures err { OnErr result (self.new ≡ self.old) }
         ensures memory { IsOkUnless result ErrOutOfMemory }
         ensures succeeds { ordered ≤ self.old.pending.ordered_room
@@ -622,7 +607,7 @@ fn is_expired(chunk: &ChunkPayloadData, now: u64) -> bool
 {
     chunk.beginning_fragment
         && !chunk.user_data.is_empty()
-        && !is_dcep(chunk.payload_type)
+        && !chunk.payload_type.is_dcep()
         && is_past(chunk.deadline, now)
 }
 
@@ -630,7 +615,7 @@ fn is_expired(chunk: &ChunkPayloadData, now: u64) -> bool
 fn is_expired_tail(chunk: &ChunkPayloadData, now: u64) -> bool
     ensures { result ≡ is_expired_tail now chunk.now }
 {
-    !chunk.beginning_fragment && !is_dcep(chunk.payload_type) && is_past(chunk.deadline, now)
+    !chunk.beginning_fragment && !chunk.payload_type.is_dcep() && is_past(chunk.deadline, now)
 }
 
 // Whether the chunk in flight is past its deadline, not abandoned, and not acknowledged or of a message with an unsent tail.

@@ -243,8 +243,8 @@ pub(crate) fn is_outstanding(chunk: &ChunkPayloadData) -> bool
 }
 
 impl PayloadQueue {
-    ghost use Rattle.sctp_outbound.specs.payload_queue.PayloadQueue.{Payload, with_chunks, pushed, repeated, front_with, without_front, without, past};
-    ghost use Rattle.sctp_outbound.specs.Marks.{marked, acknowledged, as_abandoned, with_retransmit, with_nsent, with_since, with_miss_indicator, is_of};
+    ghost use Rattle.sctp_outbound.specs.payload_queue.PayloadQueue.{Payload, with_chunks, push_chunk, add_duplicate, front_with, without_front, without, past};
+    ghost use Rattle.sctp_outbound.specs.Marks.{with_mark, as_acknowledged, as_abandoned, with_retransmit, with_nsent, with_since, with_miss_indicator, is_of};
 
     /// A queue of nothing. It takes no memory.
     pub fn new(alloc: Global) -> Self
@@ -311,7 +311,7 @@ impl PayloadQueue {
         requires fresh { is_held self.old.chunks chunk.tsn ≡ false }
         requires window { SpansOneWindow self.old.chunks chunk.tsn }
         requires bytes { bytes_of self.old.chunks + length chunk.user_data < 2 ^ 64 }
-        ensures ok { OnOk result (self.new ≡ pushed self.old chunk) }
+        ensures ok { OnOk result (self.new ≡ push_chunk self.old chunk) }
         ensures err { OnErr result (self.new ≡ self.old) }
         ensures memory { IsOkUnless result ErrOutOfMemory }
         ensures succeeds { 0 < self.old.room → IsOk result }
@@ -335,7 +335,7 @@ impl PayloadQueue {
         ensures answer { IfOk result (λ new. new
             ≡ is_new self.old.chunks chunk.tsn cumulative_tsn) }
         ensures ok { IfOk result (λ new. self.new
-            ≡ (if new then pushed self.old chunk else repeated self.old chunk.tsn)) }
+            ≡ (if new then push_chunk self.old chunk else add_duplicate self.old chunk.tsn)) }
         ensures err { OnErr result (self.new ≡ self.old) }
         ensures memory { IsOkUnless result ErrOutOfMemory }
         ensures succeeds { 0 < self.old.room
@@ -357,7 +357,7 @@ impl PayloadQueue {
         requires window { SpansOneWindow self.old.chunks chunk.tsn }
         requires fits { chunk.tsn < 2 ^ 32 }
         requires bytes { bytes_of self.old.chunks + length chunk.user_data < 2 ^ 64 }
-        ensures ok { OnOk result (self.new ≡ pushed self.old chunk) }
+        ensures ok { OnOk result (self.new ≡ push_chunk self.old chunk) }
         ensures err { OnErr result (self.new ≡ self.old) }
         ensures memory { IsOkUnless result ErrOutOfMemory }
         ensures succeeds { 0 < self.old.room → IsOk result }
@@ -590,7 +590,7 @@ impl PayloadQueue {
     /// Answers how many bytes left, 0 where the TSN is not held.
     pub fn mark_as_acked(&mut self, tsn: u32) -> usize
         ensures acked { self.new
-            ≡ with_chunks self.old (change_where (has_tsn tsn) acknowledged self.old.chunks) }
+            ≡ with_chunks self.old (change_where (has_tsn tsn) as_acknowledged self.old.chunks) }
         ensures left { bytes_of self.new.chunks + result ≡ bytes_of self.old.chunks }
     {
         self.mark(tsn, Mark::Acknowledged).unwrap_or(0)
@@ -637,7 +637,7 @@ impl PayloadQueue {
     // Marks the chunk with this TSN, and answers the bytes that left with it.
     fn mark(&mut self, tsn: u32, mark: Mark) -> Option<usize>
         ensures changed { self.new
-            ≡ with_chunks self.old (change_where (has_tsn tsn) (marked mark) self.old.chunks) }
+            ≡ with_chunks self.old (change_where (has_tsn tsn) (with_mark mark) self.old.chunks) }
         ensures held { is_some result ≡ is_held self.old.chunks tsn }
         ensures left { bytes_of self.new.chunks + unwrap_or result 0 ≡ bytes_of self.old.chunks }
     {

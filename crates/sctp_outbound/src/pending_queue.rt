@@ -4,9 +4,9 @@ ghost use Rattle.std.specs.Prelude.{◌≡◌, ◌==◌, ◌+◌, ◌^◌, ◌<�
 ghost use Rattle.std.specs.List.{list_any};
 ghost use Rattle.sctp_base.specs.declared.error.Error.TheVariants.{ErrOutOfMemory};
 ghost use Rattle.sctp_outbound.specs.Marks.{is_of};
-ghost use Rattle.sctp_outbound.specs.outbound_queue.OutboundQueue.{appended, with_message_id};
+ghost use Rattle.sctp_outbound.specs.outbound_queue.OutboundQueue.{append_chunks, with_message_id};
 ghost use Rattle.sctp_outbound.specs.pending_queue.Whole.{NumbersAscend, has_end, order_of, ordered_first};
-ghost use Rattle.sctp_serial.specs.DataChunks.{bytes_of};
+ghost use Rattle.sctp_serial.specs.DataChunks.{bytes_of, is_on};
 ghost use Rattle.sctp_outbound.specs.pending_queue.PendingQueue.{list_to_pop, selected_after, selected_without};
 
 pub(crate) mod line;
@@ -54,7 +54,7 @@ impl Model for PendingQueue {
 }
 
 impl PendingQueue {
-    ghost use Rattle.sctp_outbound.specs.pending_queue.PendingQueue.{Pending, chunk_count, total_bytes, room_for, reserved, pushed, peeked, popped, rest_after, list_of, rest_of, removed_bytes, last_removed, without, closed_up, started, is_on};
+    ghost use Rattle.sctp_outbound.specs.pending_queue.PendingQueue.{Pending, chunk_count, total_bytes, room_for, with_room, push_pending, next_pending, chunk_to_pop, rest_after, list_of, rest_of, removed_bytes, last_removed, without, closed_up, start_pending};
 
     /// A queue of nothing. It takes no memory.
     pub fn new(alloc: Global) -> Self
@@ -78,7 +78,7 @@ impl PendingQueue {
     /// Refuses only for memory, and never within the room of `reserve`. The queue is as it was then.
     pub fn push(&mut self, chunk: ChunkPayloadData) -> Result<()>
         requires { total_bytes self.old + length chunk.user_data < 2 ^ 64 }
-        ensures ok { OnOk result (self.new ≡ pushed self.old chunk) }
+        ensures ok { OnOk result (self.new ≡ push_pending self.old chunk) }
         ensures err { OnErr result (self.new ≡ self.old) }
         ensures memory { IsOkUnless result ErrOutOfMemory }
         ensures succeeds { 0 < room_for self.old chunk.unordered → IsOk result }
@@ -101,7 +101,7 @@ impl PendingQueue {
     ) -> Result<()>
         requires { total_bytes self.old + bytes_of chunks.items < 2 ^ 64 }
         ensures ok { OnOk result (self.new
-            ≡ appended unordered (map (with_message_id message_id) chunks.items) self.old) }
+            ≡ append_chunks unordered (map (with_message_id message_id) chunks.items) self.old) }
         ensures bytes { OnOk result (total_bytes self.new
             ≡ total_bytes self.old + bytes_of chunks.items) }
         ensures err { OnErr result (self.new ≡ self.old) }
@@ -119,7 +119,7 @@ impl PendingQueue {
     /// it is `now`, in nanoseconds, plus the milliseconds of their reliability, or none where that passes
     /// the greatest u64. Messages that establish a channel never get one (RFC 8832 6). It takes no memory.
     pub fn start_timed_messages(&mut self, first_message_id: u64, now: u64)
-        ensures { self.new ≡ started first_message_id now self.old }
+        ensures { self.new ≡ start_pending first_message_id now self.old }
     {
         self.ordered.start_timed_messages(first_message_id, now);
         self.unordered.start_timed_messages(first_message_id, now);
@@ -131,7 +131,7 @@ impl PendingQueue {
     pub(crate) fn start_latest_messages(&mut self, first_message_id: u64, now: u64)
         requires ordered { NumbersAscend self.old.ordered }
         requires unordered { NumbersAscend self.old.unordered }
-        ensures { self.new ≡ started first_message_id now self.old }
+        ensures { self.new ≡ start_pending first_message_id now self.old }
     {
         self.ordered.start_latest_messages(first_message_id, now);
         self.unordered.start_latest_messages(first_message_id, now);
@@ -139,7 +139,7 @@ impl PendingQueue {
 
     /// The front of the partially sent message's list; with none partially sent the unordered front, else the ordered one.
     pub fn peek(&self) -> Option<&ChunkPayloadData>
-        ensures { option_copied result ≡ peeked self.now }
+        ensures { option_copied result ≡ next_pending self.now }
     {
         match self.selected {
             Some(selected) => self.list(selected.unordered).get(0),
@@ -188,7 +188,7 @@ impl PendingQueue {
     /// list that `unordered` names, where `beginning_fragment` is true. Handed the flags of
     /// what a peek shows, it takes that chunk, if a message is partially sent or begins there.
     pub fn pop(&mut self, beginning_fragment: bool, unordered: bool) -> Option<ChunkPayloadData>
-        ensures popped { result ≡ popped beginning_fragment unordered self.old }
+        ensures popped { result ≡ chunk_to_pop beginning_fragment unordered self.old }
         ensures rest { self.new ≡ rest_after beginning_fragment unordered self.old }
     {
         let unordered = list_to_pop(self.selected, beginning_fragment, unordered)?;
@@ -287,7 +287,7 @@ impl PendingQueue {
     /// From here on so many pushes of ordered and of unordered chunks take no memory.
     /// Refuses only for memory, and the queue is as it was then.
     pub fn reserve(&mut self, ordered: usize, unordered: usize) -> Result<()>
-        ensures ok { OnOk result (self.new ≡ reserved self.old ordered unordered) }
+        ensures ok { OnOk result (self.new ≡ with_room self.old ordered unordered) }
         ensures err { OnErr result (self.new ≡ self.old) }
         ensures memory { IsOkUnless result ErrOutOfMemory }
         ensures succeeds { ordered ≤ self.old.ordered_room

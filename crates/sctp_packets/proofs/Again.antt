@@ -5,15 +5,15 @@ use Rattle.std.proofs.lemmas.List.{take_at, drop_at, append-nil, length-replicat
 use Rattle.std.proofs.lemmas.List.Elements.{All-replicate}
 use Rattle.std.proofs.lemmas.List.Concat.{flat_map-cons}
 use Rattle.sctp_base.specs.Field.{be16, be32, le32, u16_at, u32_at, u32_le_at}
-use Rattle.sctp_base.specs.Padding.{padding_of, padded, four_zeroes}
+use Rattle.sctp_base.specs.Padding.{padding_of, padded_length, four_zeroes}
 use Rattle.sctp_base.proofs.Fields.{length_be16, length_le32, u16_at_be16, u32_at_be32, u32_le_at_le32}
-use Rattle.sctp_chunks.specs.Framing.{declared}
+use Rattle.sctp_chunks.specs.Framing.{declared_length}
 use Rattle.sctp_chunks.specs.Wire.{Wire, HasEncoding, encoding_of, type_of, flags_of, value_of}
 use Rattle.sctp_chunks.specs.Fits.{Fits, Canonical}
 use Rattle.sctp_chunks.proofs.Again.{framed_declared}
 use Rattle.sctp_chunks.proofs.AgainKinds.{chunk_again}
 use Rattle.sctp_base.specs.Walk.{Walks}
-use Rattle.sctp_packets.specs.Packet.{Parts, Steps, after, IsCanonical, padded_encoding, body_of, head_encoding, head_of, packet_encoding, summed, ReadsPacket, HavePacketEncoding, FitsParts}
+use Rattle.sctp_packets.specs.Packet.{Parts, Steps, after, IsCanonical, padded_encoding, body_of, head_encoding, head_of, packet_encoding, checksum_input, ReadsPacket, HavePacketEncoding, FitsParts}
 use Rattle.sctp_packets.proofs.Sealed.{length_head_encoding}
 use Rattle.sctp_packets.proofs.Written.{length_encoding}
 
@@ -36,8 +36,8 @@ body_again (w ∷ ws) plain fits short =
     let e = body_next w ws in
     let rest : List ℕ = pad w ++ body_of ws in
     let whole : List ℕ = encoding_of w ++ rest in
-    let n : declared whole ≡ 4 + length (value_of w) = framed_declared (type_of w) (flags_of w) (value_of w) rest short.0.1 in
-    let len : length (encoding_of w ++ pad w) ≡ padded (declared whole) =
+    let n : declared_length whole ≡ 4 + length (value_of w) = framed_declared (type_of w) (flags_of w) (value_of w) rest short.0.1 in
+    let len : length (encoding_of w ++ pad w) ≡ padded_length (declared_length whole) =
     rw n (omega (arith, length-append (encoding_of w) (pad w), length_encoding w, length-replicate {A = ℕ} (padding_of (length (encoding_of w))) 0)) in
     let step : Steps whole w = record {
       is_read = tt;
@@ -45,8 +45,8 @@ body_again (w ∷ ws) plain fits short =
       whole = omega (arith, len, length-append (encoding_of w) rest, length-append (pad w) (body_of ws), length-append (encoding_of w) (pad w));
     } in
     let regroup : whole ≡ (encoding_of w ++ pad w) ++ body_of ws = sym (append_assoc (encoding_of w) (pad w) (body_of ws)) in
-    let left : drop (padded (declared whole)) whole ≡ body_of ws = ap (drop (padded (declared whole))) regroup ∙ drop_at (encoding_of w ++ pad w) (body_of ws) _ len in
-    let P : List ℕ → Type 0 = λ b. Steps b w × Walks Steps after (drop (padded (declared b)) b) ws [] in
+    let left : drop (padded_length (declared_length whole)) whole ≡ body_of ws = ap (drop (padded_length (declared_length whole))) regroup ∙ drop_at (encoding_of w ++ pad w) (body_of ws) _ len in
+    let P : List ℕ → Type 0 = λ b. Steps b w × Walks Steps after (drop (padded_length (declared_length b)) b) ws [] in
     let Q : List ℕ → Type 0 = λ b. Walks Steps after b ws [] in
     subst P (sym e) (step, subst Q (sym left) (body_again ws plain.1 fits.1 short.1))
 
@@ -66,7 +66,7 @@ packet_again sum p fits plain short sum_fits =
     let front : take 8 encoding ≡ head_of p = ap (take 8) after_head ∙ take_at (head_of p) (le32 total ++ body) 8 eight in
     let rest : drop 12 encoding ≡ body = drop_at (head_of p ++ le32 total) body 12 twelve in
     let stored : u32_le_at encoding 8 ≡ total = ap (λ (x : List ℕ). u32_le_at x 8) after_head ∙ u32_le_at_le32 (head_of p) body total 8 eight sum_fits in
-    let same : summed encoding ≡ head_of p ++ four_zeroes ++ body = rw (front, rest) refl in
+    let same : checksum_input encoding ≡ head_of p ++ four_zeroes ++ body = rw (front, rest) refl in
     let four : length (be16 s ++ be16 d) ≡ 4 = omega (arith, length-append (be16 s) (be16 d), length_be16 s, length_be16 d) in
     record {
       is_headed = record { long = omega (arith, length-append (head_of p ++ le32 total) body, twelve); checksum = stored ∙ ap sum (sym same) };

@@ -4,20 +4,20 @@ use Rattle.std.specs.List.{AllByRecursion}
 use Rattle.sctp_base.specs.declared.error.Error.{Error}
 use Rattle.sctp_base.specs.declared.error.Error.TheVariants as errors
 use Rattle.sctp_base.specs.Field.{u32_le_at}
-use Rattle.sctp_base.specs.Padding.{padded}
-use Rattle.sctp_chunks.specs.Framing.{declared}
+use Rattle.sctp_base.specs.Padding.{padded_length}
+use Rattle.sctp_chunks.specs.Framing.{declared_length}
 use Rattle.sctp_chunks.specs.Wire.{Wire, HasEncoding}
 use Rattle.sctp_chunks.specs.Check.{EncodingFault}
 use Rattle.sctp_chunks.specs.Kind.{KindFault}
 use Rattle.sctp_base.specs.Walk.{Walks}
-use Rattle.sctp_packets.specs.Packet.{Parts, Steps, after, summed, body_of}
+use Rattle.sctp_packets.specs.Packet.{Parts, Steps, after, checksum_input, body_of}
 
 -- where the walk stands
 abbrev pub PlaceFault : Error → List ℕ → Type 0
 PlaceFault e rest =
     ((e ≡ errors.ErrParseSctpChunkNotEnoughData) × (0 < length rest) × (length rest < 4))
     ⊎ ((e ≡ errors.ErrParseSctpChunkNotEnoughData) × (4 ≤ length rest)
-    × (length rest < padded (declared rest)))
+    × (length rest < padded_length (declared_length rest)))
     ⊎ KindFault e rest
 
 -- a fault at a place that the walk comes to
@@ -30,7 +30,7 @@ abbrev pub HeadFault : (List ℕ → ℕ) → Error → List ℕ → Type 0
 HeadFault sum e bytes =
     ((e ≡ errors.ErrPacketRawTooSmall) × (length bytes < 12))
     ⊎ ((e ≡ errors.ErrChecksumMismatch) × (12 ≤ length bytes)
-    × (u32_le_at bytes 8 ≢ sum (summed bytes)))
+    × (u32_le_at bytes 8 ≢ sum (checksum_input bytes)))
 
 abbrev pub PacketFault : (List ℕ → ℕ) → Error → List ℕ → Type 0
 PacketFault sum e bytes = HeadFault sum e bytes ⊎ WalkFault e (drop 12 bytes)

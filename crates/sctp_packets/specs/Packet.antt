@@ -2,9 +2,9 @@
 use Rattle.std.specs.Prelude.{◌≡◌, ℕ, ◌≤◌, ◌<◌, ◌^◌, List, [], ◌++◌, length, take, drop, map, replicate}
 use Rattle.std.specs.List.{flat_map, AllByRecursion}
 use Rattle.sctp_base.specs.Field.{be16, be32, le32, u16_at, u32_at, u32_le_at}
-use Rattle.sctp_base.specs.Padding.{padding_of, padded, four_zeroes}
+use Rattle.sctp_base.specs.Padding.{padding_of, padded_length, four_zeroes}
 use Rattle.sctp_base.specs.Walk.{Walks}
-use Rattle.sctp_chunks.specs.Framing.{declared}
+use Rattle.sctp_chunks.specs.Framing.{declared_length}
 use Rattle.sctp_chunks.specs.Wire.{Wire, ReadsChunk, HasEncoding, encoding_of}
 use Rattle.sctp_chunks.specs.Fits.{Fits, Canonical}
 use Rattle.sctp_chunks.specs.Kind.{wire_of, IsRead}
@@ -29,20 +29,20 @@ parts_of p = record {
 pub record Steps (bytes : List ℕ) (w : Wire) : Type 0 where
   pub is_read : IsRead w
   pub chunk : ReadsChunk bytes w
-  pub whole : padded (declared bytes) ≤ length bytes
+  pub whole : padded_length (declared_length bytes) ≤ length bytes
 
 -- what follows that chunk
 unfoldable pub after : List ℕ → List ℕ
-after bytes = drop (padded (declared bytes)) bytes
+after bytes = drop (padded_length (declared_length bytes)) bytes
 
 -- what a checksum is taken of
-abbrev pub summed : List ℕ → List ℕ
-summed bytes = take 8 bytes ++ four_zeroes ++ drop 12 bytes
+abbrev pub checksum_input : List ℕ → List ℕ
+checksum_input bytes = take 8 bytes ++ four_zeroes ++ drop 12 bytes
 
 -- the bytes begin with a header, and its checksum is theirs
 pub record IsHeaded (sum : List ℕ → ℕ) (bytes : List ℕ) : Type 0 where
   pub long : 12 ≤ length bytes
-  pub checksum : u32_le_at bytes 8 ≡ sum (summed bytes)
+  pub checksum : u32_le_at bytes 8 ≡ sum (checksum_input bytes)
 
 -- The bytes are this packet, under the checksum.
 pub record ReadsPacket (sum : List ℕ → ℕ) (bytes : List ℕ) (p : Parts) : Type 0 where

@@ -12,8 +12,8 @@ ghost use Rattle.sctp_chunks.specs.Check.{EncodingFault, IsEncodingError};
 ghost use Rattle.sctp_chunks.specs.Kind.{wire_of, IsFreshKind};
 ghost use Rattle.sctp_chunks.specs.Fits.{Fits, Canonical};
 ghost use Rattle.sctp_chunks.specs.Wire.{Wire, HasEncoding};
-ghost use Rattle.sctp_chunks.specs.Framing.{declared};
-ghost use Rattle.sctp_base.specs.Padding.{padded, four_zeroes};
+ghost use Rattle.sctp_chunks.specs.Framing.{declared_length};
+ghost use Rattle.sctp_base.specs.Padding.{padded_length, four_zeroes};
 ghost use Rattle.sctp_base.specs.Walk.{Walks};
 ghost use Rattle.sctp_packets.specs.Packet.{Parts, parts_of, IsCanonical, IsHeaded, ReadsPacket, Steps, after, padded_encoding, body_of, head_encoding, head_of, HavePacketEncoding, packet_encoding, FitsParts};
 ghost use Rattle.sctp_packets.specs.Valid.{is_init, has_init, IsValid, InitFault, ValidFault};
@@ -74,7 +74,7 @@ impl fmt::Display for Packet {
 fn read_step(alloc: Global, rest: &Bytes) -> Result<(ChunkKind, usize)>
     requires { 0 < length rest.now }
     ensures found { IfOk result (λ x. Steps rest.now (wire_of x.0)) }
-    ensures length { IfOk result (λ x. x.1 ≡ padded (declared rest.now)) }
+    ensures length { IfOk result (λ x. x.1 ≡ padded_length (declared_length rest.now)) }
     ensures rewritable { IfOk result (λ x. HasEncoding (wire_of x.0)) }
     ensures canonical { IfOk result (λ x. Canonical (wire_of x.0)) }
     ensures fresh { IfOk result (λ x. IsFreshKind x.0) }

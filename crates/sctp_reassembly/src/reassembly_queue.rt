@@ -1,9 +1,8 @@
 //! Fragments that become messages again (RFC 4960 6.5, 6.6).
 
 ghost use Rattle.std.specs.Prelude.{◌≡◌, ℕ, ◌==◌, nat_lt, ◌+◌, ◌-◌, ◌%◌, ◌^◌, ◌<◌, ◌≤◌, [], ◌∷◌, length, min, OnOk, OnErr, true, false, IfOk, IfErr, IfSome, IfNone, IsOk, IsTrue, Ok, Err, MatchOption, not, is_some, option_map, slice_index_or, if◌then◌else◌};
-ghost use Rattle.std.specs.List.{list_any, position_or_len};
+ghost use Rattle.std.specs.List.{list_any, position_or_len, filter};
 ghost use Rattle.sctp_list_lemmas.specs.Serial.{comes_before16, at_or_before, at_or_before16};
-ghost use Rattle.sctp_list_lemmas.specs.Lists.{those};
 ghost use Rattle.sctp_reassembly.specs.reassembly_queue.ReassemblyQueue.{is_passed, set_bytes, set_of_run};
 ghost use Rattle.sctp_reassembly.specs.reassembly_queue.Fragments.{has_ssn, chunks_of_ssn, sets_with, answer_with, new_set};
 ghost use Rattle.sctp_serial.specs.DataChunks.{bytes_of};
@@ -70,7 +69,7 @@ impl Model for ReassemblyQueue {
 }
 
 impl ReassemblyQueue {
-    ghost use Rattle.sctp_reassembly.specs.reassembly_queue.ReassemblyQueue.{ReassemblyState, message_read, rest_read, state_read, at_start, after_ordered_skip, after_unordered_skip, is_too_large, after_ordered_push, is_whole_with, PushesUnordered, GivesRun, IsCounted, held_bytes, bytes_read, complete_sets};
+    ghost use Rattle.sctp_reassembly.specs.reassembly_queue.ReassemblyQueue.{ReassemblyState, message_read, rest_read, state_read, at_start, after_ordered_skip, after_unordered_skip, is_too_large, after_ordered_push, is_complete_with, PushesUnordered, GivesRun, IsCounted, held_bytes, bytes_read, complete_sets};
 
     /// An empty queue of the stream `si`, which takes messages of at most `max_message_size`
     /// bytes and expects the stream sequence number 0 first (RFC 4960 6.5). It takes no memory.
@@ -185,7 +184,7 @@ impl ReassemblyQueue {
             → (result ≡ Ok false) × (self.new ≡ self.old) }
         ensures ordered { (chunk.stream_identifier == self.old.si) ≡ true → chunk.unordered ≡ false
             → IfOk result (λ whole. (self.new ≡ after_ordered_push chunk self.old)
-            × (whole ≡ is_whole_with chunk self.old.held)) }
+            × (whole ≡ is_complete_with chunk self.old.held)) }
         ensures unordered { (chunk.stream_identifier == self.old.si) ≡ true → chunk.unordered ≡ true
             → IfOk result (λ whole. PushesUnordered chunk self.old self.new whole) }
         ensures fits { IsOk result → is_too_large chunk self.old ≡ false }
@@ -278,7 +277,7 @@ impl ReassemblyQueue {
     /// Takes an ordered chunk. Refuses only for memory.
     fn push_ordered(&mut self, chunk: ChunkPayloadData) -> Result<bool>
         ensures ok { OnOk result (self.new ≡ after_ordered_push chunk self.old) }
-        ensures answer { IfOk result (λ whole. whole ≡ is_whole_with chunk self.old.held) }
+        ensures answer { IfOk result (λ whole. whole ≡ is_complete_with chunk self.old.held) }
         ensures err { OnErr result (self.new ≡ self.old) }
         ensures memory { IfErr result (λ e. e ≡ ErrOutOfMemory) }
     {

@@ -1,11 +1,9 @@
 -- The counters of a stream, whether it is open or not, and what a message adds to them.
-use Rattle.std.specs.Prelude.{ℕ, ◌+◌, ◌-◌, ◌^◌, min, Bool, true, false, Option, Some, None}
-use Rattle.sctp_chunks.specs.declared.chunk.chunk_payload_data.PayloadProtocolIdentifier.{PayloadProtocolIdentifier}
-use Rattle.sctp_chunks.specs.declared.chunk.chunk_payload_data.PayloadProtocolIdentifier.TheVariants.{Dcep, String, Binary, StringEmpty, BinaryEmpty, Unknown}
+use Rattle.std.specs.Prelude.{ℕ, ◌+◌, Bool, true, false, Option, Some, None}
 use Rattle.sctp_model.specs.declared.event.Event.{Event}
 use Rattle.sctp_model.specs.declared.event.Event.TheVariants as E
-use Rattle.sctp_model.specs.World.{World}
-use Rattle.sctp_model.specs.Amounts.{Counters, saturated, on_stream, counted, counted_bytes, if_read}
+use Rattle.sctp_model.specs.LinkRecord.{LinkRecord}
+use Rattle.sctp_model.specs.Amounts.{Counters, saturate, on_stream, message_count, counted_bytes, if_read}
 
 abbrev pub is_write : Event → Bool
 is_write (E.Write s ppi bytes) = true
@@ -16,15 +14,15 @@ is_read (E.Read s) = true
 is_read _ = false
 
 -- what `counters_of` says of a stream where it is open
-abbrev pub counters_on : World → ℕ → Counters
+abbrev pub counters_on : LinkRecord → ℕ → Counters
 counters_on w s =
     record {
       stream_identifier = s;
       generation = 0;
-      messages_sent = saturated (on_stream w s (counted w));
-      bytes_sent = saturated (on_stream w s (counted_bytes w));
-      messages_received = saturated (on_stream w s (if_read w (counted w)));
-      bytes_received = saturated (on_stream w s (if_read w (counted_bytes w)));
+      messages_sent = saturate (on_stream w s (message_count w));
+      bytes_sent = saturate (on_stream w s (counted_bytes w));
+      messages_received = saturate (on_stream w s (if_read w (message_count w)));
+      bytes_received = saturate (on_stream w s (if_read w (counted_bytes w)));
     }
 
 -- the counters of a stream that has counted nothing
@@ -39,18 +37,9 @@ no_counters s =
       bytes_received = 0;
     }
 
--- the bytes that a counted message of so many bytes adds; other messages add nothing at all (RFC 8831)
-abbrev pub counted_as : PayloadProtocolIdentifier → ℕ → Option ℕ
-counted_as String bytes = Some bytes
-counted_as Binary bytes = Some bytes
-counted_as StringEmpty bytes = Some 0
-counted_as BinaryEmpty bytes = Some 0
-counted_as Dcep bytes = None
-counted_as Unknown bytes = None
-
 -- a count of so many more, which stops at the greatest u64
 abbrev pub count_more : ℕ → ℕ → ℕ
-count_more n more = min (n + more) (2 ^ 64 - 1)
+count_more n more = saturate (n + more)
 
 -- one more message sent
 abbrev pub sent_more : Option ℕ → Counters → Counters

@@ -1,18 +1,15 @@
 -- Which chunks a Send takes from the pending queue: the first, however long, then those that the limit still holds.
 use Rattle.std.specs.Prelude.{ℕ, zero, suc, Bool, false, if◌then◌else◌, List, [], ◌∷◌, ◌++◌, length, Option, Some, None, nat_le, ◌+◌}
 use Rattle.sctp_chunks.specs.declared.chunk.chunk_payload_data.ChunkPayloadData.{ChunkPayloadData}
-use Rattle.sctp_outbound.specs.pending_queue.PendingQueue.{Pending, peeked}
-use Rattle.sctp_outbound.specs.outbound_queue.OutboundQueue.{following_tsn, taken_of}
+use Rattle.sctp_outbound.specs.pending_queue.PendingQueue.{Pending, next_pending}
+use Rattle.sctp_outbound.specs.outbound_queue.OutboundQueue.{taken_of}
 use Rattle.sctp_model.specs.Changes.{chunk_length, plus}
-
--- a chunk under a TSN
-abbrev pub under : ℕ → ChunkPayloadData → ChunkPayloadData
-under tsn c = record c { tsn = tsn }
+use Rattle.sctp_serial.specs.DataChunks.{following_tsn, under_tsn}
 
 -- the chunk, where there is one
 abbrev pub leaving : ℕ → Option ChunkPayloadData → List ChunkPayloadData
 leaving tsn None = []
-leaving tsn (Some c) = under tsn c ∷ []
+leaving tsn (Some c) = under_tsn tsn c ∷ []
 
 -- its length, padding included
 abbrev pub length_shown : Option ChunkPayloadData → Option ℕ
@@ -28,13 +25,14 @@ fits_in limit used (Some more) = nat_le (used + more) limit
 abbrev pub further : ℕ → ℕ → ℕ → ℕ → Pending → List ChunkPayloadData
 further zero limit used tsn q = []
 further (suc most) limit used tsn q =
-    if fits_in limit used (length_shown (peeked q))
-    then leaving tsn (peeked q) ++ further most limit (plus used (length_shown (peeked q)))
-    (following_tsn tsn) (taken_of (peeked q) q)
+    if fits_in limit used (length_shown (next_pending q))
+    then leaving tsn (next_pending q)
+    ++ further most limit (plus used (length_shown (next_pending q)))
+    (following_tsn tsn) (taken_of (next_pending q) q)
     else []
 
 -- the chunks of a datagram, the first under this TSN
 abbrev pub chunks_taken : ℕ → ℕ → Pending → List ChunkPayloadData
 chunks_taken limit tsn q =
-    leaving tsn (peeked q) ++ further limit limit (plus 12 (length_shown (peeked q)))
-    (following_tsn tsn) (taken_of (peeked q) q)
+    leaving tsn (next_pending q) ++ further limit limit (plus 12 (length_shown (next_pending q)))
+    (following_tsn tsn) (taken_of (next_pending q) q)

@@ -1,6 +1,7 @@
 -- What a link's queues hold, against its record.
 use Rattle.std.specs.Prelude.{◌≡◌, ◌<◌, ◌≤◌, ◌-◌, ◌||◌, if◌then◌else◌, ℕ, Bool, ◌&&◌, not, List, [], length, map, nat_le, is_some, Option, Some, None}
-use Rattle.sctp_list_lemmas.specs.Kept.{kept, always, numbers_from, gathered, first_of}
+use Rattle.std.specs.List.{flat_map}
+use Rattle.sctp_list_lemmas.specs.Kept.{numbers_where, always, numbers_from, first_of}
 use Rattle.sctp_chunks.specs.declared.chunk.chunk_payload_data.ChunkPayloadData.{ChunkPayloadData}
 use Rattle.sctp_chunks.specs.declared.chunk.chunk_payload_data.ReliabilityType.{ReliabilityType}
 use Rattle.sctp_chunks.specs.declared.chunk.chunk_payload_data.ReliabilityType.TheVariants.{Reliable}
@@ -11,7 +12,7 @@ use Rattle.sctp_outbound.specs.pending_queue.PendingQueue.{Pending}
 use Rattle.sctp_outbound.specs.outbound_queue.OutboundQueue.{Outbound}
 use Rattle.sctp_reassembly.specs.reassembly_queue.ReassemblyQueue.{ReassemblyState}
 use Rattle.sctp_outbound.specs.declared.pending_queue.Selected.{Selected}
-use Rattle.sctp_model.specs.World.{World}
+use Rattle.sctp_model.specs.LinkRecord.{LinkRecord}
 use Rattle.sctp_model.specs.Messages.{message_at, message_of, tsn_of, stream_at, messages_where, is_partially_sent, sent_of, fragment_count, deadline_of}
 use Rattle.sctp_model.specs.Amounts.{is_expired_or_abandoned}
 use Rattle.sctp_model.specs.Contents.{data_fields, chunk_at}
@@ -21,7 +22,7 @@ use Rattle.sctp_refinement.specs.Holds.{reassembly_of}
 -- ## What waits to be sent
 
 -- fragment i of message n as it waits: nothing of it was sent yet
-abbrev pub waiting_at : World → ℕ → ℕ → ChunkPayloadData
+abbrev pub waiting_at : LinkRecord → ℕ → ℕ → ChunkPayloadData
 waiting_at w n i =
     record (fresh (data_fields w n i 0)) {
       message_id = n;
@@ -30,27 +31,27 @@ waiting_at w n i =
     }
 
 -- the fragments of message n that have no slot
-abbrev pub waiting_of : World → ℕ → List ChunkPayloadData
+abbrev pub waiting_of : LinkRecord → ℕ → List ChunkPayloadData
 waiting_of w n =
     map (waiting_at w n) (numbers_from (sent_of w n) (fragment_count w n - sent_of w n))
 
 -- those of the messages that pass, one message after another
-abbrev pub waiting_where : World → (ℕ → Bool) → List ChunkPayloadData
-waiting_where w p = gathered (waiting_of w) (messages_where w p)
+abbrev pub waiting_where : LinkRecord → (ℕ → Bool) → List ChunkPayloadData
+waiting_where w p = flat_map (waiting_of w) (messages_where w p)
 
-abbrev pub waits_ordered : World → ℕ → Bool
+abbrev pub waits_ordered : LinkRecord → ℕ → Bool
 waits_ordered w n = (message_at w n).ordered && not (is_expired_or_abandoned w n)
 
-abbrev pub waits_unordered : World → ℕ → Bool
+abbrev pub waits_unordered : LinkRecord → ℕ → Bool
 waits_unordered w n = not (message_at w n).ordered && not (is_expired_or_abandoned w n)
 
 -- the partially sent message, with its kind
-abbrev pub selected_of : World → Option ℕ → Option Selected
+abbrev pub selected_of : LinkRecord → Option ℕ → Option Selected
 selected_of w None = None
 selected_of w (Some n) = Some (record { message_id = n; unordered = not (message_at w n).ordered })
 
 -- the pending queue, but for its room
-pub record RefinesPending (w : World) (q : Pending) : Type 0 where
+pub record RefinesPending (w : LinkRecord) (q : Pending) : Type 0 where
   pub ordered : q.ordered ≡ waiting_where w (waits_ordered w)
   pub unordered : q.unordered ≡ waiting_where w (waits_unordered w)
   pub selected : q.selected ≡ selected_of w (first_of (messages_where w (is_partially_sent w)))
@@ -83,7 +84,7 @@ sending_of c =
       says = unless_gone (c.acked || c.abandoned) (data_of c);
     }
 
-abbrev pub sending_at : World → ℕ → Sending
+abbrev pub sending_at : LinkRecord → ℕ → Sending
 sending_at w place =
     record {
       chunk = in_flight_at w place;
@@ -91,13 +92,13 @@ sending_at w place =
       says = unless_gone (is_cleared w place) (data_of (chunk_at w place));
     }
 
-abbrev pub sendings_of : World → List Sending
+abbrev pub sendings_of : LinkRecord → List Sending
 sendings_of w = map (sending_at w) (numbers_from w.taken (length w.slots - w.taken))
 
 -- ## While acknowledgements are taken
 
 -- the slot at this place in flight, were it acknowledged or not
-abbrev pub sending_by : World → Bool → ℕ → Sending
+abbrev pub sending_by : LinkRecord → Bool → ℕ → Sending
 sending_by w acked place =
     record {
       chunk = record {
@@ -117,12 +118,12 @@ sending_by w acked place =
     }
 
 -- what the queue in flight has, where these are acknowledged
-abbrev pub IsInFlight : World → (ℕ → Bool) → ℕ → ℕ → List ChunkPayloadData → Type 0
+abbrev pub IsInFlight : LinkRecord → (ℕ → Bool) → ℕ → ℕ → List ChunkPayloadData → Type 0
 IsInFlight w acked from count cs =
-    map sending_of cs ≡ map (λ k. sending_by w (acked k) k) (kept always from count)
+    map sending_of cs ≡ map (λ k. sending_by w (acked k) k) (numbers_where always from count)
 
 -- the outbound queue: the number of the next message, and from which on lifetimes have not started
-pub record RefinesOutbound (w : World) (q : Outbound) : Type 0 where
+pub record RefinesOutbound (w : LinkRecord) (q : Outbound) : Type 0 where
   pub pending : RefinesPending w q.pending
   pub in_flight : map sending_of q.inflight.chunks ≡ sendings_of w
   pub next : q.next_message_id ≡ length w.messages
@@ -142,7 +143,7 @@ filter_held cumulative q =
 -- ## The link's queues
 
 -- what the queues hold is what the record says; the reassembly queue of a stream is there where the stream is open
-pub record Refines (w : World) (sending : Outbound) (cumulative : ℕ) (seen : Payload)
+pub record Refines (w : LinkRecord) (sending : Outbound) (cumulative : ℕ) (seen : Payload)
     (queues : ℕ → Option ReassemblyState) : Type 0 where
   pub outbound : RefinesOutbound w sending
   pub filter : filter_held cumulative seen ≡ filter_of w

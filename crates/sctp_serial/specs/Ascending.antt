@@ -2,7 +2,7 @@
 use Rattle.std.specs.Prelude.{◌≡◌, ℕ, ◌*◌, ◌^◌, ◌<◌, ◌≤◌, Bool, true, false, IsTrue, List, map, length}
 use Rattle.std.specs.List.{All, AllPairs, list_any, insert}
 use Rattle.sctp_list_lemmas.specs.Serial.{comes_before}
-use Rattle.sctp_list_lemmas.specs.Lists.{inserted}
+use Rattle.sctp_list_lemmas.specs.Lists.{insert_before}
 
 -- so they lie within half a circle of the first, each farther than those in front of it
 pub record IsAscending (ns : List ℕ) : Type 0 where
@@ -23,5 +23,5 @@ pub record IsInsertion {X : Type 0} (has : X → Bool) (num : X → ℕ) (before
     (xs : List X) (place : ℕ) (ascending : Bool) : Type 0 where
   pub absent : list_any has xs ≡ false
   pub in_range : place ≤ length xs
-  pub goes : (x : X) → IsTrue (has x) → insert xs place x ≡ inserted before x xs
+  pub goes : (x : X) → IsTrue (has x) → insert xs place x ≡ insert_before before x xs
   pub order : (x : X) → IsTrue (has x) → IsOrder ascending (map num (insert xs place x))

@@ -9,9 +9,7 @@ use Rattle.std.proofs.lemmas.Bool.{cases_lt, cases_eq, ne_eqb}
 use Rattle.std.proofs.lemmas.Option.{slice_get_within}
 use Rattle.sctp_list_lemmas.proofs.Getting.{get-last, slice-front}
 use Rattle.sctp_stream.specs.Numbers.{IsIndexed, IsOnlyPlace, IsAbsent}
-
-pub one : {A : Type 0} {a b : A} → Some a ≡ Some b → a ≡ b
-one e = cc
+use Rattle.sctp_list_lemmas.proofs.Cases.{some-same}
 
 pub missing : {a : ℕ} → None ≡ Some a → ⊥
 missing e = cc
@@ -21,7 +19,7 @@ pub place-of : (places : BTreeMap ℕ ℕ) (ns : List ℕ) → IsIndexed places 
 place-of places ns indexed s None e = λ k here. missing (e ∙ (indexed s k).1 here)
 place-of places ns indexed s (Some k) e = record {
   here = (indexed s k).0 (sym e);
-  only = λ j here. one (sym ((indexed s j).1 here) ∙ sym e);
+  only = λ j here. some-same (sym ((indexed s j).1 here) ∙ sym e);
 }
 
 pub apart : (k q : ℕ) → (k ≡ q → ⊥) → is_eq (nat_cmp k q) ≡ false
@@ -50,13 +48,13 @@ more places then' ns now n i new u is = subst (IsIndexed then') (sym is) (λ s k
       | inl lt ↦ lt
       | inr le ↦
           let z : k ≡ length ns = omega (arith, le, within k s e) in
-          absurd (other (one (sym (get-last ns n) ∙ ap (slice_get (ns ++ n ∷ [])) (sym z) ∙ e)))
+          absurd (other (some-same (sym (get-last ns n) ∙ ap (slice_get (ns ++ n ∷ [])) (sym z) ∙ e)))
     ]
 
     at : (s k : ℕ) → (get nat_cmp then' s ≡ Some k) ↔ (slice_get (ns ++ n ∷ []) k ≡ Some s)
     at s k = elim (cases_eq n s) [
       | inl same ↦ subst (λ t. (get nat_cmp then' t ≡ Some k) ↔ (slice_get (ns ++ n ∷ []) k ≡ Some t)) same (
-        λ e. ap (slice_get (ns ++ n ∷ [])) (one (sym e ∙ u.1)) ∙ get-last ns n,
+        λ e. ap (slice_get (ns ++ n ∷ [])) (some-same (sym e ∙ u.1)) ∙ get-last ns n,
         λ e. u.1 ∙ ap (λ j. Some j) (sym (at-end k e)),
       )
       | inr other ↦ (

@@ -2,15 +2,14 @@
 use Rattle.std.proofs.Common.{◌≡◌, ℕ, zero, suc, ◌+◌, ◌-◌, ◌<◌, ◌≤◌, List, [], ◌∷◌, length, get_or, Option, Some, None, refl, ap, sym, ◌∙◌, arith, inl, inr}
 use Rattle.std.specs.BTreeMap.{BTreeMap, get, Updates}
 use Rattle.std.specs.Ordering.{nat_cmp}
-use Rattle.std.specs.List.{remove}
+use Rattle.std.specs.List.{remove, filter}
 use Rattle.std.specs.Prelude.{◌==◌, ◌⊎◌, ◌↔◌, slice_get, Result, Ok, Err, OnOk, OnErr}
 use Rattle.std.proofs.lemmas.Bool.{cases_lt, cases_eq, ne_eqb}
 use Rattle.std.proofs.lemmas.Option.{slice_get_within}
-use Rattle.sctp_list_lemmas.specs.Lists.{those}
 use Rattle.sctp_list_lemmas.proofs.Edits.{OnlyAt, those-only, those-none}
-use Rattle.sctp_list_lemmas.proofs.Cases.{same-yes}
+use Rattle.sctp_list_lemmas.proofs.Cases.{same-yes, some-same}
 use Rattle.sctp_stream.specs.Numbers.{IsIndexed, is_other}
-use Rattle.sctp_stream.proofs.NumberPlaces.{one, missing, apart}
+use Rattle.sctp_stream.proofs.NumberPlaces.{missing, apart}
 
 -- a number stands at a place below i, or one below a place beyond i
 abbrev pub Held : List ℕ → ℕ → ℕ → ℕ → Type 0
@@ -67,12 +66,12 @@ module _ (m then' : BTreeMap ℕ ℕ) (ns : List ℕ) (t p : ℕ) (indexed : IsI
   begun u s k = elim (cases_eq t s) [
     | inl same ↦ (
       λ e. absurd (missing (sym u.1 ∙ ap (get nat_cmp then') same ∙ e)),
-      λ h. absurd ((was s k h).1 (one (sym ((indexed s k).1 (was s k h).0) ∙ ap (get nat_cmp m) (sym same) ∙ found))),
+      λ h. absurd ((was s k h).1 (some-same (sym ((indexed s k).1 (was s k h).0) ∙ ap (get nat_cmp m) (sym same) ∙ found))),
     )
     | inr other ↦ (
       λ e.
           let old = (indexed s k).0 (sym (u.2 s (apart t s other)) ∙ e) in
-          stays s k old (λ same. other (one (sym here ∙ ap (slice_get ns) (sym same) ∙ old))),
+          stays s k old (λ same. other (some-same (sym here ∙ ap (slice_get ns) (sym same) ∙ old))),
       λ h. u.2 s (apart t s other) ∙ (indexed s k).1 (was s k h).0,
     )
   ]
@@ -81,19 +80,19 @@ module _ (m then' : BTreeMap ℕ ℕ) (ns : List ℕ) (t p : ℕ) (indexed : IsI
   only = record {
     in_range = short;
     here = λ d. ap (λ n. n == t) (at-place ns p d here) ∙ same-yes t;
-    elsewhere = λ k d lt differs. ne_eqb (get_or ns k d) t (λ e. differs (one (sym ((indexed t k).1 (stands ns k d lt ∙ ap (λ j. Some j) e)) ∙ found)));
+    elsewhere = λ k d lt differs. ne_eqb (get_or ns k d) t (λ e. differs (some-same (sym ((indexed t k).1 (stands ns k d lt ∙ ap (λ j. Some j) e)) ∙ found)));
   }
     where
       at-place : (xs : List ℕ) (k d : ℕ) {n : ℕ} → slice_get xs k ≡ Some n → get_or xs k d ≡ n
       at-place [] k d e = absurd (missing e)
-      at-place (x ∷ xs) zero d e = one e
+      at-place (x ∷ xs) zero d e = some-same e
       at-place (x ∷ xs) (suc k) d e = at-place xs k d e
 
-  pub without : remove ns p ≡ those (is_other t) ns
+  pub without : remove ns p ≡ filter (is_other t) ns
   without = sym (those-only (λ n. n == t) ns p only)
 
 -- where it does not stand, none is taken out
-pub without-none : (m : BTreeMap ℕ ℕ) (ns : List ℕ) (t : ℕ) → IsIndexed m ns → get nat_cmp m t ≡ None → ns ≡ those (is_other t) ns
+pub without-none : (m : BTreeMap ℕ ℕ) (ns : List ℕ) (t : ℕ) → IsIndexed m ns → get nat_cmp m t ≡ None → ns ≡ filter (is_other t) ns
 without-none m ns t indexed none = sym (those-none (λ n. n == t) ns (λ k d lt. ne_eqb (get_or ns k d) t (λ e. missing (sym none ∙ (indexed t k).1 (stands ns k d lt ∙ ap (λ j. Some j) e)))))
 
 module _ (m then' : BTreeMap ℕ ℕ) (ns : List ℕ) (i n : ℕ) (low : IsLowered m ns i) (here : slice_get ns i ≡ Some n) where
@@ -108,7 +107,7 @@ module _ (m then' : BTreeMap ℕ ℕ) (ns : List ℕ) (i n : ℕ) (low : IsLower
   written (Err e) u none = absurd (missing (sym none ∙ too-high))
 
   twin : (k : ℕ) → Held ns i n k → k ≡ i + 1
-  twin k h = one (sym ((low n k).1 h) ∙ too-high)
+  twin k h = some-same (sym ((low n k).1 h) ∙ too-high)
 
   now-at : (k : ℕ) → Held ns (i + 1) n k → k ≡ i
   now-at k (inl h) = elim (cases_lt k i) [
@@ -122,13 +121,13 @@ module _ (m then' : BTreeMap ℕ ℕ) (ns : List ℕ) (i n : ℕ) (low : IsLower
   onward s k other (inr h) = elim (cases_eq k (i + 1)) [
     | inl same ↦
         let down : k - 1 ≡ i = omega (arith, same) in
-        absurd (other (one (sym here ∙ ap (slice_get ns) (sym down) ∙ h.1)))
+        absurd (other (some-same (sym here ∙ ap (slice_get ns) (sym down) ∙ h.1)))
     | inr ne ↦ inr (omega (arith, ne, h.0), h.1)
   ]
 
   back : (s k : ℕ) → (n ≡ s → ⊥) → Held ns (i + 1) s k → Held ns i s k
   back s k other (inl h) = elim (cases_eq k i) [
-    | inl same ↦ absurd (other (one (sym here ∙ ap (slice_get ns) (sym same) ∙ h.1)))
+    | inl same ↦ absurd (other (some-same (sym here ∙ ap (slice_get ns) (sym same) ∙ h.1)))
     | inr ne ↦ inl (omega (arith, ne, h.0), h.1)
   ]
   back s k other (inr h) = inr (omega (arith, h.0), h.1)
@@ -138,7 +137,7 @@ module _ (m then' : BTreeMap ℕ ℕ) (ns : List ℕ) (i n : ℕ) (low : IsLower
   lowered u s k = elim (cases_eq n s) [
     | inl same ↦ (
       λ e.
-          let at : i ≡ k = one (sym u.1 ∙ ap (get nat_cmp then') same ∙ e) in
+          let at : i ≡ k = some-same (sym u.1 ∙ ap (get nat_cmp then') same ∙ e) in
           inl (omega (arith, at), ap (slice_get ns) (sym at) ∙ here ∙ ap (λ j. Some j) same),
       λ h. ap (get nat_cmp then') (sym same) ∙ u.1 ∙ ap (λ j. Some j) (sym (now-at k (subst-number k same h))),
     )

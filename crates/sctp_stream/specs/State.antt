@@ -15,11 +15,11 @@ can_write ReadWritable = true
 can_write Readable = false
 can_write Closed = false
 
-abbrev pub finished : RecvSendState → RecvSendState
-finished ReadWritable = Readable
-finished Readable = Readable
-finished Writable = Closed
-finished Closed = Closed
+abbrev pub finish_sending : RecvSendState → RecvSendState
+finish_sending ReadWritable = Readable
+finish_sending Readable = Readable
+finish_sending Writable = Closed
+finish_sending Closed = Closed
 
 abbrev pub state_from : ℕ → RecvSendState
 state_from n =

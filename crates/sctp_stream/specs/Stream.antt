@@ -1,10 +1,11 @@
 -- What a stream keeps, its fragments and its counters.
-use Rattle.std.specs.Prelude.{ℕ, ◌+◌, ◌-◌, ◌%◌, ◌^◌, Bool, true, false, ◌&&◌, not, ◌==◌, nat_lt, nat_le, ℤ, pos, negsuc, if◌then◌else◌, List, [], length, map, slice_index_or, None}
+use Rattle.std.specs.Prelude.{ℕ, ◌+◌, ◌-◌, ◌%◌, ◌^◌, Bool, false, ◌&&◌, not, ◌==◌, nat_lt, nat_le, ℤ, pos, negsuc, if◌then◌else◌, List, [], length, map, slice_index_or}
 use Rattle.sctp_list_lemmas.specs.Kept.{numbers_from}
 use Rattle.sctp_list_lemmas.specs.Lists.{pieces}
+use Rattle.sctp_chunks.specs.ChunkSet.{fresh}
 use Rattle.sctp_chunks.specs.declared.chunk.chunk_payload_data.PayloadProtocolIdentifier.{PayloadProtocolIdentifier}
-use Rattle.sctp_chunks.specs.declared.chunk.chunk_payload_data.PayloadProtocolIdentifier.TheVariants.{Dcep, String, Binary, StringEmpty, BinaryEmpty, Unknown}
 use Rattle.sctp_chunks.specs.declared.chunk.chunk_payload_data.ChunkPayloadData.{ChunkPayloadData}
+use Rattle.sctp_chunks.specs.PayloadTypes.{is_ordered}
 use Rattle.sctp_stream.specs.declared.stream.StreamState.{StreamState}
 use Rattle.sctp_chunks.specs.declared.chunk.chunk_payload_data.ReliabilityType.TheVariants.{Reliable}
 use Rattle.sctp_stream.specs.declared.stream.RecvSendState.TheVariants.{ReadWritable}
@@ -12,19 +13,10 @@ use Rattle.sctp_stream.specs.Stats.{count_up}
 
 -- ## Fragments of a write (RFC 4960 6.9)
 
--- messages that establish a channel are always ordered
-abbrev pub is_ordered : Bool → PayloadProtocolIdentifier → Bool
-is_ordered unordered Dcep = true
-is_ordered unordered String = not unordered
-is_ordered unordered Binary = not unordered
-is_ordered unordered StringEmpty = not unordered
-is_ordered unordered BinaryEmpty = not unordered
-is_ordered unordered Unknown = not unordered
-
 -- a fragment as a stream makes it: it has no TSN yet
 abbrev pub fragment : StreamState → PayloadProtocolIdentifier → Bool → Bool → List ℕ
     → ChunkPayloadData
-fragment s ppi begins ends bytes = record {
+fragment s ppi begins ends bytes = fresh (record {
   unordered = not (is_ordered s.unordered ppi);
   beginning_fragment = begins;
   ending_fragment = ends;
@@ -34,28 +26,21 @@ fragment s ppi begins ends bytes = record {
   stream_sequence_number = s.sequence_number;
   payload_type = ppi;
   user_data = bytes;
-  acked = false;
-  miss_indicator = 0;
-  message_id = 0;
-  abandoned = false;
-  since = None;
-  reliability = None;
-  deadline = None;
-  nsent = 0;
-  retransmit = false;
-}
+})
 
 -- the bytes of a write in pieces of the fragment size
-abbrev pub cut : StreamState → List ℕ → List (List ℕ)
-cut s bytes = pieces (length bytes) s.max_payload_size bytes
+abbrev pub pieces_of : StreamState → List ℕ → List (List ℕ)
+pieces_of s bytes = pieces (length bytes) s.max_payload_size bytes
 
 -- fragment i of a write: the first begins, the last ends
 abbrev pub fragment_at : StreamState → PayloadProtocolIdentifier → List ℕ → ℕ → ChunkPayloadData
 fragment_at s ppi bytes i =
-    fragment s ppi (i == 0) (i + 1 == length (cut s bytes)) (slice_index_or (cut s bytes) i [])
+    fragment s ppi (i == 0) (i + 1 == length (pieces_of s bytes))
+    (slice_index_or (pieces_of s bytes) i [])
 
 abbrev pub fragments_of : StreamState → PayloadProtocolIdentifier → List ℕ → List ChunkPayloadData
-fragments_of s ppi bytes = map (fragment_at s ppi bytes) (numbers_from 0 (length (cut s bytes)))
+fragments_of s ppi bytes =
+    map (fragment_at s ppi bytes) (numbers_from 0 (length (pieces_of s bytes)))
 
 -- an ordered write of some bytes takes a number, which wraps
 abbrev pub number_after : StreamState → PayloadProtocolIdentifier → List ℕ → ℕ
@@ -78,9 +63,9 @@ rises_high s more =
 
 -- ## Released bytes
 
-abbrev pub released : ℤ → ℕ
-released (pos n) = n
-released (negsuc n) = 0
+abbrev pub positive_part : ℤ → ℕ
+positive_part (pos n) = n
+positive_part (negsuc n) = 0
 
 -- the amount fell from over the low threshold to at most it
 abbrev pub falls_low : StreamState → ℕ → Bool

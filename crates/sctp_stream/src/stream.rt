@@ -1,9 +1,10 @@
 //! What a stream keeps.
 
 ghost use Rattle.std.specs.Prelude.{◌≡◌, ◌==◌, ◌&&◌, ◌||◌, ◌+◌, ◌-◌, ◌^◌, ◌<◌, ◌≤◌, ◌⊎◌, ℕ, pos, not, false, true, length, map, List, [], OnOk, OnErr, IfOk, IfErr, IsOk, Ok, None};
+ghost use Rattle.sctp_chunks.specs.PayloadTypes.{counted_as};
 ghost use Rattle.sctp_list_lemmas.specs.Kept.{numbers_from};
 ghost use Rattle.sctp_base.specs.declared.error.Error.TheVariants.{ErrOutOfMemory, ErrInboundPacketTooLarge};
-ghost use Rattle.sctp_stream.specs.Stats.{counted_bytes, with_sent, with_received, count_up};
+ghost use Rattle.sctp_stream.specs.Stats.{with_sent, with_received, count_up};
 
 use bytes::Bytes;
 use sctp_base::error::{Error, Result};
@@ -41,20 +42,20 @@ pub struct DataChannelStats {
 
 impl DataChannelStats {
     /// Counts a message of `len` bytes that was accepted for sending.
-    pub fn sent(&mut self, ppi: PayloadProtocolIdentifier, len: usize)
-        ensures { self.new ≡ with_sent (counted_bytes ppi len) self.old }
+    pub fn count_sent(&mut self, ppi: PayloadProtocolIdentifier, len: usize)
+        ensures { self.new ≡ with_sent (counted_as ppi len) self.old }
     {
-        if let Some(bytes) = counted_bytes(ppi, len) {
+        if let Some(bytes) = counted_as(ppi, len) {
             self.messages_sent = self.messages_sent.saturating_add(1);
             self.bytes_sent = self.bytes_sent.saturating_add(bytes);
         }
     }
 
     /// Counts a message of `len` bytes that was read.
-    pub fn received(&mut self, ppi: PayloadProtocolIdentifier, len: usize)
-        ensures { self.new ≡ with_received (counted_bytes ppi len) self.old }
+    pub fn count_received(&mut self, ppi: PayloadProtocolIdentifier, len: usize)
+        ensures { self.new ≡ with_received (counted_as ppi len) self.old }
     {
-        if let Some(bytes) = counted_bytes(ppi, len) {
+        if let Some(bytes) = counted_as(ppi, len) {
             self.messages_received = self.messages_received.saturating_add(1);
             self.bytes_received = self.bytes_received.saturating_add(bytes);
         }
@@ -62,8 +63,8 @@ impl DataChannelStats {
 }
 
 // How many bytes of a message count, if it counts.
-fn counted_bytes(ppi: PayloadProtocolIdentifier, len: usize) -> Option<u64>
-    ensures { result ≡ counted_bytes ppi len }
+fn counted_as(ppi: PayloadProtocolIdentifier, len: usize) -> Option<u64>
+    ensures { result ≡ counted_as ppi len }
 {
     match ppi {
         PayloadProtocolIdentifier::String | PayloadProtocolIdentifier::Binary => Some(len as u64),
@@ -164,12 +165,13 @@ pub struct StreamState {
 }
 
 impl StreamState {
-    ghost use Rattle.sctp_stream.specs.State.{can_read, can_write, finished};
-    ghost use Rattle.sctp_stream.specs.Stream.{is_ordered, fragment, fragments_of, after_write, rises_high, released, falls_low, new_stream};
+    ghost use Rattle.sctp_stream.specs.State.{can_read, can_write, finish_sending};
+    ghost use Rattle.sctp_stream.specs.Stream.{fragment, fragments_of, after_write, rises_high, positive_part, falls_low, new_stream};
     ghost use Rattle.sctp_reassembly.specs.reassembly_queue.Fragments.{payload_of};
     ghost use Rattle.sctp_stream.specs.Lending.{LendsQueue};
     ghost use Rattle.std.specs.Borrow.{sem};
-    ghost use Rattle.sctp_reassembly.specs.reassembly_queue.ReassemblyQueue.{is_too_large, after_ordered_push, is_whole_with, PushesUnordered};
+    ghost use Rattle.sctp_chunks.specs.PayloadTypes.{is_ordered};
+    ghost use Rattle.sctp_reassembly.specs.reassembly_queue.ReassemblyQueue.{is_too_large, after_ordered_push, is_complete_with, PushesUnordered};
 
     /// A stream that is open both ways, ordered and reliable, with fragments of at most `max_payload_size`
     /// bytes of user data and messages of at most `max_receive_message_size` bytes. All counts are 0, the
@@ -266,11 +268,11 @@ impl StreamState {
         old_amount < self.buffered_amount_high && self.buffered_amount >= self.buffered_amount_high
     }
 
-    // Whether a write of this payload type is ordered.
-    fn is_ordered(&self, ppi: PayloadProtocolIdentifier) -> bool
+    /// Whether a write of this payload type is ordered. A DCEP message always is (RFC 8832 6).
+    pub fn is_ordered(&self, ppi: PayloadProtocolIdentifier) -> bool
         ensures { result ≡ is_ordered self.now.unordered ppi }
     {
-        matches!(ppi, PayloadProtocolIdentifier::Dcep) || !self.unordered
+        ppi.is_dcep() || !self.unordered
     }
 
     /// The fragments of a write, as `packetize` gives them; the stream stays as it is until `record_write`. Refuses only for
@@ -333,10 +335,10 @@ impl StreamState {
     /// Takes bytes off the buffered amount, which stops at 0, and says whether it fell from over to at most the
     /// low threshold. At most 0 bytes change nothing. For bytes that the peer acknowledged, or that were abandoned.
     pub fn on_buffer_released(&mut self, n_bytes_released: i64) -> bool
-        ensures low { result ≡ falls_low self.old (released n_bytes_released) }
+        ensures low { result ≡ falls_low self.old (positive_part n_bytes_released) }
         ensures rest { self.new ≡ record self.old {
           buffered_amount = self.old.buffered_amount
-              - released n_bytes_released;
+              - positive_part n_bytes_released;
         } }
     {
         if n_bytes_released <= 0 {
@@ -358,7 +360,7 @@ impl StreamState {
 
     /// Closes the direction of writes. The direction of reads stays as it is.
     pub fn finish(&mut self)
-        ensures { self.new ≡ record self.old { state = finished self.old.state } }
+        ensures { self.new ≡ record self.old { state = finish_sending self.old.state } }
     {
         self.state = match self.state {
             RecvSendState::ReadWritable | RecvSendState::Readable => RecvSendState::Readable,
@@ -570,7 +572,7 @@ impl StreamState {
             → pd.now.unordered ≡ false → IfOk result
             (λ whole. (self.new.reassembly_queue
             ≡ after_ordered_push pd.now self.old.reassembly_queue)
-            × (whole ≡ is_whole_with pd.now self.old.reassembly_queue.held)) }
+            × (whole ≡ is_complete_with pd.now self.old.reassembly_queue.held)) }
         ensures unordered { (pd.now.stream_identifier == self.old.reassembly_queue.si) ≡ true
             → pd.now.unordered ≡ true → IfOk result (λ whole.
             PushesUnordered pd.now self.old.reassembly_queue self.new.reassembly_queue whole) }

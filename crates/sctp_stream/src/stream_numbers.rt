@@ -1,8 +1,8 @@
 //! The numbers of the open streams, and where each stands.
 
 ghost use Rattle.std.specs.Prelude.{◌≡◌, ◌++◌, ◌∷◌, [], OnOk, OnErr, IsOkUnless, MatchOption, length, vec_len, vec_capacity, ◌<◌, ◌≤◌};
+ghost use Rattle.std.specs.List.{filter};
 ghost use Rattle.sctp_base.specs.declared.error.Error.TheVariants.{ErrOutOfMemory};
-ghost use Rattle.sctp_list_lemmas.specs.Lists.{those};
 ghost use Rattle.sctp_stream.specs.Numbers.{IsOnlyPlace, IsAbsent, is_other};
 
 use sctp_base::error::Result;
@@ -63,7 +63,7 @@ impl StreamNumbers {
 
     /// Takes a number out, where it is among them; the later ones move up by one. It takes no memory.
     pub fn remove(&mut self, stream: u16)
-        ensures { self.new ≡ those (is_other stream) self.old }
+        ensures { self.new ≡ filter (is_other stream) self.old }
     {
         let Some(place) = self.places.remove(&stream) else {
             return;

@@ -3,9 +3,9 @@ use Rattle.std.proofs.Common.{◌≡◌, ℕ, ◌+◌, true, false, Bool, List, 
 use Rattle.std.specs.Prelude.{if◌then◌else◌, ◌==◌}
 use Rattle.std.proofs.lemmas.List.Sums.{sum_by-cons, sum_by-append}
 use Rattle.sctp_chunks.specs.declared.chunk.chunk_payload_data.ChunkPayloadData.{ChunkPayloadData}
-use Rattle.sctp_outbound.specs.outbound_queue.OutboundQueue.{Outbound, all_started, appended, numbered, sent_next, sent_of, total_bytes, with_message, with_message_id}
+use Rattle.sctp_outbound.specs.outbound_queue.OutboundQueue.{Outbound, all_started, append_chunks, as_sent, sent_next, sent_of, total_bytes, with_message, with_message_id}
 use Rattle.sctp_outbound.specs.pending_queue.PendingQueue as pending
-use Rattle.sctp_outbound.specs.pending_queue.PendingQueue.{Pending, is_to_start, peeked, started, with_deadline}
+use Rattle.sctp_outbound.specs.pending_queue.PendingQueue.{Pending, is_to_start, next_pending, start_pending, with_deadline}
 use Rattle.sctp_outbound.specs.pending_queue.Whole.{IsSendable}
 use Rattle.sctp_outbound.proofs.lemmas.outbound_queue.Sendable.{popped_bytes, sendable-changed, sendable-sent}
 use Rattle.sctp_outbound.proofs.lemmas.pending_queue.Waiting.{bytes_of-change_where}
@@ -24,7 +24,7 @@ numbered-bytes n (c ∷ cs) =
     let d = numbered-bytes n cs in
     omega arith
 
-appended-bytes : (kind : Bool) (cs : List ChunkPayloadData) (q : Pending) → pending.total_bytes (appended kind cs q) ≡ pending.total_bytes q + bytes_of cs
+appended-bytes : (kind : Bool) (cs : List ChunkPayloadData) (q : Pending) → pending.total_bytes (append_chunks kind cs q) ≡ pending.total_bytes q + bytes_of cs
 appended-bytes true cs q = let a = sum_by-append size q.unordered cs in omega arith
 appended-bytes false cs q = let a = sum_by-append size q.ordered cs in omega arith
 
@@ -40,7 +40,7 @@ message-bytes (c ∷ cs) q =
 pub started-bytes : (now : ℕ) (q : Outbound) → total_bytes (all_started now q) ≡ total_bytes q
 started-bytes now q = by (q.next_unstarted == q.next_message_id)
   where
-    by : (b : Bool) → total_bytes (if b then q else record q { pending = started q.next_unstarted now q.pending; next_unstarted = q.next_message_id }) ≡ total_bytes q
+    by : (b : Bool) → total_bytes (if b then q else record q { pending = start_pending q.next_unstarted now q.pending; next_unstarted = q.next_message_id }) ≡ total_bytes q
     by true = refl
     by false =
         let ordered = bytes_of-change_where (is_to_start q.next_unstarted) (with_deadline now) (λ _. refl) q.pending.ordered in
@@ -50,19 +50,19 @@ started-bytes now q = by (q.next_unstarted == q.next_message_id)
 started-sendable : (now : ℕ) (q : Outbound) → IsSendable q.pending q.inflight.chunks q.next_message_id → IsSendable (all_started now q).pending (all_started now q).inflight.chunks (all_started now q).next_message_id
 started-sendable now q s = by (q.next_unstarted == q.next_message_id)
   where
-    by : (b : Bool) → let r = if b then q else record q { pending = started q.next_unstarted now q.pending; next_unstarted = q.next_message_id } in IsSendable r.pending r.inflight.chunks r.next_message_id
+    by : (b : Bool) → let r = if b then q else record q { pending = start_pending q.next_unstarted now q.pending; next_unstarted = q.next_message_id } in IsSendable r.pending r.inflight.chunks r.next_message_id
     by true = s
     by false =
         let keeps : KeepsMessage (with_deadline now) = record { number = λ _. refl; begins = λ _. refl; ends = λ _. refl; kind = λ _. refl } in
         sendable-changed _ _ _ _ _ _ _ _ _ (is_to_start q.next_unstarted) (is_to_start q.next_unstarted) (with_deadline now) (with_deadline now) keeps keeps s
 
-moved-bytes : (tsn now : ℕ) (q : Outbound) (o : Option ChunkPayloadData) → peeked q.pending ≡ o → IsSendable q.pending q.inflight.chunks q.next_message_id → total_bytes (sent_of o q tsn now) ≡ total_bytes q
+moved-bytes : (tsn now : ℕ) (q : Outbound) (o : Option ChunkPayloadData) → next_pending q.pending ≡ o → IsSendable q.pending q.inflight.chunks q.next_message_id → total_bytes (sent_of o q tsn now) ≡ total_bytes q
 moved-bytes tsn now q None e s = refl
 moved-bytes tsn now q (Some c) e s =
-    let t = numbered tsn now c in
+    let t = as_sent tsn now c in
     let left = popped_bytes c.beginning_fragment c.unordered q.pending c (sendable-sent q.pending q.inflight.chunks q.next_message_id c t refl s e).taken in
     let more = sum_by-inserted size chunk_before t q.inflight.chunks in
     omega (arith, left, more)
 
 pub sent-bytes : (tsn now : ℕ) (q : Outbound) → IsSendable q.pending q.inflight.chunks q.next_message_id → total_bytes (sent_next q tsn now) ≡ total_bytes q
-sent-bytes tsn now q s = moved-bytes tsn now (all_started now q) (peeked (all_started now q).pending) refl (started-sendable now q s) ∙ started-bytes now q
+sent-bytes tsn now q s = moved-bytes tsn now (all_started now q) (next_pending (all_started now q).pending) refl (started-sendable now q s) ∙ started-bytes now q

@@ -1,15 +1,16 @@
 -- Worked examples, by computation.
 use Rattle.std.proofs.Common.{◌≡◌, ℕ, Bool, true, false, List, [], ◌∷◌, Some, None, refl}
+use Rattle.sctp_chunks.specs.ChunkSet.{fresh}
 use Rattle.sctp_chunks.specs.declared.chunk.chunk_payload_data.PayloadProtocolIdentifier.TheVariants as identifiers
 use Rattle.sctp_chunks.specs.declared.chunk.chunk_payload_data.ChunkPayloadData.{ChunkPayloadData}
 use Rattle.sctp_list_lemmas.specs.Serial.{distance, comes_before, at_or_before, comes_before16, at_or_before16, distance16}
 use Rattle.sctp_transfer.specs.declared.receiver.refusal.ReceiverRefusal.TheVariants.{StreamUnknown, MessageTooLarge}
 use Rattle.sctp_transfer.specs.declared.receiver.arrival.Arrival.TheVariants.{New, Repeat}
 use Rattle.sctp_transfer.specs.Inbound.{new_stream, has_number, with_queue}
-use Rattle.sctp_transfer.specs.Receiver.{Reception, at_first, opened, data_refusal, filter_of, with_filter, repeated, TakesEach}
+use Rattle.sctp_transfer.specs.Receiver.{Reception, at_first, open_stream, data_refusal, filter_of, with_filter, repeat_tsn, TakesEach}
 use Rattle.sctp_list_lemmas.specs.Lists.{change_where}
 use Rattle.sctp_reassembly.specs.reassembly_queue.ReassemblyQueue.{ReassemblyState, after_ordered_push}
-use Rattle.sctp_outbound.specs.Marks.{acknowledged, as_abandoned}
+use Rattle.sctp_outbound.specs.Marks.{as_acknowledged, as_abandoned}
 use Rattle.sctp_transfer.specs.Flight as flight
 use Rattle.sctp_transfer.specs.Flight.{Flight}
 use Rattle.sctp_transfer.specs.Abandonment.{advanced_ack_point}
@@ -61,7 +62,7 @@ opposite = refl
 -- ## A receiver
 
 abbrev fragment : ℕ → Bool → Bool → List ℕ → ChunkPayloadData
-fragment tsn begins ends bytes = record {
+fragment tsn begins ends bytes = fresh (record {
   unordered = false;
   beginning_fragment = begins;
   ending_fragment = ends;
@@ -71,16 +72,7 @@ fragment tsn begins ends bytes = record {
   stream_sequence_number = 0;
   payload_type = identifiers.Binary;
   user_data = bytes;
-  acked = false;
-  miss_indicator = 0;
-  message_id = 0;
-  abandoned = false;
-  since = None;
-  reliability = None;
-  deadline = None;
-  nsent = 0;
-  retransmit = false;
-}
+})
 
 -- no stream is open
 unknown : data_refusal (fragment 7 true true (1 ∷ [])) (at_first 7 2) ≡ Some StreamUnknown
@@ -88,11 +80,11 @@ unfolding distance at_or_before
 unknown = refl
 
 -- a message may have two bytes
-too_large : data_refusal (fragment 7 true true (1 ∷ 2 ∷ 3 ∷ [])) (opened 1 (at_first 7 2)) ≡ Some MessageTooLarge
+too_large : data_refusal (fragment 7 true true (1 ∷ 2 ∷ 3 ∷ [])) (open_stream 1 (at_first 7 2)) ≡ Some MessageTooLarge
 unfolding distance at_or_before
 too_large = refl
 
-fits : data_refusal (fragment 7 true true (1 ∷ 2 ∷ [])) (opened 1 (at_first 7 2)) ≡ None
+fits : data_refusal (fragment 7 true true (1 ∷ 2 ∷ [])) (open_stream 1 (at_first 7 2)) ≡ None
 unfolding distance at_or_before
 fits = refl
 
@@ -113,10 +105,10 @@ abbrev taken_on : ChunkPayloadData → ReassemblyState → Reception → Recepti
 taken_on c q r = with_filter (with_tsn c.tsn (filter_of r)) (record r { streams = change_where (has_number 1) (with_queue q) r.streams })
 
 abbrev one_open : Reception
-one_open = opened 1 (at_first 7 2)
+one_open = open_stream 1 (at_first 7 2)
 
 abbrev after_datagram : Reception
-after_datagram = taken_on back at_two (repeated 7 (taken_on front at_one one_open))
+after_datagram = taken_on back at_two (repeat_tsn 7 (taken_on front at_one one_open))
 
 datagram : TakesEach (front ∷ front ∷ back ∷ []) (New ∷ Repeat ∷ New ∷ []) one_open after_datagram
 unfolding distance at_or_before comes_before at_or_before16 comes_before16 distance16
@@ -125,7 +117,7 @@ datagram = (
   (
     record { accepted = refl; answer = refl; taken = record { stream = new_stream 1 2; found = refl; queue = at_one; pushed = refl; after = refl } },
     (
-      repeated 7 (taken_on front at_one one_open),
+      repeat_tsn 7 (taken_on front at_one one_open),
       (
         record { accepted = refl; answer = refl; taken = refl },
         (after_datagram, (record { accepted = refl; answer = refl; taken = record { stream = with_queue at_one (new_stream 1 2); found = refl; queue = at_two; pushed = refl; after = refl } }, refl)),
@@ -152,11 +144,11 @@ in_flight chunks = record (flight.at_first 103) { queue = record (flight.at_firs
 abbrev chunk_abandoned_at : ℕ → ChunkPayloadData
 chunk_abandoned_at tsn = as_abandoned (fragment tsn true true (1 ∷ []))
 
-point : advanced_ack_point (in_flight (chunk_abandoned_at 103 ∷ chunk_abandoned_at 104 ∷ fragment 105 true true (1 ∷ []) ∷ acknowledged (fragment 106 true true (1 ∷ [])) ∷ [])) ≡ 104
+point : advanced_ack_point (in_flight (chunk_abandoned_at 103 ∷ chunk_abandoned_at 104 ∷ fragment 105 true true (1 ∷ []) ∷ as_acknowledged (fragment 106 true true (1 ∷ [])) ∷ [])) ≡ 104
 point = refl
 
 -- where 105 is abandoned too, the point stops before what was only reported
-far_point : advanced_ack_point (in_flight (chunk_abandoned_at 103 ∷ chunk_abandoned_at 104 ∷ chunk_abandoned_at 105 ∷ acknowledged (fragment 106 true true (1 ∷ [])) ∷ [])) ≡ 105
+far_point : advanced_ack_point (in_flight (chunk_abandoned_at 103 ∷ chunk_abandoned_at 104 ∷ chunk_abandoned_at 105 ∷ as_acknowledged (fragment 106 true true (1 ∷ [])) ∷ [])) ≡ 105
 far_point = refl
 
 -- a chunk past its deadline is abandoned with its message, whose two bytes leave

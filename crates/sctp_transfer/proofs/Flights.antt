@@ -4,23 +4,22 @@ use Rattle.std.specs.Prelude.{if◌then◌else◌, ◌==◌, is_some}
 use Rattle.std.proofs.lemmas.List.{length-map}
 use Rattle.std.proofs.lemmas.Bool.{ne_eqb}
 use Rattle.std.proofs.lemmas.Bool.Decides.{nat_tests}
-use Rattle.sctp_list_lemmas.specs.Lists.{change_where, inserted}
+use Rattle.sctp_list_lemmas.specs.Lists.{change_where, insert_before}
 use Rattle.sctp_list_lemmas.specs.Serial.{distance, comes_before}
 use Rattle.sctp_list_lemmas.proofs.Edits.{find-none}
 use Rattle.sctp_list_lemmas.proofs.More.{fails}
 use Rattle.sctp_list_lemmas.proofs.Distances.{not_before_from}
 use Rattle.sctp_chunks.specs.declared.chunk.chunk_payload_data.ChunkPayloadData.{ChunkPayloadData}
-use Rattle.sctp_serial.specs.DataChunks.{has_tsn, chunk_before}
+use Rattle.sctp_serial.specs.DataChunks.{has_tsn, chunk_before, following_tsn, tsns}
 use Rattle.sctp_serial.specs.Window.{IsWindow, is_held}
 use Rattle.sctp_outbound.specs.Marks.{as_abandoned, is_of}
-use Rattle.sctp_outbound.specs.outbound_queue.OutboundQueue.{Outbound, all_started, sent_of, sent_next, numbered, abandoned_of, tsn_after_of, has_tail, message_of, with_terminal_chunk, terminal_chunk}
+use Rattle.sctp_outbound.specs.outbound_queue.OutboundQueue.{Outbound, all_started, sent_of, sent_next, as_sent, abandoned_of, tsn_after_of, has_tail, message_of, with_terminal_chunk, terminal_chunk}
 use Rattle.sctp_outbound.specs.payload_queue.PayloadQueue as payload
-use Rattle.sctp_outbound.specs.pending_queue.PendingQueue.{peeked, started, last_removed, without}
+use Rattle.sctp_outbound.specs.pending_queue.PendingQueue.{next_pending, start_pending, last_removed, without}
 use Rattle.sctp_outbound.specs.pending_queue.Whole.{waits}
 use Rattle.sctp_outbound.proofs.lemmas.outbound_queue.Outbounds.{peeked_all_started}
 use Rattle.sctp_outbound.proofs.lemmas.outbound_queue.Abandoned.{no_last, last_removed_none}
 use Rattle.sctp_transfer.specs.Flight.{Flight, IsContiguous, tsns_from, may_send}
-use Rattle.sctp_transfer.specs.TsnFilter.{following_tsn, tsns}
 use Rattle.sctp_transfer.proofs.Runs.{IsRunFrom, tsn-at, changed-run}
 
 -- ## The next TSN
@@ -92,17 +91,17 @@ behind : (first m : ℕ) → first < 2 ^ 32 → 0 < m → m < 2 ^ 31 → comes_b
 unfolding distance
 behind first m small pos near = not_before_from ((first + m) % 2 ^ 32) first (omega arith)
 
-pub put-last : (x : ChunkPayloadData) (cs : List ChunkPayloadData) (first : ℕ) → first < 2 ^ 32 → length cs < 2 ^ 31 → IsRunFrom first cs → x.tsn ≡ (first + length cs) % 2 ^ 32 → tsns (inserted chunk_before x cs) ≡ tsns cs ++ x.tsn ∷ []
+pub put-last : (x : ChunkPayloadData) (cs : List ChunkPayloadData) (first : ℕ) → first < 2 ^ 32 → length cs < 2 ^ 31 → IsRunFrom first cs → x.tsn ≡ (first + length cs) % 2 ^ 32 → tsns (insert_before chunk_before x cs) ≡ tsns cs ++ x.tsn ∷ []
 put-last x [] first small few run is = refl
 put-last x (c ∷ cs) first small few run is =
     let head : c.tsn ≡ first = cc in
     let tail : IsRunFrom (following_tsn first) cs = cc in
     let late : comes_before x.tsn c.tsn ≡ false = ap (λ t. comes_before t c.tsn) is ∙ ap (comes_before ((first + suc (length cs)) % 2 ^ 32)) head ∙ behind first (suc (length cs)) small (omega arith) (omega (arith, few)) in
     let same : x.tsn ≡ (following_tsn first + length cs) % 2 ^ 32 = omega (arith, is) in
-    ap (λ b. tsns (if b then x ∷ c ∷ cs else c ∷ inserted chunk_before x cs)) late ∙ ap (λ ts. c.tsn ∷ ts) (put-last x cs (following_tsn first) (omega arith) (omega (arith, few)) tail same)
+    ap (λ b. tsns (if b then x ∷ c ∷ cs else c ∷ insert_before chunk_before x cs)) late ∙ ap (λ ts. c.tsn ∷ ts) (put-last x cs (following_tsn first) (omega arith) (omega (arith, few)) tail same)
 
 -- put behind chunks that have the TSNs of those in flight
-put-in : (f : Flight) (x : ChunkPayloadData) (cs : List ChunkPayloadData) → IsContiguous f → tsns cs ≡ tsns f.queue.inflight.chunks → x.tsn ≡ f.next_tsn → tsns (inserted chunk_before x cs) ≡ tsns f.queue.inflight.chunks ++ f.next_tsn ∷ []
+put-in : (f : Flight) (x : ChunkPayloadData) (cs : List ChunkPayloadData) → IsContiguous f → tsns cs ≡ tsns f.queue.inflight.chunks → x.tsn ≡ f.next_tsn → tsns (insert_before chunk_before x cs) ≡ tsns f.queue.inflight.chunks ++ f.next_tsn ∷ []
 put-in f x cs inv same is =
     let n : length cs ≡ length f.queue.inflight.chunks = sym (count cs) ∙ ap length same ∙ count f.queue.inflight.chunks in
     put-last x cs (following_tsn f.acked_tsn) (omega arith) (omega (arith, n, inv.few)) (same ∙ inv.run ∙ ap (tsns_from (following_tsn f.acked_tsn)) (sym n)) (omega (arith, is, inv.next, n))
@@ -113,20 +112,20 @@ put-in f x cs inv same is =
 started-inflight : (now : ℕ) (q : Outbound) → (all_started now q).inflight ≡ q.inflight
 started-inflight now q = by (q.next_unstarted == q.next_message_id)
   where
-    by : (b : Bool) → (if b then q else record q { pending = started q.next_unstarted now q.pending; next_unstarted = q.next_message_id }).inflight ≡ q.inflight
+    by : (b : Bool) → (if b then q else record q { pending = start_pending q.next_unstarted now q.pending; next_unstarted = q.next_message_id }).inflight ≡ q.inflight
     by true = refl
     by false = refl
 
-pub sent : (f : Flight) (now : ℕ) (then' : Outbound) (next : ℕ) → IsContiguous f → may_send f ≡ true → then' ≡ sent_next f.queue f.next_tsn now → next ≡ (if is_some (peeked f.queue.pending) then following_tsn f.next_tsn else f.next_tsn) → IsContiguous (record { queue = then'; next_tsn = next; acked_tsn = f.acked_tsn })
-sent f now then' next inv room is raised = by (peeked (all_started now f.queue).pending) (peeked_all_started now f.queue) is
+pub sent : (f : Flight) (now : ℕ) (then' : Outbound) (next : ℕ) → IsContiguous f → may_send f ≡ true → then' ≡ sent_next f.queue f.next_tsn now → next ≡ (if is_some (next_pending f.queue.pending) then following_tsn f.next_tsn else f.next_tsn) → IsContiguous (record { queue = then'; next_tsn = next; acked_tsn = f.acked_tsn })
+sent f now then' next inv room is raised = by (next_pending (all_started now f.queue).pending) (peeked_all_started now f.queue) is
   where
     same : tsns (all_started now f.queue).inflight.chunks ≡ tsns f.queue.inflight.chunks
     same = ap (λ (p : payload.Payload). tsns p.chunks) (started-inflight now f.queue)
 
-    by : (o : Option ChunkPayloadData) → is_some o ≡ is_some (peeked f.queue.pending) → then' ≡ sent_of o (all_started now f.queue) f.next_tsn now → IsContiguous (record { queue = then'; next_tsn = next; acked_tsn = f.acked_tsn })
+    by : (o : Option ChunkPayloadData) → is_some o ≡ is_some (next_pending f.queue.pending) → then' ≡ sent_of o (all_started now f.queue) f.next_tsn now → IsContiguous (record { queue = then'; next_tsn = next; acked_tsn = f.acked_tsn })
     by None none e = kept f (record { queue = then'; next_tsn = next; acked_tsn = f.acked_tsn }) (ap (λ (o : Outbound). tsns o.inflight.chunks) e ∙ same) (raised ∙ ap (λ b. if b then following_tsn f.next_tsn else f.next_tsn) (sym none)) refl inv
     by (Some c) some e =
-        grown f (record { queue = then'; next_tsn = next; acked_tsn = f.acked_tsn }) (ap (λ (o : Outbound). tsns o.inflight.chunks) e ∙ put-in f (numbered f.next_tsn now c) (all_started now f.queue).inflight.chunks inv same refl)
+        grown f (record { queue = then'; next_tsn = next; acked_tsn = f.acked_tsn }) (ap (λ (o : Outbound). tsns o.inflight.chunks) e ∙ put-in f (as_sent f.next_tsn now c) (all_started now f.queue).inflight.chunks inv same refl)
         (raised ∙ ap (λ b. if b then following_tsn f.next_tsn else f.next_tsn) (sym some)) refl room inv
 
 -- ## Abandoning

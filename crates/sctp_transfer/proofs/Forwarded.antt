@@ -1,14 +1,16 @@
 -- What a FORWARD-TSN makes of each stream of a receiver: one map over them.
 use Rattle.std.proofs.Common.{◌≡◌, refl, ap, ◌∙◌, ℕ, Bool, true, false, List, [], ◌∷◌, map, length, suc, Some}
 use Rattle.std.specs.Prelude.{◌==◌, if◌then◌else◌, find, option_map}
-use Rattle.sctp_list_lemmas.specs.Lists.{change_where, those}
+use Rattle.std.specs.List.{filter}
+use Rattle.sctp_list_lemmas.specs.Lists.{change_where}
 use Rattle.sctp_chunks.specs.declared.chunk.chunk_forward_tsn.ChunkForwardTsnStream.{ChunkForwardTsnStream}
 use Rattle.sctp_chunks.specs.ForwardTsn.{ForwardTsn}
 use Rattle.sctp_reassembly.specs.reassembly_queue.ReassemblyQueue.{ReassemblyState, after_ordered_skip}
 use Rattle.sctp_transfer.specs.declared.receiver.inbound_streams.InboundStream.{InboundStream}
 use Rattle.sctp_transfer.specs.Inbound.{number, numbers_of, has_number, with_queue, ssn_forwarded, named_forwarded, unassembled_forwarded, ssns_of, skipped_each, stream_forwarded}
-use Rattle.sctp_transfer.specs.Receiver.{Reception, stream_of, followed, after_forward, is_stale}
+use Rattle.sctp_transfer.specs.Receiver.{Reception, stream_of, follow_forward_tsn, after_forward, is_stale}
 use Rattle.sctp_transfer.proofs.Inbounds.{stays-mapped}
+use Rattle.sctp_list_lemmas.proofs.Getting.{map-twice}
 
 -- ## Skips
 
@@ -27,7 +29,7 @@ first-name : (n : ChunkForwardTsnStream) (ns : List ChunkForwardTsnStream) (l : 
 first-name n ns l = by (l.queue.si == n.identifier)
   where
     others : List ChunkForwardTsnStream
-    others = those (λ m. l.queue.si == m.identifier) ns
+    others = filter (λ m. l.queue.si == m.identifier) ns
 
     by : (b : Bool) → stream_forwarded ns (if b then ssn_forwarded n.sequence l else l) ≡ with_queue (skipped_each (map (λ m. m.sequence) (if b then n ∷ others else others)) l.queue) l
     by true = refl
@@ -46,15 +48,11 @@ pub named-mapped : (ns : List ChunkForwardTsnStream) (ls : List InboundStream) �
 named-mapped [] ls = no-names ls
 named-mapped (n ∷ ns) ls = named-mapped ns (change_where (has_number n.identifier) (ssn_forwarded n.sequence) ls) ∙ first-names n ns ls
 
-twice-mapped : (g f : InboundStream → InboundStream) (ls : List InboundStream) → map g (map f ls) ≡ map (λ l. g (f l)) ls
-twice-mapped g f [] = refl
-twice-mapped g f (l ∷ ls) = ap (λ xs. g (f l) ∷ xs) (twice-mapped g f ls)
-
 -- and then the unassembled fragments
 pub unassembled-mapped : (tsn : ℕ) (ns : List ChunkForwardTsnStream) (ls : List InboundStream) → map (unassembled_forwarded tsn) (named_forwarded ns ls) ≡ map (λ l. unassembled_forwarded tsn (stream_forwarded ns l)) ls
-unassembled-mapped tsn ns ls = ap (map (unassembled_forwarded tsn)) (named-mapped ns ls) ∙ twice-mapped (unassembled_forwarded tsn) (stream_forwarded ns) ls
+unassembled-mapped tsn ns ls = ap (map (unassembled_forwarded tsn)) (named-mapped ns ls) ∙ map-twice (unassembled_forwarded tsn) (stream_forwarded ns) ls
 
-pub followed-mapped : (f : ForwardTsn) (r : Reception) → (followed f r).streams ≡ map (λ l. unassembled_forwarded f.new_cumulative_tsn (stream_forwarded f.streams l)) r.streams
+pub followed-mapped : (f : ForwardTsn) (r : Reception) → (follow_forward_tsn f r).streams ≡ map (λ l. unassembled_forwarded f.new_cumulative_tsn (stream_forwarded f.streams l)) r.streams
 followed-mapped f r = unassembled-mapped f.new_cumulative_tsn f.streams r.streams
 
 -- ## A stream by its number
@@ -67,7 +65,7 @@ found-mapped s f same (l ∷ ls) = ap (λ n. if n == s then Some (f l) else find
     by true rest = refl
     by false rest = rest
 
-pub found-followed : (s : ℕ) (f : ForwardTsn) (r : Reception) → stream_of s (followed f r) ≡ option_map (λ l. unassembled_forwarded f.new_cumulative_tsn (stream_forwarded f.streams l)) (stream_of s r)
+pub found-followed : (s : ℕ) (f : ForwardTsn) (r : Reception) → stream_of s (follow_forward_tsn f r) ≡ option_map (λ l. unassembled_forwarded f.new_cumulative_tsn (stream_forwarded f.streams l)) (stream_of s r)
 found-followed s f r = ap (find (has_number s)) (followed-mapped f r) ∙ found-mapped s (λ l. unassembled_forwarded f.new_cumulative_tsn (stream_forwarded f.streams l)) (λ l. skipped-number (ssns_of l.queue.si f.streams) l.queue) r.streams
 
 -- ## What stays
@@ -91,23 +89,23 @@ named-length ns ls = ap length (named-mapped ns ls) ∙ mapped (stream_forwarded
     mapped f [] = refl
     mapped f (x ∷ xs) = ap suc (mapped f xs)
 
-pub followed-numbers : (f : ForwardTsn) (r : Reception) → numbers_of (followed f r).streams ≡ numbers_of r.streams
+pub followed-numbers : (f : ForwardTsn) (r : Reception) → numbers_of (follow_forward_tsn f r).streams ≡ numbers_of r.streams
 followed-numbers f r = stays-mapped number (unassembled_forwarded f.new_cumulative_tsn) (λ l. refl) (named_forwarded f.streams r.streams) ∙ named-numbers f.streams r.streams
 
-pub followed-stats : (f : ForwardTsn) (r : Reception) → map (λ l. l.stats) (followed f r).streams ≡ map (λ l. l.stats) r.streams
+pub followed-stats : (f : ForwardTsn) (r : Reception) → map (λ l. l.stats) (follow_forward_tsn f r).streams ≡ map (λ l. l.stats) r.streams
 followed-stats f r = stays-mapped (λ l. l.stats) (unassembled_forwarded f.new_cumulative_tsn) (λ l. refl) (named_forwarded f.streams r.streams) ∙ named-stats f.streams r.streams
 
 -- also where it is stale
 pub after-numbers : (f : ForwardTsn) (r : Reception) → numbers_of (after_forward f r).streams ≡ numbers_of r.streams
 after-numbers f r = by (is_stale f r)
   where
-    by : (b : Bool) → numbers_of (if b then r else followed f r).streams ≡ numbers_of r.streams
+    by : (b : Bool) → numbers_of (if b then r else follow_forward_tsn f r).streams ≡ numbers_of r.streams
     by true = refl
     by false = followed-numbers f r
 
 pub after-size : (f : ForwardTsn) (r : Reception) → (after_forward f r).max_message_size ≡ r.max_message_size
 after-size f r = by (is_stale f r)
   where
-    by : (b : Bool) → (if b then r else followed f r).max_message_size ≡ r.max_message_size
+    by : (b : Bool) → (if b then r else follow_forward_tsn f r).max_message_size ≡ r.max_message_size
     by true = refl
     by false = refl

@@ -1,12 +1,12 @@
 -- What a receiver hands out, in every run of calls.
-use Rattle.std.proofs.Common.{◌≡◌, ℕ, ◌+◌, ◌≤◌, Bool, true, false, List, [], ◌∷◌, ◌++◌, map, Option, Some, None, refl, ap, sym, ◌∙◌, arith, subst}
+use Rattle.std.proofs.Common.{◌≡◌, ℕ, ◌+◌, ◌≤◌, Bool, true, false, List, [], ◌∷◌, ◌++◌, Option, Some, None, refl, ap, sym, ◌∙◌, arith, subst}
 use Rattle.std.specs.Prelude.{◌==◌, if◌then◌else◌, find, option_map}
 use Rattle.std.specs.Option.{option_or}
-use Rattle.std.specs.List.{list_all, sum_by}
+use Rattle.std.specs.List.{list_all, sum_by, filter}
 use Rattle.std.proofs.lemmas.Bool.{eq-eqb}
 use Rattle.std.proofs.lemmas.List.Folds.{find-append}
 use Rattle.std.proofs.lemmas.List.Sums.{sum_by-cons, sum_by-append}
-use Rattle.sctp_list_lemmas.specs.Lists.{change_where, those}
+use Rattle.sctp_list_lemmas.specs.Lists.{change_where}
 use Rattle.sctp_list_lemmas.proofs.Cases.{same-is}
 use Rattle.sctp_list_lemmas.proofs.More.{and, fails, not_both}
 use Rattle.sctp_chunks.specs.declared.chunk.chunk_payload_data.ChunkPayloadData.{ChunkPayloadData}
@@ -18,12 +18,14 @@ use Rattle.sctp_reassembly.specs.reassembly_queue.ReassemblyQueue.{message_read}
 use Rattle.sctp_transfer.specs.declared.receiver.arrival.Arrival.TheVariants.{New, Repeat}
 use Rattle.sctp_transfer.specs.declared.receiver.inbound_streams.InboundStream.{InboundStream}
 use Rattle.sctp_transfer.specs.Inbound.{number, has_number, new_stream, with_queue, stream_read, ssn_forwarded, named_forwarded, unassembled_forwarded}
-use Rattle.sctp_transfer.specs.Receiver.{Reception, stream_of, Accepts, message_of, message_on, after_read, is_stale, followed, after_forward}
-use Rattle.sctp_transfer.specs.ReceiverRuns.{Call, opens, takes, reports, reads, forwards, Message, Stand, with_message, Follows, RunsTo, at_start, AfterEachRun, AreWhole, WereAccepted, fragments_read, is_on}
+use Rattle.sctp_transfer.specs.Receiver.{Reception, stream_of, Accepts, message_of, message_on, after_read, is_stale, follow_forward_tsn, after_forward}
+use Rattle.sctp_transfer.specs.ReceiverRuns.{Call, opens, takes, reports, reads, forwards, Message, Stand, with_message, Follows, RunsTo, at_start, AfterEachRun, AreComplete, WereAccepted, fragments_read}
 use Rattle.sctp_transfer.proofs.Inbounds.{pushed-number}
 use Rattle.sctp_transfer.proofs.Weights as weights
 use Rattle.sctp_transfer.proofs.Weights.{weight, message_weight}
-use Rattle.sctp_transfer.proofs.Wholes.{all_whole, message_whole, pushed-whole, read-whole, rest-whole}
+use Rattle.sctp_transfer.proofs.CompleteMessages.{all_complete, message_complete, pushed-complete, read-complete, rest-complete}
+use Rattle.sctp_transfer.proofs.Forwarded.{found-mapped}
+use Rattle.sctp_serial.specs.DataChunks.{is_on}
 
 -- ## A stream, by its number
 
@@ -51,50 +53,42 @@ found-changed s st f keeps (l ∷ ls) = by (number l == s) refl (number l == st)
     by false h true g ih = ap (λ b. if b then Some l else find (has_number st) (change_where (has_number s) f ls)) g ∙ ap (λ b. Some (if b then f l else l)) (sym h)
     by false h false g ih = ap (λ b. if b then Some l else find (has_number st) (change_where (has_number s) f ls)) g ∙ ih
 
-found-mapped : (st : ℕ) (f : InboundStream → InboundStream) → ((l : InboundStream) → number (f l) ≡ number l) → (ls : List InboundStream) → find (has_number st) (map f ls) ≡ option_map f (find (has_number st) ls)
-found-mapped st f keeps [] = refl
-found-mapped st f keeps (l ∷ ls) = ap (λ (n : ℕ). if n == st then Some (f l) else find (has_number st) (map f ls)) (keeps l) ∙ by (number l == st) (found-mapped st f keeps ls)
-  where
-    by : (b : Bool) → find (has_number st) (map f ls) ≡ option_map f (find (has_number st) ls) → (if b then Some (f l) else find (has_number st) (map f ls)) ≡ option_map f (if b then Some l else find (has_number st) ls)
-    by true ih = refl
-    by false ih = ih
-
 -- ## What a stream holds
 
 abbrev pub held_weight : (ChunkPayloadData → ℕ) → Option InboundStream → ℕ
 held_weight w None = 0
 held_weight w (Some l) = weight w l.queue.held
 
-abbrev pub held_whole : Option InboundStream → Bool
-held_whole None = true
-held_whole (Some l) = all_whole l.queue.held.unordered
+abbrev pub held_complete : Option InboundStream → Bool
+held_complete None = true
+held_complete (Some l) = all_complete l.queue.held.unordered
 
 -- no more than before
 record IsNoMore (old new : Option InboundStream) : Type 0 where
   weighs : (w : ChunkPayloadData → ℕ) → held_weight w new ≤ held_weight w old
-  whole : held_whole old ≡ true → held_whole new ≡ true
+  complete : held_complete old ≡ true → held_complete new ≡ true
 
 same-held : (o : Option InboundStream) → IsNoMore o o
-same-held o = record { weighs = λ w. omega arith; whole = λ h. h }
+same-held o = record { weighs = λ w. omega arith; complete = λ h. h }
 
 then-less : (a b c : Option InboundStream) → IsNoMore a b → IsNoMore b c → IsNoMore a c
-then-less a b c x y = record { weighs = λ w. let p = x.weighs w in let q = y.weighs w in omega arith; whole = λ h. y.whole (x.whole h) }
+then-less a b c x y = record { weighs = λ w. let p = x.weighs w in let q = y.weighs w in omega arith; complete = λ h. y.complete (x.complete h) }
 
 -- a stream of which less is held
 record Lightens (f : InboundStream → InboundStream) : Type 0 where
   number : (l : InboundStream) → (f l).queue.si ≡ l.queue.si
   weighs : (w : ChunkPayloadData → ℕ) (l : InboundStream) → weight w (f l).queue.held ≤ weight w l.queue.held
-  whole : (l : InboundStream) → (f l).queue.held.unordered ≡ l.queue.held.unordered
+  complete : (l : InboundStream) → (f l).queue.held.unordered ≡ l.queue.held.unordered
 
 names-lighten : (ssn : ℕ) → Lightens (ssn_forwarded ssn)
-names-lighten ssn = record { number = λ l. refl; weighs = λ w l. weights.named w ssn l.queue; whole = λ l. refl }
+names-lighten ssn = record { number = λ l. refl; weighs = λ w l. weights.named w ssn l.queue; complete = λ l. refl }
 
 unassembled-lightens : (tsn : ℕ) → Lightens (unassembled_forwarded tsn)
-unassembled-lightens tsn = record { number = λ l. refl; weighs = λ w l. weights.unassembled w tsn l.queue; whole = λ l. refl }
+unassembled-lightens tsn = record { number = λ l. refl; weighs = λ w l. weights.unassembled w tsn l.queue; complete = λ l. refl }
 
 lighter : (f : InboundStream → InboundStream) (o : Option InboundStream) → Lightens f → IsNoMore o (option_map f o)
 lighter f None h = same-held None
-lighter f (Some l) h = record { weighs = λ w. h.weighs w l; whole = λ t. ap all_whole (h.whole l) ∙ t }
+lighter f (Some l) h = record { weighs = λ w. h.weighs w l; complete = λ t. ap all_complete (h.complete l) ∙ t }
 
 lighter-one : (s : ℕ) (f : InboundStream → InboundStream) (o : Option InboundStream) → Lightens f → IsNoMore o (option_map (λ l. if has_number s l then f l else l) o)
 lighter-one s f None h = same-held None
@@ -118,7 +112,7 @@ followed-less st f r = by (is_stale f r)
     unassembled : InboundStream → InboundStream
     unassembled = unassembled_forwarded f.new_cumulative_tsn
 
-    by : (b : Bool) → IsNoMore (stream_of st r) (stream_of st (if b then r else followed f r))
+    by : (b : Bool) → IsNoMore (stream_of st r) (stream_of st (if b then r else follow_forward_tsn f r))
     by true = same-held (stream_of st r)
     by false =
         let ls = named_forwarded f.streams r.streams in
@@ -129,19 +123,19 @@ opened-less : (st s max : ℕ) (ls : List InboundStream) → IsNoMore (find (has
 opened-less st s max ls = subst (IsNoMore (find (has_number st) ls)) (sym (find-append (has_number st) ls (new_stream s max ∷ []))) (by (find (has_number st) ls) (s == st))
   where
     by : (o : Option InboundStream) (b : Bool) → IsNoMore o (option_or o (if b then Some (new_stream s max) else None))
-    by None true = record { weighs = λ w. omega arith; whole = λ h. refl }
+    by None true = record { weighs = λ w. omega arith; complete = λ h. refl }
     by None false = same-held None
     by (Some l) b = same-held (Some l)
 
 -- ## What holds of a stream, and of all that was read
 
 record Holds (st : ℕ) (s : Stand) : Type 0 where
-  weighs : (w : ChunkPayloadData → ℕ) → sum_by w (fragments_read st s.read) + held_weight w (stream_of st s.receiver) ≤ sum_by w (those (is_on st) s.accepted)
-  whole : held_whole (stream_of st s.receiver) ≡ true
+  weighs : (w : ChunkPayloadData → ℕ) → sum_by w (fragments_read st s.read) + held_weight w (stream_of st s.receiver) ≤ sum_by w (filter (is_on st) s.accepted)
+  complete : held_complete (stream_of st s.receiver) ≡ true
 
 record IsValid (s : Stand) : Type 0 where
   holds : (st : ℕ) → Holds st s
-  read : AreWhole s
+  read : AreComplete s
 
 -- a call by which no stream holds more, no chunk is taken and none is read
 quiet : (old new : Stand) → IsValid old → new.accepted ≡ old.accepted → new.read ≡ old.read → ((st : ℕ) → IsNoMore (stream_of st old.receiver) (stream_of st new.receiver)) → IsValid new
@@ -151,30 +145,30 @@ quiet old new s a r less = record {
         let h = (s.holds st).weighs w in
         let l = (less st).weighs w in
         let e = ap (λ ms. sum_by w (fragments_read st ms)) r in
-        let f = ap (λ cs. sum_by w (those (is_on st) cs)) a in
+        let f = ap (λ cs. sum_by w (filter (is_on st) cs)) a in
         omega arith;
-    whole = (less st).whole (s.holds st).whole;
+    complete = (less st).complete (s.holds st).complete;
   };
   read = ap (λ ms. list_all (λ m. is_complete m.fragments) ms) r ∙ s.read;
 }
 
 -- ## A chunk is taken
 
-taken-more : (w : ChunkPayloadData → ℕ) (st : ℕ) (c : ChunkPayloadData) (cs : List ChunkPayloadData) (b : Bool) → is_on st c ≡ b → sum_by w (those (is_on st) (c ∷ cs)) ≡ (if b then w c else 0) + sum_by w (those (is_on st) cs)
-taken-more w st c cs b e = ap (λ t. sum_by w (if t then c ∷ those (is_on st) cs else those (is_on st) cs)) e ∙ by b
+taken-more : (w : ChunkPayloadData → ℕ) (st : ℕ) (c : ChunkPayloadData) (cs : List ChunkPayloadData) (b : Bool) → is_on st c ≡ b → sum_by w (filter (is_on st) (c ∷ cs)) ≡ (if b then w c else 0) + sum_by w (filter (is_on st) cs)
+taken-more w st c cs b e = ap (λ t. sum_by w (if t then c ∷ filter (is_on st) cs else filter (is_on st) cs)) e ∙ by b
   where
-    by : (b : Bool) → sum_by w (if b then c ∷ those (is_on st) cs else those (is_on st) cs) ≡ (if b then w c else 0) + sum_by w (those (is_on st) cs)
-    by true = sum_by-cons w c (those (is_on st) cs)
+    by : (b : Bool) → sum_by w (if b then c ∷ filter (is_on st) cs else filter (is_on st) cs) ≡ (if b then w c else 0) + sum_by w (filter (is_on st) cs)
+    by true = sum_by-cons w c (filter (is_on st) cs)
     by false = omega arith
 
 -- of the stream with this number so much more is held, where the chunk is of it
 record IsMoreBy (c : ChunkPayloadData) (b : Bool) (old new : Option InboundStream) : Type 0 where
   weighs : (w : ChunkPayloadData → ℕ) → held_weight w new ≤ (if b then w c else 0) + held_weight w old
-  whole : held_whole old ≡ true → held_whole new ≡ true
+  complete : held_complete old ≡ true → held_complete new ≡ true
 
 no-less : (c : ChunkPayloadData) (b : Bool) (o : Option InboundStream) → IsMoreBy c b o o
-no-less c true o = record { weighs = λ w. omega arith; whole = λ h. h }
-no-less c false o = record { weighs = λ w. omega arith; whole = λ h. h }
+no-less c true o = record { weighs = λ w. omega arith; complete = λ h. h }
+no-less c false o = record { weighs = λ w. omega arith; complete = λ h. h }
 
 module _ (c : ChunkPayloadData) (old new : Reception) (a : Accepts c old new) (st : ℕ) where
   abbrev sid : ℕ
@@ -200,7 +194,7 @@ module _ (c : ChunkPayloadData) (old new : Reception) (a : Accepts c old new) (s
           subst (λ b. IsMoreBy c b (Some l) (Some (with_queue a.queue l))) (sym on)
           (record {
             weighs = λ w. let p = weights.pushed w c a.stream.queue a.queue a.pushed in let q = ap (λ (x : InboundStream). weight w x.queue.held) is in omega arith;
-            whole = λ t. pushed-whole c a.stream.queue a.queue a.pushed (ap (λ (x : InboundStream). all_whole x.queue.held.unordered) (sym is) ∙ t);
+            complete = λ t. pushed-complete c a.stream.queue a.queue a.pushed (ap (λ (x : InboundStream). all_complete x.queue.held.unordered) (sym is) ∙ t);
           })
 
   more : IsMoreBy c (is_on st c) (stream_of st old) (stream_of st new)
@@ -213,10 +207,10 @@ taken-valid c old new s a e r = record {
         let h = (s.holds st).weighs w in
         let m = (more c old.receiver new.receiver a st).weighs w in
         let t = taken-more w st c old.accepted (is_on st c) refl in
-        let f = ap (λ cs. sum_by w (those (is_on st) cs)) e in
+        let f = ap (λ cs. sum_by w (filter (is_on st) cs)) e in
         let g = ap (λ ms. sum_by w (fragments_read st ms)) r in
         omega arith;
-    whole = (more c old.receiver new.receiver a st).whole (s.holds st).whole;
+    complete = (more c old.receiver new.receiver a st).complete (s.holds st).complete;
   };
   read = ap (λ ms. list_all (λ m. is_complete m.fragments) ms) r ∙ s.read;
 }
@@ -238,22 +232,22 @@ read-more w st s (Some set) ms = by (s == st)
 -- what is read leaves the stream
 record IsLessBy (b : Bool) (m : Option ChunkSet) (old new : Option InboundStream) : Type 0 where
   weighs : (w : ChunkPayloadData → ℕ) → (if b then message_weight w m else 0) + held_weight w new ≤ held_weight w old
-  whole : held_whole old ≡ true → held_whole new ≡ true
+  complete : held_complete old ≡ true → held_complete new ≡ true
 
 module _ (s st : ℕ) (r : Reception) where
   here : (o : Option InboundStream) → stream_of st r ≡ o → s ≡ st → IsLessBy true (message_of o) o (option_map (λ l. if has_number s l then stream_read l else l) o)
-  here None e same = record { weighs = λ w. omega arith; whole = λ h. h }
+  here None e same = record { weighs = λ w. omega arith; complete = λ h. h }
   here (Some l) e same =
       let on : has_number s l ≡ true = ap (λ n. number l == n) same ∙ found-number st r.streams l e in
       subst (λ b. IsLessBy true (message_read l.queue.held) (Some l) (Some (if b then stream_read l else l))) (sym on)
-      (record { weighs = λ w. let h = weights.read w l.queue.held in omega arith; whole = λ h. rest-whole l.queue.held h })
+      (record { weighs = λ w. let h = weights.read w l.queue.held in omega arith; complete = λ h. rest-complete l.queue.held h })
 
   elsewhere : (m : Option ChunkSet) (o : Option InboundStream) → stream_of st r ≡ o → (s == st) ≡ false → IsLessBy false m o (option_map (λ l. if has_number s l then stream_read l else l) o)
-  elsewhere m None e differ = record { weighs = λ w. omega arith; whole = λ h. h }
+  elsewhere m None e differ = record { weighs = λ w. omega arith; complete = λ h. h }
   elsewhere m (Some l) e differ =
       let off : has_number s l ≡ false = fails (has_number s l) (λ t. not_both (sym differ ∙ eq-eqb s st (sym (same-is (number l) s t) ∙ same-is (number l) st (found-number st r.streams l e)))) in
       subst (λ b. IsLessBy false m (Some l) (Some (if b then stream_read l else l))) (sym off)
-      (record { weighs = λ w. omega arith; whole = λ h. h })
+      (record { weighs = λ w. omega arith; complete = λ h. h })
 
   either : (b : Bool) → (s == st) ≡ b → IsLessBy b (message_on s r) (stream_of st r) (option_map (λ l. if has_number s l then stream_read l else l) (stream_of st r))
   either true e =
@@ -264,16 +258,16 @@ module _ (s st : ℕ) (r : Reception) where
   read-less : IsLessBy (s == st) (message_on s r) (stream_of st r) (stream_of st (after_read s r))
   read-less = subst (IsLessBy (s == st) (message_on s r) (stream_of st r)) (sym (found-changed s st stream_read (λ l e. refl) r.streams)) (either (s == st) refl)
 
-on-whole : (s : ℕ) (r : Reception) → held_whole (stream_of s r) ≡ true → message_whole (message_on s r) ≡ true
-on-whole s r h = by (stream_of s r) h
+on-complete : (s : ℕ) (r : Reception) → held_complete (stream_of s r) ≡ true → message_complete (message_on s r) ≡ true
+on-complete s r h = by (stream_of s r) h
   where
-    by : (o : Option InboundStream) → held_whole o ≡ true → message_whole (message_of o) ≡ true
+    by : (o : Option InboundStream) → held_complete o ≡ true → message_complete (message_of o) ≡ true
     by None h = refl
-    by (Some l) h = read-whole l.queue.held h
+    by (Some l) h = read-complete l.queue.held h
 
-with-whole : (s : ℕ) (m : Option ChunkSet) (ms : List Message) → message_whole m ≡ true → list_all (λ x. is_complete x.fragments) ms ≡ true → list_all (λ x. is_complete x.fragments) (with_message s m ms) ≡ true
-with-whole s None ms h k = k
-with-whole s (Some set) ms h k = and _ _ h k
+with-complete : (s : ℕ) (m : Option ChunkSet) (ms : List Message) → message_complete m ≡ true → list_all (λ x. is_complete x.fragments) ms ≡ true → list_all (λ x. is_complete x.fragments) (with_message s m ms) ≡ true
+with-complete s None ms h k = k
+with-complete s (Some set) ms h k = and _ _ h k
 
 read-valid : (stream : ℕ) (old new : Stand) → IsValid old → new.receiver ≡ after_read stream old.receiver → new.accepted ≡ old.accepted → new.read ≡ with_message stream (message_on stream old.receiver) old.read → IsValid new
 read-valid stream old new s is a r = record {
@@ -284,11 +278,11 @@ read-valid stream old new s is a r = record {
         let now = ap (λ (x : Reception). held_weight w (stream_of st x)) is in
         let m = read-more w st stream (message_on stream old.receiver) old.read in
         let e = ap (λ ms. sum_by w (fragments_read st ms)) r in
-        let f = ap (λ cs. sum_by w (those (is_on st) cs)) a in
+        let f = ap (λ cs. sum_by w (filter (is_on st) cs)) a in
         omega arith;
-    whole = ap (λ (x : Reception). held_whole (stream_of st x)) is ∙ (read-less stream st old.receiver).whole (s.holds st).whole;
+    complete = ap (λ (x : Reception). held_complete (stream_of st x)) is ∙ (read-less stream st old.receiver).complete (s.holds st).complete;
   };
-  read = ap (λ ms. list_all (λ m. is_complete m.fragments) ms) r ∙ with-whole stream (message_on stream old.receiver) old.read (on-whole stream old.receiver (s.holds stream).whole) s.read;
+  read = ap (λ ms. list_all (λ m. is_complete m.fragments) ms) r ∙ with-complete stream (message_on stream old.receiver) old.read (on-complete stream old.receiver (s.holds stream).complete) s.read;
 }
 
 -- ## Every run
@@ -309,10 +303,10 @@ run [] old new s e = subst IsValid (sym e) s
 run (c ∷ cs) old new s r = run cs r.0 new (step c old r.0 s r.1.0) r.1.1
 
 start : (tsn max : ℕ) → IsValid (at_start tsn max)
-start tsn max = record { holds = λ st. record { weighs = λ w. omega arith; whole = refl }; read = refl }
+start tsn max = record { holds = λ st. record { weighs = λ w. omega arith; complete = refl }; read = refl }
 
-pub whole : AfterEachRun AreWhole
-whole tsn max calls s r = (run calls (at_start tsn max) s (start tsn max) r).read
+pub complete : AfterEachRun AreComplete
+complete tsn max calls s r = (run calls (at_start tsn max) s (start tsn max) r).read
 
 pub accepted : AfterEachRun WereAccepted
 accepted tsn max calls s r = λ st w. let h = ((run calls (at_start tsn max) s (start tsn max) r).holds st).weighs w in omega arith

@@ -1,6 +1,6 @@
 -- Messages that are abandoned one after another.
 use Rattle.std.proofs.Common.{◌≡◌, ℕ, zero, suc, ◌+◌, ◌<◌, ◌≤◌, Bool, true, false, List, [], ◌∷◌, length, drop, get_or, Option, Some, None, refl, ap, sym, subst, ◌∙◌, inl, inr, arith}
-use Rattle.std.specs.Prelude.{if◌then◌else◌, ◌==◌, find, not, option_map}
+use Rattle.std.specs.Prelude.{if◌then◌else◌, find, not, option_map, option_to_list}
 use Rattle.std.specs.List.{list_all, list_any}
 use Rattle.std.proofs.lemmas.Option.{none-some}
 use Rattle.sctp_list_lemmas.specs.Lists.{change_where}
@@ -8,16 +8,16 @@ use Rattle.sctp_list_lemmas.proofs.Cases.{negated, or-left, or-right, or-split, 
 use Rattle.sctp_list_lemmas.proofs.Edits.{list_any-those}
 use Rattle.sctp_list_lemmas.proofs.More.{and, both, fails, not_both}
 use Rattle.sctp_chunks.specs.declared.chunk.chunk_payload_data.ChunkPayloadData.{ChunkPayloadData}
-use Rattle.sctp_outbound.specs.declared.pending_queue.Selected.{Selected}
 use Rattle.sctp_outbound.specs.Marks.{as_abandoned, is_of}
 use Rattle.sctp_outbound.specs.outbound_queue.OutboundQueue.{Outbound, abandoned_of, has_tail, to_abandon, with_terminal_chunk}
 use Rattle.sctp_outbound.specs.payload_queue.PayloadQueue as payload
-use Rattle.sctp_outbound.specs.pending_queue.PendingQueue.{Pending, selected_without, without}
-use Rattle.sctp_outbound.specs.pending_queue.Whole.{IsSendable, half_of, partially_sent, waits}
+use Rattle.sctp_outbound.specs.pending_queue.PendingQueue.{Pending, without}
+use Rattle.sctp_outbound.specs.pending_queue.Whole.{IsSendable, partially_sent, waits}
 use Rattle.sctp_outbound.proofs.lemmas.outbound_queue.Abandoned.{last_removed_none}
 use Rattle.sctp_serial.specs.DataChunks.{has_tsn}
 use Rattle.sctp_transfer.specs.Flight.{Flight, has_tail_at, message_to_abandon}
-use Rattle.sctp_transfer.specs.Late.{abandoned_at, listed, with_tail}
+use Rattle.sctp_transfer.specs.Late.{abandoned_at, with_tail}
+use Rattle.sctp_outbound.proofs.lemmas.outbound_queue.Sendable.{half_gone}
 
 -- ## Lists
 
@@ -101,13 +101,6 @@ no-tail-after f s t w h = ap not (fails (has_tail_at (abandoned_at s f) t) (λ e
 
 -- ## The message that alone has a tail
 
-gone : (m : ℕ) (sel : Option Selected) → half_of sel ≡ Some m → half_of (selected_without m sel) ≡ None
-gone m None e = cc
-gone m (Some s) e =
-    let same : s.message_id ≡ m = cc in
-    let here : (s.message_id == m) ≡ true = ap (λ n. n == m) same ∙ same-yes m in
-    ap (λ b. half_of (if b then None else Some s)) here
-
 -- with none partially sent no message in flight waits
 pub none-waits : (q : Outbound) → IsSendable q.pending q.inflight.chunks q.next_message_id → partially_sent q.pending ≡ None → (t : ℕ) → has_tail (to_abandon (find (has_tsn t) q.inflight.chunks)) q ≡ false
 none-waits q s none t = by (find (has_tsn t) q.inflight.chunks) refl
@@ -130,7 +123,7 @@ none-half f t s h = by (find (has_tsn t) f.queue.inflight.chunks) refl h
       where
         open-one : (b : Bool) → has_tail (if b then None else Some c.message_id) f.queue ≡ true → partially_sent (abandoned_of (if b then None else Some c.message_id) f.next_tsn f.queue).pending ≡ None
         open-one true v = absurd (not_both v)
-        open-one false v = gone c.message_id f.queue.pending.selected (s.sent c.message_id (found-any (has_tsn t) (is_of c.message_id) f.queue.inflight.chunks c e (same-yes c.message_id)) v)
+        open-one false v = half_gone c.message_id f.queue.pending.selected (s.sent c.message_id (found-any (has_tsn t) (is_of c.message_id) f.queue.inflight.chunks c e (same-yes c.message_id)) v)
 
 -- ## One TSN more
 
@@ -141,7 +134,7 @@ next-of (t ∷ ts) (suc i) d lt =
     let next : suc i + 1 ≡ suc (i + 1) = omega arith in
     next-of ts i d (omega (arith, lt)) ∙ ap (λ k. get_or ts i d ∷ drop k (t ∷ ts)) (sym next)
 
-pub at-most-one : {A : Type 0} (o : Option A) → length (listed o) ≤ 1
+pub at-most-one : {A : Type 0} (o : Option A) → length (option_to_list o) ≤ 1
 at-most-one None = omega arith
 at-most-one (Some x) = omega arith
 

@@ -2,19 +2,19 @@
 use Rattle.std.proofs.Common.{◌≡◌, ℕ, ◌+◌, ◌<◌, ◌≤◌, ◌%◌, ◌^◌, Bool, true, false, List, [], ◌∷◌, ◌++◌, length, map, take, drop, ◌-◌, get_or, set, Some, refl, ap, sym, ◌∙◌, arith}
 use Rattle.std.specs.Prelude.{if◌then◌else◌, find}
 use Rattle.std.proofs.lemmas.List.{length-map, length-take-le, take-append-drop, get_or-append_right, get_or-drop}
-use Rattle.sctp_list_lemmas.specs.Lists.{change_where, those}
+use Rattle.std.specs.List.{filter}
+use Rattle.sctp_list_lemmas.specs.Lists.{change_where}
 use Rattle.sctp_list_lemmas.proofs.Edits.{change_where-only, changed_step, unchanged_step, those-more, length-change_where}
 use Rattle.sctp_chunks.specs.declared.chunk.chunk_payload_data.ChunkPayloadData.{ChunkPayloadData}
-use Rattle.sctp_serial.specs.DataChunks.{has_tsn}
+use Rattle.sctp_serial.specs.DataChunks.{has_tsn, tsns}
 use Rattle.sctp_transfer.specs.Flight.{tsns_from}
-use Rattle.sctp_transfer.specs.TsnFilter.{tsns}
 use Rattle.sctp_transfer.proofs.Runs.{IsRunFrom, tsn-at, found-at, only-at, changed-run}
 
-those-short : {X : Type 0} (p : X → Bool) (xs : List X) → length (those p xs) ≤ length xs
+those-short : {X : Type 0} (p : X → Bool) (xs : List X) → length (filter p xs) ≤ length xs
 those-short p [] = omega arith
 those-short p (x ∷ xs) = by (p x) (those-short p xs)
   where
-    by : (b : Bool) → length (those p xs) ≤ length xs → length (if b then x ∷ those p xs else those p xs) ≤ length (x ∷ xs)
+    by : (b : Bool) → length (filter p xs) ≤ length xs → length (if b then x ∷ filter p xs else filter p xs) ≤ length (x ∷ xs)
     by true h = omega arith
     by false h = omega arith
 
@@ -64,8 +64,8 @@ module _ (p : ChunkPayloadData → Bool) (f : ChunkPayloadData → ChunkPayloadD
         let none : i + (i - i) ≡ i = omega arith in
         read ∙ ap (λ zs. get_or zs i x) so_far ∙ get_or-append_right (change_where p f (take i cs)) (drop i cs) i i x short (omega arith) ∙ get_or-drop i cs (i - i) x ∙ ap (λ k. get_or cs k x) none
 
-    pub told : those p (take (i + 1) cs) ≡ those p (take i cs) ++ (if p x then x ∷ [] else [])
-    told = those-more p cs i x lt ∙ ap (λ y. those p (take i cs) ++ (if p y then y ∷ [] else [])) (sym old)
+    pub told : filter p (take (i + 1) cs) ≡ filter p (take i cs) ++ (if p x then x ∷ [] else [])
+    told = those-more p cs i x lt ∙ ap (λ y. filter p (take i cs) ++ (if p y then y ∷ [] else [])) (sym old)
 
-pub told-short : {B : Type 0} (p : ChunkPayloadData → Bool) (g : ChunkPayloadData → B) (cs : List ChunkPayloadData) (i : ℕ) → i ≤ length cs → length (map g (those p (take i cs))) ≤ i
-told-short p g cs i le = let a = length-map (those p (take i cs)) g in let b = those-short p (take i cs) in let d = length-take-le i cs le in omega arith
+pub told-short : {B : Type 0} (p : ChunkPayloadData → Bool) (g : ChunkPayloadData → B) (cs : List ChunkPayloadData) (i : ℕ) → i ≤ length cs → length (map g (filter p (take i cs))) ≤ i
+told-short p g cs i le = let a = length-map (filter p (take i cs)) g in let b = those-short p (take i cs) in let d = length-take-le i cs le in omega arith

@@ -1,17 +1,18 @@
 -- TSNs as marks in a queue.
-use Rattle.std.proofs.Common.{◌≡◌, ℕ, zero, suc, ◌<◌, ◌^◌, Bool, true, false, List, [], ◌∷◌, length, map, Some, refl, ap, sym, ◌∙◌, arith}
-use Rattle.std.specs.Prelude.{if◌then◌else◌, ◌==◌, ◌&&◌, ◌||◌, not, find, is_some}
-use Rattle.std.specs.List.{list_any, All}
+use Rattle.std.proofs.Common.{◌≡◌, ℕ, zero, suc, ◌<◌, ◌^◌, Bool, true, false, List, [], ◌∷◌, length, map, refl, ap, sym, ◌∙◌, arith}
+use Rattle.std.specs.Prelude.{if◌then◌else◌, ◌==◌, ◌&&◌, ◌||◌, not}
+use Rattle.std.specs.List.{list_any, All, filter}
 use Rattle.std.proofs.lemmas.List.Sums.{sum_by-cons}
-use Rattle.sctp_list_lemmas.specs.Lists.{inserted, those}
+use Rattle.sctp_list_lemmas.specs.Lists.{insert_before}
 use Rattle.sctp_list_lemmas.specs.Serial.{distance, comes_before, at_or_before}
 use Rattle.sctp_chunks.specs.declared.chunk.chunk_payload_data.ChunkPayloadData.{ChunkPayloadData}
-use Rattle.sctp_serial.specs.DataChunks.{has_tsn, chunk_before, bytes_of}
+use Rattle.sctp_serial.specs.DataChunks.{chunk_before, bytes_of, tsns}
 use Rattle.sctp_serial.specs.Window
-use Rattle.sctp_serial.specs.Window.{IsWithinHalf, IsWindow, is_held}
+use Rattle.sctp_serial.specs.Window.{IsWithinHalf, IsWindow}
 use Rattle.sctp_outbound.specs.payload_queue.PayloadQueue.{past}
-use Rattle.sctp_transfer.specs.TsnFilter.{mark, tsns, rise_beyond}
+use Rattle.sctp_transfer.specs.TsnFilter.{mark, rise_beyond}
 use Rattle.sctp_transfer.proofs.TsnLists.{step-of, IsStep}
+use Rattle.sctp_serial.proofs.lemmas.Serials.{held-any}
 
 pub tsns-mark : (ts : List ℕ) → tsns (map mark ts) ≡ ts
 tsns-mark [] = refl
@@ -21,33 +22,25 @@ tsns-mark (t ∷ ts) = ap (λ us. t ∷ us) (tsns-mark ts)
 pub marked : (cs : List ChunkPayloadData) (ts : List ℕ) → cs ≡ map mark ts → cs ≡ map mark (tsns cs)
 marked cs ts e = e ∙ ap (map mark) (sym (tsns-mark ts) ∙ ap tsns (sym e))
 
-pub marks-inserted : (x : ℕ) (ts : List ℕ) → inserted chunk_before (mark x) (map mark ts) ≡ map mark (inserted comes_before x ts)
+pub marks-inserted : (x : ℕ) (ts : List ℕ) → insert_before chunk_before (mark x) (map mark ts) ≡ map mark (insert_before comes_before x ts)
 marks-inserted x [] = refl
 marks-inserted x (t ∷ ts) = step (comes_before x t) (marks-inserted x ts)
   where
-    step : (b : Bool) → inserted chunk_before (mark x) (map mark ts) ≡ map mark (inserted comes_before x ts) → (if b then mark x ∷ mark t ∷ map mark ts else mark t ∷ inserted chunk_before (mark x) (map mark ts)) ≡ map mark (if b then x ∷ t ∷ ts else t ∷ inserted comes_before x ts)
+    step : (b : Bool) → insert_before chunk_before (mark x) (map mark ts) ≡ map mark (insert_before comes_before x ts) → (if b then mark x ∷ mark t ∷ map mark ts else mark t ∷ insert_before chunk_before (mark x) (map mark ts)) ≡ map mark (if b then x ∷ t ∷ ts else t ∷ insert_before comes_before x ts)
     step true ih = refl
     step false ih = ap (λ cs. mark t ∷ cs) ih
 
-pub marks-past : (n : ℕ) (ts : List ℕ) → past n (map mark ts) ≡ map mark (those (λ t. not (at_or_before t n)) ts)
+pub marks-past : (n : ℕ) (ts : List ℕ) → past n (map mark ts) ≡ map mark (filter (λ t. not (at_or_before t n)) ts)
 marks-past n [] = refl
 marks-past n (t ∷ ts) = step (not (at_or_before t n)) (marks-past n ts)
   where
-    step : (b : Bool) → past n (map mark ts) ≡ map mark (those (λ u. not (at_or_before u n)) ts) → (if b then mark t ∷ past n (map mark ts) else past n (map mark ts)) ≡ map mark (if b then t ∷ those (λ u. not (at_or_before u n)) ts else those (λ u. not (at_or_before u n)) ts)
+    step : (b : Bool) → past n (map mark ts) ≡ map mark (filter (λ u. not (at_or_before u n)) ts) → (if b then mark t ∷ past n (map mark ts) else past n (map mark ts)) ≡ map mark (if b then t ∷ filter (λ u. not (at_or_before u n)) ts else filter (λ u. not (at_or_before u n)) ts)
     step true ih = ap (λ cs. mark t ∷ cs) ih
     step false ih = ih
 
 pub no-bytes : (ts : List ℕ) → bytes_of (map mark ts) ≡ 0
 no-bytes [] = refl
 no-bytes (t ∷ ts) = let more = sum_by-cons (λ (c : ChunkPayloadData). length c.user_data) (mark t) (map mark ts) in let rest = no-bytes ts in omega arith
-
-pub held-any : (t : ℕ) (cs : List ChunkPayloadData) → is_held cs t ≡ list_any (λ u. u == t) (tsns cs)
-held-any t [] = refl
-held-any t (c ∷ cs) = step (c.tsn == t) (held-any t cs)
-  where
-    step : (b : Bool) → is_some (find (has_tsn t) cs) ≡ list_any (λ u. u == t) (tsns cs) → is_some (if b then Some c else find (has_tsn t) cs) ≡ (b || list_any (λ u. u == t) (tsns cs))
-    step true ih = refl
-    step false ih = ih
 
 -- the queue tells new what did not come
 pub new-is : (cs : List ChunkPayloadData) (t c : ℕ) → Window.is_new cs t c ≡ not (at_or_before t c || list_any (λ u. u == t) (tsns cs))

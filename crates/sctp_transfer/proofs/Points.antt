@@ -1,14 +1,13 @@
 -- How far a FORWARD-TSN can go.
 use Rattle.std.proofs.Common.{◌≡◌, ℕ, zero, suc, ◌+◌, ◌<◌, ◌≤◌, ◌%◌, ◌^◌, Bool, true, false, List, [], ◌∷◌, ◌++◌, length, take, drop, get_or, Option, Some, None, refl, ap, sym, ◌∙◌, arith}
 use Rattle.std.specs.Prelude.{if◌then◌else◌, find, option_map, unwrap_or}
-use Rattle.sctp_list_lemmas.specs.Lists.{those}
+use Rattle.std.specs.List.{filter}
 use Rattle.sctp_list_lemmas.specs.Serial.{distance}
 use Rattle.sctp_list_lemmas.proofs.Edits.{those-more}
 use Rattle.sctp_chunks.specs.declared.chunk.chunk_payload_data.ChunkPayloadData.{ChunkPayloadData}
-use Rattle.sctp_serial.specs.DataChunks.{has_tsn}
+use Rattle.sctp_serial.specs.DataChunks.{has_tsn, following_tsn, preceding_tsn}
 use Rattle.sctp_transfer.specs.Flight.{Flight, IsContiguous}
 use Rattle.sctp_transfer.specs.Abandonment.{advanced_ack_point, ahead, is_kept, is_named}
-use Rattle.sctp_transfer.specs.TsnFilter.{following_tsn, preceding_tsn}
 use Rattle.sctp_transfer.proofs.Runs.{IsRunFrom, found-at, tsn-at}
 
 found-place : (p : ChunkPayloadData → Bool) (cs : List ChunkPayloadData) (x : ChunkPayloadData) → find p cs ≡ Some x → (k : ℕ) × (k < length cs) × (x ≡ get_or cs k x)
@@ -39,12 +38,12 @@ point-within f inv = by (find is_kept f.queue.inflight.chunks) refl
         omega (arith, d, h.1)
 
 -- one chunk more is looked at
-pub more-named : (cs : List ChunkPayloadData) (first i : ℕ) (x : ChunkPayloadData) (b : Bool) → first < 2 ^ 32 → IsRunFrom first cs → length cs < 2 ^ 31 → i < length cs → find (has_tsn ((first + i) % 2 ^ 32)) cs ≡ Some x → is_named x ≡ b → those is_named (take (i + 1) cs) ≡ those is_named (take i cs) ++ (if b then x ∷ [] else [])
+pub more-named : (cs : List ChunkPayloadData) (first i : ℕ) (x : ChunkPayloadData) (b : Bool) → first < 2 ^ 32 → IsRunFrom first cs → length cs < 2 ^ 31 → i < length cs → find (has_tsn ((first + i) % 2 ^ 32)) cs ≡ Some x → is_named x ≡ b → filter is_named (take (i + 1) cs) ≡ filter is_named (take i cs) ++ (if b then x ∷ [] else [])
 more-named cs first i x b small run few lt is named =
     let at = found-at cs first i x small run few lt in
     let here : get_or cs i x ≡ x = cc in
-    those-more is_named cs i x lt ∙ ap (λ (y : ChunkPayloadData). those is_named (take i cs) ++ (if is_named y then y ∷ [] else [])) here
-    ∙ ap (λ t. those is_named (take i cs) ++ (if t then x ∷ [] else [])) named
+    those-more is_named cs i x lt ∙ ap (λ (y : ChunkPayloadData). filter is_named (take i cs) ++ (if is_named y then y ∷ [] else [])) here
+    ∙ ap (λ t. filter is_named (take i cs) ++ (if t then x ∷ [] else [])) named
 
 -- ## The first that is not abandoned
 

@@ -7,10 +7,9 @@ use Rattle.sctp_list_lemmas.specs.Lists.{change_where}
 use Rattle.sctp_list_lemmas.specs.Serial.{distance, at_or_before}
 use Rattle.sctp_list_lemmas.proofs.Edits.{OnlyAt}
 use Rattle.sctp_chunks.specs.declared.chunk.chunk_payload_data.ChunkPayloadData.{ChunkPayloadData}
-use Rattle.sctp_serial.specs.DataChunks.{has_tsn}
+use Rattle.sctp_serial.specs.DataChunks.{has_tsn, following_tsn, tsns}
 use Rattle.sctp_outbound.specs.payload_queue.PayloadQueue.{without_front, past}
 use Rattle.sctp_transfer.specs.Flight.{tsns_from}
-use Rattle.sctp_transfer.specs.TsnFilter.{following_tsn, tsns}
 use Rattle.sctp_transfer.proofs.StreamPlaces.{find-first}
 
 abbrev pub IsRunFrom : ℕ → List ChunkPayloadData → Type 0

@@ -6,11 +6,11 @@ use Rattle.sctp_list_lemmas.specs.Serial.{distance}
 use Rattle.sctp_list_lemmas.proofs.Edits.{length-change_where}
 use Rattle.sctp_chunks.specs.declared.chunk.chunk_payload_data.ChunkPayloadData.{ChunkPayloadData}
 use Rattle.sctp_chunks.specs.SelectiveAck.{Sack}
-use Rattle.sctp_outbound.specs.Marks.{acknowledged}
+use Rattle.sctp_outbound.specs.Marks.{as_acknowledged}
 use Rattle.sctp_outbound.specs.outbound_queue.OutboundQueue.{Outbound, with_inflight}
-use Rattle.sctp_transfer.specs.Flight.{Flight, IsContiguous, tsns_from, reports_anew, is_outdated, taken, after_sack}
-use Rattle.sctp_transfer.specs.TsnFilter.{following_tsn}
+use Rattle.sctp_transfer.specs.Flight.{Flight, IsContiguous, tsns_from, reports_anew, is_outdated, take_sack, after_sack}
 use Rattle.sctp_transfer.proofs.Runs.{IsRunFrom, changed-run, dropped, past-is}
+use Rattle.sctp_serial.specs.DataChunks.{following_tsn}
 
 cum-is : (acked cum : ℕ) → acked < 2 ^ 32 → cum < 2 ^ 32 → cum ≡ (acked + distance acked cum) % 2 ^ 32
 unfolding distance
@@ -18,13 +18,13 @@ cum-is acked cum small fits = omega arith
 
 module _ (f : Flight) (inv : IsContiguous f) (s : Sack) (fits : s.cumulative_tsn_ack < 2 ^ 32) where
   abbrev marked-chunks : List ChunkPayloadData
-  marked-chunks = change_where (reports_anew s) acknowledged f.queue.inflight.chunks
+  marked-chunks = change_where (reports_anew s) as_acknowledged f.queue.inflight.chunks
 
   pub count : length marked-chunks ≡ length f.queue.inflight.chunks
-  count = length-change_where (reports_anew s) acknowledged f.queue.inflight.chunks
+  count = length-change_where (reports_anew s) as_acknowledged f.queue.inflight.chunks
 
   pub run : IsRunFrom (following_tsn f.acked_tsn) marked-chunks
-  run = changed-run (reports_anew s) acknowledged (λ c. refl) f.queue.inflight.chunks ∙ inv.run ∙ ap (tsns_from (following_tsn f.acked_tsn)) (sym count)
+  run = changed-run (reports_anew s) as_acknowledged (λ c. refl) f.queue.inflight.chunks ∙ inv.run ∙ ap (tsns_from (following_tsn f.acked_tsn)) (sym count)
 
   module _ (within : distance f.acked_tsn s.cumulative_tsn_ack ≤ length f.queue.inflight.chunks) (mid then' : Outbound) (is : mid ≡ with_inflight f.queue marked-chunks) (after : then' ≡ with_inflight mid (drop (distance f.acked_tsn s.cumulative_tsn_ack) mid.inflight.chunks)) where
     abbrev d : ℕ
@@ -57,4 +57,4 @@ module _ (f : Flight) (inv : IsContiguous f) (s : Sack) (fits : s.cumulative_tsn
     taken-is fresh =
         ap (λ (o : Outbound). let g : Flight = record { queue = o; next_tsn = f.next_tsn; acked_tsn = s.cumulative_tsn_ack } in g)
         (left ∙ ap (with_inflight f.queue) (sym (past-is marked-chunks f.acked_tsn s.cumulative_tsn_ack inv.in_range fits (omega (arith, inv.few, count)) (omega (arith, within, count)) run)))
-        ∙ ap (λ b. if b then f else taken s f) (sym fresh)
+        ∙ ap (λ b. if b then f else take_sack s f) (sym fresh)

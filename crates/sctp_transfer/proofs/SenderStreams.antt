@@ -4,7 +4,8 @@ use Rattle.std.specs.Prelude.{◌==◌, if◌then◌else◌, nat_lt, not, find, 
 use Rattle.std.proofs.lemmas.Bool.Decides.{nat_tests}
 use Rattle.std.proofs.lemmas.List.{get_or_default}
 use Rattle.std.proofs.lemmas.List.Sums.{sum_by-cons}
-use Rattle.sctp_list_lemmas.specs.Kept.{kept, always, numbers_from}
+use Rattle.sctp_chunks.specs.PayloadTypes.{is_ordered}
+use Rattle.sctp_list_lemmas.specs.Kept.{numbers_where, always, numbers_from}
 use Rattle.sctp_list_lemmas.specs.Lists.{pieces}
 use Rattle.sctp_list_lemmas.proofs.Cases.{same-yes}
 use Rattle.sctp_chunks.specs.declared.chunk.chunk_payload_data.ChunkPayloadData.{ChunkPayloadData}
@@ -20,9 +21,9 @@ use Rattle.sctp_transfer.specs.declared.sender.refusal.SenderRefusal.TheVariants
 use Rattle.sctp_transfer.specs.Sender.{Transmission, is_open, is_full, write_refusal}
 use Rattle.sctp_stream.specs.Numbers.{IsOnlyPlace, IsAbsent}
 use Rattle.sctp_transfer.specs.Outgoing.{number, numbers_of, has_number, with_reliability, fragments_with_mode}
-use Rattle.sctp_stream.specs.Stream as stream
-use Rattle.sctp_stream.specs.Stream.{fragment_at, cut, new_stream}
+use Rattle.sctp_stream.specs.Stream.{fragment_at, pieces_of, new_stream}
 use Rattle.sctp_transfer.proofs.StreamPlaces.{absent-find, inside, found}
+use Rattle.sctp_list_lemmas.proofs.Getting.{map-twice}
 
 module _ (ls : List StreamState) (s : ℕ) where
   pub closed : IsAbsent s (numbers_of ls) → find (has_number s) ls ≡ None
@@ -69,17 +70,13 @@ module _ (s len : ℕ) (t : Transmission) where
 
 -- ## The fragments of a write are one message
 
-map-twice : {A B C : Type 0} (f : B → C) (g : A → B) (xs : List A) → map f (map g xs) ≡ map (λ x. f (g x)) xs
-map-twice f g [] = refl
-map-twice f g (x ∷ xs) = ap (λ l. f (g x) ∷ l) (map-twice f g xs)
-
-abbrev made : StreamState → PayloadProtocolIdentifier → List ℕ → ℕ → ChunkPayloadData
+abbrev pub made : StreamState → PayloadProtocolIdentifier → List ℕ → ℕ → ChunkPayloadData
 made s ppi bytes i = with_reliability s.reliability_type s.reliability_value (fragment_at s ppi bytes i)
 
-fragments-made : (s : StreamState) (ppi : PayloadProtocolIdentifier) (bytes : List ℕ) → fragments_with_mode s ppi bytes ≡ map (made s ppi bytes) (numbers_from 0 (length (cut s bytes)))
-fragments-made s ppi bytes = map-twice (with_reliability s.reliability_type s.reliability_value) (fragment_at s ppi bytes) (numbers_from 0 (length (cut s bytes)))
+pub fragments-made : (s : StreamState) (ppi : PayloadProtocolIdentifier) (bytes : List ℕ) → fragments_with_mode s ppi bytes ≡ map (made s ppi bytes) (numbers_from 0 (length (pieces_of s bytes)))
+fragments-made s ppi bytes = map-twice (with_reliability s.reliability_type s.reliability_value) (fragment_at s ppi bytes) (numbers_from 0 (length (pieces_of s bytes)))
 
-message-from : (h : ℕ → ChunkPayloadData) (kind goes : Bool) (i k total : ℕ) → i + suc k ≡ total → (i == 0) ≡ not goes → ((j : ℕ) → (h j).beginning_fragment ≡ (j == 0)) → ((j : ℕ) → (h j).ending_fragment ≡ (j + 1 == total)) → ((j : ℕ) → (h j).unordered ≡ kind) → IsMessage kind goes (map h (kept always i (suc k)))
+message-from : (h : ℕ → ChunkPayloadData) (kind goes : Bool) (i k total : ℕ) → i + suc k ≡ total → (i == 0) ≡ not goes → ((j : ℕ) → (h j).beginning_fragment ≡ (j == 0)) → ((j : ℕ) → (h j).ending_fragment ≡ (j + 1 == total)) → ((j : ℕ) → (h j).unordered ≡ kind) → IsMessage kind goes (map h (numbers_where always i (suc k)))
 message-from h kind goes i zero total e first begins ends same =
     let last : (i + 1 == total) ≡ true = (let z : i + 1 ≡ total = omega (arith, e) in grind (arith, nat_tests)) in
     (begins i ∙ first, ends i ∙ last, same i)
@@ -100,10 +97,10 @@ none-or kind (c ∷ d ∷ ds) m = let same : c.unordered ≡ kind = m.2 in subst
 pub one-message : (s : StreamState) (ppi : PayloadProtocolIdentifier) (bytes : List ℕ) → 0 < length bytes → IsMessageOrNone (fragments_with_mode s ppi bytes)
 one-message s ppi bytes some =
     let k = count-some s.max_payload_size bytes some in
-    let kind = not (stream.is_ordered s.unordered ppi) in
+    let kind = not (is_ordered s.unordered ppi) in
     subst IsMessageOrNone (sym (fragments-made s ppi bytes ∙ ap (λ n. map (made s ppi bytes) (numbers_from 0 n)) k.1))
     (none-or kind (map (made s ppi bytes) (numbers_from 0 (suc k.0)))
-    (message-from (made s ppi bytes) kind false 0 k.0 (length (cut s bytes)) (omega (arith, k.1)) (same-yes 0) (λ j. refl) (λ j. refl) (λ j. refl)))
+    (message-from (made s ppi bytes) kind false 0 k.0 (length (pieces_of s bytes)) (omega (arith, k.1)) (same-yes 0) (λ j. refl) (λ j. refl) (λ j. refl)))
 
 -- ## Their bytes
 

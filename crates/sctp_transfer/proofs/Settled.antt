@@ -3,23 +3,24 @@ use Rattle.std.proofs.Common.{◌≡◌, ℕ, ◌+◌, Bool, true, false, List, 
 use Rattle.std.specs.Prelude.{IfOk, OnErr, if◌then◌else◌, ◌==◌, ◌&&◌, ◌||◌, not, find, slice_get}
 use Rattle.std.proofs.lemmas.List.Sums.{sum_by-cons}
 use Rattle.std.proofs.lemmas.Option.{none-some}
-use Rattle.sctp_list_lemmas.specs.Lists.{change_where, those, inserted}
+use Rattle.std.specs.List.{filter}
+use Rattle.sctp_list_lemmas.specs.Lists.{change_where, insert_before}
 use Rattle.sctp_list_lemmas.specs.Serial.{at_or_before, distance}
 use Rattle.sctp_list_lemmas.proofs.More.{not_both}
 use Rattle.sctp_chunks.specs.declared.chunk.chunk_payload_data.ChunkPayloadData.{ChunkPayloadData}
 use Rattle.sctp_chunks.specs.declared.chunk.chunk_payload_data.PayloadProtocolIdentifier.{PayloadProtocolIdentifier}
 use Rattle.sctp_chunks.specs.SelectiveAck.{Sack}
-use Rattle.sctp_outbound.specs.Marks.{acknowledged, as_abandoned, is_of}
-use Rattle.sctp_outbound.specs.outbound_queue.OutboundQueue.{Outbound, abandoned_of, all_started, appended, terminal_chunk, expired_of, numbered, sent_next, sent_of, total_bytes, with_terminal_chunk, with_message, with_message_id}
-use Rattle.sctp_outbound.specs.payload_queue.Blocks.{covered}
+use Rattle.sctp_outbound.specs.Marks.{as_acknowledged, as_abandoned, is_of}
+use Rattle.sctp_outbound.specs.outbound_queue.OutboundQueue.{Outbound, abandoned_of, all_started, append_chunks, terminal_chunk, expired_of, as_sent, sent_next, sent_of, total_bytes, with_terminal_chunk, with_message, with_message_id}
+use Rattle.sctp_outbound.specs.payload_queue.Blocks.{is_in_blocks}
 use Rattle.sctp_outbound.specs.payload_queue.PayloadQueue as payload
 use Rattle.sctp_outbound.specs.payload_queue.PayloadQueue.{past}
-use Rattle.sctp_outbound.specs.pending_queue.PendingQueue.{Pending, closed_up, front_of, is_on, is_to_start, last_removed, list_of, list_to_pop, one_lower, peeked, peeked_of, rest_from, rest_of, started, with_deadline, without}
-use Rattle.sctp_serial.specs.DataChunks.{bytes_of, chunk_before, has_tsn}
+use Rattle.sctp_outbound.specs.pending_queue.PendingQueue.{Pending, closed_up, front_of, is_to_start, last_removed, list_of, list_to_pop, one_lower, next_pending, next_pending_of, rest_from, rest_of, start_pending, with_deadline, without}
+use Rattle.sctp_serial.specs.DataChunks.{bytes_of, chunk_before, has_tsn, is_on}
 use Rattle.sctp_transfer.specs.declared.sender.flight.Released.{Released}
 use Rattle.sctp_transfer.specs.declared.sender.refusal.SenderRefusal.{SenderRefusal}
 use Rattle.sctp_stream.specs.declared.stream.StreamState.{StreamState}
-use Rattle.sctp_transfer.specs.Flight.{Flight, after_sack, is_outdated, released_by, released_of, reports_anew, resent, taken, message_to_abandon}
+use Rattle.sctp_transfer.specs.Flight.{Flight, after_sack, is_outdated, released_by, released_of, reports_anew, resent, take_sack, message_to_abandon}
 use Rattle.sctp_transfer.specs.Late.{abandoned_at, abandoned_each}
 use Rattle.sctp_transfer.specs.Outgoing.{fragments_with_mode, with_reliability}
 use Rattle.sctp_stream.specs.Stream.{fragment_at, fragments_of}
@@ -27,19 +28,19 @@ use Rattle.sctp_transfer.specs.Totals.{AreSettled, IsAllSettled, IsSettled, byte
 
 -- ## Lists
 
-inserted-settled : (before : ChunkPayloadData → ChunkPayloadData → Bool) (x : ChunkPayloadData) (cs : List ChunkPayloadData) → IsSettled x → AreSettled cs → AreSettled (inserted before x cs)
+inserted-settled : (before : ChunkPayloadData → ChunkPayloadData → Bool) (x : ChunkPayloadData) (cs : List ChunkPayloadData) → IsSettled x → AreSettled cs → AreSettled (insert_before before x cs)
 inserted-settled before x [] sx s = (sx, s)
 inserted-settled before x (c ∷ cs) sx s = by (before x c) (inserted-settled before x cs sx s.1)
   where
-    by : (b : Bool) → AreSettled (inserted before x cs) → AreSettled (if b then x ∷ c ∷ cs else c ∷ inserted before x cs)
+    by : (b : Bool) → AreSettled (insert_before before x cs) → AreSettled (if b then x ∷ c ∷ cs else c ∷ insert_before before x cs)
     by true ih = (sx, s)
     by false ih = (s.0, ih)
 
-those-settled : (p : ChunkPayloadData → Bool) (cs : List ChunkPayloadData) → AreSettled cs → AreSettled (those p cs)
+those-settled : (p : ChunkPayloadData → Bool) (cs : List ChunkPayloadData) → AreSettled cs → AreSettled (filter p cs)
 those-settled p [] s = s
 those-settled p (c ∷ cs) s = by (p c) (those-settled p cs s.1)
   where
-    by : (b : Bool) → AreSettled (those p cs) → AreSettled (if b then c ∷ those p cs else those p cs)
+    by : (b : Bool) → AreSettled (filter p cs) → AreSettled (if b then c ∷ filter p cs else filter p cs)
     by true ih = (s.0, ih)
     by false ih = ih
 
@@ -68,7 +69,7 @@ front-settled (x ∷ xs) c e s = let same : x ≡ c = cc in subst IsSettled same
 abbrev Waits : Pending → Type 0
 Waits q = AreSettled q.ordered × AreSettled q.unordered
 
-peeked-settled : (sel : Option _) (q : Pending) (c : ChunkPayloadData) → peeked_of sel q ≡ Some c → Waits q → IsSettled c
+peeked-settled : (sel : Option _) (q : Pending) (c : ChunkPayloadData) → next_pending_of sel q ≡ Some c → Waits q → IsSettled c
 peeked-settled (Some s) q c e w = by s.unordered e
   where
     by : (b : Bool) → slice_get (list_of b q) 0 ≡ Some c → IsSettled c
@@ -104,7 +105,7 @@ message-settled (c ∷ cs) q s a = by c.unordered
     renamed [] t = t
     renamed (x ∷ xs) t = (t.0, renamed xs t.1)
 
-    by : (b : Bool) → IsAllSettled (record q { pending = appended b (map (with_message_id n) (c ∷ cs)) q.pending; next_message_id = n + 1 })
+    by : (b : Bool) → IsAllSettled (record q { pending = append_chunks b (map (with_message_id n) (c ∷ cs)) q.pending; next_message_id = n + 1 })
     by true = record { ordered = a.ordered; unordered = joined-settled q.pending.unordered (map (with_message_id n) (c ∷ cs)) a.unordered (renamed (c ∷ cs) s); inflight = a.inflight }
     by false = record { ordered = joined-settled q.pending.ordered (map (with_message_id n) (c ∷ cs)) a.ordered (renamed (c ∷ cs) s); unordered = a.unordered; inflight = a.inflight }
 
@@ -118,7 +119,7 @@ fragments-settled l ppi bytes = moded (fragments_of l ppi bytes) (mapped-settled
 pub started-settled : (now : ℕ) (q : Outbound) → IsAllSettled q → IsAllSettled (all_started now q)
 started-settled now q a = by (q.next_unstarted == q.next_message_id)
   where
-    by : (b : Bool) → IsAllSettled (if b then q else record q { pending = started q.next_unstarted now q.pending; next_unstarted = q.next_message_id })
+    by : (b : Bool) → IsAllSettled (if b then q else record q { pending = start_pending q.next_unstarted now q.pending; next_unstarted = q.next_message_id })
     by true = a
     by false = record {
       ordered = changed-settled (is_to_start q.next_unstarted) (with_deadline now) (λ c s. s) q.pending.ordered a.ordered;
@@ -126,18 +127,18 @@ started-settled now q a = by (q.next_unstarted == q.next_message_id)
       inflight = a.inflight;
     }
 
-sent-of-settled : (o : Option ChunkPayloadData) (q : Outbound) (tsn now : ℕ) → peeked q.pending ≡ o → IsAllSettled q → IsAllSettled (sent_of o q tsn now)
+sent-of-settled : (o : Option ChunkPayloadData) (q : Outbound) (tsn now : ℕ) → next_pending q.pending ≡ o → IsAllSettled q → IsAllSettled (sent_of o q tsn now)
 sent-of-settled None q tsn now e a = a
 sent-of-settled (Some c) q tsn now e a =
     let rest = rest-settled (list_to_pop q.pending.selected c.beginning_fragment c.unordered) q.pending (a.ordered, a.unordered) in
     record {
       ordered = rest.0;
       unordered = rest.1;
-      inflight = inserted-settled chunk_before (numbered tsn now c) q.inflight.chunks (peeked-settled q.pending.selected q.pending c e (a.ordered, a.unordered)) a.inflight;
+      inflight = inserted-settled chunk_before (as_sent tsn now c) q.inflight.chunks (peeked-settled q.pending.selected q.pending c e (a.ordered, a.unordered)) a.inflight;
     }
 
 pub sent-settled : (q : Outbound) (tsn now : ℕ) → IsAllSettled q → IsAllSettled (sent_next q tsn now)
-sent-settled q tsn now a = sent-of-settled (peeked (all_started now q).pending) (all_started now q) tsn now refl (started-settled now q a)
+sent-settled q tsn now a = sent-of-settled (next_pending (all_started now q).pending) (all_started now q) tsn now refl (started-settled now q a)
 
 pub abandoned-settled : (o : Option ℕ) (tsn : ℕ) (q : Outbound) → IsAllSettled q → IsAllSettled (abandoned_of o tsn q)
 abandoned-settled None tsn q a = a
@@ -186,14 +187,14 @@ count-settled tsn f g some none a = by (find (has_tsn tsn) f.queue.inflight.chun
 pub sack-settled : (s : Sack) (f : Flight) → IsAllSettled f.queue → IsAllSettled (after_sack s f).queue
 sack-settled s f a = by (is_outdated s f)
   where
-    by : (b : Bool) → IsAllSettled (if b then f else taken s f).queue
+    by : (b : Bool) → IsAllSettled (if b then f else take_sack s f).queue
     by true = a
     by false = record {
       ordered = a.ordered;
       unordered = a.unordered;
       inflight =
-          those-settled (λ c. not (at_or_before c.tsn s.cumulative_tsn_ack)) (change_where (reports_anew s) acknowledged f.queue.inflight.chunks)
-          (changed-settled (reports_anew s) acknowledged (λ c t e. refl) f.queue.inflight.chunks a.inflight);
+          those-settled (λ c. not (at_or_before c.tsn s.cumulative_tsn_ack)) (change_where (reports_anew s) as_acknowledged f.queue.inflight.chunks)
+          (changed-settled (reports_anew s) as_acknowledged (λ c t e. refl) f.queue.inflight.chunks a.inflight);
     }
 
 -- ## What a SACK releases
@@ -212,10 +213,10 @@ was-acked false false d e h = absurd (not_both h)
 
 module _ (s : Sack) where
   abbrev after : List ChunkPayloadData → List ChunkPayloadData
-  after cs = past s.cumulative_tsn_ack (change_where (reports_anew s) acknowledged cs)
+  after cs = past s.cumulative_tsn_ack (change_where (reports_anew s) as_acknowledged cs)
 
   abbrev gone : List ChunkPayloadData → List Released
-  gone cs = map released_of (those (reports_anew s) cs)
+  gone cs = map released_of (filter (reports_anew s) cs)
 
   weigh : (cs : List ChunkPayloadData) → AreSettled cs → bytes_of (after cs) + bytes_in (gone cs) ≡ bytes_of cs
   weigh [] t = refl
@@ -224,27 +225,27 @@ module _ (s : Sack) where
       all : bytes_of (c ∷ cs) ≡ size c + bytes_of cs
       all = sum_by-cons size c cs
 
-      anew : (k : Bool) → bytes_of (if not k then acknowledged c ∷ after cs else after cs) ≡ bytes_of (after cs)
+      anew : (k : Bool) → bytes_of (if not k then as_acknowledged c ∷ after cs else after cs) ≡ bytes_of (after cs)
       anew true = refl
-      anew false = let e = sum_by-cons size (acknowledged c) (after cs) in omega (arith, e)
+      anew false = let e = sum_by-cons size (as_acknowledged c) (after cs) in omega (arith, e)
 
       other : (k : Bool) → (k ≡ true → size c ≡ 0) → bytes_of (if not k then c ∷ after cs else after cs) ≡ size c + bytes_of (after cs)
       other true none = let z = none refl in omega (arith, z)
       other false none = sum_by-cons size c (after cs)
 
-      by : (b : Bool) → reports_anew s c ≡ b → bytes_of (after cs) + bytes_in (gone cs) ≡ bytes_of cs → bytes_of (past s.cumulative_tsn_ack ((if b then acknowledged c else c) ∷ change_where (reports_anew s) acknowledged cs)) + bytes_in (map released_of (if b then c ∷ those (reports_anew s) cs else those (reports_anew s) cs)) ≡ bytes_of (c ∷ cs)
+      by : (b : Bool) → reports_anew s c ≡ b → bytes_of (after cs) + bytes_in (gone cs) ≡ bytes_of cs → bytes_of (past s.cumulative_tsn_ack ((if b then as_acknowledged c else c) ∷ change_where (reports_anew s) as_acknowledged cs)) + bytes_in (map released_of (if b then c ∷ filter (reports_anew s) cs else filter (reports_anew s) cs)) ≡ bytes_of (c ∷ cs)
       by true e ih =
           let a = anew (at_or_before c.tsn s.cumulative_tsn_ack) in
           let r = sum_by-cons told (released_of c) (gone cs) in
           omega (arith, a, r, ih, all)
       by false e ih =
-          let o = other (at_or_before c.tsn s.cumulative_tsn_ack) (λ h. t.0 (was-acked c.acked (at_or_before c.tsn s.cumulative_tsn_ack) (covered s.gap_ack_blocks (distance s.cumulative_tsn_ack c.tsn)) e h)) in
+          let o = other (at_or_before c.tsn s.cumulative_tsn_ack) (λ h. t.0 (was-acked c.acked (at_or_before c.tsn s.cumulative_tsn_ack) (is_in_blocks s.gap_ack_blocks (distance s.cumulative_tsn_ack c.tsn)) e h)) in
           omega (arith, o, ih, all)
 
   pub sack-bytes : (f : Flight) → AreSettled f.queue.inflight.chunks → total_bytes (after_sack s f).queue + bytes_in (released_by s f) ≡ total_bytes f.queue
   sack-bytes f t = by (is_outdated s f)
     where
-      by : (b : Bool) → total_bytes (if b then f else taken s f).queue + bytes_in (if b then [] else gone f.queue.inflight.chunks) ≡ total_bytes f.queue
+      by : (b : Bool) → total_bytes (if b then f else take_sack s f).queue + bytes_in (if b then [] else gone f.queue.inflight.chunks) ≡ total_bytes f.queue
       by true = omega arith
       by false = let w = weigh f.queue.inflight.chunks t in omega (arith, w)
 

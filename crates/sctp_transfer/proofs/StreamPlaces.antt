@@ -1,16 +1,14 @@
 -- Streams that are found by their numbers: the one at a place, and what its change makes of them all.
 use Rattle.std.proofs.Common.{◌≡◌, ℕ, zero, suc, ◌<◌, Bool, true, false, List, [], ◌∷◌, length, get_or, map, Some, None, refl, ap, sym, ◌∙◌, arith}
-use Rattle.std.specs.List.{remove}
+use Rattle.std.specs.List.{remove, filter}
 use Rattle.std.specs.Prelude.{◌==◌, not, if◌then◌else◌, find, slice_get, slice_index_or, slice_set}
 use Rattle.std.proofs.lemmas.Bool.{eq-eqb, ne_eqb}
 use Rattle.std.proofs.lemmas.Option.{slice_get_within}
-use Rattle.sctp_list_lemmas.specs.Lists.{change_where, those}
+use Rattle.sctp_list_lemmas.specs.Lists.{change_where}
 use Rattle.sctp_list_lemmas.proofs.Edits.{OnlyAt, change_where-only, change_where-none, find-none, those-only, those-none}
 use Rattle.sctp_list_lemmas.proofs.Getting.{length-mapped}
 use Rattle.sctp_stream.specs.Numbers.{IsOnlyPlace, IsAbsent, is_other}
-
-one : {A : Type 0} {a b : A} → Some a ≡ Some b → a ≡ b
-one e = cc
+use Rattle.sctp_list_lemmas.proofs.Cases.{some-same}
 
 module _ {X : Type 0} (p : X → Bool) where
   pub find-first : (xs : List X) (i : ℕ) (d : X) → i < length xs → ((k : ℕ) (d : X) → k < i → p (get_or xs k d) ≡ false) → p (get_or xs i d) ≡ true → find p xs ≡ Some (get_or xs i d)
@@ -30,9 +28,9 @@ module _ {X : Type 0} (num : X → ℕ) where
   number-at (l ∷ ls) (suc k) d lt = number-at ls k d (omega (arith, lt))
 
   -- the numbers of those with another number
-  others : (s : ℕ) (ls : List X) → those (is_other s) (map num ls) ≡ map num (those (λ l. not (num l == s)) ls)
+  others : (s : ℕ) (ls : List X) → filter (is_other s) (map num ls) ≡ map num (filter (λ l. not (num l == s)) ls)
   others s [] = refl
-  others s (l ∷ ls) = by (not (num l == s)) (those (is_other s) (map num ls)) (those (λ l. not (num l == s)) ls) (others s ls)
+  others s (l ∷ ls) = by (not (num l == s)) (filter (is_other s) (map num ls)) (filter (λ l. not (num l == s)) ls) (others s ls)
     where
       by : (b : Bool) (ms : List ℕ) (ks : List X) → ms ≡ map num ks → (if b then num l ∷ ms else ms) ≡ map num (if b then l ∷ ks else ks)
       by true ms ks e = ap (λ ns. num l ∷ ns) e
@@ -49,7 +47,7 @@ module _ {X : Type 0} (num : X → ℕ) where
     pub absent-change : (f : X → X) → IsAbsent s ns → ls ≡ change_where (λ l. num l == s) f ls
     absent-change f absent = sym (change_where-none (λ l. num l == s) f ls (differs absent))
 
-    pub absent-those : IsAbsent s ns → ls ≡ those (λ l. not (num l == s)) ls
+    pub absent-those : IsAbsent s ns → ls ≡ filter (λ l. not (num l == s)) ls
     absent-those absent = sym (those-none (λ l. num l == s) ls (differs absent))
 
     module _ (k : ℕ) (p : IsOnlyPlace s ns k) where
@@ -59,12 +57,12 @@ module _ {X : Type 0} (num : X → ℕ) where
       only : OnlyAt (λ l. num l == s) ls k
       only = record {
         in_range = inside;
-        here = λ d. eq-eqb _ _ (one (sym (number-at ls k d inside) ∙ ap (λ ms. slice_get ms k) (sym is) ∙ p.here));
+        here = λ d. eq-eqb _ _ (some-same (sym (number-at ls k d inside) ∙ ap (λ ms. slice_get ms k) (sym is) ∙ p.here));
         elsewhere = λ j d less ne. ne_eqb _ _ (λ z. ne (p.only j (ap (λ ms. slice_get ms j) is ∙ number-at ls j d less ∙ ap Some z)));
       }
 
       pub number-is : (x : X) → x ≡ slice_index_or ls k x → num x ≡ s
-      number-is x e = ap num e ∙ one (sym (number-at ls k x inside) ∙ ap (λ ms. slice_get ms k) (sym is) ∙ p.here)
+      number-is x e = ap num e ∙ some-same (sym (number-at ls k x inside) ∙ ap (λ ms. slice_get ms k) (sym is) ∙ p.here)
 
       pub found : (x : X) → x ≡ slice_index_or ls k x → find (λ l. num l == s) ls ≡ Some x
       found x e = find-first (λ l. num l == s) ls k x inside (λ j d lt. only.elsewhere j d (omega (arith, lt, inside)) (λ z. omega (arith, lt, z))) (only.here x) ∙ ap Some (sym e)
@@ -77,8 +75,8 @@ module _ {X : Type 0} (num : X → ℕ) where
       numbers-stay x y e same = is ∙ sym (map-set_same num ls k y x (same ∙ ap num e))
 
       -- the one at the place is taken out, and no other
-      pub without : remove ls k ≡ those (λ l. not (num l == s)) ls
+      pub without : remove ls k ≡ filter (λ l. not (num l == s)) ls
       without = sym (those-only (λ l. num l == s) ls k only)
 
-      pub numbers-without : those (is_other s) ns ≡ map num (remove ls k)
-      numbers-without = ap (those (is_other s)) is ∙ others s ls ∙ ap (map num) (sym without)
+      pub numbers-without : filter (is_other s) ns ≡ map num (remove ls k)
+      numbers-without = ap (filter (is_other s)) is ∙ others s ls ∙ ap (map num) (sym without)

@@ -1,17 +1,17 @@
 -- What the fragments of a reassembly queue weigh, and what its calls make of that.
 use Rattle.std.proofs.Common.{◌≡◌, ℕ, zero, suc, ◌+◌, ◌≤◌, Bool, true, false, List, [], ◌∷◌, take, drop, Option, Some, None, refl, ap, sym, ◌∙◌, arith}
 use Rattle.std.specs.Prelude.{not, if◌then◌else◌}
-use Rattle.std.specs.List.{list_any, sum_by}
+use Rattle.std.specs.List.{list_any, sum_by, filter}
 use Rattle.std.proofs.lemmas.List.Sums.{sum_by-cons, sum_by-append}
 use Rattle.std.proofs.lemmas.List.{take-append-drop}
-use Rattle.sctp_list_lemmas.specs.Lists.{inserted, those, change_first, after_leading}
+use Rattle.sctp_list_lemmas.specs.Lists.{insert_before, change_first, after_leading}
 use Rattle.sctp_list_lemmas.specs.Serial.{at_or_before, comes_before16}
 use Rattle.sctp_list_lemmas.proofs.Edits.{sum_by-inserted}
 use Rattle.sctp_chunks.specs.declared.chunk.chunk_payload_data.ChunkPayloadData.{ChunkPayloadData}
 use Rattle.sctp_chunks.specs.ChunkSet.{ChunkSet}
 use Rattle.sctp_serial.specs.DataChunks.{has_tsn, chunk_before}
 use Rattle.sctp_reassembly.specs.reassembly_queue.Fragments.{has_ssn, with_chunk, new_set, sets_with, set_before}
-use Rattle.sctp_reassembly.specs.reassembly_queue.ReassemblyQueue.{Reassembly, ReassemblyState, held_after_ordered_push, set_of_run, TakesRun, BecomesWhole, is_readable, front_readable, without_first, after_read, message_among, message_read, rest_among, rest_read, is_passed, after_ordered_skip, after_unordered_skip}
+use Rattle.sctp_reassembly.specs.reassembly_queue.ReassemblyQueue.{Reassembly, ReassemblyState, held_after_ordered_push, set_of_run, TakesRun, BecomesComplete, is_readable, front_readable, without_first, after_read, message_among, message_read, rest_among, rest_read, is_passed, after_ordered_skip, after_unordered_skip}
 use Rattle.sctp_transfer.specs.Inbound.{Pushes, PushesAs}
 
 module _ (w : ChunkPayloadData → ℕ) where
@@ -32,7 +32,7 @@ module _ (w : ChunkPayloadData → ℕ) where
   chunk-put : (x : ChunkPayloadData) (set : ChunkSet) → set_weight (with_chunk x set) ≤ set_weight set + w x
   chunk-put x set = by (list_any (has_tsn x.tsn) set.chunks)
     where
-      by : (b : Bool) → sum_by w (if b then set.chunks else inserted chunk_before x set.chunks) ≤ sum_by w set.chunks + w x
+      by : (b : Bool) → sum_by w (if b then set.chunks else insert_before chunk_before x set.chunks) ≤ sum_by w set.chunks + w x
       by true = omega arith
       by false = let e = sum_by-inserted w chunk_before x set.chunks in omega arith
 
@@ -50,7 +50,7 @@ module _ (w : ChunkPayloadData → ℕ) where
   put-ordered : (x : ChunkPayloadData) (sets : List ChunkSet) → sum_by set_weight (sets_with x sets) ≤ sum_by set_weight sets + w x
   put-ordered x sets = by (list_any (has_ssn x.stream_sequence_number) sets)
     where
-      by : (b : Bool) → sum_by set_weight (if b then change_first (has_ssn x.stream_sequence_number) (with_chunk x) sets else inserted set_before (new_set x) sets) ≤ sum_by set_weight sets + w x
+      by : (b : Bool) → sum_by set_weight (if b then change_first (has_ssn x.stream_sequence_number) (with_chunk x) sets else insert_before set_before (new_set x) sets) ≤ sum_by set_weight sets + w x
       by true = first-changed (has_ssn x.stream_sequence_number) (with_chunk x) (w x) (chunk-put x) sets
       by false = let e = sum_by-inserted set_weight set_before (new_set x) sets in let o = one-chunk x in omega arith
 
@@ -89,7 +89,7 @@ module _ (w : ChunkPayloadData → ℕ) where
       let h = ap (sum_by w) (dropped t.first t.count xs) in
       ap weight t.moved ∙ omega arith
 
-  becomes : (xs : List ChunkPayloadData) (old new : Reassembly) (whole : Bool) → BecomesWhole xs old new whole → weight new ≡ sum_by set_weight old.ordered + sum_by set_weight old.unordered + sum_by w xs
+  becomes : (xs : List ChunkPayloadData) (old new : Reassembly) (complete : Bool) → BecomesComplete xs old new complete → weight new ≡ sum_by set_weight old.ordered + sum_by set_weight old.unordered + sum_by w xs
   becomes xs old new true t = run-taken xs old new t
   becomes xs old new false t = ap weight t.1
 
@@ -98,7 +98,7 @@ module _ (w : ChunkPayloadData → ℕ) where
     where
       by : (b : Bool) → PushesAs b x old new → weight new.held ≤ weight old.held + w x
       by false e = let h = pushed-in-order x old.held in let is = ap (λ (q : ReassemblyState). weight q.held) e in omega arith
-      by true e = let h = becomes (inserted chunk_before x old.held.unassembled) old.held new.held e.0 e.1.0 in let more = sum_by-inserted w chunk_before x old.held.unassembled in omega arith
+      by true e = let h = becomes (insert_before chunk_before x old.held.unassembled) old.held new.held e.0 e.1.0 in let more = sum_by-inserted w chunk_before x old.held.unassembled in omega arith
 
   -- ## A message is read
 
@@ -122,12 +122,12 @@ module _ (w : ChunkPayloadData → ℕ) where
 
   -- ## A FORWARD-TSN comes
 
-  fewer : {A : Type 0} (f : A → ℕ) (p : A → Bool) (xs : List A) → sum_by f (those p xs) ≤ sum_by f xs
+  fewer : {A : Type 0} (f : A → ℕ) (p : A → Bool) (xs : List A) → sum_by f (filter p xs) ≤ sum_by f xs
   fewer f p [] = omega arith
   fewer f p (x ∷ xs) = by (p x) (fewer f p xs)
     where
-      by : (b : Bool) → sum_by f (those p xs) ≤ sum_by f xs → sum_by f (if b then x ∷ those p xs else those p xs) ≤ sum_by f (x ∷ xs)
-      by true ih = let a = sum_by-cons f x (those p xs) in let b = sum_by-cons f x xs in omega arith
+      by : (b : Bool) → sum_by f (filter p xs) ≤ sum_by f xs → sum_by f (if b then x ∷ filter p xs else filter p xs) ≤ sum_by f (x ∷ xs)
+      by true ih = let a = sum_by-cons f x (filter p xs) in let b = sum_by-cons f x xs in omega arith
       by false ih = let b = sum_by-cons f x xs in omega arith
 
   later : {A : Type 0} (f : A → ℕ) (p : A → Bool) (xs : List A) → sum_by f (after_leading p xs) ≤ sum_by f xs

@@ -1,16 +1,15 @@
 -- Messages that are abandoned, and the FORWARD-TSN that says so (RFC 3758 3.5).
 use Rattle.std.specs.Prelude.{◌≡◌, ℕ, ◌<◌, Bool, true, false, length, get_or, ◌==◌, ◌&&◌, not, nat_lt, nat_le, take, if◌then◌else◌, List, [], ◌∷◌, Option, Some, None, option_map, unwrap_or}
-use Rattle.std.specs.List.{find}
-use Rattle.sctp_list_lemmas.specs.Lists.{those}
+use Rattle.std.specs.List.{find, filter}
 use Rattle.sctp_list_lemmas.specs.Serial.{distance}
 use Rattle.sctp_chunks.specs.declared.chunk.chunk_payload_data.ChunkPayloadData.{ChunkPayloadData}
 use Rattle.sctp_chunks.specs.declared.chunk.chunk_forward_tsn.ChunkForwardTsnStream.{ChunkForwardTsnStream}
-use Rattle.sctp_outbound.specs.pending_queue.PendingQueue.{is_on, last_of}
+use Rattle.sctp_outbound.specs.pending_queue.PendingQueue.{last_of}
 use Rattle.sctp_serial.specs.Window.{is_held}
 use Rattle.sctp_transfer.specs.declared.sender.refusal.SenderRefusal.{SenderRefusal}
 use Rattle.sctp_transfer.specs.declared.sender.refusal.SenderRefusal.TheVariants.{NotInFlight, TsnsUsedUp}
 use Rattle.sctp_transfer.specs.Flight.{Flight, has_tail_at, may_send}
-use Rattle.sctp_transfer.specs.TsnFilter.{preceding_tsn}
+use Rattle.sctp_serial.specs.DataChunks.{preceding_tsn, is_on}
 
 -- why the message of a TSN is not abandoned: the TSN is not in flight, or its terminal chunk would need one TSN too many
 abbrev pub abandon_refusal : ℕ → Flight → Option SenderRefusal
@@ -45,7 +44,7 @@ is_named c = c.abandoned && not c.unordered
 
 -- those of the chunks in flight up to a TSN
 abbrev pub named_up_to : ℕ → Flight → List ChunkPayloadData
-named_up_to tsn f = those is_named (take (ahead f tsn) f.queue.inflight.chunks)
+named_up_to tsn f = filter is_named (take (ahead f tsn) f.queue.inflight.chunks)
 
 abbrev pub is_pair_of : ℕ → ChunkForwardTsnStream → Bool
 is_pair_of s p = p.identifier == s
@@ -59,7 +58,7 @@ pairs_of (Some c) = pair_of c ∷ []
 
 -- of each stream there is one pair, with the number of the last of these chunks on it; none where there is no such chunk
 abbrev pub Name : List ChunkForwardTsnStream → List ChunkPayloadData → Type 0
-Name pairs cs = (s : ℕ) → those (is_pair_of s) pairs ≡ pairs_of (last_of (those (is_on s) cs))
+Name pairs cs = (s : ℕ) → filter (is_pair_of s) pairs ≡ pairs_of (last_of (filter (is_on s) cs))
 
 -- none of the first so many pairs is of the stream
 abbrev pub IsNoPair : ℕ → List ChunkForwardTsnStream → ℕ → Type 0

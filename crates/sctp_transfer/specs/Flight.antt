@@ -1,21 +1,20 @@
 -- What is in flight, and what a SACK makes of it (RFC 4960 6.2.1).
 use Rattle.std.specs.Prelude.{◌≡◌, ℕ, zero, suc, ◌+◌, ◌-◌, ◌%◌, ◌^◌, ◌<◌, Bool, false, not, ◌&&◌, ◌||◌, nat_lt, nat_le, if◌then◌else◌, List, [], ◌∷◌, length, map, min, max, Option, Some, None, is_some}
-use Rattle.std.specs.List.{list_all, find}
-use Rattle.sctp_list_lemmas.specs.Lists.{change_where, those}
+use Rattle.std.specs.List.{list_all, find, filter}
+use Rattle.sctp_list_lemmas.specs.Lists.{change_where}
 use Rattle.sctp_list_lemmas.specs.Serial.{distance, comes_before, at_or_before}
 use Rattle.sctp_chunks.specs.declared.chunk.chunk_payload_data.ChunkPayloadData.{ChunkPayloadData}
 use Rattle.sctp_chunks.specs.declared.chunk.chunk_selective_ack.GapAckBlock.{GapAckBlock}
 use Rattle.sctp_chunks.specs.SelectiveAck.{Sack}
-use Rattle.sctp_outbound.specs.Marks.{acknowledged, is_outstanding, with_nsent}
-use Rattle.sctp_outbound.specs.outbound_queue.OutboundQueue.{Outbound, with_inflight, abandoned_of, has_tail, to_abandon, tsn_after_of}
-use Rattle.sctp_outbound.specs.payload_queue.Blocks.{covered}
+use Rattle.sctp_outbound.specs.Marks.{as_acknowledged, is_outstanding, with_nsent}
+use Rattle.sctp_outbound.specs.outbound_queue.OutboundQueue.{Outbound, new_outbound, with_inflight, abandoned_of, has_tail, to_abandon, tsn_after_of}
+use Rattle.sctp_outbound.specs.payload_queue.Blocks.{is_in_blocks}
 use Rattle.sctp_outbound.specs.payload_queue.PayloadQueue.{past}
 use Rattle.sctp_transfer.specs.declared.sender.flight.Released.{Released}
 use Rattle.sctp_transfer.specs.declared.sender.refusal.SenderRefusal.{SenderRefusal}
 use Rattle.sctp_transfer.specs.declared.sender.refusal.SenderRefusal.TheVariants.{InflightQueueTsnPop, TsnRequestNotExist}
-use Rattle.sctp_outbound.specs.pending_queue.PendingQueue.{peeked}
-use Rattle.sctp_serial.specs.DataChunks.{has_tsn}
-use Rattle.sctp_transfer.specs.TsnFilter.{following_tsn, preceding_tsn, tsns}
+use Rattle.sctp_outbound.specs.pending_queue.PendingQueue.{next_pending}
+use Rattle.sctp_serial.specs.DataChunks.{has_tsn, following_tsn, preceding_tsn, tsns}
 
 -- what waits and what is in flight, the next TSN, and the TSN up to which all was acknowledged
 pub record Flight : Type 0 where
@@ -42,19 +41,7 @@ with_queue f queue = record f { queue = queue }
 -- nothing waits, and the first TSN is the next
 abbrev pub at_first : ℕ → Flight
 at_first tsn = record {
-  queue = record {
-    pending =
-        record {
-          ordered = [];
-          unordered = [];
-          selected = None;
-          ordered_room = 0;
-          unordered_room = 0;
-        };
-    inflight = record { chunks = []; duplicates = []; room = 0 };
-    next_message_id = 0;
-    next_unstarted = 0;
-  };
+  queue = new_outbound;
   next_tsn = tsn;
   acked_tsn = preceding_tsn tsn;
 }
@@ -72,7 +59,7 @@ may_send f = nat_lt (length f.queue.inflight.chunks + 1) (2 ^ 31)
 -- the next TSN goes up where something waits
 abbrev pub next_after_send : Flight → ℕ
 next_after_send f =
-    if is_some (peeked f.queue.pending) then following_tsn f.next_tsn else f.next_tsn
+    if is_some (next_pending f.queue.pending) then following_tsn f.next_tsn else f.next_tsn
 
 -- in flight, and neither acknowledged nor abandoned
 abbrev pub is_outstanding_in : Option ChunkPayloadData → Bool
@@ -94,7 +81,7 @@ resent tsn c f =
 abbrev pub reports : Sack → ChunkPayloadData → Bool
 reports s c =
     at_or_before c.tsn s.cumulative_tsn_ack
-    || covered s.gap_ack_blocks (distance s.cumulative_tsn_ack c.tsn)
+    || is_in_blocks s.gap_ack_blocks (distance s.cumulative_tsn_ack c.tsn)
 
 -- it reports it, and no earlier one did
 abbrev pub reports_anew : Sack → ChunkPayloadData → Bool
@@ -124,17 +111,17 @@ sack_refusal s f =
     )
 
 -- what it reports anew is acknowledged, and what it reports cumulatively is in flight no more
-abbrev pub taken : Sack → Flight → Flight
-taken s f =
+abbrev pub take_sack : Sack → Flight → Flight
+take_sack s f =
     record f {
       queue = with_inflight f.queue
           (past s.cumulative_tsn_ack (change_where
-          (reports_anew s) acknowledged f.queue.inflight.chunks));
+          (reports_anew s) as_acknowledged f.queue.inflight.chunks));
       acked_tsn = s.cumulative_tsn_ack;
     }
 
 abbrev pub after_sack : Sack → Flight → Flight
-after_sack s f = if is_outdated s f then f else taken s f
+after_sack s f = if is_outdated s f then f else take_sack s f
 
 -- the stream of a chunk, and its bytes
 abbrev pub released_of : ChunkPayloadData → Released
@@ -142,7 +129,8 @@ released_of c = record { stream = c.stream_identifier; bytes = length c.user_dat
 
 abbrev pub released_by : Sack → Flight → List Released
 released_by s f =
-    if is_outdated s f then [] else map released_of (those (reports_anew s) f.queue.inflight.chunks)
+    if is_outdated s f then []
+    else map released_of (filter (reports_anew s) f.queue.inflight.chunks)
 
 -- ## Abandoning
 

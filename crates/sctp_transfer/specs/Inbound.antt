@@ -1,7 +1,8 @@
 -- The streams of a receiver.
 use Rattle.std.specs.Prelude.{◌≡◌, ℕ, ◌==◌, Bool, true, false, List, [], ◌∷◌, map, Option, Some, None}
-use Rattle.std.specs.List.{find}
-use Rattle.sctp_list_lemmas.specs.Lists.{change_where, those}
+use Rattle.std.specs.List.{find, filter}
+use Rattle.sctp_chunks.specs.PayloadTypes.{counted_as}
+use Rattle.sctp_list_lemmas.specs.Lists.{change_where}
 use Rattle.sctp_chunks.specs.declared.chunk.chunk_payload_data.ChunkPayloadData.{ChunkPayloadData}
 use Rattle.sctp_chunks.specs.declared.chunk.chunk_forward_tsn.ChunkForwardTsnStream.{ChunkForwardTsnStream}
 use Rattle.sctp_chunks.specs.ChunkSet.{ChunkSet}
@@ -9,7 +10,7 @@ use Rattle.sctp_serial.specs.DataChunks.{bytes_of}
 use Rattle.sctp_reassembly.specs.reassembly_queue.ReassemblyQueue.{ReassemblyState, PushesUnordered, after_ordered_push, message_read, state_read, after_ordered_skip, after_unordered_skip}
 use Rattle.sctp_transfer.specs.declared.receiver.inbound_streams.InboundStream.{InboundStream}
 use Rattle.sctp_stream.specs.declared.stream.DataChannelStats.{DataChannelStats}
-use Rattle.sctp_stream.specs.Stats.{with_received, counted_bytes}
+use Rattle.sctp_stream.specs.Stats.{with_received}
 
 abbrev pub number : InboundStream → ℕ
 number l = l.queue.si
@@ -54,7 +55,7 @@ with_queue q l = record l { queue = q }
 -- what it makes of its stream's queue, where it is unordered and where it is not
 abbrev pub PushesAs : Bool → ChunkPayloadData → ReassemblyState → ReassemblyState → Type 0
 PushesAs false c old new = new ≡ after_ordered_push c old
-PushesAs true c old new = (whole : Bool) × PushesUnordered c old new whole
+PushesAs true c old new = (complete : Bool) × PushesUnordered c old new complete
 
 abbrev pub Pushes : ChunkPayloadData → ReassemblyState → ReassemblyState → Type 0
 Pushes c old new = PushesAs c.unordered c old new
@@ -69,13 +70,13 @@ pub record PushesOn (c : ChunkPayloadData) (old new : List InboundStream) : Type
 
 -- ## A message is read
 
-abbrev pub counted : Option ChunkSet → DataChannelStats → DataChannelStats
-counted None stats = stats
-counted (Some set) stats = with_received (counted_bytes set.ppi (bytes_of set.chunks)) stats
+abbrev pub count_read : Option ChunkSet → DataChannelStats → DataChannelStats
+count_read None stats = stats
+count_read (Some set) stats = with_received (counted_as set.ppi (bytes_of set.chunks)) stats
 
 abbrev pub stream_read : InboundStream → InboundStream
 stream_read l =
-    record l { queue = state_read l.queue; stats = counted (message_read l.queue.held) l.stats }
+    record l { queue = state_read l.queue; stats = count_read (message_read l.queue.held) l.stats }
 
 -- ## A FORWARD-TSN comes
 
@@ -90,7 +91,7 @@ named_forwarded (n ∷ ns) ls =
 
 -- the stream sequence numbers that the names have for a stream, in their order
 abbrev pub ssns_of : ℕ → List ChunkForwardTsnStream → List ℕ
-ssns_of s ns = map (λ n. n.sequence) (those (λ n. s == n.identifier) ns)
+ssns_of s ns = map (λ n. n.sequence) (filter (λ n. s == n.identifier) ns)
 
 -- one ordered skip after another
 abbrev pub skipped_each : List ℕ → ReassemblyState → ReassemblyState

@@ -1,5 +1,5 @@
 -- Messages in flight whose lifetime is over (RFC 3758 3.5, 4.1).
-use Rattle.std.specs.Prelude.{ℕ, ◌-◌, Bool, if◌then◌else◌, List, [], ◌∷◌, ◌++◌, map, Option, Some, None}
+use Rattle.std.specs.Prelude.{ℕ, ◌-◌, if◌then◌else◌, List, [], ◌∷◌, ◌++◌, map, Option, Some, None, option_to_list}
 use Rattle.std.specs.List.{find}
 use Rattle.sctp_chunks.specs.declared.chunk.chunk_payload_data.ChunkPayloadData.{ChunkPayloadData}
 use Rattle.sctp_outbound.specs.outbound_queue.OutboundQueue.{late_tsns, total_bytes}
@@ -7,7 +7,7 @@ use Rattle.sctp_serial.specs.DataChunks.{has_tsn}
 use Rattle.sctp_transfer.specs.declared.sender.flight.late.AbandonedMessage.{AbandonedMessage}
 use Rattle.sctp_transfer.specs.declared.sender.flight.Released.{Released}
 use Rattle.sctp_transfer.specs.Flight.{Flight, after_abandonment, has_tail_at, message_to_abandon}
-use Rattle.sctp_transfer.specs.Outgoing.{released}
+use Rattle.sctp_transfer.specs.Outgoing.{after_releases}
 use Rattle.sctp_transfer.specs.Sender.{Transmission}
 
 -- the message of a TSN is abandoned, as `abandon` does
@@ -41,17 +41,13 @@ leaving_each (tsn ∷ tsns) f = leaving_at tsn f ++ leaving_each tsns (abandoned
 
 -- ## The order
 
-abbrev pub listed : {A : Type 0} → Option A → List A
-listed None = []
-listed (Some x) = x ∷ []
-
 -- the first of these TSNs whose message has a tail
 abbrev pub with_tail : List ℕ → Flight → Option ℕ
 with_tail tsns f = find (has_tail_at f) tsns
 
 -- the TSNs of what is late, and before them that of the message with a tail, whose terminal chunk alone may be refused
 abbrev pub late_order : ℕ → Flight → List ℕ
-late_order now f = listed (with_tail (late_tsns now f.queue) f) ++ late_tsns now f.queue
+late_order now f = option_to_list (with_tail (late_tsns now f.queue) f) ++ late_tsns now f.queue
 
 -- ## The streams
 
@@ -61,6 +57,7 @@ part_of g = record { stream = g.stream; bytes = g.bytes }
 -- what is late is abandoned, and each stream has so much less
 abbrev pub after_late : ℕ → Transmission → Transmission
 after_late now t = record t {
-  streams = released (map part_of (leaving_each (late_order now t.flight) t.flight)) t.streams;
+  streams = after_releases
+      (map part_of (leaving_each (late_order now t.flight) t.flight)) t.streams;
   flight = abandoned_each (late_order now t.flight) t.flight;
 }

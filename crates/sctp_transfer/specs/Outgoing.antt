@@ -1,12 +1,13 @@
 -- The streams of a sender.
 use Rattle.std.specs.Prelude.{ℕ, ◌+◌, ◌-◌, ◌%◌, ◌^◌, ◌==◌, Bool, true, false, List, [], ◌∷◌, length, map, Some}
+use Rattle.sctp_chunks.specs.PayloadTypes.{counted_as}
 use Rattle.sctp_list_lemmas.specs.Lists.{change_where}
 use Rattle.sctp_chunks.specs.declared.chunk.chunk_payload_data.ChunkPayloadData.{ChunkPayloadData}
 use Rattle.sctp_chunks.specs.declared.chunk.chunk_payload_data.PayloadProtocolIdentifier.{PayloadProtocolIdentifier}
 use Rattle.sctp_chunks.specs.declared.chunk.chunk_payload_data.ReliabilityType.{ReliabilityType}
 use Rattle.sctp_stream.specs.declared.stream.StreamState.{StreamState}
 use Rattle.sctp_transfer.specs.declared.sender.flight.Released.{Released}
-use Rattle.sctp_stream.specs.Stats.{with_sent, counted_bytes}
+use Rattle.sctp_stream.specs.Stats.{with_sent}
 use Rattle.sctp_stream.specs.Stream.{after_write, fragments_of}
 
 abbrev pub number : StreamState → ℕ
@@ -37,7 +38,7 @@ abbrev pub wrote : PayloadProtocolIdentifier → List ℕ → StreamState → St
 wrote ppi bytes l =
     record (after_write l ppi bytes) {
       stats = with_sent
-          (counted_bytes ppi (length bytes)) l.stats;
+          (counted_as ppi (length bytes)) l.stats;
     }
 
 -- so many bytes wait and are in flight no more
@@ -45,12 +46,13 @@ abbrev pub less_by : ℕ → StreamState → StreamState
 less_by bytes l = record l { buffered_amount = l.buffered_amount - bytes }
 
 -- each stream has less by what left of it, one chunk after another
-abbrev pub released : List Released → List StreamState → List StreamState
-released [] ls = ls
-released (r ∷ rs) ls = released rs (change_where (has_number r.stream) (less_by r.bytes) ls)
+abbrev pub after_releases : List Released → List StreamState → List StreamState
+after_releases [] ls = ls
+after_releases (r ∷ rs) ls =
+    after_releases rs (change_where (has_number r.stream) (less_by r.bytes) ls)
 
 -- a message that was not sent is gone: the next write takes the number of an ordered one
-abbrev pub expired : Bool → ℕ → StreamState → StreamState
-expired true bytes l = less_by bytes l
-expired false bytes l =
+abbrev pub after_expiry : Bool → ℕ → StreamState → StreamState
+after_expiry true bytes l = less_by bytes l
+after_expiry false bytes l =
     record (less_by bytes l) { sequence_number = (l.sequence_number + (2 ^ 16 - 1)) % 2 ^ 16 }

@@ -1,7 +1,7 @@
 -- The receiving half of a link as callers see it (RFC 4960 6; RFC 3758 3.6).
 use Rattle.std.specs.Prelude.{◌≡◌, ◌⊎◌, ℕ, Bool, not, ◌&&◌, ◌||◌, if◌then◌else◌, ◌-◌, List, [], ◌∷◌, ◌++◌, length, map, take, slice_get, Option, Some, None, is_some}
-use Rattle.std.specs.List.{find}
-use Rattle.sctp_list_lemmas.specs.Lists.{change_where, those}
+use Rattle.std.specs.List.{find, filter}
+use Rattle.sctp_list_lemmas.specs.Lists.{change_where}
 use Rattle.sctp_list_lemmas.specs.Serial.{at_or_before}
 use Rattle.sctp_chunks.specs.declared.chunk.chunk_payload_data.ChunkPayloadData.{ChunkPayloadData}
 use Rattle.sctp_chunks.specs.ChunkSet.{ChunkSet}
@@ -16,7 +16,8 @@ use Rattle.sctp_transfer.specs.declared.receiver.arrival.Arrival.TheVariants.{Ne
 use Rattle.sctp_transfer.specs.declared.receiver.arrival.Forwarded.{Forwarded}
 use Rattle.sctp_transfer.specs.declared.receiver.arrival.Forwarded.TheVariants.{Skipped, Stale}
 use Rattle.sctp_transfer.specs.Inbound.{has_number, new_stream, with_queue, Pushes, stream_read, named_forwarded, unassembled_forwarded}
-use Rattle.sctp_transfer.specs.TsnFilter.{Filter, preceding_tsn, has_come, is_opposite, with_tsn, with_duplicate, skipped_to, gap_ack_blocks}
+use Rattle.sctp_transfer.specs.TsnFilter.{Filter, has_come, is_opposite, with_tsn, with_duplicate, skipped_to, gap_ack_blocks}
+use Rattle.sctp_serial.specs.DataChunks.{preceding_tsn}
 
 -- the open streams in the order in which they were opened; the cumulative TSN, the TSNs that came beyond it, and those that
 -- came again since the last SACK; and how long a message may be
@@ -60,12 +61,12 @@ stream_of s r = find (has_number s) r.streams
 abbrev pub is_open : ℕ → Reception → Bool
 is_open s r = is_some (stream_of s r)
 
-abbrev pub opened : ℕ → Reception → Reception
-opened s r = record r { streams = r.streams ++ new_stream s r.max_message_size ∷ [] }
+abbrev pub open_stream : ℕ → Reception → Reception
+open_stream s r = record r { streams = r.streams ++ new_stream s r.max_message_size ∷ [] }
 
 -- the stream is open no more: what came on it and was not read is dropped
-abbrev pub closed : ℕ → Reception → Reception
-closed s r = record r { streams = those (λ l. not (has_number s l)) r.streams }
+abbrev pub close_stream : ℕ → Reception → Reception
+close_stream s r = record r { streams = filter (λ l. not (has_number s l)) r.streams }
 
 -- ## DATA
 
@@ -98,8 +99,8 @@ pub record Accepts (c : ChunkPayloadData) (old new : Reception) : Type 0 where
       })
 
 -- a TSN that came comes again
-abbrev pub repeated : ℕ → Reception → Reception
-repeated tsn r = with_filter (with_duplicate tsn (filter_of r)) r
+abbrev pub repeat_tsn : ℕ → Reception → Reception
+repeat_tsn tsn r = with_filter (with_duplicate tsn (filter_of r)) r
 
 abbrev pub arrival_of : ChunkPayloadData → Reception → Arrival
 arrival_of c r = if has_come c.tsn (filter_of r) then Repeat else New
@@ -107,7 +108,7 @@ arrival_of c r = if has_come c.tsn (filter_of r) then Repeat else New
 -- what a DATA chunk makes, where its TSN is new and where it is not
 abbrev pub Takes : ChunkPayloadData → Arrival → Reception → Reception → Type 0
 Takes c New old new = Accepts c old new
-Takes c Repeat old new = new ≡ repeated c.tsn old
+Takes c Repeat old new = new ≡ repeat_tsn c.tsn old
 
 -- several, one after another: none is refused, and each has its answer
 pub record TakesFirst (c : ChunkPayloadData) (a : Arrival) (old mid : Reception) : Type 0 where
@@ -156,8 +157,8 @@ sack credit r =
       duplicate_tsn = take (max_sack_entries - length blocks) r.duplicates;
     }
 
-abbrev pub reported : Reception → Reception
-reported r = record r { duplicates = [] }
+abbrev pub without_duplicates : Reception → Reception
+without_duplicates r = record r { duplicates = [] }
 
 -- ## Read
 
@@ -184,8 +185,8 @@ forward_refusal f r =
 
 -- all up to its TSN counts as come: each stream that it names discards what is named, one name after another, and all
 -- streams discard the unassembled fragments
-abbrev pub followed : ForwardTsn → Reception → Reception
-followed f r =
+abbrev pub follow_forward_tsn : ForwardTsn → Reception → Reception
+follow_forward_tsn f r =
     with_filter (skipped_to f.new_cumulative_tsn (filter_of r))
     (record r {
       streams = map (unassembled_forwarded f.new_cumulative_tsn)
@@ -196,4 +197,4 @@ abbrev pub forwarded_of : ForwardTsn → Reception → Forwarded
 forwarded_of f r = if is_stale f r then Stale else Skipped
 
 abbrev pub after_forward : ForwardTsn → Reception → Reception
-after_forward f r = if is_stale f r then r else followed f r
+after_forward f r = if is_stale f r then r else follow_forward_tsn f r

@@ -1,14 +1,14 @@
 -- Runs of calls of a receiver, and what they hand out.
-use Rattle.std.specs.Prelude.{◌≡◌, ℕ, ◌≤◌, ◌==◌, Bool, true, false, if◌then◌else◌, List, [], ◌∷◌, ◌++◌, Option, Some, None}
-use Rattle.std.specs.List.{list_all, sum_by}
-use Rattle.sctp_list_lemmas.specs.Lists.{those}
+use Rattle.std.specs.Prelude.{◌≡◌, ℕ, ◌≤◌, ◌==◌, true, false, if◌then◌else◌, List, [], ◌∷◌, ◌++◌, Option, Some, None}
+use Rattle.std.specs.List.{list_all, sum_by, filter}
 use Rattle.sctp_chunks.specs.declared.chunk.chunk_payload_data.ChunkPayloadData.{ChunkPayloadData}
 use Rattle.sctp_chunks.specs.ChunkSet.{ChunkSet}
 use Rattle.sctp_chunks.specs.ForwardTsn.{ForwardTsn}
 use Rattle.sctp_reassembly.specs.reassembly_queue.Fragments.{is_complete}
 use Rattle.sctp_transfer.specs.declared.receiver.arrival.Arrival.{Arrival}
 use Rattle.sctp_transfer.specs.declared.receiver.arrival.Arrival.TheVariants.{New, Repeat}
-use Rattle.sctp_transfer.specs.Receiver.{Reception, at_first, is_open, opened, Takes, reported, message_on, after_read, after_forward}
+use Rattle.sctp_transfer.specs.Receiver.{Reception, at_first, is_open, open_stream, Takes, without_duplicates, message_on, after_read, after_forward}
+use Rattle.sctp_serial.specs.DataChunks.{is_on}
 
 -- ## One call
 
@@ -22,9 +22,9 @@ pub data Call : Type 0 where
 
 -- what it makes of the receiver, as the call ensures it
 abbrev pub Makes : Call → Reception → Reception → Type 0
-Makes (opens stream) old new = (is_open stream old ≡ false) × (new ≡ opened stream old)
+Makes (opens stream) old new = (is_open stream old ≡ false) × (new ≡ open_stream stream old)
 Makes (takes c arrival) old new = Takes c arrival old new
-Makes reports old new = new ≡ reported old
+Makes reports old new = new ≡ without_duplicates old
 Makes (reads stream) old new = new ≡ after_read stream old
 Makes (forwards f) old new = new ≡ after_forward f old
 
@@ -80,9 +80,9 @@ AfterEachRun P =
 
 -- ## The law
 
--- each message that was read is whole: its first fragment begins, its last one ends, and TSNs rise by one
-abbrev pub AreWhole : Stand → Type 0
-AreWhole s = list_all (λ m. is_complete m.fragments) s.read ≡ true
+-- each message that was read is complete: its first fragment begins, its last one ends, and TSNs rise by one
+abbrev pub AreComplete : Stand → Type 0
+AreComplete s = list_all (λ m. is_complete m.fragments) s.read ≡ true
 
 -- the fragments of the messages that were read on a stream
 abbrev pub fragments_read : ℕ → List Message → List ChunkPayloadData
@@ -90,12 +90,9 @@ fragments_read stream [] = []
 fragments_read stream (m ∷ ms) =
     if m.stream == stream then m.fragments ++ fragments_read stream ms else fragments_read stream ms
 
-abbrev pub is_on : ℕ → ChunkPayloadData → Bool
-is_on stream c = c.stream_identifier == stream
-
 -- however chunks are weighed, the fragments that were read on a stream weigh no more than the chunks that were taken on it:
 -- so each was taken there, and none of them serves twice
 abbrev pub WereAccepted : Stand → Type 0
 WereAccepted s =
     (stream : ℕ) (weight : ChunkPayloadData → ℕ) → sum_by weight (fragments_read stream s.read)
-    ≤ sum_by weight (those (is_on stream) s.accepted)
+    ≤ sum_by weight (filter (is_on stream) s.accepted)

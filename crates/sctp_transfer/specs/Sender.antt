@@ -1,7 +1,7 @@
 -- The sending half of a link as callers see it (RFC 4960 6.1, 6.2.1, 6.9).
 use Rattle.std.specs.Prelude.{ℕ, ◌+◌, ◌^◌, Bool, not, ◌||◌, nat_lt, if◌then◌else◌, List, [], ◌∷◌, ◌++◌, Option, Some, None, is_some}
-use Rattle.std.specs.List.{find}
-use Rattle.sctp_list_lemmas.specs.Lists.{change_where, those}
+use Rattle.std.specs.List.{find, filter}
+use Rattle.sctp_list_lemmas.specs.Lists.{change_where}
 use Rattle.sctp_chunks.specs.declared.chunk.chunk_payload_data.ChunkPayloadData.{ChunkPayloadData}
 use Rattle.sctp_chunks.specs.declared.chunk.chunk_payload_data.PayloadProtocolIdentifier.{PayloadProtocolIdentifier}
 use Rattle.sctp_chunks.specs.declared.chunk.chunk_payload_data.PayloadProtocolIdentifier.TheVariants.{Unknown}
@@ -12,7 +12,7 @@ use Rattle.sctp_stream.specs.declared.stream.StreamState.{StreamState}
 use Rattle.sctp_transfer.specs.declared.sender.refusal.SenderRefusal.{SenderRefusal}
 use Rattle.sctp_transfer.specs.declared.sender.refusal.SenderRefusal.TheVariants.{StreamUnknown, MessageTooLarge, QueueFull}
 use Rattle.sctp_transfer.specs.Flight.{Flight, with_queue, at_first, after_sack, released_by, after_abandonment}
-use Rattle.sctp_transfer.specs.Outgoing.{has_number, with_mode, fragments_with_mode, wrote, released, less_by, expired}
+use Rattle.sctp_transfer.specs.Outgoing.{has_number, with_mode, fragments_with_mode, wrote, after_releases, less_by, after_expiry}
 use Rattle.sctp_stream.specs.Stream.{new_stream}
 
 -- the open streams in the order in which they were opened; what waits and what is in flight; how long a fragment is, and how
@@ -39,13 +39,13 @@ with_streams ls t = record t { streams = ls }
 abbrev pub with_flight : Flight → Transmission → Transmission
 with_flight f t = record t { flight = f }
 
-abbrev pub opened : ℕ → Transmission → Transmission
-opened s t =
+abbrev pub open_stream : ℕ → Transmission → Transmission
+open_stream s t =
     with_streams (t.streams ++ new_stream s t.fragment_size t.max_message_size Unknown ∷ []) t
 
 -- the stream is open no more; what waits and is in flight stays
-abbrev pub closed : ℕ → Transmission → Transmission
-closed s t = with_streams (those (λ l. not (has_number s l)) t.streams) t
+abbrev pub close_stream : ℕ → Transmission → Transmission
+close_stream s t = with_streams (filter (λ l. not (has_number s l)) t.streams) t
 
 abbrev pub with_mode_on : ℕ → Bool → ReliabilityType → ℕ → Transmission → Transmission
 with_mode_on s unordered reliability value t =
@@ -77,16 +77,12 @@ written_to l s ppi bytes t = record t {
 
 -- ## Sending
 
--- a chunk as it goes out
-abbrev pub with_tsn : ℕ → ChunkPayloadData → ChunkPayloadData
-with_tsn tsn c = record c { tsn = tsn }
-
 -- ## A SACK
 
 abbrev pub after_acked : Sack → Transmission → Transmission
 after_acked s t =
     record t {
-      streams = released (released_by s t.flight) t.streams;
+      streams = after_releases (released_by s t.flight) t.streams;
       flight = after_sack s t.flight;
     }
 
@@ -102,6 +98,7 @@ after_abandon message stream bytes t = record t {
 -- the message past its deadline that begins with a chunk is gone, unsent
 abbrev pub after_expire : ChunkPayloadData → ℕ → ℕ → Transmission → Transmission
 after_expire c bytes now t = record t {
-  streams = change_where (has_number c.stream_identifier) (expired c.unordered bytes) t.streams;
+  streams = change_where (has_number c.stream_identifier)
+      (after_expiry c.unordered bytes) t.streams;
   flight = with_queue t.flight (expired_of (Some c) t.flight.queue);
 }

@@ -7,7 +7,7 @@ use Rattle.sctp_outbound.specs.outbound_queue.OutboundQueue.{all_started, total_
 use Rattle.sctp_transfer.specs.declared.sender.flight.late.AbandonedMessage.{AbandonedMessage}
 use Rattle.sctp_transfer.specs.declared.sender.flight.Released.{Released}
 use Rattle.sctp_transfer.specs.Flight.{resent, with_queue, with_room}
-use Rattle.sctp_transfer.specs.Sender.{Transmission, opened, with_flight, with_mode_on, with_nothing}
+use Rattle.sctp_transfer.specs.Sender.{Transmission, open_stream, with_flight, with_mode_on, with_nothing}
 use Rattle.sctp_transfer.specs.Totals.{bytes_in}
 
 -- ## One call
@@ -38,7 +38,7 @@ bytes_of_all gs = sum_by (λ g. g.bytes) gs
 
 -- of what each call ensures, the part on which bytes depend
 abbrev pub Makes : Call → Transmission → Transmission → Type 0
-Makes (opens stream) old new = new ≡ opened stream old
+Makes (opens stream) old new = new ≡ open_stream stream old
 Makes (sets_mode stream unordered reliability value) old new =
     new ≡ with_mode_on stream unordered reliability value old
 Makes (starts now) old new =

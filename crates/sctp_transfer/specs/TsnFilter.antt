@@ -1,13 +1,15 @@
 -- The TSNs that came: the cumulative one, and those beyond it (RFC 4960 6.2; RFC 3758 3.6).
-use Rattle.std.specs.Prelude.{ℕ, ◌+◌, ◌-◌, ◌%◌, ◌^◌, ◌==◌, Bool, true, false, not, ◌&&◌, ◌||◌, nat_lt, None, List, [], ◌∷◌, ◌++◌, map}
-use Rattle.std.specs.List.{list_any}
+use Rattle.std.specs.Prelude.{ℕ, ◌^◌, ◌==◌, Bool, true, false, not, ◌&&◌, ◌||◌, nat_lt, List, [], ◌∷◌, ◌++◌, map}
+use Rattle.std.specs.List.{list_any, filter}
 use Rattle.sctp_list_lemmas.specs.Kept.{runs_of}
-use Rattle.sctp_list_lemmas.specs.Lists.{advanced, inserted, those, Seen}
+use Rattle.sctp_list_lemmas.specs.Lists.{advance_over, insert_before, Seen}
 use Rattle.sctp_list_lemmas.specs.Serial.{distance, comes_before, at_or_before}
+use Rattle.sctp_chunks.specs.ChunkSet.{fresh}
 use Rattle.sctp_chunks.specs.declared.chunk.chunk_payload_data.PayloadProtocolIdentifier.TheVariants.{Unknown}
 use Rattle.sctp_chunks.specs.declared.chunk.chunk_payload_data.ChunkPayloadData.{ChunkPayloadData}
 use Rattle.sctp_chunks.specs.declared.chunk.chunk_selective_ack.GapAckBlock.{GapAckBlock}
 use Rattle.sctp_outbound.specs.payload_queue.Blocks.{is_offset}
+use Rattle.sctp_serial.specs.DataChunks.{following_tsn}
 
 -- all came up to the cumulative TSN; these came beyond it, in serial order; these came again since the last SACK;
 -- and so many more beyond take no memory
@@ -18,12 +20,6 @@ pub record Filter : Type 0 where
   pub room : ℕ
 
 -- ## Which TSNs are new
-
-abbrev pub following_tsn : ℕ → ℕ
-following_tsn tsn = (tsn + 1) % 2 ^ 32
-
-abbrev pub preceding_tsn : ℕ → ℕ
-preceding_tsn tsn = (tsn + (2 ^ 32 - 1)) % 2 ^ 32
 
 -- it came: it is at or before the cumulative TSN, or among those beyond
 abbrev pub has_come : ℕ → Filter → Bool
@@ -40,7 +36,8 @@ with_seen s f = record f { cumulative_tsn = s.cum; beyond = s.held }
 
 -- a new TSN comes: the cumulative one moves over all that stand next to it
 abbrev pub with_tsn : ℕ → Filter → Filter
-with_tsn tsn f = with_seen (advanced f.cumulative_tsn (inserted comes_before tsn f.beyond)) f
+with_tsn tsn f =
+    with_seen (advance_over f.cumulative_tsn (insert_before comes_before tsn f.beyond)) f
 
 -- a TSN comes again
 abbrev pub with_duplicate : ℕ → Filter → Filter
@@ -48,7 +45,7 @@ with_duplicate tsn f = record f { duplicates = f.duplicates ++ tsn ∷ [] }
 
 -- all up to a later TSN counts as come
 abbrev pub skipped_to : ℕ → Filter → Filter
-skipped_to tsn f = with_seen (advanced tsn (those (λ t. not (at_or_before t tsn)) f.beyond)) f
+skipped_to tsn f = with_seen (advance_over tsn (filter (λ t. not (at_or_before t tsn)) f.beyond)) f
 
 -- whether a new TSN takes no memory
 abbrev pub has_room : ℕ → Filter → Bool
@@ -58,7 +55,7 @@ has_room tsn f = (tsn == following_tsn f.cumulative_tsn) || nat_lt 0 f.room
 
 -- the distances after the cumulative TSN, of those that a gap ack block can hold
 abbrev pub offsets : Filter → List ℕ
-offsets f = those is_offset (map (distance f.cumulative_tsn) f.beyond)
+offsets f = filter is_offset (map (distance f.cumulative_tsn) f.beyond)
 
 abbrev pub block_of : ℕ × ℕ → GapAckBlock
 block_of run = record { start = run.0; end = run.1 }
@@ -70,7 +67,7 @@ gap_ack_blocks f = map block_of (runs_of (offsets f))
 
 -- a TSN as the queue keeps it: a chunk that says nothing else
 abbrev pub mark : ℕ → ChunkPayloadData
-mark tsn = record {
+mark tsn = fresh (record {
   unordered = false;
   beginning_fragment = false;
   ending_fragment = false;
@@ -80,19 +77,7 @@ mark tsn = record {
   stream_sequence_number = 0;
   payload_type = Unknown;
   user_data = [];
-  acked = false;
-  miss_indicator = 0;
-  message_id = 0;
-  abandoned = false;
-  since = None;
-  reliability = None;
-  deadline = None;
-  nsent = 0;
-  retransmit = false;
-}
-
-abbrev pub tsns : List ChunkPayloadData → List ℕ
-tsns chunks = map (λ c. c.tsn) chunks
+})
 
 -- each lies farther after the base than the one before it, and nearer than half the circle
 abbrev pub rise_beyond : ℕ → ℕ → List ℕ → Bool

@@ -1,13 +1,13 @@
 //! What holds after every run of calls: laws, each the contract of a function that does nothing.
 
-ghost use Rattle.sctp_transfer.specs.ReceiverRuns.{AfterEachRun, AreWhole, WereAccepted};
+ghost use Rattle.sctp_transfer.specs.ReceiverRuns.{AfterEachRun, AreComplete, WereAccepted};
 ghost use Rattle.sctp_transfer.specs.SenderRuns.{AfterEachRun as AfterEachRunOfSender, IsAccounted};
 
-/// Whatever chunks come to a receiver, each message that it hands out is whole: its fragments have consecutive TSNs, the
+/// Whatever chunks come to a receiver, each message that it hands out is complete: its fragments have consecutive TSNs, the
 /// first begins and the last ends. They are chunks of its stream that the receiver took as new, and none of those serves
 /// in two messages, or twice in one.
 pub fn messages_are_of_accepted_chunks()
-    ensures whole { AfterEachRun AreWhole }
+    ensures complete { AfterEachRun AreComplete }
     ensures accepted { AfterEachRun WereAccepted }
 {}
 

@@ -58,7 +58,7 @@ impl Receiver {
     ghost use Rattle.sctp_chunks.specs.ForwardTsn.{forward_tsn_of};
     ghost use Rattle.sctp_reassembly.specs.reassembly_queue.ReassemblyQueue.{at_start};
     ghost use Rattle.sctp_transfer.specs.TsnFilter.{mark};
-    ghost use Rattle.sctp_transfer.specs.Receiver.{at_first, stream_of, is_open, opened, closed, data_refusal, IsRefusedFor, takes_memory, arrival_of, Takes, message_on, after_read, forward_refusal, forwarded_of, after_forward};
+    ghost use Rattle.sctp_transfer.specs.Receiver.{at_first, stream_of, is_open, open_stream, close_stream, data_refusal, IsRefusedFor, takes_memory, arrival_of, Takes, message_on, after_read, forward_refusal, forwarded_of, after_forward};
 
     /// A receiver with no stream, to which nothing came. The first TSN is expected next, and a message may have
     /// `max_message_size` bytes. It takes no memory.
@@ -75,7 +75,7 @@ impl Receiver {
 
     /// Opens a stream. Refuses with `StreamOpen`, where it is open, and else only for memory. The receiver is as it was then.
     pub fn open(&mut self, stream: u16) -> Result<(), ReceiverRefusal>
-        ensures ok { OnOk result (self.new ≡ opened stream self.old) }
+        ensures ok { OnOk result (self.new ≡ open_stream stream self.old) }
         ensures accepted { IsOk result → is_open stream self.old ≡ false }
         ensures refused { IfErr result (λ e. e
             ≡ (if is_open stream self.old then StreamOpen else OutOfMemory)) }
@@ -91,7 +91,7 @@ impl Receiver {
     /// later is refused, until it is opened again; the TSNs stay as they are. Where it is not open nothing changes. It takes no
     /// memory.
     pub fn close(&mut self, stream: u16)
-        ensures { self.new ≡ closed stream self.old }
+        ensures { self.new ≡ close_stream stream self.old }
     {
         self.streams.close(stream);
     }
@@ -132,7 +132,7 @@ impl Receiver {
         Ok(Arrival::New)
     }
 
-    /// Takes the next message of a stream out, where there is one: the first whole unordered one, else the ordered
+    /// Takes the next message of a stream out, where there is one: the first complete unordered one, else the ordered
     /// one that is due (RFC 4960 6.6). Refuses with `StreamUnknown`, where the stream is not open. It takes no memory.
     pub fn read(&mut self, stream: u16) -> Result<Option<Chunks>, ReceiverRefusal>
         ensures message { IfOk result (λ message. message

@@ -1,7 +1,7 @@
 //! The sending half of a link (RFC 4960 6.1, 6.2.1, 6.9).
 
 ghost use Rattle.std.specs.Prelude.{◌≡◌, ◌==◌, ◌<◌, ◌≤◌, ◌⊎◌, ℕ, Bool, true, false, not, None, Some, OnOk, OnErr, IfOk, IfErr, IfSome, IsOk, IsOkUnless, ◌+◌, option_map, option_copied, is_some, map, find, length, if◌then◌else◌};
-ghost use Rattle.sctp_transfer.specs.Outgoing.{released};
+ghost use Rattle.sctp_transfer.specs.Outgoing.{after_releases};
 ghost use Rattle.sctp_transfer.specs.Sender.{is_full_of};
 ghost use Rattle.sctp_transfer.specs.declared.sender.refusal.SenderRefusal.TheVariants.{StreamOpen, StreamUnknown, TsnsUsedUp, NotInFlight, OutOfMemory};
 
@@ -59,14 +59,14 @@ impl Sender {
     ghost use Rattle.sctp_chunks.specs.SelectiveAck.{sack_of};
     ghost use Rattle.sctp_outbound.specs.outbound_queue.OutboundQueue.{all_started, sent_next, expiring, expiring_tail, message_of, tail_bytes, total_bytes, after_sends};
     ghost use Rattle.sctp_stream.specs.declared.stream.StreamState.{StreamState};
-    ghost use Rattle.sctp_outbound.specs.pending_queue.PendingQueue.{peeked};
-    ghost use Rattle.sctp_serial.specs.DataChunks.{has_tsn};
+    ghost use Rattle.sctp_outbound.specs.pending_queue.PendingQueue.{next_pending};
+    ghost use Rattle.sctp_serial.specs.DataChunks.{has_tsn, under_tsn};
     ghost use Rattle.sctp_serial.specs.Window.{is_held};
     ghost use Rattle.sctp_transfer.specs.Flight.{with_queue, with_room, may_send, next_after_send, can_resend, resent, is_outdated, sack_refusal, released_by, message_to_abandon, has_tail_at};
     ghost use Rattle.sctp_transfer.specs.Abandonment.{abandon_refusal};
     ghost use Rattle.sctp_transfer.specs.Outgoing.{fragments_with_mode};
     ghost use Rattle.sctp_transfer.specs.Totals.{bytes_in};
-    ghost use Rattle.sctp_transfer.specs.Sender.{with_nothing, with_tsn, stream_of, is_open, opened, closed, with_mode_on, with_flight, write_refusal, written_to, after_acked, after_abandon, after_expire};
+    ghost use Rattle.sctp_transfer.specs.Sender.{with_nothing, stream_of, is_open, open_stream, close_stream, with_mode_on, with_flight, write_refusal, written_to, after_acked, after_abandon, after_expire};
 
     /// A sender with no stream, whose first chunk gets the first TSN. It takes no memory.
     /// Precondition: `fragment_size` is 1 to 65,519.
@@ -87,7 +87,7 @@ impl Sender {
     /// Opens a stream, ordered and reliable. Refuses with `StreamOpen`, where it is open, and else only for memory.
     /// The sender is as it was then.
     pub fn open(&mut self, stream: u16) -> Result<(), SenderRefusal>
-        ensures ok { OnOk result (self.new ≡ opened stream self.old) }
+        ensures ok { OnOk result (self.new ≡ open_stream stream self.old) }
         ensures accepted { IsOk result → is_open stream self.old ≡ false }
         ensures refused { IfErr result (λ e. e
             ≡ (if is_open stream self.old then StreamOpen else OutOfMemory)) }
@@ -108,7 +108,7 @@ impl Sender {
     /// goes on as before. Where it is not open nothing changes. It takes no memory.
     /// Open it again only once `outbound().contains_stream` is false: what then leaves would else lower the new amount.
     pub fn close(&mut self, stream: u16)
-        ensures { self.new ≡ closed stream self.old }
+        ensures { self.new ≡ close_stream stream self.old }
     {
         self.streams.close(stream);
     }
@@ -199,7 +199,7 @@ impl Sender {
     /// in flight, and for memory. The sender is as it was then.
     pub fn send_next(&mut self, now: u64) -> Result<Option<ChunkPayloadData>, SenderRefusal>
         ensures answer { IfOk result (λ sent. sent ≡ option_map
-            (with_tsn self.old.flight.next_tsn) (peeked self.old.flight.queue.pending)) }
+            (under_tsn self.old.flight.next_tsn) (next_pending self.old.flight.queue.pending)) }
         ensures ok { OnOk result (self.new
             ≡ with_flight (record self.old.flight {
               queue = sent_next self.old.flight.queue
@@ -208,16 +208,27 @@ impl Sender {
             }) self.old) }
         ensures bytes { OnOk result (total_bytes self.new.flight.queue
             ≡ total_bytes self.old.flight.queue) }
-        ensures accepted { IsOk result → (peeked self.old.flight.queue.pending ≡ None)
+        ensures accepted { IsOk result → (next_pending self.old.flight.queue.pending ≡ None)
             ⊎ (may_send self.old.flight ≡ true) }
         ensures refused { IfErr result (λ e. e
             ≡ (if may_send self.old.flight then OutOfMemory else TsnsUsedUp)) }
-        ensures idle { peeked self.old.flight.queue.pending ≡ None → IsOk result }
+        ensures idle { next_pending self.old.flight.queue.pending ≡ None → IsOk result }
         ensures err { OnErr result (self.new ≡ self.old) }
     {
-        self.flight.queue().are_whole();
+        let sent = self.copy_next()?;
+        self.send_next_tsn(now)?;
+        Ok(sent)
+    }
+
+    // A copy of the fragment that is next, under the next TSN; None where nothing waits.
+    fn copy_next(&self) -> Result<Option<ChunkPayloadData>, SenderRefusal>
+        ensures ok { IfOk result (λ copied. copied ≡ option_map
+            (under_tsn self.now.flight.next_tsn) (next_pending self.now.flight.queue.pending)) }
+        ensures refused { IfErr result (λ e. e
+            ≡ (if may_send self.now.flight then OutOfMemory else TsnsUsedUp)) }
+        ensures idle { next_pending self.now.flight.queue.pending ≡ None → IsOk result }
+    {
         let Some(waiting) = self.flight.queue().peek_pending() else {
-            self.flight.start(now);
             return Ok(None);
         };
         if !self.flight.may_send() {
@@ -225,7 +236,6 @@ impl Sender {
         }
         let mut chunk = waiting.try_clone()?;
         chunk.tsn = self.flight.next_tsn();
-        self.flight.send_next(now)?;
         Ok(Some(chunk))
     }
 
@@ -245,7 +255,8 @@ impl Sender {
     /// no memory; `send_next` takes what a copy of the chunk wants.
     pub fn send_next_tsn(&mut self, now: u64) -> Result<Option<u32>, SenderRefusal>
         ensures answer { IfOk result (λ sent. sent
-            ≡ option_map (λ _. self.old.flight.next_tsn) (peeked self.old.flight.queue.pending)) }
+            ≡ option_map (λ _. self.old.flight.next_tsn)
+            (next_pending self.old.flight.queue.pending)) }
         ensures ok { OnOk result (self.new
             ≡ with_flight (record self.old.flight {
               queue = sent_next self.old.flight.queue
@@ -254,13 +265,13 @@ impl Sender {
             }) self.old) }
         ensures bytes { OnOk result (total_bytes self.new.flight.queue
             ≡ total_bytes self.old.flight.queue) }
-        ensures accepted { IsOk result → (peeked self.old.flight.queue.pending ≡ None)
+        ensures accepted { IsOk result → (next_pending self.old.flight.queue.pending ≡ None)
             ⊎ (may_send self.old.flight ≡ true) }
         ensures refused { IfErr result (λ e. e
             ≡ (if may_send self.old.flight then OutOfMemory else TsnsUsedUp)) }
         ensures succeeds { 0 < self.old.flight.queue.inflight.room
             → may_send self.old.flight ≡ true → IsOk result }
-        ensures idle { peeked self.old.flight.queue.pending ≡ None → IsOk result }
+        ensures idle { next_pending self.old.flight.queue.pending ≡ None → IsOk result }
         ensures err { OnErr result (self.new ≡ self.old) }
     {
         self.flight.queue().are_whole();
@@ -278,7 +289,8 @@ impl Sender {
     /// The fragment that is next after so many sends, as the queue's `peek_pending_at` lends it: a datagram of several chunks
     /// is filled by what these are long.
     pub fn peek_pending_at(&self, sends: usize) -> Option<&ChunkPayloadData>
-        ensures { option_copied result ≡ peeked (after_sends sends self.now.flight.queue.pending) }
+        ensures { option_copied result
+            ≡ next_pending (after_sends sends self.now.flight.queue.pending) }
     {
         self.flight.queue().peek_pending_at(sends)
     }
@@ -483,7 +495,7 @@ fn is_full(queue: &OutboundQueue, len: usize) -> bool
 
 // Takes off each stream what left of it.
 fn release_each(streams: &mut OutboundStreams, gone: &[Released])
-    ensures { streams.new ≡ released gone.now streams.old }
+    ensures { streams.new ≡ after_releases gone.now streams.old }
 {
     for one in gone {
         streams.release(one.stream, one.bytes);

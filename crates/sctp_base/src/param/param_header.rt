@@ -5,7 +5,7 @@ ghost use Rattle.sctp_base.specs.declared.error.Error.TheVariants.{ErrOutOfMemor
 ghost use Rattle.sctp_base.specs.Field.{be16, AreBytes};
 ghost use Rattle.sctp_base.specs.Outcome.{OrMemory};
 ghost use Rattle.sctp_base.specs.ParamType.{type_number, type_from, type_name};
-ghost use Rattle.sctp_base.specs.ParamFraming.{IsParam, IsParamValue, param_type_at, param_declared, param_value_at};
+ghost use Rattle.sctp_base.specs.ParamFraming.{IsParam, IsParamValue, param_type_at, param_declared_length, param_value_at};
 ghost use Rattle.sctp_base.specs.ParamFault.{ParamHeaderFault};
 
 use super::param_type::ParamType;
@@ -56,7 +56,7 @@ impl ParamHeader {
     pub fn unmarshal(raw: &Bytes) -> Result<Self>
         ensures is_param { IfOk result (λ h. IsParam raw.now) }
         ensures fields { IfOk result (λ h. (h.typ ≡ type_from (param_type_at raw.now))
-            × (4 + h.value_length ≡ param_declared raw.now)) }
+            × (4 + h.value_length ≡ param_declared_length raw.now)) }
         ensures short { IfOk result (λ h. 4 + h.value_length < 2 ^ 16) }
         ensures fault { IfErr result (λ e. ParamHeaderFault e raw.now) }
     {

@@ -3,6 +3,7 @@
 ghost use Rattle.std.specs.Prelude.{◌≡◌, ◌+◌, ◌^◌, ◌<◌, ◌≤◌, ◌++◌, ℕ, Some, length, IfOk, IfErr, IsOkUnless};
 ghost use Rattle.sctp_chunks.specs.PayloadData.{payload_type_from, payload_type_number, data_of, data_value, data_flags};
 ghost use Rattle.sctp_chunks.specs.Names.{payload_type_name, reliability_name};
+ghost use Rattle.sctp_chunks.specs.PayloadTypes.{is_dcep};
 ghost use Rattle.sctp_chunks.specs.Reliability.{reliability_from};
 ghost use Rattle.sctp_chunks.specs.Wire.{Wire, data_chunk, IsData, ReadsChunk, HasEncoding, encoding_of};
 ghost use Rattle.sctp_chunks.specs.Fault.{DataFault};
@@ -72,6 +73,16 @@ impl PayloadProtocolIdentifier {
     {
         self as u32
     }
+
+    /// Whether it is the one of messages that establish a channel.
+    pub fn is_dcep(self) -> bool
+        ensures { result ≡ is_dcep self }
+    {
+        match self {
+            PayloadProtocolIdentifier::Dcep => true,
+            _ => false,
+        }
+    }
 }
 
 /// The payload type with a number, `Unknown` where there is none.
@@ -96,7 +107,7 @@ impl From<u32> for PayloadProtocolIdentifier {
 ///
 ///     | B | E | the fragment is          |
 ///     |---|---|--------------------------|
-///     | 1 | 1 | the complete message        |
+///     | 1 | 1 | the complete message     |
 ///     | 1 | 0 | the first of several     |
 ///     | 0 | 0 | neither first nor last   |
 ///     | 0 | 1 | the last of several      |
@@ -105,7 +116,7 @@ impl From<u32> for PayloadProtocolIdentifier {
 /// Refuses another type with `ErrChunkTypeNotPayloadData`, a value of under 12 bytes with `ErrChunkPayloadSmall`.
 #[derive(Debug, Drop)]
 pub struct ChunkPayloadData {
-    /// The flag U: the message is given to the reader as soon as it is whole; its
+    /// The flag U: the message is given to the reader as soon as it is complete; its
     /// stream sequence number says nothing.
     pub unordered: bool,
     /// The flag B.

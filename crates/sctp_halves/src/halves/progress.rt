@@ -11,8 +11,8 @@ use std::collections::VecDeque;
 pub struct StreamProgress {
     /// The number of the stream.
     pub number: u16,
-    /// The unordered messages that are whole and not read, by their numbers, in the order in which they became whole.
-    pub whole: VecDeque<u64>,
+    /// The unordered messages that are complete and not read, by their numbers, in the order in which they became complete.
+    pub complete: VecDeque<u64>,
     /// How many ordered messages were written and did not expire.
     pub ordered: u64,
     /// How many of them were begun to be sent.
@@ -27,7 +27,7 @@ impl StreamProgress {
     /// Of a stream that nothing was written to. It takes no memory.
     pub fn new(alloc: Global, number: u16) -> Self
         ensures number { result.number ≡ number }
-        ensures whole { result.whole.items ≡ [] }
+        ensures complete { result.complete.items ≡ [] }
         ensures ordered { result.ordered ≡ 0 }
         ensures begun { result.begun ≡ 0 }
         ensures next { result.next ≡ 0 }
@@ -35,7 +35,7 @@ impl StreamProgress {
     {
         StreamProgress {
             number,
-            whole: VecDeque::new(alloc),
+            complete: VecDeque::new(alloc),
             ordered: 0,
             begun: 0,
             next: 0,

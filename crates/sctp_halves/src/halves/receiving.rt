@@ -21,22 +21,22 @@ use sctp_transfer::receiver::saved::SavedReceiver;
 #[derive(Drop)]
 pub struct Saved {
     pub receiver: SavedReceiver,
-    /// How many messages are recorded as whole on each stream.
-    pub whole: Vec<usize>,
+    /// How many messages are recorded as complete on each stream.
+    pub complete: Vec<usize>,
 }
 
 impl Halves {
     ghost use Rattle.sctp_chunks.specs.ForwardTsn.{forward_tsn_of};
     ghost use Rattle.sctp_chunks.specs.SelectiveAck.{sack_of};
-    ghost use Rattle.sctp_list_lemmas.specs.Lists.{changed};
+    ghost use Rattle.sctp_list_lemmas.specs.Lists.{change_at};
     ghost use Rattle.sctp_reassembly.specs.reassembly_queue.ReassemblyQueue.{at_start, message_read};
     ghost use Rattle.sctp_transfer.specs.Inbound.{stream_read};
     ghost use Rattle.sctp_transfer.specs.Receiver.{data_refusal, arrival_of, forward_refusal, forwarded_of, sack};
     ghost use Rattle.sctp_halves.specs.Streams.{OpenStream, on_inbound, read_recorded, with_named};
-    ghost use Rattle.sctp_halves.specs.Halves.{reception_of, stream_in, is_open, on_stream, Takes, CanTake, TakesEach, reported, after_forward};
+    ghost use Rattle.sctp_halves.specs.Halves.{reception_of, stream_in, is_open, on_stream, Takes, CanTake, TakesEach, without_duplicates, after_forward};
 
     /// Takes DATA chunks one after another, each with the number of its message, and answers whether each came for the first
-    /// time. The number of an unordered message that becomes whole is recorded. Refuses only for memory, and all is as it was
+    /// time. The number of an unordered message that becomes complete is recorded. Refuses only for memory, and all is as it was
     /// then. Of two or more what they may change is copied before; one alone copies nothing.
     /// Precondition: the receiver refuses none of them.
     pub fn data_each(
@@ -105,13 +105,13 @@ impl Halves {
         let Some(place) = self.numbers.place_of(chunk.stream_identifier) else {
             unreachable!()
         };
-        self.progress[place].whole.reserve(1)?;
+        self.progress[place].complete.reserve(1)?;
         let before = complete_on(&self.receiver, chunk.stream_identifier);
         let Ok(arrival) = self.receiver.data(chunk) else {
             return Err(Error::ErrOutOfMemory);
         };
         if complete_on(&self.receiver, chunk.stream_identifier) > before {
-            self.progress[place].whole.push_back_reserved(number);
+            self.progress[place].complete.push_back_reserved(number);
         }
         Ok(arrival)
     }
@@ -121,14 +121,14 @@ impl Halves {
         ensures ok { IfOk result (λ saved. IsSaved self.now saved) }
         ensures memory { IsOkUnless result ErrOutOfMemory }
     {
-        let mut whole = Vec::new(self.alloc);
+        let mut complete = Vec::new(self.alloc);
         for place in 0..self.progress.len() {
-            whole.push(self.progress[place].whole.len())?;
+            complete.push(self.progress[place].complete.len())?;
         }
         let Ok(receiver) = self.receiver.save() else {
             return Err(Error::ErrOutOfMemory);
         };
-        Ok(Saved { receiver, whole })
+        Ok(Saved { receiver, complete })
     }
 
     // Puts back what was saved. It takes no memory.
@@ -139,7 +139,7 @@ impl Halves {
         self.receiver.restore(saved.receiver);
         for place in 0..self.progress.len() {
             let progress = &mut self.progress[place];
-            progress.whole.truncate(saved.whole[place]);
+            progress.complete.truncate(saved.complete[place]);
         }
     }
 
@@ -157,7 +157,7 @@ impl Halves {
 
     /// A SACK was sent: all duplicates are forgotten. It takes no memory.
     pub fn sack_sent(&mut self)
-        ensures { self.new ≡ reported self.old }
+        ensures { self.new ≡ without_duplicates self.old }
     {
         self.receiver.sack_sent();
     }
@@ -176,7 +176,7 @@ impl Halves {
         }
     }
 
-    /// Records that the message that was last read was an ordered one with this index, or the first whole unordered one. It
+    /// Records that the message that was last read was an ordered one with this index, or the first complete unordered one. It
     /// takes no memory.
     /// Precondition: `index` is below the greatest u64.
     pub fn record_read(&mut self, stream: u16, ordered: bool, index: u64)
@@ -188,7 +188,7 @@ impl Halves {
         };
         let progress = &mut self.progress[place];
         if !ordered {
-            progress.whole.pop_front();
+            progress.complete.pop_front();
         } else if index == progress.next {
             progress.next = index + 1;
         }
@@ -213,7 +213,7 @@ impl Halves {
     pub fn record_named(&mut self, place: usize, end: u64)
         requires { place < length self.old.streams }
         ensures { self.new
-            ≡ record self.old { streams = changed (with_named end) place self.old.streams } }
+            ≡ record self.old { streams = change_at (with_named end) place self.old.streams } }
     {
         let progress = &mut self.progress[place];
         progress.next = progress.next.max(end);
@@ -221,7 +221,7 @@ impl Halves {
     }
 }
 
-// How many unordered messages are whole on a stream and not read; none where it is not open.
+// How many unordered messages are complete on a stream and not read; none where it is not open.
 fn complete_on(receiver: &Receiver, stream: u16) -> usize
     ensures none { R.stream_of stream receiver.now ≡ None → result ≡ 0 }
     ensures some { (l : InboundStream) → R.stream_of stream receiver.now ≡ Some l

@@ -1,6 +1,7 @@
 //! What the sending half is asked for (RFC 4960 6.1, 6.2.1; RFC 3758 3.5).
 
 ghost use Rattle.std.specs.Prelude.{◌≡◌, ◌<◌, ◌+◌, ◌-◌, ◌^◌, ℕ, true, false, None, Some, is_some, OnOk, OnErr, IfOk, IfSome, IsOk, IsOkUnless, find, length, option_map, not};
+ghost use Rattle.sctp_chunks.specs.PayloadTypes.{is_ordered};
 ghost use Rattle.sctp_base.specs.declared.error.Error.TheVariants.{ErrOutOfMemory};
 ghost use Rattle.sctp_stream.specs.Stream as stream;
 
@@ -16,7 +17,7 @@ use sctp_transfer::sender::refusal::SenderRefusal;
 impl Halves {
     ghost use Rattle.sctp_chunks.specs.SelectiveAck.{sack_of};
     ghost use Rattle.sctp_outbound.specs.outbound_queue.OutboundQueue.{all_started, expiring, expiring_tail, message_of, total_bytes};
-    ghost use Rattle.sctp_outbound.specs.pending_queue.PendingQueue.{peeked};
+    ghost use Rattle.sctp_outbound.specs.pending_queue.PendingQueue.{next_pending};
     ghost use Rattle.sctp_chunks.specs.declared.chunk.chunk_payload_data.ChunkPayloadData.{ChunkPayloadData};
     ghost use Rattle.sctp_serial.specs.DataChunks.{has_tsn};
     ghost use Rattle.sctp_transfer.specs.Flight.{with_queue, with_room, may_send, resent, sack_refusal, has_tail_at, message_to_abandon};
@@ -52,7 +53,7 @@ impl Halves {
             unreachable!()
         };
         let before = self.progress[place].ordered;
-        let written = written(state, ppi, before);
+        let written = written_of(state, ppi, before);
         match self.sender.write(stream, ppi, bytes) {
             Ok(_) => {}
             Err(SenderRefusal::OutOfMemory) => return Err(Error::ErrOutOfMemory),
@@ -231,14 +232,14 @@ impl Halves {
 }
 
 // What is recorded of a write to a stream on which so many ordered messages were written before.
-fn written(state: &StreamState, ppi: PayloadProtocolIdentifier, before: u64) -> Written
-    ensures ordered { result.ordered ≡ stream.is_ordered state.now.unordered ppi }
+fn written_of(state: &StreamState, ppi: PayloadProtocolIdentifier, before: u64) -> Written
+    ensures ordered { result.ordered ≡ is_ordered state.now.unordered ppi }
     ensures reliability { result.reliability ≡ state.now.reliability_type }
     ensures value { result.value ≡ state.now.reliability_value }
     ensures before { result.before ≡ before }
 {
     Written {
-        ordered: matches!(ppi, PayloadProtocolIdentifier::Dcep) || !state.unordered(),
+        ordered: state.is_ordered(ppi),
         reliability: state.reliability_type(),
         value: state.reliability_value(),
         before,

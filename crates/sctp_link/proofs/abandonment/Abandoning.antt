@@ -3,19 +3,19 @@ use Rattle.std.proofs.Common.{◌≡◌, ℕ, ◌+◌, ◌-◌, ◌<◌, Bool, t
 use Rattle.std.specs.Prelude.{if◌then◌else◌, ◌==◌, slice_get, slice_index_or, slice_set}
 use Rattle.std.proofs.Math.Path.{subst}
 use Rattle.std.proofs.lemmas.List.{map-append}
-use Rattle.sctp_list_lemmas.specs.Lists.{change_where, changed}
+use Rattle.sctp_list_lemmas.specs.Lists.{change_where, change_at}
 use Rattle.sctp_list_lemmas.proofs.Edits.{length-change_where}
 use Rattle.sctp_list_lemmas.proofs.Getting.{length-mapped}
 use Rattle.sctp_outbound.specs.outbound_queue.OutboundQueue.{Outbound}
 use Rattle.sctp_model.specs.declared.event.Event.{Event}
-use Rattle.sctp_model.specs.World as W
-use Rattle.sctp_model.specs.World.{World}
+use Rattle.sctp_model.specs.LinkRecord as W
+use Rattle.sctp_model.specs.LinkRecord.{LinkRecord}
 use Rattle.sctp_model.specs.Messages.{message_at, ordered_before, sent_of, is_partially_sent}
 use Rattle.sctp_model.specs.Receiver.{next_of}
 use Rattle.sctp_model.specs.Contents.{contents_of, cumulative_tsn}
 use Rattle.sctp_model.specs.Queues.{filter_of}
 use Rattle.sctp_model.specs.Amounts.{in_all, written_bytes}
-use Rattle.sctp_model.specs.Changes.{abandoned, mark_abandoned}
+use Rattle.sctp_model.specs.Changes.{after_abandon, mark_abandoned}
 use Rattle.sctp_model.specs.Laws.{IsSetup}
 use Rattle.sctp_model.specs.Steps.{StandsFor, refusal_of, after, reply_to, fragments_accepted}
 use Rattle.sctp_model.proofs.sender.Moves
@@ -39,7 +39,7 @@ use Rattle.sctp_link.specs.OpenStreams.{marks}
 use Rattle.sctp_link.specs.Linked.{State, IsOpenStream, IsLinked, stats_of}
 use Rattle.sctp_link.specs.Records.{message_record, progress_of, slot_record, stream_record}
 use Rattle.sctp_link.proofs.abandonment.QueueAnswers.{Gives}
-use Rattle.sctp_link.proofs.upkeep.Apart.{map-set, map-set_same}
+use Rattle.sctp_link.proofs.upkeep.Apart.{map-set}
 use Rattle.sctp_link.proofs.upkeep.StreamPlaces.{apart-changed}
 use Rattle.sctp_link.proofs.sender.Beginning.{index_kept}
 use Rattle.sctp_link.proofs.upkeep.ChangedStreams.{fields-same, changed-at}
@@ -47,20 +47,21 @@ use Rattle.sctp_link.proofs.upkeep.Facts.{facts, stands-then}
 use Rattle.sctp_link.proofs.receiver.Hears.{raw-at}
 use Rattle.sctp_link.specs.Encodings.{IsDatagram}
 use Rattle.sctp_link.proofs.upkeep.Frames.{moved, encodings-same, next-kept, held-quiet, filter-kept, begun-kept, indexed-kept, fragments-same, written-kept}
+use Rattle.sctp_transfer.proofs.StreamPlaces.{map-set_same}
 
-network-same : (w : World) (n : ℕ) → (abandoned w n).network ≡ w.network
+network-same : (w : LinkRecord) (n : ℕ) → (after_abandon w n).network ≡ w.network
 network-same w n = ap (λ u. u.network) (abandoned-is w n)
 
 -- an event that abandons a message of which some was sent
-module _ (sum : List ℕ → ℕ) (x : State) (l : IsLinked sum x) (e : Event) (ok : refusal_of x.world e ≡ None) (n s bytes : ℕ) (q : Outbound) (next : ℕ) (r : Gives x e n s bytes q next) (keeps : KeepsNext e) (none : SendsNone e) (no-write : is_write e ≡ false) (no-read : is_read e ≡ false) where
-  abbrev w : World
-  w = x.world
+module _ (sum : List ℕ → ℕ) (x : State) (l : IsLinked sum x) (e : Event) (ok : refusal_of x.recorded e ≡ None) (n s bytes : ℕ) (q : Outbound) (next : ℕ) (r : Gives x e n s bytes q next) (keeps : KeepsNext e) (none : SendsNone e) (no-write : is_write e ≡ false) (no-read : is_read e ≡ false) where
+  abbrev w : LinkRecord
+  w = x.recorded
 
-  abbrev v : World
-  v = abandoned x.world n
+  abbrev v : LinkRecord
+  v = after_abandon x.recorded n
 
-  quiet : Quiet x.world (after x.world e)
-  quiet = subst (Quiet x.world) (sym r.is) (Moves.quiet-abandoned x.world.setup x.world n (facts sum x l).sane)
+  quiet : Quiet x.recorded (after x.recorded e)
+  quiet = subst (Quiet x.recorded) (sym r.is) (Moves.quiet-abandoned x.recorded.setup x.recorded n (facts sum x l).sane)
 
   setup-same : v.setup ≡ w.setup
   setup-same = ap (λ u. u.setup) (abandoned-is w n)
@@ -111,7 +112,7 @@ module _ (sum : List ℕ → ℕ) (x : State) (l : IsLinked sum x) (e : Event) (
   indexed-then : Indexed (shape v) (index_kept x.progress)
   indexed-then = subst (λ u. Indexed (shape u) (index_kept x.progress)) r.is (indexed-kept sum x l e ok none)
 
-  linked-after : IsLinked sum (record x { world = v; open_streams = ls; outbound = q; next_tsn = next })
+  linked-after : IsLinked sum (record x { recorded = v; open_streams = ls; outbound = q; next_tsn = next })
   linked-after = record {
     setup = subst IsSetup (sym setup-same) l.setup;
     history = (e, reply_to w e) ∷ l.history;
@@ -132,7 +133,7 @@ module _ (sum : List ℕ → ℕ) (x : State) (l : IsLinked sum x) (e : Event) (
   }
 
   -- with the lists that a link then has
-  module _ (ms : List Message) (m m' : Message) (ss ss' : List Slot) (half : Bool) (streams : x.world.streams ≡ map stream_record x.open_streams) (em : x.world.messages ≡ map message_record ms) (ep : x.progress ≡ map progress_of ms) (es : x.world.slots ≡ map slot_record ss) (here : m ≡ slice_index_or ms n m) (took : m' ≡ record m { abandoned = true }) (half_is : half ≡ is_partially_sent x.world n) (more : ss' ≡ ss ++ marks half n m.sent) where
+  module _ (ms : List Message) (m m' : Message) (ss ss' : List Slot) (half : Bool) (streams : x.recorded.streams ≡ map stream_record x.open_streams) (em : x.recorded.messages ≡ map message_record ms) (ep : x.progress ≡ map progress_of ms) (es : x.recorded.slots ≡ map slot_record ss) (here : m ≡ slice_index_or ms n m) (took : m' ≡ record m { abandoned = true }) (half_is : half ≡ is_partially_sent x.recorded n) (more : ss' ≡ ss ++ marks half n m.sent) where
     lt : n < length ms
     lt = omega (arith, r.made, ap length em, length-mapped message_record ms)
 
@@ -153,14 +154,14 @@ module _ (sum : List ℕ → ℕ) (x : State) (l : IsLinked sum x) (e : Event) (
     taken : m' ≡ record (slice_index_or ms n m) { abandoned = true }
     taken = took ∙ ap (λ (t : Message). record t { abandoned = true }) here
 
-    pub world-given : record x.world { streams = map stream_record ls; messages = map message_record (slice_set ms n m'); slots = map slot_record ss' } ≡ abandoned x.world n
-    world-given =
-        ap (λ r. record x.world { streams = r; messages = map message_record (slice_set ms n m'); slots = map slot_record ss' }) (fields-same stream_record (less_by bytes) (λ y. refl) s x.open_streams ∙ sym streams)
-        ∙ ap (λ r. record x.world { messages = r; slots = map slot_record ss' }) (map-set message_record mark_abandoned ms n m' m lt (ap message_record taken) ∙ ap (changed mark_abandoned n) (sym em))
-        ∙ ap (λ r. record x.world { messages = changed mark_abandoned n x.world.messages; slots = r }) slots-given
-        ∙ sym (abandoned-is x.world n)
+    pub recorded-given : record x.recorded { streams = map stream_record ls; messages = map message_record (slice_set ms n m'); slots = map slot_record ss' } ≡ after_abandon x.recorded n
+    recorded-given =
+        ap (λ r. record x.recorded { streams = r; messages = map message_record (slice_set ms n m'); slots = map slot_record ss' }) (fields-same stream_record (less_by bytes) (λ y. refl) s x.open_streams ∙ sym streams)
+        ∙ ap (λ r. record x.recorded { messages = r; slots = map slot_record ss' }) (map-set message_record mark_abandoned ms n m' m lt (ap message_record taken) ∙ ap (change_at mark_abandoned n) (sym em))
+        ∙ ap (λ r. record x.recorded { messages = change_at mark_abandoned n x.recorded.messages; slots = r }) slots-given
+        ∙ sym (abandoned-is x.recorded n)
 
-    pub linked-given : IsLinked sum (record x { world = record x.world { streams = map stream_record ls; messages = map message_record (slice_set ms n m'); slots = map slot_record ss' }; open_streams = ls; progress = map progress_of (slice_set ms n m'); outbound = q; next_tsn = next })
+    pub linked-given : IsLinked sum (record x { recorded = record x.recorded { streams = map stream_record ls; messages = map message_record (slice_set ms n m'); slots = map slot_record ss' }; open_streams = ls; progress = map progress_of (slice_set ms n m'); outbound = q; next_tsn = next })
     linked-given =
-        subst (λ p. IsLinked sum (record x { world = record x.world { streams = map stream_record ls; messages = map message_record (slice_set ms n m'); slots = map slot_record ss' }; open_streams = ls; progress = p; outbound = q; next_tsn = next })) (sym (map-set_same progress_of ms n m' m (ap progress_of taken) ∙ sym ep))
-        (moved sum (record x { world = record x.world { streams = map stream_record ls; messages = map message_record (slice_set ms n m'); slots = map slot_record ss' }; open_streams = ls; outbound = q; next_tsn = next }) v world-given linked-after)
+        subst (λ p. IsLinked sum (record x { recorded = record x.recorded { streams = map stream_record ls; messages = map message_record (slice_set ms n m'); slots = map slot_record ss' }; open_streams = ls; progress = p; outbound = q; next_tsn = next })) (sym (map-set_same progress_of ms n m' m (ap progress_of taken) ∙ sym ep))
+        (moved sum (record x { recorded = record x.recorded { streams = map stream_record ls; messages = map message_record (slice_set ms n m'); slots = map slot_record ss' }; open_streams = ls; outbound = q; next_tsn = next }) v recorded-given linked-after)

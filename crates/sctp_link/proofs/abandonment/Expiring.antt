@@ -3,20 +3,20 @@ use Rattle.std.proofs.Common.{◌≡◌, ℕ, ◌+◌, ◌-◌, ◌<◌, ◌%◌
 use Rattle.std.specs.Prelude.{if◌then◌else◌, ◌==◌, ◌&&◌, not, is_some, slice_index_or, slice_set}
 use Rattle.std.specs.Option.{option_map}
 use Rattle.std.proofs.Math.Path.{subst}
-use Rattle.sctp_list_lemmas.specs.Lists.{change_where, changed}
+use Rattle.sctp_list_lemmas.specs.Lists.{change_where, change_at}
 use Rattle.sctp_list_lemmas.proofs.Edits.{length-change_where}
 use Rattle.sctp_list_lemmas.proofs.More.{length-changed}
 use Rattle.sctp_chunks.specs.declared.chunk.chunk_payload_data.ChunkPayloadData.{ChunkPayloadData}
-use Rattle.sctp_outbound.specs.pending_queue.PendingQueue.{peeked}
+use Rattle.sctp_outbound.specs.pending_queue.PendingQueue.{next_pending}
 use Rattle.sctp_outbound.specs.outbound_queue.OutboundQueue as outbound
 use Rattle.sctp_outbound.specs.outbound_queue.OutboundQueue.{Outbound, expired_of, total_bytes}
 use Rattle.sctp_model.specs.declared.event.Event.TheVariants as E
 use Rattle.sctp_model.specs.Reply as R
-use Rattle.sctp_model.specs.World.{World}
+use Rattle.sctp_model.specs.LinkRecord.{LinkRecord}
 use Rattle.sctp_model.specs.Contents.{cumulative_tsn}
 use Rattle.sctp_model.specs.Messages.{message_at, ordered_before, sent_of, tsn_of, front}
 use Rattle.sctp_model.specs.Receiver.{next_of}
-use Rattle.sctp_model.specs.Changes.{expired, expiring, mark_expired, message_changed}
+use Rattle.sctp_model.specs.Changes.{after_expire, expiring, mark_expired, message_changed}
 use Rattle.sctp_model.specs.Laws.{IsSetup}
 use Rattle.sctp_model.specs.Steps.{IsRight, StandsFor, after, reply_to, expired_reply}
 use Rattle.sctp_model.proofs.acknowledgement.Bytes.{size-some}
@@ -39,11 +39,12 @@ use Rattle.sctp_link.specs.declared.record.Message.{Message}
 use Rattle.sctp_link.specs.Places.{IsApart}
 use Rattle.sctp_link.specs.Linked.{State, IsOpenStream, IsLinked, stats_of}
 use Rattle.sctp_link.specs.Records.{message_record, progress_of, stream_record}
-use Rattle.sctp_link.proofs.upkeep.Apart.{map-set, map-set_same}
+use Rattle.sctp_link.proofs.upkeep.Apart.{map-set}
 use Rattle.sctp_link.proofs.upkeep.ChangedStreams.{fields-same, changed-at}
 use Rattle.sctp_link.proofs.upkeep.StreamPlaces.{apart-changed}
 use Rattle.sctp_link.proofs.upkeep.Facts.{facts, over, stands-then}
 use Rattle.sctp_link.proofs.upkeep.Frames.{moved, encodings-same, next-kept, held-quiet, filter-kept, begun-kept, indexed-kept, fragments-same, written-kept}
+use Rattle.sctp_transfer.proofs.StreamPlaces.{map-set_same}
 
 -- what is shown is what is past its deadline, where something is
 pub shown-past_deadline : (now : ℕ) (c : ChunkPayloadData) (o : Option ChunkPayloadData) → o ≡ Some c → is_some (outbound.passing (outbound.is_expired now) o) ≡ true → outbound.passing (outbound.is_expired now) o ≡ Some c
@@ -55,23 +56,23 @@ shown-past_deadline now c (Some d) e some = by (outbound.is_expired now d) some
     by false z = cc
 
 module _ (sum : List ℕ → ℕ) (x : State) (l : IsLinked sum x) (now : ℕ) where
-  abbrev w : World
-  w = x.world
+  abbrev w : LinkRecord
+  w = x.recorded
 
-  abbrev v : World
-  v = after x.world (E.Expire now)
+  abbrev v : LinkRecord
+  v = after x.recorded (E.Expire now)
 
-  quiet : Quiet x.world (after x.world (E.Expire now))
-  quiet = Moves.quiet-expire x.world.setup x.world now (front x.world) (facts sum x l).sane
+  quiet : Quiet x.recorded (after x.recorded (E.Expire now))
+  quiet = Moves.quiet-expire x.recorded.setup x.recorded now (front x.recorded) (facts sum x l).sane
 
-  size : 0 < x.world.setup.size
-  size = size-some x.world.setup x.world l.setup (facts sum x l).sane
+  size : 0 < x.recorded.setup.size
+  size = size-some x.recorded.setup x.recorded l.setup (facts sum x l).sane
 
   -- ## The outbound queue
 
   module _ (q : Outbound) (moves : q ≡ expired_of (outbound.expiring now x.outbound) x.outbound) where
     outbound-expired : RefinesOutbound v q
-    outbound-expired = subst (RefinesOutbound v) (sym moves) (refines-expire x.world.setup x.world now x.outbound size (facts sum x l).going l.outbound)
+    outbound-expired = subst (RefinesOutbound v) (sym moves) (refines-expire x.recorded.setup x.recorded now x.outbound size (facts sum x l).going l.outbound)
 
     unstarted-expired : x.unstarted ≡ q.next_unstarted
     unstarted-expired = l.unstarted ∙ sym (ap (λ (r : Outbound). r.next_unstarted) moves ∙ same (outbound.expiring now x.outbound))
@@ -82,48 +83,48 @@ module _ (sum : List ℕ → ℕ) (x : State) (l : IsLinked sum x) (now : ℕ) w
 
   -- ## No message expires
 
-  pub idle-right : expiring x.world now ≡ None → IsRight x.world (E.Expire now) R.Idle x.world
-  idle-right none = record { right = sym (ap (expired_reply x.world (after x.world (E.Expire now))) none); moves = sym (ap (expired x.world) none) }
+  pub idle-right : expiring x.recorded now ≡ None → IsRight x.recorded (E.Expire now) R.Idle x.recorded
+  idle-right none = record { right = sym (ap (expired_reply x.recorded (after x.recorded (E.Expire now))) none); moves = sym (ap (after_expire x.recorded) none) }
 
   -- ## A message expires
 
-  module _ (n : ℕ) (e : expiring x.world now ≡ Some n) where
+  module _ (n : ℕ) (e : expiring x.recorded now ≡ Some n) where
     -- a stream, by its amount and its count
-    stream-by : (y z : OpenStream) → IsOpenStream x.world y → (s : ℕ) → y.state.stream_identifier ≡ s → z.inbound.queue ≡ y.inbound.queue → z.state.stream_identifier ≡ s → z.state.max_payload_size ≡ y.state.max_payload_size → stats_in z ≡ stats_in y → z.begun ≡ y.begun → z.next ≡ y.next → z.ordered ≡ ordered_before v s (length v.messages) → z.state.sequence_number ≡ z.ordered % 2 ^ 16 → z.state.buffered_amount ≡ amount v s → IsOpenStream v z
+    stream-by : (y z : OpenStream) → IsOpenStream x.recorded y → (s : ℕ) → y.state.stream_identifier ≡ s → z.inbound.queue ≡ y.inbound.queue → z.state.stream_identifier ≡ s → z.state.max_payload_size ≡ y.state.max_payload_size → stats_in z ≡ stats_in y → z.begun ≡ y.begun → z.next ≡ y.next → z.ordered ≡ ordered_before v s (length v.messages) → z.state.sequence_number ≡ z.ordered % 2 ^ 16 → z.state.buffered_amount ≡ amount v s → IsOpenStream v z
     stream-by y z i s id queue id' payload stats begun next ordered number bytes =
         let f = facts sum x l in
         record {
-          held = ap (λ q. q.held) queue ∙ i.held ∙ ap (reassembly_of x.world) id ∙ sym (held-quiet sum x l (E.Expire now) refl quiet s) ∙ sym (ap (reassembly_of v) id');
+          held = ap (λ q. q.held) queue ∙ i.held ∙ ap (reassembly_of x.recorded) id ∙ sym (held-quiet sum x l (E.Expire now) refl quiet s) ∙ sym (ap (reassembly_of v) id');
           si = ap (λ q. q.si) queue ∙ i.si ∙ id ∙ sym id';
           largest = ap (λ q. q.max_message_size) queue ∙ i.largest ∙ ap (λ t. t.largest) (sym quiet.setup);
           size = payload ∙ i.size ∙ ap (λ t. t.size) (sym quiet.setup);
           ordered = ordered ∙ sym (ap (λ t. ordered_before v t (length v.messages)) id');
           number = number;
-          begun = begun ∙ i.begun ∙ ap (begun_on x.world) id ∙ sym (begun-kept sum x l (E.Expire now) refl tt s) ∙ sym (ap (begun_on v) id');
-          next = next ∙ i.next ∙ ap (next_of x.world) id ∙ sym (next-kept sum x l (E.Expire now) refl tt s) ∙ sym (ap (next_of v) id');
+          begun = begun ∙ i.begun ∙ ap (begun_on x.recorded) id ∙ sym (begun-kept sum x l (E.Expire now) refl tt s) ∙ sym (ap (begun_on v) id');
+          next = next ∙ i.next ∙ ap (next_of x.recorded) id ∙ sym (next-kept sum x l (E.Expire now) refl tt s) ∙ sym (ap (next_of v) id');
           amount = bytes ∙ sym (ap (amount v) id');
-          stats = stats ∙ i.stats ∙ ap (λ t. stats_of (counters_on x.world t)) id ∙ ap stats_of (sym (counters-same x.world.setup x.world (E.Expire now) s f.sane refl refl)) ∙ sym (ap (λ t. stats_of (counters_on v t)) id');
+          stats = stats ∙ i.stats ∙ ap (λ t. stats_of (counters_on x.recorded t)) id ∙ ap stats_of (sym (counters-same x.recorded.setup x.recorded (E.Expire now) s f.sane refl refl)) ∙ sym (ap (λ t. stats_of (counters_on v t)) id');
         }
 
-    stream-expired : (y : OpenStream) → IsOpenStream x.world y → IsOpenStream v (if (message_at x.world n).stream == y.state.stream_identifier then expired_on (not (message_at x.world n).ordered) (held_bytes x.world n) y else y)
-    stream-expired y i = by ((message_at x.world n).stream == y.state.stream_identifier) (message_at x.world n).ordered count bytes
+    stream-expired : (y : OpenStream) → IsOpenStream x.recorded y → IsOpenStream v (if (message_at x.recorded n).stream == y.state.stream_identifier then expired_on (not (message_at x.recorded n).ordered) (held_bytes x.recorded n) y else y)
+    stream-expired y i = by ((message_at x.recorded n).stream == y.state.stream_identifier) (message_at x.recorded n).ordered count bytes
       where
         left : ℕ
         left = ordered_before v y.state.stream_identifier (length v.messages)
 
-        count : left + (if ((message_at x.world n).stream == y.state.stream_identifier) && (message_at x.world n).ordered then 1 else 0) ≡ y.ordered
-        count = count-expire x.world.setup x.world now n (facts sum x l).going e y.state.stream_identifier ∙ sym i.ordered
+        count : left + (if ((message_at x.recorded n).stream == y.state.stream_identifier) && (message_at x.recorded n).ordered then 1 else 0) ≡ y.ordered
+        count = count-expire x.recorded.setup x.recorded now n (facts sum x l).going e y.state.stream_identifier ∙ sym i.ordered
 
-        bytes : amount v y.state.stream_identifier + (if (message_at x.world n).stream == y.state.stream_identifier then held_bytes x.world n else 0) ≡ y.state.buffered_amount
-        bytes = amount-expire x.world.setup x.world now n (facts sum x l).sane e y.state.stream_identifier ∙ sym i.amount
+        bytes : amount v y.state.stream_identifier + (if (message_at x.recorded n).stream == y.state.stream_identifier then held_bytes x.recorded n else 0) ≡ y.state.buffered_amount
+        bytes = amount-expire x.recorded.setup x.recorded now n (facts sum x l).sane e y.state.stream_identifier ∙ sym i.amount
 
-        by : (a o : Bool) → left + (if a && o then 1 else 0) ≡ y.ordered → amount v y.state.stream_identifier + (if a then held_bytes x.world n else 0) ≡ y.state.buffered_amount → IsOpenStream v (if a then expired_on (not o) (held_bytes x.world n) y else y)
-        by true true c b = stream-by y (expired_on false (held_bytes x.world n) y) i y.state.stream_identifier refl refl refl refl refl refl refl (omega (arith, c)) (number-lower y.state.sequence_number y.ordered (y.ordered - 1) i.number (omega (arith, c))) (omega (arith, b))
-        by true false c b = stream-by y (expired_on true (held_bytes x.world n) y) i y.state.stream_identifier refl refl refl refl refl refl refl (omega (arith, c)) i.number (omega (arith, b))
+        by : (a o : Bool) → left + (if a && o then 1 else 0) ≡ y.ordered → amount v y.state.stream_identifier + (if a then held_bytes x.recorded n else 0) ≡ y.state.buffered_amount → IsOpenStream v (if a then expired_on (not o) (held_bytes x.recorded n) y else y)
+        by true true c b = stream-by y (expired_on false (held_bytes x.recorded n) y) i y.state.stream_identifier refl refl refl refl refl refl refl (omega (arith, c)) (number-lower y.state.sequence_number y.ordered (y.ordered - 1) i.number (omega (arith, c))) (omega (arith, b))
+        by true false c b = stream-by y (expired_on true (held_bytes x.recorded n) y) i y.state.stream_identifier refl refl refl refl refl refl refl (omega (arith, c)) i.number (omega (arith, b))
         by false o c b = stream-by y y i y.state.stream_identifier refl refl refl refl refl refl refl (omega (arith, c)) i.number (omega (arith, b))
 
-    is : v ≡ message_changed x.world n mark_expired
-    is = ap (expired x.world) e
+    is : v ≡ message_changed x.recorded n mark_expired
+    is = ap (after_expire x.recorded) e
 
     number-kept : (o : Bool) (b : ℕ) (y : OpenStream) → (expired_on o b y).state.stream_identifier ≡ y.state.stream_identifier
     number-kept true b y = refl
@@ -133,7 +134,7 @@ module _ (sum : List ℕ → ℕ) (x : State) (l : IsLinked sum x) (now : ℕ) w
     record-kept true b y = refl
     record-kept false b y = refl
 
-    module _ (s bytes : ℕ) (unordered : Bool) (ls : List OpenStream) (q : Outbound) (s_is : s ≡ (message_at x.world n).stream) (kind : unordered ≡ not (message_at x.world n).ordered) (bytes_is : bytes ≡ held_bytes x.world n) (ls_is : ls ≡ change_where (has_number s) (expired_on unordered bytes) x.open_streams) (moves : q ≡ expired_of (outbound.expiring now x.outbound) x.outbound) where
+    module _ (s bytes : ℕ) (unordered : Bool) (ls : List OpenStream) (q : Outbound) (s_is : s ≡ (message_at x.recorded n).stream) (kind : unordered ≡ not (message_at x.recorded n).ordered) (bytes_is : bytes ≡ held_bytes x.recorded n) (ls_is : ls ≡ change_where (has_number s) (expired_on unordered bytes) x.open_streams) (moves : q ≡ expired_of (outbound.expiring now x.outbound) x.outbound) where
       each : (k : ℕ) (d : OpenStream) → k < length ls → IsOpenStream v (slice_index_or ls k d)
       each k d lt =
           let y = slice_index_or x.open_streams k d in
@@ -142,40 +143,40 @@ module _ (sum : List ℕ → ℕ) (x : State) (l : IsLinked sum x) (now : ℕ) w
           (sym (
           ap (λ a. slice_index_or a k d) ls_is ∙ changed-at (expired_on unordered bytes) s x.open_streams k d inside
           ∙ ap (λ t. if t == y.state.stream_identifier then expired_on unordered bytes y else y) s_is
-          ∙ ap (λ o. if (message_at x.world n).stream == y.state.stream_identifier then expired_on o bytes y else y) kind
-          ∙ ap (λ b. if (message_at x.world n).stream == y.state.stream_identifier then expired_on (not (message_at x.world n).ordered) b y else y) bytes_is
+          ∙ ap (λ o. if (message_at x.recorded n).stream == y.state.stream_identifier then expired_on o bytes y else y) kind
+          ∙ ap (λ b. if (message_at x.recorded n).stream == y.state.stream_identifier then expired_on (not (message_at x.recorded n).ordered) b y else y) bytes_is
           ))
           (stream-expired y (l.open_streams k d inside))
 
-      sents-same : (o : Option ℕ) (k : ℕ) → sent_of (expired x.world o) k ≡ sent_of x.world k
+      sents-same : (o : Option ℕ) (k : ℕ) → sent_of (after_expire x.recorded o) k ≡ sent_of x.recorded k
       sents-same None k = refl
       sents-same (Some j) k = refl
 
-      count-same : (o : Option ℕ) → length (expired x.world o).messages ≡ length x.world.messages
+      count-same : (o : Option ℕ) → length (after_expire x.recorded o).messages ≡ length x.recorded.messages
       count-same None = refl
-      count-same (Some j) = length-changed mark_expired j x.world.messages
+      count-same (Some j) = length-changed mark_expired j x.recorded.messages
 
-      next-same : (o : Option ℕ) → tsn_of x.world (length x.world.slots) ≡ tsn_of (expired x.world o) (length (expired x.world o).slots)
+      next-same : (o : Option ℕ) → tsn_of x.recorded (length x.recorded.slots) ≡ tsn_of (after_expire x.recorded o) (length (after_expire x.recorded o).slots)
       next-same None = refl
       next-same (Some j) = refl
 
-      limit-same : (o : Option ℕ) → (expired x.world o).setup ≡ x.world.setup
+      limit-same : (o : Option ℕ) → (after_expire x.recorded o).setup ≡ x.recorded.setup
       limit-same None = refl
       limit-same (Some j) = refl
 
-      linked-after : IsLinked sum (record x { world = message_changed x.world n mark_expired; open_streams = ls; outbound = q })
-      linked-after = subst (λ u. IsLinked sum (record x { world = u; open_streams = ls; outbound = q })) is (record {
-        setup = subst (λ t. IsSetup t) (sym (limit-same (expiring x.world now))) l.setup;
-        history = (E.Expire now, reply_to x.world (E.Expire now)) ∷ l.history;
-        stands = subst (λ t. StandsFor t v ((E.Expire now, reply_to x.world (E.Expire now)) ∷ l.history)) (sym (limit-same (expiring x.world now))) (stands-then x.world.setup x.world l.history (E.Expire now) refl l.stands);
+      linked-after : IsLinked sum (record x { recorded = message_changed x.recorded n mark_expired; open_streams = ls; outbound = q })
+      linked-after = subst (λ u. IsLinked sum (record x { recorded = u; open_streams = ls; outbound = q })) is (record {
+        setup = subst (λ t. IsSetup t) (sym (limit-same (expiring x.recorded now))) l.setup;
+        history = (E.Expire now, reply_to x.recorded (E.Expire now)) ∷ l.history;
+        stands = subst (λ t. StandsFor t v ((E.Expire now, reply_to x.recorded (E.Expire now)) ∷ l.history)) (sym (limit-same (expiring x.recorded now))) (stands-then x.recorded.setup x.recorded l.history (E.Expire now) refl l.stands);
         outbound = outbound-expired q moves;
         unstarted = unstarted-expired q moves;
         filter = l.filter ∙ sym (filter-kept sum x l (E.Expire now) refl quiet);
-        next = l.next ∙ next-same (expiring x.world now);
+        next = l.next ∙ next-same (expiring x.recorded now);
         acked = l.acked ∙ ap (λ u. cumulative_tsn u u.taken) (sym is);
         fragments = l.fragments ∙ sym (fragments-same sum x l (E.Expire now) refl refl);
         written = l.written ∙ sym (written-kept sum x l (E.Expire now) refl refl);
-        sents = λ k lt. l.sents k (omega (arith, lt, count-same (expiring x.world now))) ∙ sym (sents-same (expiring x.world now) k);
+        sents = λ k lt. l.sents k (omega (arith, lt, count-same (expiring x.recorded now))) ∙ sym (sents-same (expiring x.recorded now) k);
         indexes = (indexed-kept sum x l (E.Expire now) refl tt).is;
         low = l.low;
         open_streams = each;
@@ -183,31 +184,31 @@ module _ (sum : List ℕ → ℕ) (x : State) (l : IsLinked sum x) (now : ℕ) w
         encodings = encodings-same sum x l (E.Expire now) refl (ap (λ u. u.network) is);
       })
 
-      module _ (ms : List Message) (m' d : Message) (streams : x.world.streams ≡ map stream_record x.open_streams) (em : x.world.messages ≡ map message_record ms) (ep : x.progress ≡ map progress_of ms) (lt : n < length ms) (took : m' ≡ record (slice_index_or ms n d) { expired = true }) where
-        world-expired : record x.world { streams = map stream_record ls; messages = map message_record (slice_set ms n m') } ≡ message_changed x.world n mark_expired
-        world-expired =
-            ap (λ r. record x.world { streams = r; messages = map message_record (slice_set ms n m') }) (ap (map stream_record) ls_is ∙ fields-same stream_record (expired_on unordered bytes) (record-kept unordered bytes) s x.open_streams ∙ sym streams)
-            ∙ ap (λ r. record x.world { messages = r }) (map-set message_record mark_expired ms n m' d lt (ap message_record took) ∙ ap (changed mark_expired n) (sym em))
+      module _ (ms : List Message) (m' d : Message) (streams : x.recorded.streams ≡ map stream_record x.open_streams) (em : x.recorded.messages ≡ map message_record ms) (ep : x.progress ≡ map progress_of ms) (lt : n < length ms) (took : m' ≡ record (slice_index_or ms n d) { expired = true }) where
+        recorded-expired : record x.recorded { streams = map stream_record ls; messages = map message_record (slice_set ms n m') } ≡ message_changed x.recorded n mark_expired
+        recorded-expired =
+            ap (λ r. record x.recorded { streams = r; messages = map message_record (slice_set ms n m') }) (ap (map stream_record) ls_is ∙ fields-same stream_record (expired_on unordered bytes) (record-kept unordered bytes) s x.open_streams ∙ sym streams)
+            ∙ ap (λ r. record x.recorded { messages = r }) (map-set message_record mark_expired ms n m' d lt (ap message_record took) ∙ ap (change_at mark_expired n) (sym em))
 
-        pub linked-expired : IsLinked sum (record x { world = record x.world { streams = map stream_record ls; messages = map message_record (slice_set ms n m') }; open_streams = ls; progress = map progress_of (slice_set ms n m'); outbound = q })
+        pub linked-expired : IsLinked sum (record x { recorded = record x.recorded { streams = map stream_record ls; messages = map message_record (slice_set ms n m') }; open_streams = ls; progress = map progress_of (slice_set ms n m'); outbound = q })
         linked-expired =
-            subst (λ p. IsLinked sum (record x { world = record x.world { streams = map stream_record ls; messages = map message_record (slice_set ms n m') }; open_streams = ls; progress = p; outbound = q })) (sym (map-set_same progress_of ms n m' d (ap progress_of took) ∙ sym ep))
-            (moved sum (record x { world = record x.world { streams = map stream_record ls; messages = map message_record (slice_set ms n m') }; open_streams = ls; outbound = q }) (message_changed x.world n mark_expired) world-expired linked-after)
+            subst (λ p. IsLinked sum (record x { recorded = record x.recorded { streams = map stream_record ls; messages = map message_record (slice_set ms n m') }; open_streams = ls; progress = p; outbound = q })) (sym (map-set_same progress_of ms n m' d (ap progress_of took) ∙ sym ep))
+            (moved sum (record x { recorded = record x.recorded { streams = map stream_record ls; messages = map message_record (slice_set ms n m') }; open_streams = ls; outbound = q }) (message_changed x.recorded n mark_expired) recorded-expired linked-after)
 
-        pub moves-expired : record x.world { streams = map stream_record ls; messages = map message_record (slice_set ms n m') } ≡ v
-        moves-expired = world-expired ∙ sym is
+        pub moves-expired : record x.recorded { streams = map stream_record ls; messages = map message_record (slice_set ms n m') } ≡ v
+        moves-expired = recorded-expired ∙ sym is
 
   -- ## What the queue answered
 
   -- the message that begins with the chunk expires, and so many bytes leave
   pub record Expires (c : ChunkPayloadData) (bytes : ℕ) : Type 0 where
     pub shown : outbound.expiring now x.outbound ≡ Some c
-    pub is : expiring x.world now ≡ Some c.message_id
-    pub made : c.message_id < length x.world.messages
-    pub stream : c.stream_identifier ≡ (message_at x.world c.message_id).stream
-    pub kind : c.unordered ≡ not (message_at x.world c.message_id).ordered
-    pub held : bytes ≡ held_bytes x.world c.message_id
-    pub right : R.Expired c.stream_identifier bytes ≡ reply_to x.world (E.Expire now)
+    pub is : expiring x.recorded now ≡ Some c.message_id
+    pub made : c.message_id < length x.recorded.messages
+    pub stream : c.stream_identifier ≡ (message_at x.recorded c.message_id).stream
+    pub kind : c.unordered ≡ not (message_at x.recorded c.message_id).ordered
+    pub held : bytes ≡ held_bytes x.recorded c.message_id
+    pub right : R.Expired c.stream_identifier bytes ≡ reply_to x.recorded (E.Expire now)
 
   abbrev told : Option (ℕ × Bool × ℕ) → Option (ℕ × Bool)
   told = option_map {U = ℕ × Bool} (λ a. (a.0, a.1))
@@ -215,42 +216,42 @@ module _ (sum : List ℕ → ℕ) (x : State) (l : IsLinked sum x) (now : ℕ) w
   abbrev kinds : Option ChunkPayloadData → Option (ℕ × Bool)
   kinds = option_map {U = ℕ × Bool} (λ c. (c.stream_identifier, c.unordered))
 
-  none-expires : outbound.expiring now x.outbound ≡ None → expiring x.world now ≡ None
-  none-expires e = tells x.world.setup x.world now x.outbound None size (facts sum x l).going l.outbound (sym (ap kinds e))
+  none-expires : outbound.expiring now x.outbound ≡ None → expiring x.recorded now ≡ None
+  none-expires e = tells x.recorded.setup x.recorded now x.outbound None size (facts sum x l).going l.outbound (sym (ap kinds e))
 
-  pub none-waits : peeked x.outbound.pending ≡ None → expiring x.world now ≡ None
+  pub none-waits : next_pending x.outbound.pending ≡ None → expiring x.recorded now ≡ None
   none-waits e = none-expires (ap (outbound.passing (outbound.is_expired now)) e)
 
-  pub none-past_deadline : is_some (outbound.expiring now x.outbound) ≡ false → expiring x.world now ≡ None
+  pub none-past_deadline : is_some (outbound.expiring now x.outbound) ≡ false → expiring x.recorded now ≡ None
   none-past_deadline e = by (outbound.expiring now x.outbound) refl e
     where
-      by : (o : Option ChunkPayloadData) → outbound.expiring now x.outbound ≡ o → is_some o ≡ false → expiring x.world now ≡ None
+      by : (o : Option ChunkPayloadData) → outbound.expiring now x.outbound ≡ o → is_some o ≡ false → expiring x.recorded now ≡ None
       by None h z = none-expires h
       by (Some c) h z = cc
 
-  pub expires : (c : ChunkPayloadData) (bytes : ℕ) (q : Outbound) → peeked x.outbound.pending ≡ Some c → is_some (outbound.expiring now x.outbound) ≡ true → total_bytes q + bytes ≡ total_bytes x.outbound → q ≡ expired_of (Some c) x.outbound → Expires c bytes
+  pub expires : (c : ChunkPayloadData) (bytes : ℕ) (q : Outbound) → next_pending x.outbound.pending ≡ Some c → is_some (outbound.expiring now x.outbound) ≡ true → total_bytes q + bytes ≡ total_bytes x.outbound → q ≡ expired_of (Some c) x.outbound → Expires c bytes
   expires c bytes q front some left takes =
       let f = facts sum x l in
       let a : ℕ × Bool × ℕ = (c.stream_identifier, c.unordered, bytes) in
-      let past_deadline : outbound.expiring now x.outbound ≡ Some c = shown-past_deadline now c (peeked x.outbound.pending) front some in
+      let past_deadline : outbound.expiring now x.outbound ≡ Some c = shown-past_deadline now c (next_pending x.outbound.pending) front some in
       let answer : told (Some a) ≡ kinds (outbound.expiring now x.outbound) = sym (ap kinds past_deadline) in
       let moves : q ≡ expired_of (outbound.expiring now x.outbound) x.outbound = takes ∙ ap (λ o. expired_of o x.outbound) (sym past_deadline) in
-      let t : Tells x.world now a.0 a.1 = tells x.world.setup x.world now x.outbound (Some a) size f.going l.outbound answer in
-      let own : t.number ≡ c.message_id = ap (λ (d : ChunkPayloadData). d.message_id) (inner (sym (peeked-is x.world.setup x.world now t.number x.outbound f.going l.outbound t.is) ∙ front)) in
-      let is : expiring x.world now ≡ Some c.message_id = t.is ∙ ap Some own in
+      let t : Tells x.recorded now a.0 a.1 = tells x.recorded.setup x.recorded now x.outbound (Some a) size f.going l.outbound answer in
+      let own : t.number ≡ c.message_id = ap (λ (d : ChunkPayloadData). d.message_id) (inner (sym (peeked-is x.recorded.setup x.recorded now t.number x.outbound f.going l.outbound t.is) ∙ front)) in
+      let is : expiring x.recorded now ≡ Some c.message_id = t.is ∙ ap Some own in
       record {
         shown = past_deadline;
         is = is;
-        made = (front-takes (shape x.world) c.message_id f.sane.sender (expiring-front x.world now c.message_id is).0).made;
-        stream = peeked-stream x.world.setup x.world x.outbound c f.going l.outbound front;
-        kind = sym t.kind ∙ ap (λ k. not (message_at x.world k).ordered) own;
+        made = (front-takes (shape x.recorded) c.message_id f.sane.sender (expiring-front x.recorded now c.message_id is).0).made;
+        stream = peeked-stream x.recorded.setup x.recorded x.outbound c f.going l.outbound front;
+        kind = sym t.kind ∙ ap (λ k. not (message_at x.recorded k).ordered) own;
         held =
             over sum x (λ u. (q r : Outbound) → RefinesOutbound u q → r ≡ expired_of (outbound.expiring now q) q → total_bytes r + a.2 ≡ total_bytes q → expiring u now ≡ Some c.message_id → a.2 ≡ held_bytes u c.message_id) l
-            (λ q r t m b i. bytes-expire x.world.setup l.history l.setup l.stands.run now c.message_id q r (Some a) t m b i)
+            (λ q r t m b i. bytes-expire x.recorded.setup l.history l.setup l.stands.run now c.message_id q r (Some a) t m b i)
             x.outbound q l.outbound moves left is;
         right =
             over sum x (λ u. (q r : Outbound) → RefinesOutbound u q → r ≡ expired_of (outbound.expiring now q) q → told (Some a) ≡ kinds (outbound.expiring now q) → total_bytes r + a.2 ≡ total_bytes q → R.Expired a.0 a.2 ≡ reply_to u (E.Expire now)) l
-            (λ q r t m b i. reply-expire x.world.setup l.history l.setup l.stands.run now q r (Some a) t m b i)
+            (λ q r t m b i. reply-expire x.recorded.setup l.history l.setup l.stands.run now q r (Some a) t m b i)
             x.outbound q l.outbound moves answer left;
       }
     where

@@ -10,7 +10,7 @@ use Rattle.std.proofs.lemmas.Bool.Decides.{nat_tests}
 use Rattle.sctp_list_lemmas.proofs.More.{both}
 use Rattle.sctp_outbound.specs.outbound_queue.OutboundQueue.{late_tsns}
 use Rattle.sctp_model.specs.declared.event.Event.TheVariants as E
-use Rattle.sctp_model.specs.World.{World}
+use Rattle.sctp_model.specs.LinkRecord.{LinkRecord}
 use Rattle.sctp_model.specs.Messages.{is_in_flight, is_partially_sent, place_of}
 use Rattle.sctp_model.specs.Amounts.{growth}
 use Rattle.sctp_model.specs.Reply as R
@@ -33,18 +33,18 @@ pub found-none : (p : ℕ → Bool) (ts : List ℕ) (i : ℕ) → length ts ≤ 
 found-none p ts i le h = sym (h ∙ ap (find p) (drop_of_length-le ts le))
 
 -- the place of a TSN in flight
-pub place-made : (w : World) (t : ℕ) → is_in_flight w (place_of w t) ≡ true → place_of w t < length w.slots
+pub place-made : (w : LinkRecord) (t : ℕ) → is_in_flight w (place_of w t) ≡ true → place_of w t < length w.slots
 place-made w t e = let a = (both (nat_le w.taken (place_of w t)) (nat_lt (place_of w t) (length w.slots)) e).1 in grind (arith, nat_tests)
 
 -- the bytes that leave are few
-pub turn-few : (w v : World) → IsTurn w v → growth w v < 2 ^ 47
+pub turn-few : (w v : LinkRecord) → IsTurn w v → growth w v < 2 ^ 47
 turn-few w v t =
     let is : IsSetup v.setup = subst IsSetup (sym t.abandoning.first) t.setup in
     omega (arith, turn-written w v t, written-few w.setup v is t.abandoning.sane)
 
 module _ (sum : List ℕ → ℕ) (x : State) (l : IsLinked sum x) (now : ℕ) (ts : List ℕ) (listed : ts ≡ late_tsns now x.outbound) where
-  abbrev w : World
-  w = x.world
+  abbrev w : LinkRecord
+  w = x.recorded
 
   pub fly : list_all (λ t. is_in_flight w (place_of w t)) ts ≡ true
   fly = late-fly w now x.outbound ts l.setup (facts sum x l).sane (facts sum x l).taken l.outbound listed
@@ -62,5 +62,5 @@ module _ (sum : List ℕ → ℕ) (x : State) (l : IsLinked sum x) (now : ℕ) (
   pub begun : (o : Option ℕ) (bytes : ℕ) → o ≡ find (λ t. is_partially_sent w (message_of_tsn w t)) ts → bytes ≡ growth w (abandoned_tsn w o) → GivesInTurn w (abandoned_tsn w o) o ts 0 bytes
   begun o bytes e b = begins w ts o fly bytes l.setup (facts sum x l).sane e b
 
-  pub done : (v : World) (o : Option ℕ) (bytes : ℕ) → o ≡ find (λ t. is_partially_sent w (message_of_tsn w t)) ts → GivesInTurn w v o ts (length ts) bytes → IsRight w (E.Late now) (R.Late (length ts) bytes) v
+  pub done : (v : LinkRecord) (o : Option ℕ) (bytes : ℕ) → o ≡ find (λ t. is_partially_sent w (message_of_tsn w t)) ts → GivesInTurn w v o ts (length ts) bytes → IsRight w (E.Late now) (R.Late (length ts) bytes) v
   done v o bytes e i = late-done w now x.outbound ts l.setup (facts sum x l).sane (facts sum x l).taken l.outbound listed v o bytes e i

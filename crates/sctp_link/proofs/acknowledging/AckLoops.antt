@@ -6,34 +6,28 @@ use Rattle.std.proofs.lemmas.Bool.{cases_lt, cases_eq, eq-eqb, ne_eqb, lt-ltb, l
 use Rattle.std.proofs.lemmas.List.{get_or-set_same, get_or-set_other}
 use Rattle.sctp_list_lemmas.proofs.More.{same_test}
 use Rattle.sctp_chunks.specs.declared.chunk.chunk_selective_ack.GapAckBlock.{GapAckBlock}
-use Rattle.sctp_model.specs.World as W
-use Rattle.sctp_model.specs.World.{World}
+use Rattle.sctp_model.specs.LinkRecord as W
+use Rattle.sctp_model.specs.LinkRecord.{LinkRecord}
 use Rattle.sctp_model.specs.Messages.{slot_at}
 use Rattle.sctp_link.specs.declared.record.Slot.{Slot}
 use Rattle.sctp_link.specs.Records.{slot_record}
 use Rattle.sctp_link.specs.Acking.{IsMarking, and_one, and_run, and_blocks, in_block}
+use Rattle.sctp_list_lemmas.proofs.Edits.{or_assoc}
+use Rattle.sctp_list_lemmas.proofs.Cases.{or-none, or-true, and-none}
 
 -- ## Tests that agree
 
 -- what is acknowledged may be told by another test that agrees
-pub marking-same : (w : World) (s t : ℕ → Bool) (slots : List Slot) → ((k : ℕ) → s k ≡ t k) → IsMarking w s slots → IsMarking w t slots
+pub marking-same : (w : LinkRecord) (s t : ℕ → Bool) (slots : List Slot) → ((k : ℕ) → s k ≡ t k) → IsMarking w s slots → IsMarking w t slots
 marking-same w s t slots same i = record { count = i.count; slots = λ k d lt. i.slots k d lt ∙ ap (acknowledged_if (slot_at w k)) (same k) }
   where
     acknowledged_if : W.Slot → Bool → W.Slot
     acknowledged_if x b = record x { acknowledged = b }
 
-or-true : (a : Bool) → (a || true) ≡ true
-or-true true = refl
-or-true false = refl
-
-or-false : (a : Bool) → (a || false) ≡ a
-or-false true = refl
-or-false false = refl
-
 -- ## One slot
 
 -- the slot is marked
-slots-marked : (w : World) (acked : ℕ → Bool) (slots : List Slot) (p : ℕ) (r : Slot) → p < length slots → ((k : ℕ) (d : Slot) → k < length slots → slot_record (slice_index_or slots k d) ≡ record (slot_at w k) { acknowledged = acked k })
+slots-marked : (w : LinkRecord) (acked : ℕ → Bool) (slots : List Slot) (p : ℕ) (r : Slot) → p < length slots → ((k : ℕ) (d : Slot) → k < length slots → slot_record (slice_index_or slots k d) ≡ record (slot_at w k) { acknowledged = acked k })
     → (k : ℕ) (d : Slot) → k < length (set slots p (record (get_or slots p r) { acknowledged = true })) → slot_record (slice_index_or (set slots p (record (get_or slots p r) { acknowledged = true })) k d) ≡ record (slot_at w k) { acknowledged = and_one acked p k }
 slots-marked w acked slots p r lt i k d within = elim (cases_eq k p) [
   | inl same ↦
@@ -45,7 +39,7 @@ slots-marked w acked slots p r lt i k d within = elim (cases_eq k p) [
   | inr other ↦
       ap slot_record (get_or-set_other slots p k marked d other)
       ∙ i k d (omega (arith, within, length-set slots p marked))
-      ∙ ap (λ b. with_mark b (slot_at w k)) (sym (ap (λ b. acked k || b) (ne_eqb k p other) ∙ or-false (acked k)))
+      ∙ ap (λ b. with_mark b (slot_at w k)) (sym (ap (λ b. acked k || b) (ne_eqb k p other) ∙ or-none (acked k)))
 ]
   where
     marked : Slot
@@ -58,7 +52,7 @@ slots-marked w acked slots p r lt i k d within = elim (cases_eq k p) [
     acknowledged' x = record x { acknowledged = true }
 
 -- the slots, with this one acknowledged too
-pub marking-one : (w : World) (acked : ℕ → Bool) (slots : List Slot) (p : ℕ) (r : Slot) → p < length slots → IsMarking w acked slots → IsMarking w (and_one acked p) (set slots p (record (get_or slots p r) { acknowledged = true }))
+pub marking-one : (w : LinkRecord) (acked : ℕ → Bool) (slots : List Slot) (p : ℕ) (r : Slot) → p < length slots → IsMarking w acked slots → IsMarking w (and_one acked p) (set slots p (record (get_or slots p r) { acknowledged = true }))
 marking-one w acked slots p r lt i = record { count = length-set slots p _ ∙ i.count; slots = slots-marked w acked slots p r lt i.slots }
 
 -- ## A run of slots
@@ -66,23 +60,15 @@ marking-one w acked slots p r lt i = record { count = length-set slots p _ ∙ i
 join : (l a b c a' b' c' : Bool) → a ≡ a' → b ≡ b' → c ≡ c' → ((l && a') || b') ≡ (l && c') → ((l && a) || b) ≡ (l && c)
 join l a b c a' b' c' e f g h = rw (e, f, g) h
 
-and-false : (l : Bool) → (l && false) ≡ false
-and-false true = refl
-and-false false = refl
-
-or-assoc : (a b c : Bool) → ((a || b) || c) ≡ (a || (b || c))
-or-assoc true b c = refl
-or-assoc false b c = refl
-
 -- one slot more at its end
 pub run-more : (acked : ℕ → Bool) (from p : ℕ) → from ≤ p → (k : ℕ) → and_one (and_run acked from p) p k ≡ and_run acked from (p + 1) k
 run-more acked from p le k =
-    or-assoc (acked k) (nat_le from k && nat_lt k p) (k == p)
+    or_assoc (acked k) (nat_le from k && nat_lt k p) (k == p)
     ∙ ap (λ b. acked k || b) (elim (cases_lt k p) [
-      | inl low ↦ join (nat_le from k) (nat_lt k p) (k == p) (nat_lt k (p + 1)) true false true (lt-ltb k p low) (ne_eqb k p (λ e. omega (arith, low, e))) (lt-ltb k (p + 1) (omega (arith, low))) (or-false (nat_le from k && true))
+      | inl low ↦ join (nat_le from k) (nat_lt k p) (k == p) (nat_lt k (p + 1)) true false true (lt-ltb k p low) (ne_eqb k p (λ e. omega (arith, low, e))) (lt-ltb k (p + 1) (omega (arith, low))) (or-none (nat_le from k && true))
       | inr high ↦ elim (cases_eq k p) [
         | inl same ↦ here (nat_le from k) (nat_lt k p) (k == p) (nat_lt k (p + 1)) (le-leb from k (omega (arith, le, high))) (le-ltb k p high) (eq-eqb k p same) (lt-ltb k (p + 1) (omega (arith, same)))
-        | inr other ↦ join (nat_le from k) (nat_lt k p) (k == p) (nat_lt k (p + 1)) false false false (le-ltb k p high) (ne_eqb k p other) (le-ltb k (p + 1) (past high other)) (or-false (nat_le from k && false))
+        | inr other ↦ join (nat_le from k) (nat_lt k p) (k == p) (nat_lt k (p + 1)) false false false (le-ltb k p high) (ne_eqb k p other) (le-ltb k (p + 1) (past high other)) (or-none (nat_le from k && false))
       ]
     ])
   where
@@ -102,11 +88,11 @@ no-run from p k le = elim (cases_lt k from) [
     below a b e = rw e refl
 
     above : (a b : Bool) → b ≡ false → (a && b) ≡ false
-    above a b e = rw e (and-false a)
+    above a b e = rw e (and-none a)
 
 -- none yet
 pub run-none : (acked : ℕ → Bool) (from k : ℕ) → acked k ≡ and_run acked from from k
-run-none acked from k = sym (ap (λ b. acked k || b) (no-run from from k (omega arith)) ∙ or-false (acked k))
+run-none acked from k = sym (ap (λ b. acked k || b) (no-run from from k (omega arith)) ∙ or-none (acked k))
 
 -- all of them
 pub run-all : (acked : ℕ → Bool) (from p to : ℕ) → to ≤ p → p ≤ max from to → (k : ℕ) → and_run acked from p k ≡ and_run acked from to k
@@ -119,8 +105,8 @@ run-all acked from p to le reach k = elim (cases_lt to from) [
 
 any-suc : {X : Type 0} (p : X → Bool) (xs : List X) (i : ℕ) (d : X) → i < length xs → list_any p (take (suc i) xs) ≡ (list_any p (take i xs) || p (get_or xs i d))
 any-suc p [] i d lt = absurd (omega (arith, lt))
-any-suc p (x ∷ xs) zero d lt = or-false (p x)
-any-suc p (x ∷ xs) (suc i) d lt = ap (λ b. p x || b) (any-suc p xs i d (omega (arith, lt))) ∙ sym (or-assoc (p x) (list_any p (take i xs)) (p (get_or xs i d)))
+any-suc p (x ∷ xs) zero d lt = or-none (p x)
+any-suc p (x ∷ xs) (suc i) d lt = ap (λ b. p x || b) (any-suc p xs i d (omega (arith, lt))) ∙ sym (or_assoc (p x) (list_any p (take i xs)) (p (get_or xs i d)))
 
 any-more : {X : Type 0} (p : X → Bool) (xs : List X) (i : ℕ) (d : X) → i < length xs → list_any p (take (i + 1) xs) ≡ (list_any p (take i xs) || p (get_or xs i d))
 any-more p xs i d lt = rw add-one (any-suc p xs i d lt)
@@ -139,7 +125,7 @@ run-is cumulative k b =
 pub block-more : (acked : ℕ → Bool) (cumulative : ℕ) (bs : List GapAckBlock) (i : ℕ) (d : GapAckBlock) → i < length bs → (k : ℕ) → and_run (and_blocks acked cumulative (take i bs)) (cumulative + (slice_index_or bs i d).start - 1) (cumulative + (slice_index_or bs i d).end) k ≡ and_blocks acked cumulative (take (i + 1) bs) k
 block-more acked cumulative bs i d lt k =
     ap (λ b. (acked k || list_any (in_block cumulative k) (take i bs)) || b) (run-is cumulative k (slice_index_or bs i d))
-    ∙ or-assoc (acked k) (list_any (in_block cumulative k) (take i bs)) (in_block cumulative k (slice_index_or bs i d))
+    ∙ or_assoc (acked k) (list_any (in_block cumulative k) (take i bs)) (in_block cumulative k (slice_index_or bs i d))
     ∙ ap (λ b. acked k || b) (sym (any-more (in_block cumulative k) bs i d lt))
 
 -- its last slot is one that it reports

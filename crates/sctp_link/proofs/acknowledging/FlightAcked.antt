@@ -5,48 +5,48 @@ use Rattle.std.specs.List.{list_any}
 use Rattle.std.proofs.Math.Path.{subst}
 use Rattle.std.proofs.lemmas.Bool.{cases_lt, lt-ltb, le-ltb, le-leb, leb-true}
 use Rattle.sctp_list_lemmas.specs.Lists.{change_where}
-use Rattle.sctp_list_lemmas.specs.Kept.{kept, always}
+use Rattle.sctp_list_lemmas.specs.Kept.{numbers_where, always}
 use Rattle.sctp_list_lemmas.specs.Serial.{distance, comes_before, at_or_before}
 use Rattle.sctp_list_lemmas.proofs.More.{same_test}
 use Rattle.sctp_list_lemmas.proofs.Distances.{not_before_from, before_irrefl}
 use Rattle.sctp_chunks.specs.declared.chunk.chunk_payload_data.ChunkPayloadData.{ChunkPayloadData}
 use Rattle.sctp_chunks.specs.declared.chunk.chunk_selective_ack.GapAckBlock.{GapAckBlock}
 use Rattle.sctp_chunks.specs.SelectiveAck.{Sack}
-use Rattle.sctp_outbound.specs.Marks.{acknowledged}
-use Rattle.sctp_outbound.specs.payload_queue.Blocks.{covered}
+use Rattle.sctp_outbound.specs.Marks.{as_acknowledged}
+use Rattle.sctp_outbound.specs.payload_queue.Blocks.{is_in_blocks}
 use Rattle.sctp_outbound.specs.payload_queue.PayloadQueue.{past}
 use Rattle.sctp_transfer.specs.Flight.{reports, reports_anew}
-use Rattle.sctp_model.specs.World.{World}
+use Rattle.sctp_model.specs.LinkRecord.{LinkRecord}
 use Rattle.sctp_model.specs.Messages.{tsn_of}
 use Rattle.sctp_model.specs.Contents.{cumulative_tsn}
 use Rattle.sctp_refinement.specs.Refines.{Sending, sending_of, sending_by, IsInFlight}
-use Rattle.sctp_refinement.proofs.acknowledging.Acked.{first_of', rest_of'}
 use Rattle.sctp_link.specs.Acking.{in_block}
+use Rattle.sctp_refinement.proofs.sending.InFlight.{head_of, tail_of}
 
 -- ## Distances
 
 -- from the last TSN before a place to that of a slot
-far : (w : World) (top k : ℕ) → w.setup.first < 2 ^ 32 → top ≤ k → k < 2 ^ 31 → distance (cumulative_tsn w top) (tsn_of w k) ≡ k + 1 - top
+far : (w : LinkRecord) (top k : ℕ) → w.setup.first < 2 ^ 32 → top ≤ k → k < 2 ^ 31 → distance (cumulative_tsn w top) (tsn_of w k) ≡ k + 1 - top
 unfolding distance
 far w top k first le short = omega (arith, first, le, short)
 
 -- from one cumulative TSN to a later one
-pub between : (w : World) (from top : ℕ) → w.setup.first < 2 ^ 32 → from ≤ top → top < 2 ^ 31 → distance (cumulative_tsn w from) (cumulative_tsn w top) ≡ top - from
+pub between : (w : LinkRecord) (from top : ℕ) → w.setup.first < 2 ^ 32 → from ≤ top → top < 2 ^ 31 → distance (cumulative_tsn w from) (cumulative_tsn w top) ≡ top - from
 unfolding distance
 between w from top first le short = omega (arith, first, le, short)
 
-back : (w : World) (from top : ℕ) → w.setup.first < 2 ^ 32 → from < top → top < 2 ^ 31 → 2 ^ 31 ≤ distance (cumulative_tsn w top) (cumulative_tsn w from)
+back : (w : LinkRecord) (from top : ℕ) → w.setup.first < 2 ^ 32 → from < top → top < 2 ^ 31 → 2 ^ 31 ≤ distance (cumulative_tsn w top) (cumulative_tsn w from)
 unfolding distance
 back w from top first lt short = omega (arith, first, lt, short)
 
 -- the later one is not out of date
-pub up-to-date : (w : World) (from top : ℕ) → w.setup.first < 2 ^ 32 → from ≤ top → top < 2 ^ 31 → comes_before (cumulative_tsn w top) (cumulative_tsn w from) ≡ false
+pub up-to-date : (w : LinkRecord) (from top : ℕ) → w.setup.first < 2 ^ 32 → from ≤ top → top < 2 ^ 31 → comes_before (cumulative_tsn w top) (cumulative_tsn w from) ≡ false
 up-to-date w from top first le short = elim (cases_lt from top) [
   | inl lt ↦ not_before_from (cumulative_tsn w top) (cumulative_tsn w from) (back w from top first lt short)
   | inr ge ↦ let same : from ≡ top = omega (arith, le, ge) in ap (λ n. comes_before (cumulative_tsn w top) (cumulative_tsn w n)) same ∙ before_irrefl (cumulative_tsn w top) (omega arith)
 ]
 
-at-top : (w : World) (top k : ℕ) → w.setup.first < 2 ^ 32 → top < 2 ^ 31 → k < 2 ^ 31 → at_or_before (tsn_of w k) (cumulative_tsn w top) ≡ nat_lt k top
+at-top : (w : LinkRecord) (top k : ℕ) → w.setup.first < 2 ^ 32 → top < 2 ^ 31 → k < 2 ^ 31 → at_or_before (tsn_of w k) (cumulative_tsn w top) ≡ nat_lt k top
 unfolding at_or_before distance
 at-top w top k first short near = elim (cases_lt k top) [
   | inl lt ↦ lt-ltb _ _ (omega (arith, first, short, near, lt)) ∙ sym (lt-ltb k top lt)
@@ -56,11 +56,11 @@ at-top w top k first short near = elim (cases_lt k top) [
 -- ## What a SACK reports
 
 -- a slot beyond the cumulative TSN lies in a block by its distance
-pub covered-at : (top k : ℕ) (bs : List GapAckBlock) → top ≤ k → covered bs (k + 1 - top) ≡ list_any (in_block top k) bs
+pub covered-at : (top k : ℕ) (bs : List GapAckBlock) → top ≤ k → is_in_blocks bs (k + 1 - top) ≡ list_any (in_block top k) bs
 covered-at top k [] le = refl
 covered-at top k (b ∷ bs) le =
-    ap (λ t. (t && nat_le (k + 1 - top) b.end) || covered bs (k + 1 - top)) (same_test (nat_le b.start (k + 1 - top)) (nat_le (top + b.start) (k + 1)) (λ e. le-leb _ _ (omega (arith, le, leb-true _ _ e))) (λ e. le-leb _ _ (omega (arith, le, leb-true _ _ e))))
-    ∙ ap (λ t. (nat_le (top + b.start) (k + 1) && t) || covered bs (k + 1 - top)) (same_test (nat_le (k + 1 - top) b.end) (nat_le (k + 1) (top + b.end)) (λ e. le-leb _ _ (omega (arith, le, leb-true _ _ e))) (λ e. le-leb _ _ (omega (arith, le, leb-true _ _ e))))
+    ap (λ t. (t && nat_le (k + 1 - top) b.end) || is_in_blocks bs (k + 1 - top)) (same_test (nat_le b.start (k + 1 - top)) (nat_le (top + b.start) (k + 1)) (λ e. le-leb _ _ (omega (arith, le, leb-true _ _ e))) (λ e. le-leb _ _ (omega (arith, le, leb-true _ _ e))))
+    ∙ ap (λ t. (nat_le (top + b.start) (k + 1) && t) || is_in_blocks bs (k + 1 - top)) (same_test (nat_le (k + 1 - top) b.end) (nat_le (k + 1) (top + b.end)) (λ e. le-leb _ _ (omega (arith, le, leb-true _ _ e))) (λ e. le-leb _ _ (omega (arith, le, leb-true _ _ e))))
     ∙ ap (λ t. in_block top k b || t) (covered-at top k bs le)
 
 either : (l a b : Bool) → l ≡ true → (l || a) ≡ (l || b)
@@ -70,14 +70,14 @@ either l a b e = rw e refl
 abbrev pub told : ℕ → List GapAckBlock → ℕ → Bool
 told top bs k = nat_lt k top || list_any (in_block top k) bs
 
-reports-at : (w : World) (s : Sack) (top k : ℕ) (x : ChunkPayloadData) → w.setup.first < 2 ^ 32 → top < 2 ^ 31 → k < 2 ^ 31 → s.cumulative_tsn_ack ≡ cumulative_tsn w top → x.tsn ≡ tsn_of w k → reports s x ≡ told top s.gap_ack_blocks k
+reports-at : (w : LinkRecord) (s : Sack) (top k : ℕ) (x : ChunkPayloadData) → w.setup.first < 2 ^ 32 → top < 2 ^ 31 → k < 2 ^ 31 → s.cumulative_tsn_ack ≡ cumulative_tsn w top → x.tsn ≡ tsn_of w k → reports s x ≡ told top s.gap_ack_blocks k
 reports-at w s top k x first short near cum tsn =
-    ap (λ t. at_or_before t s.cumulative_tsn_ack || covered s.gap_ack_blocks (distance s.cumulative_tsn_ack t)) tsn
-    ∙ ap (λ c. at_or_before (tsn_of w k) c || covered s.gap_ack_blocks (distance c (tsn_of w k))) cum
-    ∙ ap (λ b. b || covered s.gap_ack_blocks (distance (cumulative_tsn w top) (tsn_of w k))) (at-top w top k first short near)
+    ap (λ t. at_or_before t s.cumulative_tsn_ack || is_in_blocks s.gap_ack_blocks (distance s.cumulative_tsn_ack t)) tsn
+    ∙ ap (λ c. at_or_before (tsn_of w k) c || is_in_blocks s.gap_ack_blocks (distance c (tsn_of w k))) cum
+    ∙ ap (λ b. b || is_in_blocks s.gap_ack_blocks (distance (cumulative_tsn w top) (tsn_of w k))) (at-top w top k first short near)
     ∙ elim (cases_lt k top) [
       | inl lt ↦ either (nat_lt k top) _ _ (lt-ltb k top lt)
-      | inr le ↦ ap (λ b. nat_lt k top || b) (ap (covered s.gap_ack_blocks) (far w top k first le near) ∙ covered-at top k s.gap_ack_blocks le)
+      | inr le ↦ ap (λ b. nat_lt k top || b) (ap (is_in_blocks s.gap_ack_blocks) (far w top k first le near) ∙ covered-at top k s.gap_ack_blocks le)
     ]
 
 -- ## Marks
@@ -85,23 +85,23 @@ reports-at w s top k x first short near cum tsn =
 abbrev gone : Sending → Sending
 gone s = record { chunk = record s.chunk { payload = []; acknowledged = true }; stream = s.stream; says = None }
 
-module _ (w : World) (s : Sack) (top : ℕ) (first : w.setup.first < 2 ^ 32) (short : top < 2 ^ 31) (cum : s.cumulative_tsn_ack ≡ cumulative_tsn w top) where
+module _ (w : LinkRecord) (s : Sack) (top : ℕ) (first : w.setup.first < 2 ^ 32) (short : top < 2 ^ 31) (cum : s.cumulative_tsn_ack ≡ cumulative_tsn w top) where
   -- what it reports anew is acknowledged then
-  pub marked-all : (acked : ℕ → Bool) (cs : List ChunkPayloadData) (from count : ℕ) → from + count ≤ 2 ^ 31 → IsInFlight w acked from count cs → IsInFlight w (λ k. acked k || told top s.gap_ack_blocks k) from count (change_where (reports_anew s) acknowledged cs)
+  pub marked-all : (acked : ℕ → Bool) (cs : List ChunkPayloadData) (from count : ℕ) → from + count ≤ 2 ^ 31 → IsInFlight w acked from count cs → IsInFlight w (λ k. acked k || told top s.gap_ack_blocks k) from count (change_where (reports_anew s) as_acknowledged cs)
   marked-all acked [] from zero le e = refl
   marked-all acked [] from (suc count) le e = cc
   marked-all acked (c ∷ cs) from zero le e = cc
   marked-all acked (c ∷ cs) from (suc count) le e =
-      let head : sending_of c ≡ sending_by w (acked from) from = ap (λ l. first_of' l (sending_of c)) e in
-      let tail = ap rest_of' e in
+      let head : sending_of c ≡ sending_by w (acked from) from = ap (λ l. head_of l (sending_of c)) e in
+      let tail = ap tail_of e in
       let near : from < 2 ^ 31 = omega (arith, le) in
       let test : reports_anew s c ≡ (not (acked from) && told top s.gap_ack_blocks from) =
       ap (λ x. not x.chunk.acknowledged && reports s c) head ∙ ap (λ b. not (acked from) && b) (reports-at w s top from c first short near cum (ap (λ x. x.chunk.tsn) head)) in
-      ap (λ b. sending_of (if b then acknowledged c else c) ∷ map sending_of (change_where (reports_anew s) acknowledged cs)) test
-      ∙ ap (λ x. x ∷ map sending_of (change_where (reports_anew s) acknowledged cs)) (one (acked from) (told top s.gap_ack_blocks from) head)
+      ap (λ b. sending_of (if b then as_acknowledged c else c) ∷ map sending_of (change_where (reports_anew s) as_acknowledged cs)) test
+      ∙ ap (λ x. x ∷ map sending_of (change_where (reports_anew s) as_acknowledged cs)) (one (acked from) (told top s.gap_ack_blocks from) head)
       ∙ ap (λ l. sending_by w (acked from || told top s.gap_ack_blocks from) from ∷ l) (marked-all acked cs (from + 1) count (omega (arith, le)) tail)
     where
-      one : (a r : Bool) → sending_of c ≡ sending_by w a from → sending_of (if not a && r then acknowledged c else c) ≡ sending_by w (a || r) from
+      one : (a r : Bool) → sending_of c ≡ sending_by w a from → sending_of (if not a && r then as_acknowledged c else c) ≡ sending_by w (a || r) from
       one true true h = h
       one true false h = h
       one false true h = ap gone h
@@ -113,14 +113,14 @@ module _ (w : World) (s : Sack) (top : ℕ) (first : w.setup.first < 2 ^ 32) (sh
   at-counts acked cs a b m n e f i = subst (λ k. IsInFlight w acked b k cs) f (subst (λ k. IsInFlight w acked k m cs) e i)
 
   pub front-leaves : (acked : ℕ → Bool) (cs : List ChunkPayloadData) (from count : ℕ) → from + count ≤ 2 ^ 31 → IsInFlight w acked from count cs → IsInFlight w acked (max from top) (from + count - max from top) (past (cumulative_tsn w top) cs)
-  front-leaves acked [] from zero le e = let z : 0 ≡ from + zero - max from top = omega arith in ap (λ n. map (λ k. sending_by w (acked k) k) (kept always (max from top) n)) z
+  front-leaves acked [] from zero le e = let z : 0 ≡ from + zero - max from top = omega arith in ap (λ n. map (λ k. sending_by w (acked k) k) (numbers_where always (max from top) n)) z
   front-leaves acked [] from (suc count) le e = cc
   front-leaves acked (c ∷ cs) from zero le e = cc
   front-leaves acked (c ∷ cs) from (suc count) le e =
-      let head : sending_of c ≡ sending_by w (acked from) from = ap (λ l. first_of' l (sending_of c)) e in
+      let head : sending_of c ≡ sending_by w (acked from) from = ap (λ l. head_of l (sending_of c)) e in
       let near : from < 2 ^ 31 = omega (arith, le) in
       let test : at_or_before c.tsn (cumulative_tsn w top) ≡ nat_lt from top = ap (λ x. at_or_before x.chunk.tsn (cumulative_tsn w top)) head ∙ at-top w top from first short near in
-      let rest = front-leaves acked cs (from + 1) count (omega (arith, le)) (ap rest_of' e) in
+      let rest = front-leaves acked cs (from + 1) count (omega (arith, le)) (ap tail_of e) in
       elim (cases_lt from top) [
         | inl lt ↦
             let yes : at_or_before c.tsn (cumulative_tsn w top) ≡ true = test ∙ lt-ltb from top lt in

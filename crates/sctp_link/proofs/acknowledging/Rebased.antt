@@ -7,7 +7,7 @@ use Rattle.std.proofs.lemmas.Bool.{cases_eq, cases_lt, le-leb, leb-true}
 use Rattle.std.proofs.lemmas.List.{get_or-set_same, get_or-set_other, get_or_default}
 use Rattle.sctp_list_lemmas.proofs.More.{same_test}
 use Rattle.sctp_chunks.specs.declared.chunk.chunk_selective_ack.GapAckBlock.{GapAckBlock}
-use Rattle.sctp_outbound.specs.payload_queue.Blocks.{covered, is_in_block}
+use Rattle.sctp_outbound.specs.payload_queue.Blocks.{is_in_blocks, is_in_block}
 use Rattle.sctp_link.specs.Acking.{IsNearer}
 
 -- both ends are so much less, but for the first of them
@@ -54,5 +54,5 @@ any-same p q [] (c ∷ cs) e h = absurd (omega (arith, e))
 any-same p q (b ∷ bs) [] e h = absurd (omega (arith, e))
 any-same p q (b ∷ bs) (c ∷ cs) e h = ap (λ t. t || list_any p cs) (h 0 b (omega arith)) ∙ ap (λ t. q b || t) (any-same p q bs cs (omega (arith, e)) (λ i d lt. h (suc i) d (omega (arith, lt))))
 
-pub all-covers : (behind place : ℕ) (old new : List GapAckBlock) → length old ≤ place → Nearer behind place old new → (n : ℕ) → 0 < n → covered new n ≡ covered old (n + behind)
+pub all-covers : (behind place : ℕ) (old new : List GapAckBlock) → length old ≤ place → Nearer behind place old new → (n : ℕ) → 0 < n → is_in_blocks new n ≡ is_in_blocks old (n + behind)
 all-covers behind place old new all n m pos = any-same (is_in_block m) (is_in_block (m + behind)) old new n.count (λ i d lt. (n.done i d (omega (arith, lt, all)) lt).covers m pos)

@@ -10,27 +10,27 @@ use Rattle.sctp_chunks.specs.SelectiveAck.{Sack, sack_value}
 use Rattle.sctp_chunks.specs.Wire.{sack_chunk}
 use Rattle.sctp_chunks.proofs.Lengths.{length_sack_value}
 use Rattle.sctp_packets.specs.Packet.{ReadsPacket, packet_encoding}
-use Rattle.sctp_outbound.specs.payload_queue.Blocks.{gap_offsets}
+use Rattle.sctp_outbound.specs.payload_queue.Blocks.{gap_offsets, ends_of}
 use Rattle.sctp_model.specs.declared.event.Event.TheVariants as E
-use Rattle.sctp_model.specs.World.{World}
-use Rattle.sctp_model.specs.World as W
+use Rattle.sctp_model.specs.LinkRecord.{LinkRecord}
+use Rattle.sctp_model.specs.LinkRecord as W
 use Rattle.sctp_model.specs.Messages.{tsn_of}
 use Rattle.sctp_model.specs.Receiver.{cumulative}
 use Rattle.sctp_model.specs.Reports.{report_of, gap_blocks}
 use Rattle.sctp_model.specs.Contents.{contents_of, cumulative_tsn}
 use Rattle.sctp_model.specs.Queues.{FilterRecord}
-use Rattle.sctp_model.specs.Changes.{reported}
+use Rattle.sctp_model.specs.Changes.{after_ack}
 use Rattle.sctp_model.specs.Steps.{reply_to}
-use Rattle.sctp_refinement.proofs.arriving.Filter.{cumulative-le}
 use Rattle.sctp_refinement.proofs.acknowledging.SackMade.{blocks-are, reported-outbound}
 use Rattle.sctp_transfer.specs.Receiver.{Reception, filter_of, sack}
 use Rattle.sctp_transfer.specs.TsnFilter.{Filter, gap_ack_blocks, mark}
-use Rattle.sctp_link.specs.Records.{ends_of}
 use Rattle.sctp_link.specs.Encodings.{IsDatagram, packet_with, block_of}
 use Rattle.sctp_link.specs.Linked.{State, IsLinked}
 use Rattle.sctp_link.proofs.receiver.Came.{blocks-ends, tsns-beyond}
 use Rattle.sctp_link.proofs.upkeep.Facts.{facts, stands-then}
 use Rattle.sctp_link.proofs.upkeep.Frames.{stream-same, encodings-more}
+use Rattle.sctp_model.proofs.receiver.Arrivals.{cumulative-le}
+use Rattle.sctp_transfer.proofs.FilterCalls.{blocks-of}
 
 -- no more are taken than there are
 take-min : {A : Type 0} (n k : ℕ) (xs : List A) → k ≡ min n (length xs) → take k xs ≡ take n xs
@@ -51,10 +51,6 @@ length-taken zero xs = omega arith
 length-taken (suc n) [] = omega arith
 length-taken (suc n) (x ∷ xs) = omega (arith, length-taken n xs)
 
-blocks-again : (bs : List GapAckBlock) → map block_of (map ends_of bs) ≡ bs
-blocks-again [] = refl
-blocks-again (b ∷ bs) = ap (λ l. b ∷ l) (blocks-again bs)
-
 -- so many entries fit
 sack-short : (s : Sack) → length s.gap_ack_blocks ≤ 16379 → length s.duplicate_tsn ≤ 16379 - length s.gap_ack_blocks → 4 + length (sack_value s) < 2 ^ 16
 sack-short s a b = omega (arith, length_sack_value s, a, b)
@@ -63,11 +59,11 @@ taken-short : {A : Type 0} (xs ys : List A) → ys ≡ take 16379 xs → length 
 taken-short xs ys e = omega (arith, ap length e, length-taken 16379 xs)
 
 module _ (sum : List ℕ → ℕ) (x : State) (l : IsLinked sum x) (credit : ℕ) where
-  abbrev w : World
-  w = x.world
+  abbrev w : LinkRecord
+  w = x.recorded
 
-  abbrev v : World
-  v = reported x.world credit
+  abbrev v : LinkRecord
+  v = after_ack x.recorded credit
 
   cumulative-is : x.filter.cumulative_tsn ≡ cumulative_tsn w (cumulative w)
   cumulative-is = ap (λ (f : FilterRecord). f.cumulative) l.filter
@@ -141,11 +137,11 @@ module _ (sum : List ℕ → ℕ) (x : State) (l : IsLinked sum x) (credit : ℕ
       says s a b c d =
           ap (λ k. let t : Sack = record { cumulative_tsn_ack = k; advertised_receiver_window_credit = s.advertised_receiver_window_credit; gap_ack_blocks = s.gap_ack_blocks; duplicate_tsn = s.duplicate_tsn } in t) (a ∙ cumulative-is)
           ∙ ap (λ k. let t : Sack = record { cumulative_tsn_ack = cumulative_tsn w (cumulative w); advertised_receiver_window_credit = k; gap_ack_blocks = s.gap_ack_blocks; duplicate_tsn = s.duplicate_tsn } in t) b
-          ∙ ap (λ k. let t : Sack = record { cumulative_tsn_ack = cumulative_tsn w (cumulative w); advertised_receiver_window_credit = credit; gap_ack_blocks = k; duplicate_tsn = s.duplicate_tsn } in t) (c ∙ sym (blocks-again bs) ∙ ap (map block_of) blocks-made)
+          ∙ ap (λ k. let t : Sack = record { cumulative_tsn_ack = cumulative_tsn w (cumulative w); advertised_receiver_window_credit = credit; gap_ack_blocks = k; duplicate_tsn = s.duplicate_tsn } in t) (c ∙ sym (blocks-of bs) ∙ ap (map block_of) blocks-made)
           ∙ ap (λ k. let t : Sack = record { cumulative_tsn_ack = cumulative_tsn w (cumulative w); advertised_receiver_window_credit = credit; gap_ack_blocks = map block_of (gap_blocks w); duplicate_tsn = k } in t) (d ∙ tsns-told)
 
-      pub linked-ack : (s : Sack) (bytes : List ℕ) (filter : Filter) → s.cumulative_tsn_ack ≡ x.filter.cumulative_tsn → s.advertised_receiver_window_credit ≡ credit → s.gap_ack_blocks ≡ bs → s.duplicate_tsn ≡ take count x.filter.duplicates → bytes ≡ packet_encoding sum (packet_with (sack_chunk s ∷ [])) → ReadsPacket sum bytes (packet_with (sack_chunk s ∷ [])) → length x.datagrams ≡ length w.network → filter ≡ record x.filter { duplicates = [] } → IsLinked sum (record x { world = v; datagrams = x.datagrams ++ bytes ∷ []; filter = filter })
-      linked-ack s bytes filter ea eb ec ed encoding reads len ef = subst (λ f. IsLinked sum (record x { world = v; datagrams = x.datagrams ++ bytes ∷ []; filter = f })) (sym ef) (record {
+      pub linked-ack : (s : Sack) (bytes : List ℕ) (filter : Filter) → s.cumulative_tsn_ack ≡ x.filter.cumulative_tsn → s.advertised_receiver_window_credit ≡ credit → s.gap_ack_blocks ≡ bs → s.duplicate_tsn ≡ take count x.filter.duplicates → bytes ≡ packet_encoding sum (packet_with (sack_chunk s ∷ [])) → ReadsPacket sum bytes (packet_with (sack_chunk s ∷ [])) → length x.datagrams ≡ length w.network → filter ≡ record x.filter { duplicates = [] } → IsLinked sum (record x { recorded = v; datagrams = x.datagrams ++ bytes ∷ []; filter = filter })
+      linked-ack s bytes filter ea eb ec ed encoding reads len ef = subst (λ f. IsLinked sum (record x { recorded = v; datagrams = x.datagrams ++ bytes ∷ []; filter = f })) (sym ef) (record {
         setup = l.setup;
         history = (E.Ack credit, reply_to w (E.Ack credit)) ∷ l.history;
         stands = stands-then w.setup w l.history (E.Ack credit) refl l.stands;
@@ -170,7 +166,7 @@ module _ (sum : List ℕ → ℕ) (x : State) (l : IsLinked sum x) (credit : ℕ
               record { encoding = encoding ∙ ap (λ t. packet_encoding sum (packet_with (sack_chunk t ∷ []))) e; reads = subst (λ t. ReadsPacket sum bytes (packet_with (sack_chunk t ∷ []))) e reads }
 
 -- the record with the datagram that says it
-pub world-acked : (w : World) (credit : ℕ) (network : List W.Datagram) (repeats : List ℕ) (r : W.Report) → network ≡ w.network ++ W.Sack r ∷ [] → r ≡ report_of w credit → repeats ≡ [] → record w { network = network; duplicates = repeats } ≡ reported w credit
-world-acked w credit network repeats r a b c =
+pub recorded-acked : (w : LinkRecord) (credit : ℕ) (network : List W.Datagram) (repeats : List ℕ) (r : W.Report) → network ≡ w.network ++ W.Sack r ∷ [] → r ≡ report_of w credit → repeats ≡ [] → record w { network = network; duplicates = repeats } ≡ after_ack w credit
+recorded-acked w credit network repeats r a b c =
     ap (λ n. record w { network = n; duplicates = repeats }) (a ∙ ap (λ s. w.network ++ W.Sack s ∷ []) b)
     ∙ ap (λ d. record w { network = w.network ++ W.Sack (report_of w credit) ∷ []; duplicates = d }) c

@@ -1,23 +1,23 @@
 -- Each stream has less by what left of it.
-use Rattle.std.proofs.Common.{◌≡◌, ℕ, zero, suc, ◌+◌, ◌-◌, ◌<◌, ◌≤◌, ◌^◌, Bool, true, false, List, [], ◌∷◌, length, map, refl, ap, ◌∙◌, arith}
+use Rattle.std.proofs.Common.{◌≡◌, ℕ, zero, suc, ◌+◌, ◌-◌, ◌<◌, ◌≤◌, Bool, true, false, List, [], ◌∷◌, length, map, refl, ap, ◌∙◌, arith}
 use Rattle.std.specs.Prelude.{if◌then◌else◌, ◌==◌, ◌&&◌, not, slice_index_or}
-use Rattle.std.proofs.lemmas.Bool.{eq-eqb}
-use Rattle.sctp_list_lemmas.specs.Lists.{change_where, those}
-use Rattle.sctp_list_lemmas.specs.Kept.{kept, always, total_over}
+use Rattle.std.specs.List.{filter}
+use Rattle.sctp_list_lemmas.specs.Lists.{change_where}
+use Rattle.sctp_list_lemmas.specs.Kept.{numbers_where, always, total_over}
 use Rattle.sctp_list_lemmas.proofs.Edits.{change_where-map, length-change_where}
 use Rattle.sctp_list_lemmas.proofs.Getting.{map-at}
 use Rattle.sctp_list_lemmas.proofs.Totals.{total-none, total-append, total-where, total-kept_same, numbers-append}
 use Rattle.sctp_chunks.specs.declared.chunk.chunk_payload_data.ChunkPayloadData.{ChunkPayloadData}
-use Rattle.sctp_outbound.specs.Marks.{acknowledged}
+use Rattle.sctp_outbound.specs.Marks.{as_acknowledged}
 use Rattle.sctp_transfer.specs.declared.sender.flight.Released.{Released}
 use Rattle.sctp_transfer.specs.Flight.{released_of}
-use Rattle.sctp_model.specs.World.{World}
+use Rattle.sctp_model.specs.LinkRecord.{LinkRecord}
 use Rattle.sctp_refinement.specs.Amount.{unacked_on, stream_of_slot, bytes_at}
-use Rattle.sctp_refinement.specs.Refines.{sending_of, sending_by, IsInFlight}
-use Rattle.sctp_refinement.proofs.acknowledging.Acked.{first_of', rest_of'}
+use Rattle.sctp_refinement.specs.Refines.{sending_of, IsInFlight}
 use Rattle.sctp_refinement.proofs.amounts.StreamAmounts.{same-turned}
-use Rattle.sctp_halves.specs.Streams.{OpenStream, has_number, less_by, released, stream_numbers}
+use Rattle.sctp_halves.specs.Streams.{OpenStream, has_number, less_by, after_releases, stream_numbers}
 use Rattle.sctp_link.specs.Acking.{Acks}
+use Rattle.sctp_refinement.proofs.sending.InFlight.{head_of, tail_of}
 
 -- a stream with another buffered amount
 abbrev pub with_amount : ℕ → OpenStream → OpenStream
@@ -53,15 +53,15 @@ abbrev pub released_on : ℕ → List Released → ℕ
 released_on t [] = 0
 released_on t (r ∷ rs) = (if r.stream == t then r.bytes else 0) + released_on t rs
 
-pub length-released : (rs : List Released) (ls : List OpenStream) → length (released rs ls) ≡ length ls
+pub length-released : (rs : List Released) (ls : List OpenStream) → length (after_releases rs ls) ≡ length ls
 length-released [] ls = refl
 length-released (r ∷ rs) ls = length-released rs (change_where (has_number r.stream) (less_by r.bytes) ls) ∙ length-change_where (has_number r.stream) (less_by r.bytes) ls
 
-pub numbers-released : (rs : List Released) (ls : List OpenStream) → stream_numbers (released rs ls) ≡ stream_numbers ls
+pub numbers-released : (rs : List Released) (ls : List OpenStream) → stream_numbers (after_releases rs ls) ≡ stream_numbers ls
 numbers-released [] ls = refl
 numbers-released (r ∷ rs) ls = numbers-released rs (change_where (has_number r.stream) (less_by r.bytes) ls) ∙ numbers-less ls r.stream r.bytes
 
-pub released-at : (rs : List Released) (ls : List OpenStream) (k : ℕ) (d : OpenStream) → k < length ls → slice_index_or (released rs ls) k d ≡ with_amount ((slice_index_or ls k d).state.buffered_amount - released_on (slice_index_or ls k d).state.stream_identifier rs) (slice_index_or ls k d)
+pub released-at : (rs : List Released) (ls : List OpenStream) (k : ℕ) (d : OpenStream) → k < length ls → slice_index_or (after_releases rs ls) k d ≡ with_amount ((slice_index_or ls k d).state.buffered_amount - released_on (slice_index_or ls k d).state.stream_identifier rs) (slice_index_or ls k d)
 released-at [] ls k d lt = let none : (slice_index_or ls k d).state.buffered_amount ≡ (slice_index_or ls k d).state.buffered_amount - 0 = omega arith in ap (λ m. with_amount m (slice_index_or ls k d)) none
 released-at (r ∷ rs) ls k d lt =
     let next = change_where (has_number r.stream) (less_by r.bytes) ls in
@@ -87,23 +87,23 @@ none-on true = refl
 none-on false = refl
 
 -- what is acknowledged leaves
-pub told-on : (p : ChunkPayloadData → Bool) (t : ℕ) (cs : List ChunkPayloadData) → released_on t (map released_of (those p cs)) + chunks_on t (change_where p acknowledged cs) ≡ chunks_on t cs
+pub told-on : (p : ChunkPayloadData → Bool) (t : ℕ) (cs : List ChunkPayloadData) → released_on t (map released_of (filter p cs)) + chunks_on t (change_where p as_acknowledged cs) ≡ chunks_on t cs
 told-on p t [] = refl
 told-on p t (c ∷ cs) = step (p c) (told-on p t cs)
   where
-    step : (b : Bool) → released_on t (map released_of (those p cs)) + chunks_on t (change_where p acknowledged cs) ≡ chunks_on t cs
-        → released_on t (map released_of (if b then c ∷ those p cs else those p cs)) + chunks_on t ((if b then acknowledged c else c) ∷ change_where p acknowledged cs) ≡ chunks_on t (c ∷ cs)
+    step : (b : Bool) → released_on t (map released_of (filter p cs)) + chunks_on t (change_where p as_acknowledged cs) ≡ chunks_on t cs
+        → released_on t (map released_of (if b then c ∷ filter p cs else filter p cs)) + chunks_on t ((if b then as_acknowledged c else c) ∷ change_where p as_acknowledged cs) ≡ chunks_on t (c ∷ cs)
     step true ih = let z = none-on (c.stream_identifier == t) in omega (arith, ih, z)
     step false ih = omega (arith, ih)
 
-module _ (first : ℕ) (w : World) (a : Acks first w) where
-  flying-on : (acked : ℕ → Bool) (t : ℕ) (cs : List ChunkPayloadData) (from count : ℕ) → from + count ≤ length w.slots → IsInFlight w acked from count cs → chunks_on t cs ≡ total_over (λ p. if stream_of_slot w p == t then (if acked p then 0 else bytes_at w p) else 0) (kept always from count)
+module _ (first : ℕ) (w : LinkRecord) (a : Acks first w) where
+  flying-on : (acked : ℕ → Bool) (t : ℕ) (cs : List ChunkPayloadData) (from count : ℕ) → from + count ≤ length w.slots → IsInFlight w acked from count cs → chunks_on t cs ≡ total_over (λ p. if stream_of_slot w p == t then (if acked p then 0 else bytes_at w p) else 0) (numbers_where always from count)
   flying-on acked t [] from zero le e = refl
   flying-on acked t [] from (suc count) le e = cc
   flying-on acked t (c ∷ cs) from zero le e = cc
   flying-on acked t (c ∷ cs) from (suc count) le e =
-      ap (λ n. n + chunks_on t cs) (a.shares from t (acked from) c (omega (arith, le)) (ap (λ l. first_of' l (sending_of c)) e))
-      ∙ ap (λ n. (if stream_of_slot w from == t then (if acked from then 0 else bytes_at w from) else 0) + n) (flying-on acked t cs (from + 1) count (omega (arith, le)) (ap rest_of' e))
+      ap (λ n. n + chunks_on t cs) (a.shares from t (acked from) c (omega (arith, le)) (ap (λ l. head_of l (sending_of c)) e))
+      ∙ ap (λ n. (if stream_of_slot w from == t then (if acked from then 0 else bytes_at w from) else 0) + n) (flying-on acked t cs (from + 1) count (omega (arith, le)) (ap tail_of e))
 
   -- what is in flight on a stream is what its slots hold that are not acknowledged, where each slot before the first in flight is
   pub on-unacked : (acked : ℕ → Bool) (t : ℕ) (cs : List ChunkPayloadData) (from : ℕ) → from ≤ length w.slots → ((p : ℕ) → p < from → acked p ≡ true) → IsInFlight w acked from (length w.slots - from) cs → chunks_on t cs ≡ unacked_on w acked t
@@ -111,12 +111,12 @@ module _ (first : ℕ) (w : World) (a : Acks first w) where
       let f : ℕ → ℕ = λ p. if stream_of_slot w p == t then (if acked p then 0 else bytes_at w p) else 0 in
       let queue = flying-on acked t cs from (length w.slots - from) (omega (arith, le)) e in
       let none = total-none f 0 from (λ k i j. ap (λ b. if stream_of_slot w k == t then (if b then 0 else bytes_at w k) else 0) (before k (omega arith)) ∙ none-on (stream_of_slot w k == t)) in
-      let two = total-append f (kept always 0 from) (kept always from (length w.slots - from)) in
+      let two = total-append f (numbers_where always 0 from) (numbers_where always from (length w.slots - from)) in
       let all : from + (length w.slots - from) ≡ length w.slots = omega (arith, le) in
-      let whole = ap (total_over f) (numbers-append from (length w.slots - from) ∙ ap (kept always 0) all) in
+      let complete = ap (total_over f) (numbers-append from (length w.slots - from) ∙ ap (numbers_where always 0) all) in
       let held = total-where (bytes_at w) (λ p. not (acked p) && (stream_of_slot w p == t)) 0 (length w.slots) in
       let same = total-kept_same (λ p. if not (acked p) && (stream_of_slot w p == t) then bytes_at w p else 0) f always 0 (length w.slots) (λ k i j. turned (acked k) (stream_of_slot w k == t) (bytes_at w k)) in
-      omega (arith, queue, none, two, whole, held, same)
+      omega (arith, queue, none, two, complete, held, same)
     where
       turned : (b c : Bool) (k : ℕ) → (if not b && c then k else 0) ≡ (if c then (if b then 0 else k) else 0)
       turned true true k = refl

@@ -1,16 +1,16 @@
 -- Slots that arrive one after another, as a link records them.
-use Rattle.std.proofs.Common.{◌≡◌, ℕ, zero, suc, ◌+◌, ◌<◌, Bool, true, false, List, [], ◌∷◌, ◌++◌, length, drop, refl, ap, sym, ◌∙◌, arith}
-use Rattle.std.specs.Prelude.{◌||◌, slice_index_or, slice_set}
+use Rattle.std.proofs.Common.{◌≡◌, ℕ, zero, suc, ◌+◌, ◌<◌, true, List, [], ◌∷◌, ◌++◌, length, drop, refl, ap, sym, ◌∙◌, arith}
+use Rattle.std.specs.Prelude.{slice_index_or, slice_set}
 use Rattle.std.specs.List.{list_any}
 use Rattle.std.proofs.lemmas.List.{drop_more}
-use Rattle.sctp_list_lemmas.specs.Lists.{changed}
+use Rattle.sctp_list_lemmas.specs.Lists.{change_at}
 use Rattle.sctp_transfer.specs.declared.receiver.arrival.Arrival.{Arrival}
 use Rattle.sctp_transfer.specs.declared.receiver.arrival.Arrival.TheVariants.{New, Repeat}
 use Rattle.sctp_link.specs.declared.record.Slot.{Slot}
 use Rattle.sctp_link.specs.Receiving.{with_arrival, arrived_in, repeated_of, is_first}
 
 -- an element is changed in its place
-pub set-changed : {A : Type 0} (f : A → A) (xs : List A) (i : ℕ) (d : A) → i < length xs → slice_set xs i (f (slice_index_or xs i d)) ≡ changed f i xs
+pub set-changed : {A : Type 0} (f : A → A) (xs : List A) (i : ℕ) (d : A) → i < length xs → slice_set xs i (f (slice_index_or xs i d)) ≡ change_at f i xs
 set-changed f [] i d lt = absurd (omega arith)
 set-changed f (x ∷ xs) zero d lt = refl
 set-changed f (x ∷ xs) (suc i) d lt = ap (λ ys. x ∷ ys) (set-changed f xs i d (omega arith))
@@ -19,10 +19,6 @@ set-changed f (x ∷ xs) (suc i) d lt = ap (λ ys. x ∷ ys) (set-changed f xs i
 pub more : (xs : List ℕ) (y : ℕ) (ys : List ℕ) → (xs ++ y ∷ []) ++ ys ≡ xs ++ y ∷ ys
 more [] y ys = refl
 more (x ∷ xs) y ys = ap (λ zs. x ∷ zs) (more xs y ys)
-
-pub or-true : (b : Bool) → (b || true) ≡ true
-or-true true = refl
-or-true false = refl
 
 -- the answer at a place, and those that are left from there on
 module _ (ps : List ℕ) (bs : List Arrival) (i : ℕ) (inside : i < length ps) (count : length bs ≡ length ps) where
@@ -33,7 +29,7 @@ module _ (ps : List ℕ) (bs : List Arrival) (i : ℕ) (inside : i < length ps) 
   answers-left a e = drop_more bs i New (omega (arith, inside, count)) ∙ ap (λ b. b ∷ drop (i + 1) bs) e
 
   module _ (e : slice_index_or bs i New ≡ New) where
-    pub slots-first : (ss : List Slot) → arrived_in (drop (i + 1) ps) (drop (i + 1) bs) (changed with_arrival (slice_index_or ps i 0) ss) ≡ arrived_in (drop i ps) (drop i bs) ss
+    pub slots-first : (ss : List Slot) → arrived_in (drop (i + 1) ps) (drop (i + 1) bs) (change_at with_arrival (slice_index_or ps i 0) ss) ≡ arrived_in (drop i ps) (drop i bs) ss
     slots-first ss = sym (ap (λ qs. arrived_in qs (drop i bs) ss) places-left ∙ ap (λ cs. arrived_in (slice_index_or ps i 0 ∷ drop (i + 1) ps) cs ss) (answers-left New e))
 
     pub repeated-first : repeated_of (drop (i + 1) ps) (drop (i + 1) bs) ≡ repeated_of (drop i ps) (drop i bs)

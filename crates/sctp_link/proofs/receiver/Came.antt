@@ -1,30 +1,31 @@
 -- What the filter of TSNs tells of slots, and what calls make of it, against the record.
 use Rattle.std.proofs.Common.{◌≡◌, ℕ, ◌+◌, ◌-◌, ◌<◌, ◌≤◌, ◌%◌, ◌^◌, Bool, true, false, List, [], ◌∷◌, ◌++◌, length, map, refl, ap, sym, ◌∙◌, inl, inr, arith}
 use Rattle.std.specs.Prelude.{◌⊎◌, ◌==◌, ◌&&◌, ◌||◌, not, nat_le, nat_lt}
-use Rattle.std.specs.List.{list_any}
+use Rattle.std.specs.List.{list_any, filter}
 use Rattle.std.proofs.lemmas.Bool.{cases_lt}
 use Rattle.std.proofs.lemmas.Bool.Decides.{nat_tests}
 use Rattle.sctp_list_lemmas.specs.Kept.{runs_of}
-use Rattle.sctp_list_lemmas.specs.Lists.{advanced, inserted, those, Seen}
+use Rattle.sctp_list_lemmas.specs.Lists.{advance_over, insert_before, Seen}
 use Rattle.sctp_list_lemmas.specs.Serial.{distance, comes_before, at_or_before}
 use Rattle.sctp_list_lemmas.proofs.More.{fails}
 use Rattle.sctp_serial.specs.Window
-use Rattle.sctp_outbound.specs.payload_queue.Blocks.{gap_offsets, is_offset}
-use Rattle.sctp_model.specs.World.{World}
+use Rattle.sctp_outbound.specs.payload_queue.Blocks.{gap_offsets, is_offset, ends_of}
+use Rattle.sctp_model.specs.LinkRecord.{LinkRecord}
 use Rattle.sctp_model.specs.Messages.{tsn_of}
 use Rattle.sctp_model.specs.Receiver.{arrived_at, cumulative, is_new}
-use Rattle.sctp_model.specs.Changes.{slot_received}
+use Rattle.sctp_model.specs.Changes.{receive_slot}
 use Rattle.sctp_model.specs.Queues.{FilterRecord, filter_of}
 use Rattle.sctp_model.specs.Valid.{Valid}
 use Rattle.sctp_refinement.specs.Holds.{seen_of}
-use Rattle.sctp_refinement.proofs.arriving.Filter.{tsn_before, cumulative-le}
-use Rattle.sctp_refinement.proofs.arriving.FilterQueue.{tsns, new-is}
+use Rattle.sctp_refinement.proofs.arriving.Filter.{tsn_before}
+use Rattle.sctp_refinement.proofs.arriving.FilterQueue.{new-is}
 use Rattle.sctp_refinement.proofs.arriving.SlotArrives
 use Rattle.sctp_transfer.specs.TsnFilter.{Filter, has_come, is_opposite, with_tsn, with_duplicate, skipped_to, offsets, gap_ack_blocks, block_of, mark}
 use Rattle.sctp_transfer.proofs.Marks as Marks
 use Rattle.sctp_transfer.proofs.Marks.{tsns-mark}
 use Rattle.sctp_link.specs.Linked.{filter_shown}
-use Rattle.sctp_link.specs.Records.{ends_of}
+use Rattle.sctp_model.proofs.receiver.Arrivals.{cumulative-le}
+use Rattle.sctp_serial.specs.DataChunks.{tsns}
 
 -- ## Which slots came
 
@@ -49,7 +50,7 @@ back-past : (first c k : ℕ) → c ≤ k → k < 2 ^ 31 → distance ((first + 
 unfolding distance
 back-past first c k le lt = omega arith
 
-past-front : (w : World) (p : ℕ) → is_new w p ≡ true → cumulative w ≤ p
+past-front : (w : LinkRecord) (p : ℕ) → is_new w p ≡ true → cumulative w ≤ p
 past-front w p e = step (nat_le (cumulative w) p) (arrived_at w p) refl e
   where
     step : (a b : Bool) → nat_le (cumulative w) p ≡ a → (a && not b) ≡ true → cumulative w ≤ p
@@ -57,10 +58,10 @@ past-front w p e = step (nat_le (cumulative w) p) (arrived_at w p) refl e
     step false b h e = cc
 
 -- the TSNs beyond, as the marks that a queue keeps
-pub tsns-beyond : (w : World) (f : Filter) → filter_shown f ≡ filter_of w → tsns (map mark f.beyond) ≡ (seen_of w).held
+pub tsns-beyond : (w : LinkRecord) (f : Filter) → filter_shown f ≡ filter_of w → tsns (map mark f.beyond) ≡ (seen_of w).held
 tsns-beyond w f is = tsns-mark f.beyond ∙ ap (λ (r : FilterRecord). r.held) is
 
-module _ (w : World) (f : Filter) (made : w.skipped ≤ length w.slots) (few : length w.slots < 2 ^ 31) (is : filter_shown f ≡ filter_of w) where
+module _ (w : LinkRecord) (f : Filter) (made : w.skipped ≤ length w.slots) (few : length w.slots < 2 ^ 31) (is : filter_shown f ≡ filter_of w) where
   cumulative-is : f.cumulative_tsn ≡ tsn_before w.setup.first (cumulative w)
   cumulative-is = ap (λ (r : FilterRecord). r.cumulative) is
 
@@ -117,36 +118,36 @@ module _ (w : World) (f : Filter) (made : w.skipped ≤ length w.slots) (few : l
 -- with a new TSN, in the words of the record
 abbrev came : ℕ → FilterRecord → FilterRecord
 came t r =
-    let s : Seen = advanced r.cumulative (inserted comes_before t r.held) in
+    let s : Seen = advance_over r.cumulative (insert_before comes_before t r.held) in
     record { cumulative = s.cum; held = s.held; duplicates = r.duplicates }
 
 -- all up to a TSN counts as come, in these words
 abbrev gone : ℕ → FilterRecord → FilterRecord
 gone t r =
-    let s : Seen = advanced t (those (λ u. not (at_or_before u t)) r.held) in
+    let s : Seen = advance_over t (filter (λ u. not (at_or_before u t)) r.held) in
     record { cumulative = s.cum; held = s.held; duplicates = r.duplicates }
 
 abbrev seen-with : List ℕ → Seen → FilterRecord
 seen-with dups s = record { cumulative = s.cum; held = s.held; duplicates = dups }
 
 -- a slot comes for the first time
-pub filter-new : (w : World) (p : ℕ) (f then' : Filter) → Valid w → p < length w.slots → is_new w p ≡ true → filter_shown f ≡ filter_of w → then' ≡ with_tsn (tsn_of w p) f → filter_shown then' ≡ filter_of (slot_received w p)
+pub filter-new : (w : LinkRecord) (p : ℕ) (f then' : Filter) → Valid w → p < length w.slots → is_new w p ≡ true → filter_shown f ≡ filter_of w → then' ≡ with_tsn (tsn_of w p) f → filter_shown then' ≡ filter_of (receive_slot w p)
 filter-new w p f then' valid made new is e =
     ap filter_shown e
     ∙ ap (came (tsn_of w p)) is
     ∙ ap (seen-with (filter_of w).duplicates) (sym (SlotArrives.filter-slot w p valid made new))
-    ∙ ap (λ d. seen-with d (seen_of (slot_received w p))) (sym (SlotArrives.duplicates-slot w p new))
+    ∙ ap (λ d. seen-with d (seen_of (receive_slot w p))) (sym (SlotArrives.duplicates-slot w p new))
 
 -- it comes again
-pub filter-again : (w : World) (p : ℕ) (f then' : Filter) → is_new w p ≡ false → filter_shown f ≡ filter_of w → then' ≡ with_duplicate (tsn_of w p) f → filter_shown then' ≡ filter_of (slot_received w p)
+pub filter-again : (w : LinkRecord) (p : ℕ) (f then' : Filter) → is_new w p ≡ false → filter_shown f ≡ filter_of w → then' ≡ with_duplicate (tsn_of w p) f → filter_shown then' ≡ filter_of (receive_slot w p)
 filter-again w p f then' old is e =
     ap filter_shown e
     ∙ ap {B = FilterRecord} (λ (r : FilterRecord). record r { duplicates = r.duplicates ++ tsn_of w p ∷ [] }) is
     ∙ sym (SlotArrives.repeated-filter w p old)
 
 -- all up to a TSN counts as come
-pub filter-gone : (w v : World) (tsn : ℕ) (f then' : Filter) → filter_shown f ≡ filter_of w → then' ≡ skipped_to tsn f
-    → seen_of v ≡ advanced tsn (those (λ t. not (at_or_before t tsn)) (seen_of w).held) → (filter_of v).duplicates ≡ (filter_of w).duplicates → filter_shown then' ≡ filter_of v
+pub filter-gone : (w v : LinkRecord) (tsn : ℕ) (f then' : Filter) → filter_shown f ≡ filter_of w → then' ≡ skipped_to tsn f
+    → seen_of v ≡ advance_over tsn (filter (λ t. not (at_or_before t tsn)) (seen_of w).held) → (filter_of v).duplicates ≡ (filter_of w).duplicates → filter_shown then' ≡ filter_of v
 filter-gone w v tsn f then' is e seen same =
     ap filter_shown e
     ∙ ap (gone tsn) is
@@ -165,4 +166,4 @@ ends-of-blocks (r ∷ rs) = ap (λ l. r ∷ l) (ends-of-blocks rs)
 
 -- its blocks are those of the queue of marks
 pub blocks-ends : (f : Filter) → map ends_of (gap_ack_blocks f) ≡ runs_of (gap_offsets f.cumulative_tsn (map mark f.beyond))
-blocks-ends f = ends-of-blocks (runs_of (offsets f)) ∙ ap (λ ds. runs_of (those is_offset ds)) (sym (distances-marks f.cumulative_tsn f.beyond))
+blocks-ends f = ends-of-blocks (runs_of (offsets f)) ∙ ap (λ ds. runs_of (filter is_offset ds)) (sym (distances-marks f.cumulative_tsn f.beyond))

@@ -10,8 +10,8 @@ use Rattle.sctp_chunks.specs.PayloadData.{Data as DataParts, data_of}
 use Rattle.sctp_chunks.specs.ChunkSet.{fresh}
 use Rattle.sctp_chunks.specs.Wire.{data_chunk}
 use Rattle.sctp_packets.specs.Packet.{ReadsPacket}
-use Rattle.sctp_model.specs.World.{Report, World, Data, Sack}
-use Rattle.sctp_model.specs.World as W
+use Rattle.sctp_model.specs.LinkRecord.{Report, LinkRecord, Data, Sack}
+use Rattle.sctp_model.specs.LinkRecord as W
 use Rattle.sctp_model.specs.Contents.{chunk_at}
 use Rattle.sctp_link.specs.declared.record.Kind.{Kind}
 use Rattle.sctp_link.specs.declared.record.Kind.TheVariants as K
@@ -19,7 +19,8 @@ use Rattle.sctp_link.specs.declared.record.Datagram.{Datagram}
 use Rattle.sctp_link.specs.Linked.{State, IsLinked}
 use Rattle.sctp_link.specs.Records.{kind_record, datagram_record}
 use Rattle.sctp_link.specs.Encodings.{packet_with, wire_data}
-use Rattle.sctp_link.proofs.receiver.Hears.{raw-at, raw-length}
+use Rattle.sctp_link.proofs.receiver.Hears.{raw-at}
+use Rattle.sctp_list_lemmas.proofs.Getting.{length-mapped}
 
 pub made-at : {A : Type 0} (ds : List A) (k : ℕ) (g : A) → slice_get ds k ≡ Some g → k < length ds
 made-at [] k g e = cc
@@ -27,24 +28,24 @@ made-at (d ∷ ds) zero g e = omega arith
 made-at (d ∷ ds) (suc k) g e = omega (arith, made-at ds k g e)
 
 -- what the chunks of slots say
-abbrev pub said : World → List ℕ → List DataParts
+abbrev pub said : LinkRecord → List ℕ → List DataParts
 said w ps = map (λ p. data_of (chunk_at w p)) ps
 
-said-wire : (w : World) (ps : List ℕ) → map wire_data (map (chunk_at w) ps) ≡ map data_chunk (said w ps)
+said-wire : (w : LinkRecord) (ps : List ℕ) → map wire_data (map (chunk_at w) ps) ≡ map data_chunk (said w ps)
 said-wire w [] = refl
 said-wire w (p ∷ ps) = ap (λ ws. data_chunk (data_of (chunk_at w p)) ∷ ws) (said-wire w ps)
 
-pub said-fresh : (w : World) (ps : List ℕ) → map fresh (said w ps) ≡ map (chunk_at w) ps
+pub said-fresh : (w : LinkRecord) (ps : List ℕ) → map fresh (said w ps) ≡ map (chunk_at w) ps
 said-fresh w [] = refl
 said-fresh w (p ∷ ps) = ap (λ cs. chunk_at w p ∷ cs) (said-fresh w ps)
 
 -- the bytes of a datagram of slots read back
-pub says-data : (sum : List ℕ → ℕ) (x : State) (k : ℕ) (ps : List ℕ) (ds : List Datagram) (y : Datagram) → IsLinked sum x → x.world.network ≡ map datagram_record ds → x.datagrams ≡ map (λ d. d.bytes) ds → slice_get x.world.network k ≡ Some (Data ps) → y ≡ slice_index_or ds k y → ReadsPacket sum y.bytes (packet_with (map data_chunk (said x.world ps)))
+pub says-data : (sum : List ℕ → ℕ) (x : State) (k : ℕ) (ps : List ℕ) (ds : List Datagram) (y : Datagram) → IsLinked sum x → x.recorded.network ≡ map datagram_record ds → x.datagrams ≡ map (λ d. d.bytes) ds → slice_get x.recorded.network k ≡ Some (Data ps) → y ≡ slice_index_or ds k y → ReadsPacket sum y.bytes (packet_with (map data_chunk (said x.recorded ps)))
 says-data sum x k ps ds y l network same e is =
-    let lt : k < length ds = omega (arith, made-at x.world.network k (Data ps) e, ap length network, raw-length datagram_record ds) in
+    let lt : k < length ds = omega (arith, made-at x.recorded.network k (Data ps) e, ap length network, length-mapped datagram_record ds) in
     let t = l.encodings k y.bytes (Data ps) e in
     let bytes : slice_index_or x.datagrams k y.bytes ≡ y.bytes = ap (λ bs. slice_index_or bs k y.bytes) same ∙ raw-at (λ d. d.bytes) ds k y.bytes y lt ∙ ap (λ (d : Datagram). d.bytes) (sym is) in
-    subst (λ b. ReadsPacket sum b (packet_with (map data_chunk (said x.world ps)))) bytes (subst (λ ws. ReadsPacket sum (slice_index_or x.datagrams k y.bytes) (packet_with ws)) (said-wire x.world ps) t.reads)
+    subst (λ b. ReadsPacket sum b (packet_with (map data_chunk (said x.recorded ps)))) bytes (subst (λ ws. ReadsPacket sum (slice_index_or x.datagrams k y.bytes) (packet_with ws)) (said-wire x.recorded ps) t.reads)
 
 -- the places that a link keeps of a datagram
 pub places-kept : (ds : List Datagram) (k : ℕ) (y : Datagram) (told places : List ℕ) → slice_get (map datagram_record ds) k ≡ Some (W.Data places) → y ≡ slice_index_or ds k y → kind_record y.kind ≡ W.Data told → told ≡ places
@@ -74,14 +75,14 @@ never-other (K.Forward upto messages) places other e = cc
 never-other (K.Sack cumulative credit blocks duplicates) places other e = cc
 
 -- what is not refused is there, and no SACK
-pub never-sack : (w : World) (k : ℕ) (r : Report) → slice_get w.network k ≡ Some (Sack r) → refusal_of w (E.Arrive k) ≡ None → ⊥
+pub never-sack : (w : LinkRecord) (k : ℕ) (r : Report) → slice_get w.network k ≡ Some (Sack r) → refusal_of w (E.Arrive k) ≡ None → ⊥
 never-sack w k r e none =
     let is : unless (is_for_receiver (Some (Sack r))) NoSuchDatagram (unless (arrival_fits w (Some (Sack r))) SpanTooWide None) ≡ None = ap (λ o. unless (is_for_receiver o) NoSuchDatagram (unless (arrival_fits w o) SpanTooWide None)) (sym e) ∙ none in
     cc
 
-pub there-is : (w : World) (k : ℕ) (ds : List Datagram) → w.network ≡ map datagram_record ds → refusal_of w (E.Arrive k) ≡ None → k < length ds
+pub there-is : (w : LinkRecord) (k : ℕ) (ds : List Datagram) → w.network ≡ map datagram_record ds → refusal_of w (E.Arrive k) ≡ None → k < length ds
 there-is w k ds same none = step (slice_get w.network k) refl none
   where
     step : (o : Option W.Datagram) → slice_get w.network k ≡ o → unless (is_for_receiver o) NoSuchDatagram (unless (arrival_fits w o) SpanTooWide None) ≡ None → k < length ds
     step None e h = cc
-    step (Some g) e h = omega (arith, slice_get_within w.network k g e, ap length same, raw-length datagram_record ds)
+    step (Some g) e h = omega (arith, slice_get_within w.network k g e, ap length same, length-mapped datagram_record ds)

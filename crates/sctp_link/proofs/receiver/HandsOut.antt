@@ -5,7 +5,8 @@ use Rattle.std.specs.List.{list_any}
 use Rattle.std.proofs.Math.Path.{subst}
 use Rattle.std.proofs.lemmas.List.{length-set, get_or-set_same}
 use Rattle.std.proofs.lemmas.List.Sums.{sum_by-cons}
-use Rattle.sctp_list_lemmas.specs.Lists.{changed, change_where}
+use Rattle.sctp_chunks.specs.PayloadTypes.{counted_as}
+use Rattle.sctp_list_lemmas.specs.Lists.{change_at, change_where}
 use Rattle.sctp_list_lemmas.proofs.Cases.{same-yes, same-is, or-left}
 use Rattle.sctp_list_lemmas.proofs.Passing.{front-kept, FrontOf}
 use Rattle.sctp_chunks.specs.ChunkSet.{ChunkSet}
@@ -17,13 +18,13 @@ use Rattle.sctp_reassembly.specs.reassembly_queue.ReassemblyQueue.{message_read,
 use Rattle.sctp_reassembly.specs.declared.reassembly_queue.chunks.Chunks.{Chunks}
 use Rattle.sctp_model.specs.declared.event.Event.TheVariants as E
 use Rattle.sctp_model.specs.declared.event.LinkRefusal.TheVariants.{StreamUnknown}
-use Rattle.sctp_model.specs.World.{World, StreamRecord}
-use Rattle.sctp_model.specs.World as W
+use Rattle.sctp_model.specs.LinkRecord.{LinkRecord, StreamRecord}
+use Rattle.sctp_model.specs.LinkRecord as W
 use Rattle.sctp_model.specs.Log.{joined_bytes}
 use Rattle.sctp_model.specs.Messages.{message_at, stream_at, stream_of, index_of, sent_of, no_stream}
 use Rattle.sctp_model.specs.Receiver.{is_held, held_on, next_of, next_read}
-use Rattle.sctp_model.specs.Changes.{read_of, read_from, mark_read, without_first}
-use Rattle.sctp_model.specs.Queues.{filter_of, set_of, whole_set_of, handed_out}
+use Rattle.sctp_model.specs.Changes.{read_of, after_reading, mark_read, without_first}
+use Rattle.sctp_model.specs.Queues.{filter_of, set_of, complete_set_of, handed_out}
 use Rattle.sctp_model.specs.Reply as R
 use Rattle.sctp_model.specs.Valid.{IsSpan}
 use Rattle.sctp_model.specs.Steps.{refusal_of, reply_to, after, read_reply, unless}
@@ -32,29 +33,30 @@ use Rattle.sctp_model.proofs.sender.Shape.{shape}
 use Rattle.sctp_model.proofs.sender.Fronts.{slot-sent}
 use Rattle.sctp_model.proofs.receiver.Shown.{read-joined}
 use Rattle.sctp_refinement.specs.Holds.{reassembly_of}
-use Rattle.sctp_refinement.specs.Counts.{counters_on, received_more, counted_as}
+use Rattle.sctp_refinement.specs.Counts.{counters_on, received_more}
 use Rattle.sctp_refinement.proofs.reading.Line
 use Rattle.sctp_refinement.proofs.reading.NextRead
 use Rattle.sctp_refinement.proofs.acknowledging.QuietSender
 use Rattle.sctp_refinement.proofs.reading.ReadOne
-use Rattle.sctp_refinement.proofs.reading.ReadOne.{ReadsWhole, ReadsOrdered}
-use Rattle.sctp_refinement.proofs.arriving.SpanEnds.{Begins, set-begins, whole-begins}
+use Rattle.sctp_refinement.proofs.reading.ReadOne.{ReadsComplete, ReadsOrdered}
+use Rattle.sctp_refinement.proofs.arriving.SpanEnds.{Begins, set-begins, complete-begins}
 use Rattle.sctp_refinement.proofs.amounts.StreamCounters.{counters-read, counters-nothing}
 use Rattle.sctp_halves.specs.Streams.{OpenStream, both_ways, has_number, on_inbound, read_recorded, stats_in, stream_numbers}
 use Rattle.sctp_link.specs.declared.record.Message.{Message}
-use Rattle.sctp_transfer.specs.Inbound.{counted, stream_read}
+use Rattle.sctp_transfer.specs.Inbound.{count_read, stream_read}
 use Rattle.sctp_stream.specs.declared.stream.DataChannelStats.{DataChannelStats}
 use Rattle.sctp_stream.specs.declared.stream.StreamState.{StreamState}
 use Rattle.sctp_link.specs.Linked.{State, IsLinked, IsOpenStream, stats_of}
 use Rattle.sctp_link.specs.Records.{message_record, stream_record}
-use Rattle.sctp_stream.specs.Stats.{counted_bytes, with_received}
+use Rattle.sctp_stream.specs.Stats.{with_received}
 use Rattle.sctp_link.proofs.sender.Beginning.{index_kept}
 use Rattle.sctp_link.specs.Places.{IsApart}
-use Rattle.sctp_link.proofs.upkeep.Apart.{differ, each-set, map-set_same, number-found, streams-set}
+use Rattle.sctp_link.proofs.upkeep.Apart.{differ, each-set, number-found, streams-set}
 use Rattle.sctp_link.proofs.upkeep.StreamPlaces.{apart-set, changed-found}
 use Rattle.sctp_link.proofs.upkeep.Facts.{facts, over}
 use Rattle.sctp_link.proofs.upkeep.StreamsAfter.{stream-then, linked-then}
 use Rattle.sctp_link.proofs.upkeep.Lookups.{some-open, none-open}
+use Rattle.sctp_transfer.proofs.StreamPlaces.{map-set_same}
 
 -- set twice
 set-set : {A : Type 0} (xs : List A) (i : ℕ) (a b : A) → slice_set (slice_set xs i a) i b ≡ slice_set xs i b
@@ -63,7 +65,7 @@ set-set (x ∷ xs) zero a b = refl
 set-set (x ∷ xs) (suc i) a b = ap (λ ys. x ∷ ys) (set-set xs i a b)
 
 -- a message read, counted as the record counts it
-counted-read : (ppi : PayloadProtocolIdentifier) (len : ℕ) (w : World) (t : ℕ) → with_received (counted_bytes ppi len) (stats_of (counters_on w t)) ≡ stats_of (received_more (counted_as ppi len) (counters_on w t))
+counted-read : (ppi : PayloadProtocolIdentifier) (len : ℕ) (w : LinkRecord) (t : ℕ) → with_received (counted_as ppi len) (stats_of (counters_on w t)) ≡ stats_of (received_more (counted_as ppi len) (counters_on w t))
 counted-read Dcep len w t = refl
 counted-read String len w t = refl
 counted-read Binary len w t = refl
@@ -71,11 +73,11 @@ counted-read StringEmpty len w t = refl
 counted-read BinaryEmpty len w t = refl
 counted-read Unknown len w t = refl
 
-filter-read : (w : World) (s : ℕ) (o : Option ℕ) → filter_of (read_of w s o) ≡ filter_of w
+filter-read : (w : LinkRecord) (s : ℕ) (o : Option ℕ) → filter_of (read_of w s o) ≡ filter_of w
 filter-read w s None = refl
 filter-read w s (Some n) = refl
 
-front-held : (w : World) (s : ℕ) (l : List ℕ) (k : ℕ) (rest : List ℕ) → FrontOf (is_held w s) 0 (length w.messages) l → l ≡ k ∷ rest → is_held w s k ≡ true
+front-held : (w : LinkRecord) (s : ℕ) (l : List ℕ) (k : ℕ) (rest : List ℕ) → FrontOf (is_held w s) 0 (length w.messages) l → l ≡ k ∷ rest → is_held w s k ≡ true
 front-held w s [] k rest f e = cc
 front-held w s (j ∷ r) k rest f e = let z : j ≡ k = cc in ap (is_held w s) (sym z) ∙ f.passes
 
@@ -88,28 +90,28 @@ joined-length [] = refl
 joined-length (c ∷ cs) = let more = sum_by-cons (λ (x : ChunkPayloadData). length x.user_data) c cs in omega (arith, length-append c.user_data (joined_bytes cs), joined-length cs, more)
 
 -- what is handed out has the payload type of its message
-pub ppi-handed : (w : World) (n : ℕ) → (handed_out w n).ppi ≡ (message_at w n).ppi
+pub ppi-handed : (w : LinkRecord) (n : ℕ) → (handed_out w n).ppi ≡ (message_at w n).ppi
 ppi-handed w n = by (message_at w n).ordered
   where
-    by : (b : Bool) → (if b then set_of w n else whole_set_of w n).ppi ≡ (message_at w n).ppi
+    by : (b : Bool) → (if b then set_of w n else complete_set_of w n).ppi ≡ (message_at w n).ppi
     by true = refl
     by false = refl
 
 -- what is read, by its kind
-pub record HandsOut (w : World) (s n : ℕ) : Type 0 where
+pub record HandsOut (w : LinkRecord) (s n : ℕ) : Type 0 where
   pub begins : Begins w n (handed_out w n).chunks
   pub made : n < length w.messages
   pub stream : (message_at w n).stream ≡ s
-  pub next : next_of (read_from w s) s ≡ (if (message_at w n).ordered && (index_of w n == next_of w s) then index_of w n + 1 else next_of w s)
-  pub other : (t : ℕ) → (t ≡ s → ⊥) → next_of (read_from w s) t ≡ next_of w t
-  pub whole : (if (message_at w n).ordered then (stream_of w s).whole else drop 1 (stream_of w s).whole) ≡ drop 1 (stream_of w s).whole
+  pub next : next_of (after_reading w s) s ≡ (if (message_at w n).ordered && (index_of w n == next_of w s) then index_of w n + 1 else next_of w s)
+  pub other : (t : ℕ) → (t ≡ s → ⊥) → next_of (after_reading w s) t ≡ next_of w t
+  pub complete : (if (message_at w n).ordered then (stream_of w s).complete else drop 1 (stream_of w s).complete) ≡ drop 1 (stream_of w s).complete
 
-module _ (sum : List ℕ → ℕ) (x : State) (l : IsLinked sum x) (s at : ℕ) (d : OpenStream) (streams_are : x.world.streams ≡ map stream_record x.open_streams) (lt : at < length x.open_streams) (found : (d : OpenStream) → find (has_number s) x.open_streams ≡ Some (slice_index_or x.open_streams at d)) where
-  abbrev w : World
-  w = x.world
+module _ (sum : List ℕ → ℕ) (x : State) (l : IsLinked sum x) (s at : ℕ) (d : OpenStream) (streams_are : x.recorded.streams ≡ map stream_record x.open_streams) (lt : at < length x.open_streams) (found : (d : OpenStream) → find (has_number s) x.open_streams ≡ Some (slice_index_or x.open_streams at d)) where
+  abbrev w : LinkRecord
+  w = x.recorded
 
-  abbrev v : World
-  v = after x.world (E.Read s)
+  abbrev v : LinkRecord
+  v = after x.recorded (E.Read s)
 
   abbrev y : OpenStream
   y = slice_index_or x.open_streams at d
@@ -138,8 +140,8 @@ module _ (sum : List ℕ → ℕ) (x : State) (l : IsLinked sum x) (s at : ℕ) 
   span : IsSpan w s []
   span = (facts sum x l).valid.near s
 
-  whole-are : (stream_of w s).whole ≡ y.whole
-  whole-are = ap (λ o. (unwrap_or o (no_stream s)).whole) open'
+  complete-are : (stream_of w s).complete ≡ y.complete
+  complete-are = ap (λ o. (unwrap_or o (no_stream s)).complete) open'
 
   rest : rest_read y.inbound.queue.held ≡ reassembly_of v s
   rest = let f = facts sum x l in ap rest_read here ∙ NextRead.rest-is w s r f.valid.valid f.valid.unassembled span open'
@@ -198,39 +200,39 @@ module _ (sum : List ℕ → ℕ) (x : State) (l : IsLinked sum x) (s at : ℕ) 
     pub reply-nothing : R.Nothing ≡ reply_to w (E.Read s)
     reply-nothing = sym (ap (read_reply w) nothing)
 
-    world-same : record w { streams = map stream_record (slice_set x.open_streams at taken) } ≡ v
-    world-same = ap {B = World} (λ rs. record w { streams = rs }) (map-set_same stream_record x.open_streams at taken d refl ∙ sym streams_are) ∙ sym still
+    recorded-same : record w { streams = map stream_record (slice_set x.open_streams at taken) } ≡ v
+    recorded-same = ap {B = LinkRecord} (λ rs. record w { streams = rs }) (map-set_same stream_record x.open_streams at taken d refl ∙ sym streams_are) ∙ sym still
 
-    linked-same : IsLinked sum (record x { world = record w { streams = map stream_record (slice_set x.open_streams at taken) }; open_streams = slice_set x.open_streams at taken })
+    linked-same : IsLinked sum (record x { recorded = record w { streams = map stream_record (slice_set x.open_streams at taken) }; open_streams = slice_set x.open_streams at taken })
     linked-same =
         let i = l.open_streams at d lt in
         linked-then sum x l (E.Read s) none frame x.progress (slice_set x.open_streams at taken) x.filter (record w { streams = map stream_record (slice_set x.open_streams at taken) }) refl (l.filter ∙ sym filter-stays)
-        (each-read taken (stream-read taken refl refl refl refl refl refl refl (i.next ∙ ap (next_of w) (id-at d) ∙ ap (λ u. next_of u s) (sym still)) (ap (λ o. both_ways y.state.stats (counted o y.inbound.stats)) e ∙ i.stats ∙ ap (λ t. stats_of (counters_on w t)) (id-at d) ∙ ap stats_of (sym (counters-nothing w s s nothing))))
+        (each-read taken (stream-read taken refl refl refl refl refl refl refl (i.next ∙ ap (next_of w) (id-at d) ∙ ap (λ u. next_of u s) (sym still)) (ap (λ o. both_ways y.state.stats (count_read o y.inbound.stats)) e ∙ i.stats ∙ ap (λ t. stats_of (counters_on w t)) (id-at d) ∙ ap stats_of (sym (counters-nothing w s s nothing))))
         (λ t ne. ap (λ u. next_of u t) still) (λ t ne. counters-nothing w s t nothing))
         (apart-set x.open_streams at taken d l.apart refl)
-        quiet world-same
+        quiet recorded-same
 
-    pub world-nothing : record w { streams = map stream_record (change_where (has_number s) (on_inbound stream_read) x.open_streams) } ≡ v
-    world-nothing = ap {B = World} (λ ls. record w { streams = map stream_record ls }) read-once ∙ world-same
+    pub recorded-nothing : record w { streams = map stream_record (change_where (has_number s) (on_inbound stream_read) x.open_streams) } ≡ v
+    recorded-nothing = ap {B = LinkRecord} (λ ls. record w { streams = map stream_record ls }) read-once ∙ recorded-same
 
-    pub linked-nothing : IsLinked sum (record x { world = record w { streams = map stream_record (change_where (has_number s) (on_inbound stream_read) x.open_streams) }; open_streams = change_where (has_number s) (on_inbound stream_read) x.open_streams })
-    linked-nothing = subst (λ ls. IsLinked sum (record x { world = record w { streams = map stream_record ls }; open_streams = ls })) (sym read-once) linked-same
+    pub linked-nothing : IsLinked sum (record x { recorded = record w { streams = map stream_record (change_where (has_number s) (on_inbound stream_read) x.open_streams) }; open_streams = change_where (has_number s) (on_inbound stream_read) x.open_streams })
+    linked-nothing = subst (λ ls. IsLinked sum (record x { recorded = record w { streams = map stream_record ls }; open_streams = ls })) (sym read-once) linked-same
 
   -- ## A message is read
 
-  hands-whole : (n : ℕ) → ReadsWhole w s n → HandsOut w s n
-  hands-whole n o =
+  hands-complete : (n : ℕ) → ReadsComplete w s n → HandsOut w s n
+  hands-complete n o =
       let f = facts sum x l in
       let kind = o.unordered in
-      let any : list_any (λ k. k == n) (stream_of w s).whole ≡ true = ap (list_any (λ k. k == n)) o.whole ∙ or-left (n == n) (list_any (λ k. k == n) o.rest) (same-yes n) in
+      let any : list_any (λ k. k == n) (stream_of w s).complete ≡ true = ap (list_any (λ k. k == n)) o.complete ∙ or-left (n == n) (list_any (λ k. k == n) o.rest) (same-yes n) in
       let waits = f.valid.unassembled.waits s n any in
       record {
-        begins = subst (λ (c : ChunkSet). Begins w n c.chunks) (sym (ap (λ b. if b then set_of w n else whole_set_of w n) kind)) (whole-begins w s n f.valid.valid f.valid.unassembled f.setup.first any);
+        begins = subst (λ (c : ChunkSet). Begins w n c.chunks) (sym (ap (λ b. if b then set_of w n else complete_set_of w n) kind)) (complete-begins w s n f.valid.valid f.valid.unassembled f.setup.first any);
         made = waits.made;
         stream = waits.stream;
         next = o.next s ∙ sym (ap (λ b. if b && (index_of w n == next_of w s) then index_of w n + 1 else next_of w s) kind);
         other = λ t ne. o.next t;
-        whole = ap (λ b. if b then (stream_of w s).whole else drop 1 (stream_of w s).whole) kind;
+        complete = ap (λ b. if b then (stream_of w s).complete else drop 1 (stream_of w s).complete) kind;
       }
 
   hands-ordered : (n : ℕ) → ReadsOrdered w s n → HandsOut w s n
@@ -239,12 +241,12 @@ module _ (sum : List ℕ → ℕ) (x : State) (l : IsLinked sum x) (s at : ℕ) 
       let kind = Line.on-ordered w s n o.due.on in
       let held = front-held w s (held_on w s) n o.rest (front-kept (is_held w s) 0 (length w.messages)) o.front in
       record {
-        begins = subst (λ (c : ChunkSet). Begins w n c.chunks) (sym (ap (λ b. if b then set_of w n else whole_set_of w n) kind)) (set-begins w s n f.valid.valid f.setup.first held);
+        begins = subst (λ (c : ChunkSet). Begins w n c.chunks) (sym (ap (λ b. if b then set_of w n else complete_set_of w n) kind)) (set-begins w s n f.valid.valid f.setup.first held);
         made = Line.on-made w s n o.due.on;
         stream = Line.on-stream w s n o.due.on;
         next = o.here ∙ step (index_of w n == next_of w s) refl ∙ sym (ap (λ b. if b && (index_of w n == next_of w s) then index_of w n + 1 else next_of w s) kind);
         other = o.other;
-        whole = ap (λ b. if b then (stream_of w s).whole else drop 1 (stream_of w s).whole) kind ∙ o.none ∙ sym (ap (drop 1) o.none);
+        complete = ap (λ b. if b then (stream_of w s).complete else drop 1 (stream_of w s).complete) kind ∙ o.none ∙ sym (ap (drop 1) o.none);
       }
     where
       step : (b : Bool) → (index_of w n == next_of w s) ≡ b → (if b then next_of w s + 1 else next_of w s) ≡ (if b then index_of w n + 1 else next_of w s)
@@ -261,8 +263,8 @@ module _ (sum : List ℕ → ℕ) (x : State) (l : IsLinked sum x) (s at : ℕ) 
     pub hands : HandsOut w s read-is.0
     hands = let f = facts sum x l in by (ReadOne.reads-one w s r f.valid.valid f.valid.unassembled span open' read-is.0 read-is.1)
       where
-        by : ReadsWhole w s read-is.0 ⊎ ReadsOrdered w s read-is.0 → HandsOut w s read-is.0
-        by (inl o) = hands-whole read-is.0 o
+        by : ReadsComplete w s read-is.0 ⊎ ReadsOrdered w s read-is.0 → HandsOut w s read-is.0
+        by (inl o) = hands-complete read-is.0 o
         by (inr o) = hands-ordered read-is.0 o
 
     pub hands-begins : Begins w read-is.0 set.chunks
@@ -273,7 +275,7 @@ module _ (sum : List ℕ → ℕ) (x : State) (l : IsLinked sum x) (s at : ℕ) 
     bytes-read =
         ap (λ (c : ChunkSet). bytes_of c.chunks) read-is.2
         ∙ sym (joined-length (handed_out w read-is.0).chunks)
-        ∙ ap length (over sum x (λ (u : World). next_read u s ≡ Some read-is.0 → joined_bytes (handed_out u read-is.0).chunks ≡ (message_at u read-is.0).bytes) l (λ h. read-joined w.setup l.history l.setup l.stands.run s read-is.0 h) read-is.1)
+        ∙ ap length (over sum x (λ (u : LinkRecord). next_read u s ≡ Some read-is.0 → joined_bytes (handed_out u read-is.0).chunks ≡ (message_at u read-is.0).bytes) l (λ h. read-joined w.setup l.history l.setup l.stands.run s read-is.0 h) read-is.1)
 
     pub low : index_kept x.progress read-is.0 < length w.messages
     low = omega (arith, l.low read-is.0, hands.made)
@@ -286,7 +288,7 @@ module _ (sum : List ℕ → ℕ) (x : State) (l : IsLinked sum x) (s at : ℕ) 
     reply-read = ap (λ c. R.Message s (message_at w read-is.0).ppi c) read-is.2 ∙ ap (λ t. R.Message t (message_at w read-is.0).ppi (handed_out w read-is.0)) (sym hands.stream) ∙ sym (ap (read_reply w) read-is.1)
 
     -- with the message m, whose number is n
-    module _ (m : Message) (messages : List W.Message) (m_is : message_at x.world read-is.0 ≡ message_record m) (messages_are : messages ≡ changed mark_read read-is.0 x.world.messages) (index : m.index ≡ index_kept x.progress read-is.0) where
+    module _ (m : Message) (messages : List W.Message) (m_is : message_at x.recorded read-is.0 ≡ message_record m) (messages_are : messages ≡ change_at mark_read read-is.0 x.recorded.messages) (index : m.index ≡ index_kept x.progress read-is.0) where
       abbrev z : OpenStream
       z = read_recorded m.ordered m.index taken
 
@@ -307,7 +309,7 @@ module _ (sum : List ℕ → ℕ) (x : State) (l : IsLinked sum x) (s at : ℕ) 
 
       counters-at : (t : ℕ) → counters_on v t ≡ (if t == s then received_more (counted_as (message_at w read-is.0).ppi (length (message_at w read-is.0).bytes)) (counters_on w t) else counters_on w t)
       counters-at t =
-          over sum x (λ (u : World). next_read u s ≡ Some read-is.0 → counters_on (read_from u s) t ≡ (if t == s then received_more (counted_as (message_at u read-is.0).ppi (length (message_at u read-is.0).bytes)) (counters_on u t) else counters_on u t)) l
+          over sum x (λ (u : LinkRecord). next_read u s ≡ Some read-is.0 → counters_on (after_reading u s) t ≡ (if t == s then received_more (counted_as (message_at u read-is.0).ppi (length (message_at u read-is.0).bytes)) (counters_on u t) else counters_on u t)) l
           (λ h. counters-read w.setup l.history l.setup l.stands.run s t read-is.0 h) read-is.1
 
       counters-other : (t : ℕ) → (t ≡ s → ⊥) → counters_on v t ≡ counters_on w t
@@ -323,11 +325,11 @@ module _ (sum : List ℕ → ℕ) (x : State) (l : IsLinked sum x) (s at : ℕ) 
           let len = length (message_at w read-is.0).bytes in
           let sent = y.state.stats in
           let read = y.inbound.stats in
-          ap (λ o. both_ways sent (counted o read)) e
-          ∙ ap (λ p. both_ways sent (with_received (counted_bytes p (bytes_of set.chunks)) read)) (ap (λ (c : ChunkSet). c.ppi) read-is.2 ∙ ppi-handed w read-is.0)
-          ∙ ap (λ k. both_ways sent (with_received (counted_bytes ppi k) read)) bytes-read
-          ∙ read-both (counted_bytes ppi len) sent read
-          ∙ ap (with_received (counted_bytes ppi len)) ((l.open_streams at d lt).stats ∙ ap (λ t. stats_of (counters_on w t)) (id-at d))
+          ap (λ o. both_ways sent (count_read o read)) e
+          ∙ ap (λ p. both_ways sent (with_received (counted_as p (bytes_of set.chunks)) read)) (ap (λ (c : ChunkSet). c.ppi) read-is.2 ∙ ppi-handed w read-is.0)
+          ∙ ap (λ k. both_ways sent (with_received (counted_as ppi k) read)) bytes-read
+          ∙ read-both (counted_as ppi len) sent read
+          ∙ ap (with_received (counted_as ppi len)) ((l.open_streams at d lt).stats ∙ ap (λ t. stats_of (counters_on w t)) (id-at d))
           ∙ counted-read ppi len w s
           ∙ ap stats_of (sym (counters-at s ∙ ap (λ b. if b then received_more (counted_as (message_at w read-is.0).ppi (length (message_at w read-is.0).bytes)) (counters_on w s) else counters_on w s) (same-yes s)))
 
@@ -335,39 +337,39 @@ module _ (sum : List ℕ → ℕ) (x : State) (l : IsLinked sum x) (s at : ℕ) 
       open_stream-is = stream-read z refl refl refl refl refl refl refl next-is stats-are
 
       abbrev shown : ℕ → StreamState → List ℕ → StreamRecord
-      shown named t whole = record { stream = t.stream_identifier; unordered = t.unordered; reliability = t.reliability_type; value = t.reliability_value; named = named; whole = whole }
+      shown named t complete = record { stream = t.stream_identifier; unordered = t.unordered; reliability = t.reliability_type; value = t.reliability_value; named = named; complete = complete }
 
-      whole-is : z.whole ≡ drop 1 y.whole
-      whole-is =
-          ap (λ b. if b then y.whole else drop 1 y.whole) (ap (λ t. t.ordered) (sym m_is))
-          ∙ ap (λ l. if (message_at w read-is.0).ordered then l else drop 1 l) (sym whole-are) ∙ hands.whole ∙ ap (drop 1) whole-are
+      complete-is : z.complete ≡ drop 1 y.complete
+      complete-is =
+          ap (λ b. if b then y.complete else drop 1 y.complete) (ap (λ t. t.ordered) (sym m_is))
+          ∙ ap (λ l. if (message_at w read-is.0).ordered then l else drop 1 l) (sym complete-are) ∙ hands.complete ∙ ap (drop 1) complete-are
 
       streams-are : map stream_record (slice_set x.open_streams at z) ≡ map (λ (t : StreamRecord). if t.stream == s then without_first t else t) w.streams
       streams-are =
-          streams-set x.open_streams at z d without_first streams-apart lt (ap (shown y.named y.state) whole-is)
+          streams-set x.open_streams at z d without_first streams-apart lt (ap (shown y.named y.state) complete-is)
           ∙ ap (λ i. map (λ (t : StreamRecord). if t.stream == i then without_first t else t) (map stream_record x.open_streams)) (id-at d)
           ∙ ap (map (λ (t : StreamRecord). if t.stream == s then without_first t else t)) (sym streams_are)
 
-      world-read : record w { streams = map stream_record (slice_set x.open_streams at z); messages = messages } ≡ v
-      world-read =
-          ap {B = World} (λ rs. record w { streams = rs; messages = messages }) streams-are
-          ∙ ap {B = World} (λ ms. record w { streams = map (λ (t : StreamRecord). if t.stream == s then without_first t else t) w.streams; messages = ms }) messages_are
+      recorded-read : record w { streams = map stream_record (slice_set x.open_streams at z); messages = messages } ≡ v
+      recorded-read =
+          ap {B = LinkRecord} (λ rs. record w { streams = rs; messages = messages }) streams-are
+          ∙ ap {B = LinkRecord} (λ ms. record w { streams = map (λ (t : StreamRecord). if t.stream == s then without_first t else t) w.streams; messages = ms }) messages_are
           ∙ sym (ap (read_of w s) read-is.1)
 
-      linked-read : (progress : List (ℕ × ℕ)) → progress ≡ x.progress → IsLinked sum (record x { world = record w { streams = map stream_record (slice_set x.open_streams at z); messages = messages }; progress = progress; open_streams = slice_set x.open_streams at z })
+      linked-read : (progress : List (ℕ × ℕ)) → progress ≡ x.progress → IsLinked sum (record x { recorded = record w { streams = map stream_record (slice_set x.open_streams at z); messages = messages }; progress = progress; open_streams = slice_set x.open_streams at z })
       linked-read progress same =
           linked-then sum x l (E.Read s) none frame progress (slice_set x.open_streams at z) x.filter (record w { streams = map stream_record (slice_set x.open_streams at z); messages = messages }) same (l.filter ∙ sym filter-stays)
           (each-read z open_stream-is hands.other counters-other)
           (apart-set x.open_streams at z d l.apart refl)
-          quiet world-read
+          quiet recorded-read
 
       -- so the halves record it
-      pub world-recorded : record w { streams = map stream_record recorded; messages = messages } ≡ v
-      world-recorded = ap {B = World} (λ ls. record w { streams = map stream_record ls; messages = messages }) (read-twice m.ordered m.index) ∙ world-read
+      pub recorded-recorded : record w { streams = map stream_record recorded; messages = messages } ≡ v
+      recorded-recorded = ap {B = LinkRecord} (λ ls. record w { streams = map stream_record ls; messages = messages }) (read-twice m.ordered m.index) ∙ recorded-read
 
-      pub linked-recorded : (progress : List (ℕ × ℕ)) → progress ≡ x.progress → IsLinked sum (record x { world = record w { streams = map stream_record recorded; messages = messages }; progress = progress; open_streams = recorded })
+      pub linked-recorded : (progress : List (ℕ × ℕ)) → progress ≡ x.progress → IsLinked sum (record x { recorded = record w { streams = map stream_record recorded; messages = messages }; progress = progress; open_streams = recorded })
       linked-recorded progress same =
-          subst (λ ls. IsLinked sum (record x { world = record w { streams = map stream_record ls; messages = messages }; progress = progress; open_streams = ls })) (sym (read-twice m.ordered m.index))
+          subst (λ ls. IsLinked sum (record x { recorded = record w { streams = map stream_record ls; messages = messages }; progress = progress; open_streams = ls })) (sym (read-twice m.ordered m.index))
           (linked-read progress same)
 
 -- ## What the queue answered
@@ -381,13 +383,13 @@ some-mapped None c e = cc
 some-mapped (Some t) c e = let z : c ≡ at_start t = cc in ap (λ (a : Chunks). Some a.set) (sym z)
 
 -- a stream that is read is open
-never-shut : (w : World) (s : ℕ) (open_streams : List OpenStream) → w.streams ≡ map stream_record open_streams → refusal_of w (E.Read s) ≡ None → find (has_number s) open_streams ≡ None → ⊥
+never-shut : (w : LinkRecord) (s : ℕ) (open_streams : List OpenStream) → w.streams ≡ map stream_record open_streams → refusal_of w (E.Read s) ≡ None → find (has_number s) open_streams ≡ None → ⊥
 never-shut w s open_streams same ok shut =
     let o : unless (is_some (stream_at w s)) StreamUnknown None ≡ Some StreamUnknown = ap (λ b. unless b StreamUnknown None) (none-open w s open_streams same shut) in
     let z : Some StreamUnknown ≡ None = sym o ∙ ok in
     cc
 
-pub open-there : (w : World) (s : ℕ) (open_streams : List OpenStream) → w.streams ≡ map stream_record open_streams → refusal_of w (E.Read s) ≡ None → (t : OpenStream) × (find (has_number s) open_streams ≡ Some t)
+pub open-there : (w : LinkRecord) (s : ℕ) (open_streams : List OpenStream) → w.streams ≡ map stream_record open_streams → refusal_of w (E.Read s) ≡ None → (t : OpenStream) × (find (has_number s) open_streams ≡ Some t)
 open-there w s open_streams same ok = by (find (has_number s) open_streams) refl
   where
     by : (o : Option OpenStream) → find (has_number s) open_streams ≡ o → (t : OpenStream) × (find (has_number s) open_streams ≡ Some t)

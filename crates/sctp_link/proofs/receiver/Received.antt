@@ -10,13 +10,13 @@ use Rattle.sctp_chunks.specs.declared.chunk.chunk_payload_data.ChunkPayloadData.
 use Rattle.sctp_reassembly.specs.reassembly_queue.ReassemblyQueue.{is_too_large}
 use Rattle.sctp_model.specs.declared.event.Event.TheVariants as E
 use Rattle.sctp_model.specs.Reply as R
-use Rattle.sctp_model.specs.World.{Setup, World, Data}
+use Rattle.sctp_model.specs.LinkRecord.{Setup, LinkRecord, Data}
 use Rattle.sctp_model.specs.Messages.{message_at, slot_at, message_of}
 use Rattle.sctp_model.specs.Receiver.{is_new, next_of}
-use Rattle.sctp_model.specs.Changes.{slot_received, datagram_received, whole_noted, becomes_whole}
+use Rattle.sctp_model.specs.Changes.{receive_slot, after_arrive, note_completion, becomes_complete}
 use Rattle.sctp_model.specs.Contents.{chunk_at}
 use Rattle.sctp_model.specs.Queues.{filter_of}
-use Rattle.sctp_model.specs.Steps.{History, IsRun, world_of, refusal_of, after, IsRight, arrive_reply}
+use Rattle.sctp_model.specs.Steps.{History, IsRun, record_of, refusal_of, after, IsRight, arrive_reply}
 use Rattle.sctp_model.specs.Laws.{IsSetup}
 use Rattle.sctp_model.specs.Valid.{ComesValid, AllFragments}
 use Rattle.sctp_model.proofs.sender.Shape.{Shape, shape, index, parts}
@@ -31,7 +31,7 @@ use Rattle.sctp_refinement.proofs.amounts.NoLarger.{no-larger}
 use Rattle.sctp_refinement.proofs.amounts.Sizes.{never-too-large}
 use Rattle.sctp_refinement.proofs.amounts.StreamCounters.{counters-same}
 use Rattle.sctp_refinement.proofs.acknowledging.QuietSender
-use Rattle.sctp_refinement.proofs.acknowledging.QuietSender.{SameToSender}
+use Rattle.sctp_refinement.proofs.acknowledging.QuietSender.{SameToSender, same-then}
 use Rattle.sctp_refinement.proofs.arriving.Arrival
 use Rattle.sctp_refinement.proofs.arriving.Arrival.{with_arrived}
 use Rattle.sctp_refinement.proofs.arriving.Carried.{Carried, carried, enters}
@@ -47,8 +47,9 @@ use Rattle.sctp_link.specs.Receiving.{IsReceiver, Comes, AllCome}
 use Rattle.sctp_link.specs.Places.{IsApart}
 use Rattle.sctp_link.proofs.upkeep.Facts.{facts, over}
 use Rattle.sctp_link.proofs.upkeep.StreamsAfter.{stream-then, linked-then}
-use Rattle.sctp_link.proofs.receiver.Hears.{raw-at, raw-length}
+use Rattle.sctp_link.proofs.receiver.Hears.{raw-at}
 use Rattle.sctp_link.proofs.receiver.Slots.{core}
+use Rattle.sctp_list_lemmas.proofs.Getting.{length-mapped}
 
 -- ## They come to a valid record
 
@@ -67,14 +68,14 @@ chunk_by y first p =
       user_data = slice_index_or (pieces (length (y.message (y.slot p).message).bytes) y.size (y.message (y.slot p).message).bytes) (y.slot p).fragment [];
     })
 
-chunk-same : (w v : World) (p : ℕ) → Network.Same w v → chunk_at w p ≡ chunk_at v p
+chunk-same : (w v : LinkRecord) (p : ℕ) → Network.Same w v → chunk_at w p ≡ chunk_at v p
 chunk-same w v p s = ap (λ y. chunk_by y w.setup.first p) (sym s.shape_is) ∙ ap (λ t. chunk_by (shape v) t.first p) (sym s.setup)
 
-module _ (setup : Setup) (h : History) (is : IsSetup setup) (run : IsRun setup h) (k : ℕ) (none : refusal_of (world_of setup h) (E.Arrive k) ≡ None) where
-  abbrev w : World
-  w = world_of setup h
+module _ (setup : Setup) (h : History) (is : IsSetup setup) (run : IsRun setup h) (k : ℕ) (none : refusal_of (record_of setup h) (E.Arrive k) ≡ None) where
+  abbrev w : LinkRecord
+  w = record_of setup h
 
-  comes-one : (v : World) (front : List ℕ) (p : ℕ) (qs : List ℕ) → v ≡ fold slot_received w front → Sane setup v → slice_get w.network k ≡ Some (Data (front ++ p ∷ qs)) → Comes v p (chunk_at w p)
+  comes-one : (v : LinkRecord) (front : List ℕ) (p : ℕ) (qs : List ℕ) → v ≡ fold receive_slot w front → Sane setup v → slice_get w.network k ≡ Some (Data (front ++ p ∷ qs)) → Comes v p (chunk_at w p)
   comes-one v front p qs eq g e =
       let valid : ComesValid v p = subst (λ u. ComesValid u p) (sym eq) (slots_come_valid setup h is run k front p qs none e) in
       let same : Network.Same w v = subst (Network.Same w) (sym eq) (Network.same-slots w front) in
@@ -93,11 +94,11 @@ module _ (setup : Setup) (h : History) (is : IsSetup setup) (run : IsRun setup h
             (λ o. valid.near (message_at v n).stream (SlotArrives.ordered-on v (message_at v n).stream p (enters v p c new) o) new) short held limit;
       }
 
-  comes-from : (v : World) (front rest : List ℕ) → v ≡ fold slot_received w front → Sane setup v → slice_get w.network k ≡ Some (Data (front ++ rest)) → AllCome v rest (map (chunk_at w) rest)
+  comes-from : (v : LinkRecord) (front rest : List ℕ) → v ≡ fold receive_slot w front → Sane setup v → slice_get w.network k ≡ Some (Data (front ++ rest)) → AllCome v rest (map (chunk_at w) rest)
   comes-from v front [] eq g e = tt
   comes-from v front (p ∷ qs) eq g e = (
     comes-one v front p qs eq g e,
-    comes-from (slot_received v p) (front ++ p ∷ []) qs (ap (λ u. slot_received u p) eq ∙ sym (fold-append slot_received w front (p ∷ []))) (sane-received setup v p g) (e ∙ ap (λ ps. Some (Data ps)) (sym (assoc front p qs))),
+    comes-from (receive_slot v p) (front ++ p ∷ []) qs (ap (λ u. receive_slot u p) eq ∙ sym (fold-append receive_slot w front (p ∷ []))) (sane-received setup v p g) (e ∙ ap (λ ps. Some (Data ps)) (sym (assoc front p qs))),
   )
     where
       assoc : (xs : List ℕ) (y : ℕ) (ys : List ℕ) → (xs ++ y ∷ []) ++ ys ≡ xs ++ y ∷ ys
@@ -108,67 +109,57 @@ module _ (setup : Setup) (h : History) (is : IsSetup setup) (run : IsRun setup h
   comes-run ps e = comes-from w [] ps refl (sane-run setup h run) e
 
 -- so do those of a datagram of a link
-pub all-come : (sum : List ℕ → ℕ) (x : State) (l : IsLinked sum x) (k : ℕ) (ps : List ℕ) → refusal_of x.world (E.Arrive k) ≡ None → slice_get x.world.network k ≡ Some (Data ps) → AllCome x.world ps (map (chunk_at x.world) ps)
+pub all-come : (sum : List ℕ → ℕ) (x : State) (l : IsLinked sum x) (k : ℕ) (ps : List ℕ) → refusal_of x.recorded (E.Arrive k) ≡ None → slice_get x.recorded.network k ≡ Some (Data ps) → AllCome x.recorded ps (map (chunk_at x.recorded) ps)
 all-come sum x l k ps none e =
-    over sum x (λ (u : World). refusal_of u (E.Arrive k) ≡ None → slice_get u.network k ≡ Some (Data ps) → AllCome u ps (map (chunk_at u) ps)) l
-    (λ n i. comes-run x.world.setup l.history l.setup l.stands.run k n ps i) none e
+    over sum x (λ (u : LinkRecord). refusal_of u (E.Arrive k) ≡ None → slice_get u.network k ≡ Some (Data ps) → AllCome u ps (map (chunk_at u) ps)) l
+    (λ n i. comes-run x.recorded.setup l.history l.setup l.stands.run k n ps i) none e
 
 -- what the halves of a link have for it
-pub receiver-of : (sum : List ℕ → ℕ) (x : State) (l : IsLinked sum x) (h : Sides) → x.world.streams ≡ map stream_record h.streams → x.open_streams ≡ h.streams → x.filter ≡ held_filter (reception_of h) → IsReceiver x.world h
+pub receiver-of : (sum : List ℕ → ℕ) (x : State) (l : IsLinked sum x) (h : Sides) → x.recorded.streams ≡ map stream_record h.streams → x.open_streams ≡ h.streams → x.filter ≡ held_filter (reception_of h) → IsReceiver x.recorded h
 receiver-of sum x l h a b c = record {
   streams_are = a;
   filter_is = ap filter_shown (sym c) ∙ l.filter;
-  queues = λ k d lt. let i = subst (λ ls. IsOpenStream x.world (slice_index_or ls k d)) b (l.open_streams k d (omega (arith, lt, ap length b))) in record { held = i.held; si = i.si; largest = i.largest };
+  queues = λ k d lt. let i = subst (λ ls. IsOpenStream x.recorded (slice_index_or ls k d)) b (l.open_streams k d (omega (arith, lt, ap length b))) in record { held = i.held; si = i.si; largest = i.largest };
   apart = subst (λ ls. IsApart (stream_numbers ls)) b l.apart;
 }
 
 -- ## The record after them
 
 -- slots change streams, slots and duplicates alone
-rest-one : (w : World) (p : ℕ) → slot_received w p ≡ record w { streams = (slot_received w p).streams; slots = (slot_received w p).slots; duplicates = (slot_received w p).duplicates }
+rest-one : (w : LinkRecord) (p : ℕ) → receive_slot w p ≡ record w { streams = (receive_slot w p).streams; slots = (receive_slot w p).slots; duplicates = (receive_slot w p).duplicates }
 rest-one w p = by (is_new w p) refl
   where
-    noted : (b : Bool) → becomes_whole (with_arrived w p) (message_of w p) ≡ b → whole_noted (with_arrived w p) (message_of w p) ≡ record w { streams = (whole_noted (with_arrived w p) (message_of w p)).streams; slots = (whole_noted (with_arrived w p) (message_of w p)).slots; duplicates = (whole_noted (with_arrived w p) (message_of w p)).duplicates }
+    noted : (b : Bool) → becomes_complete (with_arrived w p) (message_of w p) ≡ b → note_completion (with_arrived w p) (message_of w p) ≡ record w { streams = (note_completion (with_arrived w p) (message_of w p)).streams; slots = (note_completion (with_arrived w p) (message_of w p)).slots; duplicates = (note_completion (with_arrived w p) (message_of w p)).duplicates }
     noted true e = rw e refl
     noted false e = rw e refl
 
-    by : (b : Bool) → is_new w p ≡ b → slot_received w p ≡ record w { streams = (slot_received w p).streams; slots = (slot_received w p).slots; duplicates = (slot_received w p).duplicates }
+    by : (b : Bool) → is_new w p ≡ b → receive_slot w p ≡ record w { streams = (receive_slot w p).streams; slots = (receive_slot w p).slots; duplicates = (receive_slot w p).duplicates }
     by true e =
-        let is : slot_received w p ≡ whole_noted (with_arrived w p) (message_of w p) = ap (λ b. if b then whole_noted (with_arrived w p) (message_of w p) else record w { duplicates = w.duplicates ++ p ∷ [] }) e in
-        subst (λ (v : World). v ≡ record w { streams = v.streams; slots = v.slots; duplicates = v.duplicates }) (sym is) (noted (becomes_whole (with_arrived w p) (message_of w p)) refl)
-    by false e = subst (λ (v : World). v ≡ record w { streams = v.streams; slots = v.slots; duplicates = v.duplicates }) (sym (SlotArrives.repeated w p e)) refl
+        let is : receive_slot w p ≡ note_completion (with_arrived w p) (message_of w p) = ap (λ b. if b then note_completion (with_arrived w p) (message_of w p) else record w { duplicates = w.duplicates ++ p ∷ [] }) e in
+        subst (λ (v : LinkRecord). v ≡ record w { streams = v.streams; slots = v.slots; duplicates = v.duplicates }) (sym is) (noted (becomes_complete (with_arrived w p) (message_of w p)) refl)
+    by false e = subst (λ (v : LinkRecord). v ≡ record w { streams = v.streams; slots = v.slots; duplicates = v.duplicates }) (sym (SlotArrives.repeated w p e)) refl
 
-rest-all : (w v : World) (ps : List ℕ) → v ≡ record w { streams = v.streams; slots = v.slots; duplicates = v.duplicates } → (let u = fold slot_received v ps in u ≡ record w { streams = u.streams; slots = u.slots; duplicates = u.duplicates })
+rest-all : (w v : LinkRecord) (ps : List ℕ) → v ≡ record w { streams = v.streams; slots = v.slots; duplicates = v.duplicates } → (let u = fold receive_slot v ps in u ≡ record w { streams = u.streams; slots = u.slots; duplicates = u.duplicates })
 rest-all w v [] e = e
 rest-all w v (p ∷ ps) e =
-    let u = slot_received v p in
-    rest-all w u ps (rest-one v p ∙ ap {B = World} (λ (z : World). record z { streams = u.streams; slots = u.slots; duplicates = u.duplicates }) e)
+    let u = receive_slot v p in
+    rest-all w u ps (rest-one v p ∙ ap {B = LinkRecord} (λ (z : LinkRecord). record z { streams = u.streams; slots = u.slots; duplicates = u.duplicates }) e)
 
-sender-then : (w v u : World) → SameToSender w v → SameToSender v u → SameToSender w u
-sender-then w v u f g = record {
-  setup = g.setup ∙ f.setup;
-  count = g.count ∙ f.count;
-  message = λ n. g.message n ∙ f.message n;
-  slots = g.slots ∙ f.slots;
-  slot = λ p. g.slot p ∙ f.slot p;
-  taken = g.taken ∙ f.taken;
-}
-
-quiet-slots : (w v : World) (ps : List ℕ) → SameToSender w v → SameToSender w (fold slot_received v ps)
+quiet-slots : (w v : LinkRecord) (ps : List ℕ) → SameToSender w v → SameToSender w (fold receive_slot v ps)
 quiet-slots w v [] f = f
-quiet-slots w v (p ∷ ps) f = quiet-slots w (slot_received v p) ps (sender-then w v (slot_received v p) f (QuietSender.same-slot v p))
+quiet-slots w v (p ∷ ps) f = quiet-slots w (receive_slot v p) ps (same-then w v (receive_slot v p) f (QuietSender.same-slot v p))
 
 -- ## The link after them
 
-module _ (sum : List ℕ → ℕ) (x : State) (l : IsLinked sum x) (k : ℕ) (ps : List ℕ) (none : refusal_of x.world (E.Arrive k) ≡ None) (e : slice_get x.world.network k ≡ Some (Data ps)) where
-  abbrev here : World
-  here = x.world
+module _ (sum : List ℕ → ℕ) (x : State) (l : IsLinked sum x) (k : ℕ) (ps : List ℕ) (none : refusal_of x.recorded (E.Arrive k) ≡ None) (e : slice_get x.recorded.network k ≡ Some (Data ps)) where
+  abbrev here : LinkRecord
+  here = x.recorded
 
-  abbrev then' : World
-  then' = after x.world (E.Arrive k)
+  abbrev then' : LinkRecord
+  then' = after x.recorded (E.Arrive k)
 
-  after-is : then' ≡ fold slot_received here ps
-  after-is = ap (datagram_received here) e
+  after-is : then' ≡ fold receive_slot here ps
+  after-is = ap (after_arrive here) e
 
   frame : Network.Same here then'
   frame = Network.same-received here (slice_get here.network k)
@@ -178,23 +169,23 @@ module _ (sum : List ℕ → ℕ) (x : State) (l : IsLinked sum x) (k : ℕ) (ps
 
   next-stays : (t : ℕ) → next_of then' t ≡ next_of here t
   next-stays t =
-      over sum x (λ (u : World). slice_get u.network k ≡ Some (Data ps) → next_of (after u (E.Arrive k)) t ≡ next_of u t) l
-      (λ i. next-arrive x.world.setup l.history k t ps i) e
+      over sum x (λ (u : LinkRecord). slice_get u.network k ≡ Some (Data ps) → next_of (after u (E.Arrive k)) t ≡ next_of u t) l
+      (λ i. next-arrive x.recorded.setup l.history k t ps i) e
 
   counters-stay : (t : ℕ) → counters_on then' t ≡ counters_on here t
   counters-stay t = let f = facts sum x l in counters-same here.setup here (E.Arrive k) t f.sane refl refl
 
-  module _ (y : Sides) (slots : List Slot) (dups : List ℕ) (r : IsReceiver (fold slot_received x.world ps) y) (cores : map core y.streams ≡ map core x.open_streams) (slots_are : (fold slot_received x.world ps).slots ≡ map slot_record slots) (dups_are : (fold slot_received x.world ps).duplicates ≡ dups) where
-    world-received : record x.world { streams = map stream_record y.streams; slots = map slot_record slots; duplicates = dups } ≡ fold slot_received x.world ps
-    world-received =
-        let v = fold slot_received x.world ps in
-        ap {B = World} (λ a. record x.world { streams = a; slots = map slot_record slots; duplicates = dups }) (sym r.streams_are)
-        ∙ ap {B = World} (λ a. record x.world { streams = v.streams; slots = a; duplicates = dups }) (sym slots_are)
-        ∙ ap {B = World} (λ a. record x.world { streams = v.streams; slots = v.slots; duplicates = a }) (sym dups_are)
-        ∙ sym (rest-all x.world x.world ps refl)
+  module _ (y : Sides) (slots : List Slot) (dups : List ℕ) (r : IsReceiver (fold receive_slot x.recorded ps) y) (cores : map core y.streams ≡ map core x.open_streams) (slots_are : (fold receive_slot x.recorded ps).slots ≡ map slot_record slots) (dups_are : (fold receive_slot x.recorded ps).duplicates ≡ dups) where
+    recorded-received : record x.recorded { streams = map stream_record y.streams; slots = map slot_record slots; duplicates = dups } ≡ fold receive_slot x.recorded ps
+    recorded-received =
+        let v = fold receive_slot x.recorded ps in
+        ap {B = LinkRecord} (λ a. record x.recorded { streams = a; slots = map slot_record slots; duplicates = dups }) (sym r.streams_are)
+        ∙ ap {B = LinkRecord} (λ a. record x.recorded { streams = v.streams; slots = a; duplicates = dups }) (sym slots_are)
+        ∙ ap {B = LinkRecord} (λ a. record x.recorded { streams = v.streams; slots = v.slots; duplicates = a }) (sym dups_are)
+        ∙ sym (rest-all x.recorded x.recorded ps refl)
 
     many : length y.streams ≡ length x.open_streams
-    many = sym (raw-length core y.streams) ∙ ap length cores ∙ raw-length core x.open_streams
+    many = sym (length-mapped core y.streams) ∙ ap length cores ∙ length-mapped core x.open_streams
 
     core-at : (j : ℕ) (d : OpenStream) → j < length y.streams → core (slice_index_or y.streams j d) ≡ core (slice_index_or x.open_streams j d)
     core-at j d lt =
@@ -210,7 +201,7 @@ module _ (sum : List ℕ → ℕ) (x : State) (l : IsLinked sum x) (k : ℕ) (ps
         let q = r.queues j d lt in
         let id = ap (λ (t : OpenStream). t.state.stream_identifier) c in
         stream-then sum x l (E.Arrive k) none frame refl o z i id
-        (q.held ∙ ap (reassembly_of (fold slot_received here ps)) id ∙ ap (λ u. reassembly_of u o.state.stream_identifier) (sym after-is))
+        (q.held ∙ ap (reassembly_of (fold receive_slot here ps)) id ∙ ap (λ u. reassembly_of u o.state.stream_identifier) (sym after-is))
         (q.si ∙ id ∙ sym i.si)
         (q.largest ∙ ap (λ s. s.largest) (Network.same-slots here ps).setup ∙ sym i.largest)
         (ap (λ (t : OpenStream). t.state.max_payload_size) c) (ap (λ (t : OpenStream). t.ordered) c) (ap (λ (t : OpenStream). t.state.sequence_number) c) (ap (λ (t : OpenStream). t.begun) c)
@@ -224,30 +215,30 @@ module _ (sum : List ℕ → ℕ) (x : State) (l : IsLinked sum x) (k : ℕ) (ps
         numbers-core [] = refl
         numbers-core (t ∷ ls) = ap (λ ns. t.state.stream_identifier ∷ ns) (numbers-core ls)
 
-    pub linked-received : IsLinked sum (record x { world = record x.world { streams = map stream_record y.streams; slots = map slot_record slots; duplicates = dups }; open_streams = y.streams; filter = held_filter (reception_of y) })
+    pub linked-received : IsLinked sum (record x { recorded = record x.recorded { streams = map stream_record y.streams; slots = map slot_record slots; duplicates = dups }; open_streams = y.streams; filter = held_filter (reception_of y) })
     linked-received =
-        linked-then sum x l (E.Arrive k) none frame x.progress y.streams (held_filter (reception_of y)) (record x.world { streams = map stream_record y.streams; slots = map slot_record slots; duplicates = dups }) refl
-        (r.filter_is ∙ ap filter_of (sym after-is)) stream-received (subst IsApart (sym numbers-same) l.apart) quiet (world-received ∙ sym after-is)
+        linked-then sum x l (E.Arrive k) none frame x.progress y.streams (held_filter (reception_of y)) (record x.recorded { streams = map stream_record y.streams; slots = map slot_record slots; duplicates = dups }) refl
+        (r.filter_is ∙ ap filter_of (sym after-is)) stream-received (subst IsApart (sym numbers-same) l.apart) quiet (recorded-received ∙ sym after-is)
 
-    pub right-received : (new : Bool) (reply : R.Reply) → new ≡ list_any (is_new x.world) ps → reply ≡ (if new then R.New else R.Repeat) → IsRight x.world (E.Arrive k) reply (record x.world { streams = map stream_record y.streams; slots = map slot_record slots; duplicates = dups })
+    pub right-received : (new : Bool) (reply : R.Reply) → new ≡ list_any (is_new x.recorded) ps → reply ≡ (if new then R.New else R.Repeat) → IsRight x.recorded (E.Arrive k) reply (record x.recorded { streams = map stream_record y.streams; slots = map slot_record slots; duplicates = dups })
     right-received new reply a b = record {
       right = b ∙ ap (λ c. if c then R.New else R.Repeat) a ∙ sym (ap (arrive_reply here) e);
-      moves = world-received ∙ sym after-is;
+      moves = recorded-received ∙ sym after-is;
     }
 
 -- ## What is known of them before
 
-module _ (sum : List ℕ → ℕ) (x : State) (l : IsLinked sum x) (k : ℕ) (ps : List ℕ) (e : slice_get x.world.network k ≡ Some (Data ps)) where
-  fragment-at : (qs : List ℕ) (i : ℕ) → AllFragments x.world qs → i < length qs → (slice_index_or qs i 0 < length x.world.slots) × ((slot_at x.world (slice_index_or qs i 0)).is_terminal_chunk ≡ false)
+module _ (sum : List ℕ → ℕ) (x : State) (l : IsLinked sum x) (k : ℕ) (ps : List ℕ) (e : slice_get x.recorded.network k ≡ Some (Data ps)) where
+  fragment-at : (qs : List ℕ) (i : ℕ) → AllFragments x.recorded qs → i < length qs → (slice_index_or qs i 0 < length x.recorded.slots) × ((slot_at x.recorded (slice_index_or qs i 0)).is_terminal_chunk ≡ false)
   fragment-at [] i a lt = absurd (omega arith)
   fragment-at (q ∷ qs) zero a lt = (a.0, a.1)
   fragment-at (q ∷ qs) (suc i) a lt = fragment-at qs i a.2 (omega arith)
 
-  all-fragments : AllFragments x.world ps
+  all-fragments : AllFragments x.recorded ps
   all-fragments = (facts sum x l).valid.network.carried k ps e
 
-  pub all-inside : (i : ℕ) → i < length ps → slice_index_or ps i 0 < length x.world.slots
+  pub all-inside : (i : ℕ) → i < length ps → slice_index_or ps i 0 < length x.recorded.slots
   all-inside i lt = (fragment-at ps i all-fragments lt).0
 
-  pub all-carried : (i : ℕ) → i < length ps → Carried x.world (slice_index_or ps i 0)
-  all-carried i lt = let f = fragment-at ps i all-fragments lt in carried x.world.setup x.world (slice_index_or ps i 0) (facts sum x l).sane f.0 f.1
+  pub all-carried : (i : ℕ) → i < length ps → Carried x.recorded (slice_index_or ps i 0)
+  all-carried i lt = let f = fragment-at ps i all-fragments lt in carried x.recorded.setup x.recorded (slice_index_or ps i 0) (facts sum x l).sane f.0 f.1

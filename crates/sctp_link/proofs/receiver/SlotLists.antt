@@ -3,12 +3,12 @@ use Rattle.std.proofs.Common.{◌≡◌, ℕ, zero, suc, Bool, true, false, List
 use Rattle.std.specs.Prelude.{◌||◌, if◌then◌else◌, fold, slice_index_or}
 use Rattle.std.specs.List.{list_any}
 use Rattle.std.proofs.Math.Path.{subst}
-use Rattle.sctp_list_lemmas.specs.Lists.{changed}
+use Rattle.sctp_list_lemmas.specs.Lists.{change_at}
 use Rattle.sctp_chunks.specs.declared.chunk.chunk_payload_data.ChunkPayloadData.{ChunkPayloadData}
-use Rattle.sctp_model.specs.World.{World}
+use Rattle.sctp_model.specs.LinkRecord.{LinkRecord}
 use Rattle.sctp_model.specs.Messages.{message_of, no_slot}
 use Rattle.sctp_model.specs.Receiver.{is_new}
-use Rattle.sctp_model.specs.Changes.{slot_received, mark_arrived}
+use Rattle.sctp_model.specs.Changes.{receive_slot, mark_arrived}
 use Rattle.sctp_model.proofs.sender.Network
 use Rattle.sctp_refinement.proofs.arriving.SlotArrives
 use Rattle.sctp_transfer.specs.declared.receiver.arrival.Arrival.{Arrival}
@@ -22,7 +22,7 @@ use Rattle.sctp_link.proofs.receiver.Arrivals.{more}
 use Rattle.sctp_link.proofs.receiver.Slots.{One, core, accepted, opened, one}
 
 -- the numbers of the messages of slots, as a link keeps them
-pub numbers-are : (w : World) (ss : List Slot) → w.slots ≡ map slot_record ss → (p : ℕ) → number_at ss p ≡ message_of w p
+pub numbers-are : (w : LinkRecord) (ss : List Slot) → w.slots ≡ map slot_record ss → (p : ℕ) → number_at ss p ≡ message_of w p
 numbers-are w ss same p = read ss p ∙ ap (λ xs. (slice_index_or xs p no_slot).message) (sym same)
   where
     read : (ss : List Slot) (p : ℕ) → number_at ss p ≡ (slice_index_or (map slot_record ss) p no_slot).message
@@ -31,40 +31,40 @@ numbers-are w ss same p = read ss p ∙ ap (λ xs. (slice_index_or xs p no_slot)
     read (t ∷ ss) (suc p) = read ss p
 
 -- no slot that comes changes them
-numbers-stay : (w : World) (p q : ℕ) → message_of (slot_received w p) q ≡ message_of w q
+numbers-stay : (w : LinkRecord) (p q : ℕ) → message_of (receive_slot w p) q ≡ message_of w q
 numbers-stay w p q = ap (λ y. (y.slot q).message) (Network.same-slot w p).shape_is
 
 -- the receiver refuses none of them
-pub can : (f : ℕ → ℕ) (ps : List ℕ) (cs : List ChunkPayloadData) (w : World) (x : Sides) → ((q : ℕ) → f q ≡ message_of w q) → IsReceiver w x → AllCome w ps cs → CanTake cs (map f ps) x
+pub can : (f : ℕ → ℕ) (ps : List ℕ) (cs : List ChunkPayloadData) (w : LinkRecord) (x : Sides) → ((q : ℕ) → f q ≡ message_of w q) → IsReceiver w x → AllCome w ps cs → CanTake cs (map f ps) x
 can f [] [] w x num r m = tt
 can f [] (c ∷ cs) w x num r m = absurd m
 can f (p ∷ ps) [] w x num r m = absurd m
 can f (p ∷ ps) (c ∷ cs) w x num r m = (
   accepted w x r p c m.0,
   opened w x r p c m.0,
-  λ y t. can f ps cs (slot_received w p) y (λ q. num q ∙ sym (numbers-stay w p q)) (one w x r p c m.0 (f p) (arrival_of c (reception_of x)) y (num p) refl t).receiver m.1,
+  λ y t. can f ps cs (receive_slot w p) y (λ q. num q ∙ sym (numbers-stay w p q)) (one w x r p c m.0 (f p) (arrival_of c (reception_of x)) y (num p) refl t).receiver m.1,
 )
 
 -- what they make
-pub record Came (w : World) (x : Sides) (ps : List ℕ) (bs : List Arrival) (y : Sides) : Type 0 where
-  pub receiver : IsReceiver (fold slot_received w ps) y
+pub record Came (w : LinkRecord) (x : Sides) (ps : List ℕ) (bs : List Arrival) (y : Sides) : Type 0 where
+  pub receiver : IsReceiver (fold receive_slot w ps) y
   pub cores : map core y.streams ≡ map core x.streams
   pub rest : y ≡ record x { streams = y.streams; cumulative_tsn = y.cumulative_tsn; beyond = y.beyond; duplicates = y.duplicates }
   pub new : list_any is_first bs ≡ list_any (is_new w) ps
   pub count : length bs ≡ length ps
-  pub slots : (ss : List Slot) → w.slots ≡ map slot_record ss → (fold slot_received w ps).slots ≡ map slot_record (arrived_in ps bs ss)
-  pub duplicates : (fold slot_received w ps).duplicates ≡ w.duplicates ++ repeated_of ps bs
+  pub slots : (ss : List Slot) → w.slots ≡ map slot_record ss → (fold receive_slot w ps).slots ≡ map slot_record (arrived_in ps bs ss)
+  pub duplicates : (fold receive_slot w ps).duplicates ≡ w.duplicates ++ repeated_of ps bs
 
-marked : (p : ℕ) (ss : List Slot) → map slot_record (changed with_arrival p ss) ≡ changed mark_arrived p (map slot_record ss)
+marked : (p : ℕ) (ss : List Slot) → map slot_record (change_at with_arrival p ss) ≡ change_at mark_arrived p (map slot_record ss)
 marked p [] = refl
 marked zero (t ∷ ss) = refl
 marked (suc p) (t ∷ ss) = ap (λ xs. slot_record t ∷ xs) (marked p ss)
 
 -- whether one of those after a slot is new, where that is not
-others-new : (w : World) (p : ℕ) (ps : List ℕ) → is_new w p ≡ false → list_any (is_new (slot_received w p)) ps ≡ list_any (is_new w) ps
+others-new : (w : LinkRecord) (p : ℕ) (ps : List ℕ) → is_new w p ≡ false → list_any (is_new (receive_slot w p)) ps ≡ list_any (is_new w) ps
 others-new w p ps old = ap (λ v. list_any (is_new v) ps) (SlotArrives.repeated w p old)
 
-came-more : (w : World) (x mid y : Sides) (p : ℕ) (ps : List ℕ) (a : Arrival) (bs : List Arrival) → One w x p a mid → Came (slot_received w p) mid ps bs y → Came w x (p ∷ ps) (a ∷ bs) y
+came-more : (w : LinkRecord) (x mid y : Sides) (p : ℕ) (ps : List ℕ) (a : Arrival) (bs : List Arrival) → One w x p a mid → Came (receive_slot w p) mid ps bs y → Came w x (p ∷ ps) (a ∷ bs) y
 came-more w x mid y p ps a bs o e = record {
   receiver = e.receiver;
   cores = e.cores ∙ o.cores;
@@ -79,15 +79,15 @@ came-more w x mid y p ps a bs o e = record {
     any true h = refl
     any false h = e.new ∙ others-new w p ps h
 
-    slots : (a : Arrival) → (slot_received w p).slots ≡ (if is_first a then changed mark_arrived p w.slots else w.slots) → (ss : List Slot) → w.slots ≡ map slot_record ss → (fold slot_received (slot_received w p) ps).slots ≡ map slot_record (arrived_in (p ∷ ps) (a ∷ bs) ss)
-    slots New h ss same = e.slots (changed with_arrival p ss) (h ∙ ap (changed mark_arrived p) same ∙ sym (marked p ss))
+    slots : (a : Arrival) → (receive_slot w p).slots ≡ (if is_first a then change_at mark_arrived p w.slots else w.slots) → (ss : List Slot) → w.slots ≡ map slot_record ss → (fold receive_slot (receive_slot w p) ps).slots ≡ map slot_record (arrived_in (p ∷ ps) (a ∷ bs) ss)
+    slots New h ss same = e.slots (change_at with_arrival p ss) (h ∙ ap (change_at mark_arrived p) same ∙ sym (marked p ss))
     slots Repeat h ss same = e.slots ss (h ∙ same)
 
-    duplicates : (a : Arrival) → (slot_received w p).duplicates ≡ (if is_first a then w.duplicates else w.duplicates ++ p ∷ []) → (slot_received w p).duplicates ++ repeated_of ps bs ≡ w.duplicates ++ repeated_of (p ∷ ps) (a ∷ bs)
+    duplicates : (a : Arrival) → (receive_slot w p).duplicates ≡ (if is_first a then w.duplicates else w.duplicates ++ p ∷ []) → (receive_slot w p).duplicates ++ repeated_of ps bs ≡ w.duplicates ++ repeated_of (p ∷ ps) (a ∷ bs)
     duplicates New h = ap (λ d. d ++ repeated_of ps bs) h
     duplicates Repeat h = ap (λ d. d ++ repeated_of ps bs) h ∙ more w.duplicates p (repeated_of ps bs)
 
-pub came : (f : ℕ → ℕ) (ps : List ℕ) (cs : List ChunkPayloadData) (bs : List Arrival) (w : World) (x y : Sides) → ((q : ℕ) → f q ≡ message_of w q) → IsReceiver w x → AllCome w ps cs → TakesEach cs (map f ps) bs x y → Came w x ps bs y
+pub came : (f : ℕ → ℕ) (ps : List ℕ) (cs : List ChunkPayloadData) (bs : List Arrival) (w : LinkRecord) (x y : Sides) → ((q : ℕ) → f q ≡ message_of w q) → IsReceiver w x → AllCome w ps cs → TakesEach cs (map f ps) bs x y → Came w x ps bs y
 came f [] [] [] w x y num r m t = record {
   receiver = subst (IsReceiver w) (sym t) r;
   cores = ap (λ (z : Sides). map core z.streams) t;
@@ -103,4 +103,4 @@ came f (p ∷ ps) [] bs w x y num r m t = absurd m
 came f (p ∷ ps) (c ∷ cs) [] w x y num r m t = absurd t
 came f (p ∷ ps) (c ∷ cs) (a ∷ bs) w x y num r m t =
     let o = one w x r p c m.0 (f p) a t.0 (num p) t.1.0.answer t.1.0.taken in
-    came-more w x t.0 y p ps a bs o (came f ps cs bs (slot_received w p) t.0 y (λ q. num q ∙ sym (numbers-stay w p q)) o.receiver m.1 t.1.1)
+    came-more w x t.0 y p ps a bs o (came f ps cs bs (receive_slot w p) t.0 y (λ q. num q ∙ sym (numbers-stay w p q)) o.receiver m.1 t.1.1)

@@ -4,15 +4,15 @@ use Rattle.std.specs.Prelude.{◌==◌, ◌&&◌, not, nat_le, if◌then◌else�
 use Rattle.std.specs.List.{list_all}
 use Rattle.std.proofs.Math.Path.{subst}
 use Rattle.std.proofs.lemmas.List.{length-set}
-use Rattle.sctp_list_lemmas.specs.Lists.{changed, change_where, inserted}
-use Rattle.sctp_list_lemmas.proofs.Cases.{and-none}
+use Rattle.sctp_list_lemmas.specs.Lists.{change_at, change_where, insert_before}
+use Rattle.sctp_list_lemmas.proofs.Cases.{and-none, and-true}
 use Rattle.sctp_chunks.specs.declared.chunk.chunk_payload_data.ChunkPayloadData.{ChunkPayloadData}
 use Rattle.sctp_serial.specs.DataChunks.{chunk_before}
-use Rattle.sctp_reassembly.specs.reassembly_queue.ReassemblyQueue.{Reassembly, ReassemblyState, is_too_large, held_after_ordered_push, BecomesWhole}
-use Rattle.sctp_model.specs.World.{World, StreamRecord}
+use Rattle.sctp_reassembly.specs.reassembly_queue.ReassemblyQueue.{Reassembly, ReassemblyState, is_too_large, held_after_ordered_push, BecomesComplete}
+use Rattle.sctp_model.specs.LinkRecord.{LinkRecord, StreamRecord}
 use Rattle.sctp_model.specs.Messages.{message_at, message_of, slots_of, index_of, tsn_of}
 use Rattle.sctp_model.specs.Receiver.{is_new, has_arrived}
-use Rattle.sctp_model.specs.Changes.{slot_received, becomes_whole, with_whole, whole_noted, stream_changed, mark_arrived}
+use Rattle.sctp_model.specs.Changes.{receive_slot, becomes_complete, with_complete, note_completion, stream_changed, mark_arrived}
 use Rattle.sctp_model.specs.Contents.{chunk_at}
 use Rattle.sctp_model.specs.Valid.{IsSpan}
 use Rattle.sctp_model.proofs.sender.Network
@@ -31,25 +31,22 @@ use Rattle.sctp_transfer.specs.Inbound as Inbound
 use Rattle.sctp_transfer.specs.Receiver.{filter_of as held_filter, stream_of as inbound_of, stream_refusal, data_refusal, arrival_of}
 use Rattle.sctp_transfer.specs.TsnFilter.{Filter, has_come, is_opposite, with_tsn, with_duplicate}
 use Rattle.sctp_halves.specs.Streams.{Keeps, OpenStream, has_number, stream_numbers}
-use Rattle.sctp_halves.specs.Halves.{Sides, reception_of, with_filter_of, on_stream, is_open, Accepts, Takes, repeated}
+use Rattle.sctp_halves.specs.Halves.{Sides, reception_of, with_filter_of, on_stream, is_open, Accepts, Takes, repeat_tsn}
 use Rattle.sctp_link.specs.Records.{stream_record}
 use Rattle.sctp_link.specs.Receiving.{HoldsQueue, IsReceiver, Comes, is_first}
 use Rattle.sctp_link.specs.Places.{IsApart}
-use Rattle.sctp_link.proofs.upkeep.Apart.{differ, each-set, map-set_same, number-found, stream-found, streams-set}
+use Rattle.sctp_link.proofs.upkeep.Apart.{differ, each-set, number-found, stream-found, streams-set}
 use Rattle.sctp_link.proofs.upkeep.StreamPlaces.{placed, changed-found, apart-set}
 use Rattle.sctp_link.proofs.receiver.Came.{come-is, near-is, filter-new, filter-again}
-
-and-yes : (b : Bool) → (b && true) ≡ b
-and-yes true = refl
-and-yes false = refl
+use Rattle.sctp_transfer.proofs.StreamPlaces.{map-set_same}
 
 -- a stream with these complete messages
 abbrev pub shown : ℕ → StreamState → List ℕ → StreamRecord
-shown named s whole = record { stream = s.stream_identifier; unordered = s.unordered; reliability = s.reliability_type; value = s.reliability_value; named = named; whole = whole }
+shown named s complete = record { stream = s.stream_identifier; unordered = s.unordered; reliability = s.reliability_type; value = s.reliability_value; named = named; complete = complete }
 
--- what no chunk changes of a stream: all but what came on it and which messages are whole
+-- what no chunk changes of a stream: all but what came on it and which messages are complete
 abbrev pub core : OpenStream → OpenStream
-core l = record l { inbound = record l.inbound { queue = record { si = 0; held = record { next_ssn = 0; ordered = []; unordered = []; unassembled = [] }; bytes = 0; max_message_size = 0 } }; whole = [] }
+core l = record l { inbound = record l.inbound { queue = record { si = 0; held = record { next_ssn = 0; ordered = []; unordered = []; unassembled = [] }; bytes = 0; max_message_size = 0 } }; complete = [] }
 
 -- what came on the stream with a number
 inbound-found : (s : ℕ) (ls : List OpenStream) → ((k : ℕ) (d : OpenStream) → k < length ls → (slice_index_or ls k d).inbound.queue.si ≡ (slice_index_or ls k d).state.stream_identifier) → find (Inbound.has_number s) (map (λ l. l.inbound) ls) ≡ option_map (λ l. l.inbound) (find (has_number s) ls)
@@ -67,15 +64,15 @@ mapped-some None r e = cc
 mapped-some (Some l) r e = (l, refl)
 
 -- what one slot makes
-pub record One (w : World) (x : Sides) (p : ℕ) (a : Arrival) (y : Sides) : Type 0 where
-  pub receiver : IsReceiver (slot_received w p) y
+pub record One (w : LinkRecord) (x : Sides) (p : ℕ) (a : Arrival) (y : Sides) : Type 0 where
+  pub receiver : IsReceiver (receive_slot w p) y
   pub cores : map core y.streams ≡ map core x.streams
   pub rest : y ≡ record x { streams = y.streams; cumulative_tsn = y.cumulative_tsn; beyond = y.beyond; duplicates = y.duplicates }
   pub answer : is_first a ≡ is_new w p
-  pub slots : (slot_received w p).slots ≡ (if is_first a then changed mark_arrived p w.slots else w.slots)
-  pub duplicates : (slot_received w p).duplicates ≡ (if is_first a then w.duplicates else w.duplicates ++ p ∷ [])
+  pub slots : (receive_slot w p).slots ≡ (if is_first a then change_at mark_arrived p w.slots else w.slots)
+  pub duplicates : (receive_slot w p).duplicates ≡ (if is_first a then w.duplicates else w.duplicates ++ p ∷ [])
 
-module _ (w : World) (x : Sides) (r : IsReceiver w x) (p : ℕ) (c : ChunkPayloadData) (m : Comes w p c) where
+module _ (w : LinkRecord) (x : Sides) (r : IsReceiver w x) (p : ℕ) (c : ChunkPayloadData) (m : Comes w p c) where
   abbrev n : ℕ
   n = message_of w p
 
@@ -108,10 +105,10 @@ module _ (w : World) (x : Sides) (r : IsReceiver w x) (p : ℕ) (c : ChunkPayloa
   -- ## It came before
 
   module _ (old : is_new w p ≡ false) where
-    again : (y : Sides) → y ≡ repeated c.tsn x → IsReceiver (slot_received w p) y
+    again : (y : Sides) → y ≡ repeat_tsn c.tsn x → IsReceiver (receive_slot w p) y
     again y e =
         let is = SlotArrives.repeated w p old in
-        subst (IsReceiver (slot_received w p)) (sym e) (record {
+        subst (IsReceiver (receive_slot w p)) (sym e) (record {
           streams_are = ap (λ v. v.streams) is ∙ r.streams_are;
           filter_is = filter-again w p f (with_duplicate c.tsn f) old r.filter_is (ap (λ t. with_duplicate t f) tsn-is);
           queues = λ k d lt. let q = r.queues k d lt in record {
@@ -122,7 +119,7 @@ module _ (w : World) (x : Sides) (r : IsReceiver w x) (p : ℕ) (c : ChunkPayloa
           apart = r.apart;
         })
 
-    one-again : (y : Sides) → y ≡ repeated c.tsn x → One w x p Repeat y
+    one-again : (y : Sides) → y ≡ repeat_tsn c.tsn x → One w x p Repeat y
     one-again y e = let is = SlotArrives.repeated w p old in record {
       receiver = again y e;
       cores = ap (λ (z : Sides). map core z.streams) e;
@@ -141,15 +138,15 @@ module _ (w : World) (x : Sides) (r : IsReceiver w x) (p : ℕ) (c : ChunkPayloa
     span-here : (message_at w n).ordered ≡ true → IsSpan w s (index_of w n ∷ [])
     span-here o = m.valid.near s (SlotArrives.ordered-on w s p enter o) new
 
-    elsewhere : (t : ℕ) → (t ≡ s → ⊥) → reassembly_of (slot_received w p) t ≡ reassembly_of w t
+    elsewhere : (t : ℕ) → (t ≡ s → ⊥) → reassembly_of (receive_slot w p) t ≡ reassembly_of w t
     elsewhere t ne = by (message_at w n).ordered refl
       where
-        by : (b : Bool) → (message_at w n).ordered ≡ b → reassembly_of (slot_received w p) t ≡ reassembly_of w t
+        by : (b : Bool) → (message_at w n).ordered ≡ b → reassembly_of (receive_slot w p) t ≡ reassembly_of w t
         by true o = SlotArrives.slot-elsewhere w s p t m.valid.valid enter (span-here o) ne
         by false o = Keeps.unordered-elsewhere w s p t (SlotArrives.arrives-unassembled w s p enter o) ne
 
-    noted-is : slot_received w p ≡ whole_noted (with_arrived w p) n
-    noted-is = ap (λ b. if b then whole_noted (with_arrived w p) n else record w { duplicates = w.duplicates ++ p ∷ [] }) new
+    noted-is : receive_slot w p ≡ note_completion (with_arrived w p) n
+    noted-is = ap (λ b. if b then note_completion (with_arrived w p) n else record w { duplicates = w.duplicates ++ p ∷ [] }) new
 
     fresh : has_come c.tsn f ≡ false
     fresh = told ∙ ap not new
@@ -157,11 +154,11 @@ module _ (w : World) (x : Sides) (r : IsReceiver w x) (p : ℕ) (c : ChunkPayloa
     near : is_opposite c.tsn f ≡ false
     near = ap (λ t. is_opposite t f) tsn-is ∙ near-is w f m.valid.valid.skipped_made m.valid.valid.few r.filter_is p m.valid.made new
 
-    slots-noted : (b : Bool) → (if b then stream_changed (with_arrived w p) s (with_whole n) else with_arrived w p).slots ≡ changed mark_arrived p w.slots
+    slots-noted : (b : Bool) → (if b then stream_changed (with_arrived w p) s (with_complete n) else with_arrived w p).slots ≡ change_at mark_arrived p w.slots
     slots-noted true = refl
     slots-noted false = refl
 
-    duplicates-noted : (b : Bool) → (if b then stream_changed (with_arrived w p) s (with_whole n) else with_arrived w p).duplicates ≡ w.duplicates
+    duplicates-noted : (b : Bool) → (if b then stream_changed (with_arrived w p) s (with_complete n) else with_arrived w p).duplicates ≡ w.duplicates
     duplicates-noted true = refl
     duplicates-noted false = refl
 
@@ -187,8 +184,8 @@ module _ (w : World) (x : Sides) (r : IsReceiver w x) (p : ℕ) (c : ChunkPayloa
         state-is = ap (λ (l : OpenStream). l.state) keeps.rest
 
         record Holds : Type 0 where
-          queue : z.inbound.queue.held ≡ reassembly_of (slot_received w p) s
-          noted : (keeps.whole && (chunk_at w p).unordered) ≡ becomes_whole (with_arrived w p) n
+          queue : z.inbound.queue.held ≡ reassembly_of (receive_slot w p) s
+          noted : (keeps.complete && (chunk_at w p).unordered) ≡ becomes_complete (with_arrived w p) n
           si : z.inbound.queue.si ≡ y.inbound.queue.si
           largest : z.inbound.queue.max_message_size ≡ y.inbound.queue.max_message_size
 
@@ -197,17 +194,17 @@ module _ (w : World) (x : Sides) (r : IsReceiver w x) (p : ℕ) (c : ChunkPayloa
             let q = keeps.ordered_queue (ap not o) in
             record {
               queue = ap (λ (q : ReassemblyState). q.held) q ∙ ap (held_after_ordered_push (chunk_at w p)) here ∙ sym (ordered-slot w s p enter m.valid.valid o (span-here o));
-              noted = ap (λ b. keeps.whole && not b) o ∙ and-none keeps.whole ∙ sym (ap (λ b. not b && (has_arrived (with_arrived w p) n && list_all (λ i. nat_le w.skipped i) (slots_of (with_arrived w p) n))) o);
+              noted = ap (λ b. keeps.complete && not b) o ∙ and-none keeps.complete ∙ sym (ap (λ b. not b && (has_arrived (with_arrived w p) n && list_all (λ i. nat_le w.skipped i) (slots_of (with_arrived w p) n))) o);
               si = ap (λ (q : ReassemblyState). q.si) q;
               largest = ap (λ (q : ReassemblyState). q.max_message_size) q;
             }
         holds-by false o =
             let q = keeps.unordered_queue (ap not o) in
-            let pushed = subst (λ (h : Reassembly). BecomesWhole (inserted chunk_before (chunk_at w p) h.unassembled) h z.inbound.queue.held keeps.whole) here q.0 in
-            let same = becomes-same (inserted chunk_before (chunk_at w p) (reassembly_of w s).unassembled) (reassembly_of w s) z.inbound.queue.held (reassembly_of (slot_received w p) s) keeps.whole (becomes_whole (with_arrived w p) n) pushed (unordered-slot w s p m.known.0 m.valid.valid m.valid.unassembled enter o m.known.1) in
+            let pushed = subst (λ (h : Reassembly). BecomesComplete (insert_before chunk_before (chunk_at w p) h.unassembled) h z.inbound.queue.held keeps.complete) here q.0 in
+            let same = becomes-same (insert_before chunk_before (chunk_at w p) (reassembly_of w s).unassembled) (reassembly_of w s) z.inbound.queue.held (reassembly_of (receive_slot w p) s) keeps.complete (becomes_complete (with_arrived w p) n) pushed (unordered-slot w s p m.known.0 m.valid.valid m.valid.unassembled enter o m.known.1) in
             record {
               queue = same.0;
-              noted = ap (λ b. keeps.whole && not b) o ∙ and-yes keeps.whole ∙ same.1;
+              noted = ap (λ b. keeps.complete && not b) o ∙ and-true keeps.complete ∙ same.1;
               si = ap (λ (q : ReassemblyState). q.si) q.1;
               largest = ap (λ (q : ReassemblyState). q.max_message_size) q.1;
             }
@@ -221,35 +218,35 @@ module _ (w : World) (x : Sides) (r : IsReceiver w x) (p : ℕ) (c : ChunkPayloa
         streams-apart : IsApart (stream_numbers x.streams)
         streams-apart = r.apart
 
-        shown-is : (b : Bool) → becomes_whole (with_arrived w p) n ≡ b → stream_record z ≡ shown y.named y.state (if b then y.whole ++ n ∷ [] else y.whole)
+        shown-is : (b : Bool) → becomes_complete (with_arrived w p) n ≡ b → stream_record z ≡ shown y.named y.state (if b then y.complete ++ n ∷ [] else y.complete)
         shown-is b h =
-            ap (λ (t : StreamState). shown z.named t z.whole) state-is
-            ∙ ap (λ n. shown n y.state z.whole) (ap (λ (l : OpenStream). l.named) keeps.rest)
-            ∙ ap (shown y.named y.state) (ap (λ (l : OpenStream). l.whole) keeps.rest ∙ ap (λ c. if c then y.whole ++ number ∷ [] else y.whole) (holds.noted ∙ h) ∙ ap (λ i. if b then y.whole ++ i ∷ [] else y.whole) number_is)
+            ap (λ (t : StreamState). shown z.named t z.complete) state-is
+            ∙ ap (λ n. shown n y.state z.complete) (ap (λ (l : OpenStream). l.named) keeps.rest)
+            ∙ ap (shown y.named y.state) (ap (λ (l : OpenStream). l.complete) keeps.rest ∙ ap (λ c. if c then y.complete ++ number ∷ [] else y.complete) (holds.noted ∙ h) ∙ ap (λ i. if b then y.complete ++ i ∷ [] else y.complete) number_is)
 
-        streams-are : (b : Bool) → becomes_whole (with_arrived w p) n ≡ b → (if b then stream_changed (with_arrived w p) s (with_whole n) else with_arrived w p).streams ≡ map stream_record (slice_set x.streams at z)
+        streams-are : (b : Bool) → becomes_complete (with_arrived w p) n ≡ b → (if b then stream_changed (with_arrived w p) s (with_complete n) else with_arrived w p).streams ≡ map stream_record (slice_set x.streams at z)
         streams-are true h = sym (
-            streams-set x.streams at z d (with_whole n) streams-apart lt (shown-is true h)
-            ∙ ap (λ t. map (λ (q : StreamRecord). if q.stream == t then with_whole n q else q) (map stream_record x.streams)) (id-at d)
-            ∙ ap (map (λ (q : StreamRecord). if q.stream == s then with_whole n q else q)) (sym r.streams_are))
+            streams-set x.streams at z d (with_complete n) streams-apart lt (shown-is true h)
+            ∙ ap (λ t. map (λ (q : StreamRecord). if q.stream == t then with_complete n q else q) (map stream_record x.streams)) (id-at d)
+            ∙ ap (map (λ (q : StreamRecord). if q.stream == s then with_complete n q else q)) (sym r.streams_are))
         streams-are false h = sym (map-set_same stream_record x.streams at z d (shown-is false h) ∙ sym r.streams_are)
 
-        rest-is : (b : Bool) → (if b then stream_changed (with_arrived w p) s (with_whole n) else with_arrived w p) ≡ record (with_arrived w p) { streams = (if b then stream_changed (with_arrived w p) s (with_whole n) else with_arrived w p).streams }
+        rest-is : (b : Bool) → (if b then stream_changed (with_arrived w p) s (with_complete n) else with_arrived w p) ≡ record (with_arrived w p) { streams = (if b then stream_changed (with_arrived w p) s (with_complete n) else with_arrived w p).streams }
         rest-is true = refl
         rest-is false = refl
 
-        all-is : slot_received w p ≡ record (with_arrived w p) { streams = map stream_record (slice_set x.streams at z) }
+        all-is : receive_slot w p ≡ record (with_arrived w p) { streams = map stream_record (slice_set x.streams at z) }
         all-is =
-            let b = becomes_whole (with_arrived w p) n in
-            noted-is ∙ rest-is b ∙ ap {B = World} (λ rs. record (with_arrived w p) { streams = rs }) (streams-are b refl)
+            let b = becomes_complete (with_arrived w p) n in
+            noted-is ∙ rest-is b ∙ ap {B = LinkRecord} (λ rs. record (with_arrived w p) { streams = rs }) (streams-are b refl)
 
-        queue-then : (k : ℕ) (e : OpenStream) → k < length (slice_set x.streams at z) → HoldsQueue (slot_received w p) (slice_index_or (slice_set x.streams at z) k e)
+        queue-then : (k : ℕ) (e : OpenStream) → k < length (slice_set x.streams at z) → HoldsQueue (receive_slot w p) (slice_index_or (slice_set x.streams at z) k e)
         queue-then k e less =
             let inside : k < length x.streams = omega (arith, less, length-set x.streams at z) in
             let same = ap (λ t. t.largest) (Network.same-slot w p).setup in
-            each-set (HoldsQueue (slot_received w p)) x.streams at k z e lt
+            each-set (HoldsQueue (receive_slot w p)) x.streams at k z e lt
             (record {
-              held = holds.queue ∙ ap (reassembly_of (slot_received w p)) (sym (same-id ∙ id-at d));
+              held = holds.queue ∙ ap (reassembly_of (receive_slot w p)) (sym (same-id ∙ id-at d));
               si = holds.si ∙ (r.queues at d lt).si ∙ sym same-id;
               largest = holds.largest ∙ (r.queues at d lt).largest ∙ sym same;
             })
@@ -259,7 +256,7 @@ module _ (w : World) (x : Sides) (r : IsReceiver w x) (p : ℕ) (c : ChunkPayloa
               largest = q.largest ∙ sym same;
             })
 
-        kept : IsReceiver (slot_received w p) (with_filter_of (with_tsn c.tsn f) (record x { streams = slice_set x.streams at z }))
+        kept : IsReceiver (receive_slot w p) (with_filter_of (with_tsn c.tsn f) (record x { streams = slice_set x.streams at z }))
         kept = record {
           streams_are = ap (λ v. v.streams) all-is;
           filter_is = filter-new w p f (with_tsn c.tsn f) m.valid.valid m.valid.made new r.filter_is (ap (λ t. with_tsn t f) tsn-is);
@@ -275,10 +272,10 @@ module _ (w : World) (x : Sides) (r : IsReceiver w x) (p : ℕ) (c : ChunkPayloa
 
         one-kept : (u : Sides) → u ≡ with_filter_of (with_tsn c.tsn f) (on_stream c.stream_identifier (λ _. z) x) → One w x p New u
         one-kept u e =
-            let b = becomes_whole (with_arrived w p) n in
+            let b = becomes_complete (with_arrived w p) n in
             let is : u ≡ with_filter_of (with_tsn c.tsn f) (record x { streams = slice_set x.streams at z }) = e ∙ ap (λ ls. with_filter_of (with_tsn c.tsn f) (record x { streams = ls })) (sym set-is) in
             record {
-              receiver = subst (IsReceiver (slot_received w p)) (sym is) kept;
+              receiver = subst (IsReceiver (receive_slot w p)) (sym is) kept;
               cores = ap (λ (v : Sides). map core v.streams) is ∙ map-set_same core x.streams at z d core-is;
               rest = subst (λ (v : Sides). v ≡ record x { streams = v.streams; cumulative_tsn = v.cumulative_tsn; beyond = v.beyond; duplicates = v.duplicates }) (sym is) refl;
               answer = sym new;

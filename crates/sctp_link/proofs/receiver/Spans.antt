@@ -1,16 +1,15 @@
 -- The span test of a datagram of slots.
 use Rattle.std.proofs.Common.{◌≡◌, ℕ, zero, suc, ◌+◌, ◌<◌, ◌≤◌, ◌^◌, Bool, true, false, List, [], ◌∷◌, ◌++◌, ◌-◌, length, map, drop, Option, Some, None, refl, ap, sym, ◌∙◌, inl, inr, arith, add-one}
 use Rattle.std.specs.Prelude.{◌⊎◌, ◌==◌, ◌&&◌, ◌||◌, not, is_some, if◌then◌else◌, fold, max, min, nat_lt, slice_get, slice_index_or}
-use Rattle.std.specs.List.{list_any, list_all}
+use Rattle.std.specs.List.{list_any, list_all, filter}
 use Rattle.std.proofs.Math.Path.{subst}
 use Rattle.std.proofs.lemmas.Bool.Decides.{nat_tests}
-use Rattle.sctp_list_lemmas.specs.Kept.{passing}
 use Rattle.sctp_list_lemmas.proofs.Cases.{same-yes, same-is}
 use Rattle.sctp_list_lemmas.proofs.More.{both, and, not_both, same_test}
-use Rattle.sctp_model.specs.World.{World, StreamRecord, Data}
+use Rattle.sctp_model.specs.LinkRecord.{LinkRecord, StreamRecord, Data}
 use Rattle.sctp_model.specs.Messages.{message_at, message_of, index_of, is_ordered_on}
 use Rattle.sctp_model.specs.Receiver.{is_new, arrived_at, held_on, next_of, least, greatest, fits, spans_fit}
-use Rattle.sctp_model.specs.Changes.{slot_received}
+use Rattle.sctp_model.specs.Changes.{receive_slot}
 use Rattle.sctp_model.specs.Steps.{arrival_fits}
 use Rattle.sctp_model.specs.Valid.{IsSpan}
 use Rattle.sctp_model.proofs.sender.Network
@@ -20,7 +19,7 @@ use Rattle.sctp_refinement.proofs.arriving.Arrival
 use Rattle.sctp_refinement.proofs.arriving.Arrival.{with_arrived}
 use Rattle.sctp_refinement.proofs.arriving.Carried.{Carried, noted, by_step}
 use Rattle.sctp_refinement.proofs.arriving.SlotArrives.{repeated}
-use Rattle.sctp_refinement.proofs.arriving.SpanEnds.{only-slot, all-streams, fits-span, lowest, highest, greatest-append, least-append}
+use Rattle.sctp_refinement.proofs.arriving.SpanEnds.{only-slot, all-streams, fits-span}
 use Rattle.sctp_refinement.proofs.arriving.Stays.{by_place}
 use Rattle.sctp_refinement.proofs.reading.Line
 use Rattle.sctp_refinement.proofs.reading.Taken.{held}
@@ -28,6 +27,8 @@ use Rattle.sctp_link.specs.Linked.{State, IsLinked}
 use Rattle.sctp_link.specs.Receiving.{LiesSomewhere, adds_on, added_on, slot_fits}
 use Rattle.sctp_link.proofs.upkeep.Facts.{facts}
 use Rattle.sctp_link.proofs.receiver.Received.{all-carried}
+use Rattle.sctp_model.proofs.receiver.Spans.{greatest-append, least-append}
+use Rattle.sctp_refinement.specs.Naming.{lowest_held, highest_held}
 
 -- ## What slots add
 
@@ -35,12 +36,12 @@ use Rattle.sctp_link.proofs.receiver.Received.{all-carried}
 abbrev among : ℕ → List ℕ → Bool
 among n ms = list_any (λ m. m == n) ms
 
-added-any : (w : World) (t n : ℕ) (ms : List ℕ) → is_ordered_on w t n ≡ true → among n ms ≡ true → list_any (λ z. z == index_of w n) (map (index_of w) (passing (is_ordered_on w t) ms)) ≡ true
+added-any : (w : LinkRecord) (t n : ℕ) (ms : List ℕ) → is_ordered_on w t n ≡ true → among n ms ≡ true → list_any (λ z. z == index_of w n) (map (index_of w) (filter (is_ordered_on w t) ms)) ≡ true
 added-any w t n [] on e = cc
 added-any w t n (m ∷ ms) on e = step (m == n) refl (is_ordered_on w t m) refl e (added-any w t n ms on)
   where
-    step : (b : Bool) → (m == n) ≡ b → (o : Bool) → is_ordered_on w t m ≡ o → (b || among n ms) ≡ true → (among n ms ≡ true → list_any (λ z. z == index_of w n) (map (index_of w) (passing (is_ordered_on w t) ms)) ≡ true) → list_any (λ z. z == index_of w n) (map (index_of w) (if o then m ∷ passing (is_ordered_on w t) ms else passing (is_ordered_on w t) ms)) ≡ true
-    step true h true f e ih = ap (λ k. (index_of w k == index_of w n) || list_any (λ z. z == index_of w n) (map (index_of w) (passing (is_ordered_on w t) ms))) (same-is m n h) ∙ ap (λ b. b || list_any (λ z. z == index_of w n) (map (index_of w) (passing (is_ordered_on w t) ms))) (same-yes (index_of w n))
+    step : (b : Bool) → (m == n) ≡ b → (o : Bool) → is_ordered_on w t m ≡ o → (b || among n ms) ≡ true → (among n ms ≡ true → list_any (λ z. z == index_of w n) (map (index_of w) (filter (is_ordered_on w t) ms)) ≡ true) → list_any (λ z. z == index_of w n) (map (index_of w) (if o then m ∷ filter (is_ordered_on w t) ms else filter (is_ordered_on w t) ms)) ≡ true
+    step true h true f e ih = ap (λ k. (index_of w k == index_of w n) || list_any (λ z. z == index_of w n) (map (index_of w) (filter (is_ordered_on w t) ms))) (same-is m n h) ∙ ap (λ b. b || list_any (λ z. z == index_of w n) (map (index_of w) (filter (is_ordered_on w t) ms))) (same-yes (index_of w n))
     step true h false f e ih = absurd (not_both (sym f ∙ ap (is_ordered_on w t) (same-is m n h) ∙ on))
     step false h true f e ih = or-yes (index_of w m == index_of w n) (ih e)
       where
@@ -52,7 +53,7 @@ added-any w t n (m ∷ ms) on e = step (m == n) refl (is_ordered_on w t m) refl 
 -- ## After a slot
 
 -- a slot that is new then was new before
-pub new-back : (w : World) (q p : ℕ) → is_new (slot_received w q) p ≡ true → is_new w p ≡ true
+pub new-back : (w : LinkRecord) (q p : ℕ) → is_new (receive_slot w q) p ≡ true → is_new w p ≡ true
 new-back w q p = by_step (λ v. is_new v p ≡ true → is_new w p ≡ true) w q (λ h. h) (λ e b k. by_place {C = is_new (noted w q b) p ≡ true → is_new w p ≡ true} p q (λ ne h. unseen b ne ∙ h) (λ z h. ap (is_new w) z ∙ e))
   where
     unseen : (b : Bool) → (p ≡ q → ⊥) → is_new w p ≡ is_new (noted w q b) p
@@ -66,24 +67,24 @@ new-back w q p = by_step (λ v. is_new v p ≡ true → is_new w p ≡ true) w q
         skipped true = refl
         skipped false = refl
 
-module _ (w : World) (q : ℕ) (ms : List ℕ) where
-  abbrev v : World
-  v = slot_received w q
+module _ (w : LinkRecord) (q : ℕ) (ms : List ℕ) where
+  abbrev v : LinkRecord
+  v = receive_slot w q
 
-  same-added : (t : ℕ) → map (index_of v) (passing (is_ordered_on v t) ms) ≡ map (index_of w) (passing (is_ordered_on w t) ms)
+  same-added : (t : ℕ) → map (index_of v) (filter (is_ordered_on v t) ms) ≡ map (index_of w) (filter (is_ordered_on w t) ms)
   same-added t = inner ms
     where
-      inner : (ns : List ℕ) → map (index_of v) (passing (is_ordered_on v t) ns) ≡ map (index_of w) (passing (is_ordered_on w t) ns)
+      inner : (ns : List ℕ) → map (index_of v) (filter (is_ordered_on v t) ns) ≡ map (index_of w) (filter (is_ordered_on w t) ns)
       inner [] = refl
       inner (n ∷ ns) = step (is_ordered_on v t n) (is_ordered_on w t n) ((only-slot w q).on t n) (inner ns)
         where
-          step : (a b : Bool) → a ≡ b → map (index_of v) (passing (is_ordered_on v t) ns) ≡ map (index_of w) (passing (is_ordered_on w t) ns) → map (index_of v) (if a then n ∷ passing (is_ordered_on v t) ns else passing (is_ordered_on v t) ns) ≡ map (index_of w) (if b then n ∷ passing (is_ordered_on w t) ns else passing (is_ordered_on w t) ns)
-          step true true e ih = ap (λ i. i ∷ map (index_of v) (passing (is_ordered_on v t) ns)) ((only-slot w q).index n) ∙ ap (λ is. index_of w n ∷ is) ih
+          step : (a b : Bool) → a ≡ b → map (index_of v) (filter (is_ordered_on v t) ns) ≡ map (index_of w) (filter (is_ordered_on w t) ns) → map (index_of v) (if a then n ∷ filter (is_ordered_on v t) ns else filter (is_ordered_on v t) ns) ≡ map (index_of w) (if b then n ∷ filter (is_ordered_on w t) ns else filter (is_ordered_on w t) ns)
+          step true true e ih = ap (λ i. i ∷ map (index_of v) (filter (is_ordered_on v t) ns)) ((only-slot w q).index n) ∙ ap (λ is. index_of w n ∷ is) ih
           step false false e ih = ih
           step true false e ih = cc
           step false true e ih = cc
 
-  spans-then : among (message_of w q) ms ≡ true → (t : ℕ) → IsSpan w t (map (index_of w) (passing (is_ordered_on w t) ms)) → IsSpan v t (map (index_of v) (passing (is_ordered_on v t) ms))
+  spans-then : among (message_of w q) ms ≡ true → (t : ℕ) → IsSpan w t (map (index_of w) (filter (is_ordered_on w t) ms)) → IsSpan v t (map (index_of v) (filter (is_ordered_on v t) ms))
   spans-then among' t sp =
       let o = only-slot w q in
       record {
@@ -103,16 +104,16 @@ module _ (w : World) (q : ℕ) (ms : List ℕ) where
     where
       step : (b : Bool) → is_new w q ≡ b → spans_fit v ms ≡ true
       step false h = ap (λ u. spans_fit u ms) (repeated w q h) ∙ e
-      step true h = all-streams w q (λ t. fits w (map (index_of w) (passing (is_ordered_on w t) ms)) t) (λ t. fits v (map (index_of v) (passing (is_ordered_on v t) ms)) t)
-          (λ t f. fits-span v t (map (index_of v) (passing (is_ordered_on v t) ms)) (spans-then (among' h) t (span-fits w t (map (index_of w) (passing (is_ordered_on w t) ms)) f))) e
+      step true h = all-streams w q (λ t. fits w (map (index_of w) (filter (is_ordered_on w t) ms)) t) (λ t. fits v (map (index_of v) (filter (is_ordered_on v t) ms)) t)
+          (λ t f. fits-span v t (map (index_of v) (filter (is_ordered_on v t) ms)) (spans-then (among' h) t (span-fits w t (map (index_of w) (filter (is_ordered_on w t) ms)) f))) e
 
 -- so do all of them, one after another
-fits-all : (w v : World) (ps qs ms : List ℕ) → Network.Same w v → ((p : ℕ) → is_new v p ≡ true → is_new w p ≡ true) → ((p : ℕ) → list_any (λ q. q == p) qs ≡ true → is_new w p ≡ true → among (message_of w p) ms ≡ true) → spans_fit v ms ≡ true → spans_fit (fold slot_received v qs) ms ≡ true
+fits-all : (w v : LinkRecord) (ps qs ms : List ℕ) → Network.Same w v → ((p : ℕ) → is_new v p ≡ true → is_new w p ≡ true) → ((p : ℕ) → list_any (λ q. q == p) qs ≡ true → is_new w p ≡ true → among (message_of w p) ms ≡ true) → spans_fit v ms ≡ true → spans_fit (fold receive_slot v qs) ms ≡ true
 fits-all w v ps [] ms same back have e = e
 fits-all w v ps (q ∷ qs) ms same back have e =
     let s = Network.same-slot v q in
     let of : message_of v q ≡ message_of w q = ap (λ y. (y.slot q).message) same.shape_is in
-    fits-all w (slot_received v q) ps qs ms (record { setup = s.setup ∙ same.setup; network = s.network ∙ same.network; shape_is = s.shape_is ∙ same.shape_is })
+    fits-all w (receive_slot v q) ps qs ms (record { setup = s.setup ∙ same.setup; network = s.network ∙ same.network; shape_is = s.shape_is ∙ same.shape_is })
     (λ p h. back p (new-back v q p h))
     (λ p h. have p (or-yes (q == p) h))
     (fits-then v q ms (λ h. ap (λ n. among n ms) of ∙ have q (ap (λ b. b || list_any (λ p. p == q) qs) (same-yes q)) (back q h)) e)
@@ -122,12 +123,12 @@ fits-all w v ps (q ∷ qs) ms same back have e =
     or-yes false h = h
 
 -- a new one's message is among those of the new ones
-pub new-among : (w : World) (ps : List ℕ) (p : ℕ) → list_any (λ q. q == p) ps ≡ true → is_new w p ≡ true → list_any (λ m. m == message_of w p) (map (message_of w) (passing (is_new w) ps)) ≡ true
+pub new-among : (w : LinkRecord) (ps : List ℕ) (p : ℕ) → list_any (λ q. q == p) ps ≡ true → is_new w p ≡ true → list_any (λ m. m == message_of w p) (map (message_of w) (filter (is_new w) ps)) ≡ true
 new-among w [] p h new = cc
 new-among w (q ∷ ps) p h new = step (q == p) refl (is_new w q) refl h (λ g. new-among w ps p g new)
   where
-    step : (b : Bool) → (q == p) ≡ b → (o : Bool) → is_new w q ≡ o → (b || list_any (λ q. q == p) ps) ≡ true → (list_any (λ q. q == p) ps ≡ true → list_any (λ m. m == message_of w p) (map (message_of w) (passing (is_new w) ps)) ≡ true) → list_any (λ m. m == message_of w p) (map (message_of w) (if o then q ∷ passing (is_new w) ps else passing (is_new w) ps)) ≡ true
-    step true e true f g ih = ap (λ k. (message_of w k == message_of w p) || list_any (λ m. m == message_of w p) (map (message_of w) (passing (is_new w) ps))) (same-is q p e) ∙ ap (λ b. b || list_any (λ m. m == message_of w p) (map (message_of w) (passing (is_new w) ps))) (same-yes (message_of w p))
+    step : (b : Bool) → (q == p) ≡ b → (o : Bool) → is_new w q ≡ o → (b || list_any (λ q. q == p) ps) ≡ true → (list_any (λ q. q == p) ps ≡ true → list_any (λ m. m == message_of w p) (map (message_of w) (filter (is_new w) ps)) ≡ true) → list_any (λ m. m == message_of w p) (map (message_of w) (if o then q ∷ filter (is_new w) ps else filter (is_new w) ps)) ≡ true
+    step true e true f g ih = ap (λ k. (message_of w k == message_of w p) || list_any (λ m. m == message_of w p) (map (message_of w) (filter (is_new w) ps))) (same-is q p e) ∙ ap (λ b. b || list_any (λ m. m == message_of w p) (map (message_of w) (filter (is_new w) ps))) (same-yes (message_of w p))
     step true e false f g ih = absurd (not_both (sym f ∙ ap (is_new w) (same-is q p e) ∙ new))
     step false e true f g ih = or-yes (message_of w q == message_of w p) (ih g)
       where
@@ -163,20 +164,20 @@ each-all f (q ∷ ps) h p e = step (q == p) refl e (both (f q) (list_all f ps) h
     step false s g h ih = ih h.1 g
 
 -- a slot that adds to stream t
-record Adds (w : World) (t : ℕ) (ps : List ℕ) : Type 0 where
+record Adds (w : LinkRecord) (t : ℕ) (ps : List ℕ) : Type 0 where
   place : ℕ
   there : list_any (λ q. q == place) ps ≡ true
   new : is_new w place ≡ true
   on : is_ordered_on w t (message_of w place) ≡ true
 
-adds-more : (w : World) (t q : ℕ) (ps : List ℕ) → Adds w t ps → Adds w t (q ∷ ps)
+adds-more : (w : LinkRecord) (t q : ℕ) (ps : List ℕ) → Adds w t ps → Adds w t (q ∷ ps)
 adds-more w t q ps a = record { place = a.place; there = or-yes (q == a.place) a.there; new = a.new; on = a.on }
   where
     or-yes : (b : Bool) {c : Bool} → c ≡ true → (b || c) ≡ true
     or-yes true h = refl
     or-yes false h = h
 
-adds-or : (w : World) (t : ℕ) (ps : List ℕ) → (added_on w t ps ≡ []) ⊎ Adds w t ps
+adds-or : (w : LinkRecord) (t : ℕ) (ps : List ℕ) → (added_on w t ps ≡ []) ⊎ Adds w t ps
 adds-or w t [] = inl refl
 adds-or w t (q ∷ ps) = step (is_new w q) refl (is_ordered_on w t (message_of w q)) refl (adds-or w t ps)
   where
@@ -184,18 +185,18 @@ adds-or w t (q ∷ ps) = step (is_new w q) refl (is_ordered_on w t (message_of w
     more (inl e) = inl e
     more (inr a) = inr (adds-more w t q ps a)
 
-    step : (b : Bool) → is_new w q ≡ b → (o : Bool) → is_ordered_on w t (message_of w q) ≡ o → (added_on w t ps ≡ []) ⊎ Adds w t ps → (map (index_of w) (passing (is_ordered_on w t) (map (message_of w) (if b then q ∷ passing (is_new w) ps else passing (is_new w) ps))) ≡ []) ⊎ Adds w t (q ∷ ps)
+    step : (b : Bool) → is_new w q ≡ b → (o : Bool) → is_ordered_on w t (message_of w q) ≡ o → (added_on w t ps ≡ []) ⊎ Adds w t ps → (map (index_of w) (filter (is_ordered_on w t) (map (message_of w) (if b then q ∷ filter (is_new w) ps else filter (is_new w) ps))) ≡ []) ⊎ Adds w t (q ∷ ps)
     step false e o f ih = more ih
     step true e true f ih = inr (record { place = q; there = ap (λ b. b || list_any (λ p. p == q) ps) (same-yes q); new = e; on = f })
     step true e false f ih = skip (more ih)
       where
-        skip : (added_on w t ps ≡ []) ⊎ Adds w t (q ∷ ps) → (map (index_of w) (if is_ordered_on w t (message_of w q) then message_of w q ∷ passing (is_ordered_on w t) (map (message_of w) (passing (is_new w) ps)) else passing (is_ordered_on w t) (map (message_of w) (passing (is_new w) ps))) ≡ []) ⊎ Adds w t (q ∷ ps)
-        skip (inl g) = inl (ap (λ o. map (index_of w) (if o then message_of w q ∷ passing (is_ordered_on w t) (map (message_of w) (passing (is_new w) ps)) else passing (is_ordered_on w t) (map (message_of w) (passing (is_new w) ps)))) f ∙ g)
+        skip : (added_on w t ps ≡ []) ⊎ Adds w t (q ∷ ps) → (map (index_of w) (if is_ordered_on w t (message_of w q) then message_of w q ∷ filter (is_ordered_on w t) (map (message_of w) (filter (is_new w) ps)) else filter (is_ordered_on w t) (map (message_of w) (filter (is_new w) ps))) ≡ []) ⊎ Adds w t (q ∷ ps)
+        skip (inl g) = inl (ap (λ o. map (index_of w) (if o then message_of w q ∷ filter (is_ordered_on w t) (map (message_of w) (filter (is_new w) ps)) else filter (is_ordered_on w t) (map (message_of w) (filter (is_new w) ps)))) f ∙ g)
         skip (inr a) = inr a
 
-module _ (w : World) (ps : List ℕ) (all : spans_fit w [] ≡ true) (carried : (i : ℕ) → i < length ps → Carried w (slice_index_or ps i 0)) where
+module _ (w : LinkRecord) (ps : List ℕ) (all : spans_fit w [] ≡ true) (carried : (i : ℕ) → i < length ps → Carried w (slice_index_or ps i 0)) where
   abbrev ms : List ℕ
-  ms = map (message_of w) (passing (is_new w) ps)
+  ms = map (message_of w) (filter (is_new w) ps)
 
   slots-fit : spans_fit w ms ≡ true → (p : ℕ) → list_any (λ q. q == p) ps ≡ true → slot_fits w ps p ≡ true
   slots-fit e p there = step (is_new w p && (message_at w (message_of w p)).ordered)
@@ -223,13 +224,13 @@ module _ (w : World) (ps : List ℕ) (all : spans_fit w [] ≡ true) (carried : 
       each [] e = refl
       each (r ∷ rs) e = let c = both (fits w [] r.stream) (list_all (λ r. fits w [] r.stream) rs) e in and (fits w (added_on w r.stream ps) r.stream) (list_all (λ r. fits w (added_on w r.stream ps) r.stream) rs) (one r.stream c.0 (adds-or w r.stream ps)) (each rs c.1)
 
-  later : spans_fit w ms ≡ true → spans_fit (fold slot_received w ps) ms ≡ true
+  later : spans_fit w ms ≡ true → spans_fit (fold receive_slot w ps) ms ≡ true
   later e = fits-all w w ps ps ms (record { setup = refl; network = refl; shape_is = refl }) (λ p h. h) (λ p h new. new-among w ps p h new) e
 
   -- the test of all of them is that of each
   pub arrival-fits-slots : arrival_fits w (Some (Data ps)) ≡ list_all (slot_fits w ps) ps
   arrival-fits-slots =
-      joined (spans_fit w ms) (spans_fit (fold slot_received w ps) ms) later
+      joined (spans_fit w ms) (spans_fit (fold receive_slot w ps) ms) later
       ∙ same_test (spans_fit w ms) (list_all (slot_fits w ps) ps) (λ e. all-each (slot_fits w ps) ps (slots-fit e)) (λ e. fit-slots (each-all (slot_fits w ps) ps e))
     where
       joined : (a b : Bool) → (a ≡ true → b ≡ true) → (a && b) ≡ a
@@ -239,19 +240,19 @@ module _ (w : World) (ps : List ℕ) (all : spans_fit w [] ≡ true) (carried : 
 -- ## By the ends
 
 -- the test on a stream, from the ends of what is held, widened by what is added
-pub fits-ends : (w : World) (s : ℕ) (more : List ℕ) → nat_lt (greatest (highest w s) more - least (lowest w s) more) 32768 ≡ fits w more s
+pub fits-ends : (w : LinkRecord) (s : ℕ) (more : List ℕ) → nat_lt (greatest (highest_held w s) more - least (lowest_held w s) more) 32768 ≡ fits w more s
 fits-ends w s more =
     let n = next_of w s in
     let xs = map (index_of w) (held_on w s) in
-    lt-gap (greatest (highest w s) more) (least (lowest w s) more)
-    ∙ ap (λ g. nat_lt g (least (lowest w s) more + 2 ^ 15)) (sym (greatest-append n xs more))
+    lt-gap (greatest (highest_held w s) more) (least (lowest_held w s) more)
+    ∙ ap (λ g. nat_lt g (least (lowest_held w s) more + 2 ^ 15)) (sym (greatest-append n xs more))
     ∙ ap (λ l. nat_lt (greatest n (xs ++ more)) (l + 2 ^ 15)) (sym (least-append n xs more))
   where
     lt-gap : (g l : ℕ) → nat_lt (g - l) 32768 ≡ nat_lt g (l + 2 ^ 15)
     lt-gap g l = same_test (nat_lt (g - l) 32768) (nat_lt g (l + 2 ^ 15)) (λ e. grind (arith, nat_tests)) (λ e. grind (arith, nat_tests))
 
 -- one slot more widens them by its index, where it adds one
-added-first : (w : World) (s q : ℕ) (qs : List ℕ) (b o : Bool) → is_new w q ≡ b → is_ordered_on w s (message_of w q) ≡ o → added_on w s (q ∷ qs) ≡ (if b && o then index_of w (message_of w q) ∷ added_on w s qs else added_on w s qs)
+added-first : (w : LinkRecord) (s q : ℕ) (qs : List ℕ) (b o : Bool) → is_new w q ≡ b → is_ordered_on w s (message_of w q) ≡ o → added_on w s (q ∷ qs) ≡ (if b && o then index_of w (message_of w q) ∷ added_on w s qs else added_on w s qs)
 added-first w s q qs true true e f = rw (e, f) refl
 added-first w s q qs true false e f = rw (e, f) refl
 added-first w s q qs false o e f = rw e refl
@@ -264,7 +265,7 @@ drop-suc (p ∷ ps) (suc i) lt = drop-suc ps i (omega (arith, lt))
 drop-next : (ps : List ℕ) (i : ℕ) → i < length ps → drop i ps ≡ slice_index_or ps i 0 ∷ drop (i + 1) ps
 drop-next ps i lt = drop-suc ps i lt ∙ ap (λ k. slice_index_or ps i 0 ∷ drop k ps) (sym (add-one i))
 
-pub widened-next : (w : World) (s : ℕ) (ps : List ℕ) (i : ℕ) (index : Option ℕ) (old new : ℕ × ℕ) → i < length ps
+pub widened-next : (w : LinkRecord) (s : ℕ) (ps : List ℕ) (i : ℕ) (index : Option ℕ) (old new : ℕ × ℕ) → i < length ps
     → index ≡ (if adds_on w s (slice_index_or ps i 0) then Some (index_of w (message_of w (slice_index_or ps i 0))) else None)
     → ((k : ℕ) → index ≡ Some k → new ≡ (min old.0 k, max old.1 k)) → (index ≡ None → new ≡ old)
     → (least new.0 (added_on w s (drop (i + 1) ps)) ≡ least old.0 (added_on w s (drop i ps))) × (greatest new.1 (added_on w s (drop (i + 1) ps)) ≡ greatest old.1 (added_on w s (drop i ps)))
@@ -282,14 +283,14 @@ widened-next w s ps i index old new lt is some none =
 -- ## At a link
 
 -- a slot that lies in a datagram of a link
-pub lying : (sum : List ℕ → ℕ) (x : State) (l : IsLinked sum x) (p : ℕ) → LiesSomewhere x.world p → Carried x.world p
-lying sum x l p s = subst (Carried x.world) s.5 (all-carried sum x l s.0 s.1 s.3 s.2 s.4)
+pub lying : (sum : List ℕ → ℕ) (x : State) (l : IsLinked sum x) (p : ℕ) → LiesSomewhere x.recorded p → Carried x.recorded p
+lying sum x l p s = subst (Carried x.recorded) s.5 (all-carried sum x l s.0 s.1 s.3 s.2 s.4)
 
-pub data-fits : (sum : List ℕ → ℕ) (x : State) (l : IsLinked sum x) (k : ℕ) (ps : List ℕ) → slice_get x.world.network k ≡ Some (Data ps) → arrival_fits x.world (Some (Data ps)) ≡ list_all (slot_fits x.world ps) ps
-data-fits sum x l k ps e = arrival-fits-slots x.world ps (facts sum x l).spans (all-carried sum x l k ps e)
+pub data-fits : (sum : List ℕ → ℕ) (x : State) (l : IsLinked sum x) (k : ℕ) (ps : List ℕ) → slice_get x.recorded.network k ≡ Some (Data ps) → arrival_fits x.recorded (Some (Data ps)) ≡ list_all (slot_fits x.recorded ps) ps
+data-fits sum x l k ps e = arrival-fits-slots x.recorded ps (facts sum x l).spans (all-carried sum x l k ps e)
 
 -- whether it adds to stream s
-pub adds-is : (w : World) (s p : ℕ) → Carried w p → (((message_at w (message_of w p)).stream == s) && (message_at w (message_of w p)).ordered && is_new w p) ≡ adds_on w s p
+pub adds-is : (w : LinkRecord) (s p : ℕ) → Carried w p → (((message_at w (message_of w p)).stream == s) && (message_at w (message_of w p)).ordered && is_new w p) ≡ adds_on w s p
 adds-is w s p c = turn ((message_at w (message_of w p)).stream == s) (message_at w (message_of w p)).ordered (is_new w p) (message_at w (message_of w p)).expired c.alive
   where
     turn : (a o new e : Bool) → e ≡ false → ((a && o) && new) ≡ (new && (a && (o && not e)))

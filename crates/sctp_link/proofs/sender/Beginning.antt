@@ -22,7 +22,7 @@ use Rattle.sctp_link.proofs.upkeep.Lookups.{none-open}
 abbrev pub index_kept : List (ℕ × ℕ) → ℕ → ℕ
 index_kept ps n = (slice_index_or ps n (0, 0)).1
 
-pub indexed-of : (sum : List ℕ → ℕ) (x : State) → IsLinked sum x → Indexed (shape x.world) (index_kept x.progress)
+pub indexed-of : (sum : List ℕ → ℕ) (x : State) → IsLinked sum x → Indexed (shape x.recorded) (index_kept x.progress)
 indexed-of sum x l = record { is = l.indexes; low = l.low }
 
 -- a new message has the index that stands past the last one
@@ -85,13 +85,13 @@ found-one P s (x ∷ ls) h l e = step (x.state.stream_identifier == s) e (λ z. 
     step true z ih = let same : x ≡ l = cc in subst P same (h 0 x (omega arith))
     step false z ih = ih z
 
-module _ (sum : List ℕ → ℕ) (x : State) (l : IsLinked sum x) (s : ℕ) (streams : x.world.streams ≡ map stream_record x.open_streams) (opened : is_open x.world s ≡ true) where
-  pub begun-is : begun_of s x.open_streams ≡ begun_on x.world s
+module _ (sum : List ℕ → ℕ) (x : State) (l : IsLinked sum x) (s : ℕ) (streams : x.recorded.streams ≡ map stream_record x.open_streams) (opened : is_open x.recorded s ≡ true) where
+  pub begun-is : begun_of s x.open_streams ≡ begun_on x.recorded s
   begun-is = by (find (has_number s) x.open_streams) refl
     where
-      by : (o : Option OpenStream) → find (has_number s) x.open_streams ≡ o → begun_in o ≡ begun_on x.world s
-      by None e = absurd (not_both (sym (none-open x.world s x.open_streams streams e) ∙ opened))
-      by (Some y) e = (found-one (IsOpenStream x.world) s x.open_streams l.open_streams y e).begun ∙ ap (begun_on x.world) (number-found s x.open_streams y e)
+      by : (o : Option OpenStream) → find (has_number s) x.open_streams ≡ o → begun_in o ≡ begun_on x.recorded s
+      by None e = absurd (not_both (sym (none-open x.recorded s x.open_streams streams e) ∙ opened))
+      by (Some y) e = (found-one (IsOpenStream x.recorded) s x.open_streams l.open_streams y e).begun ∙ ap (begun_on x.recorded) (number-found s x.open_streams y e)
 
   pub begun-few : begun_of s x.open_streams + 1 < 2 ^ 64
-  begun-few = omega (arith, begun-is, length-kept-le (is_begun_on x.world s) 0 (length x.world.messages), messages-few x.world.setup x.world (facts sum x l).sane)
+  begun-few = omega (arith, begun-is, length-kept-le (is_begun_on x.recorded s) 0 (length x.recorded.messages), messages-few x.recorded.setup x.recorded (facts sum x l).sane)

@@ -13,7 +13,7 @@ use Rattle.sctp_link.specs.Records.{stream_record, message_record, slot_record, 
 abbrev pub start_state : ℕ → ℕ → Sides → List Message → List Slot → List Datagram → List ℕ → State
 start_state first limit halves messages slots network duplicates =
     record {
-      world = record {
+      recorded = record {
         setup = setup_of first halves.fragment_size halves.max_message_size limit;
         streams = map stream_record halves.streams;
         messages = map message_record messages;

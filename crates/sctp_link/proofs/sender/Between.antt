@@ -3,19 +3,19 @@ use Rattle.std.proofs.Common.{◌≡◌, ℕ, zero, suc, ◌+◌, ◌<◌, ◌�
 use Rattle.std.specs.Prelude.{◌==◌, ◌&&◌, if◌then◌else◌, find, is_some, slice_index_or, slice_set}
 use Rattle.std.proofs.Math.Path.{subst}
 use Rattle.std.proofs.lemmas.List.{map-append}
-use Rattle.sctp_list_lemmas.specs.Lists.{changed}
+use Rattle.sctp_list_lemmas.specs.Lists.{change_at}
 use Rattle.sctp_list_lemmas.proofs.Getting.{length-mapped}
 use Rattle.sctp_list_lemmas.proofs.Passing.{length-kept-le}
 use Rattle.sctp_list_lemmas.proofs.More.{changed-same, changed-other, not_both}
-use Rattle.sctp_list_lemmas.proofs.Cases.{by_same, same-yes}
+use Rattle.sctp_list_lemmas.proofs.Cases.{by_same, same-yes, some-same}
 use Rattle.sctp_chunks.specs.declared.chunk.chunk_payload_data.ChunkPayloadData.{ChunkPayloadData}
-use Rattle.sctp_outbound.specs.pending_queue.PendingQueue.{peeked, started as pending_started}
-use Rattle.sctp_outbound.specs.outbound_queue.OutboundQueue.{Outbound, all_started, sent_of, sent_peeked, sent_next, following_tsn}
-use Rattle.sctp_model.specs.World.{World}
-use Rattle.sctp_model.specs.World as W
+use Rattle.sctp_outbound.specs.pending_queue.PendingQueue.{next_pending, start_pending as pending_started}
+use Rattle.sctp_outbound.specs.outbound_queue.OutboundQueue.{Outbound, all_started, sent_of, sent_peeked, sent_next}
+use Rattle.sctp_model.specs.LinkRecord.{LinkRecord}
+use Rattle.sctp_model.specs.LinkRecord as W
 use Rattle.sctp_model.specs.Messages as M
 use Rattle.sctp_model.specs.Messages.{front, message_at, no_message, tsn_of}
-use Rattle.sctp_model.specs.Changes.{started, start_lifetime, with_slot, fragment_sent, fragment_of_sent}
+use Rattle.sctp_model.specs.Changes.{after_start, start_lifetime, with_slot, send_fragment, send_fragment_of}
 use Rattle.sctp_model.proofs.sender.Shape.{shape, slotted, sent as sent_by}
 use Rattle.sctp_model.proofs.sender.Shapes
 use Rattle.sctp_model.proofs.sender.Few
@@ -36,13 +36,15 @@ use Rattle.sctp_link.specs.Linked.{State, IsLinked}
 use Rattle.sctp_link.specs.OpenStreams.{start_from, fragment_slot, begins, with_fragment}
 use Rattle.sctp_link.specs.Records.{message_record, progress_of, slot_record, stream_record}
 use Rattle.sctp_link.specs.Sends.{Sender, CanSend, Leaves, Leave}
-use Rattle.sctp_link.proofs.upkeep.Apart.{map-set, map-set_same, number-found}
+use Rattle.sctp_link.proofs.upkeep.Apart.{map-set, number-found}
 use Rattle.sctp_link.proofs.upkeep.Bounds.{messages-few}
 use Rattle.sctp_link.proofs.upkeep.Facts.{facts}
 use Rattle.sctp_link.proofs.upkeep.Lookups.{none-open}
 use Rattle.sctp_link.proofs.sender.Flying.{one-more-fits}
 use Rattle.sctp_link.proofs.sender.Beginning.{index_kept, indexed-of, plus_begun, numbers-begun, records-begun, length-begun, begun-at, found-one}
 use Rattle.sctp_link.proofs.sender.Starting.{starts-records, start-progress}
+use Rattle.sctp_transfer.proofs.StreamPlaces.{map-set_same}
+use Rattle.sctp_serial.specs.DataChunks.{following_tsn}
 
 -- a message with one fragment more sent, which takes this index where it is begun
 abbrev pub took : Bool → ℕ → ℕ × ℕ → ℕ × ℕ
@@ -53,16 +55,16 @@ abbrev pub counted : ℕ → OpenStream → OpenStream
 counted n l = record l { begun = n }
 
 -- the sender's side of a link x, once lifetimes have started and the slots of v are given out
-pub record Between (x : State) (now : ℕ) (v : World) (s : Sender) : Type 0 where
-  pub going : Going x.world.setup v
-  pub only : v ≡ record (started x.world now) { slots = v.slots }
+pub record Between (x : State) (now : ℕ) (v : LinkRecord) (s : Sender) : Type 0 where
+  pub going : Going x.recorded.setup v
+  pub only : v ≡ record (after_start x.recorded now) { slots = v.slots }
   pub taken : v.taken ≤ length v.slots
   pub outbound : RefinesOutbound v s.outbound
-  pub begun : s.outbound.next_unstarted ≡ length x.world.messages
-  pub messages : map message_record s.messages ≡ (started x.world now).messages
-  pub sents : (k : ℕ) → k < length x.world.messages → (slice_index_or (map progress_of s.messages) k (0, 0)).0 ≡ M.sent_of v k
+  pub begun : s.outbound.next_unstarted ≡ length x.recorded.messages
+  pub messages : map message_record s.messages ≡ (after_start x.recorded now).messages
+  pub sents : (k : ℕ) → k < length x.recorded.messages → (slice_index_or (map progress_of s.messages) k (0, 0)).0 ≡ M.sent_of v k
   pub indexed : Indexed (shape v) (index_kept (map progress_of s.messages))
-  pub records : map stream_record s.streams ≡ x.world.streams
+  pub records : map stream_record s.streams ≡ x.recorded.streams
   pub numbers : stream_numbers s.streams ≡ stream_numbers x.open_streams
   pub streams : (k : ℕ) (d : OpenStream) → k < length s.streams → slice_index_or s.streams k d ≡ counted (begun_on v (slice_index_or x.open_streams k d).state.stream_identifier) (slice_index_or x.open_streams k d)
   pub slots : map slot_record s.slots ≡ v.slots
@@ -71,23 +73,23 @@ pub record Between (x : State) (now : ℕ) (v : World) (s : Sender) : Type 0 whe
 -- ## Before the first one
 
 -- more room in flight is nothing that the record knows
-pub refines-room : (w : World) (q r : Outbound) (room : ℕ) → r ≡ record q { inflight = record q.inflight { room = room } } → RefinesOutbound w q → RefinesOutbound w r
+pub refines-room : (w : LinkRecord) (q r : Outbound) (room : ℕ) → r ≡ record q { inflight = record q.inflight { room = room } } → RefinesOutbound w q → RefinesOutbound w r
 refines-room w q r room e t = subst (RefinesOutbound w) (sym e) (record { pending = t.pending; in_flight = t.in_flight; next = t.next; unstarted = t.unstarted; started = t.started; begun = t.begun })
 
-module _ (sum : List ℕ → ℕ) (x : State) (l : IsLinked sum x) (now : ℕ) (ms : List Message) (em : x.world.messages ≡ map message_record ms) (es : x.progress ≡ map progress_of ms) where
-  pub between-none : (s : Sender) (q : Outbound) → RefinesOutbound x.world q → s.outbound ≡ all_started now q → s.messages ≡ start_from x.unstarted now ms → s.streams ≡ x.open_streams → x.world.streams ≡ map stream_record x.open_streams → x.world.slots ≡ map slot_record s.slots → s.next_tsn ≡ x.next_tsn → Between x now (started x.world now) s
+module _ (sum : List ℕ → ℕ) (x : State) (l : IsLinked sum x) (now : ℕ) (ms : List Message) (em : x.recorded.messages ≡ map message_record ms) (es : x.progress ≡ map progress_of ms) where
+  pub between-none : (s : Sender) (q : Outbound) → RefinesOutbound x.recorded q → s.outbound ≡ all_started now q → s.messages ≡ start_from x.unstarted now ms → s.streams ≡ x.open_streams → x.recorded.streams ≡ map stream_record x.open_streams → x.recorded.slots ≡ map slot_record s.slots → s.next_tsn ≡ x.next_tsn → Between x now (after_start x.recorded now) s
   between-none s q t out is streams rs ew next = record {
-    going = going-started x.world.setup x.world now (facts sum x l).going;
+    going = going-started x.recorded.setup x.recorded now (facts sum x l).going;
     only = refl;
     taken = (facts sum x l).taken;
-    outbound = subst (RefinesOutbound (started x.world now)) (sym out) (refines-started x.world now q t);
-    begun = ap (λ (r : Outbound). r.next_unstarted) out ∙ all-begun x.world now q t;
+    outbound = subst (RefinesOutbound (after_start x.recorded now)) (sym out) (refines-started x.recorded now q t);
+    begun = ap (λ (r : Outbound). r.next_unstarted) out ∙ all-begun x.recorded now q t;
     messages = ap (map message_record) is ∙ starts-records sum x l now ms em;
     sents = λ k lt. ap (λ (ps : List (ℕ × ℕ)). (slice_index_or ps k (0, 0)).0) progress ∙ l.sents k lt;
-    indexed = subst (λ ps. Indexed (shape (started x.world now)) (index_kept ps)) (sym progress) (subst (λ y. Indexed y (index_kept x.progress)) (sym (Shapes.shape-started x.world now)) (indexed-of sum x l));
+    indexed = subst (λ ps. Indexed (shape (after_start x.recorded now)) (index_kept ps)) (sym progress) (subst (λ y. Indexed y (index_kept x.progress)) (sym (Shapes.shape-started x.recorded now)) (indexed-of sum x l));
     records = ap (map stream_record) streams ∙ sym rs;
     numbers = ap stream_numbers streams;
-    streams = λ k d lt. ap (λ ls. slice_index_or ls k d) streams ∙ ap (λ n. counted n (slice_index_or x.open_streams k d)) ((l.open_streams k d (omega (arith, lt, ap length streams))).begun ∙ sym (ap (λ y. Begun.begun y (slice_index_or x.open_streams k d).state.stream_identifier) (Shapes.shape-started x.world now)));
+    streams = λ k d lt. ap (λ ls. slice_index_or ls k d) streams ∙ ap (λ n. counted n (slice_index_or x.open_streams k d)) ((l.open_streams k d (omega (arith, lt, ap length streams))).begun ∙ sym (ap (λ y. Begun.begun y (slice_index_or x.open_streams k d).state.stream_identifier) (Shapes.shape-started x.recorded now)));
     slots = sym ew;
     next = next ∙ l.next;
   }
@@ -96,9 +98,6 @@ module _ (sum : List ℕ → ℕ) (x : State) (l : IsLinked sum x) (now : ℕ) (
       progress = ap (map progress_of) is ∙ start-progress now x.unstarted ms ∙ sym es
 
 -- ## One more
-
-inner : {A : Type 0} {a b : A} → Some a ≡ Some b → a ≡ b
-inner e = cc
 
 -- a field of an element
 get-mapped : {A B : Type 0} (f : A → B) (k : ℕ) (xs : List A) (d : A) (e : B) → k < length xs → get_or (map f xs) k e ≡ f (get_or xs k d)
@@ -114,21 +113,21 @@ next-unstarted : (q : Outbound) (tsn now : ℕ) (o : Option ChunkPayloadData) �
 next-unstarted q tsn now None = refl
 next-unstarted q tsn now (Some c) = refl
 
-module _ (x : State) (now : ℕ) (v : World) (s : Sender) (b : Between x now v s) where
+module _ (x : State) (now : ℕ) (v : LinkRecord) (s : Sender) (b : Between x now v s) where
   few : length v.slots < 2 ^ 31
-  few = Few.few x.world.setup v b.going.sane
+  few = Few.few x.recorded.setup v b.going.sane
 
-  count-same : length v.messages ≡ length x.world.messages
-  count-same = ap (λ (z : World). length z.messages) b.only ∙ length-mapped (start_lifetime now) x.world.messages
+  count-same : length v.messages ≡ length x.recorded.messages
+  count-same = ap (λ (z : LinkRecord). length z.messages) b.only ∙ length-mapped (start_lifetime now) x.recorded.messages
 
-  count-kept : length s.messages ≡ length x.world.messages
-  count-kept = sym (length-mapped message_record s.messages) ∙ ap length b.messages ∙ length-mapped (start_lifetime now) x.world.messages
+  count-kept : length s.messages ≡ length x.recorded.messages
+  count-kept = sym (length-mapped message_record s.messages) ∙ ap length b.messages ∙ length-mapped (start_lifetime now) x.recorded.messages
 
   sent-few : (n : ℕ) → M.sent_of v n < 2 ^ 31
   sent-few n = omega (arith, few, length-kept-le (M.has_fragment v n) 0 (length v.slots))
 
   -- what a message keeps of the record
-  module _ (n : ℕ) (made : n < length x.world.messages) (m : Message) (at : m ≡ get_or s.messages n m) where
+  module _ (n : ℕ) (made : n < length x.recorded.messages) (m : Message) (at : m ≡ get_or s.messages n m) where
     within : n < length s.messages
     within = omega (arith, made, count-kept)
 
@@ -136,7 +135,7 @@ module _ (x : State) (now : ℕ) (v : World) (s : Sender) (b : Between x now v s
     sent-is = ap (λ (m : Message). m.sent) at ∙ sym (ap (λ (p : ℕ × ℕ). p.0) (get-mapped progress_of n s.messages m (0, 0) within)) ∙ b.sents n made
 
     record-is : message_record m ≡ message_at v n
-    record-is = ap message_record at ∙ sym (get-mapped message_record n s.messages m no_message within) ∙ ap (λ l. get_or l n no_message) (b.messages ∙ sym (ap (λ (z : World). z.messages) b.only))
+    record-is = ap message_record at ∙ sym (get-mapped message_record n s.messages m no_message within) ∙ ap (λ l. get_or l n no_message) (b.messages ∙ sym (ap (λ (z : LinkRecord). z.messages) b.only))
 
     kind-is : m.ordered ≡ (message_at v n).ordered
     kind-is = ap (λ m. m.ordered) record-is
@@ -159,7 +158,7 @@ module _ (x : State) (now : ℕ) (v : World) (s : Sender) (b : Between x now v s
     where
       by : (o : Option OpenStream) → find (has_number t) s.streams ≡ o → begun_in o + 1 < 2 ^ 64
       by None e = omega arith
-      by (Some y) e = omega (arith, found-begun t y e, length-kept-le (is_begun_on v y.state.stream_identifier) 0 (length v.messages), messages-few x.world.setup v b.going.sane)
+      by (Some y) e = omega (arith, found-begun t y e, length-kept-le (is_begun_on v y.state.stream_identifier) 0 (length v.messages), messages-few x.recorded.setup v b.going.sane)
 
   -- ## It can leave
 
@@ -167,11 +166,11 @@ module _ (x : State) (now : ℕ) (v : World) (s : Sender) (b : Between x now v s
     takes : Takes (shape v) n
     takes = front-takes (shape v) n b.going.sane.sender fr
 
-    made-of : n < length x.world.messages
+    made-of : n < length x.recorded.messages
     made-of = let t = takes.made in omega (arith, t, count-same)
 
-    next-shown : peeked s.outbound.pending ≡ Some (waiting_at v n (M.sent_of v n))
-    next-shown = shown x.world.setup v n s.outbound b.going fr b.outbound
+    next-shown : next_pending s.outbound.pending ≡ Some (waiting_at v n (M.sent_of v n))
+    next-shown = shown x.recorded.setup v n s.outbound b.going fr b.outbound
 
     pub can-send : CanSend s
     can-send = record {
@@ -181,8 +180,8 @@ module _ (x : State) (now : ℕ) (v : World) (s : Sender) (b : Between x now v s
       fits = λ m at. omega (arith, sent-is n made-of m at, sent-few n);
       few = λ m at. begun-low m.stream;
       room =
-          let then' : Going x.world.setup (with_slot v n false) = subst (λ o. Going x.world.setup (fragment_of_sent v o)) fr (going-takes x.world.setup v b.going) in
-          one-more-fits x.world.setup v (with_slot v n false) s.outbound then' (length-append v.slots _) b.outbound;
+          let then' : Going x.recorded.setup (with_slot v n false) = subst (λ o. Going x.recorded.setup (send_fragment_of v o)) fr (going-takes x.recorded.setup v b.going) in
+          one-more-fits x.recorded.setup v (with_slot v n false) s.outbound then' (length-append v.slots _) b.outbound;
     }
 
     -- ## It leaves
@@ -195,12 +194,12 @@ module _ (x : State) (now : ℕ) (v : World) (s : Sender) (b : Between x now v s
       m = f.message
 
       own : f.chunk.message_id ≡ n
-      own = ap (λ (d : ChunkPayloadData). d.message_id) (inner (sym f.shown ∙ next-shown))
+      own = ap (λ (d : ChunkPayloadData). d.message_id) (some-same (sym f.shown ∙ next-shown))
 
       at : f.message ≡ get_or s.messages n f.message
       at = f.is ∙ ap (λ k. get_or s.messages k f.message) own
 
-      abbrev z : World
+      abbrev z : LinkRecord
       z = with_slot v n false
 
       abbrev go : Bool
@@ -212,12 +211,12 @@ module _ (x : State) (now : ℕ) (v : World) (s : Sender) (b : Between x now v s
       abbrev new : W.Slot
       new = record { message = n; fragment = M.sent_of v n; is_terminal_chunk = false; arrived = false; acknowledged = false }
 
-      progress : map progress_of t.messages ≡ changed (took (begins f.message) (begun_of f.message.stream s.streams)) n (map progress_of s.messages)
+      progress : map progress_of t.messages ≡ change_at (took (begins f.message) (begun_of f.message.stream s.streams)) n (map progress_of s.messages)
       progress =
           ap (map progress_of) (f.messages ∙ ap (λ k. slice_set s.messages k (with_fragment s.streams f.message)) own)
           ∙ map-set progress_of (took (begins f.message) (begun_of f.message.stream s.streams)) s.messages n (with_fragment s.streams f.message) f.message (within n made-of f.message at) (ap (λ (m' : Message). took (begins f.message) (begun_of f.message.stream s.streams) (progress_of m')) at)
 
-      long : length (map progress_of s.messages) ≡ length x.world.messages
+      long : length (map progress_of s.messages) ≡ length x.recorded.messages
       long = length-mapped progress_of s.messages ∙ count-kept
 
       shape-then : shape (with_slot v n false) ≡ slotted (shape v) n false
@@ -226,12 +225,12 @@ module _ (x : State) (now : ℕ) (v : World) (s : Sender) (b : Between x now v s
       sent-more : (k : ℕ) → M.sent_of (with_slot v n false) k ≡ M.sent_of v k + (if (n == k) && true then 1 else 0)
       sent-more k = ap (λ y. sent_by y k) shape-then ∙ sent-slotted (shape v) n k false
 
-      sents-then : (k : ℕ) → k < length x.world.messages → (slice_index_or (changed (took (begins f.message) (begun_of f.message.stream s.streams)) n (map progress_of s.messages)) k (0, 0)).0 ≡ M.sent_of (with_slot v n false) k
+      sents-then : (k : ℕ) → k < length x.recorded.messages → (slice_index_or (change_at (took (begins f.message) (begun_of f.message.stream s.streams)) n (map progress_of s.messages)) k (0, 0)).0 ≡ M.sent_of (with_slot v n false) k
       sents-then k lt =
           let g = took (begins f.message) (begun_of f.message.stream s.streams) in
           let ps = map progress_of s.messages in
-          by_same {P = (slice_index_or (changed g n ps) k (0, 0)).0 ≡ M.sent_of (with_slot v n false) k} n k
-          (λ e. ap (λ j. (slice_index_or (changed g n ps) j (0, 0)).0) (sym e) ∙ ap (λ p. p.0) (changed-same g n ps (0, 0) (omega (arith, made-of, long))) ∙ ap (λ c. c + 1) (b.sents n made-of)
+          by_same {P = (slice_index_or (change_at g n ps) k (0, 0)).0 ≡ M.sent_of (with_slot v n false) k} n k
+          (λ e. ap (λ j. (slice_index_or (change_at g n ps) j (0, 0)).0) (sym e) ∙ ap (λ p. p.0) (changed-same g n ps (0, 0) (omega (arith, made-of, long))) ∙ ap (λ c. c + 1) (b.sents n made-of)
           ∙ sym (ap (M.sent_of (with_slot v n false)) (sym e) ∙ sent-more n ∙ ap (λ b. M.sent_of v n + (if b && true then 1 else 0)) (same-yes n)))
           (λ ne no'. ap (λ p. p.0) (changed-other g n k ps (0, 0) (λ z. ne (sym z))) ∙ b.sents k lt ∙ plus-none (M.sent_of v k) ∙ sym (sent-more k ∙ ap (λ b. M.sent_of v k + (if b && true then 1 else 0)) no'))
         where
@@ -246,15 +245,15 @@ module _ (x : State) (now : ℕ) (v : World) (s : Sender) (b : Between x now v s
       begun-is = by (find (has_number f.message.stream) s.streams) refl
         where
           by : (o : Option OpenStream) → find (has_number f.message.stream) s.streams ≡ o → begun_in o ≡ begun_on v f.message.stream
-          by None e = absurd (not_both (sym (none-open v f.message.stream s.streams (ap (λ (z : World). z.streams) b.only ∙ sym b.records) e) ∙ opened))
+          by None e = absurd (not_both (sym (none-open v f.message.stream s.streams (ap (λ (z : LinkRecord). z.streams) b.only ∙ sym b.records) e) ∙ opened))
           by (Some y) e = found-begun f.message.stream y e ∙ ap (begun_on v) (number-found f.message.stream s.streams y e)
 
-      indexed-then : Indexed (shape (with_slot v n false)) (index_kept (changed (took (begins f.message) (begun_of f.message.stream s.streams)) n (map progress_of s.messages)))
+      indexed-then : Indexed (shape (with_slot v n false)) (index_kept (change_at (took (begins f.message) (begun_of f.message.stream s.streams)) n (map progress_of s.messages)))
       indexed-then =
           let g = took (begins f.message) (begun_of f.message.stream s.streams) in
           let ps = map progress_of s.messages in
-          subst (λ y. Indexed y (index_kept (changed g n ps))) (sym shape-then)
-          (indexed-taken (shape v) n (index_kept ps) (index_kept (changed g n ps)) b.going.sane.sender takes
+          subst (λ y. Indexed y (index_kept (change_at g n ps))) (sym shape-then)
+          (indexed-taken (shape v) n (index_kept ps) (index_kept (change_at g n ps)) b.going.sane.sender takes
           (λ k ne. ap (λ p. p.1) (changed-other g n k ps (0, 0) ne))
           (ap (λ p. p.1) (changed-same g n ps (0, 0) (omega (arith, made-of, long)))
           ∙ ap (λ b. if b then begun_of f.message.stream s.streams else index_kept ps n) (begins-is n made-of f.message at)
@@ -280,13 +279,13 @@ module _ (x : State) (now : ℕ) (v : World) (s : Sender) (b : Between x now v s
       outbound-then : RefinesOutbound (with_slot v n false) t.outbound
       outbound-then =
           let all : s.outbound.next_unstarted ≡ length v.messages = b.begun ∙ sym count-same in
-          let a : RefinesOutbound (fragment_sent v) (sent_peeked s.outbound (tsn_of v (length v.slots)) now) = refines-fragment x.world.setup v n now s.outbound b.going fr b.taken all b.outbound in
+          let a : RefinesOutbound (send_fragment v) (sent_peeked s.outbound (tsn_of v (length v.slots)) now) = refines-fragment x.recorded.setup v n now s.outbound b.going fr b.taken all b.outbound in
           let q : sent_peeked s.outbound (tsn_of v (length v.slots)) now ≡ t.outbound = ap (λ r. sent_peeked r (tsn_of v (length v.slots)) now) (sym (none-start s.outbound now (all ∙ sym b.outbound.next))) ∙ ap (λ k. sent_next s.outbound k now) (sym b.next) ∙ sym f.outbound in
-          subst (RefinesOutbound (with_slot v n false)) q (subst (λ o. RefinesOutbound (fragment_of_sent v o) (sent_peeked s.outbound (tsn_of v (length v.slots)) now)) fr a)
+          subst (RefinesOutbound (with_slot v n false)) q (subst (λ o. RefinesOutbound (send_fragment_of v o) (sent_peeked s.outbound (tsn_of v (length v.slots)) now)) fr a)
 
-      started-then : t.outbound.next_unstarted ≡ length x.world.messages
+      started-then : t.outbound.next_unstarted ≡ length x.recorded.messages
       started-then =
-          ap (λ (r : Outbound). r.next_unstarted) f.outbound ∙ next-unstarted (all_started now s.outbound) s.next_tsn now (peeked (all_started now s.outbound).pending)
+          ap (λ (r : Outbound). r.next_unstarted) f.outbound ∙ next-unstarted (all_started now s.outbound) s.next_tsn now (next_pending (all_started now s.outbound).pending)
           ∙ ap (λ (r : Outbound). r.next_unstarted) (none-start s.outbound now (b.begun ∙ sym count-same ∙ sym b.outbound.next)) ∙ b.begun
 
       slots-then : map slot_record t.slots ≡ (with_slot v n false).slots
@@ -298,8 +297,8 @@ module _ (x : State) (now : ℕ) (v : World) (s : Sender) (b : Between x now v s
 
       pub between-one : Between x now (with_slot v n false) t
       between-one = record {
-        going = subst (λ o. Going x.world.setup (fragment_of_sent v o)) fr (going-takes x.world.setup v b.going);
-        only = ap (λ (u : World). record u { slots = (with_slot v n false).slots }) b.only;
+        going = subst (λ o. Going x.recorded.setup (send_fragment_of v o)) fr (going-takes x.recorded.setup v b.going);
+        only = ap (λ (u : LinkRecord). record u { slots = (with_slot v n false).slots }) b.only;
         taken = let le : (with_slot v n false).taken ≤ length v.slots = b.taken in omega (arith, le, length-append v.slots (new ∷ []));
         outbound = outbound-then;
         begun = started-then;
@@ -316,14 +315,14 @@ module _ (x : State) (now : ℕ) (v : World) (s : Sender) (b : Between x now v s
       }
 
 -- where there is a next fragment, and it leaves
-pub between-more : (x : State) (now : ℕ) (v : World) (s t : Sender) → Between x now v s → is_some (front v) ≡ true → Leaves now s t → Between x now (fragment_sent v) t
+pub between-more : (x : State) (now : ℕ) (v : LinkRecord) (s t : Sender) → Between x now v s → is_some (front v) ≡ true → Leaves now s t → Between x now (send_fragment v) t
 between-more x now v s t b some f = by (front v) refl some
   where
-    by : (o : Option ℕ) → front v ≡ o → is_some o ≡ true → Between x now (fragment_of_sent v o) t
+    by : (o : Option ℕ) → front v ≡ o → is_some o ≡ true → Between x now (send_fragment_of v o) t
     by None e h = cc
     by (Some n) e h = between-one x now v s b n e t f
 
-pub between-can : (x : State) (now : ℕ) (v : World) (s : Sender) → Between x now v s → is_some (front v) ≡ true → CanSend s
+pub between-can : (x : State) (now : ℕ) (v : LinkRecord) (s : Sender) → Between x now v s → is_some (front v) ≡ true → CanSend s
 between-can x now v s b some = by (front v) refl some
   where
     by : (o : Option ℕ) → front v ≡ o → is_some o ≡ true → CanSend s
@@ -332,11 +331,11 @@ between-can x now v s b some = by (front v) refl some
 
 -- ## So many
 
-pub between-after : (x : State) (now : ℕ) (u : World) (s : Sender) → Between x now u s → (count : ℕ) → ((i : ℕ) → i < count → is_some (front (after_fragments i u)) ≡ true) → (i : ℕ) → i ≤ count → (t : Sender) → Leave now i s t → Between x now (after_fragments i u) t
+pub between-after : (x : State) (now : ℕ) (u : LinkRecord) (s : Sender) → Between x now u s → (count : ℕ) → ((i : ℕ) → i < count → is_some (front (after_fragments i u)) ≡ true) → (i : ℕ) → i ≤ count → (t : Sender) → Leave now i s t → Between x now (after_fragments i u) t
 between-after x now u s b count some zero le t f = subst (Between x now u) (sym f) b
 between-after x now u s b count some (suc i) le t f =
     subst (λ z. Between x now z t) (sym (after-next i u))
     (between-more x now (after_fragments i u) f.0 t (between-after x now u s b count some i (omega (arith, le)) f.0 f.1.0) (some i (omega (arith, le))) f.1.1)
 
-pub each-can : (x : State) (now : ℕ) (u : World) (s : Sender) → Between x now u s → (count : ℕ) → ((i : ℕ) → i < count → is_some (front (after_fragments i u)) ≡ true) → (i : ℕ) (t : Sender) → i < count → Leave now i s t → CanSend t
+pub each-can : (x : State) (now : ℕ) (u : LinkRecord) (s : Sender) → Between x now u s → (count : ℕ) → ((i : ℕ) → i < count → is_some (front (after_fragments i u)) ≡ true) → (i : ℕ) (t : Sender) → i < count → Leave now i s t → CanSend t
 each-can x now u s b count some i t lt f = between-can x now (after_fragments i u) t (between-after x now u s b count some i (omega (arith, lt)) t f) (some i lt)

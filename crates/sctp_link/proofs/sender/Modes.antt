@@ -1,13 +1,13 @@
 -- A stream takes another mode.
-use Rattle.std.proofs.Common.{◌≡◌, ℕ, ◌<◌, Bool, true, List, ◌∷◌, length, map, Some, None, refl, ap, sym, ◌∙◌, arith}
-use Rattle.std.specs.Prelude.{◌==◌, if◌then◌else◌, slice_index_or, slice_set, find, is_some}
+use Rattle.std.proofs.Common.{◌≡◌, ℕ, Bool, true, List, ◌∷◌, map, None, refl, ap, sym, ◌∙◌}
+use Rattle.std.specs.Prelude.{◌==◌, if◌then◌else◌, slice_index_or, find, is_some}
 use Rattle.sctp_list_lemmas.proofs.More.{not_both}
 use Rattle.sctp_chunks.specs.declared.chunk.chunk_payload_data.ReliabilityType.{ReliabilityType}
 use Rattle.sctp_model.specs.declared.event.Event.TheVariants as E
 use Rattle.sctp_model.specs.declared.event.LinkRefusal.TheVariants.{StreamUnknown}
-use Rattle.sctp_model.specs.World.{World}
+use Rattle.sctp_model.specs.LinkRecord.{LinkRecord}
 use Rattle.sctp_model.specs.Messages.{is_open}
-use Rattle.sctp_model.specs.Changes.{mode_set, with_mode}
+use Rattle.sctp_model.specs.Changes.{after_mode, with_mode}
 use Rattle.sctp_model.specs.Steps.{refusal_of, reply_to}
 use Rattle.sctp_model.proofs.sender.SenderRun.{unless-holds}
 use Rattle.sctp_refinement.proofs.arriving.Opened
@@ -24,20 +24,20 @@ use Rattle.sctp_link.proofs.upkeep.ChangedStreams.{records-changed, each-changed
 use Rattle.sctp_link.proofs.upkeep.StreamPlaces.{apart-changed}
 
 -- an open stream is found
-pub found-open : (x : State) (s : ℕ) → x.world.streams ≡ map stream_record x.open_streams → is_open x.world s ≡ true → find (has_number s) x.open_streams ≡ None → ⊥
+pub found-open : (x : State) (s : ℕ) → x.recorded.streams ≡ map stream_record x.open_streams → is_open x.recorded s ≡ true → find (has_number s) x.open_streams ≡ None → ⊥
 found-open x s streams open' none = not_both (sym (ap is_some none) ∙ open-found s x.open_streams ∙ ap (λ rs. is_some (find (λ r. r.stream == s) rs)) (sym streams) ∙ open')
 
-module _ (sum : List ℕ → ℕ) (x : State) (l : IsLinked sum x) (s : ℕ) (unordered : Bool) (reliability : ReliabilityType) (value : ℕ) (ok : refusal_of x.world (E.Mode s unordered reliability value) ≡ None) (streams : x.world.streams ≡ map stream_record x.open_streams) where
-  abbrev v : World
-  v = mode_set x.world s unordered reliability value
+module _ (sum : List ℕ → ℕ) (x : State) (l : IsLinked sum x) (s : ℕ) (unordered : Bool) (reliability : ReliabilityType) (value : ℕ) (ok : refusal_of x.recorded (E.Mode s unordered reliability value) ≡ None) (streams : x.recorded.streams ≡ map stream_record x.open_streams) where
+  abbrev v : LinkRecord
+  v = after_mode x.recorded s unordered reliability value
 
-  pub mode-open : is_open x.world s ≡ true
-  mode-open = (unless-holds (is_open x.world s) StreamUnknown None ok).0
+  pub mode-open : is_open x.recorded s ≡ true
+  mode-open = (unless-holds (is_open x.recorded s) StreamUnknown None ok).0
 
-  kept : (t : OpenStream) → IsOpenStream x.world t → IsOpenStream v t
+  kept : (t : OpenStream) → IsOpenStream x.recorded t → IsOpenStream v t
   kept t i =
-      stream-same x.world v t
-      (record { setup = refl; held = Opened.mode-same x.world s unordered reliability value t.state.stream_identifier; ordered = refl; next = next-kept sum x l (E.Mode s unordered reliability value) ok tt t.state.stream_identifier; amount = refl; counters = refl })
+      stream-same x.recorded v t
+      (record { setup = refl; held = Opened.mode-same x.recorded s unordered reliability value t.state.stream_identifier; ordered = refl; next = next-kept sum x l (E.Mode s unordered reliability value) ok tt t.state.stream_identifier; amount = refl; counters = refl })
       refl i
 
   changes : (t : OpenStream) → IsOpenStream v t → IsOpenStream v (on_state (Outgoing.with_mode unordered reliability value) t)
@@ -52,12 +52,12 @@ module _ (sum : List ℕ → ℕ) (x : State) (l : IsLinked sum x) (s : ℕ) (un
       records-changed (with_mode unordered reliability value) (on_state (Outgoing.with_mode unordered reliability value)) (λ t. refl) s x.open_streams
       ∙ ap (map (λ r. if r.stream == s then with_mode unordered reliability value r else r)) (sym streams)
 
-  pub linked-mode : IsLinked sum (record x { world = v; open_streams = streams_then })
+  pub linked-mode : IsLinked sum (record x { recorded = v; open_streams = streams_then })
   linked-mode = record {
     setup = l.setup;
-    history = (E.Mode s unordered reliability value, reply_to x.world (E.Mode s unordered reliability value)) ∷ l.history;
-    stands = stands-then x.world.setup x.world l.history (E.Mode s unordered reliability value) ok l.stands;
-    outbound = outbound-same x.world v (same-self x.world v refl refl refl refl) x.outbound l.outbound;
+    history = (E.Mode s unordered reliability value, reply_to x.recorded (E.Mode s unordered reliability value)) ∷ l.history;
+    stands = stands-then x.recorded.setup x.recorded l.history (E.Mode s unordered reliability value) ok l.stands;
+    outbound = outbound-same x.recorded v (same-self x.recorded v refl refl refl refl) x.outbound l.outbound;
     unstarted = l.unstarted;
     filter = l.filter;
     next = l.next;

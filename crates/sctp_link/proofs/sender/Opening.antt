@@ -1,19 +1,17 @@
 -- A stream opens.
-use Rattle.std.proofs.Common.{◌≡◌, ℕ, ◌%◌, ◌^◌, Bool, true, false, List, [], ◌∷◌, ◌++◌, length, map, Option, Some, None, refl, ap, sym, ◌∙◌, arith, length-append}
+use Rattle.std.proofs.Common.{◌≡◌, ℕ, Bool, true, false, List, [], ◌∷◌, ◌++◌, length, map, Option, Some, None, refl, ap, sym, ◌∙◌, arith, length-append}
 use Rattle.std.specs.Prelude.{◌==◌, if◌then◌else◌, slice_index_or, find, is_some}
 use Rattle.std.proofs.Math.Path.{subst}
 use Rattle.std.proofs.lemmas.List.{map-append}
 use Rattle.sctp_list_lemmas.proofs.Getting.{get-snoc_old, get-snoc_new}
 use Rattle.sctp_list_lemmas.proofs.Cases.{by_last, negated}
-use Rattle.sctp_chunks.specs.declared.chunk.chunk_payload_data.PayloadProtocolIdentifier.TheVariants.{Unknown}
-use Rattle.sctp_chunks.specs.declared.chunk.chunk_payload_data.ReliabilityType.TheVariants.{Reliable}
 use Rattle.sctp_reassembly.specs.reassembly_queue.ReassemblyQueue.{Reassembly}
 use Rattle.sctp_model.specs.declared.event.Event.TheVariants as E
 use Rattle.sctp_model.specs.declared.event.LinkRefusal.TheVariants.{StreamOpen}
-use Rattle.sctp_model.specs.World.{World, StreamRecord}
+use Rattle.sctp_model.specs.LinkRecord.{LinkRecord}
 use Rattle.sctp_model.specs.Messages.{is_open, no_stream}
 use Rattle.sctp_model.specs.Receiver.{next_of}
-use Rattle.sctp_model.specs.Changes.{opened}
+use Rattle.sctp_model.specs.Changes.{after_open}
 use Rattle.sctp_model.specs.Steps.{refusal_of, reply_to}
 use Rattle.sctp_model.proofs.sender.SenderRun.{unless-holds}
 use Rattle.sctp_refinement.proofs.sending.BegunRun.{begun-closed}
@@ -47,40 +45,40 @@ streams-more s size largest ls = map-append stream_record ls (new_open_stream s 
 
 -- ## The event
 
-module _ (sum : List ℕ → ℕ) (x : State) (l : IsLinked sum x) (s : ℕ) (ok : refusal_of x.world (E.Open s) ≡ None) (streams : x.world.streams ≡ map stream_record x.open_streams) where
-  abbrev w : World
-  w = x.world
+module _ (sum : List ℕ → ℕ) (x : State) (l : IsLinked sum x) (s : ℕ) (ok : refusal_of x.recorded (E.Open s) ≡ None) (streams : x.recorded.streams ≡ map stream_record x.open_streams) where
+  abbrev w : LinkRecord
+  w = x.recorded
 
-  abbrev v : World
-  v = opened x.world s
+  abbrev v : LinkRecord
+  v = after_open x.recorded s
 
-  f : Facts x.world
+  f : Facts x.recorded
   f = facts sum x l
 
-  closed : is_open x.world s ≡ false
-  closed = negated (is_open x.world s) (unless-holds _ StreamOpen None ok).0
+  closed : is_open x.recorded s ≡ false
+  closed = negated (is_open x.recorded s) (unless-holds _ StreamOpen None ok).0
 
-  stream-old : (t : OpenStream) → IsOpenStream x.world t → IsOpenStream (opened x.world s) t
+  stream-old : (t : OpenStream) → IsOpenStream x.recorded t → IsOpenStream (after_open x.recorded s) t
   stream-old t i =
-      stream-same x.world (opened x.world s) t
-      (record { setup = refl; held = Opened.opened-same x.world s t.state.stream_identifier closed; ordered = refl; next = subst (λ u. next_of (opened u s) t.state.stream_identifier ≡ next_of u t.state.stream_identifier) (sym l.stands.is) (next-same x.world.setup l.history (E.Open s) t.state.stream_identifier l.setup l.stands.run (ap (λ u. refusal_of u (E.Open s)) (sym l.stands.is) ∙ ok) tt); amount = refl; counters = refl })
+      stream-same x.recorded (after_open x.recorded s) t
+      (record { setup = refl; held = Opened.opened-same x.recorded s t.state.stream_identifier closed; ordered = refl; next = subst (λ u. next_of (after_open u s) t.state.stream_identifier ≡ next_of u t.state.stream_identifier) (sym l.stands.is) (next-same x.recorded.setup l.history (E.Open s) t.state.stream_identifier l.setup l.stands.run (ap (λ u. refusal_of u (E.Open s)) (sym l.stands.is) ∙ ok) tt); amount = refl; counters = refl })
       refl i
 
-  stream-new : IsOpenStream (opened x.world s) (new_open_stream s x.world.setup.size x.world.setup.largest)
+  stream-new : IsOpenStream (after_open x.recorded s) (new_open_stream s x.recorded.setup.size x.recorded.setup.largest)
   stream-new =
-      let a : reassembly_of (opened x.world s) s ≡ (let q : Reassembly = record { next_ssn = 0; ordered = []; unordered = []; unassembled = [] } in q) = Opened.opened-same x.world s s closed ∙ Opened.closed-empty x.world.setup x.world s f.sane closed in
-      let n : next_of (opened x.world s) s ≡ 0 = subst (λ u. next_of (opened u s) s ≡ next_of u s) (sym l.stands.is) (next-same x.world.setup l.history (E.Open s) s l.setup l.stands.run (ap (λ u. refusal_of u (E.Open s)) (sym l.stands.is) ∙ ok) tt) ∙ Opened.next x.world.setup x.world s f.sane closed in
+      let a : reassembly_of (after_open x.recorded s) s ≡ (let q : Reassembly = record { next_ssn = 0; ordered = []; unordered = []; unassembled = [] } in q) = Opened.opened-same x.recorded s s closed ∙ Opened.closed-empty x.recorded.setup x.recorded s f.sane closed in
+      let n : next_of (after_open x.recorded s) s ≡ 0 = subst (λ u. next_of (after_open u s) s ≡ next_of u s) (sym l.stands.is) (next-same x.recorded.setup l.history (E.Open s) s l.setup l.stands.run (ap (λ u. refusal_of u (E.Open s)) (sym l.stands.is) ∙ ok) tt) ∙ Opened.next x.recorded.setup x.recorded s f.sane closed in
       record {
         held = sym a;
         si = refl;
         largest = refl;
         size = refl;
-        ordered = sym (ap length (Opened.line x.world.setup x.world s f.sane closed));
+        ordered = sym (ap length (Opened.line x.recorded.setup x.recorded s f.sane closed));
         number = refl;
-        begun = sym (begun-closed x.world.setup x.world s f.sane closed);
+        begun = sym (begun-closed x.recorded.setup x.recorded s f.sane closed);
         next = sym n;
-        amount = sym (amount-none x.world.setup x.world s f.sane closed);
-        stats = sym (ap stats_of (counters-none x.world.setup x.world s f.sane closed));
+        amount = sym (amount-none x.recorded.setup x.recorded s f.sane closed);
+        stats = sym (ap stats_of (counters-none x.recorded.setup x.recorded s f.sane closed));
       }
 
   -- and no open stream has its number
@@ -93,14 +91,14 @@ module _ (sum : List ℕ → ℕ) (x : State) (l : IsLinked sum x) (s : ℕ) (ok
 
   -- the stream that opens
   abbrev pub m : OpenStream
-  m = new_open_stream s x.world.setup.size x.world.setup.largest
+  m = new_open_stream s x.recorded.setup.size x.recorded.setup.largest
 
-  pub linked-open : IsLinked sum (record x { world = v; open_streams = x.open_streams ++ m ∷ [] })
+  pub linked-open : IsLinked sum (record x { recorded = v; open_streams = x.open_streams ++ m ∷ [] })
   linked-open = record {
     setup = l.setup;
-    history = (E.Open s, reply_to x.world (E.Open s)) ∷ l.history;
-    stands = stands-then x.world.setup x.world l.history (E.Open s) ok l.stands;
-    outbound = outbound-same x.world (opened x.world s) (same-self x.world (opened x.world s) refl refl refl refl) x.outbound l.outbound;
+    history = (E.Open s, reply_to x.recorded (E.Open s)) ∷ l.history;
+    stands = stands-then x.recorded.setup x.recorded l.history (E.Open s) ok l.stands;
+    outbound = outbound-same x.recorded (after_open x.recorded s) (same-self x.recorded (after_open x.recorded s) refl refl refl refl) x.outbound l.outbound;
     unstarted = l.unstarted;
     filter = l.filter;
     next = l.next;
@@ -110,9 +108,9 @@ module _ (sum : List ℕ → ℕ) (x : State) (l : IsLinked sum x) (s : ℕ) (ok
     sents = l.sents;
     indexes = l.indexes;
     low = l.low;
-    open_streams = λ k d lt. by_last {P = IsOpenStream (opened x.world s) (slice_index_or (x.open_streams ++ m ∷ []) k d)} k (length x.open_streams) (omega (arith, lt, length-append x.open_streams (m ∷ [])))
-        (λ below. subst (IsOpenStream (opened x.world s)) (sym (get-snoc_old x.open_streams m k d (λ z. absurd (omega (arith, below, z))))) (stream-old (slice_index_or x.open_streams k d) (l.open_streams k d below)))
-        (λ z. subst (IsOpenStream (opened x.world s)) (sym (ap (λ j. slice_index_or (x.open_streams ++ m ∷ []) j d) z ∙ get-snoc_new x.open_streams m d)) stream-new);
+    open_streams = λ k d lt. by_last {P = IsOpenStream (after_open x.recorded s) (slice_index_or (x.open_streams ++ m ∷ []) k d)} k (length x.open_streams) (omega (arith, lt, length-append x.open_streams (m ∷ [])))
+        (λ below. subst (IsOpenStream (after_open x.recorded s)) (sym (get-snoc_old x.open_streams m k d (λ z. absurd (omega (arith, below, z))))) (stream-old (slice_index_or x.open_streams k d) (l.open_streams k d below)))
+        (λ z. subst (IsOpenStream (after_open x.recorded s)) (sym (ap (λ j. slice_index_or (x.open_streams ++ m ∷ []) j d) z ∙ get-snoc_new x.open_streams m d)) stream-new);
     apart = apart-more x.open_streams m l.apart new-number;
     encodings = encodings-same sum x l (E.Open s) ok refl;
   }

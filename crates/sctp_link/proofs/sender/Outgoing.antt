@@ -17,12 +17,12 @@ use Rattle.sctp_outbound.specs.Marks.{with_nsent}
 use Rattle.sctp_outbound.specs.outbound_queue.OutboundQueue.{Outbound, with_inflight}
 use Rattle.sctp_model.specs.declared.event.Event.TheVariants as E
 use Rattle.sctp_model.specs.declared.event.LinkRefusal.TheVariants.{NotInFlight}
-use Rattle.sctp_model.specs.World.{World}
-use Rattle.sctp_model.specs.World as W
+use Rattle.sctp_model.specs.LinkRecord.{LinkRecord}
+use Rattle.sctp_model.specs.LinkRecord as W
 use Rattle.sctp_model.specs.Messages.{slot_at, message_at, message_of, tsn_of, place_of, is_in_flight}
 use Rattle.sctp_model.specs.Contents.{chunk_at, contents_of}
 use Rattle.sctp_model.specs.Queues.{is_cleared}
-use Rattle.sctp_model.specs.Changes.{resent}
+use Rattle.sctp_model.specs.Changes.{after_resend}
 use Rattle.sctp_model.specs.Steps.{refusal_of, reply_to, can_resend}
 use Rattle.sctp_model.proofs.sender.SenderRun.{unless-holds}
 use Rattle.sctp_refinement.specs.Refines.{RefinesOutbound}
@@ -53,12 +53,12 @@ piece-short (suc most) size (x ∷ xs) (suc i) = piece-short most size (drop siz
 pub chunk-short : (d : Data) → length d.user_data ≤ 65519 → 4 + length (data_value d) < 2 ^ 16
 chunk-short d le = omega (arith, length_data_value d, le)
 
-pub fragment-short : (sum : List ℕ → ℕ) (x : State) → IsLinked sum x → (n i : ℕ) → length (get_or (pieces (length (message_at x.world n).bytes) x.world.setup.size (message_at x.world n).bytes) i []) ≤ 65519
-fragment-short sum x l n i = omega (arith, piece-short (length (message_at x.world n).bytes) x.world.setup.size (message_at x.world n).bytes i, l.setup.size)
+pub fragment-short : (sum : List ℕ → ℕ) (x : State) → IsLinked sum x → (n i : ℕ) → length (get_or (pieces (length (message_at x.recorded n).bytes) x.recorded.setup.size (message_at x.recorded n).bytes) i []) ≤ 65519
+fragment-short sum x l n i = omega (arith, piece-short (length (message_at x.recorded n).bytes) x.recorded.setup.size (message_at x.recorded n).bytes i, l.setup.size)
 
 -- ## Datagrams
 
-pub says-data : (sum : List ℕ → ℕ) (v : World) (p : ℕ) (bytes : List ℕ) (d : Data) → d ≡ data_of (chunk_at v p) → bytes ≡ packet_encoding sum (packet_with (data_chunk d ∷ [])) → ReadsPacket sum bytes (packet_with (data_chunk d ∷ [])) → IsDatagram sum (contents_of v (W.Data (p ∷ []))) bytes
+pub says-data : (sum : List ℕ → ℕ) (v : LinkRecord) (p : ℕ) (bytes : List ℕ) (d : Data) → d ≡ data_of (chunk_at v p) → bytes ≡ packet_encoding sum (packet_with (data_chunk d ∷ [])) → ReadsPacket sum bytes (packet_with (data_chunk d ∷ [])) → IsDatagram sum (contents_of v (W.Data (p ∷ []))) bytes
 says-data sum v p bytes d is encoding reads = record {
   encoding = encoding ∙ ap (λ e. packet_encoding sum (packet_with (data_chunk e ∷ []))) is;
   reads = subst (λ e. ReadsPacket sum bytes (packet_with (data_chunk e ∷ []))) is reads;
@@ -72,40 +72,40 @@ bytes-more ds es k bytes e = ap (map (λ d. d.bytes)) e ∙ map-append (λ (d : 
 
 -- ## A chunk leaves again
 
-module _ (sum : List ℕ → ℕ) (x : State) (l : IsLinked sum x) (tsn : ℕ) (small : tsn < 2 ^ 32) (ok : refusal_of x.world (E.Resend tsn) ≡ None) where
+module _ (sum : List ℕ → ℕ) (x : State) (l : IsLinked sum x) (tsn : ℕ) (small : tsn < 2 ^ 32) (ok : refusal_of x.recorded (E.Resend tsn) ≡ None) where
   abbrev p : ℕ
-  p = place_of x.world tsn
+  p = place_of x.recorded tsn
 
   abbrev cs : List ChunkPayloadData
   cs = x.outbound.inflight.chunks
 
-  can : can_resend x.world p ≡ true
-  can = (unless-holds (can_resend x.world p) NotInFlight None ok).0
+  can : can_resend x.recorded p ≡ true
+  can = (unless-holds (can_resend x.recorded p) NotInFlight None ok).0
 
-  flies : is_in_flight x.world p ≡ true
-  flies = (both (is_in_flight x.world p) _ can).0
+  flies : is_in_flight x.recorded p ≡ true
+  flies = (both (is_in_flight x.recorded p) _ can).0
 
-  rest : (not (slot_at x.world p).acknowledged && not (message_at x.world (message_of x.world p)).abandoned) ≡ true
-  rest = (both (is_in_flight x.world p) _ can).1
+  rest : (not (slot_at x.recorded p).acknowledged && not (message_at x.recorded (message_of x.recorded p)).abandoned) ≡ true
+  rest = (both (is_in_flight x.recorded p) _ can).1
 
-  pub from : x.world.taken ≤ p
-  from = let e = (both (nat_le x.world.taken p) (nat_lt p (length x.world.slots)) flies).0 in grind (arith, nat_tests)
+  pub from : x.recorded.taken ≤ p
+  from = let e = (both (nat_le x.recorded.taken p) (nat_lt p (length x.recorded.slots)) flies).0 in grind (arith, nat_tests)
 
-  pub below : p < length x.world.slots
-  below = let e = (both (nat_le x.world.taken p) (nat_lt p (length x.world.slots)) flies).1 in grind (arith, nat_tests)
+  pub below : p < length x.recorded.slots
+  below = let e = (both (nat_le x.recorded.taken p) (nat_lt p (length x.recorded.slots)) flies).1 in grind (arith, nat_tests)
 
-  clear : is_cleared x.world p ≡ false
+  clear : is_cleared x.recorded p ≡ false
   clear =
-      let r = both (not (slot_at x.world p).acknowledged) (not (message_at x.world (message_of x.world p)).abandoned) rest in
-      ap (λ b. b || (message_at x.world (message_of x.world p)).abandoned) (negated (slot_at x.world p).acknowledged r.0) ∙ negated (message_at x.world (message_of x.world p)).abandoned r.1
+      let r = both (not (slot_at x.recorded p).acknowledged) (not (message_at x.recorded (message_of x.recorded p)).abandoned) rest in
+      ap (λ b. b || (message_at x.recorded (message_of x.recorded p)).abandoned) (negated (slot_at x.recorded p).acknowledged r.0) ∙ negated (message_at x.recorded (message_of x.recorded p)).abandoned r.1
 
-  own : tsn_of x.world p ≡ tsn
+  own : tsn_of x.recorded p ≡ tsn
   own = let f = l.setup.first in omega (arith, f, small)
 
-  found : Found x.world p cs
+  found : Found x.recorded p cs
   found =
       let f = facts sum x l in
-      found-in x.world p (omega (arith, below, f.few)) cs x.world.taken (length x.world.slots - x.world.taken) (omega (arith, f.few, f.taken)) from (omega (arith, below, f.taken)) l.outbound.in_flight
+      found-in x.recorded p (omega (arith, below, f.few)) cs x.recorded.taken (length x.recorded.slots - x.recorded.taken) (omega (arith, f.few, f.taken)) from (omega (arith, below, f.taken)) l.outbound.in_flight
 
   there : find (has_tsn tsn) cs ≡ Some found.chunk
   there = ap (λ t. find (has_tsn t) cs) (sym own) ∙ found.is
@@ -117,23 +117,23 @@ module _ (sum : List ℕ → ℕ) (x : State) (l : IsLinked sum x) (tsn : ℕ) (
       differ e = cc
 
   -- what is found says what its slot does
-  pub resend-says : (c : ChunkPayloadData) → find (has_tsn tsn) cs ≡ Some c → data_of c ≡ data_of (chunk_at x.world p)
-  resend-says c e = ap data_of (inner (sym e ∙ there)) ∙ says-same x.world p found.chunk found.says clear
+  pub resend-says : (c : ChunkPayloadData) → find (has_tsn tsn) cs ≡ Some c → data_of c ≡ data_of (chunk_at x.recorded p)
+  resend-says c e = ap data_of (inner (sym e ∙ there)) ∙ says-same x.recorded p found.chunk found.says clear
     where
       inner : {A : Type 0} {a b : A} → Some a ≡ Some b → a ≡ b
       inner e = cc
 
   pub resend-fits : (c : ChunkPayloadData) → find (has_tsn tsn) cs ≡ Some c → 4 + length (data_value (data_of c)) < 2 ^ 16
   resend-fits c e =
-      let is : c.user_data ≡ (chunk_at x.world p).user_data = ap (λ (d : Data). d.user_data) (resend-says c e) in
-      chunk-short (data_of c) (omega (arith, ap length is, fragment-short sum x l (message_of x.world p) (slot_at x.world p).fragment))
+      let is : c.user_data ≡ (chunk_at x.recorded p).user_data = ap (λ (d : Data). d.user_data) (resend-says c e) in
+      chunk-short (data_of c) (omega (arith, ap length is, fragment-short sum x l (message_of x.recorded p) (slot_at x.recorded p).fragment))
 
-  pub linked-resend : (c : ChunkPayloadData) (bytes : List ℕ) (nsent : ℕ) (q : Outbound) → find (has_tsn tsn) cs ≡ Some c → bytes ≡ packet_encoding sum (packet_with (data_chunk (data_of c) ∷ [])) → ReadsPacket sum bytes (packet_with (data_chunk (data_of c) ∷ [])) → length x.datagrams ≡ length x.world.network → q ≡ with_inflight x.outbound (change_where (has_tsn tsn) (with_nsent nsent) cs) → IsLinked sum (record x { world = resent x.world tsn; datagrams = x.datagrams ++ bytes ∷ []; outbound = q })
+  pub linked-resend : (c : ChunkPayloadData) (bytes : List ℕ) (nsent : ℕ) (q : Outbound) → find (has_tsn tsn) cs ≡ Some c → bytes ≡ packet_encoding sum (packet_with (data_chunk (data_of c) ∷ [])) → ReadsPacket sum bytes (packet_with (data_chunk (data_of c) ∷ [])) → length x.datagrams ≡ length x.recorded.network → q ≡ with_inflight x.outbound (change_where (has_tsn tsn) (with_nsent nsent) cs) → IsLinked sum (record x { recorded = after_resend x.recorded tsn; datagrams = x.datagrams ++ bytes ∷ []; outbound = q })
   linked-resend c bytes nsent q e encoding reads count eq = record {
     setup = l.setup;
-    history = (E.Resend tsn, reply_to x.world (E.Resend tsn)) ∷ l.history;
-    stands = stands-then x.world.setup x.world l.history (E.Resend tsn) ok l.stands;
-    outbound = subst (RefinesOutbound v) (sym eq) (outbound-same x.world v (same-self x.world v refl refl refl refl) _ (refines-marked x.world x.outbound (has_tsn tsn) (with_nsent nsent) (nsent-quiet nsent) l.outbound));
+    history = (E.Resend tsn, reply_to x.recorded (E.Resend tsn)) ∷ l.history;
+    stands = stands-then x.recorded.setup x.recorded l.history (E.Resend tsn) ok l.stands;
+    outbound = subst (RefinesOutbound v) (sym eq) (outbound-same x.recorded v (same-self x.recorded v refl refl refl refl) _ (refines-marked x.recorded x.outbound (has_tsn tsn) (with_nsent nsent) (nsent-quiet nsent) l.outbound));
     unstarted = l.unstarted ∙ sym (ap (λ (r : Outbound). r.next_unstarted) eq);
     filter = l.filter;
     next = l.next;
@@ -143,10 +143,10 @@ module _ (sum : List ℕ → ℕ) (x : State) (l : IsLinked sum x) (tsn : ℕ) (
     sents = l.sents;
     indexes = l.indexes;
     low = l.low;
-    open_streams = λ k d lt. stream-same x.world v (slice_index_or x.open_streams k d) (record { setup = refl; held = refl; ordered = refl; next = refl; amount = refl; counters = refl }) refl (l.open_streams k d lt);
+    open_streams = λ k d lt. stream-same x.recorded v (slice_index_or x.open_streams k d) (record { setup = refl; held = refl; ordered = refl; next = refl; amount = refl; counters = refl }) refl (l.open_streams k d lt);
     apart = l.apart;
     encodings = encodings-more sum x l (E.Resend tsn) ok (W.Data (p ∷ [])) bytes refl count (says-data sum v p bytes (data_of c) (resend-says c e) encoding reads);
   }
     where
-      v : World
-      v = resent x.world tsn
+      v : LinkRecord
+      v = after_resend x.recorded tsn

@@ -13,18 +13,18 @@ use Rattle.sctp_chunks.specs.PayloadData.{data_of}
 use Rattle.sctp_chunks.specs.Wire.{data_chunk, HasEncoding}
 use Rattle.sctp_chunks.specs.Fits.{Canonical}
 use Rattle.sctp_packets.specs.Packet.{ReadsPacket, packet_encoding}
-use Rattle.sctp_outbound.specs.pending_queue.PendingQueue.{peeked}
+use Rattle.sctp_outbound.specs.pending_queue.PendingQueue.{next_pending}
 use Rattle.sctp_outbound.specs.outbound_queue.OutboundQueue.{after_sends}
 use Rattle.sctp_model.specs.declared.event.Event.TheVariants as E
-use Rattle.sctp_model.specs.World.{World, StreamRecord, Slot, Message}
-use Rattle.sctp_model.specs.World as W
+use Rattle.sctp_model.specs.LinkRecord.{LinkRecord, StreamRecord, Slot, Message}
+use Rattle.sctp_model.specs.LinkRecord as W
 use Rattle.sctp_model.specs.Messages as M
 use Rattle.sctp_model.specs.Messages.{message_at, tsn_of, front, ordered_before, ssn_of}
 use Rattle.sctp_model.specs.Contents.{chunk_at, contents_of}
 use Rattle.sctp_model.specs.Queues.{filter_of}
 use Rattle.sctp_model.specs.Amounts.{in_all, written_bytes}
 use Rattle.sctp_model.specs.Reply as R
-use Rattle.sctp_model.specs.Changes.{started, start_lifetime, sent, sent_from, with_datagram, fragments_sent}
+use Rattle.sctp_model.specs.Changes.{after_start, start_lifetime, after_send, send_from, with_datagram, send_fragments}
 use Rattle.sctp_model.specs.Steps.{IsRight, StandsFor, reply_to, sent_reply, fragments_accepted}
 use Rattle.sctp_model.proofs.sender.Shape.{shape}
 use Rattle.sctp_model.proofs.sender.Fronts.{front-takes}
@@ -39,7 +39,7 @@ use Rattle.sctp_refinement.proofs.sending.FilledDatagrams.{Fills, fill-sent, fil
 use Rattle.sctp_refinement.proofs.sending.Fragments.{shown, idle}
 use Rattle.sctp_refinement.proofs.sending.InLine.{before-started}
 use Rattle.sctp_refinement.proofs.acknowledging.QuietSender.{outbound-same, same-self}
-use Rattle.sctp_halves.specs.Streams.{OpenStream, stream_numbers}
+use Rattle.sctp_halves.specs.Streams.{OpenStream}
 use Rattle.sctp_link.specs.Places.{IsApart}
 use Rattle.sctp_link.specs.Encodings.{IsDatagram, packet_with, wire_data}
 use Rattle.sctp_link.specs.Linked.{State, IsLinked, IsOpenStream}
@@ -50,49 +50,47 @@ use Rattle.sctp_link.proofs.upkeep.Frames.{SameStream, stream-with, stream-quiet
 use Rattle.sctp_link.proofs.sender.Beginning.{index_kept}
 use Rattle.sctp_link.proofs.sender.Between.{Between}
 use Rattle.sctp_link.proofs.sender.Outgoing.{piece-short, chunk-short}
+use Rattle.sctp_list_lemmas.proofs.Cases.{some-same}
 
 -- ## What is sent next
 
 -- the chunk shown is the next fragment of the front
-pub record Next (w : World) (c : ChunkPayloadData) : Type 0 where
+pub record Next (w : LinkRecord) (c : ChunkPayloadData) : Type 0 where
   pub front : front w ≡ Some c.message_id
   pub is : c ≡ waiting_at w c.message_id (M.sent_of w c.message_id)
   pub made : c.message_id < length w.messages
-
-inner : {A : Type 0} {a b : A} → Some a ≡ Some b → a ≡ b
-inner e = cc
 
 nothing : {A : Type 0} {a : A} → Some a ≡ None → ⊥
 nothing e = cc
 
 module _ (sum : List ℕ → ℕ) (x : State) (l : IsLinked sum x) where
-  pub next-is : (c : ChunkPayloadData) → peeked x.outbound.pending ≡ Some c → Next x.world c
-  next-is c e = by (front x.world) refl
+  pub next-is : (c : ChunkPayloadData) → next_pending x.outbound.pending ≡ Some c → Next x.recorded c
+  next-is c e = by (front x.recorded) refl
     where
-      of : (n : ℕ) → front x.world ≡ Some n → c ≡ waiting_at x.world n (M.sent_of x.world n) → Next x.world c
+      of : (n : ℕ) → front x.recorded ≡ Some n → c ≡ waiting_at x.recorded n (M.sent_of x.recorded n) → Next x.recorded c
       of n fr same =
           let own : n ≡ c.message_id = sym (ap (λ (d : ChunkPayloadData). d.message_id) same) in
           record {
             front = fr ∙ ap Some own;
-            is = same ∙ ap (λ k. waiting_at x.world k (M.sent_of x.world k)) own;
-            made = let t = (front-takes (shape x.world) n (facts sum x l).sane.sender fr).made in omega (arith, t, own);
+            is = same ∙ ap (λ k. waiting_at x.recorded k (M.sent_of x.recorded k)) own;
+            made = let t = (front-takes (shape x.recorded) n (facts sum x l).sane.sender fr).made in omega (arith, t, own);
           }
 
-      by : (o : Option ℕ) → front x.world ≡ o → Next x.world c
-      by None fr = absurd (nothing (sym e ∙ idle x.world x.outbound l.outbound fr))
-      by (Some n) fr = of n fr (inner (sym e ∙ shown x.world.setup x.world n x.outbound (facts sum x l).going fr l.outbound))
+      by : (o : Option ℕ) → front x.recorded ≡ o → Next x.recorded c
+      by None fr = absurd (nothing (sym e ∙ idle x.recorded x.outbound l.outbound fr))
+      by (Some n) fr = of n fr (some-same (sym e ∙ shown x.recorded.setup x.recorded n x.outbound (facts sum x l).going fr l.outbound))
 
-  pub none-next : peeked x.outbound.pending ≡ None → front x.world ≡ None
-  none-next e = by (front x.world) refl
+  pub none-next : next_pending x.outbound.pending ≡ None → front x.recorded ≡ None
+  none-next e = by (front x.recorded) refl
     where
-      by : (o : Option ℕ) → front x.world ≡ o → front x.world ≡ None
+      by : (o : Option ℕ) → front x.recorded ≡ o → front x.recorded ≡ None
       by None fr = fr
-      by (Some n) fr = absurd (nothing (sym (shown x.world.setup x.world n x.outbound (facts sum x l).going fr l.outbound) ∙ e))
+      by (Some n) fr = absurd (nothing (sym (shown x.recorded.setup x.recorded n x.outbound (facts sum x l).going fr l.outbound) ∙ e))
 
-  pub idle-right : (now : ℕ) (new : World) → peeked x.outbound.pending ≡ None → new ≡ started x.world now → IsRight x.world (E.Send now) R.Idle new
+  pub idle-right : (now : ℕ) (new : LinkRecord) → next_pending x.outbound.pending ≡ None → new ≡ after_start x.recorded now → IsRight x.recorded (E.Send now) R.Idle new
   idle-right now new e is =
       let fr = none-next e in
-      record { right = sym (ap (sent_reply x.world (sent x.world now)) fr); moves = is ∙ sym (ap (sent_from (started x.world now)) fr) }
+      record { right = sym (ap (sent_reply x.recorded (after_send x.recorded now)) fr); moves = is ∙ sym (ap (send_from (after_start x.recorded now)) fr) }
 
 -- ## What the chunks say
 
@@ -101,18 +99,18 @@ wires-of : (cs : List ChunkPayloadData) → map wire_of (map C.PayloadData cs) �
 wires-of [] = refl
 wires-of (c ∷ cs) = ap (λ l. data_chunk (data_of c) ∷ l) (wires-of cs)
 
-wires-at : (v : World) (ps : List ℕ) → map data_chunk (map (λ p. data_of (chunk_at v p)) ps) ≡ map wire_data (map (chunk_at v) ps)
+wires-at : (v : LinkRecord) (ps : List ℕ) → map data_chunk (map (λ p. data_of (chunk_at v p)) ps) ≡ map wire_data (map (chunk_at v) ps)
 wires-at v [] = refl
 wires-at v (p ∷ ps) = ap (λ l. wire_data (chunk_at v p) ∷ l) (wires-at v ps)
 
-at-short : (v : World) (p : ℕ) → v.setup.size ≤ 65519 → length (chunk_at v p).user_data ≤ 65519
+at-short : (v : LinkRecord) (p : ℕ) → v.setup.size ≤ 65519 → length (chunk_at v p).user_data ≤ 65519
 at-short v p le = omega (arith, le, piece-short (length (message_at v (M.message_of v p)).bytes) v.setup.size (message_at v (M.message_of v p)).bytes (M.slot_at v p).fragment)
 
-encodings-at : (v : World) (ps : List ℕ) → v.setup.size ≤ 65519 → AllByRecursion HasEncoding (map wire_data (map (chunk_at v) ps))
+encodings-at : (v : LinkRecord) (ps : List ℕ) → v.setup.size ≤ 65519 → AllByRecursion HasEncoding (map wire_data (map (chunk_at v) ps))
 encodings-at v [] le = tt
 encodings-at v (p ∷ ps) le = ((tt, chunk-short (data_of (chunk_at v p)) (at-short v p le)), encodings-at v ps le)
 
-canonical-at : (v : World) (ps : List ℕ) → AllByRecursion Canonical (map wire_data (map (chunk_at v) ps))
+canonical-at : (v : LinkRecord) (ps : List ℕ) → AllByRecursion Canonical (map wire_data (map (chunk_at v) ps))
 canonical-at v [] = tt
 canonical-at v (p ∷ ps) = (tt, canonical-at v ps)
 
@@ -120,55 +118,55 @@ canonical-at v (p ∷ ps) = (tt, canonical-at v ps)
 
 module _ (sum : List ℕ → ℕ) (x : State) (l : IsLinked sum x) (now : ℕ) where
   -- each fragment that is looked at is short
-  pub looks-short : (i : ℕ) → IfSome (peeked (after_sends i x.outbound.pending)) (λ c. length c.user_data ≤ 65519)
+  pub looks-short : (i : ℕ) → IfSome (next_pending (after_sends i x.outbound.pending)) (λ c. length c.user_data ≤ 65519)
   looks-short i =
-      let w = x.world in
+      let w = x.recorded in
       let z = after_fragments i w in
       shown-after w.setup i w x.outbound.pending (λ c. length c.user_data ≤ 65519) (facts sum x l).going l.outbound.pending
-      (λ n. omega (arith, l.setup.size, ap (λ (y : World). y.setup.size) (only-slots i w), piece-short (length (message_at z n).bytes) z.setup.size (message_at z n).bytes (M.sent_of z n)))
+      (λ n. omega (arith, l.setup.size, ap (λ (y : LinkRecord). y.setup.size) (only-slots i w), piece-short (length (message_at z n).bytes) z.setup.size (message_at z n).bytes (M.sent_of z n)))
 
-module _ (sum : List ℕ → ℕ) (x : State) (l : IsLinked sum x) (now n : ℕ) (fr : front x.world ≡ Some n) where
-  abbrev w : World
-  w = x.world
+module _ (sum : List ℕ → ℕ) (x : State) (l : IsLinked sum x) (now n : ℕ) (fr : front x.recorded ≡ Some n) where
+  abbrev w : LinkRecord
+  w = x.recorded
 
-  abbrev pub u : World
-  u = started x.world now
+  abbrev pub u : LinkRecord
+  u = after_start x.recorded now
 
   -- the chunks of the datagram
   abbrev pub cs : List ChunkPayloadData
-  cs = chunks_taken x.world.setup.limit x.next_tsn x.outbound.pending
+  cs = chunks_taken x.recorded.setup.limit x.next_tsn x.outbound.pending
 
-  pub fills : Fills (started x.world now) (fragments_sent (started x.world now)) (chunks_taken x.world.setup.limit x.next_tsn x.outbound.pending)
+  pub fills : Fills (after_start x.recorded now) (send_fragments (after_start x.recorded now)) (chunks_taken x.recorded.setup.limit x.next_tsn x.outbound.pending)
   fills =
       let f = facts sum x l in
-      subst (λ z. Fills u z cs) (sym (sent-started w now)) (fill-started w (fragments_sent w) now cs (fill-sent w.setup x.next_tsn n w x.outbound.pending f.going l.outbound.pending fr l.next))
+      subst (λ z. Fills u z cs) (sym (sent-started w now)) (fill-started w (send_fragments w) now cs (fill-sent w.setup x.next_tsn n w x.outbound.pending f.going l.outbound.pending fr l.next))
 
   -- the record once they have slots
-  abbrev z : World
-  z = fragments_sent (started x.world now)
+  abbrev z : LinkRecord
+  z = send_fragments (after_start x.recorded now)
 
   abbrev pub places : List ℕ
-  places = numbers_from (length x.world.slots) (length (chunks_taken x.world.setup.limit x.next_tsn x.outbound.pending))
+  places = numbers_from (length x.recorded.slots) (length (chunks_taken x.recorded.setup.limit x.next_tsn x.outbound.pending))
 
-  abbrev pub v : World
-  v = record x.world { messages = (started x.world now).messages; slots = (fragments_sent (started x.world now)).slots; network = x.world.network ++ W.Data places ∷ [] }
+  abbrev pub v : LinkRecord
+  v = record x.recorded { messages = (after_start x.recorded now).messages; slots = (send_fragments (after_start x.recorded now)).slots; network = x.recorded.network ++ W.Data places ∷ [] }
 
-  only : fragments_sent (started x.world now) ≡ record (started x.world now) { slots = (fragments_sent (started x.world now)).slots }
-  only = fills.all ∙ only-slots (length cs) u ∙ ap (λ s. record u { slots = s }) (ap (λ (y : World). y.slots) (sym fills.all))
+  only : send_fragments (after_start x.recorded now) ≡ record (after_start x.recorded now) { slots = (send_fragments (after_start x.recorded now)).slots }
+  only = fills.all ∙ only-slots (length cs) u ∙ ap (λ s. record u { slots = s }) (ap (λ (y : LinkRecord). y.slots) (sym fills.all))
 
-  many : length (fragments_sent (started x.world now)).slots - length x.world.slots ≡ length cs
+  many : length (send_fragments (after_start x.recorded now)).slots - length x.recorded.slots ≡ length cs
   many = let c = fills.count in omega (arith, c)
 
-  sent-moves : sent w now ≡ v
+  sent-moves : after_send w now ≡ v
   sent-moves =
-      ap (sent_from u) fr
-      ∙ ap (λ k. with_datagram z (W.Data (numbers_from (length x.world.slots) k))) many
+      ap (send_from u) fr
+      ∙ ap (λ k. with_datagram z (W.Data (numbers_from (length x.recorded.slots) k))) many
       ∙ ap (λ y. with_datagram y (W.Data places)) only
 
   pub send-right : (ssn : ℕ) → ssn ≡ ssn_of w n → IsRight w (E.Send now) (R.Sent (length w.network) x.next_tsn ssn (length cs)) v
   send-right ssn e = record {
     right = ap (λ t. R.Sent (length w.network) t ssn (length cs)) l.next ∙ ap (λ k. R.Sent (length w.network) (tsn_of w (length w.slots)) k (length cs)) e
-        ∙ sym (ap (sent_reply w (sent w now)) fr ∙ ap (λ (y : World). R.Sent (length w.network) (tsn_of w (length w.slots)) (ssn_of w n) (length y.slots - length w.slots)) sent-moves ∙ ap (R.Sent (length w.network) (tsn_of w (length w.slots)) (ssn_of w n)) many);
+        ∙ sym (ap (sent_reply w (after_send w now)) fr ∙ ap (λ (y : LinkRecord). R.Sent (length w.network) (tsn_of w (length w.slots)) (ssn_of w n) (length y.slots - length w.slots)) sent-moves ∙ ap (R.Sent (length w.network) (tsn_of w (length w.slots)) (ssn_of w n)) many);
     moves = sym sent-moves;
   }
 
@@ -176,10 +174,10 @@ module _ (sum : List ℕ → ℕ) (x : State) (l : IsLinked sum x) (now n : ℕ)
   says-wires : map wire_of (map C.PayloadData cs) ≡ map wire_data (map (chunk_at v) places)
   says-wires = wires-of cs ∙ ap (map data_chunk) (fills.says ∙ ap (λ y. map (λ p. data_of (chunk_at y p)) places) only) ∙ wires-at v places
 
-  pub fits-each : AllByRecursion HasEncoding (map wire_of (map C.PayloadData (chunks_taken x.world.setup.limit x.next_tsn x.outbound.pending)))
+  pub fits-each : AllByRecursion HasEncoding (map wire_of (map C.PayloadData (chunks_taken x.recorded.setup.limit x.next_tsn x.outbound.pending)))
   fits-each = subst (AllByRecursion HasEncoding) (sym says-wires) (encodings-at v places l.setup.size)
 
-  pub canonical-each : AllByRecursion Canonical (map wire_of (map C.PayloadData (chunks_taken x.world.setup.limit x.next_tsn x.outbound.pending)))
+  pub canonical-each : AllByRecursion Canonical (map wire_of (map C.PayloadData (chunks_taken x.recorded.setup.limit x.next_tsn x.outbound.pending)))
   canonical-each = subst (AllByRecursion Canonical) (sym says-wires) (canonical-at v places)
 
   pub says : (ks : List ChunkKind) (bytes : List ℕ) → ks ≡ map C.PayloadData cs → bytes ≡ packet_encoding sum (packet_with (map wire_of ks)) → ReadsPacket sum bytes (packet_with (map wire_of ks)) → IsDatagram sum (contents_of v (W.Data places)) bytes
@@ -187,25 +185,25 @@ module _ (sum : List ℕ → ℕ) (x : State) (l : IsLinked sum x) (now n : ℕ)
       let e : map wire_of ks ≡ map wire_data (map (chunk_at v) places) = ap (map wire_of) is ∙ says-wires in
       record { encoding = encoding ∙ ap (λ ws. packet_encoding sum (packet_with ws)) e; reads = subst (λ ws. ReadsPacket sum bytes (packet_with ws)) e reads }
 
-  quiet : Quiet w (sent w now)
+  quiet : Quiet w (after_send w now)
   quiet = Moves.quiet-sent w.setup w now (front w) (facts sum x l).sane
 
-  before : (t : ℕ) → ordered_before (sent w now) t (length (sent w now).messages) ≡ ordered_before w t (length w.messages)
+  before : (t : ℕ) → ordered_before (after_send w now) t (length (after_send w now).messages) ≡ ordered_before w t (length w.messages)
   before t = ap (λ y. ordered_before y t (length y.messages)) sent-moves ∙ ap (ordered_before u t) (length-mapped (start_lifetime now) w.messages) ∙ before-started w now t (length w.messages)
 
   stream-kept : (t : ℕ) → SameStream w v t
   stream-kept t = subst (λ y. SameStream w y t) sent-moves (stream-quiet sum x l (E.Send now) refl quiet tt refl refl refl before t)
 
   -- the record that the link then has
-  pub world-is : (rs : List StreamRecord) (ms : List Message) (ss : List Slot) (ns : List W.Datagram) → rs ≡ w.streams → ms ≡ u.messages → ss ≡ z.slots → ns ≡ w.network ++ W.Data places ∷ [] → record w { streams = rs; messages = ms; slots = ss; network = ns } ≡ v
-  world-is rs ms ss ns r a b c =
+  pub recorded-is : (rs : List StreamRecord) (ms : List Message) (ss : List Slot) (ns : List W.Datagram) → rs ≡ w.streams → ms ≡ u.messages → ss ≡ z.slots → ns ≡ w.network ++ W.Data places ∷ [] → record w { streams = rs; messages = ms; slots = ss; network = ns } ≡ v
+  recorded-is rs ms ss ns r a b c =
       ap (λ t. record w { streams = t; messages = ms; slots = ss; network = ns }) r
       ∙ ap (λ m. record w { messages = m; slots = ss; network = ns }) a
       ∙ ap (λ m. record u { slots = m; network = ns }) b
       ∙ ap (λ m. record u { slots = z.slots; network = m }) c
 
-  module _ (s : Sender) (b : Between x now (fragments_sent (started x.world now)) s) (bytes : List ℕ) (encoding : IsDatagram sum (contents_of v (W.Data places)) bytes) (count : length x.datagrams ≡ length x.world.network) where
-    shape-same : shape (fragments_sent (started x.world now)) ≡ shape v
+  module _ (s : Sender) (b : Between x now (send_fragments (after_start x.recorded now)) s) (bytes : List ℕ) (encoding : IsDatagram sum (contents_of v (W.Data places)) bytes) (count : length x.datagrams ≡ length x.recorded.network) where
+    shape-same : shape (send_fragments (after_start x.recorded now)) ≡ shape v
     shape-same = ap shape only
 
     stream-sent : (k : ℕ) (d : OpenStream) → k < length s.streams → IsOpenStream v (slice_index_or s.streams k d)
@@ -218,15 +216,15 @@ module _ (sum : List ℕ → ℕ) (x : State) (l : IsLinked sum x) (now n : ℕ)
     encodings-sent : (k : ℕ) (d : List ℕ) (g : W.Datagram) → slice_get v.network k ≡ Some g → IsDatagram sum (contents_of v g) (slice_index_or (x.datagrams ++ bytes ∷ []) k d)
     encodings-sent =
         subst (λ y. (k : ℕ) (d : List ℕ) (g : W.Datagram) → slice_get y.network k ≡ Some g → IsDatagram sum (contents_of y g) (slice_index_or (x.datagrams ++ bytes ∷ []) k d)) sent-moves
-        (encodings-more sum x l (E.Send now) refl (W.Data places) bytes (ap (λ (y : World). y.network) sent-moves) count (subst (λ y. IsDatagram sum (contents_of y (W.Data places)) bytes) (sym sent-moves) encoding))
+        (encodings-more sum x l (E.Send now) refl (W.Data places) bytes (ap (λ (y : LinkRecord). y.network) sent-moves) count (subst (λ y. IsDatagram sum (contents_of y (W.Data places)) bytes) (sym sent-moves) encoding))
 
     indexed-sent : Indexed (shape v) (index_kept (map progress_of s.messages))
     indexed-sent = subst (λ h. Indexed h (index_kept (map progress_of s.messages))) shape-same b.indexed
 
     outbound-sent : RefinesOutbound v s.outbound
-    outbound-sent = let r : World = record u { slots = z.slots } in outbound-same r v (same-self r v refl refl refl refl) s.outbound (subst (λ y. RefinesOutbound y s.outbound) only b.outbound)
+    outbound-sent = let r : LinkRecord = record u { slots = z.slots } in outbound-same r v (same-self r v refl refl refl refl) s.outbound (subst (λ y. RefinesOutbound y s.outbound) only b.outbound)
 
-    pub linked-send : IsLinked sum (record x { world = v; open_streams = s.streams; progress = map progress_of s.messages; unstarted = length x.world.messages; datagrams = x.datagrams ++ bytes ∷ []; outbound = s.outbound; next_tsn = s.next_tsn })
+    pub linked-send : IsLinked sum (record x { recorded = v; open_streams = s.streams; progress = map progress_of s.messages; unstarted = length x.recorded.messages; datagrams = x.datagrams ++ bytes ∷ []; outbound = s.outbound; next_tsn = s.next_tsn })
     linked-send = record {
       setup = l.setup;
       history = (E.Send now, reply_to w (E.Send now)) ∷ l.history;

@@ -7,7 +7,7 @@ use Rattle.sctp_list_lemmas.proofs.Getting.{length-mapped}
 use Rattle.sctp_outbound.specs.outbound_queue.OutboundQueue.{Outbound, all_started}
 use Rattle.sctp_model.specs.declared.event.Event.TheVariants as E
 use Rattle.sctp_model.specs.Messages.{no_message, ordered_before}
-use Rattle.sctp_model.specs.Changes.{started, start_lifetime}
+use Rattle.sctp_model.specs.Changes.{after_start, start_lifetime}
 use Rattle.sctp_model.specs.Steps.{reply_to}
 use Rattle.sctp_model.proofs.sender.Moves
 use Rattle.sctp_refinement.proofs.sending.LifetimesStart.{refines-started}
@@ -57,14 +57,14 @@ start-progress now (suc first) (m ∷ ms) = ap (λ l. progress_of m ∷ l) (star
 -- ## The event
 
 module _ (sum : List ℕ → ℕ) (x : State) (l : IsLinked sum x) (now : ℕ) where
-  pub starts-records : (ms : List Message) → x.world.messages ≡ map message_record ms → map message_record (start_from x.unstarted now ms) ≡ (started x.world now).messages
+  pub starts-records : (ms : List Message) → x.recorded.messages ≡ map message_record ms → map message_record (start_from x.unstarted now ms) ≡ (after_start x.recorded now).messages
   starts-records ms e =
       start-records now x.unstarted ms
       (λ n lt below. ap (λ r. is_some (slice_index_or r n no_message).started) (sym e) ∙ l.outbound.unstarted n (omega (arith, lt, count)) ∙ ap not (above n below))
       (λ n lt from. ap (λ r. is_some (slice_index_or r n no_message).started) (sym e) ∙ l.outbound.unstarted n (omega (arith, lt, count)) ∙ ap not (reached n from))
       ∙ ap (map (start_lifetime now)) (sym e)
     where
-      count : length x.world.messages ≡ length ms
+      count : length x.recorded.messages ≡ length ms
       count = ap length e ∙ length-mapped message_record ms
 
       above : (n : ℕ) → n < x.unstarted → nat_le x.outbound.next_unstarted n ≡ false
@@ -73,39 +73,39 @@ module _ (sum : List ℕ → ℕ) (x : State) (l : IsLinked sum x) (now : ℕ) w
       reached : (n : ℕ) → x.unstarted ≤ n → nat_le x.outbound.next_unstarted n ≡ true
       reached n le = let s = l.unstarted in grind (arith, nat_tests)
 
-  pub linked-start : IsLinked sum (record x { world = started x.world now; unstarted = length x.world.messages; outbound = all_started now x.outbound })
+  pub linked-start : IsLinked sum (record x { recorded = after_start x.recorded now; unstarted = length x.recorded.messages; outbound = all_started now x.outbound })
   linked-start = record {
     setup = l.setup;
-    history = (E.Start now, reply_to x.world (E.Start now)) ∷ l.history;
-    stands = stands-then x.world.setup x.world l.history (E.Start now) refl l.stands;
-    outbound = refines-started x.world now x.outbound l.outbound;
-    unstarted = sym (all-begun x.world now x.outbound l.outbound);
+    history = (E.Start now, reply_to x.recorded (E.Start now)) ∷ l.history;
+    stands = stands-then x.recorded.setup x.recorded l.history (E.Start now) refl l.stands;
+    outbound = refines-started x.recorded now x.outbound l.outbound;
+    unstarted = sym (all-begun x.recorded now x.outbound l.outbound);
     filter = l.filter;
     next = l.next;
     acked = l.acked;
     fragments = l.fragments ∙ sym (fragments-same sum x l (E.Start now) refl refl);
     written = l.written ∙ sym (written-kept sum x l (E.Start now) refl refl);
-    sents = λ n lt. l.sents n (omega (arith, lt, length-mapped (start_lifetime now) x.world.messages));
+    sents = λ n lt. l.sents n (omega (arith, lt, length-mapped (start_lifetime now) x.recorded.messages));
     indexes = (indexed-kept sum x l (E.Start now) refl tt).is;
     low = l.low;
-    open_streams = λ k d lt. stream-same x.world (started x.world now) (slice_index_or x.open_streams k d)
-        (stream-quiet sum x l (E.Start now) refl (Moves.quiet-started x.world now) tt refl refl refl
-        (λ s. ap (ordered_before (started x.world now) s) (length-mapped (start_lifetime now) x.world.messages) ∙ before-started x.world now s (length x.world.messages)) (slice_index_or x.open_streams k d).state.stream_identifier)
+    open_streams = λ k d lt. stream-same x.recorded (after_start x.recorded now) (slice_index_or x.open_streams k d)
+        (stream-quiet sum x l (E.Start now) refl (Moves.quiet-started x.recorded now) tt refl refl refl
+        (λ s. ap (ordered_before (after_start x.recorded now) s) (length-mapped (start_lifetime now) x.recorded.messages) ∙ before-started x.recorded now s (length x.recorded.messages)) (slice_index_or x.open_streams k d).state.stream_identifier)
         (begun-kept sum x l (E.Start now) refl tt (slice_index_or x.open_streams k d).state.stream_identifier) (l.open_streams k d lt);
     apart = l.apart;
     encodings = encodings-same sum x l (E.Start now) refl refl;
   }
 
 -- the record and what stands beside it, where the messages are those that started
-pub linked-starts : (sum : List ℕ → ℕ) (x : State) (now : ℕ) (ms started' : List Message) (unstarted : ℕ) (q : Outbound) → IsLinked sum x → x.world.messages ≡ map message_record ms → x.progress ≡ map progress_of ms → started' ≡ start_from x.unstarted now ms → unstarted ≡ length ms → q ≡ all_started now x.outbound → IsLinked sum (record x { world = record x.world { messages = map message_record started' }; progress = map progress_of started'; unstarted = unstarted; outbound = q })
+pub linked-starts : (sum : List ℕ → ℕ) (x : State) (now : ℕ) (ms started' : List Message) (unstarted : ℕ) (q : Outbound) → IsLinked sum x → x.recorded.messages ≡ map message_record ms → x.progress ≡ map progress_of ms → started' ≡ start_from x.unstarted now ms → unstarted ≡ length ms → q ≡ all_started now x.outbound → IsLinked sum (record x { recorded = record x.recorded { messages = map message_record started' }; progress = map progress_of started'; unstarted = unstarted; outbound = q })
 linked-starts sum x now ms started' unstarted q l em es e eu eq =
-    let is : map message_record started' ≡ (started x.world now).messages = ap (map message_record) e ∙ starts-records sum x l now ms em in
+    let is : map message_record started' ≡ (after_start x.recorded now).messages = ap (map message_record) e ∙ starts-records sum x l now ms em in
     let same : map progress_of started' ≡ x.progress = ap (map progress_of) e ∙ start-progress now x.unstarted ms ∙ sym es in
-    let count : unstarted ≡ length x.world.messages = eu ∙ sym (length-mapped message_record ms) ∙ ap length (sym em) in
-    subst (λ a. IsLinked sum (record x { world = record x.world { messages = a }; progress = map progress_of started'; unstarted = unstarted; outbound = q })) (sym is)
-    (subst (λ a. IsLinked sum (record x { world = started x.world now; progress = a; unstarted = unstarted; outbound = q })) (sym same)
-    (subst (λ a. IsLinked sum (record x { world = started x.world now; unstarted = a; outbound = q })) (sym count)
-    (subst (λ a. IsLinked sum (record x { world = started x.world now; unstarted = length x.world.messages; outbound = a })) (sym eq) (linked-start sum x l now))))
+    let count : unstarted ≡ length x.recorded.messages = eu ∙ sym (length-mapped message_record ms) ∙ ap length (sym em) in
+    subst (λ a. IsLinked sum (record x { recorded = record x.recorded { messages = a }; progress = map progress_of started'; unstarted = unstarted; outbound = q })) (sym is)
+    (subst (λ a. IsLinked sum (record x { recorded = after_start x.recorded now; progress = a; unstarted = unstarted; outbound = q })) (sym same)
+    (subst (λ a. IsLinked sum (record x { recorded = after_start x.recorded now; unstarted = a; outbound = q })) (sym count)
+    (subst (λ a. IsLinked sum (record x { recorded = after_start x.recorded now; unstarted = length x.recorded.messages; outbound = a })) (sym eq) (linked-start sum x l now))))
 
-pub start-moves : (sum : List ℕ → ℕ) (x : State) (now : ℕ) (ms started' : List Message) → IsLinked sum x → x.world.messages ≡ map message_record ms → started' ≡ start_from x.unstarted now ms → record x.world { messages = map message_record started' } ≡ started x.world now
-start-moves sum x now ms started' l em e = ap (λ a. record x.world { messages = a }) (ap (map message_record) e ∙ starts-records sum x l now ms em)
+pub start-moves : (sum : List ℕ → ℕ) (x : State) (now : ℕ) (ms started' : List Message) → IsLinked sum x → x.recorded.messages ≡ map message_record ms → started' ≡ start_from x.unstarted now ms → record x.recorded { messages = map message_record started' } ≡ after_start x.recorded now
+start-moves sum x now ms started' l em e = ap (λ a. record x.recorded { messages = a }) (ap (map message_record) e ∙ starts-records sum x l now ms em)

@@ -1,10 +1,11 @@
 -- A write is taken.
-use Rattle.std.proofs.Common.{◌≡◌, ℕ, zero, suc, ◌+◌, ◌<◌, ◌%◌, ◌^◌, Bool, true, false, List, [], ◌∷◌, ◌++◌, length, map, drop, Option, Some, None, refl, ap, sym, ◌∙◌, arith, length-append}
-use Rattle.std.specs.Prelude.{◌==◌, ◌&&◌, ◌||◌, not, if◌then◌else◌, nat_lt, slice_index_or, slice_set, find, unwrap_or}
+use Rattle.std.proofs.Common.{◌≡◌, ℕ, ◌+◌, ◌<◌, ◌%◌, ◌^◌, Bool, true, false, List, [], ◌∷◌, ◌++◌, length, map, drop, Option, Some, None, refl, ap, sym, ◌∙◌, arith, length-append}
+use Rattle.std.specs.Prelude.{◌==◌, ◌&&◌, not, if◌then◌else◌, nat_lt, slice_index_or, find, unwrap_or}
 use Rattle.std.specs.Option.{option_map}
 use Rattle.std.proofs.Math.Path.{subst}
-use Rattle.std.proofs.lemmas.List.{map-append, length-set}
+use Rattle.std.proofs.lemmas.List.{map-append}
 use Rattle.std.proofs.lemmas.Bool.Decides.{nat_tests}
+use Rattle.sctp_chunks.specs.PayloadTypes.{counted_as, is_ordered}
 use Rattle.sctp_list_lemmas.specs.Kept.{numbers_from}
 use Rattle.sctp_list_lemmas.specs.Lists.{pieces}
 use Rattle.sctp_list_lemmas.proofs.Cases.{by_last, same-yes, same-is}
@@ -14,12 +15,12 @@ use Rattle.sctp_chunks.specs.declared.chunk.chunk_payload_data.PayloadProtocolId
 use Rattle.sctp_chunks.specs.declared.chunk.chunk_payload_data.PayloadProtocolIdentifier.TheVariants.{Dcep, String, Binary, StringEmpty, BinaryEmpty, Unknown}
 use Rattle.sctp_outbound.specs.outbound_queue.OutboundQueue.{Outbound, with_message}
 use Rattle.sctp_model.specs.declared.event.Event.TheVariants as E
-use Rattle.sctp_model.specs.World.{World, StreamRecord}
-use Rattle.sctp_model.specs.World as W
-use Rattle.sctp_model.specs.Messages.{stream_of, no_stream, sent_of, ordered_before, is_dcep}
+use Rattle.sctp_model.specs.LinkRecord.{LinkRecord, StreamRecord}
+use Rattle.sctp_model.specs.LinkRecord as W
+use Rattle.sctp_model.specs.Messages.{stream_of, no_stream, sent_of, ordered_before}
 use Rattle.sctp_model.specs.Receiver.{next_of}
 use Rattle.sctp_model.specs.Amounts.{in_all, written_bytes}
-use Rattle.sctp_model.specs.Changes.{wrote, message_on}
+use Rattle.sctp_model.specs.Changes.{after_write, message_on}
 use Rattle.sctp_model.specs.Steps.{refusal_of, reply_to, fragments_accepted, fragments_in}
 use Rattle.sctp_model.proofs.sender.Shape.{shape}
 use Rattle.sctp_model.proofs.sender.SenderRun.{Sane, sane-after}
@@ -27,7 +28,7 @@ use Rattle.sctp_refinement.proofs.sending.Begun.{Indexed}
 use Rattle.sctp_model.proofs.sender.Moves
 use Rattle.sctp_refinement.specs.Refines.{RefinesOutbound}
 use Rattle.sctp_refinement.specs.Amount.{amount}
-use Rattle.sctp_refinement.specs.Counts.{counters_on, counted_as, sent_more}
+use Rattle.sctp_refinement.specs.Counts.{counters_on, sent_more}
 use Rattle.sctp_refinement.proofs.sending.Written
 use Rattle.sctp_refinement.proofs.sending.InLine
 use Rattle.sctp_refinement.proofs.amounts.MessageSums.{sum-written}
@@ -35,10 +36,10 @@ use Rattle.sctp_refinement.proofs.amounts.StreamAmounts.{amount-wrote}
 use Rattle.sctp_refinement.proofs.amounts.StreamCounters.{written-wrote, counters-wrote}
 use Rattle.sctp_list_lemmas.specs.Lists.{change_where}
 use Rattle.sctp_transfer.specs.Outgoing.{fragments_with_mode, with_reliability}
-use Rattle.sctp_halves.specs.Streams.{OpenStream, both_ways, has_number, is_ordered, written_of, wrote_to}
+use Rattle.sctp_halves.specs.Streams.{OpenStream, both_ways, has_number, written_of, wrote_to}
 use Rattle.sctp_link.specs.declared.record.Message.{Message}
 use Rattle.sctp_link.specs.Records.{stream_record, message_record}
-use Rattle.sctp_stream.specs.Stats.{with_sent, counted_bytes}
+use Rattle.sctp_stream.specs.Stats.{with_sent}
 use Rattle.sctp_stream.specs.Stream as stream
 use Rattle.sctp_link.specs.OpenStreams.{message_written}
 use Rattle.sctp_link.specs.Linked.{State, IsOpenStream, IsLinked, stats_of}
@@ -47,7 +48,7 @@ use Rattle.sctp_link.proofs.upkeep.Facts.{Facts, facts, stands-then}
 use Rattle.sctp_link.proofs.upkeep.Frames.{stream-same, begun-kept, indexed-kept, held-quiet, next-kept, encodings-same}
 use Rattle.sctp_link.proofs.sender.Beginning.{index_kept, progress-more}
 use Rattle.sctp_link.proofs.upkeep.Bounds.{written-few, amount-few}
-use Rattle.sctp_link.proofs.sender.Fragmented.{ordered-same, all-wait}
+use Rattle.sctp_link.proofs.sender.Fragmented.{all-wait}
 use Rattle.sctp_link.proofs.upkeep.ChangedStreams.{fields-same, each-changed}
 use Rattle.sctp_link.proofs.upkeep.StreamPlaces.{placed, only-found, apart-changed}
 use Rattle.sctp_link.proofs.upkeep.Apart.{stream-found, number-found}
@@ -64,7 +65,7 @@ sent-both : (o : Option ℕ) (a b : DataChannelStats) → both_ways (with_sent o
 sent-both None a b = refl
 sent-both (Some n) a b = refl
 
-stats-next : (ppi : PayloadProtocolIdentifier) (len : ℕ) (w : World) (t : ℕ) → with_sent (counted_bytes ppi len) (stats_of (counters_on w t)) ≡ stats_of (sent_more (counted_as ppi len) (counters_on w t))
+stats-next : (ppi : PayloadProtocolIdentifier) (len : ℕ) (w : LinkRecord) (t : ℕ) → with_sent (counted_as ppi len) (stats_of (counters_on w t)) ≡ stats_of (sent_more (counted_as ppi len) (counters_on w t))
 stats-next Dcep len w t = refl
 stats-next String len w t = refl
 stats-next Binary len w t = refl
@@ -74,24 +75,24 @@ stats-next Unknown len w t = refl
 
 -- ## The event
 
-module _ (sum : List ℕ → ℕ) (x : State) (l : IsLinked sum x) (s : ℕ) (ppi : PayloadProtocolIdentifier) (b : ℕ) (bs : List ℕ) (ok : refusal_of x.world (E.Write s ppi (b ∷ bs)) ≡ None) (streams : x.world.streams ≡ map stream_record x.open_streams) where
-  abbrev w : World
-  w = x.world
+module _ (sum : List ℕ → ℕ) (x : State) (l : IsLinked sum x) (s : ℕ) (ppi : PayloadProtocolIdentifier) (b : ℕ) (bs : List ℕ) (ok : refusal_of x.recorded (E.Write s ppi (b ∷ bs)) ≡ None) (streams : x.recorded.streams ≡ map stream_record x.open_streams) where
+  abbrev w : LinkRecord
+  w = x.recorded
 
   abbrev bytes : List ℕ
   bytes = b ∷ bs
 
-  abbrev v : World
-  v = wrote x.world s ppi (b ∷ bs)
+  abbrev v : LinkRecord
+  v = after_write x.recorded s ppi (b ∷ bs)
 
-  f : Facts x.world
+  f : Facts x.recorded
   f = facts sum x l
 
-  sane-new : Sane x.world.setup v
-  sane-new = sane-after x.world.setup x.world (E.Write s ppi bytes) ok f.sane
+  sane-new : Sane x.recorded.setup v
+  sane-new = sane-after x.recorded.setup x.recorded (E.Write s ppi bytes) ok f.sane
 
   pub few : in_all w (written_bytes w) + length bytes < 2 ^ 47
-  few = omega (arith, written-few x.world.setup v l.setup sane-new, written-wrote w s ppi bytes)
+  few = omega (arith, written-few x.recorded.setup v l.setup sane-new, written-wrote w s ppi bytes)
 
   module _ (m : OpenStream) (here : find (has_number s) x.open_streams ≡ Some m) where
     i : IsOpenStream w m
@@ -116,7 +117,6 @@ module _ (sum : List ℕ → ℕ) (x : State) (l : IsLinked sum x) (s : ℕ) (pp
     message-is : message_record kept ≡ msg
     message-is =
         ap (λ t. message_record (message_written t (written_of m ppi) ppi bytes)) (sym own)
-        ∙ ap (λ b. record (message_record (message_written m.state.stream_identifier (written_of m ppi) ppi bytes)) { ordered = b }) (ordered-same m.state.unordered ppi)
         ∙ ap (λ k. record (message_on w (stream_record m) ppi bytes) { before = k }) i.ordered
         ∙ ap (λ r. message_on w r ppi bytes) (sym stream-is)
 
@@ -128,12 +128,11 @@ module _ (sum : List ℕ → ℕ) (x : State) (l : IsLinked sum x) (s : ℕ) (pp
 
     -- ## The streams
 
-    before-wrote : (t : ℕ) → ordered_before v t (length v.messages) ≡ ordered_before w t (length w.messages) + (if (s == t) && is_ordered m ppi then 1 else 0)
+    before-wrote : (t : ℕ) → ordered_before v t (length v.messages) ≡ ordered_before w t (length w.messages) + (if (s == t) && is_ordered m.state.unordered ppi then 1 else 0)
     before-wrote t =
         InLine.before-more w msg t refl
-        ∙ ap (λ r. ordered_before w t (length w.messages) + (if (r.stream == t) && (is_dcep ppi || not r.unordered) then 1 else 0)) stream-is
-        ∙ ap (λ b. ordered_before w t (length w.messages) + (if (m.state.stream_identifier == t) && b then 1 else 0)) (sym (ordered-same m.state.unordered ppi))
-        ∙ ap (λ k. ordered_before w t (length w.messages) + (if (k == t) && is_ordered m ppi then 1 else 0)) own
+        ∙ ap (λ r. ordered_before w t (length w.messages) + (if (r.stream == t) && is_ordered r.unordered ppi then 1 else 0)) stream-is
+        ∙ ap (λ k. ordered_before w t (length w.messages) + (if (k == t) && is_ordered m.state.unordered ppi then 1 else 0)) own
 
     next-same : (t : ℕ) → next_of v t ≡ next_of w t
     next-same t = next-kept sum x l (E.Write s ppi bytes) ok tt t
@@ -147,7 +146,7 @@ module _ (sum : List ℕ → ℕ) (x : State) (l : IsLinked sum x) (s : ℕ) (pp
         (record {
           setup = refl;
           held = held-quiet sum x l (E.Write s ppi bytes) ok (Moves.quiet-written w.setup w s ppi bytes f.sane) n;
-          ordered = before-wrote n ∙ ap (λ c. ordered_before w n (length w.messages) + (if c && is_ordered m ppi then 1 else 0)) off' ∙ plus-none (ordered_before w n (length w.messages));
+          ordered = before-wrote n ∙ ap (λ c. ordered_before w n (length w.messages) + (if c && is_ordered m.state.unordered ppi then 1 else 0)) off' ∙ plus-none (ordered_before w n (length w.messages));
           next = next-same n;
           amount = amount-wrote w.setup w s n ppi bytes l.setup f.sane ok ∙ ap (λ c. amount w n + (if c then length bytes else 0)) off ∙ plus-none (amount w n);
           counters = counters-wrote w s n ppi bytes ok ∙ ap (λ c. if c && not (length bytes == 0) then sent_more (counted_as ppi (length bytes)) (counters_on w n) else counters_on w n) off;
@@ -171,12 +170,12 @@ module _ (sum : List ℕ → ℕ) (x : State) (l : IsLinked sum x) (s : ℕ) (pp
           si = i.si;
           largest = i.largest;
           size = i.size;
-          ordered = adds (is_ordered m ppi) m.ordered (ordered_before w n (length w.messages)) i.ordered ∙ sym (before-wrote n ∙ ap (λ c. ordered_before w n (length w.messages) + (if c && is_ordered m ppi then 1 else 0)) on);
-          number = number-next (is_ordered m ppi) b bs m.state.sequence_number m.ordered i.number;
+          ordered = adds (is_ordered m.state.unordered ppi) m.ordered (ordered_before w n (length w.messages)) i.ordered ∙ sym (before-wrote n ∙ ap (λ c. ordered_before w n (length w.messages) + (if c && is_ordered m.state.unordered ppi then 1 else 0)) on);
+          number = number-next (is_ordered m.state.unordered ppi) b bs m.state.sequence_number m.ordered i.number;
           begun = i.begun ∙ sym (begun-kept sum x l (E.Write s ppi bytes) ok tt n);
           next = i.next ∙ sym (next-same n);
           amount = omega (arith, i.amount, grown, short, few);
-          stats = sent-both (counted_bytes ppi (length bytes)) m.state.stats m.inbound.stats ∙ ap (with_sent (counted_bytes ppi (length bytes))) i.stats ∙ stats-next ppi (length bytes) w n
+          stats = sent-both (counted_as ppi (length bytes)) m.state.stats m.inbound.stats ∙ ap (with_sent (counted_as ppi (length bytes))) i.stats ∙ stats-next ppi (length bytes) w n
               ∙ sym (ap stats_of (counters-wrote w s n ppi bytes ok ∙ ap (λ c. if c && not (length bytes == 0) then sent_more (counted_as ppi (length bytes)) (counters_on w n) else counters_on w n) on' ∙ ap (λ c. if c then sent_more (counted_as ppi (length bytes)) (counters_on w n) else counters_on w n) some));
         }
       where
@@ -203,7 +202,7 @@ module _ (sum : List ℕ → ℕ) (x : State) (l : IsLinked sum x) (s : ℕ) (pp
         let r = stream_of w s in
         let waits = all-wait w m.state r ppi bytes (ap (λ (r : StreamRecord). r.stream) stream-is) (ap (λ (r : StreamRecord). r.unordered) stream-is) (ap (λ (r : StreamRecord). r.reliability) stream-is) (ap (λ (r : StreamRecord). r.value) stream-is) i.size
         (i.number ∙ ap (λ k. k % 2 ^ 16) (i.ordered ∙ ap (λ (r : StreamRecord). ordered_before w r.stream (length w.messages)) (sym stream-is))) known in
-        Written.refines-written w msg known q (mode (stream.fragment_at m.state ppi bytes 0)) (map mode (map (stream.fragment_at m.state ppi bytes) (numbers_from 1 (length (pieces (length bs) m.state.max_payload_size (drop m.state.max_payload_size bytes)))))) refl refl refl (ap not (ordered-same m.state.unordered ppi ∙ ap (λ (r : StreamRecord). is_dcep ppi || not r.unordered) (sym stream-is))) waits t
+        Written.refines-written w msg known q (mode (stream.fragment_at m.state ppi bytes 0)) (map mode (map (stream.fragment_at m.state ppi bytes) (numbers_from 1 (length (pieces (length bs) m.state.max_payload_size (drop m.state.max_payload_size bytes)))))) refl refl refl (ap not (ap (λ (r : StreamRecord). is_ordered r.unordered ppi) (sym stream-is))) waits t
 
     -- ## The counts
 
@@ -231,7 +230,7 @@ module _ (sum : List ℕ → ℕ) (x : State) (l : IsLinked sum x) (s : ℕ) (pp
         record { is = λ k pos o. same k ∙ i.is k pos o; low = λ k. omega (arith, same k, i.low k) }
 
     pub linked-write : (progress : List (ℕ × ℕ)) (fragments written count : ℕ) → length x.progress ≡ length w.messages → progress ≡ x.progress ++ (0, 0) ∷ [] → fragments ≡ x.fragments + count → count ≡ fragments_in w bytes → written ≡ x.written + length bytes
-        → IsLinked sum (record x { world = v; open_streams = streams_then; progress = progress; outbound = with_message frags x.outbound; fragments = fragments; written = written })
+        → IsLinked sum (record x { recorded = v; open_streams = streams_then; progress = progress; outbound = with_message frags x.outbound; fragments = fragments; written = written })
     linked-write progress fragments written count each es ef ec ew = record {
       setup = l.setup;
       history = (E.Write s ppi bytes, reply_to w (E.Write s ppi bytes)) ∷ l.history;

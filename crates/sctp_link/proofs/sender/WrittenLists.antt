@@ -1,30 +1,24 @@
 -- What the lists of a link are once a write was taken.
-use Rattle.std.proofs.Common.{◌≡◌, ℕ, zero, suc, ◌+◌, ◌<◌, ◌≤◌, ◌^◌, Bool, true, false, List, [], ◌∷◌, ◌++◌, length, map, max, Option, Some, None, option_map, is_some, refl, ap, sym, ◌∙◌, arith}
-use Rattle.std.specs.Prelude.{◌==◌, ◌||◌, not, if◌then◌else◌, nat_le, nat_lt, slice_index_or, slice_set, find, Result, Ok, Err, OnOk, IsOk}
+use Rattle.std.proofs.Common.{◌≡◌, ℕ, ◌+◌, ◌<◌, ◌≤◌, ◌^◌, Bool, true, false, List, [], ◌∷◌, ◌++◌, length, map, Option, Some, None, option_map, is_some, refl, ap, sym, ◌∙◌, arith}
+use Rattle.std.specs.Prelude.{◌==◌, ◌||◌, not, if◌then◌else◌, nat_le, nat_lt, find}
 use Rattle.std.proofs.Math.Path.{subst}
 use Rattle.std.proofs.lemmas.List.{map-append}
 use Rattle.std.proofs.lemmas.Bool.Decides.{nat_tests}
 use Rattle.sctp_list_lemmas.specs.Lists.{pieces}
-use Rattle.sctp_list_lemmas.specs.Kept.{numbers_from}
 use Rattle.sctp_list_lemmas.proofs.Getting.{length-mapped}
-use Rattle.sctp_list_lemmas.proofs.Totals.{length-numbers}
 use Rattle.sctp_list_lemmas.proofs.Passing.{length-kept-le}
-use Rattle.sctp_chunks.specs.declared.chunk.chunk_payload_data.ChunkPayloadData.{ChunkPayloadData}
 use Rattle.sctp_chunks.specs.declared.chunk.chunk_payload_data.PayloadProtocolIdentifier.{PayloadProtocolIdentifier}
-use Rattle.sctp_outbound.specs.pending_queue.PendingQueue.{reserved, room_for}
-use Rattle.sctp_serial.specs.DataChunks.{bytes_of}
-use Rattle.sctp_outbound.specs.outbound_queue.OutboundQueue.{Outbound, with_message, has_room, total_bytes}
+use Rattle.sctp_outbound.specs.outbound_queue.OutboundQueue.{with_message, total_bytes}
 use Rattle.sctp_model.specs.declared.event.Event.TheVariants as E
 use Rattle.sctp_model.specs.declared.event.LinkRefusal.{LinkRefusal}
 use Rattle.sctp_model.specs.declared.event.LinkRefusal.TheVariants.{StreamUnknown, MessageTooLarge, TsnsUsedUp}
 use Rattle.sctp_model.specs.Reply as R
-use Rattle.sctp_model.specs.World.{World}
+use Rattle.sctp_model.specs.LinkRecord.{LinkRecord}
 use Rattle.sctp_model.specs.Messages.{is_open}
-use Rattle.sctp_model.specs.Changes.{wrote}
+use Rattle.sctp_model.specs.Changes.{after_write}
 use Rattle.sctp_model.specs.Steps.{refusal_of, unless, IsRight, fragments_in, fragments_accepted}
 use Rattle.sctp_model.proofs.sender.SenderRun.{unless-holds}
 use Rattle.sctp_model.specs.Messages as M
-use Rattle.sctp_refinement.specs.Refines.{RefinesOutbound}
 use Rattle.sctp_refinement.proofs.amounts.StreamAmounts.{write-open}
 use Rattle.sctp_list_lemmas.specs.Lists.{change_where}
 use Rattle.sctp_transfer.specs.Outgoing as Outgoing
@@ -35,16 +29,15 @@ use Rattle.sctp_halves.specs.Streams.{OpenStream, has_number, written_of, wrote_
 use Rattle.sctp_link.proofs.upkeep.StreamPlaces.{placed}
 use Rattle.sctp_link.specs.declared.record.Message.{Message}
 use Rattle.sctp_link.specs.Records.{stream_record, message_record, progress_of}
-use Rattle.sctp_stream.specs.Stream as stream
-use Rattle.sctp_stream.specs.Stream.{cut}
+use Rattle.sctp_stream.specs.Stream.{pieces_of}
 use Rattle.sctp_link.specs.OpenStreams.{message_written}
 use Rattle.sctp_link.specs.Linked.{State, IsOpenStream, IsLinked}
 use Rattle.sctp_link.proofs.upkeep.Facts.{facts}
 use Rattle.sctp_link.proofs.upkeep.Frames.{moved}
 use Rattle.sctp_link.proofs.sender.Modes.{found-open}
 use Rattle.sctp_link.proofs.upkeep.Bounds.{queued-few, messages-few}
-use Rattle.sctp_link.proofs.sender.Fragmented.{ordered-same, fragments-made, fragments-few}
 use Rattle.sctp_link.proofs.sender.Writing
+use Rattle.sctp_transfer.proofs.SenderStreams.{fragments-made}
 
 -- a list that is not empty
 pub some-bytes : (bytes : List ℕ) (b : Bool) → b ≡ (length bytes == 0) → b ≡ false → 0 < length bytes
@@ -59,27 +52,27 @@ state-found s (l ∷ ls) = step (l.state.stream_identifier == s) (state-found s 
     step true e = refl
     step false e = e
 
-module _ (sum : List ℕ → ℕ) (x : State) (l : IsLinked sum x) (s : ℕ) (ppi : PayloadProtocolIdentifier) (bytes : List ℕ) (some : 0 < length bytes) (ok : refusal_of x.world (E.Write s ppi bytes) ≡ None) (streams : x.world.streams ≡ map stream_record x.open_streams) where
-  abbrev w : World
-  w = x.world
+module _ (sum : List ℕ → ℕ) (x : State) (l : IsLinked sum x) (s : ℕ) (ppi : PayloadProtocolIdentifier) (bytes : List ℕ) (some : 0 < length bytes) (ok : refusal_of x.recorded (E.Write s ppi bytes) ≡ None) (streams : x.recorded.streams ≡ map stream_record x.open_streams) where
+  abbrev w : LinkRecord
+  w = x.recorded
 
   pub write-found : find (has_number s) x.open_streams ≡ None → ⊥
-  write-found none = found-open x s streams (write-open x.world s ppi bytes ok) none
+  write-found none = found-open x s streams (write-open x.recorded s ppi bytes ok) none
 
   pub write-few : x.written + length bytes < 2 ^ 47
   write-few = by bytes some ok
     where
-      by : (bytes : List ℕ) → 0 < length bytes → refusal_of x.world (E.Write s ppi bytes) ≡ None → x.written + length bytes < 2 ^ 47
+      by : (bytes : List ℕ) → 0 < length bytes → refusal_of x.recorded (E.Write s ppi bytes) ≡ None → x.written + length bytes < 2 ^ 47
       by [] some ok = absurd (omega arith)
       by (b ∷ bs) some ok = let few = Writing.few sum x l s ppi b bs ok streams in omega (arith, few, l.written)
 
-  pub write-short : fragments_in x.world bytes < 2 ^ 31
+  pub write-short : fragments_in x.recorded bytes < 2 ^ 31
   write-short =
-      let large : Option LinkRefusal = unless (nat_lt (fragments_accepted x.world + fragments_in x.world bytes) (2 ^ 31)) TsnsUsedUp None in
-      let a = (unless-holds (is_open x.world s) StreamUnknown (unless (nat_le (length bytes) x.world.setup.largest) MessageTooLarge large) ok).1 in
-      let b = (unless-holds (nat_le (length bytes) x.world.setup.largest) MessageTooLarge large a).1 in
-      let c = (unless-holds (nat_lt (fragments_accepted x.world + fragments_in x.world bytes) (2 ^ 31)) TsnsUsedUp None b).0 in
-      below (fragments_accepted x.world) (fragments_in x.world bytes) c
+      let large : Option LinkRefusal = unless (nat_lt (fragments_accepted x.recorded + fragments_in x.recorded bytes) (2 ^ 31)) TsnsUsedUp None in
+      let a = (unless-holds (is_open x.recorded s) StreamUnknown (unless (nat_le (length bytes) x.recorded.setup.largest) MessageTooLarge large) ok).1 in
+      let b = (unless-holds (nat_le (length bytes) x.recorded.setup.largest) MessageTooLarge large a).1 in
+      let c = (unless-holds (nat_lt (fragments_accepted x.recorded + fragments_in x.recorded bytes) (2 ^ 31)) TsnsUsedUp None b).0 in
+      below (fragments_accepted x.recorded) (fragments_in x.recorded bytes) c
     where
       below : (a b : ℕ) → nat_lt (a + b) (2 ^ 31) ≡ true → b < 2 ^ 31
       below a b e = let lt : a + b < 2 ^ 31 = grind (arith, nat_tests) in omega (arith, lt)
@@ -95,35 +88,35 @@ module _ (sum : List ℕ → ℕ) (x : State) (l : IsLinked sum x) (s : ℕ) (pp
       by None e = absurd (write-found e)
       by (Some m) e = (m, e)
 
-  write-small : length bytes ≤ x.world.setup.largest
+  write-small : length bytes ≤ x.recorded.setup.largest
   write-small =
-      let large : Option LinkRefusal = unless (nat_lt (fragments_accepted x.world + fragments_in x.world bytes) (2 ^ 31)) TsnsUsedUp None in
-      let a = (unless-holds (is_open x.world s) StreamUnknown (unless (nat_le (length bytes) x.world.setup.largest) MessageTooLarge large) ok).1 in
-      let b = (unless-holds (nat_le (length bytes) x.world.setup.largest) MessageTooLarge large a).0 in
+      let large : Option LinkRefusal = unless (nat_lt (fragments_accepted x.recorded + fragments_in x.recorded bytes) (2 ^ 31)) TsnsUsedUp None in
+      let a = (unless-holds (is_open x.recorded s) StreamUnknown (unless (nat_le (length bytes) x.recorded.setup.largest) MessageTooLarge large) ok).1 in
+      let b = (unless-holds (nat_le (length bytes) x.recorded.setup.largest) MessageTooLarge large a).0 in
       grind (arith, nat_tests)
 
   module _ (m : OpenStream) (here : find (has_number s) x.open_streams ≡ Some m) where
-    i : IsOpenStream x.world m
-    i = let p = placed s x.open_streams m here in subst (IsOpenStream x.world) (p.1.1 m) (l.open_streams p.0 m p.1.0)
+    i : IsOpenStream x.recorded m
+    i = let p = placed s x.open_streams m here in subst (IsOpenStream x.recorded) (p.1.1 m) (l.open_streams p.0 m p.1.0)
 
-    pub count-is : length (cut m.state bytes) ≡ fragments_in x.world bytes
+    pub count-is : length (pieces_of m.state bytes) ≡ fragments_in x.recorded bytes
     count-is = ap (λ k. length (pieces (length bytes) k bytes)) i.size
 
     -- there is one more number for an ordered message
     pub next-short : m.ordered + 1 < 2 ^ 64
     next-short =
-        omega (arith, i.ordered, length-kept-le (M.is_ordered_on x.world m.state.stream_identifier) 0 (length x.world.messages), messages-few x.world.setup x.world (facts sum x l).sane)
+        omega (arith, i.ordered, length-kept-le (M.is_ordered_on x.recorded m.state.stream_identifier) 0 (length x.recorded.messages), messages-few x.recorded.setup x.recorded (facts sum x l).sane)
 
     -- the sender takes it
     not-full : is_full_of (length bytes) x.outbound ≡ false
     not-full =
         let queued = queued-few sum x l in
-        let few = messages-few x.world.setup x.world (facts sum x l).sane in
+        let few = messages-few x.recorded.setup x.recorded (facts sum x l).sane in
         let a : nat_lt (x.outbound.next_message_id + 1) (2 ^ 64) ≡ true = (let lt : x.outbound.next_message_id + 1 < 2 ^ 64 = omega (arith, l.outbound.next, few) in grind (arith, nat_tests)) in
         let b : nat_lt (total_bytes x.outbound + length bytes) (2 ^ 64) ≡ true = (let lt : total_bytes x.outbound + length bytes < 2 ^ 64 = omega (arith, queued, write-few, l.written) in grind (arith, nat_tests)) in
         ap (λ t. not t || not (nat_lt (total_bytes x.outbound + length bytes) (2 ^ 64))) a ∙ ap not b
 
-    pub sender-takes : (t : Transmission) → t.streams ≡ map (λ l. l.state) x.open_streams → t.flight.queue ≡ x.outbound → t.max_message_size ≡ x.world.setup.largest → write_refusal s (length bytes) t ≡ None
+    pub sender-takes : (t : Transmission) → t.streams ≡ map (λ l. l.state) x.open_streams → t.flight.queue ≡ x.outbound → t.max_message_size ≡ x.recorded.setup.largest → write_refusal s (length bytes) t ≡ None
     sender-takes t es eq em =
         SenderStreams.fine s (length bytes) t
         (ap (λ ls. is_some (find (Outgoing.has_number s) ls)) es ∙ ap is_some (state-found s x.open_streams) ∙ ap (λ o. is_some (option_map (λ l. l.state) o)) here)
@@ -135,34 +128,34 @@ module _ (sum : List ℕ → ℕ) (x : State) (l : IsLinked sum x) (s : ℕ) (pp
     abbrev pub kept : Message
     kept = message_written s (written_of m ppi) ppi bytes
 
-    module _ (ms more : List Message) (em : x.world.messages ≡ map message_record ms) (es : x.progress ≡ map progress_of ms) (e : more ≡ ms ++ kept ∷ []) where
-      pub world-wrote : record x.world { streams = map stream_record streams_then; messages = map message_record more } ≡ wrote x.world s ppi bytes
-      world-wrote = by bytes some ok e
+    module _ (ms more : List Message) (em : x.recorded.messages ≡ map message_record ms) (es : x.progress ≡ map progress_of ms) (e : more ≡ ms ++ kept ∷ []) where
+      pub recorded-wrote : record x.recorded { streams = map stream_record streams_then; messages = map message_record more } ≡ after_write x.recorded s ppi bytes
+      recorded-wrote = by bytes some ok e
         where
-          by : (bytes : List ℕ) → 0 < length bytes → refusal_of x.world (E.Write s ppi bytes) ≡ None → more ≡ ms ++ message_written s (written_of m ppi) ppi bytes ∷ [] → record x.world { streams = map stream_record (change_where (has_number s) (wrote_to ppi bytes) x.open_streams); messages = map message_record more } ≡ wrote x.world s ppi bytes
+          by : (bytes : List ℕ) → 0 < length bytes → refusal_of x.recorded (E.Write s ppi bytes) ≡ None → more ≡ ms ++ message_written s (written_of m ppi) ppi bytes ∷ [] → record x.recorded { streams = map stream_record (change_where (has_number s) (wrote_to ppi bytes) x.open_streams); messages = map message_record more } ≡ after_write x.recorded s ppi bytes
           by [] some ok e = absurd (omega arith)
           by (b ∷ bs) some ok e =
-              ap (λ a. record x.world { streams = a; messages = map message_record more }) (Writing.streams-wrote sum x l s ppi b bs ok streams m here)
-              ∙ ap (λ a. record x.world { messages = a }) (Writing.messages-wrote sum x l s ppi b bs ok streams m here ms more em e)
+              ap (λ a. record x.recorded { streams = a; messages = map message_record more }) (Writing.streams-wrote sum x l s ppi b bs ok streams m here)
+              ∙ ap (λ a. record x.recorded { messages = a }) (Writing.messages-wrote sum x l s ppi b bs ok streams m here ms more em e)
 
-      pub write-right : (number count : ℕ) → number ≡ length ms → count ≡ fragments_in x.world bytes → IsRight x.world (E.Write s ppi bytes) (R.Wrote (Some number) count) (record x.world { streams = map stream_record streams_then; messages = map message_record more })
+      pub write-right : (number count : ℕ) → number ≡ length ms → count ≡ fragments_in x.recorded bytes → IsRight x.recorded (E.Write s ppi bytes) (R.Wrote (Some number) count) (record x.recorded { streams = map stream_record streams_then; messages = map message_record more })
       write-right number count en ec = record {
-        right = ap (λ k. R.Wrote (Some k) count) (en ∙ sym (length-mapped message_record ms) ∙ ap length (sym em)) ∙ ap (R.Wrote (Some (length x.world.messages))) ec
-            ∙ sym (ap (λ b. R.Wrote (if b then None else Some (length x.world.messages)) (fragments_in x.world bytes)) full);
-        moves = world-wrote;
+        right = ap (λ k. R.Wrote (Some k) count) (en ∙ sym (length-mapped message_record ms) ∙ ap length (sym em)) ∙ ap (R.Wrote (Some (length x.recorded.messages))) ec
+            ∙ sym (ap (λ b. R.Wrote (if b then None else Some (length x.recorded.messages)) (fragments_in x.recorded bytes)) full);
+        moves = recorded-wrote;
       }
         where
           full : (length bytes == 0) ≡ false
           full = grind (arith, nat_tests)
 
-      pub linked-wrote : (fragments written count : ℕ) → fragments ≡ x.fragments + count → count ≡ fragments_in x.world bytes → written ≡ x.written + length bytes
-          → IsLinked sum (record x { world = record x.world { streams = map stream_record streams_then; messages = map message_record more }; open_streams = streams_then; progress = map progress_of more; outbound = with_message (fragments_with_mode m.state ppi bytes) x.outbound; fragments = fragments; written = written })
+      pub linked-wrote : (fragments written count : ℕ) → fragments ≡ x.fragments + count → count ≡ fragments_in x.recorded bytes → written ≡ x.written + length bytes
+          → IsLinked sum (record x { recorded = record x.recorded { streams = map stream_record streams_then; messages = map message_record more }; open_streams = streams_then; progress = map progress_of more; outbound = with_message (fragments_with_mode m.state ppi bytes) x.outbound; fragments = fragments; written = written })
       linked-wrote fragments written count ef ec ew =
-          moved sum (record x { world = record x.world { streams = map stream_record streams_then; messages = map message_record more }; open_streams = streams_then; progress = map progress_of more; outbound = with_message (fragments_with_mode m.state ppi bytes) x.outbound; fragments = fragments; written = written }) (wrote x.world s ppi bytes) world-wrote
+          moved sum (record x { recorded = record x.recorded { streams = map stream_record streams_then; messages = map message_record more }; open_streams = streams_then; progress = map progress_of more; outbound = with_message (fragments_with_mode m.state ppi bytes) x.outbound; fragments = fragments; written = written }) (after_write x.recorded s ppi bytes) recorded-wrote
           (by bytes some ok e ec ew)
         where
-          by : (bytes : List ℕ) → 0 < length bytes → refusal_of x.world (E.Write s ppi bytes) ≡ None → more ≡ ms ++ message_written s (written_of m ppi) ppi bytes ∷ [] → count ≡ fragments_in x.world bytes → written ≡ x.written + length bytes
-              → IsLinked sum (record x { world = wrote x.world s ppi bytes; open_streams = change_where (has_number s) (wrote_to ppi bytes) x.open_streams; progress = map progress_of more; outbound = with_message (fragments_with_mode m.state ppi bytes) x.outbound; fragments = fragments; written = written })
+          by : (bytes : List ℕ) → 0 < length bytes → refusal_of x.recorded (E.Write s ppi bytes) ≡ None → more ≡ ms ++ message_written s (written_of m ppi) ppi bytes ∷ [] → count ≡ fragments_in x.recorded bytes → written ≡ x.written + length bytes
+              → IsLinked sum (record x { recorded = after_write x.recorded s ppi bytes; open_streams = change_where (has_number s) (wrote_to ppi bytes) x.open_streams; progress = map progress_of more; outbound = with_message (fragments_with_mode m.state ppi bytes) x.outbound; fragments = fragments; written = written })
           by [] some ok e ec ew = absurd (omega arith)
           by (b ∷ bs) some ok e ec ew =
               Writing.linked-write sum x l s ppi b bs ok streams m here (map progress_of more) fragments written count

@@ -1,13 +1,13 @@
 -- The names of a FORWARD-TSN that arrives, one after another: what they have for a stream, and what becomes of its queue.
 use Rattle.std.proofs.Common.{◌≡◌, ℕ, ◌≤◌, ◌^◌, ◌%◌, Bool, true, false, List, [], ◌∷◌, map, Some, None, refl, ap, sym, ◌∙◌}
 use Rattle.std.specs.Prelude.{if◌then◌else◌, ◌==◌, ◌&&◌, not, is_some, slice_get}
-use Rattle.sctp_list_lemmas.specs.Lists.{those}
+use Rattle.std.specs.List.{filter}
 use Rattle.sctp_list_lemmas.proofs.Cases.{same-yes, same-is}
 use Rattle.sctp_list_lemmas.proofs.More.{same_test}
 use Rattle.sctp_chunks.specs.declared.chunk.chunk_forward_tsn.ChunkForwardTsnStream.{ChunkForwardTsnStream}
 use Rattle.sctp_reassembly.specs.reassembly_queue.ReassemblyQueue.{ReassemblyState, after_ordered_skip, held_after_ordered_skips}
 use Rattle.sctp_model.specs.declared.event.Event.TheVariants as E
-use Rattle.sctp_model.specs.World.{World, StreamRecord, Forward}
+use Rattle.sctp_model.specs.LinkRecord.{LinkRecord, StreamRecord, Forward}
 use Rattle.sctp_model.specs.Messages.{message_at, stream_at, is_ordered_on, index_of, ssn_of}
 use Rattle.sctp_model.specs.Receiver.{cumulative}
 use Rattle.sctp_model.specs.Contents.{name_of}
@@ -32,11 +32,11 @@ use Rattle.sctp_link.proofs.skipping.SkipComes.{index-is, skips-in, spans}
 -- ## What they have for a stream
 
 -- the pairs that name these messages
-abbrev pub pairs_of : World → List ℕ → List ChunkForwardTsnStream
+abbrev pub pairs_of : LinkRecord → List ℕ → List ChunkForwardTsnStream
 pairs_of w names = map named_stream (map (name_of w) names)
 
 -- a message that can be named stands on its stream
-named-on : (w : World) (upto s n : ℕ) → Sender (shape w) → IsNamable (shape w) upto n → (s == (message_at w n).stream) ≡ is_ordered_on w s n
+named-on : (w : LinkRecord) (upto s n : ℕ) → Sender (shape w) → IsNamable (shape w) upto n → (s == (message_at w n).stream) ≡ is_ordered_on w s n
 named-on w upto s n sender i =
     turn s (message_at w n).stream ∙ plain ((message_at w n).stream == s) ∙ ap (λ b. ((message_at w n).stream == s) && b) (sym live)
   where
@@ -50,14 +50,14 @@ named-on w upto s n sender i =
     plain true = refl
     plain false = refl
 
-pub names-in-turn : (w : World) (upto s : ℕ) (names : List ℕ) → Sender (shape w) → NamesFit (shape w) upto names → ssns_of s (pairs_of w names) ≡ map (λ n. index_of w n % 2 ^ 16) (on_stream w s names)
+pub names-in-turn : (w : LinkRecord) (upto s : ℕ) (names : List ℕ) → Sender (shape w) → NamesFit (shape w) upto names → ssns_of s (pairs_of w names) ≡ map (λ n. index_of w n % 2 ^ 16) (on_stream w s names)
 names-in-turn w upto s [] sender fit = refl
 names-in-turn w upto s (n ∷ ns) sender fit =
     ap (λ b. map (λ (p : ChunkForwardTsnStream). p.sequence) (if b then named_stream (name_of w n) ∷ rest else rest)) (named-on w upto s n sender fit.0)
     ∙ step (is_ordered_on w s n) (names-in-turn w upto s ns sender fit.1)
   where
     rest : List ChunkForwardTsnStream
-    rest = those (λ p. s == p.identifier) (pairs_of w ns)
+    rest = filter (λ p. s == p.identifier) (pairs_of w ns)
 
     ssn : ssn_of w n ≡ index_of w n % 2 ^ 16
     ssn = ap (λ b. (if b then index_of w n else (message_at w n).before) % 2 ^ 16) fit.0.ordered
@@ -67,10 +67,10 @@ names-in-turn w upto s (n ∷ ns) sender fit =
     step false ih = ih
 
 -- the pairs that a link makes of its messages are these
-pub pairs-are : (sum : List ℕ → ℕ) (x : State) (l : IsLinked sum x) (ms : List Message) → x.world.messages ≡ map message_record ms → x.progress ≡ map progress_of ms → (upto : ℕ) (names : List ℕ) → NamesFit (shape x.world) upto names → map (pair_in ms) names ≡ pairs_of x.world names
+pub pairs-are : (sum : List ℕ → ℕ) (x : State) (l : IsLinked sum x) (ms : List Message) → x.recorded.messages ≡ map message_record ms → x.progress ≡ map progress_of ms → (upto : ℕ) (names : List ℕ) → NamesFit (shape x.recorded) upto names → map (pair_in ms) names ≡ pairs_of x.recorded names
 pairs-are sum x l ms messages_are progress_are upto [] fit = refl
 pairs-are sum x l ms messages_are progress_are upto (n ∷ ns) fit =
-    let w = x.world in
+    let w = x.recorded in
     let stream : (message_in ms n).stream ≡ (message_at w n).stream = ap (λ rs. (message_at (record w { messages = rs }) n).stream) (sym messages_are) in
     let index = index-is sum x l ms messages_are progress_are upto n fit.0 in
     let ssn = ap (λ b. (if b then index_of w n else (message_at w n).before) % 2 ^ 16) fit.0.ordered in
@@ -86,17 +86,9 @@ held-each : (ssns : List ℕ) (q : ReassemblyState) → (skipped_each ssns q).he
 held-each [] q = refl
 held-each (ssn ∷ ssns) q = held-each ssns (after_ordered_skip ssn q)
 
-pub number-each : (ssns : List ℕ) (q : ReassemblyState) → (skipped_each ssns q).si ≡ q.si
-number-each [] q = refl
-number-each (ssn ∷ ssns) q = number-each ssns (after_ordered_skip ssn q)
-
-pub largest-each : (ssns : List ℕ) (q : ReassemblyState) → (skipped_each ssns q).max_message_size ≡ q.max_message_size
-largest-each [] q = refl
-largest-each (ssn ∷ ssns) q = largest-each ssns (after_ordered_skip ssn q)
-
-module _ (sum : List ℕ → ℕ) (x : State) (l : IsLinked sum x) (k upto : ℕ) (names : List ℕ) (none : refusal_of x.world (E.Arrive k) ≡ None) (e : slice_get x.world.network k ≡ Some (Forward upto names)) (counts : cumulative x.world ≤ upto) where
-  abbrev w : World
-  w = x.world
+module _ (sum : List ℕ → ℕ) (x : State) (l : IsLinked sum x) (k upto : ℕ) (names : List ℕ) (none : refusal_of x.recorded (E.Arrive k) ≡ None) (e : slice_get x.recorded.network k ≡ Some (Forward upto names)) (counts : cumulative x.recorded ≤ upto) where
+  abbrev w : LinkRecord
+  w = x.recorded
 
   -- after each as much is held as after the last one
   pub queue-in-turn : (s : ℕ) (r : StreamRecord) (q : ReassemblyState) → stream_at w s ≡ Some r → q.held ≡ reassembly_of w s → (skipped_each (ssns_of s (pairs_of w names)) q).held ≡ gone_forward (end_named w s names) (reassembly_of w s)

@@ -6,10 +6,10 @@ use Rattle.std.proofs.lemmas.Bool.Decides.{nat_tests}
 use Rattle.sctp_chunks.specs.ForwardTsn.{ForwardTsn}
 use Rattle.sctp_reassembly.specs.reassembly_queue.ReassemblyQueue.{held_after_unordered_skip}
 use Rattle.sctp_model.specs.declared.event.Event.TheVariants as E
-use Rattle.sctp_model.specs.World.{World, StreamRecord, Forward}
+use Rattle.sctp_model.specs.LinkRecord.{LinkRecord, StreamRecord, Forward}
 use Rattle.sctp_model.specs.Messages.{stream_at, tsn_of}
 use Rattle.sctp_model.specs.Receiver.{cumulative, next_of}
-use Rattle.sctp_model.specs.Changes.{named_by, skip_received, datagram_received}
+use Rattle.sctp_model.specs.Changes.{named_by, receive_skip, after_arrive}
 use Rattle.sctp_model.specs.Queues.{filter_of}
 use Rattle.sctp_model.specs.Steps.{refusal_of, after}
 use Rattle.sctp_model.proofs.sender.Network
@@ -28,7 +28,7 @@ use Rattle.sctp_transfer.specs.declared.receiver.refusal.ReceiverRefusal.TheVari
 use Rattle.sctp_transfer.specs.TsnFilter.{Filter, skipped_to, is_opposite}
 use Rattle.sctp_list_lemmas.specs.Serial.{at_or_before}
 use Rattle.sctp_halves.specs.Streams.{OpenStream, stream_numbers, on_inbound, forwarded_on}
-use Rattle.sctp_halves.specs.Halves.{Sides, reception_of, with_filter_of, followed, after_forward}
+use Rattle.sctp_halves.specs.Halves.{Sides, reception_of, with_filter_of, follow_forward_tsn, after_forward}
 use Rattle.sctp_link.specs.declared.skipped.Named.{Named}
 use Rattle.sctp_link.specs.declared.record.Message.{Message}
 use Rattle.sctp_link.specs.Linked.{State, IsLinked, IsOpenStream, stats_of, filter_shown}
@@ -36,35 +36,37 @@ use Rattle.sctp_link.specs.Places.{IsApart}
 use Rattle.sctp_link.specs.Records.{message_record, progress_of, stream_record}
 use Rattle.sctp_link.specs.Skips.{named_from, none_named, with_names, wire_skip}
 use Rattle.sctp_link.proofs.receiver.Came.{filter-gone, never-opposite, passed-is}
-use Rattle.sctp_link.proofs.receiver.Hears.{raw-at, raw-length}
+use Rattle.sctp_link.proofs.receiver.Hears.{raw-at}
 use Rattle.sctp_link.proofs.upkeep.Facts.{facts}
 use Rattle.sctp_link.proofs.upkeep.StreamsAfter.{stream-then, linked-then}
 use Rattle.sctp_link.proofs.skipping.SkipComes.{Skips, skips-in, names-are, open-at, spans}
-use Rattle.sctp_link.proofs.skipping.NamesInTurn.{pairs_of, queue-in-turn, number-each, largest-each}
+use Rattle.sctp_link.proofs.skipping.NamesInTurn.{pairs_of, queue-in-turn}
+use Rattle.sctp_list_lemmas.proofs.Getting.{length-mapped}
+use Rattle.sctp_transfer.proofs.Forwarded.{skipped-number, skipped-size}
 
 -- a stream after it
-abbrev pub skipped_stream : World → ℕ → List ℕ → List Message → OpenStream → OpenStream
+abbrev pub skipped_stream : LinkRecord → ℕ → List ℕ → List Message → OpenStream → OpenStream
 skipped_stream w upto names ms y = with_names ms names (on_inbound (forwarded_on (wire_skip w upto names).streams (tsn_of w upto)) y)
 
 mapped-twice : {A B C : Type 0} (f : A → B) (g : B → C) (xs : List A) → map g (map f xs) ≡ map (λ x. g (f x)) xs
 mapped-twice f g [] = refl
 mapped-twice f g (x ∷ xs) = ap (λ ys. g (f x) ∷ ys) (mapped-twice f g xs)
 
-module _ (sum : List ℕ → ℕ) (x : State) (l : IsLinked sum x) (k upto : ℕ) (names : List ℕ) (none : refusal_of x.world (E.Arrive k) ≡ None) (e : slice_get x.world.network k ≡ Some (Forward upto names)) (counts : cumulative x.world ≤ upto) where
-  abbrev w : World
-  w = x.world
+module _ (sum : List ℕ → ℕ) (x : State) (l : IsLinked sum x) (k upto : ℕ) (names : List ℕ) (none : refusal_of x.recorded (E.Arrive k) ≡ None) (e : slice_get x.recorded.network k ≡ Some (Forward upto names)) (counts : cumulative x.recorded ≤ upto) where
+  abbrev w : LinkRecord
+  w = x.recorded
 
-  abbrev v : World
-  v = after x.world (E.Arrive k)
+  abbrev v : LinkRecord
+  v = after x.recorded (E.Arrive k)
 
   pub after-is : v ≡ with_skip w upto names
-  after-is = ap (datagram_received w) e ∙ skip-step w upto names counts
+  after-is = ap (after_arrive w) e ∙ skip-step w upto names counts
 
   pub frame : Network.Same w v
   frame = Network.same-received w (slice_get w.network k)
 
   quiet : QuietSender.SameToSender w v
-  quiet = subst (QuietSender.SameToSender w) (sym (ap (datagram_received w) e)) (QuietSender.same-skip w upto names)
+  quiet = subst (QuietSender.SameToSender w) (sym (ap (after_arrive w) e)) (QuietSender.same-skip w upto names)
 
   counters-stay : (t : ℕ) → counters_on v t ≡ counters_on w t
   counters-stay t = counters-same w.setup w (E.Arrive k) t (facts sum x l).sane refl refl
@@ -94,17 +96,17 @@ module _ (sum : List ℕ → ℕ) (x : State) (l : IsLinked sum x) (k upto : ℕ
     -- the streams discard what is named, and it is recorded how far they were named
     pub sides-then : (ms : List Message) (z u : Sides) → z ≡ after_forward f y → u ≡ record z { streams = map (with_names ms names) z.streams } → u ≡ record (with_filter_of (skipped_to (tsn_of w upto) (R.filter_of (reception_of y))) y) { streams = map (skipped_stream w upto names ms) y.streams }
     sides-then ms z u a b =
-        let one : z ≡ followed (wire_skip w upto names) y = a ∙ ap (λ (g : ForwardTsn). after_forward g y) says ∙ ap (λ c. if c then y else followed (wire_skip w upto names) y) not-stale in
+        let one : z ≡ follow_forward_tsn (wire_skip w upto names) y = a ∙ ap (λ (g : ForwardTsn). after_forward g y) says ∙ ap (λ c. if c then y else follow_forward_tsn (wire_skip w upto names) y) not-stale in
         b ∙ ap (λ (s : Sides). record s { streams = map (with_names ms names) s.streams }) one
         ∙ ap (λ ls. record (with_filter_of (skipped_to (tsn_of w upto) (R.filter_of (reception_of y))) y) { streams = ls })
         (mapped-twice (on_inbound (forwarded_on (wire_skip w upto names).streams (tsn_of w upto))) (with_names ms names) y.streams)
 
-  module _ (ms : List Message) (messages_are : x.world.messages ≡ map message_record ms) (progress_are : x.progress ≡ map progress_of ms) (streams_are : x.world.streams ≡ map stream_record x.open_streams) where
+  module _ (ms : List Message) (messages_are : x.recorded.messages ≡ map message_record ms) (progress_are : x.progress ≡ map progress_of ms) (streams_are : x.recorded.streams ≡ map stream_record x.open_streams) where
     named-is : (s : ℕ) → named_from ms s none_named names ≡ (let r : Named = record { low = low_named w s names; end = end_named w s names } in r)
     named-is s = names-are sum x l ms messages_are progress_are upto s names skips.fit
 
     abbrev turned : OpenStream → OpenStream
-    turned = skipped_stream x.world upto names ms
+    turned = skipped_stream x.recorded upto names ms
 
     -- ## The record
 
@@ -117,8 +119,8 @@ module _ (sum : List ℕ → ℕ) (x : State) (l : IsLinked sum x) (k upto : ℕ
     streams-are [] = refl
     streams-are (y ∷ ls) = ap (λ r. r ∷ map stream_record (map turned ls)) (stream-is y) ∙ ap (λ rs. named_by w names (stream_record y) ∷ rs) (streams-are ls)
 
-    pub world-skipped : (skipped : ℕ) → skipped ≡ upto + 1 → record w { streams = map stream_record (map turned x.open_streams); skipped = skipped } ≡ v
-    world-skipped skipped same =
+    pub recorded-skipped : (skipped : ℕ) → skipped ≡ upto + 1 → record w { streams = map stream_record (map turned x.open_streams); skipped = skipped } ≡ v
+    recorded-skipped skipped same =
         ap (λ n. record w { streams = map stream_record (map turned x.open_streams); skipped = n }) same
         ∙ ap (λ rs. record w { streams = rs; skipped = upto + 1 }) (streams-are x.open_streams ∙ ap (map (named_by w names)) (sym streams_are))
         ∙ sym after-is
@@ -139,13 +141,13 @@ module _ (sum : List ℕ → ℕ) (x : State) (l : IsLinked sum x) (k upto : ℕ
         (ap (λ t. held_after_unordered_skip tsn (skipped_each (ssns_of t (pairs_of w names)) y.inbound.queue).held) i.si
         ∙ ap (held_after_unordered_skip tsn) (queue-in-turn sum x l k upto names none e counts s r y.inbound.queue o i.held)
         ∙ sym queue ∙ ap (λ u. reassembly_of u s) (sym after-is))
-        (number-each ssns y.inbound.queue) (largest-each ssns y.inbound.queue) refl refl refl refl
+        (skipped-number ssns y.inbound.queue) (skipped-size ssns y.inbound.queue) refl refl refl refl
         (ap (λ n. max y.next n) end-is ∙ ap (λ n. max n (end_named w s names)) i.next ∙ sym (next-skip w s upto names r f.valid.valid o) ∙ ap (λ u. next_of u s) (sym after-is))
         refl (i.stats ∙ ap stats_of (sym (counters-stay s)))
 
     each-skipped : (j : ℕ) (d : OpenStream) → j < length (map turned x.open_streams) → IsOpenStream v (slice_index_or (map turned x.open_streams) j d)
     each-skipped j d lt =
-        let inside : j < length x.open_streams = omega (arith, lt, raw-length turned x.open_streams) in
+        let inside : j < length x.open_streams = omega (arith, lt, length-mapped turned x.open_streams) in
         let o = open-at x streams_are j d inside in
         subst (IsOpenStream v) (sym (raw-at turned x.open_streams j d d inside))
         (stream-skipped (slice_index_or x.open_streams j d) o.0 o.1 (l.open_streams j d inside))
@@ -162,14 +164,14 @@ module _ (sum : List ℕ → ℕ) (x : State) (l : IsLinked sum x) (k upto : ℕ
         (ap seen_of after-is ∙ filter-skipped w upto (facts sum x l).few skips.made counts)
         (ap (λ u. (filter_of u).duplicates) after-is)
 
-    pub linked-skip : (filter : Filter) (u : World) → filter_shown filter ≡ filter_of v → u ≡ v → IsLinked sum (record x { world = u; open_streams = map turned x.open_streams; filter = filter })
+    pub linked-skip : (filter : Filter) (u : LinkRecord) → filter_shown filter ≡ filter_of v → u ≡ v → IsLinked sum (record x { recorded = u; open_streams = map turned x.open_streams; filter = filter })
     linked-skip filter u held same =
         linked-then sum x l (E.Arrive k) none frame x.progress (map turned x.open_streams) filter u refl held each-skipped
         (subst IsApart (sym (numbers-same x.open_streams)) l.apart) quiet same
 
-    pub received-follow : (skipped : ℕ) → skipped ≡ upto + 1 → record w { streams = map stream_record (map turned x.open_streams); skipped = skipped } ≡ skip_received w upto names
-    received-follow skipped count = world-skipped skipped count ∙ ap (datagram_received w) e
+    pub received-follow : (skipped : ℕ) → skipped ≡ upto + 1 → record w { streams = map stream_record (map turned x.open_streams); skipped = skipped } ≡ receive_skip w upto names
+    received-follow skipped count = recorded-skipped skipped count ∙ ap (after_arrive w) e
 
-    pub linked-follow : (skipped : ℕ) (filter : Filter) → skipped ≡ upto + 1 → filter ≡ skipped_to (tsn_of w upto) x.filter → IsLinked sum (record x { world = record w { streams = map stream_record (map turned x.open_streams); skipped = skipped }; open_streams = map turned x.open_streams; filter = filter })
+    pub linked-follow : (skipped : ℕ) (filter : Filter) → skipped ≡ upto + 1 → filter ≡ skipped_to (tsn_of w upto) x.filter → IsLinked sum (record x { recorded = record w { streams = map stream_record (map turned x.open_streams); skipped = skipped }; open_streams = map turned x.open_streams; filter = filter })
     linked-follow skipped filter count is =
-        linked-skip filter (record w { streams = map stream_record (map turned x.open_streams); skipped = skipped }) (filter-then filter is) (world-skipped skipped count)
+        linked-skip filter (record w { streams = map stream_record (map turned x.open_streams); skipped = skipped }) (filter-then filter is) (recorded-skipped skipped count)

@@ -13,8 +13,8 @@ use Rattle.sctp_chunks.proofs.Lengths.{length_forward_tsn_value}
 use Rattle.sctp_packets.specs.Packet.{ReadsPacket, packet_encoding}
 use Rattle.sctp_model.specs.declared.event.Event.{Event}
 use Rattle.sctp_model.specs.declared.event.LinkRefusal.TheVariants.{SkipUnassigned, SkipNames}
-use Rattle.sctp_model.specs.World.{World, Forward}
-use Rattle.sctp_model.specs.World as W
+use Rattle.sctp_model.specs.LinkRecord.{LinkRecord, Forward}
+use Rattle.sctp_model.specs.LinkRecord as W
 use Rattle.sctp_model.specs.Messages.{message_of, belongs_to, slots_where, tsn_of}
 use Rattle.sctp_model.specs.Contents.{contents_of}
 use Rattle.sctp_model.specs.Changes.{with_datagram}
@@ -33,34 +33,35 @@ use Rattle.sctp_link.proofs.upkeep.Facts.{facts, stands-then}
 use Rattle.sctp_link.proofs.upkeep.Frames.{stream-same, encodings-more}
 use Rattle.sctp_link.proofs.receiver.Hears.{slot-raw}
 use Rattle.sctp_link.proofs.skipping.NamesInTurn.{pairs-are}
+use Rattle.sctp_list_lemmas.proofs.Getting.{length-mapped}
 
 -- ## What it may name
 
 -- no slot past a place is of the message
-pub past-none : (w : World) (n upto : ℕ) → ((p : ℕ) → upto < p → p < length w.slots → belongs_to w n p ≡ false) → false ≡ not (list_all (λ p. nat_le p upto) (slots_where w (belongs_to w n)))
+pub past-none : (w : LinkRecord) (n upto : ℕ) → ((p : ℕ) → upto < p → p < length w.slots → belongs_to w n p ≡ false) → false ≡ not (list_all (λ p. nat_le p upto) (slots_where w (belongs_to w n)))
 past-none w n upto h = sym (ap not (all-kept (λ p. nat_le p upto) (belongs_to w n) 0 (length w.slots) (λ p a b e. by p (omega (arith, b)) e (cases_lt upto p))))
   where
     by : (p : ℕ) → p < length w.slots → belongs_to w n p ≡ true → (upto < p) ⊎ (p ≤ upto) → nat_le p upto ≡ true
     by p lt e (inl l) = absurd (not_both (sym (h p l lt) ∙ e))
     by p lt e (inr le) = grind (arith, nat_tests)
 
-pub past-some : (w : World) (n upto p : ℕ) → upto < p → p < length w.slots → belongs_to w n p ≡ true → true ≡ not (list_all (λ p. nat_le p upto) (slots_where w (belongs_to w n)))
+pub past-some : (w : LinkRecord) (n upto p : ℕ) → upto < p → p < length w.slots → belongs_to w n p ≡ true → true ≡ not (list_all (λ p. nat_le p upto) (slots_where w (belongs_to w n)))
 past-some w n upto p lt inside e =
     sym (ap not (fails (list_all (λ p. nat_le p upto) (slots_where w (belongs_to w n))) (λ a. let t = all-at (λ p. nat_le p upto) (belongs_to w n) p 0 (length w.slots) (omega arith) (omega (arith, inside)) e a in let le : p ≤ upto = grind (arith, nat_tests) in absurd (omega (arith, le, lt)))))
 
 -- the message of a slot, as a link keeps it
-pub slot-of : (sum : List ℕ → ℕ) (x : State) (l : IsLinked sum x) (slots : List Slot) (messages : List Message) → x.world.slots ≡ map slot_record slots → x.world.messages ≡ map message_record messages → (p : ℕ) (y : Slot) → p < length slots → y ≡ slice_index_or slots p y → message_of x.world p ≡ y.message
+pub slot-of : (sum : List ℕ → ℕ) (x : State) (l : IsLinked sum x) (slots : List Slot) (messages : List Message) → x.recorded.slots ≡ map slot_record slots → x.recorded.messages ≡ map message_record messages → (p : ℕ) (y : Slot) → p < length slots → y ≡ slice_index_or slots p y → message_of x.recorded p ≡ y.message
 slot-of sum x l slots messages a b p y lt is = ap (λ t. t.message) (slot-raw sum x l slots messages a b p y lt) ∙ ap (λ (t : Slot). t.message) (sym is)
 
 -- ## What it says
 
 -- what an accepted skip meets
-pub record Names (w : World) (upto : ℕ) (names : List ℕ) : Type 0 where
+pub record Names (w : LinkRecord) (upto : ℕ) (names : List ℕ) : Type 0 where
   pub made : upto < length w.slots
   pub can : list_all (can_name w upto) names ≡ true
   pub few : length names ≤ 16381
 
-pub accepted : (w : World) (upto : ℕ) (names : List ℕ) → skip_refusal w upto names ≡ None → Names w upto names
+pub accepted : (w : LinkRecord) (upto : ℕ) (names : List ℕ) → skip_refusal w upto names ≡ None → Names w upto names
 accepted w upto names ok =
     let a = unless-holds (nat_lt upto (length w.slots)) SkipUnassigned _ ok in
     let b = unless-holds (list_all (can_name w upto) names && nat_le (length names) 16381) SkipNames None a.1 in
@@ -69,7 +70,7 @@ accepted w upto names ok =
     let f = c.1 in
     record { made = grind (arith, nat_tests); can = c.0; few = grind (arith, nat_tests) }
 
-pub names-made : (w : World) (upto : ℕ) (names : List ℕ) → list_all (can_name w upto) names ≡ true → (i d : ℕ) → i < length names → slice_index_or names i d < length w.messages
+pub names-made : (w : LinkRecord) (upto : ℕ) (names : List ℕ) → list_all (can_name w upto) names ≡ true → (i d : ℕ) → i < length names → slice_index_or names i d < length w.messages
 names-made w upto [] e i d lt = absurd (omega arith)
 names-made w upto (n ∷ ns) e zero d lt = let t = (both (nat_lt n (length w.messages)) _ (both (can_name w upto n) (list_all (can_name w upto) ns) e).0).0 in grind (arith, nat_tests)
 names-made w upto (n ∷ ns) e (suc i) d lt = names-made w upto ns (both (can_name w upto n) (list_all (can_name w upto) ns) e).1 i d (omega arith)
@@ -78,30 +79,26 @@ names-made w upto (n ∷ ns) e (suc i) d lt = names-made w upto ns (both (can_na
 pub skip-short : (f : ForwardTsn) → length f.streams ≤ 16381 → 4 + length (forward_tsn_value f) < 2 ^ 16
 skip-short f le = omega (arith, length_forward_tsn_value f, le)
 
-length-as : {A B : Type 0} (f : A → B) (xs : List A) → length (map f xs) ≡ length xs
-length-as f [] = refl
-length-as f (x ∷ xs) = ap suc (length-as f xs)
+module _ (sum : List ℕ → ℕ) (x : State) (l : IsLinked sum x) (upto : ℕ) (names : List ℕ) (ok : skip_refusal x.recorded upto names ≡ None) where
+  abbrev w : LinkRecord
+  w = x.recorded
 
-module _ (sum : List ℕ → ℕ) (x : State) (l : IsLinked sum x) (upto : ℕ) (names : List ℕ) (ok : skip_refusal x.world upto names ≡ None) where
-  abbrev w : World
-  w = x.world
-
-  abbrev v : World
-  v = with_datagram x.world (Forward upto names)
+  abbrev v : LinkRecord
+  v = with_datagram x.recorded (Forward upto names)
 
   fit : NamesFit (shape w) upto names
   fit = names-fit w upto names (facts sum x l).sane.sender (accepted w upto names ok).can
 
-  module _ (ms : List Message) (messages_are : x.world.messages ≡ map message_record ms) (progress_are : x.progress ≡ map progress_of ms) where
+  module _ (ms : List Message) (messages_are : x.recorded.messages ≡ map message_record ms) (progress_are : x.progress ≡ map progress_of ms) where
     pub skip-says : (f : ForwardTsn) → f.new_cumulative_tsn ≡ tsn_of w upto → f.streams ≡ map (pair_in ms) names → f ≡ wire_skip w upto names
     skip-says f a b =
         ap (λ t. let r : ForwardTsn = record { new_cumulative_tsn = t; streams = f.streams } in r) a
         ∙ ap (λ ps. let r : ForwardTsn = record { new_cumulative_tsn = tsn_of w upto; streams = ps } in r) (b ∙ pairs-are sum x l ms messages_are progress_are upto names fit)
 
     pub pairs-short : (f : ForwardTsn) → f.streams ≡ map (pair_in ms) names → 4 + length (forward_tsn_value f) < 2 ^ 16
-    pairs-short f b = skip-short f (omega (arith, ap length b, length-as (pair_in ms) names, (accepted w upto names ok).few))
+    pairs-short f b = skip-short f (omega (arith, ap length b, length-mapped (pair_in ms) names, (accepted w upto names ok).few))
 
-  pub linked-made : (f : ForwardTsn) → f ≡ wire_skip x.world upto names → (bytes : List ℕ) (e : Event) → refusal_of w e ≡ None → after w e ≡ v → bytes ≡ packet_encoding sum (packet_with (forward_tsn_chunk f ∷ [])) → ReadsPacket sum bytes (packet_with (forward_tsn_chunk f ∷ [])) → length x.datagrams ≡ length w.network → IsLinked sum (record x { world = v; datagrams = x.datagrams ++ bytes ∷ [] })
+  pub linked-made : (f : ForwardTsn) → f ≡ wire_skip x.recorded upto names → (bytes : List ℕ) (e : Event) → refusal_of w e ≡ None → after w e ≡ v → bytes ≡ packet_encoding sum (packet_with (forward_tsn_chunk f ∷ [])) → ReadsPacket sum bytes (packet_with (forward_tsn_chunk f ∷ [])) → length x.datagrams ≡ length w.network → IsLinked sum (record x { recorded = v; datagrams = x.datagrams ++ bytes ∷ [] })
   linked-made f says bytes e none is encoding reads count = record {
     setup = l.setup;
     history = (e, reply_to w e) ∷ l.history;
@@ -118,6 +115,6 @@ module _ (sum : List ℕ → ℕ) (x : State) (l : IsLinked sum x) (upto : ℕ) 
     low = l.low;
     open_streams = λ k d lt. stream-same w v (slice_index_or x.open_streams k d) (record { setup = refl; held = refl; ordered = refl; next = refl; amount = refl; counters = refl }) refl (l.open_streams k d lt);
     apart = l.apart;
-    encodings = subst (λ (u : World). (k : ℕ) (d : List ℕ) (g : W.Datagram) → slice_get u.network k ≡ Some g → IsDatagram sum (contents_of u g) (slice_index_or (x.datagrams ++ bytes ∷ []) k d)) is
-        (encodings-more sum x l e none (Forward upto names) bytes (ap (λ (u : World). u.network) is) count (subst (λ (u : World). IsDatagram sum (contents_of u (Forward upto names)) bytes) (sym is) (record { encoding = encoding ∙ ap (λ t. packet_encoding sum (packet_with (forward_tsn_chunk t ∷ []))) says; reads = subst (λ t. ReadsPacket sum bytes (packet_with (forward_tsn_chunk t ∷ []))) says reads })));
+    encodings = subst (λ (u : LinkRecord). (k : ℕ) (d : List ℕ) (g : W.Datagram) → slice_get u.network k ≡ Some g → IsDatagram sum (contents_of u g) (slice_index_or (x.datagrams ++ bytes ∷ []) k d)) is
+        (encodings-more sum x l e none (Forward upto names) bytes (ap (λ (u : LinkRecord). u.network) is) count (subst (λ (u : LinkRecord). IsDatagram sum (contents_of u (Forward upto names)) bytes) (sym is) (record { encoding = encoding ∙ ap (λ t. packet_encoding sum (packet_with (forward_tsn_chunk t ∷ []))) says; reads = subst (λ t. ReadsPacket sum bytes (packet_with (forward_tsn_chunk t ∷ []))) says reads })));
   }

@@ -1,25 +1,22 @@
 -- No stream of a link is open twice, and what the change of one of its streams, slots or messages makes of the record.
 use Rattle.std.proofs.Common.{◌≡◌, ℕ, zero, suc, ◌<◌, Bool, true, false, List, [], ◌∷◌, length, map, Some, refl, ap, sym, ◌∙◌, arith}
-use Rattle.std.specs.Prelude.{◌==◌, ◌||◌, find, if◌then◌else◌, slice_get, slice_index_or, slice_set}
+use Rattle.std.specs.Prelude.{◌==◌, find, if◌then◌else◌, slice_index_or, slice_set}
 use Rattle.std.specs.Option.{option_map}
 use Rattle.std.specs.List.{list_any}
 use Rattle.std.proofs.Math.Path.{subst}
 use Rattle.std.proofs.lemmas.List.{get_or-set_same, get_or-set_other}
-use Rattle.sctp_list_lemmas.specs.Lists.{changed}
+use Rattle.sctp_list_lemmas.specs.Lists.{change_at}
 use Rattle.sctp_list_lemmas.proofs.Cases.{same-yes, same-is}
 use Rattle.sctp_list_lemmas.proofs.More.{not_both}
-use Rattle.sctp_model.specs.World.{StreamRecord}
+use Rattle.sctp_model.specs.LinkRecord.{StreamRecord}
 use Rattle.sctp_refinement.proofs.arriving.Stays.{by_place}
 use Rattle.sctp_refinement.proofs.amounts.StreamAmounts.{same-turned}
 use Rattle.sctp_link.specs.Places.{IsApart}
 use Rattle.sctp_halves.specs.Streams.{OpenStream, has_number, stream_numbers}
 use Rattle.sctp_link.specs.Records.{stream_record}
+use Rattle.sctp_serial.proofs.lemmas.ListEdits.{neither}
 
 -- ## Numbers
-
-pub neither : (a b : Bool) → (a || b) ≡ false → (a ≡ false) × (b ≡ false)
-neither true b e = cc
-neither false b e = (refl, e)
 
 -- ## Open streams
 
@@ -55,15 +52,10 @@ differ (l ∷ ls) (suc j) (suc k) d a lj lk ne e = differ ls j k d a.1 (omega ar
 
 -- ## One element is set
 
-pub map-set : {A B : Type 0} (f : A → B) (g : B → B) (xs : List A) (i : ℕ) (y d : A) → i < length xs → f y ≡ g (f (slice_index_or xs i d)) → map f (slice_set xs i y) ≡ changed g i (map f xs)
+pub map-set : {A B : Type 0} (f : A → B) (g : B → B) (xs : List A) (i : ℕ) (y d : A) → i < length xs → f y ≡ g (f (slice_index_or xs i d)) → map f (slice_set xs i y) ≡ change_at g i (map f xs)
 map-set f g [] i y d lt e = absurd (omega arith)
 map-set f g (x ∷ xs) zero y d lt e = ap (λ b. b ∷ map f xs) e
 map-set f g (x ∷ xs) (suc i) y d lt e = ap (λ bs. f x ∷ bs) (map-set f g xs i y d (omega arith) e)
-
-pub map-set_same : {A B : Type 0} (f : A → B) (xs : List A) (i : ℕ) (y d : A) → f y ≡ f (slice_index_or xs i d) → map f (slice_set xs i y) ≡ map f xs
-map-set_same f [] i y d e = refl
-map-set_same f (x ∷ xs) zero y d e = ap (λ b. b ∷ map f xs) e
-map-set_same f (x ∷ xs) (suc i) y d e = ap (λ bs. f x ∷ bs) (map-set_same f xs i y d e)
 
 untouched : (s : ℕ) (f : StreamRecord → StreamRecord) (ls : List OpenStream) → list_any (λ k. k == s) (stream_numbers ls) ≡ false → map (λ r. if r.stream == s then f r else r) (map stream_record ls) ≡ map stream_record ls
 untouched s f [] e = refl

@@ -3,13 +3,13 @@ use Rattle.std.proofs.Common.{◌≡◌, ℕ, zero, suc, ◌+◌, ◌*◌, ◌<�
 use Rattle.std.specs.Prelude.{◌==◌}
 use Rattle.std.proofs.lemmas.List.{length-drop}
 use Rattle.std.proofs.lemmas.List.Sums.{sum_by-cons}
-use Rattle.sctp_list_lemmas.specs.Kept.{kept, always, total_over, numbers_from}
+use Rattle.sctp_list_lemmas.specs.Kept.{numbers_where, always, total_over, numbers_from}
 use Rattle.sctp_list_lemmas.specs.Lists.{pieces}
 use Rattle.sctp_list_lemmas.proofs.Totals.{total-wider, total-le}
 use Rattle.sctp_chunks.specs.declared.chunk.chunk_payload_data.ChunkPayloadData.{ChunkPayloadData}
 use Rattle.sctp_serial.specs.DataChunks.{bytes_of}
 use Rattle.sctp_outbound.specs.outbound_queue.OutboundQueue.{total_bytes}
-use Rattle.sctp_model.specs.World.{Setup, World}
+use Rattle.sctp_model.specs.LinkRecord.{Setup, LinkRecord}
 use Rattle.sctp_model.specs.Messages.{message_at, fragment_count}
 use Rattle.sctp_model.specs.Amounts.{in_all, on_stream, written_bytes, pending_bytes, in_flight_bytes, released_bytes}
 use Rattle.sctp_model.specs.Steps.{fragments_accepted}
@@ -39,19 +39,19 @@ total-times f g [] le = omega arith
 total-times f g (n ∷ ns) le = omega (arith, le n, total-times f g ns le)
 
 -- the bytes written, by the fragments that are accepted
-pub written-few : (setup : Setup) (w : World) → IsSetup w.setup → Sane setup w → in_all w (written_bytes w) < 2 ^ 47
+pub written-few : (setup : Setup) (w : LinkRecord) → IsSetup w.setup → Sane setup w → in_all w (written_bytes w) < 2 ^ 47
 written-few setup w is g =
     let each : (n : ℕ) → written_bytes w n ≤ 65519 * fragment_count w n = λ n. pieces-many (length (message_at w n).bytes) w.setup.size (message_at w n).bytes is.some is.size (omega arith) in
     let all = total-times (written_bytes w) (fragment_count w) (numbers_from 0 (length w.messages)) each in
     let few : fragments_accepted w < 2 ^ 31 = g.accepted in
     omega (arith, all, few)
 
-ones : (from count : ℕ) → total_over (λ n. 1) (kept always from count) ≡ count
+ones : (from count : ℕ) → total_over (λ n. 1) (numbers_where always from count) ≡ count
 ones from zero = refl
 ones from (suc count) = omega (arith, ones (from + 1) count)
 
 -- each message has a fragment
-pub messages-few : (setup : Setup) (w : World) → Sane setup w → length w.messages < 2 ^ 31
+pub messages-few : (setup : Setup) (w : LinkRecord) → Sane setup w → length w.messages < 2 ^ 31
 messages-few setup w g =
     let all = total-le (λ n. 1) (fragment_count w) 0 (length w.messages) (λ k a b. let some = g.sender.some k (omega (arith, b)) in omega (arith, some)) in
     let few : fragments_accepted w < 2 ^ 31 = g.accepted in
@@ -59,20 +59,20 @@ messages-few setup w g =
 
 -- ## What is pending and in flight
 
-pub queued-few : (sum : List ℕ → ℕ) (x : State) → IsLinked sum x → total_bytes x.outbound ≤ in_all x.world (written_bytes x.world)
+pub queued-few : (sum : List ℕ → ℕ) (x : State) → IsLinked sum x → total_bytes x.outbound ≤ in_all x.recorded (written_bytes x.recorded)
 queued-few sum x l =
-    let p = pending-bytes x.world x.outbound.pending l.outbound.pending in
-    let f = over sum x (λ w. (q : Outbound) → RefinesOutbound w q → bytes_of q.inflight.chunks ≡ in_all w (in_flight_bytes w)) l (in-flight-bytes x.world.setup l.history l.setup l.stands.run) x.outbound l.outbound in
-    let b = over sum x (λ w. in_all w (written_bytes w) ≡ in_all w (pending_bytes w) + in_all w (in_flight_bytes w) + in_all w (released_bytes w)) l (balances x.world.setup l.history l.setup l.stands.run).0 in
+    let p = pending-bytes x.recorded x.outbound.pending l.outbound.pending in
+    let f = over sum x (λ w. (q : Outbound) → RefinesOutbound w q → bytes_of q.inflight.chunks ≡ in_all w (in_flight_bytes w)) l (in-flight-bytes x.recorded.setup l.history l.setup l.stands.run) x.outbound l.outbound in
+    let b = over sum x (λ w. in_all w (written_bytes w) ≡ in_all w (pending_bytes w) + in_all w (in_flight_bytes w) + in_all w (released_bytes w)) l (balances x.recorded.setup l.history l.setup l.stands.run).0 in
     omega (arith, p, f, b)
 
-pub amount-few : (sum : List ℕ → ℕ) (x : State) (t : ℕ) → IsLinked sum x → amount x.world t ≤ in_all x.world (written_bytes x.world)
+pub amount-few : (sum : List ℕ → ℕ) (x : State) (t : ℕ) → IsLinked sum x → amount x.recorded t ≤ in_all x.recorded (written_bytes x.recorded)
 amount-few sum x t l =
-    let b = over sum x (λ w. (t : ℕ) → on_stream w t (written_bytes w) ≡ on_stream w t (pending_bytes w) + on_stream w t (in_flight_bytes w) + on_stream w t (released_bytes w)) l (balances x.world.setup l.history l.setup l.stands.run).1 t in
-    let wide = total-wider (written_bytes x.world) (λ n. (message_at x.world n).stream == t) always 0 (length x.world.messages) (λ k a b e. refl) in
+    let b = over sum x (λ w. (t : ℕ) → on_stream w t (written_bytes w) ≡ on_stream w t (pending_bytes w) + on_stream w t (in_flight_bytes w) + on_stream w t (released_bytes w)) l (balances x.recorded.setup l.history l.setup l.stands.run).1 t in
+    let wide = total-wider (written_bytes x.recorded) (λ n. (message_at x.recorded n).stream == t) always 0 (length x.recorded.messages) (λ k a b e. refl) in
     omega (arith, b, wide)
 
 -- chunks of short fragments
-pub bytes-few : (h : ℕ → ChunkPayloadData) → ((i : ℕ) → length (h i).user_data ≤ 65519) → (from count : ℕ) → bytes_of (map h (kept always from count)) ≤ 65519 * count
+pub bytes-few : (h : ℕ → ChunkPayloadData) → ((i : ℕ) → length (h i).user_data ≤ 65519) → (from count : ℕ) → bytes_of (map h (numbers_where always from count)) ≤ 65519 * count
 bytes-few h short from zero = omega arith
-bytes-few h short from (suc count) = omega (arith, short from, bytes-few h short (from + 1) count, sum_by-cons (λ (c : ChunkPayloadData). length c.user_data) (h from) (map h (kept always (from + 1) count)))
+bytes-few h short from (suc count) = omega (arith, short from, bytes-few h short (from + 1) count, sum_by-cons (λ (c : ChunkPayloadData). length c.user_data) (h from) (map h (numbers_where always (from + 1) count)))

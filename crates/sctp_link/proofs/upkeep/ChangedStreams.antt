@@ -7,7 +7,7 @@ use Rattle.std.proofs.Math.Path.{subst}
 use Rattle.sctp_list_lemmas.proofs.Cases.{same-is, same-yes}
 use Rattle.sctp_list_lemmas.proofs.More.{not_both}
 use Rattle.sctp_list_lemmas.proofs.Edits.{change_where-map, length-change_where}
-use Rattle.sctp_model.specs.World.{StreamRecord}
+use Rattle.sctp_model.specs.LinkRecord.{StreamRecord}
 use Rattle.sctp_link.specs.Records.{stream_record}
 use Rattle.sctp_list_lemmas.proofs.Getting.{map-at}
 use Rattle.sctp_refinement.proofs.amounts.StreamAmounts.{same-turned}

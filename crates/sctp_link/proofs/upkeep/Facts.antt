@@ -4,12 +4,12 @@ use Rattle.std.specs.Prelude.{slice_get}
 use Rattle.std.proofs.Math.Path.{subst}
 use Rattle.std.proofs.lemmas.Option.{slice_get_within}
 use Rattle.sctp_model.specs.declared.event.Event.{Event}
-use Rattle.sctp_model.specs.World.{Setup, World}
-use Rattle.sctp_model.specs.World as W
+use Rattle.sctp_model.specs.LinkRecord.{Setup, LinkRecord}
+use Rattle.sctp_model.specs.LinkRecord as W
 use Rattle.sctp_model.specs.Messages.{message_at}
 use Rattle.sctp_model.specs.Receiver.{spans_fit}
 use Rattle.sctp_model.specs.Contents.{contents_of, contents_in, datagram}
-use Rattle.sctp_model.specs.Steps.{History, StandsFor, IsRun, world_of, refusal_of, reply_to, after}
+use Rattle.sctp_model.specs.Steps.{History, StandsFor, IsRun, record_of, refusal_of, reply_to, after}
 use Rattle.sctp_model.specs.Laws.{IsSetup}
 use Rattle.sctp_model.specs.Valid.{IsValid}
 use Rattle.sctp_model.proofs.sender.Shape.{shape}
@@ -24,7 +24,7 @@ use Rattle.sctp_refinement.proofs.amounts.NoLarger.{no-larger}
 use Rattle.sctp_link.specs.Linked.{State, IsLinked}
 
 -- what every record that a history leads to keeps
-pub record Facts (w : World) : Type 0 where
+pub record Facts (w : LinkRecord) : Type 0 where
   pub setup : IsSetup w.setup
   pub sane : Sane w.setup w
   pub going : Going w.setup w
@@ -38,9 +38,9 @@ pub record Facts (w : World) : Type 0 where
   pub stays : (e : Event) (k : ℕ) → refusal_of w e ≡ None → k < length w.network → datagram (after w e) k ≡ datagram w k
 
 -- those of the record of a history
-of-run : (setup : Setup) (h : History) → IsSetup setup → IsRun setup h → (world_of setup h).setup ≡ setup → Facts (world_of setup h)
+of-run : (setup : Setup) (h : History) → IsSetup setup → IsRun setup h → (record_of setup h).setup ≡ setup → Facts (record_of setup h)
 of-run setup h is run same =
-    let w = world_of setup h in
+    let w = record_of setup h in
     let sane : Sane w.setup w = subst (λ s. Sane s w) (sym same) (sane-run setup h run) in
     record {
       setup = subst IsSetup (sym same) is;
@@ -55,25 +55,25 @@ of-run setup h is run same =
       stays = λ e k none lt. datagrams_stay setup h is run e k none lt;
     }
 
-pub facts : (sum : List ℕ → ℕ) (x : State) → IsLinked sum x → Facts x.world
+pub facts : (sum : List ℕ → ℕ) (x : State) → IsLinked sum x → Facts x.recorded
 facts sum x l =
-    let setup = x.world.setup in
+    let setup = x.recorded.setup in
     let is = l.stands.is in
     subst Facts (sym is) (of-run setup l.history l.setup l.stands.run (ap (λ w. w.setup) (sym is)))
 
 -- a property of every record that a history leads to, at the link's
-pub over : (sum : List ℕ → ℕ) (x : State) (P : World → Type 0) (l : IsLinked sum x) → P (world_of x.world.setup l.history) → P x.world
+pub over : (sum : List ℕ → ℕ) (x : State) (P : LinkRecord → Type 0) (l : IsLinked sum x) → P (record_of x.recorded.setup l.history) → P x.recorded
 over sum x P l p = subst P (sym l.stands.is) p
 
 -- after an accepted event the record stands for the longer history
-pub stands-then : (setup : Setup) (w : World) (h : History) (e : Event) → refusal_of w e ≡ None → StandsFor setup w h → StandsFor setup (after w e) ((e, reply_to w e) ∷ h)
+pub stands-then : (setup : Setup) (w : LinkRecord) (h : History) (e : Event) → refusal_of w e ≡ None → StandsFor setup w h → StandsFor setup (after w e) ((e, reply_to w e) ∷ h)
 stands-then setup w h e none s = record {
   is = ap (λ v. after v e) s.is;
   run = (ap (λ v. refusal_of v e) (sym s.is) ∙ none, (ap (λ v. reply_to v e) s.is, s.run));
 }
 
 -- what a datagram of before says after it
-pub says-still : (w : World) (f : Facts w) (e : Event) → refusal_of w e ≡ None → (k : ℕ) (g g' : W.Datagram) → slice_get w.network k ≡ Some g → slice_get (after w e).network k ≡ Some g' → contents_of (after w e) g' ≡ contents_of w g
+pub says-still : (w : LinkRecord) (f : Facts w) (e : Event) → refusal_of w e ≡ None → (k : ℕ) (g g' : W.Datagram) → slice_get w.network k ≡ Some g → slice_get (after w e).network k ≡ Some g' → contents_of (after w e) g' ≡ contents_of w g
 says-still w f e none k g g' old new =
     let lt = slice_get_within w.network k g old in
     let same = f.stays e k none lt in

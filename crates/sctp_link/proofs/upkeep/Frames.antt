@@ -7,12 +7,12 @@ use Rattle.sctp_list_lemmas.specs.Lists.{pieces}
 use Rattle.sctp_list_lemmas.proofs.Getting.{get-snoc_old, get-snoc_new, get-last, slice-front}
 use Rattle.sctp_list_lemmas.proofs.Cases.{by_last}
 use Rattle.sctp_model.specs.declared.event.Event.{Event}
-use Rattle.sctp_model.specs.World.{Setup, World}
-use Rattle.sctp_model.specs.World as W
+use Rattle.sctp_model.specs.LinkRecord.{Setup, LinkRecord}
+use Rattle.sctp_model.specs.LinkRecord as W
 use Rattle.sctp_model.specs.Messages.{ordered_before, message_at}
 use Rattle.sctp_model.specs.Receiver.{next_of}
 use Rattle.sctp_model.specs.Contents.{contents_of}
-use Rattle.sctp_model.specs.Steps.{refusal_of, after, fragments_accepted, world_of}
+use Rattle.sctp_model.specs.Steps.{refusal_of, after, fragments_accepted, record_of}
 use Rattle.sctp_model.specs.Amounts.{in_all, written_bytes}
 use Rattle.sctp_model.specs.Log.{log_of}
 use Rattle.sctp_model.specs.Queues.{filter_of}
@@ -42,7 +42,7 @@ use Rattle.sctp_link.proofs.sender.Beginning.{index_kept, indexed-of}
 -- ## A stream
 
 -- all that a stream keeps of the record is as it was, but for the count of messages begun
-pub record SameStream (w v : World) (s : ℕ) : Type 0 where
+pub record SameStream (w v : LinkRecord) (s : ℕ) : Type 0 where
   pub setup : v.setup ≡ w.setup
   pub held : reassembly_of v s ≡ reassembly_of w s
   pub ordered : ordered_before v s (length v.messages) ≡ ordered_before w s (length w.messages)
@@ -50,7 +50,7 @@ pub record SameStream (w v : World) (s : ℕ) : Type 0 where
   pub amount : amount v s ≡ amount w s
   pub counters : counters_on v s ≡ counters_on w s
 
-pub stream-with : (w v : World) (l : OpenStream) (n : ℕ) → SameStream w v l.state.stream_identifier → n ≡ begun_on v l.state.stream_identifier → IsOpenStream w l → IsOpenStream v (record l { begun = n })
+pub stream-with : (w v : LinkRecord) (l : OpenStream) (n : ℕ) → SameStream w v l.state.stream_identifier → n ≡ begun_on v l.state.stream_identifier → IsOpenStream w l → IsOpenStream v (record l { begun = n })
 stream-with w v l n f e i = record {
   held = i.held ∙ sym f.held;
   si = i.si;
@@ -64,17 +64,17 @@ stream-with w v l n f e i = record {
   stats = i.stats ∙ ap stats_of (sym f.counters);
 }
 
-pub stream-same : (w v : World) (l : OpenStream) → SameStream w v l.state.stream_identifier → begun_on v l.state.stream_identifier ≡ begun_on w l.state.stream_identifier → IsOpenStream w l → IsOpenStream v l
+pub stream-same : (w v : LinkRecord) (l : OpenStream) → SameStream w v l.state.stream_identifier → begun_on v l.state.stream_identifier ≡ begun_on w l.state.stream_identifier → IsOpenStream w l → IsOpenStream v l
 stream-same w v l f same i = stream-with w v l l.begun f (i.begun ∙ sym same) i
 
 -- ## What an event leaves
 
-module _ (sum : List ℕ → ℕ) (x : State) (l : IsLinked sum x) (e : Event) (ok : refusal_of x.world e ≡ None) where
-  abbrev w : World
-  w = x.world
+module _ (sum : List ℕ → ℕ) (x : State) (l : IsLinked sum x) (e : Event) (ok : refusal_of x.recorded e ≡ None) where
+  abbrev w : LinkRecord
+  w = x.recorded
 
-  abbrev v : World
-  v = after x.world e
+  abbrev v : LinkRecord
+  v = after x.recorded e
 
   pub setup-same : v.setup ≡ w.setup
   setup-same = (sane-after w.setup w e ok (facts sum x l).sane).setup_is
@@ -108,13 +108,13 @@ module _ (sum : List ℕ → ℕ) (x : State) (l : IsLinked sum x) (e : Event) (
   pub held-quiet : Quiet w v → (t : ℕ) → reassembly_of v t ≡ reassembly_of w t
   held-quiet q t =
       subst (λ u. refusal_of u e ≡ None → Quiet u (after u e) → reassembly_of (after u e) t ≡ reassembly_of u t) (sym l.stands.is)
-      (λ ok' q'. let g = sane-run w.setup l.history l.stands.run in reassembly-quiet w.setup (world_of w.setup l.history) (after (world_of w.setup l.history) e) (log_of w.setup l.history) g (sane-after w.setup (world_of w.setup l.history) e ok' g) q' (received-run w.setup l.history l.setup l.stands.run) (record_is_valid w.setup l.history l.setup l.stands.run) t)
+      (λ ok' q'. let g = sane-run w.setup l.history l.stands.run in reassembly-quiet w.setup (record_of w.setup l.history) (after (record_of w.setup l.history) e) (log_of w.setup l.history) g (sane-after w.setup (record_of w.setup l.history) e ok' g) q' (received-run w.setup l.history l.setup l.stands.run) (record_is_valid w.setup l.history l.setup l.stands.run) t)
       ok q
 
   pub filter-kept : Quiet w v → filter_of v ≡ filter_of w
   filter-kept q =
       subst (λ u. refusal_of u e ≡ None → Quiet u (after u e) → filter_of (after u e) ≡ filter_of u) (sym l.stands.is)
-      (λ ok' q'. let g = sane-run w.setup l.history l.stands.run in filter-quiet w.setup (world_of w.setup l.history) (after (world_of w.setup l.history) e) (log_of w.setup l.history) g (sane-after w.setup (world_of w.setup l.history) e ok' g) q' (received-run w.setup l.history l.setup l.stands.run) (record_is_valid w.setup l.history l.setup l.stands.run))
+      (λ ok' q'. let g = sane-run w.setup l.history l.stands.run in filter-quiet w.setup (record_of w.setup l.history) (after (record_of w.setup l.history) e) (log_of w.setup l.history) g (sane-after w.setup (record_of w.setup l.history) e ok' g) q' (received-run w.setup l.history l.setup l.stands.run) (record_is_valid w.setup l.history l.setup l.stands.run))
       ok q
 
   -- indexes, where no fragment is sent
@@ -146,5 +146,5 @@ module _ (sum : List ℕ → ℕ) (x : State) (l : IsLinked sum x) (e : Event) (
   written-kept no-write = written-same w.setup w e (facts sum x l).sane no-write
 
 -- another name for the record
-pub moved : (sum : List ℕ → ℕ) (y : State) (v : World) → y.world ≡ v → IsLinked sum (record y { world = v }) → IsLinked sum y
-moved sum y v e l = subst (λ u. IsLinked sum (record y { world = u })) (sym e) l
+pub moved : (sum : List ℕ → ℕ) (y : State) (v : LinkRecord) → y.recorded ≡ v → IsLinked sum (record y { recorded = v }) → IsLinked sum y
+moved sum y v e l = subst (λ u. IsLinked sum (record y { recorded = u })) (sym e) l

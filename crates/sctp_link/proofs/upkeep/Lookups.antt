@@ -3,7 +3,7 @@ use Rattle.std.proofs.Common.{◌≡◌, ℕ, ◌<◌, true, false, List, length
 use Rattle.std.specs.Prelude.{◌==◌, find, is_some, option_map, slice_index_or}
 use Rattle.std.proofs.Math.Path.{subst}
 use Rattle.sctp_reassembly.specs.reassembly_queue.ReassemblyQueue.{ReassemblyState}
-use Rattle.sctp_model.specs.World.{World}
+use Rattle.sctp_model.specs.LinkRecord.{LinkRecord}
 use Rattle.sctp_model.specs.Messages.{is_open, stream_at}
 use Rattle.sctp_halves.specs.Streams.{OpenStream, has_number}
 use Rattle.sctp_link.specs.Linked.{State, IsLinked, IsOpenStream}
@@ -12,23 +12,23 @@ use Rattle.sctp_link.proofs.upkeep.Apart.{number-found, stream-found}
 use Rattle.sctp_link.proofs.upkeep.StreamPlaces.{placed}
 
 -- nothing is kept of a stream that is not open
-pub none-open : (w : World) (s : ℕ) (ls : List OpenStream) → w.streams ≡ map stream_record ls → find (has_number s) ls ≡ None → is_open w s ≡ false
+pub none-open : (w : LinkRecord) (s : ℕ) (ls : List OpenStream) → w.streams ≡ map stream_record ls → find (has_number s) ls ≡ None → is_open w s ≡ false
 none-open w s ls same e = ap is_some (ap (find (λ r. r.stream == s)) same ∙ stream-found s ls ∙ ap (option_map stream_record) e)
 
-pub some-open : (w : World) (s : ℕ) (ls : List OpenStream) (l : OpenStream) → w.streams ≡ map stream_record ls → find (has_number s) ls ≡ Some l → stream_at w s ≡ Some (stream_record l)
+pub some-open : (w : LinkRecord) (s : ℕ) (ls : List OpenStream) (l : OpenStream) → w.streams ≡ map stream_record ls → find (has_number s) ls ≡ Some l → stream_at w s ≡ Some (stream_record l)
 some-open w s ls l same e = ap (find (λ r. r.stream == s)) same ∙ stream-found s ls ∙ ap (option_map stream_record) e
 
 -- what is kept of an open stream, at its place
 pub record IsKept (sum : List ℕ → ℕ) (x : State) (s : ℕ) (l : OpenStream) : Type 0 where
-  pub is_open : is_open x.world s ≡ true
+  pub is_open : is_open x.recorded s ≡ true
   pub number : l.state.stream_identifier ≡ s
-  pub open_stream : IsOpenStream x.world l
+  pub open_stream : IsOpenStream x.recorded l
 
-pub kept-at : (sum : List ℕ → ℕ) (x : State) (s k : ℕ) (l : OpenStream) → x.world.streams ≡ map stream_record x.open_streams → IsLinked sum x → k < length x.open_streams → find (has_number s) x.open_streams ≡ Some (slice_index_or x.open_streams k l) → l ≡ slice_index_or x.open_streams k l → IsKept sum x s l
+pub kept-at : (sum : List ℕ → ℕ) (x : State) (s k : ℕ) (l : OpenStream) → x.recorded.streams ≡ map stream_record x.open_streams → IsLinked sum x → k < length x.open_streams → find (has_number s) x.open_streams ≡ Some (slice_index_or x.open_streams k l) → l ≡ slice_index_or x.open_streams k l → IsKept sum x s l
 kept-at sum x s k l same i lt found is = record {
-  is_open = ap is_some (some-open x.world s x.open_streams l same here);
+  is_open = ap is_some (some-open x.recorded s x.open_streams l same here);
   number = number-found s x.open_streams l here;
-  open_stream = subst (IsOpenStream x.world) (sym is) (i.open_streams k l lt);
+  open_stream = subst (IsOpenStream x.recorded) (sym is) (i.open_streams k l lt);
 }
   where
     here : find (has_number s) x.open_streams ≡ Some l

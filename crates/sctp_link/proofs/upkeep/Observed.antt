@@ -1,23 +1,21 @@
 -- What a link tells that is asked of it: which streams are open, what a datagram's bytes say, which TSNs can be sent again.
-use Rattle.std.proofs.Common.{◌≡◌, ℕ, zero, suc, ◌<◌, ◌≤◌, ◌^◌, Bool, true, false, List, [], ◌∷◌, length, map, Option, Some, None, refl, ap, sym, ◌∙◌, arith}
-use Rattle.std.specs.Prelude.{◌&&◌, ◌||◌, not, find, is_some, slice_get, slice_index_or, MatchOption, nat_le, nat_lt}
+use Rattle.std.proofs.Common.{◌≡◌, ℕ, zero, suc, ◌<◌, ◌≤◌, ◌^◌, Bool, true, false, List, [], ◌∷◌, length, map, Some, refl, ap, sym, ◌∙◌, arith}
+use Rattle.std.specs.Prelude.{◌&&◌, ◌||◌, not, slice_get, slice_index_or, nat_le, nat_lt}
 use Rattle.std.proofs.lemmas.Bool.{lt-ltb, le-leb}
 use Rattle.std.proofs.lemmas.List.{get_or-map}
 use Rattle.sctp_list_lemmas.proofs.Getting.{length-mapped}
-use Rattle.sctp_model.specs.World.{World}
-use Rattle.sctp_model.specs.World as W
+use Rattle.sctp_model.specs.LinkRecord.{LinkRecord}
+use Rattle.sctp_model.specs.LinkRecord as W
 use Rattle.sctp_model.specs.Queues.{is_cleared}
-use Rattle.sctp_model.specs.Messages.{is_open, message_at, message_of, slot_at, no_slot, no_message}
+use Rattle.sctp_model.specs.Messages.{message_at, message_of, slot_at, no_slot, no_message}
 use Rattle.sctp_model.specs.Contents.{Contents, contents_of, contents_in, datagram}
 use Rattle.sctp_model.specs.Steps.{can_resend}
-use Rattle.sctp_halves.specs.Streams.{OpenStream, has_number}
 use Rattle.sctp_link.specs.declared.record.Datagram.{Datagram}
 use Rattle.sctp_link.specs.declared.record.Message.{Message}
 use Rattle.sctp_link.specs.declared.record.Slot.{Slot}
 use Rattle.sctp_link.specs.Linked.{State, IsLinked}
-use Rattle.sctp_link.specs.Records.{stream_record, datagram_record, slot_record, message_record}
+use Rattle.sctp_link.specs.Records.{datagram_record, slot_record, message_record}
 use Rattle.sctp_link.specs.Encodings.{datagram_encoding}
-use Rattle.sctp_link.proofs.upkeep.Lookups.{none-open, some-open}
 use Rattle.sctp_link.proofs.upkeep.Facts.{facts}
 
 -- a datagram that was made, in its place
@@ -27,14 +25,14 @@ get-record (x ∷ ds) zero d lt = refl
 get-record (x ∷ ds) (suc k) d lt = get-record ds k d (omega (arith, lt))
 
 -- its bytes are what the record says
-pub says-bytes : (sum : List ℕ → ℕ) (x : State) (ds : List Datagram) (k : ℕ) (d : Datagram) → IsLinked sum x → x.world.network ≡ map datagram_record ds → x.datagrams ≡ map (λ d. d.bytes) ds → k < length ds → d ≡ slice_index_or ds k d
-    → (c : Contents) × (datagram x.world k ≡ Some c) × (d.bytes ≡ datagram_encoding sum c)
+pub says-bytes : (sum : List ℕ → ℕ) (x : State) (ds : List Datagram) (k : ℕ) (d : Datagram) → IsLinked sum x → x.recorded.network ≡ map datagram_record ds → x.datagrams ≡ map (λ d. d.bytes) ds → k < length ds → d ≡ slice_index_or ds k d
+    → (c : Contents) × (datagram x.recorded k ≡ Some c) × (d.bytes ≡ datagram_encoding sum c)
 says-bytes sum x ds k d l network bytes lt is =
     let g = datagram_record (slice_index_or ds k d) in
-    let made : slice_get x.world.network k ≡ Some g = ap (λ n. slice_get n k) network ∙ get-record ds k d lt in
+    let made : slice_get x.recorded.network k ≡ Some g = ap (λ n. slice_get n k) network ∙ get-record ds k d lt in
     let encoding = l.encodings k [] g made in
     let here : slice_index_or x.datagrams k [] ≡ (slice_index_or ds k d).bytes = ap (λ n. slice_index_or n k []) bytes ∙ get_or-map (λ (d : Datagram). d.bytes) ds k d [] lt in
-    (contents_of x.world g, ap (contents_in x.world) made, ap (λ (y : Datagram). y.bytes) is ∙ sym here ∙ encoding.encoding)
+    (contents_of x.recorded g, ap (contents_in x.recorded) made, ap (λ (y : Datagram). y.bytes) is ∙ sym here ∙ encoding.encoding)
 
 -- fewer fragments than TSNs were accepted
 pub few-fragments : (sum : List ℕ → ℕ) (x : State) → IsLinked sum x → x.fragments < 2 ^ 31
@@ -47,23 +45,23 @@ all-right true false c d h i = cc
 all-right false b c d h i = cc
 
 -- the message of a slot
-pub slot-message : (sum : List ℕ → ℕ) (x : State) (xs : List Slot) (p : ℕ) (s : Slot) → IsLinked sum x → x.world.slots ≡ map slot_record xs → p < length x.world.slots → s ≡ slice_index_or xs p s → (slot_at x.world p ≡ slot_record s) × (s.message < length x.world.messages)
+pub slot-message : (sum : List ℕ → ℕ) (x : State) (xs : List Slot) (p : ℕ) (s : Slot) → IsLinked sum x → x.recorded.slots ≡ map slot_record xs → p < length x.recorded.slots → s ≡ slice_index_or xs p s → (slot_at x.recorded p ≡ slot_record s) × (s.message < length x.recorded.messages)
 slot-message sum x xs p s l slots lt is =
     let within : p < length xs = omega (arith, lt, ap length slots, length-mapped slot_record xs) in
-    let same : slot_at x.world p ≡ slot_record s = ap (λ ys. slice_index_or ys p no_slot) slots ∙ get_or-map slot_record xs p s no_slot within ∙ ap slot_record (sym is) in
+    let same : slot_at x.recorded p ≡ slot_record s = ap (λ ys. slice_index_or ys p no_slot) slots ∙ get_or-map slot_record xs p s no_slot within ∙ ap slot_record (sym is) in
     let made = (facts sum x l).sane.sender.made p lt in
     (same, omega (arith, made, ap (λ t. t.message) same))
 
 -- a slot is acknowledged, or its message abandoned
-pub cleared-is : (sum : List ℕ → ℕ) (x : State) (ms : List Message) (xs : List Slot) (p : ℕ) (s : Slot) (m : Message) → IsLinked sum x → x.world.messages ≡ map message_record ms → x.world.slots ≡ map slot_record xs → p < length x.world.slots → s ≡ slice_index_or xs p s → m ≡ slice_index_or ms s.message m
-    → (s.acknowledged || m.abandoned) ≡ is_cleared x.world p
+pub cleared-is : (sum : List ℕ → ℕ) (x : State) (ms : List Message) (xs : List Slot) (p : ℕ) (s : Slot) (m : Message) → IsLinked sum x → x.recorded.messages ≡ map message_record ms → x.recorded.slots ≡ map slot_record xs → p < length x.recorded.slots → s ≡ slice_index_or xs p s → m ≡ slice_index_or ms s.message m
+    → (s.acknowledged || m.abandoned) ≡ is_cleared x.recorded p
 cleared-is sum x ms xs p s m l messages slots lt is im =
     let r = slot-message sum x xs p s l slots lt is in
     let within : s.message < length ms = omega (arith, r.1, ap length messages, length-mapped message_record ms) in
-    let same : message_at x.world s.message ≡ message_record m = ap (λ ys. slice_index_or ys s.message no_message) messages ∙ get_or-map message_record ms s.message m no_message within ∙ ap message_record (sym im) in
+    let same : message_at x.recorded s.message ≡ message_record m = ap (λ ys. slice_index_or ys s.message no_message) messages ∙ get_or-map message_record ms s.message m no_message within ∙ ap message_record (sym im) in
     ap (λ b. s.acknowledged || b) (sym (ap (λ t. t.abandoned) same))
-    ∙ sym (ap (λ (t : W.Slot). t.acknowledged || (message_at x.world t.message).abandoned) r.0)
+    ∙ sym (ap (λ (t : W.Slot). t.acknowledged || (message_at x.recorded t.message).abandoned) r.0)
 
 -- one that is neither, among those in flight, can be sent again
-pub can-resend : (w : World) (p : ℕ) → w.taken ≤ p → p < length w.slots → can_resend w p ≡ not (is_cleared w p)
+pub can-resend : (w : LinkRecord) (p : ℕ) → w.taken ≤ p → p < length w.slots → can_resend w p ≡ not (is_cleared w p)
 can-resend w p le lt = all-right (nat_le w.taken p) (nat_lt p (length w.slots)) (slot_at w p).acknowledged (message_at w (message_of w p)).abandoned (le-leb w.taken p le) (lt-ltb p (length w.slots) lt)

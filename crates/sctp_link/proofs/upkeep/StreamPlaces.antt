@@ -1,18 +1,17 @@
 -- The streams of a link, by their numbers: the place of one that is found, and what its change makes of them all.
-use Rattle.std.proofs.Common.{◌≡◌, ℕ, zero, suc, ◌+◌, ◌<◌, Bool, true, false, List, [], ◌∷◌, ◌++◌, length, get_or, set, map, Option, Some, None, refl, ap, sym, ◌∙◌, arith}
+use Rattle.std.proofs.Common.{◌≡◌, ℕ, zero, suc, ◌<◌, Bool, true, false, List, [], ◌∷◌, ◌++◌, length, get_or, set, Some, None, refl, ap, sym, ◌∙◌, arith}
 use Rattle.std.specs.Prelude.{◌==◌, ◌||◌, if◌then◌else◌, find, slice_index_or, slice_set}
 use Rattle.std.specs.List.{list_any}
 use Rattle.std.proofs.Math.Path.{subst}
 use Rattle.std.proofs.lemmas.Bool.{ne_eqb, eq-eqb}
-use Rattle.std.proofs.lemmas.List.{map-append}
 use Rattle.sctp_list_lemmas.specs.Lists.{change_where}
-use Rattle.sctp_list_lemmas.proofs.Cases.{same-yes, same-is}
-use Rattle.sctp_list_lemmas.proofs.Edits.{OnlyAt, change_where-only, change_where-none}
+use Rattle.sctp_list_lemmas.proofs.Edits.{change_where-only}
 use Rattle.sctp_refinement.proofs.arriving.Stays.{by_place}
 use Rattle.sctp_halves.specs.Streams.{OpenStream, number, has_number, stream_numbers}
 use Rattle.sctp_link.specs.Places.{IsApart}
-use Rattle.sctp_link.proofs.upkeep.Apart.{map-set_same, number-found, differ}
+use Rattle.sctp_link.proofs.upkeep.Apart.{number-found, differ}
 use Rattle.sctp_link.proofs.upkeep.ChangedStreams.{fields-same}
+use Rattle.sctp_transfer.proofs.StreamPlaces.{map-set_same}
 
 -- the place of a stream that is found
 pub placed : (s : ℕ) (ls : List OpenStream) (l : OpenStream) → find (has_number s) ls ≡ Some l → (k : ℕ) × ((k < length ls) × ((d : OpenStream) → slice_index_or ls k d ≡ l))

@@ -2,10 +2,10 @@
 use Rattle.std.proofs.Common.{◌≡◌, ℕ, ◌+◌, ◌-◌, ◌<◌, ◌%◌, ◌^◌, true, List, ◌∷◌, length, Some, None, ap, sym, ◌∙◌}
 use Rattle.std.specs.Prelude.{slice_get, slice_index_or}
 use Rattle.std.proofs.Math.Path.{subst}
-use Rattle.sctp_list_lemmas.specs.Kept.{kept, numbers_from, total_over}
+use Rattle.sctp_list_lemmas.specs.Kept.{numbers_where, numbers_from, total_over}
 use Rattle.sctp_model.specs.declared.event.Event.{Event}
-use Rattle.sctp_model.specs.World.{Setup, World}
-use Rattle.sctp_model.specs.World as W
+use Rattle.sctp_model.specs.LinkRecord.{Setup, LinkRecord}
+use Rattle.sctp_model.specs.LinkRecord as W
 use Rattle.sctp_model.specs.Messages.{ordered_before, tsn_of}
 use Rattle.sctp_model.specs.Receiver.{next_of}
 use Rattle.sctp_model.specs.Contents.{contents_of}
@@ -30,12 +30,12 @@ use Rattle.sctp_link.specs.Places.{IsApart}
 use Rattle.sctp_link.proofs.upkeep.Facts.{facts, stands-then, says-still}
 use Rattle.sctp_link.proofs.sender.Beginning.{index_kept, indexed-of}
 
-module _ (sum : List ℕ → ℕ) (x : State) (l : IsLinked sum x) (e : Event) (none : refusal_of x.world e ≡ None) (s : Same x.world (after x.world e)) where
-  abbrev w : World
-  w = x.world
+module _ (sum : List ℕ → ℕ) (x : State) (l : IsLinked sum x) (e : Event) (none : refusal_of x.recorded e ≡ None) (s : Same x.recorded (after x.recorded e)) where
+  abbrev w : LinkRecord
+  w = x.recorded
 
-  abbrev v : World
-  v = after x.world e
+  abbrev v : LinkRecord
+  v = after x.recorded e
 
   on-shape : (P : Shape → Type 0) → P (shape w) → P (shape v)
   on-shape P p = subst P (sym s.shape_is) p
@@ -57,7 +57,7 @@ module _ (sum : List ℕ → ℕ) (x : State) (l : IsLinked sum x) (e : Event) (
   stream-then keeps y z i id held si largest size ordered number begun next bytes stats =
       let t = y.state.stream_identifier in
       let f = facts sum x l in
-      let before : ordered_before v t (length v.messages) ≡ ordered_before w t (length w.messages) = ap (λ (b : Shape). length (kept (on b t) 0 b.count)) s.shape_is in
+      let before : ordered_before v t (length v.messages) ≡ ordered_before w t (length w.messages) = ap (λ (b : Shape). length (numbers_where (on b t) 0 b.count)) s.shape_is in
       let same = amount-same w.setup w e t f.setup f.sane keeps in
       record {
         held = held ∙ ap (reassembly_of v) (sym id);
@@ -72,11 +72,11 @@ module _ (sum : List ℕ → ℕ) (x : State) (l : IsLinked sum x) (e : Event) (
         stats = stats ∙ ap (λ a. stats_of (counters_on v a)) (sym id);
       }
 
-  module _ (progress : List (ℕ × ℕ)) (open_streams : List OpenStream) (filter : Filter) (u : World) (progress_same : progress ≡ x.progress) (filter_is : filter_shown filter ≡ filter_of v) (each : (k : ℕ) (d : OpenStream) → k < length open_streams → IsOpenStream v (slice_index_or open_streams k d)) (found : IsApart (stream_numbers open_streams)) (q : SameToSender w v) (is : u ≡ v) where
+  module _ (progress : List (ℕ × ℕ)) (open_streams : List OpenStream) (filter : Filter) (u : LinkRecord) (progress_same : progress ≡ x.progress) (filter_is : filter_shown filter ≡ filter_of v) (each : (k : ℕ) (d : OpenStream) → k < length open_streams → IsOpenStream v (slice_index_or open_streams k d)) (found : IsApart (stream_numbers open_streams)) (q : SameToSender w v) (is : u ≡ v) where
     indexed-then : Indexed (shape v) (index_kept progress)
     indexed-then = subst (λ ps. Indexed (shape v) (index_kept ps)) (sym progress_same) (on-shape (λ b. Indexed b (index_kept x.progress)) (indexed-of sum x l))
 
-    at-after : IsLinked sum (record x { world = v; progress = progress; open_streams = open_streams; filter = filter })
+    at-after : IsLinked sum (record x { recorded = v; progress = progress; open_streams = open_streams; filter = filter })
     at-after = record {
       setup = subst IsSetup (sym s.setup) l.setup;
       history = (e, reply_to w e) ∷ l.history;
@@ -97,5 +97,5 @@ module _ (sum : List ℕ → ℕ) (x : State) (l : IsLinked sum x) (e : Event) (
     }
 
     -- the link after it
-    pub linked-then : IsLinked sum (record x { world = u; progress = progress; open_streams = open_streams; filter = filter })
-    linked-then = subst (λ (t : World). IsLinked sum (record x { world = t; progress = progress; open_streams = open_streams; filter = filter })) (sym is) at-after
+    pub linked-then : IsLinked sum (record x { recorded = u; progress = progress; open_streams = open_streams; filter = filter })
+    linked-then = subst (λ (t : LinkRecord). IsLinked sum (record x { recorded = t; progress = progress; open_streams = open_streams; filter = filter })) (sym is) at-after

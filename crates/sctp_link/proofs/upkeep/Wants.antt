@@ -5,14 +5,14 @@ use Rattle.sctp_model.specs.declared.event.Event.{Event}
 use Rattle.sctp_model.specs.declared.event.Event.TheVariants as E
 use Rattle.sctp_model.specs.declared.event.LinkRefusal.{LinkRefusal}
 use Rattle.sctp_model.specs.declared.event.LinkRefusal.TheVariants.{NoSuchDatagram, SpanTooWide}
-use Rattle.sctp_model.specs.World.{World}
+use Rattle.sctp_model.specs.LinkRecord.{LinkRecord}
 use Rattle.sctp_model.specs.Steps.{refusal_of, unless, is_for_receiver, arrival_fits, takes_memory, may_want_memory}
 use Rattle.sctp_model.proofs.sender.SenderRun.{unless-holds}
 
 both : (b : Bool) (o : Option LinkRefusal) → o ≡ None → b ≡ true → (b && is_none o) ≡ true
 both b o e f = rw (e, f) refl
 
-pub may-want : (w : World) (e : Event) → refusal_of w e ≡ None → takes_memory w e ≡ true → may_want_memory w e ≡ true
+pub may-want : (w : LinkRecord) (e : Event) → refusal_of w e ≡ None → takes_memory w e ≡ true → may_want_memory w e ≡ true
 may-want w (E.Arrive k) ok t = (unless-holds (is_for_receiver (slice_get w.network k)) NoSuchDatagram (unless (arrival_fits w (slice_get w.network k)) SpanTooWide None) ok).0
 may-want w (E.Open s) ok t = both true _ ok t
 may-want w (E.Mode s unordered reliability value) ok t = both false _ ok t

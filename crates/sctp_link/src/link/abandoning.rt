@@ -1,8 +1,8 @@
 //! Messages that are abandoned once some of them was sent (RFC 3758 3.5, 4.1).
 
 ghost use Rattle.std.specs.Prelude.{◌≡◌, ◌<◌, ◌++◌, Bool, true, None, OnOk, OnErr, IfOk, IsOkUnless, length, vec_len, vec_capacity};
+ghost use Rattle.sctp_chunks.specs.Reliability.{is_past};
 ghost use Rattle.sctp_base.specs.declared.error.Error.TheVariants.{ErrOutOfMemory};
-ghost use Rattle.sctp_model.specs.Messages.{is_reached};
 ghost use Rattle.sctp_link.specs.OpenStreams.{marks};
 
 use super::streams::fragments_in;
@@ -21,7 +21,7 @@ impl<C: Checksum + Drop> Link<C> {
 
     /// Why the message of a TSN is not abandoned, if it is not.
     pub(super) fn refusal_abandon(&self, tsn: u32) -> Option<LinkRefusal>
-        ensures { result ≡ refusal_of self.now.world (E.Abandon tsn) }
+        ensures { result ≡ refusal_of self.now.recorded (E.Abandon tsn) }
     {
         let place = tsn.wrapping_sub(self.first_tsn) as usize;
         if place < self.taken || place >= self.slots.len() {
@@ -32,8 +32,8 @@ impl<C: Checksum + Drop> Link<C> {
 
     // Whether some but not all of a message was sent, and it is not abandoned.
     pub(super) fn is_partially_sent(&self, number: usize) -> bool
-        requires { number < length self.now.world.messages }
-        ensures { result ≡ is_partially_sent self.now.world number }
+        requires { number < length self.now.recorded.messages }
+        ensures { result ≡ is_partially_sent self.now.recorded number }
     {
         let message = &self.messages[number];
         let count = fragments_in(message.bytes.len(), self.halves.fragment_size() as usize);
@@ -43,13 +43,14 @@ impl<C: Checksum + Drop> Link<C> {
     /// Abandons the message of a TSN in flight. Refuses only for memory, and nothing changes then.
     /// Precondition: the event is not to be refused.
     pub(super) fn abandon(&mut self, tsn: u32) -> Result<Reply>
-        requires { refusal_of self.old.world (E.Abandon tsn) ≡ None }
+        requires { refusal_of self.old.recorded (E.Abandon tsn) ≡ None }
         ensures ok { IfOk result
-            (λ reply. IsRight self.old.world (E.Abandon tsn) (reply_of reply) self.new.world) }
+            (λ reply. IsRight self.old.recorded (E.Abandon tsn)
+            (reply_of reply) self.new.recorded) }
         ensures checksum { self.new.checksum ≡ self.old.checksum }
-        ensures err { OnErr result (self.new.world ≡ self.old.world) }
+        ensures err { OnErr result (self.new.recorded ≡ self.old.recorded) }
         ensures memory { IsOkUnless result ErrOutOfMemory }
-        ensures wants { OnErr result (takes_memory self.old.world (E.Abandon tsn) ≡ true) }
+        ensures wants { OnErr result (takes_memory self.old.recorded (E.Abandon tsn) ≡ true) }
     {
         let (stream, bytes) = self.abandon_message(tsn)?;
         Ok(Reply::Released { stream, bytes })
@@ -57,15 +58,15 @@ impl<C: Checksum + Drop> Link<C> {
 
     // Abandons the message of a TSN in flight: its stream, and how many bytes left. It takes memory only for a terminal chunk.
     pub(super) fn abandon_message(&mut self, tsn: u32) -> Result<(u16, u64)>
-        requires { refusal_of self.old.world (E.Abandon tsn) ≡ None }
-        ensures moves { OnOk result (self.new.world ≡ after self.old.world (E.Abandon tsn)) }
-        ensures stream { IfOk result (λ r. r.0 ≡ (message_at self.old.world
-            (message_of self.old.world (place_of self.old.world tsn))).stream) }
-        ensures bytes { IfOk result (λ r. r.1 ≡ growth self.old.world self.new.world) }
+        requires { refusal_of self.old.recorded (E.Abandon tsn) ≡ None }
+        ensures moves { OnOk result (self.new.recorded ≡ after self.old.recorded (E.Abandon tsn)) }
+        ensures stream { IfOk result (λ r. r.0 ≡ (message_at self.old.recorded
+            (message_of self.old.recorded (place_of self.old.recorded tsn))).stream) }
+        ensures bytes { IfOk result (λ r. r.1 ≡ growth self.old.recorded self.new.recorded) }
         ensures checksum { self.new.checksum ≡ self.old.checksum }
-        ensures err { OnErr result (self.new.world ≡ self.old.world) }
+        ensures err { OnErr result (self.new.recorded ≡ self.old.recorded) }
         ensures memory { IsOkUnless result ErrOutOfMemory }
-        ensures wants { OnErr result (takes_memory self.old.world (E.Abandon tsn) ≡ true) }
+        ensures wants { OnErr result (takes_memory self.old.recorded (E.Abandon tsn) ≡ true) }
     {
         let place = tsn.wrapping_sub(self.first_tsn) as usize;
         let number = self.slots[place].message;
@@ -81,11 +82,11 @@ impl<C: Checksum + Drop> Link<C> {
     /// `now` is in nanoseconds. Refuses only for memory, and nothing changes then.
     pub(super) fn tail(&mut self, now: u64) -> Result<Reply>
         ensures ok { IfOk result
-            (λ reply. IsRight self.old.world (E.Tail now) (reply_of reply) self.new.world) }
+            (λ reply. IsRight self.old.recorded (E.Tail now) (reply_of reply) self.new.recorded) }
         ensures checksum { self.new.checksum ≡ self.old.checksum }
-        ensures err { OnErr result (self.new.world ≡ self.old.world) }
+        ensures err { OnErr result (self.new.recorded ≡ self.old.recorded) }
         ensures memory { IsOkUnless result ErrOutOfMemory }
-        ensures wants { OnErr result (takes_memory self.old.world (E.Tail now) ≡ true) }
+        ensures wants { OnErr result (takes_memory self.old.recorded (E.Tail now) ≡ true) }
     {
         let Some(chunk) = self.halves.outbound().peek_pending() else {
             return Ok(Reply::Idle);
@@ -93,7 +94,7 @@ impl<C: Checksum + Drop> Link<C> {
         if chunk.beginning_fragment {
             return Ok(Reply::Idle);
         }
-        if !is_reached(chunk.deadline, now) {
+        if !is_past(chunk.deadline, now) {
             return Ok(Reply::Idle);
         }
         make_room(&mut self.slots, true)?;
@@ -108,8 +109,8 @@ impl<C: Checksum + Drop> Link<C> {
 }
 
 // Whether a deadline is reached, where there is one.
-fn is_reached(deadline: Option<u64>, now: u64) -> bool
-    ensures { result ≡ is_reached now deadline }
+fn is_past(deadline: Option<u64>, now: u64) -> bool
+    ensures { result ≡ is_past now deadline }
 {
     match deadline {
         Some(deadline) => deadline <= now,

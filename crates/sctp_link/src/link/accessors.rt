@@ -35,7 +35,7 @@ impl<C: Checksum + Drop> Link<C> {
 
     /// The bytes written, and what became of them.
     pub fn ledger(&self) -> Ledger
-        ensures { result ≡ ledger_of (ledger self.now.world) }
+        ensures { result ≡ ledger_of (ledger self.now.recorded) }
     {
         let pending = self.halves.outbound().pending_bytes() as u64;
         let in_flight = self.halves.outbound().inflight_bytes() as u64;
@@ -52,7 +52,7 @@ impl<C: Checksum + Drop> Link<C> {
 
     /// How many bytes of an open stream wait or are in flight; None where it is not open.
     pub fn buffered_amount(&self, stream: u16) -> Option<u64>
-        ensures { result ≡ buffered_amount self.now.world stream }
+        ensures { result ≡ buffered_amount self.now.recorded stream }
     {
         let amount = self.halves.buffered_amount(stream)?;
         Some(amount as u64)
@@ -60,18 +60,18 @@ impl<C: Checksum + Drop> Link<C> {
 
     /// The counters of an open stream; None where it is not open.
     pub fn stats(&self, stream: u16) -> Option<DataChannelStats>
-        ensures { result ≡ option_map stats_of (counters_of self.now.world stream) }
+        ensures { result ≡ option_map stats_of (counters_of self.now.recorded stream) }
     {
         self.halves.stats(stream)
     }
 
     /// What waits to be sent and what is in flight.
     pub fn outbound(&self) -> &OutboundQueue
-        ensures pending { shown result.now.pending ≡ pending_of self.now.world }
+        ensures pending { shown result.now.pending ≡ pending_of self.now.recorded }
         ensures in_flight { map in_flight_shown result.now.inflight.chunks
-            ≡ in_flight_of self.now.world }
+            ≡ in_flight_of self.now.recorded }
         // what a further sending of each says, with its stream, stream sequence number and flags, while it has its bytes
-        ensures says { map sending_of result.now.inflight.chunks ≡ sendings_of self.now.world }
+        ensures says { map sending_of result.now.inflight.chunks ≡ sendings_of self.now.recorded }
     {
         self.halves.outbound()
     }
@@ -79,17 +79,18 @@ impl<C: Checksum + Drop> Link<C> {
     /// The TSNs that came beyond the cumulative one, and those that came again
     /// since the last SACK was made. Its chunks have no bytes.
     pub fn filter(&self) -> &PayloadQueue
-        ensures { filter_held (cumulative_tsn self.now.world (cumulative self.now.world)) result.now
-            ≡ filter_of self.now.world }
+        ensures { filter_held
+            (cumulative_tsn self.now.recorded (cumulative self.now.recorded)) result.now
+            ≡ filter_of self.now.recorded }
     {
         self.halves.filter()
     }
 
     /// What came on an open stream and was not read; None where it is not open.
     pub fn reassembly(&self, stream: u16) -> Option<&ReassemblyQueue>
-        ensures { MatchOption result (is_open self.now.world stream
-            ≡ false) (λ q. (q.now.held ≡ reassembly_of self.now.world stream)
-            × (q.now.si ≡ stream) × (q.now.max_message_size ≡ self.now.world.setup.largest)) }
+        ensures { MatchOption result (is_open self.now.recorded stream
+            ≡ false) (λ q. (q.now.held ≡ reassembly_of self.now.recorded stream)
+            × (q.now.si ≡ stream) × (q.now.max_message_size ≡ self.now.recorded.setup.largest)) }
     {
         self.halves.reassembly(stream)
     }

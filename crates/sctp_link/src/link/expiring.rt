@@ -14,7 +14,8 @@ impl<C: Checksum + Drop> Link<C> {
     /// Removes the front message where it is unsent and its lifetime is over; `now`
     /// is in nanoseconds. It takes no memory.
     pub(super) fn expire(&mut self, now: u64) -> Reply
-        ensures right { IsRight self.old.world (E.Expire now) (reply_of result) self.new.world }
+        ensures right { IsRight self.old.recorded (E.Expire now)
+            (reply_of result) self.new.recorded }
         ensures checksum { self.new.checksum ≡ self.old.checksum }
     {
         let Some(chunk) = self.halves.outbound().peek_pending() else {

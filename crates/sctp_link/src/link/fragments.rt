@@ -4,13 +4,14 @@ ghost use Rattle.std.specs.Prelude.{◌≡◌, ◌<◌, ◌≤◌, ◌+◌, ◌^
 ghost use Rattle.sctp_base.specs.declared.error.Error.TheVariants.{ErrOutOfMemory};
 ghost use Rattle.sctp_list_lemmas.specs.Kept.{numbers_from};
 ghost use Rattle.sctp_chunks.specs.declared.chunk.chunk_kind.ChunkKind.TheVariants as C;
-ghost use Rattle.sctp_outbound.specs.pending_queue.PendingQueue.{peeked};
+ghost use Rattle.sctp_outbound.specs.pending_queue.PendingQueue.{next_pending};
 ghost use Rattle.sctp_outbound.specs.outbound_queue.OutboundQueue.{after_sends};
 ghost use Rattle.sctp_model.specs.Changes.{chunk_length};
-ghost use Rattle.sctp_refinement.specs.Filling.{under, chunks_taken};
+ghost use Rattle.sctp_refinement.specs.Filling.{chunks_taken};
 ghost use Rattle.sctp_halves.specs.Streams.{begun_of};
 ghost use Rattle.sctp_link.specs.OpenStreams.{fragment_slot, with_fragment, begun_by};
 ghost use Rattle.sctp_link.specs.Sends.{Sender, sender_of, CanSend, Leaves, Leave, SendsOnly};
+ghost use Rattle.sctp_serial.specs.DataChunks.{under_tsn};
 
 use crate::record::{Message, Slot};
 use sctp_base::error::Result;
@@ -36,8 +37,8 @@ pub(super) fn next_chunks(
     tsn: u32,
     limit: u32,
 ) -> Result<Vec<ChunkKind>>
-    requires shown { peeked outbound.now.pending ≡ Some first.now }
-    requires short { (i : ℕ) → IfSome (peeked (after_sends i outbound.now.pending))
+    requires shown { next_pending outbound.now.pending ≡ Some first.now }
+    requires short { (i : ℕ) → IfSome (next_pending (after_sends i outbound.now.pending))
         (λ c. length c.user_data ≤ 65519) }
     ensures chunks { IfOk result
         (λ ks. ks.items ≡ map C.PayloadData (chunks_taken limit tsn outbound.now.pending)) }
@@ -65,7 +66,7 @@ pub(super) fn next_chunks(
 /// Puts a chunk under a TSN behind the others. Refuses only for memory.
 fn push_under(chunks: &mut Vec<ChunkKind>, chunk: &ChunkPayloadData, tsn: u32) -> Result<()>
     ensures ok { IfOk result
-        (λ _. chunks.new.items ≡ chunks.old.items ++ C.PayloadData (under tsn chunk.now) ∷ []) }
+        (λ _. chunks.new.items ≡ chunks.old.items ++ C.PayloadData (under_tsn tsn chunk.now) ∷ []) }
     ensures memory { IsOkUnless result ErrOutOfMemory }
 {
     let mut chunk = chunk.try_clone()?;

@@ -21,11 +21,11 @@ impl<C: Checksum + Drop> Link<C> {
     /// nanoseconds. Refuses only for memory, and nothing changes then.
     pub(super) fn late(&mut self, now: u64) -> Result<Reply>
         ensures ok { IfOk result
-            (λ reply. IsRight self.old.world (E.Late now) (reply_of reply) self.new.world) }
+            (λ reply. IsRight self.old.recorded (E.Late now) (reply_of reply) self.new.recorded) }
         ensures checksum { self.new.checksum ≡ self.old.checksum }
-        ensures err { OnErr result (self.new.world ≡ self.old.world) }
+        ensures err { OnErr result (self.new.recorded ≡ self.old.recorded) }
         ensures memory { IsOkUnless result ErrOutOfMemory }
-        ensures wants { OnErr result (takes_memory self.old.world (E.Late now) ≡ true) }
+        ensures wants { OnErr result (takes_memory self.old.recorded (E.Late now) ≡ true) }
     {
         let tsns = self.halves.outbound().expired_inflight(self.alloc, now)?;
         // The partially sent message comes first: it alone takes memory, for its terminal chunk.
@@ -41,14 +41,15 @@ impl<C: Checksum + Drop> Link<C> {
 
     // Abandons the partially sent message of these TSNs, where there is one, and answers how many bytes left.
     fn abandon_partially_sent(&mut self, tsns: &[u32]) -> Result<u64>
-        requires { list_all (λ t. is_in_flight self.old.world (place_of self.old.world t)) tsns.now
+        requires { list_all (λ t. is_in_flight self.old.recorded
+            (place_of self.old.recorded t)) tsns.now
             ≡ true }
-        ensures moves { OnOk result (self.new.world ≡ abandoned_tsn self.old.world
-            (find (λ t. is_partially_sent self.old.world
-            (message_of_tsn self.old.world t)) tsns.now)) }
-        ensures bytes { IfOk result (λ b. b ≡ growth self.old.world self.new.world) }
+        ensures moves { OnOk result (self.new.recorded ≡ abandoned_tsn self.old.recorded
+            (find (λ t. is_partially_sent self.old.recorded
+            (message_of_tsn self.old.recorded t)) tsns.now)) }
+        ensures bytes { IfOk result (λ b. b ≡ growth self.old.recorded self.new.recorded) }
         ensures checksum { self.new.checksum ≡ self.old.checksum }
-        ensures err { OnErr result (self.new.world ≡ self.old.world) }
+        ensures err { OnErr result (self.new.recorded ≡ self.old.recorded) }
         ensures memory { IsOkUnless result ErrOutOfMemory }
         ensures wants { OnErr result (0 < length tsns.now) }
     {
@@ -61,11 +62,12 @@ impl<C: Checksum + Drop> Link<C> {
 
     // The first of these TSNs whose message is partially sent.
     fn first_partially_sent(&self, tsns: &[u32]) -> Option<u32>
-        requires { list_all (λ t. is_in_flight self.now.world (place_of self.now.world t)) tsns.now
+        requires { list_all (λ t. is_in_flight self.now.recorded
+            (place_of self.now.recorded t)) tsns.now
             ≡ true }
         ensures { result
-            ≡ find (λ t. is_partially_sent self.now.world
-            (message_of_tsn self.now.world t)) tsns.now }
+            ≡ find (λ t. is_partially_sent self.now.recorded
+            (message_of_tsn self.now.recorded t)) tsns.now }
     {
         for at in 0..tsns.len() {
             let place = tsns[at].wrapping_sub(self.first_tsn) as usize;
@@ -78,10 +80,10 @@ impl<C: Checksum + Drop> Link<C> {
 
     // Abandons the message of a TSN in flight, which takes no memory since it is not partially sent, and answers how many bytes left.
     fn abandon_fully_sent(&mut self, tsn: u32) -> u64
-        requires accepted { refusal_of self.old.world (E.Abandon tsn) ≡ None }
-        requires whole { takes_memory self.old.world (E.Abandon tsn) ≡ false }
-        ensures moves { self.new.world ≡ after self.old.world (E.Abandon tsn) }
-        ensures bytes { result ≡ growth self.old.world self.new.world }
+        requires accepted { refusal_of self.old.recorded (E.Abandon tsn) ≡ None }
+        requires complete { takes_memory self.old.recorded (E.Abandon tsn) ≡ false }
+        ensures moves { self.new.recorded ≡ after self.old.recorded (E.Abandon tsn) }
+        ensures bytes { result ≡ growth self.old.recorded self.new.recorded }
         ensures checksum { self.new.checksum ≡ self.old.checksum }
     {
         match self.abandon_message(tsn) {

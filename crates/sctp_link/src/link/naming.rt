@@ -26,7 +26,8 @@ impl<C: Checksum + Drop> Link<C> {
 
     /// Why a FORWARD-TSN is not made, if it is not.
     pub(super) fn refusal_skip(&self, upto: u32, messages: &[u64]) -> Option<LinkRefusal>
-        ensures { result ≡ skip_refusal self.now.world (place_of self.now.world upto) messages.now }
+        ensures { result ≡ skip_refusal self.now.recorded
+            (place_of self.now.recorded upto) messages.now }
     {
         let place = upto.wrapping_sub(self.first_tsn) as usize;
         if place >= self.slots.len() {
@@ -43,8 +44,8 @@ impl<C: Checksum + Drop> Link<C> {
 
     // Whether a skip up to a slot can name each of these messages.
     fn can_name_each(&self, place: usize, messages: &[u64]) -> bool
-        requires { place < length self.now.world.slots }
-        ensures { result ≡ list_all (can_name self.now.world place) messages.now }
+        requires { place < length self.now.recorded.slots }
+        ensures { result ≡ list_all (can_name self.now.recorded place) messages.now }
     {
         for at in 0..messages.len() {
             if !self.can_name(place, messages[at]) {
@@ -56,8 +57,8 @@ impl<C: Checksum + Drop> Link<C> {
 
     // Whether a skip up to a slot can name a message: an ordered one whose last slot is at or before it.
     fn can_name(&self, place: usize, number: u64) -> bool
-        requires { place < length self.now.world.slots }
-        ensures { result ≡ can_name self.now.world place number }
+        requires { place < length self.now.recorded.slots }
+        ensures { result ≡ can_name self.now.recorded place number }
     {
         if number >= self.messages.len() as u64 {
             return false;
@@ -77,8 +78,8 @@ impl<C: Checksum + Drop> Link<C> {
 
     // Whether all of a message has slots, or it was abandoned.
     fn is_ended(&self, number: u64) -> bool
-        requires { number < length self.now.world.messages }
-        ensures { result ≡ is_ended self.now.world number }
+        requires { number < length self.now.recorded.messages }
+        ensures { result ≡ is_ended self.now.recorded number }
     {
         let message = &self.messages[number as usize];
         let count = fragments_in(message.bytes.len(), self.halves.fragment_size() as usize);
@@ -87,9 +88,10 @@ impl<C: Checksum + Drop> Link<C> {
 
     // Whether a message has a slot past this one.
     fn goes_past(&self, place: usize, number: u64) -> bool
-        requires { place < length self.now.world.slots }
+        requires { place < length self.now.recorded.slots }
         ensures { result ≡ not (list_all
-            (λ p. nat_le p place) (slots_where self.now.world (belongs_to self.now.world number))) }
+            (λ p. nat_le p place)
+            (slots_where self.now.recorded (belongs_to self.now.recorded number))) }
     {
         let count = self.slots.len();
         for later in place + 1..count {
@@ -103,12 +105,12 @@ impl<C: Checksum + Drop> Link<C> {
     /// Makes a FORWARD-TSN. Refuses only for memory, and nothing changes then.
     /// Precondition: the event is not to be refused.
     pub(super) fn skip(&mut self, upto: u32, messages: Vec<u64>) -> Result<Reply>
-        requires { skip_refusal self.old.world (place_of self.old.world upto) messages.items
+        requires { skip_refusal self.old.recorded (place_of self.old.recorded upto) messages.items
             ≡ None }
         ensures ok { IfOk result (λ reply.
-            IsRight self.old.world (E.Skip upto messages) (reply_of reply) self.new.world) }
+            IsRight self.old.recorded (E.Skip upto messages) (reply_of reply) self.new.recorded) }
         ensures checksum { self.new.checksum ≡ self.old.checksum }
-        ensures err { OnErr result (self.new.world ≡ self.old.world) }
+        ensures err { OnErr result (self.new.recorded ≡ self.old.recorded) }
         ensures memory { IsOkUnless result ErrOutOfMemory }
     {
         let streams = pairs_of(self.alloc, &self.messages, &messages)?;

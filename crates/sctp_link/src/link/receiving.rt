@@ -19,7 +19,7 @@ use sctp_base::util::Checksum;
 use sctp_queues::chunks::{Chunks, Fragments};
 
 impl<C: Checksum + Drop> Link<C> {
-    ghost use Rattle.sctp_model.specs.World.{Data};
+    ghost use Rattle.sctp_model.specs.LinkRecord.{Data};
     ghost use Rattle.sctp_model.specs.Messages.{message_at, message_of, index_of, tsn_of, is_open};
     ghost use Rattle.sctp_model.specs.Receiver.{is_new, is_held, held_on, next_of, least, greatest};
     ghost use Rattle.sctp_model.specs.Queues.{set_of};
@@ -30,7 +30,7 @@ impl<C: Checksum + Drop> Link<C> {
 
     /// Why datagram k is not taken by the receiver, if it is not.
     pub(super) fn refusal_arrive(&self, k: u64) -> Option<LinkRefusal>
-        ensures { result ≡ refusal_of self.now.world (E.Arrive k) }
+        ensures { result ≡ refusal_of self.now.recorded (E.Arrive k) }
     {
         if k >= self.network.len() as u64 {
             return Some(LinkRefusal::NoSuchDatagram);
@@ -44,8 +44,8 @@ impl<C: Checksum + Drop> Link<C> {
 
     // Whether stream sequence numbers can still be told apart once these slots have come (RFC 4960 6.5).
     fn span_fits(&self, places: &[u64]) -> bool
-        requires { (k : ℕ) × (slice_get self.now.world.network k ≡ Some (Data places.now)) }
-        ensures { result ≡ arrival_fits self.now.world (Some (Data places.now)) }
+        requires { (k : ℕ) × (slice_get self.now.recorded.network k ≡ Some (Data places.now)) }
+        ensures { result ≡ arrival_fits self.now.recorded (Some (Data places.now)) }
     {
         // What holds of the fields is known once one of them is read.
         let _fragments = self.fragments;
@@ -59,9 +59,9 @@ impl<C: Checksum + Drop> Link<C> {
 
     // So on the stream of the slot at a place.
     fn slot_fits(&self, place: usize, places: &[u64]) -> bool
-        requires lies { (k : ℕ) × (slice_get self.now.world.network k ≡ Some (Data places.now)) }
-        requires place { LiesSomewhere self.now.world place }
-        ensures { result ≡ slot_fits self.now.world places.now place }
+        requires lies { (k : ℕ) × (slice_get self.now.recorded.network k ≡ Some (Data places.now)) }
+        requires place { LiesSomewhere self.now.recorded place }
+        ensures { result ≡ slot_fits self.now.recorded places.now place }
     {
         let message = &self.messages[self.slots[place].message as usize];
         if !message.ordered {
@@ -71,15 +71,15 @@ impl<C: Checksum + Drop> Link<C> {
             return true;
         }
         let range = self.index_range(message.stream);
-        let (low, high) = self.widened(message.stream, places, range);
+        let (low, high) = self.widen(message.stream, places, range);
         high.saturating_sub(low) < 0x8000
     }
 
     // Ends, widened by the indexes that the new ones of these slots add on a stream.
-    fn widened(&self, stream: u16, places: &[u64], ends: (u64, u64)) -> (u64, u64)
-        requires { (k : ℕ) × (slice_get self.now.world.network k ≡ Some (Data places.now)) }
-        ensures low { result.0 ≡ least ends.0 (added_on self.now.world stream places.now) }
-        ensures high { result.1 ≡ greatest ends.1 (added_on self.now.world stream places.now) }
+    fn widen(&self, stream: u16, places: &[u64], ends: (u64, u64)) -> (u64, u64)
+        requires { (k : ℕ) × (slice_get self.now.recorded.network k ≡ Some (Data places.now)) }
+        ensures low { result.0 ≡ least ends.0 (added_on self.now.recorded stream places.now) }
+        ensures high { result.1 ≡ greatest ends.1 (added_on self.now.recorded stream places.now) }
     {
         let mut ends = ends;
         for at in 0..places.len() {
@@ -90,9 +90,9 @@ impl<C: Checksum + Drop> Link<C> {
 
     // The index that the slot at a place adds on a stream, where it is new and of an ordered message of it.
     fn index_added(&self, stream: u16, place: usize) -> Option<u64>
-        requires { LiesSomewhere self.now.world place }
-        ensures { result ≡ (if adds_on self.now.world stream place
-            then Some (index_of self.now.world (message_of self.now.world place)) else None) }
+        requires { LiesSomewhere self.now.recorded place }
+        ensures { result ≡ (if adds_on self.now.recorded stream place
+            then Some (index_of self.now.recorded (message_of self.now.recorded place)) else None) }
     {
         let message = &self.messages[self.slots[place].message as usize];
         let adds = (message.stream == stream) & message.ordered & self.is_new(place);
@@ -104,11 +104,11 @@ impl<C: Checksum + Drop> Link<C> {
 
     // The least and the greatest of the index expected next and those of the messages held: they stand at the ends of the queue.
     pub(super) fn index_range(&self, stream: u16) -> (u64, u64)
-        requires { is_open self.now.world stream ≡ true }
-        ensures low { result.0 ≡ least (next_of self.now.world stream)
-            (map (index_of self.now.world) (held_on self.now.world stream)) }
-        ensures high { result.1 ≡ greatest (next_of self.now.world stream)
-            (map (index_of self.now.world) (held_on self.now.world stream)) }
+        requires { is_open self.now.recorded stream ≡ true }
+        ensures low { result.0 ≡ least (next_of self.now.recorded stream)
+            (map (index_of self.now.recorded) (held_on self.now.recorded stream)) }
+        ensures high { result.1 ≡ greatest (next_of self.now.recorded stream)
+            (map (index_of self.now.recorded) (held_on self.now.recorded stream)) }
     {
         let Some(next) = self.halves.next_index(stream) else {
             unreachable!()
@@ -131,9 +131,9 @@ impl<C: Checksum + Drop> Link<C> {
     // The index of the message whose fragments these are.
     pub(super) fn index_of(&self, set: &Fragments) -> u64
         requires { (s n : ℕ)
-            × (is_held self.now.world s n ≡ true) × (set.now ≡ set_of self.now.world n) }
-        ensures { (s n : ℕ) → is_held self.now.world s n ≡ true
-            → set.now ≡ set_of self.now.world n → result ≡ index_of self.now.world n }
+            × (is_held self.now.recorded s n ≡ true) × (set.now ≡ set_of self.now.recorded n) }
+        ensures { (s n : ℕ) → is_held self.now.recorded s n ≡ true
+            → set.now ≡ set_of self.now.recorded n → result ≡ index_of self.now.recorded n }
     {
         let tsn = set.fragments()[0].tsn;
         let place = tsn.wrapping_sub(self.first_tsn) as usize;
@@ -141,8 +141,8 @@ impl<C: Checksum + Drop> Link<C> {
     }
 
     fn is_new(&self, place: usize) -> bool
-        requires { place < length self.now.world.slots }
-        ensures { result ≡ is_new self.now.world place }
+        requires { place < length self.now.recorded.slots }
+        ensures { result ≡ is_new self.now.recorded place }
     {
         let cumulative = count_of(self.halves.cumulative_tsn(), self.first_tsn);
         cumulative <= place as u64 && !self.slots[place].arrived
@@ -151,11 +151,11 @@ impl<C: Checksum + Drop> Link<C> {
     /// Takes datagram k to the receiver. Refuses only for memory, and nothing changes then.
     /// Precondition: the event is not to be refused.
     pub(super) fn arrive(&mut self, k: u64) -> Result<Reply>
-        requires { refusal_of self.old.world (E.Arrive k) ≡ None }
+        requires { refusal_of self.old.recorded (E.Arrive k) ≡ None }
         ensures ok { IfOk result
-            (λ reply. IsRight self.old.world (E.Arrive k) (reply_of reply) self.new.world) }
+            (λ reply. IsRight self.old.recorded (E.Arrive k) (reply_of reply) self.new.recorded) }
         ensures checksum { self.new.checksum ≡ self.old.checksum }
-        ensures err { OnErr result (self.new.world ≡ self.old.world) }
+        ensures err { OnErr result (self.new.recorded ≡ self.old.recorded) }
         ensures memory { IsOkUnless result ErrOutOfMemory }
     {
         match &self.network[k as usize].kind {
@@ -170,13 +170,13 @@ impl<C: Checksum + Drop> Link<C> {
 
     // Takes the DATA chunks of datagram k, one after another.
     fn arrive_data(&mut self, k: u64) -> Result<Reply>
-        requires none { refusal_of self.old.world (E.Arrive k) ≡ None }
+        requires none { refusal_of self.old.recorded (E.Arrive k) ≡ None }
         requires lies { (places : List ℕ)
-            × (slice_get self.old.world.network k ≡ Some (Data places)) }
+            × (slice_get self.old.recorded.network k ≡ Some (Data places)) }
         ensures ok { IfOk result
-            (λ reply. IsRight self.old.world (E.Arrive k) (reply_of reply) self.new.world) }
+            (λ reply. IsRight self.old.recorded (E.Arrive k) (reply_of reply) self.new.recorded) }
         ensures checksum { self.new.checksum ≡ self.old.checksum }
-        ensures err { OnErr result (self.new.world ≡ self.old.world) }
+        ensures err { OnErr result (self.new.recorded ≡ self.old.recorded) }
         ensures memory { IsOkUnless result ErrOutOfMemory }
     {
         let chunks = read_data(self.alloc, &self.network[k as usize].bytes, &self.checksum)?;
@@ -193,8 +193,9 @@ impl<C: Checksum + Drop> Link<C> {
     /// Reads the next message of a stream.
     /// Precondition: the event is not to be refused.
     pub(super) fn read(&mut self, stream: u16) -> Reply
-        requires { refusal_of self.old.world (E.Read stream) ≡ None }
-        ensures right { IsRight self.old.world (E.Read stream) (reply_of result) self.new.world }
+        requires { refusal_of self.old.recorded (E.Read stream) ≡ None }
+        ensures right { IsRight self.old.recorded (E.Read stream)
+            (reply_of result) self.new.recorded }
         ensures checksum { self.new.checksum ≡ self.old.checksum }
     {
         let Some(chunks) = self.halves.read(stream) else {

@@ -3,8 +3,8 @@
 ghost use Rattle.std.specs.Prelude.{◌≡◌, ◌<◌, ◌≤◌, ◌+◌, ◌-◌, ◌^◌, ℕ, Bool, true, None, OnOk, OnErr, IfOk, IsOkUnless, length, slice_index_or};
 ghost use Rattle.std.specs.List.{list_any};
 ghost use Rattle.sctp_base.specs.declared.error.Error.TheVariants.{ErrOutOfMemory};
-ghost use Rattle.sctp_outbound.specs.payload_queue.Blocks.{covered};
-ghost use Rattle.sctp_model.specs.World.{World};
+ghost use Rattle.sctp_outbound.specs.payload_queue.Blocks.{is_in_blocks};
+ghost use Rattle.sctp_model.specs.LinkRecord.{LinkRecord};
 ghost use Rattle.sctp_link.specs.Acking.{IsMarking, IsNearer, and_run, and_blocks, in_block};
 
 use super::Link;
@@ -22,7 +22,7 @@ impl<C: Checksum + Drop> Link<C> {
 
     /// Why datagram k is not taken by the sender, if it is not.
     pub(super) fn refusal_acked(&self, k: u64) -> Option<LinkRefusal>
-        ensures { result ≡ refusal_of self.now.world (E.Acked k) }
+        ensures { result ≡ refusal_of self.now.recorded (E.Acked k) }
     {
         if k >= self.network.len() as u64 {
             return Some(LinkRefusal::NoSuchDatagram);
@@ -37,11 +37,11 @@ impl<C: Checksum + Drop> Link<C> {
     /// Takes datagram k to the sender. Refuses only for memory, and nothing changes then.
     /// Precondition: the event is not to be refused.
     pub(super) fn acked(&mut self, k: u64) -> Result<Reply>
-        requires { refusal_of self.old.world (E.Acked k) ≡ None }
+        requires { refusal_of self.old.recorded (E.Acked k) ≡ None }
         ensures ok { IfOk result
-            (λ reply. IsRight self.old.world (E.Acked k) (reply_of reply) self.new.world) }
+            (λ reply. IsRight self.old.recorded (E.Acked k) (reply_of reply) self.new.recorded) }
         ensures checksum { self.new.checksum ≡ self.old.checksum }
-        ensures err { OnErr result (self.new.world ≡ self.old.world) }
+        ensures err { OnErr result (self.new.recorded ≡ self.old.recorded) }
         ensures memory { IsOkUnless result ErrOutOfMemory }
     {
         let mut sack = read_sack(self.alloc, &self.network[k as usize].bytes, &self.checksum)?;
@@ -67,8 +67,8 @@ impl<C: Checksum + Drop> Link<C> {
 fn rebase(sack: &mut ChunkSelectiveAck, upto: u32, behind: usize)
     ensures cumulative { sack.new.cumulative_tsn_ack ≡ upto }
     ensures covers { (n : ℕ) → 0 < n
-        → covered sack.new.gap_ack_blocks.items n
-        ≡ covered sack.old.gap_ack_blocks.items (n + behind) }
+        → is_in_blocks sack.new.gap_ack_blocks.items n
+        ≡ is_in_blocks sack.old.gap_ack_blocks.items (n + behind) }
     ensures begin { (i : ℕ) (d : GapAckBlock) → i < length sack.new.gap_ack_blocks.items
         → 0 < (slice_index_or sack.new.gap_ack_blocks.items i d).start }
 {
@@ -98,7 +98,7 @@ fn less(distance: u16, behind: usize) -> u16
 /// Acknowledges the slots from one place to another, if there are any.
 fn acknowledge_run(slots: &mut [Slot], from: usize, to: usize)
     requires { from < to → to ≤ length slots.old }
-    ensures { (w : World) (acked : ℕ → Bool)
+    ensures { (w : LinkRecord) (acked : ℕ → Bool)
         → IsMarking w acked slots.old → IsMarking w (and_run acked from to) slots.new }
 {
     for place in from..to {
@@ -111,7 +111,7 @@ fn acknowledge_blocks(slots: &mut [Slot], cumulative: usize, blocks: &[GapAckBlo
     requires short { cumulative < 2 ^ 32 }
     requires within { (k : ℕ)
         → list_any (in_block cumulative k) blocks.now ≡ true → k < length slots.old }
-    ensures { (w : World) (acked : ℕ → Bool)
+    ensures { (w : LinkRecord) (acked : ℕ → Bool)
         → IsMarking w acked slots.old → IsMarking w
         (and_blocks acked cumulative blocks.now) slots.new }
 {

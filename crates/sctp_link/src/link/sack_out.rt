@@ -19,9 +19,9 @@ impl<C: Checksum + Drop> Link<C> {
     /// Makes a SACK; `credit` is in bytes. Refuses only for memory, and nothing changes then.
     pub(super) fn ack(&mut self, credit: u32) -> Result<Reply>
         ensures ok { IfOk result
-            (λ reply. IsRight self.old.world (E.Ack credit) (reply_of reply) self.new.world) }
+            (λ reply. IsRight self.old.recorded (E.Ack credit) (reply_of reply) self.new.recorded) }
         ensures checksum { self.new.checksum ≡ self.old.checksum }
-        ensures err { OnErr result (self.new.world ≡ self.old.world) }
+        ensures err { OnErr result (self.new.recorded ≡ self.old.recorded) }
         ensures memory { IsOkUnless result ErrOutOfMemory }
     {
         let sack = self.halves.make_sack(credit)?;

@@ -23,11 +23,11 @@ impl<C: Checksum + Drop> Link<C> {
     /// `now` is in nanoseconds. Refuses only for memory, and nothing changes then.
     pub(super) fn send(&mut self, now: u64) -> Result<Reply>
         ensures ok { IfOk result
-            (λ reply. IsRight self.old.world (E.Send now) (reply_of reply) self.new.world) }
+            (λ reply. IsRight self.old.recorded (E.Send now) (reply_of reply) self.new.recorded) }
         ensures checksum { self.new.checksum ≡ self.old.checksum }
-        ensures err { OnErr result (self.new.world ≡ self.old.world) }
+        ensures err { OnErr result (self.new.recorded ≡ self.old.recorded) }
         ensures memory { IsOkUnless result ErrOutOfMemory }
-        ensures wants { OnErr result (takes_memory self.old.world (E.Send now) ≡ true) }
+        ensures wants { OnErr result (takes_memory self.old.recorded (E.Send now) ≡ true) }
     {
         let Some(first) = self.halves.outbound().peek_pending() else {
             self.start(now);
@@ -65,7 +65,7 @@ impl<C: Checksum + Drop> Link<C> {
 
     /// Why a TSN is not sent again, if it is not.
     pub(super) fn refusal_resend(&self, tsn: u32) -> Option<LinkRefusal>
-        ensures { result ≡ refusal_of self.now.world (E.Resend tsn) }
+        ensures { result ≡ refusal_of self.now.recorded (E.Resend tsn) }
     {
         let place = tsn.wrapping_sub(self.first_tsn) as usize;
         if place < self.taken || place >= self.slots.len() || self.is_cleared(place) {
@@ -76,8 +76,8 @@ impl<C: Checksum + Drop> Link<C> {
 
     // Whether a slot is acknowledged or its message abandoned: then it is not sent again.
     fn is_cleared(&self, place: usize) -> bool
-        requires { place < length self.now.world.slots }
-        ensures { result ≡ is_cleared self.now.world place }
+        requires { place < length self.now.recorded.slots }
+        ensures { result ≡ is_cleared self.now.recorded place }
     {
         let slot = &self.slots[place];
         slot.acknowledged || self.messages[slot.message as usize].abandoned
@@ -86,11 +86,11 @@ impl<C: Checksum + Drop> Link<C> {
     /// Sends the chunk of a TSN again. Refuses only for memory, and nothing changes then.
     /// Precondition: the event is not to be refused.
     pub(super) fn resend(&mut self, tsn: u32) -> Result<Reply>
-        requires { refusal_of self.old.world (E.Resend tsn) ≡ None }
+        requires { refusal_of self.old.recorded (E.Resend tsn) ≡ None }
         ensures ok { IfOk result
-            (λ reply. IsRight self.old.world (E.Resend tsn) (reply_of reply) self.new.world) }
+            (λ reply. IsRight self.old.recorded (E.Resend tsn) (reply_of reply) self.new.recorded) }
         ensures checksum { self.new.checksum ≡ self.old.checksum }
-        ensures err { OnErr result (self.new.world ≡ self.old.world) }
+        ensures err { OnErr result (self.new.recorded ≡ self.old.recorded) }
         ensures memory { IsOkUnless result ErrOutOfMemory }
     {
         let Some(chunk) = self.halves.outbound().get(tsn) else {

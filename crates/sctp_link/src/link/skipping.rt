@@ -14,21 +14,22 @@ use sctp_base::util::Checksum;
 use sctp_chunks::chunk::chunk_forward_tsn::ChunkForwardTsn;
 
 impl<C: Checksum + Drop> Link<C> {
-    ghost use Rattle.sctp_model.specs.World.{Forward, StreamRecord};
+    ghost use Rattle.sctp_model.specs.LinkRecord.{Forward, StreamRecord};
     ghost use Rattle.sctp_chunks.specs.ForwardTsn.{forward_tsn_of};
     ghost use Rattle.sctp_model.specs.Messages.{is_open};
     ghost use Rattle.sctp_model.specs.Receiver.{held_on};
-    ghost use Rattle.sctp_model.specs.Changes.{skip_counts, skip_received};
+    ghost use Rattle.sctp_model.specs.Changes.{skip_counts, receive_skip};
     ghost use Rattle.sctp_model.specs.Steps.{IsRight, refusal_of, arrival_fits};
     ghost use Rattle.sctp_model.specs.declared.event.Event.TheVariants as E;
-    ghost use Rattle.sctp_refinement.specs.Naming.{names_fit, whole_first, min_with};
+    ghost use Rattle.sctp_refinement.specs.Naming.{names_fit, complete_first, min_with};
     ghost use Rattle.sctp_link.specs.Replies.{reply_of};
     ghost use Rattle.sctp_link.specs.Skips.{wire_skip};
 
     // Whether stream sequence numbers can be told apart before a skip and after it (RFC 4960 6.5).
     pub(super) fn skip_fits(&self, upto: u64, names: &[u64]) -> bool
-        requires { (k : ℕ) × (slice_get self.now.world.network k ≡ Some (Forward upto names.now)) }
-        ensures { result ≡ arrival_fits self.now.world (Some (Forward upto names.now)) }
+        requires { (k : ℕ) × (slice_get self.now.recorded.network k
+            ≡ Some (Forward upto names.now)) }
+        ensures { result ≡ arrival_fits self.now.recorded (Some (Forward upto names.now)) }
     {
         let cumulative = count_of(self.halves.cumulative_tsn(), self.first_tsn);
         if cumulative > upto {
@@ -39,9 +40,11 @@ impl<C: Checksum + Drop> Link<C> {
 
     // So on each open stream.
     fn names_fit(&self, upto: u64, names: &[u64]) -> bool
-        requires { (k : ℕ) × (slice_get self.now.world.network k ≡ Some (Forward upto names.now)) }
+        requires { (k : ℕ) × (slice_get self.now.recorded.network k
+            ≡ Some (Forward upto names.now)) }
         ensures { result
-            ≡ list_all (λ r. names_fit self.now.world r.stream names.now) self.now.world.streams }
+            ≡ list_all (λ r. names_fit self.now.recorded r.stream names.now)
+            self.now.recorded.streams }
     {
         for at in 0..self.halves.stream_count() {
             if !self.stream_fits(at, upto, names) {
@@ -53,11 +56,11 @@ impl<C: Checksum + Drop> Link<C> {
 
     // On the stream at a place, from the ends of what is held and of what is named.
     fn stream_fits(&self, at: usize, upto: u64, names: &[u64]) -> bool
-        requires inside { at < length self.now.world.streams }
+        requires inside { at < length self.now.recorded.streams }
         requires lies { (k : ℕ)
-            × (slice_get self.now.world.network k ≡ Some (Forward upto names.now)) }
-        ensures { (r : StreamRecord) → slice_get self.now.world.streams at ≡ Some r
-            → result ≡ names_fit self.now.world r.stream names.now }
+            × (slice_get self.now.recorded.network k ≡ Some (Forward upto names.now)) }
+        ensures { (r : StreamRecord) → slice_get self.now.recorded.streams at ≡ Some r
+            → result ≡ names_fit self.now.recorded r.stream names.now }
     {
         let stream = self.halves.stream_at(at);
         let named = named_on(&self.messages, stream, names);
@@ -69,11 +72,11 @@ impl<C: Checksum + Drop> Link<C> {
         named.end < span || named.end - 0x8000 < self.least_left(stream, named.low)
     }
 
-    // The lesser of an index and that of the first message held, where it is whole: no skip gives that up.
+    // The lesser of an index and that of the first message held, where it is complete: no skip gives that up.
     fn least_left(&self, stream: u16, low: u64) -> u64
-        requires { is_open self.now.world stream ≡ true }
+        requires { is_open self.now.recorded stream ≡ true }
         ensures { result
-            ≡ min_with (whole_first self.now.world (held_on self.now.world stream)) low }
+            ≡ min_with (complete_first self.now.recorded (held_on self.now.recorded stream)) low }
     {
         let Some(queue) = self.halves.reassembly(stream) else {
             unreachable!()
@@ -90,13 +93,13 @@ impl<C: Checksum + Drop> Link<C> {
 
     // Takes the FORWARD-TSN of datagram k, which goes up to this slot.
     pub(super) fn arrive_skip(&mut self, k: u64, upto: u64) -> Result<Reply>
-        requires none { refusal_of self.old.world (E.Arrive k) ≡ None }
+        requires none { refusal_of self.old.recorded (E.Arrive k) ≡ None }
         requires lies { (names : List ℕ)
-            × (slice_get self.old.world.network k ≡ Some (Forward upto names)) }
+            × (slice_get self.old.recorded.network k ≡ Some (Forward upto names)) }
         ensures ok { IfOk result
-            (λ reply. IsRight self.old.world (E.Arrive k) (reply_of reply) self.new.world) }
+            (λ reply. IsRight self.old.recorded (E.Arrive k) (reply_of reply) self.new.recorded) }
         ensures checksum { self.new.checksum ≡ self.old.checksum }
-        ensures err { OnErr result (self.new.world ≡ self.old.world) }
+        ensures err { OnErr result (self.new.recorded ≡ self.old.recorded) }
         ensures memory { IsOkUnless result ErrOutOfMemory }
     {
         let chunk = read_forward_tsn(self.alloc, &self.network[k as usize].bytes, &self.checksum)?;
@@ -110,15 +113,16 @@ impl<C: Checksum + Drop> Link<C> {
 
     // Follows a skip that counts, which this chunk says. It takes no memory.
     fn follow(&mut self, k: u64, upto: u64, chunk: &ChunkForwardTsn)
-        requires none { refusal_of self.old.world (E.Arrive k) ≡ None }
+        requires none { refusal_of self.old.recorded (E.Arrive k) ≡ None }
         requires lies { (names : List ℕ)
-            × (slice_get self.old.world.network k ≡ Some (Forward upto names)) }
-        requires counts { skip_counts self.old.world upto ≡ true }
-        requires says { (names : List ℕ) → slice_get self.old.world.network k
+            × (slice_get self.old.recorded.network k ≡ Some (Forward upto names)) }
+        requires counts { skip_counts self.old.recorded upto ≡ true }
+        requires says { (names : List ℕ) → slice_get self.old.recorded.network k
             ≡ Some (Forward upto names)
-            → forward_tsn_of chunk.now ≡ wire_skip self.old.world upto names }
-        ensures followed { (names : List ℕ) → slice_get self.old.world.network k
-            ≡ Some (Forward upto names) → self.new.world ≡ skip_received self.old.world upto names }
+            → forward_tsn_of chunk.now ≡ wire_skip self.old.recorded upto names }
+        ensures followed { (names : List ℕ) → slice_get self.old.recorded.network k
+            ≡ Some (Forward upto names) → self.new.recorded
+            ≡ receive_skip self.old.recorded upto names }
         ensures checksum { self.new.checksum ≡ self.old.checksum }
     {
         let Kind::Forward { messages, .. } = &self.network[k as usize].kind else {

@@ -23,11 +23,12 @@ impl<C: Checksum + Drop> Link<C> {
     /// Opens a stream. Refuses only for memory, and nothing changes then.
     /// Precondition: the event is not to be refused.
     pub(super) fn open(&mut self, stream: u16) -> Result<Reply>
-        requires { refusal_of self.old.world (E.Open stream) ≡ None }
+        requires { refusal_of self.old.recorded (E.Open stream) ≡ None }
         ensures ok { IfOk result
-            (λ reply. IsRight self.old.world (E.Open stream) (reply_of reply) self.new.world) }
+            (λ reply. IsRight self.old.recorded (E.Open stream)
+            (reply_of reply) self.new.recorded) }
         ensures checksum { self.new.checksum ≡ self.old.checksum }
-        ensures err { OnErr result (self.new.world ≡ self.old.world) }
+        ensures err { OnErr result (self.new.recorded ≡ self.old.recorded) }
         ensures memory { IsOkUnless result ErrOutOfMemory }
     {
         self.halves.open(stream)?;
@@ -43,9 +44,9 @@ impl<C: Checksum + Drop> Link<C> {
         reliability: ReliabilityType,
         value: u32,
     ) -> Reply
-        requires { refusal_of self.old.world (E.Mode stream unordered reliability value) ≡ None }
-        ensures right { IsRight self.old.world
-            (E.Mode stream unordered reliability value) (reply_of result) self.new.world }
+        requires { refusal_of self.old.recorded (E.Mode stream unordered reliability value) ≡ None }
+        ensures right { IsRight self.old.recorded
+            (E.Mode stream unordered reliability value) (reply_of result) self.new.recorded }
         ensures checksum { self.new.checksum ≡ self.old.checksum }
     {
         self.halves.set_mode(stream, unordered, reliability, value);
@@ -55,7 +56,8 @@ impl<C: Checksum + Drop> Link<C> {
     /// Why a write of `len` bytes is refused, if it is.
     pub(super) fn refusal_write(&self, stream: u16, len: usize) -> Option<LinkRefusal>
         ensures { (ppi : PayloadProtocolIdentifier) (bytes : List ℕ)
-            → len ≡ length bytes → result ≡ refusal_of self.now.world (E.Write stream ppi bytes) }
+            → len ≡ length bytes → result
+            ≡ refusal_of self.now.recorded (E.Write stream ppi bytes) }
     {
         if !self.is_open(stream) {
             return Some(LinkRefusal::StreamUnknown);
@@ -78,13 +80,14 @@ impl<C: Checksum + Drop> Link<C> {
         ppi: PayloadProtocolIdentifier,
         bytes: Bytes,
     ) -> Result<Reply>
-        requires { refusal_of self.old.world (E.Write stream ppi bytes) ≡ None }
+        requires { refusal_of self.old.recorded (E.Write stream ppi bytes) ≡ None }
         ensures ok { IfOk result (λ reply.
-            IsRight self.old.world (E.Write stream ppi bytes) (reply_of reply) self.new.world) }
+            IsRight self.old.recorded (E.Write stream ppi bytes)
+            (reply_of reply) self.new.recorded) }
         ensures checksum { self.new.checksum ≡ self.old.checksum }
-        ensures err { OnErr result (self.new.world ≡ self.old.world) }
+        ensures err { OnErr result (self.new.recorded ≡ self.old.recorded) }
         ensures memory { IsOkUnless result ErrOutOfMemory }
-        ensures wants { OnErr result (takes_memory self.old.world (E.Write stream ppi bytes)
+        ensures wants { OnErr result (takes_memory self.old.recorded (E.Write stream ppi bytes)
             ≡ true) }
     {
         if bytes.is_empty() {
@@ -112,7 +115,8 @@ impl<C: Checksum + Drop> Link<C> {
 
     /// Starts the lifetimes of the messages written since the last time; `now` is in nanoseconds.
     pub(super) fn start(&mut self, now: u64) -> Reply
-        ensures right { IsRight self.old.world (E.Start now) (reply_of result) self.new.world }
+        ensures right { IsRight self.old.recorded (E.Start now)
+            (reply_of result) self.new.recorded }
         ensures checksum { self.new.checksum ≡ self.old.checksum }
     {
         self.halves.start(now);
@@ -156,8 +160,8 @@ pub(super) fn fragments_in(len: usize, size: usize) -> usize
         → len ≡ length bytes → result ≡ length (pieces (length bytes) size bytes) }
     ensures short { result ≤ len }
 {
-    let whole = len / size;
-    if len % size == 0 { whole } else { whole + 1 }
+    let full = len / size;
+    if len % size == 0 { full } else { full + 1 }
 }
 
 /// Starts the lifetimes of the messages from a place on; `now` is in nanoseconds.

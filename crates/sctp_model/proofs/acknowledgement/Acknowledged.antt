@@ -5,21 +5,21 @@ use Rattle.std.proofs.Math.Path.{subst}
 use Rattle.std.proofs.Math.Nat.{eq-or-lt_of_le}
 use Rattle.std.proofs.lemmas.Bool.{cases_lt}
 use Rattle.std.proofs.lemmas.Bool.Decides.{nat_tests}
-use Rattle.sctp_list_lemmas.specs.Kept.{kept, runs_of, joined, numbers_from}
-use Rattle.sctp_list_lemmas.specs.Lists.{changed}
+use Rattle.sctp_list_lemmas.specs.Kept.{numbers_where, runs_of, put_before_runs, numbers_from}
+use Rattle.sctp_list_lemmas.specs.Lists.{change_at}
 use Rattle.sctp_list_lemmas.proofs.Passing.{kept-same}
 use Rattle.sctp_list_lemmas.proofs.More.{fails, not_both, both, and, changed-keeps, length-changed}
 use Rattle.sctp_model.specs.declared.event.Event.{Event}
 use Rattle.sctp_model.specs.declared.event.Event.TheVariants as E
 use Rattle.sctp_model.specs.Reply.{Reply}
-use Rattle.sctp_model.specs.World.{Setup, Datagram, Data, Forward, Sack, World}
+use Rattle.sctp_model.specs.LinkRecord.{Setup, Datagram, Data, Forward, Sack, LinkRecord}
 use Rattle.sctp_model.specs.Messages
 use Rattle.sctp_model.specs.Receiver.{arrived_at, cumulative, is_new, next_read}
 use Rattle.sctp_model.specs.Changes
 use Rattle.sctp_model.specs.Reports.{report_of, reports, distances, gap_blocks}
 use Rattle.sctp_model.specs.Log
 use Rattle.sctp_model.specs.Log.{LogEntry, SlotReceived, SkipReceived, SackMade, is_seen, arrived_new, is_skipped, seen_count, duplicates_in, log_of, made_in, Made, MadeData, MadeForward, MadeSack, is_acknowledged_in, taken_in, reported_by}
-use Rattle.sctp_model.specs.Steps.{History, world_of, IsRun, after}
+use Rattle.sctp_model.specs.Steps.{History, record_of, IsRun, after}
 use Rattle.sctp_model.specs.Contents.{SackContents, cumulative_tsn, contents_in}
 use Rattle.sctp_model.specs.Laws.{IsSetup, OnEveryRun, AcknowledgedArrived, AcknowledgedIsReported, SacksSay, blocks_by}
 use Rattle.sctp_model.proofs.receiver.Arrivals.{Heard, heard-run, seen_by, seen-below, arrived-beyond, cumulative_is_seen}
@@ -75,7 +75,7 @@ in-runs c p (d ∷ ds) e = by_rest (runs_of ds) refl e (λ h. in-runs c p ds h)
         side l y (inl z) = here z
         side l y (inr z) = let q : c + b.0 ≤ p + 1 = omega (arith, s) in later (ih (and (nat_le (c + b.0) (p + 1)) (nat_le (p + 1) (c + b.1)) (grind (arith, nat_tests)) y))
 
-    by_rest : (bs : List (ℕ × ℕ)) → runs_of ds ≡ bs → list_any (covers c p) (joined d bs) ≡ true → (list_any (covers c p) bs ≡ true → Hit c p ds) → Hit c p (d ∷ ds)
+    by_rest : (bs : List (ℕ × ℕ)) → runs_of ds ≡ bs → list_any (covers c p) (put_before_runs d bs) ≡ true → (list_any (covers c p) bs ≡ true → Hit c p ds) → Hit c p (d ∷ ds)
     by_rest [] f e ih = side (or-split (covers c p (d, d)) false e)
       where
         side : (covers c p (d, d) ≡ true) ⊎ (false ≡ true) → Hit c p (d ∷ ds)
@@ -105,20 +105,20 @@ in-runs c p (d ∷ ds) e = by_rest (runs_of ds) refl e (λ h. in-runs c p ds h)
         step true s e = joint (grind (arith, nat_tests)) (or-split (covers c p (d, b.1)) (list_any (covers c p) bs) e)
         step false s e = apart (or-split (covers c p (d, d)) (covers c p b || list_any (covers c p) bs) e)
 
-any-kept : (q : ℕ → Bool) (d from count : ℕ) → list_any (λ k. k == d) (kept q from count) ≡ true → q d ≡ true
+any-kept : (q : ℕ → Bool) (d from count : ℕ) → list_any (λ k. k == d) (numbers_where q from count) ≡ true → q d ≡ true
 any-kept q d from zero e = cc
 any-kept q d from (suc count) e = step (q from) refl e (λ h. any-kept q d (from + 1) count h)
   where
-    step : (b : Bool) → q from ≡ b → list_any (λ k. k == d) (if b then from ∷ kept q (from + 1) count else kept q (from + 1) count) ≡ true → (list_any (λ k. k == d) (kept q (from + 1) count) ≡ true → q d ≡ true) → q d ≡ true
-    step true f e ih = side (or-split (from == d) (list_any (λ k. k == d) (kept q (from + 1) count)) e)
+    step : (b : Bool) → q from ≡ b → list_any (λ k. k == d) (if b then from ∷ numbers_where q (from + 1) count else numbers_where q (from + 1) count) ≡ true → (list_any (λ k. k == d) (numbers_where q (from + 1) count) ≡ true → q d ≡ true) → q d ≡ true
+    step true f e ih = side (or-split (from == d) (list_any (λ k. k == d) (numbers_where q (from + 1) count)) e)
       where
-        side : ((from == d) ≡ true) ⊎ (list_any (λ k. k == d) (kept q (from + 1) count) ≡ true) → q d ≡ true
+        side : ((from == d) ≡ true) ⊎ (list_any (λ k. k == d) (numbers_where q (from + 1) count) ≡ true) → q d ≡ true
         side (inl h) = let z : from ≡ d = grind (arith, nat_tests) in ap q (sym z) ∙ f
         side (inr h) = ih h
     step false f e ih = ih e
 
 -- what the next SACK reports was seen
-report-seen : (w : World) (credit p : ℕ) → reports (report_of w credit) p ≡ true → seen_by w p ≡ true
+report-seen : (w : LinkRecord) (credit p : ℕ) → reports (report_of w credit) p ≡ true → seen_by w p ≡ true
 report-seen w credit p e = step (or-split (nat_lt p (cumulative w)) (list_any (covers (cumulative w) p) (gap_blocks w)) e)
   where
     step : (nat_lt p (cumulative w) ≡ true) ⊎ (list_any (covers (cumulative w) p) (gap_blocks w) ≡ true) → seen_by w p ≡ true
@@ -194,52 +194,52 @@ sack-at log [] k d f e = cc
 sack-at log (c ∷ ds) zero d f e = let z : c ≡ d = cc in subst (SackFits log) z f.0
 sack-at log (c ∷ ds) (suc k) d f e = sack-at log ds k d f.1 e
 
-sacks-sent : (log : List LogEntry) (w : World) (now : ℕ) (o : Option ℕ) → SacksFit log w.network → SacksFit log (Changes.sent_from (Changes.started w now) o).network
+sacks-sent : (log : List LogEntry) (w : LinkRecord) (now : ℕ) (o : Option ℕ) → SacksFit log w.network → SacksFit log (Changes.send_from (Changes.after_start w now) o).network
 sacks-sent log w now None f = f
 sacks-sent log w now (Some n) f =
-    let u = Changes.started w now in
-    let v = Changes.fragments_sent u in
+    let u = Changes.after_start w now in
+    let v = Changes.send_fragments u in
     sacks-append log v.network (Data (numbers_from (length u.slots) (length v.slots - length u.slots)) ∷ []) (subst (SacksFit log) (sym (Network.same-network u)) f) (tt, tt)
 
-sacks-after : (setup : Setup) (older : History) (e : Event) (log : List LogEntry) → ((p : ℕ) → seen_by (world_of setup older) p ≡ true → is_seen log p ≡ true) → SacksFit log (world_of setup older).network → SacksFit log (after (world_of setup older) e).network
+sacks-after : (setup : Setup) (older : History) (e : Event) (log : List LogEntry) → ((p : ℕ) → seen_by (record_of setup older) p ≡ true → is_seen log p ≡ true) → SacksFit log (record_of setup older).network → SacksFit log (after (record_of setup older) e).network
 sacks-after setup older (E.Open s) log h f = f
 sacks-after setup older (E.Mode s u v x) log h f = f
-sacks-after setup older (E.Write s x y) log h f = subst (SacksFit log) (sym (Network.network-written (world_of setup older) s x y)) f
+sacks-after setup older (E.Write s x y) log h f = subst (SacksFit log) (sym (Network.network-written (record_of setup older) s x y)) f
 sacks-after setup older (E.Start x) log h f = f
-sacks-after setup older (E.Send now) log h f = sacks-sent log (world_of setup older) now (Messages.front (world_of setup older)) f
-sacks-after setup older (E.Resend tsn) log h f = sacks-append log (world_of setup older).network (Data (Messages.place_of (world_of setup older) tsn ∷ []) ∷ []) f (tt, tt)
-sacks-after setup older (E.Expire now) log h f = subst (SacksFit log) (sym (Network.network-expired (world_of setup older) (Changes.expiring (world_of setup older) now))) f
-sacks-after setup older (E.Tail now) log h f = subst (SacksFit log) (sym (Network.network-tail (world_of setup older) (Changes.tailing (world_of setup older) now))) f
-sacks-after setup older (E.Late now) log h f = subst (SacksFit log) (sym (Network.network-late (Changes.late_messages (world_of setup older) now) (world_of setup older))) f
-sacks-after setup older (E.Abandon tsn) log h f = subst (SacksFit log) (sym (Network.network-abandoned (world_of setup older) (Messages.message_of (world_of setup older) (Messages.place_of (world_of setup older) tsn)))) f
-sacks-after setup older (E.Skip upto names) log h f = sacks-append log (world_of setup older).network (Forward (Messages.place_of (world_of setup older) upto) names.items ∷ []) f (tt, tt)
-sacks-after setup older (E.Ack credit) log h f = sacks-append log (world_of setup older).network (Sack (report_of (world_of setup older) credit) ∷ []) f (λ p e. h p (report-seen (world_of setup older) credit p e), tt)
-sacks-after setup older (E.Arrive k) log h f = subst (SacksFit log) (sym (Network.same-received (world_of setup older) (slice_get (world_of setup older).network k)).network) f
-sacks-after setup older (E.Acked k) log h f = subst (SacksFit log) (sym (Network.same-taken (world_of setup older) (slice_get (world_of setup older).network k)).network) f
-sacks-after setup older (E.Read s) log h f = subst (SacksFit log) (sym (Network.same-read (world_of setup older) s (next_read (world_of setup older) s)).network) f
+sacks-after setup older (E.Send now) log h f = sacks-sent log (record_of setup older) now (Messages.front (record_of setup older)) f
+sacks-after setup older (E.Resend tsn) log h f = sacks-append log (record_of setup older).network (Data (Messages.place_of (record_of setup older) tsn ∷ []) ∷ []) f (tt, tt)
+sacks-after setup older (E.Expire now) log h f = subst (SacksFit log) (sym (Network.network-expired (record_of setup older) (Changes.expiring (record_of setup older) now))) f
+sacks-after setup older (E.Tail now) log h f = subst (SacksFit log) (sym (Network.network-tail (record_of setup older) (Changes.tailing (record_of setup older) now))) f
+sacks-after setup older (E.Late now) log h f = subst (SacksFit log) (sym (Network.network-late (Changes.late_messages (record_of setup older) now) (record_of setup older))) f
+sacks-after setup older (E.Abandon tsn) log h f = subst (SacksFit log) (sym (Network.network-abandoned (record_of setup older) (Messages.message_of (record_of setup older) (Messages.place_of (record_of setup older) tsn)))) f
+sacks-after setup older (E.Skip upto names) log h f = sacks-append log (record_of setup older).network (Forward (Messages.place_of (record_of setup older) upto) names.items ∷ []) f (tt, tt)
+sacks-after setup older (E.Ack credit) log h f = sacks-append log (record_of setup older).network (Sack (report_of (record_of setup older) credit) ∷ []) f (λ p e. h p (report-seen (record_of setup older) credit p e), tt)
+sacks-after setup older (E.Arrive k) log h f = subst (SacksFit log) (sym (Network.same-received (record_of setup older) (slice_get (record_of setup older).network k)).network) f
+sacks-after setup older (E.Acked k) log h f = subst (SacksFit log) (sym (Network.same-taken (record_of setup older) (slice_get (record_of setup older).network k)).network) f
+sacks-after setup older (E.Read s) log h f = subst (SacksFit log) (sym (Network.same-read (record_of setup older) s (next_read (record_of setup older) s)).network) f
 
-pub sacks-run : (setup : Setup) (h : History) → IsSetup setup → IsRun setup h → SacksFit (log_of setup h) (world_of setup h).network
+pub sacks-run : (setup : Setup) (h : History) → IsSetup setup → IsRun setup h → SacksFit (log_of setup h) (record_of setup h).network
 sacks-run setup [] is run = tt
 sacks-run setup (entry ∷ older) is run =
     let g = heard-run setup older is run.1.1 in
     sacks-after setup older entry.0 (log_of setup (entry ∷ older)) (λ p e. seen-stays setup older entry.0 entry.1 p (g.seen p ∙ e))
-    (sacks-more (log_of setup older) (log_of setup (entry ∷ older)) (λ p e. seen-stays setup older entry.0 entry.1 p e) (world_of setup older).network (sacks-run setup older is run.1.1))
+    (sacks-more (log_of setup older) (log_of setup (entry ∷ older)) (λ p e. seen-stays setup older entry.0 entry.1 p e) (record_of setup older).network (sacks-run setup older is run.1.1))
 
 -- ## What is acknowledged was seen
 
 seen-acknowledged : (setup : Setup) (h : History) (p : ℕ) → IsSetup setup → IsRun setup h → is_acknowledged_in setup h p ≡ true → is_seen (log_of setup h) p ≡ true
 seen-acknowledged setup [] p is run e = cc
-seen-acknowledged setup ((E.Acked k, r) ∷ older) p is run e = step (slice_get (world_of setup older).network k) refl (or-split (is_acknowledged_in setup older p) (reported_by (slice_get (world_of setup older).network k) p) e) (λ h. seen-acknowledged setup older p is run.1.1 h)
+seen-acknowledged setup ((E.Acked k, r) ∷ older) p is run e = step (slice_get (record_of setup older).network k) refl (or-split (is_acknowledged_in setup older p) (reported_by (slice_get (record_of setup older).network k) p) e) (λ h. seen-acknowledged setup older p is run.1.1 h)
   where
-    new : (o : Option Datagram) → slice_get (world_of setup older).network k ≡ o → reported_by o p ≡ true → is_seen (log_of setup older) p ≡ true
+    new : (o : Option Datagram) → slice_get (record_of setup older).network k ≡ o → reported_by o p ≡ true → is_seen (log_of setup older) p ≡ true
     new None f e = cc
     new (Some (Data ps)) f e = cc
     new (Some (Forward upto names)) f e = cc
-    new (Some (Sack r)) f e = sack-at (log_of setup older) (world_of setup older).network k (Sack r) (sacks-run setup older is run.1.1) f p e
+    new (Some (Sack r)) f e = sack-at (log_of setup older) (record_of setup older).network k (Sack r) (sacks-run setup older is run.1.1) f p e
 
-    step : (o : Option Datagram) → slice_get (world_of setup older).network k ≡ o → (is_acknowledged_in setup older p ≡ true) ⊎ (reported_by (slice_get (world_of setup older).network k) p ≡ true) → (is_acknowledged_in setup older p ≡ true → is_seen (log_of setup older) p ≡ true) → is_seen (log_of setup older) p ≡ true
+    step : (o : Option Datagram) → slice_get (record_of setup older).network k ≡ o → (is_acknowledged_in setup older p ≡ true) ⊎ (reported_by (slice_get (record_of setup older).network k) p ≡ true) → (is_acknowledged_in setup older p ≡ true → is_seen (log_of setup older) p ≡ true) → is_seen (log_of setup older) p ≡ true
     step o f (inl h) ih = ih h
-    step o f (inr h) ih = new (slice_get (world_of setup older).network k) refl h
+    step o f (inr h) ih = new (slice_get (record_of setup older).network k) refl h
 seen-acknowledged setup ((E.Arrive k, r) ∷ older) p is run e = seen-stays setup older (E.Arrive k) r p (seen-acknowledged setup older p is run.1.1 e)
 seen-acknowledged setup ((E.Open s, r) ∷ older) p is run e = seen-acknowledged setup older p is run.1.1 e
 seen-acknowledged setup ((E.Mode s u v x, r) ∷ older) p is run e = seen-acknowledged setup older p is run.1.1 e
@@ -256,7 +256,7 @@ seen-acknowledged setup ((E.Ack x, r) ∷ older) p is run e = seen-acknowledged 
 seen-acknowledged setup ((E.Read x, r) ∷ older) p is run e = seen-acknowledged setup older p is run.1.1 e
 
 -- what was seen was made
-pub seen-made : (w : World) (log : List LogEntry) (p : ℕ) → Heard w log → is_seen log p ≡ true → p < length w.slots
+pub seen-made : (w : LinkRecord) (log : List LogEntry) (p : ℕ) → Heard w log → is_seen log p ≡ true → p < length w.slots
 seen-made w log p g e = step (or-split (nat_lt p w.skipped) (arrived_at w p) (sym (g.seen p) ∙ e)) (cases_lt p (length w.slots))
   where
     step : (nat_lt p w.skipped ≡ true) ⊎ (arrived_at w p ≡ true) → (p < length w.slots) ⊎ (length w.slots ≤ p) → p < length w.slots
@@ -268,9 +268,9 @@ pub acknowledged_arrived : OnEveryRun AcknowledgedArrived
 acknowledged_arrived setup h is run p e =
     let g = heard-run setup h is run in
     let s = seen-acknowledged setup h p is run e in (
-      seen-made (world_of setup h) (log_of setup h) p g s,
-      ap (λ b. b || is_skipped (log_of setup h) p) (sym (g.arrived p)) ∙ ap (λ b. arrived_at (world_of setup h) p || b) (g.covered p)
-          ∙ swapped (arrived_at (world_of setup h) p) (nat_lt p (world_of setup h).skipped) (sym (g.seen p) ∙ s),
+      seen-made (record_of setup h) (log_of setup h) p g s,
+      ap (λ b. b || is_skipped (log_of setup h) p) (sym (g.arrived p)) ∙ ap (λ b. arrived_at (record_of setup h) p || b) (g.covered p)
+          ∙ swapped (arrived_at (record_of setup h) p) (nat_lt p (record_of setup h).skipped) (sym (g.seen p) ∙ s),
     )
   where
     swapped : (a b : Bool) → (b || a) ≡ true → (a || b) ≡ true
@@ -280,11 +280,11 @@ acknowledged_arrived setup h is run p e =
 
 -- ## What is acknowledged is what the SACKs taken report
 
-record Acks (setup : Setup) (h : History) (w : World) : Type 0 where
+record Acks (setup : Setup) (h : History) (w : LinkRecord) : Type 0 where
   slots : (p : ℕ) → p < length w.slots → (Messages.slot_at w p).acknowledged ≡ is_acknowledged_in setup h p
   taken : w.taken ≡ taken_in setup h
 
-acks-quiet : (setup : Setup) (h : History) (w v : World) → Moves.Quiet w v → ((p : ℕ) → is_acknowledged_in setup h p ≡ true → p < length w.slots) → Acks setup h w → Acks setup h v
+acks-quiet : (setup : Setup) (h : History) (w v : LinkRecord) → Moves.Quiet w v → ((p : ℕ) → is_acknowledged_in setup h p ≡ true → p < length w.slots) → Acks setup h w → Acks setup h v
 acks-quiet setup h w v q made a = record { slots = λ p lt. step p lt (cases_lt p (length w.slots)); taken = q.taken ∙ a.taken }
   where
     step : (p : ℕ) → p < length v.slots → (p < length w.slots) ⊎ (length w.slots ≤ p) → (Messages.slot_at v p).acknowledged ≡ is_acknowledged_in setup h p
@@ -292,34 +292,34 @@ acks-quiet setup h w v q made a = record { slots = λ p lt. step p lt (cases_lt 
     step p lt (inr g) = q.fresh p g lt ∙ sym (fails (is_acknowledged_in setup h p) (λ e. absurd (omega (arith, made p e))))
 
 -- the receiver's events acknowledge nothing
-pub record AsAcknowledged (w v : World) : Type 0 where
+pub record AsAcknowledged (w v : LinkRecord) : Type 0 where
   pub slots : (p : ℕ) → (Messages.slot_at v p).acknowledged ≡ (Messages.slot_at w p).acknowledged
   pub count : length v.slots ≡ length w.slots
   pub taken : v.taken ≡ w.taken
 
-acks-same : (setup : Setup) (h : History) (w v : World) → AsAcknowledged w v → Acks setup h w → Acks setup h v
+acks-same : (setup : Setup) (h : History) (w v : LinkRecord) → AsAcknowledged w v → Acks setup h w → Acks setup h v
 acks-same setup h w v s a = record { slots = λ p lt. s.slots p ∙ a.slots p (omega (arith, s.count)); taken = s.taken ∙ a.taken }
 
-as-received : (w : World) (p : ℕ) → AsAcknowledged w (Changes.slot_received w p)
+as-received : (w : LinkRecord) (p : ℕ) → AsAcknowledged w (Changes.receive_slot w p)
 as-received w p = step (is_new w p)
   where
-    noted : (v : World) (n : ℕ) → AsAcknowledged w v → AsAcknowledged w (Changes.whole_noted v n)
-    noted v n a = by_whole (Changes.becomes_whole v n)
+    noted : (v : LinkRecord) (n : ℕ) → AsAcknowledged w v → AsAcknowledged w (Changes.note_completion v n)
+    noted v n a = by_complete (Changes.becomes_complete v n)
       where
-        by_whole : (b : Bool) → AsAcknowledged w (if b then Changes.stream_changed v (Messages.message_at v n).stream (Changes.with_whole n) else v)
-        by_whole true = record { slots = a.slots; count = a.count; taken = a.taken }
-        by_whole false = a
+        by_complete : (b : Bool) → AsAcknowledged w (if b then Changes.stream_changed v (Messages.message_at v n).stream (Changes.with_complete n) else v)
+        by_complete true = record { slots = a.slots; count = a.count; taken = a.taken }
+        by_complete false = a
 
-    step : (b : Bool) → AsAcknowledged w (if b then Changes.whole_noted (record w { slots = changed Changes.mark_arrived p w.slots }) (Messages.message_of w p) else record w { duplicates = w.duplicates ++ p ∷ [] })
-    step true = noted (record w { slots = changed Changes.mark_arrived p w.slots }) (Messages.message_of w p) (record { slots = λ k. changed-keeps Changes.mark_arrived (λ x. x.acknowledged) (λ x. refl) p k w.slots Messages.no_slot; count = length-changed Changes.mark_arrived p w.slots; taken = refl })
+    step : (b : Bool) → AsAcknowledged w (if b then Changes.note_completion (record w { slots = change_at Changes.mark_arrived p w.slots }) (Messages.message_of w p) else record w { duplicates = w.duplicates ++ p ∷ [] })
+    step true = noted (record w { slots = change_at Changes.mark_arrived p w.slots }) (Messages.message_of w p) (record { slots = λ k. changed-keeps Changes.mark_arrived (λ x. x.acknowledged) (λ x. refl) p k w.slots Messages.no_slot; count = length-changed Changes.mark_arrived p w.slots; taken = refl })
     step false = record { slots = λ k. refl; count = refl; taken = refl }
 
-as-then : (w v u : World) → AsAcknowledged w v → AsAcknowledged v u → AsAcknowledged w u
+as-then : (w v u : LinkRecord) → AsAcknowledged w v → AsAcknowledged v u → AsAcknowledged w u
 as-then w v u f g = record { slots = λ p. g.slots p ∙ f.slots p; count = g.count ∙ f.count; taken = g.taken ∙ f.taken }
 
-pub as-datagram : (w : World) (o : Option Datagram) → AsAcknowledged w (Changes.datagram_received w o)
+pub as-datagram : (w : LinkRecord) (o : Option Datagram) → AsAcknowledged w (Changes.after_arrive w o)
 as-datagram w None = record { slots = λ k. refl; count = refl; taken = refl }
-as-datagram w (Some (Data ps)) = fold-keeps (AsAcknowledged w) Changes.slot_received (λ v p a. as-then w v (Changes.slot_received v p) a (as-received v p)) ps w (record { slots = λ k. refl; count = refl; taken = refl })
+as-datagram w (Some (Data ps)) = fold-keeps (AsAcknowledged w) Changes.receive_slot (λ v p a. as-then w v (Changes.receive_slot v p) a (as-received v p)) ps w (record { slots = λ k. refl; count = refl; taken = refl })
 as-datagram w (Some (Forward upto names)) = step (Changes.skip_counts w upto)
   where
     step : (b : Bool) → AsAcknowledged w (if b then record w { skipped = upto + 1; streams = map (Changes.named_by w names) w.streams } else w)
@@ -327,11 +327,11 @@ as-datagram w (Some (Forward upto names)) = step (Changes.skip_counts w upto)
     step false = record { slots = λ k. refl; count = refl; taken = refl }
 as-datagram w (Some (Sack r)) = record { slots = λ k. refl; count = refl; taken = refl }
 
-pub as-read : (w : World) (s : ℕ) (o : Option ℕ) → AsAcknowledged w (Changes.read_of w s o)
+pub as-read : (w : LinkRecord) (s : ℕ) (o : Option ℕ) → AsAcknowledged w (Changes.read_of w s o)
 as-read w s None = record { slots = λ k. refl; count = refl; taken = refl }
 as-read w s (Some n) = record { slots = λ k. refl; count = refl; taken = refl }
 
-acks-taken : (setup : Setup) (older : History) (w : World) (k : ℕ) (r : Reply) → w ≡ world_of setup older → Acks setup older w → Acks setup ((E.Acked k, r) ∷ older) (Changes.sack_taken w (slice_get w.network k))
+acks-taken : (setup : Setup) (older : History) (w : LinkRecord) (k : ℕ) (r : Reply) → w ≡ record_of setup older → Acks setup older w → Acks setup ((E.Acked k, r) ∷ older) (Changes.after_acked w (slice_get w.network k))
 acks-taken setup older w k r same a = step (slice_get w.network k) (ap (λ v. slice_get v.network k) same)
   where
     ors : (b : Bool) → (b || false) ≡ b
@@ -341,7 +341,7 @@ acks-taken setup older w k r same a = step (slice_get w.network k) (ap (λ v. sl
     zeros : (n : ℕ) → max n 0 ≡ n
     zeros n = omega arith
 
-    step : (o : Option Datagram) → o ≡ slice_get (world_of setup older).network k → Acks setup ((E.Acked k, r) ∷ older) (Changes.sack_taken w o)
+    step : (o : Option Datagram) → o ≡ slice_get (record_of setup older).network k → Acks setup ((E.Acked k, r) ∷ older) (Changes.after_acked w o)
     step None e = record { slots = λ p lt. a.slots p lt ∙ sym (ap (λ o. is_acknowledged_in setup older p || reported_by o p) (sym e) ∙ ors (is_acknowledged_in setup older p)); taken = a.taken ∙ sym (ap (λ o. max (taken_in setup older) (Log.cumulative_in o)) (sym e) ∙ zeros (taken_in setup older)) }
     step (Some (Data ps)) e = record { slots = λ p lt. a.slots p lt ∙ sym (ap (λ o. is_acknowledged_in setup older p || reported_by o p) (sym e) ∙ ors (is_acknowledged_in setup older p)); taken = a.taken ∙ sym (ap (λ o. max (taken_in setup older) (Log.cumulative_in o)) (sym e) ∙ zeros (taken_in setup older)) }
     step (Some (Forward upto names)) e = record { slots = λ p lt. a.slots p lt ∙ sym (ap (λ o. is_acknowledged_in setup older p || reported_by o p) (sym e) ∙ ors (is_acknowledged_in setup older p)); taken = a.taken ∙ sym (ap (λ o. max (taken_in setup older) (Log.cumulative_in o)) (sym e) ∙ zeros (taken_in setup older)) }
@@ -355,36 +355,36 @@ acks-taken setup older w k r same a = step (slice_get w.network k) (ap (λ v. sl
       taken = ap (λ c. max c x.cumulative) a.taken ∙ ap (λ o. max (taken_in setup older) (Log.cumulative_in o)) e;
     }
 
-acks-step : (setup : Setup) (older : History) (e : Event) (r : Reply) → IsSetup setup → IsRun setup older → Acks setup older (world_of setup older) → Acks setup ((e, r) ∷ older) (after (world_of setup older) e)
+acks-step : (setup : Setup) (older : History) (e : Event) (r : Reply) → IsSetup setup → IsRun setup older → Acks setup older (record_of setup older) → Acks setup ((e, r) ∷ older) (after (record_of setup older) e)
 acks-step setup older e r is run a = by_event e
   where
-    made : (p : ℕ) → is_acknowledged_in setup older p ≡ true → p < length (world_of setup older).slots
-    made p h = seen-made (world_of setup older) (log_of setup older) p (heard-run setup older is run) (seen-acknowledged setup older p is run h)
+    made : (p : ℕ) → is_acknowledged_in setup older p ≡ true → p < length (record_of setup older).slots
+    made p h = seen-made (record_of setup older) (log_of setup older) p (heard-run setup older is run) (seen-acknowledged setup older p is run h)
 
-    quiet : (v : World) → Moves.Quiet (world_of setup older) v → Acks setup older v
-    quiet v q = acks-quiet setup older (world_of setup older) v q made a
+    quiet : (v : LinkRecord) → Moves.Quiet (record_of setup older) v → Acks setup older v
+    quiet v q = acks-quiet setup older (record_of setup older) v q made a
 
-    same : (v : World) → AsAcknowledged (world_of setup older) v → Acks setup older v
-    same v s = acks-same setup older (world_of setup older) v s a
+    same : (v : LinkRecord) → AsAcknowledged (record_of setup older) v → Acks setup older v
+    same v s = acks-same setup older (record_of setup older) v s a
 
-    by_event : (e : Event) → Acks setup ((e, r) ∷ older) (after (world_of setup older) e)
+    by_event : (e : Event) → Acks setup ((e, r) ∷ older) (after (record_of setup older) e)
     by_event (E.Open s) = record { slots = a.slots; taken = a.taken }
     by_event (E.Mode s u v x) = record { slots = a.slots; taken = a.taken }
-    by_event (E.Write s x y) = let b = quiet (after (world_of setup older) (E.Write s x y)) (Moves.quiet-written setup (world_of setup older) s x y (sane-run setup older run)) in record { slots = b.slots; taken = b.taken }
-    by_event (E.Start now) = let b = quiet (after (world_of setup older) (E.Start now)) (Moves.quiet-started (world_of setup older) now) in record { slots = b.slots; taken = b.taken }
-    by_event (E.Send now) = let b = quiet (after (world_of setup older) (E.Send now)) (Moves.quiet-sent setup (world_of setup older) now (Messages.front (world_of setup older)) (sane-run setup older run)) in record { slots = b.slots; taken = b.taken }
+    by_event (E.Write s x y) = let b = quiet (after (record_of setup older) (E.Write s x y)) (Moves.quiet-written setup (record_of setup older) s x y (sane-run setup older run)) in record { slots = b.slots; taken = b.taken }
+    by_event (E.Start now) = let b = quiet (after (record_of setup older) (E.Start now)) (Moves.quiet-started (record_of setup older) now) in record { slots = b.slots; taken = b.taken }
+    by_event (E.Send now) = let b = quiet (after (record_of setup older) (E.Send now)) (Moves.quiet-sent setup (record_of setup older) now (Messages.front (record_of setup older)) (sane-run setup older run)) in record { slots = b.slots; taken = b.taken }
     by_event (E.Resend x) = record { slots = a.slots; taken = a.taken }
-    by_event (E.Expire now) = let b = quiet (after (world_of setup older) (E.Expire now)) (Moves.quiet-expire setup (world_of setup older) now (Messages.front (world_of setup older)) (sane-run setup older run)) in record { slots = b.slots; taken = b.taken }
-    by_event (E.Tail now) = let b = quiet (after (world_of setup older) (E.Tail now)) (Moves.quiet-tail setup (world_of setup older) (Changes.tailing (world_of setup older) now) (sane-run setup older run)) in record { slots = b.slots; taken = b.taken }
-    by_event (E.Late now) = let b = quiet (after (world_of setup older) (E.Late now)) (Moves.quiet-lates setup (world_of setup older) now (sane-run setup older run)) in record { slots = b.slots; taken = b.taken }
-    by_event (E.Abandon tsn) = let b = quiet (after (world_of setup older) (E.Abandon tsn)) (Moves.quiet-abandoned setup (world_of setup older) (Messages.message_of (world_of setup older) (Messages.place_of (world_of setup older) tsn)) (sane-run setup older run)) in record { slots = b.slots; taken = b.taken }
+    by_event (E.Expire now) = let b = quiet (after (record_of setup older) (E.Expire now)) (Moves.quiet-expire setup (record_of setup older) now (Messages.front (record_of setup older)) (sane-run setup older run)) in record { slots = b.slots; taken = b.taken }
+    by_event (E.Tail now) = let b = quiet (after (record_of setup older) (E.Tail now)) (Moves.quiet-tail setup (record_of setup older) (Changes.tailing (record_of setup older) now) (sane-run setup older run)) in record { slots = b.slots; taken = b.taken }
+    by_event (E.Late now) = let b = quiet (after (record_of setup older) (E.Late now)) (Moves.quiet-lates setup (record_of setup older) now (sane-run setup older run)) in record { slots = b.slots; taken = b.taken }
+    by_event (E.Abandon tsn) = let b = quiet (after (record_of setup older) (E.Abandon tsn)) (Moves.quiet-abandoned setup (record_of setup older) (Messages.message_of (record_of setup older) (Messages.place_of (record_of setup older) tsn)) (sane-run setup older run)) in record { slots = b.slots; taken = b.taken }
     by_event (E.Skip upto names) = record { slots = a.slots; taken = a.taken }
     by_event (E.Ack credit) = record { slots = a.slots; taken = a.taken }
-    by_event (E.Arrive k) = let b = same (after (world_of setup older) (E.Arrive k)) (as-datagram (world_of setup older) (slice_get (world_of setup older).network k)) in record { slots = b.slots; taken = b.taken }
-    by_event (E.Acked k) = acks-taken setup older (world_of setup older) k r refl a
-    by_event (E.Read s) = let b = same (after (world_of setup older) (E.Read s)) (as-read (world_of setup older) s (next_read (world_of setup older) s)) in record { slots = b.slots; taken = b.taken }
+    by_event (E.Arrive k) = let b = same (after (record_of setup older) (E.Arrive k)) (as-datagram (record_of setup older) (slice_get (record_of setup older).network k)) in record { slots = b.slots; taken = b.taken }
+    by_event (E.Acked k) = acks-taken setup older (record_of setup older) k r refl a
+    by_event (E.Read s) = let b = same (after (record_of setup older) (E.Read s)) (as-read (record_of setup older) s (next_read (record_of setup older) s)) in record { slots = b.slots; taken = b.taken }
 
-acks-run : (setup : Setup) (h : History) → IsSetup setup → IsRun setup h → Acks setup h (world_of setup h)
+acks-run : (setup : Setup) (h : History) → IsSetup setup → IsRun setup h → Acks setup h (record_of setup h)
 acks-run setup [] is run = record { slots = λ p lt. absurd (omega arith); taken = refl }
 acks-run setup (entry ∷ older) is run = acks-step setup older entry.0 entry.1 is run.1.1 (acks-run setup older is run.1.1)
 
@@ -395,12 +395,12 @@ acknowledged_is_reported setup h is run = let a = acks-run setup h is run in (a.
 
 pub sacks_say : OnEveryRun SacksSay
 sacks_say setup h is run credit =
-    let w = world_of setup h in
+    let w = record_of setup h in
     let log = log_of setup h in
     let g = heard-run setup h is run in
     let c : cumulative w ≡ seen_count log (length w.slots) = cumulative_is_seen setup h is run in
     let blocks : gap_blocks w ≡ blocks_by w log =
-    ap (λ q. take 16379 (runs_of (kept (λ d. arrived_at w (q + d - 1)) 1 (min 65535 (length w.slots - q))))) c
+    ap (λ q. take 16379 (runs_of (numbers_where (λ d. arrived_at w (q + d - 1)) 1 (min 65535 (length w.slots - q))))) c
     ∙ ap (λ l. take 16379 (runs_of l)) (kept-same (λ d. arrived_at w (seen_count log (length w.slots) + d - 1)) (λ d. arrived_new log (seen_count log (length w.slots) + d - 1)) 1 (min 65535 (length w.slots - seen_count log (length w.slots))) (λ k a b. (g.arrived (seen_count log (length w.slots) + k - 1)))) in
     ap (contents_in (after w (E.Ack credit))) (get-last w.network (Sack (report_of w credit)))
     ∙ ap (λ q. Some (SackContents (cumulative_tsn w q) credit (gap_blocks w) (map (Messages.tsn_of w) (take (16379 - length (gap_blocks w)) w.duplicates)))) c

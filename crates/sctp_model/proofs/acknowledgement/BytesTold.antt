@@ -2,7 +2,7 @@ use Rattle.std.proofs.Common.{◌≡◌, ℕ, ◌+◌, ◌-◌, ◌<◌, ◌≤�
 use Rattle.std.proofs.Math.Path.{fun_ext}
 use Rattle.std.specs.Prelude.{if◌then◌else◌, ◌==◌, ◌&&◌, ◌||◌, not, fold, slice_get, slice_index_or, max}
 use Rattle.std.specs.List.{list_any}
-use Rattle.sctp_list_lemmas.specs.Kept.{kept, always, numbers_from, total_over}
+use Rattle.sctp_list_lemmas.specs.Kept.{numbers_where, always, numbers_from, total_over}
 use Rattle.sctp_list_lemmas.specs.Lists.{pieces}
 use Rattle.sctp_list_lemmas.proofs.Passing.{kept-same, kept-none, kept-snoc_in}
 use Rattle.sctp_list_lemmas.proofs.More.{fails, not_both, both, and, kept-short, length-changed}
@@ -11,14 +11,14 @@ use Rattle.sctp_model.specs.declared.event.Event.{Event}
 use Rattle.sctp_model.specs.declared.event.Event.TheVariants as E
 use Rattle.sctp_model.specs.Reply.{Reply}
 use Rattle.sctp_model.specs.Reply as R
-use Rattle.sctp_model.specs.World.{Setup, Datagram, Data, Forward, Sack, World}
+use Rattle.sctp_model.specs.LinkRecord.{Setup, Datagram, Data, Forward, Sack, LinkRecord}
 use Rattle.sctp_model.specs.Messages
 use Rattle.sctp_model.specs.Receiver.{next_read, is_new}
 use Rattle.sctp_model.specs.Amounts
 use Rattle.sctp_model.specs.Changes
 use Rattle.sctp_model.specs.Reports.{reports}
 use Rattle.sctp_model.specs.Log.{Shown, total_shown, length_shown, released_by, released_in}
-use Rattle.sctp_model.specs.Steps.{History, world_of, IsRun, reply_to, after, sent_reply, expired_reply, tail_reply, arrive_reply, read_reply}
+use Rattle.sctp_model.specs.Steps.{History, record_of, IsRun, reply_to, after, sent_reply, expired_reply, tail_reply, arrive_reply, read_reply}
 use Rattle.sctp_model.specs.Laws.{IsSetup, OnEveryRun, SumsAgree}
 use Rattle.sctp_model.proofs.sender.Shape.{Shape, MessagePart, shape, message_part, has, written}
 use Rattle.sctp_model.proofs.sender.Shapes
@@ -44,25 +44,25 @@ total-told f g (x ∷ xs) = omega (arith, total-told f g xs)
 
 -- ## Released
 
-abbrev pub released : World → ℕ
+abbrev pub released : LinkRecord → ℕ
 released w = Amounts.in_all w (Amounts.released_bytes w)
 
 -- the released bytes of message n, by the shape and the acknowledged slots
 abbrev released_with : Shape → (ℕ → Bool) → ℕ → ℕ
 released_with x a n =
     if (x.message n).expired || (x.message n).abandoned then length (x.message n).bytes
-    else total_over (λ p. length (get_or (pieces (length (x.message n).bytes) x.size (x.message n).bytes) (x.slot p).fragment [])) (kept (λ p. has x n p && a p) 0 x.slots)
+    else total_over (λ p. length (get_or (pieces (length (x.message n).bytes) x.size (x.message n).bytes) (x.slot p).fragment [])) (numbers_where (λ p. has x n p && a p) 0 x.slots)
 
-abbrev acknowledged_at : World → ℕ → Bool
+abbrev acknowledged_at : LinkRecord → ℕ → Bool
 acknowledged_at w p = (Messages.slot_at w p).acknowledged
 
-released-same : (w v : World) → shape v ≡ shape w → ((p : ℕ) → acknowledged_at v p ≡ acknowledged_at w p) → released v ≡ released w
+released-same : (w v : LinkRecord) → shape v ≡ shape w → ((p : ℕ) → acknowledged_at v p ≡ acknowledged_at w p) → released v ≡ released w
 released-same w v e a =
     ap (λ x. total_over (released_with x (acknowledged_at v)) (numbers_from 0 x.count)) e
     ∙ ap (λ f. total_over (released_with (shape w) f) (numbers_from 0 (length w.messages))) (fun_ext a)
 
 -- what a sender's change leaves acknowledged
-acknowledged-quiet : (w v : World) → Quiet w v → (n : ℕ) → n < length w.messages → Amounts.acknowledged_bytes v n ≡ Amounts.acknowledged_bytes w n
+acknowledged-quiet : (w v : LinkRecord) → Quiet w v → (n : ℕ) → n < length w.messages → Amounts.acknowledged_bytes v n ≡ Amounts.acknowledged_bytes w n
 acknowledged-quiet w v q n lt =
     let g = q.grows in
     let t : ℕ → Bool = λ p. has (shape v) n p && acknowledged_at v p in
@@ -78,7 +78,7 @@ acknowledged-quiet w v q n lt =
         ∙ ap (λ z. length (slice_index_or (pieces (length (Messages.message_at w n).bytes) z (Messages.message_at w n).bytes) (Messages.slot_at w k).fragment [])) q.grows.size
 
 -- it never takes back what was released
-released-grows : (setup : Setup) (w v : World) → IsSetup setup → Sane setup w → Quiet w v → length v.messages ≡ length w.messages → released w ≤ released v
+released-grows : (setup : Setup) (w v : LinkRecord) → IsSetup setup → Sane setup w → Quiet w v → length v.messages ≡ length w.messages → released w ≤ released v
 released-grows setup w v is g q count = omega (arith, total-le (Amounts.released_bytes w) (Amounts.released_bytes v) 0 (length w.messages) (λ n a b. each n (omega arith) (Amounts.is_expired_or_abandoned v n) refl (Amounts.is_expired_or_abandoned w n) refl), ap (λ c. total_over (Amounts.released_bytes v) (numbers_from 0 c)) count)
   where
     bytes : (n : ℕ) → n < length w.messages → (Messages.message_at v n).bytes ≡ (Messages.message_at w n).bytes
@@ -107,7 +107,7 @@ released-grows setup w v is g q count = omega (arith, total-le (Amounts.released
         omega (arith, y, z, acknowledged-quiet w v q n lt)
 
 -- where no message expires or is abandoned, nothing is released
-released-kept : (w v : World) → Quiet w v → length v.messages ≡ length w.messages → ((n : ℕ) → Amounts.is_expired_or_abandoned v n ≡ Amounts.is_expired_or_abandoned w n) → released v ≡ released w
+released-kept : (w v : LinkRecord) → Quiet w v → length v.messages ≡ length w.messages → ((n : ℕ) → Amounts.is_expired_or_abandoned v n ≡ Amounts.is_expired_or_abandoned w n) → released v ≡ released w
 released-kept w v q count given =
     ap (λ c. total_over (Amounts.released_bytes v) (numbers_from 0 c)) count
     ∙ total-kept_same (Amounts.released_bytes v) (Amounts.released_bytes w) always 0 (length w.messages) (λ n a b. each n (omega arith))
@@ -126,90 +126,90 @@ released_all x a = total_over (released_with x a) (numbers_from 0 x.count)
 -- a new message has no slots yet
 released-written : (x : Shape) (a : ℕ → Bool) (m : MessagePart) → Sender x → m.expired ≡ false → m.abandoned ≡ false → released_all (written x m) a ≡ released_all x a
 released-written x a m s e b =
-    ap (λ c. total_over (released_with (written x m) a) (kept always 0 c)) (add-one x.count)
+    ap (λ c. total_over (released_with (written x m) a) (numbers_where always 0 c)) (add-one x.count)
     ∙ ap (total_over (released_with (written x m) a)) (kept-snoc_in always 0 x.count x.count (omega arith) refl)
-    ∙ total-append (released_with (written x m) a) (kept always 0 x.count) (x.count ∷ [])
+    ∙ total-append (released_with (written x m) a) (numbers_where always 0 x.count) (x.count ∷ [])
     ∙ (let old = total-kept_same (released_with (written x m) a) (released_with x a) always 0 x.count (λ k i j. ap (released_of k) (message-old x m k (omega arith))) in omega (arith, old, new))
   where
     released_of : ℕ → MessagePart → ℕ
-    released_of k y = if y.expired || y.abandoned then length y.bytes else total_over (λ p. length (get_or (pieces (length y.bytes) x.size y.bytes) (x.slot p).fragment [])) (kept (λ p. has x k p && a p) 0 x.slots)
+    released_of k y = if y.expired || y.abandoned then length y.bytes else total_over (λ p. length (get_or (pieces (length y.bytes) x.size y.bytes) (x.slot p).fragment [])) (numbers_where (λ p. has x k p && a p) 0 x.slots)
 
-    none : kept (λ p. has x x.count p && a p) 0 x.slots ≡ []
+    none : numbers_where (λ p. has x x.count p && a p) 0 x.slots ≡ []
     none = kept-none (λ p. has x x.count p && a p) 0 x.slots (λ p i j. fails (has x x.count p && a p) (λ h. absurd (omega (arith, (of-has x x.count p (both (has x x.count p) (a p) h).0).0, s.made p (omega arith)))))
 
     new : released_with (written x m) a x.count ≡ 0
-    new = ap (released_of x.count) (message-new x m) ∙ ap (λ c. if c || m.abandoned then length m.bytes else total_over (λ p. length (get_or (pieces (length m.bytes) x.size m.bytes) (x.slot p).fragment [])) (kept (λ p. has x x.count p && a p) 0 x.slots)) e
-        ∙ ap (λ c. if c then length m.bytes else total_over (λ p. length (get_or (pieces (length m.bytes) x.size m.bytes) (x.slot p).fragment [])) (kept (λ p. has x x.count p && a p) 0 x.slots)) b
+    new = ap (released_of x.count) (message-new x m) ∙ ap (λ c. if c || m.abandoned then length m.bytes else total_over (λ p. length (get_or (pieces (length m.bytes) x.size m.bytes) (x.slot p).fragment [])) (numbers_where (λ p. has x x.count p && a p) 0 x.slots)) e
+        ∙ ap (λ c. if c then length m.bytes else total_over (λ p. length (get_or (pieces (length m.bytes) x.size m.bytes) (x.slot p).fragment [])) (numbers_where (λ p. has x x.count p && a p) 0 x.slots)) b
         ∙ ap (total_over (λ p. length (get_or (pieces (length m.bytes) x.size m.bytes) (x.slot p).fragment []))) none
 
-pub messages-sent : (u : World) → (Changes.fragments_sent u).messages ≡ u.messages
+pub messages-sent : (u : LinkRecord) → (Changes.send_fragments u).messages ≡ u.messages
 messages-sent u = sends-keep (λ v. v.messages ≡ u.messages) (λ v e. more v (Messages.front v) ∙ e) u refl
   where
-    more : (v : World) (o : Option ℕ) → (Changes.fragment_of_sent v o).messages ≡ v.messages
+    more : (v : LinkRecord) (o : Option ℕ) → (Changes.send_fragment_of v o).messages ≡ v.messages
     more v None = refl
     more v (Some n) = refl
 
-released-sent : (setup : Setup) (w : World) (now : ℕ) (o : Option ℕ) → Sane setup w → released (Changes.sent_from (Changes.started w now) o) ≡ released w
-released-sent setup w now None g = released-same w (Changes.started w now) (Shapes.shape-started w now) (λ p. refl)
+released-sent : (setup : Setup) (w : LinkRecord) (now : ℕ) (o : Option ℕ) → Sane setup w → released (Changes.send_from (Changes.after_start w now) o) ≡ released w
+released-sent setup w now None g = released-same w (Changes.after_start w now) (Shapes.shape-started w now) (λ p. refl)
 released-sent setup w now (Some n) g =
-    let u = Changes.started w now in
+    let u = Changes.after_start w now in
     let e = messages-sent u in
-    released-kept w (Changes.sent_from u (Some n)) (Moves.quiet-sent setup w now (Some n) g) (ap length e ∙ length-mapped (Changes.start_lifetime now) w.messages)
+    released-kept w (Changes.send_from u (Some n)) (Moves.quiet-sent setup w now (Some n) g) (ap length e ∙ length-mapped (Changes.start_lifetime now) w.messages)
     (λ k. ap (λ ms. (slice_index_or ms k Messages.no_message).expired || (slice_index_or ms k Messages.no_message).abandoned) e ∙ ap (λ x. (x.message k).expired || (x.message k).abandoned) (Shapes.shape-started w now))
 
-pub count-abandoned : (w : World) (n : ℕ) → length (Changes.abandoned w n).messages ≡ length w.messages
+pub count-abandoned : (w : LinkRecord) (n : ℕ) → length (Changes.after_abandon w n).messages ≡ length w.messages
 count-abandoned w n = step (Messages.is_partially_sent w n)
   where
     step : (b : Bool) → length (Changes.message_changed (if b then Changes.with_slot w n true else w) n Changes.mark_abandoned).messages ≡ length w.messages
     step true = length-changed Changes.mark_abandoned n w.messages
     step false = length-changed Changes.mark_abandoned n w.messages
 
-pub count-late : (ns : List ℕ) (w : World) → length (fold Changes.abandoned w ns).messages ≡ length w.messages
+pub count-late : (ns : List ℕ) (w : LinkRecord) → length (fold Changes.after_abandon w ns).messages ≡ length w.messages
 count-late [] w = refl
-count-late (n ∷ ns) w = count-late ns (Changes.abandoned w n) ∙ count-abandoned w n
+count-late (n ∷ ns) w = count-late ns (Changes.after_abandon w n) ∙ count-abandoned w n
 
-grown : (setup : Setup) (w v : World) → IsSetup setup → Sane setup w → Quiet w v → length v.messages ≡ length w.messages → released v ≡ released w + Amounts.growth w v
+grown : (setup : Setup) (w v : LinkRecord) → IsSetup setup → Sane setup w → Quiet w v → length v.messages ≡ length w.messages → released v ≡ released w + Amounts.growth w v
 grown setup w v is g q c = omega (arith, released-grows setup w v is g q c)
 
-released-expired : (setup : Setup) (w : World) (o : Option ℕ) → IsSetup setup → Sane setup w → Quiet w (Changes.expired w o) → released (Changes.expired w o) ≡ released w + released_by (expired_reply w (Changes.expired w o) o)
+released-expired : (setup : Setup) (w : LinkRecord) (o : Option ℕ) → IsSetup setup → Sane setup w → Quiet w (Changes.after_expire w o) → released (Changes.after_expire w o) ≡ released w + released_by (expired_reply w (Changes.after_expire w o) o)
 released-expired setup w None is g q = omega arith
-released-expired setup w (Some n) is g q = grown setup w (Changes.expired w (Some n)) is g q (length-changed Changes.mark_expired n w.messages)
+released-expired setup w (Some n) is g q = grown setup w (Changes.after_expire w (Some n)) is g q (length-changed Changes.mark_expired n w.messages)
 
-released-tail : (setup : Setup) (w : World) (o : Option ℕ) → IsSetup setup → Sane setup w → released (Changes.tail_abandoned w o) ≡ released w + released_by (tail_reply w (Changes.tail_abandoned w o) o)
+released-tail : (setup : Setup) (w : LinkRecord) (o : Option ℕ) → IsSetup setup → Sane setup w → released (Changes.after_tail w o) ≡ released w + released_by (tail_reply w (Changes.after_tail w o) o)
 released-tail setup w None is g = omega arith
-released-tail setup w (Some n) is g = grown setup w (Changes.abandoned w n) is g (Moves.quiet-abandoned setup w n g) (count-abandoned w n)
+released-tail setup w (Some n) is g = grown setup w (Changes.after_abandon w n) is g (Moves.quiet-abandoned setup w n g) (count-abandoned w n)
 
-released-acked : (w : World) (o : Option Datagram) → released (Changes.sack_taken w o) ≡ released w + Amounts.growth w (Changes.sack_taken w o)
+released-acked : (w : LinkRecord) (o : Option Datagram) → released (Changes.after_acked w o) ≡ released w + Amounts.growth w (Changes.after_acked w o)
 released-acked w None = omega arith
 released-acked w (Some (Data ps)) = omega arith
 released-acked w (Some (Forward upto names)) = omega arith
 released-acked w (Some (Sack r)) = omega (arith, less)
   where
-    v : World
-    v = Changes.sack_taken w (Some (Sack r))
+    v : LinkRecord
+    v = Changes.after_acked w (Some (Sack r))
 
-    acked : (p : ℕ) → p < length w.slots → acknowledged_at w p ≡ true → acknowledged_at (Changes.sack_taken w (Some (Sack r))) p ≡ true
+    acked : (p : ℕ) → p < length w.slots → acknowledged_at w p ≡ true → acknowledged_at (Changes.after_acked w (Some (Sack r))) p ≡ true
     acked p lt e = ap (λ y. y.acknowledged) (numbered-at (Changes.acknowledged_by r) 0 p w.slots Messages.no_slot lt) ∙ ap (λ b. b || reports r (0 + p)) e
 
-    each : (n : ℕ) → released_with (shape w) (acknowledged_at w) n ≤ released_with (shape w) (acknowledged_at (Changes.sack_taken w (Some (Sack r)))) n
+    each : (n : ℕ) → released_with (shape w) (acknowledged_at w) n ≤ released_with (shape w) (acknowledged_at (Changes.after_acked w (Some (Sack r)))) n
     each n = step ((Messages.message_at w n).expired || (Messages.message_at w n).abandoned)
       where
-        step : (b : Bool) → (if b then length (Messages.message_at w n).bytes else total_over (Amounts.slot_bytes w n) (kept (λ p. has (shape w) n p && acknowledged_at w p) 0 (length w.slots))) ≤ (if b then length (Messages.message_at w n).bytes else total_over (Amounts.slot_bytes w n) (kept (λ p. has (shape w) n p && acknowledged_at (Changes.sack_taken w (Some (Sack r))) p) 0 (length w.slots)))
+        step : (b : Bool) → (if b then length (Messages.message_at w n).bytes else total_over (Amounts.slot_bytes w n) (numbers_where (λ p. has (shape w) n p && acknowledged_at w p) 0 (length w.slots))) ≤ (if b then length (Messages.message_at w n).bytes else total_over (Amounts.slot_bytes w n) (numbers_where (λ p. has (shape w) n p && acknowledged_at (Changes.after_acked w (Some (Sack r))) p) 0 (length w.slots)))
         step true = omega arith
-        step false = total-wider (Amounts.slot_bytes w n) (λ p. has (shape w) n p && acknowledged_at w p) (λ p. has (shape w) n p && acknowledged_at (Changes.sack_taken w (Some (Sack r))) p) 0 (length w.slots) (λ k a b e. let h = both (has (shape w) n k) (acknowledged_at w k) e in and (has (shape w) n k) (acknowledged_at (Changes.sack_taken w (Some (Sack r))) k) h.0 (acked k (omega arith) h.1))
+        step false = total-wider (Amounts.slot_bytes w n) (λ p. has (shape w) n p && acknowledged_at w p) (λ p. has (shape w) n p && acknowledged_at (Changes.after_acked w (Some (Sack r))) p) 0 (length w.slots) (λ k a b e. let h = both (has (shape w) n k) (acknowledged_at w k) e in and (has (shape w) n k) (acknowledged_at (Changes.after_acked w (Some (Sack r))) k) h.0 (acked k (omega arith) h.1))
 
-    less : released w ≤ released (Changes.sack_taken w (Some (Sack r)))
-    less = omega (arith, total-le (released_with (shape w) (acknowledged_at w)) (released_with (shape w) (acknowledged_at (Changes.sack_taken w (Some (Sack r))))) 0 (length w.messages) (λ n a b. each n), ap (λ x. released_all x (acknowledged_at (Changes.sack_taken w (Some (Sack r))))) (Shapes.shape-acknowledged w r (max w.taken r.cumulative)))
+    less : released w ≤ released (Changes.after_acked w (Some (Sack r)))
+    less = omega (arith, total-le (released_with (shape w) (acknowledged_at w)) (released_with (shape w) (acknowledged_at (Changes.after_acked w (Some (Sack r))))) 0 (length w.messages) (λ n a b. each n), ap (λ x. released_all x (acknowledged_at (Changes.after_acked w (Some (Sack r))))) (Shapes.shape-acknowledged w r (max w.taken r.cumulative)))
 
-none-sent : (w v : World) (o : Option ℕ) → released_by (sent_reply w v o) ≡ 0
+none-sent : (w v : LinkRecord) (o : Option ℕ) → released_by (sent_reply w v o) ≡ 0
 none-sent w v None = refl
 none-sent w v (Some n) = refl
 
-none-read : (w : World) (o : Option ℕ) → released_by (read_reply w o) ≡ 0
+none-read : (w : LinkRecord) (o : Option ℕ) → released_by (read_reply w o) ≡ 0
 none-read w None = refl
 none-read w (Some n) = refl
 
-none-received : (w : World) (o : Option Datagram) → released_by (arrive_reply w o) ≡ 0
+none-received : (w : LinkRecord) (o : Option Datagram) → released_by (arrive_reply w o) ≡ 0
 none-received w None = refl
 none-received w (Some (Sack r)) = refl
 none-received w (Some (Data ps)) = step (list_any (is_new w) ps)
@@ -223,7 +223,7 @@ none-received w (Some (Forward upto names)) = step (Changes.skip_counts w upto)
     step true = refl
     step false = refl
 
-released-after : (setup : Setup) (w : World) (e : Event) → IsSetup setup → Sane setup w → released (after w e) ≡ released w + released_by (reply_to w e)
+released-after : (setup : Setup) (w : LinkRecord) (e : Event) → IsSetup setup → Sane setup w → released (after w e) ≡ released w + released_by (reply_to w e)
 released-after setup w (E.Open s) is g = omega arith
 released-after setup w (E.Mode s u v x) is g = omega arith
 released-after setup w (E.Write s ppi []) is g = omega arith
@@ -232,28 +232,28 @@ released-after setup w (E.Write s ppi (b ∷ bs)) is g =
     let e = ap (λ x. released_all x (acknowledged_at w)) (Shapes.shape-written w m) in
     let z = released-written (shape w) (acknowledged_at w) (message_part m) g.sender refl refl in
     omega (arith, e, z)
-released-after setup w (E.Start now) is g = omega (arith, released-same w (Changes.started w now) (Shapes.shape-started w now) (λ p. refl))
+released-after setup w (E.Start now) is g = omega (arith, released-same w (Changes.after_start w now) (Shapes.shape-started w now) (λ p. refl))
 released-after setup w (E.Send now) is g = omega (arith, released-sent setup w now (Messages.front w) g, none-sent w (after w (E.Send now)) (Messages.front w))
 released-after setup w (E.Resend x) is g = omega arith
 released-after setup w (E.Expire now) is g = released-expired setup w (Changes.expiring w now) is g (Moves.quiet-expire setup w now (Messages.front w) g)
 released-after setup w (E.Tail now) is g = released-tail setup w (Changes.tailing w now) is g
-released-after setup w (E.Late now) is g = grown setup w (Changes.late_abandoned w now) is g (Moves.quiet-lates setup w now g) (count-late (Changes.late_messages w now) w)
-released-after setup w (E.Abandon tsn) is g = let n = Messages.message_of w (Messages.place_of w tsn) in grown setup w (Changes.abandoned w n) is g (Moves.quiet-abandoned setup w n g) (count-abandoned w n)
+released-after setup w (E.Late now) is g = grown setup w (Changes.after_late w now) is g (Moves.quiet-lates setup w now g) (count-late (Changes.late_messages w now) w)
+released-after setup w (E.Abandon tsn) is g = let n = Messages.message_of w (Messages.place_of w tsn) in grown setup w (Changes.after_abandon w n) is g (Moves.quiet-abandoned setup w n g) (count-abandoned w n)
 released-after setup w (E.Skip upto names) is g = omega arith
 released-after setup w (E.Ack credit) is g = omega arith
-released-after setup w (E.Arrive k) is g = omega (arith, released-same w (Changes.datagram_received w (slice_get w.network k)) (Network.same-received w (slice_get w.network k)).shape_is (as-datagram w (slice_get w.network k)).slots, none-received w (slice_get w.network k))
+released-after setup w (E.Arrive k) is g = omega (arith, released-same w (Changes.after_arrive w (slice_get w.network k)) (Network.same-received w (slice_get w.network k)).shape_is (as-datagram w (slice_get w.network k)).slots, none-received w (slice_get w.network k))
 released-after setup w (E.Acked k) is g = released-acked w (slice_get w.network k)
-released-after setup w (E.Read s) is g = omega (arith, released-same w (Changes.read_from w s) (Network.same-read w s (next_read w s)).shape_is (as-read w s (next_read w s)).slots, none-read w (next_read w s))
+released-after setup w (E.Read s) is g = omega (arith, released-same w (Changes.after_reading w s) (Network.same-read w s (next_read w s)).shape_is (as-read w s (next_read w s)).slots, none-read w (next_read w s))
 
-pub released-run : (setup : Setup) (h : History) → IsSetup setup → IsRun setup h → released (world_of setup h) ≡ released_in h
+pub released-run : (setup : Setup) (h : History) → IsSetup setup → IsRun setup h → released (record_of setup h) ≡ released_in h
 released-run setup [] is run = refl
 released-run setup (entry ∷ older) is run =
-    released-after setup (world_of setup older) entry.0 is (sane-run setup older run.1.1)
-    ∙ ap (λ r. released (world_of setup older) + released_by r) (sym run.1.0)
+    released-after setup (record_of setup older) entry.0 is (sane-run setup older run.1.1)
+    ∙ ap (λ r. released (record_of setup older) + released_by r) (sym run.1.0)
     ∙ ap (λ c. c + released_by entry.1) (released-run setup older is run.1.1)
 
 pub sums_agree : OnEveryRun SumsAgree
 sums_agree setup h is run = (
-  total-told length_shown (λ n. shown_part ((shape (world_of setup h)).message n)) (kept always 0 (length (world_of setup h).messages)) ∙ ap (total_shown length_shown) (messages_are_writes setup h is run),
+  total-told length_shown (λ n. shown_part ((shape (record_of setup h)).message n)) (numbers_where always 0 (length (record_of setup h).messages)) ∙ ap (total_shown length_shown) (messages_are_writes setup h is run),
   released-run setup h is run,
 )

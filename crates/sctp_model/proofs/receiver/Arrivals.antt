@@ -4,16 +4,16 @@ use Rattle.std.specs.List.{list_any}
 use Rattle.std.proofs.Math.Nat.{eq-or-lt_of_le}
 use Rattle.std.proofs.lemmas.Bool.{cases_lt}
 use Rattle.std.proofs.lemmas.Bool.Decides.{nat_tests}
-use Rattle.sctp_list_lemmas.specs.Kept.{kept, always, numbers_from, unbroken}
-use Rattle.sctp_list_lemmas.specs.Lists.{changed}
+use Rattle.sctp_list_lemmas.specs.Kept.{numbers_where, always, numbers_from, unbroken}
+use Rattle.sctp_list_lemmas.specs.Lists.{change_at}
 use Rattle.sctp_list_lemmas.proofs.Passing.{unbroken-same, unbroken-le, unbroken-passes, unbroken-stops, unbroken-on}
 use Rattle.sctp_list_lemmas.proofs.More.{not_both, length-changed, changed-same, changed-other}
 use Rattle.sctp_model.specs.Reply as R
-use Rattle.sctp_model.specs.World.{Setup, Sack, World}
+use Rattle.sctp_model.specs.LinkRecord.{Setup, Sack, LinkRecord}
 use Rattle.sctp_model.specs.Messages
 use Rattle.sctp_model.specs.Receiver.{arrived_at, cumulative, is_new}
 use Rattle.sctp_model.specs.Changes
-use Rattle.sctp_model.specs.Steps.{History, world_of, IsRun, arrive_reply}
+use Rattle.sctp_model.specs.Steps.{History, record_of, IsRun, arrive_reply}
 use Rattle.sctp_model.specs.Log
 use Rattle.sctp_model.specs.Log.{LogEntry, SlotReceived, SkipReceived, SackMade}
 use Rattle.sctp_model.specs.Laws.{IsSetup, OnEveryRun, ArrivedIsNew, CumulativeIsSeen, ArrivalsAnswered}
@@ -27,30 +27,30 @@ use Rattle.sctp_list_lemmas.proofs.Cases.{or-right, or-none}
 -- ## By the record alone
 
 -- a slot was seen: it arrived, or a skip covered it
-abbrev pub seen_by : World → ℕ → Bool
+abbrev pub seen_by : LinkRecord → ℕ → Bool
 seen_by w p = nat_lt p w.skipped || arrived_at w p
 
 -- what arrives new at this place
-abbrev pub with_arrived : World → ℕ → World
-with_arrived w p = record w { slots = changed Changes.mark_arrived p w.slots }
+abbrev pub with_arrived : LinkRecord → ℕ → LinkRecord
+with_arrived w p = record w { slots = change_at Changes.mark_arrived p w.slots }
 
-pub arrived-beyond : (w : World) (p : ℕ) → length w.slots ≤ p → arrived_at w p ≡ false
+pub arrived-beyond : (w : LinkRecord) (p : ℕ) → length w.slots ≤ p → arrived_at w p ≡ false
 arrived-beyond w p le = ap (λ x. x.arrived) (get-beyond w.slots p Messages.no_slot le)
 
-pub skipped-le : (w : World) → w.skipped ≤ cumulative w
+pub skipped-le : (w : LinkRecord) → w.skipped ≤ cumulative w
 skipped-le w = omega arith
 
-pub cumulative-le : (w : World) → w.skipped ≤ length w.slots → cumulative w ≤ length w.slots
+pub cumulative-le : (w : LinkRecord) → w.skipped ≤ length w.slots → cumulative w ≤ length w.slots
 cumulative-le w short = omega (arith, unbroken-le (arrived_at w) w.skipped (length w.slots - w.skipped), short)
 
-pub seen-below : (w : World) (p : ℕ) → p < cumulative w → seen_by w p ≡ true
+pub seen-below : (w : LinkRecord) (p : ℕ) → p < cumulative w → seen_by w p ≡ true
 seen-below w p lt = step (cases_lt p w.skipped)
   where
     step : (p < w.skipped) ⊎ (w.skipped ≤ p) → seen_by w p ≡ true
     step (inl l) = let e : nat_lt p w.skipped ≡ true = grind (arith, nat_tests) in ap (λ b. b || arrived_at w p) e
     step (inr g) = or-right (nat_lt p w.skipped) (arrived_at w p) (unbroken-passes (arrived_at w) w.skipped (length w.slots - w.skipped) p g lt)
 
-pub seen-at : (w : World) → w.skipped ≤ length w.slots → seen_by w (cumulative w) ≡ false
+pub seen-at : (w : LinkRecord) → w.skipped ≤ length w.slots → seen_by w (cumulative w) ≡ false
 seen-at w short =
     let low : nat_lt (cumulative w) w.skipped ≡ false = (let l = skipped-le w in grind (arith, nat_tests)) in
     ap (λ b. b || arrived_at w (cumulative w)) low ∙ step (cases_lt (unbroken (arrived_at w) w.skipped (length w.slots - w.skipped)) (length w.slots - w.skipped))
@@ -60,7 +60,7 @@ seen-at w short =
     step (inr g) = arrived-beyond w (cumulative w) (omega (arith, g, short))
 
 -- a slot is new exactly where it was not seen
-pub new-unseen : (w : World) (p : ℕ) → is_new w p ≡ not (seen_by w p)
+pub new-unseen : (w : LinkRecord) (p : ℕ) → is_new w p ≡ not (seen_by w p)
 new-unseen w p = step (arrived_at w p) refl (cases_lt p w.skipped) (cases_lt p (cumulative w))
   where
     ands : (b : Bool) → (b && false) ≡ false
@@ -74,26 +74,26 @@ new-unseen w p = step (arrived_at w p) refl (cases_lt p w.skipped) (cases_lt p (
     step false e (inr g) (inl c) = absurd (not_both (sym e ∙ unbroken-passes (arrived_at w) w.skipped (length w.slots - w.skipped) p g c))
 
 -- the cumulative count is how many were seen from the first on
-pub cumulative-seen : (w : World) → w.skipped ≤ length w.slots → cumulative w ≡ unbroken (seen_by w) 0 (length w.slots)
+pub cumulative-seen : (w : LinkRecord) → w.skipped ≤ length w.slots → cumulative w ≡ unbroken (seen_by w) 0 (length w.slots)
 cumulative-seen w short =
     ap (λ c. w.skipped + c) (unbroken-same (arrived_at w) (seen_by w) w.skipped (length w.slots - w.skipped) (λ k a b. let e : nat_lt k w.skipped ≡ false = grind (arith, nat_tests) in sym (ap (λ x. x || arrived_at w k) e)))
     ∙ sym (unbroken-on (seen_by w) 0 w.skipped (length w.slots - w.skipped) (length w.slots) w.skipped (omega (arith, short)) (omega arith) (λ k a b. let e : nat_lt k w.skipped ≡ true = grind (arith, nat_tests) in ap (λ x. x || arrived_at w k) e))
 
-pub any-hit : (q : ℕ → Bool) (k from count : ℕ) → from ≤ k → k < from + count → q k ≡ true → list_any q (kept always from count) ≡ true
+pub any-hit : (q : ℕ → Bool) (k from count : ℕ) → from ≤ k → k < from + count → q k ≡ true → list_any q (numbers_where always from count) ≡ true
 any-hit q k from zero a b e = absurd (omega arith)
 any-hit q k from (suc count) a b e = step (eq-or-lt_of_le a) (λ l. any-hit q k (from + 1) count l (omega arith) e)
   where
-    step : (from ≡ k) ⊎ (from < k) → (from + 1 ≤ k → list_any q (kept always (from + 1) count) ≡ true) → (q from || list_any q (kept always (from + 1) count)) ≡ true
-    step (inl z) ih = ap (λ j. q j || list_any q (kept always (from + 1) count)) z ∙ ap (λ b. b || list_any q (kept always (from + 1) count)) e
-    step (inr l) ih = or-right (q from) (list_any q (kept always (from + 1) count)) (ih (omega arith))
+    step : (from ≡ k) ⊎ (from < k) → (from + 1 ≤ k → list_any q (numbers_where always (from + 1) count) ≡ true) → (q from || list_any q (numbers_where always (from + 1) count)) ≡ true
+    step (inl z) ih = ap (λ j. q j || list_any q (numbers_where always (from + 1) count)) z ∙ ap (λ b. b || list_any q (numbers_where always (from + 1) count)) e
+    step (inr l) ih = or-right (q from) (list_any q (numbers_where always (from + 1) count)) (ih (omega arith))
 
-pub any-none : (q : ℕ → Bool) (from count : ℕ) → ((k : ℕ) → from ≤ k → k < from + count → q k ≡ false) → list_any q (kept always from count) ≡ false
+pub any-none : (q : ℕ → Bool) (from count : ℕ) → ((k : ℕ) → from ≤ k → k < from + count → q k ≡ false) → list_any q (numbers_where always from count) ≡ false
 any-none q from zero none = refl
-any-none q from (suc count) none = ap (λ b. b || list_any q (kept always (from + 1) count)) (none from (omega arith) (omega arith)) ∙ any-none q (from + 1) count (λ k a b. none k (omega arith) (omega arith))
+any-none q from (suc count) none = ap (λ b. b || list_any q (numbers_where always (from + 1) count)) (none from (omega arith) (omega arith)) ∙ any-none q (from + 1) count (λ k a b. none k (omega arith) (omega arith))
 
 -- ## By what came
 
-pub record Heard (w : World) (log : List LogEntry) : Type 0 where
+pub record Heard (w : LinkRecord) (log : List LogEntry) : Type 0 where
   pub arrived : (p : ℕ) → arrived_at w p ≡ Log.arrived_new log p
   pub seen : (p : ℕ) → Log.is_seen log p ≡ seen_by w p
   pub covered : (p : ℕ) → Log.is_skipped log p ≡ nat_lt p w.skipped
@@ -101,7 +101,7 @@ pub record Heard (w : World) (log : List LogEntry) : Type 0 where
   pub duplicates : w.duplicates ≡ Log.duplicates_in log
 
 -- a skip counts exactly where some slot up to it was not seen
-pub counts-heard : (w : World) (log : List LogEntry) (upto : ℕ) → Heard w log → Log.counts log upto ≡ Changes.skip_counts w upto
+pub counts-heard : (w : LinkRecord) (log : List LogEntry) (upto : ℕ) → Heard w log → Log.counts log upto ≡ Changes.skip_counts w upto
 counts-heard w log upto h = step (cases_lt upto (cumulative w))
   where
     step : (upto < cumulative w) ⊎ (cumulative w ≤ upto) → list_any (λ p. not (Log.is_seen log p)) (numbers_from 0 (upto + 1)) ≡ nat_le (cumulative w) upto
@@ -112,7 +112,7 @@ counts-heard w log upto h = step (cases_lt upto (cumulative w))
 
 -- ## Each change
 
-heard-as : (w v : World) (log : List LogEntry) → ((p : ℕ) → arrived_at v p ≡ arrived_at w p) → v.skipped ≡ w.skipped → v.duplicates ≡ w.duplicates → length w.slots ≤ length v.slots → Heard w log → Heard v log
+heard-as : (w v : LinkRecord) (log : List LogEntry) → ((p : ℕ) → arrived_at v p ≡ arrived_at w p) → v.skipped ≡ w.skipped → v.duplicates ≡ w.duplicates → length w.slots ≤ length v.slots → Heard w log → Heard v log
 heard-as w v log a s d l h = record {
   arrived = λ p. a p ∙ h.arrived p;
   seen = λ p. h.seen p ∙ ap (λ k. nat_lt p k || arrived_at w p) (sym s) ∙ ap (λ b. nat_lt p v.skipped || b) (sym (a p));
@@ -121,14 +121,14 @@ heard-as w v log a s d l h = record {
   duplicates = d ∙ h.duplicates;
 }
 
-pub heard-noted : (v : World) (n : ℕ) (log : List LogEntry) → Heard v log → Heard (Changes.whole_noted v n) log
-heard-noted v n log h = step (Changes.becomes_whole v n)
+pub heard-noted : (v : LinkRecord) (n : ℕ) (log : List LogEntry) → Heard v log → Heard (Changes.note_completion v n) log
+heard-noted v n log h = step (Changes.becomes_complete v n)
   where
-    step : (b : Bool) → Heard (if b then Changes.stream_changed v (Messages.message_at v n).stream (Changes.with_whole n) else v) log
-    step true = heard-as v (Changes.stream_changed v (Messages.message_at v n).stream (Changes.with_whole n)) log (λ p. refl) refl refl (omega arith) h
+    step : (b : Bool) → Heard (if b then Changes.stream_changed v (Messages.message_at v n).stream (Changes.with_complete n) else v) log
+    step true = heard-as v (Changes.stream_changed v (Messages.message_at v n).stream (Changes.with_complete n)) log (λ p. refl) refl refl (omega arith) h
     step false = h
 
-pub heard-new : (w : World) (log : List LogEntry) (p : ℕ) → p < length w.slots → is_new w p ≡ true → Heard w log → Heard (with_arrived w p) (SlotReceived p ∷ log)
+pub heard-new : (w : LinkRecord) (log : List LogEntry) (p : ℕ) → p < length w.slots → is_new w p ≡ true → Heard w log → Heard (with_arrived w p) (SlotReceived p ∷ log)
 heard-new w log p lt new h = record {
   arrived = λ k. by_same {P = arrived_at (with_arrived w p) k ≡ (Log.arrived_new log k || ((p == k) && not (Log.is_seen log k)))} p k
       (λ e. ap (arrived_at (with_arrived w p)) (sym e) ∙ here ∙ sym (ap (λ j. Log.arrived_new log j || ((p == j) && not (Log.is_seen log j))) (sym e) ∙ or-right (Log.arrived_new log p) ((p == p) && not (Log.is_seen log p)) (ap (λ b. b && not (Log.is_seen log p)) (same-yes p) ∙ ap not unseen)))
@@ -154,7 +154,7 @@ heard-new w log p lt new h = record {
     unseen : Log.is_seen log p ≡ false
     unseen = h.seen p ∙ negated (seen_by w p) (sym (new-unseen w p) ∙ new)
 
-heard-again : (w : World) (log : List LogEntry) (p : ℕ) → is_new w p ≡ false → Heard w log → Heard (record w { duplicates = w.duplicates ++ p ∷ [] }) (SlotReceived p ∷ log)
+heard-again : (w : LinkRecord) (log : List LogEntry) (p : ℕ) → is_new w p ≡ false → Heard w log → Heard (record w { duplicates = w.duplicates ++ p ∷ [] }) (SlotReceived p ∷ log)
 heard-again w log p old h = record {
   arrived = λ k. h.arrived k ∙ by_same {P = Log.arrived_new log k ≡ (Log.arrived_new log k || ((p == k) && not (Log.is_seen log k)))} p k
       (λ e. sym (ap (λ b. Log.arrived_new log k || ((p == k) && not b)) (ap (Log.is_seen log) (sym e) ∙ seen) ∙ ap (λ b. Log.arrived_new log k || b) (ands (p == k)) ∙ or-none (Log.arrived_new log k)))
@@ -178,14 +178,14 @@ heard-again w log p old h = record {
     seen : Log.is_seen log p ≡ true
     seen = h.seen p ∙ denied (seen_by w p) (sym (new-unseen w p) ∙ old)
 
-heard-slot : (w : World) (log : List LogEntry) (p : ℕ) → p < length w.slots → Heard w log → Heard (Changes.slot_received w p) (SlotReceived p ∷ log)
+heard-slot : (w : LinkRecord) (log : List LogEntry) (p : ℕ) → p < length w.slots → Heard w log → Heard (Changes.receive_slot w p) (SlotReceived p ∷ log)
 heard-slot w log p lt h = step (is_new w p) refl
   where
-    step : (b : Bool) → is_new w p ≡ b → Heard (if b then Changes.whole_noted (with_arrived w p) (Messages.message_of w p) else record w { duplicates = w.duplicates ++ p ∷ [] }) (SlotReceived p ∷ log)
+    step : (b : Bool) → is_new w p ≡ b → Heard (if b then Changes.note_completion (with_arrived w p) (Messages.message_of w p) else record w { duplicates = w.duplicates ++ p ∷ [] }) (SlotReceived p ∷ log)
     step true e = heard-noted (with_arrived w p) (Messages.message_of w p) (SlotReceived p ∷ log) (heard-new w log p lt e h)
     step false e = heard-again w log p e h
 
-heard-skip : (w : World) (log : List LogEntry) (upto : ℕ) (names : List ℕ) → upto < length w.slots → Heard w log → Heard (Changes.skip_received w upto names) (SkipReceived upto names ∷ log)
+heard-skip : (w : LinkRecord) (log : List LogEntry) (upto : ℕ) (names : List ℕ) → upto < length w.slots → Heard w log → Heard (Changes.receive_skip w upto names) (SkipReceived upto names ∷ log)
 heard-skip w log upto names lt h = step (Changes.skip_counts w upto) refl
   where
     step : (b : Bool) → Changes.skip_counts w upto ≡ b → Heard (if b then record w { skipped = upto + 1; streams = map (Changes.named_by w names) w.streams } else w) (SkipReceived upto names ∷ log)
@@ -238,12 +238,12 @@ pub heard-keeps : (setup : Setup) → Keeps setup Heard
 heard-keeps setup = record {
   begins = record { arrived = λ p. refl; seen = λ p. empty p; covered = λ p. none p; short = omega arith; duplicates = refl };
   quiet = λ w v log g a q h. heard-as w v log q.arrived q.skipped q.duplicates q.grows.slots h;
-  opened = λ w log s g o h. heard-as w (Changes.opened w s) log (λ p. refl) refl refl (omega arith) h;
-  moded = λ w log s u r n g h. heard-as w (Changes.mode_set w s u r n) log (λ p. refl) refl refl (omega arith) h;
+  opened = λ w log s g o h. heard-as w (Changes.after_open w s) log (λ p. refl) refl refl (omega arith) h;
+  moded = λ w log s u r n g h. heard-as w (Changes.after_mode w s u r n) log (λ p. refl) refl refl (omega arith) h;
   slot = λ w log p g lt m h. heard-slot w log p lt h;
   skip = λ w log upto names g lt f h. heard-skip w log upto names lt h;
   reported = λ w log credit g h. record { arrived = h.arrived; seen = h.seen; covered = h.covered; short = h.short; duplicates = refl };
-  taken = λ w log r g h. heard-as w (Changes.sack_taken w (Some (Sack r))) log (λ p. get-numbered (Changes.acknowledged_by r) (λ x. x.arrived) (λ i x. refl) 0 p w.slots Messages.no_slot) refl refl (omega (arith, length-numbered (Changes.acknowledged_by r) 0 w.slots)) h;
+  taken = λ w log r g h. heard-as w (Changes.after_acked w (Some (Sack r))) log (λ p. get-numbered (Changes.acknowledged_by r) (λ x. x.arrived) (λ i x. refl) 0 p w.slots Messages.no_slot) refl refl (omega (arith, length-numbered (Changes.acknowledged_by r) 0 w.slots)) h;
   read = λ w log s n g o e h. heard-as w (Changes.read_of w s (Some n)) log (λ p. refl) refl refl (omega arith) h;
 }
   where
@@ -253,7 +253,7 @@ heard-keeps setup = record {
     empty : (p : ℕ) → false ≡ (nat_lt p 0 || false)
     empty p = ap (λ b. b || false) (none p)
 
-pub heard-run : (setup : Setup) (h : History) → IsSetup setup → IsRun setup h → Heard (world_of setup h) (Log.log_of setup h)
+pub heard-run : (setup : Setup) (h : History) → IsSetup setup → IsRun setup h → Heard (record_of setup h) (Log.log_of setup h)
 heard-run setup h is run = run-keeps setup Heard (heard-keeps setup) h is run
 
 -- ## The laws
@@ -264,7 +264,7 @@ arrived_is_new setup h is run place lt = (heard-run setup h is run).arrived plac
 pub cumulative_is_seen : OnEveryRun CumulativeIsSeen
 cumulative_is_seen setup h is run =
     let g = heard-run setup h is run in
-    cumulative-seen (world_of setup h) g.short ∙ unbroken-same (seen_by (world_of setup h)) (Log.is_seen (Log.log_of setup h)) 0 (length (world_of setup h).slots) (λ k a b. sym (g.seen k))
+    cumulative-seen (record_of setup h) g.short ∙ unbroken-same (seen_by (record_of setup h)) (Log.is_seen (Log.log_of setup h)) 0 (length (record_of setup h).slots) (λ k a b. sym (g.seen k))
 
 any-same : (p q : ℕ → Bool) (xs : List ℕ) → ((k : ℕ) → p k ≡ q k) → list_any p xs ≡ list_any q xs
 any-same p q [] same = refl
@@ -273,7 +273,7 @@ any-same p q (x ∷ xs) same = rw (same x, any-same p q xs same) refl
 pub arrivals_answered : OnEveryRun ArrivalsAnswered
 arrivals_answered setup h is run =
     let g = heard-run setup h is run in
-    let w = world_of setup h in
+    let w = record_of setup h in
     let log = Log.log_of setup h in (
       λ k slots e. ap (arrive_reply w) e ∙ ap (λ b. if b then R.New else R.Repeat) (any-same (is_new w) (λ p. not (Log.is_seen log p)) slots (λ p. new-unseen w p ∙ ap not (sym (g.seen p)))),
       λ k upto names e. ap (arrive_reply w) e ∙ ap (λ b. if b then R.Skipped else R.Stale) (sym (counts-heard w log upto g)),

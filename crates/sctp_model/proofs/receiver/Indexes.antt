@@ -3,7 +3,7 @@ use Rattle.std.proofs.Common.{◌≡◌, ℕ, ◌+◌, ◌-◌, ◌<◌, ◌≤�
 use Rattle.std.specs.Prelude.{◌⊎◌, ◌==◌, ◌&&◌, not}
 use Rattle.std.proofs.Math.Nat.{eq-or-lt_of_le}
 use Rattle.std.proofs.lemmas.Bool.{cases_lt}
-use Rattle.sctp_list_lemmas.specs.Kept.{kept, leading}
+use Rattle.sctp_list_lemmas.specs.Kept.{numbers_where, leading}
 use Rattle.sctp_list_lemmas.proofs.Passing.{length-kept-lt}
 use Rattle.sctp_list_lemmas.proofs.More.{both, and}
 use Rattle.sctp_list_lemmas.proofs.Places.{leading-passes, leading-stops, leading-le, leading-is, get-drop, length-dropped, kept-get, kept-place}
@@ -25,8 +25,8 @@ on-alive x s n h = negated (x.message n).expired (both (x.message n).ordered (no
 pub on-is : (x : Shape) (n : ℕ) → (x.message n).ordered ≡ true → (x.message n).expired ≡ false → on x (x.message n).stream n ≡ true
 on-is x n o e = and ((x.message n).stream == (x.message n).stream) ((x.message n).ordered && not (x.message n).expired) (same-yes (x.message n).stream) (and (x.message n).ordered (not (x.message n).expired) o (ap not e))
 
-pub index_on : (x : Shape) (s n : ℕ) → on x s n ≡ true → index x n ≡ length (kept (on x s) 0 n)
-index_on x s n h = ap (λ r. length (kept (on x r) 0 n)) (on-stream x s n h)
+pub index_on : (x : Shape) (s n : ℕ) → on x s n ≡ true → index x n ≡ length (numbers_where (on x s) 0 n)
+index_on x s n h = ap (λ r. length (numbers_where (on x r) 0 n)) (on-stream x s n h)
 
 pub index-lt : (x : Shape) (s j k : ℕ) → on x s j ≡ true → on x s k ≡ true → j < k → index x j < index x k
 index-lt x s j k a b lt = let l = length-kept-lt (on x s) 0 j k (ap (on x s) (zero-add j) ∙ a) lt in omega (arith, index_on x s j a, index_on x s k b, l)
@@ -66,7 +66,7 @@ pub index-at : (v : View) (s j : ℕ) → j < length (line v s) → IsPlaced v s
 index-at v s j lt =
     let r = kept-place (on v.x s) 0 v.x.count j 0 lt in
     let k : get_or (line v s) j 0 ≡ r.k = omega (arith, r.is) in
-    record { made = omega (arith, r.is, r.low); on_it = r.passes; at = index_on v.x s (get_or (line v s) j 0) r.passes ∙ ap (λ n. length (kept (on v.x s) 0 n)) k ∙ r.place_is }
+    record { made = omega (arith, r.is, r.low); on_it = r.passes; at = index_on v.x s (get_or (line v s) j 0) r.passes ∙ ap (λ n. length (numbers_where (on v.x s) 0 n)) k ∙ r.place_is }
 
 -- ## The one expected next
 

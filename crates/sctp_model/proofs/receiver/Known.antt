@@ -1,14 +1,14 @@
 use Rattle.std.proofs.Common.{◌≡◌, ℕ, zero, suc, ◌+◌, ◌-◌, ◌<◌, ◌≤◌, Bool, true, false, List, [], ◌∷◌, ◌++◌, length, take, drop, Some, refl, ap, sym, ◌∙◌, inl, inr, arith}
 use Rattle.std.specs.Prelude.{◌⊎◌, if◌then◌else◌, ◌==◌, ◌&&◌, ◌||◌, not, nat_le, nat_lt}
-use Rattle.std.specs.List.{list_any, list_all}
+use Rattle.std.specs.List.{list_any, list_all, filter}
 use Rattle.std.proofs.Math.Path.{subst}
 use Rattle.std.proofs.lemmas.Bool.{cases_lt}
 use Rattle.std.proofs.lemmas.Bool.Decides.{nat_tests}
-use Rattle.sctp_list_lemmas.specs.Kept.{kept, passing, leading, first_of, or_else}
+use Rattle.sctp_list_lemmas.specs.Kept.{numbers_where, leading, first_of, or_else}
 use Rattle.sctp_list_lemmas.proofs.Passing.{kept-same}
 use Rattle.sctp_list_lemmas.proofs.More.{fails, not_both, both, and, kept-short}
 use Rattle.sctp_list_lemmas.proofs.Alls
-use Rattle.sctp_model.specs.World.{Setup, World}
+use Rattle.sctp_model.specs.LinkRecord.{Setup, LinkRecord}
 use Rattle.sctp_model.specs.Messages
 use Rattle.sctp_model.specs.Receiver.{is_new}
 use Rattle.sctp_model.specs.Changes
@@ -24,13 +24,13 @@ use Rattle.sctp_model.proofs.sender.Grows.{Grows, parts-grown}
 use Rattle.sctp_model.proofs.sender.Moves.{Quiet}
 use Rattle.sctp_model.proofs.receiver.Arrivals.{Heard, with_arrived, arrived-beyond}
 use Rattle.sctp_model.proofs.receiver.View
-use Rattle.sctp_model.proofs.receiver.View.{View, view, has_come, come_count, all_come, whole_at, arrived_in, noted_in, skipped_in, read_in, run, line, next_read}
-use Rattle.sctp_model.proofs.receiver.Wholes
+use Rattle.sctp_model.proofs.receiver.View.{View, view, has_come, come_count, all_come, complete_at, arrived_in, noted_in, skipped_in, read_in, run, line, next_read}
+use Rattle.sctp_model.proofs.receiver.CompleteMessages
 use Rattle.sctp_list_lemmas.proofs.Cases.{by_same, same-yes, same-is, negated}
 use Rattle.sctp_list_lemmas.proofs.Cases.{or-right, or-split, or-none, and-none}
 use Rattle.sctp_list_lemmas.proofs.Tests.{all-more, any-append}
 
--- In every history what is whole in the record is what the order of arrivals makes whole.
+-- In every history what is complete in the record is what the order of arrivals makes complete.
 
 -- ## What the sender's changes leave
 
@@ -43,10 +43,10 @@ pub record Still (u v : View) : Type 0 where
   pub read : (n : ℕ) → n < u.x.count → v.read n ≡ u.read n
   pub unread : (n : ℕ) → u.x.count ≤ n → n < v.x.count → v.read n ≡ false
   pub named : (s : ℕ) → v.named s ≡ u.named s
-  pub whole : (s : ℕ) → v.whole s ≡ u.whole s
+  pub complete : (s : ℕ) → v.complete s ≡ u.complete s
   pub skipped : v.skipped ≡ u.skipped
 
-pub still-of : (setup : Setup) (w v : World) → Sane setup w → Sane setup v → Quiet w v → Still (view w) (view v)
+pub still-of : (setup : Setup) (w v : LinkRecord) → Sane setup w → Sane setup v → Quiet w v → Still (view w) (view v)
 still-of setup w v g a q = record {
   grows = q.grows;
   sender = g.sender;
@@ -56,7 +56,7 @@ still-of setup w v g a q = record {
   read = q.read;
   unread = q.unread;
   named = λ s. ap (λ rs. (Messages.stream_of (record v { streams = rs }) s).named) q.streams;
-  whole = λ s. ap (λ rs. (Messages.stream_of (record v { streams = rs }) s).whole) q.streams;
+  complete = λ s. ap (λ rs. (Messages.stream_of (record v { streams = rs }) s).complete) q.streams;
   skipped = q.skipped;
 }
 
@@ -68,22 +68,22 @@ come-still u v s n = ap length
 pub all-still : (u v : View) → Still u v → (n : ℕ) → n < u.x.count → all_come v n ≡ all_come u n
 all-still u v s n lt = ap (λ c. c == parts v.x n) (come-still u v s n) ∙ ap (λ k. come_count u n == k) (parts-grown u.x v.x s.grows n lt)
 
-pub whole-still : (u v : View) → Still u v → (n : ℕ) → n < u.x.count → whole_at v n ≡ whole_at u n
-whole-still u v s n lt =
-    ap (λ m. if m.ordered then all_come v n else v.read n || list_any (λ k. k == n) (v.whole m.stream)) (s.grows.message n lt)
-    ∙ ap (λ b. if (u.x.message n).ordered then b else v.read n || list_any (λ k. k == n) (v.whole (u.x.message n).stream)) (all-still u v s n lt)
-    ∙ ap (λ b. if (u.x.message n).ordered then all_come u n else b || list_any (λ k. k == n) (v.whole (u.x.message n).stream)) (s.read n lt)
-    ∙ ap (λ l. if (u.x.message n).ordered then all_come u n else u.read n || list_any (λ k. k == n) l) (s.whole (u.x.message n).stream)
+pub complete-still : (u v : View) → Still u v → (n : ℕ) → n < u.x.count → complete_at v n ≡ complete_at u n
+complete-still u v s n lt =
+    ap (λ m. if m.ordered then all_come v n else v.read n || list_any (λ k. k == n) (v.complete m.stream)) (s.grows.message n lt)
+    ∙ ap (λ b. if (u.x.message n).ordered then b else v.read n || list_any (λ k. k == n) (v.complete (u.x.message n).stream)) (all-still u v s n lt)
+    ∙ ap (λ b. if (u.x.message n).ordered then all_come u n else b || list_any (λ k. k == n) (v.complete (u.x.message n).stream)) (s.read n lt)
+    ∙ ap (λ l. if (u.x.message n).ordered then all_come u n else u.read n || list_any (λ k. k == n) l) (s.complete (u.x.message n).stream)
 
 -- what has arrived was sent
 pub come-sent : (v : View) (n : ℕ) → come_count v n ≤ sent v.x n
 come-sent v n = less 0 v.x.slots
   where
-    less : (from count : ℕ) → length (kept (λ k. has v.x n k && v.arrived k) from count) ≤ length (kept (has v.x n) from count)
+    less : (from count : ℕ) → length (numbers_where (λ k. has v.x n k && v.arrived k) from count) ≤ length (numbers_where (has v.x n) from count)
     less from zero = omega arith
     less from (suc count) = step (has v.x n from) (v.arrived from) (less (from + 1) count)
       where
-        step : (c d : Bool) → length (kept (λ k. has v.x n k && v.arrived k) (from + 1) count) ≤ length (kept (has v.x n) (from + 1) count) → length (if c && d then from ∷ kept (λ k. has v.x n k && v.arrived k) (from + 1) count else kept (λ k. has v.x n k && v.arrived k) (from + 1) count) ≤ length (if c then from ∷ kept (has v.x n) (from + 1) count else kept (has v.x n) (from + 1) count)
+        step : (c d : Bool) → length (numbers_where (λ k. has v.x n k && v.arrived k) (from + 1) count) ≤ length (numbers_where (has v.x n) (from + 1) count) → length (if c && d then from ∷ numbers_where (λ k. has v.x n k && v.arrived k) (from + 1) count else numbers_where (λ k. has v.x n k && v.arrived k) (from + 1) count) ≤ length (if c then from ∷ numbers_where (has v.x n) (from + 1) count else numbers_where (has v.x n) (from + 1) count)
         step true true ih = omega (arith, ih)
         step true false ih = omega (arith, ih)
         step false d ih = ih
@@ -97,67 +97,67 @@ pub record IsReady (v : View) (s n : ℕ) : Type 0 where
   pub kind : (v.x.message n).ordered ≡ false
   pub unread : v.read n ≡ false
 
-pub record Whole (v : View) (log : List LogEntry) : Type 0 where
-  pub datagram_received : Wholes.SlotsReceived v.x log
-  pub ready : (s n : ℕ) → list_any (λ k. k == n) (v.whole s) ≡ true → IsReady v s n
-  pub differ : (s : ℕ) → AllDifferent (v.whole s)
-  pub agrees : (n : ℕ) → n < v.x.count → whole_at v n ≡ Wholes.whole_in v.x log n
+pub record Complete (v : View) (log : List LogEntry) : Type 0 where
+  pub datagram_received : CompleteMessages.SlotsReceived v.x log
+  pub ready : (s n : ℕ) → list_any (λ k. k == n) (v.complete s) ≡ true → IsReady v s n
+  pub differ : (s : ℕ) → AllDifferent (v.complete s)
+  pub agrees : (n : ℕ) → n < v.x.count → complete_at v n ≡ CompleteMessages.complete_in v.x log n
 
-pub record Known (w : World) (log : List LogEntry) : Type 0 where
+pub record Known (w : LinkRecord) (log : List LogEntry) : Type 0 where
   pub heard : Heard w log
-  pub whole : Whole (view w) log
+  pub complete : Complete (view w) log
 
-pub hears : (w : World) (log : List LogEntry) → Heard w log → Wholes.Hears (view w) log
+pub hears : (w : LinkRecord) (log : List LogEntry) → Heard w log → CompleteMessages.Hears (view w) log
 hears w log h = record { arrived = h.arrived; covered = h.covered }
 
-pub whole-as : (u v : View) (log : List LogEntry) → v ≡ u → Whole u log → Whole v log
-whole-as u v log e h = subst (λ y. Whole y log) (sym e) h
+pub complete-as : (u v : View) (log : List LogEntry) → v ≡ u → Complete u log → Complete v log
+complete-as u v log e h = subst (λ y. Complete y log) (sym e) h
 
 -- ## The sender's changes
 
 different-same : (xs ys : List ℕ) → ys ≡ xs → AllDifferent xs → AllDifferent ys
 different-same xs ys e a = subst AllDifferent (sym e) a
 
-pub whole-quiet : (u v : View) (log : List LogEntry) → ((p : ℕ) → u.arrived p ≡ Log.arrived_new log p) → Still u v → Whole u log → Whole v log
-whole-quiet u v log heard s h = record {
-  datagram_received = Wholes.received-later u.x v.x s.grows.slots log h.datagram_received;
-  ready = λ t n e. let r = h.ready t n (ap (list_any (λ k. k == n)) (sym (s.whole t)) ∙ e) in
+pub complete-quiet : (u v : View) (log : List LogEntry) → ((p : ℕ) → u.arrived p ≡ Log.arrived_new log p) → Still u v → Complete u log → Complete v log
+complete-quiet u v log heard s h = record {
+  datagram_received = CompleteMessages.received-later u.x v.x s.grows.slots log h.datagram_received;
+  ready = λ t n e. let r = h.ready t n (ap (list_any (λ k. k == n)) (sym (s.complete t)) ∙ e) in
       record { made = omega (arith, r.made, s.grows.count); stream = ap (λ m. m.stream) (s.grows.message n r.made) ∙ r.stream; kind = ap (λ m. m.ordered) (s.grows.message n r.made) ∙ r.kind; unread = s.read n r.made ∙ r.unread };
-  differ = λ t. different-same (u.whole t) (v.whole t) (s.whole t) (h.differ t);
+  differ = λ t. different-same (u.complete t) (v.complete t) (s.complete t) (h.differ t);
   agrees = λ n lt. by n lt (cases_lt n u.x.count);
 }
   where
-    new-at : (n : ℕ) → n < v.x.count → u.x.count ≤ n → whole_at v n ≡ false
+    new-at : (n : ℕ) → n < v.x.count → u.x.count ≤ n → complete_at v n ≡ false
     new-at n lt ge = kind (v.x.message n).ordered refl
       where
         none : come_count v n ≡ 0
         none = omega (arith, come-still u v s n, come-sent u n, sent-none u.x n s.sender ge)
 
-        kind : (b : Bool) → (v.x.message n).ordered ≡ b → (if b then all_come v n else v.read n || list_any (λ k. k == n) (v.whole (v.x.message n).stream)) ≡ false
+        kind : (b : Bool) → (v.x.message n).ordered ≡ b → (if b then all_come v n else v.read n || list_any (λ k. k == n) (v.complete (v.x.message n).stream)) ≡ false
         kind true e = let z : come_count v n < parts v.x n = omega (arith, none, s.sender'.some n lt) in grind (arith, nat_tests)
         kind false e =
-            ap (λ b. b || list_any (λ k. k == n) (v.whole (v.x.message n).stream)) (s.unread n ge lt)
-            ∙ fails (list_any (λ k. k == n) (v.whole (v.x.message n).stream)) (λ i. absurd (omega (arith, (h.ready (v.x.message n).stream n (ap (list_any (λ k. k == n)) (sym (s.whole (v.x.message n).stream)) ∙ i)).made)))
+            ap (λ b. b || list_any (λ k. k == n) (v.complete (v.x.message n).stream)) (s.unread n ge lt)
+            ∙ fails (list_any (λ k. k == n) (v.complete (v.x.message n).stream)) (λ i. absurd (omega (arith, (h.ready (v.x.message n).stream n (ap (list_any (λ k. k == n)) (sym (s.complete (v.x.message n).stream)) ∙ i)).made)))
 
-    new-in : (n : ℕ) → n < v.x.count → u.x.count ≤ n → Wholes.whole_in v.x log n ≡ false
-    new-in n lt ge = fails (Wholes.whole_in v.x log n) (λ e. let y = Wholes.whole-come v log n (λ p. s.arrived p ∙ heard p) (s.sender'.within n lt) e in
+    new-in : (n : ℕ) → n < v.x.count → u.x.count ≤ n → CompleteMessages.complete_in v.x log n ≡ false
+    new-in n lt ge = fails (CompleteMessages.complete_in v.x log n) (λ e. let y = CompleteMessages.complete-come v log n (λ p. s.arrived p ∙ heard p) (s.sender'.within n lt) e in
         let z = same-is (come_count v n) (parts v.x n) y in absurd (omega (arith, z, come-still u v s n, come-sent u n, sent-none u.x n s.sender ge, s.sender'.some n lt)))
 
-    by : (n : ℕ) → n < v.x.count → (n < u.x.count) ⊎ (u.x.count ≤ n) → whole_at v n ≡ Wholes.whole_in v.x log n
-    by n lt (inl l) = whole-still u v s n l ∙ h.agrees n l ∙ sym (Wholes.whole-later u.x v.x s.sender s.sender' s.grows log h.datagram_received n l)
+    by : (n : ℕ) → n < v.x.count → (n < u.x.count) ⊎ (u.x.count ≤ n) → complete_at v n ≡ CompleteMessages.complete_in v.x log n
+    by n lt (inl l) = complete-still u v s n l ∙ h.agrees n l ∙ sym (CompleteMessages.complete-later u.x v.x s.sender s.sender' s.grows log h.datagram_received n l)
     by n lt (inr ge) = new-at n lt ge ∙ sym (new-in n lt ge)
 
 -- ## A slot comes
 
 abbrev pub noting : View → ℕ → View
-noting v n = if not (v.x.message n).ordered && Wholes.due v n then noted_in v (v.x.message n).stream n else v
+noting v n = if not (v.x.message n).ordered && CompleteMessages.due v n then noted_in v (v.x.message n).stream n else v
 
-pub view-received : (setup : Setup) (w : World) (p : ℕ) → Sane setup w → p < length w.slots → is_new w p ≡ true → view (Changes.slot_received w p) ≡ noting (arrived_in (view w) p) (Messages.message_of w p)
-view-received setup w p g lt new = ap (λ b. view (if b then Changes.whole_noted (with_arrived w p) (Messages.message_of w p) else record w { duplicates = w.duplicates ++ p ∷ [] })) new
-    ∙ step (Changes.becomes_whole (with_arrived w p) (Messages.message_of w p))
+pub view-received : (setup : Setup) (w : LinkRecord) (p : ℕ) → Sane setup w → p < length w.slots → is_new w p ≡ true → view (Changes.receive_slot w p) ≡ noting (arrived_in (view w) p) (Messages.message_of w p)
+view-received setup w p g lt new = ap (λ b. view (if b then Changes.note_completion (with_arrived w p) (Messages.message_of w p) else record w { duplicates = w.duplicates ++ p ∷ [] })) new
+    ∙ step (Changes.becomes_complete (with_arrived w p) (Messages.message_of w p))
     ∙ ap (λ v. noting v (Messages.message_of w p)) (View.view-arrived w p lt)
   where
-    step : (b : Bool) → view (if b then Changes.stream_changed (with_arrived w p) (Messages.message_at w (Messages.message_of w p)).stream (Changes.with_whole (Messages.message_of w p)) else with_arrived w p) ≡ (if b then noted_in (view (with_arrived w p)) (Messages.message_at w (Messages.message_of w p)).stream (Messages.message_of w p) else view (with_arrived w p))
+    step : (b : Bool) → view (if b then Changes.stream_changed (with_arrived w p) (Messages.message_at w (Messages.message_of w p)).stream (Changes.with_complete (Messages.message_of w p)) else with_arrived w p) ≡ (if b then noted_in (view (with_arrived w p)) (Messages.message_at w (Messages.message_of w p)).stream (Messages.message_of w p) else view (with_arrived w p))
     step true = View.view-noted (with_arrived w p) (Messages.message_at w (Messages.message_of w p)).stream (Messages.message_of w p) (g.known (Messages.message_of w p) (g.sender.made p lt))
     step false = refl
 
@@ -178,7 +178,7 @@ differ-more (x ∷ xs) n e a = (any-append (λ y. y == x) xs (n ∷ []) ∙ ap (
 
 -- a message with a slot that has not arrived
 pub not-all : (v : View) (n p : ℕ) → sent v.x n ≤ parts v.x n → p < v.x.slots → has v.x n p ≡ true → v.arrived p ≡ false → all_come v n ≡ false
-not-all v n p le lt h e = fails (all_come v n) (λ a. not_both (sym e ∙ Alls.all-at v.arrived (has v.x n) p 0 v.x.slots (omega arith) (omega arith) h (both (sent v.x n == parts v.x n) (list_all v.arrived (Wholes.slots_in v.x n)) (sym (Wholes.all-come v n le) ∙ a)).1))
+not-all v n p le lt h e = fails (all_come v n) (λ a. not_both (sym e ∙ Alls.all-at v.arrived (has v.x n) p 0 v.x.slots (omega arith) (omega arith) h (both (sent v.x n == parts v.x n) (list_all v.arrived (CompleteMessages.slots_in v.x n)) (sym (CompleteMessages.all-come v n le) ∙ a)).1))
 
 -- another message has arrived as it had
 pub come-other : (v : View) (p n : ℕ) → ((v.x.slot p).message ≡ n → ⊥) → come_count (arrived_in v p) n ≡ come_count v n
@@ -186,7 +186,7 @@ come-other v p n ne = ap length (kept-same (has_come (arrived_in v p) n) (has_co
     (λ e. let off : has v.x n k ≡ false = fails (has v.x n k) (λ i. ne (sym (ap (λ q. (v.x.slot q).message) e) ∙ (of-has v.x n k i).0)) in rw off refl)
     (λ nk f. ap (λ b. has v.x n k && (if b then true else v.arrived k)) f)))
 
-module _ (v : View) (log : List LogEntry) (p : ℕ) (s : Sender v.x) (h : Whole v log) (heard : Wholes.Hears v log) (heard' : Wholes.Hears (arrived_in v p) (SlotReceived p ∷ log)) (lt : p < v.x.slots) (mark : (v.x.slot p).is_terminal_chunk ≡ false) (new : v.arrived p ≡ false) where
+module _ (v : View) (log : List LogEntry) (p : ℕ) (s : Sender v.x) (h : Complete v log) (heard : CompleteMessages.Hears v log) (heard' : CompleteMessages.Hears (arrived_in v p) (SlotReceived p ∷ log)) (lt : p < v.x.slots) (mark : (v.x.slot p).is_terminal_chunk ≡ false) (new : v.arrived p ≡ false) where
   abbrev m : ℕ
   m = (v.x.slot p).message
 
@@ -202,118 +202,118 @@ module _ (v : View) (log : List LogEntry) (p : ℕ) (s : Sender v.x) (h : Whole 
   here : has v.x m p ≡ true
   here = and ((v.x.slot p).message == m) (not (v.x.slot p).is_terminal_chunk) (same-yes m) (ap not mark)
 
-  -- it was not whole before
-  pub not-whole : (v.x.message m).ordered ≡ false → whole_at v m ≡ false
-  not-whole o = fails (whole_at v m) (λ e. not_both (sym (not-all v m p (s.within m made) lt here new) ∙ Wholes.whole-come v log m heard.arrived (s.within m made) (sym (h.agrees m made) ∙ e)))
+  -- it was not complete before
+  pub not-complete : (v.x.message m).ordered ≡ false → complete_at v m ≡ false
+  not-complete o = fails (complete_at v m) (λ e. not_both (sym (not-all v m p (s.within m made) lt here new) ∙ CompleteMessages.complete-come v log m heard.arrived (s.within m made) (sym (h.agrees m made) ∙ e)))
 
-  pub due-other : (n : ℕ) → (m ≡ n → ⊥) → Wholes.due v1 n ≡ Wholes.due v n
-  due-other n ne = ap (λ c. (c == parts v.x n) && list_all (λ q. nat_le v.skipped q) (Wholes.slots_in v.x n)) (come-other v p n ne)
+  pub due-other : (n : ℕ) → (m ≡ n → ⊥) → CompleteMessages.due v1 n ≡ CompleteMessages.due v n
+  due-other n ne = ap (λ c. (c == parts v.x n) && list_all (λ q. nat_le v.skipped q) (CompleteMessages.slots_in v.x n)) (come-other v p n ne)
 
-  -- who is whole then
-  pub whole-then : (n : ℕ) → n < v.x.count → (v.x.message n).ordered ≡ false → whole_at v2 n ≡ (whole_at v n || Wholes.due v1 n)
-  whole-then n l o = by_same {P = whole_at v2 n ≡ (whole_at v n || Wholes.due v1 n)} m n
-      (λ e. same e (Wholes.due v1 m) refl)
-      (λ ne f. other ne f (not (v.x.message m).ordered && Wholes.due v1 m) ∙ sym (stays ne))
+  -- who is complete then
+  pub complete-then : (n : ℕ) → n < v.x.count → (v.x.message n).ordered ≡ false → complete_at v2 n ≡ (complete_at v n || CompleteMessages.due v1 n)
+  complete-then n l o = by_same {P = complete_at v2 n ≡ (complete_at v n || CompleteMessages.due v1 n)} m n
+      (λ e. same e (CompleteMessages.due v1 m) refl)
+      (λ ne f. other ne f (not (v.x.message m).ordered && CompleteMessages.due v1 m) ∙ sym (stays ne))
     where
-      plain : whole_at v n ≡ (v.read n || list_any (λ k. k == n) (v.whole (v.x.message n).stream))
-      plain = ap (λ b. if b then all_come v n else v.read n || list_any (λ k. k == n) (v.whole (v.x.message n).stream)) o
+      plain : complete_at v n ≡ (v.read n || list_any (λ k. k == n) (v.complete (v.x.message n).stream))
+      plain = ap (λ b. if b then all_come v n else v.read n || list_any (λ k. k == n) (v.complete (v.x.message n).stream)) o
 
-      same : m ≡ n → (b : Bool) → Wholes.due v1 m ≡ b → whole_at v2 n ≡ (whole_at v n || Wholes.due v1 n)
+      same : m ≡ n → (b : Bool) → CompleteMessages.due v1 m ≡ b → complete_at v2 n ≡ (complete_at v n || CompleteMessages.due v1 n)
       same e true f =
           let un : not (v.x.message m).ordered ≡ true = ap (λ k. not (v.x.message k).ordered) e ∙ ap not o in
-          ap (λ b. whole_at (if b then noted_in v1 (v.x.message m).stream m else v1) n) (and (not (v.x.message m).ordered) (Wholes.due v1 m) un f)
-          ∙ ap (λ b. if b then all_come (noted_in v1 (v.x.message m).stream m) n else v.read n || list_any (λ k. k == n) (if (v.x.message n).stream == (v.x.message m).stream then v.whole (v.x.message n).stream ++ m ∷ [] else v.whole (v.x.message n).stream)) o
-          ∙ or-right (v.read n) (list_any (λ k. k == n) (if (v.x.message n).stream == (v.x.message m).stream then v.whole (v.x.message n).stream ++ m ∷ [] else v.whole (v.x.message n).stream))
-          (ap (λ b. list_any (λ k. k == n) (if b then v.whole (v.x.message n).stream ++ m ∷ [] else v.whole (v.x.message n).stream)) (ap (λ k. (v.x.message n).stream == (v.x.message k).stream) e ∙ same-yes (v.x.message n).stream)
-          ∙ any-append (λ k. k == n) (v.whole (v.x.message n).stream) (m ∷ []) ∙ or-right (list_any (λ k. k == n) (v.whole (v.x.message n).stream)) ((m == n) || false) (or-left' (m == n) (ap (λ k. k == n) e ∙ same-yes n)))
-          ∙ sym (or-right (whole_at v n) (Wholes.due v1 n) (ap (Wholes.due v1) (sym e) ∙ f))
+          ap (λ b. complete_at (if b then noted_in v1 (v.x.message m).stream m else v1) n) (and (not (v.x.message m).ordered) (CompleteMessages.due v1 m) un f)
+          ∙ ap (λ b. if b then all_come (noted_in v1 (v.x.message m).stream m) n else v.read n || list_any (λ k. k == n) (if (v.x.message n).stream == (v.x.message m).stream then v.complete (v.x.message n).stream ++ m ∷ [] else v.complete (v.x.message n).stream)) o
+          ∙ or-right (v.read n) (list_any (λ k. k == n) (if (v.x.message n).stream == (v.x.message m).stream then v.complete (v.x.message n).stream ++ m ∷ [] else v.complete (v.x.message n).stream))
+          (ap (λ b. list_any (λ k. k == n) (if b then v.complete (v.x.message n).stream ++ m ∷ [] else v.complete (v.x.message n).stream)) (ap (λ k. (v.x.message n).stream == (v.x.message k).stream) e ∙ same-yes (v.x.message n).stream)
+          ∙ any-append (λ k. k == n) (v.complete (v.x.message n).stream) (m ∷ []) ∙ or-right (list_any (λ k. k == n) (v.complete (v.x.message n).stream)) ((m == n) || false) (or-left' (m == n) (ap (λ k. k == n) e ∙ same-yes n)))
+          ∙ sym (or-right (complete_at v n) (CompleteMessages.due v1 n) (ap (CompleteMessages.due v1) (sym e) ∙ f))
         where
           or-left' : (b : Bool) → b ≡ true → (b || false) ≡ true
           or-left' true e = refl
           or-left' false e = cc
       same e false f =
-          ap (λ b. whole_at (if b then noted_in v1 (v.x.message m).stream m else v1) n) (ap (λ b. not (v.x.message m).ordered && b) f ∙ and-none (not (v.x.message m).ordered))
-          ∙ ap (λ b. if b then all_come v1 n else v.read n || list_any (λ k. k == n) (v.whole (v.x.message n).stream)) o
-          ∙ sym plain ∙ sym (or-none (whole_at v n)) ∙ ap (λ b. whole_at v n || b) (sym (ap (Wholes.due v1) (sym e) ∙ f))
+          ap (λ b. complete_at (if b then noted_in v1 (v.x.message m).stream m else v1) n) (ap (λ b. not (v.x.message m).ordered && b) f ∙ and-none (not (v.x.message m).ordered))
+          ∙ ap (λ b. if b then all_come v1 n else v.read n || list_any (λ k. k == n) (v.complete (v.x.message n).stream)) o
+          ∙ sym plain ∙ sym (or-none (complete_at v n)) ∙ ap (λ b. complete_at v n || b) (sym (ap (CompleteMessages.due v1) (sym e) ∙ f))
 
-      other : (m ≡ n → ⊥) → (m == n) ≡ false → (b : Bool) → whole_at (if b then noted_in v1 (v.x.message m).stream m else v1) n ≡ whole_at v n
+      other : (m ≡ n → ⊥) → (m == n) ≡ false → (b : Bool) → complete_at (if b then noted_in v1 (v.x.message m).stream m else v1) n ≡ complete_at v n
       other ne f true =
-          ap (λ b. if b then all_come (noted_in v1 (v.x.message m).stream m) n else v.read n || list_any (λ k. k == n) (if (v.x.message n).stream == (v.x.message m).stream then v.whole (v.x.message n).stream ++ m ∷ [] else v.whole (v.x.message n).stream)) o
+          ap (λ b. if b then all_come (noted_in v1 (v.x.message m).stream m) n else v.read n || list_any (λ k. k == n) (if (v.x.message n).stream == (v.x.message m).stream then v.complete (v.x.message n).stream ++ m ∷ [] else v.complete (v.x.message n).stream)) o
           ∙ ap (λ b. v.read n || b) (either ((v.x.message n).stream == (v.x.message m).stream)) ∙ sym plain
         where
-          either : (b : Bool) → list_any (λ k. k == n) (if b then v.whole (v.x.message n).stream ++ m ∷ [] else v.whole (v.x.message n).stream) ≡ list_any (λ k. k == n) (v.whole (v.x.message n).stream)
-          either true = any-append (λ k. k == n) (v.whole (v.x.message n).stream) (m ∷ []) ∙ ap (λ b. list_any (λ k. k == n) (v.whole (v.x.message n).stream) || (b || false)) f ∙ or-none (list_any (λ k. k == n) (v.whole (v.x.message n).stream))
+          either : (b : Bool) → list_any (λ k. k == n) (if b then v.complete (v.x.message n).stream ++ m ∷ [] else v.complete (v.x.message n).stream) ≡ list_any (λ k. k == n) (v.complete (v.x.message n).stream)
+          either true = any-append (λ k. k == n) (v.complete (v.x.message n).stream) (m ∷ []) ∙ ap (λ b. list_any (λ k. k == n) (v.complete (v.x.message n).stream) || (b || false)) f ∙ or-none (list_any (λ k. k == n) (v.complete (v.x.message n).stream))
           either false = refl
-      other ne f false = ap (λ b. if b then all_come v1 n else v.read n || list_any (λ k. k == n) (v.whole (v.x.message n).stream)) o ∙ sym plain
+      other ne f false = ap (λ b. if b then all_come v1 n else v.read n || list_any (λ k. k == n) (v.complete (v.x.message n).stream)) o ∙ sym plain
 
-      -- what is due was whole
-      stays : (m ≡ n → ⊥) → (whole_at v n || Wholes.due v1 n) ≡ whole_at v n
-      stays ne = by (Wholes.due v n) refl ∙ or-none (whole_at v n)
+      -- what is due was complete
+      stays : (m ≡ n → ⊥) → (complete_at v n || CompleteMessages.due v1 n) ≡ complete_at v n
+      stays ne = by (CompleteMessages.due v n) refl ∙ or-none (complete_at v n)
         where
-          by : (b : Bool) → Wholes.due v n ≡ b → (whole_at v n || Wholes.due v1 n) ≡ (whole_at v n || false)
-          by false e = ap (λ b. whole_at v n || b) (due-other n ne ∙ e)
-          by true e = let y : whole_at v n ≡ true = h.agrees n l ∙ Wholes.due-whole v log n heard (s.within n l) (s.some n l) o e in ap (λ b. b || Wholes.due v1 n) y ∙ sym (ap (λ b. b || false) y)
+          by : (b : Bool) → CompleteMessages.due v n ≡ b → (complete_at v n || CompleteMessages.due v1 n) ≡ (complete_at v n || false)
+          by false e = ap (λ b. complete_at v n || b) (due-other n ne ∙ e)
+          by true e = let y : complete_at v n ≡ true = h.agrees n l ∙ CompleteMessages.due-complete v log n heard (s.within n l) (s.some n l) o e in ap (λ b. b || CompleteMessages.due v1 n) y ∙ sym (ap (λ b. b || false) y)
 
-  agrees-then : (n : ℕ) → n < v.x.count → whole_at v2 n ≡ Wholes.whole_in v.x (SlotReceived p ∷ log) n
+  agrees-then : (n : ℕ) → n < v.x.count → complete_at v2 n ≡ CompleteMessages.complete_in v.x (SlotReceived p ∷ log) n
   agrees-then n l = by (v.x.message n).ordered refl
     where
-      kind : (b : Bool) → (v.x.message n).ordered ≡ true → whole_at (if b then noted_in v1 (v.x.message m).stream m else v1) n ≡ whole_at v1 n
-      kind true o = ap (λ b. if b then all_come v1 n else v.read n || list_any (λ k. k == n) (if (v.x.message n).stream == (v.x.message m).stream then v.whole (v.x.message n).stream ++ m ∷ [] else v.whole (v.x.message n).stream)) o ∙ sym (ap (λ b. if b then all_come v1 n else v.read n || list_any (λ k. k == n) (v.whole (v.x.message n).stream)) o)
+      kind : (b : Bool) → (v.x.message n).ordered ≡ true → complete_at (if b then noted_in v1 (v.x.message m).stream m else v1) n ≡ complete_at v1 n
+      kind true o = ap (λ b. if b then all_come v1 n else v.read n || list_any (λ k. k == n) (if (v.x.message n).stream == (v.x.message m).stream then v.complete (v.x.message n).stream ++ m ∷ [] else v.complete (v.x.message n).stream)) o ∙ sym (ap (λ b. if b then all_come v1 n else v.read n || list_any (λ k. k == n) (v.complete (v.x.message n).stream)) o)
       kind false o = refl
 
-      by : (b : Bool) → (v.x.message n).ordered ≡ b → whole_at v2 n ≡ Wholes.whole_in v.x (SlotReceived p ∷ log) n
-      by true o = kind (not (v.x.message m).ordered && Wholes.due v1 m) o ∙ Wholes.ordered-whole v1 (SlotReceived p ∷ log) n heard'.arrived (s.within n l) o
-      by false o = whole-then n l o ∙ ap (λ b. b || Wholes.due v1 n) (h.agrees n l) ∙ sym (Wholes.one-more v1 (SlotReceived p) log n heard' (s.within n l) o)
+      by : (b : Bool) → (v.x.message n).ordered ≡ b → complete_at v2 n ≡ CompleteMessages.complete_in v.x (SlotReceived p ∷ log) n
+      by true o = kind (not (v.x.message m).ordered && CompleteMessages.due v1 m) o ∙ CompleteMessages.ordered-complete v1 (SlotReceived p ∷ log) n heard'.arrived (s.within n l) o
+      by false o = complete-then n l o ∙ ap (λ b. b || CompleteMessages.due v1 n) (h.agrees n l) ∙ sym (CompleteMessages.one-more v1 (SlotReceived p) log n heard' (s.within n l) o)
 
-  pub whole-slot : Whole v2 (SlotReceived p ∷ log)
-  whole-slot = by (not (v.x.message m).ordered && Wholes.due v1 m) refl
+  pub complete-slot : Complete v2 (SlotReceived p ∷ log)
+  complete-slot = by (not (v.x.message m).ordered && CompleteMessages.due v1 m) refl
     where
-      by : (b : Bool) → (not (v.x.message m).ordered && Wholes.due v1 m) ≡ b → Whole v2 (SlotReceived p ∷ log)
+      by : (b : Bool) → (not (v.x.message m).ordered && CompleteMessages.due v1 m) ≡ b → Complete v2 (SlotReceived p ∷ log)
       by false e =
-          whole-as v1 v2 (SlotReceived p ∷ log) (ap (λ b. if b then noted_in v1 (v.x.message m).stream m else v1) e)
+          complete-as v1 v2 (SlotReceived p ∷ log) (ap (λ b. if b then noted_in v1 (v.x.message m).stream m else v1) e)
           (record {
             datagram_received = (lt, h.datagram_received);
             ready = λ t n i. let r = h.ready t n i in record { made = r.made; stream = r.stream; kind = r.kind; unread = r.unread };
             differ = h.differ;
-            agrees = λ n l. ap (λ b. whole_at (if b then noted_in v1 (v.x.message m).stream m else v1) n) (sym e) ∙ agrees-then n l;
+            agrees = λ n l. ap (λ b. complete_at (if b then noted_in v1 (v.x.message m).stream m else v1) n) (sym e) ∙ agrees-then n l;
           })
       by true e =
-          let kind : (v.x.message m).ordered ≡ false = negated (v.x.message m).ordered (both (not (v.x.message m).ordered) (Wholes.due v1 m) e).0 in
-          whole-as (noted_in v1 (v.x.message m).stream m) v2 (SlotReceived p ∷ log) (ap (λ b. if b then noted_in v1 (v.x.message m).stream m else v1) e)
+          let kind : (v.x.message m).ordered ≡ false = negated (v.x.message m).ordered (both (not (v.x.message m).ordered) (CompleteMessages.due v1 m) e).0 in
+          complete-as (noted_in v1 (v.x.message m).stream m) v2 (SlotReceived p ∷ log) (ap (λ b. if b then noted_in v1 (v.x.message m).stream m else v1) e)
           (record {
             datagram_received = (lt, h.datagram_received);
             ready = λ t n i. waits kind t n (t == (v.x.message m).stream) refl i;
             differ = λ t. apart kind t (t == (v.x.message m).stream) refl;
-            agrees = λ n l. ap (λ b. whole_at (if b then noted_in v1 (v.x.message m).stream m else v1) n) (sym e) ∙ agrees-then n l;
+            agrees = λ n l. ap (λ b. complete_at (if b then noted_in v1 (v.x.message m).stream m else v1) n) (sym e) ∙ agrees-then n l;
           })
         where
           unread : (v.x.message m).ordered ≡ false → v.read m ≡ false
-          unread kind = fails (v.read m) (λ r. not_both (sym (not-whole kind) ∙ ap (λ b. if b then all_come v m else v.read m || list_any (λ k. k == m) (v.whole (v.x.message m).stream)) kind ∙ ap (λ b. b || list_any (λ k. k == m) (v.whole (v.x.message m).stream)) r))
+          unread kind = fails (v.read m) (λ r. not_both (sym (not-complete kind) ∙ ap (λ b. if b then all_come v m else v.read m || list_any (λ k. k == m) (v.complete (v.x.message m).stream)) kind ∙ ap (λ b. b || list_any (λ k. k == m) (v.complete (v.x.message m).stream)) r))
 
-          absent : (v.x.message m).ordered ≡ false → list_any (λ k. k == m) (v.whole (v.x.message m).stream) ≡ false
-          absent kind = fails (list_any (λ k. k == m) (v.whole (v.x.message m).stream)) (λ r. not_both (sym (not-whole kind) ∙ ap (λ b. if b then all_come v m else v.read m || list_any (λ k. k == m) (v.whole (v.x.message m).stream)) kind ∙ or-right (v.read m) (list_any (λ k. k == m) (v.whole (v.x.message m).stream)) r))
+          absent : (v.x.message m).ordered ≡ false → list_any (λ k. k == m) (v.complete (v.x.message m).stream) ≡ false
+          absent kind = fails (list_any (λ k. k == m) (v.complete (v.x.message m).stream)) (λ r. not_both (sym (not-complete kind) ∙ ap (λ b. if b then all_come v m else v.read m || list_any (λ k. k == m) (v.complete (v.x.message m).stream)) kind ∙ or-right (v.read m) (list_any (λ k. k == m) (v.complete (v.x.message m).stream)) r))
 
-          old : (t n : ℕ) → list_any (λ k. k == n) (v.whole t) ≡ true → IsReady (noted_in v1 (v.x.message m).stream m) t n
+          old : (t n : ℕ) → list_any (λ k. k == n) (v.complete t) ≡ true → IsReady (noted_in v1 (v.x.message m).stream m) t n
           old t n i = let r = h.ready t n i in record { made = r.made; stream = r.stream; kind = r.kind; unread = r.unread }
 
-          waits : (v.x.message m).ordered ≡ false → (t n : ℕ) → (b : Bool) → (t == (v.x.message m).stream) ≡ b → list_any (λ k. k == n) (if b then v.whole t ++ m ∷ [] else v.whole t) ≡ true → IsReady (noted_in v1 (v.x.message m).stream m) t n
+          waits : (v.x.message m).ordered ≡ false → (t n : ℕ) → (b : Bool) → (t == (v.x.message m).stream) ≡ b → list_any (λ k. k == n) (if b then v.complete t ++ m ∷ [] else v.complete t) ≡ true → IsReady (noted_in v1 (v.x.message m).stream m) t n
           waits kind t n false f i = old t n i
-          waits kind t n true f i = side (or-split (list_any (λ k. k == n) (v.whole t)) ((m == n) || false) (sym (any-append (λ k. k == n) (v.whole t) (m ∷ [])) ∙ i))
+          waits kind t n true f i = side (or-split (list_any (λ k. k == n) (v.complete t)) ((m == n) || false) (sym (any-append (λ k. k == n) (v.complete t) (m ∷ [])) ∙ i))
             where
-              side : (list_any (λ k. k == n) (v.whole t) ≡ true) ⊎ (((m == n) || false) ≡ true) → IsReady (noted_in v1 (v.x.message m).stream m) t n
+              side : (list_any (λ k. k == n) (v.complete t) ≡ true) ⊎ (((m == n) || false) ≡ true) → IsReady (noted_in v1 (v.x.message m).stream m) t n
               side (inl j) = old t n j
               side (inr j) =
                   let z : m ≡ n = same-is m n (sym (or-none (m == n)) ∙ j) in
                   subst (λ k. IsReady (noted_in v1 (v.x.message m).stream m) t k) z (record { made = made; stream = sym (same-is t (v.x.message m).stream f); kind = kind; unread = unread kind })
 
-          apart : (v.x.message m).ordered ≡ false → (t : ℕ) → (b : Bool) → (t == (v.x.message m).stream) ≡ b → AllDifferent (if b then v.whole t ++ m ∷ [] else v.whole t)
+          apart : (v.x.message m).ordered ≡ false → (t : ℕ) → (b : Bool) → (t == (v.x.message m).stream) ≡ b → AllDifferent (if b then v.complete t ++ m ∷ [] else v.complete t)
           apart kind t false f = h.differ t
-          apart kind t true f = differ-more (v.whole t) m (ap (λ k. list_any (λ k. k == m) (v.whole k)) (same-is t (v.x.message m).stream f) ∙ absent kind) (h.differ t)
+          apart kind t true f = differ-more (v.complete t) m (ap (λ k. list_any (λ k. k == m) (v.complete k)) (same-is t (v.x.message m).stream f) ∙ absent kind) (h.differ t)
 
 -- ## Other things come
 
--- nothing becomes whole
-agrees-still : (u v : View) (coming : LogEntry) (log : List LogEntry) → Wholes.Hears u log → Wholes.Hears v (coming ∷ log) → v.x ≡ u.x → Sender u.x → Whole u log → ((n : ℕ) → n < u.x.count → whole_at v n ≡ whole_at u n) → ((n : ℕ) → Wholes.due v n ≡ true → Wholes.due u n ≡ true) → (n : ℕ) → n < u.x.count → whole_at v n ≡ Wholes.whole_in u.x (coming ∷ log) n
+-- nothing becomes complete
+agrees-still : (u v : View) (coming : LogEntry) (log : List LogEntry) → CompleteMessages.Hears u log → CompleteMessages.Hears v (coming ∷ log) → v.x ≡ u.x → Sender u.x → Complete u log → ((n : ℕ) → n < u.x.count → complete_at v n ≡ complete_at u n) → ((n : ℕ) → CompleteMessages.due v n ≡ true → CompleteMessages.due u n ≡ true) → (n : ℕ) → n < u.x.count → complete_at v n ≡ CompleteMessages.complete_in u.x (coming ∷ log) n
 agrees-still u v coming log heard heard' e s h same less n lt = by (u.x.message n).ordered refl
   where
     s' : Sender v.x
@@ -325,71 +325,71 @@ agrees-still u v coming log heard heard' e s h same less n lt = by (u.x.message 
     kind : (u.x.message n).ordered ≡ (v.x.message n).ordered
     kind = ap (λ y. (y.message n).ordered) (sym e)
 
-    by : (b : Bool) → (u.x.message n).ordered ≡ b → whole_at v n ≡ Wholes.whole_in u.x (coming ∷ log) n
-    by true o = Wholes.ordered-whole v (coming ∷ log) n heard'.arrived le (sym kind ∙ o) ∙ ap (λ y. Wholes.whole_in y (coming ∷ log) n) e
+    by : (b : Bool) → (u.x.message n).ordered ≡ b → complete_at v n ≡ CompleteMessages.complete_in u.x (coming ∷ log) n
+    by true o = CompleteMessages.ordered-complete v (coming ∷ log) n heard'.arrived le (sym kind ∙ o) ∙ ap (λ y. CompleteMessages.complete_in y (coming ∷ log) n) e
     by false o =
-        same n lt ∙ h.agrees n lt ∙ sym (ap (λ y. Wholes.whole_in y (coming ∷ log) n) (sym e) ∙ Wholes.one-more v coming log n heard' le (sym kind ∙ o) ∙ ap (λ y. Wholes.whole_in y log n || Wholes.due v n) e ∙ gone (Wholes.due v n) refl)
+        same n lt ∙ h.agrees n lt ∙ sym (ap (λ y. CompleteMessages.complete_in y (coming ∷ log) n) (sym e) ∙ CompleteMessages.one-more v coming log n heard' le (sym kind ∙ o) ∙ ap (λ y. CompleteMessages.complete_in y log n || CompleteMessages.due v n) e ∙ gone (CompleteMessages.due v n) refl)
       where
-        gone : (b : Bool) → Wholes.due v n ≡ b → (Wholes.whole_in u.x log n || Wholes.due v n) ≡ Wholes.whole_in u.x log n
-        gone true f = let y = Wholes.due-whole u log n heard (s.within n lt) (s.some n lt) o (less n f) in ap (λ b. b || Wholes.due v n) y ∙ sym y
-        gone false f = ap (λ b. Wholes.whole_in u.x log n || b) f ∙ or-none (Wholes.whole_in u.x log n)
+        gone : (b : Bool) → CompleteMessages.due v n ≡ b → (CompleteMessages.complete_in u.x log n || CompleteMessages.due v n) ≡ CompleteMessages.complete_in u.x log n
+        gone true f = let y = CompleteMessages.due-complete u log n heard (s.within n lt) (s.some n lt) o (less n f) in ap (λ b. b || CompleteMessages.due v n) y ∙ sym y
+        gone false f = ap (λ b. CompleteMessages.complete_in u.x log n || b) f ∙ or-none (CompleteMessages.complete_in u.x log n)
 
 -- a slot comes again, or a SACK is made
-pub whole-again : (v : View) (coming : LogEntry) (log : List LogEntry) → Wholes.Hears v log → Wholes.Hears v (coming ∷ log) → Sender v.x → Wholes.SlotsReceived v.x (coming ∷ log) → Whole v log → Whole v (coming ∷ log)
-whole-again v coming log heard heard' s datagram_received h = record { datagram_received = datagram_received; ready = h.ready; differ = h.differ; agrees = agrees-still v v coming log heard heard' refl s h (λ n lt. refl) (λ n e. e) }
+pub complete-again : (v : View) (coming : LogEntry) (log : List LogEntry) → CompleteMessages.Hears v log → CompleteMessages.Hears v (coming ∷ log) → Sender v.x → CompleteMessages.SlotsReceived v.x (coming ∷ log) → Complete v log → Complete v (coming ∷ log)
+complete-again v coming log heard heard' s datagram_received h = record { datagram_received = datagram_received; ready = h.ready; differ = h.differ; agrees = agrees-still v v coming log heard heard' refl s h (λ n lt. refl) (λ n e. e) }
 
-pub whole-skip : (v : View) (log : List LogEntry) (upto : ℕ) (names : List ℕ) → Wholes.Hears v log → Wholes.Hears (skipped_in v upto names) (SkipReceived upto names ∷ log) → Sender v.x → v.skipped ≤ upto → Whole v log → Whole (skipped_in v upto names) (SkipReceived upto names ∷ log)
-whole-skip v log upto names heard heard' s le h = record {
+pub complete-skip : (v : View) (log : List LogEntry) (upto : ℕ) (names : List ℕ) → CompleteMessages.Hears v log → CompleteMessages.Hears (skipped_in v upto names) (SkipReceived upto names ∷ log) → Sender v.x → v.skipped ≤ upto → Complete v log → Complete (skipped_in v upto names) (SkipReceived upto names ∷ log)
+complete-skip v log upto names heard heard' s le h = record {
   datagram_received = h.datagram_received;
   ready = λ t n i. let r = h.ready t n i in record { made = r.made; stream = r.stream; kind = r.kind; unread = r.unread };
   differ = h.differ;
   agrees = agrees-still v (skipped_in v upto names) (SkipReceived upto names) log heard heard' refl s h (λ n lt. refl) (λ n e. less n e);
 }
   where
-    less : (n : ℕ) → Wholes.due (skipped_in v upto names) n ≡ true → Wholes.due v n ≡ true
+    less : (n : ℕ) → CompleteMessages.due (skipped_in v upto names) n ≡ true → CompleteMessages.due v n ≡ true
     less n e =
-        let a = both (all_come v n) (list_all (λ p. nat_le (upto + 1) p) (Wholes.slots_in v.x n)) e in
-        and (all_come v n) (list_all (λ p. nat_le v.skipped p) (Wholes.slots_in v.x n)) a.0 (all-more (λ p. nat_le (upto + 1) p) (λ p. nat_le v.skipped p) (Wholes.slots_in v.x n) (λ k f. let z : upto + 1 ≤ k = grind (arith, nat_tests) in let y : v.skipped ≤ k = omega (arith, z, le) in grind (arith, nat_tests)) a.1)
+        let a = both (all_come v n) (list_all (λ p. nat_le (upto + 1) p) (CompleteMessages.slots_in v.x n)) e in
+        and (all_come v n) (list_all (λ p. nat_le v.skipped p) (CompleteMessages.slots_in v.x n)) a.0 (all-more (λ p. nat_le (upto + 1) p) (λ p. nat_le v.skipped p) (CompleteMessages.slots_in v.x n) (λ k f. let z : upto + 1 ≤ k = grind (arith, nat_tests) in let y : v.skipped ≤ k = omega (arith, z, le) in grind (arith, nat_tests)) a.1)
 
 -- ## A read
 
 -- what is read next: a complete unordered message, or the first unread one of the run
-pub record ReadsWhole (v : View) (s n : ℕ) : Type 0 where
+pub record ReadsComplete (v : View) (s n : ℕ) : Type 0 where
   pub rest : List ℕ
-  pub is : v.whole s ≡ n ∷ rest
+  pub is : v.complete s ≡ n ∷ rest
 
 pub record ReadsRun (v : View) (s n : ℕ) : Type 0 where
-  pub none : v.whole s ≡ []
-  pub first : first_of (passing (λ n. not (v.read n)) (run v s)) ≡ Some n
+  pub none : v.complete s ≡ []
+  pub first : first_of (filter (λ n. not (v.read n)) (run v s)) ≡ Some n
 
-pub reads : (v : View) (s n : ℕ) → next_read v s ≡ Some n → ReadsWhole v s n ⊎ ReadsRun v s n
-reads v s n e = by (v.whole s) refl e
+pub reads : (v : View) (s n : ℕ) → next_read v s ≡ Some n → ReadsComplete v s n ⊎ ReadsRun v s n
+reads v s n e = by (v.complete s) refl e
   where
-    by : (l : List ℕ) → v.whole s ≡ l → or_else (first_of l) (first_of (passing (λ n. not (v.read n)) (run v s))) ≡ Some n → ReadsWhole v s n ⊎ ReadsRun v s n
+    by : (l : List ℕ) → v.complete s ≡ l → or_else (first_of l) (first_of (filter (λ n. not (v.read n)) (run v s))) ≡ Some n → ReadsComplete v s n ⊎ ReadsRun v s n
     by [] f g = inr (record { none = f; first = g })
     by (k ∷ rest) f g = let z : k ≡ n = cc in inl (record { rest = rest; is = f ∙ ap (λ j. j ∷ rest) z })
 
--- one of the run is whole, unread, and on the line
+-- one of the run is complete, unread, and on the line
 pub record IsNext (v : View) (s n : ℕ) : Type 0 where
   pub made : n < v.x.count
   pub on_it : on v.x s n ≡ true
-  pub whole_now : whole_at v n ≡ true
+  pub complete_now : complete_at v n ≡ true
   pub unread : v.read n ≡ false
 
 pub run-is : (v : View) (s n : ℕ) → ReadsRun v s n → IsNext v s n
 run-is v s n r = record {
   made = let t = all (λ k. nat_lt k v.x.count) (λ k a b e. let l : k < v.x.count = omega (arith, b) in grind (arith, nat_tests)) in grind (arith, nat_tests);
   on_it = all (on v.x s) (λ k a b e. e);
-  whole_now = Alls.all-first (whole_at v) (passing (λ n. not (v.read n)) (run v s)) n (Alls.all-passing (whole_at v) (λ n. not (v.read n)) (run v s) (Alls.all-append (whole_at v) (passing (whole_at v) (take (v.named s) (line v s))) (leading (whole_at v) (drop (v.named s) (line v s))) (Alls.all-passed (whole_at v) (take (v.named s) (line v s))) (all-led (whole_at v) (drop (v.named s) (line v s))))) r.first;
-  unread = negated (v.read n) (Alls.all-first (λ n. not (v.read n)) (passing (λ n. not (v.read n)) (run v s)) n (Alls.all-passed (λ n. not (v.read n)) (run v s)) r.first);
+  complete_now = Alls.all-first (complete_at v) (filter (λ n. not (v.read n)) (run v s)) n (Alls.all-passing (complete_at v) (λ n. not (v.read n)) (run v s) (Alls.all-append (complete_at v) (filter (complete_at v) (take (v.named s) (line v s))) (leading (complete_at v) (drop (v.named s) (line v s))) (Alls.all-passed (complete_at v) (take (v.named s) (line v s))) (all-led (complete_at v) (drop (v.named s) (line v s))))) r.first;
+  unread = negated (v.read n) (Alls.all-first (λ n. not (v.read n)) (filter (λ n. not (v.read n)) (run v s)) n (Alls.all-passed (λ n. not (v.read n)) (run v s)) r.first);
 }
   where
     all : (t : ℕ → Bool) → ((k : ℕ) → 0 ≤ k → k < 0 + v.x.count → on v.x s k ≡ true → t k ≡ true) → t n ≡ true
     all t h =
         let base = Alls.all-kept t (on v.x s) 0 v.x.count h in
-        Alls.all-first t (passing (λ n. not (v.read n)) (run v s)) n (Alls.all-passing t (λ n. not (v.read n)) (run v s) (Alls.all-append t (passing (whole_at v) (take (v.named s) (line v s))) (leading (whole_at v) (drop (v.named s) (line v s)))
-        (Alls.all-passing t (whole_at v) (take (v.named s) (line v s)) (Alls.all-take t (v.named s) (line v s) base))
-        (Alls.all-leading t (whole_at v) (drop (v.named s) (line v s)) (Alls.all-drop t (v.named s) (line v s) base)))) r.first
+        Alls.all-first t (filter (λ n. not (v.read n)) (run v s)) n (Alls.all-passing t (λ n. not (v.read n)) (run v s) (Alls.all-append t (filter (complete_at v) (take (v.named s) (line v s))) (leading (complete_at v) (drop (v.named s) (line v s)))
+        (Alls.all-passing t (complete_at v) (take (v.named s) (line v s)) (Alls.all-take t (v.named s) (line v s) base))
+        (Alls.all-leading t (complete_at v) (drop (v.named s) (line v s)) (Alls.all-drop t (v.named s) (line v s) base)))) r.first
 
     all-led : (q : ℕ → Bool) (xs : List ℕ) → list_all q (leading q xs) ≡ true
     all-led q [] = refl
@@ -404,26 +404,26 @@ pub record HasRead (v : View) (s n : ℕ) : Type 0 where
   pub made : n < v.x.count
   pub stream : (v.x.message n).stream ≡ s
   pub unread : v.read n ≡ false
-  pub whole_now : whole_at v n ≡ true
+  pub complete_now : complete_at v n ≡ true
 
-any-here : (n : ℕ) (rest : List ℕ) → list_any (λ k. k == n) (n ∷ rest) ≡ true
+pub any-here : (n : ℕ) (rest : List ℕ) → list_any (λ k. k == n) (n ∷ rest) ≡ true
 any-here n rest = ap (λ b. b || list_any (λ k. k == n) rest) (same-yes n)
 
-pub ready-first : (v : View) (log : List LogEntry) (s n : ℕ) → Whole v log → ReadsWhole v s n → IsReady v s n
+pub ready-first : (v : View) (log : List LogEntry) (s n : ℕ) → Complete v log → ReadsComplete v s n → IsReady v s n
 ready-first v log s n h r = h.ready s n (ap (list_any (λ k. k == n)) r.is ∙ any-here n r.rest)
 
-pub ready-whole : (v : View) (log : List LogEntry) (s n : ℕ) → Whole v log → ReadsWhole v s n → whole_at v n ≡ true
-ready-whole v log s n h r =
+pub ready-complete : (v : View) (log : List LogEntry) (s n : ℕ) → Complete v log → ReadsComplete v s n → complete_at v n ≡ true
+ready-complete v log s n h r =
     let i = ready-first v log s n h r in
-    ap (λ b. if b then all_come v n else v.read n || list_any (λ k. k == n) (v.whole (v.x.message n).stream)) i.kind
-    ∙ or-right (v.read n) (list_any (λ k. k == n) (v.whole (v.x.message n).stream)) (ap (λ t. list_any (λ k. k == n) (v.whole t)) i.stream ∙ ap (list_any (λ k. k == n)) r.is ∙ any-here n r.rest)
+    ap (λ b. if b then all_come v n else v.read n || list_any (λ k. k == n) (v.complete (v.x.message n).stream)) i.kind
+    ∙ or-right (v.read n) (list_any (λ k. k == n) (v.complete (v.x.message n).stream)) (ap (λ t. list_any (λ k. k == n) (v.complete t)) i.stream ∙ ap (list_any (λ k. k == n)) r.is ∙ any-here n r.rest)
 
--- other messages are whole as they were, and so is this one
-pub whole-read : (v : View) (log : List LogEntry) (s n : ℕ) → Whole v log → ReadsWhole v s n ⊎ ReadsRun v s n → (k : ℕ) → whole_at (read_in v s n) k ≡ whole_at v k
-whole-read v log s n h r k = by (v.x.message k).ordered refl
+-- other messages are complete as they were, and so is this one
+pub complete-read : (v : View) (log : List LogEntry) (s n : ℕ) → Complete v log → ReadsComplete v s n ⊎ ReadsRun v s n → (k : ℕ) → complete_at (read_in v s n) k ≡ complete_at v k
+complete-read v log s n h r k = by (v.x.message k).ordered refl
   where
-    flat : (b : Bool) → ((v.x.message k).ordered ≡ b) → whole_at v k ≡ (if b then all_come v k else v.read k || list_any (λ j. j == k) (v.whole (v.x.message k).stream))
-    flat b o = ap (λ b. if b then all_come v k else v.read k || list_any (λ j. j == k) (v.whole (v.x.message k).stream)) o
+    flat : (b : Bool) → ((v.x.message k).ordered ≡ b) → complete_at v k ≡ (if b then all_come v k else v.read k || list_any (λ j. j == k) (v.complete (v.x.message k).stream))
+    flat b o = ap (λ b. if b then all_come v k else v.read k || list_any (λ j. j == k) (v.complete (v.x.message k).stream)) o
 
     miss : (xs : List ℕ) → (k ≡ n → ⊥) → xs ≡ [] ⊎ ((rest : List ℕ) × (xs ≡ n ∷ rest)) → list_any (λ j. j == k) (drop 1 xs) ≡ list_any (λ j. j == k) xs
     miss xs ne (inl e) = ap (λ l. list_any (λ j. j == k) (drop 1 l)) e ∙ sym (ap (list_any (λ j. j == k)) e)
@@ -433,32 +433,32 @@ whole-read v log s n h r k = by (v.x.message k).ordered refl
         dropped [] = refl
         dropped (y ∷ l) = refl
 
-    shape-of : ReadsWhole v s n ⊎ ReadsRun v s n → v.whole s ≡ [] ⊎ ((rest : List ℕ) × (v.whole s ≡ n ∷ rest))
+    shape-of : ReadsComplete v s n ⊎ ReadsRun v s n → v.complete s ≡ [] ⊎ ((rest : List ℕ) × (v.complete s ≡ n ∷ rest))
     shape-of (inl a) = inr (a.rest, a.is)
     shape-of (inr a) = inl a.none
 
-    same : (k ≡ n → ⊥) → (b : Bool) → ((v.x.message k).stream == s) ≡ b → list_any (λ j. j == k) (if b then drop 1 (v.whole (v.x.message k).stream) else v.whole (v.x.message k).stream) ≡ list_any (λ j. j == k) (v.whole (v.x.message k).stream)
-    same ne true e = let z = same-is (v.x.message k).stream s e in ap (λ t. list_any (λ j. j == k) (drop 1 (v.whole t))) z ∙ miss (v.whole s) ne (shape-of r) ∙ sym (ap (λ t. list_any (λ j. j == k) (v.whole t)) z)
+    same : (k ≡ n → ⊥) → (b : Bool) → ((v.x.message k).stream == s) ≡ b → list_any (λ j. j == k) (if b then drop 1 (v.complete (v.x.message k).stream) else v.complete (v.x.message k).stream) ≡ list_any (λ j. j == k) (v.complete (v.x.message k).stream)
+    same ne true e = let z = same-is (v.x.message k).stream s e in ap (λ t. list_any (λ j. j == k) (drop 1 (v.complete t))) z ∙ miss (v.complete s) ne (shape-of r) ∙ sym (ap (λ t. list_any (λ j. j == k) (v.complete t)) z)
     same ne false e = refl
 
-    by : (b : Bool) → (v.x.message k).ordered ≡ b → whole_at (read_in v s n) k ≡ whole_at v k
-    by true o = ap (λ b. if b then all_come v k else (if k == n then true else v.read k) || list_any (λ j. j == k) (if (v.x.message k).stream == s then drop 1 (v.whole (v.x.message k).stream) else v.whole (v.x.message k).stream)) o ∙ sym (flat true o)
+    by : (b : Bool) → (v.x.message k).ordered ≡ b → complete_at (read_in v s n) k ≡ complete_at v k
+    by true o = ap (λ b. if b then all_come v k else (if k == n then true else v.read k) || list_any (λ j. j == k) (if (v.x.message k).stream == s then drop 1 (v.complete (v.x.message k).stream) else v.complete (v.x.message k).stream)) o ∙ sym (flat true o)
     by false o =
-        ap (λ b. if b then all_come v k else (if k == n then true else v.read k) || list_any (λ j. j == k) (if (v.x.message k).stream == s then drop 1 (v.whole (v.x.message k).stream) else v.whole (v.x.message k).stream)) o
-        ∙ by_same {P = ((if k == n then true else v.read k) || list_any (λ j. j == k) (if (v.x.message k).stream == s then drop 1 (v.whole (v.x.message k).stream) else v.whole (v.x.message k).stream)) ≡ whole_at v k} k n
-        (λ e. let yes' : (k == n) ≡ true = ap (λ j. k == j) (sym e) ∙ same-yes k in ap (λ b. (if b then true else v.read k) || list_any (λ j. j == k) (if (v.x.message k).stream == s then drop 1 (v.whole (v.x.message k).stream) else v.whole (v.x.message k).stream)) yes' ∙ sym (was e r))
-        (λ ne f. ap (λ b. (if b then true else v.read k) || list_any (λ j. j == k) (if (v.x.message k).stream == s then drop 1 (v.whole (v.x.message k).stream) else v.whole (v.x.message k).stream)) f ∙ ap (λ b. v.read k || b) (same ne ((v.x.message k).stream == s) refl) ∙ sym (flat false o))
+        ap (λ b. if b then all_come v k else (if k == n then true else v.read k) || list_any (λ j. j == k) (if (v.x.message k).stream == s then drop 1 (v.complete (v.x.message k).stream) else v.complete (v.x.message k).stream)) o
+        ∙ by_same {P = ((if k == n then true else v.read k) || list_any (λ j. j == k) (if (v.x.message k).stream == s then drop 1 (v.complete (v.x.message k).stream) else v.complete (v.x.message k).stream)) ≡ complete_at v k} k n
+        (λ e. let yes' : (k == n) ≡ true = ap (λ j. k == j) (sym e) ∙ same-yes k in ap (λ b. (if b then true else v.read k) || list_any (λ j. j == k) (if (v.x.message k).stream == s then drop 1 (v.complete (v.x.message k).stream) else v.complete (v.x.message k).stream)) yes' ∙ sym (was e r))
+        (λ ne f. ap (λ b. (if b then true else v.read k) || list_any (λ j. j == k) (if (v.x.message k).stream == s then drop 1 (v.complete (v.x.message k).stream) else v.complete (v.x.message k).stream)) f ∙ ap (λ b. v.read k || b) (same ne ((v.x.message k).stream == s) refl) ∙ sym (flat false o))
       where
-        was : k ≡ n → ReadsWhole v s n ⊎ ReadsRun v s n → whole_at v k ≡ true
-        was e (inl a) = ap (whole_at v) e ∙ ready-whole v log s n h a
-        was e (inr a) = ap (whole_at v) e ∙ (run-is v s n a).whole_now
+        was : k ≡ n → ReadsComplete v s n ⊎ ReadsRun v s n → complete_at v k ≡ true
+        was e (inl a) = ap (complete_at v) e ∙ ready-complete v log s n h a
+        was e (inr a) = ap (complete_at v) e ∙ (run-is v s n a).complete_now
 
-pub whole-reading : (v : View) (log : List LogEntry) (s n : ℕ) → Whole v log → ReadsWhole v s n ⊎ ReadsRun v s n → Whole (read_in v s n) log
-whole-reading v log s n h r = record {
+pub complete-reading : (v : View) (log : List LogEntry) (s n : ℕ) → Complete v log → ReadsComplete v s n ⊎ ReadsRun v s n → Complete (read_in v s n) log
+complete-reading v log s n h r = record {
   datagram_received = h.datagram_received;
   ready = λ t k i. waits t k (t == s) refl i;
   differ = λ t. apart t (t == s);
-  agrees = λ k lt. whole-read v log s n h r k ∙ h.agrees k lt;
+  agrees = λ k lt. complete-read v log s n h r k ∙ h.agrees k lt;
 }
   where
     dropped : (t k : ℕ) (l : List ℕ) → list_any (λ j. j == k) (drop 1 l) ≡ true → list_any (λ j. j == k) l ≡ true
@@ -478,27 +478,27 @@ whole-reading v log s n h r = record {
     tail-differs (y ∷ z ∷ l) a = a.1
 
     -- what is left is not the one that was read
-    not-first : (k : ℕ) → list_any (λ j. j == k) (drop 1 (v.whole s)) ≡ true → k ≡ n → ReadsWhole v s n ⊎ ReadsRun v s n → ⊥
+    not-first : (k : ℕ) → list_any (λ j. j == k) (drop 1 (v.complete s)) ≡ true → k ≡ n → ReadsComplete v s n ⊎ ReadsRun v s n → ⊥
     not-first k i e (inl a) =
         let d = subst AllDifferent a.is (h.differ s) in
-        not_both (sym d.0 ∙ sym (dropped' a.rest) ∙ ap (λ l. list_any (λ j. j == n) (drop 1 l)) (sym a.is) ∙ ap (λ z. list_any (λ j. j == z) (drop 1 (v.whole s))) (sym e) ∙ i)
+        not_both (sym d.0 ∙ sym (dropped' a.rest) ∙ ap (λ l. list_any (λ j. j == n) (drop 1 l)) (sym a.is) ∙ ap (λ z. list_any (λ j. j == z) (drop 1 (v.complete s))) (sym e) ∙ i)
       where
         dropped' : (l : List ℕ) → list_any (λ j. j == n) (drop 1 (n ∷ l)) ≡ list_any (λ j. j == n) l
         dropped' [] = refl
         dropped' (y ∷ l) = refl
     not-first k i e (inr a) = not_both (ap (λ l. list_any (λ j. j == k) (drop 1 l)) (sym a.none) ∙ i)
 
-    other-stream : (t k : ℕ) → (t == s) ≡ false → IsReady v t k → k ≡ n → ReadsWhole v s n ⊎ ReadsRun v s n → ⊥
+    other-stream : (t k : ℕ) → (t == s) ≡ false → IsReady v t k → k ≡ n → ReadsComplete v s n ⊎ ReadsRun v s n → ⊥
     other-stream t k f i e (inl a) = not_both (sym f ∙ (let z : t ≡ s = sym i.stream ∙ ap (λ j. (v.x.message j).stream) e ∙ (ready-first v log s n h a).stream in ap (λ j. j == s) z ∙ same-yes s))
     other-stream t k f i e (inr a) =
         let b = run-is v s n a in
         let o = both (v.x.message n).ordered (not (v.x.message n).expired) (both ((v.x.message n).stream == s) ((v.x.message n).ordered && not (v.x.message n).expired) b.on_it).1 in
         not_both (sym i.kind ∙ ap (λ j. (v.x.message j).ordered) e ∙ o.0)
 
-    waits : (t k : ℕ) (b : Bool) → (t == s) ≡ b → list_any (λ j. j == k) (if b then drop 1 (v.whole t) else v.whole t) ≡ true → IsReady (read_in v s n) t k
-    waits t k true f i = let z = same-is t s f in kept-on t k (λ e. not-first k (ap (λ u. list_any (λ j. j == k) (drop 1 (v.whole u))) (sym z) ∙ i) e r) (h.ready t k (dropped t k (v.whole t) i))
+    waits : (t k : ℕ) (b : Bool) → (t == s) ≡ b → list_any (λ j. j == k) (if b then drop 1 (v.complete t) else v.complete t) ≡ true → IsReady (read_in v s n) t k
+    waits t k true f i = let z = same-is t s f in kept-on t k (λ e. not-first k (ap (λ u. list_any (λ j. j == k) (drop 1 (v.complete u))) (sym z) ∙ i) e r) (h.ready t k (dropped t k (v.complete t) i))
     waits t k false f i = kept-on t k (λ e. other-stream t k f (h.ready t k i) e r) (h.ready t k i)
 
-    apart : (t : ℕ) (b : Bool) → AllDifferent (if b then drop 1 (v.whole t) else v.whole t)
-    apart t true = tail-differs (v.whole t) (h.differ t)
+    apart : (t : ℕ) (b : Bool) → AllDifferent (if b then drop 1 (v.complete t) else v.complete t)
+    apart t true = tail-differs (v.complete t) (h.differ t)
     apart t false = h.differ t

@@ -1,16 +1,16 @@
--- In every history what is whole in the record is what the order of arrivals makes whole.
+-- In every history what is complete in the record is what the order of arrivals makes complete.
 use Rattle.std.proofs.Common.{◌≡◌, ℕ, ◌+◌, ◌<◌, ◌≤◌, Bool, true, false, List, [], ◌∷◌, ◌++◌, length, map, Some, refl, ap, sym, ◌∙◌, arith}
 use Rattle.std.specs.Prelude.{if◌then◌else◌, ◌||◌, not, nat_lt}
 use Rattle.std.proofs.Math.Path.{subst}
 use Rattle.std.proofs.lemmas.Bool.Decides.{nat_tests}
-use Rattle.sctp_model.specs.World.{Setup, Sack, World}
+use Rattle.sctp_model.specs.LinkRecord.{Setup, Sack, LinkRecord}
 use Rattle.sctp_model.specs.Messages
 use Rattle.sctp_model.specs.Receiver.{is_new, arrived_at, cumulative}
 use Rattle.sctp_model.specs.Changes
-use Rattle.sctp_model.specs.Steps.{History, world_of, IsRun}
+use Rattle.sctp_model.specs.Steps.{History, record_of, IsRun}
 use Rattle.sctp_model.specs.Log
 use Rattle.sctp_model.specs.Log.{LogEntry, SlotReceived, SkipReceived, SackMade}
-use Rattle.sctp_model.specs.Laws.{IsSetup, OnEveryRun, WholeIsWhole}
+use Rattle.sctp_model.specs.Laws.{IsSetup, OnEveryRun, CompletenessAgrees}
 use Rattle.sctp_model.proofs.sender.Shape.{shape}
 use Rattle.sctp_model.proofs.sender.SenderRun.{Sane}
 use Rattle.sctp_model.proofs.sender.Network.{NamesFit}
@@ -19,12 +19,12 @@ use Rattle.sctp_model.proofs.receiver.Arrivals.{Heard, heard-keeps, heard-new, w
 use Rattle.sctp_model.proofs.receiver.View
 use Rattle.sctp_model.proofs.receiver.View.{View, view, arrived_in, skipped_in, read_in}
 use Rattle.sctp_model.proofs.receiver.Names.{view-skip}
-use Rattle.sctp_model.proofs.receiver.Wholes
+use Rattle.sctp_model.proofs.receiver.CompleteMessages
 use Rattle.sctp_model.proofs.receiver.Known
-use Rattle.sctp_model.proofs.receiver.Known.{Whole, Known, hears, whole-as, still-of}
+use Rattle.sctp_model.proofs.receiver.Known.{Complete, Known, hears, complete-as, still-of}
 
 -- what is new has not arrived
-pub new-not : (w : World) (p : ℕ) → is_new w p ≡ true → arrived_at w p ≡ false
+pub new-not : (w : LinkRecord) (p : ℕ) → is_new w p ≡ true → arrived_at w p ≡ false
 new-not w p e = by (nat_lt p w.skipped) (arrived_at w p) (sym (new-unseen w p) ∙ e)
   where
     by : (a b : Bool) → not (a || b) ≡ true → b ≡ false
@@ -33,61 +33,61 @@ new-not w p e = by (nat_lt p w.skipped) (arrived_at w p) (sym (new-unseen w p) �
     by false false e = refl
 
 -- and is past what was skipped
-pub new-past : (w : World) (p : ℕ) → is_new w p ≡ true → w.skipped ≤ p
+pub new-past : (w : LinkRecord) (p : ℕ) → is_new w p ≡ true → w.skipped ≤ p
 new-past w p e = let z : nat_lt p w.skipped ≡ false = by (nat_lt p w.skipped) (arrived_at w p) (sym (new-unseen w p) ∙ e) in grind (arith, nat_tests)
   where
     by : (a b : Bool) → not (a || b) ≡ true → a ≡ false
     by true b e = cc
     by false b e = refl
 
-pub hears-as : (u v : View) (log : List LogEntry) → v ≡ u → Wholes.Hears u log → Wholes.Hears v log
-hears-as u v log e h = subst (λ y. Wholes.Hears y log) (sym e) h
+pub hears-as : (u v : View) (log : List LogEntry) → v ≡ u → CompleteMessages.Hears u log → CompleteMessages.Hears v log
+hears-as u v log e h = subst (λ y. CompleteMessages.Hears y log) (sym e) h
 
-pub hears-new : (w : World) (log : List LogEntry) (p : ℕ) → p < length w.slots → is_new w p ≡ true → Heard w log → Wholes.Hears (arrived_in (view w) p) (SlotReceived p ∷ log)
+pub hears-new : (w : LinkRecord) (log : List LogEntry) (p : ℕ) → p < length w.slots → is_new w p ≡ true → Heard w log → CompleteMessages.Hears (arrived_in (view w) p) (SlotReceived p ∷ log)
 hears-new w log p lt new h = hears-as (view (with_arrived w p)) (arrived_in (view w) p) (SlotReceived p ∷ log) (sym (View.view-arrived w p lt)) (hears (with_arrived w p) (SlotReceived p ∷ log) (heard-new w log p lt new h))
 
-whole-received : (setup : Setup) (w : World) (log : List LogEntry) (p : ℕ) → Sane setup w → p < length w.slots → (Messages.slot_at w p).is_terminal_chunk ≡ false → Heard w log → Heard (Changes.slot_received w p) (SlotReceived p ∷ log) → Whole (view w) log → Whole (view (Changes.slot_received w p)) (SlotReceived p ∷ log)
-whole-received setup w log p g lt mark heard heard' h = by (is_new w p) refl
+complete-received : (setup : Setup) (w : LinkRecord) (log : List LogEntry) (p : ℕ) → Sane setup w → p < length w.slots → (Messages.slot_at w p).is_terminal_chunk ≡ false → Heard w log → Heard (Changes.receive_slot w p) (SlotReceived p ∷ log) → Complete (view w) log → Complete (view (Changes.receive_slot w p)) (SlotReceived p ∷ log)
+complete-received setup w log p g lt mark heard heard' h = by (is_new w p) refl
   where
-    by : (b : Bool) → is_new w p ≡ b → Whole (view (Changes.slot_received w p)) (SlotReceived p ∷ log)
-    by true e = whole-as (Known.noting (arrived_in (view w) p) (Messages.message_of w p)) (view (Changes.slot_received w p)) (SlotReceived p ∷ log) (Known.view-received setup w p g lt e)
-        (Known.whole-slot (view w) log p g.sender h (hears w log heard) (hears-new w log p lt e heard) lt mark (new-not w p e))
+    by : (b : Bool) → is_new w p ≡ b → Complete (view (Changes.receive_slot w p)) (SlotReceived p ∷ log)
+    by true e = complete-as (Known.noting (arrived_in (view w) p) (Messages.message_of w p)) (view (Changes.receive_slot w p)) (SlotReceived p ∷ log) (Known.view-received setup w p g lt e)
+        (Known.complete-slot (view w) log p g.sender h (hears w log heard) (hears-new w log p lt e heard) lt mark (new-not w p e))
     by false e =
-        let same : view (Changes.slot_received w p) ≡ view w = ap (λ b. view (if b then Changes.whole_noted (with_arrived w p) (Messages.message_of w p) else record w { duplicates = w.duplicates ++ p ∷ [] })) e in
-        whole-as (view w) (view (Changes.slot_received w p)) (SlotReceived p ∷ log) same
-        (Known.whole-again (view w) (SlotReceived p) log (hears w log heard) (hears-as (view (Changes.slot_received w p)) (view w) (SlotReceived p ∷ log) (sym same) (hears (Changes.slot_received w p) (SlotReceived p ∷ log) heard')) g.sender (lt, h.datagram_received) h)
+        let same : view (Changes.receive_slot w p) ≡ view w = ap (λ b. view (if b then Changes.note_completion (with_arrived w p) (Messages.message_of w p) else record w { duplicates = w.duplicates ++ p ∷ [] })) e in
+        complete-as (view w) (view (Changes.receive_slot w p)) (SlotReceived p ∷ log) same
+        (Known.complete-again (view w) (SlotReceived p) log (hears w log heard) (hears-as (view (Changes.receive_slot w p)) (view w) (SlotReceived p ∷ log) (sym same) (hears (Changes.receive_slot w p) (SlotReceived p ∷ log) heard')) g.sender (lt, h.datagram_received) h)
 
-whole-skipped : (setup : Setup) (w : World) (log : List LogEntry) (upto : ℕ) (names : List ℕ) → Sane setup w → NamesFit (shape w) upto names → Heard w log → Heard (Changes.skip_received w upto names) (SkipReceived upto names ∷ log) → Whole (view w) log → Whole (view (Changes.skip_received w upto names)) (SkipReceived upto names ∷ log)
-whole-skipped setup w log upto names g f heard heard' h = by (Changes.skip_counts w upto) refl
+complete-skipped : (setup : Setup) (w : LinkRecord) (log : List LogEntry) (upto : ℕ) (names : List ℕ) → Sane setup w → NamesFit (shape w) upto names → Heard w log → Heard (Changes.receive_skip w upto names) (SkipReceived upto names ∷ log) → Complete (view w) log → Complete (view (Changes.receive_skip w upto names)) (SkipReceived upto names ∷ log)
+complete-skipped setup w log upto names g f heard heard' h = by (Changes.skip_counts w upto) refl
   where
-    by : (b : Bool) → Changes.skip_counts w upto ≡ b → Whole (view (Changes.skip_received w upto names)) (SkipReceived upto names ∷ log)
+    by : (b : Bool) → Changes.skip_counts w upto ≡ b → Complete (view (Changes.receive_skip w upto names)) (SkipReceived upto names ∷ log)
     by true e =
-        let same : view (Changes.skip_received w upto names) ≡ skipped_in (view w) upto names = ap (λ b. view (if b then record w { skipped = upto + 1; streams = map (Changes.named_by w names) w.streams } else w)) e ∙ view-skip setup w upto names g f in
+        let same : view (Changes.receive_skip w upto names) ≡ skipped_in (view w) upto names = ap (λ b. view (if b then record w { skipped = upto + 1; streams = map (Changes.named_by w names) w.streams } else w)) e ∙ view-skip setup w upto names g f in
         let c : cumulative w ≤ upto = grind (arith, nat_tests) in
-        whole-as (skipped_in (view w) upto names) (view (Changes.skip_received w upto names)) (SkipReceived upto names ∷ log) same
-        (Known.whole-skip (view w) log upto names (hears w log heard) (hears-as (view (Changes.skip_received w upto names)) (skipped_in (view w) upto names) (SkipReceived upto names ∷ log) (sym same) (hears (Changes.skip_received w upto names) (SkipReceived upto names ∷ log) heard')) g.sender (omega (arith, c, skipped-le w)) h)
+        complete-as (skipped_in (view w) upto names) (view (Changes.receive_skip w upto names)) (SkipReceived upto names ∷ log) same
+        (Known.complete-skip (view w) log upto names (hears w log heard) (hears-as (view (Changes.receive_skip w upto names)) (skipped_in (view w) upto names) (SkipReceived upto names ∷ log) (sym same) (hears (Changes.receive_skip w upto names) (SkipReceived upto names ∷ log) heard')) g.sender (omega (arith, c, skipped-le w)) h)
     by false e =
-        let same : view (Changes.skip_received w upto names) ≡ view w = ap (λ b. view (if b then record w { skipped = upto + 1; streams = map (Changes.named_by w names) w.streams } else w)) e in
-        whole-as (view w) (view (Changes.skip_received w upto names)) (SkipReceived upto names ∷ log) same
-        (Known.whole-again (view w) (SkipReceived upto names) log (hears w log heard) (hears-as (view (Changes.skip_received w upto names)) (view w) (SkipReceived upto names ∷ log) (sym same) (hears (Changes.skip_received w upto names) (SkipReceived upto names ∷ log) heard')) g.sender h.datagram_received h)
+        let same : view (Changes.receive_skip w upto names) ≡ view w = ap (λ b. view (if b then record w { skipped = upto + 1; streams = map (Changes.named_by w names) w.streams } else w)) e in
+        complete-as (view w) (view (Changes.receive_skip w upto names)) (SkipReceived upto names ∷ log) same
+        (Known.complete-again (view w) (SkipReceived upto names) log (hears w log heard) (hears-as (view (Changes.receive_skip w upto names)) (view w) (SkipReceived upto names ∷ log) (sym same) (hears (Changes.receive_skip w upto names) (SkipReceived upto names ∷ log) heard')) g.sender h.datagram_received h)
 
 pub known-keeps : (setup : Setup) → Keeps setup Known
 known-keeps setup =
     let k = heard-keeps setup in
     record {
-      begins = record { heard = k.begins; whole = record { datagram_received = tt; ready = λ s n e. cc; differ = λ s. tt; agrees = λ n lt. absurd (omega arith) } };
-      quiet = λ w v log g a q b. record { heard = k.quiet w v log g a q b.heard; whole = Known.whole-quiet (view w) (view v) log b.heard.arrived (still-of setup w v g a q) b.whole };
-      opened = λ w log s g o b. record { heard = k.opened w log s g o b.heard; whole = whole-as (view w) (view (Changes.opened w s)) log (View.view-opened w s o) b.whole };
-      moded = λ w log s u r n g b. record { heard = k.moded w log s u r n g b.heard; whole = whole-as (view w) (view (Changes.mode_set w s u r n)) log (View.view-moded w s u r n) b.whole };
-      slot = λ w log p g lt m b. let h = k.slot w log p g lt m b.heard in record { heard = h; whole = whole-received setup w log p g lt m b.heard h b.whole };
-      skip = λ w log upto names g lt f b. let h = k.skip w log upto names g lt f b.heard in record { heard = h; whole = whole-skipped setup w log upto names g f b.heard h b.whole };
-      reported = λ w log credit g b. let h = k.reported w log credit g b.heard in record { heard = h; whole = Known.whole-again (view w) SackMade log (hears w log b.heard) (record { arrived = h.arrived; covered = h.covered }) g.sender b.whole.datagram_received b.whole };
-      taken = λ w log r g b. record { heard = k.taken w log r g b.heard; whole = whole-as (view w) (view (Changes.sack_taken w (Some (Sack r)))) log (View.view-taken w r) b.whole };
-      read = λ w log s n g o e b. record { heard = k.read w log s n g o e b.heard; whole = whole-as (read_in (view w) s n) (view (Changes.read_of w s (Some n))) log (View.view-read w s n o) (Known.whole-reading (view w) log s n b.whole (Known.reads (view w) s n e)) };
+      begins = record { heard = k.begins; complete = record { datagram_received = tt; ready = λ s n e. cc; differ = λ s. tt; agrees = λ n lt. absurd (omega arith) } };
+      quiet = λ w v log g a q b. record { heard = k.quiet w v log g a q b.heard; complete = Known.complete-quiet (view w) (view v) log b.heard.arrived (still-of setup w v g a q) b.complete };
+      opened = λ w log s g o b. record { heard = k.opened w log s g o b.heard; complete = complete-as (view w) (view (Changes.after_open w s)) log (View.view-opened w s o) b.complete };
+      moded = λ w log s u r n g b. record { heard = k.moded w log s u r n g b.heard; complete = complete-as (view w) (view (Changes.after_mode w s u r n)) log (View.view-moded w s u r n) b.complete };
+      slot = λ w log p g lt m b. let h = k.slot w log p g lt m b.heard in record { heard = h; complete = complete-received setup w log p g lt m b.heard h b.complete };
+      skip = λ w log upto names g lt f b. let h = k.skip w log upto names g lt f b.heard in record { heard = h; complete = complete-skipped setup w log upto names g f b.heard h b.complete };
+      reported = λ w log credit g b. let h = k.reported w log credit g b.heard in record { heard = h; complete = Known.complete-again (view w) SackMade log (hears w log b.heard) (record { arrived = h.arrived; covered = h.covered }) g.sender b.complete.datagram_received b.complete };
+      taken = λ w log r g b. record { heard = k.taken w log r g b.heard; complete = complete-as (view w) (view (Changes.after_acked w (Some (Sack r)))) log (View.view-taken w r) b.complete };
+      read = λ w log s n g o e b. record { heard = k.read w log s n g o e b.heard; complete = complete-as (read_in (view w) s n) (view (Changes.read_of w s (Some n))) log (View.view-read w s n o) (Known.complete-reading (view w) log s n b.complete (Known.reads (view w) s n e)) };
     }
 
-pub known-run : (setup : Setup) (h : History) → IsSetup setup → IsRun setup h → Known (world_of setup h) (Log.log_of setup h)
+pub known-run : (setup : Setup) (h : History) → IsSetup setup → IsRun setup h → Known (record_of setup h) (Log.log_of setup h)
 known-run setup h is run = run-keeps setup Known (known-keeps setup) h is run
 
-pub whole_is_whole : OnEveryRun WholeIsWhole
-whole_is_whole setup h is run n lt = (known-run setup h is run).whole.agrees n lt
+pub completeness_agrees : OnEveryRun CompletenessAgrees
+completeness_agrees setup h is run n lt = (known-run setup h is run).complete.agrees n lt

@@ -1,12 +1,11 @@
 -- What the receiver keeps of ordered messages.
 use Rattle.std.proofs.Common.{◌≡◌, ℕ, ◌+◌, ◌-◌, ◌<◌, ◌≤◌, Bool, true, false, List, [], ◌∷◌, length, map, get_or, refl, ap, sym, ◌∙◌, inl, inr, arith}
 use Rattle.std.specs.Prelude.{◌⊎◌, if◌then◌else◌, ◌==◌, ◌&&◌, ◌||◌, not, nat_le, max}
-use Rattle.std.specs.List.{list_any}
+use Rattle.std.specs.List.{list_any, filter}
 use Rattle.std.proofs.Math.Path.{subst}
 use Rattle.std.proofs.Math.Nat.{eq-or-lt_of_le}
 use Rattle.std.proofs.lemmas.Bool.{cases_lt}
 use Rattle.std.proofs.lemmas.Bool.Decides.{nat_tests}
-use Rattle.sctp_list_lemmas.specs.Kept.{passing}
 use Rattle.sctp_list_lemmas.proofs.More.{fails, not_both, and}
 use Rattle.sctp_model.specs.Receiver.{greatest}
 use Rattle.sctp_model.proofs.sender.Shape.{has, on, index, sent, parts}
@@ -14,17 +13,16 @@ use Rattle.sctp_model.proofs.sender.Sender.{Sender}
 use Rattle.sctp_list_lemmas.proofs.Cases.{by_same, same-yes, same-is}
 use Rattle.sctp_model.proofs.sender.Network.{IsNamable, NamesFit, namable-grown}
 use Rattle.sctp_model.proofs.sender.Slots.{sent-made}
-use Rattle.sctp_model.proofs.receiver.View.{View, come_count, all_come, whole_at, arrived_in, noted_in, skipped_in, read_in, line, next, named_more}
+use Rattle.sctp_model.proofs.receiver.View.{View, come_count, all_come, complete_at, arrived_in, noted_in, skipped_in, read_in, line, next, named_more}
 use Rattle.sctp_model.proofs.receiver.Indexes.{on-stream, on-ordered, index-lt, index-same, index-short, index-at, next_reads, next_unread, next_passes, next_le, next_by}
 use Rattle.sctp_model.proofs.receiver.Names.{on-grown}
-use Rattle.sctp_model.proofs.receiver.Wholes.{some-kept}
+use Rattle.sctp_model.proofs.receiver.CompleteMessages.{some-kept}
 use Rattle.sctp_model.proofs.receiver.Known.{Still, ReadsRun, all-still, come-sent, come-other, not-all, noting}
 use Rattle.sctp_model.proofs.receiver.Due.{run-due, IsDue, due-first}
-use Rattle.sctp_list_lemmas.proofs.Cases.{by_same, same-yes, same-is}
 
--- an ordered message is whole where it has arrived
-pub ordered-at : (v : View) (n : ℕ) → (v.x.message n).ordered ≡ true → whole_at v n ≡ all_come v n
-ordered-at v n e = ap (λ b. if b then all_come v n else v.read n || list_any (λ k. k == n) (v.whole (v.x.message n).stream)) e
+-- an ordered message is complete where it has arrived
+pub ordered-at : (v : View) (n : ℕ) → (v.x.message n).ordered ≡ true → complete_at v n ≡ all_come v n
+ordered-at v n e = ap (λ b. if b then all_come v n else v.read n || list_any (λ k. k == n) (v.complete (v.x.message n).stream)) e
 
 -- the message that was named last
 pub record NamedAt (v : View) (s k : ℕ) : Type 0 where
@@ -42,9 +40,9 @@ pub record Ordered (v : View) : Type 0 where
   -- what arrived is no terminal chunk
   pub marks : (p : ℕ) → v.arrived p ≡ true → (v.x.slot p).is_terminal_chunk ≡ false
   -- an ordered message that was read had arrived, and comes before the next expected one
-  pub read_whole : (n : ℕ) → n < v.x.count → (v.x.message n).ordered ≡ true → v.read n ≡ true → all_come v n ≡ true
+  pub read_complete : (n : ℕ) → n < v.x.count → (v.x.message n).ordered ≡ true → v.read n ≡ true → all_come v n ≡ true
   pub read_past : (s n : ℕ) → n < v.x.count → on v.x s n ≡ true → v.read n ≡ true → index v.x n < next v s
-  -- what was whole before a message that was read, was read
+  -- what was complete before a message that was read, was read
   pub downward : (s m n : ℕ) → m < n → n < v.x.count → on v.x s m ≡ true → on v.x s n ≡ true → v.read n ≡ true → all_come v m ≡ true → v.read m ≡ true
   pub named_is : (s : ℕ) → NamedIs v s (v.named s)
 
@@ -96,7 +94,7 @@ module _ (u v : View) (t : Still u v) (o : Ordered u) where
   come-pos n lt e = let z = same-is (come_count u n) (parts u.x n) e in omega (arith, z, come-sent u n, t.sender.some n lt)
 
   read-sent : (s n : ℕ) → n < u.x.count → on u.x s n ≡ true → u.read n ≡ true → 0 < sent u.x n
-  read-sent s n lt h r = come-pos n lt (o.read_whole n lt (on-ordered u.x s n h) r)
+  read-sent s n lt h r = come-pos n lt (o.read_complete n lt (on-ordered u.x s n h) r)
 
   was-made : (n : ℕ) → n < v.x.count → v.read n ≡ true → n < u.x.count
   was-made n lt r = by (cases_lt n u.x.count)
@@ -113,7 +111,7 @@ module _ (u v : View) (t : Still u v) (o : Ordered u) where
   read-old s n lt h r =
       let l = was-made n lt r in
       let ord : (u.x.message n).ordered ≡ true = sym (ap (λ m. m.ordered) (t.grows.message n l)) ∙ on-ordered v.x s n h in
-      sent-old s n (come-pos n l (o.read_whole n l ord (was-read n lt r))) h
+      sent-old s n (come-pos n l (o.read_complete n l ord (was-read n lt r))) h
 
   -- a message of the line that was sent is on the new one at its place
   at-place : (s j : ℕ) (k : ℕ) → k < u.x.count → on u.x s k ≡ true → 0 < sent u.x k → index u.x k ≡ j → j < length (line v s)
@@ -157,7 +155,7 @@ module _ (u v : View) (t : Still u v) (o : Ordered u) where
   pub ordered-still : ((p : ℕ) → u.arrived p ≡ true → p < u.x.slots) → Ordered v
   ordered-still inside = record {
     marks = λ p e. let f : u.arrived p ≡ true = sym (t.arrived p) ∙ e in ap (λ y. y.is_terminal_chunk) (t.grows.slot p (inside p f)) ∙ o.marks p f;
-    read_whole = λ n lt h r. let l = was-made n lt r in all-still u v t n l ∙ o.read_whole n l (sym (ap (λ m. m.ordered) (t.grows.message n l)) ∙ h) (was-read n lt r);
+    read_complete = λ n lt h r. let l = was-made n lt r in all-still u v t n l ∙ o.read_complete n l (sym (ap (λ m. m.ordered) (t.grows.message n l)) ∙ h) (was-read n lt r);
     read_past = λ s n lt h r. let d = read-old s n lt h r in omega (arith, d.same, next-still s, o.read_past s n d.made d.on_it (was-read n lt r));
     downward = λ s m n mn lt hm hn r c.
         let d = read-old s n lt hn r in
@@ -184,8 +182,8 @@ module _ (u v : View) (t : Still u v) (o : Ordered u) where
 pub ordered-arrived : (v : View) (p : ℕ) → Sender v.x → p < v.x.slots → (v.x.slot p).is_terminal_chunk ≡ false → v.arrived p ≡ false → v.skipped ≤ p → Ordered v → Ordered (arrived_in v p)
 ordered-arrived v p a lt mark new past o = record {
   marks = λ k e. by_same {P = (v.x.slot k).is_terminal_chunk ≡ false} k p (λ z. ap (λ j. (v.x.slot j).is_terminal_chunk) z ∙ mark) (λ ne f. o.marks k (ap (λ b. if b then true else v.arrived k) (sym f) ∙ e));
-  read_whole = λ n l h r.
-      let all = o.read_whole n l h r in
+  read_complete = λ n l h r.
+      let all = o.read_complete n l h r in
       ap (λ c. c == parts v.x n) (come-other v p n (λ e. not_both (sym (not-all v n p (a.within n l) lt (slot-of n e) new) ∙ all))) ∙ all;
   read_past = o.read_past;
   downward = λ s m n mn l hm hn r c. by_same {P = v.read m ≡ true} (v.x.slot p).message m
@@ -213,7 +211,7 @@ ordered-noting v n o = step (not (v.x.message n).ordered && _)
     by s (inr d) = inr (record { n = d.n; on_it = d.on_it; upto = d.upto; namable = d.namable; covered = d.covered; is = d.is })
 
     step : (b : Bool) → Ordered (if b then noted_in v (v.x.message n).stream n else v)
-    step true = record { marks = o.marks; read_whole = o.read_whole; read_past = o.read_past; downward = o.downward; named_is = λ s. by s (o.named_is s) }
+    step true = record { marks = o.marks; read_complete = o.read_complete; read_past = o.read_past; downward = o.downward; named_is = λ s. by s (o.named_is s) }
     step false = o
 
 -- ## A skip
@@ -221,7 +219,7 @@ ordered-noting v n o = step (not (v.x.message n).ordered && _)
 pub ordered-skipped : (v : View) (upto : ℕ) (names : List ℕ) → Sender v.x → NamesFit v.x upto names → v.skipped ≤ upto → Ordered v → Ordered (skipped_in v upto names)
 ordered-skipped v upto names a f le o = record {
   marks = o.marks;
-  read_whole = o.read_whole;
+  read_complete = o.read_complete;
   read_past = λ s n lt h r. past s n lt h r (cases_lt (index v.x n) (named_more v names s));
   downward = o.downward;
   named_is = λ s. all s names f (v.named s) (old s (o.named_is s));
@@ -245,14 +243,14 @@ ordered-skipped v upto names a f le o = record {
             let k = get_or (line v s) j 0 in
             let q = index-at v s j (omega (arith, e, index-short v s n lt h)) in
             let un : v.read k ≡ false = next_unread (skipped_in v upto names) s k q.made q.on_it q.at in
-            let red : v.read k ≡ true = next_reads v s k q.made q.on_it (let m = grown s (v.named s) (passing (on v.x s) names) in omega (arith, q.at, m)) (omega (arith, q.at, e, o.read_past s n lt h r)) in
+            let red : v.read k ≡ true = next_reads v s k q.made q.on_it (let m = grown s (v.named s) (filter (on v.x s) names) in omega (arith, q.at, m)) (omega (arith, q.at, e, o.read_past s n lt h r)) in
             absurd (not_both (sym un ∙ red))
 
     old : (s : ℕ) → NamedIs v s (v.named s) → NamedIs (skipped_in v upto names) s (v.named s)
     old s (inl z) = inl z
     old s (inr d) = inr (record { n = d.n; on_it = d.on_it; upto = d.upto; namable = d.namable; covered = omega (arith, d.covered, le); is = d.is })
 
-    all : (s : ℕ) (ns : List ℕ) → NamesFit v.x upto ns → (x : ℕ) → NamedIs (skipped_in v upto names) s x → NamedIs (skipped_in v upto names) s (greatest x (map (λ n. index v.x n + 1) (passing (on v.x s) ns)))
+    all : (s : ℕ) (ns : List ℕ) → NamesFit v.x upto ns → (x : ℕ) → NamedIs (skipped_in v upto names) s x → NamedIs (skipped_in v upto names) s (greatest x (map (λ n. index v.x n + 1) (filter (on v.x s) ns)))
     all s [] f x h = h
     all s (n ∷ ns) f x h = step (on v.x s n) refl (λ y g. all s ns f.1 y g)
       where
@@ -263,7 +261,7 @@ ordered-skipped v upto names a f le o = record {
         larger e (inl l) = let z : index v.x n + 1 ≡ max x (index v.x n + 1) = omega arith in subst (NamedIs (skipped_in v upto names) s) z (one e)
         larger e (inr g) = let z : x ≡ max x (index v.x n + 1) = omega arith in subst (NamedIs (skipped_in v upto names) s) z h
 
-        step : (b : Bool) → on v.x s n ≡ b → ((y : ℕ) → NamedIs (skipped_in v upto names) s y → NamedIs (skipped_in v upto names) s (greatest y (map (λ n. index v.x n + 1) (passing (on v.x s) ns)))) → NamedIs (skipped_in v upto names) s (greatest x (map (λ n. index v.x n + 1) (if b then n ∷ passing (on v.x s) ns else passing (on v.x s) ns)))
+        step : (b : Bool) → on v.x s n ≡ b → ((y : ℕ) → NamedIs (skipped_in v upto names) s y → NamedIs (skipped_in v upto names) s (greatest y (map (λ n. index v.x n + 1) (filter (on v.x s) ns)))) → NamedIs (skipped_in v upto names) s (greatest x (map (λ n. index v.x n + 1) (if b then n ∷ filter (on v.x s) ns else filter (on v.x s) ns)))
         step true e ih = ih (max x (index v.x n + 1)) (larger e (cases_lt x (index v.x n + 1)))
         step false e ih = ih x h
 
@@ -295,7 +293,7 @@ next-read_other v s n t a o off = next_by (read_in v s n) t (next v t) (omega ar
 pub ordered-read_unordered : (v : View) (s n : ℕ) → Sender v.x → (v.x.message n).ordered ≡ false → Ordered v → Ordered (read_in v s n)
 ordered-read_unordered v s n a kind o = record {
   marks = o.marks;
-  read_whole = λ k lt h r. o.read_whole k lt h (sym (read-other v s n k (λ e. not_both (sym kind ∙ ap (λ j. (v.x.message j).ordered) (sym e) ∙ h))) ∙ r);
+  read_complete = λ k lt h r. o.read_complete k lt h (sym (read-other v s n k (λ e. not_both (sym kind ∙ ap (λ j. (v.x.message j).ordered) (sym e) ∙ h))) ∙ r);
   read_past = λ t k lt h r. omega (arith, next-read_other v s n t a o (off t), o.read_past t k lt h (sym (read-other v s n k (off t k h)) ∙ r));
   downward = λ t j k jk lt hj hk r c. stays-read v s n j (o.downward t j k jk lt hj hk (sym (read-other v s n k (off t k hk)) ∙ r) c);
   named_is = λ t. named-read v s n t (o.named_is t);
@@ -306,11 +304,11 @@ ordered-read_unordered v s n a kind o = record {
 
 -- the first one due
 pub due-of : (v : View) (s n : ℕ) → Ordered v → ReadsRun v s n → IsDue v s n
-due-of v s n o r = due-first v s n (sym (run-due v s (λ k lt h e. ordered-at v k (on-ordered v.x s k h) ∙ o.read_whole k lt (on-ordered v.x s k h) e)) ∙ r.first)
+due-of v s n o r = due-first v s n (sym (run-due v s (λ k lt h e. ordered-at v k (on-ordered v.x s k h) ∙ o.read_complete k lt (on-ordered v.x s k h) e)) ∙ r.first)
 
 module _ (v : View) (s n : ℕ) (a : Sender v.x) (o : Ordered v) (d : IsDue v s n) where
   all-of : all_come v n ≡ true
-  all-of = sym (ordered-at v n (on-ordered v.x s n d.on_it)) ∙ d.whole_now
+  all-of = sym (ordered-at v n (on-ordered v.x s n d.on_it)) ∙ d.complete_now
 
   pub next-moves : index v.x n ≡ next v s → next (read_in v s n) s ≡ next v s + 1
   next-moves e = next_by (read_in v s n) s (next v s + 1) (omega arith) (omega (arith, e, index-short v s n d.made d.on_it))
@@ -343,21 +341,21 @@ module _ (v : View) (s n : ℕ) (a : Sender v.x) (o : Ordered v) (d : IsDue v s 
   next-up : (t : ℕ) → next v t ≤ next (read_in v s n) t
   next-up t = by_same {P = next v t ≤ next (read_in v s n) t} t s (λ e. subst (λ y. next v y ≤ next (read_in v s n) y) (sym e) next-grows.0) (λ ne f. omega (arith, next-elsewhere t ne))
 
-  -- a whole one before it was read
+  -- a complete one before it was read
   before : (k : ℕ) → k < n → on v.x s k ≡ true → all_come v k ≡ true → v.read k ≡ true
   before k lt h c = by (v.read k) refl
     where
       by : (b : Bool) → v.read k ≡ b → v.read k ≡ true
       by true e = e
       by false e =
-          let wh : whole_at v k ≡ true = ordered-at v k (on-ordered v.x s k h) ∙ c in
+          let wh : complete_at v k ≡ true = ordered-at v k (on-ordered v.x s k h) ∙ c in
           let near : nat_le (index v.x k) (next v s) ≡ true = (let l : index v.x k ≤ next v s = omega (arith, index-lt v.x s k n h d.on_it lt, d.near) in grind (arith, nat_tests)) in
-          absurd (not_both (sym (d.first k lt) ∙ and (on v.x s k) (not (v.read k) && (whole_at v k && nat_le (index v.x k) (next v s))) h (and (not (v.read k)) (whole_at v k && nat_le (index v.x k) (next v s)) (ap not e) (and (whole_at v k) (nat_le (index v.x k) (next v s)) wh near))))
+          absurd (not_both (sym (d.first k lt) ∙ and (on v.x s k) (not (v.read k) && (complete_at v k && nat_le (index v.x k) (next v s))) h (and (not (v.read k)) (complete_at v k && nat_le (index v.x k) (next v s)) (ap not e) (and (complete_at v k) (nat_le (index v.x k) (next v s)) wh near))))
 
   pub ordered-read : Ordered (read_in v s n)
   ordered-read = record {
     marks = o.marks;
-    read_whole = λ k lt h r. by_same {P = all_come v k ≡ true} k n (λ e. ap (all_come v) e ∙ all-of) (λ ne f. o.read_whole k lt h (sym (read-other v s n k ne) ∙ r));
+    read_complete = λ k lt h r. by_same {P = all_come v k ≡ true} k n (λ e. ap (all_come v) e ∙ all-of) (λ ne f. o.read_complete k lt h (sym (read-other v s n k ne) ∙ r));
     read_past = λ t k lt h r. by_same {P = index v.x k < next (read_in v s n) t} k n
         (λ e. let z : t ≡ s = sym (on-stream v.x t k h) ∙ ap (λ j. (v.x.message j).stream) e ∙ on-stream v.x s n d.on_it in subst (λ y. index v.x k < next (read_in v s n) y) (sym z) (subst (λ j. index v.x j < next (read_in v s n) s) (sym e) next-grows.1))
         (λ ne f. let u = next-up t in omega (arith, u, o.read_past t k lt h (sym (read-other v s n k ne) ∙ r)));

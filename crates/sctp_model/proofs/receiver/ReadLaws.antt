@@ -1,10 +1,10 @@
--- The reads of a stream: ordered messages in order, unordered ones as they became whole, Nothing where all is read.
+-- The reads of a stream: ordered messages in order, unordered ones as they became complete, Nothing where all is read.
 use Rattle.std.proofs.Common.{◌≡◌, ℕ, zero, suc, ◌+◌, ◌-◌, ◌<◌, ◌≤◌, Bool, true, false, List, [], ◌∷◌, ◌++◌, length, take, drop, Option, Some, None, refl, ap, sym, ◌∙◌, inl, inr, arith, append-nil, length-append}
 use Rattle.std.specs.Prelude.{◌⊎◌, if◌then◌else◌, ◌==◌, ◌&&◌, ◌||◌, not, nat_lt, slice_get, option_to_list}
-use Rattle.std.specs.List.{list_all}
+use Rattle.std.specs.List.{list_all, filter}
 use Rattle.std.proofs.Math.Path.{subst}
 use Rattle.std.proofs.lemmas.Bool.Decides.{nat_tests}
-use Rattle.sctp_list_lemmas.specs.Kept.{kept, passing, leading, first_of, or_else}
+use Rattle.sctp_list_lemmas.specs.Kept.{numbers_where, leading, first_of, or_else}
 use Rattle.sctp_list_lemmas.proofs.Passing.{kept-same, kept-none}
 use Rattle.sctp_list_lemmas.proofs.More.{fails, not_both, both, and}
 use Rattle.sctp_list_lemmas.proofs.Cases.{same-is}
@@ -13,62 +13,62 @@ use Rattle.sctp_model.specs.declared.event.Event.TheVariants as E
 use Rattle.sctp_model.specs.declared.event.LinkRefusal.TheVariants.{StreamUnknown}
 use Rattle.sctp_model.specs.Reply.{Reply}
 use Rattle.sctp_model.specs.Reply as R
-use Rattle.sctp_model.specs.World.{Setup, World}
+use Rattle.sctp_model.specs.LinkRecord.{Setup, LinkRecord}
 use Rattle.sctp_model.specs.Messages
 use Rattle.sctp_model.specs.Receiver
 use Rattle.sctp_model.specs.Changes
 use Rattle.sctp_model.specs.Log
 use Rattle.sctp_model.specs.Log.{LogEntry, number_read, numbers_read}
-use Rattle.sctp_model.specs.Steps.{History, world_of, IsRun, read_reply}
-use Rattle.sctp_model.specs.Laws.{IsSetup, OnEveryRun, ordered_reads, unordered_reads, ReadsBeginRun, ReadsBeginWholeRun, ReadsBeginWhole, UnorderedFirst, NothingWhereRead}
+use Rattle.sctp_model.specs.Steps.{History, record_of, IsRun, read_reply}
+use Rattle.sctp_model.specs.Laws.{IsSetup, OnEveryRun, ordered_reads, unordered_reads, ReadsBeginRun, ReadsBeginCompleteRun, ReadsBeginComplete, UnorderedFirst, NothingWhereRead}
 use Rattle.sctp_model.proofs.sender.Shape.{shape, on, index}
 use Rattle.sctp_model.proofs.sender.SenderRun.{Sane, sane-run, unless-holds}
 use Rattle.sctp_model.proofs.receiver.Events.{step-moves}
 use Rattle.sctp_model.proofs.receiver.View
-use Rattle.sctp_model.proofs.receiver.View.{View, view, all_come, whole_at, read_in, line, run, next, next_read}
+use Rattle.sctp_model.proofs.receiver.View.{View, view, all_come, complete_at, read_in, line, run, next, next_read}
 use Rattle.sctp_model.proofs.receiver.Indexes.{on-stream, on-ordered, index_on}
 use Rattle.sctp_model.proofs.receiver.Names.{named_is_named}
-use Rattle.sctp_model.proofs.receiver.KnownRun.{whole_is_whole}
+use Rattle.sctp_model.proofs.receiver.KnownRun.{completeness_agrees}
 use Rattle.sctp_model.proofs.receiver.Known
-use Rattle.sctp_model.proofs.receiver.Known.{ReadsWhole, ReadsRun, reads}
+use Rattle.sctp_model.proofs.receiver.Known.{ReadsComplete, ReadsRun, reads}
 use Rattle.sctp_model.proofs.receiver.Ordered
 use Rattle.sctp_model.proofs.receiver.Ordered.{Ordered, ordered-at}
 use Rattle.sctp_model.proofs.receiver.Due.{take-kept, take-none}
 use Rattle.sctp_model.proofs.Lossless.{no-skips, none-named}
 use Rattle.sctp_model.proofs.receiver.Received.{received-run}
 use Rattle.sctp_model.proofs.receiver.SoFar
-use Rattle.sctp_model.proofs.receiver.SoFar.{SoFar, so_far-as, read_on, was_read, whole_list, whole_list-is, passing-append}
+use Rattle.sctp_model.proofs.receiver.SoFar.{SoFar, so_far-as, read_on, was_read, complete_list-is, passing-append}
 use Rattle.sctp_model.proofs.receiver.SoFarSteps.{Told, told-moving, so_far-elsewhere, so_far-unordered, so_far-ordered}
 
 -- ## What was read, in every history
 
-told-read : (setup : Setup) (older : History) (t s : ℕ) (o : Option ℕ) → Sane setup (world_of setup older) → Messages.is_open (world_of setup older) t ≡ true → Receiver.next_read (world_of setup older) t ≡ o → Told s (numbers_read setup older s) (world_of setup older) (Log.log_of setup older)
-    → SoFar s (numbers_read setup older s ++ (if t == s then number_read (world_of setup older) s (read_reply (world_of setup older) o) else [])) (view (Changes.read_of (world_of setup older) t o)) (Log.log_of setup older)
-told-read setup older t s None g a e b = subst (λ l. SoFar s l (view (world_of setup older)) (Log.log_of setup older)) (sym (either (t == s))) b.so_far
+told-read : (setup : Setup) (older : History) (t s : ℕ) (o : Option ℕ) → Sane setup (record_of setup older) → Messages.is_open (record_of setup older) t ≡ true → Receiver.next_read (record_of setup older) t ≡ o → Told s (numbers_read setup older s) (record_of setup older) (Log.log_of setup older)
+    → SoFar s (numbers_read setup older s ++ (if t == s then number_read (record_of setup older) s (read_reply (record_of setup older) o) else [])) (view (Changes.read_of (record_of setup older) t o)) (Log.log_of setup older)
+told-read setup older t s None g a e b = subst (λ l. SoFar s l (view (record_of setup older)) (Log.log_of setup older)) (sym (either (t == s))) b.so_far
   where
     either : (c : Bool) → numbers_read setup older s ++ (if c then [] else []) ≡ numbers_read setup older s
     either true = append-nil (numbers_read setup older s)
     either false = append-nil (numbers_read setup older s)
 told-read setup older t s (Some n) g a e b = so_far-as s list' (read_in (view w) t n) (view (Changes.read_of w t (Some n))) log (View.view-read w t n a) (by (t == s) refl)
   where
-    w : World
-    w = world_of setup older
+    w : LinkRecord
+    w = record_of setup older
 
     log : List LogEntry
     log = Log.log_of setup older
 
     list' : List ℕ
-    list' = numbers_read setup older s ++ (if t == s then number_read (world_of setup older) s (read_reply (world_of setup older) (Some n)) else [])
+    list' = numbers_read setup older s ++ (if t == s then number_read (record_of setup older) s (read_reply (record_of setup older) (Some n)) else [])
 
-    r : ReadsWhole (view w) t n ⊎ ReadsRun (view w) t n
+    r : ReadsComplete (view w) t n ⊎ ReadsRun (view w) t n
     r = reads (view w) t n e
 
-    stream-of : ReadsWhole (view w) t n ⊎ ReadsRun (view w) t n → (Messages.message_at w n).stream ≡ t
-    stream-of (inl q) = (Known.ready-first (view w) log t n b.received.known.whole q).stream
+    stream-of : ReadsComplete (view w) t n ⊎ ReadsRun (view w) t n → (Messages.message_at w n).stream ≡ t
+    stream-of (inl q) = (Known.ready-first (view w) log t n b.received.known.complete q).stream
     stream-of (inr q) = on-stream (shape w) t n (Known.run-is (view w) t n q).on_it
 
-    here : (u : ℕ) → t ≡ u → ReadsWhole (view w) t n ⊎ ReadsRun (view w) t n → SoFar u (numbers_read setup older u) (view w) log → SoFar u (numbers_read setup older u ++ n ∷ []) (read_in (view w) t n) log
-    here u z (inl q) f = subst (λ y. SoFar u (numbers_read setup older u ++ n ∷ []) (read_in (view w) y n) log) (sym z) (so_far-unordered (view w) log u n (numbers_read setup older u) b.received.known.whole (subst (λ y. ReadsWhole (view w) y n) z q) f)
+    here : (u : ℕ) → t ≡ u → ReadsComplete (view w) t n ⊎ ReadsRun (view w) t n → SoFar u (numbers_read setup older u) (view w) log → SoFar u (numbers_read setup older u ++ n ∷ []) (read_in (view w) t n) log
+    here u z (inl q) f = subst (λ y. SoFar u (numbers_read setup older u ++ n ∷ []) (read_in (view w) y n) log) (sym z) (so_far-unordered (view w) log u n (numbers_read setup older u) b.received.known.complete (subst (λ y. ReadsComplete (view w) y n) z q) f)
     here u z (inr q) f =
         let q' = subst (λ y. ReadsRun (view w) y n) z q in
         subst (λ y. SoFar u (numbers_read setup older u ++ n ∷ []) (read_in (view w) y n) log) (sym z) (so_far-ordered (view w) log u n (numbers_read setup older u) b.received.ordered q' (Ordered.due-of (view w) u n b.received.ordered q') f)
@@ -79,12 +79,12 @@ told-read setup older t s (Some n) g a e b = so_far-as s list' (read_in (view w)
         subst (λ l. SoFar s (numbers_read setup older s ++ l) (read_in (view w) t n) log) (sym (ap (λ u. option_to_list (Receiver.next_read w u)) (sym y) ∙ ap option_to_list e)) (here s y r b.so_far)
     by false z = subst (λ l. SoFar s l (read_in (view w) t n) log) (sym (append-nil (numbers_read setup older s))) (so_far-elsewhere (view w) log s t n (numbers_read setup older s) (stream-of r) z b.so_far)
 
-pub so_far-run : (setup : Setup) (h : History) → IsSetup setup → IsRun setup h → (s : ℕ) → SoFar s (numbers_read setup h s) (view (world_of setup h)) (Log.log_of setup h)
+pub so_far-run : (setup : Setup) (h : History) → IsSetup setup → IsRun setup h → (s : ℕ) → SoFar s (numbers_read setup h s) (view (record_of setup h)) (Log.log_of setup h)
 so_far-run setup [] is run s = record { all = refl; ordered = refl; unordered = refl }
 so_far-run setup ((E.Read t, r) ∷ older) is run s =
-    let b : Told s (numbers_read setup older s) (world_of setup older) (Log.log_of setup older) = record { received = received-run setup older is run.1.1; so_far = so_far-run setup older is run.1.1 s } in
-    subst (λ y. SoFar s (numbers_read setup older s ++ (if t == s then number_read (world_of setup older) s y else [])) (view (Changes.read_from (world_of setup older) t)) (Log.log_of setup older)) (sym run.1.0)
-    (told-read setup older t s (Receiver.next_read (world_of setup older) t) (sane-run setup older run.1.1) (unless-holds (Messages.is_open (world_of setup older) t) StreamUnknown None run.0).0 refl b)
+    let b : Told s (numbers_read setup older s) (record_of setup older) (Log.log_of setup older) = record { received = received-run setup older is run.1.1; so_far = so_far-run setup older is run.1.1 s } in
+    subst (λ y. SoFar s (numbers_read setup older s ++ (if t == s then number_read (record_of setup older) s y else [])) (view (Changes.after_reading (record_of setup older) t)) (Log.log_of setup older)) (sym run.1.0)
+    (told-read setup older t s (Receiver.next_read (record_of setup older) t) (sane-run setup older run.1.1) (unless-holds (Messages.is_open (record_of setup older) t) StreamUnknown None run.0).0 refl b)
 so_far-run setup ((E.Open a, r) ∷ older) is run s = (step-moves setup (Told s (numbers_read setup older s)) (told-moving setup s (numbers_read setup older s)) older is run.1.1 (E.Open a) r refl run.0 (record { received = received-run setup older is run.1.1; so_far = so_far-run setup older is run.1.1 s })).so_far
 so_far-run setup ((E.Mode a b c d, r) ∷ older) is run s = (step-moves setup (Told s (numbers_read setup older s)) (told-moving setup s (numbers_read setup older s)) older is run.1.1 (E.Mode a b c d) r refl run.0 (record { received = received-run setup older is run.1.1; so_far = so_far-run setup older is run.1.1 s })).so_far
 so_far-run setup ((E.Write a b c, r) ∷ older) is run s = (step-moves setup (Told s (numbers_read setup older s)) (told-moving setup s (numbers_read setup older s)) older is run.1.1 (E.Write a b c) r refl run.0 (record { received = received-run setup older is run.1.1; so_far = so_far-run setup older is run.1.1 s })).so_far
@@ -102,50 +102,50 @@ so_far-run setup ((E.Acked a, r) ∷ older) is run s = (step-moves setup (Told s
 
 -- ## The run: what was read, then what was not
 
-kept-halves : (t r : ℕ → Bool) (from count : ℕ) → ((j k : ℕ) → j < k → t j ≡ true → t k ≡ true → r k ≡ true → r j ≡ true) → kept t from count ≡ kept (λ k. t k && r k) from count ++ kept (λ k. t k && not (r k)) from count
+kept-halves : (t r : ℕ → Bool) (from count : ℕ) → ((j k : ℕ) → j < k → t j ≡ true → t k ≡ true → r k ≡ true → r j ≡ true) → numbers_where t from count ≡ numbers_where (λ k. t k && r k) from count ++ numbers_where (λ k. t k && not (r k)) from count
 kept-halves t r from zero down = refl
 kept-halves t r from (suc count) down = step (t from) (r from) refl refl (kept-halves t r (from + 1) count down)
   where
     reads' : List ℕ
-    reads' = kept (λ k. t k && r k) (from + 1) count
+    reads' = numbers_where (λ k. t k && r k) (from + 1) count
 
     others : List ℕ
-    others = kept (λ k. t k && not (r k)) (from + 1) count
+    others = numbers_where (λ k. t k && not (r k)) (from + 1) count
 
-    step : (a b : Bool) → t from ≡ a → r from ≡ b → kept t (from + 1) count ≡ reads' ++ others → (if a then from ∷ kept t (from + 1) count else kept t (from + 1) count) ≡ (if a && b then from ∷ reads' else reads') ++ (if a && not b then from ∷ others else others)
+    step : (a b : Bool) → t from ≡ a → r from ≡ b → numbers_where t (from + 1) count ≡ reads' ++ others → (if a then from ∷ numbers_where t (from + 1) count else numbers_where t (from + 1) count) ≡ (if a && b then from ∷ reads' else reads') ++ (if a && not b then from ∷ others else others)
     step false b e f ih = ih
     step true true e f ih = ap (λ l. from ∷ l) ih
     step true false e f ih =
         let none : reads' ≡ [] = kept-none (λ k. t k && r k) (from + 1) count (λ k a b. fails (t k && r k) (λ g. let c = both (t k) (r k) g in not_both (sym f ∙ down from k (omega arith) e c.0 c.1))) in
         ap (λ l. from ∷ l) (ih ∙ ap (λ l. l ++ others) none) ∙ sym (ap (λ l. l ++ from ∷ others) none)
 
-pub passing-kept : (q p : ℕ → Bool) (from count : ℕ) → passing q (kept p from count) ≡ kept (λ k. p k && q k) from count
+pub passing-kept : (q p : ℕ → Bool) (from count : ℕ) → filter q (numbers_where p from count) ≡ numbers_where (λ k. p k && q k) from count
 passing-kept q p from zero = refl
 passing-kept q p from (suc count) = step (p from) (q from) refl (passing-kept q p (from + 1) count)
   where
-    step : (a b : Bool) → q from ≡ b → passing q (kept p (from + 1) count) ≡ kept (λ k. p k && q k) (from + 1) count → passing q (if a then from ∷ kept p (from + 1) count else kept p (from + 1) count) ≡ (if a && b then from ∷ kept (λ k. p k && q k) (from + 1) count else kept (λ k. p k && q k) (from + 1) count)
-    step true true e ih = ap (λ c. if c then from ∷ passing q (kept p (from + 1) count) else passing q (kept p (from + 1) count)) e ∙ ap (λ l. from ∷ l) ih
-    step true false e ih = ap (λ c. if c then from ∷ passing q (kept p (from + 1) count) else passing q (kept p (from + 1) count)) e ∙ ih
+    step : (a b : Bool) → q from ≡ b → filter q (numbers_where p (from + 1) count) ≡ numbers_where (λ k. p k && q k) (from + 1) count → filter q (if a then from ∷ numbers_where p (from + 1) count else numbers_where p (from + 1) count) ≡ (if a && b then from ∷ numbers_where (λ k. p k && q k) (from + 1) count else numbers_where (λ k. p k && q k) (from + 1) count)
+    step true true e ih = ap (λ c. if c then from ∷ filter q (numbers_where p (from + 1) count) else filter q (numbers_where p (from + 1) count)) e ∙ ap (λ l. from ∷ l) ih
+    step true false e ih = ap (λ c. if c then from ∷ filter q (numbers_where p (from + 1) count) else filter q (numbers_where p (from + 1) count)) e ∙ ih
     step false b e ih = ih
 
 -- the first so many, and the leading of the others, are those that pass among more of the first
-passing-leading : (q : ℕ → Bool) (i : ℕ) (xs : List ℕ) → passing q (take i xs) ++ leading q (drop i xs) ≡ passing q (take (i + length (leading q (drop i xs))) xs)
+passing-leading : (q : ℕ → Bool) (i : ℕ) (xs : List ℕ) → filter q (take i xs) ++ leading q (drop i xs) ≡ filter q (take (i + length (leading q (drop i xs))) xs)
 passing-leading q zero [] = refl
-passing-leading q zero (x ∷ xs) = front (x ∷ xs) ∙ ap (λ k. passing q (take k (x ∷ xs))) (let z : length (leading q (x ∷ xs)) ≡ 0 + length (leading q (x ∷ xs)) = omega arith in z)
+passing-leading q zero (x ∷ xs) = front (x ∷ xs) ∙ ap (λ k. filter q (take k (x ∷ xs))) (let z : length (leading q (x ∷ xs)) ≡ 0 + length (leading q (x ∷ xs)) = omega arith in z)
   where
-    front : (xs : List ℕ) → leading q xs ≡ passing q (take (length (leading q xs)) xs)
+    front : (xs : List ℕ) → leading q xs ≡ filter q (take (length (leading q xs)) xs)
     front [] = refl
     front (y ∷ ys) = step (q y) refl (front ys)
       where
-        step : (b : Bool) → q y ≡ b → leading q ys ≡ passing q (take (length (leading q ys)) ys) → (if b then y ∷ leading q ys else []) ≡ passing q (take (length (if b then y ∷ leading q ys else [])) (y ∷ ys))
-        step true e ih = ap (λ l. y ∷ l) ih ∙ sym (ap (λ c. if c then y ∷ passing q (take (length (leading q ys)) ys) else passing q (take (length (leading q ys)) ys)) e)
+        step : (b : Bool) → q y ≡ b → leading q ys ≡ filter q (take (length (leading q ys)) ys) → (if b then y ∷ leading q ys else []) ≡ filter q (take (length (if b then y ∷ leading q ys else [])) (y ∷ ys))
+        step true e ih = ap (λ l. y ∷ l) ih ∙ sym (ap (λ c. if c then y ∷ filter q (take (length (leading q ys)) ys) else filter q (take (length (leading q ys)) ys)) e)
         step false e ih = refl
 passing-leading q (suc i) [] = sym (take-none (suc i + 0) q)
 passing-leading q (suc i) (x ∷ xs) =
     let z : suc (i + length (leading q (drop i xs))) ≡ suc i + length (leading q (drop i xs)) = omega arith in
-    step (q x) (passing-leading q i xs) ∙ ap (λ k. passing q (take k (x ∷ xs))) z
+    step (q x) (passing-leading q i xs) ∙ ap (λ k. filter q (take k (x ∷ xs))) z
   where
-    step : (b : Bool) → passing q (take i xs) ++ leading q (drop i xs) ≡ passing q (take (i + length (leading q (drop i xs))) xs) → (if b then x ∷ passing q (take i xs) else passing q (take i xs)) ++ leading q (drop i xs) ≡ (if b then x ∷ passing q (take (i + length (leading q (drop i xs))) xs) else passing q (take (i + length (leading q (drop i xs))) xs))
+    step : (b : Bool) → filter q (take i xs) ++ leading q (drop i xs) ≡ filter q (take (i + length (leading q (drop i xs))) xs) → (if b then x ∷ filter q (take i xs) else filter q (take i xs)) ++ leading q (drop i xs) ≡ (if b then x ∷ filter q (take (i + length (leading q (drop i xs))) xs) else filter q (take (i + length (leading q (drop i xs))) xs))
     step true ih = ap (λ l. x ∷ l) ih
     step false ih = ih
 
@@ -160,39 +160,39 @@ leading-more q r (x ∷ xs) e = let c = both (not (q x) || r x) (list_all (λ k.
 
 -- where the run ends
 abbrev edge : View → ℕ → ℕ
-edge v s = v.named s + length (leading (whole_at v) (drop (v.named s) (line v s)))
+edge v s = v.named s + length (leading (complete_at v) (drop (v.named s) (line v s)))
 
 abbrev in_run : View → ℕ → ℕ → Bool
-in_run v s k = on v.x s k && (whole_at v k && nat_lt (index v.x k) (edge v s))
+in_run v s k = on v.x s k && (complete_at v k && nat_lt (index v.x k) (edge v s))
 
-run-kept : (v : View) (s : ℕ) → run v s ≡ kept (in_run v s) 0 v.x.count
+run-kept : (v : View) (s : ℕ) → run v s ≡ numbers_where (in_run v s) 0 v.x.count
 run-kept v s =
-    passing-leading (whole_at v) (v.named s) (line v s)
-    ∙ take-kept (on v.x s) (whole_at v) (index v.x) 0 v.x.count (edge v s) 0 (edge v s) (omega arith) (λ k a b e. index_on v.x s k e ∙ place k)
+    passing-leading (complete_at v) (v.named s) (line v s)
+    ∙ take-kept (on v.x s) (complete_at v) (index v.x) 0 v.x.count (edge v s) 0 (edge v s) (omega arith) (λ k a b e. index_on v.x s k e ∙ place k)
   where
-    place : (k : ℕ) → length (kept (on v.x s) 0 k) ≡ 0 + length (kept (on v.x s) 0 (k - 0))
+    place : (k : ℕ) → length (numbers_where (on v.x s) 0 k) ≡ 0 + length (numbers_where (on v.x s) 0 (k - 0))
     place k = let e : k - 0 ≡ k = omega arith in rw e (omega arith)
 
 -- what was read is in the run
 read-in_run : (v : View) (s k : ℕ) → Ordered v → k < v.x.count → read_on v s k ≡ true → in_run v s k ≡ true
 read-in_run v s k o lt e =
     let a = both (on v.x s k) (v.read k) e in
-    let wh : whole_at v k ≡ true = ordered-at v k (on-ordered v.x s k a.0) ∙ o.read_whole k lt (on-ordered v.x s k a.0) a.1 in
-    let all = Alls.all-kept (λ k. not (v.read k) || whole_at v k) (on v.x s) 0 v.x.count (λ j x y h. implied j (omega arith) h (v.read j) refl) in
-    let more = leading-more v.read (whole_at v) (drop (v.named s) (line v s)) (Alls.all-drop (λ k. not (v.read k) || whole_at v k) (v.named s) (line v s) all) in
+    let wh : complete_at v k ≡ true = ordered-at v k (on-ordered v.x s k a.0) ∙ o.read_complete k lt (on-ordered v.x s k a.0) a.1 in
+    let all = Alls.all-kept (λ k. not (v.read k) || complete_at v k) (on v.x s) 0 v.x.count (λ j x y h. implied j (omega arith) h (v.read j) refl) in
+    let more = leading-more v.read (complete_at v) (drop (v.named s) (line v s)) (Alls.all-drop (λ k. not (v.read k) || complete_at v k) (v.named s) (line v s) all) in
     let low : index v.x k < edge v s = omega (arith, o.read_past s k lt a.0 a.1, more) in
-    and (on v.x s k) (whole_at v k && nat_lt (index v.x k) (edge v s)) a.0 (and (whole_at v k) (nat_lt (index v.x k) (edge v s)) wh (grind (arith, nat_tests)))
+    and (on v.x s k) (complete_at v k && nat_lt (index v.x k) (edge v s)) a.0 (and (complete_at v k) (nat_lt (index v.x k) (edge v s)) wh (grind (arith, nat_tests)))
   where
-    implied : (j : ℕ) → j < v.x.count → on v.x s j ≡ true → (b : Bool) → v.read j ≡ b → (not b || whole_at v j) ≡ true
-    implied j l h true r = ordered-at v j (on-ordered v.x s j h) ∙ o.read_whole j l (on-ordered v.x s j h) r
+    implied : (j : ℕ) → j < v.x.count → on v.x s j ≡ true → (b : Bool) → v.read j ≡ b → (not b || complete_at v j) ≡ true
+    implied j l h true r = ordered-at v j (on-ordered v.x s j h) ∙ o.read_complete j l (on-ordered v.x s j h) r
     implied j l h false r = refl
 
-pub run-halves : (v : View) (s : ℕ) → Ordered v → run v s ≡ kept (read_on v s) 0 v.x.count ++ passing (λ n. not (v.read n)) (run v s)
+pub run-halves : (v : View) (s : ℕ) → Ordered v → run v s ≡ numbers_where (read_on v s) 0 v.x.count ++ filter (λ n. not (v.read n)) (run v s)
 run-halves v s o =
     run-kept v s
     ∙ short (in_run v s) v.read
-    ∙ ap (λ l. l ++ kept (λ k. in_run v s k && not (v.read k)) 0 v.x.count) (kept-same (λ k. in_run v s k && v.read k) (read_on v s) 0 v.x.count (λ k a b. same k (omega arith) (v.read k) refl (on v.x s k) refl))
-    ∙ ap (λ l. kept (read_on v s) 0 v.x.count ++ l) (sym (ap (passing (λ n. not (v.read n))) (run-kept v s) ∙ passing-kept (λ n. not (v.read n)) (in_run v s) 0 v.x.count))
+    ∙ ap (λ l. l ++ numbers_where (λ k. in_run v s k && not (v.read k)) 0 v.x.count) (kept-same (λ k. in_run v s k && v.read k) (read_on v s) 0 v.x.count (λ k a b. same k (omega arith) (v.read k) refl (on v.x s k) refl))
+    ∙ ap (λ l. numbers_where (read_on v s) 0 v.x.count ++ l) (sym (ap (filter (λ n. not (v.read n))) (run-kept v s) ∙ passing-kept (λ n. not (v.read n)) (in_run v s) 0 v.x.count))
   where
     same : (k : ℕ) → k < v.x.count → (r : Bool) → v.read k ≡ r → (c : Bool) → on v.x s k ≡ c → (in_run v s k && r) ≡ (on v.x s k && r)
     same k lt false r c e = none (in_run v s k) ∙ sym (none (on v.x s k))
@@ -201,15 +201,15 @@ run-halves v s o =
         none true = refl
         none false = refl
     same k lt true r true e = ap (λ b. b && true) (read-in_run v s k o lt (and (on v.x s k) (v.read k) e r)) ∙ sym (ap (λ b. b && true) e)
-    same k lt true r false e = ap (λ b. (b && (whole_at v k && nat_lt (index v.x k) (edge v s))) && true) e ∙ sym (ap (λ b. b && true) e)
+    same k lt true r false e = ap (λ b. (b && (complete_at v k && nat_lt (index v.x k) (edge v s))) && true) e ∙ sym (ap (λ b. b && true) e)
 
     -- only the numbers of messages matter
-    short : (t r : ℕ → Bool) → kept (in_run v s) 0 v.x.count ≡ kept (λ k. in_run v s k && v.read k) 0 v.x.count ++ kept (λ k. in_run v s k && not (v.read k)) 0 v.x.count
+    short : (t r : ℕ → Bool) → numbers_where (in_run v s) 0 v.x.count ≡ numbers_where (λ k. in_run v s k && v.read k) 0 v.x.count ++ numbers_where (λ k. in_run v s k && not (v.read k)) 0 v.x.count
     short t r =
         kept-same (in_run v s) made 0 v.x.count (λ k a b. sym (at k (omega arith)))
         ∙ kept-halves made v.read 0 v.x.count (λ j k l a b e. down j k l (both (nat_lt j v.x.count) (in_run v s j) a) (both (nat_lt k v.x.count) (in_run v s k) b) e)
-        ∙ ap (λ l. l ++ kept (λ k. made k && not (v.read k)) 0 v.x.count) (kept-same (λ k. made k && v.read k) (λ k. in_run v s k && v.read k) 0 v.x.count (λ k a b. ap (λ c. c && v.read k) (at k (omega arith))))
-        ∙ ap (λ l. kept (λ k. in_run v s k && v.read k) 0 v.x.count ++ l) (kept-same (λ k. made k && not (v.read k)) (λ k. in_run v s k && not (v.read k)) 0 v.x.count (λ k a b. ap (λ c. c && not (v.read k)) (at k (omega arith))))
+        ∙ ap (λ l. l ++ numbers_where (λ k. made k && not (v.read k)) 0 v.x.count) (kept-same (λ k. made k && v.read k) (λ k. in_run v s k && v.read k) 0 v.x.count (λ k a b. ap (λ c. c && v.read k) (at k (omega arith))))
+        ∙ ap (λ l. numbers_where (λ k. in_run v s k && v.read k) 0 v.x.count ++ l) (kept-same (λ k. made k && not (v.read k)) (λ k. in_run v s k && not (v.read k)) 0 v.x.count (λ k a b. ap (λ c. c && not (v.read k)) (at k (omega arith))))
       where
         made : ℕ → Bool
         made k = nat_lt k v.x.count && in_run v s k
@@ -219,87 +219,87 @@ run-halves v s o =
 
         down : (j k : ℕ) → j < k → (nat_lt j v.x.count ≡ true) × (in_run v s j ≡ true) → (nat_lt k v.x.count ≡ true) × (in_run v s k ≡ true) → v.read k ≡ true → v.read j ≡ true
         down j k l a b e =
-            let x = both (on v.x s j) (whole_at v j && nat_lt (index v.x j) (edge v s)) a.1 in
-            let y = both (on v.x s k) (whole_at v k && nat_lt (index v.x k) (edge v s)) b.1 in
-            let wh = (both (whole_at v j) (nat_lt (index v.x j) (edge v s)) x.1).0 in
+            let x = both (on v.x s j) (complete_at v j && nat_lt (index v.x j) (edge v s)) a.1 in
+            let y = both (on v.x s k) (complete_at v k && nat_lt (index v.x k) (edge v s)) b.1 in
+            let wh = (both (complete_at v j) (nat_lt (index v.x j) (edge v s)) x.1).0 in
             let lt = b.0 in
             o.downward s j k l (grind (arith, nat_tests)) x.0 y.0 e (sym (ordered-at v j (on-ordered v.x s j x.0)) ∙ wh)
 
 -- ## The laws
 
 -- the run of the record is the one that the order of arrivals gives
-pub run-is : (setup : Setup) (h : History) → IsSetup setup → IsRun setup h → (s : ℕ) → Log.run_by (world_of setup h) (Log.log_of setup h) s ≡ run (view (world_of setup h)) s
+pub run-is : (setup : Setup) (h : History) → IsSetup setup → IsRun setup h → (s : ℕ) → Log.run_by (record_of setup h) (Log.log_of setup h) s ≡ run (view (record_of setup h)) s
 run-is setup h is go s =
-    ap (λ k. passing (Log.is_whole_by w log) (take k line') ++ leading (Log.is_whole_by w log) (drop k line')) (sym (named_is_named setup h is go s))
-    ∙ ap (λ l. l ++ leading (Log.is_whole_by w log) (drop (v.named s) line')) (passing-all (Log.is_whole_by w log) (whole_at v) (take (v.named s) line') (Alls.all-take agree (v.named s) line' all))
-    ∙ ap (λ l. passing (whole_at v) (take (v.named s) line') ++ l) (leading-all (Log.is_whole_by w log) (whole_at v) (drop (v.named s) line') (Alls.all-drop agree (v.named s) line' all))
+    ap (λ k. filter (Log.is_complete_by w log) (take k line') ++ leading (Log.is_complete_by w log) (drop k line')) (sym (named_is_named setup h is go s))
+    ∙ ap (λ l. l ++ leading (Log.is_complete_by w log) (drop (v.named s) line')) (passing-all (Log.is_complete_by w log) (complete_at v) (take (v.named s) line') (Alls.all-take agree (v.named s) line' all))
+    ∙ ap (λ l. filter (complete_at v) (take (v.named s) line') ++ l) (leading-all (Log.is_complete_by w log) (complete_at v) (drop (v.named s) line') (Alls.all-drop agree (v.named s) line' all))
   where
-    w : World
-    w = world_of setup h
+    w : LinkRecord
+    w = record_of setup h
 
     log : List LogEntry
     log = Log.log_of setup h
 
     v : View
-    v = view (world_of setup h)
+    v = view (record_of setup h)
 
     line' : List ℕ
-    line' = line (view (world_of setup h)) s
+    line' = line (view (record_of setup h)) s
 
     agree : ℕ → Bool
-    agree n = nat_lt n (length (world_of setup h).messages)
+    agree n = nat_lt n (length (record_of setup h).messages)
 
     all : list_all agree line' ≡ true
     all = Alls.all-kept agree (on (shape w) s) 0 (length w.messages) (λ k a b e. let l : k < length w.messages = omega (arith, b) in grind (arith, nat_tests))
 
-    equal : (n : ℕ) → agree n ≡ true → Log.is_whole_by (world_of setup h) (Log.log_of setup h) n ≡ whole_at (view (world_of setup h)) n
-    equal n e = sym (whole_is_whole setup h is go n (let z : nat_lt n (length (world_of setup h).messages) ≡ true = e in grind (arith, nat_tests)))
+    equal : (n : ℕ) → agree n ≡ true → Log.is_complete_by (record_of setup h) (Log.log_of setup h) n ≡ complete_at (view (record_of setup h)) n
+    equal n e = sym (completeness_agrees setup h is go n (let z : nat_lt n (length (record_of setup h).messages) ≡ true = e in grind (arith, nat_tests)))
 
-    passing-all : (q r : ℕ → Bool) (xs : List ℕ) → list_all agree xs ≡ true → passing (Log.is_whole_by w log) xs ≡ passing (whole_at v) xs
-    passing-all q r xs a = SoFar.passing-same agree (Log.is_whole_by w log) (whole_at v) xs equal a
+    passing-all : (q r : ℕ → Bool) (xs : List ℕ) → list_all agree xs ≡ true → filter (Log.is_complete_by w log) xs ≡ filter (complete_at v) xs
+    passing-all q r xs a = SoFar.passing-same agree (Log.is_complete_by w log) (complete_at v) xs equal a
 
-    leading-all : (q r : ℕ → Bool) (xs : List ℕ) → list_all agree xs ≡ true → leading (Log.is_whole_by w log) xs ≡ leading (whole_at v) xs
+    leading-all : (q r : ℕ → Bool) (xs : List ℕ) → list_all agree xs ≡ true → leading (Log.is_complete_by w log) xs ≡ leading (complete_at v) xs
     leading-all q r [] a = refl
-    leading-all q r (x ∷ xs) a = let c = both (agree x) (list_all agree xs) a in ap (λ b. if b then x ∷ leading (Log.is_whole_by w log) xs else []) (equal x c.0) ∙ ap (λ l. if whole_at v x then x ∷ l else []) (leading-all q r xs c.1)
+    leading-all q r (x ∷ xs) a = let c = both (agree x) (list_all agree xs) a in ap (λ b. if b then x ∷ leading (Log.is_complete_by w log) xs else []) (equal x c.0) ∙ ap (λ l. if complete_at v x then x ∷ l else []) (leading-all q r xs c.1)
 
 -- the ordered reads, then what of the run was not read
-pub reads-then : (setup : Setup) (h : History) → IsSetup setup → IsRun setup h → (s : ℕ) → Log.run_by (world_of setup h) (Log.log_of setup h) s ≡ ordered_reads setup h s ++ passing (λ n. not ((view (world_of setup h)).read n)) (run (view (world_of setup h)) s)
+pub reads-then : (setup : Setup) (h : History) → IsSetup setup → IsRun setup h → (s : ℕ) → Log.run_by (record_of setup h) (Log.log_of setup h) s ≡ ordered_reads setup h s ++ filter (λ n. not ((view (record_of setup h)).read n)) (run (view (record_of setup h)) s)
 reads-then setup h is go s =
-    run-is setup h is go s ∙ run-halves (view (world_of setup h)) s (received-run setup h is go).ordered
-    ∙ ap (λ l. l ++ passing (λ n. not ((view (world_of setup h)).read n)) (run (view (world_of setup h)) s)) (sym (so_far-run setup h is go s).ordered)
+    run-is setup h is go s ∙ run-halves (view (record_of setup h)) s (received-run setup h is go).ordered
+    ∙ ap (λ l. l ++ filter (λ n. not ((view (record_of setup h)).read n)) (run (view (record_of setup h)) s)) (sym (so_far-run setup h is go s).ordered)
 
 pub reads_begin_run : OnEveryRun ReadsBeginRun
-reads_begin_run setup h is go s = (passing (λ n. not ((view (world_of setup h)).read n)) (run (view (world_of setup h)) s), sym (reads-then setup h is go s))
+reads_begin_run setup h is go s = (filter (λ n. not ((view (record_of setup h)).read n)) (run (view (record_of setup h)) s), sym (reads-then setup h is go s))
 
-pub reads_begin_whole_run : OnEveryRun ReadsBeginWholeRun
-reads_begin_whole_run setup h is go s lossless =
-    let w = world_of setup h in
+pub reads_begin_complete_run : OnEveryRun ReadsBeginCompleteRun
+reads_begin_complete_run setup h is go s lossless =
+    let w = record_of setup h in
     let log = Log.log_of setup h in
     let p = reads_begin_run setup h is go s in
     let z : Log.named_by w s log ≡ 0 = none-named w s log (no-skips setup h lossless) in
-    (p.0, p.1 ∙ ap (λ k. passing (Log.is_whole_by w log) (take k (Messages.ordered_on w s)) ++ leading (Log.is_whole_by w log) (drop k (Messages.ordered_on w s))) z ∙ whole-line (Log.is_whole_by w log) (Messages.ordered_on w s))
+    (p.0, p.1 ∙ ap (λ k. filter (Log.is_complete_by w log) (take k (Messages.ordered_on w s)) ++ leading (Log.is_complete_by w log) (drop k (Messages.ordered_on w s))) z ∙ complete-line (Log.is_complete_by w log) (Messages.ordered_on w s))
   where
-    whole-line : (q : ℕ → Bool) (xs : List ℕ) → passing q (take 0 xs) ++ leading q (drop 0 xs) ≡ leading q xs
-    whole-line q [] = refl
-    whole-line q (x ∷ xs) = refl
+    complete-line : (q : ℕ → Bool) (xs : List ℕ) → filter q (take 0 xs) ++ leading q (drop 0 xs) ≡ leading q xs
+    complete-line q [] = refl
+    complete-line q (x ∷ xs) = refl
 
 -- the unordered reads, then those that wait
-pub unordered-then : (setup : Setup) (h : History) → IsSetup setup → IsRun setup h → (s : ℕ) → Log.whole_by (world_of setup h) (Log.log_of setup h) s ≡ unordered_reads setup h s ++ (view (world_of setup h)).whole s
-unordered-then setup h is go s = whole_list-is (world_of setup h) (Log.log_of setup h) s ∙ (so_far-run setup h is go s).unordered
+pub unordered-then : (setup : Setup) (h : History) → IsSetup setup → IsRun setup h → (s : ℕ) → Log.complete_by (record_of setup h) (Log.log_of setup h) s ≡ unordered_reads setup h s ++ (view (record_of setup h)).complete s
+unordered-then setup h is go s = complete_list-is (record_of setup h) (Log.log_of setup h) s ∙ (so_far-run setup h is go s).unordered
 
-pub reads_begin_whole : OnEveryRun ReadsBeginWhole
-reads_begin_whole setup h is go s = ((view (world_of setup h)).whole s, sym (unordered-then setup h is go s))
+pub reads_begin_complete : OnEveryRun ReadsBeginComplete
+reads_begin_complete setup h is go s = ((view (record_of setup h)).complete s, sym (unordered-then setup h is go s))
 
 pub unordered_first : OnEveryRun UnorderedFirst
 unordered_first setup h is go s n e =
-    first ((view (world_of setup h)).whole s) (sym (at (unordered_reads setup h s) ((view (world_of setup h)).whole s)) ∙ ap (λ l. slice_get l (length (unordered_reads setup h s))) (sym (unordered-then setup h is go s)) ∙ e)
+    first ((view (record_of setup h)).complete s) (sym (at (unordered_reads setup h s) ((view (record_of setup h)).complete s)) ∙ ap (λ l. slice_get l (length (unordered_reads setup h s))) (sym (unordered-then setup h is go s)) ∙ e)
   where
     at : (xs ys : List ℕ) → slice_get (xs ++ ys) (length xs) ≡ first_of ys
     at [] [] = refl
     at [] (y ∷ ys) = refl
     at (x ∷ xs) ys = at xs ys
 
-    first : (l : List ℕ) → first_of l ≡ Some n → or_else (first_of l) (first_of (passing (λ n. not ((view (world_of setup h)).read n)) (run (view (world_of setup h)) s))) ≡ Some n
+    first : (l : List ℕ) → first_of l ≡ Some n → or_else (first_of l) (first_of (filter (λ n. not ((view (record_of setup h)).read n)) (run (view (record_of setup h)) s))) ≡ Some n
     first [] f = cc
     first (x ∷ xs) f = f
 
@@ -315,25 +315,25 @@ pub nothing_where_read : OnEveryRun NothingWhereRead
 nothing_where_read setup h is go s = (λ e. exhausted (next_read v s) refl e, λ e. nothing e.0 e.1)
   where
     v : View
-    v = view (world_of setup h)
+    v = view (record_of setup h)
 
     unread : List ℕ
-    unread = passing (λ n. not ((view (world_of setup h)).read n)) (run (view (world_of setup h)) s)
+    unread = filter (λ n. not ((view (record_of setup h)).read n)) (run (view (record_of setup h)) s)
 
     parted : (l : List ℕ) → or_else (first_of l) (first_of unread) ≡ None → (l ≡ []) × (unread ≡ [])
     parted [] f = (refl, none-first unread f)
     parted (x ∷ xs) f = cc
 
-    exhausted : (o : Option ℕ) → next_read v s ≡ o → read_reply (world_of setup h) o ≡ R.Nothing → (ordered_reads setup h s ≡ Log.run_by (world_of setup h) (Log.log_of setup h) s) × (unordered_reads setup h s ≡ Log.whole_by (world_of setup h) (Log.log_of setup h) s)
+    exhausted : (o : Option ℕ) → next_read v s ≡ o → read_reply (record_of setup h) o ≡ R.Nothing → (ordered_reads setup h s ≡ Log.run_by (record_of setup h) (Log.log_of setup h) s) × (unordered_reads setup h s ≡ Log.complete_by (record_of setup h) (Log.log_of setup h) s)
     exhausted (Some n) f e = cc
     exhausted None f e =
-        let p = parted (v.whole s) f in (
+        let p = parted (v.complete s) f in (
           sym (reads-then setup h is go s ∙ ap (λ l. ordered_reads setup h s ++ l) p.1 ∙ append-nil (ordered_reads setup h s)),
           sym (unordered-then setup h is go s ∙ ap (λ l. unordered_reads setup h s ++ l) p.0 ∙ append-nil (unordered_reads setup h s)),
         )
 
-    nothing : ordered_reads setup h s ≡ Log.run_by (world_of setup h) (Log.log_of setup h) s → unordered_reads setup h s ≡ Log.whole_by (world_of setup h) (Log.log_of setup h) s → read_reply (world_of setup h) (next_read v s) ≡ R.Nothing
+    nothing : ordered_reads setup h s ≡ Log.run_by (record_of setup h) (Log.log_of setup h) s → unordered_reads setup h s ≡ Log.complete_by (record_of setup h) (Log.log_of setup h) s → read_reply (record_of setup h) (next_read v s) ≡ R.Nothing
     nothing a b =
         let p = nothing-left (ordered_reads setup h s) unread (a ∙ reads-then setup h is go s) in
-        let q = nothing-left (unordered_reads setup h s) (v.whole s) (b ∙ unordered-then setup h is go s) in
-        ap (λ l. read_reply (world_of setup h) (or_else (first_of l) (first_of unread))) q ∙ ap (λ l. read_reply (world_of setup h) (first_of l)) p
+        let q = nothing-left (unordered_reads setup h s) (v.complete s) (b ∙ unordered-then setup h is go s) in
+        ap (λ l. read_reply (record_of setup h) (or_else (first_of l) (first_of unread))) q ∙ ap (λ l. read_reply (record_of setup h) (first_of l)) p

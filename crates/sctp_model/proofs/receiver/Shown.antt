@@ -3,7 +3,7 @@ use Rattle.std.specs.Prelude.{◌⊎◌, if◌then◌else◌, ◌==◌, ◌&&◌
 use Rattle.std.specs.List.{list_all}
 use Rattle.std.proofs.lemmas.Bool.Decides.{nat_tests}
 use Rattle.std.proofs.lemmas.List.{map-append}
-use Rattle.sctp_list_lemmas.specs.Kept.{kept, always}
+use Rattle.sctp_list_lemmas.specs.Kept.{numbers_where, always}
 use Rattle.sctp_list_lemmas.specs.Lists.{pieces}
 use Rattle.sctp_list_lemmas.proofs.Passing.{kept-same}
 use Rattle.sctp_list_lemmas.proofs.Lines.{take-drop}
@@ -14,15 +14,15 @@ use Rattle.sctp_list_lemmas.proofs.Tests.{all-out}
 use Rattle.sctp_model.specs.declared.event.Event.{Event}
 use Rattle.sctp_model.specs.declared.event.Event.TheVariants as E
 use Rattle.sctp_model.specs.Reply.{Reply}
-use Rattle.sctp_model.specs.World.{Setup, World}
+use Rattle.sctp_model.specs.LinkRecord.{Setup, LinkRecord}
 use Rattle.sctp_model.specs.Messages
 use Rattle.sctp_model.specs.Receiver
 use Rattle.sctp_model.specs.Receiver.{next_read}
 use Rattle.sctp_model.specs.Contents.{chunk_at}
-use Rattle.sctp_model.specs.Queues.{handed_out, set_of, whole_set_of}
+use Rattle.sctp_model.specs.Queues.{handed_out, set_of, complete_set_of}
 use Rattle.sctp_model.specs.Log
 use Rattle.sctp_model.specs.Log.{Shown, joined_bytes, reads_in, numbers_read, number_read, shown_by, log_of}
-use Rattle.sctp_model.specs.Steps.{History, world_of, IsRun, reply_to, after, read_reply}
+use Rattle.sctp_model.specs.Steps.{History, record_of, IsRun, reply_to, after, read_reply}
 use Rattle.sctp_model.specs.Laws.{IsSetup, OnEveryRun, ReadsShowMessages, shown_of}
 use Rattle.sctp_model.proofs.sender.Shape.{shape, has, sent, parts}
 use Rattle.sctp_model.proofs.sender.Sender.{Sender}
@@ -32,8 +32,8 @@ use Rattle.sctp_model.proofs.acknowledgement.Bytes.{size-some}
 use Rattle.sctp_model.proofs.sender.Network.{Extends, extends-after}
 use Rattle.sctp_model.proofs.receiver.Arrivals.{heard-run}
 use Rattle.sctp_model.proofs.receiver.View.{view}
-use Rattle.sctp_model.proofs.receiver.Known.{HasRead, ReadsWhole, ReadsRun, reads, run-is, ready-first, ready-whole}
-use Rattle.sctp_model.proofs.receiver.KnownRun.{known-run, whole_is_whole}
+use Rattle.sctp_model.proofs.receiver.Known.{HasRead, ReadsComplete, ReadsRun, reads, run-is, ready-first, ready-complete}
+use Rattle.sctp_model.proofs.receiver.KnownRun.{known-run, completeness_agrees}
 use Rattle.sctp_list_lemmas.proofs.Alls.{all-append}
 use Rattle.sctp_list_lemmas.proofs.Tests.{all-more}
 
@@ -60,7 +60,7 @@ flat-pieces (suc most) (suc size) (x ∷ xs) s le =
     shorter (suc i) (y ∷ ys) most le = shorter i ys most (omega arith)
 
 -- the elements one after another are the list
-map-shift : (f : ℕ → List ℕ) (from count : ℕ) → map f (kept always (from + 1) count) ≡ map (λ i. f (i + 1)) (kept always from count)
+map-shift : (f : ℕ → List ℕ) (from count : ℕ) → map f (numbers_where always (from + 1) count) ≡ map (λ i. f (i + 1)) (numbers_where always from count)
 map-shift f from zero = refl
 map-shift f from (suc count) = ap (λ l. f (from + 1) ∷ l) (map-shift f (from + 1) count)
 
@@ -68,34 +68,34 @@ map-same : {A : Type 0} (f g : ℕ → A) (xs : List ℕ) → ((i : ℕ) → f i
 map-same f g [] h = refl
 map-same f g (x ∷ xs) h = ap (λ y. y ∷ map f xs) (h x) ∙ ap (λ l. g x ∷ l) (map-same f g xs h)
 
-elements : (xs : List (List ℕ)) → map (λ i. get_or xs i []) (kept always 0 (length xs)) ≡ xs
+elements : (xs : List (List ℕ)) → map (λ i. get_or xs i []) (numbers_where always 0 (length xs)) ≡ xs
 elements [] = refl
-elements (x ∷ xs) = ap (λ l. x ∷ l) (map-shift (λ i. get_or (x ∷ xs) i []) 0 (length xs) ∙ map-same (λ i. get_or (x ∷ xs) (i + 1) []) (λ i. get_or xs i []) (kept always 0 (length xs)) (λ i. ap (λ j. get_or (x ∷ xs) j []) (add-one i)) ∙ elements xs)
+elements (x ∷ xs) = ap (λ l. x ∷ l) (map-shift (λ i. get_or (x ∷ xs) i []) 0 (length xs) ∙ map-same (λ i. get_or (x ∷ xs) (i + 1) []) (λ i. get_or xs i []) (numbers_where always 0 (length xs)) (λ i. ap (λ j. get_or (x ∷ xs) j []) (add-one i)) ∙ elements xs)
 
 -- ## The bytes of the slots of a message
 
 -- the chunks of slots of message n carry its fragments
-joined-slots : (w : World) (n from count : ℕ) → joined_bytes (map (chunk_at w) (kept (has (shape w) n) from count)) ≡ flat (map (Messages.fragment_at w n) (map (λ p. (Messages.slot_at w p).fragment) (kept (has (shape w) n) from count)))
+joined-slots : (w : LinkRecord) (n from count : ℕ) → joined_bytes (map (chunk_at w) (numbers_where (has (shape w) n) from count)) ≡ flat (map (Messages.fragment_at w n) (map (λ p. (Messages.slot_at w p).fragment) (numbers_where (has (shape w) n) from count)))
 joined-slots w n from zero = refl
 joined-slots w n from (suc count) = step (has (shape w) n from) refl (joined-slots w n (from + 1) count)
   where
-    step : (b : Bool) → has (shape w) n from ≡ b → joined_bytes (map (chunk_at w) (kept (has (shape w) n) (from + 1) count)) ≡ flat (map (Messages.fragment_at w n) (map (λ p. (Messages.slot_at w p).fragment) (kept (has (shape w) n) (from + 1) count)))
-        → joined_bytes (map (chunk_at w) (if b then from ∷ kept (has (shape w) n) (from + 1) count else kept (has (shape w) n) (from + 1) count)) ≡ flat (map (Messages.fragment_at w n) (map (λ p. (Messages.slot_at w p).fragment) (if b then from ∷ kept (has (shape w) n) (from + 1) count else kept (has (shape w) n) (from + 1) count)))
+    step : (b : Bool) → has (shape w) n from ≡ b → joined_bytes (map (chunk_at w) (numbers_where (has (shape w) n) (from + 1) count)) ≡ flat (map (Messages.fragment_at w n) (map (λ p. (Messages.slot_at w p).fragment) (numbers_where (has (shape w) n) (from + 1) count)))
+        → joined_bytes (map (chunk_at w) (if b then from ∷ numbers_where (has (shape w) n) (from + 1) count else numbers_where (has (shape w) n) (from + 1) count)) ≡ flat (map (Messages.fragment_at w n) (map (λ p. (Messages.slot_at w p).fragment) (if b then from ∷ numbers_where (has (shape w) n) (from + 1) count else numbers_where (has (shape w) n) (from + 1) count)))
     step false e ih = ih
     step true e ih =
-        ap (λ m. Messages.fragment_at w m (Messages.slot_at w from).fragment ++ joined_bytes (map (chunk_at w) (kept (has (shape w) n) (from + 1) count))) (of-has (shape w) n from e).0
+        ap (λ m. Messages.fragment_at w m (Messages.slot_at w from).fragment ++ joined_bytes (map (chunk_at w) (numbers_where (has (shape w) n) (from + 1) count))) (of-has (shape w) n from e).0
         ∙ ap (λ l. Messages.fragment_at w n (Messages.slot_at w from).fragment ++ l) ih
 
-slots-joined : (w : World) (n : ℕ) → Sender (shape w) → 0 < w.setup.size → sent (shape w) n ≡ parts (shape w) n → joined_bytes (map (chunk_at w) (Messages.slots_of w n)) ≡ (Messages.message_at w n).bytes
+slots-joined : (w : LinkRecord) (n : ℕ) → Sender (shape w) → 0 < w.setup.size → sent (shape w) n ≡ parts (shape w) n → joined_bytes (map (chunk_at w) (Messages.slots_of w n)) ≡ (Messages.message_at w n).bytes
 slots-joined w n s pos all =
     joined-slots w n 0 (length w.slots)
-    ∙ ap (λ l. flat (map (Messages.fragment_at w n) l)) (numbered (λ p. (Messages.slot_at w p).fragment) (has (shape w) n) (length w.slots) (λ k l e. s.number k l ∙ ap (λ m. length (kept (has (shape w) m) 0 k)) (of-has (shape w) n k e).0))
-    ∙ ap (λ c. flat (map (Messages.fragment_at w n) (kept always 0 c))) all
+    ∙ ap (λ l. flat (map (Messages.fragment_at w n) l)) (numbered (λ p. (Messages.slot_at w p).fragment) (has (shape w) n) (length w.slots) (λ k l e. s.number k l ∙ ap (λ m. length (numbers_where (has (shape w) m) 0 k)) (of-has (shape w) n k e).0))
+    ∙ ap (λ c. flat (map (Messages.fragment_at w n) (numbers_where always 0 c))) all
     ∙ ap flat (elements (Messages.fragments_of w n))
     ∙ flat-pieces (length (Messages.message_at w n).bytes) w.setup.size (Messages.message_at w n).bytes pos (omega arith)
 
 -- what is handed out joins to what was written
-handed-joined : (w : World) (n : ℕ) → Sender (shape w) → 0 < w.setup.size → sent (shape w) n ≡ parts (shape w) n → ((Messages.message_at w n).ordered ≡ true → list_all (Receiver.arrived_at w) (Messages.slots_of w n) ≡ true) → joined_bytes (handed_out w n).chunks ≡ (Messages.message_at w n).bytes
+handed-joined : (w : LinkRecord) (n : ℕ) → Sender (shape w) → 0 < w.setup.size → sent (shape w) n ≡ parts (shape w) n → ((Messages.message_at w n).ordered ≡ true → list_all (Receiver.arrived_at w) (Messages.slots_of w n) ≡ true) → joined_bytes (handed_out w n).chunks ≡ (Messages.message_at w n).bytes
 handed-joined w n s pos all datagram_received = step (Messages.message_at w n).ordered refl
   where
     ands : (a b : Bool) → (a ≡ true → b ≡ true) → (a && b) ≡ a
@@ -104,46 +104,46 @@ handed-joined w n s pos all datagram_received = step (Messages.message_at w n).o
 
     step : (b : Bool) → (Messages.message_at w n).ordered ≡ b → joined_bytes (handed_out w n).chunks ≡ (Messages.message_at w n).bytes
     step true o =
-        ap (λ b. joined_bytes (if b then set_of w n else whole_set_of w n).chunks) o
+        ap (λ b. joined_bytes (if b then set_of w n else complete_set_of w n).chunks) o
         ∙ ap (λ l. joined_bytes (map (chunk_at w) l)) (kept-same (λ p. has (shape w) n p && Receiver.arrived_at w p) (has (shape w) n) 0 (length w.slots) (λ k a b. ands (has (shape w) n k) (Receiver.arrived_at w k) (λ h. all-out (Receiver.arrived_at w) (has (shape w) n) k 0 (length w.slots) (datagram_received o) a b h)))
         ∙ slots-joined w n s pos all
-    step false o = ap (λ b. joined_bytes (if b then set_of w n else whole_set_of w n).chunks) o ∙ slots-joined w n s pos all
+    step false o = ap (λ b. joined_bytes (if b then set_of w n else complete_set_of w n).chunks) o ∙ slots-joined w n s pos all
 
 -- ## What is read next
 
-pub has-read : (setup : Setup) (h : History) → IsSetup setup → IsRun setup h → (s n : ℕ) → next_read (world_of setup h) s ≡ Some n → HasRead (view (world_of setup h)) s n
-has-read setup h is run s n e = step (reads (view (world_of setup h)) s n e)
+pub has-read : (setup : Setup) (h : History) → IsSetup setup → IsRun setup h → (s n : ℕ) → next_read (record_of setup h) s ≡ Some n → HasRead (view (record_of setup h)) s n
+has-read setup h is run s n e = step (reads (view (record_of setup h)) s n e)
   where
-    step : ReadsWhole (view (world_of setup h)) s n ⊎ ReadsRun (view (world_of setup h)) s n → HasRead (view (world_of setup h)) s n
+    step : ReadsComplete (view (record_of setup h)) s n ⊎ ReadsRun (view (record_of setup h)) s n → HasRead (view (record_of setup h)) s n
     step (inl a) =
-        let k = (known-run setup h is run).whole in
-        let i = ready-first (view (world_of setup h)) (log_of setup h) s n k a in
-        record { made = i.made; stream = i.stream; unread = i.unread; whole_now = ready-whole (view (world_of setup h)) (log_of setup h) s n k a }
+        let k = (known-run setup h is run).complete in
+        let i = ready-first (view (record_of setup h)) (log_of setup h) s n k a in
+        record { made = i.made; stream = i.stream; unread = i.unread; complete_now = ready-complete (view (record_of setup h)) (log_of setup h) s n k a }
     step (inr a) =
-        let i = run-is (view (world_of setup h)) s n a in
-        record { made = i.made; stream = same-is (Messages.message_at (world_of setup h) n).stream s (both ((Messages.message_at (world_of setup h) n).stream == s) ((Messages.message_at (world_of setup h) n).ordered && not (Messages.message_at (world_of setup h) n).expired) i.on_it).0; unread = i.unread; whole_now = i.whole_now }
+        let i = run-is (view (record_of setup h)) s n a in
+        record { made = i.made; stream = same-is (Messages.message_at (record_of setup h) n).stream s (both ((Messages.message_at (record_of setup h) n).stream == s) ((Messages.message_at (record_of setup h) n).ordered && not (Messages.message_at (record_of setup h) n).expired) i.on_it).0; unread = i.unread; complete_now = i.complete_now }
 
-pub read-joined : (setup : Setup) (h : History) → IsSetup setup → IsRun setup h → (s n : ℕ) → next_read (world_of setup h) s ≡ Some n → joined_bytes (handed_out (world_of setup h) n).chunks ≡ (Messages.message_at (world_of setup h) n).bytes
+pub read-joined : (setup : Setup) (h : History) → IsSetup setup → IsRun setup h → (s n : ℕ) → next_read (record_of setup h) s ≡ Some n → joined_bytes (handed_out (record_of setup h) n).chunks ≡ (Messages.message_at (record_of setup h) n).bytes
 read-joined setup h is run s n e =
-    let w = world_of setup h in
+    let w = record_of setup h in
     let g = sane-run setup h run in
     let r = has-read setup h is run s n e in
-    let whole = sym (whole_is_whole setup h is run n r.made) ∙ r.whole_now in
-    let a = both (Messages.sent_of w n == Messages.fragment_count w n) (if (Messages.message_at w n).ordered then list_all (Log.arrived_new (log_of setup h)) (Messages.slots_of w n) else Log.were_whole (Messages.slots_of w n) (log_of setup h)) whole in
+    let complete = sym (completeness_agrees setup h is run n r.made) ∙ r.complete_now in
+    let a = both (Messages.sent_of w n == Messages.fragment_count w n) (if (Messages.message_at w n).ordered then list_all (Log.arrived_new (log_of setup h)) (Messages.slots_of w n) else Log.were_complete (Messages.slots_of w n) (log_of setup h)) complete in
     handed-joined w n g.sender (size-some setup w is g) (same-is (Messages.sent_of w n) (Messages.fragment_count w n) a.0)
     (λ o. all-more (Log.arrived_new (log_of setup h)) (Receiver.arrived_at w) (Messages.slots_of w n) (λ k f. (heard-run setup h is run).arrived k ∙ f)
-    (ap (λ b. if b then list_all (Log.arrived_new (log_of setup h)) (Messages.slots_of w n) else Log.were_whole (Messages.slots_of w n) (log_of setup h)) (sym o) ∙ a.1))
+    (ap (λ b. if b then list_all (Log.arrived_new (log_of setup h)) (Messages.slots_of w n) else Log.were_complete (Messages.slots_of w n) (log_of setup h)) (sym o) ∙ a.1))
 
 -- ## The law
 
-abbrev Fits : World → ℕ → List ℕ → Type 0
+abbrev Fits : LinkRecord → ℕ → List ℕ → Type 0
 Fits w s xs = list_all (λ n. nat_lt n (length w.messages) && ((Messages.message_at w n).stream == s)) xs ≡ true
 
 -- messages stay as they were written
-shown-stays : (w v : World) → Extends w v → (n : ℕ) → n < length w.messages → shown_of v n ≡ shown_of w n
+shown-stays : (w v : LinkRecord) → Extends w v → (n : ℕ) → n < length w.messages → shown_of v n ≡ shown_of w n
 shown-stays w v x n lt = ap (λ m. let y : Shown = (m.stream, m.ppi, m.bytes) in y) (x.grows.message n lt)
 
-all-shown : (w v : World) → Extends w v → (s : ℕ) (xs : List ℕ) → Fits w s xs → (map (shown_of w) xs ≡ map (shown_of v) xs) × Fits v s xs
+all-shown : (w v : LinkRecord) → Extends w v → (s : ℕ) (xs : List ℕ) → Fits w s xs → (map (shown_of w) xs ≡ map (shown_of v) xs) × Fits v s xs
 all-shown w v x s [] f = (refl, refl)
 all-shown w v x s (n ∷ xs) f =
     let a = both (nat_lt n (length w.messages) && ((Messages.message_at w n).stream == s)) (list_all (λ n. nat_lt n (length w.messages) && ((Messages.message_at w n).stream == s)) xs) f in
@@ -156,17 +156,17 @@ all-shown w v x s (n ∷ xs) f =
       and (nat_lt n (length v.messages) && ((Messages.message_at v n).stream == s)) (list_all (λ n. nat_lt n (length v.messages) && ((Messages.message_at v n).stream == s)) xs) (and (nat_lt n (length v.messages)) ((Messages.message_at v n).stream == s) (grind (arith, nat_tests)) (ap (λ m. m.stream == s) (x.grows.message n lt) ∙ b.1)) ih.1,
     )
 
-abbrev Says : Setup → History → World → ℕ → Type 0
+abbrev Says : Setup → History → LinkRecord → ℕ → Type 0
 Says setup h w s = (reads_in h s ≡ map (shown_of w) (numbers_read setup h s)) × Fits w s (numbers_read setup h s)
 
-stays : (w v : World) → Extends w v → (setup : Setup) (h : History) (s : ℕ) → Says setup h w s → Says setup h v s
+stays : (w v : LinkRecord) → Extends w v → (setup : Setup) (h : History) (s : ℕ) → Says setup h w s → Says setup h v s
 stays w v x setup h s a = let r = all-shown w v x s (numbers_read setup h s) a.1 in (a.0 ∙ r.0, r.1)
 
 -- a read
-says-read : (setup : Setup) (older : History) (t s : ℕ) (r : Reply) (v : World) → IsSetup setup → IsRun setup older → Extends (world_of setup older) v → (o : Option ℕ) → next_read (world_of setup older) t ≡ o → r ≡ read_reply (world_of setup older) o → Says setup older (world_of setup older) s → Says setup ((E.Read t, r) ∷ older) v s
+says-read : (setup : Setup) (older : History) (t s : ℕ) (r : Reply) (v : LinkRecord) → IsSetup setup → IsRun setup older → Extends (record_of setup older) v → (o : Option ℕ) → next_read (record_of setup older) t ≡ o → r ≡ read_reply (record_of setup older) o → Says setup older (record_of setup older) s → Says setup ((E.Read t, r) ∷ older) v s
 says-read setup older t s r v is run x None e f a =
-    let b = stays (world_of setup older) v x setup older s a in
-    let same : numbers_read setup ((E.Read t, r) ∷ older) s ≡ numbers_read setup older s = ap (λ y. numbers_read setup older s ++ (if t == s then number_read (world_of setup older) s y else [])) f ∙ none (t == s) (numbers_read setup older s) in (
+    let b = stays (record_of setup older) v x setup older s a in
+    let same : numbers_read setup ((E.Read t, r) ∷ older) s ≡ numbers_read setup older s = ap (λ y. numbers_read setup older s ++ (if t == s then number_read (record_of setup older) s y else [])) f ∙ none (t == s) (numbers_read setup older s) in (
       ap (λ y. reads_in older s ++ (if t == s then shown_by y else [])) f ∙ none' (t == s) (reads_in older s) ∙ b.0 ∙ ap (map (shown_of v)) (sym same),
       ap (list_all (λ n. nat_lt n (length v.messages) && ((Messages.message_at v n).stream == s))) same ∙ b.1,
     )
@@ -180,7 +180,7 @@ says-read setup older t s r v is run x None e f a =
     none' false l = append-nil l
 says-read setup older t s r v is run x (Some n) e f a = by (t == s) refl
   where
-    hit : HasRead (view (world_of setup older)) t n
+    hit : HasRead (view (record_of setup older)) t n
     hit = has-read setup older is run t n e
 
     one : t ≡ s → list_all (λ k. nat_lt k (length v.messages) && ((Messages.message_at v k).stream == s)) (n ∷ []) ≡ true
@@ -189,23 +189,23 @@ says-read setup older t s r v is run x (Some n) e f a = by (t == s) refl
         let lt' : n < length v.messages = omega (arith, lt, x.grows.count) in
         and (nat_lt n (length v.messages) && ((Messages.message_at v n).stream == s)) true (and (nat_lt n (length v.messages)) ((Messages.message_at v n).stream == s) (grind (arith, nat_tests)) (ap (λ m. m.stream == s) (x.grows.message n lt) ∙ ap (λ k. k == s) (hit.stream ∙ q) ∙ same-yes s)) refl
 
-    shown : shown_by (read_reply (world_of setup older) (Some n)) ≡ shown_of v n ∷ []
+    shown : shown_by (read_reply (record_of setup older) (Some n)) ≡ shown_of v n ∷ []
     shown =
-        ap (λ b. let y : List Shown = ((Messages.message_at (world_of setup older) n).stream, (Messages.message_at (world_of setup older) n).ppi, b) ∷ [] in y) (read-joined setup older is run t n e)
-        ∙ ap (λ y. y ∷ []) (sym (shown-stays (world_of setup older) v x n hit.made))
+        ap (λ b. let y : List Shown = ((Messages.message_at (record_of setup older) n).stream, (Messages.message_at (record_of setup older) n).ppi, b) ∷ [] in y) (read-joined setup older is run t n e)
+        ∙ ap (λ y. y ∷ []) (sym (shown-stays (record_of setup older) v x n hit.made))
 
     by : (b : Bool) → (t == s) ≡ b → Says setup ((E.Read t, r) ∷ older) v s
     by false q =
-        let b = stays (world_of setup older) v x setup older s a in
-        let numbers : numbers_read setup ((E.Read t, r) ∷ older) s ≡ numbers_read setup older s = ap (λ c. numbers_read setup older s ++ (if c then number_read (world_of setup older) s r else [])) q ∙ append-nil (numbers_read setup older s) in (
+        let b = stays (record_of setup older) v x setup older s a in
+        let numbers : numbers_read setup ((E.Read t, r) ∷ older) s ≡ numbers_read setup older s = ap (λ c. numbers_read setup older s ++ (if c then number_read (record_of setup older) s r else [])) q ∙ append-nil (numbers_read setup older s) in (
           ap (λ c. reads_in older s ++ (if c then shown_by r else [])) q ∙ append-nil (reads_in older s) ∙ b.0 ∙ ap (map (shown_of v)) (sym numbers),
           ap (list_all (λ k. nat_lt k (length v.messages) && ((Messages.message_at v k).stream == s))) numbers ∙ b.1,
         )
     by true q =
-        let b = stays (world_of setup older) v x setup older s a in
-        let here : option_to_list (next_read (world_of setup older) s) ≡ n ∷ [] = ap option_to_list (ap (next_read (world_of setup older)) (sym (same-is t s q)) ∙ e) in
+        let b = stays (record_of setup older) v x setup older s a in
+        let here : option_to_list (next_read (record_of setup older) s) ≡ n ∷ [] = ap option_to_list (ap (next_read (record_of setup older)) (sym (same-is t s q)) ∙ e) in
         let numbers : numbers_read setup ((E.Read t, r) ∷ older) s ≡ numbers_read setup older s ++ n ∷ [] =
-        ap (λ c. numbers_read setup older s ++ (if c then number_read (world_of setup older) s r else [])) q ∙ ap (λ y. numbers_read setup older s ++ number_read (world_of setup older) s y) f ∙ ap (λ l. numbers_read setup older s ++ l) here in (
+        ap (λ c. numbers_read setup older s ++ (if c then number_read (record_of setup older) s r else [])) q ∙ ap (λ y. numbers_read setup older s ++ number_read (record_of setup older) s y) f ∙ ap (λ l. numbers_read setup older s ++ l) here in (
           ap (λ c. reads_in older s ++ (if c then shown_by r else [])) q ∙ ap (λ y. reads_in older s ++ shown_by y) f ∙ ap (λ l. reads_in older s ++ l) shown ∙ ap (λ l. l ++ shown_of v n ∷ []) b.0
               ∙ sym (map-append (shown_of v) (numbers_read setup older s) (n ∷ [])) ∙ ap (map (shown_of v)) (sym numbers),
           ap (list_all (λ k. nat_lt k (length v.messages) && ((Messages.message_at v k).stream == s))) numbers ∙ all-append (λ k. nat_lt k (length v.messages) && ((Messages.message_at v k).stream == s)) (numbers_read setup older s) (n ∷ []) b.1 (one (same-is t s q)),
@@ -213,21 +213,21 @@ says-read setup older t s r v is run x (Some n) e f a = by (t == s) refl
 
 pub reads_show_messages : OnEveryRun ReadsShowMessages
 reads_show_messages setup [] is run s = (refl, refl)
-reads_show_messages setup ((event, r) ∷ older) is run s = by event r run.1.0 (extends-after setup (world_of setup older) event run.0 (sane-run setup older run.1.1)) (reads_show_messages setup older is run.1.1 s)
+reads_show_messages setup ((event, r) ∷ older) is run s = by event r run.1.0 (extends-after setup (record_of setup older) event run.0 (sane-run setup older run.1.1)) (reads_show_messages setup older is run.1.1 s)
   where
-    by : (event : Event) (r : Reply) → r ≡ reply_to (world_of setup older) event → Extends (world_of setup older) (after (world_of setup older) event) → Says setup older (world_of setup older) s → Says setup ((event, r) ∷ older) (after (world_of setup older) event) s
-    by (E.Read t) r f x a = says-read setup older t s r (after (world_of setup older) (E.Read t)) is run.1.1 x (next_read (world_of setup older) t) refl f a
-    by (E.Open a) r f x says = stays (world_of setup older) (after (world_of setup older) (E.Open a)) x setup older s says
-    by (E.Mode a b c d) r f x says = stays (world_of setup older) (after (world_of setup older) (E.Mode a b c d)) x setup older s says
-    by (E.Write a b c) r f x says = stays (world_of setup older) (after (world_of setup older) (E.Write a b c)) x setup older s says
-    by (E.Start a) r f x says = stays (world_of setup older) (after (world_of setup older) (E.Start a)) x setup older s says
-    by (E.Send a) r f x says = stays (world_of setup older) (after (world_of setup older) (E.Send a)) x setup older s says
-    by (E.Resend a) r f x says = stays (world_of setup older) (after (world_of setup older) (E.Resend a)) x setup older s says
-    by (E.Expire a) r f x says = stays (world_of setup older) (after (world_of setup older) (E.Expire a)) x setup older s says
-    by (E.Tail a) r f x says = stays (world_of setup older) (after (world_of setup older) (E.Tail a)) x setup older s says
-    by (E.Late a) r f x says = stays (world_of setup older) (after (world_of setup older) (E.Late a)) x setup older s says
-    by (E.Abandon a) r f x says = stays (world_of setup older) (after (world_of setup older) (E.Abandon a)) x setup older s says
-    by (E.Skip a b) r f x says = stays (world_of setup older) (after (world_of setup older) (E.Skip a b)) x setup older s says
-    by (E.Ack a) r f x says = stays (world_of setup older) (after (world_of setup older) (E.Ack a)) x setup older s says
-    by (E.Arrive a) r f x says = stays (world_of setup older) (after (world_of setup older) (E.Arrive a)) x setup older s says
-    by (E.Acked a) r f x says = stays (world_of setup older) (after (world_of setup older) (E.Acked a)) x setup older s says
+    by : (event : Event) (r : Reply) → r ≡ reply_to (record_of setup older) event → Extends (record_of setup older) (after (record_of setup older) event) → Says setup older (record_of setup older) s → Says setup ((event, r) ∷ older) (after (record_of setup older) event) s
+    by (E.Read t) r f x a = says-read setup older t s r (after (record_of setup older) (E.Read t)) is run.1.1 x (next_read (record_of setup older) t) refl f a
+    by (E.Open a) r f x says = stays (record_of setup older) (after (record_of setup older) (E.Open a)) x setup older s says
+    by (E.Mode a b c d) r f x says = stays (record_of setup older) (after (record_of setup older) (E.Mode a b c d)) x setup older s says
+    by (E.Write a b c) r f x says = stays (record_of setup older) (after (record_of setup older) (E.Write a b c)) x setup older s says
+    by (E.Start a) r f x says = stays (record_of setup older) (after (record_of setup older) (E.Start a)) x setup older s says
+    by (E.Send a) r f x says = stays (record_of setup older) (after (record_of setup older) (E.Send a)) x setup older s says
+    by (E.Resend a) r f x says = stays (record_of setup older) (after (record_of setup older) (E.Resend a)) x setup older s says
+    by (E.Expire a) r f x says = stays (record_of setup older) (after (record_of setup older) (E.Expire a)) x setup older s says
+    by (E.Tail a) r f x says = stays (record_of setup older) (after (record_of setup older) (E.Tail a)) x setup older s says
+    by (E.Late a) r f x says = stays (record_of setup older) (after (record_of setup older) (E.Late a)) x setup older s says
+    by (E.Abandon a) r f x says = stays (record_of setup older) (after (record_of setup older) (E.Abandon a)) x setup older s says
+    by (E.Skip a b) r f x says = stays (record_of setup older) (after (record_of setup older) (E.Skip a b)) x setup older s says
+    by (E.Ack a) r f x says = stays (record_of setup older) (after (record_of setup older) (E.Ack a)) x setup older s says
+    by (E.Arrive a) r f x says = stays (record_of setup older) (after (record_of setup older) (E.Arrive a)) x setup older s says
+    by (E.Acked a) r f x says = stays (record_of setup older) (after (record_of setup older) (E.Acked a)) x setup older s says

@@ -1,11 +1,11 @@
 -- The record of every history is valid.
 use Rattle.std.proofs.Common.{◌≡◌, ℕ, zero, suc, ◌+◌, ◌-◌, ◌<◌, ◌≤◌, Bool, true, false, List, [], ◌∷◌, ◌++◌, length, map, drop, get_or, Option, Some, None, refl, ap, sym, ◌∙◌, inl, inr, arith, zero-add}
 use Rattle.std.specs.Prelude.{◌⊎◌, if◌then◌else◌, ◌==◌, ◌&&◌, ◌||◌, not, nat_le, nat_lt, fold, slice_get, find, is_some}
-use Rattle.std.specs.List.{list_any}
+use Rattle.std.specs.List.{list_any, filter}
 use Rattle.std.proofs.Math.Path.{subst}
 use Rattle.std.proofs.lemmas.Bool.{cases_lt}
 use Rattle.std.proofs.lemmas.Bool.Decides.{nat_tests}
-use Rattle.sctp_list_lemmas.specs.Kept.{kept, always, leading, passing}
+use Rattle.sctp_list_lemmas.specs.Kept.{numbers_where, always, leading}
 use Rattle.sctp_list_lemmas.proofs.Passing.{length-kept-lt}
 use Rattle.sctp_list_lemmas.proofs.More.{not_both, both, and}
 use Rattle.sctp_list_lemmas.proofs.Cases.{same-yes, same-is, negated, or-right, or-split}
@@ -15,12 +15,12 @@ use Rattle.sctp_list_lemmas.proofs.Rows.{IsRow}
 use Rattle.sctp_list_lemmas.proofs.Totals.{total-at, length-numbers}
 use Rattle.sctp_model.specs.declared.event.Event.TheVariants as E
 use Rattle.sctp_model.specs.declared.event.LinkRefusal.TheVariants.{NoSuchDatagram, SpanTooWide}
-use Rattle.sctp_model.specs.World.{Setup, StreamRecord, Datagram, Forward, Sack, World}
-use Rattle.sctp_model.specs.World as W
+use Rattle.sctp_model.specs.LinkRecord.{Setup, StreamRecord, Datagram, Forward, Sack, LinkRecord}
+use Rattle.sctp_model.specs.LinkRecord as W
 use Rattle.sctp_model.specs.Messages
 use Rattle.sctp_model.specs.Receiver
 use Rattle.sctp_model.specs.Changes
-use Rattle.sctp_model.specs.Steps.{world_of, refusal_of, unless, is_for_receiver, arrival_fits, adds_to_span}
+use Rattle.sctp_model.specs.Steps.{record_of, refusal_of, unless, is_for_receiver, arrival_fits, adds_to_span}
 use Rattle.sctp_model.specs.Log
 use Rattle.sctp_model.specs.Log.{LogEntry}
 use Rattle.sctp_model.specs.Laws.{OnEveryRun}
@@ -36,11 +36,11 @@ use Rattle.sctp_model.proofs.sender.SenderRun.{Sane, sane-run, sane-received, un
 use Rattle.sctp_model.proofs.sender.Network
 use Rattle.sctp_model.proofs.sender.Network.{SlotsFit, NamesFit, fit-at, fit-run}
 use Rattle.sctp_model.proofs.receiver.View
-use Rattle.sctp_model.proofs.receiver.View.{View, view, come_count, all_come, whole_at, held, next, line}
+use Rattle.sctp_model.proofs.receiver.View.{View, view, come_count, all_come, complete_at, held, next, line}
 use Rattle.sctp_model.proofs.receiver.Arrivals.{with_arrived, new-unseen}
 use Rattle.sctp_model.proofs.receiver.Indexes.{on-ordered, on-stream}
-use Rattle.sctp_model.proofs.receiver.Wholes
-use Rattle.sctp_model.proofs.receiver.Wholes.{some-kept}
+use Rattle.sctp_model.proofs.receiver.CompleteMessages
+use Rattle.sctp_model.proofs.receiver.CompleteMessages.{some-kept}
 use Rattle.sctp_model.proofs.receiver.Known
 use Rattle.sctp_model.proofs.receiver.Ordered
 use Rattle.sctp_model.proofs.receiver.Received.{Received, received-keeps, received-run}
@@ -49,14 +49,14 @@ use Rattle.sctp_model.proofs.receiver.Spans.{AllNear, IsNear, near-run}
 
 -- ## Numbers of messages and places of slots
 
-slot-made : (w : World) (n p : ℕ) → Messages.has_fragment w n p ≡ true → p < length w.slots
+slot-made : (w : LinkRecord) (n p : ℕ) → Messages.has_fragment w n p ≡ true → p < length w.slots
 slot-made w n p h = by (cases_lt p (length w.slots))
   where
     by : (p < length w.slots) ⊎ (length w.slots ≤ p) → p < length w.slots
     by (inl l) = l
     by (inr g) = absurd (not_both (sym (beyond-slots w n p g) ∙ h))
 
-message-made : (w : World) (n : ℕ) → (Messages.message_at w n).ordered ≡ true → n < length w.messages
+message-made : (w : LinkRecord) (n : ℕ) → (Messages.message_at w n).ordered ≡ true → n < length w.messages
 message-made w n o = by (cases_lt n (length w.messages))
   where
     by : (n < length w.messages) ⊎ (length w.messages ≤ n) → n < length w.messages
@@ -64,26 +64,26 @@ message-made w n o = by (cases_lt n (length w.messages))
     by (inr g) = absurd (not_both (sym (ap (λ m. m.ordered) (get-beyond w.messages n Messages.no_message g)) ∙ o))
 
 -- the fragments of a message lie side by side
-laid-of : (w : World) (n : ℕ) → Sender (shape w) → (base : ℕ) × IsLaid w n base
+laid-of : (w : LinkRecord) (n : ℕ) → Sender (shape w) → (base : ℕ) × IsLaid w n base
 laid-of w n s =
     let r = slots-row w n s in
     (r.from, record { at = λ p h. at r p h; within = λ p h. within p h })
   where
-    nth : (from many j : ℕ) → j < many → get_or (kept always from many) j 0 ≡ from + j
+    nth : (from many j : ℕ) → j < many → get_or (numbers_where always from many) j 0 ≡ from + j
     nth from zero j lt = absurd (omega arith)
     nth from (suc many) zero lt = omega arith
     nth from (suc many) (suc j) lt = let z = nth (from + 1) many j (omega arith) in omega (arith, z)
 
-    count : (p : ℕ) → Messages.has_fragment w n p ≡ true → (Messages.slot_at w p).fragment ≡ length (kept (has (shape w) n) 0 p)
-    count p h = s.number p (slot-made w n p h) ∙ ap (λ m. length (kept (has (shape w) m) 0 p)) (of-has (shape w) n p h).0
+    count : (p : ℕ) → Messages.has_fragment w n p ≡ true → (Messages.slot_at w p).fragment ≡ length (numbers_where (has (shape w) n) 0 p)
+    count p h = s.number p (slot-made w n p h) ∙ ap (λ m. length (numbers_where (has (shape w) m) 0 p)) (of-has (shape w) n p h).0
 
     at : (r : IsRow (has (shape w) n) (length w.slots)) → (p : ℕ) → Messages.has_fragment w n p ≡ true → p ≡ r.from + (Messages.slot_at w p).fragment
     at r p h =
         let lt = slot-made w n p h in
-        let j = length (kept (has (shape w) n) 0 p) in
-        let here : get_or (kept (has (shape w) n) 0 (length w.slots)) j 0 ≡ p = kept-get (has (shape w) n) 0 (length w.slots) p p 0 (omega arith) lt h in
-        let low : j < length (kept (has (shape w) n) 0 (length w.slots)) = length-kept-lt (has (shape w) n) 0 p (length w.slots) (ap (has (shape w) n) (zero-add p) ∙ h) lt in
-        let many : length (kept (has (shape w) n) 0 (length w.slots)) ≡ r.many = ap length r.is ∙ length-numbers r.from r.many in
+        let j = length (numbers_where (has (shape w) n) 0 p) in
+        let here : get_or (numbers_where (has (shape w) n) 0 (length w.slots)) j 0 ≡ p = kept-get (has (shape w) n) 0 (length w.slots) p p 0 (omega arith) lt h in
+        let low : j < length (numbers_where (has (shape w) n) 0 (length w.slots)) = length-kept-lt (has (shape w) n) 0 p (length w.slots) (ap (has (shape w) n) (zero-add p) ∙ h) lt in
+        let many : length (numbers_where (has (shape w) n) 0 (length w.slots)) ≡ r.many = ap length r.is ∙ length-numbers r.from r.many in
         sym here ∙ ap (λ l. get_or l j 0) r.is ∙ nth r.from r.many j (omega (arith, low, many)) ∙ ap (λ i. r.from + i) (sym (count p h))
 
     within : (p : ℕ) → Messages.has_fragment w n p ≡ true → (Messages.slot_at w p).fragment < Messages.fragment_count w n
@@ -95,7 +95,7 @@ laid-of w n s =
 
 -- ## The record that a history leads to, and those between
 
-pub valid-of : (setup : Setup) (w : World) (log : List LogEntry) → Sane setup w → Received w log → Valid w
+pub valid-of : (setup : Setup) (w : LinkRecord) (log : List LogEntry) → Sane setup w → Received w log → Valid w
 valid-of setup w log g r =
     let s = g.sender in
     let o = r.ordered in
@@ -105,22 +105,22 @@ valid-of setup w log g r =
       short = λ n lt. let l = total-at (parts (shape w)) n 0 (length w.messages) (omega arith) (omega arith) in omega (arith, l, g.accepted);
       laid = λ n. laid-of w n s;
       made = λ n p h. subst (λ m. m < length w.messages) (of-has (shape w) n p h).0 (s.made p (slot-made w n p h));
-      read_whole = λ t n on' red. let k = on-ordered (shape w) t n on' in o.read_whole n (message-made w n k) k red;
+      read_complete = λ t n on' red. let k = on-ordered (shape w) t n on' in o.read_complete n (message-made w n k) k red;
       read_past = λ t n on' red. o.read_past t n (message-made w n (on-ordered (shape w) t n on')) on' red;
       named_skipped = λ t n p on' lt h. Ordered.named-skipped (view w) s o t n p on' lt (slot-made w n p h) h;
       named_made = λ t. Ordered.named-made (view w) s o t;
       skipped_made = r.known.heard.short;
     }
 
-pub unassembled-of : (setup : Setup) (w : World) (log : List LogEntry) → Sane setup w → Received w log → ValidUnassembled w
+pub unassembled-of : (setup : Setup) (w : LinkRecord) (log : List LogEntry) → Sane setup w → Received w log → ValidUnassembled w
 unassembled-of setup w log g r =
     let s = g.sender in
-    let h = r.known.whole in
+    let h = r.known.complete in
     record {
       prefix = λ n p j f e. let o = of-has (shape w) n p f in let b = s.beside p (slot-made w n p f) o.1 (omega (arith, e)) in let q : b.0 ≡ p - 1 = omega (arith, b.1) in ap (Messages.has_fragment w n) (sym q) ∙ ap (λ m. Messages.has_fragment w m b.0) (sym o.0) ∙ b.2;
       marks = r.ordered.marks;
-      whole_arrived = λ n kind e. whole n kind e (cases_lt n (length w.messages));
-      arrived_whole = λ n e. arrived n e (cases_lt n (length w.messages));
+      complete_arrived = λ n kind e. complete n kind e (cases_lt n (length w.messages));
+      arrived_complete = λ n e. arrived n e (cases_lt n (length w.messages));
       waits = λ t n e. let i = h.ready t n e in record { made = i.made; stream = i.stream; unordered = i.kind; unread = i.unread };
     }
   where
@@ -130,17 +130,17 @@ unassembled-of setup w log g r =
     none : (n : ℕ) → length w.messages ≤ n → come_count (view w) n ≡ 0
     none n ge = omega (arith, Known.come-sent (view w) n, sent-none (shape w) n g.sender ge)
 
-    whole : (n : ℕ) → (Messages.message_at w n).ordered ≡ false → Receiver.is_whole w n ≡ true → (n < length w.messages) ⊎ (length w.messages ≤ n) → Receiver.has_arrived w n ≡ true
-    whole n kind e (inl lt) = Wholes.whole-come (view w) log n r.known.heard.arrived (g.sender.within n lt) (sym (r.known.whole.agrees n lt) ∙ e)
-    whole n kind e (inr ge) = ap (λ c. c == Messages.fragment_count w n) (none n ge) ∙ ap (λ m. 0 == length (pieces (length m.bytes) w.setup.size m.bytes)) (beyond n ge)
+    complete : (n : ℕ) → (Messages.message_at w n).ordered ≡ false → Receiver.is_complete_message w n ≡ true → (n < length w.messages) ⊎ (length w.messages ≤ n) → Receiver.has_arrived w n ≡ true
+    complete n kind e (inl lt) = CompleteMessages.complete-come (view w) log n r.known.heard.arrived (g.sender.within n lt) (sym (r.known.complete.agrees n lt) ∙ e)
+    complete n kind e (inr ge) = ap (λ c. c == Messages.fragment_count w n) (none n ge) ∙ ap (λ m. 0 == length (pieces (length m.bytes) w.setup.size m.bytes)) (beyond n ge)
 
-    arrived : (n : ℕ) → Changes.becomes_whole w n ≡ true → (n < length w.messages) ⊎ (length w.messages ≤ n) → Receiver.is_whole w n ≡ true
+    arrived : (n : ℕ) → Changes.becomes_complete w n ≡ true → (n < length w.messages) ⊎ (length w.messages ≤ n) → Receiver.is_complete_message w n ≡ true
     arrived n e (inl lt) =
-        let a = both (not (Messages.message_at w n).ordered) (Wholes.due (view w) n) e in
-        r.known.whole.agrees n lt ∙ Wholes.due-whole (view w) log n (Known.hears w log r.known.heard) (g.sender.within n lt) (g.sender.some n lt) (negated (Messages.message_at w n).ordered a.0) a.1
-    arrived n e (inr ge) = ap (λ m. if m.ordered then Receiver.has_arrived w n else m.read || list_any (λ k. k == n) (Messages.stream_of w m.stream).whole) (beyond n ge)
+        let a = both (not (Messages.message_at w n).ordered) (CompleteMessages.due (view w) n) e in
+        r.known.complete.agrees n lt ∙ CompleteMessages.due-complete (view w) log n (Known.hears w log r.known.heard) (g.sender.within n lt) (g.sender.some n lt) (negated (Messages.message_at w n).ordered a.0) a.1
+    arrived n e (inr ge) = ap (λ m. if m.ordered then Receiver.has_arrived w n else m.read || list_any (λ k. k == n) (Messages.stream_of w m.stream).complete) (beyond n ge)
 
-pub order-of : (setup : Setup) (w : World) → Sane setup w → InOrder w
+pub order-of : (setup : Setup) (w : LinkRecord) → Sane setup w → InOrder w
 order-of setup w g = record {
   ascend = λ s j k p q a b lt hp hq. g.sender.ascend s j k p q lt a b (slot-made w j p hp) (slot-made w k q hq) hp hq;
   known = λ n lt. at n (find (λ r. r.stream == (Messages.message_at w n).stream) w.streams) refl (g.known n lt);
@@ -150,24 +150,24 @@ order-of setup w g = record {
     at n None e f = cc
     at n (Some r) e f = (r, e)
 
-all-fragments : (w : World) (ps : List ℕ) → SlotsFit (shape w) ps → AllFragments w ps
+all-fragments : (w : LinkRecord) (ps : List ℕ) → SlotsFit (shape w) ps → AllFragments w ps
 all-fragments w [] f = tt
 all-fragments w (p ∷ ps) f = (f.0, f.1, all-fragments w ps f.2)
 
-all-namable : (w : World) (upto : ℕ) (ns : List ℕ) → NamesFit (shape w) upto ns → AllNamable w upto ns
+all-namable : (w : LinkRecord) (upto : ℕ) (ns : List ℕ) → NamesFit (shape w) upto ns → AllNamable w upto ns
 all-namable w upto [] f = tt
 all-namable w upto (n ∷ ns) f =
     let q = some-kept (has (shape w) n) 0 (length w.slots) f.0.some in
     (record { ordered = f.0.ordered; some = (q.0, q.3); within = λ p h. f.0.within p (slot-made w n p h) h }, all-namable w upto ns f.1)
 
-near-span : (w : World) → AllNear (view w) → (s : ℕ) → IsSpan w s []
+near-span : (w : LinkRecord) → AllNear (view w) → (s : ℕ) → IsSpan w s []
 near-span w near s =
     let n = near s in
     record { low = n.low; high = n.high; short = n.short; next = (n.above, n.below); held = λ k lt h. (n.held_above k lt h, n.held_below k lt h); others = λ y e. cc }
 
 pub record_is_valid : OnEveryRun RecordIsValid
 record_is_valid setup h is run =
-    let w = world_of setup h in
+    let w = record_of setup h in
     let g = sane-run setup h run in
     let r = received-run setup h is run in
     let fits = fit-run setup h run in
@@ -185,7 +185,7 @@ record_is_valid setup h is run =
 -- ## The slots of a datagram, one after another
 
 -- what the span test tells
-pub span-fits : (w : World) (s : ℕ) (more : List ℕ) → Receiver.fits w more s ≡ true → IsSpan w s more
+pub span-fits : (w : LinkRecord) (s : ℕ) (more : List ℕ) → Receiver.fits w more s ≡ true → IsSpan w s more
 span-fits w s more e =
     let n = Receiver.next_of w s in
     let held' = map (Messages.index_of w) (Receiver.held_on w s) in
@@ -200,18 +200,18 @@ span-fits w s more e =
     }
 
 -- one message more than those that fit
-pub span-open : (w : World) (s : ℕ) (messages : List ℕ) → Receiver.spans_fit w messages ≡ true → Messages.is_open w s ≡ true → IsSpan w s (map (Messages.index_of w) (passing (Messages.is_ordered_on w s) messages))
+pub span-open : (w : LinkRecord) (s : ℕ) (messages : List ℕ) → Receiver.spans_fit w messages ≡ true → Messages.is_open w s ≡ true → IsSpan w s (map (Messages.index_of w) (filter (Messages.is_ordered_on w s) messages))
 span-open w s messages e o = by (Messages.stream_at w s) refl o
   where
-    by : (f : Option StreamRecord) → Messages.stream_at w s ≡ f → is_some f ≡ true → IsSpan w s (map (Messages.index_of w) (passing (Messages.is_ordered_on w s) messages))
+    by : (f : Option StreamRecord) → Messages.stream_at w s ≡ f → is_some f ≡ true → IsSpan w s (map (Messages.index_of w) (filter (Messages.is_ordered_on w s) messages))
     by None f g = cc
     by (Some r) f g =
-        let x = Spans.all-streams (λ t. Receiver.fits w (map (Messages.index_of w) (passing (Messages.is_ordered_on w t) messages)) t) w.streams s r e f in
+        let x = Spans.all-streams (λ t. Receiver.fits w (map (Messages.index_of w) (filter (Messages.is_ordered_on w t) messages)) t) w.streams s r e f in
         let z = found s w.streams r f in
-        span-fits w s (map (Messages.index_of w) (passing (Messages.is_ordered_on w s) messages)) (ap (λ t. Receiver.fits w (map (Messages.index_of w) (passing (Messages.is_ordered_on w t) messages)) t) (sym z) ∙ x)
+        span-fits w s (map (Messages.index_of w) (filter (Messages.is_ordered_on w s) messages)) (ap (λ t. Receiver.fits w (map (Messages.index_of w) (filter (Messages.is_ordered_on w t) messages)) t) (sym z) ∙ x)
 
 -- the span of a later state serves an earlier one whose held messages are among the later ones
-span-among : (w v : World) (s : ℕ) (more fewer : List ℕ) → length w.messages ≤ length v.messages → Receiver.next_of w s ≡ Receiver.next_of v s → ((k : ℕ) → Messages.index_of w k ≡ Messages.index_of v k) → ((k : ℕ) → k < length w.messages → Receiver.is_held w s k ≡ true → Receiver.is_held v s k ≡ true) → ((y : ℕ) → list_any (λ z. z == y) fewer ≡ true → list_any (λ z. z == y) more ≡ true) → IsSpan v s more → IsSpan w s fewer
+span-among : (w v : LinkRecord) (s : ℕ) (more fewer : List ℕ) → length w.messages ≤ length v.messages → Receiver.next_of w s ≡ Receiver.next_of v s → ((k : ℕ) → Messages.index_of w k ≡ Messages.index_of v k) → ((k : ℕ) → k < length w.messages → Receiver.is_held w s k ≡ true → Receiver.is_held v s k ≡ true) → ((y : ℕ) → list_any (λ z. z == y) fewer ≡ true → list_any (λ z. z == y) more ≡ true) → IsSpan v s more → IsSpan w s fewer
 span-among w v s more fewer le next' index' held' others sp = record {
   low = sp.low;
   high = sp.high;
@@ -239,17 +239,17 @@ later-then u v z f g = record { shapes = g.shapes ∙ f.shapes; reads = g.reads 
 later-as : (u v z : View) → z ≡ v → Later u v → Later u z
 later-as u v z e l = subst (Later u) (sym e) l
 
-kept-more : (p q : ℕ → Bool) (from count : ℕ) → ((k : ℕ) → p k ≡ true → q k ≡ true) → length (kept p from count) ≤ length (kept q from count)
+kept-more : (p q : ℕ → Bool) (from count : ℕ) → ((k : ℕ) → p k ≡ true → q k ≡ true) → length (numbers_where p from count) ≤ length (numbers_where q from count)
 kept-more p q from zero h = omega arith
 kept-more p q from (suc count) h = step (p from) (q from) refl refl (kept-more p q (from + 1) count h)
   where
-    step : (a b : Bool) → p from ≡ a → q from ≡ b → length (kept p (from + 1) count) ≤ length (kept q (from + 1) count) → length (if a then from ∷ kept p (from + 1) count else kept p (from + 1) count) ≤ length (if b then from ∷ kept q (from + 1) count else kept q (from + 1) count)
+    step : (a b : Bool) → p from ≡ a → q from ≡ b → length (numbers_where p (from + 1) count) ≤ length (numbers_where q (from + 1) count) → length (if a then from ∷ numbers_where p (from + 1) count else numbers_where p (from + 1) count) ≤ length (if b then from ∷ numbers_where q (from + 1) count else numbers_where q (from + 1) count)
     step true true e f ih = omega (arith, ih)
     step true false e f ih = absurd (not_both (sym f ∙ h from e))
     step false true e f ih = omega (arith, ih)
     step false false e f ih = ih
 
-later-slot : (setup : Setup) (w : World) (p : ℕ) → Sane setup w → p < length w.slots → Later (view w) (view (Changes.slot_received w p))
+later-slot : (setup : Setup) (w : LinkRecord) (p : ℕ) → Sane setup w → p < length w.slots → Later (view w) (view (Changes.receive_slot w p))
 later-slot setup w p g lt = by (Receiver.is_new w p) refl
   where
     arrives : (k : ℕ) (b : Bool) → Receiver.arrived_at w k ≡ true → (if b then true else Receiver.arrived_at w k) ≡ true
@@ -270,26 +270,26 @@ later-slot setup w p g lt = by (Receiver.is_new w p) refl
     noted true = record { shapes = refl; reads = refl; names = refl; skips = refl; come = λ n. omega arith; arrived = λ k e. e }
     noted false = later-none (View.arrived_in (view w) p)
 
-    by : (b : Bool) → Receiver.is_new w p ≡ b → Later (view w) (view (Changes.slot_received w p))
-    by true e = later-as (view w) (Known.noting (View.arrived_in (view w) p) (Messages.message_of w p)) (view (Changes.slot_received w p)) (Known.view-received setup w p g lt e)
-        (later-then (view w) (View.arrived_in (view w) p) (Known.noting (View.arrived_in (view w) p) (Messages.message_of w p)) first (noted (not (Messages.message_at w (Messages.message_of w p)).ordered && Wholes.due (View.arrived_in (view w) p) (Messages.message_of w p))))
-    by false e = later-as (view w) (view w) (view (Changes.slot_received w p)) (ap (λ b. view (if b then Changes.whole_noted (with_arrived w p) (Messages.message_of w p) else record w { duplicates = w.duplicates ++ p ∷ [] })) e) (later-none (view w))
+    by : (b : Bool) → Receiver.is_new w p ≡ b → Later (view w) (view (Changes.receive_slot w p))
+    by true e = later-as (view w) (Known.noting (View.arrived_in (view w) p) (Messages.message_of w p)) (view (Changes.receive_slot w p)) (Known.view-received setup w p g lt e)
+        (later-then (view w) (View.arrived_in (view w) p) (Known.noting (View.arrived_in (view w) p) (Messages.message_of w p)) first (noted (not (Messages.message_at w (Messages.message_of w p)).ordered && CompleteMessages.due (View.arrived_in (view w) p) (Messages.message_of w p))))
+    by false e = later-as (view w) (view w) (view (Changes.receive_slot w p)) (ap (λ b. view (if b then Changes.note_completion (with_arrived w p) (Messages.message_of w p) else record w { duplicates = w.duplicates ++ p ∷ [] })) e) (later-none (view w))
 
 -- a state on the way
-record Between (setup : Setup) (w : World) : Type 0 where
+record Between (setup : Setup) (w : LinkRecord) : Type 0 where
   sane : Sane setup w
   log : List LogEntry
   received : Received w log
 
-between-slot : (setup : Setup) (w : World) (p : ℕ) → p < length w.slots → (Messages.slot_at w p).is_terminal_chunk ≡ false → Between setup w → Between setup (Changes.slot_received w p)
+between-slot : (setup : Setup) (w : LinkRecord) (p : ℕ) → p < length w.slots → (Messages.slot_at w p).is_terminal_chunk ≡ false → Between setup w → Between setup (Changes.receive_slot w p)
 between-slot setup w p lt mark b = record { sane = sane-received setup w p b.sane; log = Log.SlotReceived p ∷ b.log; received = (received-keeps setup).slot w b.log p b.sane lt mark b.received }
 
 -- after these slots
-between-slots : (setup : Setup) (ps : List ℕ) (w : World) → SlotsFit (shape w) ps → Between setup w → Between setup (fold Changes.slot_received w ps) × Later (view w) (view (fold Changes.slot_received w ps))
+between-slots : (setup : Setup) (ps : List ℕ) (w : LinkRecord) → SlotsFit (shape w) ps → Between setup w → Between setup (fold Changes.receive_slot w ps) × Later (view w) (view (fold Changes.receive_slot w ps))
 between-slots setup [] w f b = (b, later-none (view w))
 between-slots setup (p ∷ ps) w f b =
-    let r = between-slots setup ps (Changes.slot_received w p) (subst (λ x. SlotsFit x ps) (sym (Network.same-slot w p).shape_is) f.2) (between-slot setup w p f.0 f.1 b) in
-    (r.0, later-then (view w) (view (Changes.slot_received w p)) (view (fold Changes.slot_received (Changes.slot_received w p) ps)) (later-slot setup w p b.sane f.0) r.1)
+    let r = between-slots setup ps (Changes.receive_slot w p) (subst (λ x. SlotsFit x ps) (sym (Network.same-slot w p).shape_is) f.2) (between-slot setup w p f.0 f.1 b) in
+    (r.0, later-then (view w) (view (Changes.receive_slot w p)) (view (fold Changes.receive_slot (Changes.receive_slot w p) ps)) (later-slot setup w p b.sane f.0) r.1)
 
 fold-append : {A B : Type 0} (f : B → A → B) (x : B) (xs ys : List A) → fold f x (xs ++ ys) ≡ fold f (fold f x xs) ys
 fold-append f x [] ys = refl
@@ -308,7 +308,7 @@ held-later u v a l s k lt e =
       on_it = ap (λ x. on x s k) l.shapes ∙ h.on_it;
       unread = ap (λ r. r k) l.reads ∙ h.unread;
       some = let c = l.come k in omega (arith, c, h.some);
-      kept_for = either (or-split (whole_at u k) (nat_le (u.named s) (index u.x k)) h.kept_for) kind;
+      kept_for = either (or-split (complete_at u k) (nat_le (u.named s) (index u.x k)) h.kept_for) kind;
     })
   where
     le : sent v.x k ≤ parts v.x k
@@ -321,20 +321,20 @@ held-later u v a l s k lt e =
         let y : come_count v k ≡ parts v.x k = omega (arith, z, c, Known.come-sent v k, le, ap (λ x. parts x k) l.shapes) in
         ap (λ i. i == parts v.x k) y ∙ same-yes (parts v.x k)
 
-    either : (whole_at u k ≡ true) ⊎ (nat_le (u.named s) (index u.x k) ≡ true) → (u.x.message k).ordered ≡ true → (whole_at v k || nat_le (v.named s) (index v.x k)) ≡ true
+    either : (complete_at u k ≡ true) ⊎ (nat_le (u.named s) (index u.x k) ≡ true) → (u.x.message k).ordered ≡ true → (complete_at v k || nat_le (v.named s) (index v.x k)) ≡ true
     either (inl w) o =
-        let y : whole_at v k ≡ true = Ordered.ordered-at v k (ap (λ x. (x.message k).ordered) l.shapes ∙ o) ∙ all (sym (Ordered.ordered-at u k o) ∙ w) in
+        let y : complete_at v k ≡ true = Ordered.ordered-at v k (ap (λ x. (x.message k).ordered) l.shapes ∙ o) ∙ all (sym (Ordered.ordered-at u k o) ∙ w) in
         ap (λ b. b || nat_le (v.named s) (index v.x k)) y
-    either (inr n) o = or-right (whole_at v k) (nat_le (v.named s) (index v.x k)) (ap (λ f. nat_le (f s) (index v.x k)) l.names ∙ ap (λ x. nat_le (u.named s) (index x k)) l.shapes ∙ n)
+    either (inr n) o = or-right (complete_at v k) (nat_le (v.named s) (index v.x k)) (ap (λ f. nat_le (f s) (index v.x k)) l.names ∙ ap (λ x. nat_le (u.named s) (index x k)) l.shapes ∙ n)
 
 next-later : (u v : View) → Later u v → (s : ℕ) → next v s ≡ next u s
 next-later u v l s =
-    ap (λ f. f s + length (leading v.read (drop (f s) (kept (on v.x s) 0 v.x.count)))) l.names
-    ∙ ap (λ r. u.named s + length (leading r (drop (u.named s) (kept (on v.x s) 0 v.x.count)))) l.reads
-    ∙ ap (λ x. u.named s + length (leading u.read (drop (u.named s) (kept (on x s) 0 x.count)))) l.shapes
+    ap (λ f. f s + length (leading v.read (drop (f s) (numbers_where (on v.x s) 0 v.x.count)))) l.names
+    ∙ ap (λ r. u.named s + length (leading r (drop (u.named s) (numbers_where (on v.x s) 0 v.x.count)))) l.reads
+    ∙ ap (λ x. u.named s + length (leading u.read (drop (u.named s) (numbers_where (on x s) 0 x.count)))) l.shapes
 
 -- what is new later was new before
-new-later : (w v : World) (p : ℕ) → Later (view w) (view v) → Receiver.is_new v p ≡ true → Receiver.is_new w p ≡ true
+new-later : (w v : LinkRecord) (p : ℕ) → Later (view w) (view v) → Receiver.is_new v p ≡ true → Receiver.is_new w p ≡ true
 new-later w v p l e = new-unseen w p ∙ by (nat_lt p w.skipped) (Receiver.arrived_at w p) refl (ap (λ k. not (nat_lt p k || Receiver.arrived_at v p)) (sym l.skips) ∙ sym (new-unseen v p) ∙ e)
   where
     by : (a b : Bool) → Receiver.arrived_at w p ≡ b → not (a || Receiver.arrived_at v p) ≡ true → not (a || b) ≡ true
@@ -343,43 +343,43 @@ new-later w v p l e = new-unseen w p ∙ by (nat_lt p w.skipped) (Receiver.arriv
     by false true f g = absurd (not_both (sym (negated (Receiver.arrived_at v p) g) ∙ l.arrived p f))
 
 -- the index of a new slot's message is among those that the datagram adds
-adds-it : (w : World) (t : ℕ → Bool) (ps : List ℕ) (p : ℕ) (qs : List ℕ) → Receiver.is_new w p ≡ true → t (Messages.message_of w p) ≡ true → list_any (λ z. z == Messages.index_of w (Messages.message_of w p)) (map (Messages.index_of w) (passing t (map (Messages.message_of w) (passing (Receiver.is_new w) (ps ++ p ∷ qs))))) ≡ true
+adds-it : (w : LinkRecord) (t : ℕ → Bool) (ps : List ℕ) (p : ℕ) (qs : List ℕ) → Receiver.is_new w p ≡ true → t (Messages.message_of w p) ≡ true → list_any (λ z. z == Messages.index_of w (Messages.message_of w p)) (map (Messages.index_of w) (filter t (map (Messages.message_of w) (filter (Receiver.is_new w) (ps ++ p ∷ qs))))) ≡ true
 adds-it w t [] p qs new on' =
-    ap (λ b. list_any (λ z. z == Messages.index_of w (Messages.message_of w p)) (map (Messages.index_of w) (passing t (map (Messages.message_of w) (if b then p ∷ passing (Receiver.is_new w) qs else passing (Receiver.is_new w) qs))))) new
-    ∙ ap (λ b. list_any (λ z. z == Messages.index_of w (Messages.message_of w p)) (map (Messages.index_of w) (if b then Messages.message_of w p ∷ passing t (map (Messages.message_of w) (passing (Receiver.is_new w) qs)) else passing t (map (Messages.message_of w) (passing (Receiver.is_new w) qs))))) on'
-    ∙ ap (λ b. b || list_any (λ z. z == Messages.index_of w (Messages.message_of w p)) (map (Messages.index_of w) (passing t (map (Messages.message_of w) (passing (Receiver.is_new w) qs))))) (same-yes (Messages.index_of w (Messages.message_of w p)))
+    ap (λ b. list_any (λ z. z == Messages.index_of w (Messages.message_of w p)) (map (Messages.index_of w) (filter t (map (Messages.message_of w) (if b then p ∷ filter (Receiver.is_new w) qs else filter (Receiver.is_new w) qs))))) new
+    ∙ ap (λ b. list_any (λ z. z == Messages.index_of w (Messages.message_of w p)) (map (Messages.index_of w) (if b then Messages.message_of w p ∷ filter t (map (Messages.message_of w) (filter (Receiver.is_new w) qs)) else filter t (map (Messages.message_of w) (filter (Receiver.is_new w) qs))))) on'
+    ∙ ap (λ b. b || list_any (λ z. z == Messages.index_of w (Messages.message_of w p)) (map (Messages.index_of w) (filter t (map (Messages.message_of w) (filter (Receiver.is_new w) qs))))) (same-yes (Messages.index_of w (Messages.message_of w p)))
 adds-it w t (q ∷ ps) p qs new on' = step (Receiver.is_new w q) (t (Messages.message_of w q)) refl (adds-it w t ps p qs new on')
   where
     rest : List ℕ
-    rest = passing (Receiver.is_new w) (ps ++ p ∷ qs)
+    rest = filter (Receiver.is_new w) (ps ++ p ∷ qs)
 
     among : List ℕ → Bool
     among l = list_any (λ z. z == Messages.index_of w (Messages.message_of w p)) (map (Messages.index_of w) l)
 
-    step : (a b : Bool) → t (Messages.message_of w q) ≡ b → among (passing t (map (Messages.message_of w) rest)) ≡ true → among (passing t (map (Messages.message_of w) (if a then q ∷ rest else rest))) ≡ true
+    step : (a b : Bool) → t (Messages.message_of w q) ≡ b → among (filter t (map (Messages.message_of w) rest)) ≡ true → among (filter t (map (Messages.message_of w) (if a then q ∷ rest else rest))) ≡ true
     step false b e ih = ih
-    step true true e ih = ap (λ c. among (if c then Messages.message_of w q ∷ passing t (map (Messages.message_of w) rest) else passing t (map (Messages.message_of w) rest))) e ∙ or-right (Messages.index_of w (Messages.message_of w q) == Messages.index_of w (Messages.message_of w p)) (among (passing t (map (Messages.message_of w) rest))) ih
-    step true false e ih = ap (λ c. among (if c then Messages.message_of w q ∷ passing t (map (Messages.message_of w) rest) else passing t (map (Messages.message_of w) rest))) e ∙ ih
+    step true true e ih = ap (λ c. among (if c then Messages.message_of w q ∷ filter t (map (Messages.message_of w) rest) else filter t (map (Messages.message_of w) rest))) e ∙ or-right (Messages.index_of w (Messages.message_of w q) == Messages.index_of w (Messages.message_of w p)) (among (filter t (map (Messages.message_of w) rest))) ih
+    step true false e ih = ap (λ c. among (if c then Messages.message_of w q ∷ filter t (map (Messages.message_of w) rest) else filter t (map (Messages.message_of w) rest))) e ∙ ih
 
-fits-after : (w : World) (k : ℕ) (d : Datagram) → refusal_of w (E.Arrive k) ≡ None → slice_get w.network k ≡ Some d → (Receiver.spans_fit w (adds_to_span w (Some d)) ≡ true) × (Receiver.spans_fit (Changes.datagram_received w (Some d)) (adds_to_span w (Some d)) ≡ true)
+fits-after : (w : LinkRecord) (k : ℕ) (d : Datagram) → refusal_of w (E.Arrive k) ≡ None → slice_get w.network k ≡ Some d → (Receiver.spans_fit w (adds_to_span w (Some d)) ≡ true) × (Receiver.spans_fit (Changes.after_arrive w (Some d)) (adds_to_span w (Some d)) ≡ true)
 fits-after w k d ok e =
     let o : unless (is_for_receiver (Some d)) NoSuchDatagram (unless (arrival_fits w (Some d)) SpanTooWide None) ≡ None = ap (λ x. unless (is_for_receiver x) NoSuchDatagram (unless (arrival_fits w x) SpanTooWide None)) (sym e) ∙ ok in
     let first = unless-holds (is_for_receiver (Some d)) NoSuchDatagram (unless (arrival_fits w (Some d)) SpanTooWide None) o in
     let second = unless-holds (arrival_fits w (Some d)) SpanTooWide None first.1 in
-    both (Receiver.spans_fit w (adds_to_span w (Some d))) (Receiver.spans_fit (Changes.datagram_received w (Some d)) (adds_to_span w (Some d))) second.0
+    both (Receiver.spans_fit w (adds_to_span w (Some d))) (Receiver.spans_fit (Changes.after_arrive w (Some d)) (adds_to_span w (Some d))) second.0
 
 pub slots_come_valid : OnEveryRun SlotsComeValid
 slots_come_valid setup h is run k ps p qs ok e =
     record { made = there.0; fragment = there.1; valid = valid-of setup v b.log b.sane b.received; unassembled = unassembled-of setup v b.log b.sane b.received; order = order-of setup v b.sane; near = λ s on' new. near s on' new }
   where
-    w : World
-    w = world_of setup h
+    w : LinkRecord
+    w = record_of setup h
 
-    v : World
-    v = fold Changes.slot_received w ps
+    v : LinkRecord
+    v = fold Changes.receive_slot w ps
 
-    z : World
-    z = fold Changes.slot_received w (ps ++ p ∷ qs)
+    z : LinkRecord
+    z = fold Changes.receive_slot w (ps ++ p ∷ qs)
 
     fit : SlotsFit (shape w) (ps ++ p ∷ qs)
     fit = fit-at (shape w) w.network k (W.Data (ps ++ p ∷ qs)) (fit-run setup h run) e
@@ -399,15 +399,15 @@ slots_come_valid setup h is run k ps p qs ok e =
     there : SlotsFit (shape v) (p ∷ qs)
     there = subst (λ x. SlotsFit x (p ∷ qs)) (sym first.1.shapes) parts'.1
 
-    second : Between setup (fold Changes.slot_received v (p ∷ qs)) × Later (view v) (view (fold Changes.slot_received v (p ∷ qs)))
+    second : Between setup (fold Changes.receive_slot v (p ∷ qs)) × Later (view v) (view (fold Changes.receive_slot v (p ∷ qs)))
     second = between-slots setup (p ∷ qs) v there b
 
-    whole-fold : z ≡ fold Changes.slot_received v (p ∷ qs)
-    whole-fold = fold-append Changes.slot_received w ps (p ∷ qs)
+    complete-fold : z ≡ fold Changes.receive_slot v (p ∷ qs)
+    complete-fold = fold-append Changes.receive_slot w ps (p ∷ qs)
 
     near : (s : ℕ) → Messages.is_ordered_on v s (Messages.message_of v p) ≡ true → Receiver.is_new v p ≡ true → IsSpan v s (Messages.index_of v (Messages.message_of v p) ∷ [])
     near s on' new =
-        let l : Later (view v) (view z) = subst (λ y. Later (view v) (view y)) (sym whole-fold) second.1 in
+        let l : Later (view v) (view z) = subst (λ y. Later (view v) (view y)) (sym complete-fold) second.1 in
         let all = later-then (view w) (view v) (view z) first.1 l in
         let m = Messages.message_of w p in
         let same : Messages.message_of v p ≡ m = ap (λ x. (x.slot p).message) first.1.shapes in
@@ -415,9 +415,9 @@ slots_come_valid setup h is run k ps p qs ok e =
         let index-v : (k : ℕ) → Messages.index_of v k ≡ Messages.index_of w k = λ k. ap (λ x. index x k) first.1.shapes in
         let index-z : (k : ℕ) → Messages.index_of z k ≡ Messages.index_of w k = λ k. ap (λ x. index x k) all.shapes in
         let after' = (fits-after w k (W.Data (ps ++ p ∷ qs)) ok e).1 in
-        let opens : Messages.is_open z s ≡ true = subst (λ y. Messages.is_open y s ≡ true) (sym whole-fold) (ap (Messages.is_open (fold Changes.slot_received v (p ∷ qs))) (sym (on-stream (shape w) s m on-w) ∙ ap (λ x. (x.message m).stream) (sym (second.1.shapes ∙ first.1.shapes))) ∙ second.0.sane.known m (subst (λ x. m < x.count) (sym (second.1.shapes ∙ first.1.shapes)) ((sane-run setup h run).sender.made p parts'.1.0))) in
+        let opens : Messages.is_open z s ≡ true = subst (λ y. Messages.is_open y s ≡ true) (sym complete-fold) (ap (Messages.is_open (fold Changes.receive_slot v (p ∷ qs))) (sym (on-stream (shape w) s m on-w) ∙ ap (λ x. (x.message m).stream) (sym (second.1.shapes ∙ first.1.shapes))) ∙ second.0.sane.known m (subst (λ x. m < x.count) (sym (second.1.shapes ∙ first.1.shapes)) ((sane-run setup h run).sender.made p parts'.1.0))) in
         let span = span-open z s (adds_to_span w (Some (W.Data (ps ++ p ∷ qs)))) after' opens in
-        span-among v z s (map (Messages.index_of z) (passing (Messages.is_ordered_on z s) (adds_to_span w (Some (W.Data (ps ++ p ∷ qs)))))) (Messages.index_of v (Messages.message_of v p) ∷ [])
+        span-among v z s (map (Messages.index_of z) (filter (Messages.is_ordered_on z s) (adds_to_span w (Some (W.Data (ps ++ p ∷ qs)))))) (Messages.index_of v (Messages.message_of v p) ∷ [])
         (omega (arith, ap (λ x. x.count) l.shapes)) (sym (next-later (view v) (view z) l s)) (λ k. index-v k ∙ sym (index-z k))
         (λ k lt g. held-later (view v) (view z) b.sane.sender l s k lt g)
         (λ y g. one y m same index-v index-z all.shapes (adds-it w (Messages.is_ordered_on w s) ps p qs (new-later w v p first.1 new) on-w) g) span
@@ -427,27 +427,27 @@ slots_come_valid setup h is run k ps p qs ok e =
         or-none false = refl
 
         one : (y m : ℕ) → Messages.message_of v p ≡ m → ((k : ℕ) → Messages.index_of v k ≡ Messages.index_of w k) → ((k : ℕ) → Messages.index_of z k ≡ Messages.index_of w k) → shape z ≡ shape w
-            → list_any (λ z. z == Messages.index_of w (Messages.message_of w p)) (map (Messages.index_of w) (passing (Messages.is_ordered_on w s) (map (Messages.message_of w) (passing (Receiver.is_new w) (ps ++ p ∷ qs))))) ≡ true
+            → list_any (λ z. z == Messages.index_of w (Messages.message_of w p)) (map (Messages.index_of w) (filter (Messages.is_ordered_on w s) (map (Messages.message_of w) (filter (Receiver.is_new w) (ps ++ p ∷ qs))))) ≡ true
             → ((Messages.index_of v (Messages.message_of v p) == y) || false) ≡ true
-            → list_any (λ z. z == y) (map (Messages.index_of z) (passing (Messages.is_ordered_on z s) (map (Messages.message_of w) (passing (Receiver.is_new w) (ps ++ p ∷ qs))))) ≡ true
+            → list_any (λ z. z == y) (map (Messages.index_of z) (filter (Messages.is_ordered_on z s) (map (Messages.message_of w) (filter (Receiver.is_new w) (ps ++ p ∷ qs))))) ≡ true
         one y m same iv iz shapes a g =
             let e' : Messages.index_of v (Messages.message_of v p) ≡ y = same-is (Messages.index_of v (Messages.message_of v p)) y (sym (or-none (Messages.index_of v (Messages.message_of v p) == y)) ∙ g) in
             let y' : Messages.index_of w (Messages.message_of w p) ≡ y = sym (iv (Messages.message_of v p) ∙ ap (Messages.index_of w) (ap (λ x. (x.slot p).message) first.1.shapes)) ∙ e' in
-            ap (λ x. list_any (λ z. z == y) (map (index x) (passing (on x s) (map (Messages.message_of w) (passing (Receiver.is_new w) (ps ++ p ∷ qs)))))) shapes
-            ∙ ap (λ i. list_any (λ z. z == i) (map (Messages.index_of w) (passing (Messages.is_ordered_on w s) (map (Messages.message_of w) (passing (Receiver.is_new w) (ps ++ p ∷ qs)))))) (sym y')
+            ap (λ x. list_any (λ z. z == y) (map (index x) (filter (on x s) (map (Messages.message_of w) (filter (Receiver.is_new w) (ps ++ p ∷ qs)))))) shapes
+            ∙ ap (λ i. list_any (λ z. z == i) (map (Messages.index_of w) (filter (Messages.is_ordered_on w s) (map (Messages.message_of w) (filter (Receiver.is_new w) (ps ++ p ∷ qs)))))) (sym y')
             ∙ a
 
 pub skips_come_valid : OnEveryRun SkipsComeValid
 skips_come_valid setup h is run k upto names ok e counts s opens = (
   span-open w s names (ap (Receiver.spans_fit w) (sym adds) ∙ two.0) opens,
-  subst (λ x. IsSpan v s (map (index x) (passing (on x s) names))) (Network.same-received w (Some (Forward upto names))).shape_is (span-open v s names (ap (Receiver.spans_fit v) (sym adds) ∙ two.1) still-open),
+  subst (λ x. IsSpan v s (map (index x) (filter (on x s) names))) (Network.same-received w (Some (Forward upto names))).shape_is (span-open v s names (ap (Receiver.spans_fit v) (sym adds) ∙ two.1) still-open),
 )
   where
-    w : World
-    w = world_of setup h
+    w : LinkRecord
+    w = record_of setup h
 
-    v : World
-    v = Changes.datagram_received w (Some (Forward upto names))
+    v : LinkRecord
+    v = Changes.after_arrive w (Some (Forward upto names))
 
     two : (Receiver.spans_fit w (adds_to_span w (Some (Forward upto names))) ≡ true) × (Receiver.spans_fit v (adds_to_span w (Some (Forward upto names))) ≡ true)
     two = fits-after w k (Forward upto names) ok e

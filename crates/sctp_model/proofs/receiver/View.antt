@@ -2,11 +2,11 @@
 use Rattle.std.proofs.Common.{◌≡◌, ℕ, ◌+◌, ◌<◌, Bool, true, false, List, [], ◌∷◌, ◌++◌, length, map, take, drop, Option, Some, None, refl, ap, sym, ◌∙◌}
 use Rattle.std.proofs.Math.Path.{fun_ext}
 use Rattle.std.specs.Prelude.{if◌then◌else◌, ◌==◌, ◌&&◌, ◌||◌, not, nat_lt, nat_le, find, is_some, unwrap_or, max}
-use Rattle.std.specs.List.{list_any}
-use Rattle.sctp_list_lemmas.specs.Kept.{kept, leading, passing, first_of, or_else}
+use Rattle.std.specs.List.{list_any, filter}
+use Rattle.sctp_list_lemmas.specs.Kept.{numbers_where, leading, first_of, or_else}
 use Rattle.sctp_list_lemmas.proofs.More.{not_both, changed-same, changed-other}
 use Rattle.sctp_chunks.specs.declared.chunk.chunk_payload_data.ReliabilityType.{ReliabilityType}
-use Rattle.sctp_model.specs.World.{StreamRecord, Sack, Report, World}
+use Rattle.sctp_model.specs.LinkRecord.{StreamRecord, Sack, Report, LinkRecord}
 use Rattle.sctp_model.specs.Messages
 use Rattle.sctp_model.specs.Messages.{no_stream, no_slot, no_message, stream_at, stream_of}
 use Rattle.sctp_model.specs.Receiver
@@ -25,11 +25,11 @@ pub record View : Type 0 where
   pub read : ℕ → Bool
   -- of each stream
   pub named : ℕ → ℕ
-  pub whole : ℕ → List ℕ
+  pub complete : ℕ → List ℕ
   pub skipped : ℕ
 
-abbrev pub view : World → View
-view w = record { x = shape w; arrived = arrived_at w; read = λ n. (Messages.message_at w n).read; named = λ s. (stream_of w s).named; whole = λ s. (stream_of w s).whole; skipped = w.skipped }
+abbrev pub view : LinkRecord → View
+view w = record { x = shape w; arrived = arrived_at w; read = λ n. (Messages.message_at w n).read; named = λ s. (stream_of w s).named; complete = λ s. (stream_of w s).complete; skipped = w.skipped }
 
 -- ## The words of the record
 
@@ -37,39 +37,39 @@ abbrev pub has_come : View → ℕ → ℕ → Bool
 has_come v n p = has v.x n p && v.arrived p
 
 abbrev pub come_count : View → ℕ → ℕ
-come_count v n = length (kept (has_come v n) 0 v.x.slots)
+come_count v n = length (numbers_where (has_come v n) 0 v.x.slots)
 
 abbrev pub all_come : View → ℕ → Bool
 all_come v n = come_count v n == parts v.x n
 
-abbrev pub whole_at : View → ℕ → Bool
-whole_at v n = if (v.x.message n).ordered then all_come v n else v.read n || list_any (λ k. k == n) (v.whole (v.x.message n).stream)
+abbrev pub complete_at : View → ℕ → Bool
+complete_at v n = if (v.x.message n).ordered then all_come v n else v.read n || list_any (λ k. k == n) (v.complete (v.x.message n).stream)
 
 abbrev pub line : View → ℕ → List ℕ
-line v s = kept (on v.x s) 0 v.x.count
+line v s = numbers_where (on v.x s) 0 v.x.count
 
 abbrev pub run : View → ℕ → List ℕ
-run v s = passing (whole_at v) (take (v.named s) (line v s)) ++ leading (whole_at v) (drop (v.named s) (line v s))
+run v s = filter (complete_at v) (take (v.named s) (line v s)) ++ leading (complete_at v) (drop (v.named s) (line v s))
 
 abbrev pub next : View → ℕ → ℕ
 next v s = v.named s + length (leading v.read (drop (v.named s) (line v s)))
 
 abbrev pub next_read : View → ℕ → Option ℕ
-next_read v s = or_else (first_of (v.whole s)) (first_of (passing (λ n. not (v.read n)) (run v s)))
+next_read v s = or_else (first_of (v.complete s)) (first_of (filter (λ n. not (v.read n)) (run v s)))
 
 abbrev pub held : View → ℕ → ℕ → Bool
-held v s n = on v.x s n && (not (v.read n) && (nat_lt 0 (come_count v n) && (whole_at v n || nat_le (v.named s) (index v.x n))))
+held v s n = on v.x s n && (not (v.read n) && (nat_lt 0 (come_count v n) && (complete_at v n || nat_le (v.named s) (index v.x n))))
 
-run-is : (w : World) (s : ℕ) → Receiver.run_of w s ≡ run (view w) s
+run-is : (w : LinkRecord) (s : ℕ) → Receiver.run_of w s ≡ run (view w) s
 run-is w s = refl
 
-next-is : (w : World) (s : ℕ) → Receiver.next_of w s ≡ next (view w) s
+next-is : (w : LinkRecord) (s : ℕ) → Receiver.next_of w s ≡ next (view w) s
 next-is w s = refl
 
-held-is : (w : World) (s n : ℕ) → Receiver.is_held w s n ≡ held (view w) s n
+held-is : (w : LinkRecord) (s n : ℕ) → Receiver.is_held w s n ≡ held (view w) s n
 held-is w s n = refl
 
-next_read-is : (w : World) (s : ℕ) → Receiver.next_read w s ≡ next_read (view w) s
+next_read-is : (w : LinkRecord) (s : ℕ) → Receiver.next_read w s ≡ next_read (view w) s
 next_read-is w s = refl
 
 -- ## Changes of a view
@@ -78,20 +78,20 @@ next_read-is w s = refl
 abbrev pub arrived_in : View → ℕ → View
 arrived_in v p = record v { arrived = λ k. if k == p then true else v.arrived k }
 
--- message n of stream s became whole
+-- message n of stream s became complete
 abbrev pub noted_in : View → ℕ → ℕ → View
-noted_in v s n = record v { whole = λ t. if t == s then v.whole t ++ n ∷ [] else v.whole t }
+noted_in v s n = record v { complete = λ t. if t == s then v.complete t ++ n ∷ [] else v.complete t }
 
 -- a skip that counts
 abbrev pub named_more : View → List ℕ → ℕ → ℕ
-named_more v names s = greatest (v.named s) (map (λ n. index v.x n + 1) (passing (on v.x s) names))
+named_more v names s = greatest (v.named s) (map (λ n. index v.x n + 1) (filter (on v.x s) names))
 
 abbrev pub skipped_in : View → ℕ → List ℕ → View
 skipped_in v upto names = record v { named = named_more v names; skipped = upto + 1 }
 
 -- message n is read on stream s
 abbrev pub read_in : View → ℕ → ℕ → View
-read_in v s n = record v { read = λ k. if k == n then true else v.read k; whole = λ t. if t == s then drop 1 (v.whole t) else v.whole t }
+read_in v s n = record v { read = λ k. if k == n then true else v.read k; complete = λ t. if t == s then drop 1 (v.complete t) else v.complete t }
 
 -- ## Streams
 
@@ -112,7 +112,7 @@ find-mapped f keeps t (r ∷ rs) = step ((f r).stream == t) (r.stream == t) (ap 
     step false true e ih = cc
 
 -- a field of the record of a stream, where the change leaves it
-pub field-kept : {A : Type 0} (g : StreamRecord → A) (f : StreamRecord → StreamRecord) → ((r : StreamRecord) → (f r).stream ≡ r.stream) → ((r : StreamRecord) → g (f r) ≡ g r) → (w : World) (t : ℕ) → g (stream_of (record w { streams = map f w.streams }) t) ≡ g (stream_of w t)
+pub field-kept : {A : Type 0} (g : StreamRecord → A) (f : StreamRecord → StreamRecord) → ((r : StreamRecord) → (f r).stream ≡ r.stream) → ((r : StreamRecord) → g (f r) ≡ g r) → (w : LinkRecord) (t : ℕ) → g (stream_of (record w { streams = map f w.streams }) t) ≡ g (stream_of w t)
 field-kept {A} g f keeps same w t = ap (λ o. g (unwrap_or o (no_stream t))) (find-mapped f keeps t w.streams) ∙ by (stream_at w t)
   where
     by : (o : Option StreamRecord) → g (unwrap_or (Changed f o) (no_stream t)) ≡ g (unwrap_or o (no_stream t))
@@ -135,15 +135,15 @@ find-more s t (r ∷ rs) e = step (r.stream == s) e (λ h. find-more s t rs h) (
 -- ## The view after each change
 
 abbrev view_by : Shape → (ℕ → Bool) → (ℕ → Bool) → (ℕ → ℕ) → (ℕ → List ℕ) → ℕ → View
-view_by x arrived read named whole skipped = record { x = x; arrived = arrived; read = read; named = named; whole = whole; skipped = skipped }
+view_by x arrived read named complete skipped = record { x = x; arrived = arrived; read = read; named = named; complete = complete; skipped = skipped }
 
-view-streams : (w : World) (rs : List StreamRecord) (named : ℕ → ℕ) (whole : ℕ → List ℕ) → ((t : ℕ) → (stream_of (record w { streams = rs }) t).named ≡ named t) → ((t : ℕ) → (stream_of (record w { streams = rs }) t).whole ≡ whole t) → view (record w { streams = rs }) ≡ record (view w) { named = named; whole = whole }
-view-streams w rs named whole a b =
-    ap (λ f. view_by (shape w) (arrived_at w) (view w).read f (λ t. (stream_of (record w { streams = rs }) t).whole) w.skipped) (fun_ext a)
+view-streams : (w : LinkRecord) (rs : List StreamRecord) (named : ℕ → ℕ) (complete : ℕ → List ℕ) → ((t : ℕ) → (stream_of (record w { streams = rs }) t).named ≡ named t) → ((t : ℕ) → (stream_of (record w { streams = rs }) t).complete ≡ complete t) → view (record w { streams = rs }) ≡ record (view w) { named = named; complete = complete }
+view-streams w rs named complete a b =
+    ap (λ f. view_by (shape w) (arrived_at w) (view w).read f (λ t. (stream_of (record w { streams = rs }) t).complete) w.skipped) (fun_ext a)
     ∙ ap (λ f. view_by (shape w) (arrived_at w) (view w).read named f w.skipped) (fun_ext b)
 
-pub view-opened : (w : World) (s : ℕ) → Messages.is_open w s ≡ false → view (Changes.opened w s) ≡ view w
-view-opened w s e = view-streams w (w.streams ++ no_stream s ∷ []) (view w).named (view w).whole (λ t. ap (λ r. r.named) (find-more s t w.streams e)) (λ t. ap (λ r. r.whole) (find-more s t w.streams e))
+pub view-opened : (w : LinkRecord) (s : ℕ) → Messages.is_open w s ≡ false → view (Changes.after_open w s) ≡ view w
+view-opened w s e = view-streams w (w.streams ++ no_stream s ∷ []) (view w).named (view w).complete (λ t. ap (λ r. r.named) (find-more s t w.streams e)) (λ t. ap (λ r. r.complete) (find-more s t w.streams e))
 
 pub either-keeps : {A : Type 0} (g : StreamRecord → A) (f : StreamRecord → StreamRecord) → ((r : StreamRecord) → g (f r) ≡ g r) → (s : ℕ) (r : StreamRecord) → g (if r.stream == s then f r else r) ≡ g r
 either-keeps g f same s r = step (r.stream == s)
@@ -152,23 +152,23 @@ either-keeps g f same s r = step (r.stream == s)
     step true = same r
     step false = refl
 
-pub view-moded : (w : World) (s : ℕ) (unordered : Bool) (reliability : ReliabilityType) (value : ℕ) → view (Changes.mode_set w s unordered reliability value) ≡ view w
+pub view-moded : (w : LinkRecord) (s : ℕ) (unordered : Bool) (reliability : ReliabilityType) (value : ℕ) → view (Changes.after_mode w s unordered reliability value) ≡ view w
 view-moded w s u r n =
     let f = Changes.with_mode u r n in
     let g : StreamRecord → StreamRecord = λ r. if r.stream == s then f r else r in
-    view-streams w (map g w.streams) (view w).named (view w).whole
+    view-streams w (map g w.streams) (view w).named (view w).complete
     (λ t. field-kept (λ r. r.named) g (either-keeps (λ r. r.stream) f (λ r. refl) s) (either-keeps (λ r. r.named) f (λ r. refl) s) w t)
-    (λ t. field-kept (λ r. r.whole) g (either-keeps (λ r. r.stream) f (λ r. refl) s) (either-keeps (λ r. r.whole) f (λ r. refl) s) w t)
+    (λ t. field-kept (λ r. r.complete) g (either-keeps (λ r. r.stream) f (λ r. refl) s) (either-keeps (λ r. r.complete) f (λ r. refl) s) w t)
 
-pub view-taken : (w : World) (r : Report) → view (Changes.sack_taken w (Some (Sack r))) ≡ view w
+pub view-taken : (w : LinkRecord) (r : Report) → view (Changes.after_acked w (Some (Sack r))) ≡ view w
 view-taken w r =
-    ap (λ y. view_by y (arrived_at (Changes.sack_taken w (Some (Sack r)))) (view w).read (view w).named (view w).whole w.skipped) (Shapes.shape-acknowledged w r (max w.taken r.cumulative))
-    ∙ ap (λ f. view_by (shape w) f (view w).read (view w).named (view w).whole w.skipped) (fun_ext (λ p. get-numbered (Changes.acknowledged_by r) (λ x. x.arrived) (λ i x. refl) 0 p w.slots no_slot))
+    ap (λ y. view_by y (arrived_at (Changes.after_acked w (Some (Sack r)))) (view w).read (view w).named (view w).complete w.skipped) (Shapes.shape-acknowledged w r (max w.taken r.cumulative))
+    ∙ ap (λ f. view_by (shape w) f (view w).read (view w).named (view w).complete w.skipped) (fun_ext (λ p. get-numbered (Changes.acknowledged_by r) (λ x. x.arrived) (λ i x. refl) 0 p w.slots no_slot))
 
-pub view-arrived : (w : World) (p : ℕ) → p < length w.slots → view (with_arrived w p) ≡ arrived_in (view w) p
+pub view-arrived : (w : LinkRecord) (p : ℕ) → p < length w.slots → view (with_arrived w p) ≡ arrived_in (view w) p
 view-arrived w p lt =
-    ap (λ y. view_by y (arrived_at (with_arrived w p)) (view w).read (view w).named (view w).whole w.skipped) (Shapes.shape-arrived w p)
-    ∙ ap (λ f. view_by (shape w) f (view w).read (view w).named (view w).whole w.skipped) (fun_ext same)
+    ap (λ y. view_by y (arrived_at (with_arrived w p)) (view w).read (view w).named (view w).complete w.skipped) (Shapes.shape-arrived w p)
+    ∙ ap (λ f. view_by (shape w) f (view w).read (view w).named (view w).complete w.skipped) (fun_ext same)
   where
     same : (k : ℕ) → arrived_at (with_arrived w p) k ≡ (if k == p then true else arrived_at w k)
     same k = by_same {P = arrived_at (with_arrived w p) k ≡ (if k == p then true else arrived_at w k)} k p
@@ -176,7 +176,7 @@ view-arrived w p lt =
         (λ ne f. ap (λ x. x.arrived) (changed-other Changes.mark_arrived p k w.slots no_slot ne) ∙ sym (ap (λ b. if b then true else arrived_at w k) f))
 
 -- a change of one stream that is open
-pub field-changed : {A : Type 0} (g : StreamRecord → A) (h : A → A) (f : StreamRecord → StreamRecord) → ((r : StreamRecord) → (f r).stream ≡ r.stream) → ((r : StreamRecord) → g (f r) ≡ h (g r)) → (w : World) (s t : ℕ) → Messages.is_open w s ≡ true → g (stream_of (Changes.stream_changed w s f) t) ≡ (if t == s then h (g (stream_of w t)) else g (stream_of w t))
+pub field-changed : {A : Type 0} (g : StreamRecord → A) (h : A → A) (f : StreamRecord → StreamRecord) → ((r : StreamRecord) → (f r).stream ≡ r.stream) → ((r : StreamRecord) → g (f r) ≡ h (g r)) → (w : LinkRecord) (s t : ℕ) → Messages.is_open w s ≡ true → g (stream_of (Changes.stream_changed w s f) t) ≡ (if t == s then h (g (stream_of w t)) else g (stream_of w t))
 field-changed {A} g h f keeps same w s t open' =
     ap (λ o. g (unwrap_or o (no_stream t))) (find-mapped c (either-keeps (λ r. r.stream) f keeps s) t w.streams) ∙ by (stream_at w t) refl
   where
@@ -195,30 +195,30 @@ field-changed {A} g h f keeps same w s t open' =
     by None e = none (t == s) refl e
     by (Some r) e = at r (found t w.streams r e) (t == s) refl
 
-pub view-noted : (w : World) (s n : ℕ) → Messages.is_open w s ≡ true → view (Changes.stream_changed w s (Changes.with_whole n)) ≡ noted_in (view w) s n
+pub view-noted : (w : LinkRecord) (s n : ℕ) → Messages.is_open w s ≡ true → view (Changes.stream_changed w s (Changes.with_complete n)) ≡ noted_in (view w) s n
 view-noted w s n o =
-    let f = Changes.with_whole n in
-    view-streams w (map (λ r. if r.stream == s then f r else r) w.streams) (view w).named (noted_in (view w) s n).whole
+    let f = Changes.with_complete n in
+    view-streams w (map (λ r. if r.stream == s then f r else r) w.streams) (view w).named (noted_in (view w) s n).complete
     (λ t. field-kept (λ r. r.named) (λ r. if r.stream == s then f r else r) (either-keeps (λ r. r.stream) f (λ r. refl) s) (either-keeps (λ r. r.named) f (λ r. refl) s) w t)
-    (λ t. field-changed (λ r. r.whole) (λ l. l ++ n ∷ []) f (λ r. refl) (λ r. refl) w s t o)
+    (λ t. field-changed (λ r. r.complete) (λ l. l ++ n ∷ []) f (λ r. refl) (λ r. refl) w s t o)
 
-pub view-read : (w : World) (s n : ℕ) → Messages.is_open w s ≡ true → view (Changes.read_of w s (Some n)) ≡ read_in (view w) s n
+pub view-read : (w : LinkRecord) (s n : ℕ) → Messages.is_open w s ≡ true → view (Changes.read_of w s (Some n)) ≡ read_in (view w) s n
 view-read w s n o =
     let u = Changes.message_changed w n Changes.mark_read in
     let f = Changes.without_first in
-    view-streams u (map (λ r. if r.stream == s then f r else r) w.streams) (view w).named (read_in (view w) s n).whole
+    view-streams u (map (λ r. if r.stream == s then f r else r) w.streams) (view w).named (read_in (view w) s n).complete
     (λ t. field-kept (λ r. r.named) (λ r. if r.stream == s then f r else r) (either-keeps (λ r. r.stream) f (λ r. refl) s) (either-keeps (λ r. r.named) f (λ r. refl) s) u t)
-    (λ t. field-changed (λ r. r.whole) (λ l. drop 1 l) f (λ r. refl) (λ r. refl) u s t o)
-    ∙ ap (λ y. view_by y (arrived_at w) (view u).read (view w).named (read_in (view w) s n).whole w.skipped) (Shapes.shape-read w n)
-    ∙ ap (λ g. view_by (shape w) (arrived_at w) g (view w).named (read_in (view w) s n).whole w.skipped) (fun_ext (λ k. get-changed Changes.mark_read (λ m. m.read) n k w.messages no_message refl))
+    (λ t. field-changed (λ r. r.complete) (λ l. drop 1 l) f (λ r. refl) (λ r. refl) u s t o)
+    ∙ ap (λ y. view_by y (arrived_at w) (view u).read (view w).named (read_in (view w) s n).complete w.skipped) (Shapes.shape-read w n)
+    ∙ ap (λ g. view_by (shape w) (arrived_at w) g (view w).named (read_in (view w) s n).complete w.skipped) (fun_ext (λ k. get-changed Changes.mark_read (λ m. m.read) n k w.messages no_message refl))
 
 -- the messages that a skip names are of open streams
-pub view-skipped : (w : World) (upto : ℕ) (names : List ℕ) → ((t : ℕ) → Messages.is_open w t ≡ false → passing (on (shape w) t) names ≡ []) → view (record w { skipped = upto + 1; streams = map (Changes.named_by w names) w.streams }) ≡ skipped_in (view w) upto names
+pub view-skipped : (w : LinkRecord) (upto : ℕ) (names : List ℕ) → ((t : ℕ) → Messages.is_open w t ≡ false → filter (on (shape w) t) names ≡ []) → view (record w { skipped = upto + 1; streams = map (Changes.named_by w names) w.streams }) ≡ skipped_in (view w) upto names
 view-skipped w upto names known =
-    view-streams (record w { skipped = upto + 1 }) (map (Changes.named_by w names) w.streams) (named_more (view w) names) (view w).whole
+    view-streams (record w { skipped = upto + 1 }) (map (Changes.named_by w names) w.streams) (named_more (view w) names) (view w).complete
     (λ t. ap (λ o. (unwrap_or o (no_stream t)).named) (find-mapped (Changes.named_by w names) (λ r. refl) t w.streams) ∙ by t (stream_at w t) refl)
-    (λ t. field-kept (λ r. r.whole) (Changes.named_by w names) (λ r. refl) (λ r. refl) w t)
+    (λ t. field-kept (λ r. r.complete) (Changes.named_by w names) (λ r. refl) (λ r. refl) w t)
   where
-    by : (t : ℕ) (o : Option StreamRecord) → stream_at w t ≡ o → (unwrap_or (Changed (Changes.named_by w names) o) (no_stream t)).named ≡ greatest (unwrap_or o (no_stream t)).named (map (λ n. index (shape w) n + 1) (passing (on (shape w) t) names))
+    by : (t : ℕ) (o : Option StreamRecord) → stream_at w t ≡ o → (unwrap_or (Changed (Changes.named_by w names) o) (no_stream t)).named ≡ greatest (unwrap_or o (no_stream t)).named (map (λ n. index (shape w) n + 1) (filter (on (shape w) t) names))
     by t None e = sym (ap (λ l. greatest 0 (map (λ n. index (shape w) n + 1) l)) (known t (ap is_some e)))
-    by t (Some r) e = ap (λ s. greatest r.named (map (λ n. index (shape w) n + 1) (passing (on (shape w) s) names))) (found t w.streams r e)
+    by t (Some r) e = ap (λ s. greatest r.named (map (λ n. index (shape w) n + 1) (filter (on (shape w) s) names))) (found t w.streams r e)

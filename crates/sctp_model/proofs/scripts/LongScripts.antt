@@ -5,13 +5,13 @@ use Rattle.sctp_model.specs.Reply as R
 use Rattle.sctp_chunks.specs.declared.chunk.chunk_payload_data.PayloadProtocolIdentifier.TheVariants as P
 use Rattle.sctp_chunks.specs.declared.chunk.chunk_payload_data.ReliabilityType.TheVariants as T
 use Rattle.sctp_model.specs.declared.event.LinkRefusal.TheVariants as F
-use Rattle.sctp_model.specs.World.{World, start}
+use Rattle.sctp_model.specs.LinkRecord.{LinkRecord, start}
 use Rattle.sctp_model.specs.Amounts.{ledger}
 use Rattle.sctp_model.specs.Contents.{DataContents, ForwardContents, SackContents}
 use Rattle.sctp_model.proofs.scripts.Play.{chunk, Handed, Asked, Ask, AskSkip, Refused, Replied, play, played, contents, streams_shown, queues_shown, reassembly_shown}
 
 -- long script
-abbrev start_long_script : World
+abbrev start_long_script : LinkRecord
 start_long_script = start (record { first = 4294967290; size = 3; largest = 100; limit = 0 })
 
 abbrev events_long_script : List Asked
@@ -115,7 +115,7 @@ reassembly_long_script : reassembly_shown (played start_long_script events_long_
 reassembly_long_script = refl
 
 -- long script with limit
-abbrev start_long_script_with_limit : World
+abbrev start_long_script_with_limit : LinkRecord
 start_long_script_with_limit = start (record { first = 4294967290; size = 3; largest = 100; limit = 60 })
 
 abbrev events_long_script_with_limit : List Asked

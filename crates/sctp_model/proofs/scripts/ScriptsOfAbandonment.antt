@@ -5,13 +5,13 @@ use Rattle.sctp_model.specs.Reply as R
 use Rattle.sctp_chunks.specs.declared.chunk.chunk_payload_data.PayloadProtocolIdentifier.TheVariants as P
 use Rattle.sctp_chunks.specs.declared.chunk.chunk_payload_data.ReliabilityType.TheVariants as T
 use Rattle.sctp_model.specs.declared.event.LinkRefusal.TheVariants as F
-use Rattle.sctp_model.specs.World.{World, start}
+use Rattle.sctp_model.specs.LinkRecord.{LinkRecord, start}
 use Rattle.sctp_model.specs.Amounts.{ledger}
 use Rattle.sctp_model.specs.Contents.{DataContents, SackContents}
 use Rattle.sctp_model.proofs.scripts.Play.{chunk, Asked, Ask, Refused, Replied, play, played, contents, streams_shown, queues_shown, reassembly_shown}
 
 -- abandonment after acknowledgement
-abbrev start_abandonment_after_acknowledgement : World
+abbrev start_abandonment_after_acknowledgement : LinkRecord
 start_abandonment_after_acknowledgement = start (record { first = 10; size = 3; largest = 100; limit = 0 })
 
 abbrev events_abandonment_after_acknowledgement : List Asked
@@ -62,7 +62,7 @@ reassembly_abandonment_after_acknowledgement : reassembly_shown (played start_ab
 reassembly_abandonment_after_acknowledgement = refl
 
 -- terminal chunk after abandonment
-abbrev start_terminal_chunk_after_abandonment : World
+abbrev start_terminal_chunk_after_abandonment : LinkRecord
 start_terminal_chunk_after_abandonment = start (record { first = 10; size = 3; largest = 100; limit = 0 })
 
 abbrev events_terminal_chunk_after_abandonment : List Asked
@@ -112,7 +112,7 @@ reassembly_terminal_chunk_after_abandonment : reassembly_shown (played start_ter
 reassembly_terminal_chunk_after_abandonment = refl
 
 -- no terminal chunk where all was sent
-abbrev start_no_terminal_chunk_where_all_was_sent : World
+abbrev start_no_terminal_chunk_where_all_was_sent : LinkRecord
 start_no_terminal_chunk_where_all_was_sent = start (record { first = 10; size = 3; largest = 100; limit = 0 })
 
 abbrev events_no_terminal_chunk_where_all_was_sent : List Asked
@@ -158,7 +158,7 @@ reassembly_no_terminal_chunk_where_all_was_sent : reassembly_shown (played start
 reassembly_no_terminal_chunk_where_all_was_sent = refl
 
 -- no resend of an abandoned chunk
-abbrev start_no_resend_of_an_abandoned_chunk : World
+abbrev start_no_resend_of_an_abandoned_chunk : LinkRecord
 start_no_resend_of_an_abandoned_chunk = start (record { first = 10; size = 3; largest = 100; limit = 0 })
 
 abbrev events_no_resend_of_an_abandoned_chunk : List Asked
@@ -203,7 +203,7 @@ reassembly_no_resend_of_an_abandoned_chunk : reassembly_shown (played start_no_r
 reassembly_no_resend_of_an_abandoned_chunk = refl
 
 -- tail after acknowledgement
-abbrev start_tail_after_acknowledgement : World
+abbrev start_tail_after_acknowledgement : LinkRecord
 start_tail_after_acknowledgement = start (record { first = 10; size = 3; largest = 100; limit = 0 })
 
 abbrev events_tail_after_acknowledgement : List Asked

@@ -5,14 +5,14 @@ use Rattle.sctp_model.specs.Reply as R
 use Rattle.sctp_chunks.specs.declared.chunk.chunk_payload_data.PayloadProtocolIdentifier.TheVariants as P
 use Rattle.sctp_chunks.specs.declared.chunk.chunk_payload_data.ReliabilityType.TheVariants as T
 use Rattle.sctp_model.specs.declared.event.LinkRefusal.TheVariants as F
-use Rattle.sctp_model.specs.World.{World, start}
+use Rattle.sctp_model.specs.LinkRecord.{LinkRecord, start}
 use Rattle.sctp_model.specs.Amounts.{ledger}
 use Rattle.sctp_model.specs.Steps.{reply_to}
 use Rattle.sctp_model.specs.Contents.{DataContents, SackContents}
 use Rattle.sctp_model.proofs.scripts.Play.{chunk, Handed, Asked, Ask, Refused, Replied, play, played, contents, streams_shown, queues_shown, reassembly_shown}
 
 -- acknowledgement and resend
-abbrev start_acknowledgement_and_resend : World
+abbrev start_acknowledgement_and_resend : LinkRecord
 start_acknowledgement_and_resend = start (record { first = 10; size = 3; largest = 100; limit = 0 })
 
 abbrev events_acknowledgement_and_resend : List Asked
@@ -79,7 +79,7 @@ reassembly_acknowledgement_and_resend : reassembly_shown (played start_acknowled
 reassembly_acknowledgement_and_resend = refl
 
 -- duplicate and credit
-abbrev start_duplicate_and_credit : World
+abbrev start_duplicate_and_credit : LinkRecord
 start_duplicate_and_credit = start (record { first = 4294967294; size = 3; largest = 100; limit = 0 })
 
 abbrev events_duplicate_and_credit : List Asked
@@ -133,7 +133,7 @@ reassembly_duplicate_and_credit : reassembly_shown (played start_duplicate_and_c
 reassembly_duplicate_and_credit = refl
 
 -- fragments past the last tsn
-abbrev start_fragments_past_the_last_tsn : World
+abbrev start_fragments_past_the_last_tsn : LinkRecord
 start_fragments_past_the_last_tsn = start (record { first = 4294967294; size = 3; largest = 100; limit = 0 })
 
 abbrev events_fragments_past_the_last_tsn : List Asked
@@ -192,7 +192,7 @@ reassembly_fragments_past_the_last_tsn : reassembly_shown (played start_fragment
 reassembly_fragments_past_the_last_tsn = refl
 
 -- gap block past the last tsn
-abbrev start_gap_block_past_the_last_tsn : World
+abbrev start_gap_block_past_the_last_tsn : LinkRecord
 start_gap_block_past_the_last_tsn = start (record { first = 4294967294; size = 3; largest = 100; limit = 0 })
 
 abbrev events_gap_block_past_the_last_tsn : List Asked
@@ -246,7 +246,7 @@ reassembly_gap_block_past_the_last_tsn : reassembly_shown (played start_gap_bloc
 reassembly_gap_block_past_the_last_tsn = refl
 
 -- two streams out of order
-abbrev start_two_streams_out_of_order : World
+abbrev start_two_streams_out_of_order : LinkRecord
 start_two_streams_out_of_order = start (record { first = 4294967295; size = 2; largest = 100; limit = 0 })
 
 abbrev events_two_streams_out_of_order : List Asked
@@ -322,7 +322,7 @@ reassembly_two_streams_out_of_order : reassembly_shown (played start_two_streams
 reassembly_two_streams_out_of_order = refl
 
 -- unordered before ordered
-abbrev start_unordered_before_ordered : World
+abbrev start_unordered_before_ordered : LinkRecord
 start_unordered_before_ordered = start (record { first = 10; size = 3; largest = 100; limit = 0 })
 
 abbrev events_unordered_before_ordered : List Asked

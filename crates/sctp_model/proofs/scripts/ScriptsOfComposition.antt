@@ -5,10 +5,10 @@ use Rattle.sctp_chunks.specs.declared.chunk.chunk_payload_data.PayloadProtocolId
 use Rattle.sctp_chunks.specs.declared.chunk.chunk_payload_data.ReliabilityType.TheVariants as T
 use Rattle.sctp_model.specs.declared.event.Event.{Event}
 use Rattle.sctp_model.specs.declared.event.Event.TheVariants as E
-use Rattle.sctp_model.specs.World.{Setup, World}
+use Rattle.sctp_model.specs.LinkRecord.{Setup, LinkRecord}
 use Rattle.sctp_model.specs.Log.{LogEntry, SlotReceived, SkipReceived, Shown, modes_in, writes_on, started_in, log_of}
-use Rattle.sctp_model.specs.Steps.{History, world_of}
-use Rattle.sctp_model.specs.Laws.{IsReadWholly, arrivals_on, fragment_arrived, was_lost, has_loss_on, loses_nothing, ordered_run, unordered_wholes, ordered_shown, unordered_shown}
+use Rattle.sctp_model.specs.Steps.{History, record_of}
+use Rattle.sctp_model.specs.Laws.{IsReadWholly, arrivals_on, fragment_arrived, was_lost, has_loss_on, loses_nothing, ordered_run, complete_unordered, ordered_shown, unordered_shown}
 use Rattle.sctp_model.proofs.scripts.Play.{told, told-run}
 use Rattle.sctp_model.proofs.Composed.{reads_are_settled}
 
@@ -84,8 +84,8 @@ base_by_arrivals : map (ordered_run writes_1) ((true ∷ true ∷ false ∷ true
     []
 base_by_arrivals = refl
 
-wholes_by_arrivals : map (unordered_wholes writes_1) ((true ∷ true ∷ false ∷ true ∷ []) ∷ (true ∷ false ∷ true ∷ true ∷ []) ∷ []) ≡ (false ∷ true ∷ false ∷ false ∷ []) ∷ (false ∷ false ∷ false ∷ false ∷ []) ∷ []
-wholes_by_arrivals = refl
+complete_ones_by_arrivals : map (complete_unordered writes_1) ((true ∷ true ∷ false ∷ true ∷ []) ∷ (true ∷ false ∷ true ∷ true ∷ []) ∷ []) ≡ (false ∷ true ∷ false ∷ false ∷ []) ∷ (false ∷ false ∷ false ∷ false ∷ []) ∷ []
+complete_ones_by_arrivals = refl
 
 -- ## Other lifetimes, and other arrivals on stream 2
 
@@ -145,7 +145,7 @@ moments = refl
 other_stream : map (λ h. arrivals_on setup h 2) (base ∷ timed ∷ []) ≡ (true ∷ []) ∷ (false ∷ []) ∷ []
 other_stream = refl
 
-first_fragment : map (λ h. fragment_arrived (world_of setup h) (log_of setup h) 2 0) (base ∷ timed ∷ []) ≡ true ∷ false ∷ []
+first_fragment : map (λ h. fragment_arrived (record_of setup h) (log_of setup h) 2 0) (base ∷ timed ∷ []) ≡ true ∷ false ∷ []
 first_fragment = refl
 
 -- so the law says that they read the same
@@ -261,9 +261,9 @@ expiry_is_loss : map (λ h. has_loss_on setup h 1) (expired ∷ waiting ∷ []) 
 expiry_is_loss = refl
 
 -- slot 0 has a message of stream 2, slots 1 and 2 an unordered message of stream 1 (number 1), slot 3 an ordered one (number 2)
-abbrev sent : World
+abbrev sent : LinkRecord
 sent =
-    world_of setup (
+    record_of setup (
     told setup (
     E.Open 1 ∷
     E.Open 2 ∷
@@ -290,8 +290,8 @@ safe_with log n = was_lost sent log n ≡ false
 covered_in_the_middle : lost_with (SlotReceived 2 ∷ SkipReceived 1 [] ∷ SlotReceived 1 ∷ []) 1
 covered_in_the_middle = refl
 
-covered_when_whole : safe_with (SkipReceived 2 [] ∷ SlotReceived 2 ∷ SlotReceived 1 ∷ []) 1
-covered_when_whole = refl
+covered_when_complete : safe_with (SkipReceived 2 [] ∷ SlotReceived 2 ∷ SlotReceived 1 ∷ []) 1
+covered_when_complete = refl
 
 covered_and_incomplete : safe_with (SkipReceived 1 [] ∷ SlotReceived 1 ∷ []) 1
 covered_and_incomplete = refl
@@ -299,8 +299,8 @@ covered_and_incomplete = refl
 passed_over : lost_with (SkipReceived 3 (2 ∷ []) ∷ []) 2
 passed_over = refl
 
-passed_over_when_whole : safe_with (SkipReceived 3 (2 ∷ []) ∷ SlotReceived 3 ∷ []) 2
-passed_over_when_whole = refl
+passed_over_when_complete : safe_with (SkipReceived 3 (2 ∷ []) ∷ SlotReceived 3 ∷ []) 2
+passed_over_when_complete = refl
 
 covered_and_not_named : safe_with (SkipReceived 3 [] ∷ []) 2
 covered_and_not_named = refl

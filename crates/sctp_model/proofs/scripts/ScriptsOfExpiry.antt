@@ -4,13 +4,13 @@ use Rattle.sctp_model.specs.declared.event.Event.TheVariants as E
 use Rattle.sctp_model.specs.Reply as R
 use Rattle.sctp_chunks.specs.declared.chunk.chunk_payload_data.PayloadProtocolIdentifier.TheVariants as P
 use Rattle.sctp_chunks.specs.declared.chunk.chunk_payload_data.ReliabilityType.TheVariants as T
-use Rattle.sctp_model.specs.World.{World, start}
+use Rattle.sctp_model.specs.LinkRecord.{LinkRecord, start}
 use Rattle.sctp_model.specs.Amounts.{ledger}
 use Rattle.sctp_model.specs.Contents.{DataContents, SackContents}
 use Rattle.sctp_model.proofs.scripts.Play.{chunk, Asked, Ask, Replied, play, played, contents, streams_shown, queues_shown, reassembly_shown}
 
 -- dcep never expires
-abbrev start_dcep_never_expires : World
+abbrev start_dcep_never_expires : LinkRecord
 start_dcep_never_expires = start (record { first = 10; size = 3; largest = 100; limit = 0 })
 
 abbrev events_dcep_never_expires : List Asked
@@ -55,7 +55,7 @@ reassembly_dcep_never_expires : reassembly_shown (played start_dcep_never_expire
 reassembly_dcep_never_expires = refl
 
 -- deadline at the greatest moment
-abbrev start_deadline_at_the_greatest_moment : World
+abbrev start_deadline_at_the_greatest_moment : LinkRecord
 start_deadline_at_the_greatest_moment = start (record { first = 10; size = 3; largest = 100; limit = 0 })
 
 abbrev events_deadline_at_the_greatest_moment : List Asked
@@ -99,7 +99,7 @@ reassembly_deadline_at_the_greatest_moment : reassembly_shown (played start_dead
 reassembly_deadline_at_the_greatest_moment = refl
 
 -- expiry closes the numbers up
-abbrev start_expiry_closes_the_numbers_up : World
+abbrev start_expiry_closes_the_numbers_up : LinkRecord
 start_expiry_closes_the_numbers_up = start (record { first = 10; size = 3; largest = 100; limit = 0 })
 
 abbrev events_expiry_closes_the_numbers_up : List Asked
@@ -150,7 +150,7 @@ reassembly_expiry_closes_the_numbers_up : reassembly_shown (played start_expiry_
 reassembly_expiry_closes_the_numbers_up = refl
 
 -- expiry on one of two streams
-abbrev start_expiry_on_one_of_two_streams : World
+abbrev start_expiry_on_one_of_two_streams : LinkRecord
 start_expiry_on_one_of_two_streams = start (record { first = 10; size = 3; largest = 100; limit = 0 })
 
 abbrev events_expiry_on_one_of_two_streams : List Asked
@@ -213,7 +213,7 @@ reassembly_expiry_on_one_of_two_streams : reassembly_shown (played start_expiry_
 reassembly_expiry_on_one_of_two_streams = refl
 
 -- late and not yet
-abbrev start_late_and_not_yet : World
+abbrev start_late_and_not_yet : LinkRecord
 start_late_and_not_yet = start (record { first = 10; size = 3; largest = 100; limit = 0 })
 
 abbrev events_late_and_not_yet : List Asked
@@ -258,7 +258,7 @@ reassembly_late_and_not_yet : reassembly_shown (played start_late_and_not_yet ev
 reassembly_late_and_not_yet = refl
 
 -- late lists all of a partially sent message
-abbrev start_late_lists_all_of_a_partially_sent_message : World
+abbrev start_late_lists_all_of_a_partially_sent_message : LinkRecord
 start_late_lists_all_of_a_partially_sent_message = start (record { first = 10; size = 3; largest = 100; limit = 0 })
 
 abbrev events_late_lists_all_of_a_partially_sent_message : List Asked
@@ -316,7 +316,7 @@ reassembly_late_lists_all_of_a_partially_sent_message : reassembly_shown (played
 reassembly_late_lists_all_of_a_partially_sent_message = refl
 
 -- late message wholly sent
-abbrev start_late_message_wholly_sent : World
+abbrev start_late_message_wholly_sent : LinkRecord
 start_late_message_wholly_sent = start (record { first = 10; size = 3; largest = 100; limit = 0 })
 
 abbrev events_late_message_wholly_sent : List Asked
@@ -367,7 +367,7 @@ reassembly_late_message_wholly_sent : reassembly_shown (played start_late_messag
 reassembly_late_message_wholly_sent = refl
 
 -- late skips what is acknowledged
-abbrev start_late_skips_what_is_acknowledged : World
+abbrev start_late_skips_what_is_acknowledged : LinkRecord
 start_late_skips_what_is_acknowledged = start (record { first = 10; size = 3; largest = 100; limit = 0 })
 
 abbrev events_late_skips_what_is_acknowledged : List Asked
@@ -420,7 +420,7 @@ reassembly_late_skips_what_is_acknowledged : reassembly_shown (played start_late
 reassembly_late_skips_what_is_acknowledged = refl
 
 -- no deadline past the greatest moment
-abbrev start_no_deadline_past_the_greatest_moment : World
+abbrev start_no_deadline_past_the_greatest_moment : LinkRecord
 start_no_deadline_past_the_greatest_moment = start (record { first = 10; size = 3; largest = 100; limit = 0 })
 
 abbrev events_no_deadline_past_the_greatest_moment : List Asked

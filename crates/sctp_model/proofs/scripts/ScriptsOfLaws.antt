@@ -5,10 +5,10 @@ use Rattle.sctp_chunks.specs.declared.chunk.chunk_payload_data.PayloadProtocolId
 use Rattle.sctp_chunks.specs.declared.chunk.chunk_payload_data.ReliabilityType.TheVariants as T
 use Rattle.sctp_model.specs.declared.event.Event.{Event}
 use Rattle.sctp_model.specs.declared.event.Event.TheVariants as E
-use Rattle.sctp_model.specs.World.{Setup}
+use Rattle.sctp_model.specs.LinkRecord.{Setup}
 use Rattle.sctp_model.specs.Contents.{Contents, DataContents, datagram}
 use Rattle.sctp_model.specs.Log.{is_past_deadline_by_events}
-use Rattle.sctp_model.specs.Steps.{History, world_of, may_want_memory}
+use Rattle.sctp_model.specs.Steps.{History, record_of, may_want_memory}
 use Rattle.sctp_model.specs.Laws.{data_length, packet_length, next_fragment, unsent_past_deadline, partially_sent_past_deadline, late_slots_by_events}
 use Rattle.sctp_model.proofs.scripts.Play.{told}
 
@@ -48,10 +48,10 @@ just_now = refl
 at_the_end_of_time : past_deadline_at 18446744073709551615 ≡ true ∷ false ∷ false ∷ false ∷ false ∷ false ∷ []
 at_the_end_of_time = refl
 
-the_front_expires : unsent_past_deadline five_messages (world_of (setup_of 0) five_messages) 1000100 ≡ Some 0
+the_front_expires : unsent_past_deadline five_messages (record_of (setup_of 0) five_messages) 1000100 ≡ Some 0
 the_front_expires = refl
 
-no_tail_is_left : partially_sent_past_deadline five_messages (world_of (setup_of 0) five_messages) 1000100 ≡ None
+no_tail_is_left : partially_sent_past_deadline five_messages (record_of (setup_of 0) five_messages) 1000100 ≡ None
 no_tail_is_left = refl
 
 -- ## Late slots
@@ -71,16 +71,16 @@ partially_sent =
     []
     ) []
 
-late_with_all_slots : late_slots_by_events (setup_of 0) partially_sent (world_of (setup_of 0) partially_sent) 1000000 ≡ 0 ∷ 1 ∷ []
+late_with_all_slots : late_slots_by_events (setup_of 0) partially_sent (record_of (setup_of 0) partially_sent) 1000000 ≡ 0 ∷ 1 ∷ []
 late_with_all_slots = refl
 
 abbrev wholly_sent : History
 wholly_sent = told (setup_of 0) (E.Send 0 ∷ []) partially_sent
 
-late_where_not_acknowledged : late_slots_by_events (setup_of 0) wholly_sent (world_of (setup_of 0) wholly_sent) 1000000 ≡ 0 ∷ 2 ∷ []
+late_where_not_acknowledged : late_slots_by_events (setup_of 0) wholly_sent (record_of (setup_of 0) wholly_sent) 1000000 ≡ 0 ∷ 2 ∷ []
 late_where_not_acknowledged = refl
 
-the_tail_is_abandoned : partially_sent_past_deadline partially_sent (world_of (setup_of 0) partially_sent) 1000000 ≡ Some 0
+the_tail_is_abandoned : partially_sent_past_deadline partially_sent (record_of (setup_of 0) partially_sent) 1000000 ≡ Some 0
 the_tail_is_abandoned = refl
 
 -- ## Lengths
@@ -96,19 +96,19 @@ abbrev length_in : Contents → ℕ
 length_in (DataContents chunks) = packet_length chunks
 length_in _ = 0
 
-two_in_one : map length_in (option_to_list (datagram (world_of (setup_of 52) (sent_with 52)) 0)) ≡ 52 ∷ []
+two_in_one : map length_in (option_to_list (datagram (record_of (setup_of 52) (sent_with 52)) 0)) ≡ 52 ∷ []
 two_in_one = refl
 
-one_alone : map length_in (option_to_list (datagram (world_of (setup_of 51) (sent_with 51)) 0)) ≡ 32 ∷ []
+one_alone : map length_in (option_to_list (datagram (record_of (setup_of 51) (sent_with 51)) 0)) ≡ 32 ∷ []
 one_alone = refl
 
-the_next_would_not_fit : data_length (next_fragment (world_of (setup_of 51) (sent_with 51)) 0) ≡ 20
+the_next_would_not_fit : data_length (next_fragment (record_of (setup_of 51) (sent_with 51)) 0) ≡ 20
 the_next_would_not_fit = refl
 
 -- ## Want of memory
 
 abbrev wants : List Event → List Event → List Bool
-wants before events = map (may_want_memory (world_of (setup_of 0) (told (setup_of 0) before []))) events
+wants before events = map (may_want_memory (record_of (setup_of 0) (told (setup_of 0) before []))) events
 
 -- nothing is pending, nothing is past its deadline, and a message wholly sent is abandoned
 idle_wants_none :

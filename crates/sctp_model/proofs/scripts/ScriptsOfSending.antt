@@ -4,13 +4,13 @@ use Rattle.sctp_model.specs.declared.event.Event.TheVariants as E
 use Rattle.sctp_model.specs.Reply as R
 use Rattle.sctp_chunks.specs.declared.chunk.chunk_payload_data.PayloadProtocolIdentifier.TheVariants as P
 use Rattle.sctp_model.specs.declared.event.LinkRefusal.TheVariants as F
-use Rattle.sctp_model.specs.World.{World, start}
+use Rattle.sctp_model.specs.LinkRecord.{LinkRecord, start}
 use Rattle.sctp_model.specs.Amounts.{ledger}
 use Rattle.sctp_model.specs.Contents.{DataContents, SackContents}
 use Rattle.sctp_model.proofs.scripts.Play.{chunk, Handed, Asked, Ask, AskSkip, Refused, Replied, play, played, contents, streams_shown, queues_shown, reassembly_shown}
 
 -- both fragments fit with padding
-abbrev start_both_fragments_fit_with_padding : World
+abbrev start_both_fragments_fit_with_padding : LinkRecord
 start_both_fragments_fit_with_padding = start (record { first = 10; size = 3; largest = 100; limit = 52 })
 
 abbrev events_both_fragments_fit_with_padding : List Asked
@@ -51,7 +51,7 @@ reassembly_both_fragments_fit_with_padding : reassembly_shown (played start_both
 reassembly_both_fragments_fit_with_padding = refl
 
 -- counters by payload type
-abbrev start_counters_by_payload_type : World
+abbrev start_counters_by_payload_type : LinkRecord
 start_counters_by_payload_type = start (record { first = 10; size = 3; largest = 100; limit = 0 })
 
 abbrev events_counters_by_payload_type : List Asked
@@ -108,7 +108,7 @@ reassembly_counters_by_payload_type : reassembly_shown (played start_counters_by
 reassembly_counters_by_payload_type = refl
 
 -- each refusal
-abbrev start_each_refusal : World
+abbrev start_each_refusal : LinkRecord
 start_each_refusal = start (record { first = 10; size = 3; largest = 3; limit = 0 })
 
 abbrev events_each_refusal : List Asked
@@ -163,7 +163,7 @@ reassembly_each_refusal : reassembly_shown (played start_each_refusal events_eac
 reassembly_each_refusal = refl
 
 -- empty write takes no number
-abbrev start_empty_write_takes_no_number : World
+abbrev start_empty_write_takes_no_number : LinkRecord
 start_empty_write_takes_no_number = start (record { first = 10; size = 3; largest = 100; limit = 0 })
 
 abbrev events_empty_write_takes_no_number : List Asked
@@ -204,7 +204,7 @@ reassembly_empty_write_takes_no_number : reassembly_shown (played start_empty_wr
 reassembly_empty_write_takes_no_number = refl
 
 -- first message
-abbrev start_first_message : World
+abbrev start_first_message : LinkRecord
 start_first_message = start (record { first = 10; size = 3; largest = 100; limit = 0 })
 
 abbrev events_first_message : List Asked
@@ -249,7 +249,7 @@ reassembly_first_message : reassembly_shown (played start_first_message events_f
 reassembly_first_message = refl
 
 -- one chunk
-abbrev start_one_chunk : World
+abbrev start_one_chunk : LinkRecord
 start_one_chunk = start (record { first = 10; size = 3; largest = 100; limit = 0 })
 
 abbrev events_one_chunk : List Asked
@@ -288,7 +288,7 @@ reassembly_one_chunk : reassembly_shown (played start_one_chunk events_one_chunk
 reassembly_one_chunk = refl
 
 -- one chunk again then both
-abbrev start_one_chunk_again_then_both : World
+abbrev start_one_chunk_again_then_both : LinkRecord
 start_one_chunk_again_then_both = start (record { first = 10; size = 3; largest = 100; limit = 60 })
 
 abbrev events_one_chunk_again_then_both : List Asked
@@ -342,7 +342,7 @@ reassembly_one_chunk_again_then_both : reassembly_shown (played start_one_chunk_
 reassembly_one_chunk_again_then_both = refl
 
 -- padding counts against the limit
-abbrev start_padding_counts_against_the_limit : World
+abbrev start_padding_counts_against_the_limit : LinkRecord
 start_padding_counts_against_the_limit = start (record { first = 10; size = 3; largest = 100; limit = 51 })
 
 abbrev events_padding_counts_against_the_limit : List Asked
@@ -386,7 +386,7 @@ reassembly_padding_counts_against_the_limit : reassembly_shown (played start_pad
 reassembly_padding_counts_against_the_limit = refl
 
 -- two chunks in a datagram
-abbrev start_two_chunks_in_a_datagram : World
+abbrev start_two_chunks_in_a_datagram : LinkRecord
 start_two_chunks_in_a_datagram = start (record { first = 10; size = 3; largest = 100; limit = 60 })
 
 abbrev events_two_chunks_in_a_datagram : List Asked

@@ -4,13 +4,13 @@ use Rattle.sctp_model.specs.declared.event.Event.TheVariants as E
 use Rattle.sctp_model.specs.Reply as R
 use Rattle.sctp_chunks.specs.declared.chunk.chunk_payload_data.PayloadProtocolIdentifier.TheVariants as P
 use Rattle.sctp_chunks.specs.declared.chunk.chunk_payload_data.ReliabilityType.TheVariants as T
-use Rattle.sctp_model.specs.World.{World, start}
+use Rattle.sctp_model.specs.LinkRecord.{LinkRecord, start}
 use Rattle.sctp_model.specs.Amounts.{ledger}
 use Rattle.sctp_model.specs.Contents.{DataContents, ForwardContents, SackContents}
 use Rattle.sctp_model.proofs.scripts.Play.{chunk, Handed, Asked, Ask, AskSkip, Replied, play, played, contents, streams_shown, queues_shown, reassembly_shown}
 
 -- later skip first
-abbrev start_later_skip_first : World
+abbrev start_later_skip_first : LinkRecord
 start_later_skip_first = start (record { first = 10; size = 3; largest = 100; limit = 0 })
 
 abbrev events_later_skip_first : List Asked
@@ -77,7 +77,7 @@ reassembly_later_skip_first : reassembly_shown (played start_later_skip_first ev
 reassembly_later_skip_first = refl
 
 -- later skip names an earlier message
-abbrev start_later_skip_names_an_earlier_message : World
+abbrev start_later_skip_names_an_earlier_message : LinkRecord
 start_later_skip_names_an_earlier_message = start (record { first = 10; size = 3; largest = 100; limit = 0 })
 
 abbrev events_later_skip_names_an_earlier_message : List Asked
@@ -148,7 +148,7 @@ reassembly_later_skip_names_an_earlier_message : reassembly_shown (played start_
 reassembly_later_skip_names_an_earlier_message = refl
 
 -- skip into an unordered message
-abbrev start_skip_into_an_unordered_message : World
+abbrev start_skip_into_an_unordered_message : LinkRecord
 start_skip_into_an_unordered_message = start (record { first = 10; size = 3; largest = 100; limit = 0 })
 
 abbrev events_skip_into_an_unordered_message : List Asked
@@ -208,7 +208,7 @@ reassembly_skip_into_an_unordered_message : reassembly_shown (played start_skip_
 reassembly_skip_into_an_unordered_message = refl
 
 -- skip keeps a complete message
-abbrev start_skip_keeps_a_complete_message : World
+abbrev start_skip_keeps_a_complete_message : LinkRecord
 start_skip_keeps_a_complete_message = start (record { first = 10; size = 3; largest = 100; limit = 0 })
 
 abbrev events_skip_keeps_a_complete_message : List Asked
@@ -268,7 +268,7 @@ reassembly_skip_keeps_a_complete_message : reassembly_shown (played start_skip_k
 reassembly_skip_keeps_a_complete_message = refl
 
 -- skip of a lost message
-abbrev start_skip_of_a_lost_message : World
+abbrev start_skip_of_a_lost_message : LinkRecord
 start_skip_of_a_lost_message = start (record { first = 10; size = 3; largest = 100; limit = 0 })
 
 abbrev events_skip_of_a_lost_message : List Asked
@@ -334,7 +334,7 @@ reassembly_skip_of_a_lost_message : reassembly_shown (played start_skip_of_a_los
 reassembly_skip_of_a_lost_message = refl
 
 -- skip over a terminal chunk
-abbrev start_skip_over_an_terminal_chunk : World
+abbrev start_skip_over_an_terminal_chunk : LinkRecord
 start_skip_over_an_terminal_chunk = start (record { first = 10; size = 3; largest = 100; limit = 0 })
 
 abbrev events_skip_over_an_terminal_chunk : List Asked
@@ -398,7 +398,7 @@ reassembly_skip_over_an_terminal_chunk : reassembly_shown (played start_skip_ove
 reassembly_skip_over_an_terminal_chunk = refl
 
 -- skips in order
-abbrev start_skips_in_order : World
+abbrev start_skips_in_order : LinkRecord
 start_skips_in_order = start (record { first = 10; size = 3; largest = 100; limit = 0 })
 
 abbrev events_skips_in_order : List Asked
@@ -465,7 +465,7 @@ reassembly_skips_in_order : reassembly_shown (played start_skips_in_order events
 reassembly_skips_in_order = refl
 
 -- stale skip keeps unassembled fragments
-abbrev start_stale_skip_keeps_unassembled_fragments : World
+abbrev start_stale_skip_keeps_unassembled_fragments : LinkRecord
 start_stale_skip_keeps_unassembled_fragments = start (record { first = 10; size = 3; largest = 100; limit = 0 })
 
 abbrev events_stale_skip_keeps_unassembled_fragments : List Asked

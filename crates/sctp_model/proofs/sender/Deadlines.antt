@@ -1,9 +1,11 @@
 use Rattle.std.proofs.Common.{◌≡◌, ℕ, zero, suc, ◌+◌, ◌*◌, ◌<◌, ◌≤◌, ◌^◌, Bool, true, false, List, [], ◌∷◌, length, map, Option, Some, None, refl, ap, sym, ◌∙◌, inl, inr, arith}
 use Rattle.std.specs.Prelude.{◌⊎◌, if◌then◌else◌, ◌==◌, ◌&&◌, ◌||◌, not, nat_lt, nat_le, slice_get, slice_index_or, option_to_list}
-use Rattle.std.specs.List.{list_any}
+use Rattle.std.specs.List.{list_any, filter}
 use Rattle.std.proofs.lemmas.Bool.{cases_lt}
 use Rattle.std.proofs.lemmas.Bool.Decides.{nat_tests}
-use Rattle.sctp_list_lemmas.specs.Kept.{kept, always, first_of, passing}
+use Rattle.sctp_chunks.specs.Reliability.{is_past, is_timed}
+use Rattle.sctp_chunks.specs.PayloadTypes.{is_dcep}
+use Rattle.sctp_list_lemmas.specs.Kept.{numbers_where, always, first_of}
 use Rattle.sctp_list_lemmas.proofs.Cases.{or-none}
 use Rattle.sctp_list_lemmas.proofs.Getting.{get-beyond}
 use Rattle.sctp_list_lemmas.proofs.Passing.{kept-same}
@@ -13,12 +15,12 @@ use Rattle.sctp_chunks.specs.declared.chunk.chunk_payload_data.PayloadProtocolId
 use Rattle.sctp_chunks.specs.declared.chunk.chunk_payload_data.PayloadProtocolIdentifier.TheVariants as P
 use Rattle.sctp_model.specs.declared.event.Event.TheVariants as E
 use Rattle.sctp_model.specs.Reply as R
-use Rattle.sctp_model.specs.World.{Setup, World}
+use Rattle.sctp_model.specs.LinkRecord.{Setup, LinkRecord}
 use Rattle.sctp_model.specs.Messages
 use Rattle.sctp_model.specs.Amounts.{growth}
 use Rattle.sctp_model.specs.Changes
 use Rattle.sctp_model.specs.Log.{has_lifetime, is_over, is_write_past_deadline, is_past_deadline_by_events, writes_in, modes_in, started_in, taken_in, is_acknowledged_in}
-use Rattle.sctp_model.specs.Steps.{History, world_of, IsRun, after, expired_reply, tail_reply}
+use Rattle.sctp_model.specs.Steps.{History, record_of, IsRun, after, expired_reply, tail_reply}
 use Rattle.sctp_model.specs.Laws.{OnEveryRun, DeadlinesByEvents, ExpiresPastDeadline, TailAbandonsPastDeadline, LateListsPastDeadline, told_of, is_this, unsent_past_deadline, partially_sent_past_deadline, is_late_in, late_slots_by_events, shown_of, mode_of}
 use Rattle.sctp_model.proofs.sender.Shape.{shape, sent}
 use Rattle.sctp_model.proofs.sender.Shapes
@@ -38,7 +40,7 @@ got-mapped f [] n d lt = absurd (omega arith)
 got-mapped f (x ∷ xs) zero d lt = refl
 got-mapped f (x ∷ xs) (suc n) d lt = got-mapped f xs n d (omega arith)
 
-got-number : {B : Type 0} (f : ℕ → B) (from count n : ℕ) → n < count → slice_get (map f (kept always from count)) n ≡ Some (f (from + n))
+got-number : {B : Type 0} (f : ℕ → B) (from count n : ℕ) → n < count → slice_get (map f (numbers_where always from count)) n ≡ Some (f (from + n))
 got-number f from zero n lt = absurd (omega arith)
 got-number f from (suc count) zero lt = let z : from ≡ from + 0 = omega arith in ap (λ k. Some (f k)) z
 got-number f from (suc count) (suc n) lt = let z : from + 1 + n ≡ from + suc n = omega arith in got-number f (from + 1) count n (omega arith) ∙ ap (λ k. Some (f k)) z
@@ -48,7 +50,7 @@ got-none [] n le = refl
 got-none (x ∷ xs) zero le = absurd (omega arith)
 got-none (x ∷ xs) (suc n) le = got-none xs n (omega arith)
 
-timed-lifetime : (ppi : PayloadProtocolIdentifier) → not (Messages.is_dcep ppi) ≡ has_lifetime T.Timed ppi
+timed-lifetime : (ppi : PayloadProtocolIdentifier) → not (is_dcep ppi) ≡ has_lifetime T.Timed ppi
 timed-lifetime P.Dcep = refl
 timed-lifetime P.String = refl
 timed-lifetime P.Binary = refl
@@ -56,25 +58,25 @@ timed-lifetime P.StringEmpty = refl
 timed-lifetime P.BinaryEmpty = refl
 timed-lifetime P.Unknown = refl
 
-reached : (now value : ℕ) (b : Bool) (o : Option ℕ) → Messages.is_reached now (if b then Messages.deadline_from value o else None) ≡ (b && is_over now value o)
+reached : (now value : ℕ) (b : Bool) (o : Option ℕ) → is_past now (if b then Messages.deadline_from value o else None) ≡ (b && is_over now value o)
 reached now value false o = refl
 reached now value true None = refl
 reached now value true (Some t) = step (nat_lt (t + value * 1000000) (2 ^ 64))
   where
-    step : (b : Bool) → Messages.is_reached now (if b then Some (t + value * 1000000) else None) ≡ (b && nat_le (t + value * 1000000) now)
+    step : (b : Bool) → is_past now (if b then Some (t + value * 1000000) else None) ≡ (b && nat_le (t + value * 1000000) now)
     step true = refl
     step false = refl
 
-lapses : (now value : ℕ) (ppi : PayloadProtocolIdentifier) (r : ReliabilityType) (o : Option ℕ) → Messages.is_reached now (if Messages.is_timed r && not (Messages.is_dcep ppi) then Messages.deadline_from value o else None) ≡ (has_lifetime r ppi && is_over now value o)
+lapses : (now value : ℕ) (ppi : PayloadProtocolIdentifier) (r : ReliabilityType) (o : Option ℕ) → is_past now (if is_timed r && not (is_dcep ppi) then Messages.deadline_from value o else None) ≡ (has_lifetime r ppi && is_over now value o)
 lapses now value ppi T.Reliable o = refl
 lapses now value ppi T.Rexmit o = refl
-lapses now value ppi T.Timed o = reached now value (not (Messages.is_dcep ppi)) o ∙ ap (λ b. b && is_over now value o) (timed-lifetime ppi)
+lapses now value ppi T.Timed o = reached now value (not (is_dcep ppi)) o ∙ ap (λ b. b && is_over now value o) (timed-lifetime ppi)
 
 pub deadlines_by_events : OnEveryRun DeadlinesByEvents
-deadlines_by_events setup h is run now n = step (cases_lt n (length (world_of setup h).messages))
+deadlines_by_events setup h is run now n = step (cases_lt n (length (record_of setup h).messages))
   where
-    w : World
-    w = world_of setup h
+    w : LinkRecord
+    w = record_of setup h
 
     step : (n < length w.messages) ⊎ (length w.messages ≤ n) → Messages.is_past_deadline w now n ≡ is_past_deadline_by_events h now n
     step (inl lt) =
@@ -87,13 +89,13 @@ deadlines_by_events setup h is run now n = step (cases_lt n (length (world_of se
         ∙ ap (λ x. is_write_past_deadline now (started_in h n) x (Some (mode_of m))) write
         ∙ ap (is_write_past_deadline now (started_in h n) (slice_get (writes_in h) n)) mode
     step (inr le) =
-        ap (λ m. Messages.is_reached now (if Messages.is_timed m.reliability && not (Messages.is_dcep m.ppi) then Messages.deadline_from m.value m.started else None)) (get-beyond w.messages n Messages.no_message le)
+        ap (λ m. is_past now (if is_timed m.reliability && not (is_dcep m.ppi) then Messages.deadline_from m.value m.started else None)) (get-beyond w.messages n Messages.no_message le)
         ∙ sym (ap (λ x. is_write_past_deadline now (started_in h n) x (slice_get (modes_in h) n)) (got-none (writes_in h) n (omega (arith, le, writes-count setup h is run))))
 
 -- ## Expire and Tail
 
 -- the front, where a test holds of it, as the record and as the law have it
-front-where : (w : World) (p q : ℕ → Bool) (o : Option ℕ) → ((n : ℕ) → o ≡ Some n → p n ≡ q n) → Changes.front_if w p o ≡ first_of (passing q (option_to_list o))
+front-where : (w : LinkRecord) (p q : ℕ → Bool) (o : Option ℕ) → ((n : ℕ) → o ≡ Some n → p n ≡ q n) → Changes.front_if w p o ≡ first_of (filter q (option_to_list o))
 front-where w p q None same = refl
 front-where w p q (Some n) same = ap (λ b. if b then Some n else None) (same n refl) ∙ step (q n)
   where
@@ -101,11 +103,11 @@ front-where w p q (Some n) same = ap (λ b. if b then Some n else None) (same n 
     step true = refl
     step false = refl
 
-expiring-is : (setup : Setup) (h : History) → Rattle.sctp_model.specs.Laws.IsSetup setup → IsRun setup h → (now : ℕ) → Changes.expiring (world_of setup h) now ≡ unsent_past_deadline h (world_of setup h) now
+expiring-is : (setup : Setup) (h : History) → Rattle.sctp_model.specs.Laws.IsSetup setup → IsRun setup h → (now : ℕ) → Changes.expiring (record_of setup h) now ≡ unsent_past_deadline h (record_of setup h) now
 expiring-is setup h is run now = front-where w (λ n. Messages.is_unsent w n && Messages.is_past_deadline w now n) (λ n. is_past_deadline_by_events h now n && (Messages.sent_of w n == 0)) (Messages.front w) same
   where
-    w : World
-    w = world_of setup h
+    w : LinkRecord
+    w = record_of setup h
 
     mixed : (a b c d : Bool) → b ≡ false → c ≡ d → ((a && not b) && c) ≡ (d && a)
     mixed true b c true e f = rw (e, f) refl
@@ -116,11 +118,11 @@ expiring-is setup h is run now = front-where w (λ n. Messages.is_unsent w n && 
     same : (n : ℕ) → Messages.front w ≡ Some n → (Messages.is_unsent w n && Messages.is_past_deadline w now n) ≡ (is_past_deadline_by_events h now n && (Messages.sent_of w n == 0))
     same n e = mixed (Messages.sent_of w n == 0) (Messages.message_at w n).expired (Messages.is_past_deadline w now n) (is_past_deadline_by_events h now n) (front-takes (shape w) n (sane-run setup h run).sender e).kept (deadlines_by_events setup h is run now n)
 
-tailing-is : (setup : Setup) (h : History) → Rattle.sctp_model.specs.Laws.IsSetup setup → IsRun setup h → (now : ℕ) → Changes.tailing (world_of setup h) now ≡ partially_sent_past_deadline h (world_of setup h) now
+tailing-is : (setup : Setup) (h : History) → Rattle.sctp_model.specs.Laws.IsSetup setup → IsRun setup h → (now : ℕ) → Changes.tailing (record_of setup h) now ≡ partially_sent_past_deadline h (record_of setup h) now
 tailing-is setup h is run now = front-where w (λ n. Messages.is_partially_sent w n && Messages.is_past_deadline w now n) (λ n. is_past_deadline_by_events h now n && nat_lt 0 (Messages.sent_of w n)) (Messages.front w) same
   where
-    w : World
-    w = world_of setup h
+    w : LinkRecord
+    w = record_of setup h
 
     mixed : (a m b c d : Bool) → m ≡ true → b ≡ false → c ≡ d → ((a && (m && not b)) && c) ≡ (d && a)
     mixed true m b c true i e f = rw (i, e, f) refl
@@ -148,44 +150,44 @@ marked n m b = ap (λ c. c || b) (swap m n) ∙ step (m == n) b
 pub expires_past_deadline : OnEveryRun ExpiresPastDeadline
 expires_past_deadline setup h is run now = (
   ap (λ o. expired_reply w (after w (E.Expire now)) o) (expiring-is setup h is run now) ∙ told (unsent_past_deadline h w now),
-  λ n lt. ap (λ o. (Messages.message_at (Changes.expired w o) n).expired) (expiring-is setup h is run now) ∙ gone n (unsent_past_deadline h w now),
+  λ n lt. ap (λ o. (Messages.message_at (Changes.after_expire w o) n).expired) (expiring-is setup h is run now) ∙ gone n (unsent_past_deadline h w now),
 )
   where
-    w : World
-    w = world_of setup h
+    w : LinkRecord
+    w = record_of setup h
 
     told : (o : Option ℕ) → expired_reply w (after w (E.Expire now)) o ≡ told_of (λ n. R.Expired (Messages.message_at w n).stream (growth w (after w (E.Expire now)))) o
     told None = refl
     told (Some n) = refl
 
-    gone : (n : ℕ) (o : Option ℕ) → (Messages.message_at (Changes.expired w o) n).expired ≡ ((Messages.message_at w n).expired || is_this o n)
+    gone : (n : ℕ) (o : Option ℕ) → (Messages.message_at (Changes.after_expire w o) n).expired ≡ ((Messages.message_at w n).expired || is_this o n)
     gone n None = sym (or-none (Messages.message_at w n).expired)
     gone n (Some m) = ap (λ x. (x.message n).expired) (Shapes.shape-expired w m) ∙ marked n m (Messages.message_at w n).expired
 
 pub tail_abandons_past_deadline : OnEveryRun TailAbandonsPastDeadline
 tail_abandons_past_deadline setup h is run now = (
   ap (λ o. tail_reply w (after w (E.Tail now)) o) (tailing-is setup h is run now) ∙ told (partially_sent_past_deadline h w now),
-  λ n lt. ap (λ o. (Messages.message_at (Changes.tail_abandoned w o) n).abandoned) (tailing-is setup h is run now) ∙ gone n (partially_sent_past_deadline h w now),
+  λ n lt. ap (λ o. (Messages.message_at (Changes.after_tail w o) n).abandoned) (tailing-is setup h is run now) ∙ gone n (partially_sent_past_deadline h w now),
 )
   where
-    w : World
-    w = world_of setup h
+    w : LinkRecord
+    w = record_of setup h
 
     told : (o : Option ℕ) → tail_reply w (after w (E.Tail now)) o ≡ told_of (λ n. R.Released (Messages.message_at w n).stream (growth w (after w (E.Tail now)))) o
     told None = refl
     told (Some n) = refl
 
-    gone : (n : ℕ) (o : Option ℕ) → (Messages.message_at (Changes.tail_abandoned w o) n).abandoned ≡ ((Messages.message_at w n).abandoned || is_this o n)
+    gone : (n : ℕ) (o : Option ℕ) → (Messages.message_at (Changes.after_tail w o) n).abandoned ≡ ((Messages.message_at w n).abandoned || is_this o n)
     gone n None = sym (or-none (Messages.message_at w n).abandoned)
     gone n (Some m) = abandoned-by w m n ∙ marked n m (Messages.message_at w n).abandoned
 
 -- ## Late
 
-slots-are : (setup : Setup) (h : History) → Rattle.sctp_model.specs.Laws.IsSetup setup → IsRun setup h → (now : ℕ) → Changes.late_slots (world_of setup h) now ≡ late_slots_by_events setup h (world_of setup h) now
+slots-are : (setup : Setup) (h : History) → Rattle.sctp_model.specs.Laws.IsSetup setup → IsRun setup h → (now : ℕ) → Changes.late_slots (record_of setup h) now ≡ late_slots_by_events setup h (record_of setup h) now
 slots-are setup h is run now = kept-same (Changes.is_late w now) (λ p. is_late_in setup h w now (Messages.message_of w p) p) 0 (length w.slots) (λ p a b. same p (omega arith))
   where
-    w : World
-    w = world_of setup h
+    w : LinkRecord
+    w = record_of setup h
 
     mixed : (f f' i l l' g a a' s m : Bool) → f ≡ f' → i ≡ true → l ≡ l' → a ≡ a' → s ≡ true → ((f && i) && (l && (not g && (not a || (s && (m && not g)))))) ≡ (f' && (l' && (not g && (not a' || m))))
     mixed f f' i l l' true a a' s m e j k o q = rw (e, j, k) (none f' l')
@@ -216,5 +218,5 @@ late_lists_past_deadline setup h is run now = (
   λ n lt. late_abandons_listed setup h is run now n lt ∙ ap (λ ps. (Messages.message_at w n).abandoned || list_any (λ p. Messages.message_of w p == n) ps) (slots-are setup h is run now),
 )
   where
-    w : World
-    w = world_of setup h
+    w : LinkRecord
+    w = record_of setup h

@@ -1,7 +1,7 @@
 use Rattle.std.proofs.Common.{◌≡◌, ℕ, ◌<◌, ◌≤◌, Bool, true, false, length, Option, Some, None, refl, ap, sym, ◌∙◌, inl, inr, arith}
 use Rattle.std.specs.Prelude.{◌⊎◌, if◌then◌else◌, ◌==◌, ◌&&◌, not, nat_lt}
 use Rattle.std.proofs.lemmas.Bool.{cases_lt}
-use Rattle.sctp_list_lemmas.specs.Kept.{kept, first_of, or_else}
+use Rattle.sctp_list_lemmas.specs.Kept.{numbers_where, first_of, or_else}
 use Rattle.sctp_list_lemmas.proofs.More.{fails, not_both, both, and, length-kept-positive}
 use Rattle.sctp_model.proofs.sender.Shape.{Shape, sent, parts, half, unsent, front_of}
 use Rattle.sctp_model.proofs.sender.Sender.{Sender, is_mark}
@@ -35,7 +35,7 @@ alive-unsent x n s lt z = fails (x.message n).abandoned (λ e. absurd (omega (ar
 
 -- a front is partially sent or unsent
 pub front-takes : (x : Shape) (n : ℕ) → Sender x → front_of x ≡ Some n → Takes x n
-front-takes x n s e = first (first_of (kept (half x) 0 x.count)) (first-kept (half x) x.count) e
+front-takes x n s e = first (first_of (numbers_where (half x) 0 x.count)) (first-kept (half x) x.count) e
   where
     U : ℕ → Bool
     U k = unsent x k && not (x.message k).ordered
@@ -68,15 +68,15 @@ front-takes x n s e = first (first_of (kept (half x) 0 x.count)) (first-kept (ha
         pos m lt ord alive none (inl l) = l
         pos m lt ord alive none (inr g) = absurd (not_both (sym none ∙ and (unsent x m) (x.message m).ordered (is-unsent x m (omega arith) alive) ord))
 
-    second : ((j : ℕ) → j < x.count → half x j ≡ false) → (o : Option ℕ) → FirstOf (λ k. unsent x k && not (x.message k).ordered) x.count o → or_else o (first_of (kept (λ k. unsent x k && (x.message k).ordered) 0 x.count)) ≡ Some n → Takes x n
-    second no' None f e = third no' (first_of (kept (λ k. unsent x k && (x.message k).ordered) 0 x.count)) (first-kept (λ k. unsent x k && (x.message k).ordered) x.count) e
+    second : ((j : ℕ) → j < x.count → half x j ≡ false) → (o : Option ℕ) → FirstOf (λ k. unsent x k && not (x.message k).ordered) x.count o → or_else o (first_of (numbers_where (λ k. unsent x k && (x.message k).ordered) 0 x.count)) ≡ Some n → Takes x n
+    second no' None f e = third no' (first_of (numbers_where (λ k. unsent x k && (x.message k).ordered) 0 x.count)) (first-kept (λ k. unsent x k && (x.message k).ordered) x.count) e
     second no' (Some k) f e =
         let same : k ≡ n = cc in
         let a = both (unsent x n) (not (x.message n).ordered) (ap (λ j. unsent x j && not (x.message j).ordered) (sym same) ∙ f.1) in
         sending no' (omega (arith, f.0)) (of-unsent x n a.0) (λ o m lt ord alive. absurd (not_both (sym (negated (x.message n).ordered a.1) ∙ o)))
 
-    first : (o : Option ℕ) → FirstOf (half x) x.count o → or_else o (or_else (first_of (kept (λ k. unsent x k && not (x.message k).ordered) 0 x.count)) (first_of (kept (λ k. unsent x k && (x.message k).ordered) 0 x.count))) ≡ Some n → Takes x n
-    first None f e = second f (first_of (kept (λ k. unsent x k && not (x.message k).ordered) 0 x.count)) (first-kept (λ k. unsent x k && not (x.message k).ordered) x.count) e
+    first : (o : Option ℕ) → FirstOf (half x) x.count o → or_else o (or_else (first_of (numbers_where (λ k. unsent x k && not (x.message k).ordered) 0 x.count)) (first_of (numbers_where (λ k. unsent x k && (x.message k).ordered) 0 x.count))) ≡ Some n → Takes x n
+    first None f e = second f (first_of (numbers_where (λ k. unsent x k && not (x.message k).ordered) 0 x.count)) (first-kept (λ k. unsent x k && not (x.message k).ordered) x.count) e
     first (Some k) f e =
         let same : k ≡ n = cc in
         let h : half x n ≡ true = ap (half x) (sym same) ∙ f.1 in
@@ -93,7 +93,7 @@ front-takes x n s e = first (first_of (kept (half x) 0 x.count)) (first-kept (ha
 
 -- with no front nothing is partially sent and nothing is unsent
 pub front-none : (x : Shape) → front_of x ≡ None → (n : ℕ) → n < x.count → (half x n ≡ false) × (unsent x n ≡ false)
-front-none x e n lt = first (first_of (kept (half x) 0 x.count)) (first-kept (half x) x.count) e
+front-none x e n lt = first (first_of (numbers_where (half x) 0 x.count)) (first-kept (half x) x.count) e
   where
     neither : (a b : Bool) → (a && not b) ≡ false → (a && b) ≡ false → a ≡ false
     neither true true p q = cc
@@ -104,19 +104,19 @@ front-none x e n lt = first (first_of (kept (half x) 0 x.count)) (first-kept (ha
     third h u None f e = (h, neither (unsent x n) (x.message n).ordered u (f n lt))
     third h u (Some k) f e = cc
 
-    second : half x n ≡ false → (o : Option ℕ) → FirstOf (λ k. unsent x k && not (x.message k).ordered) x.count o → or_else o (first_of (kept (λ k. unsent x k && (x.message k).ordered) 0 x.count)) ≡ None → (half x n ≡ false) × (unsent x n ≡ false)
-    second h None f e = third h (f n lt) (first_of (kept (λ k. unsent x k && (x.message k).ordered) 0 x.count)) (first-kept (λ k. unsent x k && (x.message k).ordered) x.count) e
+    second : half x n ≡ false → (o : Option ℕ) → FirstOf (λ k. unsent x k && not (x.message k).ordered) x.count o → or_else o (first_of (numbers_where (λ k. unsent x k && (x.message k).ordered) 0 x.count)) ≡ None → (half x n ≡ false) × (unsent x n ≡ false)
+    second h None f e = third h (f n lt) (first_of (numbers_where (λ k. unsent x k && (x.message k).ordered) 0 x.count)) (first-kept (λ k. unsent x k && (x.message k).ordered) x.count) e
     second h (Some k) f e = cc
 
-    first : (o : Option ℕ) → FirstOf (half x) x.count o → or_else o (or_else (first_of (kept (λ k. unsent x k && not (x.message k).ordered) 0 x.count)) (first_of (kept (λ k. unsent x k && (x.message k).ordered) 0 x.count))) ≡ None → (half x n ≡ false) × (unsent x n ≡ false)
-    first None f e = second (f n lt) (first_of (kept (λ k. unsent x k && not (x.message k).ordered) 0 x.count)) (first-kept (λ k. unsent x k && not (x.message k).ordered) x.count) e
+    first : (o : Option ℕ) → FirstOf (half x) x.count o → or_else o (or_else (first_of (numbers_where (λ k. unsent x k && not (x.message k).ordered) 0 x.count)) (first_of (numbers_where (λ k. unsent x k && (x.message k).ordered) 0 x.count))) ≡ None → (half x n ≡ false) × (unsent x n ≡ false)
+    first None f e = second (f n lt) (first_of (numbers_where (λ k. unsent x k && not (x.message k).ordered) 0 x.count)) (first-kept (λ k. unsent x k && not (x.message k).ordered) x.count) e
     first (Some k) f e = cc
 
 -- a terminal chunk is of an abandoned message
 pub mark-abandoned : (x : Shape) (p : ℕ) → Sender x → p < x.slots → (x.slot p).is_terminal_chunk ≡ true → (x.message (x.slot p).message).abandoned ≡ true
 mark-abandoned x p s lt e =
     let n = (x.slot p).message in
-    let some : 0 < length (kept (is_mark x n) 0 x.slots) = length-kept-positive (is_mark x n) p 0 x.slots (omega arith) (omega arith) (and ((x.slot p).message == n) (x.slot p).is_terminal_chunk (same-yes n) e) in
+    let some : 0 < length (numbers_where (is_mark x n) 0 x.slots) = length-kept-positive (is_mark x n) p 0 x.slots (omega arith) (omega arith) (and ((x.slot p).message == n) (x.slot p).is_terminal_chunk (same-yes n) e) in
     abandoned (x.message n).abandoned (omega (arith, some, s.marks n (s.made p lt)))
   where
     abandoned : (b : Bool) → ◌<◌ 0 (if b && nat_lt (sent x (x.slot p).message) (parts x (x.slot p).message) then 1 else 0) → b ≡ true

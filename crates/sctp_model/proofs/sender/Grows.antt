@@ -1,7 +1,7 @@
 use Rattle.std.proofs.Common.{◌≡◌, ℕ, ◌+◌, ◌<◌, ◌≤◌, Bool, true, false, length, refl, ap, sym, ◌∙◌, inl, inr, arith}
 use Rattle.std.specs.Prelude.{◌⊎◌, if◌then◌else◌, ◌==◌, ◌&&◌, ◌||◌, not}
 use Rattle.std.proofs.Math.Path.{subst}
-use Rattle.sctp_list_lemmas.specs.Kept.{kept}
+use Rattle.sctp_list_lemmas.specs.Kept.{numbers_where}
 use Rattle.sctp_list_lemmas.specs.Lists.{pieces}
 use Rattle.sctp_list_lemmas.proofs.Passing.{kept-same}
 use Rattle.sctp_list_lemmas.proofs.More.{not_both, and}
@@ -140,7 +140,7 @@ grows-written x m s = record {
   sent_more = λ k. omega arith;
   ended = λ k a b. refl;
   same_index = λ k pos o. let lt = sent-made x k s pos in
-      ap (λ r. length (kept (on (written x m) r) 0 k)) (ap (λ y. y.stream) (message-old x m k lt))
+      ap (λ r. length (numbers_where (on (written x m) r) 0 k)) (ap (λ y. y.stream) (message-old x m k lt))
       ∙ ap length (kept-same (on (written x m) (x.message k).stream) (on x (x.message k).stream) 0 k (λ j a b. on-old x m (x.message k).stream j (omega arith)));
 }
 

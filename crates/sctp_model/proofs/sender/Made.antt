@@ -5,12 +5,12 @@ use Rattle.std.proofs.lemmas.List.{map-append}
 use Rattle.sctp_list_lemmas.specs.Kept.{numbers_from}
 use Rattle.sctp_model.specs.declared.event.Event.{Event}
 use Rattle.sctp_model.specs.declared.event.Event.TheVariants as E
-use Rattle.sctp_model.specs.World.{Setup, Datagram, Forward, Sack, World, start}
-use Rattle.sctp_model.specs.World as W
+use Rattle.sctp_model.specs.LinkRecord.{Setup, Datagram, Forward, Sack, LinkRecord, start}
+use Rattle.sctp_model.specs.LinkRecord as W
 use Rattle.sctp_model.specs.Messages
 use Rattle.sctp_model.specs.Receiver
 use Rattle.sctp_model.specs.Changes
-use Rattle.sctp_model.specs.Steps.{History, world_of, IsRun, reply_to, after, sent_reply}
+use Rattle.sctp_model.specs.Steps.{History, record_of, IsRun, reply_to, after, sent_reply}
 use Rattle.sctp_model.specs.Log.{MadeData, MadeForward, made_by, made_in, place_in}
 use Rattle.sctp_model.specs.Laws.{IsSetup, OnEveryRun, NetworkIsMade, kind_of}
 use Rattle.sctp_model.proofs.sender.SenderRun.{Sane, sane-run}
@@ -21,48 +21,48 @@ use Rattle.sctp_model.proofs.sender.Network.{same-network, network-written, netw
 pub place-back : (first p : ℕ) → first < 2 ^ 32 → p < 2 ^ 32 → ((first + p) % 2 ^ 32 + (2 ^ 32 - first)) % 2 ^ 32 ≡ p
 place-back first p a b = omega arith
 
-kinds-more : (w v : World) (d : Datagram) → v.network ≡ w.network ++ d ∷ [] → map kind_of v.network ≡ map kind_of w.network ++ kind_of d ∷ []
+kinds-more : (w v : LinkRecord) (d : Datagram) → v.network ≡ w.network ++ d ∷ [] → map kind_of v.network ≡ map kind_of w.network ++ kind_of d ∷ []
 kinds-more w v d e = ap (map kind_of) e ∙ map-append kind_of w.network (d ∷ [])
 
-kinds-same : (w v : World) → v.network ≡ w.network → map kind_of v.network ≡ map kind_of w.network ++ []
+kinds-same : (w v : LinkRecord) → v.network ≡ w.network → map kind_of v.network ≡ map kind_of w.network ++ []
 kinds-same w v e = ap (map kind_of) e ∙ sym (append-nil (map kind_of w.network))
 
-made-sent : (setup : Setup) (w : World) (now : ℕ) (o : Option ℕ) → IsSetup setup → Sane setup w
-    → map kind_of (Changes.sent_from (Changes.started w now) o).network ≡ map kind_of w.network ++ made_by setup (E.Send now) (sent_reply w (Changes.sent_from (Changes.started w now) o) o)
-made-sent setup w now None is g = kinds-same w (Changes.started w now) refl
+made-sent : (setup : Setup) (w : LinkRecord) (now : ℕ) (o : Option ℕ) → IsSetup setup → Sane setup w
+    → map kind_of (Changes.send_from (Changes.after_start w now) o).network ≡ map kind_of w.network ++ made_by setup (E.Send now) (sent_reply w (Changes.send_from (Changes.after_start w now) o) o)
+made-sent setup w now None is g = kinds-same w (Changes.after_start w now) refl
 made-sent setup w now (Some n) is g =
-    let u = Changes.started w now in
-    let v = Changes.fragments_sent u in
+    let u = Changes.after_start w now in
+    let v = Changes.send_fragments u in
     let f : w.setup.first ≡ setup.first = ap (λ s. s.first) g.setup_is in
     let place : place_in setup (Messages.tsn_of w (length w.slots)) ≡ length w.slots = ap (λ i. ((i + length w.slots) % 2 ^ 32 + (2 ^ 32 - setup.first)) % 2 ^ 32) f ∙ place-back setup.first (length w.slots) is.first (omega (arith, few setup w g)) in
     kinds-more w (Changes.with_data u v) (W.Data (numbers_from (length u.slots) (length v.slots - length u.slots))) (ap (λ l. l ++ W.Data (numbers_from (length u.slots) (length v.slots - length u.slots)) ∷ []) (same-network u))
     ∙ ap (λ i. map kind_of w.network ++ MadeData (numbers_from i (length v.slots - length w.slots)) ∷ []) (sym place)
 
-place-same : (setup : Setup) (w : World) (tsn : ℕ) → Sane setup w → Messages.place_of w tsn ≡ place_in setup tsn
+place-same : (setup : Setup) (w : LinkRecord) (tsn : ℕ) → Sane setup w → Messages.place_of w tsn ≡ place_in setup tsn
 place-same setup w tsn g = ap (λ s. place_in s tsn) g.setup_is
 
-made-step : (setup : Setup) (w : World) (e : Event) → IsSetup setup → Sane setup w → map kind_of (after w e).network ≡ map kind_of w.network ++ made_by setup e (reply_to w e)
-made-step setup w (E.Open s) is g = kinds-same w (Changes.opened w s) refl
-made-step setup w (E.Mode s unordered reliability value) is g = kinds-same w (Changes.mode_set w s unordered reliability value) refl
-made-step setup w (E.Write s ppi bytes) is g = kinds-same w (Changes.wrote w s ppi bytes) (network-written w s ppi bytes)
-made-step setup w (E.Start now) is g = kinds-same w (Changes.started w now) refl
+made-step : (setup : Setup) (w : LinkRecord) (e : Event) → IsSetup setup → Sane setup w → map kind_of (after w e).network ≡ map kind_of w.network ++ made_by setup e (reply_to w e)
+made-step setup w (E.Open s) is g = kinds-same w (Changes.after_open w s) refl
+made-step setup w (E.Mode s unordered reliability value) is g = kinds-same w (Changes.after_mode w s unordered reliability value) refl
+made-step setup w (E.Write s ppi bytes) is g = kinds-same w (Changes.after_write w s ppi bytes) (network-written w s ppi bytes)
+made-step setup w (E.Start now) is g = kinds-same w (Changes.after_start w now) refl
 made-step setup w (E.Send now) is g = made-sent setup w now (Messages.front w) is g
-made-step setup w (E.Resend tsn) is g = kinds-more w (Changes.resent w tsn) (W.Data (Messages.place_of w tsn ∷ [])) refl ∙ ap (λ p. map kind_of w.network ++ MadeData (p ∷ []) ∷ []) (place-same setup w tsn g)
-made-step setup w (E.Expire now) is g = kinds-same w (Changes.expired w (Changes.expiring w now)) (network-expired w (Changes.expiring w now))
-made-step setup w (E.Tail now) is g = kinds-same w (Changes.tail_abandoned w (Changes.tailing w now)) (network-tail w (Changes.tailing w now))
-made-step setup w (E.Late now) is g = kinds-same w (Changes.late_abandoned w now) (network-late (Changes.late_messages w now) w)
-made-step setup w (E.Abandon tsn) is g = kinds-same w (Changes.abandoned w (Messages.message_of w (Messages.place_of w tsn))) (network-abandoned w (Messages.message_of w (Messages.place_of w tsn)))
+made-step setup w (E.Resend tsn) is g = kinds-more w (Changes.after_resend w tsn) (W.Data (Messages.place_of w tsn ∷ [])) refl ∙ ap (λ p. map kind_of w.network ++ MadeData (p ∷ []) ∷ []) (place-same setup w tsn g)
+made-step setup w (E.Expire now) is g = kinds-same w (Changes.after_expire w (Changes.expiring w now)) (network-expired w (Changes.expiring w now))
+made-step setup w (E.Tail now) is g = kinds-same w (Changes.after_tail w (Changes.tailing w now)) (network-tail w (Changes.tailing w now))
+made-step setup w (E.Late now) is g = kinds-same w (Changes.after_late w now) (network-late (Changes.late_messages w now) w)
+made-step setup w (E.Abandon tsn) is g = kinds-same w (Changes.after_abandon w (Messages.message_of w (Messages.place_of w tsn))) (network-abandoned w (Messages.message_of w (Messages.place_of w tsn)))
 made-step setup w (E.Skip upto names) is g = kinds-more w (after w (E.Skip upto names)) (Forward (Messages.place_of w upto) names.items) refl ∙ ap (λ p. map kind_of w.network ++ MadeForward p names.items ∷ []) (place-same setup w upto g)
 made-step setup w (E.Ack credit) is g = map-append kind_of w.network _
-made-step setup w (E.Arrive k) is g = kinds-same w (Changes.datagram_received w (slice_get w.network k)) (same-received w (slice_get w.network k)).network
-made-step setup w (E.Acked k) is g = kinds-same w (Changes.sack_taken w (slice_get w.network k)) (same-taken w (slice_get w.network k)).network
-made-step setup w (E.Read s) is g = kinds-same w (Changes.read_from w s) (same-read w s (Receiver.next_read w s)).network
+made-step setup w (E.Arrive k) is g = kinds-same w (Changes.after_arrive w (slice_get w.network k)) (same-received w (slice_get w.network k)).network
+made-step setup w (E.Acked k) is g = kinds-same w (Changes.after_acked w (slice_get w.network k)) (same-taken w (slice_get w.network k)).network
+made-step setup w (E.Read s) is g = kinds-same w (Changes.after_reading w s) (same-read w s (Receiver.next_read w s)).network
 
-pub made-run : (setup : Setup) (h : History) → IsSetup setup → IsRun setup h → map kind_of (world_of setup h).network ≡ made_in setup h
+pub made-run : (setup : Setup) (h : History) → IsSetup setup → IsRun setup h → map kind_of (record_of setup h).network ≡ made_in setup h
 made-run setup [] is run = refl
 made-run setup (entry ∷ older) is run =
-    made-step setup (world_of setup older) entry.0 is (sane-run setup older run.1.1)
-    ∙ ap (λ l. l ++ made_by setup entry.0 (reply_to (world_of setup older) entry.0)) (made-run setup older is run.1.1)
+    made-step setup (record_of setup older) entry.0 is (sane-run setup older run.1.1)
+    ∙ ap (λ l. l ++ made_by setup entry.0 (reply_to (record_of setup older) entry.0)) (made-run setup older is run.1.1)
     ∙ ap (λ r. made_in setup older ++ made_by setup entry.0 r) (sym run.1.0)
 
 pub network_is_made : OnEveryRun NetworkIsMade

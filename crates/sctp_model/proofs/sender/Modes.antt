@@ -2,20 +2,20 @@ use Rattle.std.proofs.Common.{◌≡◌, ℕ, zero, suc, ◌+◌, Bool, true, fa
 use Rattle.std.specs.Prelude.{if◌then◌else◌, ◌==◌, not, slice_get, find, unwrap_or}
 use Rattle.std.proofs.lemmas.List.{map-append}
 use Rattle.std.proofs.lemmas.Bool.Decides.{nat_tests}
-use Rattle.sctp_list_lemmas.specs.Lists.{changed}
+use Rattle.sctp_list_lemmas.specs.Lists.{change_at}
 use Rattle.sctp_list_lemmas.proofs.More.{same_test}
 use Rattle.sctp_list_lemmas.proofs.Cases.{negated}
 use Rattle.sctp_model.specs.declared.event.Event.{Event}
 use Rattle.sctp_model.specs.declared.event.Event.TheVariants as E
 use Rattle.sctp_model.specs.declared.event.LinkRefusal.TheVariants.{StreamUnknown, StreamOpen}
 use Rattle.sctp_model.specs.Reply.{Reply}
-use Rattle.sctp_model.specs.World.{Setup, StreamRecord, Message, Datagram, Data, Forward, Sack, World}
+use Rattle.sctp_model.specs.LinkRecord.{Setup, StreamRecord, Message, Datagram, Data, Forward, Sack, LinkRecord}
 use Rattle.sctp_model.specs.Messages
 use Rattle.sctp_model.specs.Messages.{stream_of}
 use Rattle.sctp_model.specs.Receiver.{next_read, is_new}
 use Rattle.sctp_model.specs.Changes
 use Rattle.sctp_model.specs.Log.{Mode, mode_in, mode_for, modes_in}
-use Rattle.sctp_model.specs.Steps.{History, world_of, IsRun, refusal_of, after}
+use Rattle.sctp_model.specs.Steps.{History, record_of, IsRun, refusal_of, after}
 use Rattle.sctp_model.specs.Laws.{OnEveryRun, ModesAreKept, mode_of}
 use Rattle.sctp_model.proofs.sender.SenderRun.{sane-run, fold-keeps, unless-holds, written_as}
 use Rattle.sctp_model.proofs.sender.Moves
@@ -30,30 +30,30 @@ use Rattle.sctp_model.proofs.sender.Lifetimes.{messages-received, messages-taken
 abbrev mode_now : StreamRecord → Mode
 mode_now r = record { unordered = r.unordered; reliability = r.reliability; value = r.value }
 
-abbrev ModesAre : History → World → Type 0
+abbrev ModesAre : History → LinkRecord → Type 0
 ModesAre h w = (s : ℕ) → mode_now (stream_of w s) ≡ mode_in h s
 
 -- streams with the same modes
-abbrev SameModes : World → World → Type 0
+abbrev SameModes : LinkRecord → LinkRecord → Type 0
 SameModes w v = (s : ℕ) → mode_now (stream_of v s) ≡ mode_now (stream_of w s)
 
-modes-changed : (w : World) (s : ℕ) (f : StreamRecord → StreamRecord) → ((r : StreamRecord) → (f r).stream ≡ r.stream) → ((r : StreamRecord) → mode_now (f r) ≡ mode_now r) → SameModes w (Changes.stream_changed w s f)
+modes-changed : (w : LinkRecord) (s : ℕ) (f : StreamRecord → StreamRecord) → ((r : StreamRecord) → (f r).stream ≡ r.stream) → ((r : StreamRecord) → mode_now (f r) ≡ mode_now r) → SameModes w (Changes.stream_changed w s f)
 modes-changed w s f a b t = field-kept mode_now (λ r. if r.stream == s then f r else r) (either-keeps (λ r. r.stream) f a s) (either-keeps mode_now f b s) w t
 
-modes-slot : (w : World) (p : ℕ) → SameModes w (Changes.slot_received w p)
+modes-slot : (w : LinkRecord) (p : ℕ) → SameModes w (Changes.receive_slot w p)
 modes-slot w p = step (is_new w p)
   where
-    noted : (v : World) (n : ℕ) (b : Bool) → SameModes v (if b then Changes.stream_changed v (Messages.message_at v n).stream (Changes.with_whole n) else v)
-    noted v n true = modes-changed v (Messages.message_at v n).stream (Changes.with_whole n) (λ r. refl) (λ r. refl)
+    noted : (v : LinkRecord) (n : ℕ) (b : Bool) → SameModes v (if b then Changes.stream_changed v (Messages.message_at v n).stream (Changes.with_complete n) else v)
+    noted v n true = modes-changed v (Messages.message_at v n).stream (Changes.with_complete n) (λ r. refl) (λ r. refl)
     noted v n false = λ t. refl
 
-    step : (b : Bool) → SameModes w (if b then Changes.whole_noted (record w { slots = changed Changes.mark_arrived p w.slots }) (Messages.message_of w p) else record w { duplicates = w.duplicates ++ p ∷ [] })
-    step true = noted (record w { slots = changed Changes.mark_arrived p w.slots }) (Messages.message_of w p) (Changes.becomes_whole (record w { slots = changed Changes.mark_arrived p w.slots }) (Messages.message_of w p))
+    step : (b : Bool) → SameModes w (if b then Changes.note_completion (record w { slots = change_at Changes.mark_arrived p w.slots }) (Messages.message_of w p) else record w { duplicates = w.duplicates ++ p ∷ [] })
+    step true = noted (record w { slots = change_at Changes.mark_arrived p w.slots }) (Messages.message_of w p) (Changes.becomes_complete (record w { slots = change_at Changes.mark_arrived p w.slots }) (Messages.message_of w p))
     step false = λ t. refl
 
-modes-received : (w : World) (o : Option Datagram) → SameModes w (Changes.datagram_received w o)
+modes-received : (w : LinkRecord) (o : Option Datagram) → SameModes w (Changes.after_arrive w o)
 modes-received w None = λ t. refl
-modes-received w (Some (Data ps)) = fold-keeps (SameModes w) Changes.slot_received (λ v p e t. modes-slot v p t ∙ e t) ps w (λ t. refl)
+modes-received w (Some (Data ps)) = fold-keeps (SameModes w) Changes.receive_slot (λ v p e t. modes-slot v p t ∙ e t) ps w (λ t. refl)
 modes-received w (Some (Forward upto names)) = step (Changes.skip_counts w upto)
   where
     step : (b : Bool) → SameModes w (if b then record w { skipped = upto + 1; streams = map (Changes.named_by w names) w.streams } else w)
@@ -61,17 +61,17 @@ modes-received w (Some (Forward upto names)) = step (Changes.skip_counts w upto)
     step false = λ t. refl
 modes-received w (Some (Sack r)) = λ t. refl
 
-modes-taken : (w : World) (o : Option Datagram) → SameModes w (Changes.sack_taken w o)
+modes-taken : (w : LinkRecord) (o : Option Datagram) → SameModes w (Changes.after_acked w o)
 modes-taken w None = λ t. refl
 modes-taken w (Some (Data ps)) = λ t. refl
 modes-taken w (Some (Forward upto names)) = λ t. refl
 modes-taken w (Some (Sack r)) = λ t. refl
 
-modes-read : (w : World) (s : ℕ) (o : Option ℕ) → SameModes w (Changes.read_of w s o)
+modes-read : (w : LinkRecord) (s : ℕ) (o : Option ℕ) → SameModes w (Changes.read_of w s o)
 modes-read w s None = λ t. refl
 modes-read w s (Some n) = modes-changed (Changes.message_changed w n Changes.mark_read) s Changes.without_first (λ r. refl) (λ r. refl)
 
-modes-quiet : (w v : World) → Moves.Quiet w v → SameModes w v
+modes-quiet : (w v : LinkRecord) → Moves.Quiet w v → SameModes w v
 modes-quiet w v q t = ap (λ rs. mode_now (unwrap_or (find (λ r. r.stream == t) rs) (Messages.no_stream t))) q.streams
 
 -- ## The modes of messages
@@ -80,85 +80,85 @@ modes-mapped : (f : Message → Message) → ((m : Message) → mode_of (f m) �
 modes-mapped f keeps [] = refl
 modes-mapped f keeps (m ∷ ms) = ap (λ y. y ∷ map mode_of (map f ms)) (keeps m) ∙ ap (λ l. mode_of m ∷ l) (modes-mapped f keeps ms)
 
-modes-flagged : (f : Message → Message) → ((m : Message) → mode_of (f m) ≡ mode_of m) → (i : ℕ) (ms : List Message) → map mode_of (changed f i ms) ≡ map mode_of ms
+modes-flagged : (f : Message → Message) → ((m : Message) → mode_of (f m) ≡ mode_of m) → (i : ℕ) (ms : List Message) → map mode_of (change_at f i ms) ≡ map mode_of ms
 modes-flagged f keeps i [] = refl
 modes-flagged f keeps zero (m ∷ ms) = ap (λ y. y ∷ map mode_of ms) (keeps m)
 modes-flagged f keeps (suc i) (m ∷ ms) = ap (λ l. mode_of m ∷ l) (modes-flagged f keeps i ms)
 
-abbrev kept_modes : World → List Mode
+abbrev kept_modes : LinkRecord → List Mode
 kept_modes w = map mode_of w.messages
 
-kept-abandoned : (w : World) (n : ℕ) → kept_modes (Changes.abandoned w n) ≡ kept_modes w
+kept-abandoned : (w : LinkRecord) (n : ℕ) → kept_modes (Changes.after_abandon w n) ≡ kept_modes w
 kept-abandoned w n = step (Messages.is_partially_sent w n)
   where
     step : (b : Bool) → kept_modes (Changes.message_changed (if b then Changes.with_slot w n true else w) n Changes.mark_abandoned) ≡ kept_modes w
     step true = modes-flagged Changes.mark_abandoned (λ m. refl) n w.messages
     step false = modes-flagged Changes.mark_abandoned (λ m. refl) n w.messages
 
-kept-tail : (w : World) (o : Option ℕ) → kept_modes (Changes.tail_abandoned w o) ≡ kept_modes w
+kept-tail : (w : LinkRecord) (o : Option ℕ) → kept_modes (Changes.after_tail w o) ≡ kept_modes w
 kept-tail w None = refl
 kept-tail w (Some n) = kept-abandoned w n
 
-kept-expired : (w : World) (o : Option ℕ) → kept_modes (Changes.expired w o) ≡ kept_modes w
+kept-expired : (w : LinkRecord) (o : Option ℕ) → kept_modes (Changes.after_expire w o) ≡ kept_modes w
 kept-expired w None = refl
 kept-expired w (Some n) = modes-flagged Changes.mark_expired (λ m. refl) n w.messages
 
-kept-read : (w : World) (s : ℕ) (o : Option ℕ) → kept_modes (Changes.read_of w s o) ≡ kept_modes w
+kept-read : (w : LinkRecord) (s : ℕ) (o : Option ℕ) → kept_modes (Changes.read_of w s o) ≡ kept_modes w
 kept-read w s None = refl
 kept-read w s (Some n) = modes-flagged Changes.mark_read (λ m. refl) n w.messages
 
-kept-sent : (w : World) (now : ℕ) (o : Option ℕ) → kept_modes (Changes.sent_from (Changes.started w now) o) ≡ kept_modes w
+kept-sent : (w : LinkRecord) (now : ℕ) (o : Option ℕ) → kept_modes (Changes.send_from (Changes.after_start w now) o) ≡ kept_modes w
 kept-sent w now None = modes-mapped (Changes.start_lifetime now) (λ m. refl) w.messages
-kept-sent w now (Some n) = ap (map mode_of) (messages-sent (Changes.started w now)) ∙ modes-mapped (Changes.start_lifetime now) (λ m. refl) w.messages
+kept-sent w now (Some n) = ap (map mode_of) (messages-sent (Changes.after_start w now)) ∙ modes-mapped (Changes.start_lifetime now) (λ m. refl) w.messages
 
 -- ## Each event
 
-record Moded (h : History) (w : World) : Type 0 where
+record Moded (h : History) (w : LinkRecord) : Type 0 where
   streams : ModesAre h w
   messages : kept_modes w ≡ modes_in h
 
-moded-step : (setup : Setup) (older : History) (e : Event) (r : Reply) → refusal_of (world_of setup older) e ≡ None → IsRun setup older → Moded older (world_of setup older) → Moded ((e, r) ∷ older) (after (world_of setup older) e)
+moded-step : (setup : Setup) (older : History) (e : Event) (r : Reply) → refusal_of (record_of setup older) e ≡ None → IsRun setup older → Moded older (record_of setup older) → Moded ((e, r) ∷ older) (after (record_of setup older) e)
 moded-step setup older e r ok run m = by e ok
   where
-    quiet : (v : World) → Moves.Quiet (world_of setup older) v → (s : ℕ) → mode_now (stream_of v s) ≡ mode_in older s
-    quiet v q s = modes-quiet (world_of setup older) v q s ∙ m.streams s
+    quiet : (v : LinkRecord) → Moves.Quiet (record_of setup older) v → (s : ℕ) → mode_now (stream_of v s) ≡ mode_in older s
+    quiet v q s = modes-quiet (record_of setup older) v q s ∙ m.streams s
 
     swap : (a b : ℕ) → (a == b) ≡ (b == a)
     swap a b = same_test (a == b) (b == a) (λ e. grind (arith, nat_tests)) (λ e. grind (arith, nat_tests))
 
-    by : (e : Event) → refusal_of (world_of setup older) e ≡ None → Moded ((e, r) ∷ older) (after (world_of setup older) e)
+    by : (e : Event) → refusal_of (record_of setup older) e ≡ None → Moded ((e, r) ∷ older) (after (record_of setup older) e)
     by (E.Open s) ok = record {
-      streams = λ t. ap mode_now (find-more s t (world_of setup older).streams (negated (Messages.is_open (world_of setup older) s) (unless-holds (not (Messages.is_open (world_of setup older) s)) StreamOpen None ok).0)) ∙ m.streams t;
+      streams = λ t. ap mode_now (find-more s t (record_of setup older).streams (negated (Messages.is_open (record_of setup older) s) (unless-holds (not (Messages.is_open (record_of setup older) s)) StreamOpen None ok).0)) ∙ m.streams t;
       messages = m.messages;
     }
     by (E.Mode s unordered reliability value) ok = record {
       streams = λ t.
           let new : Mode = record { unordered = unordered; reliability = reliability; value = value } in
-          field-changed mode_now (λ y. new) (Changes.with_mode unordered reliability value) (λ r. refl) (λ r. refl) (world_of setup older) s t (unless-holds (Messages.is_open (world_of setup older) s) StreamUnknown None ok).0
-          ∙ ap (λ b. if b then new else mode_now (stream_of (world_of setup older) t)) (swap t s) ∙ ap (λ y. if s == t then new else y) (m.streams t);
+          field-changed mode_now (λ y. new) (Changes.with_mode unordered reliability value) (λ r. refl) (λ r. refl) (record_of setup older) s t (unless-holds (Messages.is_open (record_of setup older) s) StreamUnknown None ok).0
+          ∙ ap (λ b. if b then new else mode_now (stream_of (record_of setup older) t)) (swap t s) ∙ ap (λ y. if s == t then new else y) (m.streams t);
       messages = m.messages;
     }
     by (E.Write s ppi []) ok = record { streams = m.streams; messages = m.messages }
     by (E.Write s ppi (b ∷ bs)) ok = record {
       streams = m.streams;
-      messages = map-append mode_of (world_of setup older).messages (written_as (world_of setup older) s ppi (b ∷ bs) ∷ []) ∙ ap (λ l. l ++ mode_for ppi (mode_now (stream_of (world_of setup older) s)) ∷ []) m.messages ∙ ap (λ y. modes_in older ++ mode_for ppi y ∷ []) (m.streams s);
+      messages = map-append mode_of (record_of setup older).messages (written_as (record_of setup older) s ppi (b ∷ bs) ∷ []) ∙ ap (λ l. l ++ mode_for ppi (mode_now (stream_of (record_of setup older) s)) ∷ []) m.messages ∙ ap (λ y. modes_in older ++ mode_for ppi y ∷ []) (m.streams s);
     }
-    by (E.Start now) ok = record { streams = m.streams; messages = kept-sent (world_of setup older) now None ∙ m.messages }
-    by (E.Send now) ok = record { streams = quiet (after (world_of setup older) (E.Send now)) (Moves.quiet-sent setup (world_of setup older) now (Messages.front (world_of setup older)) (sane-run setup older run)); messages = kept-sent (world_of setup older) now (Messages.front (world_of setup older)) ∙ m.messages }
+    by (E.Start now) ok = record { streams = m.streams; messages = kept-sent (record_of setup older) now None ∙ m.messages }
+    by (E.Send now) ok = record { streams = quiet (after (record_of setup older) (E.Send now)) (Moves.quiet-sent setup (record_of setup older) now (Messages.front (record_of setup older)) (sane-run setup older run)); messages = kept-sent (record_of setup older) now (Messages.front (record_of setup older)) ∙ m.messages }
     by (E.Resend a) ok = record { streams = m.streams; messages = m.messages }
-    by (E.Expire now) ok = record { streams = quiet (after (world_of setup older) (E.Expire now)) (Moves.quiet-expire setup (world_of setup older) now (Messages.front (world_of setup older)) (sane-run setup older run)); messages = kept-expired (world_of setup older) (Changes.expiring (world_of setup older) now) ∙ m.messages }
-    by (E.Tail now) ok = record { streams = quiet (after (world_of setup older) (E.Tail now)) (Moves.quiet-tail setup (world_of setup older) (Changes.tailing (world_of setup older) now) (sane-run setup older run)); messages = kept-tail (world_of setup older) (Changes.tailing (world_of setup older) now) ∙ m.messages }
-    by (E.Late now) ok = record { streams = quiet (after (world_of setup older) (E.Late now)) (Moves.quiet-lates setup (world_of setup older) now (sane-run setup older run)); messages = fold-keeps (λ v. kept_modes v ≡ kept_modes (world_of setup older)) Changes.abandoned (λ v n e. kept-abandoned v n ∙ e) (Changes.late_messages (world_of setup older) now) (world_of setup older) refl ∙ m.messages }
-    by (E.Abandon tsn) ok = record { streams = quiet (after (world_of setup older) (E.Abandon tsn)) (Moves.quiet-abandoned setup (world_of setup older) (Messages.message_of (world_of setup older) (Messages.place_of (world_of setup older) tsn)) (sane-run setup older run)); messages = kept-abandoned (world_of setup older) (Messages.message_of (world_of setup older) (Messages.place_of (world_of setup older) tsn)) ∙ m.messages }
+    by (E.Expire now) ok = record { streams = quiet (after (record_of setup older) (E.Expire now)) (Moves.quiet-expire setup (record_of setup older) now (Messages.front (record_of setup older)) (sane-run setup older run)); messages = kept-expired (record_of setup older) (Changes.expiring (record_of setup older) now) ∙ m.messages }
+    by (E.Tail now) ok = record { streams = quiet (after (record_of setup older) (E.Tail now)) (Moves.quiet-tail setup (record_of setup older) (Changes.tailing (record_of setup older) now) (sane-run setup older run)); messages = kept-tail (record_of setup older) (Changes.tailing (record_of setup older) now) ∙ m.messages }
+    by (E.Late now) ok = record { streams = quiet (after (record_of setup older) (E.Late now)) (Moves.quiet-lates setup (record_of setup older) now (sane-run setup older run)); messages = fold-keeps (λ v. kept_modes v ≡ kept_modes (record_of setup older)) Changes.after_abandon (λ v n e. kept-abandoned v n ∙ e) (Changes.late_messages (record_of setup older) now) (record_of setup older) refl ∙ m.messages }
+    by (E.Abandon tsn) ok = record { streams = quiet (after (record_of setup older) (E.Abandon tsn)) (Moves.quiet-abandoned setup (record_of setup older) (Messages.message_of (record_of setup older) (Messages.place_of (record_of setup older) tsn)) (sane-run setup older run)); messages = kept-abandoned (record_of setup older) (Messages.message_of (record_of setup older) (Messages.place_of (record_of setup older) tsn)) ∙ m.messages }
     by (E.Skip a b) ok = record { streams = m.streams; messages = m.messages }
     by (E.Ack a) ok = record { streams = m.streams; messages = m.messages }
-    by (E.Arrive k) ok = record { streams = λ t. modes-received (world_of setup older) (slice_get (world_of setup older).network k) t ∙ m.streams t; messages = ap (map mode_of) (messages-received (world_of setup older) (slice_get (world_of setup older).network k)) ∙ m.messages }
-    by (E.Acked k) ok = record { streams = λ t. modes-taken (world_of setup older) (slice_get (world_of setup older).network k) t ∙ m.streams t; messages = ap (map mode_of) (messages-taken (world_of setup older) (slice_get (world_of setup older).network k)) ∙ m.messages }
-    by (E.Read s) ok = record { streams = λ t. modes-read (world_of setup older) s (next_read (world_of setup older) s) t ∙ m.streams t; messages = kept-read (world_of setup older) s (next_read (world_of setup older) s) ∙ m.messages }
+    by (E.Arrive k) ok = record { streams = λ t. modes-received (record_of setup older) (slice_get (record_of setup older).network k) t ∙ m.streams t; messages = ap (map mode_of) (messages-received (record_of setup older) (slice_get (record_of setup older).network k)) ∙ m.messages }
+    by (E.Acked k) ok = record { streams = λ t. modes-taken (record_of setup older) (slice_get (record_of setup older).network k) t ∙ m.streams t; messages = ap (map mode_of) (messages-taken (record_of setup older) (slice_get (record_of setup older).network k)) ∙ m.messages }
+    by (E.Read s) ok = record { streams = λ t. modes-read (record_of setup older) s (next_read (record_of setup older) s) t ∙ m.streams t; messages = kept-read (record_of setup older) s (next_read (record_of setup older) s) ∙ m.messages }
 
 pub modes_are_kept : OnEveryRun ModesAreKept
 modes_are_kept setup h is run = (all h run).messages
   where
-    all : (h : History) → IsRun setup h → Moded h (world_of setup h)
+    all : (h : History) → IsRun setup h → Moded h (record_of setup h)
     all [] run = record { streams = λ s. refl; messages = refl }
     all (entry ∷ older) run = moded-step setup older entry.0 entry.1 run.0 run.1.1 (all older run.1.1)

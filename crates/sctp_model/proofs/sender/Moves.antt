@@ -3,9 +3,9 @@ use Rattle.std.proofs.Common.{◌≡◌, ℕ, ◌-◌, ◌<◌, ◌≤◌, Bool,
 use Rattle.std.specs.Prelude.{◌⊎◌, if◌then◌else◌, ◌==◌, ◌&&◌, fold}
 use Rattle.std.proofs.lemmas.Bool.{cases_lt}
 use Rattle.sctp_list_lemmas.proofs.More.{length-changed, changed-keeps}
-use Rattle.sctp_list_lemmas.specs.Lists.{changed}
+use Rattle.sctp_list_lemmas.specs.Lists.{change_at}
 use Rattle.sctp_chunks.specs.declared.chunk.chunk_payload_data.PayloadProtocolIdentifier.{PayloadProtocolIdentifier}
-use Rattle.sctp_model.specs.World.{Setup, Message, Slot, Datagram, Data, World}
+use Rattle.sctp_model.specs.LinkRecord.{Setup, Message, Slot, Datagram, Data, LinkRecord}
 use Rattle.sctp_model.specs.Messages
 use Rattle.sctp_model.specs.Receiver.{arrived_at}
 use Rattle.sctp_model.specs.Changes
@@ -19,7 +19,7 @@ use Rattle.sctp_list_lemmas.proofs.Cases.{by_same}
 use Rattle.sctp_list_lemmas.proofs.Getting.{get-beyond, get-snoc_old, get-snoc_new, get-snoc, get-map, length-mapped}
 
 -- what a sender's change leaves
-pub record Quiet (w v : World) : Type 0 where
+pub record Quiet (w v : LinkRecord) : Type 0 where
   pub setup : v.setup ≡ w.setup
   pub streams : v.streams ≡ w.streams
   pub skipped : v.skipped ≡ w.skipped
@@ -33,7 +33,7 @@ pub record Quiet (w v : World) : Type 0 where
   pub unread : (n : ℕ) → length w.messages ≤ n → n < length v.messages → (Messages.message_at v n).read ≡ false
   pub grows : Grows (shape w) (shape v)
 
-pub quiet-none : (w : World) → Quiet w w
+pub quiet-none : (w : LinkRecord) → Quiet w w
 quiet-none w = record {
   setup = refl;
   streams = refl;
@@ -49,7 +49,7 @@ quiet-none w = record {
   grows = grows-same (shape w) (shape w) refl;
 }
 
-pub quiet-then : (setup : Setup) (w v u : World) → Sane setup w → Quiet w v → Quiet v u → Quiet w u
+pub quiet-then : (setup : Setup) (w v u : LinkRecord) → Sane setup w → Quiet w v → Quiet v u → Quiet w u
 quiet-then setup w v u g f h = record {
   setup = h.setup ∙ f.setup;
   streams = h.streams ∙ f.streams;
@@ -75,7 +75,7 @@ quiet-then setup w v u g f h = record {
 
 -- ## Each change
 
-quiet-messages : (w : World) (ms : List Message) → length ms ≡ length w.messages → ((n : ℕ) → (Messages.message_at (record w { messages = ms }) n).read ≡ (Messages.message_at w n).read) → Grows (shape w) (shape (record w { messages = ms })) → Quiet w (record w { messages = ms })
+quiet-messages : (w : LinkRecord) (ms : List Message) → length ms ≡ length w.messages → ((n : ℕ) → (Messages.message_at (record w { messages = ms }) n).read ≡ (Messages.message_at w n).read) → Grows (shape w) (shape (record w { messages = ms })) → Quiet w (record w { messages = ms })
 quiet-messages w ms l r g = record {
   setup = refl;
   streams = refl;
@@ -91,13 +91,13 @@ quiet-messages w ms l r g = record {
   grows = g;
 }
 
-pub quiet-started : (w : World) (now : ℕ) → Quiet w (Changes.started w now)
-quiet-started w now = quiet-messages w (map (Changes.start_lifetime now) w.messages) (length-mapped (Changes.start_lifetime now) w.messages) (λ n. get-map (Changes.start_lifetime now) (λ m. m.read) (λ m. refl) n w.messages Messages.no_message) (grows-same (shape w) (shape (Changes.started w now)) (Shapes.shape-started w now))
+pub quiet-started : (w : LinkRecord) (now : ℕ) → Quiet w (Changes.after_start w now)
+quiet-started w now = quiet-messages w (map (Changes.start_lifetime now) w.messages) (length-mapped (Changes.start_lifetime now) w.messages) (λ n. get-map (Changes.start_lifetime now) (λ m. m.read) (λ m. refl) n w.messages Messages.no_message) (grows-same (shape w) (shape (Changes.after_start w now)) (Shapes.shape-started w now))
 
-quiet-flagged : (w : World) (n : ℕ) (f : Message → Message) → ((m : Message) → (f m).read ≡ m.read) → Grows (shape w) (shape (Changes.message_changed w n f)) → Quiet w (Changes.message_changed w n f)
-quiet-flagged w n f keeps g = quiet-messages w (changed f n w.messages) (length-changed f n w.messages) (λ k. changed-keeps f (λ m. m.read) keeps n k w.messages Messages.no_message) g
+quiet-flagged : (w : LinkRecord) (n : ℕ) (f : Message → Message) → ((m : Message) → (f m).read ≡ m.read) → Grows (shape w) (shape (Changes.message_changed w n f)) → Quiet w (Changes.message_changed w n f)
+quiet-flagged w n f keeps g = quiet-messages w (change_at f n w.messages) (length-changed f n w.messages) (λ k. changed-keeps f (λ m. m.read) keeps n k w.messages Messages.no_message) g
 
-quiet-slot : (w : World) (n : ℕ) (mark : Bool) → Grows (shape w) (shape (Changes.with_slot w n mark)) → Quiet w (Changes.with_slot w n mark)
+quiet-slot : (w : LinkRecord) (n : ℕ) (mark : Bool) → Grows (shape w) (shape (Changes.with_slot w n mark)) → Quiet w (Changes.with_slot w n mark)
 quiet-slot w n mark g = record {
   setup = refl;
   streams = refl;
@@ -122,17 +122,17 @@ quiet-slot w n mark g = record {
     same true c e = sym e
     same false c e = refl
 
-pub quiet-takes : (setup : Setup) (w : World) → Sane setup w → Quiet w (Changes.fragment_sent w)
+pub quiet-takes : (setup : Setup) (w : LinkRecord) → Sane setup w → Quiet w (Changes.send_fragment w)
 quiet-takes setup w g = step (Messages.front w) refl
   where
-    step : (o : Option ℕ) → Messages.front w ≡ o → Quiet w (Changes.fragment_of_sent w o)
+    step : (o : Option ℕ) → Messages.front w ≡ o → Quiet w (Changes.send_fragment_of w o)
     step None e = quiet-none w
     step (Some n) e = quiet-slot w n false (grows-by (shape w) (shape (Changes.with_slot w n false)) (slotted (shape w) n false) (Shapes.shape-slot w n false) (grows-takes (shape w) n (front-takes (shape w) n g.sender e)))
 
-pub quiet-abandoned : (setup : Setup) (w : World) (n : ℕ) → Sane setup w → Quiet w (Changes.abandoned w n)
+pub quiet-abandoned : (setup : Setup) (w : LinkRecord) (n : ℕ) → Sane setup w → Quiet w (Changes.after_abandon w n)
 quiet-abandoned setup w n g = step (Messages.is_partially_sent w n) refl
   where
-    joined : (v : World) → Quiet w v → Grows (shape w) (shape (Changes.message_changed v n Changes.mark_abandoned)) → Quiet w (Changes.message_changed v n Changes.mark_abandoned)
+    joined : (v : LinkRecord) → Quiet w v → Grows (shape w) (shape (Changes.message_changed v n Changes.mark_abandoned)) → Quiet w (Changes.message_changed v n Changes.mark_abandoned)
     joined v q grown = record {
       setup = q.setup;
       streams = q.streams;
@@ -156,10 +156,10 @@ quiet-abandoned setup w n g = step (Messages.is_partially_sent w n) refl
         (grows-by (shape w) (shape (Changes.message_changed (Changes.with_slot w n true) n Changes.mark_abandoned)) (abandoned_at (slotted (shape w) n true) n) (Shapes.shape-abandoned (Changes.with_slot w n true) n ∙ ap (λ y. abandoned_at y n) (Shapes.shape-slot w n true)) (grows-marked (shape w) n))
     step false e = joined w (quiet-none w) (grows-by (shape w) (shape (Changes.message_changed w n Changes.mark_abandoned)) (abandoned_at (shape w) n) (Shapes.shape-abandoned w n) (grows-abandoned (shape w) n))
 
-pub quiet-expired : (setup : Setup) (w : World) (n : ℕ) → Sane setup w → Messages.is_unsent w n ≡ true → Quiet w (Changes.message_changed w n Changes.mark_expired)
+pub quiet-expired : (setup : Setup) (w : LinkRecord) (n : ℕ) → Sane setup w → Messages.is_unsent w n ≡ true → Quiet w (Changes.message_changed w n Changes.mark_expired)
 quiet-expired setup w n g e = let u = of-unsent (shape w) n e in quiet-flagged w n Changes.mark_expired (λ m. refl) (grows-by (shape w) (shape (Changes.message_changed w n Changes.mark_expired)) (expired_at (shape w) n) (Shapes.shape-expired w n) (grows-expired (shape w) n g.sender u.none u.alive))
 
-pub quiet-written : (setup : Setup) (w : World) (s : ℕ) (ppi : PayloadProtocolIdentifier) (bytes : List ℕ) → Sane setup w → Quiet w (Changes.wrote w s ppi bytes)
+pub quiet-written : (setup : Setup) (w : LinkRecord) (s : ℕ) (ppi : PayloadProtocolIdentifier) (bytes : List ℕ) → Sane setup w → Quiet w (Changes.after_write w s ppi bytes)
 quiet-written setup w s ppi [] g = quiet-none w
 quiet-written setup w s ppi (b ∷ bs) g = record {
   setup = refl;
@@ -172,14 +172,14 @@ quiet-written setup w s ppi (b ∷ bs) g = record {
   acknowledged = λ p lt. refl;
   fresh = λ p a b. absurd (omega arith);
   read = λ n lt. ap (λ m. m.read) (get-snoc_old w.messages m n Messages.no_message (λ e. absurd (omega arith)));
-  unread = λ n a lt. let e : n ≡ length w.messages = omega (arith, length-append w.messages (m ∷ [])) in ap (λ q. (Messages.message_at (Changes.wrote w s ppi (b ∷ bs)) q).read) e ∙ ap (λ y. y.read) (get-snoc_new w.messages m Messages.no_message);
-  grows = grows-by (shape w) (shape (Changes.wrote w s ppi (b ∷ bs))) (written (shape w) (message_part m)) (Shapes.shape-written w m) (grows-written (shape w) (message_part m) g.sender);
+  unread = λ n a lt. let e : n ≡ length w.messages = omega (arith, length-append w.messages (m ∷ [])) in ap (λ q. (Messages.message_at (Changes.after_write w s ppi (b ∷ bs)) q).read) e ∙ ap (λ y. y.read) (get-snoc_new w.messages m Messages.no_message);
+  grows = grows-by (shape w) (shape (Changes.after_write w s ppi (b ∷ bs))) (written (shape w) (message_part m)) (Shapes.shape-written w m) (grows-written (shape w) (message_part m) g.sender);
 }
   where
     m : Message
     m = written_as w s ppi (b ∷ bs)
 
-pub quiet-datagram : (w v : World) (d : Datagram) → Quiet w v → Quiet w (Changes.with_datagram v d)
+pub quiet-datagram : (w v : LinkRecord) (d : Datagram) → Quiet w v → Quiet w (Changes.with_datagram v d)
 quiet-datagram w v d q = record {
   setup = q.setup;
   streams = q.streams;
@@ -197,41 +197,41 @@ quiet-datagram w v d q = record {
 
 -- ## Sends and late messages
 
-pub record Reached (setup : Setup) (w v : World) : Type 0 where
+pub record Reached (setup : Setup) (w v : LinkRecord) : Type 0 where
   pub sane : Sane setup v
   pub quiet : Quiet w v
 
-pub reached-more : (setup : Setup) (w : World) → Sane setup w → (v : World) → Reached setup w v → Reached setup w (Changes.fragment_sent v)
-reached-more setup w g v r = record { sane = sane-takes setup v r.sane; quiet = quiet-then setup w v (Changes.fragment_sent v) g r.quiet (quiet-takes setup v r.sane) }
+pub reached-more : (setup : Setup) (w : LinkRecord) → Sane setup w → (v : LinkRecord) → Reached setup w v → Reached setup w (Changes.send_fragment v)
+reached-more setup w g v r = record { sane = sane-takes setup v r.sane; quiet = quiet-then setup w v (Changes.send_fragment v) g r.quiet (quiet-takes setup v r.sane) }
 
-pub quiet-sent : (setup : Setup) (w : World) (now : ℕ) (o : Option ℕ) → Sane setup w → Quiet w (Changes.sent_from (Changes.started w now) o)
+pub quiet-sent : (setup : Setup) (w : LinkRecord) (now : ℕ) (o : Option ℕ) → Sane setup w → Quiet w (Changes.send_from (Changes.after_start w now) o)
 quiet-sent setup w now None g = quiet-started w now
 quiet-sent setup w now (Some n) g =
-    let u = Changes.started w now in
-    let first : Reached setup w (Changes.fragment_sent u) = reached-more setup w g u (record { sane = sane-started setup w now g; quiet = quiet-started w now }) in
-    let all : Reached setup w (Changes.fragments_sent u) = filled-keeps (Reached setup w) (reached-more setup w g) u.setup.limit (Changes.plus 12 (Changes.next_length u)) (Changes.fragment_sent u) first in
-    quiet-datagram w (Changes.fragments_sent u) (Data (numbers_from (length u.slots) (length (Changes.fragments_sent u).slots - length u.slots))) all.quiet
+    let u = Changes.after_start w now in
+    let first : Reached setup w (Changes.send_fragment u) = reached-more setup w g u (record { sane = sane-started setup w now g; quiet = quiet-started w now }) in
+    let all : Reached setup w (Changes.send_fragments u) = filled-keeps (Reached setup w) (reached-more setup w g) u.setup.limit (Changes.plus 12 (Changes.next_length u)) (Changes.send_fragment u) first in
+    quiet-datagram w (Changes.send_fragments u) (Data (numbers_from (length u.slots) (length (Changes.send_fragments u).slots - length u.slots))) all.quiet
 
-quiet-late : (setup : Setup) (ns : List ℕ) (w : World) → Sane setup w → AllSent w ns → Quiet w (fold Changes.abandoned w ns)
+quiet-late : (setup : Setup) (ns : List ℕ) (w : LinkRecord) → Sane setup w → AllSent w ns → Quiet w (fold Changes.after_abandon w ns)
 quiet-late setup [] w g a = quiet-none w
 quiet-late setup (n ∷ ns) w g a =
     let h = sane-abandoned setup w n g a.0 in
-    quiet-then setup w (Changes.abandoned w n) (fold Changes.abandoned (Changes.abandoned w n) ns) g (quiet-abandoned setup w n g) (quiet-late setup ns (Changes.abandoned w n) h (sent-all w n ns a.1))
+    quiet-then setup w (Changes.after_abandon w n) (fold Changes.after_abandon (Changes.after_abandon w n) ns) g (quiet-abandoned setup w n g) (quiet-late setup ns (Changes.after_abandon w n) h (sent-all w n ns a.1))
 
 -- ## The sender's events
 
-pub quiet-expire : (setup : Setup) (w : World) (now : ℕ) (o : Option ℕ) → Sane setup w → Quiet w (Changes.expired w (Changes.front_if w (λ n. Messages.is_unsent w n && Messages.is_past_deadline w now n) o))
+pub quiet-expire : (setup : Setup) (w : LinkRecord) (now : ℕ) (o : Option ℕ) → Sane setup w → Quiet w (Changes.after_expire w (Changes.front_if w (λ n. Messages.is_unsent w n && Messages.is_past_deadline w now n) o))
 quiet-expire setup w now None g = quiet-none w
 quiet-expire setup w now (Some n) g = step (Messages.is_unsent w n) (Messages.is_past_deadline w now n) refl
   where
-    step : (b c : Bool) → Messages.is_unsent w n ≡ b → Quiet w (Changes.expired w (if b && c then Some n else None))
+    step : (b c : Bool) → Messages.is_unsent w n ≡ b → Quiet w (Changes.after_expire w (if b && c then Some n else None))
     step true true e = quiet-expired setup w n g e
     step true false e = quiet-none w
     step false c e = quiet-none w
 
-pub quiet-tail : (setup : Setup) (w : World) (o : Option ℕ) → Sane setup w → Quiet w (Changes.tail_abandoned w o)
+pub quiet-tail : (setup : Setup) (w : LinkRecord) (o : Option ℕ) → Sane setup w → Quiet w (Changes.after_tail w o)
 quiet-tail setup w None g = quiet-none w
 quiet-tail setup w (Some n) g = quiet-abandoned setup w n g
 
-pub quiet-lates : (setup : Setup) (w : World) (now : ℕ) → Sane setup w → Quiet w (Changes.late_abandoned w now)
+pub quiet-lates : (setup : Setup) (w : LinkRecord) (now : ℕ) → Sane setup w → Quiet w (Changes.after_late w now)
 quiet-lates setup w now g = quiet-late setup (Changes.late_messages w now) w g (late-sent setup w now g)

@@ -4,8 +4,8 @@ use Rattle.std.specs.List.{list_any, list_all}
 use Rattle.std.proofs.Math.Path.{subst}
 use Rattle.std.proofs.lemmas.Bool.{cases_lt}
 use Rattle.std.proofs.lemmas.Bool.Decides.{nat_tests}
-use Rattle.sctp_list_lemmas.specs.Kept.{kept, always, numbers_from}
-use Rattle.sctp_list_lemmas.specs.Lists.{changed, pieces}
+use Rattle.sctp_list_lemmas.specs.Kept.{numbers_where, always, numbers_from}
+use Rattle.sctp_list_lemmas.specs.Lists.{change_at, pieces}
 use Rattle.sctp_list_lemmas.proofs.Passing.{length-kept-lt, length-kept-mono, kept-same}
 use Rattle.sctp_list_lemmas.proofs.More.{fails, not_both, both}
 use Rattle.sctp_chunks.specs.PayloadData.{Data}
@@ -13,14 +13,14 @@ use Rattle.sctp_chunks.specs.ChunkSet.{fresh}
 use Rattle.sctp_model.specs.declared.event.Event.{Event}
 use Rattle.sctp_model.specs.declared.event.Event.TheVariants as E
 use Rattle.sctp_model.specs.declared.event.LinkRefusal.TheVariants.{NotInFlight, SkipUnassigned, SkipNames}
-use Rattle.sctp_model.specs.World.{Setup, Datagram, Forward, Sack, World, start}
-use Rattle.sctp_model.specs.World as W
+use Rattle.sctp_model.specs.LinkRecord.{Setup, Datagram, Forward, Sack, LinkRecord, start}
+use Rattle.sctp_model.specs.LinkRecord as W
 use Rattle.sctp_model.specs.Messages
 use Rattle.sctp_model.specs.Receiver
 use Rattle.sctp_model.specs.Changes
 use Rattle.sctp_model.specs.Reports.{report_of}
 use Rattle.sctp_model.specs.Contents.{chunk_at, name_of, contents_of, contents_in, DataContents, ForwardContents, SackContents}
-use Rattle.sctp_model.specs.Steps.{History, world_of, IsRun, refusal_of, after, unless, can_name, is_ended, can_resend, skip_refusal}
+use Rattle.sctp_model.specs.Steps.{History, record_of, IsRun, refusal_of, after, unless, can_name, is_ended, can_resend, skip_refusal}
 use Rattle.sctp_model.specs.Laws.{OnEveryRun, NoTerminalChunkIsSent, DatagramsStay}
 use Rattle.sctp_model.proofs.sender.Shape.{Shape, MessagePart, shape, has, sent, parts, index, slotted}
 use Rattle.sctp_model.proofs.sender.Sender.{Sender, slot-old, slot-new}
@@ -39,46 +39,46 @@ use Rattle.sctp_list_lemmas.proofs.Tests.{all-out}
 
 -- ## Each event extends the record
 
-pub record Extends (w v : World) : Type 0 where
+pub record Extends (w v : LinkRecord) : Type 0 where
   pub setup : v.setup ≡ w.setup
   pub network : (rest : List Datagram) × (v.network ≡ w.network ++ rest)
   pub grows : Grows (shape w) (shape v)
 
-of-quiet : (w v : World) → Moves.Quiet w v → Extends w v
+of-quiet : (w v : LinkRecord) → Moves.Quiet w v → Extends w v
 of-quiet w v q = record { setup = q.setup; network = q.network; grows = q.grows }
 
 -- the receiver's events leave messages and slots
-pub record Same (w v : World) : Type 0 where
+pub record Same (w v : LinkRecord) : Type 0 where
   pub setup : v.setup ≡ w.setup
   pub network : v.network ≡ w.network
   pub shape_is : shape v ≡ shape w
 
-extends-same : (w v : World) → Same w v → Extends w v
+extends-same : (w v : LinkRecord) → Same w v → Extends w v
 extends-same w v s = record { setup = s.setup; network = ([], s.network ∙ sym (append-nil w.network)); grows = grows-same (shape w) (shape v) s.shape_is }
 
-same-noted : (v : World) (n : ℕ) → Same v (Changes.whole_noted v n)
-same-noted v n = step (Changes.becomes_whole v n)
+same-noted : (v : LinkRecord) (n : ℕ) → Same v (Changes.note_completion v n)
+same-noted v n = step (Changes.becomes_complete v n)
   where
-    step : (b : Bool) → Same v (if b then Changes.stream_changed v (Messages.message_at v n).stream (Changes.with_whole n) else v)
+    step : (b : Bool) → Same v (if b then Changes.stream_changed v (Messages.message_at v n).stream (Changes.with_complete n) else v)
     step true = record { setup = refl; network = refl; shape_is = refl }
     step false = record { setup = refl; network = refl; shape_is = refl }
 
-same-then : (w v u : World) → Same w v → Same v u → Same w u
+same-then : (w v u : LinkRecord) → Same w v → Same v u → Same w u
 same-then w v u f g = record { setup = g.setup ∙ f.setup; network = g.network ∙ f.network; shape_is = g.shape_is ∙ f.shape_is }
 
-pub same-slot : (w : World) (p : ℕ) → Same w (Changes.slot_received w p)
+pub same-slot : (w : LinkRecord) (p : ℕ) → Same w (Changes.receive_slot w p)
 same-slot w p = step (Receiver.is_new w p)
   where
-    step : (b : Bool) → Same w (if b then Changes.whole_noted (record w { slots = changed Changes.mark_arrived p w.slots }) (Messages.message_of w p) else record w { duplicates = w.duplicates ++ p ∷ [] })
+    step : (b : Bool) → Same w (if b then Changes.note_completion (record w { slots = change_at Changes.mark_arrived p w.slots }) (Messages.message_of w p) else record w { duplicates = w.duplicates ++ p ∷ [] })
     step true =
-        let v : World = record w { slots = changed Changes.mark_arrived p w.slots } in
-        same-then w v (Changes.whole_noted v (Messages.message_of w p)) (record { setup = refl; network = refl; shape_is = Shapes.shape-arrived w p }) (same-noted v (Messages.message_of w p))
+        let v : LinkRecord = record w { slots = change_at Changes.mark_arrived p w.slots } in
+        same-then w v (Changes.note_completion v (Messages.message_of w p)) (record { setup = refl; network = refl; shape_is = Shapes.shape-arrived w p }) (same-noted v (Messages.message_of w p))
     step false = record { setup = refl; network = refl; shape_is = refl }
 
-pub same-slots : (w : World) (ps : List ℕ) → Same w (fold Changes.slot_received w ps)
-same-slots w ps = fold-keeps (Same w) Changes.slot_received (λ v p s. same-then w v (Changes.slot_received v p) s (same-slot v p)) ps w (record { setup = refl; network = refl; shape_is = refl })
+pub same-slots : (w : LinkRecord) (ps : List ℕ) → Same w (fold Changes.receive_slot w ps)
+same-slots w ps = fold-keeps (Same w) Changes.receive_slot (λ v p s. same-then w v (Changes.receive_slot v p) s (same-slot v p)) ps w (record { setup = refl; network = refl; shape_is = refl })
 
-pub same-received : (w : World) (o : Option Datagram) → Same w (Changes.datagram_received w o)
+pub same-received : (w : LinkRecord) (o : Option Datagram) → Same w (Changes.after_arrive w o)
 same-received w None = record { setup = refl; network = refl; shape_is = refl }
 same-received w (Some (W.Data ps)) = same-slots w ps
 same-received w (Some (Forward upto names)) = step (Changes.skip_counts w upto)
@@ -88,35 +88,35 @@ same-received w (Some (Forward upto names)) = step (Changes.skip_counts w upto)
     step false = record { setup = refl; network = refl; shape_is = refl }
 same-received w (Some (Sack r)) = record { setup = refl; network = refl; shape_is = refl }
 
-pub same-taken : (w : World) (o : Option Datagram) → Same w (Changes.sack_taken w o)
+pub same-taken : (w : LinkRecord) (o : Option Datagram) → Same w (Changes.after_acked w o)
 same-taken w None = record { setup = refl; network = refl; shape_is = refl }
 same-taken w (Some (W.Data ps)) = record { setup = refl; network = refl; shape_is = refl }
 same-taken w (Some (Forward upto names)) = record { setup = refl; network = refl; shape_is = refl }
 same-taken w (Some (Sack r)) = record { setup = refl; network = refl; shape_is = Shapes.shape-acknowledged w r (max w.taken r.cumulative) }
 
-pub same-read : (w : World) (s : ℕ) (o : Option ℕ) → Same w (Changes.read_of w s o)
+pub same-read : (w : LinkRecord) (s : ℕ) (o : Option ℕ) → Same w (Changes.read_of w s o)
 same-read w s None = record { setup = refl; network = refl; shape_is = refl }
 same-read w s (Some n) = record { setup = refl; network = refl; shape_is = Shapes.shape-read w n }
 
-one-datagram : (w v : World) (d : Datagram) → v.setup ≡ w.setup → v.network ≡ w.network ++ d ∷ [] → shape v ≡ shape w → Extends w v
+one-datagram : (w v : LinkRecord) (d : Datagram) → v.setup ≡ w.setup → v.network ≡ w.network ++ d ∷ [] → shape v ≡ shape w → Extends w v
 one-datagram w v d a b c = record { setup = a; network = (d ∷ [], b); grows = grows-same (shape w) (shape v) c }
 
-pub extends-after : (setup : Setup) (w : World) (e : Event) → refusal_of w e ≡ None → Sane setup w → Extends w (after w e)
-extends-after setup w (E.Open s) ok g = extends-same w (Changes.opened w s) (record { setup = refl; network = refl; shape_is = refl })
-extends-after setup w (E.Mode s unordered reliability value) ok g = extends-same w (Changes.mode_set w s unordered reliability value) (record { setup = refl; network = refl; shape_is = refl })
-extends-after setup w (E.Write s ppi bytes) ok g = of-quiet w (Changes.wrote w s ppi bytes) (Moves.quiet-written setup w s ppi bytes g)
-extends-after setup w (E.Start now) ok g = of-quiet w (Changes.started w now) (Moves.quiet-started w now)
-extends-after setup w (E.Send now) ok g = of-quiet w (Changes.sent w now) (Moves.quiet-sent setup w now (Messages.front w) g)
-extends-after setup w (E.Resend tsn) ok g = one-datagram w (Changes.resent w tsn) (W.Data (Messages.place_of w tsn ∷ [])) refl refl refl
-extends-after setup w (E.Expire now) ok g = of-quiet w (Changes.expired w (Changes.expiring w now)) (Moves.quiet-expire setup w now (Messages.front w) g)
-extends-after setup w (E.Tail now) ok g = of-quiet w (Changes.tail_abandoned w (Changes.tailing w now)) (Moves.quiet-tail setup w (Changes.tailing w now) g)
-extends-after setup w (E.Late now) ok g = of-quiet w (Changes.late_abandoned w now) (Moves.quiet-lates setup w now g)
-extends-after setup w (E.Abandon tsn) ok g = of-quiet w (Changes.abandoned w (Messages.message_of w (Messages.place_of w tsn))) (Moves.quiet-abandoned setup w (Messages.message_of w (Messages.place_of w tsn)) g)
+pub extends-after : (setup : Setup) (w : LinkRecord) (e : Event) → refusal_of w e ≡ None → Sane setup w → Extends w (after w e)
+extends-after setup w (E.Open s) ok g = extends-same w (Changes.after_open w s) (record { setup = refl; network = refl; shape_is = refl })
+extends-after setup w (E.Mode s unordered reliability value) ok g = extends-same w (Changes.after_mode w s unordered reliability value) (record { setup = refl; network = refl; shape_is = refl })
+extends-after setup w (E.Write s ppi bytes) ok g = of-quiet w (Changes.after_write w s ppi bytes) (Moves.quiet-written setup w s ppi bytes g)
+extends-after setup w (E.Start now) ok g = of-quiet w (Changes.after_start w now) (Moves.quiet-started w now)
+extends-after setup w (E.Send now) ok g = of-quiet w (Changes.after_send w now) (Moves.quiet-sent setup w now (Messages.front w) g)
+extends-after setup w (E.Resend tsn) ok g = one-datagram w (Changes.after_resend w tsn) (W.Data (Messages.place_of w tsn ∷ [])) refl refl refl
+extends-after setup w (E.Expire now) ok g = of-quiet w (Changes.after_expire w (Changes.expiring w now)) (Moves.quiet-expire setup w now (Messages.front w) g)
+extends-after setup w (E.Tail now) ok g = of-quiet w (Changes.after_tail w (Changes.tailing w now)) (Moves.quiet-tail setup w (Changes.tailing w now) g)
+extends-after setup w (E.Late now) ok g = of-quiet w (Changes.after_late w now) (Moves.quiet-lates setup w now g)
+extends-after setup w (E.Abandon tsn) ok g = of-quiet w (Changes.after_abandon w (Messages.message_of w (Messages.place_of w tsn))) (Moves.quiet-abandoned setup w (Messages.message_of w (Messages.place_of w tsn)) g)
 extends-after setup w (E.Skip upto names) ok g = one-datagram w (after w (E.Skip upto names)) (Forward (Messages.place_of w upto) names.items) refl refl refl
-extends-after setup w (E.Ack credit) ok g = one-datagram w (Changes.reported w credit) (Sack (report_of w credit)) refl refl refl
-extends-after setup w (E.Arrive k) ok g = extends-same w (Changes.datagram_received w (slice_get w.network k)) (same-received w (slice_get w.network k))
-extends-after setup w (E.Acked k) ok g = extends-same w (Changes.sack_taken w (slice_get w.network k)) (same-taken w (slice_get w.network k))
-extends-after setup w (E.Read s) ok g = extends-same w (Changes.read_from w s) (same-read w s (Receiver.next_read w s))
+extends-after setup w (E.Ack credit) ok g = one-datagram w (Changes.after_ack w credit) (Sack (report_of w credit)) refl refl refl
+extends-after setup w (E.Arrive k) ok g = extends-same w (Changes.after_arrive w (slice_get w.network k)) (same-received w (slice_get w.network k))
+extends-after setup w (E.Acked k) ok g = extends-same w (Changes.after_acked w (slice_get w.network k)) (same-taken w (slice_get w.network k))
+extends-after setup w (E.Read s) ok g = extends-same w (Changes.after_reading w s) (same-read w s (Receiver.next_read w s))
 
 -- ## What lies in the network
 
@@ -151,7 +151,7 @@ slots-grown x y g (p ∷ ps) f = (omega (arith, f.0, g.slots), ap (λ s. s.is_te
 -- an ended message has no slot past those it had
 no-later : (x y : Shape) → Grows x y → (n q : ℕ) → 0 < sent x n → IsEnded x n → x.slots ≤ q → q < y.slots → has y n q ≡ true → ⊥
 no-later x y g n q pos e a b h =
-    let old : length (kept (has y n) 0 x.slots) ≡ sent x n = ap length (kept-same (has y n) (has x n) 0 x.slots (λ k i j. ap (λ s. (s.message == n) && not s.is_terminal_chunk) (g.slot k (omega arith)))) in
+    let old : length (numbers_where (has y n) 0 x.slots) ≡ sent x n = ap length (kept-same (has y n) (has x n) 0 x.slots (λ k i j. ap (λ s. (s.message == n) && not s.is_terminal_chunk) (g.slot k (omega arith)))) in
     absurd (omega (arith, g.ended n pos e, old, length-kept-mono (has y n) 0 x.slots q a, length-kept-lt (has y n) 0 q y.slots (ap (has y n) (zero-add q) ∙ h) b))
 
 pub namable-grown : (x y : Shape) → Sender x → Grows x y → (upto n : ℕ) → IsNamable x upto n → IsNamable y upto n
@@ -196,63 +196,63 @@ fit-at x (c ∷ ds) zero d a e = let z : c ≡ d = cc in subst (Fits x) z a.0
 fit-at x (c ∷ ds) (suc k) d a e = fit-at x ds k d a.1 e
 
 -- what no datagram of its own adds
-fit-kept : (w v : World) → Sender (shape w) → Grows (shape w) (shape v) → v.network ≡ w.network → AllFit (shape w) w.network → AllFit (shape v) v.network
+fit-kept : (w v : LinkRecord) → Sender (shape w) → Grows (shape w) (shape v) → v.network ≡ w.network → AllFit (shape w) w.network → AllFit (shape v) v.network
 fit-kept w v s g e a = subst (AllFit (shape v)) (sym e) (all-grown (shape w) (shape v) s g w.network a)
 
-fit-more : (w v : World) (d : Datagram) → Sender (shape w) → Grows (shape w) (shape v) → v.network ≡ w.network ++ d ∷ [] → Fits (shape v) d → AllFit (shape w) w.network → AllFit (shape v) v.network
+fit-more : (w v : LinkRecord) (d : Datagram) → Sender (shape w) → Grows (shape w) (shape v) → v.network ≡ w.network ++ d ∷ [] → Fits (shape v) d → AllFit (shape w) w.network → AllFit (shape v) v.network
 fit-more w v d s g e f a = subst (AllFit (shape v)) (sym e) (all-fit-append (shape v) w.network (d ∷ []) (all-grown (shape w) (shape v) s g w.network a) (f, tt))
 
 -- ## What a send adds
 
 -- the slots that a send adds have fragments
-record Adds (setup : Setup) (w v : World) : Type 0 where
+record Adds (setup : Setup) (w v : LinkRecord) : Type 0 where
   reached : Moves.Reached setup w v
   fragments : (p : ℕ) → length w.slots ≤ p → p < length v.slots → (Messages.slot_at v p).is_terminal_chunk ≡ false
 
-adds-more : (setup : Setup) (w : World) → Sane setup w → (v : World) → Adds setup w v → Adds setup w (Changes.fragment_sent v)
+adds-more : (setup : Setup) (w : LinkRecord) → Sane setup w → (v : LinkRecord) → Adds setup w v → Adds setup w (Changes.send_fragment v)
 adds-more setup w g v a = record { reached = Moves.reached-more setup w g v a.reached; fragments = step (Messages.front v) }
   where
-    step : (o : Option ℕ) → (p : ℕ) → length w.slots ≤ p → p < length (Changes.fragment_of_sent v o).slots → (Messages.slot_at (Changes.fragment_of_sent v o) p).is_terminal_chunk ≡ false
+    step : (o : Option ℕ) → (p : ℕ) → length w.slots ≤ p → p < length (Changes.send_fragment_of v o).slots → (Messages.slot_at (Changes.send_fragment_of v o) p).is_terminal_chunk ≡ false
     step None p low high = a.fragments p low high
     step (Some n) p low high = by_last {P = ((shape (Changes.with_slot v n false)).slot p).is_terminal_chunk ≡ false} p (length v.slots) (omega (arith, high, ap (λ y. y.slots) (Shapes.shape-slot v n false)))
         (λ o. ap (λ y. (y.slot p).is_terminal_chunk) (Shapes.shape-slot v n false) ∙ ap (λ y. y.is_terminal_chunk) (slot-old (shape v) n p false o) ∙ a.fragments p low o)
         (λ e. ap (λ y. (y.slot p).is_terminal_chunk) (Shapes.shape-slot v n false) ∙ ap (λ q. ((slotted (shape v) n false).slot q).is_terminal_chunk) e ∙ ap (λ y. y.is_terminal_chunk) (slot-new (shape v) n false))
 
-adds-sent : (setup : Setup) (w : World) (now : ℕ) → Sane setup w → Adds setup w (Changes.fragments_sent (Changes.started w now))
+adds-sent : (setup : Setup) (w : LinkRecord) (now : ℕ) → Sane setup w → Adds setup w (Changes.send_fragments (Changes.after_start w now))
 adds-sent setup w now g =
-    let u = Changes.started w now in
+    let u = Changes.after_start w now in
     let base : Adds setup w u = record { reached = record { sane = sane-started setup w now g; quiet = Moves.quiet-started w now }; fragments = λ p a b. absurd (omega arith) } in
-    filled-keeps (Adds setup w) (adds-more setup w g) u.setup.limit (Changes.plus 12 (Changes.next_length u)) (Changes.fragment_sent u) (adds-more setup w g u base)
+    filled-keeps (Adds setup w) (adds-more setup w g) u.setup.limit (Changes.plus 12 (Changes.next_length u)) (Changes.send_fragment u) (adds-more setup w g u base)
 
-pub slots-fit : (x : Shape) (from count : ℕ) → ((p : ℕ) → from ≤ p → p < from + count → (p < x.slots) × ((x.slot p).is_terminal_chunk ≡ false)) → SlotsFit x (kept always from count)
+pub slots-fit : (x : Shape) (from count : ℕ) → ((p : ℕ) → from ≤ p → p < from + count → (p < x.slots) × ((x.slot p).is_terminal_chunk ≡ false)) → SlotsFit x (numbers_where always from count)
 slots-fit x from zero h = tt
 slots-fit x from (suc count) h = let a = h from (omega arith) (omega arith) in (a.0, a.1, slots-fit x (from + 1) count (λ p i j. h p (omega arith) (omega arith)))
 
-pub network-more : (v : World) → (Changes.fragment_sent v).network ≡ v.network
+pub network-more : (v : LinkRecord) → (Changes.send_fragment v).network ≡ v.network
 network-more v = step (Messages.front v)
   where
-    step : (o : Option ℕ) → (Changes.fragment_of_sent v o).network ≡ v.network
+    step : (o : Option ℕ) → (Changes.send_fragment_of v o).network ≡ v.network
     step None = refl
     step (Some n) = refl
 
-pub same-network : (u : World) → (Changes.fragments_sent u).network ≡ u.network
-same-network u = filled-keeps (λ v. v.network ≡ u.network) (λ v e. network-more v ∙ e) u.setup.limit (Changes.plus 12 (Changes.next_length u)) (Changes.fragment_sent u) (network-more u)
+pub same-network : (u : LinkRecord) → (Changes.send_fragments u).network ≡ u.network
+same-network u = filled-keeps (λ v. v.network ≡ u.network) (λ v e. network-more v ∙ e) u.setup.limit (Changes.plus 12 (Changes.next_length u)) (Changes.send_fragment u) (network-more u)
 
-fit-sent : (setup : Setup) (w : World) (now : ℕ) (o : Option ℕ) → Sane setup w → AllFit (shape w) w.network → AllFit (shape (Changes.sent_from (Changes.started w now) o)) (Changes.sent_from (Changes.started w now) o).network
-fit-sent setup w now None g a = fit-kept w (Changes.started w now) g.sender (Moves.quiet-started w now).grows refl a
+fit-sent : (setup : Setup) (w : LinkRecord) (now : ℕ) (o : Option ℕ) → Sane setup w → AllFit (shape w) w.network → AllFit (shape (Changes.send_from (Changes.after_start w now) o)) (Changes.send_from (Changes.after_start w now) o).network
+fit-sent setup w now None g a = fit-kept w (Changes.after_start w now) g.sender (Moves.quiet-started w now).grows refl a
 fit-sent setup w now (Some n) g a =
-    let u = Changes.started w now in
-    let v = Changes.fragments_sent u in
+    let u = Changes.after_start w now in
+    let v = Changes.send_fragments u in
     let d = adds-sent setup w now g in
     all-fit-append (shape v) v.network (W.Data (numbers_from (length u.slots) (length v.slots - length u.slots)) ∷ [])
     (all-of d.reached.quiet)
     (slots-fit (shape v) (length u.slots) (length v.slots - length u.slots) (λ p i j. (omega (arith, d.reached.quiet.grows.slots), d.fragments p (omega arith) (omega (arith, d.reached.quiet.grows.slots)))), tt)
   where
     -- no datagram is made before the slots are
-    all-of : Moves.Quiet w (Changes.fragments_sent (Changes.started w now)) → AllFit (shape (Changes.fragments_sent (Changes.started w now))) (Changes.fragments_sent (Changes.started w now)).network
-    all-of q = fit-kept w (Changes.fragments_sent (Changes.started w now)) g.sender q.grows (same-network (Changes.started w now)) a
+    all-of : Moves.Quiet w (Changes.send_fragments (Changes.after_start w now)) → AllFit (shape (Changes.send_fragments (Changes.after_start w now))) (Changes.send_fragments (Changes.after_start w now)).network
+    all-of q = fit-kept w (Changes.send_fragments (Changes.after_start w now)) g.sender q.grows (same-network (Changes.after_start w now)) a
 
-pub namable : (w : World) (upto n : ℕ) → Sender (shape w) → can_name w upto n ≡ true → IsNamable (shape w) upto n
+pub namable : (w : LinkRecord) (upto n : ℕ) → Sender (shape w) → can_name w upto n ≡ true → IsNamable (shape w) upto n
 namable w upto n s e =
     let a = both (nat_lt n (length w.messages)) ((Messages.message_at w n).ordered && (is_ended w n && (not (Messages.message_at w n).expired && list_all (λ place. nat_le place upto) (Messages.slots_where w (Messages.belongs_to w n))))) e in
     let b = both (Messages.message_at w n).ordered (is_ended w n && (not (Messages.message_at w n).expired && list_all (λ place. nat_le place upto) (Messages.slots_where w (Messages.belongs_to w n)))) a.1 in
@@ -275,49 +275,49 @@ namable w upto n s e =
     some lt (inl f) = omega (arith, f, s.some n lt)
     some lt (inr f) = s.abandoned_sent n lt f
 
-pub names-fit : (w : World) (upto : ℕ) (ns : List ℕ) → Sender (shape w) → list_all (can_name w upto) ns ≡ true → NamesFit (shape w) upto ns
+pub names-fit : (w : LinkRecord) (upto : ℕ) (ns : List ℕ) → Sender (shape w) → list_all (can_name w upto) ns ≡ true → NamesFit (shape w) upto ns
 names-fit w upto [] s e = tt
 names-fit w upto (n ∷ ns) s e = let a = both (can_name w upto n) (list_all (can_name w upto) ns) e in (namable w upto n s a.0, names-fit w upto ns s a.1)
 
 -- ## In every history
 
-fit-quiet : (w v : World) → Sender (shape w) → Moves.Quiet w v → v.network ≡ w.network → AllFit (shape w) w.network → AllFit (shape v) v.network
+fit-quiet : (w v : LinkRecord) → Sender (shape w) → Moves.Quiet w v → v.network ≡ w.network → AllFit (shape w) w.network → AllFit (shape v) v.network
 fit-quiet w v s q e a = fit-kept w v s q.grows e a
 
-fit-same : (w v : World) → Sender (shape w) → Same w v → AllFit (shape w) w.network → AllFit (shape v) v.network
+fit-same : (w v : LinkRecord) → Sender (shape w) → Same w v → AllFit (shape w) w.network → AllFit (shape v) v.network
 fit-same w v s q a = fit-kept w v s (grows-same (shape w) (shape v) q.shape_is) q.network a
 
-pub network-abandoned : (w : World) (n : ℕ) → (Changes.abandoned w n).network ≡ w.network
+pub network-abandoned : (w : LinkRecord) (n : ℕ) → (Changes.after_abandon w n).network ≡ w.network
 network-abandoned w n = step (Messages.is_partially_sent w n)
   where
     step : (b : Bool) → (Changes.message_changed (if b then Changes.with_slot w n true else w) n Changes.mark_abandoned).network ≡ w.network
     step true = refl
     step false = refl
 
-pub network-late : (ns : List ℕ) (w : World) → (fold Changes.abandoned w ns).network ≡ w.network
+pub network-late : (ns : List ℕ) (w : LinkRecord) → (fold Changes.after_abandon w ns).network ≡ w.network
 network-late [] w = refl
-network-late (n ∷ ns) w = network-late ns (Changes.abandoned w n) ∙ network-abandoned w n
+network-late (n ∷ ns) w = network-late ns (Changes.after_abandon w n) ∙ network-abandoned w n
 
-pub network-tail : (w : World) (o : Option ℕ) → (Changes.tail_abandoned w o).network ≡ w.network
+pub network-tail : (w : LinkRecord) (o : Option ℕ) → (Changes.after_tail w o).network ≡ w.network
 network-tail w None = refl
 network-tail w (Some n) = network-abandoned w n
 
-pub network-expired : (w : World) (o : Option ℕ) → (Changes.expired w o).network ≡ w.network
+pub network-expired : (w : LinkRecord) (o : Option ℕ) → (Changes.after_expire w o).network ≡ w.network
 network-expired w None = refl
 network-expired w (Some n) = refl
 
-pub network-written : (w : World) (s : ℕ) (ppi : PayloadProtocolIdentifier) (bytes : List ℕ) → (Changes.wrote w s ppi bytes).network ≡ w.network
+pub network-written : (w : LinkRecord) (s : ℕ) (ppi : PayloadProtocolIdentifier) (bytes : List ℕ) → (Changes.after_write w s ppi bytes).network ≡ w.network
 network-written w s ppi [] = refl
 network-written w s ppi (b ∷ bs) = refl
 
-pub skip-ok : (w : World) (upto : ℕ) (names : List ℕ) → skip_refusal w upto names ≡ None → (upto < length w.slots) × (list_all (can_name w upto) names ≡ true)
+pub skip-ok : (w : LinkRecord) (upto : ℕ) (names : List ℕ) → skip_refusal w upto names ≡ None → (upto < length w.slots) × (list_all (can_name w upto) names ≡ true)
 skip-ok w upto names ok =
     let first = unless-holds (nat_lt upto (length w.slots)) SkipUnassigned (unless (list_all (can_name w upto) names && nat_le (length names) 16381) SkipNames None) ok in
     let second = unless-holds (list_all (can_name w upto) names && nat_le (length names) 16381) SkipNames None first.1 in
     let low = first.0 in
     (grind (arith, nat_tests), (both (list_all (can_name w upto) names) (nat_le (length names) 16381) second.0).0)
 
-resend-ok : (w : World) (p : ℕ) → Sender (shape w) → can_resend w p ≡ true → SlotsFit (shape w) (p ∷ [])
+resend-ok : (w : LinkRecord) (p : ℕ) → Sender (shape w) → can_resend w p ≡ true → SlotsFit (shape w) (p ∷ [])
 resend-ok w p s e =
     let a = both (Messages.is_in_flight w p) (not (Messages.slot_at w p).acknowledged && not (Messages.message_at w (Messages.message_of w p)).abandoned) e in
     let b = both (not (Messages.slot_at w p).acknowledged) (not (Messages.message_at w (Messages.message_of w p)).abandoned) a.1 in
@@ -325,37 +325,37 @@ resend-ok w p s e =
     let lt : p < length w.slots = grind (arith, nat_tests) in
     (lt, fails (Messages.slot_at w p).is_terminal_chunk (λ m. not_both (sym (negated (Messages.message_at w (Messages.message_of w p)).abandoned b.1) ∙ mark-abandoned (shape w) p s lt m)), tt)
 
-pub fit-after : (setup : Setup) (w : World) (e : Event) → refusal_of w e ≡ None → Sane setup w → AllFit (shape w) w.network → AllFit (shape (after w e)) (after w e).network
+pub fit-after : (setup : Setup) (w : LinkRecord) (e : Event) → refusal_of w e ≡ None → Sane setup w → AllFit (shape w) w.network → AllFit (shape (after w e)) (after w e).network
 fit-after setup w (E.Open s) ok g a = a
 fit-after setup w (E.Mode s unordered reliability value) ok g a = a
-fit-after setup w (E.Write s ppi bytes) ok g a = fit-quiet w (Changes.wrote w s ppi bytes) g.sender (Moves.quiet-written setup w s ppi bytes g) (network-written w s ppi bytes) a
-fit-after setup w (E.Start now) ok g a = fit-quiet w (Changes.started w now) g.sender (Moves.quiet-started w now) refl a
+fit-after setup w (E.Write s ppi bytes) ok g a = fit-quiet w (Changes.after_write w s ppi bytes) g.sender (Moves.quiet-written setup w s ppi bytes g) (network-written w s ppi bytes) a
+fit-after setup w (E.Start now) ok g a = fit-quiet w (Changes.after_start w now) g.sender (Moves.quiet-started w now) refl a
 fit-after setup w (E.Send now) ok g a = fit-sent setup w now (Messages.front w) g a
 fit-after setup w (E.Resend tsn) ok g a = all-fit-append (shape w) w.network (W.Data (Messages.place_of w tsn ∷ []) ∷ []) a (resend-ok w (Messages.place_of w tsn) g.sender (unless-holds (can_resend w (Messages.place_of w tsn)) NotInFlight None ok).0, tt)
-fit-after setup w (E.Expire now) ok g a = fit-quiet w (Changes.expired w (Changes.expiring w now)) g.sender (Moves.quiet-expire setup w now (Messages.front w) g) (network-expired w (Changes.expiring w now)) a
-fit-after setup w (E.Tail now) ok g a = fit-quiet w (Changes.tail_abandoned w (Changes.tailing w now)) g.sender (Moves.quiet-tail setup w (Changes.tailing w now) g) (network-tail w (Changes.tailing w now)) a
-fit-after setup w (E.Late now) ok g a = fit-quiet w (Changes.late_abandoned w now) g.sender (Moves.quiet-lates setup w now g) (network-late (Changes.late_messages w now) w) a
-fit-after setup w (E.Abandon tsn) ok g a = fit-quiet w (Changes.abandoned w (Messages.message_of w (Messages.place_of w tsn))) g.sender (Moves.quiet-abandoned setup w (Messages.message_of w (Messages.place_of w tsn)) g) (network-abandoned w (Messages.message_of w (Messages.place_of w tsn))) a
+fit-after setup w (E.Expire now) ok g a = fit-quiet w (Changes.after_expire w (Changes.expiring w now)) g.sender (Moves.quiet-expire setup w now (Messages.front w) g) (network-expired w (Changes.expiring w now)) a
+fit-after setup w (E.Tail now) ok g a = fit-quiet w (Changes.after_tail w (Changes.tailing w now)) g.sender (Moves.quiet-tail setup w (Changes.tailing w now) g) (network-tail w (Changes.tailing w now)) a
+fit-after setup w (E.Late now) ok g a = fit-quiet w (Changes.after_late w now) g.sender (Moves.quiet-lates setup w now g) (network-late (Changes.late_messages w now) w) a
+fit-after setup w (E.Abandon tsn) ok g a = fit-quiet w (Changes.after_abandon w (Messages.message_of w (Messages.place_of w tsn))) g.sender (Moves.quiet-abandoned setup w (Messages.message_of w (Messages.place_of w tsn)) g) (network-abandoned w (Messages.message_of w (Messages.place_of w tsn))) a
 fit-after setup w (E.Skip upto names) ok g a =
     let s = skip-ok w (Messages.place_of w upto) names.items ok in
     all-fit-append (shape w) w.network (Forward (Messages.place_of w upto) names.items ∷ []) a ((s.0, names-fit w (Messages.place_of w upto) names.items g.sender s.1), tt)
 fit-after setup w (E.Ack credit) ok g a = all-fit-append (shape w) w.network (Sack (report_of w credit) ∷ []) a (tt, tt)
-fit-after setup w (E.Arrive k) ok g a = fit-same w (Changes.datagram_received w (slice_get w.network k)) g.sender (same-received w (slice_get w.network k)) a
-fit-after setup w (E.Acked k) ok g a = fit-same w (Changes.sack_taken w (slice_get w.network k)) g.sender (same-taken w (slice_get w.network k)) a
-fit-after setup w (E.Read s) ok g a = fit-same w (Changes.read_from w s) g.sender (same-read w s (Receiver.next_read w s)) a
+fit-after setup w (E.Arrive k) ok g a = fit-same w (Changes.after_arrive w (slice_get w.network k)) g.sender (same-received w (slice_get w.network k)) a
+fit-after setup w (E.Acked k) ok g a = fit-same w (Changes.after_acked w (slice_get w.network k)) g.sender (same-taken w (slice_get w.network k)) a
+fit-after setup w (E.Read s) ok g a = fit-same w (Changes.after_reading w s) g.sender (same-read w s (Receiver.next_read w s)) a
 
-pub fit-run : (setup : Setup) (h : History) → IsRun setup h → AllFit (shape (world_of setup h)) (world_of setup h).network
+pub fit-run : (setup : Setup) (h : History) → IsRun setup h → AllFit (shape (record_of setup h)) (record_of setup h).network
 fit-run setup [] run = tt
-fit-run setup (entry ∷ older) run = fit-after setup (world_of setup older) entry.0 run.0 (sane-run setup older run.1.1) (fit-run setup older run.1.1)
+fit-run setup (entry ∷ older) run = fit-after setup (record_of setup older) entry.0 run.0 (sane-run setup older run.1.1) (fit-run setup older run.1.1)
 
 -- ## The laws
 
 pub no_terminal_chunk_is_sent : OnEveryRun NoTerminalChunkIsSent
-no_terminal_chunk_is_sent setup h is run k slots e = none slots (fit-at (shape (world_of setup h)) (world_of setup h).network k (W.Data slots) (fit-run setup h run) e)
+no_terminal_chunk_is_sent setup h is run k slots e = none slots (fit-at (shape (record_of setup h)) (record_of setup h).network k (W.Data slots) (fit-run setup h run) e)
   where
-    none : (ps : List ℕ) → SlotsFit (shape (world_of setup h)) ps → list_any (λ p. (Messages.slot_at (world_of setup h) p).is_terminal_chunk) ps ≡ false
+    none : (ps : List ℕ) → SlotsFit (shape (record_of setup h)) ps → list_any (λ p. (Messages.slot_at (record_of setup h) p).is_terminal_chunk) ps ≡ false
     none [] f = refl
-    none (p ∷ ps) f = ap (λ b. b || list_any (λ p. (Messages.slot_at (world_of setup h) p).is_terminal_chunk) ps) f.1 ∙ none ps f.2
+    none (p ∷ ps) f = ap (λ b. b || list_any (λ p. (Messages.slot_at (record_of setup h) p).is_terminal_chunk) ps) f.1 ∙ none ps f.2
 
 -- what a chunk says, by what was written and sent
 abbrev said : MessagePart → ℕ → ℕ → ℕ → ℕ → Data
@@ -372,7 +372,7 @@ said m size place i tsn =
       user_data = slice_index_or (pieces (length m.bytes) size m.bytes) i [];
     }
 
-chunk-is : (w : World) (p : ℕ) → chunk_at w p ≡ fresh (said (as_written ((shape w).message ((shape w).slot p).message)) (shape w).size (index (shape w) ((shape w).slot p).message) ((shape w).slot p).fragment (Messages.tsn_of w p))
+chunk-is : (w : LinkRecord) (p : ℕ) → chunk_at w p ≡ fresh (said (as_written ((shape w).message ((shape w).slot p).message)) (shape w).size (index (shape w) ((shape w).slot p).message) ((shape w).slot p).fragment (Messages.tsn_of w p))
 chunk-is w p = refl
 
 -- the number of a message in its stream
@@ -383,7 +383,7 @@ place-stays x y g n pos m size i tsn e = step m.ordered refl
     step true o = ap (λ k. said m size k i tsn) (g.same_index n pos (sym e ∙ o))
     step false o = rw o refl
 
-pub chunk-stays : (w v : World) (p : ℕ) → Sender (shape w) → Extends w v → p < length w.slots → chunk_at v p ≡ chunk_at w p
+pub chunk-stays : (w v : LinkRecord) (p : ℕ) → Sender (shape w) → Extends w v → p < length w.slots → chunk_at v p ≡ chunk_at w p
 chunk-stays w v p s x lt =
     let n = Messages.message_of w p in
     let g = x.grows in
@@ -396,11 +396,11 @@ chunk-stays w v p s x lt =
     ∙ ap (λ c. fresh (said (as_written ((shape w).message n)) c (index (shape v) n) ((shape w).slot p).fragment (Messages.tsn_of w p))) g.size
     ∙ ap fresh (place-stays (shape w) (shape v) g n pos (as_written ((shape w).message n)) (shape w).size ((shape w).slot p).fragment (Messages.tsn_of w p) refl)
 
-chunks-stay : (w v : World) → Sender (shape w) → Extends w v → (ps : List ℕ) → SlotsFit (shape w) ps → map (chunk_at v) ps ≡ map (chunk_at w) ps
+chunks-stay : (w v : LinkRecord) → Sender (shape w) → Extends w v → (ps : List ℕ) → SlotsFit (shape w) ps → map (chunk_at v) ps ≡ map (chunk_at w) ps
 chunks-stay w v s x [] f = refl
 chunks-stay w v s x (p ∷ ps) f = ap (λ c. c ∷ map (chunk_at v) ps) (chunk-stays w v p s x f.0) ∙ ap (λ l. chunk_at w p ∷ l) (chunks-stay w v s x ps f.2)
 
-name-stays : (w v : World) (upto n : ℕ) → Sender (shape w) → Extends w v → IsNamable (shape w) upto n → name_of v n ≡ name_of w n
+name-stays : (w v : LinkRecord) (upto n : ℕ) → Sender (shape w) → Extends w v → IsNamable (shape w) upto n → name_of v n ≡ name_of w n
 name-stays w v upto n s x f =
     let g = x.grows in
     let m = g.message n (sent-made (shape w) n s f.some) in
@@ -411,11 +411,11 @@ name-stays w v upto n s x f =
     ∙ ap (λ k. pair (Messages.message_at w n).stream (k % 2 ^ 16)) (g.same_index n f.some f.ordered)
     ∙ sym (ap (λ b. pair (Messages.message_at w n).stream ((if b then index (shape w) n else (Messages.message_at w n).before) % 2 ^ 16)) f.ordered)
 
-names-stay : (w v : World) (upto : ℕ) → Sender (shape w) → Extends w v → (ns : List ℕ) → NamesFit (shape w) upto ns → map (name_of v) ns ≡ map (name_of w) ns
+names-stay : (w v : LinkRecord) (upto : ℕ) → Sender (shape w) → Extends w v → (ns : List ℕ) → NamesFit (shape w) upto ns → map (name_of v) ns ≡ map (name_of w) ns
 names-stay w v upto s x [] f = refl
 names-stay w v upto s x (n ∷ ns) f = ap (λ c. c ∷ map (name_of v) ns) (name-stays w v upto n s x f.0) ∙ ap (λ l. name_of w n ∷ l) (names-stay w v upto s x ns f.1)
 
-pub contents-stay : (w v : World) (d : Datagram) → Sender (shape w) → Extends w v → Fits (shape w) d → contents_of v d ≡ contents_of w d
+pub contents-stay : (w v : LinkRecord) (d : Datagram) → Sender (shape w) → Extends w v → Fits (shape w) d → contents_of v d ≡ contents_of w d
 contents-stay w v (W.Data ps) s x f = ap DataContents (chunks-stay w v s x ps f)
 contents-stay w v (Forward upto names) s x f =
     let first : v.setup.first ≡ w.setup.first = ap (λ t. t.first) x.setup in
@@ -426,13 +426,13 @@ contents-stay w v (Sack r) s x f =
 
 pub datagrams_stay : OnEveryRun DatagramsStay
 datagrams_stay setup h is run event k ok lt =
-    let w = world_of setup h in
+    let w = record_of setup h in
     let g = sane-run setup h run in
     let x = extends-after setup w event ok g in
     ap (λ ds. contents_in (after w event) (slice_get ds k)) x.network.1
     ∙ ap (contents_in (after w event)) (slice-front w.network x.network.0 k lt)
     ∙ at (slice_get w.network k) refl x g.sender
   where
-    at : (o : Option Datagram) → slice_get (world_of setup h).network k ≡ o → Extends (world_of setup h) (after (world_of setup h) event) → Sender (shape (world_of setup h)) → contents_in (after (world_of setup h) event) o ≡ contents_in (world_of setup h) o
+    at : (o : Option Datagram) → slice_get (record_of setup h).network k ≡ o → Extends (record_of setup h) (after (record_of setup h) event) → Sender (shape (record_of setup h)) → contents_in (after (record_of setup h) event) o ≡ contents_in (record_of setup h) o
     at None e x s = refl
-    at (Some d) e x s = ap Some (contents-stay (world_of setup h) (after (world_of setup h) event) d s x (fit-at (shape (world_of setup h)) (world_of setup h).network k d (fit-run setup h run) e))
+    at (Some d) e x s = ap Some (contents-stay (record_of setup h) (after (record_of setup h) event) d s x (fit-at (shape (record_of setup h)) (record_of setup h).network k d (fit-run setup h run) e))

@@ -3,7 +3,7 @@ use Rattle.std.proofs.Common.{◌≡◌, ℕ, ◌+◌, ◌<◌, ◌≤◌, Bool,
 use Rattle.std.specs.Prelude.{◌⊎◌, if◌then◌else◌, ◌==◌, ◌&&◌, ◌||◌, not, nat_lt}
 use Rattle.std.proofs.lemmas.Bool.{cases_lt}
 use Rattle.std.proofs.lemmas.Bool.Decides.{nat_tests}
-use Rattle.sctp_list_lemmas.specs.Kept.{kept}
+use Rattle.sctp_list_lemmas.specs.Kept.{numbers_where}
 use Rattle.sctp_list_lemmas.proofs.Passing.{kept-none}
 use Rattle.sctp_list_lemmas.proofs.More.{fails, not_both, both, and}
 use Rattle.sctp_model.proofs.sender.Shape.{Shape, MessagePart, has, sent, parts, half, on, slotted, written, abandoned_at, expired_at}
@@ -45,7 +45,7 @@ module _ (x : Shape) (n : ℕ) (s : Sender x) (h : half x n ≡ true) where
         (λ e. absurd (not_both (sym (of-half y k g).alive ∙ (let z : (k == n) ≡ true = ap (λ j. k == j) (sym e) ∙ same-yes k in rw z refl))))
         (λ ne f. absurd (ne (half-one x k n s (was k f g) h)));
     within = λ k lt. omega (arith, sent-same k, s.within k lt);
-    marks = λ k lt. marks-slotted x n k true ∙ by_same {P = length (kept (is_mark x k) 0 x.slots) + (if (n == k) && true then 1 else 0) ≡ marks_due y k} n k
+    marks = λ k lt. marks-slotted x n k true ∙ by_same {P = length (numbers_where (is_mark x k) 0 x.slots) + (if (n == k) && true then 1 else 0) ≡ marks_due y k} n k
         (λ e. ended k e)
         (λ ne f. other k ne f lt);
     expired_unsent = λ k lt e. sent-same k ∙ s.expired_unsent k lt e;
@@ -75,21 +75,21 @@ module _ (x : Shape) (n : ℕ) (s : Sender x) (h : half x n ≡ true) where
           let i = of-half y k g in
           is-half x k (omega (arith, i.some, sent-same k)) (omega (arith, i.more, sent-same k)) (ap (λ b. b || (x.message k).abandoned) (sym f) ∙ i.alive)
 
-      ended : (k : ℕ) → n ≡ k → length (kept (is_mark x k) 0 x.slots) + (if (n == k) && true then 1 else 0) ≡ marks_due y k
+      ended : (k : ℕ) → n ≡ k → length (numbers_where (is_mark x k) 0 x.slots) + (if (n == k) && true then 1 else 0) ≡ marks_due y k
       ended k e =
           let i = of-half x n h in
           let hit : (n == k) ≡ true = ap (λ j. n == j) (sym e) ∙ same-yes n in
           let hit' : (k == n) ≡ true = ap (λ j. j == n) (sym e) ∙ same-yes n in
-          let few : length (kept (is_mark x k) 0 x.slots) ≡ 0 = ap (λ j. length (kept (is_mark x j) 0 x.slots)) (sym e) ∙ s.marks n made-n ∙ ap (λ b. if b && nat_lt (sent x n) (parts x n) then 1 else 0) i.alive in
+          let few : length (numbers_where (is_mark x k) 0 x.slots) ≡ 0 = ap (λ j. length (numbers_where (is_mark x j) 0 x.slots)) (sym e) ∙ s.marks n made-n ∙ ap (λ b. if b && nat_lt (sent x n) (parts x n) then 1 else 0) i.alive in
           let more : nat_lt (sent y k) (parts x k) ≡ true = (let l : sent y k < parts x k = omega (arith, sent-same k, ap (sent x) e, ap (parts x) e, i.more) in grind (arith, nat_tests)) in
-          ap (λ b. length (kept (is_mark x k) 0 x.slots) + (if b && true then 1 else 0)) hit
+          ap (λ b. length (numbers_where (is_mark x k) 0 x.slots) + (if b && true then 1 else 0)) hit
           ∙ ap (λ c. c + 1) few
           ∙ sym (ap (λ b. if (b || (x.message k).abandoned) && nat_lt (sent y k) (parts x k) then 1 else 0) hit' ∙ ap (λ b. if true && b then 1 else 0) more)
 
-      other : (k : ℕ) → (n ≡ k → ⊥) → (n == k) ≡ false → k < x.count → length (kept (is_mark x k) 0 x.slots) + (if (n == k) && true then 1 else 0) ≡ marks_due y k
+      other : (k : ℕ) → (n ≡ k → ⊥) → (n == k) ≡ false → k < x.count → length (numbers_where (is_mark x k) 0 x.slots) + (if (n == k) && true then 1 else 0) ≡ marks_due y k
       other k ne f lt =
-          let z : length (kept (is_mark x k) 0 x.slots) + 0 ≡ length (kept (is_mark x k) 0 x.slots) = omega arith in
-          ap (λ b. length (kept (is_mark x k) 0 x.slots) + (if b && true then 1 else 0)) f ∙ z ∙ s.marks k lt
+          let z : length (numbers_where (is_mark x k) 0 x.slots) + 0 ≡ length (numbers_where (is_mark x k) 0 x.slots) = omega arith in
+          ap (λ b. length (numbers_where (is_mark x k) 0 x.slots) + (if b && true then 1 else 0)) f ∙ z ∙ s.marks k lt
           ∙ ap (λ c. if (x.message k).abandoned && nat_lt c (parts x k) then 1 else 0) (sym (sent-same k))
           ∙ ap (λ b. if (b || (x.message k).abandoned) && nat_lt (sent y k) (parts x k) then 1 else 0) (sym (off k ne))
 
@@ -186,7 +186,7 @@ module _ (x : Shape) (m : MessagePart) where
     beside = s.beside;
     last = λ k h. let i = of-half z k h in by_made {P = Last z k} k i.some (λ o. s.last k (is-half x k i.some (omega (arith, i.more, parts-old k o)) (ap (λ v. v.abandoned) (sym (message-old k o)) ∙ i.alive)));
     within = λ k lt. by_last {P = sent x k ≤ parts z k} k x.count lt (λ o. omega (arith, parts-old k o, s.within k o)) (λ e. omega (arith, none k e));
-    marks = λ k lt. by_last {P = length (kept (is_mark x k) 0 x.slots) ≡ marks_due z k} k x.count lt
+    marks = λ k lt. by_last {P = length (numbers_where (is_mark x k) 0 x.slots) ≡ marks_due z k} k x.count lt
         (λ o. s.marks k o ∙ ap (λ b. if b && nat_lt (sent x k) (parts x k) then 1 else 0) (ap (λ v. v.abandoned) (sym (message-old k o))) ∙ ap (λ c. if (z.message k).abandoned && nat_lt (sent x k) c then 1 else 0) (sym (parts-old k o)))
         (λ e. ap length (kept-none (is_mark x k) 0 x.slots (λ p a b. fails (is_mark x k p) (λ h. absurd (omega (arith, same-is (x.slot p).message k (both ((x.slot p).message == k) (x.slot p).is_terminal_chunk h).0, s.made p (omega arith))))))
         ∙ sym (ap (λ b. if b && nat_lt (sent x k) (parts z k) then 1 else 0) (ap (λ j. (z.message j).abandoned) e ∙ ap (λ v. v.abandoned) message-new ∙ kept')));

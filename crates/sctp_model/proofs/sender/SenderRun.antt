@@ -3,8 +3,9 @@ use Rattle.std.proofs.Common.{◌≡◌, ℕ, zero, suc, ◌+◌, ◌<◌, ◌^�
 use Rattle.std.specs.Prelude.{if◌then◌else◌, ◌==◌, ◌&&◌, nat_lt, find, is_some, slice_get, fold, max, nat_le, unwrap_or}
 use Rattle.std.proofs.Math.Path.{subst}
 use Rattle.std.proofs.lemmas.Bool.Decides.{nat_tests}
-use Rattle.sctp_list_lemmas.specs.Kept.{kept, always, numbers_from, total_over, passing}
-use Rattle.sctp_list_lemmas.specs.Lists.{changed, pieces}
+use Rattle.std.specs.List.{filter}
+use Rattle.sctp_list_lemmas.specs.Kept.{numbers_where, always, numbers_from, total_over}
+use Rattle.sctp_list_lemmas.specs.Lists.{change_at, pieces}
 use Rattle.sctp_list_lemmas.proofs.Passing.{kept-snoc_in}
 use Rattle.sctp_list_lemmas.proofs.More.{both}
 use Rattle.sctp_model.specs.declared.event.Event.{Event}
@@ -12,11 +13,11 @@ use Rattle.sctp_model.specs.declared.event.Event.TheVariants as E
 use Rattle.sctp_model.specs.declared.event.LinkRefusal.{LinkRefusal}
 use Rattle.sctp_model.specs.declared.event.LinkRefusal.TheVariants.{StreamUnknown, MessageTooLarge, TsnsUsedUp, NotInFlight}
 use Rattle.sctp_chunks.specs.declared.chunk.chunk_payload_data.PayloadProtocolIdentifier.{PayloadProtocolIdentifier}
-use Rattle.sctp_model.specs.World.{Setup, StreamRecord, Message, Datagram, Data, Forward, Sack, World, start}
+use Rattle.sctp_model.specs.LinkRecord.{Setup, StreamRecord, Message, Datagram, Data, Forward, Sack, LinkRecord, start}
 use Rattle.sctp_model.specs.Messages
 use Rattle.sctp_model.specs.Receiver
 use Rattle.sctp_model.specs.Changes
-use Rattle.sctp_model.specs.Steps.{History, world_of, IsRun, refusal_of, after, unless, fragments_accepted, fragments_in}
+use Rattle.sctp_model.specs.Steps.{History, record_of, IsRun, refusal_of, after, unless, fragments_accepted, fragments_in}
 use Rattle.sctp_model.proofs.sender.Shape.{Shape, MessagePart, shape, message_part, sent, parts, slotted, written, abandoned_at, expired_at}
 use Rattle.sctp_model.proofs.sender.Sender.{Sender}
 use Rattle.sctp_model.proofs.sender.SenderSteps.{sender-takes, of-half, sent-grows}
@@ -41,7 +42,7 @@ pub record SaneIn (setup own : Setup) (x : Shape) (rs : List StreamRecord) : Typ
   -- each message's stream is open
   pub known : (n : ℕ) → n < x.count → open_in rs (x.message n).stream ≡ true
 
-abbrev pub Sane : Setup → World → Type 0
+abbrev pub Sane : Setup → LinkRecord → Type 0
 Sane setup w = SaneIn setup w.setup (shape w) w.streams
 
 pub sane-shape : (setup own : Setup) (x y : Shape) (rs : List StreamRecord) → y ≡ x → SaneIn setup own x rs → SaneIn setup own y rs
@@ -80,37 +81,37 @@ stream-where s f keeps r = step (r.stream == s)
     step true = keeps r
     step false = refl
 
-pub sane-changed : (setup : Setup) (w : World) (s : ℕ) (f : StreamRecord → StreamRecord) → ((r : StreamRecord) → (f r).stream ≡ r.stream) → Sane setup w → Sane setup (Changes.stream_changed w s f)
+pub sane-changed : (setup : Setup) (w : LinkRecord) (s : ℕ) (f : StreamRecord → StreamRecord) → ((r : StreamRecord) → (f r).stream ≡ r.stream) → Sane setup w → Sane setup (Changes.stream_changed w s f)
 sane-changed setup w s f keeps g = sane-mapped setup w.setup (shape w) w.streams (λ r. if r.stream == s then f r else r) (stream-where s f keeps) g
 
 -- ## Folds
 
-pub fold-keeps : {A : Type 0} (P : World → Type 0) (f : World → A → World) → ((v : World) (a : A) → P v → P (f v a)) → (xs : List A) (w : World) → P w → P (fold f w xs)
+pub fold-keeps : {A : Type 0} (P : LinkRecord → Type 0) (f : LinkRecord → A → LinkRecord) → ((v : LinkRecord) (a : A) → P v → P (f v a)) → (xs : List A) (w : LinkRecord) → P w → P (fold f w xs)
 fold-keeps P f keeps [] w p = p
 fold-keeps P f keeps (x ∷ xs) w p = fold-keeps P f keeps xs (f w x) (keeps w x p)
 
-pub filled-keeps : (P : World → Type 0) → ((v : World) → P v → P (Changes.fragment_sent v)) → (most used : ℕ) (w : World) → P w → P (Changes.filled most used w)
+pub filled-keeps : (P : LinkRecord → Type 0) → ((v : LinkRecord) → P v → P (Changes.send_fragment v)) → (most used : ℕ) (w : LinkRecord) → P w → P (Changes.fill_datagram most used w)
 filled-keeps P keeps zero used w p = p
-filled-keeps P keeps (suc most) used w p = step (Changes.chunk_fits w used (Changes.next_length w)) (filled-keeps P keeps most (Changes.plus used (Changes.next_length w)) (Changes.fragment_sent w) (keeps w p))
+filled-keeps P keeps (suc most) used w p = step (Changes.chunk_fits w used (Changes.next_length w)) (filled-keeps P keeps most (Changes.plus used (Changes.next_length w)) (Changes.send_fragment w) (keeps w p))
   where
-    step : (b : Bool) → P (Changes.filled most (Changes.plus used (Changes.next_length w)) (Changes.fragment_sent w)) → P (if b then Changes.filled most (Changes.plus used (Changes.next_length w)) (Changes.fragment_sent w) else w)
+    step : (b : Bool) → P (Changes.fill_datagram most (Changes.plus used (Changes.next_length w)) (Changes.send_fragment w)) → P (if b then Changes.fill_datagram most (Changes.plus used (Changes.next_length w)) (Changes.send_fragment w) else w)
     step true h = h
     step false h = p
 
-pub sends-keep : (P : World → Type 0) → ((v : World) → P v → P (Changes.fragment_sent v)) → (w : World) → P w → P (Changes.fragments_sent w)
-sends-keep P keeps w p = filled-keeps P keeps w.setup.limit (Changes.plus 12 (Changes.next_length w)) (Changes.fragment_sent w) (keeps w p)
+pub sends-keep : (P : LinkRecord → Type 0) → ((v : LinkRecord) → P v → P (Changes.send_fragment v)) → (w : LinkRecord) → P w → P (Changes.send_fragments w)
+sends-keep P keeps w p = filled-keeps P keeps w.setup.limit (Changes.plus 12 (Changes.next_length w)) (Changes.send_fragment w) (keeps w p)
 
 -- ## Each change keeps it
 
-pub sane-takes : (setup : Setup) (w : World) → Sane setup w → Sane setup (Changes.fragment_sent w)
+pub sane-takes : (setup : Setup) (w : LinkRecord) → Sane setup w → Sane setup (Changes.send_fragment w)
 sane-takes setup w g = step (Messages.front w) refl
   where
-    step : (o : Option ℕ) → Messages.front w ≡ o → Sane setup (Changes.fragment_of_sent w o)
+    step : (o : Option ℕ) → Messages.front w ≡ o → Sane setup (Changes.send_fragment_of w o)
     step None e = g
     step (Some n) e = sane-shape setup w.setup (slotted (shape w) n false) (shape (Changes.with_slot w n false)) w.streams (Shapes.shape-slot w n false)
         (record { setup_is = g.setup_is; sender = sender-takes (shape w) n g.sender (front-takes (shape w) n g.sender e); accepted = g.accepted; known = g.known })
 
-pub sane-abandoned : (setup : Setup) (w : World) (n : ℕ) → Sane setup w → 0 < sent (shape w) n → Sane setup (Changes.abandoned w n)
+pub sane-abandoned : (setup : Setup) (w : LinkRecord) (n : ℕ) → Sane setup w → 0 < sent (shape w) n → Sane setup (Changes.after_abandon w n)
 sane-abandoned setup w n g pos = step (Messages.is_partially_sent w n) refl
   where
     step : (b : Bool) → Messages.is_partially_sent w n ≡ b → Sane setup (Changes.message_changed (if b then Changes.with_slot w n true else w) n Changes.mark_abandoned)
@@ -123,71 +124,71 @@ sane-abandoned setup w n g pos = step (Messages.is_partially_sent w n) refl
         (record { setup_is = g.setup_is; sender = sender-abandoned (shape w) n g.sender e pos; accepted = g.accepted; known = g.known })
 
 -- what was sent stays sent
-pub sent-abandoned : (w : World) (n k : ℕ) → 0 < sent (shape w) k → 0 < sent (shape (Changes.abandoned w n)) k
+pub sent-abandoned : (w : LinkRecord) (n k : ℕ) → 0 < sent (shape w) k → 0 < sent (shape (Changes.after_abandon w n)) k
 sent-abandoned w n k pos = step (Messages.is_partially_sent w n)
   where
     step : (b : Bool) → 0 < sent (shape (Changes.message_changed (if b then Changes.with_slot w n true else w) n Changes.mark_abandoned)) k
     step true = omega (arith, pos, ap (λ y. sent y k) (Shapes.shape-slot w n true), sent-grows (shape w) n true k)
     step false = pos
 
-abbrev pub AllSent : World → List ℕ → Type 0
+abbrev pub AllSent : LinkRecord → List ℕ → Type 0
 AllSent w [] = Unit {0}
 AllSent w (n ∷ ns) = (0 < sent (shape w) n) × AllSent w ns
 
-pub sent-all : (w : World) (n : ℕ) (ns : List ℕ) → AllSent w ns → AllSent (Changes.abandoned w n) ns
+pub sent-all : (w : LinkRecord) (n : ℕ) (ns : List ℕ) → AllSent w ns → AllSent (Changes.after_abandon w n) ns
 sent-all w n [] a = tt
 sent-all w n (k ∷ ns) a = (sent-abandoned w n k a.0, sent-all w n ns a.1)
 
-sane-late : (setup : Setup) (ns : List ℕ) (w : World) → Sane setup w → AllSent w ns → Sane setup (fold Changes.abandoned w ns)
+sane-late : (setup : Setup) (ns : List ℕ) (w : LinkRecord) → Sane setup w → AllSent w ns → Sane setup (fold Changes.after_abandon w ns)
 sane-late setup [] w g a = g
-sane-late setup (n ∷ ns) w g a = sane-late setup ns (Changes.abandoned w n) (sane-abandoned setup w n g a.0) (sent-all w n ns a.1)
+sane-late setup (n ∷ ns) w g a = sane-late setup ns (Changes.after_abandon w n) (sane-abandoned setup w n g a.0) (sent-all w n ns a.1)
 
-all-kept : (w : World) (p : ℕ → Bool) (from count : ℕ) → ((k : ℕ) → p k ≡ true → 0 < sent (shape w) (Messages.message_of w k)) → AllSent w (map (Messages.message_of w) (kept p from count))
+all-kept : (w : LinkRecord) (p : ℕ → Bool) (from count : ℕ) → ((k : ℕ) → p k ≡ true → 0 < sent (shape w) (Messages.message_of w k)) → AllSent w (map (Messages.message_of w) (numbers_where p from count))
 all-kept w p from zero h = tt
 all-kept w p from (suc count) h = step (p from) refl (all-kept w p (from + 1) count h)
   where
-    step : (b : Bool) → p from ≡ b → AllSent w (map (Messages.message_of w) (kept p (from + 1) count)) → AllSent w (map (Messages.message_of w) (if b then from ∷ kept p (from + 1) count else kept p (from + 1) count))
+    step : (b : Bool) → p from ≡ b → AllSent w (map (Messages.message_of w) (numbers_where p (from + 1) count)) → AllSent w (map (Messages.message_of w) (if b then from ∷ numbers_where p (from + 1) count else numbers_where p (from + 1) count))
     step true e ih = (h from e, ih)
     step false e ih = ih
 
-all-passing : (w : World) (q : ℕ → Bool) (ns : List ℕ) → AllSent w ns → AllSent w (passing q ns)
+all-passing : (w : LinkRecord) (q : ℕ → Bool) (ns : List ℕ) → AllSent w ns → AllSent w (filter q ns)
 all-passing w q [] a = tt
 all-passing w q (n ∷ ns) a = step (q n) (all-passing w q ns a.1)
   where
-    step : (b : Bool) → AllSent w (passing q ns) → AllSent w (if b then n ∷ passing q ns else passing q ns)
+    step : (b : Bool) → AllSent w (filter q ns) → AllSent w (if b then n ∷ filter q ns else filter q ns)
     step true ih = (a.0, ih)
     step false ih = ih
 
-all-append : (w : World) (ms ns : List ℕ) → AllSent w ms → AllSent w ns → AllSent w (ms ++ ns)
+all-append : (w : LinkRecord) (ms ns : List ℕ) → AllSent w ms → AllSent w ns → AllSent w (ms ++ ns)
 all-append w [] ns a b = b
 all-append w (m ∷ ms) ns a b = (a.0, all-append w ms ns a.1 b)
 
-pub in-flight-sent : (setup : Setup) (w : World) (p : ℕ) → Sane setup w → Messages.is_in_flight w p ≡ true → 0 < sent (shape w) (Messages.message_of w p)
+pub in-flight-sent : (setup : Setup) (w : LinkRecord) (p : ℕ) → Sane setup w → Messages.is_in_flight w p ≡ true → 0 < sent (shape w) (Messages.message_of w p)
 in-flight-sent setup w p g h = let lt = (both _ (nat_lt p (length w.slots)) h).1 in slot-sent (shape w) p g.sender (grind (arith, nat_tests))
 
-pub late-sent : (setup : Setup) (w : World) (now : ℕ) → Sane setup w → AllSent w (Changes.late_messages w now)
+pub late-sent : (setup : Setup) (w : LinkRecord) (now : ℕ) → Sane setup w → AllSent w (Changes.late_messages w now)
 late-sent setup w now g =
     let all = all-kept w (Changes.is_late w now) 0 (length w.slots) (λ k e. in-flight-sent setup w k g (both (Messages.is_in_flight w k) _ e).0) in
-    all-append w (passing (Messages.is_partially_sent w) (map (Messages.message_of w) (Changes.late_slots w now))) (map (Messages.message_of w) (Changes.late_slots w now)) (all-passing w (Messages.is_partially_sent w) (map (Messages.message_of w) (Changes.late_slots w now)) all) all
+    all-append w (filter (Messages.is_partially_sent w) (map (Messages.message_of w) (Changes.late_slots w now))) (map (Messages.message_of w) (Changes.late_slots w now)) (all-passing w (Messages.is_partially_sent w) (map (Messages.message_of w) (Changes.late_slots w now)) all) all
 
 -- a slot comes
-sane-noted : (setup : Setup) (v : World) (n : ℕ) → Sane setup v → Sane setup (Changes.whole_noted v n)
-sane-noted setup v n g = step (Changes.becomes_whole v n)
+sane-noted : (setup : Setup) (v : LinkRecord) (n : ℕ) → Sane setup v → Sane setup (Changes.note_completion v n)
+sane-noted setup v n g = step (Changes.becomes_complete v n)
   where
-    step : (b : Bool) → Sane setup (if b then Changes.stream_changed v (Messages.message_at v n).stream (Changes.with_whole n) else v)
-    step true = sane-changed setup v (Messages.message_at v n).stream (Changes.with_whole n) (λ r. refl) g
+    step : (b : Bool) → Sane setup (if b then Changes.stream_changed v (Messages.message_at v n).stream (Changes.with_complete n) else v)
+    step true = sane-changed setup v (Messages.message_at v n).stream (Changes.with_complete n) (λ r. refl) g
     step false = g
 
-pub sane-received : (setup : Setup) (w : World) (p : ℕ) → Sane setup w → Sane setup (Changes.slot_received w p)
+pub sane-received : (setup : Setup) (w : LinkRecord) (p : ℕ) → Sane setup w → Sane setup (Changes.receive_slot w p)
 sane-received setup w p g = step (Receiver.is_new w p)
   where
-    step : (b : Bool) → Sane setup (if b then Changes.whole_noted (record w { slots = changed Changes.mark_arrived p w.slots }) (Messages.message_of w p) else record w { duplicates = w.duplicates ++ p ∷ [] })
-    step true = sane-noted setup (record w { slots = changed Changes.mark_arrived p w.slots }) (Messages.message_of w p) (sane-shape setup w.setup (shape w) (shape (record w { slots = changed Changes.mark_arrived p w.slots })) w.streams (Shapes.shape-arrived w p) g)
+    step : (b : Bool) → Sane setup (if b then Changes.note_completion (record w { slots = change_at Changes.mark_arrived p w.slots }) (Messages.message_of w p) else record w { duplicates = w.duplicates ++ p ∷ [] })
+    step true = sane-noted setup (record w { slots = change_at Changes.mark_arrived p w.slots }) (Messages.message_of w p) (sane-shape setup w.setup (shape w) (shape (record w { slots = change_at Changes.mark_arrived p w.slots })) w.streams (Shapes.shape-arrived w p) g)
     step false = g
 
-sane-datagram : (setup : Setup) (w : World) (o : Option Datagram) → Sane setup w → Sane setup (Changes.datagram_received w o)
+sane-datagram : (setup : Setup) (w : LinkRecord) (o : Option Datagram) → Sane setup w → Sane setup (Changes.after_arrive w o)
 sane-datagram setup w None g = g
-sane-datagram setup w (Some (Data slots)) g = fold-keeps (Sane setup) Changes.slot_received (sane-received setup) slots w g
+sane-datagram setup w (Some (Data slots)) g = fold-keeps (Sane setup) Changes.receive_slot (sane-received setup) slots w g
 sane-datagram setup w (Some (Forward upto names)) g = step (Changes.skip_counts w upto)
   where
     step : (b : Bool) → Sane setup (if b then record w { skipped = upto + 1; streams = map (Changes.named_by w names) w.streams } else w)
@@ -195,13 +196,13 @@ sane-datagram setup w (Some (Forward upto names)) g = step (Changes.skip_counts 
     step false = g
 sane-datagram setup w (Some (Sack r)) g = g
 
-sane-taken : (setup : Setup) (w : World) (o : Option Datagram) → Sane setup w → Sane setup (Changes.sack_taken w o)
-sane-taken setup w (Some (Sack r)) g = sane-shape setup w.setup (shape w) (shape (Changes.sack_taken w (Some (Sack r)))) w.streams (Shapes.shape-acknowledged w r (max w.taken r.cumulative)) g
+sane-taken : (setup : Setup) (w : LinkRecord) (o : Option Datagram) → Sane setup w → Sane setup (Changes.after_acked w o)
+sane-taken setup w (Some (Sack r)) g = sane-shape setup w.setup (shape w) (shape (Changes.after_acked w (Some (Sack r)))) w.streams (Shapes.shape-acknowledged w r (max w.taken r.cumulative)) g
 sane-taken setup w (Some (Data slots)) g = g
 sane-taken setup w (Some (Forward upto names)) g = g
 sane-taken setup w None g = g
 
-sane-read : (setup : Setup) (w : World) (s : ℕ) (o : Option ℕ) → Sane setup w → Sane setup (Changes.read_of w s o)
+sane-read : (setup : Setup) (w : LinkRecord) (s : ℕ) (o : Option ℕ) → Sane setup w → Sane setup (Changes.read_of w s o)
 sane-read setup w s None g = g
 sane-read setup w s (Some n) g = sane-changed setup (Changes.message_changed w n Changes.mark_read) s Changes.without_first (λ r. refl) (sane-shape setup w.setup (shape w) (shape (Changes.message_changed w n Changes.mark_read)) w.streams (Shapes.shape-read w n) g)
 
@@ -217,24 +218,24 @@ found s (q ∷ rs) r e = step (q.stream == s) refl e (λ h. found s rs r h)
 
 pub accepted-written : (x : Shape) (m : MessagePart) → accepted_of (written x m) ≡ accepted_of x + parts (written x m) x.count
 accepted-written x m =
-    ap (λ c. total_over (parts (written x m)) (kept always 0 c)) (add-one x.count)
+    ap (λ c. total_over (parts (written x m)) (numbers_where always 0 c)) (add-one x.count)
     ∙ ap (total_over (parts (written x m))) (kept-snoc_in always 0 x.count x.count (omega arith) refl)
-    ∙ total-append (parts (written x m)) (kept always 0 x.count) (x.count ∷ [])
+    ∙ total-append (parts (written x m)) (numbers_where always 0 x.count) (x.count ∷ [])
     ∙ (let e = total-kept_same (parts (written x m)) (parts x) always 0 x.count (λ k a b. parts-old x m k (omega arith)) in omega (arith, e))
 
 pub unless-holds : (b : Bool) (r : LinkRefusal) (others : Option LinkRefusal) → unless b r others ≡ None → (b ≡ true) × (others ≡ None)
 unless-holds true r others e = (refl, e)
 unless-holds false r others e = cc
 
-abbrev pub written_as : World → ℕ → PayloadProtocolIdentifier → List ℕ → Message
+abbrev pub written_as : LinkRecord → ℕ → PayloadProtocolIdentifier → List ℕ → Message
 written_as w s ppi bytes = Changes.message_on w (Messages.stream_of w s) ppi bytes
 
-sane-written : (setup : Setup) (w : World) (s : ℕ) (ppi : PayloadProtocolIdentifier) (bytes : List ℕ) → Messages.is_open w s ≡ true → fragments_accepted w + fragments_in w bytes < 2 ^ 31 → Sane setup w → Sane setup (Changes.wrote w s ppi bytes)
+sane-written : (setup : Setup) (w : LinkRecord) (s : ℕ) (ppi : PayloadProtocolIdentifier) (bytes : List ℕ) → Messages.is_open w s ≡ true → fragments_accepted w + fragments_in w bytes < 2 ^ 31 → Sane setup w → Sane setup (Changes.after_write w s ppi bytes)
 sane-written setup w s ppi [] open' fits g = g
 sane-written setup w s ppi (b ∷ bs) open' fits g =
     let new : parts (written (shape w) (message_part (written_as w s ppi (b ∷ bs)))) (length w.messages) ≡ fragments_in w (b ∷ bs) = ap (λ y. length (pieces (length y.bytes) w.setup.size y.bytes)) (message-new (shape w) (message_part (written_as w s ppi (b ∷ bs)))) in
     let total = accepted-written (shape w) (message_part (written_as w s ppi (b ∷ bs))) in
-    sane-shape setup w.setup (written (shape w) (message_part (written_as w s ppi (b ∷ bs)))) (shape (Changes.wrote w s ppi (b ∷ bs))) w.streams (Shapes.shape-written w (written_as w s ppi (b ∷ bs)))
+    sane-shape setup w.setup (written (shape w) (message_part (written_as w s ppi (b ∷ bs)))) (shape (Changes.after_write w s ppi (b ∷ bs))) w.streams (Shapes.shape-written w (written_as w s ppi (b ∷ bs)))
     (record {
       setup_is = g.setup_is;
       sender = sender-written (shape w) (message_part (written_as w s ppi (b ∷ bs))) g.sender refl refl (omega (arith, new));
@@ -250,33 +251,33 @@ sane-written setup w s ppi (b ∷ bs) open' fits g =
 
 -- ## Each accepted event keeps it
 
-sane-expired : (setup : Setup) (w : World) (now : ℕ) (o : Option ℕ) → Sane setup w → Sane setup (Changes.expired w (Changes.front_if w (λ n. Messages.is_unsent w n && Messages.is_past_deadline w now n) o))
+sane-expired : (setup : Setup) (w : LinkRecord) (now : ℕ) (o : Option ℕ) → Sane setup w → Sane setup (Changes.after_expire w (Changes.front_if w (λ n. Messages.is_unsent w n && Messages.is_past_deadline w now n) o))
 sane-expired setup w now None g = g
 sane-expired setup w now (Some n) g = step (Messages.is_unsent w n) (Messages.is_past_deadline w now n) refl
   where
-    step : (b c : Bool) → Messages.is_unsent w n ≡ b → Sane setup (Changes.expired w (if b && c then Some n else None))
+    step : (b c : Bool) → Messages.is_unsent w n ≡ b → Sane setup (Changes.after_expire w (if b && c then Some n else None))
     step true true e = sane-shape setup w.setup (expired_at (shape w) n) (shape (Changes.message_changed w n Changes.mark_expired)) w.streams (Shapes.shape-expired w n)
         (record { setup_is = g.setup_is; sender = sender-expired (shape w) n g.sender (of-unsent (shape w) n e).none; accepted = g.accepted; known = g.known })
     step true false e = g
     step false c e = g
 
-sane-tail : (setup : Setup) (w : World) (now : ℕ) (o : Option ℕ) → Sane setup w → Sane setup (Changes.tail_abandoned w (Changes.front_if w (λ n. Messages.is_partially_sent w n && Messages.is_past_deadline w now n) o))
+sane-tail : (setup : Setup) (w : LinkRecord) (now : ℕ) (o : Option ℕ) → Sane setup w → Sane setup (Changes.after_tail w (Changes.front_if w (λ n. Messages.is_partially_sent w n && Messages.is_past_deadline w now n) o))
 sane-tail setup w now None g = g
 sane-tail setup w now (Some n) g = step (Messages.is_partially_sent w n) (Messages.is_past_deadline w now n) refl
   where
-    step : (b c : Bool) → Messages.is_partially_sent w n ≡ b → Sane setup (Changes.tail_abandoned w (if b && c then Some n else None))
+    step : (b c : Bool) → Messages.is_partially_sent w n ≡ b → Sane setup (Changes.after_tail w (if b && c then Some n else None))
     step true true e = sane-abandoned setup w n g (of-half (shape w) n e).some
     step true false e = g
     step false c e = g
 
-pub sane-started : (setup : Setup) (w : World) (now : ℕ) → Sane setup w → Sane setup (Changes.started w now)
-sane-started setup w now g = sane-shape setup w.setup (shape w) (shape (Changes.started w now)) w.streams (Shapes.shape-started w now) g
+pub sane-started : (setup : Setup) (w : LinkRecord) (now : ℕ) → Sane setup w → Sane setup (Changes.after_start w now)
+sane-started setup w now g = sane-shape setup w.setup (shape w) (shape (Changes.after_start w now)) w.streams (Shapes.shape-started w now) g
 
-sane-sent : (setup : Setup) (w : World) (now : ℕ) (o : Option ℕ) → Sane setup w → Sane setup (Changes.sent_from (Changes.started w now) o)
+sane-sent : (setup : Setup) (w : LinkRecord) (now : ℕ) (o : Option ℕ) → Sane setup w → Sane setup (Changes.send_from (Changes.after_start w now) o)
 sane-sent setup w now None g = sane-started setup w now g
-sane-sent setup w now (Some n) g = sends-keep (Sane setup) (λ v h. sane-takes setup v h) (Changes.started w now) (sane-started setup w now g)
+sane-sent setup w now (Some n) g = sends-keep (Sane setup) (λ v h. sane-takes setup v h) (Changes.after_start w now) (sane-started setup w now g)
 
-pub sane-after : (setup : Setup) (w : World) (e : Event) → refusal_of w e ≡ None → Sane setup w → Sane setup (after w e)
+pub sane-after : (setup : Setup) (w : LinkRecord) (e : Event) → refusal_of w e ≡ None → Sane setup w → Sane setup (after w e)
 sane-after setup w (E.Open s) ok g = sane-streams setup w.setup (shape w) w.streams (w.streams ++ Messages.no_stream s ∷ []) (λ t h. open-more (Messages.no_stream s) t w.streams h) g
 sane-after setup w (E.Mode s unordered reliability value) ok g = sane-changed setup w s (Changes.with_mode unordered reliability value) (λ r. refl) g
 sane-after setup w (E.Write s ppi bytes) ok g =
@@ -319,6 +320,6 @@ sane-start setup = record {
 }
 
 -- in every history
-pub sane-run : (setup : Setup) (h : History) → IsRun setup h → Sane setup (world_of setup h)
+pub sane-run : (setup : Setup) (h : History) → IsRun setup h → Sane setup (record_of setup h)
 sane-run setup [] run = sane-start setup
-sane-run setup (entry ∷ older) run = sane-after setup (world_of setup older) entry.0 run.0 (sane-run setup older run.1.1)
+sane-run setup (entry ∷ older) run = sane-after setup (record_of setup older) entry.0 run.0 (sane-run setup older run.1.1)

@@ -2,7 +2,7 @@ use Rattle.std.proofs.Common.{◌≡◌, ℕ, ◌+◌, ◌<◌, ◌≤◌, Bool,
 use Rattle.std.specs.Prelude.{◌⊎◌, if◌then◌else◌, ◌==◌, ◌&&◌, not, nat_lt}
 use Rattle.std.proofs.lemmas.Bool.{cases_lt}
 use Rattle.std.proofs.lemmas.Bool.Decides.{nat_tests}
-use Rattle.sctp_list_lemmas.specs.Kept.{kept}
+use Rattle.sctp_list_lemmas.specs.Kept.{numbers_where}
 use Rattle.sctp_list_lemmas.proofs.Passing.{kept-same}
 use Rattle.sctp_list_lemmas.proofs.More.{fails, not_both, both, and, length-kept-positive}
 use Rattle.sctp_model.proofs.sender.Shape.{Shape, has, sent, parts, half, on, slotted}
@@ -72,13 +72,13 @@ module _ (x : Shape) (n : ℕ) (m : Bool) where
   has-new k = ap (λ s. (s.message == k) && not s.is_terminal_chunk) (slot-new x n m)
 
   -- a slot has the number of its fragment
-  pub number-slotted : Sender x → (p : ℕ) → p < y.slots → (y.slot p).fragment ≡ length (kept (has y (y.slot p).message) 0 p)
+  pub number-slotted : Sender x → (p : ℕ) → p < y.slots → (y.slot p).fragment ≡ length (numbers_where (has y (y.slot p).message) 0 p)
   number-slotted s p lt = by_last p x.slots lt
-      (λ l. ap (λ z. z.fragment) (slot-old x n p m l) ∙ s.number p l ∙ sym (ap (λ z. length (kept (has y z.message) 0 p)) (slot-old x n p m l) ∙ upto (x.slot p).message p (omega arith)))
+      (λ l. ap (λ z. z.fragment) (slot-old x n p m l) ∙ s.number p l ∙ sym (ap (λ z. length (numbers_where (has y z.message) 0 p)) (slot-old x n p m l) ∙ upto (x.slot p).message p (omega arith)))
       (λ e. let q : (y.slot p).fragment ≡ sent x n = ap (λ r. (y.slot r).fragment) e ∙ ap (λ z. z.fragment) (slot-new x n m) in
-      q ∙ sym (ap (λ r. length (kept (has y (y.slot r).message) 0 r)) e ∙ ap (λ z. length (kept (has y z.message) 0 x.slots)) (slot-new x n m) ∙ upto n x.slots (omega arith)))
+      q ∙ sym (ap (λ r. length (numbers_where (has y (y.slot r).message) 0 r)) e ∙ ap (λ z. length (numbers_where (has y z.message) 0 x.slots)) (slot-new x n m) ∙ upto n x.slots (omega arith)))
     where
-      upto : (k p : ℕ) → p ≤ x.slots → length (kept (has y k) 0 p) ≡ length (kept (has x k) 0 p)
+      upto : (k p : ℕ) → p ≤ x.slots → length (numbers_where (has y k) 0 p) ≡ length (numbers_where (has x k) 0 p)
       upto k p le = ap length (kept-same (has y k) (has x k) 0 p (λ j a b. has-old k j (omega arith)))
 
   pub made-slotted : Sender x → n < x.count → (p : ℕ) → p < y.slots → (y.slot p).message < y.count
@@ -114,7 +114,7 @@ sender-takes x n s t = record {
   within = λ k lt. by_same {P = sent (slotted x n false) k ≤ parts x k} n k
       (λ e. let z : sent (slotted x n false) k ≡ sent x n + 1 = ap (sent (slotted x n false)) (sym e) ∙ sent-here x n in let w : parts x n ≡ parts x k = ap (parts x) e in omega (arith, t.more, z, w))
       (λ ne f. omega (arith, sent-other x n false k ne, s.within k lt));
-  marks = λ k lt. marks-slotted x n k false ∙ none (n == k) (length (kept (is_mark x k) 0 x.slots)) ∙ s.marks k lt ∙ by_same {P = marks_due x k ≡ marks_due (slotted x n false) k} n k
+  marks = λ k lt. marks-slotted x n k false ∙ none (n == k) (length (numbers_where (is_mark x k) 0 x.slots)) ∙ s.marks k lt ∙ by_same {P = marks_due x k ≡ marks_due (slotted x n false) k} n k
       (λ e. let dead : (x.message k).abandoned ≡ false = ap (λ j. (x.message j).abandoned) (sym e) ∙ t.alive in rw dead refl)
       (λ ne f. ap (λ c. if (x.message k).abandoned && nat_lt c (parts x k) then 1 else 0) (sym (sent-other x n false k ne)));
   expired_unsent = λ k lt e. sent-other x n false k (λ z. not_both (sym t.kept ∙ ap (λ j. (x.message j).expired) z ∙ e)) ∙ s.expired_unsent k lt e;

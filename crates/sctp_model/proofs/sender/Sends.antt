@@ -1,19 +1,20 @@
 use Rattle.std.proofs.Common.{◌≡◌, ℕ, ◌+◌, ◌-◌, ◌<◌, ◌≤◌, Bool, true, false, [], ◌∷◌, ◌++◌, length, Option, Some, None, refl, ap, sym, ◌∙◌, inl, inr, arith, length-append}
 use Rattle.std.specs.Prelude.{◌⊎◌, if◌then◌else◌, ◌&&◌, ◌||◌, not, ◌↔◌, slice_get, is_some, Result, Ok, Err}
 use Rattle.std.proofs.lemmas.Bool.{cases_lt}
-use Rattle.sctp_list_lemmas.specs.Kept.{kept, always, numbers_from, total_over, gathered}
+use Rattle.std.specs.List.{flat_map}
+use Rattle.sctp_list_lemmas.specs.Kept.{numbers_where, always, numbers_from, total_over}
 use Rattle.sctp_list_lemmas.proofs.More.{not_both}
 use Rattle.sctp_model.specs.declared.event.Event.TheVariants as E
 use Rattle.sctp_model.specs.declared.event.LinkRefusal.{LinkRefusal}
 use Rattle.sctp_model.specs.declared.event.LinkRefusal.TheVariants.{StreamUnknown, StreamOpen, MessageTooLarge, TsnsUsedUp, NoSuchDatagram, NotInFlight, SkipUnassigned, SkipNames, SpanTooWide, OutOfMemory}
 use Rattle.sctp_model.specs.Reply.{Reply}
 use Rattle.sctp_model.specs.Reply as R
-use Rattle.sctp_model.specs.World.{Setup, Data, World}
+use Rattle.sctp_model.specs.LinkRecord.{Setup, Data, LinkRecord}
 use Rattle.sctp_model.specs.Messages
 use Rattle.sctp_model.specs.Amounts.{is_expired_or_abandoned}
 use Rattle.sctp_model.specs.Changes
 use Rattle.sctp_model.specs.Queues.{pending_fragments, pending_at}
-use Rattle.sctp_model.specs.Steps.{world_of, after, refusal_of, reply_to, sent_reply, Answers}
+use Rattle.sctp_model.specs.Steps.{record_of, after, refusal_of, reply_to, sent_reply, Answers}
 use Rattle.sctp_model.specs.Laws.{OnEveryRun, pending_count, EmitsWherePending, TakesPending, IdleIsAnswered}
 use Rattle.sctp_model.proofs.sender.Shape.{Shape, shape, sent, parts, slotted, front_of}
 use Rattle.sctp_model.proofs.sender.SenderSteps.{Takes, is-half, sent-other, sent-here}
@@ -32,13 +33,13 @@ waiting_of x n = if (x.message n).expired || (x.message n).abandoned then 0 else
 abbrev pub waiting : Shape → ℕ
 waiting x = total_over (waiting_of x) (numbers_from 0 x.count)
 
-count-pending : (w : World) → pending_count w ≡ waiting (shape w)
+count-pending : (w : LinkRecord) → pending_count w ≡ waiting (shape w)
 count-pending w =
     let o : ℕ → Bool = λ n. (Messages.message_at w n).ordered && not (is_expired_or_abandoned w n) in
     let u : ℕ → Bool = λ n. not (Messages.message_at w n).ordered && not (is_expired_or_abandoned w n) in
-    length-append (gathered (pending_fragments w) (Messages.messages_where w o)) (gathered (pending_fragments w) (Messages.messages_where w u))
-    ∙ ap (λ c. c + length (gathered (pending_fragments w) (Messages.messages_where w u))) (length-gathered (pending_fragments w) o 0 (length w.messages))
-    ∙ ap (λ c. total_over (λ n. if o n then length (pending_fragments w n) else 0) (kept always 0 (length w.messages)) + c) (length-gathered (pending_fragments w) u 0 (length w.messages))
+    length-append (flat_map (pending_fragments w) (Messages.messages_where w o)) (flat_map (pending_fragments w) (Messages.messages_where w u))
+    ∙ ap (λ c. c + length (flat_map (pending_fragments w) (Messages.messages_where w u))) (length-gathered (pending_fragments w) o 0 (length w.messages))
+    ∙ ap (λ c. total_over (λ n. if o n then length (pending_fragments w n) else 0) (numbers_where always 0 (length w.messages)) + c) (length-gathered (pending_fragments w) u 0 (length w.messages))
     ∙ total-plus (λ n. if o n then length (pending_fragments w n) else 0) (λ n. if u n then length (pending_fragments w n) else 0) (waiting_of (shape w)) always 0 (length w.messages)
     (λ n a b. each (Messages.message_at w n).ordered (is_expired_or_abandoned w n) (length (pending_fragments w n)) (parts (shape w) n - sent (shape w) n) (length-mapped (pending_at w n) (numbers_from (sent (shape w) n) (parts (shape w) n - sent (shape w) n)) ∙ length-numbers (sent (shape w) n) (parts (shape w) n - sent (shape w) n)))
   where
@@ -82,26 +83,26 @@ taken-waits x n t =
 -- ## The law
 
 pub emits_where_pending : OnEveryRun EmitsWherePending
-emits_where_pending setup h is run now = step (Messages.front (world_of setup h)) refl
+emits_where_pending setup h is run now = step (Messages.front (record_of setup h)) refl
   where
-    step : (o : Option ℕ) → Messages.front (world_of setup h) ≡ o → (sent_reply (world_of setup h) (after (world_of setup h) (E.Send now)) o ≡ R.Idle) ↔ (pending_count (world_of setup h) ≡ 0)
-    step None e = (λ i. count-pending (world_of setup h) ∙ none-waits (shape (world_of setup h)) e, λ z. refl)
+    step : (o : Option ℕ) → Messages.front (record_of setup h) ≡ o → (sent_reply (record_of setup h) (after (record_of setup h) (E.Send now)) o ≡ R.Idle) ↔ (pending_count (record_of setup h) ≡ 0)
+    step None e = (λ i. count-pending (record_of setup h) ∙ none-waits (shape (record_of setup h)) e, λ z. refl)
     step (Some n) e = (
       λ i. cc,
-      λ z. absurd (omega (arith, z, count-pending (world_of setup h), some-waits (shape (world_of setup h)) n (front-takes (shape (world_of setup h)) n (sane-run setup h run).sender e))),
+      λ z. absurd (omega (arith, z, count-pending (record_of setup h), some-waits (shape (record_of setup h)) n (front-takes (shape (record_of setup h)) n (sane-run setup h run).sender e))),
     )
 
 -- what a record of which some fragments took slots keeps
-record Sending (setup : Setup) (w v : World) : Type 0 where
+record Sending (setup : Setup) (w v : LinkRecord) : Type 0 where
   sane : Sane setup v
   more : length w.slots < length v.slots
   balance : waiting (shape v) + length v.slots ≡ waiting (shape w) + length w.slots
   network : v.network ≡ w.network
 
-sending-more : (setup : Setup) (w v : World) → Sending setup w v → Sending setup w (Changes.fragment_sent v)
+sending-more : (setup : Setup) (w v : LinkRecord) → Sending setup w v → Sending setup w (Changes.send_fragment v)
 sending-more setup w v s = record { sane = sane-takes setup v s.sane; more = r.0; balance = r.1; network = r.2 }
   where
-    step : (o : Option ℕ) → Messages.front v ≡ o → (length w.slots < length (Changes.fragment_of_sent v o).slots) × (waiting (shape (Changes.fragment_of_sent v o)) + length (Changes.fragment_of_sent v o).slots ≡ waiting (shape w) + length w.slots) × ((Changes.fragment_of_sent v o).network ≡ w.network)
+    step : (o : Option ℕ) → Messages.front v ≡ o → (length w.slots < length (Changes.send_fragment_of v o).slots) × (waiting (shape (Changes.send_fragment_of v o)) + length (Changes.send_fragment_of v o).slots ≡ waiting (shape w) + length w.slots) × ((Changes.send_fragment_of v o).network ≡ w.network)
     step None e = (s.more, s.balance, s.network)
     step (Some n) e =
         let t = front-takes (shape v) n s.sane.sender e in
@@ -109,51 +110,51 @@ sending-more setup w v s = record { sane = sane-takes setup v s.sane; more = r.0
         let l = ap (λ y. y.slots) i in
         (omega (arith, l, s.more), omega (arith, l, ap waiting i, taken-waits (shape v) n t, s.balance), s.network)
 
-    r : (length w.slots < length (Changes.fragment_sent v).slots) × (waiting (shape (Changes.fragment_sent v)) + length (Changes.fragment_sent v).slots ≡ waiting (shape w) + length w.slots) × ((Changes.fragment_sent v).network ≡ w.network)
+    r : (length w.slots < length (Changes.send_fragment v).slots) × (waiting (shape (Changes.send_fragment v)) + length (Changes.send_fragment v).slots ≡ waiting (shape w) + length w.slots) × ((Changes.send_fragment v).network ≡ w.network)
     r = step (Messages.front v) refl
 
-sending-first : (setup : Setup) (w : World) (now n : ℕ) → Sane setup w → Messages.front w ≡ Some n → Sending setup w (Changes.fragment_sent (Changes.started w now))
+sending-first : (setup : Setup) (w : LinkRecord) (now n : ℕ) → Sane setup w → Messages.front w ≡ Some n → Sending setup w (Changes.send_fragment (Changes.after_start w now))
 sending-first setup w now n g e = rw f (record {
-  sane = rw f at (sane-takes setup (Changes.started w now) (sane-started setup w now g));
+  sane = rw f at (sane-takes setup (Changes.after_start w now) (sane-started setup w now g));
   more = omega (arith, l, slots);
   balance = omega (arith, l, slots, ap waiting i, ap (λ y. waiting (slotted y n false)) same, taken-waits (shape w) n (front-takes (shape w) n g.sender e));
   network = refl;
 })
   where
-    same : shape (Changes.started w now) ≡ shape w
+    same : shape (Changes.after_start w now) ≡ shape w
     same = Shapes.shape-started w now
 
-    f : Messages.front (Changes.started w now) ≡ Some n
+    f : Messages.front (Changes.after_start w now) ≡ Some n
     f = ap front_of same ∙ e
 
-    i : shape (Changes.with_slot (Changes.started w now) n false) ≡ slotted (shape (Changes.started w now)) n false
-    i = Shapes.shape-slot (Changes.started w now) n false
+    i : shape (Changes.with_slot (Changes.after_start w now) n false) ≡ slotted (shape (Changes.after_start w now)) n false
+    i = Shapes.shape-slot (Changes.after_start w now) n false
 
-    l : length (Changes.with_slot (Changes.started w now) n false).slots ≡ length w.slots + 1
+    l : length (Changes.with_slot (Changes.after_start w now) n false).slots ≡ length w.slots + 1
     l = ap (λ y. y.slots) i
 
-    slots : length (Changes.started w now).slots ≡ length w.slots
+    slots : length (Changes.after_start w now).slots ≡ length w.slots
     slots = refl
 
 pub takes_pending : OnEveryRun TakesPending
-takes_pending setup h is run now d tsn ssn count e = step (Messages.front (world_of setup h)) refl e
+takes_pending setup h is run now d tsn ssn count e = step (Messages.front (record_of setup h)) refl e
   where
-    step : (o : Option ℕ) → Messages.front (world_of setup h) ≡ o
-        → sent_reply (world_of setup h) (Changes.sent_from (Changes.started (world_of setup h) now) o) o ≡ R.Sent d tsn ssn count
-        → (0 < count) × ((pending_count (Changes.sent_from (Changes.started (world_of setup h) now) o) + count ≡ pending_count (world_of setup h)) × (slice_get (Changes.sent_from (Changes.started (world_of setup h) now) o).network d ≡ Some (Data (numbers_from (length (world_of setup h).slots) count))))
+    step : (o : Option ℕ) → Messages.front (record_of setup h) ≡ o
+        → sent_reply (record_of setup h) (Changes.send_from (Changes.after_start (record_of setup h) now) o) o ≡ R.Sent d tsn ssn count
+        → (0 < count) × ((pending_count (Changes.send_from (Changes.after_start (record_of setup h) now) o) + count ≡ pending_count (record_of setup h)) × (slice_get (Changes.send_from (Changes.after_start (record_of setup h) now) o).network d ≡ Some (Data (numbers_from (length (record_of setup h).slots) count))))
     step None f i = cc
     step (Some n) f i =
-        let u = Changes.started (world_of setup h) now in
-        let v = Changes.fragments_sent u in
-        let s : Sending setup (world_of setup h) v = filled-keeps (Sending setup (world_of setup h)) (λ v q. sending-more setup (world_of setup h) v q) u.setup.limit (Changes.plus 12 (Changes.next_length u)) (Changes.fragment_sent u) (sending-first setup (world_of setup h) now n (sane-run setup h run) f) in
-        let c : length v.slots - length (world_of setup h).slots ≡ count = cc in
-        let dd : length (world_of setup h).network ≡ d = cc in (
+        let u = Changes.after_start (record_of setup h) now in
+        let v = Changes.send_fragments u in
+        let s : Sending setup (record_of setup h) v = filled-keeps (Sending setup (record_of setup h)) (λ v q. sending-more setup (record_of setup h) v q) u.setup.limit (Changes.plus 12 (Changes.next_length u)) (Changes.send_fragment u) (sending-first setup (record_of setup h) now n (sane-run setup h run) f) in
+        let c : length v.slots - length (record_of setup h).slots ≡ count = cc in
+        let dd : length (record_of setup h).network ≡ d = cc in (
           omega (arith, s.more, c),
           (
-            omega (arith, s.more, c, s.balance, count-pending (world_of setup h), count-pending (Changes.with_data u v)),
-            ap (λ k. slice_get (v.network ++ Data (numbers_from (length (world_of setup h).slots) (length v.slots - length (world_of setup h).slots)) ∷ []) k) (sym dd ∙ ap length (sym s.network))
-                ∙ get-last v.network (Data (numbers_from (length (world_of setup h).slots) (length v.slots - length (world_of setup h).slots)))
-                ∙ ap (λ k. Some (Data (numbers_from (length (world_of setup h).slots) k))) c,
+            omega (arith, s.more, c, s.balance, count-pending (record_of setup h), count-pending (Changes.with_data u v)),
+            ap (λ k. slice_get (v.network ++ Data (numbers_from (length (record_of setup h).slots) (length v.slots - length (record_of setup h).slots)) ∷ []) k) (sym dd ∙ ap length (sym s.network))
+                ∙ get-last v.network (Data (numbers_from (length (record_of setup h).slots) (length v.slots - length (record_of setup h).slots)))
+                ∙ ap (λ k. Some (Data (numbers_from (length (record_of setup h).slots) k))) c,
           ),
         )
 
@@ -161,8 +162,8 @@ takes_pending setup h is run now d tsn ssn count e = step (Messages.front (world
 pub idle_is_answered : OnEveryRun IdleIsAnswered
 idle_is_answered setup h is run now result new a = (told result a, λ z. idle result a ((emits_where_pending setup h is run now).1 z))
   where
-    w : World
-    w = world_of setup h
+    w : LinkRecord
+    w = record_of setup h
 
     told : (result : Result Reply LinkRefusal) → Answers w (E.Send now) result new → result ≡ Ok R.Idle → pending_count w ≡ 0
     told (Ok reply) a e = let z : reply ≡ R.Idle = cc in (emits_where_pending setup h is run now).0 (sym a.1.right ∙ z)

@@ -1,10 +1,10 @@
 -- What the sender's laws speak of: messages and slots without the flags that the receiver and the network set.
 use Rattle.std.proofs.Common.{◌≡◌, ℕ, ◌+◌, Bool, List, length, Option, refl}
 use Rattle.std.specs.Prelude.{if◌then◌else◌, ◌==◌, ◌&&◌, ◌||◌, not, nat_lt}
-use Rattle.sctp_list_lemmas.specs.Kept.{kept, first_of, or_else}
+use Rattle.sctp_list_lemmas.specs.Kept.{numbers_where, first_of, or_else}
 use Rattle.sctp_list_lemmas.specs.Lists.{pieces}
 use Rattle.sctp_chunks.specs.declared.chunk.chunk_payload_data.PayloadProtocolIdentifier.{PayloadProtocolIdentifier}
-use Rattle.sctp_model.specs.World.{Message, Slot, World}
+use Rattle.sctp_model.specs.LinkRecord.{Message, Slot, LinkRecord}
 use Rattle.sctp_model.specs.Messages
 use Rattle.sctp_model.specs.Messages.{message_at, slot_at, no_message, no_slot}
 
@@ -38,7 +38,7 @@ pub record Shape : Type 0 where
   pub slots : ℕ
   pub slot : ℕ → SlotPart
 
-abbrev pub shape : World → Shape
+abbrev pub shape : LinkRecord → Shape
 shape w = record { size = w.setup.size; count = length w.messages; message = λ n. message_part (message_at w n); slots = length w.slots; slot = λ p. slot_part (slot_at w p) }
 
 -- ## The words of the record, over its shape
@@ -47,7 +47,7 @@ abbrev pub has : Shape → ℕ → ℕ → Bool
 has x n p = ((x.slot p).message == n) && not (x.slot p).is_terminal_chunk
 
 abbrev pub sent : Shape → ℕ → ℕ
-sent x n = length (kept (has x n) 0 x.slots)
+sent x n = length (numbers_where (has x n) 0 x.slots)
 
 abbrev pub parts : Shape → ℕ → ℕ
 parts x n = length (pieces (length (x.message n).bytes) x.size (x.message n).bytes)
@@ -62,21 +62,21 @@ abbrev pub on : Shape → ℕ → ℕ → Bool
 on x s n = ((x.message n).stream == s) && ((x.message n).ordered && not (x.message n).expired)
 
 abbrev pub index : Shape → ℕ → ℕ
-index x n = length (kept (on x (x.message n).stream) 0 n)
+index x n = length (numbers_where (on x (x.message n).stream) 0 n)
 
 abbrev pub front_of : Shape → Option ℕ
 front_of x =
-    or_else (first_of (kept (half x) 0 x.count))
-    (or_else (first_of (kept (λ n. unsent x n && not (x.message n).ordered) 0 x.count))
-    (first_of (kept (λ n. unsent x n && (x.message n).ordered) 0 x.count)))
+    or_else (first_of (numbers_where (half x) 0 x.count))
+    (or_else (first_of (numbers_where (λ n. unsent x n && not (x.message n).ordered) 0 x.count))
+    (first_of (numbers_where (λ n. unsent x n && (x.message n).ordered) 0 x.count)))
 
-sent-is : (w : World) (n : ℕ) → Messages.sent_of w n ≡ sent (shape w) n
+sent-is : (w : LinkRecord) (n : ℕ) → Messages.sent_of w n ≡ sent (shape w) n
 sent-is w n = refl
 
-front-is : (w : World) → Messages.front w ≡ front_of (shape w)
+front-is : (w : LinkRecord) → Messages.front w ≡ front_of (shape w)
 front-is w = refl
 
-index-is : (w : World) (n : ℕ) → Messages.index_of w n ≡ index (shape w) n
+index-is : (w : LinkRecord) (n : ℕ) → Messages.index_of w n ≡ index (shape w) n
 index-is w n = refl
 
 -- ## Changes of a shape

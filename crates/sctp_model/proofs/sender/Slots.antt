@@ -2,12 +2,12 @@ use Rattle.std.proofs.Common.{◌≡◌, ℕ, zero, suc, ◌<◌, ◌≤◌, Boo
 use Rattle.std.specs.Prelude.{◌⊎◌, ◌==◌, ◌&&◌, not, nat_lt}
 use Rattle.std.proofs.lemmas.Bool.{cases_lt}
 use Rattle.std.proofs.lemmas.Bool.Decides.{nat_tests}
-use Rattle.sctp_list_lemmas.specs.Kept.{kept, always, first_of}
+use Rattle.sctp_list_lemmas.specs.Kept.{numbers_where, always, first_of}
 use Rattle.sctp_list_lemmas.proofs.Passing.{kept-same}
 use Rattle.sctp_list_lemmas.proofs.More.{fails, not_both, and, same_test}
-use Rattle.sctp_model.specs.World.{World}
+use Rattle.sctp_model.specs.LinkRecord.{LinkRecord}
 use Rattle.sctp_model.specs.Messages
-use Rattle.sctp_model.specs.Steps.{world_of}
+use Rattle.sctp_model.specs.Steps.{record_of}
 use Rattle.sctp_model.specs.Laws.{OnEveryRun, SlotsInOrder, SlotsFollow, OnePartiallySent, SentInTurn, IndexesLeaveNoGap}
 use Rattle.sctp_model.proofs.sender.Shape.{Shape, shape, has, sent, half, on}
 use Rattle.sctp_model.proofs.sender.Sender.{Sender}
@@ -25,35 +25,35 @@ use Rattle.sctp_list_lemmas.proofs.Totals.{length-numbers}
 
 -- ## Slots
 
-pub beyond-slots : (w : World) (n p : ℕ) → length w.slots ≤ p → has (shape w) n p ≡ false
+pub beyond-slots : (w : LinkRecord) (n p : ℕ) → length w.slots ≤ p → has (shape w) n p ≡ false
 beyond-slots w n p le = fails (has (shape w) n p) (λ h. not_both (sym (of-has (shape w) n p h).1 ∙ ap (λ s. s.is_terminal_chunk) (get-beyond w.slots p Messages.no_slot le)))
 
-pub slots-row : (w : World) (n : ℕ) → Sender (shape w) → IsRow (has (shape w) n) (length w.slots)
+pub slots-row : (w : LinkRecord) (n : ℕ) → Sender (shape w) → IsRow (has (shape w) n) (length w.slots)
 slots-row w n s = row (has (shape w) n) (length w.slots) (λ k lt e pos.
     let o = of-has (shape w) n k e in
-    let f : (Messages.slot_at w k).fragment ≡ length (kept (has (shape w) n) 0 k) = s.number k lt ∙ ap (λ m. length (kept (has (shape w) m) 0 k)) o.0 in
+    let f : (Messages.slot_at w k).fragment ≡ length (numbers_where (has (shape w) n) 0 k) = s.number k lt ∙ ap (λ m. length (numbers_where (has (shape w) m) 0 k)) o.0 in
     let b = s.beside k lt o.1 (omega (arith, f, pos)) in
     (b.0, b.1, ap (λ m. has (shape w) m b.0) (sym o.0) ∙ b.2)) (λ k le. beyond-slots w n k le)
 
 pub slots_in_order : OnEveryRun SlotsInOrder
 slots_in_order setup h is run n lt =
     let s = (sane-run setup h run).sender in (
-      numbered (λ p. (Messages.slot_at (world_of setup h) p).fragment) (has (shape (world_of setup h)) n) (length (world_of setup h).slots)
-          (λ k l e. s.number k l ∙ ap (λ m. length (kept (has (shape (world_of setup h)) m) 0 k)) (of-has (shape (world_of setup h)) n k e).0),
+      numbered (λ p. (Messages.slot_at (record_of setup h) p).fragment) (has (shape (record_of setup h)) n) (length (record_of setup h).slots)
+          (λ k l e. s.number k l ∙ ap (λ m. length (numbers_where (has (shape (record_of setup h)) m) 0 k)) (of-has (shape (record_of setup h)) n k e).0),
       (s.within n lt, s.marks n lt),
     )
 
 pub slots_follow : OnEveryRun SlotsFollow
 slots_follow setup h is run n place e =
-    let r = slots-row (world_of setup h) n (sane-run setup h run).sender in
-    r.is ∙ ap (λ l. kept always l r.many) (first r.from r.many (sym (ap first_of r.is) ∙ e)) ∙ ap (kept always place) (sym (length-numbers r.from r.many) ∙ ap length (sym r.is))
+    let r = slots-row (record_of setup h) n (sane-run setup h run).sender in
+    r.is ∙ ap (λ l. numbers_where always l r.many) (first r.from r.many (sym (ap first_of r.is) ∙ e)) ∙ ap (numbers_where always place) (sym (length-numbers r.from r.many) ∙ ap length (sym r.is))
   where
-    first : (from many : ℕ) → first_of (kept always from many) ≡ Some place → from ≡ place
+    first : (from many : ℕ) → first_of (numbers_where always from many) ≡ Some place → from ≡ place
     first from zero e = cc
     first from (suc many) e = cc
 
 pub one_partially_sent : OnEveryRun OnePartiallySent
-one_partially_sent setup h is run = let s = (sane-run setup h run).sender in at-most-one (half (shape (world_of setup h))) 0 (length (world_of setup h).messages) (λ j k a b. half-one (shape (world_of setup h)) j k s a b)
+one_partially_sent setup h is run = let s = (sane-run setup h run).sender in at-most-one (half (shape (record_of setup h))) 0 (length (record_of setup h).messages) (λ j k a b. half-one (shape (record_of setup h)) j k s a b)
 
 pub sent-made : (x : Shape) (n : ℕ) → Sender x → 0 < sent x n → n < x.count
 sent-made x n s pos = step (cases_lt n x.count)
@@ -63,7 +63,7 @@ sent-made x n s pos = step (cases_lt n x.count)
     step (inr g) = absurd (omega (arith, sent-none x n s g))
 
 pub sent_in_turn : OnEveryRun SentInTurn
-sent_in_turn setup h is run s m n lt a b pos = let g = (sane-run setup h run).sender in g.turn s m n lt (sent-made (shape (world_of setup h)) n g pos) a b pos
+sent_in_turn setup h is run s m n lt a b pos = let g = (sane-run setup h run).sender in g.turn s m n lt (sent-made (shape (record_of setup h)) n g pos) a b pos
 
 -- a message that was sent did not expire
 pub sent-alive : (x : Shape) (n : ℕ) → Sender x → 0 < sent x n → (x.message n).expired ≡ false
@@ -88,6 +88,6 @@ indexed x m n s lt ord pos = step ((x.message m).stream == (x.message n).stream)
 
 pub indexes_leave_no_gap : OnEveryRun IndexesLeaveNoGap
 indexes_leave_no_gap setup h is run n ord pos =
-    let x = shape (world_of setup h) in
+    let x = shape (record_of setup h) in
     let s = (sane-run setup h run).sender in
     ap length (kept-same (on x (x.message n).stream) (λ m. ((x.message m).stream == (x.message n).stream) && ((x.message m).ordered && nat_lt 0 (sent x m))) 0 n (λ m a b. indexed x m n s (omega arith) ord pos))

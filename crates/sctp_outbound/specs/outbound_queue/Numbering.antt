@@ -1,12 +1,12 @@
 -- Runs of calls of an outbound queue, each of which is handed the next TSN as the one before left it.
 use Rattle.std.specs.Prelude.{◌≡◌, ℕ, ◌==◌, Bool, true, ◌&&◌, List, [], ◌∷◌, Option, Some, None, is_some, max, if◌then◌else◌}
-use Rattle.std.specs.List.{find, list_any}
+use Rattle.std.specs.List.{find, list_any, filter}
 use Rattle.std.specs.Option.{option_map}
 use Rattle.sctp_chunks.specs.declared.chunk.chunk_payload_data.ChunkPayloadData.{ChunkPayloadData}
-use Rattle.sctp_list_lemmas.specs.Lists.{change_where, those}
-use Rattle.sctp_serial.specs.DataChunks.{has_tsn}
-use Rattle.sctp_outbound.specs.Marks.{acknowledged, is_of, is_outstanding, with_miss_indicator, with_nsent, with_retransmit, with_since}
-use Rattle.sctp_outbound.specs.outbound_queue.OutboundQueue.{Outbound, abandoned_of, all_started, terminal_chunk, expired_of, expiring, expiring_tail, following_tsn, message_of, numbered, sent_next, to_abandon, tsn_after_of, with_inflight, with_message}
+use Rattle.sctp_list_lemmas.specs.Lists.{change_where}
+use Rattle.sctp_serial.specs.DataChunks.{has_tsn, following_tsn}
+use Rattle.sctp_outbound.specs.Marks.{as_acknowledged, is_of, is_outstanding, with_miss_indicator, with_nsent, with_retransmit, with_since}
+use Rattle.sctp_outbound.specs.outbound_queue.OutboundQueue.{Outbound, new_outbound, abandoned_of, all_started, terminal_chunk, expired_of, expiring, expiring_tail, message_of, as_sent, sent_next, to_abandon, tsn_after_of, with_inflight, with_message}
 use Rattle.sctp_outbound.specs.payload_queue.PayloadQueue.{without_front}
 use Rattle.sctp_outbound.specs.pending_queue.PendingQueue as pending
 use Rattle.sctp_outbound.specs.pending_queue.Whole.{IsMessageOrNone}
@@ -52,7 +52,7 @@ queue_after (expire_pending_tail now) q next =
     abandoned_of (message_of (expiring_tail now q)) next q
 queue_after (pop tsn) q next = with_inflight q (without_front tsn q.inflight.chunks)
 queue_after (mark_as_acked tsn) q next =
-    with_inflight q (change_where (has_tsn tsn) acknowledged q.inflight.chunks)
+    with_inflight q (change_where (has_tsn tsn) as_acknowledged q.inflight.chunks)
 queue_after mark_all_to_retransmit q next =
     with_inflight q (change_where is_outstanding (with_retransmit true) q.inflight.chunks)
 queue_after (set_retransmit tsn retransmit) q next =
@@ -64,14 +64,14 @@ queue_after (set_since tsn since) q next =
 queue_after (set_miss_indicator tsn count) q next =
     with_inflight q (change_where (has_tsn tsn) (with_miss_indicator count) q.inflight.chunks)
 queue_after (reserve ordered unordered) q next =
-    record q { pending = pending.reserved q.pending ordered unordered }
+    record q { pending = pending.with_room q.pending ordered unordered }
 queue_after (reserve_inflight sends) q next =
     record q { inflight = record q.inflight { room = max sends q.inflight.room } }
 
 -- the next TSN after a call, as the call ensures it; most calls are not handed it
 abbrev pub next_after : Call → Outbound → ℕ → ℕ
 next_after (send_next now) q next =
-    if is_some (pending.peeked q.pending) then following_tsn next else next
+    if is_some (pending.next_pending q.pending) then following_tsn next else next
 next_after (abandon tsn) q next =
     tsn_after_of (to_abandon (find (has_tsn tsn) q.inflight.chunks)) next q
 next_after (expire_pending_tail now) q next = tsn_after_of (message_of (expiring_tail now q)) next q
@@ -86,7 +86,7 @@ terminal_chunk_of (Some message) q next =
 -- the chunk that a call puts in flight
 abbrev pub put_by : Call → Outbound → ℕ → Option ChunkPayloadData
 put_by (send_next now) q next =
-    option_map (numbered next now) (pending.peeked (all_started now q).pending)
+    option_map (as_sent next now) (pending.next_pending (all_started now q).pending)
 put_by (abandon tsn) q next =
     terminal_chunk_of (to_abandon (find (has_tsn tsn) q.inflight.chunks)) q next
 put_by (expire_pending_tail now) q next =
@@ -120,19 +120,7 @@ after_all (c ∷ cs) s = after_all cs (after c s)
 -- a new queue, and the first TSN
 abbrev pub at_first : ℕ → Stand
 at_first tsn = record {
-  queue = record {
-    pending =
-        record {
-          ordered = [];
-          unordered = [];
-          selected = None;
-          ordered_room = 0;
-          unordered_room = 0;
-        };
-    inflight = record { chunks = []; duplicates = []; room = 0 };
-    next_message_id = 0;
-    next_unstarted = 0;
-  };
+  queue = new_outbound;
   next = tsn;
   put = [];
 }
@@ -163,7 +151,7 @@ RiseByOne (c ∷ d ∷ ds) = (c.tsn ≡ following_tsn d.tsn) × RiseByOne (d ∷
 
 -- the chunks of each message, its terminal chunk included, have consecutive TSNs
 abbrev pub AreConsecutive : List ChunkPayloadData → Type 0
-AreConsecutive put = (message : ℕ) → RiseByOne (those (is_of message) put)
+AreConsecutive put = (message : ℕ) → RiseByOne (filter (is_of message) put)
 
 -- whether the chunk is of the message and has the TSN
 abbrev pub is_at : ℕ → ℕ → ChunkPayloadData → Bool

@@ -1,13 +1,15 @@
 -- What is pending and what is in flight, as callers see it.
-use Rattle.std.specs.Prelude.{◌≡◌, ℕ, zero, suc, ◌+◌, ◌-◌, ◌%◌, ◌^◌, ◌==◌, ◌++◌, List, [], ◌∷◌, length, map, Bool, true, false, not, ◌&&◌, ◌||◌, nat_le, is_some, Option, Some, None, if◌then◌else◌}
-use Rattle.std.specs.List.{find}
+use Rattle.std.specs.Prelude.{ℕ, zero, suc, ◌+◌, ◌-◌, ◌==◌, ◌++◌, List, [], ◌∷◌, length, map, Bool, true, false, not, ◌&&◌, ◌||◌, nat_le, Option, Some, None, if◌then◌else◌}
+use Rattle.std.specs.List.{filter}
+use Rattle.sctp_chunks.specs.PayloadTypes.{is_dcep}
+use Rattle.sctp_chunks.specs.Reliability.{is_past}
 use Rattle.sctp_chunks.specs.declared.chunk.chunk_payload_data.ChunkPayloadData.{ChunkPayloadData}
-use Rattle.sctp_list_lemmas.specs.Lists.{change_where, those}
-use Rattle.sctp_outbound.specs.Marks.{is_of, as_abandoned, is_outstanding}
+use Rattle.sctp_list_lemmas.specs.Lists.{change_where}
+use Rattle.sctp_outbound.specs.Marks.{is_of, as_abandoned}
 use Rattle.sctp_outbound.specs.payload_queue.PayloadQueue as payload
 use Rattle.sctp_outbound.specs.pending_queue.PendingQueue as pending
 use Rattle.sctp_outbound.specs.pending_queue.Whole.{waits}
-use Rattle.sctp_serial.specs.DataChunks.{has_tsn, bytes_of}
+use Rattle.sctp_serial.specs.DataChunks.{bytes_of, following_tsn}
 
 -- the queues, the number of the next message, and the number from which on lifetimes were not started
 pub record Outbound : Type 0 where
@@ -15,6 +17,22 @@ pub record Outbound : Type 0 where
   pub inflight : payload.Payload
   pub next_message_id : ℕ
   pub next_unstarted : ℕ
+
+-- of a new queue
+abbrev pub new_outbound : Outbound
+new_outbound = record {
+  pending =
+      record {
+        ordered = [];
+        unordered = [];
+        selected = None;
+        ordered_room = 0;
+        unordered_room = 0;
+      };
+  inflight = record { chunks = []; duplicates = []; room = 0 };
+  next_message_id = 0;
+  next_unstarted = 0;
+}
 
 -- the bytes of all
 abbrev pub total_bytes : Outbound → ℕ
@@ -30,14 +48,14 @@ abbrev pub with_message_id : ℕ → ChunkPayloadData → ChunkPayloadData
 with_message_id message c = record c { message_id = message }
 
 -- chunks behind those of a list
-abbrev pub appended : Bool → List ChunkPayloadData → pending.Pending → pending.Pending
-appended true chunks q =
+abbrev pub append_chunks : Bool → List ChunkPayloadData → pending.Pending → pending.Pending
+append_chunks true chunks q =
     record q {
       unordered = q.unordered ++ chunks;
       unordered_room = q.unordered_room
           - length chunks;
     }
-appended false chunks q =
+append_chunks false chunks q =
     record q { ordered = q.ordered ++ chunks; ordered_room = q.ordered_room - length chunks }
 
 -- a message with the next number
@@ -45,7 +63,7 @@ abbrev pub with_message : List ChunkPayloadData → Outbound → Outbound
 with_message [] q = q
 with_message (c ∷ cs) q =
     record q {
-      pending = appended c.unordered
+      pending = append_chunks c.unordered
           (map (with_message_id q.next_message_id) (c ∷ cs)) q.pending;
       next_message_id = q.next_message_id + 1;
     }
@@ -62,23 +80,15 @@ abbrev pub all_started : ℕ → Outbound → Outbound
 all_started now q =
     if q.next_unstarted == q.next_message_id then q
     else record q {
-      pending = pending.started q.next_unstarted now q.pending;
+      pending = pending.start_pending q.next_unstarted now q.pending;
       next_unstarted = q.next_message_id;
     }
 
--- whether the moment is reached, where there is one
-abbrev pub is_past : ℕ → Option ℕ → Bool
-is_past now None = false
-is_past now (Some deadline) = nat_le deadline now
-
 -- ## Sending
 
-abbrev pub following_tsn : ℕ → ℕ
-following_tsn tsn = (tsn + 1) % 2 ^ 32
-
 -- the chunk with its TSN, sent once
-abbrev pub numbered : ℕ → ℕ → ChunkPayloadData → ChunkPayloadData
-numbered tsn now c = record c { tsn = tsn; since = Some now; nsent = 1 }
+abbrev pub as_sent : ℕ → ℕ → ChunkPayloadData → ChunkPayloadData
+as_sent tsn now c = record c { tsn = tsn; since = Some now; nsent = 1 }
 
 -- the chunk leaves its list and is in flight under the TSN
 abbrev pub sent_of : Option ChunkPayloadData → Outbound → ℕ → ℕ → Outbound
@@ -86,11 +96,11 @@ sent_of None q tsn now = q
 sent_of (Some c) q tsn now =
     record q {
       pending = pending.rest_after c.beginning_fragment c.unordered q.pending;
-      inflight = payload.pushed q.inflight (numbered tsn now c);
+      inflight = payload.push_chunk q.inflight (as_sent tsn now c);
     }
 
 abbrev pub sent_peeked : Outbound → ℕ → ℕ → Outbound
-sent_peeked q tsn now = sent_of (pending.peeked q.pending) q tsn now
+sent_peeked q tsn now = sent_of (pending.next_pending q.pending) q tsn now
 
 -- lifetimes start, and the peeked chunk is sent
 abbrev pub sent_next : Outbound → ℕ → ℕ → Outbound
@@ -103,7 +113,7 @@ taken_of (Some c) q = pending.rest_after c.beginning_fragment c.unordered q
 
 abbrev pub after_sends : ℕ → pending.Pending → pending.Pending
 after_sends zero q = q
-after_sends (suc n) q = after_sends n (taken_of (pending.peeked q) q)
+after_sends (suc n) q = after_sends n (taken_of (pending.next_pending q) q)
 
 -- ## Abandonment
 
@@ -121,11 +131,11 @@ terminal_chunk tsn c =
 
 abbrev pub with_terminal_chunk : Option ChunkPayloadData → ℕ → payload.Payload → payload.Payload
 with_terminal_chunk None tsn q = q
-with_terminal_chunk (Some c) tsn q = payload.pushed q (terminal_chunk tsn c)
+with_terminal_chunk (Some c) tsn q = payload.push_chunk q (terminal_chunk tsn c)
 
 -- what is in flight of the message is abandoned, and its tail is gone but for a terminal chunk
-abbrev pub abandoned : ℕ → ℕ → Outbound → Outbound
-abandoned message tsn q =
+abbrev pub abandon_chunks : ℕ → ℕ → Outbound → Outbound
+abandon_chunks message tsn q =
     record q {
       pending = pending.without message q.pending;
       inflight = with_terminal_chunk (pending.last_removed message q.pending) tsn
@@ -144,7 +154,7 @@ to_abandon (Some c) = if c.abandoned then None else Some c.message_id
 
 abbrev pub abandoned_of : Option ℕ → ℕ → Outbound → Outbound
 abandoned_of None tsn q = q
-abandoned_of (Some message) tsn q = abandoned message tsn q
+abandoned_of (Some message) tsn q = abandon_chunks message tsn q
 
 abbrev pub tsn_after_of : Option ℕ → ℕ → Outbound → ℕ
 tsn_after_of None tsn q = tsn
@@ -161,12 +171,12 @@ has_tail (Some message) q = waits message q.pending
 abbrev pub is_expired : ℕ → ChunkPayloadData → Bool
 is_expired now c =
     c.beginning_fragment && (not (length c.user_data == 0)
-    && (not (pending.is_dcep c.payload_type) && is_past now c.deadline))
+    && (not (is_dcep c.payload_type) && is_past now c.deadline))
 
 -- the rest of a message past its deadline
 abbrev pub is_expired_tail : ℕ → ChunkPayloadData → Bool
 is_expired_tail now c =
-    not c.beginning_fragment && (not (pending.is_dcep c.payload_type) && is_past now c.deadline)
+    not c.beginning_fragment && (not (is_dcep c.payload_type) && is_past now c.deadline)
 
 -- the chunk, if it passes
 abbrev pub passing : (ChunkPayloadData → Bool) → Option ChunkPayloadData → Option ChunkPayloadData
@@ -184,11 +194,11 @@ expired_of (Some c) q =
 
 -- the message in front, past its deadline, wholly unsent
 abbrev pub expiring : ℕ → Outbound → Option ChunkPayloadData
-expiring now q = passing (is_expired now) (pending.peeked q.pending)
+expiring now q = passing (is_expired now) (pending.next_pending q.pending)
 
 -- the rest of a message in front, past its deadline
 abbrev pub expiring_tail : ℕ → Outbound → Option ChunkPayloadData
-expiring_tail now q = passing (is_expired_tail now) (pending.peeked q.pending)
+expiring_tail now q = passing (is_expired_tail now) (pending.next_pending q.pending)
 
 abbrev pub message_of : Option ChunkPayloadData → Option ℕ
 message_of None = None
@@ -200,7 +210,7 @@ is_late now q c =
     not c.abandoned && (is_past now c.deadline && (not c.acked || waits c.message_id q))
 
 abbrev pub late_tsns : ℕ → Outbound → List ℕ
-late_tsns now q = map (λ c. c.tsn) (those (is_late now q.pending) q.inflight.chunks)
+late_tsns now q = map (λ c. c.tsn) (filter (is_late now q.pending) q.inflight.chunks)
 
 -- the bytes in an answer
 abbrev pub released_of : Option (ℕ × ℕ) → ℕ

@@ -1,10 +1,9 @@
 -- What gap ack blocks report (RFC 4960 3.3.4).
 use Rattle.std.specs.Prelude.{◌≡◌, ◌≢◌, ℕ, ◌+◌, ◌%◌, ◌^◌, ◌<◌, ◌≤◌, Bool, false, ◌&&◌, nat_le, nat_lt, ◌==◌, List, [], ◌∷◌, ◌++◌, map, length, slice_index_or, codes}
 use Rattle.std.specs.Fmt.{decimal}
-use Rattle.std.specs.List.{All, AllPairs, list_any}
+use Rattle.std.specs.List.{All, AllPairs, list_any, filter}
 use Rattle.sctp_chunks.specs.declared.chunk.chunk_payload_data.ChunkPayloadData.{ChunkPayloadData}
 use Rattle.sctp_chunks.specs.declared.chunk.chunk_selective_ack.GapAckBlock.{GapAckBlock}
-use Rattle.sctp_list_lemmas.specs.Lists.{those}
 use Rattle.sctp_list_lemmas.specs.Serial.{distance}
 use Rattle.sctp_serial.specs.Runs.{IsRising}
 
@@ -17,8 +16,8 @@ abbrev pub is_in_block : ℕ → GapAckBlock → Bool
 is_in_block n b = nat_le b.start n && nat_le n b.end
 
 -- whether the distance lies in a block
-abbrev pub covered : List GapAckBlock → ℕ → Bool
-covered blocks n = list_any (is_in_block n) blocks
+abbrev pub is_in_blocks : List GapAckBlock → ℕ → Bool
+is_in_blocks blocks n = list_any (is_in_block n) blocks
 
 -- a distance that a block can hold
 abbrev pub is_offset : ℕ → Bool
@@ -32,11 +31,11 @@ is_reported cumulative n c = is_offset n && (n == distance cumulative c.tsn)
 pub record Reports (cumulative : ℕ) (chunks : List ChunkPayloadData)
     (blocks : List GapAckBlock) : Type 0 where
   pub ascend : BlocksAscend blocks
-  pub exact : (n : ℕ) → covered blocks n ≡ list_any (is_reported cumulative n) chunks
+  pub exact : (n : ℕ) → is_in_blocks blocks n ≡ list_any (is_reported cumulative n) chunks
 
 -- the distances from 1 to 65,535 of the chunks after the cumulative TSN
 abbrev pub gap_offsets : ℕ → List ChunkPayloadData → List ℕ
-gap_offsets cumulative chunks = those is_offset (map (λ c. distance cumulative c.tsn) chunks)
+gap_offsets cumulative chunks = filter is_offset (map (λ c. distance cumulative c.tsn) chunks)
 
 -- a block as its two ends
 abbrev pub ends_of : GapAckBlock → ℕ × ℕ

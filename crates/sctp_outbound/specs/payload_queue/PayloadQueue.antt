@@ -1,8 +1,9 @@
 -- A payload queue as callers see it.
-use Rattle.std.specs.Prelude.{ℕ, ◌-◌, ◌++◌, ◌∷◌, [], List, Bool, not, Option, Some, None, if◌then◌else◌}
+use Rattle.std.specs.Prelude.{ℕ, ◌-◌, ◌++◌, ◌∷◌, [], List, not, Option, Some, None, if◌then◌else◌}
+use Rattle.std.specs.List.{filter}
 use Rattle.sctp_chunks.specs.declared.chunk.chunk_payload_data.ChunkPayloadData.{ChunkPayloadData}
-use Rattle.sctp_list_lemmas.specs.Lists.{inserted, those}
-use Rattle.sctp_list_lemmas.specs.Serial.{comes_before, at_or_before}
+use Rattle.sctp_list_lemmas.specs.Lists.{insert_before}
+use Rattle.sctp_list_lemmas.specs.Serial.{at_or_before}
 use Rattle.sctp_serial.specs.DataChunks.{has_tsn, chunk_before}
 
 -- the chunks in serial order, the duplicates in the order in which they came, and how many pushes take no memory
@@ -16,18 +17,18 @@ abbrev pub with_chunks : Payload → List ChunkPayloadData → Payload
 with_chunks q chunks = record q { chunks = chunks }
 
 -- with a further chunk at its place
-abbrev pub pushed : Payload → ChunkPayloadData → Payload
-pushed q x =
+abbrev pub push_chunk : Payload → ChunkPayloadData → Payload
+push_chunk q x =
     record {
-      chunks = inserted chunk_before x q.chunks;
+      chunks = insert_before chunk_before x q.chunks;
       duplicates = q.duplicates;
       room = q.room
           - 1;
     }
 
 -- with a further duplicate
-abbrev pub repeated : Payload → ℕ → Payload
-repeated q tsn = record q { duplicates = q.duplicates ++ tsn ∷ [] }
+abbrev pub add_duplicate : Payload → ℕ → Payload
+add_duplicate q tsn = record q { duplicates = q.duplicates ++ tsn ∷ [] }
 
 -- the front chunk, if it has the TSN, and what is left without it
 abbrev pub front_with : ℕ → List ChunkPayloadData → Option ChunkPayloadData
@@ -40,8 +41,8 @@ without_front tsn (c ∷ cs) = if has_tsn tsn c then cs else c ∷ cs
 
 -- all but what has the TSN
 abbrev pub without : ℕ → List ChunkPayloadData → List ChunkPayloadData
-without tsn chunks = those (λ c. not (has_tsn tsn c)) chunks
+without tsn chunks = filter (λ c. not (has_tsn tsn c)) chunks
 
 -- what is not at or before the TSN
 abbrev pub past : ℕ → List ChunkPayloadData → List ChunkPayloadData
-past tsn chunks = those (λ c. not (at_or_before c.tsn tsn)) chunks
+past tsn chunks = filter (λ c. not (at_or_before c.tsn tsn)) chunks

@@ -1,14 +1,14 @@
 -- A pending queue as callers see it.
-use Rattle.std.specs.Prelude.{ℕ, ◌+◌, ◌-◌, ◌*◌, ◌%◌, ◌^◌, ◌==◌, ◌++◌, ◌∷◌, [], List, length, max, Bool, true, false, not, ◌&&◌, nat_lt, nat_le, is_none, Option, Some, None, slice_get, if◌then◌else◌}
+use Rattle.std.specs.Prelude.{ℕ, ◌+◌, ◌-◌, ◌%◌, ◌^◌, ◌==◌, ◌++◌, ◌∷◌, [], List, length, max, Bool, true, false, not, ◌&&◌, nat_le, is_none, Option, Some, None, slice_get, if◌then◌else◌}
+use Rattle.std.specs.List.{filter}
 use Rattle.sctp_chunks.specs.declared.chunk.chunk_payload_data.ChunkPayloadData.{ChunkPayloadData}
-use Rattle.sctp_chunks.specs.declared.chunk.chunk_payload_data.PayloadProtocolIdentifier.{PayloadProtocolIdentifier}
-use Rattle.sctp_chunks.specs.declared.chunk.chunk_payload_data.PayloadProtocolIdentifier.TheVariants as identifiers
 use Rattle.sctp_chunks.specs.declared.chunk.chunk_payload_data.ReliabilityType.{ReliabilityType}
-use Rattle.sctp_chunks.specs.declared.chunk.chunk_payload_data.ReliabilityType.TheVariants.{Reliable, Rexmit, Timed}
-use Rattle.sctp_list_lemmas.specs.Lists.{change_where, those}
+use Rattle.sctp_chunks.specs.PayloadTypes.{is_dcep}
+use Rattle.sctp_chunks.specs.Reliability.{is_timed, deadline_at}
+use Rattle.sctp_list_lemmas.specs.Lists.{change_where}
 use Rattle.sctp_outbound.specs.declared.pending_queue.Selected.{Selected}
 use Rattle.sctp_outbound.specs.Marks.{is_of}
-use Rattle.sctp_serial.specs.DataChunks.{bytes_of}
+use Rattle.sctp_serial.specs.DataChunks.{bytes_of, is_on}
 
 -- an ordered and an unordered list, each first in first out, the partially sent message, and how many pushes to each list take no memory
 pub record Pending : Type 0 where
@@ -30,16 +30,16 @@ total_bytes q = bytes_of q.ordered + bytes_of q.unordered
 abbrev pub room_for : Pending → Bool → ℕ
 room_for q unordered = if unordered then q.unordered_room else q.ordered_room
 
-abbrev pub reserved : Pending → ℕ → ℕ → Pending
-reserved q ordered unordered =
+abbrev pub with_room : Pending → ℕ → ℕ → Pending
+with_room q ordered unordered =
     record q {
       ordered_room = max ordered q.ordered_room;
       unordered_room = max unordered q.unordered_room;
     }
 
 -- the chunk behind those of its list
-abbrev pub pushed : Pending → ChunkPayloadData → Pending
-pushed q c =
+abbrev pub push_pending : Pending → ChunkPayloadData → Pending
+push_pending q c =
     if c.unordered then record q {
       unordered = q.unordered ++ c ∷ [];
       unordered_room = q.unordered_room - 1;
@@ -57,24 +57,25 @@ front_of [] ys = slice_get ys 0
 front_of (x ∷ xs) ys = Some x
 
 -- the front of the partially sent message's list; with none partially sent the unordered front, else the ordered one
-abbrev pub peeked_of : Option Selected → Pending → Option ChunkPayloadData
-peeked_of (Some s) q = slice_get (list_of s.unordered q) 0
-peeked_of None q = front_of q.unordered q.ordered
+abbrev pub next_pending_of : Option Selected → Pending → Option ChunkPayloadData
+next_pending_of (Some s) q = slice_get (list_of s.unordered q) 0
+next_pending_of None q = front_of q.unordered q.ordered
 
-abbrev pub peeked : Pending → Option ChunkPayloadData
-peeked q = peeked_of q.selected q
+abbrev pub next_pending : Pending → Option ChunkPayloadData
+next_pending q = next_pending_of q.selected q
 
 -- whether a pop takes from the unordered list, where it takes at all
 abbrev pub list_to_pop : Option Selected → Bool → Bool → Option Bool
 list_to_pop (Some s) beginning unordered = Some s.unordered
 list_to_pop None beginning unordered = if beginning then Some unordered else None
 
-abbrev pub popped_from : Option Bool → Pending → Option ChunkPayloadData
-popped_from None q = None
-popped_from (Some unordered) q = slice_get (list_of unordered q) 0
+abbrev pub chunk_to_pop_from : Option Bool → Pending → Option ChunkPayloadData
+chunk_to_pop_from None q = None
+chunk_to_pop_from (Some unordered) q = slice_get (list_of unordered q) 0
 
-abbrev pub popped : Bool → Bool → Pending → Option ChunkPayloadData
-popped beginning unordered q = popped_from (list_to_pop q.selected beginning unordered) q
+abbrev pub chunk_to_pop : Bool → Bool → Pending → Option ChunkPayloadData
+chunk_to_pop beginning unordered q =
+    chunk_to_pop_from (list_to_pop q.selected beginning unordered) q
 
 -- a message is partially sent from its first fragment on until its ending one
 abbrev pub selected_after : Option Selected → Bool → ChunkPayloadData → Option Selected
@@ -100,10 +101,10 @@ rest_after beginning unordered q = rest_from (list_to_pop q.selected beginning u
 -- ## Removal
 
 abbrev pub without_message : ℕ → List ChunkPayloadData → List ChunkPayloadData
-without_message message xs = those (λ c. not (is_of message c)) xs
+without_message message xs = filter (λ c. not (is_of message c)) xs
 
 abbrev pub removed_bytes : ℕ → List ChunkPayloadData → ℕ
-removed_bytes message xs = bytes_of (those (is_of message) xs)
+removed_bytes message xs = bytes_of (filter (is_of message) xs)
 
 abbrev pub last_of : List ChunkPayloadData → Option ChunkPayloadData
 last_of [] = None
@@ -113,7 +114,7 @@ last_of (c ∷ d ∷ ds) = last_of (d ∷ ds)
 -- the ordered ones go first
 abbrev pub last_removed : ℕ → Pending → Option ChunkPayloadData
 last_removed message q =
-    last_of (those (is_of message) q.ordered ++ those (is_of message) q.unordered)
+    last_of (filter (is_of message) q.ordered ++ filter (is_of message) q.unordered)
 
 -- a message that is removed is partially sent no more
 abbrev pub selected_without : ℕ → Option Selected → Option Selected
@@ -130,9 +131,6 @@ without message q =
 
 -- ## Stream sequence numbers
 
-abbrev pub is_on : ℕ → ChunkPayloadData → Bool
-is_on stream c = c.stream_identifier == stream
-
 abbrev pub one_lower : ChunkPayloadData → ChunkPayloadData
 one_lower c =
     record c { stream_sequence_number = (c.stream_sequence_number + (2 ^ 16 - 1)) % 2 ^ 16 }
@@ -143,37 +141,25 @@ closed_up stream q = record q { ordered = change_where (is_on stream) one_lower 
 
 -- ## Lifetimes
 
-abbrev pub is_dcep : PayloadProtocolIdentifier → Bool
-is_dcep identifiers.Dcep = true
-is_dcep _ = false
-
-abbrev pub is_timed : Option (ReliabilityType × ℕ) → Bool
-is_timed None = false
-is_timed (Some (Timed, value)) = true
-is_timed (Some (Reliable, value)) = false
-is_timed (Some (Rexmit, value)) = false
+abbrev pub has_lifetime : Option (ReliabilityType × ℕ) → Bool
+has_lifetime None = false
+has_lifetime (Some r) = is_timed r.0
 
 abbrev pub lifetime_of : Option (ReliabilityType × ℕ) → ℕ
 lifetime_of None = 0
 lifetime_of (Some r) = r.1
 
--- so many milliseconds after a moment, where that is a moment
-abbrev pub deadline_at : ℕ → ℕ → Option ℕ
-deadline_at now milliseconds =
-    if nat_lt (now + milliseconds * 1000000) (2 ^ 64) then Some (now + milliseconds * 1000000)
-    else None
-
 -- timed, not DCEP, without a deadline, and of a message numbered from first on
 abbrev pub is_to_start : ℕ → ChunkPayloadData → Bool
 is_to_start first c =
     nat_le first c.message_id && (is_none c.deadline
-    && (not (is_dcep c.payload_type) && is_timed c.reliability))
+    && (not (is_dcep c.payload_type) && has_lifetime c.reliability))
 
 abbrev pub with_deadline : ℕ → ChunkPayloadData → ChunkPayloadData
 with_deadline now c = record c { deadline = deadline_at now (lifetime_of c.reliability) }
 
-abbrev pub started : ℕ → ℕ → Pending → Pending
-started first now q =
+abbrev pub start_pending : ℕ → ℕ → Pending → Pending
+start_pending first now q =
     record q {
       ordered = change_where (is_to_start first) (with_deadline now) q.ordered;
       unordered = change_where (is_to_start first) (with_deadline now) q.unordered;

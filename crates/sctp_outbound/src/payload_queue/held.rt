@@ -49,7 +49,7 @@ impl Model for Held {
 
 impl Held {
     ghost use Rattle.sctp_outbound.specs.Stored.{with_chunks};
-    ghost use Rattle.sctp_outbound.specs.Marks.{marked};
+    ghost use Rattle.sctp_outbound.specs.Marks.{with_mark};
 
     /// No chunks. It takes no memory.
     pub fn new(alloc: Global) -> Self
@@ -163,9 +163,9 @@ impl Held {
     pub(crate) fn mark(&mut self, place: usize, mark: Mark, turns: &mut Turns) -> usize
         requires { place < length self.old.chunks }
         ensures changed { (d : _) → self.new ≡ with_chunks self.old (slice_set self.old.chunks place
-            (marked mark (slice_index_or self.old.chunks place d))) }
+            (with_mark mark (slice_index_or self.old.chunks place d))) }
         ensures left { (d : _)
-            → result + length (marked mark (slice_index_or self.old.chunks place d)).user_data
+            → result + length (with_mark mark (slice_index_or self.old.chunks place d)).user_data
             ≡ length (slice_index_or self.old.chunks place d).user_data }
         ensures turn { turns.new ≡ turns.old + 1 }
     {

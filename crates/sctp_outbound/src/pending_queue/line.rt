@@ -1,15 +1,15 @@
 //! Chunks that wait in a line: first in, first out.
 
 ghost use Rattle.std.specs.Prelude.{◌≡◌, ◌==◌, ◌+◌, ◌-◌, ◌^◌, ◌<◌, ◌≤◌, ◌++◌, [], ◌∷◌, length, map, max, OnOk, OnErr, IfSome, IfNone, IsOk, IsOkUnless, option_copied, slice_get, take, true, false};
-ghost use Rattle.std.specs.List.{All, list_any};
+ghost use Rattle.std.specs.List.{All, list_any, filter};
 ghost use Rattle.std.specs.VecDeque.{deque_capacity, deque_len};
 ghost use Rattle.sctp_base.specs.declared.error.Error.TheVariants.{ErrOutOfMemory};
-ghost use Rattle.sctp_list_lemmas.specs.Lists.{change_where, those};
+ghost use Rattle.sctp_list_lemmas.specs.Lists.{change_where};
 ghost use Rattle.sctp_outbound.specs.Marks.{is_of};
 ghost use Rattle.sctp_outbound.specs.outbound_queue.OutboundQueue.{with_message_id};
-ghost use Rattle.sctp_outbound.specs.pending_queue.PendingQueue.{removed_bytes, last_of, without_message, is_on, one_lower, is_to_start, with_deadline, is_dcep, is_timed, deadline_at};
+ghost use Rattle.sctp_outbound.specs.pending_queue.PendingQueue.{removed_bytes, last_of, without_message, one_lower, is_to_start, with_deadline, has_lifetime};
 ghost use Rattle.sctp_outbound.specs.pending_queue.Whole.{NumbersAscend, ends, until_end};
-ghost use Rattle.sctp_serial.specs.DataChunks.{bytes_of};
+ghost use Rattle.sctp_serial.specs.DataChunks.{bytes_of, is_on};
 
 use sctp_base::error::Result;
 use sctp_chunks::chunk::chunk_payload_data::{
@@ -191,7 +191,7 @@ impl Line {
     pub(crate) fn remove_message(&mut self, message_id: u64) -> (usize, Option<ChunkPayloadData>)
         ensures bytes { result.0 ≡ removed_bytes message_id self.old.chunks }
         ensures left { bytes_of self.new.chunks + result.0 ≡ bytes_of self.old.chunks }
-        ensures last { result.1 ≡ last_of (those (is_of message_id) self.old.chunks) }
+        ensures last { result.1 ≡ last_of (filter (is_of message_id) self.old.chunks) }
         ensures rest { self.new
             ≡ with_chunks self.old (without_message message_id self.old.chunks) }
     {
@@ -258,7 +258,7 @@ fn remove_from(
     requires { bytes_of chunks.old.items < 2 ^ 64 }
     ensures bytes { result.0 ≡ removed_bytes message_id chunks.old.items }
     ensures left { bytes_of chunks.new.items + result.0 ≡ bytes_of chunks.old.items }
-    ensures last { result.1 ≡ last_of (those (is_of message_id) chunks.old.items) }
+    ensures last { result.1 ≡ last_of (filter (is_of message_id) chunks.old.items) }
     ensures rest { chunks.new.items ≡ without_message message_id chunks.old.items }
     ensures len { deque_len chunks.new ≤ deque_len chunks.old }
     ensures capacity { deque_capacity chunks.new ≡ deque_capacity chunks.old }
@@ -340,8 +340,8 @@ fn is_to_start(chunk: &ChunkPayloadData, first_message_id: u64) -> bool
 {
     chunk.message_id >= first_message_id
         && chunk.deadline.is_none()
-        && !is_dcep(chunk.payload_type)
-        && is_timed(chunk.reliability)
+        && !chunk.payload_type.is_dcep()
+        && has_lifetime(chunk.reliability)
 }
 
 // The end of a timed chunk's lifetime, where that is a moment.
@@ -355,19 +355,9 @@ fn deadline_of(chunk: &ChunkPayloadData, now: u64) -> Option<u64>
     now.checked_add(milliseconds * 1_000_000)
 }
 
-/// Whether it is a message that establishes a channel (RFC 8832).
-pub(crate) fn is_dcep(payload_type: PayloadProtocolIdentifier) -> bool
-    ensures { result ≡ is_dcep payload_type }
-{
-    match payload_type {
-        PayloadProtocolIdentifier::Dcep => true,
-        _ => false,
-    }
-}
-
-/// Whether there is a lifetime.
-fn is_timed(reliability: Option<(ReliabilityType, u32)>) -> bool
-    ensures { result ≡ is_timed reliability }
+// Whether there is a lifetime.
+fn has_lifetime(reliability: Option<(ReliabilityType, u32)>) -> bool
+    ensures { result ≡ has_lifetime reliability }
 {
     match reliability {
         Some((ReliabilityType::Timed, _)) => true,

@@ -1,11 +1,11 @@
 -- The fragments of one message, and what makes them whole (RFC 4960 3.3.1, 6.5, 6.6).
-use Rattle.std.specs.Prelude.{ℕ, ◌+◌, ◌%◌, ◌^◌, Bool, false, ◌&&◌, ◌==◌, not, if◌then◌else◌, Option, Some, None, List, [], ◌∷◌, ◌++◌, length}
-use Rattle.std.specs.List.{list_any, sum_by}
-use Rattle.sctp_list_lemmas.specs.Serial.{comes_before, comes_before16}
-use Rattle.sctp_list_lemmas.specs.Lists.{inserted, change_first}
+use Rattle.std.specs.Prelude.{ℕ, Bool, false, ◌&&◌, ◌==◌, not, if◌then◌else◌, Option, Some, None, List, [], ◌∷◌, ◌++◌}
+use Rattle.std.specs.List.{list_any}
+use Rattle.sctp_list_lemmas.specs.Serial.{comes_before16}
+use Rattle.sctp_list_lemmas.specs.Lists.{insert_before, change_first}
 use Rattle.sctp_chunks.specs.declared.chunk.chunk_payload_data.ChunkPayloadData.{ChunkPayloadData}
 use Rattle.sctp_chunks.specs.ChunkSet.{ChunkSet}
-use Rattle.sctp_serial.specs.DataChunks.{has_tsn, chunk_before}
+use Rattle.sctp_serial.specs.DataChunks.{has_tsn, chunk_before, following_tsn}
 
 -- those bytes, one fragment after another
 abbrev pub payload_of : List ChunkPayloadData → List ℕ
@@ -14,13 +14,10 @@ payload_of (x ∷ xs) = x.user_data ++ payload_of xs
 
 -- ## Complete sets
 
-abbrev pub next_tsn : ℕ → ℕ
-next_tsn tsn = (tsn + 1) % 2 ^ 32
-
 -- the chunks after x follow one another, and the last ends
 abbrev pub completes : ChunkPayloadData → List ChunkPayloadData → Bool
 completes x [] = x.ending_fragment
-completes x (y ∷ ys) = (y.tsn == next_tsn x.tsn) && completes y ys
+completes x (y ∷ ys) = (y.tsn == following_tsn x.tsn) && completes y ys
 
 -- not empty, the first begins, the last ends, and TSNs rise by one
 abbrev pub is_complete : List ChunkPayloadData → Bool
@@ -40,7 +37,7 @@ abbrev pub with_chunk : ChunkPayloadData → ChunkSet → ChunkSet
 with_chunk x set =
     record set {
       chunks = if list_any (has_tsn x.tsn) set.chunks then set.chunks
-          else inserted chunk_before x set.chunks;
+          else insert_before chunk_before x set.chunks;
     }
 
 -- a set that x alone makes
@@ -52,7 +49,7 @@ abbrev pub sets_with : ChunkPayloadData → List ChunkSet → List ChunkSet
 sets_with x sets =
     if list_any (has_ssn x.stream_sequence_number) sets
     then change_first (has_ssn x.stream_sequence_number) (with_chunk x) sets
-    else inserted set_before (new_set x) sets
+    else insert_before set_before (new_set x) sets
 
 -- the chunks of the first set of this number
 abbrev pub chunks_of_ssn : ℕ → List ChunkSet → List ChunkPayloadData
@@ -63,9 +60,9 @@ chunks_of_ssn ssn (set ∷ sets) = if has_ssn ssn set then set.chunks else chunk
 abbrev pub answer_with : ChunkPayloadData → List ChunkPayloadData → Option Bool
 answer_with x chunks =
     if list_any (has_tsn x.tsn) chunks then None
-    else Some (is_complete (inserted chunk_before x chunks))
+    else Some (is_complete (insert_before chunk_before x chunks))
 
 -- whether they became complete by x
-abbrev pub is_whole_after : ChunkPayloadData → List ChunkPayloadData → Bool
-is_whole_after x chunks =
-    not (list_any (has_tsn x.tsn) chunks) && is_complete (inserted chunk_before x chunks)
+abbrev pub is_complete_after : ChunkPayloadData → List ChunkPayloadData → Bool
+is_complete_after x chunks =
+    not (list_any (has_tsn x.tsn) chunks) && is_complete (insert_before chunk_before x chunks)

@@ -1,13 +1,13 @@
 -- A reassembly queue as callers see it, and its calls as functions of lists (RFC 4960 6.5, 6.6; RFC 3758 3.6).
 use Rattle.std.specs.Prelude.{◌≡◌, ℕ, ◌+◌, ◌-◌, ◌%◌, ◌^◌, Bool, true, false, ◌&&◌, not, ◌==◌, min, nat_lt, if◌then◌else◌, List, [], ◌∷◌, ◌++◌, length, take, drop, Option, Some, None}
-use Rattle.std.specs.List.{list_any, sum_by}
+use Rattle.std.specs.List.{list_any, sum_by, filter}
 use Rattle.sctp_list_lemmas.specs.Serial.{comes_before16, at_or_before, at_or_before16}
-use Rattle.sctp_list_lemmas.specs.Lists.{inserted, those, after_leading}
+use Rattle.sctp_list_lemmas.specs.Lists.{insert_before, after_leading}
 use Rattle.sctp_chunks.specs.declared.chunk.chunk_payload_data.ChunkPayloadData.{ChunkPayloadData}
 use Rattle.sctp_chunks.specs.declared.chunk.chunk_payload_data.PayloadProtocolIdentifier.TheVariants.{Unknown}
 use Rattle.sctp_chunks.specs.ChunkSet.{ChunkSet}
 use Rattle.sctp_reassembly.specs.declared.reassembly_queue.chunks.Chunks.{Chunks}
-use Rattle.sctp_reassembly.specs.reassembly_queue.Fragments.{is_complete, is_whole_after, chunks_of_ssn, sets_with}
+use Rattle.sctp_reassembly.specs.reassembly_queue.Fragments.{is_complete, is_complete_after, chunks_of_ssn, sets_with}
 use Rattle.sctp_serial.specs.DataChunks.{bytes_of, chunk_before, has_tsn}
 use Rattle.sctp_reassembly.specs.reassembly_queue.Sizes.{projected_size}
 use Rattle.sctp_serial.specs.Runs.{IsEarliestRun, HasNoRun}
@@ -62,10 +62,10 @@ is_kept x q =
     && not (list_any (has_tsn x.tsn) (chunks_of_ssn x.stream_sequence_number q.ordered))
 
 -- whether its set became complete by it
-abbrev pub is_whole_with : ChunkPayloadData → Reassembly → Bool
-is_whole_with x q =
+abbrev pub is_complete_with : ChunkPayloadData → Reassembly → Bool
+is_complete_with x q =
     not (comes_before16 x.stream_sequence_number q.next_ssn)
-    && is_whole_after x (chunks_of_ssn x.stream_sequence_number q.ordered)
+    && is_complete_after x (chunks_of_ssn x.stream_sequence_number q.ordered)
 
 abbrev pub after_ordered_push : ChunkPayloadData → ReassemblyState → ReassemblyState
 after_ordered_push x q =
@@ -90,14 +90,14 @@ pub record TakesRun (xs : List ChunkPayloadData) (old new : Reassembly) : Type 0
   }
 
 -- with these unassembled fragments a message became whole, or none did
-abbrev pub BecomesWhole : List ChunkPayloadData → Reassembly → Reassembly → Bool → Type 0
-BecomesWhole xs old new true = TakesRun xs old new
-BecomesWhole xs old new false = HasNoRun xs × (new ≡ record old { unassembled = xs })
+abbrev pub BecomesComplete : List ChunkPayloadData → Reassembly → Reassembly → Bool → Type 0
+BecomesComplete xs old new true = TakesRun xs old new
+BecomesComplete xs old new false = HasNoRun xs × (new ≡ record old { unassembled = xs })
 
 -- an unordered chunk comes
 abbrev pub PushesUnordered : ChunkPayloadData → ReassemblyState → ReassemblyState → Bool → Type 0
 PushesUnordered x old new whole =
-    BecomesWhole (inserted chunk_before x old.held.unassembled) old.held new.held whole
+    BecomesComplete (insert_before chunk_before x old.held.unassembled) old.held new.held whole
     × (new ≡ record old { held = new.held; bytes = count_up old.bytes (length x.user_data) })
 
 -- the run that ends earliest is taken out
@@ -170,7 +170,7 @@ is_passed last set = at_or_before16 set.ssn last && not (is_complete set.chunks)
 abbrev pub held_after_ordered_skip : ℕ → Reassembly → Reassembly
 held_after_ordered_skip last q =
     record q {
-      ordered = those (λ set. not (is_passed last set)) q.ordered;
+      ordered = filter (λ set. not (is_passed last set)) q.ordered;
       next_ssn = (if at_or_before16 q.next_ssn last then (last + 1) % 2 ^ 16 else q.next_ssn);
     }
 
@@ -179,7 +179,7 @@ after_ordered_skip last q =
     record q {
       held = held_after_ordered_skip last q.held;
       bytes = q.bytes
-          - set_bytes (those (is_passed last) q.held.ordered);
+          - set_bytes (filter (is_passed last) q.held.ordered);
     }
 
 abbrev pub held_after_unordered_skip : ℕ → Reassembly → Reassembly
@@ -207,4 +207,4 @@ held_after_ordered_skips (ssn ∷ ssns) q =
 
 -- the complete sets, which no skip removes
 abbrev pub complete_sets : Reassembly → List ChunkSet
-complete_sets q = those (λ set. is_complete set.chunks) q.ordered
+complete_sets q = filter (λ set. is_complete set.chunks) q.ordered

@@ -1,27 +1,24 @@
 -- How long the message of a chunk would be with it.
-use Rattle.std.specs.Prelude.{ℕ, ◌+◌, ◌-◌, ◌%◌, ◌^◌, Bool, not, ◌==◌, if◌then◌else◌, List, [], ◌∷◌, length, reverse}
+use Rattle.std.specs.Prelude.{ℕ, ◌+◌, not, ◌==◌, if◌then◌else◌, List, [], ◌∷◌, length, reverse}
 use Rattle.std.specs.List.{list_any}
 use Rattle.sctp_list_lemmas.specs.Lists.{after_leading}
 use Rattle.sctp_chunks.specs.declared.chunk.chunk_payload_data.ChunkPayloadData.{ChunkPayloadData}
 use Rattle.sctp_chunks.specs.ChunkSet.{ChunkSet}
-use Rattle.sctp_reassembly.specs.reassembly_queue.Fragments.{next_tsn, chunks_of_ssn}
-use Rattle.sctp_serial.specs.DataChunks.{bytes_of, has_tsn}
-
-abbrev pub previous_tsn : ℕ → ℕ
-previous_tsn tsn = (tsn + (2 ^ 32 - 1)) % 2 ^ 32
+use Rattle.sctp_reassembly.specs.reassembly_queue.Fragments.{chunks_of_ssn}
+use Rattle.sctp_serial.specs.DataChunks.{bytes_of, has_tsn, following_tsn, preceding_tsn}
 
 -- the bytes of neighbours, from back to front, while TSNs go down by one from this one, stopping after one that begins
 abbrev pub bytes_down : ℕ → List ChunkPayloadData → ℕ
 bytes_down tsn [] = 0
 bytes_down tsn (y ∷ ys) =
-    if y.tsn == previous_tsn tsn then length y.user_data
+    if y.tsn == preceding_tsn tsn then length y.user_data
     + (if y.beginning_fragment then 0 else bytes_down y.tsn ys) else 0
 
 -- the bytes of neighbours while TSNs go up by one from this one, stopping after one that ends
 abbrev pub bytes_up : ℕ → List ChunkPayloadData → ℕ
 bytes_up tsn [] = 0
 bytes_up tsn (y ∷ ys) =
-    if y.tsn == next_tsn tsn then length y.user_data
+    if y.tsn == following_tsn tsn then length y.user_data
     + (if y.ending_fragment then 0 else bytes_up y.tsn ys) else 0
 
 -- from the last fragment of this TSN to the front
@@ -37,11 +34,11 @@ on_from tsn (y ∷ ys) =
 abbrev pub size_before : ChunkPayloadData → List ChunkPayloadData → ℕ
 size_before x unassembled =
     if x.beginning_fragment then 0 else bytes_down x.tsn
-    (back_from (previous_tsn x.tsn) unassembled)
+    (back_from (preceding_tsn x.tsn) unassembled)
 
 abbrev pub size_after : ChunkPayloadData → List ChunkPayloadData → ℕ
 size_after x unassembled =
-    if x.ending_fragment then 0 else bytes_up x.tsn (on_from (next_tsn x.tsn) unassembled)
+    if x.ending_fragment then 0 else bytes_up x.tsn (on_from (following_tsn x.tsn) unassembled)
 
 -- with the fragments of its set, or with the unassembled neighbours that belong to its message
 abbrev pub projected_size : ChunkPayloadData → List ChunkSet → List ChunkPayloadData → ℕ

@@ -1,25 +1,24 @@
 -- Skips that stop before messages whose TSNs lie past a bound.
-use Rattle.std.specs.Prelude.{ℕ, ◌+◌, ◌-◌, ◌%◌, ◌^◌, Bool, false, ◌&&◌, ◌||◌, not, ◌==◌, if◌then◌else◌, List, [], ◌∷◌, ◌++◌, Option, Some, None, unwrap_or}
-use Rattle.std.specs.List.{list_any, list_all}
+use Rattle.std.specs.Prelude.{ℕ, ◌+◌, ◌-◌, ◌%◌, ◌^◌, Bool, false, ◌&&◌, ◌||◌, not, ◌==◌, if◌then◌else◌, List, [], ◌∷◌, Option, Some, None, unwrap_or}
+use Rattle.std.specs.List.{list_any, list_all, filter}
 use Rattle.sctp_list_lemmas.specs.Serial.{comes_before, comes_after, at_or_before, comes_before16, comes_after16, at_or_before16}
-use Rattle.sctp_list_lemmas.specs.Lists.{those}
 use Rattle.sctp_chunks.specs.declared.chunk.chunk_payload_data.ChunkPayloadData.{ChunkPayloadData}
 use Rattle.sctp_chunks.specs.ChunkSet.{ChunkSet}
-use Rattle.sctp_reassembly.specs.reassembly_queue.Fragments.{next_tsn, is_complete, has_ssn}
-use Rattle.sctp_reassembly.specs.reassembly_queue.Sizes.{previous_tsn}
+use Rattle.sctp_reassembly.specs.reassembly_queue.Fragments.{is_complete, has_ssn}
 use Rattle.sctp_reassembly.specs.reassembly_queue.ReassemblyQueue.{Reassembly, ReassemblyState, set_bytes, is_passed}
+use Rattle.sctp_serial.specs.DataChunks.{following_tsn, preceding_tsn}
 
 -- behind x a TSN at or before t is missing
 abbrev pub misses_behind : ℕ → ChunkPayloadData → List ChunkPayloadData → Bool
-misses_behind t x [] = not x.ending_fragment && at_or_before (next_tsn x.tsn) t
+misses_behind t x [] = not x.ending_fragment && at_or_before (following_tsn x.tsn) t
 misses_behind t x (y ∷ ys) =
-    (not (y.tsn == next_tsn x.tsn) && at_or_before (next_tsn x.tsn) t) || misses_behind t y ys
+    (not (y.tsn == following_tsn x.tsn) && at_or_before (following_tsn x.tsn) t) || misses_behind t y ys
 
 -- in a set a TSN at or before t is missing: before the first, between neighbours, or behind the last
 abbrev pub misses : ℕ → List ChunkPayloadData → Bool
 misses t [] = false
 misses t (x ∷ xs) =
-    (not x.beginning_fragment && at_or_before (previous_tsn x.tsn) t) || misses_behind t x xs
+    (not x.beginning_fragment && at_or_before (preceding_tsn x.tsn) t) || misses_behind t x xs
 
 -- ## Skipping
 
@@ -57,7 +56,7 @@ goal_of last t sets = unwrap_or (earliest_unaffected None last t sets) ((last + 
 abbrev pub held_after_bounded_skip : ℕ → ℕ → Reassembly → Reassembly
 held_after_bounded_skip last t q =
     record q {
-      ordered = those (λ set. not (is_abandoned last t set)) q.ordered;
+      ordered = filter (λ set. not (is_abandoned last t set)) q.ordered;
       next_ssn =
           (if comes_before16 q.next_ssn (goal_of last t q.ordered) then goal_of last t q.ordered
           else q.next_ssn);
@@ -68,7 +67,7 @@ after_bounded_skip last t q =
     record q {
       held = held_after_bounded_skip last t q.held;
       bytes = q.bytes
-          - set_bytes (those (is_abandoned last t) q.held.ordered);
+          - set_bytes (filter (is_abandoned last t) q.held.ordered);
     }
 
 -- ## How much of a skip is applicable

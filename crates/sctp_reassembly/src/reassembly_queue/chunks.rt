@@ -7,8 +7,8 @@ ghost use Rattle.sctp_reassembly.specs.reassembly_queue.Chunks.{left_from, left_
 ghost use Rattle.sctp_reassembly.specs.declared.reassembly_queue.chunks.Chunk.{Chunk};
 ghost use Rattle.sctp_chunks.specs.declared.chunk.chunk_payload_data.ChunkPayloadData.{ChunkPayloadData};
 ghost use Rattle.sctp_list_lemmas.specs.Serial.{comes_before, distance};
-ghost use Rattle.sctp_list_lemmas.specs.Lists.{inserted};
-ghost use Rattle.sctp_reassembly.specs.reassembly_queue.Fragments.{payload_of, is_complete, with_chunk, answer_with, is_whole_after};
+ghost use Rattle.sctp_list_lemmas.specs.Lists.{insert_before};
+ghost use Rattle.sctp_reassembly.specs.reassembly_queue.Fragments.{payload_of, is_complete, with_chunk, answer_with, is_complete_after};
 ghost use Rattle.sctp_serial.specs.DataChunks.{bytes_of, has_tsn, chunk_before};
 ghost use Rattle.sctp_serial.specs.Ascending.{IsOrder, IsInsertion};
 ghost use Rattle.sctp_base.specs.declared.error.Error.TheVariants.{ErrOutOfMemory, ErrShortBuffer};
@@ -231,7 +231,8 @@ impl Chunks {
     pub fn push(&mut self, chunk: ChunkPayloadData) -> Result<bool>
         ensures ok { OnOk result (self.new
             ≡ record self.old { set = with_chunk chunk self.old.set }) }
-        ensures answer { IfOk result (λ whole. whole ≡ is_whole_after chunk self.old.set.chunks) }
+        ensures answer { IfOk result (λ whole. whole
+            ≡ is_complete_after chunk self.old.set.chunks) }
         ensures err { OnErr result (self.new ≡ self.old) }
         ensures memory { IfErr result (λ e. e ≡ ErrOutOfMemory) }
     {
@@ -477,7 +478,7 @@ pub(crate) fn bytes_in(chunks: &[ChunkPayloadData]) -> usize
 pub(crate) fn insertion_place(chunks: &[ChunkPayloadData], tsn: u32) -> usize
     ensures in_range { result ≤ length chunks.now }
     ensures inserted { (x : ChunkPayloadData)
-        → x.tsn ≡ tsn → insert chunks.now result x ≡ inserted chunk_before x chunks.now }
+        → x.tsn ≡ tsn → insert chunks.now result x ≡ insert_before chunk_before x chunks.now }
 {
     first_after(chunks, tsn)
 }

@@ -1,10 +1,9 @@
 //! The sets of ordered messages, in the order of their numbers where these lie within half a circle.
 
 ghost use Rattle.std.specs.Prelude.{◌≡◌, ◌+◌, ◌-◌, ◌^◌, ◌<◌, ◌≤◌, ◌&&◌, [], ◌∷◌, length, map, min, true, false, not, OnOk, OnErr, IfOk, IfErr, IfSome, IfNone};
-ghost use Rattle.std.specs.List.{list_any, position_or_len};
+ghost use Rattle.std.specs.List.{list_any, position_or_len, filter};
 ghost use Rattle.std.specs.List.Sorted.{IsNonDecreasingBy, IsPartitionPoint};
 ghost use Rattle.sctp_list_lemmas.specs.Serial.{comes_before16, distance};
-ghost use Rattle.sctp_list_lemmas.specs.Lists.{those};
 ghost use Rattle.sctp_reassembly.specs.reassembly_queue.ReassemblyQueue.{set_bytes, without_first};
 ghost use Rattle.sctp_reassembly.specs.reassembly_queue.Skips.{is_discarded};
 ghost use Rattle.sctp_reassembly.specs.reassembly_queue.Fragments.{is_complete, has_ssn, chunks_of_ssn, sets_with, answer_with, new_set, set_before};
@@ -127,9 +126,9 @@ impl OrderedSets {
     /// Removes the sets that a skip up to the number discards, those alone that miss a TSN where there
     /// is a bound, and counts their bytes up to the greatest number.
     pub(crate) fn discard(&mut self, last_ssn: u16, bound: Option<u32>) -> usize
-        ensures rest { self.new ≡ those (λ s. not (is_discarded last_ssn bound s)) self.old }
+        ensures rest { self.new ≡ filter (λ s. not (is_discarded last_ssn bound s)) self.old }
         ensures bytes { result
-            ≡ min (set_bytes (those (is_discarded last_ssn bound) self.old)) (2 ^ 64 - 1) }
+            ≡ min (set_bytes (filter (is_discarded last_ssn bound) self.old)) (2 ^ 64 - 1) }
     {
         skips::discard(&mut self.sets, last_ssn, bound)
     }

@@ -1,7 +1,7 @@
 //! The unassembled fragments of a stream, out of which complete messages are taken.
 
 ghost use Rattle.std.specs.Prelude.{◌≡◌, ◌<◌, ◌≤◌, ◌&&◌, [], length, remove, insert, IfSome, IfNone, drop, OnErr, IfOk, IfErr, MatchOption};
-ghost use Rattle.sctp_list_lemmas.specs.Lists.{inserted};
+ghost use Rattle.sctp_list_lemmas.specs.Lists.{insert_before};
 ghost use Rattle.sctp_serial.specs.DataChunks.{chunk_before};
 ghost use Rattle.sctp_serial.specs.Runs.{HasNoRun, IsEarliestRun};
 ghost use Rattle.sctp_base.specs.declared.error.Error.TheVariants.{ErrOutOfMemory};
@@ -84,8 +84,10 @@ impl Pool {
     ) -> Result<Option<Vec<ChunkPayloadData>>, AllocError>
         requires { place ≡ place_among chunk.tsn self.old }
         ensures ok { IfOk result (λ run.
-            MatchOption run (HasNoRun self.new × (self.new ≡ inserted chunk_before chunk self.old))
-            (λ chunks. IsRunTaken (inserted chunk_before chunk self.old) self.new chunks.items)) }
+            MatchOption run (HasNoRun self.new
+            × (self.new ≡ insert_before chunk_before chunk self.old))
+            (λ chunks. IsRunTaken
+            (insert_before chunk_before chunk self.old) self.new chunks.items)) }
         ensures err { OnErr result (self.new ≡ self.old) }
     {
         self.unassembled.insert(alloc, place, chunk)?;

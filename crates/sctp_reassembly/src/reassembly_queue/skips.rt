@@ -1,9 +1,8 @@
 //! Skips that stop before messages whose TSNs lie past a bound.
 
 ghost use Rattle.std.specs.Prelude.{◌≡◌, ◌==◌, ◌+◌, ◌-◌, ◌%◌, ◌^◌, ◌&&◌, ◌||◌, min, not, None, if◌then◌else◌};
-ghost use Rattle.std.specs.List.{list_any, list_all};
+ghost use Rattle.std.specs.List.{list_any, list_all, filter};
 ghost use Rattle.sctp_list_lemmas.specs.Serial.{comes_before16, at_or_before, comes_after};
-ghost use Rattle.sctp_list_lemmas.specs.Lists.{those};
 ghost use Rattle.sctp_reassembly.specs.reassembly_queue.Fragments.{has_ssn};
 ghost use Rattle.sctp_reassembly.specs.reassembly_queue.ReassemblyQueue.{set_bytes};
 ghost use Rattle.sctp_reassembly.specs.reassembly_queue.Skips.{misses, misses_behind, is_discarded, is_abandoned, is_unaffected, earlier_ssn, goal_of, is_covered, settles, earlier_tsn, earliest_among, earliest_from, is_from, is_upto, begins_upto, is_passable, later_ssn, latest_passable};
@@ -44,10 +43,10 @@ fn misses_behind(first: &ChunkPayloadData, rest: &[ChunkPayloadData], tsn: u32) 
 /// Removes the sets that a skip up to the number discards, those alone that miss a TSN where there
 /// is a bound, and counts their bytes up to the greatest number.
 pub(crate) fn discard(sets: &mut VecDeque<Fragments>, last_ssn: u16, bound: Option<u32>) -> usize
-    ensures rest { sets.new.items ≡ those (λ s. not
+    ensures rest { sets.new.items ≡ filter (λ s. not
         (is_discarded last_ssn bound s)) sets.old.items }
     ensures bytes { result
-        ≡ min (set_bytes (those (is_discarded last_ssn bound) sets.old.items)) (2 ^ 64 - 1) }
+        ≡ min (set_bytes (filter (is_discarded last_ssn bound) sets.old.items)) (2 ^ 64 - 1) }
 {
     let mut gone = 0usize;
     let mut place = 0;

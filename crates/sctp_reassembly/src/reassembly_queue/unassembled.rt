@@ -6,9 +6,8 @@ ghost use Rattle.sctp_base.specs.declared.error.Error.TheVariants.{ErrOutOfMemor
 ghost use Rattle.sctp_chunks.specs.declared.chunk.chunk_payload_data.ChunkPayloadData.{ChunkPayloadData};
 ghost use Rattle.sctp_list_lemmas.specs.Serial.{comes_before};
 ghost use Rattle.sctp_reassembly.specs.reassembly_queue.Around.{IsStart, HasNoStart, IsEnd, IsFirstEnding, HasNoEnd};
-ghost use Rattle.sctp_serial.specs.DataChunks.{bytes_of};
+ghost use Rattle.sctp_serial.specs.DataChunks.{bytes_of, following_tsn};
 ghost use Rattle.sctp_reassembly.specs.reassembly_queue.Loose.{IsOrderMark};
-ghost use Rattle.sctp_reassembly.specs.reassembly_queue.Fragments.{next_tsn};
 ghost use Rattle.sctp_serial.specs.Window.{IsSerial};
 
 use sctp_base::error::Error;
@@ -449,7 +448,7 @@ fn is_cut_off(unassembled: &Loose, place: usize, here: &ChunkPayloadData, turns:
     ensures yes { result ≡ true → HasNoStart unassembled.now place }
     ensures no { result ≡ false
         → here.now.beginning_fragment ≡ false → (0 < place) × ((d : ChunkPayloadData)
-        → here.now.tsn ≡ next_tsn (slice_index_or unassembled.now (place - 1) d).tsn) }
+        → here.now.tsn ≡ following_tsn (slice_index_or unassembled.now (place - 1) d).tsn) }
     ensures not_back { turns.old ≤ turns.new }
     ensures cost { turns.new ≤ turns.old + 1 }
 {

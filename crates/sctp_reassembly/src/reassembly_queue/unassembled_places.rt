@@ -5,10 +5,10 @@ ghost use Rattle.std.specs.List.{position_or_len};
 ghost use Rattle.sctp_chunks.specs.declared.chunk.chunk_payload_data.ChunkPayloadData.{ChunkPayloadData};
 ghost use Rattle.sctp_list_lemmas.specs.Serial.{comes_before, at_or_before};
 ghost use Rattle.sctp_reassembly.specs.reassembly_queue.Loose.{place_among};
-ghost use Rattle.sctp_reassembly.specs.reassembly_queue.Fragments.{next_tsn};
-ghost use Rattle.sctp_reassembly.specs.reassembly_queue.Sizes.{back_from, on_from, previous_tsn};
+ghost use Rattle.sctp_reassembly.specs.reassembly_queue.Sizes.{back_from, on_from};
 ghost use Rattle.sctp_serial.specs.Turns.{IsWithinDigits};
 ghost use Rattle.sctp_serial.specs.Window.{IsSerial};
+ghost use Rattle.sctp_serial.specs.DataChunks.{following_tsn, preceding_tsn};
 
 use crate::reassembly_queue::unassembled::Loose;
 use sctp_base::util::{sna32lt, sna32lte};
@@ -90,9 +90,9 @@ pub(crate) fn place_before(
     requires { place ≡ place_among tsn unassembled.now }
     ensures in_range { IfSome result (λ at. at < length unassembled.now) }
     ensures fits { IfSome result (λ at. at + 1 < 2 ^ 64) }
-    ensures back { IfSome result (λ at. back_from (previous_tsn tsn) unassembled.now
+    ensures back { IfSome result (λ at. back_from (preceding_tsn tsn) unassembled.now
         ≡ reverse (take (at + 1) unassembled.now)) }
-    ensures none { IfNone result (back_from (previous_tsn tsn) unassembled.now ≡ []) }
+    ensures none { IfNone result (back_from (preceding_tsn tsn) unassembled.now ≡ []) }
     ensures cost { IsSerial unassembled.now → turns.new ≤ turns.old + 2 }
 {
     let wanted = tsn.wrapping_sub(1);
@@ -126,9 +126,9 @@ pub(crate) fn place_after(
 ) -> Option<usize>
     requires { place ≡ place_among tsn unassembled.now }
     ensures in_range { IfSome result (λ at. at < length unassembled.now) }
-    ensures on { IfSome result (λ at. on_from (next_tsn tsn) unassembled.now
+    ensures on { IfSome result (λ at. on_from (following_tsn tsn) unassembled.now
         ≡ drop at unassembled.now) }
-    ensures none { IfNone result (on_from (next_tsn tsn) unassembled.now ≡ []) }
+    ensures none { IfNone result (on_from (following_tsn tsn) unassembled.now ≡ []) }
     ensures cost { IsSerial unassembled.now → turns.new ≤ turns.old + 1 }
 {
     let wanted = tsn.wrapping_add(1);

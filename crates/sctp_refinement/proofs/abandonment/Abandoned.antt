@@ -4,7 +4,8 @@ use Rattle.std.specs.Prelude.{if◌then◌else◌, ◌==◌, ◌&&◌, ◌||◌,
 use Rattle.std.proofs.Math.Path.{subst}
 use Rattle.std.proofs.lemmas.Bool.Decides.{nat_tests}
 use Rattle.std.proofs.lemmas.List.{map-append}
-use Rattle.sctp_list_lemmas.specs.Kept.{kept, always, gathered, numbers_from, first_of}
+use Rattle.std.specs.List.{flat_map}
+use Rattle.sctp_list_lemmas.specs.Kept.{numbers_where, always, numbers_from, first_of}
 use Rattle.sctp_list_lemmas.specs.Lists.{pieces, change_where}
 use Rattle.sctp_list_lemmas.proofs.Passing.{kept-same, kept-none, map-kept-same, kept-snoc_in, front-kept, FrontOf}
 use Rattle.sctp_list_lemmas.proofs.More.{length-changed, changed-keeps, fails, not_both}
@@ -19,11 +20,11 @@ use Rattle.sctp_outbound.specs.payload_queue.PayloadQueue as payload
 use Rattle.sctp_outbound.specs.pending_queue.PendingQueue.{Pending, selected_without, without, without_message, last_removed}
 use Rattle.sctp_outbound.specs.pending_queue.Whole.{waits}
 use Rattle.sctp_outbound.specs.outbound_queue.OutboundQueue as queue
-use Rattle.sctp_outbound.specs.outbound_queue.OutboundQueue.{Outbound, terminal_chunk, with_terminal_chunk, tsn_after, following_tsn}
-use Rattle.sctp_model.specs.World.{World, Setup, Message, Slot}
+use Rattle.sctp_outbound.specs.outbound_queue.OutboundQueue.{Outbound, terminal_chunk, with_terminal_chunk, tsn_after}
+use Rattle.sctp_model.specs.LinkRecord.{LinkRecord, Setup, Message, Slot}
 use Rattle.sctp_model.specs.Messages.{message_at, slot_at, message_of, messages_where, no_message, no_slot, is_ordered_on, ordered_before, ssn_of, fragment_count, has_fragment, sent_of, is_partially_sent, tsn_of}
 use Rattle.sctp_model.specs.Amounts.{is_expired_or_abandoned}
-use Rattle.sctp_model.specs.Changes.{abandoned, with_slot, message_changed, mark_abandoned}
+use Rattle.sctp_model.specs.Changes.{after_abandon, with_slot, message_changed, mark_abandoned}
 use Rattle.sctp_model.proofs.sender.Shape.{shape}
 use Rattle.sctp_model.proofs.sender.Sender.{Sender}
 use Rattle.sctp_model.proofs.sender.SenderSteps.{of-has, half-one}
@@ -36,6 +37,7 @@ use Rattle.sctp_refinement.proofs.acknowledging.QuietSender.{chunk_by, deadline_
 use Rattle.sctp_refinement.proofs.sending.SentInFlight.{put-last}
 use Rattle.sctp_refinement.proofs.abandonment.NothingHeld.{sent-same}
 use Rattle.sctp_refinement.proofs.abandonment.AbandonedLists.{those-gathered, has_rest, waits-is, last-removed}
+use Rattle.sctp_serial.specs.DataChunks.{following_tsn}
 
 -- a message without what an abandonment changes
 abbrev pub alive : Message → Message
@@ -57,15 +59,15 @@ sending_with s m gone ssn x p = record {
 
 -- ## The message alone
 
-abbrev pub marked : World → ℕ → World
+abbrev pub marked : LinkRecord → ℕ → LinkRecord
 marked w n = message_changed w n mark_abandoned
 
 -- the queue: its tail goes, what is in flight of it is cleared
 abbrev pub given : ℕ → Outbound → Outbound
 given n q = record q { pending = without n q.pending; inflight = payload.with_chunks q.inflight (change_where (is_of n) as_abandoned q.inflight.chunks) }
 
-module _ (w : World) (n : ℕ) where
-  abbrev v : World
+module _ (w : LinkRecord) (n : ℕ) where
+  abbrev v : LinkRecord
   v = marked w n
 
   pub alive-same : (k : ℕ) → alive (message_at v k) ≡ alive (message_at w k)
@@ -97,9 +99,9 @@ module _ (w : World) (n : ℕ) where
       ∙ map-kept-same (waiting_at v k) (waiting_at w k) always always (sent_of w k) (fragment_count w k - sent_of w k) (λ j a b. refl) (λ j a b e. waiting_at-same k j)
 
   -- what waits, by a test that abandons message n
-  where-less : (t : Message → Bool) → ((m : Message) → t m ≡ t (alive m)) → waiting_where v (λ k. t (message_at v k) && not (is_expired_or_abandoned v k)) ≡ gathered (waiting_of w) (kept (λ k. (t (message_at w k) && not (is_expired_or_abandoned w k)) && not (k == n)) 0 (length w.messages))
+  where-less : (t : Message → Bool) → ((m : Message) → t m ≡ t (alive m)) → waiting_where v (λ k. t (message_at v k) && not (is_expired_or_abandoned v k)) ≡ flat_map (waiting_of w) (numbers_where (λ k. (t (message_at w k) && not (is_expired_or_abandoned w k)) && not (k == n)) 0 (length w.messages))
   where-less t same =
-      ap (λ c. gathered (waiting_of v) (kept (λ k. t (message_at v k) && not (is_expired_or_abandoned v k)) 0 c)) count-messages
+      ap (λ c. flat_map (waiting_of v) (numbers_where (λ k. t (message_at v k) && not (is_expired_or_abandoned v k)) 0 c)) count-messages
       ∙ gathered-same (waiting_of v) (waiting_of w) (λ k. t (message_at v k) && not (is_expired_or_abandoned v k)) (λ k. (t (message_at w k) && not (is_expired_or_abandoned w k)) && not (k == n)) 0 (length w.messages)
       (λ k a b.
       ap (λ b. b && not (is_expired_or_abandoned v k)) (same (message_at v k) ∙ ap t (alive-same k) ∙ sym (same (message_at w k)))
@@ -134,10 +136,10 @@ module _ (w : World) (n : ℕ) where
   selected-then : Sender (shape w) → selected_without n (selected_of w (first_of (messages_where w (is_partially_sent w)))) ≡ selected_of v (first_of (messages_where v (is_partially_sent v)))
   selected-then s = by (messages_where w (is_partially_sent w)) (front-kept (is_partially_sent w) 0 (length w.messages)) ∙ ap (λ l. selected_of v (first_of l)) (sym less)
     where
-      less : messages_where v (is_partially_sent v) ≡ kept (λ k. is_partially_sent w k && not (k == n)) 0 (length w.messages)
-      less = ap (kept (is_partially_sent v) 0) count-messages ∙ kept-same (is_partially_sent v) (λ k. is_partially_sent w k && not (k == n)) 0 (length w.messages) (λ k a b. half-then k)
+      less : messages_where v (is_partially_sent v) ≡ numbers_where (λ k. is_partially_sent w k && not (k == n)) 0 (length w.messages)
+      less = ap (numbers_where (is_partially_sent v) 0) count-messages ∙ kept-same (is_partially_sent v) (λ k. is_partially_sent w k && not (k == n)) 0 (length w.messages) (λ k a b. half-then k)
 
-      none : (j : ℕ) → is_partially_sent w j ≡ true → j ≡ n → kept (λ k. is_partially_sent w k && not (k == n)) 0 (length w.messages) ≡ []
+      none : (j : ℕ) → is_partially_sent w j ≡ true → j ≡ n → numbers_where (λ k. is_partially_sent w k && not (k == n)) 0 (length w.messages) ≡ []
       none j h e = kept-none (λ k. is_partially_sent w k && not (k == n)) 0 (length w.messages) (λ k a b. one k (is_partially_sent w k) refl)
         where
           one : (k : ℕ) (b : Bool) → is_partially_sent w k ≡ b → (b && not (k == n)) ≡ false
@@ -155,11 +157,11 @@ module _ (w : World) (n : ℕ) where
           left true b e = refl
           left false b e = cc
 
-      by : (l : List ℕ) → FrontOf (is_partially_sent w) 0 (length w.messages) l → selected_without n (selected_of w (first_of l)) ≡ selected_of v (first_of (kept (λ k. is_partially_sent w k && not (k == n)) 0 (length w.messages)))
+      by : (l : List ℕ) → FrontOf (is_partially_sent w) 0 (length w.messages) l → selected_without n (selected_of w (first_of l)) ≡ selected_of v (first_of (numbers_where (λ k. is_partially_sent w k && not (k == n)) 0 (length w.messages)))
       by [] f = ap (λ l. selected_of v (first_of l)) (sym (kept-none (λ k. is_partially_sent w k && not (k == n)) 0 (length w.messages) (λ k a b. ap (λ c. c && not (k == n)) (f k a b))))
-      by (j ∷ l) f = by_same {P = selected_without n (selected_of w (Some j)) ≡ selected_of v (first_of (kept (λ k. is_partially_sent w k && not (k == n)) 0 (length w.messages)))} j n
+      by (j ∷ l) f = by_same {P = selected_without n (selected_of w (Some j)) ≡ selected_of v (first_of (numbers_where (λ k. is_partially_sent w k && not (k == n)) 0 (length w.messages)))} j n
           (λ e. ap (λ b. if b then None else selected_of w (Some j)) (ap (λ i. j == i) (sym e) ∙ same-yes j) ∙ ap (λ l. selected_of v (first_of l)) (sym (none j f.passes e)))
-          (λ ne x. ap (λ b. if b then None else selected_of w (Some j)) x ∙ kind j ∙ ap (selected_of v) (sym (first-is j f.passes (omega (arith, f.high)) x (kept (λ k. is_partially_sent w k && not (k == n)) 0 (length w.messages)) (front-kept (λ k. is_partially_sent w k && not (k == n)) 0 (length w.messages)))))
+          (λ ne x. ap (λ b. if b then None else selected_of w (Some j)) x ∙ kind j ∙ ap (selected_of v) (sym (first-is j f.passes (omega (arith, f.high)) x (numbers_where (λ k. is_partially_sent w k && not (k == n)) 0 (length w.messages)) (front-kept (λ k. is_partially_sent w k && not (k == n)) 0 (length w.messages)))))
 
   pub pending-given : Sender (shape w) → (q : Pending) → RefinesPending w q → RefinesPending v (without n q)
   pending-given s q t = record {
@@ -195,14 +197,14 @@ module _ (w : World) (n : ℕ) where
       by true true e = rw e refl
       by true false e = rw e refl
 
-  in-flight-given : (cs : List ChunkPayloadData) (from count : ℕ) → map sending_of cs ≡ map (sending_at w) (kept always from count) → map sending_of (change_where (is_of n) as_abandoned cs) ≡ map (sending_at v) (kept always from count)
+  in-flight-given : (cs : List ChunkPayloadData) (from count : ℕ) → map sending_of cs ≡ map (sending_at w) (numbers_where always from count) → map sending_of (change_where (is_of n) as_abandoned cs) ≡ map (sending_at v) (numbers_where always from count)
   in-flight-given [] from zero e = refl
   in-flight-given [] from (suc count) e = cc
   in-flight-given (c ∷ cs) from zero e = cc
   in-flight-given (c ∷ cs) from (suc count) e =
       let head : sending_of c ≡ sending_at w from = ap (λ l. head_of l (sending_of c)) e in
       ap (λ l. sending_of (if c.message_id == n then as_abandoned c else c) ∷ l) (in-flight-given cs (from + 1) count (ap tail_of e))
-      ∙ ap (λ s. s ∷ map (sending_at v) (kept always (from + 1) count)) (one (c.message_id == n) ∙ ap (λ s. if s.chunk.message == n then gone s else s) head ∙ sym (sending-then from))
+      ∙ ap (λ s. s ∷ map (sending_at v) (numbers_where always (from + 1) count)) (one (c.message_id == n) ∙ ap (λ s. if s.chunk.message == n then gone s else s) head ∙ sym (sending-then from))
     where
       one : (b : Bool) → sending_of (if b then as_abandoned c else c) ≡ (if b then gone (sending_of c) else sending_of c)
       one true = gone-queue c
@@ -229,8 +231,8 @@ module _ (w : World) (n : ℕ) where
 -- ## The terminal chunk
 
 -- a message that is abandoned takes a terminal chunk
-module _ (u : World) (n : ℕ) (dead : (message_at u n).abandoned ≡ true) (few : length u.slots < 2 ^ 31) (made : u.taken ≤ length u.slots) where
-  abbrev z : World
+module _ (u : LinkRecord) (n : ℕ) (dead : (message_at u n).abandoned ≡ true) (few : length u.slots < 2 ^ 31) (made : u.taken ≤ length u.slots) where
+  abbrev z : LinkRecord
   z = with_slot u n true
 
   abbrev here : ℕ
@@ -270,7 +272,7 @@ module _ (u : World) (n : ℕ) (dead : (message_at u n).abandoned ≡ true) (few
   half-same : messages_where z (is_partially_sent z) ≡ messages_where u (is_partially_sent u)
   half-same = kept-same (is_partially_sent z) (is_partially_sent u) 0 (length u.messages) (λ k a b. ap (λ s. nat_lt 0 s && (nat_lt s (fragment_count u k) && not (message_at u k).abandoned)) (sent-same u n k))
 
-  pub refines-mark : (i : ℕ) (q : Outbound) → n < q.next_unstarted → RefinesOutbound u q → RefinesOutbound z (record q { inflight = payload.pushed q.inflight (terminal_chunk (tsn_of u here) (waiting_at u n i)) })
+  pub refines-mark : (i : ℕ) (q : Outbound) → n < q.next_unstarted → RefinesOutbound u q → RefinesOutbound z (record q { inflight = payload.push_chunk q.inflight (terminal_chunk (tsn_of u here) (waiting_at u n i)) })
   refines-mark i q begun t = record {
     pending = record {
       ordered = t.pending.ordered ∙ sym (where-same (waits_ordered u));
@@ -298,7 +300,7 @@ module _ (u : World) (n : ℕ) (dead : (message_at u n).abandoned ≡ true) (few
 -- ## Both
 
 -- what the queue waits for of a message that was begun is what is partially sent
-module _ (w : World) (n : ℕ) (s : Sender (shape w)) (pos : 0 < sent_of w n) where
+module _ (w : LinkRecord) (n : ℕ) (s : Sender (shape w)) (pos : 0 < sent_of w n) where
   made-message : n < length w.messages
   made-message = sent-made (shape w) n s pos
 
@@ -321,14 +323,14 @@ module _ (w : World) (n : ℕ) (s : Sender (shape w)) (pos : 0 < sent_of w n) wh
   begun-message q t = by (messages_kept) (front-kept (has_fragment w n) 0 (length w.slots)) pos
     where
       messages_kept : List ℕ
-      messages_kept = kept (has_fragment w n) 0 (length w.slots)
+      messages_kept = numbers_where (has_fragment w n) 0 (length w.slots)
 
       by : (l : List ℕ) → FrontOf (has_fragment w n) 0 (length w.slots) l → 0 < length l → n < q.next_unstarted
       by [] f lt = absurd (omega (arith, lt))
       by (p ∷ l) f lt = let e = (of-has (shape w) n p f.passes).0 in omega (arith, e, t.begun p (omega (arith, f.high)))
 
   -- the queue abandons what the record does
-  pub refines-abandoned : length w.slots < 2 ^ 31 → w.taken ≤ length w.slots → (q : Outbound) → RefinesOutbound w q → RefinesOutbound (abandoned w n) (queue.abandoned n (tsn_of w (length w.slots)) q)
+  pub refines-abandoned : length w.slots < 2 ^ 31 → w.taken ≤ length w.slots → (q : Outbound) → RefinesOutbound w q → RefinesOutbound (after_abandon w n) (queue.abandon_chunks n (tsn_of w (length w.slots)) q)
   refines-abandoned few made q t = by (is_partially_sent w n) refl
     where
       last : (b : Bool) → is_partially_sent w n ≡ b → last_removed n q.pending ≡ (if b then Some (waiting_at w n (fragment_count w n - 1)) else None)
@@ -340,12 +342,12 @@ module _ (w : World) (n : ℕ) (s : Sender (shape w)) (pos : 0 < sent_of w n) wh
       dead : (message_at (marked w n) n).abandoned ≡ true
       dead = abandoned-then w n n ∙ ap (λ b. b || (message_at w n).abandoned) (same-yes n)
 
-      by : (b : Bool) → is_partially_sent w n ≡ b → RefinesOutbound (message_changed (if b then with_slot w n true else w) n mark_abandoned) (queue.abandoned n (tsn_of w (length w.slots)) q)
+      by : (b : Bool) → is_partially_sent w n ≡ b → RefinesOutbound (message_changed (if b then with_slot w n true else w) n mark_abandoned) (queue.abandon_chunks n (tsn_of w (length w.slots)) q)
       by true e = subst (λ o. RefinesOutbound (with_slot (marked w n) n true) (with o)) (sym (last true e ∙ ap Some (sym (waiting_at-same w n n (fragment_count w n - 1))))) (refines-mark (marked w n) n dead few made (fragment_count w n - 1) (given n q) (begun-message q t) (refines-given w n s q t))
       by false e = subst (λ o. RefinesOutbound (marked w n) (with o)) (sym (last false e)) (refines-given w n s q t)
 
   -- and the next TSN is that of the next slot
-  pub tsn-abandoned : (q : Outbound) → RefinesOutbound w q → tsn_after n (tsn_of w (length w.slots)) q ≡ tsn_of (abandoned w n) (length (abandoned w n).slots)
+  pub tsn-abandoned : (q : Outbound) → RefinesOutbound w q → tsn_after n (tsn_of w (length w.slots)) q ≡ tsn_of (after_abandon w n) (length (after_abandon w n).slots)
   tsn-abandoned q t = ap (λ b. if b then following_tsn (tsn_of w (length w.slots)) else tsn_of w (length w.slots)) (waits-half q t) ∙ by (is_partially_sent w n)
     where
       many : length (with_slot w n true).slots ≡ suc (length w.slots)
@@ -360,5 +362,5 @@ module _ (w : World) (n : ℕ) (s : Sender (shape w)) (pos : 0 < sent_of w n) wh
       by false = refl
 
   -- it takes room only where a tail was, and then nothing of it waits any more
-  pub room-abandoned : (tsn : ℕ) (q : Outbound) → RefinesOutbound w q → is_partially_sent w n ≡ false → (queue.abandoned n tsn q).inflight.room ≡ q.inflight.room
+  pub room-abandoned : (tsn : ℕ) (q : Outbound) → RefinesOutbound w q → is_partially_sent w n ≡ false → (queue.abandon_chunks n tsn q).inflight.room ≡ q.inflight.room
   room-abandoned tsn q t e = ap (λ o. (with_terminal_chunk o tsn (payload.with_chunks q.inflight (change_where (is_of n) as_abandoned q.inflight.chunks))).room) (last-removed w n q.pending made-message t.pending ∙ ap (λ c. if c then Some (waiting_at w n (fragment_count w n - 1)) else None) (rest-is ∙ e))

@@ -4,12 +4,12 @@ use Rattle.std.specs.Prelude.{if◌then◌else◌, ◌==◌, find}
 use Rattle.sctp_serial.specs.DataChunks.{has_tsn}
 use Rattle.sctp_outbound.specs.outbound_queue.OutboundQueue.{Outbound, total_bytes, to_abandon, abandoned_of, message_of, expiring_tail, late_tsns}
 use Rattle.sctp_model.specs.declared.event.Event.TheVariants as E
-use Rattle.sctp_model.specs.World.{World, Setup}
+use Rattle.sctp_model.specs.LinkRecord.{LinkRecord, Setup}
 use Rattle.sctp_model.specs.Messages
 use Rattle.sctp_model.specs.Messages.{message_at, place_of, tsn_of}
 use Rattle.sctp_model.specs.Amounts.{growth}
 use Rattle.sctp_model.specs.Changes.{tailing}
-use Rattle.sctp_model.specs.Steps.{History, world_of, IsRun, refusal_of, after}
+use Rattle.sctp_model.specs.Steps.{History, record_of, IsRun, refusal_of, after}
 use Rattle.sctp_model.specs.Laws.{IsSetup}
 use Rattle.sctp_model.proofs.sender.SenderRun.{sane-run}
 use Rattle.sctp_refinement.specs.Amount.{amount}
@@ -19,9 +19,9 @@ use Rattle.sctp_refinement.proofs.sending.KindsRun.{taken-run}
 use Rattle.sctp_refinement.proofs.abandonment.Released.{growth-by_queues, growth-abandon, growth-tail, amount-abandon, amount-tail}
 use Rattle.sctp_refinement.proofs.abandonment.AbandonedEvents.{refines-abandon, refines-tail, refines-late, given_all}
 
-module _ (setup : Setup) (h : History) (is : IsSetup setup) (run : IsRun setup h) (q : Outbound) (t : RefinesOutbound (world_of setup h) q) where
-  abbrev w : World
-  w = world_of setup h
+module _ (setup : Setup) (h : History) (is : IsSetup setup) (run : IsRun setup h) (q : Outbound) (t : RefinesOutbound (record_of setup h) q) where
+  abbrev w : LinkRecord
+  w = record_of setup h
 
   first : w.setup.first < 2 ^ 32
   first = let e = ap (λ (s : Setup). s.first) (sane-run setup h run).setup_is in omega (arith, e, is.first)

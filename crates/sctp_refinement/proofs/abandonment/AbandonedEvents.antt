@@ -4,26 +4,24 @@ use Rattle.std.specs.Prelude.{◌⊎◌, if◌then◌else◌, ◌==◌, ◌&&◌
 use Rattle.std.proofs.Math.Path.{subst}
 use Rattle.std.proofs.lemmas.Bool.{cases_lt}
 use Rattle.std.proofs.lemmas.Bool.Decides.{nat_tests}
-use Rattle.sctp_list_lemmas.specs.Kept.{kept, always}
-use Rattle.sctp_list_lemmas.specs.Lists.{those}
+use Rattle.std.specs.List.{filter}
+use Rattle.sctp_chunks.specs.Reliability.{is_past, is_timed}
+use Rattle.sctp_chunks.specs.PayloadTypes.{is_dcep}
+use Rattle.sctp_list_lemmas.specs.Kept.{numbers_where, always}
 use Rattle.sctp_list_lemmas.proofs.Passing.{kept-skip}
 use Rattle.sctp_list_lemmas.proofs.More.{both, and, fails, not_both}
 use Rattle.sctp_list_lemmas.proofs.Cases.{same-yes}
 use Rattle.sctp_list_lemmas.proofs.Getting.{get-snoc_old}
 use Rattle.sctp_chunks.specs.declared.chunk.chunk_payload_data.ChunkPayloadData.{ChunkPayloadData}
-use Rattle.sctp_chunks.specs.declared.chunk.chunk_payload_data.PayloadProtocolIdentifier.{PayloadProtocolIdentifier}
-use Rattle.sctp_chunks.specs.declared.chunk.chunk_payload_data.PayloadProtocolIdentifier.TheVariants as P
 use Rattle.sctp_serial.specs.DataChunks.{has_tsn}
-use Rattle.sctp_outbound.specs.pending_queue.PendingQueue as pending
-use Rattle.sctp_outbound.specs.pending_queue.PendingQueue.{Pending, peeked}
 use Rattle.sctp_outbound.specs.pending_queue.Whole.{waits}
 use Rattle.sctp_outbound.specs.outbound_queue.OutboundQueue as queue
-use Rattle.sctp_outbound.specs.outbound_queue.OutboundQueue.{Outbound, to_abandon, abandoned_of, tsn_after_of, has_tail, is_past, expiring_tail, is_expired_tail, late_tsns}
+use Rattle.sctp_outbound.specs.outbound_queue.OutboundQueue.{Outbound, to_abandon, abandoned_of, tsn_after_of, has_tail, expiring_tail, is_expired_tail, late_tsns}
 use Rattle.sctp_model.specs.declared.event.Event.TheVariants as E
 use Rattle.sctp_model.specs.declared.event.LinkRefusal.TheVariants.{NotInFlight}
-use Rattle.sctp_model.specs.World.{World, Setup, Slot}
-use Rattle.sctp_model.specs.Messages.{message_at, slot_at, message_of, no_slot, front, fragment_count, sent_of, is_partially_sent, is_in_flight, is_past_deadline, is_reached, is_timed, is_dcep, deadline_from, deadline_of, tsn_of, place_of}
-use Rattle.sctp_model.specs.Changes.{abandoned, with_slot, message_changed, mark_abandoned, front_if, tailing, tail_abandoned, is_late, late_slots}
+use Rattle.sctp_model.specs.LinkRecord.{LinkRecord, Setup, Slot}
+use Rattle.sctp_model.specs.Messages.{message_at, slot_at, message_of, no_slot, front, fragment_count, sent_of, is_partially_sent, is_in_flight, is_past_deadline, deadline_from, deadline_of, tsn_of, place_of}
+use Rattle.sctp_model.specs.Changes.{after_abandon, with_slot, message_changed, mark_abandoned, front_if, tailing, after_tail, is_late, late_slots}
 use Rattle.sctp_model.specs.Steps.{refusal_of, after}
 use Rattle.sctp_model.proofs.sender.Shape.{shape}
 use Rattle.sctp_model.proofs.sender.Sender.{Sender}
@@ -42,14 +40,14 @@ use Rattle.sctp_refinement.proofs.abandonment.AbandonedLate.{abandoned-again, la
 -- ## A TSN in flight
 
 -- whether its message is to be abandoned
-pub to-abandon : (w : World) (p : ℕ) (q : Outbound) → length w.slots < 2 ^ 31 → w.taken ≤ p → p < length w.slots → RefinesOutbound w q → to_abandon (find (has_tsn (tsn_of w p)) q.inflight.chunks) ≡ (if (message_at w (message_of w p)).abandoned then None else Some (message_of w p))
+pub to-abandon : (w : LinkRecord) (p : ℕ) (q : Outbound) → length w.slots < 2 ^ 31 → w.taken ≤ p → p < length w.slots → RefinesOutbound w q → to_abandon (find (has_tsn (tsn_of w p)) q.inflight.chunks) ≡ (if (message_at w (message_of w p)).abandoned then None else Some (message_of w p))
 to-abandon w p q short low high t =
     let f : Found w p q.inflight.chunks = found-in w p (omega arith) q.inflight.chunks w.taken (length w.slots - w.taken) (omega arith) low (omega arith) t.in_flight in
     ap to_abandon f.is
     ∙ ap (λ s. if s.chunk.abandoned then None else Some s.chunk.message) f.says
 
 -- its message is abandoned where it was not; then the next TSN is that of the next slot
-module _ (setup : Setup) (w : World) (p : ℕ) (q : Outbound) (g : Sane setup w) (low : w.taken ≤ p) (high : p < length w.slots) (t : RefinesOutbound w q) where
+module _ (setup : Setup) (w : LinkRecord) (p : ℕ) (q : Outbound) (g : Sane setup w) (low : w.taken ≤ p) (high : p < length w.slots) (t : RefinesOutbound w q) where
   abbrev owner : ℕ
   owner = message_of w p
 
@@ -65,17 +63,17 @@ module _ (setup : Setup) (w : World) (p : ℕ) (q : Outbound) (g : Sane setup w)
   chosen-is : (b : Bool) → (message_at w owner).abandoned ≡ b → chosen ≡ (if b then None else Some owner)
   chosen-is b e = to-abandon w p q (few setup w g) low high t ∙ ap (λ c. if c then None else Some owner) e
 
-  pub refines-tsn : RefinesOutbound (abandoned w owner) (abandoned_of chosen upcoming q)
+  pub refines-tsn : RefinesOutbound (after_abandon w owner) (abandoned_of chosen upcoming q)
   refines-tsn = by (message_at w owner).abandoned refl
     where
-      by : (b : Bool) → (message_at w owner).abandoned ≡ b → RefinesOutbound (abandoned w owner) (abandoned_of chosen upcoming q)
-      by true e = subst (λ o. RefinesOutbound (abandoned w owner) (abandoned_of o upcoming q)) (sym (chosen-is true e)) (subst (λ v. RefinesOutbound v q) (sym (abandoned-again w owner e)) t)
-      by false e = subst (λ o. RefinesOutbound (abandoned w owner) (abandoned_of o upcoming q)) (sym (chosen-is false e)) (refines-abandoned w owner g.sender pos (few setup w g) (omega (arith, low, high)) q t)
+      by : (b : Bool) → (message_at w owner).abandoned ≡ b → RefinesOutbound (after_abandon w owner) (abandoned_of chosen upcoming q)
+      by true e = subst (λ o. RefinesOutbound (after_abandon w owner) (abandoned_of o upcoming q)) (sym (chosen-is true e)) (subst (λ v. RefinesOutbound v q) (sym (abandoned-again w owner e)) t)
+      by false e = subst (λ o. RefinesOutbound (after_abandon w owner) (abandoned_of o upcoming q)) (sym (chosen-is false e)) (refines-abandoned w owner g.sender pos (few setup w g) (omega (arith, low, high)) q t)
 
-  pub next-tsn : tsn_after_of chosen upcoming q ≡ tsn_of (abandoned w owner) (length (abandoned w owner).slots)
+  pub next-tsn : tsn_after_of chosen upcoming q ≡ tsn_of (after_abandon w owner) (length (after_abandon w owner).slots)
   next-tsn = by (message_at w owner).abandoned refl
     where
-      by : (b : Bool) → (message_at w owner).abandoned ≡ b → tsn_after_of chosen upcoming q ≡ tsn_of (abandoned w owner) (length (abandoned w owner).slots)
+      by : (b : Bool) → (message_at w owner).abandoned ≡ b → tsn_after_of chosen upcoming q ≡ tsn_of (after_abandon w owner) (length (after_abandon w owner).slots)
       by true e = ap (λ o. tsn_after_of o upcoming q) (chosen-is true e) ∙ ap (λ v. tsn_of v (length v.slots)) (sym (abandoned-again w owner e))
       by false e = ap (λ o. tsn_after_of o upcoming q) (chosen-is false e) ∙ tsn-abandoned w owner g.sender pos q t
 
@@ -94,14 +92,14 @@ module _ (setup : Setup) (w : World) (p : ℕ) (q : Outbound) (g : Sane setup w)
       by false e = ap (λ o. has_tail o q) (chosen-is false e) ∙ waits-half w owner g.sender pos q t
 
   -- room for the one terminal chunk is kept until it is taken
-  pub room-tsn : (0 < q.inflight.room) ⊎ ((k : ℕ) → is_partially_sent w k ≡ false) → (0 < (abandoned_of chosen upcoming q).inflight.room) ⊎ ((k : ℕ) → is_partially_sent (abandoned w owner) k ≡ false)
+  pub room-tsn : (0 < q.inflight.room) ⊎ ((k : ℕ) → is_partially_sent w k ≡ false) → (0 < (abandoned_of chosen upcoming q).inflight.room) ⊎ ((k : ℕ) → is_partially_sent (after_abandon w owner) k ≡ false)
   room-tsn r = by (is_partially_sent w owner) refl r
     where
       left : (a b : Bool) → a ≡ false → (a && b) ≡ false
       left true b e = cc
       left false b e = refl
 
-      gone : (k : ℕ) → is_partially_sent w owner ≡ true → is_partially_sent (abandoned w owner) k ≡ false
+      gone : (k : ℕ) → is_partially_sent w owner ≡ true → is_partially_sent (after_abandon w owner) k ≡ false
       gone k h = half-still w owner k ∙ fails (is_partially_sent w k && not (k == owner)) (λ z.
           let a = both (is_partially_sent w k) (not (k == owner)) z in
           let e : k ≡ owner = half-one (shape w) k owner g.sender a.0 h in
@@ -111,14 +109,14 @@ module _ (setup : Setup) (w : World) (p : ℕ) (q : Outbound) (g : Sane setup w)
       same true e h = ap (λ o. (abandoned_of o upcoming q).inflight.room) (chosen-is true e)
       same false e h = ap (λ o. (abandoned_of o upcoming q).inflight.room) (chosen-is false e) ∙ room-abandoned w owner g.sender pos upcoming q t h
 
-      by : (b : Bool) → is_partially_sent w owner ≡ b → (0 < q.inflight.room) ⊎ ((k : ℕ) → is_partially_sent w k ≡ false) → (0 < (abandoned_of chosen upcoming q).inflight.room) ⊎ ((k : ℕ) → is_partially_sent (abandoned w owner) k ≡ false)
+      by : (b : Bool) → is_partially_sent w owner ≡ b → (0 < q.inflight.room) ⊎ ((k : ℕ) → is_partially_sent w k ≡ false) → (0 < (abandoned_of chosen upcoming q).inflight.room) ⊎ ((k : ℕ) → is_partially_sent (after_abandon w owner) k ≡ false)
       by true h r = inr (λ k. gone k h)
       by false h (inl room) = inl (omega (arith, room, same (message_at w owner).abandoned refl h))
       by false h (inr none) = inr (λ k. half-still w owner k ∙ left (is_partially_sent w k) (not (k == owner)) (none k))
 
 -- ## Abandon
 
-module _ (setup : Setup) (w : World) (tsn : ℕ) (q : Outbound) (g : Sane setup w) (first : w.setup.first < 2 ^ 32) (fits : tsn < 2 ^ 32) (ok : refusal_of w (E.Abandon tsn) ≡ None) (t : RefinesOutbound w q) where
+module _ (setup : Setup) (w : LinkRecord) (tsn : ℕ) (q : Outbound) (g : Sane setup w) (first : w.setup.first < 2 ^ 32) (fits : tsn < 2 ^ 32) (ok : refusal_of w (E.Abandon tsn) ≡ None) (t : RefinesOutbound w q) where
   back : tsn_of w (place_of w tsn) ≡ tsn
   back = omega (arith, first, fits)
 
@@ -134,31 +132,17 @@ module _ (setup : Setup) (w : World) (tsn : ℕ) (q : Outbound) (g : Sane setup 
   pub next-abandon : tsn_after_of (to_abandon (find (has_tsn tsn) q.inflight.chunks)) (tsn_of w (length w.slots)) q ≡ tsn_of (after w (E.Abandon tsn)) (length (after w (E.Abandon tsn)).slots)
   next-abandon = subst (λ k. tsn_after_of (to_abandon (find (has_tsn k) q.inflight.chunks)) (tsn_of w (length w.slots)) q ≡ tsn_of (after w (E.Abandon tsn)) (length (after w (E.Abandon tsn)).slots)) back (next-tsn setup w (place_of w tsn) q g low high t)
 
--- ## The lifetime, as the queue reads it
-
-past-is : (now : ℕ) (o : Option ℕ) → is_past now o ≡ is_reached now o
-past-is now None = refl
-past-is now (Some d) = refl
-
 -- ## Tail
 
 -- the fragment that the queue tests is the next one of the front
-pub tail-is : (setup : Setup) (w : World) (now : ℕ) (q : Outbound) → Going setup w → RefinesOutbound w q → queue.message_of (expiring_tail now q) ≡ tailing w now
+pub tail-is : (setup : Setup) (w : LinkRecord) (now : ℕ) (q : Outbound) → Going setup w → RefinesOutbound w q → queue.message_of (expiring_tail now q) ≡ tailing w now
 tail-is setup w now q g t = by (front w) refl
   where
-    dcep : (p : PayloadProtocolIdentifier) → pending.is_dcep p ≡ is_dcep p
-    dcep P.Dcep = refl
-    dcep P.String = refl
-    dcep P.Binary = refl
-    dcep P.StringEmpty = refl
-    dcep P.BinaryEmpty = refl
-    dcep P.Unknown = refl
-
     -- DCEP messages never expire
-    past_deadline : (n : ℕ) → (not (pending.is_dcep (message_at w n).ppi) && is_past now (deadline_of w n)) ≡ is_past_deadline w now n
-    past_deadline n = ap (λ b. not b && is_past now (deadline_of w n)) (dcep (message_at w n).ppi) ∙ ap (λ b. not (is_dcep (message_at w n).ppi) && b) (past-is now (deadline_of w n)) ∙ turned (is_timed (message_at w n).reliability) (is_dcep (message_at w n).ppi) (deadline_from (message_at w n).value (message_at w n).started)
+    past_deadline : (n : ℕ) → (not (is_dcep (message_at w n).ppi) && is_past now (deadline_of w n)) ≡ is_past_deadline w now n
+    past_deadline n = turned (is_timed (message_at w n).reliability) (is_dcep (message_at w n).ppi) (deadline_from (message_at w n).value (message_at w n).started)
       where
-        turned : (a d : Bool) (o : Option ℕ) → (not d && is_reached now (if a && not d then o else None)) ≡ is_reached now (if a && not d then o else None)
+        turned : (a d : Bool) (o : Option ℕ) → (not d && is_past now (if a && not d then o else None)) ≡ is_past now (if a && not d then o else None)
         turned true true o = refl
         turned true false o = refl
         turned false true o = refl
@@ -184,7 +168,7 @@ tail-is setup w now q g t = by (front w) refl
         half f (inl l) = (let z : (sent_of w n == 0) ≡ false = grind (arith, nat_tests) in ap not z) ∙ sym (is-half (shape w) n l f.takes.more f.takes.alive)
         half f (inr z) = (let y : (sent_of w n == 0) ≡ true = grind (arith, nat_tests) in ap not y) ∙ (let y : nat_lt 0 (sent_of w n) ≡ false = grind (arith, nat_tests) in ap (λ b. b && (nat_lt (sent_of w n) (fragment_count w n) && not (message_at w n).abandoned)) (sym y))
 
-module _ (setup : Setup) (w : World) (now : ℕ) (q : Outbound) (g : Going setup w) (made : w.taken ≤ length w.slots) (t : RefinesOutbound w q) where
+module _ (setup : Setup) (w : LinkRecord) (now : ℕ) (q : Outbound) (g : Going setup w) (made : w.taken ≤ length w.slots) (t : RefinesOutbound w q) where
   half-tail : (n : ℕ) → tailing w now ≡ Some n → is_partially_sent w n ≡ true
   half-tail n e = by (front w) e
     where
@@ -202,31 +186,31 @@ module _ (setup : Setup) (w : World) (now : ℕ) (q : Outbound) (g : Going setup
   pub refines-tail : RefinesOutbound (after w (E.Tail now)) (abandoned_of tail (tsn_of w (length w.slots)) q)
   refines-tail = subst (λ o. RefinesOutbound (after w (E.Tail now)) (abandoned_of o (tsn_of w (length w.slots)) q)) (sym (tail-is setup w now q g t)) (by (tailing w now) refl)
     where
-      by : (o : Option ℕ) → tailing w now ≡ o → RefinesOutbound (tail_abandoned w o) (abandoned_of o (tsn_of w (length w.slots)) q)
+      by : (o : Option ℕ) → tailing w now ≡ o → RefinesOutbound (after_tail w o) (abandoned_of o (tsn_of w (length w.slots)) q)
       by None e = t
       by (Some n) e = refines-abandoned w n g.sane.sender (of-half (shape w) n (half-tail n e)).some (few setup w g.sane) made q t
 
   pub next-tail : tsn_after_of tail (tsn_of w (length w.slots)) q ≡ tsn_of (after w (E.Tail now)) (length (after w (E.Tail now)).slots)
   next-tail = ap (λ o. tsn_after_of o (tsn_of w (length w.slots)) q) (tail-is setup w now q g t) ∙ by (tailing w now) refl
     where
-      by : (o : Option ℕ) → tailing w now ≡ o → tsn_after_of o (tsn_of w (length w.slots)) q ≡ tsn_of (tail_abandoned w o) (length (tail_abandoned w o).slots)
+      by : (o : Option ℕ) → tailing w now ≡ o → tsn_after_of o (tsn_of w (length w.slots)) q ≡ tsn_of (after_tail w o) (length (after_tail w o).slots)
       by None e = refl
       by (Some n) e = tsn-abandoned w n g.sane.sender (of-half (shape w) n (half-tail n e)).some q t
 
 -- ## Late
 
 -- what stays while the messages of late slots are abandoned: the slots that were there, and what is in flight
-pub record IsAbandoning (setup : Setup) (w v : World) : Type 0 where
+pub record IsAbandoning (setup : Setup) (w v : LinkRecord) : Type 0 where
   pub sane : Sane setup v
   pub first : v.setup ≡ w.setup
   pub taken : v.taken ≡ w.taken
   pub more : length w.slots ≤ length v.slots
   pub slot : (p : ℕ) → p < length w.slots → slot_at v p ≡ slot_at w p
 
-pub abandoning-first : (setup : Setup) (w : World) → Sane setup w → IsAbandoning setup w w
+pub abandoning-first : (setup : Setup) (w : LinkRecord) → Sane setup w → IsAbandoning setup w w
 abandoning-first setup w g = record { sane = g; first = refl; taken = refl; more = omega arith; slot = λ p lt. refl }
 
-pub abandoning-next : (setup : Setup) (w v : World) (n : ℕ) → 0 < sent_of v n → IsAbandoning setup w v → IsAbandoning setup w (abandoned v n)
+pub abandoning-next : (setup : Setup) (w v : LinkRecord) (n : ℕ) → 0 < sent_of v n → IsAbandoning setup w v → IsAbandoning setup w (after_abandon v n)
 abandoning-next setup w v n pos g = record {
   sane = sane-abandoned setup v n g.sane pos;
   first = setup-same (is_partially_sent v n) ∙ g.first;
@@ -255,7 +239,7 @@ abandoning-next setup w v n pos g = record {
     slot-same false p lt = refl
 
 -- one late slot
-module _ (setup : Setup) (w v : World) (p : ℕ) (q : Outbound) (g : IsAbandoning setup w v) (low : w.taken ≤ p) (high : p < length w.slots) (t : RefinesOutbound v q) where
+module _ (setup : Setup) (w v : LinkRecord) (p : ℕ) (q : Outbound) (g : IsAbandoning setup w v) (low : w.taken ≤ p) (high : p < length w.slots) (t : RefinesOutbound v q) where
   same-tsn : tsn_of v p ≡ tsn_of w p
   same-tsn = ap (λ s. (s.first + p) % 2 ^ 32) g.first
 
@@ -271,17 +255,17 @@ module _ (setup : Setup) (w v : World) (p : ℕ) (q : Outbound) (g : IsAbandonin
   abbrev late : Option ℕ
   late = to_abandon (find (has_tsn (tsn_of w p)) q.inflight.chunks)
 
-  pub refines-late_slot : RefinesOutbound (abandoned v (message_of w p)) (abandoned_of late (tsn_of v (length v.slots)) q)
+  pub refines-late_slot : RefinesOutbound (after_abandon v (message_of w p)) (abandoned_of late (tsn_of v (length v.slots)) q)
   refines-late_slot =
-      subst (λ n. RefinesOutbound (abandoned v n) (abandoned_of late (tsn_of v (length v.slots)) q)) same-message
-      (subst (λ k. RefinesOutbound (abandoned v (message_of v p)) (abandoned_of (to_abandon (find (has_tsn k) q.inflight.chunks)) (tsn_of v (length v.slots)) q)) same-tsn (refines-tsn setup v p q g.sane low' high' t))
+      subst (λ n. RefinesOutbound (after_abandon v n) (abandoned_of late (tsn_of v (length v.slots)) q)) same-message
+      (subst (λ k. RefinesOutbound (after_abandon v (message_of v p)) (abandoned_of (to_abandon (find (has_tsn k) q.inflight.chunks)) (tsn_of v (length v.slots)) q)) same-tsn (refines-tsn setup v p q g.sane low' high' t))
 
-  pub next-late_slot : tsn_after_of late (tsn_of v (length v.slots)) q ≡ tsn_of (abandoned v (message_of w p)) (length (abandoned v (message_of w p)).slots)
+  pub next-late_slot : tsn_after_of late (tsn_of v (length v.slots)) q ≡ tsn_of (after_abandon v (message_of w p)) (length (after_abandon v (message_of w p)).slots)
   next-late_slot =
-      subst (λ n. tsn_after_of late (tsn_of v (length v.slots)) q ≡ tsn_of (abandoned v n) (length (abandoned v n).slots)) same-message
-      (subst (λ k. tsn_after_of (to_abandon (find (has_tsn k) q.inflight.chunks)) (tsn_of v (length v.slots)) q ≡ tsn_of (abandoned v (message_of v p)) (length (abandoned v (message_of v p)).slots)) same-tsn (next-tsn setup v p q g.sane low' high' t))
+      subst (λ n. tsn_after_of late (tsn_of v (length v.slots)) q ≡ tsn_of (after_abandon v n) (length (after_abandon v n).slots)) same-message
+      (subst (λ k. tsn_after_of (to_abandon (find (has_tsn k) q.inflight.chunks)) (tsn_of v (length v.slots)) q ≡ tsn_of (after_abandon v (message_of v p)) (length (after_abandon v (message_of v p)).slots)) same-tsn (next-tsn setup v p q g.sane low' high' t))
 
-  pub abandoning-late_slot : IsAbandoning setup w (abandoned v (message_of w p))
+  pub abandoning-late_slot : IsAbandoning setup w (after_abandon v (message_of w p))
   abandoning-late_slot = abandoning-next setup w v (message_of w p) (subst (λ n. 0 < sent_of v n) same-message (slot-sent (shape v) p g.sane.sender high')) g
 
 -- the queue's own loop: each TSN in turn
@@ -289,25 +273,25 @@ abbrev pub given_all : List ℕ → ℕ → Outbound → ℕ × Outbound
 given_all [] next q = (next, q)
 given_all (tsn ∷ tsns) next q = given_all tsns (tsn_after_of (to_abandon (find (has_tsn tsn) q.inflight.chunks)) next q) (abandoned_of (to_abandon (find (has_tsn tsn) q.inflight.chunks)) next q)
 
-abbrev pub AllInFlight : World → List ℕ → Type 0
+abbrev pub AllInFlight : LinkRecord → List ℕ → Type 0
 AllInFlight w [] = Unit {0}
 AllInFlight w (p ∷ ps) = (w.taken ≤ p) × (p < length w.slots) × AllInFlight w ps
 
-abbrev pub RefinesNext : World → ℕ × Outbound → Type 0
+abbrev pub RefinesNext : LinkRecord → ℕ × Outbound → Type 0
 RefinesNext v o = RefinesOutbound v o.1 × (o.0 ≡ tsn_of v (length v.slots))
 
-pub refines-all : (setup : Setup) (w : World) (ps : List ℕ) (v : World) (next : ℕ) (q : Outbound) → AllInFlight w ps → IsAbandoning setup w v → next ≡ tsn_of v (length v.slots) → RefinesOutbound v q → RefinesNext (fold abandoned v (map (message_of w) ps)) (given_all (map (tsn_of w) ps) next q)
+pub refines-all : (setup : Setup) (w : LinkRecord) (ps : List ℕ) (v : LinkRecord) (next : ℕ) (q : Outbound) → AllInFlight w ps → IsAbandoning setup w v → next ≡ tsn_of v (length v.slots) → RefinesOutbound v q → RefinesNext (fold after_abandon v (map (message_of w) ps)) (given_all (map (tsn_of w) ps) next q)
 refines-all setup w [] v next q a g e t = (t, e)
 refines-all setup w (p ∷ ps) v next q a g e t =
     let late = to_abandon (find (has_tsn (tsn_of w p)) q.inflight.chunks) in
-    refines-all setup w ps (abandoned v (message_of w p)) (tsn_after_of late next q) (abandoned_of late next q) a.2
+    refines-all setup w ps (after_abandon v (message_of w p)) (tsn_after_of late next q) (abandoned_of late next q) a.2
     (abandoning-late_slot setup w v p q g a.0 a.1 t)
     (ap (λ k. tsn_after_of late k q) e ∙ next-late_slot setup w v p q g a.0 a.1 t)
-    (subst (λ k. RefinesOutbound (abandoned v (message_of w p)) (abandoned_of late k q)) (sym e) (refines-late_slot setup w v p q g a.0 a.1 t))
+    (subst (λ k. RefinesOutbound (after_abandon v (message_of w p)) (abandoned_of late k q)) (sym e) (refines-late_slot setup w v p q g a.0 a.1 t))
 
 -- ## Which slots are late
 
-late-in : (w : World) (now : ℕ) (q : Outbound) → Sender (shape w) → RefinesOutbound w q → (cs : List ChunkPayloadData) (from count : ℕ) → w.taken ≤ from → from + count ≤ length w.slots → map sending_of cs ≡ map (sending_at w) (kept always from count) → map (λ c. c.tsn) (those (queue.is_late now q.pending) cs) ≡ map (tsn_of w) (kept (is_late w now) from count)
+late-in : (w : LinkRecord) (now : ℕ) (q : Outbound) → Sender (shape w) → RefinesOutbound w q → (cs : List ChunkPayloadData) (from count : ℕ) → w.taken ≤ from → from + count ≤ length w.slots → map sending_of cs ≡ map (sending_at w) (numbers_where always from count) → map (λ c. c.tsn) (filter (queue.is_late now q.pending) cs) ≡ map (tsn_of w) (numbers_where (is_late w now) from count)
 late-in w now q s t [] from zero low high e = refl
 late-in w now q s t [] from (suc count) low high e = cc
 late-in w now q s t (c ∷ cs) from zero low high e = cc
@@ -339,27 +323,26 @@ late-in w now q s t (c ∷ cs) from (suc count) low high e = by (is_late w now f
     test : queue.is_late now q.pending c ≡ is_late w now from
     test =
         ap (λ x. not x.chunk.abandoned && (is_past now x.chunk.deadline && (not x.chunk.acknowledged || waits x.chunk.message q.pending))) head
-        ∙ ap (λ b. not (message_at w n).abandoned && (b && (not (slot_at w from).acknowledged || waits n q.pending))) (past-is now (deadline_of w n))
         ∙ ap (λ b. not (message_at w n).abandoned && (is_past_deadline w now n && (not (slot_at w from).acknowledged || b))) (waits-half w n s (slot-sent (shape w) from s (omega (arith, high))) q t)
         ∙ swap (message_at w n).abandoned (is_past_deadline w now n) (not (slot_at w from).acknowledged || is_partially_sent w n)
         ∙ ap (λ b. b && (is_past_deadline w now n && (not (message_at w n).abandoned && (not (slot_at w from).acknowledged || is_partially_sent w n)))) (sym in-flight)
 
-    by : (b : Bool) → queue.is_late now q.pending c ≡ b → map (λ c. c.tsn) (those (queue.is_late now q.pending) cs) ≡ map (tsn_of w) (kept (is_late w now) (from + 1) count) → map (λ c. c.tsn) (those (queue.is_late now q.pending) (c ∷ cs)) ≡ map (tsn_of w) (if b then from ∷ kept (is_late w now) (from + 1) count else kept (is_late w now) (from + 1) count)
-    by true f ih = ap (λ b. map (λ c. c.tsn) (if b then c ∷ those (queue.is_late now q.pending) cs else those (queue.is_late now q.pending) cs)) f ∙ ap (λ k. k ∷ map (λ c. c.tsn) (those (queue.is_late now q.pending) cs)) (ap (λ x. x.chunk.tsn) head) ∙ ap (λ l. tsn_of w from ∷ l) ih
-    by false f ih = ap (λ b. map (λ c. c.tsn) (if b then c ∷ those (queue.is_late now q.pending) cs else those (queue.is_late now q.pending) cs)) f ∙ ih
+    by : (b : Bool) → queue.is_late now q.pending c ≡ b → map (λ c. c.tsn) (filter (queue.is_late now q.pending) cs) ≡ map (tsn_of w) (numbers_where (is_late w now) (from + 1) count) → map (λ c. c.tsn) (filter (queue.is_late now q.pending) (c ∷ cs)) ≡ map (tsn_of w) (if b then from ∷ numbers_where (is_late w now) (from + 1) count else numbers_where (is_late w now) (from + 1) count)
+    by true f ih = ap (λ b. map (λ c. c.tsn) (if b then c ∷ filter (queue.is_late now q.pending) cs else filter (queue.is_late now q.pending) cs)) f ∙ ap (λ k. k ∷ map (λ c. c.tsn) (filter (queue.is_late now q.pending) cs)) (ap (λ x. x.chunk.tsn) head) ∙ ap (λ l. tsn_of w from ∷ l) ih
+    by false f ih = ap (λ b. map (λ c. c.tsn) (if b then c ∷ filter (queue.is_late now q.pending) cs else filter (queue.is_late now q.pending) cs)) f ∙ ih
 
 -- the late slots are in flight
-late-slots : (w : World) (now : ℕ) → w.taken ≤ length w.slots → late_slots w now ≡ kept (is_late w now) w.taken (length w.slots - w.taken)
+late-slots : (w : LinkRecord) (now : ℕ) → w.taken ≤ length w.slots → late_slots w now ≡ numbers_where (is_late w now) w.taken (length w.slots - w.taken)
 late-slots w now made = skip (kept-skip (is_late w now) 0 (length w.slots) w.taken (omega arith) (omega (arith, made)) (λ j a b. (let z : nat_le w.taken j ≡ false = grind (arith, nat_tests) in ap (λ c. (c && nat_lt j (length w.slots)) && (is_past_deadline w now (message_of w j) && (not (message_at w (message_of w j)).abandoned && (not (slot_at w j).acknowledged || is_partially_sent w (message_of w j))))) z)))
   where
-    skip : late_slots w now ≡ kept (is_late w now) w.taken (0 + length w.slots - w.taken) → late_slots w now ≡ kept (is_late w now) w.taken (length w.slots - w.taken)
-    skip e = e ∙ ap (kept (is_late w now) w.taken) (let z : 0 + length w.slots - w.taken ≡ length w.slots - w.taken = omega arith in z)
+    skip : late_slots w now ≡ numbers_where (is_late w now) w.taken (0 + length w.slots - w.taken) → late_slots w now ≡ numbers_where (is_late w now) w.taken (length w.slots - w.taken)
+    skip e = e ∙ ap (numbers_where (is_late w now) w.taken) (let z : 0 + length w.slots - w.taken ≡ length w.slots - w.taken = omega arith in z)
 
 -- the TSNs that the queue lists are those of the record's late slots
-pub late-tsns : (w : World) (now : ℕ) (q : Outbound) → Sender (shape w) → w.taken ≤ length w.slots → RefinesOutbound w q → late_tsns now q ≡ map (tsn_of w) (late_slots w now)
+pub late-tsns : (w : LinkRecord) (now : ℕ) (q : Outbound) → Sender (shape w) → w.taken ≤ length w.slots → RefinesOutbound w q → late_tsns now q ≡ map (tsn_of w) (late_slots w now)
 late-tsns w now q s made t = late-in w now q s t q.inflight.chunks w.taken (length w.slots - w.taken) (omega arith) (omega (arith, made)) t.in_flight ∙ ap (map (tsn_of w)) (sym (late-slots w now made))
 
-pub late-in_flight : (w : World) (now : ℕ) → AllInFlight w (late_slots w now)
+pub late-in_flight : (w : LinkRecord) (now : ℕ) → AllInFlight w (late_slots w now)
 late-in_flight w now = all 0 (length w.slots)
   where
     one : (p : ℕ) → is_late w now p ≡ true → (w.taken ≤ p) × (p < length w.slots)
@@ -369,17 +352,17 @@ late-in_flight w now = all 0 (length w.slots)
         let b = f.1 in
         (grind (arith, nat_tests), grind (arith, nat_tests))
 
-    all : (from count : ℕ) → AllInFlight w (kept (is_late w now) from count)
+    all : (from count : ℕ) → AllInFlight w (numbers_where (is_late w now) from count)
     all from zero = tt
     all from (suc count) = by (is_late w now from) refl (all (from + 1) count)
       where
-        by : (b : Bool) → is_late w now from ≡ b → AllInFlight w (kept (is_late w now) (from + 1) count) → AllInFlight w (if b then from ∷ kept (is_late w now) (from + 1) count else kept (is_late w now) (from + 1) count)
+        by : (b : Bool) → is_late w now from ≡ b → AllInFlight w (numbers_where (is_late w now) (from + 1) count) → AllInFlight w (if b then from ∷ numbers_where (is_late w now) (from + 1) count else numbers_where (is_late w now) (from + 1) count)
         by true e r = let o = one from e in (o.0, o.1, r)
         by false e r = r
 
 -- a Late abandons each TSN that the queue lists, in turn
-pub refines-late : (setup : Setup) (w : World) (now : ℕ) (q : Outbound) → Sane setup w → w.taken ≤ length w.slots → RefinesOutbound w q → RefinesNext (after w (E.Late now)) (given_all (late_tsns now q) (tsn_of w (length w.slots)) q)
+pub refines-late : (setup : Setup) (w : LinkRecord) (now : ℕ) (q : Outbound) → Sane setup w → w.taken ≤ length w.slots → RefinesOutbound w q → RefinesNext (after w (E.Late now)) (given_all (late_tsns now q) (tsn_of w (length w.slots)) q)
 refines-late setup w now q g made t =
     subst (λ v. RefinesNext v (given_all (late_tsns now q) (tsn_of w (length w.slots)) q)) (sym (late-order setup w now g))
-    (subst (λ l. RefinesNext (fold abandoned w (map (message_of w) (late_slots w now))) (given_all l (tsn_of w (length w.slots)) q)) (sym (late-tsns w now q g.sender made t))
+    (subst (λ l. RefinesNext (fold after_abandon w (map (message_of w) (late_slots w now))) (given_all l (tsn_of w (length w.slots)) q)) (sym (late-tsns w now q g.sender made t))
     (refines-all setup w (late_slots w now) w (tsn_of w (length w.slots)) q (late-in_flight w now) (abandoning-first setup w g) refl t))

@@ -3,15 +3,15 @@ use Rattle.std.proofs.Common.{◌≡◌, ℕ, ◌<◌, ◌≤◌, ◌^◌, Bool,
 use Rattle.std.specs.Prelude.{if◌then◌else◌, ◌==◌, not, find}
 use Rattle.std.proofs.lemmas.Bool.Decides.{nat_tests}
 use Rattle.sctp_list_lemmas.specs.Kept.{always, numbers_from, total_over}
-use Rattle.sctp_list_lemmas.specs.Lists.{changed}
+use Rattle.sctp_list_lemmas.specs.Lists.{change_at}
 use Rattle.sctp_list_lemmas.proofs.More.{length-changed}
 use Rattle.sctp_list_lemmas.proofs.Totals.{total-kept_same}
-use Rattle.sctp_serial.specs.DataChunks.{has_tsn}
+use Rattle.sctp_serial.specs.DataChunks.{has_tsn, following_tsn}
 use Rattle.sctp_outbound.specs.outbound_queue.OutboundQueue as queue
-use Rattle.sctp_outbound.specs.outbound_queue.OutboundQueue.{Outbound, to_abandon, tsn_after_of, has_tail, late_tsns, following_tsn}
-use Rattle.sctp_model.specs.World.{World, Setup, Slot}
+use Rattle.sctp_outbound.specs.outbound_queue.OutboundQueue.{Outbound, to_abandon, tsn_after_of, has_tail, late_tsns}
+use Rattle.sctp_model.specs.LinkRecord.{LinkRecord, Setup, Slot}
 use Rattle.sctp_model.specs.Messages.{message_at, message_of, ordered_before, fragment_count, sent_of, is_partially_sent, tsn_of, place_of}
-use Rattle.sctp_model.specs.Changes.{abandoned, with_slot, message_changed, mark_abandoned}
+use Rattle.sctp_model.specs.Changes.{after_abandon, with_slot, message_changed, mark_abandoned}
 use Rattle.sctp_model.specs.Steps.{fragments_accepted}
 use Rattle.sctp_model.proofs.sender.SenderRun.{Sane}
 use Rattle.sctp_refinement.specs.Refines.{RefinesOutbound}
@@ -22,24 +22,24 @@ use Rattle.sctp_refinement.proofs.abandonment.AbandonedEvents.{tail-tsn}
 -- ## Room
 
 -- room that is taken beforehand changes nothing
-pub refines-room : (w : World) (q : Outbound) (room : ℕ) → RefinesOutbound w q → RefinesOutbound w (record q { inflight = record q.inflight { room = room } })
+pub refines-room : (w : LinkRecord) (q : Outbound) (room : ℕ) → RefinesOutbound w q → RefinesOutbound w (record q { inflight = record q.inflight { room = room } })
 refines-room w q room t = record { pending = t.pending; in_flight = t.in_flight; next = t.next; unstarted = t.unstarted; started = t.started; begun = t.begun }
 
 -- ## What the link writes
 
 -- the terminal chunk, where there is one
-abbrev pub mark_of : World → ℕ → List Slot
+abbrev pub mark_of : LinkRecord → ℕ → List Slot
 mark_of w n = if is_partially_sent w n then record { message = n; fragment = sent_of w n; is_terminal_chunk = true; arrived = false; acknowledged = false } ∷ [] else []
 
-pub abandoned-is : (w : World) (n : ℕ) → abandoned w n ≡ record w { messages = changed mark_abandoned n w.messages; slots = w.slots ++ mark_of w n }
+pub abandoned-is : (w : LinkRecord) (n : ℕ) → after_abandon w n ≡ record w { messages = change_at mark_abandoned n w.messages; slots = w.slots ++ mark_of w n }
 abandoned-is w n = by (is_partially_sent w n)
   where
-    by : (b : Bool) → message_changed (if b then with_slot w n true else w) n mark_abandoned ≡ record w { messages = changed mark_abandoned n w.messages; slots = w.slots ++ (if b then record { message = n; fragment = sent_of w n; is_terminal_chunk = true; arrived = false; acknowledged = false } ∷ [] else []) }
+    by : (b : Bool) → message_changed (if b then with_slot w n true else w) n mark_abandoned ≡ record w { messages = change_at mark_abandoned n w.messages; slots = w.slots ++ (if b then record { message = n; fragment = sent_of w n; is_terminal_chunk = true; arrived = false; acknowledged = false } ∷ [] else []) }
     by true = refl
-    by false = ap (λ l. let v : World = record w { messages = changed mark_abandoned n w.messages; slots = l } in v) (sym (append-nil w.slots))
+    by false = ap (λ l. let v : LinkRecord = record w { messages = change_at mark_abandoned n w.messages; slots = l } in v) (sym (append-nil w.slots))
 
 -- the next TSN moves where there is one
-pub moves-tsn : (setup : Setup) (w : World) (p : ℕ) (q : Outbound) → Sane setup w → w.taken ≤ p → p < length w.slots → RefinesOutbound w q → (tsn_after_of (to_abandon (find (has_tsn (tsn_of w p)) q.inflight.chunks)) (tsn_of w (length w.slots)) q == tsn_of w (length w.slots)) ≡ not (is_partially_sent w (message_of w p))
+pub moves-tsn : (setup : Setup) (w : LinkRecord) (p : ℕ) (q : Outbound) → Sane setup w → w.taken ≤ p → p < length w.slots → RefinesOutbound w q → (tsn_after_of (to_abandon (find (has_tsn (tsn_of w p)) q.inflight.chunks)) (tsn_of w (length w.slots)) q == tsn_of w (length w.slots)) ≡ not (is_partially_sent w (message_of w p))
 moves-tsn setup w p q g low high t = by (to_abandon (find (has_tsn (tsn_of w p)) q.inflight.chunks)) ∙ ap not (tail-tsn setup w p q g low high t)
   where
     here : ℕ
@@ -55,10 +55,10 @@ moves-tsn setup w p q g low high t = by (to_abandon (find (has_tsn (tsn_of w p))
 
 -- ## What stays
 
-pub count-then : (w : World) (n : ℕ) → length (abandoned w n).messages ≡ length w.messages
+pub count-then : (w : LinkRecord) (n : ℕ) → length (after_abandon w n).messages ≡ length w.messages
 count-then w n = ap length (messages-then w n) ∙ length-changed mark_abandoned n w.messages
 
-pub fragments-then : (w : World) (n : ℕ) → fragments_accepted (abandoned w n) ≡ fragments_accepted w
+pub fragments-then : (w : LinkRecord) (n : ℕ) → fragments_accepted (after_abandon w n) ≡ fragments_accepted w
 fragments-then w n = by (is_partially_sent w n)
   where
     same : fragments_accepted (marked w n) ≡ fragments_accepted w
@@ -69,14 +69,14 @@ fragments-then w n = by (is_partially_sent w n)
     by false = same
 
 -- the count of ordered messages before one, and the one that was noted with it
-pub before-then : (w : World) (n s k : ℕ) → ordered_before (abandoned w n) s k ≡ ordered_before w s k
+pub before-then : (w : LinkRecord) (n s k : ℕ) → ordered_before (after_abandon w n) s k ≡ ordered_before w s k
 before-then w n s k = by (is_partially_sent w n)
   where
     by : (b : Bool) → ordered_before (message_changed (if b then with_slot w n true else w) n mark_abandoned) s k ≡ ordered_before w s k
     by true = before-same w n s k
     by false = before-same w n s k
 
-pub alive-then : (w : World) (n k : ℕ) → alive (message_at (abandoned w n) k) ≡ alive (message_at w k)
+pub alive-then : (w : LinkRecord) (n k : ℕ) → alive (message_at (after_abandon w n) k) ≡ alive (message_at w k)
 alive-then w n k = by (is_partially_sent w n)
   where
     by : (b : Bool) → alive (message_at (message_changed (if b then with_slot w n true else w) n mark_abandoned) k) ≡ alive (message_at w k)
@@ -85,5 +85,5 @@ alive-then w n k = by (is_partially_sent w n)
 
 -- ## The place of a TSN
 
-pub place-back : (w : World) (p : ℕ) → w.setup.first < 2 ^ 32 → p < 2 ^ 32 → place_of w (tsn_of w p) ≡ p
+pub place-back : (w : LinkRecord) (p : ℕ) → w.setup.first < 2 ^ 32 → p < 2 ^ 32 → place_of w (tsn_of w p) ≡ p
 place-back w p first short = omega (arith, first, short)

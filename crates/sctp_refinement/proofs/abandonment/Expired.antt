@@ -5,7 +5,10 @@ use Rattle.std.specs.Option.{option_map}
 use Rattle.std.proofs.Math.Path.{subst}
 use Rattle.std.proofs.lemmas.Bool.{cases_lt}
 use Rattle.std.proofs.lemmas.Bool.Decides.{nat_tests}
-use Rattle.sctp_list_lemmas.specs.Kept.{kept, gathered, numbers_from, first_of}
+use Rattle.std.specs.List.{flat_map}
+use Rattle.sctp_chunks.specs.Reliability.{is_past, is_timed}
+use Rattle.sctp_chunks.specs.PayloadTypes.{is_dcep}
+use Rattle.sctp_list_lemmas.specs.Kept.{numbers_where, numbers_from, first_of}
 use Rattle.sctp_list_lemmas.specs.Lists.{change_where, pieces}
 use Rattle.sctp_list_lemmas.proofs.Passing.{kept-same, kept-none}
 use Rattle.sctp_list_lemmas.proofs.More.{not_both, both, and, length-changed, changed-same, changed-other, changed-keeps, length-kept-one_more}
@@ -14,16 +17,15 @@ use Rattle.sctp_chunks.specs.declared.chunk.chunk_payload_data.ChunkPayloadData.
 use Rattle.sctp_chunks.specs.declared.chunk.chunk_payload_data.PayloadProtocolIdentifier.{PayloadProtocolIdentifier}
 use Rattle.sctp_chunks.specs.declared.chunk.chunk_payload_data.PayloadProtocolIdentifier.TheVariants.{Dcep, String, Binary, StringEmpty, BinaryEmpty, Unknown}
 use Rattle.sctp_outbound.specs.Marks.{is_of}
-use Rattle.sctp_outbound.specs.pending_queue.PendingQueue as pending
-use Rattle.sctp_outbound.specs.pending_queue.PendingQueue.{Pending, without, without_message, selected_without, closed_up, is_on, one_lower, peeked}
+use Rattle.sctp_outbound.specs.pending_queue.PendingQueue.{Pending, without, without_message, selected_without, closed_up, one_lower}
 use Rattle.sctp_outbound.specs.outbound_queue.OutboundQueue as outbound
-use Rattle.sctp_outbound.specs.outbound_queue.OutboundQueue.{Outbound, expired_of, is_expired, is_past, passing}
+use Rattle.sctp_outbound.specs.outbound_queue.OutboundQueue.{Outbound, expired_of, is_expired, passing}
 use Rattle.sctp_model.specs.declared.event.Event.TheVariants as E
-use Rattle.sctp_model.specs.World.{World, Message, Setup}
-use Rattle.sctp_model.specs.Messages.{message_at, slot_at, message_of, messages_where, front, is_ordered_on, ordered_before, index_of, ssn_of, fragment_count, fragment_at, has_fragment, sent_of, is_partially_sent, is_unsent, is_past_deadline, is_reached, deadline_of, no_message}
+use Rattle.sctp_model.specs.LinkRecord.{LinkRecord, Message, Setup}
+use Rattle.sctp_model.specs.Messages.{message_at, slot_at, message_of, messages_where, front, is_ordered_on, ordered_before, index_of, ssn_of, fragment_count, fragment_at, has_fragment, sent_of, is_partially_sent, is_unsent, is_past_deadline, deadline_of, no_message}
 use Rattle.sctp_model.specs.Messages
 use Rattle.sctp_model.specs.Amounts.{is_expired_or_abandoned}
-use Rattle.sctp_model.specs.Changes.{mark_expired, message_changed, expired, expiring, front_if}
+use Rattle.sctp_model.specs.Changes.{mark_expired, message_changed, after_expire, expiring, front_if}
 use Rattle.sctp_model.specs.Steps.{after}
 use Rattle.sctp_model.proofs.sender.Shape.{shape}
 use Rattle.sctp_model.proofs.sender.Fronts.{slot-sent}
@@ -36,11 +38,12 @@ use Rattle.sctp_refinement.proofs.sending.Sent.{FrontIs, front_is, all-sent}
 use Rattle.sctp_refinement.proofs.sending.KindsRun.{Going}
 use Rattle.sctp_refinement.proofs.sending.Fragments.{idle, shown}
 use Rattle.sctp_refinement.proofs.abandonment.ExpiredLists.{those-gathered, gathered-by, lower}
+use Rattle.sctp_serial.specs.DataChunks.{is_on}
 
 -- ## The queue's words on what waits
 
 -- removing a message takes all that waits of it, and leaves the others
-without-waiting : (w : World) (n k : ℕ) (xs : List ℕ) → without_message n (map (waiting_at w k) xs) ≡ (if k == n then [] else map (waiting_at w k) xs)
+without-waiting : (w : LinkRecord) (n k : ℕ) (xs : List ℕ) → without_message n (map (waiting_at w k) xs) ≡ (if k == n then [] else map (waiting_at w k) xs)
 without-waiting w n k xs = by (k == n) refl xs
   where
     by : (b : Bool) → (k == n) ≡ b → (xs : List ℕ) → without_message n (map (waiting_at w k) xs) ≡ (if b then [] else map (waiting_at w k) xs)
@@ -59,7 +62,7 @@ abbrev closed : Bool → ℕ → List ChunkPayloadData → List ChunkPayloadData
 closed true s xs = change_where (is_on s) one_lower xs
 closed false s xs = xs
 
-closed-gathered : (b : Bool) (s : ℕ) (f : ℕ → List ChunkPayloadData) (xs : List ℕ) → closed b s (gathered f xs) ≡ gathered (λ n. closed b s (f n)) xs
+closed-gathered : (b : Bool) (s : ℕ) (f : ℕ → List ChunkPayloadData) (xs : List ℕ) → closed b s (flat_map f xs) ≡ flat_map (λ n. closed b s (f n)) xs
 closed-gathered true s f xs = change-gathered (is_on s) one_lower f xs
 closed-gathered false s f xs = refl
 
@@ -69,8 +72,8 @@ closed-none false s = refl
 
 -- ## An unsent message expires
 
-module _ (setup : Setup) (w : World) (n : ℕ) (g : Going setup w) (is : front w ≡ Some n) (un : is_unsent w n ≡ true) where
-  abbrev pub v : World
+module _ (setup : Setup) (w : LinkRecord) (n : ℕ) (g : Going setup w) (is : front w ≡ Some n) (un : is_unsent w n ≡ true) where
+  abbrev pub v : LinkRecord
   v = message_changed w n mark_expired
 
   abbrev m : Message
@@ -223,10 +226,10 @@ module _ (setup : Setup) (w : World) (n : ℕ) (g : Going setup w) (is : front w
   -- the list of one kind: without the message, and closed up or not
   where-expired : (t : Message → Bool) (b : Bool) → t (mark_expired (message_at w n)) ≡ false → ((k : ℕ) → (k ≡ n → ⊥) → t (message_at w k) ≡ true → closed b (message_at w n).stream (waiting_of w k) ≡ waiting_of v k) → closed b (message_at w n).stream (without_message n (waiting_where w (λ k. t (message_at w k)))) ≡ waiting_where v (λ k. t (message_at v k))
   where-expired t b gone others =
-      ap (closed b (message_at w n).stream) (those-gathered (λ c. not (is_of n c)) (waiting_of w) (kept (λ k. t (message_at w k)) 0 (length w.messages)))
-      ∙ closed-gathered b (message_at w n).stream (λ k. without_message n (waiting_of w k)) (kept (λ k. t (message_at w k)) 0 (length w.messages))
+      ap (closed b (message_at w n).stream) (those-gathered (λ c. not (is_of n c)) (waiting_of w) (numbers_where (λ k. t (message_at w k)) 0 (length w.messages)))
+      ∙ closed-gathered b (message_at w n).stream (λ k. without_message n (waiting_of w k)) (numbers_where (λ k. t (message_at w k)) 0 (length w.messages))
       ∙ gathered-by (λ k. closed b (message_at w n).stream (without_message n (waiting_of w k))) (waiting_of v) (λ k. t (message_at w k)) (λ k. t (message_at v k)) 0 (length w.messages) (λ k x y. each k)
-      ∙ ap (λ c. gathered (waiting_of v) (kept (λ k. t (message_at v k)) 0 c)) (sym len-same)
+      ∙ ap (λ c. flat_map (waiting_of v) (numbers_where (λ k. t (message_at v k)) 0 c)) (sym len-same)
     where
       mine : (k : ℕ) → without_message n (waiting_of w k) ≡ (if k == n then [] else waiting_of w k)
       mine k = without-waiting w n k (numbers_from (sent_of w k) (fragment_count w k - sent_of w k))
@@ -323,43 +326,39 @@ first-piece (suc most) size [] s some = absurd (omega arith)
 first-piece (suc most) zero (x ∷ xs) s some = absurd (omega arith)
 first-piece (suc most) (suc size) (x ∷ xs) s some = grind (arith, nat_tests)
 
-past-same : (now : ℕ) (o : Option ℕ) → is_past now o ≡ is_reached now o
-past-same now None = refl
-past-same now (Some t) = refl
-
 -- DCEP has no deadline
-past_deadline-same : (now : ℕ) (p : PayloadProtocolIdentifier) (timed : Bool) (o : Option ℕ) → (not (pending.is_dcep p) && is_past now (if timed && not (Messages.is_dcep p) then o else None)) ≡ is_reached now (if timed && not (Messages.is_dcep p) then o else None)
+past_deadline-same : (now : ℕ) (p : PayloadProtocolIdentifier) (timed : Bool) (o : Option ℕ) → (not (is_dcep p) && is_past now (if timed && not (is_dcep p) then o else None)) ≡ is_past now (if timed && not (is_dcep p) then o else None)
 past_deadline-same now Dcep true o = refl
 past_deadline-same now Dcep false o = refl
-past_deadline-same now String timed o = past-same now _
-past_deadline-same now Binary timed o = past-same now _
-past_deadline-same now StringEmpty timed o = past-same now _
-past_deadline-same now BinaryEmpty timed o = past-same now _
-past_deadline-same now Unknown timed o = past-same now _
+past_deadline-same now String timed o = refl
+past_deadline-same now Binary timed o = refl
+past_deadline-same now StringEmpty timed o = refl
+past_deadline-same now BinaryEmpty timed o = refl
+past_deadline-same now Unknown timed o = refl
 
 -- the queue takes the fragment in front for an unsent message past its deadline where the record does
-test-same : (setup : Setup) (w : World) (n now : ℕ) → 0 < w.setup.size → Going setup w → front w ≡ Some n → is_expired now (waiting_at w n (sent_of w n)) ≡ (is_unsent w n && is_past_deadline w now n)
+test-same : (setup : Setup) (w : LinkRecord) (n now : ℕ) → 0 < w.setup.size → Going setup w → front w ≡ Some n → is_expired now (waiting_at w n (sent_of w n)) ≡ (is_unsent w n && is_past_deadline w now n)
 test-same setup w n now size g is = by (sent_of w n == 0) refl
   where
     t : FrontIs w n
     t = front_is w g.sane.sender g.turns n is
 
-    past_deadline : (not (pending.is_dcep (message_at w n).ppi) && is_past now (deadline_of w n)) ≡ is_past_deadline w now n
-    past_deadline = past_deadline-same now (message_at w n).ppi (Messages.is_timed (message_at w n).reliability) (Messages.deadline_from (message_at w n).value (message_at w n).started)
+    past_deadline : (not (is_dcep (message_at w n).ppi) && is_past now (deadline_of w n)) ≡ is_past_deadline w now n
+    past_deadline = past_deadline-same now (message_at w n).ppi (is_timed (message_at w n).reliability) (Messages.deadline_from (message_at w n).value (message_at w n).started)
 
     some : sent_of w n ≡ 0 → (length (fragment_at w n (sent_of w n)) == 0) ≡ false
     some z = ap (λ i. length (fragment_at w n i) == 0) z ∙ first-piece (length (message_at w n).bytes) w.setup.size (message_at w n).bytes size (g.sane.sender.some n t.takes.made)
 
-    by : (b : Bool) → (sent_of w n == 0) ≡ b → (b && (not (length (fragment_at w n (sent_of w n)) == 0) && (not (pending.is_dcep (message_at w n).ppi) && is_past now (deadline_of w n)))) ≡ ((b && not (message_at w n).expired) && is_past_deadline w now n)
+    by : (b : Bool) → (sent_of w n == 0) ≡ b → (b && (not (length (fragment_at w n (sent_of w n)) == 0) && (not (is_dcep (message_at w n).ppi) && is_past now (deadline_of w n)))) ≡ ((b && not (message_at w n).expired) && is_past_deadline w now n)
     by false e = refl
     by true e =
-        ap (λ b. not b && (not (pending.is_dcep (message_at w n).ppi) && is_past now (deadline_of w n))) (some (same-is (sent_of w n) 0 e))
+        ap (λ b. not b && (not (is_dcep (message_at w n).ppi) && is_past now (deadline_of w n))) (some (same-is (sent_of w n) 0 e))
         ∙ past_deadline ∙ ap (λ b. not b && is_past_deadline w now n) (sym t.takes.kept)
 
 -- ## Expire
 
 -- the queue's chunk is the first fragment of the message that the record's Expire removes
-pub expiring-is : (setup : Setup) (w : World) (now : ℕ) (q : Outbound) → 0 < w.setup.size → Going setup w → RefinesOutbound w q → outbound.expiring now q ≡ option_map (λ n. waiting_at w n 0) (expiring w now)
+pub expiring-is : (setup : Setup) (w : LinkRecord) (now : ℕ) (q : Outbound) → 0 < w.setup.size → Going setup w → RefinesOutbound w q → outbound.expiring now q ≡ option_map (λ n. waiting_at w n 0) (expiring w now)
 expiring-is setup w now q size g t = by (front w) refl
   where
     by : (o : Option ℕ) → front w ≡ o → outbound.expiring now q ≡ option_map (λ n. waiting_at w n 0) (front_if w (λ n. is_unsent w n && is_past_deadline w now n) o)
@@ -375,7 +374,7 @@ expiring-is setup w now q size g t = by (front w) refl
         take-it false c h = refl
 
 -- what the record's Expire removes: the front, which is unsent, and which is late
-pub expiring-front : (w : World) (now n : ℕ) → expiring w now ≡ Some n → (front w ≡ Some n) × (is_unsent w n ≡ true) × (is_past_deadline w now n ≡ true)
+pub expiring-front : (w : LinkRecord) (now n : ℕ) → expiring w now ≡ Some n → (front w ≡ Some n) × (is_unsent w n ≡ true) × (is_past_deadline w now n ≡ true)
 expiring-front w now n e = by (front w) refl e
   where
     by : (o : Option ℕ) → front w ≡ o → front_if w (λ k. is_unsent w k && is_past_deadline w now k) o ≡ Some n → (front w ≡ Some n) × (is_unsent w n ≡ true) × (is_past_deadline w now n ≡ true)
@@ -390,9 +389,9 @@ expiring-front w now n e = by (front w) refl e
         on false a y = cc
 
 -- the outbound queue after the call holds what the record after the event says
-pub refines-expire : (setup : Setup) (w : World) (now : ℕ) (q : Outbound) → 0 < w.setup.size → Going setup w → RefinesOutbound w q → RefinesOutbound (after w (E.Expire now)) (expired_of (outbound.expiring now q) q)
+pub refines-expire : (setup : Setup) (w : LinkRecord) (now : ℕ) (q : Outbound) → 0 < w.setup.size → Going setup w → RefinesOutbound w q → RefinesOutbound (after w (E.Expire now)) (expired_of (outbound.expiring now q) q)
 refines-expire setup w now q size g t = subst (λ o. RefinesOutbound (after w (E.Expire now)) (expired_of o q)) (sym (expiring-is setup w now q size g t)) (by (expiring w now) refl)
   where
-    by : (o : Option ℕ) → expiring w now ≡ o → RefinesOutbound (expired w o) (expired_of (option_map (λ n. waiting_at w n 0) o) q)
+    by : (o : Option ℕ) → expiring w now ≡ o → RefinesOutbound (after_expire w o) (expired_of (option_map (λ n. waiting_at w n 0) o) q)
     by None e = t
     by (Some n) e = let p = expiring-front w now n e in refines-expired setup w n g p.0 p.1 q t

@@ -8,11 +8,11 @@ use Rattle.sctp_outbound.specs.outbound_queue.OutboundQueue.{Outbound, total_byt
 use Rattle.sctp_model.specs.declared.event.Event.{Event}
 use Rattle.sctp_model.specs.declared.event.Event.TheVariants as E
 use Rattle.sctp_model.specs.declared.event.LinkRefusal.TheVariants.{NotInFlight}
-use Rattle.sctp_model.specs.World.{Setup, World}
+use Rattle.sctp_model.specs.LinkRecord.{Setup, LinkRecord}
 use Rattle.sctp_model.specs.Messages.{message_at, message_of, place_of, front, is_unsent, is_partially_sent, is_in_flight, is_past_deadline}
 use Rattle.sctp_model.specs.Amounts.{in_all, written_bytes, released_bytes, growth}
-use Rattle.sctp_model.specs.Changes.{late_messages, abandoned, expired, expiring, front_if, tailing, tail_abandoned}
-use Rattle.sctp_model.specs.Steps.{History, world_of, IsRun, refusal_of, reply_to, after}
+use Rattle.sctp_model.specs.Changes.{late_messages, after_abandon, after_expire, expiring, front_if, tailing, after_tail}
+use Rattle.sctp_model.specs.Steps.{History, record_of, IsRun, refusal_of, reply_to, after}
 use Rattle.sctp_model.specs.Laws.{IsSetup}
 use Rattle.sctp_model.proofs.sender.Shape.{shape, sent}
 use Rattle.sctp_model.proofs.sender.SenderSteps.{of-half}
@@ -36,9 +36,9 @@ use Rattle.sctp_refinement.proofs.amounts.ToldSums.{AsTold, told-after, read-qui
 -- ## By what the queues hold
 
 -- but for writes, the released bytes grow by what the outbound queue holds less
-pub growth-by_queues : (setup : Setup) (h : History) → IsSetup setup → IsRun setup h → (e : Event) → refusal_of (world_of setup h) e ≡ None → is_write e ≡ false → (q r : Outbound) → RefinesOutbound (world_of setup h) q → RefinesOutbound (after (world_of setup h) e) r → growth (world_of setup h) (after (world_of setup h) e) ≡ total_bytes q - total_bytes r
+pub growth-by_queues : (setup : Setup) (h : History) → IsSetup setup → IsRun setup h → (e : Event) → refusal_of (record_of setup h) e ≡ None → is_write e ≡ false → (q r : Outbound) → RefinesOutbound (record_of setup h) q → RefinesOutbound (after (record_of setup h) e) r → growth (record_of setup h) (after (record_of setup h) e) ≡ total_bytes q - total_bytes r
 growth-by_queues setup h is run e ok a q r t u =
-    let w = world_of setup h in
+    let w = record_of setup h in
     let longer : History = (e, reply_to w e) ∷ h in
     let more : IsRun setup longer = (ok, (refl, run)) in
     omega (
@@ -54,16 +54,16 @@ growth-by_queues setup h is run e ok a q r t u =
 
 -- ## By the record
 
-pub balance-in : (setup : Setup) (w : World) → IsSetup setup → Sane setup w → in_all w (held_bytes w) + in_all w (released_bytes w) ≡ in_all w (written_bytes w)
+pub balance-in : (setup : Setup) (w : LinkRecord) → IsSetup setup → Sane setup w → in_all w (held_bytes w) + in_all w (released_bytes w) ≡ in_all w (written_bytes w)
 balance-in setup w is g = total-plus (held_bytes w) (released_bytes w) (written_bytes w) always 0 (length w.messages) (λ n a b. balance w n g.sender (size-some setup w is g) (omega arith))
 
-written-as : (w v : World) → AsTold w v → in_all v (written_bytes v) ≡ in_all w (written_bytes w)
+written-as : (w v : LinkRecord) → AsTold w v → in_all v (written_bytes v) ≡ in_all w (written_bytes w)
 written-as w v t = sum-same w v (λ m. true) (λ m. length m.bytes) t.count (λ n lt. refl) (λ n lt. ap length (t.bytes n lt))
 
 -- abandoning a message releases what it holds
-pub released-abandoned : (setup : Setup) (w : World) (n : ℕ) → IsSetup setup → Sane setup w → 0 < sent (shape w) n → in_all (abandoned w n) (released_bytes (abandoned w n)) ≡ in_all w (released_bytes w) + held_bytes w n
+pub released-abandoned : (setup : Setup) (w : LinkRecord) (n : ℕ) → IsSetup setup → Sane setup w → 0 < sent (shape w) n → in_all (after_abandon w n) (released_bytes (after_abandon w n)) ≡ in_all w (released_bytes w) + held_bytes w n
 released-abandoned setup w n is g pos =
-    let v = abandoned w n in
+    let v = after_abandon w n in
     let told = (read-quiet w v (count-abandoned w n) (Moves.quiet-abandoned setup w n g)).told in
     omega (
       arith,
@@ -74,7 +74,7 @@ released-abandoned setup w n is g pos =
     )
 
 -- the front, where a test chose it
-chosen : (w : World) (p : ℕ → Bool) (o : Option ℕ) (n : ℕ) → front_if w p o ≡ Some n → (o ≡ Some n) × (p n ≡ true)
+chosen : (w : LinkRecord) (p : ℕ → Bool) (o : Option ℕ) (n : ℕ) → front_if w p o ≡ Some n → (o ≡ Some n) × (p n ≡ true)
 chosen w p None n e = cc
 chosen w p (Some k) n e = by (p k) refl e
   where
@@ -84,34 +84,34 @@ chosen w p (Some k) n e = by (p k) refl e
 
 -- ## Each event
 
-made-front : (setup : Setup) (w : World) (p : ℕ → Bool) (n : ℕ) → Sane setup w → front_if w p (front w) ≡ Some n → n < length w.messages
+made-front : (setup : Setup) (w : LinkRecord) (p : ℕ → Bool) (n : ℕ) → Sane setup w → front_if w p (front w) ≡ Some n → n < length w.messages
 made-front setup w p n g e = (front-takes (shape w) n g.sender (chosen w p (front w) n e).0).made
 
-module _ (setup : Setup) (w : World) (now n : ℕ) (g : Sane setup w) where
+module _ (setup : Setup) (w : LinkRecord) (now n : ℕ) (g : Sane setup w) where
   -- an Expire takes what the front holds from its stream
   pub amount-expire : expiring w now ≡ Some n → (t : ℕ) → amount (after w (E.Expire now)) t + (if (message_at w n).stream == t then held_bytes w n else 0) ≡ amount w t
-  amount-expire e t = ap (λ o. amount (expired w o) t + (if (message_at w n).stream == t then held_bytes w n else 0)) e ∙ amount-expired w n t (made-front setup w (λ n. is_unsent w n && is_past_deadline w now n) n g e)
+  amount-expire e t = ap (λ o. amount (after_expire w o) t + (if (message_at w n).stream == t then held_bytes w n else 0)) e ∙ amount-expired w n t (made-front setup w (λ n. is_unsent w n && is_past_deadline w now n) n g e)
 
   pub growth-expire : IsSetup setup → expiring w now ≡ Some n → growth w (after w (E.Expire now)) ≡ held_bytes w n
   growth-expire is e =
       let v = after w (E.Expire now) in
-      let held : in_all v (held_bytes v) + held_bytes w n ≡ in_all w (held_bytes w) = ap (λ o. in_all (expired w o) (held_bytes (expired w o)) + held_bytes w n) e ∙ held-in-expired w n (made-front setup w (λ n. is_unsent w n && is_past_deadline w now n) n g e) in
+      let held : in_all v (held_bytes v) + held_bytes w n ≡ in_all w (held_bytes w) = ap (λ o. in_all (after_expire w o) (held_bytes (after_expire w o)) + held_bytes w n) e ∙ held-in-expired w n (made-front setup w (λ n. is_unsent w n && is_past_deadline w now n) n g e) in
       omega (arith, balance-in setup w is g, balance-in setup v is (sane-after setup w (E.Expire now) refl g), written-as w v (told-after setup w (E.Expire now) g refl), held)
 
   -- a Tail takes what the partially sent front holds
   pub amount-tail : tailing w now ≡ Some n → (t : ℕ) → amount (after w (E.Tail now)) t + (if (message_at w n).stream == t then held_bytes w n else 0) ≡ amount w t
-  amount-tail e t = ap (λ o. amount (tail_abandoned w o) t + (if (message_at w n).stream == t then held_bytes w n else 0)) e ∙ amount-abandoned w n t (made-front setup w (λ n. is_partially_sent w n && is_past_deadline w now n) n g e)
+  amount-tail e t = ap (λ o. amount (after_tail w o) t + (if (message_at w n).stream == t then held_bytes w n else 0)) e ∙ amount-abandoned w n t (made-front setup w (λ n. is_partially_sent w n && is_past_deadline w now n) n g e)
 
   pub growth-tail : IsSetup setup → tailing w now ≡ Some n → growth w (after w (E.Tail now)) ≡ held_bytes w n
   growth-tail is e =
       let c = (chosen w (λ n. is_partially_sent w n && is_past_deadline w now n) (front w) n e).1 in
       let half = (both (is_partially_sent w n) (is_past_deadline w now n) c).0 in
       let r = released-abandoned setup w n is g (of-half (shape w) n half).some in
-      let z : growth w (abandoned w n) ≡ held_bytes w n = omega (arith, r) in
-      ap (λ o. growth w (tail_abandoned w o)) e ∙ z
+      let z : growth w (after_abandon w n) ≡ held_bytes w n = omega (arith, r) in
+      ap (λ o. growth w (after_tail w o)) e ∙ z
 
 -- an Abandon takes what the message of the TSN holds
-module _ (setup : Setup) (w : World) (tsn : ℕ) (g : Sane setup w) (ok : refusal_of w (E.Abandon tsn) ≡ None) where
+module _ (setup : Setup) (w : LinkRecord) (tsn : ℕ) (g : Sane setup w) (ok : refusal_of w (E.Abandon tsn) ≡ None) where
   abbrev gone : ℕ
   gone = message_of w (place_of w tsn)
 
@@ -126,17 +126,17 @@ module _ (setup : Setup) (w : World) (tsn : ℕ) (g : Sane setup w) (ok : refusa
 
 -- ## Late
 
-released-fold : (setup : Setup) (ns : List ℕ) (w : World) → IsSetup setup → Sane setup w → AllSent w ns → in_all (fold abandoned w ns) (released_bytes (fold abandoned w ns)) ≡ in_all w (released_bytes w) + released_along w ns
+released-fold : (setup : Setup) (ns : List ℕ) (w : LinkRecord) → IsSetup setup → Sane setup w → AllSent w ns → in_all (fold after_abandon w ns) (released_bytes (fold after_abandon w ns)) ≡ in_all w (released_bytes w) + released_along w ns
 released-fold setup [] w is g a = omega arith
-released-fold setup (n ∷ ns) w is g a = omega (arith, released-abandoned setup w n is g a.0, released-fold setup ns (abandoned w n) is (sane-abandoned setup w n g a.0) (sent-all w n ns a.1))
+released-fold setup (n ∷ ns) w is g a = omega (arith, released-abandoned setup w n is g a.0, released-fold setup ns (after_abandon w n) is (sane-abandoned setup w n g a.0) (sent-all w n ns a.1))
 
-amount-fold : (setup : Setup) (ns : List ℕ) (w : World) (t : ℕ) → Sane setup w → AllSent w ns → amount (fold abandoned w ns) t + released_along_on w t ns ≡ amount w t
+amount-fold : (setup : Setup) (ns : List ℕ) (w : LinkRecord) (t : ℕ) → Sane setup w → AllSent w ns → amount (fold after_abandon w ns) t + released_along_on w t ns ≡ amount w t
 amount-fold setup [] w t g a = omega arith
-amount-fold setup (n ∷ ns) w t g a = omega (arith, amount-abandoned w n t (sent-made (shape w) n g.sender a.0), amount-fold setup ns (abandoned w n) t (sane-abandoned setup w n g a.0) (sent-all w n ns a.1))
+amount-fold setup (n ∷ ns) w t g a = omega (arith, amount-abandoned w n t (sent-made (shape w) n g.sender a.0), amount-fold setup ns (after_abandon w n) t (sane-abandoned setup w n g a.0) (sent-all w n ns a.1))
 
 -- a Late takes what its messages hold, one after another
-pub growth-late : (setup : Setup) (w : World) (now : ℕ) → IsSetup setup → Sane setup w → growth w (after w (E.Late now)) ≡ released_along w (late_messages w now)
+pub growth-late : (setup : Setup) (w : LinkRecord) (now : ℕ) → IsSetup setup → Sane setup w → growth w (after w (E.Late now)) ≡ released_along w (late_messages w now)
 growth-late setup w now is g = omega (arith, released-fold setup (late_messages w now) w is g (late-sent setup w now g))
 
-pub amount-late : (setup : Setup) (w : World) (now t : ℕ) → Sane setup w → amount (after w (E.Late now)) t + released_along_on w t (late_messages w now) ≡ amount w t
+pub amount-late : (setup : Setup) (w : LinkRecord) (now t : ℕ) → Sane setup w → amount (after w (E.Late now)) t + released_along_on w t (late_messages w now) ≡ amount w t
 amount-late setup w now t g = amount-fold setup (late_messages w now) w t g (late-sent setup w now g)

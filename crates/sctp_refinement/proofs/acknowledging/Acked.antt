@@ -6,34 +6,26 @@ use Rattle.sctp_list_lemmas.proofs.Passing.{map-kept-same, kept-same}
 use Rattle.sctp_list_lemmas.proofs.Getting.{get-numbered, numbered-at, length-numbered}
 use Rattle.sctp_chunks.specs.declared.chunk.chunk_payload_data.ChunkPayloadData.{ChunkPayloadData}
 use Rattle.sctp_outbound.specs.outbound_queue.OutboundQueue.{Outbound, with_inflight}
-use Rattle.sctp_model.specs.World.{World, Report, Sack}
+use Rattle.sctp_model.specs.LinkRecord.{LinkRecord, Report, Sack}
 use Rattle.sctp_model.specs.Messages.{message_at, slot_at, message_of, messages_where, no_slot, sent_of, fragment_count, is_partially_sent}
 use Rattle.sctp_model.specs.Reports.{reports}
-use Rattle.sctp_model.specs.Changes.{sack_taken, acknowledged_by}
+use Rattle.sctp_model.specs.Changes.{after_acked, acknowledged_by}
 use Rattle.sctp_model.proofs.sender.Shape.{sent}
 use Rattle.sctp_model.proofs.sender.Shapes
-use Rattle.sctp_refinement.specs.Refines.{Sending, sending_by, IsInFlight, sending_at, sendings_of, selected_of, waiting_of, waiting_where, waits_ordered, waits_unordered, RefinesOutbound}
+use Rattle.sctp_refinement.specs.Refines.{sending_by, IsInFlight, sending_at, sendings_of, selected_of, waiting_of, waiting_where, waits_ordered, waits_unordered, RefinesOutbound}
 use Rattle.sctp_refinement.proofs.sending.Waiting
 use Rattle.sctp_refinement.proofs.sending.Waiting.{Alike, gathered-same}
 
 -- ## One slot
 
-sending-is : (w : World) (p : ℕ) → sending_at w p ≡ sending_by w (slot_at w p).acknowledged p
+sending-is : (w : LinkRecord) (p : ℕ) → sending_at w p ≡ sending_by w (slot_at w p).acknowledged p
 sending-is w p = refl
-
-abbrev pub first_of' : List Sending → Sending → Sending
-first_of' [] d = d
-first_of' (s ∷ ss) d = s
-
-abbrev pub rest_of' : List Sending → List Sending
-rest_of' [] = []
-rest_of' (s ∷ ss) = ss
 
 -- ## The record
 
-module _ (w : World) (r : Report) where
-  abbrev v : World
-  v = sack_taken w (Some (Sack r))
+module _ (w : LinkRecord) (r : Report) where
+  abbrev v : LinkRecord
+  v = after_acked w (Some (Sack r))
 
   count-same : length v.slots ≡ length w.slots
   count-same = length-numbered (acknowledged_by r) 0 w.slots
@@ -84,9 +76,9 @@ module _ (w : World) (r : Report) where
       same (n ∷ l) = refl
 
 -- marks and pops begin from what the record has in flight
-pub in-flight-first : (w : World) (q : Outbound) → RefinesOutbound w q → IsInFlight w (λ k. (slot_at w k).acknowledged) w.taken (length w.slots - w.taken) q.inflight.chunks
+pub in-flight-first : (w : LinkRecord) (q : Outbound) → RefinesOutbound w q → IsInFlight w (λ k. (slot_at w k).acknowledged) w.taken (length w.slots - w.taken) q.inflight.chunks
 in-flight-first w q t = t.in_flight
 
 -- what is acknowledged may be told by another test that agrees
-pub in-flight-same : (w : World) (s t : ℕ → Bool) (from count : ℕ) (cs : List ChunkPayloadData) → ((k : ℕ) → from ≤ k → k < from + count → s k ≡ t k) → IsInFlight w s from count cs → IsInFlight w t from count cs
+pub in-flight-same : (w : LinkRecord) (s t : ℕ → Bool) (from count : ℕ) (cs : List ChunkPayloadData) → ((k : ℕ) → from ≤ k → k < from + count → s k ≡ t k) → IsInFlight w s from count cs → IsInFlight w t from count cs
 in-flight-same w s t from count cs same e = e ∙ map-kept-same (λ k. sending_by w (s k) k) (λ k. sending_by w (t k) k) always always from count (λ k a b. refl) (λ k a b p. ap (λ b. sending_by w b k) (same k a b))

@@ -1,7 +1,10 @@
 -- What the receiver does leaves the outbound queue as it is.
 use Rattle.std.proofs.Common.{◌≡◌, ℕ, ◌+◌, ◌-◌, ◌%◌, ◌^◌, Bool, true, false, List, [], ◌∷◌, ◌++◌, length, map, Option, Some, None, refl, ap, sym, ◌∙◌, arith}
 use Rattle.std.specs.Prelude.{if◌then◌else◌, ◌==◌, ◌&&◌, ◌||◌, not, nat_lt, is_some, slice_index_or}
-use Rattle.sctp_list_lemmas.specs.Kept.{kept, always, gathered, numbers_from, first_of}
+use Rattle.std.specs.List.{flat_map}
+use Rattle.sctp_chunks.specs.Reliability.{is_timed}
+use Rattle.sctp_chunks.specs.PayloadTypes.{is_dcep}
+use Rattle.sctp_list_lemmas.specs.Kept.{numbers_where, always, numbers_from, first_of}
 use Rattle.sctp_list_lemmas.specs.Lists.{pieces}
 use Rattle.sctp_list_lemmas.proofs.Passing.{kept-same, map-kept-same}
 use Rattle.sctp_list_lemmas.proofs.More.{length-changed, changed-keeps}
@@ -10,9 +13,9 @@ use Rattle.sctp_chunks.specs.PayloadData.{Data, data_of}
 use Rattle.sctp_chunks.specs.ChunkSet.{fresh}
 use Rattle.sctp_outbound.specs.outbound_queue.OutboundQueue.{Outbound}
 use Rattle.sctp_outbound.specs.declared.pending_queue.Selected.{Selected}
-use Rattle.sctp_model.specs.World.{World, Setup, Message, Slot}
-use Rattle.sctp_model.specs.Messages.{message_at, slot_at, message_of, messages_where, no_message, no_slot, is_ordered_on, ordered_before, ssn_of, fragment_count, has_fragment, sent_of, is_partially_sent, is_timed, is_dcep, deadline_from}
-use Rattle.sctp_model.specs.Changes.{mark_arrived, mark_read, stream_changed, with_whole, becomes_whole, skip_counts, named_by, slot_received, skip_received, read_of, whole_noted}
+use Rattle.sctp_model.specs.LinkRecord.{LinkRecord, Setup, Message, Slot}
+use Rattle.sctp_model.specs.Messages.{message_at, slot_at, message_of, messages_where, no_message, no_slot, is_ordered_on, ordered_before, ssn_of, fragment_count, has_fragment, sent_of, is_partially_sent, deadline_from}
+use Rattle.sctp_model.specs.Changes.{mark_arrived, mark_read, stream_changed, with_complete, becomes_complete, skip_counts, named_by, receive_slot, receive_skip, read_of, note_completion}
 use Rattle.sctp_model.specs.Receiver.{is_new}
 use Rattle.sctp_refinement.specs.Refines.{waiting_at, waiting_of, waiting_where, selected_of, RefinesOutbound, Sending, unless_gone, sending_at}
 use Rattle.sctp_refinement.proofs.sending.Waiting.{gathered-same}
@@ -25,7 +28,7 @@ unread m = record m { read = false }
 abbrev unarrived : Slot → Slot
 unarrived x = record x { arrived = false }
 
-pub record SameToSender (w v : World) : Type 0 where
+pub record SameToSender (w v : LinkRecord) : Type 0 where
   pub setup : v.setup ≡ w.setup
   pub count : length v.messages ≡ length w.messages
   pub message : (n : ℕ) → unread (message_at v n) ≡ unread (message_at w n)
@@ -67,13 +70,13 @@ sending_by s m ssn x p = record {
   says = unless_gone (x.acknowledged || m.abandoned) (data_of (fresh (chunk_by s m ssn x.fragment ((s.first + p) % 2 ^ 32))));
 }
 
-waiting-is : (w : World) (n i : ℕ) → waiting_at w n i ≡ waiting_by w.setup (unread (message_at w n)) (ssn_of w n) n i
+waiting-is : (w : LinkRecord) (n i : ℕ) → waiting_at w n i ≡ waiting_by w.setup (unread (message_at w n)) (ssn_of w n) n i
 waiting-is w n i = refl
 
-sending-is : (w : World) (p : ℕ) → sending_at w p ≡ sending_by w.setup (unread (message_at w (message_of w p))) (ssn_of w (message_of w p)) (unarrived (slot_at w p)) p
+sending-is : (w : LinkRecord) (p : ℕ) → sending_at w p ≡ sending_by w.setup (unread (message_at w (message_of w p))) (ssn_of w (message_of w p)) (unarrived (slot_at w p)) p
 sending-is w p = refl
 
-module _ (w v : World) (s : SameToSender w v) where
+module _ (w v : LinkRecord) (s : SameToSender w v) where
   before-same : (t n : ℕ) → ordered_before v t n ≡ ordered_before w t n
   before-same t n = ap length (kept-same (is_ordered_on v t) (is_ordered_on w t) 0 n (λ k a b. ap (λ m. (m.stream == t) && (m.ordered && not m.expired)) (s.message k)))
 
@@ -99,7 +102,7 @@ module _ (w v : World) (s : SameToSender w v) where
       ∙ ap (λ x. sending_by w.setup (unread (message_at w (message_of w p))) (ssn_of w (message_of w p)) x p) (s.slot p)
 
   sent-same : (n : ℕ) → sent_of v n ≡ sent_of w n
-  sent-same n = ap (λ c. length (kept (has_fragment v n) 0 c)) s.slots ∙ ap length (kept-same (has_fragment v n) (has_fragment w n) 0 (length w.slots) (λ k a b. ap (λ x. (x.message == n) && not x.is_terminal_chunk) (s.slot k)))
+  sent-same n = ap (λ c. length (numbers_where (has_fragment v n) 0 c)) s.slots ∙ ap length (kept-same (has_fragment v n) (has_fragment w n) 0 (length w.slots) (λ k a b. ap (λ x. (x.message == n) && not x.is_terminal_chunk) (s.slot k)))
 
   count-same : (n : ℕ) → fragment_count v n ≡ fragment_count w n
   count-same n = ap (λ m. length (pieces (length m.bytes) v.setup.size m.bytes)) (s.message n) ∙ ap (λ t. length (pieces (length (message_at w n).bytes) t.size (message_at w n).bytes)) s.setup
@@ -112,12 +115,12 @@ module _ (w v : World) (s : SameToSender w v) where
 
   where-same : (t : Message → Bool) → waiting_where v (λ n. t (unread (message_at v n))) ≡ waiting_where w (λ n. t (unread (message_at w n)))
   where-same t =
-      ap (λ c. gathered (waiting_of v) (kept (λ n. t (unread (message_at v n))) 0 c)) s.count
+      ap (λ c. flat_map (waiting_of v) (numbers_where (λ n. t (unread (message_at v n))) 0 c)) s.count
       ∙ gathered-same (waiting_of v) (waiting_of w) (λ n. t (unread (message_at v n))) (λ n. t (unread (message_at w n))) 0 (length w.messages) (λ k a b. ap t (s.message k)) (λ k a b e. waiting_of-same k)
 
   half-same : messages_where v (is_partially_sent v) ≡ messages_where w (is_partially_sent w)
   half-same =
-      ap (kept (is_partially_sent v) 0) s.count
+      ap (numbers_where (is_partially_sent v) 0) s.count
       ∙ kept-same (is_partially_sent v) (is_partially_sent w) 0 (length w.messages) (λ k a b.
       ap (λ c. nat_lt 0 c && (nat_lt c (fragment_count v k) && not (message_at v k).abandoned)) (sent-same k)
       ∙ ap (λ c. nat_lt 0 (sent_of w k) && (nat_lt (sent_of w k) c && not (message_at v k).abandoned)) (count-same k)
@@ -145,7 +148,7 @@ module _ (w v : World) (s : SameToSender w v) where
 
 -- ## The receiver's events
 
-pub same-self : (w v : World) → v.setup ≡ w.setup → v.messages ≡ w.messages → v.slots ≡ w.slots → v.taken ≡ w.taken → SameToSender w v
+pub same-self : (w v : LinkRecord) → v.setup ≡ w.setup → v.messages ≡ w.messages → v.slots ≡ w.slots → v.taken ≡ w.taken → SameToSender w v
 same-self w v a b c d = record {
   setup = a;
   count = ap length b;
@@ -155,7 +158,7 @@ same-self w v a b c d = record {
   taken = d;
 }
 
-same-then : (u w v : World) → SameToSender u w → SameToSender w v → SameToSender u v
+pub same-then : (u w v : LinkRecord) → SameToSender u w → SameToSender w v → SameToSender u v
 same-then u w v a b = record {
   setup = b.setup ∙ a.setup;
   count = b.count ∙ a.count;
@@ -165,7 +168,7 @@ same-then u w v a b = record {
   taken = b.taken ∙ a.taken;
 }
 
-same-arrived : (w : World) (p : ℕ) → SameToSender w (with_arrived w p)
+same-arrived : (w : LinkRecord) (p : ℕ) → SameToSender w (with_arrived w p)
 same-arrived w p = record {
   setup = refl;
   count = refl;
@@ -175,25 +178,25 @@ same-arrived w p = record {
   taken = refl;
 }
 
-pub same-slot : (w : World) (p : ℕ) → SameToSender w (slot_received w p)
+pub same-slot : (w : LinkRecord) (p : ℕ) → SameToSender w (receive_slot w p)
 same-slot w p = by (is_new w p)
   where
-    by : (b : Bool) → SameToSender w (if b then whole_noted (with_arrived w p) (message_of w p) else record w { duplicates = w.duplicates ++ p ∷ [] })
-    by true = whole (becomes_whole (with_arrived w p) (message_of w p))
+    by : (b : Bool) → SameToSender w (if b then note_completion (with_arrived w p) (message_of w p) else record w { duplicates = w.duplicates ++ p ∷ [] })
+    by true = complete (becomes_complete (with_arrived w p) (message_of w p))
       where
-        whole : (b : Bool) → SameToSender w (if b then stream_changed (with_arrived w p) (message_at w (message_of w p)).stream (with_whole (message_of w p)) else with_arrived w p)
-        whole true = same-then w (with_arrived w p) (stream_changed (with_arrived w p) (message_at w (message_of w p)).stream (with_whole (message_of w p))) (same-arrived w p) (same-self (with_arrived w p) (stream_changed (with_arrived w p) (message_at w (message_of w p)).stream (with_whole (message_of w p))) refl refl refl refl)
-        whole false = same-arrived w p
+        complete : (b : Bool) → SameToSender w (if b then stream_changed (with_arrived w p) (message_at w (message_of w p)).stream (with_complete (message_of w p)) else with_arrived w p)
+        complete true = same-then w (with_arrived w p) (stream_changed (with_arrived w p) (message_at w (message_of w p)).stream (with_complete (message_of w p))) (same-arrived w p) (same-self (with_arrived w p) (stream_changed (with_arrived w p) (message_at w (message_of w p)).stream (with_complete (message_of w p))) refl refl refl refl)
+        complete false = same-arrived w p
     by false = same-self w (record w { duplicates = w.duplicates ++ p ∷ [] }) refl refl refl refl
 
-pub same-skip : (w : World) (upto : ℕ) (names : List ℕ) → SameToSender w (skip_received w upto names)
+pub same-skip : (w : LinkRecord) (upto : ℕ) (names : List ℕ) → SameToSender w (receive_skip w upto names)
 same-skip w upto names = by (skip_counts w upto)
   where
     by : (b : Bool) → SameToSender w (if b then record w { skipped = upto + 1; streams = map (named_by w names) w.streams } else w)
     by true = same-self w (record w { skipped = upto + 1; streams = map (named_by w names) w.streams }) refl refl refl refl
     by false = same-self w w refl refl refl refl
 
-pub same-read : (w : World) (t : ℕ) (o : Option ℕ) → SameToSender w (read_of w t o)
+pub same-read : (w : LinkRecord) (t : ℕ) (o : Option ℕ) → SameToSender w (read_of w t o)
 same-read w t None = same-self w w refl refl refl refl
 same-read w t (Some n) = record {
   setup = refl;

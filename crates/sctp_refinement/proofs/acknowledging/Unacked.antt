@@ -2,33 +2,33 @@
 use Rattle.std.proofs.Common.{◌≡◌, ℕ, ◌+◌, ◌-◌, ◌<◌, Bool, true, false, [], length, get_or, Some, refl, ap, sym, ◌∙◌, arith, zero-add}
 use Rattle.std.proofs.Math.Path.{subst}
 use Rattle.std.specs.Prelude.{if◌then◌else◌, ◌==◌, ◌&&◌, ◌||◌, not, max}
-use Rattle.sctp_list_lemmas.specs.Kept.{kept, always, numbers_from, total_over}
+use Rattle.sctp_list_lemmas.specs.Kept.{numbers_where, always, numbers_from, total_over}
 use Rattle.sctp_list_lemmas.specs.Lists.{pieces}
 use Rattle.sctp_list_lemmas.proofs.Passing.{kept-same}
 use Rattle.sctp_list_lemmas.proofs.More.{fails}
-use Rattle.sctp_list_lemmas.proofs.Cases.{by_same, same-yes, same-is, or-none}
+use Rattle.sctp_list_lemmas.proofs.Cases.{by_same, same-yes, same-is, or-none, and-true}
 use Rattle.sctp_list_lemmas.proofs.Getting.{numbered-at}
 use Rattle.sctp_list_lemmas.proofs.Totals.{total-none, total-one, total-plus, total-split, total-where, total-kept_same}
-use Rattle.sctp_model.specs.World.{World, Report, Sack}
+use Rattle.sctp_model.specs.LinkRecord.{LinkRecord, Report, Sack}
 use Rattle.sctp_model.specs.Messages.{message_at, slot_at, message_of, messages_where, slots_where, has_fragment, no_slot}
 use Rattle.sctp_model.specs.Amounts.{is_expired_or_abandoned, slot_bytes, in_all, on_stream, written_bytes, pending_bytes, in_flight_bytes, released_bytes, growth}
 use Rattle.sctp_model.specs.Reports.{reports}
-use Rattle.sctp_model.specs.Changes.{sack_taken, acknowledged_by}
+use Rattle.sctp_model.specs.Changes.{after_acked, acknowledged_by}
 use Rattle.sctp_model.proofs.sender.Shape.{Shape, shape, sent, parts}
 use Rattle.sctp_model.proofs.sender.Shapes
 use Rattle.sctp_model.proofs.sender.Sender.{Sender}
-use Rattle.sctp_refinement.specs.Amount.{amount, stream_of_slot, bytes_at, unacked, unacked_on, acknowledged_at, acknowledged_then}
+use Rattle.sctp_refinement.specs.Amount.{amount, stream_of_slot, bytes_at, bytes_but_for, unacked_on, acknowledged_at, acknowledged_then}
 use Rattle.sctp_refinement.proofs.amounts.Owned.{total-owned}
 
 -- the bytes of message n in the slots that pass, none where it expired or was abandoned
-abbrev pub bytes_where : World → (ℕ → Bool) → ℕ → ℕ
+abbrev pub bytes_where : LinkRecord → (ℕ → Bool) → ℕ → ℕ
 bytes_where w c n = if is_expired_or_abandoned w n then 0 else total_over (slot_bytes w n) (slots_where w (λ p. has_fragment w n p && c p))
 
 -- the bytes in the slots that pass, of the messages that pass
-pub bytes-by_slot : (w : World) (q c : ℕ → Bool) → Sender (shape w) → total_over (bytes_where w c) (messages_where w q) ≡ total_over (bytes_at w) (slots_where w (λ p. c p && q (message_of w p)))
+pub bytes-by_slot : (w : LinkRecord) (q c : ℕ → Bool) → Sender (shape w) → total_over (bytes_where w c) (messages_where w q) ≡ total_over (bytes_at w) (slots_where w (λ p. c p && q (message_of w p)))
 bytes-by_slot w q c s =
     total-where (bytes_where w c) q 0 (length w.messages)
-    ∙ total-kept_same (λ n. if q n then bytes_where w c n else 0) (λ n. total_over (λ p. if message_of w p == n then part n p else 0) (kept always 0 (length w.slots))) always 0 (length w.messages) (λ n a b. each n (q n) (is_expired_or_abandoned w n))
+    ∙ total-kept_same (λ n. if q n then bytes_where w c n else 0) (λ n. total_over (λ p. if message_of w p == n then part n p else 0) (numbers_where always 0 (length w.slots))) always 0 (length w.messages) (λ n a b. each n (q n) (is_expired_or_abandoned w n))
     ∙ total-owned (message_of w) part (length w.messages) 0 (length w.slots) (λ p a b. s.made p (omega arith))
     ∙ total-kept_same (λ p. part (message_of w p) p) (λ p. if c p && q (message_of w p) then bytes_at w p else 0) always 0 (length w.slots) (λ p a b. turned (q (message_of w p)) (is_expired_or_abandoned w (message_of w p)) (slot_at w p).is_terminal_chunk (c p) (slot_bytes w (message_of w p) p))
     ∙ sym (total-where (bytes_at w) (λ p. c p && q (message_of w p)) 0 (length w.slots))
@@ -44,7 +44,7 @@ bytes-by_slot w q c s =
     one true b d k = refl
     one false b d k = refl
 
-    each : (n : ℕ) (b g : Bool) → (if b then (if g then 0 else total_over (slot_bytes w n) (slots_where w (λ p. has_fragment w n p && c p))) else 0) ≡ total_over (λ p. if message_of w p == n then (if b && (not g && (not (slot_at w p).is_terminal_chunk && c p)) then slot_bytes w n p else 0) else 0) (kept always 0 (length w.slots))
+    each : (n : ℕ) (b g : Bool) → (if b then (if g then 0 else total_over (slot_bytes w n) (slots_where w (λ p. has_fragment w n p && c p))) else 0) ≡ total_over (λ p. if message_of w p == n then (if b && (not g && (not (slot_at w p).is_terminal_chunk && c p)) then slot_bytes w n p else 0) else 0) (numbers_where always 0 (length w.slots))
     each n true false = total-where (slot_bytes w n) (λ p. has_fragment w n p && c p) 0 (length w.slots) ∙ total-kept_same (λ p. if has_fragment w n p && c p then slot_bytes w n p else 0) (λ p. if message_of w p == n then (if not (slot_at w p).is_terminal_chunk && c p then slot_bytes w n p else 0) else 0) always 0 (length w.slots) (λ p a b. one (message_of w p == n) (not (slot_at w p).is_terminal_chunk) (c p) (slot_bytes w n p))
     each n true true = sym (total-none (λ p. if message_of w p == n then 0 else 0) 0 (length w.slots) (λ p a b. zero' (message_of w p == n)))
     each n false g = sym (total-none (λ p. if message_of w p == n then 0 else 0) 0 (length w.slots) (λ p a b. zero' (message_of w p == n)))
@@ -62,26 +62,22 @@ bytes-by_slot w q c s =
     turned false g m false k = refl
 
 -- what is in flight on a stream is what its slots hold that are not acknowledged
-pub in-flight-on : (w : World) (t : ℕ) → Sender (shape w) → on_stream w t (in_flight_bytes w) ≡ unacked_on w (acknowledged_at w) t
+pub in-flight-on : (w : LinkRecord) (t : ℕ) → Sender (shape w) → on_stream w t (in_flight_bytes w) ≡ unacked_on w (acknowledged_at w) t
 in-flight-on w t s = bytes-by_slot w (λ n. (message_at w n).stream == t) (λ p. not (acknowledged_at w p)) s
 
-and-true : (b : Bool) → (b && true) ≡ b
-and-true true = refl
-and-true false = refl
-
 -- and in all
-pub in-flight-in : (w : World) → Sender (shape w) → in_all w (in_flight_bytes w) ≡ unacked w (acknowledged_at w)
+pub in-flight-in : (w : LinkRecord) → Sender (shape w) → in_all w (in_flight_bytes w) ≡ bytes_but_for w (acknowledged_at w)
 in-flight-in w s =
     bytes-by_slot w always (λ p. not (acknowledged_at w p)) s
     ∙ ap (total_over (bytes_at w)) (kept-same (λ p. not (acknowledged_at w p) && true) (λ p. not (acknowledged_at w p)) 0 (length w.slots) (λ k a b. and-true (not (acknowledged_at w k))))
 
 -- a stream still has what is pending on it and what its slots hold that are not acknowledged
-pub amount-is : (w : World) (t : ℕ) → Sender (shape w) → amount w t ≡ on_stream w t (pending_bytes w) + unacked_on w (acknowledged_at w) t
+pub amount-is : (w : LinkRecord) (t : ℕ) → Sender (shape w) → amount w t ≡ on_stream w t (pending_bytes w) + unacked_on w (acknowledged_at w) t
 amount-is w t s = ap (λ k. on_stream w t (pending_bytes w) + k) (in-flight-on w t s)
 
 -- ## Marks
 
-marked-where : (w : World) (acked c : ℕ → Bool) (p : ℕ) → acked p ≡ false → p < length w.slots → total_over (bytes_at w) (slots_where w (λ k. not (acked k || (k == p)) && c k)) + (if c p then bytes_at w p else 0) ≡ total_over (bytes_at w) (slots_where w (λ k. not (acked k) && c k))
+marked-where : (w : LinkRecord) (acked c : ℕ → Bool) (p : ℕ) → acked p ≡ false → p < length w.slots → total_over (bytes_at w) (slots_where w (λ k. not (acked k || (k == p)) && c k)) + (if c p then bytes_at w p else 0) ≡ total_over (bytes_at w) (slots_where w (λ k. not (acked k) && c k))
 marked-where w acked c p e lt =
     let one = total-one (λ k. if not (acked k || (k == p)) && c k then bytes_at w k else 0) (λ k. if not (acked k) && c k then bytes_at w k else 0) p (if c p then bytes_at w p else 0) 0 (length w.slots) (omega arith) (omega arith)
     (λ k ne. ap (λ b. if not (acked k || b) && c k then bytes_at w k else 0) (fails (k == p) (λ h. ne (same-is k p h))) ∙ ap (λ b. if not b && c k then bytes_at w k else 0) (or-none (acked k)))
@@ -93,41 +89,41 @@ marked-where w acked c p e lt =
     here false d h = zero-add (if d then bytes_at w p else 0)
 
 -- one more slot is acknowledged: its bytes leave
-pub unacked-marked : (w : World) (acked : ℕ → Bool) (p : ℕ) → acked p ≡ false → p < length w.slots → unacked w (λ k. acked k || (k == p)) + bytes_at w p ≡ unacked w acked
+pub unacked-marked : (w : LinkRecord) (acked : ℕ → Bool) (p : ℕ) → acked p ≡ false → p < length w.slots → bytes_but_for w (λ k. acked k || (k == p)) + bytes_at w p ≡ bytes_but_for w acked
 unacked-marked w acked p e lt =
     let a = kept-same (λ k. not (acked k || (k == p)) && true) (λ k. not (acked k || (k == p))) 0 (length w.slots) (λ k i j. and-true (not (acked k || (k == p)))) in
     let b = kept-same (λ k. not (acked k) && true) (λ k. not (acked k)) 0 (length w.slots) (λ k i j. and-true (not (acked k))) in
     ap (λ l. total_over (bytes_at w) l + bytes_at w p) (sym a) ∙ marked-where w acked always p e lt ∙ ap (total_over (bytes_at w)) b
 
 -- they leave its stream
-pub unacked_on-marked : (w : World) (acked : ℕ → Bool) (p t : ℕ) → acked p ≡ false → p < length w.slots → unacked_on w (λ k. acked k || (k == p)) t + (if stream_of_slot w p == t then bytes_at w p else 0) ≡ unacked_on w acked t
+pub unacked_on-marked : (w : LinkRecord) (acked : ℕ → Bool) (p t : ℕ) → acked p ≡ false → p < length w.slots → unacked_on w (λ k. acked k || (k == p)) t + (if stream_of_slot w p == t then bytes_at w p else 0) ≡ unacked_on w acked t
 unacked_on-marked w acked p t e lt = marked-where w acked (λ k. stream_of_slot w k == t) p e lt
 
 -- so too where it was acknowledged before: then none leave
-marked-again : (w : World) (acked c : ℕ → Bool) (p : ℕ) → acked p ≡ true → kept (λ k. not (acked k || (k == p)) && c k) 0 (length w.slots) ≡ kept (λ k. not (acked k) && c k) 0 (length w.slots)
+marked-again : (w : LinkRecord) (acked c : ℕ → Bool) (p : ℕ) → acked p ≡ true → numbers_where (λ k. not (acked k || (k == p)) && c k) 0 (length w.slots) ≡ numbers_where (λ k. not (acked k) && c k) 0 (length w.slots)
 marked-again w acked c p e = kept-same (λ k. not (acked k || (k == p)) && c k) (λ k. not (acked k) && c k) 0 (length w.slots) (λ k i j. ap (λ b. not b && c k) (by_same {P = (acked k || (k == p)) ≡ acked k} k p
     (λ z. let a : acked k ≡ true = ap acked z ∙ e in ap (λ b. b || (k == p)) a ∙ sym a)
     (λ ne f. ap (λ b. acked k || b) f ∙ or-none (acked k))))
 
-pub unacked-taken : (w : World) (acked : ℕ → Bool) (p : ℕ) → p < length w.slots → unacked w (λ k. acked k || (k == p)) + (if acked p then 0 else bytes_at w p) ≡ unacked w acked
+pub unacked-taken : (w : LinkRecord) (acked : ℕ → Bool) (p : ℕ) → p < length w.slots → bytes_but_for w (λ k. acked k || (k == p)) + (if acked p then 0 else bytes_at w p) ≡ bytes_but_for w acked
 unacked-taken w acked p lt = by (acked p) refl
   where
-    always-too : (a : ℕ → Bool) → kept (λ k. not (a k) && true) 0 (length w.slots) ≡ kept (λ k. not (a k)) 0 (length w.slots)
+    always-too : (a : ℕ → Bool) → numbers_where (λ k. not (a k) && true) 0 (length w.slots) ≡ numbers_where (λ k. not (a k)) 0 (length w.slots)
     always-too a = kept-same (λ k. not (a k) && true) (λ k. not (a k)) 0 (length w.slots) (λ k i j. and-true (not (a k)))
 
-    by : (b : Bool) → acked p ≡ b → unacked w (λ k. acked k || (k == p)) + (if b then 0 else bytes_at w p) ≡ unacked w acked
+    by : (b : Bool) → acked p ≡ b → bytes_but_for w (λ k. acked k || (k == p)) + (if b then 0 else bytes_at w p) ≡ bytes_but_for w acked
     by true e = let z = ap (total_over (bytes_at w)) (sym (always-too (λ k. acked k || (k == p))) ∙ marked-again w acked always p e ∙ always-too acked) in omega (arith, z)
     by false e = unacked-marked w acked p e lt
 
 -- a fragment's slot holds its bytes, where its message neither expired nor was abandoned
-pub bytes_at-alive : (w : World) (p : ℕ) → (slot_at w p).is_terminal_chunk ≡ false → is_expired_or_abandoned w (message_of w p) ≡ false → bytes_at w p ≡ slot_bytes w (message_of w p) p
+pub bytes_at-alive : (w : LinkRecord) (p : ℕ) → (slot_at w p).is_terminal_chunk ≡ false → is_expired_or_abandoned w (message_of w p) ≡ false → bytes_at w p ≡ slot_bytes w (message_of w p) p
 bytes_at-alive w p e f = ap (λ b. if b || is_expired_or_abandoned w (message_of w p) then 0 else slot_bytes w (message_of w p) p) e ∙ ap (λ b. if b then 0 else slot_bytes w (message_of w p) p) f
 
 -- what is acknowledged may be told by another test that agrees
-pub unacked-same : (w : World) (a b : ℕ → Bool) → ((k : ℕ) → k < length w.slots → a k ≡ b k) → unacked w a ≡ unacked w b
+pub unacked-same : (w : LinkRecord) (a b : ℕ → Bool) → ((k : ℕ) → k < length w.slots → a k ≡ b k) → bytes_but_for w a ≡ bytes_but_for w b
 unacked-same w a b e = ap (total_over (bytes_at w)) (kept-same (λ k. not (a k)) (λ k. not (b k)) 0 (length w.slots) (λ k i j. ap not (e k (omega arith))))
 
-pub unacked_on-same : (w : World) (a b : ℕ → Bool) (t : ℕ) → ((k : ℕ) → k < length w.slots → a k ≡ b k) → unacked_on w a t ≡ unacked_on w b t
+pub unacked_on-same : (w : LinkRecord) (a b : ℕ → Bool) (t : ℕ) → ((k : ℕ) → k < length w.slots → a k ≡ b k) → unacked_on w a t ≡ unacked_on w b t
 unacked_on-same w a b t e = ap (total_over (bytes_at w)) (kept-same (λ k. not (a k) && (stream_of_slot w k == t)) (λ k. not (b k) && (stream_of_slot w k == t)) 0 (length w.slots) (λ k i j. ap (λ c. not c && (stream_of_slot w k == t)) (e k (omega arith))))
 
 -- ## A SACK is taken
@@ -139,22 +135,22 @@ bytes_by x p =
     else length (get_or (pieces (length (x.message (x.slot p).message).bytes) x.size (x.message (x.slot p).message).bytes) (x.slot p).fragment [])
 
 abbrev unacked_by : Shape → (ℕ → Bool) → ℕ
-unacked_by x a = total_over (bytes_by x) (kept (λ p. not (a p)) 0 x.slots)
+unacked_by x a = total_over (bytes_by x) (numbers_where (λ p. not (a p)) 0 x.slots)
 
 abbrev unacked_on_by : Shape → (ℕ → Bool) → ℕ → ℕ
-unacked_on_by x a t = total_over (bytes_by x) (kept (λ p. not (a p) && ((x.message (x.slot p).message).stream == t)) 0 x.slots)
+unacked_on_by x a t = total_over (bytes_by x) (numbers_where (λ p. not (a p) && ((x.message (x.slot p).message).stream == t)) 0 x.slots)
 
 abbrev pub pending_by : Shape → ℕ → ℕ
 pending_by x n = if (x.message n).expired || (x.message n).abandoned then 0 else total_over (λ i. length (get_or (pieces (length (x.message n).bytes) x.size (x.message n).bytes) i [])) (numbers_from (sent x n) (parts x n - sent x n))
 
 abbrev pub pending_on_by : Shape → ℕ → ℕ
-pending_on_by x t = total_over (pending_by x) (kept (λ n. (x.message n).stream == t) 0 x.count)
+pending_on_by x t = total_over (pending_by x) (numbers_where (λ n. (x.message n).stream == t) 0 x.count)
 
 -- all that the slots hold, with what was written of messages that expired or were abandoned
 abbrev lost_or_sent_by : Shape → ℕ
 lost_or_sent_by x = total_over (λ n. if (x.message n).expired || (x.message n).abandoned then length (x.message n).bytes else 0) (numbers_from 0 x.count) + total_over (bytes_by x) (numbers_from 0 x.slots)
 
-released-is : (w : World) → Sender (shape w) → in_all w (released_bytes w) + unacked w (acknowledged_at w) ≡ lost_or_sent_by (shape w)
+released-is : (w : LinkRecord) → Sender (shape w) → in_all w (released_bytes w) + bytes_but_for w (acknowledged_at w) ≡ lost_or_sent_by (shape w)
 released-is w s =
     let lost : ℕ → ℕ = λ n. if is_expired_or_abandoned w n then written_bytes w n else 0 in
     let a = total-plus lost (bytes_where w (acknowledged_at w)) (released_bytes w) always 0 (length w.messages) (λ n i j. each (is_expired_or_abandoned w n) (written_bytes w n) (total_over (slot_bytes w n) (slots_where w (λ p. has_fragment w n p && acknowledged_at w p)))) in
@@ -166,9 +162,9 @@ released-is w s =
     each true l k = omega arith
     each false l k = omega arith
 
-module _ (w : World) (r : Report) where
-  abbrev v : World
-  v = sack_taken w (Some (Sack r))
+module _ (w : LinkRecord) (r : Report) where
+  abbrev v : LinkRecord
+  v = after_acked w (Some (Sack r))
 
   same-shape : shape v ≡ shape w
   same-shape = Shapes.shape-acknowledged w r (max w.taken r.cumulative)
@@ -177,7 +173,7 @@ module _ (w : World) (r : Report) where
   acknowledged-now k lt = ap (λ x. x.acknowledged) (numbered-at (acknowledged_by r) 0 k w.slots no_slot lt) ∙ ap (λ i. (slot_at w k).acknowledged || reports r i) (zero-add k)
 
   -- the slots that it reports hold nothing then
-  pub unacked-acked : unacked v (acknowledged_at v) ≡ unacked w (acknowledged_then w r)
+  pub unacked-acked : bytes_but_for v (acknowledged_at v) ≡ bytes_but_for w (acknowledged_then w r)
   unacked-acked = ap (λ x. unacked_by x (acknowledged_at v)) same-shape ∙ unacked-same w (acknowledged_at v) (acknowledged_then w r) acknowledged-now
 
   pub unacked_on-acked : (t : ℕ) → unacked_on v (acknowledged_at v) t ≡ unacked_on w (acknowledged_then w r) t
@@ -195,11 +191,11 @@ module _ (w : World) (r : Report) where
   amount-acked t s = amount-is v t (sender-acked s) ∙ ap (λ k. k + unacked_on v (acknowledged_at v) t) (pending_on-acked t) ∙ ap (λ k. on_stream w t (pending_bytes w) + k) (unacked_on-acked t)
 
   -- what the slots no longer hold was released
-  pub released-acked : Sender (shape w) → in_all v (released_bytes v) + unacked w (acknowledged_then w r) ≡ in_all w (released_bytes w) + unacked w (acknowledged_at w)
+  pub released-acked : Sender (shape w) → in_all v (released_bytes v) + bytes_but_for w (acknowledged_then w r) ≡ in_all w (released_bytes w) + bytes_but_for w (acknowledged_at w)
   released-acked s = ap (λ k. in_all v (released_bytes v) + k) (sym unacked-acked) ∙ released-is v (sender-acked s) ∙ ap lost_or_sent_by same-shape ∙ sym (released-is w s)
 
   -- that much the released bytes grow
-  pub growth-acked : Sender (shape w) → growth w v ≡ unacked w (acknowledged_at w) - unacked w (acknowledged_then w r)
+  pub growth-acked : Sender (shape w) → growth w v ≡ bytes_but_for w (acknowledged_at w) - bytes_but_for w (acknowledged_then w r)
   growth-acked s = omega (arith, released-acked s)
 
   -- and the bytes in flight shrink

@@ -4,7 +4,7 @@ use Rattle.std.specs.Prelude.{◌⊎◌, if◌then◌else◌, ◌==◌, ◌||◌
 use Rattle.std.proofs.lemmas.Bool.{cases_lt}
 use Rattle.std.proofs.lemmas.Bool.Decides.{nat_tests}
 use Rattle.std.proofs.lemmas.List.Sums.{sum_by-cons}
-use Rattle.sctp_list_lemmas.specs.Kept.{kept, always, total_over}
+use Rattle.sctp_list_lemmas.specs.Kept.{numbers_where, always, total_over}
 use Rattle.sctp_list_lemmas.proofs.Cases.{or-left, or-right}
 use Rattle.sctp_list_lemmas.proofs.More.{fails, not_both}
 use Rattle.sctp_list_lemmas.proofs.Totals.{total-none, total-append, total-where, total-kept_same, numbers-append}
@@ -13,13 +13,13 @@ use Rattle.sctp_serial.specs.DataChunks.{bytes_of}
 use Rattle.sctp_outbound.specs.outbound_queue.OutboundQueue.{Outbound}
 use Rattle.sctp_outbound.specs.pending_queue.PendingQueue.{total_bytes}
 use Rattle.sctp_model.specs.declared.event.Event.TheVariants as E
-use Rattle.sctp_model.specs.World.{Report, Setup, Datagram, Data, Forward, Sack, World}
+use Rattle.sctp_model.specs.LinkRecord.{Report, Setup, Datagram, Data, Forward, Sack, LinkRecord}
 use Rattle.sctp_model.specs.Messages.{message_at, slot_at, message_of}
 use Rattle.sctp_model.specs.Amounts.{in_all, written_bytes, pending_bytes, in_flight_bytes, released_bytes, Ledger, ledger}
 use Rattle.sctp_model.specs.Log.{is_acknowledged_in, taken_in, cumulative_in, reported_by}
 use Rattle.sctp_model.specs.Reports.{reports}
 use Rattle.sctp_model.specs.Contents.{chunk_at}
-use Rattle.sctp_model.specs.Steps.{History, world_of, IsRun}
+use Rattle.sctp_model.specs.Steps.{History, record_of, IsRun}
 use Rattle.sctp_model.specs.Laws.{IsSetup}
 use Rattle.sctp_model.proofs.sender.Shape.{shape}
 use Rattle.sctp_model.proofs.sender.Sender.{Sender}
@@ -27,17 +27,18 @@ use Rattle.sctp_model.proofs.sender.SenderRun.{sane-run}
 use Rattle.sctp_model.proofs.sender.Fronts.{mark-abandoned, slot-sent}
 use Rattle.sctp_model.proofs.acknowledgement.Acknowledged.{acknowledged_is_reported}
 use Rattle.sctp_model.proofs.acknowledgement.Bytes.{balances}
-use Rattle.sctp_refinement.specs.Amount.{stream_of_slot, bytes_at, unacked, acknowledged_at, acknowledged_then}
+use Rattle.sctp_refinement.specs.Amount.{stream_of_slot, bytes_at, bytes_but_for, acknowledged_at, acknowledged_then}
 use Rattle.sctp_refinement.specs.Refines.{sending_by, IsInFlight, sending_of, RefinesOutbound}
-use Rattle.sctp_refinement.proofs.acknowledging.Acked.{first_of', rest_of', in-flight-first}
+use Rattle.sctp_refinement.proofs.acknowledging.Acked.{in-flight-first}
 use Rattle.sctp_refinement.proofs.sending.KindsRun.{taken-run}
 use Rattle.sctp_refinement.proofs.amounts.PendingBytes.{pending-bytes}
 use Rattle.sctp_refinement.proofs.acknowledging.Unacked.{in-flight-in}
+use Rattle.sctp_refinement.proofs.sending.InFlight.{head_of, tail_of}
 
 -- ## A chunk
 
 -- the payload of a slot in flight is what the slot holds, nothing where it is acknowledged
-pub payload-bytes : (w : World) (acked : Bool) (p : ℕ) → Sender (shape w) → p < length w.slots → length (sending_by w acked p).chunk.payload ≡ (if acked then 0 else bytes_at w p)
+pub payload-bytes : (w : LinkRecord) (acked : Bool) (p : ℕ) → Sender (shape w) → p < length w.slots → length (sending_by w acked p).chunk.payload ≡ (if acked then 0 else bytes_at w p)
 payload-bytes w true p s lt = refl
 payload-bytes w false p s lt =
     by (slot_at w p).is_terminal_chunk (message_at w (message_of w p)).expired (message_at w (message_of w p)).abandoned (chunk_at w p).user_data
@@ -51,11 +52,11 @@ payload-bytes w false p s lt =
     by false false true bytes e marks = refl
     by false false false bytes e marks = refl
 
-pub chunk-bytes : (w : World) (acked : Bool) (p : ℕ) (c : ChunkPayloadData) → Sender (shape w) → p < length w.slots → sending_of c ≡ sending_by w acked p → length c.user_data ≡ (if acked then 0 else bytes_at w p)
+pub chunk-bytes : (w : LinkRecord) (acked : Bool) (p : ℕ) (c : ChunkPayloadData) → Sender (shape w) → p < length w.slots → sending_of c ≡ sending_by w acked p → length c.user_data ≡ (if acked then 0 else bytes_at w p)
 chunk-bytes w acked p c s lt e = ap (λ x. length x.chunk.payload) e ∙ payload-bytes w acked p s lt
 
 -- what a chunk in flight has of stream t, by the chunk and by the record
-pub chunk-on : (w : World) (acked : Bool) (p t : ℕ) (c : ChunkPayloadData) → Sender (shape w) → p < length w.slots → sending_of c ≡ sending_by w acked p → (if c.stream_identifier == t then length c.user_data else 0) ≡ (if stream_of_slot w p == t then (if acked then 0 else bytes_at w p) else 0)
+pub chunk-on : (w : LinkRecord) (acked : Bool) (p t : ℕ) (c : ChunkPayloadData) → Sender (shape w) → p < length w.slots → sending_of c ≡ sending_by w acked p → (if c.stream_identifier == t then length c.user_data else 0) ≡ (if stream_of_slot w p == t then (if acked then 0 else bytes_at w p) else 0)
 chunk-on w acked p t c s lt e =
     ap (λ x. if x.stream == t then length c.user_data else 0) e
     ∙ ap (λ k. if stream_of_slot w p == t then k else 0) (chunk-bytes w acked p c s lt e)
@@ -65,27 +66,27 @@ chunk-on w acked p t c s lt e =
 abbrev size : ChunkPayloadData → ℕ
 size c = length c.user_data
 
-bytes-by_slot : (w : World) (acked : ℕ → Bool) → Sender (shape w) → (cs : List ChunkPayloadData) (from count : ℕ) → from + count ≤ length w.slots → IsInFlight w acked from count cs → bytes_of cs ≡ total_over (λ p. if acked p then 0 else bytes_at w p) (kept always from count)
+bytes-by_slot : (w : LinkRecord) (acked : ℕ → Bool) → Sender (shape w) → (cs : List ChunkPayloadData) (from count : ℕ) → from + count ≤ length w.slots → IsInFlight w acked from count cs → bytes_of cs ≡ total_over (λ p. if acked p then 0 else bytes_at w p) (numbers_where always from count)
 bytes-by_slot w acked s [] from zero le e = refl
 bytes-by_slot w acked s [] from (suc count) le e = cc
 bytes-by_slot w acked s (c ∷ cs) from zero le e = cc
 bytes-by_slot w acked s (c ∷ cs) from (suc count) le e =
     sum_by-cons size c cs
-    ∙ ap (λ t. t + bytes_of cs) (chunk-bytes w (acked from) from c s (omega (arith, le)) (ap (λ l. first_of' l (sending_of c)) e))
-    ∙ ap (λ t. (if acked from then 0 else bytes_at w from) + t) (bytes-by_slot w acked s cs (from + 1) count (omega (arith, le)) (ap rest_of' e))
+    ∙ ap (λ t. t + bytes_of cs) (chunk-bytes w (acked from) from c s (omega (arith, le)) (ap (λ l. head_of l (sending_of c)) e))
+    ∙ ap (λ t. (if acked from then 0 else bytes_at w from) + t) (bytes-by_slot w acked s cs (from + 1) count (omega (arith, le)) (ap tail_of e))
 
 -- the queue holds the bytes that are not acknowledged, where each slot before its first is
-pub bytes-unacked : (w : World) (acked : ℕ → Bool) (cs : List ChunkPayloadData) (from : ℕ) → Sender (shape w) → from ≤ length w.slots → ((p : ℕ) → p < from → acked p ≡ true) → IsInFlight w acked from (length w.slots - from) cs → bytes_of cs ≡ unacked w acked
+pub bytes-unacked : (w : LinkRecord) (acked : ℕ → Bool) (cs : List ChunkPayloadData) (from : ℕ) → Sender (shape w) → from ≤ length w.slots → ((p : ℕ) → p < from → acked p ≡ true) → IsInFlight w acked from (length w.slots - from) cs → bytes_of cs ≡ bytes_but_for w acked
 bytes-unacked w acked cs from s le before e =
     let f : ℕ → ℕ = λ p. if acked p then 0 else bytes_at w p in
     let queue = bytes-by_slot w acked s cs from (length w.slots - from) (omega (arith, le)) e in
     let none = total-none f 0 from (λ k a b. ap (λ c. if c then 0 else bytes_at w k) (before k (omega arith))) in
-    let two = total-append f (kept always 0 from) (kept always from (length w.slots - from)) in
+    let two = total-append f (numbers_where always 0 from) (numbers_where always from (length w.slots - from)) in
     let all : from + (length w.slots - from) ≡ length w.slots = omega (arith, le) in
-    let whole = ap (total_over f) (numbers-append from (length w.slots - from) ∙ ap (kept always 0) all) in
+    let complete = ap (total_over f) (numbers-append from (length w.slots - from) ∙ ap (numbers_where always 0) all) in
     let held = total-where (bytes_at w) (λ p. not (acked p)) 0 (length w.slots) in
     let same = total-kept_same (λ p. if not (acked p) then bytes_at w p else 0) f always 0 (length w.slots) (λ k a b. turned (acked k) (bytes_at w k)) in
-    omega (arith, queue, none, two, whole, held, same)
+    omega (arith, queue, none, two, complete, held, same)
   where
     turned : (b : Bool) (k : ℕ) → (if not b then k else 0) ≡ (if b then 0 else k)
     turned true k = refl
@@ -95,7 +96,7 @@ bytes-unacked w acked cs from s le before e =
 
 acknowledged-below : (setup : Setup) (h : History) (p : ℕ) → p < taken_in setup h → is_acknowledged_in setup h p ≡ true
 acknowledged-below setup [] p lt = absurd (omega arith)
-acknowledged-below setup ((E.Acked k, r) ∷ older) p lt = by (slice_get (world_of setup older).network k) (λ l. acknowledged-below setup older p l) lt
+acknowledged-below setup ((E.Acked k, r) ∷ older) p lt = by (slice_get (record_of setup older).network k) (λ l. acknowledged-below setup older p l) lt
   where
     reported : (o : Option Datagram) → p < cumulative_in o → reported_by o p ≡ true
     reported None l = absurd (omega arith)
@@ -125,14 +126,14 @@ acknowledged-below setup ((E.Arrive a, r) ∷ older) p lt = acknowledged-below s
 acknowledged-below setup ((E.Read a, r) ∷ older) p lt = acknowledged-below setup older p lt
 
 -- what is acknowledged cumulatively is acknowledged
-pub taken-acknowledged : (setup : Setup) (h : History) → IsSetup setup → IsRun setup h → (p : ℕ) → p < (world_of setup h).taken → acknowledged_at (world_of setup h) p ≡ true
+pub taken-acknowledged : (setup : Setup) (h : History) → IsSetup setup → IsRun setup h → (p : ℕ) → p < (record_of setup h).taken → acknowledged_at (record_of setup h) p ≡ true
 taken-acknowledged setup h is run p lt =
     let a = acknowledged_is_reported setup h is run in
     a.0 p (omega (arith, lt, taken-run setup h is run)) ∙ acknowledged-below setup h p (omega (arith, lt, a.1))
 
-pub in-flight-bytes : (setup : Setup) (h : History) → IsSetup setup → IsRun setup h → (q : Outbound) → RefinesOutbound (world_of setup h) q → bytes_of q.inflight.chunks ≡ in_all (world_of setup h) (in_flight_bytes (world_of setup h))
+pub in-flight-bytes : (setup : Setup) (h : History) → IsSetup setup → IsRun setup h → (q : Outbound) → RefinesOutbound (record_of setup h) q → bytes_of q.inflight.chunks ≡ in_all (record_of setup h) (in_flight_bytes (record_of setup h))
 in-flight-bytes setup h is run q t =
-    let w = world_of setup h in
+    let w = record_of setup h in
     let s = (sane-run setup h run).sender in
     bytes-unacked w (acknowledged_at w) q.inflight.chunks w.taken s (taken-run setup h is run) (taken-acknowledged setup h is run) (in-flight-first w q t) ∙ sym (in-flight-in w s)
 
@@ -140,9 +141,9 @@ in-flight-bytes setup h is run q t =
 abbrev pub ledger_by : ℕ → ℕ → ℕ → Ledger
 ledger_by written pending in_flight = record { written = written; pending = pending; in_flight = in_flight; released = written - pending - in_flight }
 
-pub ledger-is : (setup : Setup) (h : History) → IsSetup setup → IsRun setup h → (q : Outbound) → RefinesOutbound (world_of setup h) q → ledger (world_of setup h) ≡ ledger_by (in_all (world_of setup h) (written_bytes (world_of setup h))) (total_bytes q.pending) (bytes_of q.inflight.chunks)
+pub ledger-is : (setup : Setup) (h : History) → IsSetup setup → IsRun setup h → (q : Outbound) → RefinesOutbound (record_of setup h) q → ledger (record_of setup h) ≡ ledger_by (in_all (record_of setup h) (written_bytes (record_of setup h))) (total_bytes q.pending) (bytes_of q.inflight.chunks)
 ledger-is setup h is run q t =
-    let w = world_of setup h in
+    let w = record_of setup h in
     let f = in-flight-bytes setup h is run q t in
     let p = pending-bytes w q.pending t.pending in
     let b = (balances setup h is run).0 in
@@ -157,7 +158,7 @@ ledger-is setup h is run q t =
 -- ## A SACK is taken
 
 -- what it acknowledges cumulatively is acknowledged then, with what was before
-pub then-below : (w : World) (r : Report) (p : ℕ) → ((k : ℕ) → k < w.taken → acknowledged_at w k ≡ true) → p < max w.taken r.cumulative → acknowledged_then w r p ≡ true
+pub then-below : (w : LinkRecord) (r : Report) (p : ℕ) → ((k : ℕ) → k < w.taken → acknowledged_at w k ≡ true) → p < max w.taken r.cumulative → acknowledged_then w r p ≡ true
 then-below w r p before lt = by (cases_lt p w.taken)
   where
     by : (p < w.taken) ⊎ (w.taken ≤ p) → acknowledged_then w r p ≡ true
@@ -165,7 +166,7 @@ then-below w r p before lt = by (cases_lt p w.taken)
     by (inr g) = let low : p < r.cumulative = omega (arith, lt, g) in let z : nat_lt p r.cumulative ≡ true = grind (arith, nat_tests) in or-right (acknowledged_at w p) (reports r p) (or-left (nat_lt p r.cumulative) _ z)
 
 -- once what it reports is marked and what it acknowledges cumulatively is popped, the queue holds the bytes that are not acknowledged then
-pub bytes-acked : (setup : Setup) (h : History) → IsSetup setup → IsRun setup h → (r : Report) (cs : List ChunkPayloadData) → max (world_of setup h).taken r.cumulative ≤ length (world_of setup h).slots → IsInFlight (world_of setup h) (acknowledged_then (world_of setup h) r) (max (world_of setup h).taken r.cumulative) (length (world_of setup h).slots - max (world_of setup h).taken r.cumulative) cs → bytes_of cs ≡ unacked (world_of setup h) (acknowledged_then (world_of setup h) r)
+pub bytes-acked : (setup : Setup) (h : History) → IsSetup setup → IsRun setup h → (r : Report) (cs : List ChunkPayloadData) → max (record_of setup h).taken r.cumulative ≤ length (record_of setup h).slots → IsInFlight (record_of setup h) (acknowledged_then (record_of setup h) r) (max (record_of setup h).taken r.cumulative) (length (record_of setup h).slots - max (record_of setup h).taken r.cumulative) cs → bytes_of cs ≡ bytes_but_for (record_of setup h) (acknowledged_then (record_of setup h) r)
 bytes-acked setup h is run r cs le e =
-    let w = world_of setup h in
+    let w = record_of setup h in
     bytes-unacked w (acknowledged_then w r) cs (max w.taken r.cumulative) (sane-run setup h run).sender le (λ p lt. then-below w r p (taken-acknowledged setup h is run) lt) e

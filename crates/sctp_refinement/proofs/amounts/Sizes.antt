@@ -7,7 +7,7 @@ use Rattle.std.proofs.lemmas.Bool.{cases_lt}
 use Rattle.std.proofs.lemmas.Bool.Decides.{nat_tests}
 use Rattle.std.proofs.lemmas.List.{reverse-append}
 use Rattle.std.proofs.lemmas.List.Sums.{sum_by-cons}
-use Rattle.sctp_list_lemmas.specs.Kept.{kept, always, total_over}
+use Rattle.sctp_list_lemmas.specs.Kept.{numbers_where, always, total_over}
 use Rattle.sctp_list_lemmas.specs.Lists.{after_leading}
 use Rattle.sctp_list_lemmas.proofs.Passing.{kept-snoc_in}
 use Rattle.sctp_list_lemmas.proofs.More.{not_both, both, and}
@@ -16,11 +16,11 @@ use Rattle.sctp_list_lemmas.proofs.Totals.{total-append, total-at, total-where, 
 use Rattle.sctp_list_lemmas.proofs.Wraps.{same16-index}
 use Rattle.sctp_chunks.specs.declared.chunk.chunk_payload_data.ChunkPayloadData.{ChunkPayloadData}
 use Rattle.sctp_chunks.specs.ChunkSet.{ChunkSet}
-use Rattle.sctp_reassembly.specs.reassembly_queue.Fragments.{next_tsn, has_ssn, chunks_of_ssn}
-use Rattle.sctp_serial.specs.DataChunks.{bytes_of, has_tsn}
-use Rattle.sctp_reassembly.specs.reassembly_queue.Sizes.{previous_tsn, bytes_down, bytes_up, back_from, on_from, size_before, size_after, projected_size}
+use Rattle.sctp_reassembly.specs.reassembly_queue.Fragments.{has_ssn, chunks_of_ssn}
+use Rattle.sctp_serial.specs.DataChunks.{bytes_of, has_tsn, following_tsn, preceding_tsn}
+use Rattle.sctp_reassembly.specs.reassembly_queue.Sizes.{bytes_down, bytes_up, back_from, on_from, size_before, size_after, projected_size}
 use Rattle.sctp_reassembly.specs.reassembly_queue.ReassemblyQueue.{ReassemblyState, is_too_large}
-use Rattle.sctp_model.specs.World.{Setup, World}
+use Rattle.sctp_model.specs.LinkRecord.{Setup, LinkRecord}
 use Rattle.sctp_model.specs.Messages.{message_at, slot_at, message_of, is_ordered_on, index_of, ssn_of, tsn_of, fragment_at, fragment_count, has_fragment, sent_of}
 use Rattle.sctp_model.specs.Receiver.{arrived_at, is_new, is_held}
 use Rattle.sctp_model.specs.Contents.{chunk_at}
@@ -44,57 +44,57 @@ use Rattle.sctp_refinement.proofs.reading.Taken.{held}
 
 -- the sum of the first so many
 upto : (ℕ → ℕ) → ℕ → ℕ
-upto f k = total_over f (kept always 0 k)
+upto f k = total_over f (numbers_where always 0 k)
 
 upto-next : (f : ℕ → ℕ) (k : ℕ) → upto f (suc k) ≡ upto f k + f k
 unfolding upto
 upto-next f k =
-    ap (total_over f) (kept-snoc_in always 0 k k (omega arith) refl) ∙ total-append f (kept always 0 k) (k ∷ []) ∙ omega arith
+    ap (total_over f) (kept-snoc_in always 0 k k (omega arith) refl) ∙ total-append f (numbers_where always 0 k) (k ∷ []) ∙ omega arith
 
 upto-more : (f : ℕ → ℕ) (a b : ℕ) → a ≤ b → upto f a ≤ upto f b
 unfolding upto
 upto-more f a b le =
     let all : a + (b - a) ≡ b = omega arith in
-    let parts = total-append f (kept always 0 a) (kept always a (b - a)) in
-    let whole = ap (total_over f) (numbers-append a (b - a) ∙ ap (kept always 0) all) in
-    omega (arith, parts, whole)
+    let parts = total-append f (numbers_where always 0 a) (numbers_where always a (b - a)) in
+    let complete = ap (total_over f) (numbers-append a (b - a) ∙ ap (numbers_where always 0) all) in
+    omega (arith, parts, complete)
 
 -- the chunks of the first set of this number are those of some set that has it, or none
-chunks-found : (P : List ChunkPayloadData → Type 0) (ssn : ℕ) (f : ℕ → ChunkSet) (q : ℕ → Bool) (from count : ℕ) → P [] → ((k : ℕ) → from ≤ k → k < from + count → q k ≡ true → has_ssn ssn (f k) ≡ true → P (f k).chunks) → P (chunks_of_ssn ssn (map f (kept q from count)))
+chunks-found : (P : List ChunkPayloadData → Type 0) (ssn : ℕ) (f : ℕ → ChunkSet) (q : ℕ → Bool) (from count : ℕ) → P [] → ((k : ℕ) → from ≤ k → k < from + count → q k ≡ true → has_ssn ssn (f k) ≡ true → P (f k).chunks) → P (chunks_of_ssn ssn (map f (numbers_where q from count)))
 chunks-found P ssn f q from zero none some = none
 chunks-found P ssn f q from (suc count) none some = step (q from) refl (has_ssn ssn (f from)) refl (chunks-found P ssn f q (from + 1) count none (λ k a b c d. some k (omega arith) (omega arith) c d))
   where
-    step : (b : Bool) → q from ≡ b → (c : Bool) → has_ssn ssn (f from) ≡ c → P (chunks_of_ssn ssn (map f (kept q (from + 1) count))) → P (chunks_of_ssn ssn (map f (if b then from ∷ kept q (from + 1) count else kept q (from + 1) count)))
-    step true e true h ih = subst (λ b. P (if b then (f from).chunks else chunks_of_ssn ssn (map f (kept q (from + 1) count)))) (sym h) (some from (omega arith) (omega arith) e h)
-    step true e false h ih = subst (λ b. P (if b then (f from).chunks else chunks_of_ssn ssn (map f (kept q (from + 1) count)))) (sym h) ih
+    step : (b : Bool) → q from ≡ b → (c : Bool) → has_ssn ssn (f from) ≡ c → P (chunks_of_ssn ssn (map f (numbers_where q (from + 1) count))) → P (chunks_of_ssn ssn (map f (if b then from ∷ numbers_where q (from + 1) count else numbers_where q (from + 1) count)))
+    step true e true h ih = subst (λ b. P (if b then (f from).chunks else chunks_of_ssn ssn (map f (numbers_where q (from + 1) count)))) (sym h) (some from (omega arith) (omega arith) e h)
+    step true e false h ih = subst (λ b. P (if b then (f from).chunks else chunks_of_ssn ssn (map f (numbers_where q (from + 1) count)))) (sym h) ih
     step false e c h ih = ih
 
-bytes-mapped : (w : World) (ks : List ℕ) → bytes_of (map (chunk_at w) ks) ≡ total_over (λ k. length (chunk_at w k).user_data) ks
+bytes-mapped : (w : LinkRecord) (ks : List ℕ) → bytes_of (map (chunk_at w) ks) ≡ total_over (λ k. length (chunk_at w k).user_data) ks
 bytes-mapped w [] = refl
 bytes-mapped w (k ∷ ks) = sum_by-cons (λ (c : ChunkPayloadData). length c.user_data) (chunk_at w k) (map (chunk_at w) ks) ∙ ap (λ t. length (chunk_at w k).user_data + t) (bytes-mapped w ks)
 
 -- ## Chunks of slots
 
 -- a chunk of a slot that has a fragment
-record IsSlot (w : World) (y : ChunkPayloadData) : Type 0 where
+record IsSlot (w : LinkRecord) (y : ChunkPayloadData) : Type 0 where
   place : ℕ
   made : place < length w.slots
   is : y ≡ chunk_at w place
   fragment : (slot_at w place).is_terminal_chunk ≡ false
 
-abbrev AllSlots : World → List ChunkPayloadData → Type 0
+abbrev AllSlots : LinkRecord → List ChunkPayloadData → Type 0
 AllSlots w [] = Unit {0}
 AllSlots w (y ∷ ys) = IsSlot w y × AllSlots w ys
 
-slots-append : (w : World) (xs ys : List ChunkPayloadData) → AllSlots w xs → AllSlots w ys → AllSlots w (xs ++ ys)
+slots-append : (w : LinkRecord) (xs ys : List ChunkPayloadData) → AllSlots w xs → AllSlots w ys → AllSlots w (xs ++ ys)
 slots-append w [] ys a b = b
 slots-append w (x ∷ xs) ys a b = (a.0, slots-append w xs ys a.1 b)
 
-slots-reverse : (w : World) (xs : List ChunkPayloadData) → AllSlots w xs → AllSlots w (reverse xs)
+slots-reverse : (w : LinkRecord) (xs : List ChunkPayloadData) → AllSlots w xs → AllSlots w (reverse xs)
 slots-reverse w [] a = tt
 slots-reverse w (x ∷ xs) a = subst (AllSlots w) (sym (reverse-append (x ∷ []) xs)) (slots-append w (reverse xs) (x ∷ []) (slots-reverse w xs a.1) (a.0, tt))
 
-slots-after : (w : World) (t : ChunkPayloadData → Bool) (xs : List ChunkPayloadData) → AllSlots w xs → AllSlots w (after_leading t xs)
+slots-after : (w : LinkRecord) (t : ChunkPayloadData → Bool) (xs : List ChunkPayloadData) → AllSlots w xs → AllSlots w (after_leading t xs)
 slots-after w t [] a = tt
 slots-after w t (x ∷ xs) a = step (t x) (slots-after w t xs a.1)
   where
@@ -102,7 +102,7 @@ slots-after w t (x ∷ xs) a = step (t x) (slots-after w t xs a.1)
     step true ih = ih
     step false ih = a
 
-slots-on : (w : World) (tsn : ℕ) (xs : List ChunkPayloadData) → AllSlots w xs → AllSlots w (on_from tsn xs)
+slots-on : (w : LinkRecord) (tsn : ℕ) (xs : List ChunkPayloadData) → AllSlots w xs → AllSlots w (on_from tsn xs)
 slots-on w tsn [] a = tt
 slots-on w tsn (x ∷ xs) a = step (list_any (has_tsn tsn) xs) (has_tsn tsn x) (slots-on w tsn xs a.1)
   where
@@ -111,17 +111,17 @@ slots-on w tsn (x ∷ xs) a = step (list_any (has_tsn tsn) xs) (has_tsn tsn x) (
     step false true ih = a
     step false false ih = tt
 
-slots-kept : (w : World) (q : ℕ → Bool) (from count : ℕ) → ((k : ℕ) → from ≤ k → k < from + count → q k ≡ true → (k < length w.slots) × ((slot_at w k).is_terminal_chunk ≡ false)) → AllSlots w (map (chunk_at w) (kept q from count))
+slots-kept : (w : LinkRecord) (q : ℕ → Bool) (from count : ℕ) → ((k : ℕ) → from ≤ k → k < from + count → q k ≡ true → (k < length w.slots) × ((slot_at w k).is_terminal_chunk ≡ false)) → AllSlots w (map (chunk_at w) (numbers_where q from count))
 slots-kept w q from zero h = tt
 slots-kept w q from (suc count) h = step (q from) refl (slots-kept w q (from + 1) count (λ k a b e. h k (omega arith) (omega arith) e))
   where
-    step : (b : Bool) → q from ≡ b → AllSlots w (map (chunk_at w) (kept q (from + 1) count)) → AllSlots w (map (chunk_at w) (if b then from ∷ kept q (from + 1) count else kept q (from + 1) count))
+    step : (b : Bool) → q from ≡ b → AllSlots w (map (chunk_at w) (numbers_where q (from + 1) count)) → AllSlots w (map (chunk_at w) (if b then from ∷ numbers_where q (from + 1) count else numbers_where q (from + 1) count))
     step true e ih = let x = h from (omega arith) (omega arith) e in (record { place = from; made = x.0; is = refl; fragment = x.1 }, ih)
     step false e ih = ih
 
 -- ## One message
 
-module _ (w : World) (valid : Valid w) (n : ℕ) where
+module _ (w : LinkRecord) (valid : Valid w) (n : ℕ) where
   -- the length of its fragment i
   size : ℕ → ℕ
   size i = length (fragment_at w n i)
@@ -140,15 +140,15 @@ module _ (w : World) (valid : Valid w) (n : ℕ) where
     -- the neighbours below have no more than the fragments before it
     down : (ys : List ChunkPayloadData) (p j : ℕ) → AllSlots w ys → p < length w.slots → has_fragment w n p ≡ true → (slot_at w p).fragment ≡ j + 1 → bytes_down (tsn_of w p) ys ≤ upto size (suc j)
     down [] p j a lt h e = omega arith
-    down (y ∷ ys) p j a lt h e = step (y.tsn == previous_tsn (tsn_of w p)) refl (λ q i l g f. down ys q i a.1 l g f)
+    down (y ∷ ys) p j a lt h e = step (y.tsn == preceding_tsn (tsn_of w p)) refl (λ q i l g f. down ys q i a.1 l g f)
       where
-        step : (b : Bool) → (y.tsn == previous_tsn (tsn_of w p)) ≡ b
+        step : (b : Bool) → (y.tsn == preceding_tsn (tsn_of w p)) ≡ b
             → ((q i : ℕ) → q < length w.slots → has_fragment w n q ≡ true → (slot_at w q).fragment ≡ i + 1 → bytes_down (tsn_of w q) ys ≤ upto size (suc i))
             → (if b then length y.user_data + (if y.beginning_fragment then 0 else bytes_down y.tsn ys) else 0) ≤ upto size (suc j)
         step false t ih = omega arith
         step true t ih =
             let q = a.0.place in
-            let tsn : tsn_of w q ≡ previous_tsn (tsn_of w p) = ap (λ c. c.tsn) (sym a.0.is) ∙ same-is y.tsn (previous_tsn (tsn_of w p)) t in
+            let tsn : tsn_of w q ≡ preceding_tsn (tsn_of w p) = ap (λ c. c.tsn) (sym a.0.is) ∙ same-is y.tsn (preceding_tsn (tsn_of w p)) t in
             let next : p ≡ q + 1 = before p q lt a.0.made tsn in
             let at : p - 1 ≡ q = omega (arith, next) in
             let mine : has_fragment w n q ≡ true = ap (has_fragment w n) (sym at) ∙ prefix n p j h e in
@@ -166,15 +166,15 @@ module _ (w : World) (valid : Valid w) (n : ℕ) where
     -- the neighbours above have no more than the fragments after it
     up : (ys : List ChunkPayloadData) (p j : ℕ) → AllSlots w ys → p < length w.slots → has_fragment w n p ≡ true → (slot_at w p).fragment ≡ j → j + 1 < fragment_count w n → bytes_up (tsn_of w p) ys + upto size (suc j) ≤ upto size (fragment_count w n)
     up [] p j a lt h e short = omega (arith, upto-more size (suc j) (fragment_count w n) (omega arith))
-    up (y ∷ ys) p j a lt h e short = step (y.tsn == next_tsn (tsn_of w p)) refl (λ q i l g f s. up ys q i a.1 l g f s)
+    up (y ∷ ys) p j a lt h e short = step (y.tsn == following_tsn (tsn_of w p)) refl (λ q i l g f s. up ys q i a.1 l g f s)
       where
-        step : (b : Bool) → (y.tsn == next_tsn (tsn_of w p)) ≡ b
+        step : (b : Bool) → (y.tsn == following_tsn (tsn_of w p)) ≡ b
             → ((q i : ℕ) → q < length w.slots → has_fragment w n q ≡ true → (slot_at w q).fragment ≡ i → i + 1 < fragment_count w n → bytes_up (tsn_of w q) ys + upto size (suc i) ≤ upto size (fragment_count w n))
             → (if b then length y.user_data + (if y.ending_fragment then 0 else bytes_up y.tsn ys) else 0) + upto size (suc j) ≤ upto size (fragment_count w n)
         step false t ih = omega (arith, upto-more size (suc j) (fragment_count w n) (omega arith))
         step true t ih =
             let q = a.0.place in
-            let tsn : tsn_of w q ≡ next_tsn (tsn_of w p) = ap (λ c. c.tsn) (sym a.0.is) ∙ same-is y.tsn (next_tsn (tsn_of w p)) t in
+            let tsn : tsn_of w q ≡ following_tsn (tsn_of w p) = ap (λ c. c.tsn) (sym a.0.is) ∙ same-is y.tsn (following_tsn (tsn_of w p)) t in
             let next : q ≡ p + 1 = behind p q lt a.0.made tsn in
             let of : message_of w p ≡ n = Arrival.of_message w n p h in
             let mark : (slot_at w p).is_terminal_chunk ≡ false = negated (slot_at w p).is_terminal_chunk (both (message_of w p == n) (not (slot_at w p).is_terminal_chunk) h).1 in
@@ -198,18 +198,18 @@ module _ (w : World) (valid : Valid w) (n : ℕ) where
         let j = (slot_at w p).fragment in
         omega (arith, low j refl, size-of p h, upto-next size j, high (j + 1 == fragment_count w (message_of w p)) refl)
       where
-        low : (j : ℕ) → (slot_at w p).fragment ≡ j → (if j == 0 then 0 else bytes_down (tsn_of w p) (back_from (previous_tsn (tsn_of w p)) unassembled)) ≤ upto size j
+        low : (j : ℕ) → (slot_at w p).fragment ≡ j → (if j == 0 then 0 else bytes_down (tsn_of w p) (back_from (preceding_tsn (tsn_of w p)) unassembled)) ≤ upto size j
         low zero e = omega arith
         low (suc i) e =
             let z : (suc i == 0) ≡ false = grind (arith, nat_tests) in
-            rw z (down (back_from (previous_tsn (tsn_of w p)) unassembled) p i (slots-after w (λ y. not (has_tsn (previous_tsn (tsn_of w p)) y)) (reverse unassembled) (slots-reverse w unassembled a)) lt h (omega (arith, e)))
+            rw z (down (back_from (preceding_tsn (tsn_of w p)) unassembled) p i (slots-after w (λ y. not (has_tsn (preceding_tsn (tsn_of w p)) y)) (reverse unassembled) (slots-reverse w unassembled a)) lt h (omega (arith, e)))
 
-        high : (b : Bool) → ((slot_at w p).fragment + 1 == fragment_count w (message_of w p)) ≡ b → (if b then 0 else bytes_up (tsn_of w p) (on_from (next_tsn (tsn_of w p)) unassembled)) + upto size (suc (slot_at w p).fragment) ≤ upto size (fragment_count w n)
+        high : (b : Bool) → ((slot_at w p).fragment + 1 == fragment_count w (message_of w p)) ≡ b → (if b then 0 else bytes_up (tsn_of w p) (on_from (following_tsn (tsn_of w p)) unassembled)) + upto size (suc (slot_at w p).fragment) ≤ upto size (fragment_count w n)
         high true e = let z = same-is ((slot_at w p).fragment + 1) (fragment_count w (message_of w p)) e in omega (arith, upto-more size (suc (slot_at w p).fragment) (fragment_count w n) (omega (arith, (valid.laid n).1.within p h)))
         high false e =
             let ne : (slot_at w p).fragment + 1 ≡ fragment_count w n → ⊥ = λ z. (let y : ((slot_at w p).fragment + 1 == fragment_count w (message_of w p)) ≡ true = ap (λ m. (slot_at w p).fragment + 1 == fragment_count w m) (Arrival.of_message w n p h) ∙ ap (λ k. k == fragment_count w n) z ∙ same-yes (fragment_count w n) in not_both (sym e ∙ y)) in
             let short : (slot_at w p).fragment + 1 < fragment_count w n = strict ((slot_at w p).fragment + 1) (fragment_count w n) (let z = (valid.laid n).1.within p h in omega (arith, z)) ne in
-            up (on_from (next_tsn (tsn_of w p)) unassembled) p (slot_at w p).fragment (slots-on w (next_tsn (tsn_of w p)) unassembled a) lt h refl short
+            up (on_from (following_tsn (tsn_of w p)) unassembled) p (slot_at w p).fragment (slots-on w (following_tsn (tsn_of w p)) unassembled a) lt h refl short
           where
             strict : (a b : ℕ) → a ≤ b → (a ≡ b → ⊥) → a < b
             strict a b le ne = by (cases_lt a b)
@@ -219,7 +219,7 @@ module _ (w : World) (valid : Valid w) (n : ℕ) where
                 by (inr g) = absurd (ne (omega arith))
 
   -- what has come of it, and a fragment that has not
-  come-with : (p : ℕ) → Sender (shape w) → p < length w.slots → has_fragment w n p ≡ true → arrived_at w p ≡ false → bytes_of (map (chunk_at w) (kept (has_come w n) 0 (length w.slots))) + length (chunk_at w p).user_data ≤ upto size (sent_of w n)
+  come-with : (p : ℕ) → Sender (shape w) → p < length w.slots → has_fragment w n p ≡ true → arrived_at w p ≡ false → bytes_of (map (chunk_at w) (numbers_where (has_come w n) 0 (length w.slots))) + length (chunk_at w p).user_data ≤ upto size (sent_of w n)
   unfolding size upto
   come-with p s lt h new =
       let f : ℕ → ℕ = λ k. length (chunk_at w k).user_data in
@@ -230,7 +230,7 @@ module _ (w : World) (valid : Valid w) (n : ℕ) where
       let here : (if out p then f p else 0) ≡ f p = ap (λ b. if b then f p else 0) (and (has_fragment w n p) (not (arrived_at w p)) h (ap not new)) in
       let rest = total-where f out 0 (length w.slots) in
       let same = total-where f all 0 (length w.slots) ∙ total-kept_same (λ k. if all k then f k else 0) (λ k. if all k then Amounts.slot_bytes w n k else 0) always 0 (length w.slots) (λ k a b. each k (all k) refl) ∙ sym (total-where (Amounts.slot_bytes w n) all 0 (length w.slots)) in
-      omega (arith, bytes-mapped w (kept (has_come w n) 0 (length w.slots)), split, one, here, rest, same, slots-bytes w n s)
+      omega (arith, bytes-mapped w (numbers_where (has_come w n) 0 (length w.slots)), split, one, here, rest, same, slots-bytes w n s)
     where
       each : (k : ℕ) (b : Bool) → has_fragment w n k ≡ b → (if b then length (chunk_at w k).user_data else 0) ≡ (if b then Amounts.slot_bytes w n k else 0)
       each k true e = size-of k e
@@ -241,7 +241,7 @@ module _ (w : World) (valid : Valid w) (n : ℕ) where
   all-bytes pos = fragments-bytes w n pos
 
   -- the set with its SSN, and a fragment that has not come
-  set-with : (s p : ℕ) → Sender (shape w) → p < length w.slots → has_fragment w n p ≡ true → arrived_at w p ≡ false → n < length w.messages → is_ordered_on w s n ≡ true → IsSpan w s (index_of w n ∷ []) → bytes_of (chunks_of_ssn (ssn_of w n) (map (set_of w) (kept (is_held w s) 0 (length w.messages)))) + length (chunk_at w p).user_data ≤ upto size (fragment_count w n)
+  set-with : (s p : ℕ) → Sender (shape w) → p < length w.slots → has_fragment w n p ≡ true → arrived_at w p ≡ false → n < length w.messages → is_ordered_on w s n ≡ true → IsSpan w s (index_of w n ∷ []) → bytes_of (chunks_of_ssn (ssn_of w n) (map (set_of w) (numbers_where (is_held w s) 0 (length w.messages)))) + length (chunk_at w p).user_data ≤ upto size (fragment_count w n)
   set-with s p a lt h new made on sp =
       chunks-found (λ l. bytes_of l + length (chunk_at w p).user_data ≤ upto size (fragment_count w n)) (ssn_of w n) (set_of w) (is_held w s) 0 (length w.messages)
       (omega (arith, come-with p a lt h new, more))
@@ -263,7 +263,7 @@ module _ (w : World) (valid : Valid w) (n : ℕ) where
 
 -- ## What the queue asks
 
-module _ (setup : Setup) (w : World) (p : ℕ) (q : ReassemblyState) (g : Sane setup w) (valid : Valid w) (more : ValidUnassembled w) (goes : AllGoOn (shape w)) (pos : 0 < w.setup.size) (c : Carried w p) (new : is_new w p ≡ true)
+module _ (setup : Setup) (w : LinkRecord) (p : ℕ) (q : ReassemblyState) (g : Sane setup w) (valid : Valid w) (more : ValidUnassembled w) (goes : AllGoOn (shape w)) (pos : 0 < w.setup.size) (c : Carried w p) (new : is_new w p ≡ true)
     (near : (message_at w (message_of w p)).ordered ≡ true → IsSpan w (message_at w (message_of w p)).stream (index_of w (message_of w p) ∷ []))
     (short : length (message_at w (message_of w p)).bytes ≤ w.setup.largest)
     (holds : q.held ≡ reassembly_of w (message_at w (message_of w p)).stream) (limit : q.max_message_size ≡ w.setup.largest) where
@@ -276,7 +276,7 @@ module _ (setup : Setup) (w : World) (p : ℕ) (q : ReassemblyState) (g : Sane s
   fragment : has_fragment w n p ≡ true
   fragment = Arrival.has-fragment w p c.fragment
 
-  unassembled-slots : AllSlots w (map (chunk_at w) (kept (is_unassembled w s) 0 (length w.slots)))
+  unassembled-slots : AllSlots w (map (chunk_at w) (numbers_where (is_unassembled w s) 0 (length w.slots)))
   unassembled-slots = slots-kept w (is_unassembled w s) 0 (length w.slots) (λ k a b e. (omega arith, more.marks k (Unassembled.unassembled w s k e).datagram_received))
 
   -- what the queue adds up, by whether the message is unordered
@@ -290,7 +290,7 @@ module _ (setup : Setup) (w : World) (p : ℕ) (q : ReassemblyState) (g : Sane s
       let r = set-with w valid n s p g.sender c.made fragment (SlotArrives.not-arrived w p new) (valid.made n p fragment) on (near e) in
       subst (λ b. sum-by (not b) ≤ length (message_at w n).bytes) (sym e) (omega (arith, r, all-bytes w valid n pos))
   bound false e =
-      let r = around w valid n goes more.prefix p (map (chunk_at w) (kept (is_unassembled w s) 0 (length w.slots))) c.made fragment unassembled-slots in
+      let r = around w valid n goes more.prefix p (map (chunk_at w) (numbers_where (is_unassembled w s) 0 (length w.slots))) c.made fragment unassembled-slots in
       subst (λ b. sum-by (not b) ≤ length (message_at w n).bytes) (sym e) (omega (arith, r, all-bytes w valid n pos))
 
   -- a new fragment does not make its message larger than the longest taken

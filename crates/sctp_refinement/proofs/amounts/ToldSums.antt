@@ -2,19 +2,19 @@
 use Rattle.std.proofs.Common.{◌≡◌, ℕ, ◌+◌, ◌<◌, Bool, true, false, List, [], ◌∷◌, length, Option, Some, None, refl, ap, sym, ◌∙◌, arith}
 use Rattle.std.specs.Prelude.{if◌then◌else◌, ◌==◌, ◌&&◌, not, slice_get, slice_index_or}
 use Rattle.std.proofs.lemmas.Bool.Decides.{nat_tests}
-use Rattle.sctp_list_lemmas.specs.Kept.{kept, total_over}
+use Rattle.sctp_list_lemmas.specs.Kept.{numbers_where, total_over}
 use Rattle.sctp_list_lemmas.proofs.Getting.{length-mapped}
 use Rattle.sctp_list_lemmas.proofs.More.{length-changed, changed-keeps, changed-same, changed-other}
 use Rattle.sctp_list_lemmas.proofs.Totals.{total-one, total-where}
 use Rattle.sctp_chunks.specs.declared.chunk.chunk_payload_data.PayloadProtocolIdentifier.{PayloadProtocolIdentifier}
 use Rattle.sctp_model.specs.declared.event.Event.{Event}
 use Rattle.sctp_model.specs.declared.event.Event.TheVariants as E
-use Rattle.sctp_model.specs.World.{Setup, World}
+use Rattle.sctp_model.specs.LinkRecord.{Setup, LinkRecord}
 use Rattle.sctp_model.specs.Messages.{message_at, message_of, place_of, stream_of, no_message, front}
 use Rattle.sctp_model.specs.Receiver.{next_read}
 use Rattle.sctp_model.specs.Changes
-use Rattle.sctp_model.specs.Changes.{message_on, wrote, read_of, read_from, mark_read}
-use Rattle.sctp_model.specs.Steps.{History, world_of, IsRun, after}
+use Rattle.sctp_model.specs.Changes.{message_on, after_write, read_of, after_reading, mark_read}
+use Rattle.sctp_model.specs.Steps.{History, record_of, IsRun, after}
 use Rattle.sctp_model.specs.Laws.{IsSetup}
 use Rattle.sctp_model.proofs.sender.SenderRun.{Sane}
 use Rattle.sctp_model.proofs.sender.Moves
@@ -31,18 +31,18 @@ use Rattle.sctp_refinement.proofs.amounts.StreamAmounts.{count-sent, same-turned
 -- ## What an event leaves
 
 -- the messages of v are those of w, as they were written
-pub record AsTold (w v : World) : Type 0 where
+pub record AsTold (w v : LinkRecord) : Type 0 where
   pub count : length v.messages ≡ length w.messages
   pub stream : (n : ℕ) → n < length w.messages → (message_at v n).stream ≡ (message_at w n).stream
   pub ppi : (n : ℕ) → n < length w.messages → (message_at v n).ppi ≡ (message_at w n).ppi
   pub bytes : (n : ℕ) → n < length w.messages → (message_at v n).bytes ≡ (message_at w n).bytes
 
 -- and the same were read
-pub record AsRead (w v : World) : Type 0 where
+pub record AsRead (w v : LinkRecord) : Type 0 where
   pub told : AsTold w v
   pub read : (n : ℕ) → n < length w.messages → (message_at v n).read ≡ (message_at w n).read
 
-pub read-quiet : (w v : World) → length v.messages ≡ length w.messages → Quiet w v → AsRead w v
+pub read-quiet : (w v : LinkRecord) → length v.messages ≡ length w.messages → Quiet w v → AsRead w v
 read-quiet w v count q = record {
   told = record {
     count = count;
@@ -53,7 +53,7 @@ read-quiet w v count q = record {
   read = q.read;
 }
 
-read-messages : (w v : World) → v.messages ≡ w.messages → AsRead w v
+read-messages : (w v : LinkRecord) → v.messages ≡ w.messages → AsRead w v
 read-messages w v e = record {
   told = record {
     count = ap length e;
@@ -64,15 +64,15 @@ read-messages w v e = record {
   read = λ n lt. ap (λ ms. (slice_index_or ms n no_message).read) e;
 }
 
-count-expired : (w : World) (o : Option ℕ) → length (Changes.expired w o).messages ≡ length w.messages
+count-expired : (w : LinkRecord) (o : Option ℕ) → length (Changes.after_expire w o).messages ≡ length w.messages
 count-expired w None = refl
 count-expired w (Some n) = length-changed Changes.mark_expired n w.messages
 
-count-tail : (w : World) (o : Option ℕ) → length (Changes.tail_abandoned w o).messages ≡ length w.messages
+count-tail : (w : LinkRecord) (o : Option ℕ) → length (Changes.after_tail w o).messages ≡ length w.messages
 count-tail w None = refl
 count-tail w (Some n) = count-abandoned w n
 
-pub read-after : (setup : Setup) (w : World) (e : Event) → Sane setup w → is_write e ≡ false → is_read e ≡ false → AsRead w (after w e)
+pub read-after : (setup : Setup) (w : LinkRecord) (e : Event) → Sane setup w → is_write e ≡ false → is_read e ≡ false → AsRead w (after w e)
 read-after setup w (E.Open s) g a b = read-messages w (after w (E.Open s)) refl
 read-after setup w (E.Mode s u x y) g a b = read-messages w (after w (E.Mode s u x y)) refl
 read-after setup w (E.Write s x y) g a b = cc
@@ -89,7 +89,7 @@ read-after setup w (E.Arrive k) g a b = read-messages w (after w (E.Arrive k)) (
 read-after setup w (E.Acked k) g a b = read-messages w (after w (E.Acked k)) (messages-taken w (slice_get w.network k))
 read-after setup w (E.Read s) g a b = cc
 
-pub told-read_of : (w : World) (s : ℕ) (o : Option ℕ) → AsTold w (read_of w s o)
+pub told-read_of : (w : LinkRecord) (s : ℕ) (o : Option ℕ) → AsTold w (read_of w s o)
 told-read_of w s None = record { count = refl; stream = λ n lt. refl; ppi = λ n lt. refl; bytes = λ n lt. refl }
 told-read_of w s (Some k) = record {
   count = length-changed mark_read k w.messages;
@@ -99,7 +99,7 @@ told-read_of w s (Some k) = record {
 }
 
 -- but for writes, each event leaves the messages as they were written
-pub told-after : (setup : Setup) (w : World) (e : Event) → Sane setup w → is_write e ≡ false → AsTold w (after w e)
+pub told-after : (setup : Setup) (w : LinkRecord) (e : Event) → Sane setup w → is_write e ≡ false → AsTold w (after w e)
 told-after setup w e g a = by (is_read e) refl
   where
     read : (e : Event) → is_read e ≡ true → AsTold w (after w e)
@@ -126,22 +126,22 @@ told-after setup w e g a = by (is_read e) refl
 -- ## Sums
 
 -- a sum over the messages of stream t, of their payload types and bytes
-abbrev pub told_on : World → ℕ → (PayloadProtocolIdentifier → List ℕ → ℕ) → ℕ
+abbrev pub told_on : LinkRecord → ℕ → (PayloadProtocolIdentifier → List ℕ → ℕ) → ℕ
 told_on w t g = sum_where w (is_on t) (λ m. g m.ppi m.bytes)
 
 -- over those that were read
-abbrev pub read_on : World → ℕ → (PayloadProtocolIdentifier → List ℕ → ℕ) → ℕ
+abbrev pub read_on : LinkRecord → ℕ → (PayloadProtocolIdentifier → List ℕ → ℕ) → ℕ
 read_on w t g = sum_where w (is_on t) (λ m. if m.read then g m.ppi m.bytes else 0)
 
-pub told_on-same : (w v : World) (t : ℕ) (g : PayloadProtocolIdentifier → List ℕ → ℕ) → AsTold w v → told_on v t g ≡ told_on w t g
+pub told_on-same : (w v : LinkRecord) (t : ℕ) (g : PayloadProtocolIdentifier → List ℕ → ℕ) → AsTold w v → told_on v t g ≡ told_on w t g
 told_on-same w v t g a = sum-same w v (is_on t) (λ m. g m.ppi m.bytes) a.count (λ n lt. ap (λ k. k == t) (a.stream n lt)) (λ n lt. ap (λ p. g p (message_at v n).bytes) (a.ppi n lt) ∙ ap (g (message_at w n).ppi) (a.bytes n lt))
 
-pub read_on-same : (w v : World) (t : ℕ) (g : PayloadProtocolIdentifier → List ℕ → ℕ) → AsRead w v → read_on v t g ≡ read_on w t g
+pub read_on-same : (w v : LinkRecord) (t : ℕ) (g : PayloadProtocolIdentifier → List ℕ → ℕ) → AsRead w v → read_on v t g ≡ read_on w t g
 read_on-same w v t g a = sum-same w v (is_on t) (λ m. if m.read then g m.ppi m.bytes else 0) a.told.count (λ n lt. ap (λ k. k == t) (a.told.stream n lt))
     (λ n lt. ap (λ p. if (message_at v n).read then g p (message_at v n).bytes else 0) (a.told.ppi n lt) ∙ ap (λ l. if (message_at v n).read then g (message_at w n).ppi l else 0) (a.told.bytes n lt) ∙ ap (λ b. if b then g (message_at w n).ppi (message_at w n).bytes else 0) (a.read n lt))
 
 -- a write adds its message to its stream
-pub told_on-wrote : (w : World) (s t : ℕ) (ppi : PayloadProtocolIdentifier) (bytes : List ℕ) (g : PayloadProtocolIdentifier → List ℕ → ℕ) → (stream_of w s).stream ≡ s → told_on (wrote w s ppi bytes) t g ≡ told_on w t g + (if (t == s) && not (length bytes == 0) then g ppi bytes else 0)
+pub told_on-wrote : (w : LinkRecord) (s t : ℕ) (ppi : PayloadProtocolIdentifier) (bytes : List ℕ) (g : PayloadProtocolIdentifier → List ℕ → ℕ) → (stream_of w s).stream ≡ s → told_on (after_write w s ppi bytes) t g ≡ told_on w t g + (if (t == s) && not (length bytes == 0) then g ppi bytes else 0)
 told_on-wrote w s t ppi [] g e = none (t == s) (told_on w t g)
   where
     none : (b : Bool) (k : ℕ) → k ≡ k + (if b && false then g ppi [] else 0)
@@ -159,7 +159,7 @@ told_on-wrote w s t ppi (b ∷ bs) g e =
     some false false h = refl
 
 -- it was not read yet
-pub read_on-wrote : (w : World) (s t : ℕ) (ppi : PayloadProtocolIdentifier) (bytes : List ℕ) (g : PayloadProtocolIdentifier → List ℕ → ℕ) → read_on (wrote w s ppi bytes) t g ≡ read_on w t g
+pub read_on-wrote : (w : LinkRecord) (s t : ℕ) (ppi : PayloadProtocolIdentifier) (bytes : List ℕ) (g : PayloadProtocolIdentifier → List ℕ → ℕ) → read_on (after_write w s ppi bytes) t g ≡ read_on w t g
 read_on-wrote w s t ppi [] g = refl
 read_on-wrote w s t ppi (b ∷ bs) g = sum-written w (message_on w (stream_of w s) ppi (b ∷ bs)) (is_on t) (λ m. if m.read then g m.ppi m.bytes else 0) ∙ none ((stream_of w s).stream == t)
   where
@@ -168,10 +168,10 @@ read_on-wrote w s t ppi (b ∷ bs) g = sum-written w (message_on w (stream_of w 
     none false = omega arith
 
 -- a read adds the message that it reads
-pub read_on-read : (setup : Setup) (h : History) → IsSetup setup → IsRun setup h → (s t n : ℕ) (g : PayloadProtocolIdentifier → List ℕ → ℕ) → next_read (world_of setup h) s ≡ Some n → read_on (read_from (world_of setup h) s) t g ≡ read_on (world_of setup h) t g + (if t == s then g (message_at (world_of setup h) n).ppi (message_at (world_of setup h) n).bytes else 0)
+pub read_on-read : (setup : Setup) (h : History) → IsSetup setup → IsRun setup h → (s t n : ℕ) (g : PayloadProtocolIdentifier → List ℕ → ℕ) → next_read (record_of setup h) s ≡ Some n → read_on (after_reading (record_of setup h) s) t g ≡ read_on (record_of setup h) t g + (if t == s then g (message_at (record_of setup h) n).ppi (message_at (record_of setup h) n).bytes else 0)
 read_on-read setup h is run s t n g e =
     ap (λ o. read_on (read_of w s o) t g) e
-    ∙ ap (λ c. total_over (value v) (kept (λ k. on v k) 0 c)) (length-changed mark_read n w.messages)
+    ∙ ap (λ c. total_over (value v) (numbers_where (λ k. on v k) 0 c)) (length-changed mark_read n w.messages)
     ∙ total-where (value v) (λ k. on v k) 0 (length w.messages)
     ∙ sym (total-one (λ k. if on w k then value w k else 0) (λ k. if on v k then value v k else 0) n (if t == s then all n else 0) 0 (length w.messages) (omega arith) (omega (arith, r.made))
     (λ k ne. ap (λ m. if m.stream == t then (if m.read then g m.ppi m.bytes else 0) else 0) (sym (changed-other mark_read n k w.messages no_message ne)))
@@ -180,22 +180,22 @@ read_on-read setup h is run s t n g e =
     ∙ sym (ap (λ m. if m.stream == t then (if m.read then g m.ppi m.bytes else 0) else 0) (changed-same mark_read n w.messages no_message r.made) ∙ ap (λ k. if k == t then all n else 0) r.stream)))
     ∙ ap (λ k. k + (if t == s then all n else 0)) (sym (total-where (value w) (λ k. on w k) 0 (length w.messages)))
   where
-    w : World
-    w = world_of setup h
+    w : LinkRecord
+    w = record_of setup h
 
-    v : World
-    v = read_of (world_of setup h) s (Some n)
+    v : LinkRecord
+    v = read_of (record_of setup h) s (Some n)
 
-    on : World → ℕ → Bool
+    on : LinkRecord → ℕ → Bool
     on u k = (message_at u k).stream == t
 
-    value : World → ℕ → ℕ
+    value : LinkRecord → ℕ → ℕ
     value u k = if (message_at u k).read then g (message_at u k).ppi (message_at u k).bytes else 0
 
     all : ℕ → ℕ
-    all k = g (message_at (world_of setup h) k).ppi (message_at (world_of setup h) k).bytes
+    all k = g (message_at (record_of setup h) k).ppi (message_at (record_of setup h) k).bytes
 
-    r : HasRead (view (world_of setup h)) s n
+    r : HasRead (view (record_of setup h)) s n
     r = has-read setup h is run s n e
 
     here : (a b : Bool) → a ≡ b → (if a then 0 else 0) + (if b then all n else 0) ≡ (if a then all n else 0)

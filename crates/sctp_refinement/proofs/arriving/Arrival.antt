@@ -4,8 +4,8 @@ use Rattle.std.specs.Prelude.{◌⊎◌, if◌then◌else◌, ◌==◌, ◌&&◌
 use Rattle.std.proofs.lemmas.Bool.{cases_lt}
 use Rattle.std.proofs.lemmas.Bool.Decides.{nat_tests}
 use Rattle.std.proofs.lemmas.Grind.{common_steps}
-use Rattle.sctp_list_lemmas.specs.Kept.{kept}
-use Rattle.sctp_list_lemmas.specs.Lists.{changed, inserted}
+use Rattle.sctp_list_lemmas.specs.Kept.{numbers_where}
+use Rattle.sctp_list_lemmas.specs.Lists.{change_at, insert_before}
 use Rattle.sctp_chunks.specs.ChunkSet.{ChunkSet}
 use Rattle.sctp_reassembly.specs.reassembly_queue.Fragments.{is_complete}
 use Rattle.sctp_serial.specs.DataChunks.{chunk_before}
@@ -14,48 +14,48 @@ use Rattle.sctp_refinement.specs.Holds.{has_come, chunks_come}
 use Rattle.sctp_model.specs.Queues.{set_of}
 use Rattle.sctp_list_lemmas.proofs.Passing.{kept-same, kept-skip, map-kept-same, map-kept-inserted}
 use Rattle.sctp_list_lemmas.proofs.Round.{comes_before-tsn}
-use Rattle.sctp_model.specs.World.{World}
+use Rattle.sctp_model.specs.LinkRecord.{LinkRecord}
 use Rattle.sctp_model.specs.Messages.{message_at, slot_at, message_of, stream_of, no_slot, is_ordered_on, index_of, fragment_count, has_fragment}
-use Rattle.sctp_model.specs.Receiver.{arrived_at, arrived_of, has_arrived, is_whole, is_unread, is_held}
+use Rattle.sctp_model.specs.Receiver.{arrived_at, arrived_of, has_arrived, is_complete_message, is_unread, is_held}
 use Rattle.sctp_model.specs.Changes.{mark_arrived}
 use Rattle.sctp_model.specs.Valid.{IsLaid, Valid}
 use Rattle.sctp_list_lemmas.proofs.More.{fails, not_both, both, same_test, length-changed, changed-same, changed-other, changed-keeps, kept-short, length-kept-one_more}
 use Rattle.sctp_refinement.proofs.arriving.Complete.{IsMessage, complete-kept}
 
-abbrev pub with_arrived : World → ℕ → World
-with_arrived w p = record w { slots = changed mark_arrived p w.slots }
+abbrev pub with_arrived : LinkRecord → ℕ → LinkRecord
+with_arrived w p = record w { slots = change_at mark_arrived p w.slots }
 
 -- ## A slot of a message
 
-pub IsOf : World → ℕ → ℕ → Type 0
+pub IsOf : LinkRecord → ℕ → ℕ → Type 0
 IsOf w n p = message_of w p ≡ n
 
-pub of_message : (w : World) (n p : ℕ) → has_fragment w n p ≡ true → message_of w p ≡ n
+pub of_message : (w : LinkRecord) (n p : ℕ) → has_fragment w n p ≡ true → message_of w p ≡ n
 of_message w n p e = let h : (message_of w p == n) ≡ true = (both (message_of w p == n) (not (slot_at w p).is_terminal_chunk) e).0 in grind (arith, nat_tests)
 
-pub has-fragment : (w : World) (p : ℕ) → (slot_at w p).is_terminal_chunk ≡ false → has_fragment w (message_of w p) p ≡ true
+pub has-fragment : (w : LinkRecord) (p : ℕ) → (slot_at w p).is_terminal_chunk ≡ false → has_fragment w (message_of w p) p ≡ true
 has-fragment w p e = rw e (grind (arith, nat_tests))
 
-pub no-fragment : (w : World) (n p : ℕ) → (message_of w p ≡ n → ⊥) → has_fragment w n p ≡ false
+pub no-fragment : (w : LinkRecord) (n p : ℕ) → (message_of w p ≡ n → ⊥) → has_fragment w n p ≡ false
 no-fragment w n p ne = fails (has_fragment w n p) (λ e. ne (of_message w n p e))
 
 -- past the slots there is none
-pub beyond : (w : World) (n p : ℕ) → length w.slots ≤ p → has_fragment w n p ≡ false
+pub beyond : (w : LinkRecord) (n p : ℕ) → length w.slots ≤ p → has_fragment w n p ≡ false
 beyond w n p le = let e : slot_at w p ≡ no_slot = grind (arith, common_steps) in rw e (grind (arith, common_steps))
 
-pub come : (w : World) (n p : ℕ) → has_come w n p ≡ true → (has_fragment w n p ≡ true) × (arrived_at w p ≡ true)
+pub come : (w : LinkRecord) (n p : ℕ) → has_come w n p ≡ true → (has_fragment w n p ≡ true) × (arrived_at w p ≡ true)
 come w n p e = both (has_fragment w n p) (arrived_at w p) e
 
--- ## A set is complete where its message is whole
+-- ## A set is complete where its message is complete
 
-pub kept-window : (p : ℕ → Bool) (all base count : ℕ) → ((k : ℕ) → p k ≡ true → (base ≤ k) × (k < base + count) × (k < all)) → kept p 0 all ≡ kept p base count
+pub kept-window : (p : ℕ → Bool) (all base count : ℕ) → ((k : ℕ) → p k ≡ true → (base ≤ k) × (k < base + count) × (k < all)) → numbers_where p 0 all ≡ numbers_where p base count
 kept-window p all base count inside =
     let total = all + (base + count) in
     sym (kept-short p 0 all (base + count) total refl (λ k a b. fails (p k) (λ e. absurd (omega (arith, (inside k e).2)))))
     ∙ kept-skip p 0 total base (omega arith) (omega arith) (λ k a b. fails (p k) (λ e. absurd (omega (arith, (inside k e).0))))
     ∙ kept-short p base count all (0 + total - base) (omega arith) (λ k a b. fails (p k) (λ e. absurd (omega (arith, (inside k e).1))))
 
-pub is_message : (w : World) (n base : ℕ) → Valid w → n < length w.messages → IsLaid w n base → IsMessage w.setup.first (chunk_at w) (has_come w n) base (fragment_count w n)
+pub is_message : (w : LinkRecord) (n base : ℕ) → Valid w → n < length w.messages → IsLaid w n base → IsMessage w.setup.first (chunk_at w) (has_come w n) base (fragment_count w n)
 is_message w n base valid lt laid = record {
   some = valid.some n lt;
   short = omega (arith, valid.short n lt);
@@ -64,15 +64,15 @@ is_message w n base valid lt laid = record {
   ends = λ k a b e. let at = laid.at k (come w n k e).0 in rw (of_message w n k (come w n k e).0) (same_test ((slot_at w k).fragment + 1 == fragment_count w n) (k + 1 == base + fragment_count w n) (λ h. grind (arith, nat_tests)) (λ h. grind (arith, nat_tests)));
 }
 
-pub window : (w : World) (n base : ℕ) → IsLaid w n base → kept (has_come w n) 0 (length w.slots) ≡ kept (has_come w n) base (fragment_count w n)
+pub window : (w : LinkRecord) (n base : ℕ) → IsLaid w n base → numbers_where (has_come w n) 0 (length w.slots) ≡ numbers_where (has_come w n) base (fragment_count w n)
 window w n base laid = kept-window (has_come w n) (length w.slots) base (fragment_count w n) (λ k e. let h = (come w n k e).0 in (omega (arith, laid.at k h), omega (arith, laid.at k h, laid.within k h), made k h (cases_lt k (length w.slots))))
   where
     made : (k : ℕ) → has_fragment w n k ≡ true → (k < length w.slots) ⊎ (length w.slots ≤ k) → k < length w.slots
     made k h (inl l) = l
     made k h (inr g) = absurd (not_both (sym (beyond w n k g) ∙ h))
 
-pub complete_is_whole : (w : World) (n : ℕ) → Valid w → n < length w.messages → is_complete (chunks_come w n) ≡ has_arrived w n
-complete_is_whole w n valid lt =
+pub set_is_complete : (w : LinkRecord) (n : ℕ) → Valid w → n < length w.messages → is_complete (chunks_come w n) ≡ has_arrived w n
+set_is_complete w n valid lt =
     let laid = valid.laid n in
     let l = window w n laid.0 laid.1 in
     ap (λ ks. is_complete (map (chunk_at w) ks)) l
@@ -81,35 +81,35 @@ complete_is_whole w n valid lt =
 
 -- ## An arrival: what stays
 
-pub count-arrived : (w : World) (p : ℕ) → length (with_arrived w p).slots ≡ length w.slots
+pub count-arrived : (w : LinkRecord) (p : ℕ) → length (with_arrived w p).slots ≡ length w.slots
 count-arrived w p = length-changed mark_arrived p w.slots
 
-pub message_of-arrived : (w : World) (p k : ℕ) → message_of (with_arrived w p) k ≡ message_of w k
+pub message_of-arrived : (w : LinkRecord) (p k : ℕ) → message_of (with_arrived w p) k ≡ message_of w k
 message_of-arrived w p k = changed-keeps mark_arrived (λ x. x.message) (λ x. refl) p k w.slots no_slot
 
-pub fragment-arrived : (w : World) (p k : ℕ) → (slot_at (with_arrived w p) k).fragment ≡ (slot_at w k).fragment
+pub fragment-arrived : (w : LinkRecord) (p k : ℕ) → (slot_at (with_arrived w p) k).fragment ≡ (slot_at w k).fragment
 fragment-arrived w p k = changed-keeps mark_arrived (λ x. x.fragment) (λ x. refl) p k w.slots no_slot
 
-pub mark-arrived : (w : World) (p k : ℕ) → (slot_at (with_arrived w p) k).is_terminal_chunk ≡ (slot_at w k).is_terminal_chunk
+pub mark-arrived : (w : LinkRecord) (p k : ℕ) → (slot_at (with_arrived w p) k).is_terminal_chunk ≡ (slot_at w k).is_terminal_chunk
 mark-arrived w p k = changed-keeps mark_arrived (λ x. x.is_terminal_chunk) (λ x. refl) p k w.slots no_slot
 
-pub arrived-here : (w : World) (p : ℕ) → p < length w.slots → arrived_at (with_arrived w p) p ≡ true
+pub arrived-here : (w : LinkRecord) (p : ℕ) → p < length w.slots → arrived_at (with_arrived w p) p ≡ true
 arrived-here w p lt = ap (λ x. x.arrived) (changed-same mark_arrived p w.slots no_slot lt)
 
-pub arrived-other : (w : World) (p k : ℕ) → (k ≡ p → ⊥) → arrived_at (with_arrived w p) k ≡ arrived_at w k
+pub arrived-other : (w : LinkRecord) (p k : ℕ) → (k ≡ p → ⊥) → arrived_at (with_arrived w p) k ≡ arrived_at w k
 arrived-other w p k ne = ap (λ x. x.arrived) (changed-other mark_arrived p k w.slots no_slot ne)
 
-pub chunk_at-arrived : (w : World) (p k : ℕ) → chunk_at (with_arrived w p) k ≡ chunk_at w k
+pub chunk_at-arrived : (w : LinkRecord) (p k : ℕ) → chunk_at (with_arrived w p) k ≡ chunk_at w k
 chunk_at-arrived w p k = rw (message_of-arrived w p k, fragment-arrived w p k) refl
 
-pub has_fragment-arrived : (w : World) (p n k : ℕ) → has_fragment (with_arrived w p) n k ≡ has_fragment w n k
+pub has_fragment-arrived : (w : LinkRecord) (p n k : ℕ) → has_fragment (with_arrived w p) n k ≡ has_fragment w n k
 has_fragment-arrived w p n k = rw (message_of-arrived w p k, mark-arrived w p k) refl
 
-pub has_come-other : (w : World) (p n k : ℕ) → (k ≡ p → ⊥) → has_come (with_arrived w p) n k ≡ has_come w n k
+pub has_come-other : (w : LinkRecord) (p n k : ℕ) → (k ≡ p → ⊥) → has_come (with_arrived w p) n k ≡ has_come w n k
 has_come-other w p n k ne = rw (has_fragment-arrived w p n k, arrived-other w p k ne) refl
 
 -- a slot of another message
-pub has_come-elsewhere : (w : World) (p n k : ℕ) → (message_of w p ≡ n → ⊥) → has_come (with_arrived w p) n k ≡ has_come w n k
+pub has_come-elsewhere : (w : LinkRecord) (p n k : ℕ) → (message_of w p ≡ n → ⊥) → has_come (with_arrived w p) n k ≡ has_come w n k
 has_come-elsewhere w p n k ne = step (cases_lt k p) (cases_lt p k)
   where
     step : (k < p) ⊎ (p ≤ k) → (p < k) ⊎ (k ≤ p) → has_come (with_arrived w p) n k ≡ has_come w n k
@@ -122,28 +122,28 @@ has_come-elsewhere w p n k ne = step (cases_lt k p) (cases_lt p k)
 
 -- ## An arrival: the sets
 
-pub kept_come-elsewhere : (w : World) (p n : ℕ) → (message_of w p ≡ n → ⊥) → kept (has_come (with_arrived w p) n) 0 (length (with_arrived w p).slots) ≡ kept (has_come w n) 0 (length w.slots)
+pub kept_come-elsewhere : (w : LinkRecord) (p n : ℕ) → (message_of w p ≡ n → ⊥) → numbers_where (has_come (with_arrived w p) n) 0 (length (with_arrived w p).slots) ≡ numbers_where (has_come w n) 0 (length w.slots)
 kept_come-elsewhere w p n ne =
-    ap (kept (has_come (with_arrived w p) n) 0) (count-arrived w p)
+    ap (numbers_where (has_come (with_arrived w p) n) 0) (count-arrived w p)
     ∙ kept-same (has_come (with_arrived w p) n) (has_come w n) 0 (length w.slots) (λ k a b. has_come-elsewhere w p n k ne)
 
-pub set_of-elsewhere : (w : World) (p n : ℕ) → (message_of w p ≡ n → ⊥) → set_of (with_arrived w p) n ≡ set_of w n
+pub set_of-elsewhere : (w : LinkRecord) (p n : ℕ) → (message_of w p ≡ n → ⊥) → set_of (with_arrived w p) n ≡ set_of w n
 set_of-elsewhere w p n ne =
     let chunks : chunks_come (with_arrived w p) n ≡ chunks_come w n =
-    ap (λ c. map (chunk_at (with_arrived w p)) (kept (has_come (with_arrived w p) n) 0 c)) (count-arrived w p)
+    ap (λ c. map (chunk_at (with_arrived w p)) (numbers_where (has_come (with_arrived w p) n) 0 c)) (count-arrived w p)
     ∙ map-kept-same (chunk_at (with_arrived w p)) (chunk_at w) (has_come (with_arrived w p) n) (has_come w n) 0 (length w.slots) (λ k a b. has_come-elsewhere w p n k ne) (λ k a b e. chunk_at-arrived w p k) in
     ap (λ c. let x : ChunkSet = record { ssn = (set_of w n).ssn; ppi = (set_of w n).ppi; chunks = c } in x) chunks
 
 -- the place of a chunk among those of its list, whatever the list
-pub order_of : (w : World) (p k : ℕ) → length w.slots < 2 ^ 31 → p < length w.slots → k < length w.slots → (k ≡ p → ⊥) → chunk_before (chunk_at w p) (chunk_at w k) ≡ nat_lt p k
+pub order_of : (w : LinkRecord) (p k : ℕ) → length w.slots < 2 ^ 31 → p < length w.slots → k < length w.slots → (k ≡ p → ⊥) → chunk_before (chunk_at w p) (chunk_at w k) ≡ nat_lt p k
 order_of w p k few lt lk ne = comes_before-tsn w.setup.first p k (omega arith) (omega arith) (λ e. ne (sym e))
 
-pub chunks_come-here : (w : World) (p : ℕ) → length w.slots < 2 ^ 31 → p < length w.slots → arrived_at w p ≡ false → (slot_at w p).is_terminal_chunk ≡ false → chunks_come (with_arrived w p) (message_of w p) ≡ inserted chunk_before (chunk_at w p) (chunks_come w (message_of w p))
+pub chunks_come-here : (w : LinkRecord) (p : ℕ) → length w.slots < 2 ^ 31 → p < length w.slots → arrived_at w p ≡ false → (slot_at w p).is_terminal_chunk ≡ false → chunks_come (with_arrived w p) (message_of w p) ≡ insert_before chunk_before (chunk_at w p) (chunks_come w (message_of w p))
 chunks_come-here w p few lt new fragment =
     let n = message_of w p in
     let out : has_come w n p ≡ false = rw new (grind (arith, common_steps)) in
     let in' : has_come (with_arrived w p) n p ≡ true = rw (has_fragment-arrived w p n p, arrived-here w p lt, has-fragment w p fragment) refl in
-    ap (λ c. map (chunk_at (with_arrived w p)) (kept (has_come (with_arrived w p) n) 0 c)) (count-arrived w p)
+    ap (λ c. map (chunk_at (with_arrived w p)) (numbers_where (has_come (with_arrived w p) n) 0 c)) (count-arrived w p)
     ∙ map-kept-same (chunk_at (with_arrived w p)) (chunk_at w) (has_come (with_arrived w p) n) (has_come (with_arrived w p) n) 0 (length w.slots) (λ k a b. refl) (λ k a b e. chunk_at-arrived w p k)
     ∙ map-kept-inserted (chunk_at w) chunk_before (has_come w n) (has_come (with_arrived w p) n) p 0 (length w.slots) out in' (omega arith) (omega arith)
     (λ k a b ne. sym (has_come-other w p n k ne))
@@ -151,21 +151,21 @@ chunks_come-here w p few lt new fragment =
 
 -- ## An arrival: what is held
 
-pub arrived_of-elsewhere : (w : World) (p n : ℕ) → (message_of w p ≡ n → ⊥) → arrived_of (with_arrived w p) n ≡ arrived_of w n
+pub arrived_of-elsewhere : (w : LinkRecord) (p n : ℕ) → (message_of w p ≡ n → ⊥) → arrived_of (with_arrived w p) n ≡ arrived_of w n
 arrived_of-elsewhere w p n ne = ap length (kept_come-elsewhere w p n ne)
 
-pub arrived_of-here : (w : World) (p : ℕ) → p < length w.slots → arrived_at w p ≡ false → (slot_at w p).is_terminal_chunk ≡ false → arrived_of (with_arrived w p) (message_of w p) ≡ arrived_of w (message_of w p) + 1
+pub arrived_of-here : (w : LinkRecord) (p : ℕ) → p < length w.slots → arrived_at w p ≡ false → (slot_at w p).is_terminal_chunk ≡ false → arrived_of (with_arrived w p) (message_of w p) ≡ arrived_of w (message_of w p) + 1
 arrived_of-here w p lt new fragment =
     let n = message_of w p in
     let out : has_come w n p ≡ false = rw new (grind (arith, common_steps)) in
     let in' : has_come (with_arrived w p) n p ≡ true = rw (has_fragment-arrived w p n p, arrived-here w p lt, has-fragment w p fragment) refl in
-    ap (λ c. length (kept (has_come (with_arrived w p) n) 0 c)) (count-arrived w p)
+    ap (λ c. length (numbers_where (has_come (with_arrived w p) n) 0 c)) (count-arrived w p)
     ∙ length-kept-one_more (has_come w n) (has_come (with_arrived w p) n) p 0 (length w.slots) out in' (omega arith) (omega arith) (λ k a b ne. sym (has_come-other w p n k ne))
 
 -- what is held, by the count of its arrived fragments
-abbrev pub held_with : World → ℕ → ℕ → ℕ → Bool
+abbrev pub held_with : LinkRecord → ℕ → ℕ → ℕ → Bool
 held_with w s n a =
-    is_ordered_on w s n && (is_unread w n && (nat_lt 0 a && ((if (message_at w n).ordered then a == fragment_count w n else is_whole w n) || nat_le (stream_of w s).named (index_of w n))))
+    is_ordered_on w s n && (is_unread w n && (nat_lt 0 a && ((if (message_at w n).ordered then a == fragment_count w n else is_complete_message w n) || nat_le (stream_of w s).named (index_of w n))))
 
-pub is_held-elsewhere : (w : World) (p s n : ℕ) → (message_of w p ≡ n → ⊥) → is_held (with_arrived w p) s n ≡ is_held w s n
+pub is_held-elsewhere : (w : LinkRecord) (p s n : ℕ) → (message_of w p ≡ n → ⊥) → is_held (with_arrived w p) s n ≡ is_held w s n
 is_held-elsewhere w p s n ne = rw (arrived_of-elsewhere w p n ne) refl

@@ -2,27 +2,27 @@
 use Rattle.std.proofs.Common.{◌≡◌, ℕ, ◌<◌, Bool, true, false, [], ◌∷◌, ◌++◌, length, Option, Some, None, refl, arith}
 use Rattle.std.specs.Prelude.{if◌then◌else◌, is_some}
 use Rattle.sctp_list_lemmas.proofs.More.{fails, length-kept-positive}
-use Rattle.sctp_model.specs.World.{Setup, World, StreamRecord}
+use Rattle.sctp_model.specs.LinkRecord.{Setup, LinkRecord, StreamRecord}
 use Rattle.sctp_model.specs.Messages.{message_at, slot_at, message_of, stream_at, has_fragment}
 use Rattle.sctp_model.specs.Receiver.{is_new}
-use Rattle.sctp_model.specs.Changes.{stream_changed, with_whole, becomes_whole, slot_received}
+use Rattle.sctp_model.specs.Changes.{stream_changed, with_complete, becomes_complete, receive_slot}
 use Rattle.sctp_model.proofs.sender.Shape.{shape, sent}
 use Rattle.sctp_model.proofs.sender.SenderRun.{Sane}
 use Rattle.sctp_refinement.proofs.arriving.Arrival
 use Rattle.sctp_refinement.proofs.arriving.Arrival.{with_arrived}
 use Rattle.sctp_refinement.proofs.arriving.SlotArrives.{Enters}
 
-pub record Carried (w : World) (p : ℕ) : Type 0 where
+pub record Carried (w : LinkRecord) (p : ℕ) : Type 0 where
   pub made : p < length w.slots
   pub fragment : (slot_at w p).is_terminal_chunk ≡ false
   pub alive : (message_at w (message_of w p)).expired ≡ false
   pub known : (r : StreamRecord) × (stream_at w (message_at w (message_of w p)).stream ≡ Some r)
 
-pub enters : (w : World) (p : ℕ) → Carried w p → is_new w p ≡ true → Enters w (message_at w (message_of w p)).stream p
+pub enters : (w : LinkRecord) (p : ℕ) → Carried w p → is_new w p ≡ true → Enters w (message_at w (message_of w p)).stream p
 enters w p c e = record { made = c.made; new = e; fragment = c.fragment; stream = refl; alive = c.alive }
 
 -- each slot that has a fragment is such a one
-pub carried : (setup : Setup) (w : World) (p : ℕ) → Sane setup w → p < length w.slots → (slot_at w p).is_terminal_chunk ≡ false → Carried w p
+pub carried : (setup : Setup) (w : LinkRecord) (p : ℕ) → Sane setup w → p < length w.slots → (slot_at w p).is_terminal_chunk ≡ false → Carried w p
 carried setup w p g lt mark = record {
   made = lt;
   fragment = mark;
@@ -37,14 +37,14 @@ carried setup w p g lt mark = record {
     some-of None e h = cc
     some-of (Some r) e h = (r, e)
 
--- the record after a new one, by whether its message becomes whole
-abbrev pub noted : World → ℕ → Bool → World
-noted w p b = if b then stream_changed (with_arrived w p) (message_at w (message_of w p)).stream (with_whole (message_of w p)) else with_arrived w p
+-- the record after a new one, by whether its message becomes complete
+abbrev pub noted : LinkRecord → ℕ → Bool → LinkRecord
+noted w p b = if b then stream_changed (with_arrived w p) (message_at w (message_of w p)).stream (with_complete (message_of w p)) else with_arrived w p
 
 -- P of the record after a slot, from P of the forms that it may have
-pub by_step : (P : World → Type 0) (w : World) (p : ℕ) → P (record w { duplicates = w.duplicates ++ p ∷ [] }) → (is_new w p ≡ true → (b : Bool) → becomes_whole (with_arrived w p) (message_of w p) ≡ b → P (noted w p b)) → P (slot_received w p)
+pub by_step : (P : LinkRecord → Type 0) (w : LinkRecord) (p : ℕ) → P (record w { duplicates = w.duplicates ++ p ∷ [] }) → (is_new w p ≡ true → (b : Bool) → becomes_complete (with_arrived w p) (message_of w p) ≡ b → P (noted w p b)) → P (receive_slot w p)
 by_step P w p again new = step (is_new w p) refl
   where
-    step : (b : Bool) → is_new w p ≡ b → P (if b then noted w p (becomes_whole (with_arrived w p) (message_of w p)) else record w { duplicates = w.duplicates ++ p ∷ [] })
-    step true e = new e (becomes_whole (with_arrived w p) (message_of w p)) refl
+    step : (b : Bool) → is_new w p ≡ b → P (if b then noted w p (becomes_complete (with_arrived w p) (message_of w p)) else record w { duplicates = w.duplicates ++ p ∷ [] })
+    step true e = new e (becomes_complete (with_arrived w p) (message_of w p)) refl
     step false e = again

@@ -3,20 +3,21 @@ use Rattle.std.proofs.Common.{◌≡◌, ℕ, ◌+◌, ◌-◌, ◌<◌, ◌≤�
 use Rattle.std.specs.Prelude.{◌⊎◌, nat_lt, nat_le, not, ◌&&◌}
 use Rattle.std.proofs.lemmas.Bool.{cases_lt, lt-ltb, le-ltb}
 use Rattle.std.proofs.lemmas.Bool.Decides.{nat_tests}
-use Rattle.sctp_list_lemmas.specs.Kept.{kept, unbroken}
-use Rattle.sctp_list_lemmas.specs.Lists.{inserted, advanced, Seen}
+use Rattle.std.specs.List.{filter}
+use Rattle.sctp_list_lemmas.specs.Kept.{numbers_where, unbroken}
+use Rattle.sctp_list_lemmas.specs.Lists.{insert_before, advance_over, Seen}
 use Rattle.sctp_refinement.specs.Holds.{seen_of}
 use Rattle.sctp_list_lemmas.specs.Serial.{comes_before, at_or_before}
-use Rattle.sctp_list_lemmas.proofs.Passing.{unbroken-passes, unbroken-on, unbroken-le, map-kept-inserted, IsRound, advanced-kept, kept-same, kept-skip}
+use Rattle.sctp_list_lemmas.proofs.Passing.{unbroken-passes, unbroken-on, map-kept-inserted, IsRound, advanced-kept, kept-same, kept-skip}
 use Rattle.sctp_list_lemmas.proofs.Round.{tsn_differ, tsn_same, comes_before-tsn, tsn}
-use Rattle.sctp_model.specs.World.{World}
+use Rattle.sctp_model.specs.LinkRecord.{LinkRecord}
 use Rattle.sctp_model.specs.Messages.{tsn_of}
 use Rattle.sctp_model.specs.Receiver.{arrived_at, cumulative}
-use Rattle.sctp_list_lemmas.specs.Lists.{those}
 use Rattle.sctp_list_lemmas.proofs.More.{those-kept}
 use Rattle.sctp_list_lemmas.proofs.Wraps.{at_or_before-tsn}
 use Rattle.sctp_refinement.proofs.arriving.Arrival
 use Rattle.sctp_refinement.proofs.arriving.Arrival.{with_arrived}
+use Rattle.sctp_model.proofs.receiver.Arrivals.{cumulative-le}
 
 ap2 : {A B C : Type 0} (f : A → B → C) {x y : A} {u v : B} → x ≡ y → u ≡ v → f x u ≡ f y v
 ap2 f e h = rw (e, h) refl
@@ -33,19 +34,16 @@ is_round first low high short = record {
   same = λ k. tsn_same first k;
 }
 
-abbrev seen_with : World → ℕ → ℕ → Seen
-seen_with w c count = record { cum = tsn_before w.setup.first c; held = map (tsn w.setup.first) (kept (arrived_at w) c count) }
-
-pub cumulative-le : (w : World) → w.skipped ≤ length w.slots → cumulative w ≤ length w.slots
-cumulative-le w made = omega (arith, unbroken-le (arrived_at w) w.skipped (length w.slots - w.skipped))
+abbrev seen_with : LinkRecord → ℕ → ℕ → Seen
+seen_with w c count = record { cum = tsn_before w.setup.first c; held = map (tsn w.setup.first) (numbers_where (arrived_at w) c count) }
 
 -- the cumulative count, from any count on up to which all arrived or are skipped
-pub cumulative-from : (w : World) (c : ℕ) → w.skipped ≤ c → c ≤ length w.slots → ((k : ℕ) → w.skipped ≤ k → k < c → arrived_at w k ≡ true) → cumulative w ≡ c + unbroken (arrived_at w) c (length w.slots - c)
+pub cumulative-from : (w : LinkRecord) (c : ℕ) → w.skipped ≤ c → c ≤ length w.slots → ((k : ℕ) → w.skipped ≤ k → k < c → arrived_at w k ≡ true) → cumulative w ≡ c + unbroken (arrived_at w) c (length w.slots - c)
 cumulative-from w c low high datagram_received =
     let e = unbroken-on (arrived_at w) w.skipped (c - w.skipped) (length w.slots - c) (length w.slots - w.skipped) c (omega arith) (omega arith) datagram_received in
     omega (arith, e)
 
-pub filter-arrived : (w : World) (p : ℕ) → w.skipped ≤ length w.slots → length w.slots < 2 ^ 31 → p < length w.slots → cumulative w ≤ p → arrived_at w p ≡ false → seen_of (with_arrived w p) ≡ advanced (seen_of w).cum (inserted comes_before (tsn_of w p) (seen_of w).held)
+pub filter-arrived : (w : LinkRecord) (p : ℕ) → w.skipped ≤ length w.slots → length w.slots < 2 ^ 31 → p < length w.slots → cumulative w ≤ p → arrived_at w p ≡ false → seen_of (with_arrived w p) ≡ advance_over (seen_of w).cum (insert_before comes_before (tsn_of w p) (seen_of w).held)
 filter-arrived w p made short lt small new =
     let after = with_arrived w p in
     let c = cumulative w in
@@ -61,15 +59,15 @@ filter-arrived w p made short lt small new =
     (λ k a b. Arrival.arrived-other w p k (λ e. omega arith) ∙ unbroken-passes (arrived_at w) w.skipped (length w.slots - w.skipped) k a (omega arith)) in
     let cum' : cumulative after ≡ c + u = front ∙ ap (λ l. c + unbroken (arrived_at after) c (l - c)) (Arrival.count-arrived w p) in
     let count' : length after.slots - cumulative after ≡ count - u = omega (arith, Arrival.count-arrived w p, cum') in
-    ap2 (seen_with after) cum' count' ∙ sym moved ∙ ap (advanced (tsn_before w.setup.first c)) put
+    ap2 (seen_with after) cum' count' ∙ sym moved ∙ ap (advance_over (tsn_before w.setup.first c)) put
 
 -- ## A skip
 
-abbrev pub skipped_to : World → ℕ → World
+abbrev pub skipped_to : LinkRecord → ℕ → LinkRecord
 skipped_to w upto = record w { skipped = upto + 1 }
 
 -- what is held past the slot stays, and the filter moves on from there
-pub filter-skipped : (w : World) (upto : ℕ) → length w.slots < 2 ^ 31 → upto < length w.slots → cumulative w ≤ upto → seen_of (skipped_to w upto) ≡ advanced (tsn_of w upto) (those (λ t. not (at_or_before t (tsn_of w upto))) (seen_of w).held)
+pub filter-skipped : (w : LinkRecord) (upto : ℕ) → length w.slots < 2 ^ 31 → upto < length w.slots → cumulative w ≤ upto → seen_of (skipped_to w upto) ≡ advance_over (tsn_of w upto) (filter (λ t. not (at_or_before t (tsn_of w upto))) (seen_of w).held)
 filter-skipped w upto short lt counts =
     let after = skipped_to w upto in
     let f = tsn w.setup.first in
@@ -82,13 +80,13 @@ filter-skipped w upto short lt counts =
     let count' : length w.slots - cumulative after ≡ count - u = omega arith in
     let start : tsn_before w.setup.first from ≡ f upto = omega arith in
     let past : ℕ → Bool = λ k. nat_lt upto k && arrived_at w k in
-    let stay : map f (kept past c (length w.slots - c)) ≡ those (λ t. not (at_or_before t (f upto))) (map f (kept (arrived_at w) c (length w.slots - c))) =
+    let stay : map f (numbers_where past c (length w.slots - c)) ≡ filter (λ t. not (at_or_before t (f upto))) (map f (numbers_where (arrived_at w) c (length w.slots - c))) =
     those-kept (λ t. not (at_or_before t (f upto))) f f (arrived_at w) past c (length w.slots - c)
     (λ k a b. after_it k (omega arith) (cases_lt upto k)) (λ k a b e. refl) in
-    let cut : kept past c (length w.slots - c) ≡ kept past from (c + (length w.slots - c) - from) = kept-skip past c (length w.slots - c) from (omega arith) (omega arith) (λ j a b. low j (omega arith)) in
+    let cut : numbers_where past c (length w.slots - c) ≡ numbers_where past from (c + (length w.slots - c) - from) = kept-skip past c (length w.slots - c) from (omega arith) (omega arith) (λ j a b. low j (omega arith)) in
     let size : c + (length w.slots - c) - from ≡ count = omega arith in
-    let same : kept past from count ≡ kept (arrived_at w) from count = kept-same past (arrived_at w) from count (λ k a b. high k (omega arith)) in
-    ap2 (seen_with after) cum' count' ∙ sym moved ∙ ap2 advanced start (ap (map f) (sym (cut ∙ ap (kept past from) size ∙ same)) ∙ stay)
+    let same : numbers_where past from count ≡ numbers_where (arrived_at w) from count = kept-same past (arrived_at w) from count (λ k a b. high k (omega arith)) in
+    ap2 (seen_with after) cum' count' ∙ sym moved ∙ ap2 advance_over start (ap (map f) (sym (cut ∙ ap (numbers_where past from) size ∙ same)) ∙ stay)
   where
     after_it : (k : ℕ) → k < length w.slots → (upto < k) ⊎ (k ≤ upto) → (nat_lt upto k && arrived_at w k) ≡ (arrived_at w k && not (at_or_before (tsn w.setup.first k) (tsn w.setup.first upto)))
     after_it k b (inl l) = rw (lt-ltb upto k l, at_or_before-tsn w.setup.first k upto (omega arith) (omega arith)) (last (arrived_at w k))

@@ -1,75 +1,65 @@
 -- The queue that filters TSNs, against the record: what it tells new, where it puts it, and how its front moves.
 use Rattle.std.proofs.Common.{◌≡◌, ℕ, zero, suc, ◌+◌, ◌-◌, ◌<◌, ◌≤◌, ◌%◌, ◌^◌, Bool, true, false, List, [], ◌∷◌, length, map, Some, None, refl, ap, sym, ◌∙◌, inl, inr, arith}
-use Rattle.std.specs.Prelude.{◌⊎◌, if◌then◌else◌, ◌==◌, ◌&&◌, ◌||◌, not, nat_le, nat_lt, find, is_some, slice_index_or, min}
-use Rattle.std.specs.List.{list_any}
+use Rattle.std.specs.Prelude.{◌⊎◌, if◌then◌else◌, ◌==◌, ◌&&◌, not, nat_le, nat_lt, slice_index_or, min}
+use Rattle.std.specs.List.{list_any, filter}
 use Rattle.std.proofs.lemmas.Bool.{cases_lt}
 use Rattle.std.proofs.lemmas.Bool.Decides.{nat_tests}
 use Rattle.std.proofs.lemmas.List.{get_or-map}
 use Rattle.sctp_list_lemmas.proofs.Getting.{length-mapped}
-use Rattle.sctp_list_lemmas.specs.Kept.{kept}
-use Rattle.sctp_list_lemmas.specs.Lists.{inserted, those, advanced, Seen}
+use Rattle.sctp_list_lemmas.specs.Kept.{numbers_where}
+use Rattle.sctp_list_lemmas.specs.Lists.{insert_before, advance_over, Seen}
 use Rattle.sctp_list_lemmas.specs.Serial.{distance, comes_before, at_or_before}
 use Rattle.sctp_list_lemmas.proofs.Passing.{any-kept, kept-same}
 use Rattle.sctp_list_lemmas.proofs.More.{fails, not_both, kept-short, those-kept}
 use Rattle.sctp_list_lemmas.proofs.Round.{tsn, tsn_differ, tsn_same}
 use Rattle.sctp_chunks.specs.declared.chunk.chunk_payload_data.ChunkPayloadData.{ChunkPayloadData}
-use Rattle.sctp_serial.specs.DataChunks
 use Rattle.sctp_serial.specs.Window
 use Rattle.sctp_serial.specs.Window.{IsWithinHalf, IsWindow, is_held}
 use Rattle.sctp_outbound.specs.payload_queue.PayloadQueue.{front_with, without_front, past}
-use Rattle.sctp_serial.specs.DataChunks.{chunk_before}
+use Rattle.sctp_serial.specs.DataChunks.{chunk_before, tsns}
 use Rattle.sctp_outbound.specs.payload_queue.Blocks.{is_offset, gap_offsets}
-use Rattle.sctp_model.specs.World.{World}
+use Rattle.sctp_model.specs.LinkRecord.{LinkRecord}
 use Rattle.sctp_model.specs.Messages.{tsn_of}
 use Rattle.sctp_model.specs.Receiver.{arrived_at, cumulative, is_new}
 use Rattle.sctp_model.specs.Reports.{distances}
 use Rattle.sctp_refinement.specs.Holds.{seen_of}
-use Rattle.sctp_refinement.proofs.arriving.Filter.{tsn_before, cumulative-le}
-
-abbrev pub tsns : List ChunkPayloadData → List ℕ
-tsns chunks = map (λ c. c.tsn) chunks
+use Rattle.sctp_refinement.proofs.arriving.Filter.{tsn_before}
+use Rattle.sctp_model.proofs.receiver.Arrivals.{cumulative-le}
+use Rattle.sctp_serial.proofs.lemmas.Serials.{held-any}
 
 -- ## Words of the queue over TSNs alone
 
-pub tsns-inserted : (x : ChunkPayloadData) (cs : List ChunkPayloadData) → tsns (inserted chunk_before x cs) ≡ inserted comes_before x.tsn (tsns cs)
+pub tsns-inserted : (x : ChunkPayloadData) (cs : List ChunkPayloadData) → tsns (insert_before chunk_before x cs) ≡ insert_before comes_before x.tsn (tsns cs)
 tsns-inserted x [] = refl
 tsns-inserted x (c ∷ cs) = step (comes_before x.tsn c.tsn) (tsns-inserted x cs)
   where
-    step : (b : Bool) → tsns (inserted chunk_before x cs) ≡ inserted comes_before x.tsn (tsns cs) → tsns (if b then x ∷ c ∷ cs else c ∷ inserted chunk_before x cs) ≡ (if b then x.tsn ∷ c.tsn ∷ tsns cs else c.tsn ∷ inserted comes_before x.tsn (tsns cs))
+    step : (b : Bool) → tsns (insert_before chunk_before x cs) ≡ insert_before comes_before x.tsn (tsns cs) → tsns (if b then x ∷ c ∷ cs else c ∷ insert_before chunk_before x cs) ≡ (if b then x.tsn ∷ c.tsn ∷ tsns cs else c.tsn ∷ insert_before comes_before x.tsn (tsns cs))
     step true ih = refl
     step false ih = ap (λ l. c.tsn ∷ l) ih
 
-pub tsns-past : (t : ℕ) (cs : List ChunkPayloadData) → tsns (past t cs) ≡ those (λ u. not (at_or_before u t)) (tsns cs)
+pub tsns-past : (t : ℕ) (cs : List ChunkPayloadData) → tsns (past t cs) ≡ filter (λ u. not (at_or_before u t)) (tsns cs)
 tsns-past t [] = refl
 tsns-past t (c ∷ cs) = step (not (at_or_before c.tsn t)) (tsns-past t cs)
   where
-    step : (b : Bool) → tsns (past t cs) ≡ those (λ u. not (at_or_before u t)) (tsns cs) → tsns (if b then c ∷ past t cs else past t cs) ≡ (if b then c.tsn ∷ those (λ u. not (at_or_before u t)) (tsns cs) else those (λ u. not (at_or_before u t)) (tsns cs))
+    step : (b : Bool) → tsns (past t cs) ≡ filter (λ u. not (at_or_before u t)) (tsns cs) → tsns (if b then c ∷ past t cs else past t cs) ≡ (if b then c.tsn ∷ filter (λ u. not (at_or_before u t)) (tsns cs) else filter (λ u. not (at_or_before u t)) (tsns cs))
     step true ih = ap (λ l. c.tsn ∷ l) ih
-    step false ih = ih
-
-pub held-any : (t : ℕ) (cs : List ChunkPayloadData) → is_held cs t ≡ list_any (λ u. u == t) (tsns cs)
-held-any t [] = refl
-held-any t (c ∷ cs) = step (c.tsn == t) (held-any t cs)
-  where
-    step : (b : Bool) → is_some (find (DataChunks.has_tsn t) cs) ≡ list_any (λ u. u == t) (tsns cs) → is_some (if b then Some c else find (DataChunks.has_tsn t) cs) ≡ (b || list_any (λ u. u == t) (tsns cs))
-    step true ih = refl
     step false ih = ih
 
 -- ## The front moves while the next TSN is held
 
-pub front-moves : (c : ℕ) (cs : List ChunkPayloadData) (x : ChunkPayloadData) → front_with ((c + 1) % 2 ^ 32) cs ≡ Some x → advanced c (tsns cs) ≡ advanced ((c + 1) % 2 ^ 32) (tsns (without_front ((c + 1) % 2 ^ 32) cs))
+pub front-moves : (c : ℕ) (cs : List ChunkPayloadData) (x : ChunkPayloadData) → front_with ((c + 1) % 2 ^ 32) cs ≡ Some x → advance_over c (tsns cs) ≡ advance_over ((c + 1) % 2 ^ 32) (tsns (without_front ((c + 1) % 2 ^ 32) cs))
 front-moves c [] x e = cc
 front-moves c (y ∷ cs) x e = step (y.tsn == (c + 1) % 2 ^ 32) refl e
   where
-    step : (b : Bool) → (y.tsn == (c + 1) % 2 ^ 32) ≡ b → (if b then Some y else None) ≡ Some x → (if b then advanced y.tsn (tsns cs) else (let s : Seen = record { cum = c; held = y.tsn ∷ tsns cs } in s)) ≡ advanced ((c + 1) % 2 ^ 32) (tsns (if b then cs else y ∷ cs))
-    step true h e = let z : y.tsn ≡ (c + 1) % 2 ^ 32 = grind (arith, nat_tests) in ap (λ t. advanced t (tsns cs)) z
+    step : (b : Bool) → (y.tsn == (c + 1) % 2 ^ 32) ≡ b → (if b then Some y else None) ≡ Some x → (if b then advance_over y.tsn (tsns cs) else (let s : Seen = record { cum = c; held = y.tsn ∷ tsns cs } in s)) ≡ advance_over ((c + 1) % 2 ^ 32) (tsns (if b then cs else y ∷ cs))
+    step true h e = let z : y.tsn ≡ (c + 1) % 2 ^ 32 = grind (arith, nat_tests) in ap (λ t. advance_over t (tsns cs)) z
     step false h e = cc
 
-pub front-stays : (c : ℕ) (cs : List ChunkPayloadData) → front_with ((c + 1) % 2 ^ 32) cs ≡ None → advanced c (tsns cs) ≡ record { cum = c; held = tsns cs }
+pub front-stays : (c : ℕ) (cs : List ChunkPayloadData) → front_with ((c + 1) % 2 ^ 32) cs ≡ None → advance_over c (tsns cs) ≡ record { cum = c; held = tsns cs }
 front-stays c [] e = refl
 front-stays c (y ∷ cs) e = step (y.tsn == (c + 1) % 2 ^ 32) e
   where
-    step : (b : Bool) → (if b then Some y else None) ≡ None → (if b then advanced y.tsn (tsns cs) else (let s : Seen = record { cum = c; held = y.tsn ∷ tsns cs } in s)) ≡ (let s : Seen = record { cum = c; held = y.tsn ∷ tsns cs } in s)
+    step : (b : Bool) → (if b then Some y else None) ≡ None → (if b then advance_over y.tsn (tsns cs) else (let s : Seen = record { cum = c; held = y.tsn ∷ tsns cs } in s)) ≡ (let s : Seen = record { cum = c; held = y.tsn ∷ tsns cs } in s)
     step true e = cc
     step false e = refl
 
@@ -98,26 +88,26 @@ at_or_before-cumulative first c k short lt = step (cases_lt k c)
 
 -- ## Windows
 
-kept-inside : (p : ℕ → Bool) (from count k : ℕ) → k < length (kept p from count) → (from ≤ slice_index_or (kept p from count) k 0) × (slice_index_or (kept p from count) k 0 < from + count)
+kept-inside : (p : ℕ → Bool) (from count k : ℕ) → k < length (numbers_where p from count) → (from ≤ slice_index_or (numbers_where p from count) k 0) × (slice_index_or (numbers_where p from count) k 0 < from + count)
 kept-inside p from zero k lt = absurd (omega arith)
 kept-inside p from (suc count) k lt = step (p from) k lt (λ j l. kept-inside p (from + 1) count j l)
   where
-    step : (b : Bool) (k : ℕ) → k < length (if b then from ∷ kept p (from + 1) count else kept p (from + 1) count) → ((j : ℕ) → j < length (kept p (from + 1) count) → (from + 1 ≤ slice_index_or (kept p (from + 1) count) j 0) × (slice_index_or (kept p (from + 1) count) j 0 < from + 1 + count)) → (from ≤ slice_index_or (if b then from ∷ kept p (from + 1) count else kept p (from + 1) count) k 0) × (slice_index_or (if b then from ∷ kept p (from + 1) count else kept p (from + 1) count) k 0 < from + suc count)
+    step : (b : Bool) (k : ℕ) → k < length (if b then from ∷ numbers_where p (from + 1) count else numbers_where p (from + 1) count) → ((j : ℕ) → j < length (numbers_where p (from + 1) count) → (from + 1 ≤ slice_index_or (numbers_where p (from + 1) count) j 0) × (slice_index_or (numbers_where p (from + 1) count) j 0 < from + 1 + count)) → (from ≤ slice_index_or (if b then from ∷ numbers_where p (from + 1) count else numbers_where p (from + 1) count) k 0) × (slice_index_or (if b then from ∷ numbers_where p (from + 1) count else numbers_where p (from + 1) count) k 0 < from + suc count)
     step true zero l ih = (omega arith, omega arith)
     step true (suc k) l ih = let i = ih k (omega arith) in (omega (arith, i), omega (arith, i))
     step false k l ih = let i = ih k l in (omega (arith, i), omega (arith, i))
 
 -- chunks of places from c on, and a later place, lie within half a circle of the TSN before c
-pub window-kept : (first c count : ℕ) (p : ℕ → Bool) (cs : List ChunkPayloadData) → tsns cs ≡ map (tsn first) (kept p c count) → c + count ≤ 2 ^ 31 → (q : ℕ) → c ≤ q → q < 2 ^ 31 → IsWindow (tsn_before first c) cs (tsn first q)
+pub window-kept : (first c count : ℕ) (p : ℕ → Bool) (cs : List ChunkPayloadData) → tsns cs ≡ map (tsn first) (numbers_where p c count) → c + count ≤ 2 ^ 31 → (q : ℕ) → c ≤ q → q < 2 ^ 31 → IsWindow (tsn_before first c) cs (tsn first q)
 window-kept first c count p cs held short q le lt = record {
   base_in_range = omega arith;
   number = near q le lt;
   held = λ k d l.
-      let many : length (kept p c count) ≡ length cs = sym (length-mapped (tsn first) (kept p c count)) ∙ ap length (sym held) ∙ length-mapped (λ x. x.tsn) cs in
-      let place = slice_index_or (kept p c count) k 0 in
+      let many : length (numbers_where p c count) ≡ length cs = sym (length-mapped (tsn first) (numbers_where p c count)) ∙ ap length (sym held) ∙ length-mapped (λ x. x.tsn) cs in
+      let place = slice_index_or (numbers_where p c count) k 0 in
       let inside = kept-inside p c count k (omega (arith, l, many)) in
       let same : (slice_index_or cs k d).tsn ≡ tsn first place =
-      sym (get_or-map (λ x. x.tsn) cs k d 0 l) ∙ ap (λ t. slice_index_or t k 0) held ∙ get_or-map (tsn first) (kept p c count) k 0 0 (omega (arith, l, many)) in
+      sym (get_or-map (λ x. x.tsn) cs k d 0 l) ∙ ap (λ t. slice_index_or t k 0) held ∙ get_or-map (tsn first) (numbers_where p c count) k 0 0 (omega (arith, l, many)) in
       let n = near place inside.0 (omega (arith, inside.1, short)) in
       (omega (arith, ap (distance (tsn_before first c)) same, n.0), omega (arith, ap (distance (tsn_before first c)) same, n.1));
 }
@@ -125,7 +115,7 @@ window-kept first c count p cs held short q le lt = record {
     near : (q : ℕ) → c ≤ q → q < 2 ^ 31 → IsWithinHalf (tsn_before first c) (tsn first q)
     near q le l = let e = ahead first c q le l in (omega (arith, e), omega (arith, e))
 
-module _ (w : World) (cs : List ChunkPayloadData) (made : w.skipped ≤ length w.slots) (few : length w.slots < 2 ^ 31) (held : tsns cs ≡ (seen_of w).held) where
+module _ (w : LinkRecord) (cs : List ChunkPayloadData) (made : w.skipped ≤ length w.slots) (few : length w.slots < 2 ^ 31) (held : tsns cs ≡ (seen_of w).held) where
   abbrev c : ℕ
   c = cumulative w
 
@@ -175,14 +165,14 @@ module _ (w : World) (cs : List ChunkPayloadData) (made : w.skipped ≤ length w
 
   -- ## Gap blocks
 
-  shifted : (p : ℕ → Bool) (b from count : ℕ) → b ≤ from → map (λ k. k + 1 - b) (kept p from count) ≡ kept (λ d. p (b + d - 1)) (from + 1 - b) count
+  shifted : (p : ℕ → Bool) (b from count : ℕ) → b ≤ from → map (λ k. k + 1 - b) (numbers_where p from count) ≡ numbers_where (λ d. p (b + d - 1)) (from + 1 - b) count
   shifted p b from zero le = refl
   shifted p b from (suc count) le =
       let place : b + (from + 1 - b) - 1 ≡ from = omega arith in
       let next : from + 1 + 1 - b ≡ from + 1 - b + 1 = omega arith in
-      step (p from) (shifted p b (from + 1) count (omega arith) ∙ ap (λ j. kept (λ d. p (b + d - 1)) j count) next) ∙ ap (λ j. if p j then (from + 1 - b) ∷ kept (λ d. p (b + d - 1)) (from + 1 - b + 1) count else kept (λ d. p (b + d - 1)) (from + 1 - b + 1) count) (sym place)
+      step (p from) (shifted p b (from + 1) count (omega arith) ∙ ap (λ j. numbers_where (λ d. p (b + d - 1)) j count) next) ∙ ap (λ j. if p j then (from + 1 - b) ∷ numbers_where (λ d. p (b + d - 1)) (from + 1 - b + 1) count else numbers_where (λ d. p (b + d - 1)) (from + 1 - b + 1) count) (sym place)
     where
-      step : (t : Bool) → map (λ k. k + 1 - b) (kept p (from + 1) count) ≡ kept (λ d. p (b + d - 1)) (from + 1 - b + 1) count → map (λ k. k + 1 - b) (if t then from ∷ kept p (from + 1) count else kept p (from + 1) count) ≡ (if t then (from + 1 - b) ∷ kept (λ d. p (b + d - 1)) (from + 1 - b + 1) count else kept (λ d. p (b + d - 1)) (from + 1 - b + 1) count)
+      step : (t : Bool) → map (λ k. k + 1 - b) (numbers_where p (from + 1) count) ≡ numbers_where (λ d. p (b + d - 1)) (from + 1 - b + 1) count → map (λ k. k + 1 - b) (if t then from ∷ numbers_where p (from + 1) count else numbers_where p (from + 1) count) ≡ (if t then (from + 1 - b) ∷ numbers_where (λ d. p (b + d - 1)) (from + 1 - b + 1) count else numbers_where (λ d. p (b + d - 1)) (from + 1 - b + 1) count)
       step true ih = ap (λ l. (from + 1 - b) ∷ l) ih
       step false ih = ih
 
@@ -206,14 +196,14 @@ module _ (w : World) (cs : List ChunkPayloadData) (made : w.skipped ≤ length w
   pub distances-is : gap_offsets (seen_of w).cum cs ≡ distances w
   distances-is =
       let count = length w.slots - c in
-      let all : map (λ x. distance (seen_of w).cum x.tsn) cs ≡ map (λ k. distance (seen_of w).cum (tsn w.setup.first k)) (kept (arrived_at w) c count) =
-      map-twice (distance (seen_of w).cum) (λ x. x.tsn) cs ∙ ap (map (distance (seen_of w).cum)) held ∙ map-numbers (distance (seen_of w).cum) (tsn w.setup.first) (kept (arrived_at w) c count) in
-      ap (those is_offset) all
+      let all : map (λ x. distance (seen_of w).cum x.tsn) cs ≡ map (λ k. distance (seen_of w).cum (tsn w.setup.first k)) (numbers_where (arrived_at w) c count) =
+      map-twice (distance (seen_of w).cum) (λ x. x.tsn) cs ∙ ap (map (distance (seen_of w).cum)) held ∙ map-numbers (distance (seen_of w).cum) (tsn w.setup.first) (numbers_where (arrived_at w) c count) in
+      ap (filter is_offset) all
       ∙ sym (those-kept is_offset (λ k. distance (seen_of w).cum (tsn w.setup.first k)) (λ k. k + 1 - c) (arrived_at w) (λ k. arrived_at w k && is_offset (k + 1 - c)) c count
       (λ k a b. ap (λ d. arrived_at w k && is_offset d) (sym (ahead w.setup.first c k a (omega (arith, top)))))
       (λ k a b e. sym (ahead w.setup.first c k a (omega (arith, top)))))
       ∙ shifted (λ k. arrived_at w k && is_offset (k + 1 - c)) c c count (omega arith)
-      ∙ ap (λ j. kept (λ d. arrived_at w (c + d - 1) && is_offset (c + d - 1 + 1 - c)) j count) (let one : c + 1 - c ≡ 1 = omega arith in one)
+      ∙ ap (λ j. numbers_where (λ d. arrived_at w (c + d - 1) && is_offset (c + d - 1 + 1 - c)) j count) (let one : c + 1 - c ≡ 1 = omega arith in one)
       ∙ cut (cases_lt 65535 count)
     where
       at : (d : ℕ) → 1 ≤ d → (arrived_at w (c + d - 1) && is_offset (c + d - 1 + 1 - c)) ≡ (arrived_at w (c + d - 1) && is_offset d)
@@ -225,11 +215,11 @@ module _ (w : World) (cs : List ChunkPayloadData) (made : w.skipped ≤ length w
       large : (d : ℕ) → 65536 ≤ d → (arrived_at w (c + d - 1) && is_offset (c + d - 1 + 1 - c)) ≡ false
       large d le = at d (omega arith) ∙ ap (λ b. arrived_at w (c + d - 1) && b) (let e : is_offset d ≡ false = grind (arith, nat_tests) in e) ∙ and-no (arrived_at w (c + d - 1))
 
-      cut : (65535 < length w.slots - c) ⊎ (length w.slots - c ≤ 65535) → kept (λ d. arrived_at w (c + d - 1) && is_offset (c + d - 1 + 1 - c)) 1 (length w.slots - c) ≡ kept (λ d. arrived_at w (c + d - 1)) 1 (min 65535 (length w.slots - c))
+      cut : (65535 < length w.slots - c) ⊎ (length w.slots - c ≤ 65535) → numbers_where (λ d. arrived_at w (c + d - 1) && is_offset (c + d - 1 + 1 - c)) 1 (length w.slots - c) ≡ numbers_where (λ d. arrived_at w (c + d - 1)) 1 (min 65535 (length w.slots - c))
       cut (inl l) =
           kept-short (λ d. arrived_at w (c + d - 1) && is_offset (c + d - 1 + 1 - c)) 1 65535 (length w.slots - c - 65535) (length w.slots - c) (omega arith) (λ d a b. large d (omega arith))
           ∙ kept-same (λ d. arrived_at w (c + d - 1) && is_offset (c + d - 1 + 1 - c)) (λ d. arrived_at w (c + d - 1)) 1 65535 (λ d a b. small d (omega arith) (omega arith))
-          ∙ ap (kept (λ d. arrived_at w (c + d - 1)) 1) (let e : 65535 ≡ min 65535 (length w.slots - c) = omega arith in e)
+          ∙ ap (numbers_where (λ d. arrived_at w (c + d - 1)) 1) (let e : 65535 ≡ min 65535 (length w.slots - c) = omega arith in e)
       cut (inr g) =
           kept-same (λ d. arrived_at w (c + d - 1) && is_offset (c + d - 1 + 1 - c)) (λ d. arrived_at w (c + d - 1)) 1 (length w.slots - c) (λ d a b. small d (omega arith) (omega arith))
-          ∙ ap (kept (λ d. arrived_at w (c + d - 1)) 1) (let e : length w.slots - c ≡ min 65535 (length w.slots - c) = omega arith in e)
+          ∙ ap (numbers_where (λ d. arrived_at w (c + d - 1)) 1) (let e : length w.slots - c ≡ min 65535 (length w.slots - c) = omega arith in e)

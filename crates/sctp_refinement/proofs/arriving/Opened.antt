@@ -6,12 +6,12 @@ use Rattle.sctp_list_lemmas.proofs.Passing.{kept-none}
 use Rattle.sctp_list_lemmas.proofs.More.{fails, not_both}
 use Rattle.sctp_chunks.specs.declared.chunk.chunk_payload_data.ReliabilityType.{ReliabilityType}
 use Rattle.sctp_reassembly.specs.reassembly_queue.ReassemblyQueue.{Reassembly}
-use Rattle.sctp_model.specs.World.{Setup, StreamRecord, World}
+use Rattle.sctp_model.specs.LinkRecord.{Setup, StreamRecord, LinkRecord}
 use Rattle.sctp_model.specs.Messages.{message_at, message_of, stream_at, stream_of, is_open, no_stream, ordered_on, is_ordered_on}
 use Rattle.sctp_model.specs.Receiver.{is_held, next_of}
-use Rattle.sctp_model.specs.Changes.{opened, mode_set}
+use Rattle.sctp_model.specs.Changes.{after_open, after_mode}
 use Rattle.sctp_model.specs.Contents.{chunk_at}
-use Rattle.sctp_model.specs.Queues.{set_of, whole_set_of, is_unassembled}
+use Rattle.sctp_model.specs.Queues.{set_of, complete_set_of, is_unassembled}
 use Rattle.sctp_model.proofs.sender.SenderRun.{Sane}
 use Rattle.sctp_model.proofs.receiver.View
 use Rattle.sctp_refinement.specs.Holds.{ordered_sets, unassembled_chunks, reassembly_of}
@@ -23,14 +23,14 @@ use Rattle.sctp_refinement.proofs.reading.Taken.{held}
 use Rattle.sctp_refinement.proofs.arriving.Unordered.{unordered-of}
 
 -- the queues of the streams that are open stay as they are
-pub opened-same : (w : World) (s t : ℕ) → is_open w s ≡ false → reassembly_of (opened w s) t ≡ reassembly_of w t
-opened-same w s t e = Keeps.restreamed w (opened w s).streams t (λ x. ap (λ u. u.named x) (View.view-opened w s e)) (ap (λ u. u.whole t) (View.view-opened w s e))
+pub opened-same : (w : LinkRecord) (s t : ℕ) → is_open w s ≡ false → reassembly_of (after_open w s) t ≡ reassembly_of w t
+opened-same w s t e = Keeps.restreamed w (after_open w s).streams t (λ x. ap (λ u. u.named x) (View.view-opened w s e)) (ap (λ u. u.complete t) (View.view-opened w s e))
 
-pub mode-same : (w : World) (s : ℕ) (unordered : Bool) (reliability : ReliabilityType) (value t : ℕ) → reassembly_of (mode_set w s unordered reliability value) t ≡ reassembly_of w t
-mode-same w s u r n t = Keeps.restreamed w (mode_set w s u r n).streams t (λ x. ap (λ y. y.named x) (View.view-moded w s u r n)) (ap (λ y. y.whole t) (View.view-moded w s u r n))
+pub mode-same : (w : LinkRecord) (s : ℕ) (unordered : Bool) (reliability : ReliabilityType) (value t : ℕ) → reassembly_of (after_mode w s unordered reliability value) t ≡ reassembly_of w t
+mode-same w s u r n t = Keeps.restreamed w (after_mode w s u r n).streams t (λ x. ap (λ y. y.named x) (View.view-moded w s u r n)) (ap (λ y. y.complete t) (View.view-moded w s u r n))
 
 -- a stream that is not open has nothing
-module _ (setup : Setup) (w : World) (s : ℕ) (g : Sane setup w) (closed : is_open w s ≡ false) where
+module _ (setup : Setup) (w : LinkRecord) (s : ℕ) (g : Sane setup w) (closed : is_open w s ≡ false) where
   no-message : (n : ℕ) → n < length w.messages → (message_at w n).stream ≡ s → ⊥
   no-message n lt e = not_both (sym closed ∙ ap (is_open w) (sym e) ∙ g.known n lt)
 
@@ -65,4 +65,4 @@ module _ (setup : Setup) (w : World) (s : ℕ) (g : Sane setup w) (closed : is_o
 
   -- as a new queue has it
   pub closed-empty : reassembly_of w s ≡ (let q : Reassembly = record { next_ssn = 0; ordered = []; unordered = []; unassembled = [] } in q)
-  closed-empty = SkipStep.parts next sets (ap (λ r. map (whole_set_of w) r.whole) no-record) unassembled
+  closed-empty = SkipStep.parts next sets (ap (λ r. map (complete_set_of w) r.complete) no-record) unassembled

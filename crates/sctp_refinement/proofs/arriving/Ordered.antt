@@ -5,8 +5,8 @@ use Rattle.std.specs.List.{list_any}
 use Rattle.std.proofs.lemmas.Bool.{cases_lt, lt-ltb, le-ltb}
 use Rattle.std.proofs.lemmas.Bool.Decides.{nat_tests}
 use Rattle.std.proofs.lemmas.Grind.{common_steps}
-use Rattle.sctp_list_lemmas.specs.Kept.{kept}
-use Rattle.sctp_list_lemmas.specs.Lists.{inserted}
+use Rattle.sctp_list_lemmas.specs.Kept.{numbers_where}
+use Rattle.sctp_list_lemmas.specs.Lists.{insert_before}
 use Rattle.sctp_chunks.specs.ChunkSet.{ChunkSet}
 use Rattle.sctp_reassembly.specs.reassembly_queue.Fragments.{set_before, has_ssn, with_chunk, new_set, sets_with}
 use Rattle.sctp_serial.specs.DataChunks.{chunk_before, has_tsn}
@@ -17,10 +17,10 @@ use Rattle.sctp_model.specs.Queues.{set_of}
 use Rattle.sctp_list_lemmas.specs.Serial.{comes_before16}
 use Rattle.sctp_list_lemmas.proofs.Passing.{kept-same, map-kept-same, map-kept-inserted, length-kept-le}
 use Rattle.sctp_list_lemmas.proofs.Round.{tsn_differ, tsn_same}
-use Rattle.sctp_model.specs.World.{World}
+use Rattle.sctp_model.specs.LinkRecord.{LinkRecord}
 use Rattle.sctp_model.specs.Messages.{message_at, slot_at, message_of, stream_of, is_ordered_on, index_of, ssn_of, fragment_count, has_fragment, is_unordered_on}
-use Rattle.sctp_model.specs.Receiver.{arrived_at, arrived_of, has_arrived, cumulative, is_whole, is_unread, is_held, next_of, is_new}
-use Rattle.sctp_model.specs.Changes.{slot_received, becomes_whole}
+use Rattle.sctp_model.specs.Receiver.{arrived_at, arrived_of, has_arrived, cumulative, is_complete_message, is_unread, is_held, next_of, is_new}
+use Rattle.sctp_model.specs.Changes.{receive_slot, becomes_complete}
 use Rattle.sctp_list_lemmas.specs.Lists.{change_first}
 use Rattle.sctp_model.specs.Valid.{IsLaid, IsSpan, Valid}
 use Rattle.sctp_list_lemmas.proofs.More.{fails, not_both, both, any-kept_one, change_first-kept}
@@ -31,7 +31,7 @@ use Rattle.sctp_refinement.proofs.arriving.Arrival
 use Rattle.sctp_refinement.proofs.arriving.Arrival.{with_arrived}
 
 -- what an accepted Arrive of a new slot of an ordered message knows
-pub record Arrives (w : World) (s p : ℕ) : Type 0 where
+pub record Arrives (w : LinkRecord) (s p : ℕ) : Type 0 where
   pub made : p < length w.slots
   pub new : arrived_at w p ≡ false
   pub fresh : cumulative w ≤ p
@@ -39,7 +39,7 @@ pub record Arrives (w : World) (s p : ℕ) : Type 0 where
   pub on : is_ordered_on w s (message_of w p) ≡ true
   pub near : IsSpan w s (index_of w (message_of w p) ∷ [])
 
-module _ (w : World) (s p : ℕ) (valid : Valid w) (a : Arrives w s p) where
+module _ (w : LinkRecord) (s p : ℕ) (valid : Valid w) (a : Arrives w s p) where
   abbrev n : ℕ
   n = message_of w p
 
@@ -63,11 +63,11 @@ module _ (w : World) (s p : ℕ) (valid : Valid w) (a : Arrives w s p) where
       let count : arrived_of (with_arrived w p) n ≤ fragment_count w n = rw (Arrival.window (with_arrived w p) n laid.0 laid') (length-kept-le (has_come (with_arrived w p) n) laid.0 (fragment_count w n)) in
       omega (arith, Arrival.arrived_of-here w p a.made a.new a.fragment, count)
 
-  not_whole : has_arrived w n ≡ false
-  not_whole = fails (has_arrived w n) (λ e. let h : arrived_of w n ≡ fragment_count w n = grind (arith, nat_tests) in absurd (omega (arith, one_short)))
+  not_complete : has_arrived w n ≡ false
+  not_complete = fails (has_arrived w n) (λ e. let h : arrived_of w n ≡ fragment_count w n = grind (arith, nat_tests) in absurd (omega (arith, one_short)))
 
   unread : (message_at w n).read ≡ false
-  unread = fails (message_at w n).read (λ e. not_both (sym not_whole ∙ valid.read_whole s n a.on e))
+  unread = fails (message_at w n).read (λ e. not_both (sym not_complete ∙ valid.read_complete s n a.on e))
 
   past : (stream_of w s).named ≤ index_of w n
   past = step (cases_lt (index_of w n) (stream_of w s).named)
@@ -84,8 +84,8 @@ module _ (w : World) (s p : ℕ) (valid : Valid w) (a : Arrives w s p) where
       step (inr g) = g
 
   -- it is held exactly where some of it had arrived
-  held-is : (v : World) → is_ordered_on v s n ≡ true → (message_at v n).read ≡ false → (stream_of v s).named ≤ index_of v n → is_held v s n ≡ nat_lt 0 (arrived_of v n)
-  held-is v on unr le = holds (is_ordered_on v s n) (message_at v n).read (nat_lt 0 (arrived_of v n)) (is_whole v n) (nat_le (stream_of v s).named (index_of v n)) on unr (grind (arith, nat_tests))
+  held-is : (v : LinkRecord) → is_ordered_on v s n ≡ true → (message_at v n).read ≡ false → (stream_of v s).named ≤ index_of v n → is_held v s n ≡ nat_lt 0 (arrived_of v n)
+  held-is v on unr le = holds (is_ordered_on v s n) (message_at v n).read (nat_lt 0 (arrived_of v n)) (is_complete_message v n) (nat_le (stream_of v s).named (index_of v n)) on unr (grind (arith, nat_tests))
     where
       holds : (a b h c d : Bool) → a ≡ true → b ≡ false → d ≡ true → (a && (not b && (h && (c || d)))) ≡ h
       holds true false true true true x y z = refl
@@ -109,7 +109,7 @@ module _ (w : World) (s p : ℕ) (valid : Valid w) (a : Arrives w s p) where
   mine = sp.others (index_of w n) (let e : (index_of w n == index_of w n) ≡ true = grind (arith, nat_tests) in rw e refl)
 
   held-on : (k : ℕ) → is_held w s k ≡ true → is_ordered_on w s k ≡ true
-  held-on k e = (both (is_ordered_on w s k) (is_unread w k && (nat_lt 0 (arrived_of w k) && (is_whole w k || nat_le (stream_of w s).named (index_of w k)))) e).0
+  held-on k e = (both (is_ordered_on w s k) (is_unread w k && (nat_lt 0 (arrived_of w k) && (is_complete_message w k || nat_le (stream_of w s).named (index_of w k)))) e).0
 
   ssn-other : (k : ℕ) → k < length w.messages → is_held w s k ≡ true → (k ≡ n → ⊥) → (ssn_of w k == ssn_of w n) ≡ false
   ssn-other k lt e ne =
@@ -150,14 +150,14 @@ module _ (w : World) (s p : ℕ) (valid : Valid w) (a : Arrives w s p) where
 
   set-grown : set_of (with_arrived w p) n ≡ with_chunk (chunk_at w p) (set_of w n)
   set-grown =
-      let chunks : chunks_come (with_arrived w p) n ≡ (if list_any (has_tsn (chunk_at w p).tsn) (chunks_come w n) then chunks_come w n else inserted chunk_before (chunk_at w p) (chunks_come w n)) =
+      let chunks : chunks_come (with_arrived w p) n ≡ (if list_any (has_tsn (chunk_at w p).tsn) (chunks_come w n) then chunks_come w n else insert_before chunk_before (chunk_at w p) (chunks_come w n)) =
       rw unknown (Arrival.chunks_come-here w p valid.few a.made a.new a.fragment) in
       ap (λ c. let x : ChunkSet = record { ssn = (set_of w n).ssn; ppi = (set_of w n).ppi; chunks = c } in x) chunks
 
   set-new : arrived_of w n ≡ 0 → set_of (with_arrived w p) n ≡ new_set (chunk_at w p)
   set-new none =
-      let empty : kept (has_come w n) 0 (length w.slots) ≡ [] = nothing (kept (has_come w n) 0 (length w.slots)) none in
-      let chunks : chunks_come (with_arrived w p) n ≡ chunk_at w p ∷ [] = Arrival.chunks_come-here w p valid.few a.made a.new a.fragment ∙ ap (λ l. inserted chunk_before (chunk_at w p) (map (chunk_at w) l)) empty in
+      let empty : numbers_where (has_come w n) 0 (length w.slots) ≡ [] = nothing (numbers_where (has_come w n) 0 (length w.slots)) none in
+      let chunks : chunks_come (with_arrived w p) n ≡ chunk_at w p ∷ [] = Arrival.chunks_come-here w p valid.few a.made a.new a.fragment ∙ ap (λ l. insert_before chunk_before (chunk_at w p) (map (chunk_at w) l)) empty in
       ap (λ c. let x : ChunkSet = record { ssn = (set_of w n).ssn; ppi = (set_of w n).ppi; chunks = c } in x) chunks
     where
       nothing : (l : List ℕ) → length l ≡ 0 → l ≡ []
@@ -183,24 +183,24 @@ module _ (w : World) (s p : ℕ) (valid : Valid w) (a : Arrives w s p) where
       same k (inr g) (inr l) = let e : k ≡ n = omega arith in ap (is_held (with_arrived w p) s) e ∙ held-after ∙ sym h ∙ ap (is_held w s) (sym e)
 
   -- in a new one
-  put : is_held w s n ≡ false → ordered_sets (with_arrived w p) s ≡ inserted set_before (new_set (chunk_at w p)) (ordered_sets w s)
+  put : is_held w s n ≡ false → ordered_sets (with_arrived w p) s ≡ insert_before set_before (new_set (chunk_at w p)) (ordered_sets w s)
   put h =
       let none : arrived_of w n ≡ 0 = (let e = held-is w a.on unread past in grind (arith, nat_tests)) in
       let first = set-new none in
       map-kept-inserted (set_of (with_arrived w p)) set_before (is_held w s) (is_held (with_arrived w p) s) n 0 (length w.messages) h held-after (omega arith) (omega (arith, n-made))
       (λ k x y ne. sym (sets-same k ne))
       (λ k x y ne e. ssn-before k (omega arith) e ne)
-      ∙ ap (λ l. inserted set_before (set_of (with_arrived w p) n) l) (map-kept-same (set_of (with_arrived w p)) (set_of w) (is_held w s) (is_held w s) 0 (length w.messages) (λ k x y. refl) (λ k x y e. set-same k (λ z. not_both (sym h ∙ ap (is_held w s) (sym z) ∙ e))))
-      ∙ ap (λ x. inserted set_before x (ordered_sets w s)) first
+      ∙ ap (λ l. insert_before set_before (set_of (with_arrived w p) n) l) (map-kept-same (set_of (with_arrived w p)) (set_of w) (is_held w s) (is_held w s) 0 (length w.messages) (λ k x y. refl) (λ k x y e. set-same k (λ z. not_both (sym h ∙ ap (is_held w s) (sym z) ∙ e))))
+      ∙ ap (λ x. insert_before set_before x (ordered_sets w s)) first
 
   pub sets-arrived : ordered_sets (with_arrived w p) s ≡ sets_with (chunk_at w p) (ordered_sets w s)
   sets-arrived = rw known (step (is_held w s n) refl)
     where
-      step : (b : Bool) → is_held w s n ≡ b → ordered_sets (with_arrived w p) s ≡ (if b then change_first (has_ssn (ssn_of w n)) (with_chunk (chunk_at w p)) (ordered_sets w s) else inserted set_before (new_set (chunk_at w p)) (ordered_sets w s))
+      step : (b : Bool) → is_held w s n ≡ b → ordered_sets (with_arrived w p) s ≡ (if b then change_first (has_ssn (ssn_of w n)) (with_chunk (chunk_at w p)) (ordered_sets w s) else insert_before set_before (new_set (chunk_at w p)) (ordered_sets w s))
       step true h = joined h
       step false h = put h
 
-  -- ## The whole queue
+  -- ## The complete queue
 
   ordered-not : is_unordered_on w s n ≡ false
   ordered-not = rw (on-ordered w s n a.on) (ands ((message_at w n).stream == s))
@@ -213,7 +213,7 @@ module _ (w : World) (s p : ℕ) (valid : Valid w) (a : Arrives w s p) where
   ordered-arrived =
       let late : comes_before16 (ssn_of w n) (next_of w s % 2 ^ 16) ≡ false =
       rw (ssn_on w s n a.on, comes_before16-index (index_of w n) (next_of w s) (omega (arith, mine, sp.next, sp.short)) (omega (arith, mine, sp.next, sp.short))) (le-ltb (index_of w n) (next_of w s) not_before) in
-      rw (late, Stays.whole_sets-arrived w p s, Stays.unassembled-elsewhere w p s ordered-not, sets-arrived) refl
+      rw (late, Stays.complete_sets-arrived w p s, Stays.unassembled-elsewhere w p s ordered-not, sets-arrived) refl
 
   other-stream : (t : ℕ) → (t ≡ s → ⊥) → ((message_at w n).stream == t) ≡ false
   other-stream t ne = fails ((message_at w n).stream == t) (λ e. let h : (message_at w n).stream ≡ t = grind (arith, nat_tests) in ne (sym h ∙ on-stream w s n a.on))
@@ -222,11 +222,11 @@ module _ (w : World) (s p : ℕ) (valid : Valid w) (a : Arrives w s p) where
   pub ordered-elsewhere : (t : ℕ) → (t ≡ s → ⊥) → reassembly_of (with_arrived w p) t ≡ reassembly_of w t
   ordered-elsewhere t ne =
       let off = other-stream t ne in
-      rw (Stays.whole_sets-arrived w p t, Stays.unassembled-elsewhere w p t (rw off refl), Stays.ordered_sets-elsewhere w p t (rw off refl)) refl
+      rw (Stays.complete_sets-arrived w p t, Stays.unassembled-elsewhere w p t (rw off refl), Stays.ordered_sets-elsewhere w p t (rw off refl)) refl
 
   -- and this is the record's step
-  pub ordered-step : slot_received w p ≡ with_arrived w p
+  pub ordered-step : receive_slot w p ≡ with_arrived w p
   ordered-step =
       let new : is_new w p ≡ true = rw a.new (grind (arith, nat_tests, a.fresh)) in
-      let kind : becomes_whole (with_arrived w p) n ≡ false = rw (on-ordered w s n a.on) refl in
+      let kind : becomes_complete (with_arrived w p) n ≡ false = rw (on-ordered w s n a.on) refl in
       rw (new, kind) refl

@@ -7,7 +7,7 @@ use Rattle.sctp_chunks.specs.declared.chunk.chunk_payload_data.ChunkPayloadData.
 use Rattle.sctp_chunks.specs.declared.chunk.chunk_payload_data.PayloadProtocolIdentifier.TheVariants.{Unknown}
 use Rattle.sctp_chunks.specs.ChunkSet.{fresh}
 use Rattle.sctp_serial.specs.Runs.{IsRun, IsEarliestRun}
-use Rattle.sctp_reassembly.specs.reassembly_queue.ReassemblyQueue.{Reassembly, set_of_run, BecomesWhole}
+use Rattle.sctp_reassembly.specs.reassembly_queue.ReassemblyQueue.{Reassembly, set_of_run, BecomesComplete}
 
 some_chunk : ChunkPayloadData
 some_chunk = fresh (record { unordered = false; beginning_fragment = false; ending_fragment = false; immediate_sack = false; tsn = 0; stream_identifier = 0; stream_sequence_number = 0; payload_type = Unknown; user_data = [] })
@@ -34,7 +34,7 @@ same-left : (xs : List ChunkPayloadData) (old : Reassembly) {f n g m : ℕ} → 
 same-left xs old {f} {n} {g} {m} a b = ap (λ k. without_run xs old k n) a ∙ ap (without_run xs old g) b
 
 -- an unordered push leaves one thing, and answers one thing
-pub becomes-same : (xs : List ChunkPayloadData) (old x y : Reassembly) (a b : Bool) → BecomesWhole xs old x a → BecomesWhole xs old y b → (x ≡ y) × (a ≡ b)
+pub becomes-same : (xs : List ChunkPayloadData) (old x y : Reassembly) (a b : Bool) → BecomesComplete xs old x a → BecomesComplete xs old y b → (x ≡ y) × (a ≡ b)
 becomes-same xs old x y true true t u = let s = same-run xs t.first t.count u.first u.count t.run u.run in (t.moved ∙ same-left xs old s.0 s.1 ∙ sym u.moved, refl)
 becomes-same xs old x y true false t u = absurd (u.0 t.first t.count t.run.run)
 becomes-same xs old x y false true t u = absurd (t.0 u.first u.count u.run.run)

@@ -4,21 +4,22 @@ use Rattle.std.specs.Prelude.{◌⊎◌, if◌then◌else◌, ◌==◌, ◌&&◌
 use Rattle.std.specs.List.{list_all}
 use Rattle.std.proofs.lemmas.Bool.{cases_lt}
 use Rattle.std.proofs.lemmas.Bool.Decides.{nat_tests}
-use Rattle.sctp_list_lemmas.specs.Kept.{kept}
+use Rattle.sctp_list_lemmas.specs.Kept.{numbers_where}
 use Rattle.sctp_list_lemmas.proofs.Passing.{length-kept-le}
 use Rattle.sctp_list_lemmas.proofs.Lines.{IsAt}
-use Rattle.sctp_model.specs.World.{World}
+use Rattle.sctp_model.specs.LinkRecord.{LinkRecord}
 use Rattle.sctp_model.specs.Messages.{slot_at, message_of, fragment_count, has_fragment, is_unordered_on}
-use Rattle.sctp_model.specs.Receiver.{arrived_at, is_whole}
+use Rattle.sctp_model.specs.Receiver.{arrived_at, is_complete_message}
 use Rattle.sctp_chunks.specs.declared.chunk.chunk_payload_data.ChunkPayloadData.{ChunkPayloadData}
 use Rattle.sctp_serial.specs.Runs.{IsRun}
 use Rattle.sctp_model.specs.Contents.{chunk_at}
 use Rattle.sctp_model.specs.Queues.{is_unassembled}
 use Rattle.sctp_model.specs.Valid.{Valid, ValidUnassembled}
 use Rattle.sctp_list_lemmas.proofs.More.{not_both, both, and}
-use Rattle.sctp_refinement.proofs.reading.Line.{kept-place}
 use Rattle.sctp_refinement.proofs.arriving.Arrival
 use Rattle.sctp_refinement.proofs.arriving.Arrival.{with_arrived}
+use Rattle.sctp_list_lemmas.proofs.Cases.{negated}
+use Rattle.sctp_list_lemmas.proofs.Places.{kept-place}
 
 -- ## Lists
 
@@ -32,85 +33,81 @@ length-map f [] = refl
 length-map f (x ∷ xs) = ap suc (length-map f xs)
 
 -- where all pass
-pub length-kept-all : (p : ℕ → Bool) (from count : ℕ) → ((k : ℕ) → from ≤ k → k < from + count → p k ≡ true) → length (kept p from count) ≡ count
+pub length-kept-all : (p : ℕ → Bool) (from count : ℕ) → ((k : ℕ) → from ≤ k → k < from + count → p k ≡ true) → length (numbers_where p from count) ≡ count
 length-kept-all p from zero all = refl
 length-kept-all p from (suc count) all =
     rw (all from (omega arith) (omega arith)) (ap suc (length-kept-all p (from + 1) count (λ k a b. all k (omega arith) (omega arith))))
 
-pub kept-full : (p : ℕ → Bool) (from count k : ℕ) → length (kept p from count) ≡ count → from ≤ k → k < from + count → p k ≡ true
+pub kept-full : (p : ℕ → Bool) (from count k : ℕ) → length (numbers_where p from count) ≡ count → from ≤ k → k < from + count → p k ≡ true
 kept-full p from zero k e a b = absurd (omega arith)
 kept-full p from (suc count) k e a b = step (p from) refl e (cases_lt from k) (λ h l. kept-full p (from + 1) count k h l (omega arith))
   where
-    step : (c : Bool) → p from ≡ c → length (if c then from ∷ kept p (from + 1) count else kept p (from + 1) count) ≡ suc count → (from < k) ⊎ (k ≤ from) → (length (kept p (from + 1) count) ≡ count → from + 1 ≤ k → p k ≡ true) → p k ≡ true
+    step : (c : Bool) → p from ≡ c → length (if c then from ∷ numbers_where p (from + 1) count else numbers_where p (from + 1) count) ≡ suc count → (from < k) ⊎ (k ≤ from) → (length (numbers_where p (from + 1) count) ≡ count → from + 1 ≤ k → p k ≡ true) → p k ≡ true
     step true h e (inl l) ih = ih (omega arith) (omega arith)
     step true h e (inr g) ih = let z : k ≡ from = omega arith in rw z h
     step false h e side ih = absurd (omega (arith, length-kept-le p (from + 1) count))
 
-pub all-kept : (t p : ℕ → Bool) (from count : ℕ) → ((k : ℕ) → p k ≡ true → t k ≡ true) → list_all t (kept p from count) ≡ true
+pub all-kept : (t p : ℕ → Bool) (from count : ℕ) → ((k : ℕ) → p k ≡ true → t k ≡ true) → list_all t (numbers_where p from count) ≡ true
 all-kept t p from zero h = refl
 all-kept t p from (suc count) h = step (p from) refl (all-kept t p (from + 1) count h)
   where
-    step : (b : Bool) → p from ≡ b → list_all t (kept p (from + 1) count) ≡ true → list_all t (if b then from ∷ kept p (from + 1) count else kept p (from + 1) count) ≡ true
+    step : (b : Bool) → p from ≡ b → list_all t (numbers_where p (from + 1) count) ≡ true → list_all t (if b then from ∷ numbers_where p (from + 1) count else numbers_where p (from + 1) count) ≡ true
     step true e ih = rw (h from e, ih) refl
     step false e ih = ih
 
-pub kept-all : (t p : ℕ → Bool) (from count k : ℕ) → list_all t (kept p from count) ≡ true → from ≤ k → k < from + count → p k ≡ true → t k ≡ true
+pub kept-all : (t p : ℕ → Bool) (from count k : ℕ) → list_all t (numbers_where p from count) ≡ true → from ≤ k → k < from + count → p k ≡ true → t k ≡ true
 kept-all t p from zero k e a b h = absurd (omega arith)
 kept-all t p from (suc count) k e a b h = step (p from) refl e (cases_lt from k) (λ x l. kept-all t p (from + 1) count k x l (omega arith) h)
   where
-    step : (c : Bool) → p from ≡ c → list_all t (if c then from ∷ kept p (from + 1) count else kept p (from + 1) count) ≡ true → (from < k) ⊎ (k ≤ from) → (list_all t (kept p (from + 1) count) ≡ true → from + 1 ≤ k → t k ≡ true) → t k ≡ true
-    step true x e (inl l) ih = ih (both (t from) (list_all t (kept p (from + 1) count)) e).1 (omega arith)
-    step true x e (inr g) ih = let z : k ≡ from = omega arith in rw z (both (t from) (list_all t (kept p (from + 1) count)) e).0
+    step : (c : Bool) → p from ≡ c → list_all t (if c then from ∷ numbers_where p (from + 1) count else numbers_where p (from + 1) count) ≡ true → (from < k) ⊎ (k ≤ from) → (list_all t (numbers_where p (from + 1) count) ≡ true → from + 1 ≤ k → t k ≡ true) → t k ≡ true
+    step true x e (inl l) ih = ih (both (t from) (list_all t (numbers_where p (from + 1) count)) e).1 (omega arith)
+    step true x e (inr g) ih = let z : k ≡ from = omega arith in rw z (both (t from) (list_all t (numbers_where p (from + 1) count)) e).0
     step false x e (inl l) ih = ih e (omega arith)
     step false x e (inr g) ih = let z : from ≡ k = omega arith in absurd (not_both (sym x ∙ ap p z ∙ h))
 
 -- ## What an unassembled place is
 
-pub record IsUnassembled (w : World) (s k : ℕ) : Type 0 where
+pub record IsUnassembled (w : LinkRecord) (s k : ℕ) : Type 0 where
   pub datagram_received : arrived_at w k ≡ true
   pub past : w.skipped ≤ k
   pub on : is_unordered_on w s (message_of w k) ≡ true
-  pub whole : is_whole w (message_of w k) ≡ false
+  pub complete : is_complete_message w (message_of w k) ≡ false
 
-negated : (b : Bool) → not b ≡ true → b ≡ false
-negated true e = cc
-negated false e = refl
-
-pub unassembled : (w : World) (s k : ℕ) → is_unassembled w s k ≡ true → IsUnassembled w s k
+pub unassembled : (w : LinkRecord) (s k : ℕ) → is_unassembled w s k ≡ true → IsUnassembled w s k
 unassembled w s k e =
-    let a = both (arrived_at w k) (nat_le w.skipped k && (is_unordered_on w s (message_of w k) && not (is_whole w (message_of w k)))) e in
-    let b = both (nat_le w.skipped k) (is_unordered_on w s (message_of w k) && not (is_whole w (message_of w k))) a.1 in
-    let c = both (is_unordered_on w s (message_of w k)) (not (is_whole w (message_of w k))) b.1 in
+    let a = both (arrived_at w k) (nat_le w.skipped k && (is_unordered_on w s (message_of w k) && not (is_complete_message w (message_of w k)))) e in
+    let b = both (nat_le w.skipped k) (is_unordered_on w s (message_of w k) && not (is_complete_message w (message_of w k))) a.1 in
+    let c = both (is_unordered_on w s (message_of w k)) (not (is_complete_message w (message_of w k))) b.1 in
     let le : nat_le w.skipped k ≡ true = b.0 in
-    record { datagram_received = a.0; past = grind (arith, nat_tests); on = c.0; whole = negated (is_whole w (message_of w k)) c.1 }
+    record { datagram_received = a.0; past = grind (arith, nat_tests); on = c.0; complete = negated (is_complete_message w (message_of w k)) c.1 }
 
-pub is-unassembled : (w : World) (s k : ℕ) → IsUnassembled w s k → is_unassembled w s k ≡ true
+pub is-unassembled : (w : LinkRecord) (s k : ℕ) → IsUnassembled w s k → is_unassembled w s k ≡ true
 is-unassembled w s k l =
-    and (arrived_at w k) (nat_le w.skipped k && (is_unordered_on w s (message_of w k) && not (is_whole w (message_of w k)))) l.datagram_received
-    (and (nat_le w.skipped k) (is_unordered_on w s (message_of w k) && not (is_whole w (message_of w k))) (let le = l.past in grind (arith, nat_tests))
-    (and (is_unordered_on w s (message_of w k)) (not (is_whole w (message_of w k))) l.on (ap not l.whole)))
+    and (arrived_at w k) (nat_le w.skipped k && (is_unordered_on w s (message_of w k) && not (is_complete_message w (message_of w k)))) l.datagram_received
+    (and (nat_le w.skipped k) (is_unordered_on w s (message_of w k) && not (is_complete_message w (message_of w k))) (let le = l.past in grind (arith, nat_tests))
+    (and (is_unordered_on w s (message_of w k)) (not (is_complete_message w (message_of w k))) l.on (ap not l.complete)))
 
 -- ## A run is a message
 
 -- the run that begins at this place has all the fragments of the message there
-pub record IsWholeRun (w : World) (q : ℕ → Bool) (first count : ℕ) : Type 0 where
+pub record IsCompleteRun (w : LinkRecord) (q : ℕ → Bool) (first count : ℕ) : Type 0 where
   pub base : ℕ
   pub begins : (slot_at w base).fragment ≡ 0
   pub made : base < length w.slots
   pub passes : q base ≡ true
   pub all : (i : ℕ) → i < count → (q (base + i) ≡ true) × (has_fragment w (message_of w base) (base + i) ≡ true)
   pub count_is : count ≡ fragment_count w (message_of w base)
-  pub first_is : length (kept q 0 base) ≡ first
+  pub first_is : length (numbers_where q 0 base) ≡ first
 
-module _ (w : World) (q : ℕ → Bool) (first count : ℕ) (valid : Valid w) (more : ValidUnassembled w) (datagram_received : (k : ℕ) → q k ≡ true → has_fragment w (message_of w k) k ≡ true) (run : IsRun (map (chunk_at w) (kept q 0 (length w.slots))) first count) where
+module _ (w : LinkRecord) (q : ℕ → Bool) (first count : ℕ) (valid : Valid w) (more : ValidUnassembled w) (datagram_received : (k : ℕ) → q k ≡ true → has_fragment w (message_of w k) k ≡ true) (run : IsRun (map (chunk_at w) (numbers_where q 0 (length w.slots))) first count) where
   abbrev places : List ℕ
-  places = kept q 0 (length w.slots)
+  places = numbers_where q 0 (length w.slots)
 
   abbrev at : ℕ → ℕ
-  at i = get_or (kept q 0 (length w.slots)) (first + i) 0
+  at i = get_or (numbers_where q 0 (length w.slots)) (first + i) 0
 
-  long : first + count ≤ length (kept q 0 (length w.slots))
-  long = omega (arith, run.in_range, length-map (chunk_at w) (kept q 0 (length w.slots)))
+  long : first + count ≤ length (numbers_where q 0 (length w.slots))
+  long = omega (arith, run.in_range, length-map (chunk_at w) (numbers_where q 0 (length w.slots)))
 
   place : (i : ℕ) → i < count → IsAt q 0 (length w.slots) (at i) (first + i)
   place i lt = kept-place q 0 (length w.slots) (first + i) 0 (omega (arith, long))
@@ -121,13 +118,13 @@ module _ (w : World) (q : ℕ → Bool) (first count : ℕ) (valid : Valid w) (m
   in-slots : (i : ℕ) → i < count → at i < length w.slots
   in-slots i lt = let r = place i lt in omega (arith, r.is, r.low)
 
-  value : (i : ℕ) (d : ChunkPayloadData) → i < count → get_or (map (chunk_at w) (kept q 0 (length w.slots))) (first + i) d ≡ chunk_at w (at i)
-  value i d lt = get-map (chunk_at w) (kept q 0 (length w.slots)) (first + i) d (omega (arith, long))
+  value : (i : ℕ) (d : ChunkPayloadData) → i < count → get_or (map (chunk_at w) (numbers_where q 0 (length w.slots))) (first + i) d ≡ chunk_at w (at i)
+  value i d lt = get-map (chunk_at w) (numbers_where q 0 (length w.slots)) (first + i) d (omega (arith, long))
 
   starts : (slot_at w (at 0)).fragment ≡ 0
   starts =
       let d = chunk_at w 0 in
-      let e : (chunk_at w (at 0)).beginning_fragment ≡ true = ap (λ x. x.beginning_fragment) (sym (value 0 d run.some)) ∙ ap (λ k. (get_or (map (chunk_at w) (kept q 0 (length w.slots))) k d).beginning_fragment) (let z : first + 0 ≡ first = omega arith in z) ∙ run.begins d in
+      let e : (chunk_at w (at 0)).beginning_fragment ≡ true = ap (λ x. x.beginning_fragment) (sym (value 0 d run.some)) ∙ ap (λ k. (get_or (map (chunk_at w) (numbers_where q 0 (length w.slots))) k d).beginning_fragment) (let z : first + 0 ≡ first = omega arith in z) ∙ run.begins d in
       let h : ((slot_at w (at 0)).fragment == 0) ≡ true = e in
       grind (arith, nat_tests)
 
@@ -139,7 +136,7 @@ module _ (w : World) (q : ℕ → Bool) (first count : ℕ) (valid : Valid w) (m
       let d = chunk_at w 0 in
       let index : first + i + 1 ≡ first + suc i = omega arith in
       let rise : tsn_at (at (suc i)) ≡ (tsn_at (at i) + 1) % 2 ^ 32 =
-      ap (λ x. x.tsn) (sym (value (suc i) d lt)) ∙ ap (λ k. (get_or (map (chunk_at w) (kept q 0 (length w.slots))) k d).tsn) (sym index) ∙ run.rising (first + i) d (omega arith) (omega arith) ∙ ap (λ x. (x.tsn + 1) % 2 ^ 32) (value i d (omega arith)) in
+      ap (λ x. x.tsn) (sym (value (suc i) d lt)) ∙ ap (λ k. (get_or (map (chunk_at w) (numbers_where q 0 (length w.slots))) k d).tsn) (sym index) ∙ run.rising (first + i) d (omega arith) (omega arith) ∙ ap (λ x. (x.tsn + 1) % 2 ^ 32) (value i d (omega arith)) in
       let next : at (suc i) ≡ at i + 1 = follows (at i) (at (suc i)) (in-slots i (omega arith)) (in-slots (suc i) lt) rise in
       let middle : (chunk_at w (at (suc i))).beginning_fragment ≡ false = ap (λ x. x.beginning_fragment) (sym (value (suc i) d lt)) ∙ run.no_other (first + suc i) d (omega arith) (omega arith) in
       let later : ((slot_at w (at (suc i))).fragment == 0) ≡ false = middle in
@@ -159,13 +156,13 @@ module _ (w : World) (q : ℕ → Bool) (first count : ℕ) (valid : Valid w) (m
       follows : (x y : ℕ) → x < length w.slots → y < length w.slots → (w.setup.first + y) % 2 ^ 32 ≡ ((w.setup.first + x) % 2 ^ 32 + 1) % 2 ^ 32 → y ≡ x + 1
       follows x y a b e = omega (arith, valid.few)
 
-  pub run-is : IsWholeRun w q first count
+  pub run-is : IsCompleteRun w q first count
   run-is =
       let n = message_of w (at 0) in
       let last = goes_on (count - 1) (omega (arith, run.some)) in
       let d = chunk_at w 0 in
       let index : first + (count - 1) ≡ first + count - 1 = omega (arith, run.some) in
-      let e : (chunk_at w (at (count - 1))).ending_fragment ≡ true = ap (λ x. x.ending_fragment) (sym (value (count - 1) d (omega (arith, run.some)))) ∙ ap (λ k. (get_or (map (chunk_at w) (kept q 0 (length w.slots))) k d).ending_fragment) index ∙ run.ends d in
+      let e : (chunk_at w (at (count - 1))).ending_fragment ≡ true = ap (λ x. x.ending_fragment) (sym (value (count - 1) d (omega (arith, run.some)))) ∙ ap (λ k. (get_or (map (chunk_at w) (numbers_where q 0 (length w.slots))) k d).ending_fragment) index ∙ run.ends d in
       let h : ((slot_at w (at (count - 1))).fragment + 1 == fragment_count w (message_of w (at (count - 1)))) ≡ true = e in
       let total : (slot_at w (at (count - 1))).fragment + 1 ≡ fragment_count w (message_of w (at (count - 1))) = grind (arith, nat_tests) in
       let r = place 0 run.some in
@@ -177,5 +174,5 @@ module _ (w : World) (q : ℕ → Bool) (first count : ℕ) (valid : Valid w) (m
         passes = passes 0 run.some;
         all = λ i lt. let g = goes_on i lt in (ap q (sym g.0) ∙ passes i lt, ap (has_fragment w (message_of w (at 0))) (sym g.0) ∙ ap (λ m. has_fragment w m (at i)) (sym g.1) ∙ datagram_received (at i) (passes i lt));
         count_is = omega (arith, total, ap (fragment_count w) last.1, last.2, run.some);
-        first_is = ap (λ x. length (kept q 0 x)) k ∙ r.place_is ∙ omega arith;
+        first_is = ap (λ x. length (numbers_where q 0 x)) k ∙ r.place_is ∙ omega arith;
       }

@@ -1,23 +1,23 @@
 -- What a read and the other events make of the index expected next, and when the queue has nothing to read.
 use Rattle.std.proofs.Common.{◌≡◌, ℕ, ◌+◌, Bool, true, false, List, [], ◌∷◌, Option, Some, None, refl, ap, sym, ◌∙◌, inl, inr, arith}
 use Rattle.std.specs.Prelude.{◌⊎◌, ◌↔◌, if◌then◌else◌, ◌==◌, not, fold, slice_get}
-use Rattle.std.specs.List.{list_any}
+use Rattle.std.specs.List.{list_any, filter}
 use Rattle.std.proofs.lemmas.Bool.Decides.{nat_tests}
-use Rattle.sctp_list_lemmas.specs.Kept.{passing, first_of, or_else}
+use Rattle.sctp_list_lemmas.specs.Kept.{first_of, or_else}
 use Rattle.sctp_list_lemmas.proofs.Cases.{negated}
 use Rattle.sctp_chunks.specs.ChunkSet.{ChunkSet}
 use Rattle.sctp_reassembly.specs.reassembly_queue.ReassemblyQueue.{message_read}
 use Rattle.sctp_model.specs.declared.event.Event.{Event}
 use Rattle.sctp_model.specs.declared.event.Event.TheVariants as E
 use Rattle.sctp_model.specs.declared.event.LinkRefusal.TheVariants.{StreamOpen}
-use Rattle.sctp_model.specs.World.{Setup, World, StreamRecord, Datagram, Data, Forward, Sack}
+use Rattle.sctp_model.specs.LinkRecord.{Setup, LinkRecord, StreamRecord, Datagram, Data, Forward, Sack}
 use Rattle.sctp_model.specs.Messages
 use Rattle.sctp_model.specs.Messages.{message_of, stream_at, stream_of, index_of}
 use Rattle.sctp_model.specs.Receiver.{next_of, next_read, held_on, is_unread, run_of}
 use Rattle.sctp_model.specs.Changes
-use Rattle.sctp_model.specs.Changes.{read_of, read_from, stream_changed, slot_received}
-use Rattle.sctp_model.specs.Queues.{set_of, whole_set_of, handed_out}
-use Rattle.sctp_model.specs.Steps.{History, world_of, IsRun, refusal_of, after}
+use Rattle.sctp_model.specs.Changes.{read_of, after_reading, stream_changed, receive_slot}
+use Rattle.sctp_model.specs.Queues.{set_of, complete_set_of, handed_out}
+use Rattle.sctp_model.specs.Steps.{History, record_of, IsRun, refusal_of, after}
 use Rattle.sctp_model.specs.Laws.{IsSetup}
 use Rattle.sctp_model.proofs.sender.SenderRun.{sane-run, sane-after, unless-holds}
 use Rattle.sctp_model.proofs.sender.Moves
@@ -45,38 +45,38 @@ use Rattle.sctp_refinement.proofs.arriving.UnorderedStep
 -- ## A read
 
 -- an ordered message is read: the front of what is held, and the index expected next moves by one where it is that one
-pub record ReadsOrdered (w : World) (s n : ℕ) : Type 0 where
-  pub none : (stream_of w s).whole ≡ []
+pub record ReadsOrdered (w : LinkRecord) (s n : ℕ) : Type 0 where
+  pub none : (stream_of w s).complete ≡ []
   pub due : IsDue w s n
   pub rest : List ℕ
   pub front : held_on w s ≡ n ∷ rest
   pub message : message_read (reassembly_of w s) ≡ Some (set_of w n)
-  pub here : next_of (read_from w s) s ≡ (if index_of w n == next_of w s then next_of w s + 1 else next_of w s)
-  pub other : (t : ℕ) → (t ≡ s → ⊥) → next_of (read_from w s) t ≡ next_of w t
+  pub here : next_of (after_reading w s) s ≡ (if index_of w n == next_of w s then next_of w s + 1 else next_of w s)
+  pub other : (t : ℕ) → (t ≡ s → ⊥) → next_of (after_reading w s) t ≡ next_of w t
 
 -- the complete unordered message that came first is read: no index moves
-pub record ReadsWhole (w : World) (s n : ℕ) : Type 0 where
+pub record ReadsComplete (w : LinkRecord) (s n : ℕ) : Type 0 where
   pub rest : List ℕ
-  pub whole : (stream_of w s).whole ≡ n ∷ rest
+  pub complete : (stream_of w s).complete ≡ n ∷ rest
   pub unordered : (Messages.message_at w n).ordered ≡ false
-  pub next : (t : ℕ) → next_of (read_from w s) t ≡ next_of w t
+  pub next : (t : ℕ) → next_of (after_reading w s) t ≡ next_of w t
 
 -- with nothing to read nothing changes
-pub nothing-read : (w : World) (s : ℕ) → next_read w s ≡ None → read_from w s ≡ w
+pub nothing-read : (w : LinkRecord) (s : ℕ) → next_read w s ≡ None → after_reading w s ≡ w
 nothing-read w s e = ap (read_of w s) e
 
-module _ (w : World) (s : ℕ) (r : StreamRecord) (valid : Valid w) (more : ValidUnassembled w) (sp : IsSpan w s []) (open' : stream_at w s ≡ Some r) where
+module _ (w : LinkRecord) (s : ℕ) (r : StreamRecord) (valid : Valid w) (more : ValidUnassembled w) (sp : IsSpan w s []) (open' : stream_at w s ≡ Some r) where
   -- the index expected next after a read is that of the record with the message read
   restreamed : (n t : ℕ) → next_of (read_of w s (Some n)) t ≡ next_of (with_read w n) t
   restreamed n t = UnorderedStep.next-streams (with_read w n) (read_of w s (Some n)).streams (Keeps.named-changed (with_read w n) s Changes.without_first (λ r. refl) (λ r. refl)) t
 
-  pub whole-read : (n : ℕ) (rest : List ℕ) → (stream_of w s).whole ≡ n ∷ rest → ReadsWhole w s n
-  whole-read n rest e =
-      let front : next_read w s ≡ Some n = ap (λ l. or_else (first_of l) (first_of (passing (is_unread w) (run_of w s)))) e in
+  pub complete-read : (n : ℕ) (rest : List ℕ) → (stream_of w s).complete ≡ n ∷ rest → ReadsComplete w s n
+  complete-read n rest e =
+      let front : next_read w s ≡ Some n = ap (λ l. or_else (first_of l) (first_of (filter (is_unread w) (run_of w s)))) e in
       let kind = (more.waits s n (ap (λ l. list_any (λ k. k == n) l) e ∙ first-in n rest)).unordered in
       record {
         rest = rest;
-        whole = e;
+        complete = e;
         unordered = kind;
         next = λ t. ap (λ o. next_of (read_of w s o) t) front ∙ restreamed n t ∙ UnorderedRead.next-read_unordered w n valid kind t;
       }
@@ -84,9 +84,9 @@ module _ (w : World) (s : ℕ) (r : StreamRecord) (valid : Valid w) (more : Vali
       first-in : (n : ℕ) (rest : List ℕ) → list_any (λ k. k == n) (n ∷ rest) ≡ true
       first-in n rest = let z : (n == n) ≡ true = grind (arith, nat_tests) in rw z refl
 
-  pub ordered-read : (n : ℕ) → (stream_of w s).whole ≡ [] → next_read w s ≡ Some n → ReadsOrdered w s n
+  pub ordered-read : (n : ℕ) → (stream_of w s).complete ≡ [] → next_read w s ≡ Some n → ReadsOrdered w s n
   ordered-read n e front =
-      let run : first_of (passing (is_unread w) (run_of w s)) ≡ Some n = ap (λ l. or_else (first_of l) (first_of (passing (is_unread w) (run_of w s)))) (sym e) ∙ front in
+      let run : first_of (filter (is_unread w) (run_of w s)) ≡ Some n = ap (λ l. or_else (first_of l) (first_of (filter (is_unread w) (run_of w s)))) (sym e) ∙ front in
       let d = due-front w s valid sp n (sym (run-due w s valid) ∙ run) in
       let kind = Line.on-ordered w s n d.0.on in
       record {
@@ -94,7 +94,7 @@ module _ (w : World) (s : ℕ) (r : StreamRecord) (valid : Valid w) (more : Vali
         due = d.0;
         rest = d.1.0;
         front = d.1.1;
-        message = NextRead.message-is w s r valid more sp open' ∙ ap (map_option (handed_out w)) front ∙ ap (λ x. Some x) (ap (λ b. if b then set_of w n else whole_set_of w n) kind);
+        message = NextRead.message-is w s r valid more sp open' ∙ ap (map_option (handed_out w)) front ∙ ap (λ x. Some x) (ap (λ b. if b then set_of w n else complete_set_of w n) kind);
         here = ap (λ o. next_of (read_of w s o) s) front ∙ restreamed n s ∙ step (index_of w n == next_of w s) refl d.0;
         other = λ t ne. ap (λ o. next_of (read_of w s o) t) front ∙ restreamed n t ∙ Reading.next-other w s n valid sp d.0 t ne;
       }
@@ -104,15 +104,15 @@ module _ (w : World) (s : ℕ) (r : StreamRecord) (valid : Valid w) (more : Vali
       step false h d = Reading.next-stays w s n valid sp d (λ z. grind (arith, nat_tests))
 
   -- what is read next: the first complete unordered message, or the ordered one at the front
-  pub reads-one : (n : ℕ) → next_read w s ≡ Some n → ReadsWhole w s n ⊎ ReadsOrdered w s n
-  reads-one n e = by (stream_of w s).whole refl
+  pub reads-one : (n : ℕ) → next_read w s ≡ Some n → ReadsComplete w s n ⊎ ReadsOrdered w s n
+  reads-one n e = by (stream_of w s).complete refl
     where
-      by : (l : List ℕ) → (stream_of w s).whole ≡ l → ReadsWhole w s n ⊎ ReadsOrdered w s n
+      by : (l : List ℕ) → (stream_of w s).complete ≡ l → ReadsComplete w s n ⊎ ReadsOrdered w s n
       by [] f = inr (ordered-read n f e)
       by (k ∷ rest) f =
-          let first : Some k ≡ Some n = ap (λ l. or_else (first_of l) (first_of (passing (is_unread w) (run_of w s)))) (sym f) ∙ e in
+          let first : Some k ≡ Some n = ap (λ l. or_else (first_of l) (first_of (filter (is_unread w) (run_of w s)))) (sym f) ∙ e in
           let z : k ≡ n = cc in
-          inl (whole-read n rest (f ∙ ap (λ j. j ∷ rest) z))
+          inl (complete-read n rest (f ∙ ap (λ j. j ∷ rest) z))
 
   -- the queue has nothing to read where the record has nothing
   pub none-read : next_read w s ≡ None → message_read (reassembly_of w s) ≡ None
@@ -137,11 +137,11 @@ module _ (w : World) (s : ℕ) (r : StreamRecord) (valid : Valid w) (more : Vali
       by (Some n) f = let z : Some set ≡ Some (handed_out w n) = sym e ∙ NextRead.message-is w s r valid more sp open' ∙ ap (map_option (handed_out w)) f in (n, f, cc)
 
 -- in every history, on an open stream
-pub reads-run : (setup : Setup) (h : History) (s n : ℕ) (r : StreamRecord) → IsSetup setup → IsRun setup h → stream_at (world_of setup h) s ≡ Some r → next_read (world_of setup h) s ≡ Some n → ReadsWhole (world_of setup h) s n ⊎ ReadsOrdered (world_of setup h) s n
-reads-run setup h s n r is run open' = let k = record_is_valid setup h is run in reads-one (world_of setup h) s r k.valid k.unassembled (k.near s) open' n
+pub reads-run : (setup : Setup) (h : History) (s n : ℕ) (r : StreamRecord) → IsSetup setup → IsRun setup h → stream_at (record_of setup h) s ≡ Some r → next_read (record_of setup h) s ≡ Some n → ReadsComplete (record_of setup h) s n ⊎ ReadsOrdered (record_of setup h) s n
+reads-run setup h s n r is run open' = let k = record_is_valid setup h is run in reads-one (record_of setup h) s r k.valid k.unassembled (k.near s) open' n
 
-pub none-run : (setup : Setup) (h : History) (s : ℕ) (r : StreamRecord) → IsSetup setup → IsRun setup h → stream_at (world_of setup h) s ≡ Some r → (message_read (reassembly_of (world_of setup h) s) ≡ None) ↔ (next_read (world_of setup h) s ≡ None)
-none-run setup h s r is run open' = let k = record_is_valid setup h is run in none (world_of setup h) s r k.valid k.unassembled (k.near s) open'
+pub none-run : (setup : Setup) (h : History) (s : ℕ) (r : StreamRecord) → IsSetup setup → IsRun setup h → stream_at (record_of setup h) s ≡ Some r → (message_read (reassembly_of (record_of setup h) s) ≡ None) ↔ (next_read (record_of setup h) s ≡ None)
+none-run setup h s r is run open' = let k = record_is_valid setup h is run in none (record_of setup h) s r k.valid k.unassembled (k.near s) open'
 
 -- ## The other events leave the index expected next
 
@@ -151,59 +151,59 @@ KeepsNext (E.Arrive k) = ⊥
 KeepsNext (E.Read s) = ⊥
 KeepsNext e = Unit {0}
 
-next-view : (w v : World) (t : ℕ) → view v ≡ view w → next_of v t ≡ next_of w t
+next-view : (w v : LinkRecord) (t : ℕ) → view v ≡ view w → next_of v t ≡ next_of w t
 next-view w v t e = ap (λ x. View.next x t) e
 
-next-taken : (w : World) (o : Option Datagram) (t : ℕ) → next_of (Changes.sack_taken w o) t ≡ next_of w t
+next-taken : (w : LinkRecord) (o : Option Datagram) (t : ℕ) → next_of (Changes.after_acked w o) t ≡ next_of w t
 next-taken w None t = refl
 next-taken w (Some (Data ps)) t = refl
 next-taken w (Some (Forward upto names)) t = refl
 next-taken w (Some (Sack r)) t = refl
 
-pub next-same : (setup : Setup) (h : History) (e : Event) (t : ℕ) → IsSetup setup → IsRun setup h → refusal_of (world_of setup h) e ≡ None → KeepsNext e → next_of (after (world_of setup h) e) t ≡ next_of (world_of setup h) t
+pub next-same : (setup : Setup) (h : History) (e : Event) (t : ℕ) → IsSetup setup → IsRun setup h → refusal_of (record_of setup h) e ≡ None → KeepsNext e → next_of (after (record_of setup h) e) t ≡ next_of (record_of setup h) t
 next-same setup h e t is run ok keeps = by e ok keeps
   where
-    w : World
-    w = world_of setup h
+    w : LinkRecord
+    w = record_of setup h
 
-    quiet : (e : Event) → refusal_of (world_of setup h) e ≡ None → Quiet (world_of setup h) (after (world_of setup h) e) → next_of (after (world_of setup h) e) t ≡ next_of (world_of setup h) t
+    quiet : (e : Event) → refusal_of (record_of setup h) e ≡ None → Quiet (record_of setup h) (after (record_of setup h) e) → next_of (after (record_of setup h) e) t ≡ next_of (record_of setup h) t
     quiet e ok q =
         let g = sane-run setup h run in
-        let a = sane-after setup (world_of setup h) e ok g in
-        Ordered.next-still (view (world_of setup h)) (view (after (world_of setup h) e)) (still-of setup (world_of setup h) (after (world_of setup h) e) g a q) (received-run setup h is run).ordered t
+        let a = sane-after setup (record_of setup h) e ok g in
+        Ordered.next-still (view (record_of setup h)) (view (after (record_of setup h) e)) (still-of setup (record_of setup h) (after (record_of setup h) e) g a q) (received-run setup h is run).ordered t
 
-    by : (e : Event) → refusal_of (world_of setup h) e ≡ None → KeepsNext e → next_of (after (world_of setup h) e) t ≡ next_of (world_of setup h) t
+    by : (e : Event) → refusal_of (record_of setup h) e ≡ None → KeepsNext e → next_of (after (record_of setup h) e) t ≡ next_of (record_of setup h) t
     by (E.Open s) ok keeps =
-        next-view (world_of setup h) (Changes.opened (world_of setup h) s) t (View.view-opened (world_of setup h) s (negated (Messages.is_open (world_of setup h) s) (unless-holds (not (Messages.is_open (world_of setup h) s)) StreamOpen None ok).0))
-    by (E.Mode s u y v) ok keeps = next-view (world_of setup h) (Changes.mode_set (world_of setup h) s u y v) t (View.view-moded (world_of setup h) s u y v)
-    by (E.Write s ppi bytes) ok keeps = quiet (E.Write s ppi bytes) ok (Moves.quiet-written setup (world_of setup h) s ppi bytes (sane-run setup h run))
-    by (E.Start now) ok keeps = quiet (E.Start now) ok (Moves.quiet-started (world_of setup h) now)
-    by (E.Send now) ok keeps = quiet (E.Send now) ok (Moves.quiet-sent setup (world_of setup h) now (Messages.front (world_of setup h)) (sane-run setup h run))
+        next-view (record_of setup h) (Changes.after_open (record_of setup h) s) t (View.view-opened (record_of setup h) s (negated (Messages.is_open (record_of setup h) s) (unless-holds (not (Messages.is_open (record_of setup h) s)) StreamOpen None ok).0))
+    by (E.Mode s u y v) ok keeps = next-view (record_of setup h) (Changes.after_mode (record_of setup h) s u y v) t (View.view-moded (record_of setup h) s u y v)
+    by (E.Write s ppi bytes) ok keeps = quiet (E.Write s ppi bytes) ok (Moves.quiet-written setup (record_of setup h) s ppi bytes (sane-run setup h run))
+    by (E.Start now) ok keeps = quiet (E.Start now) ok (Moves.quiet-started (record_of setup h) now)
+    by (E.Send now) ok keeps = quiet (E.Send now) ok (Moves.quiet-sent setup (record_of setup h) now (Messages.front (record_of setup h)) (sane-run setup h run))
     by (E.Resend tsn) ok keeps = refl
-    by (E.Expire now) ok keeps = quiet (E.Expire now) ok (Moves.quiet-expire setup (world_of setup h) now (Messages.front (world_of setup h)) (sane-run setup h run))
-    by (E.Tail now) ok keeps = quiet (E.Tail now) ok (Moves.quiet-tail setup (world_of setup h) (Changes.tailing (world_of setup h) now) (sane-run setup h run))
-    by (E.Late now) ok keeps = quiet (E.Late now) ok (Moves.quiet-lates setup (world_of setup h) now (sane-run setup h run))
-    by (E.Abandon tsn) ok keeps = quiet (E.Abandon tsn) ok (Moves.quiet-abandoned setup (world_of setup h) (Messages.message_of (world_of setup h) (Messages.place_of (world_of setup h) tsn)) (sane-run setup h run))
+    by (E.Expire now) ok keeps = quiet (E.Expire now) ok (Moves.quiet-expire setup (record_of setup h) now (Messages.front (record_of setup h)) (sane-run setup h run))
+    by (E.Tail now) ok keeps = quiet (E.Tail now) ok (Moves.quiet-tail setup (record_of setup h) (Changes.tailing (record_of setup h) now) (sane-run setup h run))
+    by (E.Late now) ok keeps = quiet (E.Late now) ok (Moves.quiet-lates setup (record_of setup h) now (sane-run setup h run))
+    by (E.Abandon tsn) ok keeps = quiet (E.Abandon tsn) ok (Moves.quiet-abandoned setup (record_of setup h) (Messages.message_of (record_of setup h) (Messages.place_of (record_of setup h) tsn)) (sane-run setup h run))
     by (E.Skip upto names) ok keeps = refl
     by (E.Ack credit) ok keeps = refl
     by (E.Arrive k) ok keeps = absurd keeps
-    by (E.Acked k) ok keeps = next-taken (world_of setup h) (slice_get (world_of setup h).network k) t
+    by (E.Acked k) ok keeps = next-taken (record_of setup h) (slice_get (record_of setup h).network k) t
     by (E.Read s) ok keeps = absurd keeps
 
 -- nor does the arrival of fragments move it
-next-slots : (ps : List ℕ) (w : World) (t : ℕ) → next_of (fold slot_received w ps) t ≡ next_of w t
+next-slots : (ps : List ℕ) (w : LinkRecord) (t : ℕ) → next_of (fold receive_slot w ps) t ≡ next_of w t
 next-slots [] w t = refl
-next-slots (p ∷ ps) w t = next-slots ps (slot_received w p) t ∙ by_step (λ u. next_of u t ≡ next_of w t) w p refl (λ e b h. new b)
+next-slots (p ∷ ps) w t = next-slots ps (receive_slot w p) t ∙ by_step (λ u. next_of u t ≡ next_of w t) w p refl (λ e b h. new b)
   where
     new : (b : Bool) → next_of (noted w p b) t ≡ next_of w t
     new false = refl
     new true =
         let v = with_arrived w p in
         let on = (Messages.message_at w (message_of w p)).stream in
-        let f = Changes.with_whole (message_of w p) in
+        let f = Changes.with_complete (message_of w p) in
         UnorderedStep.next-streams v (Changes.stream_changed v on f).streams (Keeps.named-changed v on f (λ r. refl) (λ r. refl)) t
 
-pub next-arrive : (setup : Setup) (h : History) (k t : ℕ) (slots : List ℕ) → slice_get (world_of setup h).network k ≡ Some (Data slots) → next_of (after (world_of setup h) (E.Arrive k)) t ≡ next_of (world_of setup h) t
+pub next-arrive : (setup : Setup) (h : History) (k t : ℕ) (slots : List ℕ) → slice_get (record_of setup h).network k ≡ Some (Data slots) → next_of (after (record_of setup h) (E.Arrive k)) t ≡ next_of (record_of setup h) t
 next-arrive setup h k t slots e =
-    let w = world_of setup h in
-    ap (λ d. next_of (Changes.datagram_received w d) t) e ∙ next-slots slots w t
+    let w = record_of setup h in
+    ap (λ d. next_of (Changes.after_arrive w d) t) e ∙ next-slots slots w t

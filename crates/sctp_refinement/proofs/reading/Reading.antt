@@ -3,16 +3,16 @@ use Rattle.std.proofs.Common.{◌≡◌, ℕ, ◌+◌, ◌-◌, ◌<◌, ◌≤�
 use Rattle.std.specs.Prelude.{◌⊎◌, if◌then◌else◌, ◌==◌, ◌&&◌, not, nat_le}
 use Rattle.std.proofs.lemmas.Bool.Decides.{nat_tests}
 use Rattle.std.proofs.Math.Nat.{eq-or-lt_of_le}
-use Rattle.sctp_list_lemmas.specs.Kept.{kept}
-use Rattle.sctp_list_lemmas.specs.Lists.{changed}
+use Rattle.sctp_list_lemmas.specs.Kept.{numbers_where}
+use Rattle.sctp_list_lemmas.specs.Lists.{change_at}
 use Rattle.sctp_reassembly.specs.reassembly_queue.ReassemblyQueue.{after_read, without_first}
 use Rattle.sctp_model.specs.Contents.{chunk_at}
-use Rattle.sctp_model.specs.Queues.{set_of, whole_set_of, is_unassembled}
-use Rattle.sctp_refinement.specs.Holds.{ordered_sets, whole_sets, unassembled_chunks, reassembly_of}
+use Rattle.sctp_model.specs.Queues.{set_of, complete_set_of, is_unassembled}
+use Rattle.sctp_refinement.specs.Holds.{ordered_sets, complete_sets, unassembled_chunks, reassembly_of}
 use Rattle.sctp_list_lemmas.proofs.Passing.{kept-same, kept-skip, map-kept-same, front-kept, FrontOf, IsFront}
-use Rattle.sctp_model.specs.World.{World}
+use Rattle.sctp_model.specs.LinkRecord.{LinkRecord}
 use Rattle.sctp_model.specs.Messages.{message_at, message_of, stream_of, no_message, is_ordered_on, index_of, ssn_of, fragments_of, has_fragment, ordered_on, slots_of, is_unordered_on}
-use Rattle.sctp_model.specs.Receiver.{arrived_at, is_whole, is_held, held_on, next_of}
+use Rattle.sctp_model.specs.Receiver.{arrived_at, is_complete_message, is_held, held_on, next_of}
 use Rattle.sctp_model.specs.Changes.{mark_read}
 use Rattle.sctp_model.specs.Valid.{IsSpan, Valid}
 use Rattle.sctp_list_lemmas.proofs.More.{fails, not_both, length-changed, changed-same, changed-other, changed-keeps}
@@ -22,69 +22,69 @@ use Rattle.sctp_refinement.proofs.reading.Line.{on-made, on-ordered, ssn_on, lin
 use Rattle.sctp_refinement.proofs.arriving.Stays.{map-all, by_place}
 use Rattle.sctp_list_lemmas.proofs.Wraps
 use Rattle.sctp_refinement.proofs.reading.Taken
-use Rattle.sctp_refinement.proofs.reading.Taken.{held, IsDue, whole_held}
+use Rattle.sctp_refinement.proofs.reading.Taken.{held, IsDue, complete_held}
 
-abbrev pub with_read : World → ℕ → World
-with_read w n = record w { messages = changed mark_read n w.messages }
+abbrev pub with_read : LinkRecord → ℕ → LinkRecord
+with_read w n = record w { messages = change_at mark_read n w.messages }
 
 -- ## What stays
 
-pub count-read : (w : World) (n : ℕ) → length (with_read w n).messages ≡ length w.messages
+pub count-read : (w : LinkRecord) (n : ℕ) → length (with_read w n).messages ≡ length w.messages
 count-read w n = length-changed mark_read n w.messages
 
-pub on-read : (w : World) (n s k : ℕ) → is_ordered_on (with_read w n) s k ≡ is_ordered_on w s k
+pub on-read : (w : LinkRecord) (n s k : ℕ) → is_ordered_on (with_read w n) s k ≡ is_ordered_on w s k
 on-read w n s k = changed-keeps mark_read (λ m. (m.stream == s) && (m.ordered && not m.expired)) (λ m. refl) n k w.messages no_message
 
-pub ordered-read : (w : World) (n k : ℕ) → (message_at (with_read w n) k).ordered ≡ (message_at w k).ordered
+pub ordered-read : (w : LinkRecord) (n k : ℕ) → (message_at (with_read w n) k).ordered ≡ (message_at w k).ordered
 ordered-read w n k = changed-keeps mark_read (λ m. m.ordered) (λ m. refl) n k w.messages no_message
 
-pub stream-read : (w : World) (n k : ℕ) → (message_at (with_read w n) k).stream ≡ (message_at w k).stream
+pub stream-read : (w : LinkRecord) (n k : ℕ) → (message_at (with_read w n) k).stream ≡ (message_at w k).stream
 stream-read w n k = changed-keeps mark_read (λ m. m.stream) (λ m. refl) n k w.messages no_message
 
-pub index-read : (w : World) (n k : ℕ) → index_of (with_read w n) k ≡ index_of w k
+pub index-read : (w : LinkRecord) (n k : ℕ) → index_of (with_read w n) k ≡ index_of w k
 index-read w n k =
     rw (stream-read w n k) (ap length (kept-same (is_ordered_on (with_read w n) (message_at w k).stream) (is_ordered_on w (message_at w k).stream) 0 k (λ j a b. on-read w n (message_at w k).stream j)))
 
-pub line-read : (w : World) (n s : ℕ) → ordered_on (with_read w n) s ≡ ordered_on w s
-line-read w n s = ap (kept (is_ordered_on (with_read w n) s) 0) (count-read w n) ∙ kept-same (is_ordered_on (with_read w n) s) (is_ordered_on w s) 0 (length w.messages) (λ k a b. on-read w n s k)
+pub line-read : (w : LinkRecord) (n s : ℕ) → ordered_on (with_read w n) s ≡ ordered_on w s
+line-read w n s = ap (numbers_where (is_ordered_on (with_read w n) s) 0) (count-read w n) ∙ kept-same (is_ordered_on (with_read w n) s) (is_ordered_on w s) 0 (length w.messages) (λ k a b. on-read w n s k)
 
-pub ssn-read : (w : World) (n k : ℕ) → ssn_of (with_read w n) k ≡ ssn_of w k
+pub ssn-read : (w : LinkRecord) (n k : ℕ) → ssn_of (with_read w n) k ≡ ssn_of w k
 ssn-read w n k = rw (index-read w n k, ordered-read w n k, changed-keeps mark_read (λ m. m.before) (λ m. refl) n k w.messages no_message) refl
 
-pub fragments-read : (w : World) (n k : ℕ) → fragments_of (with_read w n) k ≡ fragments_of w k
+pub fragments-read : (w : LinkRecord) (n k : ℕ) → fragments_of (with_read w n) k ≡ fragments_of w k
 fragments-read w n k = rw (changed-keeps mark_read (λ m. m.bytes) (λ m. refl) n k w.messages no_message) refl
 
-pub ppi-read : (w : World) (n k : ℕ) → (message_at (with_read w n) k).ppi ≡ (message_at w k).ppi
+pub ppi-read : (w : LinkRecord) (n k : ℕ) → (message_at (with_read w n) k).ppi ≡ (message_at w k).ppi
 ppi-read w n k = changed-keeps mark_read (λ m. m.ppi) (λ m. refl) n k w.messages no_message
 
-pub chunk-read : (w : World) (n p : ℕ) → chunk_at (with_read w n) p ≡ chunk_at w p
+pub chunk-read : (w : LinkRecord) (n p : ℕ) → chunk_at (with_read w n) p ≡ chunk_at w p
 chunk-read w n p =
     let k = message_of w p in
     rw (ssn-read w n k, fragments-read w n k, stream-read w n k, ordered-read w n k, ppi-read w n k) refl
 
-pub set-read : (w : World) (n k : ℕ) → set_of (with_read w n) k ≡ set_of w k
-set-read w n k = rw (ssn-read w n k, ppi-read w n k, map-all (chunk_at (with_read w n)) (chunk_at w) (kept (λ p. has_fragment w k p && arrived_at w p) 0 (length w.slots)) (λ p. chunk-read w n p)) refl
+pub set-read : (w : LinkRecord) (n k : ℕ) → set_of (with_read w n) k ≡ set_of w k
+set-read w n k = rw (ssn-read w n k, ppi-read w n k, map-all (chunk_at (with_read w n)) (chunk_at w) (numbers_where (λ p. has_fragment w k p && arrived_at w p) 0 (length w.slots)) (λ p. chunk-read w n p)) refl
 
-pub message-other : (w : World) (n k : ℕ) → (k ≡ n → ⊥) → message_at (with_read w n) k ≡ message_at w k
+pub message-other : (w : LinkRecord) (n k : ℕ) → (k ≡ n → ⊥) → message_at (with_read w n) k ≡ message_at w k
 message-other w n k ne = changed-other mark_read n k w.messages no_message ne
 
-pub held-read : (w : World) (n s k : ℕ) → (k ≡ n → ⊥) → is_held (with_read w n) s k ≡ is_held w s k
+pub held-read : (w : LinkRecord) (n s k : ℕ) → (k ≡ n → ⊥) → is_held (with_read w n) s k ≡ is_held w s k
 held-read w n s k ne = rw (index-read w n k, message-other w n k ne) refl
 
-pub read-now : (w : World) (n : ℕ) → n < length w.messages → (message_at (with_read w n) n).read ≡ true
+pub read-now : (w : LinkRecord) (n : ℕ) → n < length w.messages → (message_at (with_read w n) n).read ≡ true
 read-now w n lt = ap (λ m. m.read) (changed-same mark_read n w.messages no_message lt)
 
-pub held-now : (w : World) (n s : ℕ) → n < length w.messages → is_held (with_read w n) s n ≡ false
+pub held-now : (w : LinkRecord) (n s : ℕ) → n < length w.messages → is_held (with_read w n) s n ≡ false
 held-now w n s lt = fails (is_held (with_read w n) s n) (λ e. not_both (sym (held (with_read w n) s n e).unread ∙ read-now w n lt))
 
-pub whole_set-read : (w : World) (n k : ℕ) → whole_set_of (with_read w n) k ≡ whole_set_of w k
-whole_set-read w n k = rw (ppi-read w n k, map-all (chunk_at (with_read w n)) (chunk_at w) (slots_of w k) (λ p. chunk-read w n p)) refl
+pub complete_set-read : (w : LinkRecord) (n k : ℕ) → complete_set_of (with_read w n) k ≡ complete_set_of w k
+complete_set-read w n k = rw (ppi-read w n k, map-all (chunk_at (with_read w n)) (chunk_at w) (slots_of w k) (λ p. chunk-read w n p)) refl
 
-pub whole_sets-read : (w : World) (n s : ℕ) → whole_sets (with_read w n) s ≡ whole_sets w s
-whole_sets-read w n s = map-all (whole_set_of (with_read w n)) (whole_set_of w) (stream_of w s).whole (λ k. whole_set-read w n k)
+pub complete_sets-read : (w : LinkRecord) (n s : ℕ) → complete_sets (with_read w n) s ≡ complete_sets w s
+complete_sets-read w n s = map-all (complete_set_of (with_read w n)) (complete_set_of w) (stream_of w s).complete (λ k. complete_set-read w n k)
 
 -- the unassembled chunks, where an ordered message was read
-pub unassembled-read : (w : World) (n s : ℕ) → (message_at w n).ordered ≡ true → unassembled_chunks (with_read w n) s ≡ unassembled_chunks w s
+pub unassembled-read : (w : LinkRecord) (n s : ℕ) → (message_at w n).ordered ≡ true → unassembled_chunks (with_read w n) s ≡ unassembled_chunks w s
 unassembled-read w n s on =
     map-kept-same (chunk_at (with_read w n)) (chunk_at w) (is_unassembled (with_read w n) s) (is_unassembled w s) 0 (length w.slots)
     (λ k a b. ap (λ x. arrived_at w k && (nat_le w.skipped k && x)) (by_message (message_of w k)))
@@ -94,19 +94,19 @@ unassembled-read w n s on =
     ands true = refl
     ands false = refl
 
-    here : (v : World) → (message_at v n).ordered ≡ true → (is_unordered_on v s n && not (is_whole v n)) ≡ false
+    here : (v : LinkRecord) → (message_at v n).ordered ≡ true → (is_unordered_on v s n && not (is_complete_message v n)) ≡ false
     here v e = let off : is_unordered_on v s n ≡ false = (rw e (ands ((message_at v n).stream == s))) in rw off refl
 
-    by_message : (m : ℕ) → (is_unordered_on (with_read w n) s m && not (is_whole (with_read w n) m)) ≡ (is_unordered_on w s m && not (is_whole w m))
-    by_message m = by_place {C = (is_unordered_on (with_read w n) s m && not (is_whole (with_read w n) m)) ≡ (is_unordered_on w s m && not (is_whole w m))} m n
+    by_message : (m : ℕ) → (is_unordered_on (with_read w n) s m && not (is_complete_message (with_read w n) m)) ≡ (is_unordered_on w s m && not (is_complete_message w m))
+    by_message m = by_place {C = (is_unordered_on (with_read w n) s m && not (is_complete_message (with_read w n) m)) ≡ (is_unordered_on w s m && not (is_complete_message w m))} m n
         (λ ne. rw (message-other w n m ne) refl)
         (λ e. rw e (here (with_read w n) (ordered-read w n n ∙ on) ∙ sym (here w on)))
 
 -- ## What changes
 
-module _ (w : World) (s n : ℕ) (valid : Valid w) (sp : IsSpan w s []) (d : IsDue w s n) where
+module _ (w : LinkRecord) (s n : ℕ) (valid : Valid w) (sp : IsSpan w s []) (d : IsDue w s n) where
   n-held : is_held w s n ≡ true
-  n-held = Taken.is-held w s n (whole_held w s n valid d.on d.unread d.whole)
+  n-held = Taken.is-held w s n (complete_held w s n valid d.on d.unread d.complete)
 
   n-made : n < length w.messages
   n-made = on-made w s n d.on
@@ -117,7 +117,7 @@ module _ (w : World) (s n : ℕ) (valid : Valid w) (sp : IsSpan w s []) (d : IsD
       let f = front (held_on w s) e (front-kept (is_held w s) 0 (length w.messages)) in
       let v = with_read w n in
       map-kept-same (set_of v) (set_of w) (is_held v s) (is_held v s) 0 (length v.messages) (λ k a b. refl) (λ k a b h. set-read w n k)
-      ∙ ap (λ c. map (set_of w) (kept (is_held v s) 0 c)) (count-read w n)
+      ∙ ap (λ c. map (set_of w) (numbers_where (is_held v s) 0 c)) (count-read w n)
       ∙ ap (map (set_of w)) (kept-skip (is_held v s) 0 (length w.messages) (n + 1) (omega arith) (omega (arith, n-made)) (λ j a b. upto f j b (eq-or-lt_of_le (below j b)))
       ∙ kept-same (is_held v s) (is_held w s) (n + 1) (0 + length w.messages - (n + 1)) (λ j a b. held-read w n s j (λ z. omega arith))
       ∙ sym f.others)
@@ -133,7 +133,7 @@ module _ (w : World) (s n : ℕ) (valid : Valid w) (sp : IsSpan w s []) (d : IsD
       upto f j b (inl z) = ap (is_held (with_read w n) s) z ∙ held-now w n s n-made
       upto f j b (inr l) = held-read w n s j (λ z. omega arith) ∙ f.first j (omega arith) l
 
-  read_at : World → ℕ → Bool
+  read_at : LinkRecord → ℕ → Bool
   read_at v k = (message_at v k).read
 
   stays-read : (k : ℕ) → (message_at w k).read ≡ true → (message_at (with_read w n) k).read ≡ true
@@ -194,12 +194,12 @@ module _ (w : World) (s n : ℕ) (valid : Valid w) (sp : IsSpan w s []) (d : IsD
 
   pub ordered-read_off : (rest : List ℕ) → held_on w s ≡ n ∷ rest → reassembly_of (with_read w n) s ≡ after_read (Some (set_of w n)) (reassembly_of w s)
   ordered-read_off rest e =
-      rw (next-read, sets-left rest e, whole_sets-read w n s, unassembled-read w n s (on-ordered w s n d.on)) refl
+      rw (next-read, sets-left rest e, complete_sets-read w n s, unassembled-read w n s (on-ordered w s n d.on)) refl
 
   -- ## The other streams are as they were
 
   pub read-elsewhere : (t : ℕ) → (t ≡ s → ⊥) → reassembly_of (with_read w n) t ≡ reassembly_of w t
-  read-elsewhere t ne = rw (ap (λ x. x % 2 ^ 16) next-same, sets-same, whole_sets-read w n t, unassembled-read w n t (on-ordered w s n d.on)) refl
+  read-elsewhere t ne = rw (ap (λ x. x % 2 ^ 16) next-same, sets-same, complete_sets-read w n t, unassembled-read w n t (on-ordered w s n d.on)) refl
     where
       off : (k : ℕ) → is_ordered_on w t k ≡ true → k ≡ n → ⊥
       off k on z = ne (sym (Line.on-stream w t k on) ∙ ap (λ m. (message_at w m).stream) z ∙ Line.on-stream w s n d.on)
@@ -210,7 +210,7 @@ module _ (w : World) (s n : ℕ) (valid : Valid w) (sp : IsSpan w s []) (d : IsD
       sets-same : ordered_sets (with_read w n) t ≡ ordered_sets w t
       sets-same =
           map-kept-same (set_of (with_read w n)) (set_of w) (is_held (with_read w n) t) (is_held w t) 0 (length (with_read w n).messages) (λ k a b. held-same k) (λ k a b h. set-read w n k)
-          ∙ ap (λ c. map (set_of w) (kept (is_held w t) 0 c)) (count-read w n)
+          ∙ ap (λ c. map (set_of w) (numbers_where (is_held w t) 0 c)) (count-read w n)
 
       next-same : next_of (with_read w n) t ≡ next_of w t
       next-same =

@@ -3,7 +3,7 @@ use Rattle.std.proofs.Common.{◌≡◌, ℕ, ◌+◌, ◌-◌, ◌<◌, ◌≤�
 use Rattle.std.specs.Prelude.{◌⊎◌, if◌then◌else◌, ◌==◌, ◌&&◌, not, nat_lt}
 use Rattle.std.proofs.lemmas.Bool.{cases_lt}
 use Rattle.std.proofs.lemmas.Bool.Decides.{nat_tests}
-use Rattle.sctp_list_lemmas.specs.Kept.{kept}
+use Rattle.sctp_list_lemmas.specs.Kept.{numbers_where}
 use Rattle.sctp_list_lemmas.proofs.Passing.{kept-same, kept-snoc_out, length-kept-le}
 use Rattle.sctp_list_lemmas.proofs.More.{fails, both, and, same_test, length-kept-one_more, kept-short}
 use Rattle.sctp_list_lemmas.proofs.Cases.{by_same, same-yes, same-is, negated}
@@ -20,7 +20,7 @@ begins_on x s m = ((x.message m).stream == s) && ((x.message m).ordered && nat_l
 
 -- how many there are: the index that the next one takes
 abbrev pub begun : Shape → ℕ → ℕ
-begun x s = length (kept (begins_on x s) 0 x.count)
+begun x s = length (numbers_where (begins_on x s) 0 x.count)
 
 -- ## The index that a first fragment takes
 
@@ -63,7 +63,7 @@ first-index x n s t z o =
 
 pub begun-written : (x : Shape) (m : MessagePart) (s : ℕ) → Sender x → begun (written x m) s ≡ begun x s
 begun-written x m s k =
-    ap (λ c. length (kept (begins_on (written x m) s) 0 c)) (add-one x.count)
+    ap (λ c. length (numbers_where (begins_on (written x m) s) 0 c)) (add-one x.count)
     ∙ ap length (kept-snoc_out (begins_on (written x m) s) 0 x.count x.count (omega arith) (fails (begins_on (written x m) s x.count) none))
     ∙ ap length (kept-same (begins_on (written x m) s) (begins_on x s) 0 x.count (λ j a b. ap (λ y. (y.stream == s) && (y.ordered && nat_lt 0 (sent x j))) (message-old x m j (omega arith))))
   where

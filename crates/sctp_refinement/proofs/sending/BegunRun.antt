@@ -4,7 +4,7 @@ use Rattle.std.specs.Prelude.{if◌then◌else◌, ◌==◌, ◌&&◌, slice_get
 use Rattle.std.proofs.Math.Path.{subst}
 use Rattle.sctp_model.specs.declared.event.Event.{Event}
 use Rattle.sctp_model.specs.declared.event.Event.TheVariants as E
-use Rattle.sctp_model.specs.World.{Setup, World, start}
+use Rattle.sctp_model.specs.LinkRecord.{Setup, LinkRecord, start}
 use Rattle.sctp_model.specs.Messages
 use Rattle.sctp_model.specs.Receiver
 use Rattle.sctp_model.specs.Changes
@@ -38,10 +38,10 @@ none-marked x n = record { sent = λ k. sent-slotted x n k true ∙ none (n == k
     none true c = omega arith
     none false c = omega arith
 
-none-gone : (w : World) (n : ℕ) → NoneSent (shape w) (shape (Changes.abandoned w n))
+none-gone : (w : LinkRecord) (n : ℕ) → NoneSent (shape w) (shape (Changes.after_abandon w n))
 none-gone w n = by (Messages.is_partially_sent w n)
   where
-    flag : (u : World) → NoneSent (shape u) (shape (Changes.message_changed u n Changes.mark_abandoned))
+    flag : (u : LinkRecord) → NoneSent (shape u) (shape (Changes.message_changed u n Changes.mark_abandoned))
     flag u = none-then (shape u) (abandoned_at (shape u) n) (shape (Changes.message_changed u n Changes.mark_abandoned)) (record { sent = λ k. refl; begun = λ s. refl }) (none-same (abandoned_at (shape u) n) (shape (Changes.message_changed u n Changes.mark_abandoned)) (Shapes.shape-abandoned u n))
 
     by : (b : Bool) → NoneSent (shape w) (shape (Changes.message_changed (if b then Changes.with_slot w n true else w) n Changes.mark_abandoned))
@@ -51,34 +51,34 @@ none-gone w n = by (Messages.is_partially_sent w n)
         (flag (Changes.with_slot w n true))
     by false = flag w
 
-none-fold : (ns : List ℕ) (w : World) → NoneSent (shape w) (shape (fold Changes.abandoned w ns))
+none-fold : (ns : List ℕ) (w : LinkRecord) → NoneSent (shape w) (shape (fold Changes.after_abandon w ns))
 none-fold [] w = none-same (shape w) (shape w) refl
-none-fold (n ∷ ns) w = none-then (shape w) (shape (Changes.abandoned w n)) (shape (fold Changes.abandoned (Changes.abandoned w n) ns)) (none-gone w n) (none-fold ns (Changes.abandoned w n))
+none-fold (n ∷ ns) w = none-then (shape w) (shape (Changes.after_abandon w n)) (shape (fold Changes.after_abandon (Changes.after_abandon w n) ns)) (none-gone w n) (none-fold ns (Changes.after_abandon w n))
 
-none-expired : (w : World) (o : Option ℕ) → NoneSent (shape w) (shape (Changes.expired w o))
+none-expired : (w : LinkRecord) (o : Option ℕ) → NoneSent (shape w) (shape (Changes.after_expire w o))
 none-expired w None = none-same (shape w) (shape w) refl
 none-expired w (Some n) = none-then (shape w) (expired_at (shape w) n) (shape (Changes.message_changed w n Changes.mark_expired)) (record { sent = λ k. refl; begun = λ s. refl }) (none-same (expired_at (shape w) n) (shape (Changes.message_changed w n Changes.mark_expired)) (Shapes.shape-expired w n))
 
-none-tail : (w : World) (o : Option ℕ) → NoneSent (shape w) (shape (Changes.tail_abandoned w o))
+none-tail : (w : LinkRecord) (o : Option ℕ) → NoneSent (shape w) (shape (Changes.after_tail w o))
 none-tail w None = none-same (shape w) (shape w) refl
 none-tail w (Some n) = none-gone w n
 
-none-wrote : (setup : Setup) (w : World) (s : ℕ) (ppi : _) (bytes : List ℕ) → Sane setup w → NoneSent (shape w) (shape (Changes.wrote w s ppi bytes))
+none-wrote : (setup : Setup) (w : LinkRecord) (s : ℕ) (ppi : _) (bytes : List ℕ) → Sane setup w → NoneSent (shape w) (shape (Changes.after_write w s ppi bytes))
 none-wrote setup w s ppi [] g = none-same (shape w) (shape w) refl
 none-wrote setup w s ppi (b ∷ bs) g =
     let m = Changes.message_on w (Messages.stream_of w s) ppi (b ∷ bs) in
-    none-then (shape w) (written (shape w) (message_part m)) (shape (Changes.wrote w s ppi (b ∷ bs))) (record { sent = λ k. refl; begun = λ t. begun-written (shape w) (message_part m) t g.sender }) (none-same (written (shape w) (message_part m)) (shape (Changes.wrote w s ppi (b ∷ bs))) (Shapes.shape-written w m))
+    none-then (shape w) (written (shape w) (message_part m)) (shape (Changes.after_write w s ppi (b ∷ bs))) (record { sent = λ k. refl; begun = λ t. begun-written (shape w) (message_part m) t g.sender }) (none-same (written (shape w) (message_part m)) (shape (Changes.after_write w s ppi (b ∷ bs))) (Shapes.shape-written w m))
 
 -- any event but a Send
 abbrev pub SendsNone : Event → Type 0
 SendsNone (E.Send now) = ⊥
 SendsNone e = Unit {0}
 
-pub none-after : (setup : Setup) (w : World) (e : Event) → Sane setup w → SendsNone e → NoneSent (shape w) (shape (after w e))
+pub none-after : (setup : Setup) (w : LinkRecord) (e : Event) → Sane setup w → SendsNone e → NoneSent (shape w) (shape (after w e))
 none-after setup w (E.Open s) g no' = none-same (shape w) (shape (after w (E.Open s))) refl
 none-after setup w (E.Mode s unordered reliability value) g no' = none-same (shape w) (shape (after w (E.Mode s unordered reliability value))) refl
 none-after setup w (E.Write s ppi bytes) g no' = none-wrote setup w s ppi bytes g
-none-after setup w (E.Start now) g no' = none-same (shape w) (shape (Changes.started w now)) (Shapes.shape-started w now)
+none-after setup w (E.Start now) g no' = none-same (shape w) (shape (Changes.after_start w now)) (Shapes.shape-started w now)
 none-after setup w (E.Send now) g no' = absurd no'
 none-after setup w (E.Resend tsn) g no' = none-same (shape w) (shape (after w (E.Resend tsn))) refl
 none-after setup w (E.Expire now) g no' = none-expired w (Changes.expiring w now)
@@ -87,22 +87,22 @@ none-after setup w (E.Late now) g no' = none-fold (Changes.late_messages w now) 
 none-after setup w (E.Abandon tsn) g no' = none-gone w (Messages.message_of w (Messages.place_of w tsn))
 none-after setup w (E.Skip upto names) g no' = none-same (shape w) (shape (after w (E.Skip upto names))) refl
 none-after setup w (E.Ack credit) g no' = none-same (shape w) (shape (after w (E.Ack credit))) refl
-none-after setup w (E.Arrive k) g no' = none-same (shape w) (shape (Changes.datagram_received w (slice_get w.network k))) (same-received w (slice_get w.network k)).shape_is
-none-after setup w (E.Acked k) g no' = none-same (shape w) (shape (Changes.sack_taken w (slice_get w.network k))) (same-taken w (slice_get w.network k)).shape_is
-none-after setup w (E.Read s) g no' = none-same (shape w) (shape (Changes.read_from w s)) (same-read w s (Receiver.next_read w s)).shape_is
+none-after setup w (E.Arrive k) g no' = none-same (shape w) (shape (Changes.after_arrive w (slice_get w.network k))) (same-received w (slice_get w.network k)).shape_is
+none-after setup w (E.Acked k) g no' = none-same (shape w) (shape (Changes.after_acked w (slice_get w.network k))) (same-taken w (slice_get w.network k)).shape_is
+none-after setup w (E.Read s) g no' = none-same (shape w) (shape (Changes.after_reading w s)) (same-read w s (Receiver.next_read w s)).shape_is
 
 -- ## What a link keeps: an index for each message, and for each stream how many of its ordered messages were begun
 
-pub record Counted (w : World) (f : ℕ → ℕ) (b : ℕ → ℕ) : Type 0 where
+pub record Counted (w : LinkRecord) (f : ℕ → ℕ) (b : ℕ → ℕ) : Type 0 where
   pub indexed : Indexed (shape w) f
   pub begun : (s : ℕ) → b s ≡ begun (shape w) s
 
 -- what it is worth
-pub index-is : (w : World) (f b : ℕ → ℕ) (n : ℕ) → Counted w f b → 0 < Messages.sent_of w n → (Messages.message_at w n).ordered ≡ true → f n ≡ Messages.index_of w n
+pub index-is : (w : LinkRecord) (f b : ℕ → ℕ) (n : ℕ) → Counted w f b → 0 < Messages.sent_of w n → (Messages.message_at w n).ordered ≡ true → f n ≡ Messages.index_of w n
 index-is w f b n c pos o = c.indexed.is n pos o
 
 -- every event but a Send keeps it, an Expire too
-pub counted-after : (setup : Setup) (w : World) (e : Event) (f b : ℕ → ℕ) → refusal_of w e ≡ None → Sane setup w → SendsNone e → Counted w f b → Counted (after w e) f b
+pub counted-after : (setup : Setup) (w : LinkRecord) (e : Event) (f b : ℕ → ℕ) → refusal_of w e ≡ None → Sane setup w → SendsNone e → Counted w f b → Counted (after w e) f b
 counted-after setup w e f b ok g no' c =
     let k = none-after setup w e g no' in
     record {
@@ -111,19 +111,19 @@ counted-after setup w e f b ok g no' c =
     }
 
 -- so does the start of lifetimes with which a Send begins
-counted-as : (w v : World) (f b : ℕ → ℕ) (x : Shape) → shape v ≡ x → Indexed x f → ((s : ℕ) → b s ≡ begun x s) → Counted v f b
+counted-as : (w v : LinkRecord) (f b : ℕ → ℕ) (x : Shape) → shape v ≡ x → Indexed x f → ((s : ℕ) → b s ≡ begun x s) → Counted v f b
 counted-as w v f b x e i h = record { indexed = subst (λ z. Indexed z f) (sym e) i; begun = λ s. h s ∙ ap (λ z. begun z s) (sym e) }
 
-pub counted-started : (w : World) (now : ℕ) (f b : ℕ → ℕ) → Counted w f b → Counted (Changes.started w now) f b
-counted-started w now f b c = counted-as w (Changes.started w now) f b (shape w) (Shapes.shape-started w now) c.indexed c.begun
+pub counted-started : (w : LinkRecord) (now : ℕ) (f b : ℕ → ℕ) → Counted w f b → Counted (Changes.after_start w now) f b
+counted-started w now f b c = counted-as w (Changes.after_start w now) f b (shape w) (Shapes.shape-started w now) c.indexed c.begun
 
 -- the first fragment of an ordered message takes the next index of its stream
-pub counted-fragment : (setup : Setup) (w : World) (n : ℕ) (f b g d : ℕ → ℕ) → Sane setup w → Messages.front w ≡ Some n
+pub counted-fragment : (setup : Setup) (w : LinkRecord) (n : ℕ) (f b g d : ℕ → ℕ) → Sane setup w → Messages.front w ≡ Some n
     → ((k : ℕ) → (k ≡ n → ⊥) → g k ≡ f k) → g n ≡ (if (Messages.message_at w n).ordered && (Messages.sent_of w n == 0) then b (Messages.message_at w n).stream else f n)
     → ((s : ℕ) → d s ≡ b s + (if ((Messages.message_at w n).stream == s) && ((Messages.message_at w n).ordered && (Messages.sent_of w n == 0)) then 1 else 0))
-    → Counted w f b → Counted (Changes.fragment_sent w) g d
+    → Counted w f b → Counted (Changes.send_fragment w) g d
 counted-fragment setup w n f b g d sane is others here more c =
-    subst (λ o. Counted (Changes.fragment_of_sent w o) g d) (sym is)
+    subst (λ o. Counted (Changes.send_fragment_of w o) g d) (sym is)
     (counted-as w (Changes.with_slot w n false) g d (slotted (shape w) n false) (Shapes.shape-slot w n false)
     (indexed-taken (shape w) n f g sane.sender (front-takes (shape w) n sane.sender is) others
     (here ∙ ap (λ k. if (Messages.message_at w n).ordered && (Messages.sent_of w n == 0) then k else f n) (c.begun (Messages.message_at w n).stream)) c.indexed)
@@ -135,11 +135,11 @@ pub counted-none : (setup : Setup) → Counted (start setup) (λ n. 0) (λ s. 0)
 counted-none setup = record { indexed = record { is = λ n pos o. absurd (omega arith); low = λ n. omega arith }; begun = λ s. refl }
 
 -- the index of a message that has a slot: of one that comes, of one that is held, of one that is read
-pub index-slot : (w : World) (f b : ℕ → ℕ) (p : ℕ) → Sender (shape w) → Counted w f b → p < length w.slots → (Messages.message_at w (Messages.message_of w p)).ordered ≡ true → f (Messages.message_of w p) ≡ Messages.index_of w (Messages.message_of w p)
+pub index-slot : (w : LinkRecord) (f b : ℕ → ℕ) (p : ℕ) → Sender (shape w) → Counted w f b → p < length w.slots → (Messages.message_at w (Messages.message_of w p)).ordered ≡ true → f (Messages.message_of w p) ≡ Messages.index_of w (Messages.message_of w p)
 index-slot w f b p s c lt o = c.indexed.is (Messages.message_of w p) (slot-sent (shape w) p s lt) o
 
 -- what reads the same is as good
-pub counted-same : (w : World) (f b g d : ℕ → ℕ) → ((n : ℕ) → g n ≡ f n) → ((s : ℕ) → d s ≡ b s) → Counted w f b → Counted w g d
+pub counted-same : (w : LinkRecord) (f b g d : ℕ → ℕ) → ((n : ℕ) → g n ≡ f n) → ((s : ℕ) → d s ≡ b s) → Counted w f b → Counted w g d
 counted-same w f b g d e h c = record {
   indexed = record { is = λ n pos o. e n ∙ c.indexed.is n pos o; low = λ n. omega (arith, e n, c.indexed.low n) };
   begun = λ s. h s ∙ c.begun s;
@@ -148,13 +148,13 @@ counted-same w f b g d e h c = record {
 -- ## By stream
 
 -- a fragment adds one to its stream where it is the first of an ordered message
-pub begun-fragment : (setup : Setup) (w : World) (n s : ℕ) → Sane setup w → Messages.front w ≡ Some n → begun (shape (Changes.fragment_sent w)) s ≡ begun (shape w) s + (if ((Messages.message_at w n).stream == s) && ((Messages.message_at w n).ordered && (Messages.sent_of w n == 0)) then 1 else 0)
+pub begun-fragment : (setup : Setup) (w : LinkRecord) (n s : ℕ) → Sane setup w → Messages.front w ≡ Some n → begun (shape (Changes.send_fragment w)) s ≡ begun (shape w) s + (if ((Messages.message_at w n).stream == s) && ((Messages.message_at w n).ordered && (Messages.sent_of w n == 0)) then 1 else 0)
 begun-fragment setup w n s g is =
-    ap (λ o. begun (shape (Changes.fragment_of_sent w o)) s) is ∙ ap (λ x. begun x s) (Shapes.shape-slot w n false)
+    ap (λ o. begun (shape (Changes.send_fragment_of w o)) s) is ∙ ap (λ x. begun x s) (Shapes.shape-slot w n false)
     ∙ begun-taken (shape w) n s (front-takes (shape w) n g.sender is).made
 
 -- a stream that is not open has begun nothing
-pub begun-closed : (setup : Setup) (w : World) (s : ℕ) → Sane setup w → Messages.is_open w s ≡ false → begun (shape w) s ≡ 0
+pub begun-closed : (setup : Setup) (w : LinkRecord) (s : ℕ) → Sane setup w → Messages.is_open w s ≡ false → begun (shape w) s ≡ 0
 begun-closed setup w s g e =
     ap length (kept-none (begins_on (shape w) s) 0 (length w.messages) (λ k a b. fails (begins_on (shape w) s k) (λ h.
     let z = same-is (Messages.message_at w k).stream s (both ((Messages.message_at w k).stream == s) ((Messages.message_at w k).ordered && nat_lt 0 (Messages.sent_of w k)) h).0 in

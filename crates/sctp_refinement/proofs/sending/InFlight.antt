@@ -2,37 +2,36 @@
 use Rattle.std.proofs.Common.{◌≡◌, ℕ, zero, suc, ◌+◌, ◌<◌, ◌≤◌, ◌^◌, Bool, true, false, List, [], ◌∷◌, map, Option, Some, refl, ap, sym, ◌∙◌, arith}
 use Rattle.std.specs.Prelude.{if◌then◌else◌, ◌==◌, ◌||◌, find}
 use Rattle.std.proofs.lemmas.Bool.Decides.{nat_tests}
-use Rattle.sctp_list_lemmas.specs.Kept.{kept, always}
+use Rattle.sctp_list_lemmas.specs.Kept.{numbers_where, always}
 use Rattle.sctp_list_lemmas.specs.Lists.{change_where}
 use Rattle.sctp_list_lemmas.proofs.More.{not_both, same_test}
 use Rattle.sctp_list_lemmas.proofs.Round.{tsn}
 use Rattle.sctp_chunks.specs.declared.chunk.chunk_payload_data.ChunkPayloadData.{ChunkPayloadData}
 use Rattle.sctp_chunks.specs.PayloadData.{data_of}
 use Rattle.sctp_outbound.specs.Marks.{with_retransmit, with_nsent, with_since, with_miss_indicator}
-use Rattle.sctp_serial.specs.DataChunks.{has_tsn}
+use Rattle.sctp_serial.specs.DataChunks.{has_tsn, tsns}
 use Rattle.sctp_outbound.specs.outbound_queue.OutboundQueue.{Outbound, with_inflight}
-use Rattle.sctp_model.specs.World.{World}
+use Rattle.sctp_model.specs.LinkRecord.{LinkRecord}
 use Rattle.sctp_model.specs.Messages.{tsn_of}
 use Rattle.sctp_model.specs.Contents.{chunk_at}
 use Rattle.sctp_model.specs.Queues.{is_cleared}
 use Rattle.sctp_refinement.specs.Refines.{Sending, sending_of, sending_at, unless_gone, RefinesOutbound}
-use Rattle.sctp_refinement.proofs.arriving.FilterQueue.{tsns}
 
-tsn-same : (w : World) (j k : ℕ) → j < 2 ^ 31 → k < 2 ^ 31 → (tsn_of w j == tsn_of w k) ≡ (j == k)
+tsn-same : (w : LinkRecord) (j k : ℕ) → j < 2 ^ 31 → k < 2 ^ 31 → (tsn_of w j == tsn_of w k) ≡ (j == k)
 tsn-same w j k a b = same_test (tsn_of w j == tsn_of w k) (j == k)
     (λ e. let h : tsn_of w j ≡ tsn_of w k = grind (arith, nat_tests) in let z : j ≡ k = omega arith in grind (arith, nat_tests))
     (λ e. let z : j ≡ k = grind (arith, nat_tests) in rw z (grind (arith, nat_tests)))
 
-abbrev head_of : List Sending → Sending → Sending
+abbrev pub head_of : List Sending → Sending → Sending
 head_of [] d = d
 head_of (s ∷ ss) d = s
 
-abbrev tail_of : List Sending → List Sending
+abbrev pub tail_of : List Sending → List Sending
 tail_of [] = []
 tail_of (s ∷ ss) = ss
 
 -- the TSNs in flight
-pub tsns-are : (w : World) (cs : List ChunkPayloadData) (from count : ℕ) → map sending_of cs ≡ map (sending_at w) (kept always from count) → tsns cs ≡ map (tsn w.setup.first) (kept always from count)
+pub tsns-are : (w : LinkRecord) (cs : List ChunkPayloadData) (from count : ℕ) → map sending_of cs ≡ map (sending_at w) (numbers_where always from count) → tsns cs ≡ map (tsn w.setup.first) (numbers_where always from count)
 tsns-are w [] from zero e = refl
 tsns-are w [] from (suc count) e = cc
 tsns-are w (c ∷ cs) from zero e = cc
@@ -44,12 +43,12 @@ tsns-are w (c ∷ cs) from (suc count) e =
 
 -- ## A chunk looked up
 
-pub record Found (w : World) (p : ℕ) (cs : List ChunkPayloadData) : Type 0 where
+pub record Found (w : LinkRecord) (p : ℕ) (cs : List ChunkPayloadData) : Type 0 where
   pub chunk : ChunkPayloadData
   pub is : find (has_tsn (tsn_of w p)) cs ≡ Some chunk
   pub says : sending_of chunk ≡ sending_at w p
 
-pub found-in : (w : World) (p : ℕ) → p < 2 ^ 31 → (cs : List ChunkPayloadData) (from count : ℕ) → from + count ≤ 2 ^ 31 → from ≤ p → p < from + count → map sending_of cs ≡ map (sending_at w) (kept always from count) → Found w p cs
+pub found-in : (w : LinkRecord) (p : ℕ) → p < 2 ^ 31 → (cs : List ChunkPayloadData) (from count : ℕ) → from + count ≤ 2 ^ 31 → from ≤ p → p < from + count → map sending_of cs ≡ map (sending_at w) (numbers_where always from count) → Found w p cs
 found-in w p short [] from zero le low high e = absurd (omega arith)
 found-in w p short [] from (suc count) le low high e = cc
 found-in w p short (c ∷ cs) from zero le low high e = absurd (omega arith)
@@ -72,7 +71,7 @@ found-in w p short (c ∷ cs) from (suc count) le low high e = by (from == p) re
         record { chunk = f.chunk; is = ap (λ b. if b then Some c else find (has_tsn (tsn_of w p)) cs) (test ∙ h) ∙ f.is; says = f.says }
 
 -- a chunk that may leave again says what its slot does
-pub says-same : (w : World) (p : ℕ) (c : ChunkPayloadData) → sending_of c ≡ sending_at w p → is_cleared w p ≡ false → data_of c ≡ data_of (chunk_at w p)
+pub says-same : (w : LinkRecord) (p : ℕ) (c : ChunkPayloadData) → sending_of c ≡ sending_at w p → is_cleared w p ≡ false → data_of c ≡ data_of (chunk_at w p)
 says-same w p c e clear = by (c.acked || c.abandoned) (ap (λ s. s.says) e ∙ ap (λ b. unless_gone b (data_of (chunk_at w p))) clear)
   where
     by : (b : Bool) → unless_gone b (data_of c) ≡ Some (data_of (chunk_at w p)) → data_of c ≡ data_of (chunk_at w p)
@@ -89,7 +88,7 @@ marked-quiet t f same (c ∷ cs) = ap (λ l. sending_of (if t c then f c else c)
     by true = same c
     by false = refl
 
-pub refines-marked : (w : World) (q : Outbound) (t : ChunkPayloadData → Bool) (f : ChunkPayloadData → ChunkPayloadData) → ((c : ChunkPayloadData) → sending_of (f c) ≡ sending_of c) → RefinesOutbound w q → RefinesOutbound w (with_inflight q (change_where t f q.inflight.chunks))
+pub refines-marked : (w : LinkRecord) (q : Outbound) (t : ChunkPayloadData → Bool) (f : ChunkPayloadData → ChunkPayloadData) → ((c : ChunkPayloadData) → sending_of (f c) ≡ sending_of c) → RefinesOutbound w q → RefinesOutbound w (with_inflight q (change_where t f q.inflight.chunks))
 refines-marked w q t f same h = record { pending = h.pending; in_flight = marked-quiet t f same q.inflight.chunks ∙ h.in_flight; next = h.next; unstarted = h.unstarted; started = h.started; begun = h.begun }
 
 pub nsent-quiet : (n : ℕ) (c : ChunkPayloadData) → sending_of (with_nsent n c) ≡ sending_of c

@@ -7,14 +7,14 @@ use Rattle.std.proofs.lemmas.Bool.Decides.{nat_tests}
 use Rattle.sctp_list_lemmas.proofs.Cases.{by_same}
 use Rattle.sctp_model.specs.declared.event.Event.{Event}
 use Rattle.sctp_model.specs.declared.event.Event.TheVariants as E
-use Rattle.sctp_model.specs.World.{Setup, Datagram, Forward, Sack, World, start}
-use Rattle.sctp_model.specs.World as W
+use Rattle.sctp_model.specs.LinkRecord.{Setup, Datagram, Forward, Sack, LinkRecord, start}
+use Rattle.sctp_model.specs.LinkRecord as W
 use Rattle.sctp_model.specs.Messages
 use Rattle.sctp_model.specs.Messages.{front}
 use Rattle.sctp_model.specs.Receiver
 use Rattle.sctp_model.specs.Changes
 use Rattle.sctp_model.specs.Reports.{reports}
-use Rattle.sctp_model.specs.Steps.{History, world_of, IsRun, refusal_of, after}
+use Rattle.sctp_model.specs.Steps.{History, record_of, IsRun, refusal_of, after}
 use Rattle.sctp_model.specs.Log.{log_of}
 use Rattle.sctp_model.specs.Laws.{IsSetup}
 use Rattle.sctp_model.proofs.sender.Shape.{Shape, MessagePart, shape, sent, half, unsent, slotted, written, abandoned_at, expired_at, message_part}
@@ -89,7 +89,7 @@ turns-marked x n' t n k h lt ord =
         none true = omega arith
         none false = omega arith
 
-turns-takes : (w : World) (n' : ℕ) → FrontIs w n' → Turns (shape w) → Turns (slotted (shape w) n' false)
+turns-takes : (w : LinkRecord) (n' : ℕ) → FrontIs w n' → Turns (shape w) → Turns (slotted (shape w) n' false)
 turns-takes w n' f t n k h lt ord = by_same {P = unsent (slotted (shape w) n' false) k ≡ false} n' n (λ e. here e) (λ ne x. absurd (ne (sym (f.takes.alone n (other ne)))))
   where
     other : (n' ≡ n → ⊥) → half (shape w) n ≡ true
@@ -100,75 +100,75 @@ turns-takes w n' f t n k h lt ord = by_same {P = unsent (slotted (shape w) n' fa
         ap (λ c. (c == 0) && not (Messages.message_at w k).expired) (sent-other (shape w) n' false k (λ z. omega (arith, e, z, lt)))
         ∙ (f.before k (omega (arith, lt, e)) (ord ∙ ap (λ j. (Messages.message_at w j).ordered) (sym e))).1
 
-pub record Going (setup : Setup) (w : World) : Type 0 where
+pub record Going (setup : Setup) (w : LinkRecord) : Type 0 where
   pub sane : Sane setup w
   pub turns : Turns (shape w)
 
-pub going-takes : (setup : Setup) (w : World) → Going setup w → Going setup (Changes.fragment_sent w)
+pub going-takes : (setup : Setup) (w : LinkRecord) → Going setup w → Going setup (Changes.send_fragment w)
 going-takes setup w g = record { sane = sane-takes setup w g.sane; turns = by (front w) refl }
   where
-    by : (o : Option ℕ) → front w ≡ o → Turns (shape (Changes.fragment_of_sent w o))
+    by : (o : Option ℕ) → front w ≡ o → Turns (shape (Changes.send_fragment_of w o))
     by None e = g.turns
     by (Some n) e = turns-as (slotted (shape w) n false) (shape (Changes.with_slot w n false)) (Shapes.shape-slot w n false) (turns-takes w n (front_is w g.sane.sender g.turns n e) g.turns)
 
-turns-gone : (w : World) (n : ℕ) → Turns (shape w) → Turns (shape (Changes.abandoned w n))
+turns-gone : (w : LinkRecord) (n : ℕ) → Turns (shape w) → Turns (shape (Changes.after_abandon w n))
 turns-gone w n t = by (Messages.is_partially_sent w n)
   where
     by : (b : Bool) → Turns (shape (Changes.message_changed (if b then Changes.with_slot w n true else w) n Changes.mark_abandoned))
     by true = turns-as (abandoned_at (slotted (shape w) n true) n) (shape (Changes.message_changed (Changes.with_slot w n true) n Changes.mark_abandoned)) (Shapes.shape-abandoned (Changes.with_slot w n true) n ∙ ap (λ y. abandoned_at y n) (Shapes.shape-slot w n true)) (turns-abandoned (slotted (shape w) n true) n (turns-marked (shape w) n t))
     by false = turns-as (abandoned_at (shape w) n) (shape (Changes.message_changed w n Changes.mark_abandoned)) (Shapes.shape-abandoned w n) (turns-abandoned (shape w) n t)
 
-turns-expire : (w : World) (p : ℕ → Bool) (o : Option ℕ) → Turns (shape w) → Turns (shape (Changes.expired w (Changes.front_if w p o)))
+turns-expire : (w : LinkRecord) (p : ℕ → Bool) (o : Option ℕ) → Turns (shape w) → Turns (shape (Changes.after_expire w (Changes.front_if w p o)))
 turns-expire w p None t = t
 turns-expire w p (Some n) t = by (p n)
   where
-    by : (b : Bool) → Turns (shape (Changes.expired w (if b then Some n else None)))
+    by : (b : Bool) → Turns (shape (Changes.after_expire w (if b then Some n else None)))
     by true = turns-as (expired_at (shape w) n) (shape (Changes.message_changed w n Changes.mark_expired)) (Shapes.shape-expired w n) (turns-expired (shape w) n t)
     by false = t
 
-turns-tail : (w : World) (p : ℕ → Bool) (o : Option ℕ) → Turns (shape w) → Turns (shape (Changes.tail_abandoned w (Changes.front_if w p o)))
+turns-tail : (w : LinkRecord) (p : ℕ → Bool) (o : Option ℕ) → Turns (shape w) → Turns (shape (Changes.after_tail w (Changes.front_if w p o)))
 turns-tail w p None t = t
 turns-tail w p (Some n) t = by (p n)
   where
-    by : (b : Bool) → Turns (shape (Changes.tail_abandoned w (if b then Some n else None)))
+    by : (b : Bool) → Turns (shape (Changes.after_tail w (if b then Some n else None)))
     by true = turns-gone w n t
     by false = t
 
-turns-wrote : (setup : Setup) (w : World) (s : ℕ) (ppi : _) (bytes : List ℕ) → Sane setup w → Turns (shape w) → Turns (shape (Changes.wrote w s ppi bytes))
+turns-wrote : (setup : Setup) (w : LinkRecord) (s : ℕ) (ppi : _) (bytes : List ℕ) → Sane setup w → Turns (shape w) → Turns (shape (Changes.after_write w s ppi bytes))
 turns-wrote setup w s ppi [] g t = t
 turns-wrote setup w s ppi (b ∷ bs) g t =
     let m = Changes.message_on w (Messages.stream_of w s) ppi (b ∷ bs) in
-    turns-as (written (shape w) (message_part m)) (shape (Changes.wrote w s ppi (b ∷ bs))) (Shapes.shape-written w m) (turns-written (shape w) (message_part m) g.sender t)
+    turns-as (written (shape w) (message_part m)) (shape (Changes.after_write w s ppi (b ∷ bs))) (Shapes.shape-written w m) (turns-written (shape w) (message_part m) g.sender t)
 
-turns-sent : (setup : Setup) (w : World) (now : ℕ) (o : Option ℕ) → Sane setup w → Turns (shape w) → Turns (shape (Changes.sent_from (Changes.started w now) o))
-turns-sent setup w now None g t = turns-as (shape w) (shape (Changes.started w now)) (Shapes.shape-started w now) t
+turns-sent : (setup : Setup) (w : LinkRecord) (now : ℕ) (o : Option ℕ) → Sane setup w → Turns (shape w) → Turns (shape (Changes.send_from (Changes.after_start w now) o))
+turns-sent setup w now None g t = turns-as (shape w) (shape (Changes.after_start w now)) (Shapes.shape-started w now) t
 turns-sent setup w now (Some n) g t =
-    Going.turns (sends-keep (Going setup) (λ v h. going-takes setup v h) (Changes.started w now) (record { sane = sane-started setup w now g; turns = turns-as (shape w) (shape (Changes.started w now)) (Shapes.shape-started w now) t }))
+    Going.turns (sends-keep (Going setup) (λ v h. going-takes setup v h) (Changes.after_start w now) (record { sane = sane-started setup w now g; turns = turns-as (shape w) (shape (Changes.after_start w now)) (Shapes.shape-started w now) t }))
 
-turns-after : (setup : Setup) (w : World) (e : Event) → Sane setup w → Turns (shape w) → Turns (shape (after w e))
+turns-after : (setup : Setup) (w : LinkRecord) (e : Event) → Sane setup w → Turns (shape w) → Turns (shape (after w e))
 turns-after setup w (E.Open s) g t = t
 turns-after setup w (E.Mode s unordered reliability value) g t = t
 turns-after setup w (E.Write s ppi bytes) g t = turns-wrote setup w s ppi bytes g t
-turns-after setup w (E.Start now) g t = turns-as (shape w) (shape (Changes.started w now)) (Shapes.shape-started w now) t
+turns-after setup w (E.Start now) g t = turns-as (shape w) (shape (Changes.after_start w now)) (Shapes.shape-started w now) t
 turns-after setup w (E.Send now) g t = turns-sent setup w now (front w) g t
 turns-after setup w (E.Resend tsn) g t = t
 turns-after setup w (E.Expire now) g t = turns-expire w (λ n. Messages.is_unsent w n && Messages.is_past_deadline w now n) (front w) t
 turns-after setup w (E.Tail now) g t = turns-tail w (λ n. Messages.is_partially_sent w n && Messages.is_past_deadline w now n) (front w) t
-turns-after setup w (E.Late now) g t = fold-keeps (λ v. Turns (shape v)) Changes.abandoned (λ v n h. turns-gone v n h) (Changes.late_messages w now) w t
+turns-after setup w (E.Late now) g t = fold-keeps (λ v. Turns (shape v)) Changes.after_abandon (λ v n h. turns-gone v n h) (Changes.late_messages w now) w t
 turns-after setup w (E.Abandon tsn) g t = turns-gone w (Messages.message_of w (Messages.place_of w tsn)) t
 turns-after setup w (E.Skip upto names) g t = t
 turns-after setup w (E.Ack credit) g t = t
-turns-after setup w (E.Arrive k) g t = turns-as (shape w) (shape (Changes.datagram_received w (slice_get w.network k))) (same-received w (slice_get w.network k)).shape_is t
-turns-after setup w (E.Acked k) g t = turns-as (shape w) (shape (Changes.sack_taken w (slice_get w.network k))) (same-taken w (slice_get w.network k)).shape_is t
-turns-after setup w (E.Read s) g t = turns-as (shape w) (shape (Changes.read_from w s)) (same-read w s (Receiver.next_read w s)).shape_is t
+turns-after setup w (E.Arrive k) g t = turns-as (shape w) (shape (Changes.after_arrive w (slice_get w.network k))) (same-received w (slice_get w.network k)).shape_is t
+turns-after setup w (E.Acked k) g t = turns-as (shape w) (shape (Changes.after_acked w (slice_get w.network k))) (same-taken w (slice_get w.network k)).shape_is t
+turns-after setup w (E.Read s) g t = turns-as (shape w) (shape (Changes.after_reading w s)) (same-read w s (Receiver.next_read w s)).shape_is t
 
-pub turns-run : (setup : Setup) (h : History) → IsRun setup h → KindsInTurn (world_of setup h)
+pub turns-run : (setup : Setup) (h : History) → IsRun setup h → KindsInTurn (record_of setup h)
 turns-run setup [] run = λ n k h lt ord. cc
-turns-run setup (entry ∷ older) run = turns-after setup (world_of setup older) entry.0 (sane-run setup older run.1.1) (turns-run setup older run.1.1)
+turns-run setup (entry ∷ older) run = turns-after setup (record_of setup older) entry.0 (sane-run setup older run.1.1) (turns-run setup older run.1.1)
 
 -- ## No more slots are acknowledged than there are
 
-taken-sack : (w : World) (r : W.Report) → w.taken ≤ length w.slots → ((p : ℕ) → reports r p ≡ true → p < length w.slots) → max w.taken r.cumulative ≤ length w.slots
+taken-sack : (w : LinkRecord) (r : W.Report) → w.taken ≤ length w.slots → ((p : ℕ) → reports r p ≡ true → p < length w.slots) → max w.taken r.cumulative ≤ length w.slots
 taken-sack w r le inside = by (cases_lt 0 r.cumulative)
   where
     by : (0 < r.cumulative) ⊎ (r.cumulative ≤ 0) → max w.taken r.cumulative ≤ length w.slots
@@ -184,8 +184,8 @@ taken-sack w r le inside = by (cases_lt 0 r.cumulative)
         or-first false b e = cc
 
 module _ (setup : Setup) (older : History) (is : IsSetup setup) (run : IsRun setup older) where
-  abbrev w : World
-  w = world_of setup older
+  abbrev w : LinkRecord
+  w = record_of setup older
 
   seen-in : (r : W.Report) (k : ℕ) → slice_get w.network k ≡ Some (Sack r) → (p : ℕ) → reports r p ≡ true → p < length w.slots
   seen-in r k e p h = Acknowledged.seen-made w (log_of setup older) p (received-run setup older is run).known.heard (Acknowledged.sack-at (log_of setup older) w.network k (Sack r) (Acknowledged.sacks-run setup older is run) e p h)
@@ -193,14 +193,14 @@ module _ (setup : Setup) (older : History) (is : IsSetup setup) (run : IsRun set
   taken-after : (e : Event) → refusal_of w e ≡ None → w.taken ≤ length w.slots → (after w e).taken ≤ length (after w e).slots
   taken-after e ok le = by e (extends-after setup w e ok (sane-run setup older run)).grows.slots
     where
-      same : (v : World) → length w.slots ≤ length v.slots → v.taken ≡ w.taken → v.taken ≤ length v.slots
+      same : (v : LinkRecord) → length w.slots ≤ length v.slots → v.taken ≡ w.taken → v.taken ≤ length v.slots
       same v g t = omega (arith, g, t, le)
 
-      wrote : (s : ℕ) (ppi : _) (bytes : List ℕ) → (Changes.wrote w s ppi bytes).taken ≡ w.taken
+      wrote : (s : ℕ) (ppi : _) (bytes : List ℕ) → (Changes.after_write w s ppi bytes).taken ≡ w.taken
       wrote s ppi [] = refl
       wrote s ppi (b ∷ bs) = refl
 
-      acked : (k : ℕ) (o : Option Datagram) → slice_get w.network k ≡ o → (Changes.sack_taken w o).taken ≤ length (Changes.sack_taken w o).slots
+      acked : (k : ℕ) (o : Option Datagram) → slice_get w.network k ≡ o → (Changes.after_acked w o).taken ≤ length (Changes.after_acked w o).slots
       acked k None x = le
       acked k (Some (W.Data ps)) x = le
       acked k (Some (Forward upto names)) x = le
@@ -223,6 +223,6 @@ module _ (setup : Setup) (older : History) (is : IsSetup setup) (run : IsRun set
       by (E.Acked k) g = acked k (slice_get w.network k) refl
       by (E.Read s) g = same (after w (E.Read s)) g (Acknowledged.as-read w s (Receiver.next_read w s)).taken
 
-pub taken-run : (setup : Setup) (h : History) → IsSetup setup → IsRun setup h → (world_of setup h).taken ≤ length (world_of setup h).slots
+pub taken-run : (setup : Setup) (h : History) → IsSetup setup → IsRun setup h → (record_of setup h).taken ≤ length (record_of setup h).slots
 taken-run setup [] is run = omega arith
 taken-run setup (entry ∷ older) is run = taken-after setup older is run.1.1 entry.0 run.0 (taken-run setup older is run.1.1)

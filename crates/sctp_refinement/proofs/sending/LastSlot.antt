@@ -4,7 +4,7 @@ use Rattle.std.specs.Prelude.{◌⊎◌, if◌then◌else◌, ◌==◌, ◌&&◌
 use Rattle.std.specs.List.{list_all}
 use Rattle.std.proofs.lemmas.Bool.{cases_lt}
 use Rattle.std.proofs.lemmas.Bool.Decides.{nat_tests}
-use Rattle.sctp_list_lemmas.specs.Kept.{kept}
+use Rattle.sctp_list_lemmas.specs.Kept.{numbers_where}
 use Rattle.sctp_list_lemmas.proofs.Alls.{all-kept, all-at}
 use Rattle.sctp_list_lemmas.proofs.Passing.{length-kept-lt}
 use Rattle.sctp_list_lemmas.proofs.More.{not_both, and, same_test, fails}
@@ -12,18 +12,18 @@ use Rattle.sctp_list_lemmas.proofs.Cases.{same-yes}
 use Rattle.sctp_model.proofs.sender.Shape.{Shape, has, sent, parts}
 use Rattle.sctp_model.proofs.sender.Sender.{Sender, is_mark}
 use Rattle.sctp_model.proofs.sender.SenderSteps.{of-has}
-use Rattle.sctp_refinement.proofs.reading.Line
 use Rattle.sctp_refinement.proofs.sending.SlotsGoOn.{AllGoOn}
+use Rattle.sctp_list_lemmas.proofs.Places.{kept-place}
 
 abbrev pub belongs : Shape → ℕ → ℕ → Bool
 belongs x n p = (x.slot p).message == n
 
 -- one more passes
-kept-lt : (t : ℕ → Bool) (p count : ℕ) → t p ≡ true → p < count → length (kept t 0 p) < length (kept t 0 count)
+kept-lt : (t : ℕ → Bool) (p count : ℕ) → t p ≡ true → p < count → length (numbers_where t 0 p) < length (numbers_where t 0 count)
 kept-lt t p count e lt = length-kept-lt t 0 p count (ap t (zero-add p) ∙ e) lt
 
 -- a slot that passes is the only one where one passes
-only-one : (t : ℕ → Bool) (count p q : ℕ) → length (kept t 0 count) ≤ 1 → p < count → q < count → t p ≡ true → t q ≡ true → p < q → ⊥
+only-one : (t : ℕ → Bool) (count p q : ℕ) → length (numbers_where t 0 count) ≤ 1 → p < count → q < count → t p ≡ true → t q ≡ true → p < q → ⊥
 only-one t count p q one lp lq a b lt =
     let first = kept-lt t p q a lt in
     let second = kept-lt t q count b lq in
@@ -33,7 +33,7 @@ module _ (x : Shape) (n first : ℕ) (s : Sender x) (g : AllGoOn x) (made : n < 
   -- a fragment's number is below the count of those sent
   under : (p : ℕ) → p < x.slots → has x n p ≡ true → (x.slot p).fragment < sent x n
   under p lt h =
-      let number = s.number p lt ∙ ap (λ m. length (kept (has x m) 0 p)) (of-has x n p h).0 in
+      let number = s.number p lt ∙ ap (λ m. length (numbers_where (has x m) 0 p)) (of-has x n p h).0 in
       omega (arith, number, kept-lt (has x n) p x.slots h lt)
 
   -- the last fragment
@@ -45,11 +45,11 @@ module _ (x : Shape) (n first : ℕ) (s : Sender x) (g : AllGoOn x) (made : n < 
 
   last : Last
   last =
-      let r = Line.kept-place (has x n) 0 x.slots (sent x n - 1) 0 (omega (arith, some)) in
-      let place = get_or (kept (has x n) 0 x.slots) (sent x n - 1) 0 in
+      let r = kept-place (has x n) 0 x.slots (sent x n - 1) 0 (omega (arith, some)) in
+      let place = get_or (numbers_where (has x n) 0 x.slots) (sent x n - 1) 0 in
       let lt : place < x.slots = omega (arith, r.is, r.low) in
       let k : place ≡ r.k = omega (arith, r.is) in
-      let number = s.number place lt ∙ ap (λ m. length (kept (has x m) 0 place)) (of-has x n place r.passes).0 ∙ ap (λ c. length (kept (has x n) 0 c)) k ∙ r.place_is in
+      let number = s.number place lt ∙ ap (λ m. length (numbers_where (has x m) 0 place)) (of-has x n place r.passes).0 ∙ ap (λ c. length (numbers_where (has x n) 0 c)) k ∙ r.place_is in
       record { place = place; inside = lt; has_it = r.passes; is = omega (arith, at place lt r.passes, number, some) }
 
   belongs-last : belongs x n last.place ≡ true
@@ -63,10 +63,10 @@ module _ (x : Shape) (n first : ℕ) (s : Sender x) (g : AllGoOn x) (made : n < 
       flag true e = refl
       flag false e = absurd (not_both (sym h ∙ and ((x.slot p).message == n) (not (x.slot p).is_terminal_chunk) b (ap not e)))
 
-  marks-one : length (kept (is_mark x n) 0 x.slots) ≤ 1
+  marks-one : length (numbers_where (is_mark x n) 0 x.slots) ≤ 1
   marks-one = by ((x.message n).abandoned && nat_lt (sent x n) (parts x n)) (s.marks n made)
     where
-      by : (b : Bool) → length (kept (is_mark x n) 0 x.slots) ≡ (if b then 1 else 0) → length (kept (is_mark x n) 0 x.slots) ≤ 1
+      by : (b : Bool) → length (numbers_where (is_mark x n) 0 x.slots) ≡ (if b then 1 else 0) → length (numbers_where (is_mark x n) 0 x.slots) ≤ 1
       by true e = omega (arith, e)
       by false e = omega (arith, e)
 
@@ -80,15 +80,15 @@ module _ (x : Shape) (n first : ℕ) (s : Sender x) (g : AllGoOn x) (made : n < 
     no-mark p lt b true h = fragment-end p lt h
     no-mark p lt b false h =
         let none : nat_lt (sent x n) (parts x n) ≡ false = grind (arith, nat_tests) in
-        let count : length (kept (is_mark x n) 0 x.slots) ≡ 0 = s.marks n made ∙ ap (λ c. if (x.message n).abandoned && c then 1 else 0) none ∙ zero-of (x.message n).abandoned in
+        let count : length (numbers_where (is_mark x n) 0 x.slots) ≡ 0 = s.marks n made ∙ ap (λ c. if (x.message n).abandoned && c then 1 else 0) none ∙ zero-of (x.message n).abandoned in
         absurd (omega (arith, count, kept-lt (is_mark x n) p x.slots (mark p b h) lt))
       where
         zero-of : (b : Bool) → ◌≡◌ {A = ℕ} (if b && false then 1 else 0) 0
         zero-of true = refl
         zero-of false = refl
 
-    upto-all : (upto : ℕ) → list_all (λ p. nat_le p upto) (kept (belongs x n) 0 x.slots) ≡ nat_le (first + sent x n) (upto + 1)
-    upto-all upto = same_test (list_all (λ p. nat_le p upto) (kept (belongs x n) 0 x.slots)) (nat_le (first + sent x n) (upto + 1))
+    upto-all : (upto : ℕ) → list_all (λ p. nat_le p upto) (numbers_where (belongs x n) 0 x.slots) ≡ nat_le (first + sent x n) (upto + 1)
+    upto-all upto = same_test (list_all (λ p. nat_le p upto) (numbers_where (belongs x n) 0 x.slots)) (nat_le (first + sent x n) (upto + 1))
         (λ e. let h : nat_le last.place upto ≡ true = all-at (λ p. nat_le p upto) (belongs x n) last.place 0 x.slots (omega arith) (omega (arith, last.inside)) belongs-last e in let le : last.place ≤ upto = grind (arith, nat_tests) in let t : first + sent x n ≤ upto + 1 = omega (arith, le, last.is) in grind (arith, nat_tests))
         (λ e. let t : first + sent x n ≤ upto + 1 = grind (arith, nat_tests) in all-kept (λ p. nat_le p upto) (belongs x n) 0 x.slots (λ p a b h. let lt : p < x.slots = omega (arith, b) in let le : p ≤ upto = omega (arith, t, no-mark p lt h (has x n p) refl) in grind (arith, nat_tests)))
 
@@ -125,16 +125,16 @@ module _ (x : Shape) (n first : ℕ) (s : Sender x) (g : AllGoOn x) (made : n < 
         by (inl l) = absurd (only-one (is_mark x n) x.slots (last.place + 1) p marks-one next lt next-mark (mark p b h) l)
         by (inr le) = omega (arith, le, last.is)
 
-    upto-mark : (upto : ℕ) → list_all (λ p. nat_le p upto) (kept (belongs x n) 0 x.slots) ≡ nat_le (first + sent x n + 1) (upto + 1)
-    upto-mark upto = same_test (list_all (λ p. nat_le p upto) (kept (belongs x n) 0 x.slots)) (nat_le (first + sent x n + 1) (upto + 1))
+    upto-mark : (upto : ℕ) → list_all (λ p. nat_le p upto) (numbers_where (belongs x n) 0 x.slots) ≡ nat_le (first + sent x n + 1) (upto + 1)
+    upto-mark upto = same_test (list_all (λ p. nat_le p upto) (numbers_where (belongs x n) 0 x.slots)) (nat_le (first + sent x n + 1) (upto + 1))
         (λ e. let h : nat_le (last.place + 1) upto ≡ true = all-at (λ p. nat_le p upto) (belongs x n) (last.place + 1) 0 x.slots (omega arith) (omega (arith, next)) next-belongs e in let le : last.place + 1 ≤ upto = grind (arith, nat_tests) in let t : first + sent x n + 1 ≤ upto + 1 = omega (arith, le, last.is) in grind (arith, nat_tests))
         (λ e. let t : first + sent x n + 1 ≤ upto + 1 = grind (arith, nat_tests) in all-kept (λ p. nat_le p upto) (belongs x n) 0 x.slots (λ p a b h. let lt : p < x.slots = omega (arith, b) in let le : p ≤ upto = omega (arith, t, mark-end p lt h (has x n p) refl) in grind (arith, nat_tests)))
 
   -- one more where there is a terminal chunk
-  pub upto-is : (upto : ℕ) → list_all (λ p. nat_le p upto) (kept (belongs x n) 0 x.slots) ≡ nat_le (first + sent x n + (if nat_lt (sent x n) (parts x n) then 1 else 0)) (upto + 1)
+  pub upto-is : (upto : ℕ) → list_all (λ p. nat_le p upto) (numbers_where (belongs x n) 0 x.slots) ≡ nat_le (first + sent x n + (if nat_lt (sent x n) (parts x n) then 1 else 0)) (upto + 1)
   upto-is upto = by (cases_lt (sent x n) (parts x n))
     where
-      by : (sent x n < parts x n) ⊎ (parts x n ≤ sent x n) → list_all (λ p. nat_le p upto) (kept (belongs x n) 0 x.slots) ≡ nat_le (first + sent x n + (if nat_lt (sent x n) (parts x n) then 1 else 0)) (upto + 1)
+      by : (sent x n < parts x n) ⊎ (parts x n ≤ sent x n) → list_all (λ p. nat_le p upto) (numbers_where (belongs x n) 0 x.slots) ≡ nat_le (first + sent x n + (if nat_lt (sent x n) (parts x n) then 1 else 0)) (upto + 1)
       by (inl l) =
           let e : nat_lt (sent x n) (parts x n) ≡ true = grind (arith, nat_tests) in
           upto-mark (gone-is ended) l upto ∙ ap (λ b. nat_le (first + sent x n + (if b then 1 else 0)) (upto + 1)) (sym e)

@@ -3,7 +3,10 @@ use Rattle.std.proofs.Common.{◌≡◌, ℕ, suc, ◌-◌, ◌<◌, ◌≤◌, 
 use Rattle.std.specs.Prelude.{if◌then◌else◌, ◌==◌, ◌&&◌, ◌||◌, not, nat_le, nat_lt, is_some, is_none, slice_index_or}
 use Rattle.std.proofs.Math.Path.{subst}
 use Rattle.std.proofs.lemmas.Bool.Decides.{nat_tests}
-use Rattle.sctp_list_lemmas.specs.Kept.{kept, gathered, numbers_from, first_of}
+use Rattle.std.specs.List.{flat_map}
+use Rattle.sctp_chunks.specs.Reliability.{is_timed}
+use Rattle.sctp_chunks.specs.PayloadTypes.{is_dcep}
+use Rattle.sctp_list_lemmas.specs.Kept.{numbers_where, numbers_from, first_of}
 use Rattle.sctp_list_lemmas.specs.Lists.{change_where, pieces}
 use Rattle.sctp_list_lemmas.proofs.Passing.{kept-same, front-kept, FrontOf}
 use Rattle.sctp_list_lemmas.proofs.Getting.{map-at, length-mapped}
@@ -16,10 +19,9 @@ use Rattle.sctp_chunks.specs.PayloadData.{Data}
 use Rattle.sctp_chunks.specs.ChunkSet.{fresh}
 use Rattle.sctp_outbound.specs.pending_queue.PendingQueue as pending
 use Rattle.sctp_outbound.specs.outbound_queue.OutboundQueue.{Outbound, all_started}
-use Rattle.sctp_model.specs.World.{World, Message}
-use Rattle.sctp_model.specs.Messages.{message_at, slot_at, message_of, messages_where, is_ordered_on, ordered_before, index_of, ssn_of, fragment_count, sent_of, is_partially_sent, no_message, deadline_of, deadline_from}
-use Rattle.sctp_model.specs.Messages
-use Rattle.sctp_model.specs.Changes.{start_lifetime, started}
+use Rattle.sctp_model.specs.LinkRecord.{LinkRecord, Message}
+use Rattle.sctp_model.specs.Messages.{message_at, message_of, messages_where, is_ordered_on, ordered_before, ssn_of, fragment_count, sent_of, is_partially_sent, no_message, deadline_from}
+use Rattle.sctp_model.specs.Changes.{start_lifetime, after_start}
 use Rattle.sctp_model.specs.Contents.{data_fields}
 use Rattle.sctp_refinement.specs.Refines.{waiting_at, waiting_of, waiting_where, selected_of, RefinesOutbound}
 use Rattle.sctp_refinement.proofs.sending.Waiting.{Alike, gathered-same}
@@ -31,7 +33,7 @@ abbrev chunk_by : Data → ℕ → ReliabilityType → ℕ → Option ℕ → Ch
 chunk_by d n r value deadline = record (fresh d) { message_id = n; reliability = Some (r, value); deadline = deadline }
 
 abbrev deadline_by : ReliabilityType → PayloadProtocolIdentifier → ℕ → Option ℕ → Option ℕ
-deadline_by r ppi value o = if Messages.is_timed r && not (Messages.is_dcep ppi) then deadline_from value o else None
+deadline_by r ppi value o = if is_timed r && not (is_dcep ppi) then deadline_from value o else None
 
 abbrev started_by : ℕ → ℕ → ChunkPayloadData → ChunkPayloadData
 started_by first now c = if pending.is_to_start first c then pending.with_deadline now c else c
@@ -49,7 +51,7 @@ start-chunk d n first now r value None e = rw (on (nat_le first n) e) (by r d.pa
     on false h = cc
 
     by : (r : ReliabilityType) (p : PayloadProtocolIdentifier) → d.payload_type ≡ p
-        → (if is_none (deadline_by r d.payload_type value None) && (not (pending.is_dcep d.payload_type) && pending.is_timed (Some (r, value))) then pending.with_deadline now (chunk_by d n r value (deadline_by r d.payload_type value None)) else chunk_by d n r value (deadline_by r d.payload_type value None)) ≡ chunk_by d n r value (deadline_by r d.payload_type value (Some now))
+        → (if is_none (deadline_by r d.payload_type value None) && (not (is_dcep d.payload_type) && pending.has_lifetime (Some (r, value))) then pending.with_deadline now (chunk_by d n r value (deadline_by r d.payload_type value None)) else chunk_by d n r value (deadline_by r d.payload_type value None)) ≡ chunk_by d n r value (deadline_by r d.payload_type value (Some now))
     by Reliable Dcep e = rw e refl
     by Reliable String e = rw e refl
     by Reliable Binary e = rw e refl
@@ -79,15 +81,15 @@ change-map : {A : Type 0} (t : A → Bool) (f : A → A) (g h : ℕ → A) (xs :
 change-map t f g h [] e = refl
 change-map t f g h (x ∷ xs) e = ap (λ y. y ∷ change_where t f (map g xs)) (e x) ∙ ap (λ l. h x ∷ l) (change-map t f g h xs e)
 
-pub change-gathered : {A : Type 0} (t : A → Bool) (f : A → A) (g : ℕ → List A) (xs : List ℕ) → change_where t f (gathered g xs) ≡ gathered (λ n. change_where t f (g n)) xs
+pub change-gathered : {A : Type 0} (t : A → Bool) (f : A → A) (g : ℕ → List A) (xs : List ℕ) → change_where t f (flat_map g xs) ≡ flat_map (λ n. change_where t f (g n)) xs
 change-gathered t f g [] = refl
-change-gathered t f g (x ∷ xs) = change-append t f (g x) (gathered g xs) ∙ ap (λ l. change_where t f (g x) ++ l) (change-gathered t f g xs)
+change-gathered t f g (x ∷ xs) = change-append t f (g x) (flat_map g xs) ∙ ap (λ l. change_where t f (g x) ++ l) (change-gathered t f g xs)
 
 -- ## The record
 
-module _ (w : World) (now : ℕ) where
-  abbrev v : World
-  v = started w now
+module _ (w : LinkRecord) (now : ℕ) where
+  abbrev v : LinkRecord
+  v = after_start w now
 
   abbrev len : ℕ
   len = length w.messages
@@ -125,15 +127,15 @@ module _ (w : World) (now : ℕ) where
 
   where-now : (first : ℕ) (t : Message → Bool) → ((m : Message) → t (start_lifetime now m) ≡ t m) → ((n : ℕ) → n < length w.messages → is_some (message_at w n).started ≡ not (nat_le first n)) → change_where (pending.is_to_start first) (pending.with_deadline now) (waiting_where w (λ n. t (message_at w n))) ≡ waiting_where v (λ n. t (message_at v n))
   where-now first t keeps e =
-      change-gathered (pending.is_to_start first) (pending.with_deadline now) (waiting_of w) (kept (λ n. t (message_at w n)) 0 len)
+      change-gathered (pending.is_to_start first) (pending.with_deadline now) (waiting_of w) (numbers_where (λ n. t (message_at w n)) 0 len)
       ∙ gathered-same (λ n. change_where (pending.is_to_start first) (pending.with_deadline now) (waiting_of w n)) (waiting_of v) (λ n. t (message_at w n)) (λ n. t (message_at v n)) 0 len
       (λ k a b. sym (ap t (message-now k (omega arith)) ∙ keeps (message_at w k)))
       (λ k a b p. waiting_of-now first k (omega arith) (e k (omega arith)))
-      ∙ ap (λ c. gathered (waiting_of v) (kept (λ n. t (message_at v n)) 0 c)) (sym len-same)
+      ∙ ap (λ c. flat_map (waiting_of v) (numbers_where (λ n. t (message_at v n)) 0 c)) (sym len-same)
 
   half-same : messages_where v (is_partially_sent v) ≡ messages_where w (is_partially_sent w)
   half-same =
-      ap (kept (is_partially_sent v) 0) len-same
+      ap (numbers_where (is_partially_sent v) 0) len-same
       ∙ kept-same (is_partially_sent v) (is_partially_sent w) 0 len (λ k a b. ap (λ x. nat_lt 0 (sent_of w k) && (nat_lt (sent_of w k) (length (pieces (length x.bytes) w.setup.size x.bytes)) && not x.abandoned)) (message-now k (omega arith)))
 
   selected-same : (l : List ℕ) → FrontOf (is_partially_sent w) 0 len l → selected_of v (first_of l) ≡ selected_of w (first_of l)
@@ -158,7 +160,7 @@ module _ (w : World) (now : ℕ) where
       past : (n : ℕ) → n < q.next_unstarted → is_some (message_at w n).started ≡ true
       past n lt = t.unstarted n (omega (arith, t.started)) ∙ ap not (let e : nat_le q.next_unstarted n ≡ false = grind (arith, nat_tests) in e)
 
-      by : (b : Bool) → (q.next_unstarted == q.next_message_id) ≡ b → RefinesOutbound v (if b then q else record q { pending = pending.started q.next_unstarted now q.pending; next_unstarted = q.next_message_id })
+      by : (b : Bool) → (q.next_unstarted == q.next_message_id) ≡ b → RefinesOutbound v (if b then q else record q { pending = pending.start_pending q.next_unstarted now q.pending; next_unstarted = q.next_message_id })
       by true e =
           let z : q.next_unstarted ≡ q.next_message_id = grind (arith, nat_tests) in
           let same = all-stay w.messages (λ k lt. past k (omega (arith, lt, z, t.next))) in
@@ -167,7 +169,7 @@ module _ (w : World) (now : ℕ) where
         pending = record {
           ordered = ap (change_where (pending.is_to_start q.next_unstarted) (pending.with_deadline now)) t.pending.ordered ∙ where-now q.next_unstarted (λ x. x.ordered && not (x.expired || x.abandoned)) (λ m. refl) t.unstarted;
           unordered = ap (change_where (pending.is_to_start q.next_unstarted) (pending.with_deadline now)) t.pending.unordered ∙ where-now q.next_unstarted (λ x. not x.ordered && not (x.expired || x.abandoned)) (λ m. refl) t.unstarted;
-          selected = t.pending.selected ∙ sym (ap (λ l. selected_of v (first_of l)) half-same ∙ selected-same (kept (is_partially_sent w) 0 len) (front-kept (is_partially_sent w) 0 len));
+          selected = t.pending.selected ∙ sym (ap (λ l. selected_of v (first_of l)) half-same ∙ selected-same (numbers_where (is_partially_sent w) 0 len) (front-kept (is_partially_sent w) 0 len));
         };
         in_flight = t.in_flight ∙ sym (sendings-alike w v refl refl (λ p lt. (refl, alike (message_of w p) (omega (arith, t.begun p lt, t.started)) (past (message_of w p) (t.begun p lt)))));
         next = t.next ∙ sym len-same;

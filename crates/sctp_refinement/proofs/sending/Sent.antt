@@ -4,15 +4,16 @@ use Rattle.std.specs.Prelude.{◌⊎◌, if◌then◌else◌, ◌==◌, ◌&&◌
 use Rattle.std.proofs.Math.Path.{subst}
 use Rattle.std.proofs.lemmas.Bool.{cases_lt}
 use Rattle.std.proofs.lemmas.Bool.Decides.{nat_tests}
-use Rattle.sctp_list_lemmas.specs.Kept.{kept, gathered, numbers_from, first_of, or_else}
+use Rattle.std.specs.List.{flat_map}
+use Rattle.sctp_list_lemmas.specs.Kept.{numbers_where, numbers_from, first_of, or_else}
 use Rattle.sctp_list_lemmas.proofs.Passing.{kept-none, front-kept, FrontOf}
 use Rattle.sctp_list_lemmas.proofs.More.{fails, not_both, both}
 use Rattle.sctp_list_lemmas.proofs.Cases.{by_same, negated, same-yes, same-is}
 use Rattle.sctp_list_lemmas.proofs.Tests.{FirstOf, first-kept}
 use Rattle.sctp_chunks.specs.declared.chunk.chunk_payload_data.ChunkPayloadData.{ChunkPayloadData}
 use Rattle.sctp_outbound.specs.declared.pending_queue.Selected.{Selected}
-use Rattle.sctp_outbound.specs.pending_queue.PendingQueue.{Pending, list_of, front_of, peeked, peeked_of, list_to_pop, rest_after, rest_from, rest_of, selected_after}
-use Rattle.sctp_model.specs.World.{World}
+use Rattle.sctp_outbound.specs.pending_queue.PendingQueue.{Pending, list_of, front_of, next_pending, next_pending_of, list_to_pop, rest_after, rest_from, rest_of, selected_after}
+use Rattle.sctp_model.specs.LinkRecord.{LinkRecord}
 use Rattle.sctp_model.specs.Messages.{message_at, messages_where, front, fragment_count, sent_of, is_partially_sent, is_unsent}
 use Rattle.sctp_model.specs.Changes.{with_slot}
 use Rattle.sctp_model.specs.Amounts.{is_expired_or_abandoned}
@@ -40,9 +41,9 @@ last false q c cs o e = ap (λ s. let p : Pending = record q { ordered = cs; sel
 front-some : (c : ChunkPayloadData) (cs xs : List ChunkPayloadData) → xs ≡ c ∷ cs → slice_get xs 0 ≡ Some c
 front-some c cs xs e = ap (λ l. slice_get l 0) e
 
-popped-none : (u : Bool) (q : Pending) (c : ChunkPayloadData) (cs : List ChunkPayloadData) → q.selected ≡ None → list_of u q ≡ c ∷ cs → (u ≡ false → q.unordered ≡ []) → c.beginning_fragment ≡ true → (peeked q ≡ Some c) × (rest_after c.beginning_fragment u q ≡ left_of u cs (selected_after None u c) q)
+popped-none : (u : Bool) (q : Pending) (c : ChunkPayloadData) (cs : List ChunkPayloadData) → q.selected ≡ None → list_of u q ≡ c ∷ cs → (u ≡ false → q.unordered ≡ []) → c.beginning_fragment ≡ true → (next_pending q ≡ Some c) × (rest_after c.beginning_fragment u q ≡ left_of u cs (selected_after None u c) q)
 popped-none u q c cs sel l none begins = (
-  ap (λ o. peeked_of o q) sel ∙ by u l none,
+  ap (λ o. next_pending_of o q) sel ∙ by u l none,
   ap (λ o. rest_from (list_to_pop o c.beginning_fragment u) q) sel ∙ ap (λ b. rest_from (if b then Some u else None) q) begins ∙ ap (rest_of u q) l ∙ last u q c cs None sel,
 )
   where
@@ -50,19 +51,19 @@ popped-none u q c cs sel l none begins = (
     by true e n = ap (λ l. front_of l q.ordered) e
     by false e n = ap (λ l. front_of l q.ordered) (n refl) ∙ front-some c cs q.ordered e
 
-popped-some : (s : Selected) (q : Pending) (c : ChunkPayloadData) (cs : List ChunkPayloadData) (b : Bool) → q.selected ≡ Some s → list_of s.unordered q ≡ c ∷ cs → (peeked q ≡ Some c) × (rest_after b s.unordered q ≡ left_of s.unordered cs (selected_after (Some s) s.unordered c) q)
+popped-some : (s : Selected) (q : Pending) (c : ChunkPayloadData) (cs : List ChunkPayloadData) (b : Bool) → q.selected ≡ Some s → list_of s.unordered q ≡ c ∷ cs → (next_pending q ≡ Some c) × (rest_after b s.unordered q ≡ left_of s.unordered cs (selected_after (Some s) s.unordered c) q)
 popped-some s q c cs b sel l = (
-  ap (λ o. peeked_of o q) sel ∙ front-some c cs (list_of s.unordered q) l,
+  ap (λ o. next_pending_of o q) sel ∙ front-some c cs (list_of s.unordered q) l,
   ap (λ o. rest_from (list_to_pop o b s.unordered) q) sel ∙ ap (rest_of s.unordered q) l ∙ last s.unordered q c cs (Some s) sel,
 )
 
 -- ## What the front is
 
 -- the messages of a kind are sent in turn: before a partially sent one none of its kind is unsent
-abbrev pub KindsInTurn : World → Type 0
+abbrev pub KindsInTurn : LinkRecord → Type 0
 KindsInTurn w = (n k : ℕ) → is_partially_sent w n ≡ true → k < n → (message_at w k).ordered ≡ (message_at w n).ordered → is_unsent w k ≡ false
 
-pub record FrontIs (w : World) (n : ℕ) : Type 0 where
+pub record FrontIs (w : LinkRecord) (n : ℕ) : Type 0 where
   pub takes : Takes (shape w) n
   -- none of its kind before it waits
   pub before : (k : ℕ) → k < n → (message_at w k).ordered ≡ (message_at w n).ordered → (is_partially_sent w k ≡ false) × (is_unsent w k ≡ false)
@@ -71,7 +72,7 @@ pub record FrontIs (w : World) (n : ℕ) : Type 0 where
   -- unordered ones go first
   pub kinds : sent_of w n ≡ 0 → (message_at w n).ordered ≡ true → (k : ℕ) → k < length w.messages → (message_at w k).ordered ≡ false → is_unsent w k ≡ false
 
-module _ (w : World) (s : Sender (shape w)) (turns : KindsInTurn w) (n : ℕ) (is : front w ≡ Some n) where
+module _ (w : LinkRecord) (s : Sender (shape w)) (turns : KindsInTurn w) (n : ℕ) (is : front w ≡ Some n) where
   takes : Takes (shape w) n
   takes = front-takes (shape w) n s is
 
@@ -127,7 +128,7 @@ module _ (w : World) (s : Sender (shape w)) (turns : KindsInTurn w) (n : ℕ) (i
   front_is = first (first_of (messages_where w (is_partially_sent w))) (first-kept (is_partially_sent w) (length w.messages)) is
 
 -- a message that is not expired or abandoned, neither partially sent nor unsent, was wholly sent
-pub all-sent : (w : World) (k : ℕ) → is_expired_or_abandoned w k ≡ false → is_partially_sent w k ≡ false → is_unsent w k ≡ false → waiting_of w k ≡ []
+pub all-sent : (w : LinkRecord) (k : ℕ) → is_expired_or_abandoned w k ≡ false → is_partially_sent w k ≡ false → is_unsent w k ≡ false → waiting_of w k ≡ []
 all-sent w k given half unsent = by (cases_lt 0 (sent_of w k)) (cases_lt (sent_of w k) (fragment_count w k))
   where
     or-no : (a b : Bool) → (a || b) ≡ false → (a ≡ false) × (b ≡ false)
@@ -141,8 +142,8 @@ all-sent w k given half unsent = by (cases_lt 0 (sent_of w k)) (cases_lt (sent_o
 
 -- ## The fragment leaves its list
 
-module _ (w : World) (n : ℕ) (f : FrontIs w n) where
-  abbrev v : World
+module _ (w : LinkRecord) (n : ℕ) (f : FrontIs w n) where
+  abbrev v : LinkRecord
   v = with_slot w n false
 
   abbrev i : ℕ
@@ -175,7 +176,7 @@ module _ (w : World) (n : ℕ) (f : FrontIs w n) where
       let lt = f.takes.made in
       let left = 0 + length w.messages - (n + 1) in
       gathered-from (waiting_of w) t n 0 (length w.messages) (omega arith) (omega (arith, lt)) hit (λ k a b e. none k b e)
-      ∙ ap (λ l. l ++ gathered (waiting_of w) (kept t (n + 1) left)) waiting-here
+      ∙ ap (λ l. l ++ flat_map (waiting_of w) (numbers_where t (n + 1) left)) waiting-here
       ∙ ap (λ l. c ∷ (waiting_of v n ++ l)) (gathered-same (waiting_of w) (waiting_of v) t t (n + 1) left (λ k a b. refl) (λ k a b e. sym (waiting-elsewhere k (λ z. omega (arith, a, z)))))
       ∙ ap (λ l. c ∷ l) (sym (gathered-from (waiting_of v) t n 0 (length w.messages) (omega arith) (omega (arith, lt)) hit (λ k a b e. waiting-elsewhere k (λ z. omega (arith, b, z)) ∙ none k b e)))
 
@@ -259,7 +260,7 @@ module _ (w : World) (n : ℕ) (f : FrontIs w n) where
       by false e = found (messages_where v (is_partially_sent v)) (front-kept (is_partially_sent v) 0 (length w.messages)) (half-here ∙ ap not e)
 
   -- the queue shows this fragment, and without it holds what the record says
-  pub pending-sent : (q : Pending) → RefinesPending w q → (peeked q ≡ Some c) × RefinesPending v (rest_after c.beginning_fragment c.unordered q)
+  pub pending-sent : (q : Pending) → RefinesPending w q → (next_pending q ≡ Some c) × RefinesPending v (rest_after c.beginning_fragment c.unordered q)
   pending-sent q t = by f.selected
     where
       u : Bool
@@ -292,7 +293,7 @@ module _ (w : World) (n : ℕ) (f : FrontIs w n) where
           yes-of true h = refl
           yes-of false h = cc
 
-      by : (is_partially_sent w n ≡ true) ⊎ ((sent_of w n ≡ 0) × ((k : ℕ) → k < length w.messages → is_partially_sent w k ≡ false)) → (peeked q ≡ Some c) × RefinesPending v (rest_after c.beginning_fragment c.unordered q)
+      by : (is_partially_sent w n ≡ true) ⊎ ((sent_of w n ≡ 0) × ((k : ℕ) → k < length w.messages → is_partially_sent w k ≡ false)) → (next_pending q ≡ Some c) × RefinesPending v (rest_after c.beginning_fragment c.unordered q)
       by (inl h) =
           let p = popped-some own q c (waiting_where v (kind_of u)) c.beginning_fragment (t.selected ∙ half (messages_where w (is_partially_sent w)) (front-kept (is_partially_sent w) 0 (length w.messages)) h) l.0 in
           (p.0, subst (RefinesPending v) (sym p.1) (l.1 (selected_after (Some own) u c) (ends (i + 1 == fragment_count w n) ∙ selected-then)))
@@ -303,9 +304,9 @@ module _ (w : World) (n : ℕ) (f : FrontIs w n) where
 
 -- ## Nothing to send
 
-pub pending-idle : (w : World) (q : Pending) → RefinesPending w q → ((k : ℕ) → k < length w.messages → (is_partially_sent w k ≡ false) × (is_unsent w k ≡ false)) → peeked q ≡ None
+pub pending-idle : (w : LinkRecord) (q : Pending) → RefinesPending w q → ((k : ℕ) → k < length w.messages → (is_partially_sent w k ≡ false) × (is_unsent w k ≡ false)) → next_pending q ≡ None
 pending-idle w q t none =
-    ap (λ o. peeked_of o q) (t.selected ∙ ap (λ k. selected_of w (first_of k)) (kept-none (is_partially_sent w) 0 (length w.messages) (λ k a b. (none k (omega arith)).0)))
+    ap (λ o. next_pending_of o q) (t.selected ∙ ap (λ k. selected_of w (first_of k)) (kept-none (is_partially_sent w) 0 (length w.messages) (λ k a b. (none k (omega arith)).0)))
     ∙ ap (λ l. front_of l q.ordered) (t.unordered ∙ gathered-none (waiting_of w) (waits_unordered w) 0 (length w.messages) (λ k a b h. all-sent w k (given (not (message_at w k).ordered) (is_expired_or_abandoned w k) h) (none k (omega arith)).0 (none k (omega arith)).1))
     ∙ ap (λ l. slice_get l 0) (t.ordered ∙ gathered-none (waiting_of w) (waits_ordered w) 0 (length w.messages) (λ k a b h. all-sent w k (given (message_at w k).ordered (is_expired_or_abandoned w k) h) (none k (omega arith)).0 (none k (omega arith)).1))
   where

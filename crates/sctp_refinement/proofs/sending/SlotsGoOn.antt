@@ -2,17 +2,17 @@
 use Rattle.std.proofs.Common.{◌≡◌, ℕ, ◌+◌, ◌<◌, Bool, true, false, List, [], ◌∷◌, length, Option, Some, None, refl, ap, sym, ◌∙◌, arith, add-one, length-append}
 use Rattle.std.specs.Prelude.{if◌then◌else◌, ◌==◌, ◌||◌, not, fold, slice_get}
 use Rattle.std.proofs.Math.Path.{subst}
-use Rattle.sctp_list_lemmas.specs.Kept.{kept}
+use Rattle.sctp_list_lemmas.specs.Kept.{numbers_where}
 use Rattle.sctp_list_lemmas.proofs.Passing.{kept-snoc_in}
 use Rattle.sctp_list_lemmas.proofs.More.{not_both, and}
 use Rattle.sctp_list_lemmas.proofs.Cases.{by_last, by_same, same-yes}
 use Rattle.sctp_model.specs.declared.event.Event.{Event}
 use Rattle.sctp_model.specs.declared.event.Event.TheVariants as E
-use Rattle.sctp_model.specs.World.{Setup, World}
+use Rattle.sctp_model.specs.LinkRecord.{Setup, LinkRecord}
 use Rattle.sctp_model.specs.Messages
 use Rattle.sctp_model.specs.Receiver
 use Rattle.sctp_model.specs.Changes
-use Rattle.sctp_model.specs.Steps.{History, world_of, IsRun, after}
+use Rattle.sctp_model.specs.Steps.{History, record_of, IsRun, after}
 use Rattle.sctp_model.proofs.sender.Shape.{Shape, MessagePart, shape, message_part, has, sent, parts, half, slotted, written, abandoned_at, expired_at}
 use Rattle.sctp_model.proofs.sender.Shapes
 use Rattle.sctp_model.proofs.sender.Sender.{Sender, slot-old, slot-new}
@@ -35,8 +35,8 @@ half-last : (x : Shape) (p : ℕ) → Sender x → p + 1 ≡ x.slots → (x.slot
 half-last x p s e mark lt alive =
     let n = (x.slot p).message in
     let has-it : has x n p ≡ true = and (n == n) (not (x.slot p).is_terminal_chunk) (same-yes n) (ap not mark) in
-    let all : sent x n ≡ length (kept (has x n) 0 p) + 1 =
-    ap (λ c. length (kept (has x n) 0 c)) (sym e ∙ add-one p) ∙ ap length (kept-snoc_in (has x n) 0 p p (omega arith) has-it) ∙ length-append (kept (has x n) 0 p) (p ∷ []) in
+    let all : sent x n ≡ length (numbers_where (has x n) 0 p) + 1 =
+    ap (λ c. length (numbers_where (has x n) 0 c)) (sym e ∙ add-one p) ∙ ap length (kept-snoc_in (has x n) 0 p p (omega arith) has-it) ∙ length-append (numbers_where (has x n) 0 p) (p ∷ []) in
     let number = s.number p (omega (arith, e)) in
     is-half x n (omega (arith, all)) (omega (arith, all, number, lt)) alive
 
@@ -95,33 +95,33 @@ goes-expired x n g p lt mark short = let o = g p lt mark short in record { same 
 -- ## Each event keeps it
 
 -- a record whose shape has it
-Goes : World → Type 0
+Goes : LinkRecord → Type 0
 Goes w = AllGoOn (shape w)
 
 goes-as : (x y : Shape) → y ≡ x → AllGoOn x → AllGoOn y
 goes-as x y e g = subst AllGoOn (sym e) g
 
 -- what a Send keeps
-record Sends (setup : Setup) (w : World) : Type 0 where
+record Sends (setup : Setup) (w : LinkRecord) : Type 0 where
   sane : Sane setup w
   on : AllGoOn (shape w)
 
-goes-takes : (setup : Setup) (w : World) → Sends setup w → Sends setup (Changes.fragment_sent w)
+goes-takes : (setup : Setup) (w : LinkRecord) → Sends setup w → Sends setup (Changes.send_fragment w)
 goes-takes setup w g = record { sane = sane-takes setup w g.sane; on = step (Messages.front w) refl }
   where
-    step : (o : Option ℕ) → Messages.front w ≡ o → AllGoOn (shape (Changes.fragment_of_sent w o))
+    step : (o : Option ℕ) → Messages.front w ≡ o → AllGoOn (shape (Changes.send_fragment_of w o))
     step None e = g.on
     step (Some n) e =
         let t = front-takes (shape w) n g.sane.sender e in
         goes-as (slotted (shape w) n false) (shape (Changes.with_slot w n false)) (Shapes.shape-slot w n false) (goes-slotted (shape w) n false g.sane.sender t.alone (λ z. t.alive) g.on)
 
-goes-sent : (setup : Setup) (w : World) (now : ℕ) (o : Option ℕ) → Sane setup w → AllGoOn (shape w) → AllGoOn (shape (Changes.sent_from (Changes.started w now) o))
-goes-sent setup w now None s g = goes-as (shape w) (shape (Changes.started w now)) (Shapes.shape-started w now) g
+goes-sent : (setup : Setup) (w : LinkRecord) (now : ℕ) (o : Option ℕ) → Sane setup w → AllGoOn (shape w) → AllGoOn (shape (Changes.send_from (Changes.after_start w now) o))
+goes-sent setup w now None s g = goes-as (shape w) (shape (Changes.after_start w now)) (Shapes.shape-started w now) g
 goes-sent setup w now (Some n) s g =
-    let r = sends-keep (Sends setup) (λ v h. goes-takes setup v h) (Changes.started w now) (record { sane = sane-started setup w now s; on = goes-as (shape w) (shape (Changes.started w now)) (Shapes.shape-started w now) g }) in
+    let r = sends-keep (Sends setup) (λ v h. goes-takes setup v h) (Changes.after_start w now) (record { sane = sane-started setup w now s; on = goes-as (shape w) (shape (Changes.after_start w now)) (Shapes.shape-started w now) g }) in
     r.on
 
-goes-gone : (setup : Setup) (w : World) (n : ℕ) → Sane setup w → AllGoOn (shape w) → AllGoOn (shape (Changes.abandoned w n))
+goes-gone : (setup : Setup) (w : LinkRecord) (n : ℕ) → Sane setup w → AllGoOn (shape w) → AllGoOn (shape (Changes.after_abandon w n))
 goes-gone setup w n s g = step (Messages.is_partially_sent w n) refl
   where
     x : Shape
@@ -141,26 +141,26 @@ goes-gone setup w n s g = step (Messages.is_partially_sent w n) refl
         goes-as (abandoned_at (shape w) n) (shape (Changes.message_changed w n Changes.mark_abandoned)) (Shapes.shape-abandoned w n)
         (goes-abandoned (shape w) n (λ p a mark c d z. not_both (sym e ∙ ap (half (shape w)) (sym z) ∙ half-last (shape w) p s.sender a mark c d)) g)
 
-goes-late : (setup : Setup) (ns : List ℕ) (w : World) → Sane setup w → AllSent w ns → AllGoOn (shape w) → AllGoOn (shape (fold Changes.abandoned w ns))
+goes-late : (setup : Setup) (ns : List ℕ) (w : LinkRecord) → Sane setup w → AllSent w ns → AllGoOn (shape w) → AllGoOn (shape (fold Changes.after_abandon w ns))
 goes-late setup [] w s a g = g
-goes-late setup (n ∷ ns) w s a g = goes-late setup ns (Changes.abandoned w n) (sane-abandoned setup w n s a.0) (sent-all w n ns a.1) (goes-gone setup w n s g)
+goes-late setup (n ∷ ns) w s a g = goes-late setup ns (Changes.after_abandon w n) (sane-abandoned setup w n s a.0) (sent-all w n ns a.1) (goes-gone setup w n s g)
 
-goes-tail : (setup : Setup) (w : World) (o : Option ℕ) → Sane setup w → AllGoOn (shape w) → AllGoOn (shape (Changes.tail_abandoned w o))
+goes-tail : (setup : Setup) (w : LinkRecord) (o : Option ℕ) → Sane setup w → AllGoOn (shape w) → AllGoOn (shape (Changes.after_tail w o))
 goes-tail setup w None s g = g
 goes-tail setup w (Some n) s g = goes-gone setup w n s g
 
-goes-expiring : (w : World) (o : Option ℕ) → AllGoOn (shape w) → AllGoOn (shape (Changes.expired w o))
+goes-expiring : (w : LinkRecord) (o : Option ℕ) → AllGoOn (shape w) → AllGoOn (shape (Changes.after_expire w o))
 goes-expiring w None g = g
 goes-expiring w (Some n) g = goes-as (expired_at (shape w) n) (shape (Changes.message_changed w n Changes.mark_expired)) (Shapes.shape-expired w n) (goes-expired (shape w) n g)
 
-goes-after : (setup : Setup) (w : World) (e : Event) → Sane setup w → AllGoOn (shape w) → AllGoOn (shape (after w e))
+goes-after : (setup : Setup) (w : LinkRecord) (e : Event) → Sane setup w → AllGoOn (shape w) → AllGoOn (shape (after w e))
 goes-after setup w (E.Open s) a g = g
 goes-after setup w (E.Mode s u r v) a g = g
 goes-after setup w (E.Write s ppi []) a g = g
 goes-after setup w (E.Write s ppi (b ∷ bs)) a g =
     let m = written_as w s ppi (b ∷ bs) in
-    goes-as (written (shape w) (message_part m)) (shape (Changes.wrote w s ppi (b ∷ bs))) (Shapes.shape-written w m) (goes-written (shape w) (message_part m) a.sender g)
-goes-after setup w (E.Start now) a g = goes-as (shape w) (shape (Changes.started w now)) (Shapes.shape-started w now) g
+    goes-as (written (shape w) (message_part m)) (shape (Changes.after_write w s ppi (b ∷ bs))) (Shapes.shape-written w m) (goes-written (shape w) (message_part m) a.sender g)
+goes-after setup w (E.Start now) a g = goes-as (shape w) (shape (Changes.after_start w now)) (Shapes.shape-started w now) g
 goes-after setup w (E.Send now) a g = goes-sent setup w now (Messages.front w) a g
 goes-after setup w (E.Resend tsn) a g = g
 goes-after setup w (E.Expire now) a g = goes-expiring w (Changes.expiring w now) g
@@ -174,6 +174,6 @@ goes-after setup w (E.Acked k) a g = goes-as (shape w) (shape (after w (E.Acked 
 goes-after setup w (E.Read s) a g = goes-as (shape w) (shape (after w (E.Read s))) (same-read w s (Receiver.next_read w s)).shape_is g
 
 -- in every history
-pub goes-run : (setup : Setup) (h : History) → IsRun setup h → AllGoOn (shape (world_of setup h))
+pub goes-run : (setup : Setup) (h : History) → IsRun setup h → AllGoOn (shape (record_of setup h))
 goes-run setup [] run = λ p lt mark short. absurd (omega arith)
-goes-run setup (entry ∷ older) run = goes-after setup (world_of setup older) entry.0 (sane-run setup older run.1.1) (goes-run setup older run.1.1)
+goes-run setup (entry ∷ older) run = goes-after setup (record_of setup older) entry.0 (sane-run setup older run.1.1) (goes-run setup older run.1.1)

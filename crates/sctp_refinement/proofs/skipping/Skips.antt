@@ -3,45 +3,43 @@ use Rattle.std.proofs.Common.{◌≡◌, ℕ, ◌+◌, ◌-◌, ◌<◌, ◌≤�
 use Rattle.std.specs.Prelude.{◌⊎◌, if◌then◌else◌, ◌&&◌, ◌||◌, not, nat_lt, nat_le, max}
 use Rattle.std.proofs.lemmas.Bool.{cases_lt}
 use Rattle.std.proofs.lemmas.Bool.Decides.{nat_tests}
-use Rattle.sctp_list_lemmas.specs.Kept.{kept, leading}
-use Rattle.sctp_model.specs.World.{World}
+use Rattle.sctp_list_lemmas.specs.Kept.{numbers_where, leading}
+use Rattle.sctp_model.specs.LinkRecord.{LinkRecord}
 use Rattle.sctp_model.specs.Messages.{message_at, stream_of, is_ordered_on, index_of, ssn_of, ordered_on}
-use Rattle.sctp_model.specs.Receiver.{arrived_of, is_whole, is_unread, is_held, next_of, greatest}
+use Rattle.sctp_model.specs.Receiver.{arrived_of, is_complete_message, is_unread, is_held, next_of, greatest}
 use Rattle.sctp_list_lemmas.specs.Serial.{at_or_before16}
 use Rattle.sctp_reassembly.specs.reassembly_queue.ReassemblyQueue.{Reassembly, is_passed, held_after_ordered_skip, held_after_ordered_skips}
 use Rattle.sctp_reassembly.specs.reassembly_queue.Fragments.{is_complete}
-use Rattle.sctp_refinement.specs.Holds.{chunks_come, whole_sets, unassembled_chunks}
+use Rattle.sctp_refinement.specs.Holds.{chunks_come, complete_sets, unassembled_chunks}
 use Rattle.sctp_model.specs.Queues.{set_of}
 use Rattle.sctp_model.specs.Valid.{Valid}
 use Rattle.sctp_list_lemmas.proofs.More.{fails, both, those-kept}
 use Rattle.sctp_list_lemmas.proofs.Wraps.{at_or_before16-index, next16}
-use Rattle.sctp_refinement.proofs.reading.Line.{on-made, ssn_on, index-at, leading-is, length-dropped, get-drop, next_le, next_passes, next_unread}
-use Rattle.sctp_refinement.proofs.arriving.Arrival.{complete_is_whole}
-use Rattle.sctp_refinement.proofs.reading.Taken.{whole-ordered}
+use Rattle.sctp_refinement.proofs.reading.Line.{on-made, ssn_on, index-at, next_le, next_passes, next_unread, read_at}
+use Rattle.sctp_refinement.proofs.arriving.Arrival.{set_is_complete}
+use Rattle.sctp_refinement.proofs.reading.Taken.{complete-ordered}
+use Rattle.sctp_list_lemmas.proofs.Places.{leading-is, get-drop, length-dropped}
 
 -- ## The queue, had so many been named
 
-abbrev pub held_past : World → ℕ → ℕ → ℕ → Bool
+abbrev pub held_past : LinkRecord → ℕ → ℕ → ℕ → Bool
 held_past w s named n =
-    is_ordered_on w s n && (is_unread w n && (nat_lt 0 (arrived_of w n) && (is_whole w n || nat_le named (index_of w n))))
+    is_ordered_on w s n && (is_unread w n && (nat_lt 0 (arrived_of w n) && (is_complete_message w n || nat_le named (index_of w n))))
 
-abbrev pub next_past : World → ℕ → ℕ → ℕ
+abbrev pub next_past : LinkRecord → ℕ → ℕ → ℕ
 next_past w s named = named + length (leading (λ n. (message_at w n).read) (drop named (ordered_on w s)))
 
-abbrev pub queue_past : World → ℕ → ℕ → Reassembly
+abbrev pub queue_past : LinkRecord → ℕ → ℕ → Reassembly
 queue_past w s named =
     record {
       next_ssn = next_past w s named % 2 ^ 16;
-      ordered = map (set_of w) (kept (held_past w s named) 0 (length w.messages));
-      unordered = whole_sets w s;
+      ordered = map (set_of w) (numbers_where (held_past w s named) 0 (length w.messages));
+      unordered = complete_sets w s;
       unassembled = unassembled_chunks w s;
     }
 
-abbrev read_at : World → ℕ → Bool
-read_at w n = (message_at w n).read
-
 -- the next one is the greater of both
-pub next_past-is : (w : World) (s named : ℕ) → Valid w → (stream_of w s).named ≤ named → next_past w s named ≡ max (next_of w s) named
+pub next_past-is : (w : LinkRecord) (s named : ℕ) → Valid w → (stream_of w s).named ≤ named → next_past w s named ≡ max (next_of w s) named
 next_past-is w s named valid le = step (cases_lt (next_of w s) named)
   where
     line : List ℕ
@@ -70,16 +68,16 @@ next_past-is w s named valid le = step (cases_lt (next_of w s) named)
             rw (get-drop named (ordered_on w s) (next_of w s - named) (next_of w s) 0 (omega arith)) (next_unread w s (get_or (ordered_on w s) (next_of w s) 0) at.0 at.1)
 
 -- an index is near those of the state: what both span tests give for a name
-pub record IsNear (w : World) (s top n : ℕ) : Type 0 where
+pub record IsNear (w : LinkRecord) (s top n : ℕ) : Type 0 where
   pub on : is_ordered_on w s n ≡ true
   pub below : index_of w n < next_of w s + 2 ^ 15
   pub above : top < index_of w n + 2 ^ 15
   pub held : (m : ℕ) → m < length w.messages → is_held w s m ≡ true → (index_of w m < index_of w n + 2 ^ 15) × (index_of w n < index_of w m + 2 ^ 15)
 
 -- one name
-module _ (w : World) (s named top n : ℕ) (valid : Valid w) (from : (stream_of w s).named ≤ named) (upto : max (next_of w s) named ≤ top) (near : IsNear w s top n) where
+module _ (w : LinkRecord) (s named top n : ℕ) (valid : Valid w) (from : (stream_of w s).named ≤ named) (upto : max (next_of w s) named ≤ top) (near : IsNear w s top n) where
   held-before : (m : ℕ) → held_past w s named m ≡ true → is_held w s m ≡ true
-  held-before m e = weaker (is_ordered_on w s m) (is_unread w m) (nat_lt 0 (arrived_of w m)) (is_whole w m) (nat_le named (index_of w m)) (nat_le (stream_of w s).named (index_of w m)) (λ h. grind (arith, nat_tests)) e
+  held-before m e = weaker (is_ordered_on w s m) (is_unread w m) (nat_lt 0 (arrived_of w m)) (is_complete_message w m) (nat_le named (index_of w m)) (nat_le (stream_of w s).named (index_of w m)) (λ h. grind (arith, nat_tests)) e
     where
       weaker : (a b c d e f : Bool) → (e ≡ true → f ≡ true) → (a && (b && (c && (d || e)))) ≡ true → (a && (b && (c && (d || f)))) ≡ true
       weaker true true true true e f h x = refl
@@ -90,15 +88,15 @@ module _ (w : World) (s named top n : ℕ) (valid : Valid w) (from : (stream_of 
       weaker false b c d e f h x = cc
 
   on-held : (m : ℕ) → held_past w s named m ≡ true → is_ordered_on w s m ≡ true
-  on-held m e = (both (is_ordered_on w s m) (is_unread w m && (nat_lt 0 (arrived_of w m) && (is_whole w m || nat_le named (index_of w m)))) e).0
+  on-held m e = (both (is_ordered_on w s m) (is_unread w m && (nat_lt 0 (arrived_of w m) && (is_complete_message w m || nat_le named (index_of w m)))) e).0
 
-  passed : (m : ℕ) → held_past w s named m ≡ true → is_passed (ssn_of w n) (set_of w m) ≡ (nat_le (index_of w m) (index_of w n) && not (is_whole w m))
+  passed : (m : ℕ) → held_past w s named m ≡ true → is_passed (ssn_of w n) (set_of w m) ≡ (nat_le (index_of w m) (index_of w n) && not (is_complete_message w m))
   passed m e =
       let on = on-held m e in
       let lt = on-made w s m on in
       let h = near.held m lt (held-before m e) in
       let serial : at_or_before16 (ssn_of w m) (ssn_of w n) ≡ nat_le (index_of w m) (index_of w n) = rw (ssn_on w s m on, ssn_on w s n near.on) (at_or_before16-index (index_of w m) (index_of w n) h.0 h.1) in
-      let complete : is_complete (chunks_come w m) ≡ is_whole w m = complete_is_whole w m valid lt ∙ sym (whole-ordered w s m on) in
+      let complete : is_complete (chunks_come w m) ≡ is_complete_message w m = set_is_complete w m valid lt ∙ sym (complete-ordered w s m on) in
       rw (serial, complete) refl
 
   stays : (m : ℕ) → held_past w s (max named (index_of w n + 1)) m ≡ (held_past w s named m && not (is_passed (ssn_of w n) (set_of w m)))
@@ -128,9 +126,9 @@ module _ (w : World) (s named top n : ℕ) (valid : Valid w) (from : (stream_of 
 
       step : (b : Bool) → held_past w s named m ≡ b → held_past w s (max named (index_of w n + 1)) m ≡ (b && not (is_passed (ssn_of w n) (set_of w m)))
       step true e =
-          kept' (is_ordered_on w s m) (is_unread w m) (nat_lt 0 (arrived_of w m)) (is_whole w m) (index_of w m) named (index_of w n) e
+          kept' (is_ordered_on w s m) (is_unread w m) (nat_lt 0 (arrived_of w m)) (is_complete_message w m) (index_of w m) named (index_of w n) e
           ∙ ap not (sym (passed m e))
-      step false e = gone (is_ordered_on w s m) (is_unread w m) (nat_lt 0 (arrived_of w m)) (is_whole w m) (index_of w m) named (index_of w n) e
+      step false e = gone (is_ordered_on w s m) (is_unread w m) (nat_lt 0 (arrived_of w m)) (is_complete_message w m) (index_of w m) named (index_of w n) e
 
   next-named : (if at_or_before16 (next_past w s named % 2 ^ 16) (ssn_of w n) then (ssn_of w n + 1) % 2 ^ 16 else next_past w s named % 2 ^ 16) ≡ next_past w s (max named (index_of w n + 1)) % 2 ^ 16
   next-named =
@@ -155,18 +153,18 @@ module _ (w : World) (s named top n : ℕ) (valid : Valid w) (from : (stream_of 
       rw (next-named, sets) refl
 
 -- all of them, in the order given
-abbrev pub AllNear : World → ℕ → ℕ → List ℕ → Type 0
+abbrev pub AllNear : LinkRecord → ℕ → ℕ → List ℕ → Type 0
 AllNear w s top [] = Unit {0}
 AllNear w s top (n ∷ ns) = IsNear w s top n × AllNear w s top ns
 
-abbrev pub named_with : World → ℕ → List ℕ → ℕ
+abbrev pub named_with : LinkRecord → ℕ → List ℕ → ℕ
 named_with w named names = greatest named (map (λ n. index_of w n + 1) names)
 
-pub named_with-ge : (w : World) (named : ℕ) (names : List ℕ) → named ≤ named_with w named names
+pub named_with-ge : (w : LinkRecord) (named : ℕ) (names : List ℕ) → named ≤ named_with w named names
 named_with-ge w named [] = omega arith
 named_with-ge w named (n ∷ ns) = omega (arith, named_with-ge w (max named (index_of w n + 1)) ns)
 
-pub forwarded-all : (w : World) (s named top : ℕ) (names : List ℕ) → Valid w → (stream_of w s).named ≤ named → max (next_of w s) (named_with w named names) ≤ top → AllNear w s top names → held_after_ordered_skips (map (ssn_of w) names) (queue_past w s named) ≡ queue_past w s (named_with w named names)
+pub forwarded-all : (w : LinkRecord) (s named top : ℕ) (names : List ℕ) → Valid w → (stream_of w s).named ≤ named → max (next_of w s) (named_with w named names) ≤ top → AllNear w s top names → held_after_ordered_skips (map (ssn_of w) names) (queue_past w s named) ≡ queue_past w s (named_with w named names)
 forwarded-all w s named top [] valid from upto near = refl
 forwarded-all w s named top (n ∷ ns) valid from upto near =
     let more = max named (index_of w n + 1) in

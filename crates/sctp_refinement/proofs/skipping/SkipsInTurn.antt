@@ -1,7 +1,7 @@
 -- The names of a skip, one after another: an ordered skip to the SSN of each comes to one skip to the last.
 use Rattle.std.proofs.Common.{◌≡◌, ℕ, ◌<◌, ◌≤◌, ◌^◌, ◌%◌, Bool, true, false, List, [], ◌∷◌, length, map, Some, refl, ap, sym, ◌∙◌, inl, inr}
 use Rattle.std.specs.Prelude.{◌⊎◌, if◌then◌else◌}
-use Rattle.sctp_model.specs.World.{World, StreamRecord}
+use Rattle.sctp_model.specs.LinkRecord.{LinkRecord, StreamRecord}
 use Rattle.sctp_model.specs.Messages.{stream_at, is_ordered_on, index_of, ssn_of, tsn_of}
 use Rattle.sctp_model.specs.Receiver.{cumulative}
 use Rattle.sctp_model.specs.Valid.{IsSpan, Valid}
@@ -13,7 +13,7 @@ use Rattle.sctp_refinement.proofs.skipping.SkipStep.{with_skip, skipped, once-is
 use Rattle.sctp_refinement.proofs.skipping.SkipSpans.{IsLast, last-named, none-named, named-last, gone_forward, gone-last}
 
 -- the SSN of each is its index
-pub ssns-are : (w : World) (s : ℕ) (names : List ℕ) → map (ssn_of w) (on_stream w s names) ≡ map (λ n. index_of w n % 2 ^ 16) (on_stream w s names)
+pub ssns-are : (w : LinkRecord) (s : ℕ) (names : List ℕ) → map (ssn_of w) (on_stream w s names) ≡ map (λ n. index_of w n % 2 ^ 16) (on_stream w s names)
 ssns-are w s [] = refl
 ssns-are w s (n ∷ ns) = step (is_ordered_on w s n) refl (ssns-are w s ns)
   where
@@ -22,7 +22,7 @@ ssns-are w s (n ∷ ns) = step (is_ordered_on w s n) refl (ssns-are w s ns)
     step false e ih = ih
 
 -- one skip after another, against one to the last
-pub skips-in-turn : (w : World) (s upto : ℕ) (names : List ℕ) (r : StreamRecord) → Valid w → upto < length w.slots → cumulative w ≤ upto → stream_at w s ≡ Some r → IsSpan w s (map (index_of w) (on_stream w s names)) → IsSpan (with_skip w upto names) s (map (index_of w) (on_stream w s names)) → held_after_ordered_skips (map (λ n. index_of w n % 2 ^ 16) (on_stream w s names)) (reassembly_of w s) ≡ gone_forward (end_named w s names) (reassembly_of w s)
+pub skips-in-turn : (w : LinkRecord) (s upto : ℕ) (names : List ℕ) (r : StreamRecord) → Valid w → upto < length w.slots → cumulative w ≤ upto → stream_at w s ≡ Some r → IsSpan w s (map (index_of w) (on_stream w s names)) → IsSpan (with_skip w upto names) s (map (index_of w) (on_stream w s names)) → held_after_ordered_skips (map (λ n. index_of w n % 2 ^ 16) (on_stream w s names)) (reassembly_of w s) ≡ gone_forward (end_named w s names) (reassembly_of w s)
 skips-in-turn w s upto names r valid lt counts open' before after' =
     ap (λ is. held_after_ordered_skips is (reassembly_of w s)) (sym (ssns-are w s names)) ∙ step (last-named w s 0 names)
   where
@@ -35,7 +35,7 @@ skips-in-turn w s upto names r valid lt counts open' before after' =
         ∙ sym (gone-last w s (end_named w s names) (on_stream w s names) (reassembly_of w s) last)
 
 -- what the queue is after the skip
-pub queue-skips : (w : World) (s upto : ℕ) (names : List ℕ) (r : StreamRecord) → Valid w → upto < length w.slots → cumulative w ≤ upto → stream_at w s ≡ Some r → IsSpan w s (map (index_of w) (on_stream w s names)) → IsSpan (with_skip w upto names) s (map (index_of w) (on_stream w s names)) → reassembly_of (with_skip w upto names) s ≡ held_after_unordered_skip (tsn_of w upto) (held_after_ordered_skips (map (λ n. index_of w n % 2 ^ 16) (on_stream w s names)) (reassembly_of w s))
+pub queue-skips : (w : LinkRecord) (s upto : ℕ) (names : List ℕ) (r : StreamRecord) → Valid w → upto < length w.slots → cumulative w ≤ upto → stream_at w s ≡ Some r → IsSpan w s (map (index_of w) (on_stream w s names)) → IsSpan (with_skip w upto names) s (map (index_of w) (on_stream w s names)) → reassembly_of (with_skip w upto names) s ≡ held_after_unordered_skip (tsn_of w upto) (held_after_ordered_skips (map (λ n. index_of w n % 2 ^ 16) (on_stream w s names)) (reassembly_of w s))
 queue-skips w s upto names r valid lt counts open' before after' =
     skipped w s upto names r valid lt counts open' before after'
     ∙ ap (λ is. held_after_unordered_skip (tsn_of w upto) (held_after_ordered_skips is (reassembly_of w s))) (ssns-are w s names)

@@ -1,7 +1,7 @@
 -- Numbers in serial order: where one goes, by how far it lies from the first, and edits that keep the order.
 use Rattle.std.proofs.Common.{◌≡◌, ◌≢◌, ℕ, zero, suc, ◌+◌, ◌-◌, ◌*◌, ◌^◌, ◌<◌, ◌≤◌, ◌⊎◌, ◌==◌, Bool, true, false, IsTrue, List, [], ◌∷◌, length, map, get_or, take, drop, refl, sym, ap, subst, ◌∙◌, inl, inr, mod-eq_of_lt, arith}
 use native.Mathlib.Nat.{mod-eq-sub-mod}
-use Rattle.std.specs.List.{All, AllPairs, insert, list_any, remove, position_or_len}
+use Rattle.std.specs.List.{All, AllPairs, insert, list_any, remove, position_or_len, filter}
 use Rattle.std.specs.List.Sorted.{IsNonDecreasingBy, IsPartitionPoint}
 use Rattle.std.proofs.lemmas.Bool.{cases_lt, cases_eq, false≢true}
 use Rattle.std.proofs.lemmas.Bool.Decides.{nat_tests}
@@ -12,7 +12,7 @@ use Rattle.std.proofs.lemmas.List.Kept.{AllPairs-filter}
 use Rattle.std.proofs.lemmas.List.Edits.{length-insert, get_or-insert_below, get_or-insert_at, get_or-insert_above, length-remove, get_or-remove_below, get_or-remove_above}
 use Rattle.std.proofs.lemmas.List.Folds.{list_any_none}
 use Rattle.std.proofs.lemmas.List.Sums.{position_or_len_is}
-use Rattle.sctp_list_lemmas.specs.Lists.{inserted, those}
+use Rattle.sctp_list_lemmas.specs.Lists.{insert_before}
 use Rattle.sctp_list_lemmas.specs.Serial.{distance, comes_before, distance16, comes_before16}
 use Rattle.sctp_list_lemmas.proofs.Edits.{pairs_insert, those-filter}
 use Rattle.sctp_list_lemmas.proofs.More.{fails}
@@ -340,7 +340,7 @@ module _ {X : Type 0} (num : X → ℕ) where
         subst (λ y. IsTrue (comes_before (num y) (num (get_or (take n xs) j d)))) (sym (get_or-take n xs i d (omega arith))) (subst (λ y. IsTrue (comes_before (num (get_or xs i d)) (num y))) (sym (get_or-take n xs j d (omega arith))) (s.rises i j d lt (omega arith)));
   }
 
-  pub ascends_those : (p : X → Bool) (xs : List X) → Ascends num xs → Ascends num (those p xs)
+  pub ascends_those : (p : X → Bool) (xs : List X) → Ascends num xs → Ascends num (filter p xs)
   ascends_those p xs s = subst (Ascends num) (sym (those-filter p xs)) (record {
     small = All-filter p (λ x. num x < 2 ^ 32) xs s.small;
     rises = AllPairs-filter (λ x y. IsTrue (comes_before (num x) (num y))) p xs s.rises;
@@ -427,7 +427,7 @@ module _ {X : Type 0} (has : X → Bool) (num : X → ℕ) (before : X → X →
   }
 
   module _ (xs : List X) (s : Ascends num xs) (first : ℕ) (is_first : (d : X) → num (get_or xs 0 d) ≡ first) (some : 0 < length xs) where
-    put : (x : X) → num x ≡ n → (place : ℕ) → position_or_len (λ e. comes_before n (num e)) xs ≡ place → insert xs place x ≡ inserted before x xs
+    put : (x : X) → num x ≡ n → (place : ℕ) → position_or_len (λ e. comes_before n (num e)) xs ≡ place → insert xs place x ≡ insert_before before x xs
     put x same place at =
         let agree = same_position (before x) (λ e. comes_before n (num e)) xs (λ k d lt. compares x (get_or xs k d) same (s.small k d lt)) in
         ap (λ i. insert xs i x) (sym (agree ∙ at)) ∙ sym (inserted-position before x xs)

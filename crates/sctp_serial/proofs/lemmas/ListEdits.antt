@@ -3,7 +3,7 @@ use Rattle.std.proofs.Common.{◌≡◌, ℕ, zero, suc, ◌++◌, take, drop, l
 use Rattle.std.proofs.lemmas.Bool.{true≢false}
 use Rattle.std.specs.List.{All, list_any, position_or_len, remove, insert}
 use Rattle.std.proofs.Math.ListN.{take-append-drop}
-use Rattle.sctp_list_lemmas.specs.Lists.{inserted, change_first, those, after_leading}
+use Rattle.sctp_list_lemmas.specs.Lists.{insert_before, change_first, after_leading}
 
 pub neither : (a b : Bool) → (a || b) ≡ false → (a ≡ false) × (b ≡ false)
 neither true b h = (h, absurd (true≢false h))
@@ -62,25 +62,13 @@ after_leading-position {X = X} p (x ∷ xs) = at_head (p x) refl (after_leading-
     at_head false e rec = ap (λ b. if b then after_leading p xs else x ∷ xs) e ∙ ap (λ i. drop i (x ∷ xs)) (sym (here (λ y. not (p y)) x xs (ap not e)))
 
 -- an element put in before the first that it comes before
-pub inserted-position : {X : Type 0} (before : X → X → Bool) (x : X) (xs : List X) → inserted before x xs ≡ insert xs (position_or_len (before x) xs) x
+pub inserted-position : {X : Type 0} (before : X → X → Bool) (x : X) (xs : List X) → insert_before before x xs ≡ insert xs (position_or_len (before x) xs) x
 inserted-position before x [] = refl
 inserted-position {X = X} before x (e ∷ es) = at_head (before x e) refl (inserted-position before x es)
   where
-    at_head : (b : Bool) → before x e ≡ b → inserted before x es ≡ insert es (position_or_len (before x) es) x → (if before x e then x ∷ e ∷ es else e ∷ inserted before x es) ≡ insert (e ∷ es) (position_or_len (before x) (e ∷ es)) x
-    at_head true h rec = ap (λ b. if b then x ∷ e ∷ es else e ∷ inserted before x es) h ∙ ap (λ i. insert (e ∷ es) i x) (sym (here (before x) e es h))
-    at_head false h rec = ap (λ b. if b then x ∷ e ∷ es else e ∷ inserted before x es) h ∙ ap (λ ys. e ∷ ys) rec ∙ ap (λ i. insert (e ∷ es) i x) (sym (later (before x) e es h))
-
--- a step of a loop that removes what does not pass
-pub removed_step : {X : Type 0} (p : X → Bool) (xs : List X) (i : ℕ) (x : X) → i < length xs → x ≡ get_or xs i x → p x ≡ false → take i (remove xs i) ++ those p (drop i (remove xs i)) ≡ take i xs ++ those p (drop i xs)
-removed_step p [] i x lt e h = absurd (omega arith)
-removed_step p (y ∷ xs) zero x lt e h = rw (subst (λ u. p u ≡ false) e h) refl
-removed_step p (y ∷ xs) (suc i) x lt e h = ap (λ ys. y ∷ ys) (removed_step p xs i x (omega arith) e h)
-
--- and the one that it removes is the next that passes
-pub removed_next : {X : Type 0} (p : X → Bool) (xs : List X) (i : ℕ) (x : X) → i < length xs → x ≡ get_or xs i x → p x ≡ true → those p (drop i xs) ≡ x ∷ those p (drop i (remove xs i))
-removed_next p [] i x lt e h = absurd (omega arith)
-removed_next p (y ∷ xs) zero x lt e h = rw (subst (λ u. p u ≡ true) e h) (ap (λ u. u ∷ those p xs) (sym e))
-removed_next p (y ∷ xs) (suc i) x lt e h = removed_next p xs i x (omega arith) e h
+    at_head : (b : Bool) → before x e ≡ b → insert_before before x es ≡ insert es (position_or_len (before x) es) x → (if before x e then x ∷ e ∷ es else e ∷ insert_before before x es) ≡ insert (e ∷ es) (position_or_len (before x) (e ∷ es)) x
+    at_head true h rec = ap (λ b. if b then x ∷ e ∷ es else e ∷ insert_before before x es) h ∙ ap (λ i. insert (e ∷ es) i x) (sym (here (before x) e es h))
+    at_head false h rec = ap (λ b. if b then x ∷ e ∷ es else e ∷ insert_before before x es) h ∙ ap (λ ys. e ∷ ys) rec ∙ ap (λ i. insert (e ∷ es) i x) (sym (later (before x) e es h))
 
 -- the element between two lists
 pub remove_seam : {X : Type 0} (front : List X) (y : X) (zs : List X) (n : ℕ) → length front ≡ n → remove (front ++ y ∷ zs) n ≡ front ++ zs

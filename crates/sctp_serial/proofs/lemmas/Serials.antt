@@ -1,6 +1,7 @@
 -- Chunks in serial order: each TSN is held once, and edits keep the order.
-use Rattle.std.proofs.Common.{◌≡◌, ◌≢◌, ℕ, ◌+◌, ◌^◌, ◌-◌, ◌<◌, false, not, IsTrue, List, ◌∷◌, length, length-set, get_or, set, Some, None, ◌∙◌, sym, ap, subst, inl, inr, arith}
-use Rattle.std.specs.List.{All, find, insert, remove, slice_get, position_or_len}
+use Rattle.std.proofs.Common.{◌≡◌, ◌≢◌, ℕ, ◌+◌, ◌^◌, ◌-◌, ◌<◌, Bool, true, false, ◌||◌, not, if◌then◌else◌, IsTrue, List, [], ◌∷◌, length, length-set, get_or, set, Some, None, refl, ◌∙◌, sym, ap, subst, inl, inr, arith}
+use Rattle.std.specs.Prelude.{◌==◌, is_some}
+use Rattle.std.specs.List.{All, list_any, find, insert, remove, slice_get, position_or_len}
 use Rattle.std.proofs.lemmas.Bool.{cases_lt, cases_eq, false≢true}
 use Rattle.std.proofs.lemmas.Bool.Decides.{nat_tests}
 use Rattle.std.proofs.lemmas.Grind.{common_steps}
@@ -12,12 +13,20 @@ use Rattle.std.proofs.lemmas.List.Folds.{find_at}
 use Rattle.std.proofs.lemmas.List.Edits.{length-insert, get_or-insert_below, get_or-insert_at, get_or-insert_above, length-remove, get_or-remove_below, get_or-remove_above}
 use Rattle.std.proofs.lemmas.Option.{slice_get-get_or}
 use Rattle.sctp_chunks.specs.declared.chunk.chunk_payload_data.ChunkPayloadData.{ChunkPayloadData}
-use Rattle.sctp_list_lemmas.specs.Lists.{inserted}
+use Rattle.sctp_list_lemmas.specs.Lists.{insert_before}
 use Rattle.sctp_list_lemmas.specs.Serial.{comes_before}
 use Rattle.sctp_list_lemmas.proofs.Edits.{OnlyAt, find-none, inserted-at, pairs_insert, pairs_tail}
 use Rattle.sctp_list_lemmas.proofs.Distances.{before_asym, before_irrefl}
-use Rattle.sctp_serial.specs.Window.{IsSerial, IsHeldAt, IsPlaceFor, SpansOneWindow}
-use Rattle.sctp_serial.specs.DataChunks.{has_tsn, chunk_before}
+use Rattle.sctp_serial.specs.Window.{IsSerial, IsHeldAt, IsPlaceFor, SpansOneWindow, is_held}
+use Rattle.sctp_serial.specs.DataChunks.{has_tsn, chunk_before, tsns}
+
+pub held-any : (t : ℕ) (cs : List ChunkPayloadData) → is_held cs t ≡ list_any (λ u. u == t) (tsns cs)
+held-any t [] = refl
+held-any t (c ∷ cs) = step (c.tsn == t) (held-any t cs)
+  where
+    step : (b : Bool) → is_some (find (has_tsn t) cs) ≡ list_any (λ u. u == t) (tsns cs) → is_some (if b then Some c else find (has_tsn t) cs) ≡ (b || list_any (λ u. u == t) (tsns cs))
+    step true ih = refl
+    step false ih = ih
 
 -- an earlier chunk has another number
 pub differs_before : (chunks : List ChunkPayloadData) → IsSerial chunks → (i j : ℕ) (d : ChunkPayloadData) → i < j → j < length chunks → (get_or chunks i d).tsn ≢ (get_or chunks j d).tsn
@@ -43,7 +52,7 @@ pub fails_from_absent : (chunks : List ChunkPayloadData) (tsn : ℕ) → All (λ
 fails_from_absent chunks tsn h k d lt = let differs = h k d lt in grind (arith, nat_tests)
 
 -- the place that a search gives is where an insertion goes
-pub inserted-place : (chunks : List ChunkPayloadData) (x : ChunkPayloadData) (place : ℕ) → x.tsn < 2 ^ 32 → IsSerial chunks → IsPlaceFor chunks x.tsn place → SpansOneWindow chunks x.tsn → inserted chunk_before x chunks ≡ insert chunks place x
+pub inserted-place : (chunks : List ChunkPayloadData) (x : ChunkPayloadData) (place : ℕ) → x.tsn < 2 ^ 32 → IsSerial chunks → IsPlaceFor chunks x.tsn place → SpansOneWindow chunks x.tsn → insert_before chunk_before x chunks ≡ insert chunks place x
 inserted-place chunks x place small serial p w =
     inserted-at chunk_before x chunks place p.in_range
     (λ k d lt. before_asym (get_or chunks k d).tsn x.tsn (serial.in_range k d (omega (arith, p.in_range))) small (p.before w k d lt))

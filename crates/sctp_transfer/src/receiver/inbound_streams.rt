@@ -1,8 +1,9 @@
 //! The streams of a receiver.
 
 ghost use Rattle.std.specs.Prelude.{◌≡◌, ◌==◌, ◌<◌, ◌++◌, ◌∷◌, ◌⊎◌, [], not, true, false, Some, None, OnOk, OnErr, IfOk, IfErr, IsOk, IsOkUnless, MatchOption, length, map, find, option_map, option_copied, slice_get, if◌then◌else◌};
+ghost use Rattle.std.specs.List.{filter};
 ghost use Rattle.sctp_base.specs.declared.error.Error.TheVariants.{ErrOutOfMemory};
-ghost use Rattle.sctp_list_lemmas.specs.Lists.{change_where, those};
+ghost use Rattle.sctp_list_lemmas.specs.Lists.{change_where};
 ghost use Rattle.sctp_transfer.specs.declared.receiver.refusal.ReceiverRefusal.TheVariants.{MessageTooLarge, OutOfMemory};
 ghost use Rattle.sctp_stream.specs.Numbers.{IsOnlyPlace, IsAbsent};
 ghost use Rattle.sctp_reassembly.specs.reassembly_queue.ReassemblyQueue.{is_too_large};
@@ -27,7 +28,7 @@ pub struct InboundStream {
 }
 
 impl InboundStream {
-    ghost use Rattle.sctp_reassembly.specs.reassembly_queue.ReassemblyQueue.{is_whole_with, PushesUnordered, message_read, at_start};
+    ghost use Rattle.sctp_reassembly.specs.reassembly_queue.ReassemblyQueue.{is_complete_with, PushesUnordered, message_read, at_start};
     ghost use Rattle.sctp_transfer.specs.Inbound.{new_stream, Pushes, stream_read};
 
     /// A stream on which nothing came. It takes no memory.
@@ -74,16 +75,17 @@ impl InboundStream {
         Ok(())
     }
 
-    /// Takes a fragment, as `push`, and answers whether a message became whole by it. Refuses as
+    /// Takes a fragment, as `push`, and answers whether a message became complete by it. Refuses as
     /// `push` does.
     /// Precondition: the fragment is of this stream.
     pub fn push_told(&mut self, chunk: &ChunkPayloadData) -> Result<bool, ReceiverRefusal>
         requires { (chunk.now.stream_identifier == self.old.queue.si) ≡ true }
         ensures ok { OnOk result (Pushes chunk.now self.old.queue self.new.queue) }
         ensures ordered { chunk.now.unordered ≡ false
-            → IfOk result (λ whole. whole ≡ is_whole_with chunk.now self.old.queue.held) }
+            → IfOk result (λ complete. complete ≡ is_complete_with chunk.now self.old.queue.held) }
         ensures unordered { chunk.now.unordered ≡ true
-            → IfOk result (λ whole. PushesUnordered chunk.now self.old.queue self.new.queue whole) }
+            → IfOk result (λ complete.
+            PushesUnordered chunk.now self.old.queue self.new.queue complete) }
         ensures rest { self.new ≡ record self.old { queue = self.new.queue } }
         ensures fits { IsOk result → is_too_large chunk.now self.old.queue ≡ false }
         ensures refused { IfErr result (λ e.
@@ -102,7 +104,7 @@ impl InboundStream {
         ensures rest { self.new ≡ stream_read self.old }
     {
         let chunks = self.queue.read()?;
-        self.stats.received(chunks.ppi(), chunks.len());
+        self.stats.count_received(chunks.ppi(), chunks.len());
         Some(chunks)
     }
 }
@@ -183,7 +185,7 @@ impl InboundStreams {
 
     /// Closes a stream, where it is open: what came on it and was not read is dropped. It takes no memory.
     pub fn close(&mut self, stream: u16)
-        ensures { self.new ≡ those (λ l. not (has_number stream l)) self.old }
+        ensures { self.new ≡ filter (λ l. not (has_number stream l)) self.old }
     {
         let Some(place) = self.numbers.place_of(stream) else {
             return;

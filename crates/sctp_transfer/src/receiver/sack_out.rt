@@ -12,7 +12,7 @@ pub const MAX_SACK_ENTRIES: usize = 16379;
 
 impl Receiver {
     ghost use Rattle.sctp_chunks.specs.SelectiveAck.{sack_of};
-    ghost use Rattle.sctp_transfer.specs.Receiver.{sack, reported};
+    ghost use Rattle.sctp_transfer.specs.Receiver.{sack, without_duplicates};
 
     /// The SACK of what came; `credit` is how many bytes of user data there is room for. Gap ack blocks come first, then
     /// as many duplicates as fit; all duplicates are forgotten. Refuses only for memory, and the receiver is as it was then.
@@ -20,7 +20,7 @@ impl Receiver {
         ensures sack { IfOk result (λ s. sack_of s ≡ sack credit self.old) }
         ensures fits { IfOk result
             (λ s. length s.gap_ack_blocks.items + length s.duplicate_tsn.items ≤ 16379) }
-        ensures rest { OnOk result (self.new ≡ reported self.old) }
+        ensures rest { OnOk result (self.new ≡ without_duplicates self.old) }
         ensures err { OnErr result (self.new ≡ self.old) }
         ensures memory { IfErr result (λ e. e ≡ OutOfMemory) }
     {
@@ -61,7 +61,7 @@ impl Receiver {
     /// A SACK that `make_sack` made was sent: all duplicates are forgotten, those that came since it was
     /// made and those that did not fit too. It takes no memory.
     pub fn sack_sent(&mut self)
-        ensures { self.new ≡ reported self.old }
+        ensures { self.new ≡ without_duplicates self.old }
     {
         let _ = self.filter.take_duplicates(self.alloc);
     }

@@ -2,10 +2,11 @@
 
 ghost use Rattle.std.specs.Prelude.{◌≡◌, ◌<◌, ◌^◌, ◌∷◌, ◌++◌, [], ℕ, true, false, OnOk, OnErr, IfOk, IsOkUnless, length, map, slice_get, IsTrue};
 ghost use Rattle.sctp_base.specs.declared.error.Error.TheVariants.{ErrOutOfMemory};
-ghost use Rattle.sctp_list_lemmas.specs.Lists.{advanced};
+ghost use Rattle.sctp_list_lemmas.specs.Lists.{advance_over};
 ghost use Rattle.sctp_list_lemmas.specs.Serial.{comes_before};
 ghost use Rattle.sctp_outbound.specs.payload_queue.PayloadQueue.{with_chunks};
-ghost use Rattle.sctp_transfer.specs.TsnFilter.{mark, tsns};
+ghost use Rattle.sctp_transfer.specs.TsnFilter.{mark};
+ghost use Rattle.sctp_serial.specs.DataChunks.{preceding_tsn, tsns};
 
 use bytes::Bytes;
 use sctp_base::error::Result;
@@ -29,7 +30,8 @@ pub struct TsnFilter {
 
 impl Model for TsnFilter {
     ghost use Rattle.std.specs.Prelude.{◌≡◌, ◌<◌, ◌^◌, true, map};
-    ghost use Rattle.sctp_transfer.specs.TsnFilter.{Filter, mark, tsns, rise_beyond};
+    ghost use Rattle.sctp_serial.specs.DataChunks.{tsns};
+    ghost use Rattle.sctp_transfer.specs.TsnFilter.{Filter, mark, rise_beyond};
 
     ghost Value = { Filter };
 
@@ -50,7 +52,7 @@ impl Model for TsnFilter {
 }
 
 impl TsnFilter {
-    ghost use Rattle.sctp_transfer.specs.TsnFilter.{preceding_tsn, has_come, is_opposite, with_tsn, with_duplicate, skipped_to, has_room, gap_ack_blocks};
+    ghost use Rattle.sctp_transfer.specs.TsnFilter.{has_come, is_opposite, with_tsn, with_duplicate, skipped_to, has_room, gap_ack_blocks};
 
     /// Nothing came: the first TSN is expected next. It takes no memory.
     pub fn new(alloc: Global, first_tsn: u32) -> Self
@@ -211,7 +213,7 @@ fn mark(tsn: u32) -> ChunkPayloadData
 
 // Moves the cumulative TSN over the chunks that stand next to it, which leave the queue (RFC 4960 6.2).
 fn advance(queue: &mut PayloadQueue, cumulative_tsn: u32) -> u32
-    ensures moved { advanced cumulative_tsn (tsns queue.old.chunks)
+    ensures moved { advance_over cumulative_tsn (tsns queue.old.chunks)
         ≡ record { cum = result; held = tsns queue.new.chunks } }
     ensures marks { queue.old.chunks ≡ map mark (tsns queue.old.chunks)
         → queue.new.chunks ≡ map mark (tsns queue.new.chunks) }

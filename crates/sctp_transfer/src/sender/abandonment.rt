@@ -4,7 +4,7 @@ ghost use Rattle.std.specs.Prelude.{◌≡◌, ◌+◌, ◌⊎◌, [], true, fal
 ghost use Rattle.std.specs.List.{sum_by};
 ghost use Rattle.sctp_transfer.specs.declared.sender.refusal.SenderRefusal.TheVariants.{OutOfMemory, TsnsUsedUp};
 ghost use Rattle.sctp_transfer.specs.Late.{part_of};
-ghost use Rattle.sctp_transfer.specs.Outgoing.{released};
+ghost use Rattle.sctp_transfer.specs.Outgoing.{after_releases};
 
 use super::Sender;
 use super::flight::late::AbandonedMessage;
@@ -90,7 +90,7 @@ impl Sender {
 
 // Takes off each stream what left of it.
 fn release_abandoned(streams: &mut OutboundStreams, gone: &[AbandonedMessage])
-    ensures { streams.new ≡ released (map part_of gone.now) streams.old }
+    ensures { streams.new ≡ after_releases (map part_of gone.now) streams.old }
 {
     for one in gone {
         streams.release(one.stream, one.bytes);

@@ -1,17 +1,16 @@
 //! What is in flight: each TSN from the one behind the acknowledged ones to the one before the next.
 
 ghost use Rattle.std.specs.Prelude.{◌≡◌, ◌+◌, ◌-◌, ◌<◌, ◌≤◌, ◌^◌, ◌%◌, ◌⊎◌, ◌++◌, ◌∷◌, [], ℕ, true, false, is_some, Some, None, OnOk, OnErr, IfOk, IfErr, IsOk, IsOkUnless, length, map, drop, vec_len, vec_capacity, option_map, find, Bool, if◌then◌else◌};
-ghost use Rattle.sctp_list_lemmas.specs.Lists.{change_where, those};
+ghost use Rattle.sctp_list_lemmas.specs.Lists.{change_where};
 ghost use Rattle.sctp_chunks.specs.SelectiveAck.{sack_of};
-ghost use Rattle.sctp_outbound.specs.Marks.{acknowledged};
+ghost use Rattle.sctp_outbound.specs.Marks.{as_acknowledged};
 ghost use Rattle.sctp_outbound.specs.outbound_queue.OutboundQueue.{with_inflight};
-ghost use Rattle.sctp_transfer.specs.TsnFilter.{following_tsn, tsns};
 ghost use Rattle.sctp_transfer.specs.Flight.{tsns_from, reports_anew, is_within, released_of};
-ghost use Rattle.std.specs.List.{list_all};
-ghost use Rattle.sctp_outbound.specs.payload_queue.Blocks.{covered, is_in_block};
+ghost use Rattle.std.specs.List.{list_all, filter};
+ghost use Rattle.sctp_outbound.specs.payload_queue.Blocks.{is_in_blocks, is_in_block};
 ghost use Rattle.sctp_chunks.specs.declared.chunk.chunk_payload_data.ChunkPayloadData.{ChunkPayloadData};
 ghost use Rattle.sctp_transfer.specs.declared.sender.refusal.SenderRefusal.TheVariants.{NotInFlight, OutOfMemory};
-ghost use Rattle.sctp_serial.specs.DataChunks.{bytes_of, has_tsn};
+ghost use Rattle.sctp_serial.specs.DataChunks.{bytes_of, has_tsn, following_tsn, preceding_tsn, tsns};
 
 pub mod late;
 mod skipping;
@@ -64,7 +63,6 @@ impl InFlight {
     ghost use Rattle.sctp_outbound.specs.outbound_queue.OutboundQueue.{with_message, has_room, total_bytes, all_started, sent_next, expired_of, expiring, expiring_tail, message_of, released_of as bytes_left, expired_bytes, tail_bytes};
     ghost use Rattle.sctp_outbound.specs.pending_queue.PendingQueue as pending;
     ghost use Rattle.sctp_outbound.specs.pending_queue.Whole.{IsMessageOrNone};
-    ghost use Rattle.sctp_transfer.specs.TsnFilter.{preceding_tsn};
     ghost use Rattle.sctp_transfer.specs.Totals.{AreSettled, bytes_in};
     ghost use Rattle.sctp_transfer.specs.Flight.{with_queue, with_room, at_first, may_send, next_after_send, can_resend, resent, is_outdated, sack_refusal, after_sack, released_by, message_to_abandon, has_tail_at, after_abandonment};
 
@@ -129,7 +127,7 @@ impl InFlight {
     pub fn reserve(&mut self, ordered: usize, unordered: usize) -> Result<(), SenderRefusal>
         ensures ok { OnOk result (self.new ≡ with_queue self.old
             (record self.old.queue {
-              pending = pending.reserved self.old.queue.pending ordered unordered;
+              pending = pending.with_room self.old.queue.pending ordered unordered;
             })) }
         ensures err { OnErr result (self.new ≡ self.old) }
         ensures memory { IfErr result (λ e. e ≡ OutOfMemory) }
@@ -166,7 +164,7 @@ impl InFlight {
     pub fn send_next(&mut self, now: u64) -> Result<Option<u32>, SenderRefusal>
         requires { may_send self.old ≡ true }
         ensures sent { IfOk result (λ sent. sent
-            ≡ option_map (λ _. self.old.next_tsn) (pending.peeked self.old.queue.pending)) }
+            ≡ option_map (λ _. self.old.next_tsn) (pending.next_pending self.old.queue.pending)) }
         ensures ok { OnOk result (self.new ≡ record self.old {
           queue = sent_next
               self.old.queue self.old.next_tsn now;
@@ -175,7 +173,7 @@ impl InFlight {
         ensures err { OnErr result (self.new ≡ self.old) }
         ensures memory { IfErr result (λ e. e ≡ OutOfMemory) }
         ensures succeeds { 0 < self.old.queue.inflight.room → IsOk result }
-        ensures idle { pending.peeked self.old.queue.pending ≡ None → IsOk result }
+        ensures idle { pending.next_pending self.old.queue.pending ≡ None → IsOk result }
     {
         let sent = self.queue.send_next(&mut self.next_tsn, now)?;
         Ok(sent)
@@ -359,7 +357,7 @@ fn is_reported(sack: &ChunkSelectiveAck, tsn: u32) -> bool
 
 // Whether a distance lies in a block.
 fn is_covered(blocks: &[GapAckBlock], offset: usize) -> bool
-    ensures { result ≡ covered blocks.now offset }
+    ensures { result ≡ is_in_blocks blocks.now offset }
 {
     for block in blocks {
         if is_in_block(block, offset) {
@@ -389,9 +387,9 @@ fn mark_reported(
     requires empty { released.old.items ≡ [] }
     requires room { length queue.old.inflight.chunks ≤ vec_capacity released.old }
     ensures marked { queue.new ≡ with_inflight queue.old
-        (change_where (reports_anew (sack_of sack.now)) acknowledged queue.old.inflight.chunks) }
+        (change_where (reports_anew (sack_of sack.now)) as_acknowledged queue.old.inflight.chunks) }
     ensures told { released.new.items
-        ≡ map released_of (those (reports_anew (sack_of sack.now)) queue.old.inflight.chunks) }
+        ≡ map released_of (filter (reports_anew (sack_of sack.now)) queue.old.inflight.chunks) }
 {
     for place in 0..queue.inflight_len() {
         let tsn = first.wrapping_add(place as u32);

@@ -1,13 +1,14 @@
 //! The streams of a sender.
 
 ghost use Rattle.std.specs.Prelude.{◌≡◌, ◌<◌, ◌≤◌, ◌^◌, ◌++◌, ◌∷◌, [], ℕ, List, not, true, false, Some, None, OnOk, OnErr, IfOk, IfErr, IsOkUnless, MatchOption, length, map, find, option_copied};
+ghost use Rattle.std.specs.List.{filter};
 ghost use Rattle.sctp_base.specs.declared.error.Error.TheVariants.{ErrOutOfMemory};
 ghost use Rattle.sctp_chunks.specs.declared.chunk.chunk_payload_data.PayloadProtocolIdentifier.TheVariants.{Unknown};
-ghost use Rattle.sctp_list_lemmas.specs.Lists.{change_where, those};
+ghost use Rattle.sctp_list_lemmas.specs.Lists.{change_where};
 ghost use Rattle.sctp_serial.specs.DataChunks.{bytes_of};
 ghost use Rattle.sctp_transfer.specs.declared.sender.refusal.SenderRefusal.TheVariants.{OutOfMemory};
 ghost use Rattle.sctp_stream.specs.Numbers.{IsOnlyPlace, IsAbsent};
-ghost use Rattle.sctp_transfer.specs.Outgoing.{with_reliability, wrote, expired};
+ghost use Rattle.sctp_transfer.specs.Outgoing.{with_reliability, wrote, after_expiry};
 
 use crate::sender::refusal::SenderRefusal;
 use bytes::Bytes;
@@ -104,7 +105,7 @@ impl OutboundStreams {
 
     /// Closes a stream, where it is open. It takes no memory.
     pub fn close(&mut self, stream: u16)
-        ensures { self.new ≡ those (λ l. not (has_number stream l)) self.old }
+        ensures { self.new ≡ filter (λ l. not (has_number stream l)) self.old }
     {
         let Some(place) = self.numbers.place_of(stream) else {
             return;
@@ -180,7 +181,8 @@ impl OutboundStreams {
 
     /// Takes a message that was not sent off its stream, where it is open. It takes no memory.
     pub fn expire(&mut self, stream: u16, unordered: bool, bytes: usize)
-        ensures { self.new ≡ change_where (has_number stream) (expired unordered bytes) self.old }
+        ensures { self.new ≡ change_where (has_number stream)
+            (after_expiry unordered bytes) self.old }
     {
         let Some(place) = self.numbers.place_of(stream) else {
             return;
@@ -196,13 +198,13 @@ fn count_write(state: &mut StreamState, ppi: PayloadProtocolIdentifier, len: usi
 {
     state.record_write(ppi, len);
     let mut stats = state.stats();
-    stats.sent(ppi, len);
+    stats.count_sent(ppi, len);
     state.set_stats(stats);
 }
 
 // Takes a message that was not sent off its stream.
 fn expire_message(state: &mut StreamState, unordered: bool, bytes: usize)
-    ensures { state.new ≡ expired unordered bytes state.old }
+    ensures { state.new ≡ after_expiry unordered bytes state.old }
 {
     state.lower_buffered(bytes);
     if !unordered {

@@ -2,7 +2,7 @@ use Rattle.sctp_model.proofs.sender.Made.{network_is_made}
 use Rattle.sctp_model.proofs.receiver.Arrivals.{arrived_is_new}
 use Rattle.sctp_model.proofs.receiver.Arrivals.{cumulative_is_seen}
 use Rattle.sctp_model.proofs.receiver.Arrivals.{arrivals_answered}
-use Rattle.sctp_model.proofs.receiver.KnownRun.{whole_is_whole}
+use Rattle.sctp_model.proofs.receiver.KnownRun.{completeness_agrees}
 use Rattle.sctp_model.proofs.receiver.Names.{named_is_named}
 use Rattle.sctp_model.proofs.receiver.Spans.{spans_fit_always}
 use Rattle.sctp_model.proofs.laws.arrivals_agree.Goals as goal
@@ -19,8 +19,8 @@ returns-clause-cumulative c = cumulative_is_seen
 pub returns-clause-answered : goal.returns-clause-answered
 returns-clause-answered c = arrivals_answered
 
-pub returns-clause-whole : goal.returns-clause-whole
-returns-clause-whole c = whole_is_whole
+pub returns-clause-complete : goal.returns-clause-complete
+returns-clause-complete c = completeness_agrees
 
 pub returns-clause-named : goal.returns-clause-named
 returns-clause-named c = named_is_named

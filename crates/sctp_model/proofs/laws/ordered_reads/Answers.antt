@@ -2,7 +2,7 @@ use Rattle.sctp_model.proofs.sender.Written.{messages_are_writes}
 use Rattle.sctp_model.proofs.sender.Modes.{modes_are_kept}
 use Rattle.sctp_model.proofs.receiver.Shown.{reads_show_messages}
 use Rattle.sctp_model.proofs.receiver.ReadLaws.{reads_begin_run}
-use Rattle.sctp_model.proofs.receiver.ReadLaws.{reads_begin_whole_run}
+use Rattle.sctp_model.proofs.receiver.ReadLaws.{reads_begin_complete_run}
 use Rattle.sctp_model.proofs.laws.ordered_reads.Goals as goal
 
 pub returns-clause-writes : goal.returns-clause-writes
@@ -17,5 +17,5 @@ returns-clause-show c = reads_show_messages
 pub returns-clause-run : goal.returns-clause-run
 returns-clause-run c = reads_begin_run
 
-pub returns-clause-whole_run : goal.returns-clause-whole_run
-returns-clause-whole_run c = reads_begin_whole_run
+pub returns-clause-complete_run : goal.returns-clause-complete_run
+returns-clause-complete_run c = reads_begin_complete_run

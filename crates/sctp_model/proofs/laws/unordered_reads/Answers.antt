@@ -1,10 +1,10 @@
-use Rattle.sctp_model.proofs.receiver.ReadLaws.{reads_begin_whole}
+use Rattle.sctp_model.proofs.receiver.ReadLaws.{reads_begin_complete}
 use Rattle.sctp_model.proofs.receiver.Counted.{reads_differ}
 use Rattle.sctp_model.proofs.receiver.ReadLaws.{unordered_first}
 use Rattle.sctp_model.proofs.laws.unordered_reads.Goals as goal
 
-pub returns-clause-whole : goal.returns-clause-whole
-returns-clause-whole c = reads_begin_whole
+pub returns-clause-complete : goal.returns-clause-complete
+returns-clause-complete c = reads_begin_complete
 
 pub returns-clause-differ : goal.returns-clause-differ
 returns-clause-differ c = reads_differ

@@ -1,22 +1,25 @@
 -- Messages that are abandoned.
 use Rattle.std.proofs.Common.{◌≡◌, ◌==◌, ℕ, zero, suc, ◌-◌, ◌<◌, Bool, true, false, ◌||◌, max, if◌then◌else◌, List, [], ◌∷◌, ◌++◌, get_or, Option, Some, None, is_some, refl, sym, ap, ap₂, ◌∙◌, subst, inl, inr, arith}
-use Rattle.std.specs.List.{All, find, list_any}
+use Rattle.std.specs.List.{All, find, list_any, filter}
 use Rattle.std.proofs.lemmas.Bool.{false≢true, cases_lt}
 use Rattle.std.proofs.lemmas.Bool.Decides.{nat_tests}
 use Rattle.std.proofs.lemmas.Option.{none-some}
 use Rattle.sctp_chunks.specs.declared.chunk.chunk_payload_data.ChunkPayloadData.{ChunkPayloadData}
-use Rattle.sctp_list_lemmas.specs.Lists.{change_where, those, inserted}
+use Rattle.sctp_list_lemmas.specs.Lists.{change_where, insert_before}
 use Rattle.sctp_list_lemmas.proofs.Edits.{length-change_where, list_any-inserted, those-none}
 use Rattle.sctp_outbound.specs.declared.pending_queue.Selected.{Selected}
 use Rattle.sctp_outbound.specs.Marks.{is_of, as_abandoned}
-use Rattle.sctp_outbound.specs.outbound_queue.OutboundQueue.{Outbound, abandoned, terminal_chunk, with_terminal_chunk}
+use Rattle.sctp_outbound.specs.outbound_queue.OutboundQueue.{Outbound, abandon_chunks, terminal_chunk, with_terminal_chunk}
 use Rattle.sctp_serial.specs.DataChunks.{chunk_before, has_tsn}
 use Rattle.sctp_outbound.specs.payload_queue.PayloadQueue as payload
 use Rattle.sctp_outbound.specs.pending_queue.PendingQueue.{Pending, last_of, last_removed, selected_without, without}
 use Rattle.sctp_outbound.specs.pending_queue.Whole.{free, begun, stage_of, IsWhole, IsSendable, half_of, partially_sent, waits}
 use Rattle.sctp_serial.specs.Window.{IsWithinHalf, SpansOneWindow, is_held}
-use Rattle.sctp_outbound.proofs.lemmas.outbound_queue.Sendable.{made, or_false, or_left, or_right, not_true, sendable-marked, sendable-without}
+use Rattle.sctp_outbound.proofs.lemmas.outbound_queue.Sendable.{made, or_false, sendable-marked, sendable-without}
 use Rattle.sctp_outbound.proofs.lemmas.pending_queue.CompleteMessages.{KeepsMessage, none_past, none_without}
+use Rattle.sctp_serial.proofs.lemmas.ListEdits.{neither}
+use Rattle.sctp_list_lemmas.proofs.Cases.{or-left, or-right}
+use Rattle.sctp_list_lemmas.proofs.More.{fails}
 
 -- ## Changes that leave the TSNs
 
@@ -58,11 +61,11 @@ last_none [] h = refl
 last_none (x ∷ []) h = absurd (none-some x (sym h))
 last_none (x ∷ y ∷ ys) h = let e : y ∷ ys ≡ [] = last_none (y ∷ ys) h in cc
 
-some_those : (p : ChunkPayloadData → Bool) (xs : List ChunkPayloadData) → list_any p xs ≡ true → those p xs ≡ [] → ⊥
+some_those : (p : ChunkPayloadData → Bool) (xs : List ChunkPayloadData) → list_any p xs ≡ true → filter p xs ≡ [] → ⊥
 some_those p [] h e = false≢true h
 some_those p (x ∷ xs) h e = step (p x) h e (some_those p xs)
   where
-    step : (b : Bool) → (b || list_any p xs) ≡ true → (if b then x ∷ those p xs else those p xs) ≡ [] → (list_any p xs ≡ true → those p xs ≡ [] → ⊥) → ⊥
+    step : (b : Bool) → (b || list_any p xs) ≡ true → (if b then x ∷ filter p xs else filter p xs) ≡ [] → (list_any p xs ≡ true → filter p xs ≡ [] → ⊥) → ⊥
     step true h e ih = cc
     step false h e ih = ih h e
 
@@ -73,10 +76,10 @@ none_of_two (x ∷ xs) ys e = cc
 -- of a message that waits something is removed
 pub no_last : (m : ℕ) (q : Pending) → waits m q ≡ true → last_removed m q ≡ None → ⊥
 no_last m q h e =
-    let both = none_of_two (those (is_of m) q.ordered) (those (is_of m) q.unordered) (last_none _ e) in
+    let both = none_of_two (filter (is_of m) q.ordered) (filter (is_of m) q.unordered) (last_none _ e) in
     step (list_any (is_of m) q.unordered) refl h both
   where
-    step : (b : Bool) → list_any (is_of m) q.unordered ≡ b → (b || list_any (is_of m) q.ordered) ≡ true → (those (is_of m) q.ordered ≡ []) × (those (is_of m) q.unordered ≡ []) → ⊥
+    step : (b : Bool) → list_any (is_of m) q.unordered ≡ b → (b || list_any (is_of m) q.ordered) ≡ true → (filter (is_of m) q.ordered ≡ []) × (filter (is_of m) q.unordered ≡ []) → ⊥
     step true e h both = some_those (is_of m) q.unordered e both.1
     step false e h both = some_those (is_of m) q.ordered h both.0
 
@@ -94,17 +97,13 @@ fails_all p (x ∷ xs) h (suc k) d lt = fails_all p xs (rest (p x) h) k d (omega
     rest true h = absurd (false≢true (sym h))
     rest false h = h
 
-pub those_empty : (p : ChunkPayloadData → Bool) (xs : List ChunkPayloadData) → list_any p xs ≡ false → those p xs ≡ []
+pub those_empty : (p : ChunkPayloadData → Bool) (xs : List ChunkPayloadData) → list_any p xs ≡ false → filter p xs ≡ []
 those_empty p [] h = refl
 those_empty p (x ∷ xs) h = step (p x) h (those_empty p xs)
   where
-    step : (b : Bool) → (b || list_any p xs) ≡ false → (list_any p xs ≡ false → those p xs ≡ []) → (if b then x ∷ those p xs else those p xs) ≡ []
+    step : (b : Bool) → (b || list_any p xs) ≡ false → (list_any p xs ≡ false → filter p xs ≡ []) → (if b then x ∷ filter p xs else filter p xs) ≡ []
     step true h ih = absurd (false≢true (sym h))
     step false h ih = ih h
-
-or_none : (a b : Bool) → (a || b) ≡ false → (a ≡ false) × (b ≡ false)
-or_none true b h = absurd (false≢true (sym h))
-or_none false b h = (refl, h)
 
 -- the partially sent message waits
 pub half_waits : (os us : List ChunkPayloadData) (sel : Option Selected) (ro ru n m : ℕ) (xs : List ChunkPayloadData) → IsSendable (made os us sel ro ru) xs n → half_of sel ≡ Some m → waits m (made os us sel ro ru) ≡ true
@@ -116,20 +115,20 @@ half_waits os us (Some sel) ro ru n m xs s h = by sel.unordered s.ordered s.unor
 
     in_front : (kind : Bool) (cs : List ChunkPayloadData) → IsWhole kind n (begun sel.message_id) cs → list_any (is_of m) cs ≡ true
     in_front kind [] w = absurd w
-    in_front kind (c ∷ cs) w = let it : (c.message_id == m) ≡ true = grind (arith, nat_tests, w.0.1, same) in or_left _ _ it
+    in_front kind (c ∷ cs) w = let it : (c.message_id == m) ≡ true = grind (arith, nat_tests, w.0.1, same) in or-left _ _ it
 
     by : (k : Bool) → IsWhole false n (if k then free 0 else begun sel.message_id) os → IsWhole true n (if k then begun sel.message_id else free 0) us → (list_any (is_of m) us || list_any (is_of m) os) ≡ true
-    by true w v = or_left _ _ (in_front true us v)
-    by false w v = or_right _ _ (in_front false os w)
+    by true w v = or-left _ _ (in_front true us v)
+    by false w v = or-right _ _ (in_front false os w)
 
 selected_stays : (m : ℕ) (sel : Option Selected) → (half_of sel ≡ Some m → ⊥) → selected_without m sel ≡ sel
 selected_stays m None h = refl
-selected_stays m (Some s) h = let other : (s.message_id == m) ≡ false = not_true _ (λ e. h (ap Some (grind (arith, nat_tests)))) in rw other refl
+selected_stays m (Some s) h = let other : (s.message_id == m) ≡ false = fails _ (λ e. h (ap Some (grind (arith, nat_tests)))) in rw other refl
 
 -- a message with no tail leaves the pending queue as it is
 without_none : (os us : List ChunkPayloadData) (sel : Option Selected) (ro ru n m : ℕ) (xs : List ChunkPayloadData) → IsSendable (made os us sel ro ru) xs n → waits m (made os us sel ro ru) ≡ false → without m (made os us sel ro ru) ≡ made os us sel ro ru
 without_none os us sel ro ru n m xs s h =
-    let none = or_none (list_any (is_of m) us) (list_any (is_of m) os) h in
+    let none = neither (list_any (is_of m) us) (list_any (is_of m) os) h in
     let ordered = those-none (is_of m) os (fails_all (is_of m) os none.1) in
     let unordered = those-none (is_of m) us (fails_all (is_of m) us none.0) in
     let selected = selected_stays m sel (λ e. false≢true (sym h ∙ half_waits os us sel ro ru n m xs s e)) in
@@ -137,16 +136,16 @@ without_none os us sel ro ru n m xs s h =
 
 pub last_removed_none : (m : ℕ) (q : Pending) → waits m q ≡ false → last_removed m q ≡ None
 last_removed_none m q h =
-    let none = or_none (list_any (is_of m) q.unordered) (list_any (is_of m) q.ordered) h in
+    let none = neither (list_any (is_of m) q.unordered) (list_any (is_of m) q.ordered) h in
     ap₂ (λ cs ds. last_of (cs ++ ds)) (those_empty (is_of m) q.ordered none.1) (those_empty (is_of m) q.unordered none.0)
 
-pub abandoned_none : (m tsn : ℕ) (q : Outbound) → IsSendable q.pending q.inflight.chunks q.next_message_id → waits m q.pending ≡ false → abandoned m tsn q ≡ record q { inflight = payload.with_chunks q.inflight (change_where (is_of m) as_abandoned q.inflight.chunks) }
+pub abandoned_none : (m tsn : ℕ) (q : Outbound) → IsSendable q.pending q.inflight.chunks q.next_message_id → waits m q.pending ≡ false → abandon_chunks m tsn q ≡ record q { inflight = payload.with_chunks q.inflight (change_where (is_of m) as_abandoned q.inflight.chunks) }
 abandoned_none m tsn q s h =
     ap (λ o. record q { pending = without m q.pending; inflight = with_terminal_chunk o tsn (payload.with_chunks q.inflight (change_where (is_of m) as_abandoned q.inflight.chunks)) }) (last_removed_none m q.pending h)
     ∙ ap (λ p. record q { pending = p; inflight = payload.with_chunks q.inflight (change_where (is_of m) as_abandoned q.inflight.chunks) }) (without_none q.pending.ordered q.pending.unordered q.pending.selected q.pending.ordered_room q.pending.unordered_room q.next_message_id m q.inflight.chunks s h)
 
 -- room that was made for the terminal chunk is gone after it
-pub abandoned_room : (m tsn : ℕ) (q : Outbound) → waits m q.pending ≡ true → abandoned m tsn (record q { inflight = record q.inflight { room = max 1 q.inflight.room } }) ≡ abandoned m tsn q
+pub abandoned_room : (m tsn : ℕ) (q : Outbound) → waits m q.pending ≡ true → abandon_chunks m tsn (record q { inflight = record q.inflight { room = max 1 q.inflight.room } }) ≡ abandon_chunks m tsn q
 abandoned_room m tsn q h = step (last_removed m q.pending) refl
   where
     one : max 1 q.inflight.room - 1 ≡ q.inflight.room - 1
@@ -154,18 +153,18 @@ abandoned_room m tsn q h = step (last_removed m q.pending) refl
 
     step : (o : Option ChunkPayloadData) → last_removed m q.pending ≡ o → record q { pending = without m q.pending; inflight = with_terminal_chunk o tsn (payload.with_chunks (record q.inflight { room = max 1 q.inflight.room }) (change_where (is_of m) as_abandoned q.inflight.chunks)) } ≡ record q { pending = without m q.pending; inflight = with_terminal_chunk o tsn (payload.with_chunks q.inflight (change_where (is_of m) as_abandoned q.inflight.chunks)) }
     step None e = absurd (no_last m q.pending h e)
-    step (Some c) e = ap (λ r. record q { pending = without m q.pending; inflight = record (payload.pushed (payload.with_chunks q.inflight (change_where (is_of m) as_abandoned q.inflight.chunks)) (terminal_chunk tsn c)) { room = r } }) one
+    step (Some c) e = ap (λ r. record q { pending = without m q.pending; inflight = record (payload.push_chunk (payload.with_chunks q.inflight (change_where (is_of m) as_abandoned q.inflight.chunks)) (terminal_chunk tsn c)) { room = r } }) one
 
 pub waits_known : (m : ℕ) (q : Pending) (b : Bool) → (list_any (is_of m) q.unordered || list_any (is_of m) q.ordered) ≡ b → waits m q ≡ b
 waits_known m q b h = h
 
 -- ## The terminal chunk
 
-those_are : (m : ℕ) (xs : List ChunkPayloadData) → All (λ c. c.message_id ≡ m) (those (is_of m) xs)
+those_are : (m : ℕ) (xs : List ChunkPayloadData) → All (λ c. c.message_id ≡ m) (filter (is_of m) xs)
 those_are m [] = λ k d lt. absurd (omega arith)
 those_are m (x ∷ xs) = step (x.message_id == m) refl (those_are m xs)
   where
-    step : (b : Bool) → (x.message_id == m) ≡ b → All (λ (c : ChunkPayloadData). c.message_id ≡ m) (those (is_of m) xs) → All (λ (c : ChunkPayloadData). c.message_id ≡ m) (if b then x ∷ those (is_of m) xs else those (is_of m) xs)
+    step : (b : Bool) → (x.message_id == m) ≡ b → All (λ (c : ChunkPayloadData). c.message_id ≡ m) (filter (is_of m) xs) → All (λ (c : ChunkPayloadData). c.message_id ≡ m) (if b then x ∷ filter (is_of m) xs else filter (is_of m) xs)
     step true e ih zero d lt = grind (arith, nat_tests)
     step true e ih (suc k) d lt = ih k d (omega arith)
     step false e ih k d lt = ih k d lt
@@ -182,7 +181,7 @@ all_append P (x ∷ xs) ys a b (suc k) d lt = all_append P xs ys (λ j e short. 
 
 -- what is removed of a message is of it
 pub last_is_of : (m : ℕ) (q : Pending) (c : ChunkPayloadData) → last_removed m q ≡ Some c → c.message_id ≡ m
-last_is_of m q c e = last_is (λ x. x.message_id ≡ m) _ c (all_append (λ x. x.message_id ≡ m) (those (is_of m) q.ordered) (those (is_of m) q.unordered) (those_are m q.ordered) (those_are m q.unordered)) e
+last_is_of m q c e = last_is (λ x. x.message_id ≡ m) _ c (all_append (λ x. x.message_id ≡ m) (filter (is_of m) q.ordered) (filter (is_of m) q.unordered) (those_are m q.ordered) (those_are m q.unordered)) e
 
 -- a message that waits has a number below the next
 number_below : (m n : ℕ) (q : Pending) (xs : List ChunkPayloadData) → IsSendable q xs n → waits m q ≡ true → m < n
@@ -191,7 +190,7 @@ number_below m n q xs s h = elim (cases_lt m n) [
   | inr le ↦ absurd (false≢true (sym (or_false _ _ (none_past true n m le (stage_of true q.selected) q.unordered s.unordered) (none_past false n m le (stage_of false q.selected) q.ordered s.ordered)) ∙ h))
 ]
 
-pub sendable-abandoned : (q : Pending) (xs : List ChunkPayloadData) (n m : ℕ) (t : ChunkPayloadData) → t.message_id ≡ m → waits m q ≡ true → IsSendable q xs n → IsSendable (without m q) (inserted chunk_before t (change_where (is_of m) as_abandoned xs)) n
+pub sendable-abandoned : (q : Pending) (xs : List ChunkPayloadData) (n m : ℕ) (t : ChunkPayloadData) → t.message_id ≡ m → waits m q ≡ true → IsSendable q xs n → IsSendable (without m q) (insert_before chunk_before t (change_where (is_of m) as_abandoned xs)) n
 sendable-abandoned q xs n m t same h s =
     let keeps : KeepsMessage as_abandoned = record { number = λ _. refl; begins = λ _. refl; ends = λ _. refl; kind = λ _. refl } in
     let gone = sendable-without q.ordered q.unordered q.selected q.ordered_room q.unordered_room _ n m (sendable-marked q xs n (is_of m) as_abandoned keeps s) in

@@ -6,35 +6,29 @@ use Rattle.std.proofs.lemmas.Bool.Decides.{nat_tests}
 use Rattle.std.proofs.lemmas.List.Sums.{sum_by-cons}
 use Rattle.std.proofs.lemmas.Option.{none-some}
 use Rattle.sctp_chunks.specs.declared.chunk.chunk_payload_data.ChunkPayloadData.{ChunkPayloadData}
-use Rattle.sctp_list_lemmas.specs.Lists.{change_where, inserted}
+use Rattle.sctp_list_lemmas.specs.Lists.{change_where, insert_before}
 use Rattle.sctp_list_lemmas.proofs.Edits.{list_any-append, list_any-inserted, list_any-those}
 use Rattle.sctp_outbound.specs.declared.pending_queue.Selected.{Selected}
 use Rattle.sctp_outbound.specs.Marks.{is_of}
-use Rattle.sctp_outbound.specs.outbound_queue.OutboundQueue.{Outbound, abandoned, with_message_id, appended, after_sends, taken_of, tsn_after, following_tsn}
+use Rattle.sctp_outbound.specs.outbound_queue.OutboundQueue.{Outbound, abandon_chunks, with_message_id, append_chunks, after_sends, taken_of, tsn_after}
 use Rattle.sctp_outbound.specs.payload_queue.PayloadQueue.{without_front}
-use Rattle.sctp_serial.specs.DataChunks.{chunk_before, bytes_of, has_tsn}
-use Rattle.sctp_outbound.specs.pending_queue.PendingQueue.{Pending, front_of, list_of, peeked, peeked_of, popped, popped_from, list_to_pop, rest_after, rest_from, selected_after, selected_without, without, without_message, total_bytes}
+use Rattle.sctp_serial.specs.DataChunks.{chunk_before, bytes_of, has_tsn, following_tsn}
+use Rattle.sctp_outbound.specs.pending_queue.PendingQueue.{Pending, front_of, list_of, next_pending, next_pending_of, chunk_to_pop, chunk_to_pop_from, list_to_pop, rest_after, rest_from, selected_after, selected_without, without, without_message, total_bytes}
 use Rattle.sctp_outbound.specs.pending_queue.Whole.{free, begun, GoesOn, stage_after, stage_of, IsWhole, IsMessage, IsMessageOrNone, IsSendable, ends, half_of, partially_sent, has_end, in_order, order_of, rest_then, waits}
 use Rattle.sctp_outbound.proofs.lemmas.pending_queue.CompleteMessages.{IsWhole-append, IsWhole-message, IsWhole-without, IsWhole-change_where, KeepsMessage, list_any-change_where, list_any-message, none_before, none_past, none_without, stage_below, stage_without, weaken_bound, weaken_start}
+use Rattle.sctp_list_lemmas.proofs.Cases.{or-left, or-right}
+use Rattle.sctp_list_lemmas.proofs.More.{fails}
 
 abbrev pub made : List ChunkPayloadData → List ChunkPayloadData → Option Selected → ℕ → ℕ → Pending
 made os us sel ro ru = record { ordered = os; unordered = us; selected = sel; ordered_room = ro; unordered_room = ru }
-
-pub or_left : (a b : Bool) → a ≡ true → (a || b) ≡ true
-or_left true b h = refl
-or_left false b h = cc
-
-pub or_right : (a b : Bool) → b ≡ true → (a || b) ≡ true
-or_right true b h = refl
-or_right false b h = h
 
 pub or_false : (a b : Bool) → a ≡ false → b ≡ false → (a || b) ≡ false
 or_false a b h k = rw (h, k) refl
 
 -- one of the two, also where each leads to another
 or_cases : (a b c d : Bool) → (a ≡ true → c ≡ true) → (b ≡ true → d ≡ true) → (a || b) ≡ true → (c || d) ≡ true
-or_cases true b c d f g h = or_left c d (f refl)
-or_cases false b c d f g h = or_right c d (g h)
+or_cases true b c d f g h = or-left c d (f refl)
+or_cases false b c d f g h = or-right c d (g h)
 
 or_known : (a b : Bool) → b ≡ false → (a || b) ≡ true → a ≡ true
 or_known true b h k = refl
@@ -43,10 +37,6 @@ or_known false b h k = absurd (false≢true (sym h ∙ k))
 or_elim : {P : Type 0} (a b : Bool) → (a ≡ true → P) → (b ≡ true → P) → (a || b) ≡ true → P
 or_elim true b f g h = f refl
 or_elim false b f g h = g h
-
-pub not_true : (b : Bool) → (b ≡ true → ⊥) → b ≡ false
-not_true true h = absurd (h refl)
-not_true false h = refl
 
 -- ## What is in flight
 
@@ -57,7 +47,7 @@ sendable-fewer q xs ys n fewer s = record {
   unordered = s.unordered;
   apart = s.apart;
   sent = λ m h k. s.sent m (fewer m h) k;
-  below = λ m le. not_true _ (λ h. false≢true (sym (s.below m le) ∙ fewer m h));
+  below = λ m le. fails _ (λ h. false≢true (sym (s.below m le) ∙ fewer m h));
 }
 
 pub list_any-without_front : (m tsn : ℕ) (xs : List ChunkPayloadData) → list_any (is_of m) (without_front tsn xs) ≡ true → list_any (is_of m) xs ≡ true
@@ -65,7 +55,7 @@ list_any-without_front m tsn [] h = h
 list_any-without_front m tsn (c ∷ cs) h = step (has_tsn tsn c) h
   where
     step : (b : Bool) → list_any (is_of m) (if b then cs else c ∷ cs) ≡ true → list_any (is_of m) (c ∷ cs) ≡ true
-    step true h = or_right (is_of m c) (list_any (is_of m) cs) h
+    step true h = or-right (is_of m c) (list_any (is_of m) cs) h
     step false h = h
 
 pub without_front_le : (tsn : ℕ) (xs : List ChunkPayloadData) → bytes_of (without_front tsn xs) ≤ bytes_of xs
@@ -125,14 +115,14 @@ half-without : (m k : ℕ) (sel : Option Selected) → half_of sel ≡ Some k �
 half-without m k None h differs = absurd (none-some k h)
 half-without m k (Some s) h differs =
     let same : s.message_id ≡ k = cc in
-    let other : (s.message_id == m) ≡ false = not_true _ (λ e. differs (grind (arith, nat_tests))) in
+    let other : (s.message_id == m) ≡ false = fails _ (λ e. differs (grind (arith, nat_tests))) in
     rw other h
 
 pub sendable-without : (os us : List ChunkPayloadData) (sel : Option Selected) (ro ru : ℕ) (xs : List ChunkPayloadData) (n m : ℕ) → IsSendable (made os us sel ro ru) xs n → IsSendable (without m (made os us sel ro ru)) xs n
 sendable-without os us sel ro ru xs n m s = record {
   ordered = stage_of-without m false sel n (without_message m os) (IsWhole-without false n m (stage_of false sel) os s.ordered);
   unordered = stage_of-without m true sel n (without_message m us) (IsWhole-without true n m (stage_of true sel) us s.unordered);
-  apart = λ k h. not_true _ (λ e. false≢true (sym (s.apart k (list_any-those (is_of k) (λ c. not (is_of m c)) os h)) ∙ list_any-those (is_of k) (λ c. not (is_of m c)) us e));
+  apart = λ k h. fails _ (λ e. false≢true (sym (s.apart k (list_any-those (is_of k) (λ c. not (is_of m c)) os h)) ∙ list_any-those (is_of k) (λ c. not (is_of m c)) us e));
   sent = λ k h w. half-without m k sel (s.sent k h (or_cases _ _ _ _ (list_any-those (is_of k) (λ c. not (is_of m c)) us) (list_any-those (is_of k) (λ c. not (is_of m c)) os) w))
       (λ e. false≢true (sym (subst (λ j. (list_any (is_of j) (without_message m us) || list_any (is_of j) (without_message m os)) ≡ false) e (or_false _ _ (none_without m us) (none_without m os))) ∙ w));
   below = s.below;
@@ -140,12 +130,12 @@ sendable-without os us sel ro ru xs n m s = record {
 
 -- ## A message that is pushed
 
-pub sendable-pushed : (kind : Bool) (os us : List ChunkPayloadData) (sel : Option Selected) (ro ru : ℕ) (xs ms : List ChunkPayloadData) (n : ℕ) → IsMessage kind false ms → IsSendable (made os us sel ro ru) xs n → IsSendable (appended kind (map (with_message_id n) ms) (made os us sel ro ru)) xs (n + 1)
+pub sendable-pushed : (kind : Bool) (os us : List ChunkPayloadData) (sel : Option Selected) (ro ru : ℕ) (xs ms : List ChunkPayloadData) (n : ℕ) → IsMessage kind false ms → IsSendable (made os us sel ro ru) xs n → IsSendable (append_chunks kind (map (with_message_id n) ms) (made os us sel ro ru)) xs (n + 1)
 sendable-pushed true os us sel ro ru xs ms n h s = record {
   ordered = weaken_bound false n (n + 1) (omega arith) (stage_of false sel) os s.ordered;
   unordered = IsWhole-append true n (n + 1) (omega arith) (stage_of true sel) us (map (with_message_id n) ms) (stage_below true sel n us s.unordered) s.unordered (IsWhole-message true false n ms h);
-  apart = λ m k. list_any-append (is_of m) us (map (with_message_id n) ms) ∙ or_false _ _ (s.apart m k) (not_true _ (λ e. let same : n ≡ m = grind (arith, nat_tests, list_any-message m n ms e) in false≢true (sym (none_past false n m (omega arith) (stage_of false sel) os s.ordered) ∙ k)));
-  sent = λ m k w. s.sent m k (or_cases _ _ _ _ (λ e. or_known _ _ (not_true _ (λ f. new_is_new m k (list_any-message m n ms f))) (sym (list_any-append (is_of m) us (map (with_message_id n) ms)) ∙ e)) (λ e. e) w);
+  apart = λ m k. list_any-append (is_of m) us (map (with_message_id n) ms) ∙ or_false _ _ (s.apart m k) (fails _ (λ e. let same : n ≡ m = grind (arith, nat_tests, list_any-message m n ms e) in false≢true (sym (none_past false n m (omega arith) (stage_of false sel) os s.ordered) ∙ k)));
+  sent = λ m k w. s.sent m k (or_cases _ _ _ _ (λ e. or_known _ _ (fails _ (λ f. new_is_new m k (list_any-message m n ms f))) (sym (list_any-append (is_of m) us (map (with_message_id n) ms)) ∙ e)) (λ e. e) w);
   below = λ m le. s.below m (omega arith);
 }
   where
@@ -155,7 +145,7 @@ sendable-pushed false os us sel ro ru xs ms n h s = record {
   ordered = IsWhole-append false n (n + 1) (omega arith) (stage_of false sel) os (map (with_message_id n) ms) (stage_below false sel n os s.ordered) s.ordered (IsWhole-message false false n ms h);
   unordered = weaken_bound true n (n + 1) (omega arith) (stage_of true sel) us s.unordered;
   apart = λ m k. or_elim _ _ (s.apart m) (λ e. let same : n ≡ m = grind (arith, nat_tests, list_any-message m n ms e) in none_past true n m (omega arith) (stage_of true sel) us s.unordered) (sym (list_any-append (is_of m) os (map (with_message_id n) ms)) ∙ k);
-  sent = λ m k w. s.sent m k (or_cases _ _ _ _ (λ e. e) (λ e. or_known _ _ (not_true _ (λ f. new_is_new m k (list_any-message m n ms f))) (sym (list_any-append (is_of m) os (map (with_message_id n) ms)) ∙ e)) w);
+  sent = λ m k w. s.sent m k (or_cases _ _ _ _ (λ e. e) (λ e. or_known _ _ (fails _ (λ f. new_is_new m k (list_any-message m n ms f))) (sym (list_any-append (is_of m) os (map (with_message_id n) ms)) ∙ e)) w);
   below = λ m le. s.below m (omega arith);
 }
   where
@@ -217,7 +207,7 @@ front_sent kind m n c cs other xs w apart sent h k = step c.ending_fragment w
     step : (b : Bool) → IsWhole kind n (if b then free (c.message_id + 1) else begun c.message_id) cs → half_of (if b then None else Some (record { message_id = c.message_id; unordered = kind })) ≡ Some m
     step true v =
         let gone : list_any (is_of m) cs ≡ false = none_before kind n m (free (c.message_id + 1)) cs (omega (arith, same)) v in
-        absurd (false≢true (sym (or_false _ _ gone (apart (or_left _ _ it))) ∙ k))
+        absurd (false≢true (sym (or_false _ _ gone (apart (or-left _ _ it))) ∙ k))
     step false v = ap Some same
 
 -- where the list stands then
@@ -233,7 +223,7 @@ other_by true false n k cs w = w
 other_by false true n k cs w = w
 other_by false false n k cs w = w
 
-number_of : (m : ℕ) (t c : ChunkPayloadData) (xs : List ChunkPayloadData) → t.message_id ≡ c.message_id → list_any (is_of m) (inserted chunk_before t xs) ≡ (c.message_id == m || list_any (is_of m) xs)
+number_of : (m : ℕ) (t c : ChunkPayloadData) (xs : List ChunkPayloadData) → t.message_id ≡ c.message_id → list_any (is_of m) (insert_before chunk_before t xs) ≡ (c.message_id == m || list_any (is_of m) xs)
 number_of m t c xs same = list_any-inserted (is_of m) chunk_before t xs ∙ ap (λ k. k == m || list_any (is_of m) xs) same
 
 or_comm : (a b : Bool) → (a || b) ≡ (b || a)
@@ -243,39 +233,39 @@ or_comm false true = refl
 or_comm false false = refl
 
 module _ (sel : Option Selected) (ro ru n : ℕ) (xs : List ChunkPayloadData) (t c : ChunkPayloadData) (same : t.message_id ≡ c.message_id) where
-  still_below : ((m : ℕ) → n ≤ m → list_any (is_of m) xs ≡ false) → c.message_id < n → (m : ℕ) → n ≤ m → list_any (is_of m) (inserted chunk_before t xs) ≡ false
+  still_below : ((m : ℕ) → n ≤ m → list_any (is_of m) xs ≡ false) → c.message_id < n → (m : ℕ) → n ≤ m → list_any (is_of m) (insert_before chunk_before t xs) ≡ false
   still_below below lt m le = let other : (c.message_id == m) ≡ false = grind (arith, nat_tests) in number_of m t c xs same ∙ or_false _ _ other (below m le)
 
-  sent_ordered : (os us : List ChunkPayloadData) → Turn false n sel c os us → IsSendable (made (c ∷ os) us sel ro ru) xs n → IsSendable (made os us (selected_after sel false c) ro ru) (inserted chunk_before t xs) n
+  sent_ordered : (os us : List ChunkPayloadData) → Turn false n sel c os us → IsSendable (made (c ∷ os) us sel ro ru) xs n → IsSendable (made os us (selected_after sel false c) ro ru) (insert_before chunk_before t xs) n
   sent_ordered os us turn s = rw turn.after record {
     ordered = stage_by false c.ending_fragment n c.message_id os turn.tail;
     unordered = other_by false c.ending_fragment n c.message_id us turn.others;
-    apart = λ m h. s.apart m (or_right (c.message_id == m) (list_any (is_of m) os) h);
+    apart = λ m h. s.apart m (or-right (c.message_id == m) (list_any (is_of m) os) h);
     sent = λ m h k.
         let it = c.message_id == m in
         let o = list_any (is_of m) os in
         let u = list_any (is_of m) us in
-        front_sent false m n c os us xs turn.tail (s.apart m) (λ e w. turn.half m (s.sent m e (or_cases u o u (it || o) (λ f. f) (λ f. or_right it o f) (or_comm u o ∙ w)))) (sym (number_of m t c xs same) ∙ h) (or_comm o u ∙ k);
+        front_sent false m n c os us xs turn.tail (s.apart m) (λ e w. turn.half m (s.sent m e (or_cases u o u (it || o) (λ f. f) (λ f. or-right it o f) (or_comm u o ∙ w)))) (sym (number_of m t c xs same) ∙ h) (or_comm o u ∙ k);
     below = still_below s.below turn.number;
   }
 
-  sent_unordered : (os us : List ChunkPayloadData) → Turn true n sel c us os → IsSendable (made os (c ∷ us) sel ro ru) xs n → IsSendable (made os us (selected_after sel true c) ro ru) (inserted chunk_before t xs) n
+  sent_unordered : (os us : List ChunkPayloadData) → Turn true n sel c us os → IsSendable (made os (c ∷ us) sel ro ru) xs n → IsSendable (made os us (selected_after sel true c) ro ru) (insert_before chunk_before t xs) n
   sent_unordered os us turn s = rw turn.after record {
     ordered = other_by true c.ending_fragment n c.message_id os turn.others;
     unordered = stage_by true c.ending_fragment n c.message_id us turn.tail;
-    apart = λ m h. not_true (list_any (is_of m) us) (λ e. false≢true (sym (s.apart m h) ∙ or_right (c.message_id == m) (list_any (is_of m) us) e));
+    apart = λ m h. fails (list_any (is_of m) us) (λ e. false≢true (sym (s.apart m h) ∙ or-right (c.message_id == m) (list_any (is_of m) us) e));
     sent = λ m h k.
         let it = c.message_id == m in
         let o = list_any (is_of m) os in
         let u = list_any (is_of m) us in
-        front_sent true m n c us os xs turn.tail (λ e. not_true o (λ f. false≢true (sym (s.apart m f) ∙ e))) (λ e w. turn.half m (s.sent m e (or_cases u o (it || u) o (λ f. or_right it u f) (λ f. f) w))) (sym (number_of m t c xs same) ∙ h) k;
+        front_sent true m n c us os xs turn.tail (λ e. fails o (λ f. false≢true (sym (s.apart m f) ∙ e))) (λ e w. turn.half m (s.sent m e (or_cases u o (it || u) o (λ f. or-right it u f) (λ f. f) w))) (sym (number_of m t c xs same) ∙ h) k;
     below = still_below s.below turn.number;
   }
 
 -- what a peek shows is what a pop takes, and the queues stay sendable with it in flight
 pub record SendsOn (q : Pending) (c t : ChunkPayloadData) (xs : List ChunkPayloadData) (n : ℕ) : Type 0 where
-  pub taken : popped c.beginning_fragment c.unordered q ≡ Some c
-  pub sendable : IsSendable (rest_after c.beginning_fragment c.unordered q) (inserted chunk_before t xs) n
+  pub taken : chunk_to_pop c.beginning_fragment c.unordered q ≡ Some c
+  pub sendable : IsSendable (rest_after c.beginning_fragment c.unordered q) (insert_before chunk_before t xs) n
   pub order : order_of q ≡ c ∷ order_of (rest_after c.beginning_fragment c.unordered q)
 
 module _ (ro ru n : ℕ) (xs : List ChunkPayloadData) (t : ChunkPayloadData) where
@@ -333,7 +323,7 @@ module _ (ro ru n : ℕ) (xs : List ChunkPayloadData) (t : ChunkPayloadData) whe
       let others = subst (λ b. IsWhole true n (if b then begun sel.message_id else free 0) us) e s.unordered in
       at _ o c (some_same o c h) same (λ f. from_ordered (Some sel) o os us (ap (λ b. if b then us ++ o ∷ os else rest_then (o ∷ os) us) e) f (turn_on false n sel o os us e whole others) s)
 
-  sends_on : (os us : List ChunkPayloadData) (sel : Option Selected) (c : ChunkPayloadData) → t.message_id ≡ c.message_id → IsSendable (made os us sel ro ru) xs n → peeked (made os us sel ro ru) ≡ Some c → SendsOn (made os us sel ro ru) c t xs n
+  sends_on : (os us : List ChunkPayloadData) (sel : Option Selected) (c : ChunkPayloadData) → t.message_id ≡ c.message_id → IsSendable (made os us sel ro ru) xs n → next_pending (made os us sel ro ru) ≡ Some c → SendsOn (made os us sel ro ru) c t xs n
   sends_on os (u ∷ us) None c same s h = at _ u c (some_same u c h) same (λ e. from_unordered None u os us refl e (turn_new true n u us os s.unordered s.ordered) s)
   sends_on (o ∷ os) [] None c same s h = at _ o c (some_same o c h) same (λ e. from_ordered None o os [] (alone o os o.ending_fragment) e (turn_new false n o os [] s.ordered s.unordered) s)
   sends_on [] [] None c same s h = absurd (none-some c h)
@@ -343,18 +333,18 @@ module _ (ro ru n : ℕ) (xs : List ChunkPayloadData) (t : ChunkPayloadData) whe
       by true e = goes_on_unordered os us sel c e same s (subst (λ b. slice_get (list_of b (made os us (Some sel) ro ru)) 0 ≡ Some c) e h)
       by false e = goes_on_ordered os us sel c e same s (subst (λ b. slice_get (list_of b (made os us (Some sel) ro ru)) 0 ≡ Some c) e h)
 
-pub sendable-sent : (q : Pending) (xs : List ChunkPayloadData) (n : ℕ) (c t : ChunkPayloadData) → t.message_id ≡ c.message_id → IsSendable q xs n → peeked q ≡ Some c → SendsOn q c t xs n
+pub sendable-sent : (q : Pending) (xs : List ChunkPayloadData) (n : ℕ) (c t : ChunkPayloadData) → t.message_id ≡ c.message_id → IsSendable q xs n → next_pending q ≡ Some c → SendsOn q c t xs n
 sendable-sent q xs n c t same s h = sends_on q.ordered_room q.unordered_room n xs t q.ordered q.unordered q.selected c same s h
 
 -- the bytes that leave with a chunk
-popped_bytes_from : (k : Option Bool) (os us : List ChunkPayloadData) (sel : Option Selected) (ro ru : ℕ) (c : ChunkPayloadData) → popped_from k (made os us sel ro ru) ≡ Some c → total_bytes (rest_from k (made os us sel ro ru)) + length c.user_data ≡ total_bytes (made os us sel ro ru)
+popped_bytes_from : (k : Option Bool) (os us : List ChunkPayloadData) (sel : Option Selected) (ro ru : ℕ) (c : ChunkPayloadData) → chunk_to_pop_from k (made os us sel ro ru) ≡ Some c → total_bytes (rest_from k (made os us sel ro ru)) + length c.user_data ≡ total_bytes (made os us sel ro ru)
 popped_bytes_from None os us sel ro ru c h = absurd (none-some c h)
 popped_bytes_from (Some true) os [] sel ro ru c h = absurd (none-some c h)
 popped_bytes_from (Some true) os (u ∷ us) sel ro ru c h = let same : u ≡ c = cc in omega (arith, sum_by-cons (λ (x : ChunkPayloadData). length x.user_data) u us, ap (λ (x : ChunkPayloadData). length x.user_data) same)
 popped_bytes_from (Some false) [] us sel ro ru c h = absurd (none-some c h)
 popped_bytes_from (Some false) (o ∷ os) us sel ro ru c h = let same : o ≡ c = cc in omega (arith, sum_by-cons (λ (x : ChunkPayloadData). length x.user_data) o os, ap (λ (x : ChunkPayloadData). length x.user_data) same)
 
-pub popped_bytes : (b u : Bool) (q : Pending) (c : ChunkPayloadData) → popped b u q ≡ Some c → total_bytes (rest_after b u q) + length c.user_data ≡ total_bytes q
+pub popped_bytes : (b u : Bool) (q : Pending) (c : ChunkPayloadData) → chunk_to_pop b u q ≡ Some c → total_bytes (rest_after b u q) + length c.user_data ≡ total_bytes q
 popped_bytes b u q c h = popped_bytes_from (list_to_pop q.selected b u) q.ordered q.unordered q.selected q.ordered_room q.unordered_room c h
 
 -- the kind of a message is that of its first chunk
@@ -383,7 +373,7 @@ has_end_of q xs n s = by q.selected s.ordered
         kind true w = refl
         kind false w = whole_has_end false n s.message_id q.ordered w
 
-nothing_waits : (os us : List ChunkPayloadData) (sel : Option Selected) (ro ru n : ℕ) (xs : List ChunkPayloadData) → IsSendable (made os us sel ro ru) xs n → peeked (made os us sel ro ru) ≡ None → in_order sel os us ≡ []
+nothing_waits : (os us : List ChunkPayloadData) (sel : Option Selected) (ro ru n : ℕ) (xs : List ChunkPayloadData) → IsSendable (made os us sel ro ru) xs n → next_pending (made os us sel ro ru) ≡ None → in_order sel os us ≡ []
 nothing_waits os (u ∷ us) None ro ru n xs s h = absurd (none-some u (sym h))
 nothing_waits (o ∷ os) [] None ro ru n xs s h = absurd (none-some o (sym h))
 nothing_waits [] [] None ro ru n xs s h = refl
@@ -402,21 +392,21 @@ nothing_waits os us (Some sel) ro ru n xs s h = absurd (by sel.unordered s.order
     by false w v h = some_ordered os w h
 
 -- the chunk at a place of the order is what a peek gives after so many sends
-pub order_is : (i : ℕ) (q : Pending) (xs : List ChunkPayloadData) (n : ℕ) → IsSendable q xs n → slice_get (order_of q) i ≡ peeked (after_sends i q)
-order_is zero q xs n s = by (peeked q) refl
+pub order_is : (i : ℕ) (q : Pending) (xs : List ChunkPayloadData) (n : ℕ) → IsSendable q xs n → slice_get (order_of q) i ≡ next_pending (after_sends i q)
+order_is zero q xs n s = by (next_pending q) refl
   where
-    by : (o : Option ChunkPayloadData) → peeked q ≡ o → slice_get (order_of q) 0 ≡ o
+    by : (o : Option ChunkPayloadData) → next_pending q ≡ o → slice_get (order_of q) 0 ≡ o
     by None h = ap (λ l. slice_get l 0) (nothing_waits q.ordered q.unordered q.selected q.ordered_room q.unordered_room n xs s h)
     by (Some c) h = ap (λ l. slice_get l 0) (sendable-sent q xs n c c refl s h).order
-order_is (suc i) q xs n s = by (peeked q) refl (order_is i q xs n s) (λ r ys t. order_is i r ys n t)
+order_is (suc i) q xs n s = by (next_pending q) refl (order_is i q xs n s) (λ r ys t. order_is i r ys n t)
   where
-    by : (o : Option ChunkPayloadData) → peeked q ≡ o → slice_get (order_of q) i ≡ peeked (after_sends i q) → ((r : Pending) (ys : List ChunkPayloadData) → IsSendable r ys n → slice_get (order_of r) i ≡ peeked (after_sends i r)) → slice_get (order_of q) (suc i) ≡ peeked (after_sends i (taken_of o q))
+    by : (o : Option ChunkPayloadData) → next_pending q ≡ o → slice_get (order_of q) i ≡ next_pending (after_sends i q) → ((r : Pending) (ys : List ChunkPayloadData) → IsSendable r ys n → slice_get (order_of r) i ≡ next_pending (after_sends i r)) → slice_get (order_of q) (suc i) ≡ next_pending (after_sends i (taken_of o q))
     by None h same ih =
         let e = nothing_waits q.ordered q.unordered q.selected q.ordered_room q.unordered_room n xs s h in
         ap (λ l. slice_get l (suc i)) e ∙ ap (λ l. slice_get l i) (sym e) ∙ same
     by (Some c) h same ih =
         let on = sendable-sent q xs n c c refl s h in
-        ap (λ l. slice_get l (suc i)) on.order ∙ ih (rest_after c.beginning_fragment c.unordered q) (inserted chunk_before c xs) on.sendable
+        ap (λ l. slice_get l (suc i)) on.order ∙ ih (rest_after c.beginning_fragment c.unordered q) (insert_before chunk_before c xs) on.sendable
 
 -- ## The partially sent message
 
@@ -425,10 +415,10 @@ goes_on_in kind n j m [] w e = w
 goes_on_in kind n j m (c ∷ cs) w e = (w.0.1 ∙ e, w.0.0)
 
 -- while a message is partially sent a peek gives its next fragment
-pub goes_on : (q : Pending) (xs : List ChunkPayloadData) (n m : ℕ) → IsSendable q xs n → partially_sent q ≡ Some m → GoesOn m (peeked q)
+pub goes_on : (q : Pending) (xs : List ChunkPayloadData) (n m : ℕ) → IsSendable q xs n → partially_sent q ≡ Some m → GoesOn m (next_pending q)
 goes_on q xs n m s h = by q.selected s.ordered s.unordered h
   where
-    by : (sel : Option Selected) → IsWhole false n (stage_of false sel) q.ordered → IsWhole true n (stage_of true sel) q.unordered → half_of sel ≡ Some m → GoesOn m (peeked (made q.ordered q.unordered sel q.ordered_room q.unordered_room))
+    by : (sel : Option Selected) → IsWhole false n (stage_of false sel) q.ordered → IsWhole true n (stage_of true sel) q.unordered → half_of sel ≡ Some m → GoesOn m (next_pending (made q.ordered q.unordered sel q.ordered_room q.unordered_room))
     by None w v h = absurd (none-some m h)
     by (Some t) w v h = kind t.unordered w v
       where
@@ -447,7 +437,7 @@ begins_in kind n (x ∷ xs) c w h = subst (λ (y : ChunkPayloadData). y.beginnin
     some_is x c h = cc
 
 -- a fragment in front that does not begin is of the partially sent message
-pub half_in_front : (q : Pending) (xs : List ChunkPayloadData) (n : ℕ) (c : ChunkPayloadData) → IsSendable q xs n → peeked q ≡ Some c → c.beginning_fragment ≡ false → partially_sent q ≡ Some c.message_id
+pub half_in_front : (q : Pending) (xs : List ChunkPayloadData) (n : ℕ) (c : ChunkPayloadData) → IsSendable q xs n → next_pending q ≡ Some c → c.beginning_fragment ≡ false → partially_sent q ≡ Some c.message_id
 half_in_front q xs n c s h e = by q.selected refl s.ordered s.unordered
   where
     same_of : (m : ℕ) (o : Option ChunkPayloadData) → o ≡ Some c → GoesOn m o → Some m ≡ Some c.message_id
@@ -459,15 +449,15 @@ half_in_front q xs n c s h e = by q.selected refl s.ordered s.unordered
     front os [] w v h = false≢true (sym e ∙ begins_in false n os c w h)
 
     by : (sel : Option Selected) → q.selected ≡ sel → IsWhole false n (stage_of false sel) q.ordered → IsWhole true n (stage_of true sel) q.unordered → half_of sel ≡ Some c.message_id
-    by None e w v = absurd (front q.ordered q.unordered w v (subst (λ o. peeked_of o q ≡ Some c) e h))
-    by (Some t) e w v = same_of t.message_id (peeked q) h (goes_on q xs n t.message_id s (ap half_of e))
+    by None e w v = absurd (front q.ordered q.unordered w v (subst (λ o. next_pending_of o q ≡ Some c) e h))
+    by (Some t) e w v = same_of t.message_id (next_pending q) h (goes_on q xs n t.message_id s (ap half_of e))
 
 pub half_gone : (m : ℕ) (sel : Option Selected) → half_of sel ≡ Some m → half_of (selected_without m sel) ≡ None
 half_gone m None h = absurd (none-some m h)
 half_gone m (Some t) h = let same : t.message_id ≡ m = cc in let it : (t.message_id == m) ≡ true = grind (arith, nat_tests) in rw it refl
 
 -- the next TSN is taken only with the partially sent message
-pub kept_or_gone : (m tsn : ℕ) (q : Outbound) → (waits m q.pending ≡ true → partially_sent q.pending ≡ Some m) → (tsn_after m tsn q ≡ tsn) ⊎ (partially_sent (abandoned m tsn q).pending ≡ None)
+pub kept_or_gone : (m tsn : ℕ) (q : Outbound) → (waits m q.pending ≡ true → partially_sent q.pending ≡ Some m) → (tsn_after m tsn q ≡ tsn) ⊎ (partially_sent (abandon_chunks m tsn q).pending ≡ None)
 kept_or_gone m tsn q f = step (waits m q.pending) refl
   where
     step : (b : Bool) → waits m q.pending ≡ b → ((if b then following_tsn tsn else tsn) ≡ tsn) ⊎ (half_of (selected_without m q.pending.selected) ≡ None)
@@ -483,5 +473,5 @@ found_in tsn (x ∷ xs) c h = step (has_tsn tsn x) h (found_in tsn xs c)
     it e = grind (arith, nat_tests, ap (λ (y : ChunkPayloadData). y.message_id) e)
 
     step : (b : Bool) → (if b then Some x else find (has_tsn tsn) xs) ≡ Some c → (find (has_tsn tsn) xs ≡ Some c → list_any (is_of c.message_id) xs ≡ true) → list_any (is_of c.message_id) (x ∷ xs) ≡ true
-    step true h ih = let same : x ≡ c = cc in or_left (x.message_id == c.message_id) (list_any (is_of c.message_id) xs) (it same)
-    step false h ih = or_right (x.message_id == c.message_id) (list_any (is_of c.message_id) xs) (ih h)
+    step true h ih = let same : x ≡ c = cc in or-left (x.message_id == c.message_id) (list_any (is_of c.message_id) xs) (it same)
+    step false h ih = or-right (x.message_id == c.message_id) (list_any (is_of c.message_id) xs) (ih h)

@@ -1,25 +1,26 @@
 -- The chunks of one message are put in flight side by side, under TSNs that rise by one.
 use Rattle.std.proofs.Common.{◌≡◌, ◌==◌, ℕ, Bool, true, false, not, ◌||◌, ◌&&◌, if◌then◌else◌, List, [], ◌∷◌, map, max, Option, Some, None, is_some, slice_get, ◌⊎◌, inl, inr, refl, sym, ap, ap₂, ◌∙◌, subst, arith}
-use Rattle.std.specs.List.{find, list_any}
+use Rattle.std.specs.List.{find, list_any, filter}
 use Rattle.std.specs.Option.{option_map}
 use Rattle.std.proofs.lemmas.Bool.{false≢true}
 use Rattle.std.proofs.lemmas.Bool.Decides.{nat_tests}
 use Rattle.std.proofs.lemmas.Option.{none-some}
 use Rattle.sctp_chunks.specs.declared.chunk.chunk_payload_data.ChunkPayloadData.{ChunkPayloadData}
-use Rattle.sctp_list_lemmas.specs.Lists.{change_where, inserted, those}
+use Rattle.sctp_list_lemmas.specs.Lists.{change_where, insert_before}
 use Rattle.sctp_list_lemmas.proofs.Edits.{list_any-inserted}
 use Rattle.sctp_outbound.specs.declared.pending_queue.Selected.{Selected}
-use Rattle.sctp_serial.specs.DataChunks.{chunk_before, has_tsn}
-use Rattle.sctp_outbound.specs.Marks.{acknowledged, as_abandoned, is_of, is_outstanding, with_miss_indicator, with_nsent, with_retransmit, with_since}
+use Rattle.sctp_serial.specs.DataChunks.{chunk_before, has_tsn, following_tsn, is_on}
+use Rattle.sctp_outbound.specs.Marks.{as_acknowledged, as_abandoned, is_of, is_outstanding, with_miss_indicator, with_nsent, with_retransmit, with_since}
 use Rattle.sctp_outbound.specs.outbound_queue.Numbering.{Call, push, start_timed_messages, send_next, abandon, expire_pending, expire_pending_tail, pop, mark_as_acked, mark_all_to_retransmit, set_retransmit, set_nsent, set_since, set_miss_indicator, reserve, reserve_inflight, IsFit, AreFit, Stand, put_before, after, after_all, at_first, AfterEachRun, StandsBehind, StandInLine, RiseByOne, AreConsecutive, is_at, WasPut, PutsInFlight, terminal_chunk_of}
-use Rattle.sctp_outbound.specs.outbound_queue.OutboundQueue.{Outbound, abandoned_of, all_started, appended, terminal_chunk, expired_of, expiring, expiring_tail, following_tsn, is_expired_tail, message_of, numbered, passing, sent_of, to_abandon, tsn_after_of, with_terminal_chunk, with_inflight, with_message_id}
+use Rattle.sctp_outbound.specs.outbound_queue.OutboundQueue.{Outbound, abandoned_of, all_started, append_chunks, terminal_chunk, expired_of, expiring, expiring_tail, is_expired_tail, message_of, as_sent, passing, sent_of, to_abandon, tsn_after_of, with_terminal_chunk, with_inflight, with_message_id}
 use Rattle.sctp_outbound.specs.payload_queue.PayloadQueue as payload
-use Rattle.sctp_outbound.specs.pending_queue.PendingQueue.{Pending, closed_up, is_on, is_to_start, last_removed, list_of, list_to_pop, one_lower, peeked, popped_from, reserved, rest_after, rest_from, selected_after, selected_without, started, with_deadline, without}
+use Rattle.sctp_outbound.specs.pending_queue.PendingQueue.{Pending, closed_up, is_to_start, last_removed, list_of, list_to_pop, one_lower, next_pending, chunk_to_pop_from, with_room, rest_after, rest_from, selected_after, selected_without, start_pending, with_deadline, without}
 use Rattle.sctp_outbound.specs.pending_queue.Whole.{GoesOn, IsMessageOrNone, IsSendable, half_of, partially_sent, waits}
 use Rattle.sctp_outbound.proofs.lemmas.outbound_queue.Abandoned.{last_is_of, last_removed_none, no_last, sendable-abandoned, those_empty}
 use Rattle.sctp_outbound.proofs.lemmas.outbound_queue.Outbounds.{peeked_all_started}
-use Rattle.sctp_outbound.proofs.lemmas.outbound_queue.Sendable.{found_in, goes_on, half_gone, half_in_front, made, or_left, or_right, sendable-changed, sendable-fewer, sendable-ordered_changed, sendable-pushed, sendable-sent, sendable-without}
+use Rattle.sctp_outbound.proofs.lemmas.outbound_queue.Sendable.{found_in, goes_on, half_gone, half_in_front, made, sendable-changed, sendable-fewer, sendable-ordered_changed, sendable-pushed, sendable-sent, sendable-without}
 use Rattle.sctp_outbound.proofs.lemmas.pending_queue.CompleteMessages.{KeepsMessage, list_any-change_where}
+use Rattle.sctp_list_lemmas.proofs.Cases.{or-left, or-right}
 
 -- ## What is kept
 
@@ -90,7 +91,7 @@ any_without_front p tsn [] h = h
 any_without_front p tsn (c ∷ cs) h = step (has_tsn tsn c) h
   where
     step : (b : Bool) → list_any p (if b then cs else c ∷ cs) ≡ true → list_any p (c ∷ cs) ≡ true
-    step true h = or_right (p c) (list_any p cs) h
+    step true h = or-right (p c) (list_any p cs) h
     step false h = h
 
 or_more : (a b c : Bool) → (b ≡ true → c ≡ true) → (a || b) ≡ true → (a || c) ≡ true
@@ -98,7 +99,7 @@ or_more true b c f h = refl
 or_more false b c f h = f h
 
 -- a chunk more, with the same numbers in both
-covers-put : (put xs : List ChunkPayloadData) (t : ChunkPayloadData) → Covers put xs → Covers (t ∷ put) (inserted chunk_before t xs)
+covers-put : (put xs : List ChunkPayloadData) (t : ChunkPayloadData) → Covers put xs → Covers (t ∷ put) (insert_before chunk_before t xs)
 covers-put put xs t covers p looks h = or_more (p t) (list_any p xs) (list_any p put) (covers p looks) (sym (list_any-inserted p chunk_before t xs) ∙ h)
 
 of_numbers : (m : ℕ) → LooksAtNumbers (is_of m)
@@ -108,8 +109,8 @@ at_numbers : (m tsn : ℕ) → LooksAtNumbers (is_at m tsn)
 at_numbers m tsn c d e f = ap₂ (λ k j. (k == m) && (j == tsn)) e f
 
 -- with the chunk in front in place of where it goes
-in_front : (q : Pending) (t : ChunkPayloadData) (put xs : List ChunkPayloadData) (n : ℕ) → ((m : ℕ) → list_any (is_of m) put ≡ list_any (is_of m) xs) → IsSendable q (inserted chunk_before t xs) n → IsSendable q (t ∷ put) n
-in_front q t put xs n same s = sendable-fewer q (inserted chunk_before t xs) (t ∷ put) n (λ m h. list_any-inserted (is_of m) chunk_before t xs ∙ ap (λ b. is_of m t || b) (sym (same m)) ∙ h) s
+in_front : (q : Pending) (t : ChunkPayloadData) (put xs : List ChunkPayloadData) (n : ℕ) → ((m : ℕ) → list_any (is_of m) put ≡ list_any (is_of m) xs) → IsSendable q (insert_before chunk_before t xs) n → IsSendable q (t ∷ put) n
+in_front q t put xs n same s = sendable-fewer q (insert_before chunk_before t xs) (t ∷ put) n (λ m h. list_any-inserted (is_of m) chunk_before t xs ∙ ap (λ b. is_of m t || b) (sym (same m)) ∙ h) s
 
 -- ## Lifetimes
 
@@ -119,9 +120,9 @@ started-kept now s k = step (s.queue.next_unstarted == s.queue.next_message_id)
     keeps : KeepsMessage (with_deadline now)
     keeps = record { number = λ _. refl; begins = λ _. refl; ends = λ _. refl; kind = λ _. refl }
 
-    step : (b : Bool) → IsKept (record s { queue = if b then s.queue else record s.queue { pending = started s.queue.next_unstarted now s.queue.pending; next_unstarted = s.queue.next_message_id } })
+    step : (b : Bool) → IsKept (record s { queue = if b then s.queue else record s.queue { pending = start_pending s.queue.next_unstarted now s.queue.pending; next_unstarted = s.queue.next_message_id } })
     step true = k
-    step false = quiet s.queue (record s.queue { pending = started s.queue.next_unstarted now s.queue.pending; next_unstarted = s.queue.next_message_id }) s.next s.put k
+    step false = quiet s.queue (record s.queue { pending = start_pending s.queue.next_unstarted now s.queue.pending; next_unstarted = s.queue.next_message_id }) s.next s.put k
         (sendable-changed s.queue.pending.ordered s.queue.pending.unordered s.queue.pending.selected s.queue.pending.ordered_room s.queue.pending.unordered_room s.queue.pending.ordered_room s.queue.pending.unordered_room s.put s.queue.next_message_id (is_to_start s.queue.next_unstarted) (is_to_start s.queue.next_unstarted) (with_deadline now) (with_deadline now) keeps keeps k.sendable)
         k.covers (λ m h. h)
 
@@ -134,17 +135,17 @@ front_is_there : (xs : List ChunkPayloadData) (c : ChunkPayloadData) → slice_g
 front_is_there [] c h = absurd (none-some c h)
 front_is_there (x ∷ xs) c h =
     let it : (x.message_id == c.message_id) ≡ true = grind (arith, nat_tests, ap (λ (y : ChunkPayloadData). y.message_id) (some_is x c h)) in
-    or_left (x.message_id == c.message_id) (list_any (is_of c.message_id) xs) it
+    or-left (x.message_id == c.message_id) (list_any (is_of c.message_id) xs) it
 
 -- what a peek shows waits
-peeked_waits : (os us : List ChunkPayloadData) (sel : Option Selected) (ro ru : ℕ) (c : ChunkPayloadData) → peeked (made os us sel ro ru) ≡ Some c → waits c.message_id (made os us sel ro ru) ≡ true
-peeked_waits os (u ∷ us) None ro ru c h = or_left _ _ (front_is_there (u ∷ us) c h)
+peeked_waits : (os us : List ChunkPayloadData) (sel : Option Selected) (ro ru : ℕ) (c : ChunkPayloadData) → next_pending (made os us sel ro ru) ≡ Some c → waits c.message_id (made os us sel ro ru) ≡ true
+peeked_waits os (u ∷ us) None ro ru c h = or-left _ _ (front_is_there (u ∷ us) c h)
 peeked_waits os [] None ro ru c h = front_is_there os c h
 peeked_waits os us (Some s) ro ru c h = by s.unordered h
   where
     by : (b : Bool) → slice_get (list_of b (made os us (Some s) ro ru)) 0 ≡ Some c → (list_any (is_of c.message_id) us || list_any (is_of c.message_id) os) ≡ true
-    by true h = or_left _ _ (front_is_there us c h)
-    by false h = or_right _ _ (front_is_there os c h)
+    by true h = or-left _ _ (front_is_there us c h)
+    by false h = or-right _ _ (front_is_there os c h)
 
 -- after a send the partially sent message is that of the chunk, or the one before
 half_selected : (sel : Option Selected) (kind : Bool) (c : ChunkPayloadData) (m : ℕ) → half_of (selected_after sel kind c) ≡ Some m → (half_of sel ≡ Some m) ⊎ (c.message_id ≡ m)
@@ -159,18 +160,18 @@ half_selected (Some s) kind c m h = step (c.ending_fragment && (c.message_id == 
     step true h = absurd (none-some m h)
     step false h = inl h
 
-half_rest : (k : Option Bool) (os us : List ChunkPayloadData) (sel : Option Selected) (ro ru : ℕ) (c : ChunkPayloadData) (m : ℕ) → popped_from k (made os us sel ro ru) ≡ Some c → partially_sent (rest_from k (made os us sel ro ru)) ≡ Some m → (half_of sel ≡ Some m) ⊎ (c.message_id ≡ m)
+half_rest : (k : Option Bool) (os us : List ChunkPayloadData) (sel : Option Selected) (ro ru : ℕ) (c : ChunkPayloadData) (m : ℕ) → chunk_to_pop_from k (made os us sel ro ru) ≡ Some c → partially_sent (rest_from k (made os us sel ro ru)) ≡ Some m → (half_of sel ≡ Some m) ⊎ (c.message_id ≡ m)
 half_rest None os us sel ro ru c m h e = inl e
 half_rest (Some true) os [] sel ro ru c m h e = inl e
 half_rest (Some true) os (u ∷ us) sel ro ru c m h e = subst (λ (x : ChunkPayloadData). (half_of sel ≡ Some m) ⊎ (x.message_id ≡ m)) (some_is u c h) (half_selected sel true u m e)
 half_rest (Some false) [] us sel ro ru c m h e = inl e
 half_rest (Some false) (o ∷ os) us sel ro ru c m h e = subst (λ (x : ChunkPayloadData). (half_of sel ≡ Some m) ⊎ (x.message_id ≡ m)) (some_is o c h) (half_selected sel false o m e)
 
-sent-kept : (now : ℕ) (s : Stand) → IsKept s → (o : Option ChunkPayloadData) → peeked s.queue.pending ≡ o → IsKept (record { queue = sent_of o s.queue s.next now; next = if is_some o then following_tsn s.next else s.next; put = put_before (option_map (numbered s.next now) o) s.put })
+sent-kept : (now : ℕ) (s : Stand) → IsKept s → (o : Option ChunkPayloadData) → next_pending s.queue.pending ≡ o → IsKept (record { queue = sent_of o s.queue s.next now; next = if is_some o then following_tsn s.next else s.next; put = put_before (option_map (as_sent s.next now) o) s.put })
 sent-kept now s k None h = k
 sent-kept now s k (Some c) h =
     let q = s.queue.pending in
-    let t = numbered s.next now c in
+    let t = as_sent s.next now c in
     let on = sendable-sent q s.put s.queue.next_message_id c t refl k.sendable h in
     puts s.queue (sent_of (Some c) s.queue s.next now) s.next s.put t k refl
     (in_front (rest_after c.beginning_fragment c.unordered q) t s.put s.put s.queue.next_message_id (λ m. refl) on.sendable)
@@ -183,7 +184,7 @@ sent-kept now s k (Some c) h =
     goes m (Some d) e g = ap (λ (x : ChunkPayloadData). x.message_id) (sym (some_is d c e)) ∙ g.0
 
     half : (m : ℕ) → (partially_sent s.queue.pending ≡ Some m) ⊎ (c.message_id ≡ m) → c.message_id ≡ m
-    half m (inl e) = goes m (peeked s.queue.pending) h (goes_on s.queue.pending s.put s.queue.next_message_id m k.sendable e)
+    half m (inl e) = goes m (next_pending s.queue.pending) h (goes_on s.queue.pending s.put s.queue.next_message_id m k.sendable e)
     half m (inr e) = e
 
 -- ## Messages that are abandoned
@@ -239,7 +240,7 @@ not_first true b h = absurd (false≢true h)
 not_first false b h = refl
 
 -- a message whose rest is in front
-tail_half : (s : Stand) → IsKept s → (now : ℕ) (o : Option ChunkPayloadData) → peeked s.queue.pending ≡ o → (m : ℕ) → message_of (passing (is_expired_tail now) o) ≡ Some m → partially_sent s.queue.pending ≡ Some m
+tail_half : (s : Stand) → IsKept s → (now : ℕ) (o : Option ChunkPayloadData) → next_pending s.queue.pending ≡ o → (m : ℕ) → message_of (passing (is_expired_tail now) o) ≡ Some m → partially_sent s.queue.pending ≡ Some m
 tail_half s k now None e m h = absurd (none-some m h)
 tail_half s k now (Some c) e m h = step (is_expired_tail now c) refl h
   where
@@ -267,7 +268,7 @@ expired-kept s k (Some c) = step c.unordered
 
 -- ## Push
 
-half_appended : (b : Bool) (cs : List ChunkPayloadData) (q : Pending) → partially_sent (appended b cs q) ≡ partially_sent q
+half_appended : (b : Bool) (cs : List ChunkPayloadData) (q : Pending) → partially_sent (append_chunks b cs q) ≡ partially_sent q
 half_appended true cs q = refl
 half_appended false cs q = refl
 
@@ -284,7 +285,7 @@ pushed-kept (c ∷ cs) s fit k =
 marked-kept : (t : ChunkPayloadData → Bool) (f : ChunkPayloadData → ChunkPayloadData) → ((c : ChunkPayloadData) → (f c).message_id ≡ c.message_id) → ((c : ChunkPayloadData) → (f c).tsn ≡ c.tsn) → (s : Stand) → IsKept s → IsKept (record s { queue = with_inflight s.queue (change_where t f s.queue.inflight.chunks) })
 marked-kept t f same same' s k = quiet s.queue (with_inflight s.queue (change_where t f s.queue.inflight.chunks)) s.next s.put k k.sendable (covers-changed s.put s.queue.inflight.chunks t f same same' k.covers) (λ m h. h)
 
-reserved-kept : (ordered unordered : ℕ) (s : Stand) → IsKept s → IsKept (record s { queue = record s.queue { pending = reserved s.queue.pending ordered unordered } })
+reserved-kept : (ordered unordered : ℕ) (s : Stand) → IsKept s → IsKept (record s { queue = record s.queue { pending = with_room s.queue.pending ordered unordered } })
 reserved-kept ordered unordered s k = record {
   sendable = record { ordered = k.sendable.ordered; unordered = k.sendable.unordered; apart = k.sendable.apart; sent = k.sendable.sent; below = k.sendable.below };
   covers = k.covers;
@@ -300,12 +301,12 @@ after-kept (push cs) s fit k = pushed-kept cs s fit k
 after-kept (start_timed_messages now) s fit k = started-kept now s k
 after-kept (send_next now) s fit k =
     let r : Stand = record s { queue = all_started now s.queue } in
-    subst (λ b. IsKept (record { queue = sent_of (peeked r.queue.pending) r.queue s.next now; next = if b then following_tsn s.next else s.next; put = put_before (option_map (numbered s.next now) (peeked r.queue.pending)) s.put })) (peeked_all_started now s.queue) (sent-kept now r (started-kept now s k) (peeked r.queue.pending) refl)
+    subst (λ b. IsKept (record { queue = sent_of (next_pending r.queue.pending) r.queue s.next now; next = if b then following_tsn s.next else s.next; put = put_before (option_map (as_sent s.next now) (next_pending r.queue.pending)) s.put })) (peeked_all_started now s.queue) (sent-kept now r (started-kept now s k) (next_pending r.queue.pending) refl)
 after-kept (abandon tsn) s fit k = abandoned_of-kept (to_abandon (find (has_tsn tsn) s.queue.inflight.chunks)) s k (found_half s k tsn (find (has_tsn tsn) s.queue.inflight.chunks) refl)
 after-kept (expire_pending now) s fit k = expired-kept s k (expiring now s.queue)
-after-kept (expire_pending_tail now) s fit k = abandoned_of-kept (message_of (expiring_tail now s.queue)) s k (λ m h _. tail_half s k now (peeked s.queue.pending) refl m h)
+after-kept (expire_pending_tail now) s fit k = abandoned_of-kept (message_of (expiring_tail now s.queue)) s k (λ m h _. tail_half s k now (next_pending s.queue.pending) refl m h)
 after-kept (pop tsn) s fit k = quiet s.queue (with_inflight s.queue (payload.without_front tsn s.queue.inflight.chunks)) s.next s.put k k.sendable (λ p looks h. k.covers p looks (any_without_front p tsn s.queue.inflight.chunks h)) (λ m h. h)
-after-kept (mark_as_acked tsn) s fit k = marked-kept (has_tsn tsn) acknowledged (λ _. refl) (λ _. refl) s k
+after-kept (mark_as_acked tsn) s fit k = marked-kept (has_tsn tsn) as_acknowledged (λ _. refl) (λ _. refl) s k
 after-kept mark_all_to_retransmit s fit k = marked-kept is_outstanding (with_retransmit true) (λ _. refl) (λ _. refl) s k
 after-kept (set_retransmit tsn b) s fit k = marked-kept (has_tsn tsn) (with_retransmit b) (λ _. refl) (λ _. refl) s k
 after-kept (set_nsent tsn n) s fit k = marked-kept (has_tsn tsn) (with_nsent n) (λ _. refl) (λ _. refl) s k
@@ -333,22 +334,22 @@ each_run tsn calls fit = run-kept calls (at_first tsn) fit (first-kept tsn)
 -- ## The law
 
 -- of those in line the chunks of one message have consecutive TSNs
-rise : (m : ℕ) (xs : List ChunkPayloadData) → StandInLine xs → RiseByOne (those (is_of m) xs)
+rise : (m : ℕ) (xs : List ChunkPayloadData) → StandInLine xs → RiseByOne (filter (is_of m) xs)
 rise m [] line = tt
 rise m (c ∷ cs) line = step (c.message_id == m) refl (rise m cs line.1)
   where
-    next_to : (cs : List ChunkPayloadData) → c.message_id ≡ m → StandsBehind c cs → RiseByOne (those (is_of m) cs) → RiseByOne (c ∷ those (is_of m) cs)
+    next_to : (cs : List ChunkPayloadData) → c.message_id ≡ m → StandsBehind c cs → RiseByOne (filter (is_of m) cs) → RiseByOne (c ∷ filter (is_of m) cs)
     next_to [] e b ih = tt
     next_to (d ∷ ds) e b ih = on (list_any (is_of m) (d ∷ ds)) refl
       where
-        on : (a : Bool) → list_any (is_of m) (d ∷ ds) ≡ a → RiseByOne (c ∷ those (is_of m) (d ∷ ds))
+        on : (a : Bool) → list_any (is_of m) (d ∷ ds) ≡ a → RiseByOne (c ∷ filter (is_of m) (d ∷ ds))
         on false h = rw (those_empty (is_of m) (d ∷ ds) h) tt
         on true h =
             let same : d.message_id ≡ c.message_id = b.1 (subst (λ j. list_any (is_of j) (d ∷ ds) ≡ true) (sym e) h) in
             let it : (d.message_id == m) ≡ true = grind (arith, nat_tests, same, e) in
             rw it (b.0, rw it at ih)
 
-    step : (b : Bool) → (c.message_id == m) ≡ b → RiseByOne (those (is_of m) cs) → RiseByOne (if b then c ∷ those (is_of m) cs else those (is_of m) cs)
+    step : (b : Bool) → (c.message_id == m) ≡ b → RiseByOne (filter (is_of m) cs) → RiseByOne (if b then c ∷ filter (is_of m) cs else filter (is_of m) cs)
     step true e ih = next_to cs (grind (arith, nat_tests)) line.0 ih
     step false e ih = ih
 
@@ -369,12 +370,12 @@ own t =
     let b : (t.tsn == t.tsn) ≡ true = grind (arith, nat_tests) in
     ap₂ (λ x y. x && y) a b
 
-there : (t u : ChunkPayloadData) (xs : List ChunkPayloadData) → u ≡ t → list_any (is_at t.message_id t.tsn) (inserted chunk_before u xs) ≡ true
-there t u xs e = list_any-inserted (is_at t.message_id t.tsn) chunk_before u xs ∙ or_left _ _ (subst (λ x. is_at t.message_id t.tsn x ≡ true) (sym e) (own t))
+there : (t u : ChunkPayloadData) (xs : List ChunkPayloadData) → u ≡ t → list_any (is_at t.message_id t.tsn) (insert_before chunk_before u xs) ≡ true
+there t u xs e = list_any-inserted (is_at t.message_id t.tsn) chunk_before u xs ∙ or-left _ _ (subst (λ x. is_at t.message_id t.tsn x ≡ true) (sym e) (own t))
 
-sent_there : (now next : ℕ) (q : Outbound) (t : ChunkPayloadData) (o : Option ChunkPayloadData) → option_map (numbered next now) o ≡ Some t → list_any (is_at t.message_id t.tsn) (sent_of o q next now).inflight.chunks ≡ true
+sent_there : (now next : ℕ) (q : Outbound) (t : ChunkPayloadData) (o : Option ChunkPayloadData) → option_map (as_sent next now) o ≡ Some t → list_any (is_at t.message_id t.tsn) (sent_of o q next now).inflight.chunks ≡ true
 sent_there now next q t None h = absurd (none-some t h)
-sent_there now next q t (Some c) h = there t (numbered next now c) q.inflight.chunks (some_is (numbered next now c) t h)
+sent_there now next q t (Some c) h = there t (as_sent next now c) q.inflight.chunks (some_is (as_sent next now c) t h)
 
 mark_there : (next : ℕ) (q : payload.Payload) (t : ChunkPayloadData) (o : Option ChunkPayloadData) → option_map (terminal_chunk next) o ≡ Some t → list_any (is_at t.message_id t.tsn) (with_terminal_chunk o next q).chunks ≡ true
 mark_there next q t None h = absurd (none-some t h)
@@ -385,7 +386,7 @@ abandoned_there None next q t h = absurd (none-some t h)
 abandoned_there (Some m) next q t h = mark_there next (payload.with_chunks q.inflight (change_where (is_of m) as_abandoned q.inflight.chunks)) t (last_removed m q.pending) h
 
 pub puts_in_flight : PutsInFlight
-puts_in_flight (send_next now) q next t h = sent_there now next (all_started now q) t (peeked (all_started now q).pending) h
+puts_in_flight (send_next now) q next t h = sent_there now next (all_started now q) t (next_pending (all_started now q).pending) h
 puts_in_flight (abandon tsn) q next t h = abandoned_there (to_abandon (find (has_tsn tsn) q.inflight.chunks)) next q t h
 puts_in_flight (expire_pending_tail now) q next t h = abandoned_there (message_of (expiring_tail now q)) next q t h
 puts_in_flight _ q next t h = absurd (none-some t h)

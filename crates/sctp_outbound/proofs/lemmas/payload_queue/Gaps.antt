@@ -1,7 +1,7 @@
 -- Distances along held chunks, and the blocks of those in reach.
 use Rattle.std.proofs.Common.{◌≡◌, ◌==◌, ◌||◌, ◌&&◌, ◌+◌, ◌-◌, ◌%◌, ◌^◌, ◌<◌, ◌≤◌, ℕ, zero, suc, Bool, true, false, IsTrue, if◌then◌else◌, List, [], ◌∷◌, ◌++◌, map, length, get_or, take, drop, get_or-drop, length-drop, Some, inl, inr, refl, sym, ap, ap₂, ◌∙◌, subst, arith, append-nil, append_assoc}
 use Rattle.std.specs.Prelude.{nat_le}
-use Rattle.std.specs.List.{All, list_any, slice_get}
+use Rattle.std.specs.List.{All, list_any, slice_get, filter}
 use Rattle.std.specs.Option.{option_map}
 use Rattle.std.proofs.lemmas.Bool.{cases_lt, cases_eq}
 use Rattle.std.proofs.lemmas.Bool.Decides.{nat_tests}
@@ -10,19 +10,17 @@ use Rattle.std.proofs.lemmas.List.Elements.{All-head, All-tail}
 use Rattle.std.proofs.lemmas.List.Folds.{list_any_more, list_any_none}
 use Rattle.sctp_chunks.specs.declared.chunk.chunk_selective_ack.GapAckBlock.{GapAckBlock}
 use Rattle.sctp_chunks.specs.declared.chunk.chunk_payload_data.ChunkPayloadData.{ChunkPayloadData}
-use Rattle.sctp_list_lemmas.specs.Kept.{joined, runs_of}
-use Rattle.sctp_list_lemmas.specs.Lists.{those}
+use Rattle.sctp_list_lemmas.specs.Kept.{put_before_runs, runs_of}
 use Rattle.sctp_list_lemmas.specs.Serial.{distance, comes_before, at_or_before}
-use Rattle.sctp_list_lemmas.proofs.Edits.{those-append, list_any-append}
+use Rattle.sctp_list_lemmas.proofs.Edits.{those-append, list_any-append, or_assoc}
 use Rattle.sctp_list_lemmas.proofs.Distances.{distance_cases, before_is, distance_by_before}
 use Rattle.sctp_serial.specs.Runs.{IsRising}
 use Rattle.sctp_serial.specs.Window.{IsSerial, IsHeldAt, IsPlaceFor, IsWithinHalf, SpansOneWindow}
-use Rattle.sctp_outbound.specs.payload_queue.Blocks.{AscendsFrom, IsFirstAfter, IsRunUntil, is_offset, is_reported, covered, gap_offsets, ends_of}
+use Rattle.sctp_outbound.specs.payload_queue.Blocks.{AscendsFrom, IsFirstAfter, IsRunUntil, is_offset, is_reported, is_in_blocks, gap_offsets, ends_of}
+use Rattle.sctp_list_lemmas.proofs.Cases.{or-none}
+use Rattle.sctp_serial.proofs.lemmas.AscendingEdits.{distance_self}
 
 -- ## Distances
-
-pub no_distance : (a : ℕ) → a < 2 ^ 32 → distance a a ≡ 0
-no_distance a h = elim (distance_cases a a h h) [ inl p ↦ omega arith | inr p ↦ absurd (omega arith) ]
 
 -- one farther is the next number
 pub next_of : (a x y : ℕ) → a < 2 ^ 32 → x < 2 ^ 32 → y < 2 ^ 32 → distance a y ≡ distance a x + 1 → y ≡ (x + 1) % 2 ^ 32
@@ -51,7 +49,7 @@ module _ (xs : List ChunkPayloadData) (serial : IsSerial xs) (i : ℕ) (d : Chun
         distance_by_before (get_or xs i d).tsn (get_or xs k d).tsn (get_or xs (k + 1) d).tsn (serial.in_range i d (omega arith)) (serial.in_range k d (omega arith)) (serial.in_range (k + 1) d short)
         p.0 (omega (arith, p)) q.0 (omega (arith, q)) (serial.ascending k (k + 1) d (omega arith) short)
     | inr at ↦
-        let here : far k ≡ 0 = subst (λ j. distance (get_or xs i d).tsn (get_or xs j d).tsn ≡ 0) {x = i} (omega arith) (no_distance (get_or xs i d).tsn (serial.in_range i d (omega arith))) in
+        let here : far k ≡ 0 = subst (λ j. distance (get_or xs i d).tsn (get_or xs j d).tsn ≡ 0) {x = i} (omega arith) (distance_self (get_or xs i d).tsn (serial.in_range i d (omega arith))) in
         let q = before_is (get_or xs i d).tsn (get_or xs (k + 1) d).tsn (serial.ascending i (k + 1) d (omega arith) short) in
         omega (arith, q)
   ]
@@ -66,7 +64,7 @@ module _ (xs : List ChunkPayloadData) (serial : IsSerial xs) (i : ℕ) (d : Chun
   -- so there are at most half a circle of places
   pub few : i + 1 < length xs → (k : ℕ) → i < k → k < length xs → k < i + 2 ^ 31
   few some k lt short =
-      let own : far i ≡ 0 = no_distance (get_or xs i d).tsn (serial.in_range i d (omega arith)) in
+      let own : far i ≡ 0 = distance_self (get_or xs i d).tsn (serial.in_range i d (omega arith)) in
       let p = before_is (get_or xs i d).tsn (get_or xs k d).tsn (serial.ascending i k d lt short) in
       let s : far i + (k - i) ≤ far k = subst (λ j. far i + (k - i) ≤ far j) {x = i + (k - i)} (omega arith) (spread i (k - i) (omega arith) (omega arith)) in
       omega (arith, p)
@@ -74,7 +72,7 @@ module _ (xs : List ChunkPayloadData) (serial : IsSerial xs) (i : ℕ) (d : Chun
   -- as far as the places are apart, so is each between
   pub rising_from_distance : (s : ℕ) → i + s < length xs → far (i + s) ≡ s → IsRising xs i (i + s)
   rising_from_distance s short e k c le lt =
-      let own : far i ≡ 0 = no_distance (get_or xs i d).tsn (serial.in_range i d (omega arith)) in
+      let own : far i ≡ 0 = distance_self (get_or xs i d).tsn (serial.in_range i d (omega arith)) in
       let low : far i + (k - i) ≤ far k = subst (λ j. far i + (k - i) ≤ far j) {x = i + (k - i)} (omega arith) (spread i (k - i) (omega arith) (omega arith)) in
       let more = step_far k le (omega arith) in
       let high : far (k + 1) + (i + s - (k + 1)) ≤ far (i + s) = subst (λ j. far (k + 1) + (i + s - (k + 1)) ≤ far j) {x = k + 1 + (i + s - (k + 1))} (omega arith) (spread (k + 1) (i + s - (k + 1)) (omega arith) (omega arith)) in
@@ -83,7 +81,7 @@ module _ (xs : List ChunkPayloadData) (serial : IsSerial xs) (i : ℕ) (d : Chun
       (next_of (get_or xs i d).tsn (get_or xs k d).tsn (get_or xs (k + 1) d).tsn (serial.in_range i d (omega arith)) (serial.in_range k d (omega arith)) (serial.in_range (k + 1) d (omega arith)) (omega arith)))
 
   pub distance_from_rising : (s : ℕ) → i + s < length xs → IsRising xs i (i + s) → far (i + s) ≡ s
-  distance_from_rising zero short r = subst (λ j. far j ≡ 0) {x = i} (omega arith) (no_distance (get_or xs i d).tsn (serial.in_range i d (omega arith)))
+  distance_from_rising zero short r = subst (λ j. far j ≡ 0) {x = i} (omega arith) (distance_self (get_or xs i d).tsn (serial.in_range i d (omega arith)))
   distance_from_rising (suc s) short r =
       let before = distance_from_rising s (omega arith) (λ k c le lt. r k c le (omega arith)) in
       let more = step_far (i + s) (omega arith) (omega arith) in
@@ -189,7 +187,7 @@ module _ (cumulative : ℕ) (xs : List ChunkPayloadData) (fits : cumulative < 2 
     in_range = omega (arith, held.in_range);
     before = λ k d lt. elim (cases_lt k place) [
       | inl low ↦ out_before cumulative (get_or xs k d).tsn fits (serial.in_range k d (omega (arith, held.in_range))) (subst (λ t. IsTrue (comes_before (get_or xs k d).tsn t)) (number d) (serial.ascending k place d low held.in_range))
-      | inr at ↦ subst (λ j. is_offset (distance cumulative (get_or xs j d).tsn) ≡ false) {x = place} (omega arith) (subst (λ t. is_offset (distance cumulative t) ≡ false) (sym (number d)) (ap is_offset (no_distance cumulative fits)))
+      | inr at ↦ subst (λ j. is_offset (distance cumulative (get_or xs j d).tsn) ≡ false) {x = place} (omega arith) (subst (λ t. is_offset (distance cumulative t) ≡ false) (sym (number d)) (ap is_offset (distance_self cumulative fits)))
     ];
     ascends = ascends_behind (place + 1) (λ k d le short. subst (λ t. IsTrue (comes_before t (get_or xs k d).tsn)) (number d) (serial.ascending place k d (omega arith) short));
   }
@@ -210,7 +208,7 @@ module _ (cumulative : ℕ) (xs : List ChunkPayloadData) (fits : cumulative < 2 
     | inr at ↦
         let small : front < 2 ^ 32 = subst (λ t. t < 2 ^ 32) (read d).1 (serial.in_range 0 d (omega arith)) in
         let same : (get_or xs k d).tsn ≡ front = ap (λ j. (get_or xs j d).tsn) {y = 0} (omega arith) ∙ (read d).1 in
-        let zero_far : distance front (get_or xs k d).tsn ≡ 0 = ap (distance front) same ∙ no_distance front small in
+        let zero_far : distance front (get_or xs k d).tsn ≡ 0 = ap (distance front) same ∙ distance_self front small in
         omega arith
   ]
 
@@ -230,7 +228,7 @@ module _ (cumulative : ℕ) (xs : List ChunkPayloadData) (fits : cumulative < 2 
                 distance_by_before front (get_or xs i d).tsn (get_or xs j d).tsn (small d) (serial.in_range i d (omega arith)) (serial.in_range j d short) p.0 (omega (arith, p)) q.0 (omega (arith, q)) (serial.ascending i j d lt short)
             | inr at ↦
                 let q = before_is front (get_or xs j d).tsn (subst (λ n. IsTrue (comes_before n (get_or xs j d).tsn)) (read d).1 (serial.ascending 0 j d (omega arith) short)) in
-                let zero_far : distance front (get_or xs i d).tsn ≡ 0 = ap (λ n. distance front (get_or xs n d).tsn) {y = 0} (omega arith) ∙ ap (distance front) (read d).1 ∙ no_distance front (small d) in
+                let zero_far : distance front (get_or xs i d).tsn ≡ 0 = ap (λ n. distance front (get_or xs n d).tsn) {y = 0} (omega arith) ∙ ap (distance front) (read d).1 ∙ distance_self front (small d) in
                 omega (arith, q)
           ] in
           omega (arith, s, t);
@@ -282,14 +280,6 @@ in_first n s = grind (arith, nat_tests)
 in_more : (n s e : ℕ) → s ≤ e → ((nat_le s n && nat_le n e) || (n == e + 1)) ≡ (nat_le s n && nat_le n (e + 1))
 in_more n s e le = grind (arith, nat_tests)
 
-or_assoc : (a b c : Bool) → ((a || b) || c) ≡ (a || (b || c))
-or_assoc true b c = refl
-or_assoc false b c = refl
-
-pub or_false : (a : Bool) → (a || false) ≡ a
-or_false true = refl
-or_false false = refl
-
 -- a distance put behind runs: it joins the last where it is next to it
 extended_by : ℕ → List (ℕ × ℕ) → List (ℕ × ℕ)
 extended_by d [] = (d, d) ∷ []
@@ -297,14 +287,14 @@ extended_by d (b ∷ []) = if b.1 + 1 == d then (b.0, d) ∷ [] else b ∷ (d, d
 extended_by d (b ∷ c ∷ cs) = b ∷ extended_by d (c ∷ cs)
 
 -- to put a distance before runs and one behind is one, in either order
-one_run : (x d s e : ℕ) (last first : Bool) → (e + 1 == d) ≡ last → (s == x + 1) ≡ first → joined x (extended_by d ((s, e) ∷ [])) ≡ extended_by d (joined x ((s, e) ∷ []))
+one_run : (x d s e : ℕ) (last first : Bool) → (e + 1 == d) ≡ last → (s == x + 1) ≡ first → put_before_runs x (extended_by d ((s, e) ∷ [])) ≡ extended_by d (put_before_runs x ((s, e) ∷ []))
 unfolding extended_by
 one_run x d s e true true l f = simp (l, f) refl
 one_run x d s e true false l f = simp (l, f) refl
 one_run x d s e false true l f = simp (l, f) refl
 one_run x d s e false false l f = simp (l, f) refl
 
-joined-extended_by : (x d : ℕ) (bs : List (ℕ × ℕ)) → joined x (extended_by d bs) ≡ extended_by d (joined x bs)
+joined-extended_by : (x d : ℕ) (bs : List (ℕ × ℕ)) → put_before_runs x (extended_by d bs) ≡ extended_by d (put_before_runs x bs)
 unfolding extended_by
 joined-extended_by x d [] = let e : (d == x + 1) ≡ (x + 1 == d) = grind (arith, nat_tests) in ap (λ b. if b then (x, d) ∷ [] else (x, x) ∷ (d, d) ∷ []) e
 joined-extended_by x d (b ∷ []) = one_run x d b.0 b.1 (b.1 + 1 == d) (b.0 == x + 1) refl refl
@@ -317,7 +307,7 @@ joined-extended_by x d (b ∷ c ∷ cs) = first (b.0 == x + 1)
 runs_of-snoc : (ds : List ℕ) (d : ℕ) → runs_of (ds ++ d ∷ []) ≡ extended_by d (runs_of ds)
 unfolding extended_by
 runs_of-snoc [] d = refl
-runs_of-snoc (x ∷ ds) d = ap (joined x) (runs_of-snoc ds d) ∙ joined-extended_by x d (runs_of ds)
+runs_of-snoc (x ∷ ds) d = ap (put_before_runs x) (runs_of-snoc ds d) ∙ joined-extended_by x d (runs_of ds)
 
 -- distances put behind others take no run away
 longer : (d : ℕ) (bs : List (ℕ × ℕ)) → length bs ≤ length (extended_by d bs)
@@ -357,8 +347,8 @@ gap_offsets-more : (cumulative : ℕ) (xs : List ChunkPayloadData) (i : ℕ) (d 
 gap_offsets-more cumulative xs i d offset lt e pos small =
     let front = map (λ (c : ChunkPayloadData). distance cumulative c.tsn) (take i xs) in
     let reached : is_offset offset ≡ true = grind (arith, nat_tests) in
-    ap (those is_offset) (map_more (λ (c : ChunkPayloadData). distance cumulative c.tsn) xs i d lt) ∙ those-append is_offset front _
-    ∙ ap (λ o. those is_offset front ++ (if is_offset o then o ∷ [] else [])) e ∙ ap (λ b. those is_offset front ++ (if b then offset ∷ [] else [])) reached
+    ap (filter is_offset) (map_more (λ (c : ChunkPayloadData). distance cumulative c.tsn) xs i d lt) ∙ those-append is_offset front _
+    ∙ ap (λ o. filter is_offset front ++ (if is_offset o then o ∷ [] else [])) e ∙ ap (λ b. filter is_offset front ++ (if b then offset ∷ [] else [])) reached
 
 -- the chunks from a place on lie at an offset and the n next to it, all of which a block can hold
 pub record InReach (cumulative : ℕ) (xs : List ChunkPayloadData) (place : ℕ) (d : ChunkPayloadData) (offset n : ℕ) : Type 0 where
@@ -390,17 +380,17 @@ module _ (cumulative : ℕ) (xs : List ChunkPayloadData) (place : ℕ) (d : Chun
       (ap runs_of (gap_offsets-more cumulative xs (place + n + 1) d (offset + n + 1) (omega (arith, r.in_range)) own (omega arith) (omega (arith, r.small))) ∙ runs_of-snoc (gap_offsets cumulative (take (place + n + 1) xs)) (offset + n + 1)
       ∙ ap (extended_by (offset + n + 1)) (sym (runs_more n short apart before)) ∙ extended_by-next offset (offset + n) (map ends_of bs) ∙ ap (λ e. map ends_of bs ++ (offset, e) ∷ []) (omega arith)))
 
-  pub covered_more : (m n : ℕ) → InReach cumulative xs place d offset n → covered bs m ≡ list_any (is_reported cumulative m) (take place xs) → (covered bs m || (nat_le offset m && nat_le m (offset + n))) ≡ list_any (is_reported cumulative m) (take (place + n + 1) xs)
+  pub covered_more : (m n : ℕ) → InReach cumulative xs place d offset n → is_in_blocks bs m ≡ list_any (is_reported cumulative m) (take place xs) → (is_in_blocks bs m || (nat_le offset m && nat_le m (offset + n))) ≡ list_any (is_reported cumulative m) (take (place + n + 1) xs)
   covered_more m zero r before =
       let own = first_there 0 r in
-      sym (subst (λ j. list_any (is_reported cumulative m) (take j xs) ≡ (covered bs m || (nat_le offset m && nat_le m (offset + 0)))) {x = place + 1} (omega arith)
+      sym (subst (λ j. list_any (is_reported cumulative m) (take j xs) ≡ (is_in_blocks bs m || (nat_le offset m && nat_le m (offset + 0)))) {x = place + 1} (omega arith)
       (list_any_more (is_reported cumulative m) xs place d (omega (arith, r.in_range)) ∙ ap₂ (λ a b. a || b) (sym before) (reported_is cumulative m offset (get_or xs place d) own r.positive (omega (arith, r.small)) ∙ in_first m offset ∙ ap (λ e. nat_le offset m && nat_le m e) (omega arith))))
   covered_more m (suc n) r before =
       let short = one_less n r in
       let own = last_there n r in
-      sym (subst (λ j. list_any (is_reported cumulative m) (take j xs) ≡ (covered bs m || (nat_le offset m && nat_le m (offset + suc n)))) {x = place + n + 1 + 1} (omega arith)
+      sym (subst (λ j. list_any (is_reported cumulative m) (take j xs) ≡ (is_in_blocks bs m || (nat_le offset m && nat_le m (offset + suc n)))) {x = place + n + 1 + 1} (omega arith)
       (list_any_more (is_reported cumulative m) xs (place + n + 1) d (omega (arith, r.in_range)) ∙ ap₂ (λ a b. a || b) (sym (covered_more m n short before)) (reported_is cumulative m (offset + n + 1) (get_or xs (place + n + 1) d) own (omega arith) (omega (arith, r.small)))
-      ∙ or_assoc (covered bs m) _ _ ∙ ap (λ b. covered bs m || b) (in_more m offset (offset + n) (omega arith) ∙ ap (λ e. nat_le offset m && nat_le m e) (omega arith))))
+      ∙ or_assoc (is_in_blocks bs m) _ _ ∙ ap (λ b. is_in_blocks bs m || b) (in_more m offset (offset + n) (omega arith) ∙ ap (λ e. nat_le offset m && nat_le m e) (omega arith))))
 
 -- the distances along a run
 pub run_distances : (cumulative : ℕ) (xs : List ChunkPayloadData) (place last : ℕ) → cumulative < 2 ^ 32 → IsSerial xs → AscendsFrom cumulative xs place → last < length xs → IsRising xs place last → (d : ChunkPayloadData) (n : ℕ) → place + n ≤ last → distance cumulative (get_or xs (place + n) d).tsn ≡ distance cumulative (get_or xs place d).tsn + n
@@ -457,17 +447,17 @@ module _ (cumulative : ℕ) (xs : List ChunkPayloadData) (place : ℕ) where
     pub rest_offsets : gap_offsets cumulative (take place xs) ≡ gap_offsets cumulative xs
     rest_offsets =
         let front = map (λ (c : ChunkPayloadData). distance cumulative c.tsn) (take place xs) in
-        sym (ap (gap_offsets cumulative) (sym (take-append-drop place xs)) ∙ ap (those is_offset) (map-append (λ (c : ChunkPayloadData). distance cumulative c.tsn) (take place xs) (drop place xs)) ∙ those-append is_offset front _
-        ∙ ap (λ ds. those is_offset front ++ ds) (none_in_reach cumulative (drop place xs) rest_out) ∙ append-nil _)
+        sym (ap (gap_offsets cumulative) (sym (take-append-drop place xs)) ∙ ap (filter is_offset) (map-append (λ (c : ChunkPayloadData). distance cumulative c.tsn) (take place xs) (drop place xs)) ∙ those-append is_offset front _
+        ∙ ap (λ ds. filter is_offset front ++ ds) (none_in_reach cumulative (drop place xs) rest_out) ∙ append-nil _)
 
     pub rest_reported : (n : ℕ) → list_any (is_reported cumulative n) (take place xs) ≡ list_any (is_reported cumulative n) xs
-    rest_reported n = sym (ap (list_any (is_reported cumulative n)) (sym (take-append-drop place xs)) ∙ list_any-append (is_reported cumulative n) (take place xs) (drop place xs) ∙ ap (λ b. list_any (is_reported cumulative n) (take place xs) || b) (none_reported cumulative n (drop place xs) rest_out) ∙ or_false _)
+    rest_reported n = sym (ap (list_any (is_reported cumulative n)) (sym (take-append-drop place xs)) ∙ list_any-append (is_reported cumulative n) (take place xs) (drop place xs) ∙ ap (λ b. list_any (is_reported cumulative n) (take place xs) || b) (none_reported cumulative n (drop place xs) rest_out) ∙ or-none _)
 
 -- the chunks in front have no more runs than all
 pub front_runs : (cumulative : ℕ) (xs : List ChunkPayloadData) (place : ℕ) → length (runs_of (gap_offsets cumulative (take place xs))) ≤ length (runs_of (gap_offsets cumulative xs))
 front_runs cumulative xs place =
     let far = λ (c : ChunkPayloadData). distance cumulative c.tsn in
-    let whole = ap (gap_offsets cumulative) (sym (take-append-drop place xs)) ∙ ap (those is_offset) (map-append far (take place xs) (drop place xs)) ∙ those-append is_offset (map far (take place xs)) (map far (drop place xs)) in
+    let whole = ap (gap_offsets cumulative) (sym (take-append-drop place xs)) ∙ ap (filter is_offset) (map-append far (take place xs) (drop place xs)) ∙ those-append is_offset (map far (take place xs)) (map far (drop place xs)) in
     omega (arith, runs_grow (gap_offsets cumulative (take place xs)) (gap_offsets cumulative (drop place xs)), ap (λ ds. length (runs_of ds)) whole)
 
 -- once out of reach, all is

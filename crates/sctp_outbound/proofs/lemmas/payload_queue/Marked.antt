@@ -3,9 +3,9 @@ use Rattle.std.proofs.Common.{◌≡◌, refl}
 use Rattle.sctp_chunks.specs.declared.chunk.chunk_payload_data.ChunkPayloadData.{ChunkPayloadData}
 use Rattle.sctp_outbound.specs.declared.payload_queue.held.Mark.{Mark}
 use Rattle.sctp_outbound.specs.declared.payload_queue.held.Mark.TheVariants.{Acknowledged, Abandoned, Retransmit, Nsent, Since, MissIndicator}
-use Rattle.sctp_outbound.specs.Marks.{marked}
+use Rattle.sctp_outbound.specs.Marks.{with_mark}
 
-pub marked-tsn : (mark : Mark) (c : ChunkPayloadData) → (marked mark c).tsn ≡ c.tsn
+pub marked-tsn : (mark : Mark) (c : ChunkPayloadData) → (with_mark mark c).tsn ≡ c.tsn
 marked-tsn Acknowledged c = refl
 marked-tsn Abandoned c = refl
 marked-tsn (Retransmit b) c = refl

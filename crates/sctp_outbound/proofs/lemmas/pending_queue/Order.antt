@@ -5,11 +5,7 @@ use Rattle.std.proofs.lemmas.Bool.{false≢true}
 use Rattle.sctp_chunks.specs.declared.chunk.chunk_payload_data.ChunkPayloadData.{ChunkPayloadData}
 use Rattle.sctp_outbound.specs.pending_queue.Whole.{ends, has_end, in_order, ordered_first, until_end, rest_then}
 use Rattle.sctp_outbound.specs.declared.pending_queue.Selected.{Selected}
-
-pub slice_get-append_left : {X : Type 0} (xs ys : List X) (i : ℕ) → i < length xs → slice_get (xs ++ ys) i ≡ slice_get xs i
-slice_get-append_left [] ys i lt = absurd (omega arith)
-slice_get-append_left (x ∷ xs) ys zero lt = refl
-slice_get-append_left (x ∷ xs) ys (suc i) lt = slice_get-append_left xs ys i (omega arith)
+use Rattle.sctp_list_lemmas.proofs.Getting.{slice-front}
 
 pub slice_get-append_right : {X : Type 0} (xs ys : List X) (i j : ℕ) → i ≡ length xs + j → slice_get (xs ++ ys) i ≡ slice_get ys j
 slice_get-append_right [] ys i j e = ap (slice_get ys) (omega arith)
@@ -34,7 +30,7 @@ rest_then-unordered (c ∷ cs) us i j h e lt = step c.ending_fragment i h e (λ 
   where
     step : (b : Bool) (i : ℕ) → (b || list_any ends cs) ≡ true → i ≡ (if b then 1 else until_end cs + 1) + j → ((k : ℕ) → list_any ends cs ≡ true → k ≡ until_end cs + j → slice_get (rest_then cs us) k ≡ slice_get us j) → slice_get (if b then c ∷ (us ++ cs) else c ∷ rest_then cs us) i ≡ slice_get us j
     step true zero h e ih = absurd (omega arith)
-    step true (suc i) h e ih = ap (slice_get (us ++ cs)) {y = j} (omega arith) ∙ slice_get-append_left us cs j lt
+    step true (suc i) h e ih = ap (slice_get (us ++ cs)) {y = j} (omega arith) ∙ slice-front us cs j lt
     step false zero h e ih = absurd (omega arith)
     step false (suc i) h e ih = ih i h (omega arith)
 
@@ -73,11 +69,11 @@ at_first (Some s) os us i lt = by s.unordered lt
     by false lt = rest_then-first os us i lt
 
 pub at_unordered : (sel : Option Selected) (os us : List ChunkPayloadData) (i j : ℕ) → has_end sel os ≡ true → i ≡ ordered_first sel os + j → j < length us → slice_get (in_order sel os us) i ≡ slice_get us j
-at_unordered None os us i j h e lt = ap (slice_get (us ++ os)) {y = j} (omega arith) ∙ slice_get-append_left us os j lt
+at_unordered None os us i j h e lt = ap (slice_get (us ++ os)) {y = j} (omega arith) ∙ slice-front us os j lt
 at_unordered (Some s) os us i j h e lt = by s.unordered h e
   where
     by : (k : Bool) → (if k then true else list_any ends os) ≡ true → i ≡ (if k then 0 else until_end os) + j → slice_get (if k then us ++ os else rest_then os us) i ≡ slice_get us j
-    by true h e = ap (slice_get (us ++ os)) {y = j} (omega arith) ∙ slice_get-append_left us os j lt
+    by true h e = ap (slice_get (us ++ os)) {y = j} (omega arith) ∙ slice-front us os j lt
     by false h e = rest_then-unordered os us i j h e lt
 
 pub at_last : (sel : Option Selected) (os us : List ChunkPayloadData) (i j : ℕ) → has_end sel os ≡ true → i ≡ j + length us → ordered_first sel os ≤ j → slice_get (in_order sel os us) i ≡ slice_get os j

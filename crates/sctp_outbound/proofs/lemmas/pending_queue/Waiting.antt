@@ -2,18 +2,19 @@
 use Rattle.std.proofs.Common.{◌≡◌, ◌+◌, ◌≤◌, Bool, true, false, not, if◌then◌else◌, List, [], ◌∷◌, ◌++◌, length, Option, Some, None, option_to_list, refl, sym, ap, ap₂, ◌∙◌, append-nil, arith}
 use Rattle.std.specs.Option.{option_or}
 use Rattle.std.proofs.lemmas.List.Sums.{sum_by-cons}
+use Rattle.std.specs.List.{filter}
 use Rattle.sctp_chunks.specs.declared.chunk.chunk_payload_data.ChunkPayloadData.{ChunkPayloadData}
-use Rattle.sctp_list_lemmas.specs.Lists.{change_where, those}
+use Rattle.sctp_list_lemmas.specs.Lists.{change_where}
 use Rattle.sctp_list_lemmas.proofs.Edits.{sum_by-those_both}
 use Rattle.sctp_serial.specs.DataChunks.{bytes_of}
 use Rattle.sctp_outbound.specs.pending_queue.PendingQueue.{last_of}
 
 -- what is removed and what is left are all
-pub removed_and_left : (p : ChunkPayloadData → Bool) (xs : List ChunkPayloadData) → bytes_of (those (λ c. not (p c)) xs) + bytes_of (those p xs) ≡ bytes_of xs
+pub removed_and_left : (p : ChunkPayloadData → Bool) (xs : List ChunkPayloadData) → bytes_of (filter (λ c. not (p c)) xs) + bytes_of (filter p xs) ≡ bytes_of xs
 removed_and_left p xs = sum_by-those_both p (λ c. length c.user_data) xs
 
 -- what is removed is no more than all
-pub removed_le : (p : ChunkPayloadData → Bool) (xs : List ChunkPayloadData) → bytes_of (those p xs) ≤ bytes_of xs
+pub removed_le : (p : ChunkPayloadData → Bool) (xs : List ChunkPayloadData) → bytes_of (filter p xs) ≤ bytes_of xs
 removed_le p xs = let both = removed_and_left p xs in omega arith
 
 -- a change that leaves the bytes

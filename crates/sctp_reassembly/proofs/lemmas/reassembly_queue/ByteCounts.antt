@@ -1,40 +1,40 @@
 -- The byte count follows what is held.
 use Rattle.std.proofs.Common.{◌≡◌, ℕ, ◌+◌, ◌-◌, ◌^◌, ◌<◌, ◌&&◌, ◌||◌, Bool, true, false, not, if◌then◌else◌, List, [], ◌∷◌, ◌++◌, Some, None, Result, Ok, Err, OnOk, OnErr, IfOk, length, take, drop, refl, sym, ap, ◌∙◌, arith}
-use Rattle.std.specs.List.{list_any, sum_by}
+use Rattle.std.specs.List.{list_any, sum_by, filter}
 use Rattle.std.proofs.lemmas.Bool.{true≢false}
 use Rattle.std.proofs.lemmas.List.{take-append-drop, drop-drop}
 use Rattle.std.proofs.lemmas.List.Sums.{sum_by-cons, sum_by-append}
 use Rattle.sctp_list_lemmas.specs.Serial.{at_or_before, at_or_before16, comes_before16}
-use Rattle.sctp_list_lemmas.specs.Lists.{inserted, change_first, those, after_leading}
+use Rattle.sctp_list_lemmas.specs.Lists.{insert_before, change_first, after_leading}
 use Rattle.sctp_chunks.specs.declared.chunk.chunk_payload_data.ChunkPayloadData.{ChunkPayloadData}
 use Rattle.sctp_chunks.specs.ChunkSet.{ChunkSet}
 use Rattle.sctp_reassembly.specs.reassembly_queue.Fragments.{has_ssn, with_chunk, new_set, sets_with, chunks_of_ssn, set_before, is_complete}
 use Rattle.sctp_serial.specs.DataChunks.{bytes_of, has_tsn, chunk_before}
-use Rattle.sctp_reassembly.specs.reassembly_queue.ReassemblyQueue.{Reassembly, ReassemblyState, set_bytes, held_bytes, IsCounted, count_up, after_ordered_push, set_of_run, BecomesWhole, PushesUnordered, is_readable, state_read, message_read, rest_read, after_read, bytes_read, leading_upto, after_unordered_skip, after_ordered_skip, held_after_ordered_skip, is_passed, complete_sets}
+use Rattle.sctp_reassembly.specs.reassembly_queue.ReassemblyQueue.{Reassembly, ReassemblyState, set_bytes, held_bytes, IsCounted, count_up, after_ordered_push, set_of_run, BecomesComplete, PushesUnordered, is_readable, state_read, message_read, rest_read, after_read, bytes_read, leading_upto, after_unordered_skip, after_ordered_skip, held_after_ordered_skip, is_passed, complete_sets}
 use Rattle.sctp_reassembly.specs.reassembly_queue.Loose.{IsRunTaken}
 use Rattle.sctp_reassembly.specs.reassembly_queue.Skips.{after_bounded_skip, held_after_bounded_skip, is_abandoned, misses}
 use Rattle.sctp_reassembly.proofs.lemmas.reassembly_queue.ChunkSets.{chunks_none}
 
 -- a sum over a list with one more element
-sum-inserted : {A : Type 0} (f : A → ℕ) (before : A → A → Bool) (x : A) (xs : List A) → sum_by f (inserted before x xs) ≡ sum_by f xs + f x
+sum-inserted : {A : Type 0} (f : A → ℕ) (before : A → A → Bool) (x : A) (xs : List A) → sum_by f (insert_before before x xs) ≡ sum_by f xs + f x
 sum-inserted f before x [] = omega (arith, sum_by-cons f x [])
 sum-inserted {A = A} f before x (e ∷ es) = at_head (before x e) (sum-inserted f before x es)
   where
-    at_head : (b : Bool) → sum_by f (inserted before x es) ≡ sum_by f es + f x → sum_by f (if b then x ∷ e ∷ es else e ∷ inserted before x es) ≡ sum_by f (e ∷ es) + f x
+    at_head : (b : Bool) → sum_by f (insert_before before x es) ≡ sum_by f es + f x → sum_by f (if b then x ∷ e ∷ es else e ∷ insert_before before x es) ≡ sum_by f (e ∷ es) + f x
     at_head true rec = omega (arith, sum_by-cons f x (e ∷ es))
-    at_head false rec = omega (arith, sum_by-cons f e (inserted before x es), sum_by-cons f e es, rec)
+    at_head false rec = omega (arith, sum_by-cons f e (insert_before before x es), sum_by-cons f e es, rec)
 
 -- what passes and what doesn't are all
-sum-those : {A : Type 0} (f : A → ℕ) (p : A → Bool) (xs : List A) → sum_by f (those p xs) + sum_by f (those (λ x. not (p x)) xs) ≡ sum_by f xs
+sum-those : {A : Type 0} (f : A → ℕ) (p : A → Bool) (xs : List A) → sum_by f (filter p xs) + sum_by f (filter (λ x. not (p x)) xs) ≡ sum_by f xs
 sum-those f p [] = refl
 sum-those {A = A} f p (x ∷ xs) = at_head (p x) (sum-those f p xs)
   where
-    at_head : (b : Bool) → sum_by f (those p xs) + sum_by f (those (λ y. not (p y)) xs) ≡ sum_by f xs → sum_by f (if b then x ∷ those p xs else those p xs) + sum_by f (if not b then x ∷ those (λ y. not (p y)) xs else those (λ y. not (p y)) xs) ≡ sum_by f (x ∷ xs)
-    at_head true rec = omega (arith, sum_by-cons f x (those p xs), sum_by-cons f x xs, rec)
-    at_head false rec = omega (arith, sum_by-cons f x (those (λ y. not (p y)) xs), sum_by-cons f x xs, rec)
+    at_head : (b : Bool) → sum_by f (filter p xs) + sum_by f (filter (λ y. not (p y)) xs) ≡ sum_by f xs → sum_by f (if b then x ∷ filter p xs else filter p xs) + sum_by f (if not b then x ∷ filter (λ y. not (p y)) xs else filter (λ y. not (p y)) xs) ≡ sum_by f (x ∷ xs)
+    at_head true rec = omega (arith, sum_by-cons f x (filter p xs), sum_by-cons f x xs, rec)
+    at_head false rec = omega (arith, sum_by-cons f x (filter (λ y. not (p y)) xs), sum_by-cons f x xs, rec)
 
 -- what a skip leaves, and what it takes
-pub skipped : (p : ChunkSet → Bool) (sets : List ChunkSet) → set_bytes (those p sets) + set_bytes (those (λ s. not (p s)) sets) ≡ set_bytes sets
+pub skipped : (p : ChunkSet → Bool) (sets : List ChunkSet) → set_bytes (filter p sets) + set_bytes (filter (λ s. not (p s)) sets) ≡ set_bytes sets
 skipped p sets = sum-those (λ s. bytes_of s.chunks) p sets
 
 pub dropped : (t : ℕ) (xs : List ChunkPayloadData) → bytes_of (leading_upto t xs) + bytes_of (after_leading (λ x. at_or_before x.tsn t) xs) ≡ bytes_of xs
@@ -63,7 +63,7 @@ bytes_changed : (x : ChunkPayloadData) (ssn : ℕ) (sets : List ChunkSet) → li
 bytes_changed x ssn [] h = absurd (true≢false (sym h))
 bytes_changed x ssn (s ∷ ss) h = at_head (has_ssn ssn s) refl (bytes_changed x ssn ss)
   where
-    put_in : (b : Bool) → bytes_of (if b then s.chunks else inserted chunk_before x s.chunks) ≡ bytes_of s.chunks + (if b then 0 else length x.user_data)
+    put_in : (b : Bool) → bytes_of (if b then s.chunks else insert_before chunk_before x s.chunks) ≡ bytes_of s.chunks + (if b then 0 else length x.user_data)
     put_in true = omega arith
     put_in false = sum-inserted (λ (c : ChunkPayloadData). length c.user_data) chunk_before x s.chunks
 
@@ -76,7 +76,7 @@ bytes_changed x ssn (s ∷ ss) h = at_head (has_ssn ssn s) refl (bytes_changed x
 pub bytes_with : (x : ChunkPayloadData) (sets : List ChunkSet) → set_bytes (sets_with x sets) ≡ set_bytes sets + (if list_any (has_tsn x.tsn) (chunks_of_ssn x.stream_sequence_number sets) then 0 else length x.user_data)
 bytes_with x sets = at_any (list_any (has_ssn x.stream_sequence_number) sets) refl
   where
-    at_any : (b : Bool) → list_any (has_ssn x.stream_sequence_number) sets ≡ b → set_bytes (if b then change_first (has_ssn x.stream_sequence_number) (with_chunk x) sets else inserted set_before (new_set x) sets) ≡ set_bytes sets + (if list_any (has_tsn x.tsn) (chunks_of_ssn x.stream_sequence_number sets) then 0 else length x.user_data)
+    at_any : (b : Bool) → list_any (has_ssn x.stream_sequence_number) sets ≡ b → set_bytes (if b then change_first (has_ssn x.stream_sequence_number) (with_chunk x) sets else insert_before set_before (new_set x) sets) ≡ set_bytes sets + (if list_any (has_tsn x.tsn) (chunks_of_ssn x.stream_sequence_number sets) then 0 else length x.user_data)
     at_any true e = bytes_changed x x.stream_sequence_number sets e
     at_any false e =
         let alone = sum_by-cons (λ (c : ChunkPayloadData). length c.user_data) x [] in
@@ -111,7 +111,7 @@ run_between xs first count =
 pub taken_bytes : (xs left taken : List ChunkPayloadData) → IsRunTaken xs left taken → bytes_of xs ≡ bytes_of left + bytes_of taken
 taken_bytes xs left taken h = omega (arith, run_between xs h.first h.count, ap bytes_of h.rest, ap bytes_of h.fragments)
 
-pub whole_bytes : (xs : List ChunkPayloadData) (old new : Reassembly) (whole : Bool) → BecomesWhole xs old new whole → held_bytes new ≡ set_bytes old.ordered + set_bytes old.unordered + bytes_of xs
+pub whole_bytes : (xs : List ChunkPayloadData) (old new : Reassembly) (whole : Bool) → BecomesComplete xs old new whole → held_bytes new ≡ set_bytes old.ordered + set_bytes old.unordered + bytes_of xs
 whole_bytes xs old new false h = ap held_bytes h.1
 whole_bytes xs old new true h =
     let run = take h.count (drop h.first xs) in
@@ -122,17 +122,17 @@ whole_bytes xs old new true h =
 -- an unordered push counts its fragment
 pub unordered_counted : (x : ChunkPayloadData) (old new : ReassemblyState) (whole : Bool) → PushesUnordered x old new whole → held_bytes old.held + length x.user_data < 2 ^ 64 → IsCounted old → IsCounted new
 unordered_counted x old new whole h fits counted =
-    let bytes = whole_bytes (inserted chunk_before x old.held.unassembled) old.held new.held whole h.0 in
+    let bytes = whole_bytes (insert_before chunk_before x old.held.unassembled) old.held new.held whole h.0 in
     let more = sum-inserted (λ (c : ChunkPayloadData). length c.user_data) chunk_before x old.held.unassembled in
     ap (λ (q : ReassemblyState). q.bytes) h.1 ∙ omega (arith, bytes, more, fits, counted)
 
 -- no skip removes what it isn't asked to
-pub those_stay : (p q : ChunkSet → Bool) → ((s : ChunkSet) → p s ≡ true → q s ≡ true) → (xs : List ChunkSet) → those p (those q xs) ≡ those p xs
+pub those_stay : (p q : ChunkSet → Bool) → ((s : ChunkSet) → p s ≡ true → q s ≡ true) → (xs : List ChunkSet) → filter p (filter q xs) ≡ filter p xs
 those_stay p q h [] = refl
 those_stay p q h (x ∷ xs) = at_head (p x) (q x) refl refl (those_stay p q h xs)
   where
-    at_head : (a b : Bool) → p x ≡ a → q x ≡ b → those p (those q xs) ≡ those p xs → those p (if b then x ∷ those q xs else those q xs) ≡ (if a then x ∷ those p xs else those p xs)
-    at_head a true e f rec = ap (λ c. if c then x ∷ those p (those q xs) else those p (those q xs)) e ∙ ap (λ ys. if a then x ∷ ys else ys) rec
+    at_head : (a b : Bool) → p x ≡ a → q x ≡ b → filter p (filter q xs) ≡ filter p xs → filter p (if b then x ∷ filter q xs else filter q xs) ≡ (if a then x ∷ filter p xs else filter p xs)
+    at_head a true e f rec = ap (λ c. if c then x ∷ filter p (filter q xs) else filter p (filter q xs)) e ∙ ap (λ ys. if a then x ∷ ys else ys) rec
     at_head true false e f rec = absurd (true≢false (sym (h x e) ∙ f))
     at_head false false e f rec = rec
 

@@ -13,10 +13,8 @@ use Rattle.sctp_list_lemmas.specs.Serial.{distance, comes_before}
 use Rattle.sctp_list_lemmas.proofs.Edits.{pairs_insert}
 use Rattle.sctp_list_lemmas.proofs.More.{fails}
 use Rattle.sctp_list_lemmas.proofs.Distances.{distance_cases, before_is, comes_before_from, before_irrefl}
-use Rattle.sctp_serial.specs.DataChunks.{has_tsn}
+use Rattle.sctp_serial.specs.DataChunks.{has_tsn, following_tsn, preceding_tsn}
 use Rattle.sctp_reassembly.specs.reassembly_queue.Loose.{IsOrderMark, place_among}
-use Rattle.sctp_reassembly.specs.reassembly_queue.Fragments.{next_tsn}
-use Rattle.sctp_reassembly.specs.reassembly_queue.Sizes.{previous_tsn}
 use Rattle.sctp_serial.specs.Window.{IsSerial}
 use Rattle.sctp_serial.proofs.lemmas.AscendingEdits.{distance_self, distance_sum, distance_rest, distance_back, same_distance}
 use Rattle.sctp_serial.proofs.lemmas.ListEdits.{an_element, remove-insert, remove_seam}
@@ -34,11 +32,11 @@ distance_part n f a hn hf ha le = elim (cases_lt (distance n a) (distance n f)) 
 ]
 
 -- the numbers beside one
-pub before_one : (n : ℕ) → n < 2 ^ 32 → distance (previous_tsn n) n ≡ 1
+pub before_one : (n : ℕ) → n < 2 ^ 32 → distance (preceding_tsn n) n ≡ 1
 unfolding distance
 before_one n h = omega arith
 
-pub after_one : (n : ℕ) → n < 2 ^ 32 → distance n (next_tsn n) ≡ 1
+pub after_one : (n : ℕ) → n < 2 ^ 32 → distance n (following_tsn n) ≡ 1
 unfolding distance
 after_one n h = omega arith
 

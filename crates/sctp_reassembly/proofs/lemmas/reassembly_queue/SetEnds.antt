@@ -1,26 +1,24 @@
 -- What a complete set has at its ends.
-use Rattle.std.proofs.Common.{◌≡◌, ◌≢◌, ℕ, suc, ◌+◌, ◌-◌, ◌%◌, ◌^◌, ◌<◌, ◌==◌, ◌&&◌, true, false, List, [], ◌∷◌, length, get_or, refl, sym, ap, ◌∙◌, mod-eq_of_lt, arith}
+use Rattle.std.proofs.Common.{◌≡◌, ◌≢◌, suc, ◌+◌, ◌-◌, ◌%◌, ◌^◌, ◌<◌, ◌==◌, ◌&&◌, true, false, List, [], ◌∷◌, length, get_or, refl, sym, ap, ◌∙◌, mod-eq_of_lt, arith}
 use Rattle.std.proofs.lemmas.Bool.{true≢false}
-use Rattle.std.proofs.lemmas.Bool.Decides.{nat_tests}
 use Rattle.std.proofs.Math.Nat.{mod-add-mod}
 use Rattle.sctp_list_lemmas.proofs.More.{fails, both}
 use Rattle.sctp_chunks.specs.declared.chunk.chunk_payload_data.ChunkPayloadData.{ChunkPayloadData}
-use Rattle.sctp_reassembly.specs.reassembly_queue.Fragments.{completes, is_complete, next_tsn}
-
-same_tsn : (a b : ℕ) → (a == b) ≡ true → a ≡ b
-same_tsn a b h = grind (arith, nat_tests)
+use Rattle.sctp_reassembly.specs.reassembly_queue.Fragments.{completes, is_complete}
+use Rattle.sctp_list_lemmas.proofs.Cases.{same-is}
+use Rattle.sctp_serial.specs.DataChunks.{following_tsn}
 
 -- the last one ends
 ends_last : (x : ChunkPayloadData) (ys : List ChunkPayloadData) (d : ChunkPayloadData) → completes x ys ≡ true → (get_or (x ∷ ys) (length ys) d).ending_fragment ≡ true
 ends_last x [] d h = h
-ends_last x (y ∷ ys) d h = ends_last y ys d (both (y.tsn == next_tsn x.tsn) (completes y ys) h).1
+ends_last x (y ∷ ys) d h = ends_last y ys d (both (y.tsn == following_tsn x.tsn) (completes y ys) h).1
 
 -- and is as far from the first as there are others
 ends_apart : (x : ChunkPayloadData) (ys : List ChunkPayloadData) (d : ChunkPayloadData) → completes x ys ≡ true → x.tsn < 2 ^ 32 → (get_or (x ∷ ys) (length ys) d).tsn ≡ (x.tsn + length ys) % 2 ^ 32
 ends_apart x [] d h lt = let e : (x.tsn + 0) % 2 ^ 32 ≡ x.tsn + 0 = mod-eq_of_lt (omega arith) in omega arith
 ends_apart x (y ∷ ys) d h lt =
-    let parts = both (y.tsn == next_tsn x.tsn) (completes y ys) h in
-    let next : y.tsn ≡ (x.tsn + 1) % 2 ^ 32 = same_tsn y.tsn (next_tsn x.tsn) parts.0 in
+    let parts = both (y.tsn == following_tsn x.tsn) (completes y ys) h in
+    let next : y.tsn ≡ (x.tsn + 1) % 2 ^ 32 = same-is y.tsn (following_tsn x.tsn) parts.0 in
     let small : y.tsn < 2 ^ 32 = omega arith in
     ends_apart y ys d parts.1 small
     ∙ ap (λ t. (t + length ys) % 2 ^ 32) next

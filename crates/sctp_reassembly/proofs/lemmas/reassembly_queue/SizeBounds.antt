@@ -12,10 +12,9 @@ use Rattle.sctp_list_lemmas.specs.Lists.{after_leading}
 use Rattle.sctp_list_lemmas.specs.Serial.{comes_before}
 use Rattle.sctp_list_lemmas.proofs.More.{fails}
 use Rattle.sctp_list_lemmas.proofs.Distances.{comes_before_from}
-use Rattle.sctp_serial.specs.DataChunks.{bytes_of, has_tsn}
+use Rattle.sctp_serial.specs.DataChunks.{bytes_of, has_tsn, following_tsn, preceding_tsn}
 use Rattle.sctp_reassembly.specs.reassembly_queue.Loose.{place_among}
-use Rattle.sctp_reassembly.specs.reassembly_queue.Fragments.{next_tsn}
-use Rattle.sctp_reassembly.specs.reassembly_queue.Sizes.{previous_tsn, bytes_down, bytes_up, back_from, on_from, size_before, size_after}
+use Rattle.sctp_reassembly.specs.reassembly_queue.Sizes.{bytes_down, bytes_up, back_from, on_from, size_before, size_after}
 use Rattle.sctp_serial.specs.Window.{IsSerial}
 use Rattle.sctp_serial.proofs.lemmas.ListEdits.{neither}
 use Rattle.sctp_reassembly.proofs.lemmas.reassembly_queue.SerialPlaces.{before_one, after_one, in_front, is_front, place_upto}
@@ -32,7 +31,7 @@ bytes_reversed (x ∷ xs) = omega (arith, ap bytes_of (reverse-append (x ∷ [])
 
 down_within : (t : ℕ) (xs : List ChunkPayloadData) → bytes_down t xs ≤ bytes_of xs
 down_within t [] = omega arith
-down_within t (y ∷ ys) = at_head (y.tsn == previous_tsn t) y.beginning_fragment (down_within y.tsn ys)
+down_within t (y ∷ ys) = at_head (y.tsn == preceding_tsn t) y.beginning_fragment (down_within y.tsn ys)
   where
     at_head : (a b : Bool) → bytes_down y.tsn ys ≤ bytes_of ys → (if a then length y.user_data + (if b then 0 else bytes_down y.tsn ys) else 0) ≤ bytes_of (y ∷ ys)
     at_head true true rec = omega (arith, one_more y ys)
@@ -41,7 +40,7 @@ down_within t (y ∷ ys) = at_head (y.tsn == previous_tsn t) y.beginning_fragmen
 
 up_within : (t : ℕ) (xs : List ChunkPayloadData) → bytes_up t xs ≤ bytes_of xs
 up_within t [] = omega arith
-up_within t (y ∷ ys) = at_head (y.tsn == next_tsn t) y.ending_fragment (up_within y.tsn ys)
+up_within t (y ∷ ys) = at_head (y.tsn == following_tsn t) y.ending_fragment (up_within y.tsn ys)
   where
     at_head : (a b : Bool) → bytes_up y.tsn ys ≤ bytes_of ys → (if a then length y.user_data + (if b then 0 else bytes_up y.tsn ys) else 0) ≤ bytes_of (y ∷ ys)
     at_head true true rec = omega (arith, one_more y ys)
@@ -95,10 +94,10 @@ unless false n m le = le
 
 module _ (x : ChunkPayloadData) (xs : List ChunkPayloadData) (s : IsSerial xs) (small : x.tsn < 2 ^ 32) where
   -- the number before it does not stand behind where it goes
-  none_behind : list_any (has_tsn (previous_tsn x.tsn)) (drop (place_among x.tsn xs) xs) ≡ false
+  none_behind : list_any (has_tsn (preceding_tsn x.tsn)) (drop (place_among x.tsn xs) xs) ≡ false
   none_behind =
       let p = place_among x.tsn xs in
-      let m = previous_tsn x.tsn in
+      let m = preceding_tsn x.tsn in
       let len = length-drop p xs in
       list_any_none (has_tsn m) (drop p xs) (λ j d lt. fails (has_tsn m (get_or (drop p xs) j d)) (λ is.
       let same : (get_or (drop p xs) j d).tsn ≡ m = grind (arith, nat_tests) in
@@ -106,10 +105,10 @@ module _ (x : ChunkPayloadData) (xs : List ChunkPayloadData) (s : IsSerial xs) (
       absurd (omega (arith, is_front xs s x.tsn small p refl m (omega arith) (before_one x.tsn small) (p + j) d (omega arith) there))))
 
   -- and the number after it not before
-  none_before : list_any (has_tsn (next_tsn x.tsn)) (take (place_among x.tsn xs) xs) ≡ false
+  none_before : list_any (has_tsn (following_tsn x.tsn)) (take (place_among x.tsn xs) xs) ≡ false
   none_before =
       let p = place_among x.tsn xs in
-      let m = next_tsn x.tsn in
+      let m = following_tsn x.tsn in
       let len = length-take-le p xs (place_upto x.tsn xs p refl) in
       list_any_none (has_tsn m) (take p xs) (λ j d lt. fails (has_tsn m (get_or (take p xs) j d)) (λ is.
       let same : (get_or (take p xs) j d).tsn ≡ m = grind (arith, nat_tests) in
@@ -120,8 +119,8 @@ module _ (x : ChunkPayloadData) (xs : List ChunkPayloadData) (s : IsSerial xs) (
   pub within_all : size_before x xs + length x.user_data + size_after x xs ≤ bytes_of xs + length x.user_data
   within_all =
       let p = place_among x.tsn xs in
-      let back = back_from (previous_tsn x.tsn) xs in
-      let on = on_from (next_tsn x.tsn) xs in
-      let before = unless x.beginning_fragment (bytes_down x.tsn back) (bytes_of (take p xs)) (omega (arith, down_within x.tsn back, back_side (previous_tsn x.tsn) p xs none_behind)) in
-      let after = unless x.ending_fragment (bytes_up x.tsn on) (bytes_of (drop p xs)) (omega (arith, up_within x.tsn on, on_side (next_tsn x.tsn) p xs none_before)) in
+      let back = back_from (preceding_tsn x.tsn) xs in
+      let on = on_from (following_tsn x.tsn) xs in
+      let before = unless x.beginning_fragment (bytes_down x.tsn back) (bytes_of (take p xs)) (omega (arith, down_within x.tsn back, back_side (preceding_tsn x.tsn) p xs none_behind)) in
+      let after = unless x.ending_fragment (bytes_up x.tsn on) (bytes_of (drop p xs)) (omega (arith, up_within x.tsn on, on_side (following_tsn x.tsn) p xs none_before)) in
       omega (arith, before, after, sum_by-take-drop (λ (c : ChunkPayloadData). length c.user_data) xs p)

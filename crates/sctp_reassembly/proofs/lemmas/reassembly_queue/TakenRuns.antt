@@ -8,12 +8,12 @@ use Rattle.sctp_list_lemmas.specs.Serial.{distance}
 use Rattle.sctp_list_lemmas.proofs.Distances.{before_is}
 use Rattle.sctp_reassembly.specs.reassembly_queue.Loose.{IsMark, IsOrderMark}
 use Rattle.sctp_serial.specs.Runs.{IsRun, HasNoRun}
-use Rattle.sctp_reassembly.specs.reassembly_queue.Fragments.{next_tsn}
 use Rattle.sctp_serial.specs.Window.{IsSerial}
 use Rattle.sctp_serial.proofs.lemmas.AscendingEdits.{distance_sum}
 use Rattle.sctp_serial.proofs.lemmas.ListEdits.{an_element}
 use Rattle.sctp_reassembly.proofs.lemmas.reassembly_queue.UnassembledRuns.{all_around}
 use Rattle.sctp_reassembly.proofs.lemmas.reassembly_queue.SerialPlaces.{after_one}
+use Rattle.sctp_serial.specs.DataChunks.{following_tsn}
 
 module _ (xs : List ChunkPayloadData) (first count : ℕ) (within : first + count ≤ length xs) where
   abbrev rest : List ChunkPayloadData
@@ -41,7 +41,7 @@ module _ (xs : List ChunkPayloadData) (first count : ℕ) (within : first + coun
     in_range = omega arith;
     begins = λ d. ap (λ (c : ChunkPayloadData). c.beginning_fragment) (sym (low f d (omega (arith, r.some)))) ∙ r.begins d;
     no_other = λ k d lt in_run. ap (λ (c : ChunkPayloadData). c.beginning_fragment) (sym (low k d (omega arith))) ∙ r.no_other k d lt in_run;
-    rising = λ k d ge lt. ap (λ (c : ChunkPayloadData). c.tsn) (sym (low (k + 1) d (omega arith))) ∙ r.rising k d ge lt ∙ ap (λ (c : ChunkPayloadData). next_tsn c.tsn) (low k d (omega arith));
+    rising = λ k d ge lt. ap (λ (c : ChunkPayloadData). c.tsn) (sym (low (k + 1) d (omega arith))) ∙ r.rising k d ge lt ∙ ap (λ (c : ChunkPayloadData). following_tsn c.tsn) (low k d (omega arith));
     ends = λ d. ap (λ (c : ChunkPayloadData). c.ending_fragment) (sym (low (f + n - 1) d (omega (arith, r.some)))) ∙ r.ends d;
   }
 
@@ -51,7 +51,7 @@ module _ (xs : List ChunkPayloadData) (first count : ℕ) (within : first + coun
     in_range = omega (arith, r.in_range, rest_long);
     begins = λ d. ap (λ (c : ChunkPayloadData). c.beginning_fragment) (sym (high (f + count) f d from (omega arith))) ∙ r.begins d;
     no_other = λ k d lt in_run. ap (λ (c : ChunkPayloadData). c.beginning_fragment) (sym (high k (k - count) d (omega arith) (omega arith))) ∙ r.no_other (k - count) d (omega arith) (omega arith);
-    rising = λ k d ge lt. ap (λ (c : ChunkPayloadData). c.tsn) (sym (high (k + 1) (k - count + 1) d (omega arith) (omega arith))) ∙ r.rising (k - count) d (omega arith) (omega arith) ∙ ap (λ (c : ChunkPayloadData). next_tsn c.tsn) (high k (k - count) d (omega arith) (omega arith));
+    rising = λ k d ge lt. ap (λ (c : ChunkPayloadData). c.tsn) (sym (high (k + 1) (k - count + 1) d (omega arith) (omega arith))) ∙ r.rising (k - count) d (omega arith) (omega arith) ∙ ap (λ (c : ChunkPayloadData). following_tsn c.tsn) (high k (k - count) d (omega arith) (omega arith));
     ends = λ d. ap (λ (c : ChunkPayloadData). c.ending_fragment) (sym (high (f + count + n - 1) (f + n - 1) d (omega (arith, r.some)) (omega (arith, r.some)))) ∙ r.ends d;
   }
 
@@ -63,10 +63,10 @@ module _ (xs : List ChunkPayloadData) (first count : ℕ) (within : first + coun
       let x = (get_or xs (first - 1) d).tsn in
       let q = (get_or xs first d).tsn in
       let y = (get_or xs (first + count) d).tsn in
-      let e : y ≡ next_tsn x =
+      let e : y ≡ following_tsn x =
       ap (λ (c : ChunkPayloadData). c.tsn) (sym (high (first + count) (first - 1 + 1) d (omega arith) (omega arith)))
       ∙ r.rising (first - 1) d (omega arith) (omega arith)
-      ∙ ap (λ (c : ChunkPayloadData). next_tsn c.tsn) (low (first - 1) d (omega arith)) in
+      ∙ ap (λ (c : ChunkPayloadData). following_tsn c.tsn) (low (first - 1) d (omega arith)) in
       let small = serial.in_range (first - 1) d (omega arith) in
       let one = ap (distance x) e ∙ after_one x small in
       let to_q = before_is x q (serial.ascending (first - 1) first d (omega arith) (omega arith)) in

@@ -10,14 +10,14 @@ use Rattle.std.proofs.lemmas.List.{get_or_default}
 use Rattle.std.proofs.lemmas.List.Edits.{length-insert, get_or-insert_below, get_or-insert_above}
 use Rattle.sctp_chunks.specs.declared.chunk.chunk_payload_data.ChunkPayloadData.{ChunkPayloadData}
 use Rattle.sctp_serial.specs.Runs.{IsRising, IsRun, IsEarliestRun, IsRunAround, IsEarliestRunAround, HasNoRun, HasNoRunAround, IsStretch}
-use Rattle.sctp_reassembly.specs.reassembly_queue.Fragments.{next_tsn}
 use Rattle.sctp_reassembly.specs.reassembly_queue.Around.{IsStart, HasNoStart, IsEnd, IsFirstEnding, HasNoEnd}
+use Rattle.sctp_serial.specs.DataChunks.{following_tsn}
 
 module _ (xs : List ChunkPayloadData) (place : ℕ) where
   -- what rises to the place lies in its stretch
   pub stretch_from : (s t : ℕ) → IsStretch xs place s t → (first : ℕ) (d : ChunkPayloadData) → first ≤ place → IsRising xs first place → s ≤ first
   stretch_from s t w first d le r = elim (cases_lt first s) [
-    | inl low ↦ absurd (w.starts (omega arith) d (subst (λ i. (get_or xs i d).tsn ≡ next_tsn (get_or xs (s - 1) d).tsn) {x = s - 1 + 1} (omega arith) (r (s - 1) d (omega arith) (omega (arith, w.holds_from)))))
+    | inl low ↦ absurd (w.starts (omega arith) d (subst (λ i. (get_or xs i d).tsn ≡ following_tsn (get_or xs (s - 1) d).tsn) {x = s - 1 + 1} (omega arith) (r (s - 1) d (omega arith) (omega (arith, w.holds_from)))))
     | inr high ↦ high
   ]
 
@@ -38,11 +38,11 @@ module _ (xs : List ChunkPayloadData) (place : ℕ) where
     pub none_at_zero : first ≡ 0 → HasNoStart xs place
     none_at_zero zero f s = none_from f s (omega arith)
 
-    pub none_at_break : (y : ChunkPayloadData) → 0 < first → y ≡ get_or xs (first - 1) y → x.tsn ≢ next_tsn y.tsn → HasNoStart xs place
+    pub none_at_break : (y : ChunkPayloadData) → 0 < first → y ≡ get_or xs (first - 1) y → x.tsn ≢ following_tsn y.tsn → HasNoStart xs place
     none_at_break y pos read_y breaks f s = elim (cases_lt f first) [
       | inl low ↦ breaks (
           ap (λ (c : ChunkPayloadData). c.tsn) read ∙ ap (λ i. (get_or xs i x).tsn) {x = first} {y = first - 1 + 1} (omega arith) ∙ s.rising (first - 1) x (omega arith) (omega arith)
-          ∙ ap (λ (c : ChunkPayloadData). next_tsn c.tsn) (get_or_default xs (first - 1) x y (omega arith) ∙ sym read_y)
+          ∙ ap (λ (c : ChunkPayloadData). following_tsn c.tsn) (get_or_default xs (first - 1) x y (omega arith) ∙ sym read_y)
           )
       | inr high ↦ none_from f s high
     ]
@@ -64,10 +64,10 @@ module _ (xs : List ChunkPayloadData) (place : ℕ) where
       | inr low ↦ none_upto e h low
     ]
 
-    pub none_at_gap : (y : ChunkPayloadData) → last + 1 < length xs → y ≡ get_or xs (last + 1) y → y.tsn ≢ next_tsn x.tsn → HasNoEnd xs place
+    pub none_at_gap : (y : ChunkPayloadData) → last + 1 < length xs → y ≡ get_or xs (last + 1) y → y.tsn ≢ following_tsn x.tsn → HasNoEnd xs place
     none_at_gap y short read_y breaks e h = elim (cases_lt last e) [
       | inl high ↦ breaks (
-          ap (λ (c : ChunkPayloadData). c.tsn) (read_y ∙ get_or_default xs (last + 1) y x short) ∙ h.rising last x le high ∙ ap (λ (c : ChunkPayloadData). next_tsn c.tsn) (sym read)
+          ap (λ (c : ChunkPayloadData). c.tsn) (read_y ∙ get_or_default xs (last + 1) y x short) ∙ h.rising last x le high ∙ ap (λ (c : ChunkPayloadData). following_tsn c.tsn) (sym read)
           )
       | inr low ↦ none_upto e h low
     ]
@@ -172,7 +172,7 @@ same_below xs place x le f n r short =
       in_range = omega arith;
       begins = λ d. ap (λ (c : ChunkPayloadData). c.beginning_fragment) (at f d (omega (arith, r.some))) ∙ r.begins d;
       no_other = λ k d lt in_run. ap (λ (c : ChunkPayloadData). c.beginning_fragment) (at k d (omega arith)) ∙ r.no_other k d lt in_run;
-      rising = λ k d ge lt. ap (λ (c : ChunkPayloadData). c.tsn) (at (k + 1) d (omega arith)) ∙ r.rising k d ge lt ∙ ap (λ (c : ChunkPayloadData). next_tsn c.tsn) (sym (at k d (omega arith)));
+      rising = λ k d ge lt. ap (λ (c : ChunkPayloadData). c.tsn) (at (k + 1) d (omega arith)) ∙ r.rising k d ge lt ∙ ap (λ (c : ChunkPayloadData). following_tsn c.tsn) (sym (at k d (omega arith)));
       ends = λ d. ap (λ (c : ChunkPayloadData). c.ending_fragment) (at (f + n - 1) d (omega (arith, r.some))) ∙ r.ends d;
     }
 
@@ -187,7 +187,7 @@ shifted_down xs place x le f n r beyond =
       in_range = omega (arith, r.in_range, len);
       begins = λ d. ap (λ (c : ChunkPayloadData). c.beginning_fragment) (from f (f - 1) d (omega arith) (omega arith)) ∙ r.begins d;
       no_other = λ k d lt in_run. ap (λ (c : ChunkPayloadData). c.beginning_fragment) (at k d (omega arith)) ∙ r.no_other (k + 1) d (omega arith) (omega arith);
-      rising = λ k d ge lt. ap (λ (c : ChunkPayloadData). c.tsn) (at (k + 1) d (omega arith)) ∙ r.rising (k + 1) d (omega arith) (omega arith) ∙ ap (λ (c : ChunkPayloadData). next_tsn c.tsn) (sym (at k d (omega arith)));
+      rising = λ k d ge lt. ap (λ (c : ChunkPayloadData). c.tsn) (at (k + 1) d (omega arith)) ∙ r.rising (k + 1) d (omega arith) (omega arith) ∙ ap (λ (c : ChunkPayloadData). following_tsn c.tsn) (sym (at k d (omega arith)));
       ends = λ d. ap (λ (c : ChunkPayloadData). c.ending_fragment) (from (f + n - 1) (f - 1 + n - 1) d (omega (arith, r.some)) (omega (arith, r.some))) ∙ r.ends d;
     }
 
@@ -214,7 +214,7 @@ none_after_drop xs count le none f n r =
       in_range = omega (arith, r.in_range, len);
       begins = λ d. ap (λ (c : ChunkPayloadData). c.beginning_fragment) (at (count + f) f d refl) ∙ r.begins d;
       no_other = λ k d lt in_run. ap (λ (c : ChunkPayloadData). c.beginning_fragment) (at k (k - count) d (omega arith)) ∙ r.no_other (k - count) d (omega arith) (omega arith);
-      rising = λ k d ge lt. ap (λ (c : ChunkPayloadData). c.tsn) (at (k + 1) (k - count + 1) d (omega arith)) ∙ r.rising (k - count) d (omega arith) (omega arith) ∙ ap (λ (c : ChunkPayloadData). next_tsn c.tsn) (sym (at k (k - count) d (omega arith)));
+      rising = λ k d ge lt. ap (λ (c : ChunkPayloadData). c.tsn) (at (k + 1) (k - count + 1) d (omega arith)) ∙ r.rising (k - count) d (omega arith) (omega arith) ∙ ap (λ (c : ChunkPayloadData). following_tsn c.tsn) (sym (at k (k - count) d (omega arith)));
       ends = λ d. ap (λ (c : ChunkPayloadData). c.ending_fragment) (at (count + f + n - 1) (f + n - 1) d (omega (arith, r.some))) ∙ r.ends d;
     }
 

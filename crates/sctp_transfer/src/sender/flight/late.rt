@@ -1,9 +1,8 @@
 //! Messages that are in flight when their lifetime ends (RFC 3758 3.5, 4.1).
 
-ghost use Rattle.std.specs.Prelude.{◌≡◌, ◌+◌, ◌≤◌, ◌<◌, ◌⊎◌, ◌++◌, ℕ, [], true, false, not, None, OnOk, OnErr, IfOk, IfErr, IsOk, is_some, length, map, vec_len, vec_capacity};
+ghost use Rattle.std.specs.Prelude.{◌≡◌, ◌+◌, ◌≤◌, ◌<◌, ◌⊎◌, ◌++◌, ℕ, [], true, false, not, None, OnOk, OnErr, IfOk, IfErr, IsOk, is_some, length, map, vec_len, vec_capacity, option_to_list};
 ghost use Rattle.std.specs.List.{list_all, sum_by};
 ghost use Rattle.sctp_transfer.specs.declared.sender.refusal.SenderRefusal.TheVariants.{OutOfMemory, TsnsUsedUp};
-ghost use Rattle.sctp_transfer.specs.Late.{listed};
 
 use super::InFlight;
 use crate::sender::refusal::SenderRefusal;
@@ -68,9 +67,10 @@ impl InFlight {
     ) -> Result<(), SenderRefusal>
         requires room { vec_len abandoned.old < vec_capacity abandoned.old }
         ensures ok { OnOk result (self.new
-            ≡ abandoned_each (listed (with_tail tsns.now self.old)) self.old) }
+            ≡ abandoned_each (option_to_list (with_tail tsns.now self.old)) self.old) }
         ensures answer { OnOk result (abandoned.new.items
-            ≡ abandoned.old.items ++ leaving_each (listed (with_tail tsns.now self.old)) self.old) }
+            ≡ abandoned.old.items
+            ++ leaving_each (option_to_list (with_tail tsns.now self.old)) self.old) }
         ensures released { OnOk result (total_bytes self.new.queue
             + sum_by (λ g. g.bytes) abandoned.new.items
             ≡ total_bytes self.old.queue + sum_by (λ g. g.bytes) abandoned.old.items) }
@@ -143,9 +143,9 @@ impl InFlight {
     fn abandon_message(&mut self, tsn: u32) -> Result<Option<AbandonedMessage>, SenderRefusal>
         requires { has_tail_at self.old tsn ≡ true → may_send self.old ≡ true }
         ensures ok { OnOk result (self.new ≡ abandoned_at tsn self.old) }
-        ensures answer { IfOk result (λ one. listed one ≡ leaving_at tsn self.old) }
+        ensures answer { IfOk result (λ one. option_to_list one ≡ leaving_at tsn self.old) }
         ensures released { IfOk result (λ one. total_bytes self.new.queue
-            + sum_by (λ g. g.bytes) (listed one) ≡ total_bytes self.old.queue) }
+            + sum_by (λ g. g.bytes) (option_to_list one) ≡ total_bytes self.old.queue) }
         ensures no_tail { has_tail_at self.old tsn ≡ false → IsOk result }
         ensures memory { IfErr result (λ e. e ≡ OutOfMemory) }
         ensures err { OnErr result (self.new ≡ self.old) }
@@ -171,7 +171,7 @@ impl InFlight {
 // Puts one behind the others, if there is one.
 fn put_any(abandoned: &mut Vec<AbandonedMessage>, one: Option<AbandonedMessage>)
     requires { vec_len abandoned.old < vec_capacity abandoned.old }
-    ensures items { abandoned.new.items ≡ abandoned.old.items ++ listed one }
+    ensures items { abandoned.new.items ≡ abandoned.old.items ++ option_to_list one }
     ensures capacity { vec_capacity abandoned.old ≤ vec_capacity abandoned.new }
 {
     if let Some(one) = one {

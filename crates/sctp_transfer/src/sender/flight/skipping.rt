@@ -1,12 +1,12 @@
 //! The TSNs that need not be sent again, and the FORWARD-TSN that says so (RFC 3758 3.5).
 
 ghost use Rattle.std.specs.Prelude.{◌≡◌, ◌<◌, ◌≤◌, ◌^◌, ◌++◌, ◌∷◌, [], List, true, false, None, OnOk, IfOk, IfErr, IfSome, IsOk, is_some, find, option_map, length, take};
+ghost use Rattle.std.specs.List.{filter};
 ghost use Rattle.sctp_chunks.specs.declared.chunk.chunk_payload_data.ChunkPayloadData.{ChunkPayloadData};
-ghost use Rattle.sctp_list_lemmas.specs.Lists.{those};
 ghost use Rattle.sctp_transfer.specs.declared.sender.refusal.SenderRefusal.TheVariants.{OutOfMemory};
 ghost use Rattle.sctp_transfer.specs.Flight.{tsns_from};
 ghost use Rattle.sctp_transfer.specs.Abandonment.{IsFirstPair, IsNoPair, Name, is_kept, is_named};
-ghost use Rattle.sctp_transfer.specs.TsnFilter.{tsns};
+ghost use Rattle.sctp_serial.specs.DataChunks.{tsns};
 
 use super::InFlight;
 use crate::sender::refusal::SenderRefusal;
@@ -91,7 +91,7 @@ fn pairs_of(
     requires few { length queue.now.inflight.chunks < 2 ^ 31 }
     requires within { count ≤ length queue.now.inflight.chunks }
     ensures ok { IfOk result (λ pairs. Name pairs.items
-        (those is_named (take count queue.now.inflight.chunks))) }
+        (filter is_named (take count queue.now.inflight.chunks))) }
     ensures memory { IfErr result (λ e. e ≡ OutOfMemory) }
 {
     let mut pairs = Vec::new(alloc);

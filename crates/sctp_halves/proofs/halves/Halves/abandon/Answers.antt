@@ -1,14 +1,15 @@
 use Rattle.std.proofs.Common.{refl}
 use Rattle.sctp_transfer.specs.Flight.{message_to_abandon, after_abandonment}
 use Rattle.sctp_transfer.specs.Outgoing.{less_by}
-use Rattle.sctp_halves.proofs.Sends.{either, sender-same, on-aligned, on-sides}
+use Rattle.sctp_halves.proofs.Sends.{sender-same, on-aligned, on-sides}
 use Rattle.sctp_halves.proofs.halves.Halves.abandon.Goals as goal
 use Rattle.sctp_halves.proofs.halves.Halves.abandon.Goals.{in-Ok, in-Err-OutOfMemory}
+use Rattle.sctp_reassembly.proofs.lemmas.reassembly_queue.ByteCounts.{either_of}
 
 pub invariant_of-self : goal.invariant_of-self
 invariant_of-self c =
     let h = c.self.inside in
-    either c.abandon.result c.abandon.ensures.ok c.abandon.ensures.err
+    either_of c.abandon.result c.abandon.ensures.ok c.abandon.ensures.err
     (λ r e. on-aligned h.numbers h.sender h.receiver h.progress.items c.self.invariant r.0 (less_by r.1) (after_abandonment (message_to_abandon c.args.tsn h.sender.flight) h.sender.flight) c.abandon.new.self e (λ l. refl))
     (sender-same h.numbers h.sender h.receiver h.progress.items c.self.invariant c.abandon.new.self)
 

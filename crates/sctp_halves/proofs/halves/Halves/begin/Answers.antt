@@ -1,6 +1,6 @@
 use Rattle.std.proofs.Common.{◌<◌, ◌+◌, ◌^◌, ap, sym, ◌∙◌, refl, arith, rules}
 use Rattle.sctp_halves.specs.declared.halves.progress.StreamProgress.{StreamProgress}
-use Rattle.sctp_halves.specs.Streams.{OpenStream, begun_in, begun_of, with_begun, joined}
+use Rattle.sctp_halves.specs.Streams.{OpenStream, begun_in, begun_of, with_begun, join_each}
 use Rattle.sctp_halves.proofs.Joined.{with_progress}
 use Rattle.sctp_halves.proofs.Aligned.{absent-in, absent-on, place-inside, with-progresses, progress-number, progress-sides}
 use Rattle.sctp_halves.proofs.Sends.{found-with, same-place}
@@ -26,7 +26,7 @@ pub overflow_add-index : goal.overflow_add-index
 overflow_add-index c =
     let h = c.self.inside in
     let l = found-with h.numbers h.sender h.receiver h.progress.items c.self.invariant c.args.stream c.in-Some.place c.in-Some.ensures c.index.result.now c.index.ensures in
-    let few : begun_of c.args.stream (joined h.sender.streams h.receiver.streams h.progress.items) + 1 < 2 ^ 64 = rw (← c.self.view_is) at c.requires in
+    let few : begun_of c.args.stream (join_each h.sender.streams h.receiver.streams h.progress.items) + 1 < 2 ^ 64 = rw (← c.self.view_is) at c.requires in
     let lt : c.index.result.now.begun + 1 < 2 ^ 64 = omega (arith, few, ap begun_in l.1.0, ap (λ (x : OpenStream). x.begun) l.1.1) in
     search rules
 

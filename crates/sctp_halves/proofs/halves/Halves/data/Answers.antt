@@ -5,7 +5,7 @@ use Rattle.sctp_halves.specs.Streams.{OpenStream}
 use Rattle.sctp_halves.specs.Halves.{Takes, Grows, is_open}
 use Rattle.sctp_halves.proofs.Joined.{with_progress}
 use Rattle.sctp_halves.proofs.Aligned.{sides, absent-in, place-inside, with-progresses, progress-number, progress-kept}
-use Rattle.sctp_halves.proofs.Taking.{taken-aligned, takes-whole, takes-more, grows-whole, grows-more}
+use Rattle.sctp_halves.proofs.Taking.{taken-aligned, takes-complete, takes-more, grows-complete, grows-more}
 use Rattle.sctp_halves.proofs.Growing.{grows-same}
 use Rattle.sctp_halves.proofs.halves.Halves.data.Goals as goal
 
@@ -29,22 +29,22 @@ pub invariant_of-self : goal.invariant_of-self
 invariant_of-self c =
     let h = c.self.inside in
     let p = c.index_mut.result.now in
-    let q : StreamProgress = record p { whole = c.reserve.new.self } in
+    let q : StreamProgress = record p { complete = c.reserve.new.self } in
     with-progresses h.numbers h.sender h.receiver h.progress.items c.self.invariant _ (progress-number h.numbers h.sender h.receiver h.progress.items c.self.invariant c.in-Some.place p q c.index_mut.ensures.value refl)
 
 pub returns-in_err-reserve-clause-err : goal.returns-in_err-reserve-clause-err
 returns-in_err-reserve-clause-err c =
     let h = c.self.inside in
     let p = c.index_mut.result.now in
-    let q : StreamProgress = record p { whole = c.reserve.new.self } in
-    let kept = progress-kept h.numbers h.sender h.receiver h.progress.items c.self.invariant c.in-Some.place p q c.index_mut.ensures.value (λ l. ap (λ ws. let x : OpenStream = record (with_progress p l) { whole = ws } in x) c.in_err-reserve.ensures.items) in
+    let q : StreamProgress = record p { complete = c.reserve.new.self } in
+    let kept = progress-kept h.numbers h.sender h.receiver h.progress.items c.self.invariant c.in-Some.place p q c.index_mut.ensures.value (λ l. ap (λ ws. let x : OpenStream = record (with_progress p l) { complete = ws } in x) c.in_err-reserve.ensures.items) in
     on-err c.from_residual.result _ (kept ∙ c.self.view_is)
 
 pub invariant_of-self-in_default-data : goal.invariant_of-self-in_default-data
 invariant_of-self-in_default-data c =
     let h = c.self.inside in
     let p = c.index_mut.result.now in
-    let q : StreamProgress = record p { whole = c.reserve.new.self } in
+    let q : StreamProgress = record p { complete = c.reserve.new.self } in
     rw c.in_default-data.ensures.err
     (with-progresses h.numbers h.sender h.receiver h.progress.items c.self.invariant _ (progress-number h.numbers h.sender h.receiver h.progress.items c.self.invariant c.in-Some.place p q c.index_mut.ensures.value refl))
 
@@ -52,8 +52,8 @@ pub returns-in_default-data-clause-err : goal.returns-in_default-data-clause-err
 returns-in_default-data-clause-err c =
     let h = c.self.inside in
     let p = c.index_mut.result.now in
-    let q : StreamProgress = record p { whole = c.reserve.new.self } in
-    let kept = progress-kept h.numbers h.sender h.receiver h.progress.items c.self.invariant c.in-Some.place p q c.index_mut.ensures.value (λ l. ap (λ ws. let x : OpenStream = record (with_progress p l) { whole = ws } in x) c.in_ok-reserve.ensures.items) in
+    let q : StreamProgress = record p { complete = c.reserve.new.self } in
+    let kept = progress-kept h.numbers h.sender h.receiver h.progress.items c.self.invariant c.in-Some.place p q c.index_mut.ensures.value (λ l. ap (λ ws. let x : OpenStream = record (with_progress p l) { complete = ws } in x) c.in_ok-reserve.ensures.items) in
     ap (λ r. sides h.sender r (slice_set h.progress.items c.in-Some.place q)) c.in_default-data.ensures.err ∙ kept ∙ c.self.view_is
 
 pub index_mut-requires-then-complete_on-before : goal.index_mut-requires-then-complete_on-before
@@ -65,19 +65,19 @@ pub invariant_of-self-then-complete_on-before : goal.invariant_of-self-then-comp
 invariant_of-self-then-complete_on-before c =
     let h = c.self.inside in
     let p = c.index_mut.result.now in
-    let q : StreamProgress = record p { whole = c.reserve.new.self } in
+    let q : StreamProgress = record p { complete = c.reserve.new.self } in
     let ps = slice_set h.progress.items c.in-Some.place q in
     let a = with-progresses h.numbers h.sender h.receiver h.progress.items c.self.invariant ps (progress-number h.numbers h.sender h.receiver h.progress.items c.self.invariant c.in-Some.place p q c.index_mut.ensures.value refl) in
     let b = taken-aligned h.numbers h.sender h.receiver ps a c.args.chunk.now c.in-Ok.arrival c.data.new.self c.in-Ok.ensures.ok in
     let p2 = c.index_mut-then-complete_on-before.result.now in
-    let q2 : StreamProgress = record p2 { whole = c.push_back_reserved.new.self } in
+    let q2 : StreamProgress = record p2 { complete = c.push_back_reserved.new.self } in
     with-progresses h.numbers h.sender c.data.new.self ps b _ (progress-number h.numbers h.sender c.data.new.self ps b c.in-Some.place p2 q2 c.index_mut-then-complete_on-before.ensures.value refl)
 
 pub invariant_of-self-else-complete_on-before : goal.invariant_of-self-else-complete_on-before
 invariant_of-self-else-complete_on-before c =
     let h = c.self.inside in
     let p = c.index_mut.result.now in
-    let q : StreamProgress = record p { whole = c.reserve.new.self } in
+    let q : StreamProgress = record p { complete = c.reserve.new.self } in
     let ps = slice_set h.progress.items c.in-Some.place q in
     let a = with-progresses h.numbers h.sender h.receiver h.progress.items c.self.invariant ps (progress-number h.numbers h.sender h.receiver h.progress.items c.self.invariant c.in-Some.place p q c.index_mut.ensures.value refl) in
     taken-aligned h.numbers h.sender h.receiver ps a c.args.chunk.now c.in-Ok.arrival c.data.new.self c.in-Ok.ensures.ok
@@ -86,24 +86,24 @@ pub returns-then-complete_on-before-clause-ok : goal.returns-then-complete_on-be
 returns-then-complete_on-before-clause-ok c =
     let h = c.self.inside in
     let p = c.index_mut.result.now in
-    let q : StreamProgress = record p { whole = c.reserve.new.self } in
+    let q : StreamProgress = record p { complete = c.reserve.new.self } in
     let ps = slice_set h.progress.items c.in-Some.place q in
     let a = with-progresses h.numbers h.sender h.receiver h.progress.items c.self.invariant ps (progress-number h.numbers h.sender h.receiver h.progress.items c.self.invariant c.in-Some.place p q c.index_mut.ensures.value refl) in
-    let kept = progress-kept h.numbers h.sender h.receiver h.progress.items c.self.invariant c.in-Some.place p q c.index_mut.ensures.value (λ l. ap (λ ws. let x : OpenStream = record (with_progress p l) { whole = ws } in x) c.in_ok-reserve.ensures.items) in
+    let kept = progress-kept h.numbers h.sender h.receiver h.progress.items c.self.invariant c.in-Some.place p q c.index_mut.ensures.value (λ l. ap (λ ws. let x : OpenStream = record (with_progress p l) { complete = ws } in x) c.in_ok-reserve.ensures.items) in
     let p2 = c.index_mut-then-complete_on-before.result.now in
-    let q2 : StreamProgress = record p2 { whole = c.push_back_reserved.new.self } in
+    let q2 : StreamProgress = record p2 { complete = c.push_back_reserved.new.self } in
     subst (λ o. Takes c.args.chunk.now c.args.number c.in-Ok.arrival o (sides h.sender c.data.new.self (slice_set ps c.in-Some.place q2))) (kept ∙ c.self.view_is)
-    (takes-whole h.numbers h.sender h.receiver ps a c.args.chunk.now c.args.number c.in-Some.place c.in-Some.ensures c.data.new.self c.complete_on-before.result c.complete_on.result c.complete_on-before.ensures.some c.complete_on.ensures.some c.if-complete_on-before.true c.in-Ok.arrival c.in-Ok.ensures.ok p2 q2 c.index_mut-then-complete_on-before.ensures.value
-    (λ l. ap (λ ws. let x : OpenStream = record (with_progress p2 l) { whole = ws } in x) c.push_back_reserved.ensures.items))
+    (takes-complete h.numbers h.sender h.receiver ps a c.args.chunk.now c.args.number c.in-Some.place c.in-Some.ensures c.data.new.self c.complete_on-before.result c.complete_on.result c.complete_on-before.ensures.some c.complete_on.ensures.some c.if-complete_on-before.true c.in-Ok.arrival c.in-Ok.ensures.ok p2 q2 c.index_mut-then-complete_on-before.ensures.value
+    (λ l. ap (λ ws. let x : OpenStream = record (with_progress p2 l) { complete = ws } in x) c.push_back_reserved.ensures.items))
 
 pub returns-else-complete_on-before-clause-ok : goal.returns-else-complete_on-before-clause-ok
 returns-else-complete_on-before-clause-ok c =
     let h = c.self.inside in
     let p = c.index_mut.result.now in
-    let q : StreamProgress = record p { whole = c.reserve.new.self } in
+    let q : StreamProgress = record p { complete = c.reserve.new.self } in
     let ps = slice_set h.progress.items c.in-Some.place q in
     let a = with-progresses h.numbers h.sender h.receiver h.progress.items c.self.invariant ps (progress-number h.numbers h.sender h.receiver h.progress.items c.self.invariant c.in-Some.place p q c.index_mut.ensures.value refl) in
-    let kept = progress-kept h.numbers h.sender h.receiver h.progress.items c.self.invariant c.in-Some.place p q c.index_mut.ensures.value (λ l. ap (λ ws. let x : OpenStream = record (with_progress p l) { whole = ws } in x) c.in_ok-reserve.ensures.items) in
+    let kept = progress-kept h.numbers h.sender h.receiver h.progress.items c.self.invariant c.in-Some.place p q c.index_mut.ensures.value (λ l. ap (λ ws. let x : OpenStream = record (with_progress p l) { complete = ws } in x) c.in_ok-reserve.ensures.items) in
     subst (λ o. Takes c.args.chunk.now c.args.number c.in-Ok.arrival o (sides h.sender c.data.new.self ps)) (kept ∙ c.self.view_is)
     (takes-more h.numbers h.sender h.receiver ps a c.args.chunk.now c.args.number c.in-Some.place c.in-Some.ensures c.data.new.self c.complete_on-before.result c.complete_on.result c.complete_on-before.ensures.some c.complete_on.ensures.some c.if-complete_on-before.false c.in-Ok.arrival c.in-Ok.ensures.ok)
 
@@ -111,39 +111,39 @@ pub returns-in_err-reserve-clause-grows : goal.returns-in_err-reserve-clause-gro
 returns-in_err-reserve-clause-grows c =
     let h = c.self.inside in
     let p = c.index_mut.result.now in
-    let q : StreamProgress = record p { whole = c.reserve.new.self } in
-    let kept = progress-kept h.numbers h.sender h.receiver h.progress.items c.self.invariant c.in-Some.place p q c.index_mut.ensures.value (λ l. ap (λ ws. let x : OpenStream = record (with_progress p l) { whole = ws } in x) c.in_err-reserve.ensures.items) in
+    let q : StreamProgress = record p { complete = c.reserve.new.self } in
+    let kept = progress-kept h.numbers h.sender h.receiver h.progress.items c.self.invariant c.in-Some.place p q c.index_mut.ensures.value (λ l. ap (λ ws. let x : OpenStream = record (with_progress p l) { complete = ws } in x) c.in_err-reserve.ensures.items) in
     subst (λ z. Grows c.args.self.now z) (sym (kept ∙ c.self.view_is)) (grows-same c.args.self.now)
 
 pub returns-in_default-data-clause-grows : goal.returns-in_default-data-clause-grows
 returns-in_default-data-clause-grows c =
     let h = c.self.inside in
     let p = c.index_mut.result.now in
-    let q : StreamProgress = record p { whole = c.reserve.new.self } in
-    let kept = progress-kept h.numbers h.sender h.receiver h.progress.items c.self.invariant c.in-Some.place p q c.index_mut.ensures.value (λ l. ap (λ ws. let x : OpenStream = record (with_progress p l) { whole = ws } in x) c.in_ok-reserve.ensures.items) in
+    let q : StreamProgress = record p { complete = c.reserve.new.self } in
+    let kept = progress-kept h.numbers h.sender h.receiver h.progress.items c.self.invariant c.in-Some.place p q c.index_mut.ensures.value (λ l. ap (λ ws. let x : OpenStream = record (with_progress p l) { complete = ws } in x) c.in_ok-reserve.ensures.items) in
     subst (λ z. Grows c.args.self.now z) (sym (ap (λ r. sides h.sender r (slice_set h.progress.items c.in-Some.place q)) c.in_default-data.ensures.err ∙ kept ∙ c.self.view_is)) (grows-same c.args.self.now)
 
 pub returns-then-complete_on-before-clause-grows : goal.returns-then-complete_on-before-clause-grows
 returns-then-complete_on-before-clause-grows c =
     let h = c.self.inside in
     let p = c.index_mut.result.now in
-    let q : StreamProgress = record p { whole = c.reserve.new.self } in
+    let q : StreamProgress = record p { complete = c.reserve.new.self } in
     let ps = slice_set h.progress.items c.in-Some.place q in
     let a = with-progresses h.numbers h.sender h.receiver h.progress.items c.self.invariant ps (progress-number h.numbers h.sender h.receiver h.progress.items c.self.invariant c.in-Some.place p q c.index_mut.ensures.value refl) in
-    let kept = progress-kept h.numbers h.sender h.receiver h.progress.items c.self.invariant c.in-Some.place p q c.index_mut.ensures.value (λ l. ap (λ ws. let x : OpenStream = record (with_progress p l) { whole = ws } in x) c.in_ok-reserve.ensures.items) in
+    let kept = progress-kept h.numbers h.sender h.receiver h.progress.items c.self.invariant c.in-Some.place p q c.index_mut.ensures.value (λ l. ap (λ ws. let x : OpenStream = record (with_progress p l) { complete = ws } in x) c.in_ok-reserve.ensures.items) in
     let p2 = c.index_mut-then-complete_on-before.result.now in
-    let q2 : StreamProgress = record p2 { whole = c.push_back_reserved.new.self } in
+    let q2 : StreamProgress = record p2 { complete = c.push_back_reserved.new.self } in
     subst (λ o. Grows o (sides h.sender c.data.new.self (slice_set ps c.in-Some.place q2))) (kept ∙ c.self.view_is)
-    (grows-whole h.numbers h.sender h.receiver ps a c.args.chunk.now c.args.number c.in-Some.place c.in-Some.ensures c.data.new.self c.complete_on-before.result c.complete_on.result c.complete_on-before.ensures.some c.complete_on.ensures.some c.if-complete_on-before.true c.in-Ok.arrival c.in-Ok.ensures.ok p2 q2 c.index_mut-then-complete_on-before.ensures.value
-    (λ l. ap (λ ws. let x : OpenStream = record (with_progress p2 l) { whole = ws } in x) c.push_back_reserved.ensures.items))
+    (grows-complete h.numbers h.sender h.receiver ps a c.args.chunk.now c.args.number c.in-Some.place c.in-Some.ensures c.data.new.self c.complete_on-before.result c.complete_on.result c.complete_on-before.ensures.some c.complete_on.ensures.some c.if-complete_on-before.true c.in-Ok.arrival c.in-Ok.ensures.ok p2 q2 c.index_mut-then-complete_on-before.ensures.value
+    (λ l. ap (λ ws. let x : OpenStream = record (with_progress p2 l) { complete = ws } in x) c.push_back_reserved.ensures.items))
 
 pub returns-else-complete_on-before-clause-grows : goal.returns-else-complete_on-before-clause-grows
 returns-else-complete_on-before-clause-grows c =
     let h = c.self.inside in
     let p = c.index_mut.result.now in
-    let q : StreamProgress = record p { whole = c.reserve.new.self } in
+    let q : StreamProgress = record p { complete = c.reserve.new.self } in
     let ps = slice_set h.progress.items c.in-Some.place q in
     let a = with-progresses h.numbers h.sender h.receiver h.progress.items c.self.invariant ps (progress-number h.numbers h.sender h.receiver h.progress.items c.self.invariant c.in-Some.place p q c.index_mut.ensures.value refl) in
-    let kept = progress-kept h.numbers h.sender h.receiver h.progress.items c.self.invariant c.in-Some.place p q c.index_mut.ensures.value (λ l. ap (λ ws. let x : OpenStream = record (with_progress p l) { whole = ws } in x) c.in_ok-reserve.ensures.items) in
+    let kept = progress-kept h.numbers h.sender h.receiver h.progress.items c.self.invariant c.in-Some.place p q c.index_mut.ensures.value (λ l. ap (λ ws. let x : OpenStream = record (with_progress p l) { complete = ws } in x) c.in_ok-reserve.ensures.items) in
     subst (λ o. Grows o (sides h.sender c.data.new.self ps)) (kept ∙ c.self.view_is)
     (grows-more h.numbers h.sender h.receiver ps a c.args.chunk.now c.args.number c.in-Some.place c.in-Some.ensures c.data.new.self c.complete_on-before.result c.complete_on.result c.complete_on-before.ensures.some c.complete_on.ensures.some c.in-Ok.arrival c.in-Ok.ensures.ok)

@@ -1,6 +1,6 @@
 use Rattle.std.proofs.Common.{ap, ◌∙◌, refl, ◌++◌, ◌∷◌, []}
+use Rattle.std.specs.List.{filter}
 use Rattle.sctp_stream.specs.Numbers.{is_other}
-use Rattle.sctp_list_lemmas.specs.Lists.{those}
 use Rattle.sctp_transfer.specs.Sender as S
 use Rattle.sctp_halves.specs.declared.halves.progress.StreamProgress.{StreamProgress}
 use Rattle.sctp_halves.specs.Halves.{stream_in}
@@ -19,7 +19,7 @@ invariant_of-self-then-is_err c =
     let absent = is-absent h.numbers h.sender h.receiver h.progress.items c.self.invariant c.args.stream none in
     aligned-same h.numbers h.sender h.receiver h.progress.items c.open.new.self h.receiver c.reserve.new.self.items
     (on-error c.open.result c.is_err.result c.is_err.ensures.value c.if-is_err.true c.open.ensures.err) refl c.reserve.ensures.items
-    c.remove.new.self (number-undone c.args.stream h.numbers c.remove.new.self absent (c.remove.ensures ∙ ap (those (is_other c.args.stream)) c.in_ok-push.ensures.ok)) c.self.invariant
+    c.remove.new.self (number-undone c.args.stream h.numbers c.remove.new.self absent (c.remove.ensures ∙ ap (filter (is_other c.args.stream)) c.in_ok-push.ensures.ok)) c.self.invariant
 
 pub invariant_of-self-then-is_err-2 : goal.invariant_of-self-then-is_err-2
 invariant_of-self-then-is_err-2 c =
@@ -28,9 +28,9 @@ invariant_of-self-then-is_err-2 c =
     let absent = is-absent h.numbers h.sender h.receiver h.progress.items c.self.invariant c.args.stream none in
     let opened = on-ok c.open.result c.is_err.result c.is_err.ensures.value c.if-is_err.false c.open.ensures.ok in
     aligned-same h.numbers h.sender h.receiver h.progress.items c.close.new.self c.open-2.new.self c.reserve.new.self.items
-    (sender-undone h.numbers h.sender h.receiver h.progress.items c.self.invariant c.args.stream none c.close.new.self (c.close.ensures ∙ ap (S.closed c.args.stream) opened))
+    (sender-undone h.numbers h.sender h.receiver h.progress.items c.self.invariant c.args.stream none c.close.new.self (c.close.ensures ∙ ap (S.close_stream c.args.stream) opened))
     (on-error c.open-2.result c.is_err-2.result c.is_err-2.ensures.value c.if-is_err-2.true c.open-2.ensures.err) c.reserve.ensures.items
-    c.remove-then-is_err-2.new.self (number-undone c.args.stream h.numbers c.remove-then-is_err-2.new.self absent (c.remove-then-is_err-2.ensures ∙ ap (those (is_other c.args.stream)) c.in_ok-push.ensures.ok)) c.self.invariant
+    c.remove-then-is_err-2.new.self (number-undone c.args.stream h.numbers c.remove-then-is_err-2.new.self absent (c.remove-then-is_err-2.ensures ∙ ap (filter (is_other c.args.stream)) c.in_ok-push.ensures.ok)) c.self.invariant
 
 pub returns-then-is_err-2-clause-err : goal.returns-then-is_err-2-clause-err
 returns-then-is_err-2-clause-err c =
@@ -38,7 +38,7 @@ returns-then-is_err-2-clause-err c =
     let none = ap (stream_in c.args.stream) c.self.view_is ∙ c.requires in
     let opened = on-ok c.open.result c.is_err.result c.is_err.ensures.value c.if-is_err.false c.open.ensures.ok in
     sides-same h.numbers h.sender h.receiver h.progress.items c.close.new.self c.open-2.new.self c.reserve.new.self.items
-    (sender-undone h.numbers h.sender h.receiver h.progress.items c.self.invariant c.args.stream none c.close.new.self (c.close.ensures ∙ ap (S.closed c.args.stream) opened))
+    (sender-undone h.numbers h.sender h.receiver h.progress.items c.self.invariant c.args.stream none c.close.new.self (c.close.ensures ∙ ap (S.close_stream c.args.stream) opened))
     (on-error c.open-2.result c.is_err-2.result c.is_err-2.ensures.value c.if-is_err-2.true c.open-2.ensures.err) c.reserve.ensures.items
     ∙ c.self.view_is
 
@@ -52,4 +52,4 @@ returns-clause-ok c =
     let put = c.put.ensures.items ∙ ap (λ xs. xs ++ p ∷ []) c.reserve.ensures.items in
     rw (← c.self.view_is)
     (opened-sides h.numbers h.sender h.receiver h.progress.items c.self.invariant c.args.stream none c.open.new.self c.open-2.new.self p sent received c.put.new.items.items put
-    c.new.ensures.whole c.new.ensures.ordered c.new.ensures.begun c.new.ensures.next c.new.ensures.named)
+    c.new.ensures.complete c.new.ensures.ordered c.new.ensures.begun c.new.ensures.next c.new.ensures.named)

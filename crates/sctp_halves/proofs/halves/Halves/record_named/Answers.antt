@@ -1,4 +1,4 @@
-use Rattle.std.proofs.Common.{◌≡◌, ◌<◌, ap, ◌∙◌, refl, arith, length}
+use Rattle.std.proofs.Common.{◌<◌, ap, ◌∙◌, refl, arith, length}
 use Rattle.std.specs.Prelude.{max}
 use Rattle.sctp_halves.specs.declared.halves.progress.StreamProgress.{StreamProgress}
 use Rattle.sctp_halves.specs.Streams.{OpenStream, with_named}

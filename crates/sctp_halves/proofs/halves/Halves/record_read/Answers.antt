@@ -1,4 +1,4 @@
-use Rattle.std.proofs.Common.{◌≡◌, ◌+◌, Bool, true, false, ap, sym, ◌∙◌, refl, arith, drop}
+use Rattle.std.proofs.Common.{◌≡◌, ◌+◌, ap, sym, ◌∙◌, refl, arith, drop}
 use Rattle.std.specs.Prelude.{◌==◌, ◌&&◌, if◌then◌else◌, slice_set}
 use Rattle.std.proofs.lemmas.Bool.{eq-eqb, ne_eqb}
 use Rattle.sctp_halves.specs.declared.halves.progress.StreamProgress.{StreamProgress}
@@ -25,7 +25,7 @@ numbered c q same =
 
 pub invariant_of-self : goal.invariant_of-self
 invariant_of-self c = elim c.if-not-ordered.branch [
-  | then-not-ordered w ↦ rw w.self-inside-is (numbered c (record c.index_mut-progress.result.now { whole = w.pop_front.new.self }) refl)
+  | then-not-ordered w ↦ rw w.self-inside-is (numbered c (record c.index_mut-progress.result.now { complete = w.pop_front.new.self }) refl)
   | else-not-ordered+then-index-progress w ↦ rw w.self-inside-is (numbered c (record c.index_mut-progress.result.now { next = c.args.index + 1 }) refl)
   | else-not-ordered+else-index-progress w ↦ rw w.self-inside-is (numbered c c.index_mut-progress.result.now refl)
 ]
@@ -36,9 +36,9 @@ returns c = elim c.if-not-ordered.branch [
       let h = c.self.inside in
       let p = c.index_mut-progress.result.now in
       rw (w.self-inside-is, ← c.self.view_is)
-      (progress-sides h.numbers h.sender h.receiver h.progress.items c.self.invariant c.in-Some.place p (record p { whole = w.pop_front.new.self }) c.index_mut-progress.ensures.value (read_recorded c.args.ordered c.args.index)
+      (progress-sides h.numbers h.sender h.receiver h.progress.items c.self.invariant c.in-Some.place p (record p { complete = w.pop_front.new.self }) c.index_mut-progress.ensures.value (read_recorded c.args.ordered c.args.index)
       (read-made c.args.ordered c.args.index p w.pop_front.new.self.items p.next
-      (w.pop_front.ensures.rest ∙ ap (λ b. if b then p.whole.items else drop 1 p.whole.items) (sym w.if-not-ordered.true))
+      (w.pop_front.ensures.rest ∙ ap (λ b. if b then p.complete.items else drop 1 p.complete.items) (sym w.if-not-ordered.true))
       (ap (λ b. if b && (c.args.index == p.next) then c.args.index + 1 else p.next) (sym w.if-not-ordered.true)))
       c.args.stream c.in-Some.ensures)
   | else-not-ordered+then-index-progress w ↦
@@ -46,8 +46,8 @@ returns c = elim c.if-not-ordered.branch [
       let p = c.index_mut-progress.result.now in
       rw (w.self-inside-is, ← c.self.view_is)
       (progress-sides h.numbers h.sender h.receiver h.progress.items c.self.invariant c.in-Some.place p (record p { next = c.args.index + 1 }) c.index_mut-progress.ensures.value (read_recorded c.args.ordered c.args.index)
-      (read-made c.args.ordered c.args.index p p.whole.items (c.args.index + 1)
-      (ap (λ b. if b then p.whole.items else drop 1 p.whole.items) (sym w.if-not-ordered.false))
+      (read-made c.args.ordered c.args.index p p.complete.items (c.args.index + 1)
+      (ap (λ b. if b then p.complete.items else drop 1 p.complete.items) (sym w.if-not-ordered.false))
       (ap (λ b. if b then c.args.index + 1 else p.next) (sym (eq-eqb c.args.index p.next w.if-index-progress.true)) ∙ ap (λ b. if b && (c.args.index == p.next) then c.args.index + 1 else p.next) (sym w.if-not-ordered.false)))
       c.args.stream c.in-Some.ensures)
   | else-not-ordered+else-index-progress w ↦
@@ -55,8 +55,8 @@ returns c = elim c.if-not-ordered.branch [
       let p = c.index_mut-progress.result.now in
       rw (w.self-inside-is, ← c.self.view_is)
       (progress-sides h.numbers h.sender h.receiver h.progress.items c.self.invariant c.in-Some.place p p c.index_mut-progress.ensures.value (read_recorded c.args.ordered c.args.index)
-      (read-made c.args.ordered c.args.index p p.whole.items p.next
-      (ap (λ b. if b then p.whole.items else drop 1 p.whole.items) (sym w.if-not-ordered.false))
+      (read-made c.args.ordered c.args.index p p.complete.items p.next
+      (ap (λ b. if b then p.complete.items else drop 1 p.complete.items) (sym w.if-not-ordered.false))
       (ap (λ b. if b then c.args.index + 1 else p.next) (sym (ne_eqb c.args.index p.next w.if-index-progress.false)) ∙ ap (λ b. if b && (c.args.index == p.next) then c.args.index + 1 else p.next) (sym w.if-not-ordered.false)))
       c.args.stream c.in-Some.ensures)
 ]

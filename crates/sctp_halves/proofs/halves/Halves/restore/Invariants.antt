@@ -7,5 +7,5 @@ invariant-loop-place l = record {
   sender : l.self-inside.sender ≡ l.initial.self-inside.sender;
   receiver : l.self-inside.receiver ≡ l.initial.self-inside.receiver;
   numbers : l.self-inside.numbers ≡ l.initial.self-inside.numbers;
-  cut : CutTo l.place l.saved.whole.items l.initial.self-inside.progress.items l.self-inside.progress.items;
+  cut : CutTo l.place l.saved.complete.items l.initial.self-inside.progress.items l.self-inside.progress.items;
 }

@@ -2,7 +2,7 @@ use Rattle.std.proofs.Common.{rules, ◌≡◌, ◌<◌, ◌++◌, ◌∷◌, []
 use Rattle.std.proofs.lemmas.List.{take_more, take_all, map-append}
 use Rattle.sctp_halves.specs.declared.halves.progress.StreamProgress.{StreamProgress}
 use Rattle.sctp_halves.proofs.Aligned.{reception-is}
-use Rattle.sctp_halves.proofs.Growing.{wholes-joined}
+use Rattle.sctp_halves.proofs.Growing.{complete_ones-joined}
 use Rattle.sctp_halves.proofs.halves.Halves.save.Goals as goal
 
 pub loop-place-preserved : goal.loop-place-preserved
@@ -10,11 +10,11 @@ loop-place-preserved c =
     let ps = c.self.inside.progress.items in
     let i = c.loop-place.place in
     let lt : i < length ps = omega (arith, c.loop-place-test.true, c.len-place-end.ensures) in
-    let count : c.len.result ≡ length c.index.result.now.whole.items = search rules in
+    let count : c.len.result ≡ length c.index.result.now.complete.items = search rules in
     c.in_ok-push.ensures.items
     ∙ ap (λ ws. ws ++ c.len.result ∷ []) c.loop-place.invariant
-    ∙ ap (λ n. map (λ (p : StreamProgress). length p.whole.items) (take i ps) ++ n ∷ []) (count ∙ ap (λ (p : StreamProgress). length p.whole.items) c.index.ensures)
-    ∙ sym (ap (map (λ (p : StreamProgress). length p.whole.items)) (take_more ps i c.index.result.now lt) ∙ map-append (λ (p : StreamProgress). length p.whole.items) (take i ps) (_ ∷ []))
+    ∙ ap (λ n. map (λ (p : StreamProgress). length p.complete.items) (take i ps) ++ n ∷ []) (count ∙ ap (λ (p : StreamProgress). length p.complete.items) c.index.ensures)
+    ∙ sym (ap (map (λ (p : StreamProgress). length p.complete.items)) (take_more ps i c.index.result.now lt) ∙ map-append (λ (p : StreamProgress). length p.complete.items) (take i ps) (_ ∷ []))
 
 pub returns-clause-ok : goal.returns-clause-ok
 returns-clause-ok c =
@@ -22,5 +22,5 @@ returns-clause-ok c =
     let all : take c.loop-place.place h.progress.items ≡ h.progress.items = take_all c.loop-place.place h.progress.items (omega (arith, c.loop-place-test.false, c.len-place-end.ensures)) in
     rw (← c.self.view_is) (record {
       receiver = c.in-Ok.ensures.ok ∙ sym (reception-is h.numbers h.sender h.receiver h.progress.items c.self.invariant);
-      whole = c.loop-place.invariant ∙ ap (map (λ (p : StreamProgress). length p.whole.items)) all ∙ sym (wholes-joined h.numbers h.sender h.receiver h.progress.items c.self.invariant);
+      complete = c.loop-place.invariant ∙ ap (map (λ (p : StreamProgress). length p.complete.items)) all ∙ sym (complete_ones-joined h.numbers h.sender h.receiver h.progress.items c.self.invariant);
     })

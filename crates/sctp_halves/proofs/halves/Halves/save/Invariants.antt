@@ -3,4 +3,4 @@ use Rattle.sctp_halves.specs.declared.halves.progress.StreamProgress.{StreamProg
 use Rattle.sctp_halves.proofs.halves.Halves.save.Given as goal
 
 abbrev pub invariant-loop-place : goal.invariant-loop-place
-invariant-loop-place l = l.whole.items ≡ map (λ (p : StreamProgress). length p.whole.items) (take l.place l.self-inside.progress.items)
+invariant-loop-place l = l.complete.items ≡ map (λ (p : StreamProgress). length p.complete.items) (take l.place l.self-inside.progress.items)

@@ -1,6 +1,6 @@
 use Rattle.std.proofs.Common.{◌≡◌, ◌<◌, ◌+◌, ◌^◌, ap, sym, ◌∙◌, refl, arith, rules, length, None, Some, true, false}
 use Rattle.std.specs.Prelude.{option_map}
-use Rattle.sctp_stream.specs.Stream as stream
+use Rattle.sctp_chunks.specs.PayloadTypes.{is_ordered}
 use Rattle.sctp_stream.specs.declared.stream.StreamState.{StreamState}
 use Rattle.sctp_transfer.specs.declared.sender.refusal.SenderRefusal.TheVariants.{StreamUnknown}
 use Rattle.sctp_transfer.specs.Outgoing as Outgoing
@@ -76,8 +76,8 @@ pub returns-then-written-clause-answer : goal.returns-then-written-clause-answer
 returns-then-written-clause-answer c =
     let h = c.self.inside in
     rw (← c.self.view_is) (λ l e.
-    recorded c.written-written.result c.in-Some-stream.state.now c.args.ppi c.index.result.now.ordered l
-    c.written-written.ensures.ordered c.written-written.ensures.reliability c.written-written.ensures.value c.written-written.ensures.before
+    recorded c.written_of-written.result c.in-Some-stream.state.now c.args.ppi c.index.result.now.ordered l
+    c.written_of-written.ensures.ordered c.written_of-written.ensures.reliability c.written_of-written.ensures.value c.written_of-written.ensures.before
     (state-is h.numbers h.sender h.receiver h.progress.items c.self.invariant c.args.stream c.in-Some.place c.in-Some.ensures l e c.in-Some-stream.state.now c.in-Some-stream.ensures)
     (ordered-is h.numbers h.sender h.receiver h.progress.items c.self.invariant c.args.stream c.in-Some.place c.in-Some.ensures l e c.index.result.now c.index.ensures))
 
@@ -90,7 +90,7 @@ returns-then-written-clause-ok c =
     let same = same-place h.progress.items c.in-Some.place c.index.result.now p lt c.index.ensures c.index_mut.ensures.value in
     rw (← c.self.view_is) (λ l e.
     let state = state-is h.numbers h.sender h.receiver h.progress.items c.self.invariant c.args.stream c.in-Some.place c.in-Some.ensures l e c.in-Some-stream.state.now c.in-Some-stream.ensures in
-    let kind : stream.is_ordered l.state.unordered c.args.ppi ≡ true = ap (λ (z : StreamState). stream.is_ordered z.unordered c.args.ppi) (sym state) ∙ sym c.written-written.ensures.ordered ∙ c.if-written.true in
+    let kind : is_ordered l.state.unordered c.args.ppi ≡ true = ap (λ (z : StreamState). is_ordered z.unordered c.args.ppi) (sym state) ∙ sym c.written_of-written.ensures.ordered ∙ c.if-written.true in
     let sent = c.in-Ok.ensures.ok c.requires.some l.state (sender-has h.numbers h.sender h.receiver h.progress.items c.self.invariant c.args.stream c.in-Some.place c.in-Some.ensures l e) in
     ordered-written h.numbers h.sender h.receiver h.progress.items c.self.invariant c.args.stream c.in-Some.place c.in-Some.ensures l e c.args.ppi c.args.bytes.now c.write.new.self sent kind p q c.index_mut.ensures.value
     (λ m. ap (λ (x : StreamProgress). let z : StreamProgress = record p { ordered = x.ordered + 1 } in with_progress z m) same))
@@ -99,8 +99,8 @@ pub returns-else-written-clause-answer : goal.returns-else-written-clause-answer
 returns-else-written-clause-answer c =
     let h = c.self.inside in
     rw (← c.self.view_is) (λ l e.
-    recorded c.written-written.result c.in-Some-stream.state.now c.args.ppi c.index.result.now.ordered l
-    c.written-written.ensures.ordered c.written-written.ensures.reliability c.written-written.ensures.value c.written-written.ensures.before
+    recorded c.written_of-written.result c.in-Some-stream.state.now c.args.ppi c.index.result.now.ordered l
+    c.written_of-written.ensures.ordered c.written_of-written.ensures.reliability c.written_of-written.ensures.value c.written_of-written.ensures.before
     (state-is h.numbers h.sender h.receiver h.progress.items c.self.invariant c.args.stream c.in-Some.place c.in-Some.ensures l e c.in-Some-stream.state.now c.in-Some-stream.ensures)
     (ordered-is h.numbers h.sender h.receiver h.progress.items c.self.invariant c.args.stream c.in-Some.place c.in-Some.ensures l e c.index.result.now c.index.ensures))
 
@@ -109,6 +109,6 @@ returns-else-written-clause-ok c =
     let h = c.self.inside in
     rw (← c.self.view_is) (λ l e.
     let state = state-is h.numbers h.sender h.receiver h.progress.items c.self.invariant c.args.stream c.in-Some.place c.in-Some.ensures l e c.in-Some-stream.state.now c.in-Some-stream.ensures in
-    let kind : stream.is_ordered l.state.unordered c.args.ppi ≡ false = ap (λ (z : StreamState). stream.is_ordered z.unordered c.args.ppi) (sym state) ∙ sym c.written-written.ensures.ordered ∙ c.if-written.false in
+    let kind : is_ordered l.state.unordered c.args.ppi ≡ false = ap (λ (z : StreamState). is_ordered z.unordered c.args.ppi) (sym state) ∙ sym c.written_of-written.ensures.ordered ∙ c.if-written.false in
     let sent = c.in-Ok.ensures.ok c.requires.some l.state (sender-has h.numbers h.sender h.receiver h.progress.items c.self.invariant c.args.stream c.in-Some.place c.in-Some.ensures l e) in
     unordered-written h.numbers h.sender h.receiver h.progress.items c.self.invariant c.args.stream c.in-Some.place c.in-Some.ensures l e c.args.ppi c.args.bytes.now c.write.new.self sent kind)

@@ -2,17 +2,17 @@ use Rattle.std.proofs.Common.{◌≡◌, ◌+◌, ◌-◌, ◌%◌, ◌^◌, ◌
 use Rattle.sctp_list_lemmas.proofs.Getting.{length-mapped}
 use Rattle.sctp_chunks.specs.SelectiveAck.{Sack, sack_of}
 use Rattle.sctp_model.specs.Reply as R
-use Rattle.sctp_model.specs.Changes.{reported}
+use Rattle.sctp_model.specs.Changes.{after_ack}
 use Rattle.sctp_transfer.specs.Receiver.{filter_of}
 use Rattle.sctp_halves.specs.Halves.{reception_of}
 use Rattle.sctp_link.specs.declared.record.Kind.{Kind}
 use Rattle.sctp_link.specs.declared.record.Kind.TheVariants as K
 use Rattle.sctp_link.specs.declared.record.Datagram.{Datagram}
 use Rattle.sctp_link.specs.Records.{datagram_record}
-use Rattle.sctp_link.specs.Fields.{state_in, world_in}
+use Rattle.sctp_link.specs.Fields.{state_in, record_in}
 use Rattle.sctp_link.proofs.upkeep.Frames.{moved}
 use Rattle.sctp_link.proofs.sender.Outgoing.{network-more, bytes-more}
-use Rattle.sctp_link.proofs.acknowledging.Reporting.{cut-is, told-count, told-is, told-some, fits-encoding, cumulative-place, report-is, linked-ack, world-acked}
+use Rattle.sctp_link.proofs.acknowledging.Reporting.{cut-is, told-count, told-is, fits-encoding, cumulative-place, report-is, linked-ack, recorded-acked}
 use Rattle.sctp_link.proofs.link.Link.ack.Goals as goal
 
 pub write_datagram-requires-clause-encoding : goal.write_datagram-requires-clause-encoding
@@ -37,9 +37,9 @@ invariant_of-self-2 g c =
     let tsn : c.in_ok-sack.sack.cumulative_tsn_ack ≡ c.self.inside.halves.cumulative_tsn = ap (λ (t : Sack). t.cumulative_tsn_ack) is in
     let place : c.from.result ≡ ((c.in_ok-sack.sack.cumulative_tsn_ack + (2 ^ 32 - c.self.inside.first_tsn)) % 2 ^ 32 + 1) % 2 ^ 32 = search rules in
     let report = report-is sum x c.self.invariant c.args.credit _ s.gap_ack_blocks refl cut (length s.duplicate_tsn) counted c.from.result _ c.in_ok-duplicates.duplicates.items (place ∙ ap (λ t. ((t + (2 ^ 32 - c.self.inside.first_tsn)) % 2 ^ 32 + 1) % 2 ^ 32) tsn ∙ cumulative-place sum x c.self.invariant c.args.credit) refl noted in
-    let moves = world-acked (world_in c.self.inside) c.args.credit _ c.clear.new.self.items _ network (rw kept report) (search rules) in
+    let moves = recorded-acked (record_in c.self.inside) c.args.credit _ c.clear.new.self.items _ network (rw kept report) (search rules) in
     let len = length-mapped (λ (d : Datagram). d.bytes) c.self.inside.network.items ∙ sym (length-mapped datagram_record c.self.inside.network.items) in
-    rw c.sack_sent.ensures (moved _ _ (reported (world_in c.self.inside) c.args.credit) moves
+    rw c.sack_sent.ensures (moved _ _ (after_ack (record_in c.self.inside) c.args.credit) moves
     (rw bytes (linked-ack sum x c.self.invariant c.args.credit _ s.gap_ack_blocks refl cut (length s.duplicate_tsn) counted s c.in_ok-bytes.bytes (record (filter_of r) { duplicates = [] }) tsn (ap (λ (t : Sack). t.advertised_receiver_window_credit) is) refl (told-is sum x c.self.invariant c.args.credit r refl s is) (search rules) (search rules) len refl)))
 
 pub returns-clause-ok : goal.returns-clause-ok
@@ -59,6 +59,6 @@ returns-clause-ok g c =
     let tsn : c.in_ok-sack.sack.cumulative_tsn_ack ≡ c.self.inside.halves.cumulative_tsn = ap (λ (t : Sack). t.cumulative_tsn_ack) is in
     let place : c.from.result ≡ ((c.in_ok-sack.sack.cumulative_tsn_ack + (2 ^ 32 - c.self.inside.first_tsn)) % 2 ^ 32 + 1) % 2 ^ 32 = search rules in
     let report = report-is sum x c.self.invariant c.args.credit _ s.gap_ack_blocks refl cut (length s.duplicate_tsn) counted c.from.result _ c.in_ok-duplicates.duplicates.items (place ∙ ap (λ t. ((t + (2 ^ 32 - c.self.inside.first_tsn)) % 2 ^ 32 + 1) % 2 ^ 32) tsn ∙ cumulative-place sum x c.self.invariant c.args.credit) refl noted in
-    let moves = world-acked (world_in c.self.inside) c.args.credit _ c.clear.new.self.items _ network (rw kept report) (search rules) in
+    let moves = recorded-acked (record_in c.self.inside) c.args.credit _ c.clear.new.self.items _ network (rw kept report) (search rules) in
     let len : c.len-datagram.result ≡ length c.self.inside.network.items = search rules in
     rw (← c.self.view_is) (rw c.sack_sent.ensures (record { right = ap R.Ack (len ∙ sym (length-mapped datagram_record c.self.inside.network.items)); moves = moves }))

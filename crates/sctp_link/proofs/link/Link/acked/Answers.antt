@@ -2,7 +2,7 @@ use Rattle.std.proofs.Common.{◌≡◌, ◌+◌, ◌-◌, ◌<◌, ◌%◌, ◌
 use Rattle.std.specs.List.{list_any}
 use Rattle.sctp_chunks.specs.SelectiveAck.{sack_of}
 use Rattle.sctp_serial.specs.DataChunks.{bytes_of}
-use Rattle.sctp_outbound.specs.payload_queue.Blocks.{covered}
+use Rattle.sctp_outbound.specs.payload_queue.Blocks.{is_in_blocks}
 use Rattle.sctp_outbound.specs.outbound_queue.OutboundQueue.{Outbound}
 use Rattle.std.specs.Vec.{with_items}
 use Rattle.std.proofs.lemmas.List.{with_items_is}
@@ -12,28 +12,28 @@ use Rattle.sctp_model.specs.Reply as R
 use Rattle.sctp_model.specs.Steps.{refusal_of}
 use Rattle.sctp_refinement.specs.Amount.{acknowledged_at}
 use Rattle.sctp_transfer.specs.Flight.{released_by, after_sack}
-use Rattle.sctp_halves.specs.Streams.{released}
+use Rattle.sctp_halves.specs.Streams.{after_releases}
 use Rattle.sctp_halves.specs.Halves.{Sides}
 use Rattle.sctp_link.specs.Acking.{IsMarking, and_run, and_blocks, in_block}
-use Rattle.sctp_link.specs.Fields.{world_in, state_in}
+use Rattle.sctp_link.specs.Fields.{record_in, state_in}
 use Rattle.sctp_link.proofs.upkeep.Facts.{facts}
 use Rattle.sctp_link.proofs.acknowledging.SackTaken.{sack-there, wire_sack, reads-sack, count-is, count-made, reported, marking-first, not-refused, within-run, within-blocks, taken-all}
 use Rattle.sctp_link.proofs.link.Link.acked.Goals as goal
 
 pub read_sack-requires : goal.read_sack-requires
 read_sack-requires g c =
-    let there = sack-there _ (ap (λ s. refusal_of s.world (E.Acked c.args.k)) c.self.view_is ∙ c.requires) in
-    (wire_sack (world_in c.self.inside) there.0, reads-sack (g.C.Checksum.sum c.self.inside.checksum) (state_in c.self.inside) c.self.inside.network.items c.args.k c.index.result.now there.0 c.self.invariant refl refl c.index.ensures there.1)
+    let there = sack-there _ (ap (λ s. refusal_of s.recorded (E.Acked c.args.k)) c.self.view_is ∙ c.requires) in
+    (wire_sack (record_in c.self.inside) there.0, reads-sack (g.C.Checksum.sum c.self.inside.checksum) (state_in c.self.inside) c.self.inside.network.items c.args.k c.index.result.now there.0 c.self.invariant refl refl c.index.ensures there.1)
 
 pub overflow_cast-upto : goal.overflow_cast-upto
 overflow_cast-upto g c =
     let sum = g.C.Checksum.sum c.self.inside.checksum in
     let l = c.self.invariant in
-    let none = ap (λ s. refusal_of s.world (E.Acked c.args.k)) c.self.view_is ∙ c.requires in
+    let none = ap (λ s. refusal_of s.recorded (E.Acked c.args.k)) c.self.view_is ∙ c.requires in
     let there = sack-there _ none in
     let reads = reads-sack sum (state_in c.self.inside) c.self.inside.network.items c.args.k c.index.result.now there.0 l refl refl c.index.ensures there.1 in
-    let says = c.in_ok-sack.ensures.chunk (wire_sack (world_in c.self.inside) there.0) reads in
-    let made = count-made (world_in c.self.inside) c.args.k there.0 (reported sum (state_in c.self.inside) l) there.1 in
+    let says = c.in_ok-sack.ensures.chunk (wire_sack (record_in c.self.inside) there.0) reads in
+    let made = count-made (record_in c.self.inside) c.args.k there.0 (reported sum (state_in c.self.inside) l) there.1 in
     let few = (facts sum (state_in c.self.inside) l).few in
     let before = (facts sum (state_in c.self.inside) l).taken in
     let count = count-is c.self.inside.first_tsn there.0.cumulative c.in_ok-sack.sack.cumulative_tsn_ack l.setup.first (omega (arith, made, few)) (ap (λ s. s.cumulative_tsn_ack) says) in
@@ -44,36 +44,36 @@ pub acked-requires : goal.acked-requires
 acked-requires g c =
     let sum = g.C.Checksum.sum c.self.inside.checksum in
     let l = c.self.invariant in
-    let none = ap (λ s. refusal_of s.world (E.Acked c.args.k)) c.self.view_is ∙ c.requires in
+    let none = ap (λ s. refusal_of s.recorded (E.Acked c.args.k)) c.self.view_is ∙ c.requires in
     let there = sack-there _ none in
     let reads = reads-sack sum (state_in c.self.inside) c.self.inside.network.items c.args.k c.index.result.now there.0 l refl refl c.index.ensures there.1 in
-    let says = c.in_ok-sack.ensures.chunk (wire_sack (world_in c.self.inside) there.0) reads in
-    let made = count-made (world_in c.self.inside) c.args.k there.0 (reported sum (state_in c.self.inside) l) there.1 in
+    let says = c.in_ok-sack.ensures.chunk (wire_sack (record_in c.self.inside) there.0) reads in
+    let made = count-made (record_in c.self.inside) c.args.k there.0 (reported sum (state_in c.self.inside) l) there.1 in
     let few = (facts sum (state_in c.self.inside) l).few in
     let before = (facts sum (state_in c.self.inside) l).taken in
     let count = count-is c.self.inside.first_tsn there.0.cumulative c.in_ok-sack.sack.cumulative_tsn_ack l.setup.first (omega (arith, made, few)) (ap (λ s. s.cumulative_tsn_ack) says) in
     let top : c.max-taken.result ≡ max c.self.inside.taken there.0.cumulative = c.max-taken.ensures ∙ ap (max c.self.inside.taken) count in
-    let cum : (sack_of c.rebase.new.sack).cumulative_tsn_ack ≡ cumulative_tsn (world_in c.self.inside) c.max-taken.result = omega (arith, c.rebase.ensures.cumulative, l.setup.first, top, made, few, before) in
-    let covers : (n : ℕ) → 0 < n → covered (sack_of c.rebase.new.sack).gap_ack_blocks n ≡ covered (wire_sack (world_in c.self.inside) there.0).gap_ack_blocks (n + (c.max-taken.result - there.0.cumulative)) =
-    λ n pos. c.rebase.ensures.covers n pos ∙ ap (λ bs. covered bs (n + (c.max-taken.result - (((c.in_ok-sack.sack.cumulative_tsn_ack + (2 ^ 32 - c.self.inside.first_tsn)) % 2 ^ 32 + 1) % 2 ^ 32)))) (ap (λ s. s.gap_ack_blocks) says) ∙ ap (λ m. covered (wire_sack (world_in c.self.inside) there.0).gap_ack_blocks (n + (c.max-taken.result - m))) count in
+    let cum : (sack_of c.rebase.new.sack).cumulative_tsn_ack ≡ cumulative_tsn (record_in c.self.inside) c.max-taken.result = omega (arith, c.rebase.ensures.cumulative, l.setup.first, top, made, few, before) in
+    let covers : (n : ℕ) → 0 < n → is_in_blocks (sack_of c.rebase.new.sack).gap_ack_blocks n ≡ is_in_blocks (wire_sack (record_in c.self.inside) there.0).gap_ack_blocks (n + (c.max-taken.result - there.0.cumulative)) =
+    λ n pos. c.rebase.ensures.covers n pos ∙ ap (λ bs. is_in_blocks bs (n + (c.max-taken.result - (((c.in_ok-sack.sack.cumulative_tsn_ack + (2 ^ 32 - c.self.inside.first_tsn)) % 2 ^ 32 + 1) % 2 ^ 32)))) (ap (λ s. s.gap_ack_blocks) says) ∙ ap (λ m. is_in_blocks (wire_sack (record_in c.self.inside) there.0).gap_ack_blocks (n + (c.max-taken.result - m))) count in
     not-refused sum (state_in c.self.inside) c.args.k there.0 l none there.1 (sack_of c.rebase.new.sack) c.max-taken.result top cum covers c.rebase.ensures.begin
 
 pub acknowledge_run-requires : goal.acknowledge_run-requires
 acknowledge_run-requires g c = λ some.
     let sum = g.C.Checksum.sum c.self.inside.checksum in
     let l = c.self.invariant in
-    let none = ap (λ s. refusal_of s.world (E.Acked c.args.k)) c.self.view_is ∙ c.requires in
+    let none = ap (λ s. refusal_of s.recorded (E.Acked c.args.k)) c.self.view_is ∙ c.requires in
     let there = sack-there _ none in
     let reads = reads-sack sum (state_in c.self.inside) c.self.inside.network.items c.args.k c.index.result.now there.0 l refl refl c.index.ensures there.1 in
-    let says = c.in_ok-sack.ensures.chunk (wire_sack (world_in c.self.inside) there.0) reads in
-    let made = count-made (world_in c.self.inside) c.args.k there.0 (reported sum (state_in c.self.inside) l) there.1 in
+    let says = c.in_ok-sack.ensures.chunk (wire_sack (record_in c.self.inside) there.0) reads in
+    let made = count-made (record_in c.self.inside) c.args.k there.0 (reported sum (state_in c.self.inside) l) there.1 in
     let few = (facts sum (state_in c.self.inside) l).few in
     let before = (facts sum (state_in c.self.inside) l).taken in
     let count = count-is c.self.inside.first_tsn there.0.cumulative c.in_ok-sack.sack.cumulative_tsn_ack l.setup.first (omega (arith, made, few)) (ap (λ s. s.cumulative_tsn_ack) says) in
     let top : c.max-taken.result ≡ max c.self.inside.taken there.0.cumulative = c.max-taken.ensures ∙ ap (max c.self.inside.taken) count in
-    let cum : (sack_of c.rebase.new.sack).cumulative_tsn_ack ≡ cumulative_tsn (world_in c.self.inside) c.max-taken.result = omega (arith, c.rebase.ensures.cumulative, l.setup.first, top, made, few, before) in
-    let covers : (n : ℕ) → 0 < n → covered (sack_of c.rebase.new.sack).gap_ack_blocks n ≡ covered (wire_sack (world_in c.self.inside) there.0).gap_ack_blocks (n + (c.max-taken.result - there.0.cumulative)) =
-    λ n pos. c.rebase.ensures.covers n pos ∙ ap (λ bs. covered bs (n + (c.max-taken.result - (((c.in_ok-sack.sack.cumulative_tsn_ack + (2 ^ 32 - c.self.inside.first_tsn)) % 2 ^ 32 + 1) % 2 ^ 32)))) (ap (λ s. s.gap_ack_blocks) says) ∙ ap (λ m. covered (wire_sack (world_in c.self.inside) there.0).gap_ack_blocks (n + (c.max-taken.result - m))) count in
+    let cum : (sack_of c.rebase.new.sack).cumulative_tsn_ack ≡ cumulative_tsn (record_in c.self.inside) c.max-taken.result = omega (arith, c.rebase.ensures.cumulative, l.setup.first, top, made, few, before) in
+    let covers : (n : ℕ) → 0 < n → is_in_blocks (sack_of c.rebase.new.sack).gap_ack_blocks n ≡ is_in_blocks (wire_sack (record_in c.self.inside) there.0).gap_ack_blocks (n + (c.max-taken.result - there.0.cumulative)) =
+    λ n pos. c.rebase.ensures.covers n pos ∙ ap (λ bs. is_in_blocks bs (n + (c.max-taken.result - (((c.in_ok-sack.sack.cumulative_tsn_ack + (2 ^ 32 - c.self.inside.first_tsn)) % 2 ^ 32 + 1) % 2 ^ 32)))) (ap (λ s. s.gap_ack_blocks) says) ∙ ap (λ m. is_in_blocks (wire_sack (record_in c.self.inside) there.0).gap_ack_blocks (n + (c.max-taken.result - m))) count in
     let first = marking-first sum (state_in c.self.inside) c.self.inside.slots.items l refl in
     omega (arith, within-run sum (state_in c.self.inside) c.args.k there.0 l none there.1 (sack_of c.rebase.new.sack) c.max-taken.result top cum covers c.rebase.ensures.begin some, first.count, ap length c.deref_mut.ensures.value)
 
@@ -81,11 +81,11 @@ pub acknowledge_blocks-requires-clause-short : goal.acknowledge_blocks-requires-
 acknowledge_blocks-requires-clause-short g c =
     let sum = g.C.Checksum.sum c.self.inside.checksum in
     let l = c.self.invariant in
-    let none = ap (λ s. refusal_of s.world (E.Acked c.args.k)) c.self.view_is ∙ c.requires in
+    let none = ap (λ s. refusal_of s.recorded (E.Acked c.args.k)) c.self.view_is ∙ c.requires in
     let there = sack-there _ none in
     let reads = reads-sack sum (state_in c.self.inside) c.self.inside.network.items c.args.k c.index.result.now there.0 l refl refl c.index.ensures there.1 in
-    let says = c.in_ok-sack.ensures.chunk (wire_sack (world_in c.self.inside) there.0) reads in
-    let made = count-made (world_in c.self.inside) c.args.k there.0 (reported sum (state_in c.self.inside) l) there.1 in
+    let says = c.in_ok-sack.ensures.chunk (wire_sack (record_in c.self.inside) there.0) reads in
+    let made = count-made (record_in c.self.inside) c.args.k there.0 (reported sum (state_in c.self.inside) l) there.1 in
     let few = (facts sum (state_in c.self.inside) l).few in
     let before = (facts sum (state_in c.self.inside) l).taken in
     let count = count-is c.self.inside.first_tsn there.0.cumulative c.in_ok-sack.sack.cumulative_tsn_ack l.setup.first (omega (arith, made, few)) (ap (λ s. s.cumulative_tsn_ack) says) in
@@ -96,18 +96,18 @@ pub acknowledge_blocks-requires-clause-within : goal.acknowledge_blocks-requires
 acknowledge_blocks-requires-clause-within g c = λ p any.
     let sum = g.C.Checksum.sum c.self.inside.checksum in
     let l = c.self.invariant in
-    let none = ap (λ s. refusal_of s.world (E.Acked c.args.k)) c.self.view_is ∙ c.requires in
+    let none = ap (λ s. refusal_of s.recorded (E.Acked c.args.k)) c.self.view_is ∙ c.requires in
     let there = sack-there _ none in
     let reads = reads-sack sum (state_in c.self.inside) c.self.inside.network.items c.args.k c.index.result.now there.0 l refl refl c.index.ensures there.1 in
-    let says = c.in_ok-sack.ensures.chunk (wire_sack (world_in c.self.inside) there.0) reads in
-    let made = count-made (world_in c.self.inside) c.args.k there.0 (reported sum (state_in c.self.inside) l) there.1 in
+    let says = c.in_ok-sack.ensures.chunk (wire_sack (record_in c.self.inside) there.0) reads in
+    let made = count-made (record_in c.self.inside) c.args.k there.0 (reported sum (state_in c.self.inside) l) there.1 in
     let few = (facts sum (state_in c.self.inside) l).few in
     let before = (facts sum (state_in c.self.inside) l).taken in
     let count = count-is c.self.inside.first_tsn there.0.cumulative c.in_ok-sack.sack.cumulative_tsn_ack l.setup.first (omega (arith, made, few)) (ap (λ s. s.cumulative_tsn_ack) says) in
     let top : c.max-taken.result ≡ max c.self.inside.taken there.0.cumulative = c.max-taken.ensures ∙ ap (max c.self.inside.taken) count in
-    let cum : (sack_of c.rebase.new.sack).cumulative_tsn_ack ≡ cumulative_tsn (world_in c.self.inside) c.max-taken.result = omega (arith, c.rebase.ensures.cumulative, l.setup.first, top, made, few, before) in
-    let covers : (n : ℕ) → 0 < n → covered (sack_of c.rebase.new.sack).gap_ack_blocks n ≡ covered (wire_sack (world_in c.self.inside) there.0).gap_ack_blocks (n + (c.max-taken.result - there.0.cumulative)) =
-    λ n pos. c.rebase.ensures.covers n pos ∙ ap (λ bs. covered bs (n + (c.max-taken.result - (((c.in_ok-sack.sack.cumulative_tsn_ack + (2 ^ 32 - c.self.inside.first_tsn)) % 2 ^ 32 + 1) % 2 ^ 32)))) (ap (λ s. s.gap_ack_blocks) says) ∙ ap (λ m. covered (wire_sack (world_in c.self.inside) there.0).gap_ack_blocks (n + (c.max-taken.result - m))) count in
+    let cum : (sack_of c.rebase.new.sack).cumulative_tsn_ack ≡ cumulative_tsn (record_in c.self.inside) c.max-taken.result = omega (arith, c.rebase.ensures.cumulative, l.setup.first, top, made, few, before) in
+    let covers : (n : ℕ) → 0 < n → is_in_blocks (sack_of c.rebase.new.sack).gap_ack_blocks n ≡ is_in_blocks (wire_sack (record_in c.self.inside) there.0).gap_ack_blocks (n + (c.max-taken.result - there.0.cumulative)) =
+    λ n pos. c.rebase.ensures.covers n pos ∙ ap (λ bs. is_in_blocks bs (n + (c.max-taken.result - (((c.in_ok-sack.sack.cumulative_tsn_ack + (2 ^ 32 - c.self.inside.first_tsn)) % 2 ^ 32 + 1) % 2 ^ 32)))) (ap (λ s. s.gap_ack_blocks) says) ∙ ap (λ m. is_in_blocks (wire_sack (record_in c.self.inside) there.0).gap_ack_blocks (n + (c.max-taken.result - m))) count in
     let first = marking-first sum (state_in c.self.inside) c.self.inside.slots.items l refl in
     let last = within-blocks sum (state_in c.self.inside) c.args.k there.0 l none there.1 (sack_of c.rebase.new.sack) c.max-taken.result top cum covers c.rebase.ensures.begin p (ap (list_any (in_block c.max-taken.result p)) (sym c.deref.ensures.value) ∙ any) in
     let slots1 = with_items_is c.self.inside.slots c.acknowledge_run.new.slots (omega (arith, c.acknowledge_run.auto.slots, c.deref_mut.ensures.len)) in
@@ -117,25 +117,25 @@ pub invariant_of-self-2 : goal.invariant_of-self-2
 invariant_of-self-2 g c =
     let sum = g.C.Checksum.sum c.self.inside.checksum in
     let l = c.self.invariant in
-    let none = ap (λ s. refusal_of s.world (E.Acked c.args.k)) c.self.view_is ∙ c.requires in
+    let none = ap (λ s. refusal_of s.recorded (E.Acked c.args.k)) c.self.view_is ∙ c.requires in
     let there = sack-there _ none in
     let reads = reads-sack sum (state_in c.self.inside) c.self.inside.network.items c.args.k c.index.result.now there.0 l refl refl c.index.ensures there.1 in
-    let says = c.in_ok-sack.ensures.chunk (wire_sack (world_in c.self.inside) there.0) reads in
-    let made = count-made (world_in c.self.inside) c.args.k there.0 (reported sum (state_in c.self.inside) l) there.1 in
+    let says = c.in_ok-sack.ensures.chunk (wire_sack (record_in c.self.inside) there.0) reads in
+    let made = count-made (record_in c.self.inside) c.args.k there.0 (reported sum (state_in c.self.inside) l) there.1 in
     let few = (facts sum (state_in c.self.inside) l).few in
     let before = (facts sum (state_in c.self.inside) l).taken in
     let count = count-is c.self.inside.first_tsn there.0.cumulative c.in_ok-sack.sack.cumulative_tsn_ack l.setup.first (omega (arith, made, few)) (ap (λ s. s.cumulative_tsn_ack) says) in
     let top : c.max-taken.result ≡ max c.self.inside.taken there.0.cumulative = c.max-taken.ensures ∙ ap (max c.self.inside.taken) count in
-    let cum : (sack_of c.rebase.new.sack).cumulative_tsn_ack ≡ cumulative_tsn (world_in c.self.inside) c.max-taken.result = omega (arith, c.rebase.ensures.cumulative, l.setup.first, top, made, few, before) in
-    let covers : (n : ℕ) → 0 < n → covered (sack_of c.rebase.new.sack).gap_ack_blocks n ≡ covered (wire_sack (world_in c.self.inside) there.0).gap_ack_blocks (n + (c.max-taken.result - there.0.cumulative)) =
-    λ n pos. c.rebase.ensures.covers n pos ∙ ap (λ bs. covered bs (n + (c.max-taken.result - (((c.in_ok-sack.sack.cumulative_tsn_ack + (2 ^ 32 - c.self.inside.first_tsn)) % 2 ^ 32 + 1) % 2 ^ 32)))) (ap (λ s. s.gap_ack_blocks) says) ∙ ap (λ m. covered (wire_sack (world_in c.self.inside) there.0).gap_ack_blocks (n + (c.max-taken.result - m))) count in
+    let cum : (sack_of c.rebase.new.sack).cumulative_tsn_ack ≡ cumulative_tsn (record_in c.self.inside) c.max-taken.result = omega (arith, c.rebase.ensures.cumulative, l.setup.first, top, made, few, before) in
+    let covers : (n : ℕ) → 0 < n → is_in_blocks (sack_of c.rebase.new.sack).gap_ack_blocks n ≡ is_in_blocks (wire_sack (record_in c.self.inside) there.0).gap_ack_blocks (n + (c.max-taken.result - there.0.cumulative)) =
+    λ n pos. c.rebase.ensures.covers n pos ∙ ap (λ bs. is_in_blocks bs (n + (c.max-taken.result - (((c.in_ok-sack.sack.cumulative_tsn_ack + (2 ^ 32 - c.self.inside.first_tsn)) % 2 ^ 32 + 1) % 2 ^ 32)))) (ap (λ s. s.gap_ack_blocks) says) ∙ ap (λ m. is_in_blocks (wire_sack (record_in c.self.inside) there.0).gap_ack_blocks (n + (c.max-taken.result - m))) count in
     let first = marking-first sum (state_in c.self.inside) c.self.inside.slots.items l refl in
-    let next = c.acknowledge_run.ensures (world_in c.self.inside) (acknowledged_at (world_in c.self.inside)) (rw c.deref_mut.ensures.value first) in
+    let next = c.acknowledge_run.ensures (record_in c.self.inside) (acknowledged_at (record_in c.self.inside)) (rw c.deref_mut.ensures.value first) in
     let slots1 = with_items_is c.self.inside.slots c.acknowledge_run.new.slots (omega (arith, c.acknowledge_run.auto.slots, c.deref_mut.ensures.len)) in
     let slots2 = with_items_is (with_items c.self.inside.slots c.acknowledge_run.new.slots) c.acknowledge_blocks.new.slots (omega (arith, c.acknowledge_blocks.auto.slots, c.deref_mut-2.ensures.len)) in
-    let last = c.acknowledge_blocks.ensures (world_in c.self.inside) (and_run (acknowledged_at (world_in c.self.inside)) c.self.inside.taken c.max-taken.result) (rw (c.deref_mut-2.ensures.value ∙ slots1) next) in
-    let marks : IsMarking (world_in c.self.inside) (and_blocks (and_run (acknowledged_at (world_in c.self.inside)) c.self.inside.taken c.max-taken.result) c.max-taken.result c.rebase.new.sack.gap_ack_blocks.items) (with_items (with_items c.self.inside.slots c.acknowledge_run.new.slots) c.acknowledge_blocks.new.slots).items = rw (slots2, ← c.deref.ensures.value) last in
-    let taken = taken-all sum (state_in c.self.inside) c.args.k there.0 l none there.1 (sack_of c.rebase.new.sack) c.max-taken.result top cum covers c.rebase.ensures.begin (released (released_by (sack_of c.rebase.new.sack) c.self.inside.halves.flight) c.self.inside.halves.streams) (with_items (with_items c.self.inside.slots c.acknowledge_run.new.slots) c.acknowledge_blocks.new.slots).items (after_sack (sack_of c.rebase.new.sack) c.self.inside.halves.flight)
+    let last = c.acknowledge_blocks.ensures (record_in c.self.inside) (and_run (acknowledged_at (record_in c.self.inside)) c.self.inside.taken c.max-taken.result) (rw (c.deref_mut-2.ensures.value ∙ slots1) next) in
+    let marks : IsMarking (record_in c.self.inside) (and_blocks (and_run (acknowledged_at (record_in c.self.inside)) c.self.inside.taken c.max-taken.result) c.max-taken.result c.rebase.new.sack.gap_ack_blocks.items) (with_items (with_items c.self.inside.slots c.acknowledge_run.new.slots) c.acknowledge_blocks.new.slots).items = rw (slots2, ← c.deref.ensures.value) last in
+    let taken = taken-all sum (state_in c.self.inside) c.args.k there.0 l none there.1 (sack_of c.rebase.new.sack) c.max-taken.result top cum covers c.rebase.ensures.begin (after_releases (released_by (sack_of c.rebase.new.sack) c.self.inside.halves.flight) c.self.inside.halves.streams) (with_items (with_items c.self.inside.slots c.acknowledge_run.new.slots) c.acknowledge_blocks.new.slots).items (after_sack (sack_of c.rebase.new.sack) c.self.inside.halves.flight)
     refl refl refl marks in
     rw c.in_ok-acked.ensures.ok taken.linked
 
@@ -143,25 +143,25 @@ pub returns-clause-ok : goal.returns-clause-ok
 returns-clause-ok g c =
     let sum = g.C.Checksum.sum c.self.inside.checksum in
     let l = c.self.invariant in
-    let none = ap (λ s. refusal_of s.world (E.Acked c.args.k)) c.self.view_is ∙ c.requires in
+    let none = ap (λ s. refusal_of s.recorded (E.Acked c.args.k)) c.self.view_is ∙ c.requires in
     let there = sack-there _ none in
     let reads = reads-sack sum (state_in c.self.inside) c.self.inside.network.items c.args.k c.index.result.now there.0 l refl refl c.index.ensures there.1 in
-    let says = c.in_ok-sack.ensures.chunk (wire_sack (world_in c.self.inside) there.0) reads in
-    let made = count-made (world_in c.self.inside) c.args.k there.0 (reported sum (state_in c.self.inside) l) there.1 in
+    let says = c.in_ok-sack.ensures.chunk (wire_sack (record_in c.self.inside) there.0) reads in
+    let made = count-made (record_in c.self.inside) c.args.k there.0 (reported sum (state_in c.self.inside) l) there.1 in
     let few = (facts sum (state_in c.self.inside) l).few in
     let before = (facts sum (state_in c.self.inside) l).taken in
     let count = count-is c.self.inside.first_tsn there.0.cumulative c.in_ok-sack.sack.cumulative_tsn_ack l.setup.first (omega (arith, made, few)) (ap (λ s. s.cumulative_tsn_ack) says) in
     let top : c.max-taken.result ≡ max c.self.inside.taken there.0.cumulative = c.max-taken.ensures ∙ ap (max c.self.inside.taken) count in
-    let cum : (sack_of c.rebase.new.sack).cumulative_tsn_ack ≡ cumulative_tsn (world_in c.self.inside) c.max-taken.result = omega (arith, c.rebase.ensures.cumulative, l.setup.first, top, made, few, before) in
-    let covers : (n : ℕ) → 0 < n → covered (sack_of c.rebase.new.sack).gap_ack_blocks n ≡ covered (wire_sack (world_in c.self.inside) there.0).gap_ack_blocks (n + (c.max-taken.result - there.0.cumulative)) =
-    λ n pos. c.rebase.ensures.covers n pos ∙ ap (λ bs. covered bs (n + (c.max-taken.result - (((c.in_ok-sack.sack.cumulative_tsn_ack + (2 ^ 32 - c.self.inside.first_tsn)) % 2 ^ 32 + 1) % 2 ^ 32)))) (ap (λ s. s.gap_ack_blocks) says) ∙ ap (λ m. covered (wire_sack (world_in c.self.inside) there.0).gap_ack_blocks (n + (c.max-taken.result - m))) count in
+    let cum : (sack_of c.rebase.new.sack).cumulative_tsn_ack ≡ cumulative_tsn (record_in c.self.inside) c.max-taken.result = omega (arith, c.rebase.ensures.cumulative, l.setup.first, top, made, few, before) in
+    let covers : (n : ℕ) → 0 < n → is_in_blocks (sack_of c.rebase.new.sack).gap_ack_blocks n ≡ is_in_blocks (wire_sack (record_in c.self.inside) there.0).gap_ack_blocks (n + (c.max-taken.result - there.0.cumulative)) =
+    λ n pos. c.rebase.ensures.covers n pos ∙ ap (λ bs. is_in_blocks bs (n + (c.max-taken.result - (((c.in_ok-sack.sack.cumulative_tsn_ack + (2 ^ 32 - c.self.inside.first_tsn)) % 2 ^ 32 + 1) % 2 ^ 32)))) (ap (λ s. s.gap_ack_blocks) says) ∙ ap (λ m. is_in_blocks (wire_sack (record_in c.self.inside) there.0).gap_ack_blocks (n + (c.max-taken.result - m))) count in
     let first = marking-first sum (state_in c.self.inside) c.self.inside.slots.items l refl in
-    let next = c.acknowledge_run.ensures (world_in c.self.inside) (acknowledged_at (world_in c.self.inside)) (rw c.deref_mut.ensures.value first) in
+    let next = c.acknowledge_run.ensures (record_in c.self.inside) (acknowledged_at (record_in c.self.inside)) (rw c.deref_mut.ensures.value first) in
     let slots1 = with_items_is c.self.inside.slots c.acknowledge_run.new.slots (omega (arith, c.acknowledge_run.auto.slots, c.deref_mut.ensures.len)) in
     let slots2 = with_items_is (with_items c.self.inside.slots c.acknowledge_run.new.slots) c.acknowledge_blocks.new.slots (omega (arith, c.acknowledge_blocks.auto.slots, c.deref_mut-2.ensures.len)) in
-    let last = c.acknowledge_blocks.ensures (world_in c.self.inside) (and_run (acknowledged_at (world_in c.self.inside)) c.self.inside.taken c.max-taken.result) (rw (c.deref_mut-2.ensures.value ∙ slots1) next) in
-    let marks : IsMarking (world_in c.self.inside) (and_blocks (and_run (acknowledged_at (world_in c.self.inside)) c.self.inside.taken c.max-taken.result) c.max-taken.result c.rebase.new.sack.gap_ack_blocks.items) (with_items (with_items c.self.inside.slots c.acknowledge_run.new.slots) c.acknowledge_blocks.new.slots).items = rw (slots2, ← c.deref.ensures.value) last in
-    let taken = taken-all sum (state_in c.self.inside) c.args.k there.0 l none there.1 (sack_of c.rebase.new.sack) c.max-taken.result top cum covers c.rebase.ensures.begin (released (released_by (sack_of c.rebase.new.sack) c.self.inside.halves.flight) c.self.inside.halves.streams) (with_items (with_items c.self.inside.slots c.acknowledge_run.new.slots) c.acknowledge_blocks.new.slots).items (after_sack (sack_of c.rebase.new.sack) c.self.inside.halves.flight)
+    let last = c.acknowledge_blocks.ensures (record_in c.self.inside) (and_run (acknowledged_at (record_in c.self.inside)) c.self.inside.taken c.max-taken.result) (rw (c.deref_mut-2.ensures.value ∙ slots1) next) in
+    let marks : IsMarking (record_in c.self.inside) (and_blocks (and_run (acknowledged_at (record_in c.self.inside)) c.self.inside.taken c.max-taken.result) c.max-taken.result c.rebase.new.sack.gap_ack_blocks.items) (with_items (with_items c.self.inside.slots c.acknowledge_run.new.slots) c.acknowledge_blocks.new.slots).items = rw (slots2, ← c.deref.ensures.value) last in
+    let taken = taken-all sum (state_in c.self.inside) c.args.k there.0 l none there.1 (sack_of c.rebase.new.sack) c.max-taken.result top cum covers c.rebase.ensures.begin (after_releases (released_by (sack_of c.rebase.new.sack) c.self.inside.halves.flight) c.self.inside.halves.streams) (with_items (with_items c.self.inside.slots c.acknowledge_run.new.slots) c.acknowledge_blocks.new.slots).items (after_sack (sack_of c.rebase.new.sack) c.self.inside.halves.flight)
     refl refl refl marks in
     rw (← c.self.view_is) (rw c.in_ok-acked.ensures.ok (record {
       right = ap R.Acked (c.saturating_sub-bytes.ensures

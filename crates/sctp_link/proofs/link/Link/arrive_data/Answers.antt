@@ -3,13 +3,13 @@ use Rattle.std.specs.Prelude.{slice_get, fold}
 use Rattle.std.specs.Vec.{with_items, vec_len}
 use Rattle.std.proofs.lemmas.List.{with_items_is}
 use Rattle.std.specs.List.{list_any}
-use Rattle.sctp_model.specs.World.{Data}
+use Rattle.sctp_model.specs.LinkRecord.{Data}
 use Rattle.sctp_model.specs.Contents.{chunk_at}
-use Rattle.sctp_model.specs.Changes.{slot_received}
+use Rattle.sctp_model.specs.Changes.{receive_slot}
 use Rattle.sctp_model.specs.Steps.{refusal_of, IsRight}
 use Rattle.sctp_model.specs.declared.event.Event.TheVariants as E
 use Rattle.sctp_halves.specs.Halves.{Sides, TakesEach}
-use Rattle.sctp_link.specs.Fields.{world_in, state_in}
+use Rattle.sctp_link.specs.Fields.{record_in, state_in}
 use Rattle.sctp_link.specs.Linked.{IsLinked}
 use Rattle.sctp_link.specs.Records.{kind_record, slot_record}
 use Rattle.sctp_link.specs.Replies.{reply_of}
@@ -17,12 +17,12 @@ use Rattle.sctp_link.specs.Receiving.{number_at, arrived_in, repeated_of, is_fir
 use Rattle.sctp_link.proofs.receiver.Comes.{said, said-fresh, says-data, places-kept, kind-data, never-other, there-is}
 use Rattle.sctp_link.proofs.receiver.SlotLists.{numbers-are, can, came}
 use Rattle.sctp_link.proofs.receiver.Received.{all-come, receiver-of, all-inside, linked-received, right-received}
-use Rattle.sctp_link.proofs.receiver.Hears.{raw-length}
 use Rattle.sctp_link.proofs.link.Link.arrive_data.Goals as goal
+use Rattle.sctp_list_lemmas.proofs.Getting.{length-mapped}
 
 pub read_data-requires : goal.read_data-requires
 read_data-requires g c =
-    let w = world_in c.self.inside in
+    let w = record_in c.self.inside in
     let sum = g.C.Checksum.sum c.self.inside.checksum in
     let x = state_in c.self.inside in
     let l = c.self.invariant in
@@ -35,7 +35,7 @@ read_data-requires g c =
 
 pub index-requires-2 : goal.index-requires-2
 index-requires-2 g c =
-    let w = world_in c.self.inside in
+    let w = record_in c.self.inside in
     let sum = g.C.Checksum.sum c.self.inside.checksum in
     let x = state_in c.self.inside in
     let l = c.self.invariant in
@@ -48,7 +48,7 @@ index-requires-2 g c =
 
 pub unreachable-requires : goal.unreachable-requires
 unreachable-requires g c =
-    let w = world_in c.self.inside in
+    let w = record_in c.self.inside in
     let sum = g.C.Checksum.sum c.self.inside.checksum in
     let x = state_in c.self.inside in
     let l = c.self.invariant in
@@ -61,7 +61,7 @@ unreachable-requires g c =
 
 pub message_numbers-requires : goal.message_numbers-requires
 message_numbers-requires g c =
-    let w = world_in c.self.inside in
+    let w = record_in c.self.inside in
     let sum = g.C.Checksum.sum c.self.inside.checksum in
     let x = state_in c.self.inside in
     let l = c.self.invariant in
@@ -70,11 +70,11 @@ message_numbers-requires g c =
     let lies : (places : List ℕ) × (slice_get w.network k ≡ Some (Data places)) = rw (← c.self.view_is) at c.requires.lies in
     let ps = lies.0 in
     let kept : c.in-Data.places.items ≡ ps = places-kept ds k c.index-2.result.now c.in-Data.places.items ps lies.1 c.index-2.ensures (ap kind_record c.in-Data.is) in
-    rw (c.deref-2.ensures.value ∙ kept, c.deref.ensures.value) (λ i lt. omega (arith, all-inside sum x l k ps lies.1 i lt, raw-length slot_record c.self.inside.slots.items))
+    rw (c.deref-2.ensures.value ∙ kept, c.deref.ensures.value) (λ i lt. omega (arith, all-inside sum x l k ps lies.1 i lt, length-mapped slot_record c.self.inside.slots.items))
 
 pub data_each-requires : goal.data_each-requires
 data_each-requires g c =
-    let w = world_in c.self.inside in
+    let w = record_in c.self.inside in
     let sum = g.C.Checksum.sum c.self.inside.checksum in
     let x = state_in c.self.inside in
     let l = c.self.invariant in
@@ -95,7 +95,7 @@ data_each-requires g c =
 
 pub record_arrivals-new-requires-clause-inside : goal.record_arrivals-new-requires-clause-inside
 record_arrivals-new-requires-clause-inside g c =
-    let w = world_in c.self.inside in
+    let w = record_in c.self.inside in
     let sum = g.C.Checksum.sum c.self.inside.checksum in
     let x = state_in c.self.inside in
     let l = c.self.invariant in
@@ -104,11 +104,11 @@ record_arrivals-new-requires-clause-inside g c =
     let lies : (places : List ℕ) × (slice_get w.network k ≡ Some (Data places)) = rw (← c.self.view_is) at c.requires.lies in
     let ps = lies.0 in
     let kept : c.in-Data.places.items ≡ ps = places-kept ds k c.index-2.result.now c.in-Data.places.items ps lies.1 c.index-2.ensures (ap kind_record c.in-Data.is) in
-    rw (c.deref-5.ensures.value ∙ kept, c.deref_mut.ensures.value) (λ i lt. omega (arith, all-inside sum x l k ps lies.1 i lt, raw-length slot_record c.self.inside.slots.items))
+    rw (c.deref-5.ensures.value ∙ kept, c.deref_mut.ensures.value) (λ i lt. omega (arith, all-inside sum x l k ps lies.1 i lt, length-mapped slot_record c.self.inside.slots.items))
 
 pub record_arrivals-new-requires-clause-count : goal.record_arrivals-new-requires-clause-count
 record_arrivals-new-requires-clause-count g c =
-    let w = world_in c.self.inside in
+    let w = record_in c.self.inside in
     let sum = g.C.Checksum.sum c.self.inside.checksum in
     let x = state_in c.self.inside in
     let l = c.self.invariant in
@@ -133,7 +133,7 @@ record_arrivals-new-requires-clause-count g c =
 
 pub invariant_of-self-2 : goal.invariant_of-self-2
 invariant_of-self-2 g c =
-    let w = world_in c.self.inside in
+    let w = record_in c.self.inside in
     let sum = g.C.Checksum.sum c.self.inside.checksum in
     let x = state_in c.self.inside in
     let l = c.self.invariant in
@@ -157,10 +157,10 @@ invariant_of-self-2 g c =
     let arrived = c.record_arrivals-new.ensures in
     let same : length c.record_arrivals-new.new.slots ≡ vec_len c.self.inside.slots = search rules in
     let marked = with_items c.self.inside.slots c.record_arrivals-new.new.slots in
-    let slots_are : (fold slot_received w ps).slots ≡ map slot_record marked.items =
+    let slots_are : (fold receive_slot w ps).slots ≡ map slot_record marked.items =
     done.slots slots refl ∙ sym (ap (map slot_record) (with_items_is c.self.inside.slots c.record_arrivals-new.new.slots same ∙ arrived.slots ∙ ap (λ qs. arrived_in qs c.deref-6.result.now c.deref_mut.result.now) (c.deref-5.ensures.value ∙ kept)
     ∙ ap (λ cs. arrived_in ps cs c.deref_mut.result.now) c.deref-6.ensures.value ∙ ap (arrived_in ps bs) c.deref_mut.ensures.value)) in
-    let dups_are : (fold slot_received w ps).duplicates ≡ c.record_arrivals-new.new.duplicates.items =
+    let dups_are : (fold receive_slot w ps).duplicates ≡ c.record_arrivals-new.new.duplicates.items =
     done.duplicates ∙ sym (arrived.duplicates ∙ ap (λ ds. ds ++ repeated_of c.deref-5.result.now c.deref-6.result.now) c.in_ok-reserve.ensures.items
     ∙ ap (λ qs. c.self.inside.duplicates.items ++ repeated_of qs c.deref-6.result.now) (c.deref-5.ensures.value ∙ kept) ∙ ap (λ cs. c.self.inside.duplicates.items ++ repeated_of ps cs) c.deref-6.ensures.value) in
     subst (λ (h : Sides). IsLinked sum (state_in (record c.self.inside { halves = h; slots = marked; duplicates = c.record_arrivals-new.new.duplicates }))) (sym done.rest)
@@ -168,7 +168,7 @@ invariant_of-self-2 g c =
 
 pub returns-clause-ok : goal.returns-clause-ok
 returns-clause-ok g c =
-    let w = world_in c.self.inside in
+    let w = record_in c.self.inside in
     let sum = g.C.Checksum.sum c.self.inside.checksum in
     let x = state_in c.self.inside in
     let l = c.self.invariant in
@@ -192,12 +192,12 @@ returns-clause-ok g c =
     let arrived = c.record_arrivals-new.ensures in
     let same : length c.record_arrivals-new.new.slots ≡ vec_len c.self.inside.slots = search rules in
     let marked = with_items c.self.inside.slots c.record_arrivals-new.new.slots in
-    let slots_are : (fold slot_received w ps).slots ≡ map slot_record marked.items =
+    let slots_are : (fold receive_slot w ps).slots ≡ map slot_record marked.items =
     done.slots slots refl ∙ sym (ap (map slot_record) (with_items_is c.self.inside.slots c.record_arrivals-new.new.slots same ∙ arrived.slots ∙ ap (λ qs. arrived_in qs c.deref-6.result.now c.deref_mut.result.now) (c.deref-5.ensures.value ∙ kept)
     ∙ ap (λ cs. arrived_in ps cs c.deref_mut.result.now) c.deref-6.ensures.value ∙ ap (arrived_in ps bs) c.deref_mut.ensures.value)) in
-    let dups_are : (fold slot_received w ps).duplicates ≡ c.record_arrivals-new.new.duplicates.items =
+    let dups_are : (fold receive_slot w ps).duplicates ≡ c.record_arrivals-new.new.duplicates.items =
     done.duplicates ∙ sym (arrived.duplicates ∙ ap (λ ds. ds ++ repeated_of c.deref-5.result.now c.deref-6.result.now) c.in_ok-reserve.ensures.items
     ∙ ap (λ qs. c.self.inside.duplicates.items ++ repeated_of qs c.deref-6.result.now) (c.deref-5.ensures.value ∙ kept) ∙ ap (λ cs. c.self.inside.duplicates.items ++ repeated_of ps cs) c.deref-6.ensures.value) in
-    rw (← c.self.view_is) (subst (λ (h : Sides). IsRight w (E.Arrive k) (reply_of c.reply_to_data.result) (world_in (record c.self.inside { halves = h; slots = marked; duplicates = c.record_arrivals-new.new.duplicates }))) (sym done.rest)
+    rw (← c.self.view_is) (subst (λ (h : Sides). IsRight w (E.Arrive k) (reply_of c.reply_to_data.result) (record_in (record c.self.inside { halves = h; slots = marked; duplicates = c.record_arrivals-new.new.duplicates }))) (sym done.rest)
     (right-received sum x l k ps none lies.1 y marked.items c.record_arrivals-new.new.duplicates.items done.receiver done.cores slots_are dups_are
     c.record_arrivals-new.result (reply_of c.reply_to_data.result) (arrived.new ∙ ap (list_any is_first) c.deref-6.ensures.value ∙ done.new) c.reply_to_data.ensures))

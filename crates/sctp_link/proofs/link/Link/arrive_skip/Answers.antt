@@ -1,12 +1,12 @@
 use Rattle.std.proofs.Common.{◌≡◌, ℕ, ◌≤◌, true, List, Some, refl, ap, sym, ◌∙◌, arith}
 use Rattle.std.specs.Prelude.{slice_get, if◌then◌else◌}
 use Rattle.std.proofs.lemmas.Bool.Decides.{nat_tests}
-use Rattle.sctp_model.specs.World.{Forward}
+use Rattle.sctp_model.specs.LinkRecord.{Forward}
 use Rattle.sctp_model.specs.Receiver.{cumulative}
-use Rattle.sctp_model.specs.Changes.{skip_counts, datagram_received}
+use Rattle.sctp_model.specs.Changes.{skip_counts, after_arrive}
 use Rattle.sctp_model.specs.Steps.{arrive_reply}
 use Rattle.sctp_model.specs.Reply as R
-use Rattle.sctp_link.specs.Fields.{world_in, state_in}
+use Rattle.sctp_link.specs.Fields.{record_in, state_in}
 use Rattle.sctp_link.proofs.acknowledging.Reporting.{cumulative-place}
 use Rattle.sctp_link.specs.Skips.{wire_skip}
 use Rattle.sctp_link.proofs.skipping.SkipComes.{reads-skip}
@@ -14,7 +14,7 @@ use Rattle.sctp_link.proofs.link.Link.arrive_skip.Goals as goal
 
 pub read_forward_tsn-requires : goal.read_forward_tsn-requires
 read_forward_tsn-requires g c =
-    let w = world_in c.self.inside in
+    let w = record_in c.self.inside in
     let sum = g.C.Checksum.sum c.self.inside.checksum in
     let x = state_in c.self.inside in
     let lies : (names : List ℕ) × (slice_get w.network c.args.k ≡ Some (Forward c.args.upto names)) = rw (← c.self.view_is) at c.requires.lies in
@@ -22,14 +22,14 @@ read_forward_tsn-requires g c =
 
 pub follow-requires-clause-says : goal.follow-requires-clause-says
 follow-requires-clause-says g c =
-    let w = world_in c.self.inside in
+    let w = record_in c.self.inside in
     let sum = g.C.Checksum.sum c.self.inside.checksum in
     let x = state_in c.self.inside in
     rw (← c.self.view_is) (λ names e. c.in_ok-chunk.ensures.chunk (wire_skip w c.args.upto names) (reads-skip sum x c.args.k c.args.upto names c.self.inside.network.items c.index.result.now c.self.invariant refl refl e c.index.ensures))
 
 pub follow-requires-clause-counts : goal.follow-requires-clause-counts
 follow-requires-clause-counts g c =
-    let w = world_in c.self.inside in
+    let w = record_in c.self.inside in
     let sum = g.C.Checksum.sum c.self.inside.checksum in
     let x = state_in c.self.inside in
     let past : cumulative w ≤ c.args.upto = omega (arith, c.if-cumulative-upto.false, c.count_of-cumulative.ensures, c.cumulative_tsn.ensures, cumulative-place sum x c.self.invariant 0) in
@@ -38,15 +38,15 @@ follow-requires-clause-counts g c =
 
 pub returns-clause-ok : goal.returns-clause-ok
 returns-clause-ok g c =
-    let w = world_in c.self.inside in
+    let w = record_in c.self.inside in
     let sum = g.C.Checksum.sum c.self.inside.checksum in
     let x = state_in c.self.inside in
     let past : cumulative w ≤ c.args.upto = omega (arith, c.if-cumulative-upto.false, c.count_of-cumulative.ensures, c.cumulative_tsn.ensures, cumulative-place sum x c.self.invariant 0) in
     let counted : skip_counts w c.args.upto ≡ true = grind (arith, nat_tests) in
-    let v = c.args.self.now.world in
+    let v = c.args.self.now.recorded in
     let counts : skip_counts v c.args.upto ≡ true = rw (← c.self.view_is) counted in
     let lies = c.requires.lies in
     record {
       right = sym (ap (arrive_reply v) lies.1 ∙ ap (λ b. if b then R.Skipped else R.Stale) counts);
-      moves = c.follow.ensures.followed lies.0 lies.1 ∙ sym (ap (datagram_received v) lies.1);
+      moves = c.follow.ensures.followed lies.0 lies.1 ∙ sym (ap (after_arrive v) lies.1);
     }

@@ -4,4 +4,4 @@ use Rattle.sctp_model.specs.Steps.{can_name}
 use Rattle.sctp_link.proofs.link.Link.can_name_each.Given as goal
 
 abbrev pub invariant-loop-at : goal.invariant-loop-at
-invariant-loop-at g l = list_all (can_name l.self.world l.place) (take l.at l.messages) ≡ true
+invariant-loop-at g l = list_all (can_name l.self.recorded l.place) (take l.at l.messages) ≡ true

@@ -1,7 +1,7 @@
 use Rattle.std.proofs.Common.{◌≡◌, ◌<◌, ap, sym, true, Some, None, refl, rules, arith, length}
 use Rattle.std.specs.Prelude.{is_some}
 use Rattle.sctp_list_lemmas.proofs.Getting.{length-mapped}
-use Rattle.sctp_outbound.specs.pending_queue.PendingQueue.{peeked}
+use Rattle.sctp_outbound.specs.pending_queue.PendingQueue.{next_pending}
 use Rattle.sctp_outbound.specs.outbound_queue.OutboundQueue.{expired_of, expiring}
 use Rattle.sctp_halves.specs.Halves.{Sides, expired_unsent}
 use Rattle.sctp_link.specs.declared.record.Message.{Message}
@@ -12,7 +12,7 @@ use Rattle.sctp_link.proofs.link.Link.expire.Goals as goal
 
 pub returns-in_default-clause-right : goal.returns-in_default-clause-right
 returns-in_default-clause-right g c =
-    let none : peeked c.self.inside.halves.flight.queue.pending ≡ None = search rules in
+    let none : next_pending c.self.inside.halves.flight.queue.pending ≡ None = search rules in
     rw (← c.self.view_is) (idle-right (g.C.Checksum.sum c.self.inside.checksum) (state_in c.self.inside) c.self.invariant c.args.now (none-waits (g.C.Checksum.sum c.self.inside.checksum) (state_in c.self.inside) c.self.invariant c.args.now none))
 
 pub invariant_of-self : goal.invariant_of-self
@@ -24,7 +24,7 @@ returns-in_default-expire-clause-right g c =
 
 pub index_mut-requires : goal.index_mut-requires
 index_mut-requires g c =
-    let shown : peeked c.self.inside.halves.flight.queue.pending ≡ Some c.in-Some.chunk.now = search rules in
+    let shown : next_pending c.self.inside.halves.flight.queue.pending ≡ Some c.in-Some.chunk.now = search rules in
     let sum = g.C.Checksum.sum c.self.inside.checksum in
     let x = state_in c.self.inside in
     let l = c.self.invariant in
@@ -32,7 +32,7 @@ index_mut-requires g c =
     let d = c.in-Some.chunk.now in
     let bytes = c.in-Some-expire.bytes in
     let past_deadline : is_some (expiring now c.self.inside.halves.flight.queue) ≡ true = sym c.in-Some-expire.ensures.none in
-    let is : expiring now c.self.inside.halves.flight.queue ≡ Some d = shown-past_deadline now d (peeked c.self.inside.halves.flight.queue.pending) shown past_deadline in
+    let is : expiring now c.self.inside.halves.flight.queue ≡ Some d = shown-past_deadline now d (next_pending c.self.inside.halves.flight.queue.pending) shown past_deadline in
     let told = c.in-Some-expire.ensures.some d is in
     let then' : Sides = expired_unsent d bytes c.self.inside.halves in
     let left = rw told.1 at c.in-Some-expire.ensures.released in
@@ -41,7 +41,7 @@ index_mut-requires g c =
 
 pub invariant_of-self-2 : goal.invariant_of-self-2
 invariant_of-self-2 g c =
-    let shown : peeked c.self.inside.halves.flight.queue.pending ≡ Some c.in-Some.chunk.now = search rules in
+    let shown : next_pending c.self.inside.halves.flight.queue.pending ≡ Some c.in-Some.chunk.now = search rules in
     let sum = g.C.Checksum.sum c.self.inside.checksum in
     let x = state_in c.self.inside in
     let l = c.self.invariant in
@@ -49,7 +49,7 @@ invariant_of-self-2 g c =
     let d = c.in-Some.chunk.now in
     let bytes = c.in-Some-expire.bytes in
     let past_deadline : is_some (expiring now c.self.inside.halves.flight.queue) ≡ true = sym c.in-Some-expire.ensures.none in
-    let is : expiring now c.self.inside.halves.flight.queue ≡ Some d = shown-past_deadline now d (peeked c.self.inside.halves.flight.queue.pending) shown past_deadline in
+    let is : expiring now c.self.inside.halves.flight.queue ≡ Some d = shown-past_deadline now d (next_pending c.self.inside.halves.flight.queue.pending) shown past_deadline in
     let told = c.in-Some-expire.ensures.some d is in
     let then' : Sides = expired_unsent d bytes c.self.inside.halves in
     let left = rw told.1 at c.in-Some-expire.ensures.released in
@@ -61,7 +61,7 @@ invariant_of-self-2 g c =
 
 pub returns-clause-right : goal.returns-clause-right
 returns-clause-right g c =
-    let shown : peeked c.self.inside.halves.flight.queue.pending ≡ Some c.in-Some.chunk.now = search rules in
+    let shown : next_pending c.self.inside.halves.flight.queue.pending ≡ Some c.in-Some.chunk.now = search rules in
     let sum = g.C.Checksum.sum c.self.inside.checksum in
     let x = state_in c.self.inside in
     let l = c.self.invariant in
@@ -69,7 +69,7 @@ returns-clause-right g c =
     let d = c.in-Some.chunk.now in
     let bytes = c.in-Some-expire.bytes in
     let past_deadline : is_some (expiring now c.self.inside.halves.flight.queue) ≡ true = sym c.in-Some-expire.ensures.none in
-    let is : expiring now c.self.inside.halves.flight.queue ≡ Some d = shown-past_deadline now d (peeked c.self.inside.halves.flight.queue.pending) shown past_deadline in
+    let is : expiring now c.self.inside.halves.flight.queue ≡ Some d = shown-past_deadline now d (next_pending c.self.inside.halves.flight.queue.pending) shown past_deadline in
     let told = c.in-Some-expire.ensures.some d is in
     let then' : Sides = expired_unsent d bytes c.self.inside.halves in
     let left = rw told.1 at c.in-Some-expire.ensures.released in

@@ -2,14 +2,14 @@ use Rattle.std.proofs.Common.{◌≡◌, ap, sym, ◌∙◌}
 use Rattle.sctp_model.specs.Queues.{FilterRecord}
 use Rattle.sctp_model.specs.Receiver.{cumulative}
 use Rattle.sctp_model.specs.Contents.{cumulative_tsn}
-use Rattle.sctp_transfer.specs.TsnFilter.{tsns}
 use Rattle.sctp_transfer.proofs.Marks.{tsns-mark}
-use Rattle.sctp_link.specs.Fields.{world_in}
+use Rattle.sctp_link.specs.Fields.{record_in}
 use Rattle.sctp_link.proofs.link.Link.filter.Goals as goal
+use Rattle.sctp_serial.specs.DataChunks.{tsns}
 
 pub returns : goal.returns
 returns g c =
-    let w = world_in c.self.inside in
+    let w = record_in c.self.inside in
     let f = c.self.invariant.filter in
     let held : tsns c.filter.result.now.chunks ≡ c.self.inside.halves.beyond = ap tsns c.filter.ensures.beyond ∙ tsns-mark c.self.inside.halves.beyond in
     let base : cumulative_tsn w (cumulative w) ≡ c.self.inside.halves.cumulative_tsn = sym (ap (λ (r : FilterRecord). r.cumulative) f) in

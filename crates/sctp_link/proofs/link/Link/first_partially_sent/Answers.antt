@@ -4,14 +4,14 @@ use Rattle.std.specs.List.{list_all}
 use Rattle.sctp_model.specs.Messages.{place_of, is_in_flight, is_partially_sent}
 use Rattle.sctp_refinement.specs.InTurn.{message_of_tsn}
 use Rattle.sctp_refinement.proofs.abandonment.AbandonedInTurn.{each-of}
-use Rattle.sctp_link.specs.Fields.{state_in, world_in}
+use Rattle.sctp_link.specs.Fields.{state_in, record_in}
 use Rattle.sctp_link.proofs.abandonment.LateTsns.{found-step, found-none, place-made}
 use Rattle.sctp_link.proofs.upkeep.Observed.{slot-message}
 use Rattle.sctp_link.proofs.link.Link.first_partially_sent.Goals as goal
 
 pub is_partially_sent-requires : goal.is_partially_sent-requires
 is_partially_sent-requires g c =
-    let w = world_in c.self.inside in
+    let w = record_in c.self.inside in
     let ts = c.args.tsns.now in
     let t = slice_index_or c.args.tsns.now c.loop-at.at 0 in
     let all : list_all (λ t. is_in_flight w (place_of w t)) ts ≡ true = rw (← c.self.view_is) at c.requires in
@@ -21,7 +21,7 @@ is_partially_sent-requires g c =
 
 pub returns-then-is_partially_sent : goal.returns-then-is_partially_sent
 returns-then-is_partially_sent g c =
-    let w = world_in c.self.inside in
+    let w = record_in c.self.inside in
     let ts = c.args.tsns.now in
     let t = slice_index_or c.args.tsns.now c.loop-at.at 0 in
     let all : list_all (λ t. is_in_flight w (place_of w t)) ts ≡ true = rw (← c.self.view_is) at c.requires in
@@ -34,7 +34,7 @@ returns-then-is_partially_sent g c =
 
 pub loop-at-preserved : goal.loop-at-preserved
 loop-at-preserved g c =
-    let w = world_in c.self.inside in
+    let w = record_in c.self.inside in
     let ts = c.args.tsns.now in
     let t = slice_index_or c.args.tsns.now c.loop-at.at 0 in
     let all : list_all (λ t. is_in_flight w (place_of w t)) ts ≡ true = rw (← c.self.view_is) at c.requires in
@@ -46,4 +46,4 @@ loop-at-preserved g c =
     rw (← c.self.view_is) (found-step (λ t. is_partially_sent w (message_of_tsn w t)) ts c.loop-at.at false c.loop-at-test.true half so-far)
 
 pub returns : goal.returns
-returns g c = found-none (λ t. is_partially_sent c.args.self.now.world (message_of_tsn c.args.self.now.world t)) c.args.tsns.now c.loop-at.at (omega (arith, c.loop-at-test.false)) c.loop-at.invariant
+returns g c = found-none (λ t. is_partially_sent c.args.self.now.recorded (message_of_tsn c.args.self.now.recorded t)) c.args.tsns.now c.loop-at.at (omega (arith, c.loop-at-test.false)) c.loop-at.invariant

@@ -2,12 +2,12 @@ use Rattle.std.proofs.Common.{◌≡◌, ℕ, ◌≤◌, ◌+◌, true, List, No
 use Rattle.std.specs.Prelude.{slice_get}
 use Rattle.std.proofs.lemmas.Bool.Decides.{nat_tests}
 use Rattle.sctp_chunks.specs.ForwardTsn.{forward_tsn_of}
-use Rattle.sctp_model.specs.World.{Forward}
+use Rattle.sctp_model.specs.LinkRecord.{Forward}
 use Rattle.sctp_model.specs.declared.event.Event.TheVariants as E
 use Rattle.sctp_model.specs.Receiver.{cumulative}
-use Rattle.sctp_model.specs.Changes.{skip_counts, skip_received}
+use Rattle.sctp_model.specs.Changes.{skip_counts, receive_skip}
 use Rattle.sctp_model.specs.Steps.{refusal_of}
-use Rattle.sctp_link.specs.Fields.{world_in, state_in}
+use Rattle.sctp_link.specs.Fields.{record_in, state_in}
 use Rattle.sctp_link.specs.Records.{kind_record}
 use Rattle.sctp_link.specs.Skips.{with_names, wire_skip}
 use Rattle.sctp_link.proofs.upkeep.Facts.{facts}
@@ -17,7 +17,7 @@ use Rattle.sctp_link.proofs.link.Link.follow.Goals as goal
 
 pub forward_tsn-requires : goal.forward_tsn-requires
 forward_tsn-requires g c =
-    let w = world_in c.self.inside in
+    let w = record_in c.self.inside in
     let sum = g.C.Checksum.sum c.self.inside.checksum in
     let x = state_in c.self.inside in
     let k = c.args.k in
@@ -31,7 +31,7 @@ forward_tsn-requires g c =
 
 pub overflow_add-self : goal.overflow_add-self
 overflow_add-self g c =
-    let w = world_in c.self.inside in
+    let w = record_in c.self.inside in
     let sum = g.C.Checksum.sum c.self.inside.checksum in
     let x = state_in c.self.inside in
     let lies : (names : List ℕ) × (slice_get w.network c.args.k ≡ Some (Forward c.args.upto names)) = rw (← c.self.view_is) at c.requires.lies in
@@ -40,7 +40,7 @@ overflow_add-self g c =
 
 pub invariant_of-self : goal.invariant_of-self
 invariant_of-self g c =
-    let w = world_in c.self.inside in
+    let w = record_in c.self.inside in
     let sum = g.C.Checksum.sum c.self.inside.checksum in
     let x = state_in c.self.inside in
     let ms = c.self.inside.messages.items in
@@ -59,7 +59,7 @@ invariant_of-self g c =
 
 pub returns-clause-followed : goal.returns-clause-followed
 returns-clause-followed g c =
-    let w = world_in c.self.inside in
+    let w = record_in c.self.inside in
     let sum = g.C.Checksum.sum c.self.inside.checksum in
     let x = state_in c.self.inside in
     let ms = c.self.inside.messages.items in
@@ -74,4 +74,4 @@ returns-clause-followed g c =
     let names = names-kept c.self.inside.network.items k c.index.result.now c.in-Forward.upto upto c.in-Forward.messages.items lies.0 lies.1 c.index.ensures (ap kind_record c.in-Forward.is) in
     let told = c.record_names.ensures ∙ ap (λ qs. record mid { streams = map (with_names qs c.deref-2.result.now) mid.streams }) c.deref.ensures.value ∙ ap (λ ns. record mid { streams = map (with_names ms ns) mid.streams }) (c.deref-2.ensures.value ∙ names) in
     let sides = sides-then sum x c.self.invariant k upto lies.0 none lies.1 counts (forward_tsn_of c.args.chunk.now) c.self.inside.halves (says lies.0 lies.1) refl ms mid c.record_names.new.halves c.forward_tsn.ensures.rest told in
-    rw (← c.self.view_is) (λ others e. rw sides (received-follow sum x c.self.invariant k upto lies.0 none lies.1 counts ms refl refl refl (upto + 1) refl ∙ ap (skip_received w upto) (same-names w k upto lies.0 others lies.1 e)))
+    rw (← c.self.view_is) (λ others e. rw sides (received-follow sum x c.self.invariant k upto lies.0 none lies.1 counts ms refl refl refl (upto + 1) refl ∙ ap (receive_skip w upto) (same-names w k upto lies.0 others lies.1 e)))

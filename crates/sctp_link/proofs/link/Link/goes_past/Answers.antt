@@ -3,7 +3,7 @@ use Rattle.std.specs.Prelude.{◌==◌}
 use Rattle.std.proofs.lemmas.Bool.Decides.{nat_tests}
 use Rattle.sctp_list_lemmas.proofs.Cases.{by_last, same-yes}
 use Rattle.sctp_model.specs.Messages.{belongs_to, message_of}
-use Rattle.sctp_link.specs.Fields.{world_in, state_in}
+use Rattle.sctp_link.specs.Fields.{record_in, state_in}
 use Rattle.sctp_link.proofs.upkeep.Facts.{facts}
 use Rattle.sctp_link.proofs.receiver.Hears.{slots-made}
 use Rattle.sctp_link.proofs.skipping.SkipMade.{past-none, past-some, slot-of}
@@ -11,7 +11,7 @@ use Rattle.sctp_link.proofs.link.Link.goes_past.Goals as goal
 
 pub overflow_step-later : goal.overflow_step-later
 overflow_step-later g c =
-    let w = world_in c.self.inside in
+    let w = record_in c.self.inside in
     let sum = g.C.Checksum.sum c.self.inside.checksum in
     let x = state_in c.self.inside in
     let slots = c.self.inside.slots.items in
@@ -22,7 +22,7 @@ overflow_step-later g c =
 
 pub returns-then-index-number : goal.returns-then-index-number
 returns-then-index-number g c =
-    let w = world_in c.self.inside in
+    let w = record_in c.self.inside in
     let sum = g.C.Checksum.sum c.self.inside.checksum in
     let x = state_in c.self.inside in
     let slots = c.self.inside.slots.items in
@@ -36,7 +36,7 @@ returns-then-index-number g c =
 
 pub loop-later-preserved : goal.loop-later-preserved
 loop-later-preserved g c =
-    let w = world_in c.self.inside in
+    let w = record_in c.self.inside in
     let sum = g.C.Checksum.sum c.self.inside.checksum in
     let x = state_in c.self.inside in
     let slots = c.self.inside.slots.items in
@@ -51,7 +51,7 @@ loop-later-preserved g c =
 
 pub returns : goal.returns
 returns g c =
-    let w = world_in c.self.inside in
+    let w = record_in c.self.inside in
     let sum = g.C.Checksum.sum c.self.inside.checksum in
     let x = state_in c.self.inside in
     let slots = c.self.inside.slots.items in

@@ -5,7 +5,7 @@ use Rattle.sctp_model.specs.Receiver.{is_new}
 use Rattle.sctp_link.specs.declared.record.Message.{Message}
 use Rattle.sctp_link.specs.declared.record.Slot.{Slot}
 use Rattle.sctp_link.proofs.sender.Beginning.{index_kept}
-use Rattle.sctp_link.specs.Fields.{world_in, state_in}
+use Rattle.sctp_link.specs.Fields.{record_in, state_in}
 use Rattle.sctp_link.specs.Records.{message_record}
 use Rattle.sctp_link.specs.Receiving.{LiesSomewhere, adds_on}
 use Rattle.sctp_link.proofs.receiver.Hears.{come-message, come-index, slots-made, messages-made, slot-raw, message-raw, kept-raw}
@@ -16,7 +16,7 @@ use Rattle.sctp_link.proofs.link.Link.index_added.Goals as goal
 
 pub index-requires : goal.index-requires
 index-requires g c =
-    let w = world_in c.self.inside in
+    let w = record_in c.self.inside in
     let sum = g.C.Checksum.sum c.self.inside.checksum in
     let x = state_in c.self.inside in
     let l = c.self.invariant in
@@ -30,7 +30,7 @@ index-requires g c =
 
 pub index-message-requires : goal.index-message-requires
 index-message-requires g c =
-    let w = world_in c.self.inside in
+    let w = record_in c.self.inside in
     let sum = g.C.Checksum.sum c.self.inside.checksum in
     let x = state_in c.self.inside in
     let l = c.self.invariant in
@@ -46,7 +46,7 @@ index-message-requires g c =
 
 pub is_new-requires : goal.is_new-requires
 is_new-requires g c =
-    let w = world_in c.self.inside in
+    let w = record_in c.self.inside in
     let sum = g.C.Checksum.sum c.self.inside.checksum in
     let x = state_in c.self.inside in
     let l = c.self.invariant in
@@ -60,7 +60,7 @@ is_new-requires g c =
 
 pub returns-then-not-adds : goal.returns-then-not-adds
 returns-then-not-adds g c =
-    let w = world_in c.self.inside in
+    let w = record_in c.self.inside in
     let sum = g.C.Checksum.sum c.self.inside.checksum in
     let x = state_in c.self.inside in
     let l = c.self.invariant in
@@ -81,7 +81,7 @@ returns-then-not-adds g c =
 
 pub returns : goal.returns
 returns g c =
-    let w = world_in c.self.inside in
+    let w = record_in c.self.inside in
     let sum = g.C.Checksum.sum c.self.inside.checksum in
     let x = state_in c.self.inside in
     let l = c.self.invariant in

@@ -7,7 +7,7 @@ use Rattle.sctp_model.specs.Messages.{is_open, index_of}
 use Rattle.sctp_model.specs.Receiver.{held_on, is_held}
 use Rattle.sctp_model.specs.Queues.{set_of}
 use Rattle.sctp_halves.specs.Streams.{OpenStream, has_number}
-use Rattle.sctp_link.specs.Fields.{world_in, state_in}
+use Rattle.sctp_link.specs.Fields.{record_in, state_in}
 use Rattle.sctp_link.proofs.upkeep.Lookups.{none-open}
 use Rattle.sctp_link.proofs.upkeep.StreamPlaces.{placed}
 use Rattle.sctp_link.proofs.receiver.Hears.{none-told, told-next, told-queue, ends-empty, set-held, low-front, high-back, none-there}
@@ -15,12 +15,12 @@ use Rattle.sctp_link.proofs.link.Link.index_range.Goals as goal
 
 pub unreachable-requires : goal.unreachable-requires
 unreachable-requires g c =
-    let o : is_open (world_in c.self.inside) c.args.stream ≡ true = rw (← c.self.view_is) at c.requires in
-    not_both (sym (none-open (world_in c.self.inside) c.args.stream c.self.inside.halves.streams refl (none-told (find (has_number c.args.stream) c.self.inside.halves.streams) c.in_default.ensures)) ∙ o)
+    let o : is_open (record_in c.self.inside) c.args.stream ≡ true = rw (← c.self.view_is) at c.requires in
+    not_both (sym (none-open (record_in c.self.inside) c.args.stream c.self.inside.halves.streams refl (none-told (find (has_number c.args.stream) c.self.inside.halves.streams) c.in_default.ensures)) ∙ o)
 
 pub returns-in_default-front-clause-low : goal.returns-in_default-front-clause-low
 returns-in_default-front-clause-low g c =
-    let w = world_in c.self.inside in
+    let w = record_in c.self.inside in
     let sum = g.C.Checksum.sum c.self.inside.checksum in
     let x = state_in c.self.inside in
     let s = c.args.stream in
@@ -40,7 +40,7 @@ returns-in_default-front-clause-low g c =
 
 pub returns-in_default-front-clause-high : goal.returns-in_default-front-clause-high
 returns-in_default-front-clause-high g c =
-    let w = world_in c.self.inside in
+    let w = record_in c.self.inside in
     let sum = g.C.Checksum.sum c.self.inside.checksum in
     let x = state_in c.self.inside in
     let s = c.args.stream in
@@ -60,7 +60,7 @@ returns-in_default-front-clause-high g c =
 
 pub index_of-requires : goal.index_of-requires
 index_of-requires g c =
-    let w = world_in c.self.inside in
+    let w = record_in c.self.inside in
     let sum = g.C.Checksum.sum c.self.inside.checksum in
     let x = state_in c.self.inside in
     let s = c.args.stream in
@@ -83,7 +83,7 @@ index_of-requires g c =
 
 pub index_of-requires-2 : goal.index_of-requires-2
 index_of-requires-2 g c =
-    let w = world_in c.self.inside in
+    let w = record_in c.self.inside in
     let sum = g.C.Checksum.sum c.self.inside.checksum in
     let x = state_in c.self.inside in
     let s = c.args.stream in
@@ -109,7 +109,7 @@ index_of-requires-2 g c =
 
 pub returns-clause-low : goal.returns-clause-low
 returns-clause-low g c =
-    let w = world_in c.self.inside in
+    let w = record_in c.self.inside in
     let sum = g.C.Checksum.sum c.self.inside.checksum in
     let x = state_in c.self.inside in
     let s = c.args.stream in
@@ -133,7 +133,7 @@ returns-clause-low g c =
 
 pub returns-clause-high : goal.returns-clause-high
 returns-clause-high g c =
-    let w = world_in c.self.inside in
+    let w = record_in c.self.inside in
     let sum = g.C.Checksum.sum c.self.inside.checksum in
     let x = state_in c.self.inside in
     let s = c.args.stream in

@@ -3,14 +3,14 @@ use Rattle.std.specs.Prelude.{◌&&◌, nat_le}
 use Rattle.std.proofs.lemmas.Bool.Decides.{nat_tests}
 use Rattle.sctp_model.specs.Receiver.{cumulative, arrived_at}
 use Rattle.sctp_link.specs.declared.record.Slot.{Slot}
-use Rattle.sctp_link.specs.Fields.{world_in, state_in}
+use Rattle.sctp_link.specs.Fields.{record_in, state_in}
 use Rattle.sctp_link.proofs.acknowledging.Reporting.{cumulative-place}
 use Rattle.sctp_link.proofs.receiver.Hears.{slot-raw, slots-made}
 use Rattle.sctp_link.proofs.link.Link.is_new.Goals as goal
 
 pub returns-then-cumulative-place : goal.returns-then-cumulative-place
 returns-then-cumulative-place g c =
-    let w = world_in c.self.inside in
+    let w = record_in c.self.inside in
     let sum = g.C.Checksum.sum c.self.inside.checksum in
     let x = state_in c.self.inside in
     let slots = c.self.inside.slots.items in

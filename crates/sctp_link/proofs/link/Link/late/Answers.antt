@@ -6,7 +6,7 @@ use Rattle.sctp_model.specs.Messages.{place_of, is_in_flight, is_partially_sent}
 use Rattle.sctp_model.specs.Amounts.{growth}
 use Rattle.sctp_refinement.specs.InTurn.{message_of_tsn, abandoned_tsn}
 use Rattle.sctp_refinement.proofs.abandonment.AbandonedInTurn.{GivesInTurn, accepted-now, takes-none, goes-on}
-use Rattle.sctp_link.specs.Fields.{state_in, world_in}
+use Rattle.sctp_link.specs.Fields.{state_in, record_in}
 use Rattle.sctp_link.proofs.receiver.Keeping.{on-err}
 use Rattle.sctp_link.proofs.abandonment.LateTsns.{fly, takes, takes-unless, begun, done, turn-few}
 use Rattle.sctp_link.proofs.link.Link.late.Goals as goal
@@ -38,8 +38,8 @@ loop-at-init g c =
     let sum = g.C.Checksum.sum c.self.inside.checksum in
     let x = state_in c.self.inside in
     let l = c.self.invariant in
-    let w = world_in c.self.inside in
-    let v = c.abandon_partially_sent.new.self.world in
+    let w = record_in c.self.inside in
+    let v = c.abandon_partially_sent.new.self.recorded in
     let ts = c.in_ok-tsns.tsns.items in
     let o = find (λ t. is_partially_sent w (message_of_tsn w t)) ts in
     let moves : v ≡ abandoned_tsn w o = rw (c.deref.ensures.value, ← c.self.view_is) at c.in_ok-bytes.ensures.moves in
@@ -49,40 +49,40 @@ loop-at-init g c =
 
 pub abandon_fully_sent-bytes-requires-clause-accepted : goal.abandon_fully_sent-bytes-requires-clause-accepted
 abandon_fully_sent-bytes-requires-clause-accepted g c =
-    let w = c.args.self.now.world in
+    let w = c.args.self.now.recorded in
     let ts = c.in_ok-tsns.tsns.items in
     let o = find (λ t. is_partially_sent w (message_of_tsn w t)) ts in
     let all : list_all (λ t. is_in_flight w (place_of w t)) ts ≡ true = rw (← c.self.view_is) (fly (g.C.Checksum.sum c.self.inside.checksum) (state_in c.self.inside) c.self.invariant c.args.now ts (c.in_ok-tsns.ensures.ok ∙ ap (late_tsns c.args.now) c.outbound.ensures)) in
     let lt : c.loop-at.at < length ts = omega (arith, c.loop-at-test.true, c.len-at-end.ensures) in
-    accepted-now w ts o all c.loop-at.self.world c.loop-at.at c.loop-at.bytes c.index.result.now c.loop-at.invariant.turns lt c.index.ensures
+    accepted-now w ts o all c.loop-at.self.recorded c.loop-at.at c.loop-at.bytes c.index.result.now c.loop-at.invariant.turns lt c.index.ensures
 
-pub abandon_fully_sent-bytes-requires-clause-whole : goal.abandon_fully_sent-bytes-requires-clause-whole
-abandon_fully_sent-bytes-requires-clause-whole g c =
-    let w = c.args.self.now.world in
+pub abandon_fully_sent-bytes-requires-clause-complete : goal.abandon_fully_sent-bytes-requires-clause-complete
+abandon_fully_sent-bytes-requires-clause-complete g c =
+    let w = c.args.self.now.recorded in
     let ts = c.in_ok-tsns.tsns.items in
     let o = find (λ t. is_partially_sent w (message_of_tsn w t)) ts in
     let all : list_all (λ t. is_in_flight w (place_of w t)) ts ≡ true = rw (← c.self.view_is) (fly (g.C.Checksum.sum c.self.inside.checksum) (state_in c.self.inside) c.self.invariant c.args.now ts (c.in_ok-tsns.ensures.ok ∙ ap (late_tsns c.args.now) c.outbound.ensures)) in
     let lt : c.loop-at.at < length ts = omega (arith, c.loop-at-test.true, c.len-at-end.ensures) in
-    takes-none w ts o all c.loop-at.self.world c.loop-at.at c.loop-at.bytes c.index.result.now c.loop-at.invariant.turns lt c.index.ensures
+    takes-none w ts o all c.loop-at.self.recorded c.loop-at.at c.loop-at.bytes c.index.result.now c.loop-at.invariant.turns lt c.index.ensures
 
 pub overflow_add-bytes : goal.overflow_add-bytes
 overflow_add-bytes g c =
-    let w = c.args.self.now.world in
+    let w = c.args.self.now.recorded in
     let ts = c.in_ok-tsns.tsns.items in
     let o = find (λ t. is_partially_sent w (message_of_tsn w t)) ts in
     let all : list_all (λ t. is_in_flight w (place_of w t)) ts ≡ true = rw (← c.self.view_is) (fly (g.C.Checksum.sum c.self.inside.checksum) (state_in c.self.inside) c.self.invariant c.args.now ts (c.in_ok-tsns.ensures.ok ∙ ap (late_tsns c.args.now) c.outbound.ensures)) in
     let lt : c.loop-at.at < length ts = omega (arith, c.loop-at-test.true, c.len-at-end.ensures) in
-    let next : GivesInTurn w c.abandon_fully_sent-bytes.new.self.world o ts (c.loop-at.at + 1) (c.loop-at.bytes + c.abandon_fully_sent-bytes.result) = goes-on w ts o all c.loop-at.self.world c.loop-at.at c.loop-at.bytes c.index.result.now c.loop-at.invariant.turns lt c.index.ensures c.abandon_fully_sent-bytes.new.self.world c.abandon_fully_sent-bytes.result c.abandon_fully_sent-bytes.ensures.moves c.abandon_fully_sent-bytes.ensures.bytes in
-    omega (arith, next.bytes_are, turn-few w c.abandon_fully_sent-bytes.new.self.world next.turn)
+    let next : GivesInTurn w c.abandon_fully_sent-bytes.new.self.recorded o ts (c.loop-at.at + 1) (c.loop-at.bytes + c.abandon_fully_sent-bytes.result) = goes-on w ts o all c.loop-at.self.recorded c.loop-at.at c.loop-at.bytes c.index.result.now c.loop-at.invariant.turns lt c.index.ensures c.abandon_fully_sent-bytes.new.self.recorded c.abandon_fully_sent-bytes.result c.abandon_fully_sent-bytes.ensures.moves c.abandon_fully_sent-bytes.ensures.bytes in
+    omega (arith, next.bytes_are, turn-few w c.abandon_fully_sent-bytes.new.self.recorded next.turn)
 
 pub loop-at-preserved : goal.loop-at-preserved
 loop-at-preserved g c =
-    let w = c.args.self.now.world in
+    let w = c.args.self.now.recorded in
     let ts = c.in_ok-tsns.tsns.items in
     let o = find (λ t. is_partially_sent w (message_of_tsn w t)) ts in
     let all : list_all (λ t. is_in_flight w (place_of w t)) ts ≡ true = rw (← c.self.view_is) (fly (g.C.Checksum.sum c.self.inside.checksum) (state_in c.self.inside) c.self.invariant c.args.now ts (c.in_ok-tsns.ensures.ok ∙ ap (late_tsns c.args.now) c.outbound.ensures)) in
     let lt : c.loop-at.at < length ts = omega (arith, c.loop-at-test.true, c.len-at-end.ensures) in
-    let next : GivesInTurn w c.abandon_fully_sent-bytes.new.self.world o ts (c.loop-at.at + 1) (c.loop-at.bytes + c.abandon_fully_sent-bytes.result) = goes-on w ts o all c.loop-at.self.world c.loop-at.at c.loop-at.bytes c.index.result.now c.loop-at.invariant.turns lt c.index.ensures c.abandon_fully_sent-bytes.new.self.world c.abandon_fully_sent-bytes.result c.abandon_fully_sent-bytes.ensures.moves c.abandon_fully_sent-bytes.ensures.bytes in
+    let next : GivesInTurn w c.abandon_fully_sent-bytes.new.self.recorded o ts (c.loop-at.at + 1) (c.loop-at.bytes + c.abandon_fully_sent-bytes.result) = goes-on w ts o all c.loop-at.self.recorded c.loop-at.at c.loop-at.bytes c.index.result.now c.loop-at.invariant.turns lt c.index.ensures c.abandon_fully_sent-bytes.new.self.recorded c.abandon_fully_sent-bytes.result c.abandon_fully_sent-bytes.ensures.moves c.abandon_fully_sent-bytes.ensures.bytes in
     record { turns = next; checksum = c.abandon_fully_sent-bytes.ensures.checksum ∙ c.loop-at.invariant.checksum }
 
 pub returns-clause-ok : goal.returns-clause-ok
@@ -90,8 +90,8 @@ returns-clause-ok g c =
     let sum = g.C.Checksum.sum c.self.inside.checksum in
     let x = state_in c.self.inside in
     let l = c.self.invariant in
-    let w = world_in c.self.inside in
-    let v = c.loop-at.self.world in
+    let w = record_in c.self.inside in
+    let v = c.loop-at.self.recorded in
     let ts = c.in_ok-tsns.tsns.items in
     let o = find (λ t. is_partially_sent w (message_of_tsn w t)) ts in
     let so-far : GivesInTurn w v o ts c.loop-at.at c.loop-at.bytes = rw (← c.self.view_is) at c.loop-at.invariant.turns in

@@ -8,15 +8,15 @@ use Rattle.sctp_model.specs.Messages.{is_open, index_of}
 use Rattle.sctp_model.specs.Receiver.{held_on, is_held}
 use Rattle.sctp_model.specs.Queues.{set_of}
 use Rattle.sctp_refinement.specs.Naming.{min_with}
-use Rattle.sctp_link.specs.Fields.{world_in, state_in}
+use Rattle.sctp_link.specs.Fields.{record_in, state_in}
 use Rattle.sctp_link.proofs.upkeep.Lookups.{none-open, queue-none, queue-at}
 use Rattle.sctp_link.proofs.receiver.Hears.{set-held, none-there}
-use Rattle.sctp_link.proofs.skipping.SkipComes.{whole-set, first-at, first-none, stream-some}
+use Rattle.sctp_link.proofs.skipping.SkipComes.{complete-set, first-at, first-none, stream-some}
 use Rattle.sctp_link.proofs.link.Link.least_left.Goals as goal
 
 pub unreachable-requires : goal.unreachable-requires
 unreachable-requires g c =
-    let w = world_in c.self.inside in
+    let w = record_in c.self.inside in
     let s = c.args.stream in
     let o : is_open w s ≡ true = rw (← c.self.view_is) at c.requires in
     let none = queue-none s c.self.inside.halves.streams (ap option_copied (sym c.in_default.is) ∙ c.reassembly.ensures) in
@@ -24,7 +24,7 @@ unreachable-requires g c =
 
 pub returns-in_default-front : goal.returns-in_default-front
 returns-in_default-front g c =
-    let w = world_in c.self.inside in
+    let w = record_in c.self.inside in
     let sum = g.C.Checksum.sum c.self.inside.checksum in
     let x = state_in c.self.inside in
     let s = c.args.stream in
@@ -36,7 +36,7 @@ returns-in_default-front g c =
 
 pub returns-then-not-is_complete : goal.returns-then-not-is_complete
 returns-then-not-is_complete g c =
-    let w = world_in c.self.inside in
+    let w = record_in c.self.inside in
     let sum = g.C.Checksum.sum c.self.inside.checksum in
     let x = state_in c.self.inside in
     let s = c.args.stream in
@@ -48,13 +48,13 @@ returns-then-not-is_complete g c =
     let h = set-held sum x c.self.invariant p.at s p.stream p.inside p.found 0 first some in
     let is = c.in-Some-front.ensures.lookup ∙ ap (λ is. slice_index_or is 0 first) held ∙ h.1 in
     let count = stream-some sum x c.self.invariant p.at s p.stream p.inside p.found some in
-    let whole = whole-set sum x c.self.invariant s (slice_index_or (held_on w s) 0 0) first h.0 is in
+    let complete = complete-set sum x c.self.invariant s (slice_index_or (held_on w s) 0 0) first h.0 is in
     let partial : is_complete first.chunks ≡ false = sym c.is_complete.ensures ∙ c.if-not-is_complete.true in
-    rw (← c.self.view_is) (ap (λ o. min_with o c.args.low) (sym (first-at w s count ∙ ap (λ b. if b then Some (index_of w (slice_index_or (held_on w s) 0 0)) else None) (sym whole ∙ partial))))
+    rw (← c.self.view_is) (ap (λ o. min_with o c.args.low) (sym (first-at w s count ∙ ap (λ b. if b then Some (index_of w (slice_index_or (held_on w s) 0 0)) else None) (sym complete ∙ partial))))
 
 pub index_of-requires : goal.index_of-requires
 index_of-requires g c =
-    let w = world_in c.self.inside in
+    let w = record_in c.self.inside in
     let sum = g.C.Checksum.sum c.self.inside.checksum in
     let x = state_in c.self.inside in
     let s = c.args.stream in
@@ -69,7 +69,7 @@ index_of-requires g c =
 
 pub returns : goal.returns
 returns g c =
-    let w = world_in c.self.inside in
+    let w = record_in c.self.inside in
     let sum = g.C.Checksum.sum c.self.inside.checksum in
     let x = state_in c.self.inside in
     let s = c.args.stream in
@@ -81,9 +81,9 @@ returns g c =
     let h = set-held sum x c.self.invariant p.at s p.stream p.inside p.found 0 first some in
     let is = c.in-Some-front.ensures.lookup ∙ ap (λ is. slice_index_or is 0 first) held ∙ h.1 in
     let count = stream-some sum x c.self.invariant p.at s p.stream p.inside p.found some in
-    let whole = whole-set sum x c.self.invariant s (slice_index_or (held_on w s) 0 0) first h.0 is in
+    let set-complete = complete-set sum x c.self.invariant s (slice_index_or (held_on w s) 0 0) first h.0 is in
     let complete : is_complete first.chunks ≡ true = sym c.is_complete.ensures ∙ c.if-not-is_complete.false in
     let told : (s n : ℕ) → is_held w s n ≡ true → first ≡ set_of w n → c.index_of.result ≡ index_of w n = rw (← c.self.view_is) at c.index_of.ensures in
     rw (← c.self.view_is)
     (c.min.ensures ∙ ap (min c.args.low) (told s (slice_index_or (held_on w s) 0 0) h.0 is)
-    ∙ ap (λ o. min_with o c.args.low) (sym (first-at w s count ∙ ap (λ b. if b then Some (index_of w (slice_index_or (held_on w s) 0 0)) else None) (sym whole ∙ complete))))
+    ∙ ap (λ o. min_with o c.args.low) (sym (first-at w s count ∙ ap (λ b. if b then Some (index_of w (slice_index_or (held_on w s) 0 0)) else None) (sym set-complete ∙ complete))))

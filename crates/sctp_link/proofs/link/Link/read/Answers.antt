@@ -1,6 +1,6 @@
 use Rattle.std.proofs.Common.{◌≡◌, ap, sym, ◌∙◌, ◌<◌, ◌+◌, ◌-◌, ◌^◌, ◌%◌, true, Some, None, refl, arith, map, length}
 use Rattle.std.specs.Prelude.{find, is_some, slice_index_or, slice_set}
-use Rattle.sctp_list_lemmas.specs.Lists.{changed}
+use Rattle.sctp_list_lemmas.specs.Lists.{change_at}
 use Rattle.sctp_chunks.specs.ChunkSet.{ChunkSet}
 use Rattle.sctp_reassembly.specs.reassembly_queue.ReassemblyQueue.{message_read}
 use Rattle.sctp_model.specs.Messages.{message_at}
@@ -11,22 +11,23 @@ use Rattle.sctp_model.specs.Steps.{refusal_of}
 use Rattle.sctp_model.specs.declared.event.Event.TheVariants as E
 use Rattle.sctp_halves.specs.Streams.{OpenStream, has_number}
 use Rattle.sctp_link.specs.declared.record.Message.{Message}
-use Rattle.sctp_link.specs.Fields.{world_in, state_in}
+use Rattle.sctp_link.specs.Fields.{record_in, state_in}
 use Rattle.sctp_link.specs.Records.{message_record, progress_of}
-use Rattle.sctp_link.proofs.upkeep.Apart.{map-set, map-set_same}
+use Rattle.sctp_link.proofs.upkeep.Apart.{map-set}
 use Rattle.sctp_link.proofs.upkeep.StreamPlaces.{placed}
 use Rattle.sctp_link.proofs.receiver.Hears.{lead-slot, lead-number, messages-made, message-raw, kept-raw}
-use Rattle.sctp_link.proofs.receiver.HandsOut.{none-mapped, some-mapped, open-there, world-nothing, linked-nothing, reply-nothing, read-is, hands, hands-begins, ppi-handed, low, reply-read, world-recorded, linked-recorded}
+use Rattle.sctp_link.proofs.receiver.HandsOut.{none-mapped, some-mapped, open-there, recorded-nothing, linked-nothing, reply-nothing, read-is, hands, hands-begins, ppi-handed, low, reply-read, recorded-recorded, linked-recorded}
 use Rattle.sctp_link.proofs.link.Link.read.Goals as goal
+use Rattle.sctp_transfer.proofs.StreamPlaces.{map-set_same}
 
 pub read-requires : goal.read-requires
 read-requires g c =
-    let ok : refusal_of (world_in c.self.inside) (E.Read c.args.stream) ≡ None = rw (← c.self.view_is) at c.requires in
-    ap is_some (open-there (world_in c.self.inside) c.args.stream c.self.inside.halves.streams refl ok).1
+    let ok : refusal_of (record_in c.self.inside) (E.Read c.args.stream) ≡ None = rw (← c.self.view_is) at c.requires in
+    ap is_some (open-there (record_in c.self.inside) c.args.stream c.self.inside.halves.streams refl ok).1
 
 pub invariant_of-self : goal.invariant_of-self
 invariant_of-self g c =
-    let w = world_in c.self.inside in
+    let w = record_in c.self.inside in
     let sum = g.C.Checksum.sum c.self.inside.checksum in
     let x = state_in c.self.inside in
     let s = c.args.stream in
@@ -44,7 +45,7 @@ invariant_of-self g c =
 
 pub returns-in_default-clause-right : goal.returns-in_default-clause-right
 returns-in_default-clause-right g c =
-    let w = world_in c.self.inside in
+    let w = record_in c.self.inside in
     let sum = g.C.Checksum.sum c.self.inside.checksum in
     let x = state_in c.self.inside in
     let s = c.args.stream in
@@ -58,11 +59,11 @@ returns-in_default-clause-right g c =
     let found : (d : OpenStream) → find (has_number s) open_streams ≡ Some (slice_index_or open_streams at d) = λ d. t.1 ∙ ap (λ l. Some l) (sym (place.1.1 d)) in
     let e : message_read (slice_index_or open_streams at d).inbound.queue.held ≡ None =
     ap (λ (l : OpenStream). message_read l.inbound.queue.held) (place.1.1 d) ∙ none-mapped (message_read d.inbound.queue.held) (c.in_default.ensures.message d t.1) in
-    rw (← c.self.view_is) (rw c.read.ensures.rest (record { right = reply-nothing sum x c.self.invariant s at d refl lt found e; moves = world-nothing sum x c.self.invariant s at d refl lt found e }))
+    rw (← c.self.view_is) (rw c.read.ensures.rest (record { right = reply-nothing sum x c.self.invariant s at d refl lt found e; moves = recorded-nothing sum x c.self.invariant s at d refl lt found e }))
 
 pub first_tsn-requires : goal.first_tsn-requires
 first_tsn-requires g c =
-    let w = world_in c.self.inside in
+    let w = record_in c.self.inside in
     let sum = g.C.Checksum.sum c.self.inside.checksum in
     let x = state_in c.self.inside in
     let s = c.args.stream in
@@ -81,7 +82,7 @@ first_tsn-requires g c =
 
 pub index-requires : goal.index-requires
 index-requires g c =
-    let w = world_in c.self.inside in
+    let w = record_in c.self.inside in
     let sum = g.C.Checksum.sum c.self.inside.checksum in
     let x = state_in c.self.inside in
     let s = c.args.stream in
@@ -107,7 +108,7 @@ index-requires g c =
 
 pub index_mut-message-requires : goal.index_mut-message-requires
 index_mut-message-requires g c =
-    let w = world_in c.self.inside in
+    let w = record_in c.self.inside in
     let sum = g.C.Checksum.sum c.self.inside.checksum in
     let x = state_in c.self.inside in
     let s = c.args.stream in
@@ -136,7 +137,7 @@ index_mut-message-requires g c =
 
 pub record_read-requires : goal.record_read-requires
 record_read-requires g c =
-    let w = world_in c.self.inside in
+    let w = record_in c.self.inside in
     let sum = g.C.Checksum.sum c.self.inside.checksum in
     let x = state_in c.self.inside in
     let s = c.args.stream in
@@ -168,7 +169,7 @@ record_read-requires g c =
 
 pub invariant_of-self-2 : goal.invariant_of-self-2
 invariant_of-self-2 g c =
-    let w = world_in c.self.inside in
+    let w = record_in c.self.inside in
     let sum = g.C.Checksum.sum c.self.inside.checksum in
     let x = state_in c.self.inside in
     let s = c.args.stream in
@@ -197,7 +198,7 @@ invariant_of-self-2 g c =
     let here : m ≡ slice_index_or messages n m = c.index_mut-message.ensures.value ∙ ap (λ i. slice_index_or messages i m) number in
     let m_is : message_at w n ≡ message_record m = message-raw sum x c.self.invariant slots messages refl refl n m inside ∙ ap message_record (sym here) in
     let m' : Message = record m { read = true } in
-    let messages_are : map message_record (slice_set messages c.index.result.now.message m') ≡ changed mark_read n w.messages =
+    let messages_are : map message_record (slice_set messages c.index.result.now.message m') ≡ change_at mark_read n w.messages =
     ap (λ i. map message_record (slice_set messages i m')) number ∙ map-set message_record mark_read messages n m' m inside (ap (λ (t : Message). message_record (record t { read = true })) here) in
     let index = ap (λ (t : Message). t.index) here ∙ sym (kept-raw sum x c.self.invariant slots messages refl refl refl n m inside) in
     rw (c.record_read.ensures, c.read.ensures.rest)
@@ -206,7 +207,7 @@ invariant_of-self-2 g c =
 
 pub returns-clause-right : goal.returns-clause-right
 returns-clause-right g c =
-    let w = world_in c.self.inside in
+    let w = record_in c.self.inside in
     let sum = g.C.Checksum.sum c.self.inside.checksum in
     let x = state_in c.self.inside in
     let s = c.args.stream in
@@ -235,11 +236,11 @@ returns-clause-right g c =
     let here : m ≡ slice_index_or messages n m = c.index_mut-message.ensures.value ∙ ap (λ i. slice_index_or messages i m) number in
     let m_is : message_at w n ≡ message_record m = message-raw sum x c.self.invariant slots messages refl refl n m inside ∙ ap message_record (sym here) in
     let m' : Message = record m { read = true } in
-    let messages_are : map message_record (slice_set messages c.index.result.now.message m') ≡ changed mark_read n w.messages =
+    let messages_are : map message_record (slice_set messages c.index.result.now.message m') ≡ change_at mark_read n w.messages =
     ap (λ i. map message_record (slice_set messages i m')) number ∙ map-set message_record mark_read messages n m' m inside (ap (λ (t : Message). message_record (record t { read = true })) here) in
     let index = ap (λ (t : Message). t.index) here ∙ sym (kept-raw sum x c.self.invariant slots messages refl refl refl n m inside) in
     let kind : c.ppi-ppi.result ≡ m.ppi = c.ppi-ppi.ensures ∙ ap (λ (t : ChunkSet). t.ppi) (read-is sum x c.self.invariant s at d refl lt found set e).2 ∙ ppi-handed w n ∙ ap (λ t. t.ppi) m_is in
     rw (← c.self.view_is) (rw (c.record_read.ensures, c.read.ensures.rest) (record {
       right = ap (λ p. R.Message s p set) (kind ∙ sym (ap (λ t. t.ppi) m_is)) ∙ reply-read sum x c.self.invariant s at d refl lt found set e;
-      moves = world-recorded sum x c.self.invariant s at d refl lt found set e m (map message_record (slice_set messages c.index.result.now.message m')) m_is messages_are index;
+      moves = recorded-recorded sum x c.self.invariant s at d refl lt found set e m (map message_record (slice_set messages c.index.result.now.message m')) m_is messages_are index;
     }))

@@ -3,7 +3,7 @@ use Rattle.sctp_list_lemmas.proofs.Getting.{length-mapped}
 use Rattle.sctp_model.specs.Queues.{is_cleared}
 use Rattle.sctp_model.specs.Steps.{unless}
 use Rattle.sctp_model.specs.declared.event.LinkRefusal.TheVariants.{NotInFlight}
-use Rattle.sctp_link.specs.Fields.{world_in}
+use Rattle.sctp_link.specs.Fields.{record_in}
 use Rattle.sctp_link.specs.Records.{slot_record}
 use Rattle.sctp_link.proofs.upkeep.Observed.{can-resend}
 use Rattle.sctp_link.proofs.link.Link.refusal_resend.Goals as goal
@@ -13,7 +13,7 @@ is_cleared-requires g c = rw (← c.self.view_is) (omega (arith, c.if-place-len.
 
 pub returns : goal.returns
 returns g c =
-    let w = world_in c.self.inside in
+    let w = record_in c.self.inside in
     let p = (c.args.tsn + (2 ^ 32 - c.self.inside.first_tsn)) % 2 ^ 32 in
     let lt : p < length w.slots = omega (arith, c.if-place-len.false, c.len.ensures, length-mapped slot_record c.self.inside.slots.items) in
     let told : c.is_cleared.result ≡ is_cleared w p = rw (← c.self.view_is) at c.is_cleared.ensures in

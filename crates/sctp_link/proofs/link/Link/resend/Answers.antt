@@ -7,38 +7,38 @@ use Rattle.sctp_outbound.specs.Marks.{with_nsent}
 use Rattle.sctp_outbound.specs.outbound_queue.OutboundQueue.{with_inflight}
 use Rattle.sctp_model.specs.declared.event.Event.TheVariants as E
 use Rattle.sctp_model.specs.Reply as R
-use Rattle.sctp_model.specs.Changes.{resent}
-use Rattle.sctp_model.specs.World.{Data}
+use Rattle.sctp_model.specs.Changes.{after_resend}
+use Rattle.sctp_model.specs.LinkRecord.{Data}
 use Rattle.sctp_model.specs.Steps.{refusal_of}
 use Rattle.sctp_link.specs.declared.record.Kind.TheVariants as K
 use Rattle.sctp_link.specs.declared.record.Datagram.{Datagram}
 use Rattle.sctp_link.specs.Records.{datagram_record}
-use Rattle.sctp_link.specs.Fields.{state_in, world_in}
+use Rattle.sctp_link.specs.Fields.{state_in, record_in}
 use Rattle.sctp_link.proofs.upkeep.Frames.{moved}
 use Rattle.sctp_link.proofs.sender.Outgoing.{never-gone, resend-fits, linked-resend, network-more, bytes-more}
 use Rattle.sctp_link.proofs.link.Link.resend.Goals as goal
 
 pub unreachable-requires : goal.unreachable-requires
 unreachable-requires g c =
-    let ok : refusal_of (world_in c.self.inside) (E.Resend c.args.tsn) ≡ None = rw (← c.self.view_is) at c.requires in
+    let ok : refusal_of (record_in c.self.inside) (E.Resend c.args.tsn) ≡ None = rw (← c.self.view_is) at c.requires in
     never-gone (g.C.Checksum.sum c.self.inside.checksum) (state_in c.self.inside) c.self.invariant c.args.tsn (search rules) ok (search rules)
 
 pub write_datagram-requires-clause-encoding : goal.write_datagram-requires-clause-encoding
 write_datagram-requires-clause-encoding g c =
-    let ok : refusal_of (world_in c.self.inside) (E.Resend c.args.tsn) ≡ None = rw (← c.self.view_is) at c.requires in
+    let ok : refusal_of (record_in c.self.inside) (E.Resend c.args.tsn) ≡ None = rw (← c.self.view_is) at c.requires in
     let e : find (has_tsn c.args.tsn) c.self.inside.halves.flight.queue.inflight.chunks ≡ Some c.in_ok-chunk.chunk = search rules in
     (tt, resend-fits (g.C.Checksum.sum c.self.inside.checksum) (state_in c.self.inside) c.self.invariant c.args.tsn (search rules) ok c.in_ok-chunk.chunk e)
 
 pub invariant_of-self-2 : goal.invariant_of-self-2
 invariant_of-self-2 g c =
-    let ok : refusal_of (world_in c.self.inside) (E.Resend c.args.tsn) ≡ None = rw (← c.self.view_is) at c.requires in
+    let ok : refusal_of (record_in c.self.inside) (E.Resend c.args.tsn) ≡ None = rw (← c.self.view_is) at c.requires in
     let e : find (has_tsn c.args.tsn) c.self.inside.halves.flight.queue.inflight.chunks ≡ Some c.in_ok-chunk.chunk = search rules in
     let places = c.in_ok-places.places in
     let more : c.put.new.items.items ≡ c.self.inside.network.items ++ (let d : Datagram = record { kind = K.Data places; bytes = c.in_ok-bytes.bytes } in d) ∷ [] = search rules in
-    let network = network-more c.self.inside.network.items c.put.new.items.items (K.Data places) c.in_ok-bytes.bytes more ∙ ap (λ ps. (world_in c.self.inside).network ++ Data ps ∷ []) c.in_ok-places.ensures.places in
+    let network = network-more c.self.inside.network.items c.put.new.items.items (K.Data places) c.in_ok-bytes.bytes more ∙ ap (λ ps. (record_in c.self.inside).network ++ Data ps ∷ []) c.in_ok-places.ensures.places in
     let bytes = bytes-more c.self.inside.network.items c.put.new.items.items (K.Data places) c.in_ok-bytes.bytes more in
     rw (c.count_resend.ensures.counted c.in_ok-chunk.chunk e)
-    (moved _ _ (resent (world_in c.self.inside) c.args.tsn) (ap (λ ds. record (world_in c.self.inside) { network = ds }) network)
+    (moved _ _ (after_resend (record_in c.self.inside) c.args.tsn) (ap (λ ds. record (record_in c.self.inside) { network = ds }) network)
     (rw bytes (linked-resend (g.C.Checksum.sum c.self.inside.checksum) (state_in c.self.inside) c.self.invariant c.args.tsn (search rules) ok c.in_ok-chunk.chunk c.in_ok-bytes.bytes (min (c.in_ok-chunk.chunk.nsent + 1) (2 ^ 32 - 1)) (with_inflight c.self.inside.halves.flight.queue (change_where (has_tsn c.args.tsn) (with_nsent (min (c.in_ok-chunk.chunk.nsent + 1) (2 ^ 32 - 1))) c.self.inside.halves.flight.queue.inflight.chunks)) e (search rules) (search rules) (length-mapped (λ (d : Datagram). d.bytes) c.self.inside.network.items ∙ sym (length-mapped datagram_record c.self.inside.network.items)) refl)))
 
 pub returns-clause-ok : goal.returns-clause-ok
@@ -46,7 +46,7 @@ returns-clause-ok g c =
     let e : find (has_tsn c.args.tsn) c.self.inside.halves.flight.queue.inflight.chunks ≡ Some c.in_ok-chunk.chunk = search rules in
     let places = c.in_ok-places.places in
     let more : c.put.new.items.items ≡ c.self.inside.network.items ++ (let d : Datagram = record { kind = K.Data places; bytes = c.in_ok-bytes.bytes } in d) ∷ [] = search rules in
-    let network = network-more c.self.inside.network.items c.put.new.items.items (K.Data places) c.in_ok-bytes.bytes more ∙ ap (λ ps. (world_in c.self.inside).network ++ Data ps ∷ []) c.in_ok-places.ensures.places in
+    let network = network-more c.self.inside.network.items c.put.new.items.items (K.Data places) c.in_ok-bytes.bytes more ∙ ap (λ ps. (record_in c.self.inside).network ++ Data ps ∷ []) c.in_ok-places.ensures.places in
     let len : c.len-datagram.result ≡ length c.self.inside.network.items = search rules in
     rw (← c.self.view_is) (rw (c.count_resend.ensures.counted c.in_ok-chunk.chunk e)
-    (record { right = ap R.Resent (len ∙ sym (length-mapped datagram_record c.self.inside.network.items)); moves = ap (λ ds. record (world_in c.self.inside) { network = ds }) network }))
+    (record { right = ap R.Resent (len ∙ sym (length-mapped datagram_record c.self.inside.network.items)); moves = ap (λ ds. record (record_in c.self.inside) { network = ds }) network }))

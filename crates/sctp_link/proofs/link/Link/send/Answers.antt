@@ -4,17 +4,17 @@ use Rattle.std.specs.Vec.{with_items, vec_len}
 use Rattle.std.proofs.lemmas.List.{with_items_is}
 use Rattle.sctp_list_lemmas.specs.Kept.{numbers_from}
 use Rattle.sctp_chunks.specs.declared.chunk.chunk_kind.ChunkKind.TheVariants as C
-use Rattle.sctp_outbound.specs.pending_queue.PendingQueue.{peeked}
+use Rattle.sctp_outbound.specs.pending_queue.PendingQueue.{next_pending}
 use Rattle.sctp_outbound.specs.outbound_queue.OutboundQueue.{Outbound}
 use Rattle.sctp_halves.specs.Halves.{Sides}
-use Rattle.sctp_model.specs.Changes.{started}
+use Rattle.sctp_model.specs.Changes.{after_start}
 use Rattle.sctp_refinement.specs.Filling.{chunks_taken}
 use Rattle.sctp_link.specs.declared.record.Slot.{Slot}
 use Rattle.sctp_link.specs.declared.record.Datagram.{Datagram}
 use Rattle.sctp_link.specs.declared.record.Kind.TheVariants as K
 use Rattle.sctp_link.specs.Records.{slot_record, datagram_record}
 use Rattle.sctp_link.specs.OpenStreams.{start_from}
-use Rattle.sctp_link.specs.Fields.{state_in, world_in}
+use Rattle.sctp_link.specs.Fields.{state_in, record_in}
 use Rattle.sctp_link.specs.Sends.{sender_of}
 use Rattle.sctp_link.proofs.receiver.Keeping.{on-err}
 use Rattle.sctp_link.proofs.sender.Sending.{next-is, idle-right, looks-short}
@@ -23,23 +23,23 @@ use Rattle.sctp_link.proofs.link.Link.send.Goals as goal
 
 pub returns-in_default-clause-ok : goal.returns-in_default-clause-ok
 returns-in_default-clause-ok g c =
-    let none : peeked c.self.inside.halves.flight.queue.pending ≡ None = search rules in
-    let moves : c.start.new.self.world ≡ started (world_in c.self.inside) c.args.now = rw (← c.self.view_is) at c.start.ensures.right.moves in
-    rw (← c.self.view_is) (idle-right (g.C.Checksum.sum c.self.inside.checksum) (state_in c.self.inside) c.self.invariant c.args.now c.start.new.self.world none moves)
+    let none : next_pending c.self.inside.halves.flight.queue.pending ≡ None = search rules in
+    let moves : c.start.new.self.recorded ≡ after_start (record_in c.self.inside) c.args.now = rw (← c.self.view_is) at c.start.ensures.right.moves in
+    rw (← c.self.view_is) (idle-right (g.C.Checksum.sum c.self.inside.checksum) (state_in c.self.inside) c.self.invariant c.args.now c.start.new.self.recorded none moves)
 
 pub next_chunks-requires-clause-short : goal.next_chunks-requires-clause-short
 next_chunks-requires-clause-short g c = rw c.outbound-2.ensures (looks-short (g.C.Checksum.sum c.self.inside.checksum) (state_in c.self.inside) c.self.invariant c.args.now)
 
 pub write_chunks-requires-clause-encoding : goal.write_chunks-requires-clause-encoding
 write_chunks-requires-clause-encoding g c =
-    let e : peeked c.self.inside.halves.flight.queue.pending ≡ Some c.in-Some.first.now = search rules in
+    let e : next_pending c.self.inside.halves.flight.queue.pending ≡ Some c.in-Some.first.now = search rules in
     let chunks : c.in_ok-chunks.chunks.items ≡ map C.PayloadData (chunks_taken c.self.inside.limit c.self.inside.halves.flight.next_tsn c.self.inside.halves.flight.queue.pending) =
     c.in_ok-chunks.ensures.chunks ∙ ap (λ t. map C.PayloadData (chunks_taken c.self.inside.limit t c.outbound-2.result.now.pending)) c.next_tsn-tsn.ensures ∙ ap (λ (q : Outbound). map C.PayloadData (chunks_taken c.self.inside.limit c.self.inside.halves.flight.next_tsn q.pending)) c.outbound-2.ensures in
     encodings-each (g.C.Checksum.sum c.self.inside.checksum) (state_in c.self.inside) c.self.invariant c.args.now c.in-Some.first.now e c.in_ok-chunks.chunks.items chunks
 
 pub write_chunks-requires-clause-canonical : goal.write_chunks-requires-clause-canonical
 write_chunks-requires-clause-canonical g c =
-    let e : peeked c.self.inside.halves.flight.queue.pending ≡ Some c.in-Some.first.now = search rules in
+    let e : next_pending c.self.inside.halves.flight.queue.pending ≡ Some c.in-Some.first.now = search rules in
     let chunks : c.in_ok-chunks.chunks.items ≡ map C.PayloadData (chunks_taken c.self.inside.limit c.self.inside.halves.flight.next_tsn c.self.inside.halves.flight.queue.pending) =
     c.in_ok-chunks.ensures.chunks ∙ ap (λ t. map C.PayloadData (chunks_taken c.self.inside.limit t c.outbound-2.result.now.pending)) c.next_tsn-tsn.ensures ∙ ap (λ (q : Outbound). map C.PayloadData (chunks_taken c.self.inside.limit c.self.inside.halves.flight.next_tsn q.pending)) c.outbound-2.ensures in
     canonical-each (g.C.Checksum.sum c.self.inside.checksum) (state_in c.self.inside) c.self.invariant c.args.now c.in-Some.first.now e c.in_ok-chunks.chunks.items chunks
@@ -47,7 +47,7 @@ write_chunks-requires-clause-canonical g c =
 pub take_fragments-requires-clause-able : goal.take_fragments-requires-clause-able
 take_fragments-requires-clause-able g c =
     let ms = c.self.inside.messages in
-    let e : peeked c.self.inside.halves.flight.queue.pending ≡ Some c.in-Some.first.now = search rules in
+    let e : next_pending c.self.inside.halves.flight.queue.pending ≡ Some c.in-Some.first.now = search rules in
     let chunks : c.in_ok-chunks.chunks.items ≡ map C.PayloadData (chunks_taken c.self.inside.limit c.self.inside.halves.flight.next_tsn c.self.inside.halves.flight.queue.pending) =
     c.in_ok-chunks.ensures.chunks ∙ ap (λ t. map C.PayloadData (chunks_taken c.self.inside.limit t c.outbound-2.result.now.pending)) c.next_tsn-tsn.ensures ∙ ap (λ (q : Outbound). map C.PayloadData (chunks_taken c.self.inside.limit c.self.inside.halves.flight.next_tsn q.pending)) c.outbound-2.ensures in
     let same : length c.start_from.new.messages ≡ vec_len ms = search rules in
@@ -61,7 +61,7 @@ take_fragments-requires-clause-able g c =
 pub invariant_of-self-2 : goal.invariant_of-self-2
 invariant_of-self-2 g c =
     let ms = c.self.inside.messages in
-    let e : peeked c.self.inside.halves.flight.queue.pending ≡ Some c.in-Some.first.now = search rules in
+    let e : next_pending c.self.inside.halves.flight.queue.pending ≡ Some c.in-Some.first.now = search rules in
     let chunks : c.in_ok-chunks.chunks.items ≡ map C.PayloadData (chunks_taken c.self.inside.limit c.self.inside.halves.flight.next_tsn c.self.inside.halves.flight.queue.pending) =
     c.in_ok-chunks.ensures.chunks ∙ ap (λ t. map C.PayloadData (chunks_taken c.self.inside.limit t c.outbound-2.result.now.pending)) c.next_tsn-tsn.ensures ∙ ap (λ (q : Outbound). map C.PayloadData (chunks_taken c.self.inside.limit c.self.inside.halves.flight.next_tsn q.pending)) c.outbound-2.ensures in
     let same : length c.start_from.new.messages ≡ vec_len ms = search rules in
@@ -89,7 +89,7 @@ invariant_of-self-2 g c =
 pub returns-clause-ok : goal.returns-clause-ok
 returns-clause-ok g c =
     let ms = c.self.inside.messages in
-    let e : peeked c.self.inside.halves.flight.queue.pending ≡ Some c.in-Some.first.now = search rules in
+    let e : next_pending c.self.inside.halves.flight.queue.pending ≡ Some c.in-Some.first.now = search rules in
     let chunks : c.in_ok-chunks.chunks.items ≡ map C.PayloadData (chunks_taken c.self.inside.limit c.self.inside.halves.flight.next_tsn c.self.inside.halves.flight.queue.pending) =
     c.in_ok-chunks.ensures.chunks ∙ ap (λ t. map C.PayloadData (chunks_taken c.self.inside.limit t c.outbound-2.result.now.pending)) c.next_tsn-tsn.ensures ∙ ap (λ (q : Outbound). map C.PayloadData (chunks_taken c.self.inside.limit c.self.inside.halves.flight.next_tsn q.pending)) c.outbound-2.ensures in
     let same : length c.start_from.new.messages ≡ vec_len ms = search rules in
@@ -112,46 +112,46 @@ returns-clause-ok g c =
 
 pub returns-in_err-chunks-clause-wants : goal.returns-in_err-chunks-clause-wants
 returns-in_err-chunks-clause-wants g c =
-    let e : peeked c.self.inside.halves.flight.queue.pending ≡ Some c.in-Some.first.now = search rules in
+    let e : next_pending c.self.inside.halves.flight.queue.pending ≡ Some c.in-Some.first.now = search rules in
     let f = (next-is (g.C.Checksum.sum c.self.inside.checksum) (state_in c.self.inside) c.self.invariant c.in-Some.first.now e).front in
     rw (← c.self.view_is) (on-err c.from_residual.result _ (ap is_some f))
 
 pub returns-in_err-bytes-clause-wants : goal.returns-in_err-bytes-clause-wants
 returns-in_err-bytes-clause-wants g c =
-    let e : peeked c.self.inside.halves.flight.queue.pending ≡ Some c.in-Some.first.now = search rules in
+    let e : next_pending c.self.inside.halves.flight.queue.pending ≡ Some c.in-Some.first.now = search rules in
     let f = (next-is (g.C.Checksum.sum c.self.inside.checksum) (state_in c.self.inside) c.self.invariant c.in-Some.first.now e).front in
     rw (← c.self.view_is) (on-err c.from_residual-in_err-bytes.result _ (ap is_some f))
 
 pub returns-in_err-places-clause-wants : goal.returns-in_err-places-clause-wants
 returns-in_err-places-clause-wants g c =
-    let e : peeked c.self.inside.halves.flight.queue.pending ≡ Some c.in-Some.first.now = search rules in
+    let e : next_pending c.self.inside.halves.flight.queue.pending ≡ Some c.in-Some.first.now = search rules in
     let f = (next-is (g.C.Checksum.sum c.self.inside.checksum) (state_in c.self.inside) c.self.invariant c.in-Some.first.now e).front in
     rw (← c.self.view_is) (on-err c.from_residual-in_err-places.result _ (ap is_some f))
 
 pub returns-in_err-reserve-clause-wants : goal.returns-in_err-reserve-clause-wants
 returns-in_err-reserve-clause-wants g c =
-    let e : peeked c.self.inside.halves.flight.queue.pending ≡ Some c.in-Some.first.now = search rules in
+    let e : next_pending c.self.inside.halves.flight.queue.pending ≡ Some c.in-Some.first.now = search rules in
     let f = (next-is (g.C.Checksum.sum c.self.inside.checksum) (state_in c.self.inside) c.self.invariant c.in-Some.first.now e).front in
     rw (← c.self.view_is) (on-err c.from_residual-in_err-reserve.result _ (ap is_some f))
 
 pub returns-in_err-reserve-2-clause-wants : goal.returns-in_err-reserve-2-clause-wants
 returns-in_err-reserve-2-clause-wants g c =
-    let e : peeked c.self.inside.halves.flight.queue.pending ≡ Some c.in-Some.first.now = search rules in
+    let e : next_pending c.self.inside.halves.flight.queue.pending ≡ Some c.in-Some.first.now = search rules in
     let f = (next-is (g.C.Checksum.sum c.self.inside.checksum) (state_in c.self.inside) c.self.invariant c.in-Some.first.now e).front in
     rw (← c.self.view_is) (on-err c.from_residual-in_err-reserve-2.result _ (ap is_some f))
 
 pub returns-in_err-reserve-3-clause-wants : goal.returns-in_err-reserve-3-clause-wants
 returns-in_err-reserve-3-clause-wants g c =
-    let e : peeked c.self.inside.halves.flight.queue.pending ≡ Some c.in-Some.first.now = search rules in
+    let e : next_pending c.self.inside.halves.flight.queue.pending ≡ Some c.in-Some.first.now = search rules in
     let f = (next-is (g.C.Checksum.sum c.self.inside.checksum) (state_in c.self.inside) c.self.invariant c.in-Some.first.now e).front in
     rw (← c.self.view_is) (on-err c.from_residual-in_err-reserve-3.result _ (ap is_some f))
 
 pub returns-in_err-reserve-clause-err : goal.returns-in_err-reserve-clause-err
 returns-in_err-reserve-clause-err g c =
-    rw (← c.self.view_is) (on-err c.from_residual-in_err-reserve.result _ (ap (λ (ss : List Slot). record (world_in c.self.inside) { slots = map slot_record ss }) c.reserve.ensures.items))
+    rw (← c.self.view_is) (on-err c.from_residual-in_err-reserve.result _ (ap (λ (ss : List Slot). record (record_in c.self.inside) { slots = map slot_record ss }) c.reserve.ensures.items))
 
 pub returns-in_err-reserve-2-clause-err : goal.returns-in_err-reserve-2-clause-err
 returns-in_err-reserve-2-clause-err g c =
     rw (← c.self.view_is) (on-err c.from_residual-in_err-reserve-2.result _
-    (ap (λ (ss : List Slot). record (world_in c.self.inside) { slots = map slot_record ss; network = map datagram_record c.reserve-2.new.self.items }) c.reserve.ensures.items
-    ∙ ap (λ (ns : List Datagram). record (world_in c.self.inside) { network = map datagram_record ns }) c.reserve-2.ensures.items))
+    (ap (λ (ss : List Slot). record (record_in c.self.inside) { slots = map slot_record ss; network = map datagram_record c.reserve-2.new.self.items }) c.reserve.ensures.items
+    ∙ ap (λ (ns : List Datagram). record (record_in c.self.inside) { network = map datagram_record ns }) c.reserve-2.ensures.items))

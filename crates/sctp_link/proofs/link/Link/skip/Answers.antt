@@ -2,7 +2,7 @@ use Rattle.std.proofs.Common.{◌≡◌, ◌∷◌, ◌++◌, [], rules, None, r
 use Rattle.sctp_list_lemmas.proofs.Getting.{length-mapped}
 use Rattle.sctp_chunks.specs.ForwardTsn.{ForwardTsn}
 use Rattle.sctp_model.specs.declared.event.Event.TheVariants as E
-use Rattle.sctp_model.specs.World.{Forward}
+use Rattle.sctp_model.specs.LinkRecord.{Forward}
 use Rattle.sctp_model.specs.Messages.{place_of, tsn_of}
 use Rattle.sctp_model.specs.Changes.{with_datagram}
 use Rattle.sctp_model.specs.Steps.{skip_refusal}
@@ -10,7 +10,7 @@ use Rattle.sctp_link.specs.declared.record.Kind.TheVariants as K
 use Rattle.sctp_link.specs.declared.record.Datagram.{Datagram}
 use Rattle.sctp_link.specs.Records.{datagram_record}
 use Rattle.sctp_link.specs.Skips.{pair_in}
-use Rattle.sctp_link.specs.Fields.{state_in, world_in}
+use Rattle.sctp_link.specs.Fields.{state_in, record_in}
 use Rattle.sctp_link.proofs.upkeep.Frames.{moved}
 use Rattle.sctp_link.proofs.sender.Outgoing.{network-more, bytes-more}
 use Rattle.sctp_link.proofs.skipping.SkipMade.{pairs-short, skip-says, linked-made}
@@ -18,7 +18,7 @@ use Rattle.sctp_link.proofs.link.Link.skip.Goals as goal
 
 pub write_datagram-requires-clause-encoding : goal.write_datagram-requires-clause-encoding
 write_datagram-requires-clause-encoding g c =
-    let w = world_in c.self.inside in
+    let w = record_in c.self.inside in
     let sum = g.C.Checksum.sum c.self.inside.checksum in
     let x = state_in c.self.inside in
     let ms = c.self.inside.messages.items in
@@ -31,7 +31,7 @@ write_datagram-requires-clause-encoding g c =
 
 pub invariant_of-self-2 : goal.invariant_of-self-2
 invariant_of-self-2 g c =
-    let w = world_in c.self.inside in
+    let w = record_in c.self.inside in
     let sum = g.C.Checksum.sum c.self.inside.checksum in
     let x = state_in c.self.inside in
     let ms = c.self.inside.messages.items in

@@ -5,7 +5,7 @@ use Rattle.sctp_model.specs.Changes.{skip_counts}
 use Rattle.sctp_model.specs.Receiver.{cumulative}
 use Rattle.sctp_refinement.specs.Naming.{names_fit}
 use Rattle.sctp_refinement.proofs.skipping.SkipSpans.{stale-fits}
-use Rattle.sctp_link.specs.Fields.{world_in, state_in}
+use Rattle.sctp_link.specs.Fields.{record_in, state_in}
 use Rattle.sctp_link.proofs.upkeep.Facts.{facts}
 use Rattle.sctp_link.proofs.acknowledging.Reporting.{cumulative-place}
 use Rattle.sctp_link.proofs.skipping.SkipComes.{all-fit}
@@ -13,7 +13,7 @@ use Rattle.sctp_link.proofs.link.Link.skip_fits.Goals as goal
 
 pub returns-then-cumulative-upto : goal.returns-then-cumulative-upto
 returns-then-cumulative-upto g c =
-    let w = world_in c.self.inside in
+    let w = record_in c.self.inside in
     let sum = g.C.Checksum.sum c.self.inside.checksum in
     let x = state_in c.self.inside in
     let past : c.args.upto < cumulative w = omega (arith, c.if-cumulative-upto.true, c.count_of-cumulative.ensures, c.cumulative_tsn.ensures, cumulative-place sum x c.self.invariant 0) in
@@ -22,7 +22,7 @@ returns-then-cumulative-upto g c =
 
 pub returns : goal.returns
 returns g c =
-    let w = world_in c.self.inside in
+    let w = record_in c.self.inside in
     let sum = g.C.Checksum.sum c.self.inside.checksum in
     let x = state_in c.self.inside in
     let past : cumulative w ≤ c.args.upto = omega (arith, c.if-cumulative-upto.false, c.count_of-cumulative.ensures, c.cumulative_tsn.ensures, cumulative-place sum x c.self.invariant 0) in

@@ -3,18 +3,18 @@ use Rattle.std.specs.Prelude.{slice_index_or, is_some, if◌then◌else◌, nat_
 use Rattle.sctp_model.specs.Messages.{message_at, message_of, is_open}
 use Rattle.sctp_model.specs.Receiver.{is_new, least, greatest, fits}
 use Rattle.sctp_link.specs.declared.record.Slot.{Slot}
-use Rattle.sctp_link.specs.Fields.{world_in, state_in}
+use Rattle.sctp_link.specs.Fields.{record_in, state_in}
 use Rattle.sctp_link.specs.Records.{message_record}
 use Rattle.sctp_link.specs.Receiving.{LiesSomewhere, added_on}
 use Rattle.sctp_link.proofs.receiver.Hears.{come-message, slots-made, messages-made, slot-raw, message-raw}
 use Rattle.sctp_link.proofs.receiver.Spans.{lying, fits-ends}
 use Rattle.sctp_list_lemmas.proofs.Cases.{and-none}
-use Rattle.sctp_refinement.proofs.arriving.SpanEnds.{lowest, highest}
 use Rattle.sctp_link.proofs.link.Link.slot_fits.Goals as goal
+use Rattle.sctp_refinement.specs.Naming.{lowest_held, highest_held}
 
 pub index-requires : goal.index-requires
 index-requires g c =
-    let w = world_in c.self.inside in
+    let w = record_in c.self.inside in
     let sum = g.C.Checksum.sum c.self.inside.checksum in
     let x = state_in c.self.inside in
     let l = c.self.invariant in
@@ -28,7 +28,7 @@ index-requires g c =
 
 pub index-message-requires : goal.index-message-requires
 index-message-requires g c =
-    let w = world_in c.self.inside in
+    let w = record_in c.self.inside in
     let sum = g.C.Checksum.sum c.self.inside.checksum in
     let x = state_in c.self.inside in
     let l = c.self.invariant in
@@ -44,7 +44,7 @@ index-message-requires g c =
 
 pub is_new-requires : goal.is_new-requires
 is_new-requires g c =
-    let w = world_in c.self.inside in
+    let w = record_in c.self.inside in
     let sum = g.C.Checksum.sum c.self.inside.checksum in
     let x = state_in c.self.inside in
     let l = c.self.invariant in
@@ -58,7 +58,7 @@ is_new-requires g c =
 
 pub returns-then-not-message : goal.returns-then-not-message
 returns-then-not-message g c =
-    let w = world_in c.self.inside in
+    let w = record_in c.self.inside in
     let sum = g.C.Checksum.sum c.self.inside.checksum in
     let x = state_in c.self.inside in
     let l = c.self.invariant in
@@ -80,7 +80,7 @@ returns-then-not-message g c =
 
 pub returns-then-not-is_new : goal.returns-then-not-is_new
 returns-then-not-is_new g c =
-    let w = world_in c.self.inside in
+    let w = record_in c.self.inside in
     let sum = g.C.Checksum.sum c.self.inside.checksum in
     let x = state_in c.self.inside in
     let l = c.self.invariant in
@@ -103,7 +103,7 @@ returns-then-not-is_new g c =
 
 pub index_range-range-requires : goal.index_range-range-requires
 index_range-range-requires g c =
-    let w = world_in c.self.inside in
+    let w = record_in c.self.inside in
     let sum = g.C.Checksum.sum c.self.inside.checksum in
     let x = state_in c.self.inside in
     let l = c.self.invariant in
@@ -122,7 +122,7 @@ index_range-range-requires g c =
 
 pub returns : goal.returns
 returns g c =
-    let w = world_in c.self.inside in
+    let w = record_in c.self.inside in
     let sum = g.C.Checksum.sum c.self.inside.checksum in
     let x = state_in c.self.inside in
     let l = c.self.invariant in
@@ -143,14 +143,14 @@ returns g c =
     let new : is_new w p ≡ true = sym told ∙ c.if-not-is_new.false in
     let kind : (message_at w n).ordered ≡ true = ap (λ t. t.ordered) m_is ∙ c.if-not-message.false in
     let more = added_on w m.stream ps in
-    let low : c.index_range-range.result.0 ≡ lowest w m.stream = rw (← c.self.view_is) at c.index_range-range.ensures.low in
-    let high : c.index_range-range.result.1 ≡ highest w m.stream = rw (← c.self.view_is) at c.index_range-range.ensures.high in
-    let below : c.widened-low.result.0 ≡ least c.index_range-range.result.0 more = rw (← c.self.view_is) at c.widened-low.ensures.low in
-    let above : c.widened-low.result.1 ≡ greatest c.index_range-range.result.1 more = rw (← c.self.view_is) at c.widened-low.ensures.high in
+    let low : c.index_range-range.result.0 ≡ lowest_held w m.stream = rw (← c.self.view_is) at c.index_range-range.ensures.low in
+    let high : c.index_range-range.result.1 ≡ highest_held w m.stream = rw (← c.self.view_is) at c.index_range-range.ensures.high in
+    let below : c.widen-low.result.0 ≡ least c.index_range-range.result.0 more = rw (← c.self.view_is) at c.widen-low.ensures.low in
+    let above : c.widen-low.result.1 ≡ greatest c.index_range-range.result.1 more = rw (← c.self.view_is) at c.widen-low.ensures.high in
     rw (← c.self.view_is) (
     ap (λ k. nat_lt k 32768) c.saturating_sub.ensures
-    ∙ ap (λ a. nat_lt (a - c.widened-low.result.0) 32768) (above ∙ ap (λ h. greatest h more) high)
-    ∙ ap (λ b. nat_lt (greatest (highest w m.stream) more - b) 32768) (below ∙ ap (λ h. least h more) low)
+    ∙ ap (λ a. nat_lt (a - c.widen-low.result.0) 32768) (above ∙ ap (λ h. greatest h more) high)
+    ∙ ap (λ b. nat_lt (greatest (highest_held w m.stream) more - b) 32768) (below ∙ ap (λ h. least h more) low)
     ∙ fits-ends w m.stream more
     ∙ ap (λ s. fits w (added_on w s ps) s) (sym (ap (λ t. t.stream) m_is))
     ∙ sym (ap (λ b. if b && (message_at w n).ordered then test else true) new ∙ ap (λ b. if b then test else true) kind)

@@ -1,6 +1,3 @@
-use Rattle.std.proofs.Common.{ap}
-use Rattle.sctp_transfer.specs.Receiver.{filter_of}
-use Rattle.sctp_halves.specs.Halves.{reception_of}
 use Rattle.sctp_link.proofs.sender.Begins.{linked-fresh}
 use Rattle.sctp_link.proofs.link.Link.with_limit.Goals as goal
 

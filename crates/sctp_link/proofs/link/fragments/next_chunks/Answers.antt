@@ -3,12 +3,13 @@ use Rattle.std.specs.Prelude.{IfSome}
 use Rattle.std.proofs.Math.Path.{subst}
 use Rattle.sctp_chunks.specs.declared.chunk.chunk_payload_data.ChunkPayloadData.{ChunkPayloadData}
 use Rattle.sctp_chunks.specs.declared.chunk.chunk_kind.ChunkKind.TheVariants as C
-use Rattle.sctp_outbound.specs.pending_queue.PendingQueue.{peeked}
-use Rattle.sctp_outbound.specs.outbound_queue.OutboundQueue.{after_sends, following_tsn}
+use Rattle.sctp_outbound.specs.pending_queue.PendingQueue.{next_pending}
+use Rattle.sctp_outbound.specs.outbound_queue.OutboundQueue.{after_sends}
 use Rattle.sctp_model.specs.Changes.{chunk_length}
-use Rattle.sctp_refinement.specs.Filling.{under, further, chunks_taken}
+use Rattle.sctp_refinement.specs.Filling.{further, chunks_taken}
 use Rattle.sctp_link.proofs.sender.Ahead.{begins, goes-on, stops-none, stops-full}
 use Rattle.sctp_link.proofs.link.fragments.next_chunks.Goals as goal
+use Rattle.sctp_serial.specs.DataChunks.{following_tsn, under_tsn}
 
 pub chunk_length-used-requires : goal.chunk_length-used-requires
 chunk_length-used-requires c =
@@ -17,7 +18,7 @@ chunk_length-used-requires c =
 
 pub loop-sent-init : goal.loop-sent-init
 loop-sent-init c =
-    let one : c.push_under.new.chunks.items ≡ C.PayloadData (under c.args.tsn c.args.first.now) ∷ [] = search rules in
+    let one : c.push_under.new.chunks.items ≡ C.PayloadData (under_tsn c.args.tsn c.args.first.now) ∷ [] = search rules in
     let le : length c.args.first.now.user_data ≤ 65519 = subst (λ o. IfSome o (λ (d : ChunkPayloadData). length d.user_data ≤ 65519)) c.requires.shown (c.requires.short 0) in
     record {
       chunks = begins c.args.limit c.args.tsn (12 + c.chunk_length-used.result) c.args.outbound.now.pending c.args.first.now c.push_under.new.chunks.items c.requires.shown one (search rules);
@@ -26,18 +27,18 @@ loop-sent-init c =
 
 pub returns-in_default-clause-chunks : goal.returns-in_default-clause-chunks
 returns-in_default-clause-chunks c =
-    let none : peeked (after_sends (c.loop-sent.sent + 1) c.args.outbound.now.pending) ≡ None = search rules in
+    let none : next_pending (after_sends (c.loop-sent.sent + 1) c.args.outbound.now.pending) ≡ None = search rules in
     stops-none _ c.args.limit c.loop-sent.used _ _ _ _ none c.loop-sent.invariant.chunks
 
 pub returns-then-used-limit-clause-chunks : goal.returns-then-used-limit-clause-chunks
 returns-then-used-limit-clause-chunks c =
-    let some : peeked (after_sends (c.loop-sent.sent + 1) c.args.outbound.now.pending) ≡ Some c.in-Some.chunk.now = search rules in
+    let some : next_pending (after_sends (c.loop-sent.sent + 1) c.args.outbound.now.pending) ≡ Some c.in-Some.chunk.now = search rules in
     stops-full _ c.args.limit c.loop-sent.used _ _ c.in-Some.chunk.now _ _ some (omega arith) c.loop-sent.invariant.chunks
 
 pub loop-sent-preserved : goal.loop-sent-preserved
 loop-sent-preserved c =
-    let some : peeked (after_sends (c.loop-sent.sent + 1) c.args.outbound.now.pending) ≡ Some c.in-Some.chunk.now = search rules in
-    let more : c.push_under-in-loop-sent.new.chunks.items ≡ c.loop-sent.chunks.items ++ C.PayloadData (under (following_tsn c.loop-sent.tsn) c.in-Some.chunk.now) ∷ [] = search rules in
+    let some : next_pending (after_sends (c.loop-sent.sent + 1) c.args.outbound.now.pending) ≡ Some c.in-Some.chunk.now = search rules in
+    let more : c.push_under-in-loop-sent.new.chunks.items ≡ c.loop-sent.chunks.items ++ C.PayloadData (under_tsn (following_tsn c.loop-sent.tsn) c.in-Some.chunk.now) ∷ [] = search rules in
     let below = c.loop-sent-test.true in
     let fits = c.if-used-limit.false in
     let len : c.chunk_length-used-in-loop-sent.result ≡ chunk_length (length c.in-Some.chunk.now.user_data) = search rules in

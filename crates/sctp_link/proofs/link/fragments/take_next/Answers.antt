@@ -1,11 +1,12 @@
-use Rattle.std.proofs.Common.{◌≡◌, ◌+◌, ◌<◌, ◌^◌, Some, true, length, ap, ◌∙◌, rules, arith, refl, sym}
+use Rattle.std.proofs.Common.{◌≡◌, ◌+◌, ◌<◌, ◌^◌, Some, length, ap, rules, arith, refl, sym}
 use Rattle.std.specs.Prelude.{is_some, if◌then◌else◌}
 use Rattle.std.proofs.lemmas.Bool.Decides.{nat_tests}
-use Rattle.sctp_outbound.specs.pending_queue.PendingQueue.{peeked}
-use Rattle.sctp_outbound.specs.outbound_queue.OutboundQueue.{sent_next, following_tsn}
+use Rattle.sctp_outbound.specs.pending_queue.PendingQueue.{next_pending}
+use Rattle.sctp_outbound.specs.outbound_queue.OutboundQueue.{sent_next}
 use Rattle.sctp_link.specs.OpenStreams.{begun_by}
 use Rattle.sctp_link.proofs.sender.Ahead.{room-less}
 use Rattle.sctp_link.proofs.link.fragments.take_next.Goals as goal
+use Rattle.sctp_serial.specs.DataChunks.{following_tsn}
 
 pub send_next-requires-clause-next : goal.send_next-requires-clause-next
 send_next-requires-clause-next c = let lt : length c.args.halves.now.flight.queue.inflight.chunks + 1 < 2 ^ 31 = c.requires.able.room in grind (arith, nat_tests)
@@ -22,7 +23,7 @@ returns-clause-flight c =
 pub returns-clause-leaves : goal.returns-clause-leaves
 returns-clause-leaves c =
     let f = c.args.halves.now.flight in
-    let shown : peeked f.queue.pending ≡ Some c.in-Some.chunk.now = search rules in
+    let shown : next_pending f.queue.pending ≡ Some c.in-Some.chunk.now = search rules in
     rw (c.take_fragment-slot.ensures.rest, c.send_next.ensures)
     (record {
       chunk = c.in-Some.chunk.now;

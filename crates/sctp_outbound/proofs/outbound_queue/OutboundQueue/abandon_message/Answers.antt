@@ -1,6 +1,6 @@
 use Rattle.std.proofs.Common.{refl, sym, ap, ◌∙◌, arith}
 use Rattle.sctp_outbound.specs.Marks.{is_of, as_abandoned}
-use Rattle.sctp_outbound.specs.outbound_queue.OutboundQueue.{Outbound, abandoned}
+use Rattle.sctp_outbound.specs.outbound_queue.OutboundQueue.{Outbound, abandon_chunks}
 use Rattle.sctp_outbound.proofs.lemmas.outbound_queue.Abandoned.{abandoned_none, abandoned_room}
 use Rattle.sctp_outbound.proofs.lemmas.outbound_queue.Sendable.{sendable-marked}
 use Rattle.sctp_outbound.proofs.lemmas.pending_queue.CompleteMessages.{KeepsMessage}
@@ -25,6 +25,6 @@ returns-clause-ok c =
     let q = c.self.inside in
     let old : Outbound = record { pending = q.pending; inflight = q.inflight; next_message_id = q.next_message_id; next_unstarted = q.next_unstarted_message_id } in
     c.abandon_with_tail-bytes.ensures.abandoned
-    ∙ ap (λ i. let r : Outbound = record { pending = q.pending; inflight = i; next_message_id = q.next_message_id; next_unstarted = q.next_unstarted_message_id } in abandoned c.args.message_id c.args.next_tsn.now r) c.in_ok-reserve.ensures.ok
+    ∙ ap (λ i. let r : Outbound = record { pending = q.pending; inflight = i; next_message_id = q.next_message_id; next_unstarted = q.next_unstarted_message_id } in abandon_chunks c.args.message_id c.args.next_tsn.now r) c.in_ok-reserve.ensures.ok
     ∙ abandoned_room c.args.message_id c.args.next_tsn.now old (sym c.contains_message.ensures ∙ c.if-not-contains_message.false)
-    ∙ ap (abandoned c.args.message_id c.args.next_tsn.now) c.self.view_is
+    ∙ ap (abandon_chunks c.args.message_id c.args.next_tsn.now) c.self.view_is

@@ -1,9 +1,10 @@
 use Rattle.std.proofs.Common.{refl, arith}
-use Rattle.sctp_outbound.specs.pending_queue.PendingQueue.{is_on, one_lower}
+use Rattle.sctp_outbound.specs.pending_queue.PendingQueue.{one_lower}
 use Rattle.sctp_outbound.proofs.lemmas.outbound_queue.Sendable.{sendable-ordered_changed}
 use Rattle.sctp_outbound.proofs.lemmas.pending_queue.Waiting.{bytes_of-change_where}
 use Rattle.sctp_outbound.proofs.lemmas.pending_queue.CompleteMessages.{KeepsMessage}
 use Rattle.sctp_outbound.proofs.outbound_queue.OutboundQueue.compact_ordered_ssns.Goals as goal
+use Rattle.sctp_serial.specs.DataChunks.{is_on}
 
 pub invariant_of-self : goal.invariant_of-self
 invariant_of-self c =

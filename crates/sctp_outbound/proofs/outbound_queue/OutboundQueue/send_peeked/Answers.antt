@@ -2,7 +2,7 @@ use Rattle.std.proofs.Common.{◌≡◌, Some, length, refl, sym, ap, ◌∙◌,
 use Rattle.std.proofs.lemmas.Option.{none-some}
 use Rattle.sctp_chunks.specs.declared.chunk.chunk_payload_data.ChunkPayloadData.{ChunkPayloadData}
 use Rattle.sctp_list_lemmas.proofs.Edits.{sum_by-inserted}
-use Rattle.sctp_outbound.specs.outbound_queue.OutboundQueue.{numbered}
+use Rattle.sctp_outbound.specs.outbound_queue.OutboundQueue.{as_sent}
 use Rattle.sctp_serial.specs.DataChunks.{chunk_before}
 use Rattle.sctp_outbound.proofs.lemmas.outbound_queue.Sendable.{popped_bytes, sendable-sent}
 use Rattle.sctp_outbound.proofs.outbound_queue.OutboundQueue.send_peeked.Goals as goal
@@ -19,7 +19,7 @@ pub invariant_of-self : goal.invariant_of-self
 invariant_of-self c =
     let front = c.in-Some.chunk.now in
     let x = c.in-Some-pop.chunk in
-    let t = numbered c.args.tsn c.args.now x in
+    let t = as_sent c.args.tsn c.args.now x in
     let q = c.self.inside.pending in
     let xs = c.self.inside.inflight.chunks in
     let taken = (sendable-sent q xs c.self.inside.next_message_id front front refl c.self.invariant.sendable (sym c.in-Some.ensures)).taken in

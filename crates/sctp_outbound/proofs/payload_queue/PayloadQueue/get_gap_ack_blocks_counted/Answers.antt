@@ -12,9 +12,10 @@ use Rattle.sctp_chunks.specs.declared.chunk.chunk_selective_ack.GapAckBlock.{Gap
 use Rattle.sctp_list_lemmas.specs.Kept.{runs_of}
 use Rattle.sctp_list_lemmas.specs.Serial.{distance}
 use Rattle.sctp_list_lemmas.proofs.Edits.{list_any-append}
-use Rattle.sctp_outbound.specs.payload_queue.Blocks.{BlocksAscend, Reports, is_in_block, is_reported, covered, gap_offsets, ends_of, is_offset}
-use Rattle.sctp_outbound.proofs.lemmas.payload_queue.Gaps.{InReach, or_false, runs_more, covered_more, run_distances, run_apart, front_offsets, front_reported, rest_offsets, rest_reported, out_from, front_runs}
+use Rattle.sctp_outbound.specs.payload_queue.Blocks.{BlocksAscend, Reports, is_in_block, is_reported, is_in_blocks, gap_offsets, ends_of, is_offset}
+use Rattle.sctp_outbound.proofs.lemmas.payload_queue.Gaps.{InReach, runs_more, covered_more, run_distances, run_apart, front_offsets, front_reported, rest_offsets, rest_reported, out_from, front_runs}
 use Rattle.sctp_outbound.proofs.payload_queue.PayloadQueue.get_gap_ack_blocks_counted.Goals as goal
+use Rattle.sctp_list_lemmas.proofs.Cases.{or-none}
 
 -- fewer turns are within as many digits
 fewer : (n s t : ℕ) → s ≤ t → IsWithinDigits n t → IsWithinDigits n s
@@ -56,7 +57,7 @@ loop-place-init c =
       behind = λ j d le lt small k b short. absurd (omega (arith, ap length items));
       not_back = c.first_after-place.ensures.not_back;
       cost = fewer (length xs) _ _ (omega arith) c.first_after-place.ensures.cost;
-      exact = λ n. ap (λ bs. covered bs n) items ∙ sym (front_reported c.args.cumulative_tsn xs c.first_after-place.result first.before n);
+      exact = λ n. ap (λ bs. is_in_blocks bs n) items ∙ sym (front_reported c.args.cumulative_tsn xs c.first_after-place.result first.before n);
       runs = ap (map ends_of) items ∙ ap runs_of (sym (front_offsets c.args.cumulative_tsn xs c.first_after-place.result first.before));
     }
 
@@ -99,7 +100,7 @@ loop-place-preserved c =
           (ap (λ (y : ChunkPayloadData). distance cumulative y.tsn) (get_or_default xs place d x (omega arith)) ∙ here) le lt small));
       not_back = omega (arith, c.run_end-last.ensures.not_back, c.seen_or_look-tsn.ensures.not_back, inv.not_back);
       cost = fewer (length xs) _ _ (omega (arith, turns, c.run_end-last.ensures.not_back, c.seen_or_look-tsn.ensures.not_back, c.seen_or_look-tsn.ensures.cost, ap length items, length-append bs (block ∷ []))) inv.cost;
-      exact = λ n. ap (λ ys. covered ys n) items ∙ list_any-append (is_in_block n) bs (block ∷ []) ∙ ap (λ b. covered bs n || b) (or_false (is_in_block n block))
+      exact = λ n. ap (λ ys. is_in_blocks ys n) items ∙ list_any-append (is_in_block n) bs (block ∷ []) ∙ ap (λ b. is_in_blocks bs n || b) (or-none (is_in_block n block))
           ∙ covered_more cumulative xs place x offset bs n (last - place) reach (inv.exact n) ∙ ap (λ i. list_any (is_reported cumulative n) (take i xs)) next;
       runs = ap (map ends_of) items ∙ map-append ends_of bs (block ∷ []) ∙ runs_more cumulative xs place x offset bs (last - place) reach apart inv.runs ∙ ap (λ i. runs_of (gap_offsets cumulative (take i xs))) next;
     }

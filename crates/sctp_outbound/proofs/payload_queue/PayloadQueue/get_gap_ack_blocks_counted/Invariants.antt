@@ -5,7 +5,7 @@ use Rattle.sctp_chunks.specs.declared.chunk.chunk_payload_data.ChunkPayloadData.
 use Rattle.sctp_list_lemmas.specs.Kept.{runs_of}
 use Rattle.sctp_list_lemmas.specs.Serial.{distance}
 use Rattle.sctp_serial.specs.Turns.{IsWithinDigits}
-use Rattle.sctp_outbound.specs.payload_queue.Blocks.{AscendsFrom, BlocksAscend, covered, is_reported, gap_offsets, ends_of}
+use Rattle.sctp_outbound.specs.payload_queue.Blocks.{AscendsFrom, BlocksAscend, is_in_blocks, is_reported, gap_offsets, ends_of}
 use Rattle.sctp_outbound.proofs.payload_queue.PayloadQueue.get_gap_ack_blocks_counted.Given as goal
 
 abbrev pub invariant-loop-place : goal.invariant-loop-place
@@ -15,7 +15,7 @@ invariant-loop-place l = record {
   ahead : AscendsFrom l.cumulative_tsn l.self-inside.held.chunks l.place;
   ascend : BlocksAscend l.blocks.items;
   behind : (j : ℕ) (d : ChunkPayloadData) → l.place ≤ j → j < length l.self-inside.held.chunks → distance l.cumulative_tsn (get_or l.self-inside.held.chunks j d).tsn < 2 ^ 16 → All (λ b. b.end + 1 < distance l.cumulative_tsn (get_or l.self-inside.held.chunks j d).tsn) l.blocks.items;
-  exact : (n : ℕ) → covered l.blocks.items n ≡ list_any (is_reported l.cumulative_tsn n) (take l.place l.self-inside.held.chunks);
+  exact : (n : ℕ) → is_in_blocks l.blocks.items n ≡ list_any (is_reported l.cumulative_tsn n) (take l.place l.self-inside.held.chunks);
   not_back : l.fn.turns ≤ l.turns;
   cost : IsWithinDigits (length l.self-inside.held.chunks) (l.turns - l.fn.turns - 34 * length l.blocks.items);
   runs : map ends_of l.blocks.items ≡ runs_of (gap_offsets l.cumulative_tsn (take l.place l.self-inside.held.chunks));

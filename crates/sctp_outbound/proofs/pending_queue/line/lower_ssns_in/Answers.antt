@@ -1,8 +1,9 @@
 use Rattle.std.proofs.Common.{◌<◌, length, length-set, ◌∙◌, arith}
 use Rattle.std.proofs.lemmas.Bool.Decides.{nat_tests}
 use Rattle.sctp_list_lemmas.proofs.Edits.{changed_step, rewritten_step}
-use Rattle.sctp_outbound.specs.pending_queue.PendingQueue.{is_on, one_lower}
+use Rattle.sctp_outbound.specs.pending_queue.PendingQueue.{one_lower}
 use Rattle.sctp_outbound.proofs.pending_queue.line.lower_ssns_in.Goals as goal
+use Rattle.sctp_serial.specs.DataChunks.{is_on}
 
 pub loop-place-preserved : goal.loop-place-preserved
 loop-place-preserved c =

@@ -1,8 +1,9 @@
 use Rattle.std.proofs.Common.{◌≡◌, ◌++◌, length, take, drop}
 use Rattle.std.specs.VecDeque.{deque_len, deque_capacity}
 use Rattle.sctp_list_lemmas.specs.Lists.{change_where}
-use Rattle.sctp_outbound.specs.pending_queue.PendingQueue.{is_on, one_lower}
+use Rattle.sctp_outbound.specs.pending_queue.PendingQueue.{one_lower}
 use Rattle.sctp_outbound.proofs.pending_queue.line.lower_ssns_in.Given as goal
+use Rattle.sctp_serial.specs.DataChunks.{is_on}
 
 abbrev pub invariant-loop-place : goal.invariant-loop-place
 invariant-loop-place l = record {

@@ -1,9 +1,9 @@
 use Rattle.std.proofs.Common.{◌≡◌, ◌<◌, ◌++◌, not, true, length, drop, remove, sym, ap, ◌∙◌, arith, option_to_list}
-use Rattle.sctp_list_lemmas.specs.Lists.{those}
 use Rattle.std.proofs.lemmas.Bool.Decides.{nat_tests}
 use Rattle.std.proofs.lemmas.List.{get_or_default}
 use Rattle.std.proofs.lemmas.List.Edits.{length-remove}
 use Rattle.std.proofs.lemmas.List.Sums.{sum_by-cons, sum_by-remove}
+use Rattle.std.specs.List.{filter}
 use Rattle.sctp_chunks.specs.declared.chunk.chunk_payload_data.ChunkPayloadData.{ChunkPayloadData}
 use Rattle.sctp_list_lemmas.proofs.Edits.{removed_step, removed_next}
 use Rattle.sctp_serial.specs.DataChunks.{bytes_of}
@@ -21,7 +21,7 @@ overflow_add-bytes c =
     let named = ap (λ (y : ChunkPayloadData). y.message_id) (c.in-Some.ensures.value ∙ get_or_default xs i x c.index.result.now within ∙ sym c.index.ensures) in
     let passes : is_of c.args.message_id x ≡ true = grind (arith, nat_tests, named, c.if-index-message_id.false) in
     let next = ap bytes_of (removed_next (is_of c.args.message_id) xs i x within c.in-Some.ensures.value passes) in
-    omega (arith, next, sum_by-cons (λ (y : ChunkPayloadData). length y.user_data) x (those (is_of c.args.message_id) (drop i (remove xs i))), c.loop-place.invariant.removed, removed_le (is_of c.args.message_id) c.args.chunks.now.items)
+    omega (arith, next, sum_by-cons (λ (y : ChunkPayloadData). length y.user_data) x (filter (is_of c.args.message_id) (drop i (remove xs i))), c.loop-place.invariant.removed, removed_le (is_of c.args.message_id) c.args.chunks.now.items)
 
 pub loop-place-preserved : goal.loop-place-preserved
 loop-place-preserved c =
@@ -33,7 +33,7 @@ loop-place-preserved c =
     let passes : is_of c.args.message_id x ≡ true = grind (arith, nat_tests, named, c.if-index-message_id.false) in
     let next = removed_next (is_of c.args.message_id) xs i x within c.in-Some.ensures.value passes in
     let n = length-remove xs i within in
-    let left = those (is_of c.args.message_id) (drop i (remove xs i)) in
+    let left = filter (is_of c.args.message_id) (drop i (remove xs i)) in
     rw c.in-Some.ensures.items record {
       in_range = omega arith;
       kept = removed_step (λ y. not (is_of c.args.message_id y)) xs i x within c.in-Some.ensures.value (ap not passes) ∙ c.loop-place.invariant.kept;

@@ -1,5 +1,5 @@
 use Rattle.std.proofs.Common.{◌-◌, ap₂, ◌∙◌, sym, subst, ap}
-use Rattle.sctp_list_lemmas.specs.Lists.{those}
+use Rattle.std.specs.List.{filter}
 use Rattle.sctp_reassembly.specs.reassembly_queue.ReassemblyQueue.{is_passed, set_bytes}
 use Rattle.sctp_reassembly.proofs.lemmas.reassembly_queue.ChunkSets.{state_of}
 use Rattle.sctp_reassembly.specs.reassembly_queue.ReassemblyQueue.{ReassemblyState, IsCounted, complete_sets}
@@ -9,7 +9,7 @@ use Rattle.sctp_reassembly.proofs.reassembly_queue.ReassemblyQueue.forward_tsn_f
 pub returns-clause-value : goal.returns-clause-value
 returns-clause-value c =
     let q = c.self.inside in
-    let n = set_bytes (those (is_passed c.args.last_ssn) q.ordered) in
+    let n = set_bytes (filter (is_passed c.args.last_ssn) q.ordered) in
     rw (← c.self.view_is) (c.release.ensures n c.discard-gone.ensures.bytes
     ∙ ap₂ (λ next sets. state_of q.si next sets q.unordered.items q.unordered_chunks (q.n_bytes - n) q.max_message_size) c.ssn_past-self-inside.ensures c.discard-gone.ensures.rest)
 

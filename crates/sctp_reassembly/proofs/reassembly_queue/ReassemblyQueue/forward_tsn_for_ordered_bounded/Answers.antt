@@ -1,6 +1,6 @@
 use Rattle.std.proofs.Common.{◌-◌, if◌then◌else◌, ap, ap₂, ◌∙◌, sym, subst}
+use Rattle.std.specs.List.{filter}
 use Rattle.sctp_list_lemmas.specs.Serial.{comes_before16}
-use Rattle.sctp_list_lemmas.specs.Lists.{those}
 use Rattle.sctp_reassembly.specs.reassembly_queue.ReassemblyQueue.{set_bytes}
 use Rattle.sctp_reassembly.specs.reassembly_queue.Skips.{is_abandoned, goal_of}
 use Rattle.sctp_reassembly.proofs.lemmas.reassembly_queue.ChunkSets.{state_of}
@@ -11,7 +11,7 @@ use Rattle.sctp_reassembly.proofs.reassembly_queue.ReassemblyQueue.forward_tsn_f
 pub returns-clause-value : goal.returns-clause-value
 returns-clause-value c =
     let q = c.self.inside in
-    let n = set_bytes (those (is_abandoned c.args.last_ssn c.args.new_cumulative_tsn) q.ordered) in
+    let n = set_bytes (filter (is_abandoned c.args.last_ssn c.args.new_cumulative_tsn) q.ordered) in
     rw (← c.self.view_is) (c.release.ensures n c.discard-gone.ensures.bytes
     ∙ ap₂ (λ next sets. state_of q.si next sets q.unordered.items q.unordered_chunks (q.n_bytes - n) q.max_message_size) (c.ssn_upto-self-inside.ensures ∙ ap (λ g. if comes_before16 q.next_ssn g then g else q.next_ssn) (c.goal-goal.ensures ∙ ap (goal_of c.args.last_ssn c.args.new_cumulative_tsn) c.as_deque.ensures)) c.discard-gone.ensures.rest)
 

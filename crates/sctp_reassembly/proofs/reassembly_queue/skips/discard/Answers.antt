@@ -1,15 +1,14 @@
 use Rattle.std.proofs.Common.{◌≡◌, ◌<◌, not, true, length, sym, ap, ◌∙◌, drop, arith}
 use Rattle.std.proofs.lemmas.List.{get_or_default, at_drop_all}
-use Rattle.std.specs.List.{sum_by, remove}
+use Rattle.std.specs.List.{sum_by, remove, filter}
 use Rattle.std.proofs.lemmas.List.Edits.{length-remove}
 use Rattle.std.proofs.lemmas.List.Sums.{sum_by-cons}
-use Rattle.sctp_list_lemmas.specs.Lists.{those}
 use Rattle.sctp_chunks.specs.ChunkSet.{ChunkSet}
 use Rattle.sctp_serial.specs.DataChunks.{bytes_of}
 use Rattle.sctp_reassembly.specs.reassembly_queue.ReassemblyQueue.{set_bytes}
 use Rattle.sctp_reassembly.specs.reassembly_queue.Skips.{is_discarded}
-use Rattle.sctp_serial.proofs.lemmas.ListEdits.{removed_step, removed_next}
 use Rattle.sctp_reassembly.proofs.reassembly_queue.skips.discard.Goals as goal
+use Rattle.sctp_list_lemmas.proofs.Edits.{removed_step, removed_next}
 
 pub loop-place-preserved : goal.loop-place-preserved
 loop-place-preserved c =
@@ -26,8 +25,8 @@ loop-place-preserved c =
       in_range = omega arith;
       kept = removed_step (λ s. not (is_discarded c.args.last_ssn c.args.bound s)) xs i x within c.index.ensures (ap not passed) ∙ c.loop-place.invariant.kept;
       small = omega (arith, c.saturating_add-gone.ensures);
-      counted = omega (arith, c.loop-place.invariant.counted, sums, taken, sum_by-cons (λ (s : ChunkSet). bytes_of s.chunks) x (those (is_discarded c.args.last_ssn c.args.bound) (drop i (remove xs i))), c.len-in-Some.ensures, c.saturating_add-gone.ensures);
+      counted = omega (arith, c.loop-place.invariant.counted, sums, taken, sum_by-cons (λ (s : ChunkSet). bytes_of s.chunks) x (filter (is_discarded c.args.last_ssn c.args.bound) (drop i (remove xs i))), c.len-in-Some.ensures, c.saturating_add-gone.ensures);
     }
 
 pub returns-clause-bytes : goal.returns-clause-bytes
-returns-clause-bytes c = omega (arith, c.loop-place.invariant.counted, at_drop_all (λ xs. set_bytes (those (is_discarded c.args.last_ssn c.args.bound) xs)) c.loop-place.sets.items c.loop-place.place (omega arith))
+returns-clause-bytes c = omega (arith, c.loop-place.invariant.counted, at_drop_all (λ xs. set_bytes (filter (is_discarded c.args.last_ssn c.args.bound) xs)) c.loop-place.sets.items c.loop-place.place (omega arith))

@@ -7,7 +7,7 @@ use Rattle.sctp_list_lemmas.proofs.Passing.{kept-snoc_in}
 use Rattle.sctp_chunks.specs.declared.chunk.chunk_payload_data.ChunkPayloadData.{ChunkPayloadData}
 use Rattle.sctp_reassembly.specs.reassembly_queue.Fragments.{payload_of}
 use Rattle.sctp_reassembly.proofs.lemmas.reassembly_queue.PiecesTaken.{payload-append}
-use Rattle.sctp_stream.specs.Stream.{fragment, fragment_at, cut}
+use Rattle.sctp_stream.specs.Stream.{fragment, fragment_at, pieces_of}
 use Rattle.sctp_stream.proofs.Pieces.{piece_below, piece_none, begins, ends, slice_is}
 use Rattle.sctp_stream.proofs.stream.StreamState.fragments.Goals as goal
 
@@ -33,13 +33,13 @@ loop-at-preserved c =
     let ppi = c.args.ppi in
     let bytes = c.in_ok-bytes.bytes in
     let first = begins size xs k at pos place lt in
-    let last : (end == c.len-len.result) ≡ (k + 1 == length (cut s xs)) = ap (λ n. end == n) c.len-len.ensures.value ∙ ends size xs k at pos place lt end (ap (λ n. at + n) step) in
+    let last : (end == c.len-len.result) ≡ (k + 1 == length (pieces_of s xs)) = ap (λ n. end == n) c.len-len.ensures.value ∙ ends size xs k at pos place lt end (ap (λ n. at + n) step) in
     let piece = c.in_ok-bytes.ensures.ok ∙ slice_is size xs k at pos place lt (end - at) (omega arith) in
     let made : c.fragment.result ≡ f k =
     c.fragment.ensures
     ∙ ap (λ b. fragment s ppi b (end == c.len-len.result) bytes) first
     ∙ ap (λ b. fragment s ppi (k == 0) b bytes) last
-    ∙ ap (λ bs. fragment s ppi (k == 0) (k + 1 == length (cut s xs)) bs) piece in
+    ∙ ap (λ bs. fragment s ppi (k == 0) (k + 1 == length (pieces_of s xs)) bs) piece in
     record {
       place = omega (arith, ap (λ n. n * size) count);
       joined = ap payload_of c.in_ok-push.ensures.items
@@ -63,7 +63,7 @@ returns-clause-ok c =
     let pos : 0 < size = omega (arith, c.get-size.ensures.value, c.get-size.ensures.bounds) in
     let over : length xs ≤ k * size = omega (arith, c.loop-at.invariant.place, c.len-len.ensures.value) in
     let none = piece_none (length xs) size xs k (omega arith) pos over in
-    let all : k ≡ length (cut s xs) = omega (arith, c.loop-at.invariant.within) in
+    let all : k ≡ length (pieces_of s xs) = omega (arith, c.loop-at.invariant.within) in
     c.loop-at.invariant.made ∙ ap (λ n. map (fragment_at s c.args.ppi xs) (numbers_from 0 n)) all
 
 pub returns-clause-joined : goal.returns-clause-joined

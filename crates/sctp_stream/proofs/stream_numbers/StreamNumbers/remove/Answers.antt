@@ -3,13 +3,13 @@ use Rattle.std.specs.BTreeMap.{get}
 use Rattle.std.specs.Ordering.{nat_cmp}
 use Rattle.std.specs.Prelude.{slice_get}
 use Rattle.std.proofs.lemmas.Option.{slice_get_within}
-use Rattle.sctp_list_lemmas.specs.Lists.{those}
+use Rattle.std.specs.List.{filter}
 use Rattle.sctp_stream.specs.Numbers.{is_other}
 use Rattle.sctp_stream.proofs.Removals.{begun, without, without-none, written, lowered, all-right, stands}
 use Rattle.sctp_stream.proofs.stream_numbers.StreamNumbers.remove.Goals as goal
 
 pub returns-in_default : goal.returns-in_default
-returns-in_default c = without-none c.self.inside.places c.self.inside.numbers.items c.args.stream c.self.invariant (sym c.remove.ensures.value ∙ c.in_default.is) ∙ ap (those (is_other c.args.stream)) c.self.view_is
+returns-in_default c = without-none c.self.inside.places c.self.inside.numbers.items c.args.stream c.self.invariant (sym c.remove.ensures.value ∙ c.in_default.is) ∙ ap (filter (is_other c.args.stream)) c.self.view_is
 
 pub remove-requires-2 : goal.remove-requires-2
 remove-requires-2 c =
@@ -28,7 +28,7 @@ loop-later-init c =
     let end : length c.remove-2.new.self.items ≡ c.len-later-end.result = search rules in
     record {
       lowered = rw is (begun c.self.inside.places c.remove.new.self ns t p c.self.invariant found c.remove.ensures.updates);
-      rest = is ∙ without c.self.inside.places c.remove.new.self ns t p c.self.invariant found ∙ ap (those (is_other t)) c.self.view_is;
+      rest = is ∙ without c.self.inside.places c.remove.new.self ns t p c.self.invariant found ∙ ap (filter (is_other t)) c.self.view_is;
       end = end;
     }
 

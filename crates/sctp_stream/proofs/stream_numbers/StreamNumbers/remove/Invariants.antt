@@ -1,5 +1,5 @@
 use Rattle.std.proofs.Common.{◌≡◌, length}
-use Rattle.sctp_list_lemmas.specs.Lists.{those}
+use Rattle.std.specs.List.{filter}
 use Rattle.sctp_stream.specs.Numbers.{is_other}
 use Rattle.sctp_stream.proofs.Removals.{IsLowered}
 use Rattle.sctp_stream.proofs.stream_numbers.StreamNumbers.remove.Given as goal
@@ -7,6 +7,6 @@ use Rattle.sctp_stream.proofs.stream_numbers.StreamNumbers.remove.Given as goal
 abbrev pub invariant-loop-later : goal.invariant-loop-later
 invariant-loop-later l = record {
   lowered : IsLowered l.self-inside.places l.self-inside.numbers.items l.later;
-  rest : l.self-inside.numbers.items ≡ those (is_other l.fn.stream) l.fn.self;
+  rest : l.self-inside.numbers.items ≡ filter (is_other l.fn.stream) l.fn.self;
   end : length l.self-inside.numbers.items ≡ l.later-end;
 }

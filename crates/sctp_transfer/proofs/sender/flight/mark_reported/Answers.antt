@@ -1,10 +1,11 @@
 use Rattle.std.proofs.Common.{◌≡◌, ℕ, ◌+◌, ◌<◌, ◌≤◌, ◌%◌, ◌^◌, true, false, List, [], ◌∷◌, ◌++◌, length, map, take, drop, Some, refl, ap, sym, ◌∙◌, arith, rules}
 use Rattle.std.proofs.lemmas.List.{map-append, append-nil}
 use Rattle.std.specs.Prelude.{if◌then◌else◌, ◌&&◌, not, find, vec_capacity}
-use Rattle.sctp_list_lemmas.specs.Lists.{change_where, those}
+use Rattle.std.specs.List.{filter}
+use Rattle.sctp_list_lemmas.specs.Lists.{change_where}
 use Rattle.sctp_chunks.specs.SelectiveAck.{sack_of}
 use Rattle.sctp_serial.specs.DataChunks.{has_tsn}
-use Rattle.sctp_outbound.specs.Marks.{acknowledged}
+use Rattle.sctp_outbound.specs.Marks.{as_acknowledged}
 use Rattle.sctp_outbound.specs.outbound_queue.OutboundQueue.{Outbound, with_inflight}
 use Rattle.sctp_transfer.specs.declared.sender.flight.Released.{Released}
 use Rattle.sctp_transfer.specs.Flight.{reports, reports_anew, released_of}
@@ -20,7 +21,7 @@ unreachable-requires c =
     let i = c.loop-place.place in
     let ys = c.loop-place.queue.inflight.chunks in
     let lt : i < length q.inflight.chunks = omega (arith, c.loop-place-test.true, c.inflight_len-place-end.ensures) in
-    let e = found p acknowledged (λ x. refl) q.inflight.chunks ys c.args.first i c.ranges.first.fits c.requires.run c.requires.few lt (ap (λ (o : Outbound). o.inflight.chunks) c.loop-place.invariant.marked) (mark 0) in
+    let e = found p as_acknowledged (λ x. refl) q.inflight.chunks ys c.args.first i c.ranges.first.fits c.requires.run c.requires.few lt (ap (λ (o : Outbound). o.inflight.chunks) c.loop-place.invariant.marked) (mark 0) in
     let none = c.in_default.ensures in
     cc
 
@@ -34,17 +35,17 @@ loop-place-preserved-then-chunk c =
     let ys = c.loop-place.queue.inflight.chunks in
     let x = c.in-Some.chunk.now in
     let lt : i < length cs = omega (arith, c.loop-place-test.true, c.inflight_len-place-end.ensures) in
-    let so_far : ys ≡ change_where p acknowledged (take i cs) ++ drop i cs = ap (λ (o : Outbound). o.inflight.chunks) c.loop-place.invariant.marked in
+    let so_far : ys ≡ change_where p as_acknowledged (take i cs) ++ drop i cs = ap (λ (o : Outbound). o.inflight.chunks) c.loop-place.invariant.marked in
     let is : find (has_tsn ((c.args.first + i) % 2 ^ 32)) ys ≡ Some x = sym c.in-Some.ensures in
-    let tsn = its-tsn p acknowledged (λ y. refl) cs ys c.args.first i c.ranges.first.fits c.requires.run c.requires.few lt so_far x is in
+    let tsn = its-tsn p as_acknowledged (λ y. refl) cs ys c.args.first i c.ranges.first.fits c.requires.run c.requires.few lt so_far x is in
     let nay : p x ≡ false =
     elim c.then-chunk.branch [
       | then-chunk-via-then-chunk w ↦ ap (λ b. not b && reports s x) w.if-chunk.true
       | then-chunk-via-else-chunk+then-not-is_reported w ↦ sym (w.is_reported.ensures x tsn w.if-chunk.false) ∙ w.if-not-is_reported.true
     ] in
     record {
-      marked = c.loop-place.invariant.marked ∙ ap (with_inflight q) (sym so_far ∙ unmarked p acknowledged (λ y. refl) cs ys c.args.first i c.ranges.first.fits c.requires.run c.requires.few lt so_far x is nay);
-      told = c.loop-place.invariant.told ∙ ap (map released_of) (sym (told p acknowledged (λ y. refl) cs ys c.args.first i c.ranges.first.fits c.requires.run c.requires.few lt so_far x is ∙ ap (λ b. those p (take i cs) ++ (if b then x ∷ [] else [])) nay ∙ append-nil (those p (take i cs))));
+      marked = c.loop-place.invariant.marked ∙ ap (with_inflight q) (sym so_far ∙ unmarked p as_acknowledged (λ y. refl) cs ys c.args.first i c.ranges.first.fits c.requires.run c.requires.few lt so_far x is nay);
+      told = c.loop-place.invariant.told ∙ ap (map released_of) (sym (told p as_acknowledged (λ y. refl) cs ys c.args.first i c.ranges.first.fits c.requires.run c.requires.few lt so_far x is ∙ ap (λ b. filter p (take i cs) ++ (if b then x ∷ [] else [])) nay ∙ append-nil (filter p (take i cs))));
       room = c.loop-place.invariant.room;
     }
 
@@ -68,16 +69,16 @@ loop-place-preserved c =
     let ys = c.loop-place.queue.inflight.chunks in
     let x = c.in-Some.chunk.now in
     let lt : i < length cs = omega (arith, c.loop-place-test.true, c.inflight_len-place-end.ensures) in
-    let so_far : ys ≡ change_where p acknowledged (take i cs) ++ drop i cs = ap (λ (o : Outbound). o.inflight.chunks) c.loop-place.invariant.marked in
+    let so_far : ys ≡ change_where p as_acknowledged (take i cs) ++ drop i cs = ap (λ (o : Outbound). o.inflight.chunks) c.loop-place.invariant.marked in
     let is : find (has_tsn ((c.args.first + i) % 2 ^ 32)) ys ≡ Some x = sym c.in-Some.ensures in
-    let tsn = its-tsn p acknowledged (λ y. refl) cs ys c.args.first i c.ranges.first.fits c.requires.run c.requires.few lt so_far x is in
+    let tsn = its-tsn p as_acknowledged (λ y. refl) cs ys c.args.first i c.ranges.first.fits c.requires.run c.requires.few lt so_far x is in
     let yea : p x ≡ true = sym (c.is_reported.ensures x tsn c.if-chunk.false) ∙ c.if-not-is_reported.false in
     let one : Released = record { stream = x.stream_identifier; bytes = c.len.result } in
     let same : one ≡ released_of x = ap (λ (n : ℕ). let r : Released = record { stream = x.stream_identifier; bytes = n } in r) c.len.ensures.value in
     record {
-      marked = c.mark_as_acked.ensures.acked ∙ ap (λ (o : Outbound). with_inflight o (change_where (has_tsn ((c.args.first + i) % 2 ^ 32)) acknowledged ys)) c.loop-place.invariant.marked ∙ ap (with_inflight q) (marked p acknowledged (λ y. refl) cs ys c.args.first i c.ranges.first.fits c.requires.run c.requires.few lt so_far x is yea);
+      marked = c.mark_as_acked.ensures.acked ∙ ap (λ (o : Outbound). with_inflight o (change_where (has_tsn ((c.args.first + i) % 2 ^ 32)) as_acknowledged ys)) c.loop-place.invariant.marked ∙ ap (with_inflight q) (marked p as_acknowledged (λ y. refl) cs ys c.args.first i c.ranges.first.fits c.requires.run c.requires.few lt so_far x is yea);
       told =
-          c.put.ensures.items ∙ ap (λ (rs : List Released). rs ++ one ∷ []) c.loop-place.invariant.told ∙ ap (λ (r : Released). map released_of (those p (take i cs)) ++ r ∷ []) same
-          ∙ sym (ap (map released_of) (told p acknowledged (λ y. refl) cs ys c.args.first i c.ranges.first.fits c.requires.run c.requires.few lt so_far x is ∙ ap (λ b. those p (take i cs) ++ (if b then x ∷ [] else [])) yea) ∙ map-append released_of (those p (take i cs)) (x ∷ []));
+          c.put.ensures.items ∙ ap (λ (rs : List Released). rs ++ one ∷ []) c.loop-place.invariant.told ∙ ap (λ (r : Released). map released_of (filter p (take i cs)) ++ r ∷ []) same
+          ∙ sym (ap (map released_of) (told p as_acknowledged (λ y. refl) cs ys c.args.first i c.ranges.first.fits c.requires.run c.requires.few lt so_far x is ∙ ap (λ b. filter p (take i cs) ++ (if b then x ∷ [] else [])) yea) ∙ map-append released_of (filter p (take i cs)) (x ∷ []));
       room = omega (arith, c.loop-place.invariant.room, c.put.ensures.capacity);
     }

@@ -1,6 +1,6 @@
 use Rattle.std.proofs.Common.{refl, sym, ap, ◌∙◌, arith}
-use Rattle.sctp_serial.specs.DataChunks.{bytes_of}
-use Rattle.sctp_outbound.specs.pending_queue.PendingQueue.{is_on, one_lower}
+use Rattle.sctp_serial.specs.DataChunks.{bytes_of, is_on}
+use Rattle.sctp_outbound.specs.pending_queue.PendingQueue.{one_lower}
 use Rattle.sctp_outbound.proofs.lemmas.pending_queue.Waiting.{bytes_of-change_where}
 use Rattle.sctp_outbound.proofs.pending_queue.line.Line.lower_ssns.Goals as goal
 

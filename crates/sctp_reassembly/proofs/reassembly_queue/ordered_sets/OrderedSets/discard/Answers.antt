@@ -1,5 +1,5 @@
 use Rattle.std.proofs.Common.{not}
-use Rattle.sctp_list_lemmas.specs.Lists.{those}
+use Rattle.std.specs.List.{filter}
 use Rattle.sctp_chunks.specs.ChunkSet.{ChunkSet}
 use Rattle.sctp_serial.specs.Ascending.{upper_half}
 use Rattle.sctp_reassembly.specs.reassembly_queue.Skips.{is_discarded}
@@ -11,4 +11,4 @@ invariant_of-self c =
     let num = (λ (s : ChunkSet). upper_half s.ssn) in
     let xs = c.self.inside.sets.items in
     let p = (λ (s : ChunkSet). not (is_discarded c.args.last_ssn c.args.bound s)) in
-    rw c.discard.ensures.rest (order_kept num c.self.inside.ascending xs (those p xs) (ascends_those num p xs) c.self.invariant)
+    rw c.discard.ensures.rest (order_kept num c.self.inside.ascending xs (filter p xs) (ascends_those num p xs) c.self.invariant)

@@ -1,7 +1,7 @@
 use Rattle.std.proofs.Common.{◌≡◌, ℕ, ◌<◌, ◌≤◌, Bool, List, length, insert, remove, sym, ap, ap₂, subst, ◌∙◌, arith}
 use Rattle.std.proofs.lemmas.List.Edits.{length-insert}
 use Rattle.sctp_chunks.specs.declared.chunk.chunk_payload_data.ChunkPayloadData.{ChunkPayloadData}
-use Rattle.sctp_list_lemmas.specs.Lists.{inserted}
+use Rattle.sctp_list_lemmas.specs.Lists.{insert_before}
 use Rattle.sctp_serial.specs.DataChunks.{chunk_before}
 use Rattle.sctp_reassembly.specs.reassembly_queue.Loose.{IsMark, IsRunTaken, place_among}
 use Rattle.sctp_serial.proofs.lemmas.ListEdits.{remove-insert, inserted-position}
@@ -10,7 +10,7 @@ use Rattle.sctp_reassembly.proofs.lemmas.reassembly_queue.TakenRuns.{mark_after_
 use Rattle.sctp_reassembly.proofs.reassembly_queue.pool.Pool.put.Goals as goal
 
 -- what was put in stands at its place
-put_in : (xs ys zs : List ChunkPayloadData) (x : ChunkPayloadData) (place : ℕ) → xs ≡ zs → place ≡ place_among x.tsn zs → ys ≡ insert xs place x → ys ≡ inserted chunk_before x zs
+put_in : (xs ys zs : List ChunkPayloadData) (x : ChunkPayloadData) (place : ℕ) → xs ≡ zs → place ≡ place_among x.tsn zs → ys ≡ insert xs place x → ys ≡ insert_before chunk_before x zs
 put_in xs ys zs x place same at e = e ∙ ap₂ (λ ls i. insert ls i x) same at ∙ sym (inserted-position chunk_before x zs)
 
 -- and without it no more runs are there than before

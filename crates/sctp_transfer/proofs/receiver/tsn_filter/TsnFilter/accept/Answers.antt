@@ -3,10 +3,11 @@ use Rattle.std.specs.Prelude.{◌==◌, ◌||◌, nat_lt}
 use Rattle.std.proofs.lemmas.Bool.{ne_eqb}
 use Rattle.std.proofs.lemmas.Bool.Decides.{nat_tests}
 use Rattle.std.proofs.Common.{arith}
-use Rattle.sctp_outbound.specs.payload_queue.PayloadQueue.{pushed}
-use Rattle.sctp_transfer.specs.TsnFilter.{has_room, following_tsn, mark}
+use Rattle.sctp_outbound.specs.payload_queue.PayloadQueue.{push_chunk}
+use Rattle.sctp_transfer.specs.TsnFilter.{has_room, mark}
 use Rattle.sctp_transfer.proofs.FilterCalls.{after-next, put-window, put-new, after-put, few-bytes, within-room, filter_in}
 use Rattle.sctp_transfer.proofs.receiver.tsn_filter.TsnFilter.accept.Goals as goal
+use Rattle.sctp_serial.specs.DataChunks.{following_tsn}
 
 pub invariant_of-self : goal.invariant_of-self
 invariant_of-self c =
@@ -27,7 +28,7 @@ push-requires-clause-window c =
 pub push-requires-clause-bytes : goal.push-requires-clause-bytes
 push-requires-clause-bytes c = rw (c.mark.ensures) (λ new. few-bytes c.self.inside.queue.chunks c.self.invariant.marks)
 
-is-pushed : (c : goal.After-push) → c.push.new.self ≡ pushed c.self.inside.queue (mark c.args.tsn)
+is-pushed : (c : goal.After-push) → c.push.new.self ≡ push_chunk c.self.inside.queue (mark c.args.tsn)
 is-pushed c =
     let i = c.self.invariant in
     let e = c.push.ensures in

@@ -1,7 +1,7 @@
 use Rattle.std.proofs.Common.{sym, ◌∙◌}
 use Rattle.sctp_transfer.proofs.FilterCalls.{come-expected}
-use Rattle.sctp_transfer.proofs.Marks.{held-any}
 use Rattle.sctp_transfer.proofs.receiver.tsn_filter.TsnFilter.has_come.Goals as goal
+use Rattle.sctp_serial.proofs.lemmas.Serials.{held-any}
 
 pub returns-then-tsn-self : goal.returns-then-tsn-self
 returns-then-tsn-self c =

@@ -1,7 +1,8 @@
 use Rattle.std.proofs.Common.{◌≡◌, ap, sym, ◌∙◌, true, map}
-use Rattle.sctp_transfer.specs.TsnFilter.{has_come, mark, tsns, rise_beyond}
+use Rattle.sctp_transfer.specs.TsnFilter.{has_come, mark, rise_beyond}
 use Rattle.sctp_transfer.proofs.FilterCalls.{no-window, few-bytes, filter_in, after-repeat}
 use Rattle.sctp_transfer.proofs.receiver.tsn_filter.TsnFilter.record_duplicate.Goals as goal
+use Rattle.sctp_serial.specs.DataChunks.{tsns}
 
 pub push-requires-clause-window : goal.push-requires-clause-window
 push-requires-clause-window c =

@@ -1,9 +1,8 @@
 use Rattle.std.proofs.Common.{ap, refl, ◌∙◌}
 use Rattle.sctp_outbound.specs.Marks.{with_nsent}
 use Rattle.sctp_outbound.specs.outbound_queue.OutboundQueue.{Outbound}
-use Rattle.sctp_serial.specs.DataChunks.{has_tsn}
+use Rattle.sctp_serial.specs.DataChunks.{has_tsn, tsns}
 use Rattle.sctp_transfer.specs.Flight.{Flight}
-use Rattle.sctp_transfer.specs.TsnFilter.{tsns}
 use Rattle.sctp_transfer.proofs.Runs.{changed-run}
 use Rattle.sctp_transfer.proofs.Flights.{kept}
 use Rattle.sctp_transfer.proofs.sender.flight.InFlight.count_resend.Goals as goal

@@ -1,7 +1,7 @@
 use Rattle.std.proofs.Common.{◌≡◌, ◌<◌, true, false, List, length, take, sym, subst, ◌∙◌, arith}
 use Rattle.std.proofs.lemmas.List.{append-nil}
+use Rattle.std.specs.List.{filter}
 use Rattle.sctp_chunks.specs.declared.chunk.chunk_payload_data.ChunkPayloadData.{ChunkPayloadData}
-use Rattle.sctp_list_lemmas.specs.Lists.{those}
 use Rattle.sctp_transfer.specs.Abandonment.{Name, is_named}
 use Rattle.sctp_transfer.specs.TsnFilter.{mark}
 use Rattle.sctp_transfer.proofs.Points.{more-named}
@@ -23,7 +23,7 @@ loop-place-preserved-then-not-is_named c =
     let i = c.loop-place.place in
     let lt : i < length cs = omega (arith, c.loop-place-test.true, c.requires.within) in
     let nay : is_named x ≡ false = sym c.is_named.ensures ∙ c.if-not-is_named.true in
-    let e = more-named cs c.args.first i x false c.ranges.first.fits c.requires.run c.requires.few lt (sym c.in-Some.ensures) nay ∙ append-nil (those is_named (take i cs)) in
+    let e = more-named cs c.args.first i x false c.ranges.first.fits c.requires.run c.requires.few lt (sym c.in-Some.ensures) nay ∙ append-nil (filter is_named (take i cs)) in
     subst (λ (xs : List ChunkPayloadData). Name c.loop-place.pairs.items xs) (sym e) c.loop-place.invariant
 
 pub loop-place-preserved : goal.loop-place-preserved
@@ -34,4 +34,4 @@ loop-place-preserved c =
     let lt : i < length cs = omega (arith, c.loop-place-test.true, c.requires.within) in
     let yea : is_named x ≡ true = sym c.is_named.ensures ∙ c.if-not-is_named.false in
     let e = more-named cs c.args.first i x true c.ranges.first.fits c.requires.run c.requires.few lt (sym c.in-Some.ensures) yea in
-    subst (λ (xs : List ChunkPayloadData). Name c.name.new.pairs.items xs) (sym e) (c.in_ok-name.ensures.ok (those is_named (take i cs)) c.loop-place.invariant)
+    subst (λ (xs : List ChunkPayloadData). Name c.name.new.pairs.items xs) (sym e) (c.in_ok-name.ensures.ok (filter is_named (take i cs)) c.loop-place.invariant)

@@ -19,8 +19,8 @@ pub record StreamRecord : Type 0 where
   pub value : ℕ
   -- one more than the greatest index that a counting skip named, or 0
   pub named : ℕ
-  -- its complete unordered messages that were not read, by number, in the order in which they became whole
-  pub whole : List ℕ
+  -- its complete unordered messages that were not read, by number, in the order in which they became complete
+  pub complete : List ℕ
 
 -- a message: an accepted write of at least one byte. Its number is its place in the list
 pub record Message : Type 0 where
@@ -63,7 +63,7 @@ pub data Datagram : Type 0 where
   Sack : (report : Report) → Datagram
 
 -- the record of a link
-pub record World : Type 0 where
+pub record LinkRecord : Type 0 where
   pub setup : Setup
   pub streams : List StreamRecord
   pub messages : List Message
@@ -78,7 +78,7 @@ pub record World : Type 0 where
   pub duplicates : List ℕ
 
 -- the link as it was made
-abbrev pub start : Setup → World
+abbrev pub start : Setup → LinkRecord
 start setup =
     record {
       setup = setup;

@@ -3,33 +3,33 @@ use Rattle.std.specs.Prelude.{◌⊎◌, if◌then◌else◌, ◌==◌, ◌&&◌
 use Rattle.std.specs.List.{list_any, list_all}
 use Rattle.std.proofs.lemmas.Bool.{cases_lt}
 use Rattle.std.proofs.lemmas.Bool.Decides.{nat_tests}
-use Rattle.sctp_list_lemmas.specs.Kept.{kept}
+use Rattle.sctp_list_lemmas.specs.Kept.{numbers_where}
 use Rattle.sctp_list_lemmas.proofs.Passing.{kept-same}
 use Rattle.sctp_list_lemmas.proofs.More.{fails, both, and}
 use Rattle.sctp_list_lemmas.proofs.Alls
-use Rattle.sctp_model.specs.World.{World}
+use Rattle.sctp_model.specs.LinkRecord.{LinkRecord}
 use Rattle.sctp_model.specs.Log
 use Rattle.sctp_model.specs.Log.{LogEntry, SlotReceived, SkipReceived, SackMade}
 use Rattle.sctp_model.proofs.sender.Shape.{Shape, shape, has, sent, parts}
 use Rattle.sctp_model.proofs.sender.Sender.{Sender}
 use Rattle.sctp_model.proofs.sender.Grows.{Grows, parts-grown}
-use Rattle.sctp_model.proofs.receiver.View.{View, come_count, all_come, whole_at}
+use Rattle.sctp_model.proofs.receiver.View.{View, come_count, all_come, complete_at}
 use Rattle.sctp_list_lemmas.proofs.Cases.{same-yes, same-is}
 use Rattle.sctp_list_lemmas.proofs.Cases.{or-left, or-right, or-split}
 use Rattle.sctp_list_lemmas.proofs.Tests.{all-more}
 
--- A message is whole in the record exactly where the order of arrivals makes it whole.
+-- A message is complete in the record exactly where the order of arrivals makes it complete.
 
 -- ## By the order of arrivals
 
 abbrev pub slots_in : Shape → ℕ → List ℕ
-slots_in x n = kept (has x n) 0 x.slots
+slots_in x n = numbers_where (has x n) 0 x.slots
 
-abbrev pub whole_in : Shape → List LogEntry → ℕ → Bool
-whole_in x log n = (sent x n == parts x n) && (if (x.message n).ordered then list_all (Log.arrived_new log) (slots_in x n) else Log.were_whole (slots_in x n) log)
+abbrev pub complete_in : Shape → List LogEntry → ℕ → Bool
+complete_in x log n = (sent x n == parts x n) && (if (x.message n).ordered then list_all (Log.arrived_new log) (slots_in x n) else Log.were_complete (slots_in x n) log)
 
-pub whole-is : (w : World) (log : List LogEntry) (n : ℕ) → Log.is_whole_by w log n ≡ whole_in (shape w) log n
-whole-is w log n = refl
+pub complete-is : (w : LinkRecord) (log : List LogEntry) (n : ℕ) → Log.is_complete_by w log n ≡ complete_in (shape w) log n
+complete-is w log n = refl
 
 -- all of these slots have arrived, and no skip covered one
 abbrev pub all_now : List LogEntry → List ℕ → Bool
@@ -65,21 +65,21 @@ new-stays (SlotReceived q) log p e = or-left (Log.arrived_new log p) ((q == p) &
 new-stays (SkipReceived upto names) log p e = e
 new-stays SackMade log p e = e
 
--- where they were whole, each of them arrived new
-pub were-new : (places : List ℕ) (log : List LogEntry) → Log.were_whole places log ≡ true → list_all (Log.arrived_new log) places ≡ true
+-- where they were complete, each of them arrived new
+pub were-new : (places : List ℕ) (log : List LogEntry) → Log.were_complete places log ≡ true → list_all (Log.arrived_new log) places ≡ true
 were-new places [] e = cc
-were-new places (coming ∷ log) e = step (or-split (Log.were_whole places log) (all_now (coming ∷ log) places) e) (λ h. were-new places log h)
+were-new places (coming ∷ log) e = step (or-split (Log.were_complete places log) (all_now (coming ∷ log) places) e) (λ h. were-new places log h)
   where
-    step : (Log.were_whole places log ≡ true) ⊎ (all_now (coming ∷ log) places ≡ true) → (Log.were_whole places log ≡ true → list_all (Log.arrived_new log) places ≡ true) → list_all (Log.arrived_new (coming ∷ log)) places ≡ true
+    step : (Log.were_complete places log ≡ true) ⊎ (all_now (coming ∷ log) places ≡ true) → (Log.were_complete places log ≡ true → list_all (Log.arrived_new log) places ≡ true) → list_all (Log.arrived_new (coming ∷ log)) places ≡ true
     step (inl h) ih = all-more (Log.arrived_new log) (Log.arrived_new (coming ∷ log)) places (λ k f. new-stays coming log k f) (ih h)
     step (inr h) ih = all-more (λ p. Log.arrived_new (coming ∷ log) p && not (Log.is_skipped (coming ∷ log) p)) (Log.arrived_new (coming ∷ log)) places (λ k f. (both (Log.arrived_new (coming ∷ log) k) (not (Log.is_skipped (coming ∷ log) k)) f).0) h
 
--- what is whole now, was
-pub now-were : (p : ℕ) (places : List ℕ) (log : List LogEntry) → all_now log (p ∷ places) ≡ true → Log.were_whole (p ∷ places) log ≡ true
+-- what is complete now, was
+pub now-were : (p : ℕ) (places : List ℕ) (log : List LogEntry) → all_now log (p ∷ places) ≡ true → Log.were_complete (p ∷ places) log ≡ true
 now-were p places [] e = cc
-now-were p places (coming ∷ log) e = or-right (Log.were_whole (p ∷ places) log) (all_now (coming ∷ log) (p ∷ places)) e
+now-were p places (coming ∷ log) e = or-right (Log.were_complete (p ∷ places) log) (all_now (coming ∷ log) (p ∷ places)) e
 
-now-were_some : (places : List ℕ) (log : List LogEntry) → 0 < length places → all_now log places ≡ true → Log.were_whole places log ≡ true
+now-were_some : (places : List ℕ) (log : List LogEntry) → 0 < length places → all_now log places ≡ true → Log.were_complete places log ≡ true
 now-were_some [] log some e = absurd (omega arith)
 now-were_some (p ∷ ps) log some e = now-were p ps log e
 
@@ -90,20 +90,20 @@ slots-same : (x y : Shape) → Grows x y → (n : ℕ) → sent y n ≡ sent x n
 slots-same x y g n e =
     let more = y.slots - x.slots in
     let total : y.slots ≡ x.slots + more = omega (arith, g.slots) in
-    let front : kept (has y n) 0 x.slots ≡ slots_in x n = kept-same (has y n) (has x n) 0 x.slots (λ k a b. ap (λ s. (s.message == n) && not s.is_terminal_chunk) (g.slot k (omega arith))) in
-    let split : slots_in y n ≡ slots_in x n ++ kept (has y n) (0 + x.slots) more = ap (kept (has y n) 0) total ∙ Alls.kept-split (has y n) 0 x.slots more ∙ ap (λ l. l ++ kept (has y n) (0 + x.slots) more) front in
-    split ∙ ap (λ l. slots_in x n ++ l) (nothing (kept (has y n) (0 + x.slots) more) (let l = ap length split in omega (arith, e, l, length-append (slots_in x n) (kept (has y n) (0 + x.slots) more)))) ∙ append-nil (slots_in x n)
+    let front : numbers_where (has y n) 0 x.slots ≡ slots_in x n = kept-same (has y n) (has x n) 0 x.slots (λ k a b. ap (λ s. (s.message == n) && not s.is_terminal_chunk) (g.slot k (omega arith))) in
+    let split : slots_in y n ≡ slots_in x n ++ numbers_where (has y n) (0 + x.slots) more = ap (numbers_where (has y n) 0) total ∙ Alls.kept-split (has y n) 0 x.slots more ∙ ap (λ l. l ++ numbers_where (has y n) (0 + x.slots) more) front in
+    split ∙ ap (λ l. slots_in x n ++ l) (nothing (numbers_where (has y n) (0 + x.slots) more) (let l = ap length split in omega (arith, e, l, length-append (slots_in x n) (numbers_where (has y n) (0 + x.slots) more)))) ∙ append-nil (slots_in x n)
   where
     nothing : (l : List ℕ) → length l ≡ 0 → l ≡ []
     nothing [] e = refl
     nothing (x ∷ xs) e = absurd (omega arith)
 
 -- one of the kept numbers
-pub some-kept : (t : ℕ → Bool) (from count : ℕ) → 0 < length (kept t from count) → (q : ℕ) × (from ≤ q) × (q < from + count) × (t q ≡ true)
+pub some-kept : (t : ℕ → Bool) (from count : ℕ) → 0 < length (numbers_where t from count) → (q : ℕ) × (from ≤ q) × (q < from + count) × (t q ≡ true)
 some-kept t from zero pos = absurd (omega arith)
 some-kept t from (suc count) pos = step (t from) refl pos (λ h. some-kept t (from + 1) count h)
   where
-    step : (b : Bool) → t from ≡ b → 0 < length (if b then from ∷ kept t (from + 1) count else kept t (from + 1) count) → (0 < length (kept t (from + 1) count) → (q : ℕ) × (from + 1 ≤ q) × (q < from + 1 + count) × (t q ≡ true)) → (q : ℕ) × (from ≤ q) × (q < from + suc count) × (t q ≡ true)
+    step : (b : Bool) → t from ≡ b → 0 < length (if b then from ∷ numbers_where t (from + 1) count else numbers_where t (from + 1) count) → (0 < length (numbers_where t (from + 1) count) → (q : ℕ) × (from + 1 ≤ q) × (q < from + 1 + count) × (t q ≡ true)) → (q : ℕ) × (from ≤ q) × (q < from + suc count) × (t q ≡ true)
     step true e h ih = (from, omega arith, omega arith, e)
     step false e h ih = let r = ih h in (r.0, omega (arith, r.1), omega (arith, r.2), r.3)
 
@@ -112,46 +112,46 @@ slots-new : (x y : Shape) → Grows x y → (n : ℕ) → sent x n < sent y n �
 slots-new x y g n lt =
     let more = y.slots - x.slots in
     let total : y.slots ≡ x.slots + more = omega (arith, g.slots) in
-    let front : kept (has y n) 0 x.slots ≡ slots_in x n = kept-same (has y n) (has x n) 0 x.slots (λ k a b. ap (λ s. (s.message == n) && not s.is_terminal_chunk) (g.slot k (omega arith))) in
-    let split : slots_in y n ≡ slots_in x n ++ kept (has y n) (0 + x.slots) more = ap (kept (has y n) 0) total ∙ Alls.kept-split (has y n) 0 x.slots more ∙ ap (λ l. l ++ kept (has y n) (0 + x.slots) more) front in
-    let r = some-kept (has y n) (0 + x.slots) more (let l = ap length split in omega (arith, lt, l, length-append (slots_in x n) (kept (has y n) (0 + x.slots) more))) in
+    let front : numbers_where (has y n) 0 x.slots ≡ slots_in x n = kept-same (has y n) (has x n) 0 x.slots (λ k a b. ap (λ s. (s.message == n) && not s.is_terminal_chunk) (g.slot k (omega arith))) in
+    let split : slots_in y n ≡ slots_in x n ++ numbers_where (has y n) (0 + x.slots) more = ap (numbers_where (has y n) 0) total ∙ Alls.kept-split (has y n) 0 x.slots more ∙ ap (λ l. l ++ numbers_where (has y n) (0 + x.slots) more) front in
+    let r = some-kept (has y n) (0 + x.slots) more (let l = ap length split in omega (arith, lt, l, length-append (slots_in x n) (numbers_where (has y n) (0 + x.slots) more))) in
     (r.0, omega (arith, r.1), omega (arith, r.2, g.slots), r.3)
 
-pub whole-later : (x y : Shape) → Sender x → Sender y → Grows x y → (log : List LogEntry) → SlotsReceived x log → (n : ℕ) → n < x.count → whole_in y log n ≡ whole_in x log n
-whole-later x y a b g log f n lt = step (cases_lt (sent x n) (sent y n))
+pub complete-later : (x y : Shape) → Sender x → Sender y → Grows x y → (log : List LogEntry) → SlotsReceived x log → (n : ℕ) → n < x.count → complete_in y log n ≡ complete_in x log n
+complete-later x y a b g log f n lt = step (cases_lt (sent x n) (sent y n))
   where
     both-ways : Shape → List ℕ → ℕ → Bool → Bool
-    both-ways z places k o = (length places == k) && (if o then list_all (Log.arrived_new log) places else Log.were_whole places log)
+    both-ways z places k o = (length places == k) && (if o then list_all (Log.arrived_new log) places else Log.were_complete places log)
 
     ordered-is : (y.message n).ordered ≡ (x.message n).ordered
     ordered-is = ap (λ m. m.ordered) (g.message n lt)
 
-    new-none : (o : Bool) → sent x n < sent y n → (if o then list_all (Log.arrived_new log) (slots_in y n) else Log.were_whole (slots_in y n) log) ≡ true → ⊥
+    new-none : (o : Bool) → sent x n < sent y n → (if o then list_all (Log.arrived_new log) (slots_in y n) else Log.were_complete (slots_in y n) log) ≡ true → ⊥
     new-none o more e =
         let q = slots-new x y g n more in
         let all : list_all (Log.arrived_new log) (slots_in y n) ≡ true = either o e in
         absurd (omega (arith, q.1, new-received x log q.0 f (Alls.all-at (Log.arrived_new log) (has y n) q.0 0 y.slots (omega arith) (omega (arith, q.2)) q.3 all)))
       where
-        either : (o : Bool) → (if o then list_all (Log.arrived_new log) (slots_in y n) else Log.were_whole (slots_in y n) log) ≡ true → list_all (Log.arrived_new log) (slots_in y n) ≡ true
+        either : (o : Bool) → (if o then list_all (Log.arrived_new log) (slots_in y n) else Log.were_complete (slots_in y n) log) ≡ true → list_all (Log.arrived_new log) (slots_in y n) ≡ true
         either true e = e
         either false e = were-new (slots_in y n) log e
 
-    step : (sent x n < sent y n) ⊎ (sent y n ≤ sent x n) → whole_in y log n ≡ whole_in x log n
+    step : (sent x n < sent y n) ⊎ (sent y n ≤ sent x n) → complete_in y log n ≡ complete_in x log n
     step (inl more) =
-        let out : whole_in y log n ≡ false = fails (whole_in y log n) (λ e. new-none (y.message n).ordered more (both (sent y n == parts y n) (if (y.message n).ordered then list_all (Log.arrived_new log) (slots_in y n) else Log.were_whole (slots_in y n) log) e).1) in
+        let out : complete_in y log n ≡ false = fails (complete_in y log n) (λ e. new-none (y.message n).ordered more (both (sent y n == parts y n) (if (y.message n).ordered then list_all (Log.arrived_new log) (slots_in y n) else Log.were_complete (slots_in y n) log) e).1) in
         let not-all : (sent x n == parts x n) ≡ false = fails (sent x n == parts x n) (λ e. let z = same-is (sent x n) (parts x n) e in absurd (omega (arith, more, g.ended n (omega (arith, z, a.some n lt)) (inl z)))) in
-        out ∙ sym (ap (λ c. c && (if (x.message n).ordered then list_all (Log.arrived_new log) (slots_in x n) else Log.were_whole (slots_in x n) log)) not-all)
+        out ∙ sym (ap (λ c. c && (if (x.message n).ordered then list_all (Log.arrived_new log) (slots_in x n) else Log.were_complete (slots_in x n) log)) not-all)
     step (inr le) =
         let same : slots_in y n ≡ slots_in x n = slots-same x y g n (omega (arith, le, g.sent_more n)) in
         ap (λ l. both-ways y l (parts y n) (y.message n).ordered) same
         ∙ ap (λ k. both-ways y (slots_in x n) k (y.message n).ordered) (parts-grown x y g n lt)
         ∙ ap (both-ways y (slots_in x n) (parts x n)) ordered-is
 
--- a message without slots is not whole
-pub whole-none : (x : Shape) (log : List LogEntry) (n : ℕ) → sent x n ≡ 0 → 0 < parts x n → whole_in x log n ≡ false
-whole-none x log n z pos =
+-- a message without slots is not complete
+pub complete-none : (x : Shape) (log : List LogEntry) (n : ℕ) → sent x n ≡ 0 → 0 < parts x n → complete_in x log n ≡ false
+complete-none x log n z pos =
     let e : (sent x n == parts x n) ≡ false = (let l : sent x n < parts x n = omega (arith, z, pos) in grind (arith, nat_tests)) in
-    ap (λ c. c && (if (x.message n).ordered then list_all (Log.arrived_new log) (slots_in x n) else Log.were_whole (slots_in x n) log)) e
+    ap (λ c. c && (if (x.message n).ordered then list_all (Log.arrived_new log) (slots_in x n) else Log.were_complete (slots_in x n) log)) e
 
 -- ## By the record
 
@@ -169,11 +169,11 @@ all-come v n le = ands (cases_lt (come_count v n) (sent v.x n)) ∙ ap (λ b. (s
     most : come_count v n ≤ sent v.x n
     most = less 0 v.x.slots
       where
-        less : (from count : ℕ) → length (kept (λ k. has v.x n k && v.arrived k) from count) ≤ length (kept (has v.x n) from count)
+        less : (from count : ℕ) → length (numbers_where (λ k. has v.x n k && v.arrived k) from count) ≤ length (numbers_where (has v.x n) from count)
         less from zero = omega arith
         less from (suc count) = step (has v.x n from) (v.arrived from) (less (from + 1) count)
           where
-            step : (c d : Bool) → length (kept (λ k. has v.x n k && v.arrived k) (from + 1) count) ≤ length (kept (has v.x n) (from + 1) count) → length (if c && d then from ∷ kept (λ k. has v.x n k && v.arrived k) (from + 1) count else kept (λ k. has v.x n k && v.arrived k) (from + 1) count) ≤ length (if c then from ∷ kept (has v.x n) (from + 1) count else kept (has v.x n) (from + 1) count)
+            step : (c d : Bool) → length (numbers_where (λ k. has v.x n k && v.arrived k) (from + 1) count) ≤ length (numbers_where (has v.x n) (from + 1) count) → length (if c && d then from ∷ numbers_where (λ k. has v.x n k && v.arrived k) (from + 1) count else numbers_where (λ k. has v.x n k && v.arrived k) (from + 1) count) ≤ length (if c then from ∷ numbers_where (has v.x n) (from + 1) count else numbers_where (has v.x n) (from + 1) count)
             step true true ih = omega (arith, ih)
             step true false ih = omega (arith, ih)
             step false d ih = ih
@@ -195,7 +195,7 @@ all-come v n le = ands (cases_lt (come_count v n) (sent v.x n)) ∙ ap (λ b. (s
         id true = refl
         id false = refl
 
--- what is due is what is whole now
+-- what is due is what is complete now
 pub due-now : (v : View) (log : List LogEntry) (n : ℕ) → Hears v log → sent v.x n ≤ parts v.x n → due v n ≡ ((sent v.x n == parts v.x n) && all_now log (slots_in v.x n))
 due-now v log n h le =
     ap (λ b. b && list_all (λ p. nat_le v.skipped p) (slots_in v.x n)) (all-come v n le)
@@ -212,39 +212,39 @@ due-now v log n h le =
     past k (inr g) = grind (arith, nat_tests)
 
 -- an unordered message after one thing more came
-pub one-more : (v : View) (coming : LogEntry) (log : List LogEntry) (n : ℕ) → Hears v (coming ∷ log) → sent v.x n ≤ parts v.x n → (v.x.message n).ordered ≡ false → whole_in v.x (coming ∷ log) n ≡ (whole_in v.x log n || due v n)
+pub one-more : (v : View) (coming : LogEntry) (log : List LogEntry) (n : ℕ) → Hears v (coming ∷ log) → sent v.x n ≤ parts v.x n → (v.x.message n).ordered ≡ false → complete_in v.x (coming ∷ log) n ≡ (complete_in v.x log n || due v n)
 one-more v coming log n h le o =
-    ap (λ b. (sent v.x n == parts v.x n) && (if b then list_all (Log.arrived_new (coming ∷ log)) (slots_in v.x n) else Log.were_whole (slots_in v.x n) (coming ∷ log))) o
-    ∙ dist (sent v.x n == parts v.x n) (Log.were_whole (slots_in v.x n) log) (all_now (coming ∷ log) (slots_in v.x n))
-    ∙ ap (λ b. b || ((sent v.x n == parts v.x n) && all_now (coming ∷ log) (slots_in v.x n))) (sym (ap (λ b. (sent v.x n == parts v.x n) && (if b then list_all (Log.arrived_new log) (slots_in v.x n) else Log.were_whole (slots_in v.x n) log)) o))
-    ∙ ap (λ b. whole_in v.x log n || b) (sym (due-now v (coming ∷ log) n h le))
+    ap (λ b. (sent v.x n == parts v.x n) && (if b then list_all (Log.arrived_new (coming ∷ log)) (slots_in v.x n) else Log.were_complete (slots_in v.x n) (coming ∷ log))) o
+    ∙ dist (sent v.x n == parts v.x n) (Log.were_complete (slots_in v.x n) log) (all_now (coming ∷ log) (slots_in v.x n))
+    ∙ ap (λ b. b || ((sent v.x n == parts v.x n) && all_now (coming ∷ log) (slots_in v.x n))) (sym (ap (λ b. (sent v.x n == parts v.x n) && (if b then list_all (Log.arrived_new log) (slots_in v.x n) else Log.were_complete (slots_in v.x n) log)) o))
+    ∙ ap (λ b. complete_in v.x log n || b) (sym (due-now v (coming ∷ log) n h le))
   where
     dist : (a b c : Bool) → (a && (b || c)) ≡ ((a && b) || (a && c))
     dist true b c = refl
     dist false b c = refl
 
--- what is due was whole
-pub due-whole : (v : View) (log : List LogEntry) (n : ℕ) → Hears v log → sent v.x n ≤ parts v.x n → 0 < parts v.x n → (v.x.message n).ordered ≡ false → due v n ≡ true → whole_in v.x log n ≡ true
-due-whole v log n h le some o e =
+-- what is due was complete
+pub due-complete : (v : View) (log : List LogEntry) (n : ℕ) → Hears v log → sent v.x n ≤ parts v.x n → 0 < parts v.x n → (v.x.message n).ordered ≡ false → due v n ≡ true → complete_in v.x log n ≡ true
+due-complete v log n h le some o e =
     let a = both (sent v.x n == parts v.x n) (all_now log (slots_in v.x n)) (sym (due-now v log n h le) ∙ e) in
     let z = same-is (sent v.x n) (parts v.x n) a.0 in
-    and (sent v.x n == parts v.x n) (if (v.x.message n).ordered then list_all (Log.arrived_new log) (slots_in v.x n) else Log.were_whole (slots_in v.x n) log) a.0
-    (ap (λ b. if b then list_all (Log.arrived_new log) (slots_in v.x n) else Log.were_whole (slots_in v.x n) log) o ∙ now-were_some (slots_in v.x n) log (omega (arith, z, some)) a.1)
+    and (sent v.x n == parts v.x n) (if (v.x.message n).ordered then list_all (Log.arrived_new log) (slots_in v.x n) else Log.were_complete (slots_in v.x n) log) a.0
+    (ap (λ b. if b then list_all (Log.arrived_new log) (slots_in v.x n) else Log.were_complete (slots_in v.x n) log) o ∙ now-were_some (slots_in v.x n) log (omega (arith, z, some)) a.1)
 
--- an unordered message that is whole by the order of arrivals has arrived
-pub whole-come : (v : View) (log : List LogEntry) (n : ℕ) → ((p : ℕ) → v.arrived p ≡ Log.arrived_new log p) → sent v.x n ≤ parts v.x n → whole_in v.x log n ≡ true → all_come v n ≡ true
-whole-come v log n arrived le e =
-    let a = both (sent v.x n == parts v.x n) (if (v.x.message n).ordered then list_all (Log.arrived_new log) (slots_in v.x n) else Log.were_whole (slots_in v.x n) log) e in
+-- an unordered message that is complete by the order of arrivals has arrived
+pub complete-come : (v : View) (log : List LogEntry) (n : ℕ) → ((p : ℕ) → v.arrived p ≡ Log.arrived_new log p) → sent v.x n ≤ parts v.x n → complete_in v.x log n ≡ true → all_come v n ≡ true
+complete-come v log n arrived le e =
+    let a = both (sent v.x n == parts v.x n) (if (v.x.message n).ordered then list_all (Log.arrived_new log) (slots_in v.x n) else Log.were_complete (slots_in v.x n) log) e in
     all-come v n le ∙ and (sent v.x n == parts v.x n) (list_all v.arrived (slots_in v.x n)) a.0 (Alls.all-same v.arrived (Log.arrived_new log) (has v.x n) 0 v.x.slots (λ k x y z. arrived k) ∙ by (v.x.message n).ordered a.1)
   where
-    by : (o : Bool) → (if o then list_all (Log.arrived_new log) (slots_in v.x n) else Log.were_whole (slots_in v.x n) log) ≡ true → list_all (Log.arrived_new log) (slots_in v.x n) ≡ true
+    by : (o : Bool) → (if o then list_all (Log.arrived_new log) (slots_in v.x n) else Log.were_complete (slots_in v.x n) log) ≡ true → list_all (Log.arrived_new log) (slots_in v.x n) ≡ true
     by true e = e
     by false e = were-new (slots_in v.x n) log e
 
--- an ordered one is whole exactly where it has arrived
-pub ordered-whole : (v : View) (log : List LogEntry) (n : ℕ) → ((p : ℕ) → v.arrived p ≡ Log.arrived_new log p) → sent v.x n ≤ parts v.x n → (v.x.message n).ordered ≡ true → whole_at v n ≡ whole_in v.x log n
-ordered-whole v log n arrived le o =
-    ap (λ b. if b then all_come v n else v.read n || list_any (λ k. k == n) (v.whole (v.x.message n).stream)) o
+-- an ordered one is complete exactly where it has arrived
+pub ordered-complete : (v : View) (log : List LogEntry) (n : ℕ) → ((p : ℕ) → v.arrived p ≡ Log.arrived_new log p) → sent v.x n ≤ parts v.x n → (v.x.message n).ordered ≡ true → complete_at v n ≡ complete_in v.x log n
+ordered-complete v log n arrived le o =
+    ap (λ b. if b then all_come v n else v.read n || list_any (λ k. k == n) (v.complete (v.x.message n).stream)) o
     ∙ all-come v n le
     ∙ ap (λ b. (sent v.x n == parts v.x n) && b) (Alls.all-same v.arrived (Log.arrived_new log) (has v.x n) 0 v.x.slots (λ k x y z. arrived k))
-    ∙ sym (ap (λ b. (sent v.x n == parts v.x n) && (if b then list_all (Log.arrived_new log) (slots_in v.x n) else Log.were_whole (slots_in v.x n) log)) o)
+    ∙ sym (ap (λ b. (sent v.x n == parts v.x n) && (if b then list_all (Log.arrived_new log) (slots_in v.x n) else Log.were_complete (slots_in v.x n) log)) o)
