@@ -10,11 +10,10 @@ are put into as few copies of the crate as have at most one in each function, an
 not, and ends with a count; the exit status is 0 where each was refused. With words it tries those alone whose file's name or title has one of
 them.
 
-With --pack it tries nothing: it writes must-fail/ anew, so that all wrong bodies stand in as few files as have at most one in each function:
-0_bodies.edit, which the gate tries, then 1_bodies.md, 2_bodies.md, .., since for each further file the gate would prove anew all that the one
-before it turned. A file whose first line begins with "Alone: " stays as it is. A body whose file's first line begins with "First: " is packed
-before all others, and what stands in 0_bodies.edit before what stands in later files. Each body keeps its texts and its title; the body of a file
-without titles takes the file's name as its title, in words.
+With --pack it tries nothing: it writes must-fail/ anew. 0_bodies.edit, which the gate tries, keeps its wrong bodies and takes those of each file
+whose first line begins with "First: "; all others stand in 1_bodies.md, 2_bodies.md, .., in as few as have at most one in each function. A file
+whose first line begins with "Alone: " stays as it is. Each body keeps its texts and its title; the body of a file without titles takes the file's
+name as its title, in words.
 """
 import importlib.machinery
 import importlib.util
@@ -144,7 +143,7 @@ def rank_of(room, edit):
 
 
 def pack(folder):
-    """Writes the must-fail files of a crate anew: those that stand alone as they are, all other wrong bodies in as few files as serve."""
+    """Writes the must-fail files of a crate anew: those that stand alone as they are, what the gate tries, and the others in as few files as serve."""
     room = f"{folder}/must-fail"
     edits = {it: bodies_of(f"{room}/{it}") for it in sorted(os.listdir(room)) if it.endswith(ENDINGS)}
     shared = {it: bodies for it, bodies in edits.items() if not source_of(room, it).startswith(ALONE)}
@@ -155,7 +154,11 @@ def pack(folder):
     if twice:
         sys.exit(f"{folder}: more than one wrong body has the title {', '.join(map(repr, twice))}")
     pairs_of = dict(bodies)
-    files = [[(title, pairs_of[title]) for title, _ in held] for _, held, _ in copies_of(folder, bodies)]
+    tried = [it for it in bodies if rank[it[0]] <= 0]
+    packed = [held for part in (tried, [it for it in bodies if it not in tried]) for _, held, _ in copies_of(folder, part)]
+    if tried and len(copies_of(folder, tried)) > 1:
+        sys.exit(f"{folder}: the gate is to try two wrong bodies of one function")
+    files = [[(title, pairs_of[title]) for title, _ in held] for held in packed]
     for it in files:
         it.sort(key=lambda body: (body[1][0][0], body[0]))
     written = {f"{number}_bodies.{'md' if number else 'edit'}": text_of(it) for number, it in enumerate(files)}
