@@ -1,5 +1,5 @@
 -- Worked examples of the definitions.
-use Rattle.std.proofs.Common.{◌≡◌, List, [], codes, replicate, refl}
+use Rattle.std.proofs.Common.{◌≡◌, [], codes, replicate, refl}
 use Rattle.crc32c.specs.Castagnoli.{shift, shift_bits, byte_step, zero_bytes, crc32c_of}
 
 -- the check value of the catalogues

@@ -46,7 +46,7 @@ pub record Valid (w : LinkRecord) : Type 0 where
   pub named_made : (s : ℕ) → (stream_of w s).named ≤ length (ordered_on w s)
   pub skipped_made : w.skipped ≤ length w.slots
 
--- a complete unordered message of stream s that was not read
+-- an unordered message of stream s that was not read
 pub record IsWaiting (w : LinkRecord) (s n : ℕ) : Type 0 where
   pub made : n < length w.messages
   pub stream : (message_at w n).stream ≡ s

@@ -5,12 +5,13 @@ use Rattle.sctp_outbound.specs.Marks.{with_nsent}
 use Rattle.sctp_outbound.proofs.lemmas.pending_queue.Waiting.{bytes_of-change_where}
 use Rattle.sctp_serial.specs.DataChunks.{has_tsn}
 use Rattle.sctp_transfer.specs.Sender.{Transmission}
-use Rattle.sctp_transfer.specs.SenderRuns.{AfterEachRun, Call, Follows, IsAccounted, Ledger, Makes, RunsTo, at_start, held_by_sender, abandons, abandons_late, opens, released_by, resends, reserves, sends, sets_mode, starts, takes_sack, writes, written_by}
+use Rattle.sctp_transfer.specs.SenderRuns.{AfterEachRun, Call, Follows, IsAccounted, Ledger, Makes, RunsTo, at_start, held_by_sender, abandons, abandons_late, closes, opens, released_by, resends, reserves, sends, sets_mode, starts, takes_sack, writes, written_by}
 use Rattle.sctp_transfer.proofs.Amounts.{started-bytes}
 
 -- what a call makes of the bytes that wait and are in flight
 moves : (c : Call) (old new : Transmission) → Makes c old new → held_by_sender new + released_by c ≡ held_by_sender old + written_by c
 moves (opens stream) old new m = let e = ap held_by_sender m in omega (arith, e)
+moves (closes stream) old new m = let e = ap held_by_sender m in omega (arith, e)
 moves (sets_mode stream unordered reliability value) old new m = let e = ap held_by_sender m in omega (arith, e)
 moves (starts now) old new m = let e = ap held_by_sender m ∙ started-bytes now old.flight.queue in omega (arith, e)
 moves (reserves count) old new m = let e = ap held_by_sender m in omega (arith, e)

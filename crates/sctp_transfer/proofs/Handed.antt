@@ -1,6 +1,6 @@
 -- What a receiver hands out, in every run of calls.
 use Rattle.std.proofs.Common.{◌≡◌, ℕ, ◌+◌, ◌≤◌, Bool, true, false, List, [], ◌∷◌, ◌++◌, Option, Some, None, refl, ap, sym, ◌∙◌, arith, subst}
-use Rattle.std.specs.Prelude.{◌==◌, if◌then◌else◌, find, option_map}
+use Rattle.std.specs.Prelude.{◌==◌, if◌then◌else◌, find, not, option_map}
 use Rattle.std.specs.Option.{option_or}
 use Rattle.std.specs.List.{list_all, sum_by, filter}
 use Rattle.std.proofs.lemmas.Bool.{eq-eqb}
@@ -19,7 +19,7 @@ use Rattle.sctp_transfer.specs.declared.receiver.arrival.Arrival.TheVariants.{Ne
 use Rattle.sctp_transfer.specs.declared.receiver.inbound_streams.InboundStream.{InboundStream}
 use Rattle.sctp_transfer.specs.Inbound.{number, has_number, new_stream, with_queue, stream_read, ssn_forwarded, named_forwarded, unassembled_forwarded}
 use Rattle.sctp_transfer.specs.Receiver.{Reception, stream_of, Accepts, message_of, message_on, after_read, is_stale, follow_forward_tsn, after_forward}
-use Rattle.sctp_transfer.specs.ReceiverRuns.{Call, opens, takes, reports, reads, forwards, Message, Stand, with_message, Follows, RunsTo, at_start, AfterEachRun, AreComplete, WereAccepted, fragments_read}
+use Rattle.sctp_transfer.specs.ReceiverRuns.{Call, opens, closes, takes, reports, reads, forwards, Message, Stand, with_message, Follows, RunsTo, at_start, AfterEachRun, AreComplete, WereAccepted, fragments_read}
 use Rattle.sctp_transfer.proofs.Inbounds.{pushed-number}
 use Rattle.sctp_transfer.proofs.Weights as weights
 use Rattle.sctp_transfer.proofs.Weights.{weight, message_weight}
@@ -126,6 +126,33 @@ opened-less st s max ls = subst (IsNoMore (find (has_number st) ls)) (sym (find-
     by None true = record { weighs = λ w. omega arith; complete = λ h. refl }
     by None false = same-held None
     by (Some l) b = same-held (Some l)
+
+none-left : (s : ℕ) (ls : List InboundStream) → find (has_number s) (filter (λ l. not (has_number s l)) ls) ≡ None
+none-left s [] = refl
+none-left s (l ∷ ls) = by (number l == s) refl (none-left s ls)
+  where
+    by : (b : Bool) → (number l == s) ≡ b → find (has_number s) (filter (λ l. not (has_number s l)) ls) ≡ None
+        → find (has_number s) (if not b then l ∷ filter (λ l. not (has_number s l)) ls else filter (λ l. not (has_number s l)) ls) ≡ None
+    by true h ih = ih
+    by false h ih = ap (λ b. if b then Some l else find (has_number s) (filter (λ l. not (has_number s l)) ls)) h ∙ ih
+
+closed-less : (st s : ℕ) (ls : List InboundStream) → IsNoMore (find (has_number st) ls) (find (has_number st) (filter (λ l. not (has_number s l)) ls))
+closed-less st s [] = same-held None
+closed-less st s (l ∷ ls) = by (number l == s) refl (number l == st) refl (closed-less st s ls)
+  where
+    gone : IsNoMore (Some l) None
+    gone = record { weighs = λ w. omega arith; complete = λ h. refl }
+
+    by : (b : Bool) → (number l == s) ≡ b → (c : Bool) → (number l == st) ≡ c → IsNoMore (find (has_number st) ls) (find (has_number st) (filter (λ l. not (has_number s l)) ls))
+        → IsNoMore (if c then Some l else find (has_number st) ls) (find (has_number st) (if not b then l ∷ filter (λ l. not (has_number s l)) ls else filter (λ l. not (has_number s l)) ls))
+    by true h true g ih =
+        let same : st ≡ s = sym (same-is (number l) st g) ∙ same-is (number l) s h in
+        subst (λ n. IsNoMore (Some l) (find (has_number n) (filter (λ l. not (has_number s l)) ls))) (sym same) (subst (IsNoMore (Some l)) (sym (none-left s ls)) gone)
+    by true h false g ih = ih
+    by false h true g ih =
+        subst (λ b. IsNoMore (Some l) (if b then Some l else find (has_number st) (filter (λ l. not (has_number s l)) ls))) (sym g) (same-held (Some l))
+    by false h false g ih =
+        subst (λ b. IsNoMore (find (has_number st) ls) (if b then Some l else find (has_number st) (filter (λ l. not (has_number s l)) ls))) (sym g) ih
 
 -- ## What holds of a stream, and of all that was read
 
@@ -292,6 +319,7 @@ repeat-valid c old new s streams a r = quiet old new s a r (λ st. subst (λ ls.
 
 step : (c : Call) (old new : Stand) → IsValid old → Follows c old new → IsValid new
 step (opens stream) old new s f = quiet old new s f.accepted f.read (λ st. subst (λ (r : Reception). IsNoMore (stream_of st old.receiver) (stream_of st r)) (sym f.receiver.1) (opened-less st stream old.receiver.max_message_size old.receiver.streams))
+step (closes stream) old new s f = quiet old new s f.accepted f.read (λ st. subst (λ (r : Reception). IsNoMore (stream_of st old.receiver) (stream_of st r)) (sym f.receiver) (closed-less st stream old.receiver.streams))
 step (takes c New) old new s f = taken-valid c old new s f.receiver f.accepted f.read
 step (takes c Repeat) old new s f = repeat-valid c old new s (ap (λ (r : Reception). r.streams) f.receiver) f.accepted f.read
 step reports old new s f = quiet old new s f.accepted f.read (λ st. subst (λ (r : Reception). IsNoMore (stream_of st old.receiver) (stream_of st r)) (sym f.receiver) (same-held (stream_of st old.receiver)))

@@ -7,7 +7,7 @@ use Rattle.sctp_chunks.specs.ForwardTsn.{ForwardTsn}
 use Rattle.sctp_reassembly.specs.reassembly_queue.Fragments.{is_complete}
 use Rattle.sctp_transfer.specs.declared.receiver.arrival.Arrival.{Arrival}
 use Rattle.sctp_transfer.specs.declared.receiver.arrival.Arrival.TheVariants.{New, Repeat}
-use Rattle.sctp_transfer.specs.Receiver.{Reception, at_first, is_open, open_stream, Takes, without_duplicates, message_on, after_read, after_forward}
+use Rattle.sctp_transfer.specs.Receiver.{Reception, at_first, is_open, open_stream, close_stream, Takes, without_duplicates, message_on, after_read, after_forward}
 use Rattle.sctp_serial.specs.DataChunks.{is_on}
 
 -- ## One call
@@ -15,6 +15,7 @@ use Rattle.sctp_serial.specs.DataChunks.{is_on}
 -- a call that is not refused, with its arguments and whether the chunk was new; a refused one changes nothing
 pub data Call : Type 0 where
   opens : ℕ → Call
+  closes : ℕ → Call
   takes : ChunkPayloadData → Arrival → Call
   reports : Call
   reads : ℕ → Call
@@ -23,6 +24,7 @@ pub data Call : Type 0 where
 -- what it makes of the receiver, as the call ensures it
 abbrev pub Makes : Call → Reception → Reception → Type 0
 Makes (opens stream) old new = (is_open stream old ≡ false) × (new ≡ open_stream stream old)
+Makes (closes stream) old new = new ≡ close_stream stream old
 Makes (takes c arrival) old new = Takes c arrival old new
 Makes reports old new = new ≡ without_duplicates old
 Makes (reads stream) old new = new ≡ after_read stream old
@@ -45,6 +47,7 @@ abbrev pub accepted_after : Call → List ChunkPayloadData → List ChunkPayload
 accepted_after (takes c New) cs = c ∷ cs
 accepted_after (takes c Repeat) cs = cs
 accepted_after (opens stream) cs = cs
+accepted_after (closes stream) cs = cs
 accepted_after reports cs = cs
 accepted_after (reads stream) cs = cs
 accepted_after (forwards f) cs = cs
@@ -57,6 +60,7 @@ abbrev pub messages_after : Call → Reception → List Message → List Message
 messages_after (reads stream) r ms = with_message stream (message_on stream r) ms
 messages_after (takes c arrival) r ms = ms
 messages_after (opens stream) r ms = ms
+messages_after (closes stream) r ms = ms
 messages_after reports r ms = ms
 messages_after (forwards f) r ms = ms
 

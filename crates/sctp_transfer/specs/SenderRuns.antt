@@ -7,7 +7,7 @@ use Rattle.sctp_outbound.specs.outbound_queue.OutboundQueue.{all_started, total_
 use Rattle.sctp_transfer.specs.declared.sender.flight.late.AbandonedMessage.{AbandonedMessage}
 use Rattle.sctp_transfer.specs.declared.sender.flight.Released.{Released}
 use Rattle.sctp_transfer.specs.Flight.{resent, with_queue, with_room}
-use Rattle.sctp_transfer.specs.Sender.{Transmission, open_stream, with_flight, with_mode_on, with_nothing}
+use Rattle.sctp_transfer.specs.Sender.{Transmission, open_stream, close_stream, with_flight, with_mode_on, with_nothing}
 use Rattle.sctp_transfer.specs.Totals.{bytes_in}
 
 -- ## One call
@@ -15,6 +15,7 @@ use Rattle.sctp_transfer.specs.Totals.{bytes_in}
 -- a call that is not refused, with the bytes that are written or those that it answers; a refused one changes nothing
 pub data Call : Type 0 where
   opens : ℕ → Call
+  closes : ℕ → Call
   sets_mode : ℕ → Bool → ReliabilityType → ℕ → Call
   starts : ℕ → Call
   reserves : ℕ → Call
@@ -39,6 +40,7 @@ bytes_of_all gs = sum_by (λ g. g.bytes) gs
 -- of what each call ensures, the part on which bytes depend
 abbrev pub Makes : Call → Transmission → Transmission → Type 0
 Makes (opens stream) old new = new ≡ open_stream stream old
+Makes (closes stream) old new = new ≡ close_stream stream old
 Makes (sets_mode stream unordered reliability value) old new =
     new ≡ with_mode_on stream unordered reliability value old
 Makes (starts now) old new =

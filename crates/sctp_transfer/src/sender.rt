@@ -239,7 +239,8 @@ impl Sender {
         Ok(Some(chunk))
     }
 
-    /// From here on so many calls of `send_next_tsn` take no memory. Refuses only for memory, and the sender is as it was then.
+    /// From here on so many calls of `send_next_tsn`, and terminal chunks of abandoned messages, together take no memory. Refuses only for
+    /// memory, and the sender is as it was then.
     pub fn reserve(&mut self, sends: usize) -> Result<(), SenderRefusal>
         ensures ok { OnOk result (self.new
             ≡ with_flight (with_queue self.old.flight
