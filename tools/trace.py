@@ -81,8 +81,10 @@ def clauses_from(lines, at):
     found, inside = [], False
     for line in lines[at:]:
         text = line.strip()
-        if inside and (text == "{" or text.startswith("//") or not text):
+        if inside and (text in ("{", "{}") or text.startswith("///") or not text):
             break
+        if text.startswith("//"):
+            continue
         if re.match(r"(requires|ensures)\b", text):
             inside = True
         if inside:
@@ -199,18 +201,18 @@ def missing_of(call, bodies, callers):
     return found
 
 
-def show(title, rows, none):
+def show(title, rows, none, most=12):
     print(f"  {title}")
-    for it in rows[:12] or [none]:
+    for it in rows[:most] or [none]:
         print(f"    {it}")
-    if len(rows) > 12:
-        print(f"    and {len(rows) - 12} more")
+    if len(rows) > most:
+        print(f"    and {len(rows) - most} more")
 
 
 def trace(call, bodies, callers):
     print(f"{call.title()}")
     show("code", [f"{call.path}:{call.line}"], "")
-    show("contract", call.clauses, "no clause: it is safe and total")
+    show("contract", call.clauses, "no clause: it is safe and total", len(call.clauses))
     show("definitions", definitions_of(call), "none beside those of its types")
     show("proof", proofs_of(call), "found by the prover alone")
     show("wrong bodies", sorted(bodies.get((call.path, call.owner, call.name), [])), "none")
