@@ -18,7 +18,7 @@ pub enum FieldFault {
     OutOfMemory,
 }
 
-/// The field of some bytes, its digits in lower case.
+/// The field of some bytes, its digits in lower case. Refuses only for memory.
 pub fn field_text(alloc: Global, bytes: &[u8]) -> Result<String, FieldFault>
     ensures text { IfOk result (λ t. string_bytes t ≡ field_of bytes.now) }
     ensures reads_back { IfOk result (λ t. IsField (string_bytes t) bytes.now) }
@@ -39,7 +39,7 @@ fn field_of_bytes(alloc: Global, bytes: &[u8]) -> Result<String, AllocError>
     hex::encode(alloc, bytes)
 }
 
-/// The bytes of a field, its digits in either case.
+/// The bytes of a field, its digits in either case. Refuses with `NotHex`, where the text is no field, and for memory.
 pub fn field_bytes(alloc: Global, text: &str) -> Result<Bytes, FieldFault>
     ensures ok { IfOk result (λ b. IsField text.now b) }
     ensures refused { IfErr result (λ e. (e ≡ OutOfMemory)

@@ -14,12 +14,13 @@ pub enum RunFault {
     Input,
     /// The writer failed.
     Output,
-    /// There was no memory outside an event.
+    /// Memory ran out where the script was read or a reply was printed; a link that wants memory answers an event with a refusal.
     Memory,
 }
 
-/// Reads a script whole, runs it line by line on a link under this checksum, and prints a line for
-/// each reply. The status is 0, or 2 where a line cannot be read: that is the last one then.
+/// Reads a script whole, makes the link that its first line says, under this checksum, runs each further line as an event, and prints
+/// a line for each reply. The status is 0, or 2 where a line cannot be read: then `bad line` and its number, from 1, are printed
+/// last, and the lines behind it are not run.
 pub fn run_under<C: Checksum + Drop, R: Read, W: Write>(
     alloc: Global,
     checksum: C,

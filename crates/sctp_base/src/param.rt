@@ -53,7 +53,7 @@ pub trait Param {
         ensures fault { IfErr result (λ e. OrMemory e (fault e raw.now)) }
         ensures again { IfOk result (λ p. ReadsBack HasOwnType (wire p)) };
 
-    /// The type that the header names.
+    /// The type by which the kind is written; of a `ParamUnknown` it is `ParamType::Unknown`, also where its number has a name.
     fn param_type(&self) -> ParamType
         ensures { result ≡ param_type_of (wire self.now) };
 
@@ -69,7 +69,7 @@ pub trait Param {
         ensures items { buf.new.items ≡ buf.old.items ++ param_value_of (wire self.now) }
         ensures spare { buf.new.spare + length (param_value_of (wire self.now)) ≡ buf.old.spare };
 
-    /// An equal parameter, which shares its bytes. Refuses only for memory.
+    /// An equal parameter: a `Bytes` is shared, a list is copied. Refuses only for memory.
     fn try_clone(&self, alloc: Global) -> Result<Self>
     where
         Self: Sized,

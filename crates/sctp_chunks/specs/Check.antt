@@ -8,12 +8,13 @@ use Rattle.sctp_chunks.specs.Heartbeat.{OneInfoFault}
 use Rattle.sctp_chunks.specs.Reconfig.{IsPair, PairFault}
 use Rattle.sctp_chunks.specs.Wire.{Wire, init_chunk, heartbeat_ack_chunk, reconfig_chunk, HasForm, HasLength}
 
--- the values that an INIT must not have (RFC 4960 3.3.2), the first one named
+-- what `check` asks of an INIT or INIT-ACK: no number that is not allowed (RFC 4960 3.3.2, and 6 of the credit)
 abbrev pub IsCheckedInit : Init → Type 0
 IsCheckedInit i =
     (i.initiate_tag ≢ 0) × (i.num_inbound_streams ≢ 0) × (i.num_outbound_streams ≢ 0)
     × (1500 ≤ i.advertised_receiver_window_credit)
 
+-- the first of these, in this order, that does not hold
 abbrev pub InitCheckFault : Error → Init → Type 0
 InitCheckFault e i =
     ((e ≡ errors.ErrChunkTypeInitInitiateTagZero) × (i.initiate_tag ≡ 0))

@@ -25,7 +25,7 @@ pub record ReadsCause (bytes : List ℕ) (c : ErrorCause) : Type 0 where
   pub is_cause : IsCause bytes
   pub fields : c ≡ cause_in bytes
 
--- what follows a cause: there is no padding between causes
+-- what follows a cause: no padding is looked for, though RFC 4960 3.2.1 has it between causes
 unfoldable pub after_cause : List ℕ → List ℕ
 after_cause bytes = drop (cause_declared_length bytes) bytes
 

@@ -50,7 +50,7 @@ payload_type_number Unknown = 58
 
 -- ---- flags
 
--- E, the last fragment
+-- whether the flags have the bit of the mask: 1 is E, the last fragment; 2 B, the first; 4 U, unordered; 8 I
 abbrev pub has_flag : ℕ → ℕ → Bool
 has_flag flags mask = not (bit_and flags mask == 0)
 

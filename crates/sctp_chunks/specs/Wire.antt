@@ -107,7 +107,7 @@ abbrev pub HasFirst : Option Parameter → Type 0
 HasFirst None = ⊥
 HasFirst (Some p) = Unit {0}
 
--- what a kind asks for before there is an encoding: a HEARTBEAT-ACK gives one thing back, a RECONFIG asks for something
+-- what a kind asks for before there is an encoding: of a HEARTBEAT-ACK exactly one Heartbeat Info, of a RECONFIG a first parameter
 abbrev pub HasForm : Wire → Type 0
 HasForm (heartbeat_ack_chunk ps) = IsOneInfo ps
 HasForm (reconfig_chunk r) = HasFirst r.param_a

@@ -47,8 +47,8 @@ fn read_cause_item(rest: &Bytes) -> Result<Option<CauseItem>, AllocError>
     }
 }
 
-/// Looks at bytes as error causes, each padded to a multiple of four bytes (RFC 4960 3.2.1,
-/// 3.3.10), whatever they are. The only refusal is for memory.
+/// Looks at bytes, the value of an ABORT or ERROR, as error causes, each padded to a multiple of four bytes (RFC 4960 3.2.1, 3.3.10),
+/// whatever they are; `ChunkAbort` and `ChunkError` look for no padding, and so may show others. The only refusal is for memory.
 pub fn dissect_causes(alloc: Global, raw: Bytes) -> Result<Causes, AllocError>
     // Nothing is lost, and nothing shown twice.
     ensures joins { IfOk result (λ c. flat_map cause_bytes c.items.items ++ c.rest ≡ raw) }

@@ -50,6 +50,7 @@ pub struct RawChunk {
 pub enum Reading {
     /// As the reader of packets reads it.
     Strict(ChunkKind),
+    /// As it stands, where the reader of packets refuses it.
     Raw(RawChunk),
 }
 
@@ -216,7 +217,8 @@ fn read_items(alloc: Global, raw: Bytes) -> Result<(Vec<Item>, Bytes, Option<Fau
     Ok((items, rest, None))
 }
 
-/// Looks at a datagram, whatever its bytes. The only refusal is for memory.
+/// Looks at a datagram, whatever its bytes: the header, then each chunk by its declared length, read or raw, up to where no chunk
+/// begins. Neither a wrong checksum nor a refused chunk stops it; under twelve bytes all are `rest`. The only refusal is for memory.
 pub fn dissect<C: Checksum>(
     alloc: Global,
     raw: &Bytes,

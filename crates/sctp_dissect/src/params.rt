@@ -30,7 +30,9 @@ pub struct RawParam {
 /// What a parameter is read as.
 #[derive(Debug, Drop)]
 pub enum ParamReading {
+    /// As `build_param` reads it.
     Strict(ParamKind),
+    /// As it stands, where `build_param` refuses it.
     Raw(RawParam),
 }
 
@@ -104,7 +106,8 @@ fn read_param_item(alloc: Global, rest: &Bytes) -> Result<ParamItem, AllocError>
     Ok(ParamItem { bytes, reading })
 }
 
-/// Looks at bytes as parameters, whatever they are. The only refusal is for memory.
+/// Looks at bytes as parameters, each padded to a multiple of four (RFC 4960 3.2.1), up to where none begins. The bytes are a value
+/// from its first parameter on: of an INIT or INIT-ACK from byte 16. The only refusal is for memory.
 pub fn dissect_params(alloc: Global, raw: Bytes) -> Result<Params, AllocError>
     // Nothing is lost, and nothing shown twice.
     ensures joins { IfOk result (λ p. flat_map param_bytes p.items.items ++ p.rest ≡ raw) }

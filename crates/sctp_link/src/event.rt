@@ -25,7 +25,7 @@ pub enum Reply {
         ssn: u16,
         count: u64,
     },
-    /// There was nothing to send.
+    /// There was nothing to send, or, to an Expire or a Tail, no message in front that is past its deadline.
     Idle,
     /// The number of the datagram that the chunk was sent again in.
     Resent {
@@ -54,9 +54,9 @@ pub enum Reply {
     Ack {
         datagram: u64,
     },
-    /// The datagram's TSN arrived for the first time.
+    /// Of the DATA chunks of the datagram one at least is new: its TSN did not arrive before, and was not skipped.
     New,
-    /// The datagram's TSN had arrived before.
+    /// None of the DATA chunks of the datagram is new: the TSN of each arrived before, or was skipped.
     Repeat,
     /// The FORWARD-TSN was past what had come, and was followed.
     Skipped,

@@ -149,8 +149,8 @@ impl<C: Checksum + Drop> Link<C> {
     ///   its fragments 2^31 or more would have been accepted in all.
     /// - Resend: `NotInFlight`, where the TSN was not given out, is acknowledged, or its message is abandoned.
     /// - Abandon: `NotInFlight`, where the TSN was not given out or is acknowledged cumulatively.
-    /// - Skip: `SkipUnassigned`, where the TSN was not given out; `SkipNames`, where there are more names than fit a
-    ///   FORWARD-TSN, or one that is not an ordered message whose last slot is at or before the TSN's.
+    /// - Skip: `SkipUnassigned`, where the TSN was not given out; `SkipNames`, where there are more than 16,381 names, or one is no
+    ///   ordered message, expired, waits in part and was not abandoned, or has a TSN past this one.
     /// - Arrive and Acked: `NoSuchDatagram`, where datagram k was not made, or is of the other kind.
     /// - Arrive: `SpanTooWide`, where stream sequence numbers could no longer be told apart (RFC 4960 6.5).
     /// - Each event that takes memory: `OutOfMemory`, where it was refused.

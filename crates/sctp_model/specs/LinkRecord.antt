@@ -74,7 +74,7 @@ pub record LinkRecord : Type 0 where
   pub skipped : ℕ
   -- how many slots the taken SACKs acknowledged cumulatively: the others are in flight
   pub taken : ℕ
-  -- the slots that arrived again since the last SACK was made, oldest first
+  -- the slots that came and were not new since the last SACK was made, oldest first
   pub duplicates : List ℕ
 
 -- the link as it was made

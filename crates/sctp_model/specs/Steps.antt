@@ -51,7 +51,7 @@ abbrev pub is_ended : LinkRecord → ℕ → Bool
 is_ended w n =
     (Messages.sent_of w n == Messages.fragment_count w n) || (Messages.message_at w n).abandoned
 
--- a skip up to this slot can name message n: an ordered one whose last slot is at or before it
+-- a skip up to this slot can name message n: an ordered one that is wholly sent or abandoned, did not expire, and has no slot past it
 abbrev pub can_name : LinkRecord → ℕ → ℕ → Bool
 can_name w upto n =
     nat_lt n (length w.messages) && ((Messages.message_at w n).ordered
@@ -196,10 +196,8 @@ takes_memory w (E.Abandon tsn) =
 takes_memory w (E.Read s) = false
 takes_memory w e = true
 
--- want of memory may refuse an event that can take memory, and no other, where no test before it
--- does; an Arrive reads its datagram before the span test
+-- want of memory may refuse an event that can take memory, and no other, and only where no test refuses it
 abbrev pub may_want_memory : LinkRecord → Event → Bool
-may_want_memory w (E.Arrive k) = is_for_receiver (slice_get w.network k)
 may_want_memory w e = takes_memory w e && is_none (refusal_of w e)
 
 -- the event may be refused with this

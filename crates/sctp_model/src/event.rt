@@ -10,8 +10,9 @@ pub enum Event {
     Open {
         stream: u16,
     },
-    /// Sets how later messages of a stream are sent. `value` counts the sendings of a chunk after the
-    /// first (`Rexmit`), or is a lifetime in milliseconds (`Timed`), or means nothing (`Reliable`).
+    /// Sets how later messages of a stream are sent; a DCEP message is always ordered, and has no lifetime (RFC 8832 6). `value`
+    /// counts the sendings of a chunk after the first (`Rexmit`; a link does not keep to it), or is a lifetime in milliseconds
+    /// (`Timed`), or means nothing (`Reliable`).
     Mode {
         stream: u16,
         unordered: bool,
@@ -92,7 +93,8 @@ pub enum LinkRefusal {
     NotInFlight,
     /// The TSN was not given out.
     SkipUnassigned,
-    /// A name is no ordered message whose last slot is at or before the TSN, or there are more than 16,381 names.
+    /// A name is no ordered message, or one of which a fragment still waits and that was not abandoned, or that expired, or that has
+    /// a TSN past this one; or there are more than 16,381 names.
     SkipNames,
     /// Stream sequence numbers could not be told apart (RFC 4960 6.5).
     SpanTooWide,

@@ -63,7 +63,8 @@ pub fn ordered_reads()
     ensures complete_run { OnEveryRun ReadsBeginCompleteRun }
 {}
 
-/// The unordered messages of a stream are read each once, in the order in which they became complete, and before any ordered one.
+/// The unordered messages of a stream are read at most once each, in the order in which they became complete; while a complete one
+/// is unread, no ordered one is read.
 pub fn unordered_reads()
     ensures complete { OnEveryRun ReadsBeginComplete }
     ensures differ { OnEveryRun ReadsDiffer }
@@ -105,7 +106,8 @@ pub fn reads_are_settled()
     ensures none_lost { OnEveryRun NoneIsLost }
 {}
 
-/// The counters of a stream are the saturated sums over its writes and its reads.
+/// The counters of a stream are the sums over its writes and its reads, at most the greatest u64: of messages, text and binary ones,
+/// the two empty kinds too; of bytes, those of text and binary ones. DCEP and any other payload type count nothing (RFC 8831 6.6).
 pub fn counters_count()
     ensures sums { OnEveryRun CountersAreSums }
 {}

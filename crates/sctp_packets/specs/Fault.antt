@@ -10,7 +10,7 @@ use Rattle.sctp_chunks.specs.Wire.{Wire, HasEncoding}
 use Rattle.sctp_chunks.specs.Check.{EncodingFault}
 use Rattle.sctp_chunks.specs.Kind.{KindFault}
 use Rattle.sctp_base.specs.Walk.{Walks}
-use Rattle.sctp_packets.specs.Packet.{Parts, Steps, after, checksum_input, body_of}
+use Rattle.sctp_packets.specs.Packet.{Parts, IsHeaded, Steps, after, checksum_input, body_of}
 
 -- where the walk stands
 abbrev pub PlaceFault : Error → List ℕ → Type 0
@@ -18,7 +18,7 @@ PlaceFault e rest =
     ((e ≡ errors.ErrParseSctpChunkNotEnoughData) × (0 < length rest) × (length rest < 4))
     ⊎ ((e ≡ errors.ErrParseSctpChunkNotEnoughData) × (4 ≤ length rest)
     × (length rest < padded_length (declared_length rest)))
-    ⊎ KindFault e rest
+    ⊎ ((4 ≤ length rest) × KindFault e rest)
 
 -- a fault at a place that the walk comes to
 unfoldable pub WalkFault : Error → List ℕ → Type 0
@@ -32,8 +32,10 @@ HeadFault sum e bytes =
     ⊎ ((e ≡ errors.ErrChecksumMismatch) × (12 ≤ length bytes)
     × (u32_le_at bytes 8 ≢ sum (checksum_input bytes)))
 
+-- why bytes are no packet: their header or checksum, and only where these are right a chunk
 abbrev pub PacketFault : (List ℕ → ℕ) → Error → List ℕ → Type 0
-PacketFault sum e bytes = HeadFault sum e bytes ⊎ WalkFault e (drop 12 bytes)
+PacketFault sum e bytes =
+    HeadFault sum e bytes ⊎ (IsHeaded sum bytes × WalkFault e (drop 12 bytes))
 
 -- ---- writing
 

@@ -46,11 +46,13 @@ pub record Finishes (d : PartialDecode) (p : Parts) : Type 0 where
 abbrev pub HasChunks : Parts → Type 0
 HasChunks p = 0 < length p.chunks
 
--- why such a beginning is refused. A value is at fault only in an INIT or INIT-ACK that is framed
+-- why such a beginning is refused: header or checksum, and only where these are right what follows. A value is at fault only in an INIT or
+-- INIT-ACK that is framed
 abbrev pub PartialFault : (List ℕ → ℕ) → Error → List ℕ → Type 0
 PartialFault sum e bytes =
     HeadFault sum e bytes
-    ⊎ ((e ≡ errors.ErrParseSctpChunkNotEnoughData) × (12 ≤ length bytes) × (length bytes < 16))
+    ⊎ (IsHeaded sum bytes
+    × (((e ≡ errors.ErrParseSctpChunkNotEnoughData) × (length bytes < 16))
     ⊎ ((16 ≤ length bytes) × HeaderFault e (drop 12 bytes))
     ⊎ ((e ≡ errors.ErrChunkValueNotLongEnough) × IsInitChunk (drop 12 bytes)
-    × (length (value_at (drop 12 bytes)) < 4))
+    × (length (value_at (drop 12 bytes)) < 4))))

@@ -213,6 +213,7 @@ fn store_checksum<C: Checksum>(buf: &mut BytesMut, start: usize, checksum: &C)
         ++ le32 (C.sum checksum.now (take 8 (drop start buf.old.items) ++ four_zeroes
         ++ drop (start + 12) buf.old.items))
         ++ drop (start + 12) buf.old.items }
+    ensures spare { buf.new.spare ≡ buf.old.spare }
 {
     let bytes = buf.as_slice();
     let sum = checksum.checksum(
@@ -225,9 +226,10 @@ fn store_checksum<C: Checksum>(buf: &mut BytesMut, start: usize, checksum: &C)
 
 impl Packet {
     /// Reads a packet, all of the bytes. A header alone is a packet without chunks.
-    /// Refuses under 12 bytes with `ErrPacketRawTooSmall`, another checksum with `ErrChecksumMismatch`, a last
-    /// chunk whose padding is not there, or one to three bytes too many, with `ErrParseSctpChunkNotEnoughData`, a
-    /// chunk as `ChunkKind::unmarshal` does; or for memory. A chunk of an unknown type refuses the whole packet.
+    /// Refuses under 12 bytes with `ErrPacketRawTooSmall`, another checksum with `ErrChecksumMismatch`, and only then a chunk as
+    /// `ChunkKind::unmarshal` does: one of an unknown type refuses the whole packet, and where fewer than four bytes follow the
+    /// length of a chunk and one of them is not zero, it is `ErrChunkHeaderPaddingNonZero`. Refuses a last chunk whose padding
+    /// is not there, and one to three other bytes too many, with `ErrParseSctpChunkNotEnoughData`; or for memory.
     pub fn unmarshal<C: Checksum>(alloc: Global, raw: &Bytes, checksum: &C) -> Result<Packet>
         ensures found { IfOk result (λ p. ReadsPacket (C.sum checksum.now) raw.now (parts_of p)) }
         ensures only { (p : Parts) → ReadsPacket (C.sum checksum.now) raw.now p
@@ -258,6 +260,9 @@ impl Packet {
             × (buf.new.items ≡ buf.old.items ++ packet_encoding (C.sum checksum.now)
             (parts_of self.now))
             × (n ≡ length buf.new.items)) }
+        // What room is left serves the next packet.
+        ensures spare { OnOk result (buf.old.spare ≤ buf.new.spare
+            + length (packet_encoding (C.sum checksum.now) (parts_of self.now))) }
         // What is written reads back.
         ensures reads_back { IsCanonical (parts_of self.now)
             → OnOk result (ReadsPacket (C.sum checksum.now)
@@ -307,6 +312,8 @@ impl Packet {
             (head_of (parts_of self.now) ++ four_zeroes ++ body_of (parts_of self.now).chunks)
             < 2 ^ 32) }
         ensures kept { take (length buf.old.items) buf.new.items ≡ buf.old.items }
+        ensures spare { OnOk result (buf.old.spare
+            ≤ buf.new.spare + (12 + length (body_of (parts_of self.now).chunks))) }
         ensures refused { IfErr result (λ e. PacketEncodingFault e (parts_of self.now)
             ⊎ ((e ≡ ErrOutOfMemory) × LacksRoom buf.old.spare 12 (parts_of self.now).chunks)) }
     {
@@ -337,9 +344,9 @@ fn has_init(chunks: &[ChunkKind]) -> bool
 }
 
 impl Packet {
-    /// Tests what all packets must keep to, in this order: ports are not 0 (RFC 4960 3.1), an INIT
-    /// is the only chunk (RFC 4960 6.10), and it stands under tag 0 (RFC 4960 8.5.1). An INIT-ACK
-    /// may stand with others. Neither reading nor writing asks for it, and it takes no memory.
+    /// Tests three rules, in this order: ports are not 0 (RFC 4960 3.1), an INIT is the only chunk (RFC 4960 6.10), and it
+    /// stands under tag 0 (RFC 4960 8.5.1). An INIT-ACK or SHUTDOWN-COMPLETE with other chunks passes, though RFC 4960 6.10
+    /// forbids that too. Neither reading nor writing asks for it, and it takes no memory.
     /// Refuses with `ErrSctpPacketSourcePortZero`, `ErrSctpPacketDestinationPortZero`,
     /// `ErrInitChunkBundled` or `ErrInitChunkVerifyTagNotZero`.
     pub fn check_packet(&self) -> Result<()>

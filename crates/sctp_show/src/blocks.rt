@@ -124,7 +124,8 @@ pub fn begins_blocks(held: &[u8]) -> bool
     held.len() >= 4 && read_u32(held, 0) == SECTION
 }
 
-/// The head of the block that the bytes begin with, if there can be a block.
+/// The head of the block that the bytes begin with; None where its length is below 12 or no multiple of four, or a section says no order.
+/// Precondition: there are 12 bytes at least.
 pub fn read_block_head(order: Order, held: &[u8]) -> Option<BlockHead>
     requires { 12 ≤ length held.now }
     ensures some { IfSome result (IsBlockHead order held.now) }

@@ -186,7 +186,8 @@ fn place_in(link_type: u32, frame: &[u8]) -> Result<usize, Fault>
     }
 }
 
-/// The datagram of a frame of this link type: what an IP packet carries, or SCTP alone.
+/// The datagram of a frame of this link type: what an IP packet carries, alone or in UDP to or from `port` (RFC 6951), or the frame as
+/// it is, where the link type is 248 (SCTP). Refuses with `OtherLink`, `Short`, `Fragment` or `OtherProtocol`. It takes no memory.
 pub fn datagram_in(link_type: u32, frame: &[u8], port: u16) -> Result<Datagram<'_>, Fault>
     ensures alone { link_type ≡ 248 → IfOk result (λ d. d.bytes.now ≡ frame.now) }
     ensures carried { link_type ≢ 248

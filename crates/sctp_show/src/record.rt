@@ -68,11 +68,11 @@ pub enum Fault {
     CutOff,
     /// The record is longer than 256 KiB.
     TooLong,
-    /// A header of the frame is cut off or malformed.
+    /// A header of the frame is cut off or malformed, or what it carries is shorter than it says, as in a capture that cuts frames.
     Short,
     /// The frame holds a fragment of an IP packet.
     Fragment,
-    /// The frame holds no SCTP.
+    /// The frame holds no SCTP, or it stands behind more than two VLAN tags or fifteen extension headers of IPv6.
     OtherProtocol,
     /// The link type is not known.
     OtherLink,
@@ -108,7 +108,8 @@ pub struct Record {
     pub frame: Result<Bytes, Fault>,
 }
 
-/// The number in the four bytes from `at` on.
+/// The number in the four bytes from `at` on, in this order.
+/// Precondition: there are four from there on.
 pub fn read_number(order: Order, bytes: &[u8], at: usize) -> u32
     requires { at + 4 ≤ length bytes.now }
     ensures { result ≡ number_at order bytes.now at }

@@ -92,7 +92,8 @@ impl<R: Read + Drop> Window<R> {
         self.held.as_slice()
     }
 
-    /// Drops the first bytes of those that are held.
+    /// Drops so many of the bytes that are held, the first ones. It takes no memory.
+    /// Precondition: so many are held.
     pub fn advance(&mut self, count: usize)
         requires { count ≤ length self.old.held.items }
         ensures reader { R.remaining self.new.reader ≡ R.remaining self.old.reader }

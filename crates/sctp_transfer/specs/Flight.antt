@@ -99,7 +99,7 @@ count_acked s f = distance f.acked_tsn s.cumulative_tsn_ack
 abbrev pub is_within : ℕ → GapAckBlock → Bool
 is_within left b = nat_lt b.end b.start || (nat_lt 0 b.start && nat_le b.end left)
 
--- why it is not taken: its cumulative TSN was not given out, or a block reports a TSN that is not in flight
+-- why it is not taken: its cumulative TSN was not given out, or a block reports other TSNs than those in flight beyond that one
 abbrev pub sack_refusal : Sack → Flight → Option SenderRefusal
 sack_refusal s f =
     if is_outdated s f then None else (

@@ -87,8 +87,8 @@ impl Receiver {
         self.streams.open(self.alloc, stream, self.max_message_size)
     }
 
-    /// Closes a stream, where it is open: what came on it and was not read is dropped, and its counters go. What comes on it
-    /// later is refused, until it is opened again; the TSNs stay as they are. Where it is not open nothing changes. It takes no
+    /// Closes a stream, where it is open: what came on it and was not read is dropped, and its counters go. A chunk of it with a new
+    /// TSN is refused then, until it is opened again; the TSNs stay as they are. Where it is not open nothing changes. It takes no
     /// memory.
     pub fn close(&mut self, stream: u16)
         ensures { self.new ≡ close_stream stream self.old }
@@ -96,8 +96,8 @@ impl Receiver {
         self.streams.close(stream);
     }
 
-    /// Takes a DATA chunk (RFC 4960 6.2): `New`, where its TSN came for the first time, and `Repeat`, where it came
-    /// before; then the next SACK reports it as a duplicate. The refusals, in the order in which they are looked for:
+    /// Takes a DATA chunk (RFC 4960 6.2): `New`, where its TSN is new, and `Repeat`, where it came before or a FORWARD-TSN skipped it;
+    /// then the next SACK reports it as a duplicate. The refusals, in the order in which they are looked for:
     ///
     /// - `TsnOpposite`, where the TSN is neither before nor after the cumulative one;
     /// - `StreamUnknown`, where its stream is not open;

@@ -113,7 +113,9 @@ impl Sender {
         self.streams.close(stream);
     }
 
-    /// Sets the mode of later writes to a stream. Refuses with `StreamUnknown`, where it is not open. It takes no memory.
+    /// Sets the mode of later writes to a stream; a DCEP message is ordered in any mode (RFC 8832 6). `value` counts the sendings of a
+    /// chunk after the first (`Rexmit`), or is a lifetime in milliseconds (`Timed`), or means nothing (`Reliable`). Refuses with
+    /// `StreamUnknown`, where the stream is not open. It takes no memory.
     pub fn set_mode(
         &mut self,
         stream: u16,
@@ -144,8 +146,8 @@ impl Sender {
         self.flight.start(now);
     }
 
-    /// Takes a write: its fragments wait, each with the mode of the stream. Answers the number of its message and how many
-    /// fragments it has; a write of no bytes has none, and changes nothing. The refusals, in the order in which they are
+    /// Takes a write: its fragments wait, each with the mode of the stream, but a DCEP message is ordered in any mode (RFC 8832 6).
+    /// Answers the number of its message and how many fragments it has; a write of no bytes has none, and changes nothing. The refusals, in the order in which they are
     /// looked for: `StreamUnknown`, `MessageTooLarge`, `QueueFull`, `OutOfMemory`. The sender is as it was then.
     pub fn write(
         &mut self,
@@ -239,8 +241,8 @@ impl Sender {
         Ok(Some(chunk))
     }
 
-    /// From here on so many calls of `send_next_tsn`, and terminal chunks of abandoned messages, together take no memory. Refuses only for
-    /// memory, and the sender is as it was then.
+    /// From here on so many calls of `send_next_tsn`, and terminal chunks of `abandon` and `expire_tail`, together take no memory;
+    /// `expire_late` takes some for what it answers. Refuses only for memory, and the sender is as it was then.
     pub fn reserve(&mut self, sends: usize) -> Result<(), SenderRefusal>
         ensures ok { OnOk result (self.new
             ≡ with_flight (with_queue self.old.flight
@@ -298,7 +300,8 @@ impl Sender {
 
     /// Abandons the message of a chunk in flight (RFC 3758 3.5), and answers its stream and the bytes that left. Refuses with
     /// `NotInFlight`, where the TSN is not in flight; and, only where some of the message still waits, so that a terminal chunk has
-    /// to go in flight, with `TsnsUsedUp`, where 2^31 - 1 chunks are in flight, and for memory. The sender is as it was then.
+    /// to go in flight, with `TsnsUsedUp`, where 2^31 - 1 chunks are in flight, and for memory, though not within the room of `reserve`.
+    /// The sender is as it was then.
     pub fn abandon(&mut self, tsn: u32) -> Result<(u16, usize), SenderRefusal>
         ensures ok { IfOk result (λ r. self.new
             ≡ after_abandon (message_to_abandon tsn self.old.flight) r.0 r.1
@@ -314,6 +317,8 @@ impl Sender {
         ensures no_tail { is_held self.old.flight.queue.inflight.chunks tsn ≡ true
             → has_tail_at self.old.flight tsn ≡ false
             → IsOk result }
+        ensures succeeds { 0 < self.old.flight.queue.inflight.room
+            → abandon_refusal tsn self.old.flight ≡ None → IsOk result }
         ensures err { OnErr result (self.new ≡ self.old) }
     {
         if self.flight.queue().get(tsn).is_none() {
@@ -346,7 +351,7 @@ impl Sender {
 
     /// Abandons the rest of the partially sent message in front, where it is past its deadline, and answers its stream, its number and the bytes
     /// that left. `now` is in nanoseconds. Refuses, only where there is such a message, with `TsnsUsedUp`, where 2^31 - 1 chunks
-    /// are in flight, and for memory. The sender is as it was then.
+    /// are in flight, and for memory, though not within the room of `reserve`. The sender is as it was then.
     pub fn expire_tail(&mut self, now: u64) -> Result<Option<(u16, u64, usize)>, SenderRefusal>
         ensures some { IfOk result (λ r. IfSome r (λ a. self.new ≡ after_abandon
             (message_of (expiring_tail now self.old.flight.queue)) a.0 a.2 self.old)) }
@@ -360,6 +365,8 @@ impl Sender {
             ⊎ (may_send self.old.flight ≡ true) }
         ensures refused { IfErr result (λ e. e
             ≡ (if may_send self.old.flight then OutOfMemory else TsnsUsedUp)) }
+        ensures succeeds { 0 < self.old.flight.queue.inflight.room
+            → may_send self.old.flight ≡ true → IsOk result }
         ensures idle { expiring_tail now self.old.flight.queue ≡ None → IsOk result }
         ensures err { OnErr result (self.new ≡ self.old) }
     {

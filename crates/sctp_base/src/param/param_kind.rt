@@ -60,10 +60,11 @@ impl fmt::Display for ParamKind {
     }
 }
 
-/// Reads the parameter that the bytes begin with, by its type. A type of no kind is kept as
-/// `ParamUnknown` where its highest bit is set, else refused with `ErrParamTypeUnhandled`: that
-/// bit says that a receiver which does not know the type skips it and goes on (RFC 4960 3.2.1).
-/// Refuses with `ErrParamHeaderTooShort` where there is no header, else as the kind's reader does.
+/// Reads the parameter that the bytes begin with, by its type. The ten kinds are types 1, 7, 12, 13, 16, 32770, 32771, 32772,
+/// 32776 and 49152. Any other type, also one that `ParamType` names, is kept as `ParamUnknown` where its highest bit is
+/// set, else refused with `ErrParamTypeUnhandled`: as are the addresses of an INIT, 5 and 6 (RFC 4960 3.3.2.1). That bit says that
+/// a receiver which does not know the type skips it and goes on (RFC 4960 3.2.1).
+/// Refuses with `ErrParamHeaderTooShort` where there is no header, else as the kind's reader does, or for memory.
 #[tactic(auto, using(crate::proofs::ParamAgain::own_again), unfolding(crate::specs::ParamKind::ParamFault))]
 pub fn build_param(alloc: Global, raw: &Bytes) -> Result<ParamKind>
     ensures found { IfOk result (λ p. ReadsParam raw.now (parameter_of p)) }

@@ -15,8 +15,8 @@ use bytes::{Bytes, BytesMut};
 use std::alloc::Global;
 use std::fmt;
 
-/// What became of a request (RFC 6525 4.4). Any other number than 0 to 6 is read as
-/// `Unknown`, which is written as 7. It prints as its number and name.
+/// What became of a request (RFC 6525 4.4). Any other number than 0 to 6 is read as `Unknown`, which is written
+/// as 7. It prints as its number and name, `Unknown` as `Unknown ReconfigResult`.
 #[derive(Clone, Copy, Debug, PartialEq, Eq)]
 pub enum ReconfigResult {
     /// Success, there was nothing to do.

@@ -22,7 +22,7 @@ use std::fmt;
 
 /// The types of the address parameters that the sender of an INIT can use
 /// (RFC 4960 3.3.2.1, type 12). The value is two bytes for each.
-/// Refuses an odd value with `ErrSupportedAddressTypesParamInvalidLength`.
+/// Refuses a value of an odd number of bytes with `ErrSupportedAddressTypesParamInvalidLength`.
 #[derive(Debug, Drop, PartialEq, Eq)]
 pub struct ParamSupportedAddressTypes {
     pub address_types: Vec<ParamType>,

@@ -11,9 +11,9 @@ use std::fmt;
 pub enum ParamType {
     /// Heartbeat Info (RFC 4960 3.3.5)
     HeartbeatInfo,
-    /// IPv4 IP (RFC 4960 3.3.2.1)
+    /// IPv4 Address, printed as `IPv4 IP` (RFC 4960 3.3.2.1)
     Ipv4Addr,
-    /// IPv6 IP (RFC 4960 3.3.2.1)
+    /// IPv6 Address, printed as `IPv6 IP` (RFC 4960 3.3.2.1)
     Ipv6Addr,
     /// State Cookie (RFC 4960 3.3.3.1)
     StateCookie,
@@ -21,9 +21,9 @@ pub enum ParamType {
     UnrecognizedParam,
     /// Cookie Preservative (RFC 4960 3.3.2.1)
     CookiePreservative,
-    /// Host Name IP (RFC 4960 3.3.2.1)
+    /// Host Name Address, printed as `Host Name IP` (RFC 4960 3.3.2.1)
     HostNameAddr,
-    /// Supported IP Types (RFC 4960 3.3.2.1)
+    /// Supported Address Types, printed as `Supported IP Types` (RFC 4960 3.3.2.1)
     SupportedAddrTypes,
     /// Outgoing SSN Reset Request Parameter (RFC 6525 4.1)
     OutSsnResetReq,
@@ -49,19 +49,19 @@ pub enum ParamType {
     SupportedExt,
     /// Forward TSN supported (RFC 3758 3.1)
     ForwardTsnSupp,
-    /// Add IP IP (RFC 5061 4.2.1)
+    /// Add IP Address, printed as `Add IP IP` (RFC 5061 4.2.1)
     AddIpAddr,
-    /// Delete IP IP (RFC 5061 4.2.2)
+    /// Delete IP Address, printed as `Delete IP IP` (RFC 5061 4.2.2)
     DelIpaddr,
     /// Error Cause Indication (RFC 5061 4.2.3)
     ErrClauseInd,
-    /// Set Primary IP (RFC 5061 4.2.4)
+    /// Set Primary IP Address, printed as `Set Primary IP` (RFC 5061 4.2.4)
     SetPriAddr,
     /// Success Indication (RFC 5061 4.2.5)
     SuccessInd,
     /// Adaptation Layer Indication (RFC 5061 4.2.6)
     AdaptLayerInd,
-    /// A number that has no name here.
+    /// A number that has no name here; as the type of a `ParamUnknown`, any number.
     Unknown { param_type: u16 },
 }
 

@@ -44,8 +44,8 @@ pub trait BytesSource {
     // the bytes that are left
     ghost left: { Self → List ℕ };
 
-    /// The next piece, of at most `limit` bytes, and how many whole chunks of the source it used up, empty
-    /// ones that were skipped included. It is empty exactly where the limit is 0 or nothing is left.
+    /// The next piece, of at most `limit` bytes, and a count of the chunks of the source that it used up, of which the trait
+    /// promises nothing: each source says what it counts. The piece is empty exactly where the limit is 0 or nothing is left.
     /// Refuses only for memory, and what is left is the same then.
     fn pop_chunk(&mut self, alloc: Global, limit: usize) -> Result<(Bytes, usize)>
         ensures joins { IfOk result (λ p. p.0 ++ left self.new ≡ left self.old) }
@@ -110,8 +110,8 @@ impl<'a> BytesSource for ByteSlice<'a> {
     }
 }
 
-/// A source over buffers that are there. What is handed out leaves them: a whole buffer becomes
-/// empty, and one that is cut keeps its rest.
+/// A source over buffers that are there. It counts whole buffers, empty ones that were skipped included. What is handed out is no
+/// longer among the bytes that are left; what a used-up buffer then holds is not promised.
 #[derive(Drop)]
 pub struct BytesArray<'a> {
     chunks: &'a mut [Bytes],

@@ -12,8 +12,9 @@ use sctp_base::util::{CT_ABORT, ChunkType};
 use std::alloc::Global;
 use std::fmt;
 
-/// The association is closed at once, for these causes (RFC 4960 3.3.7, type 6). The value is the causes, with no
-/// padding between them; up to three bytes behind the last are ignored. The flags, and so the T bit, are not kept.
+/// The association is closed at once, for these causes (RFC 4960 3.3.7, type 6). The value is the causes, read and written with
+/// no padding between them, though RFC 4960 3.3.10 pads each to a multiple of four (`dissect_causes` of `sctp_dissect` reads so);
+/// up to three bytes behind the last are ignored. The flags, and so the T bit, are not kept.
 /// Refuses another type with `ErrChunkTypeNotAbort`, a cause with `ErrErrorCauseTooSmall`.
 #[derive(Debug, Drop)]
 pub struct ChunkAbort {

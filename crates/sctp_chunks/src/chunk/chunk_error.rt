@@ -12,8 +12,9 @@ use sctp_base::util::{CT_ERROR, ChunkType};
 use std::alloc::Global;
 use std::fmt;
 
-/// The peer made these errors, which alone do not end the association (RFC 4960 3.3.10, type 9). The
-/// value is the causes, with no padding between them; up to three bytes behind the last are ignored.
+/// The peer made these errors, which alone do not end the association (RFC 4960 3.3.10, type 9). The value is the
+/// causes, read and written with no padding between them, though RFC 4960 3.3.10 pads each to a multiple of four
+/// (`dissect_causes` of `sctp_dissect` reads so); up to three bytes behind the last are ignored.
 /// Refuses another type with `ErrChunkTypeNotCt`, a cause with `ErrErrorCauseTooSmall`.
 #[derive(Debug, Drop)]
 pub struct ChunkError {

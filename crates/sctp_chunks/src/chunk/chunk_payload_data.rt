@@ -180,7 +180,8 @@ impl fmt::Display for PayloadProtocolIdentifier {
     }
 }
 
-/// 1 is `Rexmit`, 2 is `Timed`, any other number `Reliable`.
+/// The channel type of a DATA_CHANNEL_OPEN without its highest bit, which says unordered (RFC 8832 5.1): 1 is `Rexmit`,
+/// 2 is `Timed`, any other number `Reliable`, and so 0x81 and 0x82: take that bit off before.
 impl From<u8> for ReliabilityType {
     ghost from_gives = { λ n r. r ≡ reliability_from n };
 

@@ -22,12 +22,12 @@ use sctp_base::util::{CT_RECONFIG, ChunkType};
 use std::alloc::Global;
 use std::fmt;
 
-/// Asks for streams to be reset or added, or answers such a request (RFC 6525 3.1,
-/// type 130). The value is one parameter, and a second where bytes are left behind
-/// the first and its padding; bytes behind the second are ignored.
+/// Asks for outgoing streams to be reset, or answers a request (RFC 6525 3.1, type 130). The value is one parameter, and
+/// a second where bytes are left behind the first and its padding; bytes behind the second are ignored.
 /// Refuses another type with `ErrChunkTypeNotReconfig`, a value of under four bytes with `ErrChunkTooShort`, and a
-/// parameter as `build_param` does. It is written only with a first parameter: else `ErrChunkReconfigInvalidParamA`.
-/// `check` also asks that the two types may stand together: else `ErrChunkReconfigInvalidParamCombination`.
+/// parameter as `build_param` does: the other requests of RFC 6525, types 14, 15, 17 and 18, with `ErrParamTypeUnhandled`.
+/// It is written only with a first parameter: else `ErrChunkReconfigInvalidParamA`. `check` also asks that the two types
+/// may stand together: else `ErrChunkReconfigInvalidParamCombination`.
 #[derive(Debug, Drop)]
 pub struct ChunkReconfig {
     /// The first parameter, which a chunk that was read has.
@@ -60,7 +60,7 @@ fn clone_param(param: &Option<ParamKind>, alloc: Global) -> Result<Option<ParamK
 }
 
 impl ChunkReconfig {
-    /// An equal chunk, which shares its bytes. Refuses only for memory.
+    /// An equal chunk: a `Bytes` is shared, a list is copied. Refuses only for memory.
     pub fn try_clone(&self, alloc: Global) -> Result<Self>
         ensures ok { IfOk result (λ c. reconfig_of c ≡ reconfig_of self.now) }
         ensures memory { IsOkUnless result ErrOutOfMemory }
@@ -72,9 +72,9 @@ impl ChunkReconfig {
     }
 }
 
-/// Whether parameters of these types may stand together (RFC 6525 3.1): the requests
-/// to reset outgoing and incoming streams, those to add outgoing and incoming ones,
-/// a response and a request to reset outgoing ones, and two responses.
+/// Whether parameters of these types may stand together, in this order (RFC 6525 3.1): the requests to reset outgoing
+/// and incoming streams, those to add outgoing and incoming ones, a response and a request to reset outgoing ones, and
+/// two responses. No `ParamKind` has the type of a request to reset incoming streams or to add any.
 fn may_stand_together(a: ParamType, b: ParamType) -> bool
     ensures { IsTrue result ↔ MayStandTogether a b }
 {

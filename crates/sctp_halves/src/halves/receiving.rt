@@ -38,7 +38,7 @@ impl Halves {
     /// Takes DATA chunks one after another, each with the number of its message, and answers whether each came for the first
     /// time. The number of an unordered message that becomes complete is recorded. Refuses only for memory, and all is as it was
     /// then. Of two or more what they may change is copied before; one alone copies nothing.
-    /// Precondition: the receiver refuses none of them.
+    /// Precondition: the receiver refuses none of them, the stream of each is open, though its TSN came before, and each has a number.
     pub fn data_each(
         &mut self,
         chunks: &[ChunkPayloadData],

@@ -134,7 +134,8 @@ impl Halves {
     }
 
     /// Takes a SACK (RFC 4960 6.2.1). Refuses only for memory, and all is as it was then.
-    /// Precondition: it reports only what was given out.
+    /// Precondition: the sender does not refuse it: it is out of date, or its cumulative TSN was given out, and each gap ack block
+    /// that is not empty begins at 1 or more and ends at the last TSN in flight at most.
     pub fn acked(&mut self, sack: &ChunkSelectiveAck) -> Result<()>
         requires { sack_refusal (sack_of sack.now) self.old.flight ≡ None }
         ensures ok { OnOk result (self.new ≡ sack_taken (sack_of sack.now) self.old) }

@@ -110,16 +110,16 @@ the_next_would_not_fit = refl
 abbrev wants : List Event → List Event → List Bool
 wants before events = map (may_want_memory (record_of (setup_of 0) (told (setup_of 0) before []))) events
 
--- nothing is pending, nothing is past its deadline, and a message wholly sent is abandoned
+-- nothing is pending, nothing is past its deadline, a message wholly sent is abandoned, and there is no second datagram
 idle_wants_none :
     wants (E.Open 1 ∷ E.Write 1 P.Binary (97 ∷ []) ∷ E.Send 0 ∷ [])
-    (E.Send 0 ∷ E.Tail 0 ∷ E.Late 0 ∷ E.Abandon 10 ∷ E.Write 1 P.Binary [] ∷ E.Expire 0 ∷ E.Start 0 ∷ E.Read 1 ∷ [])
-    ≡ false ∷ false ∷ false ∷ false ∷ false ∷ false ∷ false ∷ false ∷ []
+    (E.Send 0 ∷ E.Tail 0 ∷ E.Late 0 ∷ E.Abandon 10 ∷ E.Write 1 P.Binary [] ∷ E.Expire 0 ∷ E.Start 0 ∷ E.Read 1 ∷ E.Arrive 1 ∷ [])
+    ≡ false ∷ false ∷ false ∷ false ∷ false ∷ false ∷ false ∷ false ∷ false ∷ []
 idle_wants_none = refl
 
--- a fragment is pending, two slots and the tail are past their deadlines, and a partially sent message is abandoned
+-- a fragment is pending, two slots and the tail are past their deadlines, a partially sent message is abandoned, and a datagram comes
 what_grows_wants :
     wants (E.Open 1 ∷ E.Mode 1 false T.Timed 0 ∷ E.Write 1 P.Binary (97 ∷ 98 ∷ 99 ∷ 100 ∷ []) ∷ E.Send 0 ∷ [])
-    (E.Send 0 ∷ E.Tail 0 ∷ E.Late 0 ∷ E.Abandon 10 ∷ E.Write 1 P.Binary (97 ∷ []) ∷ E.Abandon 11 ∷ E.Write 2 P.Binary (97 ∷ []) ∷ [])
-    ≡ true ∷ true ∷ true ∷ true ∷ true ∷ false ∷ false ∷ []
+    (E.Send 0 ∷ E.Tail 0 ∷ E.Late 0 ∷ E.Abandon 10 ∷ E.Write 1 P.Binary (97 ∷ []) ∷ E.Abandon 11 ∷ E.Write 2 P.Binary (97 ∷ []) ∷ E.Arrive 0 ∷ [])
+    ≡ true ∷ true ∷ true ∷ true ∷ true ∷ false ∷ false ∷ true ∷ []
 what_grows_wants = refl

@@ -1,11 +1,11 @@
 //! What a receiver answers.
 
-/// Whether the TSN of a DATA chunk came for the first time.
+/// Whether the TSN of a DATA chunk is new.
 #[derive(Clone, Copy, Debug, PartialEq, Eq)]
 pub enum Arrival {
-    /// It came for the first time.
+    /// It is past the cumulative TSN, and did not come before.
     New,
-    /// It came before.
+    /// It came before, or is at or before the cumulative TSN, to which a FORWARD-TSN may have moved it.
     Repeat,
 }
 

@@ -12,10 +12,9 @@ use sctp_chunks::chunk::chunk_payload_data::ChunkPayloadData;
 use sctp_stream::stream_numbers::put;
 
 impl Receiver {
-    /// Takes DATA chunks one after another, each as `data` takes it, and answers what each was. The
-    /// first one that is refused refuses them all: the receiver is as it was before the first.
-    ///
-    /// Of two or more the receiver is saved before; for one alone nothing is copied.
+    /// Takes DATA chunks one after another, each as `data` takes it, and answers what each was. The first one that is refused refuses
+    /// them all, with its refusal; `OutOfMemory` may come in the place of any other, since room for the answers, and a copy of what
+    /// is kept, is taken before. The receiver is as it was before the first chunk. Of one chunk alone no copy is made.
     pub fn data_each(
         &mut self,
         chunks: &[ChunkPayloadData],

@@ -167,7 +167,7 @@ impl TsnFilter {
         self.cumulative_tsn = advance(&mut self.queue, tsn);
     }
 
-    /// The runs of TSNs beyond the cumulative one (RFC 4960 3.3.4). Refuses only for memory.
+    /// The runs of TSNs beyond the cumulative one, of those at most 65,535 past it (RFC 4960 3.3.4). Refuses only for memory.
     pub fn gap_ack_blocks(&self, alloc: Global) -> Result<Vec<GapAckBlock>>
         ensures blocks { IfOk result (λ blocks. blocks.items ≡ gap_ack_blocks self.now) }
         ensures memory { IsOkUnless result ErrOutOfMemory }

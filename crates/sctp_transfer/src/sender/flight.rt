@@ -280,7 +280,7 @@ impl InFlight {
     /// refusals, in the order in which they are looked for:
     ///
     /// - `InflightQueueTsnPop`, where its cumulative TSN was not given out;
-    /// - `TsnRequestNotExist`, where a gap ack block reports a TSN that is not in flight;
+    /// - `TsnRequestNotExist`, where a gap ack block that is not empty begins at 0, or ends past the last TSN in flight;
     /// - `OutOfMemory`, and not where it is out of date.
     ///
     /// All is as it was then.

@@ -15,11 +15,12 @@ pub enum SenderRefusal {
     QueueFull,
     /// No further TSN can be given out before some are acknowledged: 2^31 - 1 are in flight.
     TsnsUsedUp,
-    /// The TSN is not in flight.
+    /// The TSN is not in flight; or, where it is to be sent again, its chunk is acknowledged or abandoned.
     NotInFlight,
     /// A SACK reports a cumulative TSN that was not given out: `ErrInflightQueueTsnPop` of the Rust crate's association.
     InflightQueueTsnPop,
-    /// A gap ack block of a SACK reports a TSN that is not in flight: `ErrTsnRequestNotExist` of the Rust crate's association.
+    /// A gap ack block of a SACK that is not empty begins at 0, or ends past the last TSN in flight: `ErrTsnRequestNotExist` of the Rust
+    /// crate's association.
     TsnRequestNotExist,
     /// Memory ran out.
     OutOfMemory,

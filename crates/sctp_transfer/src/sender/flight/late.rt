@@ -110,8 +110,8 @@ impl InFlight {
         None
     }
 
-    /// Whether some of the message of a TSN in flight, which is not abandoned, still waits, so that abandoning it needs an end
-    /// mark under a further TSN; false where the TSN is not in flight.
+    /// Whether some of the message of a TSN in flight, which is not abandoned, still waits, so that abandoning it needs a terminal
+    /// chunk under a further TSN; false where the TSN is not in flight.
     pub fn has_tail_at(&self, tsn: u32) -> bool
         ensures { result ≡ has_tail_at self.now tsn }
     {

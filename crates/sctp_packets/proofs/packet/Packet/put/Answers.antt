@@ -51,3 +51,8 @@ returns-in_err-put_chunks-clause-refused g c =
           let short = rw c.deref.ensures.value at memory.1 in
           inr (memory.0, (short.0, short.1, omega (arith, short.2, c.in_ok-put_head.ensures.spare)))
     ])
+
+pub returns-clause-spare : goal.returns-clause-spare
+returns-clause-spare g c =
+    let body = rw c.deref.ensures.value at c.in_ok-put_chunks.ensures.spare in
+    omega (arith, c.in_ok-put_head.ensures.spare, body, c.store_checksum.ensures.spare)
