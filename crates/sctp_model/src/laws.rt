@@ -19,7 +19,8 @@ pub fn datagrams_keep_the_limit()
     ensures filled { OnEveryRun FilledToLimit }
 {}
 
-/// The slots of a message have its fragments in order, side by side; the messages of a stream are sent in turn; one that is abandoned while partially sent takes one terminal chunk, which no datagram carries; what a datagram says never changes.
+/// The slots of a message have its fragments in order, side by side; the messages of a stream are sent in turn; one that is
+/// abandoned while partially sent takes one terminal chunk, which no datagram carries; what a datagram says never changes.
 pub fn slots_are_valid()
     ensures in_order { OnEveryRun SlotsInOrder }
     ensures follow { OnEveryRun SlotsFollow }
@@ -30,13 +31,15 @@ pub fn slots_are_valid()
     ensures stay { OnEveryRun DatagramsStay }
 {}
 
-/// Each written byte is pending, in flight or released, in all and on each stream; what was written is the sum over the writes, what was released the sum over the replies that tell of a release.
+/// Each written byte is pending, in flight or released, in all and on each stream; what was written is the sum over the writes,
+/// what was released the sum over the replies that tell of a release.
 pub fn bytes_balance()
     ensures balance { OnEveryRun Balances }
     ensures sums { OnEveryRun SumsAgree }
 {}
 
-/// What a taken SACK acknowledges arrived new or was skipped, the record has just what the taken SACKs report, and each SACK says what the order of arrivals gives.
+/// What a taken SACK acknowledges arrived new or was skipped, the record has just what the taken SACKs report, and each SACK
+/// says what the order of arrivals gives.
 pub fn only_arrived_is_acknowledged()
     ensures arrived { OnEveryRun AcknowledgedArrived }
     ensures reported { OnEveryRun AcknowledgedIsReported }
@@ -112,7 +115,8 @@ pub fn counters_count()
     ensures sums { OnEveryRun CountersAreSums }
 {}
 
-/// The record of every history is what a receiver's queues need: fragments side by side, indexes near one another, nothing new below what was skipped; so is each state between the slots of a datagram.
+/// The record of every history is what a receiver's queues need: fragments side by side, indexes near one another, nothing new
+/// below what was skipped; so is each state between the slots of a datagram.
 pub fn records_are_valid()
     ensures valid { OnEveryRun RecordIsValid }
     ensures slots { OnEveryRun SlotsComeValid }

@@ -121,9 +121,10 @@ impl OutboundQueue {
         Ok(())
     }
 
-    /// Starts the lifetimes of the messages pushed since the last time: their deadlines are `now`
-    /// plus the milliseconds of their reliability, in nanoseconds. No message is started twice, and
-    /// so none starts later than the first call or `send_next` after its push. It takes no memory.
+    /// Starts the lifetimes of the timed messages pushed since the last time: a chunk that has no deadline gets `now` plus the
+    /// milliseconds of its reliability, in nanoseconds, or none where that passes the greatest u64. Messages that establish a channel
+    /// never get one (RFC 8832 6). No message is started twice, nor later than at the first call of this or of `send_next` after its
+    /// push, if that is not refused. It takes no memory.
     pub fn start_timed_messages(&mut self, now: u64)
         ensures { self.new ≡ all_started now self.old }
     {
@@ -145,7 +146,7 @@ impl OutboundQueue {
         self.pending.peek()
     }
 
-    /// The chunk that a peek would give after so many sends, its deadline not yet started. None where fewer wait.
+    /// The chunk that a peek would give after so many sends, its deadline not yet started. None where no more chunks than that wait.
     pub fn peek_pending_at(&self, sends: usize) -> Option<&ChunkPayloadData>
         ensures { option_copied result ≡ pending.next_pending (after_sends sends self.now.pending) }
     {
@@ -314,7 +315,7 @@ impl OutboundQueue {
 
     /// Removes the message in front, where it is past its deadline and wholly unsent, without a TSN: a
     /// FORWARD-TSN need not pass it. The later numbers of its stream close up where it is ordered;
-    /// the caller lowers the stream's next number by one. Answers its stream, whether it is
+    /// the caller then lowers the stream's next number by one, for an ordered message alone. Answers its stream, whether it is
     /// unordered, and its bytes. `now` is in nanoseconds; a message is past its deadline from its deadline
     /// on, and an empty fragment and one that establishes a channel never are. It takes no memory.
     pub fn expire_pending(&mut self, now: u64) -> Option<(u16, bool, usize)>
@@ -397,9 +398,9 @@ impl OutboundQueue {
         Ok(Some((stream_identifier, message_id, bytes)))
     }
 
-    /// The TSNs of chunks in flight past their deadlines that are not abandoned, and not acknowledged or of a message with an
-    /// unsent tail, in serial order. A message that was acknowledged whole is not named. They are listed before any
-    /// of them is abandoned, so that what is abandoned does not hang on how much may be sent. `now` is in nanoseconds.
+    /// The TSNs of chunks in flight past their deadlines that are not abandoned, and are either not acknowledged or of a
+    /// message with an unsent tail, in serial order. A message that was acknowledged whole is not named. They are listed before
+    /// any of them is abandoned, so that what is abandoned does not hang on how much may be sent. `now` is in nanoseconds.
     /// Refuses only for memory, and not where there are none.
     pub fn expired_inflight(&self, alloc: Global, now: u64) -> Result<Vec<u32>>
         ensures ok { IfOk result (λ tsns. tsns.items ≡ late_tsns now self.now) }
@@ -560,7 +561,8 @@ impl OutboundQueue {
         self.inflight.get_num_bytes()
     }
 
-    /// From here on so many pushes of ordered and of unordered fragments take no memory.
+    /// From here on messages of `ordered` ordered and `unordered` unordered fragments in all can be pushed without memory: the
+    /// room counts fragments, and a push takes as much as its message has.
     /// Refuses only for memory, and the queue is as it was then.
     pub fn reserve(&mut self, ordered: usize, unordered: usize) -> Result<()>
         ensures ok { OnOk result (self.new

@@ -279,7 +279,7 @@ impl PayloadQueue {
     }
 
     /// Whether TSNs let `push` be called with a chunk of this TSN: it is not new, or it and all that is held lie at distance 1 to 2^31
-    /// after `cumulative_tsn`. Two chunks are looked at, and the TSN is searched for only where one of those lies elsewhere.
+    /// after `cumulative_tsn`.
     pub fn fits(&self, cumulative_tsn: u32, tsn: u32) -> bool
         ensures yes { result ≡ true → IsTrue (is_new self.now.chunks tsn cumulative_tsn)
             → IsWindow cumulative_tsn self.now.chunks tsn }
@@ -293,7 +293,7 @@ impl PayloadQueue {
     }
 
     /// Whether TSNs let `push_no_check` be called with a chunk of this TSN: it is not held, and there is a number after which it and all
-    /// that is held lie at distance 1 to 2^31. The TSN is searched for only where it does not come after the last.
+    /// that is held lie at distance 1 to 2^31.
     pub fn can_push_no_check(&self, tsn: u32) -> bool
         ensures fresh { result ≡ true → is_held self.now.chunks tsn ≡ false }
         ensures window { result ≡ true → SpansOneWindow self.now.chunks tsn }

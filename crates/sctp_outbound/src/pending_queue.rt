@@ -220,8 +220,8 @@ impl PendingQueue {
         }
     }
 
-    /// Lowers the stream sequence numbers of a stream's ordered chunks by one: so
-    /// the gap closes that a wholly unsent message left. It takes no memory.
+    /// Lowers by one the stream sequence number of every ordered chunk of the stream that waits; 0 becomes 65,535. So the gap closes
+    /// that a message removed wholly unsent left, where each of them was pushed after it. It takes no memory.
     pub fn compact_ordered_ssns(&mut self, stream_identifier: u16)
         ensures { self.new ≡ closed_up stream_identifier self.old }
     {

@@ -177,8 +177,9 @@ impl ReassemblyQueue {
     /// A chunk of another stream, an ordered one before the next number and one whose
     /// TSN is in its set are not kept. Repeats of unordered ones are kept: the filter
     /// of TSNs keeps them away. The byte count grows up to the greatest usize.
-    /// Refuses with `ErrInboundPacketTooLarge`, exactly where its message would be
-    /// longer than `max_message_size`, or for memory. The queue is as it was then.
+    /// Refuses with `ErrInboundPacketTooLarge`, exactly where the bytes held of its message and its own are together
+    /// more than `max_message_size` (`is_too_large`), also where the chunk would not be kept: so a repeat of an ordered
+    /// fragment counts a second time. Else it refuses only for memory. The queue is as it was then.
     pub fn push(&mut self, chunk: ChunkPayloadData) -> Result<bool>
         ensures other_stream { (chunk.stream_identifier == self.old.si) ≡ false
             → (result ≡ Ok false) × (self.new ≡ self.old) }
@@ -208,8 +209,9 @@ impl ReassemblyQueue {
         }
     }
 
-    /// Whether `push` refuses a chunk with `ErrInboundPacketTooLarge`: it is of this stream, and its message would be longer
-    /// with it than `max_message_size`. It takes no memory.
+    /// Whether `push` refuses a chunk with `ErrInboundPacketTooLarge`: it is of this stream, and its bytes and those held of
+    /// its message are together more than `max_message_size`. A chunk that `push` would not keep counts as well, so that a
+    /// repeat of an ordered fragment counts twice. It takes no memory.
     pub fn is_too_large(&self, chunk: &ChunkPayloadData) -> bool
         ensures { result ≡ is_too_large chunk.now self.now }
     {
@@ -384,8 +386,8 @@ impl ReassemblyQueue {
         Some(set)
     }
 
-    /// Discards the incomplete sets at or before the number, and waits for none of
-    /// them (RFC 3758 3.6). Whole ones stay and can be read. It takes no memory.
+    /// Discards the incomplete sets at or before `last_ssn`, and moves the next number past it, where it was not past it yet: no
+    /// message up to `last_ssn` is waited for, though nothing came of it (RFC 3758 3.6). Whole sets stay. It takes no memory.
     pub fn forward_tsn_for_ordered(&mut self, last_ssn: u16)
         ensures value { self.new ≡ after_ordered_skip last_ssn self.old }
         ensures counted { IsCounted self.old → IsCounted self.new }
@@ -396,9 +398,11 @@ impl ReassemblyQueue {
         self.release(gone);
     }
 
-    /// Discards the incomplete sets at or before the number that miss a TSN at or before the given one, and waits
-    /// for none of them, but stops before the first set that it leaves alone. So a FORWARD-TSN that was kept over
-    /// a reset of the stream does not reach into messages whose TSNs lie behind its own. It takes no memory.
+    /// Discards every incomplete set at or before `last_ssn` that is seen to miss a TSN at or before `new_cumulative_tsn`: the
+    /// one before its first fragment, one between two, or the one behind its last. The next number moves forward past `last_ssn`,
+    /// or only to the first set at or before it that is incomplete and stays, or is whole with a TSN after `new_cumulative_tsn`:
+    /// a set discarded behind that one is still waited for. So a FORWARD-TSN that was kept over a reset of the stream does not
+    /// reach into messages whose TSNs come after its own (RFC 3758 3.6). It takes no memory.
     pub fn forward_tsn_for_ordered_bounded(&mut self, last_ssn: u16, new_cumulative_tsn: u32)
         ensures value { self.new ≡ after_bounded_skip last_ssn new_cumulative_tsn self.old }
         ensures counted { IsCounted self.old → IsCounted self.new }
@@ -410,9 +414,10 @@ impl ReassemblyQueue {
         self.release(gone);
     }
 
-    /// The greatest number, at most `last_ssn`, up to which a bounded skip may go now, if any:
-    /// as far as the TSNs that came show that it overtakes no message that is still to come.
-    /// `peer_last_tsn` is the TSN up to which all came from the peer. It takes no memory.
+    /// The greatest number, at most `last_ssn`, that `forward_tsn_for_ordered_bounded` may be called with now, for this
+    /// `new_cumulative_tsn`; `last_ssn` where the next number is past it. None where the skip has to wait: then the TSNs that came do
+    /// not show that it overtakes no message that is still to come. `peer_last_tsn` is the cumulative TSN of what came from the peer.
+    /// It takes no memory.
     pub fn applicable_forward_tsn_for_ordered_bounded(
         &self,
         last_ssn: u16,

@@ -44,7 +44,7 @@ pub record IsHeldAt (chunks : List ChunkPayloadData) (tsn place : ℕ)
   pub value : slice_index_or chunks place chunk ≡ chunk
   pub number : chunk.tsn ≡ tsn
 
--- a chunk with the TSN would go to this place
+-- a chunk with the TSN would go to this place, where all lie in one window; else the place is only in range
 pub record IsPlaceFor (chunks : List ChunkPayloadData) (tsn place : ℕ) : Type 0 where
   pub in_range : place ≤ length chunks
   pub before : SpansOneWindow chunks tsn → (k : ℕ) (d : ChunkPayloadData) → k < place

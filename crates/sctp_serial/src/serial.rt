@@ -11,7 +11,7 @@ pub struct Insertion {
     pub ascending: bool,
 }
 
-/// How far a number lies after another.
+/// How far `to` lies after `from`, modulo 2^32 (RFC 1982 3.2).
 #[tactic(auto, unfolding(sctp_list_lemmas::specs::Serial::distance))]
 pub fn distance(from: u32, to: u32) -> u32
     ensures value { result ≡ distance from to }

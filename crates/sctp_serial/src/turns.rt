@@ -15,7 +15,7 @@ enum Seen {
 
 /// How many turns were taken: a whole number in contracts, and no bytes at run time.
 ///
-/// Only `tick` raises it. A turn is one pass of a loop in which at most one held chunk is looked at.
+/// Only `tick` raises it. A turn is one look at a held chunk; insertions, removals and the TSN of the first chunk take none.
 #[derive(Drop)]
 pub struct Turns {
     seen: Snapshot<Seen>,

@@ -243,8 +243,8 @@ impl StreamState {
         Ok((high, chunks))
     }
 
-    /// Notes a write of so many bytes whose fragments were taken apart by `fragments`: an ordered one of some takes the
-    /// sequence number. Answers whether the buffered amount reaches the high threshold now. It takes no memory.
+    /// Notes a write of so many bytes, whose fragments `fragments` gave: an ordered one of at least one byte takes the sequence
+    /// number. Answers whether the buffered amount rose from under to at least the high threshold. It takes no memory.
     pub fn record_write(&mut self, ppi: PayloadProtocolIdentifier, len: usize) -> bool
         ensures high { result ≡ rises_high self.old len }
         ensures rest { (bytes : List ℕ)
@@ -389,7 +389,8 @@ impl StreamState {
         self.default_payload_type = default_payload_type;
     }
 
-    /// How many bytes of writes wait or are in flight.
+    /// The count of bytes that writes raised and releases lowered: those that wait or are in flight, where the caller releases each
+    /// byte once. It stops at 0 and at the greatest usize.
     pub fn buffered_amount(&self) -> usize
         ensures { result ≡ self.now.buffered_amount }
     {
@@ -563,8 +564,9 @@ impl StreamState {
 
     /// Takes a DATA chunk for reassembly, and says whether a message became whole
     /// by it. The queue changes as by its `push`, and nothing else.
-    /// Refuses with `ErrInboundPacketTooLarge`, where the message would be longer
-    /// than the queue takes, or for memory. The stream is as it was then.
+    /// Refuses with `ErrInboundPacketTooLarge`, only where the bytes held of the message and the chunk's are together more than
+    /// the queue takes, or for memory, which can come in the place of that. The stream is as it was then. Whether the direction of
+    /// reads is open is not looked at.
     pub fn handle_data(&mut self, pd: &ChunkPayloadData) -> Result<bool>
         ensures other_stream { (pd.now.stream_identifier == self.old.reassembly_queue.si) ≡ false
             → IfOk result (λ whole. (whole ≡ false) × (self.new ≡ self.old)) }

@@ -10,7 +10,7 @@ use std::alloc::Global;
 use std::collections::BTreeMap;
 use std::marker::Model;
 
-/// The numbers of the open streams, in the order in which they were opened. The place of each is found at once.
+/// The numbers of the open streams, in the order in which they were opened. The place of each is found without a walk over them.
 #[derive(Drop)]
 pub struct StreamNumbers {
     numbers: Vec<u16>,

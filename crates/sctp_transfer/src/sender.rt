@@ -146,9 +146,10 @@ impl Sender {
         self.flight.start(now);
     }
 
-    /// Takes a write: its fragments wait, each with the mode of the stream, but a DCEP message is ordered in any mode (RFC 8832 6).
-    /// Answers the number of its message and how many fragments it has; a write of no bytes has none, and changes nothing. The refusals, in the order in which they are
-    /// looked for: `StreamUnknown`, `MessageTooLarge`, `QueueFull`, `OutOfMemory`. The sender is as it was then.
+    /// Takes a write: its fragments wait, each with the mode of the stream, but a DCEP message is ordered in any mode (RFC 8832
+    /// 6). Answers the number of its message and how many fragments it has; a write of no bytes has none, and changes nothing.
+    /// The refusals, in the order in which they are looked for: `StreamUnknown`, `MessageTooLarge`, `QueueFull`, `OutOfMemory`.
+    /// The sender is as it was then.
     pub fn write(
         &mut self,
         stream: u16,
@@ -349,9 +350,10 @@ impl Sender {
         Some((stream, bytes))
     }
 
-    /// Abandons the rest of the partially sent message in front, where it is past its deadline, and answers its stream, its number and the bytes
-    /// that left. `now` is in nanoseconds. Refuses, only where there is such a message, with `TsnsUsedUp`, where 2^31 - 1 chunks
-    /// are in flight, and for memory, though not within the room of `reserve`. The sender is as it was then.
+    /// Abandons the rest of the partially sent message in front, where it is past its deadline, and answers its stream, its
+    /// number and the bytes that left. `now` is in nanoseconds. Refuses, only where there is such a message, with `TsnsUsedUp`,
+    /// where 2^31 - 1 chunks are in flight, and for memory, though not within the room of `reserve`. The sender is as it was
+    /// then.
     pub fn expire_tail(&mut self, now: u64) -> Result<Option<(u16, u64, usize)>, SenderRefusal>
         ensures some { IfOk result (λ r. IfSome r (λ a. self.new ≡ after_abandon
             (message_of (expiring_tail now self.old.flight.queue)) a.0 a.2 self.old)) }

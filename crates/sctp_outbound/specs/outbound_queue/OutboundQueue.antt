@@ -167,13 +167,13 @@ has_tail (Some message) q = waits message q.pending
 
 -- ## Expiry
 
--- a message past its deadline, wholly unsent
+-- a first fragment past its deadline, with bytes, of no DCEP message: in front of what waits, its message is wholly unsent
 abbrev pub is_expired : ℕ → ChunkPayloadData → Bool
 is_expired now c =
     c.beginning_fragment && (not (length c.user_data == 0)
     && (not (is_dcep c.payload_type) && is_past now c.deadline))
 
--- the rest of a message past its deadline
+-- a later fragment past its deadline, of no DCEP message
 abbrev pub is_expired_tail : ℕ → ChunkPayloadData → Bool
 is_expired_tail now c =
     not c.beginning_fragment && (not (is_dcep c.payload_type) && is_past now c.deadline)
@@ -204,7 +204,7 @@ abbrev pub message_of : Option ChunkPayloadData → Option ℕ
 message_of None = None
 message_of (Some c) = Some c.message_id
 
--- a chunk in flight past its deadline that is not abandoned, and not acknowledged or of a message with a tail
+-- a chunk in flight past its deadline that is not abandoned, and either is not acknowledged or is of a message with a tail
 abbrev pub is_late : ℕ → pending.Pending → ChunkPayloadData → Bool
 is_late now q c =
     not c.abandoned && (is_past now c.deadline && (not c.acked || waits c.message_id q))

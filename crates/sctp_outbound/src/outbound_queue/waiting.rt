@@ -14,7 +14,8 @@ impl OutboundQueue {
         self.pending.contains_message(message_id)
     }
 
-    /// Whether the message in front is partially sent and past its deadline, so that `expire_pending_tail` abandons its rest. `now` is in nanoseconds.
+    /// Whether the message in front is partially sent and past its deadline, so that `expire_pending_tail` abandons its rest.
+    /// `now` is in nanoseconds.
     pub fn is_tail_expired(&self, now: u64) -> bool
         ensures { result ≡ is_some (expiring_tail now self.now) }
     {

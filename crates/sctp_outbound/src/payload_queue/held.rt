@@ -1,4 +1,4 @@
-//! Held chunks, in one deque. A call that looks at one takes a turn.
+//! Held chunks, in one deque. `look` and `mark` take a turn; `front_tsn` and the edits take none.
 
 ghost use Rattle.std.specs.Prelude.{◌≡◌, ◌==◌, ◌+◌, ◌-◌, ◌<◌, ◌≤◌, [], ◌∷◌, length, max, insert, remove, slice_get, slice_index_or, slice_set, OnOk, OnErr, IfSome, IfNone, IsOk, IsOkUnless};
 ghost use Rattle.std.specs.Option.{option_map};

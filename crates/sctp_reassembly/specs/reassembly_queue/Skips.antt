@@ -14,7 +14,7 @@ misses_behind t x [] = not x.ending_fragment && at_or_before (following_tsn x.ts
 misses_behind t x (y ∷ ys) =
     (not (y.tsn == following_tsn x.tsn) && at_or_before (following_tsn x.tsn) t) || misses_behind t y ys
 
--- in a set a TSN at or before t is missing: before the first, between neighbours, or behind the last
+-- in a set a TSN at or before t is seen to be missing: the one before the first, one between neighbours, or the one behind the last
 abbrev pub misses : ℕ → List ChunkPayloadData → Bool
 misses t [] = false
 misses t (x ∷ xs) =
@@ -32,7 +32,7 @@ abbrev pub is_discarded : ℕ → Option ℕ → ChunkSet → Bool
 is_discarded last None set = is_passed last set
 is_discarded last (Some t) set = is_abandoned last t set
 
--- a set at or before the SSN that the skip leaves alone
+-- a set that a bounded skip does not pass: at or before the SSN, and complete with a TSN after t, or incomplete and missing none
 abbrev pub is_unaffected : ℕ → ℕ → ChunkSet → Bool
 is_unaffected last t set =
     at_or_before16 set.ssn last && (if is_complete set.chunks
@@ -49,7 +49,7 @@ earliest_unaffected first last t (set ∷ sets) =
     earliest_unaffected (if is_unaffected last t set then Some (earlier_ssn first set.ssn)
     else first) last t sets
 
--- how far the next SSN may go: to the first set that is left alone, else past the last
+-- how far the next SSN may go: to the first set that is not passed, else past the last
 abbrev pub goal_of : ℕ → ℕ → List ChunkSet → ℕ
 goal_of last t sets = unwrap_or (earliest_unaffected None last t sets) ((last + 1) % 2 ^ 16)
 
@@ -91,10 +91,11 @@ abbrev pub earliest_among : Option ℕ → List ChunkPayloadData → Option ℕ
 earliest_among first [] = first
 earliest_among first (c ∷ cs) = earliest_among (Some (earlier_tsn first c.tsn)) cs
 
--- the first TSN of the sets with the SSN or after it
+-- a set of the SSN, or after it
 abbrev pub is_from : ℕ → ChunkSet → Bool
 is_from last set = has_ssn last set || comes_after16 set.ssn last
 
+-- the first TSN of such sets, and of those before the walk; none without any
 abbrev pub earliest_from : Option ℕ → ℕ → List ChunkSet → Option ℕ
 earliest_from first last [] = first
 earliest_from first last (set ∷ sets) =

@@ -226,8 +226,9 @@ impl Chunks {
         self.set.len() == 0
     }
 
-    /// Puts a fragment before the first that it comes before, unless its TSN is there, and says whether
-    /// the set became complete by it. Refuses only for memory, and the message is as it was then.
+    /// Puts a fragment before the first that it comes before, unless its TSN is there, and says whether the set became
+    /// complete by it. What was taken stays as a count of fragments: one put in front of the next piece moves that piece back.
+    /// Refuses only for memory, and the message is as it was then.
     pub fn push(&mut self, chunk: ChunkPayloadData) -> Result<bool>
         ensures ok { OnOk result (self.new
             ≡ record self.old { set = with_chunk chunk self.old.set }) }
@@ -263,9 +264,9 @@ impl Chunks {
         Ok(n_written)
     }
 
-    /// The next `max_length` bytes of the message, or as many as are left; None once
-    /// every fragment was taken. A message of empty fragments gives one empty piece.
-    /// No more room is asked for than the piece takes, however great `max_length` is.
+    /// The next `max_length` bytes of the message, or as many as are left; None once every fragment was taken. A message of empty
+    /// fragments gives one empty piece. With a `max_length` of 0 a fragment with bytes is never taken: each call gives an empty piece.
+    /// No more room is asked for than the piece takes, however great `max_length` is; no clause says so.
     /// Refuses only for memory, and nothing is taken then.
     pub fn next(&mut self, alloc: Global, max_length: usize) -> Result<Option<Chunk>>
         ensures piece { IfOk result (λ piece. option_map (λ (c : Chunk). c.bytes) piece

@@ -1,4 +1,4 @@
-//! Unassembled fragments: what came of unordered messages that are not whole. What looks at one takes a turn.
+//! Unassembled fragments: what came of unordered messages that are not whole. `look` takes a turn; the edits take none.
 
 ghost use Rattle.std.specs.Prelude.{◌≡◌, ℕ, ◌==◌, ◌+◌, ◌-◌, ◌^◌, ◌<◌, ◌≤◌, ◌&&◌, [], ◌∷◌, length, min, slice_index_or, insert, remove, take, drop, ◌++◌, OnOk, OnErr, IfOk, IfErr, IfSome, IfNone, true, false, IsTrue, not};
 ghost use Rattle.sctp_serial.specs.Runs.{IsEarliestRunAround, HasNoRunAround, IsStretch, IsEarliestRun, HasNoRun};

@@ -44,10 +44,11 @@ impl Sender {
         Ok(abandoned)
     }
 
-    /// The greatest TSN such that the message of it and of each in flight before it is abandoned, or, where that of the first in
-    /// flight is not, the TSN up to which all was acknowledged: RFC 3758 3.5 C2 calls it the Advanced.Peer.Ack.Point. It stops at a chunk that a gap ack block reported and whose message is not abandoned: the peer
-    /// may take back such a report (RFC 4960 6.2.1), and at a skip drops the fragments up to there of an unordered message
-    /// whose other ones are still missing (RFC 3758 3.6).
+    /// The greatest TSN such that the message of it and of each in flight before it is abandoned, or, where that of the first
+    /// in flight is not, the TSN up to which all was acknowledged: RFC 3758 3.5 C2 calls it the Advanced.Peer.Ack.Point. It
+    /// stops at a chunk that a gap ack block reported and whose message is not abandoned: the peer may take back such a report
+    /// (RFC 4960 6.2.1), and at a skip drops the fragments up to there of an unordered message whose other ones are still
+    /// missing (RFC 3758 3.6).
     pub fn advanced_ack_point(&self) -> u32
         ensures { result ≡ advanced_ack_point self.now.flight }
     {

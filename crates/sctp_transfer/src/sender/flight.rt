@@ -202,7 +202,8 @@ impl InFlight {
         Ok(abandoned)
     }
 
-    /// Removes the message in front, where it is past its deadline and wholly unsent, as the queue's `expire_pending` does. It takes no memory.
+    /// Removes the message in front, where it is past its deadline and wholly unsent, as the queue's `expire_pending` does. It
+    /// takes no memory.
     pub fn expire(&mut self, now: u64) -> Option<(u16, bool, usize)>
         ensures answer { option_map {U = ℕ × Bool} (λ a. (a.0, a.1)) result ≡ option_map {U = ℕ
             × Bool} (λ c. (c.stream_identifier, c.unordered)) (expiring now self.old.queue) }
