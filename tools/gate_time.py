@@ -1,0 +1,72 @@
+#!/usr/bin/env python3
+"""Reckons how long `rt ci` takes, from the processor times in docs/GATE.md and from the order in which rt takes the crates.
+
+    python3 tools/gate_time.py [PROCESSORS [MEMORY]]
+
+run at the top of the repository; four processors and 24 GB where nothing is said. It proves nothing: rt's own `in_lanes` is called, and each task
+sleeps for as long as the table says, a minute in a tenth of a second. A crate that stands in crates.txt and has no row is named, and counts as
+nothing: to reckon an addition, write its row first (docs/GATE.md says what a function, a test and a wrong body cost). It prints when all is proved
+and when the last task ends, in minutes, and the crates that ended last.
+"""
+import os
+import re
+import sys
+import time
+
+from wrong_bodies import kit
+
+MINUTE = 0.1
+# how much faster a check from nothing is with so many jobs
+GAIN = {1: 1, 2: 1.45, 3: 1.7, 4: 1.9}
+ROW = re.compile(r"\| `(\w+)` \|[^|]*\|" + r" *([\d.]*) *\|" * 3)
+
+
+def times_of(page):
+    """Returns for each crate of the table the processor minutes of its proof, its tests and its wrong bodies."""
+    with open(page, encoding="utf-8") as it:
+        return {row[1]: [float(minutes or 0) for minutes in row.groups()[1:]] for row in map(ROW.match, it) if row}
+
+
+def tasks_of(rt, crates, times, ended):
+    """Returns the tasks as rt makes them, each of which sleeps for its time and then notes when it ended."""
+    begin, tasks = time.monotonic(), {}
+
+    def run(key, minutes, jobs):
+        time.sleep(minutes * MINUTE / GAIN[min(jobs, 4)])
+        if minutes:
+            ended[key] = (time.monotonic() - begin) / MINUTE
+
+    for crate in crates:
+        lines, needs = crate.count(rb"\n"), rt.need(crate)
+        below = [(it.name, "proof") for it in crate.below()]
+        both = [(crate.name, "proof"), (crate.name, "tests")]
+        parts = [("proof", below, lines), ("tests", below, lines * crate.has_tests()), ("edits", both, lines * bool(rt.edits_of(crate)[0]))]
+        for (part, waits, work), minutes in zip(parts, times.get(crate.name, [0, 0, 0])):
+            key = crate.name, part
+            tasks[key] = waits, work, needs, lambda given, jobs, key=key, minutes=minutes: run(key, minutes, jobs)
+    return tasks
+
+
+def main():
+    processors = int(sys.argv[1]) if len(sys.argv) > 1 else 4
+    memory = float(sys.argv[2]) if len(sys.argv) > 2 else 24
+    sys.argv = ["rt"]
+    rt = kit()
+    rt.processors, rt.free = lambda: processors, lambda: memory * 1e9
+    os.environ.pop("RT_JOBS", None)
+    crates = sorted(rt.rtlib.crates_below(os.getcwd()), key=lambda it: len(it.below()))
+    times, ended = times_of("docs/GATE.md"), {}
+    for name in sorted({it.name for it in crates} - {*times}):
+        print(f"{name}: no row in docs/GATE.md")
+    rt.in_lanes(tasks_of(rt, crates, times, ended))
+    if not any(part != "edits" for _, part in ended):
+        sys.exit("gate_time.py: docs/GATE.md says of no crate how long its proof takes")
+    last = sorted(ended, key=lambda it: -ended[it])
+    print(f"{sum(map(sum, times.values())):.0f} min of processor time")
+    print(f"all proved after {max(ended[it] for it in last if it[1] != 'edits'):.0f} min, the last task ends after {ended[last[0]]:.0f}")
+    print("last: " + ", ".join(f"{name} {part} {ended[name, part]:.0f}" for name, part in last[:8]))
+    return 0
+
+
+if __name__ == "__main__":
+    sys.exit(main())
