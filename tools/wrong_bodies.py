@@ -11,8 +11,8 @@ not, and ends with a count; the exit status is 0 where each was refused. With wo
 them.
 
 With --pack it tries nothing: it writes must-fail/ anew. 0_bodies.edit, which the gate tries, keeps its wrong bodies and takes those of each file
-whose first line begins with "First: "; all others stand in 1_bodies.md, 2_bodies.md, .., in as few as have at most one in each function. A file
-whose first line begins with "Alone: " stays as it is. Each body keeps its texts and its title; the body of a file without titles takes the file's
+whose first line begins with "First: " (a crate of whose wrong bodies the gate tries none has no such file); all others stand in 1_bodies.md,
+2_bodies.md, .., in as few as have at most one in each function. A file whose first line begins with "Alone: " stays as it is. Each body keeps its texts and its title; the body of a file without titles takes the file's
 name as its title, in words.
 """
 import importlib.machinery
@@ -159,9 +159,10 @@ def pack(folder):
     if tried and len(copies_of(folder, tried)) > 1:
         sys.exit(f"{folder}: the gate is to try two wrong bodies of one function")
     files = [[(title, pairs_of[title]) for title, _ in held] for held in packed]
+    first = 0 if tried else 1
     for it in files:
         it.sort(key=lambda body: (body[1][0][0], body[0]))
-    written = {f"{number}_bodies.{'md' if number else 'edit'}": text_of(it) for number, it in enumerate(files)}
+    written = {f"{number}_bodies.{'md' if number else 'edit'}": text_of(it) for number, it in enumerate(files, first)}
     alone = [it for it in edits if it not in shared]
     if set(alone) & set(written):
         sys.exit(f"{folder}: a file of shared bodies is marked as one that stands alone")
