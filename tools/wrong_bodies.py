@@ -11,9 +11,9 @@ not, and ends with a count; the exit status is 0 where each was refused. With wo
 them.
 
 With --pack it tries nothing: it writes must-fail/ anew. 0_bodies.edit, which the gate tries, keeps its wrong bodies and takes those of each file
-whose first line begins with "First: " (a crate of whose wrong bodies the gate tries none has no such file); all others stand in 1_bodies.md,
-2_bodies.md, .., in as few as have at most one in each function. A file whose first line begins with "Alone: " stays as it is. Each body keeps its texts and its title; the body of a file without titles takes the file's
-name as its title, in words.
+whose first line begins with "First: "; a crate of whose wrong bodies the gate tries none has no such file. All others stand in 1_bodies.md,
+2_bodies.md, .., in as few as have at most one in each function. A file whose first line begins with "Alone: " stays as it is. Each body keeps
+its texts and its title; the body of a file without titles takes the file's name as its title, in words.
 """
 import importlib.machinery
 import importlib.util
