@@ -28,13 +28,13 @@ def times_of(page):
 
 
 def tasks_of(rt, crates, times, ended):
-    """Returns the tasks as rt makes them, each of which sleeps for its time and then notes when it ended."""
-    begin, tasks = time.monotonic(), {}
+    """Returns the tasks as rt makes them, each of which sleeps for its time and then notes the second at which it ended."""
+    tasks = {}
 
     def run(key, minutes, jobs):
         time.sleep(minutes * MINUTE / GAIN[min(jobs, 4)])
         if minutes:
-            ended[key] = (time.monotonic() - begin) / MINUTE
+            ended[key] = time.monotonic()
 
     for crate in crates:
         lines, needs = crate.count(rb"\n"), rt.need(crate)
@@ -58,7 +58,9 @@ def main():
     times, ended = times_of("docs/GATE.md"), {}
     for name in sorted({it.name for it in crates} - {*times}):
         print(f"{name}: no row in docs/GATE.md")
-    rt.in_lanes(tasks_of(rt, crates, times, ended))
+    tasks, begin = tasks_of(rt, crates, times, ended), time.monotonic()
+    rt.in_lanes(tasks)
+    ended = {it: (at - begin) / MINUTE for it, at in ended.items()}
     if not any(part != "edits" for _, part in ended):
         sys.exit("gate_time.py: docs/GATE.md says of no crate how long its proof takes")
     last = sorted(ended, key=lambda it: -ended[it])

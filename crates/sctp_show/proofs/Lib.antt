@@ -4,5 +4,7 @@ pub mod Lines
 pub mod Heads
 pub mod Runs
 pub mod Texts
+pub mod Uppers
+pub mod Frames
 pub mod BlockPieces
 pub mod Pieces

@@ -1,7 +1,7 @@
 //! The SCTP datagram inside a frame.
 
-ghost use Rattle.std.specs.Prelude.{◌≡◌, ◌≢◌, ◌+◌, ◌≤◌, true, length, slice_range, IfOk};
-ghost use Rattle.sctp_show.specs.Frame.{IsCarried, InIpv4, IsExtension, IsUpper, InIpv6, InIp, IsPlace, InFrame};
+ghost use Rattle.std.specs.Prelude.{◌≡◌, ◌≢◌, ◌↔◌, ◌+◌, ◌≤◌, ◌<◌, ℕ, List, length, slice_range, IsTrue, IfOk, IfErr, IsOkAnd, IsSomeAnd, None};
+ghost use Rattle.sctp_show.specs.Frame.{IsCarried, InIpv4, IsExtension, IsUpper, InIpv6, InIp, IsTag, IsTypePlace, IsEthernetPlace, IsPlace, InFrame, IsIpv4At, IsIpv6At, AreEnds, HasEnds};
 ghost use Rattle.sctp_base.specs.Field;
 
 use crate::record::Fault;
@@ -13,7 +13,7 @@ const UDP: u8 = 17;
 
 const SCTP: u8 = 132;
 
-/// How many headers may follow one another before the datagram.
+/// How many headers are looked at behind that of IPv6, what they carry among them.
 const MAX_HEADERS: usize = 16;
 
 /// A datagram, and the addresses between which it went, where the frame names them.
@@ -25,7 +25,9 @@ pub struct Datagram<'a> {
 
 /// The SCTP datagram in what IP carries: all of it, or what UDP carries to or from the port (RFC 6951).
 fn inside_transport(protocol: u8, payload: &[u8], port: u16) -> Result<&[u8], Fault>
-    ensures { IfOk result (λ bytes. IsCarried port protocol payload.now bytes.now) }
+    ensures found { IfOk result (λ bytes. IsCarried port protocol payload.now bytes.now) }
+    ensures refused { IfErr result
+        (λ _. (bytes : List ℕ) → IsCarried port protocol payload.now bytes → ⊥) }
 {
     if protocol == SCTP {
         return Ok(payload);
@@ -43,8 +45,21 @@ fn inside_transport(protocol: u8, payload: &[u8], port: u16) -> Result<&[u8], Fa
     payload.get(8..length).ok_or(Fault::Short)
 }
 
+/// The address in four bytes.
+fn ipv4_at(packet: &[u8], at: usize) -> IpAddr
+    requires { at + 4 ≤ length packet.now }
+    ensures { IsIpv4At packet.now at result }
+{
+    let mut octets = [0u8; 4];
+    octets.copy_from_slice(&packet[at..at + 4]);
+    IpAddr::from(octets)
+}
+
 fn inside_ipv4(packet: &[u8], port: u16) -> Result<Datagram<'_>, Fault>
-    ensures { IfOk result (λ d. InIpv4 port packet.now d.bytes.now) }
+    ensures found { IfOk result (λ d. InIpv4 port packet.now d.bytes.now) }
+    ensures refused { IfErr result (λ _. (bytes : List ℕ) → InIpv4 port packet.now bytes → ⊥) }
+    ensures ends { IfOk result (λ d. IsSomeAnd d.ends
+        (λ ends. IsIpv4At packet.now 12 ends.0 × IsIpv4At packet.now 16 ends.1)) }
 {
     if packet.len() < 20 {
         return Err(Fault::Short);
@@ -53,21 +68,23 @@ fn inside_ipv4(packet: &[u8], port: u16) -> Result<Datagram<'_>, Fault>
         return Err(Fault::Fragment);
     }
     let header = ((packet[0] % 16) as usize) * 4;
+    if header < 20 {
+        return Err(Fault::Short);
+    }
     let total = read_u16(packet, 2) as usize;
-    let source = [packet[12], packet[13], packet[14], packet[15]];
-    let destination = [packet[16], packet[17], packet[18], packet[19]];
     let Some(payload) = packet.get(header..total) else {
         return Err(Fault::Short);
     };
     Ok(Datagram {
-        ends: Some((IpAddr::from(source), IpAddr::from(destination))),
+        ends: Some((ipv4_at(packet, 12), ipv4_at(packet, 16))),
         bytes: inside_transport(packet[9], payload, port)?,
     })
 }
 
-/// The sixteen bytes of an address.
+/// The address in sixteen bytes.
 fn ipv6_at(packet: &[u8], at: usize) -> IpAddr
     requires { at + 16 ≤ length packet.now }
+    ensures { IsIpv6At packet.now at result }
 {
     let mut octets = [0u8; 16];
     octets.copy_from_slice(&packet[at..at + 16]);
@@ -76,18 +93,20 @@ fn ipv6_at(packet: &[u8], at: usize) -> IpAddr
 
 /// Whether such a header of IPv6 is followed by another one.
 fn is_extension(protocol: u8) -> bool
-    ensures { result ≡ true → IsExtension protocol }
+    ensures { IsTrue result ↔ IsExtension protocol }
 {
     protocol == 0 || protocol == 43 || protocol == 60
 }
 
-/// What the last of the headers that follow the one of IPv6 carries, and its protocol number.
+/// What the last of the headers that follow the one of IPv6 carries, and its protocol number. At most fifteen follow.
 fn inside_extensions(first: u8, payload: &[u8]) -> Result<(u8, &[u8]), Fault>
-    ensures { IfOk result (λ x. IsUpper first payload.now x.0 x.1.now) }
+    ensures found { IfOk result (λ x. IsUpper 16 first payload.now x.0 x.1.now) }
+    ensures refused { IfErr result (λ _. (protocol : ℕ) → (upper : List ℕ)
+        → IsUpper 16 first payload.now protocol upper → ⊥) }
 {
     let mut protocol = first;
     let mut rest = payload;
-    for _ in 0..MAX_HEADERS {
+    for _passed in 0..MAX_HEADERS {
         if protocol == 44 {
             return Err(Fault::Fragment);
         }
@@ -108,7 +127,10 @@ fn inside_extensions(first: u8, payload: &[u8]) -> Result<(u8, &[u8]), Fault>
 }
 
 fn inside_ipv6(packet: &[u8], port: u16) -> Result<Datagram<'_>, Fault>
-    ensures { IfOk result (λ d. InIpv6 port packet.now d.bytes.now) }
+    ensures found { IfOk result (λ d. InIpv6 port packet.now d.bytes.now) }
+    ensures refused { IfErr result (λ _. (bytes : List ℕ) → InIpv6 port packet.now bytes → ⊥) }
+    ensures ends { IfOk result (λ d. IsSomeAnd d.ends
+        (λ ends. IsIpv6At packet.now 8 ends.0 × IsIpv6At packet.now 24 ends.1)) }
 {
     if packet.len() < 40 {
         return Err(Fault::Short);
@@ -126,8 +148,12 @@ fn inside_ipv6(packet: &[u8], port: u16) -> Result<Datagram<'_>, Fault>
 
 /// The datagram of the IP packet that stands from `at` on.
 fn inside_ip(frame: &[u8], at: usize, port: u16) -> Result<Datagram<'_>, Fault>
-    ensures { IfOk result
+    ensures found { IfOk result
         (λ d. InIp port (slice_range frame.now at (length frame.now)) d.bytes.now) }
+    ensures refused { IfErr result (λ _. (bytes : List ℕ)
+        → InIp port (slice_range frame.now at (length frame.now)) bytes → ⊥) }
+    ensures ends { IfOk result
+        (λ d. IsSomeAnd d.ends (AreEnds (slice_range frame.now at (length frame.now)))) }
 {
     if frame.len() <= at {
         return Err(Fault::Short);
@@ -140,26 +166,35 @@ fn inside_ip(frame: &[u8], at: usize, port: u16) -> Result<Datagram<'_>, Fault>
     }
 }
 
+/// Whether this is the protocol number of a VLAN tag (IEEE 802.1Q), of the inner or of the outer one.
+fn is_tag(typ: u16) -> bool
+    ensures { IsTrue result ↔ IsTag typ }
+{
+    typ == 0x8100 || typ == 0x88a8
+}
+
 /// The number of an Ethernet frame's protocol, behind up to two VLAN tags, and where it stands.
 fn ethertype_in(frame: &[u8]) -> (u16, usize)
     requires { 22 ≤ length frame.now }
-    ensures within { result.1 ≤ 20 }
+    ensures place { IsTypePlace frame.now result.1 }
     ensures is { result.0 ≡ Field.u16_at frame.now result.1 }
 {
     let first = read_u16(frame, 12);
-    if first != 0x8100 && first != 0x88a8 {
+    if !is_tag(first) {
         return (first, 12);
     }
     let second = read_u16(frame, 16);
-    if second != 0x8100 && second != 0x88a8 {
+    if !is_tag(second) {
         return (second, 16);
     }
     (read_u16(frame, 20), 20)
 }
 
-/// Where the IP packet of an Ethernet frame begins.
+/// Where the IP packet of an Ethernet frame begins. Refuses where there is none, or no room for its header.
 fn ethernet_place(frame: &[u8]) -> Result<usize, Fault>
-    ensures { IfOk result (λ at. IsPlace 1 frame.now at) }
+    ensures found { IfOk result (λ at. IsEthernetPlace frame.now at) }
+    ensures refused { IfErr result (λ _. (at : ℕ)
+        → IsEthernetPlace frame.now at → length frame.now < at + 20) }
 {
     if frame.len() < 22 {
         return Err(Fault::Short);
@@ -172,9 +207,11 @@ fn ethernet_place(frame: &[u8]) -> Result<usize, Fault>
 }
 
 /// Where the IP packet of a frame of this link type begins: loopback, Ethernet, raw IP, or Linux
-/// cooked of both versions.
+/// cooked of both versions. Refuses where there is none, or no room for its header.
 fn place_in(link_type: u32, frame: &[u8]) -> Result<usize, Fault>
-    ensures { IfOk result (λ at. IsPlace link_type frame.now at) }
+    ensures found { IfOk result (λ at. IsPlace link_type frame.now at) }
+    ensures refused { IfErr result (λ _. (at : ℕ)
+        → IsPlace link_type frame.now at → length frame.now < at + 20) }
 {
     match link_type {
         0 | 108 => Ok(4),
@@ -187,11 +224,17 @@ fn place_in(link_type: u32, frame: &[u8]) -> Result<usize, Fault>
 }
 
 /// The datagram of a frame of this link type: what an IP packet carries, alone or in UDP to or from `port` (RFC 6951), or the frame as
-/// it is, where the link type is 248 (SCTP). Refuses with `OtherLink`, `Short`, `Fragment` or `OtherProtocol`. It takes no memory.
+/// it is, where the link type is 248 (SCTP). Refuses with `OtherLink`, `Short`, `Fragment` or `OtherProtocol`, and only where the frame
+/// holds none. It takes no memory.
 pub fn datagram_in(link_type: u32, frame: &[u8], port: u16) -> Result<Datagram<'_>, Fault>
-    ensures alone { link_type ≡ 248 → IfOk result (λ d. d.bytes.now ≡ frame.now) }
+    ensures alone { link_type ≡ 248
+        → IsOkAnd result (λ d. (d.ends ≡ None) × (d.bytes.now ≡ frame.now)) }
     ensures carried { link_type ≢ 248
         → IfOk result (λ d. InFrame link_type port frame.now d.bytes.now) }
+    ensures refused { IfErr result
+        (λ _. (bytes : List ℕ) → InFrame link_type port frame.now bytes → ⊥) }
+    ensures ends { link_type ≢ 248
+        → IfOk result (λ d. HasEnds link_type frame.now d.ends) }
 {
     if link_type == 248 {
         return Ok(Datagram {
