@@ -18,6 +18,8 @@ from wrong_bodies import kit
 MINUTE = 0.1
 # how much faster a check from nothing is with so many jobs
 GAIN = {1: 1, 2: 1.45, 3: 1.7, 4: 1.9}
+# how much of the table's time it takes where so many processors are at work: measured for two, guessed for one and three
+SHARE = {1: 0.8, 2: 0.8, 3: 0.9}
 ROW = re.compile(r"\| `(\w+)` \|[^|]*\|" + r" *([\d.]*) *\|" * 3)
 
 
@@ -27,12 +29,12 @@ def times_of(page):
         return {row[1]: [float(minutes or 0) for minutes in row.groups()[1:]] for row in map(ROW.match, it) if row}
 
 
-def tasks_of(rt, crates, times, ended):
+def tasks_of(rt, crates, times, processors, ended):
     """Returns the tasks as rt makes them, each of which sleeps for its time and then notes the second at which it ended."""
     tasks = {}
 
     def run(key, minutes, jobs):
-        time.sleep(minutes * MINUTE / GAIN[min(jobs, 4)])
+        time.sleep(minutes * SHARE.get(processors, 1) * MINUTE / GAIN[min(jobs, 4)])
         if minutes:
             ended[key] = time.monotonic()
 
@@ -58,13 +60,13 @@ def main():
     times, ended = times_of("docs/GATE.md"), {}
     for name in sorted({it.name for it in crates} - {*times}):
         print(f"{name}: no row in docs/GATE.md")
-    tasks, begin = tasks_of(rt, crates, times, ended), time.monotonic()
+    tasks, begin = tasks_of(rt, crates, times, processors, ended), time.monotonic()
     rt.in_lanes(tasks)
     ended = {it: (at - begin) / MINUTE for it, at in ended.items()}
     if not any(part != "edits" for _, part in ended):
         sys.exit("gate_time.py: docs/GATE.md says of no crate how long its proof takes")
     last = sorted(ended, key=lambda it: -ended[it])
-    print(f"{sum(map(sum, times.values())):.0f} min of processor time")
+    print(f"{sum(map(sum, times.values())) * SHARE.get(processors, 1):.0f} min of processor time")
     print(f"all proved after {max(ended[it] for it in last if it[1] != 'edits'):.0f} min, the last task ends after {ended[last[0]]:.0f}")
     print("last: " + ", ".join(f"{name} {part} {ended[name, part]:.0f}" for name, part in last[:8]))
     return 0
