@@ -6,17 +6,17 @@ use Rattle.sctp_list_lemmas.specs.Lists.{change_where, change_at}
 use Rattle.sctp_list_lemmas.proofs.Getting.{length-mapped}
 use Rattle.sctp_stream.specs.Numbers.{IsOnlyPlace, IsAbsent}
 use Rattle.sctp_stream.specs.declared.stream.StreamState.{StreamState}
-use Rattle.sctp_transfer.specs.declared.receiver.inbound_streams.InboundStream.{InboundStream}
-use Rattle.sctp_transfer.specs.Inbound as Inbound
-use Rattle.sctp_transfer.specs.Outgoing as Outgoing
+use Rattle.sctp_receiver.specs.declared.receiver.inbound_streams.InboundStream.{InboundStream}
+use Rattle.sctp_receiver.specs.Inbound as Inbound
+use Rattle.sctp_sender.specs.Outgoing as Outgoing
 use Rattle.sctp_chunks.specs.ForwardTsn.{ForwardTsn}
 use Rattle.sctp_reassembly.specs.reassembly_queue.ReassemblyQueue.{message_read}
-use Rattle.sctp_transfer.specs.Receiver as R
-use Rattle.sctp_transfer.specs.Receiver.{Reception}
-use Rattle.sctp_transfer.specs.Sender.{Transmission}
-use Rattle.sctp_transfer.proofs.StreamPlaces as Places
-use Rattle.sctp_transfer.proofs.Inbounds.{stays-changed}
-use Rattle.sctp_transfer.proofs.Forwarded.{followed-mapped, after-numbers, after-size}
+use Rattle.sctp_receiver.specs.Receiver as R
+use Rattle.sctp_receiver.specs.Receiver.{Reception}
+use Rattle.sctp_sender.specs.Sender.{Transmission}
+use Rattle.sctp_stream.proofs.StreamPlaces as Places
+use Rattle.sctp_receiver.proofs.Inbounds.{stays-changed}
+use Rattle.sctp_receiver.proofs.Forwarded.{followed-mapped, after-numbers, after-size}
 use Rattle.sctp_halves.specs.declared.halves.progress.StreamProgress.{StreamProgress}
 use Rattle.sctp_halves.specs.Streams.{OpenStream, join, join_each, number, has_number, stream_numbers, on_inbound, new_open_stream, read_recorded}
 use Rattle.sctp_halves.specs.Halves.{Sides, IsAligned, reception_of, transmission_of, stream_in, is_open, on_stream, follow_forward_tsn, after_forward}

@@ -4,9 +4,9 @@ use Rattle.std.specs.Prelude.{◌==◌, if◌then◌else◌, option_map, slice_s
 use Rattle.std.specs.List.{find}
 use Rattle.sctp_list_lemmas.specs.Lists.{change_where, change_at}
 use Rattle.sctp_stream.specs.declared.stream.StreamState.{StreamState}
-use Rattle.sctp_transfer.specs.declared.receiver.inbound_streams.InboundStream.{InboundStream}
-use Rattle.sctp_transfer.specs.Inbound as Inbound
-use Rattle.sctp_transfer.specs.Outgoing as Outgoing
+use Rattle.sctp_receiver.specs.declared.receiver.inbound_streams.InboundStream.{InboundStream}
+use Rattle.sctp_receiver.specs.Inbound as Inbound
+use Rattle.sctp_sender.specs.Outgoing as Outgoing
 use Rattle.sctp_halves.specs.declared.halves.progress.StreamProgress.{StreamProgress}
 use Rattle.sctp_halves.specs.Streams.{OpenStream, join, join_each, has_number, stream_numbers, on_state, on_inbound}
 

@@ -7,13 +7,13 @@ use Rattle.sctp_list_lemmas.proofs.Edits.{those-append}
 use Rattle.sctp_chunks.specs.declared.chunk.chunk_payload_data.PayloadProtocolIdentifier.TheVariants.{Unknown}
 use Rattle.sctp_stream.specs.Numbers.{IsAbsent, is_other}
 use Rattle.sctp_stream.specs.Stream.{new_stream}
-use Rattle.sctp_transfer.specs.Inbound as Inbound
-use Rattle.sctp_transfer.specs.Outgoing as Outgoing
-use Rattle.sctp_transfer.specs.Receiver as R
-use Rattle.sctp_transfer.specs.Receiver.{Reception}
-use Rattle.sctp_transfer.specs.Sender as S
-use Rattle.sctp_transfer.specs.Sender.{Transmission}
-use Rattle.sctp_transfer.proofs.StreamPlaces as Places
+use Rattle.sctp_receiver.specs.Inbound as Inbound
+use Rattle.sctp_sender.specs.Outgoing as Outgoing
+use Rattle.sctp_receiver.specs.Receiver as R
+use Rattle.sctp_receiver.specs.Receiver.{Reception}
+use Rattle.sctp_sender.specs.Sender as S
+use Rattle.sctp_sender.specs.Sender.{Transmission}
+use Rattle.sctp_stream.proofs.StreamPlaces as Places
 use Rattle.sctp_halves.specs.declared.halves.progress.StreamProgress.{StreamProgress}
 use Rattle.sctp_halves.specs.Streams.{OpenStream, join_each, has_number, stream_numbers, new_open_stream}
 use Rattle.sctp_halves.specs.Halves.{Sides, IsAligned, stream_in, opened_on}

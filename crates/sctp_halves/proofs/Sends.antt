@@ -9,17 +9,17 @@ use Rattle.sctp_chunks.specs.declared.chunk.chunk_payload_data.ReliabilityType.{
 use Rattle.sctp_stream.specs.Numbers.{IsOnlyPlace, IsAbsent}
 use Rattle.sctp_stream.specs.declared.stream.DataChannelStats.{DataChannelStats}
 use Rattle.sctp_stream.specs.declared.stream.StreamState.{StreamState}
-use Rattle.sctp_transfer.specs.declared.receiver.inbound_streams.InboundStream.{InboundStream}
-use Rattle.sctp_transfer.specs.declared.sender.flight.Released.{Released}
-use Rattle.sctp_transfer.specs.declared.sender.refusal.SenderRefusal.{SenderRefusal}
-use Rattle.sctp_transfer.specs.declared.sender.refusal.SenderRefusal.TheVariants.{StreamUnknown}
-use Rattle.sctp_transfer.specs.Flight.{Flight, after_sack, released_by}
-use Rattle.sctp_transfer.specs.Outgoing as Outgoing
-use Rattle.sctp_transfer.specs.Receiver as R
-use Rattle.sctp_transfer.specs.Receiver.{Reception}
-use Rattle.sctp_transfer.specs.Sender as S
-use Rattle.sctp_transfer.specs.Sender.{Transmission}
-use Rattle.sctp_transfer.proofs.StreamPlaces as Places
+use Rattle.sctp_receiver.specs.declared.receiver.inbound_streams.InboundStream.{InboundStream}
+use Rattle.sctp_sender.specs.declared.sender.flight.Released.{Released}
+use Rattle.sctp_sender.specs.declared.sender.refusal.SenderRefusal.{SenderRefusal}
+use Rattle.sctp_sender.specs.declared.sender.refusal.SenderRefusal.TheVariants.{StreamUnknown}
+use Rattle.sctp_sender.specs.Flight.{Flight, after_sack, released_by}
+use Rattle.sctp_sender.specs.Outgoing as Outgoing
+use Rattle.sctp_receiver.specs.Receiver as R
+use Rattle.sctp_receiver.specs.Receiver.{Reception}
+use Rattle.sctp_sender.specs.Sender as S
+use Rattle.sctp_sender.specs.Sender.{Transmission}
+use Rattle.sctp_stream.proofs.StreamPlaces as Places
 use Rattle.sctp_halves.specs.declared.halves.progress.StreamProgress.{StreamProgress}
 use Rattle.sctp_halves.specs.Streams.{OpenStream, join_each, number, on_state, after_releases, stats_in, both_ways, new_open_stream}
 use Rattle.sctp_halves.specs.Halves.{Sides, IsAligned, stream_in, is_open, on_stream, with_flight, sack_taken}

@@ -2,8 +2,8 @@
 use Rattle.std.proofs.Common.{◌≡◌, ℕ, zero, suc, ◌<◌, List, [], ◌∷◌, ◌++◌, length, None, true, refl, sym, arith, subst}
 use Rattle.std.specs.Prelude.{slice_index_or}
 use Rattle.sctp_chunks.specs.declared.chunk.chunk_payload_data.ChunkPayloadData.{ChunkPayloadData}
-use Rattle.sctp_transfer.specs.declared.receiver.arrival.Arrival.{Arrival}
-use Rattle.sctp_transfer.specs.Receiver.{data_refusal, arrival_of}
+use Rattle.sctp_receiver.specs.declared.receiver.arrival.Arrival.{Arrival}
+use Rattle.sctp_receiver.specs.Receiver.{data_refusal, arrival_of}
 use Rattle.sctp_halves.specs.Halves.{Sides, Takes, TakesFirst, TakesEach, CanTake, reception_of, is_open}
 
 -- one more is taken

@@ -10,17 +10,17 @@ use Rattle.sctp_serial.specs.DataChunks.{chunk_before}
 use Rattle.sctp_reassembly.specs.reassembly_queue.Fragments.{sets_with}
 use Rattle.sctp_reassembly.specs.reassembly_queue.ReassemblyQueue.{ReassemblyState, PushesUnordered, BecomesComplete, after_ordered_push}
 use Rattle.sctp_stream.specs.Numbers.{IsOnlyPlace}
-use Rattle.sctp_transfer.specs.declared.receiver.arrival.Arrival.{Arrival}
-use Rattle.sctp_transfer.specs.declared.receiver.arrival.Arrival.TheVariants.{New, Repeat}
-use Rattle.sctp_transfer.specs.declared.receiver.inbound_streams.InboundStream.{InboundStream}
-use Rattle.sctp_transfer.specs.Inbound as Inbound
-use Rattle.sctp_transfer.specs.Inbound.{Pushes, PushesAs, with_queue}
-use Rattle.sctp_transfer.specs.Receiver as R
-use Rattle.sctp_transfer.specs.Receiver.{Reception, filter_of}
-use Rattle.sctp_transfer.specs.Sender.{Transmission}
-use Rattle.sctp_transfer.proofs.DataEach.{takes-keeps}
-use Rattle.sctp_transfer.proofs.Inbounds.{pushed-number}
-use Rattle.sctp_transfer.proofs.StreamPlaces as Places
+use Rattle.sctp_receiver.specs.declared.receiver.arrival.Arrival.{Arrival}
+use Rattle.sctp_receiver.specs.declared.receiver.arrival.Arrival.TheVariants.{New, Repeat}
+use Rattle.sctp_receiver.specs.declared.receiver.inbound_streams.InboundStream.{InboundStream}
+use Rattle.sctp_receiver.specs.Inbound as Inbound
+use Rattle.sctp_receiver.specs.Inbound.{Pushes, PushesAs, with_queue}
+use Rattle.sctp_receiver.specs.Receiver as R
+use Rattle.sctp_receiver.specs.Receiver.{Reception, filter_of}
+use Rattle.sctp_sender.specs.Sender.{Transmission}
+use Rattle.sctp_receiver.proofs.DataEach.{takes-keeps}
+use Rattle.sctp_receiver.proofs.Inbounds.{pushed-number}
+use Rattle.sctp_stream.proofs.StreamPlaces as Places
 use Rattle.sctp_halves.specs.declared.halves.progress.StreamProgress.{StreamProgress}
 use Rattle.sctp_halves.specs.Streams.{OpenStream, Keeps, join_each, number, on_inbound, new_open_stream}
 use Rattle.sctp_halves.specs.Halves.{Sides, IsAligned, stream_in, on_stream, Accepts, Takes, repeat_tsn, GrowsOn, GrowEach, Grows}

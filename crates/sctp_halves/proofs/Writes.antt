@@ -11,13 +11,13 @@ use Rattle.sctp_outbound.specs.outbound_queue.OutboundQueue.{Outbound, with_mess
 use Rattle.sctp_outbound.specs.pending_queue.PendingQueue.{next_pending}
 use Rattle.sctp_stream.specs.Numbers.{IsOnlyPlace}
 use Rattle.sctp_stream.specs.declared.stream.StreamState.{StreamState}
-use Rattle.sctp_transfer.specs.Flight.{Flight, with_queue}
-use Rattle.sctp_transfer.specs.Outgoing as Outgoing
-use Rattle.sctp_transfer.specs.Outgoing.{fragments_with_mode}
-use Rattle.sctp_transfer.specs.Receiver.{Reception}
-use Rattle.sctp_transfer.specs.Sender as S
-use Rattle.sctp_transfer.specs.Sender.{Transmission}
-use Rattle.sctp_transfer.proofs.StreamPlaces as Places
+use Rattle.sctp_sender.specs.Flight.{Flight, with_queue}
+use Rattle.sctp_sender.specs.Outgoing as Outgoing
+use Rattle.sctp_sender.specs.Outgoing.{fragments_with_mode}
+use Rattle.sctp_receiver.specs.Receiver.{Reception}
+use Rattle.sctp_sender.specs.Sender as S
+use Rattle.sctp_sender.specs.Sender.{Transmission}
+use Rattle.sctp_stream.proofs.StreamPlaces as Places
 use Rattle.sctp_halves.specs.declared.halves.progress.StreamProgress.{StreamProgress}
 use Rattle.sctp_halves.specs.declared.halves.progress.Written.{Written}
 use Rattle.sctp_halves.specs.Streams.{OpenStream, join_each, number, has_number, on_state, written_of, wrote_to, expired_on}

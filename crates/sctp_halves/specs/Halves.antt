@@ -8,16 +8,16 @@ use Rattle.sctp_chunks.specs.declared.chunk.chunk_payload_data.ReliabilityType.{
 use Rattle.sctp_chunks.specs.ForwardTsn.{ForwardTsn}
 use Rattle.sctp_chunks.specs.SelectiveAck.{Sack}
 use Rattle.sctp_outbound.specs.outbound_queue.OutboundQueue.{expired_of, sent_next, with_message}
-use Rattle.sctp_transfer.specs.declared.receiver.arrival.Arrival.{Arrival}
-use Rattle.sctp_transfer.specs.declared.receiver.arrival.Arrival.TheVariants.{New, Repeat}
-use Rattle.sctp_transfer.specs.Flight as Flight
-use Rattle.sctp_transfer.specs.Flight.{Flight, with_queue, next_after_send, after_abandonment, after_sack, released_by}
-use Rattle.sctp_transfer.specs.Inbound as Inbound
-use Rattle.sctp_transfer.specs.Outgoing as Outgoing
-use Rattle.sctp_transfer.specs.Outgoing.{fragments_with_mode}
-use Rattle.sctp_transfer.specs.Receiver.{Reception, filter_of, is_stale, arrival_of, data_refusal}
-use Rattle.sctp_transfer.specs.Sender.{Transmission}
-use Rattle.sctp_transfer.specs.TsnFilter.{Filter, with_tsn, with_duplicate, skipped_to}
+use Rattle.sctp_receiver.specs.declared.receiver.arrival.Arrival.{Arrival}
+use Rattle.sctp_receiver.specs.declared.receiver.arrival.Arrival.TheVariants.{New, Repeat}
+use Rattle.sctp_sender.specs.Flight as Flight
+use Rattle.sctp_sender.specs.Flight.{Flight, with_queue, next_after_send, after_abandonment, after_sack, released_by}
+use Rattle.sctp_receiver.specs.Inbound as Inbound
+use Rattle.sctp_sender.specs.Outgoing as Outgoing
+use Rattle.sctp_sender.specs.Outgoing.{fragments_with_mode}
+use Rattle.sctp_receiver.specs.Receiver.{Reception, filter_of, is_stale, arrival_of, data_refusal}
+use Rattle.sctp_sender.specs.Sender.{Transmission}
+use Rattle.sctp_receiver.specs.TsnFilter.{Filter, with_tsn, with_duplicate, skipped_to}
 use Rattle.sctp_halves.specs.declared.halves.progress.StreamProgress.{StreamProgress}
 use Rattle.sctp_halves.specs.declared.halves.receiving.Saved.{Saved}
 use Rattle.sctp_halves.specs.Streams.{OpenStream, Keeps, has_number, new_open_stream, on_state, on_inbound, wrote_to, less_by, after_releases, expired_on, forwarded_on}

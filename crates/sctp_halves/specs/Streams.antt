@@ -11,11 +11,11 @@ use Rattle.sctp_reassembly.specs.reassembly_queue.ReassemblyQueue.{PushesUnorder
 use Rattle.sctp_stream.specs.declared.stream.DataChannelStats.{DataChannelStats}
 use Rattle.sctp_stream.specs.declared.stream.StreamState.{StreamState}
 use Rattle.sctp_stream.specs.Stream.{new_stream}
-use Rattle.sctp_transfer.specs.declared.receiver.inbound_streams.InboundStream.{InboundStream}
-use Rattle.sctp_transfer.specs.declared.sender.flight.Released.{Released}
-use Rattle.sctp_transfer.specs.Inbound as Inbound
-use Rattle.sctp_transfer.specs.Inbound.{ssns_of, skipped_each}
-use Rattle.sctp_transfer.specs.Outgoing as Outgoing
+use Rattle.sctp_receiver.specs.declared.receiver.inbound_streams.InboundStream.{InboundStream}
+use Rattle.sctp_sender.specs.declared.sender.flight.Released.{Released}
+use Rattle.sctp_receiver.specs.Inbound as Inbound
+use Rattle.sctp_receiver.specs.Inbound.{ssns_of, skipped_each}
+use Rattle.sctp_sender.specs.Outgoing as Outgoing
 use Rattle.sctp_halves.specs.declared.halves.progress.StreamProgress.{StreamProgress}
 use Rattle.sctp_halves.specs.declared.halves.progress.Written.{Written}
 

@@ -15,8 +15,8 @@ use sctp_queues::payload_queue::PayloadQueue;
 use sctp_queues::reassembly_queue::ReassemblyQueue;
 use sctp_stream::stream::DataChannelStats;
 use sctp_stream::stream_numbers::{StreamNumbers, put};
-use sctp_transfer::receiver::Receiver;
-use sctp_transfer::sender::Sender;
+use sctp_receiver::receiver::Receiver;
+use sctp_sender::sender::Sender;
 use std::alloc::Global;
 use std::marker::Model;
 
@@ -52,7 +52,7 @@ impl Model for Halves {
 }
 
 impl Halves {
-    ghost use Rattle.sctp_transfer.specs.TsnFilter.{mark};
+    ghost use Rattle.sctp_receiver.specs.TsnFilter.{mark};
     ghost use Rattle.sctp_halves.specs.Streams.{OpenStream, has_number, stats_in};
     ghost use Rattle.sctp_halves.specs.Halves.{fresh, stream_in, is_open, opened_on, after_mode};
 

@@ -1,7 +1,7 @@
 -- The record of a link and what it keeps beside it, from its fields.
 use Rattle.std.specs.Prelude.{ℕ, map}
 use Rattle.sctp_model.specs.LinkRecord.{LinkRecord, Setup}
-use Rattle.sctp_transfer.specs.Receiver.{filter_of}
+use Rattle.sctp_receiver.specs.Receiver.{filter_of}
 use Rattle.sctp_halves.specs.Halves.{reception_of}
 use Rattle.sctp_link.specs.declared.link.Link.TheInside.{Inside}
 use Rattle.sctp_link.specs.Linked.{State}

@@ -19,7 +19,7 @@ use Rattle.sctp_model.specs.Amounts as M
 use Rattle.sctp_link.specs.declared.link.accessors.Ledger.{Ledger}
 use Rattle.sctp_halves.specs.Streams.{OpenStream, stream_numbers, stats_in}
 use Rattle.sctp_stream.specs.declared.stream.DataChannelStats.{DataChannelStats}
-use Rattle.sctp_transfer.specs.TsnFilter.{Filter}
+use Rattle.sctp_receiver.specs.TsnFilter.{Filter}
 use Rattle.sctp_link.specs.Places.{IsApart}
 use Rattle.sctp_link.specs.Encodings.{IsDatagram}
 

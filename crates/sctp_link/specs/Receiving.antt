@@ -12,9 +12,9 @@ use Rattle.sctp_model.specs.Contents.{chunk_at}
 use Rattle.sctp_model.specs.Queues.{filter_of}
 use Rattle.sctp_model.specs.Valid.{ComesValid}
 use Rattle.sctp_refinement.specs.Holds.{reassembly_of}
-use Rattle.sctp_transfer.specs.declared.receiver.arrival.Arrival.{Arrival}
-use Rattle.sctp_transfer.specs.declared.receiver.arrival.Arrival.TheVariants.{New, Repeat}
-use Rattle.sctp_transfer.specs.Receiver.{filter_of as held_filter}
+use Rattle.sctp_receiver.specs.declared.receiver.arrival.Arrival.{Arrival}
+use Rattle.sctp_receiver.specs.declared.receiver.arrival.Arrival.TheVariants.{New, Repeat}
+use Rattle.sctp_receiver.specs.Receiver.{filter_of as held_filter}
 use Rattle.sctp_halves.specs.Streams.{OpenStream, stream_numbers}
 use Rattle.sctp_halves.specs.Halves.{Sides, reception_of}
 use Rattle.sctp_link.specs.declared.record.Slot.{Slot}

@@ -10,7 +10,7 @@ mod skipped;
 pub use event::{Event, LinkRefusal, Reply};
 pub use link::Link;
 pub use link::accessors::Ledger;
-pub use sctp_transfer::stream;
-pub use sctp_transfer::stream::{
+pub use sctp_stream::stream;
+pub use sctp_stream::stream::{
     DataChannelStats, RecvSendState, StreamEvent, StreamId, StreamResetError, StreamState,
 };

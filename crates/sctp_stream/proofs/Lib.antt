@@ -1,3 +1,4 @@
 pub mod Pieces
 pub mod NumberPlaces
 pub mod Removals
+pub mod StreamPlaces

@@ -6,11 +6,11 @@ use bytes::Bytes;
 use sctp_chunks::chunk::chunk_payload_data::{
     ChunkPayloadData, PayloadProtocolIdentifier, ReliabilityType,
 };
-use sctp_transfer::receiver::Receiver;
-use sctp_transfer::receiver::arrival::Arrival;
-use sctp_transfer::receiver::refusal::ReceiverRefusal;
-use sctp_transfer::sender::Sender;
-use sctp_transfer::sender::refusal::SenderRefusal;
+use sctp_receiver::receiver::Receiver;
+use sctp_receiver::receiver::arrival::Arrival;
+use sctp_receiver::receiver::refusal::ReceiverRefusal;
+use sctp_sender::sender::Sender;
+use sctp_sender::sender::refusal::SenderRefusal;
 use std::alloc::Global;
 
 // Of three fragments the first is lost, the second comes, and the third waits.

@@ -5,8 +5,8 @@ use sctp_base::util::Checksum;
 use sctp_chunks::chunk::chunk_kind::ChunkKind;
 use sctp_chunks::chunk::chunk_payload_data::PayloadProtocolIdentifier;
 use sctp_packets::packet::{CommonHeader, Packet};
-use sctp_transfer::receiver::Receiver;
-use sctp_transfer::sender::Sender;
+use sctp_receiver::receiver::Receiver;
+use sctp_sender::sender::Sender;
 use std::alloc::Global;
 
 /// The checksum that is always 0.

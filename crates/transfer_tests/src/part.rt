@@ -3,9 +3,9 @@
 use bytes::Bytes;
 use sctp_base::error::Error;
 use sctp_chunks::chunk::chunk_payload_data::{ChunkPayloadData, PayloadProtocolIdentifier};
-use sctp_transfer::receiver::Receiver;
-use sctp_transfer::receiver::arrival::Arrival;
-use sctp_transfer::receiver::refusal::ReceiverRefusal;
+use sctp_receiver::receiver::Receiver;
+use sctp_receiver::receiver::arrival::Arrival;
+use sctp_receiver::receiver::refusal::ReceiverRefusal;
 use std::alloc::Global;
 
 /// A chunk of the stream, ordered, with the stream sequence number 0.

@@ -3,9 +3,9 @@
 use crate::part::{chunk, comes_again, is_new, reads, refusal, reports};
 use crate::receiving::take_chunk;
 use sctp_chunks::chunk::chunk_forward_tsn::{ChunkForwardTsn, ChunkForwardTsnStream};
-use sctp_transfer::receiver::Receiver;
-use sctp_transfer::receiver::arrival::Forwarded;
-use sctp_transfer::receiver::refusal::ReceiverRefusal;
+use sctp_receiver::receiver::Receiver;
+use sctp_receiver::receiver::arrival::Forwarded;
+use sctp_receiver::receiver::refusal::ReceiverRefusal;
 use std::alloc::Global;
 
 const WHOLE: (bool, bool) = (true, true);

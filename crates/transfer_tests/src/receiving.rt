@@ -1,14 +1,14 @@
 //! A caller of a receiver.
 
 ghost use Rattle.std.specs.Prelude.{◌≡◌, true, Some, None, OnErr, IfOk, IfErr, IsOk};
-ghost use Rattle.sctp_transfer.specs.declared.receiver.arrival.Arrival.TheVariants.{New, Repeat};
-ghost use Rattle.sctp_transfer.specs.declared.receiver.refusal.ReceiverRefusal.TheVariants.{OutOfMemory};
-ghost use Rattle.sctp_transfer.specs.Receiver.{Takes, arrival_of, data_refusal};
+ghost use Rattle.sctp_receiver.specs.declared.receiver.arrival.Arrival.TheVariants.{New, Repeat};
+ghost use Rattle.sctp_receiver.specs.declared.receiver.refusal.ReceiverRefusal.TheVariants.{OutOfMemory};
+ghost use Rattle.sctp_receiver.specs.Receiver.{Takes, arrival_of, data_refusal};
 
 use sctp_chunks::chunk::chunk_payload_data::ChunkPayloadData;
-use sctp_transfer::receiver::Receiver;
-use sctp_transfer::receiver::arrival::Arrival;
-use sctp_transfer::receiver::refusal::ReceiverRefusal;
+use sctp_receiver::receiver::Receiver;
+use sctp_receiver::receiver::arrival::Arrival;
+use sctp_receiver::receiver::refusal::ReceiverRefusal;
 
 /// Gives a DATA chunk to a receiver, and answers whether something can be read on its stream now. A chunk that the receiver
 /// refuses is dropped, as RFC 4960 6.2 lets a receiver do: its sender sends it again. Fails only where memory ran out.

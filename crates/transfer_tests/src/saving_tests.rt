@@ -1,13 +1,13 @@
 //! A receiver that is saved, goes on, and is put back.
 
 ghost use Rattle.std.specs.Prelude.{◌≡◌};
-ghost use Rattle.sctp_transfer.specs.Inbound.{numbers_of};
+ghost use Rattle.sctp_receiver.specs.Inbound.{numbers_of};
 
 use crate::part::{chunk, comes_again, is_new, reads, reports};
 use sctp_chunks::chunk::chunk_forward_tsn::ChunkForwardTsn;
 use sctp_chunks::chunk::chunk_payload_data::ChunkPayloadData;
-use sctp_transfer::receiver::Receiver;
-use sctp_transfer::receiver::arrival::{Arrival, Forwarded};
+use sctp_receiver::receiver::Receiver;
+use sctp_receiver::receiver::arrival::{Arrival, Forwarded};
 use std::alloc::Global;
 
 // Whether a chunk is taken as new.

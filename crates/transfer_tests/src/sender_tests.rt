@@ -4,9 +4,9 @@ use crate::host::{Host, acknowledges, sends, sends_again, skips};
 use crate::part::reads;
 use sctp_chunks::chunk::chunk_payload_data::ReliabilityType;
 use sctp_chunks::chunk::chunk_selective_ack::{ChunkSelectiveAck, GapAckBlock};
-use sctp_transfer::sender::flight::InFlight;
-use sctp_transfer::sender::flight::late::AbandonedMessage;
-use sctp_transfer::sender::refusal::SenderRefusal;
+use sctp_sender::sender::flight::InFlight;
+use sctp_sender::sender::flight::late::AbandonedMessage;
+use sctp_sender::sender::refusal::SenderRefusal;
 use std::alloc::Global;
 
 // Both hosts write and send three times in turn; the second fragment of each is lost.

@@ -2,17 +2,17 @@
 
 ghost use Rattle.std.specs.Prelude.{◌≡◌, None, Some, OnErr, OnOk, IfErr, IfOk, IfSome};
 ghost use Rattle.sctp_chunks.specs.SelectiveAck.{sack_of};
-ghost use Rattle.sctp_transfer.specs.declared.sender.refusal.SenderRefusal.{SenderRefusal};
-ghost use Rattle.sctp_transfer.specs.declared.sender.refusal.SenderRefusal.TheVariants.{OutOfMemory};
-ghost use Rattle.sctp_transfer.specs.Flight.{sack_refusal};
-ghost use Rattle.sctp_transfer.specs.Abandonment.{advanced_ack_point};
-ghost use Rattle.sctp_transfer.specs.Late.{after_late};
-ghost use Rattle.sctp_transfer.specs.Sender.{after_acked};
+ghost use Rattle.sctp_sender.specs.declared.sender.refusal.SenderRefusal.{SenderRefusal};
+ghost use Rattle.sctp_sender.specs.declared.sender.refusal.SenderRefusal.TheVariants.{OutOfMemory};
+ghost use Rattle.sctp_sender.specs.Flight.{sack_refusal};
+ghost use Rattle.sctp_sender.specs.Abandonment.{advanced_ack_point};
+ghost use Rattle.sctp_sender.specs.Late.{after_late};
+ghost use Rattle.sctp_sender.specs.Sender.{after_acked};
 
 use sctp_chunks::chunk::chunk_forward_tsn::ChunkForwardTsn;
 use sctp_chunks::chunk::chunk_selective_ack::ChunkSelectiveAck;
-use sctp_transfer::sender::Sender;
-use sctp_transfer::sender::refusal::SenderRefusal;
+use sctp_sender::sender::Sender;
+use sctp_sender::sender::refusal::SenderRefusal;
 
 /// Gives a SACK to a sender. One that claims what can't be is dropped, and nothing changes. Fails only where memory ran out.
 pub fn take_sack(sender: &mut Sender, sack: &ChunkSelectiveAck) -> Result<(), SenderRefusal>

@@ -2,8 +2,8 @@
 
 ghost use Rattle.std.specs.Prelude.{◌≡◌, ◌<◌, ◌+◌, ◌^◌, ◌∷◌, ℕ, [], List, true, None, Some, OnOk, OnErr, IfOk, IsOkUnless, length, map, option_map};
 ghost use Rattle.sctp_base.specs.declared.error.Error.TheVariants.{ErrOutOfMemory};
-ghost use Rattle.sctp_transfer.specs.Receiver as R;
-ghost use Rattle.sctp_transfer.specs.declared.receiver.inbound_streams.InboundStream.{InboundStream};
+ghost use Rattle.sctp_receiver.specs.Receiver as R;
+ghost use Rattle.sctp_receiver.specs.declared.receiver.inbound_streams.InboundStream.{InboundStream};
 ghost use Rattle.sctp_halves.specs.Halves.{Sides, IsSaved, Grows};
 
 use super::Halves;
@@ -13,9 +13,9 @@ use sctp_chunks::chunk::chunk_payload_data::ChunkPayloadData;
 use sctp_chunks::chunk::chunk_selective_ack::ChunkSelectiveAck;
 use sctp_queues::chunks::Chunks;
 use sctp_stream::stream_numbers::put;
-use sctp_transfer::receiver::Receiver;
-use sctp_transfer::receiver::arrival::{Arrival, Forwarded};
-use sctp_transfer::receiver::saved::SavedReceiver;
+use sctp_receiver::receiver::Receiver;
+use sctp_receiver::receiver::arrival::{Arrival, Forwarded};
+use sctp_receiver::receiver::saved::SavedReceiver;
 
 /// What DATA chunks may change, as it is before they are taken.
 #[derive(Drop)]
@@ -30,8 +30,8 @@ impl Halves {
     ghost use Rattle.sctp_chunks.specs.SelectiveAck.{sack_of};
     ghost use Rattle.sctp_list_lemmas.specs.Lists.{change_at};
     ghost use Rattle.sctp_reassembly.specs.reassembly_queue.ReassemblyQueue.{at_start, message_read};
-    ghost use Rattle.sctp_transfer.specs.Inbound.{stream_read};
-    ghost use Rattle.sctp_transfer.specs.Receiver.{data_refusal, arrival_of, forward_refusal, forwarded_of, sack};
+    ghost use Rattle.sctp_receiver.specs.Inbound.{stream_read};
+    ghost use Rattle.sctp_receiver.specs.Receiver.{data_refusal, arrival_of, forward_refusal, forwarded_of, sack};
     ghost use Rattle.sctp_halves.specs.Streams.{OpenStream, on_inbound, read_recorded, with_named};
     ghost use Rattle.sctp_halves.specs.Halves.{reception_of, stream_in, is_open, on_stream, Takes, CanTake, TakesEach, without_duplicates, after_forward};
 

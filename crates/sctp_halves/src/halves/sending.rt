@@ -12,7 +12,7 @@ use sctp_base::error::{Error, Result};
 use sctp_chunks::chunk::chunk_payload_data::PayloadProtocolIdentifier;
 use sctp_chunks::chunk::chunk_selective_ack::ChunkSelectiveAck;
 use sctp_stream::stream::StreamState;
-use sctp_transfer::sender::refusal::SenderRefusal;
+use sctp_sender::sender::refusal::SenderRefusal;
 
 impl Halves {
     ghost use Rattle.sctp_chunks.specs.SelectiveAck.{sack_of};
@@ -20,8 +20,8 @@ impl Halves {
     ghost use Rattle.sctp_outbound.specs.pending_queue.PendingQueue.{next_pending};
     ghost use Rattle.sctp_chunks.specs.declared.chunk.chunk_payload_data.ChunkPayloadData.{ChunkPayloadData};
     ghost use Rattle.sctp_serial.specs.DataChunks.{has_tsn};
-    ghost use Rattle.sctp_transfer.specs.Flight.{with_queue, with_room, may_send, resent, sack_refusal, has_tail_at, message_to_abandon};
-    ghost use Rattle.sctp_transfer.specs.Sender.{write_refusal};
+    ghost use Rattle.sctp_sender.specs.Flight.{with_queue, with_room, may_send, resent, sack_refusal, has_tail_at, message_to_abandon};
+    ghost use Rattle.sctp_sender.specs.Sender.{write_refusal};
     ghost use Rattle.sctp_halves.specs.Streams.{OpenStream, begun_of, with_begun, written_of};
     ghost use Rattle.sctp_halves.specs.Halves.{transmission_of, stream_in, on_stream, with_flight, written_on, flight_after_send, sack_taken, abandoned_on, expired_unsent};
 

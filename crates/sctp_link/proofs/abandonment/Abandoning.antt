@@ -47,7 +47,7 @@ use Rattle.sctp_link.proofs.upkeep.Facts.{facts, stands-then}
 use Rattle.sctp_link.proofs.receiver.Hears.{raw-at}
 use Rattle.sctp_link.specs.Encodings.{IsDatagram}
 use Rattle.sctp_link.proofs.upkeep.Frames.{moved, encodings-same, next-kept, held-quiet, filter-kept, begun-kept, indexed-kept, fragments-same, written-kept}
-use Rattle.sctp_transfer.proofs.StreamPlaces.{map-set_same}
+use Rattle.sctp_stream.proofs.StreamPlaces.{map-set_same}
 
 network-same : (w : LinkRecord) (n : ℕ) → (after_abandon w n).network ≡ w.network
 network-same w n = ap (λ u. u.network) (abandoned-is w n)

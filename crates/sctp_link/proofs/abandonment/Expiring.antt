@@ -44,7 +44,7 @@ use Rattle.sctp_link.proofs.upkeep.ChangedStreams.{fields-same, changed-at}
 use Rattle.sctp_link.proofs.upkeep.StreamPlaces.{apart-changed}
 use Rattle.sctp_link.proofs.upkeep.Facts.{facts, over, stands-then}
 use Rattle.sctp_link.proofs.upkeep.Frames.{moved, encodings-same, next-kept, held-quiet, filter-kept, begun-kept, indexed-kept, fragments-same, written-kept}
-use Rattle.sctp_transfer.proofs.StreamPlaces.{map-set_same}
+use Rattle.sctp_stream.proofs.StreamPlaces.{map-set_same}
 
 -- what is shown is what is past its deadline, where something is
 pub shown-past_deadline : (now : ℕ) (c : ChunkPayloadData) (o : Option ChunkPayloadData) → o ≡ Some c → is_some (outbound.passing (outbound.is_expired now) o) ≡ true → outbound.passing (outbound.is_expired now) o ≡ Some c

@@ -15,7 +15,7 @@ use Rattle.sctp_chunks.specs.SelectiveAck.{Sack}
 use Rattle.sctp_outbound.specs.Marks.{as_acknowledged}
 use Rattle.sctp_outbound.specs.payload_queue.Blocks.{is_in_blocks}
 use Rattle.sctp_outbound.specs.payload_queue.PayloadQueue.{past}
-use Rattle.sctp_transfer.specs.Flight.{reports, reports_anew}
+use Rattle.sctp_sender.specs.Flight.{reports, reports_anew}
 use Rattle.sctp_model.specs.LinkRecord.{LinkRecord}
 use Rattle.sctp_model.specs.Messages.{tsn_of}
 use Rattle.sctp_model.specs.Contents.{cumulative_tsn}

@@ -22,15 +22,15 @@ use Rattle.sctp_model.specs.Queues.{FilterRecord}
 use Rattle.sctp_model.specs.Changes.{after_ack}
 use Rattle.sctp_model.specs.Steps.{reply_to}
 use Rattle.sctp_refinement.proofs.acknowledging.SackMade.{blocks-are, reported-outbound}
-use Rattle.sctp_transfer.specs.Receiver.{Reception, filter_of, sack}
-use Rattle.sctp_transfer.specs.TsnFilter.{Filter, gap_ack_blocks, mark}
+use Rattle.sctp_receiver.specs.Receiver.{Reception, filter_of, sack}
+use Rattle.sctp_receiver.specs.TsnFilter.{Filter, gap_ack_blocks, mark}
 use Rattle.sctp_link.specs.Encodings.{IsDatagram, packet_with, block_of}
 use Rattle.sctp_link.specs.Linked.{State, IsLinked}
 use Rattle.sctp_link.proofs.receiver.Came.{blocks-ends, tsns-beyond}
 use Rattle.sctp_link.proofs.upkeep.Facts.{facts, stands-then}
 use Rattle.sctp_link.proofs.upkeep.Frames.{stream-same, encodings-more}
 use Rattle.sctp_model.proofs.receiver.Arrivals.{cumulative-le}
-use Rattle.sctp_transfer.proofs.FilterCalls.{blocks-of}
+use Rattle.sctp_receiver.proofs.FilterCalls.{blocks-of}
 
 -- no more are taken than there are
 take-min : {A : Type 0} (n k : ℕ) (xs : List A) → k ≡ min n (length xs) → take k xs ≡ take n xs

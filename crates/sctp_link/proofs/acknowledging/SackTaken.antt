@@ -17,8 +17,8 @@ use Rattle.sctp_outbound.specs.Marks.{as_acknowledged}
 use Rattle.sctp_outbound.specs.payload_queue.Blocks.{is_in_blocks}
 use Rattle.sctp_outbound.specs.payload_queue.PayloadQueue.{past}
 use Rattle.sctp_outbound.specs.outbound_queue.OutboundQueue.{Outbound, with_inflight}
-use Rattle.sctp_transfer.specs.declared.sender.refusal.SenderRefusal.TheVariants.{InflightQueueTsnPop, TsnRequestNotExist}
-use Rattle.sctp_transfer.specs.Flight.{Flight, reports_anew, is_within, sack_refusal, take_sack, after_sack, released_of, released_by}
+use Rattle.sctp_sender.specs.declared.sender.refusal.SenderRefusal.TheVariants.{InflightQueueTsnPop, TsnRequestNotExist}
+use Rattle.sctp_sender.specs.Flight.{Flight, reports_anew, is_within, sack_refusal, take_sack, after_sack, released_of, released_by}
 use Rattle.sctp_serial.specs.DataChunks.{bytes_of}
 use Rattle.sctp_model.specs.declared.event.Event.TheVariants as E
 use Rattle.sctp_model.specs.declared.event.LinkRefusal.TheVariants.{NoSuchDatagram}

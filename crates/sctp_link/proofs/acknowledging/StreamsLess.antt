@@ -9,8 +9,8 @@ use Rattle.sctp_list_lemmas.proofs.Getting.{map-at}
 use Rattle.sctp_list_lemmas.proofs.Totals.{total-none, total-append, total-where, total-kept_same, numbers-append}
 use Rattle.sctp_chunks.specs.declared.chunk.chunk_payload_data.ChunkPayloadData.{ChunkPayloadData}
 use Rattle.sctp_outbound.specs.Marks.{as_acknowledged}
-use Rattle.sctp_transfer.specs.declared.sender.flight.Released.{Released}
-use Rattle.sctp_transfer.specs.Flight.{released_of}
+use Rattle.sctp_sender.specs.declared.sender.flight.Released.{Released}
+use Rattle.sctp_sender.specs.Flight.{released_of}
 use Rattle.sctp_model.specs.LinkRecord.{LinkRecord}
 use Rattle.sctp_refinement.specs.Amount.{unacked_on, stream_of_slot, bytes_at}
 use Rattle.sctp_refinement.specs.Refines.{sending_of, IsInFlight}

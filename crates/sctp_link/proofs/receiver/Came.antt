@@ -20,9 +20,9 @@ use Rattle.sctp_refinement.specs.Holds.{seen_of}
 use Rattle.sctp_refinement.proofs.arriving.Filter.{tsn_before}
 use Rattle.sctp_refinement.proofs.arriving.FilterQueue.{new-is}
 use Rattle.sctp_refinement.proofs.arriving.SlotArrives
-use Rattle.sctp_transfer.specs.TsnFilter.{Filter, has_come, is_opposite, with_tsn, with_duplicate, skipped_to, offsets, gap_ack_blocks, block_of, mark}
-use Rattle.sctp_transfer.proofs.Marks as Marks
-use Rattle.sctp_transfer.proofs.Marks.{tsns-mark}
+use Rattle.sctp_receiver.specs.TsnFilter.{Filter, has_come, is_opposite, with_tsn, with_duplicate, skipped_to, offsets, gap_ack_blocks, block_of, mark}
+use Rattle.sctp_receiver.proofs.Marks as Marks
+use Rattle.sctp_receiver.proofs.Marks.{tsns-mark}
 use Rattle.sctp_link.specs.Linked.{filter_shown}
 use Rattle.sctp_model.proofs.receiver.Arrivals.{cumulative-le}
 use Rattle.sctp_serial.specs.DataChunks.{tsns}

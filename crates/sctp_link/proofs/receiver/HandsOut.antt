@@ -43,7 +43,7 @@ use Rattle.sctp_refinement.proofs.arriving.SpanEnds.{Begins, set-begins, complet
 use Rattle.sctp_refinement.proofs.amounts.StreamCounters.{counters-read, counters-nothing}
 use Rattle.sctp_halves.specs.Streams.{OpenStream, both_ways, has_number, on_inbound, read_recorded, stats_in, stream_numbers}
 use Rattle.sctp_link.specs.declared.record.Message.{Message}
-use Rattle.sctp_transfer.specs.Inbound.{count_read, stream_read}
+use Rattle.sctp_receiver.specs.Inbound.{count_read, stream_read}
 use Rattle.sctp_stream.specs.declared.stream.DataChannelStats.{DataChannelStats}
 use Rattle.sctp_stream.specs.declared.stream.StreamState.{StreamState}
 use Rattle.sctp_link.specs.Linked.{State, IsLinked, IsOpenStream, stats_of}
@@ -56,7 +56,7 @@ use Rattle.sctp_link.proofs.upkeep.StreamPlaces.{apart-set, changed-found}
 use Rattle.sctp_link.proofs.upkeep.Facts.{facts, over}
 use Rattle.sctp_link.proofs.upkeep.StreamsAfter.{stream-then, linked-then}
 use Rattle.sctp_link.proofs.upkeep.Lookups.{some-open, none-open}
-use Rattle.sctp_transfer.proofs.StreamPlaces.{map-set_same}
+use Rattle.sctp_stream.proofs.StreamPlaces.{map-set_same}
 
 -- set twice
 set-set : {A : Type 0} (xs : List A) (i : ℕ) (a b : A) → slice_set (slice_set xs i a) i b ≡ slice_set xs i b

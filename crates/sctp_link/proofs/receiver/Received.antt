@@ -37,7 +37,7 @@ use Rattle.sctp_refinement.proofs.arriving.Arrival.{with_arrived}
 use Rattle.sctp_refinement.proofs.arriving.Carried.{Carried, carried, enters}
 use Rattle.sctp_refinement.proofs.arriving.SlotArrives
 use Rattle.sctp_refinement.proofs.reading.ReadOne.{next-arrive}
-use Rattle.sctp_transfer.specs.Receiver.{filter_of as held_filter}
+use Rattle.sctp_receiver.specs.Receiver.{filter_of as held_filter}
 use Rattle.sctp_halves.specs.Streams.{OpenStream, stats_in, stream_numbers}
 use Rattle.sctp_halves.specs.Halves.{Sides, reception_of}
 use Rattle.sctp_link.specs.declared.record.Slot.{Slot}

@@ -11,9 +11,9 @@ use Rattle.sctp_model.specs.Receiver.{is_new}
 use Rattle.sctp_model.specs.Changes.{receive_slot, mark_arrived}
 use Rattle.sctp_model.proofs.sender.Network
 use Rattle.sctp_refinement.proofs.arriving.SlotArrives
-use Rattle.sctp_transfer.specs.declared.receiver.arrival.Arrival.{Arrival}
-use Rattle.sctp_transfer.specs.declared.receiver.arrival.Arrival.TheVariants.{New, Repeat}
-use Rattle.sctp_transfer.specs.Receiver.{arrival_of}
+use Rattle.sctp_receiver.specs.declared.receiver.arrival.Arrival.{Arrival}
+use Rattle.sctp_receiver.specs.declared.receiver.arrival.Arrival.TheVariants.{New, Repeat}
+use Rattle.sctp_receiver.specs.Receiver.{arrival_of}
 use Rattle.sctp_halves.specs.Halves.{Sides, reception_of, CanTake, TakesEach}
 use Rattle.sctp_link.specs.declared.record.Slot.{Slot}
 use Rattle.sctp_link.specs.Records.{slot_record}

@@ -23,13 +23,13 @@ use Rattle.sctp_refinement.proofs.arriving.SlotArrives
 use Rattle.sctp_refinement.proofs.arriving.SlotArrives.{Enters, ordered-slot, unordered-slot}
 use Rattle.sctp_refinement.proofs.reading.Keeps
 use Rattle.sctp_stream.specs.declared.stream.StreamState.{StreamState}
-use Rattle.sctp_transfer.specs.declared.receiver.arrival.Arrival.{Arrival}
-use Rattle.sctp_transfer.specs.declared.receiver.arrival.Arrival.TheVariants.{New, Repeat}
-use Rattle.sctp_transfer.specs.declared.receiver.refusal.ReceiverRefusal.{ReceiverRefusal}
-use Rattle.sctp_transfer.specs.declared.receiver.refusal.ReceiverRefusal.TheVariants.{TsnOpposite, MessageTooLarge}
-use Rattle.sctp_transfer.specs.Inbound as Inbound
-use Rattle.sctp_transfer.specs.Receiver.{filter_of as held_filter, stream_of as inbound_of, stream_refusal, data_refusal, arrival_of}
-use Rattle.sctp_transfer.specs.TsnFilter.{Filter, has_come, is_opposite, with_tsn, with_duplicate}
+use Rattle.sctp_receiver.specs.declared.receiver.arrival.Arrival.{Arrival}
+use Rattle.sctp_receiver.specs.declared.receiver.arrival.Arrival.TheVariants.{New, Repeat}
+use Rattle.sctp_receiver.specs.declared.receiver.refusal.ReceiverRefusal.{ReceiverRefusal}
+use Rattle.sctp_receiver.specs.declared.receiver.refusal.ReceiverRefusal.TheVariants.{TsnOpposite, MessageTooLarge}
+use Rattle.sctp_receiver.specs.Inbound as Inbound
+use Rattle.sctp_receiver.specs.Receiver.{filter_of as held_filter, stream_of as inbound_of, stream_refusal, data_refusal, arrival_of}
+use Rattle.sctp_receiver.specs.TsnFilter.{Filter, has_come, is_opposite, with_tsn, with_duplicate}
 use Rattle.sctp_halves.specs.Streams.{Keeps, OpenStream, has_number, stream_numbers}
 use Rattle.sctp_halves.specs.Halves.{Sides, reception_of, with_filter_of, on_stream, is_open, Accepts, Takes, repeat_tsn}
 use Rattle.sctp_link.specs.Records.{stream_record}
@@ -38,7 +38,7 @@ use Rattle.sctp_link.specs.Places.{IsApart}
 use Rattle.sctp_link.proofs.upkeep.Apart.{differ, each-set, number-found, stream-found, streams-set}
 use Rattle.sctp_link.proofs.upkeep.StreamPlaces.{placed, changed-found, apart-set}
 use Rattle.sctp_link.proofs.receiver.Came.{come-is, near-is, filter-new, filter-again}
-use Rattle.sctp_transfer.proofs.StreamPlaces.{map-set_same}
+use Rattle.sctp_stream.proofs.StreamPlaces.{map-set_same}
 
 -- a stream with these complete messages
 abbrev pub shown : ℕ → StreamState → List ℕ → StreamRecord

@@ -1,6 +1,6 @@
 -- A link with nothing opened yet.
 use Rattle.std.proofs.Common.{◌≡◌, ℕ, ◌+◌, ◌-◌, ◌<◌, ◌≤◌, ◌%◌, ◌^◌, List, [], map, refl, ap, arith}
-use Rattle.sctp_transfer.specs.Receiver.{filter_of}
+use Rattle.sctp_receiver.specs.Receiver.{filter_of}
 use Rattle.sctp_model.specs.Queues.{FilterRecord}
 use Rattle.sctp_halves.specs.Halves.{Sides, reception_of, fresh}
 use Rattle.sctp_link.specs.declared.record.Message.{Message}

@@ -43,7 +43,7 @@ use Rattle.sctp_link.proofs.upkeep.Lookups.{none-open}
 use Rattle.sctp_link.proofs.sender.Flying.{one-more-fits}
 use Rattle.sctp_link.proofs.sender.Beginning.{index_kept, indexed-of, plus_begun, numbers-begun, records-begun, length-begun, begun-at, found-one}
 use Rattle.sctp_link.proofs.sender.Starting.{starts-records, start-progress}
-use Rattle.sctp_transfer.proofs.StreamPlaces.{map-set_same}
+use Rattle.sctp_stream.proofs.StreamPlaces.{map-set_same}
 use Rattle.sctp_serial.specs.DataChunks.{following_tsn}
 
 -- a message with one fragment more sent, which takes this index where it is begun

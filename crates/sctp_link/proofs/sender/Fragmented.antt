@@ -9,7 +9,7 @@ use Rattle.sctp_list_lemmas.specs.Lists.{pieces}
 use Rattle.sctp_chunks.specs.declared.chunk.chunk_payload_data.ChunkPayloadData.{ChunkPayloadData}
 use Rattle.sctp_chunks.specs.declared.chunk.chunk_payload_data.PayloadProtocolIdentifier.{PayloadProtocolIdentifier}
 use Rattle.sctp_outbound.specs.outbound_queue.OutboundQueue.{with_message_id}
-use Rattle.sctp_transfer.specs.Outgoing.{fragments_with_mode}
+use Rattle.sctp_sender.specs.Outgoing.{fragments_with_mode}
 use Rattle.sctp_serial.specs.DataChunks.{bytes_of}
 use Rattle.sctp_model.specs.LinkRecord.{LinkRecord, StreamRecord}
 use Rattle.sctp_model.specs.Messages.{message_of, fragment_count, ordered_before}
@@ -22,7 +22,7 @@ use Rattle.sctp_stream.specs.Stream.{pieces_of}
 use Rattle.sctp_link.proofs.sender.Outgoing.{piece-short}
 use Rattle.sctp_link.proofs.upkeep.Bounds.{bytes-few}
 use Rattle.sctp_list_lemmas.proofs.Getting.{map-twice}
-use Rattle.sctp_transfer.proofs.SenderStreams.{made, fragments-made}
+use Rattle.sctp_sender.proofs.SenderStreams.{made, fragments-made}
 
 -- ## Lists
 

@@ -13,7 +13,7 @@ use Rattle.sctp_model.proofs.sender.SenderRun.{unless-holds}
 use Rattle.sctp_refinement.proofs.arriving.Opened
 use Rattle.sctp_refinement.proofs.acknowledging.QuietSender.{outbound-same, same-self}
 use Rattle.sctp_list_lemmas.specs.Lists.{change_where}
-use Rattle.sctp_transfer.specs.Outgoing as Outgoing
+use Rattle.sctp_sender.specs.Outgoing as Outgoing
 use Rattle.sctp_halves.specs.Streams.{OpenStream, has_number, on_state}
 use Rattle.sctp_link.specs.Records.{stream_record}
 use Rattle.sctp_link.specs.Linked.{State, IsOpenStream, IsLinked}

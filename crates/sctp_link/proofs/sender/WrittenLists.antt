@@ -21,10 +21,10 @@ use Rattle.sctp_model.proofs.sender.SenderRun.{unless-holds}
 use Rattle.sctp_model.specs.Messages as M
 use Rattle.sctp_refinement.proofs.amounts.StreamAmounts.{write-open}
 use Rattle.sctp_list_lemmas.specs.Lists.{change_where}
-use Rattle.sctp_transfer.specs.Outgoing as Outgoing
-use Rattle.sctp_transfer.specs.Outgoing.{fragments_with_mode}
-use Rattle.sctp_transfer.specs.Sender.{Transmission, is_full_of, write_refusal}
-use Rattle.sctp_transfer.proofs.SenderStreams
+use Rattle.sctp_sender.specs.Outgoing as Outgoing
+use Rattle.sctp_sender.specs.Outgoing.{fragments_with_mode}
+use Rattle.sctp_sender.specs.Sender.{Transmission, is_full_of, write_refusal}
+use Rattle.sctp_sender.proofs.SenderStreams
 use Rattle.sctp_halves.specs.Streams.{OpenStream, has_number, written_of, wrote_to}
 use Rattle.sctp_link.proofs.upkeep.StreamPlaces.{placed}
 use Rattle.sctp_link.specs.declared.record.Message.{Message}
@@ -37,7 +37,7 @@ use Rattle.sctp_link.proofs.upkeep.Frames.{moved}
 use Rattle.sctp_link.proofs.sender.Modes.{found-open}
 use Rattle.sctp_link.proofs.upkeep.Bounds.{queued-few, messages-few}
 use Rattle.sctp_link.proofs.sender.Writing
-use Rattle.sctp_transfer.proofs.SenderStreams.{fragments-made}
+use Rattle.sctp_sender.proofs.SenderStreams.{fragments-made}
 
 -- a list that is not empty
 pub some-bytes : (bytes : List ℕ) (b : Bool) → b ≡ (length bytes == 0) → b ≡ false → 0 < length bytes

@@ -20,7 +20,7 @@ use Rattle.sctp_refinement.specs.Holds.{reassembly_of}
 use Rattle.sctp_refinement.specs.Naming.{on_stream, end_named}
 use Rattle.sctp_refinement.proofs.skipping.SkipSpans.{gone_forward}
 use Rattle.sctp_refinement.proofs.skipping.SkipsInTurn.{skips-in-turn}
-use Rattle.sctp_transfer.specs.Inbound.{ssns_of, skipped_each}
+use Rattle.sctp_receiver.specs.Inbound.{ssns_of, skipped_each}
 use Rattle.sctp_link.specs.declared.record.Message.{Message}
 use Rattle.sctp_link.specs.Linked.{State, IsLinked}
 use Rattle.sctp_link.specs.Records.{message_record, progress_of}

@@ -21,11 +21,11 @@ use Rattle.sctp_refinement.proofs.acknowledging.QuietSender
 use Rattle.sctp_refinement.proofs.skipping.SkipStep.{with_skip, skip-step}
 use Rattle.sctp_refinement.proofs.skipping.SkipSpans.{queue-skip, next-skip, named-from}
 use Rattle.sctp_refinement.proofs.amounts.StreamCounters.{counters-same}
-use Rattle.sctp_transfer.specs.Inbound.{ssns_of, skipped_each}
-use Rattle.sctp_transfer.specs.Receiver.{forward_refusal}
-use Rattle.sctp_transfer.specs.Receiver as R
-use Rattle.sctp_transfer.specs.declared.receiver.refusal.ReceiverRefusal.TheVariants.{TsnOpposite}
-use Rattle.sctp_transfer.specs.TsnFilter.{Filter, skipped_to, is_opposite}
+use Rattle.sctp_receiver.specs.Inbound.{ssns_of, skipped_each}
+use Rattle.sctp_receiver.specs.Receiver.{forward_refusal}
+use Rattle.sctp_receiver.specs.Receiver as R
+use Rattle.sctp_receiver.specs.declared.receiver.refusal.ReceiverRefusal.TheVariants.{TsnOpposite}
+use Rattle.sctp_receiver.specs.TsnFilter.{Filter, skipped_to, is_opposite}
 use Rattle.sctp_list_lemmas.specs.Serial.{at_or_before}
 use Rattle.sctp_halves.specs.Streams.{OpenStream, stream_numbers, on_inbound, forwarded_on}
 use Rattle.sctp_halves.specs.Halves.{Sides, reception_of, with_filter_of, follow_forward_tsn, after_forward}
@@ -42,7 +42,7 @@ use Rattle.sctp_link.proofs.upkeep.StreamsAfter.{stream-then, linked-then}
 use Rattle.sctp_link.proofs.skipping.SkipComes.{Skips, skips-in, names-are, open-at, spans}
 use Rattle.sctp_link.proofs.skipping.NamesInTurn.{pairs_of, queue-in-turn}
 use Rattle.sctp_list_lemmas.proofs.Getting.{length-mapped}
-use Rattle.sctp_transfer.proofs.Forwarded.{skipped-number, skipped-size}
+use Rattle.sctp_receiver.proofs.Forwarded.{skipped-number, skipped-size}
 
 -- a stream after it
 abbrev pub skipped_stream : LinkRecord → ℕ → List ℕ → List Message → OpenStream → OpenStream

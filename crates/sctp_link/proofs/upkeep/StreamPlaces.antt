@@ -11,7 +11,7 @@ use Rattle.sctp_halves.specs.Streams.{OpenStream, number, has_number, stream_num
 use Rattle.sctp_link.specs.Places.{IsApart}
 use Rattle.sctp_link.proofs.upkeep.Apart.{number-found, differ}
 use Rattle.sctp_link.proofs.upkeep.ChangedStreams.{fields-same}
-use Rattle.sctp_transfer.proofs.StreamPlaces.{map-set_same}
+use Rattle.sctp_stream.proofs.StreamPlaces.{map-set_same}
 
 -- the place of a stream that is found
 pub placed : (s : ℕ) (ls : List OpenStream) (l : OpenStream) → find (has_number s) ls ≡ Some l → (k : ℕ) × ((k < length ls) × ((d : OpenStream) → slice_index_or ls k d ≡ l))

@@ -15,7 +15,7 @@ use Rattle.sctp_model.specs.Laws.{IsSetup}
 use Rattle.sctp_model.proofs.sender.Shape.{Shape, shape, sent, parts, on}
 use Rattle.sctp_model.proofs.sender.Network.{Same}
 use Rattle.sctp_refinement.specs.Holds.{reassembly_of}
-use Rattle.sctp_transfer.specs.TsnFilter.{Filter}
+use Rattle.sctp_receiver.specs.TsnFilter.{Filter}
 use Rattle.sctp_refinement.specs.Amount.{amount, keeps_amounts}
 use Rattle.sctp_refinement.specs.Counts.{counters_on}
 use Rattle.sctp_refinement.specs.Indexes.{begun_on}

@@ -8,7 +8,7 @@ use sctp_base::util::Checksum;
 use sctp_queues::outbound_queue::OutboundQueue;
 use sctp_queues::payload_queue::PayloadQueue;
 use sctp_queues::reassembly_queue::ReassemblyQueue;
-use sctp_transfer::stream::DataChannelStats;
+use sctp_stream::stream::DataChannelStats;
 
 /// The bytes of all messages: each written one is pending, in flight or released.
 #[derive(Clone, Copy, Debug, PartialEq, Eq)]

@@ -7,7 +7,7 @@ ghost use Rattle.sctp_link.specs.Receiving.{number_at, arrived_in, repeated_of, 
 
 use crate::record::Slot;
 use sctp_base::error::Result;
-use sctp_transfer::receiver::arrival::Arrival;
+use sctp_receiver::receiver::arrival::Arrival;
 use std::alloc::Global;
 
 /// The numbers of the messages of these slots. Refuses only for memory.

@@ -1,11 +1,11 @@
 use Rattle.std.proofs.Common.{◌≡◌, ap}
 use Rattle.std.specs.Prelude.{Result, Ok, Err, IfOk, OnErr}
 use Rattle.sctp_chunks.specs.declared.chunk.chunk_payload_data.ChunkPayloadData.{ChunkPayloadData}
-use Rattle.sctp_transfer.specs.declared.receiver.arrival.Arrival.{Arrival}
-use Rattle.sctp_transfer.specs.declared.receiver.refusal.ReceiverRefusal.{ReceiverRefusal}
-use Rattle.sctp_transfer.specs.Inbound.{numbers_of}
-use Rattle.sctp_transfer.specs.Receiver.{Reception, Takes}
-use Rattle.sctp_transfer.proofs.DataEach.{takes-keeps}
+use Rattle.sctp_receiver.specs.declared.receiver.arrival.Arrival.{Arrival}
+use Rattle.sctp_receiver.specs.declared.receiver.refusal.ReceiverRefusal.{ReceiverRefusal}
+use Rattle.sctp_receiver.specs.Inbound.{numbers_of}
+use Rattle.sctp_receiver.specs.Receiver.{Reception, Takes}
+use Rattle.sctp_receiver.proofs.DataEach.{takes-keeps}
 use Rattle.transfer_tests.proofs.saving_tests.is_taken.Goals as goal
 
 -- whatever the receiver answers

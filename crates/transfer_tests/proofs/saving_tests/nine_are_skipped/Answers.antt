@@ -1,11 +1,11 @@
 use Rattle.std.proofs.Common.{◌≡◌, ap, ◌∙◌}
 use Rattle.std.specs.Prelude.{Result, Ok, Err, OnOk, OnErr}
 use Rattle.sctp_chunks.specs.ForwardTsn.{ForwardTsn}
-use Rattle.sctp_transfer.specs.declared.receiver.arrival.Forwarded.{Forwarded}
-use Rattle.sctp_transfer.specs.declared.receiver.refusal.ReceiverRefusal.{ReceiverRefusal}
-use Rattle.sctp_transfer.specs.Inbound.{numbers_of}
-use Rattle.sctp_transfer.specs.Receiver.{Reception, after_forward}
-use Rattle.sctp_transfer.proofs.Forwarded.{after-numbers}
+use Rattle.sctp_receiver.specs.declared.receiver.arrival.Forwarded.{Forwarded}
+use Rattle.sctp_receiver.specs.declared.receiver.refusal.ReceiverRefusal.{ReceiverRefusal}
+use Rattle.sctp_receiver.specs.Inbound.{numbers_of}
+use Rattle.sctp_receiver.specs.Receiver.{Reception, after_forward}
+use Rattle.sctp_receiver.proofs.Forwarded.{after-numbers}
 use Rattle.transfer_tests.proofs.saving_tests.nine_are_skipped.Goals as goal
 
 -- whatever the receiver answers

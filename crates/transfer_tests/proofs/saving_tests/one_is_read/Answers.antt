@@ -1,8 +1,8 @@
 use Rattle.std.proofs.Common.{◌≡◌, ap, ◌∙◌}
 use Rattle.std.specs.Prelude.{Result, Ok, Err, OnOk, OnErr}
-use Rattle.sctp_transfer.specs.Inbound.{numbers_of}
-use Rattle.sctp_transfer.specs.Receiver.{Reception, after_read}
-use Rattle.sctp_transfer.proofs.Receptions.{read-numbers}
+use Rattle.sctp_receiver.specs.Inbound.{numbers_of}
+use Rattle.sctp_receiver.specs.Receiver.{Reception, after_read}
+use Rattle.sctp_receiver.proofs.Receptions.{read-numbers}
 use Rattle.transfer_tests.proofs.saving_tests.one_is_read.Goals as goal
 
 -- whatever the receiver answers

@@ -1,6 +1,6 @@
 use Rattle.std.proofs.Common.{refl}
-use Rattle.sctp_transfer.specs.Flight.{message_to_abandon, after_abandonment}
-use Rattle.sctp_transfer.specs.Outgoing.{less_by}
+use Rattle.sctp_sender.specs.Flight.{message_to_abandon, after_abandonment}
+use Rattle.sctp_sender.specs.Outgoing.{less_by}
 use Rattle.sctp_halves.proofs.Sends.{sender-same, on-aligned, on-sides}
 use Rattle.sctp_halves.proofs.halves.Halves.abandon.Goals as goal
 use Rattle.sctp_halves.proofs.halves.Halves.abandon.Goals.{in-Ok, in-Err-OutOfMemory}

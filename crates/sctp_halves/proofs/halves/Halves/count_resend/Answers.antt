@@ -1,7 +1,7 @@
 use Rattle.std.specs.Prelude.{find}
 use Rattle.sctp_chunks.specs.declared.chunk.chunk_payload_data.ChunkPayloadData.{ChunkPayloadData}
 use Rattle.sctp_serial.specs.DataChunks.{has_tsn}
-use Rattle.sctp_transfer.specs.Flight.{resent}
+use Rattle.sctp_sender.specs.Flight.{resent}
 use Rattle.sctp_halves.proofs.Sends.{counted-aligned}
 use Rattle.sctp_halves.proofs.halves.Halves.count_resend.Goals as goal
 

@@ -3,7 +3,7 @@ use Rattle.std.specs.Prelude.{IfSome}
 use Rattle.sctp_chunks.specs.declared.chunk.chunk_payload_data.ChunkPayloadData.{ChunkPayloadData}
 use Rattle.sctp_outbound.specs.outbound_queue.OutboundQueue.{Outbound, expiring}
 use Rattle.sctp_outbound.specs.pending_queue.PendingQueue.{next_pending}
-use Rattle.sctp_transfer.specs.Sender as S
+use Rattle.sctp_sender.specs.Sender as S
 use Rattle.sctp_halves.specs.Halves.{on_stream}
 use Rattle.sctp_halves.proofs.Aligned.{sides}
 use Rattle.sctp_halves.proofs.Sends.{one_less}

@@ -1,7 +1,7 @@
 use Rattle.std.proofs.Common.{refl}
 use Rattle.sctp_outbound.specs.outbound_queue.OutboundQueue.{expiring_tail, message_of}
-use Rattle.sctp_transfer.specs.Flight.{after_abandonment}
-use Rattle.sctp_transfer.specs.Outgoing.{less_by}
+use Rattle.sctp_sender.specs.Flight.{after_abandonment}
+use Rattle.sctp_sender.specs.Outgoing.{less_by}
 use Rattle.sctp_halves.proofs.Sends.{either-some, sender-same, some-of, on-aligned, on-sides}
 use Rattle.sctp_halves.proofs.halves.Halves.expire_tail.Goals as goal
 use Rattle.sctp_halves.proofs.halves.Halves.expire_tail.Goals.{in-Ok-Some, in-Err-OutOfMemory}

@@ -1,7 +1,7 @@
 use Rattle.std.proofs.Common.{ap, ◌∙◌, refl, ◌++◌, ◌∷◌, []}
 use Rattle.std.specs.List.{filter}
 use Rattle.sctp_stream.specs.Numbers.{is_other}
-use Rattle.sctp_transfer.specs.Sender as S
+use Rattle.sctp_sender.specs.Sender as S
 use Rattle.sctp_halves.specs.declared.halves.progress.StreamProgress.{StreamProgress}
 use Rattle.sctp_halves.specs.Halves.{stream_in}
 use Rattle.sctp_halves.proofs.Opening.{is-absent, number-undone, sender-undone, on-error, on-ok, aligned-same, sides-same, opened-sides}

@@ -1,9 +1,9 @@
 use Rattle.std.proofs.Common.{◌≡◌, ◌<◌, ap, sym, ◌∙◌, refl, arith, subst, length, take}
 use Rattle.std.specs.Prelude.{slice_index_or}
 use Rattle.std.proofs.lemmas.List.{get_or_default}
-use Rattle.sctp_transfer.specs.Inbound as Inbound
-use Rattle.sctp_transfer.specs.Receiver.{Reception}
-use Rattle.sctp_transfer.specs.Sender.{Transmission}
+use Rattle.sctp_receiver.specs.Inbound as Inbound
+use Rattle.sctp_receiver.specs.Receiver.{Reception}
+use Rattle.sctp_sender.specs.Sender.{Transmission}
 use Rattle.sctp_halves.specs.declared.halves.progress.StreamProgress.{StreamProgress}
 use Rattle.sctp_halves.specs.Halves.{Grows, IsAligned}
 use Rattle.sctp_halves.proofs.Aligned.{sides, with-receiver, with-progresses}

@@ -1,5 +1,5 @@
 use Rattle.std.proofs.Common.{refl}
-use Rattle.sctp_transfer.specs.Outgoing.{with_mode}
+use Rattle.sctp_sender.specs.Outgoing.{with_mode}
 use Rattle.sctp_halves.proofs.Sends.{mode-set, on-aligned, on-sides}
 use Rattle.sctp_halves.proofs.halves.Halves.set_mode.Goals as goal
 

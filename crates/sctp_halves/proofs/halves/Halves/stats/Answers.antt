@@ -1,6 +1,6 @@
 use Rattle.std.proofs.Common.{◌∙◌}
 use Rattle.sctp_stream.specs.declared.stream.StreamState.{StreamState}
-use Rattle.sctp_transfer.specs.declared.receiver.inbound_streams.InboundStream.{InboundStream}
+use Rattle.sctp_receiver.specs.declared.receiver.inbound_streams.InboundStream.{InboundStream}
 use Rattle.sctp_halves.specs.Streams.{OpenStream, stats_in}
 use Rattle.sctp_halves.specs.Halves.{stream_in}
 use Rattle.sctp_halves.proofs.Aligned.{sides}

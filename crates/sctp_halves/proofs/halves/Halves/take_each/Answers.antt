@@ -2,7 +2,7 @@ use Rattle.std.proofs.Common.{rules, ◌≡◌, ◌<◌, ◌+◌, ◌++◌, ◌�
 use Rattle.std.specs.Prelude.{slice_index_or}
 use Rattle.std.proofs.lemmas.List.{take_more, take_all, length-take}
 use Rattle.sctp_chunks.specs.declared.chunk.chunk_payload_data.ChunkPayloadData.{ChunkPayloadData}
-use Rattle.sctp_transfer.specs.declared.receiver.arrival.Arrival.{Arrival}
+use Rattle.sctp_receiver.specs.declared.receiver.arrival.Arrival.{Arrival}
 use Rattle.sctp_halves.specs.Halves.{TakesEach, TakesFirst, Takes}
 use Rattle.sctp_halves.proofs.Growing.{grows-same, grows-then}
 use Rattle.sctp_halves.proofs.Taken.{CanFrom, takes-next, can-inside, can-next}

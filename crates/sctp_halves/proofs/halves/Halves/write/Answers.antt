@@ -2,11 +2,11 @@ use Rattle.std.proofs.Common.{◌≡◌, ◌<◌, ◌+◌, ◌^◌, ap, sym, ◌
 use Rattle.std.specs.Prelude.{option_map}
 use Rattle.sctp_chunks.specs.PayloadTypes.{is_ordered}
 use Rattle.sctp_stream.specs.declared.stream.StreamState.{StreamState}
-use Rattle.sctp_transfer.specs.declared.sender.refusal.SenderRefusal.TheVariants.{StreamUnknown}
-use Rattle.sctp_transfer.specs.Outgoing as Outgoing
-use Rattle.sctp_transfer.specs.Sender.{write_refusal}
-use Rattle.sctp_transfer.proofs.SenderStreams.{unknown}
-use Rattle.sctp_transfer.proofs.StreamPlaces as Places
+use Rattle.sctp_sender.specs.declared.sender.refusal.SenderRefusal.TheVariants.{StreamUnknown}
+use Rattle.sctp_sender.specs.Outgoing as Outgoing
+use Rattle.sctp_sender.specs.Sender.{write_refusal}
+use Rattle.sctp_sender.proofs.SenderStreams.{unknown}
+use Rattle.sctp_stream.proofs.StreamPlaces as Places
 use Rattle.sctp_halves.specs.declared.halves.progress.StreamProgress.{StreamProgress}
 use Rattle.sctp_halves.specs.Streams.{OpenStream}
 use Rattle.sctp_halves.specs.Halves.{stream_in, transmission_of}

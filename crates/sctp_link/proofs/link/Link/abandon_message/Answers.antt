@@ -1,6 +1,6 @@
 use Rattle.std.proofs.Common.{◌≡◌, ◌<◌, ◌^◌, ◌++◌, Bool, true, false, ap, sym, ◌∙◌, None, refl, rules, arith, subst}
 use Rattle.sctp_list_lemmas.proofs.Getting.{length-mapped}
-use Rattle.sctp_transfer.specs.Flight.{message_to_abandon}
+use Rattle.sctp_sender.specs.Flight.{message_to_abandon}
 use Rattle.sctp_halves.specs.Halves.{Sides, abandoned_on}
 use Rattle.sctp_model.specs.Amounts.{growth}
 use Rattle.sctp_model.specs.Messages.{message_of, place_of, is_partially_sent}

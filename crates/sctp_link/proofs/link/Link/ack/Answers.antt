@@ -3,7 +3,7 @@ use Rattle.sctp_list_lemmas.proofs.Getting.{length-mapped}
 use Rattle.sctp_chunks.specs.SelectiveAck.{Sack, sack_of}
 use Rattle.sctp_model.specs.Reply as R
 use Rattle.sctp_model.specs.Changes.{after_ack}
-use Rattle.sctp_transfer.specs.Receiver.{filter_of}
+use Rattle.sctp_receiver.specs.Receiver.{filter_of}
 use Rattle.sctp_halves.specs.Halves.{reception_of}
 use Rattle.sctp_link.specs.declared.record.Kind.{Kind}
 use Rattle.sctp_link.specs.declared.record.Kind.TheVariants as K

@@ -11,7 +11,7 @@ use Rattle.sctp_model.specs.Contents.{cumulative_tsn}
 use Rattle.sctp_model.specs.Reply as R
 use Rattle.sctp_model.specs.Steps.{refusal_of}
 use Rattle.sctp_refinement.specs.Amount.{acknowledged_at}
-use Rattle.sctp_transfer.specs.Flight.{released_by, after_sack}
+use Rattle.sctp_sender.specs.Flight.{released_by, after_sack}
 use Rattle.sctp_halves.specs.Streams.{after_releases}
 use Rattle.sctp_halves.specs.Halves.{Sides}
 use Rattle.sctp_link.specs.Acking.{IsMarking, and_run, and_blocks, in_block}

@@ -2,7 +2,7 @@ use Rattle.std.proofs.Common.{◌≡◌, ap, sym, ◌∙◌}
 use Rattle.sctp_model.specs.Queues.{FilterRecord}
 use Rattle.sctp_model.specs.Receiver.{cumulative}
 use Rattle.sctp_model.specs.Contents.{cumulative_tsn}
-use Rattle.sctp_transfer.proofs.Marks.{tsns-mark}
+use Rattle.sctp_receiver.proofs.Marks.{tsns-mark}
 use Rattle.sctp_link.specs.Fields.{record_in}
 use Rattle.sctp_link.proofs.link.Link.filter.Goals as goal
 use Rattle.sctp_serial.specs.DataChunks.{tsns}

@@ -18,7 +18,7 @@ use Rattle.sctp_link.proofs.upkeep.StreamPlaces.{placed}
 use Rattle.sctp_link.proofs.receiver.Hears.{lead-slot, lead-number, messages-made, message-raw, kept-raw}
 use Rattle.sctp_link.proofs.receiver.HandsOut.{none-mapped, some-mapped, open-there, recorded-nothing, linked-nothing, reply-nothing, read-is, hands, hands-begins, ppi-handed, low, reply-read, recorded-recorded, linked-recorded}
 use Rattle.sctp_link.proofs.link.Link.read.Goals as goal
-use Rattle.sctp_transfer.proofs.StreamPlaces.{map-set_same}
+use Rattle.sctp_stream.proofs.StreamPlaces.{map-set_same}
 
 pub read-requires : goal.read-requires
 read-requires g c =

@@ -1,0 +1,131 @@
+-- Worked examples, by computation.
+use Rattle.std.proofs.Common.{◌≡◌, ℕ, Bool, true, false, List, [], ◌∷◌, Some, None, refl}
+use Rattle.sctp_chunks.specs.ChunkSet.{fresh}
+use Rattle.sctp_chunks.specs.declared.chunk.chunk_payload_data.PayloadProtocolIdentifier.TheVariants as identifiers
+use Rattle.sctp_chunks.specs.declared.chunk.chunk_payload_data.ChunkPayloadData.{ChunkPayloadData}
+use Rattle.sctp_list_lemmas.specs.Serial.{distance, comes_before, at_or_before, comes_before16, at_or_before16, distance16}
+use Rattle.sctp_receiver.specs.declared.receiver.refusal.ReceiverRefusal.TheVariants.{StreamUnknown, MessageTooLarge}
+use Rattle.sctp_receiver.specs.declared.receiver.arrival.Arrival.TheVariants.{New, Repeat}
+use Rattle.sctp_receiver.specs.Inbound.{new_stream, has_number, with_queue}
+use Rattle.sctp_receiver.specs.Receiver.{Reception, at_first, open_stream, data_refusal, filter_of, with_filter, repeat_tsn, TakesEach}
+use Rattle.sctp_list_lemmas.specs.Lists.{change_where}
+use Rattle.sctp_reassembly.specs.reassembly_queue.ReassemblyQueue.{ReassemblyState, after_ordered_push}
+use Rattle.sctp_receiver.specs.TsnFilter.{Filter, with_tsn, skipped_to, gap_ack_blocks, has_come, is_opposite}
+
+-- TSNs 15, 14 and 17 came beyond 12: so RFC 4960 3.3.4 shows its blocks
+abbrev twelve : Filter
+twelve = record { cumulative_tsn = 12; beyond = []; duplicates = []; room = 0 }
+
+abbrev to_seventeen : Filter
+to_seventeen = with_tsn 17 (with_tsn 14 (with_tsn 15 twelve))
+
+blocks : gap_ack_blocks to_seventeen ≡ record { start = 2; end = 3 } ∷ record { start = 5; end = 5 } ∷ []
+unfolding distance comes_before
+blocks = refl
+
+-- then 13 comes, and 16
+thirteen : (with_tsn 13 to_seventeen).cumulative_tsn ≡ 15
+unfolding distance comes_before
+thirteen = refl
+
+sixteen : with_tsn 16 (with_tsn 13 to_seventeen) ≡ record { cumulative_tsn = 17; beyond = []; duplicates = []; room = 0 }
+unfolding distance comes_before
+sixteen = refl
+
+-- a skip to 13 goes on to 15
+skip : skipped_to 13 to_seventeen ≡ record { cumulative_tsn = 15; beyond = 17 ∷ []; duplicates = []; room = 0 }
+unfolding distance comes_before at_or_before
+skip = refl
+
+-- TSNs wrap
+abbrev last_tsn : Filter
+last_tsn = record { cumulative_tsn = 4294967294; beyond = []; duplicates = []; room = 0 }
+
+wraps : with_tsn 4294967295 (with_tsn 0 last_tsn) ≡ record { cumulative_tsn = 0; beyond = []; duplicates = []; room = 0 }
+unfolding distance comes_before
+wraps = refl
+
+-- what lies before came, and what lies half the circle away neither came nor can
+before_came : has_come 4294967000 last_tsn ≡ true
+unfolding distance at_or_before
+before_came = refl
+
+opposite : is_opposite 2147483646 last_tsn ≡ true
+unfolding distance
+opposite = refl
+
+-- ## A receiver
+
+abbrev fragment : ℕ → Bool → Bool → List ℕ → ChunkPayloadData
+fragment tsn begins ends bytes = fresh (record {
+  unordered = false;
+  beginning_fragment = begins;
+  ending_fragment = ends;
+  immediate_sack = false;
+  tsn = tsn;
+  stream_identifier = 1;
+  stream_sequence_number = 0;
+  payload_type = identifiers.Binary;
+  user_data = bytes;
+})
+
+-- no stream is open
+unknown : data_refusal (fragment 7 true true (1 ∷ [])) (at_first 7 2) ≡ Some StreamUnknown
+unfolding distance at_or_before
+unknown = refl
+
+-- a message may have two bytes
+too_large : data_refusal (fragment 7 true true (1 ∷ 2 ∷ 3 ∷ [])) (open_stream 1 (at_first 7 2)) ≡ Some MessageTooLarge
+unfolding distance at_or_before
+too_large = refl
+
+fits : data_refusal (fragment 7 true true (1 ∷ 2 ∷ [])) (open_stream 1 (at_first 7 2)) ≡ None
+unfolding distance at_or_before
+fits = refl
+
+-- a datagram with a message in two chunks, the first of which stands in it twice
+abbrev front : ChunkPayloadData
+front = fragment 7 true false (1 ∷ [])
+
+abbrev back : ChunkPayloadData
+back = fragment 8 false true (2 ∷ [])
+
+abbrev at_one : ReassemblyState
+at_one = after_ordered_push front (new_stream 1 2).queue
+
+abbrev at_two : ReassemblyState
+at_two = after_ordered_push back at_one
+
+abbrev taken_on : ChunkPayloadData → ReassemblyState → Reception → Reception
+taken_on c q r = with_filter (with_tsn c.tsn (filter_of r)) (record r { streams = change_where (has_number 1) (with_queue q) r.streams })
+
+abbrev one_open : Reception
+one_open = open_stream 1 (at_first 7 2)
+
+abbrev after_datagram : Reception
+after_datagram = taken_on back at_two (repeat_tsn 7 (taken_on front at_one one_open))
+
+datagram : TakesEach (front ∷ front ∷ back ∷ []) (New ∷ Repeat ∷ New ∷ []) one_open after_datagram
+unfolding distance at_or_before comes_before at_or_before16 comes_before16 distance16
+datagram = (
+  taken_on front at_one one_open,
+  (
+    record { accepted = refl; answer = refl; taken = record { stream = new_stream 1 2; found = refl; queue = at_one; pushed = refl; after = refl } },
+    (
+      repeat_tsn 7 (taken_on front at_one one_open),
+      (
+        record { accepted = refl; answer = refl; taken = refl },
+        (after_datagram, (record { accepted = refl; answer = refl; taken = record { stream = with_queue at_one (new_stream 1 2); found = refl; queue = at_two; pushed = refl; after = refl } }, refl)),
+      ),
+    ),
+  ),
+)
+
+-- all came, 7 twice
+up_to_eight : after_datagram.cumulative_tsn ≡ 8
+unfolding distance at_or_before comes_before at_or_before16 comes_before16 distance16
+up_to_eight = refl
+
+seven_twice : after_datagram.duplicates ≡ 7 ∷ []
+unfolding distance at_or_before comes_before at_or_before16 comes_before16 distance16
+seven_twice = refl

@@ -1,0 +1,340 @@
+-- What a receiver hands out, in every run of calls.
+use Rattle.std.proofs.Common.{◌≡◌, ℕ, ◌+◌, ◌≤◌, Bool, true, false, List, [], ◌∷◌, ◌++◌, Option, Some, None, refl, ap, sym, ◌∙◌, arith, subst}
+use Rattle.std.specs.Prelude.{◌==◌, if◌then◌else◌, find, not, option_map}
+use Rattle.std.specs.Option.{option_or}
+use Rattle.std.specs.List.{list_all, sum_by, filter}
+use Rattle.std.proofs.lemmas.Bool.{eq-eqb}
+use Rattle.std.proofs.lemmas.List.Folds.{find-append}
+use Rattle.std.proofs.lemmas.List.Sums.{sum_by-cons, sum_by-append}
+use Rattle.sctp_list_lemmas.specs.Lists.{change_where}
+use Rattle.sctp_list_lemmas.proofs.Cases.{same-is}
+use Rattle.sctp_list_lemmas.proofs.More.{and, fails, not_both}
+use Rattle.sctp_chunks.specs.declared.chunk.chunk_payload_data.ChunkPayloadData.{ChunkPayloadData}
+use Rattle.sctp_chunks.specs.declared.chunk.chunk_forward_tsn.ChunkForwardTsnStream.{ChunkForwardTsnStream}
+use Rattle.sctp_chunks.specs.ChunkSet.{ChunkSet}
+use Rattle.sctp_chunks.specs.ForwardTsn.{ForwardTsn}
+use Rattle.sctp_reassembly.specs.reassembly_queue.Fragments.{is_complete}
+use Rattle.sctp_reassembly.specs.reassembly_queue.ReassemblyQueue.{message_read}
+use Rattle.sctp_receiver.specs.declared.receiver.arrival.Arrival.TheVariants.{New, Repeat}
+use Rattle.sctp_receiver.specs.declared.receiver.inbound_streams.InboundStream.{InboundStream}
+use Rattle.sctp_receiver.specs.Inbound.{number, has_number, new_stream, with_queue, stream_read, ssn_forwarded, named_forwarded, unassembled_forwarded}
+use Rattle.sctp_receiver.specs.Receiver.{Reception, stream_of, Accepts, message_of, message_on, after_read, is_stale, follow_forward_tsn, after_forward}
+use Rattle.sctp_receiver.specs.ReceiverRuns.{Call, opens, closes, takes, reports, reads, forwards, Message, Stand, with_message, Follows, RunsTo, at_start, AfterEachRun, AreComplete, WereAccepted, fragments_read}
+use Rattle.sctp_receiver.proofs.Inbounds.{pushed-number}
+use Rattle.sctp_receiver.proofs.Weights as weights
+use Rattle.sctp_receiver.proofs.Weights.{weight, message_weight}
+use Rattle.sctp_receiver.proofs.CompleteMessages.{all_complete, message_complete, pushed-complete, read-complete, rest-complete}
+use Rattle.sctp_receiver.proofs.Forwarded.{found-mapped}
+use Rattle.sctp_serial.specs.DataChunks.{is_on}
+
+-- ## A stream, by its number
+
+found-number : (s : ℕ) (ls : List InboundStream) (x : InboundStream) → find (has_number s) ls ≡ Some x → (number x == s) ≡ true
+found-number s [] x e = cc
+found-number s (l ∷ ls) x e = by (number l == s) refl e (found-number s ls x)
+  where
+    by : (b : Bool) → (number l == s) ≡ b → (if b then Some l else find (has_number s) ls) ≡ Some x → (find (has_number s) ls ≡ Some x → (number x == s) ≡ true) → (number x == s) ≡ true
+    by true h e ih = let same : l ≡ x = cc in ap (λ y. number y == s) (sym same) ∙ h
+    by false h e ih = ih e
+
+-- after a change of one stream, which keeps its number
+found-changed : (s st : ℕ) (f : InboundStream → InboundStream) → ((l : InboundStream) → (number l == s) ≡ true → number (f l) ≡ number l) → (ls : List InboundStream) → find (has_number st) (change_where (has_number s) f ls) ≡ option_map (λ l. if has_number s l then f l else l) (find (has_number st) ls)
+found-changed s st f keeps [] = refl
+found-changed s st f keeps (l ∷ ls) = by (number l == s) refl (number l == st) refl (found-changed s st f keeps ls)
+  where
+    by : (b : Bool) → (number l == s) ≡ b → (c : Bool) → (number l == st) ≡ c → find (has_number st) (change_where (has_number s) f ls) ≡ option_map (λ l. if has_number s l then f l else l) (find (has_number st) ls)
+        → find (has_number st) ((if b then f l else l) ∷ change_where (has_number s) f ls) ≡ option_map (λ l. if has_number s l then f l else l) (if c then Some l else find (has_number st) ls)
+    by true h true g ih =
+        ap (λ (n : ℕ). if n == st then Some (f l) else find (has_number st) (change_where (has_number s) f ls)) (keeps l h)
+        ∙ ap (λ b. if b then Some (f l) else find (has_number st) (change_where (has_number s) f ls)) g ∙ ap (λ b. Some (if b then f l else l)) (sym h)
+    by true h false g ih =
+        ap (λ (n : ℕ). if n == st then Some (f l) else find (has_number st) (change_where (has_number s) f ls)) (keeps l h)
+        ∙ ap (λ b. if b then Some (f l) else find (has_number st) (change_where (has_number s) f ls)) g ∙ ih
+    by false h true g ih = ap (λ b. if b then Some l else find (has_number st) (change_where (has_number s) f ls)) g ∙ ap (λ b. Some (if b then f l else l)) (sym h)
+    by false h false g ih = ap (λ b. if b then Some l else find (has_number st) (change_where (has_number s) f ls)) g ∙ ih
+
+-- ## What a stream holds
+
+abbrev pub held_weight : (ChunkPayloadData → ℕ) → Option InboundStream → ℕ
+held_weight w None = 0
+held_weight w (Some l) = weight w l.queue.held
+
+abbrev pub held_complete : Option InboundStream → Bool
+held_complete None = true
+held_complete (Some l) = all_complete l.queue.held.unordered
+
+-- no more than before
+record IsNoMore (old new : Option InboundStream) : Type 0 where
+  weighs : (w : ChunkPayloadData → ℕ) → held_weight w new ≤ held_weight w old
+  complete : held_complete old ≡ true → held_complete new ≡ true
+
+same-held : (o : Option InboundStream) → IsNoMore o o
+same-held o = record { weighs = λ w. omega arith; complete = λ h. h }
+
+then-less : (a b c : Option InboundStream) → IsNoMore a b → IsNoMore b c → IsNoMore a c
+then-less a b c x y = record { weighs = λ w. let p = x.weighs w in let q = y.weighs w in omega arith; complete = λ h. y.complete (x.complete h) }
+
+-- a stream of which less is held
+record Lightens (f : InboundStream → InboundStream) : Type 0 where
+  number : (l : InboundStream) → (f l).queue.si ≡ l.queue.si
+  weighs : (w : ChunkPayloadData → ℕ) (l : InboundStream) → weight w (f l).queue.held ≤ weight w l.queue.held
+  complete : (l : InboundStream) → (f l).queue.held.unordered ≡ l.queue.held.unordered
+
+names-lighten : (ssn : ℕ) → Lightens (ssn_forwarded ssn)
+names-lighten ssn = record { number = λ l. refl; weighs = λ w l. weights.named w ssn l.queue; complete = λ l. refl }
+
+unassembled-lightens : (tsn : ℕ) → Lightens (unassembled_forwarded tsn)
+unassembled-lightens tsn = record { number = λ l. refl; weighs = λ w l. weights.unassembled w tsn l.queue; complete = λ l. refl }
+
+lighter : (f : InboundStream → InboundStream) (o : Option InboundStream) → Lightens f → IsNoMore o (option_map f o)
+lighter f None h = same-held None
+lighter f (Some l) h = record { weighs = λ w. h.weighs w l; complete = λ t. ap all_complete (h.complete l) ∙ t }
+
+lighter-one : (s : ℕ) (f : InboundStream → InboundStream) (o : Option InboundStream) → Lightens f → IsNoMore o (option_map (λ l. if has_number s l then f l else l) o)
+lighter-one s f None h = same-held None
+lighter-one s f (Some l) h = by (has_number s l)
+  where
+    by : (b : Bool) → IsNoMore (Some l) (Some (if b then f l else l))
+    by true = lighter f (Some l) h
+    by false = same-held (Some l)
+
+named-less : (st : ℕ) (names : List ChunkForwardTsnStream) (ls : List InboundStream) → IsNoMore (find (has_number st) ls) (find (has_number st) (named_forwarded names ls))
+named-less st [] ls = same-held (find (has_number st) ls)
+named-less st (n ∷ ns) ls =
+    let f = ssn_forwarded n.sequence in
+    let h = names-lighten n.sequence in
+    let once = subst (IsNoMore (find (has_number st) ls)) (sym (found-changed n.identifier st f (λ l e. h.number l) ls)) (lighter-one n.identifier f (find (has_number st) ls) h) in
+    then-less _ _ _ once (named-less st ns (change_where (has_number n.identifier) f ls))
+
+followed-less : (st : ℕ) (f : ForwardTsn) (r : Reception) → IsNoMore (stream_of st r) (stream_of st (after_forward f r))
+followed-less st f r = by (is_stale f r)
+  where
+    unassembled : InboundStream → InboundStream
+    unassembled = unassembled_forwarded f.new_cumulative_tsn
+
+    by : (b : Bool) → IsNoMore (stream_of st r) (stream_of st (if b then r else follow_forward_tsn f r))
+    by true = same-held (stream_of st r)
+    by false =
+        let ls = named_forwarded f.streams r.streams in
+        then-less _ _ _ (named-less st f.streams r.streams)
+        (subst (IsNoMore (find (has_number st) ls)) (sym (found-mapped st (unassembled_forwarded f.new_cumulative_tsn) (λ l. refl) ls)) (lighter (unassembled_forwarded f.new_cumulative_tsn) (find (has_number st) ls) (unassembled-lightens f.new_cumulative_tsn)))
+
+opened-less : (st s max : ℕ) (ls : List InboundStream) → IsNoMore (find (has_number st) ls) (find (has_number st) (ls ++ new_stream s max ∷ []))
+opened-less st s max ls = subst (IsNoMore (find (has_number st) ls)) (sym (find-append (has_number st) ls (new_stream s max ∷ []))) (by (find (has_number st) ls) (s == st))
+  where
+    by : (o : Option InboundStream) (b : Bool) → IsNoMore o (option_or o (if b then Some (new_stream s max) else None))
+    by None true = record { weighs = λ w. omega arith; complete = λ h. refl }
+    by None false = same-held None
+    by (Some l) b = same-held (Some l)
+
+none-left : (s : ℕ) (ls : List InboundStream) → find (has_number s) (filter (λ l. not (has_number s l)) ls) ≡ None
+none-left s [] = refl
+none-left s (l ∷ ls) = by (number l == s) refl (none-left s ls)
+  where
+    by : (b : Bool) → (number l == s) ≡ b → find (has_number s) (filter (λ l. not (has_number s l)) ls) ≡ None
+        → find (has_number s) (if not b then l ∷ filter (λ l. not (has_number s l)) ls else filter (λ l. not (has_number s l)) ls) ≡ None
+    by true h ih = ih
+    by false h ih = ap (λ b. if b then Some l else find (has_number s) (filter (λ l. not (has_number s l)) ls)) h ∙ ih
+
+closed-less : (st s : ℕ) (ls : List InboundStream) → IsNoMore (find (has_number st) ls) (find (has_number st) (filter (λ l. not (has_number s l)) ls))
+closed-less st s [] = same-held None
+closed-less st s (l ∷ ls) = by (number l == s) refl (number l == st) refl (closed-less st s ls)
+  where
+    gone : IsNoMore (Some l) None
+    gone = record { weighs = λ w. omega arith; complete = λ h. refl }
+
+    by : (b : Bool) → (number l == s) ≡ b → (c : Bool) → (number l == st) ≡ c → IsNoMore (find (has_number st) ls) (find (has_number st) (filter (λ l. not (has_number s l)) ls))
+        → IsNoMore (if c then Some l else find (has_number st) ls) (find (has_number st) (if not b then l ∷ filter (λ l. not (has_number s l)) ls else filter (λ l. not (has_number s l)) ls))
+    by true h true g ih =
+        let same : st ≡ s = sym (same-is (number l) st g) ∙ same-is (number l) s h in
+        subst (λ n. IsNoMore (Some l) (find (has_number n) (filter (λ l. not (has_number s l)) ls))) (sym same) (subst (IsNoMore (Some l)) (sym (none-left s ls)) gone)
+    by true h false g ih = ih
+    by false h true g ih =
+        subst (λ b. IsNoMore (Some l) (if b then Some l else find (has_number st) (filter (λ l. not (has_number s l)) ls))) (sym g) (same-held (Some l))
+    by false h false g ih =
+        subst (λ b. IsNoMore (find (has_number st) ls) (if b then Some l else find (has_number st) (filter (λ l. not (has_number s l)) ls))) (sym g) ih
+
+-- ## What holds of a stream, and of all that was read
+
+record Holds (st : ℕ) (s : Stand) : Type 0 where
+  weighs : (w : ChunkPayloadData → ℕ) → sum_by w (fragments_read st s.read) + held_weight w (stream_of st s.receiver) ≤ sum_by w (filter (is_on st) s.accepted)
+  complete : held_complete (stream_of st s.receiver) ≡ true
+
+record IsValid (s : Stand) : Type 0 where
+  holds : (st : ℕ) → Holds st s
+  read : AreComplete s
+
+-- a call by which no stream holds more, no chunk is taken and none is read
+quiet : (old new : Stand) → IsValid old → new.accepted ≡ old.accepted → new.read ≡ old.read → ((st : ℕ) → IsNoMore (stream_of st old.receiver) (stream_of st new.receiver)) → IsValid new
+quiet old new s a r less = record {
+  holds = λ st. record {
+    weighs = λ w.
+        let h = (s.holds st).weighs w in
+        let l = (less st).weighs w in
+        let e = ap (λ ms. sum_by w (fragments_read st ms)) r in
+        let f = ap (λ cs. sum_by w (filter (is_on st) cs)) a in
+        omega arith;
+    complete = (less st).complete (s.holds st).complete;
+  };
+  read = ap (λ ms. list_all (λ m. is_complete m.fragments) ms) r ∙ s.read;
+}
+
+-- ## A chunk is taken
+
+taken-more : (w : ChunkPayloadData → ℕ) (st : ℕ) (c : ChunkPayloadData) (cs : List ChunkPayloadData) (b : Bool) → is_on st c ≡ b → sum_by w (filter (is_on st) (c ∷ cs)) ≡ (if b then w c else 0) + sum_by w (filter (is_on st) cs)
+taken-more w st c cs b e = ap (λ t. sum_by w (if t then c ∷ filter (is_on st) cs else filter (is_on st) cs)) e ∙ by b
+  where
+    by : (b : Bool) → sum_by w (if b then c ∷ filter (is_on st) cs else filter (is_on st) cs) ≡ (if b then w c else 0) + sum_by w (filter (is_on st) cs)
+    by true = sum_by-cons w c (filter (is_on st) cs)
+    by false = omega arith
+
+-- of the stream with this number so much more is held, where the chunk is of it
+record IsMoreBy (c : ChunkPayloadData) (b : Bool) (old new : Option InboundStream) : Type 0 where
+  weighs : (w : ChunkPayloadData → ℕ) → held_weight w new ≤ (if b then w c else 0) + held_weight w old
+  complete : held_complete old ≡ true → held_complete new ≡ true
+
+no-less : (c : ChunkPayloadData) (b : Bool) (o : Option InboundStream) → IsMoreBy c b o o
+no-less c true o = record { weighs = λ w. omega arith; complete = λ h. h }
+no-less c false o = record { weighs = λ w. omega arith; complete = λ h. h }
+
+module _ (c : ChunkPayloadData) (old new : Reception) (a : Accepts c old new) (st : ℕ) where
+  abbrev sid : ℕ
+  sid = c.stream_identifier
+
+  keeps : (l : InboundStream) → (number l == sid) ≡ true → a.queue.si ≡ number l
+  keeps l e = pushed-number c a.stream.queue a.queue a.pushed ∙ same-is (number a.stream) sid (found-number sid old.streams a.stream a.found) ∙ sym (same-is (number l) sid e)
+
+  now : stream_of st new ≡ option_map (λ l. if has_number sid l then with_queue a.queue l else l) (stream_of st old)
+  now = ap (λ (r : Reception). stream_of st r) a.after ∙ found-changed sid st (with_queue a.queue) keeps old.streams
+
+  at : (o : Option InboundStream) → stream_of st old ≡ o → IsMoreBy c (is_on st c) o (option_map (λ l. if has_number sid l then with_queue a.queue l else l) o)
+  at None e = no-less c (is_on st c) None
+  at (Some l) e = by (has_number sid l) refl
+    where
+      by : (b : Bool) → has_number sid l ≡ b → IsMoreBy c (is_on st c) (Some l) (Some (if b then with_queue a.queue l else l))
+      by false h = no-less c (is_on st c) (Some l)
+      by true h =
+          let same : st ≡ sid = sym (same-is (number l) st (found-number st old.streams l e)) ∙ same-is (number l) sid h in
+          let one : Some l ≡ Some a.stream = sym e ∙ ap (λ n. stream_of n old) same ∙ a.found in
+          let is : l ≡ a.stream = cc in
+          let on : is_on st c ≡ true = eq-eqb sid st (sym same) in
+          subst (λ b. IsMoreBy c b (Some l) (Some (with_queue a.queue l))) (sym on)
+          (record {
+            weighs = λ w. let p = weights.pushed w c a.stream.queue a.queue a.pushed in let q = ap (λ (x : InboundStream). weight w x.queue.held) is in omega arith;
+            complete = λ t. pushed-complete c a.stream.queue a.queue a.pushed (ap (λ (x : InboundStream). all_complete x.queue.held.unordered) (sym is) ∙ t);
+          })
+
+  more : IsMoreBy c (is_on st c) (stream_of st old) (stream_of st new)
+  more = subst (IsMoreBy c (is_on st c) (stream_of st old)) (sym now) (at (stream_of st old) refl)
+
+taken-valid : (c : ChunkPayloadData) (old new : Stand) → IsValid old → Accepts c old.receiver new.receiver → new.accepted ≡ c ∷ old.accepted → new.read ≡ old.read → IsValid new
+taken-valid c old new s a e r = record {
+  holds = λ st. record {
+    weighs = λ w.
+        let h = (s.holds st).weighs w in
+        let m = (more c old.receiver new.receiver a st).weighs w in
+        let t = taken-more w st c old.accepted (is_on st c) refl in
+        let f = ap (λ cs. sum_by w (filter (is_on st) cs)) e in
+        let g = ap (λ ms. sum_by w (fragments_read st ms)) r in
+        omega arith;
+    complete = (more c old.receiver new.receiver a st).complete (s.holds st).complete;
+  };
+  read = ap (λ ms. list_all (λ m. is_complete m.fragments) ms) r ∙ s.read;
+}
+
+-- ## A message is read
+
+read-more : (w : ChunkPayloadData → ℕ) (st s : ℕ) (m : Option ChunkSet) (ms : List Message) → sum_by w (fragments_read st (with_message s m ms)) ≡ (if s == st then message_weight w m else 0) + sum_by w (fragments_read st ms)
+read-more w st s None ms = by (s == st)
+  where
+    by : (b : Bool) → sum_by w (fragments_read st ms) ≡ (if b then 0 else 0) + sum_by w (fragments_read st ms)
+    by true = omega arith
+    by false = omega arith
+read-more w st s (Some set) ms = by (s == st)
+  where
+    by : (b : Bool) → sum_by w (if b then set.chunks ++ fragments_read st ms else fragments_read st ms) ≡ (if b then sum_by w set.chunks else 0) + sum_by w (fragments_read st ms)
+    by true = sum_by-append w set.chunks (fragments_read st ms)
+    by false = omega arith
+
+-- what is read leaves the stream
+record IsLessBy (b : Bool) (m : Option ChunkSet) (old new : Option InboundStream) : Type 0 where
+  weighs : (w : ChunkPayloadData → ℕ) → (if b then message_weight w m else 0) + held_weight w new ≤ held_weight w old
+  complete : held_complete old ≡ true → held_complete new ≡ true
+
+module _ (s st : ℕ) (r : Reception) where
+  here : (o : Option InboundStream) → stream_of st r ≡ o → s ≡ st → IsLessBy true (message_of o) o (option_map (λ l. if has_number s l then stream_read l else l) o)
+  here None e same = record { weighs = λ w. omega arith; complete = λ h. h }
+  here (Some l) e same =
+      let on : has_number s l ≡ true = ap (λ n. number l == n) same ∙ found-number st r.streams l e in
+      subst (λ b. IsLessBy true (message_read l.queue.held) (Some l) (Some (if b then stream_read l else l))) (sym on)
+      (record { weighs = λ w. let h = weights.read w l.queue.held in omega arith; complete = λ h. rest-complete l.queue.held h })
+
+  elsewhere : (m : Option ChunkSet) (o : Option InboundStream) → stream_of st r ≡ o → (s == st) ≡ false → IsLessBy false m o (option_map (λ l. if has_number s l then stream_read l else l) o)
+  elsewhere m None e differ = record { weighs = λ w. omega arith; complete = λ h. h }
+  elsewhere m (Some l) e differ =
+      let off : has_number s l ≡ false = fails (has_number s l) (λ t. not_both (sym differ ∙ eq-eqb s st (sym (same-is (number l) s t) ∙ same-is (number l) st (found-number st r.streams l e)))) in
+      subst (λ b. IsLessBy false m (Some l) (Some (if b then stream_read l else l))) (sym off)
+      (record { weighs = λ w. omega arith; complete = λ h. h })
+
+  either : (b : Bool) → (s == st) ≡ b → IsLessBy b (message_on s r) (stream_of st r) (option_map (λ l. if has_number s l then stream_read l else l) (stream_of st r))
+  either true e =
+      let same = same-is s st e in
+      subst (λ m. IsLessBy true m (stream_of st r) (option_map (λ l. if has_number s l then stream_read l else l) (stream_of st r))) (ap (λ n. message_of (stream_of n r)) (sym same)) (here (stream_of st r) refl same)
+  either false e = elsewhere (message_on s r) (stream_of st r) refl e
+
+  read-less : IsLessBy (s == st) (message_on s r) (stream_of st r) (stream_of st (after_read s r))
+  read-less = subst (IsLessBy (s == st) (message_on s r) (stream_of st r)) (sym (found-changed s st stream_read (λ l e. refl) r.streams)) (either (s == st) refl)
+
+on-complete : (s : ℕ) (r : Reception) → held_complete (stream_of s r) ≡ true → message_complete (message_on s r) ≡ true
+on-complete s r h = by (stream_of s r) h
+  where
+    by : (o : Option InboundStream) → held_complete o ≡ true → message_complete (message_of o) ≡ true
+    by None h = refl
+    by (Some l) h = read-complete l.queue.held h
+
+with-complete : (s : ℕ) (m : Option ChunkSet) (ms : List Message) → message_complete m ≡ true → list_all (λ x. is_complete x.fragments) ms ≡ true → list_all (λ x. is_complete x.fragments) (with_message s m ms) ≡ true
+with-complete s None ms h k = k
+with-complete s (Some set) ms h k = and _ _ h k
+
+read-valid : (stream : ℕ) (old new : Stand) → IsValid old → new.receiver ≡ after_read stream old.receiver → new.accepted ≡ old.accepted → new.read ≡ with_message stream (message_on stream old.receiver) old.read → IsValid new
+read-valid stream old new s is a r = record {
+  holds = λ st. record {
+    weighs = λ w.
+        let h = (s.holds st).weighs w in
+        let l = (read-less stream st old.receiver).weighs w in
+        let now = ap (λ (x : Reception). held_weight w (stream_of st x)) is in
+        let m = read-more w st stream (message_on stream old.receiver) old.read in
+        let e = ap (λ ms. sum_by w (fragments_read st ms)) r in
+        let f = ap (λ cs. sum_by w (filter (is_on st) cs)) a in
+        omega arith;
+    complete = ap (λ (x : Reception). held_complete (stream_of st x)) is ∙ (read-less stream st old.receiver).complete (s.holds st).complete;
+  };
+  read = ap (λ ms. list_all (λ m. is_complete m.fragments) ms) r ∙ with-complete stream (message_on stream old.receiver) old.read (on-complete stream old.receiver (s.holds stream).complete) s.read;
+}
+
+-- ## Every run
+
+repeat-valid : (c : ChunkPayloadData) (old new : Stand) → IsValid old → (streams : new.receiver.streams ≡ old.receiver.streams) → new.accepted ≡ old.accepted → new.read ≡ old.read → IsValid new
+repeat-valid c old new s streams a r = quiet old new s a r (λ st. subst (λ ls. IsNoMore (stream_of st old.receiver) (find (has_number st) ls)) (sym streams) (same-held (stream_of st old.receiver)))
+
+step : (c : Call) (old new : Stand) → IsValid old → Follows c old new → IsValid new
+step (opens stream) old new s f = quiet old new s f.accepted f.read (λ st. subst (λ (r : Reception). IsNoMore (stream_of st old.receiver) (stream_of st r)) (sym f.receiver.1) (opened-less st stream old.receiver.max_message_size old.receiver.streams))
+step (closes stream) old new s f = quiet old new s f.accepted f.read (λ st. subst (λ (r : Reception). IsNoMore (stream_of st old.receiver) (stream_of st r)) (sym f.receiver) (closed-less st stream old.receiver.streams))
+step (takes c New) old new s f = taken-valid c old new s f.receiver f.accepted f.read
+step (takes c Repeat) old new s f = repeat-valid c old new s (ap (λ (r : Reception). r.streams) f.receiver) f.accepted f.read
+step reports old new s f = quiet old new s f.accepted f.read (λ st. subst (λ (r : Reception). IsNoMore (stream_of st old.receiver) (stream_of st r)) (sym f.receiver) (same-held (stream_of st old.receiver)))
+step (reads stream) old new s f = read-valid stream old new s f.receiver f.accepted f.read
+step (forwards g) old new s f = quiet old new s f.accepted f.read (λ st. subst (λ (r : Reception). IsNoMore (stream_of st old.receiver) (stream_of st r)) (sym f.receiver) (followed-less st g old.receiver))
+
+run : (calls : List Call) (old new : Stand) → IsValid old → RunsTo old calls new → IsValid new
+run [] old new s e = subst IsValid (sym e) s
+run (c ∷ cs) old new s r = run cs r.0 new (step c old r.0 s r.1.0) r.1.1
+
+start : (tsn max : ℕ) → IsValid (at_start tsn max)
+start tsn max = record { holds = λ st. record { weighs = λ w. omega arith; complete = refl }; read = refl }
+
+pub complete : AfterEachRun AreComplete
+complete tsn max calls s r = (run calls (at_start tsn max) s (start tsn max) r).read
+
+pub accepted : AfterEachRun WereAccepted
+accepted tsn max calls s r = λ st w. let h = ((run calls (at_start tsn max) s (start tsn max) r).holds st).weighs w in omega arith

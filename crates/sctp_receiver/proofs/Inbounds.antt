@@ -1,0 +1,61 @@
+-- What a fragment and a FORWARD-TSN make of the streams of a receiver.
+use Rattle.std.proofs.Common.{◌≡◌, sym, ap, ◌∙◌, refl, ℕ, List, [], ◌∷◌, map, Bool, true, false, Some, None, inl, inr, Result, Ok, Err, subst}
+use Rattle.std.specs.Prelude.{if◌then◌else◌, find, slice_index_or, slice_set, OnOk, OnErr, IfErr}
+use Rattle.sctp_list_lemmas.specs.Lists.{change_where}
+use Rattle.sctp_chunks.specs.declared.chunk.chunk_payload_data.ChunkPayloadData.{ChunkPayloadData}
+use Rattle.sctp_reassembly.specs.reassembly_queue.ReassemblyQueue.{ReassemblyState, is_too_large}
+use Rattle.sctp_stream.specs.Numbers.{IsOnlyPlace}
+use Rattle.sctp_receiver.specs.declared.receiver.inbound_streams.InboundStream.{InboundStream}
+use Rattle.sctp_receiver.specs.declared.receiver.refusal.ReceiverRefusal.{ReceiverRefusal}
+use Rattle.sctp_receiver.specs.declared.receiver.refusal.ReceiverRefusal.TheVariants.{MessageTooLarge, OutOfMemory}
+use Rattle.sctp_receiver.specs.Inbound.{number, numbers_of, has_number, with_queue, Pushes, PushesAs, PushesOn}
+use Rattle.sctp_receiver.specs.Receiver.{stream_refusal, IsRefusedFor}
+use Rattle.sctp_stream.proofs.StreamPlaces.{found, changed}
+
+pub pushed-number : (c : ChunkPayloadData) (old new : ReassemblyState) → Pushes c old new → new.si ≡ old.si
+pushed-number c old new p = by c.unordered p
+  where
+    by : (b : Bool) → PushesAs b c old new → new.si ≡ old.si
+    by false e = ap (λ (q : ReassemblyState). q.si) e
+    by true e = ap (λ (q : ReassemblyState). q.si) e.1.1
+
+-- what each stream keeps, all keep
+module _ {B : Type 0} (p : InboundStream → B) (f : InboundStream → InboundStream) (same : (l : InboundStream) → p (f l) ≡ p l) where
+  pub stays-mapped : (ls : List InboundStream) → map p (map f ls) ≡ map p ls
+  stays-mapped [] = refl
+  stays-mapped (l ∷ ls) = ap (λ x. x ∷ map p (map f ls)) (same l) ∙ ap (λ xs. p l ∷ xs) (stays-mapped ls)
+
+  pub stays-changed : (q : InboundStream → Bool) (ls : List InboundStream) → map p (change_where q f ls) ≡ map p ls
+  stays-changed q [] = refl
+  stays-changed q (l ∷ ls) = ap (λ x. x ∷ map p (change_where q f ls)) (by (q l)) ∙ ap (λ xs. p l ∷ xs) (stays-changed q ls)
+    where
+      by : (b : Bool) → p (if b then f l else l) ≡ p l
+      by true = same l
+      by false = refl
+
+-- a push on the stream at a place
+module _ (c : ChunkPayloadData) (ls : List InboundStream) (k : ℕ) (p : IsOnlyPlace c.stream_identifier (numbers_of ls) k) (x y : InboundStream) (at : x ≡ slice_index_or ls k x) (rest : y ≡ record x { queue = y.queue }) where
+  pub number-stays : {T : Type 0} (r : Result T ReceiverRefusal) → OnOk r (Pushes c x.queue y.queue) → OnErr r (y ≡ x) → number y ≡ number x
+  number-stays (Ok t) ok err = pushed-number c x.queue y.queue ok
+  number-stays (Err e) ok err = ap number err
+
+  is-found : find (has_number c.stream_identifier) ls ≡ Some x
+  is-found = found number ls (numbers_of ls) refl c.stream_identifier k p x at
+
+  pub pushes : {T : Type 0} (r : Result T ReceiverRefusal) → OnOk r (Pushes c x.queue y.queue) → OnOk r (PushesOn c ls (slice_set ls k y))
+  pushes (Ok t) ok = record { stream = x; found = is-found; queue = y.queue; pushed = ok; after = changed number ls (numbers_of ls) refl c.stream_identifier k p (with_queue y.queue) x y at rest }
+  pushes (Err e) ok = ok
+
+  pub fits : is_too_large c x.queue ≡ false → stream_refusal c (find (has_number c.stream_identifier) ls) ≡ None
+  fits small = ap (stream_refusal c) is-found ∙ ap (λ b. if b then Some MessageTooLarge else None) small
+
+  pub why : (e : ReceiverRefusal) → e ≡ (if is_too_large c x.queue then MessageTooLarge else OutOfMemory) → IsRefusedFor (stream_refusal c (find (has_number c.stream_identifier) ls)) e
+  why e h = subst (λ o. IsRefusedFor o e) (sym (ap (stream_refusal c) is-found)) (by (is_too_large c x.queue) h)
+    where
+      by : (b : Bool) → e ≡ (if b then MessageTooLarge else OutOfMemory) → IsRefusedFor (if b then Some MessageTooLarge else None) e
+      by true h = inr (ap Some (sym h))
+      by false h = inl (h, refl)
+
+  pub refused : {T : Type 0} (r : Result T ReceiverRefusal) → IfErr r (λ e. e ≡ (if is_too_large c x.queue then MessageTooLarge else OutOfMemory)) → IfErr r (λ e. IsRefusedFor (stream_refusal c (find (has_number c.stream_identifier) ls)) e)
+  refused (Ok t) h = h
+  refused (Err e) h = why e h

@@ -1,0 +1,12 @@
+pub mod TsnLists
+pub mod Marks
+pub mod FilterCalls
+pub mod Inbounds
+pub mod Forwarded
+pub mod Receptions
+pub mod DataEach
+pub mod Weights
+pub mod CompleteMessages
+pub mod Handed
+pub mod Closed
+mod Examples

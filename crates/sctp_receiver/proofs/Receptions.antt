@@ -1,0 +1,62 @@
+-- What a receiver refuses, by the places of its streams and by its TSNs.
+use Rattle.std.proofs.Common.{◌≡◌, ℕ, ◌<◌, ◌≤◌, ◌^◌, true, false, List, Option, Some, None, refl, ap, sym, ◌∙◌, inl, inr, arith}
+use Rattle.std.specs.Prelude.{◌==◌, ◌||◌, ◌&&◌, not, if◌then◌else◌, is_some, MatchOption, slice_index_or}
+use Rattle.std.proofs.lemmas.Bool.Decides.{nat_tests}
+use Rattle.std.proofs.lemmas.List.{get_or_default}
+use Rattle.sctp_list_lemmas.specs.Serial.{distance, comes_before, at_or_before}
+use Rattle.sctp_list_lemmas.proofs.More.{not_both}
+use Rattle.sctp_list_lemmas.proofs.Distances.{comes_before_from, distance_cases}
+use Rattle.sctp_chunks.specs.declared.chunk.chunk_payload_data.ChunkPayloadData.{ChunkPayloadData}
+use Rattle.sctp_receiver.specs.declared.receiver.inbound_streams.InboundStream.{InboundStream}
+use Rattle.sctp_receiver.specs.declared.receiver.refusal.ReceiverRefusal.TheVariants.{StreamUnknown, TsnOpposite}
+use Rattle.sctp_stream.specs.Numbers.{IsOnlyPlace, IsAbsent}
+use Rattle.sctp_receiver.specs.Inbound.{number, numbers_of, has_number, new_stream, stream_read}
+use Rattle.sctp_receiver.specs.TsnFilter.{Filter, has_come, is_opposite}
+use Rattle.sctp_receiver.specs.Receiver.{Reception, stream_of, is_open, filter_of, data_refusal, stream_refusal, takes_memory, after_read}
+use Rattle.sctp_receiver.proofs.Inbounds.{stays-changed}
+use Rattle.sctp_stream.proofs.StreamPlaces.{absent-find, inside, found}
+
+-- a receiver as its parts say
+abbrev pub reception_in : List InboundStream → Filter → ℕ → Reception
+reception_in streams f max = record { streams = streams; cumulative_tsn = f.cumulative_tsn; beyond = f.beyond; duplicates = f.duplicates; max_message_size = max }
+
+module _ (r : Reception) (s : ℕ) where
+  pub closed : IsAbsent s (numbers_of r.streams) → stream_of s r ≡ None
+  closed absent = absent-find number r.streams (numbers_of r.streams) refl s absent
+
+  pub open-at : (k : ℕ) → IsOnlyPlace s (numbers_of r.streams) k → is_open s r ≡ true
+  open-at k p =
+      let d = new_stream 0 0 in
+      let x = slice_index_or r.streams k d in
+      ap is_some (found number r.streams (numbers_of r.streams) refl s k p x (get_or_default r.streams k d x (inside number r.streams (numbers_of r.streams) refl s k p)))
+
+  pub open-is : (o : Option ℕ) → MatchOption o (IsAbsent s (numbers_of r.streams)) (IsOnlyPlace s (numbers_of r.streams)) → is_open s r ≡ is_some o
+  open-is None absent = ap is_some (closed absent)
+  open-is (Some k) p = open-at k p
+
+pub read-numbers : (s : ℕ) (r : Reception) → numbers_of (after_read s r).streams ≡ numbers_of r.streams
+read-numbers s r = stays-changed number stream_read (λ l. refl) (has_number s) r.streams
+
+-- a chunk of a stream that is not open
+pub unknown : (c : ChunkPayloadData) (r : Reception) → has_come c.tsn (filter_of r) ≡ false → is_opposite c.tsn (filter_of r) ≡ false → stream_of c.stream_identifier r ≡ None → data_refusal c r ≡ Some StreamUnknown
+unknown c r fresh near closed =
+    ap (λ b. if b then None else (if is_opposite c.tsn (filter_of r) then Some TsnOpposite else stream_refusal c (stream_of c.stream_identifier r))) fresh
+    ∙ ap (λ b. if b then Some TsnOpposite else stream_refusal c (stream_of c.stream_identifier r)) near
+    ∙ ap (stream_refusal c) closed
+
+pub wanted : (c : ChunkPayloadData) (r : Reception) → has_come c.tsn (filter_of r) ≡ false → is_opposite c.tsn (filter_of r) ≡ false → is_open c.stream_identifier r ≡ true → takes_memory c r ≡ true
+wanted c r fresh near open' =
+    ap (λ b. b || (not (is_opposite c.tsn (filter_of r)) && is_open c.stream_identifier r)) fresh
+    ∙ ap (λ b. not b && is_open c.stream_identifier r) near
+    ∙ open'
+
+-- what is neither at or before nor opposite comes after
+pub after : (c t : ℕ) → c < 2 ^ 32 → t < 2 ^ 32 → (distance c t == 2 ^ 31) ≡ false → at_or_before t c ≡ false → comes_before c t ≡ true
+unfolding at_or_before
+after c t hc ht near late =
+    let apart : distance c t ≡ 2 ^ 31 → ⊥ = λ e. not_both (sym near ∙ ap (λ d. d == 2 ^ 31) e) in
+    let far : 2 ^ 31 ≤ distance t c = grind (arith, nat_tests, late) in
+    elim (distance_cases c t hc ht) [
+      | inl p ↦ elim (distance_cases t c ht hc) [ inl q ↦ comes_before_from c t (omega (arith, apart, far)) (omega (arith, apart, far)) | inr q ↦ comes_before_from c t (omega (arith, apart, far)) (omega (arith, apart, far)) ]
+      | inr p ↦ elim (distance_cases t c ht hc) [ inl q ↦ comes_before_from c t (omega (arith, apart, far)) (omega (arith, apart, far)) | inr q ↦ comes_before_from c t (omega (arith, apart, far)) (omega (arith, apart, far)) ]
+    ]

@@ -1,0 +1,5 @@
+pub mod TsnFilter
+pub mod Inbound
+pub mod Receiver
+pub mod Refusals
+pub mod ReceiverRuns

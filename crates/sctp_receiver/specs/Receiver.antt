@@ -1,0 +1,200 @@
+-- The receiving half of a link as callers see it (RFC 4960 6; RFC 3758 3.6).
+use Rattle.std.specs.Prelude.{◌≡◌, ◌⊎◌, ℕ, Bool, not, ◌&&◌, ◌||◌, if◌then◌else◌, ◌-◌, List, [], ◌∷◌, ◌++◌, length, map, take, slice_get, Option, Some, None, is_some}
+use Rattle.std.specs.List.{find, filter}
+use Rattle.sctp_list_lemmas.specs.Lists.{change_where}
+use Rattle.sctp_list_lemmas.specs.Serial.{at_or_before}
+use Rattle.sctp_chunks.specs.declared.chunk.chunk_payload_data.ChunkPayloadData.{ChunkPayloadData}
+use Rattle.sctp_chunks.specs.ChunkSet.{ChunkSet}
+use Rattle.sctp_chunks.specs.ForwardTsn.{ForwardTsn}
+use Rattle.sctp_chunks.specs.SelectiveAck.{Sack}
+use Rattle.sctp_reassembly.specs.reassembly_queue.ReassemblyQueue.{ReassemblyState, is_too_large, message_read}
+use Rattle.sctp_receiver.specs.declared.receiver.inbound_streams.InboundStream.{InboundStream}
+use Rattle.sctp_receiver.specs.declared.receiver.refusal.ReceiverRefusal.{ReceiverRefusal}
+use Rattle.sctp_receiver.specs.declared.receiver.refusal.ReceiverRefusal.TheVariants.{StreamUnknown, TsnOpposite, MessageTooLarge, OutOfMemory}
+use Rattle.sctp_receiver.specs.declared.receiver.arrival.Arrival.{Arrival}
+use Rattle.sctp_receiver.specs.declared.receiver.arrival.Arrival.TheVariants.{New, Repeat}
+use Rattle.sctp_receiver.specs.declared.receiver.arrival.Forwarded.{Forwarded}
+use Rattle.sctp_receiver.specs.declared.receiver.arrival.Forwarded.TheVariants.{Skipped, Stale}
+use Rattle.sctp_receiver.specs.Inbound.{has_number, new_stream, with_queue, Pushes, stream_read, named_forwarded, unassembled_forwarded}
+use Rattle.sctp_receiver.specs.TsnFilter.{Filter, has_come, is_opposite, with_tsn, with_duplicate, skipped_to, gap_ack_blocks}
+use Rattle.sctp_serial.specs.DataChunks.{preceding_tsn}
+
+-- the open streams in the order in which they were opened; the cumulative TSN, the TSNs that came beyond it, and those that
+-- came again since the last SACK; and how long a message may be
+pub record Reception : Type 0 where
+  pub streams : List InboundStream
+  pub cumulative_tsn : ℕ
+  pub beyond : List ℕ
+  pub duplicates : List ℕ
+  pub max_message_size : ℕ
+
+-- nothing came: the first TSN is expected next
+abbrev pub at_first : ℕ → ℕ → Reception
+at_first tsn max =
+    record {
+      streams = [];
+      cumulative_tsn = preceding_tsn tsn;
+      beyond = [];
+      duplicates = [];
+      max_message_size = max;
+    }
+
+-- its TSNs
+abbrev pub filter_of : Reception → Filter
+filter_of r =
+    record {
+      cumulative_tsn = r.cumulative_tsn;
+      beyond = r.beyond;
+      duplicates = r.duplicates;
+      room = 0;
+    }
+
+abbrev pub with_filter : Filter → Reception → Reception
+with_filter f r =
+    record r { cumulative_tsn = f.cumulative_tsn; beyond = f.beyond; duplicates = f.duplicates }
+
+-- ## Streams
+
+abbrev pub stream_of : ℕ → Reception → Option InboundStream
+stream_of s r = find (has_number s) r.streams
+
+abbrev pub is_open : ℕ → Reception → Bool
+is_open s r = is_some (stream_of s r)
+
+abbrev pub open_stream : ℕ → Reception → Reception
+open_stream s r = record r { streams = r.streams ++ new_stream s r.max_message_size ∷ [] }
+
+-- the stream is open no more: what came on it and was not read is dropped
+abbrev pub close_stream : ℕ → Reception → Reception
+close_stream s r = record r { streams = filter (λ l. not (has_number s l)) r.streams }
+
+-- ## DATA
+
+-- why a stream does not take a chunk
+abbrev pub stream_refusal : ChunkPayloadData → Option InboundStream → Option ReceiverRefusal
+stream_refusal c None = Some StreamUnknown
+stream_refusal c (Some l) = if is_too_large c l.queue then Some MessageTooLarge else None
+
+-- why a chunk is not taken: of one whose TSN came nothing but that is told
+abbrev pub data_refusal : ChunkPayloadData → Reception → Option ReceiverRefusal
+data_refusal c r =
+    if has_come c.tsn (filter_of r) then None
+    else (if is_opposite c.tsn (filter_of r) then Some TsnOpposite
+    else stream_refusal c (stream_of c.stream_identifier r))
+
+-- a refusal by its reason where there is one, and for memory only where there is none
+abbrev pub IsRefusedFor : Option ReceiverRefusal → ReceiverRefusal → Type 0
+IsRefusedFor reason e = ((e ≡ OutOfMemory) × (reason ≡ None)) ⊎ (reason ≡ Some e)
+
+-- the chunk with a new TSN is taken: its stream's queue has it, and its TSN came
+pub record Accepts (c : ChunkPayloadData) (old new : Reception) : Type 0 where
+  pub stream : InboundStream
+  pub found : stream_of c.stream_identifier old ≡ Some stream
+  pub queue : ReassemblyState
+  pub pushed : Pushes c stream.queue queue
+  pub after : new ≡ with_filter (with_tsn c.tsn (filter_of old))
+      (record old {
+        streams = change_where (has_number c.stream_identifier)
+            (with_queue queue) old.streams;
+      })
+
+-- a TSN that came comes again
+abbrev pub repeat_tsn : ℕ → Reception → Reception
+repeat_tsn tsn r = with_filter (with_duplicate tsn (filter_of r)) r
+
+abbrev pub arrival_of : ChunkPayloadData → Reception → Arrival
+arrival_of c r = if has_come c.tsn (filter_of r) then Repeat else New
+
+-- what a DATA chunk makes, where its TSN is new and where it is not
+abbrev pub Takes : ChunkPayloadData → Arrival → Reception → Reception → Type 0
+Takes c New old new = Accepts c old new
+Takes c Repeat old new = new ≡ repeat_tsn c.tsn old
+
+-- several, one after another: none is refused, and each has its answer
+pub record TakesFirst (c : ChunkPayloadData) (a : Arrival) (old mid : Reception) : Type 0 where
+  pub accepted : data_refusal c old ≡ None
+  pub answer : a ≡ arrival_of c old
+  pub taken : Takes c a old mid
+
+abbrev pub TakesEach : List ChunkPayloadData → List Arrival → Reception → Reception → Type 0
+TakesEach [] [] old new = new ≡ old
+TakesEach (c ∷ cs) (a ∷ answers) old new =
+    (mid : Reception) × (TakesFirst c a old mid × TakesEach cs answers mid new)
+TakesEach [] (a ∷ answers) old new = ⊥
+TakesEach (c ∷ cs) [] old new = ⊥
+
+-- so many of them are taken, and the next one is refused for this reason
+pub record StopsAt (cs : List ChunkPayloadData) (old : Reception)
+    (e : ReceiverRefusal) : Type 0 where
+  pub count : ℕ
+  pub arrivals : List Arrival
+  pub mid : Reception
+  pub taken : TakesEach (take count cs) arrivals old mid
+  pub chunk : ChunkPayloadData
+  pub next : slice_get cs count ≡ Some chunk
+  pub refused : data_refusal chunk mid ≡ Some e
+
+-- whether memory may be asked for: a duplicate is to be noted, or a fragment to be kept
+abbrev pub takes_memory : ChunkPayloadData → Reception → Bool
+takes_memory c r =
+    has_come c.tsn (filter_of r) || (not (is_opposite c.tsn (filter_of r))
+    && is_open c.stream_identifier r)
+
+-- ## SACK
+
+-- the greatest count of blocks and duplicates in a SACK that fits its length
+abbrev pub max_sack_entries : ℕ
+max_sack_entries = 16379
+
+-- blocks come first, then as many duplicates as fit
+abbrev pub sack : ℕ → Reception → Sack
+sack credit r =
+    let blocks = take max_sack_entries (gap_ack_blocks (filter_of r)) in
+    record {
+      cumulative_tsn_ack = r.cumulative_tsn;
+      advertised_receiver_window_credit = credit;
+      gap_ack_blocks = blocks;
+      duplicate_tsn = take (max_sack_entries - length blocks) r.duplicates;
+    }
+
+abbrev pub without_duplicates : Reception → Reception
+without_duplicates r = record r { duplicates = [] }
+
+-- ## Read
+
+abbrev pub message_of : Option InboundStream → Option ChunkSet
+message_of None = None
+message_of (Some l) = message_read l.queue.held
+
+-- the message that is read next on a stream
+abbrev pub message_on : ℕ → Reception → Option ChunkSet
+message_on s r = message_of (stream_of s r)
+
+abbrev pub after_read : ℕ → Reception → Reception
+after_read s r = record r { streams = change_where (has_number s) stream_read r.streams }
+
+-- ## FORWARD-TSN
+
+-- at or before the cumulative TSN
+abbrev pub is_stale : ForwardTsn → Reception → Bool
+is_stale f r = at_or_before f.new_cumulative_tsn r.cumulative_tsn
+
+abbrev pub forward_refusal : ForwardTsn → Reception → Option ReceiverRefusal
+forward_refusal f r =
+    if is_opposite f.new_cumulative_tsn (filter_of r) then Some TsnOpposite else None
+
+-- all up to its TSN counts as come: each stream that it names discards what is named, one name after another, and all
+-- streams discard the unassembled fragments
+abbrev pub follow_forward_tsn : ForwardTsn → Reception → Reception
+follow_forward_tsn f r =
+    with_filter (skipped_to f.new_cumulative_tsn (filter_of r))
+    (record r {
+      streams = map (unassembled_forwarded f.new_cumulative_tsn)
+          (named_forwarded f.streams r.streams);
+    })
+
+abbrev pub forwarded_of : ForwardTsn → Reception → Forwarded
+forwarded_of f r = if is_stale f r then Stale else Skipped
+
+abbrev pub after_forward : ForwardTsn → Reception → Reception
+after_forward f r = if is_stale f r then r else follow_forward_tsn f r

@@ -1,0 +1,102 @@
+-- Runs of calls of a receiver, and what they hand out.
+use Rattle.std.specs.Prelude.{◌≡◌, ℕ, ◌≤◌, ◌==◌, true, false, if◌then◌else◌, List, [], ◌∷◌, ◌++◌, Option, Some, None}
+use Rattle.std.specs.List.{list_all, sum_by, filter}
+use Rattle.sctp_chunks.specs.declared.chunk.chunk_payload_data.ChunkPayloadData.{ChunkPayloadData}
+use Rattle.sctp_chunks.specs.ChunkSet.{ChunkSet}
+use Rattle.sctp_chunks.specs.ForwardTsn.{ForwardTsn}
+use Rattle.sctp_reassembly.specs.reassembly_queue.Fragments.{is_complete}
+use Rattle.sctp_receiver.specs.declared.receiver.arrival.Arrival.{Arrival}
+use Rattle.sctp_receiver.specs.declared.receiver.arrival.Arrival.TheVariants.{New, Repeat}
+use Rattle.sctp_receiver.specs.Receiver.{Reception, at_first, is_open, open_stream, close_stream, Takes, without_duplicates, message_on, after_read, after_forward}
+use Rattle.sctp_serial.specs.DataChunks.{is_on}
+
+-- ## One call
+
+-- a call that is not refused, with its arguments and whether the chunk was new; a refused one changes nothing
+pub data Call : Type 0 where
+  opens : ℕ → Call
+  closes : ℕ → Call
+  takes : ChunkPayloadData → Arrival → Call
+  reports : Call
+  reads : ℕ → Call
+  forwards : ForwardTsn → Call
+
+-- what it makes of the receiver, as the call ensures it
+abbrev pub Makes : Call → Reception → Reception → Type 0
+Makes (opens stream) old new = (is_open stream old ≡ false) × (new ≡ open_stream stream old)
+Makes (closes stream) old new = new ≡ close_stream stream old
+Makes (takes c arrival) old new = Takes c arrival old new
+Makes reports old new = new ≡ without_duplicates old
+Makes (reads stream) old new = new ≡ after_read stream old
+Makes (forwards f) old new = new ≡ after_forward f old
+
+-- ## A run of calls
+
+-- a message that was read on a stream
+pub record Message : Type 0 where
+  pub stream : ℕ
+  pub fragments : List ChunkPayloadData
+
+-- the receiver, the chunks that it took as new, and the messages that were read, each list the last one first
+pub record Stand : Type 0 where
+  pub receiver : Reception
+  pub accepted : List ChunkPayloadData
+  pub read : List Message
+
+abbrev pub accepted_after : Call → List ChunkPayloadData → List ChunkPayloadData
+accepted_after (takes c New) cs = c ∷ cs
+accepted_after (takes c Repeat) cs = cs
+accepted_after (opens stream) cs = cs
+accepted_after (closes stream) cs = cs
+accepted_after reports cs = cs
+accepted_after (reads stream) cs = cs
+accepted_after (forwards f) cs = cs
+
+abbrev pub with_message : ℕ → Option ChunkSet → List Message → List Message
+with_message stream None ms = ms
+with_message stream (Some set) ms = record { stream = stream; fragments = set.chunks } ∷ ms
+
+abbrev pub messages_after : Call → Reception → List Message → List Message
+messages_after (reads stream) r ms = with_message stream (message_on stream r) ms
+messages_after (takes c arrival) r ms = ms
+messages_after (opens stream) r ms = ms
+messages_after (closes stream) r ms = ms
+messages_after reports r ms = ms
+messages_after (forwards f) r ms = ms
+
+-- one call, and calls one after another
+pub record Follows (c : Call) (old new : Stand) : Type 0 where
+  pub receiver : Makes c old.receiver new.receiver
+  pub accepted : new.accepted ≡ accepted_after c old.accepted
+  pub read : new.read ≡ messages_after c old.receiver old.read
+
+abbrev pub RunsTo : Stand → List Call → Stand → Type 0
+RunsTo old [] new = new ≡ old
+RunsTo old (c ∷ cs) new = (mid : Stand) × (Follows c old mid × RunsTo mid cs new)
+
+abbrev pub at_start : ℕ → ℕ → Stand
+at_start tsn max = record { receiver = at_first tsn max; accepted = []; read = [] }
+
+-- P after each run of calls on a new receiver, whatever the chunks that come
+abbrev pub AfterEachRun : (Stand → Type 0) → Type 0
+AfterEachRun P =
+    (tsn max : ℕ) (calls : List Call) (s : Stand) → RunsTo (at_start tsn max) calls s → P s
+
+-- ## The law
+
+-- each message that was read is complete: its first fragment begins, its last one ends, and TSNs rise by one
+abbrev pub AreComplete : Stand → Type 0
+AreComplete s = list_all (λ m. is_complete m.fragments) s.read ≡ true
+
+-- the fragments of the messages that were read on a stream
+abbrev pub fragments_read : ℕ → List Message → List ChunkPayloadData
+fragments_read stream [] = []
+fragments_read stream (m ∷ ms) =
+    if m.stream == stream then m.fragments ++ fragments_read stream ms else fragments_read stream ms
+
+-- however chunks are weighed, the fragments that were read on a stream weigh no more than the chunks that were taken on it:
+-- so each was taken there, and none of them serves twice
+abbrev pub WereAccepted : Stand → Type 0
+WereAccepted s =
+    (stream : ℕ) (weight : ChunkPayloadData → ℕ) → sum_by weight (fragments_read stream s.read)
+    ≤ sum_by weight (filter (is_on stream) s.accepted)

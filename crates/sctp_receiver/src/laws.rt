@@ -1,0 +1,12 @@
+//! What holds after every run of calls of a receiver: a law, the contract of a function that does nothing.
+
+ghost use Rattle.sctp_receiver.specs.ReceiverRuns.{AfterEachRun, AreComplete, WereAccepted};
+
+/// Whatever chunks come to a receiver, and whichever streams are opened and closed, each message that it hands out is complete: its
+/// fragments have consecutive TSNs, the first begins and the last ends. They are chunks of its stream that the receiver took as
+/// new, and none of those serves in two messages, or twice in one. The runs have no `restore`: by that a receiver stands as it
+/// stood when it was saved, and hands out again what was read since.
+pub fn messages_are_of_accepted_chunks()
+    ensures complete { AfterEachRun AreComplete }
+    ensures accepted { AfterEachRun WereAccepted }
+{}

@@ -1,0 +1,5 @@
+//! The receiving half of user data transfer (RFC 4960 6).
+#![tactic(auto)]
+
+pub mod laws;
+pub mod receiver;

@@ -1,0 +1,232 @@
+//! The receiving half of a link (RFC 4960 6.2; RFC 3758 3.6).
+
+ghost use Rattle.std.specs.Prelude.{◌≡◌, ◌==◌, ◌⊎◌, true, false, not, None, Some, OnOk, OnErr, IfOk, IfErr, IsOk, IsOkUnless, option_map, option_copied, is_some, map, length, if◌then◌else◌};
+ghost use Rattle.sctp_receiver.specs.Inbound.{named_forwarded};
+ghost use Rattle.sctp_receiver.specs.declared.receiver.refusal.ReceiverRefusal.TheVariants.{StreamOpen, StreamUnknown, OutOfMemory};
+
+pub mod arrival;
+pub mod data_each;
+pub mod inbound_streams;
+pub mod refusal;
+pub mod sack_out;
+pub mod saved;
+pub mod tsn_filter;
+
+use self::arrival::{Arrival, Forwarded};
+use self::inbound_streams::InboundStreams;
+use self::refusal::ReceiverRefusal;
+use self::tsn_filter::TsnFilter;
+use sctp_base::util::sna32lte;
+use sctp_chunks::chunk::chunk_forward_tsn::{ChunkForwardTsn, ChunkForwardTsnStream};
+use sctp_chunks::chunk::chunk_payload_data::ChunkPayloadData;
+use sctp_reassembly::chunks::Chunks;
+use sctp_outbound::payload_queue::PayloadQueue;
+use sctp_reassembly::reassembly_queue::ReassemblyQueue;
+use sctp_stream::stream::DataChannelStats;
+use std::alloc::Global;
+use std::marker::Model;
+
+/// The receiving half of a link: what came of the peer's messages. It takes every DATA and FORWARD-TSN chunk that
+/// a peer may send: each has its answer or its refusal, and nothing is asked of the caller.
+///
+/// It keeps the open streams, with what came on them and was not read, the TSNs beyond the cumulative one, and those
+/// that came again since the last SACK. Of a message that was read, and of a TSN that the cumulative one passed,
+/// nothing is kept but the counters.
+#[derive(Drop)]
+pub struct Receiver {
+    alloc: Global,
+    max_message_size: u32,
+    streams: InboundStreams,
+    filter: TsnFilter,
+}
+
+impl Model for Receiver {
+    ghost use Rattle.sctp_receiver.specs.Receiver.{Reception};
+
+    ghost Value = { Reception };
+
+    ghost view = { λ r. record {
+      streams = r.streams;
+      cumulative_tsn = r.filter.cumulative_tsn;
+      beyond = r.filter.beyond;
+      duplicates = r.filter.duplicates;
+      max_message_size = r.max_message_size;
+    } };
+}
+
+impl Receiver {
+    ghost use Rattle.sctp_chunks.specs.ForwardTsn.{forward_tsn_of};
+    ghost use Rattle.sctp_reassembly.specs.reassembly_queue.ReassemblyQueue.{at_start};
+    ghost use Rattle.sctp_receiver.specs.TsnFilter.{mark};
+    ghost use Rattle.sctp_receiver.specs.Receiver.{at_first, stream_of, is_open, open_stream, close_stream, data_refusal, IsRefusedFor, takes_memory, arrival_of, Takes, message_on, after_read, forward_refusal, forwarded_of, after_forward};
+
+    /// A receiver with no stream, to which nothing came. The first TSN is expected next, and a message may have
+    /// `max_message_size` bytes. It takes no memory.
+    pub fn new(alloc: Global, first_tsn: u32, max_message_size: u32) -> Self
+        ensures { result ≡ at_first first_tsn max_message_size }
+    {
+        Receiver {
+            alloc,
+            max_message_size,
+            streams: InboundStreams::new(alloc),
+            filter: TsnFilter::new(alloc, first_tsn),
+        }
+    }
+
+    /// Opens a stream. Refuses with `StreamOpen`, where it is open, and else only for memory. The receiver is as it was then.
+    pub fn open(&mut self, stream: u16) -> Result<(), ReceiverRefusal>
+        ensures ok { OnOk result (self.new ≡ open_stream stream self.old) }
+        ensures accepted { IsOk result → is_open stream self.old ≡ false }
+        ensures refused { IfErr result (λ e. e
+            ≡ (if is_open stream self.old then StreamOpen else OutOfMemory)) }
+        ensures err { OnErr result (self.new ≡ self.old) }
+    {
+        if self.streams.place_of(stream).is_some() {
+            return Err(ReceiverRefusal::StreamOpen);
+        }
+        self.streams.open(self.alloc, stream, self.max_message_size)
+    }
+
+    /// Closes a stream, where it is open: what came on it and was not read is dropped, and its counters go. A chunk of it with a new
+    /// TSN is refused then, until it is opened again; the TSNs stay as they are. Where it is not open nothing changes. It takes no
+    /// memory.
+    pub fn close(&mut self, stream: u16)
+        ensures { self.new ≡ close_stream stream self.old }
+    {
+        self.streams.close(stream);
+    }
+
+    /// Takes a DATA chunk (RFC 4960 6.2): `New`, where its TSN is new, and `Repeat`, where it came before or a FORWARD-TSN skipped it;
+    /// then the next SACK reports it as a duplicate. The refusals, in the order in which they are looked for:
+    ///
+    /// - `TsnOpposite`, where the TSN is neither before nor after the cumulative one;
+    /// - `StreamUnknown`, where its stream is not open;
+    /// - `MessageTooLarge`, where its message would be longer with it than a message may be;
+    /// - `OutOfMemory`, where memory ran out: never in the place of another one.
+    ///
+    /// The receiver is as it was then. The chunk that is expected next passes no filter.
+    pub fn data(&mut self, chunk: &ChunkPayloadData) -> Result<Arrival, ReceiverRefusal>
+        ensures answer { IfOk result (λ arrival. arrival ≡ arrival_of chunk.now self.old) }
+        ensures ok { IfOk result (λ arrival. Takes chunk.now arrival self.old self.new) }
+        ensures accepted { IsOk result → data_refusal chunk.now self.old ≡ None }
+        ensures refused { IfErr result (λ e. IsRefusedFor (data_refusal chunk.now self.old) e) }
+        ensures wants { IfErr result (λ e. e ≡ OutOfMemory
+            → takes_memory chunk.now self.old ≡ true) }
+        ensures err { OnErr result (self.new ≡ self.old) }
+    {
+        if self.filter.has_come(chunk.tsn) {
+            self.filter.record_duplicate(chunk.tsn)?;
+            return Ok(Arrival::Repeat);
+        }
+        if self.filter.is_opposite(chunk.tsn) {
+            return Err(ReceiverRefusal::TsnOpposite);
+        }
+        let Some(place) = self.streams.place_of(chunk.stream_identifier) else {
+            return Err(ReceiverRefusal::StreamUnknown);
+        };
+        if self.filter.reserve_for(chunk.tsn).is_err() {
+            return Err(self.streams.refusal_at(place, chunk));
+        }
+        self.streams.push_at(place, chunk)?;
+        self.filter.accept(chunk.tsn);
+        Ok(Arrival::New)
+    }
+
+    /// Takes the next message of a stream out, where there is one: the first complete unordered one, else the ordered
+    /// one that is due (RFC 4960 6.6). Refuses with `StreamUnknown`, where the stream is not open. It takes no memory.
+    pub fn read(&mut self, stream: u16) -> Result<Option<Chunks>, ReceiverRefusal>
+        ensures message { IfOk result (λ message. message
+            ≡ option_map at_start (message_on stream self.old)) }
+        ensures ok { OnOk result (self.new ≡ after_read stream self.old) }
+        ensures accepted { IsOk result → is_open stream self.old ≡ true }
+        ensures refused { IfErr result (λ e. (e ≡ StreamUnknown)
+            × (is_open stream self.old ≡ false)) }
+        ensures err { OnErr result (self.new ≡ self.old) }
+    {
+        let Some(place) = self.streams.place_of(stream) else {
+            return Err(ReceiverRefusal::StreamUnknown);
+        };
+        Ok(self.streams.read_at(place, stream))
+    }
+
+    /// Whether `read` would give a message of the stream; false where it is not open.
+    pub fn is_readable(&self, stream: u16) -> bool
+        ensures { result ≡ is_some (message_on stream self.now) }
+    {
+        match self.streams.find(stream) {
+            Some(inbound) => inbound.queue.is_readable(),
+            None => false,
+        }
+    }
+
+    /// Takes a FORWARD-TSN (RFC 3758 3.6): `Skipped`, where its TSN comes after the cumulative one, and `Stale`, where
+    /// it does not; then nothing changes. What it names on a stream that is not open is passed over. Refuses with
+    /// `TsnOpposite`, where its TSN is neither before nor after the cumulative one. It takes no memory.
+    pub fn forward_tsn(&mut self, chunk: &ChunkForwardTsn) -> Result<Forwarded, ReceiverRefusal>
+        ensures answer { IfOk result (λ forwarded. forwarded
+            ≡ forwarded_of (forward_tsn_of chunk.now) self.old) }
+        ensures ok { OnOk result (self.new ≡ after_forward (forward_tsn_of chunk.now) self.old) }
+        ensures accepted { IsOk result
+            → forward_refusal (forward_tsn_of chunk.now) self.old ≡ None }
+        ensures refused { IfErr result (λ e. forward_refusal (forward_tsn_of chunk.now) self.old
+            ≡ Some e) }
+        ensures err { OnErr result (self.new ≡ self.old) }
+    {
+        let tsn = chunk.new_cumulative_tsn;
+        if self.filter.is_opposite(tsn) {
+            return Err(ReceiverRefusal::TsnOpposite);
+        }
+        if sna32lte(tsn, self.filter.cumulative_tsn()) {
+            return Ok(Forwarded::Stale);
+        }
+        forward_named(&mut self.streams, &chunk.streams);
+        self.streams.forward_unordered(tsn);
+        self.filter.skip_to(tsn);
+        Ok(Forwarded::Skipped)
+    }
+
+    /// The TSN up to which all came, or was skipped.
+    pub fn cumulative_tsn(&self) -> u32
+        ensures { result ≡ self.now.cumulative_tsn }
+    {
+        self.filter.cumulative_tsn()
+    }
+
+    /// The TSNs that came beyond the cumulative one, each as a chunk that says nothing else, and those that came again since
+    /// the last SACK.
+    pub fn filter(&self) -> &PayloadQueue
+        ensures beyond { result.now.chunks ≡ map mark self.now.beyond }
+        ensures duplicates { result.now.duplicates ≡ self.now.duplicates }
+    {
+        self.filter.queue()
+    }
+
+    /// What came on a stream and was not read; None where it is not open.
+    pub fn reassembly(&self, stream: u16) -> Option<&ReassemblyQueue>
+        ensures { option_copied result ≡ option_map (λ l. l.queue) (stream_of stream self.now) }
+    {
+        match self.streams.find(stream) {
+            Some(inbound) => Some(&inbound.queue),
+            None => None,
+        }
+    }
+
+    /// The counters of what was read on a stream, in which nothing was sent; None where it is not open.
+    pub fn stats(&self, stream: u16) -> Option<DataChannelStats>
+        ensures { result ≡ option_map (λ l. l.stats) (stream_of stream self.now) }
+    {
+        match self.streams.find(stream) {
+            Some(inbound) => Some(inbound.stats),
+            None => None,
+        }
+    }
+}
+
+// Discards what a FORWARD-TSN names, one name after another.
+fn forward_named(streams: &mut InboundStreams, names: &[ChunkForwardTsnStream])
+    ensures { streams.new ≡ named_forwarded names.now streams.old }
+{
+    for name in names {
+        streams.forward_ordered(name.identifier, name.sequence);
+    }
+}

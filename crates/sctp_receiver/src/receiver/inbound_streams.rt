@@ -1,0 +1,308 @@
+//! The streams of a receiver.
+
+ghost use Rattle.std.specs.Prelude.{◌≡◌, ◌==◌, ◌<◌, ◌++◌, ◌∷◌, ◌⊎◌, [], not, true, false, Some, None, OnOk, OnErr, IfOk, IfErr, IsOk, IsOkUnless, MatchOption, length, map, find, option_map, option_copied, slice_get, if◌then◌else◌};
+ghost use Rattle.std.specs.List.{filter};
+ghost use Rattle.sctp_base.specs.declared.error.Error.TheVariants.{ErrOutOfMemory};
+ghost use Rattle.sctp_list_lemmas.specs.Lists.{change_where};
+ghost use Rattle.sctp_receiver.specs.declared.receiver.refusal.ReceiverRefusal.TheVariants.{MessageTooLarge, OutOfMemory};
+ghost use Rattle.sctp_stream.specs.Numbers.{IsOnlyPlace, IsAbsent};
+ghost use Rattle.sctp_reassembly.specs.reassembly_queue.ReassemblyQueue.{is_too_large};
+ghost use Rattle.sctp_receiver.specs.Inbound.{unassembled_forwarded};
+
+use crate::receiver::refusal::ReceiverRefusal;
+use sctp_chunks::chunk::chunk_payload_data::ChunkPayloadData;
+use sctp_reassembly::chunks::Chunks;
+use sctp_reassembly::reassembly_queue::ReassemblyQueue;
+use sctp_stream::stream::DataChannelStats;
+use sctp_stream::stream_numbers::{StreamNumbers, put};
+use std::alloc::Global;
+use std::marker::Model;
+
+/// A stream of a receiver: what came of its messages, and its counters.
+#[derive(Drop)]
+pub struct InboundStream {
+    /// What came and was not read.
+    pub queue: ReassemblyQueue,
+    /// What was read.
+    pub stats: DataChannelStats,
+}
+
+impl InboundStream {
+    ghost use Rattle.sctp_reassembly.specs.reassembly_queue.ReassemblyQueue.{is_complete_with, PushesUnordered, message_read, at_start};
+    ghost use Rattle.sctp_receiver.specs.Inbound.{new_stream, Pushes, stream_read};
+
+    /// A stream on which nothing came. It takes no memory.
+    pub fn new(alloc: Global, stream: u16, max_message_size: u32) -> Self
+        ensures { result ≡ new_stream stream max_message_size }
+    {
+        InboundStream {
+            queue: ReassemblyQueue::new(alloc, stream, max_message_size),
+            stats: DataChannelStats {
+                stream_identifier: stream,
+                generation: 0,
+                messages_sent: 0,
+                bytes_sent: 0,
+                messages_received: 0,
+                bytes_received: 0,
+            },
+        }
+    }
+
+    /// An equal stream, which shares its bytes. Refuses only for memory.
+    pub fn try_clone(&self, alloc: Global) -> Result<Self, ReceiverRefusal>
+        ensures ok { IfOk result (λ stream. stream ≡ self.now) }
+        ensures memory { IfErr result (λ e. e ≡ OutOfMemory) }
+    {
+        Ok(InboundStream {
+            queue: self.queue.try_clone(alloc)?,
+            stats: self.stats,
+        })
+    }
+
+    /// Takes a fragment. Refuses with `MessageTooLarge`, exactly where its message would be longer
+    /// with it than a message may be, or for memory. The stream is as it was then.
+    /// Precondition: the fragment is of this stream.
+    pub fn push(&mut self, chunk: &ChunkPayloadData) -> Result<(), ReceiverRefusal>
+        requires { (chunk.now.stream_identifier == self.old.queue.si) ≡ true }
+        ensures ok { OnOk result (Pushes chunk.now self.old.queue self.new.queue) }
+        ensures rest { self.new ≡ record self.old { queue = self.new.queue } }
+        ensures fits { IsOk result → is_too_large chunk.now self.old.queue ≡ false }
+        ensures refused { IfErr result (λ e.
+            e ≡ (if is_too_large chunk.now self.old.queue then MessageTooLarge else OutOfMemory)) }
+        ensures err { OnErr result (self.new ≡ self.old) }
+    {
+        self.push_told(chunk)?;
+        Ok(())
+    }
+
+    /// Takes a fragment, as `push`, and answers whether a message became complete by it. Refuses as
+    /// `push` does.
+    /// Precondition: the fragment is of this stream.
+    pub fn push_told(&mut self, chunk: &ChunkPayloadData) -> Result<bool, ReceiverRefusal>
+        requires { (chunk.now.stream_identifier == self.old.queue.si) ≡ true }
+        ensures ok { OnOk result (Pushes chunk.now self.old.queue self.new.queue) }
+        ensures ordered { chunk.now.unordered ≡ false
+            → IfOk result (λ complete. complete ≡ is_complete_with chunk.now self.old.queue.held) }
+        ensures unordered { chunk.now.unordered ≡ true
+            → IfOk result (λ complete.
+            PushesUnordered chunk.now self.old.queue self.new.queue complete) }
+        ensures rest { self.new ≡ record self.old { queue = self.new.queue } }
+        ensures fits { IsOk result → is_too_large chunk.now self.old.queue ≡ false }
+        ensures refused { IfErr result (λ e.
+            e ≡ (if is_too_large chunk.now self.old.queue then MessageTooLarge else OutOfMemory)) }
+        ensures err { OnErr result (self.new ≡ self.old) }
+    {
+        let Ok(fragment) = chunk.try_clone() else {
+            return Err(refusal_without_memory(&self.queue, chunk));
+        };
+        Ok(self.queue.push(fragment)?)
+    }
+
+    /// Takes the next message out, where there is one, and counts it. It takes no memory.
+    pub fn read(&mut self) -> Option<Chunks>
+        ensures message { result ≡ option_map at_start (message_read self.old.queue.held) }
+        ensures rest { self.new ≡ stream_read self.old }
+    {
+        let chunks = self.queue.read()?;
+        self.stats.count_received(chunks.ppi(), chunks.len());
+        Some(chunks)
+    }
+}
+
+/// The streams of a receiver, in the order in which they were opened. Each is found at once by its number.
+#[derive(Drop)]
+pub struct InboundStreams {
+    numbers: StreamNumbers,
+    items: Vec<InboundStream>,
+}
+
+impl Model for InboundStreams {
+    ghost use Rattle.std.specs.Prelude.{◌≡◌, List};
+    ghost use Rattle.sctp_receiver.specs.declared.receiver.inbound_streams.InboundStream.{InboundStream};
+    ghost use Rattle.sctp_receiver.specs.Inbound.{numbers_of};
+
+    ghost Value = { List InboundStream };
+
+    ghost view = { λ s. s.items.items };
+
+    ghost invariant = { λ s. s.numbers ≡ numbers_of s.items.items };
+}
+
+impl InboundStreams {
+    ghost use Rattle.sctp_reassembly.specs.reassembly_queue.ReassemblyQueue.{at_start};
+    ghost use Rattle.sctp_receiver.specs.Inbound.{has_number, numbers_of, new_stream, PushesOn, stream_read, ssn_forwarded};
+    ghost use Rattle.sctp_receiver.specs.Receiver.{message_of, stream_refusal, IsRefusedFor};
+
+    /// No streams. It takes no memory.
+    pub fn new(alloc: Global) -> Self
+        ensures { result ≡ [] }
+    {
+        InboundStreams {
+            numbers: StreamNumbers::new(alloc),
+            items: Vec::new(alloc),
+        }
+    }
+
+    /// The place of the stream with a number, None where it is not open.
+    pub fn place_of(&self, stream: u16) -> Option<usize>
+        ensures { MatchOption result
+            (IsAbsent stream (numbers_of self.now)) (IsOnlyPlace stream (numbers_of self.now)) }
+    {
+        self.numbers.place_of(stream)
+    }
+
+    /// The stream with a number, None where it is not open.
+    pub fn find(&self, stream: u16) -> Option<&InboundStream>
+        ensures { option_copied result ≡ find (has_number stream) self.now }
+    {
+        let Some(place) = self.numbers.place_of(stream) else {
+            return None;
+        };
+        Some(&self.items[place])
+    }
+
+    /// Opens a stream. Refuses only for memory, and the streams are as they were then.
+    /// Precondition: it is not open.
+    pub fn open(
+        &mut self,
+        alloc: Global,
+        stream: u16,
+        max_message_size: u32,
+    ) -> Result<(), ReceiverRefusal>
+        requires { IsAbsent stream (numbers_of self.old) }
+        ensures ok { OnOk result (self.new ≡ self.old ++ new_stream stream max_message_size ∷ []) }
+        ensures err { OnErr result (self.new ≡ self.old) }
+        ensures memory { IfErr result (λ e. e ≡ OutOfMemory) }
+    {
+        let opened = InboundStream::new(alloc, stream, max_message_size);
+        if self.items.reserve(1).is_err() {
+            return Err(ReceiverRefusal::OutOfMemory);
+        }
+        self.numbers.push(stream)?;
+        put(&mut self.items, opened);
+        Ok(())
+    }
+
+    /// Closes a stream, where it is open: what came on it and was not read is dropped. It takes no memory.
+    pub fn close(&mut self, stream: u16)
+        ensures { self.new ≡ filter (λ l. not (has_number stream l)) self.old }
+    {
+        let Some(place) = self.numbers.place_of(stream) else {
+            return;
+        };
+        self.items.remove(place);
+        self.numbers.remove(stream);
+    }
+
+    /// Takes a fragment on the stream at a place. Refuses with `MessageTooLarge`, exactly where its
+    /// message would be longer with it than a message may be, or for memory. The streams are as
+    /// they were then.
+    /// Precondition: the fragment is of that stream.
+    pub fn push_at(&mut self, place: usize, chunk: &ChunkPayloadData) -> Result<(), ReceiverRefusal>
+        requires { IsOnlyPlace chunk.now.stream_identifier (numbers_of self.old) place }
+        ensures ok { OnOk result (PushesOn chunk.now self.old self.new) }
+        ensures fits { IsOk result → stream_refusal chunk.now
+            (find (has_number chunk.now.stream_identifier) self.old) ≡ None }
+        ensures refused { IfErr result (λ e. IsRefusedFor
+            (stream_refusal chunk.now (find (has_number chunk.now.stream_identifier) self.old)) e) }
+        ensures err { OnErr result (self.new ≡ self.old) }
+    {
+        self.items[place].push(chunk)
+    }
+
+    /// Why the stream at a place refuses a fragment, where memory is wanting. It takes no memory.
+    /// Precondition: the fragment is of that stream.
+    pub fn refusal_at(&self, place: usize, chunk: &ChunkPayloadData) -> ReceiverRefusal
+        requires { IsOnlyPlace chunk.now.stream_identifier (numbers_of self.now) place }
+        ensures { IsRefusedFor
+            (stream_refusal chunk.now (find
+            (has_number chunk.now.stream_identifier) self.now)) result }
+    {
+        refusal_without_memory(&self.items[place].queue, chunk)
+    }
+
+    /// Takes the next message of a stream out, where there is one. It takes no memory.
+    /// Precondition: that stream stands at the place.
+    pub fn read_at(&mut self, place: usize, stream: u16) -> Option<Chunks>
+        requires { IsOnlyPlace stream (numbers_of self.old) place }
+        ensures message { result
+            ≡ option_map at_start (message_of (find (has_number stream) self.old)) }
+        ensures rest { self.new ≡ change_where (has_number stream) stream_read self.old }
+    {
+        let _stream = stream;
+        self.items[place].read()
+    }
+
+    /// An equal copy of each stream, in their order. Refuses only for memory.
+    pub fn save(&self, alloc: Global) -> Result<Vec<InboundStream>, ReceiverRefusal>
+        ensures ok { IfOk result (λ saved. saved.items ≡ self.now) }
+        ensures memory { IfErr result (λ e. e ≡ OutOfMemory) }
+    {
+        clone_each(alloc, &self.items)
+    }
+
+    /// Puts streams in the place of those that are there. It takes no memory.
+    /// Precondition: they have the same numbers, in the same order.
+    pub fn put_back(&mut self, saved: Vec<InboundStream>)
+        requires { numbers_of saved.items ≡ numbers_of self.old }
+        ensures { self.new ≡ saved.items }
+    {
+        self.items = saved;
+    }
+
+    /// Discards the messages of a stream up to a stream sequence number, where it is open (RFC 3758 3.6). It takes no memory.
+    pub fn forward_ordered(&mut self, stream: u16, ssn: u16)
+        ensures { self.new ≡ change_where (has_number stream) (ssn_forwarded ssn) self.old }
+    {
+        let Some(place) = self.numbers.place_of(stream) else {
+            return;
+        };
+        self.items[place].queue.forward_tsn_for_ordered(ssn);
+    }
+
+    /// Discards the unassembled fragments of all streams up to a TSN (RFC 3758 3.6). It takes no memory.
+    pub fn forward_unordered(&mut self, tsn: u32)
+        ensures { self.new ≡ map (unassembled_forwarded tsn) self.old }
+    {
+        forward_each(&mut self.items, tsn);
+    }
+}
+
+// An equal copy of each stream.
+fn clone_each(
+    alloc: Global,
+    streams: &[InboundStream],
+) -> Result<Vec<InboundStream>, ReceiverRefusal>
+    ensures ok { IfOk result (λ saved. saved.items ≡ streams.now) }
+    ensures memory { IfErr result (λ e. e ≡ OutOfMemory) }
+{
+    let mut saved = Vec::new(alloc);
+    for stream in streams {
+        let copy = stream.try_clone(alloc)?;
+        if saved.push(copy).is_err() {
+            return Err(ReceiverRefusal::OutOfMemory);
+        }
+    }
+    Ok(saved)
+}
+
+// So on each stream.
+fn forward_each(streams: &mut Vec<InboundStream>, tsn: u32)
+    ensures { streams.new.items ≡ map (unassembled_forwarded tsn) streams.old.items }
+{
+    for place in 0..streams.len() {
+        streams[place].queue.forward_tsn_for_unordered(tsn);
+    }
+}
+
+// Why a chunk for which memory was wanting is refused: for that alone, where its message would not be too long. It takes no
+// memory.
+fn refusal_without_memory(queue: &ReassemblyQueue, chunk: &ChunkPayloadData) -> ReceiverRefusal
+    ensures { result ≡ (if is_too_large chunk.now queue.now then MessageTooLarge else OutOfMemory) }
+{
+    if queue.is_too_large(chunk) {
+        ReceiverRefusal::MessageTooLarge
+    } else {
+        ReceiverRefusal::OutOfMemory
+    }
+}

@@ -1,0 +1,33 @@
+//! Why a receiver refuses.
+
+use sctp_base::error::Error;
+
+/// Why a call of a receiver changed nothing.
+#[derive(Clone, Copy, Debug, PartialEq, Eq)]
+pub enum ReceiverRefusal {
+    /// The stream is open.
+    StreamOpen,
+    /// The stream is not open.
+    StreamUnknown,
+    /// The TSN lies half the circle from the cumulative one, and so neither before nor after it (RFC 1982 3.2).
+    TsnOpposite,
+    /// With the chunk its message would be longer than a message may be.
+    MessageTooLarge,
+    /// Memory ran out.
+    OutOfMemory,
+}
+
+/// A message that would be too long is `MessageTooLarge`; any other refusal of what stands below is want of memory.
+impl From<Error> for ReceiverRefusal {
+    ghost use Rattle.std.specs.Prelude.{◌≡◌};
+    ghost use Rattle.sctp_receiver.specs.Refusals.{receiver_refusal};
+
+    ghost from_gives = { λ e r. r ≡ receiver_refusal e };
+
+    fn from(e: Error) -> ReceiverRefusal {
+        match e {
+            Error::ErrInboundPacketTooLarge => ReceiverRefusal::MessageTooLarge,
+            _ => ReceiverRefusal::OutOfMemory,
+        }
+    }
+}

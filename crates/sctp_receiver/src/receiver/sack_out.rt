@@ -1,0 +1,68 @@
+//! What a receiver acknowledges (RFC 4960 3.3.4, 6.2).
+
+ghost use Rattle.std.specs.Prelude.{◌≡◌, ◌+◌, ◌≤◌, OnOk, OnErr, IfOk, IfErr, length};
+ghost use Rattle.sctp_receiver.specs.declared.receiver.refusal.ReceiverRefusal.TheVariants.{OutOfMemory};
+
+use crate::receiver::Receiver;
+use crate::receiver::refusal::ReceiverRefusal;
+use sctp_chunks::chunk::chunk_selective_ack::ChunkSelectiveAck;
+
+/// The greatest count of gap ack blocks and duplicates in a SACK that fits its length.
+pub const MAX_SACK_ENTRIES: usize = 16379;
+
+impl Receiver {
+    ghost use Rattle.sctp_chunks.specs.SelectiveAck.{sack_of};
+    ghost use Rattle.sctp_receiver.specs.Receiver.{sack, without_duplicates};
+
+    /// The SACK of what came; `credit` is how many bytes of user data there is room for. Gap ack blocks come first, then
+    /// as many duplicates as fit; all duplicates are forgotten. Refuses only for memory, and the receiver is as it was then.
+    pub fn sack(&mut self, credit: u32) -> Result<ChunkSelectiveAck, ReceiverRefusal>
+        ensures sack { IfOk result (λ s. sack_of s ≡ sack credit self.old) }
+        ensures fits { IfOk result
+            (λ s. length s.gap_ack_blocks.items + length s.duplicate_tsn.items ≤ 16379) }
+        ensures rest { OnOk result (self.new ≡ without_duplicates self.old) }
+        ensures err { OnErr result (self.new ≡ self.old) }
+        ensures memory { IfErr result (λ e. e ≡ OutOfMemory) }
+    {
+        let sack = self.make_sack(credit)?;
+        self.sack_sent();
+        Ok(sack)
+    }
+
+    /// The SACK that `sack` makes, and nothing is forgotten: while it is not sent, the next one reports
+    /// the same duplicates again. Refuses only for memory.
+    pub fn make_sack(&self, credit: u32) -> Result<ChunkSelectiveAck, ReceiverRefusal>
+        ensures sack { IfOk result (λ s. sack_of s ≡ sack credit self.now) }
+        ensures fits { IfOk result (λ s.
+            length s.gap_ack_blocks.items + length s.duplicate_tsn.items ≤ 16379) }
+        ensures memory { IfErr result (λ e. e ≡ OutOfMemory) }
+    {
+        let mut gap_ack_blocks = self.filter.gap_ack_blocks(self.alloc)?;
+        gap_ack_blocks.truncate(MAX_SACK_ENTRIES);
+        let duplicates = self.filter.queue().duplicates();
+        let count = duplicates
+            .len()
+            .min(MAX_SACK_ENTRIES - gap_ack_blocks.len());
+        let mut duplicate_tsn = Vec::new(self.alloc);
+        if duplicate_tsn
+            .extend_from_slice(&duplicates[..count])
+            .is_err()
+        {
+            return Err(ReceiverRefusal::OutOfMemory);
+        }
+        Ok(ChunkSelectiveAck {
+            cumulative_tsn_ack: self.filter.cumulative_tsn(),
+            advertised_receiver_window_credit: credit,
+            gap_ack_blocks,
+            duplicate_tsn,
+        })
+    }
+
+    /// A SACK that `make_sack` made was sent: all duplicates are forgotten, those that came since it was
+    /// made and those that did not fit too. It takes no memory.
+    pub fn sack_sent(&mut self)
+        ensures { self.new ≡ without_duplicates self.old }
+    {
+        let _ = self.filter.take_duplicates(self.alloc);
+    }
+}

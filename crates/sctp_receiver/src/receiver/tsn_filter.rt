@@ -1,0 +1,227 @@
+//! The TSNs that came (RFC 4960 6.2).
+
+ghost use Rattle.std.specs.Prelude.{◌≡◌, ◌<◌, ◌^◌, ◌∷◌, ◌++◌, [], ℕ, true, false, OnOk, OnErr, IfOk, IsOkUnless, length, map, slice_get, IsTrue};
+ghost use Rattle.sctp_base.specs.declared.error.Error.TheVariants.{ErrOutOfMemory};
+ghost use Rattle.sctp_list_lemmas.specs.Lists.{advance_over};
+ghost use Rattle.sctp_list_lemmas.specs.Serial.{comes_before};
+ghost use Rattle.sctp_outbound.specs.payload_queue.PayloadQueue.{with_chunks};
+ghost use Rattle.sctp_receiver.specs.TsnFilter.{mark};
+ghost use Rattle.sctp_serial.specs.DataChunks.{preceding_tsn, tsns};
+
+use bytes::Bytes;
+use sctp_base::error::Result;
+use sctp_base::util::sna32lte;
+use sctp_chunks::chunk::chunk_payload_data::{ChunkPayloadData, PayloadProtocolIdentifier};
+use sctp_chunks::chunk::chunk_selective_ack::GapAckBlock;
+use sctp_outbound::payload_queue::PayloadQueue;
+use sctp_serial::serial::distance;
+use sctp_serial::turns::Turns;
+use std::alloc::Global;
+use std::marker::Model;
+
+/// Which TSNs came: all up to the cumulative one, and those that the queue holds beyond it (RFC 4960 6.2); and which
+/// of them came again since the last SACK. It keeps of a chunk its TSN alone, and of those that the cumulative TSN
+/// passed nothing.
+#[derive(Drop)]
+pub struct TsnFilter {
+    queue: PayloadQueue,
+    cumulative_tsn: u32,
+}
+
+impl Model for TsnFilter {
+    ghost use Rattle.std.specs.Prelude.{◌≡◌, ◌<◌, ◌^◌, true, map};
+    ghost use Rattle.sctp_serial.specs.DataChunks.{tsns};
+    ghost use Rattle.sctp_receiver.specs.TsnFilter.{Filter, mark, rise_beyond};
+
+    ghost Value = { Filter };
+
+    ghost view = { λ f. record {
+      cumulative_tsn = f.cumulative_tsn;
+      beyond = tsns f.queue.chunks;
+      duplicates = f.queue.duplicates;
+      room = f.queue.room;
+    } };
+
+    ghost invariant = { λ f. record {
+      in_range : f.cumulative_tsn < 2 ^ 32;
+      marks : f.queue.chunks
+          ≡ map mark (tsns f.queue.chunks);
+      rise : rise_beyond f.cumulative_tsn 1
+          (tsns f.queue.chunks) ≡ true;
+    } };
+}
+
+impl TsnFilter {
+    ghost use Rattle.sctp_receiver.specs.TsnFilter.{has_come, is_opposite, with_tsn, with_duplicate, skipped_to, has_room, gap_ack_blocks};
+
+    /// Nothing came: the first TSN is expected next. It takes no memory.
+    pub fn new(alloc: Global, first_tsn: u32) -> Self
+        ensures { result ≡ record {
+          cumulative_tsn = preceding_tsn first_tsn;
+          beyond = [];
+          duplicates = [];
+          room = 0;
+        } }
+    {
+        TsnFilter {
+            queue: PayloadQueue::new(alloc),
+            cumulative_tsn: first_tsn.wrapping_sub(1),
+        }
+    }
+
+    /// An equal filter; its room is as great. Refuses only for memory.
+    pub fn try_clone(&self, alloc: Global) -> Result<TsnFilter>
+        ensures ok { IfOk result (λ filter. filter ≡ self.now) }
+        ensures memory { IsOkUnless result ErrOutOfMemory }
+    {
+        let queue = self.queue.try_clone(alloc)?;
+        Ok(TsnFilter {
+            queue,
+            cumulative_tsn: self.cumulative_tsn,
+        })
+    }
+
+    /// The TSN up to which all came.
+    pub fn cumulative_tsn(&self) -> u32
+        ensures { result ≡ self.now.cumulative_tsn }
+    {
+        self.cumulative_tsn
+    }
+
+    /// The TSNs beyond, each as a chunk that says nothing else, and those that came again.
+    pub fn queue(&self) -> &PayloadQueue
+        ensures beyond { result.now.chunks ≡ map mark self.now.beyond }
+        ensures duplicates { result.now.duplicates ≡ self.now.duplicates }
+    {
+        &self.queue
+    }
+
+    /// Whether a TSN came. For the one that is expected next nothing is looked up.
+    pub fn has_come(&self, tsn: u32) -> bool
+        ensures { result ≡ has_come tsn self.now }
+    {
+        if tsn == self.cumulative_tsn.wrapping_add(1) {
+            return false;
+        }
+        sna32lte(tsn, self.cumulative_tsn)
+            || self.queue.get_counted(tsn, &mut Turns::new()).is_some()
+    }
+
+    /// Whether a TSN is neither before nor after the cumulative one.
+    pub fn is_opposite(&self, tsn: u32) -> bool
+        ensures value { result ≡ is_opposite tsn self.now }
+        ensures tsn_fits { tsn < 2 ^ 32 }
+        ensures cumulative_fits { self.now.cumulative_tsn < 2 ^ 32 }
+    {
+        distance(self.cumulative_tsn, tsn) == 1 << 31
+    }
+
+    /// Makes room for a new TSN: the one that is expected next needs none. Refuses only for memory.
+    pub fn reserve_for(&mut self, tsn: u32) -> Result<()>
+        ensures room { OnOk result (has_room tsn self.new ≡ true) }
+        ensures rest { self.new ≡ record self.old { room = self.new.room } }
+        ensures memory { IsOkUnless result ErrOutOfMemory }
+    {
+        if tsn == self.cumulative_tsn.wrapping_add(1) {
+            return Ok(());
+        }
+        self.queue.reserve(1)
+    }
+
+    /// A new TSN comes. The one that is expected next is put nowhere: the cumulative TSN moves over it, and over
+    /// all that stand next to it. It takes no memory.
+    /// Precondition: it did not come (`has_come`), is not opposite to the cumulative one (`is_opposite`), and there is
+    /// room for it (`reserve_for`).
+    pub fn accept(&mut self, tsn: u32)
+        requires new { has_come tsn self.old ≡ false }
+        requires near { is_opposite tsn self.old ≡ false }
+        requires room { has_room tsn self.old ≡ true }
+        ensures { self.new ≡ record (with_tsn tsn self.old) { room = self.new.room } }
+    {
+        if tsn == self.cumulative_tsn.wrapping_add(1) {
+            self.cumulative_tsn = advance(&mut self.queue, tsn);
+            return;
+        }
+        let _ = self.queue.push(mark(tsn), self.cumulative_tsn);
+    }
+
+    /// A TSN comes again. Refuses only for memory, and the filter is as it was then.
+    /// Precondition: it came (`has_come`).
+    pub fn record_duplicate(&mut self, tsn: u32) -> Result<()>
+        requires { has_come tsn self.old ≡ true }
+        ensures ok { OnOk result (self.new ≡ with_duplicate tsn self.old) }
+        ensures err { OnErr result (self.new ≡ self.old) }
+        ensures memory { IsOkUnless result ErrOutOfMemory }
+    {
+        self.queue.push(mark(tsn), self.cumulative_tsn)?;
+        Ok(())
+    }
+
+    /// All up to a TSN counts as come (RFC 3758 3.6). It takes no memory.
+    /// Precondition: it comes after the cumulative one.
+    pub fn skip_to(&mut self, tsn: u32)
+        requires { comes_before self.old.cumulative_tsn tsn ≡ true }
+        ensures { self.new ≡ skipped_to tsn self.old }
+    {
+        self.queue.pop_up_to(tsn);
+        self.cumulative_tsn = advance(&mut self.queue, tsn);
+    }
+
+    /// The runs of TSNs beyond the cumulative one, of those at most 65,535 past it (RFC 4960 3.3.4). Refuses only for memory.
+    pub fn gap_ack_blocks(&self, alloc: Global) -> Result<Vec<GapAckBlock>>
+        ensures blocks { IfOk result (λ blocks. blocks.items ≡ gap_ack_blocks self.now) }
+        ensures memory { IsOkUnless result ErrOutOfMemory }
+    {
+        let blocks = self.queue.get_gap_ack_blocks(alloc, self.cumulative_tsn)?;
+        Ok(blocks)
+    }
+
+    /// The TSNs that came again, which are forgotten. It takes no memory.
+    pub fn take_duplicates(&mut self, alloc: Global) -> Vec<u32>
+        ensures taken { result.items ≡ self.old.duplicates }
+        ensures rest { self.new ≡ record self.old { duplicates = [] } }
+    {
+        self.queue.pop_duplicates(alloc)
+    }
+}
+
+// A chunk that says its TSN and nothing else.
+fn mark(tsn: u32) -> ChunkPayloadData
+    ensures { result ≡ mark tsn }
+{
+    ChunkPayloadData {
+        unordered: false,
+        beginning_fragment: false,
+        ending_fragment: false,
+        immediate_sack: false,
+        tsn,
+        stream_identifier: 0,
+        stream_sequence_number: 0,
+        payload_type: PayloadProtocolIdentifier::Unknown,
+        user_data: Bytes::new(),
+        acked: false,
+        miss_indicator: 0,
+        message_id: 0,
+        abandoned: false,
+        since: None,
+        reliability: None,
+        deadline: None,
+        nsent: 0,
+        retransmit: false,
+    }
+}
+
+// Moves the cumulative TSN over the chunks that stand next to it, which leave the queue (RFC 4960 6.2).
+fn advance(queue: &mut PayloadQueue, cumulative_tsn: u32) -> u32
+    ensures moved { advance_over cumulative_tsn (tsns queue.old.chunks)
+        ≡ record { cum = result; held = tsns queue.new.chunks } }
+    ensures marks { queue.old.chunks ≡ map mark (tsns queue.old.chunks)
+        → queue.new.chunks ≡ map mark (tsns queue.new.chunks) }
+    ensures rest { queue.new ≡ with_chunks queue.old queue.new.chunks }
+{
+    let mut cumulative_tsn = cumulative_tsn;
+    while let Some(_) = queue.pop(cumulative_tsn.wrapping_add(1)) {
+        cumulative_tsn = cumulative_tsn.wrapping_add(1);
+    }
+    cumulative_tsn
+}

@@ -1,0 +1,36 @@
+-- A sender accounts for each byte that was written.
+use Rattle.std.proofs.Common.{◌≡◌, ◌+◌, ◌-◌, ◌^◌, List, [], ◌∷◌, refl, ap, sym, subst, ◌∙◌, arith}
+use Rattle.std.specs.Prelude.{min}
+use Rattle.sctp_outbound.specs.Marks.{with_nsent}
+use Rattle.sctp_outbound.proofs.lemmas.pending_queue.Waiting.{bytes_of-change_where}
+use Rattle.sctp_serial.specs.DataChunks.{has_tsn}
+use Rattle.sctp_sender.specs.Sender.{Transmission}
+use Rattle.sctp_sender.specs.SenderRuns.{AfterEachRun, Call, Follows, IsAccounted, Ledger, Makes, RunsTo, at_start, held_by_sender, abandons, abandons_late, closes, opens, released_by, resends, reserves, sends, sets_mode, starts, takes_sack, writes, written_by}
+use Rattle.sctp_sender.proofs.Amounts.{started-bytes}
+
+-- what a call makes of the bytes that wait and are in flight
+moves : (c : Call) (old new : Transmission) → Makes c old new → held_by_sender new + released_by c ≡ held_by_sender old + written_by c
+moves (opens stream) old new m = let e = ap held_by_sender m in omega (arith, e)
+moves (closes stream) old new m = let e = ap held_by_sender m in omega (arith, e)
+moves (sets_mode stream unordered reliability value) old new m = let e = ap held_by_sender m in omega (arith, e)
+moves (starts now) old new m = let e = ap held_by_sender m ∙ started-bytes now old.flight.queue in omega (arith, e)
+moves (reserves count) old new m = let e = ap held_by_sender m in omega (arith, e)
+moves (resends tsn c) old new m =
+    let e = ap held_by_sender m in
+    let b = bytes_of-change_where (has_tsn tsn) (with_nsent (min (c.nsent + 1) (2 ^ 32 - 1))) (λ _. refl) old.flight.queue.inflight.chunks in
+    omega (arith, e, b)
+moves (writes bytes) old new m = omega (arith, m)
+moves sends old new m = omega (arith, m)
+moves (abandons bytes) old new m = omega (arith, m)
+moves (abandons_late gone) old new m = omega (arith, m)
+moves (takes_sack gone) old new m = omega (arith, m)
+
+next : (c : Call) (old new : Ledger) → Follows c old new → IsAccounted old → IsAccounted new
+next c old new f a = let m = moves c old.sender new.sender f.sender in omega (arith, m, f.written, f.released, a)
+
+run : (cs : List Call) (old new : Ledger) → RunsTo old cs new → IsAccounted old → IsAccounted new
+run [] old new r a = subst IsAccounted (sym r) a
+run (c ∷ cs) old new r a = run cs r.0 new r.1.1 (next c old r.0 r.1.0 a)
+
+pub accounted : AfterEachRun IsAccounted
+accounted tsn size max calls l r = run calls (at_start tsn size max) l r refl

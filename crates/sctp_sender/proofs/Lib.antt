@@ -1,0 +1,13 @@
+pub mod Runs
+pub mod MarkedRuns
+pub mod Sacks
+pub mod Flights
+pub mod SenderStreams
+pub mod Amounts
+pub mod Names
+pub mod Points
+pub mod Lates
+pub mod Settled
+pub mod Accounts
+pub mod Closed
+mod Examples

@@ -1,0 +1,71 @@
+-- A walk over a run of chunks that changes some of them.
+use Rattle.std.proofs.Common.{◌≡◌, ℕ, ◌+◌, ◌<◌, ◌≤◌, ◌%◌, ◌^◌, Bool, true, false, List, [], ◌∷◌, ◌++◌, length, map, take, drop, ◌-◌, get_or, set, Some, refl, ap, sym, ◌∙◌, arith}
+use Rattle.std.specs.Prelude.{if◌then◌else◌, find}
+use Rattle.std.proofs.lemmas.List.{length-map, length-take-le, take-append-drop, get_or-append_right, get_or-drop}
+use Rattle.std.specs.List.{filter}
+use Rattle.sctp_list_lemmas.specs.Lists.{change_where}
+use Rattle.sctp_list_lemmas.proofs.Edits.{change_where-only, changed_step, unchanged_step, those-more, length-change_where}
+use Rattle.sctp_chunks.specs.declared.chunk.chunk_payload_data.ChunkPayloadData.{ChunkPayloadData}
+use Rattle.sctp_serial.specs.DataChunks.{has_tsn, tsns}
+use Rattle.sctp_sender.specs.Flight.{tsns_from}
+use Rattle.sctp_sender.proofs.Runs.{IsRunFrom, tsn-at, found-at, only-at, changed-run}
+
+those-short : {X : Type 0} (p : X → Bool) (xs : List X) → length (filter p xs) ≤ length xs
+those-short p [] = omega arith
+those-short p (x ∷ xs) = by (p x) (those-short p xs)
+  where
+    by : (b : Bool) → length (filter p xs) ≤ length xs → length (if b then x ∷ filter p xs else filter p xs) ≤ length (x ∷ xs)
+    by true h = omega arith
+    by false h = omega arith
+
+tsns-append : (xs ys : List ChunkPayloadData) → tsns (xs ++ ys) ≡ tsns xs ++ tsns ys
+tsns-append [] ys = refl
+tsns-append (x ∷ xs) ys = ap (λ ts. x.tsn ∷ ts) (tsns-append xs ys)
+
+tsns-length : (xs ys : List ChunkPayloadData) → tsns xs ≡ tsns ys → length xs ≡ length ys
+tsns-length xs ys e = sym (length-map xs (λ c. c.tsn)) ∙ ap length e ∙ length-map ys (λ c. c.tsn)
+
+module _ (p : ChunkPayloadData → Bool) (f : ChunkPayloadData → ChunkPayloadData) (keeps : (c : ChunkPayloadData) → (f c).tsn ≡ c.tsn) (cs ys : List ChunkPayloadData) (first i : ℕ)
+    (small : first < 2 ^ 32) (run : IsRunFrom first cs) (few : length cs < 2 ^ 31) (lt : i < length cs) (so_far : ys ≡ change_where p f (take i cs) ++ drop i cs) where
+  same : tsns ys ≡ tsns cs
+  same =
+      ap tsns so_far ∙ tsns-append (change_where p f (take i cs)) (drop i cs) ∙ ap (λ ts. ts ++ tsns (drop i cs)) (changed-run p f keeps (take i cs))
+      ∙ sym (tsns-append (take i cs) (drop i cs)) ∙ ap tsns (take-append-drop i cs)
+
+  count : length ys ≡ length cs
+  count = tsns-length ys cs same
+
+  its-run : IsRunFrom first ys
+  its-run = same ∙ run ∙ ap (tsns_from first) (sym count)
+
+  -- the chunk at the place is found by its TSN
+  pub found : (d : ChunkPayloadData) → find (has_tsn ((first + i) % 2 ^ 32)) ys ≡ Some (get_or ys i d)
+  found d = found-at ys first i d small its-run (omega (arith, few, count)) (omega (arith, lt, count))
+
+  module _ (x : ChunkPayloadData) (is : find (has_tsn ((first + i) % 2 ^ 32)) ys ≡ Some x) where
+    read : x ≡ get_or ys i x
+    read = let e = found x in cc
+
+    pub unmarked : p x ≡ false → ys ≡ change_where p f (take (i + 1) cs) ++ drop (i + 1) cs
+    unmarked h = unchanged_step p f cs ys i x lt so_far read h
+
+    pub marked : p x ≡ true → change_where (has_tsn ((first + i) % 2 ^ 32)) f ys ≡ change_where p f (take (i + 1) cs) ++ drop (i + 1) cs
+    marked h =
+        change_where-only (has_tsn ((first + i) % 2 ^ 32)) f ys i x (only-at ys first i small its-run (omega (arith, few, count)) (omega (arith, lt, count)))
+        ∙ ap (λ c. set ys i (f c)) (sym read) ∙ changed_step p f cs ys i x lt so_far read h
+
+    pub its-tsn : x.tsn ≡ (first + i) % 2 ^ 32
+    its-tsn = ap (λ (c : ChunkPayloadData). c.tsn) read ∙ tsn-at ys first i x small its-run (omega (arith, lt, count))
+
+    -- the walk has not come to it
+    old : x ≡ get_or cs i x
+    old =
+        let short : length (change_where p f (take i cs)) ≡ i = length-change_where p f (take i cs) ∙ length-take-le i cs (omega (arith, lt)) in
+        let none : i + (i - i) ≡ i = omega arith in
+        read ∙ ap (λ zs. get_or zs i x) so_far ∙ get_or-append_right (change_where p f (take i cs)) (drop i cs) i i x short (omega arith) ∙ get_or-drop i cs (i - i) x ∙ ap (λ k. get_or cs k x) none
+
+    pub told : filter p (take (i + 1) cs) ≡ filter p (take i cs) ++ (if p x then x ∷ [] else [])
+    told = those-more p cs i x lt ∙ ap (λ y. filter p (take i cs) ++ (if p y then y ∷ [] else [])) (sym old)
+
+pub told-short : {B : Type 0} (p : ChunkPayloadData → Bool) (g : ChunkPayloadData → B) (cs : List ChunkPayloadData) (i : ℕ) → i ≤ length cs → length (map g (filter p (take i cs))) ≤ i
+told-short p g cs i le = let a = length-map (filter p (take i cs)) g in let b = those-short p (take i cs) in let d = length-take-le i cs le in omega arith

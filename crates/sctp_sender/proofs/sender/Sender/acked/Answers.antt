@@ -1,0 +1,11 @@
+use Rattle.std.proofs.Common.{sym, subst}
+use Rattle.sctp_chunks.specs.SelectiveAck.{sack_of}
+use Rattle.sctp_sender.specs.Flight.{Flight}
+use Rattle.sctp_sender.specs.Totals.{IsAllSettled}
+use Rattle.sctp_sender.proofs.Settled.{sack-settled}
+use Rattle.sctp_sender.proofs.sender.Sender.acked.Goals as goal
+
+pub invariant_of-self-2 : goal.invariant_of-self-2
+invariant_of-self-2 c =
+    let f : Flight = c.self.inside.flight in
+    (c.self.invariant.0, c.self.invariant.1, subst (λ (g : Flight). IsAllSettled g.queue) (sym c.in_ok-released.ensures.ok) (sack-settled (sack_of c.args.sack.now) f c.self.invariant.2))

@@ -1,0 +1,41 @@
+use Rattle.std.proofs.Common.{◌≤◌, length, ap, sym, ◌∙◌, arith}
+use Rattle.sctp_chunks.specs.SelectiveAck.{sack_of}
+use Rattle.sctp_list_lemmas.specs.Serial.{distance}
+use Rattle.sctp_outbound.specs.outbound_queue.OutboundQueue.{Outbound}
+use Rattle.sctp_sender.specs.Flight.{Flight}
+use Rattle.sctp_sender.proofs.Sacks.{run, count, contiguous, taken-is}
+use Rattle.sctp_sender.proofs.Settled.{after-bytes}
+use Rattle.sctp_sender.proofs.sender.flight.InFlight.acked.Goals as goal
+
+pub pop_run-requires-clause-run : goal.pop_run-requires-clause-run
+pop_run-requires-clause-run c =
+    let f : Flight = record { queue = c.self.inside.queue; next_tsn = c.self.inside.next_tsn; acked_tsn = c.self.inside.acked_tsn } in
+    rw (c.mark_reported.ensures.marked) (run f c.self.invariant (sack_of c.args.sack.now) c.distance-count.ensures.to_fits)
+
+pub pop_run-requires-clause-within : goal.pop_run-requires-clause-within
+pop_run-requires-clause-within c =
+    let f : Flight = record { queue = c.self.inside.queue; next_tsn = c.self.inside.next_tsn; acked_tsn = c.self.inside.acked_tsn } in
+    let n = ap (λ (o : Outbound). length o.inflight.chunks) c.mark_reported.ensures.marked in
+    let k = count f c.self.invariant (sack_of c.args.sack.now) c.distance-count.ensures.to_fits in
+    omega (arith, c.if-in_flight-count.false, c.inflight_len-in_flight.ensures, n, k)
+
+pub invariant_of-self : goal.invariant_of-self
+invariant_of-self c =
+    let f : Flight = record { queue = c.self.inside.queue; next_tsn = c.self.inside.next_tsn; acked_tsn = c.self.inside.acked_tsn } in
+    let within : distance f.acked_tsn c.args.sack.now.cumulative_tsn_ack ≤ length f.queue.inflight.chunks = omega (arith, c.if-in_flight-count.false, c.inflight_len-in_flight.ensures, c.distance-count.ensures.value) in
+    contiguous f c.self.invariant (sack_of c.args.sack.now) c.distance-count.ensures.to_fits within c.mark_reported.new.queue c.pop_run.new.queue c.mark_reported.ensures.marked (rw (c.distance-count.ensures.value) at c.pop_run.ensures)
+
+pub returns-clause-ok : goal.returns-clause-ok
+returns-clause-ok c =
+    let f : Flight = record { queue = c.self.inside.queue; next_tsn = c.self.inside.next_tsn; acked_tsn = c.self.inside.acked_tsn } in
+    let within : distance f.acked_tsn c.args.sack.now.cumulative_tsn_ack ≤ length f.queue.inflight.chunks = omega (arith, c.if-in_flight-count.false, c.inflight_len-in_flight.ensures, c.distance-count.ensures.value) in
+    rw (← c.self.view_is) (taken-is f c.self.invariant (sack_of c.args.sack.now) c.distance-count.ensures.to_fits within c.mark_reported.new.queue c.pop_run.new.queue c.mark_reported.ensures.marked (rw (c.distance-count.ensures.value) at c.pop_run.ensures) (sym c.sna32lt.ensures ∙ c.if-sna32lt.false))
+
+pub returns-clause-released : goal.returns-clause-released
+returns-clause-released c =
+    let f : Flight = record { queue = c.self.inside.queue; next_tsn = c.self.inside.next_tsn; acked_tsn = c.self.inside.acked_tsn } in
+    let g : Flight = record { queue = c.pop_run.new.queue; next_tsn = c.self.inside.next_tsn; acked_tsn = c.args.sack.now.cumulative_tsn_ack } in
+    let within : distance f.acked_tsn c.args.sack.now.cumulative_tsn_ack ≤ length f.queue.inflight.chunks = omega (arith, c.if-in_flight-count.false, c.inflight_len-in_flight.ensures, c.distance-count.ensures.value) in
+    let current = sym c.sna32lt.ensures ∙ c.if-sna32lt.false in
+    let is = taken-is f c.self.invariant (sack_of c.args.sack.now) c.distance-count.ensures.to_fits within c.mark_reported.new.queue c.pop_run.new.queue c.mark_reported.ensures.marked (rw (c.distance-count.ensures.value) at c.pop_run.ensures) current in
+    rw (← c.self.view_is) (after-bytes (sack_of c.args.sack.now) f g c.mark_reported.new.released.items current is c.mark_reported.ensures.told)

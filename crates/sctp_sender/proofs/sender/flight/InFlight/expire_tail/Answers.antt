@@ -1,0 +1,22 @@
+use Rattle.std.proofs.Common.{◌≡◌, true}
+use Rattle.std.specs.Prelude.{is_some}
+use Rattle.sctp_outbound.specs.outbound_queue.OutboundQueue.{expiring_tail}
+use Rattle.sctp_sender.specs.Flight.{Flight, may_send}
+use Rattle.sctp_sender.proofs.Flights.{fresh, window, after-abandoning, tail-there}
+use Rattle.sctp_sender.proofs.sender.flight.InFlight.expire_tail.Goals as goal
+
+pub expire_pending_tail-requires-clause-fresh : goal.expire_pending_tail-requires-clause-fresh
+expire_pending_tail-requires-clause-fresh c =
+    let f : Flight = record { queue = c.self.inside.queue; next_tsn = c.self.inside.next_tsn; acked_tsn = c.self.inside.acked_tsn } in
+    fresh f c.self.invariant
+
+pub expire_pending_tail-requires-clause-window : goal.expire_pending_tail-requires-clause-window
+expire_pending_tail-requires-clause-window c =
+    let f : Flight = record { queue = c.self.inside.queue; next_tsn = c.self.inside.next_tsn; acked_tsn = c.self.inside.acked_tsn } in
+    window f c.self.invariant
+
+pub invariant_of-self-2 : goal.invariant_of-self-2
+invariant_of-self-2 c =
+    let f : Flight = record { queue = c.self.inside.queue; next_tsn = c.self.inside.next_tsn; acked_tsn = c.self.inside.acked_tsn } in
+    let room : is_some (expiring_tail c.args.now f.queue) ≡ true → may_send f ≡ true = rw (← c.self.view_is) at c.requires in
+    after-abandoning f _ c.expire_pending_tail.new.self c.expire_pending_tail.new.next_tsn c.self.invariant (λ tail. room (tail-there (expiring_tail c.args.now f.queue) f.queue tail)) c.in_ok-abandoned.ensures.ok c.in_ok-abandoned.ensures.raised

@@ -1,0 +1,20 @@
+use Rattle.std.proofs.Common.{◌≡◌, true}
+use Rattle.sctp_sender.specs.Flight.{Flight, may_send}
+use Rattle.sctp_sender.proofs.Flights.{fresh, window, sent}
+use Rattle.sctp_sender.proofs.sender.flight.InFlight.send_next.Goals as goal
+
+pub send_next-requires-clause-fresh : goal.send_next-requires-clause-fresh
+send_next-requires-clause-fresh c =
+    let f : Flight = record { queue = c.self.inside.queue; next_tsn = c.self.inside.next_tsn; acked_tsn = c.self.inside.acked_tsn } in
+    fresh f c.self.invariant
+
+pub send_next-requires-clause-window : goal.send_next-requires-clause-window
+send_next-requires-clause-window c =
+    let f : Flight = record { queue = c.self.inside.queue; next_tsn = c.self.inside.next_tsn; acked_tsn = c.self.inside.acked_tsn } in
+    window f c.self.invariant
+
+pub invariant_of-self-2 : goal.invariant_of-self-2
+invariant_of-self-2 c =
+    let f : Flight = record { queue = c.self.inside.queue; next_tsn = c.self.inside.next_tsn; acked_tsn = c.self.inside.acked_tsn } in
+    let room : may_send f ≡ true = rw (← c.self.view_is) at c.requires in
+    sent f c.args.now c.send_next.new.self c.send_next.new.next_tsn c.self.invariant room c.in_ok-sent.ensures.ok c.in_ok-sent.ensures.raised

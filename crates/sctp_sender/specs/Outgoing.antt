@@ -1,0 +1,58 @@
+-- The streams of a sender.
+use Rattle.std.specs.Prelude.{ℕ, ◌+◌, ◌-◌, ◌%◌, ◌^◌, ◌==◌, Bool, true, false, List, [], ◌∷◌, length, map, Some}
+use Rattle.sctp_chunks.specs.PayloadTypes.{counted_as}
+use Rattle.sctp_list_lemmas.specs.Lists.{change_where}
+use Rattle.sctp_chunks.specs.declared.chunk.chunk_payload_data.ChunkPayloadData.{ChunkPayloadData}
+use Rattle.sctp_chunks.specs.declared.chunk.chunk_payload_data.PayloadProtocolIdentifier.{PayloadProtocolIdentifier}
+use Rattle.sctp_chunks.specs.declared.chunk.chunk_payload_data.ReliabilityType.{ReliabilityType}
+use Rattle.sctp_stream.specs.declared.stream.StreamState.{StreamState}
+use Rattle.sctp_sender.specs.declared.sender.flight.Released.{Released}
+use Rattle.sctp_stream.specs.Stats.{with_sent}
+use Rattle.sctp_stream.specs.Stream.{after_write, fragments_of}
+
+abbrev pub number : StreamState → ℕ
+number l = l.stream_identifier
+
+abbrev pub has_number : ℕ → StreamState → Bool
+has_number s l = l.stream_identifier == s
+
+abbrev pub numbers_of : List StreamState → List ℕ
+numbers_of ls = map number ls
+
+abbrev pub with_mode : Bool → ReliabilityType → ℕ → StreamState → StreamState
+with_mode unordered reliability value l =
+    record l { unordered = unordered; reliability_type = reliability; reliability_value = value }
+
+-- a fragment with the mode of its stream
+abbrev pub with_reliability : ReliabilityType → ℕ → ChunkPayloadData → ChunkPayloadData
+with_reliability reliability value c = record c { reliability = Some (reliability, value) }
+
+-- the fragments of a write, each with the mode of the stream
+abbrev pub fragments_with_mode : StreamState → PayloadProtocolIdentifier → List ℕ
+    → List ChunkPayloadData
+fragments_with_mode l ppi bytes =
+    map (with_reliability l.reliability_type l.reliability_value) (fragments_of l ppi bytes)
+
+-- a write was accepted: an ordered one takes the number, its bytes wait, and it is counted
+abbrev pub wrote : PayloadProtocolIdentifier → List ℕ → StreamState → StreamState
+wrote ppi bytes l =
+    record (after_write l ppi bytes) {
+      stats = with_sent
+          (counted_as ppi (length bytes)) l.stats;
+    }
+
+-- so many bytes wait and are in flight no more
+abbrev pub less_by : ℕ → StreamState → StreamState
+less_by bytes l = record l { buffered_amount = l.buffered_amount - bytes }
+
+-- each stream has less by what left of it, one chunk after another
+abbrev pub after_releases : List Released → List StreamState → List StreamState
+after_releases [] ls = ls
+after_releases (r ∷ rs) ls =
+    after_releases rs (change_where (has_number r.stream) (less_by r.bytes) ls)
+
+-- a message that was not sent is gone: the next write takes the number of an ordered one
+abbrev pub after_expiry : Bool → ℕ → StreamState → StreamState
+after_expiry true bytes l = less_by bytes l
+after_expiry false bytes l =
+    record (less_by bytes l) { sequence_number = (l.sequence_number + (2 ^ 16 - 1)) % 2 ^ 16 }

@@ -1,0 +1,104 @@
+-- The sending half of a link as callers see it (RFC 4960 6.1, 6.2.1, 6.9).
+use Rattle.std.specs.Prelude.{ℕ, ◌+◌, ◌^◌, Bool, not, ◌||◌, nat_lt, if◌then◌else◌, List, [], ◌∷◌, ◌++◌, Option, Some, None, is_some}
+use Rattle.std.specs.List.{find, filter}
+use Rattle.sctp_list_lemmas.specs.Lists.{change_where}
+use Rattle.sctp_chunks.specs.declared.chunk.chunk_payload_data.ChunkPayloadData.{ChunkPayloadData}
+use Rattle.sctp_chunks.specs.declared.chunk.chunk_payload_data.PayloadProtocolIdentifier.{PayloadProtocolIdentifier}
+use Rattle.sctp_chunks.specs.declared.chunk.chunk_payload_data.PayloadProtocolIdentifier.TheVariants.{Unknown}
+use Rattle.sctp_chunks.specs.declared.chunk.chunk_payload_data.ReliabilityType.{ReliabilityType}
+use Rattle.sctp_chunks.specs.SelectiveAck.{Sack}
+use Rattle.sctp_outbound.specs.outbound_queue.OutboundQueue.{Outbound, with_message, total_bytes, expired_of}
+use Rattle.sctp_stream.specs.declared.stream.StreamState.{StreamState}
+use Rattle.sctp_sender.specs.declared.sender.refusal.SenderRefusal.{SenderRefusal}
+use Rattle.sctp_sender.specs.declared.sender.refusal.SenderRefusal.TheVariants.{StreamUnknown, MessageTooLarge, QueueFull}
+use Rattle.sctp_sender.specs.Flight.{Flight, with_queue, at_first, after_sack, released_by, after_abandonment}
+use Rattle.sctp_sender.specs.Outgoing.{has_number, with_mode, fragments_with_mode, wrote, after_releases, less_by, after_expiry}
+use Rattle.sctp_stream.specs.Stream.{new_stream}
+
+-- the open streams in the order in which they were opened; what waits and what is in flight; how long a fragment is, and how
+-- long a message may be
+pub record Transmission : Type 0 where
+  pub streams : List StreamState
+  pub flight : Flight
+  pub fragment_size : ℕ
+  pub max_message_size : ℕ
+
+abbrev pub with_nothing : ℕ → ℕ → ℕ → Transmission
+with_nothing tsn size max =
+    record { streams = []; flight = at_first tsn; fragment_size = size; max_message_size = max }
+
+abbrev pub stream_of : ℕ → Transmission → Option StreamState
+stream_of s t = find (has_number s) t.streams
+
+abbrev pub is_open : ℕ → Transmission → Bool
+is_open s t = is_some (stream_of s t)
+
+abbrev pub with_streams : List StreamState → Transmission → Transmission
+with_streams ls t = record t { streams = ls }
+
+abbrev pub with_flight : Flight → Transmission → Transmission
+with_flight f t = record t { flight = f }
+
+abbrev pub open_stream : ℕ → Transmission → Transmission
+open_stream s t =
+    with_streams (t.streams ++ new_stream s t.fragment_size t.max_message_size Unknown ∷ []) t
+
+-- the stream is open no more; what waits and is in flight stays
+abbrev pub close_stream : ℕ → Transmission → Transmission
+close_stream s t = with_streams (filter (λ l. not (has_number s l)) t.streams) t
+
+abbrev pub with_mode_on : ℕ → Bool → ReliabilityType → ℕ → Transmission → Transmission
+with_mode_on s unordered reliability value t =
+    with_streams (change_where (has_number s) (with_mode unordered reliability value) t.streams) t
+
+-- ## Writing
+
+-- numbers of messages or bytes are used up
+abbrev pub is_full_of : ℕ → Outbound → Bool
+is_full_of len q =
+    not (nat_lt (q.next_message_id + 1) (2 ^ 64)) || not (nat_lt (total_bytes q + len) (2 ^ 64))
+
+abbrev pub is_full : ℕ → Transmission → Bool
+is_full len t = is_full_of len t.flight.queue
+
+abbrev pub write_refusal : ℕ → ℕ → Transmission → Option SenderRefusal
+write_refusal s len t =
+    if not (is_open s t) then Some StreamUnknown
+    else (if nat_lt t.max_message_size len then Some MessageTooLarge
+    else (if is_full len t then Some QueueFull else None))
+
+-- the fragments of a write wait; one of no bytes changes nothing
+abbrev pub written_to : StreamState → ℕ → PayloadProtocolIdentifier → List ℕ → Transmission
+    → Transmission
+written_to l s ppi bytes t = record t {
+  streams = change_where (has_number s) (wrote ppi bytes) t.streams;
+  flight = with_queue t.flight (with_message (fragments_with_mode l ppi bytes) t.flight.queue);
+}
+
+-- ## Sending
+
+-- ## A SACK
+
+abbrev pub after_acked : Sack → Transmission → Transmission
+after_acked s t =
+    record t {
+      streams = after_releases (released_by s t.flight) t.streams;
+      flight = after_sack s t.flight;
+    }
+
+-- ## Abandoning
+
+-- a message is abandoned, and its stream has so many bytes less
+abbrev pub after_abandon : Option ℕ → ℕ → ℕ → Transmission → Transmission
+after_abandon message stream bytes t = record t {
+  streams = change_where (has_number stream) (less_by bytes) t.streams;
+  flight = after_abandonment message t.flight;
+}
+
+-- the message past its deadline that begins with a chunk is gone, unsent
+abbrev pub after_expire : ChunkPayloadData → ℕ → ℕ → Transmission → Transmission
+after_expire c bytes now t = record t {
+  streams = change_where (has_number c.stream_identifier)
+      (after_expiry c.unordered bytes) t.streams;
+  flight = with_queue t.flight (expired_of (Some c) t.flight.queue);
+}

@@ -1,0 +1,98 @@
+-- Runs of calls of a sender, and where the bytes are that were written.
+use Rattle.std.specs.Prelude.{◌≡◌, ℕ, ◌+◌, Bool, List, [], ◌∷◌, length}
+use Rattle.std.specs.List.{sum_by}
+use Rattle.sctp_chunks.specs.declared.chunk.chunk_payload_data.ChunkPayloadData.{ChunkPayloadData}
+use Rattle.sctp_chunks.specs.declared.chunk.chunk_payload_data.ReliabilityType.{ReliabilityType}
+use Rattle.sctp_outbound.specs.outbound_queue.OutboundQueue.{all_started, total_bytes}
+use Rattle.sctp_sender.specs.declared.sender.flight.late.AbandonedMessage.{AbandonedMessage}
+use Rattle.sctp_sender.specs.declared.sender.flight.Released.{Released}
+use Rattle.sctp_sender.specs.Flight.{resent, with_queue, with_room}
+use Rattle.sctp_sender.specs.Sender.{Transmission, open_stream, close_stream, with_flight, with_mode_on, with_nothing}
+use Rattle.sctp_sender.specs.Totals.{bytes_in}
+
+-- ## One call
+
+-- a call that is not refused, with the bytes that are written or those that it answers; a refused one changes nothing
+pub data Call : Type 0 where
+  opens : ℕ → Call
+  closes : ℕ → Call
+  sets_mode : ℕ → Bool → ReliabilityType → ℕ → Call
+  starts : ℕ → Call
+  reserves : ℕ → Call
+  resends : ℕ → ChunkPayloadData → Call
+  -- `write`
+  writes : List ℕ → Call
+  -- `send_next`, `send_next_tsn`
+  sends : Call
+  -- `abandon`, `expire`, `expire_tail`: so many bytes leave, none where the call answers None
+  abandons : ℕ → Call
+  -- `expire_late`
+  abandons_late : List AbandonedMessage → Call
+  -- `acked`
+  takes_sack : List Released → Call
+
+abbrev pub held_by_sender : Transmission → ℕ
+held_by_sender t = total_bytes t.flight.queue
+
+abbrev pub bytes_of_all : List AbandonedMessage → ℕ
+bytes_of_all gs = sum_by (λ g. g.bytes) gs
+
+-- of what each call ensures, the part on which bytes depend
+abbrev pub Makes : Call → Transmission → Transmission → Type 0
+Makes (opens stream) old new = new ≡ open_stream stream old
+Makes (closes stream) old new = new ≡ close_stream stream old
+Makes (sets_mode stream unordered reliability value) old new =
+    new ≡ with_mode_on stream unordered reliability value old
+Makes (starts now) old new =
+    new ≡ with_flight (with_queue old.flight (all_started now old.flight.queue)) old
+Makes (reserves count) old new =
+    new ≡ with_flight (with_queue old.flight (with_room count old.flight.queue)) old
+Makes (resends tsn c) old new = new ≡ with_flight (resent tsn c old.flight) old
+Makes (writes bytes) old new = held_by_sender new ≡ held_by_sender old + length bytes
+Makes sends old new = held_by_sender new ≡ held_by_sender old
+Makes (abandons bytes) old new = held_by_sender new + bytes ≡ held_by_sender old
+Makes (abandons_late gone) old new = held_by_sender new + bytes_of_all gone ≡ held_by_sender old
+Makes (takes_sack gone) old new = held_by_sender new + bytes_in gone ≡ held_by_sender old
+
+abbrev pub written_by : Call → ℕ
+written_by (writes bytes) = length bytes
+written_by _ = 0
+
+abbrev pub released_by : Call → ℕ
+released_by (abandons bytes) = bytes
+released_by (abandons_late gone) = bytes_of_all gone
+released_by (takes_sack gone) = bytes_in gone
+released_by _ = 0
+
+-- ## A run of calls
+
+-- the sender, how many bytes were written, and how many the calls answered that left
+pub record Ledger : Type 0 where
+  pub sender : Transmission
+  pub written : ℕ
+  pub released : ℕ
+
+-- one call, and calls one after another
+pub record Follows (c : Call) (old new : Ledger) : Type 0 where
+  pub sender : Makes c old.sender new.sender
+  pub written : new.written ≡ old.written + written_by c
+  pub released : new.released ≡ old.released + released_by c
+
+abbrev pub RunsTo : Ledger → List Call → Ledger → Type 0
+RunsTo old [] new = new ≡ old
+RunsTo old (c ∷ cs) new = (mid : Ledger) × (Follows c old mid × RunsTo mid cs new)
+
+abbrev pub at_start : ℕ → ℕ → ℕ → Ledger
+at_start tsn size max = record { sender = with_nothing tsn size max; written = 0; released = 0 }
+
+-- P after each run of calls on a new sender
+abbrev pub AfterEachRun : (Ledger → Type 0) → Type 0
+AfterEachRun P =
+    (tsn size max : ℕ) (calls : List Call) (l : Ledger) → RunsTo (at_start tsn size max) calls l
+    → P l
+
+-- ## The law
+
+-- each byte that was written waits, is in flight, or was answered as one that left
+abbrev pub IsAccounted : Ledger → Type 0
+IsAccounted l = l.written ≡ held_by_sender l.sender + l.released

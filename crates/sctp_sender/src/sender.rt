@@ -1,0 +1,513 @@
+//! The sending half of a link (RFC 4960 6.1, 6.2.1, 6.9).
+
+ghost use Rattle.std.specs.Prelude.{◌≡◌, ◌==◌, ◌<◌, ◌≤◌, ◌⊎◌, ℕ, Bool, true, false, not, None, Some, OnOk, OnErr, IfOk, IfErr, IfSome, IsOk, IsOkUnless, ◌+◌, option_map, option_copied, is_some, map, find, length, if◌then◌else◌};
+ghost use Rattle.sctp_sender.specs.Outgoing.{after_releases};
+ghost use Rattle.sctp_sender.specs.Sender.{is_full_of};
+ghost use Rattle.sctp_sender.specs.declared.sender.refusal.SenderRefusal.TheVariants.{StreamOpen, StreamUnknown, TsnsUsedUp, NotInFlight, OutOfMemory};
+
+mod abandonment;
+pub mod flight;
+mod outbound_streams;
+pub mod refusal;
+pub mod total;
+
+use self::flight::{InFlight, Released};
+use self::outbound_streams::OutboundStreams;
+use self::refusal::SenderRefusal;
+use bytes::Bytes;
+use sctp_chunks::chunk::chunk_payload_data::{
+    ChunkPayloadData, PayloadProtocolIdentifier, ReliabilityType,
+};
+use sctp_chunks::chunk::chunk_selective_ack::ChunkSelectiveAck;
+use sctp_outbound::outbound_queue::OutboundQueue;
+use sctp_stream::stream::{DataChannelStats, StreamState};
+use std::alloc::Global;
+use std::marker::Model;
+
+/// The sending half of a link: what was written and is not yet acknowledged. It takes every SACK that a peer may send.
+///
+/// It keeps the open streams, what waits and what is in flight. Of a message that was acknowledged or abandoned, and whose
+/// TSNs the cumulative one passed, nothing is kept but the counters.
+#[derive(Drop)]
+pub struct Sender {
+    alloc: Global,
+    fragment_size: u32,
+    max_message_size: u32,
+    streams: OutboundStreams,
+    flight: InFlight,
+}
+
+impl Model for Sender {
+    ghost use Rattle.std.specs.Prelude.{◌<◌, ◌≤◌};
+    ghost use Rattle.sctp_sender.specs.Sender.{Transmission};
+    ghost use Rattle.sctp_sender.specs.Totals.{IsAllSettled};
+
+    ghost Value = { Transmission };
+
+    ghost view = { λ s. record {
+      streams = s.streams;
+      flight = s.flight;
+      fragment_size = s.fragment_size;
+      max_message_size = s.max_message_size;
+    } };
+
+    ghost invariant = { λ s. (0 < s.fragment_size) × (s.fragment_size ≤ 65519)
+        × IsAllSettled s.flight.queue };
+}
+
+impl Sender {
+    ghost use Rattle.sctp_chunks.specs.SelectiveAck.{sack_of};
+    ghost use Rattle.sctp_outbound.specs.outbound_queue.OutboundQueue.{all_started, sent_next, expiring, expiring_tail, message_of, tail_bytes, total_bytes, after_sends};
+    ghost use Rattle.sctp_stream.specs.declared.stream.StreamState.{StreamState};
+    ghost use Rattle.sctp_outbound.specs.pending_queue.PendingQueue.{next_pending};
+    ghost use Rattle.sctp_serial.specs.DataChunks.{has_tsn, under_tsn};
+    ghost use Rattle.sctp_serial.specs.Window.{is_held};
+    ghost use Rattle.sctp_sender.specs.Flight.{with_queue, with_room, may_send, next_after_send, can_resend, resent, is_outdated, sack_refusal, released_by, message_to_abandon, has_tail_at};
+    ghost use Rattle.sctp_sender.specs.Abandonment.{abandon_refusal};
+    ghost use Rattle.sctp_sender.specs.Outgoing.{fragments_with_mode};
+    ghost use Rattle.sctp_sender.specs.Totals.{bytes_in};
+    ghost use Rattle.sctp_sender.specs.Sender.{with_nothing, stream_of, is_open, open_stream, close_stream, with_mode_on, with_flight, write_refusal, written_to, after_acked, after_abandon, after_expire};
+
+    /// A sender with no stream, whose first chunk gets the first TSN. It takes no memory.
+    /// Precondition: `fragment_size` is 1 to 65,519.
+    pub fn new(alloc: Global, first_tsn: u32, fragment_size: u32, max_message_size: u32) -> Self
+        requires some { 0 < fragment_size }
+        requires short { fragment_size ≤ 65519 }
+        ensures { result ≡ with_nothing first_tsn fragment_size max_message_size }
+    {
+        Sender {
+            alloc,
+            fragment_size,
+            max_message_size,
+            streams: OutboundStreams::new(alloc),
+            flight: InFlight::new(alloc, first_tsn),
+        }
+    }
+
+    /// Opens a stream, ordered and reliable. Refuses with `StreamOpen`, where it is open, and else only for memory.
+    /// The sender is as it was then.
+    pub fn open(&mut self, stream: u16) -> Result<(), SenderRefusal>
+        ensures ok { OnOk result (self.new ≡ open_stream stream self.old) }
+        ensures accepted { IsOk result → is_open stream self.old ≡ false }
+        ensures refused { IfErr result (λ e. e
+            ≡ (if is_open stream self.old then StreamOpen else OutOfMemory)) }
+        ensures err { OnErr result (self.new ≡ self.old) }
+    {
+        if self.streams.place_of(stream).is_some() {
+            return Err(SenderRefusal::StreamOpen);
+        }
+        self.streams.open(
+            self.alloc,
+            stream,
+            self.fragment_size,
+            self.max_message_size,
+        )
+    }
+
+    /// Closes a stream, where it is open: its state, its amount and its counters go. What waits and is in flight of it stays, and
+    /// goes on as before. Where it is not open nothing changes. It takes no memory.
+    /// Open it again only once `outbound().contains_stream` is false: what then leaves would else lower the new amount.
+    pub fn close(&mut self, stream: u16)
+        ensures { self.new ≡ close_stream stream self.old }
+    {
+        self.streams.close(stream);
+    }
+
+    /// Sets the mode of later writes to a stream; a DCEP message is ordered in any mode (RFC 8832 6). `value` counts the sendings of a
+    /// chunk after the first (`Rexmit`), or is a lifetime in milliseconds (`Timed`), or means nothing (`Reliable`). Refuses with
+    /// `StreamUnknown`, where the stream is not open. It takes no memory.
+    pub fn set_mode(
+        &mut self,
+        stream: u16,
+        unordered: bool,
+        reliability: ReliabilityType,
+        value: u32,
+    ) -> Result<(), SenderRefusal>
+        ensures ok { OnOk result (self.new
+            ≡ with_mode_on stream unordered reliability value self.old) }
+        ensures accepted { IsOk result → is_open stream self.old ≡ true }
+        ensures refused { IfErr result (λ e. (e ≡ StreamUnknown)
+            × (is_open stream self.old ≡ false)) }
+        ensures err { OnErr result (self.new ≡ self.old) }
+    {
+        let Some(place) = self.streams.place_of(stream) else {
+            return Err(SenderRefusal::StreamUnknown);
+        };
+        self.streams
+            .set_mode_at(place, stream, (unordered, reliability, value));
+        Ok(())
+    }
+
+    /// Starts the lifetimes of the messages written since the last time; `now` is in nanoseconds. It takes no memory.
+    pub fn start(&mut self, now: u64)
+        ensures { self.new ≡ with_flight
+            (with_queue self.old.flight (all_started now self.old.flight.queue)) self.old }
+    {
+        self.flight.start(now);
+    }
+
+    /// Takes a write: its fragments wait, each with the mode of the stream, but a DCEP message is ordered in any mode (RFC 8832
+    /// 6). Answers the number of its message and how many fragments it has; a write of no bytes has none, and changes nothing.
+    /// The refusals, in the order in which they are looked for: `StreamUnknown`, `MessageTooLarge`, `QueueFull`, `OutOfMemory`.
+    /// The sender is as it was then.
+    pub fn write(
+        &mut self,
+        stream: u16,
+        ppi: PayloadProtocolIdentifier,
+        bytes: &Bytes,
+    ) -> Result<(Option<u64>, usize), SenderRefusal>
+        ensures empty { length bytes.now ≡ 0 → OnOk result (self.new ≡ self.old) }
+        ensures ok { 0 < length bytes.now
+            → OnOk result ((l : StreamState) → stream_of stream self.old ≡ Some l
+            → self.new ≡ written_to l stream ppi bytes.now self.old) }
+        ensures number { IfOk result (λ r. r.0 ≡ (if length bytes.now == 0 then None
+            else Some self.old.flight.queue.next_message_id)) }
+        ensures count { IfOk result (λ r. (l : StreamState) → stream_of stream self.old ≡ Some l
+            → 0 < length bytes.now → r.1 ≡ length (fragments_with_mode l ppi bytes.now)) }
+        ensures none { length bytes.now ≡ 0 → IfOk result (λ r. r.1 ≡ 0) }
+        ensures bytes { OnOk result (total_bytes self.new.flight.queue
+            ≡ total_bytes self.old.flight.queue + length bytes.now) }
+        ensures idle { length bytes.now ≡ 0 → write_refusal stream 0 self.old ≡ None → IsOk result }
+        ensures accepted { IsOk result → write_refusal stream (length bytes.now) self.old ≡ None }
+        ensures refused { IfErr result
+            (λ e. ((e ≡ OutOfMemory) × (write_refusal stream (length bytes.now) self.old ≡ None))
+            ⊎ (write_refusal stream (length bytes.now) self.old ≡ Some e)) }
+        ensures err { OnErr result (self.new ≡ self.old) }
+    {
+        let Some(place) = self.streams.place_of(stream) else {
+            return Err(SenderRefusal::StreamUnknown);
+        };
+        let len = bytes.len();
+        if len > self.max_message_size as usize {
+            return Err(SenderRefusal::MessageTooLarge);
+        }
+        if is_full(self.flight.queue(), len) {
+            return Err(SenderRefusal::QueueFull);
+        }
+        if len == 0 {
+            return Ok((None, 0));
+        }
+        let chunks = self
+            .streams
+            .fragments_at(self.alloc, place, stream, ppi, bytes)?;
+        let count = chunks.len();
+        let number = self.flight.queue().next_message_id();
+        self.flight.push(chunks)?;
+        self.streams.wrote_at(place, stream, ppi, len);
+        Ok((Some(number), count))
+    }
+
+    /// Sends the fragment that is next: gives it the next TSN, puts it in flight, and answers the DATA chunk; None where nothing
+    /// waits. Lifetimes start; `now` is in nanoseconds. Refuses with `TsnsUsedUp`, where something waits and 2^31 - 1 chunks are
+    /// in flight, and for memory. The sender is as it was then.
+    pub fn send_next(&mut self, now: u64) -> Result<Option<ChunkPayloadData>, SenderRefusal>
+        ensures answer { IfOk result (λ sent. sent ≡ option_map
+            (under_tsn self.old.flight.next_tsn) (next_pending self.old.flight.queue.pending)) }
+        ensures ok { OnOk result (self.new
+            ≡ with_flight (record self.old.flight {
+              queue = sent_next self.old.flight.queue
+                  self.old.flight.next_tsn now;
+              next_tsn = next_after_send self.old.flight;
+            }) self.old) }
+        ensures bytes { OnOk result (total_bytes self.new.flight.queue
+            ≡ total_bytes self.old.flight.queue) }
+        ensures accepted { IsOk result → (next_pending self.old.flight.queue.pending ≡ None)
+            ⊎ (may_send self.old.flight ≡ true) }
+        ensures refused { IfErr result (λ e. e
+            ≡ (if may_send self.old.flight then OutOfMemory else TsnsUsedUp)) }
+        ensures idle { next_pending self.old.flight.queue.pending ≡ None → IsOk result }
+        ensures err { OnErr result (self.new ≡ self.old) }
+    {
+        let sent = self.copy_next()?;
+        self.send_next_tsn(now)?;
+        Ok(sent)
+    }
+
+    // A copy of the fragment that is next, under the next TSN; None where nothing waits.
+    fn copy_next(&self) -> Result<Option<ChunkPayloadData>, SenderRefusal>
+        ensures ok { IfOk result (λ copied. copied ≡ option_map
+            (under_tsn self.now.flight.next_tsn) (next_pending self.now.flight.queue.pending)) }
+        ensures refused { IfErr result (λ e. e
+            ≡ (if may_send self.now.flight then OutOfMemory else TsnsUsedUp)) }
+        ensures idle { next_pending self.now.flight.queue.pending ≡ None → IsOk result }
+    {
+        let Some(waiting) = self.flight.queue().peek_pending() else {
+            return Ok(None);
+        };
+        if !self.flight.may_send() {
+            return Err(SenderRefusal::TsnsUsedUp);
+        }
+        let mut chunk = waiting.try_clone()?;
+        chunk.tsn = self.flight.next_tsn();
+        Ok(Some(chunk))
+    }
+
+    /// From here on so many calls of `send_next_tsn`, and terminal chunks of `abandon` and `expire_tail`, together take no memory;
+    /// `expire_late` takes some for what it answers. Refuses only for memory, and the sender is as it was then.
+    pub fn reserve(&mut self, sends: usize) -> Result<(), SenderRefusal>
+        ensures ok { OnOk result (self.new
+            ≡ with_flight (with_queue self.old.flight
+            (with_room sends self.old.flight.queue)) self.old) }
+        ensures memory { IfErr result (λ e. e ≡ OutOfMemory) }
+        ensures succeeds { sends ≤ self.old.flight.queue.inflight.room → IsOk result }
+        ensures err { OnErr result (self.new ≡ self.old) }
+    {
+        self.flight.reserve_inflight(sends)
+    }
+
+    /// As `send_next`, but answers the TSN alone: `outbound().get` lends the chunk. So within the room of `reserve` it takes
+    /// no memory; `send_next` takes what a copy of the chunk wants.
+    pub fn send_next_tsn(&mut self, now: u64) -> Result<Option<u32>, SenderRefusal>
+        ensures answer { IfOk result (λ sent. sent
+            ≡ option_map (λ _. self.old.flight.next_tsn)
+            (next_pending self.old.flight.queue.pending)) }
+        ensures ok { OnOk result (self.new
+            ≡ with_flight (record self.old.flight {
+              queue = sent_next self.old.flight.queue
+                  self.old.flight.next_tsn now;
+              next_tsn = next_after_send self.old.flight;
+            }) self.old) }
+        ensures bytes { OnOk result (total_bytes self.new.flight.queue
+            ≡ total_bytes self.old.flight.queue) }
+        ensures accepted { IsOk result → (next_pending self.old.flight.queue.pending ≡ None)
+            ⊎ (may_send self.old.flight ≡ true) }
+        ensures refused { IfErr result (λ e. e
+            ≡ (if may_send self.old.flight then OutOfMemory else TsnsUsedUp)) }
+        ensures succeeds { 0 < self.old.flight.queue.inflight.room
+            → may_send self.old.flight ≡ true → IsOk result }
+        ensures idle { next_pending self.old.flight.queue.pending ≡ None → IsOk result }
+        ensures err { OnErr result (self.new ≡ self.old) }
+    {
+        self.flight.queue().are_whole();
+        let Some(_) = self.flight.queue().peek_pending() else {
+            self.flight.start(now);
+            return Ok(None);
+        };
+        if !self.flight.may_send() {
+            return Err(SenderRefusal::TsnsUsedUp);
+        }
+        let sent = self.flight.send_next(now)?;
+        Ok(sent)
+    }
+
+    /// The fragment that is next after so many sends, as the queue's `peek_pending_at` lends it: a datagram of several chunks
+    /// is filled by what these are long.
+    pub fn peek_pending_at(&self, sends: usize) -> Option<&ChunkPayloadData>
+        ensures { option_copied result
+            ≡ next_pending (after_sends sends self.now.flight.queue.pending) }
+    {
+        self.flight.queue().peek_pending_at(sends)
+    }
+
+    /// Abandons the message of a chunk in flight (RFC 3758 3.5), and answers its stream and the bytes that left. Refuses with
+    /// `NotInFlight`, where the TSN is not in flight; and, only where some of the message still waits, so that a terminal chunk has
+    /// to go in flight, with `TsnsUsedUp`, where 2^31 - 1 chunks are in flight, and for memory, though not within the room of `reserve`.
+    /// The sender is as it was then.
+    pub fn abandon(&mut self, tsn: u32) -> Result<(u16, usize), SenderRefusal>
+        ensures ok { IfOk result (λ r. self.new
+            ≡ after_abandon (message_to_abandon tsn self.old.flight) r.0 r.1
+            self.old) }
+        ensures stream { IfOk result (λ r. Some r.0 ≡ option_map
+            (λ c. c.stream_identifier) (find (has_tsn tsn) self.old.flight.queue.inflight.chunks)) }
+        ensures released { IfOk result (λ r. total_bytes self.new.flight.queue + r.1
+            ≡ total_bytes self.old.flight.queue) }
+        ensures accepted { IsOk result → abandon_refusal tsn self.old.flight ≡ None }
+        ensures refused { IfErr result (λ e.
+            ((e ≡ OutOfMemory) × (abandon_refusal tsn self.old.flight ≡ None))
+            ⊎ (abandon_refusal tsn self.old.flight ≡ Some e)) }
+        ensures no_tail { is_held self.old.flight.queue.inflight.chunks tsn ≡ true
+            → has_tail_at self.old.flight tsn ≡ false
+            → IsOk result }
+        ensures succeeds { 0 < self.old.flight.queue.inflight.room
+            → abandon_refusal tsn self.old.flight ≡ None → IsOk result }
+        ensures err { OnErr result (self.new ≡ self.old) }
+    {
+        if self.flight.queue().get(tsn).is_none() {
+            return Err(SenderRefusal::NotInFlight);
+        }
+        if self.flight.has_tail_at(tsn) && !self.flight.may_send() {
+            return Err(SenderRefusal::TsnsUsedUp);
+        }
+        let Some((stream, bytes)) = self.flight.abandon(tsn)? else {
+            unreachable!()
+        };
+        self.streams.release(stream, bytes);
+        Ok((stream, bytes))
+    }
+
+    /// Removes the message in front, where it is past its deadline and wholly unsent, and answers its stream and its bytes. `now` is in
+    /// nanoseconds. It takes no memory.
+    pub fn expire(&mut self, now: u64) -> Option<(u16, usize)>
+        ensures some { IfSome result (λ r. IfSome (expiring now self.old.flight.queue)
+            (λ c. (r.0 ≡ c.stream_identifier) × (self.new ≡ after_expire c r.1 now self.old))) }
+        ensures none { is_some result ≡ is_some (expiring now self.old.flight.queue) }
+        ensures idle { result ≡ None → self.new ≡ self.old }
+        ensures released { IfSome result (λ r. total_bytes self.new.flight.queue + r.1
+            ≡ total_bytes self.old.flight.queue) }
+    {
+        let (stream, unordered, bytes) = self.flight.expire(now)?;
+        self.streams.expire(stream, unordered, bytes);
+        Some((stream, bytes))
+    }
+
+    /// Abandons the rest of the partially sent message in front, where it is past its deadline, and answers its stream, its
+    /// number and the bytes that left. `now` is in nanoseconds. Refuses, only where there is such a message, with `TsnsUsedUp`,
+    /// where 2^31 - 1 chunks are in flight, and for memory, though not within the room of `reserve`. The sender is as it was
+    /// then.
+    pub fn expire_tail(&mut self, now: u64) -> Result<Option<(u16, u64, usize)>, SenderRefusal>
+        ensures some { IfOk result (λ r. IfSome r (λ a. self.new ≡ after_abandon
+            (message_of (expiring_tail now self.old.flight.queue)) a.0 a.2 self.old)) }
+        ensures answer { IfOk result (λ r. option_map {U = ℕ × ℕ} (λ a. (a.0, a.1)) r
+            ≡ option_map {U = ℕ × ℕ}
+            (λ c. (c.stream_identifier, c.message_id)) (expiring_tail now self.old.flight.queue)) }
+        ensures none { IfOk result (λ r. r ≡ None → self.new ≡ self.old) }
+        ensures released { IfOk result (λ r. total_bytes self.new.flight.queue + tail_bytes r
+            ≡ total_bytes self.old.flight.queue) }
+        ensures accepted { IsOk result → (expiring_tail now self.old.flight.queue ≡ None)
+            ⊎ (may_send self.old.flight ≡ true) }
+        ensures refused { IfErr result (λ e. e
+            ≡ (if may_send self.old.flight then OutOfMemory else TsnsUsedUp)) }
+        ensures succeeds { 0 < self.old.flight.queue.inflight.room
+            → may_send self.old.flight ≡ true → IsOk result }
+        ensures idle { expiring_tail now self.old.flight.queue ≡ None → IsOk result }
+        ensures err { OnErr result (self.new ≡ self.old) }
+    {
+        if self.flight.queue().is_tail_expired(now) && !self.flight.may_send() {
+            return Err(SenderRefusal::TsnsUsedUp);
+        }
+        let abandoned = self.flight.expire_tail(now)?;
+        if let Some((stream, _, bytes)) = abandoned {
+            self.streams.release(stream, bytes);
+        }
+        Ok(abandoned)
+    }
+
+    /// Sends the chunk in flight with a TSN again: answers it, and counts that. Refuses with `NotInFlight`, where none is, or it is
+    /// acknowledged or abandoned; and for memory. The sender is as it was then.
+    pub fn resend(&mut self, tsn: u32) -> Result<ChunkPayloadData, SenderRefusal>
+        ensures answer { IfOk result (λ c. find (has_tsn tsn) self.old.flight.queue.inflight.chunks
+            ≡ Some c) }
+        ensures ok { IfOk result (λ c. self.new
+            ≡ with_flight (resent tsn c self.old.flight) self.old) }
+        ensures accepted { IsOk result → can_resend tsn self.old.flight ≡ true }
+        ensures refused { IfErr result (λ e. e
+            ≡ (if can_resend tsn self.old.flight then OutOfMemory else NotInFlight)) }
+        ensures err { OnErr result (self.new ≡ self.old) }
+    {
+        self.flight.resend(tsn)
+    }
+
+    /// Counts one more sending of the chunk in flight with a TSN, up to the greatest u32; none is counted where the TSN is not in
+    /// flight. It takes no memory.
+    pub fn count_resend(&mut self, tsn: u32)
+        ensures counted { (c : ChunkPayloadData)
+            → find (has_tsn tsn) self.old.flight.queue.inflight.chunks ≡ Some c
+            → self.new ≡ with_flight (resent tsn c self.old.flight) self.old }
+        ensures none { find (has_tsn tsn) self.old.flight.queue.inflight.chunks ≡ None
+            → self.new ≡ self.old }
+    {
+        self.flight.count_resend(tsn);
+    }
+
+    /// Takes a SACK, whatever a peer claims (RFC 4960 6.2.1): what is acknowledged is what it reports and is in flight.
+    /// Answers the chunks that it reports anew, each with its stream and its bytes, which are all that leave; each stream has so
+    /// much less. One whose cumulative TSN is before the last one is out of date, and changes nothing. The refusals are those of
+    /// `InFlight::acked`.
+    pub fn acked(&mut self, sack: &ChunkSelectiveAck) -> Result<Vec<Released>, SenderRefusal>
+        ensures answer { IfOk result (λ r. r.items
+            ≡ released_by (sack_of sack.now) self.old.flight) }
+        ensures ok { OnOk result (self.new ≡ after_acked (sack_of sack.now) self.old) }
+        ensures released { IfOk result (λ r. total_bytes self.new.flight.queue + bytes_in r.items
+            ≡ total_bytes self.old.flight.queue) }
+        ensures accepted { IsOk result → sack_refusal (sack_of sack.now) self.old.flight ≡ None }
+        ensures refused { IfErr result
+            (λ e. ((e ≡ OutOfMemory) × (sack_refusal (sack_of sack.now) self.old.flight ≡ None))
+            ⊎ (sack_refusal (sack_of sack.now) self.old.flight ≡ Some e)) }
+        ensures outdated { is_outdated (sack_of sack.now) self.old.flight ≡ true → IsOk result }
+        ensures err { OnErr result (self.new ≡ self.old) }
+    {
+        let released = self.flight.acked(self.alloc, sack)?;
+        release_each(&mut self.streams, &released);
+        Ok(released)
+    }
+
+    /// The TSN that the next chunk gets (RFC 4960 6.1).
+    pub fn next_tsn(&self) -> u32
+        ensures { result ≡ self.now.flight.next_tsn }
+    {
+        self.flight.next_tsn()
+    }
+
+    /// How many bytes a fragment has at most: 1 to 65,519.
+    pub fn fragment_size(&self) -> u32
+        ensures value { result ≡ self.now.fragment_size }
+        ensures some { 0 < result }
+        ensures short { result ≤ 65519 }
+    {
+        self.fragment_size
+    }
+
+    /// How many bytes a message has at most.
+    pub fn max_message_size(&self) -> u32
+        ensures { result ≡ self.now.max_message_size }
+    {
+        self.max_message_size
+    }
+
+    /// What waits and what is in flight.
+    pub fn outbound(&self) -> &OutboundQueue
+        ensures { result.now ≡ self.now.flight.queue }
+    {
+        self.flight.queue()
+    }
+
+    /// The state of a stream: its mode, its number for the next ordered message, its amount and its counters; None where it is
+    /// not open.
+    pub fn stream(&self, stream: u16) -> Option<&StreamState>
+        ensures { option_copied result ≡ stream_of stream self.now }
+    {
+        self.streams.find(stream)
+    }
+
+    /// How many bytes of a stream wait or are in flight; None where it is not open.
+    pub fn buffered_amount(&self, stream: u16) -> Option<usize>
+        ensures { result ≡ option_map (λ l. l.buffered_amount) (stream_of stream self.now) }
+    {
+        match self.streams.find(stream) {
+            Some(state) => Some(state.buffered_amount()),
+            None => None,
+        }
+    }
+
+    /// The counters of what was written to a stream; None where it is not open.
+    pub fn stats(&self, stream: u16) -> Option<DataChannelStats>
+        ensures { result ≡ option_map (λ l. l.stats) (stream_of stream self.now) }
+    {
+        match self.streams.find(stream) {
+            Some(state) => Some(state.stats()),
+            None => None,
+        }
+    }
+}
+
+// Whether a message of so many bytes can't wait.
+fn is_full(queue: &OutboundQueue, len: usize) -> bool
+    ensures { result ≡ is_full_of len queue.now }
+{
+    if queue.next_message_id() == u64::MAX {
+        return true;
+    }
+    match queue.pending_bytes().checked_add(queue.inflight_bytes()) {
+        Some(held) => held.checked_add(len).is_none(),
+        None => true,
+    }
+}
+
+// Takes off each stream what left of it.
+fn release_each(streams: &mut OutboundStreams, gone: &[Released])
+    ensures { streams.new ≡ after_releases gone.now streams.old }
+{
+    for one in gone {
+        streams.release(one.stream, one.bytes);
+    }
+}

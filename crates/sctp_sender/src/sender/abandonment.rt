@@ -1,0 +1,99 @@
+//! What a sender abandons, and how its peer learns of it (RFC 3758 3.5).
+
+ghost use Rattle.std.specs.Prelude.{◌≡◌, ◌+◌, ◌⊎◌, [], true, false, None, OnOk, OnErr, IfOk, IfErr, IfSome, IsOk, is_some, map, nat_lt};
+ghost use Rattle.std.specs.List.{sum_by};
+ghost use Rattle.sctp_sender.specs.declared.sender.refusal.SenderRefusal.TheVariants.{OutOfMemory, TsnsUsedUp};
+ghost use Rattle.sctp_sender.specs.Late.{part_of};
+ghost use Rattle.sctp_sender.specs.Outgoing.{after_releases};
+
+use super::Sender;
+use super::flight::late::AbandonedMessage;
+use super::outbound_streams::OutboundStreams;
+use crate::sender::refusal::SenderRefusal;
+use sctp_chunks::chunk::chunk_forward_tsn::ChunkForwardTsn;
+
+impl Sender {
+    ghost use Rattle.sctp_outbound.specs.outbound_queue.OutboundQueue.{late_tsns, total_bytes};
+    ghost use Rattle.sctp_sender.specs.Flight.{may_send};
+    ghost use Rattle.sctp_sender.specs.Abandonment.{Name, advanced_ack_point, ahead, can_skip_to, named_up_to};
+    ghost use Rattle.sctp_sender.specs.Late.{after_late, late_order, leaving_each, with_tail};
+
+    /// Abandons each message in flight that is late (RFC 3758 3.5, 4.1): a chunk of it has reached its deadline, it is
+    /// not abandoned yet, and of it some chunk is not acknowledged or some fragment waits. `now` is in nanoseconds. Answers
+    /// them, each with its stream, its number and the bytes that left, by which its stream has less; `forward_tsn` gives what
+    /// the peer is to be sent then. They stand in the order of the first late chunk of each, but for the message of which some
+    /// waits, which comes first. Refuses, only where there is such a one, with `TsnsUsedUp`, where 2^31 - 1 chunks are in
+    /// flight; and for memory, but not where no message is late. The sender is as it was then.
+    pub fn expire_late(&mut self, now: u64) -> Result<Vec<AbandonedMessage>, SenderRefusal>
+        ensures ok { OnOk result (self.new ≡ after_late now self.old) }
+        ensures answer { IfOk result (λ abandoned. abandoned.items
+            ≡ leaving_each (late_order now self.old.flight) self.old.flight) }
+        ensures released { IfOk result (λ abandoned. total_bytes self.new.flight.queue
+            + sum_by (λ g. g.bytes) abandoned.items ≡ total_bytes self.old.flight.queue) }
+        ensures accepted { IsOk result →
+            (with_tail (late_tsns now self.old.flight.queue) self.old.flight ≡ None)
+            ⊎ (may_send self.old.flight ≡ true) }
+        ensures refused { IfErr result (λ e. (e ≡ OutOfMemory)
+            ⊎ ((e ≡ TsnsUsedUp) × (may_send self.old.flight ≡ false)
+            × (is_some (with_tail (late_tsns now self.old.flight.queue) self.old.flight) ≡ true))) }
+        ensures idle { late_tsns now self.old.flight.queue ≡ [] → IsOk result }
+        ensures err { OnErr result (self.new ≡ self.old) }
+    {
+        let abandoned = self.flight.expire_late(self.alloc, now)?;
+        release_abandoned(&mut self.streams, &abandoned);
+        Ok(abandoned)
+    }
+
+    /// The greatest TSN such that the message of it and of each in flight before it is abandoned, or, where that of the first
+    /// in flight is not, the TSN up to which all was acknowledged: RFC 3758 3.5 C2 calls it the Advanced.Peer.Ack.Point. It
+    /// stops at a chunk that a gap ack block reported and whose message is not abandoned: the peer may take back such a report
+    /// (RFC 4960 6.2.1), and at a skip drops the fragments up to there of an unordered message whose other ones are still
+    /// missing (RFC 3758 3.6).
+    pub fn advanced_ack_point(&self) -> u32
+        ensures { result ≡ advanced_ack_point self.now.flight }
+    {
+        self.flight.advanced_ack_point()
+    }
+
+    /// The FORWARD-TSN that is to be sent (RFC 3758 3.5 C3, C4), as `forward_tsn_to` the `advanced_ack_point`; None where
+    /// that is not past what is acknowledged. Refuses only for memory, and takes none where it answers None.
+    pub fn forward_tsn(&self) -> Result<Option<ChunkForwardTsn>, SenderRefusal>
+        ensures some { IfOk result (λ r. is_some r
+            ≡ nat_lt 0 (ahead self.now.flight (advanced_ack_point self.now.flight))) }
+        ensures tsn { IfOk result (λ r. IfSome r
+            (λ c. c.new_cumulative_tsn ≡ advanced_ack_point self.now.flight)) }
+        ensures names { IfOk result (λ r. IfSome r
+            (λ c. Name c.streams.items (named_up_to
+            (advanced_ack_point self.now.flight) self.now.flight))) }
+        ensures idle { nat_lt 0 (ahead self.now.flight (advanced_ack_point self.now.flight))
+            ≡ false → IsOk result }
+        ensures memory { IfErr result (λ e. e ≡ OutOfMemory) }
+    {
+        self.forward_tsn_to(self.advanced_ack_point())
+    }
+
+    /// The FORWARD-TSN up to a TSN (RFC 3758 3.5 C4). Of each stream that has an ordered chunk up to there which is abandoned it
+    /// names the stream sequence number of the last one, once; unordered messages have no number, and are not named, as they
+    /// are by the Rust crate. None where the TSN is not past what is acknowledged, or lies beyond `advanced_ack_point`.
+    /// A chunk has room for 16,381 names, a packet for fewer: go to an earlier TSN where there are more.
+    /// Refuses only for memory, and takes none where it answers None.
+    pub fn forward_tsn_to(&self, tsn: u32) -> Result<Option<ChunkForwardTsn>, SenderRefusal>
+        ensures some { IfOk result (λ r. is_some r ≡ can_skip_to tsn self.now.flight) }
+        ensures tsn { IfOk result (λ r. IfSome r (λ c. c.new_cumulative_tsn ≡ tsn)) }
+        ensures names { IfOk result (λ r. IfSome r
+            (λ c. Name c.streams.items (named_up_to tsn self.now.flight))) }
+        ensures idle { can_skip_to tsn self.now.flight ≡ false → IsOk result }
+        ensures memory { IfErr result (λ e. e ≡ OutOfMemory) }
+    {
+        self.flight.forward_tsn_to(self.alloc, tsn)
+    }
+}
+
+// Takes off each stream what left of it.
+fn release_abandoned(streams: &mut OutboundStreams, gone: &[AbandonedMessage])
+    ensures { streams.new ≡ after_releases (map part_of gone.now) streams.old }
+{
+    for one in gone {
+        streams.release(one.stream, one.bytes);
+    }
+}

@@ -1,0 +1,223 @@
+//! The streams of a sender.
+
+ghost use Rattle.std.specs.Prelude.{◌≡◌, ◌<◌, ◌≤◌, ◌^◌, ◌++◌, ◌∷◌, [], ℕ, List, not, true, false, Some, None, OnOk, OnErr, IfOk, IfErr, IsOkUnless, MatchOption, length, map, find, option_copied};
+ghost use Rattle.std.specs.List.{filter};
+ghost use Rattle.sctp_base.specs.declared.error.Error.TheVariants.{ErrOutOfMemory};
+ghost use Rattle.sctp_chunks.specs.declared.chunk.chunk_payload_data.PayloadProtocolIdentifier.TheVariants.{Unknown};
+ghost use Rattle.sctp_list_lemmas.specs.Lists.{change_where};
+ghost use Rattle.sctp_serial.specs.DataChunks.{bytes_of};
+ghost use Rattle.sctp_sender.specs.declared.sender.refusal.SenderRefusal.TheVariants.{OutOfMemory};
+ghost use Rattle.sctp_stream.specs.Numbers.{IsOnlyPlace, IsAbsent};
+ghost use Rattle.sctp_sender.specs.Outgoing.{with_reliability, wrote, after_expiry};
+
+use crate::sender::refusal::SenderRefusal;
+use bytes::Bytes;
+use sctp_base::error::Result;
+use sctp_chunks::chunk::chunk_payload_data::{
+    ChunkPayloadData, PayloadProtocolIdentifier, ReliabilityType,
+};
+use sctp_stream::stream::StreamState;
+use sctp_stream::stream_numbers::{StreamNumbers, put};
+use std::alloc::Global;
+use std::marker::Model;
+
+/// The streams of a sender, in the order in which they were opened. Each is found at once by its number.
+#[derive(Drop)]
+pub struct OutboundStreams {
+    numbers: StreamNumbers,
+    items: Vec<StreamState>,
+}
+
+impl Model for OutboundStreams {
+    ghost use Rattle.std.specs.Prelude.{◌≡◌, List};
+    ghost use Rattle.sctp_stream.specs.declared.stream.StreamState.{StreamState};
+    ghost use Rattle.sctp_sender.specs.Outgoing.{numbers_of};
+
+    ghost Value = { List StreamState };
+
+    ghost view = { λ s. s.items.items };
+
+    ghost invariant = { λ s. s.numbers ≡ numbers_of s.items.items };
+}
+
+impl OutboundStreams {
+    ghost use Rattle.sctp_stream.specs.Stream.{new_stream};
+    ghost use Rattle.sctp_sender.specs.Outgoing.{has_number, numbers_of, with_mode, fragments_with_mode, less_by};
+
+    /// No streams. It takes no memory.
+    pub fn new(alloc: Global) -> Self
+        ensures { result ≡ [] }
+    {
+        OutboundStreams {
+            numbers: StreamNumbers::new(alloc),
+            items: Vec::new(alloc),
+        }
+    }
+
+    /// The place of the stream with a number, None where it is not open.
+    pub fn place_of(&self, stream: u16) -> Option<usize>
+        ensures { MatchOption result
+            (IsAbsent stream (numbers_of self.now)) (IsOnlyPlace stream (numbers_of self.now)) }
+    {
+        self.numbers.place_of(stream)
+    }
+
+    /// The stream with a number, None where it is not open.
+    pub fn find(&self, stream: u16) -> Option<&StreamState>
+        ensures { option_copied result ≡ find (has_number stream) self.now }
+    {
+        let Some(place) = self.numbers.place_of(stream) else {
+            return None;
+        };
+        Some(&self.items[place])
+    }
+
+    /// Opens a stream. Refuses only for memory, and the streams are as they were then.
+    /// Precondition: it is not open, and `fragment_size` is 1 to 65,519.
+    pub fn open(
+        &mut self,
+        alloc: Global,
+        stream: u16,
+        fragment_size: u32,
+        max_message_size: u32,
+    ) -> std::result::Result<(), SenderRefusal>
+        requires closed { IsAbsent stream (numbers_of self.old) }
+        requires size { (0 < fragment_size) × (fragment_size ≤ 65519) }
+        ensures ok { OnOk result (self.new
+            ≡ self.old ++ new_stream stream fragment_size max_message_size Unknown ∷ []) }
+        ensures err { OnErr result (self.new ≡ self.old) }
+        ensures memory { IfErr result (λ e. e ≡ OutOfMemory) }
+    {
+        let opened = StreamState::new(
+            alloc,
+            stream,
+            fragment_size,
+            max_message_size,
+            PayloadProtocolIdentifier::Unknown,
+        );
+        if self.items.reserve(1).is_err() {
+            return Err(SenderRefusal::OutOfMemory);
+        }
+        self.numbers.push(stream)?;
+        put(&mut self.items, opened);
+        Ok(())
+    }
+
+    /// Closes a stream, where it is open. It takes no memory.
+    pub fn close(&mut self, stream: u16)
+        ensures { self.new ≡ filter (λ l. not (has_number stream l)) self.old }
+    {
+        let Some(place) = self.numbers.place_of(stream) else {
+            return;
+        };
+        self.items.remove(place);
+        self.numbers.remove(stream);
+    }
+
+    /// Sets the mode of later writes of the stream at a place. It takes no memory.
+    /// Precondition: that stream stands there.
+    pub fn set_mode_at(&mut self, place: usize, stream: u16, mode: (bool, ReliabilityType, u32))
+        requires { IsOnlyPlace stream (numbers_of self.old) place }
+        ensures { self.new
+            ≡ change_where (has_number stream) (with_mode mode.0 mode.1 mode.2) self.old }
+    {
+        let _stream = stream;
+        self.items[place].set_reliability_params(mode.0, mode.1, mode.2);
+    }
+
+    /// The fragments of a write to the stream at a place, with its mode. Refuses only for memory.
+    /// Precondition: that stream stands there.
+    pub fn fragments_at(
+        &self,
+        alloc: Global,
+        place: usize,
+        stream: u16,
+        ppi: PayloadProtocolIdentifier,
+        bytes: &Bytes,
+    ) -> Result<Vec<ChunkPayloadData>>
+        requires { IsOnlyPlace stream (numbers_of self.now) place }
+        ensures ok { IfOk result (λ chunks. (l : StreamState) → find (has_number stream) self.now
+            ≡ Some l → chunks.items ≡ fragments_with_mode l ppi bytes.now) }
+        ensures length { IfOk result (λ chunks. bytes_of chunks.items ≡ length bytes.now) }
+        ensures memory { IsOkUnless result ErrOutOfMemory }
+    {
+        let _stream = stream;
+        let state = &self.items[place];
+        let mut chunks = state.fragments(alloc, bytes, ppi)?;
+        set_reliability(
+            &mut chunks,
+            state.reliability_type(),
+            state.reliability_value(),
+        );
+        Ok(chunks)
+    }
+
+    /// A write to the stream at a place was accepted. It takes no memory.
+    /// Precondition: that stream stands there.
+    pub fn wrote_at(
+        &mut self,
+        place: usize,
+        stream: u16,
+        ppi: PayloadProtocolIdentifier,
+        len: usize,
+    )
+        requires { IsOnlyPlace stream (numbers_of self.old) place }
+        ensures { (bytes : List ℕ) → len ≡ length bytes
+            → self.new ≡ change_where (has_number stream) (wrote ppi bytes) self.old }
+    {
+        let _stream = stream;
+        count_write(&mut self.items[place], ppi, len);
+    }
+
+    /// Takes bytes off the amount of a stream, where it is open. It takes no memory.
+    pub fn release(&mut self, stream: u16, bytes: usize)
+        ensures { self.new ≡ change_where (has_number stream) (less_by bytes) self.old }
+    {
+        let Some(place) = self.numbers.place_of(stream) else {
+            return;
+        };
+        self.items[place].lower_buffered(bytes);
+    }
+
+    /// Takes a message that was not sent off its stream, where it is open. It takes no memory.
+    pub fn expire(&mut self, stream: u16, unordered: bool, bytes: usize)
+        ensures { self.new ≡ change_where (has_number stream)
+            (after_expiry unordered bytes) self.old }
+    {
+        let Some(place) = self.numbers.place_of(stream) else {
+            return;
+        };
+        expire_message(&mut self.items[place], unordered, bytes);
+    }
+}
+
+// Counts a write that was accepted.
+fn count_write(state: &mut StreamState, ppi: PayloadProtocolIdentifier, len: usize)
+    ensures rest { (bytes : List ℕ) → len ≡ length bytes → state.new ≡ wrote ppi bytes state.old }
+    ensures number { state.new.stream_identifier ≡ state.old.stream_identifier }
+{
+    state.record_write(ppi, len);
+    let mut stats = state.stats();
+    stats.count_sent(ppi, len);
+    state.set_stats(stats);
+}
+
+// Takes a message that was not sent off its stream.
+fn expire_message(state: &mut StreamState, unordered: bool, bytes: usize)
+    ensures { state.new ≡ after_expiry unordered bytes state.old }
+{
+    state.lower_buffered(bytes);
+    if !unordered {
+        let number = state.sequence_number().wrapping_sub(1);
+        state.set_sequence_number(number);
+    }
+}
+
+// Gives each fragment the mode of its stream.
+fn set_reliability(chunks: &mut Vec<ChunkPayloadData>, reliability: ReliabilityType, value: u32)
+    ensures { chunks.new.items ≡ map (with_reliability reliability value) chunks.old.items }
+{
+    for place in 0..chunks.len() {
+        chunks[place].reliability = Some((reliability, value));
+    }
+}

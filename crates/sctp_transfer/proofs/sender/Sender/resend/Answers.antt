@@ -1,8 +1,0 @@
-use Rattle.sctp_transfer.specs.Flight.{Flight}
-use Rattle.sctp_transfer.proofs.Settled.{resend-settled}
-use Rattle.sctp_transfer.proofs.sender.Sender.resend.Goals as goal
-
-pub invariant_of-self : goal.invariant_of-self
-invariant_of-self c =
-    let f : Flight = c.self.inside.flight in
-    (c.self.invariant.0, c.self.invariant.1, resend-settled c.args.tsn f c.resend.new.self c.resend.result c.resend.ensures.ok c.resend.ensures.err c.self.invariant.2)
