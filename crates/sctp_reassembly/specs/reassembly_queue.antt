@@ -1,6 +1,7 @@
 -- What the contracts of `ReassemblyQueue`, and of the messages and unassembled fragments in it, cite.
 pub mod Around
 pub mod Chunks
+pub mod Counts
 pub mod Fragments
 pub mod Loose
 pub mod ReassemblyQueue

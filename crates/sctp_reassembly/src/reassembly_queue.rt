@@ -1,6 +1,6 @@
 //! Fragments that become messages again (RFC 4960 6.5, 6.6).
 
-ghost use Rattle.std.specs.Prelude.{◌≡◌, ℕ, ◌==◌, nat_lt, ◌+◌, ◌-◌, ◌%◌, ◌^◌, ◌<◌, ◌≤◌, [], ◌∷◌, length, min, OnOk, OnErr, true, false, IfOk, IfErr, IfSome, IfNone, IsOk, IsTrue, Ok, Err, MatchOption, not, is_some, option_map, slice_index_or, if◌then◌else◌};
+ghost use Rattle.std.specs.Prelude.{◌≡◌, ℕ, ◌==◌, nat_lt, ◌+◌, ◌-◌, ◌%◌, ◌^◌, ◌<◌, ◌≤◌, [], ◌∷◌, length, min, OnOk, OnErr, true, false, IfOk, IfErr, IfSome, IfNone, IsOk, IsTrue, Ok, Err, Some, None, MatchOption, not, is_some, option_map, slice_index_or, if◌then◌else◌};
 ghost use Rattle.std.specs.List.{list_any, position_or_len, filter};
 ghost use Rattle.sctp_list_lemmas.specs.Serial.{comes_before16, at_or_before, at_or_before16};
 ghost use Rattle.sctp_reassembly.specs.reassembly_queue.ReassemblyQueue.{is_passed, set_bytes, set_of_run};
@@ -14,6 +14,7 @@ ghost use Rattle.sctp_reassembly.specs.reassembly_queue.Skips.{after_bounded_ski
 ghost use Rattle.sctp_base.specs.declared.error.Error.TheVariants.{ErrOutOfMemory, ErrInboundPacketTooLarge};
 
 pub mod chunks;
+mod counted_sets;
 mod ordered_sets;
 mod pool;
 mod sizes;
@@ -22,7 +23,8 @@ pub mod unassembled;
 mod unassembled_places;
 
 use self::chunks::{Chunks, Fragments};
-use self::ordered_sets::{OrderedSets, clone_sets};
+use self::counted_sets::CountedSets;
+use self::ordered_sets::OrderedSets;
 use self::pool::Pool;
 use self::sizes::{bytes_of_front, size_after, size_before};
 use self::skips::{earliest_from, goal, has_settled, latest_passable};
@@ -44,7 +46,7 @@ pub struct ReassemblyQueue {
     si: u16,
     next_ssn: u16,
     ordered: OrderedSets,
-    unordered: VecDeque<Fragments>,
+    unordered: CountedSets,
     unordered_chunks: Pool,
     n_bytes: usize,
     max_message_size: u32,
@@ -69,7 +71,7 @@ impl Model for ReassemblyQueue {
 }
 
 impl ReassemblyQueue {
-    ghost use Rattle.sctp_reassembly.specs.reassembly_queue.ReassemblyQueue.{ReassemblyState, message_read, rest_read, state_read, at_start, after_ordered_skip, after_unordered_skip, is_too_large, after_ordered_push, is_complete_with, PushesUnordered, GivesRun, IsCounted, held_bytes, bytes_read, complete_sets};
+    ghost use Rattle.sctp_reassembly.specs.reassembly_queue.ReassemblyQueue.{ReassemblyState, message_read, rest_read, state_read, at_start, after_ordered_skip, after_unordered_skip, is_too_large, after_ordered_push, is_complete_with, PushesUnordered, GivesRun, IsCounted, held_bytes, held_chunks, bytes_read, complete_sets};
 
     /// An empty queue of the stream `si`, which takes messages of at most `max_message_size`
     /// bytes and expects the stream sequence number 0 first (RFC 4960 6.5). It takes no memory.
@@ -91,7 +93,7 @@ impl ReassemblyQueue {
             si,
             next_ssn: 0,
             ordered: OrderedSets::new(alloc),
-            unordered: VecDeque::new(alloc),
+            unordered: CountedSets::new(alloc),
             unordered_chunks: Pool::new(alloc),
             n_bytes: 0,
             max_message_size,
@@ -108,7 +110,7 @@ impl ReassemblyQueue {
             si: self.si,
             next_ssn: self.next_ssn,
             ordered: self.ordered.try_clone(alloc)?,
-            unordered: clone_sets(alloc, &self.unordered)?,
+            unordered: self.unordered.try_clone(alloc)?,
             unordered_chunks: self.unordered_chunks.try_clone(alloc)?,
             n_bytes: self.n_bytes,
             max_message_size: self.max_message_size,
@@ -140,7 +142,7 @@ impl ReassemblyQueue {
     pub fn unordered(&self) -> &VecDeque<Fragments>
         ensures { result.now.items ≡ self.now.held.unordered }
     {
-        &self.unordered
+        self.unordered.as_deque()
     }
 
     /// The fragments of unordered messages that are not whole.
@@ -162,6 +164,17 @@ impl ReassemblyQueue {
         ensures { result ≡ self.now.bytes }
     {
         self.n_bytes
+    }
+
+    /// How many chunks the queue holds, of ordered messages, of complete unordered ones and of those that are not whole, or the
+    /// greatest number where it holds more. It takes no walk.
+    pub fn chunk_count(&self) -> usize
+        ensures { result ≡ min (held_chunks self.now.held) (2 ^ 64 - 1) }
+    {
+        self.ordered
+            .chunk_count()
+            .saturating_add(self.unordered.chunk_count())
+            .saturating_add(self.unordered_chunks.unassembled().len())
     }
 
     /// Lowers the byte count, which stops at 0. Where it was the sum of the bytes held and so many more, it is the sum again.
@@ -304,7 +317,7 @@ impl ReassemblyQueue {
         ensures memory { IfErr result (λ e. e ≡ ErrOutOfMemory) }
     {
         let len = chunk.user_data.len();
-        self.unordered.reserve(1)?;
+        self.unordered.reserve_one()?;
         let run = self.unordered_chunks.put(self.alloc, place, chunk)?;
         self.n_bytes = self.n_bytes.saturating_add(len);
         match run {
@@ -338,12 +351,32 @@ impl ReassemblyQueue {
     pub fn is_readable(&self) -> bool
         ensures { result ≡ is_some (message_read self.now.held) }
     {
-        if !self.unordered.is_empty() {
-            return true;
+        self.next_message().is_some()
+    }
+
+    /// The length in bytes, or the greatest number where it is more, and the payload type of the message that `read` would give;
+    /// None where it would give none. Nothing is taken out. It looks at the fragments of one message at most, and takes no memory.
+    pub fn next_len(&self) -> Option<(usize, PayloadProtocolIdentifier)>
+        ensures { result ≡ option_map (λ s. (min (bytes_of s.chunks) (2 ^ 64 - 1), s.ppi))
+            (message_read self.now.held) }
+    {
+        let set = self.next_message()?;
+        Some((set.len(), set.ppi()))
+    }
+
+    // The message that `read` would give.
+    fn next_message(&self) -> Option<&Fragments>
+        ensures some { IfSome result (λ s. message_read self.now.held ≡ Some s.now) }
+        ensures none { IfNone result (message_read self.now.held ≡ None) }
+    {
+        if let Some(set) = self.unordered.as_deque().front() {
+            return Some(set);
         }
-        match self.ordered.front() {
-            Some(set) => set.is_complete() && sna16lte(set.ssn(), self.next_ssn),
-            None => false,
+        let set = self.ordered.front()?;
+        if set.is_complete() && sna16lte(set.ssn(), self.next_ssn) {
+            Some(set)
+        } else {
+            None
         }
     }
 

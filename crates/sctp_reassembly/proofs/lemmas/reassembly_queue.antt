@@ -6,6 +6,7 @@ pub mod PiecesTaken
 pub mod UnassembledRuns
 pub mod SerialPlaces
 pub mod ChunkSets
+pub mod ChunkCounts
 pub mod SizeBounds
 pub mod LastFragments
 pub mod TakenRuns

@@ -7,6 +7,7 @@ use Rattle.sctp_chunks.specs.declared.chunk.chunk_payload_data.ChunkPayloadData.
 use Rattle.sctp_chunks.specs.declared.chunk.chunk_payload_data.PayloadProtocolIdentifier.TheVariants.{Unknown}
 use Rattle.sctp_chunks.specs.ChunkSet.{ChunkSet}
 use Rattle.sctp_reassembly.specs.declared.reassembly_queue.chunks.Chunks.{Chunks}
+use Rattle.sctp_reassembly.specs.reassembly_queue.Counts.{set_chunks}
 use Rattle.sctp_reassembly.specs.reassembly_queue.Fragments.{is_complete, is_complete_after, chunks_of_ssn, sets_with}
 use Rattle.sctp_serial.specs.DataChunks.{bytes_of, chunk_before, has_tsn}
 use Rattle.sctp_reassembly.specs.reassembly_queue.Sizes.{projected_size}
@@ -26,13 +27,16 @@ pub record ReassemblyState : Type 0 where
   pub bytes : ℕ
   pub max_message_size : ℕ
 
--- ## The byte count
+-- ## What is held: bytes, and chunks
 
 abbrev pub set_bytes : List ChunkSet → ℕ
 set_bytes sets = sum_by (λ s. bytes_of s.chunks) sets
 
 abbrev pub held_bytes : Reassembly → ℕ
 held_bytes q = set_bytes q.ordered + set_bytes q.unordered + bytes_of q.unassembled
+
+abbrev pub held_chunks : Reassembly → ℕ
+held_chunks q = set_chunks q.ordered + set_chunks q.unordered + length q.unassembled
 
 -- the byte count is the sum of the lengths that are held
 abbrev pub IsCounted : ReassemblyState → Type 0

@@ -7,12 +7,13 @@ ghost use Rattle.sctp_list_lemmas.specs.Serial.{comes_before16, distance};
 ghost use Rattle.sctp_reassembly.specs.reassembly_queue.ReassemblyQueue.{set_bytes, without_first};
 ghost use Rattle.sctp_reassembly.specs.reassembly_queue.Skips.{is_discarded};
 ghost use Rattle.sctp_reassembly.specs.reassembly_queue.Fragments.{is_complete, has_ssn, chunks_of_ssn, sets_with, answer_with, new_set, set_before};
+ghost use Rattle.sctp_reassembly.specs.reassembly_queue.Counts.{set_chunks};
 ghost use Rattle.sctp_serial.specs.DataChunks.{bytes_of};
 ghost use Rattle.sctp_serial.specs.Ascending.{IsOrder, IsInsertion, upper_half};
 ghost use Rattle.sctp_base.specs.declared.error.Error.TheVariants.{ErrOutOfMemory};
 
 use crate::reassembly_queue::chunks::Fragments;
-use crate::reassembly_queue::skips;
+use crate::reassembly_queue::counted_sets::CountedSets;
 use sctp_base::error::Result;
 use sctp_base::util::sna16lt;
 use sctp_chunks::chunk::chunk_payload_data::ChunkPayloadData;
@@ -25,7 +26,7 @@ use std::result;
 /// The sets of ordered messages.
 #[derive(Drop)]
 pub(crate) struct OrderedSets {
-    sets: VecDeque<Fragments>,
+    sets: CountedSets,
     // whether their numbers are known to ascend
     ascending: bool,
 }
@@ -48,7 +49,7 @@ impl OrderedSets {
         ensures { result ≡ [] }
     {
         OrderedSets {
-            sets: VecDeque::new(alloc),
+            sets: CountedSets::new(alloc),
             ascending: true,
         }
     }
@@ -58,7 +59,7 @@ impl OrderedSets {
         ensures ok { IfOk result (λ sets. sets ≡ self.now) }
         ensures memory { IfErr result (λ e. e ≡ ErrOutOfMemory) }
     {
-        let sets = clone_sets(alloc, &self.sets)?;
+        let sets = self.sets.try_clone(alloc)?;
         Ok(OrderedSets {
             sets,
             ascending: self.ascending,
@@ -69,7 +70,14 @@ impl OrderedSets {
     pub(crate) fn as_deque(&self) -> &VecDeque<Fragments>
         ensures { result.now.items ≡ self.now }
     {
-        &self.sets
+        self.sets.as_deque()
+    }
+
+    /// How many chunks they have, or the greatest number where they have more.
+    pub(crate) fn chunk_count(&self) -> usize
+        ensures { result ≡ min (set_chunks self.now) (2 ^ 64 - 1) }
+    {
+        self.sets.chunk_count()
     }
 
     /// The first set.
@@ -77,7 +85,7 @@ impl OrderedSets {
         ensures some { IfSome result (λ s. self.now ≡ s.now ∷ without_first self.now) }
         ensures none { IfNone result (self.now ≡ []) }
     {
-        self.sets.front()
+        self.sets.as_deque().front()
     }
 
     /// Takes out the first set.
@@ -92,8 +100,9 @@ impl OrderedSets {
     pub(crate) fn bytes_there(&self, ssn: u16) -> usize
         ensures { result ≡ min (bytes_of (chunks_of_ssn ssn self.now)) (2 ^ 64 - 1) }
     {
-        match seek(self.ascending, &self.sets, ssn) {
-            Ok(place) => self.sets[place].len(),
+        let sets = self.sets.as_deque();
+        match seek(self.ascending, sets, ssn) {
+            Ok(place) => sets[place].len(),
             Err(_) => 0,
         }
     }
@@ -107,10 +116,10 @@ impl OrderedSets {
         ensures err { OnErr result (self.new ≡ self.old) }
         ensures memory { IfErr result (λ e. e ≡ ErrOutOfMemory) }
     {
-        match seek(self.ascending, &self.sets, chunk.stream_sequence_number) {
+        let ssn = chunk.stream_sequence_number;
+        match seek(self.ascending, self.sets.as_deque(), ssn) {
             Ok(place) => {
-                let set = &mut self.sets[place];
-                let whole = set.put(chunk)?;
+                let whole = self.sets.put_into(place, chunk)?;
                 Ok(whole)
             }
             Err(at) => {
@@ -130,20 +139,8 @@ impl OrderedSets {
         ensures bytes { result
             ≡ min (set_bytes (filter (is_discarded last_ssn bound) self.old)) (2 ^ 64 - 1) }
     {
-        skips::discard(&mut self.sets, last_ssn, bound)
+        self.sets.discard(last_ssn, bound)
     }
-}
-
-// Equal sets, which share their bytes.
-pub(crate) fn clone_sets(alloc: Global, sets: &VecDeque<Fragments>) -> Result<VecDeque<Fragments>>
-    ensures ok { IfOk result (λ copies. copies.items ≡ sets.now.items) }
-    ensures memory { IfErr result (λ e. e ≡ ErrOutOfMemory) }
-{
-    let mut copies = VecDeque::new(alloc);
-    for place in 0..sets.len() {
-        copies.push_back(sets[place].try_clone(alloc)?)?;
-    }
-    Ok(copies)
 }
 
 // A set that a chunk alone makes.

@@ -9,13 +9,16 @@ use Rattle.sctp_reassembly.proofs.reassembly_queue.ordered_sets.OrderedSets.byte
 pub returns-in-Ok : goal.returns-in-Ok
 returns-in-Ok c =
     let xs = c.self.inside.sets.items in
-    let at = c.in-Ok.ensures.there in
+    let at = rw c.as_deque-sets.ensures at c.in-Ok.ensures.there in
+    let read = rw c.as_deque-sets.ensures at c.index.ensures in
     let d = c.index.result.now in
     let within : position_or_len (has_ssn c.args.ssn) xs < length xs = omega (arith, at.0, at.1) in
     rw (← c.self.view_is)
     (c.len.ensures
-    ∙ ap (λ (s : ChunkSet). min (bytes_of s.chunks) (2 ^ 64 - 1)) (c.index.ensures ∙ ap (λ i. get_or xs i d) at.0)
+    ∙ ap (λ (s : ChunkSet). min (bytes_of s.chunks) (2 ^ 64 - 1)) (read ∙ ap (λ i. get_or xs i d) at.0)
     ∙ ap (λ cs. min (bytes_of cs) (2 ^ 64 - 1)) (sym (chunks_at c.args.ssn xs d within)))
 
 pub returns-in-Err : goal.returns-in-Err
-returns-in-Err c = rw (← c.self.view_is) (sym (ap (λ xs. min (bytes_of xs) (2 ^ 64 - 1)) (chunks_none c.args.ssn c.self.inside.sets.items c.in-Err.ensures.free.absent)))
+returns-in-Err c =
+    let none = rw c.as_deque-sets.ensures at c.in-Err.ensures.free.absent in
+    rw (← c.self.view_is) (sym (ap (λ xs. min (bytes_of xs) (2 ^ 64 - 1)) (chunks_none c.args.ssn c.self.inside.sets.items none)))

@@ -1,0 +1,12 @@
+-- How many chunks sets have.
+use Rattle.std.specs.Prelude.{ℕ, List, length}
+use Rattle.std.specs.List.{sum_by}
+use Rattle.sctp_chunks.specs.ChunkSet.{ChunkSet}
+
+-- a deque of sets, and how many fit into it before more memory is asked for
+pub record SetDeque : Type 0 where
+  pub items : List ChunkSet
+  pub capacity : ℕ
+
+abbrev pub set_chunks : List ChunkSet → ℕ
+set_chunks sets = sum_by (λ s. length s.chunks) sets

@@ -1,0 +1,190 @@
+//! Sets of fragments, whose chunks are counted.
+
+ghost use Rattle.std.specs.Prelude.{◌≡◌, ◌+◌, ◌-◌, ◌^◌, ◌<◌, ◌≤◌, [], ◌∷◌, ◌++◌, length, min, not, drop, set, slice_index_or, OnOk, OnErr, IfOk, IfErr, IfSome, IfNone};
+ghost use Rattle.std.specs.List.{insert, filter};
+ghost use Rattle.sctp_chunks.specs.ChunkSet.{ChunkSet};
+ghost use Rattle.sctp_base.specs.declared.error.Error.TheVariants.{ErrOutOfMemory};
+ghost use Rattle.sctp_reassembly.specs.reassembly_queue.Counts.{set_chunks};
+ghost use Rattle.sctp_reassembly.specs.reassembly_queue.Fragments.{with_chunk, answer_with};
+ghost use Rattle.sctp_reassembly.specs.reassembly_queue.ReassemblyQueue.{set_bytes};
+ghost use Rattle.sctp_reassembly.specs.reassembly_queue.Skips.{is_discarded};
+
+use crate::reassembly_queue::chunks::Fragments;
+use crate::reassembly_queue::skips;
+use sctp_base::error::Result;
+use sctp_chunks::chunk::chunk_payload_data::ChunkPayloadData;
+use std::alloc::Global;
+use std::collections::VecDeque;
+use std::marker::Model;
+
+/// Sets of fragments in a deque, and how many chunks they have together.
+#[derive(Drop)]
+pub(crate) struct CountedSets {
+    sets: VecDeque<Fragments>,
+    // up to the greatest usize
+    n_chunks: usize,
+}
+
+impl Model for CountedSets {
+    ghost use Rattle.std.specs.Prelude.{◌≡◌, ◌-◌, ◌^◌, min};
+    ghost use Rattle.std.specs.VecDeque.{deque_capacity};
+    ghost use Rattle.sctp_reassembly.specs.reassembly_queue.Counts.{SetDeque, set_chunks};
+
+    ghost Value = { SetDeque };
+
+    ghost view = { λ s. record { items = s.sets.items; capacity = deque_capacity s.sets } };
+
+    ghost invariant = { λ s. s.n_chunks ≡ min (set_chunks s.sets.items) (2 ^ 64 - 1) };
+}
+
+impl CountedSets {
+    /// No sets. It takes no memory.
+    pub(crate) fn new(alloc: Global) -> Self
+        ensures { result.items ≡ [] }
+    {
+        CountedSets {
+            sets: VecDeque::new(alloc),
+            n_chunks: 0,
+        }
+    }
+
+    /// Equal sets, which share their bytes. Refuses only for memory.
+    pub(crate) fn try_clone(&self, alloc: Global) -> Result<Self>
+        ensures ok { IfOk result (λ sets. sets.items ≡ self.now.items) }
+        ensures memory { IfErr result (λ e. e ≡ ErrOutOfMemory) }
+    {
+        let sets = clone_sets(alloc, &self.sets)?;
+        Ok(CountedSets {
+            sets,
+            n_chunks: self.n_chunks,
+        })
+    }
+
+    /// All of them.
+    pub(crate) fn as_deque(&self) -> &VecDeque<Fragments>
+        ensures { result.now.items ≡ self.now.items }
+    {
+        &self.sets
+    }
+
+    /// How many chunks they have, or the greatest number where they have more.
+    pub(crate) fn chunk_count(&self) -> usize
+        ensures { result ≡ min (set_chunks self.now.items) (2 ^ 64 - 1) }
+    {
+        self.n_chunks
+    }
+
+    /// Takes out the first set.
+    pub(crate) fn pop_front(&mut self) -> Option<Fragments>
+        ensures some { IfSome result (λ s. self.old.items ≡ s ∷ self.new.items) }
+        ensures none { IfNone result ((self.old.items ≡ []) × (self.new.items ≡ self.old.items)) }
+        ensures rest { self.new.items ≡ drop 1 self.old.items }
+    {
+        let set = self.sets.pop_front()?;
+        self.n_chunks = chunks_without(self.n_chunks, set.fragments().len(), &self.sets);
+        Some(set)
+    }
+
+    /// Puts a chunk into the set at a place, and says whether that is complete then; None where its TSN is there already.
+    /// Precondition: the place has a set.
+    /// Refuses only for memory, and nothing changes then.
+    pub(crate) fn put_into(&mut self, place: usize, chunk: ChunkPayloadData) -> Result<Option<bool>>
+        requires { place < length self.old.items }
+        ensures ok { OnOk result ((d : ChunkSet) → self.new.items ≡ set self.old.items place
+            (with_chunk chunk (slice_index_or self.old.items place d))) }
+        ensures answer { IfOk result (λ whole. (d : ChunkSet)
+            → whole ≡ answer_with chunk (slice_index_or self.old.items place d).chunks) }
+        ensures err { OnErr result (self.new.items ≡ self.old.items) }
+        ensures memory { IfErr result (λ e. e ≡ ErrOutOfMemory) }
+    {
+        let set = &mut self.sets[place];
+        let whole = set.put(chunk)?;
+        if whole.is_some() {
+            self.n_chunks = self.n_chunks.saturating_add(1);
+        }
+        Ok(whole)
+    }
+
+    /// Puts a set at a place, before the one that is there.
+    /// Precondition: the place is at most their number.
+    /// Refuses only for memory, and nothing changes then.
+    pub(crate) fn insert(&mut self, place: usize, set: Fragments) -> Result<()>
+        requires { place ≤ length self.old.items }
+        ensures ok { OnOk result (self.new.items ≡ insert self.old.items place set) }
+        ensures err { OnErr result (self.new.items ≡ self.old.items) }
+        ensures memory { IfErr result (λ e. e ≡ ErrOutOfMemory) }
+    {
+        let more = set.fragments().len();
+        self.sets.insert(place, set)?;
+        self.n_chunks = self.n_chunks.saturating_add(more);
+        Ok(())
+    }
+
+    /// Makes room for one more set. Refuses only for memory.
+    pub(crate) fn reserve_one(&mut self) -> Result<()>
+        ensures items { self.new.items ≡ self.old.items }
+        ensures room { OnOk result (length self.new.items < self.new.capacity) }
+        ensures memory { IfErr result (λ e. e ≡ ErrOutOfMemory) }
+    {
+        self.sets.reserve(1)?;
+        Ok(())
+    }
+
+    /// Puts a set behind the others. It takes no memory.
+    /// Precondition: there is room for it.
+    pub(crate) fn push_back_reserved(&mut self, set: Fragments)
+        requires { length self.old.items < self.old.capacity }
+        ensures items { self.new.items ≡ self.old.items ++ set ∷ [] }
+    {
+        let more = set.fragments().len();
+        self.sets.push_back_reserved(set);
+        self.n_chunks = self.n_chunks.saturating_add(more);
+    }
+
+    /// Removes the sets that a skip up to the number discards, those alone that miss a TSN where there
+    /// is a bound, and counts their bytes up to the greatest number.
+    pub(crate) fn discard(&mut self, last_ssn: u16, bound: Option<u32>) -> usize
+        ensures rest { self.new.items
+            ≡ filter (λ s. not (is_discarded last_ssn bound s)) self.old.items }
+        ensures bytes { result
+            ≡ min (set_bytes (filter (is_discarded last_ssn bound) self.old.items)) (2 ^ 64 - 1) }
+    {
+        let gone = skips::discard(&mut self.sets, last_ssn, bound);
+        self.n_chunks = chunks_in(&self.sets);
+        gone
+    }
+}
+
+// Equal sets, which share their bytes.
+fn clone_sets(alloc: Global, sets: &VecDeque<Fragments>) -> Result<VecDeque<Fragments>>
+    ensures ok { IfOk result (λ copies. copies.items ≡ sets.now.items) }
+    ensures memory { IfErr result (λ e. e ≡ ErrOutOfMemory) }
+{
+    let mut copies = VecDeque::new(alloc);
+    for place in 0..sets.len() {
+        copies.push_back(sets[place].try_clone(alloc)?)?;
+    }
+    Ok(copies)
+}
+
+// How many chunks sets have, up to the greatest number.
+fn chunks_in(sets: &VecDeque<Fragments>) -> usize
+    ensures { result ≡ min (set_chunks sets.now.items) (2 ^ 64 - 1) }
+{
+    let mut count = 0usize;
+    for place in 0..sets.len() {
+        count = count.saturating_add(sets[place].fragments().len());
+    }
+    count
+}
+
+// The chunks of the sets that are left, where so many were taken of so many: past the greatest number they are counted anew.
+fn chunks_without(n_chunks: usize, gone: usize, sets: &VecDeque<Fragments>) -> usize
+    ensures { n_chunks ≡ min (gone + set_chunks sets.now.items) (2 ^ 64 - 1)
+        → result ≡ min (set_chunks sets.now.items) (2 ^ 64 - 1) }
+{
+    if n_chunks < usize::MAX {
+        return n_chunks.saturating_sub(gone);
+    }
+    chunks_in(sets)
+}
